@@ -16,7 +16,8 @@ from .other_tools import titles
 from .refusals import Refusal
 
 PAGE_BYTES = 2_097_152  # more than these wtround doesn't take
-STEP = 100_000_000  # nanoseconds, more than the steps of the clock of file systems
+STEP = 100_000_000  # nanoseconds, more than the steps of the clock of most file systems
+COARSE_STEP = 2_100_000_000  # of those that keep whole seconds, or every other one
 TEMPORARY = ".wtround-serve-"  # begins the names of files that are being written
 NOTE = "user.wtround-serve"  # the attribute of a page's file that tells which save made it
 MOST_LOOKED_AT = 20_000  # files; to look at all of more takes longer than to make a page's HTML
@@ -58,8 +59,8 @@ class PageFolder:
     def state(self) -> Optional[int]:
         """A number that changes when files come or go; nothing where they did just now, since a clock's step
         may hide the next change."""
-        changed = os.stat(self.path).st_mtime_ns
-        return changed if time.time_ns() - changed > STEP else None
+        told = os.stat(self.path)
+        return told.st_mtime_ns if time.time_ns() - told.st_mtime_ns > step_of(told) else None
 
     def fingerprint(self) -> Optional[bytes]:
         """Another one after any page's file came, went or was written: their names, sizes and times.
@@ -67,7 +68,7 @@ class PageFolder:
         Nothing where that can't be told: a file was written just now, so that a clock's step may hide the
         next time, or there are very many."""
         digest = hashlib.sha256()
-        latest = time.time_ns() - STEP
+        now = time.time_ns()
         try:
             with os.scandir(self.path) as entries:
                 pages = sorted((e for e in entries if e.name.endswith(".wiki")), key=lambda e: e.name)
@@ -76,7 +77,7 @@ class PageFolder:
             for entry in pages:
                 for follows in (False, True) if entry.is_symlink() else (False,):
                     told = entry.stat(follow_symlinks=follows)
-                    if max(told.st_mtime_ns, told.st_ctime_ns) > latest:
+                    if now - max(told.st_mtime_ns, told.st_ctime_ns) < step_of(told):
                         return None
                     numbers = (told.st_dev, told.st_ino, told.st_size, told.st_mtime_ns, told.st_ctime_ns)
                     digest.update(f"{entry.name}\0{numbers}\0".encode("utf-8", "surrogateescape"))
@@ -174,6 +175,11 @@ class PageFolder:
                     remove_if_there(os.path.join(self.path, name))
 
 
+def step_of(told: os.stat_result) -> int:
+    """How long ago a file or folder must have been written, so that its times tell of the next writing."""
+    return STEP if told.st_ctime_ns % 1_000_000_000 else COARSE_STEP
+
+
 def put_note(file: int, note: bytes) -> None:
     """Where the file system keeps no such attributes a save that is sent again isn't known again."""
     try:
@@ -195,7 +201,7 @@ def title_of_file(file: str) -> Optional[str]:
         return None
     try:
         title = titles.read_title(unquote(file[: -len(".wiki")], errors="strict").replace("_", " "))
-    except (titles.BadTitle, UnicodeDecodeError):
+    except (titles.BadTitle, UnicodeError):
         return None
     return title.full_name if title.fragment is None and titles.file_name(title.full_name) == file else None
 

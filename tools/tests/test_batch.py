@@ -496,6 +496,16 @@ class Exports(BatchCase):
         self.assertEqual((line["revision"], line["templates"]), ("12", ["Template:T"]))
         self.assertEqual(self.report("wikitext", name, "--json", "lines")["kept"], 2)
 
+    def test_a_file_whose_name_is_not_utf8(self) -> None:
+        self.write("One", b"1")
+        try:
+            (self.pages / os.fsdecode(b"M\xfcnze.wiki")).write_bytes(b"x")
+        except OSError:
+            self.skipTest("this file system has no such names")
+        report = self.report("wikitext")
+        self.assertEqual(report["outcomes"]["wikitext"], {"came back": 1})
+        self.assertEqual(report["skipped"], [{"title": "M\\xfcnze.wiki", "why": "its file name is not UTF-8"}])
+
     def test_a_folder_whose_name_is_not_utf8(self) -> None:
         self.root /= os.fsdecode(b"M\xfcnze")
         try:

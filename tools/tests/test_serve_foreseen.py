@@ -1,5 +1,6 @@
 """The page that an edit will probably make: its HTML is made while the program makes the page."""
 import json
+import os
 import threading
 import time
 import unittest
@@ -12,7 +13,7 @@ from serving_case import SECONDS, ServingCase
 from serving.documents import with_sources_alone, without_places
 from serving.foreseen import foreseen, shared
 from serving.known import KnownStates
-from serving.pages import STEP
+from serving.pages import step_of
 from serving.prepared import PreparedEdits, State
 from serving.program import Program
 from serving.refusals import Refusal
@@ -86,7 +87,7 @@ class LongPages(ServingCase):
         self.text_page = TextRoom.page
         room.start()
         self.addCleanup(room.stop)
-        time.sleep(2 * STEP / 1e9)
+        time.sleep(2 * step_of(os.stat(self.pages)) / 1e9)
 
     def noted(self, room: TextRoom, text: bytes) -> object:
         self.texts.append(text.decode())
@@ -128,7 +129,7 @@ class LongPages(ServingCase):
     def test_an_edit_behind_another(self) -> None:
         """It is foreseen from the state that the one before led to, before this state is looked at again."""
         self.store(*self.preview("is a town in", "is an old town in"))
-        time.sleep(2 * STEP / 1e9)
+        time.sleep(2 * step_of(os.stat(self.pages)) / 1e9)
         _, tag = self.html("Opava", EDITORS)
         del self.texts[:]
 

@@ -8,7 +8,7 @@ from unittest import mock
 
 from serving_case import SECONDS, ServingCase, edited
 
-from serving.pages import STEP, PageFolder  # (serving_case has put the tools on the path)
+from serving.pages import PageFolder, step_of  # (serving_case has put the tools on the path)
 from serving.program import Program
 
 EDITORS = "?data_parsoid=sources&offsetType=none"
@@ -27,7 +27,7 @@ class KnownStates(ServingCase):
 
     def settle(self) -> None:
         """Waits until no clock's step hides the next writing of a file."""
-        time.sleep(2 * STEP / 1e9)
+        time.sleep(2 * step_of(os.stat(self.pages)) / 1e9)
 
     def runs(self, title: str = "Opava", query: str = "") -> Tuple[str, str, int]:
         """A page's HTML and tag, and how often the program was run for it."""

@@ -11,7 +11,7 @@ from urllib.parse import quote
 
 from serving_case import ServingCase, edited
 
-from serving.pages import STEP, PageFolder  # (serving_case has put the tools on the path)
+from serving.pages import PageFolder, step_of  # (serving_case has put the tools on the path)
 from serving.prepared import MOST_KEPT
 from serving.program import Program
 
@@ -67,7 +67,7 @@ class Prepared(ServingCase):
 
     def settled(self) -> Tuple[str, Dict]:
         """A preview long enough after the last file was written that no clock's step hides the next one."""
-        time.sleep(2 * STEP / 1e9)
+        time.sleep(2 * step_of(os.stat(self.pages)) / 1e9)
         return self.preview()
 
     def test_it_is_stored_without_running_the_program(self) -> None:

@@ -114,11 +114,16 @@ def title_of_file(name: str) -> str:
 
     try:
         title = full_name(unquote_to_bytes(stem).decode())
-    except UnicodeDecodeError:
+    except UnicodeError:
         raise importer.BadTitle("its file name is not UTF-8") from None
     if importer.file_name(title) != name:
         raise importer.BadTitle(f"its file would be named {importer.file_name(title)}")
     return title
+
+
+def legible(name: str) -> str:
+    """The name of a file, with the bytes of it that aren't UTF-8 spelled."""
+    return os.fsencode(name).decode("utf-8", "backslashreplace")
 
 
 def read_at_most(file: io.RawIOBase, most: int) -> bytes:
@@ -157,7 +162,7 @@ class Folder:
             try:
                 title = title_of_file(name)
             except importer.BadTitle as error:
-                yield Skipped(name, str(error))
+                yield Skipped(legible(name), str(error))
                 continue
             if namespaces.hold(title, namespace_number(title)):
                 yield title

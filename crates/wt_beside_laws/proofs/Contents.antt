@@ -31,7 +31,7 @@ use Rattle.wt_beside_laws.proofs.Firm.{ReadsAs, nothing_reads, both_read, alone_
 
 -- ---- what is put
 
-nowiki_reads : ReadsAs nowiki (whole form.Nowiki None nowiki ∷ [])
+pub nowiki_reads : ReadsAs nowiki (whole form.Nowiki None nowiki ∷ [])
 unfolding nowiki comment_len opening_tag tag_after
 nowiki_reads rest xs r =
     reads_form Raw 60 (codes "nowiki/>") rest xs (nowiki_form Page rest) (uncommented_other 60 (codes "nowiki/>" ++ rest) refl refl) r
@@ -40,7 +40,7 @@ guard_reads : (guarded : Bool) → ReadsAs (nowiki_if guarded) (guard_items guar
 guard_reads true = nowiki_reads
 guard_reads false = nothing_reads
 
-reference_reads : (c : ℕ) → is_escapable c ≡ true → ReadsAs (reference c) (whole (form.Entity c) None (reference c) ∷ [])
+pub reference_reads : (c : ℕ) → is_escapable c ≡ true → ReadsAs (reference c) (whole (form.Entity c) None (reference c) ∷ [])
 reference_reads c e rest xs k =
     let r = references c e in
     let own : List ℕ = 38 ∷ r.others in

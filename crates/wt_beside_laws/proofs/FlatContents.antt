@@ -67,7 +67,7 @@ each_flat [] h = tt
 each_flat (letter c ∷ after) h = each_flat after h
 each_flat (thing t ∷ after) h = (h.0, each_flat after h.1)
 
-flat_role : (r : Role) (k : TileKind) → IsTileOf r k → IsFlat r
+pub flat_role : (r : Role) (k : TileKind) → IsTileOf r k → IsFlat r
 flat_role Link k h = tt
 flat_role External k h = tt
 flat_role (Bare ends) k h = tt

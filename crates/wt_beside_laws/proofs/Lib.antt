@@ -2,6 +2,7 @@ mod Cases
 mod NodeCases
 mod StoodCases
 mod LineCases
+mod BlockCases
 pub mod Firm
 pub mod ContentGlyphs
 pub mod ContentTiles
@@ -35,3 +36,23 @@ pub mod LineRows
 pub mod LineParagraphs
 pub mod LineShown
 pub mod FlatContents
+pub mod NodeEnds
+pub mod LineHeadings
+pub mod LineStands
+pub mod PartThings
+pub mod TileRoles
+pub mod UrlShown
+pub mod FormOpenings
+pub mod FormsAlone
+pub mod PageLexemes
+pub mod LineThings
+pub mod BareLeaves
+pub mod BlockNumbers
+pub mod BlockSigns
+pub mod FlatAgain
+pub mod SentPieces
+pub mod NoFaults
+pub mod SentShown
+pub mod CalmContents
+pub mod FlatLines
+pub mod PlainContents

@@ -43,7 +43,7 @@ wide_unbroken (b ∷ bs) h = (not_break b (All-head IsWide b bs h), wide_unbroke
     not_break : (b : ℕ) → 128 ≤ b → (b == 10) ≡ false
     not_break b le = grind (arith, nat_tests)
 
-letter_unbroken : (e : Bool) (c : ℕ) → (c == 10) ≡ false → IsUnbroken (letter_items e c)
+pub letter_unbroken : (e : Bool) (c : ℕ) → (c == 10) ≡ false → IsUnbroken (letter_items e c)
 letter_unbroken true c n = (refl, tt)
 letter_unbroken false c n = elim (cases_lt c 128) [
   | inl small ↦ subst (λ bs. IsUnbroken (page_chars bs)) (sym (encode_ascii c small)) (n, tt)

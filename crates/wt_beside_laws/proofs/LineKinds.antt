@@ -218,7 +218,7 @@ node_opens Node own n = other_opens own n
 
 -- ---- a line
 
-line_opens : (s : Setting) (before signs : List ContentSign) → s.within ≡ false → is_line_start (nearest before) ≡ true → is_line_begun before ≡ true
+pub line_opens : (s : Setting) (before signs : List ContentSign) → s.within ≡ false → is_line_start (nearest before) ≡ true → is_line_begun before ≡ true
     → AreCharacters signs → AreNodes signs → Opens (line_items s before signs)
 line_opens s before [] w l b v n = subst (λ u. Opens (guard_items u)) (sym (end_guarded s before w l)) atom_opens
 line_opens s before (letter c ∷ after) w l b v n =

@@ -13,6 +13,7 @@ use Rattle.wt_lines.specs.declared.kind.LineKind.{LineKind}
 use Rattle.wt_lines.specs.declared.kind.LineKind.TheVariants as line
 use Rattle.wt_lines.specs.declared.kind.TheConstants.{MOST_TABLES}
 use Rattle.wt_lines.specs.Lines.{full_lines, content, empty_end, is_break_item, goes_on}
+use Rattle.wt_lines.specs.Kinds.{kind_of_signs, line_kind}
 use Rattle.wt_lines.proofs.FullLines.{same_lines}
 use Rattle.wt_tables.specs.Extents.{behind}
 use Rattle.wt_headings.specs.Lines.{ending}
@@ -23,7 +24,7 @@ use Rattle.wt_page.specs.Stretches.{Stretch, gap, tree_block, stretches_parts}
 use Rattle.wt_page.specs.Texts.{para_parts, para}
 use Rattle.wt_page.specs.Body.{within, blocks, meaning}
 use Rattle.wt_text_edit_laws.specs.ParagraphBetween.{body_with}
-use Rattle.wt_text_edit_laws.proofs.Texts.PlainRows.{no_text, text_row, within_are}
+use Rattle.wt_text_edit_laws.proofs.Texts.PlainRows.{text_row, within_are}
 use Rattle.wt_beside_laws.specs.Flat.{IsFlatContent, content_parts, para_with}
 use Rattle.wt_beside_laws.specs.Lines.{IsLineOfText, line_items, later_lines}
 use Rattle.wt_beside_laws.proofs.Contents.{content_alone}
@@ -33,25 +34,30 @@ use Rattle.wt_beside_laws.proofs.LineRows.{OwnBreaks, rows_parts, content_own, l
 
 -- ---- lines of text
 
-front_all : (P : List Item → Type 0) (ls ms : List (List Item)) → All P (ls ++ ms) → All P ls
+pub front_all : (P : List Item → Type 0) (ls ms : List (List Item)) → All P (ls ++ ms) → All P ls
 front_all P [] ms h = All-nil P
 front_all P (l ∷ ls) ms h = All-cons P l ls (All-head P l (ls ++ ms) h) (front_all P ls ms (All-tail P l (ls ++ ms) h))
 
-rest_all : (P : List Item → Type 0) (ls ms : List (List Item)) → All P (ls ++ ms) → All P ms
+pub rest_all : (P : List Item → Type 0) (ls ms : List (List Item)) → All P (ls ++ ms) → All P ms
 rest_all P [] ms h = h
 rest_all P (l ∷ ls) ms h = rest_all P ls ms (All-tail P l (ls ++ ms) h)
 
 abbrev one_empty : List (List Item)
 one_empty = [] ∷ []
 
-no_end : (xs : List Item) → All (IsLineOfText 0) (empty_end xs) → empty_end xs ≡ []
-no_end [] h = absurd (no_text (All-head (IsLineOfText 0) [] [] h).text)
-no_end (x ∷ []) h = by (is_break_item x) h
+-- an empty line is none, however many tables are open
+no_text_at : (n : ℕ) → line_kind n [] ≡ line.Text → ⊥
+unfolding kind_of_signs
+no_text_at n e = cc
+
+pub no_end : (n : ℕ) (xs : List Item) → All (IsLineOfText n) (empty_end xs) → empty_end xs ≡ []
+no_end n [] h = absurd (no_text_at n (All-head (IsLineOfText n) [] [] h).text)
+no_end n (x ∷ []) h = by (is_break_item x) h
   where
-    by : (t : Bool) → All (IsLineOfText 0) (if t then one_empty else []) → (if t then one_empty else []) ≡ []
-    by true k = absurd (no_text (All-head (IsLineOfText 0) [] [] k).text)
+    by : (t : Bool) → All (IsLineOfText n) (if t then one_empty else []) → (if t then one_empty else []) ≡ []
+    by true k = absurd (no_text_at n (All-head (IsLineOfText n) [] [] k).text)
     by false k = refl
-no_end (x ∷ y ∷ ys) h = no_end (y ∷ ys) h
+no_end n (x ∷ y ∷ ys) h = no_end n (y ∷ ys) h
 
 -- ---- their rows
 
@@ -62,22 +68,23 @@ first_unmarked x xs ys e = by (is_mark x) e
     by true k = absurd (omega (arith, k))
     by false k = refl
 
-unmarked : (l : List Item) → IsLineOfText 0 (content l) → marks_len l ≡ 0
-unmarked [] h = refl
-unmarked (x ∷ []) h = by (is_break_item x) h
+unmarked : (n : ℕ) (l : List Item) → IsLineOfText n (content l) → marks_len l ≡ 0
+unmarked n [] h = refl
+unmarked n (x ∷ []) h = by (is_break_item x) h
   where
-    by : (t : Bool) → IsLineOfText 0 (if t then [] else x ∷ []) → marks_len (x ∷ []) ≡ 0
-    by true k = absurd (no_text k.text)
+    by : (t : Bool) → IsLineOfText n (if t then [] else x ∷ []) → marks_len (x ∷ []) ≡ 0
+    by true k = absurd (no_text_at n k.text)
     by false k = k.unmarked
-unmarked (x ∷ y ∷ ys) h = first_unmarked x (content (y ∷ ys)) (y ∷ ys) h.unmarked
+unmarked n (x ∷ y ∷ ys) h = first_unmarked x (content (y ∷ ys)) (y ∷ ys) h.unmarked
 
-rows_text : (ls : List (List Item)) → All (IsLineOfText 0) (map content ls) → rows_from 0 ls ≡ map text_row ls
-rows_text [] h = refl
-rows_text (l ∷ ls) h =
-    let own : IsLineOfText 0 (content l) = All-head (IsLineOfText 0) (content l) (map content ls) h in
-    ap (λ (k : LineKind). line_rows k l ++ rows_from (behind 0 k) ls) own.text
-    ∙ ap (λ (n : ℕ). whole_row line.Text n l ∷ rows_from 0 ls) (unmarked l own)
-    ∙ ap (λ rs. text_row l ∷ rs) (rows_text ls (All-tail (IsLineOfText 0) (content l) (map content ls) h))
+-- before other lines
+pub rows_text : (n : ℕ) (ls ms : List (List Item)) → All (IsLineOfText n) (map content ls) → rows_from n (ls ++ ms) ≡ map text_row ls ++ rows_from n ms
+rows_text n [] ms h = refl
+rows_text n (l ∷ ls) ms h =
+    let own : IsLineOfText n (content l) = All-head (IsLineOfText n) (content l) (map content ls) h in
+    ap (λ (k : LineKind). line_rows k l ++ rows_from (behind n k) (ls ++ ms)) own.text
+    ∙ ap (λ (m : ℕ). whole_row line.Text m l ∷ rows_from n (ls ++ ms)) (unmarked n l own)
+    ∙ ap (λ rs. text_row l ∷ rs) (rows_text n ls ms (All-tail (IsLineOfText n) (content l) (map content ls) h))
 
 -- ---- nothing ends the last one
 
@@ -95,7 +102,7 @@ end_behind [] y ys = refl
 end_behind (x ∷ []) y ys = refl
 end_behind (x ∷ z ∷ zs) y ys = end_behind (z ∷ zs) y ys
 
-last_none : (l : List Item) (ls : List (List Item)) (xs : List Item) → AreRuns goes_on (l ∷ ls) xs → empty_end xs ≡ []
+pub last_none : (l : List Item) (ls : List (List Item)) (xs : List Item) → AreRuns goes_on (l ∷ ls) xs → empty_end xs ≡ []
     → last_ending (map text_row (l ∷ ls)) ≡ []
 last_none l [] xs r e =
     let is : xs ≡ l = r.1 ∙ ap (λ os. l ++ os) r.3 ∙ append-nil l in
@@ -107,21 +114,21 @@ last_none l ((y ∷ m) ∷ ls) xs r e =
 
 -- ---- the content
 
-record Paragraph (s : Setting) (signs : List ContentSign) (xs : List Item) : Type 0 where
-  text : All (IsLineOfText 0) (map content (full_lines xs))
-  closed : empty_end xs ≡ []
-  parts : para_parts (map text_row (full_lines xs)) ≡ content_parts s [] signs
+pub record Paragraph (s : Setting) (signs : List ContentSign) (xs : List Item) : Type 0 where
+  pub text : (n : ℕ) → All (IsLineOfText n) (map content (full_lines xs))
+  pub closed : empty_end xs ≡ []
+  pub parts : para_parts (map text_row (full_lines xs)) ≡ content_parts s [] signs
 
-flat_paragraph : (s : Setting) (signs : List ContentSign) → IsFlatContent s signs → Paragraph s signs (page_items (spelled s signs))
+pub flat_paragraph : (s : Setting) (signs : List ContentSign) → IsFlatContent s signs → Paragraph s signs (page_items (spelled s signs))
 flat_paragraph s signs h =
     let xs : List Item = page_items (spelled s signs) in
     let is = content_lines_are s signs h.kept h.unbroken in
-    let all : All (IsLineOfText 0) (map content (full_lines xs) ++ empty_end xs) =
-    subst (All (IsLineOfText 0)) (sym is ∙ same_lines xs) (lines_are_text 0 s signs h.of_block h.characters h.nodes) in
-    let closed : empty_end xs ≡ [] = no_end xs (rest_all (IsLineOfText 0) (map content (full_lines xs)) (empty_end xs) all) in
+    let all : (n : ℕ) → All (IsLineOfText n) (map content (full_lines xs) ++ empty_end xs) =
+    λ n. subst (All (IsLineOfText n)) (sym is ∙ same_lines xs) (lines_are_text n s signs h.of_block h.characters h.nodes) in
+    let closed : empty_end xs ≡ [] = no_end 0 xs (rest_all (IsLineOfText 0) (map content (full_lines xs)) (empty_end xs) (all 0)) in
     let own : OwnBreaks xs = subst OwnBreaks (sym (content_alone s signs h.kept)) (content_own s [] signs h.unbroken) in
     record {
-      text = front_all (IsLineOfText 0) (map content (full_lines xs)) (empty_end xs) all;
+      text = λ n. front_all (IsLineOfText n) (map content (full_lines xs)) (empty_end xs) (all n);
       closed = closed;
       parts = rows_parts xs (line_items s [] signs) (later_lines s [] signs) own closed is ∙ lines_joined s [] signs h.nodes h.flat h.meet;
     }
@@ -129,9 +136,11 @@ flat_paragraph s signs h =
 pub rows_are : (s : Setting) (signs : List ContentSign) → IsFlatContent s signs
     → rows (page_items (spelled s signs)) ≡ map text_row (full_lines (page_items (spelled s signs)))
 unfolding rows
-rows_are s signs h = rows_text (full_lines (page_items (spelled s signs))) (flat_paragraph s signs h).text
+rows_are s signs h =
+    let ls : List (List Item) = full_lines (page_items (spelled s signs)) in
+    ap (rows_from 0) (sym (append-nil ls)) ∙ rows_text 0 ls [] ((flat_paragraph s signs h).text 0) ∙ append-nil (map text_row ls)
 
-para_by : (rs : List Row) (ps : List Part) → para_parts rs ≡ ps → para rs ≡ para_with ps
+pub para_by : (rs : List Row) (ps : List Part) → para_parts rs ≡ ps → para rs ≡ para_with ps
 unfolding para
 para_by rs ps e = ap (λ qs. inner (plain kind.Para) [] (forest (children qs)) []) e
 
@@ -140,10 +149,10 @@ para_is s signs h =
     let ls : List (List Item) = full_lines (page_items (spelled s signs)) in
     ap para (rows_are s signs h) ∙ para_by (map text_row ls) (content_parts s [] signs) (flat_paragraph s signs h).parts
 
-abbrev body_of : List Stretch → ItemTree
+abbrev pub body_of : List Stretch → ItemTree
 body_of ss = inner (plain kind.Body) [] (forest (children (stretches_parts ss))) []
 
-body_by : (ls : List (List Item)) (xs : List Item) (t : ItemTree) → AreRuns goes_on ls xs → empty_end xs ≡ [] → para (map text_row ls) ≡ t
+pub body_by : (ls : List (List Item)) (xs : List Item) (t : ItemTree) → AreRuns goes_on ls xs → empty_end xs ≡ [] → para (map text_row ls) ≡ t
     → body_of (within MOST_TABLES (map text_row ls)) ≡ body_with (t ∷ [])
 unfolding children
 body_by [] xs t r e p = let no : one_empty ≡ [] = sym (ap empty_end r) ∙ e in cc

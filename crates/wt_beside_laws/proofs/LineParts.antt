@@ -27,6 +27,8 @@ use Rattle.wt_tiles.specs.Tiles.{size, Cut, cuts}
 use Rattle.wt_tiles.specs.Urls.{bare_url_at}
 use Rattle.wt_context.specs.Chunks.{begins_with_quote}
 use Rattle.wt_context.specs.Line.{context_parts, line_parts}
+use Rattle.wt_context.specs.Nodes.{segments}
+use Rattle.wt_context.specs.RunCuts.{has_run}
 use Rattle.wt_context.proofs.PlainNodes.{AreTexts}
 use Rattle.wt_text_edit_laws.specs.LonePages.{page_chars}
 use Rattle.wt_beside_laws.specs.Content.{guard_items, letter_items}
@@ -36,7 +38,7 @@ use Rattle.wt_beside_laws.specs.Glyphs.{guard_glyphs, letter_glyphs}
 use Rattle.wt_beside_laws.specs.Lines.{line_items}
 use Rattle.wt_beside_laws.specs.Nodes.{IsDelimiter, IsOneLexeme, IsTagNode, IsCategoryNode, IsMediaNode, IsNode, AreNodes, AllMeet}
 use Rattle.wt_beside_laws.proofs.ContentTiles.{form_follows}
-use Rattle.wt_beside_laws.proofs.LineSegments.{cut_segments, read_line, IsOneSegment, one_segment, IsRead, tile_read, atom_read, none_read, char_read}
+use Rattle.wt_beside_laws.proofs.LineSegments.{cut_segments, segments_are, read_line, IsOneSegment, one_segment, IsRead, tile_read, atom_read, none_read, char_read}
 use Rattle.wt_beside_laws.proofs.LineTiles.{line_glyphs, line_cut, line_follows}
 use Rattle.wt_beside_laws.proofs.NodesBegin.{no_url, all_urls, all_switches}
 use Rattle.wt_beside_laws.proofs.NodesMeet.{none_before}
@@ -132,24 +134,24 @@ node_first (Group g) own f n e = n
 node_first Function own f n e = lexeme_first own n e
 node_first Node own f n e = other_first own n e
 
-record HasForm (own : List Glyph) : Type 0 where
-  shape : Shape
-  alone : own_form in_line own ≡ Some shape
-  whole : size shape ≡ length own
-  before : form_before in_line false own [] ≡ Some shape
+pub record HasForm (own : List Glyph) : Type 0 where
+  pub shape : Shape
+  pub alone : own_form in_line own ≡ Some shape
+  pub whole : size shape ≡ length own
+  pub before : form_before in_line false own [] ≡ Some shape
 
-has_form : (r : Role) (own : List Glyph) → IsFlat r → IsNode r own → HasForm own
+pub has_form : (r : Role) (own : List Glyph) → IsFlat r → IsNode r own → HasForm own
 has_form r own f n = by (own_form in_line own) refl (node_stands r false own [] n tt (none_before r))
   where
     by : (o : Option Shape) → own_form in_line own ≡ o → StandsAs o in_line false own [] → HasForm own
     by None e d = absurd (node_first r own f n (delimiter_first own d))
     by (Some w) e st = record { shape = w; alone = e; whole = st.0; before = st.1 false (λ z. cc) }
 
-glyphs_long : (own : List Item) → length (map glyph_of own) ≡ length own
+pub glyphs_long : (own : List Item) → length (map glyph_of own) ≡ length own
 glyphs_long [] = refl
 glyphs_long (x ∷ own) = ap suc (glyphs_long own)
 
-node_alone : (own : List Item) (w : Shape) (s : IsOneSegment own w) → size w ≡ length (map glyph_of own) → form_before in_line false (map glyph_of own) [] ≡ Some w
+pub node_alone : (own : List Item) (w : Shape) (s : IsOneSegment own w) → size w ≡ length (map glyph_of own) → form_before in_line false (map glyph_of own) [] ≡ Some w
     → line_parts own ≡ s.segment.parts
 node_alone own w s e k =
     let gs : List Glyph = map glyph_of own in
@@ -291,12 +293,23 @@ line_read s before (thing t ∷ after) n f =
     (line_parts (page_items t.source) ++ ps)
     (node_read t c xs (is_next 39 (nearest after)) false ps f.0 n.0 (line_read s (thing t ∷ before) after n.1 f.1))
 
+-- its tiles
+pub line_cuts : (s : Setting) (before signs : List ContentSign) → AreNodes signs → AllMeet s before signs []
+    → cuts in_line false 0 (map glyph_of (line_items s before signs)) ≡ line_cut in_line s before signs
+line_cuts s before signs n m =
+    ap (cuts in_line false 0) (line_is s before signs) ∙ line_follows s before signs n (all_urls signs n) (all_switches signs n) m false (λ z. cc)
+
 pub line_parts_are : (s : Setting) (before signs : List ContentSign) → AreNodes signs → AreFlat signs → AllMeet s before signs []
     → line_parts (line_items s before signs) ≡ line_content s before signs
 line_parts_are s before signs n f m =
     let c : Cut = line_cut in_line s before signs in
     let xs : List Item = line_items s before signs in
     let r = line_read s before signs n f in
-    let all : cuts in_line false 0 (map glyph_of xs) ≡ c =
-    ap (cuts in_line false 0) (line_is s before signs) ∙ line_follows s before signs n (all_urls signs n) (all_switches signs n) m false (λ z. cc) in
-    read_line c xs (cut_segments context_parts in_line c xs) all refl r.apart ∙ r.shows
+    read_line c xs (cut_segments context_parts in_line c xs) (line_cuts s before signs n m) refl r.apart ∙ r.shows
+
+-- no two apostrophes are side by side in it
+pub line_unstyled : (s : Setting) (before signs : List ContentSign) → AreNodes signs → AreFlat signs → AllMeet s before signs []
+    → has_run (segments context_parts in_line (line_items s before signs)) ≡ false
+line_unstyled s before signs n f m =
+    let r = line_read s before signs n f in
+    ap has_run (segments_are (line_cut in_line s before signs) (line_items s before signs) (line_cuts s before signs n m)) ∙ r.apart

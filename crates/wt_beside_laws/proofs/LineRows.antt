@@ -23,21 +23,12 @@ use Rattle.wt_beside_laws.specs.Content.{guard_items, letter_items, content_item
 use Rattle.wt_beside_laws.specs.Flat.{AreFlat, content_parts, line_content}
 use Rattle.wt_beside_laws.specs.Lines.{AreUnbroken, line_items, later_lines}
 use Rattle.wt_beside_laws.specs.Nodes.{AreNodes, AllMeet}
+use Rattle.wt_beside_laws.specs.PageBlocks.{after_breaks, joined_parts}
 use Rattle.wt_beside_laws.proofs.LineItems.{break_items}
 use Rattle.wt_beside_laws.proofs.LineParts.{line_parts_are}
 
 abbrev break : Item
 break = char None 10
-
--- ---- the parts of lines, with a line break between each two
-
-abbrev after_breaks : List (List Item) → List Part
-after_breaks [] = []
-after_breaks (l ∷ ls) = parts Text (break ∷ []) ++ (line_parts l ++ after_breaks ls)
-
-abbrev joined_parts : List (List Item) → List Part
-joined_parts [] = []
-joined_parts (l ∷ ls) = line_parts l ++ after_breaks ls
 
 -- the line breaks are characters of the page
 abbrev pub OwnBreaks : List Item → Type 0
@@ -67,7 +58,7 @@ ends_line (x ∷ []) y others r o =
     ap (λ (t : Bool). if t then x ∷ [] else []) e ∙ ap (λ z. z ∷ []) (o.0 e)
 ends_line (x ∷ z ∷ zs) y others r o = ends_line (z ∷ zs) y others r.1 o.1
 
-row_parts : (ls : List (List Item)) (xs : List Item) → AreRuns goes_on ls xs → OwnBreaks xs → para_parts (map text_row ls) ≡ joined_parts (map content ls)
+pub row_parts : (ls : List (List Item)) (xs : List Item) → AreRuns goes_on ls xs → OwnBreaks xs → para_parts (map text_row ls) ≡ joined_parts (map content ls)
 row_parts [] xs r o = refl
 row_parts (l ∷ []) xs r o = refl
 row_parts (l ∷ [] ∷ ls) xs r o = absurd r.3.2
@@ -89,7 +80,7 @@ unbroken_own : (xs : List Item) → IsUnbroken xs → OwnBreaks xs
 unbroken_own [] u = tt
 unbroken_own (x ∷ xs) u = ((λ e. let no : true ≡ false = sym e ∙ u.0 in cc), unbroken_own xs u.1)
 
-chars_own : (bs : List ℕ) → OwnBreaks (page_chars bs)
+pub chars_own : (bs : List ℕ) → OwnBreaks (page_chars bs)
 chars_own [] = tt
 chars_own (b ∷ bs) = ((λ e. ap (char None) (is_ten b e)), chars_own bs)
   where

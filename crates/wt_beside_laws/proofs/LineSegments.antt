@@ -65,7 +65,7 @@ no_run_chunks : (us : List Segment) → has_run us ≡ false → HasNoRun (chunk
 unfolding chunks
 no_run_chunks us e = subst (λ rs. HasNoRun (chunks_since [] rs)) (sym (runs_alone us e)) (no_runs [] us)
 
-unstyled : (us : List Segment) → has_run us ≡ false → with_styles us ≡ segment_parts us
+pub unstyled : (us : List Segment) → has_run us ≡ false → with_styles us ≡ segment_parts us
 unfolding with_styles
 unstyled us e =
     ap (λ ss. styled 0 (length us) (forest_of ss) us) (no_styles (chunks us) (no_run_chunks us e)) ∙ ap segment_parts (take_all (length us - 0) us (omega arith))
@@ -110,15 +110,17 @@ tile_first read cx w c own xs e =
 
 -- ---- a line is its segments
 
-pub read_line : (c : Cut) (xs : List Item) (us : List Segment) → cuts in_line false 0 (map glyph_of xs) ≡ c → cut_segments context_parts in_line c xs ≡ us
-    → has_run us ≡ false → line_parts xs ≡ segment_parts us
+pub segments_are : (c : Cut) (xs : List Item) → cuts in_line false 0 (map glyph_of xs) ≡ c
+    → segments context_parts in_line xs ≡ cut_segments context_parts in_line c xs
 unfolding segments shapes
-read_line c xs us e f g =
-    let is : segments context_parts in_line xs ≡ us =
+segments_are c xs e =
     ap (flat_map (tile_segments context_parts in_line)) (tiles_are in_line xs)
     ∙ ap (λ (d : Cut). flat_map (tile_segments context_parts in_line) (tile_parts (closed d.0 d.1) xs)) e
-    ∙ closed_segments context_parts in_line c.0 c.1 xs ∙ f in
-    contexts_are in_line xs (omega arith) ∙ ap with_styles is ∙ unstyled us g
+    ∙ closed_segments context_parts in_line c.0 c.1 xs
+
+pub read_line : (c : Cut) (xs : List Item) (us : List Segment) → cuts in_line false 0 (map glyph_of xs) ≡ c → cut_segments context_parts in_line c xs ≡ us
+    → has_run us ≡ false → line_parts xs ≡ segment_parts us
+read_line c xs us e f g = contexts_are in_line xs (omega arith) ∙ ap with_styles (segments_are c xs e ∙ f) ∙ unstyled us g
 
 -- ---- a node
 

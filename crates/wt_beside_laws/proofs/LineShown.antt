@@ -34,7 +34,7 @@ use Rattle.wt_beside_laws.proofs.LineParts.{node_texts}
 
 -- ---- the parts, one by one
 
-twice : (bs cs : List ℕ) (ps : Plains) → text_before bs (text_before cs ps) ≡ text_before (bs ++ cs) ps
+pub twice : (bs cs : List ℕ) (ps : Plains) → text_before bs (text_before cs ps) ≡ text_before (bs ++ cs) ps
 twice [] cs ps = refl
 twice (b ∷ bs) [] ps = ap (λ (xs : List ℕ). text_before (b ∷ xs) ps) (sym (append-nil bs))
 twice (b ∷ bs) (c ∷ cs) ended = refl
@@ -88,7 +88,7 @@ children_show n before ps rest t = runs_show n before (runs one_leaf ps) ps rest
 
 -- ---- what is put, and what is typed
 
-guard_tree : nowiki_tree None nowiki ≡ inner (plain kind.Nowiki) (page_chars nowiki) nothing []
+pub guard_tree : nowiki_tree None nowiki ≡ inner (plain kind.Nowiki) (page_chars nowiki) nothing []
 unfolding nowiki_tree nowiki opening_tag tag_after children
 guard_tree = refl
 

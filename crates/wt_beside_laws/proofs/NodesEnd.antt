@@ -34,7 +34,7 @@ use Rattle.wt_beside_laws.proofs.UrlTiles.{is_after, both_some}
 -- ---- the last item
 
 -- The last of these items is this character.
-abbrev EndsWith : ℕ → List Glyph → Type 0
+abbrev pub EndsWith : ℕ → List Glyph → Type 0
 EndsWith c gs = (k : ℕ) × (suc k ≡ length gs) × (first_is (class.Only c) (drop k gs) ≡ true)
 
 one_is : (c : ℕ) (a : Bool) (g : Glyph) → is_word c ≡ false → in_class (class.Only c) g ≡ true → is_in is_word g ≡ false
@@ -51,7 +51,7 @@ ends_so c a gs w e = last_is c e.0 a gs w e.1 e.2
 
 -- ---- external links
 
-external_ends : (g : Glyph) (inside : List Glyph) (w : Shape) → ext_link_at (g ∷ inside) ≡ Some w → size w ≡ length (g ∷ inside) → EndsWith 93 (g ∷ inside)
+pub external_ends : (g : Glyph) (inside : List Glyph) (w : Shape) → ext_link_at (g ∷ inside) ≡ Some w → size w ≡ length (g ∷ inside) → EndsWith 93 (g ∷ inside)
 unfolding ext_link_at
 external_ends g inside w e whole =
     let s : ℕ = scheme_len inside in
@@ -72,7 +72,7 @@ external_ends g inside w e whole =
 abbrev EndsLink : List Glyph → Type 0
 EndsLink gs = (k : ℕ) × (k + 2 ≡ length gs) × (begins (codes "]]") (drop k gs) ≡ true)
 
-second_is : (k : ℕ) (gs : List Glyph) → begins (codes "]]") (drop k gs) ≡ true → first_is (class.Only 93) (drop (suc k) gs) ≡ true
+pub second_is : (k : ℕ) (gs : List Glyph) → begins (codes "]]") (drop k gs) ≡ true → first_is (class.Only 93) (drop (suc k) gs) ≡ true
 second_is k [] e = by_none k e
   where
     by_none : (j : ℕ) → begins (codes "]]") (drop j []) ≡ true → first_is (class.Only 93) (drop (suc j) []) ≡ true
@@ -90,7 +90,7 @@ closes_is : (o : Option ℕ) (gs : List Glyph) (k : ℕ) → OptPlace (begins (c
 closes_is o gs k f e = let r : OptPlace (begins (codes "]]")) gs (Some k) = subst (λ (p : Option ℕ). OptPlace (begins (codes "]]")) gs p) e f in r.0
 
 -- the `]]` that a link has
-abbrev ClosesAt : List Glyph → ℕ → Type 0
+abbrev pub ClosesAt : List Glyph → ℕ → Type 0
 ClosesAt gs i = begins (codes "]]") (drop i gs) ≡ true
 
 close_by : (n i : ℕ) (gs : List Glyph) (o : Option ℕ) → to_close (drop n gs) ≡ o → option_map (λ (j : ℕ). n + j) o ≡ Some i → ClosesAt gs i
@@ -110,7 +110,7 @@ media_by i gs (Some ys) f e =
     let at : i ≡ f.1 = omega (arith, is, cut, all, lt) in
     ap (λ (j : ℕ). begins (codes "]]") (drop j gs)) at ∙ ap (begins (codes "]]")) f.2 ∙ ends_at ys f.0
 
-inner_by : (k : LinkKind) (n i : ℕ) (gs : List Glyph) → inner_len k n gs ≡ Some i → ClosesAt gs i
+pub inner_by : (k : LinkKind) (n i : ℕ) (gs : List Glyph) → inner_len k n gs ≡ Some i → ClosesAt gs i
 inner_by Page n i gs e = close_by n i gs (to_close (drop n gs)) refl e
 inner_by Category n i gs e = close_by n i gs (to_close (drop n gs)) refl e
 inner_by Media n i gs e = media_by i gs (balanced 0 0 gs) (balanced_fits 0 0 gs) e
@@ -147,11 +147,11 @@ in_ends : (gs : List Glyph) (w : Shape) → AimsBy IsOther (target_len gs) gs �
 unfolding link_in
 in_ends gs w h e whole = by_ends (target_len gs) gs w h e whole
 
-inside_of : (gs : List Glyph) (w : Shape) → link_at (glyph.Byte 91 ∷ glyph.Byte 91 ∷ gs) ≡ Some w → link_in gs ≡ Some w
+pub inside_of : (gs : List Glyph) (w : Shape) → link_at (glyph.Byte 91 ∷ glyph.Byte 91 ∷ gs) ≡ Some w → link_in gs ≡ Some w
 unfolding link_at
 inside_of gs w e = e
 
-other_ends : (inside : List Glyph) (w : Shape) → AimsBy IsOther (target_len inside) inside → link_at (glyph.Byte 91 ∷ glyph.Byte 91 ∷ inside) ≡ Some w
+pub other_ends : (inside : List Glyph) (w : Shape) → AimsBy IsOther (target_len inside) inside → link_at (glyph.Byte 91 ∷ glyph.Byte 91 ∷ inside) ≡ Some w
     → size w ≡ 2 + length inside → EndsWith 93 (glyph.Byte 91 ∷ glyph.Byte 91 ∷ inside)
 other_ends inside w h e whole =
     let f = in_ends inside w h (inside_of inside w e) whole in
@@ -162,16 +162,16 @@ leads_other : (P : LinkKind → Type 0) → ((k : LinkKind) → P k → IsOther 
 leads_other P f None h = tt
 leads_other P f (Some t) h = f (kind_of t) h
 
-aims_other : (P : LinkKind → Type 0) → ((k : LinkKind) → P k → IsOther k) → (o : Option ℕ) (gs : List Glyph) → AimsBy P o gs → AimsBy IsOther o gs
+pub aims_other : (P : LinkKind → Type 0) → ((k : LinkKind) → P k → IsOther k) → (o : Option ℕ) (gs : List Glyph) → AimsBy P o gs → AimsBy IsOther o gs
 aims_other P f None gs h = tt
 aims_other P f (Some n) gs h = leads_other P f (target_of (take n gs)) h
 
-category_other : (k : LinkKind) → IsCategoryKind k → IsOther k
+pub category_other : (k : LinkKind) → IsCategoryKind k → IsOther k
 category_other Page h = absurd h
 category_other Category h = tt
 category_other Media h = absurd h
 
-media_other : (k : LinkKind) → IsMediaKind k → IsOther k
+pub media_other : (k : LinkKind) → IsMediaKind k → IsOther k
 media_other Page h = absurd h
 media_other Category h = absurd h
 media_other Media h = tt
@@ -243,7 +243,7 @@ tag_by (Some u) g hs t e is whole = opening_ends g hs t (e ∙ is) whole
 tag_by None g [] t e is whole = let none : None ≡ Some t = sym (one_tag g) ∙ is in cc
 tag_by None g (h ∷ hs) t e is whole = closing_ends g h hs t is (omega (arith, whole))
 
-tag_ends : (g : Glyph) (hs : List Glyph) (t : Tag) → tag_at (g ∷ hs) ≡ Some t → t.len ≡ length (g ∷ hs) → EndsWith 62 (g ∷ hs)
+pub tag_ends : (g : Glyph) (hs : List Glyph) (t : Tag) → tag_at (g ∷ hs) ≡ Some t → t.len ≡ length (g ∷ hs) → EndsWith 62 (g ∷ hs)
 unfolding tag_at
 tag_ends g hs t e whole = tag_by (opening_tag (g ∷ hs)) g hs t refl e whole
 

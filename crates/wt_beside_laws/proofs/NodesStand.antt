@@ -42,7 +42,7 @@ as_external : (a : Bool) (gs : List Glyph) (w : Shape) → link_at gs ≡ None �
 unfolding form_at link_or_url
 as_external a gs w l e = rw (l, e) refl
 
-as_bare : (a : Bool) (gs : List Glyph) (w : Shape) → link_at gs ≡ None → ext_link_at gs ≡ None → bare_url_at a gs ≡ Some w → form_at in_line a gs ≡ Some w
+pub as_bare : (a : Bool) (gs : List Glyph) (w : Shape) → link_at gs ≡ None → ext_link_at gs ≡ None → bare_url_at a gs ≡ Some w → form_at in_line a gs ≡ Some w
 unfolding form_at link_or_url
 as_bare a gs w l x e = rw (l, x, e) refl
 
@@ -118,11 +118,11 @@ external_stands word own behind n =
           (ext_stays (glyph.Byte 91) n.inside behind n.shape (one_fits n.shape own n.inside n.is n.whole) n.link);
     })
 
-no_link : (b : ℕ) (gs : List Glyph) → (b == 91) ≡ false → link_at (glyph.Byte b ∷ gs) ≡ None
+pub no_link : (b : ℕ) (gs : List Glyph) → (b == 91) ≡ false → link_at (glyph.Byte b ∷ gs) ≡ None
 unfolding link_at
 no_link b gs e = rw e refl
 
-no_external : (b : ℕ) (gs : List Glyph) → (b == 91) ≡ false → ext_link_at (glyph.Byte b ∷ gs) ≡ None
+pub no_external : (b : ℕ) (gs : List Glyph) → (b == 91) ≡ false → ext_link_at (glyph.Byte b ∷ gs) ≡ None
 unfolding ext_link_at
 no_external b gs e = rw e refl
 
@@ -150,11 +150,11 @@ record IsReadAsSwitch (word : List ℕ) : Type 0 where
   alone : switch_at (byte_glyphs (95 ∷ 95 ∷ word)) ≡ Some (leaf kind.Switch (2 + length word))
   whole : size (leaf kind.Switch (2 + length word)) ≡ length (byte_glyphs (95 ∷ 95 ∷ word))
 
-abbrev EachIs : (List ℕ → Type 0) → List (List ℕ) → Type 0
+abbrev pub EachIs : (List ℕ → Type 0) → List (List ℕ) → Type 0
 EachIs P [] = Unit {0}
 EachIs P (x ∷ xs) = P x × EachIs P xs
 
-all_by : (P : List ℕ → Type 0) (xs : List (List ℕ)) → EachIs P xs → All P xs
+pub all_by : (P : List ℕ → Type 0) (xs : List (List ℕ)) → EachIs P xs → All P xs
 all_by P [] h = All-nil P
 all_by P (x ∷ xs) h = All-cons P x xs h.0 (all_by P xs h.1)
 
@@ -252,7 +252,7 @@ unfolding bare_url_at scheme_len
 no_bare_tag true gs = refl
 no_bare_tag false gs = refl
 
-by_less : (a : Bool) (gs : List Glyph) (t : Tag) → tag_at (glyph.Byte 60 ∷ gs) ≡ Some t
+pub by_less : (a : Bool) (gs : List Glyph) (t : Tag) → tag_at (glyph.Byte 60 ∷ gs) ≡ Some t
     → form_at in_line a (glyph.Byte 60 ∷ gs) ≡ Some (shape_of_tag 0 t.name t.shape t.len (glyph.Byte 60 ∷ gs))
 by_less a gs t e = as_tag a (glyph.Byte 60 ∷ gs) t (no_link 60 gs refl) (no_external 60 gs refl) (no_bare_tag a gs) e
 
@@ -270,7 +270,7 @@ lone_stands word t others behind tagged lone whole =
     }
 
 -- the shape of a pair, by what is found of its closing tag
-opened_shape : (t : Tag) (m : TagName) (gs us : List Glyph) → t.name ≡ Paired m → t.shape ≡ Opening → partner (number m) 0 (drop t.len gs) ≡ Some us
+pub opened_shape : (t : Tag) (m : TagName) (gs us : List Glyph) → t.name ≡ Paired m → t.shape ≡ Opening → partner (number m) 0 (drop t.len gs) ≡ Some us
     → shape_of_tag 0 t.name t.shape t.len gs ≡ pair_or_island t.len (Some us) gs
 opened_shape t m gs us name opens found =
     ap (λ (k : Name). shape_of_tag 0 k t.shape t.len gs) name

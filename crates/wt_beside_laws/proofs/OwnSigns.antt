@@ -24,7 +24,7 @@ use Rattle.wt_beside_laws.specs.SentNodes.{IsUnchanged, IsSentBy, AreSent}
 
 -- ---- nodes are found by their numbers
 
-abbrev Every : {A : Type 0} → (A → Type 0) → List A → Type 0
+abbrev pub Every : {A : Type 0} → (A → Type 0) → List A → Type 0
 Every P [] = Unit {0}
 Every P (x ∷ xs) = P x × Every P xs
 
@@ -32,11 +32,11 @@ every_weaker : {A : Type 0} (P Q : A → Type 0) → ((x : A) → P x → Q x) �
 every_weaker P Q f [] h = tt
 every_weaker P Q f (x ∷ xs) h = (f x h.0, every_weaker P Q f xs h.1)
 
-every_left : {A : Type 0} (P : A → Type 0) (xs ys : List A) → Every P (xs ++ ys) → Every P xs
+pub every_left : {A : Type 0} (P : A → Type 0) (xs ys : List A) → Every P (xs ++ ys) → Every P xs
 every_left P [] ys h = tt
 every_left P (x ∷ xs) ys h = (h.0, every_left P xs ys h.1)
 
-every_right : {A : Type 0} (P : A → Type 0) (xs ys : List A) → Every P (xs ++ ys) → Every P ys
+pub every_right : {A : Type 0} (P : A → Type 0) (xs ys : List A) → Every P (xs ++ ys) → Every P ys
 every_right P [] ys h = h
 every_right P (x ∷ xs) ys h = every_right P xs ys h.1
 
@@ -59,10 +59,10 @@ with_number : (m : ℕ) (ks : List Kept) → m ≢ 0 → kept_with m ks ≡ firs
 unfolding kept_with
 with_number m ks h = ap (λ (t : Bool). if t then None else first_with m ks) (differs m 0 h)
 
-abbrev Finds : Tree → KeptNode → Type 0
+abbrev pub Finds : Tree → KeptNode → Type 0
 Finds block f = kept_with (label f.node).id (kept_nodes block) ≡ Some (kept_of block f)
 
-all_found : (block : Tree) (n : ℕ) → 0 < n → counts_up n (kept_nodes block) ≡ true → Every (Finds block) (found_from 0 0 block)
+pub all_found : (block : Tree) (n : ℕ) → 0 < n → counts_up n (kept_nodes block) ≡ true → Every (Finds block) (found_from 0 0 block)
 all_found block n lt e =
     let ks = kept_nodes block in
     let here : (k : Kept) → (n ≤ number k) × (first_with (number k) ks ≡ Some k) → kept_with (number k) ks ≡ Some k =
@@ -70,12 +70,12 @@ all_found block n lt e =
     every_of_map (λ k. kept_with (number k) ks ≡ Some k) (kept_of block) (found_from 0 0 block) (every_weaker _ _ here ks (firsts n ks e))
 
 -- the node itself is among those that are found, if it has a number
-own_found : (P : KeptNode → Type 0) (at from : ℕ) (l : Label) (ts : Trees) → l.id ≢ 0 → Every P (found_from at from (tree l ts)) → P (found_at at from (tree l ts))
+pub own_found : (P : KeptNode → Type 0) (at from : ℕ) (l : Label) (ts : Trees) → l.id ≢ 0 → Every P (found_from at from (tree l ts)) → P (found_at at from (tree l ts))
 own_found P at from l ts h e =
     let inside : List KeptNode = if holds_kept l then found_in (at + length l.opening) (from + length l.opening) ts else [] in
     (subst (λ (t : Bool). Every P (found_if t (found_at at from (tree l ts)) ++ inside)) (differs l.id 0 h) e).0
 
-inside_found : (P : KeptNode → Type 0) (at from : ℕ) (l : Label) (ts : Trees) → holds_kept l ≡ true → Every P (found_from at from (tree l ts))
+pub inside_found : (P : KeptNode → Type 0) (at from : ℕ) (l : Label) (ts : Trees) → holds_kept l ≡ true → Every P (found_from at from (tree l ts))
     → Every P (found_in (at + length l.opening) (from + length l.opening) ts)
 inside_found P at from l ts h e =
     let inner = if holds_kept l then found_in (at + length l.opening) (from + length l.opening) ts else [] in
@@ -83,7 +83,7 @@ inside_found P at from l ts h e =
     (every_right P (found_if (l.id == 0) (found_at at from (tree l ts))) inner e)
 
 -- what is no leaf has delimiters round its items
-held_if : (k : Kind) → is_leaf k ≡ false → (not (is_leaf k) && is_delimited (edit_shape k).items) ≡ true
+pub held_if : (k : Kind) → is_leaf k ≡ false → (not (is_leaf k) && is_delimited (edit_shape k).items) ≡ true
 held_if kind.Body e = refl
 held_if (kind.Section n) e = refl
 held_if kind.Para e = refl

@@ -124,7 +124,7 @@ sources_append xs ys = flat_map-append source xs ys
 -- ---- a run of characters
 
 -- each of these items is a character
-abbrev AreChars : List Item → Type 0
+abbrev pub AreChars : List Item → Type 0
 AreChars [] = Unit {0}
 AreChars (char o b ∷ xs) = AreChars xs
 AreChars (whole f o bs ∷ xs) = ⊥
@@ -151,7 +151,7 @@ no_form a form.Hidden o bs gs e = cc
 no_form a form.EmptyCall o bs gs e = cc
 
 -- where no form begins at the first n items
-are_chars : (n : ℕ) (a : Bool) (xs : List Item)
+pub are_chars : (n : ℕ) (a : Bool) (xs : List Item)
     → ((k : ℕ) → k < n → tile_at in_line (word_before a (map glyph_of xs) k) (drop k (map glyph_of xs)) ≡ None) → AreChars (take n xs)
 are_chars zero a xs f = tt
 are_chars (suc n) a [] f = tt
@@ -229,7 +229,7 @@ atom_tile (whole form.Hidden o bs ∷ xs) = tt
 atom_tile (whole form.EmptyCall o bs ∷ xs) = tt
 
 -- a form that stays
-abbrev IsFlatKind : TileKind → Type 0
+abbrev pub IsFlatKind : TileKind → Type 0
 IsFlatKind kind.Link = Unit {0}
 IsFlatKind kind.Category = Unit {0}
 IsFlatKind kind.Media = Unit {0}
@@ -243,7 +243,7 @@ IsFlatKind kind.Atom = Unit {0}
 IsFlatKind kind.Mark = ⊥
 IsFlatKind kind.Chars = ⊥
 
-role_fits : (k : TileKind) (xs : List Item) → IsFlatKind k → IsTileOf (tile_role k xs) k
+pub role_fits : (k : TileKind) (xs : List Item) → IsFlatKind k → IsTileOf (tile_role k xs) k
 role_fits kind.Link xs h = refl
 role_fits kind.Category xs h = tt
 role_fits kind.Media xs h = tt
@@ -257,7 +257,7 @@ role_fits kind.Atom xs h = atom_tile xs
 role_fits kind.Mark xs h = absurd h
 role_fits kind.Chars xs h = absurd h
 
-before_is : (a : Bool) (own behind : List Glyph) → 0 < length own → form_before in_line a own behind ≡ tile_at in_line a (own ++ behind)
+pub before_is : (a : Bool) (own behind : List Glyph) → 0 < length own → form_before in_line a own behind ≡ tile_at in_line a (own ++ behind)
 before_is a [] behind some = absurd (omega (arith, some))
 before_is a (g ∷ gs) behind some = refl
 

@@ -459,7 +459,7 @@ unfolding bare_url_at
 bare_tile true gs w e = cc
 bare_tile false gs w e = made_kind (scheme_len gs) (kept_len (url_items gs)) w e
 
-some_shape : (s k : ℕ) (w : Shape) → bare_url_of s k ≡ Some w → (1 ≤ s) × (1 ≤ k) × (size w ≡ s + k)
+pub some_shape : (s k : ℕ) (w : Shape) → bare_url_of s k ≡ Some w → (1 ≤ s) × (1 ≤ k) × (size w ≡ s + k)
 some_shape s k w e =
     let f = both_some s k (Some (bare_shape (s + k))) w e in
     let is : bare_shape (s + k) ≡ w = same_shape (bare_shape (s + k)) w f.0 in

@@ -3,12 +3,16 @@ pub mod Nodes
 pub mod Content
 pub mod Cuts
 pub mod PageSigns
+pub mod PageBlocks
 pub mod OwnSigns
 pub mod SentNodes
 pub mod Stood
 pub mod Lines
 pub mod Flat
 pub mod Shown
+pub mod InHeadings
 pub mod Tiles
 pub mod Glyphs
 pub mod Beginnings
+pub mod SentPieces
+pub mod Calm

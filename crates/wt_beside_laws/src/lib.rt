@@ -1,17 +1,27 @@
 //! Laws of texts that are typed beside nodes that stay.
 #![tactic(auto)]
 
-ghost use Rattle.std.specs.Prelude.{◌≡◌, ◌≤◌, ℕ, ◌+◌, Bool, false, Some, List, [], ◌∷◌, ◌++◌, length, map};
+ghost use Rattle.std.specs.Prelude.{◌≡◌, ◌≤◌, ℕ, ◌+◌, Bool, false, Some, None, List, [], ◌∷◌, ◌++◌, length, map};
 ghost use Rattle.wt_span.specs.Items.{Item};
 ghost use Rattle.wt_guards.specs.Content.{ContentSign};
 ghost use Rattle.wt_guards.specs.Guards.{Setting, spelled};
+ghost use Rattle.std.specs.Str.{IsUtf8};
 ghost use Rattle.wt_expand.specs.PageItems.{page_items};
+ghost use Rattle.wt_expand.specs.PageCalls.{expanded_page};
+ghost use Rattle.wt_expand.specs.Work.{Pages, first_refusal};
+ghost use Rattle.wt_expand.specs.Expansion.{page_work};
+ghost use Rattle.wt_text_edit_laws.specs.LonePages.{of_items};
+ghost use Rattle.wt_beside_laws.specs.Calm.{AreCalm};
 ghost use Rattle.wt_lines.specs.Lines.{lines};
+ghost use Rattle.wt_isolation.specs.OpenTags.{any_ends_open};
+ghost use Rattle.wt_inline.specs.ItemTree.{forest};
+ghost use Rattle.wt_inline.specs.Parts.{children};
+ghost use Rattle.wt_annotated.specs.WithoutCalls.{AllNonEmpty};
 ghost use Rattle.wt_context.specs.Line.{line_parts};
 ghost use Rattle.wt_page.specs.Body.{meaning};
 ghost use Rattle.wt_page.specs.Rows.{rows};
 ghost use Rattle.wt_page.specs.Texts.{para};
-ghost use Rattle.wt_text_edit_laws.specs.ParagraphBetween.{body_with};
+ghost use Rattle.wt_text_edit_laws.specs.ParagraphBetween.{AreClosed, before_marks, EndsApart, EndsParagraph, blocks_in, body_with};
 ghost use Rattle.wt_text_edit_laws.specs.TextBetween.{StandsBehind};
 ghost use Rattle.wt_tiles.specs.declared.glyph.Glyph.{Glyph as Sign};
 ghost use Rattle.wt_tiles.specs.declared.glyph.GlyphClass.TheVariants as class;
@@ -26,17 +36,25 @@ ghost use Rattle.wt_beside_laws.specs.Content.{AreKept, content_items};
 ghost use Rattle.wt_beside_laws.specs.Cuts.{IsFree, content_cut};
 ghost use Rattle.wt_beside_laws.specs.Flat.{AreFlat, IsFlatContent, content_parts, line_content, para_with};
 ghost use Rattle.wt_beside_laws.specs.Glyphs.{content_glyphs, IsPast, AllAvoid};
+ghost use Rattle.wt_beside_laws.specs.InHeadings.{IsHeadingContent, KeepsLevel, heading_of};
+ghost use Rattle.wt_headings.specs.Headings.{heading};
+ghost use Rattle.wt_text_edit_laws.specs.TypedHeadings.{Sides, AreSides, heading_line, IsOfLevel, IsHeadingInside, EndsLine};
 ghost use Rattle.wt_beside_laws.specs.Lines.{AreCharacters, AreUnbroken, line_items, content_lines, AreLinesOfText};
 ghost use Rattle.wt_beside_laws.specs.Nodes.{AreNodes, AllMeet};
 ghost use Rattle.wt_beside_laws.specs.Shown.{parts_shown_at, content_shown};
 ghost use Rattle.wt_tree.specs.Plain.{Plains};
 ghost use Rattle.wt_beside_laws.specs.PageSigns.{signs_of_lines, AreFlatLines};
-ghost use Rattle.wt_tree.specs.Tree.{Tree as Block, Trees, label};
+ghost use Rattle.wt_tree.specs.EditShapes.{edit_shape};
+ghost use Rattle.wt_tree.specs.Tree.{Label, Tree as Block, tree, Trees, label};
+ghost use Rattle.wt_content.specs.Content.{is_paragraph, bad_content};
+ghost use Rattle.wt_typed_blocks.specs.Edited.{Piece, page_pieces, sent_pieces, PiecesStay, pieces_before};
 ghost use Rattle.wt_tree.specs.declared.edit_shape.Place.{Place as Where};
 ghost use Rattle.wt_original.specs.Page.{Page as Known, page_of, TellsSame};
 ghost use Rattle.wt_link_spelling.specs.Spelling.{signs_of_all, children_of};
 ghost use Rattle.wt_beside_laws.specs.OwnSigns.{own_signs, IsFlatBlock};
+ghost use Rattle.wt_beside_laws.specs.PageBlocks.{joined_parts, AreUnstyled, AreShut, ShowSources, IsBlockOfLines};
 ghost use Rattle.wt_beside_laws.specs.SentNodes.{AreSent, numbers};
+ghost use Rattle.wt_beside_laws.specs.SentPieces.{OnlyTextsGo, TextsFit, PiecesShow};
 ghost use Rattle.wt_beside_laws.specs.Stood.{AreStood, AreAt, things};
 ghost use Rattle.wt_beside_laws.specs.Tiles.{IsPlainLink, IsPastUrl};
 
@@ -129,6 +147,55 @@ pub fn texts_beside_nodes_of_the_page_are_flat()
         → AreKept (signs_of_lines at ls) → AreCharacters signs → things signs ≡ things (signs_of_lines at ls) → IsFlatContent s signs }
 {}
 
+/// A paragraph or a heading of the page that its lines make (`IsBlockOfLines`), none of which has a style (`AreUnstyled`) or a form that
+/// doesn't stay (`AreFlatLines`), has no style and no group in it, its numbers count up, and its nodes are those of the lines: as it is
+/// sent back, and by their tiles.
+pub fn blocks_of_flat_lines_have_their_nodes()
+    ensures flat { (ls : List (List Item)) (block : Block) → AreFlatLines ls → AreUnstyled ls → IsBlockOfLines ls block → IsFlatBlock block }
+    ensures nodes { (ls : List (List Item)) (block : Block) → AreFlatLines ls → AreUnstyled ls → IsBlockOfLines ls block
+        → things (own_signs block (length (label block).opening) (length (label block).opening) (children_of block))
+        ≡ things (signs_of_lines (length (label block).opening) ls) }
+{}
+
+/// Where none of its sources ends in an open tag (`AreShut`), no node of such a block does, and so no tag in it goes on behind it.
+#[tactic(auto, using(crate::proofs::BlockSigns::block_shut))]
+pub fn blocks_of_flat_lines_end_no_open_tag()
+    ensures { (ls : List (List Item)) (block : Block) (at : ℕ) → AreFlatLines ls → AreUnstyled ls → IsBlockOfLines ls block → AreShut (signs_of_lines at ls)
+        → any_ends_open (children_of block) ≡ false }
+{}
+
+/// Where no node of its lines is empty, none is of a content of the same nodes with any texts between them.
+#[tactic(auto, using(crate::proofs::PlainContents::content_plain))]
+pub fn contents_of_nodes_have_none_empty()
+    ensures { (s : Setting) (ls : List (List Item)) (at : ℕ) (signs : List ContentSign) → AreFlatLines ls → AreUnstyled ls
+        → things signs ≡ things (signs_of_lines at ls) → AllNonEmpty (forest (children (joined_parts ls))) → AllNonEmpty (forest (children (content_parts s [] signs))) }
+{}
+
+/// Each node of such a block shows, wherever it is, what its source shows by itself (`ShowsItsSource`).
+pub fn nodes_of_flat_lines_show_their_sources()
+    ensures { (same : Block → Block → Bool) (ls : List (List Item)) (block : Block) → AreFlatLines ls → AreUnstyled ls → IsBlockOfLines ls block
+        → ShowSources (page_of same block) (children_of block) }
+{}
+
+/// What is sent for such a block, with its nodes as they are and any texts between them, is a content that is read sign by sign
+/// (`IsFlatContent`): each node has the number of the page's, in the page's order, and is of the same kind and plain view (`AreSent`).
+/// Asked of the page is that the source of each node stands whatever is written behind it (`AreKept`).
+pub fn texts_sent_beside_nodes_are_flat()
+    ensures { (same : Block → Block → Bool) (s : Setting) (pl : Where) (ls : List (List Item)) (block : Block) (news : Trees) → TellsSame same → s.within ≡ false
+        → AreFlatLines ls → AreUnstyled ls → IsBlockOfLines ls block → AreKept (signs_of_lines (length (label block).opening) ls)
+        → AreSent (page_of same block) news → numbers news ≡ numbers (children_of block) → AreCharacters (signs_of_all (page_of same block) pl news)
+        → IsFlatContent s (signs_of_all (page_of same block) pl news) }
+{}
+
+/// What is written for such a content is again lines of a page of which the content may be: its lines are flat (`AreFlatLines`), no
+/// style is in them, and the source of each of their nodes stands, where references and the nowikis that are put are nodes, too.
+pub fn contents_beside_nodes_are_flat_again()
+    ensures lines { (s : Setting) (signs : List ContentSign) → IsFlatContent s signs → AreFlatLines (content_lines s signs) }
+    ensures unstyled { (s : Setting) (signs : List ContentSign) → IsFlatContent s signs → AreUnstyled (content_lines s signs) }
+    ensures kept { (at : ℕ) (s : Setting) (signs : List ContentSign) → IsFlatContent s signs → AreKept (signs_of_lines at (content_lines s signs)) }
+    ensures shut { (at : ℕ) (s : Setting) (signs : List ContentSign) → IsFlatContent s signs → AreShut signs → AreShut (signs_of_lines at (content_lines s signs)) }
+{}
+
 /// The lines of such a content are cut where a line break is typed, and each is a line of text, in a table too: nothing that
 /// is typed, and no node, makes it a heading, a list, a rule, preformatted text or a part of a table, and none is blank.
 pub fn texts_beside_nodes_are_lines_of_text()
@@ -156,4 +223,73 @@ pub fn texts_beside_nodes_are_one_paragraph()
 pub fn texts_beside_nodes_are_shown()
     ensures { (n : ℕ) (before : List Item) (s : Setting) (signs : List ContentSign) (rest : Plains) → IsFlatContent s signs
         → parts_shown_at n before (content_parts s [] signs) rest ≡ content_shown signs rest }
+{}
+
+/// In a heading such a content, of which no line break is typed, is between the heading's delimiters as its signs, too: what is first
+/// and last in it is no blank, and where its level is that of its delimiters (`IsOfLevel`), these end where they should. The level
+/// stays whatever is typed, unless a bare URL that ends with a `=` is directly before the closing delimiter (`KeepsLevel`).
+pub fn texts_beside_nodes_may_be_in_headings()
+    ensures inside { (s : Setting) (signs : List ContentSign) → IsHeadingContent s signs → IsHeadingInside (page_items (spelled s signs)) }
+    ensures level { (s : Setting) (signs : List ContentSign) (sides : Sides) → IsHeadingContent s signs → AreSides sides → KeepsLevel sides signs
+        → IsOfLevel sides (page_items (spelled s signs)) }
+    ensures heading { (s : Setting) (signs : List ContentSign) (sides : Sides) → IsHeadingContent s signs → AreSides sides
+        → IsOfLevel sides (page_items (spelled s signs))
+        → heading (heading_line sides (page_items (spelled s signs))) ≡ heading_of sides (content_parts s [] signs) }
+{}
+
+/// Between other lines of a page such a content is one paragraph of the body, or a heading: the body's other children are
+/// those that what is before it and what is behind it make by themselves, whatever is typed in it.
+#[tactic(auto, using(crate::proofs::LineStands::paragraph_stands, crate::proofs::LineStands::heading_stands))]
+pub fn texts_beside_nodes_stand_between_lines()
+    ensures paragraph { (before : List Item) (s : Setting) (signs : List ContentSign) (tail : List Item) → EndsApart before → IsFlatContent s signs
+        → EndsParagraph tail
+        → meaning (before ++ (page_items (spelled s signs) ++ tail))
+        ≡ body_with (blocks_in before ++ para_with (content_parts s [] signs) ∷ blocks_in tail) }
+    ensures heading { (before : List Item) (s : Setting) (signs : List ContentSign) (sides : Sides) (tail : List Item)
+        → AreClosed (before_marks before) → AreSides sides → IsHeadingContent s signs → IsOfLevel sides (page_items (spelled s signs)) → EndsLine tail
+        → meaning (before ++ (heading_line sides (page_items (spelled s signs)) ++ tail))
+        ≡ body_with (blocks_in before ++ heading_of sides (content_parts s [] signs) ∷ blocks_in tail) }
+{}
+
+/// Where all nodes of a flat block stay (`PiecesStay` of `wt_typed_blocks`) and only texts go and come (`OnlyTextsGo`), the nodes are
+/// sent as they are, with the numbers of the page's in their order. So `nodes_sent_are_those_of_the_page` holds of such a content.
+pub fn nodes_that_stay_are_sent()
+    ensures sent { (same : Block → Block → Bool) (block : Block) (ps : List Piece) → TellsSame same → IsFlatBlock block
+        → page_pieces ps ≡ children_of block → PiecesStay ps → AreSent (page_of same block) (sent_pieces ps) }
+    ensures numbers { (block : Block) (ps : List Piece) → page_pieces ps ≡ children_of block → PiecesStay ps → OnlyTextsGo ps
+        → numbers (sent_pieces ps) ≡ numbers (children_of block) }
+{}
+
+/// Nothing is wrong in a content of nodes that are sent as they are, and of texts, which in a heading have no line break
+/// (`TextsFit`): it isn't refused.
+#[tactic(auto, using(crate::proofs::NoFaults::no_fault))]
+pub fn contents_of_such_nodes_have_no_fault()
+    ensures { (same : Block → Block → Bool) (block : Block) (m : Label) (us : Trees) → AreSent (page_of same block) us
+        → TextsFit (is_paragraph (edit_shape (label block).kind).form) us → bad_content same block (tree m us) ≡ None }
+{}
+
+/// What is written for such a content shows what was sent: the texts as they were typed, and between them what the page shows for
+/// each node that stays, if the page's node shows what its source shows by itself (`PiecesShow`).
+#[tactic(auto, using(crate::proofs::SentShown::pieces_shown))]
+pub fn what_is_sent_is_what_is_shown()
+    ensures { (p : Known) (pl : Where) (ps : List Piece) (rest : Plains) → PiecesStay ps → AreSent p (sent_pieces ps) → PiecesShow p ps
+        → content_shown (signs_of_all p pl (sent_pieces ps)) rest ≡ pieces_before ps rest }
+{}
+
+/// Such a content is UTF-8, and as a page it calls nothing, whatever the folder has: nothing is expanded in it, and nothing refuses
+/// it. Asked is that the source of each node is UTF-8 and has no brace outside of its lexemes (`AreCalm`).
+#[tactic(auto, using(crate::proofs::CalmContents::content_utf8, crate::proofs::CalmContents::content_expanded, crate::proofs::CalmContents::content_unrefused))]
+pub fn texts_beside_nodes_call_nothing()
+    ensures utf8 { (s : Setting) (signs : List ContentSign) → AreCharacters signs → AreCalm signs → IsUtf8 (spelled s signs) }
+    ensures expanded { (pages : Pages) (s : Setting) (signs : List ContentSign) → AreKept signs → AreCalm signs
+        → expanded_page pages (spelled s signs) ≡ of_items (page_items (spelled s signs)) }
+    ensures unrefused { (pages : Pages) (s : Setting) (signs : List ContentSign) → AreKept signs → AreCalm signs
+        → first_refusal pages (spelled s signs) (page_work pages (spelled s signs)) ≡ None }
+{}
+
+/// A page whose lines are text is one paragraph: what its lines are, with a line break between each two (`joined_parts`).
+#[tactic(auto, using(crate::proofs::FlatLines::lines_meaning))]
+pub fn lines_of_text_are_one_paragraph()
+    ensures { (q : List ℕ) → AreLinesOfText 0 (lines (page_items q))
+        → meaning (page_items q) ≡ body_with (para_with (joined_parts (lines (page_items q))) ∷ []) }
 {}

@@ -1,5 +1,5 @@
 -- Where texts are typed in blocks among calls that are in no group, the groups of the page and its other nodes stay.
-use Rattle.std.proofs.Common.{ℕ, List, sym, ap, ◌∙◌, subst}
+use Rattle.std.proofs.Common.{inl, ℕ, List, [], ◌∷◌, refl, sym, ap, ◌∙◌, subst}
 use Rattle.wt_span.specs.Origins.{OuterCall}
 use Rattle.wt_expand.specs.Work.{Pages}
 use Rattle.wt_expand.specs.PageCalls.{expanded_page}
@@ -7,9 +7,10 @@ use Rattle.wt_annotated.specs.Annotated.{annotated}
 use Rattle.wt_annotated.specs.GroupData.{group_data}
 use Rattle.wt_moved_laws.specs.Placeless.{placeless}
 use Rattle.wt_row_laws.specs.Frames.{Frames, all_places}
-use Rattle.wt_text_edit_laws.specs.BlockSpots.{BlockSpot, spots_source, SameRound, AreBlocks}
-use Rattle.wt_called_parts.specs.Parts.{called_outers}
+use Rattle.wt_text_edit_laws.specs.BlockSpots.{BlockSpot, spots_source}
+use Rattle.wt_called_parts.specs.Parts.{AreCalled, called_outers}
 use Rattle.wt_called_parts.proofs.Retyped.{is_by_parts, same_round, blocks_over, called_blocks, expanded_again}
+use Rattle.wt_called_parts.specs.Retyped.{AreRetyped}
 use Rattle.wt_called_trees.specs.MovedCalls.{AreMoved}
 use Rattle.wt_called_trees.specs.Rounded.{HaveSameData, AreOwn, GroupsStay}
 use Rattle.wt_called_trees.proofs.GroupsStay.{groups_stay}
@@ -20,26 +21,43 @@ use Rattle.wt_called_edit_laws.specs.Groups.{AreOutsideGroups, GroupsStayAmong}
 use Rattle.wt_called_edit_laws.proofs.MovedOuters.{outers_moved}
 use Rattle.wt_called_edit_laws.proofs.OwnBlocks.{counted_own}
 
+-- the calls of the page with other texts are the same but for where they are
+pub calls_same : (pages : Pages) (ss rs : List BlockSpot) (behind : List ℕ) → AreCalled ss behind → AreRetyped ss rs
+    → HaveSameData (expanded_page pages (spots_source ss behind)).outer (expanded_page pages (spots_source rs behind)).outer
+calls_same pages ss rs behind h t =
+    let calls : List OuterCall = (expanded_page pages (spots_source ss behind)).outer in
+    let others : List OuterCall = (expanded_page pages (spots_source rs behind)).outer in
+    let again = expanded_again pages ss rs behind h t in
+    let was = is_by_parts pages ss behind h in
+    let now = is_by_parts pages rs behind again.called in
+    let moved : AreMoved calls others =
+    subst (λ cs. AreMoved cs others) (sym was.outers)
+    (subst (AreMoved (called_outers pages ss behind)) (sym now.outers) (outers_moved pages ss rs behind (same_round ss rs t))) in
+    moved_data calls others moved
+
+-- and its blocks have items of the page alone
+pub own_among : (pages : Pages) (ss rs : List BlockSpot) (behind : List ℕ) (h : AreOutsideGroups pages ss behind) → AreRetyped ss rs
+    → AreOwn (tree_by rs) (all_places h.stand.frames)
+own_among pages ss rs behind h t =
+    subst (AreOwn (tree_by rs)) (counted_same ss rs (same_round ss rs t) ∙ sym h.stand.in_order)
+    (counted_own rs (blocks_over ss rs t (called_blocks ss behind h.among.called)))
+
+-- each text is the same
+pub retyped_self : (ss : List BlockSpot) → AreRetyped ss ss
+retyped_self [] = tt
+retyped_self (s ∷ ss) = (refl, refl, inl refl, retyped_self ss)
+
 pub groups_among : (pages : Pages) (ss : List BlockSpot) (behind : List ℕ) → AreOutsideGroups pages ss behind → GroupsStayAmong pages ss behind
 groups_among pages ss behind h =
     let fs : Frames = h.stand.frames in
     let calls : List OuterCall = (expanded_page pages (spots_source ss behind)).outer in
-    let blocks : AreBlocks ss = called_blocks ss behind h.among.called in
-    let own : AreOwn (tree_by ss) (all_places fs) = subst (AreOwn (tree_by ss)) (sym h.stand.in_order) (counted_own ss blocks) in
-    let g : GroupsStay calls fs = groups_stay calls fs (tree_by ss) h.stand.of_cells own h.clean in
+    let g : GroupsStay calls fs =
+    groups_stay calls fs (tree_by ss) h.stand.of_cells (own_among pages ss ss behind h (retyped_self ss)) h.clean in
     record {
       nodes = g.nodes;
       in_order = g.in_order ∙ h.stand.in_order;
       stay = λ rs t.
-          let e : SameRound ss rs = same_round ss rs t in
-          let again = expanded_again pages ss rs behind h.among.called t in
           let others : List OuterCall = (expanded_page pages (spots_source rs behind)).outer in
-          let was = is_by_parts pages ss behind h.among.called in
-          let now = is_by_parts pages rs behind again.called in
-          let moved : AreMoved calls others =
-          subst (λ cs. AreMoved cs others) (sym was.outers) (subst (AreMoved (called_outers pages ss behind)) (sym now.outers) (outers_moved pages ss rs behind e)) in
-          let same : HaveSameData calls others = moved_data calls others moved in
-          let new : AreOwn (tree_by rs) (all_places fs) =
-          subst (AreOwn (tree_by rs)) (counted_same ss rs e ∙ sym h.stand.in_order) (counted_own rs (blocks_over ss rs t blocks)) in
-          ap (λ m. placeless (annotated others (group_data others) m)) (h.stand.means rs t) ∙ g.stay others (tree_by rs) same new;
+          ap (λ m. placeless (annotated others (group_data others) m)) (h.stand.means rs t)
+          ∙ g.stay others (tree_by rs) (calls_same pages ss rs behind h.among.called t) (own_among pages ss rs behind h t);
     }

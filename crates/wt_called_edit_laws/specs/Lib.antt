@@ -1,3 +1,14 @@
 pub mod Groups
 pub mod FreeBlocks
 pub mod Untangled
+pub mod CalledPages
+pub mod Nodes
+pub mod Sends
+pub mod Stand
+pub mod PathsTo
+pub mod TreeEdits
+pub mod CalledTexts
+pub mod CalledCalls
+pub mod Settled
+pub mod SettledPages
+pub mod Covered

@@ -36,7 +36,7 @@ edit_is pages page new input u unsourced utf8 short small is made =
     ∙ ap (edited_answer pages page) is
     ∙ made
 
-answer_is : (c : Call) (page new : List ℕ) (sent : Label → Tree) → IsUtf8 page → (s : SendsFor c Edit page new sent) → edit_to s.pages page (sent s.body) ≡ done new
+pub answer_is : (c : Call) (page new : List ℕ) (sent : Label → Tree) → IsUtf8 page → (s : SendsFor c Edit page new sent) → edit_to s.pages page (sent s.body) ≡ done new
     → known_answer c ≡ Some (done new)
 unfolding answer_told
 answer_is c page new sent utf8 s made =
@@ -46,7 +46,7 @@ answer_is c page new sent utf8 s made =
     ∙ ap (λ (stands : Option (List ℕ)). Some (edit_of s.pages stands s.input)) s.found
     ∙ ap (λ (a : Answer). Some a) (edit_is s.pages page new s.input (sent s.body) s.unsourced utf8 s.old_within s.within s.reads made)
 
-selser_ends : (c : Call) (ended : ℕ) (page new : List ℕ) (sent : Label → Tree) (s : SendsFor c Selser page new sent)
+pub selser_ends : (c : Call) (ended : ℕ) (page new : List ℕ) (sent : Label → Tree) (s : SendsFor c Selser page new sent)
     → DoneByEdit s.pages (s.pages s.title) s.input → EndsAsEdit c ended → (ended ≡ code status.Done) ⊎ IsFaultOrNoMemory ended
 selser_ends c ended page new sent s made ends =
     let P : Pages → List ℕ → Type 0 = λ pages bytes. DoneByEdit pages (pages s.title) bytes → (ended ≡ code status.Done) ⊎ IsFaultOrNoMemory ended in

@@ -1,29 +1,18 @@
 -- A page whose paragraphs and headings are in the body is one with blocks anywhere.
-use Rattle.std.proofs.Common.{arith, ◌≡◌, ℕ, Bool, None, List, [], ◌∷◌, length, refl, sym, ap, ◌∙◌, subst, inl, inr}
-use Rattle.wt_devices.specs.Device.{Pages}
-use Rattle.wt_tree.specs.Tiling.{HasNoGroup}
+use Rattle.std.proofs.Common.{arith, ◌≡◌, ℕ, Bool, List, [], ◌∷◌, length, refl, sym, ap, ◌∙◌, subst, inl, inr}
 use Rattle.wt_span.specs.Items.{Item}
 use Rattle.wt_lines.specs.Kinds.{kind_of_signs}
 use Rattle.wt_lines.specs.Lines.{empty_end, full_lines}
-use Rattle.wt_inline.specs.ItemTree.{ItemTree, forest}
 use Rattle.wt_page.specs.Rows.{Row, rows}
-use Rattle.wt_annotated.specs.Annotated.{all_unplaced}
 use Rattle.wt_expand.specs.PageItems.{page_items}
 use Rattle.wt_row_laws.specs.Slots.{AllTrue}
-use Rattle.wt_moved_laws.specs.Standing.{AreOrdinary}
 use Rattle.wt_text_edit_laws.specs.Paragraphs.{IsParagraph}
 use Rattle.wt_text_edit_laws.specs.ParagraphBetween.{written_rows, tables_behind, rows_of_lines, AreClosed, before_marks, EndApart}
-use Rattle.wt_text_edit_laws.specs.Parts.{HasNoGroups}
 use Rattle.wt_text_edit_laws.specs.TextBlocks.{TextBlock, a_paragraph, a_heading, IsBlock, LeadsTo, EndsBlock, BeginsBetween}
-use Rattle.wt_text_edit_laws.specs.BlockSpots.{BlockSpot, spots_source, page_blocks, IsBlockSpot, AreFurtherBlocks, AreBlockSpots, IsRead}
+use Rattle.wt_text_edit_laws.specs.BlockSpots.{BlockSpot, IsBlockSpot, AreFurtherBlocks, AreBlockSpots, IsRead}
 use Rattle.wt_text_edit_laws.proofs.Prose.ProseReading.{break}
 use Rattle.wt_text_edit_laws.proofs.Prose.ProseLines.{blank_row}
 use Rattle.wt_text_edit_laws.proofs.Paragraphs.Joining.{lines_join}
-use Rattle.wt_text_edit_laws.proofs.Blocks.BlockReading.{spots_expanded, spots_unrefused}
-use Rattle.wt_text_edit_laws.proofs.Blocks.BlockMeaning.{spots_meaning}
-use Rattle.wt_text_edit_laws.proofs.Blocks.BlockTrees.{leafy_blocks, as_leaves, are_typed, spots_tree}
-use Rattle.wt_text_edit_laws.proofs.Blocks.BlocksAgain.{spots_utf8}
-use Rattle.wt_text_edit_laws.proofs.Blocks.PageKinds.{page_ordinary}
 use Rattle.wt_cell_edit_laws.specs.AnyBlocks.{open_behind_part, EndsFor, StaysText, IsSpotAt, past_break, BeginsAfter, EndsAfter, AreSpotsAfter, AreParts, AreSpots}
 use Rattle.wt_cell_edit_laws.proofs.Cells.{typed_stays_text}
 use Rattle.wt_cell_edit_laws.proofs.SpotSlots.{open_size}

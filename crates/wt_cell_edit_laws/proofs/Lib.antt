@@ -22,6 +22,8 @@ pub mod ManyNodes
 pub mod ManyPaths
 pub mod Nodes
 pub mod OwnTexts
+pub mod SentAsIs
+mod SentCases
 mod PageCases
 pub mod PageSlots
 pub mod Paths

@@ -92,7 +92,7 @@ flat_by : (v : Bool) (own inside : List ℕ) → v ≡ false → inside ≡ (if 
 flat_by true own inside e = absurd (cc)
 flat_by false own inside e = refl
 
-old_flat : (at : ℕ) (s : Sent) → StandsAt at s → old_source s ≡ flat (old_child s)
+pub old_flat : (at : ℕ) (s : Sent) → StandsAt at s → old_source s ≡ flat (old_child s)
 old_flat at (stands t u) h = refl
 old_flat at (typed paragraph l ts m x text) h = refl
 old_flat at (typed (heading n) l ts m x text) h = refl

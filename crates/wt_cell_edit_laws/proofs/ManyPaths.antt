@@ -61,7 +61,7 @@ NoneEmpty [] = Unit {0}
 NoneEmpty ([] ∷ ps) = ⊥
 NoneEmpty ((i ∷ is) ∷ ps) = NoneEmpty ps
 
-further_full : (ps : List (List ℕ)) → NoneEmpty ps → NoneEmpty (further ps)
+pub further_full : (ps : List (List ℕ)) → NoneEmpty ps → NoneEmpty (further ps)
 further_full [] h = tt
 further_full ([] ∷ ps) h = absurd h
 further_full ((i ∷ is) ∷ ps) h = further_full ps h
@@ -70,7 +70,7 @@ behind_full : (ts : Trees) (ps : List (List ℕ)) → NoneEmpty ps → NoneEmpty
 behind_full none ps h = h
 behind_full (more t ts) ps h = further_full (behind_all ts ps) (behind_full ts ps h)
 
-inside_full : (ps qs : List (List ℕ)) → NoneEmpty qs → NoneEmpty (deeper ps ++ qs)
+pub inside_full : (ps qs : List (List ℕ)) → NoneEmpty qs → NoneEmpty (deeper ps ++ qs)
 inside_full [] qs h = h
 inside_full (p ∷ ps) qs h = inside_full ps qs h
 

@@ -3,26 +3,30 @@ use Rattle.std.proofs.Common.{◌≡◌, ◌≢◌, ◌⊎◌, inl, inr, ℕ, ze
 use Rattle.wt_tree.specs.declared.kind.Kind.{Kind}
 use Rattle.wt_tree.specs.declared.row.Texts.{Texts}
 use Rattle.wt_tree.specs.Kinds.{texts_of_kind}
-use Rattle.wt_tree.specs.Tiling.{HasNoGroup, NoneIsGroup}
+use Rattle.wt_tree.specs.Tiling.{is_group, ids, ids_of_all}
 use Rattle.wt_tree.specs.Tree.{Label, Tree, tree, Trees, none, more}
 use Rattle.wt_span.specs.Items.{Item}
 use Rattle.wt_inline.specs.ItemTree.{ItemTree}
 use Rattle.wt_annotated.specs.Numbering.{next_after}
 use Rattle.wt_checks.specs.Kept.{children}
+use Rattle.wt_checks.proofs.Lookups.{each_split, AllZero}
 use Rattle.wt_row_laws.specs.Frames.{place, whole, around, Frames, no_frames, more_frames, tree_at}
 use Rattle.wt_typed_blocks.specs.Sent.{kind_of, Sents, old_child, old_children, IsSent, AreSent}
 use Rattle.wt_typed_blocks.specs.Typed.{TakesText, TakeTexts}
+use Rattle.wt_typed_blocks.proofs.SentGroups.{in_group}
 use Rattle.wt_text_edit_laws.specs.BlockSpots.{BlockSpot, spots_source}
 use Rattle.wt_text_edit_laws.specs.OwnNodes.{IsTypedSpot}
 use Rattle.wt_text_edit_laws.specs.Parts.{part_tree, HasNoGroups}
 use Rattle.wt_text_edit_laws.specs.TextBlocks.{TextBlock, block_of}
-use Rattle.wt_text_edit_laws.proofs.Blocks.OwnNodes.{stands_unmarked, none_inside}
+use Rattle.wt_text_edit_laws.proofs.Blocks.OwnNodes.{none_inside}
 use Rattle.wt_text_edit_laws.proofs.Prose.ProseTrees.{blocks_of, number_behind, items_behind}
 use Rattle.wt_cell_edit_laws.specs.AnyBlocks.{typed_at, typed_among, typed_by, first_paths, other_paths, EndHere, GoOn, TypesOnly, AllTypeOnly, IsTextEdit, LeadsTo, LeadsAmong, AllLead}
+use Rattle.wt_cell_edit_laws.specs.SentAsIs.{HasNumberedGroups, HaveNumberedGroups}
 use Rattle.wt_cell_edit_laws.specs.OwnTexts.{AreTypings, PathText, path_texts, in_first, in_others, first_texts, other_texts, here_or, text_here, sent_block, sent_node, own_text, own_texts, own_sent}
 use Rattle.wt_cell_edit_laws.proofs.ManyNodes.{fore_at}
 use Rattle.wt_cell_edit_laws.proofs.ManyPaths.{past, further, behind_all, deeper, paths_from, NoneEmpty, paths_full}
 use Rattle.wt_cell_edit_laws.proofs.Nodes.{number_after, items_after}
+use Rattle.wt_cell_edit_laws.proofs.SentAsIs.{stands_as_sent, none_numbered}
 
 -- ---- the paths lead to blocks in which the texts may be typed
 
@@ -148,22 +152,41 @@ mutual
   old_texts m ys (more t ts) h =
       ap₂ more (old_text m (first_texts ys) t (all_first_led ys t ts h)) (old_texts m (other_texts ys) ts (all_others_led ys t ts h))
 
-block_is_sent : (o : Option (List ℕ)) (k : TextBlock) (m l : Label) (ts : Trees) → HasNoGroup (tree l ts) → l.id ≢ 0 → IsSent (sent_block o k m l ts)
-block_is_sent None k m l ts g e = stands_unmarked (tree l ts) g
+-- no path leads into a group, since no node has a number there
+mutual
+  not_led_to : (k : TextBlock) (p : List ℕ) (t : Tree) → AllZero (ids t) → LeadsTo k p t → ⊥
+  not_led_to k [] (tree l ts) z h = h.1 z.0
+  not_led_to k (i ∷ is) (tree l ts) z h = not_led_among k i is ts z.1 h
+
+  not_led_among : (k : TextBlock) (i : ℕ) (is : List ℕ) (ts : Trees) → AllZero (ids_of_all ts) → LeadsAmong k i is ts → ⊥
+  not_led_among k i is none z h = h
+  not_led_among k zero is (more t ts) z h = not_led_to k is t (each_split (λ n. n ≡ 0) (ids t) (ids_of_all ts) z).0 h
+  not_led_among k (suc i) is (more t ts) z h = not_led_among k i is ts (each_split (λ n. n ≡ 0) (ids t) (ids_of_all ts) z).1 h
+
+not_led_inside : (p : List ℕ) (y : PathText) (o : Option PathText) (ts : Trees) → here_or p y o ≡ None → IsLed y.block p ts → AllZero (ids_of_all ts) → ⊥
+not_led_inside [] y o ts e h z = absurd (cc)
+not_led_inside (i ∷ is) y o ts e h z = not_led_among y.block i is ts z h
+
+block_is_sent : (o : Option (List ℕ)) (k : TextBlock) (m l : Label) (ts : Trees) → HasNumberedGroups (tree l ts) → l.id ≢ 0 → IsSent (sent_block o k m l ts)
+block_is_sent None k m l ts g e = stands_as_sent (tree l ts) g
 block_is_sent (Some text) k m l ts g e = e
 
-node_is_sent : (o : Option PathText) (ys : List PathText) (m l : Label) (ts : Trees) (ss : Sents) → HasNoGroup (tree l ts) → HereLeads o (tree l ts) → AreSent ss
-    → IsSent (sent_node o ys m l ts ss)
-node_is_sent (Some y) ys m l ts ss g h s = block_is_sent y.text y.block m l ts g h.1
-node_is_sent None [] m l ts ss g h s = stands_unmarked (tree l ts) g
-node_is_sent None (y ∷ ys) m l ts ss g h s = (record { kind = refl; id = refl; attrs = refl; mw = refl; shown = λ e. refl; unmarked = refl }, s)
+node_is_sent : (o : Option PathText) (ys : List PathText) (m l : Label) (ts : Trees) (ss : Sents) → text_here ys ≡ o → HasNumberedGroups (tree l ts)
+    → HereLeads o (tree l ts) → AreLedIn ys ts → (HaveNumberedGroups ts → AreSent ss) → IsSent (sent_node o ys m l ts ss)
+node_is_sent (Some y) ys m l ts ss e g h led s = block_is_sent y.text y.block m l ts g h.1
+node_is_sent None [] m l ts ss e g h led s = stands_as_sent (tree l ts) g
+node_is_sent None (y ∷ ys) m l ts ss e g h led s = (
+  record { kind = refl; id = refl; attrs = refl; mw = refl; shown = λ e. refl; unmarked = refl },
+  s (in_group (is_group l.kind) g (λ v k. absurd (not_led_inside y.path y (text_here ys) ts e led.0 k.unnumbered)) (λ v k. k)),
+)
 
 mutual
-  text_is_sent : (m : Label) (ys : List PathText) (t : Tree) → HasNoGroup t → AreLedTo ys t → IsSent (own_text m ys t)
+  text_is_sent : (m : Label) (ys : List PathText) (t : Tree) → HasNumberedGroups t → AreLedTo ys t → IsSent (own_text m ys t)
   text_is_sent m ys (tree l ts) g h =
-      node_is_sent (text_here ys) ys m l ts (own_texts m ys ts) g (here_leads ys (tree l ts) h) (texts_are_sent m ys ts g.1 (all_led_inside ys l ts h))
+      let led : AreLedIn ys ts = all_led_inside ys l ts h in
+      node_is_sent (text_here ys) ys m l ts (own_texts m ys ts) refl g (here_leads ys (tree l ts) h) led (λ k. texts_are_sent m ys ts k led)
 
-  texts_are_sent : (m : Label) (ys : List PathText) (ts : Trees) → NoneIsGroup ts → AreLedIn ys ts → AreSent (own_texts m ys ts)
+  texts_are_sent : (m : Label) (ys : List PathText) (ts : Trees) → HaveNumberedGroups ts → AreLedIn ys ts → AreSent (own_texts m ys ts)
   texts_are_sent m ys none g h = tt
   texts_are_sent m ys (more t ts) g h =
       (text_is_sent m (first_texts ys) t g.0 (all_first_led ys t ts h), texts_are_sent m (other_texts ys) ts g.1 (all_others_led ys t ts h))
@@ -228,18 +251,18 @@ mutual
 
 -- ---- no path begins another one
 
-abbrev ApartAt : ℕ → ℕ → Type 0 → Type 0
+abbrev pub ApartAt : ℕ → ℕ → Type 0 → Type 0
 ApartAt zero zero P = P
 ApartAt zero (suc j) P = Unit {0}
 ApartAt (suc i) zero P = Unit {0}
 ApartAt (suc i) (suc j) P = ApartAt i j P
 
-abbrev IsApart : List ℕ → List ℕ → Type 0
+abbrev pub IsApart : List ℕ → List ℕ → Type 0
 IsApart [] q = ⊥
 IsApart (i ∷ is) [] = ⊥
 IsApart (i ∷ is) (j ∷ js) = ApartAt i j (IsApart is js)
 
-abbrev IsApartFrom : List ℕ → List (List ℕ) → Type 0
+abbrev pub IsApartFrom : List ℕ → List (List ℕ) → Type 0
 IsApartFrom p [] = Unit {0}
 IsApartFrom p (q ∷ qs) = IsApart p q × IsApartFrom p qs
 
@@ -256,7 +279,7 @@ past_from : (p : List ℕ) (qs : List (List ℕ)) → IsApartFrom p qs → IsApa
 past_from p [] h = tt
 past_from p (q ∷ qs) h = (past_apart p q h.0, past_from p qs h.1)
 
-further_apart : (ps : List (List ℕ)) → AreApart ps → AreApart (further ps)
+pub further_apart : (ps : List (List ℕ)) → AreApart ps → AreApart (further ps)
 further_apart [] h = tt
 further_apart (p ∷ ps) h = (past_from p ps h.0, further_apart ps h.1)
 
@@ -265,7 +288,7 @@ behind_apart none ps h = h
 behind_apart (more t ts) ps h = further_apart (behind_all ts ps) (behind_apart ts ps h)
 
 -- those in the first node, and those behind it
-first_apart : (p : List ℕ) (qs : List (List ℕ)) → NoneEmpty qs → IsApartFrom (zero ∷ p) (further qs)
+pub first_apart : (p : List ℕ) (qs : List (List ℕ)) → NoneEmpty qs → IsApartFrom (zero ∷ p) (further qs)
 first_apart p [] h = tt
 first_apart p ([] ∷ qs) h = absurd h
 first_apart p ((j ∷ js) ∷ qs) h = (tt, first_apart p qs h)
@@ -274,7 +297,7 @@ inside_from : (p : List ℕ) (ps qs : List (List ℕ)) → NoneEmpty qs → IsAp
 inside_from p [] qs f h = first_apart p qs f
 inside_from p (q ∷ ps) qs f h = (h.0, inside_from p ps qs f h.1)
 
-inside_apart : (ps qs : List (List ℕ)) → NoneEmpty qs → AreApart ps → AreApart qs → AreApart (deeper ps ++ further qs)
+pub inside_apart : (ps qs : List (List ℕ)) → NoneEmpty qs → AreApart ps → AreApart qs → AreApart (deeper ps ++ further qs)
 inside_apart [] qs f h g = further_apart qs g
 inside_apart (p ∷ ps) qs f h g = (inside_from p ps qs f h.0, inside_apart ps qs f h.1 g)
 
@@ -456,23 +479,36 @@ fit_so (s ∷ ss) (p ∷ ps) (o ∷ os) u = (u.0, fit_so ss ps os u.1)
 led_children : (ys : List PathText) (t : Tree) → AreLedTo ys t → AreLedIn ys (children t)
 led_children ys (tree l ts) h = all_led_inside ys l ts h
 
+-- of any tree whose groups have numbers
+pub record IsOwnEdit (t : Tree) (paths : List (List ℕ)) (os : List (Option (List ℕ))) (es : Sents) : Type 0 where
+  pub old : old_children es ≡ children t
+  pub sent : AreSent es
+  pub types : AllTypeOnly paths es
+  pub take : TakeTexts es
+  pub texts : map (typed_by es) paths ≡ os
+
+pub tree_edit : (t : Tree) (ss : List BlockSpot) (paths : List (List ℕ)) (m : Label) (os : List (Option (List ℕ))) → NoneEmpty paths → AreApart paths
+    → HaveNumberedGroups (children t) → AllLead ss paths t → AreTypings ss os → IsOwnEdit t paths os (own_texts m (path_texts ss paths os) (children t))
+tree_edit t ss paths m os full apart g lead u =
+    let ts : Trees = children t in
+    let ys : List PathText = path_texts ss paths os in
+    let led : AreLedIn ys ts = led_children ys t (led_so ss paths os t lead) in
+    let fit : AllFit ys = fit_so ss paths os u in
+    let are : paths_in ys ≡ paths = paths_so ss paths os t lead u in
+    record {
+      old = old_texts m ys ts led;
+      sent = texts_are_sent m ys ts g led;
+      types = subst (λ ps. AllTypeOnly ps (own_texts m ys ts)) are (texts_type m ys ts fit);
+      take = texts_take m ys ts fit;
+      texts = ap (map (typed_by (own_texts m ys ts))) (sym are)
+          ∙ all_found m ys ys ts (subst NoneEmpty (sym are) full) (all_have ys (subst AreApart (sym are) apart)) led
+          ∙ texts_so ss paths os t lead u;
+    }
+
 pub own_edit : (ss : List BlockSpot) (behind : List ℕ) (paths : List (List ℕ)) (m : Label) (os : List (Option (List ℕ))) → NoneEmpty paths → AreApart paths
     → HasNoGroups (spots_source ss behind) → AllLead ss paths (part_tree (spots_source ss behind)) → AreTypings ss os
     → IsTextEdit ss behind paths (own_sent ss behind paths m os) × (map (typed_by (own_sent ss behind paths m os)) paths ≡ os)
 own_edit ss behind paths m os full apart g lead u =
     let t : Tree = part_tree (spots_source ss behind) in
-    let ts : Trees = children t in
-    let ys : List PathText = path_texts ss paths os in
-    let led : AreLedIn ys ts = led_children ys t (led_so ss paths os t lead) in
-    let fit : AllFit ys = fit_so ss paths os u in
-    let are : paths_in ys ≡ paths = paths_so ss paths os t lead u in (
-      record {
-        old = old_texts m ys ts led;
-        sent = texts_are_sent m ys ts (none_inside t g) led;
-        types = subst (λ ps. AllTypeOnly ps (own_texts m ys ts)) are (texts_type m ys ts fit);
-        take = texts_take m ys ts fit;
-      },
-      ap (map (typed_by (own_texts m ys ts))) (sym are)
-          ∙ all_found m ys ys ts (subst NoneEmpty (sym are) full) (all_have ys (subst AreApart (sym are) apart)) led
-          ∙ texts_so ss paths os t lead u,
-    )
+    let e = tree_edit t ss paths m os full apart (none_numbered (children t) (none_inside t g)) lead u in
+    (record { old = e.old; sent = e.sent; types = e.types; take = e.take }, e.texts)

@@ -46,7 +46,7 @@ abbrev pub numbers_in : Gaps → List ℕ
 numbers_in (last_gap xs) = []
 numbers_in (then_gap xs i g) = i ∷ numbers_in g
 
-numbers_before : (xs : List ℕ) (g : Gaps) → numbers_in (put_before xs g) ≡ numbers_in g
+pub numbers_before : (xs : List ℕ) (g : Gaps) → numbers_in (put_before xs g) ≡ numbers_in g
 numbers_before xs (last_gap ys) = refl
 numbers_before xs (then_gap ys i g) = refl
 
@@ -68,7 +68,7 @@ fill ts (last_gap xs) = xs
 fill [] (then_gap xs i g) = xs ++ fill [] g
 fill (t ∷ ts) (then_gap xs i g) = xs ++ (t ++ fill ts g)
 
-fill_before : (ts : List (List ℕ)) (xs : List ℕ) (g : Gaps) → fill ts (put_before xs g) ≡ xs ++ fill ts g
+pub fill_before : (ts : List (List ℕ)) (xs : List ℕ) (g : Gaps) → fill ts (put_before xs g) ≡ xs ++ fill ts g
 fill_before ts xs (last_gap ys) = refl
 fill_before [] xs (then_gap ys i g) = append_assoc xs ys (fill [] g)
 fill_before (t ∷ ts) xs (then_gap ys i g) = append_assoc xs ys (t ++ fill ts g)
@@ -80,7 +80,7 @@ abbrev pub sources_at : (ℕ → ItemTree) → List ℕ → List (List ℕ) → 
 sources_at t [] ts = ts
 sources_at t (i ∷ is) ts = source_at t i ∷ sources_at t is ts
 
-sources_both : (t : ℕ → ItemTree) (is js : List ℕ) (ts : List (List ℕ)) → sources_at t (is ++ js) ts ≡ sources_at t is (sources_at t js ts)
+pub sources_both : (t : ℕ → ItemTree) (is js : List ℕ) (ts : List (List ℕ)) → sources_at t (is ++ js) ts ≡ sources_at t is (sources_at t js ts)
 sources_both t [] js ts = refl
 sources_both t (i ∷ is) js ts = ap (λ (rs : List (List ℕ)). source_at t i ∷ rs) (sources_both t is js ts)
 

@@ -127,7 +127,7 @@ fit_all [] (p ∷ ps) l ts es qs h e o c = absurd h
 fit_all (s ∷ ss) [] l ts es qs h e o c = absurd h
 fit_all (s ∷ ss) (p ∷ ps) l ts es qs h e o c = (fit_by s.block p l ts es qs h.0 e o c, fit_all ss ps l ts es qs h.1 e o c)
 
-by_tree : (ss : List BlockSpot) (ps : List (List ℕ)) (es : Sents) (t : Tree) (qs : List (List ℕ)) → AllLead ss ps t → old_children es ≡ children t
+pub by_tree : (ss : List BlockSpot) (ps : List (List ℕ)) (es : Sents) (t : Tree) (qs : List (List ℕ)) → AllLead ss ps t → old_children es ≡ children t
     → AllTypeOnly qs es → TakeTexts es → AreTypings ss (map (typed_by es) ps)
 by_tree ss ps es (tree l ts) qs h e o c = fit_all ss ps l ts es qs h e o c
 

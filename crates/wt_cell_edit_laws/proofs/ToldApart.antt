@@ -28,9 +28,9 @@ use Rattle.wt_cell_edit_laws.proofs.Paths.{same_first, same_rest, count_of}
 
 -- ---- the kinds of nodes round blocks
 
-record IsPartKind (k : Kind) : Type 0 where
-  numbered : is_numbered k ≡ true
-  part : is_block_part k ≡ true
+pub record IsPartKind (k : Kind) : Type 0 where
+  pub numbered : is_numbered k ≡ true
+  pub part : is_block_part k ≡ true
 
 as_part : (k j : Kind) → k ≡ j → IsPartKind j → IsPartKind k
 as_part k j e h = subst IsPartKind (sym e) h
@@ -39,7 +39,7 @@ cell_part : (k : Kind) → IsCellKind k → IsPartKind k
 cell_part k (inl e) = as_part k kind.Td e (record { numbered = refl; part = refl })
 cell_part k (inr e) = as_part k kind.Th e (record { numbered = refl; part = refl })
 
-part_kind : (p q : Part) (k : Kind) → Holds p k q → IsPartKind k
+pub part_kind : (p q : Part) (k : Kind) → Holds p k q → IsPartKind k
 part_kind content in_table k h = as_part k kind.Table h (record { numbered = refl; part = refl })
 part_kind content content k h = absurd h
 part_kind content in_body k h = absurd h
@@ -60,7 +60,7 @@ part_kind in_row in_row k h = absurd h
 -- ---- what is shown of what is sent
 
 -- in a cell's content it is a block
-abbrev InBlock : Part → Sent → Type 0
+abbrev pub InBlock : Part → Sent → Type 0
 InBlock content (stands t u) = Unit {0}
 InBlock content (typed k l ts m x text) = Unit {0}
 InBlock content (holds l m ss) = is_block l.kind ≡ true
@@ -68,25 +68,25 @@ InBlock in_table s = Unit {0}
 InBlock in_body s = Unit {0}
 InBlock in_row s = Unit {0}
 
-abbrev InBlocks : Part → Sents → Type 0
+abbrev pub InBlocks : Part → Sents → Type 0
 InBlocks content ss = HoldInBlocks ss
 InBlocks in_table ss = Unit {0}
 InBlocks in_body ss = Unit {0}
 InBlocks in_row ss = Unit {0}
 
-abbrev Told : Part → Sent → Type 0
+abbrev pub Told : Part → Sent → Type 0
 Told p s = IsToldApart s × InBlock p s
 
-abbrev AllTold : Part → Sents → Type 0
+abbrev pub AllTold : Part → Sents → Type 0
 AllTold p ss = AreToldApart ss × InBlocks p ss
 
-in_block : (p : Part) (t u : Tree) → InBlock p (stands t u)
+pub in_block : (p : Part) (t u : Tree) → InBlock p (stands t u)
 in_block content t u = tt
 in_block in_table t u = tt
 in_block in_body t u = tt
 in_block in_row t u = tt
 
-none_in : (p : Part) → InBlocks p none_sent
+pub none_in : (p : Part) → InBlocks p none_sent
 none_in content = tt
 none_in in_table = tt
 none_in in_body = tt
@@ -103,7 +103,7 @@ both_in in_table s ss h g = tt
 both_in in_body s ss h g = tt
 both_in in_row s ss h g = tt
 
-then_told : (p : Part) (s : Sent) (ss : Sents) → Told p s → AllTold p ss → AllTold p (more_sent s ss)
+pub then_told : (p : Part) (s : Sent) (ss : Sents) → Told p s → AllTold p ss → AllTold p (more_sent s ss)
 then_told p s ss h g = ((h.0, g.0), both_in p s ss h.1 g.1)
 
 kept_told : (p : Part) (ss : Sents) → AllKept ss → AreOwn ss → AllTold p ss
@@ -131,13 +131,13 @@ split_told p (more a fs) u bs (suc i) Q R (more_sent (holds l m rs) ss) one all 
 
 -- ---- a block
 
-in_typed : (p : Part) (k : Block) (l : Label) (ts : Trees) (m x : Label) (text : List ℕ) → InBlock p (typed k l ts m x text)
+pub in_typed : (p : Part) (k : Block) (l : Label) (ts : Trees) (m x : Label) (text : List ℕ) → InBlock p (typed k l ts m x text)
 in_typed content k l ts m x text = tt
 in_typed in_table k l ts m x text = tt
 in_typed in_body k l ts m x text = tt
 in_typed in_row k l ts m x text = tt
 
-place_told : (p : Part) (o : Option (List ℕ)) (s : Sent) → PlaceSent o s → IsOwn s → Told p s
+pub place_told : (p : Part) (o : Option (List ℕ)) (s : Sent) → PlaceSent o s → IsOwn s → Told p s
 place_told p None (stands t u) h own = (own, in_block p t u)
 place_told p None (typed k l ts m x text) h own = absurd h
 place_told p None (holds l m ss) h own = absurd h
@@ -181,6 +181,14 @@ begins_in in_row in_table k h ss g e = absurd h
 begins_in in_row in_body k h ss g e = absurd h
 begins_in in_row in_row k h ss g e = absurd h
 
+-- of this kind, with a number, and what is sent in it
+pub holder_told : (p q : Part) (l m : Label) (ss : Sents) → Holds p l.kind q → l.id ≢ 0 → InBlocks q ss → IsOwn (holds l m ss)
+    → IsOwnHolder l m ss × InBlock p (holds l m ss)
+holder_told p q l m ss part n inside own = (
+  record { own = own.0; numbered = n; part = (part_kind p q l.kind part).part; behind_text = λ z. begins_in p q l.kind part ss inside z },
+  by_table p q l.kind part l refl m ss,
+)
+
 own_holder : (p q : Part) (m : ℕ) (a : List Item) (h : Head) (o c : List Item) (us : List ItemTree) (l k : Label) (ss : Sents) → Holds p h.kind q → IsHolder h.kind
     → 1 ≤ m → InBlocks q ss → IsOwn (holds l k ss) → old_child (holds l k ss) ≡ standing m a (inner h o (forest us) c) → IsOwnHolder l k ss × InBlock p (holds l k ss)
 unfolding label_at
@@ -191,15 +199,9 @@ own_holder p q m a h o c us l k ss part is le inside own e =
     same_label l L (old_children ss) (kids m a h o (forest us)) (e ∙ standing_inner m a h o (forest us) c is.leaf is.group) in
     let kind_is : l.kind ≡ h.kind = ap (λ (j : Label). j.kind) label_is in
     let id_is : l.id ≡ number_of h.kind m = ap (λ (j : Label). j.id) label_is in
-    let f = part_kind p q h.kind part in (
-      record {
-        own = own.0;
-        numbered = subst (λ (n : ℕ). n ≢ 0) (sym id_is) (has_number (is_numbered h.kind) m f.numbered le);
-        part = ap is_block_part kind_is ∙ f.part;
-        behind_text = λ z. begins_in p q h.kind part ss inside (ap has_inside (sym kind_is) ∙ z);
-      },
-      by_table p q h.kind part l kind_is k ss,
-    )
+    let f = part_kind p q h.kind part in
+    holder_told p q l k ss (subst (λ j. Holds p j q) (sym kind_is) part) (subst (λ (n : ℕ). n ≢ 0) (sym id_is) (has_number (is_numbered h.kind) m f.numbered le))
+    inside own
 
 -- the same of what is sent for it
 abbrev AllToldFrom : (ℕ → ItemTree) → (ℕ → Option (List ℕ)) → Part → Bool → Texts → ℕ → List Item → List ItemTree → Frames → Type 0

@@ -9,3 +9,4 @@ pub mod UnmarkedCells
 pub mod OwnTexts
 pub mod ItemSpots
 pub mod CalledBlocks
+pub mod SentAsIs

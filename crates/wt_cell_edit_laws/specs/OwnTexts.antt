@@ -1,13 +1,14 @@
--- The edit that types these texts in the blocks of such a page, and sends every other node as it is in the page, without marks.
+-- The edit that types these texts in blocks of a page, and sends every other node as it is in the page, without marks: a group by its elements.
 use Rattle.std.specs.Prelude.{ℕ, zero, suc, Option, Some, None, List, [], ◌∷◌}
 use Rattle.wt_tree.specs.Tree.{Label, Tree, tree, Trees, none, more}
 use Rattle.wt_checks.specs.Kept.{children}
-use Rattle.wt_checks.specs.WithoutMarks.{mark_off, unmarked}
+use Rattle.wt_checks.specs.WithoutMarks.{mark_off}
 use Rattle.wt_typed_blocks.specs.Sent.{Sent, stands, typed, holds, Sents, none_sent, more_sent}
 use Rattle.wt_text_edit_laws.specs.BlockSpots.{BlockSpot, spots_source}
 use Rattle.wt_text_edit_laws.specs.OwnNodes.{IsTypedSpot}
 use Rattle.wt_text_edit_laws.specs.Parts.{part_tree}
 use Rattle.wt_text_edit_laws.specs.TextBlocks.{TextBlock, block_of}
+use Rattle.wt_cell_edit_laws.specs.SentAsIs.{as_sent}
 
 -- ---- texts at paths
 
@@ -62,12 +63,12 @@ text_here (y ∷ ys) = here_or y.path y (text_here ys)
 
 abbrev pub sent_block : Option (List ℕ) → TextBlock → Label → Label → Trees → Sent
 sent_block (Some text) k m l ts = typed (block_of k) l ts m m text
-sent_block None k m l ts = stands (tree l ts) (unmarked (tree l ts))
+sent_block None k m l ts = stands (tree l ts) (as_sent (tree l ts))
 
 -- A block at the end of a path, what holds blocks, or a node with no path in it; the blocks in which texts are typed have this label.
 abbrev pub sent_node : Option PathText → List PathText → Label → Label → Trees → Sents → Sent
 sent_node (Some y) ys m l ts ss = sent_block y.text y.block m l ts
-sent_node None [] m l ts ss = stands (tree l ts) (unmarked (tree l ts))
+sent_node None [] m l ts ss = stands (tree l ts) (as_sent (tree l ts))
 sent_node None (y ∷ ys) m l ts ss = holds l (mark_off l) ss
 
 abbrev mutual

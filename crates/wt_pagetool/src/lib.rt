@@ -1,6 +1,7 @@
 //! The program's commands over its devices: `run` answers the words of a command line.
 #![tactic(auto)]
 
+mod answers;
 mod selser_command;
 mod top;
 

@@ -7,14 +7,13 @@ ghost use Rattle.wt_pagetool.specs.Found.{CountsFaults, FindsAnswer, ReadsInput}
 ghost use Rattle.wt_pagetool.specs.Promises.{AsksFor, Ends, EndsAsEdit, GivesBack, ReadsAtMost, Waits, Wrote};
 ghost use Rattle.wt_commands.specs.Words.{command_of, Fetches, Reads};
 
-use crate::selser_command::selser_page;
+use crate::answers::{edit_answer, page_answer, selser_answer};
 use std::alloc::Global;
 use wt_commands::{
-    Command, Output, PageCommand, Refusal, Status, command_of, counts_of_made, edited_page,
-    expansion_of_title, output_of_title, report, wikitext_of_input,
+    Command, Output, Refusal, command_of, counts_of_made, expansion_of_title, report,
+    wikitext_of_input,
 };
 use wt_devices::{Folder, Sink, Source};
-use wt_selser_refusal::Readings;
 use wt_span::{List, PAGE_BYTES, Str};
 
 /// What the words ask for, or why it can't be had. The records of the clauses are in `specs/Found.antt`.
@@ -40,15 +39,10 @@ fn find_answer<S: Source, F: Folder>(
     ensures unasked { ¬ Fetches (command_of words.now) → folder.new ≡ folder.old }
 {
     match command_of(alloc, words)? {
-        Some(Command::Page(command, title)) => {
-            output_of_title(alloc, command, title.as_str(), folder)
-        }
+        Some(Command::Page(command, title)) => page_answer(alloc, command, &title, folder),
         Some(Command::Expand(title)) => expansion_of_title(alloc, title.as_str(), folder),
-        Some(Command::Edit(title)) => edited_page(alloc, title.as_str(), input, folder),
-        Some(Command::Selser(title)) => {
-            let mut readings = Readings::none();
-            selser_page(alloc, title.as_str(), input, folder, &mut readings)
-        }
+        Some(Command::Edit(title)) => edit_answer(alloc, &title, input, folder),
+        Some(Command::Selser(title)) => selser_answer(alloc, &title, input, folder),
         Some(Command::Gen(count)) => counts_of_made(alloc, count),
         Some(Command::Wikitext) => wikitext_of_input(alloc, input),
         None => Err(Refusal::Usage),

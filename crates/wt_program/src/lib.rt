@@ -11,6 +11,7 @@ ghost use Rattle.wt_commands.specs.Words.{command_of, Fetches, Reads};
 ghost use Rattle.wt_text_edit_laws.specs.Calls.{TakesTexts};
 ghost use Rattle.wt_cell_edit_laws.specs.AnyCalls.{TakesTextsAnywhere};
 ghost use Rattle.wt_cell_edit_laws.specs.CellCalls.{TakesTextsInCells};
+ghost use Rattle.wt_called_edit_laws.specs.CalledCalls.{TakesTextsAmongCalls};
 
 use std::alloc::Global;
 use wt_devices::{Folder, Sink, Source};
@@ -19,9 +20,9 @@ use wt_span::{List, PAGE_BYTES, Str};
 
 /// Answers the words of a command line, without the program's name, and gives the number to end with
 /// (`Status::code` of `wt_pagetool`). This is `run` of `wt_pagetool`, which says what each command does, with all
-/// that it promises and three promises more, which rest on the crates of laws (`takes_texts_anywhere`, `takes_texts`,
-/// `takes_texts_in_cells`).
-#[tactic(auto, using(wt_text_edit_laws::proofs::Blocks::BlocksCalls::takes, wt_cell_edit_laws::proofs::CellsCalls::takes_in_cells, wt_cell_edit_laws::proofs::AnyPages::any_calls))]
+/// that it promises and four promises more, which rest on the crates of laws (`takes_texts_among_calls`,
+/// `takes_texts_anywhere`, `takes_texts`, `takes_texts_in_cells`).
+#[tactic(auto, using(wt_text_edit_laws::proofs::Blocks::BlocksCalls::takes, wt_cell_edit_laws::proofs::CellsCalls::takes_in_cells, wt_cell_edit_laws::proofs::AnyPages::any_calls, wt_called_edit_laws::proofs::CallsTake::calls_take))]
 pub fn run<S: Source, F: Folder, W: Sink, E: Sink>(
     alloc: Global,
     words: &List<Str>,
@@ -30,10 +31,16 @@ pub fn run<S: Source, F: Folder, W: Sink, E: Sink>(
     out: &mut W,
     err: &mut E,
 ) -> u8
-    // Texts typed in paragraphs and headings of a page are taken, whatever they are and wherever these are, in the
-    // body, in cells and in captions, in any number of them at once: where a call sends such an edit of a page of the
-    // class of `wt_cell_edit_laws`, it is done, and with `edit` the page with these texts was written, and no line; or
-    // a device failed, or memory ran out.
+    // Texts typed in paragraphs and headings of a page with calls are taken, whatever they are and wherever these are
+    // outside the page's groups, in the body, in cells and in captions, in any number of them at once: where a call
+    // sends such an edit of a page of the class of `wt_called_edit_laws`, it is done, and with `edit` the page with
+    // these texts was written, and no line; or a device failed, or memory ran out.
+    ensures takes_texts_among_calls { TakesTextsAmongCalls (call words.now (read_from S.Source input.old input.new)
+        (fetched_from F.Folder folder.old folder.new) (written_to W.Sink out.old out.new)
+        (written_to E.Sink err.old err.new)) result }
+
+    // The same of pages of the class of `wt_cell_edit_laws`, which call nothing: of these it asks nothing of what the
+    // folder has.
     ensures takes_texts_anywhere { TakesTextsAnywhere (call words.now (read_from S.Source input.old input.new)
         (fetched_from F.Folder folder.old folder.new) (written_to W.Sink out.old out.new)
         (written_to E.Sink err.old err.new)) result }

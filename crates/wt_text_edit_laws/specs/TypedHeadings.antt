@@ -86,6 +86,16 @@ EndsWithout test (s ∷ t ∷ ss) = EndsWithout test (t ∷ ss)
 abbrev pub is_equals_sign : ℕ → Bool
 is_equals_sign s = s == byte.equals_sign
 
+-- What a heading may have between its delimiters: it is on one line, and its first and its last are no blank.
+pub record IsHeadingInside (xs : List Item) : Type 0 where
+  pub unbroken : NoBreaks xs
+  pub begins : BeginsWithout is_blank (map sign xs)
+  pub ends : EndsWithout is_blank (map sign xs)
+
+-- a heading with what this is on a line
+abbrev pub heading_round : Sides → List Item → ItemTree
+heading_round s xs = inner (plain (kind.Heading s.level)) (page_chars (opening s)) (forest (children (line_parts xs))) (closing_items s)
+
 -- One text on one line, in which no link, style, switch or address is, and of which the first and the last are no blank.
 pub record IsHeadingText (xs : List Item) : Type 0 where
   pub is_one : line_parts xs ≡ parts Text xs

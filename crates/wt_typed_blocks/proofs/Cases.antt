@@ -1,5 +1,5 @@
 -- Worked cases, by computing: the page of a paragraph, an empty line and a heading, in which texts are typed.
-use Rattle.std.proofs.Common.{◌≡◌, ℕ, ◌+◌, List, [], refl, arith}
+use Rattle.std.proofs.Common.{◌≡◌, ℕ, ◌+◌, true, List, [], ◌∷◌, refl, arith}
 use Rattle.std.specs.Prelude.{None, Some, codes}
 use Rattle.std.specs.Fmt.{digits}
 use Rattle.std.specs.Str.{chars}
@@ -13,6 +13,10 @@ use Rattle.wt_guards.specs.Guards.{nowiki, is_guarded, is_between_guard, is_star
 use Rattle.wt_guards.specs.Letters.{is_escaped, reference}
 use Rattle.wt_guards.specs.Table.{hazard, line_start_hazard}
 use Rattle.wt_typed_blocks.specs.Sent.{StandsAsIs, paragraph, heading, Sent, stands, typed, holds, Sents, none_sent, more_sent, old_children, IsSent, AreSent, all_show}
+use Rattle.wt_original.specs.Kept.{kept_with}
+use Rattle.wt_link_spelling.specs.Spelling.{inline_spelling}
+use Rattle.wt_typed_blocks.specs.Edited.{gone, written, kept, edited, Edits, no_edits, more_edits, page_nodes, AreEdited, edits_show}
+use Rattle.wt_typed_blocks.specs.EditedPage.{edited_sources}
 use Rattle.wt_typed_blocks.specs.Typed.{new_sources, TakeTexts, StandAt}
 use Rattle.wt_typed_blocks.specs.Unmarked.{IsToldApart, AreToldApart}
 
@@ -222,3 +226,38 @@ no_element h = let e = h.1.elements in absurd (cc)
 
 numbered_element : IsSent (group_sent (a_heading 3 (codes "c"))) → ⊥
 numbered_element h = let e = h.1.unnumbered.0 in absurd (cc)
+
+-- ---- the page `a [[b]]`, in which `x` is typed in place of `a ` beside the link
+
+abbrev link_label : Label
+link_label = record (a_label kind.WikiLink 2 2 7 2 [] []) { opening = codes "[["; closing = codes "]]" }
+
+abbrev linked_block : Label
+linked_block = a_label kind.Para 1 0 7 0 [] []
+
+abbrev beside_link : List ℕ → Edits
+beside_link bs = more_edits
+    (edited paragraph linked_block (sent_label kind.Para 0 [])
+    (gone (tree (a_label kind.Text 0 0 2 0 [] (codes "a ")) none)
+    ∷ written (sent_label kind.Text 0 []) bs
+    ∷ kept (tree link_label (words 4 5 (codes "b"))) (tree (sent_label kind.WikiLink 2 []) (sent_words (codes "b")))
+    ∷ []))
+    no_edits
+
+link_page : flat_of_all (page_nodes (beside_link (codes "x"))) ≡ codes "a [[b]]"
+link_page = refl
+
+link_sent : AreEdited (beside_link (codes "x"))
+link_sent = (
+  (omega arith, ((record { kind = refl; id = refl; attrs = refl; mw = refl; shown = λ e. refl; unmarked = refl }, ((record { kind = refl; id = refl; attrs = refl; mw = refl; shown = λ e. refl; unmarked = refl }, tt), tt)), tt)),
+  tt,
+)
+
+link_shows : edits_show (beside_link (codes "x"))
+    ≡ along (element (record { kind = kind.Para; attrs = []; mw = None })
+    (along (text (codes "x")) (along (element (record { kind = kind.WikiLink; attrs = []; mw = None }) (along (text (codes "b")) ended)) ended))) ended
+link_shows = refl
+
+link_new_page : edited_sources (λ t u. true) (beside_link (codes "x")) ≡ codes "x[[b]]"
+unfolding inline_spelling kept_with is_guarded is_between_guard is_start_guard is_end_guard is_blank_guard is_parted hazard line_start_hazard nowiki is_escaped reference digits chars lib.Utf8.encode
+link_new_page = refl

@@ -1,10 +1,14 @@
 pub mod SentGroups
-pub mod SentKept
-pub mod SentShows
-pub mod SentSlices
-pub mod SentSpliced
-pub mod SentAnswer
 pub mod SentFrames
+pub mod EditedKept
+pub mod EditedShows
+pub mod EditedSlices
+pub mod EditedSpliced
+pub mod EditedAnswer
+pub mod EditedSections
+pub mod EditedUnmarked
+pub mod AsEdits
 pub mod SentSections
+pub mod SentShows
 pub mod SentUnmarked
 mod Cases

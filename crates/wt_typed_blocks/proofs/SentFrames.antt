@@ -1,12 +1,13 @@
--- What is sent as it stands holds no frame where the page's node holds none.
-use Rattle.std.proofs.Common.{◌≡◌, Bool, false, refl, ap, ◌∙◌}
+-- What is sent as it stands holds no frame where the page's node holds none, and neither does a content.
+use Rattle.std.proofs.Common.{◌≡◌, ℕ, Bool, false, List, [], ◌∷◌, refl, ap, ◌∙◌}
 use Rattle.std.specs.Prelude.{◌||◌}
 use Rattle.wt_tree.specs.declared.kind.Kind.{Kind}
 use Rattle.wt_tree.specs.Tiling.{is_group}
-use Rattle.wt_tree.specs.Tree.{Tree, tree, Trees, none, more}
+use Rattle.wt_tree.specs.Tree.{Label, Tree, tree, Trees, none, more}
 use Rattle.wt_checks.specs.PutBack.{is_frame, has_frame, have_frame}
 use Rattle.wt_checks.proofs.Repeated.{or_false}
 use Rattle.wt_typed_blocks.specs.Sent.{StandsAsIs, AllStandAsIs}
+use Rattle.wt_typed_blocks.specs.Edited.{Piece, gone, written, kept, page_pieces, text_node, sent_pieces, PiecesStay}
 use Rattle.wt_typed_blocks.proofs.SentGroups.{in_group}
 
 mutual
@@ -23,3 +24,15 @@ mutual
   none_frame_sent (more t ts) (more u us) h f =
       let d = or_false (has_frame t) (have_frame ts) f in
       ap (λ (b : Bool). b || have_frame us) (no_frame_sent t u h.0 d.0) ∙ none_frame_sent ts us h.1 d.1
+
+text_frameless : (x : Label) (text : List ℕ) (us : Trees) → have_frame us ≡ false → have_frame (text_node x text us) ≡ false
+text_frameless x [] us f = f
+text_frameless x (c ∷ cs) us f = f
+
+pub pieces_frameless : (ps : List Piece) → PiecesStay ps → have_frame (page_pieces ps) ≡ false → have_frame (sent_pieces ps) ≡ false
+pieces_frameless [] h f = refl
+pieces_frameless (gone t ∷ ps) h f = pieces_frameless ps h (or_false (has_frame t) (have_frame (page_pieces ps)) f).1
+pieces_frameless (written x text ∷ ps) h f = text_frameless x text (sent_pieces ps) (pieces_frameless ps h f)
+pieces_frameless (kept t u ∷ ps) h f =
+    let d = or_false (has_frame t) (have_frame (page_pieces ps)) f in
+    ap (λ (b : Bool). b || have_frame (sent_pieces ps)) (no_frame_sent t u h.0 d.0) ∙ pieces_frameless ps h.1 d.1

@@ -1,3 +1,6 @@
 pub mod Sent
 pub mod Typed
 pub mod Unmarked
+pub mod Edited
+pub mod EditedPage
+pub mod EditedUnmarked

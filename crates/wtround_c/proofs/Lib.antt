@@ -1,4 +1,0 @@
-mod Cases
-mod IndexLaws
-mod RunLaws
-mod RunCases

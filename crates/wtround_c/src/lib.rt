@@ -1,36 +1,13 @@
-//! The commands of `wt_pagetool` as a C library: one call over buffers of the caller and a table of pages.
+//! The call that the C library exports.
 #![tactic(auto)]
 
-ghost use Rattle.std.specs.Prelude.{◌≡◌, ◌⊎◌};
-ghost use Rattle.wt_commands.specs.Statuses.{code};
-ghost use Rattle.wt_commands.specs.declared.status.Status.TheVariants.{NoMemory as no_memory};
-ghost use Rattle.wtround_c.specs.Replies.{room, Told, IsTold, IsHandedBack, IsLeftAlone};
+ghost use Rattle.wt_replies.specs.Replies.{room, IsAnswered};
 
-mod folder;
-mod index;
-mod missing;
-mod ran;
-mod reply;
-mod rooms;
-mod source;
-mod table;
-mod words;
-mod written;
-
-use crate::reply::reply_to;
-use crate::rooms::hand_back;
-use crate::table::Page;
-use crate::words::Word;
 use std::alloc::Global;
-use wt_pagetool::Status;
+use wt_replies::{Page, Word, answer};
 
-/// Answers the words of a command over the bytes of `input` and the pages of a table.
-///
-/// What `run` of `wt_pagetool` writes to its two sinks is put into `out` and `line`, and the result is its
-/// status. Where it asked for pages that the table hasn't, these are put into `missing` instead, each name
-/// with a zero byte after it, and the result is `MISSING`. The three lengths are those of the three
-/// texts; where one is longer than its room, nothing is put anywhere, and the result is `SHORT`. Want of
-/// memory may be the answer to any call; where it comes before or after `run`, the lengths are 0.
+/// Answers the words of a command over the bytes of `input` and the pages of a table: `answer` of
+/// `wt_replies`, which says what each place is for.
 #[unsafe(no_mangle)]
 pub extern "C" fn wtround_proved_answer(
     alloc: Global,
@@ -44,25 +21,19 @@ pub extern "C" fn wtround_proved_answer(
     missing: &mut [u8],
     missing_length: &mut usize,
 ) -> u8
-    ensures { ((told : Told) × IsTold words.now input.now pages.now told
-        × IsHandedBack told (room out.old out.new out_length.new) (room line.old line.new line_length.new)
-        (room missing.old missing.new missing_length.new) result) ⊎ ((result ≡ code no_memory)
-        × IsLeftAlone (room out.old out.new out_length.new) × IsLeftAlone (room line.old line.new line_length.new)
-        × IsLeftAlone (room missing.old missing.new missing_length.new)) }
+    ensures { IsAnswered words.now input.now pages.now (room out.old out.new out_length.new)
+        (room line.old line.new line_length.new) (room missing.old missing.new missing_length.new) result }
 {
-    *out_length = 0;
-    *line_length = 0;
-    *missing_length = 0;
-    match reply_to(alloc, words, input, pages) {
-        Ok(reply) => hand_back(
-            &reply,
-            out,
-            out_length,
-            line,
-            line_length,
-            missing,
-            missing_length,
-        ),
-        Err(_) => Status::NoMemory.code(),
-    }
+    answer(
+        alloc,
+        words,
+        input,
+        pages,
+        out,
+        out_length,
+        line,
+        line_length,
+        missing,
+        missing_length,
+    )
 }

@@ -17,7 +17,7 @@ use Rattle.wt_blocks.specs.Headings.{core, level_of, open_len, inside_len, level
 use Rattle.wt_lines.specs.Kinds.{is_idle, kind_of_signs}
 use Rattle.wt_tables.specs.Extents.{behind, is_open}
 use Rattle.wt_tables.specs.Parts.{units, unit_kind}
-use Rattle.wt_inline.specs.declared.loose.Loose.TheVariants.{Text, Sep}
+use Rattle.wt_inline.specs.declared.loose.Loose.TheVariants.{Sep}
 use Rattle.wt_inline.specs.ItemTree.{plain, ItemTree, inner, forest}
 use Rattle.wt_inline.specs.Parts.{Part, node, parts, children}
 use Rattle.wt_context.specs.Line.{line_trees}
@@ -35,7 +35,7 @@ use Rattle.wt_text_edit_laws.proofs.Prose.ProseLines.{content_ended}
 use Rattle.wt_text_edit_laws.specs.ParagraphBetween.{AreClosed, before_marks, blocks_in, body_with}
 use Rattle.wt_text_edit_laws.proofs.Paragraphs.Marks.{with_lead, IsLed}
 use Rattle.wt_text_edit_laws.proofs.Paragraphs.Standing.{parts_in, row_beside, parts_above, round_node, body_is}
-use Rattle.wt_text_edit_laws.specs.TypedHeadings.{Sides, AreBlanks, AreIdle, AreSides, equals as run_of, opening as opening_of, closing_items, between, heading_line, heading_with, NoBreaks, IsHeadingText, IsOfLevel, StandsApart, EndsLine}
+use Rattle.wt_text_edit_laws.specs.TypedHeadings.{Sides, AreBlanks, AreIdle, AreSides, equals as run_of, opening as opening_of, closing_items, between, heading_line, heading_with, heading_round, NoBreaks, IsHeadingInside, IsHeadingText, IsOfLevel, StandsApart, EndsLine}
 use Rattle.wt_text_edit_laws.proofs.Headings.HeadingSigns.{line_signs, body_signs, core_is, level_is, open_is, inside_is, signs_between, kind_is}
 
 -- ---- its signs
@@ -93,7 +93,7 @@ apart_so n bs ds cs own a p =
 opening_length : (s : Sides) → s.level + length s.lead ≡ length (page_chars (opening_of s))
 opening_length s = omega (arith, length-map (opening_of s) (char None), length-replicate {A = ℕ} s.level 61, length-append (run_of s.level) s.lead)
 
-opening_len : (n : ℕ) (bs ds cs : List ℕ) (own : List Item) → AreSides (sides n bs ds cs) → IsHeadingText own → IsOfLevel (sides n bs ds cs) own
+opening_len : (n : ℕ) (bs ds cs : List ℕ) (own : List Item) → AreSides (sides n bs ds cs) → IsHeadingInside own → IsOfLevel (sides n bs ds cs) own
     → open_len (core (map sign (heading_line (sides n bs ds cs) own))) ≡ length (page_chars (opening_of (sides n bs ds cs)))
 opening_len n bs ds cs own a h p =
     let s : Sides = sides n bs ds cs in
@@ -101,7 +101,7 @@ opening_len n bs ds cs own a h p =
     ∙ open_is (suc n) bs (map sign own) ds (level_signs n bs ds cs own a p) a.lead h.begins
     ∙ opening_length s
 
-inside_length : (n : ℕ) (bs ds cs : List ℕ) (own : List Item) → AreSides (sides n bs ds cs) → IsHeadingText own → IsOfLevel (sides n bs ds cs) own
+inside_length : (n : ℕ) (bs ds cs : List ℕ) (own : List Item) → AreSides (sides n bs ds cs) → IsHeadingInside own → IsOfLevel (sides n bs ds cs) own
     → inside_len (core (map sign (heading_line (sides n bs ds cs) own))) ≡ length own
 inside_length n bs ds cs own a h p =
     let s : Sides = sides n bs ds cs in
@@ -109,7 +109,7 @@ inside_length n bs ds cs own a h p =
     ∙ inside_is (suc n) bs (map sign own) ds (level_signs n bs ds cs own a p) a.lead a.trail h.begins h.ends
     ∙ length-map own sign
 
-opening_so : (n : ℕ) (bs ds cs : List ℕ) (own : List Item) → AreSides (sides n bs ds cs) → IsHeadingText own → IsOfLevel (sides n bs ds cs) own
+opening_so : (n : ℕ) (bs ds cs : List ℕ) (own : List Item) → AreSides (sides n bs ds cs) → IsHeadingInside own → IsOfLevel (sides n bs ds cs) own
     → opening (heading_line (sides n bs ds cs) own) ≡ page_chars (opening_of (sides n bs ds cs))
 unfolding opening
 opening_so n bs ds cs own a h p =
@@ -117,7 +117,7 @@ opening_so n bs ds cs own a h p =
     ap (λ (k : ℕ). take k (heading_line s own)) (opening_len n bs ds cs own a h p)
     ∙ take-append_seam (page_chars (opening_of s)) (own ++ closing_items s)
 
-inside_so : (n : ℕ) (bs ds cs : List ℕ) (own : List Item) → AreSides (sides n bs ds cs) → IsHeadingText own → IsOfLevel (sides n bs ds cs) own
+inside_so : (n : ℕ) (bs ds cs : List ℕ) (own : List Item) → AreSides (sides n bs ds cs) → IsHeadingInside own → IsOfLevel (sides n bs ds cs) own
     → inside (heading_line (sides n bs ds cs) own) ≡ own
 unfolding inside
 inside_so n bs ds cs own a h p =
@@ -128,7 +128,7 @@ inside_so n bs ds cs own a h p =
     ∙ ap (take (length own)) (drop-append_seam (page_chars (opening_of s)) (own ++ closing_items s))
     ∙ take-append_seam own (closing_items s)
 
-closing_so : (n : ℕ) (bs ds cs : List ℕ) (own : List Item) → AreSides (sides n bs ds cs) → IsHeadingText own → IsOfLevel (sides n bs ds cs) own
+closing_so : (n : ℕ) (bs ds cs : List ℕ) (own : List Item) → AreSides (sides n bs ds cs) → IsHeadingInside own → IsOfLevel (sides n bs ds cs) own
     → closing (heading_line (sides n bs ds cs) own) ≡ closing_items (sides n bs ds cs)
 unfolding closing
 closing_so n bs ds cs own a h p =
@@ -142,13 +142,9 @@ closing_so n bs ds cs own a h p =
     ∙ ap (drop (length (o ++ own))) (sym (append_assoc o own (closing_items s)))
     ∙ drop-append_seam (o ++ own) (closing_items s)
 
-text_so : (own : List Item) → IsHeadingText own → line_trees own ≡ children (parts Text own)
-unfolding line_trees
-text_so own h = ap children h.is_one
-
-tree_so : (n : ℕ) (bs ds cs : List ℕ) (own : List Item) → AreSides (sides n bs ds cs) → IsHeadingText own → IsOfLevel (sides n bs ds cs) own
-    → heading (heading_line (sides n bs ds cs) own) ≡ heading_with (sides n bs ds cs) own
-unfolding heading
+tree_so : (n : ℕ) (bs ds cs : List ℕ) (own : List Item) → AreSides (sides n bs ds cs) → IsHeadingInside own → IsOfLevel (sides n bs ds cs) own
+    → heading (heading_line (sides n bs ds cs) own) ≡ heading_round (sides n bs ds cs) own
+unfolding heading line_trees
 tree_so n bs ds cs own a h p =
     let s : Sides = sides n bs ds cs in
     let l : List Item = heading_line s own in
@@ -156,7 +152,6 @@ tree_so n bs ds cs own a h p =
     ∙ ap (λ (xs : List Item). inner (plain (kind.Heading (suc n))) xs (forest (line_trees (inside l))) (closing l)) (opening_so n bs ds cs own a h p)
     ∙ ap (λ (xs : List Item). inner (plain (kind.Heading (suc n))) (page_chars (opening_of s)) (forest (line_trees xs)) (closing l)) (inside_so n bs ds cs own a h p)
     ∙ ap (λ (xs : List Item). inner (plain (kind.Heading (suc n))) (page_chars (opening_of s)) (forest (line_trees own)) xs) (closing_so n bs ds cs own a h p)
-    ∙ ap (λ (ts : List ItemTree). inner (plain (kind.Heading (suc n))) (page_chars (opening_of s)) (forest ts) (closing_items s)) (text_so own h)
 
 -- ---- its line
 
@@ -229,7 +224,7 @@ row_by tables xs l end k e f c d =
     ∙ ap (λ (ys : List Item). record { kind = line.Heading; lead = []; items = ys; ending = ending (char None 61 ∷ xs) } ∷ []) c
     ∙ ap (λ (ys : List Item). heading_row l ys ∷ []) d
 
-kind_so : (tables n : ℕ) (bs ds cs : List ℕ) (own l : List Item) → AreSides (sides n bs ds cs) → IsHeadingText own
+kind_so : (tables n : ℕ) (bs ds cs : List ℕ) (own l : List Item) → AreSides (sides n bs ds cs) → IsHeadingInside own
     → content l ≡ heading_line (sides n bs ds cs) own → kind_at tables l ≡ line.Heading
 kind_so tables n bs ds cs own l a h e =
     let s : Sides = sides n bs ds cs in
@@ -240,7 +235,7 @@ abbrev others : ℕ → List ℕ → List ℕ → List ℕ → List Item → Lis
 others n bs ds cs own = page_chars (run_of n ++ bs) ++ (own ++ closing_items (sides n bs ds cs))
 
 -- where so many tables are open
-ended_from : (tables n : ℕ) (bs ds cs : List ℕ) (own zs : List Item) → AreSides (sides n bs ds cs) → IsHeadingText own → IsOfLevel (sides n bs ds cs) own
+ended_from : (tables n : ℕ) (bs ds cs : List ℕ) (own zs : List Item) → AreSides (sides n bs ds cs) → IsHeadingInside own → IsOfLevel (sides n bs ds cs) own
     → rows_from tables (full_lines (heading_line (sides n bs ds cs) own ++ char None 10 ∷ zs))
     ≡ heading_row (heading_line (sides n bs ds cs) own) (char None 10 ∷ []) ∷ rows_from tables (full_lines zs)
 ended_from tables n bs ds cs own zs a h p =
@@ -256,7 +251,7 @@ ended_from tables n bs ds cs own zs a h p =
     ∙ ap (λ (rs : List Row). rs ++ rows_from tables (full_lines zs))
     (row_by tables (rest ++ char None 10 ∷ []) l (char None 10 ∷ []) line.Heading k refl c (ending_behind l (char None 10) []))
 
-last_from : (tables n : ℕ) (bs ds cs : List ℕ) (own : List Item) → AreSides (sides n bs ds cs) → IsHeadingText own → IsOfLevel (sides n bs ds cs) own
+last_from : (tables n : ℕ) (bs ds cs : List ℕ) (own : List Item) → AreSides (sides n bs ds cs) → IsHeadingInside own → IsOfLevel (sides n bs ds cs) own
     → rows_from tables (full_lines (heading_line (sides n bs ds cs) own))
     ≡ heading_row (heading_line (sides n bs ds cs) own) [] ∷ replicate tables unwritten_end
 last_from tables n bs ds cs own a h p =
@@ -270,12 +265,12 @@ last_from tables n bs ds cs own a h p =
     ∙ ap (λ (j : LineKind). line_rows j l ++ rows_from (behind tables j) []) k
     ∙ ap (λ (rs : List Row). rs ++ replicate tables unwritten_end) (row_by tables rest l [] line.Heading k refl c (none_ends l u))
 
-ended_rows : (n : ℕ) (bs ds cs : List ℕ) (own zs : List Item) → AreSides (sides n bs ds cs) → IsHeadingText own → IsOfLevel (sides n bs ds cs) own
+ended_rows : (n : ℕ) (bs ds cs : List ℕ) (own zs : List Item) → AreSides (sides n bs ds cs) → IsHeadingInside own → IsOfLevel (sides n bs ds cs) own
     → rows (heading_line (sides n bs ds cs) own ++ char None 10 ∷ zs) ≡ heading_row (heading_line (sides n bs ds cs) own) (char None 10 ∷ []) ∷ rows zs
 unfolding rows
 ended_rows n bs ds cs own zs a h p = ended_from 0 n bs ds cs own zs a h p
 
-last_rows : (n : ℕ) (bs ds cs : List ℕ) (own : List Item) → AreSides (sides n bs ds cs) → IsHeadingText own → IsOfLevel (sides n bs ds cs) own
+last_rows : (n : ℕ) (bs ds cs : List ℕ) (own : List Item) → AreSides (sides n bs ds cs) → IsHeadingInside own → IsOfLevel (sides n bs ds cs) own
     → rows (heading_line (sides n bs ds cs) own) ≡ heading_row (heading_line (sides n bs ds cs) own) [] ∷ []
 unfolding rows
 last_rows n bs ds cs own a h p = last_from 0 n bs ds cs own a h p
@@ -333,8 +328,8 @@ nothing_parts : body_parts [] ≡ []
 unfolding blocks
 nothing_parts = refl
 
-heading_parts : (n : ℕ) (bs ds cs : List ℕ) (own tail : List Item) → AreSides (sides n bs ds cs) → IsHeadingText own → IsOfLevel (sides n bs ds cs) own
-    → EndsLine tail → parts_in (heading_line (sides n bs ds cs) own ++ tail) ≡ node (heading_with (sides n bs ds cs) own) ∷ parts_in tail
+heading_parts : (n : ℕ) (bs ds cs : List ℕ) (own tail : List Item) → AreSides (sides n bs ds cs) → IsHeadingInside own → IsOfLevel (sides n bs ds cs) own
+    → EndsLine tail → parts_in (heading_line (sides n bs ds cs) own ++ tail) ≡ node (heading_round (sides n bs ds cs) own) ∷ parts_in tail
 heading_parts n bs ds cs own [] a h p e =
     let s : Sides = sides n bs ds cs in
     let l : List Item = heading_line s own in
@@ -342,7 +337,7 @@ heading_parts n bs ds cs own [] a h p e =
     ∙ ap body_parts (last_rows n bs ds cs own a h p)
     ∙ row_parts l [] []
     ∙ ap (λ (t : ItemTree). node t ∷ body_parts []) (tree_so n bs ds cs own a h p)
-    ∙ ap (λ (ps : List Part). node (heading_with s own) ∷ ps) (nothing_parts ∙ sym no_parts)
+    ∙ ap (λ (ps : List Part). node (heading_round s own) ∷ ps) (nothing_parts ∙ sym no_parts)
 heading_parts n bs ds cs own (y ∷ ys) a h p e =
     let s : Sides = sides n bs ds cs in
     let l : List Item = heading_line s own in
@@ -350,13 +345,13 @@ heading_parts n bs ds cs own (y ∷ ys) a h p e =
     ∙ ap body_parts (ended_rows n bs ds cs own ys a h p)
     ∙ row_parts l (char None 10 ∷ []) (rows ys)
     ∙ ap (λ (t : ItemTree). node t ∷ (parts Sep (char None 10 ∷ []) ++ parts_in ys)) (tree_so n bs ds cs own a h p)
-    ∙ ap (λ (ps : List Part). node (heading_with s own) ∷ ps) (sym (breaks_first (char None 10 ∷ []) ys (refl, tt)))
-    ∙ ap (λ (z : Item). node (heading_with s own) ∷ parts_in (z ∷ ys)) (sym e)
+    ∙ ap (λ (ps : List Part). node (heading_round s own) ∷ ps) (sym (breaks_first (char None 10 ∷ []) ys (refl, tt)))
+    ∙ ap (λ (z : Item). node (heading_round s own) ∷ parts_in (z ∷ ys)) (sym e)
 
 abbrev IsFirstRow : List Item → List Item → Type 0
 IsFirstRow l tail = (end : List Item) × (rs : List Row) × (rows (l ++ tail) ≡ heading_row l end ∷ rs)
 
-row_first : (n : ℕ) (bs ds cs : List ℕ) (own tail : List Item) → AreSides (sides n bs ds cs) → IsHeadingText own → IsOfLevel (sides n bs ds cs) own → EndsLine tail
+row_first : (n : ℕ) (bs ds cs : List ℕ) (own tail : List Item) → AreSides (sides n bs ds cs) → IsHeadingInside own → IsOfLevel (sides n bs ds cs) own → EndsLine tail
     → IsFirstRow (heading_line (sides n bs ds cs) own) tail
 row_first n bs ds cs own [] a h p e =
     ([], [], ap rows (append-nil (heading_line (sides n bs ds cs) own)) ∙ last_rows n bs ds cs own a h p)
@@ -366,18 +361,18 @@ row_first n bs ds cs own (y ∷ ys) a h p e =
 abbrev level_sides : ℕ → List ℕ → List ℕ → List ℕ → Sides
 level_sides n bs ds cs = record { level = n; lead = bs; trail = ds; rest = cs }
 
-first_by : (n : ℕ) (bs ds cs : List ℕ) (own tail : List Item) → AreSides (level_sides n bs ds cs) → IsHeadingText own → IsOfLevel (level_sides n bs ds cs) own
+first_by : (n : ℕ) (bs ds cs : List ℕ) (own tail : List Item) → AreSides (level_sides n bs ds cs) → IsHeadingInside own → IsOfLevel (level_sides n bs ds cs) own
     → EndsLine tail → IsFirstRow (heading_line (level_sides n bs ds cs) own) tail
 first_by zero bs ds cs own tail a h p e = absurd (omega (arith, a.some))
 first_by (suc n) bs ds cs own tail a h p e = row_first n bs ds cs own tail a h p e
 
-pub first_row : (s : Sides) (own tail : List Item) → AreSides s → IsHeadingText own → IsOfLevel s own → EndsLine tail
+pub round_first : (s : Sides) (own tail : List Item) → AreSides s → IsHeadingInside own → IsOfLevel s own → EndsLine tail
     → (end : List Item) × (rs : List Row) × (rows (heading_line s own ++ tail) ≡ heading_row (heading_line s own) end ∷ rs)
-first_row s own tail a h p e = first_by s.level s.lead s.trail s.rest own tail
+round_first s own tail a h p e = first_by s.level s.lead s.trail s.rest own tail
     (record { some = a.some; most = a.most; lead = a.lead; trail = a.trail; rest = a.rest }) h p e
 
-parts_by : (n : ℕ) (bs ds cs : List ℕ) (own tail : List Item) → AreSides (level_sides n bs ds cs) → IsHeadingText own → IsOfLevel (level_sides n bs ds cs) own
-    → EndsLine tail → parts_in (heading_line (level_sides n bs ds cs) own ++ tail) ≡ node (heading_with (level_sides n bs ds cs) own) ∷ parts_in tail
+parts_by : (n : ℕ) (bs ds cs : List ℕ) (own tail : List Item) → AreSides (level_sides n bs ds cs) → IsHeadingInside own → IsOfLevel (level_sides n bs ds cs) own
+    → EndsLine tail → parts_in (heading_line (level_sides n bs ds cs) own ++ tail) ≡ node (heading_round (level_sides n bs ds cs) own) ∷ parts_in tail
 parts_by zero bs ds cs own tail a h p e = absurd (omega (arith, a.some))
 parts_by (suc n) bs ds cs own tail a h p e = heading_parts n bs ds cs own tail a h p e
 
@@ -391,19 +386,19 @@ apart_level s own a p = apart_by s.level s.lead s.trail s.rest own
     (record { some = a.some; most = a.most; lead = a.lead; trail = a.trail; rest = a.rest }) (record { first = p.first; last = p.last })
 
 -- with what stands before it
-pub heading_between : (xs : List Item) (s : Sides) (own tail : List Item) → AreClosed (before_marks xs) → AreSides s → IsHeadingText own → IsOfLevel s own → EndsLine tail
-    → parts_in (xs ++ (heading_line s own ++ tail)) ≡ parts_in xs ++ node (heading_with s own) ∷ parts_in tail
-heading_between xs s own tail c a h p e =
-    let f = first_row s own tail a h p e in
+pub round_between : (xs : List Item) (s : Sides) (own tail : List Item) → AreClosed (before_marks xs) → AreSides s → IsHeadingInside own → IsOfLevel s own → EndsLine tail
+    → parts_in (xs ++ (heading_line s own ++ tail)) ≡ parts_in xs ++ node (heading_round s own) ∷ parts_in tail
+round_between xs s own tail c a h p e =
+    let f = round_first s own tail a h p e in
     row_behind xs (heading_line s own ++ tail) (heading_row (heading_line s own) f.0) f.1 c f.2 refl
     ∙ ap (λ (ps : List Part). parts_in xs ++ ps) (parts_by s.level s.lead s.trail s.rest own tail
     (record { some = a.some; most = a.most; lead = a.lead; trail = a.trail; rest = a.rest }) h p e)
 
-pub heading_stands : (xs : List Item) (s : Sides) (own tail : List Item) → AreClosed (before_marks xs) → AreSides s → IsHeadingText own → IsOfLevel s own → EndsLine tail
-    → meaning (xs ++ (heading_line s own ++ tail)) ≡ body_with (blocks_in xs ++ heading_with s own ∷ blocks_in tail)
-heading_stands xs s own tail c a h p e =
-    let t : ItemTree = heading_with s own in
-    body_is (xs ++ (heading_line s own ++ tail)) (parts_in xs ++ node t ∷ parts_in tail) (heading_between xs s own tail c a h p e)
+pub round_stands : (xs : List Item) (s : Sides) (own tail : List Item) → AreClosed (before_marks xs) → AreSides s → IsHeadingInside own → IsOfLevel s own → EndsLine tail
+    → meaning (xs ++ (heading_line s own ++ tail)) ≡ body_with (blocks_in xs ++ heading_round s own ∷ blocks_in tail)
+round_stands xs s own tail c a h p e =
+    let t : ItemTree = heading_round s own in
+    body_is (xs ++ (heading_line s own ++ tail)) (parts_in xs ++ node t ∷ parts_in tail) (round_between xs s own tail c a h p e)
     ∙ ap body_with (round_node t (parts_in xs) (parts_in tail))
 
 -- ---- where tables are open
@@ -414,31 +409,65 @@ by_level s = level_sides s.level s.lead s.trail s.rest
 sides_so : (s : Sides) → AreSides s → AreSides (by_level s)
 sides_so s a = record { some = a.some; most = a.most; lead = a.lead; trail = a.trail; rest = a.rest }
 
-then_by : (tables n : ℕ) (bs ds cs : List ℕ) (own zs : List Item) → AreSides (level_sides n bs ds cs) → IsHeadingText own → IsOfLevel (level_sides n bs ds cs) own
+then_by : (tables n : ℕ) (bs ds cs : List ℕ) (own zs : List Item) → AreSides (level_sides n bs ds cs) → IsHeadingInside own → IsOfLevel (level_sides n bs ds cs) own
     → rows_from tables (full_lines (heading_line (level_sides n bs ds cs) own ++ char None 10 ∷ zs))
     ≡ heading_row (heading_line (level_sides n bs ds cs) own) (char None 10 ∷ []) ∷ rows_from tables (full_lines zs)
 then_by tables zero bs ds cs own zs a h p = absurd (omega (arith, a.some))
 then_by tables (suc n) bs ds cs own zs a h p = ended_from tables n bs ds cs own zs a h p
 
-pub rows_then : (tables : ℕ) (s : Sides) (own zs : List Item) → AreSides s → IsHeadingText own → IsOfLevel s own
+pub round_then : (tables : ℕ) (s : Sides) (own zs : List Item) → AreSides s → IsHeadingInside own → IsOfLevel s own
     → rows_from tables (full_lines (heading_line s own ++ char None 10 ∷ zs))
     ≡ heading_row (heading_line s own) (char None 10 ∷ []) ∷ rows_from tables (full_lines zs)
-rows_then tables s own zs a h p = then_by tables s.level s.lead s.trail s.rest own zs (sides_so s a) h p
+round_then tables s own zs a h p = then_by tables s.level s.lead s.trail s.rest own zs (sides_so s a) h p
 
-last_by : (tables n : ℕ) (bs ds cs : List ℕ) (own : List Item) → AreSides (level_sides n bs ds cs) → IsHeadingText own → IsOfLevel (level_sides n bs ds cs) own
+last_by : (tables n : ℕ) (bs ds cs : List ℕ) (own : List Item) → AreSides (level_sides n bs ds cs) → IsHeadingInside own → IsOfLevel (level_sides n bs ds cs) own
     → rows_from tables (full_lines (heading_line (level_sides n bs ds cs) own))
     ≡ heading_row (heading_line (level_sides n bs ds cs) own) [] ∷ replicate tables unwritten_end
 last_by tables zero bs ds cs own a h p = absurd (omega (arith, a.some))
 last_by tables (suc n) bs ds cs own a h p = last_from tables n bs ds cs own a h p
 
-pub rows_last : (tables : ℕ) (s : Sides) (own : List Item) → AreSides s → IsHeadingText own → IsOfLevel s own
+pub round_last : (tables : ℕ) (s : Sides) (own : List Item) → AreSides s → IsHeadingInside own → IsOfLevel s own
     → rows_from tables (full_lines (heading_line s own)) ≡ heading_row (heading_line s own) [] ∷ replicate tables unwritten_end
-rows_last tables s own a h p = last_by tables s.level s.lead s.trail s.rest own (sides_so s a) h p
+round_last tables s own a h p = last_by tables s.level s.lead s.trail s.rest own (sides_so s a) h p
 
-tree_by : (n : ℕ) (bs ds cs : List ℕ) (own : List Item) → AreSides (level_sides n bs ds cs) → IsHeadingText own → IsOfLevel (level_sides n bs ds cs) own
-    → heading (heading_line (level_sides n bs ds cs) own) ≡ heading_with (level_sides n bs ds cs) own
+tree_by : (n : ℕ) (bs ds cs : List ℕ) (own : List Item) → AreSides (level_sides n bs ds cs) → IsHeadingInside own → IsOfLevel (level_sides n bs ds cs) own
+    → heading (heading_line (level_sides n bs ds cs) own) ≡ heading_round (level_sides n bs ds cs) own
 tree_by zero bs ds cs own a h p = absurd (omega (arith, a.some))
 tree_by (suc n) bs ds cs own a h p = tree_so n bs ds cs own a h p
 
+pub round_is : (s : Sides) (own : List Item) → AreSides s → IsHeadingInside own → IsOfLevel s own → heading (heading_line s own) ≡ heading_round s own
+round_is s own a h p = tree_by s.level s.lead s.trail s.rest own (sides_so s a) h p
+
+-- ---- of one text
+
+text_inside : (own : List Item) → IsHeadingText own → IsHeadingInside own
+text_inside own h = record { unbroken = h.unbroken; begins = h.begins; ends = h.ends }
+
+with_text : (s : Sides) (own : List Item) → IsHeadingText own → heading_round s own ≡ heading_with s own
+with_text s own h = ap (λ ps. inner (plain (kind.Heading s.level)) (page_chars (opening_of s)) (forest (children ps)) (closing_items s)) h.is_one
+
+pub first_row : (s : Sides) (own tail : List Item) → AreSides s → IsHeadingText own → IsOfLevel s own → EndsLine tail
+    → (end : List Item) × (rs : List Row) × (rows (heading_line s own ++ tail) ≡ heading_row (heading_line s own) end ∷ rs)
+first_row s own tail a h p e = round_first s own tail a (text_inside own h) p e
+
+pub heading_between : (xs : List Item) (s : Sides) (own tail : List Item) → AreClosed (before_marks xs) → AreSides s → IsHeadingText own → IsOfLevel s own → EndsLine tail
+    → parts_in (xs ++ (heading_line s own ++ tail)) ≡ parts_in xs ++ node (heading_with s own) ∷ parts_in tail
+heading_between xs s own tail c a h p e =
+    round_between xs s own tail c a (text_inside own h) p e ∙ ap (λ (t : ItemTree). parts_in xs ++ node t ∷ parts_in tail) (with_text s own h)
+
+pub heading_stands : (xs : List Item) (s : Sides) (own tail : List Item) → AreClosed (before_marks xs) → AreSides s → IsHeadingText own → IsOfLevel s own → EndsLine tail
+    → meaning (xs ++ (heading_line s own ++ tail)) ≡ body_with (blocks_in xs ++ heading_with s own ∷ blocks_in tail)
+heading_stands xs s own tail c a h p e =
+    round_stands xs s own tail c a (text_inside own h) p e ∙ ap (λ (t : ItemTree). body_with (blocks_in xs ++ t ∷ blocks_in tail)) (with_text s own h)
+
+pub rows_then : (tables : ℕ) (s : Sides) (own zs : List Item) → AreSides s → IsHeadingText own → IsOfLevel s own
+    → rows_from tables (full_lines (heading_line s own ++ char None 10 ∷ zs))
+    ≡ heading_row (heading_line s own) (char None 10 ∷ []) ∷ rows_from tables (full_lines zs)
+rows_then tables s own zs a h p = round_then tables s own zs a (text_inside own h) p
+
+pub rows_last : (tables : ℕ) (s : Sides) (own : List Item) → AreSides s → IsHeadingText own → IsOfLevel s own
+    → rows_from tables (full_lines (heading_line s own)) ≡ heading_row (heading_line s own) [] ∷ replicate tables unwritten_end
+rows_last tables s own a h p = round_last tables s own a (text_inside own h) p
+
 pub tree_is : (s : Sides) (own : List Item) → AreSides s → IsHeadingText own → IsOfLevel s own → heading (heading_line s own) ≡ heading_with s own
-tree_is s own a h p = tree_by s.level s.lead s.trail s.rest own (sides_so s a) h p
+tree_is s own a h p = round_is s own a (text_inside own h) p ∙ with_text s own h

@@ -260,7 +260,7 @@ spelled_line s before (c ∷ cs) h =
 
 -- ---- its end
 
-end_by : (s : Setting) (before : List ContentSign) (c : ℕ) → s.within ≡ false → s.place ≡ place.Heading → is_guarded s (letter c ∷ before) [] ≡ false
+pub end_by : (s : Setting) (before : List ContentSign) (c : ℕ) → s.within ≡ false → s.place ≡ place.Heading → is_guarded s (letter c ∷ before) [] ≡ false
     → is_blank c ≡ false
 unfolding is_guarded is_between_guard is_end_guard
 end_by s before c w p e =
@@ -279,7 +279,7 @@ equals_escaped : (within : Bool) (place : Place) (before : List ContentSign) →
 unfolding is_escaped
 equals_escaped within place before = refl
 
-no_equals : (within : Bool) (place : Place) (before : List ContentSign) (c : ℕ) (v : Bool) → (c == 61) ≡ v → is_escaped within place before c [] ≡ false → v ≡ false
+pub no_equals : (within : Bool) (place : Place) (before : List ContentSign) (c : ℕ) (v : Bool) → (c == 61) ≡ v → is_escaped within place before c [] ≡ false → v ≡ false
 no_equals within place before c false i e = refl
 no_equals within place before c true i e =
     let is : c ≡ 61 = grind (arith, nat_tests, i) in
@@ -415,28 +415,28 @@ typed_heading_text s text w p u b = (typed_is s text w p u b).text
 unequal : (b : ℕ) → is_blank b ≡ true → (b == 61) ≡ false
 unequal b e = grind (arith, nat_tests, e)
 
-begins_other : (bs ss : List ℕ) → AreBlanks bs → BeginsWithout is_equals_sign ss → BeginsWithout is_equals_sign (bs ++ ss)
+pub begins_other : (bs ss : List ℕ) → AreBlanks bs → BeginsWithout is_equals_sign ss → BeginsWithout is_equals_sign (bs ++ ss)
 begins_other [] ss h g = g
 begins_other (b ∷ bs) ss h g = unequal b h.0
 
-begins_still : (ss ts : List ℕ) → BeginsWithout is_equals_sign ss → BeginsWithout is_equals_sign (ss ++ ts)
+pub begins_still : (ss ts : List ℕ) → BeginsWithout is_equals_sign ss → BeginsWithout is_equals_sign (ss ++ ts)
 begins_still [] ts g = absurd g
 begins_still (s ∷ ss) ts g = g
 
-ends_still : (ss : List ℕ) (t : ℕ) (ts : List ℕ) → EndsWithout is_equals_sign (t ∷ ts) → EndsWithout is_equals_sign (ss ++ t ∷ ts)
+pub ends_still : (ss : List ℕ) (t : ℕ) (ts : List ℕ) → EndsWithout is_equals_sign (t ∷ ts) → EndsWithout is_equals_sign (ss ++ t ∷ ts)
 ends_still [] t ts g = g
 ends_still (s ∷ []) t ts g = g
 ends_still (s ∷ r ∷ ss) t ts g = ends_still (r ∷ ss) t ts g
 
-ends_blank : (b : ℕ) (bs : List ℕ) → AreBlanks (b ∷ bs) → EndsWithout is_equals_sign (b ∷ bs)
+pub ends_blank : (b : ℕ) (bs : List ℕ) → AreBlanks (b ∷ bs) → EndsWithout is_equals_sign (b ∷ bs)
 ends_blank b [] h = unequal b h.0
 ends_blank b (c ∷ bs) h = ends_blank c bs h.1
 
-ends_other : (ss bs : List ℕ) → AreBlanks bs → EndsWithout is_equals_sign ss → EndsWithout is_equals_sign (ss ++ bs)
+pub ends_other : (ss bs : List ℕ) → AreBlanks bs → EndsWithout is_equals_sign ss → EndsWithout is_equals_sign (ss ++ bs)
 ends_other ss [] h g = subst (EndsWithout is_equals_sign) (sym (append-nil ss)) g
 ends_other ss (b ∷ bs) h g = ends_still ss b bs (ends_blank b bs h)
 
-ends_behind : (bs ss : List ℕ) → EndsWithout is_equals_sign ss → EndsWithout is_equals_sign (bs ++ ss)
+pub ends_behind : (bs ss : List ℕ) → EndsWithout is_equals_sign ss → EndsWithout is_equals_sign (bs ++ ss)
 ends_behind bs [] g = absurd g
 ends_behind bs (s ∷ ss) g = ends_still bs s ss g
 

@@ -127,7 +127,7 @@ later_ended : (before : List Item) (l : List Item) (ls : List (List Item)) → l
 later_ended before l [] e = ap (λ xs. parts Text before ++ (line_parts xs ++ [])) (content_ended l e)
 later_ended before l (m ∷ ls) e = ap (λ qs. parts Text before ++ (line_parts (content l) ++ qs)) (later_ended (ending l) m ls e)
 
-para_ended : (l : List Item) (ls : List (List Item)) → last_break (ending l) ls ≡ [] → para_parts (map text_row (ended l ls)) ≡ para_parts (map text_row (l ∷ ls))
+pub para_ended : (l : List Item) (ls : List (List Item)) → last_break (ending l) ls ≡ [] → para_parts (map text_row (ended l ls)) ≡ para_parts (map text_row (l ∷ ls))
 para_ended l [] e = ap (λ xs. line_parts xs ++ []) (content_ended l e)
 para_ended l (m ∷ ls) e = ap (λ qs. line_parts (content l) ++ qs) (later_ended (ending l) m ls e)
 

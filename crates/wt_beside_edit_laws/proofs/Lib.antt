@@ -1,0 +1,8 @@
+pub mod OldPages
+pub mod Pieces
+pub mod FlatEdits
+pub mod FullTrees
+pub mod OldFull
+pub mod NewPages
+pub mod FlatUnmarked
+pub mod FlatPagesAgain

@@ -1,0 +1,574 @@
+-- The lines of a content that is read sign by sign are flat lines again.
+use Rattle.std.proofs.Common.{arith, ◌≡◌, ℕ, suc, ◌+◌, ◌==◌, Bool, true, false, Option, Some, None, List, [], ◌∷◌, ◌++◌, length, map, take, drop, refl, sym, ap, ◌∙◌, subst, inl, inr, append-nil}
+use Rattle.std.specs.Prelude.{codes, encode_utf8, if◌then◌else◌}
+use Rattle.std.specs.Fmt.{digits}
+use Rattle.std.specs.Str.{chars, IsUtf8}
+use Rattle.std.specs.Char.{IsScalar}
+use Rattle.std.proofs.lemmas.Bool.Decides.{nat_tests}
+use Rattle.std.proofs.lemmas.Str.{IsUtf8-nil, IsUtf8-append, IsUtf8-encode}
+use Rattle.wt_span.specs.declared.form.Mode.TheVariants.{Page}
+use Rattle.wt_span.specs.declared.form.LexKind.TheVariants.{Raw, Entity}
+use Rattle.wt_span.specs.declared.form.ItemForm.{ItemForm}
+use Rattle.wt_span.specs.declared.form.ItemForm.TheVariants as form
+use Rattle.wt_span.specs.Comments.{comment_len}
+use Rattle.wt_span.specs.Items.{Item, char, whole, sources}
+use Rattle.wt_span.specs.Lexemes.{form_at as lexeme_at}
+use Rattle.wt_guards.specs.declared.role.Role.{Role}
+use Rattle.wt_guards.specs.declared.role.Role.TheVariants.{Link, External, Bare, Switch, Toggle, Mark, Group, Function, Node}
+use Rattle.wt_guards.specs.Content.{ContentSign, Thing, letter, thing}
+use Rattle.wt_guards.specs.Guards.{Setting, nowiki, is_guarded, spelled}
+use Rattle.wt_guards.specs.Letters.{is_escaped, reference}
+use Rattle.wt_guards.proofs.Escapes.{is_escapable, escapable, each_escapable}
+use Rattle.wt_isolation.specs.OpenTags.{ends_open}
+use Rattle.wt_expand.specs.PageItems.{page_items}
+use Rattle.wt_expand.proofs.PageLaws.{page_sources}
+use Rattle.wt_lines.specs.Lines.{lines, AreLines, IsUnbroken}
+use Rattle.wt_lines.proofs.LineLaws.{lines_are}
+use Rattle.wt_spelling_laws.proofs.Forms.{comment_other, nowiki_form, reference_form}
+use Rattle.wt_tiles.specs.declared.glyph.Glyph.{Glyph}
+use Rattle.wt_tiles.specs.declared.glyph.Glyph.TheVariants as glyph
+use Rattle.wt_tiles.specs.declared.shape.Shape.{Shape}
+use Rattle.wt_tiles.specs.declared.shape.TileKind.{TileKind}
+use Rattle.wt_tiles.specs.declared.shape.TileKind.TheVariants as kind
+use Rattle.wt_tiles.specs.declared.tag.Tag.{Tag}
+use Rattle.wt_tiles.specs.Contexts.{in_line}
+use Rattle.wt_tiles.specs.Glyphs.{byte_glyphs}
+use Rattle.wt_tiles.specs.Links.{leaf}
+use Rattle.wt_tiles.specs.Tags.{tag_at}
+use Rattle.wt_tiles.specs.Tiles.{size, Cut, chars as run, closed, pair_or_island, shapes, parts as tile_parts, tiles}
+use Rattle.wt_tiles.specs.Urls.{bare_url_at}
+use Rattle.wt_tiles.proofs.Joining.{tiles_are}
+use Rattle.wt_tiles.proofs.TagInsides.{no_tag}
+use Rattle.wt_inline.specs.Parts.{parts}
+use Rattle.wt_context.specs.Line.{context_parts}
+use Rattle.wt_context.specs.Nodes.{segments}
+use Rattle.wt_context.specs.RunCuts.{has_run}
+use Rattle.wt_text_edit_laws.specs.LonePages.{page_chars}
+use Rattle.wt_text_edit_laws.proofs.Texts.TypedItems.{references}
+use Rattle.wt_beside_laws.specs.Content.{AreKept, guard_items, letter_items}
+use Rattle.wt_beside_laws.specs.Cuts.{add_chars, add_tile, own_glyphs, own_form, add_node, guard_cut, letter_cut}
+use Rattle.wt_beside_laws.specs.Flat.{IsFlat, AreFlat, IsFlatContent}
+use Rattle.wt_beside_laws.specs.Kept.{lexeme, IsKept}
+use Rattle.wt_beside_laws.specs.Lines.{AreCharacters, line_items, later_lines, content_lines}
+use Rattle.wt_beside_laws.specs.Nodes.{IsPair, IsTagNode, IsOneLexeme, IsNode, AreNodes, AllMeet}
+use Rattle.wt_beside_laws.specs.PageBlocks.{AreShut, AreUnstyled}
+use Rattle.wt_beside_laws.specs.PageSigns.{tile_signs, signs_of_tiles, line_signs, signs_of_lines, IsFlatForm, IsFlatTile, AreFlatTiles, HasNoBreak, AreFlatLines}
+use Rattle.wt_beside_laws.specs.Stood.{OpensNone, OpensNoPair}
+use Rattle.wt_beside_laws.proofs.Contents.{nowiki_reads, reference_reads}
+use Rattle.wt_beside_laws.proofs.Firm.{alone_as}
+use Rattle.wt_beside_laws.proofs.FormKinds.{IsNodeKind, form_is_node}
+use Rattle.wt_beside_laws.proofs.LineItems.{content_lines_are}
+use Rattle.wt_beside_laws.proofs.LineParts.{has_form, glyphs_long, line_cuts, line_unstyled}
+use Rattle.wt_beside_laws.proofs.LineTiles.{line_cut}
+use Rattle.wt_beside_laws.proofs.NodesBegin.{no_url}
+use Rattle.wt_beside_laws.proofs.NodesStand.{by_less, opened_shape}
+use Rattle.wt_beside_laws.proofs.PageSigns.{IsFlatKind}
+
+-- ---- a tag that opens a pair has its closing tag
+
+opens_none : (k : TileKind) (gs : List Glyph) → OpensNone (tag_at gs) → OpensNoPair k gs
+opens_none kind.Link gs h = tt
+opens_none kind.Category gs h = tt
+opens_none kind.Media gs h = tt
+opens_none kind.ExtLink gs h = tt
+opens_none kind.BareUrl gs h = tt
+opens_none kind.Br gs h = tt
+opens_none kind.Pair gs h = tt
+opens_none kind.TagIsland gs h = h
+opens_none kind.Switch gs h = tt
+opens_none kind.Atom gs h = tt
+opens_none kind.Mark gs h = tt
+opens_none kind.Chars gs h = tt
+
+no_opening : (k : TileKind) (gs : List Glyph) → tag_at gs ≡ None → OpensNoPair k gs
+no_opening k gs e = opens_none k gs (subst OpensNone (sym e) tt)
+
+other_first : (k : TileKind) (b : ℕ) (own gs : List Glyph) → own ≡ glyph.Byte b ∷ gs → (b == 60) ≡ false → OpensNoPair k own
+other_first k b own gs i e = subst (OpensNoPair k) (sym i) (no_opening k (glyph.Byte b ∷ gs) (no_tag (glyph.Byte b ∷ gs) e))
+
+same_shape : (v w : Shape) → Some v ≡ Some w → v ≡ w
+same_shape v w e = cc
+
+url_first : (b : ℕ) (gs : List Glyph) (w : Shape) → bare_url_at false (glyph.Byte b ∷ gs) ≡ Some w → (b == 60) ≡ false
+url_first b gs w e = by (b == 60) refl
+  where
+    by : (v : Bool) → (b == 60) ≡ v → v ≡ false
+    by true i =
+        let is : b ≡ 60 = grind (arith, nat_tests, i) in
+        no_url 60 gs w refl refl (subst (λ (k : ℕ). bare_url_at false (glyph.Byte k ∷ gs) ≡ Some w) is e)
+    by false i = refl
+
+lexeme_lone : (k : TileKind) (own : List Glyph) → IsOneLexeme own → OpensNoPair k own
+lexeme_lone k own n = elim n [
+  | inl i ↦ subst (OpensNoPair k) (sym i) (no_opening k (glyph.Atom ∷ []) (no_tag (glyph.Atom ∷ []) refl))
+  | inr i ↦ subst (OpensNoPair k) (sym i.1) (no_opening k (glyph.Entity i.0 ∷ []) (no_tag (glyph.Entity i.0 ∷ []) refl))
+]
+
+pair_lone : (t : Tag) (others : List Glyph) (w : Shape) → tag_at (glyph.Byte 60 ∷ others) ≡ Some t → IsPair t (glyph.Byte 60 ∷ others)
+    → own_form in_line (glyph.Byte 60 ∷ others) ≡ Some w → OpensNoPair w.kind (glyph.Byte 60 ∷ others)
+pair_lone t others w tagged p e =
+    let less : List Glyph = glyph.Byte 60 ∷ others in
+    let is : pair_or_island t.len (Some p.last) less ≡ w =
+    same_shape (pair_or_island t.len (Some p.last) less) w
+    (ap (λ (v : Shape). Some v) (sym (opened_shape t p.name less p.last p.paired p.opens p.closing)) ∙ sym (by_less false others t tagged) ∙ e) in
+    subst (λ (v : Shape). OpensNoPair v.kind less) is tt
+
+tag_lone : (own : List Glyph) (w : Shape) → IsTagNode own → own_form in_line own ≡ Some w → OpensNoPair w.kind own
+tag_lone own w n e =
+    let less : List Glyph = glyph.Byte 60 ∷ n.others in
+    let form : own_form in_line less ≡ Some w = subst (λ (gs : List Glyph). own_form in_line gs ≡ Some w) n.is e in
+    subst (OpensNoPair w.kind) (sym n.is) (elim n.ends [
+      | inl lone ↦ opens_none w.kind less (subst OpensNone (sym n.tagged) lone.0)
+      | inr pair ↦ pair_lone n.named n.others w n.tagged pair form
+    ])
+
+node_lone : (r : Role) (own : List Glyph) (w : Shape) → IsFlat r → IsNode r own → own_form in_line own ≡ Some w → OpensNoPair w.kind own
+node_lone Link own w f n e = other_first w.kind 91 own (glyph.Byte 91 ∷ n.inside) n.is refl
+node_lone External own w f n e = other_first w.kind 91 own n.inside n.is refl
+node_lone (Bare ends) own w f n e = other_first w.kind n.first own n.others n.is (url_first n.first n.others n.shape n.url)
+node_lone Switch own w f n e = other_first w.kind 95 own (glyph.Byte 95 ∷ byte_glyphs n.word) n.is refl
+node_lone Toggle own w f n e = absurd f
+node_lone (Mark ends began) own w f n e = absurd n
+node_lone (Group g) own w f n e = absurd n
+node_lone Function own w f n e = lexeme_lone w.kind own n
+node_lone Node own w f n e = elim n [
+  | inl one ↦ lexeme_lone w.kind own one
+  | inr other ↦ elim other [
+    | inl tag ↦ tag_lone own w tag e
+    | inr link ↦ elim link [
+      | inl category ↦ other_first w.kind 91 own (glyph.Byte 91 ∷ category.inside) category.is refl
+      | inr media ↦ other_first w.kind 91 own (glyph.Byte 91 ∷ media.inside) media.is refl
+    ]
+  ]
+]
+
+-- ---- no node is a mark
+
+abbrev IsUnmarked : List Glyph → Type 0
+IsUnmarked [] = Unit {0}
+IsUnmarked (glyph.Byte b ∷ gs) = Unit {0}
+IsUnmarked (glyph.Entity c ∷ gs) = Unit {0}
+IsUnmarked (glyph.Atom ∷ gs) = Unit {0}
+IsUnmarked (glyph.Mark ∷ gs) = ⊥
+
+lexeme_unmarked : (own : List Glyph) → IsOneLexeme own → IsUnmarked own
+lexeme_unmarked own n = elim n [
+  | inl i ↦ subst IsUnmarked (sym i) tt
+  | inr i ↦ subst IsUnmarked (sym i.1) tt
+]
+
+node_unmarked : (r : Role) (own : List Glyph) → IsFlat r → IsNode r own → IsUnmarked own
+node_unmarked Link own f n = subst IsUnmarked (sym n.is) tt
+node_unmarked External own f n = subst IsUnmarked (sym n.is) tt
+node_unmarked (Bare ends) own f n = subst IsUnmarked (sym n.is) tt
+node_unmarked Switch own f n = subst IsUnmarked (sym n.is) tt
+node_unmarked Toggle own f n = absurd f
+node_unmarked (Mark ends began) own f n = absurd n
+node_unmarked (Group g) own f n = absurd n
+node_unmarked Function own f n = lexeme_unmarked own n
+node_unmarked Node own f n = elim n [
+  | inl one ↦ lexeme_unmarked own one
+  | inr other ↦ elim other [
+    | inl tag ↦ subst IsUnmarked (sym tag.is) tt
+    | inr link ↦ elim link [
+      | inl category ↦ subst IsUnmarked (sym category.is) tt
+      | inr media ↦ subst IsUnmarked (sym media.is) tt
+    ]
+  ]
+]
+
+stays_kind : (k : TileKind) → IsNodeKind k → IsFlatKind k
+stays_kind kind.Link h = tt
+stays_kind kind.Category h = tt
+stays_kind kind.Media h = tt
+stays_kind kind.ExtLink h = tt
+stays_kind kind.BareUrl h = tt
+stays_kind kind.Br h = tt
+stays_kind kind.Pair h = tt
+stays_kind kind.TagIsland h = tt
+stays_kind kind.Switch h = tt
+stays_kind kind.Atom h = absurd h
+stays_kind kind.Mark h = absurd h
+stays_kind kind.Chars h = absurd h
+
+atom_flat : (w : Shape) → Some (leaf kind.Atom 1) ≡ Some w → IsFlatKind w.kind
+atom_flat w e = subst (λ (v : Shape). IsFlatKind v.kind) (same_shape (leaf kind.Atom 1) w e) tt
+
+form_flat : (own : List Glyph) (w : Shape) → IsUnmarked own → own_form in_line own ≡ Some w → IsFlatKind w.kind
+form_flat [] w u e = cc
+form_flat (glyph.Byte b ∷ gs) w u e = stays_kind w.kind (form_is_node in_line false (glyph.Byte b ∷ gs) w e)
+form_flat (glyph.Entity c ∷ gs) w u e = atom_flat w e
+form_flat (glyph.Atom ∷ gs) w u e = atom_flat w e
+form_flat (glyph.Mark ∷ gs) w u e = absurd u
+
+flat_tile : (k : TileKind) (own : List Item) → IsFlatKind k → IsFlatForm k own → IsFlatTile k own
+flat_tile kind.Link own h f = f
+flat_tile kind.Category own h f = f
+flat_tile kind.Media own h f = f
+flat_tile kind.ExtLink own h f = f
+flat_tile kind.BareUrl own h f = f
+flat_tile kind.Br own h f = f
+flat_tile kind.Pair own h f = f
+flat_tile kind.TagIsland own h f = f
+flat_tile kind.Switch own h f = f
+flat_tile kind.Atom own h f = f
+flat_tile kind.Mark own h f = absurd h
+flat_tile kind.Chars own h f = absurd h
+
+-- a node that stays, as a tile
+node_tile : (t : Thing) (w : Shape) → IsFlat t.role → IsNode t.role (own_glyphs t) → own_form in_line (own_glyphs t) ≡ Some w → IsFlatTile w.kind (page_items t.source)
+node_tile t w f n e =
+    flat_tile w.kind (page_items t.source) (form_flat (own_glyphs t) w (node_unmarked t.role (own_glyphs t) f n) e)
+    (record { alone = ap page_items (page_sources t.source); lone = node_lone t.role (own_glyphs t) w f n e })
+
+-- ---- sources
+
+-- each node's source is so
+abbrev pub EachSource : (List ℕ → Type 0) → List ContentSign → Type 0
+EachSource Q [] = Unit {0}
+EachSource Q (letter c ∷ after) = EachSource Q after
+EachSource Q (thing t ∷ after) = Q t.source × EachSource Q after
+
+letters_so : (Q : List ℕ → Type 0) (cs : List ℕ) → EachSource Q (map letter cs)
+letters_so Q [] = tt
+letters_so Q (c ∷ cs) = letters_so Q cs
+
+tile_so : (Q : List ℕ → Type 0) (k : TileKind) (at : ℕ) (own : List Item) → Q (sources own) → EachSource Q (tile_signs k at own)
+tile_so Q kind.Link at own h = (h, tt)
+tile_so Q kind.Category at own h = (h, tt)
+tile_so Q kind.Media at own h = (h, tt)
+tile_so Q kind.ExtLink at own h = (h, tt)
+tile_so Q kind.BareUrl at own h = (h, tt)
+tile_so Q kind.Br at own h = (h, tt)
+tile_so Q kind.Pair at own h = (h, tt)
+tile_so Q kind.TagIsland at own h = (h, tt)
+tile_so Q kind.Switch at own h = (h, tt)
+tile_so Q kind.Atom at own h = (h, tt)
+tile_so Q kind.Mark at own h = (h, tt)
+tile_so Q kind.Chars at own h = letters_so Q (chars (sources own))
+
+so_both : (Q : List ℕ → Type 0) (xs ys : List ContentSign) → EachSource Q xs → EachSource Q ys → EachSource Q (xs ++ ys)
+so_both Q [] ys h k = k
+so_both Q (letter c ∷ xs) ys h k = so_both Q xs ys h k
+so_both Q (thing t ∷ xs) ys h k = (h.0, so_both Q xs ys h.1 k)
+
+-- the nowikis that are put, and references, are so
+pub record HoldsOfPut (Q : List ℕ → Type 0) : Type 0 where
+  pub of_nowiki : Q nowiki
+  pub of_reference : (c : ℕ) → is_escapable c ≡ true → Q (reference c)
+
+nowiki_kept : IsKept nowiki
+unfolding nowiki comment_len
+nowiki_kept = record {
+  parts = lexeme Raw 60 (codes "nowiki/>") ∷ [];
+  are = (record { form = λ rest. nowiki_form Page rest; uncommented = λ rest. refl; begins = refl }, tt);
+  is = refl;
+}
+
+reference_kept : (c : ℕ) → is_escapable c ≡ true → IsKept (reference c)
+reference_kept c e =
+    let r = references c e in
+    record {
+      parts = lexeme (Entity c) 38 r.others ∷ [];
+      are = (
+        record {
+          form = λ rest.
+              ap (λ (bs : List ℕ). lexeme_at Page false (bs ++ rest)) (sym r.is) ∙ reference_form Page rest c e
+              ∙ ap (λ (bs : List ℕ). Some (Entity c, length bs)) r.is;
+          uncommented = λ rest. comment_other 38 (r.others ++ rest) (omega arith);
+          begins = refl;
+        },
+        tt,
+      );
+      is = append-nil (38 ∷ r.others) ∙ sym r.is;
+    }
+
+put_kept : HoldsOfPut IsKept
+put_kept = record { of_nowiki = nowiki_kept; of_reference = reference_kept }
+
+abbrev IsShut : List ℕ → Type 0
+IsShut bs = ends_open bs ≡ false
+
+nowiki_shut : IsShut nowiki
+unfolding nowiki
+nowiki_shut = refl
+
+reference_shut : (c : ℕ) → is_escapable c ≡ true → IsShut (reference c)
+unfolding reference digits
+reference_shut c e = each_escapable (λ k. ends_open (reference k) ≡ false) refl refl refl refl refl refl refl refl refl refl refl refl refl c e
+
+put_shut : HoldsOfPut IsShut
+put_shut = record { of_nowiki = nowiki_shut; of_reference = reference_shut }
+
+-- a lexeme by itself, as a tile
+record IsAtom (Q : List ℕ → Type 0) (x : Item) : Type 0 where
+  alone : page_items (sources (x ∷ [])) ≡ x ∷ []
+  so : Q (sources (x ∷ []))
+
+whole_atom : (Q : List ℕ → Type 0) (f : ItemForm) (bs : List ℕ) → page_items bs ≡ whole f None bs ∷ [] → Q bs → IsAtom Q (whole f None bs)
+whole_atom Q f bs e k = record { alone = ap page_items (append-nil bs) ∙ e; so = subst Q (sym (append-nil bs)) k }
+
+nowiki_atom : (Q : List ℕ → Type 0) → HoldsOfPut Q → IsAtom Q (whole form.Nowiki None nowiki)
+nowiki_atom Q p = whole_atom Q form.Nowiki nowiki (alone_as nowiki (whole form.Nowiki None nowiki ∷ []) nowiki_reads) p.of_nowiki
+
+reference_atom : (Q : List ℕ → Type 0) (c : ℕ) → HoldsOfPut Q → is_escapable c ≡ true → IsAtom Q (whole (form.Entity c) None (reference c))
+reference_atom Q c p e =
+    whole_atom Q (form.Entity c) (reference c) (alone_as (reference c) (whole (form.Entity c) None (reference c) ∷ []) (reference_reads c e)) (p.of_reference c e)
+
+-- ---- cuts
+
+-- the run that is first is UTF-8, and the tiles behind it are flat
+record FlatCut (Q : List ℕ → Type 0) (c : Cut) (xs : List Item) : Type 0 where
+  text : IsUtf8 (sources (take c.0 xs))
+  tiles : AreFlatTiles (tile_parts c.1 (drop c.0 xs))
+  kept : (at : ℕ) → EachSource Q (signs_of_tiles at (tile_parts c.1 (drop c.0 xs)))
+
+record FlatShapes (Q : List ℕ → Type 0) (ps : List (Shape × List Item)) : Type 0 where
+  tiles : AreFlatTiles ps
+  kept : (at : ℕ) → EachSource Q (signs_of_tiles at ps)
+
+-- a tile before others
+tile_before : (Q : List ℕ → Type 0) (w : Shape) (own : List Item) (ps : List (Shape × List Item)) → IsFlatTile w.kind own → ((at : ℕ) → EachSource Q (tile_signs w.kind at own))
+    → FlatShapes Q ps → FlatShapes Q ((w, own) ∷ ps)
+tile_before Q w own ps t k f = record {
+  tiles = (t, f.tiles);
+  kept = λ at. so_both Q (tile_signs w.kind at own) (signs_of_tiles (at + length (sources own)) ps) (k at) (f.kept (at + length (sources own)));
+}
+
+closed_by : (Q : List ℕ → Type 0) (t : Bool) (n : ℕ) (ws : List Shape) (xs : List Item) → (n == 0) ≡ t → FlatCut Q (n, ws) xs → FlatShapes Q (tile_parts (if t then ws else run n ∷ ws) xs)
+closed_by Q true n ws xs e f =
+    let is : n ≡ 0 = grind (arith, nat_tests, e) in
+    let g : FlatCut Q (0, ws) xs = subst (λ (m : ℕ). FlatCut Q (m, ws) xs) is f in
+    record { tiles = g.tiles; kept = g.kept }
+closed_by Q false n ws xs e f =
+    let all : n ≡ size (run n) = omega arith in
+    subst (λ (m : ℕ). FlatShapes Q ((run n, take m xs) ∷ tile_parts ws (drop m xs))) all
+    (tile_before Q (run n) (take n xs) (tile_parts ws (drop n xs)) f.text (λ at. letters_so Q (chars (sources (take n xs)))) (record { tiles = f.tiles; kept = f.kept }))
+
+closed_flat : (Q : List ℕ → Type 0) (c : Cut) (xs : List Item) → FlatCut Q c xs → FlatShapes Q (tile_parts (closed c.0 c.1) xs)
+unfolding closed
+closed_flat Q c xs f = closed_by Q (c.0 == 0) c.0 c.1 xs refl f
+
+front_taken : (own xs : List Item) → take (length own) (own ++ xs) ≡ own
+front_taken [] xs = refl
+front_taken (x ∷ own) xs = ap (λ ys. x ∷ ys) (front_taken own xs)
+
+front_dropped : (own xs : List Item) → drop (length own) (own ++ xs) ≡ xs
+front_dropped [] xs = refl
+front_dropped (x ∷ own) xs = front_dropped own xs
+
+-- a form before what follows it
+tile_flat : (Q : List ℕ → Type 0) (w : Shape) (own : List Item) (c : Cut) (xs : List Item) → size w ≡ length own → IsFlatTile w.kind own → Q (sources own) → FlatCut Q c xs
+    → FlatCut Q (add_tile w c) (own ++ xs)
+tile_flat Q w own c xs l t k f =
+    let ws : List Shape = closed c.0 c.1 in
+    let ys : List Item = own ++ xs in
+    let is : (w, own) ∷ tile_parts ws xs ≡ (w, take (size w) ys) ∷ tile_parts ws (drop (size w) ys) =
+    ap (λ (zs : List Item). (w, own) ∷ tile_parts ws zs) (sym (front_dropped own xs))
+    ∙ ap (λ (zs : List Item). (w, zs) ∷ tile_parts ws (drop (length own) ys)) (sym (front_taken own xs))
+    ∙ ap (λ (n : ℕ). (w, take n ys) ∷ tile_parts ws (drop n ys)) (sym l) in
+    let g : FlatShapes Q ((w, take (size w) ys) ∷ tile_parts ws (drop (size w) ys)) =
+    subst (FlatShapes Q) is (tile_before Q w own (tile_parts ws xs) t (λ at. tile_so Q w.kind at own k) (closed_flat Q c xs f)) in
+    record { text = IsUtf8-nil; tiles = g.tiles; kept = g.kept }
+
+atom_before : (Q : List ℕ → Type 0) (x : Item) (c : Cut) (xs : List Item) → IsAtom Q x → FlatCut Q c xs → FlatCut Q (add_tile (leaf kind.Atom 1) c) (x ∷ xs)
+atom_before Q x c xs a f = tile_flat Q (leaf kind.Atom 1) (x ∷ []) c xs refl (record { alone = a.alone; lone = tt }) a.so f
+
+-- characters before what follows them
+taken_more : (bs : List ℕ) (n : ℕ) (xs : List Item) → take (length bs + n) (page_chars bs ++ xs) ≡ page_chars bs ++ take n xs
+taken_more [] n xs = let z : 0 + n ≡ n = omega arith in ap (λ (m : ℕ). take m xs) z
+taken_more (b ∷ bs) n xs =
+    let z : length (b ∷ bs) + n ≡ suc (length bs + n) = omega arith in
+    ap (λ (m : ℕ). take m (page_chars (b ∷ bs) ++ xs)) z ∙ ap (λ ys. char None b ∷ ys) (taken_more bs n xs)
+
+dropped_more : (bs : List ℕ) (n : ℕ) (xs : List Item) → drop (length bs + n) (page_chars bs ++ xs) ≡ drop n xs
+dropped_more [] n xs = let z : 0 + n ≡ n = omega arith in ap (λ (m : ℕ). drop m xs) z
+dropped_more (b ∷ bs) n xs =
+    let z : length (b ∷ bs) + n ≡ suc (length bs + n) = omega arith in
+    ap (λ (m : ℕ). drop m (page_chars (b ∷ bs) ++ xs)) z ∙ dropped_more bs n xs
+
+chars_source : (bs : List ℕ) (ys : List Item) → sources (page_chars bs ++ ys) ≡ bs ++ sources ys
+chars_source [] ys = refl
+chars_source (b ∷ bs) ys = ap (λ cs. b ∷ cs) (chars_source bs ys)
+
+chars_before : (Q : List ℕ → Type 0) (bs : List ℕ) (c : Cut) (xs : List Item) → IsUtf8 bs → FlatCut Q c xs → FlatCut Q (add_chars (length bs) c) (page_chars bs ++ xs)
+chars_before Q bs c xs u f = record {
+  text = subst IsUtf8 (sym (ap sources (taken_more bs c.0 xs) ∙ chars_source bs (take c.0 xs))) (IsUtf8-append bs (sources (take c.0 xs)) u f.text);
+  tiles = subst (λ (ys : List Item). AreFlatTiles (tile_parts c.1 ys)) (sym (dropped_more bs c.0 xs)) f.tiles;
+  kept = λ at. subst (λ (ys : List Item). EachSource Q (signs_of_tiles at (tile_parts c.1 ys))) (sym (dropped_more bs c.0 xs)) (f.kept at);
+}
+
+-- ---- a line, sign by sign
+
+none_flat : (Q : List ℕ → Type 0) → FlatCut Q (0, []) []
+none_flat Q = record { text = IsUtf8-nil; tiles = tt; kept = λ at. tt }
+
+guard_flat : (Q : List ℕ → Type 0) (p : HoldsOfPut Q) (u : Bool) (c : Cut) (xs : List Item) → FlatCut Q c xs → FlatCut Q (guard_cut u c) (guard_items u ++ xs)
+guard_flat Q p true c xs f = atom_before Q (whole form.Nowiki None nowiki) c xs (nowiki_atom Q p) f
+guard_flat Q p false c xs f = f
+
+letter_flat : (Q : List ℕ → Type 0) (p : HoldsOfPut Q) (e : Bool) (d : ℕ) (c : Cut) (xs : List Item) → IsScalar d → (e ≡ true → is_escapable d ≡ true) → FlatCut Q c xs
+    → FlatCut Q (letter_cut e d c) (letter_items e d ++ xs)
+letter_flat Q p true d c xs s h f = atom_before Q (whole (form.Entity d) None (reference d)) c xs (reference_atom Q d p (h refl)) f
+letter_flat Q p false d c xs s h f = chars_before Q (encode_utf8 d) c xs (IsUtf8-encode d s) f
+
+letter_by : (Q : List ℕ → Type 0) (t e : Bool) (d : ℕ) (c : Cut) (xs : List Item) → FlatCut Q (letter_cut e d c) (letter_items e d ++ xs)
+    → FlatCut Q (if t then (0, []) else letter_cut e d c) (if t then [] else letter_items e d ++ xs)
+letter_by Q true e d c xs f = none_flat Q
+letter_by Q false e d c xs f = f
+
+node_flat : (Q : List ℕ → Type 0) (t : Thing) (c : Cut) (xs : List Item) → IsFlat t.role → IsNode t.role (own_glyphs t) → Q t.source → FlatCut Q c xs
+    → FlatCut Q (add_node (own_form in_line (own_glyphs t)) (length (own_glyphs t)) c) (page_items t.source ++ xs)
+node_flat Q t c xs f n k g =
+    let h = has_form t.role (own_glyphs t) f n in
+    let long : size h.shape ≡ length (page_items t.source) = h.whole ∙ glyphs_long (page_items t.source) in
+    subst (λ (o : Option Shape). FlatCut Q (add_node o (length (own_glyphs t)) c) (page_items t.source ++ xs)) (sym h.alone)
+    (tile_flat Q h.shape (page_items t.source) c xs long (node_tile t h.shape f n h.alone) (subst Q (sym (page_sources t.source)) k) g)
+
+line_flat : (Q : List ℕ → Type 0) (p : HoldsOfPut Q) (s : Setting) (before signs : List ContentSign) → AreCharacters signs → EachSource Q signs → AreNodes signs → AreFlat signs
+    → FlatCut Q (line_cut in_line s before signs) (line_items s before signs)
+line_flat Q p s before [] c k n f =
+    subst (FlatCut Q (guard_cut (is_guarded s before []) (0, []))) (append-nil (guard_items (is_guarded s before [])))
+    (guard_flat Q p (is_guarded s before []) (0, []) [] (none_flat Q))
+line_flat Q p s before (letter d ∷ after) c k n f =
+    let e : Bool = is_escaped s.within s.place before d after in
+    let cut : Cut = line_cut in_line s (letter d ∷ before) after in
+    let xs : List Item = line_items s (letter d ∷ before) after in
+    guard_flat Q p (is_guarded s before (letter d ∷ after)) (if d == 10 then (0, []) else letter_cut e d cut) (if d == 10 then [] else letter_items e d ++ xs)
+    (letter_by Q (d == 10) e d cut xs
+    (letter_flat Q p e d cut xs c.0 (escapable s.within s.place before d after) (line_flat Q p s (letter d ∷ before) after c.1 k n f)))
+line_flat Q p s before (thing t ∷ after) c k n f =
+    let cut : Cut = line_cut in_line s (thing t ∷ before) after in
+    let xs : List Item = line_items s (thing t ∷ before) after in
+    guard_flat Q p (is_guarded s before (thing t ∷ after)) (add_node (own_form in_line (own_glyphs t)) (length (own_glyphs t)) cut) (page_items t.source ++ xs)
+    (node_flat Q t cut xs f.0 n.0 k.0 (line_flat Q p s (thing t ∷ before) after c k.1 n.1 f.1))
+
+-- ---- lines
+
+-- its forms stay, its sources are so, and it has no style
+record FlatLine (Q : List ℕ → Type 0) (xs : List Item) : Type 0 where
+  tiles : AreFlatTiles (tiles in_line xs)
+  kept : (at : ℕ) → EachSource Q (line_signs at xs)
+  unstyled : has_run (segments context_parts in_line xs) ≡ false
+
+abbrev FlatLines : (List ℕ → Type 0) → List (List Item) → Type 0
+FlatLines Q [] = Unit {0}
+FlatLines Q (l ∷ ls) = FlatLine Q l × FlatLines Q ls
+
+-- what is known of the signs behind a place
+record Known (Q : List ℕ → Type 0) (s : Setting) (before signs : List ContentSign) : Type 0 where
+  characters : AreCharacters signs
+  source : EachSource Q signs
+  nodes : AreNodes signs
+  flat : AreFlat signs
+  meet : AllMeet s before signs []
+
+one_line : (Q : List ℕ → Type 0) (p : HoldsOfPut Q) (s : Setting) (before signs : List ContentSign) → Known Q s before signs → FlatLine Q (line_items s before signs)
+unfolding shapes
+one_line Q p s before signs k =
+    let xs : List Item = line_items s before signs in
+    let cut : Cut = line_cut in_line s before signs in
+    let is : tile_parts (closed cut.0 cut.1) xs ≡ tiles in_line xs =
+    ap (λ (d : Cut). tile_parts (closed d.0 d.1) xs) (sym (line_cuts s before signs k.nodes k.meet)) ∙ sym (tiles_are in_line xs) in
+    let g : FlatShapes Q (tiles in_line xs) =
+    subst (FlatShapes Q) is (closed_flat Q cut xs (line_flat Q p s before signs k.characters k.source k.nodes k.flat)) in
+    record { tiles = g.tiles; kept = g.kept; unstyled = line_unstyled s before signs k.nodes k.flat k.meet }
+
+later_flat : (Q : List ℕ → Type 0) (p : HoldsOfPut Q) (s : Setting) (before signs : List ContentSign) → Known Q s before signs → FlatLines Q (later_lines s before signs)
+later_flat Q p s before [] k = tt
+later_flat Q p s before (letter d ∷ after) k =
+    let more : Known Q s (letter d ∷ before) after =
+    record { characters = k.characters.1; source = k.source; nodes = k.nodes; flat = k.flat; meet = k.meet.1 } in
+    later_by (d == 10) (line_items s (letter d ∷ before) after) (later_lines s (letter d ∷ before) after)
+    (one_line Q p s (letter d ∷ before) after more) (later_flat Q p s (letter d ∷ before) after more)
+  where
+    later_by : (t : Bool) (l : List Item) (ls : List (List Item)) → FlatLine Q l → FlatLines Q ls → FlatLines Q (if t then l ∷ ls else ls)
+    later_by true l ls h g = (h, g)
+    later_by false l ls h g = g
+later_flat Q p s before (thing t ∷ after) k =
+    later_flat Q p s (thing t ∷ before) after
+    (record { characters = k.characters; source = k.source.1; nodes = k.nodes.1; flat = k.flat.1; meet = k.meet.1 })
+
+all_flat : (Q : List ℕ → Type 0) (p : HoldsOfPut Q) (s : Setting) (signs : List ContentSign) → IsFlatContent s signs → EachSource Q signs
+    → FlatLines Q (content_lines s signs)
+all_flat Q p s signs h q =
+    let k : Known Q s [] signs = record { characters = h.characters; source = q; nodes = h.nodes; flat = h.flat; meet = h.meet } in
+    (one_line Q p s [] signs k, later_flat Q p s [] signs k)
+
+-- no line goes on over its end
+no_break : (xs : List Item) → IsUnbroken xs → HasNoBreak xs
+no_break [] h = tt
+no_break (char o b ∷ xs) h = (h.0, no_break xs h.1)
+no_break (whole f o bs ∷ xs) h = (tt, no_break xs h.1)
+
+abbrev Unbroken : List (List Item) → Type 0
+Unbroken [] = Unit {0}
+Unbroken (l ∷ ls) = HasNoBreak l × Unbroken ls
+
+unbroken_lines : (ls : List (List Item)) (xs : List Item) → AreLines ls xs → Unbroken ls
+unbroken_lines [] xs h = tt
+unbroken_lines (l ∷ []) xs h = (no_break l h.0, tt)
+unbroken_lines (l ∷ m ∷ ls) xs h = (no_break l h.0, unbroken_lines (m ∷ ls) h.2 h.5)
+
+all_unbroken : (s : Setting) (signs : List ContentSign) → IsFlatContent s signs → Unbroken (content_lines s signs)
+all_unbroken s signs h =
+    let xs : List Item = page_items (spelled s signs) in
+    subst Unbroken (content_lines_are s signs h.kept h.unbroken) (unbroken_lines (lines xs) xs (lines_are xs))
+
+-- ---- in other words
+
+from_kept : (signs : List ContentSign) → AreKept signs → EachSource IsKept signs
+from_kept [] h = tt
+from_kept (letter c ∷ after) h = from_kept after h
+from_kept (thing t ∷ after) h = (h.0, from_kept after h.1)
+
+to_kept : (signs : List ContentSign) → EachSource IsKept signs → AreKept signs
+to_kept [] h = tt
+to_kept (letter c ∷ after) h = to_kept after h
+to_kept (thing t ∷ after) h = (h.0, to_kept after h.1)
+
+from_shut : (signs : List ContentSign) → AreShut signs → EachSource IsShut signs
+from_shut [] h = tt
+from_shut (letter c ∷ after) h = from_shut after h
+from_shut (thing t ∷ after) h = (h.0, from_shut after h.1)
+
+to_shut : (signs : List ContentSign) → EachSource IsShut signs → AreShut signs
+to_shut [] h = tt
+to_shut (letter c ∷ after) h = to_shut after h
+to_shut (thing t ∷ after) h = (h.0, to_shut after h.1)
+
+flat_lines : (Q : List ℕ → Type 0) (ls : List (List Item)) → Unbroken ls → FlatLines Q ls → AreFlatLines ls
+flat_lines Q [] b f = tt
+flat_lines Q (l ∷ ls) b f = (b.0, f.0.tiles, flat_lines Q ls b.1 f.1)
+
+unstyled_lines : (Q : List ℕ → Type 0) (ls : List (List Item)) → FlatLines Q ls → AreUnstyled ls
+unstyled_lines Q [] f = tt
+unstyled_lines Q (l ∷ ls) f = (f.0.unstyled, unstyled_lines Q ls f.1)
+
+so_lines : (Q : List ℕ → Type 0) (at : ℕ) (ls : List (List Item)) → FlatLines Q ls → EachSource Q (signs_of_lines at ls)
+so_lines Q at [] f = tt
+so_lines Q at (l ∷ []) f = f.0.kept at
+so_lines Q at (l ∷ m ∷ ls) f =
+    so_both Q (line_signs at l) (letter 10 ∷ signs_of_lines (at + length (sources l) + 1) (m ∷ ls)) (f.0.kept at)
+    (so_lines Q (at + length (sources l) + 1) (m ∷ ls) f.1)
+
+-- whatever holds of each source, and of what is put, holds of the sources of the new lines
+pub again_each : (Q : List ℕ → Type 0) (p : HoldsOfPut Q) (at : ℕ) (s : Setting) (signs : List ContentSign) → IsFlatContent s signs → EachSource Q signs
+    → EachSource Q (signs_of_lines at (content_lines s signs))
+again_each Q p at s signs h q = so_lines Q at (content_lines s signs) (all_flat Q p s signs h q)
+
+kept_content : (s : Setting) (signs : List ContentSign) → IsFlatContent s signs → FlatLines IsKept (content_lines s signs)
+kept_content s signs h = all_flat IsKept put_kept s signs h (from_kept signs h.kept)
+
+pub again_flat : (s : Setting) (signs : List ContentSign) → IsFlatContent s signs → AreFlatLines (content_lines s signs)
+again_flat s signs h = flat_lines IsKept (content_lines s signs) (all_unbroken s signs h) (kept_content s signs h)
+
+pub again_unstyled : (s : Setting) (signs : List ContentSign) → IsFlatContent s signs → AreUnstyled (content_lines s signs)
+again_unstyled s signs h = unstyled_lines IsKept (content_lines s signs) (kept_content s signs h)
+
+pub again_kept : (at : ℕ) (s : Setting) (signs : List ContentSign) → IsFlatContent s signs → AreKept (signs_of_lines at (content_lines s signs))
+again_kept at s signs h = to_kept (signs_of_lines at (content_lines s signs)) (so_lines IsKept at (content_lines s signs) (kept_content s signs h))
+
+pub again_shut : (at : ℕ) (s : Setting) (signs : List ContentSign) → IsFlatContent s signs → AreShut signs → AreShut (signs_of_lines at (content_lines s signs))
+again_shut at s signs h k =
+    to_shut (signs_of_lines at (content_lines s signs)) (so_lines IsShut at (content_lines s signs) (all_flat IsShut put_shut s signs h (from_shut signs k)))

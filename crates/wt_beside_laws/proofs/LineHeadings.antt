@@ -1,0 +1,247 @@
+-- A content of a heading is on one line, begins and ends with no blank, and is read there as its signs.
+use Rattle.std.proofs.Common.{arith, ◌≡◌, ℕ, ◌<◌, ◌≤◌, ◌==◌, Bool, true, false, List, [], ◌∷◌, ◌++◌, length, map, refl, sym, ap, ◌∙◌, subst, append-nil, inl, inr, ◌⊎◌, All}
+use Rattle.std.specs.Prelude.{◌||◌, if◌then◌else◌, encode_utf8}
+use Rattle.std.proofs.lemmas.Bool.{cases_lt}
+use Rattle.std.proofs.lemmas.Bool.Decides.{nat_tests}
+use Rattle.std.proofs.lemmas.List.Elements.{All-head, All-tail}
+use Rattle.std.proofs.lemmas.Str.{encode_ascii}
+use Rattle.wt_span.specs.Bytes.{is_blank}
+use Rattle.wt_span.specs.Items.{Item, sign}
+use Rattle.wt_names.proofs.Ascii.{IsWide, encode_wide, encode_some}
+use Rattle.wt_tree.specs.declared.edit_shape.Place.TheVariants as place
+use Rattle.wt_guards.specs.Content.{ContentSign, letter, thing}
+use Rattle.wt_guards.specs.Guards.{Setting, is_guarded, spelled}
+use Rattle.wt_guards.specs.Letters.{is_escaped}
+use Rattle.wt_spelling_laws.proofs.Lines.{end_guarded}
+use Rattle.wt_spelling_laws.proofs.TextKinds.{OpensText}
+use Rattle.wt_expand.specs.PageItems.{page_items}
+use Rattle.wt_lines.specs.Lines.{IsUnbroken}
+use Rattle.wt_inline.specs.declared.loose.Loose.TheVariants.{Text}
+use Rattle.wt_inline.specs.Parts.{Part, parts}
+use Rattle.wt_context.specs.Line.{line_parts}
+use Rattle.wt_headings.specs.Headings.{heading}
+use Rattle.wt_text_edit_laws.specs.LonePages.{page_chars}
+use Rattle.wt_text_edit_laws.specs.TypedHeadings.{Sides, AreBlanks, AreSides, heading_line, IsOfLevel, NoBreaks, BeginsWithout, EndsWithout, is_equals_sign, IsHeadingInside}
+use Rattle.wt_text_edit_laws.proofs.Headings.HeadingRows.{round_is, apart_level}
+use Rattle.wt_text_edit_laws.proofs.Headings.TypedTexts.{end_by, no_equals, begins_other, begins_still, ends_still, ends_blank, ends_other, ends_behind as behind_other}
+use Rattle.wt_beside_laws.specs.Content.{guard_items, letter_items, content_items}
+use Rattle.wt_beside_laws.specs.Flat.{content_parts, line_content}
+use Rattle.wt_beside_laws.specs.InHeadings.{AreOnOneLine, IsHeadingContent, LastEndsUnequal, IsSome, KeepsLevel, heading_of}
+use Rattle.wt_beside_laws.specs.Lines.{AreUnbroken, line_items}
+use Rattle.wt_beside_laws.specs.Nodes.{AreNodes}
+use Rattle.wt_beside_laws.proofs.Contents.{content_alone}
+use Rattle.wt_beside_laws.proofs.LineItems.{letter_unbroken}
+use Rattle.wt_beside_laws.proofs.LineKinds.{Opens, line_opens}
+use Rattle.wt_beside_laws.proofs.LineParts.{line_parts_are}
+use Rattle.wt_beside_laws.proofs.NodeEnds.{EndInSigns, nodes_end, ends_unequal}
+
+-- ---- one line
+
+unbroken_both : (xs ys : List Item) → NoBreaks xs → NoBreaks ys → NoBreaks (xs ++ ys)
+unbroken_both [] ys h k = k
+unbroken_both (x ∷ xs) ys h k = (h.0, unbroken_both xs ys h.1 k)
+
+none_by : (xs : List Item) → IsUnbroken xs → NoBreaks xs
+none_by [] h = tt
+none_by (x ∷ xs) h = (h.0, none_by xs h.1)
+
+guard_none : (u : Bool) → NoBreaks (guard_items u)
+guard_none true = (refl, tt)
+guard_none false = tt
+
+content_none : (s : Setting) (before signs : List ContentSign) → AreOnOneLine signs → AreUnbroken signs → NoBreaks (content_items s before signs)
+content_none s before [] o u = guard_none (is_guarded s before [])
+content_none s before (letter c ∷ after) o u =
+    let e = is_escaped s.within s.place before c after in
+    let more : List Item = content_items s (letter c ∷ before) after in
+    unbroken_both (guard_items (is_guarded s before (letter c ∷ after))) (letter_items e c ++ more) (guard_none (is_guarded s before (letter c ∷ after)))
+    (unbroken_both (letter_items e c) more (none_by (letter_items e c) (letter_unbroken e c o.0)) (content_none s (letter c ∷ before) after o.1 u))
+content_none s before (thing t ∷ after) o u =
+    let own : List Item = page_items t.source in
+    let more : List Item = content_items s (thing t ∷ before) after in
+    unbroken_both (guard_items (is_guarded s before (thing t ∷ after))) (own ++ more) (guard_none (is_guarded s before (thing t ∷ after)))
+    (unbroken_both own more (none_by own u.0) (content_none s (thing t ∷ before) after o u.1))
+
+same_items : (s : Setting) (before signs : List ContentSign) → AreOnOneLine signs → line_items s before signs ≡ content_items s before signs
+same_items s before [] o = refl
+same_items s before (letter c ∷ after) o =
+    let guard : List Item = guard_items (is_guarded s before (letter c ∷ after)) in
+    let own : List Item = letter_items (is_escaped s.within s.place before c after) c in
+    ap (λ (t : Bool). guard ++ (if t then [] else own ++ line_items s (letter c ∷ before) after)) o.0
+    ∙ ap (λ xs. guard ++ (own ++ xs)) (same_items s (letter c ∷ before) after o.1)
+same_items s before (thing t ∷ after) o =
+    ap (λ xs. guard_items (is_guarded s before (thing t ∷ after)) ++ (page_items t.source ++ xs)) (same_items s (thing t ∷ before) after o)
+
+same_parts : (s : Setting) (before signs : List ContentSign) → AreOnOneLine signs → line_content s before signs ≡ content_parts s before signs
+same_parts s before [] o = refl
+same_parts s before (letter c ∷ after) o =
+    let guard : List Part = parts Text (guard_items (is_guarded s before (letter c ∷ after))) in
+    let own : List Part = parts Text (letter_items (is_escaped s.within s.place before c after) c) in
+    ap (λ (t : Bool). guard ++ (if t then [] else own ++ line_content s (letter c ∷ before) after)) o.0
+    ∙ ap (λ ps. guard ++ (own ++ ps)) (same_parts s (letter c ∷ before) after o.1)
+same_parts s before (thing t ∷ after) o =
+    ap (λ ps. parts Text (guard_items (is_guarded s before (thing t ∷ after))) ++ (line_parts (page_items t.source) ++ ps)) (same_parts s (thing t ∷ before) after o)
+
+-- ---- what is first
+
+neither : (b : ℕ) → OpensText b → is_blank b ≡ false
+neither b o = ap (λ (t : Bool). t || (b == 9)) o.space ∙ o.tab
+
+begins_seen : (xs : List Item) → Opens xs → BeginsWithout is_blank (map sign xs)
+begins_seen [] h = h
+begins_seen (x ∷ xs) h = neither (sign x) h
+
+-- ---- what is last
+
+abbrev SeenLast : List Item → Type 0
+SeenLast xs = EndsWithout is_blank (map sign xs)
+
+ends_behind : (q : ℕ → Bool) (xs ys : List Item) → EndsWithout q (map sign ys) → EndsWithout q (map sign (xs ++ ys))
+ends_behind q [] ys h = h
+ends_behind q (x ∷ []) [] h = absurd h
+ends_behind q (x ∷ []) (y ∷ ys) h = h
+ends_behind q (x ∷ z ∷ xs) ys h = ends_behind q (z ∷ xs) ys h
+
+last_behind : (xs ys : List Item) → SeenLast ys → SeenLast (xs ++ ys)
+last_behind xs ys h = ends_behind is_blank xs ys h
+
+wide_last : (bs : List ℕ) → All IsWide bs → 0 < length bs → SeenLast (page_chars bs)
+wide_last [] h some = absurd (omega (arith, some))
+wide_last (b ∷ []) h some = not_blank b (All-head IsWide b [] h)
+  where
+    not_blank : (b : ℕ) → 128 ≤ b → is_blank b ≡ false
+    not_blank b le = grind (arith, nat_tests)
+wide_last (b ∷ c ∷ bs) h some = wide_last (c ∷ bs) (All-tail IsWide b (c ∷ bs) h) (omega arith)
+
+letter_last : (e : Bool) (c : ℕ) → (e ≡ false → is_blank c ≡ false) → SeenLast (letter_items e c)
+letter_last true c f = refl
+letter_last false c f = elim (cases_lt c 128) [
+  | inl small ↦ subst (λ bs. SeenLast (page_chars bs)) (sym (encode_ascii c small)) (f refl)
+  | inr wide ↦ wide_last (encode_utf8 c) (encode_wide c wide) (encode_some c)
+]
+
+end_last : (u : Bool) (own : List Item) → (u ≡ false → SeenLast own) → SeenLast (own ++ guard_items u)
+end_last true own f = last_behind own (guard_items true) refl
+end_last false own f = subst SeenLast (sym (append-nil own)) (f refl)
+
+content_last : (s : Setting) (before signs : List ContentSign) (own : List Item) → s.within ≡ false → s.place ≡ place.Heading → EndInSigns signs
+    → (is_guarded s before [] ≡ false → SeenLast own) → SeenLast (own ++ content_items s before signs)
+content_last s before [] own w p e f = end_last (is_guarded s before []) own f
+content_last s before (letter c ∷ after) own w p e f =
+    let t = is_escaped s.within s.place before c after in
+    let next : List Item = letter_items t c in
+    let more : List Item = content_items s (letter c ∷ before) after in
+    let guard : List Item = guard_items (is_guarded s before (letter c ∷ after)) in
+    last_behind own (guard ++ (next ++ more)) (last_behind guard (next ++ more)
+    (content_last s (letter c ∷ before) after next w p e (λ z. letter_last t c (λ y. end_by s before c w p z))))
+content_last s before (thing t ∷ after) own w p e f =
+    let next : List Item = page_items t.source in
+    let more : List Item = content_items s (thing t ∷ before) after in
+    let guard : List Item = guard_items (is_guarded s before (thing t ∷ after)) in
+    last_behind own (guard ++ (next ++ more)) (last_behind guard (next ++ more) (content_last s (thing t ∷ before) after next w p e.1 (λ z. e.0)))
+
+-- ---- the content
+
+pub heading_inside : (s : Setting) (signs : List ContentSign) → IsHeadingContent s signs → IsHeadingInside (page_items (spelled s signs))
+heading_inside s signs h =
+    let is = content_alone s signs h.flat.kept in
+    subst IsHeadingInside (sym is)
+    (record {
+      unbroken = content_none s [] signs h.one_line h.flat.unbroken;
+      begins = subst (λ xs. BeginsWithout is_blank (map sign xs)) (same_items s [] signs h.one_line)
+          (begins_seen (line_items s [] signs) (line_opens s [] signs h.flat.of_block refl refl h.flat.characters h.flat.nodes));
+      ends = content_last s [] signs [] h.flat.of_block h.of_heading (nodes_end signs h.flat.nodes)
+          (λ z. let no : true ≡ false = sym (end_guarded s [] h.flat.of_block refl) ∙ z in cc);
+    })
+
+-- ---- its level
+
+abbrev UnequalLast : List Item → Type 0
+UnequalLast xs = EndsWithout is_equals_sign (map sign xs)
+
+wide_unequal : (bs : List ℕ) → All IsWide bs → 0 < length bs → UnequalLast (page_chars bs)
+wide_unequal [] h some = absurd (omega (arith, some))
+wide_unequal (b ∷ []) h some = not_equals b (All-head IsWide b [] h)
+  where
+    not_equals : (b : ℕ) → 128 ≤ b → is_equals_sign b ≡ false
+    not_equals b le = grind (arith, nat_tests)
+wide_unequal (b ∷ c ∷ bs) h some = wide_unequal (c ∷ bs) (All-tail IsWide b (c ∷ bs) h) (omega arith)
+
+letter_unequal : (e : Bool) (c : ℕ) → (e ≡ false → is_equals_sign c ≡ false) → UnequalLast (letter_items e c)
+letter_unequal true c f = refl
+letter_unequal false c f = elim (cases_lt c 128) [
+  | inl small ↦ subst (λ bs. UnequalLast (page_chars bs)) (sym (encode_ascii c small)) (f refl)
+  | inr wide ↦ wide_unequal (encode_utf8 c) (encode_wide c wide) (encode_some c)
+]
+
+end_unequal : (u : Bool) (own : List Item) → UnequalLast own → UnequalLast (own ++ guard_items u)
+end_unequal true own h = ends_behind is_equals_sign own (guard_items true) refl
+end_unequal false own h = subst UnequalLast (sym (append-nil own)) h
+
+content_unequal : (s : Setting) (before : List ContentSign) (next : ContentSign) (after : List ContentSign) → AreNodes (next ∷ after)
+    → LastEndsUnequal (next ∷ after) → UnequalLast (content_items s before (next ∷ after))
+content_unequal s before (letter c) [] n e =
+    let t = is_escaped s.within s.place before c [] in
+    let guard : List Item = guard_items (is_guarded s before (letter c ∷ [])) in
+    let end : Bool = is_guarded s (letter c ∷ before) [] in
+    ends_behind is_equals_sign guard (letter_items t c ++ guard_items end)
+    (end_unequal end (letter_items t c) (letter_unequal t c (λ z. no_equals s.within s.place before c (is_equals_sign c) refl z)))
+content_unequal s before (letter c) (d ∷ after) n e =
+    let own : List Item = letter_items (is_escaped s.within s.place before c (d ∷ after)) c in
+    let guard : List Item = guard_items (is_guarded s before (letter c ∷ d ∷ after)) in
+    let more : List Item = content_items s (letter c ∷ before) (d ∷ after) in
+    ends_behind is_equals_sign guard (own ++ more) (ends_behind is_equals_sign own more (content_unequal s (letter c ∷ before) d after n e))
+content_unequal s before (thing t) [] n e =
+    let guard : List Item = guard_items (is_guarded s before (thing t ∷ [])) in
+    let end : Bool = is_guarded s (thing t ∷ before) [] in
+    ends_behind is_equals_sign guard (page_items t.source ++ guard_items end) (end_unequal end (page_items t.source) (ends_unequal t n.0 e))
+content_unequal s before (thing t) (d ∷ after) n e =
+    let guard : List Item = guard_items (is_guarded s before (thing t ∷ d ∷ after)) in
+    let more : List Item = content_items s (thing t ∷ before) (d ∷ after) in
+    ends_behind is_equals_sign guard (page_items t.source ++ more)
+    (ends_behind is_equals_sign (page_items t.source) more (content_unequal s (thing t ∷ before) d after n.1 e))
+
+all_unequal : (s : Setting) (signs : List ContentSign) → s.within ≡ false → AreNodes signs → LastEndsUnequal signs → UnequalLast (content_items s [] signs)
+all_unequal s [] w n e = subst (λ (u : Bool). UnequalLast (guard_items u)) (sym (end_guarded s [] w refl)) refl
+all_unequal s (next ∷ after) w n e = content_unequal s [] next after n e
+
+begins_unequal : (xs : List Item) → Opens xs → BeginsWithout is_equals_sign (map sign xs)
+begins_unequal [] h = h
+begins_unequal (x ∷ xs) h = grind (arith, nat_tests, h.equals)
+
+-- a blank parts them, or the content ends so
+unequal_end : (ss trail : List ℕ) → AreBlanks trail → IsSome trail ⊎ EndsWithout is_equals_sign ss → EndsWithout is_equals_sign (ss ++ trail)
+unequal_end ss [] a (inl h) = absurd h
+unequal_end ss [] a (inr h) = ends_other ss [] a h
+unequal_end ss (b ∷ bs) a h = ends_still ss b bs (ends_blank b bs a)
+
+pub content_level : (s : Setting) (signs : List ContentSign) (sides : Sides) → IsHeadingContent s signs → AreSides sides → KeepsLevel sides signs
+    → IsOfLevel sides (page_items (spelled s signs))
+content_level s signs sides h a k =
+    let own : List Item = page_items (spelled s signs) in
+    let is : own ≡ content_items s [] signs = content_alone s signs h.flat.kept in
+    let ss : List ℕ = map sign own in
+    let begins : BeginsWithout is_equals_sign ss =
+    subst (λ xs. BeginsWithout is_equals_sign (map sign xs)) (sym (is ∙ sym (same_items s [] signs h.one_line)))
+    (begins_unequal (line_items s [] signs) (line_opens s [] signs h.flat.of_block refl refl h.flat.characters h.flat.nodes)) in
+    let last : IsSome sides.trail ⊎ EndsWithout is_equals_sign ss = elim k [
+      | inl some ↦ inl some
+      | inr ends ↦ inr (subst UnequalLast (sym is) (all_unequal s signs h.flat.of_block h.flat.nodes ends))
+    ] in
+    apart_level sides own a (record {
+      first = begins_other sides.lead (ss ++ sides.trail) a.lead (begins_still ss sides.trail begins);
+      last = behind_other sides.lead (ss ++ sides.trail) (unequal_end ss sides.trail a.trail last);
+    })
+
+-- ---- what it is
+
+pub heading_parts : (s : Setting) (signs : List ContentSign) → IsHeadingContent s signs → line_parts (page_items (spelled s signs)) ≡ content_parts s [] signs
+heading_parts s signs h =
+    ap line_parts (content_alone s signs h.flat.kept ∙ sym (same_items s [] signs h.one_line))
+    ∙ line_parts_are s [] signs h.flat.nodes h.flat.flat h.flat.meet
+    ∙ same_parts s [] signs h.one_line
+
+pub heading_tree : (s : Setting) (signs : List ContentSign) (sides : Sides) → IsHeadingContent s signs → AreSides sides → IsOfLevel sides (page_items (spelled s signs))
+    → heading (heading_line sides (page_items (spelled s signs))) ≡ heading_of sides (content_parts s [] signs)
+heading_tree s signs sides h a p =
+    round_is sides (page_items (spelled s signs)) a (heading_inside s signs h) p ∙ ap (heading_of sides) (heading_parts s signs h)

@@ -1,0 +1,163 @@
+-- A content between other lines of a page: its lines are rows of text, and it is one paragraph, or a heading.
+use Rattle.std.proofs.Common.{◌≡◌, ℕ, true, None, List, [], ◌∷◌, ◌++◌, map, refl, sym, ap, ◌∙◌, subst, append-nil, All}
+use Rattle.std.proofs.lemmas.List.Elements.{All-nil, All-cons, All-head, All-tail}
+use Rattle.wt_tree.specs.declared.kind.Kind.TheVariants as kind
+use Rattle.wt_span.specs.Items.{Item, char}
+use Rattle.wt_span.specs.Runs.{AreRuns}
+use Rattle.wt_span.proofs.RunLaws.{runs_are, runs_only}
+use Rattle.wt_guards.specs.Content.{ContentSign}
+use Rattle.wt_guards.specs.Guards.{Setting, spelled}
+use Rattle.wt_expand.specs.PageItems.{page_items}
+use Rattle.wt_lines.specs.declared.kind.TheConstants.{MOST_TABLES}
+use Rattle.wt_lines.specs.Lines.{full_lines, content, empty_end, is_break_item, goes_on}
+use Rattle.wt_headings.specs.Lines.{ending}
+use Rattle.wt_inline.specs.declared.loose.Loose.TheVariants.{Sep}
+use Rattle.wt_inline.specs.ItemTree.{plain, ItemTree, inner, forest}
+use Rattle.wt_inline.specs.Parts.{node, parts, children}
+use Rattle.wt_page.specs.Rows.{Row, rows_from, rows, last_ending}
+use Rattle.wt_page.specs.Stretches.{stretches_parts}
+use Rattle.wt_page.specs.Texts.{para}
+use Rattle.wt_page.specs.Body.{blocks, body_parts, meaning}
+use Rattle.wt_rows.proofs.Portions.{no_parts, breaks_first}
+use Rattle.wt_text_edit_laws.specs.ParagraphBetween.{AreClosed, before_marks, EndsApart, EndsParagraph, blocks_in, body_with}
+use Rattle.wt_text_edit_laws.specs.TypedHeadings.{Sides, AreSides, heading_line, IsOfLevel, EndsLine}
+use Rattle.wt_text_edit_laws.proofs.Headings.HeadingRows.{round_stands}
+use Rattle.wt_text_edit_laws.proofs.Paragraphs.Apart.{BeginsText, after_text}
+use Rattle.wt_text_edit_laws.proofs.Paragraphs.Standing.{parts_in, parts_before, round_node, body_is}
+use Rattle.wt_text_edit_laws.proofs.Prose.ProseLines.{ended, first_ended, rest_ended, ended_runs, content_ended}
+use Rattle.wt_text_edit_laws.proofs.Prose.ProseBlocks.{para_ended, last_ended, last_unended}
+use Rattle.wt_text_edit_laws.proofs.Texts.PlainRows.{text_row, within_are, last_break}
+use Rattle.wt_beside_laws.specs.Flat.{IsFlatContent, content_parts, para_with}
+use Rattle.wt_beside_laws.specs.InHeadings.{IsHeadingContent, heading_of}
+use Rattle.wt_beside_laws.specs.Lines.{IsLineOfText}
+use Rattle.wt_beside_laws.proofs.LineHeadings.{heading_inside, heading_parts}
+use Rattle.wt_beside_laws.proofs.LineParagraphs.{rows_text, last_none, flat_paragraph, para_by}
+
+abbrev break : Item
+break = char None 10
+
+-- ---- its lines
+
+record ContentLines (xs : List Item) (t : ItemTree) : Type 0 where
+  first : List Item
+  others : List (List Item)
+  are : full_lines xs ≡ first ∷ others
+  text : (n : ℕ) → All (IsLineOfText n) (map content (first ∷ others))
+  unended : last_break (ending first) others ≡ []
+  makes : para (map text_row (first ∷ others)) ≡ t
+
+abbrev one_empty : List (List Item)
+one_empty = [] ∷ []
+
+lines_by : (xs : List Item) (t : ItemTree) (ls : List (List Item)) → full_lines xs ≡ ls → AreRuns goes_on ls xs → empty_end xs ≡ []
+    → ((n : ℕ) → All (IsLineOfText n) (map content ls)) → para (map text_row ls) ≡ t → ContentLines xs t
+lines_by xs t [] i r e a p = let no : one_empty ≡ [] = sym (ap empty_end r) ∙ e in cc
+lines_by xs t (l ∷ ls) i r e a p =
+    record { first = l; others = ls; are = i; text = a; unended = sym (last_unended l ls) ∙ last_none l ls xs r e; makes = p }
+
+lines_of : (s : Setting) (signs : List ContentSign) → IsFlatContent s signs → ContentLines (page_items (spelled s signs)) (para_with (content_parts s [] signs))
+lines_of s signs h =
+    let xs : List Item = page_items (spelled s signs) in
+    let p = flat_paragraph s signs h in
+    lines_by xs (para_with (content_parts s [] signs)) (full_lines xs) refl (runs_are goes_on xs) p.closed p.text
+    (para_by (map text_row (full_lines xs)) (content_parts s [] signs) p.parts)
+
+-- with a line break behind the last
+ended_all : (n : ℕ) (l : List Item) (ls : List (List Item)) → All (IsLineOfText n) (map content (l ∷ ls)) → last_break (ending l) ls ≡ []
+    → All (IsLineOfText n) (map content (ended l ls))
+ended_all n l [] h e =
+    let P : List Item → Type 0 = IsLineOfText n in
+    All-cons P (content (l ++ break ∷ [])) [] (subst P (sym (content_ended l e)) (All-head P (content l) [] h)) (All-nil P)
+ended_all n l (m ∷ ls) h e =
+    let P : List Item → Type 0 = IsLineOfText n in
+    All-cons P (content l) (map content (ended m ls)) (All-head P (content l) (map content (m ∷ ls)) h)
+    (ended_all n m ls (All-tail P (content l) (map content (m ∷ ls)) h) e)
+
+-- ---- their rows, where so many tables are open
+
+rows_last : (n : ℕ) (xs : List Item) (t : ItemTree) (c : ContentLines xs t)
+    → rows_from n (full_lines xs) ≡ map text_row (c.first ∷ c.others) ++ rows_from n []
+rows_last n xs t c = ap (rows_from n) (c.are ∙ sym (append-nil (c.first ∷ c.others))) ∙ rows_text n (c.first ∷ c.others) [] (c.text n)
+
+rows_then : (n : ℕ) (xs ys : List Item) (t : ItemTree) (c : ContentLines xs t)
+    → rows_from n (full_lines (xs ++ break ∷ ys)) ≡ map text_row (ended c.first c.others) ++ rows_from n (full_lines ys)
+rows_then n xs ys t c =
+    let are : AreRuns goes_on (c.first ∷ c.others) xs = subst (λ ms. AreRuns goes_on ms xs) c.are (runs_are goes_on xs) in
+    let cut : full_lines (xs ++ break ∷ ys) ≡ ended c.first c.others ++ full_lines ys =
+    sym (runs_only goes_on (ended c.first c.others ++ full_lines ys) (xs ++ break ∷ ys) (ended_runs c.first c.others xs ys are c.unended)) in
+    ap (rows_from n) cut ∙ rows_text n (ended c.first c.others) (full_lines ys) (ended_all n c.first c.others (c.text n) c.unended)
+
+unbroken_rows : (xs : List Item) (t : ItemTree) (c : ContentLines xs t) → rows (xs ++ []) ≡ map text_row (c.first ∷ c.others)
+unfolding rows
+unbroken_rows xs t c =
+    ap (λ zs. rows_from 0 (full_lines zs)) (append-nil xs) ∙ rows_last 0 xs t c ∙ append-nil (map text_row (c.first ∷ c.others))
+
+ended_rows : (xs ys : List Item) (t : ItemTree) (c : ContentLines xs t) → rows (xs ++ break ∷ ys) ≡ map text_row (ended c.first c.others) ++ rows ys
+unfolding rows
+ended_rows xs ys t c = rows_then 0 xs ys t c
+
+begins_text : (xs tail : List Item) (t : ItemTree) → ContentLines xs t → EndsParagraph tail → BeginsText (rows (xs ++ tail))
+begins_text xs [] t c e = subst BeginsText (sym (unbroken_rows xs t c)) refl
+begins_text xs (y ∷ ys) t c e = subst (λ z. BeginsText (rows (xs ++ z ∷ ys))) (sym e.0) (subst BeginsText (sym (ended_rows xs ys t c)) refl)
+
+-- ---- the paragraph
+
+-- rows of text, and what ends the last
+text_parts : (l : List Item) (ls : List (List Item))
+    → body_parts (map text_row (l ∷ ls)) ≡ node (para (map text_row (l ∷ ls))) ∷ parts Sep (last_ending (map text_row (l ∷ ls)))
+unfolding blocks
+text_parts l ls =
+    let rs : List Row = map text_row (l ∷ ls) in
+    ap stretches_parts (within_are MOST_TABLES l ls) ∙ ap (λ ps. node (para rs) ∷ ps) (append-nil (parts Sep (last_ending rs)))
+
+ended_para : (xs : List Item) (t : ItemTree) (c : ContentLines xs t) → para (map text_row (ended c.first c.others)) ≡ t
+unfolding para
+ended_para xs t c =
+    ap (λ ps. inner (plain kind.Para) [] (forest (children ps)) []) (para_ended c.first c.others c.unended) ∙ c.makes
+
+break_by : (y : Item) → y ≡ break → is_break_item y ≡ true
+break_by y e = subst (λ z. is_break_item z ≡ true) (sym e) refl
+
+stands_parts : (xs tail : List Item) (t : ItemTree) → ContentLines xs t → EndsParagraph tail → parts_in (xs ++ tail) ≡ node t ∷ parts_in tail
+stands_parts xs [] t c e =
+    let rs : List Row = map text_row (c.first ∷ c.others) in
+    ap body_parts (unbroken_rows xs t c)
+    ∙ text_parts c.first c.others
+    ∙ ap (λ u. node u ∷ parts Sep (last_ending rs)) c.makes
+    ∙ ap (λ zs. node t ∷ parts Sep zs) (last_unended c.first c.others ∙ c.unended)
+    ∙ ap (λ ps. node t ∷ ps) (sym no_parts)
+stands_parts xs (y ∷ ys) t c e =
+    let rs : List Row = map text_row (ended c.first c.others) in
+    let own : body_parts rs ≡ node t ∷ parts Sep (break ∷ []) =
+    text_parts (first_ended c.first c.others) (rest_ended c.first c.others)
+    ∙ ap (λ u. node u ∷ parts Sep (last_ending rs)) (ended_para xs t c)
+    ∙ ap (λ zs. node t ∷ parts Sep zs) (last_ended c.first c.others) in
+    ap (λ z. parts_in (xs ++ z ∷ ys)) e.0
+    ∙ ap body_parts (ended_rows xs ys t c)
+    ∙ after_text (first_ended c.first c.others) (rest_ended c.first c.others) (rows ys) e.1
+    ∙ ap (λ ps. ps ++ parts_in ys) own
+    ∙ ap (λ z. node t ∷ (parts Sep (z ∷ []) ++ parts_in ys)) (sym e.0)
+    ∙ ap (λ ps. node t ∷ ps) (sym (breaks_first (y ∷ []) ys (break_by y e.0, tt)))
+
+-- ---- between other lines
+
+stands_so : (before own tail : List Item) (t : ItemTree) → EndsApart before → ContentLines own t → EndsParagraph tail
+    → meaning (before ++ (own ++ tail)) ≡ body_with (blocks_in before ++ t ∷ blocks_in tail)
+stands_so before own tail t a c e =
+    let all : parts_in (before ++ (own ++ tail)) ≡ parts_in before ++ node t ∷ parts_in tail =
+    parts_before before (own ++ tail) a (begins_text own tail t c e) ∙ ap (λ ps. parts_in before ++ ps) (stands_parts own tail t c e) in
+    body_is (before ++ (own ++ tail)) (parts_in before ++ node t ∷ parts_in tail) all ∙ ap body_with (round_node t (parts_in before) (parts_in tail))
+
+pub paragraph_stands : (before : List Item) (s : Setting) (signs : List ContentSign) (tail : List Item) → EndsApart before → IsFlatContent s signs
+    → EndsParagraph tail
+    → meaning (before ++ (page_items (spelled s signs) ++ tail)) ≡ body_with (blocks_in before ++ para_with (content_parts s [] signs) ∷ blocks_in tail)
+paragraph_stands before s signs tail a h e =
+    stands_so before (page_items (spelled s signs)) tail (para_with (content_parts s [] signs)) a (lines_of s signs h) e
+
+pub heading_stands : (before : List Item) (s : Setting) (signs : List ContentSign) (sides : Sides) (tail : List Item) → AreClosed (before_marks before)
+    → AreSides sides → IsHeadingContent s signs → IsOfLevel sides (page_items (spelled s signs)) → EndsLine tail
+    → meaning (before ++ (heading_line sides (page_items (spelled s signs)) ++ tail))
+    ≡ body_with (blocks_in before ++ heading_of sides (content_parts s [] signs) ∷ blocks_in tail)
+heading_stands before s signs sides tail c a h p e =
+    round_stands before sides (page_items (spelled s signs)) tail c a (heading_inside s signs h) p e
+    ∙ ap (λ ps. body_with (blocks_in before ++ heading_of sides ps ∷ blocks_in tail)) (heading_parts s signs h)

@@ -1,0 +1,56 @@
+-- The tree of a page with calls is settled, and so it is given by its nodes with the blocks among them.
+use Rattle.std.proofs.Common.{◌≡◌, ℕ, List, ap, ap₂, ◌∙◌}
+use Rattle.wt_span.specs.Origins.{Expanded}
+use Rattle.wt_expand.specs.PageCalls.{expanded_page}
+use Rattle.wt_expand.specs.Work.{Pages}
+use Rattle.wt_tree.specs.Tree.{Label, Tree, tree, Trees, label}
+use Rattle.wt_sections.specs.Sections.{with_sections}
+use Rattle.wt_inline.specs.ItemTree.{forest}
+use Rattle.wt_inline.specs.Parts.{children as parts_children}
+use Rattle.wt_page.specs.Body.{meaning, body_parts}
+use Rattle.wt_page.specs.Rows.{rows}
+use Rattle.wt_annotated.specs.GroupData.{group_data}
+use Rattle.wt_checks.specs.Kept.{children}
+use Rattle.wt_moved_laws.specs.Placeless.{placeless, all_placeless}
+use Rattle.wt_text_edit_laws.specs.BlockSpots.{BlockSpot, spots_source}
+use Rattle.wt_called_parts.specs.Retyped.{AreRetyped}
+use Rattle.wt_called_trees.specs.Rounded.{body_label}
+use Rattle.wt_called_trees.specs.TreeFrames.{all_filled}
+use Rattle.wt_called_edit_laws.specs.Nodes.{block_at}
+use Rattle.wt_cell_edit_laws.specs.CalledBlocks.{tree_by}
+use Rattle.wt_called_edit_laws.specs.CalledPages.{IsCalledPage}
+use Rattle.wt_called_edit_laws.specs.Groups.{called_tree, GroupsStayAmong}
+use Rattle.wt_called_edit_laws.proofs.GroupsAmong.{groups_among}
+use Rattle.wt_called_edit_laws.proofs.EditFacts.{IsFramedPage, framed_page}
+use Rattle.wt_called_edit_laws.specs.Settled.{page_settled, IsSettled}
+use Rattle.wt_called_edit_laws.specs.SettledPages.{OnlyTextsAreOthers}
+use Rattle.wt_called_edit_laws.proofs.Settles.{settled_tree}
+
+pub called_settled : (pages : Pages) (page : List ℕ) → IsSettled (called_tree pages page)
+unfolding meaning
+called_settled pages page =
+    let e : Expanded = expanded_page pages page in
+    settled_tree e.outer (group_data e.outer) (forest (parts_children (body_parts (rows e.items))))
+
+-- a tree by its label and what it holds, without numbers and places
+placeless_is : (t : Tree) (l : Label) (us : Trees) → label (placeless t) ≡ l → all_placeless (children t) ≡ us → placeless t ≡ tree l us
+placeless_is (tree k ts) l us e f = ap₂ tree e f
+
+label_is : (pages : Pages) (ss rs : List BlockSpot) (behind : List ℕ) (g : GroupsStayAmong pages ss behind) → AreRetyped ss rs
+    → label (placeless (called_tree pages (spots_source rs behind))) ≡ body_label
+label_is pages ss rs behind g t = ap label (g.stay rs t)
+
+by_nodes : (pages : Pages) (ss : List BlockSpot) (behind : List ℕ) → IsFramedPage pages ss behind → IsCalledPage pages ss behind → OnlyTextsAreOthers pages ss behind
+by_nodes pages ss behind f h = record {
+  nodes = f.nodes;
+  in_order = f.in_order;
+  trees = λ rs t.
+      ap with_sections
+      (called_settled pages (spots_source rs behind)
+      ∙ ap page_settled
+      (placeless_is (called_tree pages (spots_source rs behind)) body_label (all_filled (block_at (tree_by rs)) f.nodes)
+      (label_is pages ss rs behind (groups_among pages ss behind h.outside) t) (f.stay rs t)));
+}
+
+pub only_texts : (pages : Pages) (ss : List BlockSpot) (behind : List ℕ) → IsCalledPage pages ss behind → OnlyTextsAreOthers pages ss behind
+only_texts pages ss behind h = by_nodes pages ss behind (framed_page pages ss behind h) h

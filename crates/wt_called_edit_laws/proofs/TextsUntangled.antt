@@ -1,0 +1,144 @@
+-- No block in which a text is typed is tangled: each is at the place in the page that its nodes say.
+use Rattle.std.proofs.Common.{arith, ◌≡◌, ℕ, suc, ◌+◌, false, Option, Some, None, List, [], ◌∷◌, ◌++◌, length, map, refl, sym, ap, ap₂, ◌∙◌, subst, append-nil, length-append}
+use Rattle.wt_tree.specs.Source.{flat}
+use Rattle.wt_tree.specs.Tree.{Label, Tree, tree, Trees, label}
+use Rattle.wt_span.specs.Items.{sources}
+use Rattle.wt_span.specs.Origins.{Expanded}
+use Rattle.wt_inline.specs.ItemTree.{ItemTree, tree_items}
+use Rattle.wt_moved_laws.specs.Placeless.{placeless_label, placeless, all_placeless}
+use Rattle.wt_moved_laws.specs.Standing.{standing}
+use Rattle.wt_selser.specs.Edits.{is_tangled}
+use Rattle.wt_typed_blocks.specs.Sent.{Block, paragraph, heading, kind_of, Sent, stands, typed, holds, Sents, none_sent, more_sent, old_child, old_children}
+use Rattle.wt_typed_blocks.specs.Typed.{block_source, old_source, StandsAt, StandAt, IsUntangled, AreUntangled}
+use Rattle.wt_text_edit_laws.specs.BlockSpots.{BlockSpot, AreBlocks}
+use Rattle.wt_text_edit_laws.specs.TextBlocks.{source_of, block_tree}
+use Rattle.wt_cell_edit_laws.specs.CalledBlocks.{tree_by, counted}
+use Rattle.wt_cell_edit_laws.proofs.ManyFacts.{old_flat}
+use Rattle.wt_cell_edit_laws.proofs.Nodes.{same_label, same_inside}
+use Rattle.wt_cell_edit_laws.proofs.Paths.{same_first, same_rest}
+use Rattle.wt_cell_edit_laws.proofs.PlaceGaps.{Gaps, last_gap, then_gap, put_before, numbers_in, source_at, AreSame, AtPlaces, at_before}
+use Rattle.wt_cell_edit_laws.proofs.PlaceGaps.{block_source as source_is}
+use Rattle.wt_called_trees.specs.TreeFrames.{TreeFrame, spot, kept, holder, TreeFrames, no_nodes, more_nodes, filled, all_filled}
+use Rattle.wt_called_edit_laws.specs.Untangled.{AreUntangledFrom}
+use Rattle.wt_called_edit_laws.specs.Nodes.{block_at, NoLeaves, NoneLeaves}
+use Rattle.wt_called_edit_laws.specs.Sends.{BlockSent, Sends, AllSend}
+use Rattle.wt_called_edit_laws.proofs.TextsMake.{flat_same}
+use Rattle.wt_called_edit_laws.proofs.NodeGaps.{gap_of, gaps_in, page_gaps, spot_source, past_node}
+
+-- ---- a block at its place
+
+-- A node that is the block with this number, behind so many bytes of the page, isn't tangled.
+abbrev IsFree : Expanded → List ℕ → (ℕ → ItemTree) → List ℕ → ℕ → Type 0
+IsFree items page t front n =
+    (u : Tree) (first last : ℕ) → placeless u ≡ block_at t n
+    → (label u).ranges ≡ Some (record { start = length front; end = length front + length (source_at t n); open_w = first; close_w = last })
+    → is_tangled items page u ≡ false
+
+block_flat : (j : Block) (l : Label) (us : Trees) → block_source l us ≡ flat (tree (record l { kind = kind_of j }) us)
+block_flat paragraph l us = refl
+block_flat (heading n) l us = refl
+
+spot_untangled : (items : Expanded) (page : List ℕ) (t : ℕ → ItemTree) (front : List ℕ) (n : ℕ) (v : Option (List ℕ)) (s : Sent) → IsFree items page t front n
+    → BlockSent v s → placeless (old_child s) ≡ block_at t n → StandsAt (length front) s → IsUntangled items page s
+spot_untangled items page t front n None (stands x u) f w e at = tt
+spot_untangled items page t front n None (typed j l us m x cs) f w e at = absurd w
+spot_untangled items page t front n None (holds l m ss) f w e at = absurd w
+spot_untangled items page t front n (Some text) (stands x u) f w e at = absurd w
+spot_untangled items page t front n (Some text) (typed j l us m x cs) f w e at =
+    let u : Tree = old_child (typed j l us m x cs) in
+    let size : length (block_source l us) ≡ length (source_at t n) =
+    ap length (block_flat j l us ∙ sym (flat_same u) ∙ ap flat e ∙ spot_source t n) in
+    f u (length l.opening) (length l.closing) e
+    (at ∙ ap (λ (k : ℕ). Some (record { start = length front; end = length front + k; open_w = length l.opening; close_w = length l.closing })) size)
+spot_untangled items page t front n (Some text) (holds l m ss) f w e at = absurd w
+
+-- ---- of all nodes
+
+abbrev AreFree : Expanded → List ℕ → (ℕ → ItemTree) → List ℕ → Gaps → Type 0
+AreFree items page t front z = AtPlaces (IsFree items page t) t front z
+
+mutual
+  node_untangled : (items : Expanded) (page : List ℕ) (t : ℕ → ItemTree) (o : ℕ → Option (List ℕ)) (front : List ℕ) (f : TreeFrame) (z : Gaps) (s : Sent)
+      → NoLeaves f → Sends o f s → placeless (old_child s) ≡ filled (block_at t) f → StandsAt (length front) s → AreFree items page t front (gap_of f z)
+      → IsUntangled items page s
+  node_untangled items page t o front (spot n) z s w p e at h =
+      spot_untangled items page t front n (o n) s (subst (λ (bs : List ℕ). IsFree items page t bs n) (append-nil front) h.0) p e at
+  node_untangled items page t o front (kept u) z (stands x v) w p e at h = tt
+  node_untangled items page t o front (kept u) z (typed j l us m x cs) w p e at h = absurd p
+  node_untangled items page t o front (kept u) z (holds l m ss) w p e at h = absurd p
+  node_untangled items page t o front (holder l gs) z (stands x v) w p e at h = tt
+  node_untangled items page t o front (holder l gs) z (typed j k us m x cs) w p e at h = absurd p
+  node_untangled items page t o front (holder l gs) z (holds k m ss) w p e at h =
+      let us : Trees = old_children ss in
+      let label_is : placeless_label k ≡ l = same_label (placeless_label k) l (all_placeless us) (all_filled (block_at t) gs) e in
+      let size : length k.opening ≡ length l.opening = ap (λ (x : Label). length x.opening) label_is in
+      let both : length (front ++ l.opening) ≡ length front + length l.opening = length-append front l.opening in
+      let place : length front + length k.opening ≡ length (front ++ l.opening) = omega (arith, size, both) in
+      all_untangled items page t o (front ++ l.opening) gs (put_before l.closing z) ss w.1 p
+      (same_inside (placeless_label k) l (all_placeless us) (all_filled (block_at t) gs) e)
+      (subst (λ (i : ℕ). StandAt i ss) place at.1) (at_before (IsFree items page t) t front l.opening (gaps_in gs (put_before l.closing z)) h)
+
+  all_untangled : (items : Expanded) (page : List ℕ) (t : ℕ → ItemTree) (o : ℕ → Option (List ℕ)) (front : List ℕ) (fs : TreeFrames) (z : Gaps) (es : Sents)
+      → NoneLeaves fs → AllSend o fs es → all_placeless (old_children es) ≡ all_filled (block_at t) fs → StandAt (length front) es
+      → AreFree items page t front (gaps_in fs z) → AreUntangled items page es
+  all_untangled items page t o front no_nodes z none_sent w p e at h = tt
+  all_untangled items page t o front no_nodes z (more_sent s ss) w p e at h = absurd p
+  all_untangled items page t o front (more_nodes f fs) z none_sent w p e at h = absurd p
+  all_untangled items page t o front (more_nodes f fs) z (more_sent s ss) w p e at h =
+      let own : List ℕ = flat (filled (block_at t) f) in
+      let first : placeless (old_child s) ≡ filled (block_at t) f =
+      same_first (placeless (old_child s)) (filled (block_at t) f) (all_placeless (old_children ss)) (all_filled (block_at t) fs) e in
+      let size : length (old_source s) ≡ length own = ap length (old_flat (length front) s at.0 ∙ sym (flat_same (old_child s)) ∙ ap flat first) in
+      let both : length (front ++ own) ≡ length front + length own = length-append front own in
+      let place : length front + length (old_source s) ≡ length (front ++ own) = omega (arith, size, both) in (
+        node_untangled items page t o front f (gaps_in fs z) s w.0 p.0 first at.0 h,
+        all_untangled items page t o (front ++ own) fs z ss w.1 p.1
+            (same_rest (placeless (old_child s)) (filled (block_at t) f) (all_placeless (old_children ss)) (all_filled (block_at t) fs) e)
+            (subst (λ (i : ℕ). StandAt i ss) place at.1) (past_node (IsFree items page t) t front f (gaps_in fs z) w.0 h),
+      )
+
+-- ---- the places of the page's blocks
+
+abbrev AreThere : (ℕ → ItemTree) → List ℕ → List BlockSpot → Type 0
+AreThere t [] ss = Unit {0}
+AreThere t (n ∷ ns) [] = ⊥
+AreThere t (n ∷ ns) (s ∷ ss) = (t n ≡ block_tree s.block s.text) × AreThere t ns ss
+
+there_moved : (t : ℕ → ItemTree) (ns : List ℕ) (ss : List BlockSpot) → AreThere (λ n. t (suc n)) ns ss → AreThere t (map suc ns) ss
+there_moved t [] ss h = tt
+there_moved t (n ∷ ns) [] h = h
+there_moved t (n ∷ ns) (s ∷ ss) h = (h.0, there_moved t ns ss h.1)
+
+all_there : (ss : List BlockSpot) → AreThere (tree_by ss) (counted ss) ss
+all_there [] = tt
+all_there (s ∷ ss) = (refl, there_moved (tree_by (s ∷ ss)) (counted ss) ss (all_there ss))
+
+free_places : (items : Expanded) (page : List ℕ) (t : ℕ → ItemTree) (front : List ℕ) (g : Gaps) (ss : List BlockSpot) (at : ℕ) → at ≡ length front → AreSame g ss
+    → AreBlocks ss → AreThere t (numbers_in g) ss → AreUntangledFrom items page at ss → AreFree items page t front g
+free_places items page t front (last_gap xs) ss at i m b a u = tt
+free_places items page t front (then_gap xs n g) [] at i m b a u = absurd m
+free_places items page t front (then_gap xs n g) (s ∷ ss) at i m b a u =
+    let here : List ℕ = front ++ xs in
+    let own : List ℕ = source_at t n in
+    let own_is : own ≡ source_of s.block s.text = ap (λ x. sources (tree_items x)) a.0 ∙ source_is s.block s.text b.0 in
+    let first : length s.before ≡ length xs = ap length (sym m.0) in
+    let size : length (source_of s.block s.text) ≡ length own = ap length (sym own_is) in
+    let one : length here ≡ length front + length xs = length-append front xs in
+    let two : length (here ++ own) ≡ length here + length own = length-append here own in
+    let start : at + length s.before ≡ length here = omega (arith, i, first, one) in
+    let end : (at + length s.before) + length (source_of s.block s.text) ≡ length here + length own = omega (arith, start, size) in
+    let behind : (at + length s.before) + length (source_of s.block s.text) ≡ length (here ++ own) = omega (arith, end, two) in (
+      λ x first_w last_w same ranges.
+          u.0 x first_w last_w (same ∙ ap (λ b. placeless (standing 0 [] b)) a.0)
+          (ranges ∙ ap₂ (λ (i j : ℕ). Some (record { start = i; end = j; open_w = first_w; close_w = last_w })) (sym start) (sym end)),
+      free_places items page t (here ++ own) g ss ((at + length s.before) + length (source_of s.block s.text)) behind m.1 b.1 a.1 u.1,
+    )
+
+-- ---- what is sent for a page
+
+pub edit_untangled : (items : Expanded) (page : List ℕ) (o : ℕ → Option (List ℕ)) (ss : List BlockSpot) (fs : TreeFrames) (es : Sents) → NoneLeaves fs
+    → AreSame (page_gaps fs) ss → numbers_in (page_gaps fs) ≡ counted ss → AreBlocks ss → AreUntangledFrom items page 0 ss
+    → AllSend o fs es → all_placeless (old_children es) ≡ all_filled (block_at (tree_by ss)) fs → StandAt 0 es → AreUntangled items page es
+edit_untangled items page o ss fs es w m n b u p e at =
+    all_untangled items page (tree_by ss) o [] fs (last_gap []) es w p e at
+    (free_places items page (tree_by ss) [] (page_gaps fs) ss 0 refl m b (subst (λ (ns : List ℕ). AreThere (tree_by ss) ns ss) (sym n) (all_there ss)) u)

@@ -1,0 +1,76 @@
+-- Which bytes of a page a group of its tree covers, and the bytes at which places of a page are.
+use Rattle.std.specs.Prelude.{◌⊎◌, ◌≤◌, ◌<◌, ℕ, ◌+◌, Bool, true, false, Option, Some, None, List, [], ◌∷◌, length}
+use Rattle.wt_tree.specs.declared.kind.Ranges.{Ranges}
+use Rattle.wt_tree.specs.Tiling.{is_group}
+use Rattle.wt_tree.specs.Tree.{Tree, tree, Trees, none, more}
+use Rattle.wt_span.specs.Items.{sources}
+use Rattle.wt_span.specs.Origins.{OuterCall}
+use Rattle.wt_inline.specs.ItemTree.{ItemTree, tree_items}
+use Rattle.wt_annotated.specs.GroupData.{group_data}
+use Rattle.wt_annotated.specs.Seams.{last_of, text_from}
+use Rattle.wt_annotated.specs.Walked.{walked}
+use Rattle.wt_row_laws.specs.Frames.{Frame, place, whole, around, Frames, no_frames, more_frames, tree_at, trees_at, all_places, content, AreFrames}
+use Rattle.wt_called_trees.specs.Rounded.{AreOwn, AreClean, body_of}
+
+-- ---- groups
+
+-- a node with these ranges doesn't have this byte of the page
+abbrev pub IsBeside : ℕ → Option Ranges → Type 0
+IsBeside b None = Unit {0}
+IsBeside b (Some r) = (b < r.start) ⊎ (r.end ≤ b)
+
+abbrev pub IfGroup : Bool → Type 0 → Type 0 → Type 0
+IfGroup true A B = A
+IfGroup false A B = B
+
+-- no group of the tree has this byte
+abbrev mutual
+  pub NoGroupAt : ℕ → Tree → Type 0
+  NoGroupAt b (tree l ts) = IfGroup (is_group l.kind) (IsBeside b l.ranges) (NoneGroupAt b ts)
+
+  pub NoneGroupAt : ℕ → Trees → Type 0
+  NoneGroupAt b none = Unit {0}
+  NoneGroupAt b (more t ts) = NoGroupAt b t × NoneGroupAt b ts
+
+-- ---- places
+
+-- what holds of the byte at which each place is, where the first node begins at this byte, behind an item of this call
+abbrev mutual
+  pub AtPlace : (ℕ → Type 0) → List OuterCall → (ℕ → ItemTree) → Option ℕ → ℕ → Frame → Type 0
+  AtPlace P calls t o at (place n) = P at
+  AtPlace P calls t o at (whole u) = Unit {0}
+  AtPlace P calls t o at (around h q gs c) = AtPlaces P calls t (last_of o q) (at + length (text_from calls o q)) gs
+
+  pub AtPlaces : (ℕ → Type 0) → List OuterCall → (ℕ → ItemTree) → Option ℕ → ℕ → Frames → Type 0
+  AtPlaces P calls t o at no_frames = Unit {0}
+  AtPlaces P calls t o at (more_frames f fs) =
+      AtPlace P calls t o at f
+      × AtPlaces P calls t (last_of o (tree_items (tree_at t f))) (at + length (text_from calls o (tree_items (tree_at t f)))) fs
+
+-- at each of these places is something of the page
+abbrev pub HaveBytes : (ℕ → ItemTree) → List ℕ → Type 0
+HaveBytes t [] = Unit {0}
+HaveBytes t (n ∷ ns) = (0 < length (sources (tree_items (t n)))) × HaveBytes t ns
+
+abbrev pub HasAny : List ℕ → Type 0
+HasAny [] = ⊥
+HasAny (n ∷ ns) = Unit {0}
+
+-- each node round places holds one
+abbrev mutual
+  pub HoldsPlace : Frame → Type 0
+  HoldsPlace (place n) = Unit {0}
+  HoldsPlace (whole u) = Unit {0}
+  HoldsPlace (around h q gs c) = HasAny (all_places gs) × HoldPlaces gs
+
+  pub HoldPlaces : Frames → Type 0
+  HoldPlaces no_frames = Unit {0}
+  HoldPlaces (more_frames f fs) = HoldsPlace f × HoldPlaces fs
+
+-- ---- the page
+
+-- Where no group of the page's tree has the first byte of a block, each node round the blocks is clean.
+abbrev pub CleanWhereFree : List OuterCall → Frames → (ℕ → ItemTree) → Type 0
+CleanWhereFree calls fs t =
+    AreFrames fs content → HoldPlaces fs → AreOwn t (all_places fs) → HaveBytes t (all_places fs)
+    → AtPlaces (λ b. NoGroupAt b (walked calls (group_data calls) None 0 None (body_of (trees_at t fs)))) calls t None 0 fs → AreClean t None fs None

@@ -1,0 +1,21 @@
+-- The trees of a page with calls, whatever texts are typed in its paragraphs and headings.
+use Rattle.std.specs.Prelude.{◌≡◌, ℕ, List}
+use Rattle.wt_expand.specs.Work.{Pages}
+use Rattle.wt_tree.specs.Tree.{tree}
+use Rattle.wt_sections.specs.Sections.{with_sections}
+use Rattle.wt_page_round_trip.specs.PageTree.{page_tree}
+use Rattle.wt_text_edit_laws.specs.BlockSpots.{BlockSpot, spots_source}
+use Rattle.wt_called_parts.specs.Retyped.{AreRetyped}
+use Rattle.wt_called_trees.specs.Rounded.{body_label}
+use Rattle.wt_called_trees.specs.TreeFrames.{TreeFrames, all_filled, spots}
+use Rattle.wt_called_edit_laws.specs.Nodes.{block_at}
+use Rattle.wt_cell_edit_laws.specs.CalledBlocks.{tree_by, counted}
+use Rattle.wt_called_edit_laws.specs.Settled.{page_settled}
+
+-- Nothing but these blocks is another one: the tree is that of the same nodes with the blocks at their places, its numbers and places counted
+-- anew, in its sections.
+pub record OnlyTextsAreOthers (pages : Pages) (ss : List BlockSpot) (behind : List ℕ) : Type 0 where
+  pub nodes : TreeFrames
+  pub in_order : spots nodes ≡ counted ss
+  pub trees : (rs : List BlockSpot) → AreRetyped ss rs
+      → page_tree pages (spots_source rs behind) ≡ with_sections (page_settled (tree body_label (all_filled (block_at (tree_by rs)) nodes)))

@@ -1,5 +1,0 @@
-pub mod CutFrames
-pub mod TextsMake
-pub mod TilesStand
-pub mod PathsSend
-pub mod Cases

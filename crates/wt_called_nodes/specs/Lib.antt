@@ -1,4 +1,0 @@
-pub mod Nodes
-pub mod Sends
-pub mod Stand
-pub mod PathsTo

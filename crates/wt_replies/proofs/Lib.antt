@@ -1,0 +1,4 @@
+mod Cases
+mod IndexLaws
+mod RunLaws
+mod RunCases

@@ -1,0 +1,6 @@
+pub mod Indexes
+pub mod Replies
+pub mod ReplyView
+pub mod Runs
+pub mod Tables
+pub mod Words

@@ -1,6 +1,0 @@
-use Rattle.std.proofs.Common.{◌≡◌, take}
-use Rattle.wtround_c.specs.Words.{words_of}
-use Rattle.wtround_c.proofs.words.words_of.Given as goal
-
-abbrev pub invariant-loop-word : goal.invariant-loop-word
-invariant-loop-word l = l.texts ≡ words_of (take l.word-index l.words)
