@@ -39,7 +39,6 @@ use Rattle.wt_tiles.specs.Tiles.{size, Cut, chars as run, closed, pair_or_island
 use Rattle.wt_tiles.specs.Urls.{bare_url_at}
 use Rattle.wt_tiles.proofs.Joining.{tiles_are}
 use Rattle.wt_tiles.proofs.TagInsides.{no_tag}
-use Rattle.wt_inline.specs.Parts.{parts}
 use Rattle.wt_context.specs.Line.{context_parts}
 use Rattle.wt_context.specs.Nodes.{segments}
 use Rattle.wt_context.specs.RunCuts.{has_run}
