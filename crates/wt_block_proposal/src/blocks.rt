@@ -540,7 +540,22 @@ fn push_items(
     Ok(())
 }
 
+/// Whether a row that holds cells has no sign of its own in the page, as the first one of a table may.
+fn stands_without_sign(known: &Known<'_, '_>, row: &Node<'_>) -> bool {
+    match original(known.index, row.id) {
+        Some(visit) => {
+            row.id != 0
+                && matches!(row.kind, Kind::Tr)
+                && matches!(visit.node.kind, Kind::Tr)
+                && is_row_without_sign(visit.node)
+                && have_block_part(row.children.as_slice())
+        }
+        None => false,
+    }
+}
+
 /// Appends the rows of a table, each on a line of its own; after a comment or an include tag on the one that it leaves.
+/// The first one has no sign where it had none.
 #[cycle(blocks)]
 fn push_rows(
     alloc: Global,
@@ -549,11 +564,17 @@ fn push_rows(
     node: &Node<'_>,
 ) -> Result<(), NoMemory> {
     let mut is_begun = true;
+    let mut is_first = around.keeps;
     for child in node.children.as_slice() {
         if is_written(child) {
             push_line(out, is_begun)?;
-            push_block(alloc, out, &around.in_table(), child)?;
+            if is_first && stands_without_sign(around.known, child) {
+                push_held(alloc, out, &around.in_table(), child, true)?;
+            } else {
+                push_block(alloc, out, &around.in_table(), child)?;
+            }
             is_begun = false;
+            is_first = false;
         } else if is_coming_mark(around.known, child) {
             push_line(out, is_begun)?;
             push_mark(alloc, out, around.known, child)?;

@@ -231,6 +231,17 @@ fn was_followed_closely(known: &Known<'_, '_>, gap: &Gap<'_, '_, '_>) -> bool {
     }
 }
 
+/// Whether what comes after a paragraph ends with one, too, as where it is split: what is below is as close to this one,
+/// but for a heading.
+fn goes_on_as_paragraph(gap: &Gap<'_, '_, '_>, last: Kind, below: Kind) -> bool {
+    match gap.before {
+        Some(before) if !gap.is_tight && !is_heading(below) => {
+            matches!(before.kind, Kind::Para) && matches!(last, Kind::Para)
+        }
+        _ => false,
+    }
+}
+
 /// The line breaks between what comes, which takes no other's place, and what is after it: as many as there are between
 /// other blocks of the page, or as the last that comes had below it.
 fn breaks_below_new(
@@ -242,6 +253,9 @@ fn breaks_below_new(
     let below = kind_at_start(behind);
     if !gap.is_tight && may_be_close(last, below) && was_followed_closely(known, gap) {
         return least_between(gap.is_tight, last, below).max(1);
+    }
+    if goes_on_as_paragraph(gap, last, below) {
+        return least_between(gap.is_tight, last, below);
     }
     between(known.closeness, gap.is_tight, last, below)
 }

@@ -334,6 +334,24 @@ fn ends_before_sign(cut: Cut<'_, '_, '_>, byte: u8) -> bool {
     }
 }
 
+/// Whether a text is the whole of an inside, and nothing but blanks, in a place that shows those at its end.
+fn is_lone_blank(place: Option<Place>, bytes: &[u8], around: Around<'_, '_>) -> bool {
+    if bytes.is_empty() || !shows_blanks(place) {
+        return false;
+    }
+    if around.before.is_some() || !around.units.is_empty() {
+        return false;
+    }
+    bytes.iter().all(|byte| Passed::Blanks.has(*byte))
+}
+
+/// Appends blanks that are all that an inside holds: apart from what is before it, but not from what comes after it.
+fn push_lone_blank(alloc: Global, out: &mut Vec<Unit<'_>>, text: &str) -> Result<(), NoMemory> {
+    let mut source = Str::copy_of(alloc, "<nowiki/>")?;
+    source.push_str(text)?;
+    push_plain(alloc, out, source.as_str())
+}
+
 /// Appends a text with its plain characters as they are; lines that begin with a character like `=` are apart.
 fn push_text<'u, 'n>(
     alloc: Global,
@@ -343,6 +361,9 @@ fn push_text<'u, 'n>(
     around: Around<'u, 'n>,
 ) -> Result<(), NoMemory> {
     let bytes = text.as_bytes();
+    if is_lone_blank(place, bytes, around) {
+        return push_lone_blank(alloc, out, text);
+    }
     let mut start = 0;
     for at in 0..bytes.len() {
         let end = at.saturating_add(1);
