@@ -13,12 +13,12 @@ use wt_known::{Block, Known, block_of};
 use wt_span::{NoMemory, Str};
 use wt_tree::{Kind, Node, flat, same_attrs, same_kind};
 
-/// What a block is written by: what is known of the page, whether texts keep their bytes, the signs of the item
+/// What a block is written by beside what is known of the page: whether texts keep their bytes, the signs of the item
 /// in which it is (of an item its own), the page's text at its end, where the block is the second half of one that was
-/// there, and how it is written where it is a new item, cell or row.
+/// there, and how it is written where it is a new item, cell or row. (What is known goes beside it: read from a structure
+/// behind a reference, it costs each function seconds of proof.)
 #[derive(Clone, Copy)]
 pub struct Surroundings<'w, 't, 'a> {
-    pub known: &'w Known<'t, 'a>,
     pub keeps: bool,
     pub signs: &'w str,
     pub tail: Option<&'t Node<'a>>,
@@ -29,7 +29,6 @@ impl<'w, 't, 'a> Surroundings<'w, 't, 'a> {
     /// The same for what is in the block.
     fn within(&self) -> Surroundings<'w, 't, 'a> {
         Surroundings {
-            known: self.known,
             keeps: self.keeps,
             signs: self.signs,
             tail: None,
@@ -50,7 +49,6 @@ impl<'w, 't, 'a> Surroundings<'w, 't, 'a> {
     /// The same for what is in a part of a table, where lists begin anew.
     fn in_table(&self) -> Surroundings<'w, 't, 'a> {
         Surroundings {
-            known: self.known,
             keeps: self.keeps,
             signs: "",
             tail: None,
@@ -61,7 +59,6 @@ impl<'w, 't, 'a> Surroundings<'w, 't, 'a> {
     /// The same for an item that comes after one of this style.
     fn styled(&self, style: Style) -> Surroundings<'w, 't, 'a> {
         Surroundings {
-            known: self.known,
             keeps: self.keeps,
             signs: self.signs,
             tail: None,
@@ -107,24 +104,26 @@ fn source_standing(
 /// The inside of a block that the page has.
 fn kept_inside<'t, 'a>(
     alloc: Global,
+    known: &Known<'t, 'a>,
     around: &Surroundings<'_, 't, 'a>,
     old: &'t Node<'a>,
     node: &Node<'_>,
 ) -> Result<Str, NoMemory> {
     let block = block_of(alloc, old)?;
     let place = node.kind.edit_shape().place;
-    let writing = Writing::of(around.known, Some(&block), around.keeps, place);
+    let writing = Writing::of(known, Some(&block), around.keeps, place);
     spelled(alloc, &writing, inside(node), edges_of(inside(old)))
 }
 
 /// The inside of a new block.
-fn new_inside(
+fn new_inside<'t, 'a>(
     alloc: Global,
-    around: &Surroundings<'_, '_, '_>,
+    known: &Known<'t, 'a>,
+    around: &Surroundings<'_, 't, 'a>,
     node: &Node<'_>,
 ) -> Result<Str, NoMemory> {
     let place = node.kind.edit_shape().place;
-    let writing = Writing::of(around.known, None, around.keeps, place);
+    let writing = Writing::of(known, None, around.keeps, place);
     let edges = Edges {
         first: None,
         last: around.tail,
@@ -133,25 +132,27 @@ fn new_inside(
 }
 
 /// The inside of a block.
-fn inside_of(
+fn inside_of<'t, 'a>(
     alloc: Global,
-    around: &Surroundings<'_, '_, '_>,
+    known: &Known<'t, 'a>,
+    around: &Surroundings<'_, 't, 'a>,
     node: &Node<'_>,
 ) -> Result<Str, NoMemory> {
-    match original(around.known.index, node.id) {
-        Some(visit) if node.id != 0 => kept_inside(alloc, around, visit.node, node),
-        _ => new_inside(alloc, around, node),
+    match original(known.index, node.id) {
+        Some(visit) if node.id != 0 => kept_inside(alloc, known, around, visit.node, node),
+        _ => new_inside(alloc, known, around, node),
     }
 }
 
 /// Appends the inside of a block.
-fn push_inside(
+fn push_inside<'t, 'a>(
     alloc: Global,
     out: &mut Str,
-    around: &Surroundings<'_, '_, '_>,
+    known: &Known<'t, 'a>,
+    around: &Surroundings<'_, 't, 'a>,
     node: &Node<'_>,
 ) -> Result<(), NoMemory> {
-    let source = inside_of(alloc, around, node)?;
+    let source = inside_of(alloc, known, around, node)?;
     out.push_str(source.as_str())
 }
 
@@ -231,10 +232,11 @@ fn ends_with_sign(out: &Str, cell: &Node<'_>) -> bool {
 
 /// Appends the first sign of a cell that goes on in the line of the one before it, as both did with another kind; it
 /// says whether it does.
-pub fn push_if_in_line(
+pub fn push_if_in_line<'t, 'a>(
     alloc: Global,
     out: &mut Str,
-    around: &Surroundings<'_, '_, '_>,
+    known: &Known<'t, 'a>,
+    around: &Surroundings<'_, 't, 'a>,
     before: Option<&Node<'_>>,
     cell: &Node<'_>,
 ) -> Result<bool, NoMemory> {
@@ -242,7 +244,7 @@ pub fn push_if_in_line(
         return Ok(false);
     };
     let is_in_line = around.keeps
-        && shared_line(alloc, around.known, before, cell)?
+        && shared_line(alloc, known, before, cell)?
         && !have_block_part(before.children.as_slice())
         && !ends_with_sign(out, before);
     if is_in_line {
@@ -256,35 +258,34 @@ fn ends_with_blank(out: &Str, cell: &Node<'_>) -> bool {
     !inside(cell).is_empty() && out.as_str().ends_with(" ")
 }
 
-/// Appends what comes before a block that a node holds: a line break, or of a cell that goes on in a line the first of
-/// its two signs.
-fn push_start(
+/// Appends what comes before a cell in the line of the one before it: the first of its two signs where it is new or both
+/// had another kind, else nothing. It says whether the child goes on so.
+fn push_in_line<'t, 'a>(
     alloc: Global,
     out: &mut Str,
-    around: &Surroundings<'_, '_, '_>,
-    holder: Kind,
+    known: &Known<'t, 'a>,
+    around: &Surroundings<'_, 't, 'a>,
     before: Option<&Node<'_>>,
     child: &Node<'_>,
-) -> Result<(), NoMemory> {
+) -> Result<bool, NoMemory> {
     if goes_on(out, around, before, child) {
-        return out.push_str(first_sign(child));
+        out.push_str(first_sign(child))?;
+        return Ok(true);
     }
-    if push_if_in_line(alloc, out, around, before, child)? {
-        return Ok(());
+    if push_if_in_line(alloc, out, known, around, before, child)? {
+        return Ok(true);
     }
-    if shares_line(alloc, around.known, before, child)? {
-        return Ok(());
-    }
-    push_break(out, holder, before, child.kind)
+    shares_line(alloc, known, before, child)
 }
 
 /// Appends all that a node holds after its inside, each on a line of its own but a cell that shared one, and the first
 /// where it goes on in the line. After a comment or an include tag the line is the one that it leaves.
 #[cycle(blocks)]
-fn push_held(
+fn push_held<'t, 'a>(
     alloc: Global,
     out: &mut Str,
-    around: &Surroundings<'_, '_, '_>,
+    known: &Known<'t, 'a>,
+    around: &Surroundings<'_, 't, 'a>,
     node: &Node<'_>,
     goes_on: bool,
 ) -> Result<(), NoMemory> {
@@ -294,17 +295,17 @@ fn push_held(
     for child in node.children.as_slice() {
         is_inside = is_inside && !ends_inside(child);
         if is_written(child) {
-            if !is_begun {
-                push_start(alloc, out, around, node.kind, before, child)?;
+            if !is_begun && !push_in_line(alloc, out, known, around, before, child)? {
+                push_break(out, node.kind, before, child.kind)?;
             }
-            push_block(alloc, out, &around.within_kind(node.kind), child)?;
+            push_block(alloc, out, known, &around.within_kind(node.kind), child)?;
             before = Some(child);
             is_begun = false;
-        } else if !is_inside && is_coming_mark(around.known, child) {
+        } else if !is_inside && is_coming_mark(known, child) {
             if !is_begun {
                 push_break(out, node.kind, before, Kind::Para)?;
             }
-            push_mark(alloc, out, around.known, child)?;
+            push_mark(alloc, out, known, child)?;
             is_begun = true;
         }
     }
@@ -341,48 +342,54 @@ fn begins_with(source: &[u8], signs: &[u8]) -> bool {
 
 /// The blank at each side of the text of a new heading: none in a page whose headings have none, unless the text would
 /// join the signs.
-fn blank_in_heading(around: &Surroundings<'_, '_, '_>, inside: &str) -> &'static str {
+fn blank_in_heading<'t, 'a>(
+    known: &Known<'t, 'a>,
+    around: &Surroundings<'_, 't, 'a>,
+    inside: &str,
+) -> &'static str {
     let joins = inside.is_empty() || inside.starts_with("=") || inside.ends_with("=");
-    if around.keeps && around.known.has_tight_headings && !joins {
+    if around.keeps && known.has_tight_headings && !joins {
         ""
     } else {
         " "
     }
 }
 
-fn push_heading(
+fn push_heading<'t, 'a>(
     alloc: Global,
     out: &mut Str,
-    around: &Surroundings<'_, '_, '_>,
+    known: &Known<'t, 'a>,
+    around: &Surroundings<'_, 't, 'a>,
     level: u8,
     node: &Node<'_>,
 ) -> Result<(), NoMemory> {
-    let inside = inside_of(alloc, around, node)?;
-    let blank = blank_in_heading(around, inside.as_str());
-    push_heading_start(alloc, out, around.known, node.id, level, blank)?;
+    let inside = inside_of(alloc, known, around, node)?;
+    let blank = blank_in_heading(known, around, inside.as_str());
+    push_heading_start(alloc, out, known, node.id, level, blank)?;
     out.push_str(inside.as_str())?;
-    push_heading_end(alloc, out, around.known, node.id, level, blank)
+    push_heading_end(alloc, out, known, node.id, level, blank)
 }
 
 /// Appends an item with its signs: as it was in the page, where it was there with these.
 #[cycle(blocks)]
-fn push_item(
+fn push_item<'t, 'a>(
     alloc: Global,
     out: &mut Str,
-    around: &Surroundings<'_, '_, '_>,
+    known: &Known<'t, 'a>,
+    around: &Surroundings<'_, 't, 'a>,
     node: &Node<'_>,
 ) -> Result<(), NoMemory> {
-    if let Some(source) = source_standing(alloc, around.known, node)? {
+    if let Some(source) = source_standing(alloc, known, node)? {
         let source = source.as_str();
         if begins_with(source.as_bytes(), around.signs.as_bytes()) {
             return out.push_str(source);
         }
     }
-    let inside = inside_of(alloc, around, node)?;
+    let inside = inside_of(alloc, known, around, node)?;
     let blank = around.style.blank_before(inside.as_str());
-    push_signs(alloc, out, around.known, node, around.signs, blank)?;
+    push_signs(alloc, out, known, node, around.signs, blank)?;
     out.push_str(inside.as_str())?;
-    push_held(alloc, out, around, node, false)
+    push_held(alloc, out, known, around, node, false)
 }
 
 /// Where an item begins: with its list, on a line of its own, or in the line of the item before it, as a definition may.
@@ -395,43 +402,50 @@ enum Beginning {
 
 /// Appends an item that goes on in a line, with the signs that it had there.
 #[cycle(blocks)]
-fn push_item_in_line(
+fn push_item_in_line<'t, 'a>(
     alloc: Global,
     out: &mut Str,
-    around: &Surroundings<'_, '_, '_>,
+    known: &Known<'t, 'a>,
+    around: &Surroundings<'_, 't, 'a>,
     item: &Node<'_>,
 ) -> Result<(), NoMemory> {
-    push_opening(alloc, out, around.known, item, ":")?;
-    push_inside(alloc, out, around, item)?;
-    push_held(alloc, out, around, item, false)
+    push_opening(alloc, out, known, item, ":")?;
+    push_inside(alloc, out, known, around, item)?;
+    push_held(alloc, out, known, around, item, false)
+}
+
+/// The list of an item, and where the item begins.
+#[derive(Clone, Copy)]
+struct ItemPlace {
+    list: Kind,
+    beginning: Beginning,
 }
 
 /// Appends an item of a list that is in an item with these signs.
 #[cycle(blocks)]
-fn push_item_of(
+fn push_item_of<'t, 'a>(
     alloc: Global,
     out: &mut Str,
-    around: &Surroundings<'_, '_, '_>,
-    list: Kind,
+    known: &Known<'t, 'a>,
+    around: &Surroundings<'_, 't, 'a>,
+    place: ItemPlace,
     item: &Node<'_>,
-    beginning: Beginning,
 ) -> Result<(), NoMemory> {
     if matches!(item.kind, Kind::Group) {
-        return push_block(alloc, out, around, item);
+        return push_block(alloc, out, known, around, item);
     }
     let mut signs = Str::copy_of(alloc, around.signs)?;
-    signs.push_str(sign_of(list, item.kind))?;
+    signs.push_str(sign_of(place.list, item.kind))?;
     let own = Surroundings {
-        known: around.known,
         keeps: around.keeps,
         signs: signs.as_str(),
         tail: None,
         style: around.style,
     };
-    match beginning {
-        Beginning::OfList => push_first_item(alloc, out, &own, item),
-        Beginning::OfLine => push_item(alloc, out, &own, item),
-        Beginning::InLine => push_item_in_line(alloc, out, &own, item),
+    match place.beginning {
+        Beginning::OfList => push_first_item(alloc, out, known, &own, item),
+        Beginning::OfLine => push_item(alloc, out, known, &own, item),
+        Beginning::InLine => push_item_in_line(alloc, out, known, &own, item),
     }
 }
 
@@ -444,25 +458,30 @@ fn has_no_line(known: &Known<'_, '_>, item: &Node<'_>) -> bool {
 }
 
 /// Whether an item that has no line of its own holds lists alone: its line may be that of their first item, too.
-fn holds_lists_alone(around: &Surroundings<'_, '_, '_>, item: &Node<'_>) -> bool {
+fn holds_lists_alone<'t, 'a>(
+    known: &Known<'t, 'a>,
+    around: &Surroundings<'_, 't, 'a>,
+    item: &Node<'_>,
+) -> bool {
     match item.children.as_slice().first() {
-        Some(first) => around.keeps && is_list(first.kind) && has_no_line(around.known, item),
+        Some(first) => around.keeps && is_list(first.kind) && has_no_line(known, item),
         None => false,
     }
 }
 
 /// Appends the first item of a list: where it has no line of its own and holds lists alone, they begin on its line.
 #[cycle(blocks)]
-fn push_first_item(
+fn push_first_item<'t, 'a>(
     alloc: Global,
     out: &mut Str,
-    around: &Surroundings<'_, '_, '_>,
+    known: &Known<'t, 'a>,
+    around: &Surroundings<'_, 't, 'a>,
     item: &Node<'_>,
 ) -> Result<(), NoMemory> {
-    if holds_lists_alone(around, item) {
-        push_held(alloc, out, around, item, true)
+    if holds_lists_alone(known, around, item) {
+        push_held(alloc, out, known, around, item, true)
     } else {
-        push_item(alloc, out, around, item)
+        push_item(alloc, out, known, around, item)
     }
 }
 
@@ -485,8 +504,12 @@ fn push_line(out: &mut Str, is_begun: bool) -> Result<(), NoMemory> {
 
 /// How an item or a cell is written: as it was where the page has it with text after its sign, also with another kind;
 /// else as the one beside it.
-fn own_style(around: &Surroundings<'_, '_, '_>, part: &Node<'_>) -> Style {
-    match original(around.known.index, part.id) {
+fn own_style<'t, 'a>(
+    known: &Known<'t, 'a>,
+    around: &Surroundings<'_, 't, 'a>,
+    part: &Node<'_>,
+) -> Style {
+    match original(known.index, part.id) {
         Some(visit) if part.id != 0 && around.keeps && has_signed_text(visit.node) => {
             style_of(Some(visit.node))
         }
@@ -505,10 +528,11 @@ fn style_of_first(around: &Surroundings<'_, '_, '_>) -> Style {
 
 /// Appends the items of a list, each on a line of its own; after a comment or an include tag on the one that it leaves.
 #[cycle(blocks)]
-fn push_items(
+fn push_items<'t, 'a>(
     alloc: Global,
     out: &mut Str,
-    around: &Surroundings<'_, '_, '_>,
+    known: &Known<'t, 'a>,
+    around: &Surroundings<'_, 't, 'a>,
     list: &Node<'_>,
 ) -> Result<(), NoMemory> {
     let mut before = None;
@@ -516,24 +540,21 @@ fn push_items(
     let mut style = style_of_first(around);
     for item in list.children.as_slice() {
         if is_written(item) {
-            let beginning = beginning_of(around.known, before, item);
+            let beginning = beginning_of(known, before, item);
             if !matches!(beginning, Beginning::InLine) {
                 push_line(out, is_begun)?;
             }
-            style = own_style(&around.styled(style), item);
-            push_item_of(
-                alloc,
-                out,
-                &around.styled(style),
-                list.kind,
-                item,
+            style = own_style(known, &around.styled(style), item);
+            let place = ItemPlace {
+                list: list.kind,
                 beginning,
-            )?;
+            };
+            push_item_of(alloc, out, known, &around.styled(style), place, item)?;
             before = Some(item);
             is_begun = false;
-        } else if is_coming_mark(around.known, item) {
+        } else if is_coming_mark(known, item) {
             push_line(out, is_begun)?;
-            push_mark(alloc, out, around.known, item)?;
+            push_mark(alloc, out, known, item)?;
             is_begun = true;
         }
     }
@@ -557,10 +578,11 @@ fn stands_without_sign(known: &Known<'_, '_>, row: &Node<'_>) -> bool {
 /// Appends the rows of a table, each on a line of its own; after a comment or an include tag on the one that it leaves.
 /// The first one has no sign where it had none.
 #[cycle(blocks)]
-fn push_rows(
+fn push_rows<'t, 'a>(
     alloc: Global,
     out: &mut Str,
-    around: &Surroundings<'_, '_, '_>,
+    known: &Known<'t, 'a>,
+    around: &Surroundings<'_, 't, 'a>,
     node: &Node<'_>,
 ) -> Result<(), NoMemory> {
     let mut is_begun = true;
@@ -568,16 +590,16 @@ fn push_rows(
     for child in node.children.as_slice() {
         if is_written(child) {
             push_line(out, is_begun)?;
-            if is_first && stands_without_sign(around.known, child) {
-                push_held(alloc, out, &around.in_table(), child, true)?;
+            if is_first && stands_without_sign(known, child) {
+                push_held(alloc, out, known, &around.in_table(), child, true)?;
             } else {
-                push_block(alloc, out, &around.in_table(), child)?;
+                push_block(alloc, out, known, &around.in_table(), child)?;
             }
             is_begun = false;
             is_first = false;
-        } else if is_coming_mark(around.known, child) {
+        } else if is_coming_mark(known, child) {
             push_line(out, is_begun)?;
-            push_mark(alloc, out, around.known, child)?;
+            push_mark(alloc, out, known, child)?;
             is_begun = true;
         }
     }
@@ -594,32 +616,34 @@ fn blank_in(style: Style, node: &Node<'_>, inside: &str) -> &'static str {
 }
 
 #[cycle(blocks)]
-fn push_cell(
+fn push_cell<'t, 'a>(
     alloc: Global,
     out: &mut Str,
-    around: &Surroundings<'_, '_, '_>,
+    known: &Known<'t, 'a>,
+    around: &Surroundings<'_, 't, 'a>,
     sign: &str,
     node: &Node<'_>,
 ) -> Result<(), NoMemory> {
-    let inside = inside_of(alloc, &around.in_table(), node)?;
+    let inside = inside_of(alloc, known, &around.in_table(), node)?;
     let mut opening = Str::copy_of(alloc, sign)?;
-    opening.push_str(blank_in(own_style(around, node), node, inside.as_str()))?;
-    push_opening(alloc, out, around.known, node, opening.as_str())?;
+    opening.push_str(blank_in(own_style(known, around, node), node, inside.as_str()))?;
+    push_opening(alloc, out, known, node, opening.as_str())?;
     out.push_str(inside.as_str())?;
-    push_held(alloc, out, &around.in_table(), node, false)
+    push_held(alloc, out, known, &around.in_table(), node, false)
 }
 
 /// Appends a table, or a row, with a line for each of its parts.
 #[cycle(blocks)]
-fn push_lines(
+fn push_lines<'t, 'a>(
     alloc: Global,
     out: &mut Str,
-    around: &Surroundings<'_, '_, '_>,
+    known: &Known<'t, 'a>,
+    around: &Surroundings<'_, 't, 'a>,
     sign: &str,
     node: &Node<'_>,
 ) -> Result<(), NoMemory> {
-    push_opening(alloc, out, around.known, node, sign)?;
-    push_held(alloc, out, &around.in_table(), node, false)
+    push_opening(alloc, out, known, node, sign)?;
+    push_held(alloc, out, known, &around.in_table(), node, false)
 }
 
 /// Whether a node is a group of the page that begins with a row without a sign.
@@ -632,23 +656,24 @@ fn is_group_without_sign(known: &Known<'_, '_>, node: &Node<'_>) -> bool {
 
 /// Appends a block as it was in the page, where it was there as it is; it says whether it does. An item
 /// is so only with its signs, a row with its sign, which a group gets that begins with a row without one.
-fn push_if_standing(
+fn push_if_standing<'t, 'a>(
     alloc: Global,
     out: &mut Str,
-    around: &Surroundings<'_, '_, '_>,
+    known: &Known<'t, 'a>,
+    around: &Surroundings<'_, 't, 'a>,
     node: &Node<'_>,
 ) -> Result<bool, NoMemory> {
     let is_of_list = is_list(node.kind) || is_item(node.kind);
     if is_of_list && !around.signs.is_empty() {
         return Ok(false);
     }
-    let Some(source) = source_standing(alloc, around.known, node)? else {
+    let Some(source) = source_standing(alloc, known, node)? else {
         return Ok(false);
     };
     if matches!(node.kind, Kind::Tr) && !source.as_str().starts_with("|-") {
         return Ok(false);
     }
-    if is_group_without_sign(around.known, node) {
+    if is_group_without_sign(known, node) {
         out.push_str("|-\n")?;
     }
     push_begun(out, node.kind, source.as_str())?;
@@ -657,31 +682,32 @@ fn push_if_standing(
 
 /// Appends a block without a line break at its end.
 #[cycle(blocks)]
-pub fn push_block(
+pub fn push_block<'t, 'a>(
     alloc: Global,
     out: &mut Str,
-    around: &Surroundings<'_, '_, '_>,
+    known: &Known<'t, 'a>,
+    around: &Surroundings<'_, 't, 'a>,
     node: &Node<'_>,
 ) -> Result<(), NoMemory> {
-    if push_if_standing(alloc, out, around, node)? {
+    if push_if_standing(alloc, out, known, around, node)? {
         return Ok(());
     }
     match node.kind {
-        Kind::Para => push_inside(alloc, out, around, node),
-        Kind::Heading(level) => push_heading(alloc, out, around, level, node),
+        Kind::Para => push_inside(alloc, out, known, around, node),
+        Kind::Heading(level) => push_heading(alloc, out, known, around, level, node),
         Kind::Rule => out.push_str("----"),
-        Kind::Ul | Kind::Ol | Kind::Dl => push_items(alloc, out, around, node),
-        Kind::Li | Kind::Dt | Kind::Dd => push_item(alloc, out, around, node),
+        Kind::Ul | Kind::Ol | Kind::Dl => push_items(alloc, out, known, around, node),
+        Kind::Li | Kind::Dt | Kind::Dd => push_item(alloc, out, known, around, node),
         Kind::Table => {
-            push_lines(alloc, out, around, "{|", node)?;
+            push_lines(alloc, out, known, around, "{|", node)?;
             push_line(out, begins_line(out))?;
-            push_closing(alloc, out, around.known, node, "|}")
+            push_closing(alloc, out, known, node, "|}")
         }
-        Kind::Tbody => push_rows(alloc, out, around, node),
-        Kind::Tr => push_lines(alloc, out, around, "|-", node),
-        Kind::Td => push_cell(alloc, out, around, "|", node),
-        Kind::Th => push_cell(alloc, out, around, "!", node),
-        Kind::Caption => push_cell(alloc, out, around, "|+", node),
+        Kind::Tbody => push_rows(alloc, out, known, around, node),
+        Kind::Tr => push_lines(alloc, out, known, around, "|-", node),
+        Kind::Td => push_cell(alloc, out, known, around, "|", node),
+        Kind::Th => push_cell(alloc, out, known, around, "!", node),
+        Kind::Caption => push_cell(alloc, out, known, around, "|+", node),
         _ => Ok(()),
     }
 }

@@ -49,15 +49,17 @@ fn coming_of<'t, 'a>(
             let signs = signs_in(alloc, plan.known, gap, node.kind, outer)?;
             let keeps = plan.keeps(block.number);
             let around = Surroundings {
-                known: plan.known,
                 keeps,
                 signs: signs.as_str(),
                 tail: tail_of(gap, left),
                 style: if keeps { gap.style } else { USUAL },
             };
             coming = Some(match coming {
-                None => begun_with(alloc, &around, node)?,
-                Some(coming) => followed(alloc, gap.is_tight, coming, &around, before, node)?,
+                None => begun_with(alloc, plan.known, &around, node)?,
+                Some(coming) => {
+                    let is_tight = gap.is_tight;
+                    followed(alloc, plan.known, is_tight, coming, &around, before, node)?
+                }
             });
             before = Some(node);
             block = block.next();
@@ -82,13 +84,14 @@ fn may_go_on(source: &str, start: usize, node: &Node<'_>) -> bool {
 }
 
 /// The first that comes.
-fn begun_with(
+fn begun_with<'t, 'a>(
     alloc: Global,
-    around: &Surroundings<'_, '_, '_>,
+    known: &Known<'t, 'a>,
+    around: &Surroundings<'_, 't, 'a>,
     node: &Node<'_>,
 ) -> Result<Coming, NoMemory> {
     let mut source = Str::new(alloc);
-    push_block(alloc, &mut source, around, node)?;
+    push_block(alloc, &mut source, known, around, node)?;
     Ok(Coming {
         first: node.kind,
         start: kind_at_start(node),
@@ -176,30 +179,32 @@ fn goes_on_in_line(known: &Known<'_, '_>, before: Option<&Node<'_>>, node: &Node
 }
 
 /// Appends a block that comes after another; of an item that goes on in its line the last sign alone.
-fn push_behind(
+fn push_behind<'t, 'a>(
     alloc: Global,
     out: &mut Str,
-    around: &Surroundings<'_, '_, '_>,
+    known: &Known<'t, 'a>,
+    around: &Surroundings<'_, 't, 'a>,
     goes_on: bool,
     node: &Node<'_>,
 ) -> Result<(), NoMemory> {
     if !goes_on {
-        return push_block(alloc, out, around, node);
+        return push_block(alloc, out, known, around, node);
     }
     let own = Surroundings {
         signs: ":",
         ..*around
     };
-    push_block(alloc, out, &own, node)
+    push_block(alloc, out, known, &own, node)
 }
 
 /// What came so far, and this one after it, which comes after that one; in the line that is begun, where it comes
 /// after a comment, and in that of its term, where it is a definition that was there.
-fn followed(
+fn followed<'t, 'a>(
     alloc: Global,
+    known: &Known<'t, 'a>,
     is_tight: bool,
     coming: Coming,
-    around: &Surroundings<'_, '_, '_>,
+    around: &Surroundings<'_, 't, 'a>,
     before: Option<&Node<'_>>,
     node: &Node<'_>,
 ) -> Result<Coming, NoMemory> {
@@ -211,17 +216,16 @@ fn followed(
         is_led,
         mut source,
     } = coming;
-    let goes_on = goes_on_in_line(around.known, before, node);
+    let goes_on = goes_on_in_line(known, before, node);
     let is_begun = before.is_none()
         || goes_on
-        || push_if_in_line(alloc, &mut source, around, before, node)?
-        || push_as_between(&mut source, around.known, before, node)?;
+        || push_if_in_line(alloc, &mut source, known, around, before, node)?
+        || push_as_between(&mut source, known, before, node)?;
     if !is_begun {
-        let closeness = around.known.closeness;
-        push_breaks(&mut source, between(closeness, is_tight, last, node.kind))?;
+        push_breaks(&mut source, between(known.closeness, is_tight, last, node.kind))?;
     }
     let from = source.as_str().len();
-    push_behind(alloc, &mut source, around, goes_on, node)?;
+    push_behind(alloc, &mut source, known, around, goes_on, node)?;
     Ok(Coming {
         first,
         start,
