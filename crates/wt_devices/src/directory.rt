@@ -1,11 +1,12 @@
-ghost use Rattle.std.specs.Prelude.{◌≡◌, None, IfSome};
-ghost use Rattle.wt_devices.specs.File.{IsFrontOf, IsWithin};
+ghost use Rattle.std.specs.Prelude.{◌≡◌, None};
+ghost use Rattle.wt_files.specs.File.{IsWithin};
 
 use crate::device::{FetchRefusal, Fetched, Folder};
 use std::alloc::Global;
 use std::fs;
-use std::io::{ErrorKind, Read};
+use std::io::ErrorKind;
 use std::rt::Files;
+use wt_files::{FileRead, read_most};
 use wt_names::file_name;
 use wt_span::List;
 
@@ -31,40 +32,6 @@ impl<'r, R: Files> DirFolder<'r, R> {
             rt,
             directory,
             faults: 0,
-        }
-    }
-}
-
-/// What came of an attempt to read a file.
-#[derive(Drop)]
-enum FileRead {
-    Read(Vec<u8>),
-    Absent,
-    Failed,
-    NoMemory,
-}
-
-/// Reads what is left of a file, at most `most` bytes of it, piece by piece. Only a read that gives no byte is
-/// its end, however short the pieces are.
-fn read_most<F: Read>(alloc: Global, file: &mut F, most: usize) -> FileRead
-    ensures within { IsWithin most result }
-    ensures front { IfSome (F.remaining file.old) (λ all. IsFrontOf most all result) }
-{
-    let mut bytes = Vec::new(alloc);
-    let mut piece = [0u8; 4096];
-    'pieces: loop {
-        let room = (most - bytes.len()).min(4096);
-        if room == 0 {
-            return FileRead::Read(bytes);
-        }
-        match file.read(&mut piece[..room]) {
-            Ok(0) => return FileRead::Read(bytes),
-            Ok(count) => {
-                if bytes.extend_from_slice(&piece[..count]).is_err() {
-                    return FileRead::NoMemory;
-                }
-            }
-            Err(_) => return FileRead::Failed,
         }
     }
 }

@@ -9,7 +9,6 @@ pub mod Fronts
 pub mod Numbers
 pub mod Passing
 pub mod Readings
-pub mod Remarks
 pub mod Signs
 pub mod SignWidths
 pub mod TagForms
@@ -17,4 +16,3 @@ pub mod WholeComments
 pub mod WholeEntities
 pub mod WholeTags
 pub mod WholeWords
-pub mod Words

@@ -4,9 +4,9 @@ ghost use Rattle.std.specs.List.{list_all};
 ghost use Rattle.std.specs.Str.{IsCharBoundary};
 ghost use Rattle.std.specs.Str.Parse.{digits_value, AllDigits};
 ghost use Rattle.wt_span.specs.Entities.{named_in, named_entity, is_entity_number, numbered, decimal_entity, hex_entity, entity_at};
-ghost use Rattle.wt_lex.specs.Views.{in_class, is_short};
+ghost use Rattle.wt_comments.specs.Views.{in_class, is_short};
 
-use crate::byte::{ByteClass, byte_at, run_len};
+use wt_comments::{ByteClass, byte_at, run_len};
 use wt_span::{front_of, rest_of};
 
 /// The entities that have a name, each with its character.

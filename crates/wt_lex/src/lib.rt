@@ -3,8 +3,6 @@
 //! exactly the lexemes that the definition names, each where the one before ends.
 #![tactic(auto)]
 
-mod byte;
-mod comment;
 mod entity;
 mod gone;
 mod include;

@@ -8,8 +8,6 @@ ghost use Rattle.wt_span.specs.Lexemes.{as_word, comment_line_word, entity_word,
 ghost use Rattle.wt_lex.specs.Places.{word_of, Follow, AtBorders};
 ghost use Rattle.wt_lex.specs.Words.{after_break, may_begin, remark_word, tag_word, inner_word};
 
-use crate::byte::byte_at;
-use crate::comment::{comment_len, comment_line_len};
 use crate::entity::read_entity;
 use crate::gone::Closings;
 use crate::include::include_at;
@@ -17,6 +15,7 @@ use crate::lexeme::Lexeme;
 use crate::sign::sign_word;
 use crate::tag::{is_raw_name, opening_tag};
 use std::alloc::Global;
+use wt_comments::{byte_at, comment_len, comment_line_len};
 use wt_span::{LexKind, List, Mode, NoMemory, Range, rest_of};
 
 /// Whether a line break comes before a place.

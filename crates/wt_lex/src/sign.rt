@@ -1,7 +1,7 @@
 ghost use Rattle.std.specs.Prelude.{◌≡◌, ◌==◌, ◌<◌, ◌≤◌, length, IfSome};
 ghost use Rattle.wt_span.specs.Lexemes.{run_at, sign_at, sign_word};
 
-use crate::byte::{ByteClass, byte_at, run_len};
+use wt_comments::{ByteClass, byte_at, run_len};
 use wt_span::LexKind;
 
 /// A run of two or more of a byte that begins a text.

@@ -5,7 +5,7 @@ ghost use Rattle.wt_span.specs.Bytes.{lower};
 ghost use Rattle.wt_span.specs.Tags.{Tag, is_tag_inside, closes_itself, tag_after, opening_tag, closing_tag, len_if_named, to_closing, is_extension, is_raw_name};
 ghost use Rattle.wt_lex.specs.TagView.{tag_of};
 
-use crate::byte::{ByteClass, byte_at, name_len, run_len};
+use wt_comments::{ByteClass, byte_at, name_len, run_len};
 use wt_span::{front_of, rest_of};
 
 /// A tag that begins a text: its name as it is written, how many bytes it takes, and whether it

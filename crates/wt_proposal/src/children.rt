@@ -222,7 +222,10 @@ fn followed<'t, 'a>(
         || push_if_in_line(alloc, &mut source, known, around, before, node)?
         || push_as_between(&mut source, known, before, node)?;
     if !is_begun {
-        push_breaks(&mut source, between(known.closeness, is_tight, last, node.kind))?;
+        push_breaks(
+            &mut source,
+            between(known.closeness, is_tight, last, node.kind),
+        )?;
     }
     let from = source.as_str().len();
     push_behind(alloc, &mut source, known, around, goes_on, node)?;

@@ -1,7 +1,7 @@
 use Rattle.std.proofs.Common.{◌≡◌, drop, map, true}
 use Rattle.std.specs.List.{list_all}
 use Rattle.wt_span.specs.Entities.{named_in}
-use Rattle.wt_lex.specs.Views.{is_short}
+use Rattle.wt_comments.specs.Views.{is_short}
 use Rattle.wt_lex.proofs.entity.named_in.Given as goal
 
 abbrev pub invariant-loop-name : goal.invariant-loop-name

@@ -1,7 +1,7 @@
 use Rattle.std.proofs.Common.{◌≤◌, arith, ap, sym, ◌∙◌, take, length, subst, List, ℕ, length-take}
 use Rattle.std.specs.Str.Parse.{AllDigits}
 use Rattle.std.proofs.Math.Nat.{pow-le-pow_right}
-use Rattle.wt_lex.specs.Views.{in_class}
+use Rattle.wt_comments.specs.Views.{in_class}
 use Rattle.wt_lex.proofs.Numbers.{run_digits}
 use Rattle.wt_lex.proofs.entity.numbered.Goals as goal
 

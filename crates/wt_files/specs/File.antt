@@ -1,7 +1,7 @@
 -- What was read of a file.
 use Rattle.std.specs.Prelude.{◌≡◌, ℕ, ◌≤◌, List, take, vec_items, vec_len, ⊤}
-use Rattle.wt_devices.specs.declared.directory.FileRead.{FileRead}
-use Rattle.wt_devices.specs.declared.directory.FileRead.TheVariants.{Read, Absent, Failed, NoMemory}
+use Rattle.wt_files.specs.declared.file.FileRead.{FileRead}
+use Rattle.wt_files.specs.declared.file.FileRead.TheVariants.{Read, Absent, Failed, NoMemory}
 
 -- no more bytes than these were read
 abbrev pub IsWithin : ℕ → FileRead → Type 0

@@ -4,7 +4,7 @@ use Rattle.std.specs.Prelude.{if◌then◌else◌}
 use Rattle.std.proofs.lemmas.List.{drop_more, drop-drop}
 use Rattle.wt_span.specs.Bytes.{is_blank}
 use Rattle.wt_span.specs.Comments.{comment_len, remarks_with, remarks_len}
-use Rattle.wt_lex.specs.Views.{remark_by, remark_len}
+use Rattle.wt_comments.specs.Views.{remark_by, remark_len}
 
 blank_none : (t : Bool) (m : ℕ) → ◌≡◌ {A = ℕ} (if t then 1 else 0) 0 → ◌≡◌ {A = ℕ} (if t then 1 + m else 0) 0
 blank_none true m e = absurd (omega arith)

@@ -4,8 +4,8 @@ use Rattle.std.specs.Char.{is_ascii_alphanumeric, is_ascii_digit, is_ascii_hexdi
 use Rattle.wt_span.specs.Bytes.{is_blank}
 use Rattle.wt_span.specs.Comments.{comment_len}
 use Rattle.wt_span.specs.Tags.{is_tag_byte}
-use Rattle.wt_lex.specs.declared.byte.ByteClass.{ByteClass}
-use Rattle.wt_lex.specs.declared.byte.ByteClass.TheVariants as class
+use Rattle.wt_comments.specs.declared.byte.ByteClass.{ByteClass}
+use Rattle.wt_comments.specs.declared.byte.ByteClass.TheVariants as class
 
 abbrev pub in_class : ByteClass → ℕ → Bool
 in_class class.Blank = is_blank

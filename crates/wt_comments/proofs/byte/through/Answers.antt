@@ -1,7 +1,7 @@
 use Rattle.std.proofs.Common.{sym, ap, ◌∙◌, arith, nat_eq}
 use Rattle.std.specs.List.{starts_with}
-use Rattle.wt_lex.proofs.Words.{through_more, through_here}
-use Rattle.wt_lex.proofs.byte.through.Goals as goal
+use Rattle.wt_comments.proofs.Words.{through_more, through_here}
+use Rattle.wt_comments.proofs.byte.through.Goals as goal
 
 pub loop-at-preserved : goal.loop-at-preserved
 loop-at-preserved c =

@@ -1,6 +1,6 @@
 use Rattle.std.proofs.Common.{◌-◌, ◌≤◌, vec_items, vec_len}
 use Rattle.std.specs.Io.KnownBytes.{Consumes}
-use Rattle.wt_devices.proofs.directory.read_most.Given as goal
+use Rattle.wt_files.proofs.file.read_most.Given as goal
 
 abbrev pub invariant-pieces : goal.invariant-pieces
 invariant-pieces g l = record {

@@ -1,7 +1,7 @@
 use Rattle.std.proofs.Common.{◌<◌, ◌+◌, sym, ap, ◌∙◌, arith, length, length-drop}
-use Rattle.wt_lex.specs.Views.{remark_len}
-use Rattle.wt_lex.proofs.Remarks.{remarks_none, remarks_more}
-use Rattle.wt_lex.proofs.comment.remarks_len.Goals as goal
+use Rattle.wt_comments.specs.Views.{remark_len}
+use Rattle.wt_comments.proofs.Remarks.{remarks_none, remarks_more}
+use Rattle.wt_comments.proofs.comment.remarks_len.Goals as goal
 
 pub returns-then-n-eq0-clause-value : goal.returns-then-n-eq0-clause-value
 returns-then-n-eq0-clause-value c =

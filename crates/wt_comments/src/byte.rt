@@ -1,7 +1,7 @@
 ghost use Rattle.std.specs.Prelude.{◌≡◌, ◌+◌, ◌<◌, ◌≤◌, length, slice_index};
 ghost use Rattle.std.specs.List.{prefix_len};
 ghost use Rattle.wt_span.specs.Bytes.{begins, through, name_len};
-ghost use Rattle.wt_lex.specs.Views.{in_class};
+ghost use Rattle.wt_comments.specs.Views.{in_class};
 
 use wt_span::rest_of;
 

@@ -1,6 +1,6 @@
 ghost use Rattle.std.specs.Prelude.{◌≡◌, ◌+◌, ◌-◌, ◌<◌, ◌≤◌, length, drop, IfSome, slice_index};
 ghost use Rattle.wt_span.specs.Comments.{comment_len, comment_line_len, remarks_len};
-ghost use Rattle.wt_lex.specs.Views.{remark_len};
+ghost use Rattle.wt_comments.specs.Views.{remark_len};
 
 use crate::byte::{ByteClass, byte_at, run_len, through};
 use wt_span::rest_of;

@@ -1,0 +1,6 @@
+//! Files, read piece by piece.
+#![tactic(auto)]
+
+mod file;
+
+pub use file::{FileRead, read_most};
