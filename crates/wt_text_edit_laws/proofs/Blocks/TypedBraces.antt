@@ -5,8 +5,7 @@ use Rattle.wt_span.specs.Items.{Item, char, whole, sign}
 use Rattle.wt_lines.specs.Kinds.{is_idle}
 use Rattle.wt_expand.specs.PageItems.{page_items}
 use Rattle.wt_text_edit_laws.specs.LonePages.{page_chars}
-use Rattle.wt_text_edit_laws.specs.NoCalls.{Brace, CallsNothing}
-use Rattle.wt_text_edit_laws.proofs.Prose.InFront.{is_brace, AreUnbraced}
+use Rattle.wt_text_edit_laws.specs.NoCalls.{Brace, CallsNothing, is_brace, AreUnbraced}
 use Rattle.wt_text_edit_laws.proofs.Between.LineWords.{either}
 use Rattle.wt_text_edit_laws.proofs.Between.LessBraces.{IsSome, all_some, some_both, pairs_some, BeginsUnbraced, braces_of, items_behind_end, items_before_start, none_unbraced, unbraced_joined, page_unbraced, ended_unbraced}
 use Rattle.wt_text_edit_laws.specs.TypedHeadings.{Sides, AreIdle, equals, opening, closing_items, EndsLine}
