@@ -17,3 +17,5 @@ pub mod Beginnings
 pub mod SentPieces
 pub mod Calm
 pub mod FlatPages
+pub mod FlatBlocks
+pub mod ContentEdits
