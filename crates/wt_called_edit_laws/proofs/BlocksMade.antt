@@ -26,14 +26,14 @@ use Rattle.wt_text_edit_laws.specs.BlockSpots.{BlockSpot, AreContents}
 use Rattle.wt_text_edit_laws.specs.Contents.{IsContent, IsNewContent}
 use Rattle.wt_text_edit_laws.specs.TextBlocks.{TextBlock, a_paragraph, a_heading, block_of, source_of, block_tree, IsBlock, IsTypedIn}
 use Rattle.wt_text_edit_laws.proofs.Blocks.BlockSpotFacts.{typed_paragraph, typed_heading}
-use Rattle.wt_text_edit_laws.proofs.Blocks.BlockTrees.{open_items, close_items, block_leaves, block_own}
+use Rattle.wt_text_edit_laws.proofs.Blocks.BlockLeaves.{open_items, close_items, block_leaves, block_own}
 use Rattle.wt_text_edit_laws.proofs.Blocks.Contents.{typed_new}
 use Rattle.wt_text_edit_laws.proofs.Blocks.TypedFacts.{framed, text_shown, typed_shown}
 use Rattle.wt_beside_laws.specs.ContentEdits.{new_content, MakesContent}
 use Rattle.wt_beside_laws.specs.FlatBlocks.{IsFlatIn, IsFlatEditOf}
 use Rattle.wt_beside_laws.proofs.Made.FlatMade.{flat_made}
 use Rattle.wt_called_edit_laws.specs.CalledBlocks.{tree_by}
-use Rattle.wt_called_edit_laws.specs.EditsAt.{edited_at, edited_among, edited_by, content_of, with_content, with_contents, AreGone, IsOneText, Fits, FitsSpot, AreFitting}
+use Rattle.wt_called_edit_laws.specs.EditsAt.{IsStanding, StandsTo, StandsAmong, AllStand, edited_at, edited_among, edited_by, content_of, with_content, with_contents, AreGone, IsOneText, Fits, FitsSpot, AreFitting}
 use Rattle.wt_called_edit_laws.specs.Nodes.{block_at}
 use Rattle.wt_called_edit_laws.specs.Retyped.{AreRetyped}
 use Rattle.wt_called_edit_laws.specs.Sends.{BlockSent, Sends, AllSend, MakesNode, BlocksMake}
@@ -43,7 +43,7 @@ use Rattle.wt_called_edit_laws.proofs.Cells.Nodes.{same_inside}
 use Rattle.wt_called_edit_laws.proofs.Cells.Paths.{same_first, same_rest}
 use Rattle.wt_called_edit_laws.proofs.Cells.PlaceFacts.{same_block}
 use Rattle.wt_called_edit_laws.proofs.Cells.PlaceGaps.{block_source as source_is}
-use Rattle.wt_called_edit_laws.proofs.Leads.{IsStanding, StandsTo, StandsAmong, AllStand, standing_kind, edit_at}
+use Rattle.wt_called_edit_laws.proofs.Leads.{standing_kind, edit_at}
 use Rattle.wt_called_edit_laws.proofs.TextsMake.{flat_same}
 
 -- ---- one text in the place of all

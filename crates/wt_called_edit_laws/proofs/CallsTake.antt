@@ -14,7 +14,7 @@ use Rattle.wt_called_edit_laws.specs.TreeEdits.{IsNumberedBody}
 use Rattle.wt_called_edit_laws.proofs.BlocksMade.{all_inline}
 use Rattle.wt_called_edit_laws.proofs.EditFacts.{IsFramedPage, framed_page, paths_of, new_spots, spots_body, spots_stand, well_sent}
 use Rattle.wt_called_edit_laws.proofs.EditTaken.{IsContentsEdit, edit_done, unmarked_done}
-use Rattle.wt_called_edit_laws.proofs.Leads.{edit_at, all_lead}
+use Rattle.wt_called_edit_laws.proofs.Leads.{edit_at}
 use Rattle.wt_called_edit_laws.proofs.NodesTold.{found_apart}
 
 pub numbered_body : (pages : Pages) (ss : List BlockSpot) (behind : List ℕ) → IsCalledPage pages ss behind → IsNumberedBody (spots_tree pages ss behind)
@@ -34,7 +34,7 @@ told pages ss behind f es h e =
 pub contents_by : (pages : Pages) (ss : List BlockSpot) (behind : List ℕ) → IsFramedPage pages ss behind → IsCalledPage pages ss behind → TakesContents pages ss behind
 contents_by pages ss behind f h = record {
   paths = paths_of f;
-  lead = all_lead ss (paths_of f) (spots_tree pages ss behind) (spots_stand pages ss behind f h);
+  stand = spots_stand pages ss behind f h;
   takes = λ b es e le. edit_done pages ss behind f es b (as_contents pages ss behind f es h e) le;
   unmarked = λ stands input b unsourced es e found short le small is.
       unmarked_done pages ss behind f es b stands input unsourced (as_contents pages ss behind f es h e.edit) (told pages ss behind f es h e) found short le small is;

@@ -25,7 +25,7 @@ use Rattle.wt_text_edit_laws.specs.BlockSpots.{BlockSpot, spots_source, AreConte
 use Rattle.wt_text_edit_laws.specs.TextBlocks.{TextBlock, a_paragraph, a_heading, block_tree}
 use Rattle.wt_called_edit_laws.specs.CalledBlocks.{tree_by, counted}
 use Rattle.wt_called_edit_laws.specs.CalledTexts.{spots_tree}
-use Rattle.wt_called_edit_laws.specs.EditsAt.{edited_by, with_contents, IsContentEdit}
+use Rattle.wt_called_edit_laws.specs.EditsAt.{AllStand, edited_by, with_contents, IsContentEdit}
 use Rattle.wt_called_edit_laws.proofs.Cells.SpotTrees.{counted_same}
 use Rattle.wt_called_edit_laws.specs.Retyped.{AreRetyped}
 use Rattle.wt_called_edit_laws.proofs.Parts.Retyped.{called_contents, expanded_again}
@@ -44,7 +44,7 @@ use Rattle.wt_called_edit_laws.proofs.TextsMake.{all_flat_same, contents_make}
 use Rattle.wt_called_edit_laws.proofs.TilesStand.{blocks_stand}
 use Rattle.wt_called_edit_laws.proofs.BlocksMade.{AreMadeSpots, all_made, blocks_made, all_taken, contents_retyped}
 use Rattle.wt_called_edit_laws.proofs.CalledUtf8.{called_utf8, retyped}
-use Rattle.wt_called_edit_laws.proofs.Leads.{AllStand, all_stand, edit_at, edited_there}
+use Rattle.wt_called_edit_laws.proofs.Leads.{all_stand, edit_at, edited_there}
 use Rattle.wt_called_edit_laws.proofs.NodeGaps.{AreThePage, filled_page, gaps_so, numbers_so}
 use Rattle.wt_called_edit_laws.proofs.PageBody.{IsBodyOf, page_body}
 use Rattle.wt_called_edit_laws.proofs.PagesSettled.{called_settled}
@@ -121,7 +121,7 @@ nodes_source pages ss rs behind f t =
     ∙ all_flat_same (children (spots_tree pages rs behind))
     ∙ (spots_body pages rs behind (f.again rs t)).source
 
-are_the_page : (pages : Pages) (ss : List BlockSpot) (behind : List ℕ) (f : IsFramedPage pages ss behind) → AreThePage f.nodes ss behind
+pub are_the_page : (pages : Pages) (ss : List BlockSpot) (behind : List ℕ) (f : IsFramedPage pages ss behind) → AreThePage f.nodes ss behind
 are_the_page pages ss behind f = λ rs e b o.
     filled_page rs behind f.nodes f.inner_nodes (f.in_order ∙ sym (counted_same ss rs e)) b
     (nodes_source pages ss rs behind f (retyped ss rs e o))

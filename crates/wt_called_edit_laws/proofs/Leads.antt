@@ -1,17 +1,20 @@
 -- At the paths of the places of a page's nodes are the page's blocks, each with a number and at its place, and what is edited there is edited in
 -- these.
 use Rattle.std.proofs.Common.{arith, ◌≡◌, ◌≢◌, ◌<◌, ℕ, zero, suc, ◌+◌, Bool, true, false, Option, None, List, [], ◌∷◌, ◌++◌, map, length, refl, sym, ap, ◌∙◌, subst}
-use Rattle.std.specs.Prelude.{if◌then◌else◌}
+use Rattle.std.specs.Prelude.{if◌then◌else◌, ◌||◌}
+use Rattle.std.specs.List.{list_any}
 use Rattle.wt_tree.specs.declared.kind.Kind.{Kind}
 use Rattle.wt_tree.specs.declared.kind.Kind.TheVariants as kind
-use Rattle.wt_tree.specs.Kinds.{is_numbered}
+use Rattle.wt_tree.specs.Kinds.{is_leaf, is_numbered}
 use Rattle.wt_tree.specs.Source.{flat}
 use Rattle.wt_tree.specs.Tiling.{is_group}
 use Rattle.wt_tree.specs.Tree.{Label, Tree, tree, Trees, none, more, label}
 use Rattle.wt_span.specs.Items.{Item}
-use Rattle.wt_inline.specs.ItemTree.{ItemTree}
+use Rattle.wt_inline.specs.ItemTree.{ItemTree, inner, ItemTrees, nothing, further, tree_items, held_by_all}
+use Rattle.wt_annotated.specs.Clean.{is_page, is_body}
 use Rattle.wt_annotated.specs.Labels.{label_at}
 use Rattle.wt_annotated.specs.Numbering.{next_after, count}
+use Rattle.wt_annotated.specs.WithoutCalls.{holds_page, InsideOf, NoneEmpty, AllNonEmpty}
 use Rattle.wt_checks.specs.Kept.{children}
 use Rattle.wt_row_laws.specs.Frames.{Part}
 use Rattle.wt_moved_laws.specs.Placeless.{placeless_label, placeless, all_placeless}
@@ -20,49 +23,27 @@ use Rattle.wt_typed_blocks.specs.Sent.{kind_of}
 use Rattle.wt_typed_blocks.specs.Edited.{Edited, Edits}
 use Rattle.wt_text_edit_laws.specs.BlockSpots.{BlockSpot, AreContents}
 use Rattle.wt_text_edit_laws.specs.TextBlocks.{TextBlock, a_paragraph, a_heading, block_of, block_tree}
-use Rattle.wt_text_edit_laws.proofs.Blocks.Contents.{content_plain}
 use Rattle.wt_text_edit_laws.proofs.Paragraphs.PartTrees.{ArePlain}
+use Rattle.wt_text_edit_laws.proofs.Texts.TypedShown.{both_of_page}
 use Rattle.wt_called_edit_laws.specs.AnyBlocks.{LeadsTo, LeadsAmong, AllLead}
 use Rattle.wt_called_edit_laws.specs.CalledBlocks.{tree_by, counted}
-use Rattle.wt_called_edit_laws.specs.EditsAt.{edited_by}
+use Rattle.wt_called_edit_laws.specs.EditsAt.{IsStanding, StandsTo, StandsAmong, AllStand, edited_by}
 use Rattle.wt_called_edit_laws.specs.Settled.{settled, all_settled, IsSettled}
 use Rattle.wt_called_edit_laws.proofs.Cells.Nodes.{same_label, same_inside}
 use Rattle.wt_called_edit_laws.proofs.Cells.Paths.{same_first, same_rest}
+use Rattle.wt_called_trees.specs.Rounded.{HasItems, AllHaveItems, IsOwn, AreOwn}
 use Rattle.wt_called_trees.specs.TreeFrames.{spot, kept, holder, TreeFrames, no_nodes, more_nodes, all_filled, spots}
 use Rattle.wt_called_edit_laws.specs.Nodes.{AreHolders, block_at}
 use Rattle.wt_called_edit_laws.specs.PathsTo.{past_one, all_past, all_inside, paths_to, AreEditedThere}
 use Rattle.wt_called_edit_laws.proofs.CutFrames.{no_group_round}
+use Rattle.wt_called_edit_laws.proofs.OwnBlocks.{counted_own}
 use Rattle.wt_called_edit_laws.proofs.StandingSettled.{some_items, standing_settled}
 
--- ---- a block in the page
-
--- with a number, and at its place
-pub record IsStanding (u : ItemTree) (t : Tree) : Type 0 where
-  pub number : ℕ
-  pub before : List Item
-  pub some : 0 < number
-  pub is : t ≡ standing number before u
-
--- so it is at this path
-abbrev mutual
-  pub StandsTo : ItemTree → List ℕ → Tree → Type 0
-  StandsTo u [] t = IsStanding u t
-  StandsTo u (i ∷ is) (tree l ts) = StandsAmong u i is ts
-
-  pub StandsAmong : ItemTree → ℕ → List ℕ → Trees → Type 0
-  StandsAmong u i is none = ⊥
-  StandsAmong u zero is (more t ts) = StandsTo u is t
-  StandsAmong u (suc i) is (more t ts) = StandsAmong u i is ts
+-- ---- from a node's children
 
 abbrev StandsFrom : ItemTree → List ℕ → Trees → Type 0
 StandsFrom u [] ts = ⊥
 StandsFrom u (i ∷ is) ts = StandsAmong u i is ts
-
-abbrev pub AllStand : List BlockSpot → List (List ℕ) → Tree → Type 0
-AllStand [] [] t = Unit {0}
-AllStand [] (p ∷ ps) t = ⊥
-AllStand (s ∷ ss) [] t = ⊥
-AllStand (s ∷ ss) (p ∷ ps) t = StandsTo (block_tree s.block s.text) p t × AllStand ss ps t
 
 -- ---- as many paths as places, each to the block at the place
 
@@ -110,13 +91,33 @@ plain_split : (u : ℕ → ItemTree) (ms ns : List ℕ) → ArePlainAt u (ms ++ 
 plain_split u [] ns h = (tt, h)
 plain_split u (m ∷ ms) ns h = let r = plain_split u ms ns h.1 in ((h.0, r.0), r.1)
 
-plain_up : (s : BlockSpot) (ss : List BlockSpot) (ns : List ℕ) → ArePlainAt (tree_by ss) ns → ArePlainAt (tree_by (s ∷ ss)) (map suc ns)
-plain_up s ss [] h = tt
-plain_up s ss (n ∷ ns) h = (h.0, plain_up s ss ns h.1)
+or_true : (a b : Bool) → b ≡ true → (a || b) ≡ true
+or_true true b e = refl
+or_true false b e = e
 
-counted_plain : (ss : List BlockSpot) → AreContents ss → ArePlainAt (tree_by ss) (counted ss)
-counted_plain [] h = tt
-counted_plain (s ∷ ss) h = (content_plain s.block s.text h.0, plain_up s ss (counted ss) (counted_plain ss h.1))
+inside_so : (v : Bool) (A B : Type 0) → (A → B) → InsideOf v A → InsideOf v B
+inside_so true A B f h = tt
+inside_so false A B f h = f h
+
+mutual
+  full_so : (t : ItemTree) → HasItems t → (holds_page t ≡ true) × NoneEmpty t
+  full_so (inner h o ts c) g = (
+    or_true (is_body h.kind) (list_any is_page (o ++ (held_by_all ts ++ c))) g.0,
+    inside_so (is_leaf h.kind) (AllHaveItems ts) (AllNonEmpty ts) (λ k. all_full ts k) g.1,
+  )
+
+  all_full : (ts : ItemTrees) → AllHaveItems ts → AllNonEmpty ts
+  all_full nothing g = tt
+  all_full (further t ts) g = let r = full_so t g.0 in (r.0, r.1, all_full ts g.1)
+
+plain_so : (t : ItemTree) → IsOwn t → ArePlain (t ∷ [])
+plain_so t h =
+    let r = full_so t h.has_items in
+    record { of_page = both_of_page (tree_items t ++ []) [] (both_of_page (tree_items t) [] h.of_page refl) refl; none_empty = (r.0, r.1, tt) }
+
+all_plain : (u : ℕ → ItemTree) (ns : List ℕ) → AreOwn u ns → ArePlainAt u ns
+all_plain u [] h = tt
+all_plain u (n ∷ ns) h = (plain_so (u n) h.0, all_plain u ns h.1)
 
 -- ---- all of them
 
@@ -124,7 +125,7 @@ by_group : (g : Bool) (xs ys : Trees) → g ≡ false → (if g then xs else ys)
 by_group true xs ys e = let no : true ≡ false = e in absurd (cc)
 by_group false xs ys e = refl
 
-inside_settled : (n at : ℕ) (l : Label) (ts : Trees) → is_group l.kind ≡ false → tree l ts ≡ settled n at (placeless (tree l ts))
+pub inside_settled : (n at : ℕ) (l : Label) (ts : Trees) → is_group l.kind ≡ false → tree l ts ≡ settled n at (placeless (tree l ts))
     → ts ≡ all_settled (next_after l.kind n) (at + length l.opening) (all_placeless ts)
 inside_settled n at l ts g e =
     ap children e ∙ by_group (is_group l.kind) (all_placeless ts) (all_settled (next_after l.kind n) (at + length l.opening) (all_placeless ts)) g
@@ -204,7 +205,7 @@ all_stand ss p fs (tree l ts) h is b body order e =
     let u : ℕ → ItemTree = tree_by ss in
     stood_list ss (paths_to fs) l ts
     (subst (λ (ns : List ℕ). AreStood u ns (paths_to fs) ts) is
-    (paths_stand u p fs ts (next_after l.kind 1) (0 + length l.opening) h (subst (ArePlainAt u) (sym is) (counted_plain ss b)) (next_some l.kind 1 (omega arith))
+    (paths_stand u p fs ts (next_after l.kind 1) (0 + length l.opening) h (subst (ArePlainAt u) (sym is) (all_plain u (counted ss) (counted_own ss b))) (next_some l.kind 1 (omega arith))
     (inside_settled 1 0 l ts (ap is_group body) order) e))
 
 -- ---- so each path leads to a block of its kind

@@ -22,7 +22,7 @@ use Rattle.wt_called_edit_laws.specs.AnyTexts.{IsOwn, AreOwn}
 use Rattle.wt_called_edit_laws.specs.CalledPages.{IsCalledPage}
 use Rattle.wt_called_edit_laws.specs.CalledTexts.{spots_tree, TakesTextsAmong}
 use Rattle.wt_called_edit_laws.specs.ContentsTaken.{TakesContents}
-use Rattle.wt_called_edit_laws.specs.EditsAt.{edited_at, edited_among, edited_by, EditsOnly, AllEditOnly, content_of, with_content, with_contents, edited_page, IsOneText, FitsSpot, AreFitting, IsContentEdit, IsOwnEdit, AreOwnEdits, IsUnmarkedContentEdit}
+use Rattle.wt_called_edit_laws.specs.EditsAt.{IsStanding, StandsTo, StandsAmong, AllStand, edited_at, edited_among, edited_by, EditsOnly, AllEditOnly, content_of, with_content, with_contents, edited_page, IsOneText, FitsSpot, AreFitting, IsContentEdit, IsOwnEdit, AreOwnEdits, IsUnmarkedContentEdit}
 use Rattle.wt_called_edit_laws.specs.TreeEdits.{IsEditOf, IsUnmarkedEditOf, sent_body, free_sent_body}
 use Rattle.wt_called_edit_laws.proofs.BlocksMade.{text_of, text_content}
 use Rattle.wt_called_edit_laws.proofs.CallsTake.{numbered_body, contents_by}
@@ -30,7 +30,7 @@ use Rattle.wt_called_edit_laws.proofs.Cells.Nodes.{same_inside}
 use Rattle.wt_called_edit_laws.proofs.Cells.Paths.{same_first, same_rest}
 use Rattle.wt_called_edit_laws.proofs.Cells.PlaceFacts.{same_block}
 use Rattle.wt_called_edit_laws.proofs.EditFacts.{IsFramedPage, framed_page, paths_of, spots_contents, spots_stand}
-use Rattle.wt_called_edit_laws.proofs.Leads.{IsStanding, StandsTo, StandsAmong, AllStand, standing_kind, all_lead}
+use Rattle.wt_called_edit_laws.proofs.Leads.{standing_kind, all_lead}
 use Rattle.wt_called_edit_laws.proofs.OwnEdits.{own_edits}
 
 -- ---- it is an edit of contents at these paths

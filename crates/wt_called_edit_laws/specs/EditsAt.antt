@@ -1,20 +1,50 @@
 -- Contents of paragraphs and headings that are edited at paths of a page's tree, and the new page.
-use Rattle.std.specs.Prelude.{◌≡◌, ◌⊎◌, ℕ, zero, suc, false, Option, Some, None, List, [], ◌∷◌, map}
+use Rattle.std.specs.Prelude.{◌≡◌, ◌⊎◌, ◌<◌, ℕ, zero, suc, false, Option, Some, None, List, [], ◌∷◌, map}
 use Rattle.std.specs.Str.{IsUtf8}
-use Rattle.wt_tree.specs.Tree.{Tree}
+use Rattle.wt_tree.specs.Tree.{Label, Tree, tree, Trees, none, more, label}
+use Rattle.wt_span.specs.Items.{Item}
+use Rattle.wt_inline.specs.ItemTree.{ItemTree}
 use Rattle.wt_checks.specs.Kept.{children}
 use Rattle.wt_difference.specs.Difference.{same_inside}
 use Rattle.wt_difference.specs.Unedited.{SameLabel, IsUnedited}
 use Rattle.wt_link_spelling.specs.Spelling.{inline_spelling}
 use Rattle.wt_visible.specs.SameNodes.{same_node}
+use Rattle.wt_moved_laws.specs.Standing.{standing}
 use Rattle.wt_typed_blocks.specs.Sent.{Block}
 use Rattle.wt_typed_blocks.specs.Typed.{place_of, Takes}
-use Rattle.wt_typed_blocks.specs.Edited.{Piece, gone, written, kept, Edited, stays, edited, round, Edits, no_edits, more_edits, page_node, page_nodes, sent_node, AreEdited}
-use Rattle.wt_typed_blocks.specs.EditedUnmarked.{bare_node}
+use Rattle.wt_typed_blocks.specs.Edited.{Piece, gone, written, kept, Edited, stays, edited, round, Edits, no_edits, more_edits, page_node, page_nodes, sent_node, AreEdited, sent_body}
+use Rattle.wt_typed_blocks.specs.EditedUnmarked.{bare_node, bare_body}
 use Rattle.wt_text_edit_laws.specs.BlockSpots.{BlockSpot, spots_source}
-use Rattle.wt_text_edit_laws.specs.TextBlocks.{TextBlock}
+use Rattle.wt_text_edit_laws.specs.TextBlocks.{TextBlock, block_tree}
 use Rattle.wt_beside_laws.specs.FlatBlocks.{IsFlatIn, IsFlatEditOf}
 use Rattle.wt_called_edit_laws.specs.AnyBlocks.{first_paths, other_paths, EndHere, GoOn}
+
+-- ---- where the blocks are
+
+-- this block is a node of the page: with a number, and at some place
+pub record IsStanding (u : ItemTree) (t : Tree) : Type 0 where
+  pub number : ℕ
+  pub before : List Item
+  pub some : 0 < number
+  pub is : t ≡ standing number before u
+
+-- so it is at this path
+abbrev mutual
+  pub StandsTo : ItemTree → List ℕ → Tree → Type 0
+  StandsTo u [] t = IsStanding u t
+  StandsTo u (i ∷ is) (tree l ts) = StandsAmong u i is ts
+
+  pub StandsAmong : ItemTree → ℕ → List ℕ → Trees → Type 0
+  StandsAmong u i is none = ⊥
+  StandsAmong u zero is (more t ts) = StandsTo u is t
+  StandsAmong u (suc i) is (more t ts) = StandsAmong u i is ts
+
+-- at each of these paths is one of these blocks, in their order
+abbrev pub AllStand : List BlockSpot → List (List ℕ) → Tree → Type 0
+AllStand [] [] t = Unit {0}
+AllStand [] (p ∷ ps) t = ⊥
+AllStand (s ∷ ss) [] t = ⊥
+AllStand (s ∷ ss) (p ∷ ps) t = StandsTo (block_tree s.block s.text) p t × AllStand ss ps t
 
 -- ---- what is sent
 
@@ -106,6 +136,14 @@ pub record IsContentEdit (t : Tree) (ss : List BlockSpot) (paths : List (List �
   pub sent : AreEdited es
   pub edits : AllEditOnly paths es
   pub fit : AreFitting ss (map (edited_by es) paths)
+
+-- the edited tree, with this label of its body
+abbrev pub sent_contents : Tree → Edits → Label → Tree
+sent_contents t es b = sent_body (label t) b es
+
+-- whatever marks are on the blocks whose contents were edited, and on the body
+abbrev pub bare_contents : Tree → Edits → Label → Tree
+bare_contents t es b = bare_body (label t) b es
 
 -- What stays is the page's own in all that the difference looks at, and so is the label of what holds blocks whose contents were edited; and each
 -- of these contents is another one than the block held.
