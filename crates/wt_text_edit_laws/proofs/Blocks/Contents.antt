@@ -2,34 +2,44 @@
 use Rattle.std.proofs.Common.{◌≡◌, ◌⊎◌, inl, inr, ℕ, suc, None, List, [], ◌∷◌, ◌++◌, map, refl, sym, ap, ◌∙◌, subst, append-nil}
 use Rattle.std.specs.Str.{IsUtf8}
 use Rattle.wt_span.specs.Characters as byte
-use Rattle.wt_span.specs.Items.{Item, char}
-use Rattle.wt_inline.specs.ItemTree.{ItemTree, inner, ItemTrees, forest}
+use Rattle.std.proofs.lemmas.Grind.{flat_map-append}
+use Rattle.wt_span.specs.Items.{Item, char, source, sources}
+use Rattle.wt_lines.specs.Lines.{lines}
+use Rattle.wt_lines.proofs.LineLaws.{lines_are}
+use Rattle.wt_context.specs.Line.{line_parts}
+use Rattle.wt_context.proofs.LineHolding.{line_source}
+use Rattle.wt_inline.proofs.HeldLaws.{held_children}
+use Rattle.wt_inline.specs.ItemTree.{ItemTree, inner, ItemTrees, forest, held_by_all, tree_items}
 use Rattle.wt_inline.specs.Parts.{children}
 use Rattle.wt_guards.specs.Guards.{nowiki}
 use Rattle.wt_expand.specs.PageItems.{page_items}
+use Rattle.wt_expand.proofs.PageLaws.{page_sources}
 use Rattle.wt_spelling_laws.proofs.TextKinds.{lines_are_text}
 use Rattle.wt_called_trees.specs.Rounded.{HasItems, AllHaveItems}
+use Rattle.wt_text_edit_laws.specs.ParagraphParts.{joined_parts}
 use Rattle.wt_text_edit_laws.specs.TypedPages.{IsTypedPage}
 use Rattle.wt_text_edit_laws.specs.TextBetween.{StandsBehind}
 use Rattle.wt_text_edit_laws.specs.Paragraphs.{AreLetters, IsParagraph}
 use Rattle.wt_text_edit_laws.specs.TypedHeadings.{Sides}
 use Rattle.wt_text_edit_laws.specs.TextBlocks.{TextBlock, a_paragraph, a_heading, source_of, block_items, block_tree, IsBlock, IsTypedIn}
-use Rattle.wt_text_edit_laws.specs.BlockSpots.{BlockSpot, AreBlocks, AreContents}
+use Rattle.wt_text_edit_laws.specs.BlockSpots.{BlockSpot, SameRound, AreBlocks, AreContents}
 use Rattle.wt_text_edit_laws.specs.Contents.{AreParagraphLines, IsContentOf, content_parts_of, IsContent, StaysAnywhere, IsFirmContent, IsNewContent}
 use Rattle.wt_text_edit_laws.proofs.Texts.TypedLeaves.{Leaf, letters, reference, guard, leaves, leaf_tree}
+use Rattle.wt_text_edit_laws.proofs.Texts.TypedShown.{AllOfPage, leaves_of_page}
 use Rattle.wt_text_edit_laws.proofs.Prose.Uncommented.{BeginsUncommented}
 use Rattle.wt_text_edit_laws.proofs.Prose.InFront.{Reads, reads_nothing, spelled_unclosed, read_break, read_items}
 use Rattle.wt_text_edit_laws.proofs.Prose.ProseReading.{page_front}
 use Rattle.wt_text_edit_laws.proofs.Between.ClosingTags.{Unclosed}
 use Rattle.wt_text_edit_laws.proofs.Between.Fronts.{behind_reads}
 use Rattle.wt_text_edit_laws.proofs.Between.LessBraces.{page_unbraced}
-use Rattle.wt_text_edit_laws.proofs.Paragraphs.LineBlocks.{all_unled}
+use Rattle.wt_text_edit_laws.proofs.Paragraphs.LineBlocks.{page_breaks, all_unled, parts_source}
 use Rattle.wt_text_edit_laws.proofs.Paragraphs.Texts.{EndsHere, letters_joined, letters_stand, paragraph_lines, paragraph_utf8, paragraph_written}
 use Rattle.wt_text_edit_laws.proofs.Headings.HeadingRows.{text_inside}
 use Rattle.wt_text_edit_laws.proofs.Blocks.BlockReading.{typed_text, IsBeforeAny, HasFrame, any_front}
-use Rattle.wt_text_edit_laws.proofs.Blocks.BlockLeaves.{leaf_block, block_leaves}
+use Rattle.wt_text_edit_laws.proofs.Blocks.BlockLeaves.{open_items, close_items, leaf_block, block_leaves}
 use Rattle.wt_text_edit_laws.proofs.Blocks.BlockLines.{heading_frame, heading_level, heading_text}
 use Rattle.wt_text_edit_laws.proofs.Blocks.TypedBraces.{AreTypedOver, AreNewOver}
+use Rattle.wt_text_edit_laws.proofs.Blocks.TypedFacts.{framed}
 use Rattle.wt_text_edit_laws.proofs.Blocks.Untangled.{text_untangled}
 
 -- ---- a text that is typed is read the same before anything
@@ -135,6 +145,10 @@ content_inside (a_heading s) q = refl
 block_has : (k : TextBlock) (q : List ℕ) → IsBlock k q → AllHaveItems (forest (children (content_parts_of k (page_items q))))
 block_has k q h = subst AllHaveItems (ap held_trees (sym (block_leaves k q h)) ∙ content_inside k q) (leaves_have (leaves (page_items q)))
 
+block_of_page : (k : TextBlock) (q : List ℕ) → IsBlock k q → AllOfPage (held_by_all (forest (children (content_parts_of k (page_items q)))))
+block_of_page k q h =
+    subst (λ ts. AllOfPage (held_by_all ts)) (ap held_trees (sym (block_leaves k q h)) ∙ content_inside k q) (leaves_of_page (leaves (page_items q)))
+
 -- ---- so it is a content
 
 pub block_content : (k : TextBlock) (q : List ℕ) → IsBlock k q → IsContent k q
@@ -143,6 +157,7 @@ block_content k q h = record {
   ended = block_ended k q h;
   unended = block_unended k q h;
   is = content_of k q h;
+  of_page = block_of_page k q h;
   has_items = block_has k q h;
   untangled = λ items t e. text_untangled k q items t h e;
 }
@@ -203,3 +218,31 @@ over_new (s ∷ ss) (r ∷ rs) o = (one_new o.0, over_new ss rs o.1)
     one_new : (r.text ≡ s.text) ⊎ IsTypedIn r.block r.text → (r.text ≡ s.text) ⊎ IsNewContent r.block s.text r.text
     one_new (inl e) = inl e
     one_new (inr t) = inr (typed_new r.block s.text r.text t)
+
+pub new_contents : (ss rs : List BlockSpot) → SameRound ss rs → AreNewOver ss rs → AreContents ss → AreContents rs
+new_contents [] [] e o h = tt
+new_contents [] (r ∷ rs) e o h = absurd e
+new_contents (s ∷ ss) [] e o h = absurd e
+new_contents (s ∷ ss) (r ∷ rs) e o h =
+    (over_content r.block s.text r.text o.0 (subst (λ k. IsContent k s.text) (sym e.1) h.0), new_contents ss rs e.2 o.1 h.1)
+
+-- ---- the source of a block is in its tree
+
+held_items : (k : TextBlock) (q : List ℕ)
+    → tree_items (block_tree k q) ≡ open_items k ++ (held_by_all (forest (children (content_parts_of k (page_items q)))) ++ close_items k)
+held_items a_paragraph q = refl
+held_items (a_heading s) q = refl
+
+inside_source : (k : TextBlock) (q : List ℕ) → sources (held_by_all (forest (children (content_parts_of k (page_items q))))) ≡ q
+inside_source a_paragraph q =
+    let xs : List Item = page_items q in
+    ap sources (held_children (joined_parts (lines xs))) ∙ parts_source (lines xs) xs (lines_are xs) (page_breaks q) ∙ page_sources q
+inside_source (a_heading s) q = ap sources (held_children (line_parts (page_items q))) ∙ line_source (page_items q) ∙ page_sources q
+
+pub block_source : (k : TextBlock) (q : List ℕ) → sources (tree_items (block_tree k q)) ≡ source_of k q
+block_source k q =
+    let own : List Item = held_by_all (forest (children (content_parts_of k (page_items q)))) in
+    ap sources (held_items k q)
+    ∙ flat_map-append source (open_items k) (own ++ close_items k)
+    ∙ ap (λ cs. sources (open_items k) ++ cs) (flat_map-append source own (close_items k) ∙ ap (λ cs. cs ++ sources (close_items k)) (inside_source k q))
+    ∙ framed k q

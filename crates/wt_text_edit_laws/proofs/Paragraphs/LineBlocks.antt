@@ -5,17 +5,20 @@ use Rattle.std.specs.List.{AllByRecursion}
 use Rattle.std.proofs.lemmas.Bool.Decides.{nat_tests}
 use Rattle.std.proofs.lemmas.List.Elements.{All-head, All-tail}
 use Rattle.wt_tree.specs.declared.kind.Kind.TheVariants as kind
-use Rattle.wt_span.specs.Items.{Item, char, whole, call_of}
+use Rattle.std.proofs.lemmas.Grind.{flat_map-append}
+use Rattle.wt_span.specs.Items.{Item, char, whole, call_of, source, sources}
 use Rattle.wt_span.specs.Runs.{IsRun, AreRuns}
 use Rattle.wt_span.proofs.RunLaws.{runs_are}
 use Rattle.wt_expand.specs.PageItems.{page_items}
 use Rattle.wt_expand.proofs.PageLaws.{page_has_no_calls}
-use Rattle.wt_lines.specs.Lines.{is_break_item, goes_on, lines, full_lines, content, empty_end}
+use Rattle.wt_lines.specs.Lines.{is_break_item, goes_on, lines, full_lines, content, empty_end, AreLines}
 use Rattle.wt_lines.proofs.FullLines.{same_lines}
 use Rattle.wt_inline.specs.declared.loose.Loose.TheVariants.{Text}
 use Rattle.wt_inline.specs.ItemTree.{plain, inner, forest}
-use Rattle.wt_inline.specs.Parts.{Part, parts, children}
+use Rattle.wt_inline.specs.Parts.{Part, parts, held_parts, children}
+use Rattle.wt_inline.proofs.HeldLaws.{held_append}
 use Rattle.wt_context.specs.Line.{line_parts}
+use Rattle.wt_context.proofs.LineHolding.{line_source}
 use Rattle.wt_headings.specs.Lines.{ending}
 use Rattle.wt_page.specs.Texts.{para_parts, para}
 use Rattle.wt_text_edit_laws.specs.LonePages.{page_chars, para_of}
@@ -187,4 +190,22 @@ ended_para xs b o =
 
 -- of one text it is all its items
 pub text_tree : (xs : List Item) → IsTextBlock xs → OwnBreaks xs → para_with (joined_parts (lines xs)) ≡ para_of xs
+unfolding as_lines
 text_tree xs b o = sym (rows_para xs (as_lines xs b) o) ∙ block_para xs b
+
+-- ---- their source
+
+pub parts_source : (ls : List (List Item)) (xs : List Item) → AreLines ls xs → OwnBreaks xs → sources (held_parts (joined_parts ls)) ≡ sources xs
+parts_source [] xs r o = absurd r
+parts_source (l ∷ []) xs r o = ap (λ ps. sources (held_parts ps)) (append-nil (line_parts l)) ∙ line_source l ∙ ap sources (sym r.1)
+parts_source (l ∷ m ∷ ls) xs r o =
+    let own : OwnBreaks (l ++ r.1 ∷ r.2) = subst OwnBreaks r.4 o in
+    let rest : OwnBreaks (r.1 ∷ r.2) = own_rest l (r.1 ∷ r.2) own in
+    let others : List Item = held_parts (joined_parts (m ∷ ls)) in
+    ap sources (held_append (line_parts l) (parts Text (break ∷ []) ++ joined_parts (m ∷ ls)))
+    ∙ flat_map-append source (held_parts (line_parts l)) (break ∷ others)
+    ∙ ap (λ bs. bs ++ sources (break ∷ others)) (line_source l)
+    ∙ ap (λ (bs : List ℕ). sources l ++ 10 ∷ bs) (parts_source (m ∷ ls) r.2 r.5 rest.1)
+    ∙ ap (λ x. sources l ++ sources (x ∷ r.2)) (sym (rest.0 r.3))
+    ∙ sym (flat_map-append source l (r.1 ∷ r.2))
+    ∙ ap sources (sym r.4)
