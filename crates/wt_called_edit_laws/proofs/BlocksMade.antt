@@ -16,7 +16,7 @@ use Rattle.wt_text_edit_laws.specs.BlockEdits.{typed_as}
 use Rattle.wt_text_edit_laws.specs.BlockSpots.{BlockSpot, AreBlocks}
 use Rattle.wt_text_edit_laws.specs.OwnNodes.{IsTypedSpot}
 use Rattle.wt_text_edit_laws.specs.TextBlocks.{TextBlock, block_of, source_of, block_tree, IsBlock}
-use Rattle.wt_text_edit_laws.proofs.Blocks.BlockTrees.{open_items, close_items, block_leaves, block_own}
+use Rattle.wt_text_edit_laws.proofs.Blocks.BlockLeaves.{open_items, close_items, block_leaves, block_own}
 use Rattle.wt_text_edit_laws.proofs.Blocks.TypedFacts.{framed, leaves_are, text_label, text_nodes, its_node, typed_shown}
 use Rattle.wt_text_edit_laws.proofs.Texts.TypedLeaves.{AreOwn, Leaf, leaves}
 use Rattle.wt_text_edit_laws.proofs.Texts.TypedNodes.{nodes_flat}

@@ -18,8 +18,8 @@ use Rattle.wt_text_edit_laws.specs.BlockSpots.{BlockSpot, spots_source, SameRoun
 use Rattle.wt_text_edit_laws.specs.ParagraphBetween.{body_with}
 use Rattle.wt_text_edit_laws.specs.TextBlocks.{TextBlock, a_paragraph, a_heading, source_of, block_tree, IsBlock}
 use Rattle.wt_text_edit_laws.specs.TypedHeadings.{equals}
-use Rattle.wt_text_edit_laws.proofs.Blocks.BlockMeaning.{heading_frame}
-use Rattle.wt_text_edit_laws.proofs.Blocks.BlockTrees.{leaf_block, block_leaves, block_own}
+use Rattle.wt_text_edit_laws.proofs.Blocks.BlockLines.{heading_frame}
+use Rattle.wt_text_edit_laws.proofs.Blocks.BlockLeaves.{leaf_block, block_leaves, block_own}
 use Rattle.wt_text_edit_laws.proofs.Prose.InFront.{reads_nothing, read_items}
 use Rattle.wt_text_edit_laws.proofs.Texts.TypedLeaves.{leaves}
 use Rattle.wt_called_edit_laws.specs.Retyped.{AreRetyped}
@@ -28,8 +28,7 @@ use Rattle.wt_called_trees.specs.Rounded.{AreOwn, HasItems}
 use Rattle.wt_called_trees.proofs.FrameEnds.{held}
 use Rattle.wt_called_edit_laws.specs.CalledBlocks.{AreAmongCalls, StandAmongCalls, tree_by, counted}
 use Rattle.wt_called_edit_laws.proofs.Cells.CalledFrames.{stand_among}
-use Rattle.wt_called_edit_laws.proofs.Cells.PlaceGaps.{Gaps, last_gap, then_gap, numbers_in, fill, source_at, sources_at, own_sources, FillsAll, AreSame, same_gaps, block_source, sources_counted, count_counted, many_by, self_round}
-use Rattle.wt_called_edit_laws.proofs.Cells.PlaceGaps.{AtPlaces as AtGaps}
+use Rattle.wt_called_edit_laws.proofs.Cells.PlaceGaps.{Gaps, last_gap, then_gap, numbers_in, fill, source_at, sources_at, own_sources, FillsAll, AreSame, same_gaps, block_source, sources_counted, count_counted, many_by, self_round, AtPlaces as AtGaps}
 use Rattle.wt_called_edit_laws.proofs.Cells.SpotTrees.{counted_same}
 use Rattle.wt_called_edit_laws.specs.CalledPages.{IsCalledPage}
 use Rattle.wt_called_edit_laws.specs.Covered.{NoGroupAt, HaveBytes, AreInNoGroup}

@@ -5,7 +5,7 @@ use Rattle.wt_inline.specs.ItemTree.{forest}
 use Rattle.wt_expand.specs.PageItems.{page_items}
 use Rattle.wt_text_edit_laws.specs.BlockSpots.{BlockSpot, AreBlocks}
 use Rattle.wt_text_edit_laws.specs.TextBlocks.{TextBlock, a_paragraph, a_heading, block_tree, IsBlock}
-use Rattle.wt_text_edit_laws.proofs.Blocks.BlockTrees.{leaf_block, block_leaves, block_own, block_plain}
+use Rattle.wt_text_edit_laws.proofs.Blocks.BlockLeaves.{leaf_block, block_leaves, block_own, block_plain}
 use Rattle.wt_text_edit_laws.proofs.Texts.TypedLeaves.{Leaf, letters, reference, guard, leaves, leaf_tree}
 use Rattle.wt_called_trees.specs.Rounded.{HasItems, AllHaveItems, IsOwn, AreOwn}
 use Rattle.wt_called_edit_laws.specs.CalledBlocks.{tree_by, counted}

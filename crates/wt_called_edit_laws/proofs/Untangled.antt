@@ -27,7 +27,7 @@ use Rattle.wt_selser.specs.GroupFaults.{group_or_style, has_faulty_group}
 use Rattle.wt_text_edit_laws.specs.BlockSpots.{BlockSpot, spots_source, AreBlocks, AreReadAfter}
 use Rattle.wt_text_edit_laws.specs.TextBetween.{AreEnded}
 use Rattle.wt_text_edit_laws.specs.TextBlocks.{TextBlock, source_of, block_tree, IsBlock, BeginsLine}
-use Rattle.wt_text_edit_laws.proofs.Blocks.BlockTrees.{open_items, block_leaves, block_own}
+use Rattle.wt_text_edit_laws.proofs.Blocks.BlockLeaves.{open_items, block_leaves, block_own}
 use Rattle.wt_text_edit_laws.proofs.Blocks.BlocksAgain.{AreClear}
 use Rattle.wt_text_edit_laws.proofs.Blocks.BlockReading.{begins_here}
 use Rattle.wt_text_edit_laws.proofs.Blocks.TypedFacts.{text_nodes, its_node}

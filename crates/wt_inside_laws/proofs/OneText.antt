@@ -30,8 +30,9 @@ use Rattle.wt_text_edit_laws.specs.TextBlocks.{TextBlock, a_paragraph, a_heading
 use Rattle.wt_text_edit_laws.specs.BlockSpots.{BlockSpot, spots_source, page_blocks, AreBlockSpots, AreBlocks}
 use Rattle.wt_text_edit_laws.specs.Parts.{part_tree}
 use Rattle.wt_text_edit_laws.proofs.Paragraphs.Texts.{paragraph_written}
-use Rattle.wt_text_edit_laws.proofs.Blocks.BlockMeaning.{heading_sides}
-use Rattle.wt_text_edit_laws.proofs.Blocks.BlockTrees.{block_leaves, as_leaves, block_own, are_typed, spots_tree}
+use Rattle.wt_text_edit_laws.proofs.Blocks.BlockLines.{heading_sides}
+use Rattle.wt_text_edit_laws.proofs.Blocks.BlockTrees.{as_leaves, are_typed, spots_tree}
+use Rattle.wt_text_edit_laws.proofs.Blocks.BlockLeaves.{block_leaves, block_own}
 use Rattle.wt_text_edit_laws.proofs.Blocks.TypedFacts.{items_source}
 use Rattle.wt_text_edit_laws.proofs.Blocks.KeptBlocks.{blocks_source, part_source}
 use Rattle.wt_text_edit_laws.proofs.Blocks.BlocksTake.{page_is}

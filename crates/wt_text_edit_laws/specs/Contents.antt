@@ -1,5 +1,6 @@
 -- The content of a paragraph or a heading, whatever is in it: what makes it one that is read by itself, and one that may be written in its place.
-use Rattle.std.specs.Prelude.{◌≡◌, ◌⊎◌, ℕ, false, Option, None, List, [], ◌∷◌, ◌++◌, All}
+use Rattle.std.specs.Prelude.{◌≡◌, ◌⊎◌, ℕ, true, false, None, List, [], ◌∷◌, ◌++◌, All}
+use Rattle.std.specs.List.{list_all}
 use Rattle.std.specs.Str.{IsUtf8}
 use Rattle.wt_span.specs.Characters as byte
 use Rattle.wt_span.specs.Items.{Item, char}
@@ -9,11 +10,12 @@ use Rattle.wt_tree.specs.Tree.{Tree}
 use Rattle.wt_lines.specs.declared.kind.LineKind.TheVariants as line
 use Rattle.wt_lines.specs.Kinds.{line_kind}
 use Rattle.wt_lines.specs.Lines.{lines, full_lines}
-use Rattle.wt_inline.specs.ItemTree.{forest}
+use Rattle.wt_inline.specs.ItemTree.{forest, held_by_all}
 use Rattle.wt_inline.specs.Parts.{Part, children}
 use Rattle.wt_context.specs.Line.{line_parts}
 use Rattle.wt_page.specs.Rows.{marks_len}
 use Rattle.wt_expand.specs.PageItems.{page_items}
+use Rattle.wt_annotated.specs.Clean.{is_page}
 use Rattle.wt_checks.specs.Kept.{children as nodes_in}
 use Rattle.wt_isolation.specs.OpenTags.{any_ends_open}
 use Rattle.wt_selser.specs.GroupFaults.{has_faulty_group}
@@ -58,13 +60,14 @@ content_parts_of (a_heading s) xs = line_parts xs
 
 -- ---- a content of the page
 
--- A content that is read by itself, and the same whether a line break is behind its block or the page ends there. No node in it is empty; and
--- where such a block is in a page, no tag is open in it, and no node of it is one that `edit` can't read by itself.
+-- A content that is read by itself, and the same whether a line break is behind its block or the page ends there. All in it is the page's own, and
+-- no node in it is empty; and where such a block is in a page, no tag is open in it, and no node of it is one that `edit` can't read by itself.
 pub record IsContent (k : TextBlock) (q : List ℕ) : Type 0 where
   pub utf8 : IsUtf8 q
   pub ended : page_items (source_of k q ++ byte.line_break ∷ []) ≡ block_items k q ++ char None byte.line_break ∷ []
   pub unended : page_items (source_of k q) ≡ block_items k q
   pub is : IsContentOf k q
+  pub of_page : list_all is_page (held_by_all (forest (children (content_parts_of k (page_items q))))) ≡ true
   pub has_items : AllHaveItems (forest (children (content_parts_of k (page_items q))))
   pub untangled : (items : Expanded) (t : Tree) → placeless t ≡ placeless (standing 0 [] (block_tree k q))
       → (any_ends_open (nodes_in t) ≡ false) × (has_faulty_group items (nodes_in t) ≡ false)

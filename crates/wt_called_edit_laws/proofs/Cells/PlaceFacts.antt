@@ -28,7 +28,7 @@ use Rattle.wt_text_edit_laws.proofs.Texts.TypedLeaves.{AreOwn, Leaf, leaves, lea
 use Rattle.wt_text_edit_laws.proofs.Texts.TypedNodes.{nodes_flat, none_open}
 use Rattle.wt_text_edit_laws.proofs.Texts.TypedTrees.{none_faulty}
 use Rattle.wt_text_edit_laws.proofs.Prose.ProseTrees.{number_behind, items_behind}
-use Rattle.wt_text_edit_laws.proofs.Blocks.BlockTrees.{open_items, close_items, leaf_block, block_leaves, block_own}
+use Rattle.wt_text_edit_laws.proofs.Blocks.BlockLeaves.{open_items, close_items, leaf_block, block_leaves, block_own}
 use Rattle.wt_text_edit_laws.proofs.Blocks.KeptBlocks.{block_shown, blocks_source}
 use Rattle.wt_text_edit_laws.proofs.Blocks.TypedFacts.{framed, leaves_are, items_source, text_label, text_nodes, its_node, typed_shown, all_false}
 use Rattle.wt_called_edit_laws.proofs.Cells.Nodes.{number_after, items_after, sources_after}

@@ -16,8 +16,8 @@ use Rattle.wt_text_edit_laws.specs.BlockSpots.{BlockSpot, spots_source, SameRoun
 use Rattle.wt_text_edit_laws.specs.TextBlocks.{TextBlock, a_paragraph, a_heading, source_of, block_tree, IsFrame, IsTypedHeading, IsBlock, IsTypedIn}
 use Rattle.wt_text_edit_laws.specs.TypedHeadings.{Sides, opening, closing}
 use Rattle.wt_text_edit_laws.specs.TypedPages.{IsTypedPage}
-use Rattle.wt_text_edit_laws.proofs.Blocks.BlockMeaning.{heading_frame}
-use Rattle.wt_text_edit_laws.proofs.Blocks.BlockTrees.{block_leaves, block_own}
+use Rattle.wt_text_edit_laws.proofs.Blocks.BlockLines.{heading_frame}
+use Rattle.wt_text_edit_laws.proofs.Blocks.BlockLeaves.{block_leaves, block_own}
 use Rattle.wt_text_edit_laws.proofs.Blocks.KeptBlocks.{blocks_source, held_source}
 use Rattle.wt_text_edit_laws.proofs.Blocks.TypedBraces.{AreTypedOver}
 use Rattle.wt_text_edit_laws.proofs.Blocks.TypedFacts.{items_source}

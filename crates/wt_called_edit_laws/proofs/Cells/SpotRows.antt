@@ -17,7 +17,7 @@ use Rattle.wt_text_edit_laws.proofs.Texts.PlainRows.{AreTexts, text_row}
 use Rattle.wt_text_edit_laws.proofs.Prose.ProseReading.{break}
 use Rattle.wt_text_edit_laws.proofs.Prose.ProseLines.{first_ended, rest_ended, ended, ended_texts, IsTextBlock}
 use Rattle.wt_text_edit_laws.proofs.Headings.HeadingRows.{heading_row, rows_then, rows_last, tree_is}
-use Rattle.wt_text_edit_laws.proofs.Blocks.BlockMeaning.{heading_sides, heading_text, heading_level}
+use Rattle.wt_text_edit_laws.proofs.Blocks.BlockLines.{heading_sides, heading_text, heading_level}
 use Rattle.wt_text_edit_laws.proofs.Paragraphs.Joining.{lines_join, rows_join}
 use Rattle.wt_text_edit_laws.proofs.Paragraphs.Marks.{AreMarks, EndsInMarks, marks_end, with_lead, led, rows_led}
 use Rattle.wt_text_edit_laws.proofs.Paragraphs.Texts.{paragraph_written}

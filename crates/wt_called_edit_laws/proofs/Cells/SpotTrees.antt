@@ -29,7 +29,7 @@ use Rattle.wt_text_edit_laws.specs.Parts.{part_tree, HasNoGroups}
 use Rattle.wt_text_edit_laws.specs.TextBlocks.{TextBlock, a_paragraph, a_heading, block_tree, IsBlock}
 use Rattle.wt_text_edit_laws.specs.TypedHeadings.{opening, closing_items}
 use Rattle.wt_text_edit_laws.proofs.Blocks.BlockReading.{read_items_of, read_expanded, read_unrefused}
-use Rattle.wt_text_edit_laws.proofs.Blocks.BlockTrees.{leaf_block, block_leaves, block_own, block_plain}
+use Rattle.wt_text_edit_laws.proofs.Blocks.BlockLeaves.{leaf_block, block_leaves, block_own, block_plain}
 use Rattle.wt_text_edit_laws.proofs.Blocks.BlocksAgain.{read_utf8}
 use Rattle.wt_text_edit_laws.proofs.Blocks.KeptBlocks.{blocks_source, held_source}
 use Rattle.wt_text_edit_laws.proofs.Blocks.PageKinds.{page_ordinary}

@@ -10,7 +10,7 @@ use Rattle.wt_text_edit_laws.specs.OwnNodes.{IsTypedSpot}
 use Rattle.wt_text_edit_laws.specs.TextBetween.{AreEnded}
 use Rattle.wt_text_edit_laws.specs.TextBlocks.{TextBlock, a_paragraph, a_heading, block_of, source_of, IsBlock, IsTypedIn, BeginsLine}
 use Rattle.wt_text_edit_laws.specs.TypedHeadings.{EndsLine}
-use Rattle.wt_text_edit_laws.proofs.Blocks.BlockMeaning.{heading_frame}
+use Rattle.wt_text_edit_laws.proofs.Blocks.BlockLines.{heading_frame}
 use Rattle.wt_text_edit_laws.proofs.Blocks.BlockSpotFacts.{typed_paragraph, typed_heading}
 use Rattle.wt_text_edit_laws.proofs.Blocks.TypedAgain.{read_again}
 use Rattle.wt_text_edit_laws.proofs.Blocks.TypedBraces.{AreTypedOver}
