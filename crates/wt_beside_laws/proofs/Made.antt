@@ -1,0 +1,4 @@
+-- Contents of paragraphs and headings of a page that take texts beside nodes that stay.
+pub mod OwnPages
+pub mod OldBlocks
+pub mod Levels
