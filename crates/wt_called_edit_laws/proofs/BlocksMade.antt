@@ -27,7 +27,8 @@ use Rattle.wt_text_edit_laws.specs.Contents.{IsContent, IsNewContent}
 use Rattle.wt_text_edit_laws.specs.TextBlocks.{TextBlock, a_paragraph, a_heading, block_of, source_of, block_tree, IsBlock, IsTypedIn}
 use Rattle.wt_text_edit_laws.proofs.Blocks.BlockSpotFacts.{typed_paragraph, typed_heading}
 use Rattle.wt_text_edit_laws.proofs.Blocks.BlockLeaves.{open_items, close_items, block_leaves, block_own}
-use Rattle.wt_text_edit_laws.proofs.Blocks.Contents.{typed_new}
+use Rattle.wt_text_edit_laws.proofs.Blocks.Contents.{typed_block, typed_new}
+use Rattle.wt_text_edit_laws.proofs.Blocks.Contents.{block_source as source_is}
 use Rattle.wt_text_edit_laws.proofs.Blocks.TypedFacts.{framed, text_shown, typed_shown}
 use Rattle.wt_beside_laws.specs.ContentEdits.{new_content, MakesContent}
 use Rattle.wt_beside_laws.specs.FlatBlocks.{IsFlatIn, IsFlatEditOf}
@@ -42,7 +43,6 @@ use Rattle.wt_called_trees.specs.TreeFrames.{TreeFrame, spot, kept as kept_tree,
 use Rattle.wt_called_edit_laws.proofs.Cells.Nodes.{same_inside}
 use Rattle.wt_called_edit_laws.proofs.Cells.Paths.{same_first, same_rest}
 use Rattle.wt_called_edit_laws.proofs.Cells.PlaceFacts.{same_block}
-use Rattle.wt_called_edit_laws.proofs.Cells.PlaceGaps.{block_source as source_is}
 use Rattle.wt_called_edit_laws.proofs.Leads.{standing_kind, edit_at}
 use Rattle.wt_called_edit_laws.proofs.TextsMake.{flat_same}
 
@@ -128,10 +128,10 @@ block_flat : (j : Block) (l : Label) (us : Trees) → block_source l us ≡ flat
 block_flat paragraph l us = refl
 block_flat (heading n) l us = refl
 
-old_source : (k : TextBlock) (q : List ℕ) (l m : Label) (ps : List Piece) → IsContent k q → IsStanding (block_tree k q) (page_node (edited (block_of k) l m ps))
+old_source : (k : TextBlock) (q : List ℕ) (l m : Label) (ps : List Piece) → IsStanding (block_tree k q) (page_node (edited (block_of k) l m ps))
     → block_source l (page_pieces ps) ≡ source_of k q
-old_source k q l m ps c h =
-    block_flat (block_of k) l (page_pieces ps) ∙ ap flat h.is ∙ standing_source h.number h.before (block_tree k q) ∙ source_is k q c
+old_source k q l m ps h =
+    block_flat (block_of k) l (page_pieces ps) ∙ ap flat h.is ∙ standing_source h.number h.before (block_tree k q) ∙ source_is k q
 
 -- ---- with this text
 
@@ -142,15 +142,11 @@ text_content k q l m ps c h one =
     let page : Tree = page_node (edited j l m ps) in
     ap (λ (us : Trees). inline_spelling same_node page (marked_node j l m us) (place_of j)) (one_sent j m ps one)
     ∙ typed_is same_node j l (page_pieces ps) m (text_label m ps) (text_of ps)
-    ∙ ap (λ (bs : List ℕ). typed_as j bs (text_of ps)) (old_source k q l m ps c h)
+    ∙ ap (λ (bs : List ℕ). typed_as j bs (text_of ps)) (old_source k q l m ps h)
 
 typed_in : (k : TextBlock) (q text : List ℕ) → IsContent k q → IsUtf8 text → Takes (block_of k) text → IsTypedIn k (typed_as (block_of k) (source_of k q) text)
 typed_in a_paragraph q text c u t = typed_paragraph q text u
 typed_in (a_heading s) q text c u t = let i = c.is in typed_heading s (source_of (a_heading s) q) text u t i.frame
-
-typed_is_block : (k : TextBlock) (q : List ℕ) → IsTypedIn k q → IsBlock k q
-typed_is_block a_paragraph q h = inl h
-typed_is_block (a_heading s) q h = inl h
 
 block_shows : (k : TextBlock) (q text : List ℕ) (rest : Plains) → IsUtf8 text → IsBlock k (typed_as (block_of k) q text)
     → text_shown k text rest ≡ plain_before (standing 0 [] (block_tree k (typed_as (block_of k) q text))) rest
@@ -184,7 +180,7 @@ text_made k q l m ps c h one =
       shows = λ rest.
           ap (λ (qs : Plains). along (element (face (label page)) qs) rest) (one_before j ps ended one)
           ∙ ap (λ (f : Face). along (element f (text_before text ended)) rest) faces
-          ∙ block_shows k (source_of k q) text rest f.0 (typed_is_block k new is_typed)
+          ∙ block_shows k (source_of k q) text rest f.0 (typed_block k new is_typed)
           ∙ ap (λ (bs : List ℕ). plain_before (standing 0 [] (block_tree k bs)) rest) (sym is);
     }
 
@@ -201,13 +197,12 @@ as_made : (k : TextBlock) (q : List ℕ) (l m : Label) (ps : List Piece) → Mak
     → IsMade k q (edited (block_of k) l m ps)
 as_made k q l m ps h =
     let now : List ℕ = content_of (edited (block_of k) l m ps) in
-    let firm = h.new.firm in
     record {
       taken = h.taken;
       inline = h.inline;
       new = h.new;
       makes = record {
-        source = h.source ∙ sym (flat_same (standing 0 [] (block_tree k now)) ∙ standing_source 0 [] (block_tree k now) ∙ source_is k now firm.content);
+        source = h.source ∙ sym (flat_same (standing 0 [] (block_tree k now)) ∙ standing_source 0 [] (block_tree k now) ∙ source_is k now);
         shows = λ rest. h.shows rest ∙ sym (shown_placeless (standing 0 [] (block_tree k now)) rest);
       };
     }

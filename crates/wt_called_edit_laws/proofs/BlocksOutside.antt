@@ -37,8 +37,8 @@ use Rattle.wt_called_edit_laws.specs.Parts.{CallNothing, AreParted, AreCalled}
 use Rattle.wt_called_edit_laws.specs.Settled.{settled, all_settled, IsSettled}
 use Rattle.wt_called_edit_laws.proofs.BareInsides.{IsBare, AreBare, page_bare}
 use Rattle.wt_called_edit_laws.proofs.Cells.PlaceGaps.{Gaps, last_gap, then_gap, put_before, numbers_in, source_at, AreSame, AtPlaces}
-use Rattle.wt_called_edit_laws.proofs.Cells.PlaceGaps.{block_source as source_is}
-use Rattle.wt_called_edit_laws.proofs.CalledUtf8.{content_source_utf8}
+use Rattle.wt_text_edit_laws.proofs.Blocks.Contents.{block_source as source_is}
+use Rattle.wt_text_edit_laws.proofs.Blocks.BlocksAgain.{content_utf8}
 use Rattle.wt_called_edit_laws.proofs.CutFrames.{no_group_round}
 use Rattle.wt_called_edit_laws.proofs.EditFacts.{IsFramedPage, framed_page, spots_body, spots_contents, are_the_page}
 use Rattle.wt_called_edit_laws.proofs.GroupsAmong.{retyped_self}
@@ -340,7 +340,7 @@ all_free t front u (then_gap xs n g) [] at i m b a h = tt
 all_free t front u (then_gap xs n g) (s ∷ ss) at i m b a h =
     let here : List ℕ = front ++ xs in
     let own : List ℕ = source_at u n in
-    let own_is : own ≡ source_of s.block s.text = ap (λ x. sources (tree_items x)) a.0 ∙ source_is s.block s.text b.0 in
+    let own_is : own ≡ source_of s.block s.text = ap (λ x. sources (tree_items x)) a.0 ∙ source_is s.block s.text in
     let first : length s.before ≡ length xs = ap length (sym m.0) in
     let size : length (source_of s.block s.text) ≡ length own = ap length (sym own_is) in
     let one : length here ≡ length front + length xs = length-append front xs in
@@ -358,7 +358,7 @@ counted_solid (s ∷ ss) h c =
     let some : HaveBytes (tree_by (s ∷ ss)) (counted (s ∷ ss)) = have_bytes (s ∷ ss) h in
     let t : Tree = standing 0 [] u in
     let own : IsOrdinary t =
-    standing_ordinary 0 [] u (content_ordinary s.block s.text (content_source_utf8 s.block s.text h.0) h.0.is h.0.unended c.0) in (
+    standing_ordinary 0 [] u (content_ordinary s.block s.text (content_utf8 s.block s.text h.0) h.0.is h.0.unended c.0) in (
       subst (λ (bs : List ℕ). 0 < length bs) (sym (spot_source (tree_by (s ∷ ss)) 0)) some.0,
       placeless_free t (ordinary_ungrouped t own),
       solid_up s ss (counted ss) (counted_solid ss h.1 c.1),

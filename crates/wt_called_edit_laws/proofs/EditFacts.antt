@@ -123,7 +123,7 @@ nodes_source pages ss rs behind f t =
 
 pub are_the_page : (pages : Pages) (ss : List BlockSpot) (behind : List ℕ) (f : IsFramedPage pages ss behind) → AreThePage f.nodes ss behind
 are_the_page pages ss behind f = λ rs e b o.
-    filled_page rs behind f.nodes f.inner_nodes (f.in_order ∙ sym (counted_same ss rs e)) b
+    filled_page rs behind f.nodes f.inner_nodes (f.in_order ∙ sym (counted_same ss rs e))
     (nodes_source pages ss rs behind f (retyped ss rs e o))
 
 -- ---- the paths

@@ -19,7 +19,7 @@ use Rattle.wt_called_edit_laws.specs.CalledBlocks.{tree_by, counted}
 use Rattle.wt_called_edit_laws.proofs.Cells.Nodes.{same_label, same_inside}
 use Rattle.wt_called_edit_laws.proofs.Cells.Paths.{same_first, same_rest}
 use Rattle.wt_called_edit_laws.proofs.Cells.PlaceGaps.{Gaps, last_gap, then_gap, put_before, numbers_in, source_at, AreSame, AtPlaces, at_before}
-use Rattle.wt_called_edit_laws.proofs.Cells.PlaceGaps.{block_source as source_is}
+use Rattle.wt_text_edit_laws.proofs.Blocks.Contents.{block_source as source_is}
 use Rattle.wt_called_trees.specs.TreeFrames.{TreeFrame, spot, kept, holder, TreeFrames, no_nodes, more_nodes, filled, all_filled}
 use Rattle.wt_called_edit_laws.specs.Untangled.{AreUntangledFrom}
 use Rattle.wt_called_edit_laws.specs.Nodes.{block_at, NoLeaves, NoneLeaves}
@@ -127,7 +127,7 @@ free_places items page t front (then_gap xs n g) [] at i m b a u = absurd m
 free_places items page t front (then_gap xs n g) (s ∷ ss) at i m b a u =
     let here : List ℕ = front ++ xs in
     let own : List ℕ = source_at t n in
-    let own_is : own ≡ source_of s.block s.text = ap (λ x. sources (tree_items x)) a.0 ∙ source_is s.block s.text b.0 in
+    let own_is : own ≡ source_of s.block s.text = ap (λ x. sources (tree_items x)) a.0 ∙ source_is s.block s.text in
     let first : length s.before ≡ length xs = ap length (sym m.0) in
     let size : length (source_of s.block s.text) ≡ length own = ap length (sym own_is) in
     let one : length here ≡ length front + length xs = length-append front xs in

@@ -12,15 +12,14 @@ use Rattle.wt_guards.specs.Letters.{is_escaped, reference}
 use Rattle.wt_guards.specs.Table.{hazard, line_start_hazard}
 use Rattle.wt_inline.specs.ItemTree.{Head, ItemTree, inner, forest, tree_items, held_by_all}
 use Rattle.wt_row_laws.specs.Frames.{place, whole, around, Frames, no_frames, more_frames, tree_at, trees_at, all_places}
-use Rattle.wt_text_edit_laws.specs.BlockSpots.{BlockSpot, spots_source, SameRound, AreBlocks}
-use Rattle.wt_text_edit_laws.specs.TextBlocks.{TextBlock, a_paragraph, a_heading, source_of, block_tree, IsFrame, IsTypedHeading, IsBlock, IsTypedIn}
+use Rattle.wt_text_edit_laws.specs.BlockSpots.{BlockSpot, spots_source, SameRound, AreContents}
+use Rattle.wt_text_edit_laws.specs.Contents.{IsContent}
+use Rattle.wt_text_edit_laws.specs.TextBlocks.{TextBlock, a_paragraph, a_heading, source_of, IsFrame, IsTypedHeading, IsTypedIn}
 use Rattle.wt_text_edit_laws.specs.TypedHeadings.{Sides, opening, closing}
 use Rattle.wt_text_edit_laws.specs.TypedPages.{IsTypedPage}
-use Rattle.wt_text_edit_laws.proofs.Blocks.BlockLines.{heading_frame}
-use Rattle.wt_text_edit_laws.proofs.Blocks.BlockLeaves.{block_leaves, block_own}
+use Rattle.wt_text_edit_laws.proofs.Blocks.Contents.{block_content, typed_block, block_source}
 use Rattle.wt_text_edit_laws.proofs.Blocks.KeptBlocks.{blocks_source, held_source}
 use Rattle.wt_text_edit_laws.proofs.Blocks.TypedBraces.{AreTypedOver}
-use Rattle.wt_text_edit_laws.proofs.Blocks.TypedFacts.{items_source}
 use Rattle.wt_called_edit_laws.proofs.Cells.TwoTexts.{same_round}
 use Rattle.wt_called_edit_laws.proofs.Cells.PlaceTrees.{tree_by, counted}
 
@@ -164,17 +163,16 @@ heading_b s f = record {
   is = refl;
 }
 
-type_a : (k : TextBlock) (q : List ℕ) → IsBlock k q → IsTypedIn k (97 ∷ [])
+type_a : (k : TextBlock) (q : List ℕ) → IsContent k q → IsTypedIn k (97 ∷ [])
 type_a a_paragraph q h = letter_a
-type_a (a_heading s) q h = heading_a s (heading_frame s q h)
+type_a (a_heading s) q h = let i = h.is in heading_a s i.frame
 
-type_b : (k : TextBlock) (q : List ℕ) → IsBlock k q → IsTypedIn k (98 ∷ [])
+type_b : (k : TextBlock) (q : List ℕ) → IsContent k q → IsTypedIn k (98 ∷ [])
 type_b a_paragraph q h = letter_b
-type_b (a_heading s) q h = heading_b s (heading_frame s q h)
+type_b (a_heading s) q h = let i = h.is in heading_b s i.frame
 
-typed_block : (k : TextBlock) (q : List ℕ) → IsTypedIn k q → IsBlock k q
-typed_block a_paragraph q h = inl h
-typed_block (a_heading s) q h = inl h
+typed_content : (k : TextBlock) (q : List ℕ) → IsTypedIn k q → IsContent k q
+typed_content k q h = block_content k q (typed_block k q h)
 
 -- a block is its text between these
 front_of : TextBlock → List ℕ
@@ -224,12 +222,12 @@ AreSame (then_gap xs i g) (s ∷ ss) = (xs ≡ s.before) × AreSame g ss
 -- the page with any texts typed over has these gaps round them
 abbrev pub FillsAll : Gaps → List BlockSpot → List ℕ → Type 0
 FillsAll g ss behind =
-    (rs : List BlockSpot) → SameRound ss rs → AreBlocks rs → AreTypedOver ss rs → fill (own_sources rs) g ≡ spots_source rs behind
+    (rs : List BlockSpot) → SameRound ss rs → AreContents rs → AreTypedOver ss rs → fill (own_sources rs) g ≡ spots_source rs behind
 
 abbrev with_source : BlockSpot → List ℕ → BlockSpot
 with_source s q = record s { text = q }
 
-pub same_gaps : (g : Gaps) (ss : List BlockSpot) (behind : List ℕ) → AreAsMany g ss → AreBlocks ss → FillsAll g ss behind → AreSame g ss
+pub same_gaps : (g : Gaps) (ss : List BlockSpot) (behind : List ℕ) → AreAsMany g ss → AreContents ss → FillsAll g ss behind → AreSame g ss
 same_gaps (last_gap xs) [] behind m b f = tt
 same_gaps (last_gap xs) (s ∷ ss) behind m b f = absurd m
 same_gaps (then_gap xs i g) [] behind m b f = absurd m
@@ -239,8 +237,8 @@ same_gaps (then_gap xs i g) (s ∷ ss) behind m b f =
     let c : IsTypedIn k (98 ∷ []) = type_b k s.text b.0 in
     let first : xs ≡ s.before =
     same_front k xs s.before (fill (own_sources ss) g) (spots_source ss behind)
-    (f (with_source s (97 ∷ []) ∷ ss) (refl, refl, self_round ss) (typed_block k (97 ∷ []) a, b.1) (inr a, self_over ss))
-    (f (with_source s (98 ∷ []) ∷ ss) (refl, refl, self_round ss) (typed_block k (98 ∷ []) c, b.1) (inr c, self_over ss)) in
+    (f (with_source s (97 ∷ []) ∷ ss) (refl, refl, self_round ss) (typed_content k (97 ∷ []) a, b.1) (inr a, self_over ss))
+    (f (with_source s (98 ∷ []) ∷ ss) (refl, refl, self_round ss) (typed_content k (98 ∷ []) c, b.1) (inr c, self_over ss)) in
     let rest : FillsAll g ss behind = λ rs e h o.
     let own : List ℕ = source_of k s.text in
     append_cancel_left own (fill (own_sources rs) g) (spots_source rs behind)
@@ -250,17 +248,14 @@ same_gaps (then_gap xs i g) (s ∷ ss) behind m b f =
 
 -- ---- sources by numbers
 
-pub block_source : (k : TextBlock) (q : List ℕ) → IsBlock k q → sources (tree_items (block_tree k q)) ≡ source_of k q
-block_source k q h = ap (λ t. sources (tree_items t)) (block_leaves k q (block_own k q h)) ∙ items_source k q (block_own k q h)
-
 sources_moved : (t : ℕ → ItemTree) (is : List ℕ) → sources_at t (map suc is) [] ≡ sources_at (λ i. t (suc i)) is []
 sources_moved t [] = refl
 sources_moved t (i ∷ is) = ap (λ (rs : List (List ℕ)). source_at t (suc i) ∷ rs) (sources_moved t is)
 
-pub sources_counted : (ss : List BlockSpot) → AreBlocks ss → sources_at (tree_by ss) (counted ss) [] ≡ own_sources ss
-sources_counted [] h = refl
-sources_counted (s ∷ ss) h =
-    ap₂ (λ (r : List ℕ) (rs : List (List ℕ)). r ∷ rs) (block_source s.block s.text h.0) (sources_moved (tree_by (s ∷ ss)) (counted ss) ∙ sources_counted ss h.1)
+pub sources_counted : (ss : List BlockSpot) → sources_at (tree_by ss) (counted ss) [] ≡ own_sources ss
+sources_counted [] = refl
+sources_counted (s ∷ ss) =
+    ap₂ (λ (r : List ℕ) (rs : List (List ℕ)). r ∷ rs) (block_source s.block s.text) (sources_moved (tree_by (s ∷ ss)) (counted ss) ∙ sources_counted ss)
 
 pub counted_same : (ss rs : List BlockSpot) → SameRound ss rs → counted ss ≡ counted rs
 counted_same [] [] e = refl
