@@ -147,8 +147,7 @@ block_has k q h = subst AllHaveItems (ap held_trees (sym (block_leaves k q h)) �
 
 block_of_page : (k : TextBlock) (q : List ℕ) → IsBlock k q → AllOfPage (held_by_all (forest (children (content_parts_of k (page_items q)))))
 block_of_page k q h =
-    subst (λ ts. AllOfPage (held_by_all ts)) (ap held_trees (sym (block_leaves k q h)) ∙ content_inside k q)
-    (subst AllOfPage (append-nil (held_by_all (forest (map leaf_tree (leaves (page_items q)))))) (leaves_of_page (leaves (page_items q)) refl))
+    subst (λ ts. AllOfPage (held_by_all ts)) (ap held_trees (sym (block_leaves k q h)) ∙ content_inside k q) (leaves_of_page (leaves (page_items q)))
 
 -- ---- so it is a content
 

@@ -190,6 +190,7 @@ ended_para xs b o =
 
 -- of one text it is all its items
 pub text_tree : (xs : List Item) → IsTextBlock xs → OwnBreaks xs → para_with (joined_parts (lines xs)) ≡ para_of xs
+unfolding as_lines
 text_tree xs b o = sym (rows_para xs (as_lines xs b) o) ∙ block_para xs b
 
 -- ---- their source
