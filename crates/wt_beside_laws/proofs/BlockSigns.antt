@@ -34,10 +34,10 @@ use Rattle.wt_beside_laws.proofs.SentNodes.{same_nodes}
 
 -- ---- the block
 
-abbrev block_by : Block → List Item → List Part → List Item → ItemTree
+abbrev pub block_by : Block → List Item → List Part → List Item → ItemTree
 block_by k opening ps closing = inner (plain (kind_of k)) opening (forest (children ps)) closing
 
-its_children : (k : Block) (n : ℕ) (before opening closing : List Item) (ps : List Part)
+pub its_children : (k : Block) (n : ℕ) (before opening closing : List Item) (ps : List Part)
     → children_of (standing n before (block_by k opening ps closing)) ≡ nodes_of (n + 1) (before ++ opening) (forest (children ps))
 unfolding label_at
 its_children paragraph n before opening closing ps = refl
@@ -131,7 +131,7 @@ block_shows same ls block f u b =
 
 -- ---- and none ends in an open tag
 
-shut_by : (k : Block) (n at : ℕ) (before opening closing : List Item) (ls : List (List Item)) → AreUnstyled ls → AreFlatLines ls → AreShut (signs_of_lines at ls)
+pub shut_by : (k : Block) (n at : ℕ) (before opening closing : List Item) (ls : List (List Item)) → AreUnstyled ls → AreFlatLines ls → AreShut (signs_of_lines at ls)
     → any_ends_open (children_of (standing n before (block_by k opening (joined_parts ls) closing))) ≡ false
 shut_by k n at before opening closing ls u f s =
     ap any_ends_open (its_children k n before opening closing (joined_parts ls))

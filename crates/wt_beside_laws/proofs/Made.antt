@@ -2,3 +2,7 @@
 pub mod OwnPages
 pub mod OldBlocks
 pub mod Levels
+pub mod Closes
+pub mod Items
+pub mod Letters
+pub mod Written

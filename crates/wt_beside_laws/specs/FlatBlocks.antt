@@ -1,5 +1,6 @@
 -- A paragraph or a heading of the page that holds text and nodes that stay, by its lines; and texts that are typed in it beside the nodes.
-use Rattle.std.specs.Prelude.{◌≡◌, ℕ, false, None, List, [], ◌∷◌, ◌++◌, length}
+use Rattle.std.specs.Prelude.{◌≡◌, ℕ, true, false, None, List, [], ◌∷◌, ◌++◌, length}
+use Rattle.std.specs.List.{list_all}
 use Rattle.std.specs.Str.{IsUtf8}
 use Rattle.wt_span.specs.Characters as byte
 use Rattle.wt_span.specs.Items.{Item, char}
@@ -9,9 +10,10 @@ use Rattle.wt_guards.specs.Content.{ContentSign, letter, thing}
 use Rattle.wt_link_spelling.specs.Spelling.{children_of}
 use Rattle.wt_expand.specs.PageItems.{page_items}
 use Rattle.wt_lines.specs.Lines.{lines}
-use Rattle.wt_inline.specs.ItemTree.{forest}
+use Rattle.wt_inline.specs.ItemTree.{forest, held_by_all}
 use Rattle.wt_inline.specs.Parts.{children}
 use Rattle.wt_content.specs.Content.{has_break}
+use Rattle.wt_annotated.specs.Clean.{is_page}
 use Rattle.wt_called_trees.specs.Rounded.{AllHaveItems}
 use Rattle.wt_typed_blocks.specs.Edited.{Piece, gone, written, kept, page_pieces, PiecesStay}
 use Rattle.wt_text_edit_laws.specs.Contents.{IsContentOf, content_parts_of}
@@ -64,6 +66,7 @@ pub record IsFlatIn (k : TextBlock) (q : List ℕ) : Type 0 where
   pub unended : page_items (source_of k q) ≡ block_items k q
   pub is : IsContentOf k q
   pub calls_nothing : CallsNothing (block_items k q)
+  pub of_page : list_all is_page (held_by_all (forest (children (content_parts_of k (page_items q))))) ≡ true
   pub has_items : AllHaveItems (forest (children (content_parts_of k (page_items q))))
   pub flat : AreFlatLines (lines_in k q)
   pub unstyled : AreUnstyled (lines_in k q)

@@ -22,7 +22,7 @@ use Rattle.wt_text_edit_laws.specs.LonePages.{page_chars}
 use Rattle.wt_text_edit_laws.specs.ParagraphParts.{joined_parts}
 use Rattle.wt_text_edit_laws.specs.TextBlocks.{TextBlock, a_paragraph, a_heading, block_of, source_of, block_items, block_tree}
 use Rattle.wt_text_edit_laws.specs.TypedHeadings.{opening}
-use Rattle.wt_text_edit_laws.proofs.Blocks.BlockTrees.{open_items, close_items}
+use Rattle.wt_text_edit_laws.proofs.Blocks.BlockLeaves.{open_items, close_items}
 use Rattle.wt_beside_laws.specs.FlatBlocks.{lines_in, begins_at, IsFlatIn}
 use Rattle.wt_beside_laws.specs.ContentEdits.{content_edit}
 use Rattle.wt_beside_laws.specs.PageBlocks.{IsBlockOfLines}
@@ -127,13 +127,13 @@ node_is k q block m ps i e = node_by (kind_of (block_of k)) block (page_pieces p
 
 -- ---- it is what its lines make
 
-pub no_group : (k : TextBlock) (q : List ℕ) (n : ℕ) (b : List Item) → IsUtf8 (source_of k q) → IsContentOf k q → page_items (source_of k q) ≡ block_items k q
+pub no_group : (k : TextBlock) (q : List ℕ) (n : ℕ) (b : List Item) → IsUtf8 q → IsContentOf k q → page_items (source_of k q) ≡ block_items k q
     → CallsNothing (block_items k q) → HasNoGroup (standing n b (block_tree k q))
 no_group k q n b u h e c =
     ordinary_ungrouped (standing n b (block_tree k q)) (standing_ordinary n b (block_tree k q) (content_ordinary k q u h e c))
 
-pub of_lines : (k : TextBlock) (q : List ℕ) (block : Tree) → IsUtf8 (source_of k q) → IsFlatIn k q → IsIn k q block → IsBlockOfLines (lines_in k q) block
-of_lines k q block u h i = record {
+pub of_lines : (k : TextBlock) (q : List ℕ) (block : Tree) → IsFlatIn k q → IsIn k q block → IsBlockOfLines (lines_in k q) block
+of_lines k q block h i = record {
   number = i.number;
   before = i.before;
   form = block_of k;
@@ -141,5 +141,5 @@ of_lines k q block u h i = record {
   closing = close_items k;
   some = i.some;
   is = as_parts k q block i ∙ ap (λ (ps : List Part). standing i.number i.before (with_parts k ps)) (lines_are k q);
-  ungrouped = subst HasNoGroup (sym i.is) (no_group k q i.number i.before u h.is h.unended h.calls_nothing);
+  ungrouped = subst HasNoGroup (sym i.is) (no_group k q i.number i.before h.utf8 h.is h.unended h.calls_nothing);
 }

@@ -23,6 +23,8 @@ use Rattle.wt_text_edit_laws.specs.ParagraphBetween.{AreClosed, blocks_in, body_
 use Rattle.wt_text_edit_laws.specs.TextBlocks.{TextBlock, a_paragraph, a_heading, source_of, block_items, block_tree}
 use Rattle.wt_text_edit_laws.specs.TypedHeadings.{Sides, AreSides, heading_line, heading_round, IsHeadingInside, IsOfLevel}
 use Rattle.wt_text_edit_laws.proofs.Between.NoCalls.{calm_expanded, calm_unrefused}
+use Rattle.wt_text_edit_laws.proofs.Blocks.BlockReading.{HasFrame}
+use Rattle.wt_text_edit_laws.proofs.Blocks.BlocksAgain.{framed_utf8}
 use Rattle.wt_text_edit_laws.proofs.Blocks.PageKinds.{page_ordinary}
 use Rattle.wt_text_edit_laws.proofs.Headings.HeadingRows.{round_stands}
 use Rattle.wt_beside_laws.specs.Lines.{AreLinesOfText}
@@ -102,9 +104,14 @@ content_means (a_heading s) q h e = ap meaning e ∙ heading_means s (page_items
 no_pages : Pages
 no_pages = λ title. None
 
-pub content_ordinary : (k : TextBlock) (q : List ℕ) → IsUtf8 (source_of k q) → IsContentOf k q → page_items (source_of k q) ≡ block_items k q
+pub own_frame : (k : TextBlock) (q : List ℕ) → IsContentOf k q → HasFrame k
+own_frame a_paragraph q h = tt
+own_frame (a_heading s) q h = h.frame
+
+pub content_ordinary : (k : TextBlock) (q : List ℕ) → IsUtf8 q → IsContentOf k q → page_items (source_of k q) ≡ block_items k q
     → CallsNothing (block_items k q) → IsOrdinary (unplaced (block_tree k q))
 content_ordinary k q u h e c =
     let page : List ℕ = source_of k q in
     let calm : CallsNothing (page_items page) = subst CallsNothing (sym e) c in
-    (page_ordinary no_pages page (block_tree k q ∷ []) u (calm_unrefused no_pages page calm) (calm_expanded no_pages page calm) (content_means k q h e)).0
+    (page_ordinary no_pages page (block_tree k q ∷ []) (framed_utf8 k q (own_frame k q h) u) (calm_unrefused no_pages page calm) (calm_expanded no_pages page calm)
+    (content_means k q h e)).0
