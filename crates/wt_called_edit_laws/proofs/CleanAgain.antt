@@ -5,11 +5,11 @@ use Rattle.wt_inline.specs.ItemTree.{ItemTree, tree_items}
 use Rattle.wt_annotated.specs.Seams.{last_of, first_of}
 use Rattle.wt_row_laws.specs.Frames.{Frame, place, whole, around, Frames, no_frames, more_frames, tree_at, places_in, all_places, Part, content, IsFrame, AreFrames}
 use Rattle.wt_text_edit_laws.specs.BlockSpots.{BlockSpot, AreContents}
-use Rattle.wt_text_edit_laws.specs.Contents.{IsNewContent}
 use Rattle.wt_text_edit_laws.specs.TextBlocks.{TextBlock}
+use Rattle.wt_text_edit_laws.specs.Contents.{IsNewContent}
 use Rattle.wt_text_edit_laws.proofs.Blocks.Contents.{new_again}
 use Rattle.wt_called_edit_laws.specs.Retyped.{AreRetyped}
-use Rattle.wt_called_edit_laws.proofs.Parts.Retyped.{same_round, contents_over, called_contents}
+use Rattle.wt_called_edit_laws.proofs.Parts.Retyped.{same_round, blocks_over, called_blocks}
 use Rattle.wt_called_trees.specs.Rounded.{AreOwn, IsClean, AreClean}
 use Rattle.wt_called_trees.proofs.FrameEnds.{held, own_split, firsts_same, last_same, clean_same}
 use Rattle.wt_called_trees.proofs.FramesWalked.{no_leaf}
@@ -42,14 +42,14 @@ mutual
             (frames_clean t w fs part (last_of o (tree_items (tree_at t f))) p i.1 r.1 s.1 c.1),
       )
 
--- ---- contents in the places of new ones
+-- ---- contents that are written after others
 
 text_after : (k : TextBlock) (was now last : List ℕ) → (now ≡ was) ⊎ IsNewContent k was now → (last ≡ now) ⊎ IsNewContent k now last
     → (last ≡ was) ⊎ IsNewContent k was last
+text_after k was now last (inl e) (inr n) = inr (subst (λ bs. IsNewContent k bs last) e n)
+text_after k was now last (inr m) (inr n) = inr (new_again k was now last m n)
 text_after k was now last (inl e) (inl f) = inl (f ∙ e)
-text_after k was now last (inr t) (inl f) = inr (subst (IsNewContent k was) (sym f) t)
-text_after k was now last (inl e) (inr t) = inr (subst (λ q. IsNewContent k q last) e t)
-text_after k was now last (inr t) (inr u) = inr (new_again k was now last t u)
+text_after k was now last (inr m) (inl f) = inr (subst (IsNewContent k was) (sym f) m)
 
 retyped_after : (ss rs qs : List BlockSpot) → AreRetyped ss rs → AreRetyped rs qs → AreRetyped ss qs
 retyped_after [] [] qs h g = g
@@ -68,11 +68,11 @@ retyped_after (s ∷ ss) (r ∷ rs) (q ∷ qs) h g = (
 pub outside_again : (pages : Pages) (ss rs : List BlockSpot) (behind : List ℕ) → AreOutsideGroups pages ss behind → AreRetyped ss rs → AreOutsideGroups pages rs behind
 outside_again pages ss rs behind h t =
     let f : StandAmongCalls pages ss behind = h.stand in
-    let blocks : AreContents ss = called_contents ss behind h.among.called in
+    let blocks : AreContents ss = called_blocks ss behind h.among.called in
     let same : counted rs ≡ counted ss = counted_same ss rs (same_round ss rs t) in
     let was : AreOwn (tree_by ss) (all_places f.frames) = subst (AreOwn (tree_by ss)) (sym f.in_order) (counted_own ss blocks) in
     let now : AreOwn (tree_by rs) (all_places f.frames) =
-    subst (AreOwn (tree_by rs)) (same ∙ sym f.in_order) (counted_own rs (contents_over ss rs t blocks)) in
+    subst (AreOwn (tree_by rs)) (same ∙ sym f.in_order) (counted_own rs (blocks_over ss rs t blocks)) in
     record {
       among = again_among pages ss rs behind h.among t;
       stand = record {

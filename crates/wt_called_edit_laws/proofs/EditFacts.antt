@@ -28,7 +28,7 @@ use Rattle.wt_called_edit_laws.specs.CalledTexts.{spots_tree}
 use Rattle.wt_called_edit_laws.specs.EditsAt.{AllStand, edited_by, with_contents, IsContentEdit}
 use Rattle.wt_called_edit_laws.proofs.Cells.SpotTrees.{counted_same}
 use Rattle.wt_called_edit_laws.specs.Retyped.{AreRetyped}
-use Rattle.wt_called_edit_laws.proofs.Parts.Retyped.{called_contents, expanded_again}
+use Rattle.wt_called_edit_laws.proofs.Parts.Retyped.{called_blocks, expanded_again}
 use Rattle.wt_called_trees.specs.TreeFrames.{TreeFrames, all_filled, spots}
 use Rattle.wt_called_edit_laws.specs.CalledPages.{IsCalledPage}
 use Rattle.wt_called_edit_laws.proofs.CleanAgain.{outside_again}
@@ -111,7 +111,7 @@ pub spots_body : (pages : Pages) (ss : List BlockSpot) (behind : List ℕ) → I
 spots_body pages ss behind h = page_body pages (spots_source ss behind) (spots_utf8 pages ss behind h) h.unrefused
 
 pub spots_contents : (pages : Pages) (ss : List BlockSpot) (behind : List ℕ) → IsCalledPage pages ss behind → AreContents ss
-spots_contents pages ss behind h = called_contents ss behind h.outside.among.called
+spots_contents pages ss behind h = called_blocks ss behind h.outside.among.called
 
 -- its nodes have the page's source
 nodes_source : (pages : Pages) (ss rs : List BlockSpot) (behind : List ℕ) (f : IsFramedPage pages ss behind) → AreRetyped ss rs

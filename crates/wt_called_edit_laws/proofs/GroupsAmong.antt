@@ -9,7 +9,7 @@ use Rattle.wt_moved_laws.specs.Placeless.{placeless}
 use Rattle.wt_row_laws.specs.Frames.{Frames, all_places}
 use Rattle.wt_text_edit_laws.specs.BlockSpots.{BlockSpot, spots_source}
 use Rattle.wt_called_edit_laws.specs.Parts.{AreCalled, called_outers}
-use Rattle.wt_called_edit_laws.proofs.Parts.Retyped.{is_by_parts, same_round, contents_over, called_contents, expanded_again}
+use Rattle.wt_called_edit_laws.proofs.Parts.Retyped.{is_by_parts, same_round, blocks_over, called_blocks, expanded_again}
 use Rattle.wt_called_edit_laws.specs.Retyped.{AreRetyped}
 use Rattle.wt_called_trees.specs.MovedCalls.{AreMoved}
 use Rattle.wt_called_trees.specs.Rounded.{HaveSameData, AreOwn, GroupsStay}
@@ -40,7 +40,7 @@ pub own_among : (pages : Pages) (ss rs : List BlockSpot) (behind : List ℕ) (h 
     → AreOwn (tree_by rs) (all_places h.stand.frames)
 own_among pages ss rs behind h t =
     subst (AreOwn (tree_by rs)) (counted_same ss rs (same_round ss rs t) ∙ sym h.stand.in_order)
-    (counted_own rs (contents_over ss rs t (called_contents ss behind h.among.called)))
+    (counted_own rs (blocks_over ss rs t (called_blocks ss behind h.among.called)))
 
 -- each text is the same
 pub retyped_self : (ss : List BlockSpot) → AreRetyped ss ss

@@ -1,5 +1,5 @@
 -- Where no group of the page's tree has the first byte of one of the blocks, the page is one of those of which text edits are taken.
-use Rattle.std.proofs.Common.{arith, ◌≡◌, ◌<◌, ℕ, suc, ◌+◌, None, List, [], ◌∷◌, ◌++◌, map, length, refl, sym, ap, ◌∙◌, subst, append-nil, length-append}
+use Rattle.std.proofs.Common.{arith, ◌≡◌, ◌≤◌, ◌<◌, ℕ, zero, suc, ◌+◌, None, List, [], ◌∷◌, ◌++◌, map, length, refl, sym, ap, ◌∙◌, subst, append-nil, length-append}
 use Rattle.wt_devices.specs.Device.{Pages}
 use Rattle.wt_tree.specs.Tree.{Tree}
 use Rattle.wt_span.specs.Items.{sources}
@@ -16,11 +16,13 @@ use Rattle.wt_page_round_trip.proofs.HeldPages.{its_page}
 use Rattle.wt_row_laws.specs.Frames.{Frames, trees_at, all_places}
 use Rattle.wt_text_edit_laws.specs.BlockSpots.{BlockSpot, spots_source, SameRound, AreContents}
 use Rattle.wt_text_edit_laws.specs.ParagraphBetween.{body_with}
-use Rattle.wt_text_edit_laws.specs.TextBlocks.{TextBlock, source_of, block_tree}
+use Rattle.wt_text_edit_laws.specs.TextBlocks.{TextBlock, a_paragraph, a_heading, source_of, block_tree}
 use Rattle.wt_text_edit_laws.specs.Contents.{IsContent}
+use Rattle.wt_text_edit_laws.specs.TypedHeadings.{equals}
+use Rattle.wt_text_edit_laws.proofs.Blocks.BlockReading.{content_frame}
 use Rattle.wt_text_edit_laws.proofs.Blocks.Contents.{block_source}
 use Rattle.wt_called_edit_laws.specs.Retyped.{AreRetyped}
-use Rattle.wt_called_edit_laws.proofs.Parts.Retyped.{called_contents, expanded_again}
+use Rattle.wt_called_edit_laws.proofs.Parts.Retyped.{called_blocks, expanded_again}
 use Rattle.wt_called_trees.specs.Rounded.{AreOwn}
 use Rattle.wt_called_trees.proofs.FrameEnds.{held}
 use Rattle.wt_called_edit_laws.specs.CalledBlocks.{AreAmongCalls, StandAmongCalls, tree_by, counted}
@@ -33,12 +35,24 @@ use Rattle.wt_called_edit_laws.specs.Groups.{called_tree}
 use Rattle.wt_called_edit_laws.proofs.CalledUtf8.{called_utf8, retyped}
 use Rattle.wt_called_edit_laws.proofs.FreePlaces.{clean_where_free}
 use Rattle.wt_called_edit_laws.proofs.GroupsAmong.{calls_same, retyped_self}
-use Rattle.wt_called_edit_laws.proofs.OwnBlocks.{source_some, counted_own}
+use Rattle.wt_called_edit_laws.proofs.OwnBlocks.{paragraph_some, counted_own}
 use Rattle.wt_called_edit_laws.proofs.PlaceBytes.{text_gaps, all_numbers, all_fill, gaps_same, gap_places}
 use Rattle.wt_called_edit_laws.proofs.Squashed.{all_squashed, trees_squashed, places_squashed, frames_squashed, squashed_hold}
 use Rattle.wt_called_edit_laws.proofs.TextsUntangled.{AreThere, all_there}
 
 -- ---- each block has a byte
+
+para_some : (q : List ℕ) → IsContent a_paragraph q → 0 < length q
+para_some [] h = absurd (paragraph_some [] h refl)
+para_some (b ∷ bs) h = omega arith
+
+signs_some : (n : ℕ) (lead rest : List ℕ) → 1 ≤ n → 0 < length ((equals n ++ lead) ++ rest)
+signs_some zero lead rest h = absurd (omega (arith, h))
+signs_some (suc n) lead rest h = omega arith
+
+source_some : (k : TextBlock) (q : List ℕ) → IsContent k q → 0 < length (source_of k q)
+source_some a_paragraph q h = para_some q h
+source_some (a_heading s) q h = let f = content_frame (a_heading s) q h in signs_some s.level s.lead _ f.sides.some
 
 block_some : (k : TextBlock) (q : List ℕ) → IsContent k q → 0 < length (sources (tree_items (block_tree k q)))
 block_some k q h = subst (λ (bs : List ℕ). 0 < length bs) (sym (block_source k q)) (source_some k q h)
@@ -86,7 +100,7 @@ fills_page pages ss behind h f free rs e b o =
     let t : AreRetyped ss rs = retyped ss rs e o in
     let calls : List OuterCall = (expanded_page pages (spots_source ss behind)).outer in
     let others : List OuterCall = (expanded_page pages (spots_source rs behind)).outer in
-    let was = own_places pages ss ss behind f (self_round ss) (called_contents ss behind h.called) in
+    let was = own_places pages ss ss behind f (self_round ss) (called_blocks ss behind h.called) in
     let now = own_places pages ss rs behind f e b in
     let g : Gaps = text_gaps others (tree_by rs) None f.frames (last_gap []) in
     ap (fill (own_sources rs)) (gaps_same calls others (calls_same pages ss rs behind h.called t) (tree_by ss) (tree_by rs) None f.frames (last_gap []) (last_gap []) was now refl)
@@ -97,11 +111,11 @@ fills_page pages ss behind h f free rs e b o =
 
 -- ---- the blocks' first bytes
 
-block_places : (u : Tree) (t : ℕ → ItemTree) (front : List ℕ) (g : Gaps) (ss : List BlockSpot) (at : ℕ) → at ≡ length front → AreSame g ss → AreContents ss
+block_places : (u : Tree) (t : ℕ → ItemTree) (front : List ℕ) (g : Gaps) (ss : List BlockSpot) (at : ℕ) → at ≡ length front → AreSame g ss
     → AreThere t (numbers_in g) ss → AreInNoGroup at ss u → AtGaps (λ bs n. NoGroupAt (length bs) u) t front g
-block_places u t front (last_gap xs) ss at i m b a h = tt
-block_places u t front (then_gap xs n g) [] at i m b a h = absurd m
-block_places u t front (then_gap xs n g) (s ∷ ss) at i m b a h =
+block_places u t front (last_gap xs) ss at i m a h = tt
+block_places u t front (then_gap xs n g) [] at i m a h = absurd m
+block_places u t front (then_gap xs n g) (s ∷ ss) at i m a h =
     let here : List ℕ = front ++ xs in
     let own : List ℕ = source_at t n in
     let own_is : own ≡ source_of s.block s.text = ap (λ x. sources (tree_items x)) a.0 ∙ block_source s.block s.text in
@@ -112,7 +126,7 @@ block_places u t front (then_gap xs n g) (s ∷ ss) at i m b a h =
     let start : at + length s.before ≡ length here = omega (arith, i, first, one) in
     let behind : (at + length s.before) + length (source_of s.block s.text) ≡ length (here ++ own) = omega (arith, start, size, two) in (
       subst (λ (k : ℕ). NoGroupAt k u) start h.0,
-      block_places u t (here ++ own) g ss ((at + length s.before) + length (source_of s.block s.text)) behind m.1 b.1 a.1 h.1,
+      block_places u t (here ++ own) g ss ((at + length s.before) + length (source_of s.block s.text)) behind m.1 a.1 h.1,
     )
 
 -- ---- the page
@@ -126,7 +140,7 @@ page_outside pages ss behind h free g =
     let f : StandAmongCalls pages ss behind = squashed_stand pages ss behind (stand_among pages ss behind h) in
     let fs : Frames = f.frames in
     let t : ℕ → ItemTree = tree_by ss in
-    let blocks : AreContents ss = called_contents ss behind h.called in
+    let blocks : AreContents ss = called_blocks ss behind h.called in
     let own : AreOwn t (all_places fs) = own_places pages ss ss behind f (self_round ss) blocks in
     let u : Tree = annotated calls (group_data calls) (body_with (trees_at t fs)) in
     let inside : AreInNoGroup 0 ss u = subst (λ m. AreInNoGroup 0 ss (annotated calls (group_data calls) m)) (f.means ss (retyped_self ss)) g in
@@ -135,7 +149,7 @@ page_outside pages ss behind h free g =
     let same : AreSame gaps ss =
     same_gaps gaps ss behind (many_by gaps ss (ap length numbers ∙ count_counted ss)) blocks (fills_page pages ss behind h f free) in
     let at = gap_places (λ b. NoGroupAt b u) calls t None 0 [] fs (last_gap []) own refl
-    (block_places u t [] gaps ss 0 refl same blocks (subst (λ (ns : List ℕ). AreThere t ns ss) (sym numbers) (all_there ss)) inside) in
+    (block_places u t [] gaps ss 0 refl same (subst (λ (ns : List ℕ). AreThere t ns ss) (sym numbers) (all_there ss)) inside) in
     record {
       outside = record {
         among = h;

@@ -116,7 +116,7 @@ page_gaps fs = gaps_in fs (last_gap [])
 pub numbers_so : (ss : List BlockSpot) (fs : TreeFrames) → spots fs ≡ counted ss → numbers_in (page_gaps fs) ≡ counted ss
 numbers_so ss fs e = all_numbers fs (last_gap []) ∙ append-nil (spots fs) ∙ e
 
--- whatever texts are typed over, these nodes are the page
+-- whatever new contents are written, these nodes are the page
 abbrev pub AreThePage : TreeFrames → List BlockSpot → List ℕ → Type 0
 AreThePage fs ss behind = FillsAll (page_gaps fs) ss behind
 

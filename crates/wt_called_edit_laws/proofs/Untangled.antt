@@ -1,5 +1,5 @@
 -- A block among calls isn't tangled: no call that is text touches it, no tag is open before it or in it, and no group is in it.
-use Rattle.std.proofs.Common.{arith, ◌≡◌, ℕ, ◌+◌, Bool, true, false, Some, List, [], ◌∷◌, ◌++◌, length, take, refl, sym, ap, ap₂, ◌∙◌, append_assoc, length-append}
+use Rattle.std.proofs.Common.{arith, ◌≡◌, ℕ, ◌+◌, Bool, true, false, Some, List, [], ◌∷◌, ◌++◌, length, take, refl, sym, ap, ap₂, ◌∙◌, subst, append_assoc, length-append}
 use Rattle.std.specs.Prelude.{◌||◌}
 use Rattle.std.proofs.Math.Seq.{take-append_seam}
 use Rattle.wt_span.specs.Origins.{Expanded}
@@ -22,7 +22,7 @@ use Rattle.wt_text_edit_laws.proofs.Blocks.BlocksAgain.{AreClear}
 use Rattle.wt_text_edit_laws.proofs.Blocks.BlockReading.{begins_here}
 use Rattle.wt_text_edit_laws.proofs.Paragraphs.ClearLines.{clear_first, clear_line}
 use Rattle.wt_called_edit_laws.specs.Parts.{AreCalled}
-use Rattle.wt_called_edit_laws.proofs.Parts.Retyped.{called_contents}
+use Rattle.wt_called_edit_laws.proofs.Parts.Retyped.{called_blocks}
 use Rattle.wt_called_edit_laws.specs.FreeBlocks.{AreFreeFrom}
 use Rattle.wt_called_edit_laws.specs.Untangled.{AreUntangledFrom}
 use Rattle.wt_called_edit_laws.proofs.FreeBlocks.{blocks_free}
@@ -40,11 +40,11 @@ block_untangled : (items : Expanded) (page front : List ℕ) (k : TextBlock) (q 
     → touches_text_call items.text_calls (Some r) ≡ false → take r.start page ≡ front → ends_open front ≡ false
     → placeless t ≡ placeless (standing 0 [] (block_tree k q)) → (label t).ranges ≡ Some r → is_tangled items page t ≡ false
 block_untangled items page front k q r (tree l ts) h free is clear same at =
-    let u = h.untangled items (tree l ts) same in
+    let own = h.untangled items (tree l ts) same in
     none_of (touches_text_call items.text_calls l.ranges) (ends_open (before page l.ranges)) (any_ends_open ts) (has_faulty_group items ts)
     (ap (touches_text_call items.text_calls) at ∙ free)
     (ap (λ o. ends_open (before page o)) at ∙ ap ends_open is ∙ clear)
-    u.0 u.1
+    own.0 own.1
 
 -- ---- no tag is open before a block
 
@@ -84,4 +84,4 @@ pub blocks_untangled : (pages : Pages) (ss : List BlockSpot) (behind : List ℕ)
     → AreUntangledFrom (expanded_page pages (spots_source ss behind)) (spots_source ss behind) 0 ss
 blocks_untangled pages ss behind h =
     untangled_from (expanded_page pages (spots_source ss behind)) (spots_source ss behind) [] ss behind 0 refl refl (blocks_free pages ss behind h)
-    (called_clear ss behind h) (called_contents ss behind h)
+    (called_clear ss behind h) (called_blocks ss behind h)

@@ -21,10 +21,10 @@ use Rattle.wt_text_edit_laws.specs.OwnNodes.{IsTypedSpot}
 use Rattle.wt_text_edit_laws.specs.Parts.{part_tree}
 use Rattle.wt_text_edit_laws.specs.TextBlocks.{TextBlock, a_paragraph, a_heading, block_of, source_of, block_tree, IsBlock}
 use Rattle.wt_text_edit_laws.proofs.Blocks.BlocksAgain.{AreClear, read_clear}
+use Rattle.wt_text_edit_laws.proofs.Blocks.Contents.{blocks_contents, block_source}
 use Rattle.wt_text_edit_laws.proofs.Blocks.KeptBlocks.{blocks_source}
 use Rattle.wt_text_edit_laws.proofs.Blocks.TypedBraces.{AreTypedOver}
 use Rattle.wt_text_edit_laws.proofs.Prose.ProseTrees.{blocks_of}
-use Rattle.wt_text_edit_laws.proofs.Blocks.Contents.{block_source, blocks_contents}
 use Rattle.wt_called_edit_laws.specs.AnyBlocks.{AreSpots, typed_at, typed_among, typed_by, first_paths, other_paths, TypesOnly, AllTypeOnly, IsTextEdit, with_text, with_texts, new_page, LeadsTo, LeadsAmong, AllLead}
 use Rattle.wt_called_edit_laws.specs.OwnTexts.{AreTypings}
 use Rattle.wt_called_edit_laws.proofs.Cells.ManyFacts.{SendsAt, PlacesHave, frames_facts}
@@ -35,7 +35,7 @@ use Rattle.wt_called_edit_laws.proofs.Cells.Paths.{same_first, same_rest, AllFac
 use Rattle.wt_called_edit_laws.proofs.Cells.PlaceFacts.{same_block, IsPlace, places_have}
 use Rattle.wt_called_edit_laws.proofs.Cells.PlaceGaps.{Gaps, last_gap, then_gap, gaps_of, numbers_in, numbers_are, fill, source_at, sources_at, fill_frames, FillsAll, AreSame, same_gaps, sources_counted, count_counted, many_by, AtPlaces}
 use Rattle.wt_called_edit_laws.proofs.Cells.PlaceTrees.{tree_by, block_by, counted, Framed, text_at, same_where_none}
-use Rattle.wt_called_edit_laws.proofs.Cells.SpotTrees.{counted_same, tree_borders, same_self, over_self, over_blocks, over_read, nodes_over, label_over, over_tree, over_source}
+use Rattle.wt_called_edit_laws.proofs.Cells.SpotTrees.{counted_same, tree_borders, same_self, over_self, over_blocks, over_read, nodes_over, label_over, over_tree, new_source, over_source}
 use Rattle.wt_called_edit_laws.proofs.Cells.SpotsRead.{typed_round, typed_over}
 use Rattle.wt_called_edit_laws.proofs.Cells.FramesBorders.{page_borders}
 
@@ -241,13 +241,13 @@ all_at page t w o (then_gap xs i g) (s ∷ ss) (p ∷ os) behind front m clear b
 -- ---- of the page
 
 fills_all : (ss : List BlockSpot) (behind : List ℕ) (f : Framed ss behind) → AreSpots ss behind → FillsAll (gaps_of f.frames (last_gap [])) ss behind
-fills_all ss behind f h rs e b o =
+fills_all ss behind f h rs e c o =
     let g : Gaps = gaps_of f.frames (last_gap []) in
     let t : ℕ → ItemTree = tree_by rs in
     sym (ap (λ ts. fill ts g) (ap (λ is. sources_at t is []) (f.in_order ∙ sym (counted_same ss rs e)) ∙ sources_counted rs))
     ∙ fill_frames t f.frames (last_gap []) []
     ∙ append-nil (blocks_source (trees_at t f.frames))
-    ∙ over_source ss rs behind f h e o
+    ∙ new_source ss rs behind f h e c o
 
 pub numbers_so : (ss : List BlockSpot) (behind : List ℕ) (f : Framed ss behind) → numbers_in (gaps_of f.frames (last_gap [])) ≡ counted ss
 numbers_so ss behind f = numbers_are f.frames (last_gap []) ∙ append-nil (all_places f.frames) ∙ f.in_order
@@ -255,8 +255,8 @@ numbers_so ss behind f = numbers_are f.frames (last_gap []) ∙ append-nil (all_
 pub gaps_so : (ss : List BlockSpot) (behind : List ℕ) (f : Framed ss behind) → AreSpots ss behind → AreSame (gaps_of f.frames (last_gap [])) ss
 gaps_so ss behind f h =
     let g : Gaps = gaps_of f.frames (last_gap []) in
-    same_gaps g ss behind (many_by g ss (ap length (numbers_so ss behind f) ∙ count_counted ss)) (blocks_contents ss (over_blocks ss ss behind h (same_self ss) (over_self ss)))
-    (fills_all ss behind f h)
+    same_gaps g ss behind (many_by g ss (ap length (numbers_so ss behind f) ∙ count_counted ss))
+    (blocks_contents ss (over_blocks ss ss behind h (same_self ss) (over_self ss))) (fills_all ss behind f h)
 
 pub all_have : (ss : List BlockSpot) (behind : List ℕ) (f : Framed ss behind) (os : List (Option (List ℕ))) → AreSpots ss behind → AreTypings ss os
     → PlacesHave (page_items (spots_source ss behind)) (spots_source ss behind) (tree_by ss) (tree_by (with_texts ss os)) (text_at os) 1 [] [] f.frames

@@ -1,4 +1,4 @@
--- Where contents are edited in the blocks of a page with calls, it is such a page again, and as much work to expand; and it is refused only if it was before.
+-- Where new contents are written in the blocks of a page with calls, it is such a page again, and as much work to expand; and it is refused only if it was before.
 use Rattle.std.proofs.Common.{◌≡◌, ◌⊎◌, inl, inr, ℕ, ◌+◌, Option, Some, None, List, [], ◌∷◌, ◌++◌, refl, sym, ap, ap₂, ◌∙◌, subst}
 use Rattle.std.specs.Option.{option_map, option_or}
 use Rattle.wt_span.specs.declared.form.Mode.TheVariants.{Page}
@@ -8,7 +8,7 @@ use Rattle.wt_expand.specs.Expansion.{page_reading, text_given, page_work}
 use Rattle.wt_expand.specs.PageItems.{page_items}
 use Rattle.wt_text_edit_laws.specs.NoCalls.{Brace, NonePairs, CallsNothing}
 use Rattle.wt_text_edit_laws.specs.TextBlocks.{TextBlock, source_of, block_items}
-use Rattle.wt_text_edit_laws.specs.Contents.{IsContent, IsFirmContent, IsNewContent}
+use Rattle.wt_text_edit_laws.specs.Contents.{IsFirmContent, IsNewContent}
 use Rattle.wt_text_edit_laws.specs.BlockSpots.{BlockSpot, spots_source, EndBeforeBlocks, SameRound, AreContents, AreReadAfter, IsRead}
 use Rattle.wt_text_edit_laws.proofs.Between.LessBraces.{IsSome, all_some, some_both, pairs_some, braces_of, none_unbraced}
 use Rattle.wt_text_edit_laws.proofs.Blocks.BlocksAgain.{spot_read_again, after_read_again}
@@ -18,8 +18,9 @@ use Rattle.wt_called_edit_laws.specs.Parts.{left_of, all_left, CallNothing, AreP
 use Rattle.wt_called_edit_laws.proofs.Parts.CalmBraces.{calm_left}
 use Rattle.wt_called_edit_laws.proofs.Parts.Depths.{IsShallow, undeep_shallow, shallow_undeep}
 use Rattle.wt_called_edit_laws.proofs.Parts.PartByPart.{AreShallow, page_from}
+use Rattle.wt_called_edit_laws.proofs.Parts.Seams.{block_alone}
 
--- ---- a new content has no braces
+-- ---- a content that was written has no braces
 
 firm_braces : (k : TextBlock) (q : List ℕ) → IsFirmContent k q → braces_of (block_items k q) ≡ []
 firm_braces k q h = none_unbraced (block_items k q) (firm_unbraced k q h)
@@ -33,19 +34,18 @@ none_of (x ∷ xs) h = absurd h
 
 firm_left : (k : TextBlock) (q : List ℕ) → IsFirmContent k q → left_of (source_of k q) ≡ []
 firm_left k q t =
-    let c : IsContent k q = t.content in
-    let items : page_items (source_of k q) ≡ block_items k q = c.unended in
+    let items : page_items (source_of k q) ≡ block_items k q = block_alone k q t.content in
     none_of (left_of (source_of k q))
     (subst (λ bs. IsSome (left_of (source_of k q)) bs) (ap braces_of items ∙ firm_braces k q t)
     (calm_left (source_of k q) (subst CallsNothing (sym items) (firm_calm k q t))))
 
 text_calm : (k : TextBlock) (was now : List ℕ) → (now ≡ was) ⊎ IsNewContent k was now → CallsNothing (block_items k was) → CallsNothing (block_items k now)
 text_calm k was now (inl e) h = subst (λ q. CallsNothing (block_items k q)) (sym e) h
-text_calm k was now (inr t) h = firm_calm k now t.firm
+text_calm k was now (inr n) h = firm_calm k now n.firm
 
 text_left : (k : TextBlock) (was now : List ℕ) → (now ≡ was) ⊎ IsNewContent k was now → IsSome (left_of (source_of k now)) (left_of (source_of k was))
 text_left k was now (inl e) = subst (λ q. IsSome (left_of (source_of k q)) (left_of (source_of k was))) (sym e) (all_some (left_of (source_of k was)))
-text_left k was now (inr t) = subst (λ xs. IsSome xs (left_of (source_of k was))) (sym (firm_left k now t.firm)) tt
+text_left k was now (inr n) = subst (λ xs. IsSome xs (left_of (source_of k was))) (sym (firm_left k now n.firm)) tt
 
 -- ---- the page
 

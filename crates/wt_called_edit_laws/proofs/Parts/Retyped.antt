@@ -1,9 +1,8 @@
--- A page with calls in whose blocks contents were edited.
-use Rattle.std.proofs.Common.{ℕ, List, [], ◌∷◌, sym, ◌∙◌, subst}
+-- A page with calls in whose blocks new contents were written.
+use Rattle.std.proofs.Common.{ℕ, List, [], ◌∷◌, sym, ◌∙◌}
 use Rattle.wt_expand.specs.Work.{Pages}
 use Rattle.wt_text_edit_laws.specs.BlockSpots.{BlockSpot, spots_source, IsRead, AreReadAfter, SameRound, AreContents}
-use Rattle.wt_text_edit_laws.specs.Contents.{IsContent}
-use Rattle.wt_text_edit_laws.proofs.Blocks.Contents.{over_content}
+use Rattle.wt_text_edit_laws.proofs.Blocks.Contents.{new_contents}
 use Rattle.wt_text_edit_laws.proofs.Blocks.TypedBraces.{AreNewOver}
 use Rattle.wt_called_edit_laws.specs.Parts.{AreCalled, IsByParts}
 use Rattle.wt_called_edit_laws.specs.Retyped.{AreRetyped, IsExpandedAgain}
@@ -20,7 +19,7 @@ is_by_parts pages ss behind h =
       work = work_of pages ss behind h;
     }
 
--- ---- edited again
+-- ---- typed again
 
 pub same_round : (ss rs : List BlockSpot) → AreRetyped ss rs → SameRound ss rs
 same_round [] [] h = tt
@@ -34,23 +33,19 @@ new_over [] (r ∷ rs) h = absurd h
 new_over (s ∷ ss) [] h = absurd h
 new_over (s ∷ ss) (r ∷ rs) h = (h.2, new_over ss rs h.3)
 
-contents_after : (ss : List BlockSpot) (behind : List ℕ) → AreReadAfter ss behind → AreContents ss
-contents_after [] behind h = tt
-contents_after (s ∷ ss) behind h = let r : IsRead s = h.0 in (r.block, contents_after ss behind h.2)
+blocks_after : (ss : List BlockSpot) (behind : List ℕ) → AreReadAfter ss behind → AreContents ss
+blocks_after [] behind h = tt
+blocks_after (s ∷ ss) behind h = let r : IsRead s = h.0 in (r.block, blocks_after ss behind h.2)
 
-pub called_contents : (ss : List BlockSpot) (behind : List ℕ) → AreCalled ss behind → AreContents ss
-called_contents [] behind h = absurd h
-called_contents (s ∷ ss) behind h = let r : IsRead s = h.0 in (r.block, contents_after ss behind h.1)
+pub called_blocks : (ss : List BlockSpot) (behind : List ℕ) → AreCalled ss behind → AreContents ss
+called_blocks [] behind h = absurd h
+called_blocks (s ∷ ss) behind h = let r : IsRead s = h.0 in (r.block, blocks_after ss behind h.1)
 
-pub contents_over : (ss rs : List BlockSpot) → AreRetyped ss rs → AreContents ss → AreContents rs
-contents_over [] [] h b = tt
-contents_over [] (r ∷ rs) h b = absurd h
-contents_over (s ∷ ss) [] h b = absurd h
-contents_over (s ∷ ss) (r ∷ rs) h b =
-    (over_content r.block s.text r.text h.2 (subst (λ k. IsContent k s.text) (sym h.1) b.0), contents_over ss rs h.3 b.1)
+pub blocks_over : (ss rs : List BlockSpot) → AreRetyped ss rs → AreContents ss → AreContents rs
+blocks_over ss rs h b = new_contents ss rs (same_round ss rs h) (new_over ss rs h) b
 
 pub expanded_again : (pages : Pages) (ss rs : List BlockSpot) (behind : List ℕ) → AreCalled ss behind → AreRetyped ss rs → IsExpandedAgain pages ss rs behind
 expanded_again pages ss rs behind h t =
     let e : SameRound ss rs = same_round ss rs t in
-    let c : AreCalled rs behind = called_again ss rs behind h e (contents_over ss rs t (called_contents ss behind h)) (new_over ss rs t) in
+    let c : AreCalled rs behind = called_again ss rs behind h e (blocks_over ss rs t (called_blocks ss behind h)) (new_over ss rs t) in
     record { called = c; work = same_work pages ss rs behind h c e; unrefused = still_unrefused pages ss rs behind h c e }
