@@ -6,3 +6,6 @@ pub mod Closes
 pub mod Items
 pub mod Letters
 pub mod Written
+pub mod Inline
+pub mod NewContents
+pub mod Making

@@ -1,7 +1,8 @@
 -- A heading keeps its level whatever is typed in it: what is put behind a bare URL that ends with a `=` parts this from the heading's own.
 use Rattle.std.proofs.Common.{arith, ◌≡◌, ℕ, ◌+◌, ◌-◌, ◌==◌, Bool, true, false, None, List, [], ◌∷◌, ◌++◌, length, map, drop, refl, sym, ap, ◌∙◌, subst, append_assoc, inr, length-append}
 use Rattle.std.specs.Prelude.{◌||◌, if◌then◌else◌, nat_eq}
-use Rattle.std.specs.List.{ends_with, flat_map, pointwise}
+use Rattle.std.specs.List.{ends_with, flat_map}
+use Rattle.std.specs.Cmp.Lexicographic.{pointwise}
 use Rattle.std.proofs.Math.Seq.{drop-append_seam}
 use Rattle.std.proofs.lemmas.Bool.Decides.{nat_tests}
 use Rattle.std.specs.Str.{chars}
@@ -161,12 +162,12 @@ tiles_told at ((w, xs) ∷ ps) f h =
 
 lines_told : (at : ℕ) (ls : List (List Item)) → AreFlatLines ls → EndInSigns (signs_of_lines at ls) → AllTold (signs_of_lines at ls)
 lines_told at [] f h = tt
-lines_told at (l ∷ []) f h = tiles_told at (tiles in_line l) f.1.0 h
+lines_told at (l ∷ []) f h = tiles_told at (tiles in_line l) f.1 h
 lines_told at (l ∷ m ∷ ls) f h =
     let own : List ContentSign = line_signs at l in
     let more : List ContentSign = signs_of_lines (at + length (sources l) + 1) (m ∷ ls) in
-    told_both own (letter 10 ∷ more) (tiles_told at (tiles in_line l) f.1.0 (seen_front own (letter 10 ∷ more) h))
-    (lines_told (at + length (sources l) + 1) (m ∷ ls) f.1.1 (seen_rest own (letter 10 ∷ more) h))
+    told_both own (letter 10 ∷ more) (tiles_told at (tiles in_line l) f.1 (seen_front own (letter 10 ∷ more) h))
+    (lines_told (at + length (sources l) + 1) (m ∷ ls) f.2 (seen_rest own (letter 10 ∷ more) h))
 
 -- ---- a content of the same nodes
 

@@ -1,5 +1,5 @@
 -- A paragraph or a heading whose content is read by itself is a page of its own: so no node in it is a group, a body or a section.
-use Rattle.std.proofs.Common.{◌≡◌, ℕ, Bool, true, false, None, List, [], ◌∷◌, ◌++◌, map, refl, sym, ap, ◌∙◌, subst, append-nil, All, arith}
+use Rattle.std.proofs.Common.{◌≡◌, ℕ, ◌+◌, Bool, true, false, None, List, [], ◌∷◌, ◌++◌, map, refl, sym, ap, ◌∙◌, subst, append-nil, All, arith}
 use Rattle.std.specs.Prelude.{if◌then◌else◌}
 use Rattle.std.specs.Str.{IsUtf8}
 use Rattle.std.proofs.lemmas.List.Elements.{All-head, All-tail}
@@ -101,7 +101,7 @@ content_means (a_heading s) q h e = ap meaning e ∙ heading_means s (page_items
 
 -- ---- its nodes
 
-no_pages : Pages
+pub no_pages : Pages
 no_pages = λ title. None
 
 pub own_frame : (k : TextBlock) (q : List ℕ) → IsContentOf k q → HasFrame k
