@@ -197,7 +197,7 @@ same_front k xs ys us vs e f =
     (sym (placed xs us k 97) ∙ e ∙ placed ys vs k 97) (sym (placed xs us k 98) ∙ f ∙ placed ys vs k 98) in
     append_cancel_right xs ys (front_of k) r.0
 
-self_round : (ss : List BlockSpot) → SameRound ss ss
+pub self_round : (ss : List BlockSpot) → SameRound ss ss
 self_round [] = tt
 self_round (s ∷ ss) = (refl, refl, self_round ss)
 

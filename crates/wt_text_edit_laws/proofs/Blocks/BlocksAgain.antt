@@ -8,11 +8,11 @@ use Rattle.wt_expand.specs.PageItems.{page_items}
 use Rattle.wt_text_edit_laws.specs.TextBetween.{AreEnded}
 use Rattle.wt_text_edit_laws.proofs.Prose.InFront.{reads_nothing, read_items}
 use Rattle.wt_text_edit_laws.proofs.Paragraphs.ClearLines.{clear_first, clear_line}
-use Rattle.wt_text_edit_laws.specs.TypedHeadings.{Sides, equals, opening, closing}
-use Rattle.wt_text_edit_laws.specs.TextBlocks.{TextBlock, a_paragraph, a_heading, source_of, IsFrame, IsBlock, BeginsLine, BeginsBetween}
+use Rattle.wt_text_edit_laws.specs.TypedHeadings.{equals, opening, closing}
+use Rattle.wt_text_edit_laws.specs.TextBlocks.{TextBlock, a_paragraph, a_heading, source_of, IsBlock, BeginsLine, BeginsBetween}
 use Rattle.wt_text_edit_laws.specs.BlockSpots.{BlockSpot, spots_source, IsBlockSpot, AreFurtherBlocks, AsAWhole, AreBlockSpots, IsRead, AreReadAfter, AreRead, SameRound, AreBlocks, AreContents}
 use Rattle.wt_text_edit_laws.specs.Contents.{IsContent}
-use Rattle.wt_text_edit_laws.proofs.Blocks.BlockReading.{AreQuiet, run_quiet, blanks_quiet, opening_quiet, each_quiet, content_frame}
+use Rattle.wt_text_edit_laws.proofs.Blocks.BlockReading.{AreQuiet, run_quiet, blanks_quiet, opening_quiet, each_quiet, HasFrame, content_frame}
 use Rattle.wt_text_edit_laws.proofs.Blocks.BlocksRead.{spots_read}
 
 -- ---- UTF-8
@@ -34,14 +34,16 @@ quiet_utf8 [] h = IsUtf8-nil
 quiet_utf8 (b ∷ bs) h =
     IsUtf8-append (b ∷ []) bs (each_quiet (λ (c : ℕ). IsUtf8 (c ∷ [])) equals_utf8 space_utf8 tab_utf8 b h.0) (quiet_utf8 bs h.1)
 
-pub content_utf8 : (k : TextBlock) (q : List ℕ) → IsContent k q → IsUtf8 (source_of k q)
-content_utf8 a_paragraph q h = h.utf8
-content_utf8 (a_heading s) q h =
-    let f : IsFrame s = content_frame (a_heading s) q h in
+pub framed_utf8 : (k : TextBlock) (q : List ℕ) → HasFrame k → IsUtf8 q → IsUtf8 (source_of k q)
+framed_utf8 a_paragraph q f h = h
+framed_utf8 (a_heading s) q f h =
     let end : IsUtf8 (equals s.level ++ s.rest) = IsUtf8-append (equals s.level) s.rest (quiet_utf8 (equals s.level) (run_quiet s.level)) f.utf8 in
     IsUtf8-append (opening s) (q ++ closing s) (quiet_utf8 (opening s) (opening_quiet s f.sides))
-    (IsUtf8-append q (closing s) h.utf8
+    (IsUtf8-append q (closing s) h
     (IsUtf8-append s.trail (equals s.level ++ s.rest) (quiet_utf8 s.trail (blanks_quiet s.trail f.sides.trail)) end))
+
+pub content_utf8 : (k : TextBlock) (q : List ℕ) → IsContent k q → IsUtf8 (source_of k q)
+content_utf8 k q h = framed_utf8 k q (content_frame k q h) h.utf8
 
 spot_utf8 : (s : BlockSpot) (rest : List ℕ) → IsRead s → IsUtf8 rest → IsUtf8 (s.before ++ (source_of s.block s.text ++ rest))
 spot_utf8 s rest h u =

@@ -32,7 +32,7 @@ idle_unbraced [] h = tt
 idle_unbraced (char o b ∷ xs) h = (idle_by b (is_brace b) refl h.0, idle_unbraced xs h.1)
 idle_unbraced (whole f o bs ∷ xs) h = idle_unbraced xs h.1
 
-line_unbraced : (s : Sides) (own : List Item) → IsFrame s → AreUnbraced own → AreUnbraced (page_chars (opening s) ++ (own ++ closing_items s))
+pub line_unbraced : (s : Sides) (own : List Item) → IsFrame s → AreUnbraced own → AreUnbraced (page_chars (opening s) ++ (own ++ closing_items s))
 line_unbraced s own f u =
     let ends : AreUnbraced (closing_items s) =
     unbraced_joined (page_chars (s.trail ++ equals s.level)) (page_items s.rest)
