@@ -6,8 +6,8 @@ use Rattle.wt_span.specs.Items.{Item, sources}
 use Rattle.wt_inline.specs.ItemTree.{ItemTree, inner, ItemTrees, nothing, further, forest, held_by_all, tree_items}
 use Rattle.wt_inline.specs.Parts.{children}
 use Rattle.wt_tree.specs.Kinds.{is_leaf}
-use Rattle.wt_annotated.specs.Clean.{is_page}
-use Rattle.wt_annotated.specs.WithoutCalls.{InsideOf, is_body, holds_page, NoneEmpty, AllNonEmpty}
+use Rattle.wt_annotated.specs.Clean.{is_page, is_body}
+use Rattle.wt_annotated.specs.WithoutCalls.{InsideOf, holds_page, NoneEmpty, AllNonEmpty}
 use Rattle.wt_expand.specs.PageItems.{page_items}
 use Rattle.wt_called_trees.specs.Rounded.{HasItems, AllHaveItems, IsOwn}
 use Rattle.wt_text_edit_laws.specs.Contents.{AreParagraphLines, IsHeadingLine, content_parts_of, IsContent}
