@@ -21,6 +21,7 @@ use Rattle.wt_text_edit_laws.specs.Contents.{IsContent}
 use Rattle.wt_text_edit_laws.specs.TypedHeadings.{equals}
 use Rattle.wt_text_edit_laws.proofs.Blocks.BlockReading.{content_frame}
 use Rattle.wt_text_edit_laws.proofs.Blocks.Contents.{block_source}
+use Rattle.wt_text_edit_laws.proofs.Blocks.OwnContents.{paragraph_some}
 use Rattle.wt_called_edit_laws.specs.Retyped.{AreRetyped}
 use Rattle.wt_called_edit_laws.proofs.Parts.Retyped.{called_blocks, expanded_again}
 use Rattle.wt_called_trees.specs.Rounded.{AreOwn}
@@ -35,7 +36,7 @@ use Rattle.wt_called_edit_laws.specs.Groups.{called_tree}
 use Rattle.wt_called_edit_laws.proofs.CalledUtf8.{called_utf8, retyped}
 use Rattle.wt_called_edit_laws.proofs.FreePlaces.{clean_where_free}
 use Rattle.wt_called_edit_laws.proofs.GroupsAmong.{calls_same, retyped_self}
-use Rattle.wt_called_edit_laws.proofs.OwnBlocks.{paragraph_some, counted_own}
+use Rattle.wt_called_edit_laws.proofs.OwnBlocks.{counted_own}
 use Rattle.wt_called_edit_laws.proofs.PlaceBytes.{text_gaps, all_numbers, all_fill, gaps_same, gap_places}
 use Rattle.wt_called_edit_laws.proofs.Squashed.{all_squashed, trees_squashed, places_squashed, frames_squashed, squashed_hold}
 use Rattle.wt_called_edit_laws.proofs.TextsUntangled.{AreThere, all_there}

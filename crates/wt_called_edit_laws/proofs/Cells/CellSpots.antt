@@ -19,11 +19,11 @@ use Rattle.wt_row_laws.proofs.UnitCuts.{first_unit, cut, level_open, level_other
 use Rattle.wt_row_laws.proofs.InCells.{alone_first}
 use Rattle.wt_text_edit_laws.specs.ParagraphBetween.{written_rows, before_marks, EndApart, BeginApart}
 use Rattle.wt_text_edit_laws.specs.TextBlocks.{a_paragraph}
-use Rattle.wt_text_edit_laws.specs.BlockSpots.{BlockSpot, IsRead}
+use Rattle.wt_text_edit_laws.specs.BlockSpots.{BlockSpot}
 use Rattle.wt_text_edit_laws.proofs.Between.LineForms.{ends_before_any}
 use Rattle.wt_text_edit_laws.proofs.Between.TextReads.{calm_between}
 use Rattle.wt_text_edit_laws.proofs.Blocks.Contents.{typed_firm}
-use Rattle.wt_called_edit_laws.specs.AnyBlocks.{open_after, rows_of_part, open_behind_part, LeadsInto, EndsAfter, AreParts, AreSpots}
+use Rattle.wt_called_edit_laws.specs.AnyBlocks.{open_after, rows_of_part, open_behind_part, LeadsInto, IsTextRead, EndsAfter, AreParts, AreSpots}
 use Rattle.wt_called_edit_laws.specs.CellEdits.{CellPage, IsCellPage}
 use Rattle.wt_called_edit_laws.specs.InCells.{rows_before, rows_behind, open_tables, AreBehind, IsInCell}
 use Rattle.wt_called_edit_laws.proofs.Cells.Cells.{typed_stays_text}
