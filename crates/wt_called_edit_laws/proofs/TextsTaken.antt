@@ -78,7 +78,7 @@ all_fit [] (q ∷ qs) ps t ss a h c = absurd a
 all_fit (spot ∷ spots) [] ps t ss a h c = absurd a
 all_fit (spot ∷ spots) (q ∷ qs) ps t ss a h c = (fits_by spot q ps ss h c, all_fit spots qs ps t ss a.1 h c)
 
-as_contents : (t : Tree) (spots : List BlockSpot) (paths : List (List ℕ)) (ss : Sents) → AllStand spots paths t → IsEditOf t paths ss
+pub as_contents : (t : Tree) (spots : List BlockSpot) (paths : List (List ℕ)) (ss : Sents) → AllStand spots paths t → IsEditOf t paths ss
     → IsContentEdit t spots paths (as_edits ss)
 as_contents t spots paths ss a e = record {
   old = pages_are ss ∙ e.old;
@@ -144,6 +144,11 @@ same_all (spot ∷ spots) [] ps t ss c a e h k = absurd a
 same_all (spot ∷ spots) (q ∷ qs) ps t ss c a e h k =
     ap₂ (λ (r : BlockSpot) (rs : List BlockSpot). r ∷ rs) (same_by spot q ps t ss c.0 a.0 e h k) (same_all spots qs ps t ss c.1 a.1 e h k)
 
+pub same_page : (pages : Pages) (ss : List BlockSpot) (behind : List ℕ) (paths : List (List ℕ)) → AllStand ss paths (spots_tree pages ss behind) → AreContents ss
+    → (es : Sents) → IsEditOf (spots_tree pages ss behind) paths es → edited_page ss behind paths (as_edits es) ≡ new_page ss behind paths es
+same_page pages ss behind paths stand contents = λ es e.
+    ap (λ (rs : List BlockSpot). spots_source rs behind) (same_all ss paths paths (spots_tree pages ss behind) es contents stand e.old e.types e.take)
+
 -- ---- what the difference looks at
 
 mutual
@@ -154,7 +159,7 @@ mutual
       ap (λ t. is_same_inside t (bare_node (as_edited s))) (page_is s) ∙ ap (is_same_inside (old_child s)) (bare_is s) ∙ h
   one_own (holds l m ss) h = (h.0, all_own ss h.1)
 
-  all_own : (ss : Sents) → AreOwn ss → AreOwnEdits (as_edits ss)
+  pub all_own : (ss : Sents) → AreOwn ss → AreOwnEdits (as_edits ss)
   all_own none_sent h = tt
   all_own (more_sent s ss) h = (one_own s h.0, all_own ss h.1)
 
@@ -171,7 +176,7 @@ texts_by pages ss behind f h =
     let same : (es : Sents) → IsEditOf t paths es → with_contents ss (map (edited_by (as_edits es)) paths) ≡ with_texts ss (map (typed_by es) paths) =
     λ es e. same_all ss paths paths t es contents stand e.old e.types e.take in
     let new : (es : Sents) → IsEditOf t paths es → edited_page ss behind paths (as_edits es) ≡ new_page ss behind paths es =
-    λ es e. ap (λ (rs : List BlockSpot). spots_source rs behind) (same es e) in
+    same_page pages ss behind paths stand contents in
     record {
       paths = paths;
       lead = all_lead ss paths t stand;
