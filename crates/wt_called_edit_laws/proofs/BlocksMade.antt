@@ -1,5 +1,5 @@
 -- What is sent for a block whose content was edited makes the block with the new content, wherever it is.
-use Rattle.std.proofs.Common.{◌≡◌, ◌⊎◌, inl, inr, ℕ, zero, suc, Option, Some, None, List, [], ◌∷◌, ◌++◌, map, refl, sym, ap, ◌∙◌, subst}
+use Rattle.std.proofs.Common.{◌≡◌, ◌⊎◌, inl, inr, ℕ, zero, suc, Option, Some, None, List, [], ◌∷◌, ◌++◌, map, refl, sym, ap, ◌∙◌, subst, append_assoc}
 use Rattle.std.specs.Str.{IsUtf8}
 use Rattle.wt_tree.specs.Plain.{Plains, Face, ended, along, element, face, text_before, plain_before}
 use Rattle.wt_tree.specs.Source.{flat}
@@ -176,7 +176,10 @@ text_made k q l m ps c h one =
       inline = one_inline j ps one;
       new = subst (IsNewContent k q) (sym is) (typed_new k q new is_typed);
       source =
-          ap (λ (bs : List ℕ). bs ++ (made ++ l.closing)) opens ∙ ap (λ (bs : List ℕ). sources (open_items k) ++ (made ++ bs)) closes ∙ framed k made;
+          append_assoc l.opening made l.closing
+          ∙ ap (λ (bs : List ℕ). bs ++ (made ++ l.closing)) opens
+          ∙ ap (λ (bs : List ℕ). sources (open_items k) ++ (made ++ bs)) closes
+          ∙ framed k made;
       shows = λ rest.
           ap (λ (qs : Plains). along (element (face (label page)) qs) rest) (one_before j ps ended one)
           ∙ ap (λ (f : Face). along (element f (text_before text ended)) rest) faces

@@ -38,7 +38,6 @@ use Rattle.wt_called_edit_laws.specs.Settled.{settled, all_settled, IsSettled}
 use Rattle.wt_called_edit_laws.proofs.BareInsides.{IsBare, AreBare, page_bare}
 use Rattle.wt_called_edit_laws.proofs.Cells.PlaceGaps.{Gaps, last_gap, then_gap, put_before, numbers_in, source_at, AreSame, AtPlaces}
 use Rattle.wt_text_edit_laws.proofs.Blocks.Contents.{block_source as source_is}
-use Rattle.wt_text_edit_laws.proofs.Blocks.BlocksAgain.{content_utf8}
 use Rattle.wt_called_edit_laws.proofs.CutFrames.{no_group_round}
 use Rattle.wt_called_edit_laws.proofs.EditFacts.{IsFramedPage, framed_page, spots_body, spots_contents, are_the_page}
 use Rattle.wt_called_edit_laws.proofs.GroupsAmong.{retyped_self}
@@ -123,7 +122,7 @@ rest_beside b at one rest both e (inr h) = inr (omega (arith, h, e))
 inside_size : (v : Bool) (own o inside c : List ℕ) → v ≡ false → length o + length inside ≤ length (if v then own else o ++ inside ++ c)
 inside_size true own o inside c e = let no : true ≡ false = e in absurd (cc)
 inside_size false own o inside c e =
-    let one = length-append o (inside ++ c) in let two = length-append inside c in omega (arith, one, two)
+    let one = length-append (o ++ inside) c in let two = length-append o inside in omega (arith, one, two)
 
 leaf_by : (v : Bool) (b n at : ℕ) (ts : Trees) → (v ≡ true → ts ≡ none) → (v ≡ false → NoneGroupAt b (all_settled n at ts)) → NoneGroupAt b (all_settled n at ts)
 leaf_by true b n at ts e f = subst (λ (us : Trees). NoneGroupAt b (all_settled n at us)) (sym (e refl)) tt
@@ -309,7 +308,7 @@ mutual
       let C : List ℕ = l.closing in
       let whole : A ++ B ++ C ≡ flat (tree l (all_filled (block_at u) gs)) = leaf_or (is_leaf l.kind) l.own (A ++ B ++ C) w.0 in
       let e : front ++ flat (tree l (all_filled (block_at u) gs)) ≡ ((front ++ A) ++ B) ++ C =
-      ap (λ (xs : List ℕ). front ++ xs) (sym whole) ∙ sym (append_assoc front A (B ++ C)) ∙ sym (append_assoc (front ++ A) B C) in
+      ap (λ (xs : List ℕ). front ++ xs) (sym whole) ∙ sym (append_assoc front (A ++ B) C) ∙ ap (λ (xs : List ℕ). xs ++ C) (sym (append_assoc front A B)) in
       let both : length (front ++ A) ≡ length front + length A = length-append front A in
       before_at P u front A (gaps_in gs (put_before C z))
       (spots_gaps Q u (front ++ A) gs (put_before C z) w.1 (subst (λ (k : ℕ). SpotsIn Q u k gs) (sym both) h)
@@ -358,7 +357,7 @@ counted_solid (s ∷ ss) h c =
     let some : HaveBytes (tree_by (s ∷ ss)) (counted (s ∷ ss)) = have_bytes (s ∷ ss) h in
     let t : Tree = standing 0 [] u in
     let own : IsOrdinary t =
-    standing_ordinary 0 [] u (content_ordinary s.block s.text (content_utf8 s.block s.text h.0) h.0.is h.0.unended c.0) in (
+    standing_ordinary 0 [] u (content_ordinary s.block s.text h.0.utf8 h.0.is h.0.unended c.0) in (
       subst (λ (bs : List ℕ). 0 < length bs) (sym (spot_source (tree_by (s ∷ ss)) 0)) some.0,
       placeless_free t (ordinary_ungrouped t own),
       solid_up s ss (counted ss) (counted_solid ss h.1 c.1),
