@@ -4,6 +4,7 @@ pub mod BlockLines
 pub mod BlockLeaves
 pub mod Untangled
 pub mod Contents
+pub mod OwnContents
 pub mod BlocksRead
 pub mod BlockMeaning
 pub mod BlockTrees

@@ -142,9 +142,9 @@ typed_place xs page t w o m a i h text e j l ts p x old =
     let r = h.new text e in
     let own : AreOwn (page_items q) = block_own k q h.is in
     let again : AreOwn (page_items new) = block_own k new r.2 in
-    let tree_is : w i ≡ leaf_block k (leaves (page_items new)) = r.3 ∙ block_leaves k new again in
+    let tree_is : w i ≡ leaf_block k (leaves (page_items new)) = r.3 ∙ block_leaves k new r.2 in
     let f = any_typed xs page m a k q h.rest text h.clear own again r.0 r.1 h.page_is j l ts p x
-    (old ∙ ap (standing m a) (h.old ∙ block_leaves k q own)) in
+    (old ∙ ap (standing m a) (h.old ∙ block_leaves k q h.is)) in
     let P : ItemTree → List ℕ → Type 0 = λ u cs. Facts (of_items xs) page (width a) (typed j l ts p x text) cs (block_shown u) in
     subst (λ u. P u (sources (tree_items u))) (sym tree_is) (subst (P (leaf_block k (leaves (page_items new)))) (sym (items_source k new again)) f)
 

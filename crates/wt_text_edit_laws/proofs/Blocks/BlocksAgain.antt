@@ -8,7 +8,7 @@ use Rattle.wt_expand.specs.PageItems.{page_items}
 use Rattle.wt_text_edit_laws.specs.TextBetween.{AreEnded}
 use Rattle.wt_text_edit_laws.proofs.Prose.InFront.{reads_nothing, read_items}
 use Rattle.wt_text_edit_laws.proofs.Paragraphs.ClearLines.{clear_first, clear_line}
-use Rattle.wt_text_edit_laws.specs.TypedHeadings.{Sides, equals, opening, closing}
+use Rattle.wt_text_edit_laws.specs.TypedHeadings.{equals, opening, closing}
 use Rattle.wt_text_edit_laws.specs.TextBlocks.{TextBlock, a_paragraph, a_heading, source_of, IsBlock, BeginsLine, BeginsBetween}
 use Rattle.wt_text_edit_laws.specs.BlockSpots.{BlockSpot, spots_source, IsBlockSpot, AreFurtherBlocks, AsAWhole, AreBlockSpots, IsRead, AreReadAfter, AreRead, SameRound, AreBlocks, AreContents}
 use Rattle.wt_text_edit_laws.specs.Contents.{IsContent}
@@ -35,11 +35,11 @@ quiet_utf8 (b ∷ bs) h =
     IsUtf8-append (b ∷ []) bs (each_quiet (λ (c : ℕ). IsUtf8 (c ∷ [])) equals_utf8 space_utf8 tab_utf8 b h.0) (quiet_utf8 bs h.1)
 
 pub framed_utf8 : (k : TextBlock) (q : List ℕ) → HasFrame k → IsUtf8 q → IsUtf8 (source_of k q)
-framed_utf8 a_paragraph q f u = u
-framed_utf8 (a_heading s) q f u =
+framed_utf8 a_paragraph q f h = h
+framed_utf8 (a_heading s) q f h =
     let end : IsUtf8 (equals s.level ++ s.rest) = IsUtf8-append (equals s.level) s.rest (quiet_utf8 (equals s.level) (run_quiet s.level)) f.utf8 in
     IsUtf8-append (opening s) (q ++ closing s) (quiet_utf8 (opening s) (opening_quiet s f.sides))
-    (IsUtf8-append q (closing s) u
+    (IsUtf8-append q (closing s) h
     (IsUtf8-append s.trail (equals s.level ++ s.rest) (quiet_utf8 s.trail (blanks_quiet s.trail f.sides.trail)) end))
 
 pub content_utf8 : (k : TextBlock) (q : List ℕ) → IsContent k q → IsUtf8 (source_of k q)

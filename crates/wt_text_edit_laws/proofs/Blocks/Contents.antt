@@ -233,7 +233,7 @@ held_items : (k : TextBlock) (q : List ℕ)
 held_items a_paragraph q = refl
 held_items (a_heading s) q = refl
 
-inside_source : (k : TextBlock) (q : List ℕ) → sources (held_by_all (forest (children (content_parts_of k (page_items q))))) ≡ q
+pub inside_source : (k : TextBlock) (q : List ℕ) → sources (held_by_all (forest (children (content_parts_of k (page_items q))))) ≡ q
 inside_source a_paragraph q =
     let xs : List Item = page_items q in
     ap sources (held_children (joined_parts (lines xs))) ∙ parts_source (lines xs) xs (lines_are xs) (page_breaks q) ∙ page_sources q
