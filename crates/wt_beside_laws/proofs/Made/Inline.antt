@@ -102,14 +102,16 @@ placed_inline n before (further (inner h o us c) ts) a =
 inside_of : (k : ℕ) (q : Kind) (l : Label) (childless : Bool) (inside : Type 0) → NodeIsShown RoundChildren k q l childless inside → inside
 inside_of k q l childless inside h = h.4
 
+inside_tree : (k : ℕ) (q : Kind) (t : Tree) → writing (label t).kind ≡ RoundChildren → IsShownIn k q t → AreShownIn (suc k) (label t).kind (children_of t)
+inside_tree k q (tree l ts) e h =
+    let inside : Type 0 = IsOrdered (texts_of_kind l.kind) ts × AreShownIn (suc k) l.kind ts in
+    (inside_of k q l (is_childless ts) inside (subst (λ (w : Writing). NodeIsShown w k q l (is_childless ts) inside) e h)).1
+
 inside_shown : (k : TextBlock) (ps : List Part) → IsShownIn 9 kind.Body (unplaced (with_parts k ps))
     → AreShownIn 10 (kind_of (block_of k)) (all_unplaced (forest (children ps)))
 unfolding label_at
-inside_shown a_paragraph ps h =
-    (inside_of 9 kind.Body _ _ (IsOrdered (texts_of_kind kind.Para) (all_unplaced (forest (children ps))) × AreShownIn 10 kind.Para (all_unplaced (forest (children ps)))) h).1
-inside_shown (a_heading s) ps h =
-    (inside_of 9 kind.Body _ _
-    (IsOrdered (texts_of_kind (kind.Heading s.level)) (all_unplaced (forest (children ps))) × AreShownIn 10 (kind.Heading s.level) (all_unplaced (forest (children ps)))) h).1
+inside_shown a_paragraph ps h = inside_tree 9 kind.Body (unplaced (with_parts a_paragraph ps)) refl h
+inside_shown (a_heading s) ps h = inside_tree 9 kind.Body (unplaced (with_parts (a_heading s) ps)) refl h
 
 holds_inlines : (k : TextBlock) → (shape (kind_of (block_of k))).holding ≡ holding.Inlines
 holds_inlines a_paragraph = refl

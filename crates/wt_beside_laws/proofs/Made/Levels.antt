@@ -1,5 +1,5 @@
 -- A heading keeps its level whatever is typed in it: what is put behind a bare URL that ends with a `=` parts this from the heading's own.
-use Rattle.std.proofs.Common.{arith, ◌≡◌, ℕ, ◌+◌, ◌-◌, ◌==◌, Bool, true, false, None, List, [], ◌∷◌, ◌++◌, length, map, drop, refl, sym, ap, ◌∙◌, subst, append_assoc, inr, length-append}
+use Rattle.std.proofs.Common.{arith, ◌≡◌, ℕ, ◌+◌, ◌-◌, ◌==◌, Bool, true, false, Some, None, List, [], ◌∷◌, ◌++◌, length, map, drop, refl, sym, ap, ◌∙◌, subst, append_assoc, inr, length-append}
 use Rattle.std.specs.Prelude.{◌||◌, if◌then◌else◌, nat_eq}
 use Rattle.std.specs.List.{ends_with, flat_map}
 use Rattle.std.specs.Cmp.Lexicographic.{pointwise}
@@ -12,7 +12,7 @@ use Rattle.wt_span.specs.Bytes.{is_blank}
 use Rattle.wt_span.specs.Items.{Item, char, whole, is_mark_form, sign, sources}
 use Rattle.wt_guards.specs.declared.role.Role.{Role}
 use Rattle.wt_guards.specs.declared.role.Role.TheVariants.{Link, External, Bare, Switch, Toggle, Mark, Group, Function, Node}
-use Rattle.wt_guards.specs.Content.{ContentSign, Thing, letter, thing, nearest}
+use Rattle.wt_guards.specs.Content.{ContentSign, Thing, letter, thing}
 use Rattle.wt_guards.specs.Guards.{Setting, is_guarded, is_between_guard, is_start_guard, is_end_guard, spelled}
 use Rattle.wt_guards.specs.Letters.{is_escaped}
 use Rattle.wt_spelling_laws.proofs.Lines.{end_guarded}
@@ -209,7 +209,9 @@ or_last false b e = e
 bare_guarded : (s : Setting) (t : Thing) (before : List ContentSign) → s.within ≡ false → t.role ≡ Bare true → is_guarded s (thing t ∷ before) [] ≡ true
 unfolding is_guarded is_end_guard
 bare_guarded s t before w e =
-    rw (w, e) (or_last (is_between_guard (nearest (thing t ∷ before)) None) _ (or_last (is_start_guard (thing t ∷ before) []) true refl))
+    let u : Thing = record { role = Bare true; source = t.source; place = t.place } in
+    let start : Bool = is_start_guard (thing u ∷ before) [] in
+    rw (w, e) (or_last (is_between_guard (Some (thing u)) None) (start || true) (or_last start true refl))
 
 role_apart : (r : Role) (items : List Item) (end : Bool) → IsNode r (map glyph_of items) → BareTold r (map sign items) → (r ≡ Bare true → end ≡ true)
     → UnequalLast (items ++ guard_items end)

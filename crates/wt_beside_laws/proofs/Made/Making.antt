@@ -1,5 +1,5 @@
 -- What is sent for a flat block in which texts are typed beside the nodes: it is taken, its content is written, and it shows what was sent.
-use Rattle.std.proofs.Common.{◌≡◌, ℕ, Bool, true, false, None, List, [], ◌∷◌, ◌++◌, length, refl, sym, ap, ap₂, ◌∙◌, subst}
+use Rattle.std.proofs.Common.{◌≡◌, ℕ, ◌<◌, Bool, true, false, None, List, [], ◌∷◌, ◌++◌, length, refl, sym, ap, ap₂, ◌∙◌, subst, append_assoc}
 use Rattle.wt_span.specs.Items.{Item, sources}
 use Rattle.wt_tree.specs.declared.kind.Kind.{Kind}
 use Rattle.wt_tree.specs.declared.kind.Mark.TheVariants as marks
@@ -154,7 +154,8 @@ delimited_by a b c d bs e f = ap₂ (λ (x y : List ℕ). x ++ (bs ++ y)) e f
 source_is : (k : TextBlock) (q : List ℕ) (block : Tree) (m : Label) (ps : List Piece) → IsIn k q block
     → edited_source same_node (content_edit k block m ps) ≡ source_of k (new_content k block m ps)
 source_is k q block m ps i =
-    delimited_by (label block).opening (sources (open_items k)) (label block).closing (sources (close_items k)) (new_content k block m ps)
+    append_assoc (label block).opening (new_content k block m ps) (label block).closing
+    ∙ delimited_by (label block).opening (sources (open_items k)) (label block).closing (sources (close_items k)) (new_content k block m ps)
     (block_opening k q block i) (block_closing k q block i)
     ∙ framed k (new_content k block m ps)
 
@@ -211,3 +212,16 @@ pub flat_then : (k : TextBlock) (q : List ℕ) (block : Tree) (m : Label) (ps : 
 flat_then k q block m ps h i e =
     subst (IsFlatIn k) (sym (new_is k q block m ps i e))
     (flat_again k q (setting k block) (signs k block ps) h (is_written k q block ps h i e) (same_things k q block ps h i e))
+
+-- ---- in other words
+
+in_page : (k : TextBlock) (q : List ℕ) (n : ℕ) (b : List Item) (block : Tree) → 0 < n → block ≡ standing n b (block_tree k q) → IsIn k q block
+in_page k q n b block some is = record { number = n; before = b; some = some; is = is }
+
+pub makes_so : (k : TextBlock) (q : List ℕ) (n : ℕ) (b : List Item) (block : Tree) (m : Label) (ps : List Piece) → IsFlatIn k q → 0 < n
+    → block ≡ standing n b (block_tree k q) → IsFlatEditOf k block ps → MakesContent k q block m ps
+makes_so k q n b block m ps h some is e = makes_content k q block m ps h (in_page k q n b block some is) e
+
+pub flat_so : (k : TextBlock) (q : List ℕ) (n : ℕ) (b : List Item) (block : Tree) (m : Label) (ps : List Piece) → IsFlatIn k q → 0 < n
+    → block ≡ standing n b (block_tree k q) → IsFlatEditOf k block ps → IsFlatIn k (new_content k block m ps)
+flat_so k q n b block m ps h some is e = flat_then k q block m ps h (in_page k q n b block some is) e
