@@ -25,7 +25,6 @@ use Rattle.wt_beside_laws.specs.Content.{AreKept}
 use Rattle.wt_beside_laws.specs.FlatPages.{AreNodesAndTexts}
 use Rattle.wt_beside_laws.specs.PageBlocks.{AreUnstyled, AreShut}
 use Rattle.wt_beside_laws.specs.PageSigns.{signs_of_lines, AreFlatLines}
-use Rattle.wt_beside_laws.specs.SentPieces.{OnlyTextsGo}
 
 -- ---- its lines
 
@@ -89,10 +88,9 @@ abbrev pub TextsFitIn : TextBlock → List Piece → Type 0
 TextsFitIn a_paragraph ps = Unit {0}
 TextsFitIn (a_heading s) ps = AreOneLine ps
 
--- All nodes of this block stay, each is sent as it is, and any texts are between them; in a heading they are on one line.
+-- Nodes of this block stay, in their order, and each is sent as it is; any texts are between them, in a heading on one line. What else it held is gone.
 pub record IsFlatEditOf (k : TextBlock) (block : Tree) (ps : List Piece) : Type 0 where
   pub old : page_pieces ps ≡ children_of block
   pub stay : PiecesStay ps
-  pub go : OnlyTextsGo ps
   pub are : AreNodesAndTexts ps
   pub fit : TextsFitIn k ps

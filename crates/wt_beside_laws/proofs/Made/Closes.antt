@@ -1,4 +1,4 @@
--- A content of the nodes that the old one had, and of texts, closes no tag that the old one didn't close.
+-- A content of nodes that the old one had, and of texts, closes no tag that the old one didn't close.
 use Rattle.std.proofs.Common.{arith, ◌≡◌, ◌≢◌, ℕ, ◌+◌, ◌≤◌, ◌==◌, Bool, true, false, None, List, [], ◌∷◌, ◌++◌, length, map, refl, sym, ap, ◌∙◌, subst, append_assoc, inl, inr, All}
 use Rattle.std.specs.Prelude.{codes, encode_utf8}
 use Rattle.std.specs.Fmt.{digits}
@@ -34,7 +34,7 @@ use Rattle.wt_beside_laws.specs.FlatBlocks.{lines_in, begins_at, signs_in, IsSea
 use Rattle.wt_beside_laws.specs.PageSigns.{tile_signs, signs_of_tiles, line_signs, signs_of_lines}
 use Rattle.wt_beside_laws.specs.Stood.{things}
 use Rattle.wt_beside_laws.proofs.Contents.{begin_letter}
-use Rattle.wt_beside_laws.proofs.Edits.FullTrees.{Each}
+use Rattle.wt_beside_laws.proofs.Among.{AreAmong, Each, each_among}
 use Rattle.wt_beside_laws.proofs.SentNodes.{things_append, no_things}
 
 -- ---- what is put closes none
@@ -187,7 +187,7 @@ block_open (a_heading s) q name us h = line_open name us (begins_at (a_heading s
 
 -- ---- in the place of the old content
 
--- the same nodes are sealed
+-- its nodes are sealed
 each_sealed : (signs : List ContentSign) → AreSealed signs → Each (λ t. IsSealed t.source) (things signs)
 each_sealed [] h = tt
 each_sealed (letter c ∷ after) h = each_sealed after h
@@ -198,10 +198,10 @@ sealed_each [] h = tt
 sealed_each (letter c ∷ after) h = sealed_each after h
 sealed_each (thing t ∷ after) h = (h.0, sealed_each after h.1)
 
-pub same_sealed : (olds news : List ContentSign) → things news ≡ things olds → AreSealed olds → AreSealed news
-same_sealed olds news e h = sealed_each news (subst (Each (λ t. IsSealed t.source)) (sym e) (each_sealed olds h))
+pub some_sealed : (olds news : List ContentSign) → AreAmong (things news) (things olds) → AreSealed olds → AreSealed news
+some_sealed olds news e h = sealed_each news (each_among (λ t. IsSealed t.source) (things news) (things olds) e (each_sealed olds h))
 
-pub closes_no_more : (k : TextBlock) (q : List ℕ) (s : Setting) (signs : List ContentSign) → AreSealed (signs_in k q) → things signs ≡ things (signs_in k q)
+pub closes_no_more : (k : TextBlock) (q : List ℕ) (s : Setting) (signs : List ContentSign) → AreSealed (signs_in k q) → AreAmong (things signs) (things (signs_in k q))
     → (name us vs : List ℕ) → Unclosed name (q ++ us) → Unclosed name vs → Unclosed name (spelled s signs ++ vs)
 closes_no_more k q s signs a e name us vs h g =
-    content_closes s [] signs name vs (subst (Each (OpenFor name)) (sym e) (block_open k q name us h)) (same_sealed (signs_in k q) signs e a) g
+    content_closes s [] signs name vs (each_among (OpenFor name) (things signs) (things (signs_in k q)) e (block_open k q name us h)) (some_sealed (signs_in k q) signs e a) g

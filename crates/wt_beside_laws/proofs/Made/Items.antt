@@ -24,7 +24,8 @@ use Rattle.wt_beside_laws.specs.PageSigns.{signs_of_lines, AreFlatLines}
 use Rattle.wt_beside_laws.specs.Stood.{things}
 use Rattle.wt_text_edit_laws.proofs.Blocks.PageItems.{all_of}
 use Rattle.wt_text_edit_laws.proofs.Texts.TypedShown.{AllOfPage, both_of_page}
-use Rattle.wt_beside_laws.proofs.Edits.FullTrees.{node_alone, Each}
+use Rattle.wt_beside_laws.proofs.Among.{AreAmong, Each, each_among}
+use Rattle.wt_beside_laws.proofs.Edits.FullTrees.{node_alone}
 use Rattle.wt_beside_laws.proofs.LineShown.{guard_tree}
 use Rattle.wt_beside_laws.proofs.LineThings.{lines_have}
 use Rattle.wt_beside_laws.proofs.PartThings.{HaveThings, tree_source}
@@ -164,9 +165,9 @@ content_has s before (thing t ∷ after) f =
     (have_both own more f.0 (content_has s (thing t ∷ before) after f.1))
 
 pub nodes_have_items : (s : Setting) (ls : List (List Item)) (at : ℕ) (signs : List ContentSign) → AreFlatLines ls → AreUnstyled ls
-    → things signs ≡ things (signs_of_lines at ls) → AllHaveItems (forest (children (joined_parts ls))) → AllOfPage (held_by_all (forest (children (joined_parts ls))))
+    → AreAmong (things signs) (things (signs_of_lines at ls)) → AllHaveItems (forest (children (joined_parts ls))) → AllOfPage (held_by_all (forest (children (joined_parts ls))))
     → AllHaveItems (forest (children (content_parts s [] signs))) × AllOfPage (held_by_all (forest (children (content_parts s [] signs))))
-nodes_have_items s ls at signs flat u same held own_items =
+nodes_have_items s ls at signs flat u some held own_items =
     let own : Each ThingHas (things (signs_of_lines at ls)) =
     things_have at (joined_parts ls) (things (signs_of_lines at ls)) (lines_have at ls u flat) (children_nodes (joined_parts ls) (held, own_items)) in
-    children_have (content_parts s [] signs) (content_has s [] signs (subst (Each ThingHas) (sym same) own))
+    children_have (content_parts s [] signs) (content_has s [] signs (each_among ThingHas (things signs) (things (signs_of_lines at ls)) some own))

@@ -34,7 +34,8 @@ use Rattle.wt_beside_laws.specs.Nodes.{IsNode, AreNodes}
 use Rattle.wt_beside_laws.specs.PageSigns.{form_role, atom_role, tile_signs, signs_of_tiles, line_signs, signs_of_lines, IsFlatForm, IsFlatTile, AreFlatTiles, AreFlatLines}
 use Rattle.wt_beside_laws.specs.Stood.{things}
 use Rattle.wt_beside_laws.proofs.Contents.{content_alone}
-use Rattle.wt_beside_laws.proofs.Edits.FullTrees.{Each}
+use Rattle.wt_beside_laws.proofs.Among.{AreAmong, same_among, Each, each_among}
+use Rattle.wt_beside_laws.proofs.PageSigns.{some_nodes}
 use Rattle.wt_beside_laws.proofs.LineHeadings.{same_items, ends_behind, UnequalLast, letter_unequal, end_unequal, begins_unequal, unequal_end}
 use Rattle.wt_beside_laws.proofs.LineKinds.{line_opens}
 use Rattle.wt_beside_laws.proofs.NodeEnds.{EndInSigns, nodes_end, unequal_by}
@@ -169,20 +170,7 @@ lines_told at (l ∷ m ∷ ls) f h =
     told_both own (letter 10 ∷ more) (tiles_told at (tiles in_line l) f.1 (seen_front own (letter 10 ∷ more) h))
     (lines_told (at + length (sources l) + 1) (m ∷ ls) f.2 (seen_rest own (letter 10 ∷ more) h))
 
--- ---- a content of the same nodes
-
-abbrev Seen : Thing → Type 0
-Seen t = EndsWithout is_blank (map sign (page_items t.source))
-
-each_seen : (signs : List ContentSign) → EndInSigns signs → Each Seen (things signs)
-each_seen [] h = tt
-each_seen (letter c ∷ after) h = each_seen after h
-each_seen (thing t ∷ after) h = (h.0, each_seen after h.1)
-
-seen_each : (signs : List ContentSign) → Each Seen (things signs) → EndInSigns signs
-seen_each [] h = tt
-seen_each (letter c ∷ after) h = seen_each after h
-seen_each (thing t ∷ after) h = (h.0, seen_each after h.1)
+-- ---- a content of some of these nodes
 
 each_told : (signs : List ContentSign) → AllTold signs → Each Told (things signs)
 each_told [] h = tt
@@ -194,11 +182,11 @@ told_each [] h = tt
 told_each (letter c ∷ after) h = told_each after h
 told_each (thing t ∷ after) h = (h.0, told_each after h.1)
 
-content_told : (at : ℕ) (ls : List (List Item)) (signs : List ContentSign) → AreFlatLines ls → AreNodes signs → things signs ≡ things (signs_of_lines at ls) → AllTold signs
-content_told at ls signs f n e =
+content_told : (at : ℕ) (ls : List (List Item)) (signs : List ContentSign) → AreFlatLines ls → AreAmong (things signs) (things (signs_of_lines at ls)) → AllTold signs
+content_told at ls signs f e =
     let olds : List ContentSign = signs_of_lines at ls in
-    let seen : EndInSigns olds = seen_each olds (subst (Each Seen) e (each_seen signs (nodes_end signs n))) in
-    told_each signs (subst (Each Told) (sym e) (each_told olds (lines_told at ls f seen)))
+    let seen : EndInSigns olds = nodes_end olds (some_nodes ls at olds f (same_among (things olds) (things olds) refl)) in
+    told_each signs (each_among Told (things signs) (things olds) e (each_told olds (lines_told at ls f seen)))
 
 -- ---- the last item
 
@@ -258,7 +246,7 @@ all_apart s (next ∷ after) w n h = content_apart s [] next after w n h
 -- ---- the level
 
 pub keeps_level : (at : ℕ) (ls : List (List Item)) (s : Setting) (signs : List ContentSign) (sides : Sides) → AreFlatLines ls → IsHeadingContent s signs → AreSides sides
-    → things signs ≡ things (signs_of_lines at ls) → IsOfLevel sides (page_items (spelled s signs))
+    → AreAmong (things signs) (things (signs_of_lines at ls)) → IsOfLevel sides (page_items (spelled s signs))
 keeps_level at ls s signs sides f h a e =
     let own : List Item = page_items (spelled s signs) in
     let is : own ≡ content_items s [] signs = content_alone s signs h.flat.kept in
@@ -267,7 +255,7 @@ keeps_level at ls s signs sides f h a e =
     subst (λ (xs : List Item). BeginsWithout is_equals_sign (map sign xs)) (sym (is ∙ sym (same_items s [] signs h.one_line)))
     (begins_unequal (line_items s [] signs) (line_opens s [] signs h.flat.of_block refl refl h.flat.characters h.flat.nodes)) in
     let last : EndsWithout is_equals_sign ss =
-    subst UnequalLast (sym is) (all_apart s signs h.flat.of_block h.flat.nodes (content_told at ls signs f h.flat.nodes e)) in
+    subst UnequalLast (sym is) (all_apart s signs h.flat.of_block h.flat.nodes (content_told at ls signs f e)) in
     apart_level sides own a (record {
       first = begins_other sides.lead (ss ++ sides.trail) a.lead (begins_still ss sides.trail begins);
       last = behind_other sides.lead (ss ++ sides.trail) (unequal_end ss sides.trail a.trail (inr last));

@@ -1,4 +1,4 @@
--- What is sent for a flat block in which texts are typed beside the nodes: it is taken, its content is written, and it shows what was sent.
+-- What is sent for a flat block in which texts are typed beside nodes that stay: it is taken, its content is written, and it shows what was sent.
 use Rattle.std.proofs.Common.{◌≡◌, ℕ, ◌<◌, Bool, true, false, None, List, [], ◌∷◌, ◌++◌, length, refl, sym, ap, ap₂, ◌∙◌, subst, append_assoc}
 use Rattle.wt_span.specs.Items.{Item, sources}
 use Rattle.wt_tree.specs.declared.kind.Kind.{Kind}
@@ -38,15 +38,15 @@ use Rattle.wt_beside_laws.specs.SentPieces.{TextsFit, PiecesShow}
 use Rattle.wt_beside_laws.specs.Shown.{parts_shown_at}
 use Rattle.wt_beside_laws.specs.Stood.{things}
 use Rattle.wt_beside_laws.proofs.BlockSigns.{flat_block, block_nodes, block_shows}
-use Rattle.wt_beside_laws.proofs.Edits.FullTrees.{Each}
+use Rattle.wt_beside_laws.proofs.Among.{AreAmong, Each, each_among}
 use Rattle.wt_beside_laws.proofs.Edits.NewPages.{show_pieces}
 use Rattle.wt_beside_laws.proofs.Edits.Pieces.{pieces_characters}
-use Rattle.wt_beside_laws.proofs.FlatContents.{flat_content}
+use Rattle.wt_beside_laws.proofs.FlatContents.{some_content}
 use Rattle.wt_beside_laws.proofs.LineShown.{content_is_shown}
 use Rattle.wt_beside_laws.proofs.NoFaults.{no_fault}
 use Rattle.wt_beside_laws.proofs.OwnSigns.{own_content, own_sent}
-use Rattle.wt_beside_laws.proofs.SentNodes.{same_nodes}
-use Rattle.wt_beside_laws.proofs.SentPieces.{stays_sent, same_numbers}
+use Rattle.wt_beside_laws.proofs.SentNodes.{some_nodes}
+use Rattle.wt_beside_laws.proofs.SentPieces.{stays_sent, some_numbers}
 use Rattle.wt_beside_laws.proofs.SentShown.{pieces_shown}
 use Rattle.wt_beside_laws.proofs.Made.Inline.{stays_inline}
 use Rattle.wt_beside_laws.proofs.Made.Letters.{pieces_on_one_line, pieces_fit}
@@ -76,7 +76,7 @@ new_is k q block m ps i e =
     spelled_by k (page_node (content_edit k block m ps)) block m ps
     ∙ ap (λ (t : Tree). spelled (setting k t) (signs k t ps)) (node_is k q block m ps i e.old)
 
--- ---- it has the page's nodes
+-- ---- its nodes are the page's
 
 block_flat : (k : TextBlock) (q : List ℕ) (block : Tree) → IsFlatIn k q → IsIn k q block → IsFlatBlock block
 block_flat k q block h i = flat_block (lines_in k q) block h.flat h.unstyled (of_lines k q block h i)
@@ -84,15 +84,17 @@ block_flat k q block h i = flat_block (lines_in k q) block h.flat h.unstyled (of
 are_sent : (k : TextBlock) (q : List ℕ) (block : Tree) (ps : List Piece) → IsFlatIn k q → IsIn k q block → IsFlatEditOf k block ps → AreSent (known block) (sent_pieces ps)
 are_sent k q block ps h i e = stays_sent same_node block ps tells_same (block_flat k q block h i) e.old e.stay
 
-same_things : (k : TextBlock) (q : List ℕ) (block : Tree) (ps : List Piece) → IsFlatIn k q → IsIn k q block → IsFlatEditOf k block ps
-    → things (signs k block ps) ≡ things (signs_in k q)
-same_things k q block ps h i e =
+some_things : (k : TextBlock) (q : List ℕ) (block : Tree) (ps : List Piece) → IsFlatIn k q → IsIn k q block → IsFlatEditOf k block ps
+    → AreAmong (things (signs k block ps)) (things (signs_in k q))
+some_things k q block ps h i e =
     let flat_one : IsFlatBlock block = block_flat k q block h i in
-    same_nodes (known block) (place_of (block_of k)) (children_of block) (sent_pieces ps) (own_sent same_node block tells_same flat_one)
-    (are_sent k q block ps h i e) (same_numbers block ps e.old e.stay e.go)
-    ∙ ap things (own_content same_node block (place_of (block_of k)) tells_same flat_one)
+    let page : things (signs_of_all (known block) (place_of (block_of k)) (children_of block)) ≡ things (signs_in k q) =
+    ap things (own_content same_node block (place_of (block_of k)) tells_same flat_one)
     ∙ block_nodes (lines_in k q) block h.flat h.unstyled (of_lines k q block h i)
-    ∙ ap (λ (n : ℕ). things (signs_of_lines n (lines_in k q))) (block_begins k q block i)
+    ∙ ap (λ (n : ℕ). things (signs_of_lines n (lines_in k q))) (block_begins k q block i) in
+    subst (AreAmong (things (signs k block ps))) page
+    (some_nodes (known block) (place_of (block_of k)) (children_of block) (sent_pieces ps) (own_sent same_node block tells_same flat_one)
+    (are_sent k q block ps h i e) (some_numbers block ps e.old e.stay))
 
 calm_each : (ss : List ContentSign) → AreCalm ss → Each (λ t. IsCalm t.source) (things ss)
 calm_each [] h = tt
@@ -113,12 +115,12 @@ pub is_written : (k : TextBlock) (q : List ℕ) (block : Tree) (ps : List Piece)
     → IsWritten k (setting k block) (signs k block ps)
 is_written k q block ps h i e =
     let sent = are_sent k q block ps h i e in
-    let same = same_things k q block ps h i e in
+    let some = some_things k q block ps h i e in
     record {
-      flat = flat_content (setting k block) (lines_in k q) (begins_at k) (signs k block ps) refl h.flat h.kept
-          (pieces_characters (known block) (place_of (block_of k)) ps e.stay sent e.are) same;
+      flat = some_content (setting k block) (lines_in k q) (begins_at k) (signs k block ps) refl h.flat h.kept
+          (pieces_characters (known block) (place_of (block_of k)) ps e.stay sent e.are) some;
       fits = fits_in k block ps e sent;
-      calm = each_calm (signs k block ps) (subst (Each (λ t. IsCalm t.source)) (sym same) (calm_each (signs_in k q) h.calm));
+      calm = each_calm (signs k block ps) (each_among (λ t. IsCalm t.source) (things (signs k block ps)) (things (signs_in k q)) some (calm_each (signs_in k q) h.calm));
     }
 
 -- ---- nothing is wrong in it
@@ -201,7 +203,7 @@ makes_content k q block m ps h i e =
     record {
       taken = is_taken k q block m ps h i e;
       new = subst (IsNewContent k q) (sym (new_is k q block m ps i e))
-          (new_written k q (setting k block) (signs k block ps) h w (same_things k q block ps h i e));
+          (new_written k q (setting k block) (signs k block ps) h w (some_things k q block ps h i e));
       source = source_is k q block m ps i;
       shows = λ rest. it_shows k q block m ps rest h i e;
       inline = stays_inline k q block ps h.utf8 h.is h.unended h.calls_nothing i e.old e.stay;
@@ -211,7 +213,7 @@ pub flat_then : (k : TextBlock) (q : List ℕ) (block : Tree) (m : Label) (ps : 
     → IsFlatIn k (new_content k block m ps)
 flat_then k q block m ps h i e =
     subst (IsFlatIn k) (sym (new_is k q block m ps i e))
-    (flat_again k q (setting k block) (signs k block ps) h (is_written k q block ps h i e) (same_things k q block ps h i e))
+    (flat_again k q (setting k block) (signs k block ps) h (is_written k q block ps h i e) (some_things k q block ps h i e))
 
 -- ---- in other words
 

@@ -27,6 +27,7 @@ use Rattle.wt_beside_laws.specs.FlatBlocks.{lines_in, begins_at, signs_in, IsFla
 use Rattle.wt_beside_laws.specs.OwnSigns.{HasOwnBy, HaveOwn}
 use Rattle.wt_beside_laws.specs.PageSigns.{signs_of_lines}
 use Rattle.wt_beside_laws.specs.Stood.{things}
+use Rattle.wt_beside_laws.proofs.Among.{AreAmong}
 use Rattle.wt_beside_laws.proofs.BlockSigns.{its_children, shut_by}
 use Rattle.wt_beside_laws.proofs.CalmContents.{content_unbraced}
 use Rattle.wt_beside_laws.proofs.LineThings.{lines_have}
@@ -108,7 +109,7 @@ flat_content k q h = record {
 
 -- ---- what is written
 
-firm_content : (k : TextBlock) (q : List ℕ) (s : Setting) (signs : List ContentSign) → IsFlatIn k q → IsWritten k s signs → things signs ≡ things (signs_in k q)
+firm_content : (k : TextBlock) (q : List ℕ) (s : Setting) (signs : List ContentSign) → IsFlatIn k q → IsWritten k s signs → AreAmong (things signs) (things (signs_in k q))
     → IsFirmContent k (spelled s signs)
 firm_content k q s signs h w e = record {
   content = flat_content k (spelled s signs) (flat_again k q s signs h w e);
@@ -118,7 +119,7 @@ firm_content k q s signs h w e = record {
   unbraced = content_unbraced s signs w.flat.kept w.calm;
 }
 
-pub new_written : (k : TextBlock) (q : List ℕ) (s : Setting) (signs : List ContentSign) → IsFlatIn k q → IsWritten k s signs → things signs ≡ things (signs_in k q)
+pub new_written : (k : TextBlock) (q : List ℕ) (s : Setting) (signs : List ContentSign) → IsFlatIn k q → IsWritten k s signs → AreAmong (things signs) (things (signs_in k q))
     → IsNewContent k q (spelled s signs)
 new_written k q s signs h w e = record {
   firm = firm_content k q s signs h w e;

@@ -39,7 +39,8 @@ use Rattle.wt_beside_laws.specs.Lines.{IsLineOfText, line_items, later_lines, co
 use Rattle.wt_beside_laws.specs.PageBlocks.{AreUnstyled, AreShut}
 use Rattle.wt_beside_laws.specs.PageSigns.{signs_of_lines, AreFlatLines}
 use Rattle.wt_beside_laws.specs.Stood.{things}
-use Rattle.wt_beside_laws.proofs.BlockSigns.{same_shut}
+use Rattle.wt_beside_laws.proofs.Among.{AreAmong}
+use Rattle.wt_beside_laws.proofs.BlockSigns.{some_shut}
 use Rattle.wt_beside_laws.proofs.CalmContents.{content_utf8, content_unbraced, nowiki_calm, reference_calm}
 use Rattle.wt_beside_laws.proofs.Contents.{content_reads, content_alone}
 use Rattle.wt_beside_laws.proofs.FlatAgain.{EachSource, HoldsOfPut, again_flat, again_unstyled, again_kept, again_shut, again_each}
@@ -48,7 +49,7 @@ use Rattle.wt_beside_laws.proofs.LineItems.{content_lines_are}
 use Rattle.wt_beside_laws.proofs.LineKinds.{lines_are_text}
 use Rattle.wt_beside_laws.proofs.LineParagraphs.{unmarked, flat_paragraph}
 use Rattle.wt_beside_laws.proofs.LineRows.{lines_joined}
-use Rattle.wt_beside_laws.proofs.Made.Closes.{nowiki_sealed, reference_sealed, same_sealed}
+use Rattle.wt_beside_laws.proofs.Made.Closes.{nowiki_sealed, reference_sealed, some_sealed}
 use Rattle.wt_beside_laws.proofs.Made.Items.{nodes_have_items}
 use Rattle.wt_beside_laws.proofs.Made.Levels.{keeps_level}
 use Rattle.wt_beside_laws.proofs.Made.OldBlocks.{lines_are}
@@ -164,7 +165,7 @@ paragraph_written s signs f = record {
 
 -- of the nodes of flat lines
 content_written : (k : TextBlock) (q : List ℕ) (s : Setting) (signs : List ContentSign) → AreFlatLines (lines_in k q) → HasFrame k → IsWritten k s signs
-    → things signs ≡ things (signs_in k q) → IsContentOf k (spelled s signs)
+    → AreAmong (things signs) (things (signs_in k q)) → IsContentOf k (spelled s signs)
 content_written a_paragraph q s signs l f w e = paragraph_written s signs w.flat
 content_written (a_heading h) q s signs l f w e =
     let own : IsHeadingContent s signs = in_heading h s signs w in
@@ -215,14 +216,14 @@ of_written : (P : List (List Item) → Type 0) (k : TextBlock) (s : Setting) (si
     → P (lines_in k (spelled s signs))
 of_written P k s signs w h = subst P (sym (lines_written k s signs w)) h
 
-held_again : (k : TextBlock) (q : List ℕ) (s : Setting) (signs : List ContentSign) → IsFlatIn k q → things signs ≡ things (signs_in k q)
+held_again : (k : TextBlock) (q : List ℕ) (s : Setting) (signs : List ContentSign) → IsFlatIn k q → AreAmong (things signs) (things (signs_in k q))
     → AllHaveItems (forest (children (content_parts s [] signs))) × AllOfPage (held_by_all (forest (children (content_parts s [] signs))))
 held_again k q s signs h e =
     nodes_have_items s (lines_in k q) (begins_at k) signs h.flat h.unstyled e
     (subst (λ (ps : List Part). AllHaveItems (forest (children ps))) (lines_are k q) h.has_items)
     (subst (λ (ps : List Part). AllOfPage (held_by_all (forest (children ps)))) (lines_are k q) h.of_page)
 
-pub flat_again : (k : TextBlock) (q : List ℕ) (s : Setting) (signs : List ContentSign) → IsFlatIn k q → IsWritten k s signs → things signs ≡ things (signs_in k q)
+pub flat_again : (k : TextBlock) (q : List ℕ) (s : Setting) (signs : List ContentSign) → IsFlatIn k q → IsWritten k s signs → AreAmong (things signs) (things (signs_in k q))
     → IsFlatIn k (spelled s signs)
 flat_again k q s signs h w e =
     let f : HasFrame k = own_frame k q h.is in
@@ -244,7 +245,7 @@ flat_again k q s signs h w e =
       calm = of_written (λ (ls : List (List Item)). AreCalm (signs_of_lines at ls)) k s signs w
           (to_calm (signs_of_lines at (content_lines s signs)) (again_each IsCalm put_calm at s signs w.flat (from_calm signs w.calm)));
       shut = of_written (λ (ls : List (List Item)). AreShut (signs_of_lines at ls)) k s signs w
-          (again_shut at s signs w.flat (same_shut (signs_in k q) signs e h.shut));
+          (again_shut at s signs w.flat (some_shut (signs_in k q) signs e h.shut));
       sealed = of_written (λ (ls : List (List Item)). AreSealed (signs_of_lines at ls)) k s signs w
-          (to_sealed (signs_of_lines at (content_lines s signs)) (again_each IsSealed put_sealed at s signs w.flat (from_sealed signs (same_sealed (signs_in k q) signs e h.sealed))));
+          (to_sealed (signs_of_lines at (content_lines s signs)) (again_each IsSealed put_sealed at s signs w.flat (from_sealed signs (some_sealed (signs_in k q) signs e h.sealed))));
     }
