@@ -1,5 +1,5 @@
 -- Contents are edited in paragraphs and headings among calls.
-use Rattle.std.proofs.Common.{ℕ, List, map}
+use Rattle.std.proofs.Common.{◌≡◌, ℕ, List, map, refl}
 use Rattle.wt_devices.specs.Device.{Pages}
 use Rattle.wt_typed_blocks.specs.Edited.{Edits}
 use Rattle.wt_typed_blocks.specs.EditedUnmarked.{AreTold}
@@ -40,6 +40,11 @@ contents_by pages ss behind f h = record {
       unmarked_done pages ss behind f es b stands input unsourced (as_contents pages ss behind f es h e.edit) (told pages ss behind f es h e) found short le small is;
   again = λ es e. let m = well_sent pages ss behind f es h e in f.again (new_spots f es) m.retyped;
 }
+
+pub contents_paths : (pages : Pages) (ss : List BlockSpot) (behind : List ℕ) (f : IsFramedPage pages ss behind) (h : IsCalledPage pages ss behind)
+    → (contents_by pages ss behind f h).paths ≡ paths_of f
+unfolding contents_by
+contents_paths pages ss behind f h = refl
 
 pub contents_taken : (pages : Pages) (ss : List BlockSpot) (behind : List ℕ) → IsCalledPage pages ss behind → TakesContents pages ss behind
 contents_taken pages ss behind h = contents_by pages ss behind (framed_page pages ss behind h) h

@@ -23,9 +23,9 @@ use Rattle.wt_called_edit_laws.specs.CalledPages.{IsCalledPage}
 use Rattle.wt_called_edit_laws.specs.CalledTexts.{spots_tree, TakesTextsAmong}
 use Rattle.wt_called_edit_laws.specs.ContentsTaken.{TakesContents}
 use Rattle.wt_called_edit_laws.specs.EditsAt.{IsStanding, StandsTo, StandsAmong, AllStand, edited_at, edited_among, edited_by, EditsOnly, AllEditOnly, content_of, with_content, with_contents, edited_page, IsOneText, FitsSpot, AreFitting, IsContentEdit, IsOwnEdit, AreOwnEdits, IsUnmarkedContentEdit}
-use Rattle.wt_called_edit_laws.specs.TreeEdits.{IsEditOf, IsUnmarkedEditOf, sent_body, free_sent_body}
+use Rattle.wt_called_edit_laws.specs.TreeEdits.{IsEditOf, IsUnmarkedEditOf, sent_body, free_sent_body, HasOwnEdits}
 use Rattle.wt_called_edit_laws.proofs.BlocksMade.{text_of, text_content}
-use Rattle.wt_called_edit_laws.proofs.CallsTake.{numbered_body, contents_by}
+use Rattle.wt_called_edit_laws.proofs.CallsTake.{numbered_body, contents_by, contents_paths}
 use Rattle.wt_called_edit_laws.proofs.Cells.Nodes.{same_inside}
 use Rattle.wt_called_edit_laws.proofs.Cells.Paths.{same_first, same_rest}
 use Rattle.wt_called_edit_laws.proofs.Cells.PlaceFacts.{same_block}
@@ -169,9 +169,9 @@ texts_by : (pages : Pages) (ss : List BlockSpot) (behind : List ℕ) (f : IsFram
 texts_by pages ss behind f h =
     let t : Tree = spots_tree pages ss behind in
     let page : List ℕ = spots_source ss behind in
-    let paths : List (List ℕ) = paths_of f in
     let c : TakesContents pages ss behind = contents_by pages ss behind f h in
-    let stand : AllStand ss paths t = spots_stand pages ss behind f h in
+    let paths : List (List ℕ) = c.paths in
+    let stand : AllStand ss paths t = c.stand in
     let contents : AreContents ss = spots_contents pages ss behind h in
     let same : (es : Sents) → IsEditOf t paths es → with_contents ss (map (edited_by (as_edits es)) paths) ≡ with_texts ss (map (typed_by es) paths) =
     λ es e. same_all ss paths paths t es contents stand e.old e.types e.take in
@@ -180,7 +180,8 @@ texts_by pages ss behind f h =
     record {
       paths = paths;
       lead = all_lead ss paths t stand;
-      edits = own_edits t ss f.nodes (numbered_body pages ss behind h) (all_lead ss paths t stand);
+      edits = subst (HasOwnEdits t ss) (sym (contents_paths pages ss behind f h))
+          (own_edits t ss f.nodes (numbered_body pages ss behind h) (all_lead ss (paths_of f) t (spots_stand pages ss behind f h)));
       takes = λ b es e le.
           ap (edit_to pages page) (sym (sent_body_is (label t) b es))
           ∙ c.takes b (as_edits es) (as_contents t ss paths es stand e) (subst (λ (bs : List ℕ). length bs ≤ PAGE_BYTES) (sym (new es e)) le)

@@ -255,7 +255,6 @@ pub fn nodes_round_free_blocks_are_clean()
 
 /// So a page whose paragraphs and headings are among calls, none of which a group of its tree has, and that isn't refused
 /// with what the folder has, is one of those of which edits are taken; and each of those is such a page.
-#[tactic(auto, using(crate::proofs::BlocksOutside::editable_called, crate::proofs::BlocksOutside::called_editable))]
 pub fn pages_with_blocks_in_no_group_are_called_pages()
     ensures called { (pages : Pages) (ss : List BlockSpot) (behind : List ℕ) → IsEditablePage pages ss behind → IsCalledPage pages ss behind }
     ensures editable { (pages : Pages) (ss : List BlockSpot) (behind : List ℕ) → IsCalledPage pages ss behind → IsEditablePage pages ss behind }
