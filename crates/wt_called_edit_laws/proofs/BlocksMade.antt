@@ -8,7 +8,6 @@ use Rattle.wt_span.specs.Items.{Item, sources}
 use Rattle.wt_annotated.specs.Labels.{label_at}
 use Rattle.wt_checks.specs.Kept.{children}
 use Rattle.wt_content.specs.Content.{bad_content}
-use Rattle.wt_expand.specs.PageItems.{page_items}
 use Rattle.wt_link_spelling.specs.Spelling.{inline_spelling}
 use Rattle.wt_visible.specs.SameNodes.{same_node}
 use Rattle.wt_moved_laws.specs.Placeless.{placeless}
@@ -17,8 +16,8 @@ use Rattle.wt_moved_laws.proofs.Placeless.{shown_placeless}
 use Rattle.wt_moved_laws.proofs.Sources.{standing_source}
 use Rattle.wt_typed_blocks.specs.Sent.{Block, paragraph, heading, kind_of, text_in}
 use Rattle.wt_typed_blocks.specs.Typed.{place_of, block_source, Takes}
-use Rattle.wt_typed_blocks.specs.Edited.{Piece, gone, written, kept, page_pieces, sent_pieces, text_node, PiecesStay, pieces_before, Edited, stays, edited, round, Edits, no_edits, more_edits, page_node, page_nodes, sent_node, IsEdited, AreEdited, edited_before}
-use Rattle.wt_typed_blocks.specs.EditedPage.{edited_source, IsTaken, AreTaken}
+use Rattle.wt_typed_blocks.specs.Edited.{Piece, gone, written, kept, page_pieces, sent_pieces, text_node, pieces_before, Edited, stays, edited, round, Edits, no_edits, more_edits, page_node, page_nodes}
+use Rattle.wt_typed_blocks.specs.EditedPage.{IsTaken, AreTaken}
 use Rattle.wt_typed_blocks.specs.EditedUnmarked.{AreInline}
 use Rattle.wt_typed_blocks.proofs.AsEdits.{good, marked_node, typed_is}
 use Rattle.wt_text_edit_laws.specs.BlockEdits.{typed_as}
@@ -30,8 +29,7 @@ use Rattle.wt_text_edit_laws.proofs.Blocks.BlockLeaves.{open_items, close_items,
 use Rattle.wt_text_edit_laws.proofs.Blocks.Contents.{typed_block, typed_new}
 use Rattle.wt_text_edit_laws.proofs.Blocks.Contents.{block_source as source_is}
 use Rattle.wt_text_edit_laws.proofs.Blocks.TypedFacts.{framed, text_shown, typed_shown}
-use Rattle.wt_beside_laws.specs.ContentEdits.{new_content, MakesContent}
-use Rattle.wt_beside_laws.specs.FlatBlocks.{IsFlatIn, IsFlatEditOf}
+use Rattle.wt_beside_laws.specs.ContentEdits.{MakesContent}
 use Rattle.wt_beside_laws.proofs.Made.Making.{makes_so}
 use Rattle.wt_called_edit_laws.specs.CalledBlocks.{tree_by}
 use Rattle.wt_called_edit_laws.specs.EditsAt.{IsStanding, StandsTo, StandsAmong, AllStand, edited_at, edited_among, edited_by, content_of, with_content, with_contents, AreGone, IsOneText, Fits, FitsSpot, AreFitting}

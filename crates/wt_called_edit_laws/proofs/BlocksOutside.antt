@@ -245,8 +245,11 @@ first_free b n at t ts bare h =
     record {
       from = h.from;
       to = omega (arith, to, both);
-      free = (h.free, beside_all b (n + count t) (at + length (flat t)) ts bare
-          (before b (at + length (flat t)) ((at + length (flat t)) + length (flat_of_all ts)) to));
+      free = (
+        h.free,
+        beside_all b (n + count t) (at + length (flat t)) ts bare
+            (before b (at + length (flat t)) ((at + length (flat t)) + length (flat_of_all ts)) to),
+      );
     }
 
 rest_free : (b n at : ℕ) (t : Tree) (ts : Trees) → IsBare t → FreeIn b (n + count t) (at + length (flat t)) ts → FreeIn b n at (more t ts)

@@ -1,5 +1,5 @@
 -- What holds a block whose content is edited is neither a leaf nor a group: it is a table's part.
-use Rattle.std.proofs.Common.{◌≡◌, ℕ, false, Option, Some, None, List, ap, ◌∙◌}
+use Rattle.std.proofs.Common.{◌≡◌, ℕ, false, Option, Some, None, ap, ◌∙◌}
 use Rattle.wt_tree.specs.Kinds.{is_leaf}
 use Rattle.wt_tree.specs.Tiling.{is_group}
 use Rattle.wt_tree.specs.Tree.{Label, Tree, tree, Trees}

@@ -13,7 +13,6 @@ use Rattle.wt_checks.specs.Kept.{children}
 use Rattle.wt_inline.specs.declared.loose.Loose.TheVariants.{Text}
 use Rattle.wt_inline.specs.ItemTree.{ItemTree, inner, ItemTrees, nothing, further, forest, tree_items, held_by_all}
 use Rattle.wt_inline.specs.Parts.{loose_leaf}
-use Rattle.wt_annotated.specs.Annotated.{annotated}
 use Rattle.wt_annotated.specs.CutTexts.{cut_texts}
 use Rattle.wt_annotated.specs.GroupData.{group_data}
 use Rattle.wt_annotated.specs.Labels.{if_inner, label_at}
@@ -26,7 +25,6 @@ use Rattle.wt_moved_laws.specs.Standing.{standing}
 use Rattle.wt_moved_laws.proofs.Moved.{moved}
 use Rattle.wt_moved_laws.proofs.Sources.{standing_source}
 use Rattle.wt_text_edit_laws.specs.LonePages.{page_chars}
-use Rattle.wt_text_edit_laws.specs.ParagraphBetween.{body_with}
 use Rattle.wt_text_edit_laws.proofs.Paragraphs.PartTrees.{ArePlain, plain_joined, plain_tree}
 use Rattle.wt_text_edit_laws.proofs.Prose.ProseTrees.{blocks_of}
 use Rattle.wt_text_edit_laws.proofs.Texts.LoneTrees.{sized}
@@ -160,7 +158,7 @@ behind_front b bs u h =
     let size : length (flat (placeless first)) ≡ length (b ∷ bs) = ap length (front_source b bs) in
     let at : 0 + length (flat (placeless first)) ≡ length (b ∷ bs) = omega (arith, size) in
     let all : more first (more own none)
-        ≡ more (settled 1 0 (placeless first)) (more (settled 1 (0 + length (flat (placeless first))) (placeless own)) none) =
+    ≡ more (settled 1 0 (placeless first)) (more (settled 1 (0 + length (flat (placeless first))) (placeless own)) none) =
     body_settles (leaf ∷ u ∷ []) (plain_joined (leaf ∷ []) (u ∷ []) (front_plain b bs) h) in
     let rest = same_rest first (settled 1 0 (placeless first)) (more own none) (more (settled 1 (0 + length (flat (placeless first))) (placeless own)) none) all in
     let is : own ≡ settled 1 (0 + length (flat (placeless first))) (placeless own) =

@@ -1,5 +1,5 @@
 -- Any texts are taken in paragraphs and headings among calls: an edit that types texts is one of contents.
-use Rattle.std.proofs.Common.{◌≡◌, ◌≤◌, inl, ℕ, zero, suc, false, Option, Some, None, List, [], ◌∷◌, length, map, refl, sym, ap, ap₂, ◌∙◌, subst}
+use Rattle.std.proofs.Common.{◌≡◌, ◌≤◌, inl, ℕ, zero, suc, List, [], ◌∷◌, length, map, refl, sym, ap, ap₂, ◌∙◌, subst}
 use Rattle.std.specs.Str.{IsUtf8}
 use Rattle.wt_span.specs.declared.limits.TheConstants.{PAGE_BYTES}
 use Rattle.wt_devices.specs.Device.{Pages}
@@ -7,10 +7,10 @@ use Rattle.wt_tree.specs.Tree.{Label, Tree, tree, Trees, none, more, label}
 use Rattle.wt_checks.specs.Kept.{children}
 use Rattle.wt_commands.specs.Answers.{done, edit_to}
 use Rattle.wt_difference.specs.Difference.{same_inside as is_same_inside}
-use Rattle.wt_schema.specs.Read.{page as as_page, read}
-use Rattle.wt_typed_blocks.specs.Sent.{Block, Sent, stands, typed, holds, Sents, none_sent, more_sent, old_child, old_children, new_body}
+use Rattle.wt_schema.specs.Read.{page as as_page}
+use Rattle.wt_typed_blocks.specs.Sent.{Block, Sent, stands, typed, holds, Sents, none_sent, more_sent, old_child, old_children}
 use Rattle.wt_typed_blocks.specs.Typed.{Takes, TakesText, TakeTexts}
-use Rattle.wt_typed_blocks.specs.Edited.{Edited, edited, page_node, Edits}
+use Rattle.wt_typed_blocks.specs.Edited.{edited, page_node}
 use Rattle.wt_typed_blocks.specs.EditedUnmarked.{bare_node}
 use Rattle.wt_typed_blocks.proofs.AsEdits.{replaced, as_edited, as_edits, page_is, pages_are, bare_is, sent_body_is, bare_body_is, are_edited}
 use Rattle.wt_text_edit_laws.specs.BlockEdits.{typed_as}
@@ -22,8 +22,8 @@ use Rattle.wt_called_edit_laws.specs.AnyTexts.{IsOwn, AreOwn}
 use Rattle.wt_called_edit_laws.specs.CalledPages.{IsCalledPage}
 use Rattle.wt_called_edit_laws.specs.CalledTexts.{spots_tree, TakesTextsAmong}
 use Rattle.wt_called_edit_laws.specs.ContentsTaken.{TakesContents}
-use Rattle.wt_called_edit_laws.specs.EditsAt.{IsStanding, StandsTo, StandsAmong, AllStand, edited_at, edited_among, edited_by, EditsOnly, AllEditOnly, content_of, with_content, with_contents, edited_page, IsOneText, FitsSpot, AreFitting, IsContentEdit, IsOwnEdit, AreOwnEdits, IsUnmarkedContentEdit}
-use Rattle.wt_called_edit_laws.specs.TreeEdits.{IsEditOf, IsUnmarkedEditOf, sent_body, free_sent_body, HasOwnEdits}
+use Rattle.wt_called_edit_laws.specs.EditsAt.{IsStanding, StandsTo, StandsAmong, AllStand, edited_at, edited_among, edited_by, EditsOnly, AllEditOnly, content_of, with_content, with_contents, edited_page, IsOneText, FitsSpot, AreFitting, IsContentEdit, IsOwnEdit, AreOwnEdits}
+use Rattle.wt_called_edit_laws.specs.TreeEdits.{IsEditOf, HasOwnEdits}
 use Rattle.wt_called_edit_laws.proofs.BlocksMade.{text_of, text_content}
 use Rattle.wt_called_edit_laws.proofs.CallsTake.{numbered_body, contents_by, contents_paths}
 use Rattle.wt_called_edit_laws.proofs.Cells.Nodes.{same_inside}

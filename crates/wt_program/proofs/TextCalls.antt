@@ -1,9 +1,9 @@
 -- A call that takes edited contents takes texts in their places.
-use Rattle.std.proofs.Common.{◌≡◌, ◌⊎◌, ℕ, ◌≤◌, List, length, map, sym, ap, ◌∙◌, subst}
+use Rattle.std.proofs.Common.{◌≡◌, ◌⊎◌, ℕ, ◌≤◌, List, length, sym, ap, ◌∙◌, subst}
 use Rattle.wt_span.specs.declared.limits.TheConstants.{PAGE_BYTES}
 use Rattle.wt_devices.specs.Device.{Pages}
 use Rattle.wt_tree.specs.Tree.{Label, Tree, label}
-use Rattle.wt_schema.specs.Read.{page as as_page, read}
+use Rattle.wt_schema.specs.Read.{page as as_page}
 use Rattle.wt_commands.specs.declared.command.Command.{Command}
 use Rattle.wt_commands.specs.declared.command.Command.TheVariants.{Edit, Selser}
 use Rattle.wt_commands.specs.declared.status.Status.TheVariants as status
@@ -15,7 +15,7 @@ use Rattle.wt_pagetool.specs.Promises.{Ends, EndsAsEdit}
 use Rattle.wt_text_edit_laws.specs.BlockSpots.{BlockSpot, spots_source}
 use Rattle.wt_called_edit_laws.specs.AnyBlocks.{new_page}
 use Rattle.wt_called_edit_laws.specs.CalledTexts.{spots_tree}
-use Rattle.wt_called_edit_laws.specs.EditsAt.{edited_page, IsContentEdit, sent_contents, bare_contents}
+use Rattle.wt_called_edit_laws.specs.EditsAt.{edited_page, sent_contents, bare_contents}
 use Rattle.wt_called_edit_laws.specs.TreeEdits.{IsEditOf, sent_body, free_sent_body}
 use Rattle.wt_called_edit_laws.proofs.BlocksOutside.{editable_called}
 use Rattle.wt_called_edit_laws.proofs.EditFacts.{spots_contents}

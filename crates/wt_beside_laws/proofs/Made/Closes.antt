@@ -1,5 +1,5 @@
 -- A content of nodes that the old one had, and of texts, closes no tag that the old one didn't close.
-use Rattle.std.proofs.Common.{arith, ◌≡◌, ◌≢◌, ℕ, ◌+◌, ◌≤◌, ◌==◌, Bool, true, false, None, List, [], ◌∷◌, ◌++◌, length, map, refl, sym, ap, ◌∙◌, subst, append_assoc, inl, inr, All}
+use Rattle.std.proofs.Common.{arith, ◌≡◌, ℕ, ◌+◌, ◌≤◌, ◌==◌, Bool, true, false, List, [], ◌∷◌, ◌++◌, length, map, refl, sym, ap, ◌∙◌, subst, append_assoc, inl, inr, All}
 use Rattle.std.specs.Prelude.{codes, encode_utf8}
 use Rattle.std.specs.Fmt.{digits}
 use Rattle.std.specs.Str.{chars}
@@ -30,12 +30,12 @@ use Rattle.wt_text_edit_laws.specs.TextBlocks.{TextBlock, a_paragraph, a_heading
 use Rattle.wt_text_edit_laws.proofs.Between.ClosingTags.{Unclosed, ClosesNothing, unclosed_byte, not_less, not_slash, unclosed_untagged, unclosed_behind}
 use Rattle.wt_text_edit_laws.proofs.Between.LineWords.{lacks}
 use Rattle.wt_text_edit_laws.proofs.Texts.TypedItems.{wide_tame, tame_if}
-use Rattle.wt_beside_laws.specs.FlatBlocks.{lines_in, begins_at, signs_in, IsSealed, AreSealed}
+use Rattle.wt_beside_laws.specs.FlatBlocks.{begins_at, signs_in, IsSealed, AreSealed}
 use Rattle.wt_beside_laws.specs.PageSigns.{tile_signs, signs_of_tiles, line_signs, signs_of_lines}
 use Rattle.wt_beside_laws.specs.Stood.{things}
 use Rattle.wt_beside_laws.proofs.Contents.{begin_letter}
 use Rattle.wt_beside_laws.proofs.Among.{AreAmong, Each, each_among}
-use Rattle.wt_beside_laws.proofs.SentNodes.{things_append, no_things}
+use Rattle.wt_beside_laws.proofs.SentNodes.{no_things}
 
 -- ---- what is put closes none
 

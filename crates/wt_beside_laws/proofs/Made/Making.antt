@@ -1,12 +1,12 @@
 -- What is sent for a flat block in which texts are typed beside nodes that stay: it is taken, its content is written, and it shows what was sent.
-use Rattle.std.proofs.Common.{◌≡◌, ℕ, ◌<◌, Bool, true, false, None, List, [], ◌∷◌, ◌++◌, length, refl, sym, ap, ap₂, ◌∙◌, subst, append_assoc}
+use Rattle.std.proofs.Common.{◌≡◌, ℕ, ◌<◌, Bool, true, false, None, List, [], ◌∷◌, ◌++◌, refl, sym, ap, ap₂, ◌∙◌, subst, append_assoc}
 use Rattle.wt_span.specs.Items.{Item, sources}
 use Rattle.wt_tree.specs.declared.kind.Kind.{Kind}
 use Rattle.wt_tree.specs.declared.kind.Mark.TheVariants as marks
 use Rattle.wt_tree.specs.EditShapes.{edit_shape}
-use Rattle.wt_tree.specs.Plain.{Face, face, Plains, ended, along, element, plain_before}
+use Rattle.wt_tree.specs.Plain.{Face, Plains, ended, along, element, plain_before}
 use Rattle.wt_tree.specs.Source.{flat}
-use Rattle.wt_tree.specs.Tree.{Label, Tree, tree, label}
+use Rattle.wt_tree.specs.Tree.{Label, Tree, label}
 use Rattle.wt_guards.specs.Content.{ContentSign, letter, thing}
 use Rattle.wt_guards.specs.Guards.{Setting, spelled}
 use Rattle.wt_original.specs.Page.{Page, page_of}
@@ -19,7 +19,7 @@ use Rattle.wt_visible.specs.SameNodes.{same_node}
 use Rattle.wt_visible.proofs.SameTells.{tells_same}
 use Rattle.wt_moved_laws.specs.Standing.{standing}
 use Rattle.wt_typed_blocks.specs.Sent.{kind_of}
-use Rattle.wt_typed_blocks.specs.Edited.{Piece, page_pieces, sent_pieces, pieces_before, page_node, sent_node, edited_before}
+use Rattle.wt_typed_blocks.specs.Edited.{Piece, sent_pieces, pieces_before, page_node, sent_node, edited_before}
 use Rattle.wt_typed_blocks.specs.EditedPage.{edited_source}
 use Rattle.wt_typed_blocks.specs.Typed.{place_of}
 use Rattle.wt_text_edit_laws.specs.Contents.{IsNewContent}

@@ -1,13 +1,11 @@
 -- A content that is written for a paragraph or a heading: its lines and parts, how it is read, and that it is such a block again.
-use Rattle.std.proofs.Common.{◌≡◌, ℕ, ◌==◌, Bool, None, List, [], ◌∷◌, ◌++◌, map, refl, sym, ap, ap₂, ◌∙◌, subst, append-nil, All}
+use Rattle.std.proofs.Common.{◌≡◌, ℕ, Bool, None, List, [], ◌∷◌, ◌++◌, map, refl, sym, ap, ap₂, ◌∙◌, subst, append-nil, All}
 use Rattle.std.specs.Prelude.{if◌then◌else◌}
 use Rattle.std.proofs.lemmas.List.Elements.{All-nil, All-cons, All-head, All-tail}
 use Rattle.wt_span.specs.Items.{Item, char}
 use Rattle.wt_tree.specs.declared.edit_shape.Place.TheVariants as place
 use Rattle.wt_guards.specs.Content.{ContentSign, letter, thing}
-use Rattle.wt_guards.specs.Guards.{Setting, nowiki, spelled}
-use Rattle.wt_guards.specs.Letters.{reference}
-use Rattle.wt_guards.proofs.Escapes.{is_escapable}
+use Rattle.wt_guards.specs.Guards.{Setting, spelled}
 use Rattle.wt_expand.specs.PageItems.{page_items}
 use Rattle.wt_lines.specs.declared.kind.LineKind.TheVariants as line
 use Rattle.wt_lines.specs.Kinds.{line_kind}
@@ -18,7 +16,6 @@ use Rattle.wt_called_trees.specs.Rounded.{AllHaveItems}
 use Rattle.wt_text_edit_laws.specs.Contents.{AreUnled, AreParagraphLines, IsContentOf, content_parts_of, StaysAnywhere}
 use Rattle.wt_text_edit_laws.specs.NoCalls.{NonePairs, AreUnbraced, CallsNothing}
 use Rattle.wt_text_edit_laws.specs.ParagraphParts.{joined_parts}
-use Rattle.wt_text_edit_laws.specs.Paragraphs.{IsTextLine}
 use Rattle.wt_text_edit_laws.specs.TextBetween.{StandsBehind}
 use Rattle.wt_text_edit_laws.specs.TextBlocks.{TextBlock, a_paragraph, a_heading, source_of, block_items}
 use Rattle.wt_text_edit_laws.specs.TypedHeadings.{Sides}
@@ -26,12 +23,11 @@ use Rattle.wt_text_edit_laws.proofs.Between.Fronts.{behind_reads}
 use Rattle.wt_text_edit_laws.proofs.Between.LessBraces.{none_unbraced}
 use Rattle.wt_text_edit_laws.proofs.Blocks.BlockReading.{IsBeforeAny, HasFrame, any_front}
 use Rattle.wt_text_edit_laws.proofs.Blocks.TypedBraces.{line_unbraced}
-use Rattle.wt_text_edit_laws.proofs.Paragraphs.Texts.{EndsHere}
 use Rattle.wt_text_edit_laws.proofs.Prose.InFront.{Reads, reads_nothing, read_break, read_items}
 use Rattle.wt_text_edit_laws.proofs.Prose.Uncommented.{BeginsUncommented}
 use Rattle.wt_text_edit_laws.proofs.Texts.TypedShown.{AllOfPage}
 use Rattle.wt_beside_laws.specs.Calm.{IsCalm, AreCalm}
-use Rattle.wt_beside_laws.specs.Content.{AreKept, content_items}
+use Rattle.wt_beside_laws.specs.Content.{AreKept}
 use Rattle.wt_beside_laws.specs.Flat.{IsFlatContent, content_parts}
 use Rattle.wt_beside_laws.specs.FlatBlocks.{lines_in, begins_at, signs_in, IsSealed, AreSealed, IsFlatIn}
 use Rattle.wt_beside_laws.specs.InHeadings.{AreOnOneLine, IsHeadingContent}
