@@ -597,7 +597,7 @@ fn push_node<'n, 't, 'a>(
         InlineForm::Italic => push_style(alloc, out, writing, "''", kept, node),
         InlineForm::AsItStood => {
             let is_mark = node.kind.is_mark();
-            if is_mark && node.id != 0 && writing.known.is_left(writing.block, node.id) {
+            if is_mark && node.id != 0 && writing.known.is_left(node.id) {
                 return Ok(());
             }
             push_kept(alloc, out, writing.keeps, kept, node.kind)
