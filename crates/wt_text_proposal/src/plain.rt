@@ -373,9 +373,9 @@ fn push_text<'u, 'n>(
     if is_lone_blank(place, bytes, around) {
         return push_lone_blank(alloc, out, text);
     }
-    let from = push_heading_sign(alloc, out, place, bytes, around)?;
-    let mut start = from;
-    for at in from..bytes.len() {
+    let signs = push_heading_sign(alloc, out, place, bytes, around)?;
+    let mut start = signs;
+    for at in signs..bytes.len() {
         let end = at.saturating_add(1);
         let cut = Cut {
             front: up_to(bytes, at),
