@@ -101,6 +101,14 @@ fn source_standing(
 
 // ---- what a block holds
 
+/// How the inside of a block of this kind is written.
+fn writing_of(keeps: bool, kind: Kind) -> Writing {
+    Writing {
+        keeps,
+        place: kind.edit_shape().place,
+    }
+}
+
 /// The inside of a block that the page has.
 fn kept_inside<'t, 'a>(
     alloc: Global,
@@ -110,9 +118,15 @@ fn kept_inside<'t, 'a>(
     node: &Node<'_>,
 ) -> Result<Str, NoMemory> {
     let block = block_of(alloc, old)?;
-    let place = node.kind.edit_shape().place;
-    let writing = Writing::of(known, Some(&block), around.keeps, place);
-    spelled(alloc, &writing, inside(node), edges_of(inside(old)))
+    let writing = writing_of(around.keeps, node.kind);
+    spelled(
+        alloc,
+        known,
+        Some(&block),
+        writing,
+        inside(node),
+        edges_of(inside(old)),
+    )
 }
 
 /// The inside of a new block.
@@ -122,13 +136,12 @@ fn new_inside<'t, 'a>(
     around: &Surroundings<'_, 't, 'a>,
     node: &Node<'_>,
 ) -> Result<Str, NoMemory> {
-    let place = node.kind.edit_shape().place;
-    let writing = Writing::of(known, None, around.keeps, place);
+    let writing = writing_of(around.keeps, node.kind);
     let edges = Edges {
         first: None,
         last: around.tail,
     };
-    spelled(alloc, &writing, inside(node), edges)
+    spelled(alloc, known, None, writing, inside(node), edges)
 }
 
 /// The inside of a block.
