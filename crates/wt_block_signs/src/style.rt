@@ -108,6 +108,20 @@ pub fn style_of(part: Option<&Node<'_>>) -> Style {
     }
 }
 
+/// Whether a heading cell ends with what a template gives, and this with the sign of such a cell: it would be read with
+/// the signs of the next one.
+pub fn ends_with_given_sign(cell: &Node<'_>) -> bool {
+    match inside(cell).last() {
+        Some(last) if matches!(cell.kind, Kind::Th) && matches!(last.kind, Kind::Group) => {
+            match last.children.as_slice().last() {
+                Some(text) => text.shown().ends_with("!"),
+                None => false,
+            }
+        }
+        _ => false,
+    }
+}
+
 /// Whether what is written may come directly after the sign of an item or a cell; nothing may.
 fn may_follow_sign(inside: &str) -> bool {
     match inside.as_bytes().first() {

@@ -603,7 +603,7 @@ fn push_node<'n, 't, 'a>(
         }
         InlineForm::AsItStood => {
             let is_mark = node.kind.is_mark();
-            if is_mark && node.id != 0 && known.is_left(block, node.id) {
+            if is_mark && node.id != 0 && known.is_left(node.id) {
                 return Ok(());
             }
             push_kept(alloc, out, keeps, kept, node.kind)

@@ -3,14 +3,14 @@
 use crate::proposing::Plan;
 use std::alloc::Global;
 use wt_block_proposal::{Surroundings, push_block, push_if_in_line};
-use wt_block_signs::{USUAL, goes_on_behind, is_item};
+use wt_block_signs::{USUAL, ends_with_given_sign, goes_on_behind, is_item};
 use wt_checks::is_compared;
 use wt_difference::inside;
 use wt_gaps::{
-    Coming, Gap, Passed, behind_first, between, comes_along, count_of, empties_row, kind_at_end,
-    kind_at_start, last_number, mark_at, nodes_between, place_behind, push_between, push_breaks,
-    push_comment, push_emptied_row, push_gone, push_new, push_up_to_comment, signs_in, slices_of,
-    style_beside, wanted_between,
+    Coming, Gap, Passed, behind_first, between_coming, comes_along, count_of, empties_row,
+    kind_at_end, kind_at_start, last_number, mark_at, nodes_between, place_behind, push_between,
+    push_breaks, push_comment, push_emptied_row, push_gone, push_new, push_up_to_comment, signs_in,
+    slices_of, style_beside, wanted_between,
 };
 use wt_known::{Known, last_text};
 use wt_span::{NoMemory, Str};
@@ -77,10 +77,10 @@ fn has_break_from(source: &str, start: usize) -> bool {
 }
 
 /// Whether a node, whose source is the end of this one, is of one line, in which a cell may follow: a text that ends with
-/// the sign of a heading cell would be read with the signs of the next.
+/// the sign of a heading cell, also one that a template gives, would be read with the signs of the next.
 fn may_go_on(source: &str, start: usize, node: &Node<'_>) -> bool {
     let is_heading_text = matches!(node.kind, Kind::Th) && !inside(node).is_empty();
-    let joins = is_heading_text && source.ends_with("!");
+    let joins = is_heading_text && (source.ends_with("!") || ends_with_given_sign(node));
     !joins && !has_break_from(source, start)
 }
 
@@ -162,7 +162,7 @@ fn led_by(
         if let (Some(before), Some(block)) = (before, block) {
             push_up_to_comment(&mut coming.source, known, is_tight, before, comment, block)?;
         }
-        push_comment(&mut coming.source, known, comment)?;
+        push_comment(&mut coming.source, known, is_tight, comment)?;
     }
     Ok(Some(coming))
 }
@@ -225,7 +225,7 @@ fn followed<'t, 'a>(
     if !is_begun {
         push_breaks(
             &mut source,
-            between(known.closeness, is_tight, last, node.kind),
+            between_coming(known, is_tight, last, before, node),
         )?;
     }
     let from = source.as_str().len();

@@ -6,18 +6,18 @@ ghost use Rattle.wt_checks.specs.View.{indexed};
 ghost use Rattle.wt_tree.specs.View.{view};
 ghost use Rattle.wt_places.specs.Rewritten.{IsRewritten};
 
-use crate::along::comments_along;
+use crate::along::{comments_along, marks_left};
 use crate::children::push_gap;
 use std::alloc::Global;
 use wt_block_signs::{
-    Style, USUAL, is_bare_sign, is_cell, is_item, is_list, is_row_without_sign, joins_sign,
-    signs_of, style_of, style_within,
+    Style, USUAL, ends_with_given_sign, is_bare_sign, is_cell, is_item, is_list,
+    is_row_without_sign, joins_sign, signs_of, style_of, style_within,
 };
 use wt_checks::{Visit, is_compared};
 use wt_content_proposal::{Writing, edges_of, spelled};
 use wt_difference::{Child, held, inside, inside_count, same_inside};
 use wt_gaps::{Gap, Numbering, Tags, byte_at, children_between, nodes_between, push_change};
-use wt_known::{Known, block_of};
+use wt_known::{Known, block_of, takes_from_elsewhere, text_of_staying};
 use wt_places::{
     Beside, Reached, Slot, begun, inside_end, inside_start, inside_stop, next_turn, places,
     start_of, tested, turns,
@@ -98,8 +98,14 @@ fn meets_next_sign(page: &str, old: &Node<'_>, place: Slot) -> bool {
         && byte_at(page, place.end) == b'|'
 }
 
-/// The inside of a heading cell before the signs of the next one: its last character isn't read with these.
-fn apart_from_sign(alloc: Global, inside: Str) -> Result<Str, NoMemory> {
+/// The inside of a heading cell before the signs of the next one: its last character isn't read with these, nor is that
+/// of what a template gives.
+fn apart_from_sign(alloc: Global, cell: &Node<'_>, inside: Str) -> Result<Str, NoMemory> {
+    if ends_with_given_sign(cell) {
+        let mut out = inside;
+        out.push_str("<nowiki/>")?;
+        return Ok(out);
+    }
     let Some(front) = inside.as_str().strip_suffix("!") else {
         return Ok(inside);
     };
@@ -142,7 +148,7 @@ fn push_inside<'t, 'a>(
         known,
         Some(&standing),
         writing_in(keeps, old),
-        inside(new),
+        text_of_staying(known.page, known.index, new),
         edges_of(inside(old)),
     )?;
     by.push_str(source.as_str())?;
@@ -154,7 +160,7 @@ fn push_inside<'t, 'a>(
         by.push_str(" ")?;
     }
     if matches!(old.kind, Kind::Th) && byte_at(known.page, place.end) == b'!' {
-        by = apart_from_sign(alloc, by)?;
+        by = apart_from_sign(alloc, new, by)?;
     }
     push_change(out, place, by)
 }
@@ -211,7 +217,7 @@ fn push_own_line<'t, 'a>(
         known,
         Some(&block),
         writing_in(keeps, old),
-        inside(new),
+        text_of_staying(known.page, known.index, new),
         edges_of(inside(old)),
     )?;
     let mut by = signs_of(alloc, known, old)?;
@@ -385,10 +391,7 @@ fn ends_with_sign(cell: &Node<'_>) -> bool {
         return false;
     }
     match inside(cell).last() {
-        Some(last) => match last.children.as_slice().last() {
-            Some(text) if matches!(last.kind, Kind::Group) => text.shown().ends_with("!"),
-            _ => last.shown().ends_with("!"),
-        },
+        Some(last) => last.shown().ends_with("!") || ends_with_given_sign(cell),
         None => false,
     }
 }
@@ -619,8 +622,10 @@ fn changes_of<'t, 'a>(
     edited: &'t Node<'a>,
     keeping: Keeping,
 ) -> Result<Vec<Change>, NoMemory> {
-    let known = Known::of(alloc, page, index, tree, edited)?;
     let along = comments_along(alloc, page, index, edited)?;
+    let is_whole = takes_from_elsewhere(index, edited);
+    let left = marks_left(alloc, index, tree, edited, along.as_slice(), is_whole)?;
+    let known = Known::of(alloc, page, index, tree, is_whole, left)?;
     let plan = Plan {
         keeping,
         along: along.as_slice(),
