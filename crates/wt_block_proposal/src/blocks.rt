@@ -101,6 +101,14 @@ fn source_standing(
 
 // ---- what a block holds
 
+/// How the inside of a block of this kind is written.
+fn writing_of(keeps: bool, kind: Kind) -> Writing {
+    Writing {
+        keeps,
+        place: kind.edit_shape().place,
+    }
+}
+
 /// The inside of a block that the page has.
 fn kept_inside<'t, 'a>(
     alloc: Global,
@@ -110,10 +118,10 @@ fn kept_inside<'t, 'a>(
     node: &Node<'_>,
 ) -> Result<Str, NoMemory> {
     let block = block_of(alloc, old)?;
-    let place = node.kind.edit_shape().place;
-    let writing = Writing::of(known, Some(&block), around.keeps, place);
+    let writing = writing_of(around.keeps, node.kind);
     let text = text_of(known.page, known.index, node);
-    spelled(alloc, &writing, text, edges_of(inside(old)))
+    let edges = edges_of(inside(old));
+    spelled(alloc, known, Some(&block), writing, text, edges)
 }
 
 /// The inside of a new block.
@@ -123,14 +131,13 @@ fn new_inside<'t, 'a>(
     around: &Surroundings<'_, 't, 'a>,
     node: &Node<'_>,
 ) -> Result<Str, NoMemory> {
-    let place = node.kind.edit_shape().place;
-    let writing = Writing::of(known, None, around.keeps, place);
+    let writing = writing_of(around.keeps, node.kind);
     let edges = Edges {
         first: None,
         last: around.tail,
     };
     let text = text_of(known.page, known.index, node);
-    spelled(alloc, &writing, text, edges)
+    spelled(alloc, known, None, writing, text, edges)
 }
 
 /// The inside of a block.
