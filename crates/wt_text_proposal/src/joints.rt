@@ -354,19 +354,22 @@ fn joins_link(units: &[Unit<'_>], at: usize) -> bool {
 }
 
 /// Whether an external link that is new or changed comes after a bracket of the page: the two would begin a link to a
-/// page.
+/// page, or with a bare URL an external link.
 fn meets_bracket(units: &[Unit<'_>], at: usize) -> bool {
     let (Some((_, ended)), Some(Unit::Thing(link))) = (placed(before(units, at)), units.get(at))
     else {
         return false;
     };
+    let joins = match link.role {
+        Role::External => link.source.as_str().starts_with("["),
+        Role::Bare(_) => true,
+        _ => false,
+    };
     let is_beside = match link.place {
         Some(place) => place.start == ended.end,
         None => false,
     };
-    let are_brackets = source_before(units, at).ends_with(b"[")
-        && link.source.as_str().starts_with("[");
-    matches!(link.role, Role::External) && are_brackets && !is_beside
+    joins && !is_beside && source_before(units, at).ends_with(b"[")
 }
 
 // ---- after a bare URL
