@@ -388,9 +388,9 @@ fn breaks_up_to_tag(page: &str, tag: Slot, last: Kind, behind: &Node<'_>) -> usi
 
 /// The line breaks after what comes in the place of a slice, or in a gap, before what the page has after it, up to what
 /// stays or to the next slice that goes. After all that a cell holds the next cell may go on in the line.
-fn breaks_behind(
-    known: &Known<'_, '_>,
-    gap: &Gap<'_, '_, '_>,
+fn breaks_behind<'t, 'a>(
+    known: &Known<'t, 'a>,
+    gap: &Gap<'_, 't, 'a>,
     slice: Option<Slice>,
     coming: &Coming,
     after: Slot,
@@ -506,11 +506,11 @@ fn push_source(
 }
 
 /// Appends what comes, in the place of the first slice that goes.
-pub fn push_new(
+pub fn push_new<'t, 'a>(
     alloc: Global,
     out: &mut Vec<Change>,
-    known: &Known<'_, '_>,
-    gap: &Gap<'_, '_, '_>,
+    known: &Known<'t, 'a>,
+    gap: &Gap<'_, 't, 'a>,
     slices: &[Slice],
     coming: &Coming,
 ) -> Result<(), NoMemory> {
