@@ -1,5 +1,5 @@
 use Rattle.wt_tree.specs.View.{view}
-use Rattle.wt_new_page.proofs.Compared.{compared_fails, compared_shows}
+use Rattle.wt_new_page.proofs.Differing.{compared_fails, compared_shows}
 use Rattle.wt_new_page.proofs.asked.compared.Goals as goal
 
 pub returns-in-None : goal.returns-in-None
