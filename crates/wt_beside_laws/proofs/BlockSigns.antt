@@ -20,7 +20,8 @@ use Rattle.wt_beside_laws.specs.Content.{AreKept}
 use Rattle.wt_beside_laws.specs.Flat.{IsFlatContent}
 use Rattle.wt_beside_laws.specs.Lines.{AreCharacters}
 use Rattle.wt_beside_laws.specs.OwnSigns.{own_signs, HaveOwn, IsFlatBlock}
-use Rattle.wt_beside_laws.specs.PageBlocks.{joined_parts, AreUnstyled, AreShut, ShowSources, IsBlockOfLines}
+use Rattle.wt_beside_laws.specs.PageBlocks.{AreUnstyled, AreShut, ShowSources, IsBlockOfLines}
+use Rattle.wt_text_edit_laws.specs.ParagraphParts.{joined_parts}
 use Rattle.wt_beside_laws.specs.PageSigns.{signs_of_lines, AreFlatLines}
 use Rattle.wt_beside_laws.specs.SentNodes.{AreSent, numbers}
 use Rattle.wt_beside_laws.specs.Stood.{things}

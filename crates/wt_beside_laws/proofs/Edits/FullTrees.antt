@@ -21,7 +21,8 @@ use Rattle.wt_text_edit_laws.specs.LonePages.{page_chars}
 use Rattle.wt_text_edit_laws.specs.ParagraphBetween.{body_with}
 use Rattle.wt_text_edit_laws.proofs.Texts.TypedShown.{AllOfPage, both_of_page}
 use Rattle.wt_beside_laws.specs.Content.{guard_items, letter_items}
-use Rattle.wt_beside_laws.specs.Flat.{content_parts, para_with}
+use Rattle.wt_beside_laws.specs.Flat.{content_parts}
+use Rattle.wt_text_edit_laws.specs.ParagraphParts.{para_with}
 use Rattle.wt_beside_laws.specs.Stood.{things}
 use Rattle.wt_beside_laws.proofs.LineShown.{guard_tree}
 

@@ -44,8 +44,9 @@ use Rattle.wt_text_edit_laws.proofs.Prose.ProseTakes.{not_longer}
 use Rattle.wt_text_edit_laws.proofs.Texts.TypedShown.{gathered_shows}
 use Rattle.wt_beside_laws.specs.Calm.{IsCalm, AreCalm}
 use Rattle.wt_beside_laws.specs.Content.{AreKept}
-use Rattle.wt_beside_laws.specs.Flat.{IsFlatContent, content_parts, para_with}
-use Rattle.wt_beside_laws.specs.PageBlocks.{joined_parts, ShowSources}
+use Rattle.wt_beside_laws.specs.Flat.{IsFlatContent, content_parts}
+use Rattle.wt_text_edit_laws.specs.ParagraphParts.{para_with, joined_parts}
+use Rattle.wt_beside_laws.specs.PageBlocks.{ShowSources}
 use Rattle.wt_beside_laws.specs.PageSigns.{signs_of_lines}
 use Rattle.wt_beside_laws.specs.SentPieces.{PiecesShow}
 use Rattle.wt_beside_laws.specs.Shown.{parts_shown_at}

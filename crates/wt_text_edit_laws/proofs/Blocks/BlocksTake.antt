@@ -46,7 +46,7 @@ use Rattle.wt_moved_laws.specs.Standing.{AreOrdinary}
 use Rattle.wt_text_edit_laws.specs.Parts.{part_tree}
 use Rattle.wt_text_edit_laws.proofs.Blocks.PageKinds.{page_ordinary}
 use Rattle.wt_text_edit_laws.specs.BlockSpots.{BlockSpot, spots_source, page_blocks, AreBlockSpots, AreBlocks}
-use Rattle.wt_text_edit_laws.proofs.Blocks.BlockReading.{spots_expanded, spots_unrefused}
+use Rattle.wt_text_edit_laws.proofs.Blocks.BlocksRead.{spots_expanded, spots_unrefused}
 use Rattle.wt_text_edit_laws.proofs.Blocks.BlockMeaning.{spots_meaning}
 use Rattle.wt_text_edit_laws.proofs.Blocks.BlockTrees.{leafy_blocks, as_leaves, are_typed, spots_tree}
 use Rattle.wt_text_edit_laws.proofs.Blocks.BlocksAgain.{spots_utf8, spots_clear}

@@ -440,20 +440,15 @@ round_is s own a h p = tree_by s.level s.lead s.trail s.rest own (sides_so s a) 
 
 -- ---- of one text
 
-text_inside : (own : List Item) → IsHeadingText own → IsHeadingInside own
+pub text_inside : (own : List Item) → IsHeadingText own → IsHeadingInside own
 text_inside own h = record { unbroken = h.unbroken; begins = h.begins; ends = h.ends }
 
-with_text : (s : Sides) (own : List Item) → IsHeadingText own → heading_round s own ≡ heading_with s own
+pub with_text : (s : Sides) (own : List Item) → IsHeadingText own → heading_round s own ≡ heading_with s own
 with_text s own h = ap (λ ps. inner (plain (kind.Heading s.level)) (page_chars (opening_of s)) (forest (children ps)) (closing_items s)) h.is_one
 
 pub first_row : (s : Sides) (own tail : List Item) → AreSides s → IsHeadingText own → IsOfLevel s own → EndsLine tail
     → (end : List Item) × (rs : List Row) × (rows (heading_line s own ++ tail) ≡ heading_row (heading_line s own) end ∷ rs)
 first_row s own tail a h p e = round_first s own tail a (text_inside own h) p e
-
-pub heading_between : (xs : List Item) (s : Sides) (own tail : List Item) → AreClosed (before_marks xs) → AreSides s → IsHeadingText own → IsOfLevel s own → EndsLine tail
-    → parts_in (xs ++ (heading_line s own ++ tail)) ≡ parts_in xs ++ node (heading_with s own) ∷ parts_in tail
-heading_between xs s own tail c a h p e =
-    round_between xs s own tail c a (text_inside own h) p e ∙ ap (λ (t : ItemTree). parts_in xs ++ node t ∷ parts_in tail) (with_text s own h)
 
 pub heading_stands : (xs : List Item) (s : Sides) (own tail : List Item) → AreClosed (before_marks xs) → AreSides s → IsHeadingText own → IsOfLevel s own → EndsLine tail
     → meaning (xs ++ (heading_line s own ++ tail)) ≡ body_with (blocks_in xs ++ heading_with s own ∷ blocks_in tail)
