@@ -57,3 +57,4 @@ pub mod CalmContents
 pub mod FlatLines
 pub mod PlainContents
 pub mod Edits
+pub mod Styled

@@ -17,3 +17,6 @@ pub mod Beginnings
 pub mod SentPieces
 pub mod Calm
 pub mod FlatPages
+pub mod Nests
+pub mod Styled
+pub mod StyledShown

@@ -1,0 +1,5 @@
+-- Texts beside and inside of bold and italic.
+pub mod NestRuns
+pub mod NestToggles
+pub mod NestStyles
+pub mod NestForests
