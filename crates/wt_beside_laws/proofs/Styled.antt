@@ -3,3 +3,9 @@ pub mod NestRuns
 pub mod NestToggles
 pub mod NestStyles
 pub mod NestForests
+pub mod NestReads
+pub mod StyledSigns
+pub mod StyledLines
+pub mod StyledParagraphs
+pub mod StyledShown
+mod Cases

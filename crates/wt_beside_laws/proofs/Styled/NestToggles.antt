@@ -115,16 +115,19 @@ abbrev is_kind : Bool → Bool → Bool
 is_kind true kind = kind
 is_kind false kind = not kind
 
+abbrev one_if : Bool → ℕ
+one_if b = cond b 1 0
+
 abbrev count_kind : Bool → List (ℕ × Bool) → ℕ
 count_kind b [] = 0
-count_kind b (w ∷ ws) = cond (is_kind b w.1) 1 0 + count_kind b ws
+count_kind b (w ∷ ws) = one_if (is_kind b w.1) + count_kind b ws
 
 same_number : (full : List Chunk) (b : Bool) (ws : List (ℕ × Bool)) (ts : List Toggle) → AreToggles full ws ts → count_by (is_of b) ts ≡ count_kind b ws
 same_number full b [] [] h = refl
 same_number full b [] (t ∷ ts) h = absurd h
 same_number full b (w ∷ ws) [] h = absurd h
 same_number full b (w ∷ ws) (t ∷ ts) h =
-    let own : cond (is_of b t) 1 0 ≡ cond (is_kind b w.1) 1 0 = ap (λ (x : Bool). cond x 1 0) (by b h.1 h.2) in
+    let own : one_if (is_of b t) ≡ one_if (is_kind b w.1) = ap one_if (by b h.1 h.2) in
     omega (arith, sum_by-cons (λ v. cond (is_of b v) 1 0) t ts, own, same_number full b ws ts h.3)
   where
     by : (k : Bool) → t.bold ≡ w.1 → t.italic ≡ not w.1 → is_of k t ≡ is_kind k w.1
@@ -143,7 +146,7 @@ doubled b at (enclosing us kind inside after) ws =
     let r : ℕ = q + nest_length inside in
     let a = doubled b (r + width kind) after ws in
     let i = doubled b q inside ((r, kind) ∷ delimiters (r + width kind) after ws) in
-    record { half = cond (is_kind b kind) 1 0 + i.half + a.half; is = omega (arith, i.is, a.is) }
+    record { half = one_if (is_kind b kind) + i.half + a.half; is = omega (arith, i.is, a.is) }
 
 even_is : (x h : ℕ) → x ≡ h + h + 0 → (x % 2 == 1) ≡ false
 even_is x h e = let z : x % 2 ≡ 0 = omega (arith, e) in ap (λ (m : ℕ). m == 1) z
