@@ -1,6 +1,13 @@
 //! Laws of texts that are typed beside nodes that stay: how such a content is read, and that edits which type them are done.
 #![tactic(auto)]
 
+mod styles;
+
+pub use styles::{
+    lines_with_styles_have_even_toggles, styles_that_nest_are_read, texts_in_styles_are_one_paragraph,
+    texts_in_styles_are_shown, texts_in_styles_stand_between_lines,
+};
+
 ghost use Rattle.std.specs.Prelude.{◌≡◌, ◌≤◌, ℕ, ◌+◌, Bool, false, Some, None, List, [], ◌∷◌, ◌++◌, length, map, Option};
 ghost use Rattle.wt_span.specs.Items.{Item};
 ghost use Rattle.wt_guards.specs.Content.{ContentSign};

@@ -1,0 +1,73 @@
+//! Laws of texts that are typed beside and inside of bold and italic: how such a content is read.
+
+ghost use Rattle.std.specs.Prelude.{◌≡◌, ℕ, Bool, true, false, List, [], ◌∷◌, ◌++◌};
+ghost use Rattle.wt_span.specs.Items.{Item};
+ghost use Rattle.wt_tree.specs.Plain.{Plains};
+ghost use Rattle.wt_guards.specs.Content.{ContentSign};
+ghost use Rattle.wt_guards.specs.Guards.{Setting, spelled};
+ghost use Rattle.wt_expand.specs.PageItems.{page_items};
+ghost use Rattle.wt_quotes.specs.Toggles.{is_odd, toggles_by_length, toggles_of};
+ghost use Rattle.wt_tiles.specs.Contexts.{in_line};
+ghost use Rattle.wt_context.specs.Chunks.{chunks};
+ghost use Rattle.wt_context.specs.Line.{context_parts, line_parts};
+ghost use Rattle.wt_context.specs.Nodes.{segments};
+ghost use Rattle.wt_context.specs.Styled.{with_styles};
+ghost use Rattle.wt_page.specs.Body.{meaning};
+ghost use Rattle.wt_page.specs.Rows.{rows};
+ghost use Rattle.wt_page.specs.Texts.{para};
+ghost use Rattle.wt_text_edit_laws.specs.ParagraphBetween.{EndsApart, EndsParagraph, blocks_in, body_with};
+ghost use Rattle.wt_beside_laws.specs.Flat.{para_with};
+ghost use Rattle.wt_beside_laws.specs.Lines.{line_items};
+ghost use Rattle.wt_beside_laws.specs.Nests.{Nest, nest_segments, nest_parts, IsNest};
+ghost use Rattle.wt_beside_laws.specs.Nodes.{AreNodes, AllMeet};
+ghost use Rattle.wt_beside_laws.specs.Shown.{parts_shown_at};
+ghost use Rattle.wt_beside_laws.specs.Styled.{StyledContent, signs_in, AreNested, IsStyledContent, styled_parts};
+ghost use Rattle.wt_beside_laws.specs.StyledShown.{styled_shown};
+
+/// Segments among which styles nest, each between delimiters of its own, are read as these styles, whatever the other segments are: each
+/// style is a node round what is inside it. No run is exchanged: the toggles are those by the lengths of the runs, and the numbers of bold
+/// and of italic ones are even.
+pub fn styles_that_nest_are_read()
+    ensures read { (n : Nest) → IsNest false false n [] → with_styles (nest_segments n []) ≡ nest_parts n }
+    ensures toggles { (n : Nest) → IsNest false false n []
+        → toggles_of (chunks (nest_segments n [])) ≡ toggles_by_length (chunks (nest_segments n [])) }
+    ensures bold { (n : Nest) → IsNest false false n [] → is_odd (λ t. t.bold) (toggles_of (chunks (nest_segments n []))) ≡ false }
+    ensures italic { (n : Nest) → IsNest false false n [] → is_odd (λ t. t.italic) (toggles_of (chunks (nest_segments n []))) ≡ false }
+{}
+
+/// On each line of a content with styles, as it is spelled, the numbers of bold and of italic toggles are even, whatever is typed: the
+/// toggles are the delimiters of its styles, and no apostrophe that is typed is one.
+pub fn lines_with_styles_have_even_toggles()
+    ensures bold { (s : Setting) (before : List ContentSign) (t : StyledContent) → AreNodes (signs_in t) → AreNested false false t → AllMeet s before (signs_in t) []
+        → is_odd (λ t. t.bold) (toggles_of (chunks (segments context_parts in_line (line_items s before (signs_in t))))) ≡ false }
+    ensures italic { (s : Setting) (before : List ContentSign) (t : StyledContent) → AreNodes (signs_in t) → AreNested false false t → AllMeet s before (signs_in t) []
+        → is_odd (λ t. t.italic) (toggles_of (chunks (segments context_parts in_line (line_items s before (signs_in t))))) ≡ false }
+{}
+
+/// A content with styles is one paragraph: each style is a node round what is inside it, and everything else is what it is in a content
+/// without styles (`texts_beside_nodes_are_one_paragraph`). So it is for the rows that its lines make, and as a page of its own.
+pub fn texts_in_styles_are_one_paragraph()
+    ensures line { (s : Setting) (before : List ContentSign) (t : StyledContent) → AreNodes (signs_in t) → AreNested false false t → AllMeet s before (signs_in t) []
+        → line_parts (line_items s before (signs_in t)) ≡ styled_parts true s before t [] }
+    ensures paragraph { (s : Setting) (t : StyledContent) → IsStyledContent s t
+        → para (rows (page_items (spelled s (signs_in t)))) ≡ para_with (styled_parts false s [] t []) }
+    ensures page { (s : Setting) (t : StyledContent) → IsStyledContent s t
+        → meaning (page_items (spelled s (signs_in t))) ≡ body_with (para_with (styled_parts false s [] t []) ∷ []) }
+{}
+
+/// Wherever such a paragraph is, and whatever the numbers of its nodes, its inside shows the texts that were typed, beside and inside of
+/// bold and italic, and each node as its source shows by itself.
+#[tactic(auto, using(crate::proofs::Styled::StyledShown::styled_is_shown))]
+pub fn texts_in_styles_are_shown()
+    ensures { (n : ℕ) (before : List Item) (s : Setting) (t : StyledContent) (rest : Plains) → IsStyledContent s t
+        → parts_shown_at n before (styled_parts false s [] t []) rest ≡ styled_shown t rest }
+{}
+
+/// Between other lines of a page such a content is one paragraph of the body: the body's other children are those that what is before it
+/// and what is behind it make by themselves, whatever is typed in it.
+#[tactic(auto, using(crate::proofs::Styled::StyledParagraphs::styled_stands))]
+pub fn texts_in_styles_stand_between_lines()
+    ensures { (before : List Item) (s : Setting) (t : StyledContent) (tail : List Item) → EndsApart before → IsStyledContent s t → EndsParagraph tail
+        → meaning (before ++ (page_items (spelled s (signs_in t)) ++ tail))
+        ≡ body_with (blocks_in before ++ para_with (styled_parts false s [] t []) ∷ blocks_in tail) }
+{}
