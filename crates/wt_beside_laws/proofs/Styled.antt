@@ -8,4 +8,5 @@ pub mod StyledSigns
 pub mod StyledLines
 pub mod StyledParagraphs
 pub mod StyledShown
+pub mod SentStyles
 mod Cases

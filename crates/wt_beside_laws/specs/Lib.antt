@@ -20,3 +20,4 @@ pub mod FlatPages
 pub mod Nests
 pub mod Styled
 pub mod StyledShown
+pub mod SentStyled

@@ -1,13 +1,6 @@
 //! Laws of texts that are typed beside nodes that stay: how such a content is read, and that edits which type them are done.
 #![tactic(auto)]
 
-mod styles;
-
-pub use styles::{
-    lines_with_styles_have_even_toggles, styles_that_nest_are_read, texts_in_styles_are_one_paragraph,
-    texts_in_styles_are_shown, texts_in_styles_stand_between_lines,
-};
-
 ghost use Rattle.std.specs.Prelude.{◌≡◌, ◌≤◌, ℕ, ◌+◌, Bool, false, Some, None, List, [], ◌∷◌, ◌++◌, length, map, Option};
 ghost use Rattle.wt_span.specs.Items.{Item};
 ghost use Rattle.wt_guards.specs.Content.{ContentSign};
@@ -69,6 +62,13 @@ ghost use Rattle.wt_commands.specs.UnmarkedEdits.{DoneByEdit};
 ghost use Rattle.wt_commands.specs.Answers.{done, edit_to};
 ghost use Rattle.wt_beside_laws.specs.FlatPages.{IsFlatPage, IsFlatEdit, sent_flat, new_flat, IsUnmarkedFlatEdit, bare_flat};
 ghost use Rattle.wt_tiles.specs.declared.glyph.GlyphClass.TheVariants as class;
+
+mod styles;
+
+pub use styles::{
+    lines_with_styles_have_even_toggles, styles_that_nest_are_read, texts_in_styles_are_one_paragraph,
+    texts_in_styles_are_shown, texts_in_styles_stand_between_lines,
+};
 
 /// A content of text that is typed and of nodes that stay, as it is spelled, makes no lexeme over the border of a text and
 /// a node: its items are those of each node by itself, the characters and references of the text, and the nowikis that

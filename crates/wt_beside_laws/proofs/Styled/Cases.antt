@@ -1,5 +1,6 @@
 -- Worked cases: how contents with styles are written, and that their styles nest.
 use Rattle.std.proofs.Common.{◌≡◌, true, false, None, [], ◌∷◌, refl}
+use Rattle.std.specs.Fmt.{digits}
 use Rattle.std.specs.Prelude.{codes}
 use Rattle.std.proofs.Math.Utf8.{encode}
 use Rattle.wt_tree.specs.declared.kind.Kind.TheVariants as kind
@@ -26,7 +27,7 @@ quoted = styled false None None (sign (letter 97) (styled true None None (sign (
 
 -- the apostrophe is a reference, and the delimiters that end the two are parted
 written_so : spelled in_paragraph (signs_in quoted) ≡ codes "''a'''&#39;'''<nowiki/>''"
-unfolding is_guarded is_between_guard is_parted is_start_guard is_end_guard is_blank_guard hazard line_start_hazard is_escaped reference nowiki encode
+unfolding is_guarded is_between_guard is_parted is_start_guard is_end_guard is_blank_guard hazard line_start_hazard is_escaped reference nowiki encode digits
 written_so = refl
 
 nested_so : AreNested false false quoted
