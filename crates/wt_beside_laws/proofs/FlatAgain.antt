@@ -256,7 +256,7 @@ pub record HoldsOfPut (Q : List ℕ → Type 0) : Type 0 where
   pub of_nowiki : Q nowiki
   pub of_reference : (c : ℕ) → is_escapable c ≡ true → Q (reference c)
 
-nowiki_kept : IsKept nowiki
+pub nowiki_kept : IsKept nowiki
 unfolding nowiki comment_len
 nowiki_kept = record {
   parts = lexeme Raw 60 (codes "nowiki/>") ∷ [];

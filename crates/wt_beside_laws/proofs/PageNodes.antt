@@ -50,7 +50,7 @@ other_trail own n = elim n [
   ]
 ]
 
-delimiter_trail : (own : List Glyph) → IsDelimiter own → NoTrail own
+pub delimiter_trail : (own : List Glyph) → IsDelimiter own → NoTrail own
 delimiter_trail own n = elim n [
   | inl i ↦ subst NoTrail (sym i) refl
   | inr i ↦ subst NoTrail (sym i) refl
@@ -81,7 +81,7 @@ bare_never ends (Group g) own n e = absurd n
 bare_never ends Function own n e = cc
 bare_never ends Node own n e = cc
 
-follows_none : (own : List Glyph) (r : Role) → ((g : Glyph) → MayBeBehind r g) → MayFollow r own
+pub follows_none : (own : List Glyph) (r : Role) → ((g : Glyph) → MayBeBehind r g) → MayFollow r own
 follows_none [] r f = tt
 follows_none (g ∷ gs) r f = f g
 
@@ -122,11 +122,11 @@ table_leads r Node own n e = tt
 
 -- ---- two nodes side by side
 
-abbrev Meet : Thing → Thing → Type 0
+abbrev pub Meet : Thing → Thing → Type 0
 Meet t n = MayFollow t.role (own_glyphs n) × MayLead n.role (ends_word false (own_glyphs t))
 
 -- if they are so in the page
-abbrev MeetInPage : Thing → Thing → Type 0
+abbrev pub MeetInPage : Thing → Thing → Type 0
 MeetInPage t n = is_adjacent t n ≡ true → Meet t n
 
 no_mark : (r : Role) (own : List Glyph) → IsNode r own → is_mark r ≡ false
@@ -178,19 +178,19 @@ EachMeets [] = Unit {0}
 EachMeets (t ∷ []) = Unit {0}
 EachMeets (t ∷ n ∷ ts) = MeetInPage t n × EachMeets (n ∷ ts)
 
-nodes_of : (signs : List ContentSign) → EachIsNode (things signs) → AreNodes signs
+pub nodes_of : (signs : List ContentSign) → EachIsNode (things signs) → AreNodes signs
 nodes_of [] h = tt
 nodes_of (letter c ∷ after) h = nodes_of after h
 nodes_of (thing t ∷ after) h = (h.0, nodes_of after h.1)
 
 -- the node that is directly before a place
-abbrev before_of : List ContentSign → List Thing
+abbrev pub before_of : List ContentSign → List Thing
 before_of [] = []
 before_of (letter c ∷ before) = []
 before_of (thing t ∷ before) = t ∷ []
 
 -- of it and those that come
-abbrev Come : List ContentSign → List ContentSign → Type 0
+abbrev pub Come : List ContentSign → List ContentSign → Type 0
 Come before signs = EachIsNode (before_of before ++ things signs) × EachMeets (before_of before ++ things signs)
 
 letter_comes : (before : List ContentSign) (ts : List Thing) → EachIsNode (before_of before ++ ts) × EachMeets (before_of before ++ ts) → EachIsNode ts × EachMeets ts
@@ -222,7 +222,7 @@ thing_meets s false [] n after e h = tt
 thing_meets s false (letter d ∷ before) n after e h = tt
 thing_meets s false (thing t ∷ before) n after e h = meet t n h.0.0 h.0.1.0 h.1.0 (unparted s t n before after e)
 
-all_meet : (s : Setting) (before signs : List ContentSign) → Come before signs → AllMeet s before signs []
+pub all_meet : (s : Setting) (before signs : List ContentSign) → Come before signs → AllMeet s before signs []
 all_meet s before [] h = end_meets (is_guarded s before []) before
 all_meet s before (letter c ∷ after) h =
     (letter_meets (is_guarded s before (letter c ∷ after)) before c after, all_meet s (letter c ∷ before) after (letter_comes before (things after) h))
@@ -231,7 +231,7 @@ all_meet s before (thing n ∷ after) h =
 
 -- ---- of the page
 
-each_node : (a : Bool) (olds : List ContentSign) → AreStood a olds → EachIsNode (things olds)
+pub each_node : (a : Bool) (olds : List ContentSign) → AreStood a olds → EachIsNode (things olds)
 each_node a [] h = tt
 each_node a (letter c ∷ after) h = each_node (is_word c) after h
 each_node a (thing t ∷ after) h =
@@ -363,7 +363,7 @@ one_more : (t : Thing) (ts : List Thing) → MeetsFirst t ts → EachMeets ts �
 one_more t [] h k = tt
 one_more t (n ∷ ts) h k = (h, k)
 
-each_meets : (a : Bool) (at : ℕ) (olds : List ContentSign) → AreStood a olds → AreAt at olds → EachMeets (things olds)
+pub each_meets : (a : Bool) (at : ℕ) (olds : List ContentSign) → AreStood a olds → AreAt at olds → EachMeets (things olds)
 each_meets a at [] h places = tt
 each_meets a at (letter c ∷ after) h places = each_meets (is_word c) (at + length (encode_utf8 c)) after h places
 each_meets a at (thing t ∷ after) h places =

@@ -9,4 +9,5 @@ pub mod StyledLines
 pub mod StyledParagraphs
 pub mod StyledShown
 pub mod SentStyles
+pub mod StyledNodes
 mod Cases

@@ -21,3 +21,4 @@ pub mod Nests
 pub mod Styled
 pub mod StyledShown
 pub mod SentStyled
+pub mod StyledNodes

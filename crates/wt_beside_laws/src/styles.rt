@@ -2,9 +2,13 @@
 
 ghost use Rattle.std.specs.Prelude.{◌≡◌, ℕ, Bool, true, false, List, [], ◌∷◌, ◌++◌};
 ghost use Rattle.wt_span.specs.Items.{Item};
-ghost use Rattle.wt_tree.specs.Plain.{Plains};
+ghost use Rattle.wt_tree.specs.declared.edit_shape.Place.{Place as Where};
+ghost use Rattle.wt_tree.specs.Plain.{Plains, plains_before};
+ghost use Rattle.wt_tree.specs.Tree.{Trees};
 ghost use Rattle.wt_guards.specs.Content.{ContentSign};
 ghost use Rattle.wt_guards.specs.Guards.{Setting, spelled};
+ghost use Rattle.wt_original.specs.Page.{Page as Known};
+ghost use Rattle.wt_link_spelling.specs.Spelling.{signs_of_all};
 ghost use Rattle.wt_expand.specs.PageItems.{page_items};
 ghost use Rattle.wt_quotes.specs.Toggles.{is_odd, toggles_by_length, toggles_of};
 ghost use Rattle.wt_tiles.specs.Contexts.{in_line};
@@ -16,13 +20,18 @@ ghost use Rattle.wt_page.specs.Body.{meaning};
 ghost use Rattle.wt_page.specs.Rows.{rows};
 ghost use Rattle.wt_page.specs.Texts.{para};
 ghost use Rattle.wt_text_edit_laws.specs.ParagraphBetween.{EndsApart, EndsParagraph, blocks_in, body_with};
+ghost use Rattle.wt_beside_laws.specs.Content.{AreKept};
 ghost use Rattle.wt_beside_laws.specs.Flat.{para_with};
-ghost use Rattle.wt_beside_laws.specs.Lines.{line_items};
+ghost use Rattle.wt_beside_laws.specs.Lines.{AreCharacters, line_items};
 ghost use Rattle.wt_beside_laws.specs.Nests.{Nest, nest_segments, nest_parts, IsNest};
 ghost use Rattle.wt_beside_laws.specs.Nodes.{AreNodes, AllMeet};
+ghost use Rattle.wt_beside_laws.specs.PageSigns.{signs_of_lines, AreFlatLines};
+ghost use Rattle.wt_beside_laws.specs.SentStyled.{sent_content, AreStyledSent, AllNest, AllShow};
 ghost use Rattle.wt_beside_laws.specs.Shown.{parts_shown_at};
 ghost use Rattle.wt_beside_laws.specs.Styled.{StyledContent, signs_in, AreNested, IsStyledContent, styled_parts};
+ghost use Rattle.wt_beside_laws.specs.StyledNodes.{AreAmong, AreUrlsApart};
 ghost use Rattle.wt_beside_laws.specs.StyledShown.{styled_shown};
+ghost use Rattle.wt_beside_laws.specs.Stood.{things};
 
 /// Segments among which styles nest, each between delimiters of its own, are read as these styles, whatever the other segments are: each
 /// style is a node round what is inside it. No run is exchanged: the toggles are those by the lengths of the runs, and the numbers of bold
@@ -70,4 +79,23 @@ pub fn texts_in_styles_stand_between_lines()
     ensures { (before : List Item) (s : Setting) (t : StyledContent) (tail : List Item) → EndsApart before → IsStyledContent s t → EndsParagraph tail
         → meaning (before ++ (page_items (spelled s (signs_in t)) ++ tail))
         ≡ body_with (blocks_in before ++ para_with (styled_parts false s [] t []) ∷ blocks_in tail) }
+{}
+
+/// A content with styles of the nodes of flat lines of a page (`AreFlatLines`), in their order, with any texts between them and styles round
+/// them, is one that is read sign by sign, if the source of each node stands whatever is written behind it. The delimiters, and the nowikis of
+/// empty styles, may be anywhere among these nodes (`AreAmong`), but not directly behind a bare URL where the page has them there.
+#[tactic(auto, using(crate::proofs::Styled::StyledNodes::styled_content))]
+pub fn nodes_of_the_page_stay_in_styles()
+    ensures { (s : Setting) (ls : List (List Item)) (at : ℕ) (t : StyledContent) → s.within ≡ false → AreFlatLines ls → AreKept (signs_of_lines at ls)
+        → AreCharacters (signs_in t) → AreNested false false t → AreAmong (things (signs_in t)) (things (signs_of_lines at ls))
+        → AreUrlsApart (things (signs_in t)) → IsStyledContent s t }
+{}
+
+/// What an editor sends of such a paragraph, with its nodes as they are in the page, any texts beside them and inside of bold and italic,
+/// and bold and italic wherever it is, is written as such a content (`sent_content`), in which `<nowiki/>` is what is inside an empty style. Its
+/// styles nest where those that are sent do, and no text in one has a line break; and it shows what was sent, where each node shows its source.
+pub fn contents_sent_with_styles_are_such()
+    ensures signs { (p : Known) (pl : Where) (us : Trees) → AreStyledSent p us → signs_of_all p pl us ≡ signs_in (sent_content p us) }
+    ensures nested { (p : Known) (us : Trees) → AllNest p false false us → AreNested false false (sent_content p us) }
+    ensures shown { (p : Known) (us : Trees) (rest : Plains) → AreStyledSent p us → AllShow p us → styled_shown (sent_content p us) rest ≡ plains_before us rest }
 {}

@@ -44,73 +44,73 @@ use Rattle.wt_beside_laws.proofs.LineShown.{twice, children_show, guard_shows}
 
 -- ---- signs
 
-signs_joined : (t : StyledContent) (after more : List ContentSign) → signs_before t after ++ more ≡ signs_before t (after ++ more)
-signs_joined finished after more = refl
-signs_joined (sign c t) after more = ap (λ cs. c ∷ cs) (signs_joined t after more)
-signs_joined (styled kind opening closing inside t) after more =
+signs_joined : (t : StyledContent) (after rest : List ContentSign) → signs_before t after ++ rest ≡ signs_before t (after ++ rest)
+signs_joined finished after rest = refl
+signs_joined (sign c t) after rest = ap (λ cs. c ∷ cs) (signs_joined t after rest)
+signs_joined (styled kind opening closing inside t) after rest =
     ap (λ cs. delimiter kind opening ∷ cs)
-    (signs_joined inside (delimiter kind closing ∷ signs_before t after) more
-    ∙ ap (λ cs. signs_before inside (delimiter kind closing ∷ cs)) (signs_joined t after more))
+    (signs_joined inside (delimiter kind closing ∷ signs_before t after) rest
+    ∙ ap (λ cs. signs_before inside (delimiter kind closing ∷ cs)) (signs_joined t after rest))
 
 text_signs : (cs : List ℕ) (t : StyledContent) → map letter cs ++ signs_in t ≡ signs_in (text_then cs t)
 text_signs [] t = refl
 text_signs (c ∷ cs) t = ap (λ ss. letter c ∷ ss) (text_signs cs t)
 
-nowiki_signs : (t : StyledContent) (more : List ContentSign) → signs_or_nowiki (signs_in t) ++ more ≡ signs_before (or_nowiki t) more
-nowiki_signs finished more = refl
-nowiki_signs (sign c t) more = signs_joined (sign c t) [] more
-nowiki_signs (styled kind opening closing inside t) more = signs_joined (styled kind opening closing inside t) [] more
+nowiki_signs : (t : StyledContent) (rest : List ContentSign) → signs_or_nowiki (signs_in t) ++ rest ≡ signs_before (or_nowiki t) rest
+nowiki_signs finished rest = refl
+nowiki_signs (sign c t) rest = signs_joined (sign c t) [] rest
+nowiki_signs (styled kind opening closing inside t) rest = signs_joined (styled kind opening closing inside t) [] rest
 
-style_signs : (kind : Bool) (k : Option Kept) (inside more : List ContentSign) (held t : StyledContent) → inside ≡ signs_in held → more ≡ signs_in t
-    → style (mark_source kind) k inside ++ more ≡ signs_in (styled kind (opening_place k) (closing_place k) (or_nowiki held) t)
-style_signs kind k inside more held t e f =
+style_signs : (kind : Bool) (k : Option Kept) (inside rest : List ContentSign) (held t : StyledContent) → inside ≡ signs_in held → rest ≡ signs_in t
+    → style (mark_source kind) k inside ++ rest ≡ signs_in (styled kind (opening_place k) (closing_place k) (or_nowiki held) t)
+style_signs kind k inside rest held t e f =
     let last : ContentSign = delimiter kind (closing_place k) in
     ap (λ cs. delimiter kind (opening_place k) ∷ cs)
-    (append_assoc (signs_or_nowiki inside) (last ∷ []) more
-    ∙ ap (λ cs. signs_or_nowiki cs ++ (last ∷ more)) e
-    ∙ nowiki_signs held (last ∷ more)
+    (append_assoc (signs_or_nowiki inside) (last ∷ []) rest
+    ∙ ap (λ cs. signs_or_nowiki cs ++ (last ∷ rest)) e
+    ∙ nowiki_signs held (last ∷ rest)
     ∙ ap (λ cs. signs_before (or_nowiki held) (last ∷ cs)) f)
 
-found_signs : (p : Page) (l : Label) (ts : Trees) (own more : List ContentSign) (t : StyledContent) (u : IsUnchanged p l ts) → own ≡ kept_thing u.kept ∷ []
-    → more ≡ signs_in t → own ++ more ≡ signs_in (found_then (kept_with l.id p.kept) t)
-found_signs p l ts own more t u e f =
-    ap (λ cs. cs ++ more) e ∙ ap (λ cs. kept_thing u.kept ∷ cs) f ∙ sym (ap (λ (o : Option Kept). signs_in (found_then o t)) u.found)
+found_signs : (p : Page) (l : Label) (ts : Trees) (own rest : List ContentSign) (t : StyledContent) (u : IsUnchanged p l ts) → own ≡ kept_thing u.kept ∷ []
+    → rest ≡ signs_in t → own ++ rest ≡ signs_in (found_then (kept_with l.id p.kept) t)
+found_signs p l ts own rest t u e f =
+    ap (λ cs. cs ++ rest) e ∙ ap (λ cs. kept_thing u.kept ∷ cs) f ∙ sym (ap (λ (o : Option Kept). signs_in (found_then o t)) u.found)
 
 unless_is : (p : Page) (l : Label) (ts : Trees) (new : List ContentSign) (u : IsUnchanged p l ts)
     → unless_kept p (kept_with l.id p.kept) (tree l ts) new ≡ kept_thing u.kept ∷ []
 unless_is p l ts new u =
     ap (λ (k : Option Kept). unless_kept p k (tree l ts) new) u.found ∙ ap (λ (b : Bool). if b then kept_thing u.kept ∷ [] else new) u.same
 
-one_signs : (w : InlineForm) (p : Page) (pl : Place) (l : Label) (ts : Trees) (inside more : List ContentSign) (held t : StyledContent) (A : Type 0)
-    → IsStyledBy w p l ts A → (A → inside ≡ signs_in held) → more ≡ signs_in t
-    → signs_by w p pl (kept_with l.id p.kept) l ts inside ++ more ≡ signs_in (sent_by w (kept_with l.id p.kept) l held t)
-one_signs inline.Nothing p pl l ts inside more held t A h e f = f
-one_signs inline.Characters p pl l ts inside more held t A h e f = ap (λ cs. letters l.shown ++ cs) f ∙ text_signs (chars l.shown) t
-one_signs inline.Bold p pl l ts inside more held t A h e f = style_signs true (kept_with l.id p.kept) inside more held t (e h) f
-one_signs inline.Italic p pl l ts inside more held t A h e f = style_signs false (kept_with l.id p.kept) inside more held t (e h) f
-one_signs inline.Shown p pl l ts inside more held t A h e f =
+one_signs : (w : InlineForm) (p : Page) (pl : Place) (l : Label) (ts : Trees) (inside rest : List ContentSign) (held t : StyledContent) (A : Type 0)
+    → IsStyledBy w p l ts A → (A → inside ≡ signs_in held) → rest ≡ signs_in t
+    → signs_by w p pl (kept_with l.id p.kept) l ts inside ++ rest ≡ signs_in (sent_by w (kept_with l.id p.kept) l held t)
+one_signs inline.Nothing p pl l ts inside rest held t A h e f = f
+one_signs inline.Characters p pl l ts inside rest held t A h e f = ap (λ cs. letters l.shown ++ cs) f ∙ text_signs (chars l.shown) t
+one_signs inline.Bold p pl l ts inside rest held t A h e f = style_signs true (kept_with l.id p.kept) inside rest held t (e h) f
+one_signs inline.Italic p pl l ts inside rest held t A h e f = style_signs false (kept_with l.id p.kept) inside rest held t (e h) f
+one_signs inline.Shown p pl l ts inside rest held t A h e f =
     let new : List ContentSign = anew_by inline.Shown p pl (kept_with l.id p.kept) l ts inside in
-    found_signs p l ts (unless_kept p (kept_with l.id p.kept) (tree l ts) new) more t h (unless_is p l ts new h) f
-one_signs inline.PageLink p pl l ts inside more held t A h e f =
+    found_signs p l ts (unless_kept p (kept_with l.id p.kept) (tree l ts) new) rest t h (unless_is p l ts new h) f
+one_signs inline.PageLink p pl l ts inside rest held t A h e f =
     let new : List ContentSign = anew_by inline.PageLink p pl (kept_with l.id p.kept) l ts inside in
-    found_signs p l ts (unless_kept p (kept_with l.id p.kept) (tree l ts) new) more t h (unless_is p l ts new h) f
-one_signs inline.ExternalLink p pl l ts inside more held t A h e f =
+    found_signs p l ts (unless_kept p (kept_with l.id p.kept) (tree l ts) new) rest t h (unless_is p l ts new h) f
+one_signs inline.ExternalLink p pl l ts inside rest held t A h e f =
     let new : List ContentSign = anew_by inline.ExternalLink p pl (kept_with l.id p.kept) l ts inside in
-    found_signs p l ts (unless_kept p (kept_with l.id p.kept) (tree l ts) new) more t h (unless_is p l ts new h) f
-one_signs inline.Tag p pl l ts inside more held t A h e f =
+    found_signs p l ts (unless_kept p (kept_with l.id p.kept) (tree l ts) new) rest t h (unless_is p l ts new h) f
+one_signs inline.Tag p pl l ts inside rest held t A h e f =
     let new : List ContentSign = anew_by inline.Tag p pl (kept_with l.id p.kept) l ts inside in
-    found_signs p l ts (unless_kept p (kept_with l.id p.kept) (tree l ts) new) more t h (unless_is p l ts new h) f
-one_signs inline.Break p pl l ts inside more held t A h e f =
+    found_signs p l ts (unless_kept p (kept_with l.id p.kept) (tree l ts) new) rest t h (unless_is p l ts new h) f
+one_signs inline.Break p pl l ts inside rest held t A h e f =
     let new : List ContentSign = anew_by inline.Break p pl (kept_with l.id p.kept) l ts inside in
-    found_signs p l ts (unless_kept p (kept_with l.id p.kept) (tree l ts) new) more t h (unless_is p l ts new h) f
-one_signs inline.AsItStood p pl l ts inside more held t A h e f =
-    found_signs p l ts (as_it_stood (kept_with l.id p.kept)) more t h (ap (λ (k : Option Kept). as_it_stood k) h.found) f
+    found_signs p l ts (unless_kept p (kept_with l.id p.kept) (tree l ts) new) rest t h (unless_is p l ts new h) f
+one_signs inline.AsItStood p pl l ts inside rest held t A h e f =
+    found_signs p l ts (as_it_stood (kept_with l.id p.kept)) rest t h (ap (λ (k : Option Kept). as_it_stood k) h.found) f
 
 mutual
-  tree_signs : (p : Page) (pl : Place) (t : Tree) (more : List ContentSign) (c : StyledContent) → IsStyledSent p t → more ≡ signs_in c
-      → signs_of p pl t ++ more ≡ signs_in (sent_before p t c)
-  tree_signs p pl (tree l ts) more c h e =
-      one_signs (edit_shape l.kind).inline p pl l ts (signs_of_all p pl ts) more (sent_content p ts) c (AreStyledSent p ts) h (λ k. sent_signs p pl ts k) e
+  tree_signs : (p : Page) (pl : Place) (t : Tree) (rest : List ContentSign) (c : StyledContent) → IsStyledSent p t → rest ≡ signs_in c
+      → signs_of p pl t ++ rest ≡ signs_in (sent_before p t c)
+  tree_signs p pl (tree l ts) rest c h e =
+      one_signs (edit_shape l.kind).inline p pl l ts (signs_of_all p pl ts) rest (sent_content p ts) c (AreStyledSent p ts) h (λ k. sent_signs p pl ts k) e
 
   pub sent_signs : (p : Page) (pl : Place) (us : Trees) → AreStyledSent p us → signs_of_all p pl us ≡ signs_in (sent_content p us)
   sent_signs p pl none h = refl

@@ -150,11 +150,11 @@ node_read bold italic next any t c xs vs ps f n r =
 
 -- ---- a delimiter
 
-mark_items : (kind : Bool) → page_items (mark_source kind) ≡ marks kind
+pub mark_items : (kind : Bool) → page_items (mark_source kind) ≡ marks kind
 mark_items true = alone_as (mark_source true) (page_chars (mark_source true)) (firm_read (mark_source true) (refl, (refl, (refl, tt))))
 mark_items false = alone_as (mark_source false) (page_chars (mark_source false)) (firm_read (mark_source false) (refl, (refl, tt)))
 
-mark_glyphs : (kind : Bool) → map glyph_of (page_items (mark_source kind)) ≡ byte_glyphs (mark_source kind)
+pub mark_glyphs : (kind : Bool) → map glyph_of (page_items (mark_source kind)) ≡ byte_glyphs (mark_source kind)
 mark_glyphs true = ap (map glyph_of) (mark_items true)
 mark_glyphs false = ap (map glyph_of) (mark_items false)
 
