@@ -10,4 +10,6 @@ pub mod StyledParagraphs
 pub mod StyledShown
 pub mod SentStyles
 pub mod StyledNodes
+pub mod StyledHeadings
+pub mod StyledAgain
 mod Cases

@@ -22,3 +22,4 @@ pub mod Styled
 pub mod StyledShown
 pub mod SentStyled
 pub mod StyledNodes
+pub mod StyledHeadings

@@ -16,19 +16,24 @@ ghost use Rattle.wt_context.specs.Chunks.{chunks};
 ghost use Rattle.wt_context.specs.Line.{context_parts, line_parts};
 ghost use Rattle.wt_context.specs.Nodes.{segments};
 ghost use Rattle.wt_context.specs.Styled.{with_styles};
+ghost use Rattle.wt_headings.specs.Headings.{heading};
 ghost use Rattle.wt_page.specs.Body.{meaning};
 ghost use Rattle.wt_page.specs.Rows.{rows};
 ghost use Rattle.wt_page.specs.Texts.{para};
-ghost use Rattle.wt_text_edit_laws.specs.ParagraphBetween.{EndsApart, EndsParagraph, blocks_in, body_with};
+ghost use Rattle.wt_text_edit_laws.specs.ParagraphBetween.{AreClosed, before_marks, EndsApart, EndsParagraph, blocks_in, body_with};
+ghost use Rattle.wt_text_edit_laws.specs.TypedHeadings.{Sides, AreSides, heading_line, IsOfLevel, IsHeadingInside, EndsLine};
 ghost use Rattle.wt_beside_laws.specs.Content.{AreKept};
 ghost use Rattle.wt_beside_laws.specs.Flat.{para_with};
-ghost use Rattle.wt_beside_laws.specs.Lines.{AreCharacters, line_items};
+ghost use Rattle.wt_beside_laws.specs.InHeadings.{KeepsLevel, heading_of};
+ghost use Rattle.wt_beside_laws.specs.Lines.{AreCharacters, line_items, content_lines};
 ghost use Rattle.wt_beside_laws.specs.Nests.{Nest, nest_segments, nest_parts, IsNest};
 ghost use Rattle.wt_beside_laws.specs.Nodes.{AreNodes, AllMeet};
+ghost use Rattle.wt_beside_laws.specs.PageBlocks.{AreShut};
 ghost use Rattle.wt_beside_laws.specs.PageSigns.{signs_of_lines, AreFlatLines};
 ghost use Rattle.wt_beside_laws.specs.SentStyled.{sent_content, AreStyledSent, AllNest, AllShow};
 ghost use Rattle.wt_beside_laws.specs.Shown.{parts_shown_at};
 ghost use Rattle.wt_beside_laws.specs.Styled.{StyledContent, signs_in, AreNested, IsStyledContent, styled_parts};
+ghost use Rattle.wt_beside_laws.specs.StyledHeadings.{IsStyledHeading};
 ghost use Rattle.wt_beside_laws.specs.StyledNodes.{AreAmong, AreUrlsApart};
 ghost use Rattle.wt_beside_laws.specs.StyledShown.{styled_shown};
 ghost use Rattle.wt_beside_laws.specs.Stood.{things};
@@ -72,19 +77,33 @@ pub fn texts_in_styles_are_shown()
         → parts_shown_at n before (styled_parts false s [] t []) rest ≡ styled_shown t rest }
 {}
 
-/// Between other lines of a page such a content is one paragraph of the body: the body's other children are those that what is before it
-/// and what is behind it make by themselves, whatever is typed in it.
-#[tactic(auto, using(crate::proofs::Styled::StyledParagraphs::styled_stands))]
+/// Between other lines of a page such a content is one paragraph of the body, or a heading: the body's other children are those that what is
+/// before it and what is behind it make by themselves, whatever is typed in it.
 pub fn texts_in_styles_stand_between_lines()
-    ensures { (before : List Item) (s : Setting) (t : StyledContent) (tail : List Item) → EndsApart before → IsStyledContent s t → EndsParagraph tail
+    ensures paragraph { (before : List Item) (s : Setting) (t : StyledContent) (tail : List Item) → EndsApart before → IsStyledContent s t → EndsParagraph tail
         → meaning (before ++ (page_items (spelled s (signs_in t)) ++ tail))
         ≡ body_with (blocks_in before ++ para_with (styled_parts false s [] t []) ∷ blocks_in tail) }
+    ensures heading { (before : List Item) (s : Setting) (t : StyledContent) (sides : Sides) (tail : List Item) → AreClosed (before_marks before)
+        → AreSides sides → IsStyledHeading s t → IsOfLevel sides (page_items (spelled s (signs_in t))) → EndsLine tail
+        → meaning (before ++ (heading_line sides (page_items (spelled s (signs_in t))) ++ tail))
+        ≡ body_with (blocks_in before ++ heading_of sides (styled_parts false s [] t []) ∷ blocks_in tail) }
+{}
+
+/// In a heading such a content, of which no line break is typed, is between the heading's delimiters, too: what is first and last in it is no
+/// blank, and where its level is that of its delimiters (`IsOfLevel`), these end where they should. The level stays whatever is typed, unless a
+/// bare URL that ends with a `=` is directly before the closing delimiter (`KeepsLevel`).
+pub fn texts_in_styles_may_be_in_headings()
+    ensures inside { (s : Setting) (t : StyledContent) → IsStyledHeading s t → IsHeadingInside (page_items (spelled s (signs_in t))) }
+    ensures level { (s : Setting) (t : StyledContent) (sides : Sides) → IsStyledHeading s t → AreSides sides → KeepsLevel sides (signs_in t)
+        → IsOfLevel sides (page_items (spelled s (signs_in t))) }
+    ensures heading { (s : Setting) (t : StyledContent) (sides : Sides) → IsStyledHeading s t → AreSides sides
+        → IsOfLevel sides (page_items (spelled s (signs_in t)))
+        → heading (heading_line sides (page_items (spelled s (signs_in t)))) ≡ heading_of sides (styled_parts false s [] t []) }
 {}
 
 /// A content with styles of the nodes of flat lines of a page (`AreFlatLines`), in their order, with any texts between them and styles round
 /// them, is one that is read sign by sign, if the source of each node stands whatever is written behind it. The delimiters, and the nowikis of
 /// empty styles, may be anywhere among these nodes (`AreAmong`), but not directly behind a bare URL where the page has them there.
-#[tactic(auto, using(crate::proofs::Styled::StyledNodes::styled_content))]
 pub fn nodes_of_the_page_stay_in_styles()
     ensures { (s : Setting) (ls : List (List Item)) (at : ℕ) (t : StyledContent) → s.within ≡ false → AreFlatLines ls → AreKept (signs_of_lines at ls)
         → AreCharacters (signs_in t) → AreNested false false t → AreAmong (things (signs_in t)) (things (signs_of_lines at ls))
@@ -98,4 +117,12 @@ pub fn contents_sent_with_styles_are_such()
     ensures signs { (p : Known) (pl : Where) (us : Trees) → AreStyledSent p us → signs_of_all p pl us ≡ signs_in (sent_content p us) }
     ensures nested { (p : Known) (us : Trees) → AllNest p false false us → AreNested false false (sent_content p us) }
     ensures shown { (p : Known) (us : Trees) (rest : Plains) → AreStyledSent p us → AllShow p us → styled_shown (sent_content p us) rest ≡ plains_before us rest }
+{}
+
+/// What is written for such a content is again lines of a page of which the content may be: its lines are flat (`AreFlatLines`), and the source of
+/// each of their nodes stands, where references and the nowikis that are put are nodes, too.
+pub fn contents_with_styles_are_such_again()
+    ensures lines { (s : Setting) (t : StyledContent) → IsStyledContent s t → AreFlatLines (content_lines s (signs_in t)) }
+    ensures kept { (at : ℕ) (s : Setting) (t : StyledContent) → IsStyledContent s t → AreKept (signs_of_lines at (content_lines s (signs_in t))) }
+    ensures shut { (at : ℕ) (s : Setting) (t : StyledContent) → IsStyledContent s t → AreShut (signs_in t) → AreShut (signs_of_lines at (content_lines s (signs_in t))) }
 {}

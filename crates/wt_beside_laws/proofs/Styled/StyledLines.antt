@@ -158,12 +158,12 @@ pub mark_glyphs : (kind : Bool) → map glyph_of (page_items (mark_source kind))
 mark_glyphs true = ap (map glyph_of) (mark_items true)
 mark_glyphs false = ap (map glyph_of) (mark_items false)
 
-no_form : (kind : Bool) → own_form in_line (byte_glyphs (mark_source kind)) ≡ None
+pub no_form : (kind : Bool) → own_form in_line (byte_glyphs (mark_source kind)) ≡ None
 unfolding form_at link_or_url link_at ext_link_at bare_url_at scheme_len tag_tile tag_at opening_tag closing_tag switch_at
 no_form true = refl
 no_form false = refl
 
-mark_length : (kind : Bool) → length (byte_glyphs (mark_source kind)) ≡ width kind
+pub mark_length : (kind : Bool) → length (byte_glyphs (mark_source kind)) ≡ width kind
 mark_length true = refl
 mark_length false = refl
 

@@ -175,14 +175,14 @@ meet_among (t ∷ n ∷ ts) ps a u m = elim a [
 pub styled_content : (s : Setting) (ls : List (List Item)) (at : ℕ) (t : StyledContent) → s.within ≡ false → AreFlatLines ls → AreKept (signs_of_lines at ls)
     → AreCharacters (signs_in t) → AreNested false false t → AreAmong (things (signs_in t)) (things (signs_of_lines at ls)) → AreUrlsApart (things (signs_in t))
     → IsStyledContent s t
-styled_content s ls at t block flat kept characters nested among apart =
+styled_content s ls at t block flat kept typed nested among apart =
     let olds : List ContentSign = signs_of_lines at ls in
     let signs : List ContentSign = signs_in t in
     let nodes : EachIsNode (things signs) = nodes_among (things signs) (things olds) among (each_node false olds (lines_stood at ls flat)) in
     let meets : EachMeets (things signs) = meet_among (things signs) (things olds) among apart (each_meets false at olds (lines_stood at ls flat) (lines_at at ls flat)) in
     record {
       of_block = block;
-      characters = characters;
+      characters = typed;
       kept = each_kept signs (each_among Kept put_kept (things signs) (things olds) among (kept_each olds kept));
       nodes = nodes_of signs nodes;
       unbroken = each_unbroken signs (each_among Unbroken put_unbroken (things signs) (things olds) among (lines_unbroken at ls flat));

@@ -43,7 +43,7 @@ later_parts s before (sign (thing x) t) = later_parts s (thing x ∷ before) t
 later_parts s before (styled kind opening closing inside t) = later_parts s (delimiter kind closing ∷ signs_past inside (delimiter kind opening ∷ before)) t
 
 -- none begins inside a style
-none_later : (s : Setting) (bold italic : Bool) (t : StyledContent) (before after : List ContentSign) → AreNested bold italic t → (bold || italic) ≡ true
+pub none_later : (s : Setting) (bold italic : Bool) (t : StyledContent) (before after : List ContentSign) → AreNested bold italic t → (bold || italic) ≡ true
     → later_lines s before (signs_before t after) ≡ later_lines s (signs_past t before) after
 none_later s bold italic finished before after k w = refl
 none_later s bold italic (sign (letter c) t) before after k w =
@@ -56,7 +56,7 @@ none_later s bold italic (styled kind opening closing inside t) before after k w
     none_later s (kind || bold) (not kind || italic) inside first (delimiter kind closing ∷ signs_before t after) k.1 (within_style kind bold italic)
     ∙ none_later s bold italic t (delimiter kind closing ∷ signs_past inside first) after k.2 w
 
-meet_behind : (s : Setting) (t : StyledContent) (before after : List ContentSign) → AllMeet s before (signs_before t after) [] → AllMeet s (signs_past t before) after []
+pub meet_behind : (s : Setting) (t : StyledContent) (before after : List ContentSign) → AllMeet s before (signs_before t after) [] → AllMeet s (signs_past t before) after []
 meet_behind s finished before after m = m
 meet_behind s (sign c t) before after m = meet_behind s t (c ∷ before) after m.1
 meet_behind s (styled kind opening closing inside t) before after m =
