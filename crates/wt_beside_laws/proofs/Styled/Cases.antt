@@ -10,11 +10,9 @@ use Rattle.wt_guards.specs.Content.{letter}
 use Rattle.wt_guards.specs.Guards.{Setting, nowiki, spelled, is_guarded, is_between_guard, is_parted, is_start_guard, is_end_guard, is_blank_guard}
 use Rattle.wt_guards.specs.Letters.{is_escaped, reference}
 use Rattle.wt_guards.specs.Table.{hazard, line_start_hazard}
-use Rattle.wt_inline.specs.declared.loose.Loose.TheVariants.{Text}
-use Rattle.wt_inline.specs.Parts.{parts}
 use Rattle.wt_context.specs.Segments.{loose_segment}
 use Rattle.wt_span.specs.Items.{char}
-use Rattle.wt_beside_laws.specs.Nests.{Nest, stretch, enclosing, IsNest, nest_segments, nest_parts}
+use Rattle.wt_beside_laws.specs.Nests.{stretch, enclosing, IsNest}
 use Rattle.wt_beside_laws.specs.Styled.{StyledContent, finished, sign, styled, signs_in, AreNested}
 use Rattle.wt_beside_laws.specs.StyledShown.{styled_shown}
 

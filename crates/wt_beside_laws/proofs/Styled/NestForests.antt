@@ -1,6 +1,6 @@
 -- Segments among which styles nest are read as these styles, each a node round what is inside it.
-use Rattle.std.proofs.Common.{arith, ◌≡◌, ℕ, zero, suc, ◌+◌, ◌-◌, ◌<◌, ◌≤◌, Bool, true, false, List, [], ◌∷◌, ◌++◌, length, take, drop, refl, sym, ap, ◌∙◌, subst, append_assoc, length-append, drop-drop}
-use Rattle.std.specs.Prelude.{◌&&◌, if◌then◌else◌, nat_le}
+use Rattle.std.proofs.Common.{arith, ◌≡◌, ℕ, ◌+◌, ◌-◌, ◌<◌, ◌≤◌, Bool, true, false, List, [], ◌∷◌, ◌++◌, length, take, drop, refl, sym, ap, ◌∙◌, subst, append_assoc, length-append, drop-drop}
+use Rattle.std.specs.Prelude.{if◌then◌else◌, nat_le}
 use Rattle.wt_span.specs.Items.{Item}
 use Rattle.wt_quotes.specs.declared.style.Style.{Style}
 use Rattle.wt_quotes.specs.Forest.{Forest, bare, grown, lies_in, inside_of, past, forest_of}
@@ -9,7 +9,6 @@ use Rattle.wt_quotes.proofs.Counting.{and_false, le_yes, le_no}
 use Rattle.wt_inline.specs.ItemTree.{plain, inner, forest}
 use Rattle.wt_inline.specs.Parts.{Part, node, children}
 use Rattle.wt_context.specs.Segments.{Segment, segment_items, segment_parts}
-use Rattle.wt_context.specs.Chunks.{chunks}
 use Rattle.wt_context.specs.Styled.{style_kind, between, styled, with_styles}
 use Rattle.wt_context.proofs.Quoting.{and_both}
 use Rattle.wt_beside_laws.specs.Nests.{Nest, stretch, enclosing, marks, mark_segments, nest_segments, nest_parts, IsNest}

@@ -1,5 +1,5 @@
 -- The signs of what is sent of a content with styles are those of such a content, whose styles nest, and which shows what was sent.
-use Rattle.std.proofs.Common.{arith, ◌≡◌, ℕ, ◌==◌, Bool, true, false, not, Option, Some, None, List, [], ◌∷◌, ◌++◌, map, refl, sym, ap, ◌∙◌, subst, append_assoc, append-nil}
+use Rattle.std.proofs.Common.{◌≡◌, ℕ, ◌==◌, Bool, true, false, Option, Some, None, List, [], ◌∷◌, ◌++◌, map, refl, sym, ap, ◌∙◌, subst, append_assoc}
 use Rattle.std.specs.Prelude.{◌||◌, if◌then◌else◌, encode_utf8}
 use Rattle.std.specs.List.{flat_map, list_any}
 use Rattle.std.specs.Str.{IsUtf8, chars}
@@ -17,12 +17,12 @@ use Rattle.wt_tree.specs.Source.{flat}
 use Rattle.wt_tree.specs.Tree.{Label, Tree, tree, Trees, none, more}
 use Rattle.wt_span.specs.declared.form.ItemForm.TheVariants as form
 use Rattle.wt_span.specs.Items.{Item, whole}
-use Rattle.wt_guards.specs.Content.{ContentSign, letter, thing, letters}
+use Rattle.wt_guards.specs.Content.{ContentSign, letter, letters}
 use Rattle.wt_guards.specs.Guards.{nowiki}
 use Rattle.wt_original.specs.Kept.{Kept, kept_with}
 use Rattle.wt_original.specs.Page.{Page}
 use Rattle.wt_expand.specs.PageItems.{page_items}
-use Rattle.wt_link_spelling.specs.Spelling.{kept_thing, opening_place, closing_place, toggle, as_it_stood, unless_kept, anew_by, or_nowiki as signs_or_nowiki, style, signs_by, signs_of, signs_of_all}
+use Rattle.wt_link_spelling.specs.Spelling.{kept_thing, opening_place, closing_place, as_it_stood, unless_kept, anew_by, or_nowiki as signs_or_nowiki, style, signs_by, signs_of, signs_of_all}
 use Rattle.wt_inline.specs.declared.loose.Loose.TheVariants.{Text}
 use Rattle.wt_inline.specs.Parts.{Part, parts}
 use Rattle.wt_tiles.specs.Links.{leaf}
@@ -31,7 +31,6 @@ use Rattle.wt_tiles.specs.declared.shape.TileKind.TheVariants as tile
 use Rattle.wt_context.specs.Segments.{loose_segment, loose_segments}
 use Rattle.wt_context.specs.Line.{line_parts}
 use Rattle.wt_context.proofs.PlainNodes.{text_parts}
-use Rattle.wt_beside_laws.specs.Content.{guard_items}
 use Rattle.wt_beside_laws.specs.SentNodes.{IsUnchanged}
 use Rattle.wt_beside_laws.specs.SentStyled.{text_then, found_then, or_nowiki, sent_by, sent_before, sent_content, IsStyledBy, IsStyledSent, AreStyledSent, KeptIsFlat, NestsBy, Nests, AllNest, style_face, ShowsBy, Shows, AllShow}
 use Rattle.wt_beside_laws.specs.Shown.{parts_shown_at}
@@ -134,9 +133,10 @@ found_nested bold italic (Some x) t f k = (f, k)
 text_nested : (bold italic : Bool) (cs : List ℕ) (t : StyledContent) → ((bold || italic) ≡ true → list_any (λ c. c == 10) cs ≡ false) → AreNested bold italic t
     → AreNested bold italic (text_then cs t)
 text_nested bold italic [] t f k = k
-text_nested bold italic (c ∷ cs) t f k =
-    ((λ e. (or_both (c == 10) (list_any (λ d. d == 10) cs) (f e)).0),
-    text_nested bold italic cs t (λ e. (or_both (c == 10) (list_any (λ d. d == 10) cs) (f e)).1) k)
+text_nested bold italic (c ∷ cs) t f k = (
+  (λ e. (or_both (c == 10) (list_any (λ d. d == 10) cs) (f e)).0),
+  text_nested bold italic cs t (λ e. (or_both (c == 10) (list_any (λ d. d == 10) cs) (f e)).1) k,
+)
 
 one_nested : (w : InlineForm) (p : Page) (bold italic : Bool) (l : Label) (k : Option Kept) (held t : StyledContent) (f : Bool → Bool → Type 0) → k ≡ kept_with l.id p.kept
     → NestsBy w p bold italic l f → ((b i : Bool) → f b i → AreNested b i held) → AreNested bold italic t → AreNested bold italic (sent_by w k l held t)

@@ -1,5 +1,5 @@
 -- A line of a content with styles, sign by sign, as segments among which styles nest.
-use Rattle.std.proofs.Common.{arith, ◌≡◌, ℕ, suc, ◌+◌, ◌<◌, ◌≤◌, ◌==◌, Bool, true, false, not, Option, Some, None, List, [], ◌∷◌, ◌++◌, length, map, refl, sym, ap, ◌∙◌, subst, append-nil, inl, inr, ◌⊎◌, All}
+use Rattle.std.proofs.Common.{arith, ◌≡◌, ℕ, suc, ◌+◌, ◌<◌, ◌≤◌, ◌==◌, Bool, true, false, not, Option, None, List, [], ◌∷◌, ◌++◌, length, map, refl, sym, ap, ◌∙◌, subst, append-nil, inl, inr, All}
 use Rattle.std.specs.Prelude.{◌&&◌, ◌||◌, if◌then◌else◌, encode_utf8}
 use Rattle.std.proofs.lemmas.Bool.{cases_lt}
 use Rattle.std.proofs.lemmas.Bool.Decides.{nat_tests}
@@ -11,7 +11,6 @@ use Rattle.wt_names.proofs.Ascii.{IsWide, encode_wide, encode_some}
 use Rattle.wt_quotes.specs.Styles.{width}
 use Rattle.wt_quotes.specs.Toggles.{is_odd, toggles_of}
 use Rattle.wt_quotes.specs.Turns.{is_of}
-use Rattle.wt_guards.specs.declared.role.Stretch.{Stretch}
 use Rattle.wt_guards.specs.Content.{ContentSign, Thing, letter, thing}
 use Rattle.wt_guards.specs.Guards.{Setting, nowiki, is_guarded}
 use Rattle.wt_guards.specs.Letters.{is_escaped, reference}
@@ -27,7 +26,7 @@ use Rattle.wt_tiles.specs.Links.{leaf, link_at}
 use Rattle.wt_tiles.specs.Tags.{opening_tag, closing_tag, tag_at}
 use Rattle.wt_tiles.specs.Tiles.{size, Cut, tag_tile, switch_at, link_or_url, form_at}
 use Rattle.wt_tiles.specs.Urls.{scheme_len, ext_link_at, bare_url_at}
-use Rattle.wt_context.specs.Segments.{Segment, is_quote, loose_segment, loose_segments, segment_parts}
+use Rattle.wt_context.specs.Segments.{Segment, is_quote, loose_segment, loose_segments}
 use Rattle.wt_context.specs.Chunks.{begins_with_quote, chunks}
 use Rattle.wt_context.specs.Line.{context_parts, line_parts}
 use Rattle.wt_context.specs.Nodes.{segments}
@@ -38,7 +37,7 @@ use Rattle.wt_beside_laws.specs.Content.{guard_items, letter_items}
 use Rattle.wt_beside_laws.specs.Cuts.{add_chars, add_tile, own_glyphs, own_form, add_node, guard_cut, letter_cut}
 use Rattle.wt_beside_laws.specs.Flat.{IsFlat}
 use Rattle.wt_beside_laws.specs.Lines.{line_items}
-use Rattle.wt_beside_laws.specs.Nests.{Nest, quote, marks, mark_segments, nest_segments, style_tree}
+use Rattle.wt_beside_laws.specs.Nests.{quote, marks, mark_segments, nest_segments, style_tree}
 use Rattle.wt_beside_laws.specs.Nodes.{IsNode, AreNodes, AllMeet}
 use Rattle.wt_beside_laws.specs.Styled.{StyledContent, finished, sign, styled, mark_source, delimiter, signs_before, signs_past, AreNested, styled_parts}
 use Rattle.wt_beside_laws.proofs.Firm.{alone_as, firm_read}

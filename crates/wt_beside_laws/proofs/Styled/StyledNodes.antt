@@ -1,5 +1,5 @@
 -- A content with styles of the nodes of flat lines of a page, with any texts, is one that is read sign by sign.
-use Rattle.std.proofs.Common.{◌≡◌, ℕ, Bool, true, false, List, [], ◌∷◌, ◌++◌, map, refl, sym, ap, ◌∙◌, subst, inl, inr, ◌⊎◌}
+use Rattle.std.proofs.Common.{◌≡◌, ℕ, Bool, true, false, List, [], ◌∷◌, map, refl, sym, ap, ◌∙◌, subst, inl, inr}
 use Rattle.std.specs.Prelude.{None}
 use Rattle.wt_span.specs.declared.form.ItemForm.TheVariants as form
 use Rattle.wt_span.specs.Items.{Item, whole}
@@ -109,13 +109,13 @@ mark_last false = refl
 put_meets : (t n : Thing) → IsPut t → Meet t n
 put_meets t n p = elim p [
   | inl m ↦ (
-      subst (λ (r : Role). MayFollow r (own_glyphs n)) (sym m.1) (follows_none (own_glyphs n) Toggle (λ g. tt)),
-      lead_free n.role (ends_word false (own_glyphs t)) (ap (ends_word false) (own_mark t m.0 m.2) ∙ mark_last m.0),
-    )
+    subst (λ (r : Role). MayFollow r (own_glyphs n)) (sym m.1) (follows_none (own_glyphs n) Toggle (λ g. tt)),
+    lead_free n.role (ends_word false (own_glyphs t)) (ap (ends_word false) (own_mark t m.0 m.2) ∙ mark_last m.0),
+  )
   | inr w ↦ (
-      subst (λ (r : Role). MayFollow r (own_glyphs n)) (sym w.0) (follows_none (own_glyphs n) Node (λ g. tt)),
-      lead_free n.role (ends_word false (own_glyphs t)) (ap (ends_word false) (own_nowiki t w.1)),
-    )
+    subst (λ (r : Role). MayFollow r (own_glyphs n)) (sym w.0) (follows_none (own_glyphs n) Node (λ g. tt)),
+    lead_free n.role (ends_word false (own_glyphs t)) (ap (ends_word false) (own_nowiki t w.1)),
+  )
 ]
 
 link_marked : (kind : Bool) → MayFollow Link (byte_glyphs (mark_source kind))
@@ -140,13 +140,13 @@ before_mark Node s own kind adjacent e i u z = follows_none own Node (λ g. tt)
 meets_put : (t n : Thing) → IsPut n → IsUrlApart t.role n.role (is_adjacent t n) → is_adjacent t n ≡ true → Meet t n
 meets_put t n p u z = elim p [
   | inl m ↦ (
-      before_mark t.role n.role (own_glyphs n) m.0 (is_adjacent t n) m.1 (own_mark n m.0 m.2) u z,
-      subst (λ (r : Role). MayLead r (ends_word false (own_glyphs t))) (sym m.1) tt,
-    )
+    before_mark t.role n.role (own_glyphs n) m.0 (is_adjacent t n) m.1 (own_mark n m.0 m.2) u z,
+    subst (λ (r : Role). MayLead r (ends_word false (own_glyphs t))) (sym m.1) tt,
+  )
   | inr w ↦ (
-      subst (MayFollow t.role) (sym (own_nowiki n w.1)) (atom_may t.role),
-      subst (λ (r : Role). MayLead r (ends_word false (own_glyphs t))) (sym w.0) tt,
-    )
+    subst (MayFollow t.role) (sym (own_nowiki n w.1)) (atom_may t.role),
+    subst (λ (r : Role). MayLead r (ends_word false (own_glyphs t))) (sym w.0) tt,
+  )
 ]
 
 later_meet : (t : Thing) (ts : List Thing) → EachMeets (t ∷ ts) → EachMeets ts

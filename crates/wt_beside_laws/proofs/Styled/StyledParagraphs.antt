@@ -30,7 +30,7 @@ use Rattle.wt_beside_laws.proofs.LineItems.{content_lines_are}
 use Rattle.wt_beside_laws.proofs.LineKinds.{lines_are_text}
 use Rattle.wt_beside_laws.proofs.LineParagraphs.{front_all, rest_all, no_end, rows_text, para_by, body_of, body_by}
 use Rattle.wt_beside_laws.proofs.LineRows.{OwnBreaks, rows_parts, content_own, later_by, both_by, break_parts}
-use Rattle.wt_beside_laws.proofs.LineStands.{ContentLines, lines_by, stands_so}
+use Rattle.wt_beside_laws.proofs.LineStands.{lines_by, stands_so}
 use Rattle.wt_beside_laws.proofs.Styled.StyledLines.{nodes_behind, within_style, styled_line}
 
 -- ---- the lines behind a place

@@ -1,5 +1,5 @@
 -- A content with styles shows its texts and its nodes, with bold and italic round them.
-use Rattle.std.proofs.Common.{◌≡◌, ℕ, Bool, true, false, not, None, List, [], ◌∷◌, ◌++◌, refl, sym, ap, ◌∙◌, append-nil}
+use Rattle.std.proofs.Common.{◌≡◌, ℕ, Bool, true, false, not, None, List, [], ◌∷◌, ◌++◌, sym, ap, ◌∙◌, append-nil}
 use Rattle.std.specs.Prelude.{◌||◌, encode_utf8}
 use Rattle.wt_tree.specs.Plain.{Plains, ended, along, element, text_before, plain_before}
 use Rattle.wt_span.specs.Items.{Item}
