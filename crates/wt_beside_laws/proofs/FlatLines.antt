@@ -13,9 +13,8 @@ use Rattle.wt_page.specs.Texts.{para_parts}
 use Rattle.wt_page.specs.Body.{within, blocks, meaning}
 use Rattle.wt_text_edit_laws.specs.ParagraphBetween.{body_with}
 use Rattle.wt_text_edit_laws.proofs.Texts.PlainRows.{text_row}
-use Rattle.wt_beside_laws.specs.Flat.{para_with}
+use Rattle.wt_text_edit_laws.specs.ParagraphParts.{para_with, joined_parts}
 use Rattle.wt_beside_laws.specs.Lines.{IsLineOfText, AreLinesOfText}
-use Rattle.wt_beside_laws.specs.PageBlocks.{joined_parts}
 use Rattle.wt_beside_laws.proofs.LineParagraphs.{front_all, rest_all, no_end, rows_text, para_by, body_of, body_by}
 use Rattle.wt_beside_laws.proofs.LineRows.{OwnBreaks, chars_own, row_parts}
 

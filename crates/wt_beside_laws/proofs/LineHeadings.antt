@@ -72,7 +72,7 @@ same_items s before (letter c ∷ after) o =
 same_items s before (thing t ∷ after) o =
     ap (λ xs. guard_items (is_guarded s before (thing t ∷ after)) ++ (page_items t.source ++ xs)) (same_items s (thing t ∷ before) after o)
 
-same_parts : (s : Setting) (before signs : List ContentSign) → AreOnOneLine signs → line_content s before signs ≡ content_parts s before signs
+pub same_parts : (s : Setting) (before signs : List ContentSign) → AreOnOneLine signs → line_content s before signs ≡ content_parts s before signs
 same_parts s before [] o = refl
 same_parts s before (letter c ∷ after) o =
     let guard : List Part = parts Text (guard_items (is_guarded s before (letter c ∷ after))) in
@@ -96,7 +96,7 @@ begins_seen (x ∷ xs) h = neither (sign x) h
 abbrev SeenLast : List Item → Type 0
 SeenLast xs = EndsWithout is_blank (map sign xs)
 
-ends_behind : (q : ℕ → Bool) (xs ys : List Item) → EndsWithout q (map sign ys) → EndsWithout q (map sign (xs ++ ys))
+pub ends_behind : (q : ℕ → Bool) (xs ys : List Item) → EndsWithout q (map sign ys) → EndsWithout q (map sign (xs ++ ys))
 ends_behind q [] ys h = h
 ends_behind q (x ∷ []) [] h = absurd h
 ends_behind q (x ∷ []) (y ∷ ys) h = h
@@ -161,7 +161,7 @@ heading_inside s signs h =
 
 -- ---- its level
 
-abbrev UnequalLast : List Item → Type 0
+abbrev pub UnequalLast : List Item → Type 0
 UnequalLast xs = EndsWithout is_equals_sign (map sign xs)
 
 wide_unequal : (bs : List ℕ) → All IsWide bs → 0 < length bs → UnequalLast (page_chars bs)
@@ -172,14 +172,14 @@ wide_unequal (b ∷ []) h some = not_equals b (All-head IsWide b [] h)
     not_equals b le = grind (arith, nat_tests)
 wide_unequal (b ∷ c ∷ bs) h some = wide_unequal (c ∷ bs) (All-tail IsWide b (c ∷ bs) h) (omega arith)
 
-letter_unequal : (e : Bool) (c : ℕ) → (e ≡ false → is_equals_sign c ≡ false) → UnequalLast (letter_items e c)
+pub letter_unequal : (e : Bool) (c : ℕ) → (e ≡ false → is_equals_sign c ≡ false) → UnequalLast (letter_items e c)
 letter_unequal true c f = refl
 letter_unequal false c f = elim (cases_lt c 128) [
   | inl small ↦ subst (λ bs. UnequalLast (page_chars bs)) (sym (encode_ascii c small)) (f refl)
   | inr wide ↦ wide_unequal (encode_utf8 c) (encode_wide c wide) (encode_some c)
 ]
 
-end_unequal : (u : Bool) (own : List Item) → UnequalLast own → UnequalLast (own ++ guard_items u)
+pub end_unequal : (u : Bool) (own : List Item) → UnequalLast own → UnequalLast (own ++ guard_items u)
 end_unequal true own h = ends_behind is_equals_sign own (guard_items true) refl
 end_unequal false own h = subst UnequalLast (sym (append-nil own)) h
 
@@ -210,12 +210,12 @@ all_unequal : (s : Setting) (signs : List ContentSign) → s.within ≡ false �
 all_unequal s [] w n e = subst (λ (u : Bool). UnequalLast (guard_items u)) (sym (end_guarded s [] w refl)) refl
 all_unequal s (next ∷ after) w n e = content_unequal s [] next after n e
 
-begins_unequal : (xs : List Item) → Opens xs → BeginsWithout is_equals_sign (map sign xs)
+pub begins_unequal : (xs : List Item) → Opens xs → BeginsWithout is_equals_sign (map sign xs)
 begins_unequal [] h = h
 begins_unequal (x ∷ xs) h = grind (arith, nat_tests, h.equals)
 
 -- a blank parts them, or the content ends so
-unequal_end : (ss trail : List ℕ) → AreBlanks trail → IsSome trail ⊎ EndsWithout is_equals_sign ss → EndsWithout is_equals_sign (ss ++ trail)
+pub unequal_end : (ss trail : List ℕ) → AreBlanks trail → IsSome trail ⊎ EndsWithout is_equals_sign ss → EndsWithout is_equals_sign (ss ++ trail)
 unequal_end ss [] a (inl h) = absurd h
 unequal_end ss [] a (inr h) = ends_other ss [] a h
 unequal_end ss (b ∷ bs) a h = ends_still ss b bs (ends_blank b bs a)

@@ -25,7 +25,8 @@ use Rattle.wt_page.specs.Texts.{para_parts, para}
 use Rattle.wt_page.specs.Body.{within, blocks, meaning}
 use Rattle.wt_text_edit_laws.specs.ParagraphBetween.{body_with}
 use Rattle.wt_text_edit_laws.proofs.Texts.PlainRows.{text_row, within_are}
-use Rattle.wt_beside_laws.specs.Flat.{IsFlatContent, content_parts, para_with}
+use Rattle.wt_beside_laws.specs.Flat.{IsFlatContent, content_parts}
+use Rattle.wt_text_edit_laws.specs.ParagraphParts.{para_with}
 use Rattle.wt_beside_laws.specs.Lines.{IsLineOfText, line_items, later_lines}
 use Rattle.wt_beside_laws.proofs.Contents.{content_alone}
 use Rattle.wt_beside_laws.proofs.LineItems.{content_lines_are}
@@ -68,7 +69,7 @@ first_unmarked x xs ys e = by (is_mark x) e
     by true k = absurd (omega (arith, k))
     by false k = refl
 
-unmarked : (n : ℕ) (l : List Item) → IsLineOfText n (content l) → marks_len l ≡ 0
+pub unmarked : (n : ℕ) (l : List Item) → IsLineOfText n (content l) → marks_len l ≡ 0
 unmarked n [] h = refl
 unmarked n (x ∷ []) h = by (is_break_item x) h
   where

@@ -23,7 +23,7 @@ use Rattle.wt_beside_laws.specs.Content.{guard_items, letter_items, content_item
 use Rattle.wt_beside_laws.specs.Flat.{AreFlat, content_parts, line_content}
 use Rattle.wt_beside_laws.specs.Lines.{AreUnbroken, line_items, later_lines}
 use Rattle.wt_beside_laws.specs.Nodes.{AreNodes, AllMeet}
-use Rattle.wt_beside_laws.specs.PageBlocks.{after_breaks, joined_parts}
+use Rattle.wt_text_edit_laws.specs.ParagraphParts.{after_breaks, joined_parts}
 use Rattle.wt_beside_laws.proofs.LineItems.{break_items}
 use Rattle.wt_beside_laws.proofs.LineParts.{line_parts_are}
 

@@ -27,7 +27,8 @@ use Rattle.wt_text_edit_laws.proofs.Paragraphs.Standing.{parts_in, parts_before,
 use Rattle.wt_text_edit_laws.proofs.Prose.ProseLines.{ended, first_ended, rest_ended, ended_runs, content_ended}
 use Rattle.wt_text_edit_laws.proofs.Prose.ProseBlocks.{para_ended, last_ended, last_unended}
 use Rattle.wt_text_edit_laws.proofs.Texts.PlainRows.{text_row, within_are, last_break}
-use Rattle.wt_beside_laws.specs.Flat.{IsFlatContent, content_parts, para_with}
+use Rattle.wt_beside_laws.specs.Flat.{IsFlatContent, content_parts}
+use Rattle.wt_text_edit_laws.specs.ParagraphParts.{para_with}
 use Rattle.wt_beside_laws.specs.InHeadings.{IsHeadingContent, heading_of}
 use Rattle.wt_beside_laws.specs.Lines.{IsLineOfText}
 use Rattle.wt_beside_laws.proofs.LineHeadings.{heading_inside, heading_parts}

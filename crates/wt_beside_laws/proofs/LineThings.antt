@@ -45,7 +45,8 @@ use Rattle.wt_context.proofs.NestedContexts.{contexts_are}
 use Rattle.wt_context.proofs.TileHolding.{OptHolds, tile_holds}
 use Rattle.wt_context.proofs.TilePlaces.{MayStand, IsPlaced, tiles_placed}
 use Rattle.wt_beside_laws.specs.Nodes.{IsBareNode, IsNode, AreNodes}
-use Rattle.wt_beside_laws.specs.PageBlocks.{joined_parts, AreUnstyled}
+use Rattle.wt_beside_laws.specs.PageBlocks.{AreUnstyled}
+use Rattle.wt_text_edit_laws.specs.ParagraphParts.{joined_parts}
 use Rattle.wt_beside_laws.specs.PageSigns.{form_role, tile_role, form_sign, tile_signs, signs_of_tiles, line_signs, signs_of_lines, IsFlatForm, IsFlatTile, AreFlatTiles, AreFlatLines}
 use Rattle.wt_beside_laws.specs.Stood.{things}
 use Rattle.wt_beside_laws.proofs.FormKinds.{IsNodeKind, form_is_node}

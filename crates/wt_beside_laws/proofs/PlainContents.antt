@@ -19,7 +19,8 @@ use Rattle.wt_context.specs.Line.{line_parts}
 use Rattle.wt_text_edit_laws.specs.LonePages.{page_chars}
 use Rattle.wt_beside_laws.specs.Content.{guard_items, letter_items}
 use Rattle.wt_beside_laws.specs.Flat.{content_parts}
-use Rattle.wt_beside_laws.specs.PageBlocks.{joined_parts, AreUnstyled}
+use Rattle.wt_beside_laws.specs.PageBlocks.{AreUnstyled}
+use Rattle.wt_text_edit_laws.specs.ParagraphParts.{joined_parts}
 use Rattle.wt_beside_laws.specs.PageSigns.{signs_of_lines, AreFlatLines}
 use Rattle.wt_beside_laws.specs.Stood.{things}
 use Rattle.wt_beside_laws.proofs.LineThings.{lines_have}

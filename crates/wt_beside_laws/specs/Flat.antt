@@ -1,7 +1,6 @@
 -- A content without styles: what it is as the parts of a paragraph or a heading, of each sign by itself.
 use Rattle.std.specs.Prelude.{◌≡◌, ◌==◌, false, List, [], ◌∷◌, ◌++◌, if◌then◌else◌}
 use Rattle.wt_span.specs.Characters as byte
-use Rattle.wt_tree.specs.declared.kind.Kind.TheVariants as kind
 use Rattle.wt_guards.specs.declared.role.Role.{Role}
 use Rattle.wt_guards.specs.declared.role.Role.TheVariants.{Link, External, Bare, Switch, Toggle, Mark, Group, Function, Node}
 use Rattle.wt_guards.specs.Content.{ContentSign, letter, thing}
@@ -9,8 +8,7 @@ use Rattle.wt_guards.specs.Guards.{Setting, is_guarded}
 use Rattle.wt_guards.specs.Letters.{is_escaped}
 use Rattle.wt_expand.specs.PageItems.{page_items}
 use Rattle.wt_inline.specs.declared.loose.Loose.TheVariants.{Text}
-use Rattle.wt_inline.specs.ItemTree.{plain, ItemTree, inner, forest}
-use Rattle.wt_inline.specs.Parts.{Part, parts, children}
+use Rattle.wt_inline.specs.Parts.{Part, parts}
 use Rattle.wt_context.specs.Line.{line_parts}
 use Rattle.wt_beside_laws.specs.Content.{AreKept, guard_items, letter_items}
 use Rattle.wt_beside_laws.specs.Lines.{AreCharacters, AreUnbroken}
@@ -63,7 +61,3 @@ line_content s before (letter c ∷ after) =
     ++ (if c == byte.line_break then [] else parts Text (letter_items (is_escaped s.within s.place before c after) c) ++ line_content s (letter c ∷ before) after)
 line_content s before (thing t ∷ after) =
     parts Text (guard_items (is_guarded s before (thing t ∷ after))) ++ (line_parts (page_items t.source) ++ line_content s (thing t ∷ before) after)
-
--- a paragraph with these parts
-abbrev pub para_with : List Part → ItemTree
-para_with ps = inner (plain kind.Para) [] (forest (children ps)) []

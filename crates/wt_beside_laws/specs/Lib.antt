@@ -17,6 +17,8 @@ pub mod Beginnings
 pub mod SentPieces
 pub mod Calm
 pub mod FlatPages
+pub mod FlatBlocks
+pub mod ContentEdits
 pub mod Nests
 pub mod Styled
 pub mod StyledShown

@@ -1,37 +1,22 @@
 -- A paragraph or a heading of the page by its lines.
-use Rattle.std.specs.Prelude.{◌≡◌, ℕ, ◌<◌, false, None, List, [], ◌∷◌, ◌++◌}
-use Rattle.wt_span.specs.Characters as byte
-use Rattle.wt_span.specs.Items.{Item, char}
+use Rattle.std.specs.Prelude.{◌≡◌, ℕ, ◌<◌, false, List, [], ◌∷◌}
+use Rattle.wt_span.specs.Items.{Item}
 use Rattle.wt_tree.specs.Tiling.{HasNoGroup}
 use Rattle.wt_tree.specs.EditShapes.{edit_shape}
 use Rattle.wt_tree.specs.Tree.{Tree, Trees, none, more, label}
 use Rattle.wt_isolation.specs.OpenTags.{ends_open}
 use Rattle.wt_guards.specs.Content.{ContentSign, letter, thing}
 use Rattle.wt_tiles.specs.Contexts.{in_line}
-use Rattle.wt_inline.specs.declared.loose.Loose.TheVariants.{Text}
 use Rattle.wt_inline.specs.ItemTree.{plain, inner, forest}
-use Rattle.wt_inline.specs.Parts.{Part, parts, children}
-use Rattle.wt_context.specs.Line.{context_parts, line_parts}
+use Rattle.wt_inline.specs.Parts.{children}
+use Rattle.wt_context.specs.Line.{context_parts}
 use Rattle.wt_context.specs.Nodes.{segments}
 use Rattle.wt_context.specs.RunCuts.{has_run}
 use Rattle.wt_moved_laws.specs.Standing.{standing}
 use Rattle.wt_original.specs.Page.{Page}
 use Rattle.wt_typed_blocks.specs.Sent.{Block, kind_of}
+use Rattle.wt_text_edit_laws.specs.ParagraphParts.{joined_parts}
 use Rattle.wt_beside_laws.specs.SentPieces.{IsNodeForm, ShowsItsSource}
-
--- the line break between two lines
-abbrev pub break : Item
-break = char None byte.line_break
-
--- the parts of lines, with a line break before each
-abbrev pub after_breaks : List (List Item) → List Part
-after_breaks [] = []
-after_breaks (l ∷ ls) = parts Text (break ∷ []) ++ (line_parts l ++ after_breaks ls)
-
--- the same with one between each two
-abbrev pub joined_parts : List (List Item) → List Part
-joined_parts [] = []
-joined_parts (l ∷ ls) = line_parts l ++ after_breaks ls
 
 -- In no line two apostrophes are side by side, except in its forms: so no style begins there.
 abbrev pub AreUnstyled : List (List Item) → Type 0

@@ -1,5 +1,5 @@
 -- The nodes of the page in a content with styles, where delimiters and the nowikis of empty styles are among them.
-use Rattle.std.specs.Prelude.{◌≡◌, ◌⊎◌, Bool, false, List, [], ◌∷◌}
+use Rattle.std.specs.Prelude.{◌≡◌, ◌⊎◌, Bool, false, List, [], ◌∷◌, ◌++◌}
 use Rattle.wt_guards.specs.declared.role.Role.{Role}
 use Rattle.wt_guards.specs.declared.role.Role.TheVariants.{Link, External, Bare, Switch, Toggle, Mark, Group, Function, Node}
 use Rattle.wt_guards.specs.Content.{Thing}
@@ -10,10 +10,11 @@ use Rattle.wt_beside_laws.specs.Styled.{mark_source}
 abbrev pub IsPut : Thing → Type 0
 IsPut t = ((kind : Bool) × (t.role ≡ Toggle) × (t.source ≡ mark_source kind)) ⊎ ((t.role ≡ Node) × (t.source ≡ nowiki))
 
--- the first have the second among them, in their order, and others that are put
-abbrev pub AreAmong : List Thing → List Thing → Type 0
-AreAmong [] ps = ps ≡ []
-AreAmong (t ∷ ts) ps = (IsPut t × AreAmong ts ps) ⊎ ((qs : List Thing) × (ps ≡ t ∷ qs) × AreAmong ts qs)
+-- the first are some of the second, in their order, and others that are put
+abbrev pub AreSomeAndPut : List Thing → List Thing → Type 0
+AreSomeAndPut [] ps = Unit {0}
+AreSomeAndPut (t ∷ ts) ps =
+    (IsPut t × AreSomeAndPut ts ps) ⊎ ((gone : List Thing) × (later : List Thing) × (ps ≡ gone ++ t ∷ later) × AreSomeAndPut ts later)
 
 -- what is behind a bare URL, which may be directly behind it in the page, is no delimiter
 abbrev pub MayEndUrl : Role → Bool → Type 0

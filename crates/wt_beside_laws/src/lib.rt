@@ -1,7 +1,7 @@
 //! Laws of texts that are typed beside nodes that stay: how such a content is read, and that edits which type them are done.
 #![tactic(auto)]
 
-ghost use Rattle.std.specs.Prelude.{◌≡◌, ◌≤◌, ℕ, ◌+◌, Bool, false, Some, None, List, [], ◌∷◌, ◌++◌, length, map, Option};
+ghost use Rattle.std.specs.Prelude.{◌≡◌, ◌≤◌, ◌<◌, ℕ, ◌+◌, Bool, false, Some, None, List, [], ◌∷◌, ◌++◌, length, map, Option};
 ghost use Rattle.wt_span.specs.Items.{Item};
 ghost use Rattle.wt_guards.specs.Content.{ContentSign};
 ghost use Rattle.wt_guards.specs.Guards.{Setting, spelled};
@@ -21,6 +21,7 @@ ghost use Rattle.wt_context.specs.Line.{line_parts};
 ghost use Rattle.wt_page.specs.Body.{meaning};
 ghost use Rattle.wt_page.specs.Rows.{rows};
 ghost use Rattle.wt_page.specs.Texts.{para};
+ghost use Rattle.wt_text_edit_laws.specs.ParagraphParts.{joined_parts, para_with};
 ghost use Rattle.wt_text_edit_laws.specs.ParagraphBetween.{AreClosed, before_marks, EndsApart, EndsParagraph, blocks_in, body_with};
 ghost use Rattle.wt_text_edit_laws.specs.TextBetween.{StandsBehind};
 ghost use Rattle.wt_tiles.specs.declared.glyph.Glyph.{Glyph as Sign};
@@ -33,7 +34,7 @@ ghost use Rattle.wt_tiles.specs.Urls.{scheme_len, ext_link_at, bare_url_at};
 ghost use Rattle.wt_beside_laws.specs.Beginnings.{IsApart};
 ghost use Rattle.wt_beside_laws.specs.Content.{AreKept, content_items};
 ghost use Rattle.wt_beside_laws.specs.Cuts.{IsFree, content_cut};
-ghost use Rattle.wt_beside_laws.specs.Flat.{AreFlat, IsFlatContent, content_parts, line_content, para_with};
+ghost use Rattle.wt_beside_laws.specs.Flat.{AreFlat, IsFlatContent, content_parts, line_content};
 ghost use Rattle.wt_beside_laws.specs.Glyphs.{content_glyphs, IsPast, AllAvoid};
 ghost use Rattle.wt_beside_laws.specs.InHeadings.{IsHeadingContent, KeepsLevel, heading_of};
 ghost use Rattle.wt_headings.specs.Headings.{heading};
@@ -51,7 +52,7 @@ ghost use Rattle.wt_tree.specs.declared.edit_shape.Place.{Place as Where};
 ghost use Rattle.wt_original.specs.Page.{Page as Known, page_of, TellsSame};
 ghost use Rattle.wt_link_spelling.specs.Spelling.{signs_of_all, children_of};
 ghost use Rattle.wt_beside_laws.specs.OwnSigns.{own_signs, IsFlatBlock};
-ghost use Rattle.wt_beside_laws.specs.PageBlocks.{joined_parts, AreUnstyled, AreShut, ShowSources, IsBlockOfLines};
+ghost use Rattle.wt_beside_laws.specs.PageBlocks.{AreUnstyled, AreShut, ShowSources, IsBlockOfLines};
 ghost use Rattle.wt_beside_laws.specs.SentNodes.{AreSent, numbers};
 ghost use Rattle.wt_beside_laws.specs.SentPieces.{OnlyTextsGo, TextsFit, PiecesShow};
 ghost use Rattle.wt_beside_laws.specs.Stood.{AreStood, AreAt, things};
@@ -61,6 +62,11 @@ ghost use Rattle.wt_schema.specs.Read.{page as as_page, read};
 ghost use Rattle.wt_commands.specs.UnmarkedEdits.{DoneByEdit};
 ghost use Rattle.wt_commands.specs.Answers.{done, edit_to};
 ghost use Rattle.wt_beside_laws.specs.FlatPages.{IsFlatPage, IsFlatEdit, sent_flat, new_flat, IsUnmarkedFlatEdit, bare_flat};
+ghost use Rattle.wt_moved_laws.specs.Standing.{standing};
+ghost use Rattle.wt_text_edit_laws.specs.Contents.{IsContent};
+ghost use Rattle.wt_text_edit_laws.specs.TextBlocks.{TextBlock, block_tree};
+ghost use Rattle.wt_beside_laws.specs.ContentEdits.{new_content, MakesContent};
+ghost use Rattle.wt_beside_laws.specs.FlatBlocks.{IsFlatIn, IsFlatEditOf};
 ghost use Rattle.wt_tiles.specs.declared.glyph.GlyphClass.TheVariants as class;
 
 mod styles;
@@ -325,4 +331,16 @@ pub fn flat_pages_take_texts_beside_nodes()
 /// references and nowikis that were put.
 pub fn flat_pages_are_such_again()
     ensures { (q : List ℕ) (ps : List Piece) → IsFlatPage q → IsFlatEdit q ps → IsFlatPage (new_flat q ps) }
+{}
+
+/// A paragraph or a heading of flat lines (`IsFlatIn`), wherever it is in a page, takes any texts beside its nodes, which stay
+/// (`IsFlatEditOf`); in a heading they are on one line. Its content is one that is read by itself (`IsContent`). What is sent for it is
+/// taken, what is written for it may stand in the place of the old content and shows what was sent (`MakesContent`), and it is such a
+/// block again.
+pub fn flat_contents_are_made()
+    ensures content { (k : TextBlock) (q : List ℕ) → IsFlatIn k q → IsContent k q }
+    ensures made { (k : TextBlock) (q : List ℕ) (n : ℕ) (before : List Item) (block : Block) (m : Label) (ps : List Piece) → IsFlatIn k q → 0 < n
+        → block ≡ standing n before (block_tree k q) → IsFlatEditOf k block ps → MakesContent k q block m ps }
+    ensures again { (k : TextBlock) (q : List ℕ) (n : ℕ) (before : List Item) (block : Block) (m : Label) (ps : List Piece) → IsFlatIn k q → 0 < n
+        → block ≡ standing n before (block_tree k q) → IsFlatEditOf k block ps → IsFlatIn k (new_content k block m ps) }
 {}

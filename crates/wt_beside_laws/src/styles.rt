@@ -21,9 +21,9 @@ ghost use Rattle.wt_page.specs.Body.{meaning};
 ghost use Rattle.wt_page.specs.Rows.{rows};
 ghost use Rattle.wt_page.specs.Texts.{para};
 ghost use Rattle.wt_text_edit_laws.specs.ParagraphBetween.{AreClosed, before_marks, EndsApart, EndsParagraph, blocks_in, body_with};
+ghost use Rattle.wt_text_edit_laws.specs.ParagraphParts.{para_with};
 ghost use Rattle.wt_text_edit_laws.specs.TypedHeadings.{Sides, AreSides, heading_line, IsOfLevel, IsHeadingInside, EndsLine};
 ghost use Rattle.wt_beside_laws.specs.Content.{AreKept};
-ghost use Rattle.wt_beside_laws.specs.Flat.{para_with};
 ghost use Rattle.wt_beside_laws.specs.InHeadings.{KeepsLevel, heading_of};
 ghost use Rattle.wt_beside_laws.specs.Lines.{AreCharacters, line_items, content_lines};
 ghost use Rattle.wt_beside_laws.specs.Nests.{Nest, nest_segments, nest_parts, IsNest};
@@ -34,7 +34,7 @@ ghost use Rattle.wt_beside_laws.specs.SentStyled.{sent_content, AreStyledSent, A
 ghost use Rattle.wt_beside_laws.specs.Shown.{parts_shown_at};
 ghost use Rattle.wt_beside_laws.specs.Styled.{StyledContent, signs_in, AreNested, IsStyledContent, styled_parts};
 ghost use Rattle.wt_beside_laws.specs.StyledHeadings.{IsStyledHeading};
-ghost use Rattle.wt_beside_laws.specs.StyledNodes.{AreAmong, AreUrlsApart};
+ghost use Rattle.wt_beside_laws.specs.StyledNodes.{AreSomeAndPut, AreUrlsApart};
 ghost use Rattle.wt_beside_laws.specs.StyledShown.{styled_shown};
 ghost use Rattle.wt_beside_laws.specs.Stood.{things};
 
@@ -101,12 +101,12 @@ pub fn texts_in_styles_may_be_in_headings()
         → heading (heading_line sides (page_items (spelled s (signs_in t)))) ≡ heading_of sides (styled_parts false s [] t []) }
 {}
 
-/// A content with styles of the nodes of flat lines of a page (`AreFlatLines`), in their order, with any texts between them and styles round
-/// them, is one that is read sign by sign, if the source of each node stands whatever is written behind it. The delimiters, and the nowikis of
-/// empty styles, may be anywhere among these nodes (`AreAmong`), but not directly behind a bare URL where the page has them there.
+/// A content with styles of nodes of flat lines of a page (`AreFlatLines`), any of them in their order, with any texts between them and styles
+/// round them, is one that is read sign by sign, if the source of each node stands whatever is written behind it. The delimiters, and the nowikis of
+/// empty styles, may be anywhere among these nodes (`AreSomeAndPut`), but not directly behind a bare URL where the page has them there.
 pub fn nodes_of_the_page_stay_in_styles()
     ensures { (s : Setting) (ls : List (List Item)) (at : ℕ) (t : StyledContent) → s.within ≡ false → AreFlatLines ls → AreKept (signs_of_lines at ls)
-        → AreCharacters (signs_in t) → AreNested false false t → AreAmong (things (signs_in t)) (things (signs_of_lines at ls))
+        → AreCharacters (signs_in t) → AreNested false false t → AreSomeAndPut (things (signs_in t)) (things (signs_of_lines at ls))
         → AreUrlsApart (things (signs_in t)) → IsStyledContent s t }
 {}
 

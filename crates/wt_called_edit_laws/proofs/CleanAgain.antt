@@ -1,11 +1,13 @@
--- With other texts the nodes round the blocks are as clean, so the page is of the class again.
+-- With other contents the nodes round the blocks are as clean, so the page is of the class again.
 use Rattle.std.proofs.Common.{◌≡◌, ◌⊎◌, inl, inr, ℕ, Option, None, List, [], ◌∷◌, sym, ◌∙◌, subst}
 use Rattle.wt_expand.specs.Work.{Pages}
 use Rattle.wt_inline.specs.ItemTree.{ItemTree, tree_items}
 use Rattle.wt_annotated.specs.Seams.{last_of, first_of}
 use Rattle.wt_row_laws.specs.Frames.{Frame, place, whole, around, Frames, no_frames, more_frames, tree_at, places_in, all_places, Part, content, IsFrame, AreFrames}
-use Rattle.wt_text_edit_laws.specs.BlockSpots.{BlockSpot, AreBlocks}
-use Rattle.wt_text_edit_laws.specs.TextBlocks.{TextBlock, IsTypedIn}
+use Rattle.wt_text_edit_laws.specs.BlockSpots.{BlockSpot, AreContents}
+use Rattle.wt_text_edit_laws.specs.TextBlocks.{TextBlock}
+use Rattle.wt_text_edit_laws.specs.Contents.{IsNewContent}
+use Rattle.wt_text_edit_laws.proofs.Blocks.Contents.{new_again}
 use Rattle.wt_called_edit_laws.specs.Retyped.{AreRetyped}
 use Rattle.wt_called_edit_laws.proofs.Parts.Retyped.{same_round, blocks_over, called_blocks}
 use Rattle.wt_called_trees.specs.Rounded.{AreOwn, IsClean, AreClean}
@@ -40,12 +42,14 @@ mutual
             (frames_clean t w fs part (last_of o (tree_items (tree_at t f))) p i.1 r.1 s.1 c.1),
       )
 
--- ---- texts that are typed after others
+-- ---- contents that are written after others
 
-text_after : (k : TextBlock) (was now last : List ℕ) → (now ≡ was) ⊎ IsTypedIn k now → (last ≡ now) ⊎ IsTypedIn k last → (last ≡ was) ⊎ IsTypedIn k last
-text_after k was now last o (inr t) = inr t
+text_after : (k : TextBlock) (was now last : List ℕ) → (now ≡ was) ⊎ IsNewContent k was now → (last ≡ now) ⊎ IsNewContent k now last
+    → (last ≡ was) ⊎ IsNewContent k was last
+text_after k was now last (inl e) (inr n) = inr (subst (λ bs. IsNewContent k bs last) e n)
+text_after k was now last (inr m) (inr n) = inr (new_again k was now last m n)
 text_after k was now last (inl e) (inl f) = inl (f ∙ e)
-text_after k was now last (inr t) (inl f) = inr (subst (IsTypedIn k) (sym f) t)
+text_after k was now last (inr m) (inl f) = inr (subst (IsNewContent k was) (sym f) m)
 
 retyped_after : (ss rs qs : List BlockSpot) → AreRetyped ss rs → AreRetyped rs qs → AreRetyped ss qs
 retyped_after [] [] qs h g = g
@@ -55,7 +59,7 @@ retyped_after (s ∷ ss) (r ∷ rs) [] h g = absurd g
 retyped_after (s ∷ ss) (r ∷ rs) (q ∷ qs) h g = (
   g.0 ∙ h.0,
   g.1 ∙ h.1,
-  text_after q.block s.text r.text q.text (subst (λ k. (r.text ≡ s.text) ⊎ IsTypedIn k r.text) (sym g.1) h.2) g.2,
+  text_after q.block s.text r.text q.text (subst (λ k. (r.text ≡ s.text) ⊎ IsNewContent k s.text r.text) (sym g.1) h.2) g.2,
   retyped_after ss rs qs h.3 g.3,
 )
 
@@ -64,7 +68,7 @@ retyped_after (s ∷ ss) (r ∷ rs) (q ∷ qs) h g = (
 pub outside_again : (pages : Pages) (ss rs : List BlockSpot) (behind : List ℕ) → AreOutsideGroups pages ss behind → AreRetyped ss rs → AreOutsideGroups pages rs behind
 outside_again pages ss rs behind h t =
     let f : StandAmongCalls pages ss behind = h.stand in
-    let blocks : AreBlocks ss = called_blocks ss behind h.among.called in
+    let blocks : AreContents ss = called_blocks ss behind h.among.called in
     let same : counted rs ≡ counted ss = counted_same ss rs (same_round ss rs t) in
     let was : AreOwn (tree_by ss) (all_places f.frames) = subst (AreOwn (tree_by ss)) (sym f.in_order) (counted_own ss blocks) in
     let now : AreOwn (tree_by rs) (all_places f.frames) =

@@ -20,7 +20,7 @@ use Rattle.wt_moved_laws.proofs.Placeless.{all_shown_placeless}
 use Rattle.wt_typed_blocks.specs.Sent.{Sents, old_children, AreOutsideGroups as AreSentOutside, all_show}
 use Rattle.wt_typed_blocks.specs.Typed.{new_sources, StandAt, AreUntangled}
 use Rattle.wt_visible.specs.Children.{shown_children, listed}
-use Rattle.wt_text_edit_laws.specs.BlockSpots.{BlockSpot, spots_source, AreBlocks as AreTextBlocks}
+use Rattle.wt_text_edit_laws.specs.BlockSpots.{BlockSpot, spots_source, AreContents}
 use Rattle.wt_text_edit_laws.specs.TextBlocks.{TextBlock, a_paragraph, a_heading, block_tree}
 use Rattle.wt_called_edit_laws.specs.AnyBlocks.{typed_by, with_texts, AllLead}
 use Rattle.wt_called_edit_laws.specs.CalledBlocks.{tree_by, counted}
@@ -112,7 +112,7 @@ pub spots_body : (pages : Pages) (ss : List BlockSpot) (behind : List ℕ) → I
     → IsBodyOf (spots_source ss behind) (spots_tree pages ss behind)
 spots_body pages ss behind h = page_body pages (spots_source ss behind) (spots_utf8 pages ss behind h) h.unrefused
 
-text_blocks : (pages : Pages) (ss : List BlockSpot) (behind : List ℕ) → IsCalledPage pages ss behind → AreTextBlocks ss
+text_blocks : (pages : Pages) (ss : List BlockSpot) (behind : List ℕ) → IsCalledPage pages ss behind → AreContents ss
 text_blocks pages ss behind h = called_blocks ss behind h.outside.among.called
 
 -- its nodes have the page's source
@@ -125,7 +125,7 @@ nodes_source pages ss rs behind f t =
 
 are_the_page : (pages : Pages) (ss : List BlockSpot) (behind : List ℕ) (f : IsFramedPage pages ss behind) → AreThePage f.nodes ss behind
 are_the_page pages ss behind f = λ rs e b o.
-    filled_page rs behind f.nodes f.inner_nodes (f.in_order ∙ sym (counted_same ss rs e)) b
+    filled_page rs behind f.nodes f.inner_nodes (f.in_order ∙ sym (counted_same ss rs e))
     (nodes_source pages ss rs behind f (retyped ss rs e o))
 
 -- ---- the paths
@@ -168,7 +168,7 @@ edit_made pages ss behind f es h e =
     let rs : List BlockSpot = new_spots f es in
     let body = spots_body pages ss behind h in
     let lead = spots_lead pages ss behind f h in
-    let blocks : AreTextBlocks ss = text_blocks pages ss behind h in
+    let blocks : AreContents ss = text_blocks pages ss behind h in
     let typings : AreTypings ss os = by_tree ss (paths_of f) es t (paths_of f) lead e.old e.types e.take in
     let again : AreRetyped ss rs = typed_again ss os blocks typings in
     let old : all_placeless (old_children es) ≡ all_filled (block_at (tree_by ss)) f.nodes = ap all_placeless e.old ∙ f.stay ss (retyped_self ss) in
@@ -181,7 +181,7 @@ edit_made pages ss behind f es h e =
     (subst (λ (us : Trees). AllByRecursion (IsSlice page) (reached_in_all us)) (sym e.old) body.slices) in
     let made : MakesNodes es (all_filled (block_at (tree_by rs)) f.nodes) =
     texts_make f.nodes (text_at os) (block_at (tree_by ss)) (block_at (tree_by rs)) es f.inner_nodes
-    (blocks_made ss os blocks typings (blocks_over ss rs again blocks)) sends old in
+    (blocks_made ss os blocks typings) sends old in
     record {
       retyped = again;
       sends = sends;
@@ -190,7 +190,7 @@ edit_made pages ss behind f es h e =
       stand = stand;
       untangled =
           edit_untangled (expanded_page pages page) page (text_at os) ss f.nodes es f.inner_nodes
-          (gaps_so ss behind f.nodes f.in_order blocks (are_the_page pages ss behind f)) (numbers_so ss f.nodes f.in_order) blocks
+          (gaps_so ss behind f.nodes f.in_order blocks (are_the_page pages ss behind f)) (numbers_so ss f.nodes f.in_order)
           (blocks_untangled pages ss behind h.outside.among.called) sends old stand;
       new = made.sources ∙ nodes_source pages ss rs behind f again;
       shows =

@@ -14,22 +14,21 @@ use Rattle.wt_annotated.specs.Seams.{text_from}
 use Rattle.wt_annotated.proofs.Seams.{page_is}
 use Rattle.wt_page_round_trip.proofs.HeldPages.{its_page}
 use Rattle.wt_row_laws.specs.Frames.{Frames, trees_at, all_places}
-use Rattle.wt_text_edit_laws.specs.BlockSpots.{BlockSpot, spots_source, SameRound, AreBlocks}
+use Rattle.wt_text_edit_laws.specs.BlockSpots.{BlockSpot, spots_source, SameRound, AreContents}
 use Rattle.wt_text_edit_laws.specs.ParagraphBetween.{body_with}
-use Rattle.wt_text_edit_laws.specs.TextBlocks.{TextBlock, a_paragraph, a_heading, source_of, block_tree, IsBlock}
+use Rattle.wt_text_edit_laws.specs.TextBlocks.{TextBlock, a_paragraph, a_heading, source_of, block_tree}
+use Rattle.wt_text_edit_laws.specs.Contents.{IsContent}
 use Rattle.wt_text_edit_laws.specs.TypedHeadings.{equals}
-use Rattle.wt_text_edit_laws.proofs.Blocks.BlockMeaning.{heading_frame}
-use Rattle.wt_text_edit_laws.proofs.Blocks.BlockTrees.{leaf_block, block_leaves, block_own}
-use Rattle.wt_text_edit_laws.proofs.Prose.InFront.{reads_nothing, read_items}
-use Rattle.wt_text_edit_laws.proofs.Texts.TypedLeaves.{leaves}
+use Rattle.wt_text_edit_laws.proofs.Blocks.BlockReading.{content_frame}
+use Rattle.wt_text_edit_laws.proofs.Blocks.Contents.{block_source}
+use Rattle.wt_text_edit_laws.proofs.Blocks.OwnContents.{paragraph_some}
 use Rattle.wt_called_edit_laws.specs.Retyped.{AreRetyped}
 use Rattle.wt_called_edit_laws.proofs.Parts.Retyped.{called_blocks, expanded_again}
-use Rattle.wt_called_trees.specs.Rounded.{AreOwn, HasItems}
+use Rattle.wt_called_trees.specs.Rounded.{AreOwn}
 use Rattle.wt_called_trees.proofs.FrameEnds.{held}
 use Rattle.wt_called_edit_laws.specs.CalledBlocks.{AreAmongCalls, StandAmongCalls, tree_by, counted}
 use Rattle.wt_called_edit_laws.proofs.Cells.CalledFrames.{stand_among}
-use Rattle.wt_called_edit_laws.proofs.Cells.PlaceGaps.{Gaps, last_gap, then_gap, numbers_in, fill, source_at, sources_at, own_sources, FillsAll, AreSame, same_gaps, block_source, sources_counted, count_counted, many_by, self_round}
-use Rattle.wt_called_edit_laws.proofs.Cells.PlaceGaps.{AtPlaces as AtGaps}
+use Rattle.wt_called_edit_laws.proofs.Cells.PlaceGaps.{Gaps, last_gap, then_gap, numbers_in, fill, source_at, sources_at, own_sources, FillsAll, AreSame, same_gaps, sources_counted, count_counted, many_by, self_round, AtPlaces as AtGaps}
 use Rattle.wt_called_edit_laws.proofs.Cells.SpotTrees.{counted_same}
 use Rattle.wt_called_edit_laws.specs.CalledPages.{IsCalledPage}
 use Rattle.wt_called_edit_laws.specs.Covered.{NoGroupAt, HaveBytes, AreInNoGroup}
@@ -44,35 +43,26 @@ use Rattle.wt_called_edit_laws.proofs.TextsUntangled.{AreThere, all_there}
 
 -- ---- each block has a byte
 
-abbrev a_block : TextBlock → List ℕ → BlockSpot
-a_block k q = record { before = []; block = k; text = q }
-
-no_items : HasItems (leaf_block a_paragraph (leaves [])) → ⊥
-no_items h = let e = h.0 in cc
-
-para_some : (q : List ℕ) → IsBlock a_paragraph q → 0 < length q
-para_some [] h =
-    let own = (counted_own (a_block a_paragraph [] ∷ []) (h, tt)).0 in
-    let leafy = subst HasItems (block_leaves a_paragraph [] (block_own a_paragraph [] h)) own.has_items in
-    absurd (no_items (subst (λ xs. HasItems (leaf_block a_paragraph (leaves xs))) (read_items [] [] reads_nothing) leafy))
+para_some : (q : List ℕ) → IsContent a_paragraph q → 0 < length q
+para_some [] h = absurd (paragraph_some [] h refl)
 para_some (b ∷ bs) h = omega arith
 
 signs_some : (n : ℕ) (lead rest : List ℕ) → 1 ≤ n → 0 < length ((equals n ++ lead) ++ rest)
 signs_some zero lead rest h = absurd (omega (arith, h))
 signs_some (suc n) lead rest h = omega arith
 
-source_some : (k : TextBlock) (q : List ℕ) → IsBlock k q → 0 < length (source_of k q)
+source_some : (k : TextBlock) (q : List ℕ) → IsContent k q → 0 < length (source_of k q)
 source_some a_paragraph q h = para_some q h
-source_some (a_heading s) q h = let f = heading_frame s q h in signs_some s.level s.lead _ f.sides.some
+source_some (a_heading s) q h = let f = content_frame (a_heading s) q h in signs_some s.level s.lead _ f.sides.some
 
-block_some : (k : TextBlock) (q : List ℕ) → IsBlock k q → 0 < length (sources (tree_items (block_tree k q)))
-block_some k q h = subst (λ (bs : List ℕ). 0 < length bs) (sym (block_source k q h)) (source_some k q h)
+block_some : (k : TextBlock) (q : List ℕ) → IsContent k q → 0 < length (sources (tree_items (block_tree k q)))
+block_some k q h = subst (λ (bs : List ℕ). 0 < length bs) (sym (block_source k q)) (source_some k q h)
 
 bytes_up : (s : BlockSpot) (ss : List BlockSpot) (ns : List ℕ) → HaveBytes (tree_by ss) ns → HaveBytes (tree_by (s ∷ ss)) (map suc ns)
 bytes_up s ss [] h = tt
 bytes_up s ss (n ∷ ns) h = (h.0, bytes_up s ss ns h.1)
 
-have_bytes : (ss : List BlockSpot) → AreBlocks ss → HaveBytes (tree_by ss) (counted ss)
+pub have_bytes : (ss : List BlockSpot) → AreContents ss → HaveBytes (tree_by ss) (counted ss)
 have_bytes [] b = tt
 have_bytes (s ∷ ss) b = (block_some s.block s.text b.0, bytes_up s ss (counted ss) (have_bytes ss b.1))
 
@@ -86,7 +76,7 @@ squashed_stand pages ss behind f = record {
   means = λ rs t. f.means rs t ∙ ap body_with (sym (trees_squashed (tree_by rs) f.frames));
 }
 
-own_places : (pages : Pages) (ss rs : List BlockSpot) (behind : List ℕ) (f : StandAmongCalls pages ss behind) → SameRound ss rs → AreBlocks rs
+own_places : (pages : Pages) (ss rs : List BlockSpot) (behind : List ℕ) (f : StandAmongCalls pages ss behind) → SameRound ss rs → AreContents rs
     → AreOwn (tree_by rs) (all_places f.frames)
 own_places pages ss rs behind f e b = subst (AreOwn (tree_by rs)) (counted_same ss rs e ∙ sym f.in_order) (counted_own rs b)
 
@@ -115,21 +105,21 @@ fills_page pages ss behind h f free rs e b o =
     let now = own_places pages ss rs behind f e b in
     let g : Gaps = text_gaps others (tree_by rs) None f.frames (last_gap []) in
     ap (fill (own_sources rs)) (gaps_same calls others (calls_same pages ss rs behind h.called t) (tree_by ss) (tree_by rs) None f.frames (last_gap []) (last_gap []) was now refl)
-    ∙ ap (λ (ts : List (List ℕ)). fill ts g) (sym (ap (λ (is : List ℕ). sources_at (tree_by rs) is []) (f.in_order ∙ sym (counted_same ss rs e)) ∙ sources_counted rs b))
+    ∙ ap (λ (ts : List (List ℕ)). fill ts g) (sym (ap (λ (is : List ℕ). sources_at (tree_by rs) is []) (f.in_order ∙ sym (counted_same ss rs e)) ∙ sources_counted rs))
     ∙ all_fill others (tree_by rs) None f.frames (last_gap []) [] now
     ∙ append-nil (text_from others None (held (tree_by rs) f.frames))
     ∙ page_text pages ss rs behind h f free t
 
 -- ---- the blocks' first bytes
 
-block_places : (u : Tree) (t : ℕ → ItemTree) (front : List ℕ) (g : Gaps) (ss : List BlockSpot) (at : ℕ) → at ≡ length front → AreSame g ss → AreBlocks ss
+block_places : (u : Tree) (t : ℕ → ItemTree) (front : List ℕ) (g : Gaps) (ss : List BlockSpot) (at : ℕ) → at ≡ length front → AreSame g ss
     → AreThere t (numbers_in g) ss → AreInNoGroup at ss u → AtGaps (λ bs n. NoGroupAt (length bs) u) t front g
-block_places u t front (last_gap xs) ss at i m b a h = tt
-block_places u t front (then_gap xs n g) [] at i m b a h = absurd m
-block_places u t front (then_gap xs n g) (s ∷ ss) at i m b a h =
+block_places u t front (last_gap xs) ss at i m a h = tt
+block_places u t front (then_gap xs n g) [] at i m a h = absurd m
+block_places u t front (then_gap xs n g) (s ∷ ss) at i m a h =
     let here : List ℕ = front ++ xs in
     let own : List ℕ = source_at t n in
-    let own_is : own ≡ source_of s.block s.text = ap (λ x. sources (tree_items x)) a.0 ∙ block_source s.block s.text b.0 in
+    let own_is : own ≡ source_of s.block s.text = ap (λ x. sources (tree_items x)) a.0 ∙ block_source s.block s.text in
     let first : length s.before ≡ length xs = ap length (sym m.0) in
     let size : length (source_of s.block s.text) ≡ length own = ap length (sym own_is) in
     let one : length here ≡ length front + length xs = length-append front xs in
@@ -137,7 +127,7 @@ block_places u t front (then_gap xs n g) (s ∷ ss) at i m b a h =
     let start : at + length s.before ≡ length here = omega (arith, i, first, one) in
     let behind : (at + length s.before) + length (source_of s.block s.text) ≡ length (here ++ own) = omega (arith, start, size, two) in (
       subst (λ (k : ℕ). NoGroupAt k u) start h.0,
-      block_places u t (here ++ own) g ss ((at + length s.before) + length (source_of s.block s.text)) behind m.1 b.1 a.1 h.1,
+      block_places u t (here ++ own) g ss ((at + length s.before) + length (source_of s.block s.text)) behind m.1 a.1 h.1,
     )
 
 -- ---- the page
@@ -151,7 +141,7 @@ page_outside pages ss behind h free g =
     let f : StandAmongCalls pages ss behind = squashed_stand pages ss behind (stand_among pages ss behind h) in
     let fs : Frames = f.frames in
     let t : ℕ → ItemTree = tree_by ss in
-    let blocks : AreBlocks ss = called_blocks ss behind h.called in
+    let blocks : AreContents ss = called_blocks ss behind h.called in
     let own : AreOwn t (all_places fs) = own_places pages ss ss behind f (self_round ss) blocks in
     let u : Tree = annotated calls (group_data calls) (body_with (trees_at t fs)) in
     let inside : AreInNoGroup 0 ss u = subst (λ m. AreInNoGroup 0 ss (annotated calls (group_data calls) m)) (f.means ss (retyped_self ss)) g in
@@ -160,7 +150,7 @@ page_outside pages ss behind h free g =
     let same : AreSame gaps ss =
     same_gaps gaps ss behind (many_by gaps ss (ap length numbers ∙ count_counted ss)) blocks (fills_page pages ss behind h f free) in
     let at = gap_places (λ b. NoGroupAt b u) calls t None 0 [] fs (last_gap []) own refl
-    (block_places u t [] gaps ss 0 refl same blocks (subst (λ (ns : List ℕ). AreThere t ns ss) (sym numbers) (all_there ss)) inside) in
+    (block_places u t [] gaps ss 0 refl same (subst (λ (ns : List ℕ). AreThere t ns ss) (sym numbers) (all_there ss)) inside) in
     record {
       outside = record {
         among = h;

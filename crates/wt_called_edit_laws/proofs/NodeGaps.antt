@@ -6,7 +6,7 @@ use Rattle.wt_tree.specs.Tree.{Label, tree, Trees}
 use Rattle.wt_inline.specs.ItemTree.{ItemTree}
 use Rattle.wt_moved_laws.specs.Standing.{standing}
 use Rattle.wt_moved_laws.proofs.Sources.{standing_source}
-use Rattle.wt_text_edit_laws.specs.BlockSpots.{BlockSpot, spots_source, AreBlocks}
+use Rattle.wt_text_edit_laws.specs.BlockSpots.{BlockSpot, spots_source, AreContents}
 use Rattle.wt_called_edit_laws.specs.CalledBlocks.{tree_by, counted}
 use Rattle.wt_called_edit_laws.proofs.Cells.PlaceGaps.{Gaps, last_gap, then_gap, put_before, numbers_in, numbers_before, fill, fill_before, source_at, sources_at, sources_both, own_sources, FillsAll, AreSame, same_gaps, sources_counted, count_counted, many_by, AtPlaces, at_before}
 use Rattle.wt_called_trees.specs.TreeFrames.{TreeFrame, spot, kept, holder, TreeFrames, no_nodes, more_nodes, filled, all_filled, spots_in, spots}
@@ -116,19 +116,19 @@ page_gaps fs = gaps_in fs (last_gap [])
 pub numbers_so : (ss : List BlockSpot) (fs : TreeFrames) → spots fs ≡ counted ss → numbers_in (page_gaps fs) ≡ counted ss
 numbers_so ss fs e = all_numbers fs (last_gap []) ∙ append-nil (spots fs) ∙ e
 
--- whatever texts are typed over, these nodes are the page
+-- whatever new contents are written, these nodes are the page
 abbrev pub AreThePage : TreeFrames → List BlockSpot → List ℕ → Type 0
 AreThePage fs ss behind = FillsAll (page_gaps fs) ss behind
 
-pub filled_page : (rs : List BlockSpot) (behind : List ℕ) (fs : TreeFrames) → NoneLeaves fs → spots fs ≡ counted rs → AreBlocks rs
+pub filled_page : (rs : List BlockSpot) (behind : List ℕ) (fs : TreeFrames) → NoneLeaves fs → spots fs ≡ counted rs
     → flat_of_all (all_filled (block_at (tree_by rs)) fs) ≡ spots_source rs behind → fill (own_sources rs) (page_gaps fs) ≡ spots_source rs behind
-filled_page rs behind fs w e b is =
+filled_page rs behind fs w e is =
     let t : ℕ → ItemTree = tree_by rs in
-    sym (ap (λ (ts : List (List ℕ)). fill ts (page_gaps fs)) (ap (λ (is : List ℕ). sources_at t is []) e ∙ sources_counted rs b))
+    sym (ap (λ (ts : List (List ℕ)). fill ts (page_gaps fs)) (ap (λ (is : List ℕ). sources_at t is []) e ∙ sources_counted rs))
     ∙ all_fill t fs (last_gap []) [] w
     ∙ append-nil (flat_of_all (all_filled (block_at t) fs))
     ∙ is
 
-pub gaps_so : (ss : List BlockSpot) (behind : List ℕ) (fs : TreeFrames) → spots fs ≡ counted ss → AreBlocks ss → AreThePage fs ss behind → AreSame (page_gaps fs) ss
+pub gaps_so : (ss : List BlockSpot) (behind : List ℕ) (fs : TreeFrames) → spots fs ≡ counted ss → AreContents ss → AreThePage fs ss behind → AreSame (page_gaps fs) ss
 gaps_so ss behind fs e b f =
     same_gaps (page_gaps fs) ss behind (many_by (page_gaps fs) ss (ap length (numbers_so ss fs e) ∙ count_counted ss)) b f

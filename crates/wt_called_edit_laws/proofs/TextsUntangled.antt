@@ -10,14 +10,14 @@ use Rattle.wt_moved_laws.specs.Standing.{standing}
 use Rattle.wt_selser.specs.Edits.{is_tangled}
 use Rattle.wt_typed_blocks.specs.Sent.{Block, paragraph, heading, kind_of, Sent, stands, typed, holds, Sents, none_sent, more_sent, old_child, old_children}
 use Rattle.wt_typed_blocks.specs.Typed.{block_source, old_source, StandsAt, StandAt, IsUntangled, AreUntangled}
-use Rattle.wt_text_edit_laws.specs.BlockSpots.{BlockSpot, AreBlocks}
+use Rattle.wt_text_edit_laws.specs.BlockSpots.{BlockSpot}
 use Rattle.wt_text_edit_laws.specs.TextBlocks.{source_of, block_tree}
 use Rattle.wt_called_edit_laws.specs.CalledBlocks.{tree_by, counted}
 use Rattle.wt_called_edit_laws.proofs.Cells.ManyFacts.{old_flat}
 use Rattle.wt_called_edit_laws.proofs.Cells.Nodes.{same_label, same_inside}
 use Rattle.wt_called_edit_laws.proofs.Cells.Paths.{same_first, same_rest}
 use Rattle.wt_called_edit_laws.proofs.Cells.PlaceGaps.{Gaps, last_gap, then_gap, put_before, numbers_in, source_at, AreSame, AtPlaces, at_before}
-use Rattle.wt_called_edit_laws.proofs.Cells.PlaceGaps.{block_source as source_is}
+use Rattle.wt_text_edit_laws.proofs.Blocks.Contents.{block_source as source_is}
 use Rattle.wt_called_trees.specs.TreeFrames.{TreeFrame, spot, kept, holder, TreeFrames, no_nodes, more_nodes, filled, all_filled}
 use Rattle.wt_called_edit_laws.specs.Untangled.{AreUntangledFrom}
 use Rattle.wt_called_edit_laws.specs.Nodes.{block_at, NoLeaves, NoneLeaves}
@@ -114,13 +114,13 @@ all_there [] = tt
 all_there (s ∷ ss) = (refl, there_moved (tree_by (s ∷ ss)) (counted ss) ss (all_there ss))
 
 free_places : (items : Expanded) (page : List ℕ) (t : ℕ → ItemTree) (front : List ℕ) (g : Gaps) (ss : List BlockSpot) (at : ℕ) → at ≡ length front → AreSame g ss
-    → AreBlocks ss → AreThere t (numbers_in g) ss → AreUntangledFrom items page at ss → AreFree items page t front g
-free_places items page t front (last_gap xs) ss at i m b a u = tt
-free_places items page t front (then_gap xs n g) [] at i m b a u = absurd m
-free_places items page t front (then_gap xs n g) (s ∷ ss) at i m b a u =
+    → AreThere t (numbers_in g) ss → AreUntangledFrom items page at ss → AreFree items page t front g
+free_places items page t front (last_gap xs) ss at i m a u = tt
+free_places items page t front (then_gap xs n g) [] at i m a u = absurd m
+free_places items page t front (then_gap xs n g) (s ∷ ss) at i m a u =
     let here : List ℕ = front ++ xs in
     let own : List ℕ = source_at t n in
-    let own_is : own ≡ source_of s.block s.text = ap (λ x. sources (tree_items x)) a.0 ∙ source_is s.block s.text b.0 in
+    let own_is : own ≡ source_of s.block s.text = ap (λ x. sources (tree_items x)) a.0 ∙ source_is s.block s.text in
     let first : length s.before ≡ length xs = ap length (sym m.0) in
     let size : length (source_of s.block s.text) ≡ length own = ap length (sym own_is) in
     let one : length here ≡ length front + length xs = length-append front xs in
@@ -131,14 +131,14 @@ free_places items page t front (then_gap xs n g) (s ∷ ss) at i m b a u =
       λ x first_w last_w same ranges.
           u.0 x first_w last_w (same ∙ ap (λ b. placeless (standing 0 [] b)) a.0)
           (ranges ∙ ap₂ (λ (i j : ℕ). Some (record { start = i; end = j; open_w = first_w; close_w = last_w })) (sym start) (sym end)),
-      free_places items page t (here ++ own) g ss ((at + length s.before) + length (source_of s.block s.text)) behind m.1 b.1 a.1 u.1,
+      free_places items page t (here ++ own) g ss ((at + length s.before) + length (source_of s.block s.text)) behind m.1 a.1 u.1,
     )
 
 -- ---- what is sent for a page
 
 pub edit_untangled : (items : Expanded) (page : List ℕ) (o : ℕ → Option (List ℕ)) (ss : List BlockSpot) (fs : TreeFrames) (es : Sents) → NoneLeaves fs
-    → AreSame (page_gaps fs) ss → numbers_in (page_gaps fs) ≡ counted ss → AreBlocks ss → AreUntangledFrom items page 0 ss
+    → AreSame (page_gaps fs) ss → numbers_in (page_gaps fs) ≡ counted ss → AreUntangledFrom items page 0 ss
     → AllSend o fs es → all_placeless (old_children es) ≡ all_filled (block_at (tree_by ss)) fs → StandAt 0 es → AreUntangled items page es
-edit_untangled items page o ss fs es w m n b u p e at =
+edit_untangled items page o ss fs es w m n u p e at =
     all_untangled items page (tree_by ss) o [] fs (last_gap []) es w p e at
-    (free_places items page (tree_by ss) [] (page_gaps fs) ss 0 refl m b (subst (λ (ns : List ℕ). AreThere (tree_by ss) ns ss) (sym n) (all_there ss)) u)
+    (free_places items page (tree_by ss) [] (page_gaps fs) ss 0 refl m (subst (λ (ns : List ℕ). AreThere (tree_by ss) ns ss) (sym n) (all_there ss)) u)

@@ -12,11 +12,11 @@ use Rattle.wt_row_laws.specs.Slots.{open_behind, AllTrue}
 use Rattle.wt_typed_blocks.specs.Sent.{kind_of, Sent, stands, typed, holds, Sents, none_sent, more_sent, old_children, AreSent}
 use Rattle.wt_typed_blocks.specs.Typed.{TakeTexts}
 use Rattle.wt_text_edit_laws.specs.BlockEdits.{typed_as}
-use Rattle.wt_text_edit_laws.specs.BlockSpots.{BlockSpot, spots_source, AsAWhole, IsRead}
+use Rattle.wt_text_edit_laws.specs.BlockSpots.{BlockSpot, spots_source, AsAWhole}
 use Rattle.wt_text_edit_laws.specs.ParagraphBetween.{written_rows, before_marks, EndApart, BeginApart}
 use Rattle.wt_text_edit_laws.specs.Parts.{part_tree, HasNoGroups}
-use Rattle.wt_text_edit_laws.specs.TextBetween.{StandsBehind}
-use Rattle.wt_text_edit_laws.specs.TextBlocks.{TextBlock, a_paragraph, a_heading, block_of, source_of, FirstApart}
+use Rattle.wt_text_edit_laws.specs.TextBetween.{AreEnded, StandsBehind}
+use Rattle.wt_text_edit_laws.specs.TextBlocks.{TextBlock, a_paragraph, a_heading, block_of, source_of, IsBlock, FirstApart}
 use Rattle.wt_text_edit_laws.specs.TypedHeadings.{EndsLine}
 use Rattle.wt_called_edit_laws.specs.InCells.{AreTextLines}
 
@@ -50,9 +50,15 @@ pub record LeadsInto (k : TextBlock) (bs : List Bool) (xs : List Item) : Type 0 
   pub in_cells : AllTrue (open_behind_part bs xs)
   pub apart : EndsFor k (rows_of_part bs xs)
 
+-- a block of one text, whatever stands before it
+pub record IsTextRead (s : BlockSpot) : Type 0 where
+  pub ended : AreEnded s.before
+  pub before_utf8 : IsUtf8 s.before
+  pub block : IsBlock s.block s.text
+
 -- a block with its text, behind a part
 abbrev pub IsSpotAt : List Bool → List Item → BlockSpot → Type 0
-IsSpotAt bs xs s = IsRead s × LeadsInto s.block bs xs × StaysText s.block (length (open_behind_part bs xs)) s.text
+IsSpotAt bs xs s = IsTextRead s × LeadsInto s.block bs xs × StaysText s.block (length (open_behind_part bs xs)) s.text
 
 -- behind a paragraph no text follows, and the next block, where it follows at once, is a heading
 abbrev pub NextApart : TextBlock → TextBlock → List Row → Type 0

@@ -1,12 +1,13 @@
--- Paragraphs and headings with texts among items, which may come from calls.
+-- Paragraphs and headings with their contents among items, which may come from calls.
 use Rattle.std.specs.Prelude.{◌≡◌, ◌⊎◌, ℕ, Bool, List, [], ◌∷◌, ◌++◌, length}
 use Rattle.wt_span.specs.Items.{Item}
 use Rattle.wt_expand.specs.PageItems.{page_items}
 use Rattle.wt_text_edit_laws.specs.BlockSpots.{BlockSpot}
-use Rattle.wt_text_edit_laws.specs.TextBlocks.{TextBlock, block_items, IsBlock, IsTypedIn}
+use Rattle.wt_text_edit_laws.specs.TextBlocks.{TextBlock, block_items}
+use Rattle.wt_text_edit_laws.specs.Contents.{IsContent, IsNewContent}
 use Rattle.wt_called_edit_laws.specs.AnyBlocks.{open_behind_part, StaysText, LeadsInto, past_break, BeginsAfter, EndsAfter}
 
--- a block with a text, and the items before it, behind the one before or at the page's start
+-- a block with its content, and the items before it, behind the one before or at the page's start
 pub record ItemSpot : Type 0 where
   pub before : List Item
   pub block : TextBlock
@@ -30,7 +31,7 @@ items_of_spots (s ∷ ss) = items_of_spot s ∷ items_of_spots ss
 
 -- as `AreParts`, which is asked of bytes
 abbrev pub IsPlacedAt : List Bool → List Item → ItemSpot → Type 0
-IsPlacedAt bs xs s = IsBlock s.block s.text × LeadsInto s.block bs xs × StaysText s.block (length (open_behind_part bs xs)) s.text
+IsPlacedAt bs xs s = IsContent s.block s.text × LeadsInto s.block bs xs × StaysText s.block (length (open_behind_part bs xs)) s.text
 
 abbrev pub ArePlacedAfter : TextBlock → List Bool → List ItemSpot → List Item → Type 0
 ArePlacedAfter last bs [] behind = EndsAfter last (length bs) behind
@@ -42,7 +43,7 @@ abbrev pub ArePlaced : List ItemSpot → List Item → Type 0
 ArePlaced [] behind = ⊥
 ArePlaced (s ∷ ss) behind = IsPlacedAt [] s.before s × ArePlacedAfter s.block (open_behind_part [] s.before) ss behind
 
--- ---- the same but for the texts
+-- ---- the same but for the contents
 
 abbrev pub SameItems : List ItemSpot → List ItemSpot → Type 0
 SameItems [] [] = Unit {0}
@@ -50,12 +51,12 @@ SameItems [] (r ∷ rs) = ⊥
 SameItems (s ∷ ss) [] = ⊥
 SameItems (s ∷ ss) (r ∷ rs) = (r.before ≡ s.before) × (r.block ≡ s.block) × SameItems ss rs
 
--- which are the same, or typed
-abbrev pub AreTypedIn : List ItemSpot → List ItemSpot → Type 0
-AreTypedIn [] rs = Unit {0}
-AreTypedIn (s ∷ ss) [] = Unit {0}
-AreTypedIn (s ∷ ss) (r ∷ rs) = ((r.text ≡ s.text) ⊎ IsTypedIn r.block r.text) × AreTypedIn ss rs
+-- which are the same, or new ones in their places
+abbrev pub AreNewIn : List ItemSpot → List ItemSpot → Type 0
+AreNewIn [] rs = Unit {0}
+AreNewIn (s ∷ ss) [] = Unit {0}
+AreNewIn (s ∷ ss) (r ∷ rs) = ((r.text ≡ s.text) ⊎ IsNewContent r.block s.text r.text) × AreNewIn ss rs
 
-abbrev pub AreBlocksIn : List ItemSpot → Type 0
-AreBlocksIn [] = Unit {0}
-AreBlocksIn (s ∷ ss) = IsBlock s.block s.text × AreBlocksIn ss
+abbrev pub AreContentsIn : List ItemSpot → Type 0
+AreContentsIn [] = Unit {0}
+AreContentsIn (s ∷ ss) = IsContent s.block s.text × AreContentsIn ss

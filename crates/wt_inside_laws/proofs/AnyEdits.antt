@@ -11,15 +11,16 @@ use Rattle.wt_annotated.specs.Labels.{label_at}
 use Rattle.wt_row_laws.specs.Frames.{all_places}
 use Rattle.wt_moved_laws.specs.Standing.{standing}
 use Rattle.wt_text_edit_laws.specs.TextBlocks.{TextBlock, a_paragraph, a_heading, source_of, block_tree}
-use Rattle.wt_text_edit_laws.specs.BlockSpots.{BlockSpot, spots_source, AreBlocks}
+use Rattle.wt_text_edit_laws.specs.BlockSpots.{BlockSpot, spots_source}
 use Rattle.wt_text_edit_laws.specs.Parts.{part_tree}
+use Rattle.wt_text_edit_laws.proofs.Blocks.Contents.{block_source}
 use Rattle.wt_called_edit_laws.specs.AnyBlocks.{AreSpots}
 use Rattle.wt_called_edit_laws.proofs.Cells.ManyNodes.{nodes_from}
 use Rattle.wt_called_edit_laws.proofs.Cells.ManyPaths.{NoneEmpty, paths_full, AreAsMany}
-use Rattle.wt_called_edit_laws.proofs.Cells.PlaceGaps.{Gaps, last_gap, then_gap, gaps_of, numbers_in, source_at, AreSame, AtPlaces, block_source}
+use Rattle.wt_called_edit_laws.proofs.Cells.PlaceGaps.{Gaps, last_gap, then_gap, gaps_of, numbers_in, source_at, AreSame, AtPlaces}
 use Rattle.wt_called_edit_laws.proofs.Cells.PlacePaths.{paths_of, tree_so, paths_counted, gaps_so, numbers_so}
 use Rattle.wt_called_edit_laws.proofs.Cells.PlaceTrees.{tree_by, counted, Framed}
-use Rattle.wt_called_edit_laws.proofs.Cells.SpotTrees.{tree_borders, same_self, over_self, over_blocks, label_over}
+use Rattle.wt_called_edit_laws.proofs.Cells.SpotTrees.{tree_borders, label_over}
 use Rattle.wt_inside_laws.specs.AnyReplaced.{replaced_at, number_by}
 use Rattle.wt_inside_laws.specs.TextsReplaced.{numbered_inside}
 use Rattle.wt_inside_laws.proofs.EditPlaces.{FitsAt, IsNone, EditIn}
@@ -107,11 +108,11 @@ fronts_moved F t [] front ss h = tt
 fronts_moved F t (i ∷ is) front [] h = tt
 fronts_moved F t (i ∷ is) front (s ∷ ss) h = (h.0, h.1, fronts_moved F t is ((front ++ s.before) ++ source_of s.block s.text) ss h.2)
 
-fronts_counted : (ss : List BlockSpot) (front : List ℕ) → AreBlocks ss → AreFronts (front_of (fronts front ss)) (tree_by ss) (counted ss) front ss
-fronts_counted [] front h = tt
-fronts_counted (s ∷ ss) front h =
+fronts_counted : (ss : List BlockSpot) (front : List ℕ) → AreFronts (front_of (fronts front ss)) (tree_by ss) (counted ss) front ss
+fronts_counted [] front = tt
+fronts_counted (s ∷ ss) front =
     let more : List ℕ = (front ++ s.before) ++ source_of s.block s.text in
-    (refl, block_source s.block s.text h.0, fronts_moved (front_of (fronts front (s ∷ ss))) (tree_by (s ∷ ss)) (counted ss) more ss (fronts_counted ss more h.1))
+    (refl, block_source s.block s.text, fronts_moved (front_of (fronts front (s ∷ ss))) (tree_by (s ∷ ss)) (counted ss) more ss (fronts_counted ss more))
 
 fronts_at : (F : ℕ → List ℕ) (t : ℕ → ItemTree) (g : Gaps) (front : List ℕ) (ss : List BlockSpot) → AreSame g ss → AreFronts F t (numbers_in g) front ss
     → AtPlaces (λ xs i. F i ≡ xs) t front g
@@ -133,7 +134,7 @@ all_known ss behind f h =
     both_at (λ i m a. number_of (own_numbers ss behind f) i ≡ m) (λ i m a. F i ≡ sources a) t 1 [] [] f.frames (numbers_known ss behind f h)
     (items_at (λ xs i. F i ≡ xs) t 1 [] [] f.frames (last_gap [])
     (fronts_at F t g [] ss (gaps_so ss behind f h)
-    (subst (λ is. AreFronts F t is [] ss) (sym (numbers_so ss behind f)) (fronts_counted ss [] (over_blocks ss ss behind h (same_self ss) (over_self ss))))))
+    (subst (λ is. AreFronts F t is [] ss) (sym (numbers_so ss behind f)) (fronts_counted ss []))))
 
 -- ---- the place of one of them
 

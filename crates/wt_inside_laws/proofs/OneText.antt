@@ -21,7 +21,7 @@ use Rattle.wt_annotated.proofs.Widths.{width_append}
 use Rattle.wt_page_round_trip.specs.PageTree.{page_tree}
 use Rattle.wt_local.specs.Replaced.{Edit, moved, moved_label, with_inside, all_with_inside}
 use Rattle.wt_text_edit_laws.proofs.Texts.LoneTrees.{sized}
-use Rattle.wt_text_edit_laws.proofs.Texts.TypedLeaves.{AreOwn, HasAny, leaves}
+use Rattle.wt_text_edit_laws.proofs.Texts.TypedLeaves.{HasAny, leaves}
 use Rattle.wt_text_edit_laws.specs.TypedHeadings.{Sides, equals, opening, closing}
 use Rattle.wt_moved_laws.specs.Standing.{standing}
 use Rattle.wt_text_edit_laws.proofs.Prose.ProseTrees.{blocks_of, number_behind, items_behind}
@@ -30,9 +30,9 @@ use Rattle.wt_text_edit_laws.specs.TextBlocks.{TextBlock, a_paragraph, a_heading
 use Rattle.wt_text_edit_laws.specs.BlockSpots.{BlockSpot, spots_source, page_blocks, AreBlockSpots, AreBlocks}
 use Rattle.wt_text_edit_laws.specs.Parts.{part_tree}
 use Rattle.wt_text_edit_laws.proofs.Paragraphs.Texts.{paragraph_written}
-use Rattle.wt_text_edit_laws.proofs.Blocks.BlockMeaning.{heading_sides}
-use Rattle.wt_text_edit_laws.proofs.Blocks.BlockTrees.{block_leaves, as_leaves, block_own, are_typed, spots_tree}
-use Rattle.wt_text_edit_laws.proofs.Blocks.TypedFacts.{items_source}
+use Rattle.wt_text_edit_laws.proofs.Blocks.BlockLines.{heading_sides}
+use Rattle.wt_text_edit_laws.proofs.Blocks.BlockTrees.{as_leaves, are_typed, spots_tree}
+use Rattle.wt_text_edit_laws.proofs.Blocks.Contents.{block_source}
 use Rattle.wt_text_edit_laws.proofs.Blocks.KeptBlocks.{blocks_source, part_source}
 use Rattle.wt_text_edit_laws.proofs.Blocks.BlocksTake.{page_is}
 use Rattle.wt_inside_laws.specs.TextsReplaced.{Place, spots_with, page_with, source_before, number_at, numbered_inside, block_at, replaced_by}
@@ -94,11 +94,6 @@ front_stays e (u ∷ us) ts vs n before first own number place h =
 
 -- ---- the paragraph
 
-block_source : (k : TextBlock) (q : List ℕ) → IsBlock k q → sources (tree_items (block_tree k q)) ≡ source_of k q
-block_source k q h =
-    let own : AreOwn (page_items q) = block_own k q h in
-    ap (λ t. sources (tree_items t)) (block_leaves k q own) ∙ items_source k q own
-
 none_any : HasAny (leaves (page_items [])) → ⊥
 unfolding page_items words closed
 none_any h = h
@@ -130,7 +125,7 @@ front_source (s ∷ ss) before h =
     let own : List ItemTree = blocks_in (page_items s.before) in
     let p : ItemTree = block_tree s.block s.text in
     blocks_joined own (p ∷ page_blocks ss before)
-    ∙ ap₂ (λ xs ys. xs ++ ys) (part_source s.before) (ap₂ (λ xs ys. xs ++ ys) (block_source s.block s.text h.0) (front_source ss before h.1))
+    ∙ ap₂ (λ xs ys. xs ++ ys) (part_source s.before) (ap₂ (λ xs ys. xs ++ ys) (block_source s.block s.text) (front_source ss before h.1))
 
 pub typed_front : (ss rs : List BlockSpot) → AreBlocks (ss ++ rs) → AreBlocks ss
 typed_front [] rs h = tt
@@ -154,7 +149,7 @@ block_count after a_paragraph q = placed_count after [] (block_tree a_paragraph 
 block_count after (a_heading s) q = placed_count after [] (block_tree (a_heading s) q)
 
 pub block_width : (k : TextBlock) (q : List ℕ) → IsBlock k q → width (tree_items (block_tree k q)) ≡ length (source_of k q)
-block_width k q h = ap length (block_source k q h)
+block_width k q h = ap length (block_source k q)
 
 pub same_number : (n : ℕ) → (n == n) ≡ true
 same_number n = grind (arith, nat_tests)

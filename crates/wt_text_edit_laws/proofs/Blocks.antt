@@ -1,5 +1,11 @@
 -- Pages of typed paragraphs and headings among any other blocks.
 pub mod BlockReading
+pub mod BlockLines
+pub mod BlockLeaves
+pub mod Untangled
+pub mod Contents
+pub mod OwnContents
+pub mod BlocksRead
 pub mod BlockMeaning
 pub mod BlockTrees
 pub mod BlocksAgain

@@ -7,4 +7,5 @@ pub mod Standing
 pub mod Paragraphs
 pub mod PartTrees
 pub mod ClearLines
+pub mod LineBlocks
 mod Cases

@@ -7,7 +7,8 @@ use Rattle.wt_text_edit_laws.specs.NoCalls.{CallsNothing}
 use Rattle.wt_text_edit_laws.specs.TextBetween.{AreEnded, HasEndsBefore, StandsBehind}
 use Rattle.wt_text_edit_laws.specs.ParagraphBetween.{blocks_in}
 use Rattle.wt_text_edit_laws.specs.Parts.{HasNoGroups}
-use Rattle.wt_text_edit_laws.specs.TextBlocks.{TextBlock, source_of, block_tree, IsBlock, TextEnds, LeadsTo, EndsBlock, BeginsLine, BeginsBetween}
+use Rattle.wt_text_edit_laws.specs.TextBlocks.{TextBlock, source_of, block_tree, IsBlock, LeadsTo, EndsBlock, BeginsLine, BeginsBetween}
+use Rattle.wt_text_edit_laws.specs.Contents.{IsContent, TextEnds}
 use Rattle.wt_text_edit_laws.specs.TypedHeadings.{EndsLine}
 
 -- ---- the page's source
@@ -71,11 +72,11 @@ AreBlockSpots (s ∷ ss) behind = IsBlockSpot s × AreFurtherBlocks s.block ss b
 
 -- ---- what their reading hangs on
 
--- whatever stands before it
+-- whatever stands before it, and whatever is in it
 pub record IsRead (s : BlockSpot) : Type 0 where
   pub ended : AreEnded s.before
   pub before_utf8 : IsUtf8 s.before
-  pub block : IsBlock s.block s.text
+  pub block : IsContent s.block s.text
 
 -- behind such a block, which the page's end or a line break ends
 abbrev pub AreReadAfter : List BlockSpot → List ℕ → Type 0
@@ -98,3 +99,9 @@ SameRound (s ∷ ss) (r ∷ rs) = (r.before ≡ s.before) × (r.block ≡ s.bloc
 abbrev pub AreBlocks : List BlockSpot → Type 0
 AreBlocks [] = Unit {0}
 AreBlocks (s ∷ ss) = IsBlock s.block s.text × AreBlocks ss
+
+-- ---- with other contents
+
+abbrev pub AreContents : List BlockSpot → Type 0
+AreContents [] = Unit {0}
+AreContents (s ∷ ss) = IsContent s.block s.text × AreContents ss

@@ -13,7 +13,9 @@ pub mod ParagraphBetween
 pub mod Paragraphs
 pub mod Parts
 pub mod TypedHeadings
+pub mod ParagraphParts
 pub mod TextBlocks
+pub mod Contents
 pub mod BlockSpots
 pub mod BlockEdits
 pub mod UnmarkedBlocks

@@ -1,7 +1,7 @@
 -- Braces that make no call and no argument.
-use Rattle.std.specs.Prelude.{ℕ, List, [], ◌∷◌, map, codes, if◌then◌else◌}
+use Rattle.std.specs.Prelude.{◌≡◌, ℕ, ◌==◌, ◌||◌, Bool, false, List, [], ◌∷◌, map, codes, if◌then◌else◌}
 use Rattle.wt_span.specs.Bytes.{begins}
-use Rattle.wt_span.specs.Items.{Item, sign}
+use Rattle.wt_span.specs.Items.{Item, char, whole, sign}
 
 -- two braces side by side
 pub data Brace : Type 0 where
@@ -27,3 +27,14 @@ NonePairs (closing ∷ bs) = NonePairs bs
 -- a page with these items calls nothing
 abbrev pub CallsNothing : List Item → Type 0
 CallsNothing xs = NonePairs (braces (map sign xs))
+
+-- ---- no brace at all
+
+abbrev pub is_brace : ℕ → Bool
+is_brace b = b == 123 || b == 125
+
+-- no character is a brace; those of a reference or a nowiki don't count
+abbrev pub AreUnbraced : List Item → Type 0
+AreUnbraced [] = Unit {0}
+AreUnbraced (char o b ∷ xs) = (is_brace b ≡ false) × AreUnbraced xs
+AreUnbraced (whole f o bs ∷ xs) = AreUnbraced xs

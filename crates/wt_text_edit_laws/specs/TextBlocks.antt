@@ -8,16 +8,17 @@ use Rattle.wt_tree.specs.declared.edit_shape.Place.TheVariants as place
 use Rattle.wt_guards.specs.Content.{letters}
 use Rattle.wt_guards.specs.Guards.{Setting, spelled}
 use Rattle.wt_content.specs.Content.{has_break}
+use Rattle.wt_lines.specs.Lines.{lines}
 use Rattle.wt_inline.specs.ItemTree.{ItemTree}
 use Rattle.wt_page.specs.Rows.{Row}
 use Rattle.wt_expand.specs.PageItems.{page_items}
-use Rattle.wt_text_edit_laws.specs.LonePages.{para_of}
 use Rattle.wt_text_edit_laws.specs.TypedPages.{IsTypedPage}
+use Rattle.wt_text_edit_laws.specs.ParagraphParts.{joined_parts, para_with}
 use Rattle.wt_typed_blocks.specs.Sent.{Block, paragraph, heading}
-use Rattle.wt_text_edit_laws.specs.TextBetween.{StandsBefore, LineEnds}
+use Rattle.wt_text_edit_laws.specs.TextBetween.{StandsBefore}
 use Rattle.wt_text_edit_laws.specs.Paragraphs.{AreLetters, IsParagraph}
 use Rattle.wt_text_edit_laws.specs.ParagraphBetween.{rows_of_lines, AreClosed, before_marks, EndsApart, EndsParagraph}
-use Rattle.wt_text_edit_laws.specs.TypedHeadings.{Sides, AreSides, opening, closing, heading_line, heading_with, IsHeadingText, IsOfLevel, EndsLine}
+use Rattle.wt_text_edit_laws.specs.TypedHeadings.{Sides, AreSides, opening, closing, heading_line, heading_round, IsHeadingText, IsOfLevel, EndsLine}
 
 -- ---- its source
 
@@ -41,9 +42,10 @@ abbrev pub block_items : TextBlock → List ℕ → List Item
 block_items a_paragraph q = page_items q
 block_items (a_heading s) q = heading_line s (page_items q)
 
+-- whatever is in it
 abbrev pub block_tree : TextBlock → List ℕ → ItemTree
-block_tree a_paragraph q = para_of (page_items q)
-block_tree (a_heading s) q = heading_with s (page_items q)
+block_tree a_paragraph q = para_with (joined_parts (lines (page_items q)))
+block_tree (a_heading s) q = heading_round s (page_items q)
 
 -- ---- its text
 
@@ -86,11 +88,6 @@ IsBlock (a_heading s) q = IsTypedHeading s q ⊎ IsWrittenHeading s q
 abbrev pub IsTypedIn : TextBlock → List ℕ → Type 0
 IsTypedIn a_paragraph q = IsTypedPage q
 IsTypedIn (a_heading s) q = IsTypedHeading s q
-
--- Nothing begins in what is typed. What begins in a text that was written by hand ends in it, or is a tag that nothing in the rest of the page
--- closes.
-abbrev pub TextEnds : TextBlock → List ℕ → List ℕ → Type 0
-TextEnds k q rest = IsTypedIn k q ⊎ LineEnds (source_of k q) rest
 
 -- ---- what stands before it
 

@@ -270,7 +270,7 @@ pub fn typed_texts_are_heading_texts()
 /// itself, and these paragraphs and headings between; its tree is that with numbers and places in order. It calls
 /// nothing, whatever the folder has, and nothing refuses it. With any other texts in them it is such a page again,
 /// where these pair no braces of the page and close none of its tags, as no typed text does.
-#[tactic(auto, using(crate::proofs::Blocks::BlockReading::spots_expanded, crate::proofs::Blocks::BlockReading::spots_unrefused, crate::proofs::Blocks::BlockMeaning::spots_meaning, crate::proofs::Blocks::BlockTrees::tree_of_spots, crate::proofs::Blocks::BlocksAgain::spots_utf8, crate::proofs::Blocks::BlocksAgain::spots_again))]
+#[tactic(auto, using(crate::proofs::Blocks::BlocksRead::spots_expanded, crate::proofs::Blocks::BlocksRead::spots_unrefused, crate::proofs::Blocks::BlockMeaning::spots_meaning, crate::proofs::Blocks::BlockTrees::tree_of_spots, crate::proofs::Blocks::BlocksAgain::spots_utf8, crate::proofs::Blocks::BlocksAgain::spots_again))]
 pub fn blocks_stand_round_typed_texts()
     ensures expanded { (pages : Pages) (ss : List BlockSpot) (behind : List ℕ) → AreBlockSpots ss behind
         → expanded_page pages (spots_source ss behind) ≡ of_items (page_items (spots_source ss behind)) }

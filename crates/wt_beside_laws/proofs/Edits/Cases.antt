@@ -33,7 +33,8 @@ use Rattle.wt_beside_laws.specs.Calm.{IsCalm, AreCalm, HaveNoBraces}
 use Rattle.wt_beside_laws.specs.Content.{AreKept}
 use Rattle.wt_beside_laws.specs.Kept.{characters, sign, IsKept}
 use Rattle.wt_beside_laws.specs.Lines.{AreLinesOfText}
-use Rattle.wt_beside_laws.specs.PageBlocks.{joined_parts, AreUnstyled, AreShut}
+use Rattle.wt_beside_laws.specs.PageBlocks.{AreUnstyled, AreShut}
+use Rattle.wt_text_edit_laws.specs.ParagraphParts.{joined_parts}
 use Rattle.wt_beside_laws.specs.PageSigns.{signs_of_lines, AreFlatLines}
 use Rattle.wt_beside_laws.proofs.Firm.{alone_as, parts_read}
 use Rattle.wt_beside_laws.proofs.FlatLines.{lines_meaning}

@@ -37,7 +37,7 @@ use Rattle.wt_typed_blocks.proofs.EditedSections.{answer_in_sections}
 use Rattle.wt_text_edit_laws.specs.LonePages.{of_items}
 use Rattle.wt_text_edit_laws.proofs.Prose.ProseTakes.{as_edit}
 use Rattle.wt_text_edit_laws.proofs.Prose.ProseTrees.{blocks_of}
-use Rattle.wt_beside_laws.specs.PageBlocks.{joined_parts}
+use Rattle.wt_text_edit_laws.specs.ParagraphParts.{joined_parts}
 use Rattle.wt_beside_laws.specs.SentNodes.{AreSent}
 use Rattle.wt_beside_laws.specs.SentPieces.{TextsFit}
 use Rattle.wt_beside_laws.proofs.NoFaults.{no_fault}

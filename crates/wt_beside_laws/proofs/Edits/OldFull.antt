@@ -11,15 +11,15 @@ use Rattle.wt_annotated.specs.WithoutCalls.{AllNonEmpty, IsPlain}
 use Rattle.wt_text_edit_laws.specs.ParagraphBetween.{body_with}
 use Rattle.wt_text_edit_laws.proofs.Texts.TypedShown.{AllOfPage}
 use Rattle.wt_text_edit_laws.proofs.Blocks.PageItems.{all_of}
-use Rattle.wt_beside_laws.specs.Flat.{para_with}
-use Rattle.wt_beside_laws.specs.PageBlocks.{joined_parts}
+use Rattle.wt_text_edit_laws.specs.ParagraphParts.{para_with, joined_parts}
 use Rattle.wt_beside_laws.specs.PageSigns.{signs_of_lines}
 use Rattle.wt_beside_laws.specs.Stood.{things}
 use Rattle.wt_beside_laws.proofs.LineThings.{lines_have}
 use Rattle.wt_beside_laws.proofs.PartThings.{HaveThings, tree_source}
 use Rattle.wt_beside_laws.specs.FlatPages.{lines_of, IsFlatPage}
 use Rattle.wt_beside_laws.proofs.Edits.OldPages.{flat_page}
-use Rattle.wt_beside_laws.proofs.Edits.FullTrees.{IsFullTree, AreFullParts, AreFull, FullThing, Each, each_full, node_alone}
+use Rattle.wt_beside_laws.proofs.Among.{Each}
+use Rattle.wt_beside_laws.proofs.Edits.FullTrees.{IsFullTree, AreFullParts, AreFull, FullThing, each_full, node_alone}
 
 -- ---- the nodes among parts
 

@@ -33,7 +33,7 @@ use Rattle.wt_text_edit_laws.specs.ParagraphBetween.{body_with}
 use Rattle.wt_text_edit_laws.specs.Parts.{part_tree}
 use Rattle.wt_text_edit_laws.proofs.Between.NoCalls.{calm_expanded, calm_unrefused}
 use Rattle.wt_text_edit_laws.proofs.Blocks.BlocksUngrouped.{blocks_ungrouped}
-use Rattle.wt_text_edit_laws.proofs.Blocks.KeptBlocks.{blocks_source, held_source}
+use Rattle.wt_text_edit_laws.proofs.Blocks.KeptBlocks.{blocks_source, held_source, blocks_flat}
 use Rattle.wt_text_edit_laws.proofs.Blocks.PageKinds.{page_ordinary}
 use Rattle.wt_text_edit_laws.proofs.Paragraphs.PartTrees.{plain_tree}
 use Rattle.wt_text_edit_laws.proofs.Prose.ProseTrees.{blocks_of}
@@ -42,11 +42,10 @@ use Rattle.wt_isolation.specs.OpenTags.{before, ends_open, any_ends_open}
 use Rattle.wt_isolation.specs.TextCalls.{touches_text_call}
 use Rattle.wt_selser.specs.Edits.{is_tangled}
 use Rattle.wt_selser.proofs.NoGroups.{untangled}
-use Rattle.wt_text_edit_laws.proofs.Blocks.KeptBlocks.{blocks_flat}
 use Rattle.wt_text_edit_laws.proofs.Blocks.Unframed.{blocks_unframed}
-use Rattle.wt_beside_laws.specs.Flat.{para_with}
+use Rattle.wt_text_edit_laws.specs.ParagraphParts.{para_with, joined_parts}
 use Rattle.wt_beside_laws.specs.OwnSigns.{IsFlatBlock}
-use Rattle.wt_beside_laws.specs.PageBlocks.{joined_parts, IsBlockOfLines}
+use Rattle.wt_beside_laws.specs.PageBlocks.{IsBlockOfLines}
 use Rattle.wt_beside_laws.proofs.BlockSigns.{flat_block, block_shut}
 use Rattle.wt_beside_laws.proofs.FlatLines.{lines_meaning}
 use Rattle.wt_beside_laws.specs.FlatPages.{lines_of, paragraph_of, block_of, IsFlatPage}

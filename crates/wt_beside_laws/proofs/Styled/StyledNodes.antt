@@ -1,5 +1,5 @@
 -- A content with styles of the nodes of flat lines of a page, with any texts, is one that is read sign by sign.
-use Rattle.std.proofs.Common.{◌≡◌, ℕ, Bool, true, false, List, [], ◌∷◌, map, refl, sym, ap, ◌∙◌, subst, inl, inr}
+use Rattle.std.proofs.Common.{◌≡◌, ℕ, Bool, true, false, List, [], ◌∷◌, ◌++◌, map, refl, sym, ap, ◌∙◌, subst, inl, inr}
 use Rattle.std.specs.Prelude.{None}
 use Rattle.wt_span.specs.declared.form.ItemForm.TheVariants as form
 use Rattle.wt_span.specs.Items.{Item, whole}
@@ -21,13 +21,14 @@ use Rattle.wt_beside_laws.specs.Nodes.{IsDelimiter, IsNode, MayFollow, MayLead}
 use Rattle.wt_beside_laws.specs.PageSigns.{signs_of_lines, AreFlatLines}
 use Rattle.wt_beside_laws.specs.Stood.{things}
 use Rattle.wt_beside_laws.specs.Styled.{StyledContent, mark_source, signs_in, AreNested, IsStyledContent}
-use Rattle.wt_beside_laws.specs.StyledNodes.{IsPut, AreAmong, IsUrlApart, AreUrlsApart}
+use Rattle.wt_beside_laws.specs.StyledNodes.{IsPut, AreSomeAndPut, IsUrlApart, AreUrlsApart}
 use Rattle.wt_beside_laws.proofs.Contents.{nowiki_reads}
 use Rattle.wt_beside_laws.proofs.Firm.{alone_as}
 use Rattle.wt_beside_laws.proofs.FlatAgain.{nowiki_kept}
-use Rattle.wt_beside_laws.proofs.FlatContents.{Each, Kept, kept_each, each_kept, Unbroken, each_unbroken, lines_unbroken}
+use Rattle.wt_beside_laws.proofs.Among.{Each}
+use Rattle.wt_beside_laws.proofs.FlatContents.{Kept, kept_each, each_kept, Unbroken, each_unbroken, lines_unbroken}
 use Rattle.wt_beside_laws.proofs.NodesMeet.{atom_may}
-use Rattle.wt_beside_laws.proofs.PageNodes.{follows_none, Meet, EachIsNode, EachMeets, nodes_of, all_meet, each_node, each_meets}
+use Rattle.wt_beside_laws.proofs.PageNodes.{follows_none, Meet, MeetInPage, EachIsNode, EachMeets, MeetsEach, PairsMeet, nodes_of, all_meet, each_node, all_pairs}
 use Rattle.wt_beside_laws.proofs.PageSigns.{lines_stood, lines_at}
 use Rattle.wt_beside_laws.proofs.Styled.StyledLines.{mark_items, mark_glyphs}
 
@@ -74,18 +75,26 @@ put_unbroken t p = elim p [
 
 -- ---- what holds of the page's nodes and of those that are put holds of all
 
-each_among : (P : Thing → Type 0) → ((t : Thing) → IsPut t → P t) → (ts ps : List Thing) → AreAmong ts ps → Each P ps → Each P ts
-each_among P f [] ps a h = tt
-each_among P f (t ∷ ts) ps a h = elim a [
-  | inl p ↦ (f t p.0, each_among P f ts ps p.1 h)
-  | inr q ↦ let k : Each P (t ∷ q.0) = subst (Each P) q.1 h in (k.0, each_among P f ts q.0 q.2 k.1)
+each_left : (P : Thing → Type 0) (gone : List Thing) (t : Thing) (later : List Thing) → Each P (gone ++ t ∷ later) → P t × Each P later
+each_left P [] t later h = h
+each_left P (o ∷ gone) t later h = each_left P gone t later h.1
+
+each_some : (P : Thing → Type 0) → ((t : Thing) → IsPut t → P t) → (ts ps : List Thing) → AreSomeAndPut ts ps → Each P ps → Each P ts
+each_some P f [] ps a h = tt
+each_some P f (t ∷ ts) ps a h = elim a [
+  | inl p ↦ (f t p.0, each_some P f ts ps p.1 h)
+  | inr q ↦ let k = each_left P q.0 t q.1 (subst (Each P) q.2 h) in (k.0, each_some P f ts q.1 q.3 k.1)
 ]
 
-nodes_among : (ts ps : List Thing) → AreAmong ts ps → EachIsNode ps → EachIsNode ts
-nodes_among [] ps a h = tt
-nodes_among (t ∷ ts) ps a h = elim a [
-  | inl p ↦ (put_node t p.0, nodes_among ts ps p.1 h)
-  | inr q ↦ let k : EachIsNode (t ∷ q.0) = subst EachIsNode q.1 h in (k.0, nodes_among ts q.0 q.2 k.1)
+node_left : (gone : List Thing) (t : Thing) (later : List Thing) → EachIsNode (gone ++ t ∷ later) → IsNode t.role (own_glyphs t) × EachIsNode later
+node_left [] t later h = h
+node_left (o ∷ gone) t later h = node_left gone t later h.1
+
+nodes_some : (ts ps : List Thing) → AreSomeAndPut ts ps → EachIsNode ps → EachIsNode ts
+nodes_some [] ps a h = tt
+nodes_some (t ∷ ts) ps a h = elim a [
+  | inl p ↦ (put_node t p.0, nodes_some ts ps p.1 h)
+  | inr q ↦ let k = node_left q.0 t q.1 (subst EachIsNode q.2 h) in (k.0, nodes_some ts q.1 q.3 k.1)
 ]
 
 -- ---- side by side
@@ -149,43 +158,47 @@ meets_put t n p u z = elim p [
   )
 ]
 
-later_meet : (t : Thing) (ts : List Thing) → EachMeets (t ∷ ts) → EachMeets ts
-later_meet t [] m = tt
-later_meet t (n ∷ ts) m = m.1
+pairs_left : (gone : List Thing) (t : Thing) (later : List Thing) → PairsMeet (gone ++ t ∷ later) → MeetsEach t later × PairsMeet later
+pairs_left [] t later h = h
+pairs_left (o ∷ gone) t later h = pairs_left gone t later h.1
 
--- the first two of them
-first_meet : (t n : Thing) (ts qs : List Thing) → AreAmong (n ∷ ts) qs → IsUrlApart t.role n.role (is_adjacent t n) → EachMeets (t ∷ qs) → is_adjacent t n ≡ true → Meet t n
+meets_at : (t : Thing) (gone : List Thing) (n : Thing) (later : List Thing) → MeetsEach t (gone ++ n ∷ later) → MeetInPage t n
+meets_at t [] n later h = h.0
+meets_at t (o ∷ gone) n later h = meets_at t gone n later h.1
+
+-- a node of the page, and what is behind it
+first_meet : (t n : Thing) (ts qs : List Thing) → AreSomeAndPut (n ∷ ts) qs → IsUrlApart t.role n.role (is_adjacent t n) → MeetsEach t qs → MeetInPage t n
 first_meet t n ts qs a u m z = elim a [
   | inl p ↦ meets_put t n p.0 u z
-  | inr q ↦ let k : EachMeets (t ∷ n ∷ q.0) = subst (λ os. EachMeets (t ∷ os)) q.1 m in k.0 z
+  | inr q ↦ meets_at t q.0 n q.1 (subst (MeetsEach t) q.2 m) z
 ]
 
-meet_among : (ts ps : List Thing) → AreAmong ts ps → AreUrlsApart ts → EachMeets ps → EachMeets ts
-meet_among [] ps a u m = tt
-meet_among (t ∷ []) ps a u m = tt
-meet_among (t ∷ n ∷ ts) ps a u m = elim a [
-  | inl p ↦ ((λ z. put_meets t n p.0), meet_among (n ∷ ts) ps p.1 u.1 m)
+meet_some : (ts ps : List Thing) → AreSomeAndPut ts ps → AreUrlsApart ts → PairsMeet ps → EachMeets ts
+meet_some [] ps a u m = tt
+meet_some (t ∷ []) ps a u m = tt
+meet_some (t ∷ n ∷ ts) ps a u m = elim a [
+  | inl p ↦ ((λ z. put_meets t n p.0), meet_some (n ∷ ts) ps p.1 u.1 m)
   | inr q ↦
-      let k : EachMeets (t ∷ q.0) = subst EachMeets q.1 m in
-      ((λ z. first_meet t n ts q.0 q.2 u.0 k z), meet_among (n ∷ ts) q.0 q.2 u.1 (later_meet t q.0 k))
+      let k = pairs_left q.0 t q.1 (subst PairsMeet q.2 m) in
+      (first_meet t n ts q.1 q.3 u.0 k.0, meet_some (n ∷ ts) q.1 q.3 u.1 k.1)
 ]
 
 -- ---- the content
 
 pub styled_content : (s : Setting) (ls : List (List Item)) (at : ℕ) (t : StyledContent) → s.within ≡ false → AreFlatLines ls → AreKept (signs_of_lines at ls)
-    → AreCharacters (signs_in t) → AreNested false false t → AreAmong (things (signs_in t)) (things (signs_of_lines at ls)) → AreUrlsApart (things (signs_in t))
+    → AreCharacters (signs_in t) → AreNested false false t → AreSomeAndPut (things (signs_in t)) (things (signs_of_lines at ls)) → AreUrlsApart (things (signs_in t))
     → IsStyledContent s t
-styled_content s ls at t block flat kept typed nested among apart =
+styled_content s ls at t block flat kept typed nested some apart =
     let olds : List ContentSign = signs_of_lines at ls in
     let signs : List ContentSign = signs_in t in
-    let nodes : EachIsNode (things signs) = nodes_among (things signs) (things olds) among (each_node false olds (lines_stood at ls flat)) in
-    let meets : EachMeets (things signs) = meet_among (things signs) (things olds) among apart (each_meets false at olds (lines_stood at ls flat) (lines_at at ls flat)) in
+    let nodes : EachIsNode (things signs) = nodes_some (things signs) (things olds) some (each_node false olds (lines_stood at ls flat)) in
+    let meets : EachMeets (things signs) = meet_some (things signs) (things olds) some apart (all_pairs false at olds (lines_stood at ls flat) (lines_at at ls flat)) in
     record {
       of_block = block;
       characters = typed;
-      kept = each_kept signs (each_among Kept put_kept (things signs) (things olds) among (kept_each olds kept));
+      kept = each_kept signs (each_some Kept put_kept (things signs) (things olds) some (kept_each olds kept));
       nodes = nodes_of signs nodes;
-      unbroken = each_unbroken signs (each_among Unbroken put_unbroken (things signs) (things olds) among (lines_unbroken at ls flat));
+      unbroken = each_unbroken signs (each_some Unbroken put_unbroken (things signs) (things olds) some (lines_unbroken at ls flat));
       nested = nested;
       meet = all_meet s [] signs (nodes, meets);
     }

@@ -17,13 +17,12 @@ use Rattle.wt_page.specs.Rows.{rows_from, rows}
 use Rattle.wt_page.specs.Texts.{para_parts, para}
 use Rattle.wt_page.specs.Body.{within, blocks, meaning}
 use Rattle.wt_text_edit_laws.specs.ParagraphBetween.{EndsApart, EndsParagraph, blocks_in, body_with}
+use Rattle.wt_text_edit_laws.specs.ParagraphParts.{break, after_breaks, joined_parts, para_with}
 use Rattle.wt_text_edit_laws.proofs.Texts.PlainRows.{text_row}
 use Rattle.wt_beside_laws.specs.Content.{guard_items, letter_items}
-use Rattle.wt_beside_laws.specs.Flat.{para_with}
 use Rattle.wt_beside_laws.specs.Lines.{IsLineOfText, line_items, later_lines}
 use Rattle.wt_beside_laws.specs.Nests.{style_tree}
 use Rattle.wt_beside_laws.specs.Nodes.{AreNodes, AllMeet}
-use Rattle.wt_beside_laws.specs.PageBlocks.{break, after_breaks, joined_parts}
 use Rattle.wt_beside_laws.specs.Styled.{StyledContent, finished, sign, styled, delimiter, signs_before, signs_in, signs_past, AreNested, IsStyledContent, styled_parts}
 use Rattle.wt_beside_laws.proofs.Contents.{content_alone}
 use Rattle.wt_beside_laws.proofs.LineItems.{content_lines_are}

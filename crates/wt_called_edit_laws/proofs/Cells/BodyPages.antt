@@ -9,11 +9,11 @@ use Rattle.wt_row_laws.specs.Slots.{AllTrue}
 use Rattle.wt_text_edit_laws.specs.Paragraphs.{IsParagraph}
 use Rattle.wt_text_edit_laws.specs.ParagraphBetween.{written_rows, tables_behind, rows_of_lines, AreClosed, before_marks, EndApart}
 use Rattle.wt_text_edit_laws.specs.TextBlocks.{TextBlock, a_paragraph, a_heading, IsBlock, LeadsTo, EndsBlock, BeginsBetween}
-use Rattle.wt_text_edit_laws.specs.BlockSpots.{BlockSpot, IsBlockSpot, AreFurtherBlocks, AreBlockSpots, IsRead}
+use Rattle.wt_text_edit_laws.specs.BlockSpots.{BlockSpot, IsBlockSpot, AreFurtherBlocks, AreBlockSpots}
 use Rattle.wt_text_edit_laws.proofs.Prose.ProseReading.{break}
 use Rattle.wt_text_edit_laws.proofs.Prose.ProseLines.{blank_row}
 use Rattle.wt_text_edit_laws.proofs.Paragraphs.Joining.{lines_join}
-use Rattle.wt_called_edit_laws.specs.AnyBlocks.{open_behind_part, EndsFor, StaysText, IsSpotAt, past_break, BeginsAfter, EndsAfter, AreSpotsAfter, AreParts, AreSpots}
+use Rattle.wt_called_edit_laws.specs.AnyBlocks.{open_behind_part, EndsFor, StaysText, IsTextRead, IsSpotAt, past_break, BeginsAfter, EndsAfter, AreSpotsAfter, AreParts, AreSpots}
 use Rattle.wt_called_edit_laws.proofs.Cells.Cells.{typed_stays_text}
 use Rattle.wt_called_edit_laws.proofs.Cells.SpotSlots.{open_size}
 use Rattle.wt_text_edit_laws.proofs.Blocks.BlocksUngrouped.{spots_ungrouped}
@@ -39,7 +39,7 @@ block_stays (a_heading s) q h = tt
 
 spot_in_body : (s : BlockSpot) (xs : List Item) → IsBlockSpot s → AreClosed (before_marks xs) → EndsFor s.block (rows_of_lines (before_marks xs)) → IsSpotAt [] xs s
 spot_in_body s xs h c e =
-    let is : IsRead s = record { ended = h.ended; before_utf8 = h.before_utf8; block = h.block } in
+    let is : IsTextRead s = record { ended = h.ended; before_utf8 = h.before_utf8; block = h.block } in
     let none : [] ≡ open_behind_part [] xs = sym (none_open xs c) in (
       is,
       record { whole = c.whole; in_cells = subst AllTrue none tt; apart = e },

@@ -1,4 +1,4 @@
--- Blocks among calls are at places of the page's tree, which are the same whatever the texts are; and a page that calls nothing is such a page.
+-- Blocks among calls are at places of the page's tree, which are the same whatever their contents are; and a page that calls nothing is such a page.
 use Rattle.std.proofs.Common.{◌≡◌, ℕ, zero, suc, ◌+◌, List, [], ◌∷◌, ◌++◌, map, refl, sym, ap, ap₂, ◌∙◌, subst}
 use Rattle.wt_span.specs.Items.{Item}
 use Rattle.wt_expand.specs.PageItems.{page_items}
@@ -6,13 +6,13 @@ use Rattle.wt_expand.specs.Work.{Pages}
 use Rattle.wt_page.specs.Body.{meaning}
 use Rattle.wt_text_edit_laws.specs.BlockSpots.{BlockSpot, AreRead, SameRound}
 use Rattle.wt_text_edit_laws.specs.TextBlocks.{block_items}
-use Rattle.wt_text_edit_laws.proofs.Blocks.TypedBraces.{AreTypedOver}
+use Rattle.wt_text_edit_laws.proofs.Blocks.TypedBraces.{AreNewOver}
 use Rattle.wt_called_edit_laws.specs.Parts.{part_items, calls_in, called_items}
 use Rattle.wt_called_edit_laws.specs.Retyped.{AreRetyped}
 use Rattle.wt_called_edit_laws.proofs.Parts.NoCallsCalled.{PartsCalm, parts_calm, read_called, calm_items, calm_count}
-use Rattle.wt_called_edit_laws.proofs.Parts.Retyped.{is_by_parts, same_round, typed_over, expanded_again}
+use Rattle.wt_called_edit_laws.proofs.Parts.Retyped.{is_by_parts, same_round, new_over, expanded_again}
 use Rattle.wt_called_edit_laws.specs.AnyBlocks.{AreSpots}
-use Rattle.wt_called_edit_laws.specs.ItemSpots.{ItemSpot, items_of_spots, placed_items, ArePlaced, SameItems, AreTypedIn}
+use Rattle.wt_called_edit_laws.specs.ItemSpots.{ItemSpot, items_of_spots, placed_items, ArePlaced, SameItems, AreNewIn}
 use Rattle.wt_called_edit_laws.specs.CalledBlocks.{spots_among, items_behind, AreAmongCalls, tree_by, counted, StandAmongCalls}
 use Rattle.wt_called_edit_laws.proofs.Cells.ItemFrames.{counted_in, items_over, items_framed}
 use Rattle.wt_called_edit_laws.proofs.Cells.SpotFrames.{parts_placed}
@@ -43,10 +43,10 @@ same_behind pages k (s ∷ ss) [] behind e = absurd e
 same_behind pages k (s ∷ ss) (r ∷ rs) behind e =
     ap (λ bs. items_behind pages (k + calls_in pages bs) rs behind) e.0 ∙ same_behind pages (k + calls_in pages s.before) ss rs behind e.2
 
-typed_among : (pages : Pages) (k j : ℕ) (ss rs : List BlockSpot) → AreTypedOver ss rs → AreTypedIn (spots_among pages k ss) (spots_among pages j rs)
-typed_among pages k j [] rs o = tt
-typed_among pages k j (s ∷ ss) [] o = tt
-typed_among pages k j (s ∷ ss) (r ∷ rs) o = (o.0, typed_among pages (k + calls_in pages s.before) (j + calls_in pages r.before) ss rs o.1)
+new_among : (pages : Pages) (k j : ℕ) (ss rs : List BlockSpot) → AreNewOver ss rs → AreNewIn (spots_among pages k ss) (spots_among pages j rs)
+new_among pages k j [] rs o = tt
+new_among pages k j (s ∷ ss) [] o = tt
+new_among pages k j (s ∷ ss) (r ∷ rs) o = (o.0, new_among pages (k + calls_in pages s.before) (j + calls_in pages r.before) ss rs o.1)
 
 counted_same : (pages : Pages) (k : ℕ) (ss : List BlockSpot) → counted_in (spots_among pages k ss) ≡ counted ss
 counted_same pages k [] = refl
@@ -68,11 +68,11 @@ stand_among pages ss behind h =
           let again = expanded_again pages ss rs behind h.called t in
           let by = is_by_parts pages rs behind again.called in
           ap meaning (by.items ∙ called_are pages 0 rs behind ∙ ap (placed_items (spots_among pages 0 rs)) (same_behind pages 0 ss rs behind (same_round ss rs t)))
-          ∙ f.means (spots_among pages 0 rs) (tree_by rs) (same_among pages 0 ss rs (same_round ss rs t)) (typed_among pages 0 0 ss rs (typed_over ss rs t))
+          ∙ f.means (spots_among pages 0 rs) (tree_by rs) (same_among pages 0 ss rs (same_round ss rs t)) (new_among pages 0 0 ss rs (new_over ss rs t))
           (trees_same pages 0 rs);
     }
 
--- ---- with texts that were typed it is such a page again
+-- ---- with new contents it is such a page again
 
 pub again_among : (pages : Pages) (ss rs : List BlockSpot) (behind : List ℕ) → AreAmongCalls pages ss behind → AreRetyped ss rs → AreAmongCalls pages rs behind
 again_among pages ss rs behind h t =
@@ -82,7 +82,7 @@ again_among pages ss rs behind h t =
       called = again.called;
       placed = subst (ArePlaced (spots_among pages 0 rs)) (sym (same_behind pages 0 ss rs behind e))
           (items_over (spots_among pages 0 ss) (spots_among pages 0 rs) (items_behind pages 0 ss behind) h.placed (same_among pages 0 ss rs e)
-          (typed_among pages 0 0 ss rs (typed_over ss rs t)));
+          (new_among pages 0 0 ss rs (new_over ss rs t)));
     }
 
 -- ---- a page that calls nothing is such a page

@@ -2,8 +2,7 @@
 use Rattle.std.proofs.Common.{◌≡◌, ℕ, List, [], ◌∷◌, ◌++◌, map, refl, sym, ap, ◌∙◌, subst, append-nil, append_assoc, All}
 use Rattle.std.proofs.lemmas.List.Elements.{All-head, All-tail}
 use Rattle.wt_span.specs.Items.{Item}
-use Rattle.wt_span.specs.Runs.{AreRuns}
-use Rattle.wt_span.proofs.RunLaws.{runs_are, runs_only}
+use Rattle.wt_span.proofs.RunLaws.{runs_only}
 use Rattle.wt_lines.specs.declared.kind.LineKind.{LineKind}
 use Rattle.wt_lines.specs.declared.kind.LineKind.TheVariants as line
 use Rattle.wt_lines.specs.Kinds.{line_kind}
@@ -14,9 +13,11 @@ use Rattle.wt_headings.specs.Lines.{kind_at, ending}
 use Rattle.wt_page.specs.Rows.{Row, whole_row, line_rows, rows_from, rows}
 use Rattle.wt_row_laws.specs.Rounds.{TableRound, in_cell, in_cells}
 use Rattle.wt_text_edit_laws.specs.ParagraphBetween.{written_rows}
-use Rattle.wt_text_edit_laws.proofs.Texts.PlainRows.{AreTexts, text_row, last_break}
+use Rattle.wt_text_edit_laws.specs.Contents.{AreUnled}
+use Rattle.wt_text_edit_laws.proofs.Texts.PlainRows.{text_row, last_break}
 use Rattle.wt_text_edit_laws.proofs.Prose.ProseReading.{break}
-use Rattle.wt_text_edit_laws.proofs.Prose.ProseLines.{ended, content_ended, ended_runs, IsTextBlock}
+use Rattle.wt_text_edit_laws.proofs.Prose.ProseLines.{ended, content_ended, ended_runs}
+use Rattle.wt_text_edit_laws.proofs.Paragraphs.LineBlocks.{IsLineBlock, block_runs, still_unled}
 use Rattle.wt_text_edit_laws.proofs.Paragraphs.Joining.{lines_join, rows_join}
 use Rattle.wt_called_edit_laws.specs.InCells.{rows_before, rows_behind, open_tables, AreBehind, AreTextLines}
 
@@ -52,11 +53,11 @@ abbrev AreAt : ℕ → List (List Item) → Type 0
 AreAt n [] = Unit {0}
 AreAt n (l ∷ ls) = (kind_at n l ≡ line.Text) × AreAt n ls
 
-texts_at : (n : ℕ) (ls ms : List (List Item)) → AreTexts ls → AreAt n ls → rows_from n (ls ++ ms) ≡ map text_row ls ++ rows_from n ms
+texts_at : (n : ℕ) (ls ms : List (List Item)) → AreUnled ls → AreAt n ls → rows_from n (ls ++ ms) ≡ map text_row ls ++ rows_from n ms
 texts_at n [] ms h k = refl
 texts_at n (l ∷ ls) ms h k =
     ap (λ (j : LineKind). line_rows j l ++ rows_from (behind n j) (ls ++ ms)) k.0
-    ∙ ap (λ (m : ℕ). whole_row line.Text m l ∷ rows_from n (ls ++ ms)) h.0.unled
+    ∙ ap (λ (m : ℕ). whole_row line.Text m l ∷ rows_from n (ls ++ ms)) h.0
     ∙ ap (λ rs. text_row l ∷ rs) (texts_at n ls ms h.1 k.1)
 
 abbrev IsTextAt : ℕ → List Item → Type 0
@@ -67,7 +68,7 @@ kinds_by n [] ends a = tt
 kinds_by n (l ∷ ls) ends a =
     (All-head (IsTextAt n) (content l) (map content ls ++ ends) a, kinds_by n ls ends (All-tail (IsTextAt n) (content l) (map content ls ++ ends) a))
 
-kinds_at : (n : ℕ) (xs : List Item) (b : IsTextBlock xs) → AreTextLines n xs → AreAt n (b.first ∷ b.others)
+kinds_at : (n : ℕ) (xs : List Item) (b : IsLineBlock xs) → AreTextLines n xs → AreAt n (b.first ∷ b.others)
 kinds_at n xs b a = subst (AreAt n) b.are_lines (kinds_by n (full_lines xs) (empty_end xs) (subst (All (IsTextAt n)) (same_lines xs) a))
 
 ended_at : (n : ℕ) (l : List Item) (ls : List (List Item)) → AreAt n (l ∷ ls) → last_break (ending l) ls ≡ [] → AreAt n (ended l ls)
@@ -77,33 +78,33 @@ ended_at n l (m ∷ ls) h e = (h.0, ended_at n m ls h.1 e)
 -- ---- the paragraph's rows, and those behind it
 
 -- by what follows the paragraph
-abbrev pub own_rows : (own : List Item) → IsTextBlock own → List Item → List Row
+abbrev pub own_rows : (own : List Item) → IsLineBlock own → List Item → List Row
 own_rows own b [] = map text_row (b.first ∷ b.others)
 own_rows own b (y ∷ ys) = map text_row (ended b.first b.others)
 
-ended_lines : (own ys : List Item) (b : IsTextBlock own) → full_lines (own ++ break ∷ ys) ≡ ended b.first b.others ++ full_lines ys
+ended_lines : (own ys : List Item) (b : IsLineBlock own) → full_lines (own ++ break ∷ ys) ≡ ended b.first b.others ++ full_lines ys
 ended_lines own ys b =
-    let are : AreRuns goes_on (b.first ∷ b.others) own = subst (λ ms. AreRuns goes_on ms own) b.are_lines (runs_are goes_on own) in
-    sym (runs_only goes_on (ended b.first b.others ++ full_lines ys) (own ++ break ∷ ys) (ended_runs b.first b.others own ys are b.are_unended))
+    sym (runs_only goes_on (ended b.first b.others ++ full_lines ys) (own ++ break ∷ ys)
+    (ended_runs b.first b.others own ys (block_runs own b) b.are_unended))
 
-pub text_rows : (n : ℕ) (own tail : List Item) (b : IsTextBlock own) (rs : List Row) → AreTextLines n own → AreTexts (ended b.first b.others)
-    → AreBehind n tail rs → rows_from n (full_lines (own ++ tail)) ≡ own_rows own b tail ++ rs
-text_rows n own [] b rs a w e =
+pub text_rows : (n : ℕ) (own tail : List Item) (b : IsLineBlock own) (rs : List Row) → AreTextLines n own → AreBehind n tail rs
+    → rows_from n (full_lines (own ++ tail)) ≡ own_rows own b tail ++ rs
+text_rows n own [] b rs a e =
     ap (λ zs. rows_from n (full_lines zs)) (append-nil own)
     ∙ ap (rows_from n) (b.are_lines ∙ sym (append-nil (b.first ∷ b.others)))
-    ∙ texts_at n (b.first ∷ b.others) [] b.are_texts (kinds_at n own b a)
+    ∙ texts_at n (b.first ∷ b.others) [] b.are_unled (kinds_at n own b a)
     ∙ ap (λ zs. map text_row (b.first ∷ b.others) ++ zs) e
-text_rows n own (y ∷ ys) b rs a w e =
+text_rows n own (y ∷ ys) b rs a e =
     ap (λ z. rows_from n (full_lines (own ++ z ∷ ys))) e.0
     ∙ ap (rows_from n) (ended_lines own ys b)
-    ∙ texts_at n (ended b.first b.others) (full_lines ys) w (ended_at n b.first b.others (kinds_at n own b a) b.are_unended)
+    ∙ texts_at n (ended b.first b.others) (full_lines ys) (still_unled b.first b.others b.are_unled) (ended_at n b.first b.others (kinds_at n own b a) b.are_unended)
     ∙ ap (λ zs. map text_row (ended b.first b.others) ++ zs) e.1
 
-pub page_rows : (xs own tail : List Item) (b : IsTextBlock own) (rs : List Row) → empty_end xs ≡ [] ∷ [] → AreTextLines (open_tables xs) own
-    → AreTexts (ended b.first b.others) → AreBehind (open_tables xs) tail rs
+pub page_rows : (xs own tail : List Item) (b : IsLineBlock own) (rs : List Row) → empty_end xs ≡ [] ∷ [] → AreTextLines (open_tables xs) own
+    → AreBehind (open_tables xs) tail rs
     → rows (xs ++ (own ++ tail)) ≡ written_rows 0 (full_lines xs) ++ (own_rows own b tail ++ rs)
 unfolding rows
-page_rows xs own tail b rs whole a w e =
+page_rows xs own tail b rs whole a e =
     ap (rows_from 0) (lines_join xs (own ++ tail) whole)
     ∙ rows_join 0 (full_lines xs) (full_lines (own ++ tail))
-    ∙ ap (λ zs. written_rows 0 (full_lines xs) ++ zs) (text_rows (open_tables xs) own tail b rs a w e)
+    ∙ ap (λ zs. written_rows 0 (full_lines xs) ++ zs) (text_rows (open_tables xs) own tail b rs a e)

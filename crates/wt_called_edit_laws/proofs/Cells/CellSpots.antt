@@ -19,10 +19,11 @@ use Rattle.wt_row_laws.proofs.UnitCuts.{first_unit, cut, level_open, level_other
 use Rattle.wt_row_laws.proofs.InCells.{alone_first}
 use Rattle.wt_text_edit_laws.specs.ParagraphBetween.{written_rows, before_marks, EndApart, BeginApart}
 use Rattle.wt_text_edit_laws.specs.TextBlocks.{a_paragraph}
-use Rattle.wt_text_edit_laws.specs.BlockSpots.{BlockSpot, IsRead}
+use Rattle.wt_text_edit_laws.specs.BlockSpots.{BlockSpot}
 use Rattle.wt_text_edit_laws.proofs.Between.LineForms.{ends_before_any}
 use Rattle.wt_text_edit_laws.proofs.Between.TextReads.{calm_between}
-use Rattle.wt_called_edit_laws.specs.AnyBlocks.{open_after, rows_of_part, open_behind_part, LeadsInto, EndsAfter, AreParts, AreSpots}
+use Rattle.wt_text_edit_laws.proofs.Blocks.Contents.{typed_firm}
+use Rattle.wt_called_edit_laws.specs.AnyBlocks.{open_after, rows_of_part, open_behind_part, LeadsInto, IsTextRead, EndsAfter, AreParts, AreSpots}
 use Rattle.wt_called_edit_laws.specs.CellEdits.{CellPage, IsCellPage}
 use Rattle.wt_called_edit_laws.specs.InCells.{rows_before, rows_behind, open_tables, AreBehind, IsInCell}
 use Rattle.wt_called_edit_laws.proofs.Cells.Cells.{typed_stays_text}
@@ -270,7 +271,7 @@ cell_spots c h =
       in_cells = subst (λ rs. AllTrue (open_after [] rs)) (sym rows_are) (rounds_open [] i.tables i.front i.rounds i.front_content tt);
       apart = subst EndApart (sym rows_are) (rounds_apart i.tables i.front i.rounds i.front_apart);
     } in
-    let is : IsRead s = record { ended = h.stands.ends; before_utf8 = h.before_utf8; block = inl h.is_typed } in
+    let is : IsTextRead s = record { ended = h.stands.ends; before_utf8 = h.before_utf8; block = inl h.is_typed } in
     let parts : AreParts (s ∷ []) c.behind = (
       (is, leads, typed_stays_text (length (open_behind_part [] xs)) c.text h.is_typed),
       (
@@ -284,7 +285,7 @@ cell_spots c h =
       parts = parts;
       whole = record {
         calls_nothing = calm_between c.before c.text c.behind h.stands h.is_typed h.follows h.calls_nothing;
-        end_before = (ends_before_any (c.text ++ c.behind) c.before h.stands.has_ends, inl h.is_typed, tt);
+        end_before = (ends_before_any (c.text ++ c.behind) c.before h.stands.has_ends, inl (typed_firm a_paragraph c.text h.is_typed), tt);
       };
       ungrouped = h.ungrouped;
     }

@@ -3,6 +3,7 @@ use Rattle.std.proofs.Common.{◌≡◌, ℕ, List, [], ◌∷◌, ◌++◌, map
 use Rattle.wt_tree.specs.declared.kind.Kind.TheVariants as kind
 use Rattle.wt_span.specs.Items.{Item}
 use Rattle.wt_lines.specs.declared.kind.LineKind.TheVariants as line
+use Rattle.wt_lines.specs.Lines.{lines}
 use Rattle.wt_inline.specs.ItemTree.{plain}
 use Rattle.wt_inline.specs.Parts.{children}
 use Rattle.wt_page.specs.Rows.{Row, rows}
@@ -17,10 +18,12 @@ use Rattle.wt_row_laws.proofs.Fitting.{node_is}
 use Rattle.wt_row_laws.proofs.InCells.{paragraph_stands}
 use Rattle.wt_text_edit_laws.specs.LonePages.{para_of}
 use Rattle.wt_text_edit_laws.specs.TypedPages.{IsTypedPage}
-use Rattle.wt_text_edit_laws.proofs.Texts.PlainRows.{AreTexts, text_row}
+use Rattle.wt_text_edit_laws.specs.ParagraphParts.{joined_parts, para_with}
+use Rattle.wt_text_edit_laws.proofs.Texts.PlainRows.{text_row}
 use Rattle.wt_text_edit_laws.proofs.Prose.ProseReading.{break}
-use Rattle.wt_text_edit_laws.proofs.Prose.ProseLines.{ended, ended_texts, IsTextBlock}
-use Rattle.wt_text_edit_laws.proofs.Prose.ProseBlocks.{block_para, block_ended, last_ended, last_unended}
+use Rattle.wt_text_edit_laws.proofs.Prose.ProseLines.{ended, IsTextBlock}
+use Rattle.wt_text_edit_laws.proofs.Prose.ProseBlocks.{last_ended, last_unended}
+use Rattle.wt_text_edit_laws.proofs.Paragraphs.LineBlocks.{OwnBreaks, page_breaks, IsLineBlock, as_lines, rows_para, ended_para, text_tree}
 use Rattle.wt_text_edit_laws.proofs.Paragraphs.Texts.{paragraph_written}
 use Rattle.wt_called_edit_laws.specs.InCells.{rows_behind, AreTextLines, IsInCell, StandsInCell}
 use Rattle.wt_called_edit_laws.proofs.Cells.CellRows.{in_order, own_rows, page_rows}
@@ -35,13 +38,13 @@ all_text : (ls : List (List Item)) → AllAre line.Text (map text_row ls)
 all_text [] = tt
 all_text (l ∷ ls) = (refl, all_text ls)
 
-pub own_are : (own tail : List Item) (b : IsTextBlock own) → AreTextRows [] (end_of tail) (own_rows own b tail)
+pub own_are : (own tail : List Item) (b : IsLineBlock own) → AreTextRows [] (end_of tail) (own_rows own b tail)
 own_are own [] b = (all_text (b.first ∷ b.others), refl, last_unended b.first b.others ∙ b.are_unended)
 own_are own (y ∷ ys) b = (all_text (ended b.first b.others), refl, last_ended b.first b.others)
 
-pub own_para : (own tail : List Item) (b : IsTextBlock own) → para (own_rows own b tail) ≡ para_of own
-own_para own [] b = block_para own b
-own_para own (y ∷ ys) b = block_ended own b
+pub own_para : (own tail : List Item) (b : IsLineBlock own) → OwnBreaks own → para (own_rows own b tail) ≡ para_with (joined_parts (lines own))
+own_para own [] b o = rows_para own b o
+own_para own (y ∷ ys) b o = ended_para own b o
 
 -- ---- the page
 
@@ -60,15 +63,15 @@ stands_in_cell xs tail h =
       of_cells = p.of_cells;
       stands = λ q w a.
           let own : List Item = page_items q in
-          let b : IsTextBlock own = (paragraph_written q w).0 in
-          let texts : AreTexts (ended b.first b.others) = ended_texts b.first b.others b.are_texts b.are_unended in
+          let text : IsTextBlock own = (paragraph_written q w).0 in
+          let b : IsLineBlock own = as_lines own text in
           let mine : List Row = own_rows own b tail in
           let made : rows (xs ++ (own ++ tail)) ≡ in_cells h.tables (h.front ++ (mine ++ h.back)) =
-          page_rows xs own tail b (rows_behind h.tables h.back) h.whole a texts h.are_behind
+          page_rows xs own tail b (rows_behind h.tables h.back) h.whole a h.are_behind
           ∙ ap (λ zs. zs ++ (mine ++ rows_behind h.tables h.back)) h.are_before
           ∙ sym (in_order h.tables h.front mine h.back) in
           means (xs ++ (own ++ tail)) (filled p.around (para mine)) (ap blocks made ∙ p.stands mine (own_are own tail b))
-          ∙ ap (λ t. node_of (plain kind.Body) [] (filled p.around t) []) (own_para own tail b)
+          ∙ ap (λ t. node_of (plain kind.Body) [] (filled p.around t) []) (own_para own tail b (page_breaks q) ∙ text_tree own text (page_breaks q))
           ∙ node_is (plain kind.Body) [] p.around (para_of own) p.around.front p.around.back [];
     }
 

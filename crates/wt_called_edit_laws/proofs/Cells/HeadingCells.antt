@@ -17,7 +17,7 @@ use Rattle.wt_row_laws.proofs.HeadingsInCells.{heading_stands}
 use Rattle.wt_text_edit_laws.specs.ParagraphBetween.{written_rows}
 use Rattle.wt_text_edit_laws.specs.TypedHeadings.{Sides, AreSides, heading_line, heading_with, IsHeadingText, IsOfLevel}
 use Rattle.wt_text_edit_laws.proofs.Headings.HeadingRows.{heading_row, rows_then, rows_last, tree_is}
-use Rattle.wt_text_edit_laws.proofs.Blocks.BlockMeaning.{heading_sides, heading_text, heading_level}
+use Rattle.wt_text_edit_laws.proofs.Blocks.BlockLines.{heading_sides, heading_text, heading_level}
 use Rattle.wt_text_edit_laws.proofs.Paragraphs.Joining.{lines_join, rows_join}
 use Rattle.wt_called_edit_laws.specs.InCells.{rows_behind, open_tables, AreBehind}
 use Rattle.wt_called_edit_laws.specs.HeadingsInCells.{IsHeadingInCell, HeadingStandsInCell}

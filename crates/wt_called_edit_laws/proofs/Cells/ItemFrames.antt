@@ -1,5 +1,5 @@
--- Blocks among items mean a tree with these blocks at places, which are the same whatever the texts are.
-use Rattle.std.proofs.Common.{◌≡◌, ◌⊎◌, ℕ, suc, Bool, List, [], ◌∷◌, length, map, refl, sym, ap, ◌∙◌, subst}
+-- Blocks among items mean a tree with these blocks at places, which are the same whatever their contents are.
+use Rattle.std.proofs.Common.{◌≡◌, ◌⊎◌, inl, inr, ℕ, suc, Bool, List, [], ◌∷◌, length, map, refl, sym, ap, ◌∙◌, subst}
 use Rattle.wt_span.specs.Items.{Item}
 use Rattle.wt_lines.specs.Lines.{full_lines}
 use Rattle.wt_inline.specs.ItemTree.{ItemTree}
@@ -8,29 +8,35 @@ use Rattle.wt_page.specs.Body.{body_parts, meaning}
 use Rattle.wt_row_laws.specs.Frames.{Frames, trees_at, all_places, content, AreFrames}
 use Rattle.wt_row_laws.specs.Slots.{Slot, rows_at, AreAt, PlacesStand}
 use Rattle.wt_row_laws.proofs.Places.{places_stand}
-use Rattle.wt_text_edit_laws.specs.TextBlocks.{TextBlock, IsBlock, IsTypedIn}
+use Rattle.wt_text_edit_laws.specs.TextBlocks.{TextBlock, a_paragraph, a_heading}
+use Rattle.wt_text_edit_laws.specs.Contents.{IsContent, StaysAnywhere, IsNewContent}
 use Rattle.wt_text_edit_laws.specs.ParagraphBetween.{body_with}
+use Rattle.wt_text_edit_laws.proofs.Blocks.Contents.{over_content}
 use Rattle.wt_text_edit_laws.proofs.Paragraphs.Standing.{body_is}
 use Rattle.wt_called_edit_laws.specs.AnyBlocks.{open_behind_part, StaysText, LeadsInto, past_break, BeginsAfter}
-use Rattle.wt_called_edit_laws.specs.ItemSpots.{ItemSpot, placed_items, IsPlacedAt, ArePlacedAfter, ArePlaced, SameItems, AreTypedIn, AreBlocksIn}
-use Rattle.wt_called_edit_laws.proofs.Cells.SpotsRead.{block_over, stays_over}
+use Rattle.wt_called_edit_laws.specs.ItemSpots.{ItemSpot, placed_items, IsPlacedAt, ArePlacedAfter, ArePlaced, SameItems, AreNewIn, AreContentsIn}
 use Rattle.wt_called_edit_laws.proofs.Cells.SpotRows.{trees_by, page_rows, slots_rows, slots_at}
 use Rattle.wt_called_edit_laws.proofs.Cells.SpotSlots.{page_slots, numbered_from, same_slots, slots_numbers, slots_in_cells, slots_few, slots_apart}
 
--- ---- with texts that were typed
+-- ---- with new contents
 
-placed_over : (bs : List Bool) (xs : List Item) (s r : ItemSpot) → r.block ≡ s.block → (r.text ≡ s.text) ⊎ IsTypedIn r.block r.text → IsPlacedAt bs xs s → IsPlacedAt bs xs r
+stays_new : (k : TextBlock) (n : ℕ) (was now : List ℕ) → (now ≡ was) ⊎ IsNewContent k was now → StaysText k n was → StaysText k n now
+stays_new k n was now (inl e) h = subst (λ q. StaysText k n q) (sym e) h
+stays_new a_paragraph n was now (inr c) h = let s : StaysAnywhere a_paragraph now = c.firm.stays in s n
+stays_new (a_heading s) n was now (inr c) h = tt
+
+placed_over : (bs : List Bool) (xs : List Item) (s r : ItemSpot) → r.block ≡ s.block → (r.text ≡ s.text) ⊎ IsNewContent r.block s.text r.text → IsPlacedAt bs xs s → IsPlacedAt bs xs r
 placed_over bs xs s r k o h =
     let n : ℕ = length (open_behind_part bs xs) in (
-      block_over r.block s.text r.text o (subst (λ j. IsBlock j s.text) (sym k) h.0),
+      over_content r.block s.text r.text o (subst (λ j. IsContent j s.text) (sym k) h.0),
       subst (λ j. LeadsInto j bs xs) (sym k) h.1,
-      stays_over r.block n s.text r.text o (subst (λ j. StaysText j n s.text) (sym k) h.2),
+      stays_new r.block n s.text r.text o (subst (λ j. StaysText j n s.text) (sym k) h.2),
     )
 
 by_front : (P : List Item → TextBlock → Type 0) (s r : ItemSpot) → r.before ≡ s.before → r.block ≡ s.block → P s.before s.block → P r.before r.block
 by_front P s r e k h = subst (λ xs. P xs r.block) (sym e) (subst (λ j. P s.before j) (sym k) h)
 
-after_over : (last : TextBlock) (bs : List Bool) (ss rs : List ItemSpot) (behind : List Item) → SameItems ss rs → AreTypedIn ss rs
+after_over : (last : TextBlock) (bs : List Bool) (ss rs : List ItemSpot) (behind : List Item) → SameItems ss rs → AreNewIn ss rs
     → ArePlacedAfter last bs ss behind → ArePlacedAfter last bs rs behind
 after_over last bs [] [] behind e o h = h
 after_over last bs [] (r ∷ rs) behind e o h = absurd e
@@ -42,7 +48,7 @@ after_over last bs (s ∷ ss) (r ∷ rs) behind e o h = (
       (after_over s.block (open_behind_part bs (past_break s.before)) ss rs behind e.2 o.1 h.2),
 )
 
-pub items_over : (ss rs : List ItemSpot) (behind : List Item) → ArePlaced ss behind → SameItems ss rs → AreTypedIn ss rs → ArePlaced rs behind
+pub items_over : (ss rs : List ItemSpot) (behind : List Item) → ArePlaced ss behind → SameItems ss rs → AreNewIn ss rs → ArePlaced rs behind
 items_over [] rs behind h e o = absurd h
 items_over (s ∷ ss) [] behind h e o = absurd e
 items_over (s ∷ ss) (r ∷ rs) behind h e o = (
@@ -51,13 +57,13 @@ items_over (s ∷ ss) (r ∷ rs) behind h e o = (
       (after_over s.block (open_behind_part [] s.before) ss rs behind e.2 o.1 h.1),
 )
 
--- ---- each is a block
+-- ---- each has a content
 
-blocks_after : (last : TextBlock) (bs : List Bool) (ss : List ItemSpot) (behind : List Item) → ArePlacedAfter last bs ss behind → AreBlocksIn ss
+blocks_after : (last : TextBlock) (bs : List Bool) (ss : List ItemSpot) (behind : List Item) → ArePlacedAfter last bs ss behind → AreContentsIn ss
 blocks_after last bs [] behind h = tt
 blocks_after last bs (s ∷ ss) behind h = (h.1.0, blocks_after s.block (open_behind_part bs (past_break s.before)) ss behind h.2)
 
-pub placed_blocks : (ss : List ItemSpot) (behind : List Item) → ArePlaced ss behind → AreBlocksIn ss
+pub placed_blocks : (ss : List ItemSpot) (behind : List Item) → ArePlaced ss behind → AreContentsIn ss
 placed_blocks [] behind h = absurd h
 placed_blocks (s ∷ ss) behind h = (h.0.0, blocks_after s.block (open_behind_part [] s.before) ss behind h.1)
 
@@ -77,12 +83,12 @@ are_counted (s ∷ ss) = ap (λ (ns : List ℕ). 0 ∷ ns) (numbers_up 0 ss ∙ 
 
 -- ---- the body
 
--- Whatever their texts are, they are at the same places, in their order; and the blocks are these trees.
+-- Whatever their contents are, they are at the same places, in their order; and the blocks are these trees.
 pub record ItemsFramed (ss : List ItemSpot) (behind : List Item) : Type 0 where
   pub frames : Frames
   pub of_cells : AreFrames frames content
   pub in_order : all_places frames ≡ counted_in ss
-  pub means : (rs : List ItemSpot) (t : ℕ → ItemTree) → SameItems ss rs → AreTypedIn ss rs → ((i : ℕ) → t i ≡ trees_by rs i)
+  pub means : (rs : List ItemSpot) (t : ℕ → ItemTree) → SameItems ss rs → AreNewIn ss rs → ((i : ℕ) → t i ≡ trees_by rs i)
       → meaning (placed_items rs behind) ≡ body_with (trees_at t frames)
 
 rows_are : (xs : List Item) → rows xs ≡ rows_from 0 (full_lines xs)
@@ -92,7 +98,7 @@ rows_are xs = refl
 items_mean : (rs : List ItemSpot) (behind : List Item) (ss : List Slot) (s : PlacesStand ss) (t : ℕ → ItemTree) → ss ≡ page_slots rs behind
     → ArePlaced rs behind → ((i : ℕ) → t i ≡ trees_by rs i) → meaning (placed_items rs behind) ≡ body_with (trees_at t s.frames)
 items_mean rs behind ss s t e h f =
-    let b : AreBlocksIn rs = placed_blocks rs behind h in
+    let b : AreContentsIn rs = placed_blocks rs behind h in
     let xs : List Item = placed_items rs behind in
     let p : ℕ → List Row = page_rows rs behind b in
     let at : AreAt ss p t = subst (λ zs. AreAt zs p t) (sym e) (slots_at rs behind b t f h) in

@@ -28,7 +28,7 @@ use Rattle.wt_text_edit_laws.proofs.Texts.TypedLeaves.{AreOwn, Leaf, leaves, lea
 use Rattle.wt_text_edit_laws.proofs.Texts.TypedNodes.{nodes_flat, none_open}
 use Rattle.wt_text_edit_laws.proofs.Texts.TypedTrees.{none_faulty}
 use Rattle.wt_text_edit_laws.proofs.Prose.ProseTrees.{number_behind, items_behind}
-use Rattle.wt_text_edit_laws.proofs.Blocks.BlockTrees.{open_items, close_items, leaf_block, block_leaves, block_own}
+use Rattle.wt_text_edit_laws.proofs.Blocks.BlockLeaves.{open_items, close_items, leaf_block, block_leaves, block_own}
 use Rattle.wt_text_edit_laws.proofs.Blocks.KeptBlocks.{block_shown, blocks_source}
 use Rattle.wt_text_edit_laws.proofs.Blocks.TypedFacts.{framed, leaves_are, items_source, text_label, text_nodes, its_node, typed_shown, all_false}
 use Rattle.wt_called_edit_laws.proofs.Cells.Nodes.{number_after, items_after, sources_after}
@@ -142,9 +142,9 @@ typed_place xs page t w o m a i h text e j l ts p x old =
     let r = h.new text e in
     let own : AreOwn (page_items q) = block_own k q h.is in
     let again : AreOwn (page_items new) = block_own k new r.2 in
-    let tree_is : w i ≡ leaf_block k (leaves (page_items new)) = r.3 ∙ block_leaves k new again in
+    let tree_is : w i ≡ leaf_block k (leaves (page_items new)) = r.3 ∙ block_leaves k new r.2 in
     let f = any_typed xs page m a k q h.rest text h.clear own again r.0 r.1 h.page_is j l ts p x
-    (old ∙ ap (standing m a) (h.old ∙ block_leaves k q own)) in
+    (old ∙ ap (standing m a) (h.old ∙ block_leaves k q h.is)) in
     let P : ItemTree → List ℕ → Type 0 = λ u cs. Facts (of_items xs) page (width a) (typed j l ts p x text) cs (block_shown u) in
     subst (λ u. P u (sources (tree_items u))) (sym tree_is) (subst (P (leaf_block k (leaves (page_items new)))) (sym (items_source k new again)) f)
 

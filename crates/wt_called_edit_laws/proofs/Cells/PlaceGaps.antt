@@ -12,15 +12,15 @@ use Rattle.wt_guards.specs.Letters.{is_escaped, reference}
 use Rattle.wt_guards.specs.Table.{hazard, line_start_hazard}
 use Rattle.wt_inline.specs.ItemTree.{Head, ItemTree, inner, forest, tree_items, held_by_all}
 use Rattle.wt_row_laws.specs.Frames.{place, whole, around, Frames, no_frames, more_frames, tree_at, trees_at, all_places}
-use Rattle.wt_text_edit_laws.specs.BlockSpots.{BlockSpot, spots_source, SameRound, AreBlocks}
-use Rattle.wt_text_edit_laws.specs.TextBlocks.{TextBlock, a_paragraph, a_heading, source_of, block_tree, IsFrame, IsTypedHeading, IsBlock, IsTypedIn}
+use Rattle.wt_text_edit_laws.specs.BlockSpots.{BlockSpot, spots_source, SameRound, AreContents}
+use Rattle.wt_text_edit_laws.specs.TextBlocks.{TextBlock, a_paragraph, a_heading, source_of, IsFrame, IsTypedHeading, IsTypedIn}
+use Rattle.wt_text_edit_laws.specs.Contents.{IsNewContent}
 use Rattle.wt_text_edit_laws.specs.TypedHeadings.{Sides, opening, closing}
 use Rattle.wt_text_edit_laws.specs.TypedPages.{IsTypedPage}
-use Rattle.wt_text_edit_laws.proofs.Blocks.BlockMeaning.{heading_frame}
-use Rattle.wt_text_edit_laws.proofs.Blocks.BlockTrees.{block_leaves, block_own}
+use Rattle.wt_text_edit_laws.proofs.Blocks.BlockReading.{HasFrame, content_frame}
+use Rattle.wt_text_edit_laws.proofs.Blocks.Contents.{typed_new, block_source}
 use Rattle.wt_text_edit_laws.proofs.Blocks.KeptBlocks.{blocks_source, held_source}
-use Rattle.wt_text_edit_laws.proofs.Blocks.TypedBraces.{AreTypedOver}
-use Rattle.wt_text_edit_laws.proofs.Blocks.TypedFacts.{items_source}
+use Rattle.wt_text_edit_laws.proofs.Blocks.TypedBraces.{AreNewOver}
 use Rattle.wt_called_edit_laws.proofs.Cells.TwoTexts.{same_round}
 use Rattle.wt_called_edit_laws.proofs.Cells.PlaceTrees.{tree_by, counted}
 
@@ -164,17 +164,13 @@ heading_b s f = record {
   is = refl;
 }
 
-type_a : (k : TextBlock) (q : List ℕ) → IsBlock k q → IsTypedIn k (97 ∷ [])
-type_a a_paragraph q h = letter_a
-type_a (a_heading s) q h = heading_a s (heading_frame s q h)
+type_a : (k : TextBlock) → HasFrame k → IsTypedIn k (97 ∷ [])
+type_a a_paragraph f = letter_a
+type_a (a_heading s) f = heading_a s f
 
-type_b : (k : TextBlock) (q : List ℕ) → IsBlock k q → IsTypedIn k (98 ∷ [])
-type_b a_paragraph q h = letter_b
-type_b (a_heading s) q h = heading_b s (heading_frame s q h)
-
-typed_block : (k : TextBlock) (q : List ℕ) → IsTypedIn k q → IsBlock k q
-typed_block a_paragraph q h = inl h
-typed_block (a_heading s) q h = inl h
+type_b : (k : TextBlock) → HasFrame k → IsTypedIn k (98 ∷ [])
+type_b a_paragraph f = letter_b
+type_b (a_heading s) f = heading_b s f
 
 -- a block is its text between these
 front_of : TextBlock → List ℕ
@@ -205,9 +201,9 @@ pub self_round : (ss : List BlockSpot) → SameRound ss ss
 self_round [] = tt
 self_round (s ∷ ss) = (refl, refl, self_round ss)
 
-pub self_over : (ss : List BlockSpot) → AreTypedOver ss ss
-self_over [] = tt
-self_over (s ∷ ss) = (inl refl, self_over ss)
+self_new : (ss : List BlockSpot) → AreNewOver ss ss
+self_new [] = tt
+self_new (s ∷ ss) = (inl refl, self_new ss)
 
 abbrev pub AreAsMany : Gaps → List BlockSpot → Type 0
 AreAsMany (last_gap xs) [] = Unit {0}
@@ -221,46 +217,46 @@ AreSame (last_gap xs) (s ∷ ss) = ⊥
 AreSame (then_gap xs i g) [] = ⊥
 AreSame (then_gap xs i g) (s ∷ ss) = (xs ≡ s.before) × AreSame g ss
 
--- the page with any texts typed over has these gaps round them
+-- the page with any new contents has these gaps round them
 abbrev pub FillsAll : Gaps → List BlockSpot → List ℕ → Type 0
 FillsAll g ss behind =
-    (rs : List BlockSpot) → SameRound ss rs → AreBlocks rs → AreTypedOver ss rs → fill (own_sources rs) g ≡ spots_source rs behind
+    (rs : List BlockSpot) → SameRound ss rs → AreContents rs → AreNewOver ss rs → fill (own_sources rs) g ≡ spots_source rs behind
 
 abbrev with_source : BlockSpot → List ℕ → BlockSpot
 with_source s q = record s { text = q }
 
-pub same_gaps : (g : Gaps) (ss : List BlockSpot) (behind : List ℕ) → AreAsMany g ss → AreBlocks ss → FillsAll g ss behind → AreSame g ss
+pub same_gaps : (g : Gaps) (ss : List BlockSpot) (behind : List ℕ) → AreAsMany g ss → AreContents ss → FillsAll g ss behind → AreSame g ss
 same_gaps (last_gap xs) [] behind m b f = tt
 same_gaps (last_gap xs) (s ∷ ss) behind m b f = absurd m
 same_gaps (then_gap xs i g) [] behind m b f = absurd m
 same_gaps (then_gap xs i g) (s ∷ ss) behind m b f =
     let k : TextBlock = s.block in
-    let a : IsTypedIn k (97 ∷ []) = type_a k s.text b.0 in
-    let c : IsTypedIn k (98 ∷ []) = type_b k s.text b.0 in
+    let frame : HasFrame k = content_frame k s.text b.0 in
+    let a : IsTypedIn k (97 ∷ []) = type_a k frame in
+    let c : IsTypedIn k (98 ∷ []) = type_b k frame in
+    let d : IsNewContent k s.text (97 ∷ []) = typed_new k s.text (97 ∷ []) a in
+    let e : IsNewContent k s.text (98 ∷ []) = typed_new k s.text (98 ∷ []) c in
     let first : xs ≡ s.before =
     same_front k xs s.before (fill (own_sources ss) g) (spots_source ss behind)
-    (f (with_source s (97 ∷ []) ∷ ss) (refl, refl, self_round ss) (typed_block k (97 ∷ []) a, b.1) (inr a, self_over ss))
-    (f (with_source s (98 ∷ []) ∷ ss) (refl, refl, self_round ss) (typed_block k (98 ∷ []) c, b.1) (inr c, self_over ss)) in
-    let rest : FillsAll g ss behind = λ rs e h o.
+    (f (with_source s (97 ∷ []) ∷ ss) (refl, refl, self_round ss) (d.firm.content, b.1) (inr d, self_new ss))
+    (f (with_source s (98 ∷ []) ∷ ss) (refl, refl, self_round ss) (e.firm.content, b.1) (inr e, self_new ss)) in
+    let rest : FillsAll g ss behind = λ rs r h o.
     let own : List ℕ = source_of k s.text in
     append_cancel_left own (fill (own_sources rs) g) (spots_source rs behind)
     (append_cancel_left s.before (own ++ fill (own_sources rs) g) (own ++ spots_source rs behind)
-    (ap (λ ys. ys ++ (own ++ fill (own_sources rs) g)) (sym first) ∙ f (s ∷ rs) (refl, refl, e) (b.0, h) (inl refl, o))) in
+    (ap (λ ys. ys ++ (own ++ fill (own_sources rs) g)) (sym first) ∙ f (s ∷ rs) (refl, refl, r) (b.0, h) (inl refl, o))) in
     (first, same_gaps g ss behind m b.1 rest)
 
 -- ---- sources by numbers
-
-pub block_source : (k : TextBlock) (q : List ℕ) → IsBlock k q → sources (tree_items (block_tree k q)) ≡ source_of k q
-block_source k q h = ap (λ t. sources (tree_items t)) (block_leaves k q (block_own k q h)) ∙ items_source k q (block_own k q h)
 
 sources_moved : (t : ℕ → ItemTree) (is : List ℕ) → sources_at t (map suc is) [] ≡ sources_at (λ i. t (suc i)) is []
 sources_moved t [] = refl
 sources_moved t (i ∷ is) = ap (λ (rs : List (List ℕ)). source_at t (suc i) ∷ rs) (sources_moved t is)
 
-pub sources_counted : (ss : List BlockSpot) → AreBlocks ss → sources_at (tree_by ss) (counted ss) [] ≡ own_sources ss
-sources_counted [] h = refl
-sources_counted (s ∷ ss) h =
-    ap₂ (λ (r : List ℕ) (rs : List (List ℕ)). r ∷ rs) (block_source s.block s.text h.0) (sources_moved (tree_by (s ∷ ss)) (counted ss) ∙ sources_counted ss h.1)
+pub sources_counted : (ss : List BlockSpot) → sources_at (tree_by ss) (counted ss) [] ≡ own_sources ss
+sources_counted [] = refl
+sources_counted (s ∷ ss) =
+    ap₂ (λ (r : List ℕ) (rs : List (List ℕ)). r ∷ rs) (block_source s.block s.text) (sources_moved (tree_by (s ∷ ss)) (counted ss) ∙ sources_counted ss)
 
 pub counted_same : (ss rs : List BlockSpot) → SameRound ss rs → counted ss ≡ counted rs
 counted_same [] [] e = refl

@@ -21,6 +21,7 @@ use Rattle.wt_text_edit_laws.specs.OwnNodes.{IsTypedSpot}
 use Rattle.wt_text_edit_laws.specs.Parts.{part_tree}
 use Rattle.wt_text_edit_laws.specs.TextBlocks.{TextBlock, a_paragraph, a_heading, block_of, source_of, block_tree, IsBlock}
 use Rattle.wt_text_edit_laws.proofs.Blocks.BlocksAgain.{AreClear, read_clear}
+use Rattle.wt_text_edit_laws.proofs.Blocks.Contents.{blocks_contents, block_source}
 use Rattle.wt_text_edit_laws.proofs.Blocks.KeptBlocks.{blocks_source}
 use Rattle.wt_text_edit_laws.proofs.Blocks.TypedBraces.{AreTypedOver}
 use Rattle.wt_text_edit_laws.proofs.Prose.ProseTrees.{blocks_of}
@@ -32,9 +33,9 @@ use Rattle.wt_called_edit_laws.proofs.Cells.ManyPaths.{paths_from, AreAsMany, pa
 use Rattle.wt_called_edit_laws.proofs.Cells.Nodes.{blocks_moved, shown_same, same_inside}
 use Rattle.wt_called_edit_laws.proofs.Cells.Paths.{same_first, same_rest, AllFacts}
 use Rattle.wt_called_edit_laws.proofs.Cells.PlaceFacts.{same_block, IsPlace, places_have}
-use Rattle.wt_called_edit_laws.proofs.Cells.PlaceGaps.{Gaps, last_gap, then_gap, gaps_of, numbers_in, numbers_are, fill, source_at, sources_at, fill_frames, FillsAll, AreSame, same_gaps, block_source, sources_counted, count_counted, many_by, AtPlaces}
+use Rattle.wt_called_edit_laws.proofs.Cells.PlaceGaps.{Gaps, last_gap, then_gap, gaps_of, numbers_in, numbers_are, fill, source_at, sources_at, fill_frames, FillsAll, AreSame, same_gaps, sources_counted, count_counted, many_by, AtPlaces}
 use Rattle.wt_called_edit_laws.proofs.Cells.PlaceTrees.{tree_by, block_by, counted, Framed, text_at, same_where_none}
-use Rattle.wt_called_edit_laws.proofs.Cells.SpotTrees.{counted_same, tree_borders, same_self, over_self, over_blocks, over_read, nodes_over, label_over, over_tree, over_source}
+use Rattle.wt_called_edit_laws.proofs.Cells.SpotTrees.{counted_same, tree_borders, same_self, over_self, over_blocks, over_read, nodes_over, label_over, over_tree, new_source, over_source}
 use Rattle.wt_called_edit_laws.proofs.Cells.SpotsRead.{typed_round, typed_over}
 use Rattle.wt_called_edit_laws.proofs.Cells.FramesBorders.{page_borders}
 
@@ -231,7 +232,7 @@ all_at page t w o (then_gap xs i g) (s ∷ ss) (p ∷ os) behind front m clear b
     let here : List ℕ = front ++ s.before in
     let page_here : page ≡ here ++ (own ++ spots_source ss behind) = is ∙ sym (append_assoc front s.before (own ++ spots_source ss behind)) in
     let front_is : here ≡ front ++ xs = ap (λ cs. front ++ cs) (sym m.0) in
-    let own_is : own ≡ source_at t i = sym (block_source s.block s.text b.0) ∙ ap (λ v. sources (tree_items v)) (sym a.0.old) in (
+    let own_is : own ≡ source_at t i = sym (block_source s.block s.text) ∙ ap (λ v. sources (tree_items v)) (sym a.0.old) in (
       subst (λ cs. P cs i) front_is (place_so page t w o here i s p (spots_source ss behind) a.0 b.0 u.0 c.0 clear.0 page_here),
       subst (λ cs. AtPlaces P t cs g) (ap₂ (λ cs ds. cs ++ ds) front_is own_is)
           (all_at page t w o g ss os behind (here ++ own) m.1 clear.1 b.1 u.1 c.1 a.1 (page_here ∙ sym (append_assoc here own (spots_source ss behind)))),
@@ -240,13 +241,13 @@ all_at page t w o (then_gap xs i g) (s ∷ ss) (p ∷ os) behind front m clear b
 -- ---- of the page
 
 fills_all : (ss : List BlockSpot) (behind : List ℕ) (f : Framed ss behind) → AreSpots ss behind → FillsAll (gaps_of f.frames (last_gap [])) ss behind
-fills_all ss behind f h rs e b o =
+fills_all ss behind f h rs e c o =
     let g : Gaps = gaps_of f.frames (last_gap []) in
     let t : ℕ → ItemTree = tree_by rs in
-    sym (ap (λ ts. fill ts g) (ap (λ is. sources_at t is []) (f.in_order ∙ sym (counted_same ss rs e)) ∙ sources_counted rs b))
+    sym (ap (λ ts. fill ts g) (ap (λ is. sources_at t is []) (f.in_order ∙ sym (counted_same ss rs e)) ∙ sources_counted rs))
     ∙ fill_frames t f.frames (last_gap []) []
     ∙ append-nil (blocks_source (trees_at t f.frames))
-    ∙ over_source ss rs behind f h e o
+    ∙ new_source ss rs behind f h e c o
 
 pub numbers_so : (ss : List BlockSpot) (behind : List ℕ) (f : Framed ss behind) → numbers_in (gaps_of f.frames (last_gap [])) ≡ counted ss
 numbers_so ss behind f = numbers_are f.frames (last_gap []) ∙ append-nil (all_places f.frames) ∙ f.in_order
@@ -254,8 +255,8 @@ numbers_so ss behind f = numbers_are f.frames (last_gap []) ∙ append-nil (all_
 pub gaps_so : (ss : List BlockSpot) (behind : List ℕ) (f : Framed ss behind) → AreSpots ss behind → AreSame (gaps_of f.frames (last_gap [])) ss
 gaps_so ss behind f h =
     let g : Gaps = gaps_of f.frames (last_gap []) in
-    same_gaps g ss behind (many_by g ss (ap length (numbers_so ss behind f) ∙ count_counted ss)) (over_blocks ss ss behind h (same_self ss) (over_self ss))
-    (fills_all ss behind f h)
+    same_gaps g ss behind (many_by g ss (ap length (numbers_so ss behind f) ∙ count_counted ss))
+    (blocks_contents ss (over_blocks ss ss behind h (same_self ss) (over_self ss))) (fills_all ss behind f h)
 
 pub all_have : (ss : List BlockSpot) (behind : List ℕ) (f : Framed ss behind) (os : List (Option (List ℕ))) → AreSpots ss behind → AreTypings ss os
     → PlacesHave (page_items (spots_source ss behind)) (spots_source ss behind) (tree_by ss) (tree_by (with_texts ss os)) (text_at os) 1 [] [] f.frames

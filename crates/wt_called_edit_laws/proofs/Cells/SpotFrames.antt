@@ -3,12 +3,13 @@ use Rattle.std.proofs.Common.{◌≡◌, ℕ, zero, suc, Bool, List, [], ◌∷�
 use Rattle.wt_span.specs.Items.{Item}
 use Rattle.wt_page.specs.Body.{meaning}
 use Rattle.wt_expand.specs.PageItems.{page_items}
-use Rattle.wt_text_edit_laws.specs.BlockSpots.{BlockSpot, IsRead, SameRound}
+use Rattle.wt_text_edit_laws.specs.BlockSpots.{BlockSpot, SameRound}
 use Rattle.wt_text_edit_laws.specs.TextBlocks.{TextBlock, block_items}
 use Rattle.wt_text_edit_laws.proofs.Blocks.BlockReading.{spots_items}
-use Rattle.wt_text_edit_laws.proofs.Blocks.TypedBraces.{AreTypedOver}
-use Rattle.wt_called_edit_laws.specs.AnyBlocks.{open_behind_part, IsSpotAt, past_break, AreSpotsAfter, AreParts}
-use Rattle.wt_called_edit_laws.specs.ItemSpots.{items_of_spot, items_of_spots, placed_items, IsPlacedAt, ArePlacedAfter, ArePlaced, SameItems, AreTypedIn}
+use Rattle.wt_text_edit_laws.proofs.Blocks.Contents.{block_content}
+use Rattle.wt_text_edit_laws.proofs.Blocks.TypedBraces.{AreNewOver}
+use Rattle.wt_called_edit_laws.specs.AnyBlocks.{open_behind_part, IsTextRead, IsSpotAt, past_break, AreSpotsAfter, AreParts}
+use Rattle.wt_called_edit_laws.specs.ItemSpots.{items_of_spot, items_of_spots, placed_items, IsPlacedAt, ArePlacedAfter, ArePlaced, SameItems, AreNewIn}
 use Rattle.wt_called_edit_laws.proofs.Cells.ItemFrames.{counted_in, items_framed}
 use Rattle.wt_called_edit_laws.proofs.Cells.PlaceTrees.{tree_by, counted, Framed}
 use Rattle.wt_called_edit_laws.proofs.Cells.SpotRows.{trees_by}
@@ -16,7 +17,7 @@ use Rattle.wt_called_edit_laws.proofs.Cells.SpotRows.{trees_by}
 -- ---- its blocks are placed among its items
 
 placed_at : (bs : List Bool) (xs : List Item) (s : BlockSpot) → IsSpotAt bs xs s → IsPlacedAt bs xs (items_of_spot s)
-placed_at bs xs s h = let r : IsRead s = h.0 in (r.block, h.1, h.2)
+placed_at bs xs s h = let r : IsTextRead s = h.0 in (block_content s.block s.text r.block, h.1, h.2)
 
 placed_after : (last : TextBlock) (bs : List Bool) (ss : List BlockSpot) (behind : List ℕ) → AreSpotsAfter last bs ss behind
     → ArePlacedAfter last bs (items_of_spots ss) (page_items behind)
@@ -42,10 +43,10 @@ same_items [] (r ∷ rs) e = absurd e
 same_items (s ∷ ss) [] e = absurd e
 same_items (s ∷ ss) (r ∷ rs) e = (ap page_items e.0, e.1, same_items ss rs e.2)
 
-typed_in : (ss rs : List BlockSpot) → AreTypedOver ss rs → AreTypedIn (items_of_spots ss) (items_of_spots rs)
-typed_in [] rs o = tt
-typed_in (s ∷ ss) [] o = tt
-typed_in (s ∷ ss) (r ∷ rs) o = (o.0, typed_in ss rs o.1)
+new_in : (ss rs : List BlockSpot) → AreNewOver ss rs → AreNewIn (items_of_spots ss) (items_of_spots rs)
+new_in [] rs o = tt
+new_in (s ∷ ss) [] o = tt
+new_in (s ∷ ss) (r ∷ rs) o = (o.0, new_in ss rs o.1)
 
 counted_same : (ss : List BlockSpot) → counted_in (items_of_spots ss) ≡ counted ss
 counted_same [] = refl
@@ -63,5 +64,5 @@ framed ss behind h =
       frames = f.frames;
       of_cells = f.of_cells;
       in_order = f.in_order ∙ counted_same ss;
-      means = λ rs e b o. ap meaning (items_are rs behind) ∙ f.means (items_of_spots rs) (tree_by rs) (same_items ss rs e) (typed_in ss rs o) (trees_same rs);
+      means = λ rs e b o. ap meaning (items_are rs behind) ∙ f.means (items_of_spots rs) (tree_by rs) (same_items ss rs e) (new_in ss rs o) (trees_same rs);
     }

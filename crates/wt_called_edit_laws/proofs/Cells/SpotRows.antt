@@ -11,27 +11,30 @@ use Rattle.wt_row_laws.specs.Slots.{Slot, rows_at, AreAt}
 use Rattle.wt_row_laws.proofs.Parsed.{rows_slots}
 use Rattle.wt_row_laws.proofs.Places.{rows_join as places_join, own_rows as placed_rows}
 use Rattle.wt_text_edit_laws.specs.ParagraphBetween.{before_marks}
-use Rattle.wt_text_edit_laws.specs.TextBlocks.{TextBlock, a_paragraph, a_heading, block_items, block_tree, IsBlock}
-use Rattle.wt_text_edit_laws.specs.TypedHeadings.{Sides, AreSides, heading_line, IsHeadingText, IsOfLevel, EndsLine}
-use Rattle.wt_text_edit_laws.proofs.Texts.PlainRows.{AreTexts, text_row}
+use Rattle.wt_text_edit_laws.specs.TextBlocks.{TextBlock, a_paragraph, a_heading, block_items, block_tree}
+use Rattle.wt_text_edit_laws.specs.Contents.{AreParagraphLines, IsHeadingLine, IsContent}
+use Rattle.wt_text_edit_laws.specs.TypedHeadings.{Sides, AreSides, heading_line, IsHeadingInside, IsOfLevel, EndsLine}
+use Rattle.wt_text_edit_laws.proofs.Texts.PlainRows.{text_row}
 use Rattle.wt_text_edit_laws.proofs.Prose.ProseReading.{break}
-use Rattle.wt_text_edit_laws.proofs.Prose.ProseLines.{first_ended, rest_ended, ended, ended_texts, IsTextBlock}
-use Rattle.wt_text_edit_laws.proofs.Headings.HeadingRows.{heading_row, rows_then, rows_last, tree_is}
-use Rattle.wt_text_edit_laws.proofs.Blocks.BlockMeaning.{heading_sides, heading_text, heading_level}
+use Rattle.wt_text_edit_laws.proofs.Prose.ProseLines.{first_ended, rest_ended}
+use Rattle.wt_text_edit_laws.proofs.Paragraphs.LineBlocks.{page_breaks, IsLineBlock, line_block}
+use Rattle.wt_text_edit_laws.proofs.Headings.HeadingRows.{heading_row, round_then, round_last, round_is}
 use Rattle.wt_text_edit_laws.proofs.Paragraphs.Joining.{lines_join, rows_join}
 use Rattle.wt_text_edit_laws.proofs.Paragraphs.Marks.{AreMarks, EndsInMarks, marks_end, with_lead, led, rows_led}
-use Rattle.wt_text_edit_laws.proofs.Paragraphs.Texts.{paragraph_written}
 use Rattle.wt_called_edit_laws.specs.InCells.{AreBehind, AreTextLines}
 use Rattle.wt_called_edit_laws.specs.AnyBlocks.{rows_of_part, open_behind_part, StaysText, past_break, BeginsAfter, EndsAfter}
-use Rattle.wt_called_edit_laws.specs.ItemSpots.{ItemSpot, placed_items, AreBlocksIn, IsPlacedAt, ArePlacedAfter, ArePlaced}
+use Rattle.wt_called_edit_laws.specs.ItemSpots.{ItemSpot, placed_items, AreContentsIn, IsPlacedAt, ArePlacedAfter, ArePlaced}
 use Rattle.wt_called_edit_laws.proofs.Cells.CellRows.{own_rows, text_rows}
 use Rattle.wt_called_edit_laws.proofs.Cells.Cells.{end_of, own_are, own_para}
 use Rattle.wt_called_edit_laws.proofs.Cells.SpotSlots.{marks_of, slot_of, end_behind, spot_slots, slots_from, page_slots, open_size}
 
 -- ---- a block's own rows
 
-abbrev pub block_rows : (k : TextBlock) (q : List ℕ) → IsBlock k q → List Item → List Item → List Row
-block_rows a_paragraph q h ms tail = led ms (own_rows (page_items q) (paragraph_written q h).0 tail)
+pub paragraph_lines : (q : List ℕ) → IsContent a_paragraph q → IsLineBlock (page_items q)
+paragraph_lines q h = let own : AreParagraphLines q = h.is in line_block (page_items q) own.unled own.are_lines
+
+abbrev pub block_rows : (k : TextBlock) (q : List ℕ) → IsContent k q → List Item → List Item → List Row
+block_rows a_paragraph q h ms tail = led ms (own_rows (page_items q) (paragraph_lines q h) tail)
 block_rows (a_heading s) q h ms tail = with_lead ms (heading_row (heading_line s (page_items q)) (end_of tail)) ∷ []
 
 behind_is : (n : ℕ) (tail : List Item) → EndsLine tail → AreBehind n tail (rows_from n (full_lines (past_break tail)))
@@ -42,32 +45,31 @@ text_led : (n : ℕ) (ms zs l : List Item) (ls : List (List Item)) (rest : List 
     → rows_from n (full_lines zs) ≡ text_row l ∷ (map text_row ls ++ rest) → rows_from n (full_lines (ms ++ zs)) ≡ with_lead ms (text_row l) ∷ (map text_row ls ++ rest)
 text_led n ms zs l ls rest m e = rows_led n ms zs (text_row l) (map text_row ls ++ rest) m e tt
 
-text_is : (n : ℕ) (own ms tail : List Item) (b : IsTextBlock own) → AreTextLines n own → AreMarks ms → EndsLine tail
+text_is : (n : ℕ) (own ms tail : List Item) (b : IsLineBlock own) → AreTextLines n own → AreMarks ms → EndsLine tail
     → rows_from n (full_lines (ms ++ (own ++ tail))) ≡ led ms (own_rows own b tail) ++ rows_from n (full_lines (past_break tail))
 text_is n own ms [] b a m e =
     let rest : List Row = rows_from n (full_lines []) in
-    let texts : AreTexts (ended b.first b.others) = ended_texts b.first b.others b.are_texts b.are_unended in
-    text_led n ms (own ++ []) b.first b.others rest m (text_rows n own [] b rest a texts (behind_is n [] e))
+    text_led n ms (own ++ []) b.first b.others rest m (text_rows n own [] b rest a (behind_is n [] e))
 text_is n own ms (y ∷ ys) b a m e =
     let rest : List Row = rows_from n (full_lines ys) in
-    let texts : AreTexts (ended b.first b.others) = ended_texts b.first b.others b.are_texts b.are_unended in
-    text_led n ms (own ++ y ∷ ys) (first_ended b.first b.others) (rest_ended b.first b.others) rest m (text_rows n own (y ∷ ys) b rest a texts (behind_is n (y ∷ ys) e))
+    text_led n ms (own ++ y ∷ ys) (first_ended b.first b.others) (rest_ended b.first b.others) rest m (text_rows n own (y ∷ ys) b rest a (behind_is n (y ∷ ys) e))
 
-heading_is : (n : ℕ) (s : Sides) (own ms tail : List Item) → AreSides s → IsHeadingText own → IsOfLevel s own → AreMarks ms → EndsLine tail
+heading_is : (n : ℕ) (s : Sides) (own ms tail : List Item) → AreSides s → IsHeadingInside own → IsOfLevel s own → AreMarks ms → EndsLine tail
     → rows_from n (full_lines (ms ++ (heading_line s own ++ tail)))
     ≡ with_lead ms (heading_row (heading_line s own) (end_of tail)) ∷ rows_from n (full_lines (past_break tail))
 heading_is n s own ms [] a h p m e =
     rows_led n ms (heading_line s own ++ []) (heading_row (heading_line s own) []) (rows_from n (full_lines [])) m
-    (ap (λ zs. rows_from n (full_lines zs)) (append-nil (heading_line s own)) ∙ rows_last n s own a h p) tt
+    (ap (λ zs. rows_from n (full_lines zs)) (append-nil (heading_line s own)) ∙ round_last n s own a h p) tt
 heading_is n s own ms (y ∷ ys) a h p m e =
     rows_led n ms (heading_line s own ++ y ∷ ys) (heading_row (heading_line s own) (break ∷ [])) (rows_from n (full_lines ys)) m
-    (ap (λ z. rows_from n (full_lines (heading_line s own ++ z ∷ ys))) e ∙ rows_then n s own ys a h p) tt
+    (ap (λ z. rows_from n (full_lines (heading_line s own ++ z ∷ ys))) e ∙ round_then n s own ys a h p) tt
 
-block_is : (n : ℕ) (k : TextBlock) (q : List ℕ) (b : IsBlock k q) (ms tail : List Item) → StaysText k n q → AreMarks ms → EndsLine tail
+block_is : (n : ℕ) (k : TextBlock) (q : List ℕ) (b : IsContent k q) (ms tail : List Item) → StaysText k n q → AreMarks ms → EndsLine tail
     → rows_from n (full_lines (ms ++ (block_items k q ++ tail))) ≡ block_rows k q b ms tail ++ rows_from n (full_lines (past_break tail))
-block_is n a_paragraph q b ms tail a m e = text_is n (page_items q) ms tail (paragraph_written q b).0 a m e
+block_is n a_paragraph q b ms tail a m e = text_is n (page_items q) ms tail (paragraph_lines q b) a m e
 block_is n (a_heading s) q b ms tail a m e =
-    heading_is n s (page_items q) ms tail (heading_sides s q b) (heading_text s q b) (heading_level s q b) m e
+    let own : IsHeadingLine s q = b.is in
+    heading_is n s (page_items q) ms tail own.frame.sides own.inside own.of_level m e
 
 -- ---- they make its tree
 
@@ -81,20 +83,21 @@ unfolding para
 led_para ms [] = refl
 led_para ms (r ∷ rs) = refl
 
-block_at : (k : TextBlock) (q : List ℕ) (b : IsBlock k q) (i : ℕ) (ms tail : List Item) (rest : List Slot) (p : ℕ → List Row) (t : ℕ → ItemTree)
+block_at : (k : TextBlock) (q : List ℕ) (b : IsContent k q) (i : ℕ) (ms tail : List Item) (rest : List Slot) (p : ℕ → List Row) (t : ℕ → ItemTree)
     → p i ≡ block_rows k q b ms tail → t i ≡ block_tree k q → AreAt rest p t → AreAt (slot_of k i ms (end_of tail) ∷ rest) p t
 block_at a_paragraph q b i ms tail rest p t e f h =
     let own : List Item = page_items q in
-    let w : IsTextBlock own = (paragraph_written q b).0 in (
+    let w : IsLineBlock own = paragraph_lines q b in (
       subst (AreTextRows ms (end_of tail)) (sym e) (led_texts ms (end_of tail) (own_rows own w tail) (own_are own tail w)),
-      ap para e ∙ led_para ms (own_rows own w tail) ∙ own_para own tail w ∙ sym f,
+      ap para e ∙ led_para ms (own_rows own w tail) ∙ own_para own tail w (page_breaks q) ∙ sym f,
       h,
     )
 block_at (a_heading s) q b i ms tail rest p t e f h =
     let own : List Item = page_items q in
     let mine : Row = with_lead ms (heading_row (heading_line s own) (end_of tail)) in
     let is : IsHeading ms (end_of tail) mine = record { is = refl; led = append-nil ms; ended = refl } in
-    (record { row = mine; one = e; is = is; tree = tree_is s own (heading_sides s q b) (heading_text s q b) (heading_level s q b) ∙ sym f }, h)
+    let line : IsHeadingLine s q = b.is in
+    (record { row = mine; one = e; is = is; tree = round_is s own line.frame.sides line.inside line.of_level ∙ sym f }, h)
 
 -- ---- what follows a block
 
@@ -140,7 +143,7 @@ part_is bs xs zs whole =
     ∙ rows_join (length bs) (full_lines ls) (full_lines (marks_of xs ++ zs))
     ∙ ap (λ (n : ℕ). rows_of_part bs xs ++ rows_from n (full_lines (marks_of xs ++ zs))) (open_size bs (length bs) (full_lines ls) refl)
 
-spot_is : (bs : List Bool) (xs : List Item) (s : ItemSpot) (tail : List Item) (b : IsBlock s.block s.text) → IsPlacedAt bs xs s → EndsLine tail
+spot_is : (bs : List Bool) (xs : List Item) (s : ItemSpot) (tail : List Item) (b : IsContent s.block s.text) → IsPlacedAt bs xs s → EndsLine tail
     → rows_from (length bs) (full_lines (xs ++ (block_items s.block s.text ++ tail)))
     ≡ rows_of_part bs xs ++ (block_rows s.block s.text b (marks_of xs) tail ++ rows_from (length (open_behind_part bs xs)) (full_lines (past_break tail)))
 spot_is bs xs s tail b h e =
@@ -151,12 +154,12 @@ spot_is bs xs s tail b h e =
 -- ---- all of them
 
 -- by the numbers of the blocks, behind the first
-abbrev pub later_rows : (ss : List ItemSpot) → List Item → AreBlocksIn ss → ℕ → List Row
+abbrev pub later_rows : (ss : List ItemSpot) → List Item → AreContentsIn ss → ℕ → List Row
 later_rows [] behind b j = []
 later_rows (s ∷ ss) behind b zero = block_rows s.block s.text b.0 (marks_of (past_break s.before)) (placed_items ss behind)
 later_rows (s ∷ ss) behind b (suc j) = later_rows ss behind b.1 j
 
-abbrev pub page_rows : (ss : List ItemSpot) → List Item → AreBlocksIn ss → ℕ → List Row
+abbrev pub page_rows : (ss : List ItemSpot) → List Item → AreContentsIn ss → ℕ → List Row
 page_rows [] behind b j = []
 page_rows (s ∷ ss) behind b zero = block_rows s.block s.text b.0 (marks_of s.before) (placed_items ss behind)
 page_rows (s ∷ ss) behind b (suc j) = later_rows ss behind b.1 j
@@ -186,7 +189,7 @@ others_of i f g h = λ j. let z : suc i + j ≡ i + suc j = omega arith in ap f 
 from_none : {A : Type 0} (f : ℕ → A) → Shifted 0 f f
 from_none f = λ j. let z : 0 + j ≡ j = omega arith in ap f z
 
-from_rows : (last : TextBlock) (i : ℕ) (bs : List Bool) (ss : List ItemSpot) (behind : List Item) (b : AreBlocksIn ss) (p : ℕ → List Row) → ArePlacedAfter last bs ss behind
+from_rows : (last : TextBlock) (i : ℕ) (bs : List Bool) (ss : List ItemSpot) (behind : List Item) (b : AreContentsIn ss) (p : ℕ → List Row) → ArePlacedAfter last bs ss behind
     → Shifted i p (later_rows ss behind b) → rows_at p (slots_from i bs ss behind) ≡ rows_from (length bs) (full_lines (past_break (placed_items ss behind)))
 from_rows last i bs [] behind b p h e = placed_rows p (rows_from (length bs) (full_lines (past_break behind)))
 from_rows last i bs (s ∷ ss) behind b p h e =
@@ -201,7 +204,7 @@ from_rows last i bs (s ∷ ss) behind b p h e =
     ∙ sym (spot_is bs xs s tail b.0 h.1 (line_behind s.block cs ss behind h.2))
     ∙ ap (λ (zs : List Item). rows_from (length bs) (full_lines zs)) (sym (past_join last s.block bs ys rest h.0))
 
-pub slots_rows : (ss : List ItemSpot) (behind : List Item) (b : AreBlocksIn ss) → ArePlaced ss behind
+pub slots_rows : (ss : List ItemSpot) (behind : List Item) (b : AreContentsIn ss) → ArePlaced ss behind
     → rows_at (page_rows ss behind b) (page_slots ss behind) ≡ rows_from 0 (full_lines (placed_items ss behind))
 slots_rows [] behind b h = absurd h
 slots_rows (s ∷ ss) behind b h =
@@ -230,14 +233,14 @@ rows_alone : (rs : List Row) (p : ℕ → List Row) (t : ℕ → ItemTree) → A
 rows_alone [] p t = tt
 rows_alone (r ∷ rs) p t = rows_alone rs p t
 
-spot_at : (s : ItemSpot) (b : IsBlock s.block s.text) (i : ℕ) (bs : List Bool) (xs tail end : List Item) (rest : List Slot) (p : ℕ → List Row) (t : ℕ → ItemTree)
+spot_at : (s : ItemSpot) (b : IsContent s.block s.text) (i : ℕ) (bs : List Bool) (xs tail end : List Item) (rest : List Slot) (p : ℕ → List Row) (t : ℕ → ItemTree)
     → end_of tail ≡ end → p i ≡ block_rows s.block s.text b (marks_of xs) tail → t i ≡ block_tree s.block s.text → AreAt rest p t
     → AreAt (spot_slots i bs xs s.block end rest) p t
 spot_at s b i bs xs tail end rest p t is e f h =
     rows_at_places (rows_of_part bs xs) (slot_of s.block i (marks_of xs) end ∷ rest) p t
     (subst (λ end. AreAt (slot_of s.block i (marks_of xs) end ∷ rest) p t) is (block_at s.block s.text b i (marks_of xs) tail rest p t e f h))
 
-from_at : (last : TextBlock) (i : ℕ) (bs : List Bool) (ss : List ItemSpot) (behind : List Item) (b : AreBlocksIn ss) (p : ℕ → List Row) (t : ℕ → ItemTree)
+from_at : (last : TextBlock) (i : ℕ) (bs : List Bool) (ss : List ItemSpot) (behind : List Item) (b : AreContentsIn ss) (p : ℕ → List Row) (t : ℕ → ItemTree)
     → ArePlacedAfter last bs ss behind → Shifted i p (later_rows ss behind b) → Shifted i t (trees_by ss) → AreAt (slots_from i bs ss behind) p t
 from_at last i bs [] behind b p t h e f = rows_alone (rows_from (length bs) (full_lines (past_break behind))) p t
 from_at last i bs (s ∷ ss) behind b p t h e f =
@@ -247,7 +250,7 @@ from_at last i bs (s ∷ ss) behind b p t h e f =
     (first_of i p (later_rows (s ∷ ss) behind b) e) (first_of i t (trees_by (s ∷ ss)) f)
     (from_at s.block (suc i) cs ss behind b.1 p t h.2 (others_of i p (later_rows (s ∷ ss) behind b) e) (others_of i t (trees_by (s ∷ ss)) f))
 
-pub slots_at : (ss : List ItemSpot) (behind : List Item) (b : AreBlocksIn ss) (t : ℕ → ItemTree) → ((i : ℕ) → t i ≡ trees_by ss i) → ArePlaced ss behind
+pub slots_at : (ss : List ItemSpot) (behind : List Item) (b : AreContentsIn ss) (t : ℕ → ItemTree) → ((i : ℕ) → t i ≡ trees_by ss i) → ArePlaced ss behind
     → AreAt (page_slots ss behind) (page_rows ss behind b) t
 slots_at [] behind b t f h = absurd h
 slots_at (s ∷ ss) behind b t f h =

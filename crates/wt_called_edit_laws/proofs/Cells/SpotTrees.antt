@@ -6,9 +6,9 @@ use Rattle.wt_tree.specs.declared.kind.Kind.TheVariants as kind
 use Rattle.wt_tree.specs.Tiling.{HasNoGroup}
 use Rattle.wt_tree.specs.Tree.{Label, tree}
 use Rattle.wt_span.specs.Items.{Item, sources}
-use Rattle.wt_inline.specs.declared.loose.Loose.TheVariants.{Text}
 use Rattle.wt_inline.specs.ItemTree.{plain, ItemTree, forest, tree_items, held_by_all}
-use Rattle.wt_inline.specs.Parts.{parts, children}
+use Rattle.wt_inline.specs.Parts.{children}
+use Rattle.wt_context.specs.Line.{line_parts}
 use Rattle.wt_page.specs.Body.{meaning}
 use Rattle.wt_page.proofs.HeldBody.{sources_meaning}
 use Rattle.wt_annotated.specs.Annotated.{annotated, all_unplaced}
@@ -22,19 +22,21 @@ use Rattle.wt_expand.specs.Expansion.{page_work}
 use Rattle.wt_expand.proofs.PageLaws.{page_sources}
 use Rattle.wt_row_laws.specs.Frames.{Frames, trees_at, all_places, content, AreFrames}
 use Rattle.wt_moved_laws.specs.Standing.{AreOrdinary}
-use Rattle.wt_text_edit_laws.specs.BlockSpots.{BlockSpot, spots_source, AreRead, SameRound, AreBlocks}
+use Rattle.wt_text_edit_laws.specs.BlockSpots.{BlockSpot, spots_source, AreRead, SameRound, AreBlocks, AreContents}
 use Rattle.wt_text_edit_laws.specs.LonePages.{page_chars, of_items}
 use Rattle.wt_text_edit_laws.specs.ParagraphBetween.{body_with}
 use Rattle.wt_text_edit_laws.specs.Parts.{part_tree, HasNoGroups}
 use Rattle.wt_text_edit_laws.specs.TextBlocks.{TextBlock, a_paragraph, a_heading, block_tree, IsBlock}
+use Rattle.wt_text_edit_laws.specs.Contents.{content_parts_of}
 use Rattle.wt_text_edit_laws.specs.TypedHeadings.{opening, closing_items}
 use Rattle.wt_text_edit_laws.proofs.Blocks.BlockReading.{read_items_of, read_expanded, read_unrefused}
-use Rattle.wt_text_edit_laws.proofs.Blocks.BlockTrees.{leaf_block, block_leaves, block_own, block_plain}
+use Rattle.wt_text_edit_laws.proofs.Blocks.BlockLeaves.{leaf_block, block_leaves, block_plain}
+use Rattle.wt_text_edit_laws.proofs.Blocks.Contents.{blocks_contents, over_new}
 use Rattle.wt_text_edit_laws.proofs.Blocks.BlocksAgain.{read_utf8}
 use Rattle.wt_text_edit_laws.proofs.Blocks.KeptBlocks.{blocks_source, held_source}
 use Rattle.wt_text_edit_laws.proofs.Blocks.PageKinds.{page_ordinary}
 use Rattle.wt_text_edit_laws.proofs.Blocks.TypedAgain.{read_again}
-use Rattle.wt_text_edit_laws.proofs.Blocks.TypedBraces.{AreTypedOver}
+use Rattle.wt_text_edit_laws.proofs.Blocks.TypedBraces.{AreTypedOver, AreNewOver}
 use Rattle.wt_text_edit_laws.proofs.Paragraphs.PartTrees.{ArePlain, plain_tree}
 use Rattle.wt_text_edit_laws.proofs.Prose.ProseTrees.{blocks_of}
 use Rattle.wt_text_edit_laws.proofs.Texts.LoneTrees.{sized}
@@ -58,9 +60,9 @@ counted_same (s ∷ ss) [] e = absurd e
 counted_same (s ∷ ss) (r ∷ rs) e = ap (λ ns. 0 ∷ map (λ (n : ℕ). suc n) ns) (counted_same ss rs e.2)
 
 block_bordered : (k : TextBlock) (q : List ℕ) → IsBordered (block_tree k q)
-block_bordered a_paragraph q m a = block_at m a (plain kind.Para) [] (forest (children (parts Text (page_items q)))) [] para_block
+block_bordered a_paragraph q m a = block_at m a (plain kind.Para) [] (forest (children (content_parts_of a_paragraph (page_items q)))) [] para_block
 block_bordered (a_heading s) q m a =
-    block_at m a (plain (kind.Heading s.level)) (page_chars (opening s)) (forest (children (parts Text (page_items q)))) (closing_items s) (refl, refl, refl)
+    block_at m a (plain (kind.Heading s.level)) (page_chars (opening s)) (forest (children (line_parts (page_items q)))) (closing_items s) (refl, refl, refl)
 
 bordered_up : (s : BlockSpot) (ss : List BlockSpot) (ns : List ℕ) → AreBordered (tree_by ss) ns → AreBordered (tree_by (s ∷ ss)) (map (λ (n : ℕ). suc n) ns)
 bordered_up s ss [] h = tt
@@ -82,7 +84,7 @@ leaves_full (a_heading s) q h =
     (h.none_empty.0, h.none_empty.1, (all_of xs [] (all_of (xs ++ []) [] h.of_page).0).0)
 
 block_full : (k : TextBlock) (q : List ℕ) → IsBlock k q → IsFull (block_tree k q)
-block_full k q h = subst IsFull (sym (block_leaves k q (block_own k q h))) (leaves_full k q (block_plain k q h))
+block_full k q h = subst IsFull (sym (block_leaves k q h)) (leaves_full k q (block_plain k q h))
 
 full_up : (s : BlockSpot) (ss : List BlockSpot) (ns : List ℕ) → AreFull (tree_by ss) ns → AreFull (tree_by (s ∷ ss)) (map (λ (n : ℕ). suc n) ns)
 full_up s ss [] h = tt
@@ -105,16 +107,25 @@ over_self (s ∷ ss) = (inl refl, over_self ss)
 pub over_blocks : (ss rs : List BlockSpot) (behind : List ℕ) → AreSpots ss behind → SameRound ss rs → AreTypedOver ss rs → AreBlocks rs
 over_blocks ss rs behind h e o = parts_blocks rs behind (parts_over ss rs behind h.parts e o)
 
+over_contents : (ss rs : List BlockSpot) (behind : List ℕ) → AreSpots ss behind → SameRound ss rs → AreTypedOver ss rs → AreContents rs
+over_contents ss rs behind h e o = blocks_contents rs (over_blocks ss rs behind h e o)
+
+new_read : (ss rs : List BlockSpot) (behind : List ℕ) → AreSpots ss behind → SameRound ss rs → AreContents rs → AreNewOver ss rs → AreRead rs behind
+new_read ss rs behind h e c o = read_again ss rs behind (parts_read ss behind h.parts h.whole) e c o
+
 pub over_read : (ss rs : List BlockSpot) (behind : List ℕ) → AreSpots ss behind → SameRound ss rs → AreTypedOver ss rs → AreRead rs behind
-over_read ss rs behind h e o = read_again ss rs behind (parts_read ss behind h.parts h.whole) e (over_blocks ss rs behind h e o) o
+over_read ss rs behind h e o = new_read ss rs behind h e (over_contents ss rs behind h e o) (over_new ss rs o)
 
 abbrev pub nodes_over : {ss : List BlockSpot} {behind : List ℕ} → Framed ss behind → List BlockSpot → List ItemTree
 nodes_over f rs = trees_at (tree_by rs) f.frames
 
-pub over_means : (ss rs : List BlockSpot) (behind : List ℕ) (f : Framed ss behind) → AreSpots ss behind → SameRound ss rs → AreTypedOver ss rs
+pub new_means : (ss rs : List BlockSpot) (behind : List ℕ) (f : Framed ss behind) → AreSpots ss behind → SameRound ss rs → AreContents rs → AreNewOver ss rs
     → meaning (page_items (spots_source rs behind)) ≡ body_with (nodes_over f rs)
-over_means ss rs behind f h e o =
-    ap meaning (read_items_of rs behind (over_read ss rs behind h e o)) ∙ f.means rs e (over_blocks ss rs behind h e o) o
+new_means ss rs behind f h e c o = ap meaning (read_items_of rs behind (new_read ss rs behind h e c o)) ∙ f.means rs e c o
+
+over_means : (ss rs : List BlockSpot) (behind : List ℕ) (f : Framed ss behind) → AreSpots ss behind → SameRound ss rs → AreTypedOver ss rs
+    → meaning (page_items (spots_source rs behind)) ≡ body_with (nodes_over f rs)
+over_means ss rs behind f h e o = new_means ss rs behind f h e (over_contents ss rs behind h e o) (over_new ss rs o)
 
 own_plain : (ss : List BlockSpot) (behind : List ℕ) (f : Framed ss behind) → AreSpots ss behind → IsPlain (body_with (nodes_over f ss))
 own_plain ss behind f h =
@@ -135,14 +146,18 @@ pub over_tree : (ss rs : List BlockSpot) (behind : List ℕ) (f : Framed ss behi
 over_tree ss rs behind f h e o =
     ap (annotated [] (group_data [])) (over_means ss rs behind f h e o) ∙ plain_tree (nodes_over f rs) (over_plain ss rs behind f h e o)
 
-pub over_source : (ss rs : List BlockSpot) (behind : List ℕ) (f : Framed ss behind) → AreSpots ss behind → SameRound ss rs → AreTypedOver ss rs
+pub new_source : (ss rs : List BlockSpot) (behind : List ℕ) (f : Framed ss behind) → AreSpots ss behind → SameRound ss rs → AreContents rs → AreNewOver ss rs
     → blocks_source (nodes_over f rs) ≡ spots_source rs behind
-over_source ss rs behind f h e o =
+new_source ss rs behind f h e c o =
     sym (held_source (nodes_over f rs))
     ∙ ap sources (sym (append-nil (held_by_all (forest (nodes_over f rs)))))
-    ∙ ap (λ m. sources (tree_items m)) (sym (over_means ss rs behind f h e o))
+    ∙ ap (λ m. sources (tree_items m)) (sym (new_means ss rs behind f h e c o))
     ∙ sources_meaning (page_items (spots_source rs behind))
     ∙ page_sources (spots_source rs behind)
+
+pub over_source : (ss rs : List BlockSpot) (behind : List ℕ) (f : Framed ss behind) → AreSpots ss behind → SameRound ss rs → AreTypedOver ss rs
+    → blocks_source (nodes_over f rs) ≡ spots_source rs behind
+over_source ss rs behind f h e o = new_source ss rs behind f h e (over_contents ss rs behind h e o) (over_new ss rs o)
 
 pub over_utf8 : (ss rs : List BlockSpot) (behind : List ℕ) → AreSpots ss behind → SameRound ss rs → AreTypedOver ss rs → IsUtf8 (spots_source rs behind)
 over_utf8 ss rs behind h e o = read_utf8 rs behind (over_read ss rs behind h e o)

@@ -10,11 +10,12 @@ use Rattle.wt_text_edit_laws.specs.OwnNodes.{IsTypedSpot}
 use Rattle.wt_text_edit_laws.specs.TextBetween.{AreEnded}
 use Rattle.wt_text_edit_laws.specs.TextBlocks.{TextBlock, a_paragraph, a_heading, block_of, source_of, IsBlock, IsTypedIn, BeginsLine}
 use Rattle.wt_text_edit_laws.specs.TypedHeadings.{EndsLine}
-use Rattle.wt_text_edit_laws.proofs.Blocks.BlockMeaning.{heading_frame}
+use Rattle.wt_text_edit_laws.proofs.Blocks.BlockReading.{HasFrame, content_frame}
 use Rattle.wt_text_edit_laws.proofs.Blocks.BlockSpotFacts.{typed_paragraph, typed_heading}
+use Rattle.wt_text_edit_laws.proofs.Blocks.Contents.{block_content, blocks_contents, over_new}
 use Rattle.wt_text_edit_laws.proofs.Blocks.TypedAgain.{read_again}
 use Rattle.wt_text_edit_laws.proofs.Blocks.TypedBraces.{AreTypedOver}
-use Rattle.wt_called_edit_laws.specs.AnyBlocks.{open_behind_part, StaysText, LeadsInto, IsSpotAt, past_break, BeginsAfter, EndsAfter, AreSpotsAfter, AreParts, with_text, with_texts}
+use Rattle.wt_called_edit_laws.specs.AnyBlocks.{open_behind_part, StaysText, LeadsInto, IsTextRead, IsSpotAt, past_break, BeginsAfter, EndsAfter, AreSpotsAfter, AreParts, with_text, with_texts}
 use Rattle.wt_called_edit_laws.specs.OwnTexts.{AreTypings}
 use Rattle.wt_called_edit_laws.proofs.Cells.Cells.{typed_stays_text}
 
@@ -29,28 +30,31 @@ ends_line a_paragraph n [] h = tt
 ends_line a_paragraph n (y ∷ ys) h = h.0
 ends_line (a_heading s) n xs h = h
 
+is_read : (s : BlockSpot) → IsTextRead s → IsRead s
+is_read s h = record { ended = h.ended; before_utf8 = h.before_utf8; block = block_content s.block s.text h.block }
+
 after_read : (last : TextBlock) (bs : List Bool) (ss : List BlockSpot) (behind : List ℕ) → AreSpotsAfter last bs ss behind → AreReadAfter ss behind
 after_read last bs [] behind h = (h.0, h.1, ends_line last (length bs) (page_items behind) h.2)
 after_read last bs (s ∷ ss) behind h = (
-  h.1.0,
+  is_read s h.1.0,
   begins_line last s.block bs (page_items s.before) h.0,
   after_read s.block (open_behind_part bs (past_break (page_items s.before))) ss behind h.2,
 )
 
 pub parts_read : (ss : List BlockSpot) (behind : List ℕ) → AreParts ss behind → AsAWhole ss behind → AreRead ss behind
 parts_read [] behind h w = absurd h
-parts_read (s ∷ ss) behind h w = (h.0.0, after_read s.block (open_behind_part [] (page_items s.before)) ss behind h.1, w)
+parts_read (s ∷ ss) behind h w = (is_read s h.0.0, after_read s.block (open_behind_part [] (page_items s.before)) ss behind h.1, w)
 
 blocks_after : (last : TextBlock) (bs : List Bool) (ss : List BlockSpot) (behind : List ℕ) → AreSpotsAfter last bs ss behind → AreBlocks ss
 blocks_after last bs [] behind h = tt
 blocks_after last bs (s ∷ ss) behind h =
-    let r : IsRead s = h.1.0 in
+    let r : IsTextRead s = h.1.0 in
     (r.block, blocks_after s.block (open_behind_part bs (past_break (page_items s.before))) ss behind h.2)
 
 pub parts_blocks : (ss : List BlockSpot) (behind : List ℕ) → AreParts ss behind → AreBlocks ss
 parts_blocks [] behind h = absurd h
 parts_blocks (s ∷ ss) behind h =
-    let r : IsRead s = h.0.0 in
+    let r : IsTextRead s = h.0.0 in
     (r.block, blocks_after s.block (open_behind_part [] (page_items s.before)) ss behind h.1)
 
 -- ---- with texts that were typed
@@ -71,7 +75,7 @@ stays_over k n was now (inl e) h = subst (λ q. StaysText k n q) (sym e) h
 stays_over a_paragraph n was now (inr t) h = typed_stays_text n now t
 stays_over (a_heading s) n was now (inr t) h = tt
 
-read_over : (s r : BlockSpot) → r.before ≡ s.before → r.block ≡ s.block → OverText s r → IsRead s → IsRead r
+read_over : (s r : BlockSpot) → r.before ≡ s.before → r.block ≡ s.block → OverText s r → IsTextRead s → IsTextRead r
 read_over s r e k o h = record {
   ended = subst AreEnded (sym e) h.ended;
   before_utf8 = subst IsUtf8 (sym e) h.before_utf8;
@@ -116,17 +120,20 @@ whole_of (s ∷ ss) behind h = h.2
 
 pub whole_over : (ss rs : List BlockSpot) (behind : List ℕ) → AreParts ss behind → AsAWhole ss behind → SameRound ss rs → AreTypedOver ss rs → AsAWhole rs behind
 whole_over ss rs behind h w e o =
-    whole_of rs behind (read_again ss rs behind (parts_read ss behind h w) e (parts_blocks rs behind (parts_over ss rs behind h e o)) o)
+    whole_of rs behind
+    (read_again ss rs behind (parts_read ss behind h w) e (blocks_contents rs (parts_blocks rs behind (parts_over ss rs behind h e o))) (over_new ss rs o))
 
 -- ---- which are these
 
-typed_in : (k : TextBlock) (q text : List ℕ) → IsBlock k q → IsUtf8 text → Takes (block_of k) text → IsTypedIn k (typed_as (block_of k) (source_of k q) text)
-typed_in a_paragraph q text h u t = typed_paragraph q text u
-typed_in (a_heading s) q text h u t = typed_heading s (source_of (a_heading s) q) text u t (heading_frame s q h)
+-- where this is the block's source
+pub typed_in : (k : TextBlock) (q text : List ℕ) → HasFrame k → IsUtf8 text → Takes (block_of k) text → IsTypedIn k (typed_as (block_of k) q text)
+typed_in a_paragraph q text f u t = typed_paragraph q text u
+typed_in (a_heading s) q text f u t = typed_heading s q text u t f
 
 over_text : (s : BlockSpot) (o : Option (List ℕ)) → IsBlock s.block s.text → IsTypedSpot s.block o → OverText s (with_text s o)
 over_text s None h t = inl refl
-over_text s (Some text) h t = inr (typed_in s.block s.text text h t.0 t.1)
+over_text s (Some text) h t =
+    inr (typed_in s.block (source_of s.block s.text) text (content_frame s.block s.text (block_content s.block s.text h)) t.0 t.1)
 
 same_front : (s : BlockSpot) (o : Option (List ℕ)) → ((with_text s o).before ≡ s.before) × ((with_text s o).block ≡ s.block)
 same_front s None = (refl, refl)

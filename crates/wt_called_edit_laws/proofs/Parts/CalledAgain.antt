@@ -1,4 +1,4 @@
--- Where texts are typed in the blocks of a page with calls, it is such a page again, and as much work to expand; and it is refused only if it was before.
+-- Where new contents are written in the blocks of a page with calls, it is such a page again, and as much work to expand; and it is refused only if it was before.
 use Rattle.std.proofs.Common.{◌≡◌, ◌⊎◌, inl, inr, ℕ, ◌+◌, Option, Some, None, List, [], ◌∷◌, ◌++◌, refl, sym, ap, ap₂, ◌∙◌, subst}
 use Rattle.std.specs.Option.{option_map, option_or}
 use Rattle.wt_span.specs.declared.form.Mode.TheVariants.{Page}
@@ -7,68 +7,69 @@ use Rattle.wt_expand.specs.Work.{Pages, Entry, entered, begun, fetched, ended, R
 use Rattle.wt_expand.specs.Expansion.{page_reading, text_given, page_work}
 use Rattle.wt_expand.specs.PageItems.{page_items}
 use Rattle.wt_text_edit_laws.specs.NoCalls.{Brace, NonePairs, CallsNothing}
-use Rattle.wt_text_edit_laws.specs.TextBlocks.{TextBlock, source_of, block_items, IsBlock, IsTypedIn}
-use Rattle.wt_text_edit_laws.specs.BlockSpots.{BlockSpot, spots_source, EndBeforeBlocks, SameRound, AreBlocks, AreReadAfter, IsRead}
+use Rattle.wt_text_edit_laws.specs.TextBlocks.{TextBlock, source_of, block_items}
+use Rattle.wt_text_edit_laws.specs.Contents.{IsFirmContent, IsNewContent}
+use Rattle.wt_text_edit_laws.specs.BlockSpots.{BlockSpot, spots_source, EndBeforeBlocks, SameRound, AreContents, AreReadAfter, IsRead}
 use Rattle.wt_text_edit_laws.proofs.Between.LessBraces.{IsSome, all_some, some_both, pairs_some, braces_of, none_unbraced}
 use Rattle.wt_text_edit_laws.proofs.Blocks.BlocksAgain.{spot_read_again, after_read_again}
 use Rattle.wt_text_edit_laws.proofs.Blocks.TypedAgain.{further_still_end, spot_still_ends}
-use Rattle.wt_text_edit_laws.proofs.Blocks.TypedBraces.{AreTypedOver, typed_unbraced}
+use Rattle.wt_text_edit_laws.proofs.Blocks.TypedBraces.{AreNewOver, firm_unbraced}
 use Rattle.wt_called_edit_laws.specs.Parts.{left_of, all_left, CallNothing, AreParted, AreCalled, called_work}
 use Rattle.wt_called_edit_laws.proofs.Parts.CalmBraces.{calm_left}
 use Rattle.wt_called_edit_laws.proofs.Parts.Depths.{IsShallow, undeep_shallow, shallow_undeep}
 use Rattle.wt_called_edit_laws.proofs.Parts.PartByPart.{AreShallow, page_from}
 use Rattle.wt_called_edit_laws.proofs.Parts.Seams.{block_alone}
 
--- ---- a text that was typed has no braces
+-- ---- a content that was written has no braces
 
-typed_braces : (k : TextBlock) (q : List ℕ) → IsTypedIn k q → braces_of (block_items k q) ≡ []
-typed_braces k q h = none_unbraced (block_items k q) (typed_unbraced k q h)
+firm_braces : (k : TextBlock) (q : List ℕ) → IsFirmContent k q → braces_of (block_items k q) ≡ []
+firm_braces k q h = none_unbraced (block_items k q) (firm_unbraced k q h)
 
-typed_calm : (k : TextBlock) (q : List ℕ) → IsTypedIn k q → CallsNothing (block_items k q)
-typed_calm k q h = subst NonePairs (sym (typed_braces k q h)) tt
+firm_calm : (k : TextBlock) (q : List ℕ) → IsFirmContent k q → CallsNothing (block_items k q)
+firm_calm k q h = subst NonePairs (sym (firm_braces k q h)) tt
 
 none_of : (xs : List Brace) → IsSome xs [] → xs ≡ []
 none_of [] h = refl
 none_of (x ∷ xs) h = absurd h
 
-typed_left : (k : TextBlock) (q : List ℕ) → IsBlock k q → IsTypedIn k q → left_of (source_of k q) ≡ []
-typed_left k q h t =
-    let items : page_items (source_of k q) ≡ block_items k q = block_alone k q h in
+firm_left : (k : TextBlock) (q : List ℕ) → IsFirmContent k q → left_of (source_of k q) ≡ []
+firm_left k q t =
+    let items : page_items (source_of k q) ≡ block_items k q = block_alone k q t.content in
     none_of (left_of (source_of k q))
-    (subst (λ bs. IsSome (left_of (source_of k q)) bs) (ap braces_of items ∙ typed_braces k q t)
-    (calm_left (source_of k q) (subst CallsNothing (sym items) (typed_calm k q t))))
+    (subst (λ bs. IsSome (left_of (source_of k q)) bs) (ap braces_of items ∙ firm_braces k q t)
+    (calm_left (source_of k q) (subst CallsNothing (sym items) (firm_calm k q t))))
 
-text_calm : (k : TextBlock) (was now : List ℕ) → (now ≡ was) ⊎ IsTypedIn k now → CallsNothing (block_items k was) → CallsNothing (block_items k now)
+text_calm : (k : TextBlock) (was now : List ℕ) → (now ≡ was) ⊎ IsNewContent k was now → CallsNothing (block_items k was) → CallsNothing (block_items k now)
 text_calm k was now (inl e) h = subst (λ q. CallsNothing (block_items k q)) (sym e) h
-text_calm k was now (inr t) h = typed_calm k now t
+text_calm k was now (inr n) h = firm_calm k now n.firm
 
-text_left : (k : TextBlock) (was now : List ℕ) → (now ≡ was) ⊎ IsTypedIn k now → IsBlock k now → IsSome (left_of (source_of k now)) (left_of (source_of k was))
-text_left k was now (inl e) h = subst (λ q. IsSome (left_of (source_of k q)) (left_of (source_of k was))) (sym e) (all_some (left_of (source_of k was)))
-text_left k was now (inr t) h = subst (λ xs. IsSome xs (left_of (source_of k was))) (sym (typed_left k now h t)) tt
+text_left : (k : TextBlock) (was now : List ℕ) → (now ≡ was) ⊎ IsNewContent k was now → IsSome (left_of (source_of k now)) (left_of (source_of k was))
+text_left k was now (inl e) = subst (λ q. IsSome (left_of (source_of k q)) (left_of (source_of k was))) (sym e) (all_some (left_of (source_of k was)))
+text_left k was now (inr n) = subst (λ xs. IsSome xs (left_of (source_of k was))) (sym (firm_left k now n.firm)) tt
 
 -- ---- the page
 
-spots_calm : (ss rs : List BlockSpot) → SameRound ss rs → AreTypedOver ss rs → CallNothing ss → CallNothing rs
+spots_calm : (ss rs : List BlockSpot) → SameRound ss rs → AreNewOver ss rs → CallNothing ss → CallNothing rs
 spots_calm [] [] e o c = tt
 spots_calm [] (r ∷ rs) e o c = absurd e
 spots_calm (s ∷ ss) [] e o c = absurd e
 spots_calm (s ∷ ss) (r ∷ rs) e o c =
     (text_calm r.block s.text r.text o.0 (subst (λ k. CallsNothing (block_items k s.text)) (sym e.1) c.0), spots_calm ss rs e.2 o.1 c.1)
 
-spots_left : (ss rs : List BlockSpot) (behind : List ℕ) → SameRound ss rs → AreTypedOver ss rs → AreBlocks rs → IsSome (all_left rs behind) (all_left ss behind)
-spots_left [] [] behind e o t = all_some (left_of behind)
-spots_left [] (r ∷ rs) behind e o t = absurd e
-spots_left (s ∷ ss) [] behind e o t = absurd e
-spots_left (s ∷ ss) (r ∷ rs) behind e o t =
+spots_left : (ss rs : List BlockSpot) (behind : List ℕ) → SameRound ss rs → AreNewOver ss rs → IsSome (all_left rs behind) (all_left ss behind)
+spots_left [] [] behind e o = all_some (left_of behind)
+spots_left [] (r ∷ rs) behind e o = absurd e
+spots_left (s ∷ ss) [] behind e o = absurd e
+spots_left (s ∷ ss) (r ∷ rs) behind e o =
     let front : IsSome (left_of r.before) (left_of s.before) =
     subst (λ bs. IsSome (left_of bs) (left_of s.before)) (sym e.0) (all_some (left_of s.before)) in
     let own : IsSome (left_of (source_of r.block r.text)) (left_of (source_of s.block s.text)) =
-    subst (λ k. IsSome (left_of (source_of r.block r.text)) (left_of (source_of k s.text))) e.1 (text_left r.block s.text r.text o.0 t.0) in
+    subst (λ k. IsSome (left_of (source_of r.block r.text)) (left_of (source_of k s.text))) e.1 (text_left r.block s.text r.text o.0) in
     some_both (left_of r.before) (left_of s.before)
     (left_of (source_of r.block r.text) ++ all_left rs behind) (left_of (source_of s.block s.text) ++ all_left ss behind) front
-    (some_both (left_of (source_of r.block r.text)) (left_of (source_of s.block s.text)) (all_left rs behind) (all_left ss behind) own (spots_left ss rs behind e.2 o.1 t.1))
+    (some_both (left_of (source_of r.block r.text)) (left_of (source_of s.block s.text)) (all_left rs behind) (all_left ss behind) own (spots_left ss rs behind e.2 o.1))
 
-pub called_again : (ss rs : List BlockSpot) (behind : List ℕ) → AreCalled ss behind → SameRound ss rs → AreBlocks rs → AreTypedOver ss rs → AreCalled rs behind
+pub called_again : (ss rs : List BlockSpot) (behind : List ℕ) → AreCalled ss behind → SameRound ss rs → AreContents rs → AreNewOver ss rs → AreCalled rs behind
 called_again [] rs behind h e t o = absurd h
 called_again (s ∷ ss) [] behind h e t o = absurd e
 called_again (s ∷ ss) (r ∷ rs) behind h e t o =
@@ -82,7 +83,7 @@ called_again (s ∷ ss) (r ∷ rs) behind h e t o =
       record {
         end_before = ends;
         calm = spots_calm (s ∷ ss) (r ∷ rs) e o w.calm;
-        apart = pairs_some (all_left (r ∷ rs) behind) (all_left (s ∷ ss) behind) (spots_left (s ∷ ss) (r ∷ rs) behind e o t) w.apart;
+        apart = pairs_some (all_left (r ∷ rs) behind) (all_left (s ∷ ss) behind) (spots_left (s ∷ ss) (r ∷ rs) behind e o) w.apart;
       },
     )
 

@@ -1,9 +1,9 @@
--- A page with calls in whose blocks texts were typed.
-use Rattle.std.proofs.Common.{◌≡◌, ◌⊎◌, inl, inr, ℕ, List, [], ◌∷◌, sym, ◌∙◌, subst}
+-- A page with calls in whose blocks new contents were written.
+use Rattle.std.proofs.Common.{ℕ, List, [], ◌∷◌, sym, ◌∙◌}
 use Rattle.wt_expand.specs.Work.{Pages}
-use Rattle.wt_text_edit_laws.specs.TextBlocks.{TextBlock, a_paragraph, a_heading, IsBlock, IsTypedIn}
-use Rattle.wt_text_edit_laws.specs.BlockSpots.{BlockSpot, spots_source, IsRead, AreReadAfter, SameRound, AreBlocks}
-use Rattle.wt_text_edit_laws.proofs.Blocks.TypedBraces.{AreTypedOver}
+use Rattle.wt_text_edit_laws.specs.BlockSpots.{BlockSpot, spots_source, IsRead, AreReadAfter, SameRound, AreContents}
+use Rattle.wt_text_edit_laws.proofs.Blocks.Contents.{new_contents}
+use Rattle.wt_text_edit_laws.proofs.Blocks.TypedBraces.{AreNewOver}
 use Rattle.wt_called_edit_laws.specs.Parts.{AreCalled, IsByParts}
 use Rattle.wt_called_edit_laws.specs.Retyped.{AreRetyped, IsExpandedAgain}
 use Rattle.wt_called_edit_laws.proofs.Parts.CalledAgain.{called_again, same_work, work_of, still_unrefused}
@@ -27,37 +27,25 @@ same_round [] (r ∷ rs) h = absurd h
 same_round (s ∷ ss) [] h = absurd h
 same_round (s ∷ ss) (r ∷ rs) h = (h.0, h.1, same_round ss rs h.3)
 
-pub typed_over : (ss rs : List BlockSpot) → AreRetyped ss rs → AreTypedOver ss rs
-typed_over [] [] h = tt
-typed_over [] (r ∷ rs) h = absurd h
-typed_over (s ∷ ss) [] h = absurd h
-typed_over (s ∷ ss) (r ∷ rs) h = (h.2, typed_over ss rs h.3)
+pub new_over : (ss rs : List BlockSpot) → AreRetyped ss rs → AreNewOver ss rs
+new_over [] [] h = tt
+new_over [] (r ∷ rs) h = absurd h
+new_over (s ∷ ss) [] h = absurd h
+new_over (s ∷ ss) (r ∷ rs) h = (h.2, new_over ss rs h.3)
 
-typed_is_block : (k : TextBlock) (q : List ℕ) → IsTypedIn k q → IsBlock k q
-typed_is_block a_paragraph q h = inl h
-typed_is_block (a_heading s) q h = inl h
-
-block_over : (k : TextBlock) (was now : List ℕ) → (now ≡ was) ⊎ IsTypedIn k now → IsBlock k was → IsBlock k now
-block_over k was now (inl e) h = subst (IsBlock k) (sym e) h
-block_over k was now (inr t) h = typed_is_block k now t
-
-blocks_after : (ss : List BlockSpot) (behind : List ℕ) → AreReadAfter ss behind → AreBlocks ss
+blocks_after : (ss : List BlockSpot) (behind : List ℕ) → AreReadAfter ss behind → AreContents ss
 blocks_after [] behind h = tt
 blocks_after (s ∷ ss) behind h = let r : IsRead s = h.0 in (r.block, blocks_after ss behind h.2)
 
-pub called_blocks : (ss : List BlockSpot) (behind : List ℕ) → AreCalled ss behind → AreBlocks ss
+pub called_blocks : (ss : List BlockSpot) (behind : List ℕ) → AreCalled ss behind → AreContents ss
 called_blocks [] behind h = absurd h
 called_blocks (s ∷ ss) behind h = let r : IsRead s = h.0 in (r.block, blocks_after ss behind h.1)
 
-pub blocks_over : (ss rs : List BlockSpot) → AreRetyped ss rs → AreBlocks ss → AreBlocks rs
-blocks_over [] [] h b = tt
-blocks_over [] (r ∷ rs) h b = absurd h
-blocks_over (s ∷ ss) [] h b = absurd h
-blocks_over (s ∷ ss) (r ∷ rs) h b =
-    (block_over r.block s.text r.text h.2 (subst (λ k. IsBlock k s.text) (sym h.1) b.0), blocks_over ss rs h.3 b.1)
+pub blocks_over : (ss rs : List BlockSpot) → AreRetyped ss rs → AreContents ss → AreContents rs
+blocks_over ss rs h b = new_contents ss rs (same_round ss rs h) (new_over ss rs h) b
 
 pub expanded_again : (pages : Pages) (ss rs : List BlockSpot) (behind : List ℕ) → AreCalled ss behind → AreRetyped ss rs → IsExpandedAgain pages ss rs behind
 expanded_again pages ss rs behind h t =
     let e : SameRound ss rs = same_round ss rs t in
-    let c : AreCalled rs behind = called_again ss rs behind h e (blocks_over ss rs t (called_blocks ss behind h)) (typed_over ss rs t) in
+    let c : AreCalled rs behind = called_again ss rs behind h e (blocks_over ss rs t (called_blocks ss behind h)) (new_over ss rs t) in
     record { called = c; work = same_work pages ss rs behind h c e; unrefused = still_unrefused pages ss rs behind h c e }

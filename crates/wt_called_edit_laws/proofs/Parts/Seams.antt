@@ -1,5 +1,5 @@
 -- Where a block begins and ends in a page, its lexemes meet those of what is before it and behind it.
-use Rattle.std.proofs.Common.{arith, ◌≡◌, inl, inr, ℕ, suc, ◌==◌, Bool, true, false, None, List, [], ◌∷◌, ◌++◌, refl, sym, ap, ◌∙◌, subst, append-nil}
+use Rattle.std.proofs.Common.{arith, ◌≡◌, inl, ℕ, suc, ◌==◌, Bool, true, false, None, List, [], ◌∷◌, ◌++◌, refl, sym, ap, ◌∙◌, subst, append-nil}
 use Rattle.std.specs.Prelude.{if◌then◌else◌}
 use Rattle.std.proofs.lemmas.Bool.Decides.{nat_tests}
 use Rattle.wt_span.specs.declared.form.Mode.TheVariants.{Page}
@@ -14,10 +14,11 @@ use Rattle.wt_scans.specs.Scans.{after_all}
 use Rattle.wt_joined_calls.specs.Apart.{AreMet}
 use Rattle.wt_joined_calls.proofs.MetWords.{words_meet}
 use Rattle.wt_text_edit_laws.specs.TextBetween.{BeginsShown}
-use Rattle.wt_text_edit_laws.specs.TextBlocks.{TextBlock, source_of, block_items, IsBlock}
+use Rattle.wt_text_edit_laws.specs.TextBlocks.{TextBlock, source_of, block_items}
+use Rattle.wt_text_edit_laws.specs.Contents.{IsContent}
 use Rattle.wt_text_edit_laws.specs.BlockSpots.{BlockSpot, spots_source, EndBeforeBlocks, IsRead, AreReadAfter}
 use Rattle.wt_text_edit_laws.proofs.Prose.Uncommented.{BeginsUncommented, either_flag}
-use Rattle.wt_text_edit_laws.proofs.Prose.InFront.{Reads, reads_nothing, read_items}
+use Rattle.wt_text_edit_laws.proofs.Prose.InFront.{Reads, read_items}
 use Rattle.wt_text_edit_laws.proofs.Between.LineForms.{marks_settle}
 use Rattle.wt_text_edit_laws.proofs.Between.Shown.{shown_before, shown_reads}
 use Rattle.wt_text_edit_laws.proofs.Paragraphs.Texts.{EndsHere, here_begins}
@@ -52,11 +53,8 @@ block_reads s ss behind h f b =
     block_front s.block s.text (spots_source ss behind) (spots_items ss behind) h.block b.1 (further_ends ss behind f) (further_reads ss behind f b.2)
 
 -- a block is read so by itself, too
-pub block_alone : (k : TextBlock) (q : List ℕ) → IsBlock k q → page_items (source_of k q) ≡ block_items k q
-block_alone k q h =
-    let r : Reads (source_of k q ++ []) (block_items k q ++ []) = block_front k q [] [] h (inr tt) tt reads_nothing in
-    subst (λ (bs : List ℕ). page_items bs ≡ block_items k q) (append-nil (source_of k q))
-    (read_items (source_of k q ++ []) (block_items k q ++ []) r ∙ append-nil (block_items k q))
+pub block_alone : (k : TextBlock) (q : List ℕ) → IsContent k q → page_items (source_of k q) ≡ block_items k q
+block_alone k q h = h.unended
 
 pub block_met : (s : BlockSpot) (ss : List BlockSpot) (behind : List ℕ) → IsRead s → AreReadAfter ss behind → EndBeforeBlocks (s ∷ ss) behind
     → AreMet (words Page (source_of s.block s.text)) (words Page (spots_source ss behind)) (words Page (source_of s.block s.text ++ spots_source ss behind))

@@ -9,10 +9,10 @@ use Rattle.wt_span.specs.Bytes.{begins}
 use Rattle.wt_span.specs.Items.{Item, char, whole, source, sources, sign, is_mark_form}
 use Rattle.wt_expand.specs.PageItems.{page_items}
 use Rattle.wt_expand.proofs.PageLaws.{page_sources}
-use Rattle.wt_text_edit_laws.specs.NoCalls.{Brace, opening, closing, braces, NoneClose, NonePairs}
+use Rattle.wt_text_edit_laws.specs.NoCalls.{Brace, opening, closing, braces, NoneClose, NonePairs, is_brace, AreUnbraced}
 use Rattle.wt_text_edit_laws.specs.TypedPages.{IsTypedPage}
 use Rattle.wt_text_edit_laws.specs.TextBetween.{EndsBy, is_end, AreEnded}
-use Rattle.wt_text_edit_laws.proofs.Prose.InFront.{is_brace, AreUnbraced, spelled_unbraced}
+use Rattle.wt_text_edit_laws.proofs.Prose.InFront.{spelled_unbraced}
 use Rattle.wt_text_edit_laws.proofs.Between.LineWords.{either}
 use Rattle.wt_text_edit_laws.proofs.Between.LineComments.{ends_behind}
 use Rattle.wt_text_edit_laws.proofs.Between.BraceWords.{none_pair}

@@ -14,9 +14,9 @@ use Rattle.wt_scans.specs.Lexer.{lexer}
 use Rattle.wt_scans.specs.Scans.{after_all}
 use Rattle.wt_text_edit_laws.specs.LonePages.{of_items}
 use Rattle.wt_text_edit_laws.specs.TypedPages.{IsTypedPage}
-use Rattle.wt_text_edit_laws.specs.NoCalls.{Brace, NonePairs, CallsNothing}
+use Rattle.wt_text_edit_laws.specs.NoCalls.{Brace, NonePairs, CallsNothing, AreUnbraced}
 use Rattle.wt_text_edit_laws.specs.TextBetween.{BeginsShown, StandsBefore, StandsBehind}
-use Rattle.wt_text_edit_laws.proofs.Prose.InFront.{Reads, AreUnbraced}
+use Rattle.wt_text_edit_laws.proofs.Prose.InFront.{Reads}
 use Rattle.wt_text_edit_laws.proofs.Prose.ProseReading.{page_front}
 use Rattle.wt_text_edit_laws.proofs.Between.LineForms.{ends_before_any}
 use Rattle.wt_text_edit_laws.proofs.Between.Fronts.{ReadsAfter, reads_after, page_read, before_reads, behind_reads}

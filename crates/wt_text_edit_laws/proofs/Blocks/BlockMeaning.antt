@@ -1,53 +1,35 @@
 -- What a page with typed paragraphs and headings means: a body with what each of its parts makes by itself, and these blocks between.
-use Rattle.std.proofs.Common.{◌≡◌, ℕ, List, [], ◌∷◌, ◌++◌, refl, ap, ◌∙◌, subst, sym, append_assoc, inl, inr}
+use Rattle.std.proofs.Common.{◌≡◌, ℕ, List, [], ◌∷◌, ◌++◌, refl, ap, ◌∙◌, subst, sym, append_assoc}
 use Rattle.wt_span.specs.Items.{Item}
 use Rattle.wt_inline.specs.ItemTree.{ItemTree}
 use Rattle.wt_inline.specs.Parts.{Part, node, children}
 use Rattle.wt_page.specs.Rows.{Row, rows}
 use Rattle.wt_page.specs.Body.{meaning}
-use Rattle.wt_guards.specs.Content.{letters}
-use Rattle.wt_guards.specs.Guards.{spelled}
 use Rattle.wt_expand.specs.PageItems.{page_items}
 use Rattle.wt_text_edit_laws.specs.ParagraphBetween.{rows_of_lines, AreClosed, before_marks, BeginApart, EndsParagraph, body_with}
 use Rattle.wt_text_edit_laws.proofs.Paragraphs.Joining.{rows_before}
 use Rattle.wt_text_edit_laws.proofs.Paragraphs.Marks.{AreMarks, EndsInMarks, marks_end, rows_marks}
 use Rattle.wt_text_edit_laws.proofs.Paragraphs.Standing.{parts_in, round_node, body_is}
 use Rattle.wt_text_edit_laws.proofs.Paragraphs.Paragraphs.{paragraph_between}
-use Rattle.wt_text_edit_laws.specs.TypedHeadings.{Sides, AreSides, heading_line, IsHeadingText, IsOfLevel, EndsLine}
-use Rattle.wt_text_edit_laws.proofs.Headings.HeadingRows.{heading_row, first_row, apart_level, heading_between}
-use Rattle.wt_text_edit_laws.proofs.Headings.TypedTexts.{typed_heading_text, typed_apart}
-use Rattle.wt_text_edit_laws.specs.TextBlocks.{TextBlock, a_paragraph, a_heading, block_items, block_tree, IsFrame, IsTypedHeading, IsBlock, LeadsTo, EndsBlock, FirstApart, BeginsApart, BeginsBetween}
+use Rattle.wt_text_edit_laws.specs.TypedHeadings.{Sides, heading_line, EndsLine}
+use Rattle.wt_text_edit_laws.proofs.Headings.HeadingRows.{heading_row, first_row, text_inside, round_between}
+use Rattle.wt_text_edit_laws.specs.TextBlocks.{TextBlock, a_paragraph, a_heading, block_items, block_tree, IsBlock, LeadsTo, EndsBlock, FirstApart, BeginsApart, BeginsBetween}
 use Rattle.wt_text_edit_laws.specs.BlockSpots.{BlockSpot, spots_source, page_blocks, IsBlockSpot, AreFurtherBlocks, AreBlockSpots}
-use Rattle.wt_text_edit_laws.proofs.Blocks.BlockReading.{spots_items, items_of_spots}
+use Rattle.wt_text_edit_laws.proofs.Paragraphs.LineBlocks.{page_breaks, text_tree}
+use Rattle.wt_text_edit_laws.proofs.Paragraphs.Texts.{paragraph_written}
+use Rattle.wt_text_edit_laws.proofs.Blocks.BlockReading.{spots_items}
+use Rattle.wt_text_edit_laws.proofs.Blocks.BlockLines.{heading_sides, heading_text, heading_level}
+use Rattle.wt_text_edit_laws.proofs.Blocks.BlocksRead.{items_of_spots}
 
--- ---- a block by itself
-
-typed_is_text : (s : Sides) (q : List ℕ) → IsTypedHeading s q → IsHeadingText (page_items q)
-typed_is_text s q h =
-    subst (λ (q : List ℕ). IsHeadingText (page_items q)) (sym h.is) (typed_heading_text h.setting h.text h.of_block h.of_heading h.utf8 h.one_line)
-
-pub heading_text : (s : Sides) (q : List ℕ) → IsBlock (a_heading s) q → IsHeadingText (page_items q)
-heading_text s q (inl t) = typed_is_text s q t
-heading_text s q (inr w) = w.is_text
-
-pub heading_frame : (s : Sides) (q : List ℕ) → IsBlock (a_heading s) q → IsFrame s
-heading_frame s q (inl t) = t.frame
-heading_frame s q (inr w) = w.frame
-
-pub heading_sides : (s : Sides) (q : List ℕ) → IsBlock (a_heading s) q → AreSides s
-heading_sides s q h = let f = heading_frame s q h in f.sides
-
-pub heading_level : (s : Sides) (q : List ℕ) → IsBlock (a_heading s) q → IsOfLevel s (page_items q)
-heading_level s q (inl t) =
-    subst (λ (q : List ℕ). IsOfLevel s (page_items q)) (sym t.is)
-    (apart_level s (page_items (spelled t.setting (letters t.text))) t.frame.sides (typed_apart t.setting t.text s t.of_block t.of_heading t.utf8 t.one_line t.frame.sides))
-heading_level s q (inr w) = w.of_level
+-- ---- a block between others
 
 block_between : (k : TextBlock) (xs : List Item) (q : List ℕ) (tail : List Item) → LeadsTo k xs → IsBlock k q → EndsBlock k tail
     → parts_in (xs ++ (block_items k q ++ tail)) ≡ parts_in xs ++ node (block_tree k q) ∷ parts_in tail
-block_between a_paragraph xs q tail c h e = paragraph_between xs q tail c h e
+block_between a_paragraph xs q tail c h e =
+    paragraph_between xs q tail c h e
+    ∙ ap (λ t. parts_in xs ++ node t ∷ parts_in tail) (sym (text_tree (page_items q) (paragraph_written q h).0 (page_breaks q)))
 block_between (a_heading s) xs q tail c h e =
-    heading_between xs s (page_items q) tail c (heading_sides s q h) (heading_text s q h) (heading_level s q h) e
+    round_between xs s (page_items q) tail c (heading_sides s q h) (text_inside (page_items q) (heading_text s q h)) (heading_level s q h) e
 
 -- ---- what stands behind one
 

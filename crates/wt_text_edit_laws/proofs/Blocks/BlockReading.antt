@@ -1,4 +1,4 @@
--- The items of a page with typed paragraphs and headings: those of its parts, each read as a page of its own; and it calls nothing.
+-- The items of a page with paragraphs and headings: those of its parts, each read as a page of its own; and it calls nothing.
 use Rattle.std.proofs.Common.{arith, refl, ◌≡◌, ◌≤◌, ℕ, zero, suc, Bool, true, false, List, [], ◌∷◌, ◌++◌, sym, ap, ◌∙◌, subst, append-nil, append_assoc, None, inl, inr}
 use Rattle.std.specs.Prelude.{◌==◌, ◌||◌}
 use Rattle.std.proofs.lemmas.Bool.Decides.{nat_tests}
@@ -18,18 +18,19 @@ use Rattle.wt_text_edit_laws.specs.TypedPages.{IsTypedPage}
 use Rattle.wt_scans.specs.Lexer.{lexer}
 use Rattle.wt_scans.specs.Scans.{after_all}
 use Rattle.wt_text_edit_laws.proofs.Prose.Uncommented.{BeginsUncommented, uncommented_other}
-use Rattle.wt_text_edit_laws.proofs.Prose.InFront.{Reads, reads_byte, reads_form}
-use Rattle.wt_text_edit_laws.proofs.Prose.ProseReading.{page_front}
+use Rattle.wt_text_edit_laws.proofs.Prose.InFront.{Reads, reads_byte, reads_form, read_items}
 use Rattle.wt_text_edit_laws.specs.NoCalls.{CallsNothing}
-use Rattle.wt_text_edit_laws.specs.TextBetween.{AreEnded, HasEndsBefore, LineEnds}
+use Rattle.wt_text_edit_laws.specs.TextBetween.{AreEnded, HasEndsBefore, StandsBehind, LineEnds}
 use Rattle.wt_text_edit_laws.proofs.Between.LineForms.{ends_before_any}
 use Rattle.wt_text_edit_laws.proofs.Between.Fronts.{ReadsAfter, reads_after, reads_either, first_from, form_from, page_read, alone_reads, before_reads, behind_reads}
-use Rattle.wt_text_edit_laws.proofs.Between.Shown.{begins_shown, shown_before, shown_reads}
+use Rattle.wt_text_edit_laws.proofs.Between.Shown.{begins_shown, shown_before, shown_lines, shown_reads}
+use Rattle.wt_text_edit_laws.proofs.Between.LineComments.{lines_ended}
 use Rattle.wt_text_edit_laws.proofs.Between.NoCalls.{calm_expanded, calm_unrefused}
-use Rattle.wt_text_edit_laws.proofs.Paragraphs.Texts.{EndsHere, here_begins, nothing_is, line_reads, paragraph_front, paragraph_shown}
+use Rattle.wt_text_edit_laws.proofs.Paragraphs.Texts.{EndsHere, begins_before, here_begins, nothing_is, one_line, line_reads}
 use Rattle.wt_text_edit_laws.specs.TypedHeadings.{Sides, AreBlanks, AreSides, equals, opening, closing, closing_items, heading_line, EndsLine}
-use Rattle.wt_text_edit_laws.specs.TextBlocks.{TextBlock, a_paragraph, a_heading, source_of, block_items, IsFrame, IsTypedHeading, IsWrittenHeading, IsBlock, TextEnds, EndsBlock, BeginsLine, BeginsBetween}
-use Rattle.wt_text_edit_laws.specs.BlockSpots.{BlockSpot, spots_source, IsBlockSpot, AreFurtherBlocks, EndBeforeBlocks, AreBlockSpots, IsRead, AreReadAfter, AreRead}
+use Rattle.wt_text_edit_laws.specs.TextBlocks.{TextBlock, a_paragraph, a_heading, source_of, block_items, IsFrame, IsTypedHeading, BeginsLine}
+use Rattle.wt_text_edit_laws.specs.Contents.{AreParagraphLines, IsHeadingLine, IsContentOf, IsContent, IsFirmContent, TextEnds}
+use Rattle.wt_text_edit_laws.specs.BlockSpots.{BlockSpot, spots_source, EndBeforeBlocks, IsRead, AreReadAfter, AreRead}
 
 -- ---- a heading's delimiters
 
@@ -138,23 +139,42 @@ closing_front s rest xs f e r =
 pub typed_text : (s : Sides) (q : List ℕ) → IsTypedHeading s q → IsTypedPage q
 typed_text s q h = record { setting = h.setting; text = h.text; utf8 = h.utf8; of_block = h.of_block; is = h.is }
 
-typed_front : (s : Sides) (q rest : List ℕ) (xs : List Item) → IsTypedHeading s q → EndsHere rest → Reads rest xs
+-- these bytes are read the same before anything
+abbrev pub IsBeforeAny : List ℕ → Type 0
+IsBeforeAny q = (rest : List ℕ) (xs : List Item) → Reads rest xs → Reads (q ++ rest) (page_items q ++ xs)
+
+framed_front : (s : Sides) (q rest : List ℕ) (xs : List Item) → IsFrame s → IsBeforeAny q → EndsHere rest → Reads rest xs
     → Reads (source_of (a_heading s) q ++ rest) (heading_line s (page_items q) ++ xs)
-typed_front s q rest xs h e r =
+framed_front s q rest xs h f e r =
     let own : List Item = page_items q in
     let o : List Item = page_chars (opening s) in
     let c : List Item = closing_items s in
-    let end : Reads (closing s ++ rest) (c ++ xs) = closing_front s rest xs h.frame e r in
-    let text : Reads (q ++ (closing s ++ rest)) (own ++ (c ++ xs)) = page_front q (closing s ++ rest) (c ++ xs) (typed_text s q h) end in
+    let end : Reads (closing s ++ rest) (c ++ xs) = closing_front s rest xs h e r in
+    let text : Reads (q ++ (closing s ++ rest)) (own ++ (c ++ xs)) = f (closing s ++ rest) (c ++ xs) end in
     let all : Reads (opening s ++ (q ++ (closing s ++ rest))) (o ++ (own ++ (c ++ xs))) =
-    read_quiet (opening s) (q ++ (closing s ++ rest)) (own ++ (c ++ xs)) (opening_quiet s h.frame.sides) text in
+    read_quiet (opening s) (q ++ (closing s ++ rest)) (own ++ (c ++ xs)) (opening_quiet s h.sides) text in
     let source : source_of (a_heading s) q ++ rest ≡ opening s ++ (q ++ (closing s ++ rest)) =
     append_assoc (opening s) (q ++ closing s) rest ∙ ap (λ (bs : List ℕ). opening s ++ bs) (append_assoc q (closing s) rest) in
     let items : heading_line s own ++ xs ≡ o ++ (own ++ (c ++ xs)) =
     append_assoc o (own ++ c) xs ∙ ap (λ (zs : List Item). o ++ zs) (append_assoc own c xs) in
     subst (λ bs. Reads bs (heading_line s own ++ xs)) (sym source) (subst (λ ys. Reads (opening s ++ (q ++ (closing s ++ rest))) ys) (sym items) all)
 
--- ---- one that was written by hand, before a line break, or where the page ends
+-- what a block has beside its content
+abbrev pub HasFrame : TextBlock → Type 0
+HasFrame a_paragraph = Unit {0}
+HasFrame (a_heading s) = IsFrame s
+
+-- a block whose content is read the same before anything
+pub any_front : (k : TextBlock) (q rest : List ℕ) (xs : List Item) → HasFrame k → IsBeforeAny q → EndsHere rest → Reads rest xs
+    → Reads (source_of k q ++ rest) (block_items k q ++ xs)
+any_front a_paragraph q rest xs h f e r = f rest xs r
+any_front (a_heading s) q rest xs h f e r = framed_front s q rest xs h f e r
+
+-- ---- a content of the page
+
+pub content_frame : (k : TextBlock) (q : List ℕ) → IsContent k q → HasFrame k
+content_frame a_paragraph q h = tt
+content_frame (a_heading s) q h = let own : IsHeadingLine s q = h.is in own.frame
 
 -- no comment begins it
 run_begins : (n : ℕ) (bs : List ℕ) → 1 ≤ n → BeginsUncommented (equals n ++ bs)
@@ -167,31 +187,45 @@ heading_begins s q rest a =
     subst BeginsUncommented (sym (append_assoc (opening s) more rest ∙ append_assoc (equals s.level) s.lead (more ++ rest)))
     (run_begins s.level (s.lead ++ (more ++ rest)) a.some)
 
-written_front : (s : Sides) (q rest : List ℕ) (xs : List Item) → IsWrittenHeading s q → LineEnds (source_of (a_heading s) q) rest → EndsHere rest → Reads rest xs
-    → Reads (source_of (a_heading s) q ++ rest) (heading_line s (page_items q) ++ xs)
-written_front s q [] xs h l e r =
-    let line : List ℕ = source_of (a_heading s) q in
-    let own : List Item = heading_line s (page_items q) in
-    let begins : BeginsUncommented line = subst BeginsUncommented (append-nil line) (heading_begins s q [] h.frame.sides) in
+paragraph_begins : (q rest : List ℕ) → AreParagraphLines q → EndsHere rest → BeginsUncommented (q ++ rest)
+paragraph_begins q [] h e = subst BeginsUncommented (sym (append-nil q)) (record { is = h.alone.uncommented })
+paragraph_begins q (b ∷ r) h e =
+    let P : ℕ → Type 0 = λ (c : ℕ). BeginsUncommented (q ++ c ∷ r) in
+    subst P (sym e) (subst BeginsUncommented (append_assoc q (10 ∷ []) r) (begins_before q r (lines_ended (q ++ 10 ∷ []) (one_line q)) h.before_break))
+
+content_begins : (k : TextBlock) (q rest : List ℕ) → IsContentOf k q → EndsHere rest → BeginsUncommented (source_of k q ++ rest)
+content_begins a_paragraph q rest h e = paragraph_begins q rest h e
+content_begins (a_heading s) q rest h e = heading_begins s q rest h.frame.sides
+
+-- before a line break, or where the page ends
+own_front : (k : TextBlock) (q rest : List ℕ) (xs : List Item) → IsContent k q → LineEnds (source_of k q) rest → EndsHere rest → Reads rest xs
+    → Reads (source_of k q ++ rest) (block_items k q ++ xs)
+own_front k q [] xs h l e r =
+    let line : List ℕ = source_of k q in
+    let own : List Item = block_items k q in
+    let begins : BeginsUncommented line = subst BeginsUncommented (append-nil line) (content_begins k q [] h.is tt) in
     let alone : Reads line (page_items line) = reads_either line (page_items line) begins (alone_reads line) in
     subst (λ ys. Reads (line ++ []) (own ++ ys)) (sym (nothing_is xs r))
     (subst (λ bs. Reads bs (own ++ [])) (sym (append-nil line)) (subst (λ ys. Reads line ys) (h.unended ∙ sym (append-nil own)) alone))
-written_front s q (b ∷ r) xs h l e read =
-    let line : List ℕ = source_of (a_heading s) q in
-    let own : List Item = heading_line s (page_items q) in
+own_front k q (b ∷ r) xs h l e read =
+    let line : List ℕ = source_of k q in
+    let own : List Item = block_items k q in
     let P : ℕ → Type 0 = λ (c : ℕ). HasEndsBefore r (line ++ c ∷ []) → Reads (c ∷ r) xs → Reads (line ++ c ∷ r) (own ++ xs) in
-    subst P (sym e) (λ m k. reads_either (line ++ 10 ∷ r) (own ++ xs) (heading_begins s q (10 ∷ r) h.frame.sides) (line_reads line r own xs m h.ended k)) l read
+    subst P (sym e) (λ m z. reads_either (line ++ 10 ∷ r) (own ++ xs) (content_begins k q (10 ∷ r) h.is refl) (line_reads line r own xs m h.ended z)) l read
 
-heading_front : (s : Sides) (q rest : List ℕ) (xs : List Item) → IsBlock (a_heading s) q → TextEnds (a_heading s) q rest → EndsHere rest → Reads rest xs
-    → Reads (source_of (a_heading s) q ++ rest) (heading_line s (page_items q) ++ xs)
-heading_front s q rest xs (inl t) l e r = typed_front s q rest xs t e r
-heading_front s q rest xs (inr w) (inl t) e r = typed_front s q rest xs t e r
-heading_front s q rest xs (inr w) (inr l) e r = written_front s q rest xs w l e r
+-- one that is firm, whatever stands behind it
+pub firm_before : (k : TextBlock) (q : List ℕ) → IsFirmContent k q → IsBeforeAny q
+firm_before k q h rest xs r =
+    let b : BeginsUncommented rest = r.begins in
+    let behind : StandsBehind rest = record { uncommented = b.is } in
+    let u : StandsBehind (q ++ rest) = h.uncommented rest behind in
+    let items : page_items (q ++ rest) ≡ page_items q ++ xs = h.firm rest behind ∙ ap (λ ys. page_items q ++ ys) (read_items rest xs r) in
+    reads_either (q ++ rest) (page_items q ++ xs) (record { is = u.uncommented }) (subst (λ ys. ReadsAfter false (q ++ rest) ys) items (alone_reads (q ++ rest)))
 
-pub block_front : (k : TextBlock) (q rest : List ℕ) (xs : List Item) → IsBlock k q → TextEnds k q rest → EndsHere rest → Reads rest xs
+pub block_front : (k : TextBlock) (q rest : List ℕ) (xs : List Item) → IsContent k q → TextEnds k q rest → EndsHere rest → Reads rest xs
     → Reads (source_of k q ++ rest) (block_items k q ++ xs)
-block_front a_paragraph q rest xs h l e r = paragraph_front q rest xs h l e r
-block_front (a_heading s) q rest xs h l e r = heading_front s q rest xs h l e r
+block_front k q rest xs h (inl f) e r = any_front k q rest xs (content_frame k q h) (firm_before k q f) e r
+block_front k q rest xs h (inr l) e r = own_front k q rest xs h l e r
 
 -- ---- a block begins with something visible
 
@@ -199,10 +233,12 @@ run_shown : (n : ℕ) (bs : List ℕ) (ys : List Item) → 1 ≤ n → begins_sh
 run_shown zero bs ys some = absurd (omega (arith, some))
 run_shown (suc n) bs ys some = refl
 
-pub block_shown : (k : TextBlock) (q : List ℕ) → IsBlock k q → begins_shown (block_items k q) ≡ true
-block_shown a_paragraph q h = paragraph_shown q h
-block_shown (a_heading s) q (inl t) = run_shown s.level s.lead (page_items q ++ closing_items s) t.frame.sides.some
-block_shown (a_heading s) q (inr w) = run_shown s.level s.lead (page_items q ++ closing_items s) w.frame.sides.some
+content_shown : (k : TextBlock) (q : List ℕ) → IsContentOf k q → begins_shown (block_items k q) ≡ true
+content_shown a_paragraph q h = shown_lines (page_items q) h.are_lines
+content_shown (a_heading s) q h = run_shown s.level s.lead (page_items q ++ closing_items s) h.frame.sides.some
+
+pub block_shown : (k : TextBlock) (q : List ℕ) → IsContent k q → begins_shown (block_items k q) ≡ true
+block_shown k q h = content_shown k q h.is
 
 -- ---- the parts
 
@@ -219,28 +255,6 @@ spot_reads : (s : BlockSpot) (rest : List ℕ) (xs : List Item) → IsRead s →
 spot_reads s rest xs h b l e r =
     in_front s.before (source_of s.block s.text ++ rest) (block_items s.block s.text ++ xs) h.ended b (block_front s.block s.text rest xs h.block l e r)
     (shown_before (block_items s.block s.text) xs (block_shown s.block s.text h.block))
-
--- behind a paragraph or a heading the page ends, or a line break stands
-block_line : (k : TextBlock) (xs : List Item) → EndsBlock k xs → EndsLine xs
-block_line a_paragraph [] e = tt
-block_line a_paragraph (y ∷ ys) e = e.0
-block_line (a_heading s) xs e = e
-
-next_line : (last next : TextBlock) (xs : List Item) → BeginsBetween last next xs → BeginsLine xs
-next_line a_paragraph next [] e = absurd e
-next_line a_paragraph next (y ∷ ys) e = e.0
-next_line (a_heading s) next xs e = e
-
-is_read : (s : BlockSpot) → IsBlockSpot s → IsRead s
-is_read s h = record { ended = h.ended; before_utf8 = h.before_utf8; block = h.block }
-
-pub further_read : (last : TextBlock) (ss : List BlockSpot) (behind : List ℕ) → AreFurtherBlocks last ss behind → AreReadAfter ss behind
-further_read last [] behind h = (h.stands, h.utf8, block_line last (page_items behind) h.ends)
-further_read last (s ∷ ss) behind h = (is_read s h.0, next_line last s.block (page_items s.before) h.1, further_read s.block ss behind h.2)
-
-pub spots_read : (ss : List BlockSpot) (behind : List ℕ) → AreBlockSpots ss behind → AreRead ss behind
-spots_read [] behind h = absurd h
-spots_read (s ∷ ss) behind h = (is_read s h.0, further_read s.block ss behind h.1, h.2)
 
 line_ends : (xs : List Item) → EndsLine xs → EndsHere (sources xs)
 line_ends [] e = tt
@@ -295,16 +309,3 @@ read_expanded pages ss behind h = calm_expanded pages (spots_source ss behind) (
 pub read_unrefused : (pages : Pages) (ss : List BlockSpot) (behind : List ℕ) → AreRead ss behind
     → first_refusal pages (spots_source ss behind) (page_work pages (spots_source ss behind)) ≡ None
 read_unrefused pages ss behind h = calm_unrefused pages (spots_source ss behind) (read_calm ss behind h)
-
--- ---- pages whose parts stand by themselves
-
-pub items_of_spots : (ss : List BlockSpot) (behind : List ℕ) → AreBlockSpots ss behind → page_items (spots_source ss behind) ≡ spots_items ss behind
-items_of_spots ss behind h = read_items_of ss behind (spots_read ss behind h)
-
-pub spots_expanded : (pages : Pages) (ss : List BlockSpot) (behind : List ℕ) → AreBlockSpots ss behind
-    → expanded_page pages (spots_source ss behind) ≡ of_items (page_items (spots_source ss behind))
-spots_expanded pages ss behind h = read_expanded pages ss behind (spots_read ss behind h)
-
-pub spots_unrefused : (pages : Pages) (ss : List BlockSpot) (behind : List ℕ) → AreBlockSpots ss behind
-    → first_refusal pages (spots_source ss behind) (page_work pages (spots_source ss behind)) ≡ None
-spots_unrefused pages ss behind h = read_unrefused pages ss behind (spots_read ss behind h)

@@ -25,8 +25,9 @@ use Rattle.wt_text_edit_laws.specs.TypedHeadings.{Sides}
 use Rattle.wt_text_edit_laws.specs.TextBlocks.{TextBlock, a_paragraph, a_heading, source_of, IsFrame, IsTypedHeading, IsBlock, IsTypedIn}
 use Rattle.wt_text_edit_laws.specs.BlockSpots.{BlockSpot, spots_source, SameRound, AreBlocks}
 use Rattle.wt_text_edit_laws.specs.BlockEdits.{Sending, kept, Typing, types, keeps, typed_as, new_text, SpotEdit, old_spots, new_spots, all_kept, sending_for, spot_sendings, IsSentFor, AreSentFor, IsText, AreTexts}
-use Rattle.wt_text_edit_laws.proofs.Blocks.BlockMeaning.{heading_frame}
-use Rattle.wt_text_edit_laws.proofs.Blocks.BlockTrees.{leaf_block, leafy_blocks, block_own}
+use Rattle.wt_text_edit_laws.proofs.Blocks.BlockLines.{heading_frame}
+use Rattle.wt_text_edit_laws.proofs.Blocks.BlockTrees.{leafy_blocks}
+use Rattle.wt_text_edit_laws.proofs.Blocks.BlockLeaves.{leaf_block, block_own}
 use Rattle.wt_text_edit_laws.proofs.Blocks.BlocksAgain.{AreClear}
 use Rattle.wt_text_edit_laws.proofs.Blocks.TypedBraces.{AreTypedOver}
 use Rattle.wt_text_edit_laws.proofs.Blocks.TypedFacts.{Facts, facts_nothing, facts_kept, facts_text, items_source}

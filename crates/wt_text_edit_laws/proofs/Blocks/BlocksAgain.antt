@@ -1,19 +1,19 @@
 -- Pages with typed paragraphs and headings: they are UTF-8, no tag is open where such a block begins, and with other typed texts they are such
 -- pages again.
-use Rattle.std.proofs.Common.{◌≡◌, ℕ, false, List, [], ◌∷◌, ◌++◌, refl, sym, subst, inl, inr}
+use Rattle.std.proofs.Common.{◌≡◌, ℕ, false, List, [], ◌∷◌, ◌++◌, refl, sym, subst}
 use Rattle.std.specs.Str.{IsUtf8}
 use Rattle.std.proofs.lemmas.Str.{IsUtf8-append, IsUtf8-nil}
 use Rattle.wt_isolation.specs.OpenTags.{ends_open}
 use Rattle.wt_expand.specs.PageItems.{page_items}
 use Rattle.wt_text_edit_laws.specs.TextBetween.{AreEnded}
 use Rattle.wt_text_edit_laws.proofs.Prose.InFront.{reads_nothing, read_items}
-use Rattle.wt_text_edit_laws.proofs.Paragraphs.Texts.{paragraph_utf8}
 use Rattle.wt_text_edit_laws.proofs.Paragraphs.ClearLines.{clear_first, clear_line}
-use Rattle.wt_text_edit_laws.specs.TypedHeadings.{Sides, equals, opening, closing}
-use Rattle.wt_text_edit_laws.specs.TextBlocks.{TextBlock, a_paragraph, a_heading, source_of, IsFrame, IsBlock, BeginsLine, BeginsBetween}
-use Rattle.wt_text_edit_laws.specs.BlockSpots.{BlockSpot, spots_source, IsBlockSpot, AreFurtherBlocks, AsAWhole, AreBlockSpots, IsRead, AreReadAfter, AreRead, SameRound, AreBlocks}
-use Rattle.wt_text_edit_laws.proofs.Blocks.BlockReading.{AreQuiet, run_quiet, blanks_quiet, opening_quiet, each_quiet, typed_text, spots_read}
-use Rattle.wt_text_edit_laws.proofs.Blocks.BlockMeaning.{heading_frame}
+use Rattle.wt_text_edit_laws.specs.TypedHeadings.{equals, opening, closing}
+use Rattle.wt_text_edit_laws.specs.TextBlocks.{TextBlock, a_paragraph, a_heading, source_of, IsBlock, BeginsLine, BeginsBetween}
+use Rattle.wt_text_edit_laws.specs.BlockSpots.{BlockSpot, spots_source, IsBlockSpot, AreFurtherBlocks, AsAWhole, AreBlockSpots, IsRead, AreReadAfter, AreRead, SameRound, AreBlocks, AreContents}
+use Rattle.wt_text_edit_laws.specs.Contents.{IsContent}
+use Rattle.wt_text_edit_laws.proofs.Blocks.BlockReading.{AreQuiet, run_quiet, blanks_quiet, opening_quiet, each_quiet, HasFrame, content_frame}
+use Rattle.wt_text_edit_laws.proofs.Blocks.BlocksRead.{spots_read}
 
 -- ---- UTF-8
 
@@ -34,23 +34,21 @@ quiet_utf8 [] h = IsUtf8-nil
 quiet_utf8 (b ∷ bs) h =
     IsUtf8-append (b ∷ []) bs (each_quiet (λ (c : ℕ). IsUtf8 (c ∷ [])) equals_utf8 space_utf8 tab_utf8 b h.0) (quiet_utf8 bs h.1)
 
-text_utf8 : (s : Sides) (q : List ℕ) → IsBlock (a_heading s) q → IsUtf8 q
-text_utf8 s q (inl t) = paragraph_utf8 q (inl (typed_text s q t))
-text_utf8 s q (inr w) = w.utf8
-
-block_utf8 : (k : TextBlock) (q : List ℕ) → IsBlock k q → IsUtf8 (source_of k q)
-block_utf8 a_paragraph q h = paragraph_utf8 q h
-block_utf8 (a_heading s) q h =
-    let f : IsFrame s = heading_frame s q h in
+pub framed_utf8 : (k : TextBlock) (q : List ℕ) → HasFrame k → IsUtf8 q → IsUtf8 (source_of k q)
+framed_utf8 a_paragraph q f h = h
+framed_utf8 (a_heading s) q f h =
     let end : IsUtf8 (equals s.level ++ s.rest) = IsUtf8-append (equals s.level) s.rest (quiet_utf8 (equals s.level) (run_quiet s.level)) f.utf8 in
     IsUtf8-append (opening s) (q ++ closing s) (quiet_utf8 (opening s) (opening_quiet s f.sides))
-    (IsUtf8-append q (closing s) (text_utf8 s q h)
+    (IsUtf8-append q (closing s) h
     (IsUtf8-append s.trail (equals s.level ++ s.rest) (quiet_utf8 s.trail (blanks_quiet s.trail f.sides.trail)) end))
+
+pub content_utf8 : (k : TextBlock) (q : List ℕ) → IsContent k q → IsUtf8 (source_of k q)
+content_utf8 k q h = framed_utf8 k q (content_frame k q h) h.utf8
 
 spot_utf8 : (s : BlockSpot) (rest : List ℕ) → IsRead s → IsUtf8 rest → IsUtf8 (s.before ++ (source_of s.block s.text ++ rest))
 spot_utf8 s rest h u =
     IsUtf8-append s.before (source_of s.block s.text ++ rest) h.before_utf8
-    (IsUtf8-append (source_of s.block s.text) rest (block_utf8 s.block s.text h.block) u)
+    (IsUtf8-append (source_of s.block s.text) rest (content_utf8 s.block s.text h.block) u)
 
 further_utf8 : (ss : List BlockSpot) (behind : List ℕ) → AreReadAfter ss behind → IsUtf8 (spots_source ss behind)
 further_utf8 [] behind h = h.1
@@ -91,10 +89,10 @@ spots_clear ss behind h = read_clear ss behind (spots_read ss behind h)
 
 -- ---- with other texts
 
-pub spot_read_again : (s r : BlockSpot) → IsRead s → r.before ≡ s.before → IsBlock r.block r.text → IsRead r
+pub spot_read_again : (s r : BlockSpot) → IsRead s → r.before ≡ s.before → IsContent r.block r.text → IsRead r
 spot_read_again s r h e t = record { ended = subst AreEnded (sym e) h.ended; before_utf8 = subst IsUtf8 (sym e) h.before_utf8; block = t }
 
-pub after_read_again : (ss rs : List BlockSpot) (behind : List ℕ) → AreReadAfter ss behind → SameRound ss rs → AreBlocks rs → AreReadAfter rs behind
+pub after_read_again : (ss rs : List BlockSpot) (behind : List ℕ) → AreReadAfter ss behind → SameRound ss rs → AreContents rs → AreReadAfter rs behind
 after_read_again [] [] behind h e t = h
 after_read_again [] (r ∷ rs) behind h e t = absurd e
 after_read_again (s ∷ ss) [] behind h e t = absurd e
@@ -104,7 +102,7 @@ after_read_again (s ∷ ss) (r ∷ rs) behind h e t = (
   after_read_again ss rs behind h.2 e.2 t.1,
 )
 
-pub parts_read_again : (s r : BlockSpot) (ss rs : List BlockSpot) (behind : List ℕ) → AreRead (s ∷ ss) behind → SameRound (s ∷ ss) (r ∷ rs) → AreBlocks (r ∷ rs)
+pub parts_read_again : (s r : BlockSpot) (ss rs : List BlockSpot) (behind : List ℕ) → AreRead (s ∷ ss) behind → SameRound (s ∷ ss) (r ∷ rs) → AreContents (r ∷ rs)
     → IsRead r × AreReadAfter rs behind
 parts_read_again s r ss rs behind h e t = (spot_read_again s r h.0 e.0 t.0, after_read_again ss rs behind h.1 e.2 t.1)
 

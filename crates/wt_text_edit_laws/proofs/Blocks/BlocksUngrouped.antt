@@ -10,7 +10,7 @@ use Rattle.wt_moved_laws.proofs.Ordinary.{standing_ordinary, ordinary_ungrouped}
 use Rattle.wt_text_edit_laws.specs.Parts.{HasNoGroups}
 use Rattle.wt_text_edit_laws.specs.BlockSpots.{BlockSpot, spots_source, page_blocks, AreBlockSpots}
 use Rattle.wt_text_edit_laws.proofs.Prose.ProseTrees.{blocks_of, number_behind, items_behind}
-use Rattle.wt_text_edit_laws.proofs.Blocks.BlockReading.{spots_expanded, spots_unrefused}
+use Rattle.wt_text_edit_laws.proofs.Blocks.BlocksRead.{spots_expanded, spots_unrefused}
 use Rattle.wt_text_edit_laws.proofs.Blocks.BlockMeaning.{spots_meaning}
 use Rattle.wt_text_edit_laws.proofs.Blocks.BlockTrees.{leafy_blocks, as_leaves, are_typed, spots_tree}
 use Rattle.wt_text_edit_laws.proofs.Blocks.BlocksAgain.{spots_utf8}

@@ -26,7 +26,7 @@ use Rattle.wt_typed_blocks.specs.Unmarked.{free_body, AreToldApart}
 use Rattle.wt_typed_blocks.proofs.SentUnmarked.{told_by_difference}
 use Rattle.wt_text_edit_laws.proofs.Prose.ProseTakes.{not_longer}
 use Rattle.wt_text_edit_laws.proofs.Blocks.BlocksAgain.{spots_utf8}
-use Rattle.wt_text_edit_laws.proofs.Blocks.BlockReading.{spots_unrefused}
+use Rattle.wt_text_edit_laws.proofs.Blocks.BlocksRead.{spots_unrefused}
 use Rattle.wt_text_edit_laws.specs.BlockEdits.{BlockEdit, old_spots, old_page, new_page, sendings, sent_children, sent_page, IsBlockEdit}
 use Rattle.wt_text_edit_laws.specs.UnmarkedBlocks.{unmarked_page, IsUnmarkedBlockEdit}
 use Rattle.wt_text_edit_laws.proofs.Blocks.BlocksTake.{label_of, blocks_sent, tree_is, sent_is, kept_so, facts_of, opened_is, takes_texts}

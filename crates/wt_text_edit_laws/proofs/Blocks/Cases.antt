@@ -42,6 +42,7 @@ use Rattle.wt_text_edit_laws.specs.TypedHeadings.{Sides, spaced}
 use Rattle.wt_text_edit_laws.specs.TextBlocks.{a_paragraph, a_heading, IsFrame, IsTypedHeading, IsWrittenHeading, BeginsBetween}
 use Rattle.wt_text_edit_laws.specs.BlockSpots.{AreBlockSpots}
 use Rattle.wt_text_edit_laws.specs.BlockEdits.{BlockEdit, types, keeps, retyped, kept, old_spots, old_page, new_page, sendings}
+use Rattle.wt_text_edit_laws.proofs.Blocks.Contents.{typed_firm}
 
 abbrev free : Label
 free = record {
@@ -174,7 +175,11 @@ are_spots = (
       },
     ),
   ),
-  record { calls_nothing = tt; end_before = (refl, inl typed_h, ((refl, refl), inl typed_b, ((refl, refl), inl typed_e, tt))) },
+  record { calls_nothing = tt; end_before = (
+    refl,
+    inl (typed_firm (a_heading (spaced 2)) (codes "h") typed_h),
+    ((refl, refl), inl (typed_firm a_paragraph (codes "b") typed_b), ((refl, refl), inl (typed_firm (a_heading (spaced 3)) (codes "e") typed_e), tt)),
+  ) },
 )
 
 -- braces that close before any open, and braces that nothing closes, are in it, and a call isn't
@@ -201,7 +206,7 @@ unpaired = (
     ungrouped = (refl, ((refl, tt), ((refl, ((refl, tt), tt)), ((refl, tt), tt))));
     ends = (refl, refl);
   },
-  record { calls_nothing = tt; end_before = (refl, inl typed_b, tt) },
+  record { calls_nothing = tt; end_before = (refl, inl (typed_firm a_paragraph (codes "b") typed_b), tt) },
 )
 
 paired : AreBlockSpots (record { before = []; block = a_paragraph; text = codes "b" } ∷ []) (codes "\n\n{{a}}\n") → ⊥

@@ -17,7 +17,8 @@ use Rattle.wt_text_edit_laws.specs.TextBlocks.{TextBlock}
 use Rattle.wt_text_edit_laws.specs.BlockSpots.{BlockSpot, spots_source, AreBlockSpots}
 use Rattle.wt_text_edit_laws.specs.BlockEdits.{Sending, old_spots, all_kept, sending_for, spot_sendings, AreKept, IsSentFor, AreSentFor, IsText, AreTexts, IsBlockEdit}
 use Rattle.wt_text_edit_laws.specs.OwnNodes.{TypedSpot, spots_of, IsTypedSpot, AreTypedSpots, first_nodes, nodes_behind, past_one, block_count, typing_by, own_spots, last_nodes, own_edit}
-use Rattle.wt_text_edit_laws.proofs.Blocks.BlockTrees.{leaf_block, leafy_blocks, spots_tree}
+use Rattle.wt_text_edit_laws.proofs.Blocks.BlockTrees.{leafy_blocks, spots_tree}
+use Rattle.wt_text_edit_laws.proofs.Blocks.BlockLeaves.{leaf_block}
 use Rattle.wt_text_edit_laws.proofs.Blocks.BlocksUngrouped.{spots_ungrouped}
 
 -- ---- a node without marks stands as it is

@@ -1,16 +1,17 @@
--- A text that is typed closes no tag, so where texts are typed a tag that nothing closes stays characters, and the page is of the class again.
+-- A new content closes no tag that the old one didn't close, so a tag that nothing closes stays characters, and the page is of the class again.
 use Rattle.std.proofs.Common.{arith, ◌≡◌, ◌⊎◌, inl, inr, ℕ, false, List, [], ◌∷◌, ◌++◌, refl, sym, ap, ◌∙◌, subst, append_assoc}
-use Rattle.wt_text_edit_laws.specs.TypedPages.{IsTypedPage}
 use Rattle.wt_text_edit_laws.specs.TextBetween.{AreEnded, HasEndsBefore, LineEnds}
-use Rattle.wt_text_edit_laws.proofs.Prose.InFront.{spelled_unclosed}
 use Rattle.wt_text_edit_laws.proofs.Between.ClosingTags.{Unclosed, ClosesNothing, ClosesNoMore, unclosed_byte, unclosed_rest, unclosed_behind, unclosed_other, not_less, ends_other}
 use Rattle.wt_text_edit_laws.proofs.Paragraphs.Texts.{EndsHere}
 use Rattle.wt_text_edit_laws.specs.TypedHeadings.{Sides, opening, closing}
-use Rattle.wt_text_edit_laws.specs.TextBlocks.{TextBlock, a_paragraph, a_heading, source_of, IsTypedHeading, IsTypedIn, TextEnds}
-use Rattle.wt_text_edit_laws.specs.BlockSpots.{BlockSpot, spots_source, EndBeforeBlocks, AreBlockSpots, IsRead, AreReadAfter, AreRead, SameRound, AreBlocks}
-use Rattle.wt_text_edit_laws.proofs.Blocks.BlockReading.{AreQuiet, opening_quiet, each_quiet, typed_text, BeginsHere, spots_read, begins_here, further_ends}
+use Rattle.wt_text_edit_laws.specs.TextBlocks.{TextBlock, a_paragraph, a_heading, source_of, IsFrame}
+use Rattle.wt_text_edit_laws.specs.Contents.{IsNewContent, TextEnds}
+use Rattle.wt_text_edit_laws.specs.BlockSpots.{BlockSpot, spots_source, EndBeforeBlocks, AreBlockSpots, IsRead, AreReadAfter, AreRead, SameRound, AreBlocks, AreContents}
+use Rattle.wt_text_edit_laws.proofs.Blocks.BlockReading.{AreQuiet, opening_quiet, each_quiet, content_frame, BeginsHere, begins_here, further_ends}
+use Rattle.wt_text_edit_laws.proofs.Blocks.BlocksRead.{spots_read}
+use Rattle.wt_text_edit_laws.proofs.Blocks.Contents.{blocks_contents}
 use Rattle.wt_text_edit_laws.proofs.Blocks.BlocksAgain.{parts_read_again, parts_again}
-use Rattle.wt_text_edit_laws.proofs.Blocks.TypedBraces.{AreTypedOver, still_calm}
+use Rattle.wt_text_edit_laws.proofs.Blocks.TypedBraces.{AreNewOver, still_calm}
 
 -- ---- what follows a block, in the old page and in the new one
 
@@ -61,10 +62,7 @@ kept_unclosed name q (b ∷ us) (c ∷ vs) e f h =
     let P : ℕ → ℕ → Type 0 = λ x y. (Unclosed name (x ∷ us) → Unclosed name (y ∷ vs)) → Unclosed name (q ++ x ∷ us) → Unclosed name (q ++ y ∷ vs) in
     subst (λ (x : ℕ). P x c) (sym e.0) (subst (λ (y : ℕ). P 10 y) (sym e.1) (λ g k. line_unclosed name q us vs g k)) f h
 
--- ---- one that is typed
-
-typed_unclosed : (q name rest : List ℕ) → IsTypedPage q → Unclosed name rest → Unclosed name (q ++ rest)
-typed_unclosed q name rest h g = subst (λ bs. Unclosed name (bs ++ rest)) (sym h.is) (spelled_unclosed h.setting h.text name rest g)
+-- ---- a new one in its place
 
 quiet_unclosed : (name q rest : List ℕ) → AreQuiet q → Unclosed name rest → Unclosed name (q ++ rest)
 quiet_unclosed name [] rest h g = g
@@ -76,31 +74,32 @@ quiet_unclosed name (b ∷ q) rest h g =
 line_split : (s : Sides) (q rest : List ℕ) → source_of (a_heading s) q ++ rest ≡ opening s ++ (q ++ (closing s ++ rest))
 line_split s q rest = append_assoc (opening s) (q ++ closing s) rest ∙ ap (λ (bs : List ℕ). opening s ++ bs) (append_assoc q (closing s) rest)
 
-heading_unclosed : (s : Sides) (name was now us vs : List ℕ) → IsTypedHeading s now → BothEnd us vs → (Unclosed name us → Unclosed name vs)
+heading_unclosed : (s : Sides) (name was now us vs : List ℕ) → IsNewContent (a_heading s) was now → BothEnd us vs → (Unclosed name us → Unclosed name vs)
     → Unclosed name (source_of (a_heading s) was ++ us) → Unclosed name (source_of (a_heading s) now ++ vs)
-heading_unclosed s name was now us vs t e f h =
+heading_unclosed s name was now us vs n e f h =
     let P : List ℕ → Type 0 = λ bs. Unclosed name bs in
+    let frame : IsFrame s = content_frame (a_heading s) now n.firm.content in
     let old : Unclosed name (opening s ++ (was ++ (closing s ++ us))) = subst P (line_split s was us) h in
-    let end : Unclosed name (closing s ++ us) = unclosed_behind name was (closing s ++ us) (unclosed_behind name (opening s) (was ++ (closing s ++ us)) old) in
+    let inside : Unclosed name (was ++ (closing s ++ us)) = unclosed_behind name (opening s) (was ++ (closing s ++ us)) old in
+    let end : Unclosed name (closing s ++ us) = unclosed_behind name was (closing s ++ us) inside in
     let new : Unclosed name (closing s ++ vs) = kept_unclosed name (closing s) us vs e f end in
     subst P (sym (line_split s now vs))
-    (quiet_unclosed name (opening s) (now ++ (closing s ++ vs)) (opening_quiet s t.frame.sides)
-    (typed_unclosed now name (closing s ++ vs) (typed_text s now t) new))
+    (quiet_unclosed name (opening s) (now ++ (closing s ++ vs)) (opening_quiet s frame.sides) (n.closes name (closing s ++ us) (closing s ++ vs) inside new))
 
 -- ---- any
 
-text_unclosed : (k : TextBlock) (name was now us vs : List ℕ) → (now ≡ was) ⊎ IsTypedIn k now → BothEnd us vs → (Unclosed name us → Unclosed name vs)
+text_unclosed : (k : TextBlock) (name was now us vs : List ℕ) → (now ≡ was) ⊎ IsNewContent k was now → BothEnd us vs → (Unclosed name us → Unclosed name vs)
     → Unclosed name (source_of k was ++ us) → Unclosed name (source_of k now ++ vs)
 text_unclosed k name was now us vs (inl is) e f h = subst (λ q. Unclosed name (source_of k q ++ vs)) (sym is) (kept_unclosed name (source_of k was) us vs e f h)
-text_unclosed a_paragraph name was now us vs (inr t) e f h = typed_unclosed now name vs t (f (unclosed_behind name was us h))
-text_unclosed (a_heading s) name was now us vs (inr t) e f h = heading_unclosed s name was now us vs t e f h
+text_unclosed a_paragraph name was now us vs (inr n) e f h = n.closes name us vs h (f (unclosed_behind name was us h))
+text_unclosed (a_heading s) name was now us vs (inr n) e f h = heading_unclosed s name was now us vs n e f h
 
 -- what a page has from a block on
 abbrev from_block : BlockSpot → List BlockSpot → List ℕ → List ℕ
 from_block s ss behind = source_of s.block s.text ++ spots_source ss behind
 
 block_no_more : (s r : BlockSpot) (ss rs : List BlockSpot) (behind : List ℕ) → AreReadAfter ss behind → AreReadAfter rs behind
-    → SameRound (s ∷ ss) (r ∷ rs) → (r.text ≡ s.text) ⊎ IsTypedIn r.block r.text → ClosesNoMore (spots_source ss behind) (spots_source rs behind)
+    → SameRound (s ∷ ss) (r ∷ rs) → (r.text ≡ s.text) ⊎ IsNewContent r.block s.text r.text → ClosesNoMore (spots_source ss behind) (spots_source rs behind)
     → ClosesNoMore (from_block s ss behind) (from_block r rs behind)
 block_no_more s r ss rs behind f k e o c = λ name u.
     text_unclosed r.block name s.text r.text (spots_source ss behind) (spots_source rs behind) o (both_end ss rs behind f k e.2) (c name)
@@ -114,7 +113,7 @@ spot_no_more s r ss rs behind h e c = λ name u.
     (unclosed_other name s.before (from_block s ss behind) (from_block r rs behind) h.ended u block)
 
 further_no_more : (ss rs : List BlockSpot) (behind : List ℕ) → AreReadAfter ss behind → AreReadAfter rs behind
-    → SameRound ss rs → AreTypedOver ss rs → ClosesNoMore (spots_source ss behind) (spots_source rs behind)
+    → SameRound ss rs → AreNewOver ss rs → ClosesNoMore (spots_source ss behind) (spots_source rs behind)
 further_no_more [] [] behind f k e o = λ name u. u
 further_no_more [] (r ∷ rs) behind f k e o = absurd e
 further_no_more (s ∷ ss) [] behind f k e o = absurd e
@@ -138,14 +137,14 @@ kept_still_ends : (k : TextBlock) (q us vs : List ℕ) → BothEnd us vs → Clo
 kept_still_ends k q us vs e c (inl t) = inl t
 kept_still_ends k q us vs e c (inr l) = inr (line_still_ends (source_of k q) us vs e c l)
 
-text_still_ends : (k : TextBlock) (was now us vs : List ℕ) → (now ≡ was) ⊎ IsTypedIn k now → BothEnd us vs → ClosesNoMore us vs → TextEnds k was us → TextEnds k now vs
+text_still_ends : (k : TextBlock) (was now us vs : List ℕ) → (now ≡ was) ⊎ IsNewContent k was now → BothEnd us vs → ClosesNoMore us vs → TextEnds k was us → TextEnds k now vs
 text_still_ends k was now us vs (inl is) e c l = subst (λ q. TextEnds k q vs) (sym is) (kept_still_ends k was us vs e c l)
-text_still_ends k was now us vs (inr t) e c l = inl t
+text_still_ends k was now us vs (inr n) e c l = inl n.firm
 
 -- ---- the page
 
 pub spot_still_ends : (s r : BlockSpot) (ss rs : List BlockSpot) (behind : List ℕ) → IsRead s → AreReadAfter ss behind
-    → AreReadAfter rs behind → SameRound (s ∷ ss) (r ∷ rs) → AreTypedOver (s ∷ ss) (r ∷ rs) → EndBeforeBlocks (s ∷ ss) behind
+    → AreReadAfter rs behind → SameRound (s ∷ ss) (r ∷ rs) → AreNewOver (s ∷ ss) (r ∷ rs) → EndBeforeBlocks (s ∷ ss) behind
     → EndBeforeBlocks rs behind → EndBeforeBlocks (r ∷ rs) behind
 spot_still_ends s r ss rs behind h f k e o b rest =
     let c : ClosesNoMore (spots_source ss behind) (spots_source rs behind) = further_no_more ss rs behind f k e.2 o.1 in (
@@ -157,14 +156,14 @@ spot_still_ends s r ss rs behind h f k e o b rest =
     )
 
 pub further_still_end : (ss rs : List BlockSpot) (behind : List ℕ) → AreReadAfter ss behind → AreReadAfter rs behind
-    → SameRound ss rs → AreTypedOver ss rs → EndBeforeBlocks ss behind → EndBeforeBlocks rs behind
+    → SameRound ss rs → AreNewOver ss rs → EndBeforeBlocks ss behind → EndBeforeBlocks rs behind
 further_still_end [] [] behind f k e o b = tt
 further_still_end [] (r ∷ rs) behind f k e o b = absurd e
 further_still_end (s ∷ ss) [] behind f k e o b = absurd e
 further_still_end (s ∷ ss) (r ∷ rs) behind f k e o b =
     spot_still_ends s r ss rs behind f.0 f.2 k.2 e o b (further_still_end ss rs behind f.2 k.2 e.2 o.1 b.2)
 
-pub read_again : (ss rs : List BlockSpot) (behind : List ℕ) → AreRead ss behind → SameRound ss rs → AreBlocks rs → AreTypedOver ss rs → AreRead rs behind
+pub read_again : (ss rs : List BlockSpot) (behind : List ℕ) → AreRead ss behind → SameRound ss rs → AreContents rs → AreNewOver ss rs → AreRead rs behind
 read_again [] rs behind h e t o = absurd h
 read_again (s ∷ ss) [] behind h e t o = absurd e
 read_again (s ∷ ss) (r ∷ rs) behind h e t o =
@@ -173,11 +172,11 @@ read_again (s ∷ ss) (r ∷ rs) behind h e t o =
     spot_still_ends s r ss rs behind h.0 h.1 p.1 e o h.2.end_before (further_still_end ss rs behind h.1 p.1 e.2 o.1 h.2.end_before.2) in
     (p.0, p.1, record { calls_nothing = still_calm s r ss rs behind h p.0 p.1 b e o; end_before = b })
 
-pub typed_again : (ss rs : List BlockSpot) (behind : List ℕ) → AreBlockSpots ss behind → SameRound ss rs → AreBlocks rs → AreTypedOver ss rs
+pub typed_again : (ss rs : List BlockSpot) (behind : List ℕ) → AreBlockSpots ss behind → SameRound ss rs → AreBlocks rs → AreNewOver ss rs
     → AreBlockSpots rs behind
 typed_again [] rs behind h e t o = absurd h
 typed_again (s ∷ ss) [] behind h e t o = absurd e
 typed_again (s ∷ ss) (r ∷ rs) behind h e t o =
     let p = parts_again s r ss rs behind h e t in
-    let whole = read_again (s ∷ ss) (r ∷ rs) behind (spots_read (s ∷ ss) behind h) e t o in
+    let whole = read_again (s ∷ ss) (r ∷ rs) behind (spots_read (s ∷ ss) behind h) e (blocks_contents (r ∷ rs) t) o in
     (p.0, p.1, whole.2)

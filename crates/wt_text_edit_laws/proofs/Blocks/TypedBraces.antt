@@ -1,20 +1,20 @@
--- A text that is typed has no braces, so where texts are typed the page has fewer of them, and calls nothing either.
+-- A content that is written has no braces, so where some are written in the place of others the page has fewer of them, and calls nothing either.
 use Rattle.std.proofs.Common.{◌≡◌, ◌⊎◌, inl, inr, ℕ, ◌==◌, Bool, true, false, List, [], ◌∷◌, ◌++◌, map, refl, sym, ap, ◌∙◌, subst}
 use Rattle.std.proofs.lemmas.Bool.{eqb-true}
 use Rattle.wt_span.specs.Items.{Item, char, whole, sign}
 use Rattle.wt_lines.specs.Kinds.{is_idle}
 use Rattle.wt_expand.specs.PageItems.{page_items}
 use Rattle.wt_text_edit_laws.specs.LonePages.{page_chars}
-use Rattle.wt_text_edit_laws.specs.NoCalls.{Brace, CallsNothing}
-use Rattle.wt_text_edit_laws.proofs.Prose.InFront.{is_brace, AreUnbraced}
+use Rattle.wt_text_edit_laws.specs.NoCalls.{Brace, CallsNothing, is_brace, AreUnbraced}
 use Rattle.wt_text_edit_laws.proofs.Between.LineWords.{either}
-use Rattle.wt_text_edit_laws.proofs.Between.LessBraces.{IsSome, all_some, some_both, pairs_some, BeginsUnbraced, braces_of, items_behind_end, items_before_start, none_unbraced, unbraced_joined, page_unbraced, ended_unbraced}
+use Rattle.wt_text_edit_laws.proofs.Between.LessBraces.{IsSome, all_some, some_both, pairs_some, BeginsUnbraced, braces_of, items_behind_end, items_before_start, none_unbraced, unbraced_joined, ended_unbraced}
 use Rattle.wt_text_edit_laws.specs.TypedHeadings.{Sides, AreIdle, equals, opening, closing_items, EndsLine}
 use Rattle.wt_text_edit_laws.specs.TextBlocks.{TextBlock, a_paragraph, a_heading, block_items, IsFrame, IsTypedIn, BeginsLine}
+use Rattle.wt_text_edit_laws.specs.Contents.{IsFirmContent, IsNewContent}
 use Rattle.wt_text_edit_laws.specs.BlockSpots.{BlockSpot, spots_source, EndBeforeBlocks, IsRead, AreReadAfter, AreRead, SameRound}
-use Rattle.wt_text_edit_laws.proofs.Blocks.BlockReading.{AreQuiet, run_quiet, blanks_quiet, opening_quiet, quiet_joined, each_quiet, typed_text, spots_items, items_of_parts}
+use Rattle.wt_text_edit_laws.proofs.Blocks.BlockReading.{AreQuiet, run_quiet, blanks_quiet, opening_quiet, quiet_joined, each_quiet, content_frame, spots_items, items_of_parts}
 
--- ---- a block in which a text was typed
+-- ---- a block with such a content
 
 quiet_unbraced : (bs : List ℕ) → AreQuiet bs → AreUnbraced (page_chars bs)
 quiet_unbraced [] h = tt
@@ -32,7 +32,7 @@ idle_unbraced [] h = tt
 idle_unbraced (char o b ∷ xs) h = (idle_by b (is_brace b) refl h.0, idle_unbraced xs h.1)
 idle_unbraced (whole f o bs ∷ xs) h = idle_unbraced xs h.1
 
-line_unbraced : (s : Sides) (own : List Item) → IsFrame s → AreUnbraced own → AreUnbraced (page_chars (opening s) ++ (own ++ closing_items s))
+pub line_unbraced : (s : Sides) (own : List Item) → IsFrame s → AreUnbraced own → AreUnbraced (page_chars (opening s) ++ (own ++ closing_items s))
 line_unbraced s own f u =
     let ends : AreUnbraced (closing_items s) =
     unbraced_joined (page_chars (s.trail ++ equals s.level)) (page_items s.rest)
@@ -41,9 +41,9 @@ line_unbraced s own f u =
     unbraced_joined (page_chars (opening s)) (own ++ closing_items s) (quiet_unbraced (opening s) (opening_quiet s f.sides))
     (unbraced_joined own (closing_items s) u ends)
 
-pub typed_unbraced : (k : TextBlock) (q : List ℕ) → IsTypedIn k q → AreUnbraced (block_items k q)
-typed_unbraced a_paragraph q h = page_unbraced q h
-typed_unbraced (a_heading s) q h = line_unbraced s (page_items q) h.frame (page_unbraced q (typed_text s q h))
+pub firm_unbraced : (k : TextBlock) (q : List ℕ) → IsFirmContent k q → AreUnbraced (block_items k q)
+firm_unbraced a_paragraph q h = h.unbraced
+firm_unbraced (a_heading s) q h = line_unbraced s (page_items q) (content_frame (a_heading s) q h.content) h.unbraced
 
 -- ---- pages that are the same but for texts that were typed
 
@@ -52,11 +52,17 @@ AreTypedOver [] rs = Unit {0}
 AreTypedOver (s ∷ ss) [] = Unit {0}
 AreTypedOver (s ∷ ss) (r ∷ rs) = ((r.text ≡ s.text) ⊎ IsTypedIn r.block r.text) × AreTypedOver ss rs
 
-block_fewer : (k : TextBlock) (was now : List ℕ) → (now ≡ was) ⊎ IsTypedIn k now → IsSome (braces_of (block_items k now)) (braces_of (block_items k was))
+-- or for any new contents
+abbrev pub AreNewOver : List BlockSpot → List BlockSpot → Type 0
+AreNewOver [] rs = Unit {0}
+AreNewOver (s ∷ ss) [] = Unit {0}
+AreNewOver (s ∷ ss) (r ∷ rs) = ((r.text ≡ s.text) ⊎ IsNewContent r.block s.text r.text) × AreNewOver ss rs
+
+block_fewer : (k : TextBlock) (was now : List ℕ) → (now ≡ was) ⊎ IsNewContent k was now → IsSome (braces_of (block_items k now)) (braces_of (block_items k was))
 block_fewer k was now (inl e) =
     subst (λ q. IsSome (braces_of (block_items k q)) (braces_of (block_items k was))) (sym e) (all_some (braces_of (block_items k was)))
 block_fewer k was now (inr h) =
-    subst (λ (bs : List Brace). IsSome bs (braces_of (block_items k was))) (sym (none_unbraced (block_items k now) (typed_unbraced k now h))) tt
+    subst (λ (bs : List Brace). IsSome bs (braces_of (block_items k was))) (sym (none_unbraced (block_items k now) (firm_unbraced k now h.firm))) tt
 
 -- behind a block the page ends, or a line break stands
 longer_line : (xs ys : List Item) → BeginsLine xs → EndsLine (xs ++ ys)
@@ -81,7 +87,7 @@ braces_split s ss behind h f =
 
 -- one block more
 spot_fewer : (s r : BlockSpot) (ss rs : List BlockSpot) (behind : List ℕ) → IsRead s → AreReadAfter ss behind
-    → IsRead r → AreReadAfter rs behind → SameRound (s ∷ ss) (r ∷ rs) → (r.text ≡ s.text) ⊎ IsTypedIn r.block r.text
+    → IsRead r → AreReadAfter rs behind → SameRound (s ∷ ss) (r ∷ rs) → (r.text ≡ s.text) ⊎ IsNewContent r.block s.text r.text
     → IsSome (braces_of (spots_items rs behind)) (braces_of (spots_items ss behind))
     → IsSome (braces_of (spots_items (r ∷ rs) behind)) (braces_of (spots_items (s ∷ ss) behind))
 spot_fewer s r ss rs behind h f g k e o rest =
@@ -98,7 +104,7 @@ spot_fewer s r ss rs behind h f g k e o rest =
 
 -- the new page, whose parts stand by themselves, too, has fewer braces
 further_fewer : (ss rs : List BlockSpot) (behind : List ℕ) → AreReadAfter ss behind → AreReadAfter rs behind
-    → SameRound ss rs → AreTypedOver ss rs → IsSome (braces_of (spots_items rs behind)) (braces_of (spots_items ss behind))
+    → SameRound ss rs → AreNewOver ss rs → IsSome (braces_of (spots_items rs behind)) (braces_of (spots_items ss behind))
 further_fewer [] [] behind f k e t = all_some (braces_of (page_items behind))
 further_fewer [] (r ∷ rs) behind f k e t = absurd e
 further_fewer (s ∷ ss) [] behind f k e t = absurd e
@@ -106,13 +112,13 @@ further_fewer (s ∷ ss) (r ∷ rs) behind f k e t =
     spot_fewer s r ss rs behind f.0 f.2 k.0 k.2 e t.0 (further_fewer ss rs behind f.2 k.2 e.2 t.1)
 
 spots_fewer : (s r : BlockSpot) (ss rs : List BlockSpot) (behind : List ℕ) → IsRead s → AreReadAfter ss behind
-    → IsRead r → AreReadAfter rs behind → SameRound (s ∷ ss) (r ∷ rs) → AreTypedOver (s ∷ ss) (r ∷ rs)
+    → IsRead r → AreReadAfter rs behind → SameRound (s ∷ ss) (r ∷ rs) → AreNewOver (s ∷ ss) (r ∷ rs)
     → IsSome (braces_of (spots_items (r ∷ rs) behind)) (braces_of (spots_items (s ∷ ss) behind))
 spots_fewer s r ss rs behind h f g k e t = spot_fewer s r ss rs behind h f g k e t.0 (further_fewer ss rs behind f k e.2 t.1)
 
 -- so it calls nothing
 pub still_calm : (s r : BlockSpot) (ss rs : List BlockSpot) (behind : List ℕ) → AreRead (s ∷ ss) behind → IsRead r → AreReadAfter rs behind
-    → EndBeforeBlocks (r ∷ rs) behind → SameRound (s ∷ ss) (r ∷ rs) → AreTypedOver (s ∷ ss) (r ∷ rs) → CallsNothing (page_items (spots_source (r ∷ rs) behind))
+    → EndBeforeBlocks (r ∷ rs) behind → SameRound (s ∷ ss) (r ∷ rs) → AreNewOver (s ∷ ss) (r ∷ rs) → CallsNothing (page_items (spots_source (r ∷ rs) behind))
 still_calm s r ss rs behind h g k b e o =
     let was : List Item = spots_items (s ∷ ss) behind in
     let now : List Item = spots_items (r ∷ rs) behind in

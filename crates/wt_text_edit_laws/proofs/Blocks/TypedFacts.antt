@@ -39,7 +39,7 @@ use Rattle.wt_text_edit_laws.proofs.Blocks.KeptBlocks.{block_shown}
 use Rattle.wt_text_edit_laws.specs.TypedHeadings.{Sides, equals, opening, closing, closing_items}
 use Rattle.wt_text_edit_laws.specs.TextBlocks.{TextBlock, a_paragraph, a_heading, block_of, source_of}
 use Rattle.wt_text_edit_laws.specs.BlockEdits.{Sending, retyped, kept, sent_children, AreKept, Typing, types, keeps, typed_as, new_text, sending_for, IsText}
-use Rattle.wt_text_edit_laws.proofs.Blocks.BlockTrees.{open_items, close_items, leaf_block}
+use Rattle.wt_text_edit_laws.proofs.Blocks.BlockLeaves.{open_items, close_items, leaf_block}
 
 -- Blocks with these nodes, for which this is sent, which gives this source in the new page and shows this.
 pub record Facts (xs before : List Item) (ds : List Sending) (us : Trees) (was now : List ℕ) (shown : Plains) : Type 0 where

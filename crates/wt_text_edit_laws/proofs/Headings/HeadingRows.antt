@@ -440,10 +440,10 @@ round_is s own a h p = tree_by s.level s.lead s.trail s.rest own (sides_so s a) 
 
 -- ---- of one text
 
-text_inside : (own : List Item) → IsHeadingText own → IsHeadingInside own
+pub text_inside : (own : List Item) → IsHeadingText own → IsHeadingInside own
 text_inside own h = record { unbroken = h.unbroken; begins = h.begins; ends = h.ends }
 
-with_text : (s : Sides) (own : List Item) → IsHeadingText own → heading_round s own ≡ heading_with s own
+pub with_text : (s : Sides) (own : List Item) → IsHeadingText own → heading_round s own ≡ heading_with s own
 with_text s own h = ap (λ ps. inner (plain (kind.Heading s.level)) (page_chars (opening_of s)) (forest (children ps)) (closing_items s)) h.is_one
 
 pub first_row : (s : Sides) (own tail : List Item) → AreSides s → IsHeadingText own → IsOfLevel s own → EndsLine tail

@@ -25,7 +25,7 @@ use Rattle.wt_text_edit_laws.proofs.Prose.ProseReading.{page_front}
 use Rattle.wt_text_edit_laws.proofs.Prose.ProseTexts.{IsWritten, some_leaf, written}
 use Rattle.wt_scans.specs.Lexer.{lexer}
 use Rattle.wt_scans.specs.Scans.{after_all}
-use Rattle.wt_text_edit_laws.specs.TextBetween.{HasNoTag, AreWholeLines, AreEnded, HasEndsBefore, LineEnds}
+use Rattle.wt_text_edit_laws.specs.TextBetween.{HasNoTag, AreWholeLines, AreEnded, HasEndsBefore, StandsBehind, LineEnds}
 use Rattle.wt_text_edit_laws.proofs.Between.LineComments.{lines_ended, remarks_same}
 use Rattle.wt_text_edit_laws.proofs.Between.LineRemarks.{blank_form, comment_form, comment_some}
 use Rattle.wt_text_edit_laws.proofs.Between.Fronts.{ReadsAfter, first_items, items_from, first_from, byte_from, form_from, lines_read, behind_reads, reads_either}
@@ -105,7 +105,7 @@ paragraph_utf8 q (inr w) = w.utf8
 
 -- ---- no comment begins it
 
-letters_joined : (xs ys : List Item) → AreLetters xs → AreLetters ys → AreLetters (xs ++ ys)
+pub letters_joined : (xs ys : List Item) → AreLetters xs → AreLetters ys → AreLetters (xs ++ ys)
 letters_joined [] ys h g = g
 letters_joined (char None b ∷ xs) ys h g = letters_joined xs ys h g
 letters_joined (char (Some k) b ∷ xs) ys h g = absurd h
@@ -152,13 +152,19 @@ blanks_same : (q r : List ℕ) → blank_len ((q ++ 10 ∷ []) ++ r) ≡ blank_l
 blanks_same [] r = refl
 blanks_same (b ∷ q) r = ap (λ (n : ℕ). cond (is_blank b) (1 + n) 0) (blanks_same q r)
 
-line_begins : (q r : List ℕ) → AreEnded (q ++ 10 ∷ []) → AreLetters (page_items (q ++ 10 ∷ [])) → BeginsUncommented ((q ++ 10 ∷ []) ++ r)
-line_begins q r e h =
+-- whatever follows the line break
+pub begins_before : (q r : List ℕ) → AreEnded (q ++ 10 ∷ []) → StandsBehind (q ++ 10 ∷ []) → BeginsUncommented ((q ++ 10 ∷ []) ++ r)
+begins_before q r e h =
     let line : List ℕ = q ++ 10 ∷ [] in
-    let u = letters_alone line h in
-    let is : remarks_len 0 line ≡ blank_len line = u.is in
+    let is : remarks_len 0 line ≡ blank_len line = h.uncommented in
     let short = blanks_end q in
     record { is = remarks_same 0 line r e (omega (arith, is, short)) ∙ is ∙ sym (blanks_same q r) }
+
+pub letters_stand : (q : List ℕ) → AreLetters (page_items q) → StandsBehind q
+letters_stand q h = record { uncommented = uncommented_text q h }
+
+line_begins : (q r : List ℕ) → AreEnded (q ++ 10 ∷ []) → AreLetters (page_items (q ++ 10 ∷ [])) → BeginsUncommented ((q ++ 10 ∷ []) ++ r)
+line_begins q r e h = begins_before q r e (letters_stand (q ++ 10 ∷ []) h)
 
 -- ---- before nothing, and before a line break
 
@@ -191,7 +197,7 @@ after_line : (a : Bool) (q : List ℕ) → after_all (lexer Page) a (q ++ 10 ∷
 after_line a [] = refl
 after_line a (b ∷ q) = after_line (is_break b) q
 
-one_line : (q : List ℕ) → AreWholeLines (q ++ 10 ∷ [])
+pub one_line : (q : List ℕ) → AreWholeLines (q ++ 10 ∷ [])
 one_line [] = refl
 one_line (b ∷ []) = refl
 one_line (b ∷ c ∷ q) = one_line (c ∷ q)
@@ -234,7 +240,7 @@ paragraph_front q rest xs (inr w) (inr l) e r = text_front q rest xs w l e r
 
 -- ---- its first line begins with something visible
 
-paragraph_lines : (q : List ℕ) → IsParagraph q → All IsText (lines (page_items q))
+pub paragraph_lines : (q : List ℕ) → IsParagraph q → All IsText (lines (page_items q))
 paragraph_lines q (inl t) = typed_lines q t
 paragraph_lines q (inr w) = w.are_lines
 

@@ -23,6 +23,7 @@ use Rattle.wt_expand.specs.PageItems.{items_of_word, page_items}
 use Rattle.wt_spelling_laws.proofs.Forms.{comment_other, comment_not, other_byte, equals_byte, IsTame, less_byte, and_byte, nowiki_form, reference_form}
 use Rattle.wt_spelling_laws.proofs.TextReads.{begin_next, bracket_escaped, not_bracket, equal_or, apart}
 use Rattle.wt_text_edit_laws.proofs.Texts.TypedItems.{ItemsOf, items_byte, items_form, references, wide_form, wide_tame, tame_if, IsMild, wide_mild, mild_if, no_form_byte, after_it, items_are}
+use Rattle.wt_text_edit_laws.specs.NoCalls.{is_brace, AreUnbraced}
 use Rattle.wt_text_edit_laws.proofs.Between.LineWords.{lacks}
 use Rattle.wt_text_edit_laws.proofs.Between.ClosingTags.{Unclosed, ClosesNothing, unclosed_byte, unclosed_untagged, not_less, not_slash}
 use Rattle.wt_text_edit_laws.proofs.Prose.Uncommented.{BeginsUncommented, uncommented_byte, uncommented_other, either_flag}
@@ -51,15 +52,6 @@ reads_form kind b q rest xs f c r =
     record { items = items_form kind b q rest xs at r.items; begins = c }
 
 -- ---- no braces
-
-abbrev pub is_brace : ℕ → Bool
-is_brace b = b == 123 || b == 125
-
--- no character is a brace; those of a reference or a nowiki don't count
-abbrev pub AreUnbraced : List Item → Type 0
-AreUnbraced [] = Unit {0}
-AreUnbraced (char o b ∷ xs) = (is_brace b ≡ false) × AreUnbraced xs
-AreUnbraced (whole f o bs ∷ xs) = AreUnbraced xs
 
 both_false : (a b : Bool) → a ≡ false → b ≡ false → (a || b) ≡ false
 both_false true b e f = e

@@ -103,7 +103,7 @@ unled_by : (x : Item) (xs ys : List Item) (v : Bool) → is_mark x ≡ v → mar
 unled_by x xs ys true e h = let k : marks_len (x ∷ xs) ≡ 1 + marks_len xs = rw e refl in absurd (omega (arith, k, h))
 unled_by x xs ys false e h = rw e refl
 
-ended_unled : (l : List Item) → marks_len l ≡ 0 → marks_len (l ++ break ∷ []) ≡ 0
+pub ended_unled : (l : List Item) → marks_len l ≡ 0 → marks_len (l ++ break ∷ []) ≡ 0
 ended_unled [] h = refl
 ended_unled (x ∷ xs) h = unled_by x xs (xs ++ break ∷ []) (is_mark x) refl h
 
@@ -134,7 +134,7 @@ block_by xs [] e is h u some = absurd (some (sym is))
 block_by xs (l ∷ ls) e is h u some =
     record { first = l; others = ls; are_lines = e; are_joined = is; are_texts = h; are_unended = break_is l ls h.1 ∙ ap ending is ∙ u }
 
-some_item : (xs : List Item) → All IsText (lines xs) → xs ≢ []
+pub some_item : (xs : List Item) → All IsText (lines xs) → xs ≢ []
 some_item xs a e = no_text (All-head IsText [] [] (subst (λ ys. All IsText (lines ys)) e a))
 
 pub text_block : (xs : List Item) → StillItems xs → All IsText (lines xs) → IsTextBlock xs

@@ -9,9 +9,9 @@ use Rattle.wt_expand.specs.Work.{Pages, first_refusal}
 use Rattle.wt_expand.specs.Expansion.{page_work}
 use Rattle.wt_text_edit_laws.specs.LonePages.{of_items}
 use Rattle.wt_text_edit_laws.specs.TypedPages.{IsTypedPage}
-use Rattle.wt_text_edit_laws.specs.NoCalls.{NonePairs, CallsNothing}
+use Rattle.wt_text_edit_laws.specs.NoCalls.{NonePairs, CallsNothing, AreUnbraced}
 use Rattle.wt_text_edit_laws.specs.ProsePages.{Passage, passage_source, prose, AreProse}
-use Rattle.wt_text_edit_laws.proofs.Prose.InFront.{Reads, reads_nothing, AreUnbraced, typed_front, read_break, read_items}
+use Rattle.wt_text_edit_laws.proofs.Prose.InFront.{Reads, reads_nothing, typed_front, read_break, read_items}
 use Rattle.wt_text_edit_laws.proofs.Between.NoCalls.{calm_expanded, calm_unrefused}
 use Rattle.wt_text_edit_laws.proofs.Between.LessBraces.{none_unbraced, unbraced_joined, page_unbraced}
 

@@ -1,0 +1,211 @@
+-- Lines of text, whatever is in them, as the rows of one paragraph: before none stands a mark, and the last isn't empty.
+use Rattle.std.proofs.Common.{arith, ◌≡◌, ◌≢◌, ℕ, ◌==◌, Bool, true, false, not, Some, None, List, [], ◌∷◌, ◌++◌, map, refl, sym, ap, ◌∙◌, subst, append-nil, All}
+use Rattle.std.specs.Prelude.{if◌then◌else◌}
+use Rattle.std.specs.List.{AllByRecursion}
+use Rattle.std.proofs.lemmas.Bool.Decides.{nat_tests}
+use Rattle.std.proofs.lemmas.List.Elements.{All-head, All-tail}
+use Rattle.wt_tree.specs.declared.kind.Kind.TheVariants as kind
+use Rattle.std.proofs.lemmas.Grind.{flat_map-append}
+use Rattle.wt_span.specs.Items.{Item, char, whole, call_of, source, sources}
+use Rattle.wt_span.specs.Runs.{IsRun, AreRuns}
+use Rattle.wt_span.proofs.RunLaws.{runs_are}
+use Rattle.wt_expand.specs.PageItems.{page_items}
+use Rattle.wt_expand.proofs.PageLaws.{page_has_no_calls}
+use Rattle.wt_lines.specs.Lines.{is_break_item, goes_on, lines, full_lines, content, empty_end, AreLines}
+use Rattle.wt_lines.proofs.FullLines.{same_lines}
+use Rattle.wt_inline.specs.declared.loose.Loose.TheVariants.{Text}
+use Rattle.wt_inline.specs.ItemTree.{plain, inner, forest}
+use Rattle.wt_inline.specs.Parts.{Part, parts, held_parts, children}
+use Rattle.wt_inline.proofs.HeldLaws.{held_append}
+use Rattle.wt_context.specs.Line.{line_parts}
+use Rattle.wt_context.proofs.LineHolding.{line_source}
+use Rattle.wt_headings.specs.Lines.{ending}
+use Rattle.wt_page.specs.Texts.{para_parts, para}
+use Rattle.wt_text_edit_laws.specs.LonePages.{page_chars, para_of}
+use Rattle.wt_text_edit_laws.specs.ParagraphParts.{break, joined_parts, para_with}
+use Rattle.wt_text_edit_laws.specs.Paragraphs.{IsTextLine}
+use Rattle.wt_text_edit_laws.specs.Contents.{AreUnled}
+use Rattle.wt_text_edit_laws.proofs.Texts.PlainRows.{AreTexts, unended, text_row, last_break, ending_behind}
+use Rattle.wt_text_edit_laws.proofs.Prose.ProseLines.{ended, ended_unled, IsTextBlock, some_item}
+use Rattle.wt_text_edit_laws.proofs.Prose.ProseBlocks.{para_ended, block_para}
+
+-- ---- the line breaks of a page are its own characters
+
+abbrev pub OwnBreaks : List Item → Type 0
+OwnBreaks xs = AllByRecursion (λ x. is_break_item x ≡ true → x ≡ break) xs
+
+own_first : (xs ys : List Item) → OwnBreaks (xs ++ ys) → OwnBreaks xs
+own_first [] ys h = tt
+own_first (x ∷ xs) ys h = (h.0, own_first xs ys h.1)
+
+own_rest : (xs ys : List Item) → OwnBreaks (xs ++ ys) → OwnBreaks ys
+own_rest [] ys h = h
+own_rest (x ∷ xs) ys h = own_rest xs ys h.1
+
+pub chars_own : (bs : List ℕ) → OwnBreaks (page_chars bs)
+chars_own [] = tt
+chars_own (b ∷ bs) = ((λ e. ap (char None) (is_ten b e)), chars_own bs)
+  where
+    is_ten : (b : ℕ) → (b == 10) ≡ true → b ≡ 10
+    is_ten b e = grind (arith, nat_tests, e)
+
+first_own : (x : Item) → call_of x ≡ None → OwnBreaks (x ∷ [])
+first_own (char None b) e = chars_own (b ∷ [])
+first_own (char (Some k) b) e = absurd (cc)
+first_own (whole f o bs) e = ((λ z. absurd (cc)), tt)
+
+all_own : (xs : List Item) → All (λ x. call_of x ≡ None) xs → OwnBreaks xs
+all_own [] h = tt
+all_own (x ∷ xs) h =
+    ((first_own x (All-head (λ x. call_of x ≡ None) x xs h)).0, all_own xs (All-tail (λ x. call_of x ≡ None) x xs h))
+
+pub page_breaks : (q : List ℕ) → OwnBreaks (page_items q)
+page_breaks q = all_own (page_items q) (page_has_no_calls q)
+
+not_true : (b : Bool) → not b ≡ false → b ≡ true
+not_true true e = refl
+not_true false e = cc
+
+-- a line before another one ends with its line break
+ends_line : (l : List Item) (y : Item) (others : List Item) → IsRun goes_on l (y ∷ others) → OwnBreaks l → ending l ≡ break ∷ []
+ends_line [] y others r o = absurd r
+ends_line (x ∷ []) y others r o =
+    let e : is_break_item x ≡ true = not_true (is_break_item x) r in
+    ap (λ (t : Bool). if t then x ∷ [] else []) e ∙ ap (λ z. z ∷ []) (o.0 e)
+ends_line (x ∷ z ∷ zs) y others r o = ends_line (z ∷ zs) y others r.1 o.1
+
+-- ---- the parts of their rows
+
+pub row_parts : (ls : List (List Item)) (xs : List Item) → AreRuns goes_on ls xs → OwnBreaks xs → para_parts (map text_row ls) ≡ joined_parts (map content ls)
+row_parts [] xs r o = refl
+row_parts (l ∷ []) xs r o = refl
+row_parts (l ∷ [] ∷ ls) xs r o = absurd r.3.2
+row_parts (l ∷ (y ∷ m) ∷ ls) xs r o =
+    let own : OwnBreaks (l ++ r.0) = subst OwnBreaks r.1 o in
+    let on : IsRun goes_on l (y ∷ (m ++ r.3.0)) = subst (IsRun goes_on l) r.3.1 r.2 in
+    ap (λ zs. line_parts (content l) ++ (parts Text zs ++ para_parts (map text_row ((y ∷ m) ∷ ls)))) (ends_line l y (m ++ r.3.0) on (own_first l r.0 own))
+    ∙ ap (λ ps. line_parts (content l) ++ (parts Text (break ∷ []) ++ ps)) (row_parts ((y ∷ m) ∷ ls) r.0 r.3 (own_rest l r.0 own))
+
+-- ---- the last line
+
+break_runs : (l : List Item) (ls : List (List Item)) (xs : List Item) → AreRuns goes_on (l ∷ ls) xs → last_break (ending l) ls ≡ ending xs
+break_runs l [] xs r = sym (ap ending (r.1 ∙ ap (λ os. l ++ os) r.3 ∙ append-nil l))
+break_runs l ([] ∷ ls) xs r = absurd r.3.2
+break_runs l ((y ∷ m) ∷ ls) xs r =
+    break_runs (y ∷ m) ls r.0 r.3
+    ∙ ap ending r.3.1
+    ∙ sym (ending_behind l y (m ++ r.3.0))
+    ∙ sym (ap ending (r.1 ∙ ap (λ os. l ++ os) r.3.1))
+
+abbrev one_empty : List (List Item)
+one_empty = [] ∷ []
+
+closed_by : (x : Item) (xs : List Item) → ending (x ∷ xs) ≡ [] → empty_end (x ∷ xs) ≡ []
+closed_by x [] e = by (is_break_item x) e
+  where
+    by : (v : Bool) → (if v then x ∷ [] else []) ≡ [] → (if v then one_empty else []) ≡ []
+    by true k = cc
+    by false k = refl
+closed_by x (y ∷ ys) e = closed_by y ys e
+
+closed : (xs l : List Item) (ls : List (List Item)) → full_lines xs ≡ l ∷ ls → ending xs ≡ [] → empty_end xs ≡ []
+closed [] l ls e u = cc
+closed (x ∷ xs) l ls e u = closed_by x xs u
+
+-- ---- a paragraph as its lines
+
+pub record IsLineBlock (xs : List Item) : Type 0 where
+  pub first : List Item
+  pub others : List (List Item)
+  pub are_lines : full_lines xs ≡ first ∷ others
+  pub are_unled : AreUnled (first ∷ others)
+  pub are_unended : last_break (ending first) others ≡ []
+  pub are_closed : empty_end xs ≡ []
+
+pub block_runs : (xs : List Item) (b : IsLineBlock xs) → AreRuns goes_on (b.first ∷ b.others) xs
+block_runs xs b = subst (λ ms. AreRuns goes_on ms xs) b.are_lines (runs_are goes_on xs)
+
+block_by : (xs : List Item) (ls : List (List Item)) → full_lines xs ≡ ls → AreUnled ls → ending xs ≡ [] → xs ≢ [] → IsLineBlock xs
+block_by xs [] e h u some = absurd (some (subst (λ ms. AreRuns goes_on ms xs) e (runs_are goes_on xs)))
+block_by xs (l ∷ ls) e h u some = record {
+  first = l;
+  others = ls;
+  are_lines = e;
+  are_unled = h;
+  are_unended = break_runs l ls xs (subst (λ ms. AreRuns goes_on ms xs) e (runs_are goes_on xs)) ∙ u;
+  are_closed = closed xs l ls e u;
+}
+
+pub line_block : (xs : List Item) → AreUnled (full_lines xs) → All IsTextLine (lines xs) → IsLineBlock xs
+line_block xs h a =
+    let ls : List (List Item) = full_lines xs in
+    let all : All IsTextLine (map content ls ++ empty_end xs) = subst (All IsTextLine) (same_lines xs) a in
+    block_by xs ls refl h (unended xs (map content ls) all) (some_item xs a)
+
+-- one of one text
+texts_unled : (ls : List (List Item)) → AreTexts ls → AreUnled ls
+texts_unled [] h = tt
+texts_unled (l ∷ ls) h = (h.0.unled, texts_unled ls h.1)
+
+pub as_lines : (xs : List Item) → IsTextBlock xs → IsLineBlock xs
+as_lines xs b =
+    let are : AreRuns goes_on (b.first ∷ b.others) xs = subst (λ ms. AreRuns goes_on ms xs) b.are_lines (runs_are goes_on xs) in
+    record {
+      first = b.first;
+      others = b.others;
+      are_lines = b.are_lines;
+      are_unled = texts_unled (b.first ∷ b.others) b.are_texts;
+      are_unended = b.are_unended;
+      are_closed = closed xs b.first b.others b.are_lines (sym (break_runs b.first b.others xs are) ∙ b.are_unended);
+    }
+
+pub all_unled : (xs : List Item) → IsTextBlock xs → AreUnled (full_lines xs)
+all_unled xs b = subst AreUnled (sym b.are_lines) (texts_unled (b.first ∷ b.others) b.are_texts)
+
+-- with a line break behind the last
+pub still_unled : (l : List Item) (ls : List (List Item)) → AreUnled (l ∷ ls) → AreUnled (ended l ls)
+still_unled l [] h = (ended_unled l h.0, tt)
+still_unled l (m ∷ ls) h = (h.0, still_unled m ls h.1)
+
+-- ---- their rows are this paragraph
+
+lines_are : (xs : List Item) (b : IsLineBlock xs) → map content (b.first ∷ b.others) ≡ lines xs
+lines_are xs b =
+    let ls : List (List Item) = full_lines xs in
+    ap (map content) (sym b.are_lines)
+    ∙ sym (append-nil (map content ls))
+    ∙ sym (ap (λ ms. map content ls ++ ms) b.are_closed)
+    ∙ sym (same_lines xs)
+
+pub rows_para : (xs : List Item) (b : IsLineBlock xs) → OwnBreaks xs → para (map text_row (b.first ∷ b.others)) ≡ para_with (joined_parts (lines xs))
+unfolding para
+rows_para xs b o =
+    ap (λ ps. inner (plain kind.Para) [] (forest (children ps)) [])
+    (row_parts (b.first ∷ b.others) xs (block_runs xs b) o ∙ ap joined_parts (lines_are xs b))
+
+pub ended_para : (xs : List Item) (b : IsLineBlock xs) → OwnBreaks xs → para (map text_row (ended b.first b.others)) ≡ para_with (joined_parts (lines xs))
+unfolding para
+ended_para xs b o =
+    ap (λ ps. inner (plain kind.Para) [] (forest (children ps)) []) (para_ended b.first b.others b.are_unended) ∙ rows_para xs b o
+
+-- of one text it is all its items
+pub text_tree : (xs : List Item) → IsTextBlock xs → OwnBreaks xs → para_with (joined_parts (lines xs)) ≡ para_of xs
+unfolding as_lines
+text_tree xs b o = sym (rows_para xs (as_lines xs b) o) ∙ block_para xs b
+
+-- ---- their source
+
+pub parts_source : (ls : List (List Item)) (xs : List Item) → AreLines ls xs → OwnBreaks xs → sources (held_parts (joined_parts ls)) ≡ sources xs
+parts_source [] xs r o = absurd r
+parts_source (l ∷ []) xs r o = ap (λ ps. sources (held_parts ps)) (append-nil (line_parts l)) ∙ line_source l ∙ ap sources (sym r.1)
+parts_source (l ∷ m ∷ ls) xs r o =
+    let own : OwnBreaks (l ++ r.1 ∷ r.2) = subst OwnBreaks r.4 o in
+    let rest : OwnBreaks (r.1 ∷ r.2) = own_rest l (r.1 ∷ r.2) own in
+    let others : List Item = held_parts (joined_parts (m ∷ ls)) in
+    ap sources (held_append (line_parts l) (parts Text (break ∷ []) ++ joined_parts (m ∷ ls)))
+    ∙ flat_map-append source (held_parts (line_parts l)) (break ∷ others)
+    ∙ ap (λ bs. bs ++ sources (break ∷ others)) (line_source l)
+    ∙ ap (λ (bs : List ℕ). sources l ++ 10 ∷ bs) (parts_source (m ∷ ls) r.2 r.5 rest.1)
+    ∙ ap (λ x. sources l ++ sources (x ∷ r.2)) (sym (rest.0 r.3))
+    ∙ sym (flat_map-append source l (r.1 ∷ r.2))
+    ∙ ap sources (sym r.4)
