@@ -33,24 +33,24 @@ both P [] us h k = k
 both P (t ∷ ts) us h k = (h.0, both P ts us h.1 k)
 
 -- its source stands so whatever is written behind it
-abbrev Kept : Thing → Type 0
+abbrev pub Kept : Thing → Type 0
 Kept t = IsKept t.source
 
-kept_each : (signs : List ContentSign) → AreKept signs → Each Kept (things signs)
+pub kept_each : (signs : List ContentSign) → AreKept signs → Each Kept (things signs)
 kept_each [] h = tt
 kept_each (letter c ∷ after) h = kept_each after h
 kept_each (thing t ∷ after) h = (h.0, kept_each after h.1)
 
-each_kept : (signs : List ContentSign) → Each Kept (things signs) → AreKept signs
+pub each_kept : (signs : List ContentSign) → Each Kept (things signs) → AreKept signs
 each_kept [] h = tt
 each_kept (letter c ∷ after) h = each_kept after h
 each_kept (thing t ∷ after) h = (h.0, each_kept after h.1)
 
 -- it doesn't go on over the end of its line
-abbrev Unbroken : Thing → Type 0
+abbrev pub Unbroken : Thing → Type 0
 Unbroken t = IsUnbroken (page_items t.source)
 
-each_unbroken : (signs : List ContentSign) → Each Unbroken (things signs) → AreUnbroken signs
+pub each_unbroken : (signs : List ContentSign) → Each Unbroken (things signs) → AreUnbroken signs
 each_unbroken [] h = tt
 each_unbroken (letter c ∷ after) h = each_unbroken after h
 each_unbroken (thing t ∷ after) h = (h.0, each_unbroken after h.1)
@@ -117,7 +117,7 @@ line_unbroken : (at : ℕ) (xs : List Item) → AreFlatTiles (tiles in_line xs) 
 unfolding tiles
 line_unbroken at xs f h = tiles_unbroken (shapes in_line (map glyph_of xs)) at xs f h
 
-lines_unbroken : (at : ℕ) (ls : List (List Item)) → AreFlatLines ls → Each Unbroken (things (signs_of_lines at ls))
+pub lines_unbroken : (at : ℕ) (ls : List (List Item)) → AreFlatLines ls → Each Unbroken (things (signs_of_lines at ls))
 lines_unbroken at [] h = tt
 lines_unbroken at (xs ∷ []) h = line_unbroken at xs h.1 h.0
 lines_unbroken at (xs ∷ ys ∷ ls) h =

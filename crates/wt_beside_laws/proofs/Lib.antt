@@ -59,3 +59,4 @@ pub mod FlatLines
 pub mod PlainContents
 pub mod Edits
 pub mod Made
+pub mod Styled

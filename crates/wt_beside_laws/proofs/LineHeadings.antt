@@ -24,10 +24,10 @@ use Rattle.wt_text_edit_laws.specs.LonePages.{page_chars}
 use Rattle.wt_text_edit_laws.specs.TypedHeadings.{Sides, AreBlanks, AreSides, heading_line, IsOfLevel, NoBreaks, BeginsWithout, EndsWithout, is_equals_sign, IsHeadingInside}
 use Rattle.wt_text_edit_laws.proofs.Headings.HeadingRows.{round_is, apart_level}
 use Rattle.wt_text_edit_laws.proofs.Headings.TypedTexts.{end_by, no_equals, begins_other, begins_still, ends_still, ends_blank, ends_other, ends_behind as behind_other}
-use Rattle.wt_beside_laws.specs.Content.{guard_items, letter_items, content_items}
+use Rattle.wt_beside_laws.specs.Content.{AreKept, guard_items, letter_items, content_items}
 use Rattle.wt_beside_laws.specs.Flat.{content_parts, line_content}
 use Rattle.wt_beside_laws.specs.InHeadings.{AreOnOneLine, IsHeadingContent, LastEndsUnequal, IsSome, KeepsLevel, heading_of}
-use Rattle.wt_beside_laws.specs.Lines.{AreUnbroken, line_items}
+use Rattle.wt_beside_laws.specs.Lines.{AreCharacters, AreUnbroken, line_items}
 use Rattle.wt_beside_laws.specs.Nodes.{AreNodes}
 use Rattle.wt_beside_laws.proofs.Contents.{content_alone}
 use Rattle.wt_beside_laws.proofs.LineItems.{letter_unbroken}
@@ -142,17 +142,22 @@ content_last s before (thing t ∷ after) own w p e f =
 
 -- ---- the content
 
-pub heading_inside : (s : Setting) (signs : List ContentSign) → IsHeadingContent s signs → IsHeadingInside (page_items (spelled s signs))
-heading_inside s signs h =
-    let is = content_alone s signs h.flat.kept in
+pub inside_by : (s : Setting) (signs : List ContentSign) → s.within ≡ false → s.place ≡ place.Heading → AreKept signs → AreUnbroken signs → AreCharacters signs
+    → AreNodes signs → AreOnOneLine signs → IsHeadingInside (page_items (spelled s signs))
+inside_by s signs block head kept unbroken characters nodes one =
+    let is = content_alone s signs kept in
     subst IsHeadingInside (sym is)
     (record {
-      unbroken = content_none s [] signs h.one_line h.flat.unbroken;
-      begins = subst (λ xs. BeginsWithout is_blank (map sign xs)) (same_items s [] signs h.one_line)
-          (begins_seen (line_items s [] signs) (line_opens s [] signs h.flat.of_block refl refl h.flat.characters h.flat.nodes));
-      ends = content_last s [] signs [] h.flat.of_block h.of_heading (nodes_end signs h.flat.nodes)
-          (λ z. let no : true ≡ false = sym (end_guarded s [] h.flat.of_block refl) ∙ z in cc);
+      unbroken = content_none s [] signs one unbroken;
+      begins = subst (λ xs. BeginsWithout is_blank (map sign xs)) (same_items s [] signs one)
+          (begins_seen (line_items s [] signs) (line_opens s [] signs block refl refl characters nodes));
+      ends = content_last s [] signs [] block head (nodes_end signs nodes)
+          (λ z. let no : true ≡ false = sym (end_guarded s [] block refl) ∙ z in cc);
     })
+
+pub heading_inside : (s : Setting) (signs : List ContentSign) → IsHeadingContent s signs → IsHeadingInside (page_items (spelled s signs))
+heading_inside s signs h =
+    inside_by s signs h.flat.of_block h.of_heading h.flat.kept h.flat.unbroken h.flat.characters h.flat.nodes h.one_line
 
 -- ---- its level
 
@@ -215,23 +220,27 @@ unequal_end ss [] a (inl h) = absurd h
 unequal_end ss [] a (inr h) = ends_other ss [] a h
 unequal_end ss (b ∷ bs) a h = ends_still ss b bs (ends_blank b bs a)
 
-pub content_level : (s : Setting) (signs : List ContentSign) (sides : Sides) → IsHeadingContent s signs → AreSides sides → KeepsLevel sides signs
-    → IsOfLevel sides (page_items (spelled s signs))
-content_level s signs sides h a k =
+pub level_by : (s : Setting) (signs : List ContentSign) (sides : Sides) → s.within ≡ false → AreKept signs → AreCharacters signs → AreNodes signs → AreOnOneLine signs
+    → AreSides sides → KeepsLevel sides signs → IsOfLevel sides (page_items (spelled s signs))
+level_by s signs sides block kept characters nodes one a k =
     let own : List Item = page_items (spelled s signs) in
-    let is : own ≡ content_items s [] signs = content_alone s signs h.flat.kept in
+    let is : own ≡ content_items s [] signs = content_alone s signs kept in
     let ss : List ℕ = map sign own in
     let begins : BeginsWithout is_equals_sign ss =
-    subst (λ xs. BeginsWithout is_equals_sign (map sign xs)) (sym (is ∙ sym (same_items s [] signs h.one_line)))
-    (begins_unequal (line_items s [] signs) (line_opens s [] signs h.flat.of_block refl refl h.flat.characters h.flat.nodes)) in
+    subst (λ xs. BeginsWithout is_equals_sign (map sign xs)) (sym (is ∙ sym (same_items s [] signs one)))
+    (begins_unequal (line_items s [] signs) (line_opens s [] signs block refl refl characters nodes)) in
     let last : IsSome sides.trail ⊎ EndsWithout is_equals_sign ss = elim k [
       | inl some ↦ inl some
-      | inr ends ↦ inr (subst UnequalLast (sym is) (all_unequal s signs h.flat.of_block h.flat.nodes ends))
+      | inr ends ↦ inr (subst UnequalLast (sym is) (all_unequal s signs block nodes ends))
     ] in
     apart_level sides own a (record {
       first = begins_other sides.lead (ss ++ sides.trail) a.lead (begins_still ss sides.trail begins);
       last = behind_other sides.lead (ss ++ sides.trail) (unequal_end ss sides.trail a.trail last);
     })
+
+pub content_level : (s : Setting) (signs : List ContentSign) (sides : Sides) → IsHeadingContent s signs → AreSides sides → KeepsLevel sides signs
+    → IsOfLevel sides (page_items (spelled s signs))
+content_level s signs sides h a k = level_by s signs sides h.flat.of_block h.flat.kept h.flat.characters h.flat.nodes h.one_line a k
 
 -- ---- what it is
 

@@ -54,7 +54,7 @@ other_trail own n = elim n [
   ]
 ]
 
-delimiter_trail : (own : List Glyph) → IsDelimiter own → NoTrail own
+pub delimiter_trail : (own : List Glyph) → IsDelimiter own → NoTrail own
 delimiter_trail own n = elim n [
   | inl i ↦ subst NoTrail (sym i) refl
   | inr i ↦ subst NoTrail (sym i) refl
@@ -85,7 +85,7 @@ bare_never ends (Group g) own n e = absurd n
 bare_never ends Function own n e = cc
 bare_never ends Node own n e = cc
 
-follows_none : (own : List Glyph) (r : Role) → ((g : Glyph) → MayBeBehind r g) → MayFollow r own
+pub follows_none : (own : List Glyph) (r : Role) → ((g : Glyph) → MayBeBehind r g) → MayFollow r own
 follows_none [] r f = tt
 follows_none (g ∷ gs) r f = f g
 
@@ -126,11 +126,11 @@ table_leads r Node own n e = tt
 
 -- ---- two nodes side by side
 
-abbrev Meet : Thing → Thing → Type 0
+abbrev pub Meet : Thing → Thing → Type 0
 Meet t n = MayFollow t.role (own_glyphs n) × MayLead n.role (ends_word false (own_glyphs t))
 
 -- if they are so in the page
-abbrev MeetInPage : Thing → Thing → Type 0
+abbrev pub MeetInPage : Thing → Thing → Type 0
 MeetInPage t n = is_adjacent t n ≡ true → Meet t n
 
 no_mark : (r : Role) (own : List Glyph) → IsNode r own → is_mark r ≡ false
@@ -182,19 +182,19 @@ EachMeets [] = Unit {0}
 EachMeets (t ∷ []) = Unit {0}
 EachMeets (t ∷ n ∷ ts) = MeetInPage t n × EachMeets (n ∷ ts)
 
-nodes_of : (signs : List ContentSign) → EachIsNode (things signs) → AreNodes signs
+pub nodes_of : (signs : List ContentSign) → EachIsNode (things signs) → AreNodes signs
 nodes_of [] h = tt
 nodes_of (letter c ∷ after) h = nodes_of after h
 nodes_of (thing t ∷ after) h = (h.0, nodes_of after h.1)
 
 -- the node that is directly before a place
-abbrev before_of : List ContentSign → List Thing
+abbrev pub before_of : List ContentSign → List Thing
 before_of [] = []
 before_of (letter c ∷ before) = []
 before_of (thing t ∷ before) = t ∷ []
 
 -- of it and those that come
-abbrev Come : List ContentSign → List ContentSign → Type 0
+abbrev pub Come : List ContentSign → List ContentSign → Type 0
 Come before signs = EachIsNode (before_of before ++ things signs) × EachMeets (before_of before ++ things signs)
 
 letter_comes : (before : List ContentSign) (ts : List Thing) → EachIsNode (before_of before ++ ts) × EachMeets (before_of before ++ ts) → EachIsNode ts × EachMeets ts
@@ -226,7 +226,7 @@ thing_meets s false [] n after e h = tt
 thing_meets s false (letter d ∷ before) n after e h = tt
 thing_meets s false (thing t ∷ before) n after e h = meet t n h.0.0 h.0.1.0 h.1.0 (unparted s t n before after e)
 
-all_meet : (s : Setting) (before signs : List ContentSign) → Come before signs → AllMeet s before signs []
+pub all_meet : (s : Setting) (before signs : List ContentSign) → Come before signs → AllMeet s before signs []
 all_meet s before [] h = end_meets (is_guarded s before []) before
 all_meet s before (letter c ∷ after) h =
     (letter_meets (is_guarded s before (letter c ∷ after)) before c after, all_meet s (letter c ∷ before) after (letter_comes before (things after) h))
@@ -235,7 +235,7 @@ all_meet s before (thing n ∷ after) h =
 
 -- ---- of the page
 
-each_node : (a : Bool) (olds : List ContentSign) → AreStood a olds → EachIsNode (things olds)
+pub each_node : (a : Bool) (olds : List ContentSign) → AreStood a olds → EachIsNode (things olds)
 each_node a [] h = tt
 each_node a (letter c ∷ after) h = each_node (is_word c) after h
 each_node a (thing t ∷ after) h =
@@ -345,11 +345,11 @@ at_same t n end start stop p e i f h =
     reached_is end start (ap (λ (o : Option ℕ). is_reached (Some end) o) (sym right) ∙ ap (λ (o : Option ℕ). is_reached o (start_of n.place)) (sym left) ∙ h)
 
 -- A node and those that come behind it: one that is directly behind it meets it as in the page, and between it and any other one is something.
-abbrev MeetsEach : Thing → List Thing → Type 0
+abbrev pub MeetsEach : Thing → List Thing → Type 0
 MeetsEach t [] = Unit {0}
 MeetsEach t (n ∷ ts) = MeetInPage t n × MeetsEach t ts
 
-abbrev PairsMeet : List Thing → Type 0
+abbrev pub PairsMeet : List Thing → Type 0
 PairsMeet [] = Unit {0}
 PairsMeet (t ∷ ts) = MeetsEach t ts × PairsMeet ts
 
@@ -395,7 +395,7 @@ next a t end p (thing n ∷ after) e i places h k =
     let some : 0 < length n.source = source_some n.source (form_some (ends_word a (own_glyphs t)) (own_glyphs n) (line_glyphs after) k.0.shape k.0.form) in
     (λ z. beside a t n after h k.0, far t end (end + length n.source) p after e i (omega (arith, some)) places.1)
 
-all_pairs : (a : Bool) (at : ℕ) (olds : List ContentSign) → AreStood a olds → AreAt at olds → PairsMeet (things olds)
+pub all_pairs : (a : Bool) (at : ℕ) (olds : List ContentSign) → AreStood a olds → AreAt at olds → PairsMeet (things olds)
 all_pairs a at [] h places = tt
 all_pairs a at (letter c ∷ after) h places = all_pairs (is_word c) (at + length (encode_utf8 c)) after h places
 all_pairs a at (thing t ∷ after) h places = (

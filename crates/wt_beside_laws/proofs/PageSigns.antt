@@ -383,6 +383,9 @@ lines_read at (xs ∷ ys ∷ ls) h =
 pub lines_stood : (at : ℕ) (ls : List (List Item)) → AreFlatLines ls → AreStood false (signs_of_lines at ls)
 lines_stood at ls h = (lines_read at ls h).stood
 
+pub lines_at : (at : ℕ) (ls : List (List Item)) → AreFlatLines ls → AreAt at (signs_of_lines at ls)
+lines_at at ls h = (lines_read at ls h).places
+
 pub some_nodes : (ls : List (List Item)) (at : ℕ) (signs : List ContentSign) → AreFlatLines ls → AreAmong (things signs) (things (signs_of_lines at ls)) → AreNodes signs
 some_nodes ls at signs h some = some_stay (signs_of_lines at ls) signs (lines_read at ls h).stood some
 
