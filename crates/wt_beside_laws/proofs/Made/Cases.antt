@@ -105,7 +105,7 @@ break_items = record {
   sealed = (break_sealed, tt);
 }
 
-as_paragraph : IsFlatIn a_paragraph (codes "x<br>y")
+pub as_paragraph : IsFlatIn a_paragraph (codes "x<br>y")
 as_paragraph = paragraph_by (codes "x<br>y") (page_chars (codes "x<br>y")) items_are before_break_are (x_stands (codes "<br>y")) (x_stands (codes "<br>y\n")) break_flat break_items
 
 -- ---- as a heading
@@ -187,5 +187,5 @@ heading_items = record {
   sealed = (break_sealed, tt);
 }
 
-as_heading : IsFlatIn (a_heading (spaced 2)) (codes "x<br>y")
+pub as_heading : IsFlatIn (a_heading (spaced 2)) (codes "x<br>y")
 as_heading = heading_by (page_chars (codes "x<br>y")) items_are break_flat.utf8 heading_items
