@@ -35,8 +35,8 @@ use Rattle.wt_text_edit_laws.specs.NoCalls.{CallsNothing}
 use Rattle.wt_text_edit_laws.specs.ParagraphParts.{joined_parts}
 use Rattle.wt_text_edit_laws.specs.Paragraphs.{IsTextLine}
 use Rattle.wt_text_edit_laws.specs.TextBetween.{StandsBehind}
-use Rattle.wt_text_edit_laws.specs.TextBlocks.{a_paragraph, a_heading, source_of, IsFrame}
-use Rattle.wt_text_edit_laws.specs.TypedHeadings.{Sides, spaced, heading_line, IsHeadingInside, IsOfLevel}
+use Rattle.wt_text_edit_laws.specs.TextBlocks.{a_paragraph, a_heading, IsFrame}
+use Rattle.wt_text_edit_laws.specs.TypedHeadings.{spaced, heading_line, IsHeadingInside, IsOfLevel}
 use Rattle.wt_text_edit_laws.proofs.Between.ClosingTags.{unclosed_byte, not_slash, unclosed_untagged}
 use Rattle.wt_beside_laws.specs.Calm.{AreCalm}
 use Rattle.wt_beside_laws.specs.Content.{AreKept}
