@@ -119,11 +119,13 @@ unbraced_so [] h = tt
 unbraced_so (char o b ∷ xs) h = (h.0, unbraced_so xs h.1)
 unbraced_so (whole f o bs ∷ xs) h = unbraced_so xs h
 
-pub content_calm : (s : Setting) (signs : List ContentSign) → AreKept signs → AreCalm signs → CallsNothing (page_items (spelled s signs))
-content_calm s signs k h =
+pub content_unbraced : (s : Setting) (signs : List ContentSign) → AreKept signs → AreCalm signs → AreUnbraced (page_items (spelled s signs))
+content_unbraced s signs k h =
     let xs : List Item = page_items (spelled s signs) in
-    let none : HaveNoBraces xs = subst HaveNoBraces (sym (content_alone s signs k)) (content_none s [] signs h) in
-    subst NonePairs (sym (none_unbraced xs (unbraced_so xs none))) tt
+    unbraced_so xs (subst HaveNoBraces (sym (content_alone s signs k)) (content_none s [] signs h))
+
+pub content_calm : (s : Setting) (signs : List ContentSign) → AreKept signs → AreCalm signs → CallsNothing (page_items (spelled s signs))
+content_calm s signs k h = subst NonePairs (sym (none_unbraced (page_items (spelled s signs)) (content_unbraced s signs k h))) tt
 
 pub content_expanded : (pages : Pages) (s : Setting) (signs : List ContentSign) → AreKept signs → AreCalm signs
     → expanded_page pages (spelled s signs) ≡ of_items (page_items (spelled s signs))

@@ -70,7 +70,7 @@ begin_written P true d rest h p q f = begin_reference P d rest (h refl) p
 begin_written P false d rest h p q f = begin_plain P d rest (q refl) f
 
 -- behind `<` and `&`, where a character follows
-begin_letter : (P : ℕ → Type 0) (s : Setting) (c d : ℕ) (before after : List ContentSign) → (c == 10) ≡ false → is_blank c ≡ false → P 38 → P d
+pub begin_letter : (P : ℕ → Type 0) (s : Setting) (c d : ℕ) (before after : List ContentSign) → (c == 10) ≡ false → is_blank c ≡ false → P 38 → P d
     → ((x : ℕ) → 128 ≤ x → P x) → Begins P (spelled_from s (letter c ∷ before) (letter d ∷ after))
 begin_letter P s c d before after e f p q g =
     let t = is_escaped s.within s.place (letter c ∷ before) d after in

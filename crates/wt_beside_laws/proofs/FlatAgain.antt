@@ -246,7 +246,7 @@ tile_so Q kind.Atom at own h = (h, tt)
 tile_so Q kind.Mark at own h = (h, tt)
 tile_so Q kind.Chars at own h = letters_so Q (chars (sources own))
 
-so_both : (Q : List ℕ → Type 0) (xs ys : List ContentSign) → EachSource Q xs → EachSource Q ys → EachSource Q (xs ++ ys)
+pub so_both : (Q : List ℕ → Type 0) (xs ys : List ContentSign) → EachSource Q xs → EachSource Q ys → EachSource Q (xs ++ ys)
 so_both Q [] ys h k = k
 so_both Q (letter c ∷ xs) ys h k = so_both Q xs ys h k
 so_both Q (thing t ∷ xs) ys h k = (h.0, so_both Q xs ys h.1 k)
@@ -256,7 +256,7 @@ pub record HoldsOfPut (Q : List ℕ → Type 0) : Type 0 where
   pub of_nowiki : Q nowiki
   pub of_reference : (c : ℕ) → is_escapable c ≡ true → Q (reference c)
 
-nowiki_kept : IsKept nowiki
+pub nowiki_kept : IsKept nowiki
 unfolding nowiki comment_len
 nowiki_kept = record {
   parts = lexeme Raw 60 (codes "nowiki/>") ∷ [];
@@ -282,10 +282,10 @@ reference_kept c e =
       is = append-nil (38 ∷ r.others) ∙ sym r.is;
     }
 
-put_kept : HoldsOfPut IsKept
+pub put_kept : HoldsOfPut IsKept
 put_kept = record { of_nowiki = nowiki_kept; of_reference = reference_kept }
 
-abbrev IsShut : List ℕ → Type 0
+abbrev pub IsShut : List ℕ → Type 0
 IsShut bs = ends_open bs ≡ false
 
 nowiki_shut : IsShut nowiki
@@ -296,7 +296,7 @@ reference_shut : (c : ℕ) → is_escapable c ≡ true → IsShut (reference c)
 unfolding reference digits
 reference_shut c e = each_escapable (λ k. ends_open (reference k) ≡ false) refl refl refl refl refl refl refl refl refl refl refl refl refl c e
 
-put_shut : HoldsOfPut IsShut
+pub put_shut : HoldsOfPut IsShut
 put_shut = record { of_nowiki = nowiki_shut; of_reference = reference_shut }
 
 -- a lexeme by itself, as a tile
@@ -317,14 +317,14 @@ reference_atom Q c p e =
 -- ---- cuts
 
 -- the run that is first is UTF-8, and the tiles behind it are flat
-record FlatCut (Q : List ℕ → Type 0) (c : Cut) (xs : List Item) : Type 0 where
-  text : IsUtf8 (sources (take c.0 xs))
-  tiles : AreFlatTiles (tile_parts c.1 (drop c.0 xs))
-  kept : (at : ℕ) → EachSource Q (signs_of_tiles at (tile_parts c.1 (drop c.0 xs)))
+pub record FlatCut (Q : List ℕ → Type 0) (c : Cut) (xs : List Item) : Type 0 where
+  pub text : IsUtf8 (sources (take c.0 xs))
+  pub tiles : AreFlatTiles (tile_parts c.1 (drop c.0 xs))
+  pub kept : (at : ℕ) → EachSource Q (signs_of_tiles at (tile_parts c.1 (drop c.0 xs)))
 
-record FlatShapes (Q : List ℕ → Type 0) (ps : List (Shape × List Item)) : Type 0 where
-  tiles : AreFlatTiles ps
-  kept : (at : ℕ) → EachSource Q (signs_of_tiles at ps)
+pub record FlatShapes (Q : List ℕ → Type 0) (ps : List (Shape × List Item)) : Type 0 where
+  pub tiles : AreFlatTiles ps
+  pub kept : (at : ℕ) → EachSource Q (signs_of_tiles at ps)
 
 -- a tile before others
 tile_before : (Q : List ℕ → Type 0) (w : Shape) (own : List Item) (ps : List (Shape × List Item)) → IsFlatTile w.kind own → ((at : ℕ) → EachSource Q (tile_signs w.kind at own))
@@ -344,7 +344,7 @@ closed_by Q false n ws xs e f =
     subst (λ (m : ℕ). FlatShapes Q ((run n, take m xs) ∷ tile_parts ws (drop m xs))) all
     (tile_before Q (run n) (take n xs) (tile_parts ws (drop n xs)) f.text (λ at. letters_so Q (chars (sources (take n xs)))) (record { tiles = f.tiles; kept = f.kept }))
 
-closed_flat : (Q : List ℕ → Type 0) (c : Cut) (xs : List Item) → FlatCut Q c xs → FlatShapes Q (tile_parts (closed c.0 c.1) xs)
+pub closed_flat : (Q : List ℕ → Type 0) (c : Cut) (xs : List Item) → FlatCut Q c xs → FlatShapes Q (tile_parts (closed c.0 c.1) xs)
 unfolding closed
 closed_flat Q c xs f = closed_by Q (c.0 == 0) c.0 c.1 xs refl f
 
@@ -390,7 +390,7 @@ chars_source : (bs : List ℕ) (ys : List Item) → sources (page_chars bs ++ ys
 chars_source [] ys = refl
 chars_source (b ∷ bs) ys = ap (λ cs. b ∷ cs) (chars_source bs ys)
 
-chars_before : (Q : List ℕ → Type 0) (bs : List ℕ) (c : Cut) (xs : List Item) → IsUtf8 bs → FlatCut Q c xs → FlatCut Q (add_chars (length bs) c) (page_chars bs ++ xs)
+pub chars_before : (Q : List ℕ → Type 0) (bs : List ℕ) (c : Cut) (xs : List Item) → IsUtf8 bs → FlatCut Q c xs → FlatCut Q (add_chars (length bs) c) (page_chars bs ++ xs)
 chars_before Q bs c xs u f = record {
   text = subst IsUtf8 (sym (ap sources (taken_more bs c.0 xs) ∙ chars_source bs (take c.0 xs))) (IsUtf8-append bs (sources (take c.0 xs)) u f.text);
   tiles = subst (λ (ys : List Item). AreFlatTiles (tile_parts c.1 ys)) (sym (dropped_more bs c.0 xs)) f.tiles;
@@ -399,24 +399,24 @@ chars_before Q bs c xs u f = record {
 
 -- ---- a line, sign by sign
 
-none_flat : (Q : List ℕ → Type 0) → FlatCut Q (0, []) []
+pub none_flat : (Q : List ℕ → Type 0) → FlatCut Q (0, []) []
 none_flat Q = record { text = IsUtf8-nil; tiles = tt; kept = λ at. tt }
 
-guard_flat : (Q : List ℕ → Type 0) (p : HoldsOfPut Q) (u : Bool) (c : Cut) (xs : List Item) → FlatCut Q c xs → FlatCut Q (guard_cut u c) (guard_items u ++ xs)
+pub guard_flat : (Q : List ℕ → Type 0) (p : HoldsOfPut Q) (u : Bool) (c : Cut) (xs : List Item) → FlatCut Q c xs → FlatCut Q (guard_cut u c) (guard_items u ++ xs)
 guard_flat Q p true c xs f = atom_before Q (whole form.Nowiki None nowiki) c xs (nowiki_atom Q p) f
 guard_flat Q p false c xs f = f
 
-letter_flat : (Q : List ℕ → Type 0) (p : HoldsOfPut Q) (e : Bool) (d : ℕ) (c : Cut) (xs : List Item) → IsScalar d → (e ≡ true → is_escapable d ≡ true) → FlatCut Q c xs
+pub letter_flat : (Q : List ℕ → Type 0) (p : HoldsOfPut Q) (e : Bool) (d : ℕ) (c : Cut) (xs : List Item) → IsScalar d → (e ≡ true → is_escapable d ≡ true) → FlatCut Q c xs
     → FlatCut Q (letter_cut e d c) (letter_items e d ++ xs)
 letter_flat Q p true d c xs s h f = atom_before Q (whole (form.Entity d) None (reference d)) c xs (reference_atom Q d p (h refl)) f
 letter_flat Q p false d c xs s h f = chars_before Q (encode_utf8 d) c xs (IsUtf8-encode d s) f
 
-letter_by : (Q : List ℕ → Type 0) (t e : Bool) (d : ℕ) (c : Cut) (xs : List Item) → FlatCut Q (letter_cut e d c) (letter_items e d ++ xs)
+pub letter_by : (Q : List ℕ → Type 0) (t e : Bool) (d : ℕ) (c : Cut) (xs : List Item) → FlatCut Q (letter_cut e d c) (letter_items e d ++ xs)
     → FlatCut Q (if t then (0, []) else letter_cut e d c) (if t then [] else letter_items e d ++ xs)
 letter_by Q true e d c xs f = none_flat Q
 letter_by Q false e d c xs f = f
 
-node_flat : (Q : List ℕ → Type 0) (t : Thing) (c : Cut) (xs : List Item) → IsFlat t.role → IsNode t.role (own_glyphs t) → Q t.source → FlatCut Q c xs
+pub node_flat : (Q : List ℕ → Type 0) (t : Thing) (c : Cut) (xs : List Item) → IsFlat t.role → IsNode t.role (own_glyphs t) → Q t.source → FlatCut Q c xs
     → FlatCut Q (add_node (own_form in_line (own_glyphs t)) (length (own_glyphs t)) c) (page_items t.source ++ xs)
 node_flat Q t c xs f n k g =
     let h = has_form t.role (own_glyphs t) f n in
@@ -500,11 +500,11 @@ no_break [] h = tt
 no_break (char o b ∷ xs) h = (h.0, no_break xs h.1)
 no_break (whole f o bs ∷ xs) h = (tt, no_break xs h.1)
 
-abbrev Unbroken : List (List Item) → Type 0
+abbrev pub Unbroken : List (List Item) → Type 0
 Unbroken [] = Unit {0}
 Unbroken (l ∷ ls) = HasNoBreak l × Unbroken ls
 
-unbroken_lines : (ls : List (List Item)) (xs : List Item) → AreLines ls xs → Unbroken ls
+pub unbroken_lines : (ls : List (List Item)) (xs : List Item) → AreLines ls xs → Unbroken ls
 unbroken_lines [] xs h = tt
 unbroken_lines (l ∷ []) xs h = (no_break l h.0, tt)
 unbroken_lines (l ∷ m ∷ ls) xs h = (no_break l h.0, unbroken_lines (m ∷ ls) h.2 h.5)
@@ -516,22 +516,22 @@ all_unbroken s signs h =
 
 -- ---- in other words
 
-from_kept : (signs : List ContentSign) → AreKept signs → EachSource IsKept signs
+pub from_kept : (signs : List ContentSign) → AreKept signs → EachSource IsKept signs
 from_kept [] h = tt
 from_kept (letter c ∷ after) h = from_kept after h
 from_kept (thing t ∷ after) h = (h.0, from_kept after h.1)
 
-to_kept : (signs : List ContentSign) → EachSource IsKept signs → AreKept signs
+pub to_kept : (signs : List ContentSign) → EachSource IsKept signs → AreKept signs
 to_kept [] h = tt
 to_kept (letter c ∷ after) h = to_kept after h
 to_kept (thing t ∷ after) h = (h.0, to_kept after h.1)
 
-from_shut : (signs : List ContentSign) → AreShut signs → EachSource IsShut signs
+pub from_shut : (signs : List ContentSign) → AreShut signs → EachSource IsShut signs
 from_shut [] h = tt
 from_shut (letter c ∷ after) h = from_shut after h
 from_shut (thing t ∷ after) h = (h.0, from_shut after h.1)
 
-to_shut : (signs : List ContentSign) → EachSource IsShut signs → AreShut signs
+pub to_shut : (signs : List ContentSign) → EachSource IsShut signs → AreShut signs
 to_shut [] h = tt
 to_shut (letter c ∷ after) h = to_shut after h
 to_shut (thing t ∷ after) h = (h.0, to_shut after h.1)

@@ -22,38 +22,35 @@ use Rattle.wt_beside_laws.specs.Kept.{IsKept}
 use Rattle.wt_beside_laws.specs.Lines.{AreCharacters, AreUnbroken}
 use Rattle.wt_beside_laws.specs.PageSigns.{form_sign, tile_signs, signs_of_tiles, line_signs, signs_of_lines, IsFlatForm, IsFlatTile, AreFlatTiles, HasNoBreak, AreFlatLines}
 use Rattle.wt_beside_laws.specs.Stood.{IsTileOf, AreStood, things}
-use Rattle.wt_beside_laws.proofs.PageSigns.{flat_nodes, flat_meet, lines_stood, none_take, none_drop}
+use Rattle.wt_beside_laws.proofs.Among.{AreAmong, same_among, Each, each_among}
+use Rattle.wt_beside_laws.proofs.PageSigns.{some_nodes, some_flat_meet, lines_stood, none_take, none_drop}
 use Rattle.wt_beside_laws.proofs.SentNodes.{things_append, no_things}
 
 -- ---- what holds of each node
-
-abbrev Each : (Thing → Type 0) → List Thing → Type 0
-Each P [] = Unit {0}
-Each P (t ∷ ts) = P t × Each P ts
 
 both : (P : Thing → Type 0) (ts us : List Thing) → Each P ts → Each P us → Each P (ts ++ us)
 both P [] us h k = k
 both P (t ∷ ts) us h k = (h.0, both P ts us h.1 k)
 
 -- its source stands so whatever is written behind it
-abbrev Kept : Thing → Type 0
+abbrev pub Kept : Thing → Type 0
 Kept t = IsKept t.source
 
-kept_each : (signs : List ContentSign) → AreKept signs → Each Kept (things signs)
+pub kept_each : (signs : List ContentSign) → AreKept signs → Each Kept (things signs)
 kept_each [] h = tt
 kept_each (letter c ∷ after) h = kept_each after h
 kept_each (thing t ∷ after) h = (h.0, kept_each after h.1)
 
-each_kept : (signs : List ContentSign) → Each Kept (things signs) → AreKept signs
+pub each_kept : (signs : List ContentSign) → Each Kept (things signs) → AreKept signs
 each_kept [] h = tt
 each_kept (letter c ∷ after) h = each_kept after h
 each_kept (thing t ∷ after) h = (h.0, each_kept after h.1)
 
 -- it doesn't go on over the end of its line
-abbrev Unbroken : Thing → Type 0
+abbrev pub Unbroken : Thing → Type 0
 Unbroken t = IsUnbroken (page_items t.source)
 
-each_unbroken : (signs : List ContentSign) → Each Unbroken (things signs) → AreUnbroken signs
+pub each_unbroken : (signs : List ContentSign) → Each Unbroken (things signs) → AreUnbroken signs
 each_unbroken [] h = tt
 each_unbroken (letter c ∷ after) h = each_unbroken after h
 each_unbroken (thing t ∷ after) h = (h.0, each_unbroken after h.1)
@@ -120,7 +117,7 @@ line_unbroken : (at : ℕ) (xs : List Item) → AreFlatTiles (tiles in_line xs) 
 unfolding tiles
 line_unbroken at xs f h = tiles_unbroken (shapes in_line (map glyph_of xs)) at xs f h
 
-lines_unbroken : (at : ℕ) (ls : List (List Item)) → AreFlatLines ls → Each Unbroken (things (signs_of_lines at ls))
+pub lines_unbroken : (at : ℕ) (ls : List (List Item)) → AreFlatLines ls → Each Unbroken (things (signs_of_lines at ls))
 lines_unbroken at [] h = tt
 lines_unbroken at (xs ∷ []) h = line_unbroken at xs h.1 h.0
 lines_unbroken at (xs ∷ ys ∷ ls) h =
@@ -130,15 +127,22 @@ lines_unbroken at (xs ∷ ys ∷ ls) h =
 
 -- ---- the content
 
-pub flat_content : (s : Setting) (ls : List (List Item)) (at : ℕ) (signs : List ContentSign) → s.within ≡ false → AreFlatLines ls → AreKept (signs_of_lines at ls)
-    → AreCharacters signs → things signs ≡ things (signs_of_lines at ls) → IsFlatContent s signs
-flat_content s ls at signs block flat kept characters same =
+-- some of the page's nodes, in their order
+pub some_content : (s : Setting) (ls : List (List Item)) (at : ℕ) (signs : List ContentSign) → s.within ≡ false → AreFlatLines ls → AreKept (signs_of_lines at ls)
+    → AreCharacters signs → AreAmong (things signs) (things (signs_of_lines at ls)) → IsFlatContent s signs
+some_content s ls at signs block flat kept characters some =
+    let olds : List Thing = things (signs_of_lines at ls) in
     record {
       of_block = block;
       characters = characters;
-      kept = each_kept signs (subst (Each Kept) (sym same) (kept_each (signs_of_lines at ls) kept));
-      nodes = flat_nodes ls at signs flat same;
-      unbroken = each_unbroken signs (subst (Each Unbroken) (sym same) (lines_unbroken at ls flat));
-      flat = each_flat signs (subst (Each Flat) (sym same) (flat_each false (signs_of_lines at ls) (lines_stood at ls flat)));
-      meet = flat_meet s ls at signs flat same;
+      kept = each_kept signs (each_among Kept (things signs) olds some (kept_each (signs_of_lines at ls) kept));
+      nodes = some_nodes ls at signs flat some;
+      unbroken = each_unbroken signs (each_among Unbroken (things signs) olds some (lines_unbroken at ls flat));
+      flat = each_flat signs (each_among Flat (things signs) olds some (flat_each false (signs_of_lines at ls) (lines_stood at ls flat)));
+      meet = some_flat_meet s ls at signs flat some;
     }
+
+pub flat_content : (s : Setting) (ls : List (List Item)) (at : ℕ) (signs : List ContentSign) → s.within ≡ false → AreFlatLines ls → AreKept (signs_of_lines at ls)
+    → AreCharacters signs → things signs ≡ things (signs_of_lines at ls) → IsFlatContent s signs
+flat_content s ls at signs block flat kept characters same =
+    some_content s ls at signs block flat kept characters (same_among (things signs) (things (signs_of_lines at ls)) same)

@@ -14,6 +14,7 @@ pub mod NodesBegin
 pub mod NodesEnd
 pub mod NodesMeet
 pub mod NodesStand
+pub mod Among
 pub mod PageNodes
 pub mod PageSigns
 pub mod PairTiles
@@ -57,3 +58,5 @@ pub mod CalmContents
 pub mod FlatLines
 pub mod PlainContents
 pub mod Edits
+pub mod Made
+pub mod Styled

@@ -24,10 +24,10 @@ use Rattle.wt_text_edit_laws.specs.LonePages.{page_chars}
 use Rattle.wt_text_edit_laws.specs.TypedHeadings.{Sides, AreBlanks, AreSides, heading_line, IsOfLevel, NoBreaks, BeginsWithout, EndsWithout, is_equals_sign, IsHeadingInside}
 use Rattle.wt_text_edit_laws.proofs.Headings.HeadingRows.{round_is, apart_level}
 use Rattle.wt_text_edit_laws.proofs.Headings.TypedTexts.{end_by, no_equals, begins_other, begins_still, ends_still, ends_blank, ends_other, ends_behind as behind_other}
-use Rattle.wt_beside_laws.specs.Content.{guard_items, letter_items, content_items}
+use Rattle.wt_beside_laws.specs.Content.{AreKept, guard_items, letter_items, content_items}
 use Rattle.wt_beside_laws.specs.Flat.{content_parts, line_content}
 use Rattle.wt_beside_laws.specs.InHeadings.{AreOnOneLine, IsHeadingContent, LastEndsUnequal, IsSome, KeepsLevel, heading_of}
-use Rattle.wt_beside_laws.specs.Lines.{AreUnbroken, line_items}
+use Rattle.wt_beside_laws.specs.Lines.{AreCharacters, AreUnbroken, line_items}
 use Rattle.wt_beside_laws.specs.Nodes.{AreNodes}
 use Rattle.wt_beside_laws.proofs.Contents.{content_alone}
 use Rattle.wt_beside_laws.proofs.LineItems.{letter_unbroken}
@@ -62,7 +62,7 @@ content_none s before (thing t ∷ after) o u =
     unbroken_both (guard_items (is_guarded s before (thing t ∷ after))) (own ++ more) (guard_none (is_guarded s before (thing t ∷ after)))
     (unbroken_both own more (none_by own u.0) (content_none s (thing t ∷ before) after o u.1))
 
-same_items : (s : Setting) (before signs : List ContentSign) → AreOnOneLine signs → line_items s before signs ≡ content_items s before signs
+pub same_items : (s : Setting) (before signs : List ContentSign) → AreOnOneLine signs → line_items s before signs ≡ content_items s before signs
 same_items s before [] o = refl
 same_items s before (letter c ∷ after) o =
     let guard : List Item = guard_items (is_guarded s before (letter c ∷ after)) in
@@ -72,7 +72,7 @@ same_items s before (letter c ∷ after) o =
 same_items s before (thing t ∷ after) o =
     ap (λ xs. guard_items (is_guarded s before (thing t ∷ after)) ++ (page_items t.source ++ xs)) (same_items s (thing t ∷ before) after o)
 
-same_parts : (s : Setting) (before signs : List ContentSign) → AreOnOneLine signs → line_content s before signs ≡ content_parts s before signs
+pub same_parts : (s : Setting) (before signs : List ContentSign) → AreOnOneLine signs → line_content s before signs ≡ content_parts s before signs
 same_parts s before [] o = refl
 same_parts s before (letter c ∷ after) o =
     let guard : List Part = parts Text (guard_items (is_guarded s before (letter c ∷ after))) in
@@ -96,7 +96,7 @@ begins_seen (x ∷ xs) h = neither (sign x) h
 abbrev SeenLast : List Item → Type 0
 SeenLast xs = EndsWithout is_blank (map sign xs)
 
-ends_behind : (q : ℕ → Bool) (xs ys : List Item) → EndsWithout q (map sign ys) → EndsWithout q (map sign (xs ++ ys))
+pub ends_behind : (q : ℕ → Bool) (xs ys : List Item) → EndsWithout q (map sign ys) → EndsWithout q (map sign (xs ++ ys))
 ends_behind q [] ys h = h
 ends_behind q (x ∷ []) [] h = absurd h
 ends_behind q (x ∷ []) (y ∷ ys) h = h
@@ -142,21 +142,26 @@ content_last s before (thing t ∷ after) own w p e f =
 
 -- ---- the content
 
-pub heading_inside : (s : Setting) (signs : List ContentSign) → IsHeadingContent s signs → IsHeadingInside (page_items (spelled s signs))
-heading_inside s signs h =
-    let is = content_alone s signs h.flat.kept in
+pub inside_by : (s : Setting) (signs : List ContentSign) → s.within ≡ false → s.place ≡ place.Heading → AreKept signs → AreUnbroken signs → AreCharacters signs
+    → AreNodes signs → AreOnOneLine signs → IsHeadingInside (page_items (spelled s signs))
+inside_by s signs block head kept unbroken characters nodes one =
+    let is = content_alone s signs kept in
     subst IsHeadingInside (sym is)
     (record {
-      unbroken = content_none s [] signs h.one_line h.flat.unbroken;
-      begins = subst (λ xs. BeginsWithout is_blank (map sign xs)) (same_items s [] signs h.one_line)
-          (begins_seen (line_items s [] signs) (line_opens s [] signs h.flat.of_block refl refl h.flat.characters h.flat.nodes));
-      ends = content_last s [] signs [] h.flat.of_block h.of_heading (nodes_end signs h.flat.nodes)
-          (λ z. let no : true ≡ false = sym (end_guarded s [] h.flat.of_block refl) ∙ z in cc);
+      unbroken = content_none s [] signs one unbroken;
+      begins = subst (λ xs. BeginsWithout is_blank (map sign xs)) (same_items s [] signs one)
+          (begins_seen (line_items s [] signs) (line_opens s [] signs block refl refl characters nodes));
+      ends = content_last s [] signs [] block head (nodes_end signs nodes)
+          (λ z. let no : true ≡ false = sym (end_guarded s [] block refl) ∙ z in cc);
     })
+
+pub heading_inside : (s : Setting) (signs : List ContentSign) → IsHeadingContent s signs → IsHeadingInside (page_items (spelled s signs))
+heading_inside s signs h =
+    inside_by s signs h.flat.of_block h.of_heading h.flat.kept h.flat.unbroken h.flat.characters h.flat.nodes h.one_line
 
 -- ---- its level
 
-abbrev UnequalLast : List Item → Type 0
+abbrev pub UnequalLast : List Item → Type 0
 UnequalLast xs = EndsWithout is_equals_sign (map sign xs)
 
 wide_unequal : (bs : List ℕ) → All IsWide bs → 0 < length bs → UnequalLast (page_chars bs)
@@ -167,14 +172,14 @@ wide_unequal (b ∷ []) h some = not_equals b (All-head IsWide b [] h)
     not_equals b le = grind (arith, nat_tests)
 wide_unequal (b ∷ c ∷ bs) h some = wide_unequal (c ∷ bs) (All-tail IsWide b (c ∷ bs) h) (omega arith)
 
-letter_unequal : (e : Bool) (c : ℕ) → (e ≡ false → is_equals_sign c ≡ false) → UnequalLast (letter_items e c)
+pub letter_unequal : (e : Bool) (c : ℕ) → (e ≡ false → is_equals_sign c ≡ false) → UnequalLast (letter_items e c)
 letter_unequal true c f = refl
 letter_unequal false c f = elim (cases_lt c 128) [
   | inl small ↦ subst (λ bs. UnequalLast (page_chars bs)) (sym (encode_ascii c small)) (f refl)
   | inr wide ↦ wide_unequal (encode_utf8 c) (encode_wide c wide) (encode_some c)
 ]
 
-end_unequal : (u : Bool) (own : List Item) → UnequalLast own → UnequalLast (own ++ guard_items u)
+pub end_unequal : (u : Bool) (own : List Item) → UnequalLast own → UnequalLast (own ++ guard_items u)
 end_unequal true own h = ends_behind is_equals_sign own (guard_items true) refl
 end_unequal false own h = subst UnequalLast (sym (append-nil own)) h
 
@@ -205,33 +210,37 @@ all_unequal : (s : Setting) (signs : List ContentSign) → s.within ≡ false �
 all_unequal s [] w n e = subst (λ (u : Bool). UnequalLast (guard_items u)) (sym (end_guarded s [] w refl)) refl
 all_unequal s (next ∷ after) w n e = content_unequal s [] next after n e
 
-begins_unequal : (xs : List Item) → Opens xs → BeginsWithout is_equals_sign (map sign xs)
+pub begins_unequal : (xs : List Item) → Opens xs → BeginsWithout is_equals_sign (map sign xs)
 begins_unequal [] h = h
 begins_unequal (x ∷ xs) h = grind (arith, nat_tests, h.equals)
 
 -- a blank parts them, or the content ends so
-unequal_end : (ss trail : List ℕ) → AreBlanks trail → IsSome trail ⊎ EndsWithout is_equals_sign ss → EndsWithout is_equals_sign (ss ++ trail)
+pub unequal_end : (ss trail : List ℕ) → AreBlanks trail → IsSome trail ⊎ EndsWithout is_equals_sign ss → EndsWithout is_equals_sign (ss ++ trail)
 unequal_end ss [] a (inl h) = absurd h
 unequal_end ss [] a (inr h) = ends_other ss [] a h
 unequal_end ss (b ∷ bs) a h = ends_still ss b bs (ends_blank b bs a)
 
-pub content_level : (s : Setting) (signs : List ContentSign) (sides : Sides) → IsHeadingContent s signs → AreSides sides → KeepsLevel sides signs
-    → IsOfLevel sides (page_items (spelled s signs))
-content_level s signs sides h a k =
+pub level_by : (s : Setting) (signs : List ContentSign) (sides : Sides) → s.within ≡ false → AreKept signs → AreCharacters signs → AreNodes signs → AreOnOneLine signs
+    → AreSides sides → KeepsLevel sides signs → IsOfLevel sides (page_items (spelled s signs))
+level_by s signs sides block kept characters nodes one a k =
     let own : List Item = page_items (spelled s signs) in
-    let is : own ≡ content_items s [] signs = content_alone s signs h.flat.kept in
+    let is : own ≡ content_items s [] signs = content_alone s signs kept in
     let ss : List ℕ = map sign own in
     let begins : BeginsWithout is_equals_sign ss =
-    subst (λ xs. BeginsWithout is_equals_sign (map sign xs)) (sym (is ∙ sym (same_items s [] signs h.one_line)))
-    (begins_unequal (line_items s [] signs) (line_opens s [] signs h.flat.of_block refl refl h.flat.characters h.flat.nodes)) in
+    subst (λ xs. BeginsWithout is_equals_sign (map sign xs)) (sym (is ∙ sym (same_items s [] signs one)))
+    (begins_unequal (line_items s [] signs) (line_opens s [] signs block refl refl characters nodes)) in
     let last : IsSome sides.trail ⊎ EndsWithout is_equals_sign ss = elim k [
       | inl some ↦ inl some
-      | inr ends ↦ inr (subst UnequalLast (sym is) (all_unequal s signs h.flat.of_block h.flat.nodes ends))
+      | inr ends ↦ inr (subst UnequalLast (sym is) (all_unequal s signs block nodes ends))
     ] in
     apart_level sides own a (record {
       first = begins_other sides.lead (ss ++ sides.trail) a.lead (begins_still ss sides.trail begins);
       last = behind_other sides.lead (ss ++ sides.trail) (unequal_end ss sides.trail a.trail last);
     })
+
+pub content_level : (s : Setting) (signs : List ContentSign) (sides : Sides) → IsHeadingContent s signs → AreSides sides → KeepsLevel sides signs
+    → IsOfLevel sides (page_items (spelled s signs))
+content_level s signs sides h a k = level_by s signs sides h.flat.of_block h.flat.kept h.flat.characters h.flat.nodes h.one_line a k
 
 -- ---- what it is
 

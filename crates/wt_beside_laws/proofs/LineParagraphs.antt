@@ -69,7 +69,7 @@ first_unmarked x xs ys e = by (is_mark x) e
     by true k = absurd (omega (arith, k))
     by false k = refl
 
-unmarked : (n : ℕ) (l : List Item) → IsLineOfText n (content l) → marks_len l ≡ 0
+pub unmarked : (n : ℕ) (l : List Item) → IsLineOfText n (content l) → marks_len l ≡ 0
 unmarked n [] h = refl
 unmarked n (x ∷ []) h = by (is_break_item x) h
   where

@@ -114,7 +114,7 @@ later_content s before (letter c ∷ after) =
     else later_content s (letter c ∷ before) after
 later_content s before (thing t ∷ after) = later_content s (thing t ∷ before) after
 
-later_by : (t : Bool) (l : List Item) (ls : List (List Item)) (own more : List Part) → line_parts l ≡ own → after_breaks ls ≡ more
+pub later_by : (t : Bool) (l : List Item) (ls : List (List Item)) (own more : List Part) → line_parts l ≡ own → after_breaks ls ≡ more
     → after_breaks (if t then l ∷ ls else ls) ≡ (if t then parts Text (break ∷ []) ++ (own ++ more) else more)
 later_by true l ls own more e f = ap (λ ps. parts Text (break ∷ []) ++ (ps ++ after_breaks ls)) e ∙ ap (λ ps. parts Text (break ∷ []) ++ (own ++ ps)) f
 later_by false l ls own more e f = f
@@ -128,12 +128,12 @@ later_are s before (letter c ∷ after) n f m =
 later_are s before (thing t ∷ after) n f m = later_are s (thing t ∷ before) after n.1 f.1 m.1
 
 -- a line and what follows it
-both_by : (t : Bool) (own line later all : List Part) → (t ≡ true → own ≡ parts Text (break ∷ [])) → line ++ later ≡ all
+pub both_by : (t : Bool) (own line later all : List Part) → (t ≡ true → own ≡ parts Text (break ∷ [])) → line ++ later ≡ all
     → (if t then [] else own ++ line) ++ (if t then parts Text (break ∷ []) ++ (line ++ later) else later) ≡ own ++ all
 both_by true own line later all i e = ap (λ ps. parts Text (break ∷ []) ++ ps) e ∙ ap (λ ps. ps ++ all) (sym (i refl))
 both_by false own line later all i e = append_assoc own line later ∙ ap (λ ps. own ++ ps) e
 
-break_parts : (s : Setting) (before : List ContentSign) (c : ℕ) (after : List ContentSign) → (c == 10) ≡ true
+pub break_parts : (s : Setting) (before : List ContentSign) (c : ℕ) (after : List ContentSign) → (c == 10) ≡ true
     → parts Text (letter_items (is_escaped s.within s.place before c after) c) ≡ parts Text (break ∷ [])
 break_parts s before c after e =
     let is : 10 ≡ c = grind (arith, nat_tests, e) in

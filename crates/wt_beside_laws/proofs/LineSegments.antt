@@ -35,7 +35,7 @@ use Rattle.wt_beside_laws.proofs.FormKinds.{HasTree, has_tree, form_is_node}
 
 -- ---- segments among which no two apostrophes are side by side
 
-run_first : (u : Segment) (us : List Segment) → has_run (u ∷ us) ≡ false → has_run us ≡ false
+pub run_first : (u : Segment) (us : List Segment) → has_run (u ∷ us) ≡ false → has_run us ≡ false
 run_first u [] e = refl
 run_first u (v ∷ us) e = later (both_quotes u v) (has_run (v ∷ us)) e
   where
@@ -43,7 +43,7 @@ run_first u (v ∷ us) e = later (both_quotes u v) (has_run (v ∷ us)) e
     later true b f = cc
     later false b f = f
 
-run_with : (u : Segment) (us : List Segment) → (u.quote && begins_with_quote us) ≡ false → has_run us ≡ false → has_run (u ∷ us) ≡ false
+pub run_with : (u : Segment) (us : List Segment) → (u.quote && begins_with_quote us) ≡ false → has_run us ≡ false → has_run (u ∷ us) ≡ false
 run_with u [] e f = refl
 run_with u (v ∷ us) e f = neither (both_quotes u v) (has_run (v ∷ us)) e f
   where
@@ -61,7 +61,7 @@ runs_alone (u ∷ v ∷ us) e =
     first true b f = f
     first false b f = refl
 
-no_run_chunks : (us : List Segment) → has_run us ≡ false → HasNoRun (chunks us)
+pub no_run_chunks : (us : List Segment) → has_run us ≡ false → HasNoRun (chunks us)
 unfolding chunks
 no_run_chunks us e = subst (λ rs. HasNoRun (chunks_since [] rs)) (sym (runs_alone us e)) (no_runs [] us)
 
@@ -98,7 +98,7 @@ front_dropped : (own xs : List Item) → drop (length own) (own ++ xs) ≡ xs
 front_dropped [] xs = refl
 front_dropped (x ∷ own) xs = front_dropped own xs
 
-tile_first : (read : Reading) (cx : Context) (w : Shape) (c : Cut) (own xs : List Item) → size w ≡ length own
+pub tile_first : (read : Reading) (cx : Context) (w : Shape) (c : Cut) (own xs : List Item) → size w ≡ length own
     → cut_segments read cx (add_tile w c) (own ++ xs) ≡ tile_segments read cx (w, own) ++ cut_segments read cx c xs
 unfolding loose_segments
 tile_first read cx w c own xs e =
@@ -230,7 +230,7 @@ join_none false true e = cc
 join_none false false e = (refl, refl)
 
 -- no run is empty
-abbrev HaveItems : List (List Item) → Type 0
+abbrev pub HaveItems : List (List Item) → Type 0
 HaveItems [] = Unit {0}
 HaveItems ([] ∷ rs) = ⊥ × HaveItems rs
 HaveItems ((x ∷ r) ∷ rs) = Unit {0} × HaveItems rs
@@ -244,7 +244,7 @@ put_has x ((y ∷ r) ∷ rs) h = by (one_stretch x y)
     by true = (tt, h.1)
     by false = (tt, (tt, h.1))
 
-runs_have : (xs : List Item) → HaveItems (runs one_stretch xs)
+pub runs_have : (xs : List Item) → HaveItems (runs one_stretch xs)
 runs_have [] = tt
 runs_have (x ∷ xs) = put_has x (runs one_stretch xs) (runs_have xs)
 

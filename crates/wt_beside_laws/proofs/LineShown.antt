@@ -41,12 +41,12 @@ twice (b ∷ bs) (c ∷ cs) ended = refl
 twice (b ∷ bs) (c ∷ cs) (along (text ds) ps) = ap (λ xs. along (text (b ∷ xs)) ps) (sym (append_assoc bs (c ∷ cs) ds))
 twice (b ∷ bs) (c ∷ cs) (along (element f qs) ps) = refl
 
-abbrev one_by_one : List Part → Plains → Plains
+abbrev pub one_by_one : List Part → Plains → Plains
 one_by_one [] rest = rest
 one_by_one (loose k o b ∷ ps) rest = text_before (b ∷ []) (one_by_one ps rest)
 one_by_one (node t ∷ ps) rest = plain_before (standing 0 [] t) (one_by_one ps rest)
 
-shown_append : (ps qs : List Part) (rest : Plains) → one_by_one (ps ++ qs) rest ≡ one_by_one ps (one_by_one qs rest)
+pub shown_append : (ps qs : List Part) (rest : Plains) → one_by_one (ps ++ qs) rest ≡ one_by_one ps (one_by_one qs rest)
 shown_append [] qs rest = refl
 shown_append (loose k o b ∷ ps) qs rest = ap (text_before (b ∷ [])) (shown_append ps qs rest)
 shown_append (node t ∷ ps) qs rest = ap (plain_before (standing 0 [] t)) (shown_append ps qs rest)
@@ -82,7 +82,7 @@ runs_show n before (r ∷ rs) ps rest h t =
     ∙ run_shows n before r h.0 (one_by_one h.0 rest) h.2 (texts_first r h.0 both)
     ∙ sym (ap (λ qs. one_by_one qs rest) h.1 ∙ shown_append r h.0 rest)
 
-children_show : (n : ℕ) (before : List Item) (ps : List Part) (rest : Plains) → AreTexts ps → parts_shown_at n before ps rest ≡ one_by_one ps rest
+pub children_show : (n : ℕ) (before : List Item) (ps : List Part) (rest : Plains) → AreTexts ps → parts_shown_at n before ps rest ≡ one_by_one ps rest
 unfolding children
 children_show n before ps rest t = runs_show n before (runs one_leaf ps) ps rest (runs_are one_leaf ps) t
 
@@ -96,7 +96,7 @@ nothing_shown : (rest : Plains) → plain_before (standing 0 [] (nowiki_tree Non
 unfolding label_at
 nothing_shown rest = ap (λ t. plain_before (standing 0 [] t) rest) guard_tree
 
-guard_shows : (u : Bool) (ps : List Part) (rest : Plains) → one_by_one (parts Text (guard_items u) ++ ps) rest ≡ one_by_one ps rest
+pub guard_shows : (u : Bool) (ps : List Part) (rest : Plains) → one_by_one (parts Text (guard_items u) ++ ps) rest ≡ one_by_one ps rest
 guard_shows true ps rest = nothing_shown (one_by_one ps rest)
 guard_shows false ps rest = refl
 
@@ -108,14 +108,14 @@ reference_shows : (c : ℕ) (bs : List ℕ) (rest : Plains) → plain_before (st
 unfolding label_at
 reference_shows c bs rest = refl
 
-letter_shows : (e : Bool) (c : ℕ) (ps : List Part) (rest : Plains) → one_by_one (parts Text (letter_items e c) ++ ps) rest ≡ text_before (encode_utf8 c) (one_by_one ps rest)
+pub letter_shows : (e : Bool) (c : ℕ) (ps : List Part) (rest : Plains) → one_by_one (parts Text (letter_items e c) ++ ps) rest ≡ text_before (encode_utf8 c) (one_by_one ps rest)
 letter_shows true c ps rest = reference_shows c (reference c) (one_by_one ps rest)
 letter_shows false c ps rest =
     shown_append (parts Text (page_chars (encode_utf8 c))) ps rest ∙ bytes_show (encode_utf8 c) (one_by_one ps rest)
 
 -- ---- the content
 
-guard_texts : (u : Bool) → AreTexts (parts Text (guard_items u))
+pub guard_texts : (u : Bool) → AreTexts (parts Text (guard_items u))
 guard_texts u = text_parts (guard_items u)
 
 content_texts : (s : Setting) (before signs : List ContentSign) → AreNodes signs → AreFlat signs → AreTexts (content_parts s before signs)

@@ -39,18 +39,18 @@ break = char None 10
 
 -- ---- its lines
 
-record ContentLines (xs : List Item) (t : ItemTree) : Type 0 where
-  first : List Item
-  others : List (List Item)
-  are : full_lines xs ≡ first ∷ others
-  text : (n : ℕ) → All (IsLineOfText n) (map content (first ∷ others))
-  unended : last_break (ending first) others ≡ []
-  makes : para (map text_row (first ∷ others)) ≡ t
+pub record ContentLines (xs : List Item) (t : ItemTree) : Type 0 where
+  pub first : List Item
+  pub others : List (List Item)
+  pub are : full_lines xs ≡ first ∷ others
+  pub text : (n : ℕ) → All (IsLineOfText n) (map content (first ∷ others))
+  pub unended : last_break (ending first) others ≡ []
+  pub makes : para (map text_row (first ∷ others)) ≡ t
 
 abbrev one_empty : List (List Item)
 one_empty = [] ∷ []
 
-lines_by : (xs : List Item) (t : ItemTree) (ls : List (List Item)) → full_lines xs ≡ ls → AreRuns goes_on ls xs → empty_end xs ≡ []
+pub lines_by : (xs : List Item) (t : ItemTree) (ls : List (List Item)) → full_lines xs ≡ ls → AreRuns goes_on ls xs → empty_end xs ≡ []
     → ((n : ℕ) → All (IsLineOfText n) (map content ls)) → para (map text_row ls) ≡ t → ContentLines xs t
 lines_by xs t [] i r e a p = let no : one_empty ≡ [] = sym (ap empty_end r) ∙ e in cc
 lines_by xs t (l ∷ ls) i r e a p =
@@ -142,7 +142,7 @@ stands_parts xs (y ∷ ys) t c e =
 
 -- ---- between other lines
 
-stands_so : (before own tail : List Item) (t : ItemTree) → EndsApart before → ContentLines own t → EndsParagraph tail
+pub stands_so : (before own tail : List Item) (t : ItemTree) → EndsApart before → ContentLines own t → EndsParagraph tail
     → meaning (before ++ (own ++ tail)) ≡ body_with (blocks_in before ++ t ∷ blocks_in tail)
 stands_so before own tail t a c e =
     let all : parts_in (before ++ (own ++ tail)) ≡ parts_in before ++ node t ∷ parts_in tail =

@@ -353,7 +353,7 @@ no_equals = record { bracket = refl; greater = refl; underscore = refl; apostrop
     small_by : (b : ℕ) → is_small b ≡ true → is_equals_sign b ≡ false
     small_by b e = grind (arith, nat_tests, e)
 
-unequal_by : (r : Role) (items : List Item) → IsNode r (map glyph_of items) → EndsUnequal r (map sign items) → EndsWithout is_equals_sign (map sign items)
+pub unequal_by : (r : Role) (items : List Item) → IsNode r (map glyph_of items) → EndsUnequal r (map sign items) → EndsWithout is_equals_sign (map sign items)
 unequal_by (Bare ends) items n e = e
 unequal_by Link items n e = last_sign is_equals_sign items refl refl (link_fails is_equals_sign (map glyph_of items) no_equals n)
 unequal_by External items n e = last_sign is_equals_sign items refl refl (external_fails is_equals_sign (map glyph_of items) no_equals n)

@@ -97,7 +97,7 @@ word_before Node d e = tt
 
 -- ---- where `<nowiki/>` is put, and the ends
 
-atom_may : (r : Role) → MayBeBehind r glyph.Atom
+pub atom_may : (r : Role) → MayBeBehind r glyph.Atom
 atom_may Link = refl
 atom_may External = tt
 atom_may (Bare ends) = refl

@@ -1,5 +1,5 @@
 -- The nodes that a content has of the page stay, and meet as they may.
-use Rattle.std.proofs.Common.{arith, ◌≡◌, ℕ, ◌+◌, ◌<◌, ◌==◌, Bool, true, false, Option, Some, List, [], ◌∷◌, ◌++◌, length, refl, sym, ap, ◌∙◌, subst, inl, inr, ◌⊎◌}
+use Rattle.std.proofs.Common.{arith, ◌≡◌, ℕ, ◌+◌, ◌<◌, ◌==◌, Bool, true, false, Option, Some, List, [], ◌∷◌, ◌++◌, length, map, refl, sym, ap, ◌∙◌, subst, inl, inr, ◌⊎◌}
 use Rattle.std.specs.Prelude.{◌&&◌, ◌||◌, not, encode_utf8, if◌then◌else◌}
 use Rattle.std.specs.Char.{to_ascii_lowercase}
 use Rattle.std.proofs.lemmas.Bool.Decides.{nat_tests}
@@ -11,17 +11,21 @@ use Rattle.wt_guards.specs.Content.{ContentSign, Thing, letter, thing, side_of, 
 use Rattle.wt_guards.specs.Guards.{Setting, end_of, start_of, is_reached, has_brace_last, is_mark, is_always_parted, is_adjacent, left_side, is_parted, is_between_guard, is_guarded}
 use Rattle.wt_guards.specs.Table.{hazard}
 use Rattle.wt_spelling_laws.proofs.TextReads.{or_parts}
+use Rattle.wt_expand.specs.PageItems.{page_items}
+use Rattle.wt_text_edit_laws.proofs.Prose.InFront.{reads_nothing, read_items}
+use Rattle.wt_span.specs.Items.{Item}
 use Rattle.wt_tiles.specs.declared.glyph.Glyph.{Glyph}
 use Rattle.wt_tiles.specs.declared.glyph.Glyph.TheVariants as glyph
 use Rattle.wt_tiles.specs.declared.glyph.GlyphClass.TheVariants as class
 use Rattle.wt_tiles.specs.declared.shape.Shape.{Shape}
 use Rattle.wt_tiles.specs.declared.shape.TileKind.{TileKind}
 use Rattle.wt_tiles.specs.Contexts.{in_line}
-use Rattle.wt_tiles.specs.Glyphs.{is_in, first_is}
+use Rattle.wt_tiles.specs.Glyphs.{glyph_of, is_in, first_is}
 use Rattle.wt_tiles.specs.Urls.{is_dropped, is_word, bare_url_at}
 use Rattle.wt_beside_laws.specs.Cuts.{own_glyphs, ends_word, form_before}
 use Rattle.wt_beside_laws.specs.Nodes.{IsNode, IsDelimiter, IsOneLexeme, IsTagNode, IsCategoryNode, IsMediaNode, AreNodes, MayBeBehind, MayFollow, MayLead, MeetAt, AllMeet}
 use Rattle.wt_beside_laws.specs.Stood.{is_url_end, EndsUrl, IsTileOf, IsRead, HasBehind, line_glyphs, AreStood, AreAt, things}
+use Rattle.wt_beside_laws.proofs.Among.{AreAmong, same_among}
 use Rattle.wt_beside_laws.proofs.NodesBegin.{no_url}
 use Rattle.wt_beside_laws.proofs.NodesEnd.{external_last, lexeme_last, other_last}
 use Rattle.wt_beside_laws.proofs.Stood.{stood}
@@ -50,7 +54,7 @@ other_trail own n = elim n [
   ]
 ]
 
-delimiter_trail : (own : List Glyph) → IsDelimiter own → NoTrail own
+pub delimiter_trail : (own : List Glyph) → IsDelimiter own → NoTrail own
 delimiter_trail own n = elim n [
   | inl i ↦ subst NoTrail (sym i) refl
   | inr i ↦ subst NoTrail (sym i) refl
@@ -81,7 +85,7 @@ bare_never ends (Group g) own n e = absurd n
 bare_never ends Function own n e = cc
 bare_never ends Node own n e = cc
 
-follows_none : (own : List Glyph) (r : Role) → ((g : Glyph) → MayBeBehind r g) → MayFollow r own
+pub follows_none : (own : List Glyph) (r : Role) → ((g : Glyph) → MayBeBehind r g) → MayFollow r own
 follows_none [] r f = tt
 follows_none (g ∷ gs) r f = f g
 
@@ -122,11 +126,11 @@ table_leads r Node own n e = tt
 
 -- ---- two nodes side by side
 
-abbrev Meet : Thing → Thing → Type 0
+abbrev pub Meet : Thing → Thing → Type 0
 Meet t n = MayFollow t.role (own_glyphs n) × MayLead n.role (ends_word false (own_glyphs t))
 
 -- if they are so in the page
-abbrev MeetInPage : Thing → Thing → Type 0
+abbrev pub MeetInPage : Thing → Thing → Type 0
 MeetInPage t n = is_adjacent t n ≡ true → Meet t n
 
 no_mark : (r : Role) (own : List Glyph) → IsNode r own → is_mark r ≡ false
@@ -178,19 +182,19 @@ EachMeets [] = Unit {0}
 EachMeets (t ∷ []) = Unit {0}
 EachMeets (t ∷ n ∷ ts) = MeetInPage t n × EachMeets (n ∷ ts)
 
-nodes_of : (signs : List ContentSign) → EachIsNode (things signs) → AreNodes signs
+pub nodes_of : (signs : List ContentSign) → EachIsNode (things signs) → AreNodes signs
 nodes_of [] h = tt
 nodes_of (letter c ∷ after) h = nodes_of after h
 nodes_of (thing t ∷ after) h = (h.0, nodes_of after h.1)
 
 -- the node that is directly before a place
-abbrev before_of : List ContentSign → List Thing
+abbrev pub before_of : List ContentSign → List Thing
 before_of [] = []
 before_of (letter c ∷ before) = []
 before_of (thing t ∷ before) = t ∷ []
 
 -- of it and those that come
-abbrev Come : List ContentSign → List ContentSign → Type 0
+abbrev pub Come : List ContentSign → List ContentSign → Type 0
 Come before signs = EachIsNode (before_of before ++ things signs) × EachMeets (before_of before ++ things signs)
 
 letter_comes : (before : List ContentSign) (ts : List Thing) → EachIsNode (before_of before ++ ts) × EachMeets (before_of before ++ ts) → EachIsNode ts × EachMeets ts
@@ -222,7 +226,7 @@ thing_meets s false [] n after e h = tt
 thing_meets s false (letter d ∷ before) n after e h = tt
 thing_meets s false (thing t ∷ before) n after e h = meet t n h.0.0 h.0.1.0 h.1.0 (unparted s t n before after e)
 
-all_meet : (s : Setting) (before signs : List ContentSign) → Come before signs → AllMeet s before signs []
+pub all_meet : (s : Setting) (before signs : List ContentSign) → Come before signs → AllMeet s before signs []
 all_meet s before [] h = end_meets (is_guarded s before []) before
 all_meet s before (letter c ∷ after) h =
     (letter_meets (is_guarded s before (letter c ∷ after)) before c after, all_meet s (letter c ∷ before) after (letter_comes before (things after) h))
@@ -231,7 +235,7 @@ all_meet s before (thing n ∷ after) h =
 
 -- ---- of the page
 
-each_node : (a : Bool) (olds : List ContentSign) → AreStood a olds → EachIsNode (things olds)
+pub each_node : (a : Bool) (olds : List ContentSign) → AreStood a olds → EachIsNode (things olds)
 each_node a [] h = tt
 each_node a (letter c ∷ after) h = each_node (is_word c) after h
 each_node a (thing t ∷ after) h =
@@ -340,40 +344,84 @@ at_same t n end start stop p e i f h =
     let right : start_of n.place ≡ Some start = ap start_of f in
     reached_is end start (ap (λ (o : Option ℕ). is_reached (Some end) o) (sym right) ∙ ap (λ (o : Option ℕ). is_reached o (start_of n.place)) (sym left) ∙ h)
 
--- letters between them part them
-abbrev MeetsFirst : Thing → List Thing → Type 0
-MeetsFirst t [] = Unit {0}
-MeetsFirst t (n ∷ ts) = MeetInPage t n
+-- A node and those that come behind it: one that is directly behind it meets it as in the page, and between it and any other one is something.
+abbrev pub MeetsEach : Thing → List Thing → Type 0
+MeetsEach t [] = Unit {0}
+MeetsEach t (n ∷ ts) = MeetInPage t n × MeetsEach t ts
 
-far : (t : Thing) (end at : ℕ) (p : Stretch) (after : List ContentSign) → t.place ≡ Some p → p.end ≡ end → end < at → AreAt at after → MeetsFirst t (things after)
+abbrev pub PairsMeet : List Thing → Type 0
+PairsMeet [] = Unit {0}
+PairsMeet (t ∷ ts) = MeetsEach t ts × PairsMeet ts
+
+pairs_first : (ts : List Thing) → PairsMeet ts → EachMeets ts
+pairs_first [] h = tt
+pairs_first (t ∷ []) h = tt
+pairs_first (t ∷ n ∷ ts) h = (h.0.0, pairs_first (n ∷ ts) h.1)
+
+each_of : (t : Thing) (ts os : List Thing) → AreAmong ts os → MeetsEach t os → MeetsEach t ts
+each_of t [] os a h = tt
+each_of t (n ∷ ts) [] a h = absurd a
+each_of t (n ∷ ts) (o ∷ os) (inl s) h = (subst (MeetInPage t) (sym s.0) h.0, each_of t ts os s.1 h.1)
+each_of t (n ∷ ts) (o ∷ os) (inr r) h = each_of t (n ∷ ts) os r h.1
+
+-- so of some of them
+pairs_of : (ts os : List Thing) → AreAmong ts os → PairsMeet os → PairsMeet ts
+pairs_of [] os a h = tt
+pairs_of (t ∷ ts) [] a h = absurd a
+pairs_of (t ∷ ts) (o ∷ os) (inl s) h = (subst (λ (n : Thing). MeetsEach n ts) (sym s.0) (each_of o ts os s.1 h.0), pairs_of ts os s.1 h.1)
+pairs_of (t ∷ ts) (o ∷ os) (inr r) h = pairs_of (t ∷ ts) os r h.1
+
+source_some : (bs : List ℕ) → 0 < length (map glyph_of (page_items bs)) → 0 < length bs
+source_some [] h =
+    let z : length (map glyph_of (page_items [])) ≡ 0 = ap (λ (xs : List Item). length (map glyph_of xs)) (read_items [] [] reads_nothing) in
+    absurd (omega (arith, z, h))
+source_some (b ∷ bs) h = omega arith
+
+far : (t : Thing) (end at : ℕ) (p : Stretch) (after : List ContentSign) → t.place ≡ Some p → p.end ≡ end → end < at → AreAt at after → MeetsEach t (things after)
 far t end at p [] e i lt places = tt
 far t end at p (letter c ∷ after) e i lt places =
     let some = encode_some c in far t end (at + length (encode_utf8 c)) p after e i (omega (arith, lt, some)) places
-far t end at p (thing n ∷ after) e i lt places =
-    λ h. let same : end ≡ at = at_same t n end at (at + length n.source) p e i places.0 h in absurd (omega (arith, lt, same))
+far t end at p (thing n ∷ after) e i lt places = (
+  λ h. let same : end ≡ at = at_same t n end at (at + length n.source) p e i places.0 h in absurd (omega (arith, lt, same)),
+  far t end (at + length n.source) p after e i (omega (arith, lt)) places.1,
+)
 
 next : (a : Bool) (t : Thing) (end : ℕ) (p : Stretch) (after : List ContentSign) → t.place ≡ Some p → p.end ≡ end → AreAt end after
-    → IsRead a t.role (own_glyphs t) (line_glyphs after) → AreStood (ends_word a (own_glyphs t)) after → MeetsFirst t (things after)
+    → IsRead a t.role (own_glyphs t) (line_glyphs after) → AreStood (ends_word a (own_glyphs t)) after → MeetsEach t (things after)
 next a t end p [] e i places h k = tt
 next a t end p (letter c ∷ after) e i places h k =
     let some = encode_some c in far t end (end + length (encode_utf8 c)) p after e i (omega (arith, some)) places
-next a t end p (thing n ∷ after) e i places h k = λ z. beside a t n after h k.0
+next a t end p (thing n ∷ after) e i places h k =
+    let some : 0 < length n.source = source_some n.source (form_some (ends_word a (own_glyphs t)) (own_glyphs n) (line_glyphs after) k.0.shape k.0.form) in
+    (λ z. beside a t n after h k.0, far t end (end + length n.source) p after e i (omega (arith, some)) places.1)
 
-one_more : (t : Thing) (ts : List Thing) → MeetsFirst t ts → EachMeets ts → EachMeets (t ∷ ts)
-one_more t [] h k = tt
-one_more t (n ∷ ts) h k = (h, k)
+pub all_pairs : (a : Bool) (at : ℕ) (olds : List ContentSign) → AreStood a olds → AreAt at olds → PairsMeet (things olds)
+all_pairs a at [] h places = tt
+all_pairs a at (letter c ∷ after) h places = all_pairs (is_word c) (at + length (encode_utf8 c)) after h places
+all_pairs a at (thing t ∷ after) h places = (
+  next a t (at + length t.source) (record { start = at; end = at + length t.source }) after places.0 refl places.1 h.0 h.1,
+  all_pairs (ends_word a (own_glyphs t)) (at + length t.source) after h.1 places.1,
+)
 
-each_meets : (a : Bool) (at : ℕ) (olds : List ContentSign) → AreStood a olds → AreAt at olds → EachMeets (things olds)
-each_meets a at [] h places = tt
-each_meets a at (letter c ∷ after) h places = each_meets (is_word c) (at + length (encode_utf8 c)) after h places
-each_meets a at (thing t ∷ after) h places =
-    one_more t (things after)
-    (next a t (at + length t.source) (record { start = at; end = at + length t.source }) after places.0 refl places.1 h.0 h.1)
-    (each_meets (ends_word a (own_glyphs t)) (at + length t.source) after h.1 places.1)
+-- ---- some of its nodes, in their order
+
+nodes_among : (ts os : List Thing) → AreAmong ts os → EachIsNode os → EachIsNode ts
+nodes_among [] os a h = tt
+nodes_among (t ∷ ts) [] a h = absurd a
+nodes_among (t ∷ ts) (o ∷ os) (inl s) h = (subst (λ (n : Thing). IsNode n.role (own_glyphs n)) (sym s.0) h.0, nodes_among ts os s.1 h.1)
+nodes_among (t ∷ ts) (o ∷ os) (inr r) h = nodes_among (t ∷ ts) os r h.1
+
+pub some_stay : (olds signs : List ContentSign) → AreStood false olds → AreAmong (things signs) (things olds) → AreNodes signs
+some_stay olds signs h some = nodes_of signs (nodes_among (things signs) (things olds) some (each_node false olds h))
+
+pub some_meet : (s : Setting) (olds signs : List ContentSign) (at : ℕ) → AreStood false olds → AreAt at olds → AreAmong (things signs) (things olds)
+    → AllMeet s [] signs []
+some_meet s olds signs at h places some =
+    all_meet s [] signs
+    (nodes_among (things signs) (things olds) some (each_node false olds h), pairs_first (things signs) (pairs_of (things signs) (things olds) some (all_pairs false at olds h places)))
 
 pub nodes_stay : (olds signs : List ContentSign) → AreStood false olds → things signs ≡ things olds → AreNodes signs
-nodes_stay olds signs h same = nodes_of signs (subst EachIsNode (sym same) (each_node false olds h))
+nodes_stay olds signs h same = some_stay olds signs h (same_among (things signs) (things olds) same)
 
 pub nodes_meet : (s : Setting) (olds signs : List ContentSign) (at : ℕ) → AreStood false olds → AreAt at olds → things signs ≡ things olds → AllMeet s [] signs []
-nodes_meet s olds signs at h places same =
-    all_meet s [] signs (subst EachIsNode (sym same) (each_node false olds h), subst EachMeets (sym same) (each_meets false at olds h places))
+nodes_meet s olds signs at h places same = some_meet s olds signs at h places (same_among (things signs) (things olds) same)

@@ -17,3 +17,11 @@ pub mod Beginnings
 pub mod SentPieces
 pub mod Calm
 pub mod FlatPages
+pub mod FlatBlocks
+pub mod ContentEdits
+pub mod Nests
+pub mod Styled
+pub mod StyledShown
+pub mod SentStyled
+pub mod StyledNodes
+pub mod StyledHeadings

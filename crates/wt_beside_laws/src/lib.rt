@@ -1,7 +1,7 @@
 //! Laws of texts that are typed beside nodes that stay: how such a content is read, and that edits which type them are done.
 #![tactic(auto)]
 
-ghost use Rattle.std.specs.Prelude.{◌≡◌, ◌≤◌, ℕ, ◌+◌, Bool, false, Some, None, List, [], ◌∷◌, ◌++◌, length, map, Option};
+ghost use Rattle.std.specs.Prelude.{◌≡◌, ◌≤◌, ◌<◌, ℕ, ◌+◌, Bool, false, Some, None, List, [], ◌∷◌, ◌++◌, length, map, Option};
 ghost use Rattle.wt_span.specs.Items.{Item};
 ghost use Rattle.wt_guards.specs.Content.{ContentSign};
 ghost use Rattle.wt_guards.specs.Guards.{Setting, spelled};
@@ -62,7 +62,21 @@ ghost use Rattle.wt_schema.specs.Read.{page as as_page, read};
 ghost use Rattle.wt_commands.specs.UnmarkedEdits.{DoneByEdit};
 ghost use Rattle.wt_commands.specs.Answers.{done, edit_to};
 ghost use Rattle.wt_beside_laws.specs.FlatPages.{IsFlatPage, IsFlatEdit, sent_flat, new_flat, IsUnmarkedFlatEdit, bare_flat};
+ghost use Rattle.wt_moved_laws.specs.Standing.{standing};
+ghost use Rattle.wt_text_edit_laws.specs.Contents.{IsContent};
+ghost use Rattle.wt_text_edit_laws.specs.TextBlocks.{TextBlock, block_tree};
+ghost use Rattle.wt_beside_laws.specs.ContentEdits.{new_content, MakesContent};
+ghost use Rattle.wt_beside_laws.specs.FlatBlocks.{IsFlatIn, IsFlatEditOf};
 ghost use Rattle.wt_tiles.specs.declared.glyph.GlyphClass.TheVariants as class;
+
+mod styles;
+
+pub use styles::{
+    contents_sent_with_styles_are_such, contents_with_styles_are_such_again,
+    lines_with_styles_have_even_toggles, nodes_of_the_page_stay_in_styles,
+    styles_that_nest_are_read, texts_in_styles_are_one_paragraph, texts_in_styles_are_shown,
+    texts_in_styles_may_be_in_headings, texts_in_styles_stand_between_lines,
+};
 
 /// A content of text that is typed and of nodes that stay, as it is spelled, makes no lexeme over the border of a text and
 /// a node: its items are those of each node by itself, the characters and references of the text, and the nowikis that
@@ -317,4 +331,16 @@ pub fn flat_pages_take_texts_beside_nodes()
 /// references and nowikis that were put.
 pub fn flat_pages_are_such_again()
     ensures { (q : List ℕ) (ps : List Piece) → IsFlatPage q → IsFlatEdit q ps → IsFlatPage (new_flat q ps) }
+{}
+
+/// A paragraph or a heading of flat lines (`IsFlatIn`), wherever it is in a page, takes any texts beside its nodes, which stay
+/// (`IsFlatEditOf`); in a heading they are on one line. Its content is one that is read by itself (`IsContent`). What is sent for it is
+/// taken, what is written for it may stand in the place of the old content and shows what was sent (`MakesContent`), and it is such a
+/// block again.
+pub fn flat_contents_are_made()
+    ensures content { (k : TextBlock) (q : List ℕ) → IsFlatIn k q → IsContent k q }
+    ensures made { (k : TextBlock) (q : List ℕ) (n : ℕ) (before : List Item) (block : Block) (m : Label) (ps : List Piece) → IsFlatIn k q → 0 < n
+        → block ≡ standing n before (block_tree k q) → IsFlatEditOf k block ps → MakesContent k q block m ps }
+    ensures again { (k : TextBlock) (q : List ℕ) (n : ℕ) (before : List Item) (block : Block) (m : Label) (ps : List Piece) → IsFlatIn k q → 0 < n
+        → block ≡ standing n before (block_tree k q) → IsFlatEditOf k block ps → IsFlatIn k (new_content k block m ps) }
 {}

@@ -24,6 +24,7 @@ use Rattle.wt_beside_laws.specs.Content.{guard_items, letter_items}
 use Rattle.wt_beside_laws.specs.Flat.{content_parts}
 use Rattle.wt_text_edit_laws.specs.ParagraphParts.{para_with}
 use Rattle.wt_beside_laws.specs.Stood.{things}
+use Rattle.wt_beside_laws.proofs.Among.{Each}
 use Rattle.wt_beside_laws.proofs.LineShown.{guard_tree}
 
 -- ---- parts
@@ -157,10 +158,6 @@ content_full s before (thing t ∷ after) h =
     (full_both own more h.0 (content_full s (thing t ∷ before) after h.1))
 
 -- ---- of the same nodes
-
-abbrev pub Each : (Thing → Type 0) → List Thing → Type 0
-Each P [] = Unit {0}
-Each P (t ∷ ts) = P t × Each P ts
 
 abbrev pub FullThing : Thing → Type 0
 FullThing t = AreFullParts (line_parts (page_items t.source))

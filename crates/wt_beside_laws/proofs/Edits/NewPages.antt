@@ -64,7 +64,8 @@ use Rattle.wt_beside_laws.proofs.Edits.OldPages.{IsOneBlock, body_label, one_tre
 use Rattle.wt_beside_laws.proofs.Edits.Pieces.{pieces_characters}
 use Rattle.wt_beside_laws.proofs.Edits.FlatEdits.{are_sent, are_edited, ungrouped, answer_so}
 use Rattle.wt_beside_laws.proofs.Edits.OldFull.{old_full}
-use Rattle.wt_beside_laws.proofs.Edits.FullTrees.{Each, para_plain, content_full, same_full}
+use Rattle.wt_beside_laws.proofs.Among.{Each}
+use Rattle.wt_beside_laws.proofs.Edits.FullTrees.{para_plain, content_full, same_full}
 
 -- ---- its nodes are the page's
 
@@ -168,7 +169,7 @@ face_is l ps is = ap (λ (k : Label). face (record k { kind = kind.Para })) is
 abbrev shown_new : List ℕ → List Piece → Plains
 shown_new q ps = along (element para_face (pieces_before ps ended)) ended
 
-show_pieces : (p : Page) (ps : List Piece) → ShowSources p (page_pieces ps) → AreNodesAndTexts ps → PiecesShow p ps
+pub show_pieces : (p : Page) (ps : List Piece) → ShowSources p (page_pieces ps) → AreNodesAndTexts ps → PiecesShow p ps
 show_pieces p [] s a = tt
 show_pieces p (gone t ∷ ps) s a = show_pieces p ps s.1 a
 show_pieces p (written x text ∷ ps) s a = (a.0, show_pieces p ps s a.1)

@@ -35,7 +35,7 @@ use Rattle.wt_text_edit_laws.specs.TypedHeadings.{Sides, AreBlanks, AreSides, No
 
 -- ---- bytes
 
-abbrev has_line : List ℕ → Bool
+abbrev pub has_line : List ℕ → Bool
 has_line [] = false
 has_line (b ∷ bs) = is_break b || has_line bs
 
@@ -366,12 +366,12 @@ char_line c rest true i e =
     let t : true ≡ false = ap (λ (bs : List ℕ). has_line (bs ++ rest)) (sym (encode_ascii 10 (omega arith))) ∙ z in
     absurd cc
 
-chars_line : (cs : List ℕ) → has_line (encodes cs) ≡ false → has_line cs ≡ false
+pub chars_line : (cs : List ℕ) → has_line (encodes cs) ≡ false → has_line cs ≡ false
 chars_line [] e = refl
 chars_line (c ∷ cs) e =
     none_of (is_break c) (has_line cs) (char_line c (encodes cs) (is_break c) refl e) (chars_line cs (line_rest (encode_utf8 c) (encodes cs) e))
 
-same_break : (bs : List ℕ) → has_break bs ≡ has_line bs
+pub same_break : (bs : List ℕ) → has_break bs ≡ has_line bs
 same_break [] = refl
 same_break (b ∷ bs) = ap (λ (v : Bool). is_break b || v) (same_break bs)
 

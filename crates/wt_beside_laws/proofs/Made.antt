@@ -1,0 +1,11 @@
+-- Contents of paragraphs and headings of a page that take texts beside nodes that stay.
+pub mod OwnPages
+pub mod OldBlocks
+pub mod Levels
+pub mod Closes
+pub mod Items
+pub mod Letters
+pub mod Written
+pub mod Inline
+pub mod NewContents
+pub mod Making

@@ -1,0 +1,247 @@
+-- A content that is written for a paragraph or a heading: its lines and parts, how it is read, and that it is such a block again.
+use Rattle.std.proofs.Common.{◌≡◌, ℕ, Bool, None, List, [], ◌∷◌, ◌++◌, map, refl, sym, ap, ap₂, ◌∙◌, subst, append-nil, All}
+use Rattle.std.specs.Prelude.{if◌then◌else◌}
+use Rattle.std.proofs.lemmas.List.Elements.{All-nil, All-cons, All-head, All-tail}
+use Rattle.wt_span.specs.Items.{Item, char}
+use Rattle.wt_tree.specs.declared.edit_shape.Place.TheVariants as place
+use Rattle.wt_guards.specs.Content.{ContentSign, letter, thing}
+use Rattle.wt_guards.specs.Guards.{Setting, spelled}
+use Rattle.wt_expand.specs.PageItems.{page_items}
+use Rattle.wt_lines.specs.declared.kind.LineKind.TheVariants as line
+use Rattle.wt_lines.specs.Kinds.{line_kind}
+use Rattle.wt_lines.specs.Lines.{lines, full_lines, content}
+use Rattle.wt_inline.specs.ItemTree.{forest, held_by_all}
+use Rattle.wt_inline.specs.Parts.{Part, children}
+use Rattle.wt_called_trees.specs.Rounded.{AllHaveItems}
+use Rattle.wt_text_edit_laws.specs.Contents.{AreUnled, AreParagraphLines, IsContentOf, content_parts_of, StaysAnywhere}
+use Rattle.wt_text_edit_laws.specs.NoCalls.{NonePairs, AreUnbraced, CallsNothing}
+use Rattle.wt_text_edit_laws.specs.ParagraphParts.{joined_parts}
+use Rattle.wt_text_edit_laws.specs.TextBetween.{StandsBehind}
+use Rattle.wt_text_edit_laws.specs.TextBlocks.{TextBlock, a_paragraph, a_heading, source_of, block_items}
+use Rattle.wt_text_edit_laws.specs.TypedHeadings.{Sides}
+use Rattle.wt_text_edit_laws.proofs.Between.Fronts.{behind_reads}
+use Rattle.wt_text_edit_laws.proofs.Between.LessBraces.{none_unbraced}
+use Rattle.wt_text_edit_laws.proofs.Blocks.BlockReading.{IsBeforeAny, HasFrame, any_front}
+use Rattle.wt_text_edit_laws.proofs.Blocks.TypedBraces.{line_unbraced}
+use Rattle.wt_text_edit_laws.proofs.Prose.InFront.{Reads, reads_nothing, read_break, read_items}
+use Rattle.wt_text_edit_laws.proofs.Prose.Uncommented.{BeginsUncommented}
+use Rattle.wt_text_edit_laws.proofs.Texts.TypedShown.{AllOfPage}
+use Rattle.wt_beside_laws.specs.Calm.{IsCalm, AreCalm}
+use Rattle.wt_beside_laws.specs.Content.{AreKept}
+use Rattle.wt_beside_laws.specs.Flat.{IsFlatContent, content_parts}
+use Rattle.wt_beside_laws.specs.FlatBlocks.{lines_in, begins_at, signs_in, IsSealed, AreSealed, IsFlatIn}
+use Rattle.wt_beside_laws.specs.InHeadings.{AreOnOneLine, IsHeadingContent}
+use Rattle.wt_beside_laws.specs.Lines.{IsLineOfText, line_items, later_lines, content_lines}
+use Rattle.wt_beside_laws.specs.PageBlocks.{AreUnstyled, AreShut}
+use Rattle.wt_beside_laws.specs.PageSigns.{signs_of_lines, AreFlatLines}
+use Rattle.wt_beside_laws.specs.Stood.{things}
+use Rattle.wt_beside_laws.proofs.Among.{AreAmong}
+use Rattle.wt_beside_laws.proofs.BlockSigns.{some_shut}
+use Rattle.wt_beside_laws.proofs.CalmContents.{content_utf8, content_unbraced, nowiki_calm, reference_calm}
+use Rattle.wt_beside_laws.proofs.Contents.{content_reads, content_alone}
+use Rattle.wt_beside_laws.proofs.FlatAgain.{EachSource, HoldsOfPut, again_flat, again_unstyled, again_kept, again_shut, again_each}
+use Rattle.wt_beside_laws.proofs.LineHeadings.{heading_inside, heading_parts, same_items}
+use Rattle.wt_beside_laws.proofs.LineItems.{content_lines_are}
+use Rattle.wt_beside_laws.proofs.LineKinds.{lines_are_text}
+use Rattle.wt_beside_laws.proofs.LineParagraphs.{unmarked, flat_paragraph}
+use Rattle.wt_beside_laws.proofs.LineRows.{lines_joined}
+use Rattle.wt_beside_laws.proofs.Made.Closes.{nowiki_sealed, reference_sealed, some_sealed}
+use Rattle.wt_beside_laws.proofs.Made.Items.{nodes_have_items}
+use Rattle.wt_beside_laws.proofs.Made.Levels.{keeps_level}
+use Rattle.wt_beside_laws.proofs.Made.OldBlocks.{lines_are}
+use Rattle.wt_beside_laws.proofs.Made.OwnPages.{own_frame}
+
+-- ---- a content of a block of this kind
+
+-- in a heading it is on one line
+abbrev pub FitsIn : TextBlock → Setting → List ContentSign → Type 0
+FitsIn a_paragraph s signs = Unit {0}
+FitsIn (a_heading h) s signs = (s.place ≡ place.Heading) × AreOnOneLine signs
+
+pub record IsWritten (k : TextBlock) (s : Setting) (signs : List ContentSign) : Type 0 where
+  pub flat : IsFlatContent s signs
+  pub fits : FitsIn k s signs
+  pub calm : AreCalm signs
+
+in_heading : (h : Sides) (s : Setting) (signs : List ContentSign) → IsWritten (a_heading h) s signs → IsHeadingContent s signs
+in_heading h s signs w = record { flat = w.flat; of_heading = w.fits.0; one_line = w.fits.1 }
+
+-- ---- its lines
+
+none_later : (s : Setting) (before signs : List ContentSign) → AreOnOneLine signs → later_lines s before signs ≡ []
+none_later s before [] o = refl
+none_later s before (letter c ∷ after) o =
+    ap (λ (t : Bool). if t then line_items s (letter c ∷ before) after ∷ later_lines s (letter c ∷ before) after else later_lines s (letter c ∷ before) after) o.0
+    ∙ none_later s (letter c ∷ before) after o.1
+none_later s before (thing t ∷ after) o = none_later s (thing t ∷ before) after o
+
+pub lines_written : (k : TextBlock) (s : Setting) (signs : List ContentSign) → IsWritten k s signs → lines_in k (spelled s signs) ≡ content_lines s signs
+lines_written a_paragraph s signs w = content_lines_are s signs w.flat.kept w.flat.unbroken
+lines_written (a_heading h) s signs w =
+    ap₂ (λ (l : List Item) (ls : List (List Item)). l ∷ ls) (content_alone s signs w.flat.kept ∙ sym (same_items s [] signs w.fits.1)) (sym (none_later s [] signs w.fits.1))
+
+-- ---- its parts
+
+pub parts_written : (k : TextBlock) (s : Setting) (signs : List ContentSign) → IsWritten k s signs
+    → content_parts_of k (page_items (spelled s signs)) ≡ content_parts s [] signs
+parts_written a_paragraph s signs w =
+    ap joined_parts (content_lines_are s signs w.flat.kept w.flat.unbroken) ∙ lines_joined s [] signs w.flat.nodes w.flat.flat w.flat.meet
+parts_written (a_heading h) s signs w = heading_parts s signs (in_heading h s signs w)
+
+-- ---- how it is read
+
+pub before_any : (s : Setting) (signs : List ContentSign) → AreKept signs → IsBeforeAny (spelled s signs)
+before_any s signs k rest xs r =
+    subst (λ (ys : List Item). Reads (spelled s signs ++ rest) (ys ++ xs)) (sym (content_alone s signs k)) (content_reads s [] signs k rest xs r)
+
+stands : (bs : List ℕ) → BeginsUncommented bs → StandsBehind bs
+stands bs h = record { uncommented = h.is }
+
+pub uncommented : (s : Setting) (signs : List ContentSign) (rest : List ℕ) → AreKept signs → StandsBehind rest → StandsBehind (spelled s signs ++ rest)
+uncommented s signs rest k b =
+    let r : Reads (spelled s signs ++ rest) (page_items (spelled s signs) ++ page_items rest) = before_any s signs k rest (page_items rest) (behind_reads rest b) in
+    stands (spelled s signs ++ rest) r.begins
+
+pub firm : (s : Setting) (signs : List ContentSign) (rest : List ℕ) → AreKept signs → StandsBehind rest
+    → page_items (spelled s signs ++ rest) ≡ page_items (spelled s signs) ++ page_items rest
+firm s signs rest k b =
+    read_items (spelled s signs ++ rest) (page_items (spelled s signs) ++ page_items rest) (before_any s signs k rest (page_items rest) (behind_reads rest b))
+
+alone : (s : Setting) (signs : List ContentSign) → AreKept signs → StandsBehind (spelled s signs)
+alone s signs k =
+    let r : Reads (spelled s signs ++ []) (page_items (spelled s signs) ++ []) = before_any s signs k [] [] reads_nothing in
+    subst StandsBehind (append-nil (spelled s signs)) (stands (spelled s signs ++ []) r.begins)
+
+before_break : (s : Setting) (signs : List ContentSign) → AreKept signs → StandsBehind (spelled s signs ++ 10 ∷ [])
+before_break s signs k =
+    let r : Reads (spelled s signs ++ 10 ∷ []) (page_items (spelled s signs) ++ char None 10 ∷ []) =
+    before_any s signs k (10 ∷ []) (char None 10 ∷ []) (read_break [] [] reads_nothing) in
+    stands (spelled s signs ++ 10 ∷ []) r.begins
+
+-- in its block
+ended_so : (k : TextBlock) (q : List ℕ) → HasFrame k → IsBeforeAny q → page_items (source_of k q ++ 10 ∷ []) ≡ block_items k q ++ char None 10 ∷ []
+ended_so k q f b =
+    read_items (source_of k q ++ 10 ∷ []) (block_items k q ++ char None 10 ∷ [])
+    (any_front k q (10 ∷ []) (char None 10 ∷ []) f b refl (read_break [] [] reads_nothing))
+
+unended_so : (k : TextBlock) (q : List ℕ) → HasFrame k → IsBeforeAny q → page_items (source_of k q) ≡ block_items k q
+unended_so k q f b =
+    ap page_items (sym (append-nil (source_of k q)))
+    ∙ read_items (source_of k q ++ []) (block_items k q ++ []) (any_front k q [] [] f b tt reads_nothing)
+    ∙ append-nil (block_items k q)
+
+-- ---- which lines these are
+
+all_texts : (n : ℕ) (ls : List (List Item)) → All (IsLineOfText n) ls → All (λ l. line_kind n l ≡ line.Text) ls
+all_texts n [] h = All-nil (λ l. line_kind n l ≡ line.Text)
+all_texts n (l ∷ ls) h =
+    All-cons (λ l. line_kind n l ≡ line.Text) l ls (All-head (IsLineOfText n) l ls h).text (all_texts n ls (All-tail (IsLineOfText n) l ls h))
+
+texts_stay : (n : ℕ) (s : Setting) (signs : List ContentSign) → IsFlatContent s signs → All (λ l. line_kind n l ≡ line.Text) (lines (page_items (spelled s signs)))
+texts_stay n s signs f =
+    subst (All (λ l. line_kind n l ≡ line.Text)) (sym (content_lines_are s signs f.kept f.unbroken))
+    (all_texts n (content_lines s signs) (lines_are_text n s signs f.of_block f.characters f.nodes))
+
+pub stays_anywhere : (k : TextBlock) (s : Setting) (signs : List ContentSign) → IsFlatContent s signs → StaysAnywhere k (spelled s signs)
+stays_anywhere a_paragraph s signs f = λ n. texts_stay n s signs f
+stays_anywhere (a_heading h) s signs f = tt
+
+all_unled : (ls : List (List Item)) → All (IsLineOfText 0) (map content ls) → AreUnled ls
+all_unled [] h = tt
+all_unled (l ∷ ls) h =
+    (unmarked 0 l (All-head (IsLineOfText 0) (content l) (map content ls) h), all_unled ls (All-tail (IsLineOfText 0) (content l) (map content ls) h))
+
+paragraph_written : (s : Setting) (signs : List ContentSign) → IsFlatContent s signs → AreParagraphLines (spelled s signs)
+paragraph_written s signs f = record {
+  are_lines = texts_stay 0 s signs f;
+  unled = all_unled (full_lines (page_items (spelled s signs))) ((flat_paragraph s signs f).text 0);
+  alone = alone s signs f.kept;
+  before_break = before_break s signs f.kept;
+}
+
+-- of the nodes of flat lines
+content_written : (k : TextBlock) (q : List ℕ) (s : Setting) (signs : List ContentSign) → AreFlatLines (lines_in k q) → HasFrame k → IsWritten k s signs
+    → AreAmong (things signs) (things (signs_in k q)) → IsContentOf k (spelled s signs)
+content_written a_paragraph q s signs l f w e = paragraph_written s signs w.flat
+content_written (a_heading h) q s signs l f w e =
+    let own : IsHeadingContent s signs = in_heading h s signs w in
+    record { frame = f; inside = heading_inside s signs own; of_level = keeps_level (begins_at (a_heading h)) (page_items q ∷ []) s signs h l own f.sides e }
+
+-- ---- it calls nothing
+
+block_unbraced : (k : TextBlock) (s : Setting) (signs : List ContentSign) → HasFrame k → IsWritten k s signs → AreUnbraced (block_items k (spelled s signs))
+block_unbraced a_paragraph s signs f w = content_unbraced s signs w.flat.kept w.calm
+block_unbraced (a_heading h) s signs f w = line_unbraced h (page_items (spelled s signs)) f (content_unbraced s signs w.flat.kept w.calm)
+
+calls_none : (k : TextBlock) (s : Setting) (signs : List ContentSign) → HasFrame k → IsWritten k s signs → CallsNothing (block_items k (spelled s signs))
+calls_none k s signs f w =
+    let xs : List Item = block_items k (spelled s signs) in subst NonePairs (sym (none_unbraced xs (block_unbraced k s signs f w))) tt
+
+-- ---- what holds of its sources
+
+from_calm : (signs : List ContentSign) → AreCalm signs → EachSource IsCalm signs
+from_calm [] h = tt
+from_calm (letter c ∷ after) h = from_calm after h
+from_calm (thing t ∷ after) h = (h.0, from_calm after h.1)
+
+to_calm : (signs : List ContentSign) → EachSource IsCalm signs → AreCalm signs
+to_calm [] h = tt
+to_calm (letter c ∷ after) h = to_calm after h
+to_calm (thing t ∷ after) h = (h.0, to_calm after h.1)
+
+put_calm : HoldsOfPut IsCalm
+put_calm = record { of_nowiki = nowiki_calm; of_reference = reference_calm }
+
+from_sealed : (signs : List ContentSign) → AreSealed signs → EachSource IsSealed signs
+from_sealed [] h = tt
+from_sealed (letter c ∷ after) h = from_sealed after h
+from_sealed (thing t ∷ after) h = (h.0, from_sealed after h.1)
+
+to_sealed : (signs : List ContentSign) → EachSource IsSealed signs → AreSealed signs
+to_sealed [] h = tt
+to_sealed (letter c ∷ after) h = to_sealed after h
+to_sealed (thing t ∷ after) h = (h.0, to_sealed after h.1)
+
+put_sealed : HoldsOfPut IsSealed
+put_sealed = record { of_nowiki = nowiki_sealed; of_reference = reference_sealed }
+
+-- ---- it is such a block again
+
+-- what holds of the lines of what was sent holds of the lines that are written
+of_written : (P : List (List Item) → Type 0) (k : TextBlock) (s : Setting) (signs : List ContentSign) → IsWritten k s signs → P (content_lines s signs)
+    → P (lines_in k (spelled s signs))
+of_written P k s signs w h = subst P (sym (lines_written k s signs w)) h
+
+held_again : (k : TextBlock) (q : List ℕ) (s : Setting) (signs : List ContentSign) → IsFlatIn k q → AreAmong (things signs) (things (signs_in k q))
+    → AllHaveItems (forest (children (content_parts s [] signs))) × AllOfPage (held_by_all (forest (children (content_parts s [] signs))))
+held_again k q s signs h e =
+    nodes_have_items s (lines_in k q) (begins_at k) signs h.flat h.unstyled e
+    (subst (λ (ps : List Part). AllHaveItems (forest (children ps))) (lines_are k q) h.has_items)
+    (subst (λ (ps : List Part). AllOfPage (held_by_all (forest (children ps)))) (lines_are k q) h.of_page)
+
+pub flat_again : (k : TextBlock) (q : List ℕ) (s : Setting) (signs : List ContentSign) → IsFlatIn k q → IsWritten k s signs → AreAmong (things signs) (things (signs_in k q))
+    → IsFlatIn k (spelled s signs)
+flat_again k q s signs h w e =
+    let f : HasFrame k = own_frame k q h.is in
+    let b : IsBeforeAny (spelled s signs) = before_any s signs w.flat.kept in
+    let held = held_again k q s signs h e in
+    let parts : content_parts_of k (page_items (spelled s signs)) ≡ content_parts s [] signs = parts_written k s signs w in
+    let at : ℕ = begins_at k in
+    record {
+      utf8 = content_utf8 s signs w.flat.characters w.calm;
+      ended = ended_so k (spelled s signs) f b;
+      unended = unended_so k (spelled s signs) f b;
+      is = content_written k q s signs h.flat f w e;
+      calls_nothing = calls_none k s signs f w;
+      of_page = subst (λ (ps : List Part). AllOfPage (held_by_all (forest (children ps)))) (sym parts) held.1;
+      has_items = subst (λ (ps : List Part). AllHaveItems (forest (children ps))) (sym parts) held.0;
+      flat = of_written AreFlatLines k s signs w (again_flat s signs w.flat);
+      unstyled = of_written AreUnstyled k s signs w (again_unstyled s signs w.flat);
+      kept = of_written (λ (ls : List (List Item)). AreKept (signs_of_lines at ls)) k s signs w (again_kept at s signs w.flat);
+      calm = of_written (λ (ls : List (List Item)). AreCalm (signs_of_lines at ls)) k s signs w
+          (to_calm (signs_of_lines at (content_lines s signs)) (again_each IsCalm put_calm at s signs w.flat (from_calm signs w.calm)));
+      shut = of_written (λ (ls : List (List Item)). AreShut (signs_of_lines at ls)) k s signs w
+          (again_shut at s signs w.flat (some_shut (signs_in k q) signs e h.shut));
+      sealed = of_written (λ (ls : List (List Item)). AreSealed (signs_of_lines at ls)) k s signs w
+          (to_sealed (signs_of_lines at (content_lines s signs)) (again_each IsSealed put_sealed at s signs w.flat (from_sealed signs (some_sealed (signs_in k q) signs e h.sealed))));
+    }

@@ -1,0 +1,15 @@
+-- Texts beside and inside of bold and italic.
+pub mod NestRuns
+pub mod NestToggles
+pub mod NestStyles
+pub mod NestForests
+pub mod NestReads
+pub mod StyledSigns
+pub mod StyledLines
+pub mod StyledParagraphs
+pub mod StyledShown
+pub mod SentStyles
+pub mod StyledNodes
+pub mod StyledHeadings
+pub mod StyledAgain
+mod Cases

@@ -1,0 +1,96 @@
+-- A paragraph or a heading of the page that holds text and nodes that stay, by its lines; and texts that are typed in it beside the nodes.
+use Rattle.std.specs.Prelude.{◌≡◌, ℕ, true, false, None, List, [], ◌∷◌, ◌++◌, length}
+use Rattle.std.specs.List.{list_all}
+use Rattle.std.specs.Str.{IsUtf8}
+use Rattle.wt_span.specs.Characters as byte
+use Rattle.wt_span.specs.Items.{Item, char}
+use Rattle.wt_span.specs.Tags.{to_closing}
+use Rattle.wt_tree.specs.Tree.{Tree}
+use Rattle.wt_guards.specs.Content.{ContentSign, letter, thing}
+use Rattle.wt_link_spelling.specs.Spelling.{children_of}
+use Rattle.wt_expand.specs.PageItems.{page_items}
+use Rattle.wt_lines.specs.Lines.{lines}
+use Rattle.wt_inline.specs.ItemTree.{forest, held_by_all}
+use Rattle.wt_inline.specs.Parts.{children}
+use Rattle.wt_content.specs.Content.{has_break}
+use Rattle.wt_annotated.specs.Clean.{is_page}
+use Rattle.wt_called_trees.specs.Rounded.{AllHaveItems}
+use Rattle.wt_typed_blocks.specs.Edited.{Piece, gone, written, kept, page_pieces, PiecesStay}
+use Rattle.wt_text_edit_laws.specs.Contents.{IsContentOf, content_parts_of}
+use Rattle.wt_text_edit_laws.specs.NoCalls.{CallsNothing}
+use Rattle.wt_text_edit_laws.specs.TextBlocks.{TextBlock, a_paragraph, a_heading, source_of, block_items}
+use Rattle.wt_text_edit_laws.specs.TypedHeadings.{opening}
+use Rattle.wt_beside_laws.specs.Calm.{AreCalm}
+use Rattle.wt_beside_laws.specs.Content.{AreKept}
+use Rattle.wt_beside_laws.specs.FlatPages.{AreNodesAndTexts}
+use Rattle.wt_beside_laws.specs.PageBlocks.{AreUnstyled, AreShut}
+use Rattle.wt_beside_laws.specs.PageSigns.{signs_of_lines, AreFlatLines}
+
+-- ---- its lines
+
+-- a heading has one
+abbrev pub lines_in : TextBlock → List ℕ → List (List Item)
+lines_in a_paragraph q = lines (page_items q)
+lines_in (a_heading s) q = page_items q ∷ []
+
+-- how many bytes of it come before its content
+abbrev pub begins_at : TextBlock → ℕ
+begins_at a_paragraph = 0
+begins_at (a_heading s) = length (opening s)
+
+-- its signs, by the tiles of its lines
+abbrev pub signs_in : TextBlock → List ℕ → List ContentSign
+signs_in k q = signs_of_lines (begins_at k) (lines_in k q)
+
+-- ---- closing tags
+
+-- Each closing tag that begins in this source ends in it, whatever follows: where none of this name is in the source before something, and none in
+-- what is written behind it, none is in both.
+pub record IsSealed (source : List ℕ) : Type 0 where
+  pub closes : (name us vs : List ℕ) → to_closing name (source ++ us) ≡ None → to_closing name vs ≡ None → to_closing name (source ++ vs) ≡ None
+
+-- so each node's source
+abbrev pub AreSealed : List ContentSign → Type 0
+AreSealed [] = Unit {0}
+AreSealed (letter c ∷ after) = AreSealed after
+AreSealed (thing t ∷ after) = IsSealed t.source × AreSealed after
+
+-- ---- the block
+
+-- A content that is read by itself and calls nothing: text, in which no style begins, and forms that are nodes, which stay whatever is written
+-- beside them. The source of each is read so whatever follows it, and ends neither in an open tag nor in a part of a closing one.
+pub record IsFlatIn (k : TextBlock) (q : List ℕ) : Type 0 where
+  pub utf8 : IsUtf8 q
+  pub ended : page_items (source_of k q ++ byte.line_break ∷ []) ≡ block_items k q ++ char None byte.line_break ∷ []
+  pub unended : page_items (source_of k q) ≡ block_items k q
+  pub is : IsContentOf k q
+  pub calls_nothing : CallsNothing (block_items k q)
+  pub of_page : list_all is_page (held_by_all (forest (children (content_parts_of k (page_items q))))) ≡ true
+  pub has_items : AllHaveItems (forest (children (content_parts_of k (page_items q))))
+  pub flat : AreFlatLines (lines_in k q)
+  pub unstyled : AreUnstyled (lines_in k q)
+  pub kept : AreKept (signs_in k q)
+  pub calm : AreCalm (signs_in k q)
+  pub shut : AreShut (signs_in k q)
+  pub sealed : AreSealed (signs_in k q)
+
+-- ---- what is sent for it
+
+-- no text has a line break
+abbrev pub AreOneLine : List Piece → Type 0
+AreOneLine [] = Unit {0}
+AreOneLine (gone t ∷ ps) = AreOneLine ps
+AreOneLine (written x text ∷ ps) = (has_break text ≡ false) × AreOneLine ps
+AreOneLine (kept t u ∷ ps) = AreOneLine ps
+
+-- so it is in a heading
+abbrev pub TextsFitIn : TextBlock → List Piece → Type 0
+TextsFitIn a_paragraph ps = Unit {0}
+TextsFitIn (a_heading s) ps = AreOneLine ps
+
+-- Nodes of this block stay, in their order, and each is sent as it is; any texts are between them, in a heading on one line. What else it held is gone.
+pub record IsFlatEditOf (k : TextBlock) (block : Tree) (ps : List Piece) : Type 0 where
+  pub old : page_pieces ps ≡ children_of block
+  pub stay : PiecesStay ps
+  pub are : AreNodesAndTexts ps
+  pub fit : TextsFitIn k ps
