@@ -5,7 +5,6 @@ use Rattle.std.specs.List.{AllByRecursion}
 use Rattle.wt_tree.specs.declared.kind.Kind.{Kind}
 use Rattle.wt_tree.specs.declared.kind.Kind.TheVariants as kind
 use Rattle.wt_tree.specs.Kinds.{showing}
-use Rattle.wt_tree.specs.Tiling.{is_group}
 use Rattle.wt_tree.specs.Tree.{Tree, tree, Trees, none, more, label, listed}
 use Rattle.wt_checks.specs.Alike.{same_kind}
 use Rattle.wt_checks.specs.Kept.{children}
@@ -21,17 +20,16 @@ use Rattle.wt_difference.specs.Difference.{is_partner, same_inside, stays_in}
 use Rattle.wt_difference.specs.Insides.{before_blocks, behind_inside, ends_inside, from_blocks, has_inside, held, is_block_part}
 use Rattle.wt_difference.specs.Tokens.{all_tokens, same_tokens}
 use Rattle.wt_difference.specs.Unedited.{IsUnedited}
-use Rattle.wt_difference.proofs.Remarks.{block_no_group}
 use Rattle.wt_places.specs.declared.reached.Reached.{Reached}
 use Rattle.wt_places.specs.declared.slot.Slot.{Slot}
 use Rattle.wt_places.specs.Places.{along, arrived, before_number, begun, end_behind, gap, gap_before, gap_end, if_in_turn, inside_end, inside_place, inside_start, inside_stop, node_or, partner, places, places_in, rest_behind, slot, some_count}
 use Rattle.wt_places.specs.Turns.{is_in_turn, may_stay, turns}
 use Rattle.wt_places.proofs.Walking.{places_out}
-use Rattle.wt_turn_laws.specs.Untouched.{IsBeside, IsNumberedBehind, IsUntouched, IsWholePage, StaysAt, StaysInTurn}
+use Rattle.wt_turn_laws.specs.Untouched.{IsBeside, IsNumberedBehind, IsUntouched, IsWholePage, StaysAt, StaysInTurn, is_looked_into}
 use Rattle.wt_turn_laws.proofs.Choosing.{InTurn, both, in_turn}
 use Rattle.wt_turn_laws.proofs.Fitting.{Fits, closes_before, end_at, fits, opens_behind, start_at}
 use Rattle.wt_turn_laws.proofs.Standing.{Known, Sound, Stands, Within, root_holds, root_number, sound}
-use Rattle.wt_turn_laws.proofs.Unedited.{holds, no_frames, none_in}
+use Rattle.wt_turn_laws.proofs.Unedited.{holds, looked_block, no_frames, none_in}
 
 each_map : {X : Type 0} (P Q : X → Type 0) (xs : List X) → ((x : X) → P x → Q x) → AllByRecursion P xs → AllByRecursion Q xs
 each_map P Q [] f h = tt
@@ -411,7 +409,7 @@ pub record Begins (page : Page) (t u : Tree) : Type 0 where
   pub fitting : Fits t
   pub kind : (label t).kind ≡ (label u).kind
   pub unframed : have_frame (children u) ≡ false
-  pub none : IsNumberedBehind t → is_group (label u).kind ≡ false → IsUnedited t u → places_in page t u ≡ []
+  pub none : IsNumberedBehind t → is_looked_into (label u).kind ≡ true → IsUnedited t u → places_in page t u ≡ []
 
 begins : (page : Page) → Sound page → (t u : Tree) (i : ℕ) (w : Tree) → Begins page t u → StaysInTurn page t u i w → Begins page (partner page w) w
 begins page s t u i w b turn =
@@ -428,10 +426,10 @@ begins page s t u i w b turn =
       fitting = c.fitting;
       kind = c.kind;
       unframed = free;
-      none = λ n g e. none_in page (partner page w) w h.1 h.0 n (ap is_group c.kind ∙ g) e free;
+      none = λ n g e. none_in page (partner page w) w h.1 h.0 n (ap is_looked_into c.kind ∙ g) e free;
     }
 
-untouched : (page : Page) → Sound page → (way : List ℕ) (t u p v : Tree) → Begins page t u → is_group (label u).kind ≡ false → StaysAt page t u way p v
+untouched : (page : Page) → Sound page → (way : List ℕ) (t u p v : Tree) → Begins page t u → is_looked_into (label u).kind ≡ true → StaysAt page t u way p v
     → IsNumberedBehind p → IsUnedited p v → IsUntouched (places_in page t u) p
 untouched page s [] t u p v b g at n e =
     let w : IsUnedited t u = subst (λ (x : Tree). IsUnedited x u) (sym at.0) (subst (IsUnedited p) (sym at.1) e) in
@@ -450,7 +448,7 @@ untouched page s (i ∷ way) t u p v b g at n e =
     let from_here = λ (ss : List Slot) (h : IsUntouched ss (partner page w)). far page s way ss (partner page w) w p v c.itself c.fitting h at.2 in
     let near = IsBeside (gap_end p) (end_at p) in
     let own : IsUntouched (own_of page w) p = in_if (IsBeside (gap_end p) (end_at p)) (is_block_part (label w).kind) (places_in page (partner page w) w)
-    (λ x. untouched page s way (partner page w) w p v (begins page s t u i w b turn) (block_no_group (label w).kind x) at.2 n e) in
+    (λ x. untouched page s way (partner page w) w p v (begins page s t u i w b turn) (looked_block (label w).kind x) at.2 n e) in
     subst (λ (ss : List Slot). IsUntouched ss p)
     (sym (places_out page t u ∙ ap (λ (ss : List Slot). inside_place t u ++ ss) a.is))
     (each_join near (inside_place t u) (a.before ++ (own_of page w ++ a.after)) (from_here (inside_place t u) inside)
@@ -472,13 +470,13 @@ root_begins t u w o =
       fitting = fits t w.tiled;
       kind = w.body ∙ sym (body_is (label u).kind o.root);
       unframed = o.alone;
-      none = λ n g e. none_in (page_of t) t u h.1 h.0 n (ap is_group w.body) e o.alone;
+      none = λ n g e. none_in (page_of t) t u h.1 h.0 n (ap is_looked_into w.body) e o.alone;
     }
 
 pub unedited_untouched : (t u : Tree) → IsWholePage t → IsOneBody u → (way : List ℕ) (p v : Tree) → StaysAt (page_of t) t u way p v → IsNumberedBehind p
     → IsUnedited p v → IsUntouched (places t u) p
 unedited_untouched t u w o way p v at n e =
-    untouched (page_of t) (sound t w) way t u p v (root_begins t u w o) (ap is_group (body_is (label u).kind o.root)) at n e
+    untouched (page_of t) (sound t w) way t u p v (root_begins t u w o) (ap is_looked_into (body_is (label u).kind o.root)) at n e
 
 -- ---- its blocks
 
