@@ -5,5 +5,6 @@ mod Cases
 pub mod Choosing
 pub mod Fitting
 pub mod Standing
+pub mod Touching
 pub mod Unedited
 pub mod Unmoved
