@@ -2,14 +2,14 @@
 
 use std::alloc::Global;
 use wt_block_signs::{
-    Style, USUAL, begins_line, goes_on_behind, has_signed_text, is_cell, is_item, is_lined,
-    is_list, is_row_without_sign, push_begun, push_closing, push_heading_end, push_heading_start,
-    push_opening, push_signs, shared_line, shares_line, sign_of, style_of,
+    Style, USUAL, begins_line, ends_with_given_sign, goes_on_behind, has_signed_text, is_cell,
+    is_item, is_lined, is_list, is_row_without_sign, push_begun, push_closing, push_heading_end,
+    push_heading_start, push_opening, push_signs, shared_line, shares_line, sign_of, style_of,
 };
 use wt_checks::original;
 use wt_content_proposal::{Edges, Writing, edges_of, spelled};
-use wt_difference::{are_same, ends_inside, has_inside, inside, is_block_part};
-use wt_known::{Block, Known, block_of};
+use wt_difference::{are_same, inside, is_block_part};
+use wt_known::{Block, Known, block_of, text_of};
 use wt_span::{NoMemory, Str};
 use wt_tree::{Kind, Node, flat, same_attrs, same_kind};
 
@@ -101,6 +101,14 @@ fn source_standing(
 
 // ---- what a block holds
 
+/// How the inside of a block of this kind is written.
+fn writing_of(keeps: bool, kind: Kind) -> Writing {
+    Writing {
+        keeps,
+        place: kind.edit_shape().place,
+    }
+}
+
 /// The inside of a block that the page has.
 fn kept_inside<'t, 'a>(
     alloc: Global,
@@ -110,9 +118,10 @@ fn kept_inside<'t, 'a>(
     node: &Node<'_>,
 ) -> Result<Str, NoMemory> {
     let block = block_of(alloc, old)?;
-    let place = node.kind.edit_shape().place;
-    let writing = Writing::of(known, Some(&block), around.keeps, place);
-    spelled(alloc, &writing, inside(node), edges_of(inside(old)))
+    let writing = writing_of(around.keeps, node.kind);
+    let text = text_of(known.page, known.index, node);
+    let edges = edges_of(inside(old));
+    spelled(alloc, known, Some(&block), writing, text, edges)
 }
 
 /// The inside of a new block.
@@ -122,13 +131,13 @@ fn new_inside<'t, 'a>(
     around: &Surroundings<'_, 't, 'a>,
     node: &Node<'_>,
 ) -> Result<Str, NoMemory> {
-    let place = node.kind.edit_shape().place;
-    let writing = Writing::of(known, None, around.keeps, place);
+    let writing = writing_of(around.keeps, node.kind);
     let edges = Edges {
         first: None,
         last: around.tail,
     };
-    spelled(alloc, &writing, inside(node), edges)
+    let text = text_of(known.page, known.index, node);
+    spelled(alloc, known, None, writing, text, edges)
 }
 
 /// The inside of a block.
@@ -158,7 +167,7 @@ fn push_inside<'t, 'a>(
 
 /// Whether a child is a comment or an include tag of the page that goes with what holds it.
 fn is_coming_mark(known: &Known<'_, '_>, child: &Node<'_>) -> bool {
-    child.kind.is_mark() && child.id != 0 && !known.is_left(None, child.id)
+    child.kind.is_mark() && child.id != 0 && !known.is_left(child.id)
 }
 
 /// Appends a comment or an include tag as it was in the page, with the line break after it where it has one.
@@ -224,10 +233,11 @@ fn first_sign(cell: &Node<'_>) -> &'static str {
     }
 }
 
-/// Whether a cell has text that ends with the sign of a heading cell, in what is written so far: it would be read with the
-/// signs of the next one.
+/// Whether a cell has text that ends with the sign of a heading cell, in what is written so far or in what a template
+/// gives: it would be read with the signs of the next one.
 fn ends_with_sign(out: &Str, cell: &Node<'_>) -> bool {
-    matches!(cell.kind, Kind::Th) && !inside(cell).is_empty() && out.as_str().ends_with("!")
+    let is_heading_text = matches!(cell.kind, Kind::Th) && !inside(cell).is_empty();
+    is_heading_text && (out.as_str().ends_with("!") || ends_with_given_sign(cell))
 }
 
 /// Appends the first sign of a cell that goes on in the line of the one before it, as both did with another kind; it
@@ -291,9 +301,9 @@ fn push_held<'t, 'a>(
 ) -> Result<(), NoMemory> {
     let mut before = None;
     let mut is_begun = goes_on;
-    let mut is_inside = has_inside(node.kind);
+    let text = text_of(known.page, known.index, node).len();
+    let mut at: usize = 0;
     for child in node.children.as_slice() {
-        is_inside = is_inside && !ends_inside(child);
         if is_written(child) {
             if !is_begun && !push_in_line(alloc, out, known, around, before, child)? {
                 push_break(out, node.kind, before, child.kind)?;
@@ -301,13 +311,14 @@ fn push_held<'t, 'a>(
             push_block(alloc, out, known, &around.within_kind(node.kind), child)?;
             before = Some(child);
             is_begun = false;
-        } else if !is_inside && is_coming_mark(known, child) {
+        } else if text <= at && is_coming_mark(known, child) {
             if !is_begun {
                 push_break(out, node.kind, before, Kind::Para)?;
             }
             push_mark(alloc, out, known, child)?;
             is_begun = true;
         }
+        at = at.saturating_add(1);
     }
     Ok(())
 }

@@ -2,7 +2,7 @@
 
 use crate::kinds::{is_cell, is_item};
 use wt_difference::inside;
-use wt_span::Text;
+use wt_span::{TagName, Text};
 use wt_tree::{Kind, Node};
 
 /// How parts are written: whether no blank comes after their signs, and whether the cells of a row are in one line.
@@ -105,6 +105,29 @@ pub fn style_of(part: Option<&Node<'_>>) -> Style {
             is_one_line: false,
         },
         _ => USUAL,
+    }
+}
+
+/// Whether a node with which a template's group ends is a text that ends with the sign of a heading cell; an edited group
+/// has its text in a `span`.
+fn ends_with_heading_sign(given: &Node<'_>) -> bool {
+    match given.children.as_slice().last() {
+        Some(text) if matches!(given.kind, Kind::Tag(TagName::Span)) => text.shown().ends_with("!"),
+        _ => given.shown().ends_with("!"),
+    }
+}
+
+/// Whether a heading cell ends with what a template gives, and this with the sign of such a cell: it would be read with
+/// the signs of the next one.
+pub fn ends_with_given_sign(cell: &Node<'_>) -> bool {
+    match inside(cell).last() {
+        Some(last) if matches!(cell.kind, Kind::Th) && matches!(last.kind, Kind::Group) => {
+            match last.children.as_slice().last() {
+                Some(given) => ends_with_heading_sign(given),
+                None => false,
+            }
+        }
+        _ => false,
     }
 }
 

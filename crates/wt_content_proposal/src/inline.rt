@@ -14,30 +14,12 @@ use wt_text_proposal::{
 };
 use wt_tree::{InlineForm, Kind, Node, Place, flat, push_texts, same_attrs, same_kind};
 
-/// How an inside is written: what is known of the page, the block in which it is, whether texts keep their
-/// bytes, and what kind of block it is.
+/// How an inside is written: whether texts keep their bytes, and what kind of block it is. (What is known of the page and
+/// the block in which it is go beside it: read from a structure, they cost each function seconds of proof.)
 #[derive(Clone, Copy)]
-pub struct Writing<'w, 't, 'a> {
-    pub known: &'w Known<'t, 'a>,
-    pub block: Option<&'w Block<'t, 'a>>,
+pub struct Writing {
     pub keeps: bool,
     pub place: Place,
-}
-
-impl<'w, 't, 'a> Writing<'w, 't, 'a> {
-    pub fn of(
-        known: &'w Known<'t, 'a>,
-        block: Option<&'w Block<'t, 'a>>,
-        keeps: bool,
-        place: Place,
-    ) -> Writing<'w, 't, 'a> {
-        Writing {
-            known,
-            block,
-            keeps,
-            place,
-        }
-    }
 }
 
 /// The texts of the page at the two edges of what is written.
@@ -119,23 +101,25 @@ fn push_kept(
 }
 
 /// Appends a node as it was in the page, where it shows what it showed; it says whether it does.
-fn push_if_unchanged(
+fn push_if_unchanged<'t, 'a>(
     alloc: Global,
     out: &mut Vec<Unit<'_>>,
-    writing: &Writing<'_, '_, '_>,
+    known: &Known<'t, 'a>,
+    block: Option<&Block<'t, 'a>>,
+    keeps: bool,
     kept: Option<Kept<'_, '_>>,
     node: &Node<'_>,
 ) -> Result<bool, NoMemory> {
     let Some(old) = kept else {
         return Ok(false);
     };
-    let Some(groups) = writing.known.groups(writing.block) else {
+    let Some(groups) = known.groups(block) else {
         return Ok(false);
     };
     if !is_unchanged(alloc, groups, old, node)? {
         return Ok(false);
     }
-    push_as_it_stood(alloc, out, writing.keeps, old)?;
+    push_as_it_stood(alloc, out, keeps, old)?;
     Ok(true)
 }
 
@@ -143,16 +127,18 @@ fn push_if_unchanged(
 fn push_shown<'t, 'a>(
     alloc: Global,
     out: &mut Vec<Unit<'_>>,
-    writing: &Writing<'_, 't, 'a>,
-    kept: Option<Kept<'t, 'a>>,
+    known: &Known<'t, 'a>,
+    block: Option<&Block<'t, 'a>>,
+    keeps: bool,
+    kept: Option<Kept<'_, '_>>,
     node: &Node<'_>,
 ) -> Result<(), NoMemory> {
-    if push_if_unchanged(alloc, out, writing, kept, node)? {
+    if push_if_unchanged(alloc, out, known, block, keeps, kept, node)? {
         return Ok(());
     }
-    if writing.keeps
+    if keeps
         && let Some(old) = kept
-        && let Some(source) = nowiki_round(alloc, writing.known, writing.block, old.node, node)?
+        && let Some(source) = nowiki_round(alloc, known, block, old.node, node)?
     {
         return push_thing(out, old.role, source, Some(old.place));
     }
@@ -210,13 +196,22 @@ fn push_closing(alloc: Global, out: &mut Vec<Unit<'_>>, old: Kept<'_, '_>) -> Re
 
 /// The page's node, where it is of the same kind and its delimiters stay.
 fn with_delimiters<'t, 'a>(
-    writing: &Writing<'_, '_, '_>,
+    keeps: bool,
     kept: Option<Kept<'t, 'a>>,
     kind: Kind,
 ) -> Option<Kept<'t, 'a>> {
     match kept {
-        Some(old) if writing.keeps && same_kind(old.node.kind, kind) => Some(old),
+        Some(old) if keeps && same_kind(old.node.kind, kind) => Some(old),
         _ => None,
+    }
+}
+
+/// The delimiter of bold, or of italic.
+fn toggle_of(kind: Kind) -> &'static str {
+    if matches!(kind, Kind::Bold) {
+        "'''"
+    } else {
+        "''"
     }
 }
 
@@ -225,25 +220,27 @@ fn with_delimiters<'t, 'a>(
 fn push_style<'n, 't, 'a>(
     alloc: Global,
     out: &mut Vec<Unit<'n>>,
-    writing: &Writing<'_, 't, 'a>,
-    sign: &str,
+    known: &Known<'t, 'a>,
+    block: Option<&Block<'t, 'a>>,
+    writing: Writing,
     kept: Option<Kept<'t, 'a>>,
     node: &'n Node<'_>,
 ) -> Result<(), NoMemory> {
     let nodes = node.children.as_slice();
-    if let Some(old) = with_delimiters(writing, kept, node.kind) {
+    if let Some(old) = with_delimiters(writing.keeps, kept, node.kind) {
         push_opening(alloc, out, old)?;
-        push_units(alloc, out, writing, nodes, edges_in(kept))?;
+        push_units(alloc, out, known, block, writing, nodes, edges_in(kept))?;
         if matches!(node.kind, Kind::Bold) && is_new_italic_alone(nodes) {
             push_nowiki(alloc, out)?;
         }
         return push_closing(alloc, out, old);
     }
+    let sign = toggle_of(node.kind);
     push_toggle(alloc, out, sign)?;
     if nodes.is_empty() {
         push_nowiki(alloc, out)?;
     }
-    push_units(alloc, out, writing, nodes, edges_in(kept))?;
+    push_units(alloc, out, known, block, writing, nodes, edges_in(kept))?;
     if matches!(node.kind, Kind::Bold) && is_italic_alone(nodes) {
         push_nowiki(alloc, out)?;
     }
@@ -524,7 +521,9 @@ fn is_behind_word(out: &[Unit<'_>]) -> bool {
 fn push_element<'t, 'a>(
     alloc: Global,
     out: &mut Vec<Unit<'_>>,
-    writing: &Writing<'_, 't, 'a>,
+    known: &Known<'t, 'a>,
+    block: Option<&Block<'t, 'a>>,
+    writing: Writing,
     kept: Option<Kept<'t, 'a>>,
     node: &Node<'_>,
 ) -> Result<(), NoMemory> {
@@ -533,7 +532,8 @@ fn push_element<'t, 'a>(
         let role = Role::Bare(href_of(node).ends_with("="));
         return push_thing(out, role, source, Some(place_of_bare(kept)));
     }
-    let mut inside = within(alloc, writing, node.children.as_slice(), edges_in(kept))?;
+    let nodes = node.children.as_slice();
+    let mut inside = within(alloc, known, block, writing, nodes, edges_in(kept))?;
     if writing.keeps && !is_tag(node.kind) {
         inside = with_colons(alloc, inside)?;
     }
@@ -566,15 +566,17 @@ fn is_bare_now(
 #[cycle(units)]
 fn within<'t, 'a>(
     alloc: Global,
-    writing: &Writing<'_, 't, 'a>,
+    known: &Known<'t, 'a>,
+    block: Option<&Block<'t, 'a>>,
+    writing: Writing,
     nodes: &[Node<'_>],
     edges: Edges<'t, 'a>,
 ) -> Result<String, NoMemory> {
-    let units = units_of(alloc, writing, nodes, edges, None)?;
+    let units = units_of(alloc, known, block, writing, nodes, edges, None)?;
     let setting = Setting {
         within: true,
         place: writing.place,
-        source: writing.known.page.as_bytes(),
+        source: known.page.as_bytes(),
     };
     let inside = spelling_of(alloc, setting, units.as_slice())?;
     Ok(inside)
@@ -586,28 +588,32 @@ fn within<'t, 'a>(
 fn push_node<'n, 't, 'a>(
     alloc: Global,
     out: &mut Vec<Unit<'n>>,
-    writing: &Writing<'_, 't, 'a>,
+    known: &Known<'t, 'a>,
+    block: Option<&Block<'t, 'a>>,
+    writing: Writing,
     node: &'n Node<'_>,
 ) -> Result<(), NoMemory> {
-    let kept = writing.known.find(writing.block, node.id);
+    let kept = known.find(block, node.id);
+    let keeps = writing.keeps;
     match node.kind.edit_shape().inline {
         InlineForm::Nothing => Ok(()),
         InlineForm::Characters => push_letters(out, node.shown()),
-        InlineForm::Bold => push_style(alloc, out, writing, "'''", kept, node),
-        InlineForm::Italic => push_style(alloc, out, writing, "''", kept, node),
+        InlineForm::Bold | InlineForm::Italic => {
+            push_style(alloc, out, known, block, writing, kept, node)
+        }
         InlineForm::AsItStood => {
             let is_mark = node.kind.is_mark();
-            if is_mark && node.id != 0 && writing.known.is_left(writing.block, node.id) {
+            if is_mark && node.id != 0 && known.is_left(node.id) {
                 return Ok(());
             }
-            push_kept(alloc, out, writing.keeps, kept, node.kind)
+            push_kept(alloc, out, keeps, kept, node.kind)
         }
-        InlineForm::Shown => push_shown(alloc, out, writing, kept, node),
+        InlineForm::Shown => push_shown(alloc, out, known, block, keeps, kept, node),
         InlineForm::PageLink | InlineForm::ExternalLink | InlineForm::Tag | InlineForm::Break => {
-            if push_if_unchanged(alloc, out, writing, kept, node)? {
+            if push_if_unchanged(alloc, out, known, block, keeps, kept, node)? {
                 return Ok(());
             }
-            push_element(alloc, out, writing, kept, node)
+            push_element(alloc, out, known, block, writing, kept, node)
         }
     }
 }
@@ -626,26 +632,28 @@ fn behind<'n, 'a>(nodes: &'n [Node<'a>], at: usize) -> Option<&'n Node<'a>> {
 
 /// The page's text after the node before a place, or at the edge.
 fn text_left<'t, 'a>(
-    writing: &Writing<'_, 't, 'a>,
+    known: &Known<'t, 'a>,
+    block: Option<&Block<'t, 'a>>,
     nodes: &[Node<'_>],
     at: usize,
     edges: Edges<'t, 'a>,
 ) -> Option<&'t Node<'a>> {
     match before(nodes, at) {
-        Some(node) => writing.known.behind(writing.block, node.id),
+        Some(node) => known.behind(block, node.id),
         None => edges.first,
     }
 }
 
 /// The page's text before the node after a place, or at the edge.
 fn text_right<'t, 'a>(
-    writing: &Writing<'_, 't, 'a>,
+    known: &Known<'t, 'a>,
+    block: Option<&Block<'t, 'a>>,
     nodes: &[Node<'_>],
     at: usize,
     edges: Edges<'t, 'a>,
 ) -> Option<&'t Node<'a>> {
     match behind(nodes, at) {
-        Some(node) => writing.known.before(writing.block, node.id),
+        Some(node) => known.before(block, node.id),
         None => edges.last,
     }
 }
@@ -655,18 +663,20 @@ fn text_right<'t, 'a>(
 fn push_units<'n, 't, 'a>(
     alloc: Global,
     out: &mut Vec<Unit<'n>>,
-    writing: &Writing<'_, 't, 'a>,
+    known: &Known<'t, 'a>,
+    block: Option<&Block<'t, 'a>>,
+    writing: Writing,
     nodes: &'n [Node<'_>],
     edges: Edges<'t, 'a>,
 ) -> Result<(), NoMemory> {
     for at in 0..nodes.len() {
         let node = &nodes[at];
         if is_text(node) && writing.keeps {
-            let left = text_left(writing, nodes, at, edges);
-            let right = text_right(writing, nodes, at, edges);
+            let left = text_left(known, block, nodes, at, edges);
+            let right = text_right(known, block, nodes, at, edges);
             push_text(alloc, out, node.shown(), left, right)?;
         } else {
-            push_node(alloc, out, writing, node)?;
+            push_node(alloc, out, known, block, writing, node)?;
         }
     }
     Ok(())
@@ -676,13 +686,15 @@ fn push_units<'n, 't, 'a>(
 #[cycle(units)]
 fn units_of<'n, 't, 'a>(
     alloc: Global,
-    writing: &Writing<'_, 't, 'a>,
+    known: &Known<'t, 'a>,
+    block: Option<&Block<'t, 'a>>,
+    writing: Writing,
     nodes: &'n [Node<'_>],
     edges: Edges<'t, 'a>,
     spot: Option<InsidePlace<'_>>,
 ) -> Result<Vec<Unit<'n>>, NoMemory> {
     let mut units = Vec::new(alloc);
-    push_units(alloc, &mut units, writing, nodes, edges)?;
+    push_units(alloc, &mut units, known, block, writing, nodes, edges)?;
     if !writing.keeps {
         return Ok(units);
     }
@@ -694,18 +706,22 @@ fn units_of<'n, 't, 'a>(
     with_joints(alloc, spot, units.as_slice())
 }
 
-fn spot_of<'w>(writing: &Writing<'w, '_, '_>) -> InsidePlace<'w> {
-    let (before, start, is_delimited) = match writing.block {
+fn spot_of<'t, 'a>(
+    known: &Known<'t, 'a>,
+    block: Option<&Block<'_, '_>>,
+    place: Place,
+) -> InsidePlace<'t> {
+    let (before, start, is_delimited) = match block {
         Some(block) => (block.before, block.inside, block.start < block.inside),
         None => (b' ', NOWHERE, false),
     };
     InsidePlace {
-        place: writing.place,
+        place,
         before,
-        in_tables: writing.known.has_tables,
-        page: writing.known.page.as_bytes(),
+        in_tables: known.has_tables,
+        page: known.page.as_bytes(),
         start,
-        is_preformatted: is_delimited && matches!(writing.place, Place::Paragraph),
+        is_preformatted: is_delimited && matches!(place, Place::Paragraph),
     }
 }
 
@@ -717,21 +733,24 @@ fn may_be_empty(place: Place) -> bool {
     }
 }
 
-/// Inline nodes as the inside of a block.
+/// Inline nodes as the inside of a block; `block` is the page's block in which they are.
 pub fn spelled<'t, 'a>(
     alloc: Global,
-    writing: &Writing<'_, 't, 'a>,
+    known: &Known<'t, 'a>,
+    block: Option<&Block<'t, 'a>>,
+    writing: Writing,
     nodes: &[Node<'_>],
     edges: Edges<'t, 'a>,
 ) -> Result<Str, NoMemory> {
-    let units = units_of(alloc, writing, nodes, edges, Some(spot_of(writing)))?;
+    let spot = spot_of(known, block, writing.place);
+    let units = units_of(alloc, known, block, writing, nodes, edges, Some(spot))?;
     if writing.keeps && units.is_empty() && may_be_empty(writing.place) {
         return Ok(Str::new(alloc));
     }
     let setting = Setting {
         within: false,
         place: writing.place,
-        source: writing.known.page.as_bytes(),
+        source: known.page.as_bytes(),
     };
     let out = spelling_of(alloc, setting, units.as_slice())?;
     Ok(Str::from_string(out))

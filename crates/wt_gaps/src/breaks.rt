@@ -5,7 +5,7 @@ use wt_block_signs::{is_cell, is_lined, is_list, is_part};
 use wt_checks::is_compared;
 use wt_known::Closeness;
 use wt_span::{NoMemory, Str};
-use wt_tree::{Kind, Node};
+use wt_tree::{Kind, Node, same_kind};
 
 /// Whether a block of this kind, which isn't a part of another, is recognized by its line's signs.
 pub fn is_lined_block(kind: Kind) -> bool {
@@ -14,6 +14,11 @@ pub fn is_lined_block(kind: Kind) -> bool {
 
 pub fn is_heading(kind: Kind) -> bool {
     matches!(kind, Kind::Heading(_))
+}
+
+/// Whether it is a list, a table or a rule.
+pub fn is_box(kind: Kind) -> bool {
+    is_lined_block(kind) && !is_heading(kind)
 }
 
 /// Whether a node is the group of one call that gives nothing.
@@ -64,8 +69,8 @@ pub fn kind_at_start(node: &Node<'_>) -> Kind {
     kind_beside(node, children.first(), children.get(1))
 }
 
-/// Whether a block of this kind is apart from any other on the next line, but for a list from a list: it is recognized
-/// by its line's signs, or leaves its line empty.
+/// Whether a block of this kind is apart from any other on the next line, but for a list from one of its kind: it is
+/// recognized by its line's signs, or leaves its line empty.
 fn is_apart(kind: Kind) -> bool {
     is_lined(kind) || matches!(kind, Kind::Empty)
 }
@@ -78,7 +83,7 @@ pub fn least_between(is_tight: bool, left: Kind, right: Kind) -> usize {
     if is_tight {
         return 1;
     }
-    if (is_apart(left) || is_apart(right)) && !(is_list(left) && is_list(right)) {
+    if (is_apart(left) || is_apart(right)) && !(is_list(left) && same_kind(left, right)) {
         1
     } else {
         2

@@ -2,16 +2,21 @@
 
 use crate::blanks::{is_at_line_start, most_breaks, past_spaces};
 use crate::breaks::{
-    between, is_heading, is_lined_block, kind_at_end, kind_at_start, least_between, push_breaks,
+    between, is_box, is_heading, is_lined_block, kind_at_end, kind_at_start, least_between,
+    push_breaks,
 };
 use crate::gap::{Gap, is_before_text};
 use crate::gone::{Slice, push_change, push_part_of};
-use crate::lines::{is_doubled, is_doubled_at, next_in_page, push_in_line, range_of, shares_line};
+use crate::lines::{
+    is_doubled, is_doubled_at, is_in_stack, next_in_page, push_in_line, range_of, shares_line,
+};
 use crate::nodes::count_of;
 use crate::tags::{Tags, breaks_before_tag, breaks_behind_tag};
 use std::alloc::Global;
-use wt_block_signs::{Style, is_cell, is_item, is_lined, is_row_without_sign, signs_of, style_of};
-use wt_checks::{is_compared, original};
+use wt_block_signs::{
+    Style, is_cell, is_item, is_lined, is_list, is_row_without_sign, signs_of, style_of,
+};
+use wt_checks::{Visit, is_compared, original};
 use wt_difference::Child;
 use wt_known::{Known, breaks_between};
 use wt_places::Slot;
@@ -122,9 +127,10 @@ fn is_followed_closely(page: &str, above: &Node<'_>, below: Option<&Node<'_>>) -
 }
 
 /// Whether blocks of these kinds are as close as the first one was to what was below it: a heading, or a list, a table
-/// or a rule with no heading after it.
+/// or a rule with no heading after it, nor a list after a list.
 fn may_be_close(above: Kind, below: Kind) -> bool {
-    is_heading(above) || (is_lined_block(above) && !is_heading(below))
+    is_heading(above)
+        || (is_lined_block(above) && !is_heading(below) && !(is_list(above) && is_list(below)))
 }
 
 /// Whether a part of a gap begins where the child before it ends: the first part of each does.
@@ -147,10 +153,38 @@ fn breaks_below(
     coming: &Coming,
 ) -> usize {
     let last = kind_at_end(before);
-    if may_be_close(last, coming.start) && is_above_closely(known.page, gap, before) {
+    let is_close = may_be_close(last, coming.start) && is_above_closely(known.page, gap, before);
+    if is_close || goes_on_in_stack(known, gap, before, coming) {
         return least_between(gap.is_tight, last, coming.start).max(1);
     }
     between(known.closeness, gap.is_tight, last, coming.first)
+}
+
+/// The first of those that come.
+fn first_coming<'n, 'a>(nodes: &'n [Node<'a>]) -> Option<&'n Node<'a>> {
+    for node in nodes {
+        if is_compared(node.kind) {
+            return Some(node);
+        }
+    }
+    None
+}
+
+/// Whether what comes directly after the child before is in a stack of boxes of the page, as that one is.
+fn goes_on_in_stack(
+    known: &Known<'_, '_>,
+    gap: &Gap<'_, '_, '_>,
+    before: &Node<'_>,
+    coming: &Coming,
+) -> bool {
+    let are_boxes = is_box(kind_at_end(before)) && is_box(coming.start);
+    if gap.is_tight || !are_boxes || !is_directly_behind(gap, before) {
+        return false;
+    }
+    match first_coming(gap.new) {
+        Some(first) => is_in_stack(known, first) && is_in_stack(known, before),
+        None => false,
+    }
 }
 
 /// The line breaks that what comes asks for at least after the child before.
@@ -215,17 +249,55 @@ fn breaks_before(
     }
 }
 
-/// Whether the last of those that come was in the page, and had something directly below it there.
-fn was_followed_closely(known: &Known<'_, '_>, gap: &Gap<'_, '_, '_>) -> bool {
+/// The last of those that come, as the page has it; None where it is new.
+fn last_coming<'t, 'a>(known: &Known<'t, 'a>, gap: &Gap<'_, 't, 'a>) -> Option<Visit<'t, 'a>> {
     let mut last = 0;
     for node in gap.new {
         if is_compared(node.kind) {
             last = node.id;
         }
     }
-    match original(known.index, last) {
-        Some(visit) if last != 0 => {
-            is_followed_closely(known.page, visit.node, next_in_page(known, visit))
+    if last == 0 {
+        return None;
+    }
+    original(known.index, last)
+}
+
+/// Whether the last of those that come was in the page, and had something directly below it there.
+fn was_followed_closely<'t, 'a>(known: &Known<'t, 'a>, gap: &Gap<'_, 't, 'a>) -> bool {
+    match last_coming(known, gap) {
+        Some(visit) => is_followed_closely(known.page, visit.node, next_in_page(known, visit)),
+        None => false,
+    }
+}
+
+/// Whether the page has the block after the gap directly below the one before it, and that is a list, a table or a rule.
+fn is_below_box(page: &str, gap: &Gap<'_, '_, '_>, behind: &Node<'_>) -> bool {
+    match gap.before {
+        Some(before) => {
+            is_box(kind_at_end(before))
+                && breaks_between(page, range_of(before).end, range_of(behind).start) == Some(1)
+        }
+        None => false,
+    }
+}
+
+/// Whether the last of those that come is in a stack of boxes of the page, and what is after it may be directly below it:
+/// another one that is, or what was directly below the box before, but no heading.
+fn ends_in_stack<'t, 'a>(
+    known: &Known<'t, 'a>,
+    gap: &Gap<'_, 't, 'a>,
+    last: Kind,
+    behind: &Node<'_>,
+) -> bool {
+    let is_before_heading = is_heading(kind_at_start(behind));
+    let is_directly_before = range_of(behind).start <= gap.place.end;
+    if gap.is_tight || !is_box(last) || is_before_heading || !is_directly_before {
+        return false;
+    }
+    match last_coming(known, gap) {
+        Some(visit) if is_in_stack(known, visit.node) => {
+            is_below_box(known.page, gap, behind) || is_in_stack(known, behind)
         }
         _ => false,
     }
@@ -244,9 +316,9 @@ fn goes_on_as_paragraph(gap: &Gap<'_, '_, '_>, last: Kind, below: Kind) -> bool 
 
 /// The line breaks between what comes, which takes no other's place, and what is after it: as many as there are between
 /// other blocks of the page, or as the last that comes had below it.
-fn breaks_below_new(
-    known: &Known<'_, '_>,
-    gap: &Gap<'_, '_, '_>,
+fn breaks_below_new<'t, 'a>(
+    known: &Known<'t, 'a>,
+    gap: &Gap<'_, 't, 'a>,
     last: Kind,
     behind: &Node<'_>,
 ) -> usize {
@@ -254,7 +326,7 @@ fn breaks_below_new(
     if !gap.is_tight && may_be_close(last, below) && was_followed_closely(known, gap) {
         return least_between(gap.is_tight, last, below).max(1);
     }
-    if goes_on_as_paragraph(gap, last, below) {
+    if goes_on_as_paragraph(gap, last, below) || ends_in_stack(known, gap, last, behind) {
         return least_between(gap.is_tight, last, below);
     }
     between(known.closeness, gap.is_tight, last, below)
@@ -316,9 +388,9 @@ fn breaks_up_to_tag(page: &str, tag: Slot, last: Kind, behind: &Node<'_>) -> usi
 
 /// The line breaks after what comes in the place of a slice, or in a gap, before what the page has after it, up to what
 /// stays or to the next slice that goes. After all that a cell holds the next cell may go on in the line.
-fn breaks_behind(
-    known: &Known<'_, '_>,
-    gap: &Gap<'_, '_, '_>,
+fn breaks_behind<'t, 'a>(
+    known: &Known<'t, 'a>,
+    gap: &Gap<'_, 't, 'a>,
     slice: Option<Slice>,
     coming: &Coming,
     after: Slot,
@@ -434,11 +506,11 @@ fn push_source(
 }
 
 /// Appends what comes, in the place of the first slice that goes.
-pub fn push_new(
+pub fn push_new<'t, 'a>(
     alloc: Global,
     out: &mut Vec<Change>,
-    known: &Known<'_, '_>,
-    gap: &Gap<'_, '_, '_>,
+    known: &Known<'t, 'a>,
+    gap: &Gap<'_, 't, 'a>,
     slices: &[Slice],
     coming: &Coming,
 ) -> Result<(), NoMemory> {

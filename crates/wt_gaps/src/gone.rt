@@ -107,7 +107,7 @@ fn with_blanks(page: &str, gap: &Gap<'_, '_, '_>, slice: Slot) -> Slot {
     let end = past_blanks(page, slice.end, gap.place.end);
     if gap.behind.is_none() && end == gap.place.end {
         return Slot {
-            start: back_over_blanks(page, gap.place.start, slice.start),
+            start: back_over_blanks(page, gap.blanks, slice.start),
             end: slice.end,
         };
     }

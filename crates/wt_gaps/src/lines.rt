@@ -1,7 +1,7 @@
 //! Where nodes are in the page, and which cells go on in the line of the one before them.
 
 use crate::blanks::{byte_at, is_at_line_start, most_breaks, past_blanks};
-use crate::breaks::{between, kind_at_end, kind_at_start, least_between, push_breaks};
+use crate::breaks::{between, is_box, kind_at_end, kind_at_start, least_between, push_breaks};
 use wt_block_signs::{is_cell, is_part};
 use wt_checks::{Visit, is_compared, original};
 use wt_known::{Known, breaks_between};
@@ -85,17 +85,28 @@ pub fn push_up_to_comment(
     push_breaks(out, least.saturating_sub(standing))
 }
 
+/// Where a comment of the page ends with the blanks and line breaks after it; in an item, a list or a table, where no
+/// empty line is, with its own line break.
+fn end_of_comment(page: &str, is_tight: bool, end: usize) -> usize {
+    if is_tight && is_at_line_start(page, end) {
+        end
+    } else {
+        past_blanks(page, end, page.len())
+    }
+}
+
 /// Appends a comment of the page, with the blanks and line breaks after it.
 pub fn push_comment(
     out: &mut Str,
     known: &Known<'_, '_>,
+    is_tight: bool,
     comment: &Node<'_>,
 ) -> Result<(), NoMemory> {
     let Some(visit) = original(known.index, comment.id) else {
         return Ok(());
     };
     let place = range_of(visit.node);
-    let end = past_blanks(known.page, place.end, known.page.len());
+    let end = end_of_comment(known.page, is_tight, place.end);
     out.push_str(slice_of(
         known.page,
         Slot {
@@ -119,6 +130,66 @@ pub fn next_in_page<'t, 'a>(known: &Known<'t, 'a>, visit: Visit<'t, 'a>) -> Opti
         }
     }
     None
+}
+
+/// The block before one of the page's, in what holds it; None where a comment or an include tag is between.
+fn block_above<'t, 'a>(known: &Known<'t, 'a>, visit: Visit<'t, 'a>) -> Option<&'t Node<'a>> {
+    let number = visit.node.id as usize;
+    for count in 1..number {
+        let before = known.index.get(number.saturating_sub(count))?;
+        if before.parent <= visit.parent {
+            return if before.parent == visit.parent
+                && before.node.id != visit.parent
+                && is_compared(before.node.kind)
+            {
+                Some(before.node)
+            } else {
+                None
+            };
+        }
+    }
+    None
+}
+
+/// Whether the page has a list, a table or a rule directly below another such block.
+fn are_stacked(page: &str, above: Option<&Node<'_>>, below: Option<&Node<'_>>) -> bool {
+    let (Some(above), Some(below)) = (above, below) else {
+        return false;
+    };
+    is_box(kind_at_end(above))
+        && is_box(kind_at_start(below))
+        && breaks_between(page, range_of(above).end, range_of(below).start) == Some(1)
+}
+
+/// Whether a block is a list, a table or a rule of the page that is directly above or below another one there.
+pub fn is_in_stack(known: &Known<'_, '_>, node: &Node<'_>) -> bool {
+    if node.id == 0 || !is_box(kind_at_start(node)) {
+        return false;
+    }
+    match original(known.index, node.id) {
+        Some(visit) => {
+            are_stacked(known.page, Some(visit.node), next_in_page(known, visit))
+                || are_stacked(known.page, block_above(known, visit), Some(visit.node))
+        }
+        None => false,
+    }
+}
+
+/// How many line breaks are written between a block that comes and the one that comes after it: one where both are in a
+/// stack of boxes of the page.
+pub fn between_coming(
+    known: &Known<'_, '_>,
+    is_tight: bool,
+    last: Kind,
+    before: Option<&Node<'_>>,
+    node: &Node<'_>,
+) -> usize {
+    match before {
+        Some(before) if !is_tight && is_in_stack(known, before) && is_in_stack(known, node) => {
+            least_between(false, last, kind_at_start(node))
+        }
+        _ => between(known.closeness, is_tight, last, node.kind),
+    }
 }
 
 /// Whether what begins at a place of the page is a cell that goes on in a line, by its two signs.

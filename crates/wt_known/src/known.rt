@@ -2,8 +2,8 @@
 
 use crate::closeness::{Closeness, closeness_of};
 use std::alloc::Global;
-use wt_checks::{Visit, is_content, original};
-use wt_difference::{is_block_part, stays_in};
+use wt_checks::{Visit, original};
+use wt_difference::is_block_part;
 use wt_guards::{Role, Stretch};
 use wt_original::{Kept, Page, page_of_block};
 use wt_span::{NoMemory, Text};
@@ -185,14 +185,15 @@ fn at_end(role: Role) -> Role {
 // ---- the page
 
 /// The page: its source, and its nodes by their numbers. Only where nodes of the edited page come from other
-/// blocks, all of it as one block, and by their numbers which nodes stay without being written anew inside; whether
-/// it has a table; whether it has headings, none of them with a blank before its text; and how close its blocks are.
+/// blocks, all of it as one block, and by their numbers which comments and include tags are left where the page has
+/// them; whether it has a table; whether it has headings, none of them with a blank before its text; and how close its
+/// blocks are.
 #[derive(Drop)]
 pub struct Known<'t, 'a> {
     pub page: &'t str,
     pub index: &'t [Visit<'t, 'a>],
     pub whole: Option<Block<'t, 'a>>,
-    pub staying: Vec<bool>,
+    pub left: Vec<bool>,
     pub has_tables: bool,
     pub has_tight_headings: bool,
     pub closeness: Closeness,
@@ -258,6 +259,11 @@ fn have_come(index: &[Visit<'_, '_>], holder: Option<u32>, nodes: &[Node<'_>]) -
     false
 }
 
+/// Whether an inline node of the edited page isn't where the page has it.
+pub fn takes_from_elsewhere(index: &[Visit<'_, '_>], edited: &Node<'_>) -> bool {
+    have_come(index, Some(0), edited.children.as_slice())
+}
+
 fn whole_if<'t, 'a>(
     alloc: Global,
     body: &'t Node<'a>,
@@ -270,71 +276,23 @@ fn whole_if<'t, 'a>(
     Ok(Some(whole))
 }
 
-/// Notes which of the nodes that are built of these stay in the page without being written anew inside: those
-/// that are where they were and aren't marked `content`.
-fn note_staying(staying: &mut [bool], index: &[Visit<'_, '_>], holder: u32, nodes: &[Node<'_>]) {
-    for node in nodes {
-        if is_block_part(node.kind) && stays_in(index, holder, node) {
-            let number = node.id as usize;
-            if number < staying.len() && !is_content(node.mark()) {
-                staying[number] = true;
-            }
-            note_staying(staying, index, node.id, node.children.as_slice());
-        }
-    }
-}
-
-fn staying_if(
-    alloc: Global,
-    index: &[Visit<'_, '_>],
-    edited: &Node<'_>,
-    is_needed: bool,
-) -> Result<Vec<bool>, NoMemory> {
-    let mut staying = Vec::new(alloc);
-    if is_needed {
-        for _ in 0..index.len() {
-            staying.push(false)?;
-        }
-        note_staying(staying.as_mut_slice(), index, 0, edited.children.as_slice());
-    }
-    Ok(staying)
-}
-
-/// The number of the block, or the part of one, in which the page's node of this number is; 0 of the body.
-/// What holds a node has a number below its own.
-fn block_round(index: &[Visit<'_, '_>], number: u32) -> Option<u32> {
-    let visit = original(index, number)?;
-    let holder = visit.parent;
-    if holder == 0 {
-        return Some(0);
-    }
-    if is_block_part(original(index, holder)?.node.kind) {
-        return Some(holder);
-    }
-    if holder < number {
-        block_round(index, holder)
-    } else {
-        None
-    }
-}
-
 impl<'t, 'a> Known<'t, 'a> {
-    /// What is known of the page of this body, for an edited one with the marks of its difference.
+    /// What is known of the page of this body, where nodes come from other blocks (`is_whole`) or don't, and these
+    /// comments and include tags are left where they are.
     pub fn of(
         alloc: Global,
         page: &'t str,
         index: &'t [Visit<'t, 'a>],
         body: &'t Node<'a>,
-        edited: &Node<'_>,
+        is_whole: bool,
+        left: Vec<bool>,
     ) -> Result<Known<'t, 'a>, NoMemory> {
-        let is_needed = have_come(index, Some(0), edited.children.as_slice());
-        let whole = whole_if(alloc, body, is_needed)?;
-        let staying = staying_if(alloc, index, edited, is_needed)?;
+        let whole = whole_if(alloc, body, is_whole)?;
         Ok(Known {
             page,
             index,
             whole,
-            staying,
+            left,
             has_tables: has_tables(index),
             has_tight_headings: has_tight_headings(index),
             closeness: closeness_of(page, index),
@@ -387,19 +345,9 @@ impl<'t, 'a> Known<'t, 'a> {
         }
     }
 
-    /// Whether a comment or an include tag with this number, which comes to the block from another place, is left in
-    /// that place: between blocks, or in a block that isn't written anew. It isn't written twice.
-    pub fn is_left(&self, block: Option<&Block<'t, 'a>>, number: u32) -> bool {
-        if let Some(block) = block
-            && block.find(number).is_some()
-        {
-            return false;
-        }
-        match block_round(self.index, number) {
-            Some(0) => true,
-            Some(holder) => self.staying.get(holder as usize).copied().unwrap_or(false),
-            None => false,
-        }
+    /// Whether the page's comment or include tag with this number is left where the page has it. It isn't written twice.
+    pub fn is_left(&self, number: u32) -> bool {
+        self.left.get(number as usize).copied().unwrap_or(false)
     }
 
     /// What is known of the groups of the page: of all, or of those in the block.

@@ -2,9 +2,11 @@
 #![tactic(auto)]
 
 mod closeness;
+mod insides;
 mod known;
 mod texts;
 
 pub use closeness::{Closeness, breaks_between};
-pub use known::{Block, Known, Sides, block_of, first_text, last_text};
+pub use insides::{text_of, text_of_staying};
+pub use known::{Block, Known, Sides, block_of, first_text, last_text, takes_from_elsewhere};
 pub use texts::joined;

@@ -3,3 +3,4 @@ pub mod Deep
 pub mod Marks
 pub mod Breaks
 pub mod ItemWalks
+pub mod Doubts

@@ -1,3 +1,4 @@
 pub mod Deepest
+pub mod Doubtful
 pub mod Fronts
 pub mod Sides

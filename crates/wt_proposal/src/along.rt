@@ -1,10 +1,12 @@
-//! Comments that come along with a block that moved: those that are before it in the page, and were sent before it.
+//! Comments that come along with a block that moved: those that are before it in the page, and were sent before it. And
+//! which comments and include tags are left where the page has them.
 
 use std::alloc::Global;
 use wt_block_signs::is_cell;
-use wt_checks::{Visit, is_compared};
-use wt_difference::{inside_count, is_block_part, stays_in};
+use wt_checks::{Visit, is_compared, is_content, original};
+use wt_difference::{are_same, inside_count, is_block_part, stays_in};
 use wt_gaps::{byte_at, is_at_line_start, nodes_between, range_of};
+use wt_known::text_of;
 use wt_places::turns;
 use wt_span::NoMemory;
 use wt_tree::{Kind, Node};
@@ -135,24 +137,76 @@ fn ends_row(kind: Kind) -> bool {
     is_compared(kind) || (kind.is_mark() && !matches!(kind, Kind::Comment))
 }
 
-/// Notes the comments that come along among these children of the page's node with the number `holder`.
+/// What holds edited children: the page's node with this number, or a new one, and whether that stays.
+#[derive(Clone, Copy)]
+struct Holder {
+    number: Option<u32>,
+    stays: bool,
+}
+
+impl Holder {
+    /// What an edited node is to its children, by whether it stays.
+    fn of(node: &Node<'_>, stays: bool) -> Holder {
+        Holder {
+            number: if node.id != 0 || stays {
+                Some(node.id)
+            } else {
+                None
+            },
+            stays,
+        }
+    }
+
+    /// Whether a child of it stays in it.
+    fn keeps(self, index: &[Visit<'_, '_>], child: &Node<'_>) -> bool {
+        match self.number {
+            Some(number) => self.stays && stays_in(index, number, child),
+            None => false,
+        }
+    }
+
+    /// Whether a child of it is in another node in the page.
+    fn gets(self, index: &[Visit<'_, '_>], child: &Node<'_>) -> bool {
+        match original(index, child.id) {
+            Some(visit) => child.id != 0 && self.number != Some(visit.parent),
+            None => false,
+        }
+    }
+}
+
+/// Of each of these children whether it stays in its turn; none are said where what holds them doesn't stay.
+fn turns_in(
+    alloc: Global,
+    index: &[Visit<'_, '_>],
+    holder: Holder,
+    nodes: &[Node<'_>],
+) -> Result<Vec<bool>, NoMemory> {
+    match holder.number {
+        Some(number) if holder.stays => turns(alloc, index, number, nodes),
+        _ => Ok(Vec::new(alloc)),
+    }
+}
+
+/// Notes the comments that come along among these children.
 fn note_children(
     alloc: Global,
     out: &mut [bool],
     below: &[u32],
     index: &[Visit<'_, '_>],
-    holder: u32,
+    holder: Holder,
     nodes: &[Node<'_>],
 ) -> Result<(), NoMemory> {
     if !may_come(below, nodes) {
         return Ok(());
     }
-    let turns = turns(alloc, index, holder, nodes)?;
+    let turns = turns_in(alloc, index, holder, nodes)?;
     let mut from = 0;
     for at in 0..nodes.len() {
         let node = &nodes[at];
         if ends_row(node.kind) {
-            if node.id != 0 && !turns[at] && stays_in(index, holder, node) {
+            let is_in_turn = turns.get(at).copied().unwrap_or(false);
+            let is_moved = holder.gets(index, node) || holder.keeps(index, node);
+            if is_moved && !is_in_turn {
                 note_before(out, below, nodes_between(nodes, from, at), node.id);
             }
             from = at.saturating_add(1);
@@ -161,27 +215,41 @@ fn note_children(
     Ok(())
 }
 
-/// Notes the comments that come along in a node that stays, and in those of its children that do.
+/// How many of the edited children of a node come before those that it has in lines of their own.
+fn text_count(page: &str, index: &[Visit<'_, '_>], stays: bool, node: &Node<'_>) -> usize {
+    if stays {
+        inside_count(node)
+    } else {
+        text_of(page, index, node).len()
+    }
+}
+
+/// Notes the comments that come along in a node, which stays or doesn't, and in those that it holds.
 fn note_within(
     alloc: Global,
     out: &mut [bool],
     below: &[u32],
+    page: &str,
     index: &[Visit<'_, '_>],
     node: &Node<'_>,
+    stays: bool,
 ) -> Result<(), NoMemory> {
+    let holder = Holder::of(node, stays);
     let nodes = node.children.as_slice();
-    let children = nodes_between(nodes, inside_count(node), nodes.len());
-    note_children(alloc, out, below, index, node.id, children)?;
+    let from = text_count(page, index, stays, node);
+    let children = nodes_between(nodes, from, nodes.len());
+    note_children(alloc, out, below, index, holder, children)?;
     for child in nodes {
-        if is_block_part(child.kind) && stays_in(index, node.id, child) {
-            note_within(alloc, out, below, index, child)?;
+        if is_block_part(child.kind) {
+            let stays = holder.keeps(index, child);
+            note_within(alloc, out, below, page, index, child, stays)?;
         }
     }
     Ok(())
 }
 
 /// Of each node of the page, by its number, whether it is a comment that comes along: the block that it is directly
-/// before was moved, and the comment was sent before it.
+/// before was moved, in what holds it or into another node, and the comment was sent before it.
 pub fn comments_along(
     alloc: Global,
     page: &str,
@@ -189,10 +257,111 @@ pub fn comments_along(
     edited: &Node<'_>,
 ) -> Result<Vec<bool>, NoMemory> {
     let below = blocks_below(alloc, page, index)?;
+    let mut out = none_noted(alloc, index)?;
+    note_within(
+        alloc,
+        out.as_mut_slice(),
+        below.as_slice(),
+        page,
+        index,
+        edited,
+        true,
+    )?;
+    Ok(out)
+}
+
+/// Of each node of the page, by its number: no.
+fn none_noted(alloc: Global, index: &[Visit<'_, '_>]) -> Result<Vec<bool>, NoMemory> {
     let mut out = Vec::new(alloc);
     for _ in 0..index.len() {
         out.push(false)?;
     }
-    note_within(alloc, out.as_mut_slice(), below.as_slice(), index, edited)?;
     Ok(out)
+}
+
+// ---- comments and include tags that are left
+
+/// Notes the comments and include tags among these nodes of the page, and in them but for their blocks, or with these.
+fn note_marks(left: &mut [bool], nodes: &[Node<'_>], with_blocks: bool) {
+    for node in nodes {
+        let at = node.id as usize;
+        if node.kind.is_mark() && at != 0 && at < left.len() {
+            left[at] = true;
+        }
+        if with_blocks || !is_block_part(node.kind) {
+            note_marks(left, node.children.as_slice(), with_blocks);
+        }
+    }
+}
+
+/// Notes those that are left in a block of the page that was moved: all, where it is as it was and is written so.
+fn note_moved(
+    alloc: Global,
+    left: &mut [bool],
+    old: &Node<'_>,
+    node: &Node<'_>,
+) -> Result<(), NoMemory> {
+    if are_same(alloc, old.children.as_slice(), node.children.as_slice())? {
+        note_marks(left, old.children.as_slice(), true);
+    }
+    Ok(())
+}
+
+/// Notes those that are left in a node of the page that stays in its turn: all but those of an inside that is written
+/// anew, and what its children have.
+fn note_left(
+    alloc: Global,
+    left: &mut [bool],
+    index: &[Visit<'_, '_>],
+    old: &Node<'_>,
+    node: &Node<'_>,
+) -> Result<(), NoMemory> {
+    let nodes = old.children.as_slice();
+    let from = if is_content(node.mark()) {
+        inside_count(old)
+    } else {
+        0
+    };
+    note_marks(left, nodes_between(nodes, from, nodes.len()), false);
+    let nodes = node.children.as_slice();
+    let children = nodes_between(nodes, inside_count(node), nodes.len());
+    let turns = turns(alloc, index, old.id, children)?;
+    for at in 0..children.len() {
+        let child = &children[at];
+        if is_block_part(child.kind)
+            && stays_in(index, old.id, child)
+            && let Some(visit) = original(index, child.id)
+        {
+            if turns[at] {
+                note_left(alloc, left, index, visit.node, child)?;
+            } else {
+                note_moved(alloc, left, visit.node, child)?;
+            }
+        }
+    }
+    Ok(())
+}
+
+/// Of each node of the page, by its number, whether it is a comment or an include tag that is left where the page has it:
+/// between blocks, or in a block that isn't written anew there. Those that come along (`along`) aren't. Nothing is said
+/// where no node comes from elsewhere (`is_asked`).
+pub fn marks_left(
+    alloc: Global,
+    index: &[Visit<'_, '_>],
+    tree: &Node<'_>,
+    edited: &Node<'_>,
+    along: &[bool],
+    is_asked: bool,
+) -> Result<Vec<bool>, NoMemory> {
+    if !is_asked {
+        return Ok(Vec::new(alloc));
+    }
+    let mut left = none_noted(alloc, index)?;
+    note_left(alloc, left.as_mut_slice(), index, tree, edited)?;
+    for at in 0..left.len() {
+        if along.get(at).copied().unwrap_or(false) {
+            left[at] = false;
+        }
+    }
+    Ok(left)
 }

@@ -3,14 +3,14 @@
 use crate::proposing::Plan;
 use std::alloc::Global;
 use wt_block_proposal::{Surroundings, push_block, push_if_in_line};
-use wt_block_signs::{USUAL, goes_on_behind, is_item};
+use wt_block_signs::{USUAL, ends_with_given_sign, goes_on_behind, is_item};
 use wt_checks::is_compared;
 use wt_difference::inside;
 use wt_gaps::{
-    Coming, Gap, Passed, behind_first, between, comes_along, count_of, empties_row, kind_at_end,
-    kind_at_start, last_number, mark_at, nodes_between, place_behind, push_between, push_breaks,
-    push_comment, push_emptied_row, push_gone, push_new, push_up_to_comment, signs_in, slices_of,
-    style_beside, wanted_between,
+    Coming, Gap, Passed, behind_first, between_coming, comes_along, count_of, empties_row,
+    kind_at_end, kind_at_start, last_number, mark_at, nodes_between, place_behind, push_between,
+    push_breaks, push_comment, push_emptied_row, push_gone, push_new, push_up_to_comment, signs_in,
+    slices_of, style_beside, wanted_between,
 };
 use wt_known::{Known, last_text};
 use wt_span::{NoMemory, Str};
@@ -30,7 +30,8 @@ fn text_at_end<'t, 'a>(block: Option<&'t Node<'a>>) -> Option<&'t Node<'a>> {
 /// What comes, with line breaks between; nothing where nothing does.
 fn coming_of<'t, 'a>(
     alloc: Global,
-    plan: Plan<'_, 't, 'a>,
+    known: &Known<'t, 'a>,
+    plan: Plan<'_>,
     outer: &str,
     gap: &Gap<'_, 't, 'a>,
 ) -> Result<Option<Coming>, NoMemory> {
@@ -42,11 +43,11 @@ fn coming_of<'t, 'a>(
         let node = &gap.new[at];
         if comes_along(plan.along, node) {
             let rest = nodes_between(gap.new, at, gap.new.len());
-            coming = led_by(alloc, plan.known, gap.is_tight, coming, before, rest)?;
+            coming = led_by(alloc, known, gap.is_tight, coming, before, rest)?;
             before = None;
         } else if is_compared(node.kind) {
             left = left.saturating_sub(1);
-            let signs = signs_in(alloc, plan.known, gap, node.kind, outer)?;
+            let signs = signs_in(alloc, known, gap, node.kind, outer)?;
             let keeps = plan.keeps(block.number);
             let around = Surroundings {
                 keeps,
@@ -55,10 +56,10 @@ fn coming_of<'t, 'a>(
                 style: if keeps { gap.style } else { USUAL },
             };
             coming = Some(match coming {
-                None => begun_with(alloc, plan.known, &around, node)?,
+                None => begun_with(alloc, known, &around, node)?,
                 Some(coming) => {
                     let is_tight = gap.is_tight;
-                    followed(alloc, plan.known, is_tight, coming, &around, before, node)?
+                    followed(alloc, known, is_tight, coming, &around, before, node)?
                 }
             });
             before = Some(node);
@@ -76,10 +77,10 @@ fn has_break_from(source: &str, start: usize) -> bool {
 }
 
 /// Whether a node, whose source is the end of this one, is of one line, in which a cell may follow: a text that ends with
-/// the sign of a heading cell would be read with the signs of the next.
+/// the sign of a heading cell, also one that a template gives, would be read with the signs of the next.
 fn may_go_on(source: &str, start: usize, node: &Node<'_>) -> bool {
     let is_heading_text = matches!(node.kind, Kind::Th) && !inside(node).is_empty();
-    let joins = is_heading_text && source.ends_with("!");
+    let joins = is_heading_text && (source.ends_with("!") || ends_with_given_sign(node));
     !joins && !has_break_from(source, start)
 }
 
@@ -161,7 +162,7 @@ fn led_by(
         if let (Some(before), Some(block)) = (before, block) {
             push_up_to_comment(&mut coming.source, known, is_tight, before, comment, block)?;
         }
-        push_comment(&mut coming.source, known, comment)?;
+        push_comment(&mut coming.source, known, is_tight, comment)?;
     }
     Ok(Some(coming))
 }
@@ -224,7 +225,7 @@ fn followed<'t, 'a>(
     if !is_begun {
         push_breaks(
             &mut source,
-            between(known.closeness, is_tight, last, node.kind),
+            between_coming(known, is_tight, last, before, node),
         )?;
     }
     let from = source.as_str().len();
@@ -244,12 +245,13 @@ fn followed<'t, 'a>(
 pub fn push_gap<'t, 'a>(
     alloc: Global,
     out: &mut Vec<Change>,
-    plan: Plan<'_, 't, 'a>,
+    known: &Known<'t, 'a>,
+    plan: Plan<'_>,
     outer: &str,
     gap: &Gap<'_, 't, 'a>,
 ) -> Result<(), NoMemory> {
     if count_of(gap.new) == 0 {
-        return push_part(alloc, out, plan, outer, gap);
+        return push_part(alloc, out, known, plan, outer, gap);
     }
     let gap = Gap {
         style: style_beside(gap),
@@ -266,47 +268,35 @@ pub fn push_gap<'t, 'a>(
             from = place_behind(gap.gone, from, node.id);
             if let Some(mark) = mark_at(gap.gone, from, node.id) {
                 let part = passed.part(&gap, from, at, mark);
-                push_part(alloc, out, plan, outer, &part)?;
-                passed = passed.behind(plan.known.page, &part, mark);
+                push_part(alloc, out, known, plan, outer, &part)?;
+                passed = passed.behind(known.page, &part, mark);
             }
         }
     }
-    push_part(alloc, out, plan, outer, &passed.rest(&gap))
+    push_part(alloc, out, known, plan, outer, &passed.rest(&gap))
 }
 
 /// Appends what is written anew in a part of a gap.
 fn push_part<'t, 'a>(
     alloc: Global,
     out: &mut Vec<Change>,
-    plan: Plan<'_, 't, 'a>,
+    known: &Known<'t, 'a>,
+    plan: Plan<'_>,
     outer: &str,
     gap: &Gap<'_, 't, 'a>,
 ) -> Result<(), NoMemory> {
-    let page = plan.known.page;
     let slices = slices_of(alloc, gap, plan.along)?;
-    let coming = coming_of(alloc, plan, outer, gap)?;
+    let slices = slices.as_slice();
+    let coming = coming_of(alloc, known, plan, outer, gap)?;
     match coming {
-        None if empties_row(gap) => {
-            push_emptied_row(alloc, out, plan.known, gap, slices.as_slice())
+        None if empties_row(gap) => push_emptied_row(alloc, out, known, gap, slices),
+        None => {
+            let wanted = wanted_between(known.page, gap);
+            push_gone(alloc, out, known, gap, slices, wanted)
         }
-        None => push_gone(
-            alloc,
-            out,
-            plan.known,
-            gap,
-            slices.as_slice(),
-            wanted_between(page, gap),
-        ),
         Some(coming) => {
-            push_new(alloc, out, plan.known, gap, slices.as_slice(), &coming)?;
-            push_gone(
-                alloc,
-                out,
-                plan.known,
-                gap,
-                behind_first(slices.as_slice()),
-                0,
-            )
+            push_new(alloc, out, known, gap, slices, &coming)?;
+            push_gone(alloc, out, known, gap, behind_first(slices), 0)
         }
     }
 }

@@ -6,18 +6,18 @@ ghost use Rattle.wt_checks.specs.View.{indexed};
 ghost use Rattle.wt_tree.specs.View.{view};
 ghost use Rattle.wt_places.specs.Rewritten.{IsRewritten};
 
-use crate::along::comments_along;
+use crate::along::{comments_along, marks_left};
 use crate::children::push_gap;
 use std::alloc::Global;
 use wt_block_signs::{
-    Style, USUAL, is_bare_sign, is_cell, is_item, is_list, is_row_without_sign, joins_sign,
-    signs_of, style_of, style_within,
+    Style, USUAL, ends_with_given_sign, is_bare_sign, is_cell, is_item, is_list,
+    is_row_without_sign, joins_sign, signs_of, style_of, style_within,
 };
 use wt_checks::{Visit, is_compared};
 use wt_content_proposal::{Writing, edges_of, spelled};
 use wt_difference::{Child, held, inside, inside_count, same_inside};
 use wt_gaps::{Gap, Numbering, Tags, byte_at, children_between, nodes_between, push_change};
-use wt_known::{Known, block_of};
+use wt_known::{Known, block_of, takes_from_elsewhere, text_of_staying};
 use wt_places::{
     Beside, Reached, Slot, begun, inside_end, inside_start, inside_stop, next_turn, places,
     start_of, tested, turns,
@@ -45,16 +45,15 @@ impl Keeping {
     }
 }
 
-/// What a proposal is made by: what is known of the page, where texts keep their bytes, and by the number of each comment
-/// whether it comes along with the block below it.
+/// What a proposal is made by, beside what is known of the page: where texts keep their bytes, and by the number of each
+/// comment whether it comes along with the block below it.
 #[derive(Clone, Copy)]
-pub struct Plan<'w, 't, 'a> {
-    pub known: &'w Known<'t, 'a>,
+pub struct Plan<'w> {
     pub keeping: Keeping,
     pub along: &'w [bool],
 }
 
-impl<'w, 't, 'a> Plan<'w, 't, 'a> {
+impl<'w> Plan<'w> {
     /// Whether texts keep their bytes in the block with this number.
     pub fn keeps(self, block: usize) -> bool {
         self.keeping.keeps(block)
@@ -99,8 +98,14 @@ fn meets_next_sign(page: &str, old: &Node<'_>, place: Slot) -> bool {
         && byte_at(page, place.end) == b'|'
 }
 
-/// The inside of a heading cell before the signs of the next one: its last character isn't read with these.
-fn apart_from_sign(alloc: Global, inside: Str) -> Result<Str, NoMemory> {
+/// The inside of a heading cell before the signs of the next one: its last character isn't read with these, nor is that
+/// of what a template gives.
+fn apart_from_sign(alloc: Global, cell: &Node<'_>, inside: Str) -> Result<Str, NoMemory> {
+    if ends_with_given_sign(cell) {
+        let mut out = inside;
+        out.push_str("<nowiki/>")?;
+        return Ok(out);
+    }
     let Some(front) = inside.as_str().strip_suffix("!") else {
         return Ok(inside);
     };
@@ -109,12 +114,20 @@ fn apart_from_sign(alloc: Global, inside: Str) -> Result<Str, NoMemory> {
     Ok(out)
 }
 
-/// Appends the inside of a node of the page, spelled as it was edited.
+/// How the inside of a node of the page is written.
+fn writing_in(keeps: bool, old: &Node<'_>) -> Writing {
+    Writing {
+        keeps,
+        place: old.kind.edit_shape().place,
+    }
+}
+
+/// Appends the inside of a node of the page, spelled as it was edited; `keeps` says whether texts keep their bytes in it.
 fn push_inside<'t, 'a>(
     alloc: Global,
     out: &mut Vec<Change>,
-    plan: Plan<'_, 't, 'a>,
-    number: usize,
+    known: &Known<'t, 'a>,
+    keeps: bool,
     new: &'t Node<'a>,
     old: &'t Node<'a>,
 ) -> Result<(), NoMemory> {
@@ -123,7 +136,6 @@ fn push_inside<'t, 'a>(
     }
     let start = inside_start(old.ranges);
     let mut standing = block_of(alloc, old)?;
-    let keeps = plan.keeps(number);
     let mut by = Str::new(alloc);
     if is_behind_blank(out.as_slice(), start) {
         standing.before = b' ';
@@ -131,23 +143,24 @@ fn push_inside<'t, 'a>(
         by.push_str(" ")?;
         standing.before = b' ';
     }
-    let writing = Writing::of(
-        plan.known,
+    let source = spelled(
+        alloc,
+        known,
         Some(&standing),
-        keeps,
-        old.kind.edit_shape().place,
-    );
-    let source = spelled(alloc, &writing, inside(new), edges_of(inside(old)))?;
+        writing_in(keeps, old),
+        text_of_staying(known.page, known.index, new),
+        edges_of(inside(old)),
+    )?;
     by.push_str(source.as_str())?;
     let place = Slot {
         start,
         end: inside_end(old),
     };
-    if keeps && by.as_str().is_empty() && meets_next_sign(plan.known.page, old, place) {
+    if keeps && by.as_str().is_empty() && meets_next_sign(known.page, old, place) {
         by.push_str(" ")?;
     }
-    if matches!(old.kind, Kind::Th) && byte_at(plan.known.page, place.end) == b'!' {
-        by = apart_from_sign(alloc, by)?;
+    if matches!(old.kind, Kind::Th) && byte_at(known.page, place.end) == b'!' {
+        by = apart_from_sign(alloc, new, by)?;
     }
     push_change(out, place, by)
 }
@@ -192,23 +205,24 @@ fn style_at(page: &str, at: usize) -> Style {
 fn push_own_line<'t, 'a>(
     alloc: Global,
     out: &mut Vec<Change>,
-    plan: Plan<'_, 't, 'a>,
-    number: usize,
+    known: &Known<'t, 'a>,
+    keeps: bool,
     new: &'t Node<'a>,
     old: &'t Node<'a>,
 ) -> Result<(), NoMemory> {
     let start = inside_start(old.ranges);
     let block = block_of(alloc, old)?;
-    let writing = Writing::of(
-        plan.known,
+    let source = spelled(
+        alloc,
+        known,
         Some(&block),
-        plan.keeps(number),
-        old.kind.edit_shape().place,
-    );
-    let source = spelled(alloc, &writing, inside(new), edges_of(inside(old)))?;
-    let mut by = signs_of(alloc, plan.known, old)?;
+        writing_in(keeps, old),
+        text_of_staying(known.page, known.index, new),
+        edges_of(inside(old)),
+    )?;
+    let mut by = signs_of(alloc, known, old)?;
     if !source.as_str().is_empty() {
-        by.push_str(style_at(plan.known.page, start).blank_before(source.as_str()))?;
+        by.push_str(style_at(known.page, start).blank_before(source.as_str()))?;
         by.push_str(source.as_str())?;
     }
     if holds_blocks(new) {
@@ -377,10 +391,7 @@ fn ends_with_sign(cell: &Node<'_>) -> bool {
         return false;
     }
     match inside(cell).last() {
-        Some(last) => match last.children.as_slice().last() {
-            Some(text) if matches!(last.kind, Kind::Group) => text.shown().ends_with("!"),
-            _ => last.shown().ends_with("!"),
-        },
+        Some(last) => last.shown().ends_with("!") || ends_with_given_sign(cell),
         None => false,
     }
 }
@@ -411,7 +422,8 @@ fn holds_parts(kind: Kind) -> bool {
 fn push_span<'t, 'a>(
     alloc: Global,
     out: &mut Vec<Change>,
-    plan: Plan<'_, 't, 'a>,
+    known: &Known<'t, 'a>,
+    plan: Plan<'_>,
     held: &Held<'_, 't, 'a>,
     new: &[Node<'a>],
     span: &Span,
@@ -435,7 +447,7 @@ fn push_span<'t, 'a>(
         new,
         first: span.first,
     };
-    push_gap(alloc, out, plan, held.signs, &gap)
+    push_gap(alloc, out, known, plan, held.signs, &gap)
 }
 
 /// The part of a list or a table that is beside one in its turn, which passes so many of the page's: the one before it,
@@ -489,14 +501,15 @@ fn push_blank(
 fn push_children<'t, 'a>(
     alloc: Global,
     out: &mut Vec<Change>,
-    plan: Plan<'_, 't, 'a>,
+    known: &Known<'t, 'a>,
+    plan: Plan<'_>,
     nodes: &'t [Node<'a>],
     held: &Held<'_, 't, 'a>,
     block: Numbering,
 ) -> Result<(), NoMemory>
     requires { held.now.from ≤ length nodes.now }
 {
-    let turns = turns(alloc, plan.known.index, held.number, &nodes[held.from..])?;
+    let turns = turns(alloc, known.index, held.number, &nodes[held.from..])?;
     let mut line = Line::of(held, block);
     for at in held.from..nodes.len() {
         let child = &nodes[at];
@@ -506,7 +519,7 @@ fn push_children<'t, 'a>(
             rest: children_between(held.children, line.from, held.children.len()),
             reached: line.reached,
         };
-        let turn = next_turn(plan.known.index, beside, child);
+        let turn = next_turn(known.index, beside, child);
         if let Some(place) = turn.gap {
             let new = nodes_between(nodes, line.came_from, at);
             let mut span = line.span(nodes, place, turn.passed);
@@ -514,7 +527,7 @@ fn push_children<'t, 'a>(
                 Some(within) => gets_line(child, within),
                 None => false,
             };
-            push_span(alloc, out, plan, held, new, &span)?;
+            push_span(alloc, out, known, plan, held, new, &span)?;
         }
         if let Some(within) = turn.within {
             let part = Part {
@@ -530,12 +543,20 @@ fn push_children<'t, 'a>(
                     held.style.is_tight && is_cell(within.kind),
                 )?;
             }
-            push_node(alloc, out, plan, child, part, line.block.inside())?;
+            push_node(alloc, out, known, plan, child, part, line.block.inside())?;
         }
         line = line.behind(turn.passed, turn.reached, at);
     }
     let new = nodes_between(nodes, line.came_from, nodes.len());
-    push_span(alloc, out, plan, held, new, &line.last_span(nodes, held))
+    push_span(
+        alloc,
+        out,
+        known,
+        plan,
+        held,
+        new,
+        &line.last_span(nodes, held),
+    )
 }
 
 /// How new parts are written in a node of the page: lists in an item as this one is, cells in a row as those of it.
@@ -552,19 +573,21 @@ fn style_in(part: Part<'_, '_>) -> Style {
 fn push_node<'t, 'a>(
     alloc: Global,
     out: &mut Vec<Change>,
-    plan: Plan<'_, 't, 'a>,
+    known: &Known<'t, 'a>,
+    plan: Plan<'_>,
     new: &'t Node<'a>,
     part: Part<'t, 'a>,
     block: Numbering,
 ) -> Result<(), NoMemory> {
     let old = part.old;
+    let keeps = plan.keeps(block.number);
     if gets_line(new, old) {
-        push_own_line(alloc, out, plan, block.number, new, old)?;
+        push_own_line(alloc, out, known, keeps, new, old)?;
     } else {
-        push_inside(alloc, out, plan, block.number, new, old)?;
+        push_inside(alloc, out, known, keeps, new, old)?;
     }
     let children = held(alloc, old)?;
-    let signs = signs_of(alloc, plan.known, old)?;
+    let signs = signs_of(alloc, known, old)?;
     let begun = begun(old);
     let held = Held {
         children: children.as_slice(),
@@ -577,7 +600,15 @@ fn push_node<'t, 'a>(
         stop: inside_stop(old.ranges),
         from: inside_count(new),
     };
-    push_children(alloc, out, plan, new.children.as_slice(), &held, block)
+    push_children(
+        alloc,
+        out,
+        known,
+        plan,
+        new.children.as_slice(),
+        &held,
+        block,
+    )
 }
 
 // ---- a proposal
@@ -591,10 +622,11 @@ fn changes_of<'t, 'a>(
     edited: &'t Node<'a>,
     keeping: Keeping,
 ) -> Result<Vec<Change>, NoMemory> {
-    let known = Known::of(alloc, page, index, tree, edited)?;
     let along = comments_along(alloc, page, index, edited)?;
+    let is_whole = takes_from_elsewhere(index, edited);
+    let left = marks_left(alloc, index, tree, edited, along.as_slice(), is_whole)?;
+    let known = Known::of(alloc, page, index, tree, is_whole, left)?;
     let plan = Plan {
-        known: &known,
         keeping,
         along: along.as_slice(),
     };
@@ -607,7 +639,7 @@ fn changes_of<'t, 'a>(
         old: tree,
         beside: None,
     };
-    push_node(alloc, &mut out, plan, edited, whole, body)?;
+    push_node(alloc, &mut out, &known, plan, edited, whole, body)?;
     Ok(out)
 }
 

@@ -108,6 +108,14 @@ pub fn units_from<'u, 'n>(units: &'u [Unit<'n>], at: usize) -> &'u [Unit<'n>] {
     }
 }
 
+/// The bytes of the unit before a place; none where there is none.
+fn source_before<'u>(units: &'u [Unit<'_>], at: usize) -> &'u [u8] {
+    match before(units, at) {
+        Some(unit) => source_of(unit),
+        None => &[],
+    }
+}
+
 /// The bytes of a unit; none where there is none.
 fn source_at<'u>(units: &'u [Unit<'_>], at: usize) -> &'u [u8] {
     match units.get(at) {
@@ -226,7 +234,7 @@ fn joins_delimiter(spot: InsidePlace<'_>, first: u8, units: &[Unit<'_>]) -> bool
     }
     match spot.place {
         Place::Paragraph => begins_block(spot, first, units),
-        Place::Heading => first == b'=' && !is_reference(units),
+        Place::Heading => first == b'=',
         Place::Item | Place::Term => is_list_sign(first) && !is_blank(spot.before),
         Place::Cell => first == b'-' && spot.before == b'|',
         Place::Header => first == b'!' && spot.before == b'!',
@@ -343,6 +351,25 @@ fn joins_link(units: &[Unit<'_>], at: usize) -> bool {
         (Some(end), Some(first)) => first.is_ascii_lowercase() && end != place.start,
         _ => false,
     }
+}
+
+/// Whether an external link that is new or changed comes after a bracket of the page: the two would begin a link to a
+/// page, or with a bare URL an external link.
+fn meets_bracket(units: &[Unit<'_>], at: usize) -> bool {
+    let (Some((_, ended)), Some(Unit::Thing(link))) = (placed(before(units, at)), units.get(at))
+    else {
+        return false;
+    };
+    let joins = match link.role {
+        Role::External => link.source.as_str().starts_with("["),
+        Role::Bare(_) => true,
+        _ => false,
+    };
+    let is_beside = match link.place {
+        Some(place) => place.start == ended.end,
+        None => false,
+    };
+    joins && !is_beside && source_before(units, at).ends_with(b"[")
 }
 
 // ---- after a bare URL
@@ -581,7 +608,8 @@ fn push_before<'n>(
     if let Some(place) = joint_before(spot, units, at) {
         out.push(joint_at(alloc, place))?;
     }
-    if joins_link(units, at) || meets_like(units, at) || is_at_start(spot, units, at) {
+    let joins = joins_link(units, at) || meets_bracket(units, at) || meets_like(units, at);
+    if joins || is_at_start(spot, units, at) {
         push_nowiki(alloc, out)?;
     }
     Ok(())

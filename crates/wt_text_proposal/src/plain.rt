@@ -211,17 +211,9 @@ fn is_plain_equals(place: Option<Place>, cut: Cut<'_, '_, '_>) -> bool {
     is_within
         && match cut.behind() {
             Beside::Byte(byte) => byte != b'\n' || !cut.may_end_with_equals(),
-            Beside::Edge => may_be_first(place) && !cut.may_end_with_equals(),
+            Beside::Edge => place.is_some() && !cut.may_end_with_equals(),
             Beside::Unknown => false,
         }
-}
-
-/// Whether an inside may begin with `=`.
-fn may_be_first(place: Option<Place>) -> bool {
-    match place {
-        Some(place) => !matches!(place, Place::Heading),
-        None => false,
-    }
 }
 
 /// Whether a bracket begins and ends no link, call, argument or table. (After `|` and at an edge a brace may make a
@@ -352,6 +344,23 @@ fn push_lone_blank(alloc: Global, out: &mut Vec<Unit<'_>>, text: &str) -> Result
     push_plain(alloc, out, source.as_str())
 }
 
+/// Appends a reference for `=` with which a typed text begins a heading: it would be read as one of its signs. Gives how
+/// many bytes of the text are written so.
+fn push_heading_sign(
+    alloc: Global,
+    out: &mut Vec<Unit<'_>>,
+    place: Option<Place>,
+    bytes: &[u8],
+    around: Around<'_, '_>,
+) -> Result<usize, NoMemory> {
+    let is_first = matches!(place, Some(Place::Heading)) && around.before.is_none();
+    if !is_first || !bytes.starts_with(b"=") {
+        return Ok(0);
+    }
+    push_plain(alloc, out, "&#61;")?;
+    Ok(1)
+}
+
 /// Appends a text with its plain characters as they are; lines that begin with a character like `=` are apart.
 fn push_text<'u, 'n>(
     alloc: Global,
@@ -364,8 +373,9 @@ fn push_text<'u, 'n>(
     if is_lone_blank(place, bytes, around) {
         return push_lone_blank(alloc, out, text);
     }
-    let mut start = 0;
-    for at in 0..bytes.len() {
+    let signs = push_heading_sign(alloc, out, place, bytes, around)?;
+    let mut start = signs;
+    for at in signs..bytes.len() {
         let end = at.saturating_add(1);
         let cut = Cut {
             front: up_to(bytes, at),

@@ -8,7 +8,7 @@ use Rattle.wt_turn_laws.specs.Choices.{IsFirstOfMost, IsRising, TakesFirst, move
 
 -- ---- two tests
 
-both : (b c : Bool) → (b && c) ≡ true → (b ≡ true) × (c ≡ true)
+pub both : (b c : Bool) → (b && c) ≡ true → (b ≡ true) × (c ≡ true)
 both true c e = (refl, e)
 both false c e = absurd (true≢false (sym e))
 
@@ -53,12 +53,12 @@ own_first : (page : Page) (holder n : ℕ) (u : Tree) (us : Trees) → n < (labe
     → suc (most_after page holder (label u).id us) ≤ most_after page holder n (more u us)
 own_first page holder n u us lt stays = let e = with_it page holder n u us (follows page holder n u lt stays) in omega (arith, e)
 
-record InTurn (page : Page) (holder n : ℕ) (u : Tree) (us : Trees) : Type 0 where
-  stays : may_stay page holder u ≡ true
-  greater : n < (label u).id
-  enough : most_after page holder n us ≤ suc (most_after page holder (label u).id us)
+pub record InTurn (page : Page) (holder n : ℕ) (u : Tree) (us : Trees) : Type 0 where
+  pub stays : may_stay page holder u ≡ true
+  pub greater : n < (label u).id
+  pub enough : most_after page holder n us ≤ suc (most_after page holder (label u).id us)
 
-in_turn : (page : Page) (holder n : ℕ) (u : Tree) (us : Trees) → is_in_turn page holder n u us ≡ true → InTurn page holder n u us
+pub in_turn : (page : Page) (holder n : ℕ) (u : Tree) (us : Trees) → is_in_turn page holder n u us ≡ true → InTurn page holder n u us
 in_turn page holder n u us e =
     let asked = both (may_follow page holder n u) (nat_le (most_after page holder n us) (suc (most_after page holder (label u).id us))) e in
     let parts = both (nat_lt n (label u).id) (may_stay page holder u) asked.0 in

@@ -1,12 +1,21 @@
-//! Laws of the edited children that stay in their turn (`turns` of `wt_places`), in other words than its definition: as
-//! many as can, so that the fewest count as moved, and of several choices of as many the one with the first children.
+//! Laws of the places in which a page may be written anew (`wt_places`), in other words than their definitions. Here are
+//! those of the edited children that stay in their turn (`turns`): as many as can, so that the fewest count as moved, and
+//! of several choices of as many the one with the first children.
 #![tactic(auto)]
+
+mod left_alone;
+mod staying;
 
 ghost use Rattle.std.specs.Prelude.{◌≡◌, ◌≤◌, ℕ, List, Bool};
 ghost use Rattle.wt_checks.specs.Places.{Page};
 ghost use Rattle.wt_places.specs.Turns.{turns};
 ghost use Rattle.wt_tree.specs.Tree.{Trees};
 ghost use Rattle.wt_turn_laws.specs.Choices.{IsFirstOfMost, IsRising, TakesFirst, moved, taken, those_that_may_stay};
+
+pub use left_alone::{
+    unedited_blocks_have_no_place, unedited_nodes_have_no_place, untouched_bytes_stay,
+};
+pub use staying::{only_own_nodes_may_stay, own_nodes_may_stay, unmoved_blocks_stay};
 
 /// Each child that stays in its turn may stay, and their numbers rise.
 pub fn turns_rise()

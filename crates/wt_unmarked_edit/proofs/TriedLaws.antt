@@ -13,9 +13,7 @@ use Rattle.wt_places.specs.Rewritten.{IsRewritten}
 use Rattle.wt_selser.specs.declared.refusal.EditRefusal.{EditRefusal as SpliceRefusal}
 use Rattle.wt_selser.specs.declared.refusal.EditRefusal.TheVariants as of_splice
 use Rattle.wt_selser.specs.Edits.{edit_answer, AnswersEdit}
-use Rattle.wt_visible.specs.Children.{IsFirstDiffering, shown_children}
 use Rattle.wt_visible.specs.KeptMarks.{KeepsMarks}
-use Rattle.wt_visible.specs.Restored.{restored_from}
 use Rattle.wt_visible.specs.SameNodes.{same_node}
 use Rattle.wt_span.specs.Origins.{Expanded}
 use Rattle.wt_span.specs.declared.limits.TheConstants.{PAGE_BYTES}
@@ -29,18 +27,20 @@ use Rattle.wt_edit.specs.declared.refusal.EditRefusal.{EditRefusal}
 use Rattle.wt_edit.specs.declared.refusal.EditRefusal.TheVariants as of_edit
 use Rattle.wt_edit.specs.Edits.{IsPage, Refuses, new_answer, refusal_of_new, refusal_of_page}
 use Rattle.wt_edit.proofs.EditLaws.{meant, new_refused}
-use Rattle.wt_unmarked_edit.specs.declared.proposing.Tried.{Tried}
-use Rattle.wt_unmarked_edit.specs.declared.proposing.Tried.TheVariants as tried
-use Rattle.wt_unmarked_edit.specs.declared.reading_back.Fault.{Fault}
-use Rattle.wt_unmarked_edit.specs.declared.reading_back.Fault.TheVariants as fault
-use Rattle.wt_unmarked_edit.specs.declared.reading_back.ReadBack.{ReadBack}
-use Rattle.wt_unmarked_edit.specs.declared.reading_back.ReadBack.TheVariants as back
+use Rattle.wt_new_page.specs.declared.asked.Tried.{Tried}
+use Rattle.wt_new_page.specs.declared.asked.Tried.TheVariants as tried
+use Rattle.wt_new_page.specs.declared.asked.Fault.{Fault}
+use Rattle.wt_new_page.specs.declared.asked.Fault.TheVariants as fault
+use Rattle.wt_new_page.specs.declared.asked.ReadBack.{ReadBack}
+use Rattle.wt_new_page.specs.declared.asked.ReadBack.TheVariants as back
 use Rattle.wt_selser_refusal.specs.declared.refusal.SelserRefusal.{SelserRefusal}
 use Rattle.wt_selser_refusal.specs.declared.refusal.SelserRefusal.TheVariants as refusal
-use Rattle.wt_unmarked_edit.specs.declared.unmarked.Beside.{Beside}
+use Rattle.wt_new_page.specs.declared.beside.Beside.{Beside}
 use Rattle.wt_unmarked_edit.specs.Counts.{IsCounted, IsCountedErr, IsCountedRead, IsOfFolder}
 use Rattle.wt_unmarked_edit.specs.Found.{AnswersUnmarked, FailsAs, FindsNew, FindsNone, FirstFails, IsFaultOf, IsFirst, IsNewPage, IsNoNewPage, IsOfNewPage, PageMustDo, ReadsBack, UnlessChecked, late_refusal, refusal_of_fault}
-use Rattle.wt_unmarked_edit.specs.Tried.{device_fault, ComparedAs, FirstFailed, HoldsRead, HoldsTried, IsBeside, KnowsOf, MarkedAs, ReadAs, TriedFirst, TriedMarks, TriedPage, TriedProposal}
+use Rattle.wt_new_page.specs.NewPages.{ComparedAs, MarkedAs}
+use Rattle.wt_new_page.specs.Besides.{IsBeside}
+use Rattle.wt_unmarked_edit.specs.Tried.{device_fault, FirstFailed, HoldsRead, HoldsTried, KnowsOf, ReadAs, TriedFirst, TriedMarks, TriedPage, TriedProposal}
 
 -- ---- a new page that is read back
 
@@ -66,17 +66,6 @@ read_as pages t u new found (back.Fails why x) its unrefused is knows c = (
 pub holds_read : (found : KnownPage) (t u : Tree) (b : ReadBack) → HoldsPages found.expansion → ComparedAs found t u b → HoldsRead b
 holds_read found t u (back.Shows shown) h c = subst (λ (f : KnownPage). HoldsPages f.expansion) (sym c.0) h
 holds_read found t u (back.Fails why x) h c = subst HoldsPages (sym c.0) h
-
-pub compared_shows : (found : KnownPage) (t u : Tree) (o : Option ℕ) → o ≡ None
-    → IsFirstDiffering (shown_children (view found.annotated.tree.body)) (shown_children (restored_from t u)) o → ComparedAs found t u (back.Shows found)
-compared_shows found t u o is h =
-    (refl, subst (IsFirstDiffering (shown_children (view found.annotated.tree.body)) (shown_children (restored_from t u))) is h)
-
-pub compared_fails : (found : KnownPage) (t u : Tree) (o : Option ℕ) (k : ℕ) → o ≡ Some k
-    → IsFirstDiffering (shown_children (view found.annotated.tree.body)) (shown_children (restored_from t u)) o
-    → ComparedAs found t u (back.Fails (fault.Block k) found.expansion)
-compared_fails found t u o k is h =
-    (refl, (k, (refl, subst (IsFirstDiffering (shown_children (view found.annotated.tree.body)) (shown_children (restored_from t u))) is h)))
 
 -- ---- an expansion that is refused
 

@@ -19,8 +19,8 @@ use Rattle.wt_tree.specs.Tree.{Tree}
 use Rattle.wt_edit.specs.Edits.{IsPage, new_answer}
 use Rattle.wt_edit.specs.declared.refusal.EditRefusal.{EditRefusal}
 use Rattle.wt_edit.specs.declared.refusal.EditRefusal.TheVariants as of_edit
-use Rattle.wt_unmarked_edit.specs.declared.reading_back.Fault.{Fault}
-use Rattle.wt_unmarked_edit.specs.declared.reading_back.Fault.TheVariants as fault
+use Rattle.wt_new_page.specs.declared.asked.Fault.{Fault}
+use Rattle.wt_new_page.specs.declared.asked.Fault.TheVariants as fault
 use Rattle.wt_selser_refusal.specs.declared.refusal.SelserRefusal.{SelserRefusal}
 use Rattle.wt_selser_refusal.specs.declared.refusal.SelserRefusal.TheVariants as refusal
 

@@ -1,29 +1,22 @@
 -- What reading a new page back says, and what trying a proposal does.
 use Rattle.std.specs.Prelude.{◌≡◌, ⊤, ℕ, Bool, false, List, Option, Some, None}
-use Rattle.wt_checks.specs.Checked.{nodes_checked}
-use Rattle.wt_difference.specs.Difference.{are_none, difference}
-use Rattle.wt_difference.specs.Remarked.{remarked}
 use Rattle.wt_expand.specs.Work.{Pages}
 use Rattle.wt_expansion.specs.Known.{HoldsPages}
 use Rattle.wt_expansion.specs.Walks.{IsFree}
 use Rattle.wt_template_stack.specs.declared.expansion.Expansion.{Expansion}
 use Rattle.wt_page_round_trip.specs.PageTree.{page_tree}
-use Rattle.wt_visible.specs.Children.{IsFirstDiffering, shown_children}
 use Rattle.wt_visible.specs.KeptMarks.{KeepsMarks}
-use Rattle.wt_visible.specs.Restored.{restored_from}
 use Rattle.wt_span.specs.Origins.{Expanded}
 use Rattle.wt_transclusion.specs.declared.refusal.ExpandRefusal.{ExpandRefusal}
 use Rattle.wt_transclusion.specs.declared.refusal.ExpandRefusal.TheVariants as of_expansion
 use Rattle.wt_tree.specs.Tree.{Tree}
 use Rattle.wt_tree.specs.View.{view}
-use Rattle.wt_edit.specs.declared.known.KnownPage.{KnownPage}
-use Rattle.wt_unmarked_edit.specs.declared.reading_back.ReadBack.{ReadBack}
-use Rattle.wt_unmarked_edit.specs.declared.reading_back.ReadBack.TheVariants as back
-use Rattle.wt_unmarked_edit.specs.declared.reading_back.Fault.{Fault}
-use Rattle.wt_unmarked_edit.specs.declared.reading_back.Fault.TheVariants as fault
-use Rattle.wt_unmarked_edit.specs.declared.proposing.Tried.{Tried}
-use Rattle.wt_unmarked_edit.specs.declared.proposing.Tried.TheVariants as tried
-use Rattle.wt_unmarked_edit.specs.declared.unmarked.Beside.{Beside}
+use Rattle.wt_new_page.specs.declared.asked.ReadBack.{ReadBack}
+use Rattle.wt_new_page.specs.declared.asked.ReadBack.TheVariants as back
+use Rattle.wt_new_page.specs.declared.asked.Fault.{Fault}
+use Rattle.wt_new_page.specs.declared.asked.Fault.TheVariants as fault
+use Rattle.wt_new_page.specs.declared.asked.Tried.{Tried}
+use Rattle.wt_new_page.specs.declared.asked.Tried.TheVariants as tried
 use Rattle.wt_selser_refusal.specs.declared.refusal.SelserRefusal.{SelserRefusal}
 use Rattle.wt_selser_refusal.specs.declared.refusal.SelserRefusal.TheVariants.{FolderFault, NoMemory}
 use Rattle.wt_unmarked_edit.specs.Found.{FailsAs, FirstFails, IsFaultOf, IsNewPage, IsProposed, PageMustDo, ReadsBack}
@@ -43,27 +36,11 @@ device_fault (of_expansion.TemplateNotUtf8 template place) = None
 device_fault (of_expansion.TemplateTooLong template) = None
 device_fault of_expansion.NoMemory = Some NoMemory
 
--- ---- an edited tree beside the page's
-
--- it has the marks of the difference; whether there is none, and the first check that refuses a node
-pub record IsBeside (t edited : Tree) (c : Beside) : Type 0 where
-  pub marked : view c.edited ≡ remarked t edited
-  pub same : c.same ≡ are_none (difference t edited)
-  pub refused : c.refused ≡ nodes_checked t (remarked t edited)
-
 -- ---- a new page that is read back
 
 abbrev pub HoldsRead : ReadBack → Type 0
 HoldsRead (back.Shows found) = HoldsPages found.expansion
 HoldsRead (back.Fails why x) = HoldsPages x
-
--- what was found of a new page is compared with the edited tree, in which a kept group is what the page's group of its number holds
-abbrev pub ComparedAs : KnownPage → Tree → Tree → ReadBack → Type 0
-ComparedAs found t u (back.Shows shown) =
-    (shown ≡ found) × IsFirstDiffering (shown_children (view found.annotated.tree.body)) (shown_children (restored_from t u)) None
-ComparedAs found t u (back.Fails why x) = (x ≡ found.expansion)
-    × ((k : ℕ) × ((why ≡ fault.Block k)
-    × IsFirstDiffering (shown_children (view found.annotated.tree.body)) (shown_children (restored_from t u)) (Some k)))
 
 -- it reads back, or it doesn't; what is known after it is of this folder
 abbrev pub ReadAs : Pages → Tree → Tree → List ℕ → ReadBack → Type 0
@@ -81,12 +58,6 @@ HoldsTried (tried.Fails why x) = HoldsPages x
 abbrev pub TriedPage : Pages → Tree → Tree → List ℕ → Tried → Type 0
 TriedPage pages t u new (tried.Stands given) = (given ≡ new) × ReadsBack pages t u new
 TriedPage pages t u new (tried.Fails why x) = KnowsOf pages x × IsFaultOf pages t u new why
-
--- what was found of this page is asked for the marks that the edited tree still has
-abbrev pub MarkedAs : KnownPage → Tree → Tree → List ℕ → Tried → Type 0
-MarkedAs found t u new (tried.Stands given) = (given ≡ new) × KeepsMarks (view found.annotated.tree.body) t u
-MarkedAs found t u new (tried.Fails why x) =
-    (x ≡ found.expansion) × (why ≡ fault.Block 0) × (¬ KeepsMarks (view found.annotated.tree.body) t u)
 
 -- this page, which has to keep these marks
 abbrev pub TriedMarks : Pages → Tree → Tree → List ℕ → Tried → Type 0

@@ -5,8 +5,8 @@ mod proposing;
 mod reading_back;
 mod unmarked;
 
-pub use reading_back::Memory;
 pub use unmarked::selser;
 pub use wt_checks::TreeRefusal;
 pub use wt_content::ContentWhy;
+pub use wt_new_page::Memory;
 pub use wt_selser_refusal::{MOST_READINGS, Readings, SelserRefusal};

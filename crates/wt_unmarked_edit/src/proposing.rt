@@ -16,26 +16,16 @@ ghost use Rattle.wt_slices.specs.Borders.{HasBorders};
 ghost use Rattle.wt_visible.specs.SameNodes.{same_node};
 ghost use Rattle.wt_unmarked_edit.specs.Counts.{IsCounted, IsCountedRead};
 ghost use Rattle.wt_unmarked_edit.specs.Found.{FindsNew, late_refusal, refusal_of_fault};
-ghost use Rattle.wt_unmarked_edit.specs.Tried.{FirstFailed, HoldsTried, KnowsOf, MarkedAs, TriedFirst, TriedMarks, TriedPage, TriedProposal};
+ghost use Rattle.wt_unmarked_edit.specs.Tried.{FirstFailed, HoldsTried, KnowsOf, TriedFirst, TriedMarks, TriedPage, TriedProposal};
 
-use crate::reading_back::{EditedPage, Fault, ReadBack, read_back};
+use crate::reading_back::read_back;
 use wt_devices::Folder;
-use wt_edit::KnownPage;
-use wt_proposal::{Keeping, proposal};
+use wt_new_page::{EditedPage, Fault, ReadBack, Tried, marked, proposal_for};
+use wt_proposal::Keeping;
 use wt_selser::{EditRefusal, edit as edit_by_marks};
 use wt_selser_refusal::{MOST_READINGS, Readings, SelserRefusal};
-use wt_span::{NoMemory, Str};
+use wt_span::Str;
 use wt_template_stack::Expansion;
-use wt_visible::keeps_marks;
-
-/// A new page that was tried.
-#[derive(Drop)]
-pub enum Tried<'a> {
-    /// It is the answer.
-    Stands(Str),
-    /// It isn't, for this reason. Here is the expansion for what is read next.
-    Fails(Fault, Expansion<'a>),
-}
 
 /// Why a fault refuses an edit.
 fn refusal_of(fault: Fault) -> SelserRefusal
@@ -92,28 +82,6 @@ fn tried_page<'a, F: Folder>(
     }
 }
 
-/// Asks what was found of a new page for the comments and include tags that the edited tree still has.
-fn marked<'a>(
-    new: Str,
-    found: KnownPage<'a>,
-    edit: &EditedPage<'_, 'a>,
-) -> Result<Tried<'a>, NoMemory>
-    requires index { indexed edit.now.index.now ≡ page_of (view edit.now.tree.now) }
-    ensures { IfOk result (MarkedAs found.entry (view edit.now.tree.now) (view edit.now.edited.now) new) }
-{
-    let keeps = keeps_marks(
-        edit.memory.alloc,
-        found.annotated.body(),
-        edit.tree,
-        edit.index,
-        edit.edited,
-    )?;
-    if keeps {
-        return Ok(Tried::Stands(new));
-    }
-    Ok(Tried::Fails(Fault::Block(0), found.expansion))
-}
-
 /// Tries this page, which has to keep the comments and include tags that the edited tree still has.
 fn tried_marks<'a, F: Folder>(
     new: Str,
@@ -168,14 +136,7 @@ fn tried_proposal<'a, F: Folder>(
     ensures kept { F.pages folder.new ≡ F.pages folder.old }
     ensures counted { readings.new ≤ readings.old + 1 }
 {
-    let proposed = proposal(
-        edit.memory.alloc,
-        edit.page,
-        edit.index,
-        edit.tree,
-        edit.edited,
-        keeping,
-    )?;
+    let proposed = proposal_for(edit, keeping)?;
     match proposed {
         Some(new) => tried_marks(new, edit, folder, expansion, readings),
         None => Ok(Tried::Fails(Fault::Block(0), expansion)),

@@ -1,12 +1,9 @@
 //! The edit of a page without marks.
 
-ghost use Rattle.std.specs.Prelude.{◌≡◌, ◌≤◌, Some, IfOk};
-ghost use Rattle.wt_checks.specs.Places.{page_of};
-ghost use Rattle.wt_checks.specs.View.{indexed};
+ghost use Rattle.std.specs.Prelude.{◌≡◌, ◌≤◌, Some};
 ghost use Rattle.wt_expand.specs.Work.{Pages};
 ghost use Rattle.wt_expansion.specs.Known.{HoldsPages};
 ghost use Rattle.wt_transclusion.specs.Asked.{Asks};
-ghost use Rattle.wt_tree.specs.Tiling.{InPreorder};
 ghost use Rattle.wt_tree.specs.Tree.{label};
 ghost use Rattle.wt_tree.specs.View.{view};
 ghost use Rattle.wt_tree.specs.declared.kind.Kind.TheVariants as kind;
@@ -14,51 +11,16 @@ ghost use Rattle.wt_unmarked_edit.specs.Counts.{IsCounted};
 ghost use Rattle.wt_unmarked_edit.specs.Found.{AnswersUnmarked};
 ghost use Rattle.wt_selser.specs.Borders.{page_text};
 ghost use Rattle.wt_slices.specs.Borders.{HasBorders};
-ghost use Rattle.wt_unmarked_edit.specs.Tried.{IsBeside, KnowsOf};
+ghost use Rattle.wt_unmarked_edit.specs.Tried.{KnowsOf};
 
 use crate::proposing::new_page;
-use crate::reading_back::{EditedPage, Memory};
-use std::alloc::Global;
-use wt_checks::{TreeRefusal, Visit, check_nodes, has_mark, numbered_nodes};
+use wt_checks::numbered_nodes;
 use wt_devices::Folder;
-use wt_difference::remark;
 use wt_edit::KnownPage;
+use wt_new_page::{Beside, EditedPage, Memory, set_beside};
 use wt_selser_refusal::{MOST_READINGS, Readings, SelserRefusal};
-use wt_span::{NoMemory, Str};
+use wt_span::Str;
 use wt_tree::Node;
-
-/// An edited tree beside the page's.
-#[derive(Drop)]
-struct Beside<'a> {
-    /// The edited tree with the marks of its difference from the page's, and no others.
-    edited: Node<'a>,
-    /// Whether nothing differs.
-    same: bool,
-    /// The first check that refuses one of its nodes.
-    refused: Option<TreeRefusal>,
-}
-
-/// Sets an edited tree beside a page's, whose nodes `index` has by their numbers.
-fn set_beside<'a>(
-    alloc: Global,
-    page: &Node<'a>,
-    index: &[Visit<'_, 'a>],
-    edited: Node<'a>,
-) -> Result<Beside<'a>, NoMemory>
-    requires body { (label (view page.now)).kind ≡ kind.Body }
-    requires numbered { ∥ InPreorder (view page.now) ∥₁ }
-    requires index { indexed index.now ≡ page_of (view page.now) }
-    ensures { IfOk result (λ c. IsBeside (view page.now) (view edited.entry) c) }
-{
-    let edited = remark(alloc, index, edited)?;
-    let same = !has_mark(&edited);
-    let refused = check_nodes(alloc, &*page, &edited)?;
-    Ok(Beside {
-        edited,
-        same,
-        refused,
-    })
-}
 
 /// The new page of a page that was changed to the edited tree, whose marks count for nothing: what was changed is
 /// found by the difference of the two trees. At most `MOST_READINGS` new pages are tried and read back, and the

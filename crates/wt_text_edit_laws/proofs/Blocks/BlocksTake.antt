@@ -50,7 +50,6 @@ use Rattle.wt_text_edit_laws.proofs.Blocks.BlocksRead.{spots_expanded, spots_unr
 use Rattle.wt_text_edit_laws.proofs.Blocks.BlockMeaning.{spots_meaning}
 use Rattle.wt_text_edit_laws.proofs.Blocks.BlockTrees.{leafy_blocks, as_leaves, are_typed, spots_tree}
 use Rattle.wt_text_edit_laws.proofs.Blocks.BlocksAgain.{spots_utf8, spots_clear}
-use Rattle.wt_text_edit_laws.proofs.Blocks.Contents.{over_new}
 use Rattle.wt_text_edit_laws.proofs.Blocks.TypedAgain.{typed_again}
 use Rattle.wt_text_edit_laws.specs.BlockEdits.{BlockEdit, old_spots, new_spots, old_page, new_page, sendings, old_tree, sent_children, sent_page, AreKept, IsBlockEdit}
 use Rattle.wt_text_edit_laws.proofs.Blocks.BlockSpotFacts.{ordinary_parts, FactsOf, facts_all, page_shows, blocks_show, new_round, typed_over, all_typed}
@@ -142,8 +141,7 @@ pub again : (e : BlockEdit) → IsBlockEdit e → AreBlockSpots (new_spots e.spo
 again e h =
     let ss : List BlockSpot = old_spots e.spots in
     let were : AreBlocks ss = are_typed ss e.behind h.are_spots in
-    typed_again ss (new_spots e.spots) e.behind h.are_spots (new_round e.spots) (all_typed e.spots h.are_texts were)
-    (over_new ss (new_spots e.spots) (typed_over e.spots h.are_texts were))
+    typed_again ss (new_spots e.spots) e.behind h.are_spots (new_round e.spots) (all_typed e.spots h.are_texts were) (typed_over e.spots h.are_texts were)
 
 sent_shows_so : (pages : Pages) (t : Tree) (e : BlockEdit) (b : Label) → IsBlockEdit e
     → shown_children (restored_from t (new_body (label_of e) b (blocks_sent e))) ≡ listed (page_shows (new_spots e.spots) e.behind)

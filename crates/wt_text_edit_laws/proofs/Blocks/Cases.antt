@@ -175,11 +175,14 @@ are_spots = (
       },
     ),
   ),
-  record { calls_nothing = tt; end_before = (
-    refl,
-    inl (typed_firm (a_heading (spaced 2)) (codes "h") typed_h),
-    ((refl, refl), inl (typed_firm a_paragraph (codes "b") typed_b), ((refl, refl), inl (typed_firm (a_heading (spaced 3)) (codes "e") typed_e), tt)),
-  ) },
+  record {
+    calls_nothing = tt;
+    end_before = (
+      refl,
+      inl (typed_firm (a_heading (spaced 2)) (codes "h") typed_h),
+      ((refl, refl), inl (typed_firm a_paragraph (codes "b") typed_b), ((refl, refl), inl (typed_firm (a_heading (spaced 3)) (codes "e") typed_e), tt)),
+    );
+  },
 )
 
 -- braces that close before any open, and braces that nothing closes, are in it, and a call isn't

@@ -1,5 +1,5 @@
 -- One text, typed or written, is a content that is read by itself; and a text that was typed may be written in the place of any content.
-use Rattle.std.proofs.Common.{◌≡◌, ◌⊎◌, inl, inr, ℕ, suc, None, List, [], ◌∷◌, ◌++◌, map, refl, sym, ap, ◌∙◌, subst, append-nil}
+use Rattle.std.proofs.Common.{◌≡◌, ◌⊎◌, inl, inr, ℕ, None, List, [], ◌∷◌, ◌++◌, map, refl, sym, ap, ◌∙◌, subst, append-nil}
 use Rattle.std.specs.Str.{IsUtf8}
 use Rattle.wt_span.specs.Characters as byte
 use Rattle.std.proofs.lemmas.Grind.{flat_map-append}
@@ -20,7 +20,6 @@ use Rattle.wt_text_edit_laws.specs.ParagraphParts.{joined_parts}
 use Rattle.wt_text_edit_laws.specs.TypedPages.{IsTypedPage}
 use Rattle.wt_text_edit_laws.specs.TextBetween.{StandsBehind}
 use Rattle.wt_text_edit_laws.specs.Paragraphs.{AreLetters, IsParagraph}
-use Rattle.wt_text_edit_laws.specs.TypedHeadings.{Sides}
 use Rattle.wt_text_edit_laws.specs.TextBlocks.{TextBlock, a_paragraph, a_heading, source_of, block_items, block_tree, IsBlock, IsTypedIn}
 use Rattle.wt_text_edit_laws.specs.BlockSpots.{BlockSpot, SameRound, AreBlocks, AreContents}
 use Rattle.wt_text_edit_laws.specs.Contents.{AreParagraphLines, IsContentOf, content_parts_of, IsContent, StaysAnywhere, IsFirmContent, IsNewContent}
@@ -36,7 +35,7 @@ use Rattle.wt_text_edit_laws.proofs.Paragraphs.LineBlocks.{page_breaks, all_unle
 use Rattle.wt_text_edit_laws.proofs.Paragraphs.Texts.{EndsHere, letters_joined, letters_stand, paragraph_lines, paragraph_utf8, paragraph_written}
 use Rattle.wt_text_edit_laws.proofs.Headings.HeadingRows.{text_inside}
 use Rattle.wt_text_edit_laws.proofs.Blocks.BlockReading.{typed_text, IsBeforeAny, HasFrame, any_front}
-use Rattle.wt_text_edit_laws.proofs.Blocks.BlockLeaves.{open_items, close_items, leaf_block, block_leaves}
+use Rattle.wt_text_edit_laws.proofs.Blocks.BlockLeaves.{open_items, close_items, block_leaves}
 use Rattle.wt_text_edit_laws.proofs.Blocks.BlockLines.{heading_frame, heading_level, heading_text}
 use Rattle.wt_text_edit_laws.proofs.Blocks.TypedBraces.{AreTypedOver, AreNewOver}
 use Rattle.wt_text_edit_laws.proofs.Blocks.TypedFacts.{framed}

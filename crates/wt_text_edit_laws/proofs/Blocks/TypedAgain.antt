@@ -9,9 +9,9 @@ use Rattle.wt_text_edit_laws.specs.Contents.{IsNewContent, TextEnds}
 use Rattle.wt_text_edit_laws.specs.BlockSpots.{BlockSpot, spots_source, EndBeforeBlocks, AreBlockSpots, IsRead, AreReadAfter, AreRead, SameRound, AreBlocks, AreContents}
 use Rattle.wt_text_edit_laws.proofs.Blocks.BlockReading.{AreQuiet, opening_quiet, each_quiet, content_frame, BeginsHere, begins_here, further_ends}
 use Rattle.wt_text_edit_laws.proofs.Blocks.BlocksRead.{spots_read}
-use Rattle.wt_text_edit_laws.proofs.Blocks.Contents.{blocks_contents}
+use Rattle.wt_text_edit_laws.proofs.Blocks.Contents.{blocks_contents, over_new}
 use Rattle.wt_text_edit_laws.proofs.Blocks.BlocksAgain.{parts_read_again, parts_again}
-use Rattle.wt_text_edit_laws.proofs.Blocks.TypedBraces.{AreNewOver, still_calm}
+use Rattle.wt_text_edit_laws.proofs.Blocks.TypedBraces.{AreTypedOver, AreNewOver, still_calm}
 
 -- ---- what follows a block, in the old page and in the new one
 
@@ -172,11 +172,11 @@ read_again (s ∷ ss) (r ∷ rs) behind h e t o =
     spot_still_ends s r ss rs behind h.0 h.1 p.1 e o h.2.end_before (further_still_end ss rs behind h.1 p.1 e.2 o.1 h.2.end_before.2) in
     (p.0, p.1, record { calls_nothing = still_calm s r ss rs behind h p.0 p.1 b e o; end_before = b })
 
-pub typed_again : (ss rs : List BlockSpot) (behind : List ℕ) → AreBlockSpots ss behind → SameRound ss rs → AreBlocks rs → AreNewOver ss rs
+pub typed_again : (ss rs : List BlockSpot) (behind : List ℕ) → AreBlockSpots ss behind → SameRound ss rs → AreBlocks rs → AreTypedOver ss rs
     → AreBlockSpots rs behind
 typed_again [] rs behind h e t o = absurd h
 typed_again (s ∷ ss) [] behind h e t o = absurd e
 typed_again (s ∷ ss) (r ∷ rs) behind h e t o =
     let p = parts_again s r ss rs behind h e t in
-    let whole = read_again (s ∷ ss) (r ∷ rs) behind (spots_read (s ∷ ss) behind h) e (blocks_contents (r ∷ rs) t) o in
+    let whole = read_again (s ∷ ss) (r ∷ rs) behind (spots_read (s ∷ ss) behind h) e (blocks_contents (r ∷ rs) t) (over_new (s ∷ ss) (r ∷ rs) o) in
     (p.0, p.1, whole.2)

@@ -1,5 +1,5 @@
 -- Of a block of one text no tag goes on behind it, and it holds no group and no style: wherever it is in a page.
-use Rattle.std.proofs.Common.{◌≡◌, ℕ, ◌+◌, Bool, true, false, List, [], ◌∷◌, ◌++◌, refl, sym, ap, ap₂, ◌∙◌, subst}
+use Rattle.std.proofs.Common.{◌≡◌, ℕ, ◌+◌, Bool, false, List, [], ◌∷◌, ◌++◌, refl, sym, ap, ap₂, ◌∙◌, subst}
 use Rattle.std.specs.Prelude.{◌||◌, if◌then◌else◌}
 use Rattle.wt_span.specs.Items.{Item}
 use Rattle.wt_span.specs.Origins.{Expanded}

@@ -450,11 +450,6 @@ pub first_row : (s : Sides) (own tail : List Item) → AreSides s → IsHeadingT
     → (end : List Item) × (rs : List Row) × (rows (heading_line s own ++ tail) ≡ heading_row (heading_line s own) end ∷ rs)
 first_row s own tail a h p e = round_first s own tail a (text_inside own h) p e
 
-pub heading_between : (xs : List Item) (s : Sides) (own tail : List Item) → AreClosed (before_marks xs) → AreSides s → IsHeadingText own → IsOfLevel s own → EndsLine tail
-    → parts_in (xs ++ (heading_line s own ++ tail)) ≡ parts_in xs ++ node (heading_with s own) ∷ parts_in tail
-heading_between xs s own tail c a h p e =
-    round_between xs s own tail c a (text_inside own h) p e ∙ ap (λ (t : ItemTree). parts_in xs ++ node t ∷ parts_in tail) (with_text s own h)
-
 pub heading_stands : (xs : List Item) (s : Sides) (own tail : List Item) → AreClosed (before_marks xs) → AreSides s → IsHeadingText own → IsOfLevel s own → EndsLine tail
     → meaning (xs ++ (heading_line s own ++ tail)) ≡ body_with (blocks_in xs ++ heading_with s own ∷ blocks_in tail)
 heading_stands xs s own tail c a h p e =

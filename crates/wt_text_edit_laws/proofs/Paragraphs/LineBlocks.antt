@@ -15,7 +15,7 @@ use Rattle.wt_lines.specs.Lines.{is_break_item, goes_on, lines, full_lines, cont
 use Rattle.wt_lines.proofs.FullLines.{same_lines}
 use Rattle.wt_inline.specs.declared.loose.Loose.TheVariants.{Text}
 use Rattle.wt_inline.specs.ItemTree.{plain, inner, forest}
-use Rattle.wt_inline.specs.Parts.{Part, parts, held_parts, children}
+use Rattle.wt_inline.specs.Parts.{parts, held_parts, children}
 use Rattle.wt_inline.proofs.HeldLaws.{held_append}
 use Rattle.wt_context.specs.Line.{line_parts}
 use Rattle.wt_context.proofs.LineHolding.{line_source}

@@ -1,5 +1,5 @@
 -- A paragraph of one text, typed or written, is read the same before nothing and before a line break, and is a block of text.
-use Rattle.std.proofs.Common.{◌⊎◌, arith, ◌≡◌, ℕ, Bool, true, false, Some, None, List, [], ◌∷◌, ◌++◌, refl, sym, ap, ◌∙◌, subst, append-nil, append_assoc, inl, inr, zero, suc, ◌+◌, ◌<◌, Option, length, take, cond}
+use Rattle.std.proofs.Common.{arith, ◌≡◌, ℕ, Bool, true, false, Some, None, List, [], ◌∷◌, ◌++◌, refl, sym, ap, ◌∙◌, subst, append_assoc, inl, inr, zero, suc, ◌+◌, ◌<◌, Option, length, take, cond}
 use Rattle.std.specs.Str.{IsUtf8}
 use Rattle.wt_span.specs.declared.form.Mode.TheVariants.{Page}
 use Rattle.wt_span.specs.declared.form.LexKind.TheVariants.{Comment}
@@ -21,15 +21,14 @@ use Rattle.wt_text_edit_laws.proofs.Texts.TypedItems.{items_cut}
 use Rattle.wt_text_edit_laws.proofs.Prose.Uncommented.{BeginsUncommented, uncommented_byte, uncommented_other}
 use Rattle.wt_text_edit_laws.proofs.Prose.InFront.{Reads, reads_nothing, read_items}
 use Rattle.wt_text_edit_laws.proofs.Prose.ProseLines.{lines_block}
-use Rattle.wt_text_edit_laws.proofs.Prose.ProseReading.{page_front}
 use Rattle.wt_text_edit_laws.proofs.Prose.ProseTexts.{IsWritten, some_leaf, written}
 use Rattle.wt_scans.specs.Lexer.{lexer}
 use Rattle.wt_scans.specs.Scans.{after_all}
-use Rattle.wt_text_edit_laws.specs.TextBetween.{HasNoTag, AreWholeLines, AreEnded, HasEndsBefore, StandsBehind, LineEnds}
-use Rattle.wt_text_edit_laws.proofs.Between.LineComments.{lines_ended, remarks_same}
+use Rattle.wt_text_edit_laws.specs.TextBetween.{HasNoTag, AreWholeLines, AreEnded, HasEndsBefore, StandsBehind}
+use Rattle.wt_text_edit_laws.proofs.Between.LineComments.{remarks_same}
 use Rattle.wt_text_edit_laws.proofs.Between.LineRemarks.{blank_form, comment_form, comment_some}
-use Rattle.wt_text_edit_laws.proofs.Between.Fronts.{ReadsAfter, first_items, items_from, first_from, byte_from, form_from, lines_read, behind_reads, reads_either}
-use Rattle.wt_text_edit_laws.proofs.Between.Shown.{begins_shown, blank_no_break, shown_lines}
+use Rattle.wt_text_edit_laws.proofs.Between.Fronts.{ReadsAfter, first_items, items_from, first_from, byte_from, form_from, lines_read}
+use Rattle.wt_text_edit_laws.proofs.Between.Shown.{blank_no_break}
 use Rattle.wt_text_edit_laws.proofs.Between.TextReads.{typed_lines}
 use Rattle.std.specs.Prelude.{All, map}
 use Rattle.std.proofs.lemmas.List.Elements.{All-head, All-tail}
@@ -163,9 +162,6 @@ begins_before q r e h =
 pub letters_stand : (q : List ℕ) → AreLetters (page_items q) → StandsBehind q
 letters_stand q h = record { uncommented = uncommented_text q h }
 
-line_begins : (q r : List ℕ) → AreEnded (q ++ 10 ∷ []) → AreLetters (page_items (q ++ 10 ∷ [])) → BeginsUncommented ((q ++ 10 ∷ []) ++ r)
-line_begins q r e h = begins_before q r e (letters_stand (q ++ 10 ∷ []) h)
-
 -- ---- before nothing, and before a line break
 
 abbrev pub EndsHere : List ℕ → Type 0
@@ -215,34 +211,8 @@ line_reads q r own xs b ended s =
     ap (λ zs. zs ++ rest) ended ∙ append_assoc own (break ∷ []) rest ∙ ap (λ zs. own ++ zs) (sym (rest_is r xs s)) in
     subst (λ bs. ReadsAfter false bs (own ++ xs)) (append_assoc q (10 ∷ []) r) (subst (λ ys. ReadsAfter false ((q ++ 10 ∷ []) ++ r) ys) all whole)
 
--- one of characters, references and nowikis
-line_front : (q r : List ℕ) (own xs : List Item) → AreLetters own → HasEndsBefore r (q ++ 10 ∷ []) → page_items (q ++ 10 ∷ []) ≡ own ++ char None 10 ∷ []
-    → Reads (10 ∷ r) xs → Reads (q ++ 10 ∷ r) (own ++ xs)
-line_front q r own xs t b ended s =
-    let letters : AreLetters (page_items (q ++ 10 ∷ [])) = subst AreLetters (sym ended) (letters_joined own (char None 10 ∷ []) t tt) in
-    reads_either (q ++ 10 ∷ r) (own ++ xs) (subst BeginsUncommented (append_assoc q (10 ∷ []) r) (line_begins q r (lines_ended (q ++ 10 ∷ []) (one_line q)) letters))
-    (line_reads q r own xs b ended s)
-
-text_front : (q rest : List ℕ) (xs : List Item) → IsWrittenText q → LineEnds q rest → EndsHere rest → Reads rest xs → Reads (q ++ rest) (page_items q ++ xs)
-text_front q [] xs h l e r =
-    let alone : Reads q (page_items q) = behind_reads q (record { uncommented = uncommented_text q h.are_letters }) in
-    subst (λ ys. Reads (q ++ []) (page_items q ++ ys)) (sym (nothing_is xs r))
-    (subst (λ bs. Reads bs (page_items q ++ [])) (sym (append-nil q)) (subst (λ ys. Reads q ys) (sym (append-nil (page_items q))) alone))
-text_front q (b ∷ r) xs h l e s =
-    let P : ℕ → Type 0 = λ (c : ℕ). HasEndsBefore r (q ++ c ∷ []) → Reads (c ∷ r) xs → Reads (q ++ c ∷ r) (page_items q ++ xs) in
-    subst P (sym e) (λ m k. line_front q r (page_items q) xs h.are_letters m h.ended k) l s
-
-pub paragraph_front : (q rest : List ℕ) (xs : List Item) → IsParagraph q → IsTypedPage q ⊎ LineEnds q rest → EndsHere rest → Reads rest xs
-    → Reads (q ++ rest) (page_items q ++ xs)
-paragraph_front q rest xs (inl t) l e r = page_front q rest xs t r
-paragraph_front q rest xs (inr w) (inl t) e r = page_front q rest xs t r
-paragraph_front q rest xs (inr w) (inr l) e r = text_front q rest xs w l e r
-
--- ---- its first line begins with something visible
+-- ---- its lines
 
 pub paragraph_lines : (q : List ℕ) → IsParagraph q → All IsText (lines (page_items q))
 paragraph_lines q (inl t) = typed_lines q t
 paragraph_lines q (inr w) = w.are_lines
-
-pub paragraph_shown : (q : List ℕ) → IsParagraph q → begins_shown (page_items q) ≡ true
-paragraph_shown q h = shown_lines (page_items q) (paragraph_lines q h)

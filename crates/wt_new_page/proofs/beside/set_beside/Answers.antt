@@ -8,7 +8,7 @@ use Rattle.wt_difference.specs.Remarked.{remarked, remarked_in}
 use Rattle.wt_difference.proofs.Remarks.{none_marked}
 use Rattle.wt_tree.specs.Tree.{Tree}
 use Rattle.wt_tree.specs.View.{view}
-use Rattle.wt_unmarked_edit.proofs.unmarked.set_beside.Goals as goal
+use Rattle.wt_new_page.proofs.beside.set_beside.Goals as goal
 
 -- over the page's own index
 remarked_over : (page : Page) (t u v : Tree) → page ≡ page_of t → v ≡ remarked_in page u → v ≡ remarked t u

@@ -1,6 +1,6 @@
 use Rattle.wt_tree.specs.View.{view}
-use Rattle.wt_unmarked_edit.proofs.TriedLaws.{compared_fails, compared_shows}
-use Rattle.wt_unmarked_edit.proofs.reading_back.compared.Goals as goal
+use Rattle.wt_new_page.proofs.Differing.{compared_fails, compared_shows}
+use Rattle.wt_new_page.proofs.asked.compared.Goals as goal
 
 pub returns-in-None : goal.returns-in-None
 returns-in-None c =

@@ -2,7 +2,7 @@ use Rattle.std.proofs.Common.{◌≡◌, false, true, refl, subst, sym, ◌∙�
 use Rattle.wt_visible.specs.KeptMarks.{KeepsMarks}
 use Rattle.wt_tree.specs.View.{view}
 use Rattle.wt_tree.specs.declared.node.Node.{Node}
-use Rattle.wt_unmarked_edit.proofs.proposing.marked.Goals as goal
+use Rattle.wt_new_page.proofs.asked.marked.Goals as goal
 
 pub returns-then-keeps : goal.returns-then-keeps
 returns-then-keeps c = (

@@ -1,0 +1,79 @@
+//! The text with which an item or a cell begins, and the comments and include tags on lines of their own below it.
+
+use wt_checks::{Visit, original};
+use wt_difference::inside;
+use wt_tree::{Holding, Kind, Node};
+
+/// Whether lists or blocks may come after the text of a node of this kind.
+fn holds_more(kind: Kind) -> bool {
+    matches!(
+        kind.shape().holding,
+        Holding::InlinesThenLists | Holding::InlinesThenBlocks
+    )
+}
+
+/// Whether a node of the page begins a line.
+fn begins_line(page: &str, node: &Node<'_>) -> bool {
+    let Some(ranges) = node.ranges else {
+        return false;
+    };
+    match (ranges.start as usize).checked_sub(1) {
+        Some(at) => page.as_bytes().get(at) == Some(&b'\n'),
+        None => true,
+    }
+}
+
+/// Whether an edited node is a comment or an include tag that begins a line in the page, in any node or in the one with
+/// this number.
+fn is_on_own_line(
+    page: &str,
+    index: &[Visit<'_, '_>],
+    holder: Option<u32>,
+    node: &Node<'_>,
+) -> bool {
+    match original(index, node.id) {
+        Some(visit) if node.id != 0 && node.kind.is_mark() => {
+            (holder.is_none() || holder == Some(visit.parent)) && begins_line(page, visit.node)
+        }
+        _ => false,
+    }
+}
+
+/// The inside of an edited node without the comments and include tags at its end that are on lines of their own.
+fn text_in<'n, 'b>(
+    page: &str,
+    index: &[Visit<'_, '_>],
+    holder: Option<u32>,
+    node: &'n Node<'b>,
+) -> &'n [Node<'b>] {
+    let inside = inside(node);
+    if !holds_more(node.kind) {
+        return inside;
+    }
+    let mut end = 0;
+    for at in 0..inside.len() {
+        if !is_on_own_line(page, index, holder, &inside[at]) {
+            end = at.saturating_add(1);
+        }
+    }
+    if end <= inside.len() {
+        &inside[..end]
+    } else {
+        inside
+    }
+}
+
+/// The text with which an edited node begins: its inside. Where the line break before it wasn't sent, a comment or an
+/// include tag on a line of its own is at the end of the inside of an item or a cell; it is no part of the text.
+pub fn text_of<'n, 'b>(page: &str, index: &[Visit<'_, '_>], node: &'n Node<'b>) -> &'n [Node<'b>] {
+    text_in(page, index, None, node)
+}
+
+/// The same of a node of the page that stays: those comments and tags stay in it that the page has in it.
+pub fn text_of_staying<'n, 'b>(
+    page: &str,
+    index: &[Visit<'_, '_>],
+    node: &'n Node<'b>,
+) -> &'n [Node<'b>] {
+    text_in(page, index, Some(node.id), node)
+}
