@@ -1,5 +1,5 @@
 -- The nodes of what is sent with styles are among those of the page's block, but for what is put.
-use Rattle.std.proofs.Common.{◌≡◌, ℕ, Bool, false, Option, Some, None, List, [], ◌∷◌, ◌++◌, length, refl, sym, ap, ◌∙◌, subst, append_assoc, inl, inr}
+use Rattle.std.proofs.Common.{◌≡◌, ℕ, Bool, true, false, Option, Some, None, List, [], ◌∷◌, ◌++◌, length, refl, sym, ap, ◌∙◌, subst, append_assoc, inl, inr}
 use Rattle.std.specs.Str.{chars}
 use Rattle.wt_span.specs.Items.{Item}
 use Rattle.wt_tree.specs.declared.edit_shape.InlineForm.{InlineForm}
