@@ -1,5 +1,5 @@
 -- The nodes of a block of the page with styles, by its parts.
-use Rattle.std.proofs.Common.{arith, ◌≡◌, ◌≢◌, ℕ, ◌+◌, ◌<◌, Bool, true, false, Option, Some, List, [], ◌∷◌, ◌++◌, length, map, refl, sym, ap, ap₂, ◌∙◌, subst, append-nil, append_assoc, length-append}
+use Rattle.std.proofs.Common.{arith, ◌≡◌, ◌≢◌, ℕ, ◌+◌, ◌<◌, Bool, true, false, Option, List, [], ◌∷◌, ◌++◌, length, map, refl, sym, ap, ap₂, ◌∙◌, subst, append_assoc, length-append}
 use Rattle.std.proofs.lemmas.Grind.{flat_map-append}
 use Rattle.wt_span.specs.Items.{Item, source, sources}
 use Rattle.wt_span.specs.Runs.{runs, IsRun, AreRuns}
@@ -8,7 +8,7 @@ use Rattle.wt_tree.specs.declared.edit_shape.InlineForm.{InlineForm}
 use Rattle.wt_tree.specs.declared.edit_shape.InlineForm.TheVariants as inline
 use Rattle.wt_tree.specs.EditShapes.{edit_shape}
 use Rattle.wt_tree.specs.Source.{flat}
-use Rattle.wt_tree.specs.Tree.{Label, Tree, tree, Trees, more, label}
+use Rattle.wt_tree.specs.Tree.{Tree, tree, Trees, label}
 use Rattle.wt_guards.specs.declared.role.Role.{Role}
 use Rattle.wt_guards.specs.Content.{Thing}
 use Rattle.wt_inline.specs.declared.loose.Loose.{Loose}
@@ -20,7 +20,7 @@ use Rattle.wt_annotated.specs.Numbering.{count}
 use Rattle.wt_annotated.specs.WithoutCalls.{placed}
 use Rattle.wt_moved_laws.specs.Standing.{standing}
 use Rattle.wt_moved_laws.proofs.Sources.{standing_source}
-use Rattle.wt_original.specs.Kept.{Kept, KeptNode, items, visible, holds_kept, found_at, found_from, found_in, kept_of, kept_nodes, kept_with}
+use Rattle.wt_original.specs.Kept.{Kept, KeptNode, items, visible, holds_kept, found_at, found_from, found_in, kept_nodes, kept_with}
 use Rattle.wt_link_spelling.specs.Spelling.{children_of}
 use Rattle.wt_context.specs.Styled.{style_kind}
 use Rattle.wt_context.proofs.PlainNodes.{IsText}

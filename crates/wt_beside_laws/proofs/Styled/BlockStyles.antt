@@ -42,7 +42,7 @@ use Rattle.wt_beside_laws.specs.Stood.{things}
 use Rattle.wt_beside_laws.specs.StyledBlocks.{all_numbers, things_with}
 use Rattle.wt_beside_laws.proofs.BlockNumbers.{block_counts}
 use Rattle.wt_beside_laws.proofs.BlockSigns.{block_by, its_children, no_leaf, inside}
-use Rattle.wt_beside_laws.proofs.LineThings.{Told, nodes_parts, segments_parts, tiles_here}
+use Rattle.wt_beside_laws.proofs.LineThings.{nodes_parts, segments_parts, tiles_here}
 use Rattle.wt_beside_laws.proofs.OwnSigns.{Every, Finds, all_found}
 use Rattle.wt_beside_laws.proofs.PageSigns.{flat_nodes}
 use Rattle.wt_beside_laws.proofs.PartThings.{thing_at, tree_source, HaveThings, parts_width, nodes_of}

@@ -66,6 +66,6 @@ broken = more (tree (numbered kind.Bold 2) (more (leaf kind.Text 3) (more (leaf 
 numbers_so : all_numbers broken ≡ 4 ∷ 5 ∷ []
 numbers_so = refl
 
--- either of them may go, and they may not be exchanged
+-- the first one may go
 some_so : AreSomeOf (5 ∷ []) (all_numbers broken)
 some_so = (4 ∷ [], [], refl, tt)

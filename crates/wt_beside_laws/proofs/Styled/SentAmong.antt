@@ -99,8 +99,11 @@ style_some kind opening closing held t ps qs h k =
     let last : List ContentSign = delimiter kind closing ∷ signs_in t in
     let e : things (signs_in held) ++ things last ≡ things (signs_before held last) = sym (things_append (signs_in held) last) ∙ ap things (signs_joined held [] last) in
     let later : AreSomeAndPut (mark_thing kind closing ∷ things (signs_in t)) qs = inl (is_put kind closing, k) in
-    inl (is_put kind opening, subst (λ (xs : List Thing). AreSomeAndPut xs (ps ++ qs)) e
-    (some_both (things (signs_in held)) (mark_thing kind closing ∷ things (signs_in t)) ps qs h later))
+    inl (
+      is_put kind opening,
+      subst (λ (xs : List Thing). AreSomeAndPut xs (ps ++ qs)) e
+          (some_both (things (signs_in held)) (mark_thing kind closing ∷ things (signs_in t)) ps qs h later),
+    )
 
 found_some : (o : Option Kept) (t : StyledContent) (qs : List Thing) → AreSomeAndPut (things (signs_in t)) qs
     → AreSomeAndPut (things (signs_in (found_then o t))) ((found_thing o ++ []) ++ qs)
