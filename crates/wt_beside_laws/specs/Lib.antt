@@ -26,3 +26,4 @@ pub mod SentStyled
 pub mod StyledNodes
 pub mod StyledHeadings
 pub mod StyledBlocks
+pub mod StyledIn
