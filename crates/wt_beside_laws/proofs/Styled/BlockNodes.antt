@@ -152,7 +152,7 @@ parts_found ps block at from n before ts some h e = runs_found (runs one_leaf ps
 
 -- ---- a style
 
-abbrev style_round : Bool → List Item → List Part → List Item → ItemTree
+abbrev pub style_round : Bool → List Item → List Part → List Item → ItemTree
 style_round kind opening ps closing = inner (plain (style_kind kind)) opening (forest (children ps)) closing
 
 style_children : (kind : Bool) (n : ℕ) (before opening closing : List Item) (ps : List Part)

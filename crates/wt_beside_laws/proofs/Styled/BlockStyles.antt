@@ -51,13 +51,13 @@ use Rattle.wt_beside_laws.proofs.Styled.BlockNodes.{IsFound, HaveFound, found_bo
 
 -- ---- an apostrophe is one character
 
-record QuoteSegment (u : Segment) : Type 0 where
-  origin : Option ℕ
-  byte : ℕ
-  items : u.items ≡ char origin byte ∷ []
-  parts : u.parts ≡ loose Text origin byte ∷ []
+pub record QuoteSegment (u : Segment) : Type 0 where
+  pub origin : Option ℕ
+  pub byte : ℕ
+  pub items : u.items ≡ char origin byte ∷ []
+  pub parts : u.parts ≡ loose Text origin byte ∷ []
 
-abbrev QuotesAre : List Segment → Type 0
+abbrev pub QuotesAre : List Segment → Type 0
 QuotesAre [] = Unit {0}
 QuotesAre (u ∷ us) = (u.quote ≡ true → QuoteSegment u) × QuotesAre us
 
@@ -77,7 +77,7 @@ quotes_drop zero (u ∷ us) h = h
 quotes_drop (suc n) [] h = tt
 quotes_drop (suc n) (u ∷ us) h = quotes_drop n us h.1
 
-quotes_between : (low high : ℕ) (us : List Segment) → QuotesAre us → QuotesAre (between low high us)
+pub quotes_between : (low high : ℕ) (us : List Segment) → QuotesAre us → QuotesAre (between low high us)
 quotes_between low high us h = quotes_take (high - low) (drop low us) (quotes_drop low us h)
 
 not_first : (a b : Bool) → not (a || b) ≡ true → a ≡ true → ⊥
@@ -99,7 +99,7 @@ unfolding loose_segments
 tile_quotes None xs = loose_quotes (runs one_stretch xs) xs (runs_are one_stretch xs)
 tile_quotes (Some t) xs = ((λ q. cc), tt)
 
-all_quotes : (ps : List (Shape × List Item)) → QuotesAre (flat_map (tile_segments context_parts in_line) ps)
+pub all_quotes : (ps : List (Shape × List Item)) → QuotesAre (flat_map (tile_segments context_parts in_line) ps)
 all_quotes [] = tt
 all_quotes ((w, xs) ∷ ps) =
     quotes_both (tile_segments context_parts in_line (w, xs)) (flat_map (tile_segments context_parts in_line) ps)
@@ -124,7 +124,7 @@ quotes_wide (u ∷ us) q a =
 
 -- ---- stretches
 
-parts_cut : (low mid high : ℕ) (us : List Segment) → low ≤ mid → mid ≤ high
+pub parts_cut : (low mid high : ℕ) (us : List Segment) → low ≤ mid → mid ≤ high
     → segment_parts (between low high us) ≡ segment_parts (between low mid us) ++ segment_parts (between mid high us)
 parts_cut low mid high us l m =
     ap segment_parts (between_both low mid high us l m) ∙ flat_map-append (λ (u : Segment). u.parts) (between low mid us) (between mid high us)
@@ -240,20 +240,42 @@ as_tiles : (xs : List Item) → segments context_parts in_line xs ≡ flat_map (
 unfolding segments
 as_tiles xs = refl
 
+pub line_quotes : (xs : List Item) → QuotesAre (segments context_parts in_line xs)
+line_quotes xs = subst QuotesAre (sym (as_tiles xs)) (all_quotes (tiles in_line xs))
+
+pub line_fill : (us : List Segment) → Fill 0 (length us) (forest_of (style_tree_of (chunks us)))
+line_fill us = styles_fill us (chunks us) (style_tree_of (chunks us)) (length us) refl refl refl
+
+pub line_is : (xs : List Item) → line_parts xs
+    ≡ styled 0 (length (segments context_parts in_line xs)) (forest_of (style_tree_of (chunks (segments context_parts in_line xs)))) (segments context_parts in_line xs)
+line_is xs = contexts_are in_line xs (omega arith) ∙ as_styled (segments context_parts in_line xs)
+
+record LineThings (at : ℕ) (xs : List Item) (ps : List Part) : Type 0 where
+  have : HaveThings at ps (things (line_signs at xs))
+  wide : parts_width ps ≡ length (sources xs)
+
+-- the nodes of its segments
+line_told : (at : ℕ) (xs : List Item) → AreFlatTiles (tiles in_line xs) → AreNodes (line_signs at xs)
+    → LineThings at xs (segment_parts (between 0 (length (segments context_parts in_line xs)) (segments context_parts in_line xs)))
+line_told at xs f n =
+    let us : List Segment = segments context_parts in_line xs in
+    let told = tiles_here at xs (tiles_placed in_line xs) f n in
+    let same = ap segment_parts (between_all us ∙ as_tiles xs) ∙ segments_parts (tiles in_line xs) in
+    record { have = subst (λ (ps : List Part). HaveThings at ps (things (line_signs at xs))) (sym same) told.have; wide = ap parts_width same ∙ told.wide }
+
+pub line_things : (at : ℕ) (xs : List Item) → AreFlatTiles (tiles in_line xs) → AreNodes (line_signs at xs)
+    → HaveThings at (segment_parts (between 0 (length (segments context_parts in_line xs)) (segments context_parts in_line xs))) (things (line_signs at xs))
+line_things at xs f n = (line_told at xs f n).have
+
 line_found : (at : ℕ) (xs : List Item) → AreFlatTiles (tiles in_line xs) → AreNodes (line_signs at xs)
     → StyledFound at (line_parts xs) (things (line_signs at xs)) (length (sources xs))
 line_found at xs f n =
     let us : List Segment = segments context_parts in_line xs in
-    let told = tiles_here at xs (tiles_placed in_line xs) f n in
-    let same = ap segment_parts (between_all us ∙ as_tiles xs) ∙ segments_parts (tiles in_line xs) in
-    let r = styled_found 0 (length us) (forest_of (style_tree_of (chunks us))) us at (things (line_signs at xs))
-    (styles_fill us (chunks us) (style_tree_of (chunks us)) (length us) refl refl refl) (all_marked us)
-    (subst QuotesAre (sym (as_tiles xs)) (all_quotes (tiles in_line xs)))
-    (subst (λ (ps : List Part). HaveThings at ps (things (line_signs at xs))) (sym same) told.have) in
-    let e : line_parts xs ≡ styled 0 (length us) (forest_of (style_tree_of (chunks us))) us = contexts_are in_line xs (omega arith) ∙ as_styled us in
+    let told = line_told at xs f n in
+    let r = styled_found 0 (length us) (forest_of (style_tree_of (chunks us))) us at (things (line_signs at xs)) (line_fill us) (all_marked us) (line_quotes xs) told.have in
     record {
-      have = subst (λ (ps : List Part). HaveFound at ps (things (line_signs at xs))) (sym e) r.have;
-      wide = ap parts_width e ∙ r.wide ∙ ap parts_width same ∙ told.wide;
+      have = subst (λ (ps : List Part). HaveFound at ps (things (line_signs at xs))) (sym (line_is xs)) r.have;
+      wide = ap parts_width (line_is xs) ∙ r.wide ∙ told.wide;
     }
 
 lines_found : (at : ℕ) (ls : List (List Item)) → AreFlatLines ls → AreNodes (signs_of_lines at ls) → HaveFound at (joined_parts ls) (things (signs_of_lines at ls))

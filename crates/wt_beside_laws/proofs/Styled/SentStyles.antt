@@ -162,7 +162,7 @@ mutual
 
 -- ---- what is shown
 
-nowiki_alone : line_parts (whole form.Nowiki None nowiki ∷ []) ≡ parts Text (whole form.Nowiki None nowiki ∷ [])
+pub nowiki_alone : line_parts (whole form.Nowiki None nowiki ∷ []) ≡ parts Text (whole form.Nowiki None nowiki ∷ [])
 unfolding loose_segments closed
 nowiki_alone = read_line (0, leaf tile.Atom 1 ∷ []) (whole form.Nowiki None nowiki ∷ []) (loose_segment (whole form.Nowiki None nowiki ∷ []) ∷ []) refl refl refl
 
