@@ -1,5 +1,5 @@
 -- Each node of a content with styles has an item, and all its items are the page's own, where it is so of the block of the page.
-use Rattle.std.proofs.Common.{arith, ◌≡◌, ℕ, ◌+◌, ◌-◌, ◌≤◌, Bool, true, false, not, None, List, [], ◌∷◌, ◌++◌, length, refl, sym, ap, ◌∙◌, subst, append-nil}
+use Rattle.std.proofs.Common.{arith, ◌≡◌, ℕ, ◌+◌, ◌-◌, ◌≤◌, Bool, true, false, not, None, List, [], ◌∷◌, ◌++◌, length, refl, sym, ap, ◌∙◌, subst, inl, inr}
 use Rattle.std.specs.Prelude.{◌||◌}
 use Rattle.wt_span.specs.Items.{Item, sources}
 use Rattle.wt_tree.specs.Tree.{Tree}

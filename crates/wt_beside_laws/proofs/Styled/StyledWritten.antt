@@ -1,5 +1,5 @@
 -- A content with styles that is written for a paragraph or a heading may stand in the place of its old content, and is such a block again.
-use Rattle.std.proofs.Common.{◌≡◌, ℕ, Bool, true, false, None, List, [], ◌∷◌, ◌++◌, refl, sym, ap, ◌∙◌, subst}
+use Rattle.std.proofs.Common.{◌≡◌, ℕ, Bool, true, false, None, List, [], ◌∷◌, ◌++◌, refl, sym, ap, ◌∙◌, subst, inl, inr}
 use Rattle.wt_span.specs.Items.{Item}
 use Rattle.wt_span.specs.Tags.{to_closing}
 use Rattle.wt_guards.specs.Content.{ContentSign, Thing, letter, thing}
@@ -103,8 +103,8 @@ some_source Q olds news f g some h =
     each_source Q news (each_some (λ t. Q t.source) (put_source Q f g) (things news) (things olds) some (source_each Q olds h))
 
 mark_calm : (kind : Bool) → IsCalm (mark_source kind)
-mark_calm true = record { utf8 = quotes_utf8 true; unbraced = subst HaveNoBraces (sym (mark_items true)) (refl, refl, refl, tt) }
-mark_calm false = record { utf8 = quotes_utf8 false; unbraced = subst HaveNoBraces (sym (mark_items false)) (refl, refl, tt) }
+mark_calm true = record { utf8 = quotes_utf8 true; unbraced = subst HaveNoBraces (sym (mark_items true)) (refl, (refl, (refl, tt))) }
+mark_calm false = record { utf8 = quotes_utf8 false; unbraced = subst HaveNoBraces (sym (mark_items false)) (refl, (refl, tt)) }
 
 mark_shut : (kind : Bool) → IsShut (mark_source kind)
 mark_shut true = refl
