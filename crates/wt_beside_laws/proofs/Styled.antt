@@ -10,6 +10,9 @@ pub mod StyledParagraphs
 pub mod StyledShown
 pub mod SentStyles
 pub mod StyledNodes
+pub mod BlockNodes
+pub mod BlockStyles
+pub mod SentAmong
 pub mod StyledHeadings
 pub mod StyledAgain
 mod Cases

@@ -43,7 +43,7 @@ use Rattle.wt_beside_laws.proofs.LineShown.{twice, children_show, guard_shows}
 
 -- ---- signs
 
-signs_joined : (t : StyledContent) (after rest : List ContentSign) → signs_before t after ++ rest ≡ signs_before t (after ++ rest)
+pub signs_joined : (t : StyledContent) (after rest : List ContentSign) → signs_before t after ++ rest ≡ signs_before t (after ++ rest)
 signs_joined finished after rest = refl
 signs_joined (sign c t) after rest = ap (λ cs. c ∷ cs) (signs_joined t after rest)
 signs_joined (styled kind opening closing inside t) after rest =
