@@ -15,4 +15,5 @@ pub mod BlockStyles
 pub mod SentAmong
 pub mod StyledHeadings
 pub mod StyledAgain
+pub mod OldStyled
 mod Cases
