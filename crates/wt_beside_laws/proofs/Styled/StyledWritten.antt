@@ -1,7 +1,6 @@
 -- A content with styles that is written for a paragraph or a heading may stand in the place of its old content, and is such a block again.
-use Rattle.std.proofs.Common.{◌≡◌, ℕ, Bool, true, false, None, List, [], ◌∷◌, ◌++◌, refl, sym, ap, ◌∙◌, subst, inl, inr}
+use Rattle.std.proofs.Common.{◌≡◌, ℕ, Bool, true, false, List, [], ◌∷◌, ◌++◌, refl, sym, ap, ◌∙◌, subst, inl, inr}
 use Rattle.wt_span.specs.Items.{Item}
-use Rattle.wt_span.specs.Tags.{to_closing}
 use Rattle.wt_guards.specs.Content.{ContentSign, Thing, letter, thing}
 use Rattle.wt_guards.specs.Guards.{Setting, nowiki, spelled}
 use Rattle.wt_expand.specs.PageItems.{page_items}
@@ -9,7 +8,7 @@ use Rattle.wt_lines.specs.Lines.{full_lines}
 use Rattle.wt_inline.specs.ItemTree.{forest, held_by_all}
 use Rattle.wt_inline.specs.Parts.{Part, children}
 use Rattle.wt_called_trees.specs.Rounded.{AllHaveItems}
-use Rattle.wt_text_edit_laws.specs.Contents.{AreParagraphLines, IsContentOf, content_parts_of, IsContent, StaysAnywhere, IsFirmContent, IsNewContent}
+use Rattle.wt_text_edit_laws.specs.Contents.{AreParagraphLines, IsContentOf, content_parts_of, StaysAnywhere, IsNewContent}
 use Rattle.wt_text_edit_laws.specs.ParagraphParts.{joined_parts}
 use Rattle.wt_text_edit_laws.specs.TextBlocks.{TextBlock, a_paragraph, a_heading}
 use Rattle.wt_text_edit_laws.specs.TypedHeadings.{Sides}
@@ -37,6 +36,7 @@ use Rattle.wt_beside_laws.proofs.Made.OldBlocks.{lines_are}
 use Rattle.wt_beside_laws.proofs.Made.OwnPages.{own_frame}
 use Rattle.wt_beside_laws.proofs.Made.Written.{FitsIn, lines_by, before_any, uncommented, firm, alone, before_break, ended_so, unended_so, texts_by, all_unled, calls_none, from_calm, to_calm, put_calm, from_sealed, to_sealed, put_sealed}
 use Rattle.wt_beside_laws.proofs.Styled.HeldStyles.{styled_have_items}
+use Rattle.wt_beside_laws.proofs.Styled.OldStyled.{styled_in_content}
 use Rattle.wt_beside_laws.proofs.Styled.StyledAgain.{quotes_utf8, again_each, again_lines, again_kept, again_shut}
 use Rattle.wt_beside_laws.proofs.Styled.StyledHeadings.{styled_inside, styled_level, inside_parts}
 use Rattle.wt_beside_laws.proofs.Styled.StyledLines.{mark_items}
@@ -182,16 +182,14 @@ closes_so k q s t h w name us vs o g =
     content_closes s [] (signs_in t) name vs
     (each_some (OpenFor name) (put_open name vs g) (things (signs_in t)) (things (signs_of k q)) w.nodes (block_open k q name us o)) (sealed_so k q s t h w) g
 
--- where it is a content that is read by itself
-pub styled_new : (k : TextBlock) (q : List ℕ) (s : Setting) (t : StyledContent) → IsStyledIn k q → IsStyledFor k q s t → IsContent k (spelled s (signs_in t))
-    → IsNewContent k q (spelled s (signs_in t))
-styled_new k q s t h w own = record {
+pub styled_new : (k : TextBlock) (q : List ℕ) (s : Setting) (t : StyledContent) → IsStyledIn k q → IsStyledFor k q s t → IsNewContent k q (spelled s (signs_in t))
+styled_new k q s t h w = record {
   firm = record {
-      content = own;
-      firm = λ rest b. firm s (signs_in t) rest w.content.kept b;
-      uncommented = λ rest b. uncommented s (signs_in t) rest w.content.kept b;
-      stays = stays_so k s t w.content;
-      unbraced = content_unbraced s (signs_in t) w.content.kept (calm_so k q s t h w);
-    };
+    content = styled_in_content k (spelled s (signs_in t)) (styled_again k q s t h w);
+    firm = λ rest b. firm s (signs_in t) rest w.content.kept b;
+    uncommented = λ rest b. uncommented s (signs_in t) rest w.content.kept b;
+    stays = stays_so k s t w.content;
+    unbraced = content_unbraced s (signs_in t) w.content.kept (calm_so k q s t h w);
+  };
   closes = λ name us vs o n. closes_so k q s t h w name us vs o n;
 }
