@@ -115,13 +115,13 @@ past_loose k o b at (loose j i c ∷ r) others ts run h =
     subst (λ (n : ℕ). HaveThings n others ts) z (past_loose j i c (at + 1) r others ts run.1 h.1)
 past_loose k o b at (node x ∷ r) others ts run h = absurd (let no = run.0 in cc)
 
-loose_width : (k : Loose) (o : Option ℕ) (b : ℕ) (r others : List Part) → IsRun one_leaf (loose k o b ∷ r) others
+pub loose_width : (k : Loose) (o : Option ℕ) (b : ℕ) (r others : List Part) → IsRun one_leaf (loose k o b ∷ r) others
     → parts_width (loose k o b ∷ r) ≡ length (sources (held_parts (loose k o b ∷ r)))
 loose_width k o b [] others run = refl
 loose_width k o b (loose j i c ∷ r) others run = let more = loose_width j i c r others run.1 in omega (arith, more)
 loose_width k o b (node x ∷ r) others run = absurd (let no = run.0 in cc)
 
-leaf_source : (k : Loose) (own : List Item) → tree_source (loose_leaf k own) ≡ sources own
+pub leaf_source : (k : Loose) (own : List Item) → tree_source (loose_leaf k own) ≡ sources own
 leaf_source k own = ap sources (append-nil own)
 
 -- ---- the trees of parts
@@ -168,7 +168,7 @@ pub stands_kind : (n : ℕ) (before : List Item) (u : ItemTree) → (label (stan
 unfolding label_at
 stands_kind n before (inner h opening ts closing) = refl
 
-stands_form : (n : ℕ) (before : List Item) (u : ItemTree) (r : Role) → IsThing u r → IsThingForm (edit_shape (label (standing n before u)).kind).inline
+pub stands_form : (n : ℕ) (before : List Item) (u : ItemTree) (r : Role) → IsThing u r → IsThingForm (edit_shape (label (standing n before u)).kind).inline
 stands_form n before u r i = subst (λ (k : Kind). IsThingForm (edit_shape k).inline) (sym (stands_kind n before u)) i.form
 
 node_own : (block : Tree) (at from n : ℕ) (before : List Item) (u : ItemTree) (r : Role) → IsThing u r
@@ -246,7 +246,7 @@ stands_number : (n : ℕ) (before : List Item) (u : ItemTree) → (label (standi
 unfolding label_at
 stands_number n before (inner h opening ts closing) = refl
 
-node_number : (n : ℕ) (before : List Item) (u : ItemTree) (r : Role) → 0 < n → IsThing u r → (label (standing n before u)).id ≢ 0
+pub node_number : (n : ℕ) (before : List Item) (u : ItemTree) (r : Role) → 0 < n → IsThing u r → (label (standing n before u)).id ≢ 0
 node_number n before u r some i =
     let is : (label (standing n before u)).id ≡ n = stands_number n before u ∙ ap (λ (v : Bool). if v then n else 0) i.numbered in
     omega (arith, is, some)
