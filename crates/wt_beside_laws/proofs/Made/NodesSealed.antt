@@ -1,9 +1,8 @@
 -- Each node of a content that stays ends each closing tag that begins in it: so what is written closes no tag behind it.
-use Rattle.std.proofs.Common.{arith, ◌≡◌, ◌≢◌, ◌⊎◌, inl, inr, ℕ, zero, suc, ◌+◌, ◌-◌, ◌<◌, ◌≤◌, ◌==◌, Bool, true, false, Option, Some, None, List, [], ◌∷◌, ◌++◌, length, map, take, drop, refl, sym, ap, ◌∙◌, subst, append_assoc, All}
+use Rattle.std.proofs.Common.{arith, ◌≡◌, ◌≢◌, ◌⊎◌, inl, inr, ℕ, zero, suc, ◌+◌, ◌-◌, ◌≤◌, ◌==◌, Bool, true, false, Option, Some, None, List, [], ◌∷◌, ◌++◌, length, map, take, drop, refl, sym, ap, ◌∙◌, subst, append_assoc}
 use Rattle.std.specs.Prelude.{◌&&◌, not, codes, if◌then◌else◌}
 use Rattle.std.specs.Char.{to_ascii_lowercase}
 use Rattle.std.proofs.lemmas.Bool.{eqb-true}
-use Rattle.std.proofs.lemmas.Bool.Decides.{nat_tests}
 use Rattle.std.proofs.lemmas.List.{length-drop}
 use Rattle.std.proofs.lemmas.List.Elements.{All-contains}
 use Rattle.std.proofs.Math.Seq.{take-append_seam}
@@ -18,8 +17,8 @@ use Rattle.wt_lex.specs.WholeWords.{IsWholeWord}
 use Rattle.wt_lex.proofs.WholeWords.{form_whole}
 use Rattle.wt_guards.specs.declared.role.Role.{Role}
 use Rattle.wt_guards.specs.declared.role.Role.TheVariants.{Link, External, Bare, Switch, Toggle, Mark, Group, Function, Node}
-use Rattle.wt_guards.specs.Content.{Thing, ContentSign, letter, thing}
-use Rattle.wt_expand.specs.PageItems.{raw_form_by, raw_form, items_of_word, page_items}
+use Rattle.wt_guards.specs.Content.{ContentSign, letter, thing}
+use Rattle.wt_expand.specs.PageItems.{raw_form_by, items_of_word, page_items}
 use Rattle.wt_expand.proofs.PageLaws.{page_sources}
 use Rattle.wt_tiles.specs.declared.glyph.Glyph.{Glyph}
 use Rattle.wt_tiles.specs.declared.glyph.Glyph.TheVariants as glyph
@@ -29,9 +28,9 @@ use Rattle.wt_tiles.specs.declared.tag.Tag.{Tag}
 use Rattle.wt_tiles.specs.declared.target.LinkKind.{LinkKind}
 use Rattle.wt_tiles.specs.declared.target.LinkKind.TheVariants.{Page, Category, Media}
 use Rattle.wt_tiles.specs.declared.target.Target.{Target}
-use Rattle.wt_tiles.specs.Glyphs.{glyph_of_form, glyph_of, in_class, is_in, is_small, first_is, run_len, begins, begins_like, like_byte, byte_glyphs}
+use Rattle.wt_tiles.specs.Glyphs.{glyph_of_form, glyph_of, in_class, is_small, first_is, run_len, begins, begins_like, like_byte, byte_glyphs}
 use Rattle.wt_tiles.specs.Links.{target_of, kind_of, target_len, inner_len, has_pipe, head_len, link_shape, link_with, link_to, link_by, link_in}
-use Rattle.wt_tiles.specs.Partners.{number, partner}
+use Rattle.wt_tiles.specs.Partners.{number}
 use Rattle.wt_tiles.specs.Searches.{IsHead}
 use Rattle.wt_tiles.specs.Tags.{tag_at}
 use Rattle.wt_tiles.specs.Tiles.{size, len_of, switch_names}
@@ -39,11 +38,9 @@ use Rattle.wt_tiles.specs.Urls.{scheme_len, is_url_char, is_url_glyph, url_run, 
 use Rattle.wt_tiles.proofs.LinkFits.{head_within}
 use Rattle.wt_text_edit_laws.specs.LonePages.{page_chars}
 use Rattle.wt_text_edit_laws.specs.TextBetween.{EndsBy}
-use Rattle.wt_text_edit_laws.proofs.Between.LineWords.{lacks}
 use Rattle.wt_beside_laws.specs.Content.{AreKept}
-use Rattle.wt_beside_laws.specs.Cuts.{own_glyphs}
 use Rattle.wt_beside_laws.specs.FlatBlocks.{IsSealed, AreSealed}
-use Rattle.wt_beside_laws.specs.Kept.{Part, characters, sign, lexeme, IsPart, AreParts, part_items, parts_items, parts_source, IsKept}
+use Rattle.wt_beside_laws.specs.Kept.{Part, characters, sign, lexeme, IsPart, AreParts, part_items, parts_items, IsKept}
 use Rattle.wt_beside_laws.specs.Nodes.{IsLinkNode, IsExternalNode, IsBareNode, IsSwitchNode, IsDelimiter, IsCategoryNode, IsMediaNode, IsPair, IsTagNode, IsOneLexeme, IsNode, AreNodes}
 use Rattle.wt_beside_laws.specs.Tiles.{IsPlainKind, IsCategoryKind, IsMediaKind, LeadsBy, AimsBy}
 use Rattle.wt_beside_laws.proofs.Firm.{ReadsAs, alone_as, parts_read}

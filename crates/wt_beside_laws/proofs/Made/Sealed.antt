@@ -1,5 +1,5 @@
 -- Bytes in which each closing tag ends that begins there: those whose last byte is in no name and no blank, those without a `<`, and both in a row.
-use Rattle.std.proofs.Common.{arith, ◌≡◌, ◌≢◌, ◌⊎◌, inl, inr, ℕ, zero, suc, ◌+◌, ◌-◌, ◌<◌, ◌≤◌, ◌==◌, Bool, true, false, Option, Some, None, List, [], ◌∷◌, ◌++◌, length, get_or, take, drop, nat_lt, nat_le, refl, sym, ap, ◌∙◌, subst, append_assoc, append-nil}
+use Rattle.std.proofs.Common.{arith, ◌≡◌, ◌≢◌, inl, inr, ℕ, suc, ◌+◌, ◌-◌, ◌<◌, ◌≤◌, ◌==◌, Bool, true, false, Option, Some, None, List, [], ◌∷◌, ◌++◌, length, get_or, take, drop, nat_lt, nat_le, refl, sym, ap, ◌∙◌, subst, append_assoc}
 use Rattle.std.specs.Prelude.{◌&&◌, ◌||◌, if◌then◌else◌, slice_index, codes}
 use Rattle.std.specs.Option.{option_map, option_or}
 use Rattle.std.specs.Char.{is_ascii_alphabetic, is_ascii_alphanumeric, is_ascii_digit, is_ascii_hexdigit}
@@ -11,10 +11,10 @@ use Rattle.std.proofs.lemmas.List.Sums.{prefix_len_passes}
 use Rattle.std.proofs.Math.Seq.{take-append_seam}
 use Rattle.wt_span.specs.Bytes.{is_blank, begins, name_len, blank_len, lower}
 use Rattle.wt_span.specs.Entities.{named_in, entity_names, named_entity, is_entity_number, numbered, decimal_entity, hex_entity, entity_at}
-use Rattle.wt_span.specs.Tags.{Tag, opening_tag, closing_tag, len_if_named, to_closing, with_inside, is_raw_name, raw_by, raw_len}
+use Rattle.wt_span.specs.Tags.{Tag, opening_tag, closing_tag, len_if_named, to_closing, with_inside, raw_by}
 use Rattle.wt_span.specs.Whole.{IsRawTag}
 use Rattle.wt_lex.proofs.Begins.{and_left, and_right, byte_is, lt_is, begins_get}
-use Rattle.wt_lex.proofs.TagForms.{TagFits, OptTag, opening_fits, EndsTag, OptEnds, closing_ends}
+use Rattle.wt_lex.proofs.TagForms.{TagFits, OptTag, opening_fits, OptEnds, closing_ends}
 use Rattle.wt_lex.proofs.WholeTags.{closing_front, closing_more}
 use Rattle.wt_text_edit_laws.specs.TextBetween.{EndsBy}
 use Rattle.wt_text_edit_laws.proofs.Between.ClosingTags.{Unclosed, unclosed_byte, unclosed_rest, unclosed_behind, not_less}

@@ -46,7 +46,7 @@ use Rattle.wt_beside_laws.proofs.LineItems.{content_lines_are}
 use Rattle.wt_beside_laws.proofs.LineKinds.{lines_are_text}
 use Rattle.wt_beside_laws.proofs.LineParagraphs.{unmarked, flat_paragraph}
 use Rattle.wt_beside_laws.proofs.LineRows.{lines_joined}
-use Rattle.wt_beside_laws.proofs.Made.Closes.{nowiki_sealed, reference_sealed, some_sealed}
+use Rattle.wt_beside_laws.proofs.Made.Closes.{nowiki_sealed, reference_sealed}
 use Rattle.wt_beside_laws.proofs.Made.Items.{nodes_have_items}
 use Rattle.wt_beside_laws.proofs.Made.Levels.{keeps_level}
 use Rattle.wt_beside_laws.proofs.Made.OldBlocks.{lines_are}
@@ -250,6 +250,4 @@ flat_again k q s signs h w e =
           (to_calm (signs_of_lines at (content_lines s signs)) (again_each IsCalm put_calm at s signs w.flat (from_calm signs w.calm)));
       shut = of_written (λ (ls : List (List Item)). AreShut (signs_of_lines at ls)) k s signs w
           (again_shut at s signs w.flat (some_shut (signs_in k q) signs e h.shut));
-      sealed = of_written (λ (ls : List (List Item)). AreSealed (signs_of_lines at ls)) k s signs w
-          (to_sealed (signs_of_lines at (content_lines s signs)) (again_each IsSealed put_sealed at s signs w.flat (from_sealed signs (some_sealed (signs_in k q) signs e h.sealed))));
     }
