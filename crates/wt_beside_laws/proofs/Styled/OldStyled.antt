@@ -160,8 +160,7 @@ styled_shut low high bare us h = between_shut low high us h
 styled_shut low high (grown s held after) us h =
     let mid : ℕ = s.from + s.open_w in
     let end : ℕ = s.to - s.close_w in
-    shut_both (segment_parts (between low s.from us)) (node (style_node s (styled mid end held us) us) ∷ styled s.to high after us) (between_shut low s.from us h)
-    (
+    shut_both (segment_parts (between low s.from us)) (node (style_node s (styled mid end held us) us) ∷ styled s.to high after us) (between_shut low s.from us h) (
       style_shut s.bold (segment_items (between s.from mid us)) (segment_items (between end s.to us)) (styled mid end held us) (styled_shut mid end held us h),
       styled_shut s.to high after us h,
     )
