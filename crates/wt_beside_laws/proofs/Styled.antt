@@ -19,5 +19,7 @@ pub mod StyledHeadings
 pub mod StyledAgain
 pub mod OldStyled
 pub mod SentWhole
+pub mod StyledTexts
+pub mod OwnStyled
 mod Cases
 mod InCases
