@@ -358,11 +358,11 @@ shut_things [] h = tt
 shut_things (letter c ∷ signs) h = shut_things signs h
 shut_things (thing t ∷ signs) h = (h.0, shut_things signs h.1)
 
-none_of_both : (a b : Bool) → a ≡ false → b ≡ false → (a || b) ≡ false
+pub none_of_both : (a b : Bool) → a ≡ false → b ≡ false → (a || b) ≡ false
 none_of_both true b e f = cc
 none_of_both false b e f = f
 
-leaf_shut : (k : Loose) (own : List Item) (n : ℕ) (before : List Item) → IsText k → node_ends_open (standing n before (loose_leaf k own)) ≡ false
+pub leaf_shut : (k : Loose) (own : List Item) (n : ℕ) (before : List Item) → IsText k → node_ends_open (standing n before (loose_leaf k own)) ≡ false
 unfolding label_at
 leaf_shut Text own n before h = refl
 leaf_shut Sep own n before h = absurd h
@@ -379,7 +379,7 @@ open_is inline.Tag source inside f = refl
 open_is inline.Break source inside f = refl
 open_is inline.AsItStood source inside f = refl
 
-node_open : (t : Tree) → IsThingForm (edit_shape (label t).kind).inline → node_ends_open t ≡ ends_open (flat t)
+pub node_open : (t : Tree) → IsThingForm (edit_shape (label t).kind).inline → node_ends_open t ≡ ends_open (flat t)
 node_open (tree l ts) f = open_is (edit_shape l.kind).inline (flat (tree l ts)) (any_ends_open ts) f
 
 runs_shut : (rs : List (List Part)) (ps : List Part) (at n : ℕ) (before : List Item) (ts : List Thing) → AreRuns one_leaf rs ps → HaveThings at ps ts → ShutThings ts

@@ -19,4 +19,5 @@ pub mod HeldStyles
 pub mod StyledWritten
 pub mod StyledHeadings
 pub mod StyledAgain
+pub mod OldStyled
 mod Cases

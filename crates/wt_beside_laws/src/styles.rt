@@ -21,8 +21,10 @@ ghost use Rattle.wt_headings.specs.Headings.{heading};
 ghost use Rattle.wt_page.specs.Body.{meaning};
 ghost use Rattle.wt_page.specs.Rows.{rows};
 ghost use Rattle.wt_page.specs.Texts.{para};
+ghost use Rattle.wt_text_edit_laws.specs.Contents.{IsContent, IsNewContent};
 ghost use Rattle.wt_text_edit_laws.specs.ParagraphBetween.{AreClosed, before_marks, EndsApart, EndsParagraph, blocks_in, body_with};
 ghost use Rattle.wt_text_edit_laws.specs.ParagraphParts.{para_with};
+ghost use Rattle.wt_text_edit_laws.specs.TextBlocks.{TextBlock};
 ghost use Rattle.wt_text_edit_laws.specs.TypedHeadings.{Sides, AreSides, heading_line, IsOfLevel, IsHeadingInside, EndsLine};
 ghost use Rattle.wt_beside_laws.specs.Content.{AreKept};
 ghost use Rattle.wt_beside_laws.specs.InHeadings.{KeepsLevel, heading_of};
@@ -36,6 +38,7 @@ ghost use Rattle.wt_beside_laws.specs.Shown.{parts_shown_at};
 ghost use Rattle.wt_beside_laws.specs.Styled.{StyledContent, signs_in, AreNested, IsStyledContent, styled_parts};
 ghost use Rattle.wt_beside_laws.specs.StyledBlocks.{all_numbers, things_with, AreSomeOf};
 ghost use Rattle.wt_beside_laws.specs.StyledHeadings.{IsStyledHeading};
+ghost use Rattle.wt_beside_laws.specs.StyledIn.{IsStyledIn, IsStyledFor};
 ghost use Rattle.wt_beside_laws.specs.StyledNodes.{AreSomeAndPut, AreUrlsApart};
 ghost use Rattle.wt_beside_laws.specs.StyledShown.{styled_shown};
 ghost use Rattle.wt_beside_laws.specs.Stood.{things};
@@ -146,4 +149,14 @@ pub fn texts_sent_in_styles_are_such()
         → IsBlockOfLines ls block → AreKept (signs_of_lines (length (label block).opening) ls) → AllNest (page_of same block) false false us
         → AreSomeOf (all_numbers us) (all_numbers (children_of block)) → AreCharacters (signs_in (sent_content (page_of same block) us))
         → AreUrlsApart (things (signs_in (sent_content (page_of same block) us))) → IsStyledContent s (sent_content (page_of same block) us) }
+{}
+
+/// A paragraph or a heading with bold and italic (`IsStyledIn`) holds a content that is read by itself, whatever is round it; and what is written
+/// for such a content, with nodes that it had, in their order, and any texts and styles (`IsStyledFor`), may stand in its place, and is one again.
+pub fn contents_with_styles_may_take_their_place()
+    ensures content { (k : TextBlock) (q : List ℕ) → IsStyledIn k q → IsContent k q }
+    ensures new { (k : TextBlock) (q : List ℕ) (s : Setting) (t : StyledContent) → IsStyledIn k q → IsStyledFor k q s t
+        → IsNewContent k q (spelled s (signs_in t)) }
+    ensures again { (k : TextBlock) (q : List ℕ) (s : Setting) (t : StyledContent) → IsStyledIn k q → IsStyledFor k q s t
+        → IsStyledIn k (spelled s (signs_in t)) }
 {}

@@ -20,6 +20,7 @@ ghost use Rattle.wt_text_edit_laws.specs.TextBlocks.{a_paragraph};
 ghost use Rattle.wt_text_edit_laws.specs.TypedPages.{IsTypedPage};
 ghost use Rattle.wt_called_edit_laws.specs.AnyBlocks.{AreSpots, AllLead};
 ghost use Rattle.wt_called_edit_laws.specs.AnyTexts.{TakesAnyTexts};
+ghost use Rattle.wt_called_edit_laws.specs.ItemSpots.{AreContentSpots};
 ghost use Rattle.wt_called_edit_laws.specs.CalledBlocks.{AreAmongCalls, StandAmongCalls};
 ghost use Rattle.wt_called_edit_laws.specs.CellEdits.{CellPage, page_with, IsCellPage, IsCellEdit, LeadsFrom, TakesText, own_sents};
 ghost use Rattle.wt_called_edit_laws.specs.HeadingsInCells.{IsHeadingInCell, HeadingStandsInCell};
@@ -132,9 +133,9 @@ pub fn blocks_among_calls_stand_at_their_places()
         → AreAmongCalls pages rs behind }
 {}
 
-/// A page that calls nothing (`AreSpots`) is such a page, too.
+/// A page that calls nothing (`AreContentSpots`) is such a page, too.
 pub fn pages_without_calls_are_among_these()
-    ensures { (pages : Pages) (ss : List BlockSpot) (behind : List ℕ) → AreSpots ss behind → AreAmongCalls pages ss behind }
+    ensures { (pages : Pages) (ss : List BlockSpot) (behind : List ℕ) → AreContentSpots ss behind → AreAmongCalls pages ss behind }
 {}
 
 /// Where texts are typed in paragraphs and headings among calls, and no node round one of them is in a group, the page's
@@ -160,10 +161,11 @@ pub fn blocks_among_calls_are_untangled()
         → AreUntangledFrom (expanded_page pages (spots_source ss behind)) (spots_source ss behind) 0 ss }
 {}
 
-/// A page that calls nothing, and of which no node can only be kept as a whole (`AreSpots`), is
-/// such a page, whatever pages the folder has.
+/// A page that calls nothing, and of which no node can only be kept as a whole (`AreContentSpots`), is such a page, whatever
+/// its paragraphs and headings hold, and whatever pages the folder has. They may hold texts (`AreSpots`).
 pub fn pages_without_calls_are_called_pages()
-    ensures { (pages : Pages) (ss : List BlockSpot) (behind : List ℕ) → AreSpots ss behind → IsCalledPage pages ss behind }
+    ensures called { (pages : Pages) (ss : List BlockSpot) (behind : List ℕ) → AreContentSpots ss behind → IsCalledPage pages ss behind }
+    ensures texts { (ss : List BlockSpot) (behind : List ℕ) → AreSpots ss behind → AreContentSpots ss behind }
 {}
 
 /// A page with calls, with places for paragraphs and headings in its body and in the cells and captions of its tables.

@@ -1,17 +1,15 @@
 -- Each node of a content with styles has an item, and all its items are the page's own, where it is so of the block of the page.
-use Rattle.std.proofs.Common.{arith, ◌≡◌, ℕ, ◌+◌, ◌-◌, ◌≤◌, Bool, true, false, not, None, List, [], ◌∷◌, ◌++◌, length, refl, sym, ap, ◌∙◌, subst, append-nil}
+use Rattle.std.proofs.Common.{arith, ℕ, ◌+◌, ◌-◌, ◌≤◌, Bool, true, false, not, None, List, [], ◌∷◌, ◌++◌, length, refl, sym, ap, ◌∙◌, subst, inl, inr}
 use Rattle.std.specs.Prelude.{◌||◌}
 use Rattle.wt_span.specs.Items.{Item, sources}
-use Rattle.wt_tree.specs.Tree.{Tree}
 use Rattle.wt_quotes.specs.Forest.{Forest, bare, grown, forest_of}
 use Rattle.wt_quotes.specs.Styles.{style_tree_of}
-use Rattle.wt_guards.specs.declared.role.Role.{Role}
 use Rattle.wt_guards.specs.Content.{ContentSign, Thing, letter, thing}
 use Rattle.wt_guards.specs.Guards.{Setting, nowiki, is_guarded}
 use Rattle.wt_guards.specs.Letters.{is_escaped}
 use Rattle.wt_expand.specs.PageItems.{page_items}
 use Rattle.wt_inline.specs.declared.loose.Loose.TheVariants.{Text}
-use Rattle.wt_inline.specs.ItemTree.{ItemTrees, forest, held_by_all}
+use Rattle.wt_inline.specs.ItemTree.{forest, held_by_all}
 use Rattle.wt_inline.specs.Parts.{Part, loose, node, children, parts}
 use Rattle.wt_tiles.specs.Contexts.{in_line}
 use Rattle.wt_tiles.specs.Tiles.{tiles}
@@ -192,9 +190,10 @@ styled_has bold italic s before (styled kind opening closing inside t) after k f
     let guarded : Bool = is_guarded s before (delimiter kind opening ∷ signs_before inside tail) in
     let ps : List Part = styled_parts false s first inside tail in
     let later : List Part = styled_parts false s last t after in
-    have_both (parts Text (guard_items guarded)) (node (style_tree kind ps) ∷ later) (guard_has guarded)
-    (style_held kind ps (styled_has (kind || bold) (not kind || italic) s first inside tail k.1 f.1),
-    styled_has bold italic s last t after k.2 (each_behind OwnHas inside tail f.1).1)
+    have_both (parts Text (guard_items guarded)) (node (style_tree kind ps) ∷ later) (guard_has guarded) (
+      style_held kind ps (styled_has (kind || bold) (not kind || italic) s first inside tail k.1 f.1),
+      styled_has bold italic s last t after k.2 (each_behind OwnHas inside tail f.1).1,
+    )
 
 pub styled_have_items : (s : Setting) (ls : List (List Item)) (at : ℕ) (t : StyledContent) → AreFlatLines ls → AreNested false false t
     → AreSomeAndPut (things (signs_in t)) (things (signs_of_lines at ls)) → AllHaveItems (forest (children (joined_parts ls)))
