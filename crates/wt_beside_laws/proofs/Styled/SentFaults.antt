@@ -1,5 +1,5 @@
 -- Nothing is wrong in what is sent of a block with styles, its texts are characters, and in a heading it is on one line.
-use Rattle.std.proofs.Common.{arith, ◌≡◌, ◌⊎◌, inl, inr, ℕ, ◌+◌, ◌≤◌, ◌==◌, Bool, true, false, List, [], ◌∷◌, ◌++◌, map, refl, sym, ap, ◌∙◌, subst}
+use Rattle.std.proofs.Common.{arith, ◌≡◌, ◌⊎◌, inl, inr, ℕ, ◌+◌, ◌≤◌, ◌==◌, Bool, true, false, List, [], ◌∷◌, ◌++◌, map, refl, sym, ap, ◌∙◌, subst, All}
 use Rattle.std.specs.Prelude.{◌||◌, ◌&&◌, not, if◌then◌else◌, Option, Some, None, encode_utf8}
 use Rattle.std.specs.List.{list_any}
 use Rattle.std.specs.Str.{IsUtf8, chars}
@@ -22,9 +22,10 @@ use Rattle.wt_original.specs.Kept.{Kept, kept_with}
 use Rattle.wt_original.specs.Page.{Page, page_of, TellsSame}
 use Rattle.wt_content.specs.declared.reason.ContentWhy.{ContentWhy}
 use Rattle.wt_content.specs.declared.reason.ContentWhy.TheVariants as why
+use Rattle.wt_content.specs.declared.content.Surroundings.{Surroundings}
 use Rattle.wt_content.specs.declared.content.Standing.{Standing}
 use Rattle.wt_content.specs.declared.content.Standing.TheVariants as stands
-use Rattle.wt_content.specs.Content.{Surroundings, standing, faults_by, holds_link, below, faults, all_faults, has_break, break_fault, is_paragraph, first_why, bad_content}
+use Rattle.wt_content.specs.Content.{standing, faults_by, holds_link, below, faults, all_faults, has_break, break_fault, is_paragraph, first_why, bad_content}
 use Rattle.wt_link_spelling.specs.Spelling.{opening_place, closing_place}
 use Rattle.wt_typed_blocks.specs.Sent.{StandsAsIs, AllStandAsIs}
 use Rattle.wt_typed_blocks.specs.Edited.{Piece, gone, written, kept, page_pieces, text_node, sent_pieces, PiecesStay}
