@@ -20,7 +20,6 @@ pub mod StyledWritten
 pub mod StyledHeadings
 pub mod StyledAgain
 pub mod OldStyled
-pub mod SentWhole
 pub mod StyledTexts
 pub mod OwnStyled
 mod Cases
