@@ -21,4 +21,6 @@ pub mod StyledWritten
 pub mod StyledHeadings
 pub mod StyledAgain
 pub mod OldStyled
+pub mod StyledTexts
+pub mod OwnStyled
 mod Cases
