@@ -15,6 +15,7 @@ pub mod BlockStyles
 pub mod SentAmong
 pub mod SentWhole
 pub mod SentFaults
+pub mod Making
 pub mod HeldStyles
 pub mod StyledWritten
 pub mod StyledHeadings
