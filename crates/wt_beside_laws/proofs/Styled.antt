@@ -13,6 +13,9 @@ pub mod StyledNodes
 pub mod BlockNodes
 pub mod BlockStyles
 pub mod SentAmong
+pub mod SentWhole
+pub mod SentFaults
+pub mod Making
 pub mod HeldStyles
 pub mod StyledWritten
 pub mod StyledHeadings

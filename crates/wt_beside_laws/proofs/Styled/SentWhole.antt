@@ -9,7 +9,8 @@ use Rattle.wt_tree.specs.declared.kind.Showing.TheVariants as showing
 use Rattle.wt_tree.specs.declared.edit_shape.InlineForm.{InlineForm}
 use Rattle.wt_tree.specs.declared.edit_shape.InlineForm.TheVariants as inline
 use Rattle.wt_tree.specs.EditShapes.{edit_shape}
-use Rattle.wt_tree.specs.Kinds.{is_group, showing as showing_of}
+use Rattle.wt_tree.specs.Kinds.{showing as showing_of}
+use Rattle.wt_tree.specs.Tiling.{is_group}
 use Rattle.wt_tree.specs.Plain.{Face, Plains, ended, face, plain_before, plains_before, shown_before}
 use Rattle.wt_tree.specs.Tiling.{HasNoGroup, NoneIsGroup}
 use Rattle.wt_tree.specs.Tree.{Label, Tree, tree, Trees, none, more, label}
@@ -120,8 +121,8 @@ one_shows : (w : InlineForm) (p : Page) (l m : Label) (ts us : Trees) (A B : Typ
     → ((rest : Plains) → plain_before (tree m us) rest ≡ plain_before (tree l ts) rest) → (A → B) → ShowsBy w p l ts A → ShowsBy w p m us B
 one_shows inline.Nothing p l m ts us A B h e f s = of_kind l m showing.Nothing h s
 one_shows inline.Characters p l m ts us A B h e f s = (of_kind l m showing.Characters h s.0, subst IsUtf8 (sym (h.shown s.0)) s.1)
-one_shows inline.Bold p l m ts us A B h e f s = (of_kind l m showing.Element h s.0, (same_face l m h ∙ s.1, f s.2))
-one_shows inline.Italic p l m ts us A B h e f s = (of_kind l m showing.Element h s.0, (same_face l m h ∙ s.1, f s.2))
+one_shows inline.Bold p l m ts us A B h e f s = (of_kind l m showing.Element h s.0, same_face l m h ∙ s.1, f s.2)
+one_shows inline.Italic p l m ts us A B h e f s = (of_kind l m showing.Element h s.0, same_face l m h ∙ s.1, f s.2)
 one_shows inline.Shown p l m ts us A B h e f s = source_shown p l m ts us h e s
 one_shows inline.PageLink p l m ts us A B h e f s = source_shown p l m ts us h e s
 one_shows inline.ExternalLink p l m ts us A B h e f s = source_shown p l m ts us h e s
