@@ -44,8 +44,9 @@ use Rattle.wt_beside_laws.proofs.Made.Making.{known, setting, new_is, takes_brea
 use Rattle.wt_beside_laws.proofs.Made.OldBlocks.{with_parts, parts_are, face_of, IsIn, block_kind, block_face, block_begins, node_is}
 use Rattle.wt_beside_laws.proofs.Styled.BlockStyles.{styled_nodes}
 use Rattle.wt_beside_laws.proofs.Styled.OldStyled.{styled_of_lines}
+use Rattle.wt_beside_laws.proofs.Styled.OwnStyled.{AreKnown, own_styled}
 use Rattle.wt_beside_laws.proofs.Styled.SentAmong.{some_of, things_among, sent_some, sent_styles}
-use Rattle.wt_beside_laws.proofs.Styled.SentFaults.{AreKnown, pieces_known, no_style_fault, sent_characters, sent_on_one_line}
+use Rattle.wt_beside_laws.proofs.Styled.SentFaults.{pieces_known, no_style_fault, sent_characters, sent_on_one_line}
 use Rattle.wt_beside_laws.proofs.Styled.SentStyles.{sent_signs, sent_shown}
 use Rattle.wt_beside_laws.proofs.Styled.SentWhole.{pieces_plain, pieces_styled, pieces_show, some_numbers}
 use Rattle.wt_beside_laws.proofs.Styled.StyledShown.{styled_is_shown}
@@ -168,16 +169,17 @@ then_by k q block m ps own h i e =
     let w : IsSentWell k q block ps = sent_well k q block ps own h i e in
     subst (IsStyledIn k) (sym (content_is k q block m ps i e w)) (styled_again k q (setting k block) (sent_for block ps) h w.is)
 
--- ---- with what the page's block is
+-- ---- in other words
 
-pub styled_makes_by : ((k : TextBlock) (q : List ℕ) (block : Tree) → IsStyledIn k q → IsIn k q block → IsOwn block)
-    → (k : TextBlock) (q : List ℕ) (n : ℕ) (b : List Item) (block : Tree) (m : Label) (ps : List Piece) → IsStyledIn k q → 0 < n
+own_so : (k : TextBlock) (q : List ℕ) (block : Tree) → IsStyledIn k q → IsIn k q block → IsOwn block
+own_so k q block h i = own_styled same_node k q block tells_same h i
+
+pub styled_makes : (k : TextBlock) (q : List ℕ) (n : ℕ) (b : List Item) (block : Tree) (m : Label) (ps : List Piece) → IsStyledIn k q → 0 < n
     → block ≡ standing n b (block_tree k q) → IsStyledEditOf k block ps → MakesContent k q block m ps
-styled_makes_by own k q n b block m ps h some is e =
-    let i : IsIn k q block = in_page k q n b block some is in makes_by k q block m ps (own k q block h i) h i e
+styled_makes k q n b block m ps h some is e =
+    let i : IsIn k q block = in_page k q n b block some is in makes_by k q block m ps (own_so k q block h i) h i e
 
-pub styled_then_by : ((k : TextBlock) (q : List ℕ) (block : Tree) → IsStyledIn k q → IsIn k q block → IsOwn block)
-    → (k : TextBlock) (q : List ℕ) (n : ℕ) (b : List Item) (block : Tree) (m : Label) (ps : List Piece) → IsStyledIn k q → 0 < n
+pub styled_then : (k : TextBlock) (q : List ℕ) (n : ℕ) (b : List Item) (block : Tree) (m : Label) (ps : List Piece) → IsStyledIn k q → 0 < n
     → block ≡ standing n b (block_tree k q) → IsStyledEditOf k block ps → IsStyledIn k (new_content k block m ps)
-styled_then_by own k q n b block m ps h some is e =
-    let i : IsIn k q block = in_page k q n b block some is in then_by k q block m ps (own k q block h i) h i e
+styled_then k q n b block m ps h some is e =
+    let i : IsIn k q block = in_page k q n b block some is in then_by k q block m ps (own_so k q block h i) h i e

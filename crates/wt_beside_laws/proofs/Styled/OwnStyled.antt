@@ -9,7 +9,7 @@ use Rattle.wt_tree.specs.declared.edit_shape.InlineForm.TheVariants as inline
 use Rattle.wt_tree.specs.EditShapes.{edit_shape}
 use Rattle.wt_tree.specs.Source.{flat}
 use Rattle.wt_tree.specs.Tiling.{HasNoGroup, NoneIsGroup}
-use Rattle.wt_tree.specs.Tree.{Label, Tree, tree, Trees, more, label}
+use Rattle.wt_tree.specs.Tree.{Label, Tree, tree, Trees, none, more, label}
 use Rattle.wt_guards.specs.declared.role.Role.{Role}
 use Rattle.wt_guards.specs.Content.{ContentSign, Thing, letter}
 use Rattle.wt_original.specs.Kept.{items, visible, found_from, found_in}
@@ -60,13 +60,42 @@ use Rattle.wt_beside_laws.proofs.PartThings.{IsThingForm, IsThing, tree_source, 
 use Rattle.wt_beside_laws.proofs.Styled.BlockNodes.{finds_own, style_round, style_children, style_holds, found_inside}
 use Rattle.wt_beside_laws.proofs.Styled.StyledTexts.{HasTexts, HaveTexts, block_texts}
 
+-- ---- its styles are the page's
+
+abbrev pub KnownBy : InlineForm → Page → Label → Trees → Type 0 → Type 0
+KnownBy inline.Nothing p l ts inside = Unit {0}
+KnownBy inline.Characters p l ts inside = Unit {0}
+KnownBy inline.Bold p l ts inside = IsUnchanged p l ts × inside
+KnownBy inline.Italic p l ts inside = IsUnchanged p l ts × inside
+KnownBy inline.Shown p l ts inside = Unit {0}
+KnownBy inline.PageLink p l ts inside = Unit {0}
+KnownBy inline.ExternalLink p l ts inside = Unit {0}
+KnownBy inline.Tag p l ts inside = Unit {0}
+KnownBy inline.Break p l ts inside = Unit {0}
+KnownBy inline.AsItStood p l ts inside = Unit {0}
+
+abbrev mutual
+  pub IsKnown : Page → Tree → Type 0
+  IsKnown p (tree l ts) = KnownBy (edit_shape l.kind).inline p l ts (AreKnown p ts)
+
+  pub AreKnown : Page → Trees → Type 0
+  AreKnown p none = Unit {0}
+  AreKnown p (more t us) = IsKnown p t × AreKnown p us
+
 -- ---- nodes that go on as they are
+
+-- a node, and nodes, that are sent as they are, show their source, and whose styles are the page's
+abbrev Goes : Page → Tree → Type 0
+Goes p t = IsStyledSent p t × Shows p t × IsKnown p t
+
+abbrev Go : Page → Trees → Type 0
+Go p ts = AreStyledSent p ts × AllShow p ts × AreKnown p ts
 
 -- sent as it is, and showing its source, wherever it is
 abbrev GoesOn : (Tree → Tree → Bool) → ItemTree → Type 0
 GoesOn same u = (block : Tree) (at from n : ℕ) (before : List Item) → 0 < n → HasNoGroup (standing n before u) → HasTexts (standing n before u)
     → Every (Finds block) (found_from at from (standing n before u))
-    → IsStyledSent (page_of same block) (standing n before u) × Shows (page_of same block) (standing n before u)
+    → Goes (page_of same block) (standing n before u)
 
 abbrev AllGoOn : (Tree → Tree → Bool) → List Part → Type 0
 AllGoOn same [] = Unit {0}
@@ -109,6 +138,21 @@ shown_by inline.Tag p l ts inside f h = h
 shown_by inline.Break p l ts inside f h = h
 shown_by inline.AsItStood p l ts inside f h = h
 
+known_by : (w : InlineForm) (p : Page) (l : Label) (ts : Trees) (inside : Type 0) → IsThingForm w → KnownBy w p l ts inside
+known_by inline.Nothing p l ts inside f = absurd f
+known_by inline.Characters p l ts inside f = absurd f
+known_by inline.Bold p l ts inside f = absurd f
+known_by inline.Italic p l ts inside f = absurd f
+known_by inline.Shown p l ts inside f = tt
+known_by inline.PageLink p l ts inside f = tt
+known_by inline.ExternalLink p l ts inside f = tt
+known_by inline.Tag p l ts inside f = tt
+known_by inline.Break p l ts inside f = tt
+known_by inline.AsItStood p l ts inside f = tt
+
+tree_known : (p : Page) (t : Tree) → IsThingForm (edit_shape (label t).kind).inline → IsKnown p t
+tree_known p (tree l ts) f = known_by (edit_shape l.kind).inline p l ts (AreKnown p ts) f
+
 tree_sent : (same : Tree → Tree → Bool) (block t : Tree) (at from : ℕ) → TellsSame same → IsThingForm (edit_shape (label t).kind).inline → (label t).id ≢ 0
     → HasNoGroup t → Every (Finds block) (found_from at from t) → IsStyledSent (page_of same block) t
 tree_sent same block (tree l ts) at from tells f d g e =
@@ -125,6 +169,7 @@ thing_goes same u r tells i alone = λ block at from n before some g texts e.
     let numbered : (label t).id ≢ 0 = node_number n before u r some i in (
       tree_sent same block t at from tells form numbered g e,
       tree_shown (page_of same block) t form (shows_source same block at from n before u alone (finds_own block at from t numbered e)),
+      tree_known (page_of same block) t form,
     )
 
 parts_go : (same : Tree → Tree → Bool) (at : ℕ) (ps : List Part) (ts : List Thing) → TellsSame same → HaveThings at ps ts → AllGoOn same ps
@@ -135,9 +180,9 @@ parts_go same at (node u ∷ ps) ts tells h = (thing_goes same u h.0 tells h.3 h
 -- ---- the trees of parts
 
 leaf_goes : (p : Page) (k : Loose) (own : List Item) (n : ℕ) (before : List Item) → IsText k → HasTexts (standing n before (loose_leaf k own))
-    → IsStyledSent p (standing n before (loose_leaf k own)) × Shows p (standing n before (loose_leaf k own))
+    → Goes p (standing n before (loose_leaf k own))
 unfolding label_at
-leaf_goes p Text own n before i h = (tt, (refl, h))
+leaf_goes p Text own n before i h = (tt, (refl, h), tt)
 leaf_goes p Sep own n before i h = absurd i
 
 past_run : (same : Tree → Tree → Bool) (k : Loose) (o : Option ℕ) (b : ℕ) (r others : List Part) → IsRun one_leaf (loose k o b ∷ r) others → AllGoOn same (r ++ others)
@@ -149,8 +194,8 @@ past_run same k o b (node x ∷ r) others run h = absurd (let no = run.0 in cc)
 runs_go : (rs : List (List Part)) (ps : List Part) (same : Tree → Tree → Bool) (block : Tree) (at from n : ℕ) (before : List Item) → 0 < n → AreRuns one_leaf rs ps
     → AllGoOn same ps → NoneIsGroup (nodes_of n before (forest (map child rs))) → HaveTexts (nodes_of n before (forest (map child rs)))
     → Every (Finds block) (found_in at from (nodes_of n before (forest (map child rs))))
-    → AreStyledSent (page_of same block) (nodes_of n before (forest (map child rs))) × AllShow (page_of same block) (nodes_of n before (forest (map child rs)))
-runs_go [] ps same block at from n before some a h g x e = (tt, tt)
+    → Go (page_of same block) (nodes_of n before (forest (map child rs)))
+runs_go [] ps same block at from n before some a h g x e = (tt, tt, tt)
 runs_go ([] ∷ rs) ps same block at from n before some a h g x e = absurd a.2
 runs_go ((loose k o b ∷ r) ∷ rs) ps same block at from n before some a h g x e =
     let run : List Part = loose k o b ∷ r in
@@ -161,7 +206,7 @@ runs_go ((loose k o b ∷ r) ∷ rs) ps same block at from n before some a h g x
     let first = leaf_goes (page_of same block) k (held_parts run) n before own.0 x.0 in
     let later = runs_go rs a.0 same block (at + length (flat t)) (from + length (visible (items t))) m (before ++ tree_items u) (omega (arith, some)) a.3
     (past_run same k o b r a.0 a.2 own.1) g.1 x.1 (every_right (Finds block) (found_from at from t) _ e) in
-    ((first.0, later.0), (first.1, later.1))
+    ((first.0, later.0), (first.1, later.1), (first.2, later.2))
 runs_go ((node u ∷ []) ∷ rs) ps same block at from n before some a h g x e =
     let t : Tree = standing n before u in
     let m : ℕ = n + count (placed before u) in
@@ -169,24 +214,36 @@ runs_go ((node u ∷ []) ∷ rs) ps same block at from n before some a h g x e =
     let first = own.0 block at from n before some g.0 x.0 (every_left (Finds block) (found_from at from t) _ e) in
     let later = runs_go rs a.0 same block (at + length (flat t)) (from + length (visible (items t))) m (before ++ tree_items u) (omega (arith, some)) a.3
     own.1 g.1 x.1 (every_right (Finds block) (found_from at from t) _ e) in
-    ((first.0, later.0), (first.1, later.1))
+    ((first.0, later.0), (first.1, later.1), (first.2, later.2))
 runs_go ((node u ∷ p ∷ r) ∷ rs) ps same block at from n before some a h g x e = absurd (let no = a.2.0 in cc)
 
 children_go : (ps : List Part) (same : Tree → Tree → Bool) (block : Tree) (at from n : ℕ) (before : List Item) → 0 < n → AllGoOn same ps
     → NoneIsGroup (nodes_of n before (forest (children ps))) → HaveTexts (nodes_of n before (forest (children ps)))
     → Every (Finds block) (found_in at from (nodes_of n before (forest (children ps))))
-    → AreStyledSent (page_of same block) (nodes_of n before (forest (children ps))) × AllShow (page_of same block) (nodes_of n before (forest (children ps)))
+    → Go (page_of same block) (nodes_of n before (forest (children ps)))
 unfolding children
 children_go ps same block at from n before some h g x e = runs_go (runs one_leaf ps) ps same block at from n before some (runs_are one_leaf ps) h g x e
 
 -- ---- a style
 
+abbrev IsSame : Page → Tree → Type 0
+IsSame p (tree l ts) = IsUnchanged p l ts
+
 style_is : (kind : Bool) (p : Page) (n : ℕ) (before opening closing : List Item) (ps : List Part)
-    → AreStyledSent p (nodes_of (n + 1) (before ++ opening) (forest (children ps))) × AllShow p (nodes_of (n + 1) (before ++ opening) (forest (children ps)))
-    → IsStyledSent p (standing n before (style_round kind opening ps closing)) × Shows p (standing n before (style_round kind opening ps closing))
+    → IsSame p (standing n before (style_round kind opening ps closing)) → Go p (nodes_of (n + 1) (before ++ opening) (forest (children ps)))
+    → Goes p (standing n before (style_round kind opening ps closing))
 unfolding label_at
-style_is true p n before opening closing ps h = (h.0, (refl, refl, h.1))
-style_is false p n before opening closing ps h = (h.0, (refl, refl, h.1))
+style_is true p n before opening closing ps i h = (h.0, (refl, refl, h.1), (i, h.2))
+style_is false p n before opening closing ps i h = (h.0, (refl, refl, h.1), (i, h.2))
+
+style_number : (kind : Bool) (n : ℕ) (before opening closing : List Item) (ps : List Part) → 0 < n → (label (standing n before (style_round kind opening ps closing))).id ≢ 0
+unfolding label_at
+style_number true n before opening closing ps some = omega (arith, some)
+style_number false n before opening closing ps some = omega (arith, some)
+
+tree_same : (same : Tree → Tree → Bool) (block t : Tree) (at from : ℕ) → TellsSame same → (label t).id ≢ 0 → HasNoGroup t → Every (Finds block) (found_from at from t)
+    → IsSame (page_of same block) t
+tree_same same block (tree l ts) at from tells d g e = sent_own same block at from l ts tells g (finds_own block at from (tree l ts) d e)
 
 style_free : (kind : Bool) (n : ℕ) (before opening closing : List Item) (ps : List Part) → HasNoGroup (standing n before (style_round kind opening ps closing))
     → NoneIsGroup (nodes_of (n + 1) (before ++ opening) (forest (children ps)))
@@ -200,14 +257,15 @@ unfolding label_at
 style_texts true n before opening closing ps h = h
 style_texts false n before opening closing ps h = h
 
-style_goes : (same : Tree → Tree → Bool) (kind : Bool) (opening closing : List Item) (ps : List Part) → AllGoOn same ps → GoesOn same (style_round kind opening ps closing)
-style_goes same kind opening closing ps h = λ block at from n before some g x e.
+style_goes : (same : Tree → Tree → Bool) (kind : Bool) (opening closing : List Item) (ps : List Part) → TellsSame same → AllGoOn same ps → GoesOn same (style_round kind opening ps closing)
+style_goes same kind opening closing ps tells h = λ block at from n before some g x e.
     let t : Tree = standing n before (style_round kind opening ps closing) in
     let m : ℕ = length (label t).opening in
     let found : Every (Finds block) (found_in (at + m) (from + m) (nodes_of (n + 1) (before ++ opening) (forest (children ps)))) =
     subst (λ (us : Trees). Every (Finds block) (found_in (at + m) (from + m) us)) (style_children kind n before opening closing ps)
     (found_inside (Finds block) at from t (style_holds kind n before opening closing ps) e) in
     style_is kind (page_of same block) n before opening closing ps
+    (tree_same same block t at from tells (style_number kind n before opening closing ps some) g e)
     (children_go ps same block (at + m) (from + m) (n + 1) (before ++ opening) (omega arith) h (style_free kind n before opening closing ps g)
     (style_texts kind n before opening closing ps x) found)
 
@@ -240,15 +298,15 @@ drop_goes same (suc n) (u ∷ us) h = drop_goes same n us h.1
 between_go : (same : Tree → Tree → Bool) (low high : ℕ) (us : List Segment) → EachGoes same us → AllGoOn same (segment_parts (between low high us))
 between_go same low high us h = segments_go same (between low high us) (take_goes same (high - low) (drop low us) (drop_goes same low us h))
 
-styled_go : (same : Tree → Tree → Bool) (low high : ℕ) (f : Forest) (us : List Segment) → EachGoes same us → AllGoOn same (styled low high f us)
-styled_go same low high bare us h = between_go same low high us h
-styled_go same low high (grown s held after) us h =
+styled_go : (same : Tree → Tree → Bool) (low high : ℕ) (f : Forest) (us : List Segment) → TellsSame same → EachGoes same us → AllGoOn same (styled low high f us)
+styled_go same low high bare us tells h = between_go same low high us h
+styled_go same low high (grown s held after) us tells h =
     let mid : ℕ = s.from + s.open_w in
     let end : ℕ = s.to - s.close_w in
     go_both same (segment_parts (between low s.from us)) (node (style_node s (styled mid end held us) us) ∷ styled s.to high after us) (between_go same low s.from us h)
     (
-      style_goes same s.bold (segment_items (between s.from mid us)) (segment_items (between end s.to us)) (styled mid end held us) (styled_go same mid end held us h),
-      styled_go same s.to high after us h,
+      style_goes same s.bold (segment_items (between s.from mid us)) (segment_items (between end s.to us)) (styled mid end held us) tells (styled_go same mid end held us tells h),
+      styled_go same s.to high after us tells h,
     )
 
 -- ---- lines
@@ -261,7 +319,7 @@ line_goes same at xs tells f n =
     let flat_parts : AllGoOn same (segment_parts us) =
     subst (AllGoOn same) (sym (segments_parts (tiles in_line xs)))
     (parts_go same at (flat_map (tile_part context_parts in_line) (tiles in_line xs)) (things (line_signs at xs)) tells told.have) in
-    subst (AllGoOn same) (sym (contexts_are in_line xs (omega arith))) (styled_go same 0 (length us) (forest_of (style_tree_of (chunks us))) us (each_goes same us flat_parts))
+    subst (AllGoOn same) (sym (contexts_are in_line xs (omega arith))) (styled_go same 0 (length us) (forest_of (style_tree_of (chunks us))) us tells (each_goes same us flat_parts))
 
 lines_go : (same : Tree → Tree → Bool) (at : ℕ) (ls : List (List Item)) → TellsSame same → AreFlatLines ls → AreNodes (signs_of_lines at ls) → AllGoOn same (joined_parts ls)
 lines_go same at [] tells f n = tt
@@ -280,8 +338,7 @@ none_in (tree l ts) h = h.1
 
 block_goes : (k : Block) (same : Tree → Tree → Bool) (n : ℕ) (before opening closing : List Item) (ps : List Part) → 0 < n → AllGoOn same ps
     → HasNoGroup (standing n before (block_by k opening ps closing)) → HaveTexts (nodes_of (n + 1) (before ++ opening) (forest (children ps)))
-    → AreStyledSent (page_of same (standing n before (block_by k opening ps closing))) (children_of (standing n before (block_by k opening ps closing)))
-    × AllShow (page_of same (standing n before (block_by k opening ps closing))) (children_of (standing n before (block_by k opening ps closing)))
+    → Go (page_of same (standing n before (block_by k opening ps closing))) (children_of (standing n before (block_by k opening ps closing)))
 block_goes k same n before opening closing ps some h g x =
     let block : Tree = standing n before (block_by k opening ps closing) in
     let at : ℕ = 0 + length (label block).opening in
@@ -289,12 +346,12 @@ block_goes k same n before opening closing ps some h g x =
     let e : children_of block ≡ ns = its_children k n before opening closing ps in
     let found : Every (Finds block) (found_in at at (children_of block)) =
     inside (Finds block) block (no_leaf k n before opening closing ps) (all_found block n some (block_counts n before (block_by k opening ps closing) some g)) in
-    subst (λ (ts : Trees). AreStyledSent (page_of same block) ts × AllShow (page_of same block) ts) (sym e)
+    subst (λ (ts : Trees). Go (page_of same block) ts) (sym e)
     (children_go ps same block at at (n + 1) (before ++ opening) (omega arith) h (subst NoneIsGroup e (none_in block g)) x
     (subst (λ (ts : Trees). Every (Finds block) (found_in at at ts)) e found))
 
 pub own_styled : (same : Tree → Tree → Bool) (k : TextBlock) (q : List ℕ) (block : Tree) → TellsSame same → IsStyledIn k q → IsIn k q block
-    → AreStyledSent (page_of same block) (children_of block) × AllShow (page_of same block) (children_of block)
+    → AreStyledSent (page_of same block) (children_of block) × AllShow (page_of same block) (children_of block) × AreKnown (page_of same block) (children_of block)
 own_styled same k q block tells h i =
     let ls = lines_in k q in
     let at : ℕ = begins_at k in
@@ -304,6 +361,6 @@ own_styled same k q block tells h i =
     let is : block ≡ standing i.number i.before (with_parts k ps) = i.is ∙ ap (standing i.number i.before) (parts_are k q) in
     let free : HasNoGroup (standing i.number i.before (with_parts k ps)) =
     subst (λ (u : ItemTree). HasNoGroup (standing i.number i.before u)) (parts_are k q) (no_group k q i.number i.before h.utf8 h.is h.unended h.calls_nothing) in
-    subst (λ (t : Tree). AreStyledSent (page_of same t) (children_of t) × AllShow (page_of same t) (children_of t)) (sym is)
+    subst (λ (t : Tree). Go (page_of same t) (children_of t)) (sym is)
     (block_goes (block_of k) same i.number i.before (open_items k) (close_items k) ps i.some go free
     (block_texts k q (i.number + 1) (i.before ++ open_items k) h.utf8 h.is h.unended h.calls_nothing))

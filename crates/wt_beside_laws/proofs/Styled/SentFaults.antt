@@ -41,28 +41,9 @@ use Rattle.wt_beside_laws.specs.SentStyled.{text_then, found_then, or_nowiki, se
 use Rattle.wt_beside_laws.specs.Styled.{StyledContent, finished, sign, styled, delimiter, signs_before, signs_in}
 use Rattle.wt_beside_laws.proofs.NoFaults.{stays_same}
 use Rattle.wt_beside_laws.proofs.SentPieces.{stays_unchanged, not_group}
+use Rattle.wt_beside_laws.proofs.Styled.OwnStyled.{KnownBy, IsKnown, AreKnown}
 
 -- ---- bold and italic that stay are the page's
-
-abbrev pub KnownBy : InlineForm → Page → Label → Trees → Type 0 → Type 0
-KnownBy inline.Nothing p l ts inside = Unit {0}
-KnownBy inline.Characters p l ts inside = Unit {0}
-KnownBy inline.Bold p l ts inside = IsUnchanged p l ts × inside
-KnownBy inline.Italic p l ts inside = IsUnchanged p l ts × inside
-KnownBy inline.Shown p l ts inside = Unit {0}
-KnownBy inline.PageLink p l ts inside = Unit {0}
-KnownBy inline.ExternalLink p l ts inside = Unit {0}
-KnownBy inline.Tag p l ts inside = Unit {0}
-KnownBy inline.Break p l ts inside = Unit {0}
-KnownBy inline.AsItStood p l ts inside = Unit {0}
-
-abbrev mutual
-  pub IsKnown : Page → Tree → Type 0
-  IsKnown p (tree l ts) = KnownBy (edit_shape l.kind).inline p l ts (AreKnown p ts)
-
-  pub AreKnown : Page → Trees → Type 0
-  AreKnown p none = Unit {0}
-  AreKnown p (more t us) = IsKnown p t × AreKnown p us
 
 one_known : (w : InlineForm) (same : Tree → Tree → Bool) (block : Tree) (l m : Label) (ts us : Trees) (A B : Type 0) → TellsSame same
     → StandsAsIs (tree l ts) (tree m us) → HasNoGroup (tree l ts) → (A → B) → KnownBy w (page_of same block) l ts A → KnownBy w (page_of same block) m us B
