@@ -1,6 +1,6 @@
 -- What is sent for a block with styles in which texts are typed beside nodes that stay, bold and italic among them: it is taken, its content is
 -- written, and it shows what was sent.
-use Rattle.std.proofs.Common.{◌≡◌, ℕ, ◌<◌, Bool, true, false, None, List, [], refl, sym, ap, ◌∙◌, subst, length}
+use Rattle.std.proofs.Common.{◌≡◌, ℕ, ◌<◌, Bool, false, None, List, [], refl, sym, ap, ◌∙◌, subst, length}
 use Rattle.wt_span.specs.Items.{Item}
 use Rattle.wt_tree.specs.declared.kind.Kind.{Kind}
 use Rattle.wt_tree.specs.declared.kind.Mark.TheVariants as marks
@@ -8,10 +8,9 @@ use Rattle.wt_tree.specs.EditShapes.{edit_shape}
 use Rattle.wt_tree.specs.Plain.{Face, Plains, ended, along, element, plain_before}
 use Rattle.wt_tree.specs.Tiling.{HasNoGroup, NoneIsGroup}
 use Rattle.wt_tree.specs.Tree.{Label, Tree, tree, Trees, label}
-use Rattle.wt_guards.specs.Content.{Thing}
 use Rattle.wt_guards.specs.Guards.{spelled}
 use Rattle.wt_original.specs.Kept.{kept_nodes}
-use Rattle.wt_original.specs.Page.{Page, page_of}
+use Rattle.wt_original.specs.Page.{Page}
 use Rattle.wt_content.specs.Content.{is_paragraph, bad_content}
 use Rattle.wt_inline.specs.ItemTree.{ItemTree}
 use Rattle.wt_inline.specs.Parts.{Part}
@@ -27,11 +26,11 @@ use Rattle.wt_text_edit_laws.specs.TextBlocks.{TextBlock, a_paragraph, a_heading
 use Rattle.wt_text_edit_laws.proofs.Blocks.BlockLeaves.{open_items}
 use Rattle.wt_beside_laws.specs.Content.{AreKept}
 use Rattle.wt_beside_laws.specs.ContentEdits.{content_edit, new_content, MakesContent}
-use Rattle.wt_beside_laws.specs.FlatBlocks.{lines_in, begins_at, signs_in as signs_of}
+use Rattle.wt_beside_laws.specs.FlatBlocks.{lines_in, signs_in as signs_of}
 use Rattle.wt_beside_laws.specs.PageBlocks.{IsBlockOfLines}
 use Rattle.wt_beside_laws.specs.PageSigns.{signs_of_lines}
 use Rattle.wt_beside_laws.specs.SentPieces.{TextsFit}
-use Rattle.wt_beside_laws.specs.SentStyled.{sent_content, AreStyledSent, AllShow}
+use Rattle.wt_beside_laws.specs.SentStyled.{AreStyledSent, AllShow}
 use Rattle.wt_beside_laws.specs.Shown.{parts_shown_at}
 use Rattle.wt_beside_laws.specs.Stood.{things}
 use Rattle.wt_beside_laws.specs.Styled.{StyledContent, signs_in, styled_parts, IsStyledContent}
