@@ -1,6 +1,6 @@
 -- What is sent for a block with styles in which texts are typed beside nodes that stay, bold and italic among them: it is taken, its content is
 -- written, and it shows what was sent.
-use Rattle.std.proofs.Common.{◌≡◌, ℕ, ◌<◌, Bool, true, false, None, List, [], refl, sym, ap, ◌∙◌, subst, length}
+use Rattle.std.proofs.Common.{◌≡◌, ℕ, ◌<◌, Bool, false, None, List, [], refl, sym, ap, ◌∙◌, subst, length}
 use Rattle.wt_span.specs.Items.{Item}
 use Rattle.wt_tree.specs.declared.kind.Kind.{Kind}
 use Rattle.wt_tree.specs.declared.kind.Mark.TheVariants as marks
@@ -8,10 +8,9 @@ use Rattle.wt_tree.specs.EditShapes.{edit_shape}
 use Rattle.wt_tree.specs.Plain.{Face, Plains, ended, along, element, plain_before}
 use Rattle.wt_tree.specs.Tiling.{HasNoGroup, NoneIsGroup}
 use Rattle.wt_tree.specs.Tree.{Label, Tree, tree, Trees, label}
-use Rattle.wt_guards.specs.Content.{Thing}
 use Rattle.wt_guards.specs.Guards.{spelled}
 use Rattle.wt_original.specs.Kept.{kept_nodes}
-use Rattle.wt_original.specs.Page.{Page, page_of}
+use Rattle.wt_original.specs.Page.{Page}
 use Rattle.wt_content.specs.Content.{is_paragraph, bad_content}
 use Rattle.wt_inline.specs.ItemTree.{ItemTree}
 use Rattle.wt_inline.specs.Parts.{Part}
@@ -27,11 +26,11 @@ use Rattle.wt_text_edit_laws.specs.TextBlocks.{TextBlock, a_paragraph, a_heading
 use Rattle.wt_text_edit_laws.proofs.Blocks.BlockLeaves.{open_items}
 use Rattle.wt_beside_laws.specs.Content.{AreKept}
 use Rattle.wt_beside_laws.specs.ContentEdits.{content_edit, new_content, MakesContent}
-use Rattle.wt_beside_laws.specs.FlatBlocks.{lines_in, begins_at, signs_in as signs_of}
+use Rattle.wt_beside_laws.specs.FlatBlocks.{lines_in, signs_in as signs_of}
 use Rattle.wt_beside_laws.specs.PageBlocks.{IsBlockOfLines}
 use Rattle.wt_beside_laws.specs.PageSigns.{signs_of_lines}
 use Rattle.wt_beside_laws.specs.SentPieces.{TextsFit}
-use Rattle.wt_beside_laws.specs.SentStyled.{sent_content, AreStyledSent, AllShow}
+use Rattle.wt_beside_laws.specs.SentStyled.{AreStyledSent, AllShow}
 use Rattle.wt_beside_laws.specs.Shown.{parts_shown_at}
 use Rattle.wt_beside_laws.specs.Stood.{things}
 use Rattle.wt_beside_laws.specs.Styled.{StyledContent, signs_in, styled_parts, IsStyledContent}
@@ -44,8 +43,9 @@ use Rattle.wt_beside_laws.proofs.Made.Making.{known, setting, new_is, takes_brea
 use Rattle.wt_beside_laws.proofs.Made.OldBlocks.{with_parts, parts_are, face_of, IsIn, block_kind, block_face, block_begins, node_is}
 use Rattle.wt_beside_laws.proofs.Styled.BlockStyles.{styled_nodes}
 use Rattle.wt_beside_laws.proofs.Styled.OldStyled.{styled_of_lines}
+use Rattle.wt_beside_laws.proofs.Styled.OwnStyled.{AreKnown, own_styled}
 use Rattle.wt_beside_laws.proofs.Styled.SentAmong.{some_of, things_among, sent_some, sent_styles}
-use Rattle.wt_beside_laws.proofs.Styled.SentFaults.{AreKnown, pieces_known, no_style_fault, sent_characters, sent_on_one_line}
+use Rattle.wt_beside_laws.proofs.Styled.SentFaults.{pieces_known, no_style_fault, sent_characters, sent_on_one_line}
 use Rattle.wt_beside_laws.proofs.Styled.SentStyles.{sent_signs, sent_shown}
 use Rattle.wt_beside_laws.proofs.Styled.SentWhole.{pieces_plain, pieces_styled, pieces_show, some_numbers}
 use Rattle.wt_beside_laws.proofs.Styled.StyledShown.{styled_is_shown}
@@ -168,16 +168,17 @@ then_by k q block m ps own h i e =
     let w : IsSentWell k q block ps = sent_well k q block ps own h i e in
     subst (IsStyledIn k) (sym (content_is k q block m ps i e w)) (styled_again k q (setting k block) (sent_for block ps) h w.is)
 
--- ---- with what the page's block is
+-- ---- in other words
 
-pub styled_makes_by : ((k : TextBlock) (q : List ℕ) (block : Tree) → IsStyledIn k q → IsIn k q block → IsOwn block)
-    → (k : TextBlock) (q : List ℕ) (n : ℕ) (b : List Item) (block : Tree) (m : Label) (ps : List Piece) → IsStyledIn k q → 0 < n
+own_so : (k : TextBlock) (q : List ℕ) (block : Tree) → IsStyledIn k q → IsIn k q block → IsOwn block
+own_so k q block h i = own_styled same_node k q block tells_same h i
+
+pub styled_makes : (k : TextBlock) (q : List ℕ) (n : ℕ) (b : List Item) (block : Tree) (m : Label) (ps : List Piece) → IsStyledIn k q → 0 < n
     → block ≡ standing n b (block_tree k q) → IsStyledEditOf k block ps → MakesContent k q block m ps
-styled_makes_by own k q n b block m ps h some is e =
-    let i : IsIn k q block = in_page k q n b block some is in makes_by k q block m ps (own k q block h i) h i e
+styled_makes k q n b block m ps h some is e =
+    let i : IsIn k q block = in_page k q n b block some is in makes_by k q block m ps (own_so k q block h i) h i e
 
-pub styled_then_by : ((k : TextBlock) (q : List ℕ) (block : Tree) → IsStyledIn k q → IsIn k q block → IsOwn block)
-    → (k : TextBlock) (q : List ℕ) (n : ℕ) (b : List Item) (block : Tree) (m : Label) (ps : List Piece) → IsStyledIn k q → 0 < n
+pub styled_then : (k : TextBlock) (q : List ℕ) (n : ℕ) (b : List Item) (block : Tree) (m : Label) (ps : List Piece) → IsStyledIn k q → 0 < n
     → block ≡ standing n b (block_tree k q) → IsStyledEditOf k block ps → IsStyledIn k (new_content k block m ps)
-styled_then_by own k q n b block m ps h some is e =
-    let i : IsIn k q block = in_page k q n b block some is in then_by k q block m ps (own k q block h i) h i e
+styled_then k q n b block m ps h some is e =
+    let i : IsIn k q block = in_page k q n b block some is in then_by k q block m ps (own_so k q block h i) h i e

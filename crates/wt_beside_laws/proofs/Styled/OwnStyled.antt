@@ -303,8 +303,7 @@ styled_go same low high bare us tells h = between_go same low high us h
 styled_go same low high (grown s held after) us tells h =
     let mid : ℕ = s.from + s.open_w in
     let end : ℕ = s.to - s.close_w in
-    go_both same (segment_parts (between low s.from us)) (node (style_node s (styled mid end held us) us) ∷ styled s.to high after us) (between_go same low s.from us h)
-    (
+    go_both same (segment_parts (between low s.from us)) (node (style_node s (styled mid end held us) us) ∷ styled s.to high after us) (between_go same low s.from us h) (
       style_goes same s.bold (segment_items (between s.from mid us)) (segment_items (between end s.to us)) (styled mid end held us) tells (styled_go same mid end held us tells h),
       styled_go same s.to high after us tells h,
     )

@@ -1,6 +1,6 @@
 -- Nothing is wrong in what is sent of a block with styles, its texts are characters, and in a heading it is on one line.
-use Rattle.std.proofs.Common.{arith, ◌≡◌, ◌⊎◌, inl, inr, ℕ, ◌+◌, ◌≤◌, ◌==◌, Bool, true, false, List, [], ◌∷◌, ◌++◌, map, refl, sym, ap, ◌∙◌, subst, All}
-use Rattle.std.specs.Prelude.{◌||◌, ◌&&◌, not, if◌then◌else◌, Option, Some, None, encode_utf8}
+use Rattle.std.proofs.Common.{arith, ◌≡◌, inl, inr, ℕ, ◌+◌, ◌≤◌, ◌==◌, Bool, true, false, List, [], ◌∷◌, ◌++◌, refl, sym, ap, ◌∙◌, subst, All}
+use Rattle.std.specs.Prelude.{◌||◌, if◌then◌else◌, Option, Some, None, encode_utf8}
 use Rattle.std.specs.List.{list_any}
 use Rattle.std.specs.Str.{IsUtf8, chars}
 use Rattle.std.proofs.Math.Utf8.{encodes, scalar, scalars}
@@ -17,15 +17,13 @@ use Rattle.wt_tree.specs.declared.edit_shape.InlineForm.TheVariants as inline
 use Rattle.wt_tree.specs.EditShapes.{edit_shape}
 use Rattle.wt_tree.specs.Tiling.{is_group, HasNoGroup, NoneIsGroup}
 use Rattle.wt_tree.specs.Tree.{Label, Tree, tree, Trees, none, more, label}
-use Rattle.wt_guards.specs.Content.{ContentSign, letter, thing}
+use Rattle.wt_guards.specs.Content.{ContentSign}
 use Rattle.wt_original.specs.Kept.{Kept, kept_with}
 use Rattle.wt_original.specs.Page.{Page, page_of, TellsSame}
-use Rattle.wt_content.specs.declared.reason.ContentWhy.{ContentWhy}
 use Rattle.wt_content.specs.declared.reason.ContentWhy.TheVariants as why
 use Rattle.wt_content.specs.declared.content.Surroundings.{Surroundings}
 use Rattle.wt_content.specs.declared.content.Standing.{Standing}
-use Rattle.wt_content.specs.declared.content.Standing.TheVariants as stands
-use Rattle.wt_content.specs.Content.{standing, faults_by, holds_link, below, faults, all_faults, has_break, break_fault, is_paragraph, first_why, bad_content}
+use Rattle.wt_content.specs.Content.{standing, faults_by, holds_link, below, faults, all_faults, has_break, is_paragraph, first_why, bad_content}
 use Rattle.wt_link_spelling.specs.Spelling.{opening_place, closing_place}
 use Rattle.wt_typed_blocks.specs.Sent.{StandsAsIs, AllStandAsIs}
 use Rattle.wt_typed_blocks.specs.Edited.{Piece, gone, written, kept, page_pieces, text_node, sent_pieces, PiecesStay}
@@ -35,34 +33,14 @@ use Rattle.wt_beside_laws.specs.FlatBlocks.{AreOneLine}
 use Rattle.wt_beside_laws.specs.FlatPages.{AreNodesAndTexts}
 use Rattle.wt_beside_laws.specs.InHeadings.{AreOnOneLine}
 use Rattle.wt_beside_laws.specs.Lines.{AreCharacters}
-use Rattle.wt_beside_laws.specs.SentNodes.{IsUnchanged}
 use Rattle.wt_beside_laws.specs.SentPieces.{IsNodeForm, FitsBy, TextsFit}
 use Rattle.wt_beside_laws.specs.SentStyled.{text_then, found_then, or_nowiki, sent_by, sent_before, sent_content, IsStyledBy, IsStyledSent, AreStyledSent, breaks_line, NestsBy, Nests, AllNest, ShowsBy, Shows, AllShow}
 use Rattle.wt_beside_laws.specs.Styled.{StyledContent, finished, sign, styled, delimiter, signs_before, signs_in}
 use Rattle.wt_beside_laws.proofs.NoFaults.{stays_same}
 use Rattle.wt_beside_laws.proofs.SentPieces.{stays_unchanged, not_group}
+use Rattle.wt_beside_laws.proofs.Styled.OwnStyled.{KnownBy, IsKnown, AreKnown}
 
 -- ---- bold and italic that stay are the page's
-
-abbrev pub KnownBy : InlineForm → Page → Label → Trees → Type 0 → Type 0
-KnownBy inline.Nothing p l ts inside = Unit {0}
-KnownBy inline.Characters p l ts inside = Unit {0}
-KnownBy inline.Bold p l ts inside = IsUnchanged p l ts × inside
-KnownBy inline.Italic p l ts inside = IsUnchanged p l ts × inside
-KnownBy inline.Shown p l ts inside = Unit {0}
-KnownBy inline.PageLink p l ts inside = Unit {0}
-KnownBy inline.ExternalLink p l ts inside = Unit {0}
-KnownBy inline.Tag p l ts inside = Unit {0}
-KnownBy inline.Break p l ts inside = Unit {0}
-KnownBy inline.AsItStood p l ts inside = Unit {0}
-
-abbrev mutual
-  pub IsKnown : Page → Tree → Type 0
-  IsKnown p (tree l ts) = KnownBy (edit_shape l.kind).inline p l ts (AreKnown p ts)
-
-  pub AreKnown : Page → Trees → Type 0
-  AreKnown p none = Unit {0}
-  AreKnown p (more t us) = IsKnown p t × AreKnown p us
 
 one_known : (w : InlineForm) (same : Tree → Tree → Bool) (block : Tree) (l m : Label) (ts us : Trees) (A B : Type 0) → TellsSame same
     → StandsAsIs (tree l ts) (tree m us) → HasNoGroup (tree l ts) → (A → B) → KnownBy w (page_of same block) l ts A → KnownBy w (page_of same block) m us B

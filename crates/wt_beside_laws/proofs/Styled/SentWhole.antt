@@ -1,8 +1,6 @@
 -- What is sent of a block with styles: nodes that stay, with all that they hold, and any texts between them.
-use Rattle.std.proofs.Common.{◌≡◌, inl, inr, ℕ, ◌==◌, Bool, true, false, List, [], ◌∷◌, ◌++◌, refl, sym, ap, ◌∙◌, subst, append_assoc}
-use Rattle.std.specs.Prelude.{◌||◌, ◌&&◌, not, if◌then◌else◌, Option, Some}
-use Rattle.std.specs.List.{list_any}
-use Rattle.std.specs.Str.{IsUtf8, chars}
+use Rattle.std.proofs.Common.{◌≡◌, ℕ, Bool, List, [], ◌∷◌, ◌++◌, refl, sym, ap, ◌∙◌, subst, append_assoc}
+use Rattle.std.specs.Str.{IsUtf8}
 use Rattle.wt_tree.specs.declared.kind.Kind.{Kind}
 use Rattle.wt_tree.specs.declared.kind.Showing.{Showing}
 use Rattle.wt_tree.specs.declared.kind.Showing.TheVariants as showing
@@ -11,21 +9,18 @@ use Rattle.wt_tree.specs.declared.edit_shape.InlineForm.TheVariants as inline
 use Rattle.wt_tree.specs.EditShapes.{edit_shape}
 use Rattle.wt_tree.specs.Kinds.{showing as showing_of}
 use Rattle.wt_tree.specs.Tiling.{is_group}
-use Rattle.wt_tree.specs.Plain.{Face, Plains, ended, face, plain_before, plains_before, shown_before}
+use Rattle.wt_tree.specs.Plain.{Plains, plain_before, plains_before, shown_before}
 use Rattle.wt_tree.specs.Tiling.{HasNoGroup, NoneIsGroup}
-use Rattle.wt_tree.specs.Tree.{Label, Tree, tree, Trees, none, more, label}
-use Rattle.wt_guards.specs.Content.{ContentSign, letter, thing}
-use Rattle.wt_original.specs.Kept.{Kept, kept_with}
+use Rattle.wt_tree.specs.Tree.{Label, Tree, tree, Trees, none, more}
+use Rattle.wt_original.specs.Kept.{kept_with}
 use Rattle.wt_original.specs.Page.{Page, page_of, TellsSame}
 use Rattle.wt_typed_blocks.specs.Sent.{IsSentAsIs, StandsAsIs, AllStandAsIs}
 use Rattle.wt_typed_blocks.specs.Edited.{Piece, gone, written, kept, page_pieces, text_node, sent_pieces, PiecesStay, pieces_before}
 use Rattle.wt_typed_blocks.proofs.EditedShows.{shown_same}
 use Rattle.wt_typed_blocks.proofs.SentGroups.{in_group}
 use Rattle.wt_beside_laws.specs.FlatPages.{AreNodesAndTexts}
-use Rattle.wt_beside_laws.specs.Lines.{AreCharacters}
-use Rattle.wt_beside_laws.specs.SentNodes.{IsUnchanged}
 use Rattle.wt_beside_laws.specs.SentPieces.{ShowsItsSource}
-use Rattle.wt_beside_laws.specs.SentStyled.{IsStyledBy, IsStyledSent, AreStyledSent, ShowsBy, Shows, AllShow, style_face}
+use Rattle.wt_beside_laws.specs.SentStyled.{IsStyledBy, IsStyledSent, AreStyledSent, ShowsBy, Shows, AllShow}
 use Rattle.wt_beside_laws.specs.StyledBlocks.{numbers_by, numbers_of, all_numbers, AreSomeOf}
 use Rattle.wt_beside_laws.proofs.SentPieces.{same_face, stays_unchanged, not_group}
 
