@@ -284,7 +284,7 @@ lone_shows : (n : ℕ) (before : List Item) (u : ItemTree) (rest : Plains) → p
 unfolding children
 lone_shows n before u rest = shows_the_same 0 n [] before u rest
 
-shows_source : (same : Tree → Tree → Bool) (block : Tree) (at from n : ℕ) (before : List Item) (u : ItemTree) → IsAlone u
+pub shows_source : (same : Tree → Tree → Bool) (block : Tree) (at from n : ℕ) (before : List Item) (u : ItemTree) → IsAlone u
     → Finds block (found_at at from (standing n before u)) → ShowsItsSource (page_of same block) (standing n before u)
 shows_source same block at from n before u alone found = λ k e rest.
     let t : Tree = standing n before u in

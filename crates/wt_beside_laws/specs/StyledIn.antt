@@ -20,7 +20,7 @@ use Rattle.wt_text_edit_laws.specs.NoCalls.{CallsNothing}
 use Rattle.wt_text_edit_laws.specs.TextBlocks.{TextBlock, a_paragraph, a_heading, source_of, block_items}
 use Rattle.wt_beside_laws.specs.Calm.{AreCalm}
 use Rattle.wt_beside_laws.specs.Content.{AreKept}
-use Rattle.wt_beside_laws.specs.FlatBlocks.{lines_in, signs_in as signs_of, AreSealed, IsFlatEditOf}
+use Rattle.wt_beside_laws.specs.FlatBlocks.{lines_in, signs_in as signs_of, IsFlatEditOf}
 use Rattle.wt_beside_laws.specs.InHeadings.{AreOnOneLine, KeepsLevel}
 use Rattle.wt_beside_laws.specs.PageBlocks.{AreShut}
 use Rattle.wt_beside_laws.specs.PageSigns.{AreFlatLines}
@@ -42,7 +42,6 @@ pub record IsStyledIn (k : TextBlock) (q : List ℕ) : Type 0 where
   pub kept : AreKept (signs_of k q)
   pub calm : AreCalm (signs_of k q)
   pub shut : AreShut (signs_of k q)
-  pub sealed : AreSealed (signs_of k q)
 
 -- ---- what is written for it
 

@@ -1,10 +1,10 @@
 //! Laws of texts that are typed beside and inside of bold and italic: how such a content is read.
 
-ghost use Rattle.std.specs.Prelude.{◌≡◌, ℕ, Bool, true, false, List, [], ◌∷◌, ◌++◌, length};
+ghost use Rattle.std.specs.Prelude.{◌≡◌, ℕ, ◌<◌, Bool, true, false, List, [], ◌∷◌, ◌++◌, length};
 ghost use Rattle.wt_span.specs.Items.{Item};
 ghost use Rattle.wt_tree.specs.declared.edit_shape.Place.{Place as Where};
 ghost use Rattle.wt_tree.specs.Plain.{Plains, plains_before};
-ghost use Rattle.wt_tree.specs.Tree.{Tree, Trees, label};
+ghost use Rattle.wt_tree.specs.Tree.{Label, Tree, Trees, label};
 ghost use Rattle.wt_guards.specs.Content.{ContentSign};
 ghost use Rattle.wt_guards.specs.Guards.{Setting, spelled};
 ghost use Rattle.wt_original.specs.Kept.{kept_nodes};
@@ -21,12 +21,15 @@ ghost use Rattle.wt_headings.specs.Headings.{heading};
 ghost use Rattle.wt_page.specs.Body.{meaning};
 ghost use Rattle.wt_page.specs.Rows.{rows};
 ghost use Rattle.wt_page.specs.Texts.{para};
+ghost use Rattle.wt_moved_laws.specs.Standing.{standing};
+ghost use Rattle.wt_typed_blocks.specs.Edited.{Piece};
 ghost use Rattle.wt_text_edit_laws.specs.Contents.{IsContent, IsNewContent};
 ghost use Rattle.wt_text_edit_laws.specs.ParagraphBetween.{AreClosed, before_marks, EndsApart, EndsParagraph, blocks_in, body_with};
 ghost use Rattle.wt_text_edit_laws.specs.ParagraphParts.{para_with};
-ghost use Rattle.wt_text_edit_laws.specs.TextBlocks.{TextBlock};
+ghost use Rattle.wt_text_edit_laws.specs.TextBlocks.{TextBlock, block_tree};
 ghost use Rattle.wt_text_edit_laws.specs.TypedHeadings.{Sides, AreSides, heading_line, IsOfLevel, IsHeadingInside, EndsLine};
 ghost use Rattle.wt_beside_laws.specs.Content.{AreKept};
+ghost use Rattle.wt_beside_laws.specs.ContentEdits.{new_content, MakesContent};
 ghost use Rattle.wt_beside_laws.specs.InHeadings.{KeepsLevel, heading_of};
 ghost use Rattle.wt_beside_laws.specs.Lines.{AreCharacters, line_items, content_lines};
 ghost use Rattle.wt_beside_laws.specs.Nests.{Nest, nest_segments, nest_parts, IsNest};
@@ -38,7 +41,7 @@ ghost use Rattle.wt_beside_laws.specs.Shown.{parts_shown_at};
 ghost use Rattle.wt_beside_laws.specs.Styled.{StyledContent, signs_in, AreNested, IsStyledContent, styled_parts};
 ghost use Rattle.wt_beside_laws.specs.StyledBlocks.{all_numbers, things_with, AreSomeOf};
 ghost use Rattle.wt_beside_laws.specs.StyledHeadings.{IsStyledHeading};
-ghost use Rattle.wt_beside_laws.specs.StyledIn.{IsStyledIn, IsStyledFor};
+ghost use Rattle.wt_beside_laws.specs.StyledIn.{IsStyledIn, IsStyledFor, IsStyledEditOf};
 ghost use Rattle.wt_beside_laws.specs.StyledNodes.{AreSomeAndPut, AreUrlsApart};
 ghost use Rattle.wt_beside_laws.specs.StyledShown.{styled_shown};
 ghost use Rattle.wt_beside_laws.specs.Stood.{things};
@@ -159,4 +162,14 @@ pub fn contents_with_styles_may_take_their_place()
         → IsNewContent k q (spelled s (signs_in t)) }
     ensures again { (k : TextBlock) (q : List ℕ) (s : Setting) (t : StyledContent) → IsStyledIn k q → IsStyledFor k q s t
         → IsStyledIn k (spelled s (signs_in t)) }
+{}
+
+/// Such a paragraph or heading (`IsStyledIn`), wherever it is in a page, takes any texts beside its nodes, bold and italic ones among them, which
+/// stay with all that they hold (`IsStyledEditOf`). What is sent for it is taken, what is written for it may stand in the place of the old content
+/// and shows what was sent (`MakesContent`), and it is such a block again.
+pub fn styled_contents_are_made()
+    ensures made { (k : TextBlock) (q : List ℕ) (n : ℕ) (before : List Item) (block : Tree) (m : Label) (ps : List Piece) → IsStyledIn k q → 0 < n
+        → block ≡ standing n before (block_tree k q) → IsStyledEditOf k block ps → MakesContent k q block m ps }
+    ensures again { (k : TextBlock) (q : List ℕ) (n : ℕ) (before : List Item) (block : Tree) (m : Label) (ps : List Piece) → IsStyledIn k q → 0 < n
+        → block ≡ standing n before (block_tree k q) → IsStyledEditOf k block ps → IsStyledIn k (new_content k block m ps) }
 {}

@@ -52,12 +52,6 @@ reference_untagged c e = each_escapable (λ k. lacks (λ b. b == 60) (reference 
 reference_closes : (c : ℕ) → is_escapable c ≡ true → (name rest : List ℕ) → Unclosed name rest → Unclosed name (reference c ++ rest)
 reference_closes c e name rest h = unclosed_untagged name (reference c) rest (reference_untagged c e) h
 
-pub nowiki_sealed : IsSealed nowiki
-nowiki_sealed = record { closes = λ name us vs h k. guard_closes true name vs k }
-
-pub reference_sealed : (c : ℕ) → is_escapable c ≡ true → IsSealed (reference c)
-reference_sealed c e = record { closes = λ name us vs h k. reference_closes c e name vs k }
-
 -- ---- a character
 
 abbrev further : Setting → ℕ → List ContentSign → List ContentSign → List ℕ

@@ -29,7 +29,7 @@ use Rattle.wt_text_edit_laws.proofs.Texts.TypedShown.{AllOfPage}
 use Rattle.wt_beside_laws.specs.Calm.{IsCalm, AreCalm}
 use Rattle.wt_beside_laws.specs.Content.{AreKept}
 use Rattle.wt_beside_laws.specs.Flat.{IsFlatContent, content_parts}
-use Rattle.wt_beside_laws.specs.FlatBlocks.{lines_in, begins_at, signs_in, IsSealed, AreSealed, IsFlatIn}
+use Rattle.wt_beside_laws.specs.FlatBlocks.{lines_in, begins_at, signs_in, IsFlatIn}
 use Rattle.wt_beside_laws.specs.InHeadings.{AreOnOneLine, IsHeadingContent}
 use Rattle.wt_beside_laws.specs.Lines.{IsLineOfText, AreCharacters, AreUnbroken, line_items, later_lines, content_lines}
 use Rattle.wt_beside_laws.specs.Nodes.{AreNodes}
@@ -46,7 +46,6 @@ use Rattle.wt_beside_laws.proofs.LineItems.{content_lines_are}
 use Rattle.wt_beside_laws.proofs.LineKinds.{lines_are_text}
 use Rattle.wt_beside_laws.proofs.LineParagraphs.{unmarked, flat_paragraph}
 use Rattle.wt_beside_laws.proofs.LineRows.{lines_joined}
-use Rattle.wt_beside_laws.proofs.Made.Closes.{nowiki_sealed, reference_sealed, some_sealed}
 use Rattle.wt_beside_laws.proofs.Made.Items.{nodes_have_items}
 use Rattle.wt_beside_laws.proofs.Made.Levels.{keeps_level}
 use Rattle.wt_beside_laws.proofs.Made.OldBlocks.{lines_are}
@@ -200,19 +199,6 @@ to_calm (thing t ∷ after) h = (h.0, to_calm after h.1)
 pub put_calm : HoldsOfPut IsCalm
 put_calm = record { of_nowiki = nowiki_calm; of_reference = reference_calm }
 
-pub from_sealed : (signs : List ContentSign) → AreSealed signs → EachSource IsSealed signs
-from_sealed [] h = tt
-from_sealed (letter c ∷ after) h = from_sealed after h
-from_sealed (thing t ∷ after) h = (h.0, from_sealed after h.1)
-
-pub to_sealed : (signs : List ContentSign) → EachSource IsSealed signs → AreSealed signs
-to_sealed [] h = tt
-to_sealed (letter c ∷ after) h = to_sealed after h
-to_sealed (thing t ∷ after) h = (h.0, to_sealed after h.1)
-
-pub put_sealed : HoldsOfPut IsSealed
-put_sealed = record { of_nowiki = nowiki_sealed; of_reference = reference_sealed }
-
 -- ---- it is such a block again
 
 -- what holds of the lines of what was sent holds of the lines that are written
@@ -250,6 +236,4 @@ flat_again k q s signs h w e =
           (to_calm (signs_of_lines at (content_lines s signs)) (again_each IsCalm put_calm at s signs w.flat (from_calm signs w.calm)));
       shut = of_written (λ (ls : List (List Item)). AreShut (signs_of_lines at ls)) k s signs w
           (again_shut at s signs w.flat (some_shut (signs_in k q) signs e h.shut));
-      sealed = of_written (λ (ls : List (List Item)). AreSealed (signs_of_lines at ls)) k s signs w
-          (to_sealed (signs_of_lines at (content_lines s signs)) (again_each IsSealed put_sealed at s signs w.flat (from_sealed signs (some_sealed (signs_in k q) signs e h.sealed))));
     }

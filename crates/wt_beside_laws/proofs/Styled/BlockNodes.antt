@@ -72,7 +72,7 @@ numbers_form inline.AsItStood n ns f = refl
 tree_number : (t : Tree) → IsThingForm (edit_shape (label t).kind).inline → numbers_of t ≡ (label t).id ∷ []
 tree_number (tree l ts) f = numbers_form (edit_shape l.kind).inline l.id (all_numbers ts) f
 
-finds_own : (block : Tree) (at from : ℕ) (t : Tree) → (label t).id ≢ 0 → Every (Finds block) (found_from at from t) → Finds block (found_at at from t)
+pub finds_own : (block : Tree) (at from : ℕ) (t : Tree) → (label t).id ≢ 0 → Every (Finds block) (found_from at from t) → Finds block (found_at at from t)
 finds_own block at from (tree l ts) d e = own_found (Finds block) at from l ts d e
 
 thing_found : (at : ℕ) (u : ItemTree) (r : Role) → IsThing u r → IsFound at u (thing_at r (tree_source u) at ∷ [])
@@ -155,7 +155,7 @@ parts_found ps block at from n before ts some h e = runs_found (runs one_leaf ps
 abbrev pub style_round : Bool → List Item → List Part → List Item → ItemTree
 style_round kind opening ps closing = inner (plain (style_kind kind)) opening (forest (children ps)) closing
 
-style_children : (kind : Bool) (n : ℕ) (before opening closing : List Item) (ps : List Part)
+pub style_children : (kind : Bool) (n : ℕ) (before opening closing : List Item) (ps : List Part)
     → children_of (standing n before (style_round kind opening ps closing)) ≡ nodes_of (n + 1) (before ++ opening) (forest (children ps))
 unfolding label_at
 style_children true n before opening closing ps = refl
@@ -167,7 +167,7 @@ unfolding label_at
 style_numbers true n before opening closing ps = refl
 style_numbers false n before opening closing ps = refl
 
-style_holds : (kind : Bool) (n : ℕ) (before opening closing : List Item) (ps : List Part)
+pub style_holds : (kind : Bool) (n : ℕ) (before opening closing : List Item) (ps : List Part)
     → holds_kept (label (standing n before (style_round kind opening ps closing))) ≡ true
 unfolding label_at
 style_holds true n before opening closing ps = refl
@@ -179,7 +179,7 @@ unfolding label_at
 style_opening true n before opening closing ps = refl
 style_opening false n before opening closing ps = refl
 
-found_inside : (P : KeptNode → Type 0) (at from : ℕ) (t : Tree) → holds_kept (label t) ≡ true → Every P (found_from at from t)
+pub found_inside : (P : KeptNode → Type 0) (at from : ℕ) (t : Tree) → holds_kept (label t) ≡ true → Every P (found_from at from t)
     → Every P (found_in (at + length (label t).opening) (from + length (label t).opening) (children_of t))
 found_inside P at from (tree l ts) h e = inside_found P at from l ts h e
 

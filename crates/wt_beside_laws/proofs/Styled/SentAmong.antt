@@ -55,7 +55,7 @@ of_left (o ∷ gone) t later qs h =
     let r = of_left gone t later h.1 h.3 in
     (h.0 ++ o ∷ r.0, r.1, h.2 ∙ ap (λ (us : List Thing). h.0 ++ o ∷ us) r.2 ∙ sym (append_assoc h.0 (o ∷ r.0) (t ∷ r.1)), r.3)
 
-some_of : (ts ps qs : List Thing) → AreSomeAndPut ts ps → AreSomeOf ps qs → AreSomeAndPut ts qs
+pub some_of : (ts ps qs : List Thing) → AreSomeAndPut ts ps → AreSomeOf ps qs → AreSomeAndPut ts qs
 some_of [] ps qs h k = tt
 some_of (t ∷ ts) ps qs h k = elim h [
   | inl m ↦ inl (m.0, some_of ts ps qs m.1 k)
@@ -70,7 +70,7 @@ found_among : (o : Option Kept) (before later ts : List Thing) → AreSomeOf ts 
 found_among None before later ts h = of_behind ts before later h
 found_among (Some k) before later ts h = (before, later, refl, h)
 
-things_among : (ks : List Kept) (ms ns : List ℕ) → AreSomeOf ms ns → AreSomeOf (things_with ks ms) (things_with ks ns)
+pub things_among : (ks : List Kept) (ms ns : List ℕ) → AreSomeOf ms ns → AreSomeOf (things_with ks ms) (things_with ks ns)
 things_among ks [] ns h = tt
 things_among ks (m ∷ ms) ns h =
     subst (AreSomeOf (found_thing (kept_with m ks) ++ things_with ks ms)) (sym (ap (things_with ks) h.2 ∙ with_append ks h.0 (m ∷ h.1)))
@@ -133,7 +133,7 @@ mutual
       → AreSomeAndPut (things (signs_in (sent_before p t c))) (things_with p.kept (numbers_of t) ++ qs)
   tree_some p (tree l ts) c qs k = one_some (edit_shape l.kind).inline p l (sent_content p ts) c (all_numbers ts) qs (sent_some p ts) k
 
-  sent_some : (p : Page) (us : Trees) → AreSomeAndPut (things (signs_in (sent_content p us))) (things_with p.kept (all_numbers us))
+  pub sent_some : (p : Page) (us : Trees) → AreSomeAndPut (things (signs_in (sent_content p us))) (things_with p.kept (all_numbers us))
   sent_some p none = tt
   sent_some p (more t us) =
       subst (AreSomeAndPut (things (signs_in (sent_before p t (sent_content p us))))) (sym (with_append p.kept (numbers_of t) (all_numbers us)))

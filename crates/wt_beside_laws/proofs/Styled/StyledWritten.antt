@@ -17,7 +17,7 @@ use Rattle.wt_text_edit_laws.proofs.Blocks.BlockReading.{IsBeforeAny, HasFrame}
 use Rattle.wt_text_edit_laws.proofs.Texts.TypedShown.{AllOfPage}
 use Rattle.wt_beside_laws.specs.Calm.{HaveNoBraces, IsCalm, AreCalm}
 use Rattle.wt_beside_laws.specs.Content.{AreKept}
-use Rattle.wt_beside_laws.specs.FlatBlocks.{lines_in, begins_at, signs_in as signs_of, IsSealed, AreSealed}
+use Rattle.wt_beside_laws.specs.FlatBlocks.{lines_in, begins_at, signs_in as signs_of}
 use Rattle.wt_beside_laws.specs.Lines.{content_lines}
 use Rattle.wt_beside_laws.specs.PageBlocks.{AreShut}
 use Rattle.wt_beside_laws.specs.PageSigns.{signs_of_lines, AreFlatLines}
@@ -30,11 +30,12 @@ use Rattle.wt_beside_laws.proofs.Among.{Each}
 use Rattle.wt_beside_laws.proofs.CalmContents.{content_utf8, content_unbraced, nowiki_calm}
 use Rattle.wt_beside_laws.proofs.FlatAgain.{EachSource, IsShut, put_shut, from_shut, to_shut}
 use Rattle.wt_beside_laws.proofs.LineItems.{content_lines_are}
-use Rattle.wt_beside_laws.proofs.Made.Closes.{guard_closes, OpenFor, content_closes, block_open, nowiki_sealed}
+use Rattle.wt_beside_laws.proofs.Made.Closes.{guard_closes, OpenFor, content_closes, block_open}
 use Rattle.wt_beside_laws.proofs.Made.Items.{AreHeld}
+use Rattle.wt_beside_laws.proofs.Made.NodesSealed.{nodes_sealed}
 use Rattle.wt_beside_laws.proofs.Made.OldBlocks.{lines_are}
 use Rattle.wt_beside_laws.proofs.Made.OwnPages.{own_frame}
-use Rattle.wt_beside_laws.proofs.Made.Written.{FitsIn, lines_by, before_any, uncommented, firm, alone, before_break, ended_so, unended_so, texts_by, all_unled, calls_none, from_calm, to_calm, put_calm, from_sealed, to_sealed, put_sealed}
+use Rattle.wt_beside_laws.proofs.Made.Written.{FitsIn, lines_by, before_any, uncommented, firm, alone, before_break, ended_so, unended_so, texts_by, all_unled, calls_none, from_calm, to_calm, put_calm}
 use Rattle.wt_beside_laws.proofs.Styled.HeldStyles.{styled_have_items}
 use Rattle.wt_beside_laws.proofs.Styled.OldStyled.{styled_in_content}
 use Rattle.wt_beside_laws.proofs.Styled.StyledAgain.{quotes_utf8, again_each, again_lines, again_kept, again_shut}
@@ -114,9 +115,6 @@ mark_closes : (kind : Bool) (name rest : List ℕ) → Unclosed name rest → Un
 mark_closes true name rest h = unclosed_untagged name (mark_source true) rest refl h
 mark_closes false name rest h = unclosed_untagged name (mark_source false) rest refl h
 
-mark_sealed : (kind : Bool) → IsSealed (mark_source kind)
-mark_sealed kind = record { closes = λ name us vs h k. mark_closes kind name vs k }
-
 calm_so : (k : TextBlock) (q : List ℕ) (s : Setting) (t : StyledContent) → IsStyledIn k q → IsStyledFor k q s t → AreCalm (signs_in t)
 calm_so k q s t h w =
     to_calm (signs_in t) (some_source IsCalm (signs_of k q) (signs_in t) mark_calm nowiki_calm w.nodes (from_calm (signs_of k q) h.calm))
@@ -124,10 +122,6 @@ calm_so k q s t h w =
 shut_so : (k : TextBlock) (q : List ℕ) (s : Setting) (t : StyledContent) → IsStyledIn k q → IsStyledFor k q s t → AreShut (signs_in t)
 shut_so k q s t h w =
     to_shut (signs_in t) (some_source IsShut (signs_of k q) (signs_in t) mark_shut put_shut.of_nowiki w.nodes (from_shut (signs_of k q) h.shut))
-
-sealed_so : (k : TextBlock) (q : List ℕ) (s : Setting) (t : StyledContent) → IsStyledIn k q → IsStyledFor k q s t → AreSealed (signs_in t)
-sealed_so k q s t h w =
-    to_sealed (signs_in t) (some_source IsSealed (signs_of k q) (signs_in t) mark_sealed nowiki_sealed w.nodes (from_sealed (signs_of k q) h.sealed))
 
 -- ---- it is such a block again
 
@@ -164,8 +158,6 @@ styled_again k q s t h w =
       calm = of_lines_so (λ (ls : List (List Item)). AreCalm (signs_of_lines at ls)) k s t c w.stays
           (to_calm (signs_of_lines at (content_lines s signs)) (again_each IsCalm put_calm at s t c (from_calm signs calm)));
       shut = of_lines_so (λ (ls : List (List Item)). AreShut (signs_of_lines at ls)) k s t c w.stays (again_shut at s t c (shut_so k q s t h w));
-      sealed = of_lines_so (λ (ls : List (List Item)). AreSealed (signs_of_lines at ls)) k s t c w.stays
-          (to_sealed (signs_of_lines at (content_lines s signs)) (again_each IsSealed put_sealed at s t c (from_sealed signs (sealed_so k q s t h w))));
     }
 
 -- ---- in the place of the old content
@@ -180,7 +172,8 @@ closes_so : (k : TextBlock) (q : List ℕ) (s : Setting) (t : StyledContent) →
     → Unclosed name vs → Unclosed name (spelled s (signs_in t) ++ vs)
 closes_so k q s t h w name us vs o g =
     content_closes s [] (signs_in t) name vs
-    (each_some (OpenFor name) (put_open name vs g) (things (signs_in t)) (things (signs_of k q)) w.nodes (block_open k q name us o)) (sealed_so k q s t h w) g
+    (each_some (OpenFor name) (put_open name vs g) (things (signs_in t)) (things (signs_of k q)) w.nodes (block_open k q name us o))
+    (nodes_sealed (signs_in t) w.content.nodes w.content.kept) g
 
 pub styled_new : (k : TextBlock) (q : List ℕ) (s : Setting) (t : StyledContent) → IsStyledIn k q → IsStyledFor k q s t → IsNewContent k q (spelled s (signs_in t))
 styled_new k q s t h w = record {
