@@ -10,6 +10,12 @@ pub mod StyledParagraphs
 pub mod StyledShown
 pub mod SentStyles
 pub mod StyledNodes
+pub mod BlockNodes
+pub mod BlockStyles
+pub mod SentAmong
+pub mod HeldStyles
+pub mod StyledWritten
 pub mod StyledHeadings
 pub mod StyledAgain
+pub mod OldStyled
 mod Cases

@@ -22,7 +22,10 @@ pub mod TextsUntangled
 pub mod CalledUtf8
 pub mod EditFacts
 pub mod EditTaken
+pub mod TextContents
+pub mod OwnContents
 pub mod CallsTake
+pub mod TextsTaken
 pub mod BareInsides
 mod SettledCases
 pub mod Settles
@@ -32,6 +35,9 @@ pub mod FreePlaces
 pub mod GroupsKept
 pub mod PlaceBytes
 pub mod Squashed
+pub mod StandingSettled
+pub mod PagesSettled
 pub mod GroupsOfPage
+pub mod BlocksOutside
 pub mod Parts
 pub mod Cells

@@ -8,6 +8,9 @@ pub mod Stand
 pub mod PathsTo
 pub mod TreeEdits
 pub mod CalledTexts
+pub mod EditsAt
+pub mod ChosenContents
+pub mod ContentsTaken
 pub mod Settled
 pub mod SettledPages
 pub mod Covered
