@@ -71,6 +71,7 @@ export function tidy(block, original) {
   block.children = [...lead.filter((piece) => piece !== ""), ...(end < 0 ? [] : block.children.slice(end))];
   const holdsBlocks = ITEMS.has(block.name) || CELLS.has(block.name);
   if (kept !== undefined && holdsBlocks) block.children = withLines(block.children, kept.part.children);
+  if (kept !== undefined && block.name === "p") block.children = withCommentLines(block.children, kept.part.children);
   return block;
 }
 
@@ -89,6 +90,57 @@ function withLines(now, was) {
     append(out, piece);
   }
   return out;
+}
+
+/**
+ * What a paragraph holds, where the line break before a comment line is gone, as where the words on both sides of it
+ * were joined: the comment comes before the line in which it would be, for it ends with a line break of its own.
+ * @param {(Part | string)[]} now
+ * @param {(Part | string)[]} was
+ */
+function withCommentLines(now, was) {
+  const numbers = commentLines(was);
+  if (numbers.size === 0) return now;
+  /** @type {(Part | string)[]} */
+  const out = [];
+  /** @type {(Part | string)[]} the line that is begun, and before it the comments that were in it */
+  let line = [];
+  /** @type {Part[]} */
+  let comments = [];
+  const isMoved = (/** @type {Part | string | undefined} */ piece) => piece !== undefined && piece === comments.at(-1);
+  const end = () => {
+    for (const piece of [...comments, ...line]) append(out, piece);
+    line = [];
+    comments = [];
+  };
+  now.forEach((piece, at) => {
+    if (typeof piece === "string") {
+      const start = piece.lastIndexOf("\n") + 1;
+      append(line, piece.slice(0, start));
+      if (start > 0) end();
+      append(line, piece.slice(start));
+    } else if (numbers.has(piece.number) && (isMoved(now[at - 1]) || !endsLine(now[at - 1]))) {
+      comments.push(piece);
+    } else {
+      line.push(piece);
+    }
+  });
+  end();
+  return out;
+}
+
+/**
+ * @param {(Part | string)[]} pieces
+ * @returns {Set<number>} the numbers of the comments on lines of their own: they end with a line break
+ */
+function commentLines(pieces) {
+  const numbers = onLines(pieces);
+  for (const piece of pieces) {
+    if (typeof piece === "string" || !numbers.has(piece.number)) continue;
+    const { src } = JSON.parse(piece.value("data-parsoid") || "{}");
+    if (typeof src !== "string" || !src.endsWith("\n")) numbers.delete(piece.number);
+  }
+  return numbers;
 }
 
 /**

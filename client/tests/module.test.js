@@ -1027,6 +1027,31 @@ test("a comment in an item or a cell stays on its line when the text before it i
   }
 });
 
+test("a comment line of a paragraph comes before the line in which it would be", () => {
+  const mark = (/** @type {number} */ number, source = "<!--c-->\\n") =>
+    `<meta typeof="mw:Comment" id="mw${number}" data-parsoid='{"src":"${source.replaceAll("<", "&lt;").replaceAll(">", "&gt;")}"}'/>`;
+  const one = mark(2);
+  const two = one + mark(3);
+  const p = (/** @type {string} */ inside) => `<p id="mw1">${inside}</p>`;
+  for (const marks of [one, two]) {
+    for (const [now, wanted] of [
+      [`a${marks}b`, `${marks}ab`],
+      [`x${marks}b`, `${marks}xb`],
+      [`a\n${marks}c`, `a\n${marks}c`],
+      [`a\nq${marks}b`, `a\n${marks}qb`],
+      [`a\nq <i>r</i>${marks}b\nc`, `a\n${marks}q <i>r</i>b\nc`],
+      [`${marks}b`, `${marks}b`],
+    ]) {
+      assert.equal(saved(p(`a\n${marks}b`), p(now)), p(wanted), now);
+    }
+  }
+  const between = mark(2, "<!--c-->");
+  assert.equal(saved(p(`a\n${between}b`), p(`a${between}b`)), p(`a${between}b`));
+  const many = (/** @type {string} */ text) =>
+    Array.from({ length: 20_000 }, (_, at) => text + mark(at + 2)).join("");
+  assert.equal(saved(p(many("a\n")), p(many("a"))), p(many("") + "a".repeat(20_000)));
+});
+
 test("the name of a comment is what stands between its signs", () => {
   for (const source of ["<!-- a  b -->", "<!--a  b-->\n", "\n <!--\ta  b\n-->", "<!--a  b"]) {
     assert.equal(nameOfComment(source), "a  b");

@@ -262,6 +262,31 @@ class Mending(unittest.TestCase):
                     mended(block.format("x", marks), unbroken), written(read_body(block.format("x", marks)))
                 )
 
+    def test_a_comment_line_of_a_paragraph_comes_before_its_line(self) -> None:
+        """Where the line break before it is gone."""
+        mark = """<meta typeof="mw:Comment" id="mw{}" data-parsoid='{{"src":"&lt;!--c-->{}"}}'/>"""
+        page = '<p id="mw1">{}</p>'
+
+        def saved(was: str, now: str) -> str:
+            return mended(page.format(now), written(read_body(page.format(was))))
+
+        def whole(inside: str) -> str:
+            return written(read_body(page.format(inside)))
+
+        for marks in (mark.format(2, "\\n"), mark.format(2, "\\n") + mark.format(3, "\\n")):
+            for now, wanted in (
+                (f"a{marks}b", f"{marks}ab"),
+                (f"x{marks}b", f"{marks}xb"),
+                (f"a\n{marks}c", f"a\n{marks}c"),
+                (f"a\nq{marks}b", f"a\n{marks}qb"),
+                (f"a\nq <i>r</i>{marks}b\nc", f"a\n{marks}q <i>r</i>b\nc"),
+                (f"{marks}b", f"{marks}b"),
+            ):
+                with self.subTest(now=now):
+                    self.assertEqual(saved(f"a\n{marks}b", now), whole(wanted))
+        between = mark.format(2, "")
+        self.assertEqual(saved(f"a\n{between}b", f"a{between}b"), whole(f"a{between}b"))
+
     def test_what_is_cut_off_is_refused(self) -> None:
         for text in ("<p>x<!-- c", "<p", '<p a="x>', "<script>x", "<![CDATA[x", "</p", "<b>" * 1000):
             with self.subTest(text=text[:20]), self.assertRaises(Refusal) as raised:

@@ -1,6 +1,7 @@
 """What is mended in the texts of a block that an editor changed."""
 from __future__ import annotations
 
+import json
 import re
 from itertools import islice
 from typing import Iterable, Iterator, List, Optional, Set, Tuple
@@ -72,6 +73,8 @@ def tidy(block: Element, original: Optional[Original]) -> Element:
     block.children = [piece for piece in lead if piece != ""] + (block.children[end:] if end >= 0 else [])
     if kept is not None and (block.name in ITEMS or block.name in CELLS):
         block.children = with_lines(block.children, kept.part.children)
+    if kept is not None and block.name == "p":
+        block.children = with_comment_lines(block.children, kept.part.children)
     return block
 
 
@@ -85,6 +88,55 @@ def with_lines(now: List[Child], was: List[Child]) -> List[Child]:
             append(out, "\n")
         append(out, piece)
     return out
+
+
+def with_comment_lines(now: List[Child], was: List[Child]) -> List[Child]:
+    """What a paragraph holds, where the line break before a comment line is gone, as where the words on both
+    sides of it were joined: the comment comes before the line in which it would be, for it ends with a line
+    break of its own."""
+    numbers = comment_lines(was)
+    if not numbers:
+        return now
+    out: List[Child] = []
+    line: List[Child] = []  # what is begun, and before it the comments that were in it
+    comments: List[Child] = []
+
+    def end() -> None:
+        for piece in comments + line:
+            append(out, piece)
+        line.clear()
+        comments.clear()
+
+    before: Optional[Child] = None
+    for piece in now:
+        if isinstance(piece, str):
+            start = piece.rfind("\n") + 1
+            append(line, piece[:start])
+            if start > 0:
+                end()
+            append(line, piece[start:])
+        elif piece.number in numbers and not (is_on_line(before) and before not in comments[-1:]):
+            comments.append(piece)
+        else:
+            line.append(piece)
+        before = piece
+    end()
+    return out
+
+
+def is_on_line(before: Optional[Child]) -> bool:
+    return before is not None and ends_line(before)
+
+
+def comment_lines(pieces: List[Child]) -> Set[int]:
+    """The numbers of the comments on lines of their own: they end with a line break."""
+    numbers = on_lines(pieces)
+    for piece in pieces:
+        if not isinstance(piece, str) and piece.number in numbers:
+            source = json.loads(piece.get("data-parsoid") or "{}").get("src")
+            if not isinstance(source, str) or not source.endswith("\n"):
+                numbers.discard(piece.number)
+    return numbers
 
 
 def on_lines(pieces: List[Child]) -> Set[int]:
