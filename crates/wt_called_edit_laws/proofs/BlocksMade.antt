@@ -31,6 +31,7 @@ use Rattle.wt_text_edit_laws.proofs.Blocks.Contents.{block_source as source_is}
 use Rattle.wt_text_edit_laws.proofs.Blocks.TypedFacts.{framed, text_shown, typed_shown}
 use Rattle.wt_beside_laws.specs.ContentEdits.{MakesContent}
 use Rattle.wt_beside_laws.proofs.Made.Making.{makes_so}
+use Rattle.wt_beside_laws.proofs.Styled.Making.{styled_makes}
 use Rattle.wt_called_edit_laws.specs.CalledBlocks.{tree_by}
 use Rattle.wt_called_edit_laws.specs.EditsAt.{IsStanding, StandsTo, StandsAmong, AllStand, edited_at, edited_among, edited_by, content_of, with_content, with_contents, AreGone, IsOneText, Fits, FitsSpot, AreFitting}
 use Rattle.wt_called_edit_laws.specs.Nodes.{block_at}
@@ -211,8 +212,10 @@ as_made k q l m ps h =
 own_made : (k : TextBlock) (q : List ℕ) (l m : Label) (ps : List Piece) → IsContent k q → IsStanding (block_tree k q) (page_node (edited (block_of k) l m ps))
     → Fits k q (edited (block_of k) l m ps) → IsMade k q (edited (block_of k) l m ps)
 own_made k q l m ps c h (inl one) = as_made k q l m ps (text_made k q l m ps c h one)
-own_made k q l m ps c h (inr (f, e)) =
+own_made k q l m ps c h (inr (inl (f, e))) =
     as_made k q l m ps (makes_so k q h.number h.before (page_node (edited (block_of k) l m ps)) m ps f h.some h.is e)
+own_made k q l m ps c h (inr (inr (f, e))) =
+    as_made k q l m ps (styled_makes k q h.number h.before (page_node (edited (block_of k) l m ps)) m ps f h.some h.is e)
 
 edited_made : (k : TextBlock) (q : List ℕ) (j : Block) (l m : Label) (ps : List Piece) → IsContent k q → IsStanding (block_tree k q) (page_node (edited j l m ps))
     → Fits k q (edited j l m ps) → IsMade k q (edited j l m ps)
