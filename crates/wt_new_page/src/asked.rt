@@ -86,7 +86,10 @@ fn differing_child<'a>(
 }
 
 /// Compares what was found of a new page with the edited tree.
-pub fn compared<'a>(found: KnownPage<'a>, edit: &EditedPage<'_, 'a>) -> Result<ReadBack<'a>, NoMemory>
+pub fn compared<'a>(
+    found: KnownPage<'a>,
+    edit: &EditedPage<'_, 'a>,
+) -> Result<ReadBack<'a>, NoMemory>
     requires body { (label (view edit.now.tree.now)).kind ≡ kind.Body }
     requires numbered { ∥ InPreorder (view edit.now.tree.now) ∥₁ }
     ensures { IfOk result (ComparedAs found.entry (view edit.now.tree.now) (view edit.now.edited.now)) }

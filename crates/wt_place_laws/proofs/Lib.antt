@@ -7,3 +7,4 @@ pub mod Doubts
 pub mod Repeats
 pub mod TableEnds
 pub mod TextDoubts
+pub mod MadeLines

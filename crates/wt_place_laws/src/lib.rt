@@ -1,12 +1,13 @@
 //! Laws of places, in other words than the definitions that code follows: where lexemes begin and end,
-//! which call lies too deep, how pieces of lines are parted, how far a walk through a tree has come, and which places
-//! are doubtful.
+//! which call lies too deep, how pieces of lines are parted, how far a walk through a tree has come, which places are
+//! doubtful, and where the lines of the page of `gen` begin.
 #![tactic(auto)]
 
 mod calls;
 mod findings;
 mod lexemes;
 mod lines;
+mod made;
 mod walks;
 
 pub use calls::the_first_deep_call_is_told;
@@ -17,4 +18,5 @@ pub use findings::{
 };
 pub use lexemes::{lexemes_are_cut_out, lexemes_begin_where_others_end};
 pub use lines::{breaks_are_pieces, marks_stand_in_front};
+pub use made::made_pages_have_their_sections;
 pub use walks::walks_go_over_their_items;

@@ -5,7 +5,6 @@ use Rattle.std.specs.List.{AllByRecursion}
 use Rattle.wt_tree.specs.declared.kind.Kind.{Kind}
 use Rattle.wt_tree.specs.declared.kind.Kind.TheVariants as kind
 use Rattle.wt_tree.specs.Kinds.{showing}
-use Rattle.wt_tree.specs.Tiling.{is_group}
 use Rattle.wt_tree.specs.Tree.{Tree, tree, Trees, none, more, label, listed}
 use Rattle.wt_checks.specs.Alike.{same_kind}
 use Rattle.wt_checks.specs.Kept.{children}
@@ -21,17 +20,16 @@ use Rattle.wt_difference.specs.Difference.{is_partner, same_inside, stays_in}
 use Rattle.wt_difference.specs.Insides.{before_blocks, behind_inside, ends_inside, from_blocks, has_inside, held, is_block_part}
 use Rattle.wt_difference.specs.Tokens.{all_tokens, same_tokens}
 use Rattle.wt_difference.specs.Unedited.{IsUnedited}
-use Rattle.wt_difference.proofs.Remarks.{block_no_group}
 use Rattle.wt_places.specs.declared.reached.Reached.{Reached}
 use Rattle.wt_places.specs.declared.slot.Slot.{Slot}
 use Rattle.wt_places.specs.Places.{along, arrived, before_number, begun, end_behind, gap, gap_before, gap_end, if_in_turn, inside_end, inside_place, inside_start, inside_stop, node_or, partner, places, places_in, rest_behind, slot, some_count}
 use Rattle.wt_places.specs.Turns.{is_in_turn, may_stay, turns}
 use Rattle.wt_places.proofs.Walking.{places_out}
-use Rattle.wt_turn_laws.specs.Untouched.{IsBeside, IsNumberedBehind, IsUntouched, IsWholePage, StaysAt, StaysInTurn}
+use Rattle.wt_turn_laws.specs.Untouched.{IsBeside, IsNumberedBehind, IsUntouched, IsWholePage, StaysAt, StaysInTurn, is_looked_into}
 use Rattle.wt_turn_laws.proofs.Choosing.{InTurn, both, in_turn}
 use Rattle.wt_turn_laws.proofs.Fitting.{Fits, closes_before, end_at, fits, opens_behind, start_at}
 use Rattle.wt_turn_laws.proofs.Standing.{Known, Sound, Stands, Within, root_holds, root_number, sound}
-use Rattle.wt_turn_laws.proofs.Unedited.{holds, no_frames, none_in}
+use Rattle.wt_turn_laws.proofs.Unedited.{holds, looked_block, no_frames, none_in}
 
 each_map : {X : Type 0} (P Q : X → Type 0) (xs : List X) → ((x : X) → P x → Q x) → AllByRecursion P xs → AllByRecursion Q xs
 each_map P Q [] f h = tt
@@ -62,7 +60,7 @@ partner_by page holder v (Some q) f e =
       is = ap (node_or v) f;
     }
 
-partner_of : (page : Page) (holder : ℕ) (v : Tree) → may_stay page holder v ≡ true → Partner page holder v
+pub partner_of : (page : Page) (holder : ℕ) (v : Tree) → may_stay page holder v ≡ true → Partner page holder v
 partner_of page holder v e =
     partner_by page holder v (page (label v).id) refl (both (is_compared (showing (label v).kind)) (stays_in page holder v) e).1
 
@@ -73,14 +71,14 @@ pub record Has (page : Page) (t : Tree) : Type 0 where
   pub is : place.node ≡ t
 
 -- the page's node of a child that may stay, in the node that holds it
-record Child (page : Page) (t v p : Tree) : Type 0 where
-  least : inside_start (label t).ranges ≤ start_at p
-  most : end_at p ≤ inside_stop (label t).ranges
-  fitting : Fits p
-  itself : Has page p
-  kind : (label p).kind ≡ (label v).kind
-  number : (label p).id ≡ (label v).id
-  known : (q : Place) × (Known page q × ((q.node ≡ p) × ((label v).id ≢ 0)))
+pub record Child (page : Page) (t v p : Tree) : Type 0 where
+  pub least : inside_start (label t).ranges ≤ start_at p
+  pub most : end_at p ≤ inside_stop (label t).ranges
+  pub fitting : Fits p
+  pub itself : Has page p
+  pub kind : (label p).kind ≡ (label v).kind
+  pub number : (label p).id ≡ (label v).id
+  pub known : (q : Place) × (Known page q × ((q.node ≡ p) × ((label v).id ≢ 0)))
 
 child_by : (page : Page) → Sound page → (t v : Tree) → Has page t → (c : Partner page (label t).id v) → Child page t v c.place.node
 child_by page s t v has c =
@@ -99,7 +97,7 @@ child_by page s t v has c =
       known = (c.place, (k, (refl, c.numbered)));
     }
 
-child : (page : Page) → Sound page → (t v : Tree) → Has page t → may_stay page (label t).id v ≡ true → Child page t v (partner page v)
+pub child : (page : Page) → Sound page → (t v : Tree) → Has page t → may_stay page (label t).id v ≡ true → Child page t v (partner page v)
 child page s t v has e =
     let c = partner_of page (label t).id v e in subst (Child page t v) (sym c.is) (child_by page s t v has c)
 
@@ -200,7 +198,7 @@ mutual
       (along_within page s us (held t) t (start_at t) (end_at t) has (has_inside m.kind) (begun t) (closes_before (label t).ranges) (omega (arith, least, opens))
       (all_lower page s t has))
 
-  along_within : (page : Page) → Sound page → (us ts : Trees) (t : Tree) (least most : ℕ) → Has page t → (within : Bool) (r : Reached)
+  pub along_within : (page : Page) → Sound page → (us ts : Trees) (t : Tree) (least most : ℕ) → Has page t → (within : Bool) (r : Reached)
       → inside_stop (label t).ranges ≤ most → least ≤ r.end → Lower page t least r.number → AllByRecursion (InRange least most) (along page t within r ts us)
   along_within page s none ts t least most has within r top bottom low =
       in_gap (r.came || some_count ts) least most r.end (inside_stop (label t).ranges) bottom top
@@ -224,22 +222,22 @@ beside_range p a b ss (inr le) h =
     each_map (InRange a b) (IsBeside (gap_end p) (end_at p)) ss (λ s k. let least = k.0 in inr (omega (arith, le, least))) h
 
 -- places of which all but these lie beside a node
-record Around (p : Tree) (own ss : List Slot) : Type 0 where
-  before : List Slot
-  after : List Slot
-  is : ss ≡ before ++ (own ++ after)
-  beside : IsUntouched before p
-  beside_after : IsUntouched after p
+pub record Around (p : Tree) (own ss : List Slot) : Type 0 where
+  pub before : List Slot
+  pub after : List Slot
+  pub is : ss ≡ before ++ (own ++ after)
+  pub beside : IsUntouched before p
+  pub beside_after : IsUntouched after p
 
 -- a child that stays in its turn has a greater number, and may stay
-record Later (page : Page) (holder n : ℕ) (v : Tree) : Type 0 where
-  stays : may_stay page holder v ≡ true
-  greater : n < (label v).id
+pub record Later (page : Page) (holder n : ℕ) (v : Tree) : Type 0 where
+  pub stays : may_stay page holder v ≡ true
+  pub greater : n < (label v).id
 
-first_is : {X : Type 0} (x y : X) → Some x ≡ Some y → x ≡ y
+pub first_is : {X : Type 0} (x y : X) → Some x ≡ Some y → x ≡ y
 first_is x y e = cc
 
-later : (page : Page) (holder n : ℕ) (us : Trees) (i : ℕ) (v : Tree) → slice_get (listed us) i ≡ Some v → slice_get (turns page holder n us) i ≡ Some true
+pub later : (page : Page) (holder n : ℕ) (us : Trees) (i : ℕ) (v : Tree) → slice_get (listed us) i ≡ Some v → slice_get (turns page holder n us) i ≡ Some true
     → Later page holder n v
 later page holder n none i v e f = absurd (cc)
 later page holder n (more u us) zero v e f =
@@ -254,7 +252,7 @@ later page holder n (more u us) (suc i) v e f =
     by false t l = l
 
 -- two children that stay in their turn, one after the other
-child_after : (page : Page) → Sound page → (t u v : Tree) → may_stay page (label t).id u ≡ true → may_stay page (label t).id v ≡ true
+pub child_after : (page : Page) → Sound page → (t u v : Tree) → may_stay page (label t).id u ≡ true → may_stay page (label t).id v ≡ true
     → (label u).id < (label v).id → end_at (partner page u) ≤ start_at (partner page v)
 child_after page s t u v e f lt =
     let c = partner_of page (label t).id u e in
@@ -263,12 +261,12 @@ child_after page s t u v e f lt =
     (subst (λ (x : Tree). end_at c.place.node ≤ start_at x) (sym d.is)
     (s.ordered (label u).id (label v).id c.place d.place c.numbered lt c.found d.found (c.under ∙ sym d.under)))
 
-abbrev along_by : Page → Tree → Reached → Trees → Tree → Trees → Bool → List Slot
+abbrev pub along_by : Page → Tree → Reached → Trees → Tree → Trees → Bool → List Slot
 along_by page t r ts u us b =
     if_in_turn b (gap_before r ts (partner page u) u ++ if_in_turn (is_block_part (label u).kind) (places_in page (partner page u) u))
     ++ along page t false (arrived b (partner page u) r u) (rest_behind b u ts) us
 
-abbrev own_of : Page → Tree → List Slot
+abbrev pub own_of : Page → Tree → List Slot
 own_of page v = if_in_turn (is_block_part (label v).kind) (places_in page (partner page v) v)
 
 -- the gap before a child ends with its sign
@@ -337,7 +335,7 @@ around_first page s t u us ts r has e =
           (s.ordered (label u).id k c.place q c.numbered lt c.found f (c.under ∙ sym p))));
     }
 
-around : (page : Page) → Sound page → (t : Tree) (us ts : Trees) (r : Reached) (i : ℕ) (v : Tree) → Has page t → slice_get (listed us) i ≡ Some v
+pub around : (page : Page) → Sound page → (t : Tree) (us ts : Trees) (r : Reached) (i : ℕ) (v : Tree) → Has page t → slice_get (listed us) i ≡ Some v
     → slice_get (turns page (label t).id r.number us) i ≡ Some true → Around (partner page v) (own_of page v) (along page t false r ts us)
 around page s t none ts r i v has e f = absurd (cc)
 around page s t (more u us) ts r zero v has e f =
@@ -406,12 +404,12 @@ behind_frames (tree m us) f = by (has_inside m.kind)
     by false = f
 
 -- what is asked of the node where the way begins
-record Begins (page : Page) (t u : Tree) : Type 0 where
-  has : Has page t
-  fitting : Fits t
-  kind : (label t).kind ≡ (label u).kind
-  unframed : have_frame (children u) ≡ false
-  none : IsNumberedBehind t → is_group (label u).kind ≡ false → IsUnedited t u → places_in page t u ≡ []
+pub record Begins (page : Page) (t u : Tree) : Type 0 where
+  pub has : Has page t
+  pub fitting : Fits t
+  pub kind : (label t).kind ≡ (label u).kind
+  pub unframed : have_frame (children u) ≡ false
+  pub none : IsNumberedBehind t → is_looked_into (label u).kind ≡ true → IsUnedited t u → places_in page t u ≡ []
 
 begins : (page : Page) → Sound page → (t u : Tree) (i : ℕ) (w : Tree) → Begins page t u → StaysInTurn page t u i w → Begins page (partner page w) w
 begins page s t u i w b turn =
@@ -428,10 +426,10 @@ begins page s t u i w b turn =
       fitting = c.fitting;
       kind = c.kind;
       unframed = free;
-      none = λ n g e. none_in page (partner page w) w h.1 h.0 n (ap is_group c.kind ∙ g) e free;
+      none = λ n g e. none_in page (partner page w) w h.1 h.0 n (ap is_looked_into c.kind ∙ g) e free;
     }
 
-untouched : (page : Page) → Sound page → (way : List ℕ) (t u p v : Tree) → Begins page t u → is_group (label u).kind ≡ false → StaysAt page t u way p v
+untouched : (page : Page) → Sound page → (way : List ℕ) (t u p v : Tree) → Begins page t u → is_looked_into (label u).kind ≡ true → StaysAt page t u way p v
     → IsNumberedBehind p → IsUnedited p v → IsUntouched (places_in page t u) p
 untouched page s [] t u p v b g at n e =
     let w : IsUnedited t u = subst (λ (x : Tree). IsUnedited x u) (sym at.0) (subst (IsUnedited p) (sym at.1) e) in
@@ -450,7 +448,7 @@ untouched page s (i ∷ way) t u p v b g at n e =
     let from_here = λ (ss : List Slot) (h : IsUntouched ss (partner page w)). far page s way ss (partner page w) w p v c.itself c.fitting h at.2 in
     let near = IsBeside (gap_end p) (end_at p) in
     let own : IsUntouched (own_of page w) p = in_if (IsBeside (gap_end p) (end_at p)) (is_block_part (label w).kind) (places_in page (partner page w) w)
-    (λ x. untouched page s way (partner page w) w p v (begins page s t u i w b turn) (block_no_group (label w).kind x) at.2 n e) in
+    (λ x. untouched page s way (partner page w) w p v (begins page s t u i w b turn) (looked_block (label w).kind x) at.2 n e) in
     subst (λ (ss : List Slot). IsUntouched ss p)
     (sym (places_out page t u ∙ ap (λ (ss : List Slot). inside_place t u ++ ss) a.is))
     (each_join near (inside_place t u) (a.before ++ (own_of page w ++ a.after)) (from_here (inside_place t u) inside)
@@ -459,11 +457,11 @@ untouched page s (i ∷ way) t u p v b g at n e =
 
 -- ---- a page
 
-body_is : (k : Kind) → is_body k ≡ true → k ≡ kind.Body
+pub body_is : (k : Kind) → is_body k ≡ true → k ≡ kind.Body
 body_is kind.Body e = refl
 body_is k e = absurd (cc)
 
-root_begins : (t u : Tree) → IsWholePage t → IsOneBody u → Begins (page_of t) t u
+pub root_begins : (t u : Tree) → IsWholePage t → IsOneBody u → Begins (page_of t) t u
 root_begins t u w o =
     let z : (label t).id ≡ 0 = root_number t w in
     let h = root_holds t w in
@@ -472,20 +470,20 @@ root_begins t u w o =
       fitting = fits t w.tiled;
       kind = w.body ∙ sym (body_is (label u).kind o.root);
       unframed = o.alone;
-      none = λ n g e. none_in (page_of t) t u h.1 h.0 n (ap is_group w.body) e o.alone;
+      none = λ n g e. none_in (page_of t) t u h.1 h.0 n (ap is_looked_into w.body) e o.alone;
     }
 
 pub unedited_untouched : (t u : Tree) → IsWholePage t → IsOneBody u → (way : List ℕ) (p v : Tree) → StaysAt (page_of t) t u way p v → IsNumberedBehind p
     → IsUnedited p v → IsUntouched (places t u) p
 unedited_untouched t u w o way p v at n e =
-    untouched (page_of t) (sound t w) way t u p v (root_begins t u w o) (ap is_group (body_is (label u).kind o.root)) at n e
+    untouched (page_of t) (sound t w) way t u p v (root_begins t u w o) (ap is_looked_into (body_is (label u).kind o.root)) at n e
 
 -- ---- its blocks
 
-body_behind : (u : Tree) → is_body (label u).kind ≡ true → behind_inside u ≡ children u
+pub body_behind : (u : Tree) → is_body (label u).kind ≡ true → behind_inside u ≡ children u
 body_behind (tree m us) e = ap (λ (k : Kind). if has_inside k then from_blocks us else us) (body_is m.kind e)
 
-body_inside : (t : Tree) → (label t).kind ≡ kind.Body → inside_end t ≡ inside_start (label t).ranges
+pub body_inside : (t : Tree) → (label t).kind ≡ kind.Body → inside_end t ≡ inside_start (label t).ranges
 body_inside (tree l ts) e = ap (λ (k : Kind). end_behind (inside_start l.ranges) (if has_inside k then before_blocks ts else none)) e
 
 pub blocks_untouched : (t u : Tree) → IsWholePage t → IsOneBody u → (i : ℕ) (v : Tree) → slice_get (listed (children u)) i ≡ Some v

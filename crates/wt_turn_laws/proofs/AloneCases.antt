@@ -7,7 +7,7 @@ use Rattle.wt_tree.specs.Tree.{Label, Tree, tree, none, trees}
 use Rattle.wt_checks.specs.Alike.{same_data, same_kind}
 use Rattle.wt_places.specs.declared.slot.Slot.{Slot}
 use Rattle.wt_places.specs.Places.{gap_end, places, slot}
-use Rattle.wt_turn_laws.specs.Untouched.{IsBeside, IsUntouched}
+use Rattle.wt_turn_laws.specs.Untouched.{IsBeside, IsNumberedBehind, IsUntouched}
 
 abbrev label_at : Kind → ℕ → ℕ → ℕ → ℕ → Label
 label_at k id start end open_w = record {
@@ -82,3 +82,21 @@ in_its_midst h = by h.0
 -- the place before a cell may have its sign, `!!`
 cell_sign : gap_end (node kind.Th 5 5 10 2 (words 8 (codes "b") ∷ [])) ≡ 7
 cell_sign = refl
+
+-- a paragraph with bold text, and an item with a list in it, have no text after their inside
+bold_text : IsNumberedBehind (node kind.Para 1 0 8 0 (words 0 (codes "a") ∷ node kind.Bold 2 1 8 3 (words 4 (codes "b") ∷ []) ∷ []))
+bold_text = (tt, (tt, (tt, tt)))
+
+abbrev break_at : ℕ → Tree
+break_at start = tree (record (label_at kind.Sep 0 start (start + 1) 0) { own = 10 ∷ [] }) none
+
+abbrev sublist : Tree
+sublist = node kind.Ul 3 4 8 0 (node kind.Li 4 4 8 3 (words 7 (codes "b") ∷ []) ∷ [])
+
+-- of what comes after the inside of this item only the list shows something, and it has a number
+list_inside : IsNumberedBehind (node kind.Li 2 0 8 2 (words 2 (codes "a") ∷ break_at 3 ∷ sublist ∷ []))
+list_inside = ((λ e. absurd (cc), (λ e. λ z. absurd (cc), tt)), (tt, (tt, (((λ e. λ z. absurd (cc), tt), (((tt), (tt, tt)), tt)), tt))))
+
+-- a text after the list is one
+text_behind : IsNumberedBehind (node kind.Li 2 0 9 2 (words 2 (codes "a") ∷ sublist ∷ words 8 (codes "c") ∷ [])) → ⊥
+text_behind h = h.0.1.0 refl refl

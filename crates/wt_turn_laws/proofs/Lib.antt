@@ -4,6 +4,8 @@ pub mod Bytes
 mod Cases
 pub mod Choosing
 pub mod Fitting
+pub mod Going
 pub mod Standing
+pub mod Touching
 pub mod Unedited
 pub mod Unmoved

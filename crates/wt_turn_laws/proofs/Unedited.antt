@@ -3,6 +3,8 @@ use Rattle.std.proofs.Common.{◌≡◌, ◌≢◌, ◌≤◌, ◌<◌, ◌⊎�
 use Rattle.std.specs.Prelude.{◌==◌, ◌&&◌, ◌||◌, ⊤, not, if◌then◌else◌, Option}
 use Rattle.std.specs.Str.{bytes_eq}
 use Rattle.std.proofs.lemmas.Slice.Eq.{bytes_eq-Decides}
+use Rattle.wt_tree.specs.declared.kind.Kind.{Kind}
+use Rattle.wt_tree.specs.declared.kind.Kind.TheVariants as kind
 use Rattle.wt_tree.specs.Kinds.{is_section, showing, writing}
 use Rattle.wt_tree.specs.Opened.{all_opened_before, opened}
 use Rattle.wt_tree.specs.Tiling.{is_group}
@@ -23,14 +25,13 @@ use Rattle.wt_difference.specs.Difference.{is_partner, same_inside, stays_in}
 use Rattle.wt_difference.specs.Insides.{before_blocks, behind_inside, ends_inside, from_blocks, has_inside, held, is_block_part, is_separator}
 use Rattle.wt_difference.specs.Tokens.{Token, all_tokens, characters, closes, opens, same_label, same_token, same_tokens, tokens}
 use Rattle.wt_difference.specs.Unedited.{AreUnedited, GroupOr, IsUnedited, SameLabel}
-use Rattle.wt_difference.proofs.Remarks.{block_no_group}
 use Rattle.wt_places.specs.declared.reached.Reached.{Reached}
 use Rattle.wt_places.specs.declared.slot.Slot.{Slot}
 use Rattle.wt_places.specs.Places.{along, arrived, before_number, begun, behind_number, gap, gap_before, gap_end, if_in_turn, inside_stop, node_or, partner, places_in, rest_behind, some_count}
 use Rattle.wt_places.specs.Turns.{is_in_turn, may_stay}
 use Rattle.wt_places.proofs.Walking.{places_out}
 use Rattle.wt_turn_laws.specs.Choices.{IsRising, those_that_may_stay}
-use Rattle.wt_turn_laws.specs.Untouched.{AllAreNumberedBehind, AreNumbered, IsNumberedBehind}
+use Rattle.wt_turn_laws.specs.Untouched.{AllAreNumberedBehind, AreNumbered, IsNumberedBehind, is_looked_into}
 use Rattle.wt_turn_laws.proofs.Choosing.{all_stay}
 use Rattle.wt_turn_laws.proofs.Standing.{AllStand, Rising, Stands}
 
@@ -47,6 +48,15 @@ and_right false b e = absurd (true≢false (sym e))
 pub and_both : (a b : Bool) → a ≡ true → b ≡ true → (a && b) ≡ true
 and_both true b e f = f
 and_both false b e f = absurd (true≢false (sym e))
+
+-- ---- kinds
+
+looked_no_group : (k : Kind) → is_looked_into k ≡ true → is_group k ≡ false
+looked_no_group kind.Group e = absurd (cc)
+looked_no_group k e = refl
+
+pub looked_block : (k : Kind) → is_block_part k ≡ true → is_looked_into k ≡ true
+looked_block k e = ap (λ b. b || is_body k) e
 
 -- ---- tokens
 
@@ -175,12 +185,12 @@ rising_tail : (k : ℕ) (t : Tree) (ts : Trees) → Rising k (more t ts) → Ris
 rising_tail k t ts (inl h) = h.1
 rising_tail k t ts (inr h) = let lt = h.0 in rising_less k (label t).id ts (omega (arith, lt)) h.1
 
--- each of the page's nodes that has a number and is no group has no place, in the edited one beside it
+-- each of the page's nodes that has a number and is looked into has no place, in the edited one beside it
 abbrev Still : Page → Trees → Trees → Type 0
 Still page none none = ⊤
 Still page none (more u us) = ⊥
 Still page (more t ts) none = ⊥
-Still page (more t ts) (more u us) = ((label t).id ≢ 0 → is_group (label t).kind ≡ false → places_in page t u ≡ []) × Still page ts us
+Still page (more t ts) (more u us) = ((label t).id ≢ 0 → is_looked_into (label t).kind ≡ true → places_in page t u ≡ []) × Still page ts us
 
 -- what is said of nodes that come after the inside
 record Behind (page : Page) (holder : ℕ) (ts us : Trees) : Type 0 where
@@ -413,7 +423,7 @@ rising_behind k x ts z (inr h) = h.1
 none_by : (page : Page) (t : Tree) (k : ℕ) (r : Reached) (left : Trees) (x : Tree) (ts : Trees) (u : Tree) (us : Trees) → Stands page (label t).id x
     → Rising k (more x ts) → (is_compared (showing (label x).kind) ≡ true → (label x).id ≢ 0) → IsUnedited x u → Leads k left (more x ts) → Quiet k r
     → (s : Bool) → may_stay page (label t).id u ≡ s → is_in_turn page (label t).id r.number u us ≡ may_stay page (label t).id u
-    → ((label x).id ≢ 0 → is_group (label x).kind ≡ false → places_in page x u ≡ [])
+    → ((label x).id ≢ 0 → is_looked_into (label x).kind ≡ true → places_in page x u ≡ [])
     → ((i : ℕ) (p : Reached) (rest : Trees) → Rising i ts → Leads i rest ts → Quiet i p → along page t false p rest us ≡ [])
     → along page t false r left (more u us) ≡ []
 none_by page t k r left x ts u us a rise n e leads q true m turn inner next =
@@ -428,7 +438,7 @@ none_by page t k r left x ts u us a rise n e leads q true m turn inner next =
     (both_false r.came (some_count (before_number (label u).id left)) q.came (silent_before k (label u).id left x ts leads same)))
     (none_within (is_block_part (label u).kind) (places_in page (partner page u) u)
     (λ y. ap (λ (p : Tree). places_in page p u) d.partner
-    ∙ inner (λ z. d.numbered (sym same ∙ z)) (ap is_group (kind_same x u e) ∙ block_no_group (label u).kind y))))
+    ∙ inner (λ z. d.numbered (sym same ∙ z)) (ap is_looked_into (kind_same x u e) ∙ looked_block (label u).kind y))))
     (ap (λ (rest : Trees). along page t false (arrived true (partner page u) r u) rest us) (follows_behind k (label u).id left x ts leads same (omega (arith, greater, here)))
     ∙ next (label x).id (arrived true (partner page u) r u) ts (rising_behind k x ts (λ z. d.numbered (sym same ∙ z)) rise) (leads_itself (label x).id ts)
     (record { came = refl; number = omega (arith, here) }))
@@ -457,12 +467,12 @@ none_along page t k r left (more x ts) (more u us) s a rise n e leads q =
 
 mutual
   -- a node that is the page's own has no place
-  pub none_in : (page : Page) (t u : Tree) → AllStand page (label t).id (children t) → Rising 0 (children t) → IsNumberedBehind t → is_group (label t).kind ≡ false
+  pub none_in : (page : Page) (t u : Tree) → AllStand page (label t).id (children t) → Rising 0 (children t) → IsNumberedBehind t → is_looked_into (label t).kind ≡ true
       → IsUnedited t u → have_frame (children u) ≡ false → places_in page t u ≡ []
   none_in page (tree l ts) (tree m us) a rise n g e f =
       let b : AreNumbered (held (tree l ts)) × AllAreNumberedBehind ts =
-      subst (λ v. GroupOr v ⊤ (AreNumbered (held (tree l ts)) × AllAreNumberedBehind ts)) g n in
-      let k : AreUnedited ts us = subst (λ v. GroupOr v (any_shows_block ts ≡ any_shows_block us) (AreUnedited ts us)) g e.1 in
+      subst (λ v. GroupOr v (AreNumbered (held (tree l ts)) × AllAreNumberedBehind ts) ⊤) g n in
+      let k : AreUnedited ts us = subst (λ v. GroupOr v (any_shows_block ts ≡ any_shows_block us) (AreUnedited ts us)) (looked_no_group l.kind g) e.1 in
       let h = held_by page l.id (has_inside l.kind) (has_inside m.kind) ts us (ap has_inside e.0.kind)
       (record { still = all_still page l.id ts us a b.1 k f; stand = a; rise = rise; unedited = k; unframed = f }) in
       places_out page (tree l ts) (tree m us)

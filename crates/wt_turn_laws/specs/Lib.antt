@@ -1,3 +1,4 @@
+pub mod Changed
 pub mod Choices
 pub mod Sent
 pub mod Untouched

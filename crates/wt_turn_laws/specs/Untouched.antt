@@ -1,13 +1,14 @@
 -- What an edit without marks leaves alone: the nodes of the page of which none of its places has a byte.
-use Rattle.std.specs.Prelude.{◌≡◌, ◌≢◌, ◌≤◌, ◌⊎◌, ◌++◌, ⊤, ℕ, true, Some, List, [], ◌∷◌, slice_get}
+use Rattle.std.specs.Prelude.{◌≡◌, ◌≢◌, ◌≤◌, ◌⊎◌, ◌++◌, ◌||◌, ⊤, ℕ, Bool, true, Some, List, [], ◌∷◌, slice_get}
 use Rattle.std.specs.List.{AllByRecursion}
+use Rattle.wt_tree.specs.declared.kind.Kind.{Kind}
 use Rattle.wt_tree.specs.declared.kind.Kind.TheVariants as kind
 use Rattle.wt_tree.specs.Kinds.{is_leaf, showing}
-use Rattle.wt_tree.specs.Tiling.{InPreorder, Tiled, end_of, ids_of_all, is_group}
+use Rattle.wt_tree.specs.Tiling.{InPreorder, Tiled, end_of, ids_of_all}
 use Rattle.wt_tree.specs.Tree.{Tree, tree, Trees, none, more, label, listed}
-use Rattle.wt_checks.specs.Places.{Page}
+use Rattle.wt_checks.specs.Places.{Page, is_body}
 use Rattle.wt_checks.specs.Unmarked.{is_compared}
-use Rattle.wt_difference.specs.Insides.{behind_inside, held}
+use Rattle.wt_difference.specs.Insides.{behind_inside, held, is_block_part}
 use Rattle.wt_difference.specs.Unedited.{GroupOr}
 use Rattle.wt_places.specs.declared.slot.Slot.{Slot}
 use Rattle.wt_places.specs.Places.{gap_end, inside_end, inside_stop, partner, start_of}
@@ -67,11 +68,15 @@ abbrev pub AreNumbered : Trees → Type 0
 AreNumbered none = ⊤
 AreNumbered (more t ts) = (is_compared (showing (label t).kind) ≡ true → (label t).id ≢ 0) × AreNumbered ts
 
--- In the node and in all that it holds, outside groups, no text comes after an inside: what comes there and shows something
--- has a number.
+-- the body, and the blocks, lists, items, rows and cells: the difference looks at what these hold, one by one
+abbrev pub is_looked_into : Kind → Bool
+is_looked_into k = is_block_part k || is_body k
+
+-- In the node, and in the blocks and parts of blocks that it holds, no text comes after the inside: what comes there and shows
+-- something has a number.
 abbrev mutual
   pub IsNumberedBehind : Tree → Type 0
-  IsNumberedBehind (tree l ts) = GroupOr (is_group l.kind) ⊤ (AreNumbered (held (tree l ts)) × AllAreNumberedBehind ts)
+  IsNumberedBehind (tree l ts) = GroupOr (is_looked_into l.kind) (AreNumbered (held (tree l ts)) × AllAreNumberedBehind ts) ⊤
 
   pub AllAreNumberedBehind : Trees → Type 0
   AllAreNumberedBehind none = ⊤
