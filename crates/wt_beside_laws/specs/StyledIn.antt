@@ -21,7 +21,7 @@ use Rattle.wt_text_edit_laws.specs.TextBlocks.{TextBlock, a_paragraph, a_heading
 use Rattle.wt_beside_laws.specs.Calm.{AreCalm}
 use Rattle.wt_beside_laws.specs.Content.{AreKept}
 use Rattle.wt_beside_laws.specs.FlatBlocks.{lines_in, signs_in as signs_of, IsFlatEditOf}
-use Rattle.wt_beside_laws.specs.InHeadings.{AreOnOneLine, KeepsLevel}
+use Rattle.wt_beside_laws.specs.InHeadings.{AreOnOneLine}
 use Rattle.wt_beside_laws.specs.PageBlocks.{AreShut}
 use Rattle.wt_beside_laws.specs.PageSigns.{AreFlatLines}
 use Rattle.wt_beside_laws.specs.SentStyled.{sent_content, AllNest}
@@ -45,10 +45,10 @@ pub record IsStyledIn (k : TextBlock) (q : List ℕ) : Type 0 where
 
 -- ---- what is written for it
 
--- in a heading it is on one line, and of the level of its delimiters
+-- in a heading it is on one line
 abbrev pub StaysIn : TextBlock → Setting → StyledContent → Type 0
 StaysIn a_paragraph s t = Unit {0}
-StaysIn (a_heading h) s t = (s.place ≡ place.Heading) × AreOnOneLine (signs_in t) × KeepsLevel h (signs_in t)
+StaysIn (a_heading h) s t = (s.place ≡ place.Heading) × AreOnOneLine (signs_in t)
 
 -- nodes that it had, in their order, with any texts and styles
 pub record IsStyledFor (k : TextBlock) (q : List ℕ) (s : Setting) (t : StyledContent) : Type 0 where
@@ -61,14 +61,9 @@ pub record IsStyledFor (k : TextBlock) (q : List ℕ) (s : Setting) (t : StyledC
 abbrev pub sent_for : Tree → List Piece → StyledContent
 sent_for block ps = sent_content (page_of same_node block) (sent_pieces ps)
 
-abbrev pub KeepsLevelIn : TextBlock → StyledContent → Type 0
-KeepsLevelIn a_paragraph t = Unit {0}
-KeepsLevelIn (a_heading h) t = KeepsLevel h (signs_in t)
-
 -- As for a flat block, where bold and italic nodes of the page may stay, too. The styles nest, and no bare URL is directly before a delimiter in the
 -- page.
 pub record IsStyledEditOf (k : TextBlock) (block : Tree) (ps : List Piece) : Type 0 where
   pub edit : IsFlatEditOf k block ps
   pub nest : AllNest (page_of same_node block) false false (sent_pieces ps)
   pub apart : AreUrlsApart (things (signs_in (sent_for block ps)))
-  pub level : KeepsLevelIn k (sent_for block ps)

@@ -27,9 +27,9 @@ use Rattle.wt_tiles.specs.Tiles.{tiles}
 use Rattle.wt_text_edit_laws.specs.TypedHeadings.{Sides, AreSides, IsOfLevel, BeginsWithout, EndsWithout, is_equals_sign}
 use Rattle.wt_text_edit_laws.proofs.Headings.HeadingRows.{apart_level}
 use Rattle.wt_text_edit_laws.proofs.Headings.TypedTexts.{no_equals, begins_other, begins_still, ends_behind as behind_other}
-use Rattle.wt_beside_laws.specs.Content.{guard_items, letter_items, content_items}
-use Rattle.wt_beside_laws.specs.InHeadings.{IsHeadingContent}
-use Rattle.wt_beside_laws.specs.Lines.{line_items}
+use Rattle.wt_beside_laws.specs.Content.{AreKept, guard_items, letter_items, content_items}
+use Rattle.wt_beside_laws.specs.InHeadings.{AreOnOneLine, IsHeadingContent}
+use Rattle.wt_beside_laws.specs.Lines.{AreCharacters, line_items}
 use Rattle.wt_beside_laws.specs.Nodes.{IsNode, AreNodes}
 use Rattle.wt_beside_laws.specs.PageSigns.{form_role, atom_role, tile_signs, signs_of_tiles, line_signs, signs_of_lines, IsFlatForm, IsFlatTile, AreFlatTiles, AreFlatLines}
 use Rattle.wt_beside_laws.specs.Stood.{things}
@@ -43,7 +43,7 @@ use Rattle.wt_beside_laws.proofs.NodeEnds.{EndInSigns, nodes_end, unequal_by}
 -- ---- what a bare URL's role tells of its last item
 
 -- where it says that it doesn't end with a `=`, it doesn't
-abbrev BareTold : Role → List ℕ → Type 0
+abbrev pub BareTold : Role → List ℕ → Type 0
 BareTold Link ss = Unit {0}
 BareTold External ss = Unit {0}
 BareTold (Bare true) ss = Unit {0}
@@ -55,10 +55,10 @@ BareTold (Group g) ss = Unit {0}
 BareTold Function ss = Unit {0}
 BareTold Node ss = Unit {0}
 
-abbrev Told : Thing → Type 0
+abbrev pub Told : Thing → Type 0
 Told t = BareTold t.role (map sign (page_items t.source))
 
-abbrev AllTold : List ContentSign → Type 0
+abbrev pub AllTold : List ContentSign → Type 0
 AllTold [] = Unit {0}
 AllTold (letter c ∷ after) = AllTold after
 AllTold (thing t ∷ after) = Told t × AllTold after
@@ -177,16 +177,20 @@ each_told [] h = tt
 each_told (letter c ∷ after) h = each_told after h
 each_told (thing t ∷ after) h = (h.0, each_told after h.1)
 
-told_each : (signs : List ContentSign) → Each Told (things signs) → AllTold signs
+pub told_each : (signs : List ContentSign) → Each Told (things signs) → AllTold signs
 told_each [] h = tt
 told_each (letter c ∷ after) h = told_each after h
 told_each (thing t ∷ after) h = (h.0, told_each after h.1)
 
-content_told : (at : ℕ) (ls : List (List Item)) (signs : List ContentSign) → AreFlatLines ls → AreAmong (things signs) (things (signs_of_lines at ls)) → AllTold signs
-content_told at ls signs f e =
+pub nodes_told : (at : ℕ) (ls : List (List Item)) → AreFlatLines ls → Each Told (things (signs_of_lines at ls))
+nodes_told at ls f =
     let olds : List ContentSign = signs_of_lines at ls in
     let seen : EndInSigns olds = nodes_end olds (some_nodes ls at olds f (same_among (things olds) (things olds) refl)) in
-    told_each signs (each_among Told (things signs) (things olds) e (each_told olds (lines_told at ls f seen)))
+    each_told olds (lines_told at ls f seen)
+
+content_told : (at : ℕ) (ls : List (List Item)) (signs : List ContentSign) → AreFlatLines ls → AreAmong (things signs) (things (signs_of_lines at ls)) → AllTold signs
+content_told at ls signs f e =
+    told_each signs (each_among Told (things signs) (things (signs_of_lines at ls)) e (nodes_told at ls f))
 
 -- ---- the last item
 
@@ -245,18 +249,23 @@ all_apart s (next ∷ after) w n h = content_apart s [] next after w n h
 
 -- ---- the level
 
-pub keeps_level : (at : ℕ) (ls : List (List Item)) (s : Setting) (signs : List ContentSign) (sides : Sides) → AreFlatLines ls → IsHeadingContent s signs → AreSides sides
-    → AreAmong (things signs) (things (signs_of_lines at ls)) → IsOfLevel sides (page_items (spelled s signs))
-keeps_level at ls s signs sides f h a e =
+-- where each bare URL says so of its last item
+pub level_told : (s : Setting) (signs : List ContentSign) (sides : Sides) → s.within ≡ false → AreKept signs → AreCharacters signs → AreNodes signs → AreOnOneLine signs
+    → AllTold signs → AreSides sides → IsOfLevel sides (page_items (spelled s signs))
+level_told s signs sides w k c n o h a =
     let own : List Item = page_items (spelled s signs) in
-    let is : own ≡ content_items s [] signs = content_alone s signs h.flat.kept in
+    let is : own ≡ content_items s [] signs = content_alone s signs k in
     let ss : List ℕ = map sign own in
     let begins : BeginsWithout is_equals_sign ss =
-    subst (λ (xs : List Item). BeginsWithout is_equals_sign (map sign xs)) (sym (is ∙ sym (same_items s [] signs h.one_line)))
-    (begins_unequal (line_items s [] signs) (line_opens s [] signs h.flat.of_block refl refl h.flat.characters h.flat.nodes)) in
-    let last : EndsWithout is_equals_sign ss =
-    subst UnequalLast (sym is) (all_apart s signs h.flat.of_block h.flat.nodes (content_told at ls signs f e)) in
+    subst (λ (xs : List Item). BeginsWithout is_equals_sign (map sign xs)) (sym (is ∙ sym (same_items s [] signs o)))
+    (begins_unequal (line_items s [] signs) (line_opens s [] signs w refl refl c n)) in
+    let last : EndsWithout is_equals_sign ss = subst UnequalLast (sym is) (all_apart s signs w n h) in
     apart_level sides own a (record {
       first = begins_other sides.lead (ss ++ sides.trail) a.lead (begins_still ss sides.trail begins);
       last = behind_other sides.lead (ss ++ sides.trail) (unequal_end ss sides.trail a.trail (inr last));
     })
+
+pub keeps_level : (at : ℕ) (ls : List (List Item)) (s : Setting) (signs : List ContentSign) (sides : Sides) → AreFlatLines ls → IsHeadingContent s signs → AreSides sides
+    → AreAmong (things signs) (things (signs_of_lines at ls)) → IsOfLevel sides (page_items (spelled s signs))
+keeps_level at ls s signs sides f h a e =
+    level_told s signs sides h.flat.of_block h.flat.kept h.flat.characters h.flat.nodes h.one_line (content_told at ls signs f e) a

@@ -70,7 +70,7 @@ none_in (tree l ts) h = h.1
 
 stays_in : (k : TextBlock) (block : Tree) (ps : List Piece) → IsStyledEditOf k block ps → StaysIn k (setting k block) (sent_for block ps)
 stays_in a_paragraph block ps e = tt
-stays_in (a_heading w) block ps e = (refl, sent_on_one_line (known block) ps e.edit.stay e.edit.are e.edit.fit e.nest, e.level)
+stays_in (a_heading w) block ps e = (refl, sent_on_one_line (known block) ps e.edit.stay e.edit.are e.edit.fit e.nest)
 
 sent_well : (k : TextBlock) (q : List ℕ) (block : Tree) (ps : List Piece) → IsOwn block → IsStyledIn k q → IsIn k q block → IsStyledEditOf k block ps
     → IsSentWell k q block ps

@@ -1,6 +1,7 @@
 -- A content with styles that is written for a paragraph or a heading may stand in the place of its old content, and is such a block again.
-use Rattle.std.proofs.Common.{◌≡◌, ℕ, Bool, true, false, List, [], ◌∷◌, ◌++◌, refl, sym, ap, ◌∙◌, subst, inl, inr}
-use Rattle.wt_span.specs.Items.{Item}
+use Rattle.std.proofs.Common.{◌≡◌, ℕ, Bool, true, false, List, [], ◌∷◌, ◌++◌, map, refl, sym, ap, ◌∙◌, subst, inl, inr}
+use Rattle.wt_span.specs.Items.{Item, sign as sign_of}
+use Rattle.wt_guards.specs.declared.role.Role.{Role}
 use Rattle.wt_guards.specs.Content.{ContentSign, Thing, letter, thing}
 use Rattle.wt_guards.specs.Guards.{Setting, nowiki, spelled}
 use Rattle.wt_expand.specs.PageItems.{page_items}
@@ -32,6 +33,7 @@ use Rattle.wt_beside_laws.proofs.FlatAgain.{EachSource, IsShut, put_shut, from_s
 use Rattle.wt_beside_laws.proofs.LineItems.{content_lines_are}
 use Rattle.wt_beside_laws.proofs.Made.Closes.{guard_closes, OpenFor, content_closes, block_open}
 use Rattle.wt_beside_laws.proofs.Made.Items.{AreHeld}
+use Rattle.wt_beside_laws.proofs.Made.Levels.{BareTold, Told, AllTold, told_each, nodes_told, level_told}
 use Rattle.wt_beside_laws.proofs.Made.NodesSealed.{nodes_sealed}
 use Rattle.wt_beside_laws.proofs.Made.OldBlocks.{lines_are}
 use Rattle.wt_beside_laws.proofs.Made.OwnPages.{own_frame}
@@ -39,7 +41,7 @@ use Rattle.wt_beside_laws.proofs.Made.Written.{FitsIn, lines_by, before_any, unc
 use Rattle.wt_beside_laws.proofs.Styled.HeldStyles.{styled_have_items}
 use Rattle.wt_beside_laws.proofs.Styled.OldStyled.{styled_in_content}
 use Rattle.wt_beside_laws.proofs.Styled.StyledAgain.{quotes_utf8, again_each, again_lines, again_kept, again_shut}
-use Rattle.wt_beside_laws.proofs.Styled.StyledHeadings.{styled_inside, styled_level, inside_parts}
+use Rattle.wt_beside_laws.proofs.Styled.StyledHeadings.{styled_inside, inside_parts}
 use Rattle.wt_beside_laws.proofs.Styled.StyledLines.{mark_items}
 use Rattle.wt_beside_laws.proofs.Styled.StyledNodes.{each_some}
 use Rattle.wt_beside_laws.proofs.Styled.StyledParagraphs.{lines_joined, styled_text}
@@ -48,7 +50,7 @@ use Rattle.wt_beside_laws.proofs.Styled.StyledParagraphs.{lines_joined, styled_t
 
 fits_of : (k : TextBlock) (s : Setting) (t : StyledContent) → StaysIn k s t → FitsIn k s (signs_in t)
 fits_of a_paragraph s t h = tt
-fits_of (a_heading w) s t h = (h.0, h.1)
+fits_of (a_heading w) s t h = h
 
 as_heading : (w : Sides) (s : Setting) (t : StyledContent) → IsStyledContent s t → StaysIn (a_heading w) s t → IsStyledHeading s t
 as_heading w s t c h = record { styled = c; of_heading = h.0; one_line = h.1 }
@@ -74,11 +76,25 @@ lines_of_text s t c = record {
   before_break = before_break s (signs_in t) c.kept;
 }
 
-content_so : (k : TextBlock) (s : Setting) (t : StyledContent) → HasFrame k → IsStyledContent s t → StaysIn k s t → IsContentOf k (spelled s (signs_in t))
-content_so a_paragraph s t f c h = lines_of_text s t c
-content_so (a_heading w) s t f c h =
-    let own : IsStyledHeading s t = as_heading w s t c h in
-    record { frame = f; inside = styled_inside s t own; of_level = styled_level s t w own f.sides h.2 }
+-- a delimiter and a nowiki are no URL
+put_told : (t : Thing) → IsPut t → Told t
+put_told t p = elim p [
+  | inl m ↦ subst (λ (r : Role). BareTold r (map sign_of (page_items t.source))) (sym m.1) tt
+  | inr w ↦ subst (λ (r : Role). BareTold r (map sign_of (page_items t.source))) (sym w.0) tt
+]
+
+content_so : (k : TextBlock) (q : List ℕ) (s : Setting) (t : StyledContent) → HasFrame k → IsStyledIn k q → IsStyledFor k q s t → IsContentOf k (spelled s (signs_in t))
+content_so a_paragraph q s t f h w = lines_of_text s t w.content
+content_so (a_heading g) q s t f h w =
+    let c : IsStyledContent s t = w.content in
+    let told : AllTold (signs_in t) =
+    told_each (signs_in t) (each_some Told put_told (things (signs_in t)) (things (signs_of (a_heading g) q)) w.nodes
+    (nodes_told (begins_at (a_heading g)) (lines_in (a_heading g) q) h.flat)) in
+    record {
+      frame = f;
+      inside = styled_inside s t (as_heading g s t c w.stays);
+      of_level = level_told s (signs_in t) g c.of_block c.kept c.characters c.nodes w.stays.1 told f.sides;
+    }
 
 -- ---- what holds of the sources of the page's nodes and of what is put holds of its sources
 
@@ -149,7 +165,7 @@ styled_again k q s t h w =
       utf8 = content_utf8 s signs c.characters calm;
       ended = ended_so k (spelled s signs) f b;
       unended = unended_so k (spelled s signs) f b;
-      is = content_so k s t f c w.stays;
+      is = content_so k q s t f h w;
       calls_nothing = calls_none k s signs f c.kept calm;
       of_page = subst (λ (ps : List Part). AllOfPage (held_by_all (forest (children ps)))) (sym parts) held.1;
       has_items = subst (λ (ps : List Part). AllHaveItems (forest (children ps))) (sym parts) held.0;
