@@ -7,4 +7,4 @@ pub mod OldFull
 pub mod NewPages
 pub mod FlatUnmarked
 pub mod FlatPagesAgain
-mod Cases
+pub mod Cases

@@ -9,3 +9,4 @@ pub mod Written
 pub mod Inline
 pub mod NewContents
 pub mod Making
+pub mod Cases

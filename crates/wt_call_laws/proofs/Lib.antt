@@ -6,3 +6,4 @@ pub mod Counting
 pub mod Late
 pub mod OwnHtml
 mod Cases
+pub mod Unedited

@@ -5,7 +5,8 @@ use Rattle.wt_tree.specs.declared.kind.Kind.TheVariants as kind
 use Rattle.wt_tree.specs.declared.row.Texts.TheVariants.{Bordered}
 use Rattle.wt_tree.specs.Leaves.{leaf_label, text_leaf, sep_leaf}
 use Rattle.wt_tree.specs.Tree.{Label, none}
-use Rattle.wt_typed_blocks.specs.Sent.{paragraph, stands, typed, Sents, none_sent, more_sent}
+use Rattle.wt_typed_blocks.specs.Edited.{gone, written, Edited, stays, edited, Edits, no_edits, more_edits}
+use Rattle.wt_typed_blocks.specs.Sent.{paragraph}
 use Rattle.wt_called_trees.specs.TreeFrames.{spot, kept, holder, TreeFrames, no_nodes, more_nodes}
 use Rattle.wt_called_edit_laws.specs.PathsTo.{paths_to}
 use Rattle.wt_called_edit_laws.specs.Sends.{AllSend}
@@ -25,17 +26,19 @@ a_label = leaf_label kind.Para None [] []
 abbrev two_nodes : TreeFrames
 two_nodes = more_nodes (spot 0) (more_nodes (kept (sep_leaf None (codes "\n"))) no_nodes)
 
-abbrev one_typed : Sents
-one_typed =
-    more_sent (typed paragraph a_label none a_label a_label (codes "b"))
-    (more_sent (stands (sep_leaf None (codes "\n")) (sep_leaf None (codes "\n"))) none_sent)
+-- one text in the place of another one
+abbrev one_edit : Edited
+one_edit = edited paragraph a_label a_label (gone (text_leaf None (codes "a")) ∷ written a_label (codes "b") ∷ [])
 
-sends_a_text : AllSend (λ n. Some (codes "b")) two_nodes one_typed
-sends_a_text = (refl, (tt, tt))
+abbrev one_edited : Edits
+one_edited = more_edits one_edit (more_edits (stays (sep_leaf None (codes "\n")) (sep_leaf None (codes "\n"))) no_edits)
 
--- no text was typed there, or another one
-sends_no_text : AllSend (λ n. None) two_nodes one_typed → ⊥
-sends_no_text h = h.0
+sends_an_edit : AllSend (λ n. Some one_edit) two_nodes one_edited
+sends_an_edit = (refl, (tt, tt))
+
+-- no content was edited there
+sends_no_edit : AllSend (λ n. None) two_nodes one_edited → ⊥
+sends_no_edit h = h.0
 
 -- ---- paths
 

@@ -1,4 +1,4 @@
--- What holds of an edit that types texts at the paths of a page's places: by what is sent the new page has these texts, and shows what was sent.
+-- What holds of an edit of contents at the paths of a page's places: by what is sent the new page has these contents, and shows what was sent.
 use Rattle.std.proofs.Common.{◌≡◌, inl, inr, ℕ, zero, suc, ◌-◌, Option, List, [], ◌∷◌, length, map, refl, sym, ap, ◌∙◌, subst}
 use Rattle.std.specs.List.{AllByRecursion}
 use Rattle.std.specs.Str.{IsUtf8}
@@ -17,39 +17,37 @@ use Rattle.wt_annotated.specs.Slices.{IsSlice}
 use Rattle.wt_row_laws.specs.Frames.{all_places, content}
 use Rattle.wt_moved_laws.specs.Placeless.{all_placeless}
 use Rattle.wt_moved_laws.proofs.Placeless.{all_shown_placeless}
-use Rattle.wt_typed_blocks.specs.Sent.{Sents, old_children, AreOutsideGroups as AreSentOutside, all_show}
-use Rattle.wt_typed_blocks.specs.Typed.{new_sources, StandAt, AreUntangled}
+use Rattle.wt_typed_blocks.specs.Edited.{Edited, Edits, page_nodes, AreOutside, edits_show}
+use Rattle.wt_typed_blocks.specs.EditedPage.{edited_sources, AreTaken, LieAt, AreApart}
 use Rattle.wt_visible.specs.Children.{shown_children, listed}
+use Rattle.wt_visible.specs.SameNodes.{same_node}
 use Rattle.wt_text_edit_laws.specs.BlockSpots.{BlockSpot, spots_source, AreContents}
 use Rattle.wt_text_edit_laws.specs.TextBlocks.{TextBlock, a_paragraph, a_heading, block_tree}
-use Rattle.wt_called_edit_laws.specs.AnyBlocks.{typed_by, with_texts, AllLead}
 use Rattle.wt_called_edit_laws.specs.CalledBlocks.{tree_by, counted}
-use Rattle.wt_called_edit_laws.specs.OwnTexts.{AreTypings}
-use Rattle.wt_called_edit_laws.proofs.Cells.PlacePaths.{by_tree}
-use Rattle.wt_called_edit_laws.proofs.Cells.PlaceTrees.{text_at}
+use Rattle.wt_called_edit_laws.specs.CalledTexts.{spots_tree}
+use Rattle.wt_called_edit_laws.specs.EditsAt.{AllStand, edited_by, with_contents, IsContentEdit}
 use Rattle.wt_called_edit_laws.proofs.Cells.SpotTrees.{counted_same}
 use Rattle.wt_called_edit_laws.specs.Retyped.{AreRetyped}
-use Rattle.wt_called_edit_laws.proofs.Parts.Retyped.{blocks_over, called_blocks, expanded_again}
+use Rattle.wt_called_edit_laws.proofs.Parts.Retyped.{called_blocks, expanded_again}
 use Rattle.wt_called_trees.specs.TreeFrames.{TreeFrames, all_filled, spots}
 use Rattle.wt_called_edit_laws.specs.CalledPages.{IsCalledPage}
 use Rattle.wt_called_edit_laws.proofs.CleanAgain.{outside_again}
 use Rattle.wt_called_edit_laws.proofs.GroupsAmong.{calls_same, own_among, retyped_self}
 use Rattle.wt_called_edit_laws.proofs.Untangled.{blocks_untangled}
 use Rattle.wt_called_edit_laws.specs.Nodes.{IsBlock, AreBlocks, block_at, NoneLeaves, AreHolders, NodesStay}
-use Rattle.wt_called_edit_laws.specs.PathsTo.{paths_to, AreTypedThere}
+use Rattle.wt_called_edit_laws.specs.PathsTo.{paths_to, AreEditedThere}
 use Rattle.wt_called_edit_laws.specs.Sends.{AllSend, MakesNodes}
-use Rattle.wt_called_edit_laws.specs.TreeEdits.{IsEditOf}
 use Rattle.wt_called_edit_laws.proofs.CutFrames.{nodes_stay}
 use Rattle.wt_called_edit_laws.proofs.HoldersSent.{blocks_free}
 use Rattle.wt_called_edit_laws.proofs.PathsSend.{paths_send}
-use Rattle.wt_called_edit_laws.proofs.TextsMake.{all_flat_same, texts_make}
+use Rattle.wt_called_edit_laws.proofs.TextsMake.{all_flat_same, contents_make}
 use Rattle.wt_called_edit_laws.proofs.TilesStand.{blocks_stand}
-use Rattle.wt_called_edit_laws.specs.CalledTexts.{spots_tree}
-use Rattle.wt_called_edit_laws.proofs.BlocksMade.{blocks_made}
-use Rattle.wt_called_edit_laws.proofs.CalledUtf8.{called_utf8, retyped, typed_again}
-use Rattle.wt_called_edit_laws.proofs.Leads.{all_lead, typed_there}
+use Rattle.wt_called_edit_laws.proofs.BlocksMade.{AreMadeSpots, all_made, blocks_made, all_taken, contents_retyped}
+use Rattle.wt_called_edit_laws.proofs.CalledUtf8.{called_utf8, retyped}
+use Rattle.wt_called_edit_laws.proofs.Leads.{all_stand, edit_at, edited_there}
 use Rattle.wt_called_edit_laws.proofs.NodeGaps.{AreThePage, filled_page, gaps_so, numbers_so}
 use Rattle.wt_called_edit_laws.proofs.PageBody.{IsBodyOf, page_body}
+use Rattle.wt_called_edit_laws.proofs.PagesSettled.{called_settled}
 use Rattle.wt_called_edit_laws.proofs.TextsUntangled.{edit_untangled}
 
 -- ---- each block is a paragraph or a heading
@@ -69,7 +67,7 @@ all_blocks ss (n ∷ ns) = (tree_is_block ss n, all_blocks ss ns)
 
 -- ---- the page's nodes
 
--- With any texts in the blocks the page is text, it is expanded, and its nodes are the same but for the blocks.
+-- With any contents in the blocks the page is text, it is expanded, and its nodes are the same but for the blocks.
 pub record IsFramedPage (pages : Pages) (ss : List BlockSpot) (behind : List ℕ) : Type 0 where
   pub nodes : TreeFrames
   pub in_order : spots nodes ≡ counted ss
@@ -103,7 +101,7 @@ framed_page pages ss behind h =
           (all_blocks rs (all_places f.frames));
     }
 
--- ---- its body, with any texts
+-- ---- its body, with any contents
 
 pub spots_utf8 : (pages : Pages) (ss : List BlockSpot) (behind : List ℕ) → IsCalledPage pages ss behind → IsUtf8 (spots_source ss behind)
 spots_utf8 pages ss behind h = called_utf8 ss behind h.outside.among.called
@@ -112,8 +110,8 @@ pub spots_body : (pages : Pages) (ss : List BlockSpot) (behind : List ℕ) → I
     → IsBodyOf (spots_source ss behind) (spots_tree pages ss behind)
 spots_body pages ss behind h = page_body pages (spots_source ss behind) (spots_utf8 pages ss behind h) h.unrefused
 
-text_blocks : (pages : Pages) (ss : List BlockSpot) (behind : List ℕ) → IsCalledPage pages ss behind → AreContents ss
-text_blocks pages ss behind h = called_blocks ss behind h.outside.among.called
+pub spots_contents : (pages : Pages) (ss : List BlockSpot) (behind : List ℕ) → IsCalledPage pages ss behind → AreContents ss
+spots_contents pages ss behind h = called_blocks ss behind h.outside.among.called
 
 -- its nodes have the page's source
 nodes_source : (pages : Pages) (ss rs : List BlockSpot) (behind : List ℕ) (f : IsFramedPage pages ss behind) → AreRetyped ss rs
@@ -123,7 +121,7 @@ nodes_source pages ss rs behind f t =
     ∙ all_flat_same (children (spots_tree pages rs behind))
     ∙ (spots_body pages rs behind (f.again rs t)).source
 
-are_the_page : (pages : Pages) (ss : List BlockSpot) (behind : List ℕ) (f : IsFramedPage pages ss behind) → AreThePage f.nodes ss behind
+pub are_the_page : (pages : Pages) (ss : List BlockSpot) (behind : List ℕ) (f : IsFramedPage pages ss behind) → AreThePage f.nodes ss behind
 are_the_page pages ss behind f = λ rs e b o.
     filled_page rs behind f.nodes f.inner_nodes (f.in_order ∙ sym (counted_same ss rs e))
     (nodes_source pages ss rs behind f (retyped ss rs e o))
@@ -133,68 +131,72 @@ are_the_page pages ss behind f = λ rs e b o.
 abbrev pub paths_of : {pages : Pages} {ss : List BlockSpot} {behind : List ℕ} → IsFramedPage pages ss behind → List (List ℕ)
 paths_of f = paths_to f.nodes
 
-pub spots_lead : (pages : Pages) (ss : List BlockSpot) (behind : List ℕ) (f : IsFramedPage pages ss behind) → IsCalledPage pages ss behind
-    → AllLead ss (paths_of f) (spots_tree pages ss behind)
-spots_lead pages ss behind f h =
+pub spots_stand : (pages : Pages) (ss : List BlockSpot) (behind : List ℕ) (f : IsFramedPage pages ss behind) → IsCalledPage pages ss behind
+    → AllStand ss (paths_of f) (spots_tree pages ss behind)
+spots_stand pages ss behind f h =
     let body = spots_body pages ss behind h in
-    all_lead ss content f.nodes (spots_tree pages ss behind) f.holders f.in_order body.kind body.numbered (f.stay ss (retyped_self ss))
+    all_stand ss content f.nodes (spots_tree pages ss behind) f.holders f.in_order (spots_contents pages ss behind h) body.kind
+    (called_settled pages (spots_source ss behind)) (f.stay ss (retyped_self ss))
 
 -- ---- the edit
 
--- the blocks with the texts that it types
-abbrev pub new_spots : {pages : Pages} {ss : List BlockSpot} {behind : List ℕ} → IsFramedPage pages ss behind → Sents → List BlockSpot
-new_spots {ss = ss} f es = with_texts ss (map (typed_by es) (paths_of f))
+-- the blocks with the contents that were edited
+abbrev pub new_spots : {pages : Pages} {ss : List BlockSpot} {behind : List ℕ} → IsFramedPage pages ss behind → Edits → List BlockSpot
+new_spots {ss = ss} f es = with_contents ss (map (edited_by es) (paths_of f))
 
 -- What holds of what is sent.
-pub record IsMade (pages : Pages) (ss : List BlockSpot) (behind : List ℕ) (f : IsFramedPage pages ss behind) (es : Sents) : Type 0 where
+pub record AreWellSent (pages : Pages) (ss : List BlockSpot) (behind : List ℕ) (f : IsFramedPage pages ss behind) (es : Edits) : Type 0 where
+  pub made : AreMadeSpots ss (map (edited_by es) (paths_of f))
   pub retyped : AreRetyped ss (new_spots f es)
-  pub sends : AllSend (text_at (map (typed_by es) (paths_of f))) f.nodes es
-  pub old : all_placeless (old_children es) ≡ all_filled (block_at (tree_by ss)) f.nodes
-  pub outside : AreSentOutside es
-  pub stand : StandAt 0 es
-  pub untangled : AreUntangled (expanded_page pages (spots_source ss behind)) (spots_source ss behind) es
-  pub new : new_sources es ≡ spots_source (new_spots f es) behind
-  pub shows : shown_children (spots_tree pages (new_spots f es) behind) ≡ listed (all_show es)
+  pub sends : AllSend (edit_at (map (edited_by es) (paths_of f))) f.nodes es
+  pub old : all_placeless (page_nodes es) ≡ all_filled (block_at (tree_by ss)) f.nodes
+  pub outside : AreOutside es
+  pub taken : AreTaken same_node es
+  pub lie : LieAt 0 es
+  pub apart : AreApart (expanded_page pages (spots_source ss behind)) (spots_source ss behind) es
+  pub new : edited_sources same_node es ≡ spots_source (new_spots f es) behind
+  pub shows : shown_children (spots_tree pages (new_spots f es) behind) ≡ listed (edits_show es)
 
 shown_so : (t : Tree) → shown_children t ≡ listed (plains_before (children t) ended)
 shown_so (tree l ts) = refl
 
-pub edit_made : (pages : Pages) (ss : List BlockSpot) (behind : List ℕ) (f : IsFramedPage pages ss behind) (es : Sents) → IsCalledPage pages ss behind
-    → IsEditOf (spots_tree pages ss behind) (paths_of f) es → IsMade pages ss behind f es
-edit_made pages ss behind f es h e =
+pub well_sent : (pages : Pages) (ss : List BlockSpot) (behind : List ℕ) (f : IsFramedPage pages ss behind) (es : Edits) → IsCalledPage pages ss behind
+    → IsContentEdit (spots_tree pages ss behind) ss (paths_of f) es → AreWellSent pages ss behind f es
+well_sent pages ss behind f es h e =
     let page : List ℕ = spots_source ss behind in
     let t : Tree = spots_tree pages ss behind in
-    let os : List (Option (List ℕ)) = map (typed_by es) (paths_of f) in
+    let os : List (Option Edited) = map (edited_by es) (paths_of f) in
     let rs : List BlockSpot = new_spots f es in
     let body = spots_body pages ss behind h in
-    let lead = spots_lead pages ss behind f h in
-    let blocks : AreContents ss = text_blocks pages ss behind h in
-    let typings : AreTypings ss os = by_tree ss (paths_of f) es t (paths_of f) lead e.old e.types e.take in
-    let again : AreRetyped ss rs = typed_again ss os blocks typings in
-    let old : all_placeless (old_children es) ≡ all_filled (block_at (tree_by ss)) f.nodes = ap all_placeless e.old ∙ f.stay ss (retyped_self ss) in
-    let sends : AllSend (text_at os) f.nodes es =
-    paths_send f.nodes (text_at os) (block_at (tree_by ss)) es old e.types
-    (subst (λ (ns : List ℕ). AreTypedThere (text_at os) es ns (paths_of f)) (sym f.in_order) (typed_there ss (paths_of f) es t lead)) in
-    let free = blocks_free f.nodes (text_at os) (block_at (tree_by ss)) es f.holders sends old in
-    let stand : StandAt 0 es =
+    let stand : AllStand ss (paths_of f) t = spots_stand pages ss behind f h in
+    let contents : AreContents ss = spots_contents pages ss behind h in
+    let spots_made : AreMadeSpots ss os = all_made ss (paths_of f) t es contents stand e.old e.fit in
+    let again : AreRetyped ss rs = contents_retyped ss os spots_made in
+    let old : all_placeless (page_nodes es) ≡ all_filled (block_at (tree_by ss)) f.nodes = ap all_placeless e.old ∙ f.stay ss (retyped_self ss) in
+    let sends : AllSend (edit_at os) f.nodes es =
+    paths_send f.nodes (edit_at os) (block_at (tree_by ss)) es old e.edits
+    (subst (λ (ns : List ℕ). AreEditedThere (edit_at os) es ns (paths_of f)) (sym f.in_order) (edited_there ss (paths_of f) es t stand)) in
+    let free = blocks_free f.nodes (edit_at os) (block_at (tree_by ss)) es f.holders sends old in
+    let lie : LieAt 0 es =
     blocks_stand page 0 (length page - 0) es free.0 (subst (λ (us : Trees). TiledFrom us 0 (length page - 0)) (sym e.old) body.tiled)
     (subst (λ (us : Trees). AllByRecursion (IsSlice page) (reached_in_all us)) (sym e.old) body.slices) in
-    let made : MakesNodes es (all_filled (block_at (tree_by rs)) f.nodes) =
-    texts_make f.nodes (text_at os) (block_at (tree_by ss)) (block_at (tree_by rs)) es f.inner_nodes
-    (blocks_made ss os blocks typings) sends old in
+    let nodes_made : MakesNodes es (all_filled (block_at (tree_by rs)) f.nodes) =
+    contents_make f.nodes (edit_at os) (block_at (tree_by ss)) (block_at (tree_by rs)) es f.inner_nodes (blocks_made ss os spots_made) sends old in
     record {
+      made = spots_made;
       retyped = again;
       sends = sends;
       old = old;
       outside = free.1;
-      stand = stand;
-      untangled =
-          edit_untangled (expanded_page pages page) page (text_at os) ss f.nodes es f.inner_nodes
-          (gaps_so ss behind f.nodes f.in_order blocks (are_the_page pages ss behind f)) (numbers_so ss f.nodes f.in_order)
-          (blocks_untangled pages ss behind h.outside.among.called) sends old stand;
-      new = made.sources ∙ nodes_source pages ss rs behind f again;
+      taken = all_taken ss os f.nodes es spots_made sends;
+      lie = lie;
+      apart =
+          edit_untangled (expanded_page pages page) page (edit_at os) ss f.nodes es f.inner_nodes
+          (gaps_so ss behind f.nodes f.in_order contents (are_the_page pages ss behind f)) (numbers_so ss f.nodes f.in_order) contents
+          (blocks_untangled pages ss behind h.outside.among.called) sends old lie;
+      new = nodes_made.sources ∙ nodes_source pages ss rs behind f again;
       shows =
           let us : Trees = children (spots_tree pages rs behind) in
           shown_so (spots_tree pages rs behind)
-          ∙ ap listed (sym (all_shown_placeless us ended) ∙ ap (λ vs. plains_before vs ended) (f.stay rs again) ∙ sym (made.show ended));
+          ∙ ap listed (sym (all_shown_placeless us ended) ∙ ap (λ vs. plains_before vs ended) (f.stay rs again) ∙ sym (nodes_made.show ended));
     }

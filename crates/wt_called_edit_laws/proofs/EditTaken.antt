@@ -25,94 +25,94 @@ use Rattle.wt_commands.specs.declared.refusal.Refusal.TheVariants.{TooLong}
 use Rattle.wt_commands.specs.Answers.{Answer, done, refused, text_answer, title_answer, expanded_by, unspelled_by, unspelled_answer, new_by, new_expanded, new_answer, edit_by, edit_from, edit_to, IsText}
 use Rattle.wt_commands.proofs.SectionEdits.{page_bare}
 use Rattle.wt_commands.specs.UnmarkedEdits.{EditIsDone, DoneByEdit}
-use Rattle.wt_typed_blocks.specs.Sent.{Sents, old_children, all_show, old_body}
-use Rattle.wt_typed_blocks.specs.Typed.{new_sources}
-use Rattle.wt_typed_blocks.specs.Unmarked.{AreToldApart}
-use Rattle.wt_typed_blocks.proofs.SentSections.{answer_in_sections}
-use Rattle.wt_typed_blocks.proofs.SentShows.{page_shows}
-use Rattle.wt_typed_blocks.proofs.SentUnmarked.{told_by_difference}
+use Rattle.wt_typed_blocks.specs.Edited.{Edits, page_nodes, page_body, sent_body, edits_show}
+use Rattle.wt_typed_blocks.specs.EditedPage.{edited_sources}
+use Rattle.wt_typed_blocks.specs.EditedUnmarked.{bare_body, AreTold}
+use Rattle.wt_typed_blocks.proofs.EditedSections.{answer_in_sections}
+use Rattle.wt_typed_blocks.proofs.EditedShows.{page_shows}
+use Rattle.wt_typed_blocks.proofs.EditedUnmarked.{told_by_difference}
 use Rattle.wt_text_edit_laws.specs.BlockSpots.{BlockSpot, spots_source}
 use Rattle.wt_text_edit_laws.proofs.Prose.ProseTakes.{as_edit, not_longer}
 use Rattle.wt_text_edit_laws.proofs.Texts.TypedShown.{gathered_shows}
 use Rattle.wt_called_edit_laws.specs.CalledPages.{IsCalledPage}
-use Rattle.wt_called_edit_laws.specs.TreeEdits.{IsEditOf, sent_body, free_sent_body}
+use Rattle.wt_called_edit_laws.specs.EditsAt.{IsContentEdit}
 use Rattle.wt_called_edit_laws.specs.CalledTexts.{spots_tree}
-use Rattle.wt_called_edit_laws.proofs.EditFacts.{IsFramedPage, paths_of, new_spots, IsMade, spots_utf8, spots_body}
+use Rattle.wt_called_edit_laws.proofs.EditFacts.{IsFramedPage, paths_of, new_spots, AreWellSent, spots_utf8, spots_body}
 use Rattle.wt_called_edit_laws.proofs.PageBody.{as_body}
 
 -- An edit of such a page, and what holds of it.
-pub record IsTextsEdit (pages : Pages) (ss : List BlockSpot) (behind : List ℕ) (f : IsFramedPage pages ss behind) (es : Sents) : Type 0 where
+pub record IsContentsEdit (pages : Pages) (ss : List BlockSpot) (behind : List ℕ) (f : IsFramedPage pages ss behind) (es : Edits) : Type 0 where
   pub page : IsCalledPage pages ss behind
-  pub edit : IsEditOf (spots_tree pages ss behind) (paths_of f) es
-  pub made : IsMade pages ss behind f es
+  pub edit : IsContentEdit (spots_tree pages ss behind) ss (paths_of f) es
+  pub made : AreWellSent pages ss behind f es
 
 -- ---- the page's body
 
 -- the page's tree with what is sent for its nodes
-tree_is : (pages : Pages) (ss : List BlockSpot) (behind : List ℕ) (f : IsFramedPage pages ss behind) (es : Sents) → IsTextsEdit pages ss behind f es
-    → spots_tree pages ss behind ≡ old_body (label (spots_tree pages ss behind)) es
+tree_is : (pages : Pages) (ss : List BlockSpot) (behind : List ℕ) (f : IsFramedPage pages ss behind) (es : Edits) → IsContentsEdit pages ss behind f es
+    → spots_tree pages ss behind ≡ page_body (label (spots_tree pages ss behind)) es
 tree_is pages ss behind f es h =
-    let b = spots_body pages ss behind h.page in as_body (spots_tree pages ss behind) (old_children es) b.kind b.number h.edit.old
+    let b = spots_body pages ss behind h.page in as_body (spots_tree pages ss behind) (page_nodes es) b.kind b.number h.edit.old
 
-opened_is : (pages : Pages) (ss : List BlockSpot) (behind : List ℕ) (f : IsFramedPage pages ss behind) (es : Sents) → IsTextsEdit pages ss behind f es
-    → without_sections (page_tree pages (spots_source ss behind)) ≡ old_body (label (spots_tree pages ss behind)) es
+opened_is : (pages : Pages) (ss : List BlockSpot) (behind : List ℕ) (f : IsFramedPage pages ss behind) (es : Edits) → IsContentsEdit pages ss behind f es
+    → without_sections (page_tree pages (spots_source ss behind)) ≡ page_body (label (spots_tree pages ss behind)) es
 opened_is pages ss behind f es h =
     page_opened pages (spots_source ss behind) (spots_utf8 pages ss behind h.page) h.page.unrefused ∙ tree_is pages ss behind f es h
 
-in_order : (pages : Pages) (ss : List BlockSpot) (behind : List ℕ) (f : IsFramedPage pages ss behind) (es : Sents) → IsTextsEdit pages ss behind f es
-    → InPreorder (old_body (label (spots_tree pages ss behind)) es)
+in_order : (pages : Pages) (ss : List BlockSpot) (behind : List ℕ) (f : IsFramedPage pages ss behind) (es : Edits) → IsContentsEdit pages ss behind f es
+    → InPreorder (page_body (label (spots_tree pages ss behind)) es)
 in_order pages ss behind f es h =
     let b = spots_body pages ss behind h.page in subst InPreorder (tree_is pages ss behind f es h) b.numbered
 
-none_frame : (pages : Pages) (ss : List BlockSpot) (behind : List ℕ) (f : IsFramedPage pages ss behind) (es : Sents) → IsTextsEdit pages ss behind f es
-    → have_frame (old_children es) ≡ false
+none_frame : (pages : Pages) (ss : List BlockSpot) (behind : List ℕ) (f : IsFramedPage pages ss behind) (es : Edits) → IsContentsEdit pages ss behind f es
+    → have_frame (page_nodes es) ≡ false
 none_frame pages ss behind f es h = let b = spots_body pages ss behind h.page in ap have_frame h.edit.old ∙ b.unframed
 
 -- ---- the answer
 
-answer_so : (pages : Pages) (ss : List BlockSpot) (behind : List ℕ) (f : IsFramedPage pages ss behind) (es : Sents) (b : Label) → IsTextsEdit pages ss behind f es
+answer_so : (pages : Pages) (ss : List BlockSpot) (behind : List ℕ) (f : IsFramedPage pages ss behind) (es : Edits) (b : Label) → IsContentsEdit pages ss behind f es
     → length (spots_source (new_spots f es) behind) ≤ PAGE_BYTES
     → edit_answer same_node (expanded_page pages (spots_source ss behind)) (spots_source ss behind) (page_tree pages (spots_source ss behind))
-    (sent_body (spots_tree pages ss behind) es b) ≡ Ok (spots_source (new_spots f es) behind)
+    (sent_body (label (spots_tree pages ss behind)) b es) ≡ Ok (spots_source (new_spots f es) behind)
 answer_so pages ss behind f es b h le =
     let page : List ℕ = spots_source ss behind in
     let new : List ℕ = spots_source (new_spots f es) behind in
     let body = spots_body pages ss behind h.page in
-    let short : length (new_sources es) ≤ most_bytes = subst (λ cs. length cs ≤ most_bytes) (sym h.made.new) (as_edit new le) in
+    let short : length (edited_sources same_node es) ≤ most_bytes = subst (λ cs. length cs ≤ most_bytes) (sym h.made.new) (as_edit new le) in
     answer_in_sections same_node (expanded_page pages page) page (page_tree pages page) (label (spots_tree pages ss behind)) b es
     (page_bare pages page (spots_utf8 pages ss behind h.page) h.page.unrefused)
     (opened_is pages ss behind f es h)
     (in_order pages ss behind f es h)
     (none_frame pages ss behind f es h)
-    h.edit.sent h.made.outside h.edit.take h.made.untangled
-    (sym (ap flat_of_all h.edit.old ∙ body.source)) h.made.stand short
+    h.edit.sent h.made.outside h.made.taken h.made.apart
+    (sym (ap flat_of_all h.edit.old ∙ body.source)) h.made.lie short
     ∙ ap Ok h.made.new
 
 -- ---- the new page
 
-new_page_shows : (pages : Pages) (ss : List BlockSpot) (behind : List ℕ) (f : IsFramedPage pages ss behind) (es : Sents) → IsTextsEdit pages ss behind f es
-    → shown_children (page_tree pages (spots_source (new_spots f es) behind)) ≡ listed (all_show es)
+new_page_shows : (pages : Pages) (ss : List BlockSpot) (behind : List ℕ) (f : IsFramedPage pages ss behind) (es : Edits) → IsContentsEdit pages ss behind f es
+    → shown_children (page_tree pages (spots_source (new_spots f es) behind)) ≡ listed (edits_show es)
 new_page_shows pages ss behind f es h = gathered_shows (spots_tree pages (new_spots f es) behind) ∙ h.made.shows
 
-sent_shows : (pages : Pages) (ss : List BlockSpot) (behind : List ℕ) (f : IsFramedPage pages ss behind) (es : Sents) (b : Label) → IsTextsEdit pages ss behind f es
-    → shown_children (restored_from (page_tree pages (spots_source ss behind)) (sent_body (spots_tree pages ss behind) es b)) ≡ listed (all_show es)
+sent_shows : (pages : Pages) (ss : List BlockSpot) (behind : List ℕ) (f : IsFramedPage pages ss behind) (es : Edits) (b : Label) → IsContentsEdit pages ss behind f es
+    → shown_children (restored_from (page_tree pages (spots_source ss behind)) (sent_body (label (spots_tree pages ss behind)) b es)) ≡ listed (edits_show es)
 sent_shows pages ss behind f es b h =
     let page : List ℕ = spots_source ss behind in
     page_shows (page_tree pages page) (label (spots_tree pages ss behind)) b es (page_bare pages page (spots_utf8 pages ss behind h.page) h.page.unrefused)
     (opened_is pages ss behind f es h) (in_order pages ss behind f es h) h.edit.sent h.made.outside
 
-new_done : (pages : Pages) (ss : List BlockSpot) (behind : List ℕ) (f : IsFramedPage pages ss behind) (es : Sents) (b : Label) → IsTextsEdit pages ss behind f es
+new_done : (pages : Pages) (ss : List BlockSpot) (behind : List ℕ) (f : IsFramedPage pages ss behind) (es : Edits) (b : Label) → IsContentsEdit pages ss behind f es
     → length (spots_source (new_spots f es) behind) ≤ PAGE_BYTES
-    → new_answer pages (page_tree pages (spots_source ss behind)) (sent_body (spots_tree pages ss behind) es b) (spots_source (new_spots f es) behind)
+    → new_answer pages (page_tree pages (spots_source ss behind)) (sent_body (label (spots_tree pages ss behind)) b es) (spots_source (new_spots f es) behind)
     ≡ done (spots_source (new_spots f es) behind)
 unfolding title_answer
 new_done pages ss behind f es b h le =
     let rs : List BlockSpot = new_spots f es in
     let new : List ℕ = spots_source rs behind in
     let t : Tree = page_tree pages (spots_source ss behind) in
-    let u : Tree = sent_body (spots_tree pages ss behind) es b in
+    let u : Tree = sent_body (label (spots_tree pages ss behind)) b es in
     let again : IsCalledPage pages rs behind = f.again rs h.made.retyped in
-    let shown = listed (all_show es) in
+    let shown = listed (edits_show es) in
     let made : List ℕ → Answer = new_expanded pages t u in
     ap (λ (v : Bool). if v then refused TooLong else text_answer new made (not_utf8_place new)) (not_longer (length new) PAGE_BYTES le)
     ∙ ap (text_answer new made) (no_place new (spots_utf8 pages rs behind again))
@@ -123,13 +123,13 @@ new_done pages ss behind f es b h le =
 
 -- ---- the edit
 
-pub edit_done : (pages : Pages) (ss : List BlockSpot) (behind : List ℕ) (f : IsFramedPage pages ss behind) (es : Sents) (b : Label) → IsTextsEdit pages ss behind f es
+pub edit_done : (pages : Pages) (ss : List BlockSpot) (behind : List ℕ) (f : IsFramedPage pages ss behind) (es : Edits) (b : Label) → IsContentsEdit pages ss behind f es
     → length (spots_source (new_spots f es) behind) ≤ PAGE_BYTES
-    → edit_to pages (spots_source ss behind) (sent_body (spots_tree pages ss behind) es b) ≡ done (spots_source (new_spots f es) behind)
+    → edit_to pages (spots_source ss behind) (sent_body (label (spots_tree pages ss behind)) b es) ≡ done (spots_source (new_spots f es) behind)
 edit_done pages ss behind f es b h le =
     let page : List ℕ = spots_source ss behind in
     let t : Tree = page_tree pages page in
-    let u : Tree = sent_body (spots_tree pages ss behind) es b in
+    let u : Tree = sent_body (label (spots_tree pages ss behind)) b es in
     ap (expanded_by (edit_from pages page u)) h.page.unrefused
     ∙ ap (edit_by pages t u) (answer_so pages ss behind f es b h le)
     ∙ new_done pages ss behind f es b h le
@@ -139,9 +139,9 @@ edit_done pages ss behind f es b h le =
 kind_opened : (t : Tree) → (label t).kind ≡ (label (without_sections t)).kind
 kind_opened (tree l ts) = refl
 
-marks_are : (pages : Pages) (ss : List BlockSpot) (behind : List ℕ) (f : IsFramedPage pages ss behind) (es : Sents) (b : Label) → IsTextsEdit pages ss behind f es
-    → AreToldApart es
-    → remarked (page_tree pages (spots_source ss behind)) (free_sent_body (spots_tree pages ss behind) es b) ≡ sent_body (spots_tree pages ss behind) es b
+marks_are : (pages : Pages) (ss : List BlockSpot) (behind : List ℕ) (f : IsFramedPage pages ss behind) (es : Edits) (b : Label) → IsContentsEdit pages ss behind f es
+    → AreTold es
+    → remarked (page_tree pages (spots_source ss behind)) (bare_body (label (spots_tree pages ss behind)) b es) ≡ sent_body (label (spots_tree pages ss behind)) b es
 marks_are pages ss behind f es b h apart =
     let page : List ℕ = spots_source ss behind in
     let opened = opened_is pages ss behind f es h in
@@ -158,13 +158,13 @@ page_text pages ss behind h le = λ made.
     ap (λ (v : Bool). if v then refused TooLong else text_answer page made (not_utf8_place page)) (not_longer (length page) PAGE_BYTES le)
     ∙ ap (text_answer page made) (no_place page (spots_utf8 pages ss behind h))
 
-pub unmarked_done : (pages : Pages) (ss : List BlockSpot) (behind : List ℕ) (f : IsFramedPage pages ss behind) (es : Sents) (b : Label)
-    (stands : Option (List ℕ)) (input : List ℕ) (unsourced : Option ℕ) → IsTextsEdit pages ss behind f es → AreToldApart es
+pub unmarked_done : (pages : Pages) (ss : List BlockSpot) (behind : List ℕ) (f : IsFramedPage pages ss behind) (es : Edits) (b : Label)
+    (stands : Option (List ℕ)) (input : List ℕ) (unsourced : Option ℕ) → IsContentsEdit pages ss behind f es → AreTold es
     → stands ≡ Some (spots_source ss behind) → length (spots_source ss behind) ≤ PAGE_BYTES → length (spots_source (new_spots f es) behind) ≤ PAGE_BYTES
-    → length input ≤ HTML_BYTES → read input ≡ as_page (free_sent_body (spots_tree pages ss behind) es b) unsourced → DoneByEdit pages stands input
+    → length input ≤ HTML_BYTES → read input ≡ as_page (bare_body (label (spots_tree pages ss behind)) b es) unsourced → DoneByEdit pages stands input
 unmarked_done pages ss behind f es b stands input unsourced h apart found short le small is =
     let page : List ℕ = spots_source ss behind in
-    let made : EditIsDone pages page (as_page (free_sent_body (spots_tree pages ss behind) es b) unsourced) =
+    let made : EditIsDone pages page (as_page (bare_body (label (spots_tree pages ss behind)) b es) unsourced) =
     (spots_source (new_spots f es) behind, ap (edit_to pages page) (marks_are pages ss behind f es b h apart) ∙ edit_done pages ss behind f es b h le) in
     record {
       page = page;

@@ -23,6 +23,7 @@ pub mod CalledUtf8
 pub mod EditFacts
 pub mod EditTaken
 pub mod CallsTake
+pub mod TextsTaken
 pub mod BareInsides
 mod SettledCases
 pub mod Settles
@@ -32,6 +33,9 @@ pub mod FreePlaces
 pub mod GroupsKept
 pub mod PlaceBytes
 pub mod Squashed
+pub mod StandingSettled
+pub mod PagesSettled
 pub mod GroupsOfPage
+pub mod BlocksOutside
 pub mod Parts
 pub mod Cells

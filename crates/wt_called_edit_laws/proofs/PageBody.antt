@@ -33,6 +33,7 @@ use Rattle.wt_called_edit_laws.proofs.Unframed.{page_unframed}
 pub record IsBodyOf (page : List ℕ) (t : Tree) : Type 0 where
   pub kind : (label t).kind ≡ kind.Body
   pub number : (label t).id ≡ 0
+  pub opening : (label t).opening ≡ []
   pub source : flat_of_all (children t) ≡ page
   pub tiled : TiledFrom (children t) 0 (length page - 0)
   pub slices : AllByRecursion (IsSlice page) (reached_in_all (children t))
@@ -101,6 +102,7 @@ page_body pages page u e =
     record {
       kind = l.kind;
       number = l.number;
+      opening = l.opening;
       source = sym (bare_source t l) ∙ page_source pages page is;
       tiled = inside_tiled (length page) t l.kind (page_covers pages page is) (ungathered_tiled calls xs);
       slices = inside_sliced page t l.kind (page_sliced pages page is);

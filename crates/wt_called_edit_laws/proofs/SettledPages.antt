@@ -1,15 +1,8 @@
 -- The tree of a page with calls is settled, and so it is given by its nodes with the blocks among them.
 use Rattle.std.proofs.Common.{◌≡◌, ℕ, List, ap, ap₂, ◌∙◌}
-use Rattle.wt_span.specs.Origins.{Expanded}
-use Rattle.wt_expand.specs.PageCalls.{expanded_page}
 use Rattle.wt_expand.specs.Work.{Pages}
 use Rattle.wt_tree.specs.Tree.{Label, Tree, tree, Trees, label}
 use Rattle.wt_sections.specs.Sections.{with_sections}
-use Rattle.wt_inline.specs.ItemTree.{forest}
-use Rattle.wt_inline.specs.Parts.{children as parts_children}
-use Rattle.wt_page.specs.Body.{meaning, body_parts}
-use Rattle.wt_page.specs.Rows.{rows}
-use Rattle.wt_annotated.specs.GroupData.{group_data}
 use Rattle.wt_checks.specs.Kept.{children}
 use Rattle.wt_moved_laws.specs.Placeless.{placeless, all_placeless}
 use Rattle.wt_text_edit_laws.specs.BlockSpots.{BlockSpot, spots_source}
@@ -22,15 +15,9 @@ use Rattle.wt_called_edit_laws.specs.CalledPages.{IsCalledPage}
 use Rattle.wt_called_edit_laws.specs.Groups.{called_tree, GroupsStayAmong}
 use Rattle.wt_called_edit_laws.proofs.GroupsAmong.{groups_among}
 use Rattle.wt_called_edit_laws.proofs.EditFacts.{IsFramedPage, framed_page}
-use Rattle.wt_called_edit_laws.specs.Settled.{page_settled, IsSettled}
+use Rattle.wt_called_edit_laws.specs.Settled.{page_settled}
 use Rattle.wt_called_edit_laws.specs.SettledPages.{OnlyTextsAreOthers}
-use Rattle.wt_called_edit_laws.proofs.Settles.{settled_tree}
-
-pub called_settled : (pages : Pages) (page : List ℕ) → IsSettled (called_tree pages page)
-unfolding meaning
-called_settled pages page =
-    let e : Expanded = expanded_page pages page in
-    settled_tree e.outer (group_data e.outer) (forest (parts_children (body_parts (rows e.items))))
+use Rattle.wt_called_edit_laws.proofs.PagesSettled.{called_settled}
 
 -- a tree by its label and what it holds, without numbers and places
 placeless_is : (t : Tree) (l : Label) (us : Trees) → label (placeless t) ≡ l → all_placeless (children t) ≡ us → placeless t ≡ tree l us

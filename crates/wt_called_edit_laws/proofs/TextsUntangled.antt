@@ -1,5 +1,6 @@
--- No block in which a text is typed is tangled: each is at the place in the page that its nodes say.
+-- No block whose content is edited is tangled: each is at the place in the page that its nodes say.
 use Rattle.std.proofs.Common.{arith, ◌≡◌, ℕ, suc, ◌+◌, false, Option, Some, None, List, [], ◌∷◌, ◌++◌, length, map, refl, sym, ap, ap₂, ◌∙◌, subst, append-nil, length-append}
+use Rattle.wt_tree.specs.Kinds.{is_leaf}
 use Rattle.wt_tree.specs.Source.{flat}
 use Rattle.wt_tree.specs.Tree.{Label, Tree, tree, Trees, label}
 use Rattle.wt_span.specs.Items.{sources}
@@ -8,12 +9,13 @@ use Rattle.wt_inline.specs.ItemTree.{ItemTree, tree_items}
 use Rattle.wt_moved_laws.specs.Placeless.{placeless_label, placeless, all_placeless}
 use Rattle.wt_moved_laws.specs.Standing.{standing}
 use Rattle.wt_selser.specs.Edits.{is_tangled}
-use Rattle.wt_typed_blocks.specs.Sent.{Block, paragraph, heading, kind_of, Sent, stands, typed, holds, Sents, none_sent, more_sent, old_child, old_children}
-use Rattle.wt_typed_blocks.specs.Typed.{block_source, old_source, StandsAt, StandAt, IsUntangled, AreUntangled}
-use Rattle.wt_text_edit_laws.specs.BlockSpots.{BlockSpot}
+use Rattle.wt_typed_blocks.specs.Sent.{Block, paragraph, heading, kind_of}
+use Rattle.wt_typed_blocks.specs.Typed.{block_source}
+use Rattle.wt_typed_blocks.specs.Edited.{Edited, stays, edited, round, Edits, no_edits, more_edits, page_node, page_nodes, page_pieces}
+use Rattle.wt_typed_blocks.specs.EditedPage.{page_source, LiesAt, LieAt, IsApart, AreApart}
+use Rattle.wt_text_edit_laws.specs.BlockSpots.{BlockSpot, AreContents}
 use Rattle.wt_text_edit_laws.specs.TextBlocks.{source_of, block_tree}
 use Rattle.wt_called_edit_laws.specs.CalledBlocks.{tree_by, counted}
-use Rattle.wt_called_edit_laws.proofs.Cells.ManyFacts.{old_flat}
 use Rattle.wt_called_edit_laws.proofs.Cells.Nodes.{same_label, same_inside}
 use Rattle.wt_called_edit_laws.proofs.Cells.Paths.{same_first, same_rest}
 use Rattle.wt_called_edit_laws.proofs.Cells.PlaceGaps.{Gaps, last_gap, then_gap, put_before, numbers_in, source_at, AreSame, AtPlaces, at_before}
@@ -22,7 +24,7 @@ use Rattle.wt_called_trees.specs.TreeFrames.{TreeFrame, spot, kept, holder, Tree
 use Rattle.wt_called_edit_laws.specs.Untangled.{AreUntangledFrom}
 use Rattle.wt_called_edit_laws.specs.Nodes.{block_at, NoLeaves, NoneLeaves}
 use Rattle.wt_called_edit_laws.specs.Sends.{BlockSent, Sends, AllSend}
-use Rattle.wt_called_edit_laws.proofs.TextsMake.{flat_same}
+use Rattle.wt_called_edit_laws.proofs.TextsMake.{flat_same, leaf_or}
 use Rattle.wt_called_edit_laws.proofs.NodeGaps.{gap_of, gaps_in, page_gaps, spot_source, past_node}
 
 -- ---- a block at its place
@@ -38,19 +40,24 @@ block_flat : (j : Block) (l : Label) (us : Trees) → block_source l us ≡ flat
 block_flat paragraph l us = refl
 block_flat (heading n) l us = refl
 
-spot_untangled : (items : Expanded) (page : List ℕ) (t : ℕ → ItemTree) (front : List ℕ) (n : ℕ) (v : Option (List ℕ)) (s : Sent) → IsFree items page t front n
-    → BlockSent v s → placeless (old_child s) ≡ block_at t n → StandsAt (length front) s → IsUntangled items page s
-spot_untangled items page t front n None (stands x u) f w e at = tt
-spot_untangled items page t front n None (typed j l us m x cs) f w e at = absurd w
-spot_untangled items page t front n None (holds l m ss) f w e at = absurd w
-spot_untangled items page t front n (Some text) (stands x u) f w e at = absurd w
-spot_untangled items page t front n (Some text) (typed j l us m x cs) f w e at =
-    let u : Tree = old_child (typed j l us m x cs) in
-    let size : length (block_source l us) ≡ length (source_at t n) =
-    ap length (block_flat j l us ∙ sym (flat_same u) ∙ ap flat e ∙ spot_source t n) in
+spot_untangled : (items : Expanded) (page : List ℕ) (t : ℕ → ItemTree) (front : List ℕ) (n : ℕ) (v : Option Edited) (s : Edited) → IsFree items page t front n
+    → BlockSent v s → placeless (page_node s) ≡ block_at t n → LiesAt (length front) s → IsApart items page s
+spot_untangled items page t front n None (stays x u) f w e at = tt
+spot_untangled items page t front n None (edited j l m ps) f w e at = absurd w
+spot_untangled items page t front n None (round l m ss) f w e at = absurd w
+spot_untangled items page t front n (Some d) (stays x u) f w e at = absurd w
+spot_untangled items page t front n (Some d) (edited j l m ps) f w e at =
+    let u : Tree = page_node (edited j l m ps) in
+    let size : length (block_source l (page_pieces ps)) ≡ length (source_at t n) =
+    ap length (block_flat j l (page_pieces ps) ∙ sym (flat_same u) ∙ ap flat e ∙ spot_source t n) in
     f u (length l.opening) (length l.closing) e
     (at ∙ ap (λ (k : ℕ). Some (record { start = length front; end = length front + k; open_w = length l.opening; close_w = length l.closing })) size)
-spot_untangled items page t front n (Some text) (holds l m ss) f w e at = absurd w
+spot_untangled items page t front n (Some d) (round l m ss) f w e at = absurd w
+
+page_flat : (at : ℕ) (s : Edited) → LiesAt at s → page_source s ≡ flat (page_node s)
+page_flat at (stays t u) h = refl
+page_flat at (edited j l m ps) h = block_flat j l (page_pieces ps)
+page_flat at (round l m ss) h = leaf_or (is_leaf l.kind) l.own (block_source l (page_nodes ss)) h.0
 
 -- ---- of all nodes
 
@@ -58,43 +65,43 @@ abbrev AreFree : Expanded → List ℕ → (ℕ → ItemTree) → List ℕ → G
 AreFree items page t front z = AtPlaces (IsFree items page t) t front z
 
 mutual
-  node_untangled : (items : Expanded) (page : List ℕ) (t : ℕ → ItemTree) (o : ℕ → Option (List ℕ)) (front : List ℕ) (f : TreeFrame) (z : Gaps) (s : Sent)
-      → NoLeaves f → Sends o f s → placeless (old_child s) ≡ filled (block_at t) f → StandsAt (length front) s → AreFree items page t front (gap_of f z)
-      → IsUntangled items page s
+  node_untangled : (items : Expanded) (page : List ℕ) (t : ℕ → ItemTree) (o : ℕ → Option Edited) (front : List ℕ) (f : TreeFrame) (z : Gaps) (s : Edited)
+      → NoLeaves f → Sends o f s → placeless (page_node s) ≡ filled (block_at t) f → LiesAt (length front) s → AreFree items page t front (gap_of f z)
+      → IsApart items page s
   node_untangled items page t o front (spot n) z s w p e at h =
       spot_untangled items page t front n (o n) s (subst (λ (bs : List ℕ). IsFree items page t bs n) (append-nil front) h.0) p e at
-  node_untangled items page t o front (kept u) z (stands x v) w p e at h = tt
-  node_untangled items page t o front (kept u) z (typed j l us m x cs) w p e at h = absurd p
-  node_untangled items page t o front (kept u) z (holds l m ss) w p e at h = absurd p
-  node_untangled items page t o front (holder l gs) z (stands x v) w p e at h = tt
-  node_untangled items page t o front (holder l gs) z (typed j k us m x cs) w p e at h = absurd p
-  node_untangled items page t o front (holder l gs) z (holds k m ss) w p e at h =
-      let us : Trees = old_children ss in
+  node_untangled items page t o front (kept u) z (stays x v) w p e at h = tt
+  node_untangled items page t o front (kept u) z (edited j l m ps) w p e at h = absurd p
+  node_untangled items page t o front (kept u) z (round l m ss) w p e at h = absurd p
+  node_untangled items page t o front (holder l gs) z (stays x v) w p e at h = tt
+  node_untangled items page t o front (holder l gs) z (edited j k m ps) w p e at h = absurd p
+  node_untangled items page t o front (holder l gs) z (round k m ss) w p e at h =
+      let us : Trees = page_nodes ss in
       let label_is : placeless_label k ≡ l = same_label (placeless_label k) l (all_placeless us) (all_filled (block_at t) gs) e in
       let size : length k.opening ≡ length l.opening = ap (λ (x : Label). length x.opening) label_is in
       let both : length (front ++ l.opening) ≡ length front + length l.opening = length-append front l.opening in
       let place : length front + length k.opening ≡ length (front ++ l.opening) = omega (arith, size, both) in
       all_untangled items page t o (front ++ l.opening) gs (put_before l.closing z) ss w.1 p
       (same_inside (placeless_label k) l (all_placeless us) (all_filled (block_at t) gs) e)
-      (subst (λ (i : ℕ). StandAt i ss) place at.1) (at_before (IsFree items page t) t front l.opening (gaps_in gs (put_before l.closing z)) h)
+      (subst (λ (i : ℕ). LieAt i ss) place at.1) (at_before (IsFree items page t) t front l.opening (gaps_in gs (put_before l.closing z)) h)
 
-  all_untangled : (items : Expanded) (page : List ℕ) (t : ℕ → ItemTree) (o : ℕ → Option (List ℕ)) (front : List ℕ) (fs : TreeFrames) (z : Gaps) (es : Sents)
-      → NoneLeaves fs → AllSend o fs es → all_placeless (old_children es) ≡ all_filled (block_at t) fs → StandAt (length front) es
-      → AreFree items page t front (gaps_in fs z) → AreUntangled items page es
-  all_untangled items page t o front no_nodes z none_sent w p e at h = tt
-  all_untangled items page t o front no_nodes z (more_sent s ss) w p e at h = absurd p
-  all_untangled items page t o front (more_nodes f fs) z none_sent w p e at h = absurd p
-  all_untangled items page t o front (more_nodes f fs) z (more_sent s ss) w p e at h =
+  all_untangled : (items : Expanded) (page : List ℕ) (t : ℕ → ItemTree) (o : ℕ → Option Edited) (front : List ℕ) (fs : TreeFrames) (z : Gaps) (es : Edits)
+      → NoneLeaves fs → AllSend o fs es → all_placeless (page_nodes es) ≡ all_filled (block_at t) fs → LieAt (length front) es
+      → AreFree items page t front (gaps_in fs z) → AreApart items page es
+  all_untangled items page t o front no_nodes z no_edits w p e at h = tt
+  all_untangled items page t o front no_nodes z (more_edits s ss) w p e at h = absurd p
+  all_untangled items page t o front (more_nodes f fs) z no_edits w p e at h = absurd p
+  all_untangled items page t o front (more_nodes f fs) z (more_edits s ss) w p e at h =
       let own : List ℕ = flat (filled (block_at t) f) in
-      let first : placeless (old_child s) ≡ filled (block_at t) f =
-      same_first (placeless (old_child s)) (filled (block_at t) f) (all_placeless (old_children ss)) (all_filled (block_at t) fs) e in
-      let size : length (old_source s) ≡ length own = ap length (old_flat (length front) s at.0 ∙ sym (flat_same (old_child s)) ∙ ap flat first) in
+      let first : placeless (page_node s) ≡ filled (block_at t) f =
+      same_first (placeless (page_node s)) (filled (block_at t) f) (all_placeless (page_nodes ss)) (all_filled (block_at t) fs) e in
+      let size : length (page_source s) ≡ length own = ap length (page_flat (length front) s at.0 ∙ sym (flat_same (page_node s)) ∙ ap flat first) in
       let both : length (front ++ own) ≡ length front + length own = length-append front own in
-      let place : length front + length (old_source s) ≡ length (front ++ own) = omega (arith, size, both) in (
+      let place : length front + length (page_source s) ≡ length (front ++ own) = omega (arith, size, both) in (
         node_untangled items page t o front f (gaps_in fs z) s w.0 p.0 first at.0 h,
         all_untangled items page t o (front ++ own) fs z ss w.1 p.1
-            (same_rest (placeless (old_child s)) (filled (block_at t) f) (all_placeless (old_children ss)) (all_filled (block_at t) fs) e)
-            (subst (λ (i : ℕ). StandAt i ss) place at.1) (past_node (IsFree items page t) t front f (gaps_in fs z) w.0 h),
+            (same_rest (placeless (page_node s)) (filled (block_at t) f) (all_placeless (page_nodes ss)) (all_filled (block_at t) fs) e)
+            (subst (λ (i : ℕ). LieAt i ss) place at.1) (past_node (IsFree items page t) t front f (gaps_in fs z) w.0 h),
       )
 
 -- ---- the places of the page's blocks
@@ -114,10 +121,10 @@ all_there [] = tt
 all_there (s ∷ ss) = (refl, there_moved (tree_by (s ∷ ss)) (counted ss) ss (all_there ss))
 
 free_places : (items : Expanded) (page : List ℕ) (t : ℕ → ItemTree) (front : List ℕ) (g : Gaps) (ss : List BlockSpot) (at : ℕ) → at ≡ length front → AreSame g ss
-    → AreThere t (numbers_in g) ss → AreUntangledFrom items page at ss → AreFree items page t front g
-free_places items page t front (last_gap xs) ss at i m a u = tt
-free_places items page t front (then_gap xs n g) [] at i m a u = absurd m
-free_places items page t front (then_gap xs n g) (s ∷ ss) at i m a u =
+    → AreContents ss → AreThere t (numbers_in g) ss → AreUntangledFrom items page at ss → AreFree items page t front g
+free_places items page t front (last_gap xs) ss at i m b a u = tt
+free_places items page t front (then_gap xs n g) [] at i m b a u = absurd m
+free_places items page t front (then_gap xs n g) (s ∷ ss) at i m b a u =
     let here : List ℕ = front ++ xs in
     let own : List ℕ = source_at t n in
     let own_is : own ≡ source_of s.block s.text = ap (λ x. sources (tree_items x)) a.0 ∙ source_is s.block s.text in
@@ -131,14 +138,14 @@ free_places items page t front (then_gap xs n g) (s ∷ ss) at i m a u =
       λ x first_w last_w same ranges.
           u.0 x first_w last_w (same ∙ ap (λ b. placeless (standing 0 [] b)) a.0)
           (ranges ∙ ap₂ (λ (i j : ℕ). Some (record { start = i; end = j; open_w = first_w; close_w = last_w })) (sym start) (sym end)),
-      free_places items page t (here ++ own) g ss ((at + length s.before) + length (source_of s.block s.text)) behind m.1 a.1 u.1,
+      free_places items page t (here ++ own) g ss ((at + length s.before) + length (source_of s.block s.text)) behind m.1 b.1 a.1 u.1,
     )
 
 -- ---- what is sent for a page
 
-pub edit_untangled : (items : Expanded) (page : List ℕ) (o : ℕ → Option (List ℕ)) (ss : List BlockSpot) (fs : TreeFrames) (es : Sents) → NoneLeaves fs
-    → AreSame (page_gaps fs) ss → numbers_in (page_gaps fs) ≡ counted ss → AreUntangledFrom items page 0 ss
-    → AllSend o fs es → all_placeless (old_children es) ≡ all_filled (block_at (tree_by ss)) fs → StandAt 0 es → AreUntangled items page es
-edit_untangled items page o ss fs es w m n u p e at =
+pub edit_untangled : (items : Expanded) (page : List ℕ) (o : ℕ → Option Edited) (ss : List BlockSpot) (fs : TreeFrames) (es : Edits) → NoneLeaves fs
+    → AreSame (page_gaps fs) ss → numbers_in (page_gaps fs) ≡ counted ss → AreContents ss → AreUntangledFrom items page 0 ss
+    → AllSend o fs es → all_placeless (page_nodes es) ≡ all_filled (block_at (tree_by ss)) fs → LieAt 0 es → AreApart items page es
+edit_untangled items page o ss fs es w m n b u p e at =
     all_untangled items page (tree_by ss) o [] fs (last_gap []) es w p e at
-    (free_places items page (tree_by ss) [] (page_gaps fs) ss 0 refl m (subst (λ (ns : List ℕ). AreThere (tree_by ss) ns ss) (sym n) (all_there ss)) u)
+    (free_places items page (tree_by ss) [] (page_gaps fs) ss 0 refl m b (subst (λ (ns : List ℕ). AreThere (tree_by ss) ns ss) (sym n) (all_there ss)) u)

@@ -10,8 +10,10 @@ use Rattle.wt_tree.specs.Tree.{Label, tree, Trees, label}
 use Rattle.wt_annotated.specs.Reached.{reached, reached_in_all}
 use Rattle.wt_annotated.specs.Slices.{opening_by, opening_of, StandsIn, IsSlice}
 use Rattle.wt_annotated.proofs.PageSlices.{slice_length}
-use Rattle.wt_typed_blocks.specs.Sent.{paragraph, heading, Sent, stands, typed, holds, Sents, none_sent, more_sent, old_child, old_children}
-use Rattle.wt_typed_blocks.specs.Typed.{block_source, old_source, StandsAt, StandAt}
+use Rattle.wt_typed_blocks.specs.Sent.{paragraph, heading}
+use Rattle.wt_typed_blocks.specs.Typed.{block_source}
+use Rattle.wt_typed_blocks.specs.Edited.{Edited, stays, edited, round, Edits, no_edits, more_edits, page_node, page_nodes, page_pieces}
+use Rattle.wt_typed_blocks.specs.EditedPage.{page_source, LiesAt, LieAt}
 use Rattle.wt_called_edit_laws.specs.Stand.{HasHolders, HaveHolders, BlocksStand}
 
 -- ---- ranges
@@ -56,20 +58,20 @@ reached_or page true ts e h = let no : true ≡ false = e in absurd (cc)
 reached_or page false ts e h = h
 
 -- where it ends
-abbrev EndsSo : ℕ → Sent → Type 0
-EndsSo at s = end_of (label (old_child s)).ranges ≡ at + length (old_source s)
+abbrev EndsSo : ℕ → Edited → Type 0
+EndsSo at s = end_of (label (page_node s)).ranges ≡ at + length (page_source s)
 
 mutual
-  stands_so : (page : List ℕ) (at : ℕ) (s : Sent) → HasHolders s → BeginsAt at (label (old_child s)).ranges → Tiled (old_child s)
-      → AllByRecursion (IsSlice page) (reached (old_child s)) → StandsAt at s × EndsSo at s
-  stands_so page at (stands (tree l ts) u) w b t h =
+  stands_so : (page : List ℕ) (at : ℕ) (s : Edited) → HasHolders s → BeginsAt at (label (page_node s)).ranges → Tiled (page_node s)
+      → AllByRecursion (IsSlice page) (reached (page_node s)) → LiesAt at s × EndsSo at s
+  stands_so page at (stays (tree l ts) u) w b t h =
       let is = ranges_are page at l.ranges (flat (tree l ts)) (opening_of l) l.closing b h.0 in (tt, ap end_of is)
-  stands_so page at (typed paragraph l ts m x text) w b t h =
-      let is = ranges_are page at l.ranges (block_source l ts) l.opening l.closing b h.0 in (is, ap end_of is)
-  stands_so page at (typed (heading n) l ts m x text) w b t h =
-      let is = ranges_are page at l.ranges (block_source l ts) l.opening l.closing b h.0 in (is, ap end_of is)
-  stands_so page at (holds l m ss) w b t h =
-      let ts : Trees = old_children ss in
+  stands_so page at (edited paragraph l m ps) w b t h =
+      let is = ranges_are page at l.ranges (block_source l (page_pieces ps)) l.opening l.closing b h.0 in (is, ap end_of is)
+  stands_so page at (edited (heading n) l m ps) w b t h =
+      let is = ranges_are page at l.ranges (block_source l (page_pieces ps)) l.opening l.closing b h.0 in (is, ap end_of is)
+  stands_so page at (round l m ss) w b t h =
+      let ts : Trees = page_nodes ss in
       let whole : flat (tree l ts) ≡ block_source l ts = flat_or (is_leaf l.kind) l.own (block_source l ts) w.0 in
       let own : opening_of l ≡ l.opening = opening_or (is_leaf l.kind) l w.0 in
       let is : l.ranges ≡ Some (ranges_at at (block_source l ts) l.opening l.closing) =
@@ -78,13 +80,13 @@ mutual
       let inside = inside_or (is_leaf l.kind) l.ranges (ranges_at at (block_source l ts) l.opening l.closing) (λ from to. TiledFrom ts from to) w.0 is t in
       ((w.0, all_stand page (at + length l.opening) (at + length (block_source l ts) - length l.closing) ss w.2 inside (reached_or page (is_group l.kind) ts w.1 h.1)), ap end_of is)
 
-  all_stand : (page : List ℕ) (at to : ℕ) (ss : Sents) → HaveHolders ss → TiledFrom (old_children ss) at to
-      → AllByRecursion (IsSlice page) (reached_in_all (old_children ss)) → StandAt at ss
-  all_stand page at to none_sent w t h = tt
-  all_stand page at to (more_sent s ss) w t h =
-      let r = in_front (IsSlice page) (reached (old_child s)) (reached_in_all (old_children ss)) h in
+  all_stand : (page : List ℕ) (at to : ℕ) (ss : Edits) → HaveHolders ss → TiledFrom (page_nodes ss) at to
+      → AllByRecursion (IsSlice page) (reached_in_all (page_nodes ss)) → LieAt at ss
+  all_stand page at to no_edits w t h = tt
+  all_stand page at to (more_edits s ss) w t h =
+      let r = in_front (IsSlice page) (reached (page_node s)) (reached_in_all (page_nodes ss)) h in
       let one = stands_so page at s w.0 t.0 t.1 r.0 in
-      (one.0, all_stand page (at + length (old_source s)) to ss w.1 (subst (λ (i : ℕ). TiledFrom (old_children ss) i to) one.1 t.2) r.1)
+      (one.0, all_stand page (at + length (page_source s)) to ss w.1 (subst (λ (i : ℕ). TiledFrom (page_nodes ss) i to) one.1 t.2) r.1)
 
-pub blocks_stand : (page : List ℕ) (from to : ℕ) (ss : Sents) → BlocksStand page from to ss
+pub blocks_stand : (page : List ℕ) (from to : ℕ) (ss : Edits) → BlocksStand page from to ss
 blocks_stand page from to ss w t h = all_stand page from to ss w t h

@@ -1,18 +1,22 @@
 -- Which bytes of a page a group of its tree covers, and the bytes at which places of a page are.
-use Rattle.std.specs.Prelude.{◌⊎◌, ◌≤◌, ◌<◌, ℕ, ◌+◌, Bool, true, false, Option, Some, None, List, [], ◌∷◌, length}
+use Rattle.std.specs.Prelude.{◌≡◌, ◌⊎◌, ◌≤◌, ◌<◌, ℕ, ◌+◌, Bool, true, false, Option, Some, None, List, [], ◌∷◌, length}
 use Rattle.wt_tree.specs.declared.kind.Ranges.{Ranges}
 use Rattle.wt_tree.specs.Tiling.{is_group}
 use Rattle.wt_tree.specs.Tree.{Tree, tree, Trees, none, more}
 use Rattle.wt_span.specs.Items.{sources}
 use Rattle.wt_span.specs.Origins.{OuterCall}
 use Rattle.wt_inline.specs.ItemTree.{ItemTree, tree_items}
+use Rattle.wt_expand.specs.Work.{Pages}
+use Rattle.wt_commands.specs.Answers.{refusal_of_page}
 use Rattle.wt_annotated.specs.Annotated.{annotated}
 use Rattle.wt_annotated.specs.GroupData.{group_data}
 use Rattle.wt_annotated.specs.Seams.{last_of, text_from}
 use Rattle.wt_row_laws.specs.Frames.{Frame, place, whole, around, Frames, no_frames, more_frames, tree_at, trees_at, all_places, content, AreFrames}
-use Rattle.wt_text_edit_laws.specs.BlockSpots.{BlockSpot}
+use Rattle.wt_text_edit_laws.specs.BlockSpots.{BlockSpot, spots_source}
 use Rattle.wt_text_edit_laws.specs.TextBlocks.{source_of}
 use Rattle.wt_called_trees.specs.Rounded.{AreOwn, AreClean, body_of}
+use Rattle.wt_called_edit_laws.specs.CalledBlocks.{AreAmongCalls}
+use Rattle.wt_called_edit_laws.specs.Groups.{called_tree}
 
 -- ---- groups
 
@@ -84,3 +88,12 @@ abbrev pub CleanWhereFree : List OuterCall → Frames → (ℕ → ItemTree) →
 CleanWhereFree calls fs t =
     AreFrames fs content → HoldPlaces fs → AreOwn t (all_places fs) → HaveBytes t (all_places fs)
     → AtPlaces (λ b. NoGroupAt b (annotated calls (group_data calls) (body_of (trees_at t fs)))) calls t None 0 fs → AreClean t None fs None
+
+-- ---- which pages are edited
+
+-- Paragraphs and headings are among any calls, each a block of its own by what these give, no group of the page's tree has the first byte of one of
+-- them, and the page isn't refused: with what the folder has it can be expanded.
+pub record IsEditablePage (pages : Pages) (ss : List BlockSpot) (behind : List ℕ) : Type 0 where
+  pub among : AreAmongCalls pages ss behind
+  pub unrefused : refusal_of_page pages (spots_source ss behind) ≡ None
+  pub in_no_group : AreInNoGroup 0 ss (called_tree pages (spots_source ss behind))

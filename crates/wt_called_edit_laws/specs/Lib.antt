@@ -8,6 +8,8 @@ pub mod Stand
 pub mod PathsTo
 pub mod TreeEdits
 pub mod CalledTexts
+pub mod EditsAt
+pub mod ContentsTaken
 pub mod Settled
 pub mod SettledPages
 pub mod Covered

@@ -1,9 +1,9 @@
--- The paths at which the places of nodes are, and texts that are typed there and nowhere else.
+-- The paths at which the places of nodes are, and contents that are edited there and nowhere else.
 use Rattle.std.specs.Prelude.{◌≡◌, ℕ, zero, suc, Option, List, [], ◌∷◌, ◌++◌}
 use Rattle.wt_tree.specs.Tree.{Tree}
 use Rattle.wt_moved_laws.specs.Placeless.{all_placeless}
-use Rattle.wt_typed_blocks.specs.Sent.{Sents, old_children}
-use Rattle.wt_called_edit_laws.specs.AnyBlocks.{typed_by, AllTypeOnly}
+use Rattle.wt_typed_blocks.specs.Edited.{Edited, Edits, page_nodes}
+use Rattle.wt_called_edit_laws.specs.EditsAt.{edited_by, AllEditOnly}
 use Rattle.wt_called_trees.specs.TreeFrames.{spot, kept, holder, TreeFrames, no_nodes, more_nodes, all_filled, spots}
 use Rattle.wt_called_edit_laws.specs.Sends.{AllSend}
 
@@ -28,13 +28,13 @@ paths_to (more_nodes (spot n) fs) = (zero ∷ []) ∷ all_past (paths_to fs)
 paths_to (more_nodes (kept t) fs) = all_past (paths_to fs)
 paths_to (more_nodes (holder l gs) fs) = all_inside (paths_to gs) ++ all_past (paths_to fs)
 
--- at each of these places the text that is typed at its path
-abbrev pub AreTypedThere : (ℕ → Option (List ℕ)) → Sents → List ℕ → List (List ℕ) → Type 0
-AreTypedThere o es [] ps = Unit {0}
-AreTypedThere o es (n ∷ ns) [] = ⊥
-AreTypedThere o es (n ∷ ns) (p ∷ ps) = (o n ≡ typed_by es p) × AreTypedThere o es ns ps
+-- at each of these places the content that is edited at its path
+abbrev pub AreEditedThere : (ℕ → Option Edited) → Edits → List ℕ → List (List ℕ) → Type 0
+AreEditedThere o es [] ps = Unit {0}
+AreEditedThere o es (n ∷ ns) [] = ⊥
+AreEditedThere o es (n ∷ ns) (p ∷ ps) = (o n ≡ edited_by es p) × AreEditedThere o es ns ps
 
--- What is sent for such nodes, where texts are typed at the paths of their places alone.
-abbrev pub PathsSend : TreeFrames → (ℕ → Option (List ℕ)) → (ℕ → Tree) → Sents → Type 0
+-- What is sent for such nodes, where contents are edited at the paths of their places alone.
+abbrev pub PathsSend : TreeFrames → (ℕ → Option Edited) → (ℕ → Tree) → Edits → Type 0
 PathsSend fs o b es =
-    all_placeless (old_children es) ≡ all_filled b fs → AllTypeOnly (paths_to fs) es → AreTypedThere o es (spots fs) (paths_to fs) → AllSend o fs es
+    all_placeless (page_nodes es) ≡ all_filled b fs → AllEditOnly (paths_to fs) es → AreEditedThere o es (spots fs) (paths_to fs) → AllSend o fs es

@@ -1,57 +1,56 @@
--- What is sent for nodes with places among them, where texts are typed in the blocks at some places.
+-- What is sent for nodes with places among them, where the contents of the blocks at some places are edited.
 use Rattle.std.specs.Prelude.{◌≡◌, ℕ, Option, Some, None, List, [], ◌∷◌}
 use Rattle.wt_tree.specs.Plain.{Plains, plain_before, plains_before}
 use Rattle.wt_tree.specs.Source.{flat, flat_of_all}
 use Rattle.wt_tree.specs.Tree.{Tree, Trees}
-use Rattle.wt_moved_laws.specs.Placeless.{placeless, all_placeless}
-use Rattle.wt_typed_blocks.specs.Sent.{Sent, stands, typed, holds, Sents, none_sent, more_sent, old_child, old_children, shows_before, show_before}
-use Rattle.wt_typed_blocks.specs.Typed.{new_source, new_sources}
+use Rattle.wt_visible.specs.SameNodes.{same_node}
+use Rattle.wt_moved_laws.specs.Placeless.{all_placeless}
+use Rattle.wt_typed_blocks.specs.Edited.{Edited, stays, edited, round, Edits, no_edits, more_edits, page_nodes, edited_before, edits_before}
+use Rattle.wt_typed_blocks.specs.EditedPage.{edited_source, edited_sources}
 use Rattle.wt_called_trees.specs.TreeFrames.{TreeFrame, spot, kept, holder, TreeFrames, no_nodes, more_nodes, all_filled, spots}
 use Rattle.wt_called_edit_laws.specs.Nodes.{NoneLeaves}
 
--- for a block at a place: this text typed in it, or the block as it is
-abbrev pub BlockSent : Option (List ℕ) → Sent → Type 0
-BlockSent None (stands t u) = Unit {0}
-BlockSent None (typed k l ts m x cs) = ⊥
-BlockSent None (holds l m ss) = ⊥
-BlockSent (Some text) (stands t u) = ⊥
-BlockSent (Some text) (typed k l ts m x cs) = cs ≡ text
-BlockSent (Some text) (holds l m ss) = ⊥
+-- for a block at a place: this edit of its content, or the block as it is
+abbrev pub BlockSent : Option Edited → Edited → Type 0
+BlockSent None (stays t u) = Unit {0}
+BlockSent None (edited k l m ps) = ⊥
+BlockSent None (round l m es) = ⊥
+BlockSent (Some d) (stays t u) = ⊥
+BlockSent (Some d) (edited k l m ps) = d ≡ edited k l m ps
+BlockSent (Some d) (round l m es) = ⊥
 
-abbrev pub NoneTyped : (ℕ → Option (List ℕ)) → List ℕ → Type 0
-NoneTyped o [] = Unit {0}
-NoneTyped o (n ∷ ns) = (o n ≡ None) × NoneTyped o ns
+abbrev pub NoneEdited : (ℕ → Option Edited) → List ℕ → Type 0
+NoneEdited o [] = Unit {0}
+NoneEdited o (n ∷ ns) = (o n ≡ None) × NoneEdited o ns
 
--- Every other node stays. One that holds places stays, where nothing is typed at them, or it is sent with what it holds.
+-- Every other node stays. One that holds places stays, where nothing is edited at them, or it is sent with what it holds.
 abbrev mutual
-  pub Sends : (ℕ → Option (List ℕ)) → TreeFrame → Sent → Type 0
-  Sends o (spot n) s = BlockSent (o n) s
-  Sends o (kept t) s = BlockSent None s
-  Sends o (holder l fs) (stands t u) = NoneTyped o (spots fs)
-  Sends o (holder l fs) (typed k m ts n x cs) = ⊥
-  Sends o (holder l fs) (holds m n ss) = AllSend o fs ss
+  pub Sends : (ℕ → Option Edited) → TreeFrame → Edited → Type 0
+  Sends o (spot n) e = BlockSent (o n) e
+  Sends o (kept t) e = BlockSent None e
+  Sends o (holder l fs) (stays t u) = NoneEdited o (spots fs)
+  Sends o (holder l fs) (edited k m n ps) = ⊥
+  Sends o (holder l fs) (round m n es) = AllSend o fs es
 
-  pub AllSend : (ℕ → Option (List ℕ)) → TreeFrames → Sents → Type 0
-  AllSend o no_nodes none_sent = Unit {0}
-  AllSend o no_nodes (more_sent s ss) = ⊥
-  AllSend o (more_nodes f fs) none_sent = ⊥
-  AllSend o (more_nodes f fs) (more_sent s ss) = Sends o f s × AllSend o fs ss
+  pub AllSend : (ℕ → Option Edited) → TreeFrames → Edits → Type 0
+  AllSend o no_nodes no_edits = Unit {0}
+  AllSend o no_nodes (more_edits e es) = ⊥
+  AllSend o (more_nodes f fs) no_edits = ⊥
+  AllSend o (more_nodes f fs) (more_edits e es) = Sends o f e × AllSend o fs es
 
 -- What is sent for a node makes this one: it has its source in the new page, and shows what it shows.
-pub record MakesNode (s : Sent) (t : Tree) : Type 0 where
-  pub source : new_source s ≡ flat t
-  pub shows : (rest : Plains) → shows_before s rest ≡ plain_before t rest
+pub record MakesNode (e : Edited) (t : Tree) : Type 0 where
+  pub source : edited_source same_node e ≡ flat t
+  pub shows : (rest : Plains) → edited_before e rest ≡ plain_before t rest
 
-pub record MakesNodes (ss : Sents) (ts : Trees) : Type 0 where
-  pub sources : new_sources ss ≡ flat_of_all ts
-  pub show : (rest : Plains) → show_before ss rest ≡ plains_before ts rest
+pub record MakesNodes (es : Edits) (ts : Trees) : Type 0 where
+  pub sources : edited_sources same_node es ≡ flat_of_all ts
+  pub show : (rest : Plains) → edits_before es rest ≡ plains_before ts rest
 
--- What is sent for a block with a text makes the block with this text; a block in which none is typed is the same.
-abbrev pub BlocksMake : (ℕ → Option (List ℕ)) → (ℕ → Tree) → (ℕ → Tree) → Type 0
-BlocksMake o b c =
-    ((n : ℕ) (text : List ℕ) (s : Sent) → o n ≡ Some text → BlockSent (Some text) s → placeless (old_child s) ≡ b n → MakesNode s (c n))
-    × ((n : ℕ) → o n ≡ None → b n ≡ c n)
+-- The edit of a block's content makes the block with the new content; a block whose content isn't edited is the same.
+abbrev pub BlocksMake : (ℕ → Option Edited) → (ℕ → Tree) → (ℕ → Tree) → Type 0
+BlocksMake o b c = ((n : ℕ) (e : Edited) → o n ≡ Some e → MakesNode e (c n)) × ((n : ℕ) → o n ≡ None → b n ≡ c n)
 
 -- Then what is sent for all makes the nodes with these blocks.
-abbrev pub TextsMake : TreeFrames → (ℕ → Option (List ℕ)) → (ℕ → Tree) → (ℕ → Tree) → Sents → Type 0
-TextsMake fs o b c ss = NoneLeaves fs → BlocksMake o b c → AllSend o fs ss → all_placeless (old_children ss) ≡ all_filled b fs → MakesNodes ss (all_filled c fs)
+abbrev pub ContentsMake : TreeFrames → (ℕ → Option Edited) → (ℕ → Tree) → (ℕ → Tree) → Edits → Type 0
+ContentsMake fs o b c es = NoneLeaves fs → BlocksMake o b c → AllSend o fs es → all_placeless (page_nodes es) ≡ all_filled b fs → MakesNodes es (all_filled c fs)

@@ -1,5 +1,5 @@
 -- An edit of any page that types texts at paths of its tree, and sends all else as it is: with marks and without them.
-use Rattle.std.specs.Prelude.{◌≡◌, ℕ, false, Option, List, map}
+use Rattle.std.specs.Prelude.{◌≡◌, ℕ, false, Option, Some, List, map}
 use Rattle.wt_tree.specs.declared.kind.Kind.TheVariants as kind
 use Rattle.wt_tree.specs.Tiling.{InPreorder}
 use Rattle.wt_tree.specs.Tree.{Label, Tree, label}
@@ -9,10 +9,13 @@ use Rattle.wt_typed_blocks.specs.Sent.{Sents, old_children, AreSent, new_body}
 use Rattle.wt_typed_blocks.specs.Typed.{TakeTexts}
 use Rattle.wt_row_laws.specs.Frames.{content}
 use Rattle.wt_moved_laws.specs.Placeless.{all_placeless}
-use Rattle.wt_typed_blocks.specs.Unmarked.{free_body, AreToldApart}
+use Rattle.wt_typed_blocks.specs.Unmarked.{free_body}
+use Rattle.wt_typed_blocks.specs.Edited.{Edited, stays, edited, round, Edits, page_nodes}
+use Rattle.wt_typed_blocks.specs.EditedUnmarked.{AreInline, AreTold}
 use Rattle.wt_text_edit_laws.specs.BlockSpots.{BlockSpot}
 use Rattle.wt_called_edit_laws.specs.AnyBlocks.{typed_by, AllTypeOnly}
 use Rattle.wt_called_edit_laws.specs.AnyTexts.{AreOwn}
+use Rattle.wt_called_edit_laws.specs.EditsAt.{AreOwnEdits}
 use Rattle.wt_called_edit_laws.specs.OwnTexts.{AreTypings, path_texts, own_texts}
 use Rattle.wt_called_trees.specs.TreeFrames.{TreeFrames, all_filled}
 use Rattle.wt_called_edit_laws.specs.Nodes.{AreHolders}
@@ -62,8 +65,14 @@ HasOwnEdits t ss paths =
 
 -- ---- without marks
 
--- Where texts are typed in the blocks at some places of such a page's nodes, and all else stays, the difference finds what was typed.
-abbrev pub AreFoundApart : Tree → TreeFrames → (ℕ → Option (List ℕ)) → (ℕ → Tree) → Sents → Type 0
+-- what stays in an edited content is inline
+abbrev pub IsInline : Edited → Type 0
+IsInline (stays t u) = Unit {0}
+IsInline (edited k l m ps) = AreInline ps
+IsInline (round l m es) = Unit {0}
+
+-- Where the contents of the blocks at some places of such a page's nodes are edited, and all else stays, the difference finds what was edited.
+abbrev pub AreFoundApart : Tree → TreeFrames → (ℕ → Option Edited) → (ℕ → Tree) → Edits → Type 0
 AreFoundApart t fs o b es =
-    IsNumberedBody t → AreHolders fs content → AllSend o fs es → old_children es ≡ children t → all_placeless (old_children es) ≡ all_filled b fs
-    → AreOwn es → AreToldApart es
+    IsNumberedBody t → AreHolders fs content → AllSend o fs es → page_nodes es ≡ children t → all_placeless (page_nodes es) ≡ all_filled b fs
+    → ((n : ℕ) (e : Edited) → o n ≡ Some e → IsInline e) → AreOwnEdits es → AreTold es

@@ -1,5 +1,5 @@
-//! Laws of text edits anywhere in a page: in paragraphs and headings in its body, in cells of tables and in captions, among calls, too, any
-//! text is taken, and nothing else is changed.
+//! Laws of edits anywhere in a page: in paragraphs and headings in its body, in cells of tables and in captions, among calls, too, any text is
+//! taken, and texts beside what stays in them, and nothing else is changed.
 #![tactic(auto)]
 
 ghost use Rattle.std.specs.Prelude.{ℕ, List, [], ◌∷◌, ◌≡◌, Option, None};
@@ -12,7 +12,8 @@ ghost use Rattle.wt_span.specs.Items.{Item};
 ghost use Rattle.wt_tree.specs.Tree.{Label, Tree};
 ghost use Rattle.wt_checks.specs.Kept.{children};
 ghost use Rattle.wt_expand.specs.PageItems.{page_items};
-ghost use Rattle.wt_typed_blocks.specs.Sent.{paragraph, Sents};
+ghost use Rattle.wt_typed_blocks.specs.Edited.{Edited, Edits};
+ghost use Rattle.wt_typed_blocks.specs.Sent.{paragraph};
 ghost use Rattle.wt_text_edit_laws.specs.BlockEdits.{typed_as};
 ghost use Rattle.wt_text_edit_laws.specs.Parts.{part_tree};
 ghost use Rattle.wt_text_edit_laws.specs.TextBlocks.{a_paragraph};
@@ -35,14 +36,14 @@ ghost use Rattle.wt_row_laws.specs.Frames.{Frames};
 ghost use Rattle.wt_called_trees.specs.TreeFrames.{TreeFrames};
 ghost use Rattle.wt_called_edit_laws.specs.Nodes.{NodesStayIn};
 ghost use Rattle.wt_called_edit_laws.specs.PathsTo.{paths_to, PathsSend};
-ghost use Rattle.wt_called_edit_laws.specs.Sends.{TextsMake};
+ghost use Rattle.wt_called_edit_laws.specs.Sends.{ContentsMake};
 ghost use Rattle.wt_called_edit_laws.specs.Stand.{BlocksStand, BlocksAreFree};
 ghost use Rattle.wt_called_edit_laws.specs.TreeEdits.{IsNumberedBody, HasOwnEdits, AreFoundApart};
-ghost use Rattle.wt_commands.specs.Answers.{refusal_of_page};
 ghost use Rattle.wt_called_edit_laws.specs.CalledTexts.{TakesTextsAmong};
+ghost use Rattle.wt_called_edit_laws.specs.ContentsTaken.{TakesContents};
 ghost use Rattle.wt_called_edit_laws.specs.Settled.{IsSettled};
 ghost use Rattle.wt_called_edit_laws.specs.SettledPages.{OnlyTextsAreOthers};
-ghost use Rattle.wt_called_edit_laws.specs.Covered.{CleanWhereFree, AreInNoGroup};
+ghost use Rattle.wt_called_edit_laws.specs.Covered.{CleanWhereFree, IsEditablePage};
 
 /// A page with blocks among calls, none of which goes over the end of a part, is expanded part by part: its items are
 /// those of what stands before, between and behind the blocks, with the numbers that their calls have in the page, and
@@ -173,27 +174,27 @@ pub fn nodes_stay_round_blocks()
     ensures { (calls : List OuterCall) (fs : Frames) (t : ℕ → ItemTree) → NodesStayIn calls fs t }
 {}
 
-/// What is sent for such nodes, where texts are typed in some of the blocks and all else stays, makes the same nodes
-/// with the new blocks: this is their source in the new page, and what they show.
-pub fn typed_texts_make_the_nodes()
-    ensures { (fs : TreeFrames) (o : ℕ → Option (List ℕ)) (b c : ℕ → Tree) (ss : Sents) → TextsMake fs o b c ss }
+/// What is sent for such nodes, where the contents of some of the blocks are edited and all else stays, makes the same
+/// nodes with the new blocks: this is their source in the new page, and what they show.
+pub fn edited_contents_make_the_nodes()
+    ensures { (fs : TreeFrames) (o : ℕ → Option Edited) (b c : ℕ → Tree) (es : Edits) → ContentsMake fs o b c es }
 {}
 
 /// Where nodes tile a page, and each range of one that is outside groups is a slice of the page (so it is of each page's
-/// annotated tree), each block of them in which a text is typed says where it is.
-pub fn typed_blocks_say_where_they_are()
-    ensures { (page : List ℕ) (from to : ℕ) (ss : Sents) → BlocksStand page from to ss }
+/// annotated tree), each block of them whose content is edited says where it is.
+pub fn edited_blocks_say_where_they_are()
+    ensures { (page : List ℕ) (from to : ℕ) (es : Edits) → BlocksStand page from to es }
 {}
 
-/// The paths of the places hang on no texts (`paths_to`). Where texts are typed at these paths, and all else stays, what
-/// is sent for the blocks at the places are these texts.
-pub fn texts_at_paths_are_sent_for_the_blocks()
-    ensures { (fs : TreeFrames) (o : ℕ → Option (List ℕ)) (b : ℕ → Tree) (es : Sents) → PathsSend fs o b es }
+/// The paths of the places hang on no contents (`paths_to`). Where contents are edited at these paths, and all else
+/// stays, what is sent for the blocks at the places are these edits.
+pub fn edits_at_paths_are_sent_for_the_blocks()
+    ensures { (fs : TreeFrames) (o : ℕ → Option Edited) (b : ℕ → Tree) (es : Edits) → PathsSend fs o b es }
 {}
 
-/// What holds blocks in which texts are typed is neither a leaf nor a group.
-pub fn typed_blocks_are_outside_groups()
-    ensures { (fs : TreeFrames) (o : ℕ → Option (List ℕ)) (b : ℕ → Tree) (es : Sents) → BlocksAreFree fs o b es }
+/// What holds blocks whose contents are edited is neither a leaf nor a group.
+pub fn edited_blocks_are_outside_groups()
+    ensures { (fs : TreeFrames) (o : ℕ → Option Edited) (b : ℕ → Tree) (es : Edits) → BlocksAreFree fs o b es }
 {}
 
 /// Whatever texts are chosen for the blocks at the places, there is an edit that types them: the one that sends every
@@ -202,25 +203,36 @@ pub fn any_texts_may_be_typed_at_paths()
     ensures { (t : Tree) (ss : List BlockSpot) (fs : TreeFrames) → IsNumberedBody t → AllLead ss (paths_to fs) t → HasOwnEdits t ss (paths_to fs) }
 {}
 
-/// Without marks, too: where each text that was typed is another one than what its block held, the difference finds it.
+/// Without marks, too: where each content that was sent shows something else than what its block held, the difference
+/// finds what was edited.
 #[tactic(auto, using(crate::proofs::NodesTold::found_apart))]
-pub fn typed_texts_at_places_are_told_apart()
-    ensures { (t : Tree) (fs : TreeFrames) (o : ℕ → Option (List ℕ)) (b : ℕ → Tree) (es : Sents) → AreFoundApart t fs o b es }
+pub fn edited_contents_at_places_are_told_apart()
+    ensures { (t : Tree) (fs : TreeFrames) (o : ℕ → Option Edited) (b : ℕ → Tree) (es : Edits) → AreFoundApart t fs o b es }
 {}
 
-/// Any number of texts at once, in paragraphs and headings that are among any calls and that no group holds, in the body,
-/// in cells and in captions. Each is at a path of the page's tree, and an edit that sends texts typed in any of them, and
+/// The contents of any number of paragraphs and headings at once, which are among any calls and which no group holds, in
+/// the body, in cells and in captions. Each is at a path of the page's tree. An edit may put one text in the place of all
+/// that a block holds; in a block whose content is flat (`IsFlatIn` of `wt_beside_laws`) it may also type texts beside
+/// the nodes that it holds, and delete and change texts. It is done: the new page has these contents, as they are
+/// spelled, and every other byte is what it was; unless it is longer than a page may be. Without marks, too, where each
+/// edited block shows something else. The new page is such a page again.
+#[tactic(auto, using(crate::proofs::CallsTake::contents_taken))]
+pub fn contents_among_calls_are_taken()
+    ensures { (pages : Pages) (ss : List BlockSpot) (behind : List ℕ) → IsCalledPage pages ss behind → TakesContents pages ss behind }
+{}
+
+/// So any number of texts at once, in the places of all that such blocks hold. Each is at a path of the page's tree, and an edit that sends texts typed in any of them, and
 /// all else as it is in the page, is done: the new page has these texts, as they are spelled, and every other byte is what
 /// it was; unless it is longer than a page may be. Without marks, too. For any texts there is such an edit. The new page
 /// is such a page again.
-#[tactic(auto, using(crate::proofs::CallsTake::texts_taken))]
+#[tactic(auto, using(crate::proofs::TextsTaken::texts_taken))]
 pub fn texts_among_calls_are_taken()
     ensures { (pages : Pages) (ss : List BlockSpot) (behind : List ℕ) → IsCalledPage pages ss behind → TakesTextsAmong pages ss behind }
 {}
 
 /// The numbers and places of the tree of each page, without its sections, are those that the rest of it leaves: the nodes
 /// count in preorder, and each begins where what comes before it ends.
-#[tactic(auto, using(crate::proofs::SettledPages::called_settled))]
+#[tactic(auto, using(crate::proofs::PagesSettled::called_settled))]
 pub fn numbers_and_places_hang_on_the_rest()
     ensures { (pages : Pages) (page : List ℕ) → IsSettled (called_tree pages page) }
 {}
@@ -242,9 +254,8 @@ pub fn nodes_round_free_blocks_are_clean()
 {}
 
 /// So a page whose paragraphs and headings are among calls, none of which a group of its tree has, and that isn't refused
-/// with what the folder has, is one of those of which text edits are taken.
+/// with what the folder has, is one of those of which edits are taken; and each of those is such a page.
 pub fn pages_with_blocks_in_no_group_are_called_pages()
-    ensures { (pages : Pages) (ss : List BlockSpot) (behind : List ℕ) → AreAmongCalls pages ss behind
-        → refusal_of_page pages (spots_source ss behind) ≡ None → AreInNoGroup 0 ss (called_tree pages (spots_source ss behind))
-        → IsCalledPage pages ss behind }
+    ensures called { (pages : Pages) (ss : List BlockSpot) (behind : List ℕ) → IsEditablePage pages ss behind → IsCalledPage pages ss behind }
+    ensures editable { (pages : Pages) (ss : List BlockSpot) (behind : List ℕ) → IsCalledPage pages ss behind → IsEditablePage pages ss behind }
 {}

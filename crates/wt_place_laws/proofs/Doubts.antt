@@ -22,16 +22,16 @@ use Rattle.wt_place_laws.specs.Doubtful.{IsFoundAt, IsIn, IsInOne, IsOneOf, IsOp
 
 -- ---- lists
 
-in_front : {X : Type 0} (x : X) (xs ys : List X) → IsOneOf x xs → IsOneOf x (xs ++ ys)
+pub in_front : {X : Type 0} (x : X) (xs ys : List X) → IsOneOf x xs → IsOneOf x (xs ++ ys)
 in_front x [] ys h = absurd h
 in_front x (z ∷ xs) ys (inl e) = inl e
 in_front x (z ∷ xs) ys (inr h) = inr (in_front x xs ys h)
 
-in_rest : {X : Type 0} (x : X) (xs ys : List X) → IsOneOf x ys → IsOneOf x (xs ++ ys)
+pub in_rest : {X : Type 0} (x : X) (xs ys : List X) → IsOneOf x ys → IsOneOf x (xs ++ ys)
 in_rest x [] ys h = h
 in_rest x (z ∷ xs) ys h = inr (in_rest x xs ys h)
 
-in_either : {X : Type 0} (x : X) (xs ys : List X) → IsOneOf x (xs ++ ys) → IsOneOf x xs ⊎ IsOneOf x ys
+pub in_either : {X : Type 0} (x : X) (xs ys : List X) → IsOneOf x (xs ++ ys) → IsOneOf x xs ⊎ IsOneOf x ys
 in_either x [] ys h = inr h
 in_either x (z ∷ xs) ys (inl e) = inl (inl e)
 in_either x (z ∷ xs) ys (inr h) = elim (in_either x xs ys h) [ inl k ↦ inl (inr k) | inr k ↦ inr k ]
@@ -48,7 +48,7 @@ of_kind k j s [] h = absurd h
 of_kind k j s (x ∷ ss) (inl e) = (ap (λ (y : KindAndRange). y.0) e, inl (ap (λ (y : KindAndRange). y.1) e))
 of_kind k j s (x ∷ ss) (inr h) = let r = of_kind k j s ss h in (r.0, inr r.1)
 
-of_kinds : (k : Doubt) (s : Span) (f : Doubt → List Span) (js : List Doubt) → IsOneOf (k, s) (flat_map (λ j. as_all j (f j)) js) → IsOneOf s (f k)
+pub of_kinds : (k : Doubt) (s : Span) (f : Doubt → List Span) (js : List Doubt) → IsOneOf (k, s) (flat_map (λ j. as_all j (f j)) js) → IsOneOf s (f k)
 of_kinds k s f [] h = absurd h
 of_kinds k s f (j ∷ js) h =
     elim (in_either (k, s) (as_all j (f j)) (flat_map (λ i. as_all i (f i)) js) h) [
@@ -56,7 +56,7 @@ of_kinds k s f (j ∷ js) h =
       | inr b ↦ of_kinds k s f js b
     ]
 
-in_kinds : (k : Doubt) (s : Span) (f : Doubt → List Span) (js : List Doubt) → IsOneOf k js → IsOneOf s (f k)
+pub in_kinds : (k : Doubt) (s : Span) (f : Doubt → List Span) (js : List Doubt) → IsOneOf k js → IsOneOf s (f k)
     → IsOneOf (k, s) (flat_map (λ j. as_all j (f j)) js)
 in_kinds k s f [] h a = absurd h
 in_kinds k s f (j ∷ js) (inl e) a =
@@ -94,53 +94,50 @@ mutual
   one_there p (more t ts) l (inl h) = let r = found_there p t l h in (r.0, in_front (r.0, l) (nodes p t) (nodes_in_all p ts) r.1)
   one_there p (more t ts) l (inr h) = let r = one_there p ts l h in (r.0, in_rest (r.0, l) (nodes p t) (nodes_in_all p ts) r.1)
 
--- ---- a kind that hangs on the node alone
+-- ---- a kind that hangs on the node and its place
 
--- what is found of it at a node is its range, where the node is so
-pub record Says (page : List ℕ) (k : Doubt) (Is : Label → Ranges → Type 0) : Type 0 where
-  pub each : (titles : List (List ℕ)) (p : Place) (l : Label) (r : Ranges) → Is l r → IsOneOf (r.start, r.end) (found page titles p (sort_of l.kind) l r k)
-  pub only : (titles : List (List ℕ)) (p : Place) (l : Label) (r : Ranges) (s : Span) → IsOneOf s (found page titles p (sort_of l.kind) l r k)
-      → Is l r × (s ≡ (r.start, r.end))
+-- what is found of it at a node
+pub record Says (page : List ℕ) (k : Doubt) (Is : Place → Label → Ranges → Span → Type 0) : Type 0 where
+  pub each : (titles : List (List ℕ)) (p : Place) (l : Label) (r : Ranges) (s : Span) → Is p l r s → IsOneOf s (found page titles p (sort_of l.kind) l r k)
+  pub only : (titles : List (List ℕ)) (p : Place) (l : Label) (r : Ranges) (s : Span) → IsOneOf s (found page titles p (sort_of l.kind) l r k) → Is p l r s
   pub known : IsOneOf k kinds
 
 -- a node of these at which it is found
-record Found (Is : Label → Ranges → Type 0) (ns : List Stand) (s : Span) : Type 0 where
-  place : Place
-  node : Label
-  ranges : Ranges
-  stands : IsOneOf (place, node) ns
-  has : node.ranges ≡ Some ranges
-  at : s ≡ (ranges.start, ranges.end)
-  so : Is node ranges
+pub record Found (Is : Place → Label → Ranges → Span → Type 0) (ns : List Stand) (s : Span) : Type 0 where
+  pub place : Place
+  pub node : Label
+  pub ranges : Ranges
+  pub stands : IsOneOf (place, node) ns
+  pub has : node.ranges ≡ Some ranges
+  pub so : Is place node ranges s
 
-found_at : (page : List ℕ) (k : Doubt) (Is : Label → Ranges → Type 0) → Says page k Is → (titles : List (List ℕ)) (p : Place) (l : Label) (o : Option Ranges) (s : Span)
-    → l.ranges ≡ o → IsOneOf (k, s) (at_ranges page titles p l o) → (r : Ranges) × ((l.ranges ≡ Some r) × ((s ≡ (r.start, r.end)) × Is l r))
+found_at : (page : List ℕ) (k : Doubt) (Is : Place → Label → Ranges → Span → Type 0) → Says page k Is → (titles : List (List ℕ)) (p : Place) (l : Label)
+    (o : Option Ranges) (s : Span) → l.ranges ≡ o → IsOneOf (k, s) (at_ranges page titles p l o) → (r : Ranges) × ((l.ranges ≡ Some r) × Is p l r s)
 found_at page k Is says titles p l None s e h = absurd h
 found_at page k Is says titles p l (Some r) s e h =
-    let w = says.only titles p l r s (of_kinds k s (λ j. found page titles p (sort_of l.kind) l r j) kinds h) in (r, (e, (w.1, w.0)))
+    (r, (e, says.only titles p l r s (of_kinds k s (λ j. found page titles p (sort_of l.kind) l r j) kinds h)))
 
-found_among : (page : List ℕ) (k : Doubt) (Is : Label → Ranges → Type 0) → Says page k Is → (titles : List (List ℕ)) (ns : List Stand) (s : Span)
+pub found_among : (page : List ℕ) (k : Doubt) (Is : Place → Label → Ranges → Span → Type 0) → Says page k Is → (titles : List (List ℕ)) (ns : List Stand) (s : Span)
     → IsOneOf (k, s) (found_from page titles ns) → Found Is ns s
 found_among page k Is says titles [] s h = absurd h
 found_among page k Is says titles ((p, l) ∷ ns) s h =
     elim (in_either (k, s) (at_ranges page titles p l l.ranges) (found_from page (titles_after l titles) ns) h) [
       | inl a ↦
           let w = found_at page k Is says titles p l l.ranges s refl a in
-          record { place = p; node = l; ranges = w.0; stands = inl refl; has = w.1.0; at = w.1.1.0; so = w.1.1.1 }
+          record { place = p; node = l; ranges = w.0; stands = inl refl; has = w.1.0; so = w.1.1 }
       | inr b ↦
           let f = found_among page k Is says (titles_after l titles) ns s b in
-          record { place = f.place; node = f.node; ranges = f.ranges; stands = inr f.stands; has = f.has; at = f.at; so = f.so }
+          record { place = f.place; node = f.node; ranges = f.ranges; stands = inr f.stands; has = f.has; so = f.so }
     ]
 
-there_at : (page : List ℕ) (k : Doubt) (Is : Label → Ranges → Type 0) → Says page k Is → (titles : List (List ℕ)) (p : Place) (l : Label) (r : Ranges) (s : Span)
-    → l.ranges ≡ Some r → s ≡ (r.start, r.end) → Is l r → IsOneOf (k, s) (at_ranges page titles p l l.ranges)
-there_at page k Is says titles p l r s e a i =
+there_at : (page : List ℕ) (k : Doubt) (Is : Place → Label → Ranges → Span → Type 0) → Says page k Is → (titles : List (List ℕ)) (p : Place) (l : Label) (r : Ranges)
+    (s : Span) → l.ranges ≡ Some r → Is p l r s → IsOneOf (k, s) (at_ranges page titles p l l.ranges)
+there_at page k Is says titles p l r s e i =
     subst (λ (o : Option Ranges). IsOneOf (k, s) (at_ranges page titles p l o)) (sym e)
-    (in_kinds k s (λ j. found page titles p (sort_of l.kind) l r j) kinds says.known
-    (subst (λ (x : Span). IsOneOf x (found page titles p (sort_of l.kind) l r k)) (sym a) (says.each titles p l r i)))
+    (in_kinds k s (λ j. found page titles p (sort_of l.kind) l r j) kinds says.known (says.each titles p l r s i))
 
-there_among : (page : List ℕ) (k : Doubt) (Is : Label → Ranges → Type 0) → Says page k Is → (titles : List (List ℕ)) (ns : List Stand) (s : Span) → Found Is ns s
-    → IsOneOf (k, s) (found_from page titles ns)
+pub there_among : (page : List ℕ) (k : Doubt) (Is : Place → Label → Ranges → Span → Type 0) → Says page k Is → (titles : List (List ℕ)) (ns : List Stand) (s : Span)
+    → Found Is ns s → IsOneOf (k, s) (found_from page titles ns)
 there_among page k Is says titles [] s f = absurd f.stands
 there_among page k Is says titles ((p, l) ∷ ns) s f =
     by f.stands (λ g. there_among page k Is says (titles_after l titles) ns s g)
@@ -148,36 +145,41 @@ there_among page k Is says titles ((p, l) ∷ ns) s f =
     by : IsOneOf (f.place, f.node) ((p, l) ∷ ns) → (Found Is ns s → IsOneOf (k, s) (found_from page (titles_after l titles) ns))
         → IsOneOf (k, s) (found_from page titles ((p, l) ∷ ns))
     by (inl e) next =
+        let here : f.place ≡ p = ap (λ (x : Stand). x.0) e in
         let same : f.node ≡ l = ap (λ (x : Stand). x.1) e in
         in_front (k, s) (at_ranges page titles p l l.ranges) (found_from page (titles_after l titles) ns)
-        (there_at page k Is says titles p l f.ranges s (subst (λ (n : Label). n.ranges ≡ Some f.ranges) same f.has) f.at
-        (subst (λ (n : Label). Is n f.ranges) same f.so))
+        (there_at page k Is says titles p l f.ranges s (subst (λ (n : Label). n.ranges ≡ Some f.ranges) same f.has)
+        (subst (λ (n : Label). Is p n f.ranges s) same (subst (λ (q : Place). Is q f.node f.ranges s) here f.so)))
     by (inr h) next =
         in_rest (k, s) (at_ranges page titles p l l.ranges) (found_from page (titles_after l titles) ns)
-        (next (record { place = f.place; node = f.node; ranges = f.ranges; stands = h; has = f.has; at = f.at; so = f.so }))
+        (next (record { place = f.place; node = f.node; ranges = f.ranges; stands = h; has = f.has; so = f.so }))
 
-pub all_there : (k : Doubt) (page : List ℕ) (t : Tree) (Is : Label → Ranges → Type 0) → Says page k Is → IsFoundAt k page t Is
+-- the whole range of a node that is so, wherever it is
+abbrev Whole : (Label → Ranges → Type 0) → Place → Label → Ranges → Span → Type 0
+Whole Is p l r s = Is l r × (s ≡ (r.start, r.end))
+
+pub all_there : (k : Doubt) (page : List ℕ) (t : Tree) (Is : Label → Ranges → Type 0) → Says page k (Whole Is) → IsFoundAt k page t Is
 all_there k page t Is says = record {
   each = λ s d.
       let q = found_there top t d.node d.stands in
-      there_among page k Is says [] (nodes top t) s
-      (record { place = q.0; node = d.node; ranges = d.ranges; stands = q.1; has = d.has; at = d.at; so = d.so });
+      there_among page k (Whole Is) says [] (nodes top t) s
+      (record { place = q.0; node = d.node; ranges = d.ranges; stands = q.1; has = d.has; so = (d.so, d.at) });
   only = λ s h.
-      let f = found_among page k Is says [] (nodes top t) s h in
-      record { node = f.node; ranges = f.ranges; stands = stands top t f.place f.node f.stands; has = f.has; at = f.at; so = f.so };
+      let f = found_among page k (Whole Is) says [] (nodes top t) s h in
+      record { node = f.node; ranges = f.ranges; stands = stands top t f.place f.node f.stands; has = f.has; at = f.so.1; so = f.so.0 };
 }
 
 -- ---- tests
 
-and_left : (a b : Bool) → (a && b) ≡ true → a ≡ true
+pub and_left : (a b : Bool) → (a && b) ≡ true → a ≡ true
 and_left true b e = refl
 and_left false b e = absurd (true≢false (sym e))
 
-and_right : (a b : Bool) → (a && b) ≡ true → b ≡ true
+pub and_right : (a b : Bool) → (a && b) ≡ true → b ≡ true
 and_right true b e = e
 and_right false b e = absurd (true≢false (sym e))
 
-and_both : (a b : Bool) → a ≡ true → b ≡ true → (a && b) ≡ true
+pub and_both : (a b : Bool) → a ≡ true → b ≡ true → (a && b) ≡ true
 and_both true b e f = f
 and_both false b e f = absurd (true≢false (sym e))
 
@@ -193,19 +195,19 @@ or_right : (a b : Bool) → b ≡ true → (a || b) ≡ true
 or_right true b e = refl
 or_right false b e = e
 
-not_true : (a : Bool) → not a ≡ true → a ≡ false
+pub not_true : (a : Bool) → not a ≡ true → a ≡ false
 not_true true e = absurd (true≢false (sym e))
 not_true false e = refl
 
-same_of : (a b : ℕ) → (a == b) ≡ true → a ≡ b
+pub same_of : (a b : ℕ) → (a == b) ≡ true → a ≡ b
 same_of a b e = grind (arith, nat_tests)
 
 -- the whole range of a node that is so
-whole_each : (b : Bool) (r : Ranges) → b ≡ true → IsOneOf (r.start, r.end) (whole b r)
+pub whole_each : (b : Bool) (r : Ranges) → b ≡ true → IsOneOf (r.start, r.end) (whole b r)
 whole_each true r e = inl refl
 whole_each false r e = absurd (true≢false (sym e))
 
-whole_only : (b : Bool) (r : Ranges) (s : Span) → IsOneOf s (whole b r) → (b ≡ true) × (s ≡ (r.start, r.end))
+pub whole_only : (b : Bool) (r : Ranges) (s : Span) → IsOneOf s (whole b r) → (b ≡ true) × (s ≡ (r.start, r.end))
 whole_only true r s (inl e) = (refl, e)
 whole_only true r s (inr h) = absurd h
 whole_only false r s h = absurd h
@@ -225,7 +227,7 @@ group_kind : (k : Kind) → is_group (sort_of k) ≡ true → k ≡ kind.Group
 group_kind kind.Group e = refl
 group_kind k e = absurd (cc)
 
-table_kind : (k : Kind) → is_table (sort_of k) ≡ true → k ≡ kind.Table
+pub table_kind : (k : Kind) → is_table (sort_of k) ≡ true → k ≡ kind.Table
 table_kind kind.Table e = refl
 table_kind k e = absurd (cc)
 
@@ -292,9 +294,11 @@ open_style page l r e =
 -- a kind that is found by a test of the node
 by_test : (page : List ℕ) (k : Doubt) (Is : Label → Ranges → Type 0) (test : Label → Ranges → Bool)
     → ((titles : List (List ℕ)) (p : Place) (l : Label) (r : Ranges) → found page titles p (sort_of l.kind) l r k ≡ whole (test l r) r)
-    → ((l : Label) (r : Ranges) → Is l r → test l r ≡ true) → ((l : Label) (r : Ranges) → test l r ≡ true → Is l r) → IsOneOf k kinds → Says page k Is
+    → ((l : Label) (r : Ranges) → Is l r → test l r ≡ true) → ((l : Label) (r : Ranges) → test l r ≡ true → Is l r) → IsOneOf k kinds → Says page k (Whole Is)
 by_test page k Is test same there only known = record {
-  each = λ titles p l r i. subst (IsOneOf (r.start, r.end)) (sym (same titles p l r)) (whole_each (test l r) r (there l r i));
+  each = λ titles p l r s i.
+      subst (λ (x : Span). IsOneOf x (found page titles p (sort_of l.kind) l r k)) (sym i.1)
+      (subst (IsOneOf (r.start, r.end)) (sym (same titles p l r)) (whole_each (test l r) r (there l r i.0)));
   only = λ titles p l r s h. let w = whole_only (test l r) r s (subst (IsOneOf s) (same titles p l r) h) in (only l r w.0, w.1);
   known = known;
 }

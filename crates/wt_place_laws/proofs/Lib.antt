@@ -4,3 +4,6 @@ pub mod Marks
 pub mod Breaks
 pub mod ItemWalks
 pub mod Doubts
+pub mod Repeats
+pub mod TableEnds
+pub mod TextDoubts

@@ -11,7 +11,9 @@ mod walks;
 
 pub use calls::the_first_deep_call_is_told;
 pub use findings::{
-    lone_tags_are_found, open_styles_are_found, open_tables_are_found, unequal_headings_are_found,
+    braces_are_found, brackets_are_found, lone_tags_are_found, open_styles_are_found,
+    open_tables_are_found, repeated_categories_are_found, stray_table_ends_are_found,
+    unequal_headings_are_found,
 };
 pub use lexemes::{lexemes_are_cut_out, lexemes_begin_where_others_end};
 pub use lines::{breaks_are_pieces, marks_stand_in_front};

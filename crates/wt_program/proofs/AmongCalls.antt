@@ -1,4 +1,4 @@
--- A call that keeps what `run` promises answers an edit of texts among calls with the new page, or a device failed, or memory ran out.
+-- A call that keeps what `run` promises answers an edit of contents among calls with the new page, or a device failed, or memory ran out.
 use Rattle.std.proofs.Common.{◌≡◌, ℕ, Option, Some, None, List, sym, ap, ◌∙◌, subst}
 use Rattle.std.specs.Str.{IsUtf8}
 use Rattle.wt_devices.specs.Device.{Pages}
@@ -8,17 +8,19 @@ use Rattle.wt_commands.specs.Calls.{Call}
 use Rattle.wt_commands.specs.declared.command.Command.TheVariants.{Edit, Selser}
 use Rattle.wt_pagetool.specs.Promises.{Ends, EndsAsEdit}
 use Rattle.wt_commands.specs.UnmarkedEdits.{DoneByEdit}
-use Rattle.wt_typed_blocks.specs.Sent.{Sents}
+use Rattle.wt_typed_blocks.specs.Edited.{Edits}
 use Rattle.wt_text_edit_laws.specs.BlockSpots.{BlockSpot, spots_source}
 use Rattle.wt_program.proofs.BlocksCalls.{page_ends, page_completes}
-use Rattle.wt_called_edit_laws.specs.AnyBlocks.{new_page}
 use Rattle.wt_program.specs.AnyCalls.{SendsFor}
 use Rattle.wt_program.proofs.AnyCalls.{answer_is, selser_ends}
-use Rattle.wt_called_edit_laws.specs.TreeEdits.{IsEditOf, IsUnmarkedEditOf, sent_body, free_sent_body}
-use Rattle.wt_called_edit_laws.proofs.CallsTake.{texts_taken}
+use Rattle.wt_called_edit_laws.specs.CalledPages.{IsCalledPage}
+use Rattle.wt_called_edit_laws.specs.CalledTexts.{spots_tree}
+use Rattle.wt_called_edit_laws.specs.ContentsTaken.{TakesContents}
+use Rattle.wt_called_edit_laws.specs.EditsAt.{edited_page, IsContentEdit, sent_contents, bare_contents, IsUnmarkedContentEdit}
+use Rattle.wt_called_edit_laws.proofs.BlocksOutside.{editable_called}
+use Rattle.wt_called_edit_laws.proofs.CallsTake.{contents_taken}
 use Rattle.wt_called_edit_laws.proofs.EditFacts.{spots_utf8}
-use Rattle.wt_program.specs.CalledCalls.{TakesThemAmong, TakesTextsAmongCalls}
-use Rattle.wt_called_edit_laws.specs.CalledTexts.{spots_tree, TakesTextsAmong}
+use Rattle.wt_program.specs.ContentCalls.{TakesContentsThere, TakesContentsAmongCalls}
 
 -- ---- the pages that the folder tells
 
@@ -32,41 +34,42 @@ same_pages pages others e = ap (pages_or pages) e
 
 -- ---- the edits
 
-edit_made : (c : Call) (pages : Pages) (ss : List BlockSpot) (behind : List ℕ) (t : TakesTextsAmong pages ss behind) (es : Sents)
-    → c.folder.pages_before ≡ Some pages → IsEditOf (spots_tree pages ss behind) t.paths es
-    → (s : SendsFor c Edit (spots_source ss behind) (new_page ss behind t.paths es) (sent_body (spots_tree pages ss behind) es))
-    → edit_to s.pages (spots_source ss behind) (sent_body (spots_tree pages ss behind) es s.body) ≡ done (new_page ss behind t.paths es)
+edit_made : (c : Call) (pages : Pages) (ss : List BlockSpot) (behind : List ℕ) (t : TakesContents pages ss behind) (es : Edits)
+    → c.folder.pages_before ≡ Some pages → IsContentEdit (spots_tree pages ss behind) ss t.paths es
+    → (s : SendsFor c Edit (spots_source ss behind) (edited_page ss behind t.paths es) (sent_contents (spots_tree pages ss behind) es))
+    → edit_to s.pages (spots_source ss behind) (sent_contents (spots_tree pages ss behind) es s.body) ≡ done (edited_page ss behind t.paths es)
 edit_made c pages ss behind t es told e s =
     let page : List ℕ = spots_source ss behind in
-    let u : Tree = sent_body (spots_tree pages ss behind) es s.body in
-    subst (λ (ps : Pages). edit_to ps page u ≡ done (new_page ss behind t.paths es)) (same_pages pages s.pages (sym told ∙ s.told)) (t.takes s.body es e s.new_within)
+    let u : Tree = sent_contents (spots_tree pages ss behind) es s.body in
+    subst (λ (ps : Pages). edit_to ps page u ≡ done (edited_page ss behind t.paths es)) (same_pages pages s.pages (sym told ∙ s.told)) (t.takes s.body es e s.new_within)
 
-unmarked_made : (c : Call) (pages : Pages) (ss : List BlockSpot) (behind : List ℕ) (t : TakesTextsAmong pages ss behind) (es : Sents)
-    → c.folder.pages_before ≡ Some pages → IsUnmarkedEditOf (spots_tree pages ss behind) t.paths es
-    → (s : SendsFor c Selser (spots_source ss behind) (new_page ss behind t.paths es) (free_sent_body (spots_tree pages ss behind) es))
+unmarked_made : (c : Call) (pages : Pages) (ss : List BlockSpot) (behind : List ℕ) (t : TakesContents pages ss behind) (es : Edits)
+    → c.folder.pages_before ≡ Some pages → IsUnmarkedContentEdit (spots_tree pages ss behind) ss t.paths es
+    → (s : SendsFor c Selser (spots_source ss behind) (edited_page ss behind t.paths es) (bare_contents (spots_tree pages ss behind) es))
     → DoneByEdit s.pages (s.pages s.title) s.input
 unmarked_made c pages ss behind t es told e s =
     subst (λ (ps : Pages). DoneByEdit ps (s.pages s.title) s.input) (same_pages pages s.pages (sym told ∙ s.told))
     (t.unmarked (s.pages s.title) s.input s.body s.unsourced es e s.found s.old_within s.new_within s.within s.reads)
 
-calls_take_them : (c : Call) (ended : ℕ) (pages : Pages) (ss : List BlockSpot) (behind : List ℕ) → Ends c ended → EndsAsEdit c ended
-    → c.folder.pages_before ≡ Some pages → IsUtf8 (spots_source ss behind) → TakesTextsAmong pages ss behind → TakesThemAmong c ended pages ss behind
-calls_take_them c ended pages ss behind ends as_edit told utf8 t =
+calls_take_there : (c : Call) (ended : ℕ) (pages : Pages) (ss : List BlockSpot) (behind : List ℕ) → Ends c ended → EndsAsEdit c ended
+    → c.folder.pages_before ≡ Some pages → IsUtf8 (spots_source ss behind) → TakesContents pages ss behind → TakesContentsThere c ended pages ss behind
+calls_take_there c ended pages ss behind ends as_edit told utf8 t =
     let page : List ℕ = spots_source ss behind in
     let body : Tree = spots_tree pages ss behind in
     record {
       paths = t.paths;
-      lead = t.lead;
+      stand = t.stand;
       edit = λ es e s.
-          page_ends c ended (new_page ss behind t.paths es)
-          (answer_is c page (new_page ss behind t.paths es) (sent_body body es) utf8 s (edit_made c pages ss behind t es told e s)) ends;
+          page_ends c ended (edited_page ss behind t.paths es)
+          (answer_is c page (edited_page ss behind t.paths es) (sent_contents body es) utf8 s (edit_made c pages ss behind t es told e s)) ends;
       complete = λ es e s sound.
-          page_completes c ended (new_page ss behind t.paths es)
-          (answer_is c page (new_page ss behind t.paths es) (sent_body body es) utf8 s (edit_made c pages ss behind t es told e s)) ends sound;
+          page_completes c ended (edited_page ss behind t.paths es)
+          (answer_is c page (edited_page ss behind t.paths es) (sent_contents body es) utf8 s (edit_made c pages ss behind t es told e s)) ends sound;
       selser = λ es e s.
-          selser_ends c ended page (new_page ss behind t.paths es) (free_sent_body body es) s (unmarked_made c pages ss behind t es told e s) as_edit;
+          selser_ends c ended page (edited_page ss behind t.paths es) (bare_contents body es) s (unmarked_made c pages ss behind t es told e s) as_edit;
     }
 
-pub calls_take : (c : Call) (ended : ℕ) → Ends c ended → EndsAsEdit c ended → TakesTextsAmongCalls c ended
+pub calls_take : (c : Call) (ended : ℕ) → Ends c ended → EndsAsEdit c ended → TakesContentsAmongCalls c ended
 calls_take c ended ends as_edit = λ pages ss behind told h.
-    calls_take_them c ended pages ss behind ends as_edit told (spots_utf8 pages ss behind h) (texts_taken pages ss behind h)
+    let called : IsCalledPage pages ss behind = editable_called pages ss behind h in
+    calls_take_there c ended pages ss behind ends as_edit told (spots_utf8 pages ss behind called) (contents_taken pages ss behind called)

@@ -17,6 +17,7 @@ use Rattle.wt_program.specs.AnyCalls.{SendsFor, TakesThem, TakesTextsAnywhere}
 use Rattle.wt_called_edit_laws.specs.AnyTexts.{TakesAnyTexts}
 use Rattle.wt_called_edit_laws.proofs.Cells.AnyPages.{any_take}
 use Rattle.wt_called_edit_laws.proofs.Cells.SpotTrees.{same_self, over_self, over_expanded}
+use Rattle.wt_called_edit_laws.proofs.BlocksOutside.{called_editable}
 use Rattle.wt_called_edit_laws.proofs.CalmPages.{calm_pages}
 use Rattle.wt_called_edit_laws.specs.TreeEdits.{IsEditOf, sent_body, free_sent_body}
 use Rattle.wt_program.specs.CalledCalls.{TakesThemAmong, TakesTextsAmongCalls}
@@ -77,7 +78,7 @@ untold_take c ended ss behind t e = record {
 by_folder : (c : Call) (ended : ℕ) (ss : List BlockSpot) (behind : List ℕ) (o : Option Pages) → c.folder.pages_before ≡ o → AreSpots ss behind
     → TakesTextsAmongCalls c ended → TakesThem c ended ss behind
 by_folder c ended ss behind None e h t = untold_take c ended ss behind (any_take ss behind h) e
-by_folder c ended ss behind (Some pages) e h t = told_take c ended pages ss behind h (t pages ss behind e (calm_pages pages ss behind h))
+by_folder c ended ss behind (Some pages) e h t = told_take c ended pages ss behind h (t pages ss behind e (called_editable pages ss behind (calm_pages pages ss behind h)))
 
 pub anywhere_so : (c : Call) (ended : ℕ) → TakesTextsAmongCalls c ended → TakesTextsAnywhere c ended
 anywhere_so c ended t = λ ss behind h. by_folder c ended ss behind c.folder.pages_before refl h t

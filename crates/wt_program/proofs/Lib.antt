@@ -3,3 +3,4 @@ pub mod CellsCalls
 pub mod AnyCalls
 pub mod AmongCalls
 pub mod CalmCalls
+pub mod TextCalls

@@ -10,9 +10,9 @@ use Rattle.wt_text_edit_laws.specs.BlockSpots.{BlockSpot, spots_source}
 use Rattle.wt_program.specs.Calls.{WroteNewPage}
 use Rattle.wt_called_edit_laws.specs.AnyBlocks.{new_page, AllLead}
 use Rattle.wt_program.specs.AnyCalls.{SendsFor}
-use Rattle.wt_called_edit_laws.specs.CalledPages.{IsCalledPage}
 use Rattle.wt_called_edit_laws.specs.TreeEdits.{IsEditOf, IsUnmarkedEditOf, sent_body, free_sent_body}
 use Rattle.wt_called_edit_laws.specs.CalledTexts.{spots_tree}
+use Rattle.wt_called_edit_laws.specs.Covered.{IsEditablePage}
 
 -- The blocks are at paths of the page's tree. Where a call sends texts typed at some of them, and all else of the page as it is,
 -- * `edit` has written the page with these texts, in which every other byte is what it was; or a device failed, or memory ran out;
@@ -34,5 +34,5 @@ pub record TakesThemAmong (c : Call) (ended : ℕ) (pages : Pages) (ss : List Bl
 -- Texts are taken wherever they were typed, of each such page over a folder of these pages.
 abbrev pub TakesTextsAmongCalls : Call → ℕ → Type 0
 TakesTextsAmongCalls c ended =
-    (pages : Pages) (ss : List BlockSpot) (behind : List ℕ) → c.folder.pages_before ≡ Some pages → IsCalledPage pages ss behind
+    (pages : Pages) (ss : List BlockSpot) (behind : List ℕ) → c.folder.pages_before ≡ Some pages → IsEditablePage pages ss behind
     → TakesThemAmong c ended pages ss behind

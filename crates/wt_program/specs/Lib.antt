@@ -2,3 +2,4 @@ pub mod Calls
 pub mod CellCalls
 pub mod AnyCalls
 pub mod CalledCalls
+pub mod ContentCalls

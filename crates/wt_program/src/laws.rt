@@ -1,4 +1,4 @@
-// Laws of calls that send texts typed in a page: what `run` of `wt_pagetool` promises is enough for them to be taken.
+// Laws of calls that send edited contents and texts typed in a page: what `run` of `wt_pagetool` promises is enough for them to be taken.
 
 ghost use Rattle.std.specs.Prelude.{ℕ};
 ghost use Rattle.wt_commands.specs.Calls.{Call};
@@ -7,11 +7,25 @@ ghost use Rattle.wt_program.specs.AnyCalls.{TakesTextsAnywhere};
 ghost use Rattle.wt_program.specs.CalledCalls.{TakesTextsAmongCalls};
 ghost use Rattle.wt_program.specs.Calls.{TakesTexts};
 ghost use Rattle.wt_program.specs.CellCalls.{TakesTextsInCells};
+ghost use Rattle.wt_program.specs.ContentCalls.{TakesContentsAmongCalls};
 
-/// Every call that keeps what `run` of `wt_pagetool` promises (`Ends`, `EndsAsEdit`) takes texts typed in paragraphs and
-/// headings among calls (`IsCalledPage`): `edit` has written the new page and no line, and `selser` is done; or a device
-/// failed, or memory ran out. Where no device failed, only want of memory may come in the place of the new page.
+/// Every call that keeps what `run` of `wt_pagetool` promises (`Ends`, `EndsAsEdit`) takes edited contents of paragraphs
+/// and headings among calls (`IsEditablePage`): `edit` has written the new page and no line, and `selser` is done; or a
+/// device failed, or memory ran out. Where no device failed, only want of memory may come in the place of the new page.
 #[tactic(auto, using(crate::proofs::AmongCalls::calls_take))]
+pub fn calls_take_contents_among_calls()
+    ensures { (c : Call) (ended : ℕ) → Ends c ended → EndsAsEdit c ended → TakesContentsAmongCalls c ended }
+{}
+
+/// Where a call takes edited contents, it takes texts typed in the places of all that such blocks hold, told by what is
+/// sent for each node (`Sents`): these are such contents.
+#[tactic(auto, using(crate::proofs::TextCalls::texts_so))]
+pub fn texts_among_calls_are_taken_so()
+    ensures { (c : Call) (ended : ℕ) → TakesContentsAmongCalls c ended → TakesTextsAmongCalls c ended }
+{}
+
+/// So every such call takes these texts.
+#[tactic(auto, using(crate::proofs::TextCalls::calls_take_texts))]
 pub fn calls_take_texts_among_calls()
     ensures { (c : Call) (ended : ℕ) → Ends c ended → EndsAsEdit c ended → TakesTextsAmongCalls c ended }
 {}

@@ -307,15 +307,9 @@ fn note_moved(
     Ok(())
 }
 
-/// Notes those that are left in a node of the page that stays in its turn: all but those of an inside that is written
-/// anew, and what its children have.
-fn note_left(
-    alloc: Global,
-    left: &mut [bool],
-    index: &[Visit<'_, '_>],
-    old: &Node<'_>,
-    node: &Node<'_>,
-) -> Result<(), NoMemory> {
+/// Notes those that are left in a node of the page (`old`) that stays in its turn, but for its blocks: all but those of an
+/// inside that is written anew.
+fn note_standing(left: &mut [bool], node: &Node<'_>, old: &Node<'_>) {
     let nodes = old.children.as_slice();
     let from = if is_content(node.mark()) {
         inside_count(old)
@@ -323,17 +317,34 @@ fn note_left(
         0
     };
     note_marks(left, nodes_between(nodes, from, nodes.len()), false);
+}
+
+/// Notes those that are left in a node of the page (`old`) that stays in its turn, and in its blocks.
+fn note_left(
+    alloc: Global,
+    left: &mut [bool],
+    index: &[Visit<'_, '_>],
+    node: &Node<'_>,
+    old: &Node<'_>,
+) -> Result<(), NoMemory> {
+    note_standing(left, node, old);
     let nodes = node.children.as_slice();
-    let children = nodes_between(nodes, inside_count(node), nodes.len());
-    let turns = turns(alloc, index, old.id, children)?;
-    for at in 0..children.len() {
-        let child = &children[at];
+    let from = inside_count(node);
+    let turns = turns(
+        alloc,
+        index,
+        old.id,
+        nodes_between(nodes, from, nodes.len()),
+    )?;
+    for at in from..nodes.len() {
+        let child = &nodes[at];
         if is_block_part(child.kind)
             && stays_in(index, old.id, child)
             && let Some(visit) = original(index, child.id)
         {
-            if turns[at] {
-                note_left(alloc, left, index, visit.node, child)?;
+            let is_in_turn = turns.get(at.saturating_sub(from)).copied().unwrap_or(false);
+            if is_in_turn {
+                note_left(alloc, left, index, child, visit.node)?;
             } else {
                 note_moved(alloc, left, visit.node, child)?;
             }
@@ -357,7 +368,7 @@ pub fn marks_left(
         return Ok(Vec::new(alloc));
     }
     let mut left = none_noted(alloc, index)?;
-    note_left(alloc, left.as_mut_slice(), index, tree, edited)?;
+    note_left(alloc, left.as_mut_slice(), index, edited, tree)?;
     for at in 0..left.len() {
         if along.get(at).copied().unwrap_or(false) {
             left[at] = false;

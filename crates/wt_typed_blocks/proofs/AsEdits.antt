@@ -27,12 +27,12 @@ use Rattle.wt_typed_blocks.proofs.EditedShows.{shown_same}
 -- ---- what is sent
 
 -- a text in place of these nodes
-abbrev replaced : Trees → Label → List ℕ → List Piece
+abbrev pub replaced : Trees → Label → List ℕ → List Piece
 replaced none x text = written x text ∷ []
 replaced (more t ts) x text = gone t ∷ replaced ts x text
 
 abbrev mutual
-  as_edited : Sent → Edited
+  pub as_edited : Sent → Edited
   as_edited (stands t u) = stays t u
   as_edited (typed k l ts m x text) = edited k l m (replaced ts x text)
   as_edited (holds l m ss) = round l m (as_edits ss)
@@ -67,14 +67,14 @@ replaced_before (more t ts) x text rest = replaced_before ts x text rest
 abbrev block_node : Block → Label → Trees → Tree
 block_node k l ts = tree (record l { kind = kind_of k }) ts
 
-abbrev marked_node : Block → Label → Label → Trees → Tree
+abbrev pub marked_node : Block → Label → Label → Trees → Tree
 marked_node k l m us = tree (record m { kind = kind_of k; id = l.id; attrs = l.attrs; mark = marks.Content; mw = l.mw }) us
 
 abbrev bare_block : Block → Label → Label → Trees → Tree
 bare_block k l m us = tree (record m { kind = kind_of k; id = l.id; attrs = l.attrs; mw = l.mw }) us
 
 mutual
-  page_is : (s : Sent) → page_node (as_edited s) ≡ old_child s
+  pub page_is : (s : Sent) → page_node (as_edited s) ≡ old_child s
   page_is (stands t u) = refl
   page_is (typed k l ts m x text) = ap (block_node k l) (page_replaced ts x text)
   page_is (holds l m ss) = ap (tree l) (pages_are ss)
@@ -94,7 +94,7 @@ mutual
   sents_are (more_sent s ss) = ap (λ t. more t (sent_nodes (as_edits ss))) (sent_is s) ∙ ap (more (new_child s)) (sents_are ss)
 
 mutual
-  bare_is : (s : Sent) → bare_node (as_edited s) ≡ free_child s
+  pub bare_is : (s : Sent) → bare_node (as_edited s) ≡ free_child s
   bare_is (stands t u) = refl
   bare_is (typed k l ts m x text) = ap (bare_block k l m) (sent_replaced ts x text)
   bare_is (holds l m ss) = ap (tree m) (bares_are ss)
@@ -156,7 +156,7 @@ mutual
 abbrev Same : Type 0
 Same = Tree → Tree → Bool
 
-typed_is : (same : Same) (k : Block) (l : Label) (ts : Trees) (m x : Label) (text : List ℕ)
+pub typed_is : (same : Same) (k : Block) (l : Label) (ts : Trees) (m x : Label) (text : List ℕ)
     → inline_spelling same (old_child (typed k l ts m x text)) (new_child (typed k l ts m x text)) (place_of k)
     ≡ spelled (record { within = false; place = place_of k; source = block_source l ts }) (letters text)
 unfolding inline_spelling kept_with chars
@@ -187,7 +187,7 @@ mutual
 one_line : (text : List ℕ) → has_break text ≡ false → first_why ((break_fault false text ++ []) ++ []) ≡ None
 one_line text e = ap (λ (b : Bool). first_why (((if b then why.LineBreak ∷ [] else []) ++ []) ++ [])) e
 
-good : (same : Same) (k : Block) (l : Label) (ts : Trees) (m x : Label) (text : List ℕ) → Takes k text
+pub good : (same : Same) (k : Block) (l : Label) (ts : Trees) (m x : Label) (text : List ℕ) → Takes k text
     → bad_content same (old_child (typed k l ts m x text)) (new_child (typed k l ts m x text)) ≡ None
 unfolding bad_content kept_with
 good same paragraph l ts m x [] h = refl

@@ -59,7 +59,7 @@ none_grouped q u calm text full some =
     subst HasNoGroup (sym (one_tree q (paragraph_of q) one)) (refl, one_ungrouped q (paragraph_of q) one)
 
 -- what its items have to be
-record AreFlat (q : List ℕ) (xs : List Item) : Type 0 where
+pub record AreFlat (q : List ℕ) (xs : List Item) : Type 0 where
   pub utf8 : IsUtf8 q
   pub some : q ≡ [] → ⊥
   pub calls_nothing : CallsNothing xs
@@ -88,20 +88,20 @@ flat_page_by q xs is given =
 
 -- ---- `x<br>y`
 
-items_are : page_items (codes "x<br>y") ≡ page_chars (codes "x<br>y")
+pub items_are : page_items (codes "x<br>y") ≡ page_chars (codes "x<br>y")
 unfolding word_at comment_len raw_len include_at opening_word closing_word word_after with_inside is_extension entity_at named_entity entity_names decimal_entity hex_entity sign_word
 items_are =
     alone_as (codes "x<br>y") (page_chars (codes "x<br>y"))
     (parts_read (characters (codes "x") ∷ sign 60 (codes "br>y") ∷ [])
     ((refl, tt), ((record { none = λ rest. refl; uncommented = λ rest. refl }, (refl, (refl, (refl, (refl, tt))))), tt)))
 
-break_alone : page_items (codes "<br>") ≡ page_chars (codes "<br>")
+pub break_alone : page_items (codes "<br>") ≡ page_chars (codes "<br>")
 unfolding word_at comment_len raw_len include_at opening_word closing_word word_after with_inside is_extension entity_at named_entity entity_names decimal_entity hex_entity sign_word
 break_alone =
     alone_as (codes "<br>") (page_chars (codes "<br>"))
     (parts_read (sign 60 (codes "br>") ∷ []) ((record { none = λ rest. refl; uncommented = λ rest. refl }, (refl, (refl, (refl, tt)))), tt))
 
-break_kept : IsKept (codes "<br>")
+pub break_kept : IsKept (codes "<br>")
 unfolding word_at comment_len raw_len include_at opening_word closing_word word_after with_inside is_extension entity_at named_entity entity_names decimal_entity hex_entity sign_word
 break_kept = record {
   parts = sign 60 (codes "br>") ∷ [];
@@ -109,11 +109,11 @@ break_kept = record {
   is = refl;
 }
 
-break_calm : IsCalm (codes "<br>")
+pub break_calm : IsCalm (codes "<br>")
 unfolding encode
 break_calm = record { utf8 = (codes "<br>", (refl, refl)); unbraced = subst HaveNoBraces (sym break_alone) (refl, (refl, (refl, (refl, tt)))) }
 
-break_flat : AreFlat (codes "x<br>y") (page_chars (codes "x<br>y"))
+pub break_flat : AreFlat (codes "x<br>y") (page_chars (codes "x<br>y"))
 unfolding kind_of_signs context_parts with_styles style_tree_of toggles_of toggle_at chunks segments loose_segments tiles shapes closed form_at link_or_url link_at ext_link_at bare_url_at scheme_len tag_tile tag_at opening_tag closing_tag tag_after name_of live_name switch_at chars encode
 break_flat = record {
   utf8 = (codes "x<br>y", (refl, refl));

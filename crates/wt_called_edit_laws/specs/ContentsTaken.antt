@@ -1,0 +1,28 @@
+-- Contents are edited in the paragraphs and headings of a page with calls, with marks and without them.
+use Rattle.std.specs.Prelude.{◌≡◌, ◌≤◌, ℕ, Option, Some, List, length, map}
+use Rattle.wt_span.specs.declared.limits.TheConstants.{HTML_BYTES, PAGE_BYTES}
+use Rattle.wt_devices.specs.Device.{Pages}
+use Rattle.wt_tree.specs.Tree.{Label}
+use Rattle.wt_schema.specs.Read.{page as as_page, read}
+use Rattle.wt_commands.specs.Answers.{done, edit_to}
+use Rattle.wt_commands.specs.UnmarkedEdits.{DoneByEdit}
+use Rattle.wt_typed_blocks.specs.Edited.{Edits}
+use Rattle.wt_text_edit_laws.specs.BlockSpots.{BlockSpot, spots_source}
+use Rattle.wt_called_edit_laws.specs.CalledPages.{IsCalledPage}
+use Rattle.wt_called_edit_laws.specs.CalledTexts.{spots_tree}
+use Rattle.wt_called_edit_laws.specs.EditsAt.{AllStand, edited_by, with_contents, edited_page, IsContentEdit, sent_contents, bare_contents, IsUnmarkedContentEdit}
+
+-- The blocks are at paths of the page's tree at which their contents may be edited, in any of them at once:
+-- * the edit is done, and the new page is the same with these contents in them, as they are spelled;
+-- * without marks, too, `edit` of the difference is done;
+-- * the new page is such a page again.
+pub record TakesContents (pages : Pages) (ss : List BlockSpot) (behind : List ℕ) : Type 0 where
+  pub paths : List (List ℕ)
+  pub stand : AllStand ss paths (spots_tree pages ss behind)
+  pub takes : (b : Label) (es : Edits) → IsContentEdit (spots_tree pages ss behind) ss paths es → length (edited_page ss behind paths es) ≤ PAGE_BYTES
+      → edit_to pages (spots_source ss behind) (sent_contents (spots_tree pages ss behind) es b) ≡ done (edited_page ss behind paths es)
+  pub unmarked : (stands : Option (List ℕ)) (input : List ℕ) (b : Label) (unsourced : Option ℕ) (es : Edits)
+      → IsUnmarkedContentEdit (spots_tree pages ss behind) ss paths es → stands ≡ Some (spots_source ss behind) → length (spots_source ss behind) ≤ PAGE_BYTES
+      → length (edited_page ss behind paths es) ≤ PAGE_BYTES → length input ≤ HTML_BYTES
+      → read input ≡ as_page (bare_contents (spots_tree pages ss behind) es b) unsourced → DoneByEdit pages stands input
+  pub again : (es : Edits) → IsContentEdit (spots_tree pages ss behind) ss paths es → IsCalledPage pages (with_contents ss (map (edited_by es) paths)) behind
