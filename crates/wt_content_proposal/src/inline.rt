@@ -666,7 +666,8 @@ fn ends_with_break(node: &Node<'_>) -> bool {
     }
 }
 
-/// Whether a text begins a line that a template begins, with a blank or the sign of a term that wasn't there.
+/// Whether a text begins a line that a template begins, with a blank or the sign of a term that wasn't there: what writes
+/// nothing comes between, from which a group is always parted.
 fn begins_given_line(before: Option<&Node<'_>>, text: &Node<'_>, left: Option<&Node<'_>>) -> bool {
     let first = text.shown().as_bytes().first();
     let stands = match left {
@@ -698,7 +699,7 @@ fn push_units<'n, 't, 'a>(
             let left = text_left(known, block, nodes, at, edges);
             let right = text_right(known, block, nodes, at, edges);
             if begins_given_line(before(nodes, at), node, left) {
-                push_nowiki(alloc, out)?;
+                push_thing(out, Role::Node, Str::new(alloc), None)?;
             }
             push_text(alloc, out, node.shown(), left, right)?;
         } else {

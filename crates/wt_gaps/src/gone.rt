@@ -1,18 +1,18 @@
 //! What goes of the children of the page in a gap.
 
-use crate::blanks::{back_over_blanks, byte_at, is_at_line_start, most_breaks, past_blanks};
+use crate::blanks::{back_over_blanks, most_breaks, past_blanks};
 use crate::breaks::{breaks, kind_at_end, kind_at_start, least_between};
 use crate::gap::{Gap, is_below_heading};
 use crate::lines::{is_doubled, leaves_line_start, range_of, sign_at_line_start};
 use crate::tags::{Tags, breaks_before_tag, breaks_behind_tag, tag_of};
 use std::alloc::Global;
-use wt_block_signs::{is_cell, is_item, signs_of};
+use wt_block_signs::{is_cell, is_item, is_paragraph_in_line, signs_of};
 use wt_checks::is_compared;
 use wt_known::{Known, joined as texts_joined};
 use wt_places::Slot;
 use wt_span::{NoMemory, Str};
 use wt_splice::Change;
-use wt_tree::{Kind, Node};
+use wt_tree::Node;
 
 // ---- slices
 
@@ -152,17 +152,6 @@ fn push_missing_signs(
     out.push_str(missing)
 }
 
-/// Whether a node of the page is a paragraph that goes on in a line, as after a table's end or a rule, and begins with a
-/// blank or the sign of a list: it would be another block at a line's start.
-fn is_paragraph_with_sign(page: &str, node: &Node<'_>) -> bool {
-    let start = range_of(node).start;
-    let begins_with_sign = matches!(
-        byte_at(page, start),
-        b' ' | b'\t' | b'*' | b'#' | b':' | b';'
-    );
-    matches!(node.kind, Kind::Para) && begins_with_sign && !is_at_line_start(page, start)
-}
-
 /// Appends a slice of a gap. Where a cell or an item that went on in a line begins one after it, the two signs of a
 /// cell become one, and an item has all of its signs; a paragraph that would be another block then has `<nowiki/>`.
 pub fn push_part_of(
@@ -184,7 +173,7 @@ pub fn push_part_of(
             by.push_str(sign_at_line_start(page, node, end))?;
         } else if is_item(node.kind) {
             push_missing_signs(alloc, &mut by, known, node)?;
-        } else if is_paragraph_with_sign(page, node) {
+        } else if is_paragraph_in_line(page, node) {
             by.push_str("<nowiki/>")?;
         }
     }
