@@ -632,16 +632,16 @@ fn is_break(unit: &Unit<'_>) -> bool {
     matches!(role_of(unit), Some(Role::Node)) && source_of(unit).starts_with(b"<br")
 }
 
-/// Whether two comments or include tags come together after something in their line: they join nothing.
+/// Whether two comments or include tags come together directly after something in their line: they join nothing.
 fn are_marks_in_line(units: &[Unit<'_>], at: usize) -> bool {
     let (Some(left), Some(right)) = (before(units, at), units.get(at)) else {
         return false;
     };
+    let Some(first) = before(units, at.saturating_sub(1)) else {
+        return false;
+    };
     let are_marks = is_mark_in_line(left) && matches!(role_of(right), Some(Role::Mark { .. }));
-    match before_marks(units, at) {
-        Some(unit) => are_marks && !ends_line(unit),
-        None => false,
-    }
+    are_marks && !matches!(role_of(first), Some(Role::Mark { .. })) && !ends_line(first)
 }
 
 // ---- all
