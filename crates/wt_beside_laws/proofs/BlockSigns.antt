@@ -44,7 +44,7 @@ unfolding label_at
 its_children paragraph n before opening closing ps = refl
 its_children (heading i) n before opening closing ps = refl
 
-no_leaf : (k : Block) (n : ℕ) (before opening closing : List Item) (ps : List Part)
+pub no_leaf : (k : Block) (n : ℕ) (before opening closing : List Item) (ps : List Part)
     → is_leaf (label (standing n before (block_by k opening ps closing))).kind ≡ false
 unfolding label_at
 no_leaf paragraph n before opening closing ps = refl
@@ -106,7 +106,7 @@ sent_content same s pl ls block news tells within f u b kept sent counted charac
 
 -- ---- what its nodes show
 
-inside : (P : KeptNode → Type 0) (t : Tree) → is_leaf (label t).kind ≡ false → Every P (found_from 0 0 t)
+pub inside : (P : KeptNode → Type 0) (t : Tree) → is_leaf (label t).kind ≡ false → Every P (found_from 0 0 t)
     → Every P (found_in (0 + length (label t).opening) (0 + length (label t).opening) (children_of t))
 inside P (tree l ts) e f = inside_found P 0 0 l ts (held_if l.kind e) f
 

@@ -149,9 +149,9 @@ begins k a w (whole f o bs ∷ ys) zs i n some e = absurd (no_whole k (subst IsW
 -- ---- the node of a tile
 
 -- parts with these nodes, and so many bytes
-record Told (at : ℕ) (ps : List Part) (ts : List Thing) (n : ℕ) : Type 0 where
-  have : HaveThings at ps ts
-  wide : parts_width ps ≡ n
+pub record Told (at : ℕ) (ps : List Part) (ts : List Thing) (n : ℕ) : Type 0 where
+  pub have : HaveThings at ps ts
+  pub wide : parts_width ps ≡ n
 
 -- the node of these items, which are read so by themselves
 pub record IsNodeOf (u : ItemTree) (ys : List Item) : Type 0 where
@@ -304,7 +304,7 @@ form_told kind.Chars a at w ys zs f = absurd f.flat
 
 -- ---- the tiles of a line
 
-nodes_parts : (xs ys : List ContentSign) → AreNodes (xs ++ ys) → AreNodes xs × AreNodes ys
+pub nodes_parts : (xs ys : List ContentSign) → AreNodes (xs ++ ys) → AreNodes xs × AreNodes ys
 nodes_parts [] ys h = (tt, h)
 nodes_parts (letter c ∷ xs) ys h = nodes_parts xs ys h
 nodes_parts (thing t ∷ xs) ys h = let r = nodes_parts xs ys h.1 in ((h.0, r.0), r.1)
@@ -399,7 +399,7 @@ tiles_told (w ∷ ws) a at xs t p f n =
 
 -- ---- a line without styles is its tiles
 
-segments_parts : (ps : List (Shape × List Item)) → segment_parts (flat_map (tile_segments context_parts in_line) ps) ≡ flat_map (tile_part context_parts in_line) ps
+pub segments_parts : (ps : List (Shape × List Item)) → segment_parts (flat_map (tile_segments context_parts in_line) ps) ≡ flat_map (tile_part context_parts in_line) ps
 segments_parts [] = refl
 segments_parts ((w, xs) ∷ ps) =
     flat_map-append (λ (u : Segment). u.parts) (tile_segments context_parts in_line (w, xs)) (flat_map (tile_segments context_parts in_line) ps)
@@ -410,7 +410,7 @@ line_is : (xs : List Item) → has_run (segments context_parts in_line xs) ≡ f
 unfolding segments
 line_is xs e = contexts_are in_line xs (omega arith) ∙ unstyled (segments context_parts in_line xs) e ∙ segments_parts (tiles in_line xs)
 
-tiles_here : (at : ℕ) (xs : List Item) → AllByRecursion (IsPlaced in_line) (tiles in_line xs) → AreFlatTiles (tiles in_line xs) → AreNodes (line_signs at xs)
+pub tiles_here : (at : ℕ) (xs : List Item) → AllByRecursion (IsPlaced in_line) (tiles in_line xs) → AreFlatTiles (tiles in_line xs) → AreNodes (line_signs at xs)
     → Told at (flat_map (tile_part context_parts in_line) (tiles in_line xs)) (things (line_signs at xs)) (length (sources xs))
 unfolding tiles
 tiles_here at xs p f n = tiles_told (shapes in_line (map glyph_of xs)) false at xs (shapes_are in_line (map glyph_of xs)) p f n

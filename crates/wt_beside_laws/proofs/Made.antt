@@ -2,6 +2,8 @@
 pub mod OwnPages
 pub mod OldBlocks
 pub mod Levels
+pub mod Sealed
+pub mod NodesSealed
 pub mod Closes
 pub mod Items
 pub mod Letters

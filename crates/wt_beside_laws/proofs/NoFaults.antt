@@ -14,7 +14,7 @@ use Rattle.wt_content.specs.Content.{changed_from, standing_of, standing, faults
 use Rattle.wt_beside_laws.specs.SentNodes.{IsUnchanged, IsSentBy, AreSent}
 use Rattle.wt_beside_laws.specs.SentPieces.{FitsBy, TextsFit}
 
-stays_same : (p : Page) (l : Label) (ts : Trees) → IsUnchanged p l ts → standing p (tree l ts) ≡ stands.Same
+pub stays_same : (p : Page) (l : Label) (ts : Trees) → IsUnchanged p l ts → standing p (tree l ts) ≡ stands.Same
 stays_same p l ts h =
     ap (λ (o : Option Kept). standing_of p o (tree l ts)) h.found
     ∙ ap (λ (b : Bool). if b then stands.Same else changed_from (edit_shape (label h.kept.node).kind).inline) h.same

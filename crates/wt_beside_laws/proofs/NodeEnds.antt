@@ -192,7 +192,7 @@ url_fails (u ∷ us) le some = by (is_url_glyph u) (not (begins (codes "''") (u 
     by true false i z k = absurd (omega (arith, z))
     by false v i z k = absurd (omega (arith, z))
 
-kept_most : (us : List Glyph) → kept_len us ≤ length us
+pub kept_most : (us : List Glyph) → kept_len us ≤ length us
 unfolding kept_len
 kept_most us = omega arith
 
@@ -232,11 +232,11 @@ suffix_by k Level d g gs ys f e = let r = f d e in (suc r.0, r.1)
 suffix_by k Down zero g gs ys f e = (0, same_list (g ∷ gs) ys e)
 suffix_by k Down (suc d) g gs ys f e = let r = f d e in (suc r.0, r.1)
 
-partner_suffix : (k d : ℕ) (gs ys : List Glyph) → partner k d gs ≡ Some ys → (j : ℕ) × (drop j gs ≡ ys)
+pub partner_suffix : (k d : ℕ) (gs ys : List Glyph) → partner k d gs ≡ Some ys → (j : ℕ) × (drop j gs ≡ ys)
 partner_suffix k d [] ys e = cc
 partner_suffix k d (g ∷ gs) ys e = suffix_by k (tag_turn k (g ∷ gs)) d g gs ys (λ c z. partner_suffix k c gs ys z) e
 
-none_tagged : HasTag (tag_at []) → ⊥
+pub none_tagged : HasTag (tag_at []) → ⊥
 unfolding tag_at opening_tag closing_tag
 none_tagged h = h
 

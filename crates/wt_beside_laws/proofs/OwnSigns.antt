@@ -198,7 +198,7 @@ own_content same (tree l ts) pl tells h =
 
 -- ---- and the page's own nodes are as they are
 
-sent_own : (same : Tree → Tree → Bool) (block : Tree) (at from : ℕ) (l : Label) (ts : Trees) → TellsSame same → HasNoGroup (tree l ts)
+pub sent_own : (same : Tree → Tree → Bool) (block : Tree) (at from : ℕ) (l : Label) (ts : Trees) → TellsSame same → HasNoGroup (tree l ts)
     → Finds block (found_at at from (tree l ts)) → IsUnchanged (page_of same block) l ts
 sent_own same block at from l ts tells h f =
     record { kept = kept_of block (found_at at from (tree l ts)); found = f; same = own_unchanged same block (tree l ts) at from tells h }

@@ -115,13 +115,13 @@ past_loose k o b at (loose j i c ∷ r) others ts run h =
     subst (λ (n : ℕ). HaveThings n others ts) z (past_loose j i c (at + 1) r others ts run.1 h.1)
 past_loose k o b at (node x ∷ r) others ts run h = absurd (let no = run.0 in cc)
 
-loose_width : (k : Loose) (o : Option ℕ) (b : ℕ) (r others : List Part) → IsRun one_leaf (loose k o b ∷ r) others
+pub loose_width : (k : Loose) (o : Option ℕ) (b : ℕ) (r others : List Part) → IsRun one_leaf (loose k o b ∷ r) others
     → parts_width (loose k o b ∷ r) ≡ length (sources (held_parts (loose k o b ∷ r)))
 loose_width k o b [] others run = refl
 loose_width k o b (loose j i c ∷ r) others run = let more = loose_width j i c r others run.1 in omega (arith, more)
 loose_width k o b (node x ∷ r) others run = absurd (let no = run.0 in cc)
 
-leaf_source : (k : Loose) (own : List Item) → tree_source (loose_leaf k own) ≡ sources own
+pub leaf_source : (k : Loose) (own : List Item) → tree_source (loose_leaf k own) ≡ sources own
 leaf_source k own = ap sources (append-nil own)
 
 -- ---- the trees of parts
@@ -168,7 +168,7 @@ pub stands_kind : (n : ℕ) (before : List Item) (u : ItemTree) → (label (stan
 unfolding label_at
 stands_kind n before (inner h opening ts closing) = refl
 
-stands_form : (n : ℕ) (before : List Item) (u : ItemTree) (r : Role) → IsThing u r → IsThingForm (edit_shape (label (standing n before u)).kind).inline
+pub stands_form : (n : ℕ) (before : List Item) (u : ItemTree) (r : Role) → IsThing u r → IsThingForm (edit_shape (label (standing n before u)).kind).inline
 stands_form n before u r i = subst (λ (k : Kind). IsThingForm (edit_shape k).inline) (sym (stands_kind n before u)) i.form
 
 node_own : (block : Tree) (at from n : ℕ) (before : List Item) (u : ItemTree) (r : Role) → IsThing u r
@@ -246,7 +246,7 @@ stands_number : (n : ℕ) (before : List Item) (u : ItemTree) → (label (standi
 unfolding label_at
 stands_number n before (inner h opening ts closing) = refl
 
-node_number : (n : ℕ) (before : List Item) (u : ItemTree) (r : Role) → 0 < n → IsThing u r → (label (standing n before u)).id ≢ 0
+pub node_number : (n : ℕ) (before : List Item) (u : ItemTree) (r : Role) → 0 < n → IsThing u r → (label (standing n before u)).id ≢ 0
 node_number n before u r some i =
     let is : (label (standing n before u)).id ≡ n = stands_number n before u ∙ ap (λ (v : Bool). if v then n else 0) i.numbered in
     omega (arith, is, some)
@@ -284,7 +284,7 @@ lone_shows : (n : ℕ) (before : List Item) (u : ItemTree) (rest : Plains) → p
 unfolding children
 lone_shows n before u rest = shows_the_same 0 n [] before u rest
 
-shows_source : (same : Tree → Tree → Bool) (block : Tree) (at from n : ℕ) (before : List Item) (u : ItemTree) → IsAlone u
+pub shows_source : (same : Tree → Tree → Bool) (block : Tree) (at from n : ℕ) (before : List Item) (u : ItemTree) → IsAlone u
     → Finds block (found_at at from (standing n before u)) → ShowsItsSource (page_of same block) (standing n before u)
 shows_source same block at from n before u alone found = λ k e rest.
     let t : Tree = standing n before u in
@@ -358,11 +358,11 @@ shut_things [] h = tt
 shut_things (letter c ∷ signs) h = shut_things signs h
 shut_things (thing t ∷ signs) h = (h.0, shut_things signs h.1)
 
-none_of_both : (a b : Bool) → a ≡ false → b ≡ false → (a || b) ≡ false
+pub none_of_both : (a b : Bool) → a ≡ false → b ≡ false → (a || b) ≡ false
 none_of_both true b e f = cc
 none_of_both false b e f = f
 
-leaf_shut : (k : Loose) (own : List Item) (n : ℕ) (before : List Item) → IsText k → node_ends_open (standing n before (loose_leaf k own)) ≡ false
+pub leaf_shut : (k : Loose) (own : List Item) (n : ℕ) (before : List Item) → IsText k → node_ends_open (standing n before (loose_leaf k own)) ≡ false
 unfolding label_at
 leaf_shut Text own n before h = refl
 leaf_shut Sep own n before h = absurd h
@@ -379,7 +379,7 @@ open_is inline.Tag source inside f = refl
 open_is inline.Break source inside f = refl
 open_is inline.AsItStood source inside f = refl
 
-node_open : (t : Tree) → IsThingForm (edit_shape (label t).kind).inline → node_ends_open t ≡ ends_open (flat t)
+pub node_open : (t : Tree) → IsThingForm (edit_shape (label t).kind).inline → node_ends_open t ≡ ends_open (flat t)
 node_open (tree l ts) f = open_is (edit_shape l.kind).inline (flat (tree l ts)) (any_ends_open ts) f
 
 runs_shut : (rs : List (List Part)) (ps : List Part) (at n : ℕ) (before : List Item) (ts : List Thing) → AreRuns one_leaf rs ps → HaveThings at ps ts → ShutThings ts

@@ -26,7 +26,7 @@ use Rattle.wt_beside_laws.proofs.OwnSigns.{own_sent}
 
 -- ---- a node that is sent as it is
 
-same_face : (l m : Label) → IsSentAsIs l m → face m ≡ face l
+pub same_face : (l m : Label) → IsSentAsIs l m → face m ≡ face l
 same_face l m s =
     let F : Kind → List (AttrName × List ℕ) → Option DataMw → Face = λ k xs d. record { kind = k; attrs = xs; mw = d } in
     ap (λ (k : Kind). F k m.attrs m.mw) s.kind
@@ -51,7 +51,7 @@ mutual
   themselves ks none g = refl
   themselves ks (more t ts) g = ap (λ u. more u (restored_all ks ts)) (itself ks t g.0) ∙ ap (more t) (themselves ks ts g.1)
 
-not_group : {A B : Type 0} (b : Bool) → b ≡ true → b ≡ false → A → B
+pub not_group : {A B : Type 0} (b : Bool) → b ≡ true → b ≡ false → A → B
 not_group b e f a = absurd (cc)
 
 mutual
@@ -78,7 +78,7 @@ either : (a b c : Bool) → (a || b) ≡ true → (b ≡ true → c ≡ true) �
 either true b c e f = refl
 either false b c e f = f e
 
-stays_unchanged : (same : Tree → Tree → Bool) (block : Tree) (l m : Label) (ts us : Trees) → TellsSame same → StandsAsIs (tree l ts) (tree m us)
+pub stays_unchanged : (same : Tree → Tree → Bool) (block : Tree) (l m : Label) (ts us : Trees) → TellsSame same → StandsAsIs (tree l ts) (tree m us)
     → HasNoGroup (tree l ts) → IsUnchanged (page_of same block) l ts → IsUnchanged (page_of same block) m us
 stays_unchanged same block l m ts us tells h g e =
     let p : Page = page_of same block in

@@ -10,6 +10,18 @@ pub mod StyledParagraphs
 pub mod StyledShown
 pub mod SentStyles
 pub mod StyledNodes
+pub mod BlockNodes
+pub mod BlockStyles
+pub mod SentAmong
+pub mod SentWhole
+pub mod SentFaults
+pub mod Making
+pub mod HeldStyles
+pub mod StyledWritten
 pub mod StyledHeadings
 pub mod StyledAgain
+pub mod OldStyled
+pub mod StyledTexts
+pub mod OwnStyled
 mod Cases
+mod InCases

@@ -72,7 +72,6 @@ pub record IsFlatIn (k : TextBlock) (q : List ℕ) : Type 0 where
   pub kept : AreKept (signs_in k q)
   pub calm : AreCalm (signs_in k q)
   pub shut : AreShut (signs_in k q)
-  pub sealed : AreSealed (signs_in k q)
 
 -- ---- what is sent for it
 

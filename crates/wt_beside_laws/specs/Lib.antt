@@ -25,3 +25,5 @@ pub mod StyledShown
 pub mod SentStyled
 pub mod StyledNodes
 pub mod StyledHeadings
+pub mod StyledBlocks
+pub mod StyledIn

@@ -72,10 +72,12 @@ ghost use Rattle.wt_tiles.specs.declared.glyph.GlyphClass.TheVariants as class;
 mod styles;
 
 pub use styles::{
-    contents_sent_with_styles_are_such, contents_with_styles_are_such_again,
+    blocks_with_styles_have_their_nodes, contents_sent_with_styles_are_such,
+    contents_with_styles_are_such_again, contents_with_styles_may_take_their_place,
     lines_with_styles_have_even_toggles, nodes_of_the_page_stay_in_styles,
-    styles_that_nest_are_read, texts_in_styles_are_one_paragraph, texts_in_styles_are_shown,
-    texts_in_styles_may_be_in_headings, texts_in_styles_stand_between_lines,
+    styled_contents_are_made, styles_that_nest_are_read, texts_in_styles_are_one_paragraph,
+    texts_in_styles_are_shown, texts_in_styles_may_be_in_headings,
+    texts_in_styles_stand_between_lines, texts_sent_in_styles_are_such,
 };
 
 /// A content of text that is typed and of nodes that stay, as it is spelled, makes no lexeme over the border of a text and

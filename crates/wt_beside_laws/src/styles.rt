@@ -1,14 +1,15 @@
 //! Laws of texts that are typed beside and inside of bold and italic: how such a content is read.
 
-ghost use Rattle.std.specs.Prelude.{◌≡◌, ℕ, Bool, true, false, List, [], ◌∷◌, ◌++◌};
+ghost use Rattle.std.specs.Prelude.{◌≡◌, ℕ, ◌<◌, Bool, true, false, List, [], ◌∷◌, ◌++◌, length};
 ghost use Rattle.wt_span.specs.Items.{Item};
 ghost use Rattle.wt_tree.specs.declared.edit_shape.Place.{Place as Where};
 ghost use Rattle.wt_tree.specs.Plain.{Plains, plains_before};
-ghost use Rattle.wt_tree.specs.Tree.{Trees};
+ghost use Rattle.wt_tree.specs.Tree.{Label, Tree, Trees, label};
 ghost use Rattle.wt_guards.specs.Content.{ContentSign};
 ghost use Rattle.wt_guards.specs.Guards.{Setting, spelled};
-ghost use Rattle.wt_original.specs.Page.{Page as Known};
-ghost use Rattle.wt_link_spelling.specs.Spelling.{signs_of_all};
+ghost use Rattle.wt_original.specs.Kept.{kept_nodes};
+ghost use Rattle.wt_original.specs.Page.{Page as Known, page_of};
+ghost use Rattle.wt_link_spelling.specs.Spelling.{children_of, signs_of_all};
 ghost use Rattle.wt_expand.specs.PageItems.{page_items};
 ghost use Rattle.wt_quotes.specs.Toggles.{is_odd, toggles_by_length, toggles_of};
 ghost use Rattle.wt_tiles.specs.Contexts.{in_line};
@@ -20,20 +21,27 @@ ghost use Rattle.wt_headings.specs.Headings.{heading};
 ghost use Rattle.wt_page.specs.Body.{meaning};
 ghost use Rattle.wt_page.specs.Rows.{rows};
 ghost use Rattle.wt_page.specs.Texts.{para};
+ghost use Rattle.wt_moved_laws.specs.Standing.{standing};
+ghost use Rattle.wt_typed_blocks.specs.Edited.{Piece};
+ghost use Rattle.wt_text_edit_laws.specs.Contents.{IsContent, IsNewContent};
 ghost use Rattle.wt_text_edit_laws.specs.ParagraphBetween.{AreClosed, before_marks, EndsApart, EndsParagraph, blocks_in, body_with};
 ghost use Rattle.wt_text_edit_laws.specs.ParagraphParts.{para_with};
+ghost use Rattle.wt_text_edit_laws.specs.TextBlocks.{TextBlock, block_tree};
 ghost use Rattle.wt_text_edit_laws.specs.TypedHeadings.{Sides, AreSides, heading_line, IsOfLevel, IsHeadingInside, EndsLine};
 ghost use Rattle.wt_beside_laws.specs.Content.{AreKept};
+ghost use Rattle.wt_beside_laws.specs.ContentEdits.{new_content, MakesContent};
 ghost use Rattle.wt_beside_laws.specs.InHeadings.{KeepsLevel, heading_of};
 ghost use Rattle.wt_beside_laws.specs.Lines.{AreCharacters, line_items, content_lines};
 ghost use Rattle.wt_beside_laws.specs.Nests.{Nest, nest_segments, nest_parts, IsNest};
 ghost use Rattle.wt_beside_laws.specs.Nodes.{AreNodes, AllMeet};
-ghost use Rattle.wt_beside_laws.specs.PageBlocks.{AreShut};
+ghost use Rattle.wt_beside_laws.specs.PageBlocks.{AreShut, IsBlockOfLines};
 ghost use Rattle.wt_beside_laws.specs.PageSigns.{signs_of_lines, AreFlatLines};
 ghost use Rattle.wt_beside_laws.specs.SentStyled.{sent_content, AreStyledSent, AllNest, AllShow};
 ghost use Rattle.wt_beside_laws.specs.Shown.{parts_shown_at};
 ghost use Rattle.wt_beside_laws.specs.Styled.{StyledContent, signs_in, AreNested, IsStyledContent, styled_parts};
+ghost use Rattle.wt_beside_laws.specs.StyledBlocks.{all_numbers, things_with, AreSomeOf};
 ghost use Rattle.wt_beside_laws.specs.StyledHeadings.{IsStyledHeading};
+ghost use Rattle.wt_beside_laws.specs.StyledIn.{IsStyledIn, IsStyledFor, IsStyledEditOf};
 ghost use Rattle.wt_beside_laws.specs.StyledNodes.{AreSomeAndPut, AreUrlsApart};
 ghost use Rattle.wt_beside_laws.specs.StyledShown.{styled_shown};
 ghost use Rattle.wt_beside_laws.specs.Stood.{things};
@@ -125,4 +133,43 @@ pub fn contents_with_styles_are_such_again()
     ensures lines { (s : Setting) (t : StyledContent) → IsStyledContent s t → AreFlatLines (content_lines s (signs_in t)) }
     ensures kept { (at : ℕ) (s : Setting) (t : StyledContent) → IsStyledContent s t → AreKept (signs_of_lines at (content_lines s (signs_in t))) }
     ensures shut { (at : ℕ) (s : Setting) (t : StyledContent) → IsStyledContent s t → AreShut (signs_in t) → AreShut (signs_of_lines at (content_lines s (signs_in t))) }
+{}
+
+/// A paragraph or a heading of the page that flat lines make (`IsBlockOfLines`, `AreFlatLines`), with bold and italic or without, has as its nodes
+/// those of its lines by their tiles: each is found in the block by its number, those in its styles among them (`all_numbers`), with its source,
+/// its place, and what it is to its neighbours.
+#[tactic(auto, using(crate::proofs::Styled::BlockStyles::styled_nodes))]
+pub fn blocks_with_styles_have_their_nodes()
+    ensures { (ls : List (List Item)) (block : Tree) → AreFlatLines ls → IsBlockOfLines ls block
+        → things_with (kept_nodes block) (all_numbers (children_of block)) ≡ things (signs_of_lines (length (label block).opening) ls) }
+{}
+
+/// What an editor sends of such a block is such a content, whatever is typed: nodes with numbers of the block's own, any of them in their order,
+/// directly in it or in bold and italic, which may be others than the block's, and which nest (`AllNest`). It is asked that the source of each node
+/// of the block stands, and that no bare URL is directly before a delimiter in the page.
+pub fn texts_sent_in_styles_are_such()
+    ensures { (same : Tree → Tree → Bool) (s : Setting) (ls : List (List Item)) (block : Tree) (us : Trees) → s.within ≡ false → AreFlatLines ls
+        → IsBlockOfLines ls block → AreKept (signs_of_lines (length (label block).opening) ls) → AllNest (page_of same block) false false us
+        → AreSomeOf (all_numbers us) (all_numbers (children_of block)) → AreCharacters (signs_in (sent_content (page_of same block) us))
+        → AreUrlsApart (things (signs_in (sent_content (page_of same block) us))) → IsStyledContent s (sent_content (page_of same block) us) }
+{}
+
+/// A paragraph or a heading with bold and italic (`IsStyledIn`) holds a content that is read by itself, whatever is round it; and what is written
+/// for such a content, with nodes that it had, in their order, and any texts and styles (`IsStyledFor`), may stand in its place, and is one again.
+pub fn contents_with_styles_may_take_their_place()
+    ensures content { (k : TextBlock) (q : List ℕ) → IsStyledIn k q → IsContent k q }
+    ensures new { (k : TextBlock) (q : List ℕ) (s : Setting) (t : StyledContent) → IsStyledIn k q → IsStyledFor k q s t
+        → IsNewContent k q (spelled s (signs_in t)) }
+    ensures again { (k : TextBlock) (q : List ℕ) (s : Setting) (t : StyledContent) → IsStyledIn k q → IsStyledFor k q s t
+        → IsStyledIn k (spelled s (signs_in t)) }
+{}
+
+/// Such a paragraph or heading (`IsStyledIn`), wherever it is in a page, takes any texts beside its nodes, bold and italic ones among them, which
+/// stay with all that they hold (`IsStyledEditOf`). What is sent for it is taken, what is written for it may stand in the place of the old content
+/// and shows what was sent (`MakesContent`), and it is such a block again.
+pub fn styled_contents_are_made()
+    ensures made { (k : TextBlock) (q : List ℕ) (n : ℕ) (before : List Item) (block : Tree) (m : Label) (ps : List Piece) → IsStyledIn k q → 0 < n
+        → block ≡ standing n before (block_tree k q) → IsStyledEditOf k block ps → MakesContent k q block m ps }
+    ensures again { (k : TextBlock) (q : List ℕ) (n : ℕ) (before : List Item) (block : Tree) (m : Label) (ps : List Piece) → IsStyledIn k q → 0 < n
+        → block ≡ standing n before (block_tree k q) → IsStyledEditOf k block ps → IsStyledIn k (new_content k block m ps) }
 {}

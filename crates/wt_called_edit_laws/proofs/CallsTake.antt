@@ -16,6 +16,7 @@ use Rattle.wt_called_edit_laws.proofs.EditFacts.{IsFramedPage, framed_page, path
 use Rattle.wt_called_edit_laws.proofs.EditTaken.{IsContentsEdit, edit_done, unmarked_done}
 use Rattle.wt_called_edit_laws.proofs.Leads.{edit_at}
 use Rattle.wt_called_edit_laws.proofs.NodesTold.{found_apart}
+use Rattle.wt_called_edit_laws.proofs.OwnContents.{own_contents}
 
 pub numbered_body : (pages : Pages) (ss : List BlockSpot) (behind : List ℕ) → IsCalledPage pages ss behind → IsNumberedBody (spots_tree pages ss behind)
 numbered_body pages ss behind h = let b = spots_body pages ss behind h in record { body = b.kind; numbered = b.numbered; alone = b.unframed }
@@ -35,6 +36,7 @@ pub contents_by : (pages : Pages) (ss : List BlockSpot) (behind : List ℕ) → 
 contents_by pages ss behind f h = record {
   paths = paths_of f;
   stand = spots_stand pages ss behind f h;
+  edits = own_contents (spots_tree pages ss behind) ss f.nodes (numbered_body pages ss behind h) (spots_stand pages ss behind f h);
   takes = λ b es e le. edit_done pages ss behind f es b (as_contents pages ss behind f es h e) le;
   unmarked = λ stands input b unsourced es e found short le small is.
       unmarked_done pages ss behind f es b stands input unsourced (as_contents pages ss behind f es h e.edit) (told pages ss behind f es h e) found short le small is;

@@ -28,9 +28,10 @@ use Rattle.wt_called_trees.proofs.FrameEnds.{held}
 use Rattle.wt_called_trees.proofs.FramesWalked.{no_leaf}
 use Rattle.wt_called_trees.proofs.OwnWalks.{OfPage, HasPage, own_clean}
 use Rattle.wt_called_edit_laws.specs.AnyBlocks.{AreSpots}
+use Rattle.wt_called_edit_laws.specs.ItemSpots.{AreContentSpots}
 use Rattle.wt_called_edit_laws.specs.CalledBlocks.{AreAmongCalls, tree_by, StandAmongCalls}
-use Rattle.wt_called_edit_laws.proofs.Cells.CalledFrames.{spots_among_calls, stand_among}
-use Rattle.wt_called_edit_laws.proofs.Cells.SpotTrees.{same_self, over_self, over_expanded, over_unrefused}
+use Rattle.wt_called_edit_laws.proofs.Cells.CalledFrames.{contents_among_calls, texts_are_contents, stand_among}
+use Rattle.wt_text_edit_laws.proofs.Blocks.BlockReading.{read_expanded, read_unrefused}
 use Rattle.wt_called_edit_laws.proofs.Cells.ToldApart.{part_kind}
 use Rattle.wt_called_edit_laws.specs.CalledPages.{IsCalledPage}
 
@@ -75,18 +76,18 @@ retyped_self : (ss : List BlockSpot) → AreRetyped ss ss
 retyped_self [] = tt
 retyped_self (s ∷ ss) = (refl, refl, inl refl, retyped_self ss)
 
-page_plain : (pages : Pages) (ss : List BlockSpot) (behind : List ℕ) (f : StandAmongCalls pages ss behind) → AreSpots ss behind
+page_plain : (pages : Pages) (ss : List BlockSpot) (behind : List ℕ) (f : StandAmongCalls pages ss behind) → AreContentSpots ss behind
     → IsPlain (body_with (trees_at (tree_by ss) f.frames))
 page_plain pages ss behind f h =
     let page : List ℕ = spots_source ss behind in
     let means : meaning (page_items page) ≡ body_with (trees_at (tree_by ss) f.frames) =
-    ap (λ (x : Expanded). meaning x.items) (sym (over_expanded pages ss ss behind h (same_self ss) (over_self ss))) ∙ f.means ss (retyped_self ss) in
+    ap (λ (x : Expanded). meaning x.items) (sym (read_expanded pages ss behind h.read)) ∙ f.means ss (retyped_self ss) in
     only_plain [] (group_data []) (forest (trees_at (tree_by ss) f.frames))
     (subst (λ (t : ItemTree). HasNoGroup (annotated [] (group_data []) t)) means h.ungrouped)
 
-pub calm_pages : (pages : Pages) (ss : List BlockSpot) (behind : List ℕ) → AreSpots ss behind → IsCalledPage pages ss behind
-calm_pages pages ss behind h =
-    let among : AreAmongCalls pages ss behind = spots_among_calls pages ss behind h in
+pub calm_contents : (pages : Pages) (ss : List BlockSpot) (behind : List ℕ) → AreContentSpots ss behind → IsCalledPage pages ss behind
+calm_contents pages ss behind h =
+    let among : AreAmongCalls pages ss behind = contents_among_calls pages ss behind h in
     let f : StandAmongCalls pages ss behind = stand_among pages ss behind among in
     let full : IsPlain (body_with (trees_at (tree_by ss) f.frames)) = page_plain pages ss behind f h in
     record {
@@ -95,5 +96,8 @@ calm_pages pages ss behind h =
         stand = f;
         clean = frames_clean (tree_by ss) f.frames content None None f.of_cells (all_split (held (tree_by ss) f.frames) [] full.of_page).0 full.none_empty;
       };
-      unrefused = over_unrefused pages ss ss behind h (same_self ss) (over_self ss);
+      unrefused = read_unrefused pages ss behind h.read;
     }
+
+pub calm_pages : (pages : Pages) (ss : List BlockSpot) (behind : List ℕ) → AreSpots ss behind → IsCalledPage pages ss behind
+calm_pages pages ss behind h = calm_contents pages ss behind (texts_are_contents ss behind h)

@@ -22,6 +22,8 @@ pub mod TextsUntangled
 pub mod CalledUtf8
 pub mod EditFacts
 pub mod EditTaken
+pub mod TextContents
+pub mod OwnContents
 pub mod CallsTake
 pub mod TextsTaken
 pub mod BareInsides

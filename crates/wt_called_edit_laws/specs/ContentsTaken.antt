@@ -10,15 +10,18 @@ use Rattle.wt_typed_blocks.specs.Edited.{Edits}
 use Rattle.wt_text_edit_laws.specs.BlockSpots.{BlockSpot, spots_source}
 use Rattle.wt_called_edit_laws.specs.CalledPages.{IsCalledPage}
 use Rattle.wt_called_edit_laws.specs.CalledTexts.{spots_tree}
+use Rattle.wt_called_edit_laws.specs.ChosenContents.{HasContentEdits}
 use Rattle.wt_called_edit_laws.specs.EditsAt.{AllStand, edited_by, with_contents, edited_page, IsContentEdit, sent_contents, bare_contents, IsUnmarkedContentEdit}
 
 -- The blocks are at paths of the page's tree at which their contents may be edited, in any of them at once:
+-- * whatever contents that may be sent are chosen, there is such an edit;
 -- * the edit is done, and the new page is the same with these contents in them, as they are spelled;
 -- * without marks, too, `edit` of the difference is done;
 -- * the new page is such a page again.
 pub record TakesContents (pages : Pages) (ss : List BlockSpot) (behind : List ℕ) : Type 0 where
   pub paths : List (List ℕ)
   pub stand : AllStand ss paths (spots_tree pages ss behind)
+  pub edits : HasContentEdits (spots_tree pages ss behind) ss paths
   pub takes : (b : Label) (es : Edits) → IsContentEdit (spots_tree pages ss behind) ss paths es → length (edited_page ss behind paths es) ≤ PAGE_BYTES
       → edit_to pages (spots_source ss behind) (sent_contents (spots_tree pages ss behind) es b) ≡ done (edited_page ss behind paths es)
   pub unmarked : (stands : Option (List ℕ)) (input : List ℕ) (b : Label) (unsourced : Option ℕ) (es : Edits)

@@ -2,7 +2,8 @@
 use Rattle.std.specs.Prelude.{◌≡◌, ◌⊎◌, ℕ, Bool, List, [], ◌∷◌, ◌++◌, length}
 use Rattle.wt_span.specs.Items.{Item}
 use Rattle.wt_expand.specs.PageItems.{page_items}
-use Rattle.wt_text_edit_laws.specs.BlockSpots.{BlockSpot}
+use Rattle.wt_text_edit_laws.specs.BlockSpots.{BlockSpot, spots_source, AreRead}
+use Rattle.wt_text_edit_laws.specs.Parts.{HasNoGroups}
 use Rattle.wt_text_edit_laws.specs.TextBlocks.{TextBlock, block_items}
 use Rattle.wt_text_edit_laws.specs.Contents.{IsContent, IsNewContent}
 use Rattle.wt_called_edit_laws.specs.AnyBlocks.{open_behind_part, StaysText, LeadsInto, past_break, BeginsAfter, EndsAfter}
@@ -42,6 +43,15 @@ ArePlacedAfter last bs (s ∷ ss) behind =
 abbrev pub ArePlaced : List ItemSpot → List Item → Type 0
 ArePlaced [] behind = ⊥
 ArePlaced (s ∷ ss) behind = IsPlacedAt [] s.before s × ArePlacedAfter s.block (open_behind_part [] s.before) ss behind
+
+-- ---- a page without calls
+
+-- Paragraphs and headings with any contents, in its body, in cells and in captions. The page calls nothing, what begins before a block or in its
+-- content ends there, and no node of the page can only be kept as a whole.
+pub record AreContentSpots (ss : List BlockSpot) (behind : List ℕ) : Type 0 where
+  pub read : AreRead ss behind
+  pub placed : ArePlaced (items_of_spots ss) (page_items behind)
+  pub ungrouped : HasNoGroups (spots_source ss behind)
 
 -- ---- the same but for the contents
 

@@ -9,6 +9,7 @@ pub mod PathsTo
 pub mod TreeEdits
 pub mod CalledTexts
 pub mod EditsAt
+pub mod ChosenContents
 pub mod ContentsTaken
 pub mod Settled
 pub mod SettledPages

@@ -20,6 +20,7 @@ ghost use Rattle.wt_text_edit_laws.specs.TextBlocks.{a_paragraph};
 ghost use Rattle.wt_text_edit_laws.specs.TypedPages.{IsTypedPage};
 ghost use Rattle.wt_called_edit_laws.specs.AnyBlocks.{AreSpots, AllLead};
 ghost use Rattle.wt_called_edit_laws.specs.AnyTexts.{TakesAnyTexts};
+ghost use Rattle.wt_called_edit_laws.specs.ItemSpots.{AreContentSpots};
 ghost use Rattle.wt_called_edit_laws.specs.CalledBlocks.{AreAmongCalls, StandAmongCalls};
 ghost use Rattle.wt_called_edit_laws.specs.CellEdits.{CellPage, page_with, IsCellPage, IsCellEdit, LeadsFrom, TakesText, own_sents};
 ghost use Rattle.wt_called_edit_laws.specs.HeadingsInCells.{IsHeadingInCell, HeadingStandsInCell};
@@ -40,7 +41,9 @@ ghost use Rattle.wt_called_edit_laws.specs.Sends.{ContentsMake};
 ghost use Rattle.wt_called_edit_laws.specs.Stand.{BlocksStand, BlocksAreFree};
 ghost use Rattle.wt_called_edit_laws.specs.TreeEdits.{IsNumberedBody, HasOwnEdits, AreFoundApart};
 ghost use Rattle.wt_called_edit_laws.specs.CalledTexts.{TakesTextsAmong};
+ghost use Rattle.wt_called_edit_laws.specs.ChosenContents.{HasContentEdits};
 ghost use Rattle.wt_called_edit_laws.specs.ContentsTaken.{TakesContents};
+ghost use Rattle.wt_called_edit_laws.specs.EditsAt.{AllStand};
 ghost use Rattle.wt_called_edit_laws.specs.Settled.{IsSettled};
 ghost use Rattle.wt_called_edit_laws.specs.SettledPages.{OnlyTextsAreOthers};
 ghost use Rattle.wt_called_edit_laws.specs.Covered.{CleanWhereFree, IsEditablePage};
@@ -132,9 +135,9 @@ pub fn blocks_among_calls_stand_at_their_places()
         → AreAmongCalls pages rs behind }
 {}
 
-/// A page that calls nothing (`AreSpots`) is such a page, too.
+/// A page that calls nothing (`AreContentSpots`) is such a page, too.
 pub fn pages_without_calls_are_among_these()
-    ensures { (pages : Pages) (ss : List BlockSpot) (behind : List ℕ) → AreSpots ss behind → AreAmongCalls pages ss behind }
+    ensures { (pages : Pages) (ss : List BlockSpot) (behind : List ℕ) → AreContentSpots ss behind → AreAmongCalls pages ss behind }
 {}
 
 /// Where texts are typed in paragraphs and headings among calls, and no node round one of them is in a group, the page's
@@ -160,10 +163,11 @@ pub fn blocks_among_calls_are_untangled()
         → AreUntangledFrom (expanded_page pages (spots_source ss behind)) (spots_source ss behind) 0 ss }
 {}
 
-/// A page that calls nothing, and of which no node can only be kept as a whole (`AreSpots`), is
-/// such a page, whatever pages the folder has.
+/// A page that calls nothing, and of which no node can only be kept as a whole (`AreContentSpots`), is such a page, whatever
+/// its paragraphs and headings hold, and whatever pages the folder has. They may hold texts (`AreSpots`).
 pub fn pages_without_calls_are_called_pages()
-    ensures { (pages : Pages) (ss : List BlockSpot) (behind : List ℕ) → AreSpots ss behind → IsCalledPage pages ss behind }
+    ensures called { (pages : Pages) (ss : List BlockSpot) (behind : List ℕ) → AreContentSpots ss behind → IsCalledPage pages ss behind }
+    ensures texts { (ss : List BlockSpot) (behind : List ℕ) → AreSpots ss behind → AreContentSpots ss behind }
 {}
 
 /// A page with calls, with places for paragraphs and headings in its body and in the cells and captions of its tables.
@@ -203,6 +207,13 @@ pub fn any_texts_may_be_typed_at_paths()
     ensures { (t : Tree) (ss : List BlockSpot) (fs : TreeFrames) → IsNumberedBody t → AllLead ss (paths_to fs) t → HasOwnEdits t ss (paths_to fs) }
 {}
 
+/// And whatever contents that may be sent (`Fits`) are chosen for the blocks at the places, of which nodes each stays as
+/// it is or is gone, there is an edit that sends these: every other node is sent so, too.
+#[tactic(auto, using(crate::proofs::OwnContents::own_contents))]
+pub fn any_contents_may_be_sent_at_paths()
+    ensures { (t : Tree) (ss : List BlockSpot) (fs : TreeFrames) → IsNumberedBody t → AllStand ss (paths_to fs) t → HasContentEdits t ss (paths_to fs) }
+{}
+
 /// Without marks, too: where each content that was sent shows something else than what its block held, the difference
 /// finds what was edited.
 #[tactic(auto, using(crate::proofs::NodesTold::found_apart))]
@@ -215,7 +226,7 @@ pub fn edited_contents_at_places_are_told_apart()
 /// that a block holds; in a block whose content is flat (`IsFlatIn` of `wt_beside_laws`) it may also type texts beside
 /// the nodes that it holds, and delete and change texts. It is done: the new page has these contents, as they are
 /// spelled, and every other byte is what it was; unless it is longer than a page may be. Without marks, too, where each
-/// edited block shows something else. The new page is such a page again.
+/// edited block shows something else. For any such contents there is such an edit. The new page is such a page again.
 #[tactic(auto, using(crate::proofs::CallsTake::contents_taken))]
 pub fn contents_among_calls_are_taken()
     ensures { (pages : Pages) (ss : List BlockSpot) (behind : List ℕ) → IsCalledPage pages ss behind → TakesContents pages ss behind }

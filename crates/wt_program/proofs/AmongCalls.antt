@@ -59,6 +59,7 @@ calls_take_there c ended pages ss behind ends as_edit told utf8 t =
     record {
       paths = t.paths;
       stand = t.stand;
+      edits = t.edits;
       edit = λ es e s.
           page_ends c ended (edited_page ss behind t.paths es)
           (answer_is c page (edited_page ss behind t.paths es) (sent_contents body es) utf8 s (edit_made c pages ss behind t es told e s)) ends;

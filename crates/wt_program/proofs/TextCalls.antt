@@ -20,7 +20,8 @@ use Rattle.wt_called_edit_laws.specs.TreeEdits.{IsEditOf, sent_body, free_sent_b
 use Rattle.wt_called_edit_laws.proofs.BlocksOutside.{editable_called}
 use Rattle.wt_called_edit_laws.proofs.EditFacts.{spots_contents}
 use Rattle.wt_called_edit_laws.proofs.Leads.{all_lead}
-use Rattle.wt_called_edit_laws.proofs.TextsTaken.{as_contents, same_page, all_own}
+use Rattle.wt_called_edit_laws.proofs.TextsTaken.{same_page, all_own}
+use Rattle.wt_called_edit_laws.proofs.TextContents.{as_contents}
 use Rattle.wt_program.specs.AnyCalls.{SendsFor}
 use Rattle.wt_program.specs.CalledCalls.{TakesThemAmong, TakesTextsAmongCalls}
 use Rattle.wt_program.specs.Calls.{WroteNewPage}

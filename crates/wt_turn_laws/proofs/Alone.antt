@@ -457,7 +457,7 @@ untouched page s (i ∷ way) t u p v b g at n e =
 
 -- ---- a page
 
-body_is : (k : Kind) → is_body k ≡ true → k ≡ kind.Body
+pub body_is : (k : Kind) → is_body k ≡ true → k ≡ kind.Body
 body_is kind.Body e = refl
 body_is k e = absurd (cc)
 
@@ -483,7 +483,7 @@ unedited_untouched t u w o way p v at n e =
 pub body_behind : (u : Tree) → is_body (label u).kind ≡ true → behind_inside u ≡ children u
 body_behind (tree m us) e = ap (λ (k : Kind). if has_inside k then from_blocks us else us) (body_is m.kind e)
 
-body_inside : (t : Tree) → (label t).kind ≡ kind.Body → inside_end t ≡ inside_start (label t).ranges
+pub body_inside : (t : Tree) → (label t).kind ≡ kind.Body → inside_end t ≡ inside_start (label t).ranges
 body_inside (tree l ts) e = ap (λ (k : Kind). end_behind (inside_start l.ranges) (if has_inside k then before_blocks ts else none)) e
 
 pub blocks_untouched : (t u : Tree) → IsWholePage t → IsOneBody u → (i : ℕ) (v : Tree) → slice_get (listed (children u)) i ≡ Some v

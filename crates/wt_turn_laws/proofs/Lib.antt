@@ -4,6 +4,7 @@ pub mod Bytes
 mod Cases
 pub mod Choosing
 pub mod Fitting
+pub mod Going
 pub mod Standing
 pub mod Touching
 pub mod Unedited

@@ -19,7 +19,7 @@ use Rattle.wt_turn_laws.proofs.Fitting.{begins, closes_before, end_at, in_order,
 -- ---- places
 
 -- what is said of a place with a number
-abbrev IfKept : (Place → Type 0) → Place → Type 0
+abbrev pub IfKept : (Place → Type 0) → Place → Type 0
 IfKept P q = is_kept q ≡ true → P q
 
 all_of : (P : Place → Type 0) (ps : List Place) → ((q : Place) → P q) → AllByRecursion P ps
@@ -34,7 +34,7 @@ mutual
     none_kept_of P (parent_below parent l.id) (w || is_content l.mark) ts z.1,
   )
 
-  none_kept_of : (P : Place → Type 0) (parent : ℕ) (w : Bool) (ts : Trees) → AllZero (ids_of_all ts) → AllByRecursion (IfKept P) (all_placed parent w ts)
+  pub none_kept_of : (P : Place → Type 0) (parent : ℕ) (w : Bool) (ts : Trees) → AllZero (ids_of_all ts) → AllByRecursion (IfKept P) (all_placed parent w ts)
   none_kept_of P parent w none z = tt
   none_kept_of P parent w (more t ts) z =
       let y = each_split (λ n. n ≡ 0) (ids t) (ids_of_all ts) z in
@@ -131,10 +131,10 @@ mutual
       (all_bounded parent w ts (end_at t) d a b (omega (arith, first, all, least)) most tiled.2 bare.1)
 
 -- the numbers of places rise
-abbrev Greater : ℕ → Place → Type 0
+abbrev pub Greater : ℕ → Place → Type 0
 Greater n q = n < number q
 
-abbrev InNumber : List Place → Type 0
+abbrev pub InNumber : List Place → Type 0
 InNumber [] = Unit {0}
 InNumber (p ∷ ps) = (is_kept p ≡ true → AllByRecursion (IfKept (Greater (number p))) ps) × InNumber ps
 
@@ -162,7 +162,7 @@ pub in_number : (ps : List Place) → Increasing (map number (filter is_kept ps)
 in_number [] h = tt
 in_number (p ∷ ps) h = let s = head_by (is_kept p) p ps refl h in (s.0, in_number ps s.1)
 
-number_split : (xs ys : List Place) → InNumber (xs ++ ys) → InNumber xs × InNumber ys
+pub number_split : (xs ys : List Place) → InNumber (xs ++ ys) → InNumber xs × InNumber ys
 number_split [] ys h = (tt, h)
 number_split (x ∷ xs) ys h =
     let r = number_split xs ys h.1 in ((λ k. (each_split (IfKept (Greater (number x))) xs ys (h.0 k)).0, r.0), r.1)
@@ -194,7 +194,7 @@ follow_join (x ∷ xs) ys a m b f g h s =
     (each_join (IfKept (Follows x)) xs ys f.0 (all_after x ys a m b h.0 s), follow_join xs ys a m b f.1 g h.1 s)
 
 -- the kept parents of places below are this one, or nodes with greater numbers
-abbrev Under : ℕ → ℕ → Place → Type 0
+abbrev pub Under : ℕ → ℕ → Place → Type 0
 Under parent n q = (q.parent ≡ parent) ⊎ (n < q.parent)
 
 under_more : (parent m n : ℕ) (q : Place) → n < m → Under m n q → Under parent n q
@@ -218,7 +218,7 @@ mutual
         (all_under n (parent_below parent l.id) (w || is_content l.mark) ts g.1),
   )
 
-  all_under : (n parent : ℕ) (w : Bool) (ts : Trees) → AllByRecursion (IfKept (Greater n)) (all_placed parent w ts)
+  pub all_under : (n parent : ℕ) (w : Bool) (ts : Trees) → AllByRecursion (IfKept (Greater n)) (all_placed parent w ts)
       → AllByRecursion (Under parent n) (all_placed parent w ts)
   all_under n parent w none g = tt
   all_under n parent w (more t ts) g =
@@ -275,7 +275,7 @@ mutual
       (all_bounded parent w ts (end_at t) b (end_at t) b (omega arith) (omega arith) tiled.2 bare.1)
 
 -- two that are found by their numbers
-kept_found : (n : ℕ) (q : Place) → n ≢ 0 → number q ≡ n → is_kept q ≡ true
+pub kept_found : (n : ℕ) (q : Place) → n ≢ 0 → number q ≡ n → is_kept q ≡ true
 kept_found n q z e = not_zero_kept (number q) (λ x. z (sym e ∙ x))
 
 ordered : (ps : List Place) → InNumber ps → AllFollow ps → (m n : ℕ) (p q : Place) → m ≢ 0 → m < n → numbered m ps ≡ Some p → numbered n ps ≡ Some q
@@ -337,7 +337,7 @@ rising k parent w (more (tree l us) ts) g i =
     (λ z. rising l.id parent w ts
     (each_split (IfKept (Greater l.id)) (all_placed (parent_below parent l.id) (w || is_content l.mark) us) (all_placed parent w ts) (i.0 z)).1 n.1)
 
-positive : (n : ℕ) → n ≢ 0 → 0 < n
+pub positive : (n : ℕ) → n ≢ 0 → 0 < n
 positive zero z = absurd (z refl)
 positive (suc n) z = omega arith
 

@@ -24,12 +24,12 @@ use Rattle.wt_turn_laws.proofs.Standing.{Sound, root_number, sound}
 
 -- ---- one of several places
 
-in_front : (s : Slot) (xs ys : List Slot) → IsAmong s xs → IsAmong s (xs ++ ys)
+pub in_front : (s : Slot) (xs ys : List Slot) → IsAmong s xs → IsAmong s (xs ++ ys)
 in_front s [] ys h = absurd h
 in_front s (x ∷ xs) ys (inl e) = inl e
 in_front s (x ∷ xs) ys (inr h) = inr (in_front s xs ys h)
 
-in_rest : (s : Slot) (xs ys : List Slot) → IsAmong s ys → IsAmong s (xs ++ ys)
+pub in_rest : (s : Slot) (xs ys : List Slot) → IsAmong s ys → IsAmong s (xs ++ ys)
 in_rest s [] ys h = h
 in_rest s (x ∷ xs) ys h = inr (in_rest s xs ys h)
 
@@ -38,7 +38,7 @@ of_all P s [] h a = absurd a
 of_all P s (x ∷ xs) h (inl e) = subst P (sym e) h.0
 of_all P s (x ∷ xs) h (inr a) = of_all P s xs h.1 a
 
-gap_there : (b : Bool) (x y : ℕ) → b ≡ true → IsAmong (slot x y) (gap b x y)
+pub gap_there : (b : Bool) (x y : ℕ) → b ≡ true → IsAmong (slot x y) (gap b x y)
 gap_there true x y e = inl refl
 gap_there false x y e = absurd (true≢false (sym e))
 
@@ -52,7 +52,7 @@ came_now false b e = e
 
 -- ---- where something has come
 
-abbrev InTurnAt : Page → ℕ → ℕ → Trees → ℕ → Tree → Type 0
+abbrev pub InTurnAt : Page → ℕ → ℕ → Trees → ℕ → Tree → Type 0
 InTurnAt page holder n us j w = (slice_get (listed us) j ≡ Some w) × (slice_get (turns page holder n us) j ≡ Some true)
 
 -- a place that begins here, and ends before all that stay
@@ -173,12 +173,12 @@ first_before : (page : Page) (holder n : ℕ) (u : Tree) (us : Trees) (from : �
 first_before page holder n u us from ss c b zero w lt a f = absurd (omega (arith, lt))
 first_before page holder n u us from ss c b (suc j) w lt a f = c.before j w (a, f)
 
-turned : (page : Page) (holder n : ℕ) (u : Tree) (us : Trees) (b : Bool) → is_in_turn page holder n u us ≡ b → (j : ℕ) (c : Bool)
+pub turned : (page : Page) (holder n : ℕ) (u : Tree) (us : Trees) (b : Bool) → is_in_turn page holder n u us ≡ b → (j : ℕ) (c : Bool)
     → slice_get (turns page holder n (more u us)) j ≡ Some c → slice_get (b ∷ turns page holder (if b then (label u).id else n) us) j ≡ Some c
 turned page holder n u us b e j c f =
     subst (λ (v : Bool). slice_get (v ∷ turns page holder (if v then (label u).id else n) us) j ≡ Some c) e f
 
-out : (page : Page) (t u : Tree) (us ts : Trees) (r : Reached) (b : Bool) → is_in_turn page (label t).id r.number u us ≡ b → (x : Slot)
+pub out : (page : Page) (t u : Tree) (us ts : Trees) (r : Reached) (b : Bool) → is_in_turn page (label t).id r.number u us ≡ b → (x : Slot)
     → IsAmong x (along_by page t r ts u us b) → IsAmong x (along page t false r ts (more u us))
 out page t u us ts r b e x h = subst (IsAmong x) (sym (ap (along_by page t r ts u us) e)) h
 

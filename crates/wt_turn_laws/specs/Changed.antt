@@ -1,12 +1,18 @@
 -- What was changed has a place.
-use Rattle.std.specs.Prelude.{◌≡◌, ◌<◌, ◌≤◌, ◌⊎◌, ℕ, true, Some, List, [], ◌∷◌, slice_get}
+use Rattle.std.specs.Prelude.{◌≡◌, ◌≢◌, ◌<◌, ◌≤◌, ◌⊎◌, ℕ, true, Some, List, [], ◌∷◌, slice_get}
+use Rattle.wt_tree.specs.Kinds.{showing}
+use Rattle.wt_tree.specs.Opened.{opened, without_sections}
 use Rattle.wt_tree.specs.Tiling.{end_of}
-use Rattle.wt_tree.specs.Tree.{Tree, label, listed}
+use Rattle.wt_tree.specs.Tree.{Tree, Trees, none, more, label, listed}
+use Rattle.wt_checks.specs.BareSections.{HasBareSections}
 use Rattle.wt_checks.specs.Kept.{children}
-use Rattle.wt_checks.specs.Places.{Page}
+use Rattle.wt_checks.specs.Places.{Page, page_of}
+use Rattle.wt_checks.specs.PutBack.{IsOneBody}
+use Rattle.wt_checks.specs.Unmarked.{is_compared}
 use Rattle.wt_places.specs.declared.slot.Slot.{Slot}
-use Rattle.wt_places.specs.Places.{gap_end, inside_end, inside_start, partner, slot}
+use Rattle.wt_places.specs.Places.{gap_end, inside_end, inside_start, partner, slot, start_of}
 use Rattle.wt_places.specs.Turns.{turns}
+use Rattle.wt_turn_laws.specs.Untouched.{IsWholePage}
 
 -- it is one of these
 abbrev pub IsAmong : Slot → List Slot → Type 0
@@ -29,3 +35,29 @@ pub record HasPlaceAt (page : Page) (u : Tree) (i : ℕ) (ss : List Slot) : Type
   pub is : IsAmong place ss
   pub behind : (j : ℕ) (w : Tree) → j < i → StaysBlock page u j w → end_of (label (partner page w)).ranges ≤ place.start
   pub before : (j : ℕ) (w : Tree) → i < j → StaysBlock page u j w → place.end ≤ gap_end (partner page w)
+
+-- a node is one of these
+abbrev pub IsThere : Tree → Trees → Type 0
+IsThere x none = ⊥
+IsThere x (more t ts) = (x ≡ t) ⊎ IsThere x ts
+
+-- One of these places has all bytes of this node of the page.
+pub record LiesInPlace (x : Tree) (ss : List Slot) : Type 0 where
+  pub place : Slot
+  pub is : IsAmong place ss
+  pub from : place.start ≤ start_of (label x).ranges
+  pub to : end_of (label x).ranges ≤ place.end
+
+-- A block of the page that shows something, and of which no block of the edited body that stays has the number.
+pub record IsGone (page edited x : Tree) : Type 0 where
+  pub there : IsThere x (opened (children page))
+  pub numbered : (label x).id ≢ 0
+  pub shows : is_compared (showing (label x).kind) ≡ true
+  pub gone : (i : ℕ) (v : Tree) → StaysBlock (page_of page) edited i v → (label v).id ≢ (label x).id
+
+-- a page that is one body, with its sections and without them
+pub record IsSectionedPage (page : Tree) : Type 0 where
+  pub whole : IsWholePage page
+  pub sections : HasBareSections page
+  pub opened_whole : IsWholePage (without_sections page)
+  pub opened_body : IsOneBody (without_sections page)

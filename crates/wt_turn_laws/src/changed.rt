@@ -11,7 +11,7 @@ ghost use Rattle.wt_places.specs.Places.{partner, places};
 ghost use Rattle.wt_places.specs.Turns.{turns};
 ghost use Rattle.wt_tree.specs.Kinds.{showing};
 ghost use Rattle.wt_tree.specs.Tree.{Tree, label, listed};
-ghost use Rattle.wt_turn_laws.specs.Changed.{HasPlaceAt, IsAmong, StaysBlock, inside_of};
+ghost use Rattle.wt_turn_laws.specs.Changed.{HasPlaceAt, IsAmong, IsGone, IsSectionedPage, LiesInPlace, StaysBlock, inside_of};
 ghost use Rattle.wt_turn_laws.specs.Untouched.{IsWholePage};
 
 /// The inside of a block that stays in its turn is a place, where it isn't as it was.
@@ -26,4 +26,9 @@ pub fn what_comes_has_a_place()
     ensures { (page edited : Tree) → IsWholePage page → IsOneBody edited → (i : ℕ) (v : Tree) → slice_get (listed (children edited)) i ≡ Some v
         → slice_get (turns (page_of page) 0 0 (children edited)) i ≡ Some false → is_compared (showing (label v).kind) ≡ true
         → HasPlaceAt (page_of page) edited i (places page edited) }
+{}
+
+/// A block of the page that shows something and doesn't stay, since it was removed or counts as moved, lies in one place.
+pub fn what_goes_lies_in_a_place()
+    ensures { (page edited x : Tree) → IsSectionedPage page → IsOneBody edited → IsGone page edited x → LiesInPlace x (places page edited) }
 {}

@@ -37,10 +37,9 @@ use Rattle.wt_text_edit_laws.specs.Paragraphs.{IsTextLine}
 use Rattle.wt_text_edit_laws.specs.TextBetween.{StandsBehind}
 use Rattle.wt_text_edit_laws.specs.TextBlocks.{a_paragraph, a_heading, IsFrame}
 use Rattle.wt_text_edit_laws.specs.TypedHeadings.{spaced, heading_line, IsHeadingInside, IsOfLevel}
-use Rattle.wt_text_edit_laws.proofs.Between.ClosingTags.{unclosed_byte, not_slash, unclosed_untagged}
 use Rattle.wt_beside_laws.specs.Calm.{AreCalm}
 use Rattle.wt_beside_laws.specs.Content.{AreKept}
-use Rattle.wt_beside_laws.specs.FlatBlocks.{IsSealed, AreSealed, IsFlatIn}
+use Rattle.wt_beside_laws.specs.FlatBlocks.{IsFlatIn}
 use Rattle.wt_beside_laws.specs.Kept.{characters, sign}
 use Rattle.wt_beside_laws.specs.PageBlocks.{AreUnstyled, AreShut}
 use Rattle.wt_beside_laws.specs.PageSigns.{signs_of_lines, AreFlatLines}
@@ -49,19 +48,12 @@ use Rattle.wt_beside_laws.proofs.Edits.Cases.{AreFlat, items_are, break_kept, br
 
 -- ---- as a paragraph
 
-break_sealed : IsSealed (codes "<br>")
-break_sealed = record {
-  closes = λ name us vs h k.
-      unclosed_byte name 60 (codes "br>" ++ vs) (not_slash 98 (codes "r>" ++ vs) (omega arith)) (unclosed_untagged name (codes "br>") vs refl k);
-}
-
 -- what else its items have to be
 record AreBlockItems (xs : List Item) : Type 0 where
   pub are_lines : All IsTextLine (lines xs)
   pub unled : AreUnled (full_lines xs)
   pub of_page : list_all is_page (held_by_all (forest (children (joined_parts (lines xs))))) ≡ true
   pub has_items : AllHaveItems (forest (children (joined_parts (lines xs))))
-  pub sealed : AreSealed (signs_of_lines 0 (lines xs))
 
 paragraph_by : (q : List ℕ) (xs : List Item) → page_items q ≡ xs → page_items (q ++ 10 ∷ []) ≡ xs ++ char None 10 ∷ []
     → StandsBehind q → StandsBehind (q ++ 10 ∷ []) → AreFlat q xs → AreBlockItems xs → IsFlatIn a_paragraph q
@@ -81,7 +73,6 @@ paragraph_by q xs is ended alone before_break given more =
       kept = h.kept;
       calm = h.calm;
       shut = h.shut;
-      sealed = b.sealed;
     }
 
 before_break_are : page_items (codes "x<br>y\n") ≡ page_chars (codes "x<br>y\n")
@@ -102,7 +93,6 @@ break_items = record {
   unled = (refl, tt);
   of_page = refl;
   has_items = ((refl, tt), ((refl, tt), ((refl, tt), tt)));
-  sealed = (break_sealed, tt);
 }
 
 pub as_paragraph : IsFlatIn a_paragraph (codes "x<br>y")
@@ -149,7 +139,6 @@ record AreHeadingItems (xs : List Item) : Type 0 where
   pub kept : AreKept (signs_of_lines 3 (xs ∷ []))
   pub calm : AreCalm (signs_of_lines 3 (xs ∷ []))
   pub shut : AreShut (signs_of_lines 3 (xs ∷ []))
-  pub sealed : AreSealed (signs_of_lines 3 (xs ∷ []))
 
 heading_by : (xs : List Item) → page_items (codes "x<br>y") ≡ xs → IsUtf8 (codes "x<br>y") → AreHeadingItems xs → IsFlatIn (a_heading (spaced 2)) (codes "x<br>y")
 heading_by xs is utf8 given =
@@ -167,7 +156,6 @@ heading_by xs is utf8 given =
       kept = h.kept;
       calm = h.calm;
       shut = h.shut;
-      sealed = h.sealed;
     }
 
 heading_items : AreHeadingItems (page_chars (codes "x<br>y"))
@@ -184,7 +172,6 @@ heading_items = record {
   kept = (break_kept, tt);
   calm = (break_calm, tt);
   shut = (refl, tt);
-  sealed = (break_sealed, tt);
 }
 
 pub as_heading : IsFlatIn (a_heading (spaced 2)) (codes "x<br>y")

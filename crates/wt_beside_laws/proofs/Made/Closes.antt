@@ -39,7 +39,7 @@ use Rattle.wt_beside_laws.proofs.SentNodes.{no_things}
 
 -- ---- what is put closes none
 
-guard_closes : (u : Bool) (name rest : List ℕ) → Unclosed name rest → Unclosed name (nowiki_if u ++ rest)
+pub guard_closes : (u : Bool) (name rest : List ℕ) → Unclosed name rest → Unclosed name (nowiki_if u ++ rest)
 unfolding nowiki
 guard_closes true name rest h =
     unclosed_byte name 60 (codes "nowiki/>" ++ rest) (not_slash 110 (codes "owiki/>" ++ rest) (omega arith)) (unclosed_untagged name (codes "nowiki/>") rest refl h)
@@ -51,12 +51,6 @@ reference_untagged c e = each_escapable (λ k. lacks (λ b. b == 60) (reference 
 
 reference_closes : (c : ℕ) → is_escapable c ≡ true → (name rest : List ℕ) → Unclosed name rest → Unclosed name (reference c ++ rest)
 reference_closes c e name rest h = unclosed_untagged name (reference c) rest (reference_untagged c e) h
-
-pub nowiki_sealed : IsSealed nowiki
-nowiki_sealed = record { closes = λ name us vs h k. guard_closes true name vs k }
-
-pub reference_sealed : (c : ℕ) → is_escapable c ≡ true → IsSealed (reference c)
-reference_sealed c e = record { closes = λ name us vs h k. reference_closes c e name vs k }
 
 -- ---- a character
 
@@ -101,13 +95,13 @@ letter_closes s before c after false e name rest h = elim (cases_lt c 128) [
 -- ---- a content
 
 -- a source that is somewhere before something in which no such tag closes
-abbrev OpenFor : List ℕ → Thing → Type 0
+abbrev pub OpenFor : List ℕ → Thing → Type 0
 OpenFor name t = (us : List ℕ) × Unclosed name (t.source ++ us)
 
 three : (g w r rest : List ℕ) → (g ++ (w ++ r)) ++ rest ≡ g ++ (w ++ (r ++ rest))
 three g w r rest = append_assoc g (w ++ r) rest ∙ ap (λ (bs : List ℕ). g ++ bs) (append_assoc w r rest)
 
-content_closes : (s : Setting) (before signs : List ContentSign) (name rest : List ℕ) → Each (OpenFor name) (things signs) → AreSealed signs → Unclosed name rest
+pub content_closes : (s : Setting) (before signs : List ContentSign) (name rest : List ℕ) → Each (OpenFor name) (things signs) → AreSealed signs → Unclosed name rest
     → Unclosed name (spelled_from s before signs ++ rest)
 content_closes s before [] name rest o a h = guard_closes (is_guarded s before []) name rest h
 content_closes s before (letter c ∷ after) name rest o a h =
@@ -126,7 +120,7 @@ content_closes s before (thing t ∷ after) name rest o a h =
 
 -- ---- the nodes of the page, each before what follows it there
 
-each_both : (P : Thing → Type 0) (xs ys : List ContentSign) → Each P (things xs) → Each P (things ys) → Each P (things (xs ++ ys))
+pub each_both : (P : Thing → Type 0) (xs ys : List ContentSign) → Each P (things xs) → Each P (things ys) → Each P (things (xs ++ ys))
 each_both P [] ys h k = k
 each_both P (letter c ∷ xs) ys h k = each_both P xs ys h k
 each_both P (thing t ∷ xs) ys h k = (h.0, each_both P xs ys h.1 k)
@@ -181,7 +175,7 @@ lines_open name us at (l ∷ m ∷ ls) xs a h =
 as_items : (name q us : List ℕ) → Unclosed name (q ++ us) → Unclosed name (sources (page_items q) ++ us)
 as_items name q us h = subst (λ (bs : List ℕ). Unclosed name (bs ++ us)) (sym (page_sources q)) h
 
-block_open : (k : TextBlock) (q name us : List ℕ) → Unclosed name (q ++ us) → Each (OpenFor name) (things (signs_in k q))
+pub block_open : (k : TextBlock) (q name us : List ℕ) → Unclosed name (q ++ us) → Each (OpenFor name) (things (signs_in k q))
 block_open a_paragraph q name us h = lines_open name us 0 (lines (page_items q)) (page_items q) (lines_are (page_items q)) (as_items name q us h)
 block_open (a_heading s) q name us h = line_open name us (begins_at (a_heading s)) (page_items q) (as_items name q us h)
 

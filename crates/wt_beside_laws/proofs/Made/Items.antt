@@ -33,20 +33,20 @@ use Rattle.wt_beside_laws.proofs.PartThings.{HaveThings, tree_source}
 -- ---- parts
 
 -- a node with items, in which is no empty one, and all of it is the page's own
-abbrev IsHeld : ItemTree → Type 0
+abbrev pub IsHeld : ItemTree → Type 0
 IsHeld u = HasItems u × AllOfPage (tree_items u)
 
 -- so each of the children
-abbrev AreHeld : ItemTrees → Type 0
+abbrev pub AreHeld : ItemTrees → Type 0
 AreHeld ts = AllHaveItems ts × AllOfPage (held_by_all ts)
 
 -- characters of the page, and such nodes
-abbrev PartsHave : List Part → Type 0
+abbrev pub PartsHave : List Part → Type 0
 PartsHave [] = Unit {0}
 PartsHave (loose k o b ∷ ps) = (o ≡ None) × PartsHave ps
 PartsHave (node u ∷ ps) = IsHeld u × PartsHave ps
 
-have_both : (ps qs : List Part) → PartsHave ps → PartsHave qs → PartsHave (ps ++ qs)
+pub have_both : (ps qs : List Part) → PartsHave ps → PartsHave qs → PartsHave (ps ++ qs)
 have_both [] qs h k = k
 have_both (loose j o b ∷ ps) qs h k = (h.0, have_both ps qs h.1 k)
 have_both (node u ∷ ps) qs h k = (h.0, have_both ps qs h.1 k)
@@ -93,13 +93,13 @@ runs_have (r ∷ rs) ps a f =
     let more = runs_have rs a.0 a.3 (have_rest r a.0 all) in
     ((own.0, more.0), both_of_page (tree_items (child r)) (held_by_all (forest (map child rs))) own.1 more.1)
 
-children_have : (ps : List Part) → PartsHave ps → AreHeld (forest (children ps))
+pub children_have : (ps : List Part) → PartsHave ps → AreHeld (forest (children ps))
 unfolding children
 children_have ps f = runs_have (runs one_leaf ps) ps (runs_are one_leaf ps) f
 
 -- ---- the nodes among parts
 
-abbrev NodesHave : List Part → Type 0
+abbrev pub NodesHave : List Part → Type 0
 NodesHave [] = Unit {0}
 NodesHave (loose k o b ∷ ps) = NodesHave ps
 NodesHave (node u ∷ ps) = IsHeld u × NodesHave ps
@@ -120,16 +120,16 @@ runs_nodes ((node u ∷ []) ∷ rs) ps a f =
     subst NodesHave (sym a.1) ((f.0.0, own.0), runs_nodes rs a.0 a.3 (f.0.1, own.1))
 runs_nodes ((node u ∷ p ∷ r) ∷ rs) ps a f = absurd (node_alone u p r a.0 a.2)
 
-children_nodes : (ps : List Part) → AreHeld (forest (children ps)) → NodesHave ps
+pub children_nodes : (ps : List Part) → AreHeld (forest (children ps)) → NodesHave ps
 unfolding children
 children_nodes ps f = runs_nodes (runs one_leaf ps) ps (runs_are one_leaf ps) f
 
 -- ---- the nodes of a content
 
-abbrev ThingHas : Thing → Type 0
+abbrev pub ThingHas : Thing → Type 0
 ThingHas t = PartsHave (line_parts (page_items t.source))
 
-things_have : (at : ℕ) (ps : List Part) (ts : List Thing) → HaveThings at ps ts → NodesHave ps → Each ThingHas ts
+pub things_have : (at : ℕ) (ps : List Part) (ts : List Thing) → HaveThings at ps ts → NodesHave ps → Each ThingHas ts
 things_have at [] ts h f = subst (Each ThingHas) (sym h) tt
 things_have at (loose k o b ∷ ps) ts h f = things_have (at + 1) ps ts h.1 f
 things_have at (node u ∷ ps) ts h f =
@@ -139,7 +139,7 @@ nowiki_has : IsHeld (inner (plain kind.Nowiki) (page_chars nowiki) nothing [])
 unfolding nowiki
 nowiki_has = ((refl, tt), refl)
 
-guard_has : (u : Bool) → PartsHave (parts Text (guard_items u))
+pub guard_has : (u : Bool) → PartsHave (parts Text (guard_items u))
 guard_has true = subst (λ (v : ItemTree). PartsHave (node v ∷ [])) (sym guard_tree) (nowiki_has, tt)
 guard_has false = tt
 
@@ -147,7 +147,7 @@ chars_have : (bs : List ℕ) → PartsHave (parts Text (page_chars bs))
 chars_have [] = tt
 chars_have (b ∷ bs) = (refl, chars_have bs)
 
-letter_has : (e : Bool) (c : ℕ) → PartsHave (parts Text (letter_items e c))
+pub letter_has : (e : Bool) (c : ℕ) → PartsHave (parts Text (letter_items e c))
 letter_has true c = (((refl, tt), refl), tt)
 letter_has false c = chars_have (encode_utf8 c)
 

@@ -56,10 +56,10 @@ use Rattle.wt_beside_laws.proofs.Made.Written.{FitsIn, IsWritten, parts_written,
 
 -- ---- the content that is sent
 
-abbrev known : Tree → Page
+abbrev pub known : Tree → Page
 known block = page_of same_node block
 
-abbrev setting : TextBlock → Tree → Setting
+abbrev pub setting : TextBlock → Tree → Setting
 setting k block = record { within = false; place = place_of (block_of k); source = flat block }
 
 abbrev signs : TextBlock → Tree → List Piece → List ContentSign
@@ -125,15 +125,15 @@ is_written k q block ps h i e =
 
 -- ---- nothing is wrong in it
 
-abbrev takes_breaks : TextBlock → Bool
+abbrev pub takes_breaks : TextBlock → Bool
 takes_breaks a_paragraph = true
 takes_breaks (a_heading s) = false
 
-breaks_so : (k : TextBlock) → is_paragraph (edit_shape (kind_of (block_of k))).form ≡ takes_breaks k
+pub breaks_so : (k : TextBlock) → is_paragraph (edit_shape (kind_of (block_of k))).form ≡ takes_breaks k
 breaks_so a_paragraph = refl
 breaks_so (a_heading s) = refl
 
-one_line_so : (k : TextBlock) (ps : List Piece) → TextsFitIn k ps → takes_breaks k ≡ false → AreOneLine ps
+pub one_line_so : (k : TextBlock) (ps : List Piece) → TextsFitIn k ps → takes_breaks k ≡ false → AreOneLine ps
 one_line_so a_paragraph ps f e = absurd (cc)
 one_line_so (a_heading s) ps f e = f
 
@@ -153,7 +153,7 @@ is_taken k q block m ps h i e =
 delimited_by : (a b c d : List ℕ) (bs : List ℕ) → a ≡ b → c ≡ d → a ++ (bs ++ c) ≡ b ++ (bs ++ d)
 delimited_by a b c d bs e f = ap₂ (λ (x y : List ℕ). x ++ (bs ++ y)) e f
 
-source_is : (k : TextBlock) (q : List ℕ) (block : Tree) (m : Label) (ps : List Piece) → IsIn k q block
+pub source_is : (k : TextBlock) (q : List ℕ) (block : Tree) (m : Label) (ps : List Piece) → IsIn k q block
     → edited_source same_node (content_edit k block m ps) ≡ source_of k (new_content k block m ps)
 source_is k q block m ps i =
     append_assoc (label block).opening (new_content k block m ps) (label block).closing
@@ -163,7 +163,7 @@ source_is k q block m ps i =
 
 -- ---- what it shows
 
-parts_show : (k : TextBlock) (ps : List Part) (rest : Plains)
+pub parts_show : (k : TextBlock) (ps : List Part) (rest : Plains)
     → plain_before (standing 0 [] (with_parts k ps)) rest ≡ along (element (face_of k) (parts_shown_at 1 (open_items k) ps ended)) rest
 unfolding label_at
 parts_show a_paragraph ps rest = refl
@@ -217,7 +217,7 @@ flat_then k q block m ps h i e =
 
 -- ---- in other words
 
-in_page : (k : TextBlock) (q : List ℕ) (n : ℕ) (b : List Item) (block : Tree) → 0 < n → block ≡ standing n b (block_tree k q) → IsIn k q block
+pub in_page : (k : TextBlock) (q : List ℕ) (n : ℕ) (b : List Item) (block : Tree) → 0 < n → block ≡ standing n b (block_tree k q) → IsIn k q block
 in_page k q n b block some is = record { number = n; before = b; some = some; is = is }
 
 pub makes_so : (k : TextBlock) (q : List ℕ) (n : ℕ) (b : List Item) (block : Tree) (m : Label) (ps : List Piece) → IsFlatIn k q → 0 < n

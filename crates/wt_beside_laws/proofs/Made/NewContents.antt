@@ -23,7 +23,7 @@ use Rattle.wt_text_edit_laws.specs.ParagraphParts.{joined_parts}
 use Rattle.wt_text_edit_laws.specs.TextBlocks.{TextBlock, block_of, block_tree}
 use Rattle.wt_text_edit_laws.proofs.Blocks.BlockLeaves.{open_items, close_items}
 use Rattle.wt_text_edit_laws.proofs.Blocks.Untangled.{opens_same, AreQuiet, quiet_placed, placed_quiet, quiet_faultless}
-use Rattle.wt_beside_laws.specs.FlatBlocks.{lines_in, begins_at, signs_in, IsFlatIn}
+use Rattle.wt_beside_laws.specs.FlatBlocks.{lines_in, begins_at, signs_in, IsFlatIn, AreSealed}
 use Rattle.wt_beside_laws.specs.OwnSigns.{HasOwnBy, HaveOwn}
 use Rattle.wt_beside_laws.specs.PageSigns.{signs_of_lines}
 use Rattle.wt_beside_laws.specs.Stood.{things}
@@ -32,6 +32,8 @@ use Rattle.wt_beside_laws.proofs.BlockSigns.{its_children, shut_by}
 use Rattle.wt_beside_laws.proofs.CalmContents.{content_unbraced}
 use Rattle.wt_beside_laws.proofs.LineThings.{lines_have}
 use Rattle.wt_beside_laws.proofs.PartThings.{have_own}
+use Rattle.wt_beside_laws.proofs.Made.NodesSealed.{nodes_sealed}
+use Rattle.wt_beside_laws.proofs.PageSigns.{flat_nodes}
 use Rattle.wt_beside_laws.proofs.Made.Closes.{closes_no_more}
 use Rattle.wt_beside_laws.proofs.Made.OldBlocks.{with_parts, parts_are, lines_are, no_group}
 use Rattle.wt_beside_laws.proofs.Made.Written.{IsWritten, uncommented, firm, stays_anywhere, flat_again}
@@ -119,9 +121,12 @@ firm_content k q s signs h w e = record {
   unbraced = content_unbraced s signs w.flat.kept w.calm;
 }
 
+own_sealed : (k : TextBlock) (q : List ℕ) → IsFlatIn k q → AreSealed (signs_in k q)
+own_sealed k q h = nodes_sealed (signs_in k q) (flat_nodes (lines_in k q) (begins_at k) (signs_in k q) h.flat refl) h.kept
+
 pub new_written : (k : TextBlock) (q : List ℕ) (s : Setting) (signs : List ContentSign) → IsFlatIn k q → IsWritten k s signs → AreAmong (things signs) (things (signs_in k q))
     → IsNewContent k q (spelled s signs)
 new_written k q s signs h w e = record {
   firm = firm_content k q s signs h w e;
-  closes = λ name us vs o n. closes_no_more k q s signs h.sealed e name us vs o n;
+  closes = λ name us vs o n. closes_no_more k q s signs (own_sealed k q h) e name us vs o n;
 }

@@ -1,5 +1,5 @@
 -- A content that is written for a paragraph or a heading: its lines and parts, how it is read, and that it is such a block again.
-use Rattle.std.proofs.Common.{◌≡◌, ℕ, Bool, None, List, [], ◌∷◌, ◌++◌, map, refl, sym, ap, ap₂, ◌∙◌, subst, append-nil, All}
+use Rattle.std.proofs.Common.{◌≡◌, ℕ, Bool, false, None, List, [], ◌∷◌, ◌++◌, map, refl, sym, ap, ap₂, ◌∙◌, subst, append-nil, All}
 use Rattle.std.specs.Prelude.{if◌then◌else◌}
 use Rattle.std.proofs.lemmas.List.Elements.{All-nil, All-cons, All-head, All-tail}
 use Rattle.wt_span.specs.Items.{Item, char}
@@ -29,9 +29,10 @@ use Rattle.wt_text_edit_laws.proofs.Texts.TypedShown.{AllOfPage}
 use Rattle.wt_beside_laws.specs.Calm.{IsCalm, AreCalm}
 use Rattle.wt_beside_laws.specs.Content.{AreKept}
 use Rattle.wt_beside_laws.specs.Flat.{IsFlatContent, content_parts}
-use Rattle.wt_beside_laws.specs.FlatBlocks.{lines_in, begins_at, signs_in, IsSealed, AreSealed, IsFlatIn}
+use Rattle.wt_beside_laws.specs.FlatBlocks.{lines_in, begins_at, signs_in, IsFlatIn}
 use Rattle.wt_beside_laws.specs.InHeadings.{AreOnOneLine, IsHeadingContent}
-use Rattle.wt_beside_laws.specs.Lines.{IsLineOfText, line_items, later_lines, content_lines}
+use Rattle.wt_beside_laws.specs.Lines.{IsLineOfText, AreCharacters, AreUnbroken, line_items, later_lines, content_lines}
+use Rattle.wt_beside_laws.specs.Nodes.{AreNodes}
 use Rattle.wt_beside_laws.specs.PageBlocks.{AreUnstyled, AreShut}
 use Rattle.wt_beside_laws.specs.PageSigns.{signs_of_lines, AreFlatLines}
 use Rattle.wt_beside_laws.specs.Stood.{things}
@@ -45,7 +46,6 @@ use Rattle.wt_beside_laws.proofs.LineItems.{content_lines_are}
 use Rattle.wt_beside_laws.proofs.LineKinds.{lines_are_text}
 use Rattle.wt_beside_laws.proofs.LineParagraphs.{unmarked, flat_paragraph}
 use Rattle.wt_beside_laws.proofs.LineRows.{lines_joined}
-use Rattle.wt_beside_laws.proofs.Made.Closes.{nowiki_sealed, reference_sealed, some_sealed}
 use Rattle.wt_beside_laws.proofs.Made.Items.{nodes_have_items}
 use Rattle.wt_beside_laws.proofs.Made.Levels.{keeps_level}
 use Rattle.wt_beside_laws.proofs.Made.OldBlocks.{lines_are}
@@ -75,10 +75,14 @@ none_later s before (letter c ∷ after) o =
     ∙ none_later s (letter c ∷ before) after o.1
 none_later s before (thing t ∷ after) o = none_later s (thing t ∷ before) after o
 
+pub lines_by : (k : TextBlock) (s : Setting) (signs : List ContentSign) → AreKept signs → AreUnbroken signs → FitsIn k s signs
+    → lines_in k (spelled s signs) ≡ content_lines s signs
+lines_by a_paragraph s signs kept unbroken fits = content_lines_are s signs kept unbroken
+lines_by (a_heading h) s signs kept unbroken fits =
+    ap₂ (λ (l : List Item) (ls : List (List Item)). l ∷ ls) (content_alone s signs kept ∙ sym (same_items s [] signs fits.1)) (sym (none_later s [] signs fits.1))
+
 pub lines_written : (k : TextBlock) (s : Setting) (signs : List ContentSign) → IsWritten k s signs → lines_in k (spelled s signs) ≡ content_lines s signs
-lines_written a_paragraph s signs w = content_lines_are s signs w.flat.kept w.flat.unbroken
-lines_written (a_heading h) s signs w =
-    ap₂ (λ (l : List Item) (ls : List (List Item)). l ∷ ls) (content_alone s signs w.flat.kept ∙ sym (same_items s [] signs w.fits.1)) (sym (none_later s [] signs w.fits.1))
+lines_written k s signs w = lines_by k s signs w.flat.kept w.flat.unbroken w.fits
 
 -- ---- its parts
 
@@ -107,24 +111,24 @@ pub firm : (s : Setting) (signs : List ContentSign) (rest : List ℕ) → AreKep
 firm s signs rest k b =
     read_items (spelled s signs ++ rest) (page_items (spelled s signs) ++ page_items rest) (before_any s signs k rest (page_items rest) (behind_reads rest b))
 
-alone : (s : Setting) (signs : List ContentSign) → AreKept signs → StandsBehind (spelled s signs)
+pub alone : (s : Setting) (signs : List ContentSign) → AreKept signs → StandsBehind (spelled s signs)
 alone s signs k =
     let r : Reads (spelled s signs ++ []) (page_items (spelled s signs) ++ []) = before_any s signs k [] [] reads_nothing in
     subst StandsBehind (append-nil (spelled s signs)) (stands (spelled s signs ++ []) r.begins)
 
-before_break : (s : Setting) (signs : List ContentSign) → AreKept signs → StandsBehind (spelled s signs ++ 10 ∷ [])
+pub before_break : (s : Setting) (signs : List ContentSign) → AreKept signs → StandsBehind (spelled s signs ++ 10 ∷ [])
 before_break s signs k =
     let r : Reads (spelled s signs ++ 10 ∷ []) (page_items (spelled s signs) ++ char None 10 ∷ []) =
     before_any s signs k (10 ∷ []) (char None 10 ∷ []) (read_break [] [] reads_nothing) in
     stands (spelled s signs ++ 10 ∷ []) r.begins
 
 -- in its block
-ended_so : (k : TextBlock) (q : List ℕ) → HasFrame k → IsBeforeAny q → page_items (source_of k q ++ 10 ∷ []) ≡ block_items k q ++ char None 10 ∷ []
+pub ended_so : (k : TextBlock) (q : List ℕ) → HasFrame k → IsBeforeAny q → page_items (source_of k q ++ 10 ∷ []) ≡ block_items k q ++ char None 10 ∷ []
 ended_so k q f b =
     read_items (source_of k q ++ 10 ∷ []) (block_items k q ++ char None 10 ∷ [])
     (any_front k q (10 ∷ []) (char None 10 ∷ []) f b refl (read_break [] [] reads_nothing))
 
-unended_so : (k : TextBlock) (q : List ℕ) → HasFrame k → IsBeforeAny q → page_items (source_of k q) ≡ block_items k q
+pub unended_so : (k : TextBlock) (q : List ℕ) → HasFrame k → IsBeforeAny q → page_items (source_of k q) ≡ block_items k q
 unended_so k q f b =
     ap page_items (sym (append-nil (source_of k q)))
     ∙ read_items (source_of k q ++ []) (block_items k q ++ []) (any_front k q [] [] f b tt reads_nothing)
@@ -137,16 +141,19 @@ all_texts n [] h = All-nil (λ l. line_kind n l ≡ line.Text)
 all_texts n (l ∷ ls) h =
     All-cons (λ l. line_kind n l ≡ line.Text) l ls (All-head (IsLineOfText n) l ls h).text (all_texts n ls (All-tail (IsLineOfText n) l ls h))
 
+pub texts_by : (n : ℕ) (s : Setting) (signs : List ContentSign) → s.within ≡ false → AreCharacters signs → AreNodes signs → AreKept signs → AreUnbroken signs
+    → All (λ l. line_kind n l ≡ line.Text) (lines (page_items (spelled s signs)))
+texts_by n s signs block typed nodes kept unbroken =
+    subst (All (λ l. line_kind n l ≡ line.Text)) (sym (content_lines_are s signs kept unbroken)) (all_texts n (content_lines s signs) (lines_are_text n s signs block typed nodes))
+
 texts_stay : (n : ℕ) (s : Setting) (signs : List ContentSign) → IsFlatContent s signs → All (λ l. line_kind n l ≡ line.Text) (lines (page_items (spelled s signs)))
-texts_stay n s signs f =
-    subst (All (λ l. line_kind n l ≡ line.Text)) (sym (content_lines_are s signs f.kept f.unbroken))
-    (all_texts n (content_lines s signs) (lines_are_text n s signs f.of_block f.characters f.nodes))
+texts_stay n s signs f = texts_by n s signs f.of_block f.characters f.nodes f.kept f.unbroken
 
 pub stays_anywhere : (k : TextBlock) (s : Setting) (signs : List ContentSign) → IsFlatContent s signs → StaysAnywhere k (spelled s signs)
 stays_anywhere a_paragraph s signs f = λ n. texts_stay n s signs f
 stays_anywhere (a_heading h) s signs f = tt
 
-all_unled : (ls : List (List Item)) → All (IsLineOfText 0) (map content ls) → AreUnled ls
+pub all_unled : (ls : List (List Item)) → All (IsLineOfText 0) (map content ls) → AreUnled ls
 all_unled [] h = tt
 all_unled (l ∷ ls) h =
     (unmarked 0 l (All-head (IsLineOfText 0) (content l) (map content ls) h), all_unled ls (All-tail (IsLineOfText 0) (content l) (map content ls) h))
@@ -169,41 +176,28 @@ content_written (a_heading h) q s signs l f w e =
 
 -- ---- it calls nothing
 
-block_unbraced : (k : TextBlock) (s : Setting) (signs : List ContentSign) → HasFrame k → IsWritten k s signs → AreUnbraced (block_items k (spelled s signs))
-block_unbraced a_paragraph s signs f w = content_unbraced s signs w.flat.kept w.calm
-block_unbraced (a_heading h) s signs f w = line_unbraced h (page_items (spelled s signs)) f (content_unbraced s signs w.flat.kept w.calm)
+block_unbraced : (k : TextBlock) (s : Setting) (signs : List ContentSign) → HasFrame k → AreKept signs → AreCalm signs → AreUnbraced (block_items k (spelled s signs))
+block_unbraced a_paragraph s signs f kept calm = content_unbraced s signs kept calm
+block_unbraced (a_heading h) s signs f kept calm = line_unbraced h (page_items (spelled s signs)) f (content_unbraced s signs kept calm)
 
-calls_none : (k : TextBlock) (s : Setting) (signs : List ContentSign) → HasFrame k → IsWritten k s signs → CallsNothing (block_items k (spelled s signs))
-calls_none k s signs f w =
-    let xs : List Item = block_items k (spelled s signs) in subst NonePairs (sym (none_unbraced xs (block_unbraced k s signs f w))) tt
+pub calls_none : (k : TextBlock) (s : Setting) (signs : List ContentSign) → HasFrame k → AreKept signs → AreCalm signs → CallsNothing (block_items k (spelled s signs))
+calls_none k s signs f kept calm =
+    let xs : List Item = block_items k (spelled s signs) in subst NonePairs (sym (none_unbraced xs (block_unbraced k s signs f kept calm))) tt
 
 -- ---- what holds of its sources
 
-from_calm : (signs : List ContentSign) → AreCalm signs → EachSource IsCalm signs
+pub from_calm : (signs : List ContentSign) → AreCalm signs → EachSource IsCalm signs
 from_calm [] h = tt
 from_calm (letter c ∷ after) h = from_calm after h
 from_calm (thing t ∷ after) h = (h.0, from_calm after h.1)
 
-to_calm : (signs : List ContentSign) → EachSource IsCalm signs → AreCalm signs
+pub to_calm : (signs : List ContentSign) → EachSource IsCalm signs → AreCalm signs
 to_calm [] h = tt
 to_calm (letter c ∷ after) h = to_calm after h
 to_calm (thing t ∷ after) h = (h.0, to_calm after h.1)
 
-put_calm : HoldsOfPut IsCalm
+pub put_calm : HoldsOfPut IsCalm
 put_calm = record { of_nowiki = nowiki_calm; of_reference = reference_calm }
-
-from_sealed : (signs : List ContentSign) → AreSealed signs → EachSource IsSealed signs
-from_sealed [] h = tt
-from_sealed (letter c ∷ after) h = from_sealed after h
-from_sealed (thing t ∷ after) h = (h.0, from_sealed after h.1)
-
-to_sealed : (signs : List ContentSign) → EachSource IsSealed signs → AreSealed signs
-to_sealed [] h = tt
-to_sealed (letter c ∷ after) h = to_sealed after h
-to_sealed (thing t ∷ after) h = (h.0, to_sealed after h.1)
-
-put_sealed : HoldsOfPut IsSealed
-put_sealed = record { of_nowiki = nowiki_sealed; of_reference = reference_sealed }
 
 -- ---- it is such a block again
 
@@ -232,7 +226,7 @@ flat_again k q s signs h w e =
       ended = ended_so k (spelled s signs) f b;
       unended = unended_so k (spelled s signs) f b;
       is = content_written k q s signs h.flat f w e;
-      calls_nothing = calls_none k s signs f w;
+      calls_nothing = calls_none k s signs f w.flat.kept w.calm;
       of_page = subst (λ (ps : List Part). AllOfPage (held_by_all (forest (children ps)))) (sym parts) held.1;
       has_items = subst (λ (ps : List Part). AllHaveItems (forest (children ps))) (sym parts) held.0;
       flat = of_written AreFlatLines k s signs w (again_flat s signs w.flat);
@@ -242,6 +236,4 @@ flat_again k q s signs h w e =
           (to_calm (signs_of_lines at (content_lines s signs)) (again_each IsCalm put_calm at s signs w.flat (from_calm signs w.calm)));
       shut = of_written (λ (ls : List (List Item)). AreShut (signs_of_lines at ls)) k s signs w
           (again_shut at s signs w.flat (some_shut (signs_in k q) signs e h.shut));
-      sealed = of_written (λ (ls : List (List Item)). AreSealed (signs_of_lines at ls)) k s signs w
-          (to_sealed (signs_of_lines at (content_lines s signs)) (again_each IsSealed put_sealed at s signs w.flat (from_sealed signs (some_sealed (signs_in k q) signs e h.sealed))));
     }

@@ -1,10 +1,13 @@
 -- Worked cases: how contents with styles are written, and that their styles nest.
-use Rattle.std.proofs.Common.{◌≡◌, true, false, None, [], ◌∷◌, refl}
+use Rattle.std.proofs.Common.{◌≡◌, ℕ, true, false, None, [], ◌∷◌, refl}
 use Rattle.std.specs.Fmt.{digits}
 use Rattle.std.specs.Prelude.{codes}
 use Rattle.std.proofs.Math.Utf8.{encode}
+use Rattle.wt_tree.specs.declared.kind.Kind.{Kind}
 use Rattle.wt_tree.specs.declared.kind.Kind.TheVariants as kind
+use Rattle.wt_tree.specs.declared.kind.Mark.TheVariants as marks
 use Rattle.wt_tree.specs.Plain.{text, element, ended, along}
+use Rattle.wt_tree.specs.Tree.{Label, Tree, tree, Trees, none, more}
 use Rattle.wt_tree.specs.declared.edit_shape.Place.TheVariants.{Paragraph}
 use Rattle.wt_guards.specs.Content.{letter}
 use Rattle.wt_guards.specs.Guards.{Setting, nowiki, spelled, is_guarded, is_between_guard, is_parted, is_start_guard, is_end_guard, is_blank_guard}
@@ -14,6 +17,7 @@ use Rattle.wt_context.specs.Segments.{loose_segment}
 use Rattle.wt_span.specs.Items.{char}
 use Rattle.wt_beside_laws.specs.Nests.{stretch, enclosing, IsNest}
 use Rattle.wt_beside_laws.specs.Styled.{StyledContent, finished, sign, styled, signs_in, AreNested}
+use Rattle.wt_beside_laws.specs.StyledBlocks.{all_numbers, AreSomeOf}
 use Rattle.wt_beside_laws.specs.StyledShown.{styled_shown}
 
 abbrev in_paragraph : Setting
@@ -47,3 +51,21 @@ italic_a = (refl, refl, refl, refl, (refl, λ b. refl), refl, (refl, λ b. refl)
 
 italic_none : IsNest false false (enclosing [] false (stretch []) (stretch [])) [] → true ≡ false
 italic_none h = h.3
+
+-- a text and a line break in bold, and a line break behind it
+abbrev numbered : Kind → ℕ → Label
+numbered k n =
+    record { kind = k; id = n; ranges = None; opening = []; closing = []; own = []; shown = []; attrs = []; origin = None; mark = marks.Nothing; mw = None }
+
+abbrev leaf : Kind → ℕ → Tree
+leaf k n = tree (numbered k n) none
+
+abbrev broken : Trees
+broken = more (tree (numbered kind.Bold 2) (more (leaf kind.Text 3) (more (leaf kind.Br 4) none))) (more (leaf kind.Br 5) none)
+
+numbers_so : all_numbers broken ≡ 4 ∷ 5 ∷ []
+numbers_so = refl
+
+-- the first one may go
+some_so : AreSomeOf (5 ∷ []) (all_numbers broken)
+some_so = (4 ∷ [], [], refl, tt)

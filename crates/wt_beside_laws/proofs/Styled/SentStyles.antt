@@ -43,7 +43,7 @@ use Rattle.wt_beside_laws.proofs.LineShown.{twice, children_show, guard_shows}
 
 -- ---- signs
 
-signs_joined : (t : StyledContent) (after rest : List ContentSign) → signs_before t after ++ rest ≡ signs_before t (after ++ rest)
+pub signs_joined : (t : StyledContent) (after rest : List ContentSign) → signs_before t after ++ rest ≡ signs_before t (after ++ rest)
 signs_joined finished after rest = refl
 signs_joined (sign c t) after rest = ap (λ cs. c ∷ cs) (signs_joined t after rest)
 signs_joined (styled kind opening closing inside t) after rest =
@@ -162,7 +162,7 @@ mutual
 
 -- ---- what is shown
 
-nowiki_alone : line_parts (whole form.Nowiki None nowiki ∷ []) ≡ parts Text (whole form.Nowiki None nowiki ∷ [])
+pub nowiki_alone : line_parts (whole form.Nowiki None nowiki ∷ []) ≡ parts Text (whole form.Nowiki None nowiki ∷ [])
 unfolding loose_segments closed
 nowiki_alone = read_line (0, leaf tile.Atom 1 ∷ []) (whole form.Nowiki None nowiki ∷ []) (loose_segment (whole form.Nowiki None nowiki ∷ []) ∷ []) refl refl refl
 

@@ -39,7 +39,7 @@ use Rattle.wt_beside_laws.proofs.Styled.StyledParagraphs.{none_later, meet_behin
 ascii_quote : IsUtf8 (39 ∷ [])
 ascii_quote = subst IsUtf8 (encode_ascii 39 (omega arith)) (IsUtf8-encode 39 refl)
 
-quotes_utf8 : (kind : Bool) → IsUtf8 (mark_source kind)
+pub quotes_utf8 : (kind : Bool) → IsUtf8 (mark_source kind)
 quotes_utf8 true = IsUtf8-append (39 ∷ []) (39 ∷ 39 ∷ []) ascii_quote (IsUtf8-append (39 ∷ []) (39 ∷ []) ascii_quote ascii_quote)
 quotes_utf8 false = IsUtf8-append (39 ∷ []) (39 ∷ []) ascii_quote ascii_quote
 
@@ -202,6 +202,10 @@ so_lines Q at (l ∷ []) f = f.0.kept at
 so_lines Q at (l ∷ m ∷ ls) f =
     so_both Q (line_signs at l) (letter 10 ∷ signs_of_lines (at + length (sources l) + 1) (m ∷ ls)) (f.0.kept at)
     (so_lines Q (at + length (sources l) + 1) (m ∷ ls) f.1)
+
+pub again_each : (Q : List ℕ → Type 0) (p : HoldsOfPut Q) (at : ℕ) (s : Setting) (t : StyledContent) → IsStyledContent s t → EachSource Q (signs_in t)
+    → EachSource Q (signs_of_lines at (content_lines s (signs_in t)))
+again_each Q p at s t h q = so_lines Q at (content_lines s (signs_in t)) (all_styled Q p s t h q)
 
 pub again_lines : (s : Setting) (t : StyledContent) → IsStyledContent s t → AreFlatLines (content_lines s (signs_in t))
 again_lines s t h =

@@ -58,7 +58,7 @@ pub styled_level : (s : Setting) (t : StyledContent) (sides : Sides) → IsStyle
     → IsOfLevel sides (page_items (spelled s (signs_in t)))
 styled_level s t sides h a k = level_by s (signs_in t) sides h.styled.of_block h.styled.kept h.styled.characters h.styled.nodes h.one_line a k
 
-inside_parts : (s : Setting) (t : StyledContent) → IsStyledHeading s t → line_parts (page_items (spelled s (signs_in t))) ≡ styled_parts false s [] t []
+pub inside_parts : (s : Setting) (t : StyledContent) → IsStyledHeading s t → line_parts (page_items (spelled s (signs_in t))) ≡ styled_parts false s [] t []
 inside_parts s t h =
     ap line_parts (content_alone s (signs_in t) h.styled.kept ∙ sym (same_items s [] (signs_in t) h.one_line))
     ∙ styled_line s [] t h.styled.nodes h.styled.nested h.styled.meet

@@ -79,7 +79,7 @@ each_left : (P : Thing → Type 0) (gone : List Thing) (t : Thing) (later : List
 each_left P [] t later h = h
 each_left P (o ∷ gone) t later h = each_left P gone t later h.1
 
-each_some : (P : Thing → Type 0) → ((t : Thing) → IsPut t → P t) → (ts ps : List Thing) → AreSomeAndPut ts ps → Each P ps → Each P ts
+pub each_some : (P : Thing → Type 0) → ((t : Thing) → IsPut t → P t) → (ts ps : List Thing) → AreSomeAndPut ts ps → Each P ps → Each P ts
 each_some P f [] ps a h = tt
 each_some P f (t ∷ ts) ps a h = elim a [
   | inl p ↦ (f t p.0, each_some P f ts ps p.1 h)

@@ -105,7 +105,7 @@ all_joined s before (styled kind opening closing inside t) =
     let guard : List Part = parts Text (guard_items (is_guarded s before (delimiter kind opening ∷ held))) in
     append_assoc guard (own ∷ styled_parts true s last t []) (later_parts s last t) ∙ ap (λ ps. guard ++ (own ∷ ps)) (all_joined s last t)
 
-lines_joined : (s : Setting) (before : List ContentSign) (t : StyledContent) → AreNodes (signs_before t []) → AreNested false false t
+pub lines_joined : (s : Setting) (before : List ContentSign) (t : StyledContent) → AreNodes (signs_before t []) → AreNested false false t
     → AllMeet s before (signs_before t []) []
     → joined_parts (line_items s before (signs_before t []) ∷ later_lines s before (signs_before t [])) ≡ styled_parts false s before t []
 lines_joined s before t n k m =
@@ -133,6 +133,9 @@ styled_paragraph s t h =
       closed = closed;
       parts_are = rows_parts xs (line_items s [] signs) (later_lines s [] signs) own closed is ∙ lines_joined s [] t h.nodes h.nested h.meet;
     }
+
+pub styled_text : (s : Setting) (t : StyledContent) → IsStyledContent s t → All (IsLineOfText 0) (map content (full_lines (page_items (spelled s (signs_in t)))))
+styled_text s t h = (styled_paragraph s t h).text 0
 
 rows_are : (xs : List Item) (ps : List Part) → Paragraph xs ps → rows xs ≡ map text_row (full_lines xs)
 unfolding rows

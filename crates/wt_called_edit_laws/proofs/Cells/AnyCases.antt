@@ -102,7 +102,7 @@ second_level = record {
   ended = refl;
 }
 
-typed_h : IsTypedHeading (spaced 2) (codes "h")
+pub typed_h : IsTypedHeading (spaced 2) (codes "h")
 unfolding is_guarded is_between_guard is_start_guard is_end_guard is_blank_guard is_parted hazard line_start_hazard nowiki is_escaped chars lib.Utf8.encode
 typed_h = record {
   frame = second_level;

@@ -4,7 +4,7 @@ use Rattle.wt_span.specs.Items.{Item}
 use Rattle.wt_expand.specs.PageItems.{page_items}
 use Rattle.wt_expand.specs.Work.{Pages}
 use Rattle.wt_page.specs.Body.{meaning}
-use Rattle.wt_text_edit_laws.specs.BlockSpots.{BlockSpot, AreRead, SameRound}
+use Rattle.wt_text_edit_laws.specs.BlockSpots.{BlockSpot, SameRound}
 use Rattle.wt_text_edit_laws.specs.TextBlocks.{block_items}
 use Rattle.wt_text_edit_laws.proofs.Blocks.TypedBraces.{AreNewOver}
 use Rattle.wt_called_edit_laws.specs.Parts.{part_items, calls_in, called_items}
@@ -12,7 +12,7 @@ use Rattle.wt_called_edit_laws.specs.Retyped.{AreRetyped}
 use Rattle.wt_called_edit_laws.proofs.Parts.NoCallsCalled.{PartsCalm, parts_calm, read_called, calm_items, calm_count}
 use Rattle.wt_called_edit_laws.proofs.Parts.Retyped.{is_by_parts, same_round, new_over, expanded_again}
 use Rattle.wt_called_edit_laws.specs.AnyBlocks.{AreSpots}
-use Rattle.wt_called_edit_laws.specs.ItemSpots.{ItemSpot, items_of_spots, placed_items, ArePlaced, SameItems, AreNewIn}
+use Rattle.wt_called_edit_laws.specs.ItemSpots.{ItemSpot, items_of_spots, placed_items, ArePlaced, AreContentSpots, SameItems, AreNewIn}
 use Rattle.wt_called_edit_laws.specs.CalledBlocks.{spots_among, items_behind, AreAmongCalls, tree_by, counted, StandAmongCalls}
 use Rattle.wt_called_edit_laws.proofs.Cells.ItemFrames.{counted_in, items_over, items_framed}
 use Rattle.wt_called_edit_laws.proofs.Cells.SpotFrames.{parts_placed}
@@ -100,12 +100,18 @@ calm_behind pages k [] behind h = calm_items pages k behind h
 calm_behind pages k (s ∷ ss) behind h =
     ap (λ (n : ℕ). items_behind pages n ss behind) (calm_count pages k s.before h.0) ∙ calm_behind pages k ss behind h.1
 
-pub spots_among_calls : (pages : Pages) (ss : List BlockSpot) (behind : List ℕ) → AreSpots ss behind → AreAmongCalls pages ss behind
-spots_among_calls pages ss behind h =
-    let r : AreRead ss behind = parts_read ss behind h.parts h.whole in
-    let c : PartsCalm ss behind = parts_calm ss behind r in
+pub contents_among_calls : (pages : Pages) (ss : List BlockSpot) (behind : List ℕ) → AreContentSpots ss behind → AreAmongCalls pages ss behind
+contents_among_calls pages ss behind h =
+    let c : PartsCalm ss behind = parts_calm ss behind h.read in
     record {
-      called = read_called ss behind r;
+      called = read_called ss behind h.read;
       placed = subst (λ rs. ArePlaced rs (items_behind pages 0 ss behind)) (sym (calm_among pages 0 ss behind c))
-          (subst (ArePlaced (items_of_spots ss)) (sym (calm_behind pages 0 ss behind c)) (parts_placed ss behind h.parts));
+          (subst (ArePlaced (items_of_spots ss)) (sym (calm_behind pages 0 ss behind c)) h.placed);
     }
+
+pub texts_are_contents : (ss : List BlockSpot) (behind : List ℕ) → AreSpots ss behind → AreContentSpots ss behind
+texts_are_contents ss behind h = record {
+  read = parts_read ss behind h.parts h.whole;
+  placed = parts_placed ss behind h.parts;
+  ungrouped = h.ungrouped;
+}

@@ -1,0 +1,74 @@
+-- A paragraph or a heading of the page that holds texts, nodes that stay, and bold and italic, by its lines; and what is sent for it.
+use Rattle.std.specs.Prelude.{◌≡◌, ℕ, true, false, None, List, [], ◌∷◌, ◌++◌}
+use Rattle.std.specs.List.{list_all}
+use Rattle.std.specs.Str.{IsUtf8}
+use Rattle.wt_span.specs.Characters as byte
+use Rattle.wt_span.specs.Items.{char}
+use Rattle.wt_tree.specs.declared.edit_shape.Place.TheVariants as place
+use Rattle.wt_tree.specs.Tree.{Tree}
+use Rattle.wt_guards.specs.Guards.{Setting}
+use Rattle.wt_original.specs.Page.{page_of}
+use Rattle.wt_expand.specs.PageItems.{page_items}
+use Rattle.wt_inline.specs.ItemTree.{forest, held_by_all}
+use Rattle.wt_inline.specs.Parts.{children}
+use Rattle.wt_annotated.specs.Clean.{is_page}
+use Rattle.wt_called_trees.specs.Rounded.{AllHaveItems}
+use Rattle.wt_visible.specs.SameNodes.{same_node}
+use Rattle.wt_typed_blocks.specs.Edited.{Piece, sent_pieces}
+use Rattle.wt_text_edit_laws.specs.Contents.{IsContentOf, content_parts_of}
+use Rattle.wt_text_edit_laws.specs.NoCalls.{CallsNothing}
+use Rattle.wt_text_edit_laws.specs.TextBlocks.{TextBlock, a_paragraph, a_heading, source_of, block_items}
+use Rattle.wt_beside_laws.specs.Calm.{AreCalm}
+use Rattle.wt_beside_laws.specs.Content.{AreKept}
+use Rattle.wt_beside_laws.specs.FlatBlocks.{lines_in, signs_in as signs_of, IsFlatEditOf}
+use Rattle.wt_beside_laws.specs.InHeadings.{AreOnOneLine, KeepsLevel}
+use Rattle.wt_beside_laws.specs.PageBlocks.{AreShut}
+use Rattle.wt_beside_laws.specs.PageSigns.{AreFlatLines}
+use Rattle.wt_beside_laws.specs.SentStyled.{sent_content, AllNest}
+use Rattle.wt_beside_laws.specs.Stood.{things}
+use Rattle.wt_beside_laws.specs.Styled.{StyledContent, signs_in, IsStyledContent}
+use Rattle.wt_beside_laws.specs.StyledNodes.{AreSomeAndPut, AreUrlsApart}
+
+-- A content that is read by itself and calls nothing, as `IsFlatIn`, with bold and italic or without.
+pub record IsStyledIn (k : TextBlock) (q : List ℕ) : Type 0 where
+  pub utf8 : IsUtf8 q
+  pub ended : page_items (source_of k q ++ byte.line_break ∷ []) ≡ block_items k q ++ char None byte.line_break ∷ []
+  pub unended : page_items (source_of k q) ≡ block_items k q
+  pub is : IsContentOf k q
+  pub calls_nothing : CallsNothing (block_items k q)
+  pub of_page : list_all is_page (held_by_all (forest (children (content_parts_of k (page_items q))))) ≡ true
+  pub has_items : AllHaveItems (forest (children (content_parts_of k (page_items q))))
+  pub flat : AreFlatLines (lines_in k q)
+  pub kept : AreKept (signs_of k q)
+  pub calm : AreCalm (signs_of k q)
+  pub shut : AreShut (signs_of k q)
+
+-- ---- what is written for it
+
+-- in a heading it is on one line, and of the level of its delimiters
+abbrev pub StaysIn : TextBlock → Setting → StyledContent → Type 0
+StaysIn a_paragraph s t = Unit {0}
+StaysIn (a_heading h) s t = (s.place ≡ place.Heading) × AreOnOneLine (signs_in t) × KeepsLevel h (signs_in t)
+
+-- nodes that it had, in their order, with any texts and styles
+pub record IsStyledFor (k : TextBlock) (q : List ℕ) (s : Setting) (t : StyledContent) : Type 0 where
+  pub content : IsStyledContent s t
+  pub nodes : AreSomeAndPut (things (signs_in t)) (things (signs_of k q))
+  pub stays : StaysIn k s t
+
+-- ---- what is sent for it
+
+abbrev pub sent_for : Tree → List Piece → StyledContent
+sent_for block ps = sent_content (page_of same_node block) (sent_pieces ps)
+
+abbrev pub KeepsLevelIn : TextBlock → StyledContent → Type 0
+KeepsLevelIn a_paragraph t = Unit {0}
+KeepsLevelIn (a_heading h) t = KeepsLevel h (signs_in t)
+
+-- As for a flat block, where bold and italic nodes of the page may stay, too. The styles nest, and no bare URL is directly before a delimiter in the
+-- page.
+pub record IsStyledEditOf (k : TextBlock) (block : Tree) (ps : List Piece) : Type 0 where
+  pub edit : IsFlatEditOf k block ps
+  pub nest : AllNest (page_of same_node block) false false (sent_pieces ps)
+  pub apart : AreUrlsApart (things (signs_in (sent_for block ps)))
+  pub level : KeepsLevelIn k (sent_for block ps)
