@@ -1,12 +1,12 @@
 -- What `selser` keeps, of the trees of pages and of what is read.
-use Rattle.std.proofs.Common.{◌≡◌, ◌≤◌, ℕ, Bool, true, false, None, List, length, refl, sym, ap, ap₂, ◌∙◌, arith, true≢false}
+use Rattle.std.proofs.Common.{◌≡◌, ◌≤◌, ℕ, Bool, true, false, None, List, length, refl, sym, ap, ap₂, ◌∙◌, true≢false}
 use Rattle.std.specs.Prelude.{◌||◌, Option, if◌then◌else◌}
 use Rattle.std.specs.Str.{IsUtf8}
 use Rattle.wt_tree.specs.declared.kind.Kind.{Kind}
 use Rattle.wt_tree.specs.declared.kind.Kind.TheVariants as kind
 use Rattle.wt_tree.specs.Kinds.{is_leaf, is_section}
 use Rattle.wt_tree.specs.Opened.{all_opened_before, opened_before, without_sections}
-use Rattle.wt_tree.specs.Tree.{Label, Tree, tree, Trees, none, more, label}
+use Rattle.wt_tree.specs.Tree.{Tree, tree, Trees, none, more, label}
 use Rattle.wt_checks.specs.Kept.{children}
 use Rattle.wt_checks.specs.Places.{is_body}
 use Rattle.wt_checks.specs.PutBack.{IsOneBody, has_frame, have_frame, is_frame}
@@ -17,7 +17,6 @@ use Rattle.wt_devices.specs.Device.{Pages}
 use Rattle.wt_page_round_trip.specs.PageTree.{page_tree}
 use Rattle.wt_page_round_trip.proofs.PageTrees.{page_numbered, page_tiled}
 use Rattle.wt_places.specs.Rewritten.{IsRewritten}
-use Rattle.wt_schema.specs.Read.{read}
 use Rattle.wt_selser.specs.Leaves.{AllLeavesHoldNoNumber, LeavesHoldNoNumber}
 use Rattle.wt_commands.specs.Answers.{refusal_of_page, remarked_of}
 use Rattle.wt_commands.proofs.LeavesLaws.{page_leaves}
