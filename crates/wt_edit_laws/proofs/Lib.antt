@@ -1,1 +1,4 @@
 pub mod OneByOne
+pub mod TextEditsStand
+pub mod ChildrenStand
+mod Cases

@@ -5,3 +5,13 @@ pub mod Members
 pub mod Terms
 pub mod Places
 pub mod Delimiters
+pub mod Addresses
+pub mod Brackets
+pub mod InnerStyles
+pub mod RunCounts
+pub mod RunToggles
+pub mod Deepest
+pub mod Doubtful
+pub mod Fronts
+pub mod Sides
+pub mod MadePages

@@ -13,3 +13,7 @@ pub mod Tables
 pub mod Tidy
 pub mod Trimming
 pub mod Gathering
+pub mod OneAnswer
+pub mod OnePage
+pub mod Utf8Texts
+pub mod OneHead

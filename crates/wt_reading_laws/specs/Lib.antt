@@ -5,3 +5,5 @@ pub mod Switches
 pub mod TableLayout
 pub mod Told
 pub mod Trimming
+pub mod Occurring
+pub mod Pieces

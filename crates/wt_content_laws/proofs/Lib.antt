@@ -1,3 +1,0 @@
-pub mod TextEditsStand
-pub mod ChildrenStand
-mod Cases

@@ -1,2 +1,0 @@
-pub mod TextEdits
-pub mod NewChildren

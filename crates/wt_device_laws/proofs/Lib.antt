@@ -1,4 +1,0 @@
-pub mod Counting
-pub mod Entries
-pub mod Asking
-mod Cases

@@ -1,4 +1,0 @@
-pub mod OneAnswer
-pub mod OnePage
-pub mod Utf8Texts
-pub mod OneHead

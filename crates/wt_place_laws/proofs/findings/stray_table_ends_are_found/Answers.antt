@@ -1,5 +1,0 @@
-use Rattle.wt_place_laws.proofs.TableEnds.{stray_ends_found}
-use Rattle.wt_place_laws.proofs.findings.stray_table_ends_are_found.Goals as goal
-
-pub returns : goal.returns
-returns c = stray_ends_found

@@ -1,5 +1,0 @@
-use Rattle.wt_place_laws.proofs.Breaks.{stand_alone}
-use Rattle.wt_place_laws.proofs.lines.breaks_are_pieces.Goals as goal
-
-pub returns : goal.returns
-returns c = stand_alone

@@ -1,5 +1,0 @@
-use Rattle.wt_place_laws.proofs.Marks.{in_front_is}
-use Rattle.wt_place_laws.proofs.lines.marks_stand_in_front.Goals as goal
-
-pub returns : goal.returns
-returns c = in_front_is

@@ -1,5 +1,0 @@
-mod Cases
-pub mod Headings
-pub mod Levels
-pub mod Reaches
-pub mod SectionParts

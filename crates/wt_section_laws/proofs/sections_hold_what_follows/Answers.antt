@@ -1,5 +1,0 @@
-use Rattle.wt_section_laws.proofs.Reaches.{gathered_held}
-use Rattle.wt_section_laws.proofs.sections_hold_what_follows.Goals as goal
-
-pub returns : goal.returns
-returns c = gathered_held

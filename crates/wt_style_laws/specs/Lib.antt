@@ -1,3 +1,0 @@
-pub mod InnerStyles
-pub mod RunCounts
-pub mod RunToggles

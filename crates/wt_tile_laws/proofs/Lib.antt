@@ -1,6 +1,0 @@
-pub mod Cases
-pub mod Grammar
-pub mod Hrefs
-pub mod Keys
-pub mod Media
-pub mod Switches

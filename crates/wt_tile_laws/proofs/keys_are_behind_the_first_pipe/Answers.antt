@@ -1,5 +1,0 @@
-use Rattle.wt_tile_laws.proofs.Keys.{key_is}
-use Rattle.wt_tile_laws.proofs.keys_are_behind_the_first_pipe.Goals as goal
-
-pub returns : goal.returns
-returns c = key_is

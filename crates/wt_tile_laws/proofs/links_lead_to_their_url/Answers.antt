@@ -1,5 +1,0 @@
-use Rattle.wt_tile_laws.proofs.Hrefs.{leads_to_url}
-use Rattle.wt_tile_laws.proofs.links_lead_to_their_url.Goals as goal
-
-pub returns : goal.returns
-returns c = leads_to_url

@@ -1,5 +1,0 @@
-use Rattle.wt_tile_laws.proofs.Media.{media_end_balanced as media_end}
-use Rattle.wt_tile_laws.proofs.media_end_balanced.Goals as goal
-
-pub returns : goal.returns
-returns c = media_end

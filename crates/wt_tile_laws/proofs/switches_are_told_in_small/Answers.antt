@@ -1,5 +1,0 @@
-use Rattle.wt_tile_laws.proofs.Switches.{is_told}
-use Rattle.wt_tile_laws.proofs.switches_are_told_in_small.Goals as goal
-
-pub returns : goal.returns
-returns c = is_told
