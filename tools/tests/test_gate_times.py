@@ -1,10 +1,14 @@
 """gate-times tells by a process's words and folder what it works on, and by what a prover writes what each function takes."""
 import os
+import signal
+import subprocess
+import sys
 import tempfile
+import time
 import unittest
 from pathlib import Path
 
-from loading import load
+from loading import TOOLS, load
 
 gate_times = load("gate-times")
 CRATE = "/room/repository/crates/wt_lex"
@@ -123,6 +127,24 @@ class Functions(unittest.TestCase):
                 "| `wt_lex` tags.+tags (2 functions in one recursion) | 23 | 18 | 5 |  | 110 | 11 | 5 |",
             ],
         )
+
+
+class Ending(unittest.TestCase):
+    def test_ended_early_it_ends_the_gate_and_prints_what_it_has_seen(self) -> None:
+        with tempfile.TemporaryDirectory() as room:
+            stand_in = Path(room) / "rt"
+            stand_in.write_text("#!/bin/sh\necho begun\nexec sleep 600\n", encoding="utf-8")
+            stand_in.chmod(0o755)
+            environment = {**os.environ, "PATH": f"{room}:{os.environ['PATH']}"}
+            words = [sys.executable, str(TOOLS / "gate-times")]
+            run = subprocess.Popen(words, env=environment, stdout=subprocess.PIPE, text=True)
+            assert run.stdout is not None
+            self.assertEqual(run.stdout.readline(), "begun\n")
+            time.sleep(1.5)
+            run.send_signal(signal.SIGTERM)
+            printed, _ = run.communicate(timeout=30)
+            self.assertIn("On the clock:", printed)
+            self.assertIn("Functions over 20 seconds", printed)
 
 
 if __name__ == "__main__":
