@@ -15,7 +15,7 @@ use Rattle.wt_original.specs.Kept.{Kept, kept_with}
 use Rattle.wt_original.specs.Page.{Page, page_of, TellsSame, node_or, restored, restored_all}
 use Rattle.wt_link_spelling.specs.Spelling.{children_of}
 use Rattle.wt_typed_blocks.specs.Sent.{IsSentAsIs, StandsAsIs, AllStandAsIs}
-use Rattle.wt_typed_blocks.specs.Edited.{Piece, gone, written, kept, page_pieces, text_node, sent_pieces, PiecesStay}
+use Rattle.wt_typed_blocks.specs.Edited.{Pieces, no_pieces, gone, written, kept, around, page_pieces, text_node, sent_pieces, PiecesStay}
 use Rattle.wt_typed_blocks.proofs.SentGroups.{in_group}
 use Rattle.wt_typed_blocks.proofs.EditedShows.{shown_same}
 use Rattle.wt_beside_laws.specs.OwnSigns.{IsFlatBlock}
@@ -114,19 +114,19 @@ text_sent : (p : Page) (x : Label) (text : List ℕ) (us : Trees) → AreSent p 
 text_sent p x [] us h = h
 text_sent p x (c ∷ cs) us h = (tt, h)
 
-pieces_sent : (same : Tree → Tree → Bool) (block : Tree) (ps : List Piece) → TellsSame same → AreSent (page_of same block) (page_pieces ps)
+pieces_sent : (same : Tree → Tree → Bool) (block : Tree) (ps : Pieces) → TellsSame same → AreSent (page_of same block) (page_pieces ps)
     → NoneIsGroup (page_pieces ps) → PiecesStay ps → AreSent (page_of same block) (sent_pieces ps)
-pieces_sent same block [] tells e g h = tt
-pieces_sent same block (gone (tree l ts) ∷ ps) tells e g h = pieces_sent same block ps tells e.1 g.1 h
-pieces_sent same block (written x text ∷ ps) tells e g h =
+pieces_sent same block no_pieces tells e g h = tt
+pieces_sent same block (gone (tree l ts) ps) tells e g h = pieces_sent same block ps tells e.1 g.1 h
+pieces_sent same block (written x text ps) tells e g h =
     text_sent (page_of same block) x text (sent_pieces ps) (pieces_sent same block ps tells e g h)
-pieces_sent same block (kept (tree l ts) (tree m us) ∷ ps) tells e g h = (
+pieces_sent same block (kept (tree l ts) (tree m us) ps) tells e g h = (
   subst (λ (k : Kind). IsSentBy (edit_shape k).inline (page_of same block) m us) (sym h.0.0.kind)
       (sent_so (edit_shape l.kind).inline same block l m ts us tells h.0 g.0 e.0),
   pieces_sent same block ps tells e.1 g.1 h.1,
 )
 
-pub stays_sent : (same : Tree → Tree → Bool) (block : Tree) (ps : List Piece) → TellsSame same → IsFlatBlock block → page_pieces ps ≡ children_of block
+pub stays_sent : (same : Tree → Tree → Bool) (block : Tree) (ps : Pieces) → TellsSame same → IsFlatBlock block → page_pieces ps ≡ children_of block
     → PiecesStay ps → AreSent (page_of same block) (sent_pieces ps)
 stays_sent same block ps tells b is h =
     pieces_sent same block ps tells (subst (AreSent (page_of same block)) (sym is) (own_sent same block tells b)) (subst NoneIsGroup (sym is) b.ungrouped) h
@@ -149,17 +149,17 @@ text_numbers : (x : Label) (text : List ℕ) (us : Trees) → numbers (text_node
 text_numbers x [] us = refl
 text_numbers x (c ∷ cs) us = refl
 
-pieces_numbers : (ps : List Piece) → PiecesStay ps → OnlyTextsGo ps → numbers (sent_pieces ps) ≡ numbers (page_pieces ps)
-pieces_numbers [] h o = refl
-pieces_numbers (gone (tree l ts) ∷ ps) h o =
+pieces_numbers : (ps : Pieces) → PiecesStay ps → OnlyTextsGo ps → numbers (sent_pieces ps) ≡ numbers (page_pieces ps)
+pieces_numbers no_pieces h o = refl
+pieces_numbers (gone (tree l ts) ps) h o =
     pieces_numbers ps h o.1 ∙ sym (no_number (edit_shape l.kind).inline l.id (numbers (page_pieces ps)) o.0)
-pieces_numbers (written x text ∷ ps) h o = text_numbers x text (sent_pieces ps) ∙ pieces_numbers ps h o
-pieces_numbers (kept (tree l ts) (tree m us) ∷ ps) h o =
+pieces_numbers (written x text ps) h o = text_numbers x text (sent_pieces ps) ∙ pieces_numbers ps h o
+pieces_numbers (kept (tree l ts) (tree m us) ps) h o =
     ap (λ (k : Kind). number_by (edit_shape k).inline m.id (numbers (sent_pieces ps))) h.0.0.kind
     ∙ ap (λ (i : ℕ). number_by (edit_shape l.kind).inline i (numbers (sent_pieces ps))) h.0.0.id
     ∙ ap (number_by (edit_shape l.kind).inline l.id) (pieces_numbers ps h.1 o)
 
-pub same_numbers : (block : Tree) (ps : List Piece) → page_pieces ps ≡ children_of block → PiecesStay ps → OnlyTextsGo ps
+pub same_numbers : (block : Tree) (ps : Pieces) → page_pieces ps ≡ children_of block → PiecesStay ps → OnlyTextsGo ps
     → numbers (sent_pieces ps) ≡ numbers (children_of block)
 same_numbers block ps is h o = pieces_numbers ps h o ∙ ap numbers is
 
@@ -188,18 +188,18 @@ number_gone inline.Tag n ns ms h = among_behind ns (n ∷ []) ms h
 number_gone inline.Break n ns ms h = among_behind ns (n ∷ []) ms h
 number_gone inline.AsItStood n ns ms h = among_behind ns (n ∷ []) ms h
 
-pieces_among : (ps : List Piece) → PiecesStay ps → AreAmong (numbers (sent_pieces ps)) (numbers (page_pieces ps))
-pieces_among [] h = tt
-pieces_among (gone (tree l ts) ∷ ps) h =
+pieces_among : (ps : Pieces) → PiecesStay ps → AreAmong (numbers (sent_pieces ps)) (numbers (page_pieces ps))
+pieces_among no_pieces h = tt
+pieces_among (gone (tree l ts) ps) h =
     number_gone (edit_shape l.kind).inline l.id (numbers (sent_pieces ps)) (numbers (page_pieces ps)) (pieces_among ps h)
-pieces_among (written x text ∷ ps) h =
+pieces_among (written x text ps) h =
     subst (λ (ns : List ℕ). AreAmong ns (numbers (page_pieces ps))) (sym (text_numbers x text (sent_pieces ps))) (pieces_among ps h)
-pieces_among (kept (tree l ts) (tree m us) ∷ ps) h =
+pieces_among (kept (tree l ts) (tree m us) ps) h =
     let ns : List ℕ = numbers (sent_pieces ps) in
     let same : number_by (edit_shape m.kind).inline m.id ns ≡ number_by (edit_shape l.kind).inline l.id ns =
     ap (λ (k : Kind). number_by (edit_shape k).inline m.id ns) h.0.0.kind ∙ ap (λ (i : ℕ). number_by (edit_shape l.kind).inline i ns) h.0.0.id in
     subst (λ (is : List ℕ). AreAmong is (number_by (edit_shape l.kind).inline l.id (numbers (page_pieces ps)))) (sym same)
     (number_among (edit_shape l.kind).inline l.id ns (numbers (page_pieces ps)) (pieces_among ps h.1))
 
-pub some_numbers : (block : Tree) (ps : List Piece) → page_pieces ps ≡ children_of block → PiecesStay ps → AreAmong (numbers (sent_pieces ps)) (numbers (children_of block))
+pub some_numbers : (block : Tree) (ps : Pieces) → page_pieces ps ≡ children_of block → PiecesStay ps → AreAmong (numbers (sent_pieces ps)) (numbers (children_of block))
 some_numbers block ps is h = subst (λ (us : Trees). AreAmong (numbers (sent_pieces ps)) (numbers us)) is (pieces_among ps h)

@@ -14,7 +14,7 @@ use Rattle.wt_inline.specs.Parts.{children}
 use Rattle.wt_annotated.specs.Clean.{is_page}
 use Rattle.wt_called_trees.specs.Rounded.{AllHaveItems}
 use Rattle.wt_visible.specs.SameNodes.{same_node}
-use Rattle.wt_typed_blocks.specs.Edited.{Piece, sent_pieces}
+use Rattle.wt_typed_blocks.specs.Edited.{Pieces, sent_pieces}
 use Rattle.wt_text_edit_laws.specs.Contents.{IsContentOf, content_parts_of}
 use Rattle.wt_text_edit_laws.specs.NoCalls.{CallsNothing}
 use Rattle.wt_text_edit_laws.specs.TextBlocks.{TextBlock, a_paragraph, a_heading, source_of, block_items}
@@ -58,12 +58,12 @@ pub record IsStyledFor (k : TextBlock) (q : List ℕ) (s : Setting) (t : StyledC
 
 -- ---- what is sent for it
 
-abbrev pub sent_for : Tree → List Piece → StyledContent
+abbrev pub sent_for : Tree → Pieces → StyledContent
 sent_for block ps = sent_content (page_of same_node block) (sent_pieces ps)
 
 -- As for a flat block, where bold and italic nodes of the page may stay, too. The styles nest, and no bare URL is directly before a delimiter in the
 -- page.
-pub record IsStyledEditOf (k : TextBlock) (block : Tree) (ps : List Piece) : Type 0 where
+pub record IsStyledEditOf (k : TextBlock) (block : Tree) (ps : Pieces) : Type 0 where
   pub edit : IsFlatEditOf k block ps
   pub nest : AllNest (page_of same_node block) false false (sent_pieces ps)
   pub apart : AreUrlsApart (things (signs_in (sent_for block ps)))

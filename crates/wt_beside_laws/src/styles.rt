@@ -22,7 +22,7 @@ ghost use Rattle.wt_page.specs.Body.{meaning};
 ghost use Rattle.wt_page.specs.Rows.{rows};
 ghost use Rattle.wt_page.specs.Texts.{para};
 ghost use Rattle.wt_moved_laws.specs.Standing.{standing};
-ghost use Rattle.wt_typed_blocks.specs.Edited.{Piece};
+ghost use Rattle.wt_typed_blocks.specs.Edited.{Pieces};
 ghost use Rattle.wt_text_edit_laws.specs.Contents.{IsContent, IsNewContent};
 ghost use Rattle.wt_text_edit_laws.specs.ParagraphBetween.{AreClosed, before_marks, EndsApart, EndsParagraph, blocks_in, body_with};
 ghost use Rattle.wt_text_edit_laws.specs.ParagraphParts.{para_with};
@@ -168,8 +168,8 @@ pub fn contents_with_styles_may_take_their_place()
 /// stay with all that they hold (`IsStyledEditOf`). What is sent for it is taken, what is written for it may stand in the place of the old content
 /// and shows what was sent (`MakesContent`), and it is such a block again.
 pub fn styled_contents_are_made()
-    ensures made { (k : TextBlock) (q : List ℕ) (n : ℕ) (before : List Item) (block : Tree) (m : Label) (ps : List Piece) → IsStyledIn k q → 0 < n
+    ensures made { (k : TextBlock) (q : List ℕ) (n : ℕ) (before : List Item) (block : Tree) (m : Label) (ps : Pieces) → IsStyledIn k q → 0 < n
         → block ≡ standing n before (block_tree k q) → IsStyledEditOf k block ps → MakesContent k q block m ps }
-    ensures again { (k : TextBlock) (q : List ℕ) (n : ℕ) (before : List Item) (block : Tree) (m : Label) (ps : List Piece) → IsStyledIn k q → 0 < n
+    ensures again { (k : TextBlock) (q : List ℕ) (n : ℕ) (before : List Item) (block : Tree) (m : Label) (ps : Pieces) → IsStyledIn k q → 0 < n
         → block ≡ standing n before (block_tree k q) → IsStyledEditOf k block ps → IsStyledIn k (new_content k block m ps) }
 {}

@@ -15,7 +15,7 @@ use Rattle.wt_guards.specs.Table.{hazard, line_start_hazard}
 use Rattle.wt_typed_blocks.specs.Sent.{StandsAsIs, paragraph, heading, Sent, stands, typed, holds, Sents, none_sent, more_sent, old_children, IsSent, AreSent, all_show}
 use Rattle.wt_original.specs.Kept.{kept_with}
 use Rattle.wt_link_spelling.specs.Spelling.{inline_spelling}
-use Rattle.wt_typed_blocks.specs.Edited.{gone, written, kept, edited, Edits, no_edits, more_edits, page_nodes, AreEdited, edits_show}
+use Rattle.wt_typed_blocks.specs.Edited.{no_pieces, gone, written, kept, around, edited, Edits, no_edits, more_edits, page_nodes, AreEdited, edits_show}
 use Rattle.wt_typed_blocks.specs.EditedPage.{edited_sources}
 use Rattle.wt_typed_blocks.specs.Typed.{new_sources, TakeTexts, StandAt}
 use Rattle.wt_typed_blocks.specs.Unmarked.{IsToldApart, AreToldApart}
@@ -239,9 +239,8 @@ abbrev beside_link : List ℕ → Edits
 beside_link bs = more_edits
     (edited paragraph linked_block (sent_label kind.Para 0 [])
     (gone (tree (a_label kind.Text 0 0 2 0 [] (codes "a ")) none)
-    ∷ written (sent_label kind.Text 0 []) bs
-    ∷ kept (tree link_label (words 4 5 (codes "b"))) (tree (sent_label kind.WikiLink 2 []) (sent_words (codes "b")))
-    ∷ []))
+    (written (sent_label kind.Text 0 []) bs
+    (kept (tree link_label (words 4 5 (codes "b"))) (tree (sent_label kind.WikiLink 2 []) (sent_words (codes "b"))) no_pieces))))
     no_edits
 
 link_page : flat_of_all (page_nodes (beside_link (codes "x"))) ≡ codes "a [[b]]"

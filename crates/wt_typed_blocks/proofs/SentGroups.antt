@@ -1,7 +1,9 @@
 -- What is sent for a group and what it holds: no mark, no number, and no body or section.
-use Rattle.std.proofs.Common.{◌≡◌, ℕ, Bool, true, false, List, [], ◌∷◌, refl, ap, ◌∙◌}
+use Rattle.std.proofs.Common.{◌≡◌, ℕ, Bool, true, false, List, [], ◌∷◌, refl, sym, ap, ◌∙◌, subst, inl, inr}
 use Rattle.std.specs.Prelude.{◌==◌, ◌&&◌, ◌||◌, not, if◌then◌else◌}
 use Rattle.std.specs.List.{AllByRecursion}
+use Rattle.wt_tree.specs.declared.kind.Kind.{Kind}
+use Rattle.wt_tree.specs.declared.kind.Kind.TheVariants as kind
 use Rattle.wt_tree.specs.declared.kind.Mark.{Mark}
 use Rattle.wt_tree.specs.declared.kind.Mark.TheVariants as marks
 use Rattle.wt_tree.specs.Tiling.{is_group, HasNoGroup, NoneIsGroup, ids, ids_of_all}
@@ -15,6 +17,7 @@ use Rattle.wt_checks.proofs.Lookups.{each_split, each_join}
 use Rattle.wt_checks.proofs.Repeated.{or_false}
 use Rattle.wt_difference.specs.Unedited.{GroupOr}
 use Rattle.wt_typed_blocks.specs.Sent.{StandsAsIs, AllStandAsIs, Sent, stands, typed, holds, Sents, none_sent, more_sent, old_child, old_children, IsOutsideGroups, AreOutsideGroups}
+use Rattle.wt_typed_blocks.specs.Edited.{IsStyle}
 
 -- ---- a group, or another node
 
@@ -38,6 +41,15 @@ both_ways false f g = g
 pub no_group : (A : Type 0) {B : Type 0} (b : Bool) → b ≡ false → B → GroupOr b A B
 no_group A true e g = absurd (cc)
 no_group A false e g = g
+
+-- ---- bold and italic
+
+pub of_style : (P : Kind → Type 0) (k : Kind) → IsStyle k → P kind.Bold → P kind.Italic → P k
+of_style P k (inl e) b i = subst P (sym e) b
+of_style P k (inr e) b i = subst P (sym e) i
+
+pub style_ungrouped : (k : Kind) → IsStyle k → is_group k ≡ false
+style_ungrouped k h = of_style (λ j. is_group j ≡ false) k h refl refl
 
 -- ---- pages without groups
 

@@ -26,7 +26,7 @@ use Rattle.wt_content.specs.declared.content.Standing.{Standing}
 use Rattle.wt_content.specs.Content.{standing, faults_by, holds_link, below, faults, all_faults, has_break, is_paragraph, first_why, bad_content}
 use Rattle.wt_link_spelling.specs.Spelling.{opening_place, closing_place}
 use Rattle.wt_typed_blocks.specs.Sent.{StandsAsIs, AllStandAsIs}
-use Rattle.wt_typed_blocks.specs.Edited.{Piece, gone, written, kept, page_pieces, text_node, sent_pieces, PiecesStay}
+use Rattle.wt_typed_blocks.specs.Edited.{Pieces, no_pieces, gone, written, kept, around, page_pieces, text_node, sent_pieces, PiecesStay}
 use Rattle.wt_typed_blocks.proofs.SentGroups.{in_group}
 use Rattle.wt_text_edit_laws.proofs.Headings.TypedTexts.{has_line, chars_line, same_break}
 use Rattle.wt_beside_laws.specs.FlatBlocks.{AreOneLine}
@@ -74,13 +74,13 @@ text_known : (p : Page) (x : Label) (text : List ℕ) (us : Trees) → AreKnown 
 text_known p x [] us h = h
 text_known p x (c ∷ cs) us h = (tt, h)
 
-pub pieces_known : (same : Tree → Tree → Bool) (block : Tree) (ps : List Piece) → TellsSame same → AreKnown (page_of same block) (page_pieces ps)
+pub pieces_known : (same : Tree → Tree → Bool) (block : Tree) (ps : Pieces) → TellsSame same → AreKnown (page_of same block) (page_pieces ps)
     → NoneIsGroup (page_pieces ps) → PiecesStay ps → AreKnown (page_of same block) (sent_pieces ps)
-pieces_known same block [] tells e g h = tt
-pieces_known same block (gone t ∷ ps) tells e g h = pieces_known same block ps tells e.1 g.1 h
-pieces_known same block (written x text ∷ ps) tells e g h =
+pieces_known same block no_pieces tells e g h = tt
+pieces_known same block (gone t ps) tells e g h = pieces_known same block ps tells e.1 g.1 h
+pieces_known same block (written x text ps) tells e g h =
     text_known (page_of same block) x text (sent_pieces ps) (pieces_known same block ps tells e g h)
-pieces_known same block (kept t u ∷ ps) tells e g h =
+pieces_known same block (kept t u ps) tells e g h =
     (tree_known same block t u tells h.0 g.0 e.0, pieces_known same block ps tells e.1 g.1 h.1)
 
 -- ---- a text on one line
@@ -345,17 +345,17 @@ written_line : (p : Page) (x : Label) (text : List ℕ) (us : Trees) → IsUtf8 
 written_line p x [] us u b h = h
 written_line p x (c ∷ cs) us u b h = text_line (chars (c ∷ cs)) (sent_content p us) (typed_line (c ∷ cs) u b) h
 
-lines_of_pieces : (p : Page) (ps : List Piece) → PiecesStay ps → AreNodesAndTexts ps → AreOneLine ps → AllNest p false false (sent_pieces ps)
+lines_of_pieces : (p : Page) (ps : Pieces) → PiecesStay ps → AreNodesAndTexts ps → AreOneLine ps → AllNest p false false (sent_pieces ps)
     → OneLineIn (sent_content p (sent_pieces ps))
-lines_of_pieces p [] h a o n = λ after k. k
-lines_of_pieces p (gone t ∷ ps) h a o n = lines_of_pieces p ps h a o n
-lines_of_pieces p (written x text ∷ ps) h a o n =
+lines_of_pieces p no_pieces h a o n = λ after k. k
+lines_of_pieces p (gone t ps) h a o n = lines_of_pieces p ps h a o n
+lines_of_pieces p (written x text ps) h a o n =
     written_line p x text (sent_pieces ps) a.0 o.0 (lines_of_pieces p ps h a.1 o.1 (nested_text p x text (sent_pieces ps) n))
-lines_of_pieces p (kept (tree l ts) (tree m us) ∷ ps) h a o n =
+lines_of_pieces p (kept (tree l ts) (tree m us) ps) h a o n =
     let form : IsNodeForm (edit_shape m.kind).inline = subst (λ k. IsNodeForm (edit_shape k).inline) (sym h.0.0.kind) a.0 in
     one_line (edit_shape m.kind).inline p m false false (sent_content p us) (sent_content p (sent_pieces ps)) (λ b i. AllNest p b i us)
     (node_line (edit_shape m.kind).inline m form) n.0 (λ b i f w. held_lines p us b i f w) (lines_of_pieces p ps h.1 a.1 o n.1)
 
-pub sent_on_one_line : (p : Page) (ps : List Piece) → PiecesStay ps → AreNodesAndTexts ps → AreOneLine ps → AllNest p false false (sent_pieces ps)
+pub sent_on_one_line : (p : Page) (ps : Pieces) → PiecesStay ps → AreNodesAndTexts ps → AreOneLine ps → AllNest p false false (sent_pieces ps)
     → AreOnOneLine (signs_in (sent_content p (sent_pieces ps)))
 sent_on_one_line p ps h a o n = lines_of_pieces p ps h a o n [] tt

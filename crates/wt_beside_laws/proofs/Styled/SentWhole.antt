@@ -15,7 +15,7 @@ use Rattle.wt_tree.specs.Tree.{Label, Tree, tree, Trees, none, more}
 use Rattle.wt_original.specs.Kept.{kept_with}
 use Rattle.wt_original.specs.Page.{Page, page_of, TellsSame}
 use Rattle.wt_typed_blocks.specs.Sent.{IsSentAsIs, StandsAsIs, AllStandAsIs}
-use Rattle.wt_typed_blocks.specs.Edited.{Piece, gone, written, kept, page_pieces, text_node, sent_pieces, PiecesStay, pieces_before}
+use Rattle.wt_typed_blocks.specs.Edited.{Pieces, no_pieces, gone, written, kept, around, page_pieces, text_node, sent_pieces, PiecesStay, pieces_before}
 use Rattle.wt_typed_blocks.proofs.EditedShows.{shown_same}
 use Rattle.wt_typed_blocks.proofs.SentGroups.{in_group}
 use Rattle.wt_beside_laws.specs.FlatPages.{AreNodesAndTexts}
@@ -52,12 +52,12 @@ text_plain x [] us rest = sym (no_text (plains_before us rest))
     no_text qs = refl
 text_plain x (c ∷ cs) us rest = refl
 
-pub pieces_plain : (ps : List Piece) (rest : Plains) → NoneIsGroup (page_pieces ps) → PiecesStay ps → plains_before (sent_pieces ps) rest ≡ pieces_before ps rest
-pieces_plain [] rest g h = refl
-pieces_plain (gone t ∷ ps) rest g h = pieces_plain ps rest g.1 h
-pieces_plain (written x text ∷ ps) rest g h =
+pub pieces_plain : (ps : Pieces) (rest : Plains) → NoneIsGroup (page_pieces ps) → PiecesStay ps → plains_before (sent_pieces ps) rest ≡ pieces_before ps rest
+pieces_plain no_pieces rest g h = refl
+pieces_plain (gone t ps) rest g h = pieces_plain ps rest g.1 h
+pieces_plain (written x text ps) rest g h =
     text_plain x text (sent_pieces ps) rest ∙ ap (λ (qs : Plains). pieces_before (written x text ∷ []) qs) (pieces_plain ps rest g h)
-pieces_plain (kept t u ∷ ps) rest g h =
+pieces_plain (kept t u ps) rest g h =
     ap (λ (qs : Plains). plain_before u qs) (pieces_plain ps rest g.1 h.1) ∙ same_plain t u (pieces_before ps rest) h.0 g.0
 
 -- ---- its nodes are the page's
@@ -94,13 +94,13 @@ text_styled : (p : Page) (x : Label) (text : List ℕ) (us : Trees) → AreStyle
 text_styled p x [] us h = h
 text_styled p x (c ∷ cs) us h = (tt, h)
 
-pub pieces_styled : (same : Tree → Tree → Bool) (block : Tree) (ps : List Piece) → TellsSame same → AreStyledSent (page_of same block) (page_pieces ps)
+pub pieces_styled : (same : Tree → Tree → Bool) (block : Tree) (ps : Pieces) → TellsSame same → AreStyledSent (page_of same block) (page_pieces ps)
     → NoneIsGroup (page_pieces ps) → PiecesStay ps → AreStyledSent (page_of same block) (sent_pieces ps)
-pieces_styled same block [] tells e g h = tt
-pieces_styled same block (gone t ∷ ps) tells e g h = pieces_styled same block ps tells e.1 g.1 h
-pieces_styled same block (written x text ∷ ps) tells e g h =
+pieces_styled same block no_pieces tells e g h = tt
+pieces_styled same block (gone t ps) tells e g h = pieces_styled same block ps tells e.1 g.1 h
+pieces_styled same block (written x text ps) tells e g h =
     text_styled (page_of same block) x text (sent_pieces ps) (pieces_styled same block ps tells e g h)
-pieces_styled same block (kept t u ∷ ps) tells e g h =
+pieces_styled same block (kept t u ps) tells e g h =
     (tree_styled same block t u tells h.0 g.0 e.0, pieces_styled same block ps tells e.1 g.1 h.1)
 
 -- ---- what they show
@@ -142,12 +142,12 @@ text_shows : (p : Page) (x : Label) (text : List ℕ) (us : Trees) → IsUtf8 te
 text_shows p x [] us u h = h
 text_shows p x (c ∷ cs) us u h = ((refl, u), h)
 
-pub pieces_show : (p : Page) (ps : List Piece) → NoneIsGroup (page_pieces ps) → PiecesStay ps → AreNodesAndTexts ps → AllShow p (page_pieces ps)
+pub pieces_show : (p : Page) (ps : Pieces) → NoneIsGroup (page_pieces ps) → PiecesStay ps → AreNodesAndTexts ps → AllShow p (page_pieces ps)
     → AllShow p (sent_pieces ps)
-pieces_show p [] g h a s = tt
-pieces_show p (gone t ∷ ps) g h a s = pieces_show p ps g.1 h a s.1
-pieces_show p (written x text ∷ ps) g h a s = text_shows p x text (sent_pieces ps) a.0 (pieces_show p ps g h a.1 s)
-pieces_show p (kept t u ∷ ps) g h a s = (tree_shows p t u h.0 g.0 s.0, pieces_show p ps g.1 h.1 a.1 s.1)
+pieces_show p no_pieces g h a s = tt
+pieces_show p (gone t ps) g h a s = pieces_show p ps g.1 h a s.1
+pieces_show p (written x text ps) g h a s = text_shows p x text (sent_pieces ps) a.0 (pieces_show p ps g h a.1 s)
+pieces_show p (kept t u ps) g h a s = (tree_shows p t u h.0 g.0 s.0, pieces_show p ps g.1 h.1 a.1 s.1)
 
 -- ---- their numbers
 
@@ -178,11 +178,11 @@ text_numbers : (x : Label) (text : List ℕ) (us : Trees) → all_numbers (text_
 text_numbers x [] us = refl
 text_numbers x (c ∷ cs) us = refl
 
-pub some_numbers : (ps : List Piece) → NoneIsGroup (page_pieces ps) → PiecesStay ps → AreSomeOf (all_numbers (sent_pieces ps)) (all_numbers (page_pieces ps))
-some_numbers [] g h = tt
-some_numbers (gone t ∷ ps) g h = some_behind (all_numbers (sent_pieces ps)) (numbers_of t) (all_numbers (page_pieces ps)) (some_numbers ps g.1 h)
-some_numbers (written x text ∷ ps) g h =
+pub some_numbers : (ps : Pieces) → NoneIsGroup (page_pieces ps) → PiecesStay ps → AreSomeOf (all_numbers (sent_pieces ps)) (all_numbers (page_pieces ps))
+some_numbers no_pieces g h = tt
+some_numbers (gone t ps) g h = some_behind (all_numbers (sent_pieces ps)) (numbers_of t) (all_numbers (page_pieces ps)) (some_numbers ps g.1 h)
+some_numbers (written x text ps) g h =
     subst (λ (ns : List ℕ). AreSomeOf ns (all_numbers (page_pieces ps))) (sym (text_numbers x text (sent_pieces ps))) (some_numbers ps g h)
-some_numbers (kept t u ∷ ps) g h =
+some_numbers (kept t u ps) g h =
     subst (λ (ns : List ℕ). AreSomeOf (ns ++ all_numbers (sent_pieces ps)) (numbers_of t ++ all_numbers (page_pieces ps))) (sym (same_numbers t u h.0 g.0))
     (some_with (numbers_of t) (all_numbers (sent_pieces ps)) (all_numbers (page_pieces ps)) (some_numbers ps g.1 h.1))
