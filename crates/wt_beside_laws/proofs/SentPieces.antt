@@ -15,8 +15,8 @@ use Rattle.wt_original.specs.Kept.{Kept, kept_with}
 use Rattle.wt_original.specs.Page.{Page, page_of, TellsSame, node_or, restored, restored_all}
 use Rattle.wt_link_spelling.specs.Spelling.{children_of}
 use Rattle.wt_typed_blocks.specs.Sent.{IsSentAsIs, StandsAsIs, AllStandAsIs}
-use Rattle.wt_typed_blocks.specs.Edited.{Pieces, no_pieces, gone, written, kept, around, page_pieces, text_node, sent_pieces, PiecesStay}
-use Rattle.wt_typed_blocks.proofs.SentGroups.{in_group}
+use Rattle.wt_typed_blocks.specs.Edited.{Pieces, no_pieces, gone, written, kept, around, page_pieces, text_node, sent_pieces, IsStyle, PiecesStay}
+use Rattle.wt_typed_blocks.proofs.SentGroups.{in_group, of_style}
 use Rattle.wt_typed_blocks.proofs.EditedShows.{shown_same}
 use Rattle.wt_beside_laws.specs.OwnSigns.{IsFlatBlock}
 use Rattle.wt_beside_laws.specs.SentNodes.{IsUnchanged, IsSentBy, AreSent, number_by, numbers}
@@ -110,6 +110,14 @@ sent_so inline.AsItStood same block l m ts us tells h g e = stays_unchanged same
 
 -- ---- all of them
 
+-- a style isn't among them
+pub no_style : {A : Type 0} (p : Page) (l : Label) (ts : Trees) → IsStyle l.kind → IsSentBy (edit_shape l.kind).inline p l ts → A
+no_style {A} p l ts h = of_style (λ k. IsSentBy (edit_shape k).inline p l ts → A) l.kind h (λ e. absurd e) (λ e. absurd e)
+
+-- nor is one that is sent
+pub no_style_sent : {A : Type 0} (p : Page) (l m : Label) (us : Trees) → IsStyle l.kind → IsSentAsIs l m → IsSentBy (edit_shape m.kind).inline p m us → A
+no_style_sent p l m us h s e = no_style p m us (subst IsStyle (sym s.kind) h) e
+
 text_sent : (p : Page) (x : Label) (text : List ℕ) (us : Trees) → AreSent p us → AreSent p (text_node x text us)
 text_sent p x [] us h = h
 text_sent p x (c ∷ cs) us h = (tt, h)
@@ -125,6 +133,7 @@ pieces_sent same block (kept (tree l ts) (tree m us) ps) tells e g h = (
       (sent_so (edit_shape l.kind).inline same block l m ts us tells h.0 g.0 e.0),
   pieces_sent same block ps tells e.1 g.1 h.1,
 )
+pieces_sent same block (around l m is ps) tells e g h = no_style (page_of same block) l (page_pieces is) h.0 e.0
 
 pub stays_sent : (same : Tree → Tree → Bool) (block : Tree) (ps : Pieces) → TellsSame same → IsFlatBlock block → page_pieces ps ≡ children_of block
     → PiecesStay ps → AreSent (page_of same block) (sent_pieces ps)
@@ -158,6 +167,10 @@ pieces_numbers (kept (tree l ts) (tree m us) ps) h o =
     ap (λ (k : Kind). number_by (edit_shape k).inline m.id (numbers (sent_pieces ps))) h.0.0.kind
     ∙ ap (λ (i : ℕ). number_by (edit_shape l.kind).inline i (numbers (sent_pieces ps))) h.0.0.id
     ∙ ap (number_by (edit_shape l.kind).inline l.id) (pieces_numbers ps h.1 o)
+pieces_numbers (around l m is ps) h o =
+    ap (λ (k : Kind). number_by (edit_shape k).inline m.id (numbers (sent_pieces ps))) h.1.kind
+    ∙ ap (λ (i : ℕ). number_by (edit_shape l.kind).inline i (numbers (sent_pieces ps))) h.1.id
+    ∙ ap (number_by (edit_shape l.kind).inline l.id) (pieces_numbers ps h.3 o.1)
 
 pub same_numbers : (block : Tree) (ps : Pieces) → page_pieces ps ≡ children_of block → PiecesStay ps → OnlyTextsGo ps
     → numbers (sent_pieces ps) ≡ numbers (children_of block)
@@ -188,6 +201,14 @@ number_gone inline.Tag n ns ms h = among_behind ns (n ∷ []) ms h
 number_gone inline.Break n ns ms h = among_behind ns (n ∷ []) ms h
 number_gone inline.AsItStood n ns ms h = among_behind ns (n ∷ []) ms h
 
+also_among : (l m : Label) (ns ms : List ℕ) → IsSentAsIs l m → AreAmong ns ms
+    → AreAmong (number_by (edit_shape m.kind).inline m.id ns) (number_by (edit_shape l.kind).inline l.id ms)
+also_among l m ns ms h among =
+    let same : number_by (edit_shape m.kind).inline m.id ns ≡ number_by (edit_shape l.kind).inline l.id ns =
+    ap (λ (k : Kind). number_by (edit_shape k).inline m.id ns) h.kind ∙ ap (λ (i : ℕ). number_by (edit_shape l.kind).inline i ns) h.id in
+    subst (λ (is : List ℕ). AreAmong is (number_by (edit_shape l.kind).inline l.id ms)) (sym same)
+    (number_among (edit_shape l.kind).inline l.id ns ms among)
+
 pieces_among : (ps : Pieces) → PiecesStay ps → AreAmong (numbers (sent_pieces ps)) (numbers (page_pieces ps))
 pieces_among no_pieces h = tt
 pieces_among (gone (tree l ts) ps) h =
@@ -195,11 +216,8 @@ pieces_among (gone (tree l ts) ps) h =
 pieces_among (written x text ps) h =
     subst (λ (ns : List ℕ). AreAmong ns (numbers (page_pieces ps))) (sym (text_numbers x text (sent_pieces ps))) (pieces_among ps h)
 pieces_among (kept (tree l ts) (tree m us) ps) h =
-    let ns : List ℕ = numbers (sent_pieces ps) in
-    let same : number_by (edit_shape m.kind).inline m.id ns ≡ number_by (edit_shape l.kind).inline l.id ns =
-    ap (λ (k : Kind). number_by (edit_shape k).inline m.id ns) h.0.0.kind ∙ ap (λ (i : ℕ). number_by (edit_shape l.kind).inline i ns) h.0.0.id in
-    subst (λ (is : List ℕ). AreAmong is (number_by (edit_shape l.kind).inline l.id (numbers (page_pieces ps)))) (sym same)
-    (number_among (edit_shape l.kind).inline l.id ns (numbers (page_pieces ps)) (pieces_among ps h.1))
+    also_among l m (numbers (sent_pieces ps)) (numbers (page_pieces ps)) h.0.0 (pieces_among ps h.1)
+pieces_among (around l m is ps) h = also_among l m (numbers (sent_pieces ps)) (numbers (page_pieces ps)) h.1 (pieces_among ps h.3)
 
 pub some_numbers : (block : Tree) (ps : Pieces) → page_pieces ps ≡ children_of block → PiecesStay ps → AreAmong (numbers (sent_pieces ps)) (numbers (children_of block))
 some_numbers block ps is h = subst (λ (us : Trees). AreAmong (numbers (sent_pieces ps)) (numbers us)) is (pieces_among ps h)

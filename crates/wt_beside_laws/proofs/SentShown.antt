@@ -23,6 +23,7 @@ use Rattle.wt_beside_laws.specs.SentNodes.{IsUnchanged, IsSentBy, AreSent}
 use Rattle.wt_beside_laws.specs.SentPieces.{IsNodeForm, PiecesShow}
 use Rattle.wt_beside_laws.specs.Shown.{parts_shown_at, content_shown}
 use Rattle.wt_beside_laws.proofs.LineShown.{twice}
+use Rattle.wt_beside_laws.proofs.SentPieces.{no_style_sent}
 
 -- ---- texts
 
@@ -108,3 +109,4 @@ pieces_shown p pl (kept (tree l ts) (tree m us) ps) rest h e s =
     let shows : Shows p m f = λ k i. s.1 k (ap (λ (n : ℕ). kept_with n p.kept) (sym h.0.0.id) ∙ i) in
     node_shown (edit_shape m.kind).inline p pl m us (signs_of_all p pl us) signs f rest form e.0 shows
     ∙ ap f (pieces_shown p pl ps rest h.1 e.1 s.2)
+pieces_shown p pl (around l m is ps) rest h e s = no_style_sent p l m (sent_pieces is) h.0 h.1 e.0

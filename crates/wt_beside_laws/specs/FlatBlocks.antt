@@ -75,12 +75,13 @@ pub record IsFlatIn (k : TextBlock) (q : List ℕ) : Type 0 where
 
 -- ---- what is sent for it
 
--- no text has a line break
+-- no text has a line break; none in bold or italic has one anyway
 abbrev pub AreOneLine : Pieces → Type 0
 AreOneLine no_pieces = Unit {0}
 AreOneLine (gone t ps) = AreOneLine ps
 AreOneLine (written x text ps) = (has_break text ≡ false) × AreOneLine ps
 AreOneLine (kept t u ps) = AreOneLine ps
+AreOneLine (around l m is ps) = AreOneLine ps
 
 -- so it is in a heading
 abbrev pub TextsFitIn : TextBlock → Pieces → Type 0

@@ -62,6 +62,7 @@ AreNodesAndTexts no_pieces = Unit {0}
 AreNodesAndTexts (gone t ps) = AreNodesAndTexts ps
 AreNodesAndTexts (written x text ps) = IsUtf8 text × AreNodesAndTexts ps
 AreNodesAndTexts (kept t u ps) = IsNodeForm (edit_shape (label t).kind).inline × AreNodesAndTexts ps
+AreNodesAndTexts (around l m is ps) = AreNodesAndTexts is × AreNodesAndTexts ps
 
 -- All nodes of the paragraph stay, each is sent as it is, and any texts are between them.
 pub record IsFlatEdit (q : List ℕ) (ps : Pieces) : Type 0 where

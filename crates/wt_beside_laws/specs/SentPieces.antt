@@ -34,6 +34,7 @@ OnlyTextsGo no_pieces = Unit {0}
 OnlyTextsGo (gone (tree l ts) ps) = IsNoNode (edit_shape l.kind).inline × OnlyTextsGo ps
 OnlyTextsGo (written x text ps) = OnlyTextsGo ps
 OnlyTextsGo (kept t u ps) = OnlyTextsGo ps
+OnlyTextsGo (around l m is ps) = OnlyTextsGo is × OnlyTextsGo ps
 
 -- a text with a line break is only in a paragraph
 abbrev pub FitsBy : InlineForm → Bool → Label → Type 0
@@ -72,9 +73,10 @@ abbrev pub ShowsItsSource : Page → Tree → Type 0
 ShowsItsSource p t = (k : Kept) → kept_with (label t).id p.kept ≡ Some k
     → (rest : Plains) → parts_shown_at 0 [] (line_parts (page_items (flat k.node))) rest ≡ plain_before t rest
 
--- what stays are nodes that show their source, and the texts are texts
+-- where no style is among them: what stays are nodes that show their source, and the texts are texts
 abbrev pub PiecesShow : Page → Pieces → Type 0
 PiecesShow p no_pieces = Unit {0}
 PiecesShow p (gone t ps) = PiecesShow p ps
 PiecesShow p (written x text ps) = IsUtf8 text × PiecesShow p ps
 PiecesShow p (kept t u ps) = IsNodeForm (edit_shape (label t).kind).inline × ShowsItsSource p t × PiecesShow p ps
+PiecesShow p (around l m is ps) = PiecesShow p ps

@@ -52,18 +52,21 @@ text_label m no_pieces = m
 text_label m (gone t ps) = text_label m ps
 text_label m (written x text ps) = x
 text_label m (kept t u ps) = m
+text_label m (around l n is ps) = m
 
 abbrev pub text_of : Pieces → List ℕ
 text_of no_pieces = []
 text_of (gone t ps) = text_of ps
 text_of (written x text ps) = text
 text_of (kept t u ps) = []
+text_of (around l m is ps) = []
 
 none_sent : (ps : Pieces) → AreGone ps → sent_pieces ps ≡ none
 none_sent no_pieces h = refl
 none_sent (gone t ps) h = none_sent ps h
 none_sent (written x text ps) h = absurd h
 none_sent (kept t u ps) h = absurd h
+none_sent (around l m is ps) h = absurd h
 
 alone_is : (x : Label) (text : List ℕ) → text_node x text none ≡ text_in x text
 alone_is x [] = refl
@@ -74,36 +77,42 @@ one_sent j m no_pieces h = absurd h
 one_sent j m (gone t ps) h = one_sent j m ps h
 one_sent j m (written x text ps) h = ap (text_node x text) (none_sent ps h.2) ∙ alone_is x text
 one_sent j m (kept t u ps) h = absurd h
+one_sent j m (around l n is ps) h = absurd h
 
 none_before : (ps : Pieces) (rest : Plains) → AreGone ps → pieces_before ps rest ≡ rest
 none_before no_pieces rest h = refl
 none_before (gone t ps) rest h = none_before ps rest h
 none_before (written x text ps) rest h = absurd h
 none_before (kept t u ps) rest h = absurd h
+none_before (around l m is ps) rest h = absurd h
 
 one_before : (j : Block) (ps : Pieces) (rest : Plains) → IsOneText j ps → pieces_before ps rest ≡ text_before (text_of ps) rest
 one_before j no_pieces rest h = absurd h
 one_before j (gone t ps) rest h = one_before j ps rest h
 one_before j (written x text ps) rest h = ap (text_before text) (none_before ps rest h.2)
 one_before j (kept t u ps) rest h = absurd h
+one_before j (around l m is ps) rest h = absurd h
 
 gone_inline : (ps : Pieces) → AreGone ps → AreInline ps
 gone_inline no_pieces h = tt
 gone_inline (gone t ps) h = gone_inline ps h
 gone_inline (written x text ps) h = absurd h
 gone_inline (kept t u ps) h = absurd h
+gone_inline (around l m is ps) h = absurd h
 
 one_inline : (j : Block) (ps : Pieces) → IsOneText j ps → AreInline ps
 one_inline j no_pieces h = absurd h
 one_inline j (gone t ps) h = one_inline j ps h
 one_inline j (written x text ps) h = gone_inline ps h.2
 one_inline j (kept t u ps) h = absurd h
+one_inline j (around l m is ps) h = absurd h
 
 one_fits : (j : Block) (ps : Pieces) → IsOneText j ps → IsUtf8 (text_of ps) × Takes j (text_of ps)
 one_fits j no_pieces h = absurd h
 one_fits j (gone t ps) h = one_fits j ps h
 one_fits j (written x text ps) h = (h.0, h.1)
 one_fits j (kept t u ps) h = absurd h
+one_fits j (around l m is ps) h = absurd h
 
 -- ---- the page's block, wherever it is
 

@@ -105,6 +105,7 @@ AreGone no_pieces = Unit {0}
 AreGone (gone t ps) = AreGone ps
 AreGone (written x text ps) = ⊥
 AreGone (kept t u ps) = ⊥
+AreGone (around l m is ps) = ⊥
 
 -- one text in the place of all that the block held
 abbrev pub IsOneText : Block → Pieces → Type 0
@@ -112,9 +113,10 @@ IsOneText k no_pieces = ⊥
 IsOneText k (gone t ps) = IsOneText k ps
 IsOneText k (written x text ps) = IsUtf8 text × Takes k text × AreGone ps
 IsOneText k (kept t u ps) = ⊥
+IsOneText k (around l m is ps) = ⊥
 
 -- One text in the place of all that the block held; or, where its content is flat, nodes of it as they are, and any texts between them; or so, where
--- bold and italic are in it, which stay whole.
+-- bold and italic are in it, which stay with any texts in them.
 abbrev pub Fits : TextBlock → List ℕ → Edited → Type 0
 Fits k q (stays t u) = ⊥
 Fits k q (edited j l m ps) =

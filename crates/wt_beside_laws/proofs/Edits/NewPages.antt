@@ -174,6 +174,7 @@ show_pieces p no_pieces s a = tt
 show_pieces p (gone t ps) s a = show_pieces p ps s.1 a
 show_pieces p (written x text ps) s a = (a.0, show_pieces p ps s a.1)
 show_pieces p (kept t u ps) s a = (a.0, s.0 a.0, show_pieces p ps s.1 a.1)
+show_pieces p (around l m is ps) s a = show_pieces p ps s.1 a.1
 
 inside_shows : (q : List ℕ) (ps : Pieces) → IsFlatPage q → IsFlatEdit q ps → parts_shown_at 2 [] (new_parts q ps) ended ≡ pieces_before ps ended
 inside_shows q ps h e =

@@ -19,6 +19,7 @@ use Rattle.wt_beside_laws.specs.Lines.{AreCharacters}
 use Rattle.wt_beside_laws.specs.SentNodes.{IsUnchanged, IsSentBy, AreSent}
 use Rattle.wt_beside_laws.specs.SentPieces.{IsNodeForm, FitsBy, TextsFit}
 use Rattle.wt_beside_laws.specs.FlatPages.{AreNodesAndTexts}
+use Rattle.wt_beside_laws.proofs.SentPieces.{no_style_sent}
 
 -- ---- in a paragraph any text fits
 
@@ -91,3 +92,4 @@ pieces_characters p pl (kept (tree l ts) (tree m us) ps) h e a =
     let form : IsNodeForm (edit_shape m.kind).inline = subst (λ k. IsNodeForm (edit_shape k).inline) (sym h.0.0.kind) a.0 in
     both_characters (signs_by (edit_shape m.kind).inline p pl (kept_with m.id p.kept) m us (signs_of_all p pl us)) (signs_of_all p pl (sent_pieces ps))
     (node_characters (edit_shape m.kind).inline p pl m us (signs_of_all p pl us) form e.0) (pieces_characters p pl ps h.1 e.1 a.1)
+pieces_characters p pl (around l m is ps) h e a = no_style_sent p l m (sent_pieces is) h.0 h.1 e.0

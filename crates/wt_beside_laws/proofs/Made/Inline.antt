@@ -154,6 +154,7 @@ pieces_inline no_pieces a h = tt
 pieces_inline (gone t ps) a h = pieces_inline ps a.1 h
 pieces_inline (written x text ps) a h = pieces_inline ps a h
 pieces_inline (kept (tree l ts) (tree m us) ps) a h = (ap is_block_part h.0.0.kind ∙ a.0, pieces_inline ps a.1 h.1)
+pieces_inline (around l m is ps) a h = pieces_inline ps a.1 h.3
 
 pub stays_inline : (k : TextBlock) (q : List ℕ) (block : Tree) (ps : Pieces) → IsUtf8 q → IsContentOf k q → page_items (source_of k q) ≡ block_items k q
     → CallsNothing (block_items k q) → IsIn k q block → page_pieces ps ≡ children_of block → PiecesStay ps → AreInline ps

@@ -45,7 +45,7 @@ use Rattle.wt_beside_laws.proofs.Styled.BlockStyles.{styled_nodes}
 use Rattle.wt_beside_laws.proofs.Styled.OldStyled.{styled_of_lines}
 use Rattle.wt_beside_laws.proofs.Styled.OwnStyled.{AreKnown, own_styled}
 use Rattle.wt_beside_laws.proofs.Styled.SentAmong.{some_of, things_among, sent_some, sent_styles}
-use Rattle.wt_beside_laws.proofs.Styled.SentFaults.{pieces_known, no_style_fault, sent_characters, sent_on_one_line}
+use Rattle.wt_beside_laws.proofs.Styled.SentFaults.{AreSound, pieces_known, no_style_fault, sent_characters, sent_on_one_line}
 use Rattle.wt_beside_laws.proofs.Styled.SentStyles.{sent_signs, sent_shown}
 use Rattle.wt_beside_laws.proofs.Styled.SentWhole.{pieces_plain, pieces_styled, pieces_show, some_numbers}
 use Rattle.wt_beside_laws.proofs.Styled.StyledShown.{styled_is_shown}
@@ -62,7 +62,7 @@ record IsSentWell (k : TextBlock) (q : List ℕ) (block : Tree) (ps : Pieces) : 
   pub free : NoneIsGroup (page_pieces ps)
   pub sent : AreStyledSent (known block) (sent_pieces ps)
   pub shows : AllShow (known block) (sent_pieces ps)
-  pub known : AreKnown (known block) (sent_pieces ps)
+  pub sound : AreSound (known block) (sent_pieces ps)
   pub is : IsStyledFor k q (setting k block) (sent_for block ps)
 
 none_in : (t : Tree) → HasNoGroup t → NoneIsGroup (children_of t)
@@ -83,7 +83,7 @@ sent_well k q block ps own h i e =
     let none : NoneIsGroup (page_pieces ps) = subst NoneIsGroup (sym e.edit.old) (none_in block b.ungrouped) in
     let styled_so : AreStyledSent p us = pieces_styled same_node block ps tells_same (subst (AreStyledSent p) (sym e.edit.old) own.0) none e.edit.stay in
     let shown_so : AllShow p us = pieces_show p ps none e.edit.stay e.edit.are (subst (AllShow p) (sym e.edit.old) own.1) in
-    let known_so : AreKnown p us = pieces_known same_node block ps tells_same (subst (AreKnown p) (sym e.edit.old) own.2) none e.edit.stay in
+    let sound_so : AreSound p us = pieces_known same_node block ps tells_same (subst (AreKnown p) (sym e.edit.old) own.2) none e.edit.stay in
     let some : AreSomeOf (all_numbers us) (all_numbers (children_of block)) =
     subst (λ (ts : Trees). AreSomeOf (all_numbers us) (all_numbers ts)) e.edit.old (some_numbers ps none e.edit.stay) in
     let kept_so : AreKept (signs_of_lines (length (label block).opening) ls) =
@@ -100,7 +100,7 @@ sent_well k q block ps own h i e =
       free = none;
       sent = styled_so;
       shows = shown_so;
-      known = known_so;
+      sound = sound_so;
       is = record { content = content; nodes = nodes; stays = stays_in k block ps e };
     }
 
@@ -116,7 +116,7 @@ taken_so k q block m ps i e w =
     subst (λ (v : Bool). TextsFit v (sent_pieces ps)) (sym kinds) (pieces_fit (takes_breaks k) ps e.edit.stay e.edit.are (one_line_so k ps e.edit.fit)) in
     let l : Label = record m { kind = kind_of (block_of k); id = (label block).id; attrs = (label block).attrs; mark = marks.Content; mw = (label block).mw } in
     ap (λ (t : Tree). bad_content same_node t new) (node_is k q block m ps i e.edit.old)
-    ∙ no_style_fault same_node block l (sent_pieces ps) w.sent w.known e.nest w.shows fits
+    ∙ no_style_fault same_node block l (sent_pieces ps) w.sent w.sound e.nest w.shows fits
 
 -- ---- what is written, and what it shows
 
