@@ -1,5 +1,5 @@
 -- A page that is one paragraph of text and of nodes, and texts that are typed in it beside the nodes.
-use Rattle.std.specs.Prelude.{◌≡◌, ℕ, false, List, [], ◌∷◌}
+use Rattle.std.specs.Prelude.{◌≡◌, ℕ, false, List, []}
 use Rattle.std.specs.Str.{IsUtf8}
 use Rattle.wt_span.specs.Items.{Item}
 use Rattle.wt_tree.specs.declared.edit_shape.Place.TheVariants as place

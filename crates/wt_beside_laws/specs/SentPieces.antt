@@ -1,5 +1,5 @@
 -- A content that is sent of a block of the page: nodes stay, and texts go and come.
-use Rattle.std.specs.Prelude.{◌≡◌, Bool, Some, List, [], ◌∷◌}
+use Rattle.std.specs.Prelude.{◌≡◌, Bool, Some, []}
 use Rattle.std.specs.Str.{IsUtf8}
 use Rattle.wt_tree.specs.EditShapes.{edit_shape}
 use Rattle.wt_tree.specs.Plain.{Plains, plain_before}

@@ -61,8 +61,8 @@ pub record IsStyledFor (k : TextBlock) (q : List ℕ) (s : Setting) (t : StyledC
 abbrev pub sent_for : Tree → Pieces → StyledContent
 sent_for block ps = sent_content (page_of same_node block) (sent_pieces ps)
 
--- As for a flat block, where bold and italic nodes of the page may stay, too. The styles nest, and no bare URL is directly before a delimiter in the
--- page.
+-- As for a flat block, where bold and italic nodes of the page may stay, too, with any such pieces in them. The styles nest, and no bare URL is
+-- directly before a delimiter in the page.
 pub record IsStyledEditOf (k : TextBlock) (block : Tree) (ps : Pieces) : Type 0 where
   pub edit : IsFlatEditOf k block ps
   pub nest : AllNest (page_of same_node block) false false (sent_pieces ps)

@@ -5,7 +5,7 @@ use Rattle.wt_tree.specs.declared.kind.Kind.{Kind}
 use Rattle.wt_tree.specs.declared.kind.Mark.{Mark}
 use Rattle.wt_tree.specs.Tiling.{is_group}
 use Rattle.wt_tree.specs.Tree.{Label, Tree, tree, Trees, none, more}
-use Rattle.wt_checks.specs.Groups.{is_marked, has_mark, have_mark}
+use Rattle.wt_checks.specs.Groups.{is_marked, have_mark}
 use Rattle.wt_checks.specs.PutBack.{is_frame, has_frame, have_frame}
 use Rattle.wt_checks.proofs.Repeated.{or_false}
 use Rattle.wt_typed_blocks.specs.Sent.{StandsAsIs, AllStandAsIs}

@@ -1,5 +1,5 @@
 -- The same without marks, as a browser sends it: the contents that were edited are found by the difference from the page.
-use Rattle.std.specs.Prelude.{◌≡◌, ◌≢◌, true, false, List, [], ◌∷◌}
+use Rattle.std.specs.Prelude.{◌≡◌, ◌≢◌, true, false}
 use Rattle.wt_tree.specs.declared.kind.Kind.TheVariants as kind
 use Rattle.wt_tree.specs.Kinds.{is_block}
 use Rattle.wt_tree.specs.Tree.{Label, Tree, tree, Trees, none, more, label}

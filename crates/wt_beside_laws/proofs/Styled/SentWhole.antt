@@ -1,4 +1,4 @@
--- What is sent of a block with styles: nodes that stay, with all that they hold, and any texts between them.
+-- What is sent of a block with styles: nodes that stay, and any texts between them, in bold and italic that stay, too.
 use Rattle.std.proofs.Common.{◌≡◌, ℕ, Bool, List, [], ◌∷◌, ◌++◌, refl, sym, ap, ◌∙◌, subst, append_assoc}
 use Rattle.std.specs.Str.{IsUtf8}
 use Rattle.wt_tree.specs.declared.kind.Kind.{Kind}
