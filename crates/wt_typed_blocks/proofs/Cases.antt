@@ -15,7 +15,7 @@ use Rattle.wt_guards.specs.Table.{hazard, line_start_hazard}
 use Rattle.wt_typed_blocks.specs.Sent.{StandsAsIs, paragraph, heading, Sent, stands, typed, holds, Sents, none_sent, more_sent, old_children, IsSent, AreSent, all_show}
 use Rattle.wt_original.specs.Kept.{kept_with}
 use Rattle.wt_link_spelling.specs.Spelling.{inline_spelling}
-use Rattle.wt_typed_blocks.specs.Edited.{no_pieces, gone, written, kept, around, edited, Edits, no_edits, more_edits, page_nodes, AreEdited, edits_show}
+use Rattle.wt_typed_blocks.specs.Edited.{no_pieces, gone, written, kept, around, new_style, edited, Edits, no_edits, more_edits, page_nodes, AreEdited, edits_show}
 use Rattle.wt_typed_blocks.specs.EditedPage.{edited_sources}
 use Rattle.wt_typed_blocks.specs.Typed.{new_sources, TakeTexts, StandAt}
 use Rattle.wt_typed_blocks.specs.Unmarked.{IsToldApart, AreToldApart}
@@ -297,3 +297,25 @@ italic_shows = refl
 italic_new_page : edited_sources (λ t u. true) (in_italic (codes "x")) ≡ codes "a ''x''"
 unfolding inline_spelling kept_with is_guarded is_between_guard is_start_guard is_end_guard is_blank_guard is_parted hazard line_start_hazard nowiki is_escaped reference digits chars lib.Utf8.encode
 italic_new_page = refl
+
+-- ---- the page `a b`, in which `b` is made italic
+
+abbrev made_italic : List ℕ → Edits
+made_italic bs = more_edits
+    (edited paragraph (a_label kind.Para 1 0 3 0 [] []) (sent_label kind.Para 0 [])
+    (gone (tree (a_label kind.Text 0 0 3 0 [] (codes "a b")) none)
+    (written (sent_label kind.Text 0 []) (codes "a ")
+    (new_style (sent_label kind.Italic 0 []) (written (sent_label kind.Text 0 []) bs no_pieces) no_pieces))))
+    no_edits
+
+made_sent : AreEdited (made_italic (codes "b"))
+made_sent = ((omega arith, (inr refl, tt, tt)), tt)
+
+made_shows : edits_show (made_italic (codes "b"))
+    ≡ along (element (record { kind = kind.Para; attrs = []; mw = None })
+    (along (text (codes "a ")) (along (element (record { kind = kind.Italic; attrs = []; mw = None }) (along (text (codes "b")) ended)) ended))) ended
+made_shows = refl
+
+made_new_page : edited_sources (λ t u. true) (made_italic (codes "b")) ≡ codes "a ''b''"
+unfolding inline_spelling kept_with is_guarded is_between_guard is_start_guard is_end_guard is_blank_guard is_parted hazard line_start_hazard nowiki is_escaped reference digits chars lib.Utf8.encode
+made_new_page = refl

@@ -24,9 +24,9 @@ use Rattle.wt_checks.proofs.Lookups.{each_split, each_join}
 use Rattle.wt_checks.proofs.Repeated.{or_false}
 use Rattle.wt_checks.proofs.WhatIsKept.{increasing, unrefused}
 use Rattle.wt_typed_blocks.specs.Sent.{IsSentAsIs, GroupIsSent, StandsAsIs, AllStandAsIs, Block, paragraph, heading, kind_of}
-use Rattle.wt_typed_blocks.specs.Edited.{Pieces, no_pieces, gone, written, kept, around, page_pieces, text_node, sent_pieces, PiecesStay, Edited, stays, edited, round, Edits, no_edits, more_edits, page_node, page_nodes, sent_node, sent_nodes, IsEdited, AreEdited, IsOutside, AreOutside, page_body, sent_body}
+use Rattle.wt_typed_blocks.specs.Edited.{Pieces, no_pieces, gone, written, kept, around, new_style, as_new, page_pieces, text_node, sent_pieces, PiecesStay, Edited, stays, edited, round, Edits, no_edits, more_edits, page_node, page_nodes, sent_node, sent_nodes, IsEdited, AreEdited, IsOutside, AreOutside, page_body, sent_body}
 use Rattle.wt_typed_blocks.proofs.SentFrames.{pieces_markless}
-use Rattle.wt_typed_blocks.proofs.SentGroups.{in_group, style_ungrouped, no_mark, all_new, new_under, new_groups, new_nodes}
+use Rattle.wt_typed_blocks.proofs.SentGroups.{in_group, style_ungrouped, placed_appended, no_mark, all_new, new_under, new_groups, new_nodes}
 
 -- ---- numbers in their order
 
@@ -121,6 +121,13 @@ pieces_under n m v w (around l k is ps) h =
     let d : Bool = v || is_content l.mark in
     both_joined n (placed m w (tree k (sent_pieces is))) (all_placed m w (sent_pieces ps)) (placed m v (tree l (page_pieces is))) (all_placed m v (page_pieces ps))
     (holder_under n m v w l k (page_pieces is) (sent_pieces is) h.1 (pieces_under n (parent_below m l.id) d c is h.2)) (pieces_under n m v w ps h.3)
+pieces_under n m v w (new_style k is ps) h =
+    let new : List Place = placed m w (tree (as_new k) (sent_pieces is)) in
+    let ts : List Place = all_placed m v (page_pieces is) in
+    let us : List Place = all_placed m v (page_pieces ps) in
+    subst (λ (ys : List Place). IsSublist (kept_under n (new ++ all_placed m w (sent_pieces ps))) (kept_under n ys))
+    (sym (placed_appended m v (page_pieces is) (page_pieces ps)))
+    (both_joined n new (all_placed m w (sent_pieces ps)) ts us (pieces_under n m v (w || false) is h.1) (pieces_under n m v w ps h.2))
 
 mutual
   child_under : (n m : ℕ) (v w : Bool) (s : Edited) → IsEdited s → IsSublist (kept_under n (placed m w (sent_node s))) (kept_under n (placed m v (page_node s)))
@@ -377,6 +384,11 @@ pieces_groups page i j v w (around l m is ps) h it =
       pieces_groups page (parent_below i l.id) (parent_below j m.id) (v || is_content l.mark) (w || is_content m.mark) is h.2 s.0.1,
     )
     (pieces_groups page i j v w ps h.3 s.1)
+pieces_groups page i j v w (new_style m is ps) h it =
+    let s = each_split (Itself page) (all_placed i v (page_pieces is)) (all_placed i v (page_pieces ps))
+    (subst (AllByRecursion (Itself page)) (placed_appended i v (page_pieces is) (page_pieces ps)) it) in
+    each_join (GroupKept false page) (placed j w (tree (as_new m) (sent_pieces is))) (all_placed j w (sent_pieces ps))
+    ((λ k. absurd (cc)), pieces_groups page i j v (w || false) is h.1 s.0) (pieces_groups page i j v w ps h.2 s.1)
 
 block_ungrouped : (k : Block) → is_group (kind_of k) ≡ false
 block_ungrouped paragraph = refl

@@ -23,8 +23,8 @@ use Rattle.wt_difference.specs.Unedited.{GroupOr}
 use Rattle.wt_visible.specs.Children.{shown_children, listed}
 use Rattle.wt_visible.specs.Restored.{held_there, group_held, held_by, restored, all_restored, restored_from}
 use Rattle.wt_typed_blocks.specs.Sent.{IsSentAsIs, StandsAsIs, AllStandAsIs, paragraph, heading}
-use Rattle.wt_typed_blocks.specs.Edited.{Pieces, no_pieces, gone, written, kept, around, page_pieces, text_node, sent_pieces, PiecesStay, pieces_before, Edited, stays, edited, round, Edits, no_edits, more_edits, page_node, page_nodes, sent_node, sent_nodes, IsEdited, AreEdited, IsOutside, AreOutside, page_body, sent_body, edited_before, edits_before, edits_show}
-use Rattle.wt_typed_blocks.proofs.SentGroups.{in_both, as_group, no_group, style_ungrouped}
+use Rattle.wt_typed_blocks.specs.Edited.{Pieces, no_pieces, gone, written, kept, around, new_style, as_new, page_pieces, text_node, sent_pieces, PiecesStay, pieces_before, Edited, stays, edited, round, Edits, no_edits, more_edits, page_node, page_nodes, sent_node, sent_nodes, IsEdited, AreEdited, IsOutside, AreOutside, page_body, sent_body, edited_before, edits_before, edits_show}
+use Rattle.wt_typed_blocks.proofs.SentGroups.{in_both, as_group, no_group, style_ungrouped, apart_groups, placed_appended, new_sent}
 use Rattle.wt_typed_blocks.proofs.EditedKept.{found}
 
 same_face : (l m : Label) → IsSentAsIs l m → face m ≡ face l
@@ -64,6 +64,7 @@ FindInPieces page (gone t ps) = FindInPieces page ps
 FindInPieces page (written x text ps) = FindInPieces page ps
 FindInPieces page (kept t u ps) = FindsGroups page t × FindInPieces page ps
 FindInPieces page (around l m is ps) = FindInPieces page is × FindInPieces page ps
+FindInPieces page (new_style m is ps) = FindInPieces page is × FindInPieces page ps
 
 abbrev mutual
   FindsIn : Page → Edited → Type 0
@@ -91,6 +92,8 @@ none_in_pieces page (gone t ps) h = none_in_pieces page ps h.1
 none_in_pieces page (written x text ps) h = none_in_pieces page ps h
 none_in_pieces page (kept t u ps) h = (none_to_find page t h.0, none_in_pieces page ps h.1)
 none_in_pieces page (around l m is ps) h = (none_in_pieces page is h.0.1, none_in_pieces page ps h.1)
+none_in_pieces page (new_style m is ps) h =
+    let r = apart_groups (page_pieces is) (page_pieces ps) h in (none_in_pieces page is r.0, none_in_pieces page ps r.1)
 
 mutual
   none_in : (page : Page) (s : Edited) → HasNoGroup (page_node s) → FindsIn page s
@@ -144,6 +147,10 @@ find_pieces page other i v (around l m is ps) alike h it =
       find_pieces page other (parent_below i l.id) (v || is_content l.mark) is alike h.2 s.0.1,
       find_pieces page other i v ps alike h.3 s.1,
     )
+find_pieces page other i v (new_style m is ps) alike h it =
+    let s = each_split (Itself other) (all_placed i v (page_pieces is)) (all_placed i v (page_pieces ps))
+    (subst (AllByRecursion (Itself other)) (placed_appended i v (page_pieces is) (page_pieces ps)) it) in
+    (find_pieces page other i v is alike h.1 s.0, find_pieces page other i v ps alike h.2 s.1)
 
 mutual
   finds_in : (page other : Page) (i : ℕ) (v : Bool) (s : Edited) → AreAlike page other → IsEdited s → AllByRecursion (Itself other) (placed i v (page_node s))
@@ -209,6 +216,10 @@ pieces_show page (around l m is ps) rest h g =
     ap (λ (qs : Plains). plain_before (restored page (tree m (sent_pieces is))) qs) (pieces_show page ps rest h.3 g.1)
     ∙ holder_shows page l m (sent_pieces is) (λ qs. pieces_before is qs) (pieces_before ps rest) h.1 (style_ungrouped l.kind h.0)
     (λ qs. pieces_show page is qs h.2 g.0)
+pieces_show page (new_style m is ps) rest h g =
+    ap (λ (qs : Plains). plain_before (restored page (tree (as_new m) (sent_pieces is))) qs) (pieces_show page ps rest h.2 g.1)
+    ∙ holder_shows page (as_new m) (as_new m) (sent_pieces is) (λ qs. pieces_before is qs) (pieces_before ps rest) (new_sent m) (style_ungrouped m.kind h.0)
+    (λ qs. pieces_show page is qs h.1 g.0)
 
 mutual
   child_shows : (page : Page) (s : Edited) (rest : Plains) → IsEdited s → IsOutside s → FindsIn page s

@@ -35,7 +35,7 @@ use Rattle.wt_difference.specs.Unedited.{IsUnedited, AreUnedited}
 use Rattle.wt_difference.proofs.Remarks.{bare_stays, marks_alone, none_marked, block_no_group, left_remarked}
 use Rattle.wt_difference.proofs.UneditedLaws.{nothing_differs}
 use Rattle.wt_typed_blocks.specs.Sent.{Block, paragraph, heading, kind_of}
-use Rattle.wt_typed_blocks.specs.Edited.{Pieces, no_pieces, gone, written, kept, around, text_node, sent_pieces, PiecesStay, Edited, stays, edited, round, Edits, no_edits, more_edits, page_node, sent_node, page_nodes, sent_nodes, IsEdited, AreEdited, page_body, sent_body}
+use Rattle.wt_typed_blocks.specs.Edited.{Pieces, no_pieces, gone, written, kept, around, new_style, as_new, text_node, sent_pieces, PiecesStay, Edited, stays, edited, round, Edits, no_edits, more_edits, page_node, sent_node, page_nodes, sent_nodes, IsEdited, AreEdited, page_body, sent_body}
 use Rattle.wt_typed_blocks.specs.EditedUnmarked.{bare_node, bare_nodes, bare_body, AreRoundInBlocks, IsOwnRound, AreInline, IsTold, AreTold}
 use Rattle.wt_typed_blocks.proofs.SentFrames.{no_frame_sent, pieces_frameless, pieces_markless}
 use Rattle.wt_typed_blocks.proofs.SentGroups.{both_ways, no_group, of_style, no_mark}
@@ -223,6 +223,11 @@ pieces_left (around l m is ps) h a =
     ap (λ (b : Bool). not b && (not (has_mark (tree m (sent_pieces is))) && are_left (sent_pieces ps))) inline
     ∙ ap (λ (b : Bool). not b && are_left (sent_pieces ps)) bare_so
     ∙ pieces_left ps h.3 a
+pieces_left (new_style m is ps) h a =
+    ap (λ (b : Bool). not b && (not (has_mark (tree (as_new m) (sent_pieces is))) && are_left (sent_pieces ps)))
+    (of_style (λ k. is_block_part k ≡ false) m.kind h.0 refl refl)
+    ∙ ap (λ (b : Bool). not b && are_left (sent_pieces ps)) (pieces_markless is h.1)
+    ∙ pieces_left ps h.2 a
 
 abbrev one_remarked : Page → ℕ → Tree → Tree
 one_remarked page n u = if is_stable page n u then remarked_in page u else unmarked u

@@ -7,7 +7,7 @@ use Rattle.wt_difference.specs.Difference.{same_inside}
 use Rattle.wt_difference.specs.Insides.{is_block_part, has_inside}
 use Rattle.wt_difference.specs.Unedited.{SameLabel, IsUnedited}
 use Rattle.wt_typed_blocks.specs.Sent.{kind_of}
-use Rattle.wt_typed_blocks.specs.Edited.{Pieces, no_pieces, gone, written, kept, around, sent_pieces, Edited, stays, edited, round, Edits, no_edits, more_edits, page_node}
+use Rattle.wt_typed_blocks.specs.Edited.{Pieces, no_pieces, gone, written, kept, around, new_style, sent_pieces, Edited, stays, edited, round, Edits, no_edits, more_edits, page_node}
 
 -- a block whose content was edited has any mark, or none
 abbrev mutual
@@ -45,6 +45,7 @@ AreInline (gone t ps) = AreInline ps
 AreInline (written x text ps) = AreInline ps
 AreInline (kept t u ps) = (is_block_part (label u).kind ≡ false) × AreInline ps
 AreInline (around l m is ps) = AreInline ps
+AreInline (new_style m is ps) = AreInline ps
 
 -- What stays is the page's own in all that the difference looks at, and each content is another one than that of the page's block.
 abbrev mutual
