@@ -18,12 +18,11 @@ use Rattle.wt_original.specs.Page.{Page}
 use Rattle.wt_link_spelling.specs.Spelling.{kept_thing, as_it_stood, unless_kept, anew_by, signs_by, signs_of_all}
 use Rattle.wt_expand.specs.PageItems.{page_items}
 use Rattle.wt_context.specs.Line.{line_parts}
-use Rattle.wt_typed_blocks.specs.Edited.{Pieces, no_pieces, gone, written, kept, around, text_node, sent_pieces, PiecesStay, pieces_before}
+use Rattle.wt_typed_blocks.specs.Edited.{Pieces, no_pieces, gone, written, kept, around, new_style, text_node, sent_pieces, PiecesStay, pieces_before}
 use Rattle.wt_beside_laws.specs.SentNodes.{IsUnchanged, IsSentBy, AreSent}
 use Rattle.wt_beside_laws.specs.SentPieces.{IsNodeForm, PiecesShow}
 use Rattle.wt_beside_laws.specs.Shown.{parts_shown_at, content_shown}
 use Rattle.wt_beside_laws.proofs.LineShown.{twice}
-use Rattle.wt_beside_laws.proofs.SentPieces.{no_style_sent}
 
 -- ---- texts
 
@@ -109,4 +108,5 @@ pieces_shown p pl (kept (tree l ts) (tree m us) ps) rest h e s =
     let shows : Shows p m f = λ k i. s.1 k (ap (λ (n : ℕ). kept_with n p.kept) (sym h.0.0.id) ∙ i) in
     node_shown (edit_shape m.kind).inline p pl m us (signs_of_all p pl us) signs f rest form e.0 shows
     ∙ ap f (pieces_shown p pl ps rest h.1 e.1 s.2)
-pieces_shown p pl (around l m is ps) rest h e s = no_style_sent p l m (sent_pieces is) h.0 h.1 e.0
+pieces_shown p pl (around l m is ps) rest h e s = absurd s
+pieces_shown p pl (new_style m is ps) rest h e s = absurd s

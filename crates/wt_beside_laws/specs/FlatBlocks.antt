@@ -15,7 +15,7 @@ use Rattle.wt_inline.specs.Parts.{children}
 use Rattle.wt_content.specs.Content.{has_break}
 use Rattle.wt_annotated.specs.Clean.{is_page}
 use Rattle.wt_called_trees.specs.Rounded.{AllHaveItems}
-use Rattle.wt_typed_blocks.specs.Edited.{Pieces, no_pieces, gone, written, kept, around, page_pieces, PiecesStay}
+use Rattle.wt_typed_blocks.specs.Edited.{Pieces, no_pieces, gone, written, kept, around, new_style, page_pieces, PiecesStay}
 use Rattle.wt_text_edit_laws.specs.Contents.{IsContentOf, content_parts_of}
 use Rattle.wt_text_edit_laws.specs.NoCalls.{CallsNothing}
 use Rattle.wt_text_edit_laws.specs.TextBlocks.{TextBlock, a_paragraph, a_heading, source_of, block_items}
@@ -25,6 +25,7 @@ use Rattle.wt_beside_laws.specs.Content.{AreKept}
 use Rattle.wt_beside_laws.specs.FlatPages.{AreNodesAndTexts}
 use Rattle.wt_beside_laws.specs.PageBlocks.{AreUnstyled, AreShut}
 use Rattle.wt_beside_laws.specs.PageSigns.{signs_of_lines, AreFlatLines}
+use Rattle.wt_beside_laws.specs.SentPieces.{HaveNoStyle}
 
 -- ---- its lines
 
@@ -82,6 +83,7 @@ AreOneLine (gone t ps) = AreOneLine ps
 AreOneLine (written x text ps) = (has_break text ≡ false) × AreOneLine ps
 AreOneLine (kept t u ps) = AreOneLine ps
 AreOneLine (around l m is ps) = AreOneLine ps
+AreOneLine (new_style m is ps) = AreOneLine ps
 
 -- so it is in a heading
 abbrev pub TextsFitIn : TextBlock → Pieces → Type 0
@@ -94,3 +96,4 @@ pub record IsFlatEditOf (k : TextBlock) (block : Tree) (ps : Pieces) : Type 0 wh
   pub stay : PiecesStay ps
   pub are : AreNodesAndTexts ps
   pub fit : TextsFitIn k ps
+  pub plain : HaveNoStyle ps

@@ -17,7 +17,7 @@ use Rattle.wt_difference.specs.Difference.{same_inside}
 use Rattle.wt_visible.specs.SameNodes.{same_node}
 use Rattle.wt_moved_laws.specs.Standing.{standing}
 use Rattle.wt_typed_blocks.specs.Sent.{paragraph}
-use Rattle.wt_typed_blocks.specs.Edited.{Pieces, no_pieces, gone, written, kept, around, page_pieces, sent_pieces, PiecesStay, edited, Edits, no_edits, more_edits, sent_body}
+use Rattle.wt_typed_blocks.specs.Edited.{Pieces, no_pieces, gone, written, kept, around, new_style, page_pieces, sent_pieces, PiecesStay, edited, Edits, no_edits, more_edits, sent_body}
 use Rattle.wt_typed_blocks.specs.EditedUnmarked.{bare_node, bare_body, AreInline}
 use Rattle.wt_text_edit_laws.specs.NoCalls.{CallsNothing}
 use Rattle.wt_text_edit_laws.specs.Parts.{part_tree, HasNoGroups}
@@ -63,6 +63,7 @@ AreNodesAndTexts (gone t ps) = AreNodesAndTexts ps
 AreNodesAndTexts (written x text ps) = IsUtf8 text × AreNodesAndTexts ps
 AreNodesAndTexts (kept t u ps) = IsNodeForm (edit_shape (label t).kind).inline × AreNodesAndTexts ps
 AreNodesAndTexts (around l m is ps) = AreNodesAndTexts is × AreNodesAndTexts ps
+AreNodesAndTexts (new_style m is ps) = AreNodesAndTexts is × AreNodesAndTexts ps
 
 -- All nodes of the paragraph stay, each is sent as it is, and any texts are between them.
 pub record IsFlatEdit (q : List ℕ) (ps : Pieces) : Type 0 where

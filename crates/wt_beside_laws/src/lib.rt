@@ -54,7 +54,7 @@ ghost use Rattle.wt_link_spelling.specs.Spelling.{signs_of_all, children_of};
 ghost use Rattle.wt_beside_laws.specs.OwnSigns.{own_signs, IsFlatBlock};
 ghost use Rattle.wt_beside_laws.specs.PageBlocks.{AreUnstyled, AreShut, ShowSources, IsBlockOfLines};
 ghost use Rattle.wt_beside_laws.specs.SentNodes.{AreSent, numbers};
-ghost use Rattle.wt_beside_laws.specs.SentPieces.{OnlyTextsGo, TextsFit, PiecesShow};
+ghost use Rattle.wt_beside_laws.specs.SentPieces.{OnlyTextsGo, HaveNoStyle, TextsFit, PiecesShow};
 ghost use Rattle.wt_beside_laws.specs.Stood.{AreStood, AreAt, things};
 ghost use Rattle.wt_beside_laws.specs.Tiles.{IsPlainLink, IsPastUrl};
 ghost use Rattle.wt_span.specs.declared.limits.TheConstants.{HTML_BYTES, PAGE_BYTES};
@@ -277,7 +277,7 @@ pub fn texts_beside_nodes_stand_between_lines()
 /// sent as they are, with the numbers of the page's in their order. So `nodes_sent_are_those_of_the_page` holds of such a content.
 pub fn nodes_that_stay_are_sent()
     ensures sent { (same : Block → Block → Bool) (block : Block) (ps : Pieces) → TellsSame same → IsFlatBlock block
-        → page_pieces ps ≡ children_of block → PiecesStay ps → AreSent (page_of same block) (sent_pieces ps) }
+        → page_pieces ps ≡ children_of block → PiecesStay ps → HaveNoStyle ps → AreSent (page_of same block) (sent_pieces ps) }
     ensures numbers { (block : Block) (ps : Pieces) → page_pieces ps ≡ children_of block → PiecesStay ps → OnlyTextsGo ps
         → numbers (sent_pieces ps) ≡ numbers (children_of block) }
 {}

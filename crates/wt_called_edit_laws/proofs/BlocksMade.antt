@@ -16,7 +16,7 @@ use Rattle.wt_moved_laws.proofs.Placeless.{shown_placeless}
 use Rattle.wt_moved_laws.proofs.Sources.{standing_source}
 use Rattle.wt_typed_blocks.specs.Sent.{Block, paragraph, heading, kind_of, text_in}
 use Rattle.wt_typed_blocks.specs.Typed.{place_of, block_source, Takes}
-use Rattle.wt_typed_blocks.specs.Edited.{Pieces, no_pieces, gone, written, kept, around, page_pieces, sent_pieces, text_node, pieces_before, Edited, stays, edited, round, Edits, no_edits, more_edits, page_node, page_nodes}
+use Rattle.wt_typed_blocks.specs.Edited.{Pieces, no_pieces, gone, written, kept, around, new_style, page_pieces, sent_pieces, text_node, pieces_before, Edited, stays, edited, round, Edits, no_edits, more_edits, page_node, page_nodes}
 use Rattle.wt_typed_blocks.specs.EditedPage.{IsTaken, AreTaken}
 use Rattle.wt_typed_blocks.specs.EditedUnmarked.{AreInline}
 use Rattle.wt_typed_blocks.proofs.AsEdits.{good, marked_node, typed_is}
@@ -53,6 +53,7 @@ text_label m (gone t ps) = text_label m ps
 text_label m (written x text ps) = x
 text_label m (kept t u ps) = m
 text_label m (around l n is ps) = m
+text_label m (new_style n is ps) = m
 
 abbrev pub text_of : Pieces → List ℕ
 text_of no_pieces = []
@@ -60,6 +61,7 @@ text_of (gone t ps) = text_of ps
 text_of (written x text ps) = text
 text_of (kept t u ps) = []
 text_of (around l m is ps) = []
+text_of (new_style n is ps) = []
 
 none_sent : (ps : Pieces) → AreGone ps → sent_pieces ps ≡ none
 none_sent no_pieces h = refl
@@ -67,6 +69,7 @@ none_sent (gone t ps) h = none_sent ps h
 none_sent (written x text ps) h = absurd h
 none_sent (kept t u ps) h = absurd h
 none_sent (around l m is ps) h = absurd h
+none_sent (new_style n is ps) h = absurd h
 
 alone_is : (x : Label) (text : List ℕ) → text_node x text none ≡ text_in x text
 alone_is x [] = refl
@@ -78,6 +81,7 @@ one_sent j m (gone t ps) h = one_sent j m ps h
 one_sent j m (written x text ps) h = ap (text_node x text) (none_sent ps h.2) ∙ alone_is x text
 one_sent j m (kept t u ps) h = absurd h
 one_sent j m (around l n is ps) h = absurd h
+one_sent j m (new_style n is ps) h = absurd h
 
 none_before : (ps : Pieces) (rest : Plains) → AreGone ps → pieces_before ps rest ≡ rest
 none_before no_pieces rest h = refl
@@ -85,6 +89,7 @@ none_before (gone t ps) rest h = none_before ps rest h
 none_before (written x text ps) rest h = absurd h
 none_before (kept t u ps) rest h = absurd h
 none_before (around l m is ps) rest h = absurd h
+none_before (new_style n is ps) rest h = absurd h
 
 one_before : (j : Block) (ps : Pieces) (rest : Plains) → IsOneText j ps → pieces_before ps rest ≡ text_before (text_of ps) rest
 one_before j no_pieces rest h = absurd h
@@ -92,6 +97,7 @@ one_before j (gone t ps) rest h = one_before j ps rest h
 one_before j (written x text ps) rest h = ap (text_before text) (none_before ps rest h.2)
 one_before j (kept t u ps) rest h = absurd h
 one_before j (around l m is ps) rest h = absurd h
+one_before j (new_style n is ps) rest h = absurd h
 
 gone_inline : (ps : Pieces) → AreGone ps → AreInline ps
 gone_inline no_pieces h = tt
@@ -99,6 +105,7 @@ gone_inline (gone t ps) h = gone_inline ps h
 gone_inline (written x text ps) h = absurd h
 gone_inline (kept t u ps) h = absurd h
 gone_inline (around l m is ps) h = absurd h
+gone_inline (new_style n is ps) h = absurd h
 
 one_inline : (j : Block) (ps : Pieces) → IsOneText j ps → AreInline ps
 one_inline j no_pieces h = absurd h
@@ -106,6 +113,7 @@ one_inline j (gone t ps) h = one_inline j ps h
 one_inline j (written x text ps) h = gone_inline ps h.2
 one_inline j (kept t u ps) h = absurd h
 one_inline j (around l m is ps) h = absurd h
+one_inline j (new_style n is ps) h = absurd h
 
 one_fits : (j : Block) (ps : Pieces) → IsOneText j ps → IsUtf8 (text_of ps) × Takes j (text_of ps)
 one_fits j no_pieces h = absurd h
@@ -113,6 +121,7 @@ one_fits j (gone t ps) h = one_fits j ps h
 one_fits j (written x text ps) h = (h.0, h.1)
 one_fits j (kept t u ps) h = absurd h
 one_fits j (around l m is ps) h = absurd h
+one_fits j (new_style n is ps) h = absurd h
 
 -- ---- the page's block, wherever it is
 

@@ -41,7 +41,7 @@ use Rattle.wt_text_edit_laws.specs.ParagraphParts.{joined_parts}
 use Rattle.wt_beside_laws.specs.SentNodes.{AreSent}
 use Rattle.wt_beside_laws.specs.SentPieces.{TextsFit}
 use Rattle.wt_beside_laws.proofs.NoFaults.{no_fault}
-use Rattle.wt_beside_laws.proofs.SentPieces.{stays_sent}
+use Rattle.wt_beside_laws.proofs.SentPieces.{stays_sent, texts_alone}
 use Rattle.wt_beside_laws.specs.FlatPages.{lines_of, paragraph_of, block_of, IsFlatPage, IsFlatEdit, flat_edits, new_flat}
 use Rattle.wt_beside_laws.proofs.Edits.OldPages.{body_label, one_tree, one_ungrouped, one_unframed, one_flat, flat_page, para_label, label_is, kind_is, block_is, numbered, is_flat, old_untangled}
 use Rattle.wt_beside_laws.proofs.Edits.Pieces.{all_fit}
@@ -60,7 +60,7 @@ old_nodes m q ps e = ap (λ (t : Tree). more t none) (old_node m q ps e)
 -- ---- what is sent
 
 pub are_sent : (q : List ℕ) (ps : Pieces) → IsFlatPage q → IsFlatEdit q ps → AreSent (page_of same_node (block_of q)) (sent_pieces ps)
-are_sent q ps h e = stays_sent same_node (block_of q) ps tells_same (is_flat q h) e.old e.stay
+are_sent q ps h e = stays_sent same_node (block_of q) ps tells_same (is_flat q h) e.old e.stay (texts_alone ps e.go)
 
 pub are_edited : (m : Label) (q : List ℕ) (ps : Pieces) → IsFlatEdit q ps → AreEdited (flat_edits m q ps)
 are_edited m q ps e = ((numbered q, e.stay), tt)

@@ -35,7 +35,7 @@ use Rattle.wt_selser.specs.Edits.{edit_answer}
 use Rattle.wt_commands.specs.declared.refusal.Refusal.TheVariants.{TooLong}
 use Rattle.wt_commands.specs.Answers.{Answer, done, refused, text_answer, title_answer, expanded_by, unspelled_by, unspelled_answer, new_by, new_expanded, new_answer, edit_by, edit_from, edit_to}
 use Rattle.wt_moved_laws.specs.Standing.{standing}
-use Rattle.wt_typed_blocks.specs.Edited.{Pieces, no_pieces, gone, written, kept, around, page_pieces, sent_pieces, pieces_before, sent_body}
+use Rattle.wt_typed_blocks.specs.Edited.{Pieces, no_pieces, gone, written, kept, around, new_style, page_pieces, sent_pieces, pieces_before, sent_body}
 use Rattle.wt_typed_blocks.proofs.EditedShows.{body_shows}
 use Rattle.wt_text_edit_laws.specs.ParagraphBetween.{body_with}
 use Rattle.wt_text_edit_laws.proofs.Blocks.KeptBlocks.{held_source}
@@ -48,7 +48,7 @@ use Rattle.wt_beside_laws.specs.Flat.{IsFlatContent, content_parts}
 use Rattle.wt_text_edit_laws.specs.ParagraphParts.{para_with, joined_parts}
 use Rattle.wt_beside_laws.specs.PageBlocks.{ShowSources}
 use Rattle.wt_beside_laws.specs.PageSigns.{signs_of_lines}
-use Rattle.wt_beside_laws.specs.SentPieces.{PiecesShow}
+use Rattle.wt_beside_laws.specs.SentPieces.{HaveNoStyle, PiecesShow}
 use Rattle.wt_beside_laws.specs.Shown.{parts_shown_at}
 use Rattle.wt_beside_laws.specs.Stood.{things}
 use Rattle.wt_beside_laws.proofs.BlockSigns.{block_nodes, sent_content, block_shows}
@@ -57,7 +57,7 @@ use Rattle.wt_beside_laws.proofs.LineParagraphs.{flat_paragraph, meaning_is}
 use Rattle.wt_beside_laws.proofs.LineShown.{content_is_shown}
 use Rattle.wt_beside_laws.proofs.OwnSigns.{own_content, own_sent}
 use Rattle.wt_beside_laws.proofs.SentNodes.{same_nodes}
-use Rattle.wt_beside_laws.proofs.SentPieces.{same_numbers}
+use Rattle.wt_beside_laws.proofs.SentPieces.{texts_alone, same_numbers}
 use Rattle.wt_beside_laws.proofs.SentShown.{pieces_shown}
 use Rattle.wt_beside_laws.specs.FlatPages.{lines_of, paragraph_of, block_of, IsFlatPage, AreNodesAndTexts, IsFlatEdit, flat_edits, sent_flat, new_signs, new_flat}
 use Rattle.wt_beside_laws.proofs.Edits.OldPages.{IsOneBlock, body_label, one_tree, flat_page, para_label, label_is, of_lines, is_flat}
@@ -169,17 +169,18 @@ face_is l ps is = ap (λ (k : Label). face (record k { kind = kind.Para })) is
 abbrev shown_new : List ℕ → Pieces → Plains
 shown_new q ps = along (element para_face (pieces_before ps ended)) ended
 
-pub show_pieces : (p : Page) (ps : Pieces) → ShowSources p (page_pieces ps) → AreNodesAndTexts ps → PiecesShow p ps
-show_pieces p no_pieces s a = tt
-show_pieces p (gone t ps) s a = show_pieces p ps s.1 a
-show_pieces p (written x text ps) s a = (a.0, show_pieces p ps s a.1)
-show_pieces p (kept t u ps) s a = (a.0, s.0 a.0, show_pieces p ps s.1 a.1)
-show_pieces p (around l m is ps) s a = show_pieces p ps s.1 a.1
+pub show_pieces : (p : Page) (ps : Pieces) → ShowSources p (page_pieces ps) → AreNodesAndTexts ps → HaveNoStyle ps → PiecesShow p ps
+show_pieces p no_pieces s a n = tt
+show_pieces p (gone t ps) s a n = show_pieces p ps s.1 a n
+show_pieces p (written x text ps) s a n = (a.0, show_pieces p ps s a.1 n)
+show_pieces p (kept t u ps) s a n = (a.0, s.0 a.0, show_pieces p ps s.1 a.1 n)
+show_pieces p (around l m is ps) s a n = absurd n
+show_pieces p (new_style m is ps) s a n = absurd n
 
 inside_shows : (q : List ℕ) (ps : Pieces) → IsFlatPage q → IsFlatEdit q ps → parts_shown_at 2 [] (new_parts q ps) ended ≡ pieces_before ps ended
 inside_shows q ps h e =
     let own : ShowSources (known q) (children_of (block_of q)) = block_shows same_node (lines_of q) (block_of q) h.flat h.unstyled (of_lines q h) in
-    let show : PiecesShow (known q) ps = show_pieces (known q) ps (subst (ShowSources (known q)) (sym e.old) own) e.are in
+    let show : PiecesShow (known q) ps = show_pieces (known q) ps (subst (ShowSources (known q)) (sym e.old) own) e.are (texts_alone ps e.go) in
     content_is_shown 2 [] (setting q) (new_signs q ps) ended (new_content q ps h e)
     ∙ pieces_shown (known q) place.Paragraph ps ended e.stay (are_sent q ps h e) show
 

@@ -16,7 +16,7 @@ use Rattle.wt_original.specs.Page.{Page}
 use Rattle.wt_content.specs.Content.{has_break, break_fault}
 use Rattle.wt_content.specs.declared.reason.ContentWhy.TheVariants as why
 use Rattle.wt_link_spelling.specs.Spelling.{kept_thing, as_it_stood, unless_kept, anew_by, signs_by, signs_of_all}
-use Rattle.wt_typed_blocks.specs.Edited.{Pieces, no_pieces, gone, written, kept, around, text_node, sent_pieces, IsStyle, PiecesStay}
+use Rattle.wt_typed_blocks.specs.Edited.{Pieces, no_pieces, gone, written, kept, around, new_style, as_new, text_node, sent_pieces, IsStyle, PiecesStay}
 use Rattle.wt_typed_blocks.proofs.SentGroups.{of_style}
 use Rattle.wt_text_edit_laws.proofs.Headings.TypedTexts.{has_line, chars_line, same_break}
 use Rattle.wt_beside_laws.specs.FlatBlocks.{AreOneLine}
@@ -24,7 +24,7 @@ use Rattle.wt_beside_laws.specs.FlatPages.{AreNodesAndTexts}
 use Rattle.wt_beside_laws.specs.InHeadings.{AreOnOneLine}
 use Rattle.wt_beside_laws.specs.SentNodes.{IsUnchanged, IsSentBy, AreSent}
 use Rattle.wt_beside_laws.specs.SentPieces.{IsNodeForm, FitsBy, TextsFit}
-use Rattle.wt_beside_laws.proofs.SentPieces.{no_style_sent}
+use Rattle.wt_beside_laws.proofs.SentPieces.{no_style, no_style_sent}
 
 -- ---- a text on one line has no line break among its characters
 
@@ -82,6 +82,7 @@ pieces_on_one_line p pl (kept (tree l ts) (tree m us) ps) h e a o =
     both_on_one_line (signs_by (edit_shape m.kind).inline p pl (kept_with m.id p.kept) m us (signs_of_all p pl us)) (signs_of_all p pl (sent_pieces ps))
     (node_by (edit_shape m.kind).inline p pl m us (signs_of_all p pl us) form e.0) (pieces_on_one_line p pl ps h.1 e.1 a.1 o)
 pieces_on_one_line p pl (around l m is ps) h e a o = no_style_sent p l m (sent_pieces is) h.0 h.1 e.0
+pieces_on_one_line p pl (new_style m is ps) h e a o = no_style p (as_new m) (sent_pieces is) h.0 e.0
 
 -- ---- a text fits
 
@@ -116,3 +117,4 @@ pieces_fit v (around l m is ps) h a f = (
   of_style (λ k. FitsBy (edit_shape k).inline v m) m.kind (subst IsStyle (sym h.1.kind) h.0) tt tt,
   pieces_fit v ps h.3 a.1 f,
 )
+pieces_fit v (new_style m is ps) h a f = (of_style (λ k. FitsBy (edit_shape k).inline v (as_new m)) m.kind h.0 tt tt, pieces_fit v ps h.2 a.1 f)

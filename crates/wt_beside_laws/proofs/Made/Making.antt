@@ -19,7 +19,7 @@ use Rattle.wt_visible.specs.SameNodes.{same_node}
 use Rattle.wt_visible.proofs.SameTells.{tells_same}
 use Rattle.wt_moved_laws.specs.Standing.{standing}
 use Rattle.wt_typed_blocks.specs.Sent.{kind_of}
-use Rattle.wt_typed_blocks.specs.Edited.{Pieces, sent_pieces, pieces_before, page_node, sent_node, edited_before}
+use Rattle.wt_typed_blocks.specs.Edited.{Pieces, page_pieces, sent_pieces, pieces_before, page_node, sent_node, edited_before}
 use Rattle.wt_typed_blocks.specs.EditedPage.{edited_source}
 use Rattle.wt_typed_blocks.specs.Typed.{place_of}
 use Rattle.wt_text_edit_laws.specs.Contents.{IsNewContent}
@@ -70,11 +70,11 @@ spelled_by : (k : TextBlock) (old block : Tree) (m : Label) (ps : Pieces)
 unfolding inline_spelling
 spelled_by k old block m ps = refl
 
-pub new_is : (k : TextBlock) (q : List ℕ) (block : Tree) (m : Label) (ps : Pieces) → IsIn k q block → IsFlatEditOf k block ps
+pub new_is : (k : TextBlock) (q : List ℕ) (block : Tree) (m : Label) (ps : Pieces) → IsIn k q block → page_pieces ps ≡ children_of block
     → new_content k block m ps ≡ spelled (setting k block) (signs k block ps)
-new_is k q block m ps i e =
+new_is k q block m ps i old =
     spelled_by k (page_node (content_edit k block m ps)) block m ps
-    ∙ ap (λ (t : Tree). spelled (setting k t) (signs k t ps)) (node_is k q block m ps i e.old)
+    ∙ ap (λ (t : Tree). spelled (setting k t) (signs k t ps)) (node_is k q block m ps i old)
 
 -- ---- its nodes are the page's
 
@@ -82,7 +82,7 @@ block_flat : (k : TextBlock) (q : List ℕ) (block : Tree) → IsFlatIn k q → 
 block_flat k q block h i = flat_block (lines_in k q) block h.flat h.unstyled (of_lines k q block h i)
 
 are_sent : (k : TextBlock) (q : List ℕ) (block : Tree) (ps : Pieces) → IsFlatIn k q → IsIn k q block → IsFlatEditOf k block ps → AreSent (known block) (sent_pieces ps)
-are_sent k q block ps h i e = stays_sent same_node block ps tells_same (block_flat k q block h i) e.old e.stay
+are_sent k q block ps h i e = stays_sent same_node block ps tells_same (block_flat k q block h i) e.old e.stay e.plain
 
 some_things : (k : TextBlock) (q : List ℕ) (block : Tree) (ps : Pieces) → IsFlatIn k q → IsIn k q block → IsFlatEditOf k block ps
     → AreAmong (things (signs k block ps)) (things (signs_in k q))
@@ -94,7 +94,7 @@ some_things k q block ps h i e =
     ∙ ap (λ (n : ℕ). things (signs_of_lines n (lines_in k q))) (block_begins k q block i) in
     subst (AreAmong (things (signs k block ps))) page
     (some_nodes (known block) (place_of (block_of k)) (children_of block) (sent_pieces ps) (own_sent same_node block tells_same flat_one)
-    (are_sent k q block ps h i e) (some_numbers block ps e.old e.stay))
+    (are_sent k q block ps h i e) (some_numbers block ps e.old e.stay e.plain))
 
 calm_each : (ss : List ContentSign) → AreCalm ss → Each (λ t. IsCalm t.source) (things ss)
 calm_each [] h = tt
@@ -174,14 +174,14 @@ inside_shows : (k : TextBlock) (q : List ℕ) (block : Tree) (ps : Pieces) → I
 inside_shows k q block ps h i e =
     let w = is_written k q block ps h i e in
     let own : ShowSources (known block) (children_of block) = block_shows same_node (lines_in k q) block h.flat h.unstyled (of_lines k q block h i) in
-    let show : PiecesShow (known block) ps = show_pieces (known block) ps (subst (ShowSources (known block)) (sym e.old) own) e.are in
+    let show : PiecesShow (known block) ps = show_pieces (known block) ps (subst (ShowSources (known block)) (sym e.old) own) e.are e.plain in
     content_is_shown 1 (open_items k) (setting k block) (signs k block ps) ended w.flat
     ∙ pieces_shown (known block) (place_of (block_of k)) ps ended e.stay (are_sent k q block ps h i e) show
 
 new_tree : (k : TextBlock) (q : List ℕ) (block : Tree) (m : Label) (ps : Pieces) → IsFlatIn k q → IsIn k q block → IsFlatEditOf k block ps
     → block_tree k (new_content k block m ps) ≡ with_parts k (content_parts (setting k block) [] (signs k block ps))
 new_tree k q block m ps h i e =
-    ap (block_tree k) (new_is k q block m ps i e)
+    ap (block_tree k) (new_is k q block m ps i e.old)
     ∙ parts_are k (spelled (setting k block) (signs k block ps))
     ∙ ap (with_parts k) (parts_written k (setting k block) (signs k block ps) (is_written k q block ps h i e))
 
@@ -202,7 +202,7 @@ makes_content k q block m ps h i e =
     let w = is_written k q block ps h i e in
     record {
       taken = is_taken k q block m ps h i e;
-      new = subst (IsNewContent k q) (sym (new_is k q block m ps i e))
+      new = subst (IsNewContent k q) (sym (new_is k q block m ps i e.old))
           (new_written k q (setting k block) (signs k block ps) h w (some_things k q block ps h i e));
       source = source_is k q block m ps i;
       shows = λ rest. it_shows k q block m ps rest h i e;
@@ -212,7 +212,7 @@ makes_content k q block m ps h i e =
 pub flat_then : (k : TextBlock) (q : List ℕ) (block : Tree) (m : Label) (ps : Pieces) → IsFlatIn k q → IsIn k q block → IsFlatEditOf k block ps
     → IsFlatIn k (new_content k block m ps)
 flat_then k q block m ps h i e =
-    subst (IsFlatIn k) (sym (new_is k q block m ps i e))
+    subst (IsFlatIn k) (sym (new_is k q block m ps i e.old))
     (flat_again k q (setting k block) (signs k block ps) h (is_written k q block ps h i e) (some_things k q block ps h i e))
 
 -- ---- in other words

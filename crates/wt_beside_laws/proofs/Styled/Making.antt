@@ -70,7 +70,7 @@ none_in (tree l ts) h = h.1
 
 stays_in : (k : TextBlock) (block : Tree) (ps : Pieces) → IsStyledEditOf k block ps → StaysIn k (setting k block) (sent_for block ps)
 stays_in a_paragraph block ps e = tt
-stays_in (a_heading w) block ps e = (refl, sent_on_one_line (known block) ps e.edit.stay e.edit.are e.edit.fit e.nest)
+stays_in (a_heading w) block ps e = (refl, sent_on_one_line (known block) ps e.stay e.are e.fit e.nest)
 
 sent_well : (k : TextBlock) (q : List ℕ) (block : Tree) (ps : Pieces) → IsOwn block → IsStyledIn k q → IsIn k q block → IsStyledEditOf k block ps
     → IsSentWell k q block ps
@@ -80,12 +80,12 @@ sent_well k q block ps own h i e =
     let t : StyledContent = sent_for block ps in
     let ls : List (List Item) = lines_in k q in
     let b : IsBlockOfLines ls block = styled_of_lines k q block h i in
-    let none : NoneIsGroup (page_pieces ps) = subst NoneIsGroup (sym e.edit.old) (none_in block b.ungrouped) in
-    let styled_so : AreStyledSent p us = pieces_styled same_node block ps tells_same (subst (AreStyledSent p) (sym e.edit.old) own.0) none e.edit.stay in
-    let shown_so : AllShow p us = pieces_show p ps none e.edit.stay e.edit.are (subst (AllShow p) (sym e.edit.old) own.1) in
-    let sound_so : AreSound p us = pieces_known same_node block ps tells_same (subst (AreKnown p) (sym e.edit.old) own.2) none e.edit.stay in
+    let none : NoneIsGroup (page_pieces ps) = subst NoneIsGroup (sym e.old) (none_in block b.ungrouped) in
+    let styled_so : AreStyledSent p us = pieces_styled same_node block ps tells_same (subst (AreStyledSent p) (sym e.old) own.0) none e.stay in
+    let shown_so : AllShow p us = pieces_show p ps none e.stay e.are (subst (AllShow p) (sym e.old) own.1) in
+    let sound_so : AreSound p us = pieces_known same_node block ps tells_same (subst (AreKnown p) (sym e.old) own.2) none e.stay in
     let some : AreSomeOf (all_numbers us) (all_numbers (children_of block)) =
-    subst (λ (ts : Trees). AreSomeOf (all_numbers us) (all_numbers ts)) e.edit.old (some_numbers ps none e.edit.stay) in
+    subst (λ (ts : Trees). AreSomeOf (all_numbers us) (all_numbers ts)) e.old (some_numbers ps none e.stay) in
     let kept_so : AreKept (signs_of_lines (length (label block).opening) ls) =
     subst (λ (n : ℕ). AreKept (signs_of_lines n ls)) (sym (block_begins k q block i)) h.kept in
     let content : IsStyledContent (setting k block) t =
@@ -113,9 +113,9 @@ taken_so k q block m ps i e w =
     let kinds : is_paragraph (edit_shape (label block).kind).form ≡ takes_breaks k =
     ap (λ (j : Kind). is_paragraph (edit_shape j).form) (block_kind k q block i) ∙ breaks_so k in
     let fits : TextsFit (is_paragraph (edit_shape (label block).kind).form) (sent_pieces ps) =
-    subst (λ (v : Bool). TextsFit v (sent_pieces ps)) (sym kinds) (pieces_fit (takes_breaks k) ps e.edit.stay e.edit.are (one_line_so k ps e.edit.fit)) in
+    subst (λ (v : Bool). TextsFit v (sent_pieces ps)) (sym kinds) (pieces_fit (takes_breaks k) ps e.stay e.are (one_line_so k ps e.fit)) in
     let l : Label = record m { kind = kind_of (block_of k); id = (label block).id; attrs = (label block).attrs; mark = marks.Content; mw = (label block).mw } in
-    ap (λ (t : Tree). bad_content same_node t new) (node_is k q block m ps i e.edit.old)
+    ap (λ (t : Tree). bad_content same_node t new) (node_is k q block m ps i e.old)
     ∙ no_style_fault same_node block l (sent_pieces ps) w.sent w.sound e.nest w.shows fits
 
 -- ---- what is written, and what it shows
@@ -123,14 +123,14 @@ taken_so k q block m ps i e w =
 content_is : (k : TextBlock) (q : List ℕ) (block : Tree) (m : Label) (ps : Pieces) → IsIn k q block → IsStyledEditOf k block ps → IsSentWell k q block ps
     → new_content k block m ps ≡ spelled (setting k block) (signs_in (sent_for block ps))
 content_is k q block m ps i e w =
-    new_is k q block m ps i e.edit ∙ ap (spelled (setting k block)) (sent_signs (known block) (place_of (block_of k)) (sent_pieces ps) w.sent)
+    new_is k q block m ps i e.old ∙ ap (spelled (setting k block)) (sent_signs (known block) (place_of (block_of k)) (sent_pieces ps) w.sent)
 
 inside_so : (k : TextBlock) (q : List ℕ) (block : Tree) (ps : Pieces) → IsStyledEditOf k block ps → IsSentWell k q block ps
     → parts_shown_at 1 (open_items k) (styled_parts false (setting k block) [] (sent_for block ps) []) ended ≡ pieces_before ps ended
 inside_so k q block ps e w =
     styled_is_shown 1 (open_items k) (setting k block) (sent_for block ps) ended w.is.content
     ∙ sent_shown (known block) (sent_pieces ps) ended w.sent w.shows
-    ∙ pieces_plain ps ended w.free e.edit.stay
+    ∙ pieces_plain ps ended w.free e.stay
 
 tree_so : (k : TextBlock) (q : List ℕ) (block : Tree) (m : Label) (ps : Pieces) → IsIn k q block → IsStyledEditOf k block ps → IsSentWell k q block ps
     → block_tree k (new_content k block m ps) ≡ with_parts k (styled_parts false (setting k block) [] (sent_for block ps) [])
@@ -159,7 +159,7 @@ makes_by k q block m ps own h i e =
       new = subst (IsNewContent k q) (sym (content_is k q block m ps i e w)) (styled_new k q (setting k block) (sent_for block ps) h w.is);
       source = source_is k q block m ps i;
       shows = λ rest. shows_so k q block m ps rest i e w;
-      inline = stays_inline k q block ps h.utf8 h.is h.unended h.calls_nothing i e.edit.old e.edit.stay;
+      inline = stays_inline k q block ps h.utf8 h.is h.unended h.calls_nothing i e.old e.stay;
     }
 
 then_by : (k : TextBlock) (q : List ℕ) (block : Tree) (m : Label) (ps : Pieces) → IsOwn block → IsStyledIn k q → IsIn k q block → IsStyledEditOf k block ps

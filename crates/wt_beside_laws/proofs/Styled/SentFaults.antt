@@ -27,8 +27,8 @@ use Rattle.wt_content.specs.declared.content.Standing.TheVariants as stands
 use Rattle.wt_content.specs.Content.{changed_from, standing_of, if_replaced, standing, faults_by, holds_link, below, faults, all_faults, has_break, is_paragraph, first_why, bad_content}
 use Rattle.wt_link_spelling.specs.Spelling.{opening_place, closing_place}
 use Rattle.wt_typed_blocks.specs.Sent.{IsSentAsIs, StandsAsIs, AllStandAsIs}
-use Rattle.wt_typed_blocks.specs.Edited.{Pieces, no_pieces, gone, written, kept, around, page_pieces, text_node, sent_pieces, IsStyle, PiecesStay}
-use Rattle.wt_typed_blocks.proofs.SentGroups.{in_group, of_style}
+use Rattle.wt_typed_blocks.specs.Edited.{Pieces, no_pieces, gone, written, kept, around, new_style, as_new, page_pieces, text_node, sent_pieces, IsStyle, PiecesStay}
+use Rattle.wt_typed_blocks.proofs.SentGroups.{in_group, of_style, apart, apart_groups}
 use Rattle.wt_text_edit_laws.proofs.Headings.TypedTexts.{has_line, chars_line, same_break}
 use Rattle.wt_beside_laws.specs.FlatBlocks.{AreOneLine}
 use Rattle.wt_beside_laws.specs.FlatPages.{AreNodesAndTexts}
@@ -116,6 +116,11 @@ style_sound {A} {B} p l m ts us h s f e =
     (λ d. (its_own p l m ts us h s d.0, f d.1)) (λ d. (its_own p l m ts us h s d.0, f d.1)) e in
     subst (λ (k : Kind). SoundBy (edit_shape k).inline p m us B) (sym s.kind) same
 
+-- where it is new
+new_sound : (p : Page) (m : Label) (us : Trees) → if_replaced (standing p (tree (as_new m) us)) ≡ []
+unfolding kept_with
+new_sound p m us = refl
+
 text_known : (p : Page) (x : Label) (text : List ℕ) (us : Trees) → AreSound p us → AreSound p (text_node x text us)
 text_known p x [] us h = h
 text_known p x (c ∷ cs) us h = (tt, h)
@@ -132,6 +137,15 @@ pieces_known same block (around l m is ps) tells e g h = (
   style_sound (page_of same block) l m (page_pieces is) (sent_pieces is) h.0 h.1 (λ a. pieces_known same block is tells a g.0.1 h.2) e.0,
   pieces_known same block ps tells e.1 g.1 h.3,
 )
+pieces_known same block (new_style m is ps) tells e g h =
+    let p : Page = page_of same block in
+    let r = apart_groups (page_pieces is) (page_pieces ps) g in
+    let d = apart (λ t. IsKnown p t) (λ us. AreKnown p us) tt (λ t us x. x) (λ t us x. x) (page_pieces is) (page_pieces ps) e in
+    let own : (if_replaced (standing p (tree (as_new m) (sent_pieces is))) ≡ []) × AreSound p (sent_pieces is) =
+    (new_sound p m (sent_pieces is), pieces_known same block is tells d.0 r.0 h.1) in (
+      of_style (λ k. SoundBy (edit_shape k).inline p (as_new m) (sent_pieces is) (AreSound p (sent_pieces is))) m.kind h.0 own own,
+      pieces_known same block ps tells d.1 r.1 h.2,
+    )
 
 -- ---- a text on one line
 
@@ -409,6 +423,10 @@ lines_of_pieces p (around l m is ps) h a o n =
     of_style (λ k. LineBy (edit_shape k).inline m) m.kind (subst IsStyle (sym h.1.kind) h.0) tt tt in
     one_line (edit_shape m.kind).inline p m false false (sent_content p (sent_pieces is)) (sent_content p (sent_pieces ps)) (λ b i. AllNest p b i (sent_pieces is))
     line n.0 (λ b i f w. held_lines p (sent_pieces is) b i f w) (lines_of_pieces p ps h.3 a.1 o n.1)
+lines_of_pieces p (new_style m is ps) h a o n =
+    let line : LineBy (edit_shape m.kind).inline (as_new m) = of_style (λ k. LineBy (edit_shape k).inline (as_new m)) m.kind h.0 tt tt in
+    one_line (edit_shape m.kind).inline p (as_new m) false false (sent_content p (sent_pieces is)) (sent_content p (sent_pieces ps))
+    (λ b i. AllNest p b i (sent_pieces is)) line n.0 (λ b i f w. held_lines p (sent_pieces is) b i f w) (lines_of_pieces p ps h.2 a.1 o n.1)
 
 pub sent_on_one_line : (p : Page) (ps : Pieces) → PiecesStay ps → AreNodesAndTexts ps → AreOneLine ps → AllNest p false false (sent_pieces ps)
     → AreOnOneLine (signs_in (sent_content p (sent_pieces ps)))

@@ -1,4 +1,4 @@
--- What is sent of a block with styles: nodes that stay, and any texts between them, in bold and italic that stay, too.
+-- What is sent of a block with styles: nodes that stay, and any texts between them, in bold and italic that stay or are new, too.
 use Rattle.std.proofs.Common.{◌≡◌, ℕ, Bool, List, [], ◌∷◌, ◌++◌, refl, sym, ap, ◌∙◌, subst, append_assoc}
 use Rattle.std.specs.Str.{IsUtf8}
 use Rattle.wt_tree.specs.declared.kind.Kind.{Kind}
@@ -12,12 +12,13 @@ use Rattle.wt_tree.specs.Tiling.{is_group}
 use Rattle.wt_tree.specs.Plain.{Plains, plain_before, plains_before, shown_before}
 use Rattle.wt_tree.specs.Tiling.{HasNoGroup, NoneIsGroup}
 use Rattle.wt_tree.specs.Tree.{Label, Tree, tree, Trees, none, more}
+use Rattle.wt_recut.specs.Recutting.{appended}
 use Rattle.wt_original.specs.Kept.{kept_with}
 use Rattle.wt_original.specs.Page.{Page, page_of, TellsSame}
 use Rattle.wt_typed_blocks.specs.Sent.{IsSentAsIs, StandsAsIs, AllStandAsIs}
-use Rattle.wt_typed_blocks.specs.Edited.{Pieces, no_pieces, gone, written, kept, around, page_pieces, text_node, sent_pieces, IsStyle, PiecesStay, pieces_before}
+use Rattle.wt_typed_blocks.specs.Edited.{Pieces, no_pieces, gone, written, kept, around, new_style, as_new, page_pieces, text_node, sent_pieces, IsStyle, PiecesStay, pieces_before}
 use Rattle.wt_typed_blocks.proofs.EditedShows.{shown_same}
-use Rattle.wt_typed_blocks.proofs.SentGroups.{in_group, of_style}
+use Rattle.wt_typed_blocks.proofs.SentGroups.{in_group, of_style, apart, apart_groups, new_sent}
 use Rattle.wt_beside_laws.specs.FlatPages.{AreNodesAndTexts}
 use Rattle.wt_beside_laws.specs.SentPieces.{ShowsItsSource}
 use Rattle.wt_beside_laws.specs.SentStyled.{IsStyledBy, IsStyledSent, AreStyledSent, ShowsBy, Shows, AllShow}
@@ -62,6 +63,10 @@ pieces_plain (kept t u ps) rest g h =
 pieces_plain (around l m is ps) rest g h =
     ap (λ (qs : Plains). plain_before (tree m (sent_pieces is)) qs) (pieces_plain ps rest g.1 h.3)
     ∙ node_shows l m (sent_pieces is) (λ qs. pieces_before is qs) (pieces_before ps rest) h.1 (λ qs. pieces_plain is qs g.0.1 h.2)
+pieces_plain (new_style m is ps) rest g h =
+    let r = apart_groups (page_pieces is) (page_pieces ps) g in
+    ap (λ (qs : Plains). plain_before (tree (as_new m) (sent_pieces is)) qs) (pieces_plain ps rest r.1 h.2)
+    ∙ node_shows (as_new m) (as_new m) (sent_pieces is) (λ qs. pieces_before is qs) (pieces_before ps rest) (new_sent m) (λ qs. pieces_plain is qs r.0 h.1)
 
 -- ---- its nodes are the page's
 
@@ -118,6 +123,14 @@ pieces_styled same block (around l m is ps) tells e g h = (
       (λ a. pieces_styled same block is tells a g.0.1 h.2) e.0,
   pieces_styled same block ps tells e.1 g.1 h.3,
 )
+pieces_styled same block (new_style m is ps) tells e g h =
+    let p : Page = page_of same block in
+    let r = apart_groups (page_pieces is) (page_pieces ps) g in
+    let d = apart (λ t. IsStyledSent p t) (λ us. AreStyledSent p us) tt (λ t us x. x) (λ t us x. x) (page_pieces is) (page_pieces ps) e in
+    let own : AreStyledSent p (sent_pieces is) = pieces_styled same block is tells d.0 r.0 h.1 in (
+      of_style (λ k. IsStyledBy (edit_shape k).inline p (as_new m) (sent_pieces is) (AreStyledSent p (sent_pieces is))) m.kind h.0 own own,
+      pieces_styled same block ps tells d.1 r.1 h.2,
+    )
 
 -- ---- what they show
 
@@ -174,6 +187,14 @@ pieces_show p (written x text ps) g h a s = text_shows p x text (sent_pieces ps)
 pieces_show p (kept t u ps) g h a s = (tree_shows p t u h.0 g.0 s.0, pieces_show p ps g.1 h.1 a.1 s.1)
 pieces_show p (around l m is ps) g h a s =
     (style_shows p l m (page_pieces is) (sent_pieces is) h.0 h.1 (λ e. pieces_show p is g.0.1 h.2 a.0 e) s.0, pieces_show p ps g.1 h.3 a.1 s.1)
+pieces_show p (new_style m is ps) g h a s =
+    let r = apart_groups (page_pieces is) (page_pieces ps) g in
+    let d = apart (λ t. Shows p t) (λ us. AllShow p us) tt (λ t us x. x) (λ t us x. x) (page_pieces is) (page_pieces ps) s in
+    let own : AllShow p (sent_pieces is) = pieces_show p is r.0 h.1 a.0 d.0 in (
+      of_style (λ k. ShowsBy (edit_shape k).inline p (record (as_new m) { kind = k }) (sent_pieces is) (AllShow p (sent_pieces is))) m.kind h.0
+          (refl, refl, own) (refl, refl, own),
+      pieces_show p ps r.1 h.2 a.1 d.1,
+    )
 
 -- ---- their numbers
 
@@ -213,6 +234,11 @@ some_both {A} (x ∷ xs) ys us vs h k = (
 style_numbers : (k : Kind) (n : ℕ) (ns : List ℕ) → IsStyle k → numbers_by (edit_shape k).inline n ns ≡ ns
 style_numbers k n ns h = of_style (λ j. numbers_by (edit_shape j).inline n ns ≡ ns) k h refl refl
 
+numbers_appended : (ts us : Trees) → all_numbers (appended ts us) ≡ all_numbers ts ++ all_numbers us
+numbers_appended none us = refl
+numbers_appended (more t ts) us =
+    ap (λ (ns : List ℕ). numbers_of t ++ ns) (numbers_appended ts us) ∙ sym (append_assoc (numbers_of t) (all_numbers ts) (all_numbers us))
+
 text_numbers : (x : Label) (text : List ℕ) (us : Trees) → all_numbers (text_node x text us) ≡ all_numbers us
 text_numbers x [] us = refl
 text_numbers x (c ∷ cs) us = refl
@@ -232,3 +258,10 @@ some_numbers (around l m is ps) g h =
     subst (λ (js : List ℕ). AreSomeOf (js ++ all_numbers (sent_pieces ps)) (numbers_by (edit_shape l.kind).inline l.id ms ++ all_numbers (page_pieces ps))) (sym new)
     (subst (λ (js : List ℕ). AreSomeOf (ns ++ all_numbers (sent_pieces ps)) (js ++ all_numbers (page_pieces ps))) (sym (style_numbers l.kind l.id ms h.0))
     (some_both ns (all_numbers (sent_pieces ps)) ms (all_numbers (page_pieces ps)) (some_numbers is g.0.1 h.2) (some_numbers ps g.1 h.3)))
+some_numbers (new_style m is ps) g h =
+    let r = apart_groups (page_pieces is) (page_pieces ps) g in
+    let ns : List ℕ = all_numbers (sent_pieces is) in
+    let later : List ℕ = all_numbers (sent_pieces ps) in
+    subst (AreSomeOf (numbers_by (edit_shape m.kind).inline 0 ns ++ later)) (sym (numbers_appended (page_pieces is) (page_pieces ps)))
+    (subst (λ (js : List ℕ). AreSomeOf (js ++ later) (all_numbers (page_pieces is) ++ all_numbers (page_pieces ps))) (sym (style_numbers m.kind 0 ns h.0))
+    (some_both ns later (all_numbers (page_pieces is)) (all_numbers (page_pieces ps)) (some_numbers is r.0 h.1) (some_numbers ps r.1 h.2)))
