@@ -165,7 +165,7 @@ pub fn contents_with_styles_may_take_their_place()
 {}
 
 /// Such a paragraph or heading (`IsStyledIn`), wherever it is in a page, takes any texts beside its nodes, bold and italic ones among them, and in
-/// these that stay (`IsStyledEditOf`). What is sent for it is taken, what is written for it may stand in the place of the old content
+/// these, which stay or are new (`IsStyledEditOf`). What is sent for it is taken, what is written for it may stand in the place of the old content
 /// and shows what was sent (`MakesContent`), and it is such a block again.
 pub fn styled_contents_are_made()
     ensures made { (k : TextBlock) (q : List ℕ) (n : ℕ) (before : List Item) (block : Tree) (m : Label) (ps : Pieces) → IsStyledIn k q → 0 < n
