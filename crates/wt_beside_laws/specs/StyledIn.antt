@@ -70,5 +70,5 @@ pub record IsStyledEditOf (k : TextBlock) (block : Tree) (ps : Pieces) : Type 0 
   pub stay : PiecesStay ps
   pub are : AreNodesAndTexts ps
   pub fit : TextsFitIn k ps
-  pub nest : AllNest (page_of same_node block) false false (sent_pieces ps)
+  pub nest : AllNest false false (sent_pieces ps)
   pub apart : AreUrlsApart (things (signs_in (sent_for block ps)))

@@ -36,7 +36,7 @@ ghost use Rattle.wt_beside_laws.specs.Nests.{Nest, nest_segments, nest_parts, Is
 ghost use Rattle.wt_beside_laws.specs.Nodes.{AreNodes, AllMeet};
 ghost use Rattle.wt_beside_laws.specs.PageBlocks.{AreShut, IsBlockOfLines};
 ghost use Rattle.wt_beside_laws.specs.PageSigns.{signs_of_lines, AreFlatLines};
-ghost use Rattle.wt_beside_laws.specs.SentStyled.{sent_content, AreStyledSent, AllNest, AllShow};
+ghost use Rattle.wt_beside_laws.specs.SentStyled.{sent_content, AreStyledSent, HasNoDelimiter, AllNest, AllShow};
 ghost use Rattle.wt_beside_laws.specs.Shown.{parts_shown_at};
 ghost use Rattle.wt_beside_laws.specs.Styled.{StyledContent, signs_in, AreNested, IsStyledContent, styled_parts};
 ghost use Rattle.wt_beside_laws.specs.StyledBlocks.{all_numbers, things_with, AreSomeOf};
@@ -123,7 +123,7 @@ pub fn nodes_of_the_page_stay_in_styles()
 /// styles nest where those that are sent do, and no text in one has a line break; and it shows what was sent, where each node shows its source.
 pub fn contents_sent_with_styles_are_such()
     ensures signs { (p : Known) (pl : Where) (us : Trees) → AreStyledSent p us → signs_of_all p pl us ≡ signs_in (sent_content p us) }
-    ensures nested { (p : Known) (us : Trees) → AllNest p false false us → AreNested false false (sent_content p us) }
+    ensures nested { (p : Known) (us : Trees) → HasNoDelimiter p → AllNest false false us → AreNested false false (sent_content p us) }
     ensures shown { (p : Known) (us : Trees) (rest : Plains) → AreStyledSent p us → AllShow p us → styled_shown (sent_content p us) rest ≡ plains_before us rest }
 {}
 
@@ -149,7 +149,7 @@ pub fn blocks_with_styles_have_their_nodes()
 /// of the block stands, and that no bare URL is directly before a delimiter in the page.
 pub fn texts_sent_in_styles_are_such()
     ensures { (same : Tree → Tree → Bool) (s : Setting) (ls : List (List Item)) (block : Tree) (us : Trees) → s.within ≡ false → AreFlatLines ls
-        → IsBlockOfLines ls block → AreKept (signs_of_lines (length (label block).opening) ls) → AllNest (page_of same block) false false us
+        → IsBlockOfLines ls block → AreKept (signs_of_lines (length (label block).opening) ls) → AllNest false false us
         → AreSomeOf (all_numbers us) (all_numbers (children_of block)) → AreCharacters (signs_in (sent_content (page_of same block) us))
         → AreUrlsApart (things (signs_in (sent_content (page_of same block) us))) → IsStyledContent s (sent_content (page_of same block) us) }
 {}

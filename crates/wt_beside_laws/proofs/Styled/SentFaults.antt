@@ -191,7 +191,7 @@ or_true true = refl
 or_true false = refl
 
 one_fine : (w : InlineForm) (v : Bool) (p : Page) (l : Label) (ts : Trees) (holds bold italic : Bool) (A K S : Type 0) (N : Bool → Bool → Type 0)
-    → FitsBy w v l → IsStyledBy w p l ts A → SoundBy w p l ts K → NestsBy w p bold italic l N → ShowsBy w p l ts S
+    → FitsBy w v l → IsStyledBy w p l ts A → SoundBy w p l ts K → NestsBy w bold italic l N → ShowsBy w p l ts S
     → ((b i : Bool) → (b || i) ≡ true → A → K → N b i → S → all_faults p (within false) ts ≡ [])
     → faults_by w (within v) (standing p (tree l ts)) l holds (all_faults p (below (within v) w) ts) ≡ []
 one_fine inline.Nothing v p l ts holds bold italic A K S N t h k n s f = refl
@@ -215,7 +215,7 @@ one_fine inline.AsItStood v p l ts holds bold italic A K S N t h k n s f =
 
 -- in a style no text has a line break
 style_fits : (w : InlineForm) (p : Page) (l : Label) (ts : Trees) (bold italic : Bool) (S : Type 0) (N : Bool → Bool → Type 0) → (bold || italic) ≡ true
-    → NestsBy w p bold italic l N → ShowsBy w p l ts S → FitsBy w false l
+    → NestsBy w bold italic l N → ShowsBy w p l ts S → FitsBy w false l
 style_fits inline.Nothing p l ts bold italic S N e n s = tt
 style_fits inline.Characters p l ts bold italic S N e n s =
     ap (λ (b : Bool). if b then why.LineBreak ∷ [] else []) (text_unbroken l.shown s.1 (n e))
@@ -229,30 +229,30 @@ style_fits inline.Break p l ts bold italic S N e n s = tt
 style_fits inline.AsItStood p l ts bold italic S N e n s = tt
 
 mutual
-  held_fine : (p : Page) (t : Tree) (bold italic : Bool) → (bold || italic) ≡ true → IsStyledSent p t → IsSound p t → Nests p bold italic t → Shows p t
+  held_fine : (p : Page) (t : Tree) (bold italic : Bool) → (bold || italic) ≡ true → IsStyledSent p t → IsSound p t → Nests bold italic t → Shows p t
       → faults p (within false) t ≡ []
   held_fine p (tree l ts) bold italic e h k n s =
-      one_fine (edit_shape l.kind).inline false p l ts (holds_link (tree l ts)) bold italic (AreStyledSent p ts) (AreSound p ts) (AllShow p ts) (λ b i. AllNest p b i ts)
-      (style_fits (edit_shape l.kind).inline p l ts bold italic (AllShow p ts) (λ b i. AllNest p b i ts) e n s) h k n s
+      one_fine (edit_shape l.kind).inline false p l ts (holds_link (tree l ts)) bold italic (AreStyledSent p ts) (AreSound p ts) (AllShow p ts) (λ b i. AllNest b i ts)
+      (style_fits (edit_shape l.kind).inline p l ts bold italic (AllShow p ts) (λ b i. AllNest b i ts) e n s) h k n s
       (λ b i f a c m d. all_held p ts b i f a c m d)
 
-  all_held : (p : Page) (us : Trees) (bold italic : Bool) → (bold || italic) ≡ true → AreStyledSent p us → AreSound p us → AllNest p bold italic us → AllShow p us
+  all_held : (p : Page) (us : Trees) (bold italic : Bool) → (bold || italic) ≡ true → AreStyledSent p us → AreSound p us → AllNest bold italic us → AllShow p us
       → all_faults p (within false) us ≡ []
   all_held p none bold italic e h k n s = refl
   all_held p (more t us) bold italic e h k n s =
       ap (λ ws. ws ++ all_faults p (within false) us) (held_fine p t bold italic e h.0 k.0 n.0 s.0) ∙ all_held p us bold italic e h.1 k.1 n.1 s.1
 
-all_fine : (v : Bool) (p : Page) (us : Trees) → AreStyledSent p us → AreSound p us → AllNest p false false us → AllShow p us → TextsFit v us
+all_fine : (v : Bool) (p : Page) (us : Trees) → AreStyledSent p us → AreSound p us → AllNest false false us → AllShow p us → TextsFit v us
     → all_faults p (within v) us ≡ []
 all_fine v p none h k n s f = refl
 all_fine v p (more (tree l ts) us) h k n s f =
     ap (λ ws. ws ++ all_faults p (within v) us)
-    (one_fine (edit_shape l.kind).inline v p l ts (holds_link (tree l ts)) false false (AreStyledSent p ts) (AreSound p ts) (AllShow p ts) (λ b i. AllNest p b i ts)
+    (one_fine (edit_shape l.kind).inline v p l ts (holds_link (tree l ts)) false false (AreStyledSent p ts) (AreSound p ts) (AllShow p ts) (λ b i. AllNest b i ts)
     f.0 h.0 k.0 n.0 s.0 (λ b i e a c m d. all_held p ts b i e a c m d))
     ∙ all_fine v p us h.1 k.1 n.1 s.1 f.1
 
 pub no_style_fault : (same : Tree → Tree → Bool) (block : Tree) (m : Label) (us : Trees) → AreStyledSent (page_of same block) us → AreSound (page_of same block) us
-    → AllNest (page_of same block) false false us → AllShow (page_of same block) us → TextsFit (is_paragraph (edit_shape (label block).kind).form) us
+    → AllNest false false us → AllShow (page_of same block) us → TextsFit (is_paragraph (edit_shape (label block).kind).form) us
     → bad_content same block (tree m us) ≡ None
 unfolding bad_content
 no_style_fault same block m us h k n s f = ap first_why (all_fine (is_paragraph (edit_shape (label block).kind).form) (page_of same block) us h k n s f)
@@ -343,7 +343,7 @@ LineBy inline.Break l = Unit {0}
 LineBy inline.AsItStood l = Unit {0}
 
 one_line : (w : InlineForm) (p : Page) (l : Label) (bold italic : Bool) (held t : StyledContent) (N : Bool → Bool → Type 0) → LineBy w l
-    → NestsBy w p bold italic l N → ((b i : Bool) → (b || i) ≡ true → N b i → OneLineIn held) → OneLineIn t → OneLineIn (sent_by w (kept_with l.id p.kept) l held t)
+    → NestsBy w bold italic l N → ((b i : Bool) → (b || i) ≡ true → N b i → OneLineIn held) → OneLineIn t → OneLineIn (sent_by w (kept_with l.id p.kept) l held t)
 one_line inline.Nothing p l bold italic held t N e n f k = k
 one_line inline.Characters p l bold italic held t N e n f k = text_line (chars l.shown) t e k
 one_line inline.Bold p l bold italic held t N e n f k = style_line true (kept_with l.id p.kept) held t (f true italic refl n.1) k
@@ -355,26 +355,26 @@ one_line inline.Tag p l bold italic held t N e n f k = found_line (kept_with l.i
 one_line inline.Break p l bold italic held t N e n f k = found_line (kept_with l.id p.kept) t k
 one_line inline.AsItStood p l bold italic held t N e n f k = found_line (kept_with l.id p.kept) t k
 
-style_lines : (w : InlineForm) (p : Page) (l : Label) (bold italic : Bool) (N : Bool → Bool → Type 0) → (bold || italic) ≡ true → NestsBy w p bold italic l N → LineBy w l
-style_lines inline.Nothing p l bold italic N e n = tt
-style_lines inline.Characters p l bold italic N e n = n e
-style_lines inline.Bold p l bold italic N e n = tt
-style_lines inline.Italic p l bold italic N e n = tt
-style_lines inline.Shown p l bold italic N e n = tt
-style_lines inline.PageLink p l bold italic N e n = tt
-style_lines inline.ExternalLink p l bold italic N e n = tt
-style_lines inline.Tag p l bold italic N e n = tt
-style_lines inline.Break p l bold italic N e n = tt
-style_lines inline.AsItStood p l bold italic N e n = tt
+style_lines : (w : InlineForm) (l : Label) (bold italic : Bool) (N : Bool → Bool → Type 0) → (bold || italic) ≡ true → NestsBy w bold italic l N → LineBy w l
+style_lines inline.Nothing l bold italic N e n = tt
+style_lines inline.Characters l bold italic N e n = n e
+style_lines inline.Bold l bold italic N e n = tt
+style_lines inline.Italic l bold italic N e n = tt
+style_lines inline.Shown l bold italic N e n = tt
+style_lines inline.PageLink l bold italic N e n = tt
+style_lines inline.ExternalLink l bold italic N e n = tt
+style_lines inline.Tag l bold italic N e n = tt
+style_lines inline.Break l bold italic N e n = tt
+style_lines inline.AsItStood l bold italic N e n = tt
 
 mutual
-  held_line : (p : Page) (t : Tree) (c : StyledContent) (bold italic : Bool) → (bold || italic) ≡ true → Nests p bold italic t → OneLineIn c
+  held_line : (p : Page) (t : Tree) (c : StyledContent) (bold italic : Bool) → (bold || italic) ≡ true → Nests bold italic t → OneLineIn c
       → OneLineIn (sent_before p t c)
   held_line p (tree l ts) c bold italic e n k =
-      one_line (edit_shape l.kind).inline p l bold italic (sent_content p ts) c (λ b i. AllNest p b i ts)
-      (style_lines (edit_shape l.kind).inline p l bold italic (λ b i. AllNest p b i ts) e n) n (λ b i f m. held_lines p ts b i f m) k
+      one_line (edit_shape l.kind).inline p l bold italic (sent_content p ts) c (λ b i. AllNest b i ts)
+      (style_lines (edit_shape l.kind).inline l bold italic (λ b i. AllNest b i ts) e n) n (λ b i f m. held_lines p ts b i f m) k
 
-  held_lines : (p : Page) (us : Trees) (bold italic : Bool) → (bold || italic) ≡ true → AllNest p bold italic us → OneLineIn (sent_content p us)
+  held_lines : (p : Page) (us : Trees) (bold italic : Bool) → (bold || italic) ≡ true → AllNest bold italic us → OneLineIn (sent_content p us)
   held_lines p none bold italic e n = λ after k. k
   held_lines p (more t us) bold italic e n = held_line p t (sent_content p us) bold italic e n.0 (held_lines p us bold italic e n.1)
 
@@ -399,35 +399,35 @@ any_line (c ∷ cs) e =
 typed_line : (text : List ℕ) → IsUtf8 text → has_break text ≡ false → breaks_line text ≡ false
 typed_line text u b = any_line (chars text) (chars_line (chars text) (ap has_line (encodes-chars text u) ∙ sym (same_break text) ∙ b))
 
-nested_text : (p : Page) (x : Label) (text : List ℕ) (us : Trees) → AllNest p false false (text_node x text us) → AllNest p false false us
-nested_text p x [] us n = n
-nested_text p x (c ∷ cs) us n = n.1
+nested_text : (x : Label) (text : List ℕ) (us : Trees) → AllNest false false (text_node x text us) → AllNest false false us
+nested_text x [] us n = n
+nested_text x (c ∷ cs) us n = n.1
 
 written_line : (p : Page) (x : Label) (text : List ℕ) (us : Trees) → IsUtf8 text → has_break text ≡ false → OneLineIn (sent_content p us)
     → OneLineIn (sent_content p (text_node x text us))
 written_line p x [] us u b h = h
 written_line p x (c ∷ cs) us u b h = text_line (chars (c ∷ cs)) (sent_content p us) (typed_line (c ∷ cs) u b) h
 
-lines_of_pieces : (p : Page) (ps : Pieces) → PiecesStay ps → AreNodesAndTexts ps → AreOneLine ps → AllNest p false false (sent_pieces ps)
+lines_of_pieces : (p : Page) (ps : Pieces) → PiecesStay ps → AreNodesAndTexts ps → AreOneLine ps → AllNest false false (sent_pieces ps)
     → OneLineIn (sent_content p (sent_pieces ps))
 lines_of_pieces p no_pieces h a o n = λ after k. k
 lines_of_pieces p (gone t ps) h a o n = lines_of_pieces p ps h a o n
 lines_of_pieces p (written x text ps) h a o n =
-    written_line p x text (sent_pieces ps) a.0 o.0 (lines_of_pieces p ps h a.1 o.1 (nested_text p x text (sent_pieces ps) n))
+    written_line p x text (sent_pieces ps) a.0 o.0 (lines_of_pieces p ps h a.1 o.1 (nested_text x text (sent_pieces ps) n))
 lines_of_pieces p (kept (tree l ts) (tree m us) ps) h a o n =
     let form : IsNodeForm (edit_shape m.kind).inline = subst (λ k. IsNodeForm (edit_shape k).inline) (sym h.0.0.kind) a.0 in
-    one_line (edit_shape m.kind).inline p m false false (sent_content p us) (sent_content p (sent_pieces ps)) (λ b i. AllNest p b i us)
+    one_line (edit_shape m.kind).inline p m false false (sent_content p us) (sent_content p (sent_pieces ps)) (λ b i. AllNest b i us)
     (node_line (edit_shape m.kind).inline m form) n.0 (λ b i f w. held_lines p us b i f w) (lines_of_pieces p ps h.1 a.1 o n.1)
 lines_of_pieces p (around l m is ps) h a o n =
     let line : LineBy (edit_shape m.kind).inline m =
     of_style (λ k. LineBy (edit_shape k).inline m) m.kind (subst IsStyle (sym h.1.kind) h.0) tt tt in
-    one_line (edit_shape m.kind).inline p m false false (sent_content p (sent_pieces is)) (sent_content p (sent_pieces ps)) (λ b i. AllNest p b i (sent_pieces is))
+    one_line (edit_shape m.kind).inline p m false false (sent_content p (sent_pieces is)) (sent_content p (sent_pieces ps)) (λ b i. AllNest b i (sent_pieces is))
     line n.0 (λ b i f w. held_lines p (sent_pieces is) b i f w) (lines_of_pieces p ps h.3 a.1 o n.1)
 lines_of_pieces p (new_style m is ps) h a o n =
     let line : LineBy (edit_shape m.kind).inline (as_new m) = of_style (λ k. LineBy (edit_shape k).inline (as_new m)) m.kind h.0 tt tt in
     one_line (edit_shape m.kind).inline p (as_new m) false false (sent_content p (sent_pieces is)) (sent_content p (sent_pieces ps))
-    (λ b i. AllNest p b i (sent_pieces is)) line n.0 (λ b i f w. held_lines p (sent_pieces is) b i f w) (lines_of_pieces p ps h.2 a.1 o n.1)
+    (λ b i. AllNest b i (sent_pieces is)) line n.0 (λ b i f w. held_lines p (sent_pieces is) b i f w) (lines_of_pieces p ps h.2 a.1 o n.1)
 
-pub sent_on_one_line : (p : Page) (ps : Pieces) → PiecesStay ps → AreNodesAndTexts ps → AreOneLine ps → AllNest p false false (sent_pieces ps)
+pub sent_on_one_line : (p : Page) (ps : Pieces) → PiecesStay ps → AreNodesAndTexts ps → AreOneLine ps → AllNest false false (sent_pieces ps)
     → AreOnOneLine (signs_in (sent_content p (sent_pieces ps)))
 sent_on_one_line p ps h a o n = lines_of_pieces p ps h a o n [] tt
