@@ -26,3 +26,4 @@ pub mod StyledTexts
 pub mod OwnStyled
 mod Cases
 mod InCases
+mod EditCases
