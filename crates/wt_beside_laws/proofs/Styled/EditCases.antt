@@ -1,5 +1,5 @@
 -- Worked case: in the paragraph `''x''<br>y` other letters are typed in the italic node, which stays, as the line break does, and `y` is made bold.
-use Rattle.std.proofs.Common.{◌≡◌, ℕ, zero, suc, List, [], ◌∷◌, refl, sym, subst, inl, inr}
+use Rattle.std.proofs.Common.{ℕ, zero, suc, List, [], refl, sym, subst, inl, inr}
 use Rattle.std.specs.Prelude.{None, codes}
 use Rattle.std.specs.Str.{IsUtf8, chars}
 use Rattle.std.proofs.Math.Utf8.{encode}
