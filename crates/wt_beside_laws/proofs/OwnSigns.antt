@@ -137,7 +137,7 @@ or_true true = refl
 or_true false = refl
 
 -- so it is unchanged
-own_unchanged : (same : Tree → Tree → Bool) (block t : Tree) (at from : ℕ) → TellsSame same → HasNoGroup t
+pub own_unchanged : (same : Tree → Tree → Bool) (block t : Tree) (at from : ℕ) → TellsSame same → HasNoGroup t
     → is_unchanged (page_of same block) (kept_of block (found_at at from t)) t ≡ true
 own_unchanged same block t at from tells h =
     let e : restored (kept_nodes block) t ≡ t = restored_same (kept_nodes block) t h in

@@ -15,13 +15,13 @@ use Rattle.wt_original.specs.Kept.{Kept, kept_with}
 use Rattle.wt_original.specs.Page.{Page, page_of, TellsSame, node_or, restored, restored_all}
 use Rattle.wt_link_spelling.specs.Spelling.{children_of}
 use Rattle.wt_typed_blocks.specs.Sent.{IsSentAsIs, StandsAsIs, AllStandAsIs}
-use Rattle.wt_typed_blocks.specs.Edited.{Piece, gone, written, kept, page_pieces, text_node, sent_pieces, PiecesStay}
-use Rattle.wt_typed_blocks.proofs.SentGroups.{in_group}
+use Rattle.wt_typed_blocks.specs.Edited.{Pieces, no_pieces, gone, written, kept, around, new_style, page_pieces, text_node, sent_pieces, IsStyle, PiecesStay}
+use Rattle.wt_typed_blocks.proofs.SentGroups.{in_group, of_style}
 use Rattle.wt_typed_blocks.proofs.EditedShows.{shown_same}
 use Rattle.wt_beside_laws.specs.OwnSigns.{IsFlatBlock}
 use Rattle.wt_beside_laws.specs.SentNodes.{IsUnchanged, IsSentBy, AreSent, number_by, numbers}
 use Rattle.wt_beside_laws.proofs.Among.{AreAmong, among_behind}
-use Rattle.wt_beside_laws.specs.SentPieces.{IsNoNode, OnlyTextsGo}
+use Rattle.wt_beside_laws.specs.SentPieces.{IsNoNode, OnlyTextsGo, HaveNoStyle}
 use Rattle.wt_beside_laws.proofs.OwnSigns.{own_sent}
 
 -- ---- a node that is sent as it is
@@ -110,26 +110,44 @@ sent_so inline.AsItStood same block l m ts us tells h g e = stays_unchanged same
 
 -- ---- all of them
 
+-- a style isn't among them
+pub no_style : {A : Type 0} (p : Page) (l : Label) (ts : Trees) → IsStyle l.kind → IsSentBy (edit_shape l.kind).inline p l ts → A
+no_style {A} p l ts h = of_style (λ k. IsSentBy (edit_shape k).inline p l ts → A) l.kind h (λ e. absurd e) (λ e. absurd e)
+
+-- nor is one that is sent
+pub no_style_sent : {A : Type 0} (p : Page) (l m : Label) (us : Trees) → IsStyle l.kind → IsSentAsIs l m → IsSentBy (edit_shape m.kind).inline p m us → A
+no_style_sent p l m us h s e = no_style p m us (subst IsStyle (sym s.kind) h) e
+
 text_sent : (p : Page) (x : Label) (text : List ℕ) (us : Trees) → AreSent p us → AreSent p (text_node x text us)
 text_sent p x [] us h = h
 text_sent p x (c ∷ cs) us h = (tt, h)
 
-pieces_sent : (same : Tree → Tree → Bool) (block : Tree) (ps : List Piece) → TellsSame same → AreSent (page_of same block) (page_pieces ps)
-    → NoneIsGroup (page_pieces ps) → PiecesStay ps → AreSent (page_of same block) (sent_pieces ps)
-pieces_sent same block [] tells e g h = tt
-pieces_sent same block (gone (tree l ts) ∷ ps) tells e g h = pieces_sent same block ps tells e.1 g.1 h
-pieces_sent same block (written x text ∷ ps) tells e g h =
-    text_sent (page_of same block) x text (sent_pieces ps) (pieces_sent same block ps tells e g h)
-pieces_sent same block (kept (tree l ts) (tree m us) ∷ ps) tells e g h = (
+pieces_sent : (same : Tree → Tree → Bool) (block : Tree) (ps : Pieces) → TellsSame same → AreSent (page_of same block) (page_pieces ps)
+    → NoneIsGroup (page_pieces ps) → PiecesStay ps → HaveNoStyle ps → AreSent (page_of same block) (sent_pieces ps)
+pieces_sent same block no_pieces tells e g h n = tt
+pieces_sent same block (gone (tree l ts) ps) tells e g h n = pieces_sent same block ps tells e.1 g.1 h n
+pieces_sent same block (written x text ps) tells e g h n =
+    text_sent (page_of same block) x text (sent_pieces ps) (pieces_sent same block ps tells e g h n)
+pieces_sent same block (kept (tree l ts) (tree m us) ps) tells e g h n = (
   subst (λ (k : Kind). IsSentBy (edit_shape k).inline (page_of same block) m us) (sym h.0.0.kind)
       (sent_so (edit_shape l.kind).inline same block l m ts us tells h.0 g.0 e.0),
-  pieces_sent same block ps tells e.1 g.1 h.1,
+  pieces_sent same block ps tells e.1 g.1 h.1 n,
 )
+pieces_sent same block (around l m is ps) tells e g h n = absurd n
+pieces_sent same block (new_style m is ps) tells e g h n = absurd n
 
-pub stays_sent : (same : Tree → Tree → Bool) (block : Tree) (ps : List Piece) → TellsSame same → IsFlatBlock block → page_pieces ps ≡ children_of block
-    → PiecesStay ps → AreSent (page_of same block) (sent_pieces ps)
-stays_sent same block ps tells b is h =
-    pieces_sent same block ps tells (subst (AreSent (page_of same block)) (sym is) (own_sent same block tells b)) (subst NoneIsGroup (sym is) b.ungrouped) h
+pub stays_sent : (same : Tree → Tree → Bool) (block : Tree) (ps : Pieces) → TellsSame same → IsFlatBlock block → page_pieces ps ≡ children_of block
+    → PiecesStay ps → HaveNoStyle ps → AreSent (page_of same block) (sent_pieces ps)
+stays_sent same block ps tells b is h n =
+    pieces_sent same block ps tells (subst (AreSent (page_of same block)) (sym is) (own_sent same block tells b)) (subst NoneIsGroup (sym is) b.ungrouped) h n
+
+pub texts_alone : (ps : Pieces) → OnlyTextsGo ps → HaveNoStyle ps
+texts_alone no_pieces o = tt
+texts_alone (gone (tree l ts) ps) o = texts_alone ps o.1
+texts_alone (written x text ps) o = texts_alone ps o
+texts_alone (kept t u ps) o = texts_alone ps o
+texts_alone (around l m is ps) o = absurd o
+texts_alone (new_style m is ps) o = absurd o
 
 -- ---- their numbers
 
@@ -149,17 +167,19 @@ text_numbers : (x : Label) (text : List ℕ) (us : Trees) → numbers (text_node
 text_numbers x [] us = refl
 text_numbers x (c ∷ cs) us = refl
 
-pieces_numbers : (ps : List Piece) → PiecesStay ps → OnlyTextsGo ps → numbers (sent_pieces ps) ≡ numbers (page_pieces ps)
-pieces_numbers [] h o = refl
-pieces_numbers (gone (tree l ts) ∷ ps) h o =
+pieces_numbers : (ps : Pieces) → PiecesStay ps → OnlyTextsGo ps → numbers (sent_pieces ps) ≡ numbers (page_pieces ps)
+pieces_numbers no_pieces h o = refl
+pieces_numbers (gone (tree l ts) ps) h o =
     pieces_numbers ps h o.1 ∙ sym (no_number (edit_shape l.kind).inline l.id (numbers (page_pieces ps)) o.0)
-pieces_numbers (written x text ∷ ps) h o = text_numbers x text (sent_pieces ps) ∙ pieces_numbers ps h o
-pieces_numbers (kept (tree l ts) (tree m us) ∷ ps) h o =
+pieces_numbers (written x text ps) h o = text_numbers x text (sent_pieces ps) ∙ pieces_numbers ps h o
+pieces_numbers (kept (tree l ts) (tree m us) ps) h o =
     ap (λ (k : Kind). number_by (edit_shape k).inline m.id (numbers (sent_pieces ps))) h.0.0.kind
     ∙ ap (λ (i : ℕ). number_by (edit_shape l.kind).inline i (numbers (sent_pieces ps))) h.0.0.id
     ∙ ap (number_by (edit_shape l.kind).inline l.id) (pieces_numbers ps h.1 o)
+pieces_numbers (around l m is ps) h o = absurd o
+pieces_numbers (new_style m is ps) h o = absurd o
 
-pub same_numbers : (block : Tree) (ps : List Piece) → page_pieces ps ≡ children_of block → PiecesStay ps → OnlyTextsGo ps
+pub same_numbers : (block : Tree) (ps : Pieces) → page_pieces ps ≡ children_of block → PiecesStay ps → OnlyTextsGo ps
     → numbers (sent_pieces ps) ≡ numbers (children_of block)
 same_numbers block ps is h o = pieces_numbers ps h o ∙ ap numbers is
 
@@ -188,18 +208,25 @@ number_gone inline.Tag n ns ms h = among_behind ns (n ∷ []) ms h
 number_gone inline.Break n ns ms h = among_behind ns (n ∷ []) ms h
 number_gone inline.AsItStood n ns ms h = among_behind ns (n ∷ []) ms h
 
-pieces_among : (ps : List Piece) → PiecesStay ps → AreAmong (numbers (sent_pieces ps)) (numbers (page_pieces ps))
-pieces_among [] h = tt
-pieces_among (gone (tree l ts) ∷ ps) h =
-    number_gone (edit_shape l.kind).inline l.id (numbers (sent_pieces ps)) (numbers (page_pieces ps)) (pieces_among ps h)
-pieces_among (written x text ∷ ps) h =
-    subst (λ (ns : List ℕ). AreAmong ns (numbers (page_pieces ps))) (sym (text_numbers x text (sent_pieces ps))) (pieces_among ps h)
-pieces_among (kept (tree l ts) (tree m us) ∷ ps) h =
-    let ns : List ℕ = numbers (sent_pieces ps) in
+also_among : (l m : Label) (ns ms : List ℕ) → IsSentAsIs l m → AreAmong ns ms
+    → AreAmong (number_by (edit_shape m.kind).inline m.id ns) (number_by (edit_shape l.kind).inline l.id ms)
+also_among l m ns ms h among =
     let same : number_by (edit_shape m.kind).inline m.id ns ≡ number_by (edit_shape l.kind).inline l.id ns =
-    ap (λ (k : Kind). number_by (edit_shape k).inline m.id ns) h.0.0.kind ∙ ap (λ (i : ℕ). number_by (edit_shape l.kind).inline i ns) h.0.0.id in
-    subst (λ (is : List ℕ). AreAmong is (number_by (edit_shape l.kind).inline l.id (numbers (page_pieces ps)))) (sym same)
-    (number_among (edit_shape l.kind).inline l.id ns (numbers (page_pieces ps)) (pieces_among ps h.1))
+    ap (λ (k : Kind). number_by (edit_shape k).inline m.id ns) h.kind ∙ ap (λ (i : ℕ). number_by (edit_shape l.kind).inline i ns) h.id in
+    subst (λ (is : List ℕ). AreAmong is (number_by (edit_shape l.kind).inline l.id ms)) (sym same)
+    (number_among (edit_shape l.kind).inline l.id ns ms among)
 
-pub some_numbers : (block : Tree) (ps : List Piece) → page_pieces ps ≡ children_of block → PiecesStay ps → AreAmong (numbers (sent_pieces ps)) (numbers (children_of block))
-some_numbers block ps is h = subst (λ (us : Trees). AreAmong (numbers (sent_pieces ps)) (numbers us)) is (pieces_among ps h)
+pieces_among : (ps : Pieces) → PiecesStay ps → HaveNoStyle ps → AreAmong (numbers (sent_pieces ps)) (numbers (page_pieces ps))
+pieces_among no_pieces h n = tt
+pieces_among (gone (tree l ts) ps) h n =
+    number_gone (edit_shape l.kind).inline l.id (numbers (sent_pieces ps)) (numbers (page_pieces ps)) (pieces_among ps h n)
+pieces_among (written x text ps) h n =
+    subst (λ (ns : List ℕ). AreAmong ns (numbers (page_pieces ps))) (sym (text_numbers x text (sent_pieces ps))) (pieces_among ps h n)
+pieces_among (kept (tree l ts) (tree m us) ps) h n =
+    also_among l m (numbers (sent_pieces ps)) (numbers (page_pieces ps)) h.0.0 (pieces_among ps h.1 n)
+pieces_among (around l m is ps) h n = absurd n
+pieces_among (new_style m is ps) h n = absurd n
+
+pub some_numbers : (block : Tree) (ps : Pieces) → page_pieces ps ≡ children_of block → PiecesStay ps → HaveNoStyle ps
+    → AreAmong (numbers (sent_pieces ps)) (numbers (children_of block))
+some_numbers block ps is h n = subst (λ (us : Trees). AreAmong (numbers (sent_pieces ps)) (numbers us)) is (pieces_among ps h n)

@@ -18,7 +18,7 @@ use Rattle.wt_original.specs.Page.{Page}
 use Rattle.wt_link_spelling.specs.Spelling.{kept_thing, as_it_stood, unless_kept, anew_by, signs_by, signs_of_all}
 use Rattle.wt_expand.specs.PageItems.{page_items}
 use Rattle.wt_context.specs.Line.{line_parts}
-use Rattle.wt_typed_blocks.specs.Edited.{Piece, gone, written, kept, text_node, sent_pieces, PiecesStay, pieces_before}
+use Rattle.wt_typed_blocks.specs.Edited.{Pieces, no_pieces, gone, written, kept, around, new_style, text_node, sent_pieces, PiecesStay, pieces_before}
 use Rattle.wt_beside_laws.specs.SentNodes.{IsUnchanged, IsSentBy, AreSent}
 use Rattle.wt_beside_laws.specs.SentPieces.{IsNodeForm, PiecesShow}
 use Rattle.wt_beside_laws.specs.Shown.{parts_shown_at, content_shown}
@@ -94,17 +94,19 @@ text_sent : (p : Page) (x : Label) (text : List ℕ) (us : Trees) → AreSent p 
 text_sent p x [] us h = h
 text_sent p x (c ∷ cs) us h = h.1
 
-pub pieces_shown : (p : Page) (pl : Place) (ps : List Piece) (rest : Plains) → PiecesStay ps → AreSent p (sent_pieces ps) → PiecesShow p ps
+pub pieces_shown : (p : Page) (pl : Place) (ps : Pieces) (rest : Plains) → PiecesStay ps → AreSent p (sent_pieces ps) → PiecesShow p ps
     → content_shown (signs_of_all p pl (sent_pieces ps)) rest ≡ pieces_before ps rest
-pieces_shown p pl [] rest h e s = refl
-pieces_shown p pl (gone t ∷ ps) rest h e s = pieces_shown p pl ps rest h e s
-pieces_shown p pl (written x text ∷ ps) rest h e s =
+pieces_shown p pl no_pieces rest h e s = refl
+pieces_shown p pl (gone t ps) rest h e s = pieces_shown p pl ps rest h e s
+pieces_shown p pl (written x text ps) rest h e s =
     written_shown p pl x text (sent_pieces ps) rest s.0
     ∙ ap (text_before text) (pieces_shown p pl ps rest h (text_sent p x text (sent_pieces ps) e) s.1)
-pieces_shown p pl (kept (tree l ts) (tree m us) ∷ ps) rest h e s =
+pieces_shown p pl (kept (tree l ts) (tree m us) ps) rest h e s =
     let signs : List ContentSign = signs_of_all p pl (sent_pieces ps) in
     let f : Plains → Plains = λ qs. plain_before (tree l ts) qs in
     let form : IsNodeForm (edit_shape m.kind).inline = subst (λ k. IsNodeForm (edit_shape k).inline) (sym h.0.0.kind) s.0 in
     let shows : Shows p m f = λ k i. s.1 k (ap (λ (n : ℕ). kept_with n p.kept) (sym h.0.0.id) ∙ i) in
     node_shown (edit_shape m.kind).inline p pl m us (signs_of_all p pl us) signs f rest form e.0 shows
     ∙ ap f (pieces_shown p pl ps rest h.1 e.1 s.2)
+pieces_shown p pl (around l m is ps) rest h e s = absurd s
+pieces_shown p pl (new_style m is ps) rest h e s = absurd s

@@ -3,6 +3,7 @@ pub mod NestRuns
 pub mod NestToggles
 pub mod NestStyles
 pub mod NestForests
+pub mod Delimiters
 pub mod NestReads
 pub mod StyledSigns
 pub mod StyledLines
@@ -25,3 +26,4 @@ pub mod StyledTexts
 pub mod OwnStyled
 mod Cases
 mod InCases
+mod EditCases

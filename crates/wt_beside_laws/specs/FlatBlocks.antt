@@ -15,7 +15,7 @@ use Rattle.wt_inline.specs.Parts.{children}
 use Rattle.wt_content.specs.Content.{has_break}
 use Rattle.wt_annotated.specs.Clean.{is_page}
 use Rattle.wt_called_trees.specs.Rounded.{AllHaveItems}
-use Rattle.wt_typed_blocks.specs.Edited.{Piece, gone, written, kept, page_pieces, PiecesStay}
+use Rattle.wt_typed_blocks.specs.Edited.{Pieces, no_pieces, gone, written, kept, around, new_style, page_pieces, PiecesStay}
 use Rattle.wt_text_edit_laws.specs.Contents.{IsContentOf, content_parts_of}
 use Rattle.wt_text_edit_laws.specs.NoCalls.{CallsNothing}
 use Rattle.wt_text_edit_laws.specs.TextBlocks.{TextBlock, a_paragraph, a_heading, source_of, block_items}
@@ -25,6 +25,7 @@ use Rattle.wt_beside_laws.specs.Content.{AreKept}
 use Rattle.wt_beside_laws.specs.FlatPages.{AreNodesAndTexts}
 use Rattle.wt_beside_laws.specs.PageBlocks.{AreUnstyled, AreShut}
 use Rattle.wt_beside_laws.specs.PageSigns.{signs_of_lines, AreFlatLines}
+use Rattle.wt_beside_laws.specs.SentPieces.{HaveNoStyle}
 
 -- ---- its lines
 
@@ -75,21 +76,24 @@ pub record IsFlatIn (k : TextBlock) (q : List ℕ) : Type 0 where
 
 -- ---- what is sent for it
 
--- no text has a line break
-abbrev pub AreOneLine : List Piece → Type 0
-AreOneLine [] = Unit {0}
-AreOneLine (gone t ∷ ps) = AreOneLine ps
-AreOneLine (written x text ∷ ps) = (has_break text ≡ false) × AreOneLine ps
-AreOneLine (kept t u ∷ ps) = AreOneLine ps
+-- no text has a line break; none in bold or italic has one anyway
+abbrev pub AreOneLine : Pieces → Type 0
+AreOneLine no_pieces = Unit {0}
+AreOneLine (gone t ps) = AreOneLine ps
+AreOneLine (written x text ps) = (has_break text ≡ false) × AreOneLine ps
+AreOneLine (kept t u ps) = AreOneLine ps
+AreOneLine (around l m is ps) = AreOneLine ps
+AreOneLine (new_style m is ps) = AreOneLine ps
 
 -- so it is in a heading
-abbrev pub TextsFitIn : TextBlock → List Piece → Type 0
+abbrev pub TextsFitIn : TextBlock → Pieces → Type 0
 TextsFitIn a_paragraph ps = Unit {0}
 TextsFitIn (a_heading s) ps = AreOneLine ps
 
 -- Nodes of this block stay, in their order, and each is sent as it is; any texts are between them, in a heading on one line. What else it held is gone.
-pub record IsFlatEditOf (k : TextBlock) (block : Tree) (ps : List Piece) : Type 0 where
+pub record IsFlatEditOf (k : TextBlock) (block : Tree) (ps : Pieces) : Type 0 where
   pub old : page_pieces ps ≡ children_of block
   pub stay : PiecesStay ps
   pub are : AreNodesAndTexts ps
   pub fit : TextsFitIn k ps
+  pub plain : HaveNoStyle ps

@@ -1,5 +1,5 @@
 -- A page that is one paragraph of text and of nodes, and texts that are typed in it beside the nodes.
-use Rattle.std.specs.Prelude.{◌≡◌, ℕ, false, List, [], ◌∷◌}
+use Rattle.std.specs.Prelude.{◌≡◌, ℕ, false, List, []}
 use Rattle.std.specs.Str.{IsUtf8}
 use Rattle.wt_span.specs.Items.{Item}
 use Rattle.wt_tree.specs.declared.edit_shape.Place.TheVariants as place
@@ -17,7 +17,7 @@ use Rattle.wt_difference.specs.Difference.{same_inside}
 use Rattle.wt_visible.specs.SameNodes.{same_node}
 use Rattle.wt_moved_laws.specs.Standing.{standing}
 use Rattle.wt_typed_blocks.specs.Sent.{paragraph}
-use Rattle.wt_typed_blocks.specs.Edited.{Piece, gone, written, kept, page_pieces, sent_pieces, PiecesStay, edited, Edits, no_edits, more_edits, sent_body}
+use Rattle.wt_typed_blocks.specs.Edited.{Pieces, no_pieces, gone, written, kept, around, new_style, page_pieces, sent_pieces, PiecesStay, edited, Edits, no_edits, more_edits, sent_body}
 use Rattle.wt_typed_blocks.specs.EditedUnmarked.{bare_node, bare_body, AreInline}
 use Rattle.wt_text_edit_laws.specs.NoCalls.{CallsNothing}
 use Rattle.wt_text_edit_laws.specs.Parts.{part_tree, HasNoGroups}
@@ -57,42 +57,44 @@ pub record IsFlatPage (q : List ℕ) : Type 0 where
 -- ---- the edit
 
 -- what stays are nodes, and the texts are texts
-abbrev pub AreNodesAndTexts : List Piece → Type 0
-AreNodesAndTexts [] = Unit {0}
-AreNodesAndTexts (gone t ∷ ps) = AreNodesAndTexts ps
-AreNodesAndTexts (written x text ∷ ps) = IsUtf8 text × AreNodesAndTexts ps
-AreNodesAndTexts (kept t u ∷ ps) = IsNodeForm (edit_shape (label t).kind).inline × AreNodesAndTexts ps
+abbrev pub AreNodesAndTexts : Pieces → Type 0
+AreNodesAndTexts no_pieces = Unit {0}
+AreNodesAndTexts (gone t ps) = AreNodesAndTexts ps
+AreNodesAndTexts (written x text ps) = IsUtf8 text × AreNodesAndTexts ps
+AreNodesAndTexts (kept t u ps) = IsNodeForm (edit_shape (label t).kind).inline × AreNodesAndTexts ps
+AreNodesAndTexts (around l m is ps) = AreNodesAndTexts is × AreNodesAndTexts ps
+AreNodesAndTexts (new_style m is ps) = AreNodesAndTexts is × AreNodesAndTexts ps
 
 -- All nodes of the paragraph stay, each is sent as it is, and any texts are between them.
-pub record IsFlatEdit (q : List ℕ) (ps : List Piece) : Type 0 where
+pub record IsFlatEdit (q : List ℕ) (ps : Pieces) : Type 0 where
   pub old : page_pieces ps ≡ children_of (block_of q)
   pub stay : PiecesStay ps
   pub go : OnlyTextsGo ps
   pub are : AreNodesAndTexts ps
 
 -- the paragraph, sent with this label
-abbrev pub flat_edits : Label → List ℕ → List Piece → Edits
+abbrev pub flat_edits : Label → List ℕ → Pieces → Edits
 flat_edits m q ps = more_edits (edited paragraph (label (block_of q)) m ps) no_edits
 
 -- the edited tree, with this label of its body
-abbrev pub sent_flat : Label → Label → List ℕ → List Piece → Tree
+abbrev pub sent_flat : Label → Label → List ℕ → Pieces → Tree
 sent_flat b m q ps = sent_body (label (part_tree q)) b (flat_edits m q ps)
 
 -- the new page: the signs of what was sent, as they are spelled
-abbrev pub new_signs : List ℕ → List Piece → List ContentSign
+abbrev pub new_signs : List ℕ → Pieces → List ContentSign
 new_signs q ps = signs_of_all (page_of same_node (block_of q)) place.Paragraph (sent_pieces ps)
 
-abbrev pub new_flat : List ℕ → List Piece → List ℕ
+abbrev pub new_flat : List ℕ → Pieces → List ℕ
 new_flat q ps = spelled (record { within = false; place = place.Paragraph; source = flat (block_of q) }) (new_signs q ps)
 
 -- ---- without marks
 
 -- the edited tree, whatever marks are on the paragraph and the body
-abbrev pub bare_flat : Label → Label → List ℕ → List Piece → Tree
+abbrev pub bare_flat : Label → Label → List ℕ → Pieces → Tree
 bare_flat b m q ps = bare_body (label (part_tree q)) b (flat_edits m q ps)
 
 -- Its content is another one than that of the page's paragraph, and what stays in it is inline.
-pub record IsUnmarkedFlatEdit (m : Label) (q : List ℕ) (ps : List Piece) : Type 0 where
+pub record IsUnmarkedFlatEdit (m : Label) (q : List ℕ) (ps : Pieces) : Type 0 where
   pub edit : IsFlatEdit q ps
   pub inline : AreInline ps
   pub other : same_inside (block_of q) (bare_node (edited paragraph (label (block_of q)) m ps)) ≡ false

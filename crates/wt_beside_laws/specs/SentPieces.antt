@@ -1,5 +1,5 @@
 -- A content that is sent of a block of the page: nodes stay, and texts go and come.
-use Rattle.std.specs.Prelude.{◌≡◌, Bool, Some, List, [], ◌∷◌}
+use Rattle.std.specs.Prelude.{◌≡◌, Bool, Some, []}
 use Rattle.std.specs.Str.{IsUtf8}
 use Rattle.wt_tree.specs.EditShapes.{edit_shape}
 use Rattle.wt_tree.specs.Plain.{Plains, plain_before}
@@ -12,7 +12,7 @@ use Rattle.wt_original.specs.Page.{Page}
 use Rattle.wt_expand.specs.PageItems.{page_items}
 use Rattle.wt_context.specs.Line.{line_parts}
 use Rattle.wt_content.specs.Content.{break_fault}
-use Rattle.wt_typed_blocks.specs.Edited.{Piece, gone, written, kept}
+use Rattle.wt_typed_blocks.specs.Edited.{Pieces, no_pieces, gone, written, kept, around, new_style}
 use Rattle.wt_beside_laws.specs.Shown.{parts_shown_at}
 
 -- a text, or a separator
@@ -28,12 +28,23 @@ IsNoNode inline.Tag = ⊥
 IsNoNode inline.Break = ⊥
 IsNoNode inline.AsItStood = ⊥
 
--- all nodes stay
-abbrev pub OnlyTextsGo : List Piece → Type 0
-OnlyTextsGo [] = Unit {0}
-OnlyTextsGo (gone (tree l ts) ∷ ps) = IsNoNode (edit_shape l.kind).inline × OnlyTextsGo ps
-OnlyTextsGo (written x text ∷ ps) = OnlyTextsGo ps
-OnlyTextsGo (kept t u ∷ ps) = OnlyTextsGo ps
+-- all nodes stay, and no bold and italic is among them
+abbrev pub OnlyTextsGo : Pieces → Type 0
+OnlyTextsGo no_pieces = Unit {0}
+OnlyTextsGo (gone (tree l ts) ps) = IsNoNode (edit_shape l.kind).inline × OnlyTextsGo ps
+OnlyTextsGo (written x text ps) = OnlyTextsGo ps
+OnlyTextsGo (kept t u ps) = OnlyTextsGo ps
+OnlyTextsGo (around l m is ps) = ⊥
+OnlyTextsGo (new_style m is ps) = ⊥
+
+-- nodes may go, too
+abbrev pub HaveNoStyle : Pieces → Type 0
+HaveNoStyle no_pieces = Unit {0}
+HaveNoStyle (gone t ps) = HaveNoStyle ps
+HaveNoStyle (written x text ps) = HaveNoStyle ps
+HaveNoStyle (kept t u ps) = HaveNoStyle ps
+HaveNoStyle (around l m is ps) = ⊥
+HaveNoStyle (new_style m is ps) = ⊥
 
 -- a text with a line break is only in a paragraph
 abbrev pub FitsBy : InlineForm → Bool → Label → Type 0
@@ -72,9 +83,11 @@ abbrev pub ShowsItsSource : Page → Tree → Type 0
 ShowsItsSource p t = (k : Kept) → kept_with (label t).id p.kept ≡ Some k
     → (rest : Plains) → parts_shown_at 0 [] (line_parts (page_items (flat k.node))) rest ≡ plain_before t rest
 
--- what stays are nodes that show their source, and the texts are texts
-abbrev pub PiecesShow : Page → List Piece → Type 0
-PiecesShow p [] = Unit {0}
-PiecesShow p (gone t ∷ ps) = PiecesShow p ps
-PiecesShow p (written x text ∷ ps) = IsUtf8 text × PiecesShow p ps
-PiecesShow p (kept t u ∷ ps) = IsNodeForm (edit_shape (label t).kind).inline × ShowsItsSource p t × PiecesShow p ps
+-- what stays are nodes that show their source, and the texts are texts; bold and italic aren't among them
+abbrev pub PiecesShow : Page → Pieces → Type 0
+PiecesShow p no_pieces = Unit {0}
+PiecesShow p (gone t ps) = PiecesShow p ps
+PiecesShow p (written x text ps) = IsUtf8 text × PiecesShow p ps
+PiecesShow p (kept t u ps) = IsNodeForm (edit_shape (label t).kind).inline × ShowsItsSource p t × PiecesShow p ps
+PiecesShow p (around l m is ps) = ⊥
+PiecesShow p (new_style m is ps) = ⊥

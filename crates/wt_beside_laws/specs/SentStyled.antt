@@ -83,34 +83,38 @@ abbrev mutual
   AreStyledSent p none = Unit {0}
   AreStyledSent p (more t us) = IsStyledSent p t × AreStyledSent p us
 
--- in bold or italic or in neither: no style is in one of its kind, no text in one has a line break, and no node of the page is a delimiter
+-- no node of the page is a delimiter
 abbrev pub KeptIsFlat : Option Kept → Type 0
 KeptIsFlat None = Unit {0}
 KeptIsFlat (Some k) = IsFlat k.role
+
+abbrev pub HasNoDelimiter : Page → Type 0
+HasNoDelimiter p = (n : ℕ) → KeptIsFlat (kept_with n p.kept)
 
 -- a line ends in it
 abbrev pub breaks_line : List ℕ → Bool
 breaks_line text = list_any (λ c. c == byte.line_break) (chars text)
 
-abbrev pub NestsBy : InlineForm → Page → Bool → Bool → Label → (Bool → Bool → Type 0) → Type 0
-NestsBy inline.Nothing p bold italic l inside = Unit {0}
-NestsBy inline.Characters p bold italic l inside = (bold || italic) ≡ true → breaks_line l.shown ≡ false
-NestsBy inline.Bold p bold italic l inside = (bold ≡ false) × inside true italic
-NestsBy inline.Italic p bold italic l inside = (italic ≡ false) × inside bold true
-NestsBy inline.Shown p bold italic l inside = KeptIsFlat (kept_with l.id p.kept)
-NestsBy inline.PageLink p bold italic l inside = KeptIsFlat (kept_with l.id p.kept)
-NestsBy inline.ExternalLink p bold italic l inside = KeptIsFlat (kept_with l.id p.kept)
-NestsBy inline.Tag p bold italic l inside = KeptIsFlat (kept_with l.id p.kept)
-NestsBy inline.Break p bold italic l inside = KeptIsFlat (kept_with l.id p.kept)
-NestsBy inline.AsItStood p bold italic l inside = KeptIsFlat (kept_with l.id p.kept)
+-- in bold or italic or in neither: no style is in one of its kind, and no text in one has a line break
+abbrev pub NestsBy : InlineForm → Bool → Bool → Label → (Bool → Bool → Type 0) → Type 0
+NestsBy inline.Nothing bold italic l inside = Unit {0}
+NestsBy inline.Characters bold italic l inside = (bold || italic) ≡ true → breaks_line l.shown ≡ false
+NestsBy inline.Bold bold italic l inside = (bold ≡ false) × inside true italic
+NestsBy inline.Italic bold italic l inside = (italic ≡ false) × inside bold true
+NestsBy inline.Shown bold italic l inside = Unit {0}
+NestsBy inline.PageLink bold italic l inside = Unit {0}
+NestsBy inline.ExternalLink bold italic l inside = Unit {0}
+NestsBy inline.Tag bold italic l inside = Unit {0}
+NestsBy inline.Break bold italic l inside = Unit {0}
+NestsBy inline.AsItStood bold italic l inside = Unit {0}
 
 abbrev mutual
-  pub Nests : Page → Bool → Bool → Tree → Type 0
-  Nests p bold italic (tree l ts) = NestsBy (edit_shape l.kind).inline p bold italic l (λ b i. AllNest p b i ts)
+  pub Nests : Bool → Bool → Tree → Type 0
+  Nests bold italic (tree l ts) = NestsBy (edit_shape l.kind).inline bold italic l (λ b i. AllNest b i ts)
 
-  pub AllNest : Page → Bool → Bool → Trees → Type 0
-  AllNest p bold italic none = Unit {0}
-  AllNest p bold italic (more t us) = Nests p bold italic t × AllNest p bold italic us
+  pub AllNest : Bool → Bool → Trees → Type 0
+  AllNest bold italic none = Unit {0}
+  AllNest bold italic (more t us) = Nests bold italic t × AllNest bold italic us
 
 -- what shows nothing, a text, a style without attributes, and a node that shows its source
 abbrev pub style_face : Bool → Face

@@ -47,14 +47,14 @@ ghost use Rattle.wt_beside_laws.specs.PageSigns.{signs_of_lines, AreFlatLines};
 ghost use Rattle.wt_tree.specs.EditShapes.{edit_shape};
 ghost use Rattle.wt_tree.specs.Tree.{Label, Tree as Block, tree, Trees, label};
 ghost use Rattle.wt_content.specs.Content.{is_paragraph, bad_content};
-ghost use Rattle.wt_typed_blocks.specs.Edited.{Piece, page_pieces, sent_pieces, PiecesStay, pieces_before};
+ghost use Rattle.wt_typed_blocks.specs.Edited.{Pieces, page_pieces, sent_pieces, PiecesStay, pieces_before};
 ghost use Rattle.wt_tree.specs.declared.edit_shape.Place.{Place as Where};
 ghost use Rattle.wt_original.specs.Page.{Page as Known, page_of, TellsSame};
 ghost use Rattle.wt_link_spelling.specs.Spelling.{signs_of_all, children_of};
 ghost use Rattle.wt_beside_laws.specs.OwnSigns.{own_signs, IsFlatBlock};
 ghost use Rattle.wt_beside_laws.specs.PageBlocks.{AreUnstyled, AreShut, ShowSources, IsBlockOfLines};
 ghost use Rattle.wt_beside_laws.specs.SentNodes.{AreSent, numbers};
-ghost use Rattle.wt_beside_laws.specs.SentPieces.{OnlyTextsGo, TextsFit, PiecesShow};
+ghost use Rattle.wt_beside_laws.specs.SentPieces.{OnlyTextsGo, HaveNoStyle, TextsFit, PiecesShow};
 ghost use Rattle.wt_beside_laws.specs.Stood.{AreStood, AreAt, things};
 ghost use Rattle.wt_beside_laws.specs.Tiles.{IsPlainLink, IsPastUrl};
 ghost use Rattle.wt_span.specs.declared.limits.TheConstants.{HTML_BYTES, PAGE_BYTES};
@@ -276,9 +276,9 @@ pub fn texts_beside_nodes_stand_between_lines()
 /// Where all nodes of a flat block stay (`PiecesStay` of `wt_typed_blocks`) and only texts go and come (`OnlyTextsGo`), the nodes are
 /// sent as they are, with the numbers of the page's in their order. So `nodes_sent_are_those_of_the_page` holds of such a content.
 pub fn nodes_that_stay_are_sent()
-    ensures sent { (same : Block → Block → Bool) (block : Block) (ps : List Piece) → TellsSame same → IsFlatBlock block
-        → page_pieces ps ≡ children_of block → PiecesStay ps → AreSent (page_of same block) (sent_pieces ps) }
-    ensures numbers { (block : Block) (ps : List Piece) → page_pieces ps ≡ children_of block → PiecesStay ps → OnlyTextsGo ps
+    ensures sent { (same : Block → Block → Bool) (block : Block) (ps : Pieces) → TellsSame same → IsFlatBlock block
+        → page_pieces ps ≡ children_of block → PiecesStay ps → HaveNoStyle ps → AreSent (page_of same block) (sent_pieces ps) }
+    ensures numbers { (block : Block) (ps : Pieces) → page_pieces ps ≡ children_of block → PiecesStay ps → OnlyTextsGo ps
         → numbers (sent_pieces ps) ≡ numbers (children_of block) }
 {}
 
@@ -294,7 +294,7 @@ pub fn contents_of_such_nodes_have_no_fault()
 /// each node that stays, if the page's node shows what its source shows by itself (`PiecesShow`).
 #[tactic(auto, using(crate::proofs::SentShown::pieces_shown))]
 pub fn what_is_sent_is_what_is_shown()
-    ensures { (p : Known) (pl : Where) (ps : List Piece) (rest : Plains) → PiecesStay ps → AreSent p (sent_pieces ps) → PiecesShow p ps
+    ensures { (p : Known) (pl : Where) (ps : Pieces) (rest : Plains) → PiecesStay ps → AreSent p (sent_pieces ps) → PiecesShow p ps
         → content_shown (signs_of_all p pl (sent_pieces ps)) rest ≡ pieces_before ps rest }
 {}
 
@@ -322,9 +322,9 @@ pub fn lines_of_text_are_one_paragraph()
 /// `edit` of the difference is done, where the content is another one than that of the page's paragraph, and what stays in
 /// it is inline.
 pub fn flat_pages_take_texts_beside_nodes()
-    ensures takes { (pages : Pages) (b m : Label) (q : List ℕ) (ps : List Piece) → IsFlatPage q → IsFlatEdit q ps → length (new_flat q ps) ≤ PAGE_BYTES
+    ensures takes { (pages : Pages) (b m : Label) (q : List ℕ) (ps : Pieces) → IsFlatPage q → IsFlatEdit q ps → length (new_flat q ps) ≤ PAGE_BYTES
         → edit_to pages q (sent_flat b m q ps) ≡ done (new_flat q ps) }
-    ensures unmarked { (pages : Pages) (b m : Label) (q : List ℕ) (ps : List Piece) (stands : Option (List ℕ)) (input : List ℕ) (unsourced : Option ℕ)
+    ensures unmarked { (pages : Pages) (b m : Label) (q : List ℕ) (ps : Pieces) (stands : Option (List ℕ)) (input : List ℕ) (unsourced : Option ℕ)
         → IsFlatPage q → IsUnmarkedFlatEdit m q ps → stands ≡ Some q → length q ≤ PAGE_BYTES → length (new_flat q ps) ≤ PAGE_BYTES
         → length input ≤ HTML_BYTES → read input ≡ as_page (bare_flat b m q ps) unsourced → DoneByEdit pages stands input }
 {}
@@ -332,7 +332,7 @@ pub fn flat_pages_take_texts_beside_nodes()
 /// The new page is such a page again, so of a chain of such edits none is refused: the nodes beside which texts are typed next are the same, and the
 /// references and nowikis that were put.
 pub fn flat_pages_are_such_again()
-    ensures { (q : List ℕ) (ps : List Piece) → IsFlatPage q → IsFlatEdit q ps → IsFlatPage (new_flat q ps) }
+    ensures { (q : List ℕ) (ps : Pieces) → IsFlatPage q → IsFlatEdit q ps → IsFlatPage (new_flat q ps) }
 {}
 
 /// A paragraph or a heading of flat lines (`IsFlatIn`), wherever it is in a page, takes any texts beside its nodes, which stay
@@ -341,8 +341,8 @@ pub fn flat_pages_are_such_again()
 /// block again.
 pub fn flat_contents_are_made()
     ensures content { (k : TextBlock) (q : List ℕ) → IsFlatIn k q → IsContent k q }
-    ensures made { (k : TextBlock) (q : List ℕ) (n : ℕ) (before : List Item) (block : Block) (m : Label) (ps : List Piece) → IsFlatIn k q → 0 < n
+    ensures made { (k : TextBlock) (q : List ℕ) (n : ℕ) (before : List Item) (block : Block) (m : Label) (ps : Pieces) → IsFlatIn k q → 0 < n
         → block ≡ standing n before (block_tree k q) → IsFlatEditOf k block ps → MakesContent k q block m ps }
-    ensures again { (k : TextBlock) (q : List ℕ) (n : ℕ) (before : List Item) (block : Block) (m : Label) (ps : List Piece) → IsFlatIn k q → 0 < n
+    ensures again { (k : TextBlock) (q : List ℕ) (n : ℕ) (before : List Item) (block : Block) (m : Label) (ps : Pieces) → IsFlatIn k q → 0 < n
         → block ≡ standing n before (block_tree k q) → IsFlatEditOf k block ps → IsFlatIn k (new_content k block m ps) }
 {}

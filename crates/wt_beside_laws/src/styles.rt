@@ -22,7 +22,7 @@ ghost use Rattle.wt_page.specs.Body.{meaning};
 ghost use Rattle.wt_page.specs.Rows.{rows};
 ghost use Rattle.wt_page.specs.Texts.{para};
 ghost use Rattle.wt_moved_laws.specs.Standing.{standing};
-ghost use Rattle.wt_typed_blocks.specs.Edited.{Piece};
+ghost use Rattle.wt_typed_blocks.specs.Edited.{Pieces};
 ghost use Rattle.wt_text_edit_laws.specs.Contents.{IsContent, IsNewContent};
 ghost use Rattle.wt_text_edit_laws.specs.ParagraphBetween.{AreClosed, before_marks, EndsApart, EndsParagraph, blocks_in, body_with};
 ghost use Rattle.wt_text_edit_laws.specs.ParagraphParts.{para_with};
@@ -36,7 +36,7 @@ ghost use Rattle.wt_beside_laws.specs.Nests.{Nest, nest_segments, nest_parts, Is
 ghost use Rattle.wt_beside_laws.specs.Nodes.{AreNodes, AllMeet};
 ghost use Rattle.wt_beside_laws.specs.PageBlocks.{AreShut, IsBlockOfLines};
 ghost use Rattle.wt_beside_laws.specs.PageSigns.{signs_of_lines, AreFlatLines};
-ghost use Rattle.wt_beside_laws.specs.SentStyled.{sent_content, AreStyledSent, AllNest, AllShow};
+ghost use Rattle.wt_beside_laws.specs.SentStyled.{sent_content, AreStyledSent, HasNoDelimiter, AllNest, AllShow};
 ghost use Rattle.wt_beside_laws.specs.Shown.{parts_shown_at};
 ghost use Rattle.wt_beside_laws.specs.Styled.{StyledContent, signs_in, AreNested, IsStyledContent, styled_parts};
 ghost use Rattle.wt_beside_laws.specs.StyledBlocks.{all_numbers, things_with, AreSomeOf};
@@ -123,7 +123,7 @@ pub fn nodes_of_the_page_stay_in_styles()
 /// styles nest where those that are sent do, and no text in one has a line break; and it shows what was sent, where each node shows its source.
 pub fn contents_sent_with_styles_are_such()
     ensures signs { (p : Known) (pl : Where) (us : Trees) → AreStyledSent p us → signs_of_all p pl us ≡ signs_in (sent_content p us) }
-    ensures nested { (p : Known) (us : Trees) → AllNest p false false us → AreNested false false (sent_content p us) }
+    ensures nested { (p : Known) (us : Trees) → HasNoDelimiter p → AllNest false false us → AreNested false false (sent_content p us) }
     ensures shown { (p : Known) (us : Trees) (rest : Plains) → AreStyledSent p us → AllShow p us → styled_shown (sent_content p us) rest ≡ plains_before us rest }
 {}
 
@@ -149,7 +149,7 @@ pub fn blocks_with_styles_have_their_nodes()
 /// of the block stands, and that no bare URL is directly before a delimiter in the page.
 pub fn texts_sent_in_styles_are_such()
     ensures { (same : Tree → Tree → Bool) (s : Setting) (ls : List (List Item)) (block : Tree) (us : Trees) → s.within ≡ false → AreFlatLines ls
-        → IsBlockOfLines ls block → AreKept (signs_of_lines (length (label block).opening) ls) → AllNest (page_of same block) false false us
+        → IsBlockOfLines ls block → AreKept (signs_of_lines (length (label block).opening) ls) → AllNest false false us
         → AreSomeOf (all_numbers us) (all_numbers (children_of block)) → AreCharacters (signs_in (sent_content (page_of same block) us))
         → AreUrlsApart (things (signs_in (sent_content (page_of same block) us))) → IsStyledContent s (sent_content (page_of same block) us) }
 {}
@@ -164,12 +164,12 @@ pub fn contents_with_styles_may_take_their_place()
         → IsStyledIn k (spelled s (signs_in t)) }
 {}
 
-/// Such a paragraph or heading (`IsStyledIn`), wherever it is in a page, takes any texts beside its nodes, bold and italic ones among them, which
-/// stay with all that they hold (`IsStyledEditOf`). What is sent for it is taken, what is written for it may stand in the place of the old content
+/// Such a paragraph or heading (`IsStyledIn`), wherever it is in a page, takes any texts beside its nodes, bold and italic ones among them, and in
+/// these, which stay or are new (`IsStyledEditOf`). What is sent for it is taken, what is written for it may stand in the place of the old content
 /// and shows what was sent (`MakesContent`), and it is such a block again.
 pub fn styled_contents_are_made()
-    ensures made { (k : TextBlock) (q : List ℕ) (n : ℕ) (before : List Item) (block : Tree) (m : Label) (ps : List Piece) → IsStyledIn k q → 0 < n
+    ensures made { (k : TextBlock) (q : List ℕ) (n : ℕ) (before : List Item) (block : Tree) (m : Label) (ps : Pieces) → IsStyledIn k q → 0 < n
         → block ≡ standing n before (block_tree k q) → IsStyledEditOf k block ps → MakesContent k q block m ps }
-    ensures again { (k : TextBlock) (q : List ℕ) (n : ℕ) (before : List Item) (block : Tree) (m : Label) (ps : List Piece) → IsStyledIn k q → 0 < n
+    ensures again { (k : TextBlock) (q : List ℕ) (n : ℕ) (before : List Item) (block : Tree) (m : Label) (ps : Pieces) → IsStyledIn k q → 0 < n
         → block ≡ standing n before (block_tree k q) → IsStyledEditOf k block ps → IsStyledIn k (new_content k block m ps) }
 {}

@@ -16,7 +16,7 @@ use Rattle.wt_moved_laws.proofs.Placeless.{shown_placeless}
 use Rattle.wt_moved_laws.proofs.Sources.{standing_source}
 use Rattle.wt_typed_blocks.specs.Sent.{Block, paragraph, heading, kind_of, text_in}
 use Rattle.wt_typed_blocks.specs.Typed.{place_of, block_source, Takes}
-use Rattle.wt_typed_blocks.specs.Edited.{Piece, gone, written, kept, page_pieces, sent_pieces, text_node, pieces_before, Edited, stays, edited, round, Edits, no_edits, more_edits, page_node, page_nodes}
+use Rattle.wt_typed_blocks.specs.Edited.{Pieces, no_pieces, gone, written, kept, around, new_style, page_pieces, sent_pieces, text_node, pieces_before, Edited, stays, edited, round, Edits, no_edits, more_edits, page_node, page_nodes}
 use Rattle.wt_typed_blocks.specs.EditedPage.{IsTaken, AreTaken}
 use Rattle.wt_typed_blocks.specs.EditedUnmarked.{AreInline}
 use Rattle.wt_typed_blocks.proofs.AsEdits.{good, marked_node, typed_is}
@@ -47,63 +47,81 @@ use Rattle.wt_called_edit_laws.proofs.TextsMake.{flat_same}
 
 -- ---- one text in the place of all
 
-abbrev text_label : Label → List Piece → Label
-text_label m [] = m
-text_label m (gone t ∷ ps) = text_label m ps
-text_label m (written x text ∷ ps) = x
-text_label m (kept t u ∷ ps) = m
+abbrev text_label : Label → Pieces → Label
+text_label m no_pieces = m
+text_label m (gone t ps) = text_label m ps
+text_label m (written x text ps) = x
+text_label m (kept t u ps) = m
+text_label m (around l n is ps) = m
+text_label m (new_style n is ps) = m
 
-abbrev pub text_of : List Piece → List ℕ
-text_of [] = []
-text_of (gone t ∷ ps) = text_of ps
-text_of (written x text ∷ ps) = text
-text_of (kept t u ∷ ps) = []
+abbrev pub text_of : Pieces → List ℕ
+text_of no_pieces = []
+text_of (gone t ps) = text_of ps
+text_of (written x text ps) = text
+text_of (kept t u ps) = []
+text_of (around l m is ps) = []
+text_of (new_style n is ps) = []
 
-none_sent : (ps : List Piece) → AreGone ps → sent_pieces ps ≡ none
-none_sent [] h = refl
-none_sent (gone t ∷ ps) h = none_sent ps h
-none_sent (written x text ∷ ps) h = absurd h
-none_sent (kept t u ∷ ps) h = absurd h
+none_sent : (ps : Pieces) → AreGone ps → sent_pieces ps ≡ none
+none_sent no_pieces h = refl
+none_sent (gone t ps) h = none_sent ps h
+none_sent (written x text ps) h = absurd h
+none_sent (kept t u ps) h = absurd h
+none_sent (around l m is ps) h = absurd h
+none_sent (new_style n is ps) h = absurd h
 
 alone_is : (x : Label) (text : List ℕ) → text_node x text none ≡ text_in x text
 alone_is x [] = refl
 alone_is x (b ∷ bs) = refl
 
-one_sent : (j : Block) (m : Label) (ps : List Piece) → IsOneText j ps → sent_pieces ps ≡ text_in (text_label m ps) (text_of ps)
-one_sent j m [] h = absurd h
-one_sent j m (gone t ∷ ps) h = one_sent j m ps h
-one_sent j m (written x text ∷ ps) h = ap (text_node x text) (none_sent ps h.2) ∙ alone_is x text
-one_sent j m (kept t u ∷ ps) h = absurd h
+one_sent : (j : Block) (m : Label) (ps : Pieces) → IsOneText j ps → sent_pieces ps ≡ text_in (text_label m ps) (text_of ps)
+one_sent j m no_pieces h = absurd h
+one_sent j m (gone t ps) h = one_sent j m ps h
+one_sent j m (written x text ps) h = ap (text_node x text) (none_sent ps h.2) ∙ alone_is x text
+one_sent j m (kept t u ps) h = absurd h
+one_sent j m (around l n is ps) h = absurd h
+one_sent j m (new_style n is ps) h = absurd h
 
-none_before : (ps : List Piece) (rest : Plains) → AreGone ps → pieces_before ps rest ≡ rest
-none_before [] rest h = refl
-none_before (gone t ∷ ps) rest h = none_before ps rest h
-none_before (written x text ∷ ps) rest h = absurd h
-none_before (kept t u ∷ ps) rest h = absurd h
+none_before : (ps : Pieces) (rest : Plains) → AreGone ps → pieces_before ps rest ≡ rest
+none_before no_pieces rest h = refl
+none_before (gone t ps) rest h = none_before ps rest h
+none_before (written x text ps) rest h = absurd h
+none_before (kept t u ps) rest h = absurd h
+none_before (around l m is ps) rest h = absurd h
+none_before (new_style n is ps) rest h = absurd h
 
-one_before : (j : Block) (ps : List Piece) (rest : Plains) → IsOneText j ps → pieces_before ps rest ≡ text_before (text_of ps) rest
-one_before j [] rest h = absurd h
-one_before j (gone t ∷ ps) rest h = one_before j ps rest h
-one_before j (written x text ∷ ps) rest h = ap (text_before text) (none_before ps rest h.2)
-one_before j (kept t u ∷ ps) rest h = absurd h
+one_before : (j : Block) (ps : Pieces) (rest : Plains) → IsOneText j ps → pieces_before ps rest ≡ text_before (text_of ps) rest
+one_before j no_pieces rest h = absurd h
+one_before j (gone t ps) rest h = one_before j ps rest h
+one_before j (written x text ps) rest h = ap (text_before text) (none_before ps rest h.2)
+one_before j (kept t u ps) rest h = absurd h
+one_before j (around l m is ps) rest h = absurd h
+one_before j (new_style n is ps) rest h = absurd h
 
-gone_inline : (ps : List Piece) → AreGone ps → AreInline ps
-gone_inline [] h = tt
-gone_inline (gone t ∷ ps) h = gone_inline ps h
-gone_inline (written x text ∷ ps) h = absurd h
-gone_inline (kept t u ∷ ps) h = absurd h
+gone_inline : (ps : Pieces) → AreGone ps → AreInline ps
+gone_inline no_pieces h = tt
+gone_inline (gone t ps) h = gone_inline ps h
+gone_inline (written x text ps) h = absurd h
+gone_inline (kept t u ps) h = absurd h
+gone_inline (around l m is ps) h = absurd h
+gone_inline (new_style n is ps) h = absurd h
 
-one_inline : (j : Block) (ps : List Piece) → IsOneText j ps → AreInline ps
-one_inline j [] h = absurd h
-one_inline j (gone t ∷ ps) h = one_inline j ps h
-one_inline j (written x text ∷ ps) h = gone_inline ps h.2
-one_inline j (kept t u ∷ ps) h = absurd h
+one_inline : (j : Block) (ps : Pieces) → IsOneText j ps → AreInline ps
+one_inline j no_pieces h = absurd h
+one_inline j (gone t ps) h = one_inline j ps h
+one_inline j (written x text ps) h = gone_inline ps h.2
+one_inline j (kept t u ps) h = absurd h
+one_inline j (around l m is ps) h = absurd h
+one_inline j (new_style n is ps) h = absurd h
 
-one_fits : (j : Block) (ps : List Piece) → IsOneText j ps → IsUtf8 (text_of ps) × Takes j (text_of ps)
-one_fits j [] h = absurd h
-one_fits j (gone t ∷ ps) h = one_fits j ps h
-one_fits j (written x text ∷ ps) h = (h.0, h.1)
-one_fits j (kept t u ∷ ps) h = absurd h
+one_fits : (j : Block) (ps : Pieces) → IsOneText j ps → IsUtf8 (text_of ps) × Takes j (text_of ps)
+one_fits j no_pieces h = absurd h
+one_fits j (gone t ps) h = one_fits j ps h
+one_fits j (written x text ps) h = (h.0, h.1)
+one_fits j (kept t u ps) h = absurd h
+one_fits j (around l m is ps) h = absurd h
+one_fits j (new_style n is ps) h = absurd h
 
 -- ---- the page's block, wherever it is
 
@@ -127,14 +145,14 @@ block_flat : (j : Block) (l : Label) (us : Trees) → block_source l us ≡ flat
 block_flat paragraph l us = refl
 block_flat (heading n) l us = refl
 
-old_source : (k : TextBlock) (q : List ℕ) (l m : Label) (ps : List Piece) → IsStanding (block_tree k q) (page_node (edited (block_of k) l m ps))
+old_source : (k : TextBlock) (q : List ℕ) (l m : Label) (ps : Pieces) → IsStanding (block_tree k q) (page_node (edited (block_of k) l m ps))
     → block_source l (page_pieces ps) ≡ source_of k q
 old_source k q l m ps h =
     block_flat (block_of k) l (page_pieces ps) ∙ ap flat h.is ∙ standing_source h.number h.before (block_tree k q) ∙ source_is k q
 
 -- ---- with this text
 
-pub text_content : (k : TextBlock) (q : List ℕ) (l m : Label) (ps : List Piece) → IsContent k q → IsStanding (block_tree k q) (page_node (edited (block_of k) l m ps))
+pub text_content : (k : TextBlock) (q : List ℕ) (l m : Label) (ps : Pieces) → IsContent k q → IsStanding (block_tree k q) (page_node (edited (block_of k) l m ps))
     → IsOneText (block_of k) ps → content_of (edited (block_of k) l m ps) ≡ typed_as (block_of k) (source_of k q) (text_of ps)
 text_content k q l m ps c h one =
     let j : Block = block_of k in
@@ -153,7 +171,7 @@ block_shows k q text rest u again =
     let new : List ℕ = typed_as (block_of k) q text in
     typed_shown k q text rest u (block_own k new again) ∙ ap (λ b. plain_before (standing 0 [] b) rest) (sym (block_leaves k new again))
 
-text_made : (k : TextBlock) (q : List ℕ) (l m : Label) (ps : List Piece) → IsContent k q → IsStanding (block_tree k q) (page_node (edited (block_of k) l m ps))
+text_made : (k : TextBlock) (q : List ℕ) (l m : Label) (ps : Pieces) → IsContent k q → IsStanding (block_tree k q) (page_node (edited (block_of k) l m ps))
     → IsOneText (block_of k) ps → MakesContent k q (page_node (edited (block_of k) l m ps)) m ps
 text_made k q l m ps c h one =
     let j : Block = block_of k in
@@ -195,7 +213,7 @@ pub record IsMade (k : TextBlock) (q : List ℕ) (e : Edited) : Type 0 where
   pub new : IsNewContent k q (content_of e)
   pub makes : MakesNode e (placeless (standing 0 [] (block_tree k (content_of e))))
 
-as_made : (k : TextBlock) (q : List ℕ) (l m : Label) (ps : List Piece) → MakesContent k q (page_node (edited (block_of k) l m ps)) m ps
+as_made : (k : TextBlock) (q : List ℕ) (l m : Label) (ps : Pieces) → MakesContent k q (page_node (edited (block_of k) l m ps)) m ps
     → IsMade k q (edited (block_of k) l m ps)
 as_made k q l m ps h =
     let now : List ℕ = content_of (edited (block_of k) l m ps) in
@@ -209,7 +227,7 @@ as_made k q l m ps h =
       };
     }
 
-own_made : (k : TextBlock) (q : List ℕ) (l m : Label) (ps : List Piece) → IsContent k q → IsStanding (block_tree k q) (page_node (edited (block_of k) l m ps))
+own_made : (k : TextBlock) (q : List ℕ) (l m : Label) (ps : Pieces) → IsContent k q → IsStanding (block_tree k q) (page_node (edited (block_of k) l m ps))
     → Fits k q (edited (block_of k) l m ps) → IsMade k q (edited (block_of k) l m ps)
 own_made k q l m ps c h (inl one) = as_made k q l m ps (text_made k q l m ps c h one)
 own_made k q l m ps c h (inr (inl (f, e))) =
@@ -217,7 +235,7 @@ own_made k q l m ps c h (inr (inl (f, e))) =
 own_made k q l m ps c h (inr (inr (f, e))) =
     as_made k q l m ps (styled_makes k q h.number h.before (page_node (edited (block_of k) l m ps)) m ps f h.some h.is e)
 
-edited_made : (k : TextBlock) (q : List ℕ) (j : Block) (l m : Label) (ps : List Piece) → IsContent k q → IsStanding (block_tree k q) (page_node (edited j l m ps))
+edited_made : (k : TextBlock) (q : List ℕ) (j : Block) (l m : Label) (ps : Pieces) → IsContent k q → IsStanding (block_tree k q) (page_node (edited j l m ps))
     → Fits k q (edited j l m ps) → IsMade k q (edited j l m ps)
 edited_made k q j l m ps c h f =
     let e : j ≡ block_of k = same_block j (block_of k) (standing_kind k q (page_node (edited j l m ps)) h) in

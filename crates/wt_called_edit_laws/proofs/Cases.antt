@@ -5,7 +5,7 @@ use Rattle.wt_tree.specs.declared.kind.Kind.TheVariants as kind
 use Rattle.wt_tree.specs.declared.row.Texts.TheVariants.{Bordered}
 use Rattle.wt_tree.specs.Leaves.{leaf_label, text_leaf, sep_leaf}
 use Rattle.wt_tree.specs.Tree.{Label, none}
-use Rattle.wt_typed_blocks.specs.Edited.{gone, written, Edited, stays, edited, Edits, no_edits, more_edits}
+use Rattle.wt_typed_blocks.specs.Edited.{no_pieces, gone, written, Edited, stays, edited, Edits, no_edits, more_edits}
 use Rattle.wt_typed_blocks.specs.Sent.{paragraph}
 use Rattle.wt_called_trees.specs.TreeFrames.{spot, kept, holder, TreeFrames, no_nodes, more_nodes}
 use Rattle.wt_called_edit_laws.specs.PathsTo.{paths_to}
@@ -28,7 +28,7 @@ two_nodes = more_nodes (spot 0) (more_nodes (kept (sep_leaf None (codes "\n"))) 
 
 -- one text in the place of another one
 abbrev one_edit : Edited
-one_edit = edited paragraph a_label a_label (gone (text_leaf None (codes "a")) ∷ written a_label (codes "b") ∷ [])
+one_edit = edited paragraph a_label a_label (gone (text_leaf None (codes "a")) (written a_label (codes "b") no_pieces))
 
 abbrev one_edited : Edits
 one_edited = more_edits one_edit (more_edits (stays (sep_leaf None (codes "\n")) (sep_leaf None (codes "\n"))) no_edits)

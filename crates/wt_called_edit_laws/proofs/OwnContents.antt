@@ -6,7 +6,7 @@ use Rattle.wt_tree.specs.Tree.{Label, Tree, tree, Trees, none, more, label}
 use Rattle.wt_checks.specs.Kept.{children}
 use Rattle.wt_typed_blocks.specs.Sent.{Block, kind_of, Sent, stands, typed, holds, Sents, none_sent, more_sent}
 use Rattle.wt_typed_blocks.specs.Typed.{Takes}
-use Rattle.wt_typed_blocks.specs.Edited.{Piece, page_pieces, Edited, stays, edited, round, Edits, no_edits, more_edits, page_node, page_nodes, IsEdited, AreEdited}
+use Rattle.wt_typed_blocks.specs.Edited.{Pieces, page_pieces, Edited, stays, edited, round, Edits, no_edits, more_edits, page_node, page_nodes, IsEdited, AreEdited}
 use Rattle.wt_typed_blocks.proofs.AsEdits.{as_edited, as_edits}
 use Rattle.wt_text_edit_laws.specs.BlockSpots.{BlockSpot}
 use Rattle.wt_text_edit_laws.specs.OwnNodes.{IsTypedSpot}
@@ -27,7 +27,7 @@ use Rattle.wt_called_edit_laws.proofs.TextContents.{as_contents}
 
 -- ---- other pieces in the place of those that were sent
 
-abbrev with_pieces : Option (List Piece) → Block → Label → Label → List Piece → Edited
+abbrev with_pieces : Option Pieces → Block → Label → Label → Pieces → Edited
 with_pieces None k l m ps = edited k l m ps
 with_pieces (Some qs) k l m ps = edited k l m qs
 
@@ -43,20 +43,20 @@ abbrev mutual
 
 -- ---- what is sent at a path
 
-abbrev with_one : Option (List Piece) → Edited → Edited
+abbrev with_one : Option Pieces → Edited → Edited
 with_one c (stays t u) = stays t u
 with_one c (edited k l m ps) = with_pieces c k l m ps
 with_one c (round l m es) = round l m es
 
-abbrev with_chosen : Option (List Piece) → Option Edited → Option Edited
+abbrev with_chosen : Option Pieces → Option Edited → Option Edited
 with_chosen c None = None
 with_chosen c (Some e) = Some (with_one c e)
 
-edited_here : (c : Option (List Piece)) (k : Block) (l m : Label) (ps : List Piece) → edited_at [] (with_pieces c k l m ps) ≡ Some (with_pieces c k l m ps)
+edited_here : (c : Option Pieces) (k : Block) (l m : Label) (ps : Pieces) → edited_at [] (with_pieces c k l m ps) ≡ Some (with_pieces c k l m ps)
 edited_here None k l m ps = refl
 edited_here (Some qs) k l m ps = refl
 
-none_below : (c : Option (List Piece)) (i : ℕ) (is : List ℕ) (k : Block) (l m : Label) (ps : List Piece) → edited_at (i ∷ is) (with_pieces c k l m ps) ≡ None
+none_below : (c : Option Pieces) (i : ℕ) (is : List ℕ) (k : Block) (l m : Label) (ps : Pieces) → edited_at (i ∷ is) (with_pieces c k l m ps) ≡ None
 none_below None i is k l m ps = refl
 none_below (Some qs) i is k l m ps = refl
 
@@ -79,7 +79,7 @@ by_changed at es (i ∷ is) = among_changed at i is es
 
 -- ---- it is of the same page
 
-pieces_page : (c : Option (List Piece)) (k : Block) (l m : Label) (ps : List Piece) (ts : Trees) → page_pieces ps ≡ ts → AreOfNodes c ts
+pieces_page : (c : Option Pieces) (k : Block) (l m : Label) (ps : Pieces) (ts : Trees) → page_pieces ps ≡ ts → AreOfNodes c ts
     → page_node (with_pieces c k l m ps) ≡ page_node (edited k l m ps)
 pieces_page None k l m ps ts e h = refl
 pieces_page (Some qs) k l m ps ts e h = ap (tree (record l { kind = kind_of k })) (h.0 ∙ sym e)
@@ -100,7 +100,7 @@ mutual
 
 -- ---- it is sent so
 
-pieces_edited : (c : Option (List Piece)) (k : Block) (l m : Label) (ps : List Piece) (ts : Trees) → AreOfNodes c ts → IsEdited (edited k l m ps)
+pieces_edited : (c : Option Pieces) (k : Block) (l m : Label) (ps : Pieces) (ts : Trees) → AreOfNodes c ts → IsEdited (edited k l m ps)
     → IsEdited (with_pieces c k l m ps)
 pieces_edited None k l m ps ts h g = g
 pieces_edited (Some qs) k l m ps ts h g = (g.0, h.1)
@@ -119,7 +119,7 @@ mutual
     all_edited (λ p. at (past_first p)) es ts (same_rest (page_node e) t (page_nodes es) ts is) h.1 g.1,
   )
 
-pieces_only : (c : Option (List Piece)) (k : Block) (l m : Label) (ps : List Piece) (qs : List (List ℕ)) → EditsOnly qs (edited k l m ps)
+pieces_only : (c : Option Pieces) (k : Block) (l m : Label) (ps : Pieces) (qs : List (List ℕ)) → EditsOnly qs (edited k l m ps)
     → EditsOnly qs (with_pieces c k l m ps)
 pieces_only None k l m ps qs h = h
 pieces_only (Some rs) k l m ps qs h = h
@@ -137,7 +137,7 @@ mutual
 
 -- ---- the contents fit
 
-fits_here : (c : Option (List Piece)) (s : BlockSpot) (j : Block) (l m : Label) (ps : List Piece) → IsStanding (block_tree s.block s.text) (page_node (edited j l m ps))
+fits_here : (c : Option Pieces) (s : BlockSpot) (j : Block) (l m : Label) (ps : Pieces) → IsStanding (block_tree s.block s.text) (page_node (edited j l m ps))
     → FitChosen s.block s.text c → Fits s.block s.text (edited j l m ps) → Fits s.block s.text (with_pieces c j l m ps)
 fits_here None s j l m ps h f g = g
 fits_here (Some qs) s j l m ps h f g =
@@ -145,7 +145,7 @@ fits_here (Some qs) s j l m ps h f g =
     subst (λ (i : Block). Fits s.block s.text (edited i l m qs)) (sym e) (f l m)
 
 mutual
-  fits_to : (c : Option (List Piece)) (s : BlockSpot) (p : List ℕ) (t : Tree) (e : Edited) → StandsTo (block_tree s.block s.text) p t → page_node e ≡ t
+  fits_to : (c : Option Pieces) (s : BlockSpot) (p : List ℕ) (t : Tree) (e : Edited) → StandsTo (block_tree s.block s.text) p t → page_node e ≡ t
       → FitChosen s.block s.text c → FitsSpot s (edited_at p e) → FitsSpot s (with_chosen c (edited_at p e))
   fits_to c s p t (stays u v) h is f g = tt
   fits_to c s [] t (edited j l m ps) h is f g = fits_here c s j l m ps (subst (IsStanding (block_tree s.block s.text)) (sym is) h) f g
@@ -153,7 +153,7 @@ mutual
   fits_to c s [] t (round l m es) h is f g = tt
   fits_to c s (i ∷ js) (tree n ts) (round l m es) h is f g = fits_among c s i js ts es h (same_inside l n (page_nodes es) ts is) f g
 
-  fits_among : (c : Option (List Piece)) (s : BlockSpot) (i : ℕ) (js : List ℕ) (ts : Trees) (es : Edits) → StandsAmong (block_tree s.block s.text) i js ts
+  fits_among : (c : Option Pieces) (s : BlockSpot) (i : ℕ) (js : List ℕ) (ts : Trees) (es : Edits) → StandsAmong (block_tree s.block s.text) i js ts
       → page_nodes es ≡ ts → FitChosen s.block s.text c → FitsSpot s (edited_among i js es) → FitsSpot s (with_chosen c (edited_among i js es))
   fits_among c s i js none es h is f g = absurd h
   fits_among c s zero js (more t ts) no_edits h is f g = tt
@@ -161,7 +161,7 @@ mutual
   fits_among c s zero js (more t ts) (more_edits e es) h is f g = fits_to c s js t e h (same_first (page_node e) t (page_nodes es) ts is) f g
   fits_among c s (suc i) js (more t ts) (more_edits e es) h is f g = fits_among c s i js ts es h (same_rest (page_node e) t (page_nodes es) ts is) f g
 
-fits_by : (c : Option (List Piece)) (s : BlockSpot) (p : List ℕ) (t : Tree) (es : Edits) → StandsTo (block_tree s.block s.text) p t → page_nodes es ≡ children t
+fits_by : (c : Option Pieces) (s : BlockSpot) (p : List ℕ) (t : Tree) (es : Edits) → StandsTo (block_tree s.block s.text) p t → page_nodes es ≡ children t
     → FitChosen s.block s.text c → FitsSpot s (edited_by es p) → FitsSpot s (with_chosen c (edited_by es p))
 fits_by c s [] t es h is f g = tt
 fits_by c s (i ∷ js) (tree n ts) es h is f g = fits_among c s i js ts es h is f g
@@ -179,7 +179,7 @@ all_fit at (s ∷ ss) (p ∷ ps) t es h is f g = (
 -- ---- which are the chosen ones
 
 -- where others are chosen, nothing is typed first
-abbrev emptied : Option (List Piece) → Option (List ℕ)
+abbrev emptied : Option Pieces → Option (List ℕ)
 emptied None = None
 emptied (Some ps) = Some []
 
@@ -209,7 +209,7 @@ agree_by : (ss : Sents) (p : List ℕ) → Agree (typed_by ss p) (edited_by (as_
 agree_by ss [] = tt
 agree_by ss (i ∷ is) = agree_among i is ss
 
-chosen_is : (c : Option (List Piece)) (o : Option (List ℕ)) (x : Option Edited) → Agree o x → o ≡ emptied c → pieces_of (with_chosen c x) ≡ c
+chosen_is : (c : Option Pieces) (o : Option (List ℕ)) (x : Option Edited) → Agree o x → o ≡ emptied c → pieces_of (with_chosen c x) ≡ c
 chosen_is None None None a e = refl
 chosen_is None None (Some d) a e = absurd a
 chosen_is None (Some text) x a e = absurd (cc)
@@ -225,7 +225,7 @@ all_chosen at ss [] e = refl
 all_chosen at ss (p ∷ ps) e =
     let first : typed_by ss p ≡ emptied (at p) = cc in
     let rest : map (typed_by ss) ps ≡ map (λ p. emptied (at p)) ps = cc in
-    ap₂ (λ (x : Option (List Piece)) (xs : List (Option (List Piece))). x ∷ xs)
+    ap₂ (λ (x : Option Pieces) (xs : List (Option Pieces)). x ∷ xs)
     (ap pieces_of (by_changed at (as_edits ss) p) ∙ chosen_is (at p) (typed_by ss p) (edited_by (as_edits ss) p) (agree_by ss p) first)
     (all_chosen at ss ps rest)
 
@@ -239,7 +239,7 @@ nothing_fits : (k : TextBlock) → Takes (block_of k) []
 nothing_fits a_paragraph = tt
 nothing_fits (a_heading s) = refl
 
-spot_typed : (k : TextBlock) (c : Option (List Piece)) → IsTypedSpot k (emptied c)
+spot_typed : (k : TextBlock) (c : Option Pieces) → IsTypedSpot k (emptied c)
 spot_typed k None = tt
 spot_typed k (Some ps) = (nothing_utf8, nothing_fits k)
 

@@ -2,14 +2,14 @@
 use Rattle.std.specs.Prelude.{◌≡◌, ℕ, zero, suc, Option, Some, None, List, [], ◌∷◌, map}
 use Rattle.wt_tree.specs.Tree.{Label, Tree, tree, Trees, none, more}
 use Rattle.wt_checks.specs.Kept.{children}
-use Rattle.wt_typed_blocks.specs.Edited.{Piece, page_pieces, PiecesStay, Edited, stays, edited, round, Edits}
+use Rattle.wt_typed_blocks.specs.Edited.{Pieces, page_pieces, PiecesStay, Edited, stays, edited, round, Edits}
 use Rattle.wt_text_edit_laws.specs.BlockSpots.{BlockSpot}
 use Rattle.wt_text_edit_laws.specs.TextBlocks.{TextBlock, block_of}
 use Rattle.wt_called_edit_laws.specs.EditsAt.{edited_by, Fits, IsContentEdit}
 
 -- for each path the pieces that are sent for the block there; or it stays
 abbrev pub Choice : Type 0
-Choice = List ℕ → Option (List Piece)
+Choice = List ℕ → Option Pieces
 
 -- ---- of which nodes the pieces are
 
@@ -19,7 +19,7 @@ past_first [] = []
 past_first (i ∷ is) = suc i ∷ is
 
 -- each of these nodes stays, sent as it is, or is gone
-abbrev pub AreOfNodes : Option (List Piece) → Trees → Type 0
+abbrev pub AreOfNodes : Option Pieces → Trees → Type 0
 AreOfNodes None ts = Unit {0}
 AreOfNodes (Some ps) ts = (page_pieces ps ≡ ts) × PiecesStay ps
 
@@ -34,7 +34,7 @@ abbrev mutual
 
 -- ---- which may be sent
 
-abbrev pub FitChosen : TextBlock → List ℕ → Option (List Piece) → Type 0
+abbrev pub FitChosen : TextBlock → List ℕ → Option Pieces → Type 0
 FitChosen k q None = Unit {0}
 FitChosen k q (Some ps) = (l m : Label) → Fits k q (edited (block_of k) l m ps)
 
@@ -45,7 +45,7 @@ AllFitChosen at (s ∷ ss) (p ∷ ps) = FitChosen s.block s.text (at p) × AllFi
 
 -- ---- the edit
 
-abbrev pub pieces_of : Option Edited → Option (List Piece)
+abbrev pub pieces_of : Option Edited → Option Pieces
 pieces_of None = None
 pieces_of (Some (stays t u)) = None
 pieces_of (Some (edited k l m ps)) = Some ps

@@ -12,7 +12,7 @@ use Rattle.wt_visible.specs.SameNodes.{same_node}
 use Rattle.wt_moved_laws.specs.Standing.{standing}
 use Rattle.wt_typed_blocks.specs.Sent.{Block}
 use Rattle.wt_typed_blocks.specs.Typed.{place_of, Takes}
-use Rattle.wt_typed_blocks.specs.Edited.{Piece, gone, written, kept, Edited, stays, edited, round, Edits, no_edits, more_edits, page_node, page_nodes, sent_node, AreEdited, sent_body}
+use Rattle.wt_typed_blocks.specs.Edited.{Pieces, no_pieces, gone, written, kept, around, new_style, Edited, stays, edited, round, Edits, no_edits, more_edits, page_node, page_nodes, sent_node, AreEdited, sent_body}
 use Rattle.wt_typed_blocks.specs.EditedUnmarked.{bare_node, bare_body}
 use Rattle.wt_text_edit_laws.specs.BlockSpots.{BlockSpot, spots_source}
 use Rattle.wt_text_edit_laws.specs.TextBlocks.{TextBlock, block_tree}
@@ -100,21 +100,25 @@ edited_page ss behind paths es = spots_source (with_contents ss (map (edited_by 
 
 -- ---- which contents may be sent
 
-abbrev pub AreGone : List Piece → Type 0
-AreGone [] = Unit {0}
-AreGone (gone t ∷ ps) = AreGone ps
-AreGone (written x text ∷ ps) = ⊥
-AreGone (kept t u ∷ ps) = ⊥
+abbrev pub AreGone : Pieces → Type 0
+AreGone no_pieces = Unit {0}
+AreGone (gone t ps) = AreGone ps
+AreGone (written x text ps) = ⊥
+AreGone (kept t u ps) = ⊥
+AreGone (around l m is ps) = ⊥
+AreGone (new_style m is ps) = ⊥
 
 -- one text in the place of all that the block held
-abbrev pub IsOneText : Block → List Piece → Type 0
-IsOneText k [] = ⊥
-IsOneText k (gone t ∷ ps) = IsOneText k ps
-IsOneText k (written x text ∷ ps) = IsUtf8 text × Takes k text × AreGone ps
-IsOneText k (kept t u ∷ ps) = ⊥
+abbrev pub IsOneText : Block → Pieces → Type 0
+IsOneText k no_pieces = ⊥
+IsOneText k (gone t ps) = IsOneText k ps
+IsOneText k (written x text ps) = IsUtf8 text × Takes k text × AreGone ps
+IsOneText k (kept t u ps) = ⊥
+IsOneText k (around l m is ps) = ⊥
+IsOneText k (new_style m is ps) = ⊥
 
 -- One text in the place of all that the block held; or, where its content is flat, nodes of it as they are, and any texts between them; or so, where
--- bold and italic are in it, which stay whole.
+-- bold and italic are in it, which stay, with any texts in them, or are new.
 abbrev pub Fits : TextBlock → List ℕ → Edited → Type 0
 Fits k q (stays t u) = ⊥
 Fits k q (edited j l m ps) =

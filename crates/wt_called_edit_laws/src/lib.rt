@@ -224,8 +224,8 @@ pub fn edited_contents_at_places_are_told_apart()
 /// The contents of any number of paragraphs and headings at once, which are among any calls and which no group holds, in
 /// the body, in cells and in captions. Each is at a path of the page's tree. An edit may put one text in the place of all
 /// that a block holds; in a block whose content is flat (`IsFlatIn` of `wt_beside_laws`), or flat but for bold and italic
-/// (`IsStyledIn`), it may also type texts beside the nodes that it holds, delete and change texts, and delete nodes. It
-/// is done: the new page has these contents, as they are spelled, and every other byte is what it was; unless it is
+/// (`IsStyledIn`), it may also type texts beside the nodes that it holds, delete and change texts, and delete nodes; so it
+/// may in bold and italic, which may also be new. It is done: the new page has these contents, as they are spelled, and every other byte is what it was; unless it is
 /// longer than a page may be. Without marks, too, where each edited block shows something else. For any such contents
 /// there is such an edit. The new page is such a page again.
 #[tactic(auto, using(crate::proofs::CallsTake::contents_taken))]

@@ -19,7 +19,7 @@ use Rattle.wt_selser.specs.Edits.{is_tangled}
 use Rattle.wt_typed_blocks.specs.Sent.{Block, paragraph, heading, kind_of, text_in, Sent, stands, typed, holds, Sents, none_sent, more_sent, old_child, new_child, old_children, new_children, IsSent, AreSent, IsOutsideGroups, AreOutsideGroups, old_body, new_body, shows_before, show_before}
 use Rattle.wt_typed_blocks.specs.Typed.{place_of, block_source, new_source, new_sources, Takes, TakesText, TakeTexts, old_source, StandsAt, StandAt, IsUntangled, AreUntangled}
 use Rattle.wt_typed_blocks.specs.Unmarked.{free_child, free_children, free_body, HoldInBlocks, IsToldApart, AreToldApart}
-use Rattle.wt_typed_blocks.specs.Edited.{Piece, gone, written, page_pieces, sent_pieces, PiecesStay, pieces_before, Edited, stays, edited, round, Edits, no_edits, more_edits, page_node, page_nodes, sent_node, sent_nodes, IsEdited, AreEdited, IsOutside, AreOutside, page_body, sent_body, edited_before, edits_before}
+use Rattle.wt_typed_blocks.specs.Edited.{Pieces, no_pieces, gone, written, page_pieces, sent_pieces, PiecesStay, pieces_before, Edited, stays, edited, round, Edits, no_edits, more_edits, page_node, page_nodes, sent_node, sent_nodes, IsEdited, AreEdited, IsOutside, AreOutside, page_body, sent_body, edited_before, edits_before}
 use Rattle.wt_typed_blocks.specs.EditedPage.{edited_source, edited_sources, IsTaken, AreTaken, page_source, LiesAt, LieAt, IsApart, AreApart}
 use Rattle.wt_typed_blocks.specs.EditedUnmarked.{bare_node, bare_nodes, bare_body, AreRoundInBlocks, AreInline, IsTold, AreTold}
 use Rattle.wt_typed_blocks.proofs.EditedShows.{shown_same}
@@ -27,9 +27,9 @@ use Rattle.wt_typed_blocks.proofs.EditedShows.{shown_same}
 -- ---- what is sent
 
 -- a text in place of these nodes
-abbrev pub replaced : Trees → Label → List ℕ → List Piece
-replaced none x text = written x text ∷ []
-replaced (more t ts) x text = gone t ∷ replaced ts x text
+abbrev pub replaced : Trees → Label → List ℕ → Pieces
+replaced none x text = written x text no_pieces
+replaced (more t ts) x text = gone t (replaced ts x text)
 
 abbrev mutual
   pub as_edited : Sent → Edited

@@ -1,5 +1,5 @@
 -- Worked cases, by computing: the page of a paragraph, an empty line and a heading, in which texts are typed.
-use Rattle.std.proofs.Common.{◌≡◌, ℕ, ◌+◌, true, List, [], ◌∷◌, refl, arith}
+use Rattle.std.proofs.Common.{inr, ◌≡◌, ℕ, ◌+◌, true, List, [], refl, arith}
 use Rattle.std.specs.Prelude.{None, Some, codes}
 use Rattle.std.specs.Fmt.{digits}
 use Rattle.std.specs.Str.{chars}
@@ -15,7 +15,7 @@ use Rattle.wt_guards.specs.Table.{hazard, line_start_hazard}
 use Rattle.wt_typed_blocks.specs.Sent.{StandsAsIs, paragraph, heading, Sent, stands, typed, holds, Sents, none_sent, more_sent, old_children, IsSent, AreSent, all_show}
 use Rattle.wt_original.specs.Kept.{kept_with}
 use Rattle.wt_link_spelling.specs.Spelling.{inline_spelling}
-use Rattle.wt_typed_blocks.specs.Edited.{gone, written, kept, edited, Edits, no_edits, more_edits, page_nodes, AreEdited, edits_show}
+use Rattle.wt_typed_blocks.specs.Edited.{no_pieces, gone, written, kept, around, new_style, edited, Edits, no_edits, more_edits, page_nodes, AreEdited, edits_show}
 use Rattle.wt_typed_blocks.specs.EditedPage.{edited_sources}
 use Rattle.wt_typed_blocks.specs.Typed.{new_sources, TakeTexts, StandAt}
 use Rattle.wt_typed_blocks.specs.Unmarked.{IsToldApart, AreToldApart}
@@ -239,9 +239,8 @@ abbrev beside_link : List ℕ → Edits
 beside_link bs = more_edits
     (edited paragraph linked_block (sent_label kind.Para 0 [])
     (gone (tree (a_label kind.Text 0 0 2 0 [] (codes "a ")) none)
-    ∷ written (sent_label kind.Text 0 []) bs
-    ∷ kept (tree link_label (words 4 5 (codes "b"))) (tree (sent_label kind.WikiLink 2 []) (sent_words (codes "b")))
-    ∷ []))
+    (written (sent_label kind.Text 0 []) bs
+    (kept (tree link_label (words 4 5 (codes "b"))) (tree (sent_label kind.WikiLink 2 []) (sent_words (codes "b"))) no_pieces))))
     no_edits
 
 link_page : flat_of_all (page_nodes (beside_link (codes "x"))) ≡ codes "a [[b]]"
@@ -261,3 +260,62 @@ link_shows = refl
 link_new_page : edited_sources (λ t u. true) (beside_link (codes "x")) ≡ codes "x[[b]]"
 unfolding inline_spelling kept_with is_guarded is_between_guard is_start_guard is_end_guard is_blank_guard is_parted hazard line_start_hazard nowiki is_escaped reference digits chars lib.Utf8.encode
 link_new_page = refl
+
+-- ---- the page `a ''b''`, in which `x` is typed in place of `b`, in the italic node, which stays
+
+abbrev italic_label : Label
+italic_label = record (a_label kind.Italic 2 2 7 2 [] []) { opening = codes "''"; closing = codes "''" }
+
+abbrev in_italic : List ℕ → Edits
+in_italic bs = more_edits
+    (edited paragraph linked_block (sent_label kind.Para 0 [])
+    (kept (tree (a_label kind.Text 0 0 2 0 [] (codes "a ")) none) (tree (sent_label kind.Text 0 (codes "a ")) none)
+    (around italic_label (sent_label kind.Italic 2 [])
+    (gone (tree (a_label kind.Text 0 4 5 0 [] (codes "b")) none) (written (sent_label kind.Text 0 []) bs no_pieces)) no_pieces)))
+    no_edits
+
+italic_page : flat_of_all (page_nodes (in_italic (codes "x"))) ≡ codes "a ''b''"
+italic_page = refl
+
+italic_sent : AreEdited (in_italic (codes "x"))
+italic_sent = (
+  (
+    omega arith,
+    (
+      (record { kind = refl; id = refl; attrs = refl; mw = refl; shown = λ e. refl; unmarked = refl }, tt),
+      (inr refl, record { kind = refl; id = refl; attrs = refl; mw = refl; shown = λ e. refl; unmarked = refl }, tt, tt),
+    ),
+  ),
+  tt,
+)
+
+italic_shows : edits_show (in_italic (codes "x"))
+    ≡ along (element (record { kind = kind.Para; attrs = []; mw = None })
+    (along (text (codes "a ")) (along (element (record { kind = kind.Italic; attrs = []; mw = None }) (along (text (codes "x")) ended)) ended))) ended
+italic_shows = refl
+
+italic_new_page : edited_sources (λ t u. true) (in_italic (codes "x")) ≡ codes "a ''x''"
+unfolding inline_spelling kept_with is_guarded is_between_guard is_start_guard is_end_guard is_blank_guard is_parted hazard line_start_hazard nowiki is_escaped reference digits chars lib.Utf8.encode
+italic_new_page = refl
+
+-- ---- the page `a b`, in which `b` is made italic
+
+abbrev made_italic : List ℕ → Edits
+made_italic bs = more_edits
+    (edited paragraph (a_label kind.Para 1 0 3 0 [] []) (sent_label kind.Para 0 [])
+    (gone (tree (a_label kind.Text 0 0 3 0 [] (codes "a b")) none)
+    (written (sent_label kind.Text 0 []) (codes "a ")
+    (new_style (sent_label kind.Italic 0 []) (written (sent_label kind.Text 0 []) bs no_pieces) no_pieces))))
+    no_edits
+
+made_sent : AreEdited (made_italic (codes "b"))
+made_sent = ((omega arith, (inr refl, tt, tt)), tt)
+
+made_shows : edits_show (made_italic (codes "b"))
+    ≡ along (element (record { kind = kind.Para; attrs = []; mw = None })
+    (along (text (codes "a ")) (along (element (record { kind = kind.Italic; attrs = []; mw = None }) (along (text (codes "b")) ended)) ended))) ended
+made_shows = refl
+
+made_new_page : edited_sources (λ t u. true) (made_italic (codes "b")) ≡ codes "a ''b''"
+unfolding inline_spelling kept_with is_guarded is_between_guard is_start_guard is_end_guard is_blank_guard is_parted hazard line_start_hazard nowiki is_escaped reference digits chars lib.Utf8.encode
+made_new_page = refl

@@ -24,8 +24,9 @@ use Rattle.wt_checks.proofs.Lookups.{each_split, each_join}
 use Rattle.wt_checks.proofs.Repeated.{or_false}
 use Rattle.wt_checks.proofs.WhatIsKept.{increasing, unrefused}
 use Rattle.wt_typed_blocks.specs.Sent.{IsSentAsIs, GroupIsSent, StandsAsIs, AllStandAsIs, Block, paragraph, heading, kind_of}
-use Rattle.wt_typed_blocks.specs.Edited.{Piece, gone, written, kept, page_pieces, text_node, sent_pieces, PiecesStay, Edited, stays, edited, round, Edits, no_edits, more_edits, page_node, page_nodes, sent_node, sent_nodes, IsEdited, AreEdited, IsOutside, AreOutside, page_body, sent_body}
-use Rattle.wt_typed_blocks.proofs.SentGroups.{in_group, no_mark, all_new, new_under, new_groups, new_nodes}
+use Rattle.wt_typed_blocks.specs.Edited.{Pieces, no_pieces, gone, written, kept, around, new_style, as_new, page_pieces, text_node, sent_pieces, PiecesStay, Edited, stays, edited, round, Edits, no_edits, more_edits, page_node, page_nodes, sent_node, sent_nodes, IsEdited, AreEdited, IsOutside, AreOutside, page_body, sent_body}
+use Rattle.wt_typed_blocks.proofs.SentFrames.{pieces_markless}
+use Rattle.wt_typed_blocks.proofs.SentGroups.{in_group, style_ungrouped, placed_appended, no_mark, all_new, new_under, new_groups, new_nodes}
 
 -- ---- numbers in their order
 
@@ -63,21 +64,30 @@ both_under false i xs ys h = h
 none_sublist : (xs ys : List ℕ) → xs ≡ [] → IsSublist xs ys
 none_sublist xs ys e = subst (λ (zs : List ℕ). IsSublist zs ys) (sym e) tt
 
+-- a node that is sent as it is, but for what it holds
+holder_under : (n m : ℕ) (v w : Bool) (l k : Label) (ts us : Trees) → IsSentAsIs l k
+    → IsSublist (kept_under n (all_placed (parent_below m l.id) (w || is_content k.mark) us)) (kept_under n (all_placed (parent_below m l.id) (v || is_content l.mark) ts))
+    → IsSublist (kept_under n (placed m w (tree k us))) (kept_under n (placed m v (tree l ts)))
+holder_under n m v w l k ts us h some =
+    let c : Bool = w || is_content k.mark in
+    let d : Bool = v || is_content l.mark in
+    let ys : List ℕ = kept_under n (all_placed (parent_below m l.id) d ts) in
+    let P : ℕ → Type 0 = λ i. IsSublist
+    (if not (i == 0) && m == n then i ∷ kept_under n (all_placed (parent_below m i) c us) else kept_under n (all_placed (parent_below m i) c us))
+    (if not (l.id == 0) && m == n then l.id ∷ ys else ys) in
+    subst P (sym h.id) (both_under (not (l.id == 0) && m == n) l.id (kept_under n (all_placed (parent_below m l.id) c us)) ys some)
+
 mutual
   some_under : (n m : ℕ) (v w : Bool) (t u : Tree) → StandsAsIs t u → IsSublist (kept_under n (placed m w u)) (kept_under n (placed m v t))
   some_under n m v w (tree l ts) (tree k us) h =
       let c : Bool = w || is_content k.mark in
       let d : Bool = v || is_content l.mark in
       let ys : List ℕ = kept_under n (all_placed (parent_below m l.id) d ts) in
-      let P : ℕ → Type 0 = λ i. IsSublist
-      (if not (i == 0) && m == n then i ∷ kept_under n (all_placed (parent_below m i) c us) else kept_under n (all_placed (parent_below m i) c us))
-      (if not (l.id == 0) && m == n then l.id ∷ ys else ys) in
-      subst P (sym h.0.id)
-      (both_under (not (l.id == 0) && m == n) l.id (kept_under n (all_placed (parent_below m l.id) c us)) ys
+      holder_under n m v w l k ts us h.0
       (in_group (is_group l.kind) h.1
       (λ e g. none_sublist (kept_under n (all_placed (parent_below m l.id) c us)) ys
       (new_under n (all_placed (parent_below m l.id) c us) (all_new (parent_below m l.id) c us g.unnumbered g.unframed)))
-      (λ e a. all_some_under n (parent_below m l.id) d c ts us a)))
+      (λ e a. all_some_under n (parent_below m l.id) d c ts us a))
 
   all_some_under : (n m : ℕ) (v w : Bool) (ts us : Trees) → AllStandAsIs ts us → IsSublist (kept_under n (all_placed m w us)) (kept_under n (all_placed m v ts))
   all_some_under n m v w none none h = tt
@@ -92,20 +102,32 @@ text_under : (n m : ℕ) (w : Bool) (x : Label) (text : List ℕ) (us : Trees)
 text_under n m w x [] us = refl
 text_under n m w x (b ∷ bs) us = refl
 
-pieces_under : (n m : ℕ) (v w : Bool) (ps : List Piece) → PiecesStay ps
+pieces_under : (n m : ℕ) (v w : Bool) (ps : Pieces) → PiecesStay ps
     → IsSublist (kept_under n (all_placed m w (sent_pieces ps))) (kept_under n (all_placed m v (page_pieces ps)))
-pieces_under n m v w [] h = tt
-pieces_under n m v w (gone t ∷ ps) h =
+pieces_under n m v w no_pieces h = tt
+pieces_under n m v w (gone t ps) h =
     let own : List ℕ = kept_under n (all_placed m w (sent_pieces ps)) in
     let others : List ℕ = kept_under n (all_placed m v (page_pieces ps)) in
     subst (λ (xs : List ℕ). IsSublist own xs) (sym (under_join n (placed m v t) (all_placed m v (page_pieces ps))))
     (more_sublist own (kept_under n (placed m v t)) others (pieces_under n m v w ps h))
-pieces_under n m v w (written x text ∷ ps) h =
+pieces_under n m v w (written x text ps) h =
     subst (λ (xs : List ℕ). IsSublist xs (kept_under n (all_placed m v (page_pieces ps)))) (sym (text_under n m w x text (sent_pieces ps)))
     (pieces_under n m v w ps h)
-pieces_under n m v w (kept t u ∷ ps) h =
+pieces_under n m v w (kept t u ps) h =
     both_joined n (placed m w u) (all_placed m w (sent_pieces ps)) (placed m v t) (all_placed m v (page_pieces ps)) (some_under n m v w t u h.0)
     (pieces_under n m v w ps h.1)
+pieces_under n m v w (around l k is ps) h =
+    let c : Bool = w || is_content k.mark in
+    let d : Bool = v || is_content l.mark in
+    both_joined n (placed m w (tree k (sent_pieces is))) (all_placed m w (sent_pieces ps)) (placed m v (tree l (page_pieces is))) (all_placed m v (page_pieces ps))
+    (holder_under n m v w l k (page_pieces is) (sent_pieces is) h.1 (pieces_under n (parent_below m l.id) d c is h.2)) (pieces_under n m v w ps h.3)
+pieces_under n m v w (new_style k is ps) h =
+    let new : List Place = placed m w (tree (as_new k) (sent_pieces is)) in
+    let ts : List Place = all_placed m v (page_pieces is) in
+    let us : List Place = all_placed m v (page_pieces ps) in
+    subst (λ (ys : List Place). IsSublist (kept_under n (new ++ all_placed m w (sent_pieces ps))) (kept_under n ys))
+    (sym (placed_appended m v (page_pieces is) (page_pieces ps)))
+    (both_joined n new (all_placed m w (sent_pieces ps)) ts us (pieces_under n m v (w || false) is h.1) (pieces_under n m v w ps h.2))
 
 mutual
   child_under : (n m : ℕ) (v w : Bool) (s : Edited) → IsEdited s → IsSublist (kept_under n (placed m w (sent_node s))) (kept_under n (placed m v (page_node s)))
@@ -115,15 +137,8 @@ mutual
       (kept_under n (all_placed (parent_below m l.id) (v || is_content l.mark) (page_pieces ps)))
       (pieces_under n (parent_below m l.id) (v || is_content l.mark) (w || true) ps h.1)
   child_under n m v w (round l k ss) h =
-      let c : Bool = w || is_content k.mark in
-      let d : Bool = v || is_content l.mark in
-      let ys : List ℕ = kept_under n (all_placed (parent_below m l.id) d (page_nodes ss)) in
-      let P : ℕ → Type 0 = λ i. IsSublist
-      (if not (i == 0) && m == n then i ∷ kept_under n (all_placed (parent_below m i) c (sent_nodes ss)) else kept_under n (all_placed (parent_below m i) c (sent_nodes ss)))
-      (if not (l.id == 0) && m == n then l.id ∷ ys else ys) in
-      subst P (sym h.0.id)
-      (both_under (not (l.id == 0) && m == n) l.id (kept_under n (all_placed (parent_below m l.id) c (sent_nodes ss))) ys
-      (children_under n (parent_below m l.id) d c ss h.1))
+      holder_under n m v w l k (page_nodes ss) (sent_nodes ss) h.0
+      (children_under n (parent_below m l.id) (v || is_content l.mark) (w || is_content k.mark) ss h.1)
 
   children_under : (n m : ℕ) (v w : Bool) (ss : Edits) → AreEdited ss
       → IsSublist (kept_under n (all_placed m w (sent_nodes ss))) (kept_under n (all_placed m v (page_nodes ss)))
@@ -230,24 +245,18 @@ mutual
       let s = each_split (Itself page) (placed i v t) (all_placed i v ts) it in
       each_join (NodeKept page) (placed j w u) (all_placed j w us) (nodes_kept page i j v w t u h.0 d.0 s.0) (all_nodes_kept page i j v w ts us h.1 d.1 s.1)
 
-text_kept : (page : Page) (j : ℕ) (w : Bool) (x : Label) (text : List ℕ) (us : Trees) → AllByRecursion (NodeKept page) (all_placed j w us)
-    → AllByRecursion (NodeKept page) (all_placed j w (text_node x text us))
-text_kept page j w x [] us h = h
-text_kept page j w x (c ∷ cs) us h = (λ a b. absurd (cc), h)
+-- of what is in a content that is edited nothing is asked
+mutual
+  free_inside : (page : Page) (j : ℕ) (u : Tree) → AllByRecursion (NodeKept page) (placed j true u)
+  free_inside page j (tree m us) = (λ a b. absurd (cc), all_free_inside page (parent_below j m.id) us)
 
-pieces_kept : (page : Page) (i j : ℕ) (v w : Bool) (ps : List Piece) → PiecesStay ps → have_frame (page_pieces ps) ≡ false
-    → AllByRecursion (Itself page) (all_placed i v (page_pieces ps)) → AllByRecursion (NodeKept page) (all_placed j w (sent_pieces ps))
-pieces_kept page i j v w [] h f it = tt
-pieces_kept page i j v w (gone t ∷ ps) h f it =
-    let d = or_false (has_frame t) (have_frame (page_pieces ps)) f in
-    let s = each_split (Itself page) (placed i v t) (all_placed i v (page_pieces ps)) it in
-    pieces_kept page i j v w ps h d.1 s.1
-pieces_kept page i j v w (written x text ∷ ps) h f it = text_kept page j w x text (sent_pieces ps) (pieces_kept page i j v w ps h f it)
-pieces_kept page i j v w (kept t u ∷ ps) h f it =
-    let d = or_false (has_frame t) (have_frame (page_pieces ps)) f in
-    let s = each_split (Itself page) (placed i v t) (all_placed i v (page_pieces ps)) it in
-    each_join (NodeKept page) (placed j w u) (all_placed j w (sent_pieces ps)) (nodes_kept page i j v w t u h.0 d.0 s.0)
-    (pieces_kept page i j v w ps h.1 d.1 s.1)
+  all_free_inside : (page : Page) (j : ℕ) (us : Trees) → AllByRecursion (NodeKept page) (all_placed j true us)
+  all_free_inside page j none = tt
+  all_free_inside page j (more u us) = each_join (NodeKept page) (placed j true u) (all_placed j true us) (free_inside page j u) (all_free_inside page j us)
+
+or_true : (b : Bool) → (b || true) ≡ true
+or_true true = refl
+or_true false = refl
 
 mutual
   child_entry : (s : Edited) (es fs : List Entry) → IsEdited s → es ≡ fs
@@ -269,10 +278,10 @@ mutual
   child_kept page i j v w (edited k l m ps) h f it =
       let old : Tree = page_node (edited k l m ps) in
       let new : Tree = sent_node (edited k l m ps) in
-      let d = or_false (is_frame (kind_of k)) (have_frame (page_pieces ps)) f in
       let was : NodeAsItWas old new = record { kind = refl; attrs = refl; mw = inr refl; holds = inl refl } in (
         kept_by page (record { node = new; parent = j; in_content = w }) (record { node = old; parent = i; in_content = v }) (it.0 (not_zero_kept l.id h.0)) was,
-        pieces_kept page (parent_below i l.id) (parent_below j l.id) (v || is_content l.mark) (w || true) ps h.1 d.1 it.1,
+        subst (λ (b : Bool). AllByRecursion (NodeKept page) (all_placed (parent_below j l.id) b (sent_pieces ps))) (sym (or_true w))
+            (all_free_inside page (parent_below j l.id) (sent_pieces ps)),
       )
   child_kept page i j v w (round l m ss) h f it =
       let d = or_false (is_frame l.kind) (have_frame (page_nodes ss)) f in (
@@ -355,16 +364,31 @@ text_ungrouped : (page : Page) (j : ℕ) (w : Bool) (x : Label) (text : List ℕ
 text_ungrouped page j w x [] us h = h
 text_ungrouped page j w x (c ∷ cs) us h = (λ k. absurd (cc), h)
 
-pieces_groups : (page : Page) (i j : ℕ) (v w : Bool) (ps : List Piece) → PiecesStay ps → AllByRecursion (Itself page) (all_placed i v (page_pieces ps))
+pieces_groups : (page : Page) (i j : ℕ) (v w : Bool) (ps : Pieces) → PiecesStay ps → AllByRecursion (Itself page) (all_placed i v (page_pieces ps))
     → AllByRecursion (GroupKept false page) (all_placed j w (sent_pieces ps))
-pieces_groups page i j v w [] h it = tt
-pieces_groups page i j v w (gone t ∷ ps) h it =
+pieces_groups page i j v w no_pieces h it = tt
+pieces_groups page i j v w (gone t ps) h it =
     let s = each_split (Itself page) (placed i v t) (all_placed i v (page_pieces ps)) it in pieces_groups page i j v w ps h s.1
-pieces_groups page i j v w (written x text ∷ ps) h it = text_ungrouped page j w x text (sent_pieces ps) (pieces_groups page i j v w ps h it)
-pieces_groups page i j v w (kept t u ∷ ps) h it =
+pieces_groups page i j v w (written x text ps) h it = text_ungrouped page j w x text (sent_pieces ps) (pieces_groups page i j v w ps h it)
+pieces_groups page i j v w (kept t u ps) h it =
     let s = each_split (Itself page) (placed i v t) (all_placed i v (page_pieces ps)) it in
     each_join (GroupKept false page) (placed j w u) (all_placed j w (sent_pieces ps)) (groups_kept page i j v w t u h.0 s.0)
     (pieces_groups page i j v w ps h.1 s.1)
+pieces_groups page i j v w (around l m is ps) h it =
+    let old : Tree = tree l (page_pieces is) in
+    let new : Tree = tree m (sent_pieces is) in
+    let s = each_split (Itself page) (placed i v old) (all_placed i v (page_pieces ps)) it in
+    each_join (GroupKept false page) (placed j w new) (all_placed j w (sent_pieces ps)) (
+      no_group_by page (record { node = new; parent = j; in_content = w }) (record { node = old; parent = i; in_content = v })
+          (found_sent page i v l m (page_pieces is) h.1 s.0.0) (style_ungrouped l.kind h.0),
+      pieces_groups page (parent_below i l.id) (parent_below j m.id) (v || is_content l.mark) (w || is_content m.mark) is h.2 s.0.1,
+    )
+    (pieces_groups page i j v w ps h.3 s.1)
+pieces_groups page i j v w (new_style m is ps) h it =
+    let s = each_split (Itself page) (all_placed i v (page_pieces is)) (all_placed i v (page_pieces ps))
+    (subst (AllByRecursion (Itself page)) (placed_appended i v (page_pieces is) (page_pieces ps)) it) in
+    each_join (GroupKept false page) (placed j w (tree (as_new m) (sent_pieces is))) (all_placed j w (sent_pieces ps))
+    ((λ k. absurd (cc)), pieces_groups page i j v (w || false) is h.1 s.0) (pieces_groups page i j v w ps h.2 s.1)
 
 block_ungrouped : (k : Block) → is_group (kind_of k) ≡ false
 block_ungrouped paragraph = refl
@@ -414,18 +438,6 @@ mutual
       let d = or_false (has_mark u) (have_mark us) h in
       each_join (MarkKept page) (placed j w u) (all_placed j w us) (marks_none page j w u d.0) (all_marks_none page j w us d.1)
 
-text_unmarked : (page : Page) (j : ℕ) (w : Bool) (x : Label) (text : List ℕ) (us : Trees) → AllByRecursion (MarkKept page) (all_placed j w us)
-    → AllByRecursion (MarkKept page) (all_placed j w (text_node x text us))
-text_unmarked page j w x [] us h = h
-text_unmarked page j w x (c ∷ cs) us h = (λ e. absurd (cc), h)
-
-pieces_unmarked : (page : Page) (j : ℕ) (w : Bool) (ps : List Piece) → PiecesStay ps → AllByRecursion (MarkKept page) (all_placed j w (sent_pieces ps))
-pieces_unmarked page j w [] h = tt
-pieces_unmarked page j w (gone t ∷ ps) h = pieces_unmarked page j w ps h
-pieces_unmarked page j w (written x text ∷ ps) h = text_unmarked page j w x text (sent_pieces ps) (pieces_unmarked page j w ps h)
-pieces_unmarked page j w (kept t u ∷ ps) h =
-    each_join (MarkKept page) (placed j w u) (all_placed j w (sent_pieces ps)) (marks_none page j w u (no_mark t u h.0)) (pieces_unmarked page j w ps h.1)
-
 allowed_in : (k : Block) (o : Option Place) → allows (editing (kind_of k)) marks.Content o ≡ true
 allowed_in paragraph o = refl
 allowed_in (heading n) o = refl
@@ -439,7 +451,7 @@ mutual
       old = ap (λ (b : Bool). b || is_body (kind_of k)) (not_zero_kept l.id h.0);
       allowed = allowed_in k (page l.id);
     },
-    pieces_unmarked page (parent_below j l.id) true ps h.1,
+    all_marks_none page (parent_below j l.id) true (sent_pieces ps) (pieces_markless ps h.1),
   )
   child_marked page j (round l m ss) h = (
     λ e. let n : is_marked m.mark ≡ false = ap is_marked h.0.unmarked in absurd (cc),

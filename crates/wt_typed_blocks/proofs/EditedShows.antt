@@ -23,8 +23,8 @@ use Rattle.wt_difference.specs.Unedited.{GroupOr}
 use Rattle.wt_visible.specs.Children.{shown_children, listed}
 use Rattle.wt_visible.specs.Restored.{held_there, group_held, held_by, restored, all_restored, restored_from}
 use Rattle.wt_typed_blocks.specs.Sent.{IsSentAsIs, StandsAsIs, AllStandAsIs, paragraph, heading}
-use Rattle.wt_typed_blocks.specs.Edited.{Piece, gone, written, kept, page_pieces, text_node, sent_pieces, PiecesStay, pieces_before, Edited, stays, edited, round, Edits, no_edits, more_edits, page_node, page_nodes, sent_node, sent_nodes, IsEdited, AreEdited, IsOutside, AreOutside, page_body, sent_body, edited_before, edits_before, edits_show}
-use Rattle.wt_typed_blocks.proofs.SentGroups.{in_both, as_group, no_group}
+use Rattle.wt_typed_blocks.specs.Edited.{Pieces, no_pieces, gone, written, kept, around, new_style, as_new, page_pieces, text_node, sent_pieces, PiecesStay, pieces_before, Edited, stays, edited, round, Edits, no_edits, more_edits, page_node, page_nodes, sent_node, sent_nodes, IsEdited, AreEdited, IsOutside, AreOutside, page_body, sent_body, edited_before, edits_before, edits_show}
+use Rattle.wt_typed_blocks.proofs.SentGroups.{in_both, as_group, no_group, style_ungrouped, apart_groups, placed_appended, new_sent}
 use Rattle.wt_typed_blocks.proofs.EditedKept.{found}
 
 same_face : (l m : Label) → IsSentAsIs l m → face m ≡ face l
@@ -58,11 +58,13 @@ abbrev mutual
   FindAllGroups page none = Unit {0}
   FindAllGroups page (more t ts) = FindsGroups page t × FindAllGroups page ts
 
-abbrev FindInPieces : Page → List Piece → Type 0
-FindInPieces page [] = Unit {0}
-FindInPieces page (gone t ∷ ps) = FindInPieces page ps
-FindInPieces page (written x text ∷ ps) = FindInPieces page ps
-FindInPieces page (kept t u ∷ ps) = FindsGroups page t × FindInPieces page ps
+abbrev FindInPieces : Page → Pieces → Type 0
+FindInPieces page no_pieces = Unit {0}
+FindInPieces page (gone t ps) = FindInPieces page ps
+FindInPieces page (written x text ps) = FindInPieces page ps
+FindInPieces page (kept t u ps) = FindsGroups page t × FindInPieces page ps
+FindInPieces page (around l m is ps) = FindInPieces page is × FindInPieces page ps
+FindInPieces page (new_style m is ps) = FindInPieces page is × FindInPieces page ps
 
 abbrev mutual
   FindsIn : Page → Edited → Type 0
@@ -84,11 +86,14 @@ mutual
   all_none_to_find page none h = tt
   all_none_to_find page (more t ts) h = (none_to_find page t h.0, all_none_to_find page ts h.1)
 
-none_in_pieces : (page : Page) (ps : List Piece) → NoneIsGroup (page_pieces ps) → FindInPieces page ps
-none_in_pieces page [] h = tt
-none_in_pieces page (gone t ∷ ps) h = none_in_pieces page ps h.1
-none_in_pieces page (written x text ∷ ps) h = none_in_pieces page ps h
-none_in_pieces page (kept t u ∷ ps) h = (none_to_find page t h.0, none_in_pieces page ps h.1)
+none_in_pieces : (page : Page) (ps : Pieces) → NoneIsGroup (page_pieces ps) → FindInPieces page ps
+none_in_pieces page no_pieces h = tt
+none_in_pieces page (gone t ps) h = none_in_pieces page ps h.1
+none_in_pieces page (written x text ps) h = none_in_pieces page ps h
+none_in_pieces page (kept t u ps) h = (none_to_find page t h.0, none_in_pieces page ps h.1)
+none_in_pieces page (around l m is ps) h = (none_in_pieces page is h.0.1, none_in_pieces page ps h.1)
+none_in_pieces page (new_style m is ps) h =
+    let r = apart_groups (page_pieces is) (page_pieces ps) h in (none_in_pieces page is r.0, none_in_pieces page ps r.1)
 
 mutual
   none_in : (page : Page) (s : Edited) → HasNoGroup (page_node s) → FindsIn page s
@@ -128,15 +133,24 @@ mutual
       let s = each_split (Itself other) (placed i v t) (all_placed i v ts) it in
       (finds_groups page other i v t u alike h.0 s.0, find_all_groups page other i v ts us alike h.1 s.1)
 
-find_pieces : (page other : Page) (i : ℕ) (v : Bool) (ps : List Piece) → AreAlike page other → PiecesStay ps
+find_pieces : (page other : Page) (i : ℕ) (v : Bool) (ps : Pieces) → AreAlike page other → PiecesStay ps
     → AllByRecursion (Itself other) (all_placed i v (page_pieces ps)) → FindInPieces page ps
-find_pieces page other i v [] alike h it = tt
-find_pieces page other i v (gone t ∷ ps) alike h it =
+find_pieces page other i v no_pieces alike h it = tt
+find_pieces page other i v (gone t ps) alike h it =
     let s = each_split (Itself other) (placed i v t) (all_placed i v (page_pieces ps)) it in find_pieces page other i v ps alike h s.1
-find_pieces page other i v (written x text ∷ ps) alike h it = find_pieces page other i v ps alike h it
-find_pieces page other i v (kept t u ∷ ps) alike h it =
+find_pieces page other i v (written x text ps) alike h it = find_pieces page other i v ps alike h it
+find_pieces page other i v (kept t u ps) alike h it =
     let s = each_split (Itself other) (placed i v t) (all_placed i v (page_pieces ps)) it in
     (finds_groups page other i v t u alike h.0 s.0, find_pieces page other i v ps alike h.1 s.1)
+find_pieces page other i v (around l m is ps) alike h it =
+    let s = each_split (Itself other) (placed i v (tree l (page_pieces is))) (all_placed i v (page_pieces ps)) it in (
+      find_pieces page other (parent_below i l.id) (v || is_content l.mark) is alike h.2 s.0.1,
+      find_pieces page other i v ps alike h.3 s.1,
+    )
+find_pieces page other i v (new_style m is ps) alike h it =
+    let s = each_split (Itself other) (all_placed i v (page_pieces is)) (all_placed i v (page_pieces ps))
+    (subst (AllByRecursion (Itself other)) (placed_appended i v (page_pieces is) (page_pieces ps)) it) in
+    (find_pieces page other i v is alike h.1 s.0, find_pieces page other i v ps alike h.2 s.1)
 
 mutual
   finds_in : (page other : Page) (i : ℕ) (v : Bool) (s : Edited) → AreAlike page other → IsEdited s → AllByRecursion (Itself other) (placed i v (page_node s))
@@ -189,15 +203,23 @@ text_shows : (page : Page) (x : Label) (text : List ℕ) (us : Trees) (rest : Pl
 text_shows page x [] us rest = refl
 text_shows page x (c ∷ cs) us rest = refl
 
-pieces_show : (page : Page) (ps : List Piece) (rest : Plains) → PiecesStay ps → FindInPieces page ps
+pieces_show : (page : Page) (ps : Pieces) (rest : Plains) → PiecesStay ps → FindInPieces page ps
     → plains_before (all_restored page (sent_pieces ps)) rest ≡ pieces_before ps rest
-pieces_show page [] rest h g = refl
-pieces_show page (gone t ∷ ps) rest h g = pieces_show page ps rest h g
-pieces_show page (written x text ∷ ps) rest h g =
+pieces_show page no_pieces rest h g = refl
+pieces_show page (gone t ps) rest h g = pieces_show page ps rest h g
+pieces_show page (written x text ps) rest h g =
     text_shows page x text (sent_pieces ps) rest ∙ ap (text_before text) (pieces_show page ps rest h g)
-pieces_show page (kept t u ∷ ps) rest h g =
+pieces_show page (kept t u ps) rest h g =
     ap (λ (qs : Plains). plain_before (restored page u) qs) (pieces_show page ps rest h.1 g.1)
     ∙ shows_same page t u (pieces_before ps rest) h.0 g.0
+pieces_show page (around l m is ps) rest h g =
+    ap (λ (qs : Plains). plain_before (restored page (tree m (sent_pieces is))) qs) (pieces_show page ps rest h.3 g.1)
+    ∙ holder_shows page l m (sent_pieces is) (λ qs. pieces_before is qs) (pieces_before ps rest) h.1 (style_ungrouped l.kind h.0)
+    (λ qs. pieces_show page is qs h.2 g.0)
+pieces_show page (new_style m is ps) rest h g =
+    ap (λ (qs : Plains). plain_before (restored page (tree (as_new m) (sent_pieces is))) qs) (pieces_show page ps rest h.2 g.1)
+    ∙ holder_shows page (as_new m) (as_new m) (sent_pieces is) (λ qs. pieces_before is qs) (pieces_before ps rest) (new_sent m) (style_ungrouped m.kind h.0)
+    (λ qs. pieces_show page is qs h.1 g.0)
 
 mutual
   child_shows : (page : Page) (s : Edited) (rest : Plains) → IsEdited s → IsOutside s → FindsIn page s

@@ -22,9 +22,10 @@ use Rattle.wt_selser.specs.declared.refusal.EditRefusal.TheVariants as refusal
 use Rattle.wt_selser.specs.Edits.{first_with, first_of, bad_pair, tangled_pair, refused_pairs}
 use Rattle.wt_splice.specs.Splice.{Change}
 use Rattle.wt_typed_blocks.specs.Sent.{Block, paragraph, heading}
-use Rattle.wt_typed_blocks.specs.Edited.{Piece, gone, written, kept, text_node, sent_pieces, PiecesStay, Edited, stays, edited, round, Edits, no_edits, more_edits, page_node, sent_node, page_nodes, sent_nodes, IsEdited, AreEdited, page_body, sent_body}
+use Rattle.wt_typed_blocks.specs.Edited.{Pieces, sent_pieces, Edited, stays, edited, round, Edits, no_edits, more_edits, page_node, sent_node, page_nodes, sent_nodes, IsEdited, AreEdited, page_body, sent_body}
 use Rattle.wt_typed_blocks.specs.EditedPage.{IsTaken, AreTaken, IsApart, AreApart}
 use Rattle.wt_typed_blocks.specs.Typed.{place_of}
+use Rattle.wt_typed_blocks.proofs.SentFrames.{pieces_markless}
 use Rattle.wt_typed_blocks.proofs.SentGroups.{no_mark, mark_none}
 
 abbrev pub Same : Type 0
@@ -58,20 +59,6 @@ mutual
       flat_map-append (pair_at page) (placed j w u) (all_placed j w us)
       ∙ ap (λ (ps : List Pair). ps ++ flat_map (pair_at page) (all_placed j w us)) (no_pairs page j w u d.0) ∙ all_no_pairs page j w us d.1
 
-text_pairs : (page : Page) (j : ℕ) (w : Bool) (x : Label) (text : List ℕ) (us : Trees)
-    → flat_map (pair_at page) (all_placed j w (text_node x text us)) ≡ flat_map (pair_at page) (all_placed j w us)
-text_pairs page j w x [] us = refl
-text_pairs page j w x (c ∷ cs) us = refl
-
-pieces_pairs : (page : Page) (j : ℕ) (w : Bool) (ps : List Piece) → PiecesStay ps → flat_map (pair_at page) (all_placed j w (sent_pieces ps)) ≡ []
-pieces_pairs page j w [] h = refl
-pieces_pairs page j w (gone t ∷ ps) h = pieces_pairs page j w ps h
-pieces_pairs page j w (written x text ∷ ps) h = text_pairs page j w x text (sent_pieces ps) ∙ pieces_pairs page j w ps h
-pieces_pairs page j w (kept t u ∷ ps) h =
-    flat_map-append (pair_at page) (placed j w u) (all_placed j w (sent_pieces ps))
-    ∙ ap (λ (qs : List Pair). qs ++ flat_map (pair_at page) (all_placed j w (sent_pieces ps))) (no_pairs page j w u (no_mark t u h.0))
-    ∙ pieces_pairs page j w ps h.1
-
 mutual
   found_in : (page : Page) (i j : ℕ) (v w : Bool) (s : Edited) → IsEdited s → AllByRecursion (Itself page) (placed i v (page_node s))
       → flat_map (pair_at page) (placed j w (sent_node s)) ≡ pairs_in s
@@ -80,7 +67,8 @@ mutual
       let s : Edited = edited k l m ps in
       let inside : List Pair = flat_map (pair_at page) (all_placed (parent_below j l.id) (w || true) (sent_pieces ps)) in
       ap (λ (o : Option Place). pair_with o (sent_node s) ++ inside) (it.0 (not_zero_kept l.id h.0))
-      ∙ ap (λ (qs : List Pair). record { old = page_node s; new = sent_node s } ∷ qs) (pieces_pairs page (parent_below j l.id) (w || true) ps h.1)
+      ∙ ap (λ (qs : List Pair). record { old = page_node s; new = sent_node s } ∷ qs)
+      (all_no_pairs page (parent_below j l.id) (w || true) (sent_pieces ps) (pieces_markless ps h.1))
   found_in page i j v w (round l m ss) h it =
       ap (λ (c : Mark). (if is_edited c then pair_with (page m.id) (tree m (sent_nodes ss)) else [])
       ++ flat_map (pair_at page) (all_placed (parent_below j m.id) (w || is_content m.mark) (sent_nodes ss))) h.0.unmarked
@@ -165,7 +153,7 @@ slices_are same page i v (more_edits s ss) h it =
 
 -- ---- what is written
 
-pub content_is : (same : Same) (k : Block) (l m : Label) (ps : List Piece)
+pub content_is : (same : Same) (k : Block) (l m : Label) (ps : Pieces)
     → content_of same (edited k l m ps) ≡ inline_spelling same (page_node (edited k l m ps)) (sent_node (edited k l m ps)) (place_of k)
 content_is same paragraph l m ps = refl
 content_is same (heading n) l m ps = refl

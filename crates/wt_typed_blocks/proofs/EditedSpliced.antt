@@ -10,7 +10,7 @@ use Rattle.wt_link_spelling.specs.Spelling.{inline_spelling}
 use Rattle.wt_slices.specs.Changes.{change_with}
 use Rattle.wt_splice.specs.Splice.{Change, between, spliced_from, spliced}
 use Rattle.wt_typed_blocks.specs.Sent.{Block, paragraph, heading}
-use Rattle.wt_typed_blocks.specs.Edited.{Piece, page_pieces, Edited, stays, edited, round, Edits, no_edits, more_edits, page_node, sent_node, page_nodes}
+use Rattle.wt_typed_blocks.specs.Edited.{Pieces, page_pieces, Edited, stays, edited, round, Edits, no_edits, more_edits, page_node, sent_node, page_nodes}
 use Rattle.wt_typed_blocks.specs.EditedPage.{page_source, edited_source, edited_sources, LiesAt, LieAt}
 use Rattle.wt_typed_blocks.specs.Typed.{place_of, block_source}
 use Rattle.wt_typed_blocks.proofs.EditedSlices.{Same, content_of, change_of, changes_of, content_is}
@@ -32,7 +32,7 @@ behind front rest =
 
 -- ---- the source of a block between its delimiters
 
-block_flat : (k : Block) (l m : Label) (ps : List Piece) → flat (page_node (edited k l m ps)) ≡ block_source l (page_pieces ps)
+block_flat : (k : Block) (l m : Label) (ps : Pieces) → flat (page_node (edited k l m ps)) ≡ block_source l (page_pieces ps)
 block_flat paragraph l m ps = refl
 block_flat (heading n) l m ps = refl
 

@@ -14,7 +14,7 @@ use Rattle.wt_tree.specs.Tiling.{is_group, InPreorder}
 use Rattle.wt_tree.specs.Tree.{Label, Tree, tree, Trees, none, more, label}
 use Rattle.wt_checks.specs.Alike.{same_kind, same_attrs}
 use Rattle.wt_checks.specs.BareSections.{HasBareSections}
-use Rattle.wt_checks.specs.Groups.{has_mark}
+use Rattle.wt_checks.specs.Groups.{is_marked, has_mark, have_mark}
 use Rattle.wt_checks.specs.Kept.{children}
 use Rattle.wt_checks.specs.Places.{Place, all_placed, placed, Page, page_of, is_content, parent_below}
 use Rattle.wt_checks.specs.PutBack.{is_frame, has_frame, have_frame, IsOneBody}
@@ -35,10 +35,10 @@ use Rattle.wt_difference.specs.Unedited.{IsUnedited, AreUnedited}
 use Rattle.wt_difference.proofs.Remarks.{bare_stays, marks_alone, none_marked, block_no_group, left_remarked}
 use Rattle.wt_difference.proofs.UneditedLaws.{nothing_differs}
 use Rattle.wt_typed_blocks.specs.Sent.{Block, paragraph, heading, kind_of}
-use Rattle.wt_typed_blocks.specs.Edited.{Piece, gone, written, kept, text_node, sent_pieces, PiecesStay, Edited, stays, edited, round, Edits, no_edits, more_edits, page_node, sent_node, page_nodes, sent_nodes, IsEdited, AreEdited, page_body, sent_body}
+use Rattle.wt_typed_blocks.specs.Edited.{Pieces, no_pieces, gone, written, kept, around, new_style, as_new, text_node, sent_pieces, PiecesStay, Edited, stays, edited, round, Edits, no_edits, more_edits, page_node, sent_node, page_nodes, sent_nodes, IsEdited, AreEdited, page_body, sent_body}
 use Rattle.wt_typed_blocks.specs.EditedUnmarked.{bare_node, bare_nodes, bare_body, AreRoundInBlocks, IsOwnRound, AreInline, IsTold, AreTold}
-use Rattle.wt_typed_blocks.proofs.SentFrames.{no_frame_sent, pieces_frameless}
-use Rattle.wt_typed_blocks.proofs.SentGroups.{both_ways, no_group, no_mark}
+use Rattle.wt_typed_blocks.proofs.SentFrames.{no_frame_sent, pieces_frameless, pieces_markless}
+use Rattle.wt_typed_blocks.proofs.SentGroups.{both_ways, no_group, of_style, no_mark}
 use Rattle.wt_typed_blocks.proofs.EditedKept.{found}
 
 -- ---- the page's own body, with what is sent for the children that stand
@@ -187,7 +187,7 @@ built_of : (k : Block) (b : Bool) → (is_block_part (kind_of k) && b) ≡ b
 built_of paragraph b = refl
 built_of (heading n) b = refl
 
-stable : (page : Page) (n : ℕ) (k : Block) (l m : Label) (ps : List Piece) → IsEdited (edited k l m ps)
+stable : (page : Page) (n : ℕ) (k : Block) (l m : Label) (ps : Pieces) → IsEdited (edited k l m ps)
     → IsAt page l.id n (page_node (edited k l m ps)) → is_stable page n (bare_node (edited k l m ps)) ≡ true
 stable page n k l m ps h e =
     let u : Tree = bare_node (edited k l m ps) in
@@ -208,19 +208,31 @@ text_left : (x : Label) (text : List ℕ) (us : Trees) → are_left (text_node x
 text_left x [] us = refl
 text_left x (c ∷ cs) us = refl
 
-pieces_left : (ps : List Piece) → PiecesStay ps → AreInline ps → are_left (sent_pieces ps) ≡ true
-pieces_left [] h a = refl
-pieces_left (gone t ∷ ps) h a = pieces_left ps h a
-pieces_left (written x text ∷ ps) h a = text_left x text (sent_pieces ps) ∙ pieces_left ps h a
-pieces_left (kept t u ∷ ps) h a =
+pieces_left : (ps : Pieces) → PiecesStay ps → AreInline ps → are_left (sent_pieces ps) ≡ true
+pieces_left no_pieces h a = refl
+pieces_left (gone t ps) h a = pieces_left ps h a
+pieces_left (written x text ps) h a = text_left x text (sent_pieces ps) ∙ pieces_left ps h a
+pieces_left (kept t u ps) h a =
     ap (λ (b : Bool). not b && (not (has_mark u) && are_left (sent_pieces ps))) a.0
     ∙ ap (λ (b : Bool). not b && are_left (sent_pieces ps)) (no_mark t u h.0)
     ∙ pieces_left ps h.1 a.1
+pieces_left (around l m is ps) h a =
+    let inline : is_block_part m.kind ≡ false = ap is_block_part h.1.kind ∙ of_style (λ k. is_block_part k ≡ false) l.kind h.0 refl refl in
+    let bare_so : has_mark (tree m (sent_pieces is)) ≡ false =
+    ap (λ (c : Mark). is_marked c || have_mark (sent_pieces is)) h.1.unmarked ∙ pieces_markless is h.2 in
+    ap (λ (b : Bool). not b && (not (has_mark (tree m (sent_pieces is))) && are_left (sent_pieces ps))) inline
+    ∙ ap (λ (b : Bool). not b && are_left (sent_pieces ps)) bare_so
+    ∙ pieces_left ps h.3 a
+pieces_left (new_style m is ps) h a =
+    ap (λ (b : Bool). not b && (not (has_mark (tree (as_new m) (sent_pieces is))) && are_left (sent_pieces ps)))
+    (of_style (λ k. is_block_part k ≡ false) m.kind h.0 refl refl)
+    ∙ ap (λ (b : Bool). not b && are_left (sent_pieces ps)) (pieces_markless is h.1)
+    ∙ pieces_left ps h.2 a
 
 abbrev one_remarked : Page → ℕ → Tree → Tree
 one_remarked page n u = if is_stable page n u then remarked_in page u else unmarked u
 
-content_remarked : (page : Page) (n : ℕ) (k : Block) (l m : Label) (ps : List Piece) → IsEdited (edited k l m ps)
+content_remarked : (page : Page) (n : ℕ) (k : Block) (l m : Label) (ps : Pieces) → IsEdited (edited k l m ps)
     → IsAt page l.id n (page_node (edited k l m ps))
     → IsTold (edited k l m ps)
     → one_remarked page n (bare_node (edited k l m ps)) ≡ sent_node (edited k l m ps)
@@ -236,7 +248,7 @@ content_remarked page n k l m ps h e a =
 
 -- ---- numbers of the children
 
-partner_alike : (n : ℕ) (k : Block) (l m : Label) (ps : List Piece) (o : Option Place)
+partner_alike : (n : ℕ) (k : Block) (l m : Label) (ps : Pieces) (o : Option Place)
     → is_partner n (bare_node (edited k l m ps)) o ≡ is_partner n (page_node (edited k l m ps)) o
 partner_alike n k l m ps None = refl
 partner_alike n k l m ps (Some q) = refl
@@ -260,7 +272,7 @@ numbers_alike page n (more_edits (round l m rs) ss) =
     ∙ ap (λ (ns : List ℕ). if is_compared (showing m.kind) then (if is_partner n (tree m (kept_children rs)) (page m.id) then m.id else 0) ∷ ns else ns)
     (numbers_alike page n ss)
 
-content_ends : (k : Block) (l m : Label) (ps : List Piece)
+content_ends : (k : Block) (l m : Label) (ps : Pieces)
     → ends_inside (bare_node (edited k l m ps)) ≡ ends_inside (kept_child (edited k l m ps))
 content_ends paragraph l m ps = refl
 content_ends (heading n) l m ps = refl

@@ -1,11 +1,14 @@
 -- What is sent for a group and what it holds: no mark, no number, and no body or section.
-use Rattle.std.proofs.Common.{◌≡◌, ℕ, Bool, true, false, List, [], ◌∷◌, refl, ap, ◌∙◌}
+use Rattle.std.proofs.Common.{◌≡◌, ℕ, Bool, true, false, List, [], ◌∷◌, ◌++◌, refl, sym, ap, ◌∙◌, subst, inl, inr, append_assoc}
 use Rattle.std.specs.Prelude.{◌==◌, ◌&&◌, ◌||◌, not, if◌then◌else◌}
 use Rattle.std.specs.List.{AllByRecursion}
+use Rattle.wt_tree.specs.declared.kind.Kind.{Kind}
+use Rattle.wt_tree.specs.declared.kind.Kind.TheVariants as kind
 use Rattle.wt_tree.specs.declared.kind.Mark.{Mark}
 use Rattle.wt_tree.specs.declared.kind.Mark.TheVariants as marks
 use Rattle.wt_tree.specs.Tiling.{is_group, HasNoGroup, NoneIsGroup, ids, ids_of_all}
-use Rattle.wt_tree.specs.Tree.{Tree, tree, Trees, none, more}
+use Rattle.wt_tree.specs.Tree.{Label, Tree, tree, Trees, none, more}
+use Rattle.wt_recut.specs.Recutting.{appended}
 use Rattle.wt_checks.specs.Groups.{is_marked, has_mark, have_mark}
 use Rattle.wt_checks.specs.Kept.{kept_under, is_of_page, GroupKept, NodeKept}
 use Rattle.wt_checks.specs.Places.{Place, number, kind_at, placed, all_placed, is_kept, is_body, is_content, Page, parent_below}
@@ -14,7 +17,8 @@ use Rattle.wt_checks.proofs.Frames.{no_frame}
 use Rattle.wt_checks.proofs.Lookups.{each_split, each_join}
 use Rattle.wt_checks.proofs.Repeated.{or_false}
 use Rattle.wt_difference.specs.Unedited.{GroupOr}
-use Rattle.wt_typed_blocks.specs.Sent.{StandsAsIs, AllStandAsIs, Sent, stands, typed, holds, Sents, none_sent, more_sent, old_child, old_children, IsOutsideGroups, AreOutsideGroups}
+use Rattle.wt_typed_blocks.specs.Sent.{IsSentAsIs, StandsAsIs, AllStandAsIs, Sent, stands, typed, holds, Sents, none_sent, more_sent, old_child, old_children, IsOutsideGroups, AreOutsideGroups}
+use Rattle.wt_typed_blocks.specs.Edited.{as_new, IsStyle}
 
 -- ---- a group, or another node
 
@@ -38,6 +42,38 @@ both_ways false f g = g
 pub no_group : (A : Type 0) {B : Type 0} (b : Bool) → b ≡ false → B → GroupOr b A B
 no_group A true e g = absurd (cc)
 no_group A false e g = g
+
+-- ---- bold and italic
+
+pub of_style : (P : Kind → Type 0) (k : Kind) → IsStyle k → P kind.Bold → P kind.Italic → P k
+of_style P k (inl e) b i = subst P (sym e) b
+of_style P k (inr e) b i = subst P (sym e) i
+
+pub style_ungrouped : (k : Kind) → IsStyle k → is_group k ≡ false
+style_ungrouped k h = of_style (λ j. is_group j ≡ false) k h refl refl
+
+-- ---- nodes before others
+
+-- what holds of all of both holds of all of each
+pub apart : (Q : Tree → Type 0) (P : Trees → Type 0) → P none → ((t : Tree) (us : Trees) → P (more t us) → Q t × P us)
+    → ((t : Tree) (us : Trees) → Q t × P us → P (more t us)) → (ts us : Trees) → P (appended ts us) → P ts × P us
+apart Q P nil out into none us h = (nil, h)
+apart Q P nil out into (more t ts) us h =
+    let d = out t (appended ts us) h in
+    let r = apart Q P nil out into ts us d.1 in
+    (into t ts (d.0, r.0), r.1)
+
+pub apart_groups : (ts us : Trees) → NoneIsGroup (appended ts us) → NoneIsGroup ts × NoneIsGroup us
+apart_groups ts us h = apart (λ t. HasNoGroup t) (λ vs. NoneIsGroup vs) tt (λ t vs d. d) (λ t vs d. d) ts us h
+
+pub placed_appended : (j : ℕ) (w : Bool) (ts us : Trees) → all_placed j w (appended ts us) ≡ all_placed j w ts ++ all_placed j w us
+placed_appended j w none us = refl
+placed_appended j w (more t ts) us =
+    ap (λ (ps : List Place). placed j w t ++ ps) (placed_appended j w ts us) ∙ sym (append_assoc (placed j w t) (all_placed j w ts) (all_placed j w us))
+
+-- a new style is sent as it is
+pub new_sent : (m : Label) → IsSentAsIs (as_new m) (as_new m)
+new_sent m = record { kind = refl; id = refl; attrs = refl; mw = refl; shown = λ e. refl; unmarked = refl }
 
 -- ---- pages without groups
 

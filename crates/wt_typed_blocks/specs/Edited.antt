@@ -1,53 +1,74 @@
 -- What an editor sends for the nodes of a page: each as it is, or a paragraph or heading with another content, wherever it is.
-use Rattle.std.specs.Prelude.{◌≡◌, ◌≢◌, ℕ, false, List, [], ◌∷◌}
+use Rattle.std.specs.Prelude.{◌≡◌, ◌≢◌, ◌⊎◌, ℕ, false, None, List, [], ◌∷◌}
+use Rattle.wt_tree.specs.declared.kind.Kind.{Kind}
 use Rattle.wt_tree.specs.declared.kind.Kind.TheVariants as kind
 use Rattle.wt_tree.specs.declared.kind.Mark.TheVariants as marks
 use Rattle.wt_tree.specs.Kinds.{showing}
 use Rattle.wt_tree.specs.Plain.{Plains, ended, along, element, face, text_before, shown_before, plain_before}
 use Rattle.wt_tree.specs.Tiling.{is_group}
 use Rattle.wt_tree.specs.Tree.{Label, Tree, tree, Trees, none, more}
+use Rattle.wt_recut.specs.Recutting.{appended}
 use Rattle.wt_typed_blocks.specs.Sent.{IsSentAsIs, StandsAsIs, Block, kind_of}
 
 -- ---- a content
 
--- a node or text of the page that isn't sent, a text that is sent, or a node that stays, in the page and as it is sent
-pub data Piece : Type 0 where
-  gone : Tree → Piece
-  written : Label → List ℕ → Piece
-  kept : Tree → Tree → Piece
+-- Before what follows: a node or text of the page that isn't sent, a text that is sent, a node that stays, in the page and as it is sent, a bold or
+-- italic node of the page with the first label, which is sent with the second one, and with these pieces in it, or a new one with these in it.
+pub data Pieces : Type 0 where
+  no_pieces : Pieces
+  gone : Tree → Pieces → Pieces
+  written : Label → List ℕ → Pieces → Pieces
+  kept : Tree → Tree → Pieces → Pieces
+  around : Label → Label → Pieces → Pieces → Pieces
+  new_style : Label → Pieces → Pieces → Pieces
 
 -- in the page
-abbrev pub page_pieces : List Piece → Trees
-page_pieces [] = none
-page_pieces (gone t ∷ ps) = more t (page_pieces ps)
-page_pieces (written x text ∷ ps) = page_pieces ps
-page_pieces (kept t u ∷ ps) = more t (page_pieces ps)
+abbrev pub page_pieces : Pieces → Trees
+page_pieces no_pieces = none
+page_pieces (gone t ps) = more t (page_pieces ps)
+page_pieces (written x text ps) = page_pieces ps
+page_pieces (kept t u ps) = more t (page_pieces ps)
+page_pieces (around l m is ps) = more (tree l (page_pieces is)) (page_pieces ps)
+page_pieces (new_style m is ps) = appended (page_pieces is) (page_pieces ps)
 
 -- a text before other nodes; where nothing was typed there is none
 abbrev pub text_node : Label → List ℕ → Trees → Trees
 text_node x [] us = us
 text_node x (b ∷ bs) us = more (tree (record x { kind = kind.Text; id = 0; shown = b ∷ bs; mark = marks.Nothing }) none) us
 
+-- a new node has no number, and bold and italic have neither attributes nor data
+abbrev pub as_new : Label → Label
+as_new m = record m { id = 0; attrs = []; mark = marks.Nothing; mw = None }
+
 -- as they are sent
-abbrev pub sent_pieces : List Piece → Trees
-sent_pieces [] = none
-sent_pieces (gone t ∷ ps) = sent_pieces ps
-sent_pieces (written x text ∷ ps) = text_node x text (sent_pieces ps)
-sent_pieces (kept t u ∷ ps) = more u (sent_pieces ps)
+abbrev pub sent_pieces : Pieces → Trees
+sent_pieces no_pieces = none
+sent_pieces (gone t ps) = sent_pieces ps
+sent_pieces (written x text ps) = text_node x text (sent_pieces ps)
+sent_pieces (kept t u ps) = more u (sent_pieces ps)
+sent_pieces (around l m is ps) = more (tree m (sent_pieces is)) (sent_pieces ps)
+sent_pieces (new_style m is ps) = more (tree (as_new m) (sent_pieces is)) (sent_pieces ps)
 
--- what stays is sent as it is
-abbrev pub PiecesStay : List Piece → Type 0
-PiecesStay [] = Unit {0}
-PiecesStay (gone t ∷ ps) = PiecesStay ps
-PiecesStay (written x text ∷ ps) = PiecesStay ps
-PiecesStay (kept t u ∷ ps) = StandsAsIs t u × PiecesStay ps
+abbrev pub IsStyle : Kind → Type 0
+IsStyle k = (k ≡ kind.Bold) ⊎ (k ≡ kind.Italic)
 
--- the texts that are sent, and what stays as the page shows it
-abbrev pub pieces_before : List Piece → Plains → Plains
-pieces_before [] rest = rest
-pieces_before (gone t ∷ ps) rest = pieces_before ps rest
-pieces_before (written x text ∷ ps) rest = text_before text (pieces_before ps rest)
-pieces_before (kept t u ∷ ps) rest = plain_before t (pieces_before ps rest)
+-- what stays is sent as it is, and so is bold and italic but for what is in it
+abbrev pub PiecesStay : Pieces → Type 0
+PiecesStay no_pieces = Unit {0}
+PiecesStay (gone t ps) = PiecesStay ps
+PiecesStay (written x text ps) = PiecesStay ps
+PiecesStay (kept t u ps) = StandsAsIs t u × PiecesStay ps
+PiecesStay (around l m is ps) = IsStyle l.kind × IsSentAsIs l m × PiecesStay is × PiecesStay ps
+PiecesStay (new_style m is ps) = IsStyle m.kind × PiecesStay is × PiecesStay ps
+
+-- the texts that are sent, in bold and italic, too, and what stays as the page shows it
+abbrev pub pieces_before : Pieces → Plains → Plains
+pieces_before no_pieces rest = rest
+pieces_before (gone t ps) rest = pieces_before ps rest
+pieces_before (written x text ps) rest = text_before text (pieces_before ps rest)
+pieces_before (kept t u ps) rest = plain_before t (pieces_before ps rest)
+pieces_before (around l m is ps) rest = shown_before (showing l.kind) l (λ qs. pieces_before is qs) (pieces_before ps rest)
+pieces_before (new_style m is ps) rest = shown_before (showing m.kind) (as_new m) (λ qs. pieces_before is qs) (pieces_before ps rest)
 
 -- ---- what is sent for a node
 
@@ -57,7 +78,7 @@ pieces_before (kept t u ∷ ps) rest = plain_before t (pieces_before ps rest)
 mutual
   pub data Edited : Type 0 where
     stays : Tree → Tree → Edited
-    edited : Block → Label → Label → List Piece → Edited
+    edited : Block → Label → Label → Pieces → Edited
     round : Label → Label → Edits → Edited
 
   pub data Edits : Type 0 where

@@ -1,5 +1,5 @@
 -- The same without marks, as a browser sends it: the contents that were edited are found by the difference from the page.
-use Rattle.std.specs.Prelude.{◌≡◌, ◌≢◌, true, false, List, [], ◌∷◌}
+use Rattle.std.specs.Prelude.{◌≡◌, ◌≢◌, true, false}
 use Rattle.wt_tree.specs.declared.kind.Kind.TheVariants as kind
 use Rattle.wt_tree.specs.Kinds.{is_block}
 use Rattle.wt_tree.specs.Tree.{Label, Tree, tree, Trees, none, more, label}
@@ -7,7 +7,7 @@ use Rattle.wt_difference.specs.Difference.{same_inside}
 use Rattle.wt_difference.specs.Insides.{is_block_part, has_inside}
 use Rattle.wt_difference.specs.Unedited.{SameLabel, IsUnedited}
 use Rattle.wt_typed_blocks.specs.Sent.{kind_of}
-use Rattle.wt_typed_blocks.specs.Edited.{Piece, gone, written, kept, sent_pieces, Edited, stays, edited, round, Edits, no_edits, more_edits, page_node}
+use Rattle.wt_typed_blocks.specs.Edited.{Pieces, no_pieces, gone, written, kept, around, new_style, sent_pieces, Edited, stays, edited, round, Edits, no_edits, more_edits, page_node}
 
 -- a block whose content was edited has any mark, or none
 abbrev mutual
@@ -39,11 +39,13 @@ pub record IsOwnRound (l m : Label) (es : Edits) : Type 0 where
   pub behind_text : has_inside l.kind ≡ true → AreRoundInBlocks es
 
 -- what stays in a content is inline
-abbrev pub AreInline : List Piece → Type 0
-AreInline [] = Unit {0}
-AreInline (gone t ∷ ps) = AreInline ps
-AreInline (written x text ∷ ps) = AreInline ps
-AreInline (kept t u ∷ ps) = (is_block_part (label u).kind ≡ false) × AreInline ps
+abbrev pub AreInline : Pieces → Type 0
+AreInline no_pieces = Unit {0}
+AreInline (gone t ps) = AreInline ps
+AreInline (written x text ps) = AreInline ps
+AreInline (kept t u ps) = (is_block_part (label u).kind ≡ false) × AreInline ps
+AreInline (around l m is ps) = AreInline ps
+AreInline (new_style m is ps) = AreInline ps
 
 -- What stays is the page's own in all that the difference looks at, and each content is another one than that of the page's block.
 abbrev mutual

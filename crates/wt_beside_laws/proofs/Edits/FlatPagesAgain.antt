@@ -3,7 +3,7 @@ use Rattle.std.proofs.Common.{◌≡◌, ℕ, List, [], ◌∷◌, refl, sym, su
 use Rattle.wt_span.specs.Items.{Item}
 use Rattle.wt_tree.specs.Tiling.{HasNoGroup}
 use Rattle.wt_guards.specs.Content.{ContentSign, letter, thing}
-use Rattle.wt_typed_blocks.specs.Edited.{Piece}
+use Rattle.wt_typed_blocks.specs.Edited.{Pieces}
 use Rattle.wt_text_edit_laws.specs.Parts.{HasNoGroups}
 use Rattle.wt_beside_laws.specs.Calm.{IsCalm, AreCalm}
 use Rattle.wt_beside_laws.specs.Content.{AreKept}
@@ -36,20 +36,20 @@ put_calm = record { of_nowiki = nowiki_calm; of_reference = reference_calm }
 
 -- ---- the new page
 
-new_lines : (q : List ℕ) (ps : List Piece) → IsFlatPage q → IsFlatEdit q ps → lines_of (new_flat q ps) ≡ content_lines (setting q) (new_signs q ps)
+new_lines : (q : List ℕ) (ps : Pieces) → IsFlatPage q → IsFlatEdit q ps → lines_of (new_flat q ps) ≡ content_lines (setting q) (new_signs q ps)
 new_lines q ps h e = let f = new_content q ps h e in content_lines_are (setting q) (new_signs q ps) f.kept f.unbroken
 
 -- what holds of the lines of what was sent holds of the lines of the new page
-of_new : (P : List (List Item) → Type 0) (q : List ℕ) (ps : List Piece) → IsFlatPage q → IsFlatEdit q ps → P (content_lines (setting q) (new_signs q ps))
+of_new : (P : List (List Item) → Type 0) (q : List ℕ) (ps : Pieces) → IsFlatPage q → IsFlatEdit q ps → P (content_lines (setting q) (new_signs q ps))
     → P (lines_of (new_flat q ps))
 of_new P q ps h e k = subst P (sym (new_lines q ps h e)) k
 
-new_ungrouped : (q : List ℕ) (ps : List Piece) → IsFlatPage q → IsFlatEdit q ps → HasNoGroups (new_flat q ps)
+new_ungrouped : (q : List ℕ) (ps : Pieces) → IsFlatPage q → IsFlatEdit q ps → HasNoGroups (new_flat q ps)
 new_ungrouped q ps h e =
     let one = new_page q ps h e in
     subst HasNoGroup (sym (one_tree (new_flat q ps) (new_tree q ps) one)) (refl, one_ungrouped (new_flat q ps) (new_tree q ps) one)
 
-pub flat_again : (q : List ℕ) (ps : List Piece) → IsFlatPage q → IsFlatEdit q ps → IsFlatPage (new_flat q ps)
+pub flat_again : (q : List ℕ) (ps : Pieces) → IsFlatPage q → IsFlatEdit q ps → IsFlatPage (new_flat q ps)
 flat_again q ps h e =
     let signs : List ContentSign = new_signs q ps in
     let f = new_content q ps h e in

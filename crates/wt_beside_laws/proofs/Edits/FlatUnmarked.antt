@@ -20,7 +20,7 @@ use Rattle.wt_commands.specs.declared.refusal.Refusal.TheVariants.{TooLong}
 use Rattle.wt_commands.specs.Answers.{refused, text_answer, title_answer, edit_to, IsText}
 use Rattle.wt_commands.proofs.SectionEdits.{page_bare}
 use Rattle.wt_commands.specs.UnmarkedEdits.{EditIsDone, DoneByEdit}
-use Rattle.wt_typed_blocks.specs.Edited.{Piece, Edits, page_body, sent_body}
+use Rattle.wt_typed_blocks.specs.Edited.{Pieces, Edits, page_body, sent_body}
 use Rattle.wt_typed_blocks.specs.EditedUnmarked.{bare_node, bare_body, AreTold}
 use Rattle.wt_typed_blocks.proofs.EditedUnmarked.{told_by_difference}
 use Rattle.wt_text_edit_laws.proofs.Prose.ProseTakes.{not_longer}
@@ -29,13 +29,13 @@ use Rattle.wt_beside_laws.proofs.Edits.OldPages.{body_label, one_tree, one_unfra
 use Rattle.wt_beside_laws.proofs.Edits.FlatEdits.{para_edit, old_node, old_nodes, are_edited, opened_is}
 use Rattle.wt_beside_laws.proofs.Edits.NewPages.{takes_texts}
 
-told : (m : Label) (q : List ℕ) (ps : List Piece) → IsUnmarkedFlatEdit m q ps → AreTold (flat_edits m q ps)
+told : (m : Label) (q : List ℕ) (ps : Pieces) → IsUnmarkedFlatEdit m q ps → AreTold (flat_edits m q ps)
 told m q ps u = ((ap (λ (t : Tree). same_inside t (bare_node (para_edit m q ps))) (old_node m q ps u.edit) ∙ u.other, u.inline), tt)
 
 kind_opened : (t : Tree) → (label t).kind ≡ (label (without_sections t)).kind
 kind_opened (tree l ts) = refl
 
-marks_are : (pages : Pages) (b m : Label) (q : List ℕ) (ps : List Piece) → IsFlatPage q → IsUnmarkedFlatEdit m q ps
+marks_are : (pages : Pages) (b m : Label) (q : List ℕ) (ps : Pieces) → IsFlatPage q → IsUnmarkedFlatEdit m q ps
     → remarked (page_tree pages q) (bare_flat b m q ps) ≡ sent_flat b m q ps
 marks_are pages b m q ps h u =
     let t : Tree = page_tree pages q in
@@ -59,7 +59,7 @@ page_text q h le = λ made.
     ap (λ (v : Bool). if v then refused TooLong else text_answer q made (not_utf8_place q)) (not_longer (length q) PAGE_BYTES le)
     ∙ ap (text_answer q made) (no_place q h.utf8)
 
-pub unmarked_done : (pages : Pages) (b m : Label) (q : List ℕ) (ps : List Piece) (stands : Option (List ℕ)) (input : List ℕ) (unsourced : Option ℕ)
+pub unmarked_done : (pages : Pages) (b m : Label) (q : List ℕ) (ps : Pieces) (stands : Option (List ℕ)) (input : List ℕ) (unsourced : Option ℕ)
     → IsFlatPage q → IsUnmarkedFlatEdit m q ps → stands ≡ Some q → length q ≤ PAGE_BYTES → length (new_flat q ps) ≤ PAGE_BYTES
     → length input ≤ HTML_BYTES → read input ≡ as_page (bare_flat b m q ps) unsourced → DoneByEdit pages stands input
 unmarked_done pages b m q ps stands input unsourced h u found short le small is =

@@ -35,7 +35,7 @@ use Rattle.wt_selser.specs.Edits.{edit_answer}
 use Rattle.wt_commands.specs.declared.refusal.Refusal.TheVariants.{TooLong}
 use Rattle.wt_commands.specs.Answers.{Answer, done, refused, text_answer, title_answer, expanded_by, unspelled_by, unspelled_answer, new_by, new_expanded, new_answer, edit_by, edit_from, edit_to}
 use Rattle.wt_moved_laws.specs.Standing.{standing}
-use Rattle.wt_typed_blocks.specs.Edited.{Piece, gone, written, kept, page_pieces, sent_pieces, pieces_before, sent_body}
+use Rattle.wt_typed_blocks.specs.Edited.{Pieces, no_pieces, gone, written, kept, around, new_style, page_pieces, sent_pieces, pieces_before, sent_body}
 use Rattle.wt_typed_blocks.proofs.EditedShows.{body_shows}
 use Rattle.wt_text_edit_laws.specs.ParagraphBetween.{body_with}
 use Rattle.wt_text_edit_laws.proofs.Blocks.KeptBlocks.{held_source}
@@ -48,7 +48,7 @@ use Rattle.wt_beside_laws.specs.Flat.{IsFlatContent, content_parts}
 use Rattle.wt_text_edit_laws.specs.ParagraphParts.{para_with, joined_parts}
 use Rattle.wt_beside_laws.specs.PageBlocks.{ShowSources}
 use Rattle.wt_beside_laws.specs.PageSigns.{signs_of_lines}
-use Rattle.wt_beside_laws.specs.SentPieces.{PiecesShow}
+use Rattle.wt_beside_laws.specs.SentPieces.{HaveNoStyle, PiecesShow}
 use Rattle.wt_beside_laws.specs.Shown.{parts_shown_at}
 use Rattle.wt_beside_laws.specs.Stood.{things}
 use Rattle.wt_beside_laws.proofs.BlockSigns.{block_nodes, sent_content, block_shows}
@@ -57,7 +57,7 @@ use Rattle.wt_beside_laws.proofs.LineParagraphs.{flat_paragraph, meaning_is}
 use Rattle.wt_beside_laws.proofs.LineShown.{content_is_shown}
 use Rattle.wt_beside_laws.proofs.OwnSigns.{own_content, own_sent}
 use Rattle.wt_beside_laws.proofs.SentNodes.{same_nodes}
-use Rattle.wt_beside_laws.proofs.SentPieces.{same_numbers}
+use Rattle.wt_beside_laws.proofs.SentPieces.{texts_alone, same_numbers}
 use Rattle.wt_beside_laws.proofs.SentShown.{pieces_shown}
 use Rattle.wt_beside_laws.specs.FlatPages.{lines_of, paragraph_of, block_of, IsFlatPage, AreNodesAndTexts, IsFlatEdit, flat_edits, sent_flat, new_signs, new_flat}
 use Rattle.wt_beside_laws.proofs.Edits.OldPages.{IsOneBlock, body_label, one_tree, flat_page, para_label, label_is, of_lines, is_flat}
@@ -78,7 +78,7 @@ known q = page_of same_node (block_of q)
 opening_none : (q : List ℕ) → length (label (block_of q)).opening ≡ 0
 opening_none q = ap (λ (l : Label). length l.opening) (label_is (joined_parts (lines_of q)))
 
-pub same_things : (q : List ℕ) (ps : List Piece) → IsFlatPage q → IsFlatEdit q ps → things (new_signs q ps) ≡ things (signs_of_lines 0 (lines_of q))
+pub same_things : (q : List ℕ) (ps : Pieces) → IsFlatPage q → IsFlatEdit q ps → things (new_signs q ps) ≡ things (signs_of_lines 0 (lines_of q))
 same_things q ps h e =
     same_nodes (known q) place.Paragraph (children_of (block_of q)) (sent_pieces ps) (own_sent same_node (block_of q) tells_same (is_flat q h))
     (are_sent q ps h e) (same_numbers (block_of q) ps e.old e.stay e.go)
@@ -86,7 +86,7 @@ same_things q ps h e =
     ∙ block_nodes (lines_of q) (block_of q) h.flat h.unstyled (of_lines q h)
     ∙ ap (λ (n : ℕ). things (signs_of_lines n (lines_of q))) (opening_none q)
 
-pub new_content : (q : List ℕ) (ps : List Piece) → IsFlatPage q → IsFlatEdit q ps → IsFlatContent (setting q) (new_signs q ps)
+pub new_content : (q : List ℕ) (ps : Pieces) → IsFlatPage q → IsFlatEdit q ps → IsFlatContent (setting q) (new_signs q ps)
 new_content q ps h e =
     let kept_so : AreKept (signs_of_lines (length (label (block_of q)).opening) (lines_of q)) =
     subst (λ (n : ℕ). AreKept (signs_of_lines n (lines_of q))) (sym (opening_none q)) h.kept in
@@ -109,16 +109,16 @@ each_calm [] h = tt
 each_calm (letter c ∷ after) h = each_calm after h
 each_calm (thing t ∷ after) h = (h.0, each_calm after h.1)
 
-pub new_calm : (q : List ℕ) (ps : List Piece) → IsFlatPage q → IsFlatEdit q ps → AreCalm (new_signs q ps)
+pub new_calm : (q : List ℕ) (ps : Pieces) → IsFlatPage q → IsFlatEdit q ps → AreCalm (new_signs q ps)
 new_calm q ps h e =
     each_calm (new_signs q ps) (subst (Each CalmThing) (sym (same_things q ps h e)) (calm_each (signs_of_lines 0 (lines_of q)) h.calm))
 
 -- ---- it is one paragraph
 
-abbrev pub new_parts : List ℕ → List Piece → List Part
+abbrev pub new_parts : List ℕ → Pieces → List Part
 new_parts q ps = content_parts (setting q) [] (new_signs q ps)
 
-abbrev pub new_tree : List ℕ → List Piece → ItemTree
+abbrev pub new_tree : List ℕ → Pieces → ItemTree
 new_tree q ps = para_with (new_parts q ps)
 
 pub means_source : (q : List ℕ) (t : ItemTree) → meaning (page_items q) ≡ body_with (t ∷ []) → sources (tree_items t) ≡ q
@@ -133,13 +133,13 @@ means_source q t means =
 abbrev one_empty : List (List Item)
 one_empty = [] ∷ []
 
-not_empty : (q : List ℕ) (ps : List Piece) → IsFlatContent (setting q) (new_signs q ps) → new_flat q ps ≡ [] → ⊥
+not_empty : (q : List ℕ) (ps : Pieces) → IsFlatContent (setting q) (new_signs q ps) → new_flat q ps ≡ [] → ⊥
 not_empty q ps f z =
     let closed : empty_end (page_items (new_flat q ps)) ≡ [] = (flat_paragraph (setting q) (new_signs q ps) f).closed in
     let none : page_items (new_flat q ps) ≡ [] = ap page_items z ∙ read_items [] [] reads_nothing in
     let no : one_empty ≡ [] = sym (ap empty_end none) ∙ closed in cc
 
-pub new_page : (q : List ℕ) (ps : List Piece) → IsFlatPage q → IsFlatEdit q ps → IsOneBlock (new_flat q ps) (new_tree q ps)
+pub new_page : (q : List ℕ) (ps : Pieces) → IsFlatPage q → IsFlatEdit q ps → IsOneBlock (new_flat q ps) (new_tree q ps)
 new_page q ps h e =
     let f = new_content q ps h e in
     let calm = new_calm q ps h e in
@@ -166,23 +166,25 @@ para_shows ps rest = refl
 face_is : (l : Label) (ps : List Part) → l ≡ para_label ps → face (record l { kind = kind.Para }) ≡ para_face
 face_is l ps is = ap (λ (k : Label). face (record k { kind = kind.Para })) is
 
-abbrev shown_new : List ℕ → List Piece → Plains
+abbrev shown_new : List ℕ → Pieces → Plains
 shown_new q ps = along (element para_face (pieces_before ps ended)) ended
 
-pub show_pieces : (p : Page) (ps : List Piece) → ShowSources p (page_pieces ps) → AreNodesAndTexts ps → PiecesShow p ps
-show_pieces p [] s a = tt
-show_pieces p (gone t ∷ ps) s a = show_pieces p ps s.1 a
-show_pieces p (written x text ∷ ps) s a = (a.0, show_pieces p ps s a.1)
-show_pieces p (kept t u ∷ ps) s a = (a.0, s.0 a.0, show_pieces p ps s.1 a.1)
+pub show_pieces : (p : Page) (ps : Pieces) → ShowSources p (page_pieces ps) → AreNodesAndTexts ps → HaveNoStyle ps → PiecesShow p ps
+show_pieces p no_pieces s a n = tt
+show_pieces p (gone t ps) s a n = show_pieces p ps s.1 a n
+show_pieces p (written x text ps) s a n = (a.0, show_pieces p ps s a.1 n)
+show_pieces p (kept t u ps) s a n = (a.0, s.0 a.0, show_pieces p ps s.1 a.1 n)
+show_pieces p (around l m is ps) s a n = absurd n
+show_pieces p (new_style m is ps) s a n = absurd n
 
-inside_shows : (q : List ℕ) (ps : List Piece) → IsFlatPage q → IsFlatEdit q ps → parts_shown_at 2 [] (new_parts q ps) ended ≡ pieces_before ps ended
+inside_shows : (q : List ℕ) (ps : Pieces) → IsFlatPage q → IsFlatEdit q ps → parts_shown_at 2 [] (new_parts q ps) ended ≡ pieces_before ps ended
 inside_shows q ps h e =
     let own : ShowSources (known q) (children_of (block_of q)) = block_shows same_node (lines_of q) (block_of q) h.flat h.unstyled (of_lines q h) in
-    let show : PiecesShow (known q) ps = show_pieces (known q) ps (subst (ShowSources (known q)) (sym e.old) own) e.are in
+    let show : PiecesShow (known q) ps = show_pieces (known q) ps (subst (ShowSources (known q)) (sym e.old) own) e.are (texts_alone ps e.go) in
     content_is_shown 2 [] (setting q) (new_signs q ps) ended (new_content q ps h e)
     ∙ pieces_shown (known q) place.Paragraph ps ended e.stay (are_sent q ps h e) show
 
-new_shows : (pages : Pages) (q : List ℕ) (ps : List Piece) → IsFlatPage q → IsFlatEdit q ps
+new_shows : (pages : Pages) (q : List ℕ) (ps : Pieces) → IsFlatPage q → IsFlatEdit q ps
     → shown_children (page_tree pages (new_flat q ps)) ≡ listed (shown_new q ps)
 new_shows pages q ps h e =
     let new : List ℕ = new_flat q ps in
@@ -192,7 +194,7 @@ new_shows pages q ps h e =
     ∙ ap listed (para_shows (new_parts q ps) ended)
     ∙ ap (λ (qs : Plains). listed (along (element para_face qs) ended)) (inside_shows q ps h e)
 
-sent_shows : (t : Tree) (b m : Label) (q : List ℕ) (ps : List Piece) → IsFlatPage q → IsFlatEdit q ps
+sent_shows : (t : Tree) (b m : Label) (q : List ℕ) (ps : Pieces) → IsFlatPage q → IsFlatEdit q ps
     → shown_children (restored_from t (sent_body (body_label (paragraph_of q)) b (flat_edits m q ps))) ≡ listed (shown_new q ps)
 sent_shows t b m q ps h e =
     body_shows t (body_label (paragraph_of q)) b (flat_edits m q ps) (are_edited m q ps e) (ungrouped m q ps h e)
@@ -201,7 +203,7 @@ sent_shows t b m q ps h e =
 
 -- ---- the edit is done
 
-new_done : (pages : Pages) (t : Tree) (b m : Label) (q : List ℕ) (ps : List Piece) → IsFlatPage q → IsFlatEdit q ps → length (new_flat q ps) ≤ PAGE_BYTES
+new_done : (pages : Pages) (t : Tree) (b m : Label) (q : List ℕ) (ps : Pieces) → IsFlatPage q → IsFlatEdit q ps → length (new_flat q ps) ≤ PAGE_BYTES
     → new_answer pages t (sent_body (body_label (paragraph_of q)) b (flat_edits m q ps)) (new_flat q ps) ≡ done (new_flat q ps)
 unfolding title_answer
 new_done pages t b m q ps h e le =
@@ -217,7 +219,7 @@ new_done pages t b m q ps h e le =
     ∙ ap (λ xs. unspelled_by new (differing 1 shown xs)) (sent_shows t b m q ps h e)
     ∙ ap (unspelled_by new) (same_none 1 shown)
 
-pub takes_texts : (pages : Pages) (b m : Label) (q : List ℕ) (ps : List Piece) → IsFlatPage q → IsFlatEdit q ps → length (new_flat q ps) ≤ PAGE_BYTES
+pub takes_texts : (pages : Pages) (b m : Label) (q : List ℕ) (ps : Pieces) → IsFlatPage q → IsFlatEdit q ps → length (new_flat q ps) ≤ PAGE_BYTES
     → edit_to pages q (sent_flat b m q ps) ≡ done (new_flat q ps)
 takes_texts pages b m q ps h e le =
     let t : Tree = page_tree pages q in

@@ -13,12 +13,13 @@ use Rattle.wt_guards.specs.Content.{ContentSign, letter, letters, thing}
 use Rattle.wt_original.specs.Kept.{Kept, kept_with}
 use Rattle.wt_original.specs.Page.{Page}
 use Rattle.wt_link_spelling.specs.Spelling.{kept_thing, as_it_stood, unless_kept, anew_by, signs_by, signs_of_all}
-use Rattle.wt_typed_blocks.specs.Edited.{Piece, gone, written, kept, text_node, sent_pieces, PiecesStay}
+use Rattle.wt_typed_blocks.specs.Edited.{Pieces, no_pieces, gone, written, kept, around, new_style, as_new, text_node, sent_pieces, PiecesStay}
 use Rattle.wt_text_edit_laws.proofs.Texts.PlainWords.{and_left, and_right}
 use Rattle.wt_beside_laws.specs.Lines.{AreCharacters}
 use Rattle.wt_beside_laws.specs.SentNodes.{IsUnchanged, IsSentBy, AreSent}
 use Rattle.wt_beside_laws.specs.SentPieces.{IsNodeForm, FitsBy, TextsFit}
 use Rattle.wt_beside_laws.specs.FlatPages.{AreNodesAndTexts}
+use Rattle.wt_beside_laws.proofs.SentPieces.{no_style, no_style_sent}
 
 -- ---- in a paragraph any text fits
 
@@ -81,13 +82,15 @@ text_sent : (p : Page) (x : Label) (text : List ℕ) (us : Trees) → AreSent p 
 text_sent p x [] us h = h
 text_sent p x (c ∷ cs) us h = h.1
 
-pub pieces_characters : (p : Page) (pl : Place) (ps : List Piece) → PiecesStay ps → AreSent p (sent_pieces ps) → AreNodesAndTexts ps
+pub pieces_characters : (p : Page) (pl : Place) (ps : Pieces) → PiecesStay ps → AreSent p (sent_pieces ps) → AreNodesAndTexts ps
     → AreCharacters (signs_of_all p pl (sent_pieces ps))
-pieces_characters p pl [] h e a = tt
-pieces_characters p pl (gone t ∷ ps) h e a = pieces_characters p pl ps h e a
-pieces_characters p pl (written x text ∷ ps) h e a =
+pieces_characters p pl no_pieces h e a = tt
+pieces_characters p pl (gone t ps) h e a = pieces_characters p pl ps h e a
+pieces_characters p pl (written x text ps) h e a =
     text_before p pl x text (sent_pieces ps) a.0 (pieces_characters p pl ps h (text_sent p x text (sent_pieces ps) e) a.1)
-pieces_characters p pl (kept (tree l ts) (tree m us) ∷ ps) h e a =
+pieces_characters p pl (kept (tree l ts) (tree m us) ps) h e a =
     let form : IsNodeForm (edit_shape m.kind).inline = subst (λ k. IsNodeForm (edit_shape k).inline) (sym h.0.0.kind) a.0 in
     both_characters (signs_by (edit_shape m.kind).inline p pl (kept_with m.id p.kept) m us (signs_of_all p pl us)) (signs_of_all p pl (sent_pieces ps))
     (node_characters (edit_shape m.kind).inline p pl m us (signs_of_all p pl us) form e.0) (pieces_characters p pl ps h.1 e.1 a.1)
+pieces_characters p pl (around l m is ps) h e a = no_style_sent p l m (sent_pieces is) h.0 h.1 e.0
+pieces_characters p pl (new_style m is ps) h e a = no_style p (as_new m) (sent_pieces is) h.0 e.0

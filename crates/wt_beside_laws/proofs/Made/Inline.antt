@@ -30,7 +30,8 @@ use Rattle.wt_expand.specs.PageItems.{page_items}
 use Rattle.wt_link_spelling.specs.Spelling.{children_of}
 use Rattle.wt_moved_laws.specs.Standing.{standing}
 use Rattle.wt_typed_blocks.specs.Sent.{kind_of}
-use Rattle.wt_typed_blocks.specs.Edited.{Piece, gone, written, kept, page_pieces, PiecesStay}
+use Rattle.wt_typed_blocks.specs.Edited.{Pieces, no_pieces, gone, written, kept, around, new_style, page_pieces, PiecesStay}
+use Rattle.wt_typed_blocks.proofs.SentGroups.{apart}
 use Rattle.wt_typed_blocks.specs.EditedUnmarked.{AreInline}
 use Rattle.wt_text_edit_laws.specs.Contents.{IsContentOf, content_parts_of}
 use Rattle.wt_text_edit_laws.specs.NoCalls.{CallsNothing}
@@ -149,13 +150,16 @@ block_inline k q n b u h e c =
 
 -- ---- so what stays is inline
 
-pieces_inline : (ps : List Piece) → AllInline (page_pieces ps) → PiecesStay ps → AreInline ps
-pieces_inline [] a h = tt
-pieces_inline (gone t ∷ ps) a h = pieces_inline ps a.1 h
-pieces_inline (written x text ∷ ps) a h = pieces_inline ps a h
-pieces_inline (kept (tree l ts) (tree m us) ∷ ps) a h = (ap is_block_part h.0.0.kind ∙ a.0, pieces_inline ps a.1 h.1)
+pieces_inline : (ps : Pieces) → AllInline (page_pieces ps) → PiecesStay ps → AreInline ps
+pieces_inline no_pieces a h = tt
+pieces_inline (gone t ps) a h = pieces_inline ps a.1 h
+pieces_inline (written x text ps) a h = pieces_inline ps a h
+pieces_inline (kept (tree l ts) (tree m us) ps) a h = (ap is_block_part h.0.0.kind ∙ a.0, pieces_inline ps a.1 h.1)
+pieces_inline (around l m is ps) a h = pieces_inline ps a.1 h.3
+pieces_inline (new_style m is ps) a h =
+    let r = apart (λ t. is_block_part (label t).kind ≡ false) (λ us. AllInline us) tt (λ t us d. d) (λ t us d. d) (page_pieces is) (page_pieces ps) a in pieces_inline ps r.1 h.2
 
-pub stays_inline : (k : TextBlock) (q : List ℕ) (block : Tree) (ps : List Piece) → IsUtf8 q → IsContentOf k q → page_items (source_of k q) ≡ block_items k q
+pub stays_inline : (k : TextBlock) (q : List ℕ) (block : Tree) (ps : Pieces) → IsUtf8 q → IsContentOf k q → page_items (source_of k q) ≡ block_items k q
     → CallsNothing (block_items k q) → IsIn k q block → page_pieces ps ≡ children_of block → PiecesStay ps → AreInline ps
 stays_inline k q block ps u h e c i old stay =
     pieces_inline ps (subst AllInline (sym (old ∙ ap children_of i.is)) (block_inline k q i.number i.before u h e c)) stay

@@ -16,13 +16,15 @@ use Rattle.wt_original.specs.Page.{Page}
 use Rattle.wt_content.specs.Content.{has_break, break_fault}
 use Rattle.wt_content.specs.declared.reason.ContentWhy.TheVariants as why
 use Rattle.wt_link_spelling.specs.Spelling.{kept_thing, as_it_stood, unless_kept, anew_by, signs_by, signs_of_all}
-use Rattle.wt_typed_blocks.specs.Edited.{Piece, gone, written, kept, text_node, sent_pieces, PiecesStay}
+use Rattle.wt_typed_blocks.specs.Edited.{Pieces, no_pieces, gone, written, kept, around, new_style, as_new, text_node, sent_pieces, IsStyle, PiecesStay}
+use Rattle.wt_typed_blocks.proofs.SentGroups.{of_style}
 use Rattle.wt_text_edit_laws.proofs.Headings.TypedTexts.{has_line, chars_line, same_break}
 use Rattle.wt_beside_laws.specs.FlatBlocks.{AreOneLine}
 use Rattle.wt_beside_laws.specs.FlatPages.{AreNodesAndTexts}
 use Rattle.wt_beside_laws.specs.InHeadings.{AreOnOneLine}
 use Rattle.wt_beside_laws.specs.SentNodes.{IsUnchanged, IsSentBy, AreSent}
 use Rattle.wt_beside_laws.specs.SentPieces.{IsNodeForm, FitsBy, TextsFit}
+use Rattle.wt_beside_laws.proofs.SentPieces.{no_style, no_style_sent}
 
 -- ---- a text on one line has no line break among its characters
 
@@ -69,16 +71,18 @@ text_sent : (p : Page) (x : Label) (text : List ℕ) (us : Trees) → AreSent p 
 text_sent p x [] us h = h
 text_sent p x (c ∷ cs) us h = h.1
 
-pub pieces_on_one_line : (p : Page) (pl : Place) (ps : List Piece) → PiecesStay ps → AreSent p (sent_pieces ps) → AreNodesAndTexts ps → AreOneLine ps
+pub pieces_on_one_line : (p : Page) (pl : Place) (ps : Pieces) → PiecesStay ps → AreSent p (sent_pieces ps) → AreNodesAndTexts ps → AreOneLine ps
     → AreOnOneLine (signs_of_all p pl (sent_pieces ps))
-pieces_on_one_line p pl [] h e a o = tt
-pieces_on_one_line p pl (gone t ∷ ps) h e a o = pieces_on_one_line p pl ps h e a o
-pieces_on_one_line p pl (written x text ∷ ps) h e a o =
+pieces_on_one_line p pl no_pieces h e a o = tt
+pieces_on_one_line p pl (gone t ps) h e a o = pieces_on_one_line p pl ps h e a o
+pieces_on_one_line p pl (written x text ps) h e a o =
     text_before p pl x text (sent_pieces ps) a.0 o.0 (pieces_on_one_line p pl ps h (text_sent p x text (sent_pieces ps) e) a.1 o.1)
-pieces_on_one_line p pl (kept (tree l ts) (tree m us) ∷ ps) h e a o =
+pieces_on_one_line p pl (kept (tree l ts) (tree m us) ps) h e a o =
     let form : IsNodeForm (edit_shape m.kind).inline = subst (λ k. IsNodeForm (edit_shape k).inline) (sym h.0.0.kind) a.0 in
     both_on_one_line (signs_by (edit_shape m.kind).inline p pl (kept_with m.id p.kept) m us (signs_of_all p pl us)) (signs_of_all p pl (sent_pieces ps))
     (node_by (edit_shape m.kind).inline p pl m us (signs_of_all p pl us) form e.0) (pieces_on_one_line p pl ps h.1 e.1 a.1 o)
+pieces_on_one_line p pl (around l m is ps) h e a o = no_style_sent p l m (sent_pieces is) h.0 h.1 e.0
+pieces_on_one_line p pl (new_style m is ps) h e a o = no_style p (as_new m) (sent_pieces is) h.0 e.0
 
 -- ---- a text fits
 
@@ -102,10 +106,15 @@ written_fits : (v : Bool) (x : Label) (text : List ℕ) (us : Trees) → (v ≡ 
 written_fits v x [] us f h = h
 written_fits v x (c ∷ cs) us f h = (text_fits v (c ∷ cs) f, h)
 
-pub pieces_fit : (v : Bool) (ps : List Piece) → PiecesStay ps → AreNodesAndTexts ps → (v ≡ false → AreOneLine ps) → TextsFit v (sent_pieces ps)
-pieces_fit v [] h a f = tt
-pieces_fit v (gone t ∷ ps) h a f = pieces_fit v ps h a f
-pieces_fit v (written x text ∷ ps) h a f = written_fits v x text (sent_pieces ps) (λ e. (f e).0) (pieces_fit v ps h a.1 (λ e. (f e).1))
-pieces_fit v (kept (tree l ts) (tree m us) ∷ ps) h a f =
+pub pieces_fit : (v : Bool) (ps : Pieces) → PiecesStay ps → AreNodesAndTexts ps → (v ≡ false → AreOneLine ps) → TextsFit v (sent_pieces ps)
+pieces_fit v no_pieces h a f = tt
+pieces_fit v (gone t ps) h a f = pieces_fit v ps h a f
+pieces_fit v (written x text ps) h a f = written_fits v x text (sent_pieces ps) (λ e. (f e).0) (pieces_fit v ps h a.1 (λ e. (f e).1))
+pieces_fit v (kept (tree l ts) (tree m us) ps) h a f =
     let form : IsNodeForm (edit_shape m.kind).inline = subst (λ k. IsNodeForm (edit_shape k).inline) (sym h.0.0.kind) a.0 in
     (node_fits (edit_shape m.kind).inline v m form, pieces_fit v ps h.1 a.1 f)
+pieces_fit v (around l m is ps) h a f = (
+  of_style (λ k. FitsBy (edit_shape k).inline v m) m.kind (subst IsStyle (sym h.1.kind) h.0) tt tt,
+  pieces_fit v ps h.3 a.1 f,
+)
+pieces_fit v (new_style m is ps) h a f = (of_style (λ k. FitsBy (edit_shape k).inline v (as_new m)) m.kind h.0 tt tt, pieces_fit v ps h.2 a.1 f)

@@ -19,7 +19,7 @@ use Rattle.wt_visible.specs.SameNodes.{same_node}
 use Rattle.wt_visible.proofs.SameTells.{tells_same}
 use Rattle.wt_moved_laws.specs.Standing.{standing}
 use Rattle.wt_typed_blocks.specs.Sent.{kind_of}
-use Rattle.wt_typed_blocks.specs.Edited.{Piece, sent_pieces, pieces_before, page_node, sent_node, edited_before}
+use Rattle.wt_typed_blocks.specs.Edited.{Pieces, page_pieces, sent_pieces, pieces_before, page_node, sent_node, edited_before}
 use Rattle.wt_typed_blocks.specs.EditedPage.{edited_source}
 use Rattle.wt_typed_blocks.specs.Typed.{place_of}
 use Rattle.wt_text_edit_laws.specs.Contents.{IsNewContent}
@@ -62,29 +62,29 @@ known block = page_of same_node block
 abbrev pub setting : TextBlock → Tree → Setting
 setting k block = record { within = false; place = place_of (block_of k); source = flat block }
 
-abbrev signs : TextBlock → Tree → List Piece → List ContentSign
+abbrev signs : TextBlock → Tree → Pieces → List ContentSign
 signs k block ps = signs_of_all (known block) (place_of (block_of k)) (sent_pieces ps)
 
-spelled_by : (k : TextBlock) (old block : Tree) (m : Label) (ps : List Piece)
+spelled_by : (k : TextBlock) (old block : Tree) (m : Label) (ps : Pieces)
     → inline_spelling same_node old (sent_node (content_edit k block m ps)) (place_of (block_of k)) ≡ spelled (setting k old) (signs k old ps)
 unfolding inline_spelling
 spelled_by k old block m ps = refl
 
-pub new_is : (k : TextBlock) (q : List ℕ) (block : Tree) (m : Label) (ps : List Piece) → IsIn k q block → IsFlatEditOf k block ps
+pub new_is : (k : TextBlock) (q : List ℕ) (block : Tree) (m : Label) (ps : Pieces) → IsIn k q block → page_pieces ps ≡ children_of block
     → new_content k block m ps ≡ spelled (setting k block) (signs k block ps)
-new_is k q block m ps i e =
+new_is k q block m ps i old =
     spelled_by k (page_node (content_edit k block m ps)) block m ps
-    ∙ ap (λ (t : Tree). spelled (setting k t) (signs k t ps)) (node_is k q block m ps i e.old)
+    ∙ ap (λ (t : Tree). spelled (setting k t) (signs k t ps)) (node_is k q block m ps i old)
 
 -- ---- its nodes are the page's
 
 block_flat : (k : TextBlock) (q : List ℕ) (block : Tree) → IsFlatIn k q → IsIn k q block → IsFlatBlock block
 block_flat k q block h i = flat_block (lines_in k q) block h.flat h.unstyled (of_lines k q block h i)
 
-are_sent : (k : TextBlock) (q : List ℕ) (block : Tree) (ps : List Piece) → IsFlatIn k q → IsIn k q block → IsFlatEditOf k block ps → AreSent (known block) (sent_pieces ps)
-are_sent k q block ps h i e = stays_sent same_node block ps tells_same (block_flat k q block h i) e.old e.stay
+are_sent : (k : TextBlock) (q : List ℕ) (block : Tree) (ps : Pieces) → IsFlatIn k q → IsIn k q block → IsFlatEditOf k block ps → AreSent (known block) (sent_pieces ps)
+are_sent k q block ps h i e = stays_sent same_node block ps tells_same (block_flat k q block h i) e.old e.stay e.plain
 
-some_things : (k : TextBlock) (q : List ℕ) (block : Tree) (ps : List Piece) → IsFlatIn k q → IsIn k q block → IsFlatEditOf k block ps
+some_things : (k : TextBlock) (q : List ℕ) (block : Tree) (ps : Pieces) → IsFlatIn k q → IsIn k q block → IsFlatEditOf k block ps
     → AreAmong (things (signs k block ps)) (things (signs_in k q))
 some_things k q block ps h i e =
     let flat_one : IsFlatBlock block = block_flat k q block h i in
@@ -94,7 +94,7 @@ some_things k q block ps h i e =
     ∙ ap (λ (n : ℕ). things (signs_of_lines n (lines_in k q))) (block_begins k q block i) in
     subst (AreAmong (things (signs k block ps))) page
     (some_nodes (known block) (place_of (block_of k)) (children_of block) (sent_pieces ps) (own_sent same_node block tells_same flat_one)
-    (are_sent k q block ps h i e) (some_numbers block ps e.old e.stay))
+    (are_sent k q block ps h i e) (some_numbers block ps e.old e.stay e.plain))
 
 calm_each : (ss : List ContentSign) → AreCalm ss → Each (λ t. IsCalm t.source) (things ss)
 calm_each [] h = tt
@@ -106,12 +106,12 @@ each_calm [] h = tt
 each_calm (letter c ∷ after) h = each_calm after h
 each_calm (thing t ∷ after) h = (h.0, each_calm after h.1)
 
-fits_in : (k : TextBlock) (block : Tree) (ps : List Piece) → IsFlatEditOf k block ps → AreSent (known block) (sent_pieces ps) → FitsIn k (setting k block) (signs k block ps)
+fits_in : (k : TextBlock) (block : Tree) (ps : Pieces) → IsFlatEditOf k block ps → AreSent (known block) (sent_pieces ps) → FitsIn k (setting k block) (signs k block ps)
 fits_in a_paragraph block ps e sent = tt
 fits_in (a_heading s) block ps e sent =
     (refl, pieces_on_one_line (known block) (place_of (block_of (a_heading s))) ps e.stay sent e.are e.fit)
 
-pub is_written : (k : TextBlock) (q : List ℕ) (block : Tree) (ps : List Piece) → IsFlatIn k q → IsIn k q block → IsFlatEditOf k block ps
+pub is_written : (k : TextBlock) (q : List ℕ) (block : Tree) (ps : Pieces) → IsFlatIn k q → IsIn k q block → IsFlatEditOf k block ps
     → IsWritten k (setting k block) (signs k block ps)
 is_written k q block ps h i e =
     let sent = are_sent k q block ps h i e in
@@ -133,11 +133,11 @@ pub breaks_so : (k : TextBlock) → is_paragraph (edit_shape (kind_of (block_of 
 breaks_so a_paragraph = refl
 breaks_so (a_heading s) = refl
 
-pub one_line_so : (k : TextBlock) (ps : List Piece) → TextsFitIn k ps → takes_breaks k ≡ false → AreOneLine ps
+pub one_line_so : (k : TextBlock) (ps : Pieces) → TextsFitIn k ps → takes_breaks k ≡ false → AreOneLine ps
 one_line_so a_paragraph ps f e = absurd (cc)
 one_line_so (a_heading s) ps f e = f
 
-is_taken : (k : TextBlock) (q : List ℕ) (block : Tree) (m : Label) (ps : List Piece) → IsFlatIn k q → IsIn k q block → IsFlatEditOf k block ps
+is_taken : (k : TextBlock) (q : List ℕ) (block : Tree) (m : Label) (ps : Pieces) → IsFlatIn k q → IsIn k q block → IsFlatEditOf k block ps
     → bad_content same_node (page_node (content_edit k block m ps)) (sent_node (content_edit k block m ps)) ≡ None
 is_taken k q block m ps h i e =
     let new : Tree = sent_node (content_edit k block m ps) in
@@ -153,7 +153,7 @@ is_taken k q block m ps h i e =
 delimited_by : (a b c d : List ℕ) (bs : List ℕ) → a ≡ b → c ≡ d → a ++ (bs ++ c) ≡ b ++ (bs ++ d)
 delimited_by a b c d bs e f = ap₂ (λ (x y : List ℕ). x ++ (bs ++ y)) e f
 
-pub source_is : (k : TextBlock) (q : List ℕ) (block : Tree) (m : Label) (ps : List Piece) → IsIn k q block
+pub source_is : (k : TextBlock) (q : List ℕ) (block : Tree) (m : Label) (ps : Pieces) → IsIn k q block
     → edited_source same_node (content_edit k block m ps) ≡ source_of k (new_content k block m ps)
 source_is k q block m ps i =
     append_assoc (label block).opening (new_content k block m ps) (label block).closing
@@ -169,23 +169,23 @@ unfolding label_at
 parts_show a_paragraph ps rest = refl
 parts_show (a_heading s) ps rest = refl
 
-inside_shows : (k : TextBlock) (q : List ℕ) (block : Tree) (ps : List Piece) → IsFlatIn k q → IsIn k q block → IsFlatEditOf k block ps
+inside_shows : (k : TextBlock) (q : List ℕ) (block : Tree) (ps : Pieces) → IsFlatIn k q → IsIn k q block → IsFlatEditOf k block ps
     → parts_shown_at 1 (open_items k) (content_parts (setting k block) [] (signs k block ps)) ended ≡ pieces_before ps ended
 inside_shows k q block ps h i e =
     let w = is_written k q block ps h i e in
     let own : ShowSources (known block) (children_of block) = block_shows same_node (lines_in k q) block h.flat h.unstyled (of_lines k q block h i) in
-    let show : PiecesShow (known block) ps = show_pieces (known block) ps (subst (ShowSources (known block)) (sym e.old) own) e.are in
+    let show : PiecesShow (known block) ps = show_pieces (known block) ps (subst (ShowSources (known block)) (sym e.old) own) e.are e.plain in
     content_is_shown 1 (open_items k) (setting k block) (signs k block ps) ended w.flat
     ∙ pieces_shown (known block) (place_of (block_of k)) ps ended e.stay (are_sent k q block ps h i e) show
 
-new_tree : (k : TextBlock) (q : List ℕ) (block : Tree) (m : Label) (ps : List Piece) → IsFlatIn k q → IsIn k q block → IsFlatEditOf k block ps
+new_tree : (k : TextBlock) (q : List ℕ) (block : Tree) (m : Label) (ps : Pieces) → IsFlatIn k q → IsIn k q block → IsFlatEditOf k block ps
     → block_tree k (new_content k block m ps) ≡ with_parts k (content_parts (setting k block) [] (signs k block ps))
 new_tree k q block m ps h i e =
-    ap (block_tree k) (new_is k q block m ps i e)
+    ap (block_tree k) (new_is k q block m ps i e.old)
     ∙ parts_are k (spelled (setting k block) (signs k block ps))
     ∙ ap (with_parts k) (parts_written k (setting k block) (signs k block ps) (is_written k q block ps h i e))
 
-it_shows : (k : TextBlock) (q : List ℕ) (block : Tree) (m : Label) (ps : List Piece) (rest : Plains) → IsFlatIn k q → IsIn k q block → IsFlatEditOf k block ps
+it_shows : (k : TextBlock) (q : List ℕ) (block : Tree) (m : Label) (ps : Pieces) (rest : Plains) → IsFlatIn k q → IsIn k q block → IsFlatEditOf k block ps
     → edited_before (content_edit k block m ps) rest ≡ plain_before (standing 0 [] (block_tree k (new_content k block m ps))) rest
 it_shows k q block m ps rest h i e =
     let parts : List Part = content_parts (setting k block) [] (signs k block ps) in
@@ -196,23 +196,23 @@ it_shows k q block m ps rest h i e =
 
 -- ---- so it makes the new content
 
-pub makes_content : (k : TextBlock) (q : List ℕ) (block : Tree) (m : Label) (ps : List Piece) → IsFlatIn k q → IsIn k q block → IsFlatEditOf k block ps
+pub makes_content : (k : TextBlock) (q : List ℕ) (block : Tree) (m : Label) (ps : Pieces) → IsFlatIn k q → IsIn k q block → IsFlatEditOf k block ps
     → MakesContent k q block m ps
 makes_content k q block m ps h i e =
     let w = is_written k q block ps h i e in
     record {
       taken = is_taken k q block m ps h i e;
-      new = subst (IsNewContent k q) (sym (new_is k q block m ps i e))
+      new = subst (IsNewContent k q) (sym (new_is k q block m ps i e.old))
           (new_written k q (setting k block) (signs k block ps) h w (some_things k q block ps h i e));
       source = source_is k q block m ps i;
       shows = λ rest. it_shows k q block m ps rest h i e;
       inline = stays_inline k q block ps h.utf8 h.is h.unended h.calls_nothing i e.old e.stay;
     }
 
-pub flat_then : (k : TextBlock) (q : List ℕ) (block : Tree) (m : Label) (ps : List Piece) → IsFlatIn k q → IsIn k q block → IsFlatEditOf k block ps
+pub flat_then : (k : TextBlock) (q : List ℕ) (block : Tree) (m : Label) (ps : Pieces) → IsFlatIn k q → IsIn k q block → IsFlatEditOf k block ps
     → IsFlatIn k (new_content k block m ps)
 flat_then k q block m ps h i e =
-    subst (IsFlatIn k) (sym (new_is k q block m ps i e))
+    subst (IsFlatIn k) (sym (new_is k q block m ps i e.old))
     (flat_again k q (setting k block) (signs k block ps) h (is_written k q block ps h i e) (some_things k q block ps h i e))
 
 -- ---- in other words
@@ -220,10 +220,10 @@ flat_then k q block m ps h i e =
 pub in_page : (k : TextBlock) (q : List ℕ) (n : ℕ) (b : List Item) (block : Tree) → 0 < n → block ≡ standing n b (block_tree k q) → IsIn k q block
 in_page k q n b block some is = record { number = n; before = b; some = some; is = is }
 
-pub makes_so : (k : TextBlock) (q : List ℕ) (n : ℕ) (b : List Item) (block : Tree) (m : Label) (ps : List Piece) → IsFlatIn k q → 0 < n
+pub makes_so : (k : TextBlock) (q : List ℕ) (n : ℕ) (b : List Item) (block : Tree) (m : Label) (ps : Pieces) → IsFlatIn k q → 0 < n
     → block ≡ standing n b (block_tree k q) → IsFlatEditOf k block ps → MakesContent k q block m ps
 makes_so k q n b block m ps h some is e = makes_content k q block m ps h (in_page k q n b block some is) e
 
-pub flat_so : (k : TextBlock) (q : List ℕ) (n : ℕ) (b : List Item) (block : Tree) (m : Label) (ps : List Piece) → IsFlatIn k q → 0 < n
+pub flat_so : (k : TextBlock) (q : List ℕ) (n : ℕ) (b : List Item) (block : Tree) (m : Label) (ps : Pieces) → IsFlatIn k q → 0 < n
     → block ≡ standing n b (block_tree k q) → IsFlatEditOf k block ps → IsFlatIn k (new_content k block m ps)
 flat_so k q n b block m ps h some is e = flat_then k q block m ps h (in_page k q n b block some is) e

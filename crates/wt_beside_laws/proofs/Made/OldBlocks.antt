@@ -15,7 +15,7 @@ use Rattle.wt_link_spelling.specs.Spelling.{children_of}
 use Rattle.wt_moved_laws.specs.Standing.{standing}
 use Rattle.wt_moved_laws.proofs.Ordinary.{standing_ordinary, ordinary_ungrouped}
 use Rattle.wt_typed_blocks.specs.Sent.{kind_of}
-use Rattle.wt_typed_blocks.specs.Edited.{Piece, page_pieces, page_node}
+use Rattle.wt_typed_blocks.specs.Edited.{Pieces, page_pieces, page_node}
 use Rattle.wt_text_edit_laws.specs.Contents.{IsContentOf, content_parts_of}
 use Rattle.wt_text_edit_laws.specs.NoCalls.{CallsNothing}
 use Rattle.wt_text_edit_laws.specs.LonePages.{page_chars}
@@ -121,7 +121,7 @@ block_begins k q block i = ap length (block_opening k q block i) ∙ opening_len
 node_by : (k : Kind) (block : Tree) (ts : Trees) → (label block).kind ≡ k → ts ≡ children_of block → tree (record (label block) { kind = k }) ts ≡ block
 node_by k (tree l cs) ts e is = ap (λ (j : Kind). tree (record l { kind = j }) ts) (sym e) ∙ ap (tree l) is
 
-pub node_is : (k : TextBlock) (q : List ℕ) (block : Tree) (m : Label) (ps : List Piece) → IsIn k q block → page_pieces ps ≡ children_of block
+pub node_is : (k : TextBlock) (q : List ℕ) (block : Tree) (m : Label) (ps : Pieces) → IsIn k q block → page_pieces ps ≡ children_of block
     → page_node (content_edit k block m ps) ≡ block
 node_is k q block m ps i e = node_by (kind_of (block_of k)) block (page_pieces ps) (block_kind k q block i) e
 

@@ -46,10 +46,10 @@ use Rattle.wt_beside_laws.specs.StyledIn.{IsStyledIn}
 use Rattle.wt_beside_laws.proofs.Firm.{alone_as, parts_read}
 use Rattle.wt_beside_laws.proofs.Edits.Cases.{break_alone, break_kept, break_calm}
 
-abbrev own : List ℕ
+abbrev pub own : List ℕ
 own = codes "''x''<br>y"
 
-items_are : page_items own ≡ page_chars own
+pub items_are : page_items own ≡ page_chars own
 unfolding word_at comment_len raw_len include_at opening_word closing_word word_after with_inside is_extension entity_at named_entity entity_names decimal_entity hex_entity sign_word
 items_are =
     alone_as own (page_chars own)

@@ -12,7 +12,7 @@ use Rattle.wt_tree.specs.Tiling.{HasNoGroup, NoneIsGroup}
 use Rattle.wt_tree.specs.Tree.{Label, Tree, tree, Trees, none, more, label}
 use Rattle.wt_guards.specs.declared.role.Role.{Role}
 use Rattle.wt_guards.specs.Content.{ContentSign, Thing, letter}
-use Rattle.wt_original.specs.Kept.{items, visible, found_from, found_in}
+use Rattle.wt_original.specs.Kept.{items, visible, kept_of, found_at, found_from, found_in}
 use Rattle.wt_original.specs.Page.{Page, page_of, TellsSame}
 use Rattle.wt_inline.specs.declared.loose.Loose.{Loose}
 use Rattle.wt_inline.specs.declared.loose.Loose.TheVariants.{Text, Sep}
@@ -54,7 +54,7 @@ use Rattle.wt_beside_laws.proofs.BlockNumbers.{block_counts}
 use Rattle.wt_beside_laws.proofs.BlockSigns.{block_by, its_children, no_leaf, inside}
 use Rattle.wt_beside_laws.proofs.LineThings.{nodes_parts, segments_parts, tiles_here}
 use Rattle.wt_beside_laws.proofs.Made.OldBlocks.{with_parts, parts_are, lines_are, IsIn, no_group}
-use Rattle.wt_beside_laws.proofs.OwnSigns.{Every, every_left, every_right, Finds, all_found, sent_own}
+use Rattle.wt_beside_laws.proofs.OwnSigns.{Every, every_left, every_right, Finds, all_found, own_unchanged, sent_own}
 use Rattle.wt_beside_laws.proofs.PageSigns.{flat_nodes}
 use Rattle.wt_beside_laws.proofs.PartThings.{IsThingForm, IsThing, tree_source, IsAlone, HaveThings, nodes_of, stands_form, node_number, shows_source}
 use Rattle.wt_beside_laws.proofs.Styled.BlockNodes.{finds_own, style_round, style_children, style_holds, found_inside}
@@ -62,11 +62,16 @@ use Rattle.wt_beside_laws.proofs.Styled.StyledTexts.{HasTexts, HaveTexts, block_
 
 -- ---- its styles are the page's
 
+-- unchanged, and of the kind of the page's node with its number
+pub record IsOwnStyle (p : Page) (l : Label) (ts : Trees) : Type 0 where
+  pub own : IsUnchanged p l ts
+  pub kind : (label own.kept.node).kind ≡ l.kind
+
 abbrev pub KnownBy : InlineForm → Page → Label → Trees → Type 0 → Type 0
 KnownBy inline.Nothing p l ts inside = Unit {0}
 KnownBy inline.Characters p l ts inside = Unit {0}
-KnownBy inline.Bold p l ts inside = IsUnchanged p l ts × inside
-KnownBy inline.Italic p l ts inside = IsUnchanged p l ts × inside
+KnownBy inline.Bold p l ts inside = IsOwnStyle p l ts × inside
+KnownBy inline.Italic p l ts inside = IsOwnStyle p l ts × inside
 KnownBy inline.Shown p l ts inside = Unit {0}
 KnownBy inline.PageLink p l ts inside = Unit {0}
 KnownBy inline.ExternalLink p l ts inside = Unit {0}
@@ -227,7 +232,7 @@ children_go ps same block at from n before some h g x e = runs_go (runs one_leaf
 -- ---- a style
 
 abbrev IsSame : Page → Tree → Type 0
-IsSame p (tree l ts) = IsUnchanged p l ts
+IsSame p (tree l ts) = IsOwnStyle p l ts
 
 style_is : (kind : Bool) (p : Page) (n : ℕ) (before opening closing : List Item) (ps : List Part)
     → IsSame p (standing n before (style_round kind opening ps closing)) → Go p (nodes_of (n + 1) (before ++ opening) (forest (children ps)))
@@ -243,7 +248,12 @@ style_number false n before opening closing ps some = omega (arith, some)
 
 tree_same : (same : Tree → Tree → Bool) (block t : Tree) (at from : ℕ) → TellsSame same → (label t).id ≢ 0 → HasNoGroup t → Every (Finds block) (found_from at from t)
     → IsSame (page_of same block) t
-tree_same same block (tree l ts) at from tells d g e = sent_own same block at from l ts tells g (finds_own block at from (tree l ts) d e)
+tree_same same block (tree l ts) at from tells d g e =
+    let f : Finds block (found_at at from (tree l ts)) = finds_own block at from (tree l ts) d e in
+    record {
+      own = record { kept = kept_of block (found_at at from (tree l ts)); found = f; same = own_unchanged same block (tree l ts) at from tells g };
+      kind = refl;
+    }
 
 style_free : (kind : Bool) (n : ℕ) (before opening closing : List Item) (ps : List Part) → HasNoGroup (standing n before (style_round kind opening ps closing))
     → NoneIsGroup (nodes_of (n + 1) (before ++ opening) (forest (children ps)))

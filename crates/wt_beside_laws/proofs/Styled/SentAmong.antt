@@ -25,6 +25,7 @@ use Rattle.wt_beside_laws.specs.StyledNodes.{IsPut, AreSomeAndPut, AreUrlsApart}
 use Rattle.wt_beside_laws.proofs.SentNodes.{things_append}
 use Rattle.wt_beside_laws.proofs.Styled.BlockNodes.{with_append}
 use Rattle.wt_beside_laws.proofs.Styled.BlockStyles.{styled_nodes}
+use Rattle.wt_beside_laws.proofs.Styled.Delimiters.{no_delimiter}
 use Rattle.wt_beside_laws.proofs.Styled.SentStyles.{signs_joined, sent_nested}
 use Rattle.wt_beside_laws.proofs.Styled.StyledNodes.{styled_content}
 
@@ -142,7 +143,7 @@ mutual
 -- ---- the content
 
 pub sent_styles : (same : Tree → Tree → Bool) (s : Setting) (ls : List (List Item)) (block : Tree) (us : Trees) → s.within ≡ false → AreFlatLines ls
-    → IsBlockOfLines ls block → AreKept (signs_of_lines (length (label block).opening) ls) → AllNest (page_of same block) false false us
+    → IsBlockOfLines ls block → AreKept (signs_of_lines (length (label block).opening) ls) → AllNest false false us
     → AreSomeOf (all_numbers us) (all_numbers (children_of block)) → AreCharacters (signs_in (sent_content (page_of same block) us))
     → AreUrlsApart (things (signs_in (sent_content (page_of same block) us))) → IsStyledContent s (sent_content (page_of same block) us)
 sent_styles same s ls block us within flat b kept nest some typed apart =
@@ -154,4 +155,4 @@ sent_styles same s ls block us within flat b kept nest some typed apart =
     let all : AreSomeAndPut (things (signs_in t)) (things (signs_of_lines at ls)) =
     some_of (things (signs_in t)) (things_with (kept_nodes block) (all_numbers us)) (things (signs_of_lines at ls)) (sent_some p us)
     (subst (AreSomeOf (things_with (kept_nodes block) (all_numbers us))) (styled_nodes ls block flat b) own) in
-    styled_content s ls at t within flat kept typed (sent_nested p false false us nest) all apart
+    styled_content s ls at t within flat kept typed (sent_nested p false false us (no_delimiter same block) nest) all apart

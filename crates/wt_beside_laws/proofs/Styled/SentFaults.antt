@@ -19,15 +19,16 @@ use Rattle.wt_tree.specs.Tiling.{is_group, HasNoGroup, NoneIsGroup}
 use Rattle.wt_tree.specs.Tree.{Label, Tree, tree, Trees, none, more, label}
 use Rattle.wt_guards.specs.Content.{ContentSign}
 use Rattle.wt_original.specs.Kept.{Kept, kept_with}
-use Rattle.wt_original.specs.Page.{Page, page_of, TellsSame}
+use Rattle.wt_original.specs.Page.{Page, is_unchanged, page_of, TellsSame}
 use Rattle.wt_content.specs.declared.reason.ContentWhy.TheVariants as why
 use Rattle.wt_content.specs.declared.content.Surroundings.{Surroundings}
 use Rattle.wt_content.specs.declared.content.Standing.{Standing}
-use Rattle.wt_content.specs.Content.{standing, faults_by, holds_link, below, faults, all_faults, has_break, is_paragraph, first_why, bad_content}
+use Rattle.wt_content.specs.declared.content.Standing.TheVariants as stands
+use Rattle.wt_content.specs.Content.{changed_from, standing_of, if_replaced, standing, faults_by, holds_link, below, faults, all_faults, has_break, is_paragraph, first_why, bad_content}
 use Rattle.wt_link_spelling.specs.Spelling.{opening_place, closing_place}
-use Rattle.wt_typed_blocks.specs.Sent.{StandsAsIs, AllStandAsIs}
-use Rattle.wt_typed_blocks.specs.Edited.{Piece, gone, written, kept, page_pieces, text_node, sent_pieces, PiecesStay}
-use Rattle.wt_typed_blocks.proofs.SentGroups.{in_group}
+use Rattle.wt_typed_blocks.specs.Sent.{IsSentAsIs, StandsAsIs, AllStandAsIs}
+use Rattle.wt_typed_blocks.specs.Edited.{Pieces, no_pieces, gone, written, kept, around, new_style, as_new, page_pieces, text_node, sent_pieces, IsStyle, PiecesStay}
+use Rattle.wt_typed_blocks.proofs.SentGroups.{in_group, of_style, apart, apart_groups}
 use Rattle.wt_text_edit_laws.proofs.Headings.TypedTexts.{has_line, chars_line, same_break}
 use Rattle.wt_beside_laws.specs.FlatBlocks.{AreOneLine}
 use Rattle.wt_beside_laws.specs.FlatPages.{AreNodesAndTexts}
@@ -38,16 +39,39 @@ use Rattle.wt_beside_laws.specs.SentStyled.{text_then, found_then, or_nowiki, se
 use Rattle.wt_beside_laws.specs.Styled.{StyledContent, finished, sign, styled, delimiter, signs_before, signs_in}
 use Rattle.wt_beside_laws.proofs.NoFaults.{stays_same}
 use Rattle.wt_beside_laws.proofs.SentPieces.{stays_unchanged, not_group}
-use Rattle.wt_beside_laws.proofs.Styled.OwnStyled.{KnownBy, IsKnown, AreKnown}
+use Rattle.wt_beside_laws.proofs.Styled.OwnStyled.{IsOwnStyle, KnownBy, IsKnown, AreKnown}
 
--- ---- bold and italic that stay are the page's
+-- ---- nothing is wrong with bold and italic by itself
 
+abbrev SoundBy : InlineForm → Page → Label → Trees → Type 0 → Type 0
+SoundBy inline.Nothing p l ts inside = Unit {0}
+SoundBy inline.Characters p l ts inside = Unit {0}
+SoundBy inline.Bold p l ts inside = (if_replaced (standing p (tree l ts)) ≡ []) × inside
+SoundBy inline.Italic p l ts inside = (if_replaced (standing p (tree l ts)) ≡ []) × inside
+SoundBy inline.Shown p l ts inside = Unit {0}
+SoundBy inline.PageLink p l ts inside = Unit {0}
+SoundBy inline.ExternalLink p l ts inside = Unit {0}
+SoundBy inline.Tag p l ts inside = Unit {0}
+SoundBy inline.Break p l ts inside = Unit {0}
+SoundBy inline.AsItStood p l ts inside = Unit {0}
+
+abbrev mutual
+  pub IsSound : Page → Tree → Type 0
+  IsSound p (tree l ts) = SoundBy (edit_shape l.kind).inline p l ts (AreSound p ts)
+
+  pub AreSound : Page → Trees → Type 0
+  AreSound p none = Unit {0}
+  AreSound p (more t us) = IsSound p t × AreSound p us
+
+-- where it is the page's, with all that it holds
 one_known : (w : InlineForm) (same : Tree → Tree → Bool) (block : Tree) (l m : Label) (ts us : Trees) (A B : Type 0) → TellsSame same
-    → StandsAsIs (tree l ts) (tree m us) → HasNoGroup (tree l ts) → (A → B) → KnownBy w (page_of same block) l ts A → KnownBy w (page_of same block) m us B
+    → StandsAsIs (tree l ts) (tree m us) → HasNoGroup (tree l ts) → (A → B) → KnownBy w (page_of same block) l ts A → SoundBy w (page_of same block) m us B
 one_known inline.Nothing same block l m ts us A B tells h g f e = tt
 one_known inline.Characters same block l m ts us A B tells h g f e = tt
-one_known inline.Bold same block l m ts us A B tells h g f e = (stays_unchanged same block l m ts us tells h g e.0, f e.1)
-one_known inline.Italic same block l m ts us A B tells h g f e = (stays_unchanged same block l m ts us tells h g e.0, f e.1)
+one_known inline.Bold same block l m ts us A B tells h g f e =
+    (ap if_replaced (stays_same (page_of same block) m us (stays_unchanged same block l m ts us tells h g e.0.own)), f e.1)
+one_known inline.Italic same block l m ts us A B tells h g f e =
+    (ap if_replaced (stays_same (page_of same block) m us (stays_unchanged same block l m ts us tells h g e.0.own)), f e.1)
 one_known inline.Shown same block l m ts us A B tells h g f e = tt
 one_known inline.PageLink same block l m ts us A B tells h g f e = tt
 one_known inline.ExternalLink same block l m ts us A B tells h g f e = tt
@@ -57,31 +81,71 @@ one_known inline.AsItStood same block l m ts us A B tells h g f e = tt
 
 mutual
   tree_known : (same : Tree → Tree → Bool) (block t u : Tree) → TellsSame same → StandsAsIs t u → HasNoGroup t → IsKnown (page_of same block) t
-      → IsKnown (page_of same block) u
+      → IsSound (page_of same block) u
   tree_known same block (tree l ts) (tree m us) tells h g e =
-      subst (λ (k : Kind). KnownBy (edit_shape k).inline (page_of same block) m us (AreKnown (page_of same block) us)) (sym h.0.kind)
-      (one_known (edit_shape l.kind).inline same block l m ts us (AreKnown (page_of same block) ts) (AreKnown (page_of same block) us) tells h g
+      subst (λ (k : Kind). SoundBy (edit_shape k).inline (page_of same block) m us (AreSound (page_of same block) us)) (sym h.0.kind)
+      (one_known (edit_shape l.kind).inline same block l m ts us (AreKnown (page_of same block) ts) (AreSound (page_of same block) us) tells h g
       (λ a. in_group (is_group l.kind) h.1 (λ i x. not_group (is_group l.kind) i g.0 x) (λ i s. all_known same block ts us tells s g.1 a)) e)
 
   all_known : (same : Tree → Tree → Bool) (block : Tree) (ts us : Trees) → TellsSame same → AllStandAsIs ts us → NoneIsGroup ts
-      → AreKnown (page_of same block) ts → AreKnown (page_of same block) us
+      → AreKnown (page_of same block) ts → AreSound (page_of same block) us
   all_known same block none none tells h g e = tt
   all_known same block none (more u us) tells h g e = absurd h
   all_known same block (more t ts) none tells h g e = absurd h
   all_known same block (more t ts) (more u us) tells h g e = (tree_known same block t u tells h.0 g.0 e.0, all_known same block ts us tells h.1 g.1 e.1)
 
-text_known : (p : Page) (x : Label) (text : List ℕ) (us : Trees) → AreKnown p us → AreKnown p (text_node x text us)
+-- where something else is in it than in the page
+style_changed : (k : Kind) → IsStyle k → if_replaced (changed_from (edit_shape k).inline) ≡ []
+style_changed k h = of_style (λ j. if_replaced (changed_from (edit_shape j).inline) ≡ []) k h refl refl
+
+not_replaced : (same : Bool) (k : Kind) → IsStyle k → if_replaced (if same then stands.Same else changed_from (edit_shape k).inline) ≡ []
+not_replaced true k h = refl
+not_replaced false k h = style_changed k h
+
+its_own : (p : Page) (l m : Label) (ts us : Trees) → IsStyle l.kind → IsSentAsIs l m → IsOwnStyle p l ts → if_replaced (standing p (tree m us)) ≡ []
+its_own p l m ts us h s e =
+    ap (λ (n : ℕ). if_replaced (standing_of p (kept_with n p.kept) (tree m us))) s.id
+    ∙ ap (λ (o : Option Kept). if_replaced (standing_of p o (tree m us))) e.own.found
+    ∙ not_replaced (is_unchanged p e.own.kept (tree m us)) (label e.own.kept.node).kind (subst IsStyle (sym e.kind) h)
+
+style_sound : {A B : Type 0} (p : Page) (l m : Label) (ts us : Trees) → IsStyle l.kind → IsSentAsIs l m → (A → B) → KnownBy (edit_shape l.kind).inline p l ts A
+    → SoundBy (edit_shape m.kind).inline p m us B
+style_sound {A} {B} p l m ts us h s f e =
+    let same : SoundBy (edit_shape l.kind).inline p m us B =
+    of_style (λ k. KnownBy (edit_shape k).inline p l ts A → SoundBy (edit_shape k).inline p m us B) l.kind h
+    (λ d. (its_own p l m ts us h s d.0, f d.1)) (λ d. (its_own p l m ts us h s d.0, f d.1)) e in
+    subst (λ (k : Kind). SoundBy (edit_shape k).inline p m us B) (sym s.kind) same
+
+-- where it is new
+new_sound : (p : Page) (m : Label) (us : Trees) → if_replaced (standing p (tree (as_new m) us)) ≡ []
+unfolding kept_with
+new_sound p m us = refl
+
+text_known : (p : Page) (x : Label) (text : List ℕ) (us : Trees) → AreSound p us → AreSound p (text_node x text us)
 text_known p x [] us h = h
 text_known p x (c ∷ cs) us h = (tt, h)
 
-pub pieces_known : (same : Tree → Tree → Bool) (block : Tree) (ps : List Piece) → TellsSame same → AreKnown (page_of same block) (page_pieces ps)
-    → NoneIsGroup (page_pieces ps) → PiecesStay ps → AreKnown (page_of same block) (sent_pieces ps)
-pieces_known same block [] tells e g h = tt
-pieces_known same block (gone t ∷ ps) tells e g h = pieces_known same block ps tells e.1 g.1 h
-pieces_known same block (written x text ∷ ps) tells e g h =
+pub pieces_known : (same : Tree → Tree → Bool) (block : Tree) (ps : Pieces) → TellsSame same → AreKnown (page_of same block) (page_pieces ps)
+    → NoneIsGroup (page_pieces ps) → PiecesStay ps → AreSound (page_of same block) (sent_pieces ps)
+pieces_known same block no_pieces tells e g h = tt
+pieces_known same block (gone t ps) tells e g h = pieces_known same block ps tells e.1 g.1 h
+pieces_known same block (written x text ps) tells e g h =
     text_known (page_of same block) x text (sent_pieces ps) (pieces_known same block ps tells e g h)
-pieces_known same block (kept t u ∷ ps) tells e g h =
+pieces_known same block (kept t u ps) tells e g h =
     (tree_known same block t u tells h.0 g.0 e.0, pieces_known same block ps tells e.1 g.1 h.1)
+pieces_known same block (around l m is ps) tells e g h = (
+  style_sound (page_of same block) l m (page_pieces is) (sent_pieces is) h.0 h.1 (λ a. pieces_known same block is tells a g.0.1 h.2) e.0,
+  pieces_known same block ps tells e.1 g.1 h.3,
+)
+pieces_known same block (new_style m is ps) tells e g h =
+    let p : Page = page_of same block in
+    let r = apart_groups (page_pieces is) (page_pieces ps) g in
+    let d = apart (λ t. IsKnown p t) (λ us. AreKnown p us) tt (λ t us x. x) (λ t us x. x) (page_pieces is) (page_pieces ps) e in
+    let own : (if_replaced (standing p (tree (as_new m) (sent_pieces is))) ≡ []) × AreSound p (sent_pieces is) =
+    (new_sound p m (sent_pieces is), pieces_known same block is tells d.0 r.0 h.1) in (
+      of_style (λ k. SoundBy (edit_shape k).inline p (as_new m) (sent_pieces is) (AreSound p (sent_pieces is))) m.kind h.0 own own,
+      pieces_known same block ps tells d.1 r.1 h.2,
+    )
 
 -- ---- a text on one line
 
@@ -127,16 +191,15 @@ or_true true = refl
 or_true false = refl
 
 one_fine : (w : InlineForm) (v : Bool) (p : Page) (l : Label) (ts : Trees) (holds bold italic : Bool) (A K S : Type 0) (N : Bool → Bool → Type 0)
-    → FitsBy w v l → IsStyledBy w p l ts A → KnownBy w p l ts K → NestsBy w p bold italic l N → ShowsBy w p l ts S
+    → FitsBy w v l → IsStyledBy w p l ts A → SoundBy w p l ts K → NestsBy w bold italic l N → ShowsBy w p l ts S
     → ((b i : Bool) → (b || i) ≡ true → A → K → N b i → S → all_faults p (within false) ts ≡ [])
     → faults_by w (within v) (standing p (tree l ts)) l holds (all_faults p (below (within v) w) ts) ≡ []
 one_fine inline.Nothing v p l ts holds bold italic A K S N t h k n s f = refl
 one_fine inline.Characters v p l ts holds bold italic A K S N t h k n s f = ap (λ ws. ws ++ []) t
 one_fine inline.Bold v p l ts holds bold italic A K S N t h k n s f =
-    ap (λ (x : Standing). faults_by inline.Bold (within v) x l holds (all_faults p (within false) ts)) (stays_same p l ts k.0) ∙ f true italic refl h k.1 n.1 s.2
+    ap (λ ws. ws ++ all_faults p (within false) ts) k.0 ∙ f true italic refl h k.1 n.1 s.2
 one_fine inline.Italic v p l ts holds bold italic A K S N t h k n s f =
-    ap (λ (x : Standing). faults_by inline.Italic (within v) x l holds (all_faults p (within false) ts)) (stays_same p l ts k.0)
-    ∙ f bold true (or_true bold) h k.1 n.1 s.2
+    ap (λ ws. ws ++ all_faults p (within false) ts) k.0 ∙ f bold true (or_true bold) h k.1 n.1 s.2
 one_fine inline.Shown v p l ts holds bold italic A K S N t h k n s f =
     ap (λ (x : Standing). faults_by inline.Shown (within v) x l holds (all_faults p (below (within v) inline.Shown) ts)) (stays_same p l ts h)
 one_fine inline.PageLink v p l ts holds bold italic A K S N t h k n s f =
@@ -152,7 +215,7 @@ one_fine inline.AsItStood v p l ts holds bold italic A K S N t h k n s f =
 
 -- in a style no text has a line break
 style_fits : (w : InlineForm) (p : Page) (l : Label) (ts : Trees) (bold italic : Bool) (S : Type 0) (N : Bool → Bool → Type 0) → (bold || italic) ≡ true
-    → NestsBy w p bold italic l N → ShowsBy w p l ts S → FitsBy w false l
+    → NestsBy w bold italic l N → ShowsBy w p l ts S → FitsBy w false l
 style_fits inline.Nothing p l ts bold italic S N e n s = tt
 style_fits inline.Characters p l ts bold italic S N e n s =
     ap (λ (b : Bool). if b then why.LineBreak ∷ [] else []) (text_unbroken l.shown s.1 (n e))
@@ -166,30 +229,30 @@ style_fits inline.Break p l ts bold italic S N e n s = tt
 style_fits inline.AsItStood p l ts bold italic S N e n s = tt
 
 mutual
-  held_fine : (p : Page) (t : Tree) (bold italic : Bool) → (bold || italic) ≡ true → IsStyledSent p t → IsKnown p t → Nests p bold italic t → Shows p t
+  held_fine : (p : Page) (t : Tree) (bold italic : Bool) → (bold || italic) ≡ true → IsStyledSent p t → IsSound p t → Nests bold italic t → Shows p t
       → faults p (within false) t ≡ []
   held_fine p (tree l ts) bold italic e h k n s =
-      one_fine (edit_shape l.kind).inline false p l ts (holds_link (tree l ts)) bold italic (AreStyledSent p ts) (AreKnown p ts) (AllShow p ts) (λ b i. AllNest p b i ts)
-      (style_fits (edit_shape l.kind).inline p l ts bold italic (AllShow p ts) (λ b i. AllNest p b i ts) e n s) h k n s
+      one_fine (edit_shape l.kind).inline false p l ts (holds_link (tree l ts)) bold italic (AreStyledSent p ts) (AreSound p ts) (AllShow p ts) (λ b i. AllNest b i ts)
+      (style_fits (edit_shape l.kind).inline p l ts bold italic (AllShow p ts) (λ b i. AllNest b i ts) e n s) h k n s
       (λ b i f a c m d. all_held p ts b i f a c m d)
 
-  all_held : (p : Page) (us : Trees) (bold italic : Bool) → (bold || italic) ≡ true → AreStyledSent p us → AreKnown p us → AllNest p bold italic us → AllShow p us
+  all_held : (p : Page) (us : Trees) (bold italic : Bool) → (bold || italic) ≡ true → AreStyledSent p us → AreSound p us → AllNest bold italic us → AllShow p us
       → all_faults p (within false) us ≡ []
   all_held p none bold italic e h k n s = refl
   all_held p (more t us) bold italic e h k n s =
       ap (λ ws. ws ++ all_faults p (within false) us) (held_fine p t bold italic e h.0 k.0 n.0 s.0) ∙ all_held p us bold italic e h.1 k.1 n.1 s.1
 
-all_fine : (v : Bool) (p : Page) (us : Trees) → AreStyledSent p us → AreKnown p us → AllNest p false false us → AllShow p us → TextsFit v us
+all_fine : (v : Bool) (p : Page) (us : Trees) → AreStyledSent p us → AreSound p us → AllNest false false us → AllShow p us → TextsFit v us
     → all_faults p (within v) us ≡ []
 all_fine v p none h k n s f = refl
 all_fine v p (more (tree l ts) us) h k n s f =
     ap (λ ws. ws ++ all_faults p (within v) us)
-    (one_fine (edit_shape l.kind).inline v p l ts (holds_link (tree l ts)) false false (AreStyledSent p ts) (AreKnown p ts) (AllShow p ts) (λ b i. AllNest p b i ts)
+    (one_fine (edit_shape l.kind).inline v p l ts (holds_link (tree l ts)) false false (AreStyledSent p ts) (AreSound p ts) (AllShow p ts) (λ b i. AllNest b i ts)
     f.0 h.0 k.0 n.0 s.0 (λ b i e a c m d. all_held p ts b i e a c m d))
     ∙ all_fine v p us h.1 k.1 n.1 s.1 f.1
 
-pub no_style_fault : (same : Tree → Tree → Bool) (block : Tree) (m : Label) (us : Trees) → AreStyledSent (page_of same block) us → AreKnown (page_of same block) us
-    → AllNest (page_of same block) false false us → AllShow (page_of same block) us → TextsFit (is_paragraph (edit_shape (label block).kind).form) us
+pub no_style_fault : (same : Tree → Tree → Bool) (block : Tree) (m : Label) (us : Trees) → AreStyledSent (page_of same block) us → AreSound (page_of same block) us
+    → AllNest false false us → AllShow (page_of same block) us → TextsFit (is_paragraph (edit_shape (label block).kind).form) us
     → bad_content same block (tree m us) ≡ None
 unfolding bad_content
 no_style_fault same block m us h k n s f = ap first_why (all_fine (is_paragraph (edit_shape (label block).kind).form) (page_of same block) us h k n s f)
@@ -280,7 +343,7 @@ LineBy inline.Break l = Unit {0}
 LineBy inline.AsItStood l = Unit {0}
 
 one_line : (w : InlineForm) (p : Page) (l : Label) (bold italic : Bool) (held t : StyledContent) (N : Bool → Bool → Type 0) → LineBy w l
-    → NestsBy w p bold italic l N → ((b i : Bool) → (b || i) ≡ true → N b i → OneLineIn held) → OneLineIn t → OneLineIn (sent_by w (kept_with l.id p.kept) l held t)
+    → NestsBy w bold italic l N → ((b i : Bool) → (b || i) ≡ true → N b i → OneLineIn held) → OneLineIn t → OneLineIn (sent_by w (kept_with l.id p.kept) l held t)
 one_line inline.Nothing p l bold italic held t N e n f k = k
 one_line inline.Characters p l bold italic held t N e n f k = text_line (chars l.shown) t e k
 one_line inline.Bold p l bold italic held t N e n f k = style_line true (kept_with l.id p.kept) held t (f true italic refl n.1) k
@@ -292,26 +355,26 @@ one_line inline.Tag p l bold italic held t N e n f k = found_line (kept_with l.i
 one_line inline.Break p l bold italic held t N e n f k = found_line (kept_with l.id p.kept) t k
 one_line inline.AsItStood p l bold italic held t N e n f k = found_line (kept_with l.id p.kept) t k
 
-style_lines : (w : InlineForm) (p : Page) (l : Label) (bold italic : Bool) (N : Bool → Bool → Type 0) → (bold || italic) ≡ true → NestsBy w p bold italic l N → LineBy w l
-style_lines inline.Nothing p l bold italic N e n = tt
-style_lines inline.Characters p l bold italic N e n = n e
-style_lines inline.Bold p l bold italic N e n = tt
-style_lines inline.Italic p l bold italic N e n = tt
-style_lines inline.Shown p l bold italic N e n = tt
-style_lines inline.PageLink p l bold italic N e n = tt
-style_lines inline.ExternalLink p l bold italic N e n = tt
-style_lines inline.Tag p l bold italic N e n = tt
-style_lines inline.Break p l bold italic N e n = tt
-style_lines inline.AsItStood p l bold italic N e n = tt
+style_lines : (w : InlineForm) (l : Label) (bold italic : Bool) (N : Bool → Bool → Type 0) → (bold || italic) ≡ true → NestsBy w bold italic l N → LineBy w l
+style_lines inline.Nothing l bold italic N e n = tt
+style_lines inline.Characters l bold italic N e n = n e
+style_lines inline.Bold l bold italic N e n = tt
+style_lines inline.Italic l bold italic N e n = tt
+style_lines inline.Shown l bold italic N e n = tt
+style_lines inline.PageLink l bold italic N e n = tt
+style_lines inline.ExternalLink l bold italic N e n = tt
+style_lines inline.Tag l bold italic N e n = tt
+style_lines inline.Break l bold italic N e n = tt
+style_lines inline.AsItStood l bold italic N e n = tt
 
 mutual
-  held_line : (p : Page) (t : Tree) (c : StyledContent) (bold italic : Bool) → (bold || italic) ≡ true → Nests p bold italic t → OneLineIn c
+  held_line : (p : Page) (t : Tree) (c : StyledContent) (bold italic : Bool) → (bold || italic) ≡ true → Nests bold italic t → OneLineIn c
       → OneLineIn (sent_before p t c)
   held_line p (tree l ts) c bold italic e n k =
-      one_line (edit_shape l.kind).inline p l bold italic (sent_content p ts) c (λ b i. AllNest p b i ts)
-      (style_lines (edit_shape l.kind).inline p l bold italic (λ b i. AllNest p b i ts) e n) n (λ b i f m. held_lines p ts b i f m) k
+      one_line (edit_shape l.kind).inline p l bold italic (sent_content p ts) c (λ b i. AllNest b i ts)
+      (style_lines (edit_shape l.kind).inline l bold italic (λ b i. AllNest b i ts) e n) n (λ b i f m. held_lines p ts b i f m) k
 
-  held_lines : (p : Page) (us : Trees) (bold italic : Bool) → (bold || italic) ≡ true → AllNest p bold italic us → OneLineIn (sent_content p us)
+  held_lines : (p : Page) (us : Trees) (bold italic : Bool) → (bold || italic) ≡ true → AllNest bold italic us → OneLineIn (sent_content p us)
   held_lines p none bold italic e n = λ after k. k
   held_lines p (more t us) bold italic e n = held_line p t (sent_content p us) bold italic e n.0 (held_lines p us bold italic e n.1)
 
@@ -336,26 +399,35 @@ any_line (c ∷ cs) e =
 typed_line : (text : List ℕ) → IsUtf8 text → has_break text ≡ false → breaks_line text ≡ false
 typed_line text u b = any_line (chars text) (chars_line (chars text) (ap has_line (encodes-chars text u) ∙ sym (same_break text) ∙ b))
 
-nested_text : (p : Page) (x : Label) (text : List ℕ) (us : Trees) → AllNest p false false (text_node x text us) → AllNest p false false us
-nested_text p x [] us n = n
-nested_text p x (c ∷ cs) us n = n.1
+nested_text : (x : Label) (text : List ℕ) (us : Trees) → AllNest false false (text_node x text us) → AllNest false false us
+nested_text x [] us n = n
+nested_text x (c ∷ cs) us n = n.1
 
 written_line : (p : Page) (x : Label) (text : List ℕ) (us : Trees) → IsUtf8 text → has_break text ≡ false → OneLineIn (sent_content p us)
     → OneLineIn (sent_content p (text_node x text us))
 written_line p x [] us u b h = h
 written_line p x (c ∷ cs) us u b h = text_line (chars (c ∷ cs)) (sent_content p us) (typed_line (c ∷ cs) u b) h
 
-lines_of_pieces : (p : Page) (ps : List Piece) → PiecesStay ps → AreNodesAndTexts ps → AreOneLine ps → AllNest p false false (sent_pieces ps)
+lines_of_pieces : (p : Page) (ps : Pieces) → PiecesStay ps → AreNodesAndTexts ps → AreOneLine ps → AllNest false false (sent_pieces ps)
     → OneLineIn (sent_content p (sent_pieces ps))
-lines_of_pieces p [] h a o n = λ after k. k
-lines_of_pieces p (gone t ∷ ps) h a o n = lines_of_pieces p ps h a o n
-lines_of_pieces p (written x text ∷ ps) h a o n =
-    written_line p x text (sent_pieces ps) a.0 o.0 (lines_of_pieces p ps h a.1 o.1 (nested_text p x text (sent_pieces ps) n))
-lines_of_pieces p (kept (tree l ts) (tree m us) ∷ ps) h a o n =
+lines_of_pieces p no_pieces h a o n = λ after k. k
+lines_of_pieces p (gone t ps) h a o n = lines_of_pieces p ps h a o n
+lines_of_pieces p (written x text ps) h a o n =
+    written_line p x text (sent_pieces ps) a.0 o.0 (lines_of_pieces p ps h a.1 o.1 (nested_text x text (sent_pieces ps) n))
+lines_of_pieces p (kept (tree l ts) (tree m us) ps) h a o n =
     let form : IsNodeForm (edit_shape m.kind).inline = subst (λ k. IsNodeForm (edit_shape k).inline) (sym h.0.0.kind) a.0 in
-    one_line (edit_shape m.kind).inline p m false false (sent_content p us) (sent_content p (sent_pieces ps)) (λ b i. AllNest p b i us)
+    one_line (edit_shape m.kind).inline p m false false (sent_content p us) (sent_content p (sent_pieces ps)) (λ b i. AllNest b i us)
     (node_line (edit_shape m.kind).inline m form) n.0 (λ b i f w. held_lines p us b i f w) (lines_of_pieces p ps h.1 a.1 o n.1)
+lines_of_pieces p (around l m is ps) h a o n =
+    let line : LineBy (edit_shape m.kind).inline m =
+    of_style (λ k. LineBy (edit_shape k).inline m) m.kind (subst IsStyle (sym h.1.kind) h.0) tt tt in
+    one_line (edit_shape m.kind).inline p m false false (sent_content p (sent_pieces is)) (sent_content p (sent_pieces ps)) (λ b i. AllNest b i (sent_pieces is))
+    line n.0 (λ b i f w. held_lines p (sent_pieces is) b i f w) (lines_of_pieces p ps h.3 a.1 o n.1)
+lines_of_pieces p (new_style m is ps) h a o n =
+    let line : LineBy (edit_shape m.kind).inline (as_new m) = of_style (λ k. LineBy (edit_shape k).inline (as_new m)) m.kind h.0 tt tt in
+    one_line (edit_shape m.kind).inline p (as_new m) false false (sent_content p (sent_pieces is)) (sent_content p (sent_pieces ps))
+    (λ b i. AllNest b i (sent_pieces is)) line n.0 (λ b i f w. held_lines p (sent_pieces is) b i f w) (lines_of_pieces p ps h.2 a.1 o n.1)
 
-pub sent_on_one_line : (p : Page) (ps : List Piece) → PiecesStay ps → AreNodesAndTexts ps → AreOneLine ps → AllNest p false false (sent_pieces ps)
+pub sent_on_one_line : (p : Page) (ps : Pieces) → PiecesStay ps → AreNodesAndTexts ps → AreOneLine ps → AllNest false false (sent_pieces ps)
     → AreOnOneLine (signs_in (sent_content p (sent_pieces ps)))
 sent_on_one_line p ps h a o n = lines_of_pieces p ps h a o n [] tt

@@ -1,5 +1,5 @@
 -- The signs of what is sent of a content with styles are those of such a content, whose styles nest, and which shows what was sent.
-use Rattle.std.proofs.Common.{◌≡◌, ℕ, ◌==◌, Bool, true, false, Option, Some, None, List, [], ◌∷◌, ◌++◌, map, refl, sym, ap, ◌∙◌, subst, append_assoc}
+use Rattle.std.proofs.Common.{◌≡◌, ℕ, ◌==◌, Bool, true, false, Option, Some, None, List, [], ◌∷◌, ◌++◌, map, refl, sym, ap, ◌∙◌, append_assoc}
 use Rattle.std.specs.Prelude.{◌||◌, if◌then◌else◌, encode_utf8}
 use Rattle.std.specs.List.{flat_map, list_any}
 use Rattle.std.specs.Str.{IsUtf8, chars}
@@ -32,7 +32,7 @@ use Rattle.wt_context.specs.Segments.{loose_segment, loose_segments}
 use Rattle.wt_context.specs.Line.{line_parts}
 use Rattle.wt_context.proofs.PlainNodes.{text_parts}
 use Rattle.wt_beside_laws.specs.SentNodes.{IsUnchanged}
-use Rattle.wt_beside_laws.specs.SentStyled.{text_then, found_then, or_nowiki, sent_by, sent_before, sent_content, IsStyledBy, IsStyledSent, AreStyledSent, KeptIsFlat, NestsBy, Nests, AllNest, style_face, ShowsBy, Shows, AllShow}
+use Rattle.wt_beside_laws.specs.SentStyled.{text_then, found_then, or_nowiki, sent_by, sent_before, sent_content, IsStyledBy, IsStyledSent, AreStyledSent, KeptIsFlat, HasNoDelimiter, NestsBy, Nests, AllNest, style_face, ShowsBy, Shows, AllShow}
 use Rattle.wt_beside_laws.specs.Shown.{parts_shown_at}
 use Rattle.wt_beside_laws.specs.Styled.{StyledContent, finished, sign, styled, mark_source, delimiter, signs_before, signs_in, AreNested}
 use Rattle.wt_beside_laws.specs.StyledShown.{style_shown, styled_shown}
@@ -138,27 +138,27 @@ text_nested bold italic (c ∷ cs) t f k = (
   text_nested bold italic cs t (λ e. (or_both (c == 10) (list_any (λ d. d == 10) cs) (f e)).1) k,
 )
 
-one_nested : (w : InlineForm) (p : Page) (bold italic : Bool) (l : Label) (k : Option Kept) (held t : StyledContent) (f : Bool → Bool → Type 0) → k ≡ kept_with l.id p.kept
-    → NestsBy w p bold italic l f → ((b i : Bool) → f b i → AreNested b i held) → AreNested bold italic t → AreNested bold italic (sent_by w k l held t)
-one_nested inline.Nothing p bold italic l k held t f e h g n = n
-one_nested inline.Characters p bold italic l k held t f e h g n = text_nested bold italic (chars l.shown) t h n
-one_nested inline.Bold p bold italic l k held t f e h g n = (h.0, nowiki_nested true italic held (g true italic h.1), n)
-one_nested inline.Italic p bold italic l k held t f e h g n = (h.0, nowiki_nested bold true held (g bold true h.1), n)
-one_nested inline.Shown p bold italic l k held t f e h g n = found_nested bold italic k t (subst KeptIsFlat (sym e) h) n
-one_nested inline.PageLink p bold italic l k held t f e h g n = found_nested bold italic k t (subst KeptIsFlat (sym e) h) n
-one_nested inline.ExternalLink p bold italic l k held t f e h g n = found_nested bold italic k t (subst KeptIsFlat (sym e) h) n
-one_nested inline.Tag p bold italic l k held t f e h g n = found_nested bold italic k t (subst KeptIsFlat (sym e) h) n
-one_nested inline.Break p bold italic l k held t f e h g n = found_nested bold italic k t (subst KeptIsFlat (sym e) h) n
-one_nested inline.AsItStood p bold italic l k held t f e h g n = found_nested bold italic k t (subst KeptIsFlat (sym e) h) n
+one_nested : (w : InlineForm) (bold italic : Bool) (l : Label) (k : Option Kept) (held t : StyledContent) (f : Bool → Bool → Type 0) → KeptIsFlat k
+    → NestsBy w bold italic l f → ((b i : Bool) → f b i → AreNested b i held) → AreNested bold italic t → AreNested bold italic (sent_by w k l held t)
+one_nested inline.Nothing bold italic l k held t f e h g n = n
+one_nested inline.Characters bold italic l k held t f e h g n = text_nested bold italic (chars l.shown) t h n
+one_nested inline.Bold bold italic l k held t f e h g n = (h.0, nowiki_nested true italic held (g true italic h.1), n)
+one_nested inline.Italic bold italic l k held t f e h g n = (h.0, nowiki_nested bold true held (g bold true h.1), n)
+one_nested inline.Shown bold italic l k held t f e h g n = found_nested bold italic k t e n
+one_nested inline.PageLink bold italic l k held t f e h g n = found_nested bold italic k t e n
+one_nested inline.ExternalLink bold italic l k held t f e h g n = found_nested bold italic k t e n
+one_nested inline.Tag bold italic l k held t f e h g n = found_nested bold italic k t e n
+one_nested inline.Break bold italic l k held t f e h g n = found_nested bold italic k t e n
+one_nested inline.AsItStood bold italic l k held t f e h g n = found_nested bold italic k t e n
 
 mutual
-  tree_nested : (p : Page) (bold italic : Bool) (t : Tree) (c : StyledContent) → Nests p bold italic t → AreNested bold italic c → AreNested bold italic (sent_before p t c)
-  tree_nested p bold italic (tree l ts) c h n =
-      one_nested (edit_shape l.kind).inline p bold italic l (kept_with l.id p.kept) (sent_content p ts) c (λ b i. AllNest p b i ts) refl h (λ b i k. sent_nested p b i ts k) n
+  tree_nested : (p : Page) (bold italic : Bool) (t : Tree) (c : StyledContent) → HasNoDelimiter p → Nests bold italic t → AreNested bold italic c → AreNested bold italic (sent_before p t c)
+  tree_nested p bold italic (tree l ts) c d h n =
+      one_nested (edit_shape l.kind).inline bold italic l (kept_with l.id p.kept) (sent_content p ts) c (λ b i. AllNest b i ts) (d l.id) h (λ b i k. sent_nested p b i ts d k) n
 
-  pub sent_nested : (p : Page) (bold italic : Bool) (us : Trees) → AllNest p bold italic us → AreNested bold italic (sent_content p us)
-  sent_nested p bold italic none h = tt
-  sent_nested p bold italic (more t us) h = tree_nested p bold italic t (sent_content p us) h.0 (sent_nested p bold italic us h.1)
+  pub sent_nested : (p : Page) (bold italic : Bool) (us : Trees) → HasNoDelimiter p → AllNest bold italic us → AreNested bold italic (sent_content p us)
+  sent_nested p bold italic none d h = tt
+  sent_nested p bold italic (more t us) d h = tree_nested p bold italic t (sent_content p us) d h.0 (sent_nested p bold italic us d h.1)
 
 -- ---- what is shown
 

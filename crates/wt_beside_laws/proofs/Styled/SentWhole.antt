@@ -1,4 +1,4 @@
--- What is sent of a block with styles: nodes that stay, with all that they hold, and any texts between them.
+-- What is sent of a block with styles: nodes that stay, and any texts between them, in bold and italic that stay or are new, too.
 use Rattle.std.proofs.Common.{◌≡◌, ℕ, Bool, List, [], ◌∷◌, ◌++◌, refl, sym, ap, ◌∙◌, subst, append_assoc}
 use Rattle.std.specs.Str.{IsUtf8}
 use Rattle.wt_tree.specs.declared.kind.Kind.{Kind}
@@ -12,12 +12,13 @@ use Rattle.wt_tree.specs.Tiling.{is_group}
 use Rattle.wt_tree.specs.Plain.{Plains, plain_before, plains_before, shown_before}
 use Rattle.wt_tree.specs.Tiling.{HasNoGroup, NoneIsGroup}
 use Rattle.wt_tree.specs.Tree.{Label, Tree, tree, Trees, none, more}
+use Rattle.wt_recut.specs.Recutting.{appended}
 use Rattle.wt_original.specs.Kept.{kept_with}
 use Rattle.wt_original.specs.Page.{Page, page_of, TellsSame}
 use Rattle.wt_typed_blocks.specs.Sent.{IsSentAsIs, StandsAsIs, AllStandAsIs}
-use Rattle.wt_typed_blocks.specs.Edited.{Piece, gone, written, kept, page_pieces, text_node, sent_pieces, PiecesStay, pieces_before}
+use Rattle.wt_typed_blocks.specs.Edited.{Pieces, no_pieces, gone, written, kept, around, new_style, as_new, page_pieces, text_node, sent_pieces, IsStyle, PiecesStay, pieces_before}
 use Rattle.wt_typed_blocks.proofs.EditedShows.{shown_same}
-use Rattle.wt_typed_blocks.proofs.SentGroups.{in_group}
+use Rattle.wt_typed_blocks.proofs.SentGroups.{in_group, of_style, apart, apart_groups, new_sent}
 use Rattle.wt_beside_laws.specs.FlatPages.{AreNodesAndTexts}
 use Rattle.wt_beside_laws.specs.SentPieces.{ShowsItsSource}
 use Rattle.wt_beside_laws.specs.SentStyled.{IsStyledBy, IsStyledSent, AreStyledSent, ShowsBy, Shows, AllShow}
@@ -45,20 +46,27 @@ mutual
   same_plains (more t ts) (more u us) rest h g =
       ap (λ (ps : Plains). plain_before u ps) (same_plains ts us rest h.1 g.1) ∙ same_plain t u (plains_before ts rest) h.0 g.0
 
-text_plain : (x : Label) (text : List ℕ) (us : Trees) (rest : Plains) → plains_before (text_node x text us) rest ≡ pieces_before (written x text ∷ []) (plains_before us rest)
+text_plain : (x : Label) (text : List ℕ) (us : Trees) (rest : Plains) → plains_before (text_node x text us) rest ≡ pieces_before (written x text no_pieces) (plains_before us rest)
 text_plain x [] us rest = sym (no_text (plains_before us rest))
   where
-    no_text : (qs : Plains) → pieces_before (written x [] ∷ []) qs ≡ qs
+    no_text : (qs : Plains) → pieces_before (written x [] no_pieces) qs ≡ qs
     no_text qs = refl
 text_plain x (c ∷ cs) us rest = refl
 
-pub pieces_plain : (ps : List Piece) (rest : Plains) → NoneIsGroup (page_pieces ps) → PiecesStay ps → plains_before (sent_pieces ps) rest ≡ pieces_before ps rest
-pieces_plain [] rest g h = refl
-pieces_plain (gone t ∷ ps) rest g h = pieces_plain ps rest g.1 h
-pieces_plain (written x text ∷ ps) rest g h =
-    text_plain x text (sent_pieces ps) rest ∙ ap (λ (qs : Plains). pieces_before (written x text ∷ []) qs) (pieces_plain ps rest g h)
-pieces_plain (kept t u ∷ ps) rest g h =
+pub pieces_plain : (ps : Pieces) (rest : Plains) → NoneIsGroup (page_pieces ps) → PiecesStay ps → plains_before (sent_pieces ps) rest ≡ pieces_before ps rest
+pieces_plain no_pieces rest g h = refl
+pieces_plain (gone t ps) rest g h = pieces_plain ps rest g.1 h
+pieces_plain (written x text ps) rest g h =
+    text_plain x text (sent_pieces ps) rest ∙ ap (λ (qs : Plains). pieces_before (written x text no_pieces) qs) (pieces_plain ps rest g h)
+pieces_plain (kept t u ps) rest g h =
     ap (λ (qs : Plains). plain_before u qs) (pieces_plain ps rest g.1 h.1) ∙ same_plain t u (pieces_before ps rest) h.0 g.0
+pieces_plain (around l m is ps) rest g h =
+    ap (λ (qs : Plains). plain_before (tree m (sent_pieces is)) qs) (pieces_plain ps rest g.1 h.3)
+    ∙ node_shows l m (sent_pieces is) (λ qs. pieces_before is qs) (pieces_before ps rest) h.1 (λ qs. pieces_plain is qs g.0.1 h.2)
+pieces_plain (new_style m is ps) rest g h =
+    let r = apart_groups (page_pieces is) (page_pieces ps) g in
+    ap (λ (qs : Plains). plain_before (tree (as_new m) (sent_pieces is)) qs) (pieces_plain ps rest r.1 h.2)
+    ∙ node_shows (as_new m) (as_new m) (sent_pieces is) (λ qs. pieces_before is qs) (pieces_before ps rest) (new_sent m) (λ qs. pieces_plain is qs r.0 h.1)
 
 -- ---- its nodes are the page's
 
@@ -94,14 +102,35 @@ text_styled : (p : Page) (x : Label) (text : List ℕ) (us : Trees) → AreStyle
 text_styled p x [] us h = h
 text_styled p x (c ∷ cs) us h = (tt, h)
 
-pub pieces_styled : (same : Tree → Tree → Bool) (block : Tree) (ps : List Piece) → TellsSame same → AreStyledSent (page_of same block) (page_pieces ps)
+-- so it is of bold and italic, whatever is in it
+style_styled : {A B : Type 0} (p : Page) (l m : Label) (ts us : Trees) → IsStyle l.kind → IsSentAsIs l m → (A → B) → IsStyledBy (edit_shape l.kind).inline p l ts A
+    → IsStyledBy (edit_shape m.kind).inline p m us B
+style_styled {A} {B} p l m ts us h s f e =
+    let same : IsStyledBy (edit_shape l.kind).inline p m us B =
+    of_style (λ k. IsStyledBy (edit_shape k).inline p l ts A → IsStyledBy (edit_shape k).inline p m us B) l.kind h f f e in
+    subst (λ (k : Kind). IsStyledBy (edit_shape k).inline p m us B) (sym s.kind) same
+
+pub pieces_styled : (same : Tree → Tree → Bool) (block : Tree) (ps : Pieces) → TellsSame same → AreStyledSent (page_of same block) (page_pieces ps)
     → NoneIsGroup (page_pieces ps) → PiecesStay ps → AreStyledSent (page_of same block) (sent_pieces ps)
-pieces_styled same block [] tells e g h = tt
-pieces_styled same block (gone t ∷ ps) tells e g h = pieces_styled same block ps tells e.1 g.1 h
-pieces_styled same block (written x text ∷ ps) tells e g h =
+pieces_styled same block no_pieces tells e g h = tt
+pieces_styled same block (gone t ps) tells e g h = pieces_styled same block ps tells e.1 g.1 h
+pieces_styled same block (written x text ps) tells e g h =
     text_styled (page_of same block) x text (sent_pieces ps) (pieces_styled same block ps tells e g h)
-pieces_styled same block (kept t u ∷ ps) tells e g h =
+pieces_styled same block (kept t u ps) tells e g h =
     (tree_styled same block t u tells h.0 g.0 e.0, pieces_styled same block ps tells e.1 g.1 h.1)
+pieces_styled same block (around l m is ps) tells e g h = (
+  style_styled (page_of same block) l m (page_pieces is) (sent_pieces is) h.0 h.1
+      (λ a. pieces_styled same block is tells a g.0.1 h.2) e.0,
+  pieces_styled same block ps tells e.1 g.1 h.3,
+)
+pieces_styled same block (new_style m is ps) tells e g h =
+    let p : Page = page_of same block in
+    let r = apart_groups (page_pieces is) (page_pieces ps) g in
+    let d = apart (λ t. IsStyledSent p t) (λ us. AreStyledSent p us) tt (λ t us x. x) (λ t us x. x) (page_pieces is) (page_pieces ps) e in
+    let own : AreStyledSent p (sent_pieces is) = pieces_styled same block is tells d.0 r.0 h.1 in (
+      of_style (λ k. IsStyledBy (edit_shape k).inline p (as_new m) (sent_pieces is) (AreStyledSent p (sent_pieces is))) m.kind h.0 own own,
+      pieces_styled same block ps tells d.1 r.1 h.2,
+    )
 
 -- ---- what they show
 
@@ -142,12 +171,30 @@ text_shows : (p : Page) (x : Label) (text : List ℕ) (us : Trees) → IsUtf8 te
 text_shows p x [] us u h = h
 text_shows p x (c ∷ cs) us u h = ((refl, u), h)
 
-pub pieces_show : (p : Page) (ps : List Piece) → NoneIsGroup (page_pieces ps) → PiecesStay ps → AreNodesAndTexts ps → AllShow p (page_pieces ps)
+style_shows : {A B : Type 0} (p : Page) (l m : Label) (ts us : Trees) → IsStyle l.kind → IsSentAsIs l m → (A → B) → ShowsBy (edit_shape l.kind).inline p l ts A
+    → ShowsBy (edit_shape m.kind).inline p m us B
+style_shows {A} {B} p l m ts us h s f e =
+    let same : ShowsBy (edit_shape l.kind).inline p m us B =
+    of_style (λ k. ShowsBy (edit_shape k).inline p l ts A → ShowsBy (edit_shape k).inline p m us B) l.kind h
+    (λ d. (of_kind l m showing.Element s d.0, same_face l m s ∙ d.1, f d.2)) (λ d. (of_kind l m showing.Element s d.0, same_face l m s ∙ d.1, f d.2)) e in
+    subst (λ (k : Kind). ShowsBy (edit_shape k).inline p m us B) (sym s.kind) same
+
+pub pieces_show : (p : Page) (ps : Pieces) → NoneIsGroup (page_pieces ps) → PiecesStay ps → AreNodesAndTexts ps → AllShow p (page_pieces ps)
     → AllShow p (sent_pieces ps)
-pieces_show p [] g h a s = tt
-pieces_show p (gone t ∷ ps) g h a s = pieces_show p ps g.1 h a s.1
-pieces_show p (written x text ∷ ps) g h a s = text_shows p x text (sent_pieces ps) a.0 (pieces_show p ps g h a.1 s)
-pieces_show p (kept t u ∷ ps) g h a s = (tree_shows p t u h.0 g.0 s.0, pieces_show p ps g.1 h.1 a.1 s.1)
+pieces_show p no_pieces g h a s = tt
+pieces_show p (gone t ps) g h a s = pieces_show p ps g.1 h a s.1
+pieces_show p (written x text ps) g h a s = text_shows p x text (sent_pieces ps) a.0 (pieces_show p ps g h a.1 s)
+pieces_show p (kept t u ps) g h a s = (tree_shows p t u h.0 g.0 s.0, pieces_show p ps g.1 h.1 a.1 s.1)
+pieces_show p (around l m is ps) g h a s =
+    (style_shows p l m (page_pieces is) (sent_pieces is) h.0 h.1 (λ e. pieces_show p is g.0.1 h.2 a.0 e) s.0, pieces_show p ps g.1 h.3 a.1 s.1)
+pieces_show p (new_style m is ps) g h a s =
+    let r = apart_groups (page_pieces is) (page_pieces ps) g in
+    let d = apart (λ t. Shows p t) (λ us. AllShow p us) tt (λ t us x. x) (λ t us x. x) (page_pieces is) (page_pieces ps) s in
+    let own : AllShow p (sent_pieces is) = pieces_show p is r.0 h.1 a.0 d.0 in (
+      of_style (λ k. ShowsBy (edit_shape k).inline p (record (as_new m) { kind = k }) (sent_pieces is) (AllShow p (sent_pieces is))) m.kind h.0
+          (refl, refl, own) (refl, refl, own),
+      pieces_show p ps r.1 h.2 a.1 d.1,
+    )
 
 -- ---- their numbers
 
@@ -174,15 +221,47 @@ some_with : {A : Type 0} (xs ys zs : List A) → AreSomeOf ys zs → AreSomeOf (
 some_with [] ys zs h = h
 some_with (x ∷ xs) ys zs h = ([], xs ++ zs, refl, some_with xs ys zs h)
 
+some_both : {A : Type 0} (xs ys us vs : List A) → AreSomeOf xs us → AreSomeOf ys vs → AreSomeOf (xs ++ ys) (us ++ vs)
+some_both [] ys us vs h k = some_behind ys us vs k
+some_both {A} (x ∷ xs) ys us vs h k = (
+  h.0,
+  h.1 ++ vs,
+  ap (λ (zs : List A). zs ++ vs) h.2 ∙ append_assoc h.0 (x ∷ h.1) vs,
+  some_both xs ys h.1 vs h.3 k,
+)
+
+-- of a style those in it count
+style_numbers : (k : Kind) (n : ℕ) (ns : List ℕ) → IsStyle k → numbers_by (edit_shape k).inline n ns ≡ ns
+style_numbers k n ns h = of_style (λ j. numbers_by (edit_shape j).inline n ns ≡ ns) k h refl refl
+
+numbers_appended : (ts us : Trees) → all_numbers (appended ts us) ≡ all_numbers ts ++ all_numbers us
+numbers_appended none us = refl
+numbers_appended (more t ts) us =
+    ap (λ (ns : List ℕ). numbers_of t ++ ns) (numbers_appended ts us) ∙ sym (append_assoc (numbers_of t) (all_numbers ts) (all_numbers us))
+
 text_numbers : (x : Label) (text : List ℕ) (us : Trees) → all_numbers (text_node x text us) ≡ all_numbers us
 text_numbers x [] us = refl
 text_numbers x (c ∷ cs) us = refl
 
-pub some_numbers : (ps : List Piece) → NoneIsGroup (page_pieces ps) → PiecesStay ps → AreSomeOf (all_numbers (sent_pieces ps)) (all_numbers (page_pieces ps))
-some_numbers [] g h = tt
-some_numbers (gone t ∷ ps) g h = some_behind (all_numbers (sent_pieces ps)) (numbers_of t) (all_numbers (page_pieces ps)) (some_numbers ps g.1 h)
-some_numbers (written x text ∷ ps) g h =
+pub some_numbers : (ps : Pieces) → NoneIsGroup (page_pieces ps) → PiecesStay ps → AreSomeOf (all_numbers (sent_pieces ps)) (all_numbers (page_pieces ps))
+some_numbers no_pieces g h = tt
+some_numbers (gone t ps) g h = some_behind (all_numbers (sent_pieces ps)) (numbers_of t) (all_numbers (page_pieces ps)) (some_numbers ps g.1 h)
+some_numbers (written x text ps) g h =
     subst (λ (ns : List ℕ). AreSomeOf ns (all_numbers (page_pieces ps))) (sym (text_numbers x text (sent_pieces ps))) (some_numbers ps g h)
-some_numbers (kept t u ∷ ps) g h =
+some_numbers (kept t u ps) g h =
     subst (λ (ns : List ℕ). AreSomeOf (ns ++ all_numbers (sent_pieces ps)) (numbers_of t ++ all_numbers (page_pieces ps))) (sym (same_numbers t u h.0 g.0))
     (some_with (numbers_of t) (all_numbers (sent_pieces ps)) (all_numbers (page_pieces ps)) (some_numbers ps g.1 h.1))
+some_numbers (around l m is ps) g h =
+    let ns : List ℕ = all_numbers (sent_pieces is) in
+    let ms : List ℕ = all_numbers (page_pieces is) in
+    let new : numbers_by (edit_shape m.kind).inline m.id ns ≡ ns = style_numbers m.kind m.id ns (subst IsStyle (sym h.1.kind) h.0) in
+    subst (λ (js : List ℕ). AreSomeOf (js ++ all_numbers (sent_pieces ps)) (numbers_by (edit_shape l.kind).inline l.id ms ++ all_numbers (page_pieces ps))) (sym new)
+    (subst (λ (js : List ℕ). AreSomeOf (ns ++ all_numbers (sent_pieces ps)) (js ++ all_numbers (page_pieces ps))) (sym (style_numbers l.kind l.id ms h.0))
+    (some_both ns (all_numbers (sent_pieces ps)) ms (all_numbers (page_pieces ps)) (some_numbers is g.0.1 h.2) (some_numbers ps g.1 h.3)))
+some_numbers (new_style m is ps) g h =
+    let r = apart_groups (page_pieces is) (page_pieces ps) g in
+    let ns : List ℕ = all_numbers (sent_pieces is) in
+    let later : List ℕ = all_numbers (sent_pieces ps) in
+    subst (AreSomeOf (numbers_by (edit_shape m.kind).inline 0 ns ++ later)) (sym (numbers_appended (page_pieces is) (page_pieces ps)))
+    (subst (λ (js : List ℕ). AreSomeOf (js ++ later) (all_numbers (page_pieces is) ++ all_numbers (page_pieces ps))) (sym (style_numbers m.kind 0 ns h.0))
+    (some_both ns later (all_numbers (page_pieces is)) (all_numbers (page_pieces ps)) (some_numbers is r.0 h.1) (some_numbers ps r.1 h.2)))
