@@ -40,8 +40,7 @@ use Rattle.wt_called_edit_laws.specs.Sends.{BlockSent, Sends, AllSend, MakesNode
 use Rattle.wt_called_edit_laws.specs.TreeEdits.{IsInline}
 use Rattle.wt_called_trees.specs.TreeFrames.{TreeFrame, spot, kept as kept_tree, holder, TreeFrames, no_nodes, more_nodes}
 use Rattle.wt_called_edit_laws.proofs.Cells.Nodes.{same_inside}
-use Rattle.wt_called_edit_laws.proofs.Cells.Paths.{same_first, same_rest}
-use Rattle.wt_called_edit_laws.proofs.Cells.PlaceFacts.{same_block}
+use Rattle.wt_called_edit_laws.proofs.Cells.Equal.{same_first, same_rest, same_block}
 use Rattle.wt_called_edit_laws.proofs.Leads.{standing_kind, edit_at}
 use Rattle.wt_called_edit_laws.proofs.TextsMake.{flat_same}
 

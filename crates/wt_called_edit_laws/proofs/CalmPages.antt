@@ -32,7 +32,7 @@ use Rattle.wt_called_edit_laws.specs.ItemSpots.{AreContentSpots}
 use Rattle.wt_called_edit_laws.specs.CalledBlocks.{AreAmongCalls, tree_by, StandAmongCalls}
 use Rattle.wt_called_edit_laws.proofs.Cells.CalledFrames.{contents_among_calls, texts_are_contents, stand_among}
 use Rattle.wt_text_edit_laws.proofs.Blocks.BlockReading.{read_expanded, read_unrefused}
-use Rattle.wt_called_edit_laws.proofs.Cells.ToldApart.{part_kind}
+use Rattle.wt_called_edit_laws.proofs.Cells.PartKinds.{part_kind}
 use Rattle.wt_called_edit_laws.specs.CalledPages.{IsCalledPage}
 
 -- ---- nodes of the page alone are clean

@@ -3,7 +3,6 @@ mod AnyCases
 mod CalledCases
 mod ClassCases
 pub mod AnyPages
-pub mod AnyTakes
 pub mod BodyPages
 mod Cases
 pub mod CellRows
@@ -17,7 +16,6 @@ pub mod FramesBorders
 pub mod FramesPlain
 pub mod HeadingCells
 pub mod OwnEdits
-pub mod ManyFacts
 pub mod ManyNodes
 pub mod ManyPaths
 pub mod Nodes
@@ -26,8 +24,7 @@ pub mod SentAsIs
 mod SentCases
 mod PageCases
 pub mod PageSlots
-pub mod Paths
-pub mod PlaceFacts
+pub mod Equal
 pub mod PlaceGaps
 pub mod PlacePaths
 pub mod PlaceTrees
@@ -39,4 +36,4 @@ pub mod SpotSlots
 pub mod SpotTrees
 pub mod SpotsRead
 pub mod Takes
-pub mod ToldApart
+pub mod PartKinds

@@ -76,7 +76,7 @@ pub record IsFramedPage (pages : Pages) (ss : List BlockSpot) (behind : List ℕ
   pub again : (rs : List BlockSpot) → AreRetyped ss rs → IsCalledPage pages rs behind
   pub stay : (rs : List BlockSpot) → AreRetyped ss rs → all_placeless (children (spots_tree pages rs behind)) ≡ all_filled (block_at (tree_by rs)) nodes
 
-called_again : (pages : Pages) (ss rs : List BlockSpot) (behind : List ℕ) → IsCalledPage pages ss behind → AreRetyped ss rs → IsCalledPage pages rs behind
+pub called_again : (pages : Pages) (ss rs : List BlockSpot) (behind : List ℕ) → IsCalledPage pages ss behind → AreRetyped ss rs → IsCalledPage pages rs behind
 called_again pages ss rs behind h t = record {
   outside = outside_again pages ss rs behind h.outside t;
   unrefused = (expanded_again pages ss rs behind h.outside.among.called t).unrefused h.unrefused;

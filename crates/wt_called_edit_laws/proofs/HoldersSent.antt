@@ -7,7 +7,7 @@ use Rattle.wt_row_laws.specs.Frames.{Part, content}
 use Rattle.wt_moved_laws.specs.Placeless.{placeless_label, placeless, all_placeless}
 use Rattle.wt_typed_blocks.specs.Edited.{Edited, stays, edited, round, Edits, no_edits, more_edits, page_node, page_nodes, IsOutside, AreOutside}
 use Rattle.wt_called_edit_laws.proofs.Cells.Nodes.{same_inside, same_label}
-use Rattle.wt_called_edit_laws.proofs.Cells.Paths.{same_first, same_rest}
+use Rattle.wt_called_edit_laws.proofs.Cells.Equal.{same_first, same_rest}
 use Rattle.wt_called_trees.specs.TreeFrames.{TreeFrame, spot, kept, holder, TreeFrames, no_nodes, more_nodes, filled, all_filled}
 use Rattle.wt_called_trees.proofs.FramesWalked.{no_leaf}
 use Rattle.wt_called_edit_laws.specs.Nodes.{IsHolder, AreHolders}

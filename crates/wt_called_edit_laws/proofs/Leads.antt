@@ -30,7 +30,7 @@ use Rattle.wt_called_edit_laws.specs.CalledBlocks.{tree_by, counted}
 use Rattle.wt_called_edit_laws.specs.EditsAt.{IsStanding, StandsTo, StandsAmong, AllStand, edited_by}
 use Rattle.wt_called_edit_laws.specs.Settled.{settled, all_settled, IsSettled}
 use Rattle.wt_called_edit_laws.proofs.Cells.Nodes.{same_label, same_inside}
-use Rattle.wt_called_edit_laws.proofs.Cells.Paths.{same_first, same_rest}
+use Rattle.wt_called_edit_laws.proofs.Cells.Equal.{same_first, same_rest}
 use Rattle.wt_called_trees.specs.Rounded.{HasItems, AllHaveItems, IsOwn, AreOwn}
 use Rattle.wt_called_trees.specs.TreeFrames.{spot, kept, holder, TreeFrames, no_nodes, more_nodes, all_filled, spots}
 use Rattle.wt_called_edit_laws.specs.Nodes.{AreHolders, block_at}

@@ -15,9 +15,9 @@ use Rattle.wt_moved_laws.specs.Placeless.{placeless_label, placeless, all_placel
 use Rattle.wt_typed_blocks.specs.Edited.{Edited, stays, edited, round, Edits, no_edits, more_edits, page_node, page_nodes}
 use Rattle.wt_typed_blocks.specs.EditedUnmarked.{AreRoundInBlocks, IsOwnRound, IsTold, AreTold}
 use Rattle.wt_called_edit_laws.proofs.Cells.Nodes.{same_inside}
-use Rattle.wt_called_edit_laws.proofs.Cells.Paths.{same_first, same_rest}
+use Rattle.wt_called_edit_laws.proofs.Cells.Equal.{same_first, same_rest}
 use Rattle.wt_called_edit_laws.proofs.Cells.SentAsIs.{body_inner}
-use Rattle.wt_called_edit_laws.proofs.Cells.ToldApart.{part_kind}
+use Rattle.wt_called_edit_laws.proofs.Cells.PartKinds.{part_kind}
 use Rattle.wt_called_trees.specs.TreeFrames.{TreeFrame, spot, kept, holder, TreeFrames, no_nodes, more_nodes, filled, all_filled}
 use Rattle.wt_called_edit_laws.specs.EditsAt.{IsOwnEdit, AreOwnEdits}
 use Rattle.wt_called_edit_laws.specs.Nodes.{IsHolder, AreHolders}

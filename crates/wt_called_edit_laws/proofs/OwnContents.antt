@@ -19,8 +19,7 @@ use Rattle.wt_called_edit_laws.specs.PathsTo.{paths_to}
 use Rattle.wt_called_edit_laws.specs.TreeEdits.{IsNumberedBody, IsEditOf, own_edit}
 use Rattle.wt_called_trees.specs.TreeFrames.{TreeFrames}
 use Rattle.wt_called_edit_laws.proofs.Cells.Nodes.{same_inside}
-use Rattle.wt_called_edit_laws.proofs.Cells.Paths.{same_first, same_rest}
-use Rattle.wt_called_edit_laws.proofs.Cells.PlaceFacts.{same_block}
+use Rattle.wt_called_edit_laws.proofs.Cells.Equal.{same_first, same_rest, same_block}
 use Rattle.wt_called_edit_laws.proofs.Leads.{standing_kind, all_lead}
 use Rattle.wt_called_edit_laws.proofs.OwnEdits.{own_edits}
 use Rattle.wt_called_edit_laws.proofs.TextContents.{as_contents}

@@ -31,7 +31,7 @@ use Rattle.wt_text_edit_laws.proofs.Texts.LoneTrees.{sized}
 use Rattle.wt_text_edit_laws.proofs.Texts.TypedNodes.{chars_source}
 use Rattle.wt_text_edit_laws.proofs.Texts.TypedShown.{chars_of_page, both_of_page}
 use Rattle.wt_called_edit_laws.specs.Settled.{settled, all_settled, IsSettled}
-use Rattle.wt_called_edit_laws.proofs.Cells.Paths.{same_first, same_rest}
+use Rattle.wt_called_edit_laws.proofs.Cells.Equal.{same_first, same_rest}
 use Rattle.wt_called_edit_laws.proofs.Settles.{settled_tree}
 use Rattle.wt_called_edit_laws.proofs.TextsMake.{flat_same}
 

@@ -10,7 +10,7 @@ use Rattle.wt_tree.specs.Tree.{Label, Tree, tree, Trees, none, more}
 use Rattle.wt_moved_laws.specs.Placeless.{placeless_label, placeless, all_placeless}
 use Rattle.wt_moved_laws.proofs.Placeless.{shown_placeless}
 use Rattle.wt_typed_blocks.specs.Edited.{Edited, stays, edited, round, Edits, no_edits, more_edits, page_node, page_nodes, edits_before}
-use Rattle.wt_called_edit_laws.proofs.Cells.Paths.{same_first, same_rest}
+use Rattle.wt_called_edit_laws.proofs.Cells.Equal.{same_first, same_rest}
 use Rattle.wt_called_edit_laws.proofs.Cells.Nodes.{same_label, same_inside}
 use Rattle.wt_called_trees.specs.TreeFrames.{TreeFrame, spot, kept, holder, TreeFrames, no_nodes, more_nodes, filled, all_filled, spots_in, spots}
 use Rattle.wt_called_edit_laws.specs.Sends.{BlockSent, NoneEdited, Sends, AllSend, MakesNode, MakesNodes, BlocksMake, ContentsMake}

@@ -27,8 +27,7 @@ use Rattle.wt_called_edit_laws.specs.TreeEdits.{IsEditOf, HasOwnEdits}
 use Rattle.wt_called_edit_laws.proofs.BlocksMade.{text_content}
 use Rattle.wt_called_edit_laws.proofs.CallsTake.{numbered_body, contents_by, contents_paths}
 use Rattle.wt_called_edit_laws.proofs.Cells.Nodes.{same_inside}
-use Rattle.wt_called_edit_laws.proofs.Cells.Paths.{same_first, same_rest}
-use Rattle.wt_called_edit_laws.proofs.Cells.PlaceFacts.{same_block}
+use Rattle.wt_called_edit_laws.proofs.Cells.Equal.{same_first, same_rest, same_block}
 use Rattle.wt_called_edit_laws.proofs.EditFacts.{IsFramedPage, framed_page, paths_of, spots_contents, spots_stand}
 use Rattle.wt_called_edit_laws.proofs.Leads.{standing_kind, all_lead}
 use Rattle.wt_called_edit_laws.proofs.OwnEdits.{own_edits}
@@ -112,7 +111,7 @@ mutual
 
 -- ---- the page
 
-texts_by : (pages : Pages) (ss : List BlockSpot) (behind : List ℕ) (f : IsFramedPage pages ss behind) → IsCalledPage pages ss behind → TakesTextsAmong pages ss behind
+pub texts_by : (pages : Pages) (ss : List BlockSpot) (behind : List ℕ) (f : IsFramedPage pages ss behind) → IsCalledPage pages ss behind → TakesTextsAmong pages ss behind
 texts_by pages ss behind f h =
     let t : Tree = spots_tree pages ss behind in
     let page : List ℕ = spots_source ss behind in
@@ -139,6 +138,11 @@ texts_by pages ss behind f h =
           (is ∙ ap (λ (u : Tree). as_page u unsourced) (sym (bare_body_is (label t) b es)));
       again = λ es e. subst (λ (rs : List BlockSpot). IsCalledPage pages rs behind) (same es e) (c.again (as_edits es) (as_contents t ss paths es stand e));
     }
+
+pub texts_paths : (pages : Pages) (ss : List BlockSpot) (behind : List ℕ) (f : IsFramedPage pages ss behind) (h : IsCalledPage pages ss behind)
+    → (texts_by pages ss behind f h).paths ≡ paths_of f
+unfolding texts_by
+texts_paths pages ss behind f h = contents_paths pages ss behind f h
 
 pub texts_taken : (pages : Pages) (ss : List BlockSpot) (behind : List ℕ) → IsCalledPage pages ss behind → TakesTextsAmong pages ss behind
 texts_taken pages ss behind h = texts_by pages ss behind (framed_page pages ss behind h) h

@@ -17,7 +17,7 @@ use Rattle.wt_text_edit_laws.specs.BlockSpots.{BlockSpot, AreContents}
 use Rattle.wt_text_edit_laws.specs.TextBlocks.{source_of, block_tree}
 use Rattle.wt_called_edit_laws.specs.CalledBlocks.{tree_by, counted}
 use Rattle.wt_called_edit_laws.proofs.Cells.Nodes.{same_label, same_inside}
-use Rattle.wt_called_edit_laws.proofs.Cells.Paths.{same_first, same_rest}
+use Rattle.wt_called_edit_laws.proofs.Cells.Equal.{same_first, same_rest}
 use Rattle.wt_called_edit_laws.proofs.Cells.PlaceGaps.{Gaps, last_gap, then_gap, put_before, numbers_in, source_at, AreSame, AtPlaces, at_before}
 use Rattle.wt_text_edit_laws.proofs.Blocks.Contents.{block_source as source_is}
 use Rattle.wt_called_trees.specs.TreeFrames.{TreeFrame, spot, kept, holder, TreeFrames, no_nodes, more_nodes, filled, all_filled}

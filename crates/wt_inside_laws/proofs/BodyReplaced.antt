@@ -17,7 +17,7 @@ use Rattle.wt_text_edit_laws.proofs.Blocks.TypedBraces.{AreTypedOver}
 use Rattle.wt_text_edit_laws.proofs.Prose.ProseTrees.{blocks_of}
 use Rattle.wt_called_edit_laws.specs.AnyBlocks.{AreSpots}
 use Rattle.wt_called_edit_laws.proofs.Cells.FramesBorders.{page_borders}
-use Rattle.wt_called_edit_laws.proofs.Cells.ManyFacts.{AllBorders}
+use Rattle.wt_called_edit_laws.proofs.Cells.ManyNodes.{AllBorders}
 use Rattle.wt_called_edit_laws.proofs.Cells.Nodes.{width_after}
 use Rattle.wt_called_edit_laws.proofs.Cells.PlaceTrees.{tree_by, Framed}
 use Rattle.wt_called_edit_laws.proofs.Cells.SpotTrees.{counted_same, tree_borders, nodes_over, over_tree, over_expanded}

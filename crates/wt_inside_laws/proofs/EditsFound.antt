@@ -12,13 +12,17 @@ use Rattle.wt_moved_laws.specs.Standing.{standing}
 use Rattle.wt_text_edit_laws.proofs.Prose.ProseTrees.{blocks_of, number_behind, items_behind}
 use Rattle.wt_text_edit_laws.proofs.Blocks.KeptBlocks.{blocks_source}
 use Rattle.wt_called_edit_laws.proofs.Cells.Cuts.{beside}
-use Rattle.wt_called_edit_laws.proofs.Cells.ManyFacts.{AllBorders, source_join}
-use Rattle.wt_called_edit_laws.proofs.Cells.ManyNodes.{fore_at, nodes_from, nodes_are}
+use Rattle.wt_called_edit_laws.proofs.Cells.ManyNodes.{AllBorders, fore_at, nodes_from, nodes_are}
 use Rattle.wt_called_edit_laws.proofs.Cells.ManyPaths.{past, further, behind_all, deeper, paths_from, NoneEmpty, paths_full, AreAsMany, paths_many, deeper_many}
 use Rattle.wt_called_edit_laws.proofs.Cells.Nodes.{number_after, items_after, sources_after, holder_label, standing_inner}
 use Rattle.wt_called_edit_laws.proofs.Cells.PlaceGaps.{Gaps, put_before, gaps_of, source_at, AtPlaces, at_before, at_behind}
 use Rattle.wt_inside_laws.specs.AnyReplaced.{number_by, number_among}
 use Rattle.wt_inside_laws.proofs.EditPlaces.{IsNone, EditIn}
+
+source_join : (us vs : List ItemTree) → blocks_source (us ++ vs) ≡ blocks_source us ++ blocks_source vs
+source_join [] vs = refl
+source_join (u ∷ us) vs =
+    ap (λ bs. sources (tree_items u) ++ bs) (source_join us vs) ∙ sym (append_assoc (sources (tree_items u)) (blocks_source us) (blocks_source vs))
 
 -- ---- what holds at each place of its number and the items before it
 

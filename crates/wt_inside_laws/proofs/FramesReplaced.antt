@@ -22,8 +22,7 @@ use Rattle.wt_text_edit_laws.proofs.Prose.ProseTrees.{blocks_of, number_behind, 
 use Rattle.wt_text_edit_laws.proofs.Blocks.KeptBlocks.{blocks_source, held_source}
 use Rattle.wt_called_edit_laws.proofs.Cells.Cuts.{beside}
 use Rattle.wt_called_edit_laws.proofs.Cells.OwnEdits.{number_grows, next_grows}
-use Rattle.wt_called_edit_laws.proofs.Cells.ManyFacts.{AllBorders}
-use Rattle.wt_called_edit_laws.proofs.Cells.ManyNodes.{fore_at, cut_at, AtBorders, one_round}
+use Rattle.wt_called_edit_laws.proofs.Cells.ManyNodes.{AllBorders, fore_at, cut_at, AtBorders, one_round}
 use Rattle.wt_called_edit_laws.proofs.Cells.Nodes.{IsHolder, AtBorder, number_after, items_after, width_after, holder_label, kids, standing_inner}
 use Rattle.wt_inside_laws.proofs.Before.{standing_stays}
 use Rattle.wt_inside_laws.proofs.Behind.{IsBehind, test_no_less, test_below}

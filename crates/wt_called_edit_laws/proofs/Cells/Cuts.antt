@@ -1,34 +1,17 @@
 -- Texts that are cut anew in a cell: a block in it stays where it is, and what is before it and behind it is cut by itself.
-use Rattle.std.proofs.Common.{◌≡◌, ℕ, Bool, true, false, Option, None, List, [], ◌∷◌, ◌++◌, length, refl, sym, ap, ◌∙◌, append-nil, append_assoc}
+use Rattle.std.proofs.Common.{◌≡◌, ℕ, Bool, true, false, Option, List, [], ◌∷◌, ◌++◌, length, refl, ap, ◌∙◌}
 use Rattle.std.specs.Prelude.{◌&&◌, ◌||◌, if◌then◌else◌}
 use Rattle.wt_tree.specs.declared.kind.Kind.TheVariants as kind
 use Rattle.wt_tree.specs.declared.kind.Ranges.{Ranges}
-use Rattle.wt_tree.specs.Plain.{Plains, plain_before, plains_before}
-use Rattle.wt_tree.specs.Leaves.{leaf_label, text_leaf, sep_leaf}
+use Rattle.wt_tree.specs.Leaves.{text_leaf, sep_leaf}
 use Rattle.wt_recut.specs.Recut.{is_blank, has_break, is_text, shows_block, is_border, is_passed, leads_to_block, front_ranges, rest_ranges, joined_ranges, text_onto, onto, joined_texts, from_start, front_of, rest_of, parts_before, text_before, cut_before, cut_from, recut}
-use Rattle.wt_tree.specs.Source.{flat, flat_of_all}
-use Rattle.wt_tree.specs.Tree.{Tree, tree, Trees, none, more, label}
-use Rattle.wt_recut.proofs.Cut.{recut_source}
-use Rattle.wt_moved_laws.specs.Placeless.{placeless, all_placeless}
-use Rattle.wt_moved_laws.proofs.Recuts.{recut_same, joined_same, cut_same}
+use Rattle.wt_tree.specs.Tree.{Tree, Trees, none, more, label}
 
 -- ---- trees before others
 
 abbrev pub beside : Trees → Trees → Trees
 beside none us = us
 beside (more t ts) us = more t (beside ts us)
-
-pub flat_beside : (ts us : Trees) → flat_of_all (beside ts us) ≡ flat_of_all ts ++ flat_of_all us
-flat_beside none us = refl
-flat_beside (more t ts) us = ap (λ bs. flat t ++ bs) (flat_beside ts us) ∙ sym (append_assoc (flat t) (flat_of_all ts) (flat_of_all us))
-
-pub shown_beside : (ts us : Trees) (rest : Plains) → plains_before (beside ts us) rest ≡ plains_before ts (plains_before us rest)
-shown_beside none us rest = refl
-shown_beside (more t ts) us rest = ap (plain_before t) (shown_beside ts us rest)
-
-pub placeless_beside : (ts us : Trees) → all_placeless (beside ts us) ≡ beside (all_placeless ts) (all_placeless us)
-placeless_beside none us = refl
-placeless_beside (more t ts) us = ap (more (placeless t)) (placeless_beside ts us)
 
 -- ---- joining
 
@@ -123,45 +106,3 @@ cut_back ds = cut_from true (joined_texts ds)
 pub recut_round : (xs : Trees) (p : Tree) (ds : Trees) → is_text p ≡ false → shows_block p ≡ true
     → recut (beside xs (more p ds)) ≡ beside (cut_front xs) (more p (cut_back ds))
 recut_round xs p ds e f = ap (cut_from false) (joined_beside xs p ds e) ∙ cut_beside false (joined_texts xs) p (joined_texts ds) e f
-
--- ---- the source, and what is shown, hang on neither numbers nor places
-
--- a block that is nowhere
-abbrev pub a_block : Tree
-a_block = tree (leaf_label kind.Para None [] []) none
-
-pub front_source : (xs : Trees) → flat_of_all (cut_front xs) ≡ flat_of_all xs
-front_source xs =
-    sym (append-nil (flat_of_all (cut_front xs)))
-    ∙ sym (flat_beside (cut_front xs) (more a_block none))
-    ∙ ap flat_of_all (sym (recut_round xs a_block none refl refl))
-    ∙ recut_source (beside xs (more a_block none))
-    ∙ flat_beside xs (more a_block none)
-    ∙ append-nil (flat_of_all xs)
-
-pub back_source : (ds : Trees) → flat_of_all (cut_back ds) ≡ flat_of_all ds
-back_source ds = ap flat_of_all (sym (recut_round none a_block ds refl refl)) ∙ recut_source (more a_block ds)
-
-pub without_last : Trees → Trees
-without_last none = none
-without_last (more t none) = none
-without_last (more t (more u us)) = more t (without_last (more u us))
-
-pub last_gone : (xs : Trees) (t : Tree) → without_last (beside xs (more t none)) ≡ xs
-unfolding without_last
-last_gone none t = refl
-last_gone (more x none) t = refl
-last_gone (more x (more y ys)) t = ap (more x) (last_gone (more y ys) t)
-
-pub front_same : (xs : Trees) → all_placeless (cut_front xs) ≡ cut_front (all_placeless xs)
-front_same xs =
-    sym (last_gone (all_placeless (cut_front xs)) a_block)
-    ∙ ap without_last (sym (placeless_beside (cut_front xs) (more a_block none))
-    ∙ ap all_placeless (sym (recut_round xs a_block none refl refl))
-    ∙ recut_same (beside xs (more a_block none))
-    ∙ ap recut (placeless_beside xs (more a_block none))
-    ∙ recut_round (all_placeless xs) a_block none refl refl)
-    ∙ last_gone (cut_front (all_placeless xs)) a_block
-
-pub back_same : (ds : Trees) → all_placeless (cut_back ds) ≡ cut_back (all_placeless ds)
-back_same ds = cut_same true (joined_texts ds) ∙ ap (cut_from true) (joined_same ds)

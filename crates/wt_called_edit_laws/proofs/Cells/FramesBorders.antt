@@ -13,8 +13,7 @@ use Rattle.wt_row_laws.specs.Frames.{place, whole, around, Frames, no_frames, mo
 use Rattle.wt_moved_laws.specs.Standing.{standing}
 use Rattle.wt_called_edit_laws.proofs.Cells.Nodes.{AtBorder, IsHolder}
 use Rattle.wt_called_edit_laws.proofs.Cells.HolderKinds.{table_holder, rows_holder, row_holder, cell_holder, as_holder, block_at, table_block}
-use Rattle.wt_called_edit_laws.proofs.Cells.ManyNodes.{AtBorders}
-use Rattle.wt_called_edit_laws.proofs.Cells.ManyFacts.{AllBorders}
+use Rattle.wt_called_edit_laws.proofs.Cells.ManyNodes.{AtBorders, AllBorders}
 
 -- ---- what is asked of the trees
 

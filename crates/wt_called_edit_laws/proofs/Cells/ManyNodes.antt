@@ -3,17 +3,16 @@ use Rattle.std.proofs.Common.{◌≡◌, ℕ, Bool, true, false, List, [], ◌�
 use Rattle.wt_tree.specs.declared.row.Texts.{Texts}
 use Rattle.wt_tree.specs.declared.row.Texts.TheVariants.{Separators, Page, Bordered, OwnCharacter}
 use Rattle.wt_recut.specs.Recut.{is_text, shows_block, joined_texts, cut_from}
-use Rattle.wt_tree.specs.Source.{flat_of_all}
-use Rattle.wt_tree.specs.Tree.{Tree, Trees, none, more}
+use Rattle.wt_tree.specs.Kinds.{texts_of_kind}
+use Rattle.wt_tree.specs.Tree.{Tree, Trees, more}
 use Rattle.wt_span.specs.Items.{Item}
 use Rattle.wt_inline.specs.ItemTree.{ItemTree}
 use Rattle.wt_annotated.specs.CutTexts.{cut_as}
 use Rattle.wt_row_laws.specs.Frames.{place, whole, around, Frames, no_frames, more_frames, tree_at, trees_at}
-use Rattle.wt_moved_laws.specs.Placeless.{all_placeless}
 use Rattle.wt_moved_laws.specs.Standing.{standing}
 use Rattle.wt_text_edit_laws.proofs.Prose.ProseTrees.{blocks_of, number_behind, items_behind}
-use Rattle.wt_called_edit_laws.proofs.Cells.Cuts.{beside, flat_beside, front, cut_back, joined_beside, cut_beside, back_source, back_same, a_block, placeless_beside, without_last, last_gone}
-use Rattle.wt_called_edit_laws.proofs.Cells.Nodes.{number_after, items_after, blocks_split, fore, aft, AtBorder, cut_round}
+use Rattle.wt_called_edit_laws.proofs.Cells.Cuts.{beside, front, cut_back, joined_beside, cut_beside}
+use Rattle.wt_called_edit_laws.proofs.Cells.Nodes.{number_after, items_after, blocks_split, fore, aft, AtBorder, cut_round, IsHolder}
 
 -- ---- between two blocks
 
@@ -23,25 +22,6 @@ cut_mid xs = front true (joined_texts xs)
 pub back_round : (xs : Trees) (p : Tree) (ds : Trees) → is_text p ≡ false → shows_block p ≡ true
     → cut_back (beside xs (more p ds)) ≡ beside (cut_mid xs) (more p (cut_back ds))
 back_round xs p ds e f = ap (cut_from true) (joined_beside xs p ds e) ∙ cut_beside true (joined_texts xs) p (joined_texts ds) e f
-
-pub mid_source : (xs : Trees) → flat_of_all (cut_mid xs) ≡ flat_of_all xs
-mid_source xs =
-    sym (append-nil (flat_of_all (cut_mid xs)))
-    ∙ sym (flat_beside (cut_mid xs) (more a_block none))
-    ∙ ap flat_of_all (sym (back_round xs a_block none refl refl))
-    ∙ back_source (beside xs (more a_block none))
-    ∙ flat_beside xs (more a_block none)
-    ∙ append-nil (flat_of_all xs)
-
-pub mid_same : (xs : Trees) → all_placeless (cut_mid xs) ≡ cut_mid (all_placeless xs)
-mid_same xs =
-    sym (last_gone (all_placeless (cut_mid xs)) a_block)
-    ∙ ap without_last (sym (placeless_beside (cut_mid xs) (more a_block none))
-    ∙ ap all_placeless (sym (back_round xs a_block none refl refl))
-    ∙ back_same (beside xs (more a_block none))
-    ∙ ap cut_back (placeless_beside xs (more a_block none))
-    ∙ back_round (all_placeless xs) a_block none refl refl)
-    ∙ last_gone (cut_mid (all_placeless xs)) a_block
 
 -- ---- by kinds of texts
 
@@ -114,3 +94,12 @@ nodes_are t v x n b us (more_frames (around k o gs c) fs) h =
     let u : ItemTree = tree_at t (around k o gs c) in
     one_round v x n b us u (trees_at t fs) (nodes_from t false x (number_behind m a u) (items_behind a u) [] fs) h.0
     (nodes_are t false x (number_behind m a u) (items_behind a u) [] fs h.1)
+
+-- ---- where a block is at a border
+
+-- each node round places is a holder, with blocks at its borders
+abbrev pub AllBorders : (ℕ → ItemTree) → Frames → Type 0
+AllBorders t no_frames = Unit {0}
+AllBorders t (more_frames (whole u) fs) = AllBorders t fs
+AllBorders t (more_frames (place i) fs) = AllBorders t fs
+AllBorders t (more_frames (around h p gs c) fs) = IsHolder h.kind × AtBorders (texts_of_kind h.kind) t gs × AllBorders t gs × AllBorders t fs

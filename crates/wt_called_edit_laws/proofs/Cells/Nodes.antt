@@ -1,16 +1,12 @@
 -- Nodes of several trees one after the other, and of one that holds others; and what they show.
-use Rattle.std.proofs.Common.{◌≡◌, ℕ, ◌+◌, Bool, true, false, List, [], ◌∷◌, ◌++◌, length, refl, sym, ap, ap₂, ◌∙◌, append-nil, append_assoc, length-append}
+use Rattle.std.proofs.Common.{◌≡◌, ℕ, ◌+◌, Bool, true, false, List, [], ◌∷◌, ◌++◌, length, refl, sym, ap, ◌∙◌, append-nil, append_assoc, length-append}
 use Rattle.std.specs.Prelude.{if◌then◌else◌}
 use Rattle.std.proofs.lemmas.Grind.{flat_map-append}
 use Rattle.wt_tree.specs.declared.kind.Kind.{Kind}
-use Rattle.wt_tree.specs.declared.kind.Showing.{Showing}
-use Rattle.wt_tree.specs.declared.kind.Showing.TheVariants.{Characters, Inside, Nothing, Element}
 use Rattle.wt_tree.specs.declared.row.Texts.{Texts}
 use Rattle.wt_tree.specs.declared.row.Texts.TheVariants.{Separators, Page, Bordered, OwnCharacter}
 use Rattle.wt_tree.specs.Kinds.{is_leaf, texts_of_kind}
-use Rattle.wt_tree.specs.Plain.{Face, face, Plains, ended, along, element, text_before, shown_before, plains_before}
 use Rattle.wt_recut.specs.Recut.{is_text, shows_block}
-use Rattle.wt_tree.specs.Source.{flat_of_all}
 use Rattle.wt_tree.specs.Tiling.{is_group}
 use Rattle.wt_tree.specs.Tree.{Label, Tree, tree, Trees, more, label}
 use Rattle.wt_span.specs.Items.{Item, source, sources}
@@ -20,12 +16,9 @@ use Rattle.wt_annotated.specs.Labels.{width, label_at}
 use Rattle.wt_annotated.specs.Numbering.{number_of, next_after, with_id, with_numbers, all_with_numbers}
 use Rattle.wt_annotated.specs.WithoutCalls.{inside_by, all_placed}
 use Rattle.wt_moved_laws.specs.Standing.{standing}
-use Rattle.wt_moved_laws.specs.Placeless.{all_placeless}
-use Rattle.wt_moved_laws.proofs.Moved.{moved}
-use Rattle.wt_moved_laws.proofs.Placeless.{all_shown_placeless}
 use Rattle.wt_text_edit_laws.proofs.Prose.ProseTrees.{blocks_of, number_behind, items_behind}
 use Rattle.wt_text_edit_laws.proofs.Blocks.KeptBlocks.{blocks_source}
-use Rattle.wt_called_edit_laws.proofs.Cells.Cuts.{beside, cut_front, cut_back, recut_round, front_source, back_source, front_same, back_same}
+use Rattle.wt_called_edit_laws.proofs.Cells.Cuts.{beside, cut_front, cut_back, recut_round}
 
 -- ---- nodes before others
 
@@ -51,16 +44,6 @@ sources_after b (t ∷ us) =
 
 pub width_after : (b : List Item) (us : List ItemTree) → width (items_after b us) ≡ width b + length (blocks_source us)
 width_after b us = ap length (sources_after b us) ∙ length-append (sources b) (blocks_source us)
-
-pub blocks_moved : (n m : ℕ) (a b : List Item) (us : List ItemTree) → all_placeless (blocks_of n a us) ≡ all_placeless (blocks_of m b us)
-blocks_moved n m a b [] = refl
-blocks_moved n m a b (t ∷ us) =
-    ap₂ more (moved n m a b t) (blocks_moved (number_behind n a t) (number_behind m b t) (items_behind a t) (items_behind b t) us)
-
--- the same but for numbers and places shows the same
-pub shown_same : (ts us : Trees) (rest : Plains) → all_placeless ts ≡ all_placeless us → plains_before ts rest ≡ plains_before us rest
-shown_same ts us rest e =
-    sym (all_shown_placeless ts rest) ∙ ap (λ xs. plains_before xs rest) e ∙ all_shown_placeless us rest
 
 -- ---- texts round a block
 
@@ -89,30 +72,6 @@ cut_round Page xs p ds h = refl
 cut_round Bordered xs p ds h = recut_round xs p ds h.0 h.1
 cut_round OwnCharacter xs p ds h = refl
 
-pub fore_flat : (x : Texts) (xs : Trees) → flat_of_all (fore x xs) ≡ flat_of_all xs
-fore_flat Separators xs = refl
-fore_flat Page xs = refl
-fore_flat Bordered xs = front_source xs
-fore_flat OwnCharacter xs = refl
-
-pub aft_flat : (x : Texts) (xs : Trees) → flat_of_all (aft x xs) ≡ flat_of_all xs
-aft_flat Separators xs = refl
-aft_flat Page xs = refl
-aft_flat Bordered xs = back_source xs
-aft_flat OwnCharacter xs = refl
-
-pub fore_same : (x : Texts) (xs ys : Trees) → all_placeless xs ≡ all_placeless ys → all_placeless (fore x xs) ≡ all_placeless (fore x ys)
-fore_same Separators xs ys e = e
-fore_same Page xs ys e = e
-fore_same Bordered xs ys e = front_same xs ∙ ap cut_front e ∙ sym (front_same ys)
-fore_same OwnCharacter xs ys e = e
-
-pub aft_same : (x : Texts) (xs ys : Trees) → all_placeless xs ≡ all_placeless ys → all_placeless (aft x xs) ≡ all_placeless (aft x ys)
-aft_same Separators xs ys e = e
-aft_same Page xs ys e = e
-aft_same Bordered xs ys e = back_same xs ∙ ap cut_back e ∙ sym (back_same ys)
-aft_same OwnCharacter xs ys e = e
-
 -- ---- a node that holds others
 
 abbrev pub holder_label : ℕ → List Item → Head → List Item → List Item → List Item → Label
@@ -137,16 +96,6 @@ standing_inner n b h o ts c leaf group =
 pub record IsHolder (k : Kind) : Type 0 where
   pub leaf : is_leaf k ≡ false
   pub group : is_group k ≡ false
-
--- ---- what it shows
-
-pub shown_by : (s : Showing) (l m : Label) (f g : Plains → Plains) (rest : Plains) → l.shown ≡ m.shown → face l ≡ face m → ((ps : Plains) → f ps ≡ g ps)
-    → shown_before s l f rest ≡ shown_before s m g rest
-shown_by Characters l m f g rest c e h = ap (λ (z : List ℕ). text_before z rest) c
-shown_by Inside l m f g rest c e h = h rest
-shown_by Nothing l m f g rest c e h = refl
-shown_by Element l m f g rest c e h =
-    ap (λ (a : Face). along (element a (f ended)) rest) e ∙ ap (λ (ps : Plains). along (element (face m) ps) rest) (h ended)
 
 -- ---- what holds of it
 

@@ -1,32 +1,21 @@
 -- The edit that types these texts and sends every other node as it is: it is one of the class, and the texts that it types are these.
-use Rattle.std.proofs.Common.{◌≡◌, ◌≢◌, ◌⊎◌, inl, inr, ℕ, zero, suc, Bool, true, false, Option, Some, None, List, [], ◌∷◌, ◌++◌, map, refl, sym, ap, ap₂, ◌∙◌, subst}
+use Rattle.std.proofs.Common.{◌≡◌, ◌≢◌, ◌⊎◌, inl, inr, ℕ, zero, suc, Option, Some, None, List, [], ◌∷◌, ◌++◌, map, refl, sym, ap, ap₂, ◌∙◌, subst}
 use Rattle.wt_tree.specs.declared.kind.Kind.{Kind}
-use Rattle.wt_tree.specs.declared.row.Texts.{Texts}
-use Rattle.wt_tree.specs.Kinds.{texts_of_kind}
 use Rattle.wt_tree.specs.Tiling.{is_group, ids, ids_of_all}
 use Rattle.wt_tree.specs.Tree.{Label, Tree, tree, Trees, none, more}
-use Rattle.wt_span.specs.Items.{Item}
-use Rattle.wt_inline.specs.ItemTree.{ItemTree}
-use Rattle.wt_annotated.specs.Numbering.{next_after}
 use Rattle.wt_checks.specs.Kept.{children}
 use Rattle.wt_checks.proofs.Lookups.{each_split, AllZero}
-use Rattle.wt_row_laws.specs.Frames.{place, whole, around, Frames, no_frames, more_frames, tree_at}
 use Rattle.wt_typed_blocks.specs.Sent.{kind_of, Sents, old_child, old_children, IsSent, AreSent}
 use Rattle.wt_typed_blocks.specs.Typed.{TakesText, TakeTexts}
 use Rattle.wt_typed_blocks.proofs.SentGroups.{in_group}
-use Rattle.wt_text_edit_laws.specs.BlockSpots.{BlockSpot, spots_source}
+use Rattle.wt_text_edit_laws.specs.BlockSpots.{BlockSpot}
 use Rattle.wt_text_edit_laws.specs.OwnNodes.{IsTypedSpot}
-use Rattle.wt_text_edit_laws.specs.Parts.{part_tree, HasNoGroups}
 use Rattle.wt_text_edit_laws.specs.TextBlocks.{TextBlock, block_of}
-use Rattle.wt_text_edit_laws.proofs.Blocks.OwnNodes.{none_inside}
-use Rattle.wt_text_edit_laws.proofs.Prose.ProseTrees.{blocks_of, number_behind, items_behind}
-use Rattle.wt_called_edit_laws.specs.AnyBlocks.{typed_at, typed_among, typed_by, first_paths, other_paths, EndHere, GoOn, TypesOnly, AllTypeOnly, IsTextEdit, LeadsTo, LeadsAmong, AllLead}
+use Rattle.wt_called_edit_laws.specs.AnyBlocks.{typed_at, typed_among, typed_by, first_paths, other_paths, EndHere, GoOn, TypesOnly, AllTypeOnly, LeadsTo, LeadsAmong, AllLead}
 use Rattle.wt_called_edit_laws.specs.SentAsIs.{HasNumberedGroups, HaveNumberedGroups}
-use Rattle.wt_called_edit_laws.specs.OwnTexts.{AreTypings, PathText, path_texts, in_first, in_others, first_texts, other_texts, here_or, text_here, sent_block, sent_node, own_text, own_texts, own_sent}
-use Rattle.wt_called_edit_laws.proofs.Cells.ManyNodes.{fore_at}
-use Rattle.wt_called_edit_laws.proofs.Cells.ManyPaths.{past, further, behind_all, deeper, paths_from, NoneEmpty, paths_full}
-use Rattle.wt_called_edit_laws.proofs.Cells.Nodes.{number_after, items_after}
-use Rattle.wt_called_edit_laws.proofs.Cells.SentAsIs.{stands_as_sent, none_numbered}
+use Rattle.wt_called_edit_laws.specs.OwnTexts.{AreTypings, PathText, path_texts, in_first, in_others, first_texts, other_texts, here_or, text_here, sent_block, sent_node, own_text, own_texts}
+use Rattle.wt_called_edit_laws.proofs.Cells.ManyPaths.{past, further, deeper, NoneEmpty}
+use Rattle.wt_called_edit_laws.proofs.Cells.SentAsIs.{stands_as_sent}
 
 -- ---- the paths lead to blocks in which the texts may be typed
 
@@ -283,10 +272,6 @@ pub further_apart : (ps : List (List ℕ)) → AreApart ps → AreApart (further
 further_apart [] h = tt
 further_apart (p ∷ ps) h = (past_from p ps h.0, further_apart ps h.1)
 
-behind_apart : (ts : Trees) (ps : List (List ℕ)) → AreApart ps → AreApart (behind_all ts ps)
-behind_apart none ps h = h
-behind_apart (more t ts) ps h = further_apart (behind_all ts ps) (behind_apart ts ps h)
-
 -- those in the first node, and those behind it
 pub first_apart : (p : List ℕ) (qs : List (List ℕ)) → NoneEmpty qs → IsApartFrom (zero ∷ p) (further qs)
 first_apart p [] h = tt
@@ -300,26 +285,6 @@ inside_from p (q ∷ ps) qs f h = (h.0, inside_from p ps qs f h.1)
 pub inside_apart : (ps qs : List (List ℕ)) → NoneEmpty qs → AreApart ps → AreApart qs → AreApart (deeper ps ++ further qs)
 inside_apart [] qs f h g = further_apart qs g
 inside_apart (p ∷ ps) qs f h g = (inside_from p ps qs f h.0, inside_apart ps qs f h.1 g)
-
-pub paths_apart : (t : ℕ → ItemTree) (v : Bool) (x : Texts) (n : ℕ) (b : List Item) (us : List ItemTree) (fs : Frames) → AreApart (paths_from t v x n b us fs)
-paths_apart t v x n b us no_frames = tt
-paths_apart t v x n b us (more_frames (whole u) fs) = paths_apart t v x n b (us ++ u ∷ []) fs
-paths_apart t v x n b us (more_frames (place i) fs) =
-    let m : ℕ = number_behind (number_after n b us) (items_after b us) (t i) in
-    let a : List Item = items_behind (items_after b us) (t i) in
-    let qs : List (List ℕ) = paths_from t false x m a [] fs in
-    behind_apart (fore_at v x (blocks_of n b us)) ((zero ∷ []) ∷ further qs)
-    (first_apart [] qs (paths_full t false x m a [] fs), further_apart qs (paths_apart t false x m a [] fs))
-paths_apart t v x n b us (more_frames (around h p gs c) fs) =
-    let u : ItemTree = tree_at t (around h p gs c) in
-    let m : ℕ = number_behind (number_after n b us) (items_after b us) u in
-    let a : List Item = items_behind (items_after b us) u in
-    let j : ℕ = next_after h.kind (number_after n b us) in
-    let ps : List (List ℕ) = paths_from t true (texts_of_kind h.kind) j (items_after b us ++ p) [] gs in
-    let qs : List (List ℕ) = paths_from t false x m a [] fs in
-    behind_apart (fore_at v x (blocks_of n b us)) (deeper ps ++ further qs)
-    (inside_apart ps qs (paths_full t false x m a [] fs) (paths_apart t true (texts_of_kind h.kind) j (items_after b us ++ p) [] gs)
-    (paths_apart t false x m a [] fs))
 
 -- ---- so each text is found at its path
 
@@ -504,11 +469,3 @@ tree_edit t ss paths m os full apart g lead u =
           ∙ all_found m ys ys ts (subst NoneEmpty (sym are) full) (all_have ys (subst AreApart (sym are) apart)) led
           ∙ texts_so ss paths os t lead u;
     }
-
-pub own_edit : (ss : List BlockSpot) (behind : List ℕ) (paths : List (List ℕ)) (m : Label) (os : List (Option (List ℕ))) → NoneEmpty paths → AreApart paths
-    → HasNoGroups (spots_source ss behind) → AllLead ss paths (part_tree (spots_source ss behind)) → AreTypings ss os
-    → IsTextEdit ss behind paths (own_sent ss behind paths m os) × (map (typed_by (own_sent ss behind paths m os)) paths ≡ os)
-own_edit ss behind paths m os full apart g lead u =
-    let t : Tree = part_tree (spots_source ss behind) in
-    let e = tree_edit t ss paths m os full apart (none_numbered (children t) (none_inside t g)) lead u in
-    (record { old = e.old; sent = e.sent; types = e.types; take = e.take }, e.texts)

@@ -46,7 +46,7 @@ use Rattle.wt_called_edit_laws.proofs.Cells.HolderKinds.{block_at, para_block}
 use Rattle.wt_text_edit_laws.proofs.Blocks.PageItems.{all_of}
 use Rattle.wt_called_edit_laws.proofs.Cells.FramesBorders.{IsBordered, AreBordered, all_borders}
 use Rattle.wt_called_edit_laws.proofs.Cells.FramesPlain.{IsFull, AreFull, frames_plain}
-use Rattle.wt_called_edit_laws.proofs.Cells.ManyFacts.{AllBorders}
+use Rattle.wt_called_edit_laws.proofs.Cells.ManyNodes.{AllBorders}
 use Rattle.wt_called_edit_laws.proofs.Cells.PlaceTrees.{tree_by, counted, Framed}
 use Rattle.wt_called_edit_laws.proofs.Cells.SpotsRead.{parts_read, parts_blocks, parts_over, whole_over}
 use Rattle.wt_text_edit_laws.proofs.Blocks.BlocksUngrouped.{blocks_ungrouped}
@@ -154,10 +154,6 @@ new_source ss rs behind f h e c o =
     ∙ ap (λ m. sources (tree_items m)) (sym (new_means ss rs behind f h e c o))
     ∙ sources_meaning (page_items (spots_source rs behind))
     ∙ page_sources (spots_source rs behind)
-
-pub over_source : (ss rs : List BlockSpot) (behind : List ℕ) (f : Framed ss behind) → AreSpots ss behind → SameRound ss rs → AreTypedOver ss rs
-    → blocks_source (nodes_over f rs) ≡ spots_source rs behind
-over_source ss rs behind f h e o = new_source ss rs behind f h e (over_contents ss rs behind h e o) (over_new ss rs o)
 
 pub over_utf8 : (ss rs : List BlockSpot) (behind : List ℕ) → AreSpots ss behind → SameRound ss rs → AreTypedOver ss rs → IsUtf8 (spots_source rs behind)
 over_utf8 ss rs behind h e o = read_utf8 rs behind (over_read ss rs behind h e o)
