@@ -1,4 +1,4 @@
--- A call that keeps what `run` promises answers an edit of texts anywhere with the new page, or a device failed, or memory ran out.
+-- What a call answers that sends an edited tree of a page, and how it ends: where `edit` answers a page, it has written this page.
 use Rattle.std.proofs.Common.{◌≡◌, ℕ, ◌≤◌, Bool, Option, Some, List, length, ap, ◌∙◌, subst}
 use Rattle.std.specs.Prelude.{◌⊎◌, if◌then◌else◌, IfSome}
 use Rattle.std.specs.Str.{IsUtf8}
@@ -13,17 +13,11 @@ use Rattle.wt_commands.specs.declared.command.Command.TheVariants.{Edit, Selser}
 use Rattle.wt_commands.specs.Answers.{Answer, done, refused, text_answer, title_answer, edited_answer, input_answer, edit_of, edit_to, answer_to, answer_told}
 use Rattle.wt_commands.specs.Calls.{Call, known_answer}
 use Rattle.wt_commands.specs.declared.status.Status.TheVariants as status
-use Rattle.wt_pagetool.specs.Promises.{Ends, EndsAsEdit}
+use Rattle.wt_pagetool.specs.Promises.{EndsAsEdit}
 use Rattle.wt_commands.specs.UnmarkedEdits.{DoneByEdit}
 use Rattle.wt_commands.specs.Statuses.{code, IsFaultOrNoMemory}
-use Rattle.wt_text_edit_laws.specs.BlockSpots.{BlockSpot, spots_source}
 use Rattle.wt_text_edit_laws.proofs.Prose.ProseTakes.{not_longer}
-use Rattle.wt_program.proofs.BlocksCalls.{page_ends, page_completes}
-use Rattle.wt_called_edit_laws.specs.AnyBlocks.{AreSpots, new_page}
-use Rattle.wt_program.specs.AnyCalls.{SendsFor, TakesThem, TakesTextsAnywhere}
-use Rattle.wt_called_edit_laws.specs.AnyTexts.{sent_page, unmarked_page, TakesAnyTexts}
-use Rattle.wt_called_edit_laws.proofs.Cells.AnyPages.{any_take}
-use Rattle.wt_called_edit_laws.proofs.Cells.SpotTrees.{same_self, over_self, over_utf8}
+use Rattle.wt_program.specs.AnyCalls.{SendsFor}
 
 -- of what is under a title, to an input
 edit_is : (pages : Pages) (page new input : List ℕ) (u : Tree) (unsourced : Option ℕ) → IsUtf8 page → length page ≤ PAGE_BYTES → length input ≤ HTML_BYTES
@@ -55,25 +49,3 @@ selser_ends c ended page new sent s made ends =
     (ends.selser_as_edit s.title s.words) in
     let both : P s.pages s.input = subst (λ (given : Option (List ℕ)). IfSome given (λ bytes. P s.pages bytes)) s.given over in
     both made
-
-calls_take : (c : Call) (ended : ℕ) (ss : List BlockSpot) (behind : List ℕ) → Ends c ended → EndsAsEdit c ended → AreSpots ss behind
-    → TakesAnyTexts ss behind → TakesThem c ended ss behind
-calls_take c ended ss behind ends as_edit h t =
-    let page : List ℕ = spots_source ss behind in
-    let utf8 : IsUtf8 page = over_utf8 ss ss behind h (same_self ss) (over_self ss) in
-    record {
-      paths = t.paths;
-      lead = t.lead;
-      edit = λ es e s.
-          page_ends c ended (new_page ss behind t.paths es)
-          (answer_is c page (new_page ss behind t.paths es) (sent_page ss behind es) utf8 s (t.takes s.pages s.body es e s.new_within)) ends;
-      complete = λ es e s sound.
-          page_completes c ended (new_page ss behind t.paths es)
-          (answer_is c page (new_page ss behind t.paths es) (sent_page ss behind es) utf8 s (t.takes s.pages s.body es e s.new_within)) ends sound;
-      selser = λ es e s.
-          selser_ends c ended page (new_page ss behind t.paths es) (unmarked_page ss behind es) s
-          (t.unmarked s.pages (s.pages s.title) s.input s.body s.unsourced es e s.found s.old_within s.new_within s.within s.reads) as_edit;
-    }
-
-pub any_calls : (c : Call) (ended : ℕ) → Ends c ended → EndsAsEdit c ended → TakesTextsAnywhere c ended
-any_calls c ended ends as_edit = λ ss behind h. calls_take c ended ss behind ends as_edit h (any_take ss behind h)

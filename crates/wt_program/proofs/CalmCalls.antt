@@ -1,41 +1,22 @@
 -- What a call does with texts that are typed on pages without calls is what it does with those on pages with calls: the pages are such pages.
-use Rattle.std.proofs.Common.{◌≡◌, ℕ, Option, Some, None, List, refl, sym, ap, ◌∙◌, subst}
-use Rattle.wt_span.specs.Origins.{Expanded}
+use Rattle.std.proofs.Common.{◌≡◌, ℕ, Option, Some, None, List, refl, sym, subst}
 use Rattle.wt_devices.specs.Device.{Pages}
 use Rattle.wt_tree.specs.Tree.{Tree}
-use Rattle.wt_annotated.specs.Annotated.{annotated}
-use Rattle.wt_annotated.specs.GroupData.{group_data}
-use Rattle.wt_checks.specs.Kept.{children}
-use Rattle.wt_page.specs.Body.{meaning}
 use Rattle.wt_commands.specs.declared.command.Command.TheVariants.{Edit, Selser}
 use Rattle.wt_commands.specs.Calls.{Call}
-use Rattle.wt_typed_blocks.specs.Sent.{Sents}
 use Rattle.wt_text_edit_laws.specs.BlockSpots.{BlockSpot, spots_source}
 use Rattle.wt_text_edit_laws.specs.Parts.{part_tree}
-use Rattle.wt_called_edit_laws.specs.AnyBlocks.{AreSpots, IsTextEdit, new_page, AllLead}
+use Rattle.wt_called_edit_laws.specs.AnyBlocks.{AreSpots, new_page, AllLead}
 use Rattle.wt_program.specs.AnyCalls.{SendsFor, TakesThem, TakesTextsAnywhere}
 use Rattle.wt_called_edit_laws.specs.AnyTexts.{TakesAnyTexts}
-use Rattle.wt_called_edit_laws.proofs.Cells.AnyPages.{any_take}
-use Rattle.wt_called_edit_laws.proofs.Cells.SpotTrees.{same_self, over_self, over_expanded}
+use Rattle.wt_called_edit_laws.proofs.Cells.AnyPages.{tree_is, edit_over, any_take}
 use Rattle.wt_called_edit_laws.proofs.BlocksOutside.{called_editable}
 use Rattle.wt_called_edit_laws.proofs.CalmPages.{calm_pages}
-use Rattle.wt_called_edit_laws.specs.TreeEdits.{IsEditOf, sent_body, free_sent_body}
+use Rattle.wt_called_edit_laws.specs.TreeEdits.{sent_body, free_sent_body}
 use Rattle.wt_program.specs.CalledCalls.{TakesThemAmong, TakesTextsAmongCalls}
 use Rattle.wt_called_edit_laws.specs.CalledTexts.{spots_tree}
-
--- the tree is the same, whatever the folder has
-tree_is : (pages : Pages) (ss : List BlockSpot) (behind : List ℕ) → AreSpots ss behind → spots_tree pages ss behind ≡ part_tree (spots_source ss behind)
-tree_is pages ss behind h =
-    ap (λ (x : Expanded). annotated x.outer (group_data x.outer) (meaning x.items)) (over_expanded pages ss ss behind h (same_self ss) (over_self ss))
-
--- ---- and so are the edits
-
-edit_so : (t u : Tree) (paths : List (List ℕ)) (es : Sents) → t ≡ u → IsEditOf u paths es → IsEditOf t paths es
-edit_so t u paths es e h = record { old = h.old ∙ ap children (sym e); sent = h.sent; types = h.types; take = h.take }
-
-text_edit : (ss : List BlockSpot) (behind : List ℕ) (paths : List (List ℕ)) (es : Sents) → IsTextEdit ss behind paths es
-    → IsEditOf (part_tree (spots_source ss behind)) paths es
-text_edit ss behind paths es h = record { old = h.old; sent = h.sent; types = h.types; take = h.take }
+use Rattle.wt_pagetool.specs.Promises.{Ends, EndsAsEdit}
+use Rattle.wt_program.proofs.TextCalls.{calls_take_texts}
 
 -- ---- where the folder tells its pages
 
@@ -49,14 +30,14 @@ told_take c ended pages ss behind h t =
       paths = t.paths;
       lead = subst (AllLead ss t.paths) is t.lead;
       edit = λ es e s.
-          t.edit es (edit_so (spots_tree pages ss behind) body t.paths es is (text_edit ss behind t.paths es e))
+          t.edit es (edit_over (spots_tree pages ss behind) ss behind t.paths es is e)
           (subst (λ (x : Tree). SendsFor c Edit page (new_page ss behind t.paths es) (sent_body x es)) (sym is) s);
       complete = λ es e s sound.
-          t.complete es (edit_so (spots_tree pages ss behind) body t.paths es is (text_edit ss behind t.paths es e))
+          t.complete es (edit_over (spots_tree pages ss behind) ss behind t.paths es is e)
           (subst (λ (x : Tree). SendsFor c Edit page (new_page ss behind t.paths es) (sent_body x es)) (sym is) s) sound;
       selser = λ es e s.
           t.selser es
-          (record { edit = edit_so (spots_tree pages ss behind) body t.paths es is (text_edit ss behind t.paths es e.edit); own = e.own })
+          (record { edit = edit_over (spots_tree pages ss behind) ss behind t.paths es is e.edit; own = e.own })
           (subst (λ (x : Tree). SendsFor c Selser page (new_page ss behind t.paths es) (free_sent_body x es)) (sym is) s);
     }
 
@@ -82,3 +63,6 @@ by_folder c ended ss behind (Some pages) e h t = told_take c ended pages ss behi
 
 pub anywhere_so : (c : Call) (ended : ℕ) → TakesTextsAmongCalls c ended → TakesTextsAnywhere c ended
 anywhere_so c ended t = λ ss behind h. by_folder c ended ss behind c.folder.pages_before refl h t
+
+pub any_calls : (c : Call) (ended : ℕ) → Ends c ended → EndsAsEdit c ended → TakesTextsAnywhere c ended
+any_calls c ended ends as_edit = anywhere_so c ended (calls_take_texts c ended ends as_edit)

@@ -36,8 +36,14 @@ pub fn texts_on_pages_without_calls_are_taken_so()
     ensures { (c : Call) (ended : ℕ) → TakesTextsAmongCalls c ended → TakesTextsAnywhere c ended }
 {}
 
+/// And so it takes a text in a typed paragraph in a cell of a table (`IsCellPage`), on such a page.
+#[tactic(auto, using(crate::proofs::CellsCalls::cells_so))]
+pub fn texts_in_cells_are_taken_so()
+    ensures { (c : Call) (ended : ℕ) → TakesTextsAnywhere c ended → TakesTextsInCells c ended }
+{}
+
 /// The same of pages that call nothing (`AreSpots`), whatever the folder has.
-#[tactic(auto, using(crate::proofs::AnyCalls::any_calls))]
+#[tactic(auto, using(crate::proofs::CalmCalls::any_calls))]
 pub fn calls_take_texts_anywhere()
     ensures { (c : Call) (ended : ℕ) → Ends c ended → EndsAsEdit c ended → TakesTextsAnywhere c ended }
 {}

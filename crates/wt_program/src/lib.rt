@@ -8,8 +8,6 @@ ghost use Rattle.wt_commands.specs.Calls.{call};
 ghost use Rattle.wt_commands.specs.Devices.{read_from, fetched_from, written_to};
 ghost use Rattle.wt_pagetool.specs.Promises.{AsksFor, Ends, EndsAsEdit, GivesBack, ReadsAtMost, Waits, Wrote};
 ghost use Rattle.wt_commands.specs.Words.{command_of, Fetches, Reads};
-ghost use Rattle.wt_program.specs.Calls.{TakesTexts};
-ghost use Rattle.wt_program.specs.CellCalls.{TakesTextsInCells};
 ghost use Rattle.wt_program.specs.ContentCalls.{TakesContentsAmongCalls};
 
 mod laws;
@@ -17,7 +15,7 @@ mod laws;
 pub use laws::{
     calls_take_contents_among_calls, calls_take_texts, calls_take_texts_among_calls,
     calls_take_texts_anywhere, calls_take_texts_in_cells, texts_among_calls_are_taken_so,
-    texts_on_pages_without_calls_are_taken_so,
+    texts_in_cells_are_taken_so, texts_on_pages_without_calls_are_taken_so,
 };
 use std::alloc::Global;
 use wt_devices::{Folder, Sink, Source};
@@ -26,9 +24,9 @@ use wt_span::{List, PAGE_BYTES, Str};
 
 /// Answers the words of a command line, without the program's name, and gives the number to end with
 /// (`Status::code` of `wt_pagetool`). This is `run` of `wt_pagetool`, which says what each command does, with all
-/// that it promises and three promises more, which follow from that and from the laws of edits
-/// (`takes_contents_among_calls`, `takes_texts`, `takes_texts_in_cells`).
-#[tactic(auto, using(crate::proofs::BlocksCalls::takes, crate::proofs::CellsCalls::takes_in_cells, crate::proofs::AmongCalls::calls_take))]
+/// that it promises and one promise more, which follows from that and from the laws of edits
+/// (`takes_contents_among_calls`).
+#[tactic(auto, using(crate::proofs::AmongCalls::calls_take))]
 pub fn run<S: Source, F: Folder, W: Sink, E: Sink>(
     alloc: Global,
     words: &List<Str>,
@@ -39,21 +37,10 @@ pub fn run<S: Source, F: Folder, W: Sink, E: Sink>(
 ) -> u8
     // Edited contents of paragraphs and headings of a page with calls are taken, wherever these are outside the page's
     // groups, in the body, in cells and in captions, in any number of them at once: any text in the place of all that
-    // one holds, and where its content is flat any texts beside its nodes. Where a call sends such an edit of a page
+    // one holds, and where its content is read so any texts beside its nodes. Where a call sends such an edit of a page
     // (`IsEditablePage` of `wt_called_edit_laws`), it is done, and with `edit` the page with these contents was written,
     // and no line; or a device failed, or memory ran out.
     ensures takes_contents_among_calls { TakesContentsAmongCalls (call words.now (read_from S.Source input.old input.new)
-        (fetched_from F.Folder folder.old folder.new) (written_to W.Sink out.old out.new)
-        (written_to E.Sink err.old err.new)) result }
-
-    // Texts typed in the places of all that the paragraphs and headings of pages of the class of `wt_text_edit_laws`
-    // hold, in whose body these are, and which call nothing: of what the folder has this asks nothing.
-    ensures takes_texts { TakesTexts (call words.now (read_from S.Source input.old input.new)
-        (fetched_from F.Folder folder.old folder.new) (written_to W.Sink out.old out.new)
-        (written_to E.Sink err.old err.new)) result }
-
-    // And of a text typed in a typed paragraph in a cell of a table.
-    ensures takes_texts_in_cells { TakesTextsInCells (call words.now (read_from S.Source input.old input.new)
         (fetched_from F.Folder folder.old folder.new) (written_to W.Sink out.old out.new)
         (written_to E.Sink err.old err.new)) result }
 

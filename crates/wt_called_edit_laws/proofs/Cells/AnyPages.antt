@@ -64,7 +64,7 @@ framed_over pages ss behind h f = record {
 
 -- ---- and the edits
 
-edit_over : (t : Tree) (ss : List BlockSpot) (behind : List ℕ) (paths : List (List ℕ)) (es : Sents) → t ≡ part_tree (spots_source ss behind)
+pub edit_over : (t : Tree) (ss : List BlockSpot) (behind : List ℕ) (paths : List (List ℕ)) (es : Sents) → t ≡ part_tree (spots_source ss behind)
     → IsTextEdit ss behind paths es → IsEditOf t paths es
 edit_over t ss behind paths es is e = record { old = e.old ∙ ap children (sym is); sent = e.sent; types = e.types; take = e.take }
 

@@ -33,7 +33,7 @@ one_spot c = record { before = c.before; block = a_paragraph; text = c.text } �
 abbrev pub OnePath : BlockSpot → List (List ℕ) → Tree → Type 0
 OnePath s ps t = (p : List ℕ) × (ps ≡ p ∷ []) × LeadsTo s.block p t
 
-pub one_path : (s : BlockSpot) (ps : List (List ℕ)) (t : Tree) → AllLead (s ∷ []) ps t → OnePath s ps t
+one_path : (s : BlockSpot) (ps : List (List ℕ)) (t : Tree) → AllLead (s ∷ []) ps t → OnePath s ps t
 one_path s [] t h = absurd h
 one_path s (p ∷ []) t h = (p, refl, h.0)
 one_path s (p ∷ q ∷ ps) t h = absurd h.1
@@ -106,39 +106,51 @@ one_edit c (i ∷ is) text ss e =
     let r = all_type i is text ss e.utf8 e.types in
     (record { old = e.old; sent = e.sent; types = r.0; take = r.2 }, r.1)
 
+-- so it is one at the only path, and makes the same page
+abbrev pub IsThere : CellPage → List (List ℕ) → List ℕ → Sents → Type 0
+IsThere c paths text ss = IsTextEdit (one_spot c) c.behind paths ss × (texts_page (one_spot c) c.behind paths ss ≡ new_page c text)
+
+abbrev pub CellPath : CellPage → List (List ℕ) → Type 0
+CellPath c paths = OnePath (record { before = c.before; block = a_paragraph; text = c.text }) paths (part_tree (page_with c c.text))
+
+pub cell_path : (c : CellPage) (paths : List (List ℕ)) → AllLead (one_spot c) paths (part_tree (page_with c c.text)) → CellPath c paths
+cell_path c paths h = one_path (record { before = c.before; block = a_paragraph; text = c.text }) paths (part_tree (page_with c c.text)) h
+
+pub cell_leads : (c : CellPage) (paths : List (List ℕ)) (o : CellPath c paths) → IsCellPage c → LeadsFrom o.0 (children (part_tree (page_with c c.text)))
+cell_leads c paths o h = leads_from (one_spot c) c.behind o.0 (cell_spots c h) o.2
+
+pub there : (c : CellPage) (paths : List (List ℕ)) (o : CellPath c paths) (text : List ℕ) (ss : Sents) → IsCellEdit c o.0 text ss → IsThere c paths text ss
+there c paths o text ss e =
+    let r : IsOneEdit c o.0 text ss = one_edit c o.0 text ss e in
+    let typed : map (typed_by ss) paths ≡ Some text ∷ [] = ap (map (typed_by ss)) o.1 ∙ ap (λ (p : Option (List ℕ)). p ∷ []) r.1 in (
+      subst (λ ps. IsTextEdit (one_spot c) c.behind ps ss) (sym o.1) r.0,
+      ap (λ os. spots_source (with_texts (one_spot c) os) c.behind) typed,
+    )
+
 -- ---- and is taken
 
 -- what is known of the page
 abbrev pub taken : (c : CellPage) → IsCellPage c → TakesAnyTexts (one_spot c) c.behind
 taken c h = any_take (one_spot c) c.behind (cell_spots c h)
 
-abbrev pub own_path : (c : CellPage) (h : IsCellPage c) → OnePath (record { before = c.before; block = a_paragraph; text = c.text }) (taken c h).paths (part_tree (page_with c c.text))
-own_path c h = one_path (record { before = c.before; block = a_paragraph; text = c.text }) (taken c h).paths (part_tree (page_with c c.text)) (taken c h).lead
+abbrev pub own_path : (c : CellPage) (h : IsCellPage c) → CellPath c (taken c h).paths
+own_path c h = cell_path c (taken c h).paths (taken c h).lead
 
 abbrev pub path_of : (c : CellPage) → IsCellPage c → List ℕ
 path_of c h = (own_path c h).0
 
 pub path_leads : (c : CellPage) (h : IsCellPage c) → LeadsFrom (path_of c h) (children (part_tree (page_with c c.text)))
-path_leads c h = leads_from (one_spot c) c.behind (path_of c h) (cell_spots c h) (own_path c h).2
+path_leads c h = cell_leads c (taken c h).paths (own_path c h) h
 
-pub at_path : (c : CellPage) (h : IsCellPage c) (text : List ℕ) (ss : Sents) → IsCellEdit c (path_of c h) text ss → IsTextEdit (one_spot c) c.behind (taken c h).paths ss
-at_path c h text ss e = subst (λ ps. IsTextEdit (one_spot c) c.behind ps ss) (sym (own_path c h).1) (one_edit c (path_of c h) text ss e).0
+pub at_path : (c : CellPage) (h : IsCellPage c) (text : List ℕ) (ss : Sents) → IsCellEdit c (path_of c h) text ss → IsThere c (taken c h).paths text ss
+at_path c h text ss e = there c (taken c h).paths (own_path c h) text ss e
 
-texts_are : (c : CellPage) (h : IsCellPage c) (text : List ℕ) (ss : Sents) → IsCellEdit c (path_of c h) text ss
-    → map (typed_by ss) (taken c h).paths ≡ Some text ∷ []
-texts_are c h text ss e =
-    ap (map (typed_by ss)) (own_path c h).1 ∙ ap (λ (o : Option (List ℕ)). o ∷ []) (one_edit c (path_of c h) text ss e).1
-
-pub page_new : (c : CellPage) (h : IsCellPage c) (text : List ℕ) (ss : Sents) → IsCellEdit c (path_of c h) text ss
-    → texts_page (one_spot c) c.behind (taken c h).paths ss ≡ new_page c text
-page_new c h text ss e = ap (λ os. spots_source (with_texts (one_spot c) os) c.behind) (texts_are c h text ss e)
-
-pub takes_text : (c : CellPage) (h : IsCellPage c) (pages : Pages) (b : Label) (text : List ℕ) (ss : Sents) → IsCellEdit c (path_of c h) text ss
+takes_text : (c : CellPage) (h : IsCellPage c) (pages : Pages) (b : Label) (text : List ℕ) (ss : Sents) → IsCellEdit c (path_of c h) text ss
     → length (new_page c text) ≤ PAGE_BYTES
     → edit_to pages (page_with c c.text) (new_body (label (part_tree (page_with c c.text))) b ss) ≡ done (new_page c text)
 takes_text c h pages b text ss e le =
-    let new = page_new c h text ss e in
-    (taken c h).takes pages b ss (at_path c h text ss e) (subst (λ page. length page ≤ PAGE_BYTES) (sym new) le) ∙ ap done new
+    let at = at_path c h text ss e in
+    (taken c h).takes pages b ss at.0 (subst (λ page. length page ≤ PAGE_BYTES) (sym at.1) le) ∙ ap done at.1
 
 pub takes_any : (c : CellPage) → IsCellPage c → TakesText c
 takes_any c h = record { path = path_of c h; leads = path_leads c h; takes = takes_text c h }
@@ -152,7 +164,7 @@ again c text h u =
     let m : Label = label (part_tree (page_with c c.text)) in
     let ss : Sents = own_sents (path_of c h) m text ts in
     let e : IsCellEdit c (path_of c h) text ss = own_edit c (path_of c h) m text h.ungrouped (path_leads c h) u in
-    let new : AreSpots (with_texts (one_spot c) (map (typed_by ss) (taken c h).paths)) c.behind = (taken c h).again ss (at_path c h text ss e) in
+    let new : AreSpots (with_texts (one_spot c) (map (typed_by ss) (taken c h).paths)) c.behind = (taken c h).again ss (at_path c h text ss e).0 in
     record {
       stands = h.stands;
       follows = h.follows;
@@ -161,5 +173,5 @@ again c text h u =
       calls_nothing = h.calls_nothing;
       in_cell = h.in_cell;
       is_typed = typed_again c.text text u;
-      ungrouped = subst HasNoGroups (page_new c h text ss e) new.ungrouped;
+      ungrouped = subst HasNoGroups (at_path c h text ss e).1 new.ungrouped;
     }
