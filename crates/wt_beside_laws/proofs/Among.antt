@@ -19,12 +19,6 @@ among_behind [] ys os h = tt
 among_behind (x ∷ xs) [] os h = h
 among_behind (x ∷ xs) (y ∷ ys) os h = inr (among_behind (x ∷ xs) ys os h)
 
-pub among_both : {A : Type 0} (xs ys us vs : List A) → AreAmong xs ys → AreAmong us vs → AreAmong (xs ++ us) (ys ++ vs)
-among_both [] ys us vs h k = among_behind us ys vs k
-among_both (x ∷ xs) [] us vs h k = absurd h
-among_both (x ∷ xs) (y ∷ ys) us vs (inl s) k = inl (s.0, among_both xs ys us vs s.1 k)
-among_both (x ∷ xs) (y ∷ ys) us vs (inr r) k = inr (among_both (x ∷ xs) ys us vs r k)
-
 -- what holds of each
 abbrev pub Each : {A : Type 0} → (A → Type 0) → List A → Type 0
 Each P [] = Unit {0}

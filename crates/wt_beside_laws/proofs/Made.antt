@@ -9,6 +9,5 @@ pub mod Items
 pub mod Letters
 pub mod Written
 pub mod Inline
-pub mod NewContents
 pub mod Making
 pub mod Cases

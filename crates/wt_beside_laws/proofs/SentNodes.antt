@@ -1,5 +1,5 @@
 -- The nodes of a content that are sent as they are in the page are what the page has with their numbers.
-use Rattle.std.proofs.Common.{◌≡◌, inl, inr, ℕ, Bool, Option, Some, None, List, [], ◌∷◌, ◌++◌, refl, sym, ap, ◌∙◌, subst, map}
+use Rattle.std.proofs.Common.{◌≡◌, ℕ, Bool, Option, Some, None, List, [], ◌∷◌, ◌++◌, refl, sym, ap, ◌∙◌, map}
 use Rattle.std.specs.Prelude.{if◌then◌else◌}
 use Rattle.std.specs.Str.{chars}
 use Rattle.wt_tree.specs.declared.edit_shape.InlineForm.{InlineForm}
@@ -14,7 +14,6 @@ use Rattle.wt_original.specs.Page.{Page}
 use Rattle.wt_link_spelling.specs.Spelling.{kept_thing, unless_kept, as_it_stood, anew_by, signs_by, signs_of, signs_of_all}
 use Rattle.wt_beside_laws.specs.SentNodes.{IsUnchanged, IsSentBy, AreSent, number_by, numbers}
 use Rattle.wt_beside_laws.specs.Stood.{things}
-use Rattle.wt_beside_laws.proofs.Among.{AreAmong, same_among, among_behind, among_both}
 
 -- a node of the page as its content's signs have it
 kept_as : Kept → Thing
@@ -79,20 +78,3 @@ all_of p pl (more (tree l ts) us) h =
 pub same_nodes : (p : Page) (pl : Place) (olds news : Trees) → AreSent p olds → AreSent p news → numbers news ≡ numbers olds
     → things (signs_of_all p pl news) ≡ things (signs_of_all p pl olds)
 same_nodes p pl olds news h k e = all_of p pl news k ∙ ap (all_found p) e ∙ sym (all_of p pl olds h)
-
--- some of them, in their order
-found_among : (p : Page) (ns ms : List ℕ) → AreAmong ns ms → AreAmong (all_found p ns) (all_found p ms)
-unfolding all_found
-found_among p [] ms a = tt
-found_among p (n ∷ ns) [] a = absurd a
-found_among p (n ∷ ns) (m ∷ ms) (inl s) =
-    among_both (found_as (kept_with n p.kept)) (found_as (kept_with m p.kept)) (all_found p ns) (all_found p ms)
-    (same_among (found_as (kept_with n p.kept)) (found_as (kept_with m p.kept)) (ap (λ (i : ℕ). found_as (kept_with i p.kept)) s.0)) (found_among p ns ms s.1)
-found_among p (n ∷ ns) (m ∷ ms) (inr r) =
-    among_behind (all_found p (n ∷ ns)) (found_as (kept_with m p.kept)) (all_found p ms) (found_among p (n ∷ ns) ms r)
-
-pub some_nodes : (p : Page) (pl : Place) (olds news : Trees) → AreSent p olds → AreSent p news → AreAmong (numbers news) (numbers olds)
-    → AreAmong (things (signs_of_all p pl news)) (things (signs_of_all p pl olds))
-some_nodes p pl olds news h k e =
-    subst (λ (ts : List Thing). AreAmong ts (things (signs_of_all p pl olds))) (sym (all_of p pl news k))
-    (subst (AreAmong (all_found p (numbers news))) (sym (all_of p pl olds h)) (found_among p (numbers news) (numbers olds) e))

@@ -1,5 +1,5 @@
 -- Where all nodes of a block stay, they are sent as they are, and in their order.
-use Rattle.std.proofs.Common.{◌≡◌, inl, ℕ, Bool, true, false, List, [], ◌∷◌, refl, sym, ap, ◌∙◌, subst}
+use Rattle.std.proofs.Common.{◌≡◌, ℕ, Bool, true, false, List, [], ◌∷◌, refl, sym, ap, ◌∙◌, subst}
 use Rattle.std.specs.Prelude.{◌||◌, if◌then◌else◌, Option}
 use Rattle.wt_tree.specs.declared.kind.Kind.{Kind}
 use Rattle.wt_tree.specs.declared.kind.AttrName.{AttrName}
@@ -20,7 +20,6 @@ use Rattle.wt_typed_blocks.proofs.SentGroups.{in_group, of_style}
 use Rattle.wt_typed_blocks.proofs.EditedShows.{shown_same}
 use Rattle.wt_beside_laws.specs.OwnSigns.{IsFlatBlock}
 use Rattle.wt_beside_laws.specs.SentNodes.{IsUnchanged, IsSentBy, AreSent, number_by, numbers}
-use Rattle.wt_beside_laws.proofs.Among.{AreAmong, among_behind}
 use Rattle.wt_beside_laws.specs.SentPieces.{IsNoNode, OnlyTextsGo, HaveNoStyle}
 use Rattle.wt_beside_laws.proofs.OwnSigns.{own_sent}
 
@@ -182,51 +181,3 @@ pieces_numbers (new_style m is ps) h o = absurd o
 pub same_numbers : (block : Tree) (ps : Pieces) → page_pieces ps ≡ children_of block → PiecesStay ps → OnlyTextsGo ps
     → numbers (sent_pieces ps) ≡ numbers (children_of block)
 same_numbers block ps is h o = pieces_numbers ps h o ∙ ap numbers is
-
--- where nodes go, too, those that stay are some of them, in their order
-number_among : (w : InlineForm) (n : ℕ) (ns ms : List ℕ) → AreAmong ns ms → AreAmong (number_by w n ns) (number_by w n ms)
-number_among inline.Nothing n ns ms h = h
-number_among inline.Characters n ns ms h = h
-number_among inline.Bold n ns ms h = inl (refl, h)
-number_among inline.Italic n ns ms h = inl (refl, h)
-number_among inline.Shown n ns ms h = inl (refl, h)
-number_among inline.PageLink n ns ms h = inl (refl, h)
-number_among inline.ExternalLink n ns ms h = inl (refl, h)
-number_among inline.Tag n ns ms h = inl (refl, h)
-number_among inline.Break n ns ms h = inl (refl, h)
-number_among inline.AsItStood n ns ms h = inl (refl, h)
-
-number_gone : (w : InlineForm) (n : ℕ) (ns ms : List ℕ) → AreAmong ns ms → AreAmong ns (number_by w n ms)
-number_gone inline.Nothing n ns ms h = h
-number_gone inline.Characters n ns ms h = h
-number_gone inline.Bold n ns ms h = among_behind ns (n ∷ []) ms h
-number_gone inline.Italic n ns ms h = among_behind ns (n ∷ []) ms h
-number_gone inline.Shown n ns ms h = among_behind ns (n ∷ []) ms h
-number_gone inline.PageLink n ns ms h = among_behind ns (n ∷ []) ms h
-number_gone inline.ExternalLink n ns ms h = among_behind ns (n ∷ []) ms h
-number_gone inline.Tag n ns ms h = among_behind ns (n ∷ []) ms h
-number_gone inline.Break n ns ms h = among_behind ns (n ∷ []) ms h
-number_gone inline.AsItStood n ns ms h = among_behind ns (n ∷ []) ms h
-
-also_among : (l m : Label) (ns ms : List ℕ) → IsSentAsIs l m → AreAmong ns ms
-    → AreAmong (number_by (edit_shape m.kind).inline m.id ns) (number_by (edit_shape l.kind).inline l.id ms)
-also_among l m ns ms h among =
-    let same : number_by (edit_shape m.kind).inline m.id ns ≡ number_by (edit_shape l.kind).inline l.id ns =
-    ap (λ (k : Kind). number_by (edit_shape k).inline m.id ns) h.kind ∙ ap (λ (i : ℕ). number_by (edit_shape l.kind).inline i ns) h.id in
-    subst (λ (is : List ℕ). AreAmong is (number_by (edit_shape l.kind).inline l.id ms)) (sym same)
-    (number_among (edit_shape l.kind).inline l.id ns ms among)
-
-pieces_among : (ps : Pieces) → PiecesStay ps → HaveNoStyle ps → AreAmong (numbers (sent_pieces ps)) (numbers (page_pieces ps))
-pieces_among no_pieces h n = tt
-pieces_among (gone (tree l ts) ps) h n =
-    number_gone (edit_shape l.kind).inline l.id (numbers (sent_pieces ps)) (numbers (page_pieces ps)) (pieces_among ps h n)
-pieces_among (written x text ps) h n =
-    subst (λ (ns : List ℕ). AreAmong ns (numbers (page_pieces ps))) (sym (text_numbers x text (sent_pieces ps))) (pieces_among ps h n)
-pieces_among (kept (tree l ts) (tree m us) ps) h n =
-    also_among l m (numbers (sent_pieces ps)) (numbers (page_pieces ps)) h.0.0 (pieces_among ps h.1 n)
-pieces_among (around l m is ps) h n = absurd n
-pieces_among (new_style m is ps) h n = absurd n
-
-pub some_numbers : (block : Tree) (ps : Pieces) → page_pieces ps ≡ children_of block → PiecesStay ps → HaveNoStyle ps
-    → AreAmong (numbers (sent_pieces ps)) (numbers (children_of block))
-some_numbers block ps is h n = subst (λ (us : Trees). AreAmong (numbers (sent_pieces ps)) (numbers us)) is (pieces_among ps h n)

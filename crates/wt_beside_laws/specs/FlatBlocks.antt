@@ -1,30 +1,19 @@
--- A paragraph or a heading of the page that holds text and nodes that stay, by its lines; and texts that are typed in it beside the nodes.
-use Rattle.std.specs.Prelude.{◌≡◌, ℕ, true, false, None, List, [], ◌∷◌, ◌++◌, length}
-use Rattle.std.specs.List.{list_all}
-use Rattle.std.specs.Str.{IsUtf8}
+-- The lines of a paragraph or a heading of the page; and texts that are typed in it beside nodes that stay.
+use Rattle.std.specs.Prelude.{◌≡◌, ℕ, false, None, List, [], ◌∷◌, ◌++◌, length}
 use Rattle.wt_span.specs.Characters as byte
-use Rattle.wt_span.specs.Items.{Item, char}
+use Rattle.wt_span.specs.Items.{Item}
 use Rattle.wt_span.specs.Tags.{to_closing}
 use Rattle.wt_tree.specs.Tree.{Tree}
 use Rattle.wt_guards.specs.Content.{ContentSign, letter, thing}
 use Rattle.wt_link_spelling.specs.Spelling.{children_of}
 use Rattle.wt_expand.specs.PageItems.{page_items}
 use Rattle.wt_lines.specs.Lines.{lines}
-use Rattle.wt_inline.specs.ItemTree.{forest, held_by_all}
-use Rattle.wt_inline.specs.Parts.{children}
 use Rattle.wt_content.specs.Content.{has_break}
-use Rattle.wt_annotated.specs.Clean.{is_page}
-use Rattle.wt_called_trees.specs.Rounded.{AllHaveItems}
 use Rattle.wt_typed_blocks.specs.Edited.{Pieces, no_pieces, gone, written, kept, around, new_style, page_pieces, PiecesStay}
-use Rattle.wt_text_edit_laws.specs.Contents.{IsContentOf, content_parts_of}
-use Rattle.wt_text_edit_laws.specs.NoCalls.{CallsNothing}
-use Rattle.wt_text_edit_laws.specs.TextBlocks.{TextBlock, a_paragraph, a_heading, source_of, block_items}
+use Rattle.wt_text_edit_laws.specs.TextBlocks.{TextBlock, a_paragraph, a_heading}
 use Rattle.wt_text_edit_laws.specs.TypedHeadings.{opening}
-use Rattle.wt_beside_laws.specs.Calm.{AreCalm}
-use Rattle.wt_beside_laws.specs.Content.{AreKept}
 use Rattle.wt_beside_laws.specs.FlatPages.{AreNodesAndTexts}
-use Rattle.wt_beside_laws.specs.PageBlocks.{AreUnstyled, AreShut}
-use Rattle.wt_beside_laws.specs.PageSigns.{signs_of_lines, AreFlatLines}
+use Rattle.wt_beside_laws.specs.PageSigns.{signs_of_lines}
 use Rattle.wt_beside_laws.specs.SentPieces.{HaveNoStyle}
 
 -- ---- its lines
@@ -55,24 +44,6 @@ abbrev pub AreSealed : List ContentSign → Type 0
 AreSealed [] = Unit {0}
 AreSealed (letter c ∷ after) = AreSealed after
 AreSealed (thing t ∷ after) = IsSealed t.source × AreSealed after
-
--- ---- the block
-
--- A content that is read by itself and calls nothing: text, in which no style begins, and forms that are nodes, which stay whatever is written
--- beside them. The source of each is read so whatever follows it, and ends neither in an open tag nor in a part of a closing one.
-pub record IsFlatIn (k : TextBlock) (q : List ℕ) : Type 0 where
-  pub utf8 : IsUtf8 q
-  pub ended : page_items (source_of k q ++ byte.line_break ∷ []) ≡ block_items k q ++ char None byte.line_break ∷ []
-  pub unended : page_items (source_of k q) ≡ block_items k q
-  pub is : IsContentOf k q
-  pub calls_nothing : CallsNothing (block_items k q)
-  pub of_page : list_all is_page (held_by_all (forest (children (content_parts_of k (page_items q))))) ≡ true
-  pub has_items : AllHaveItems (forest (children (content_parts_of k (page_items q))))
-  pub flat : AreFlatLines (lines_in k q)
-  pub unstyled : AreUnstyled (lines_in k q)
-  pub kept : AreKept (signs_in k q)
-  pub calm : AreCalm (signs_in k q)
-  pub shut : AreShut (signs_in k q)
 
 -- ---- what is sent for it
 

@@ -24,14 +24,15 @@ use Rattle.wt_beside_laws.specs.Content.{AreKept}
 use Rattle.wt_beside_laws.specs.FlatBlocks.{lines_in, signs_in as signs_of, TextsFitIn}
 use Rattle.wt_beside_laws.specs.FlatPages.{AreNodesAndTexts}
 use Rattle.wt_beside_laws.specs.InHeadings.{AreOnOneLine}
-use Rattle.wt_beside_laws.specs.PageBlocks.{AreShut}
+use Rattle.wt_beside_laws.specs.PageBlocks.{AreUnstyled, AreShut}
 use Rattle.wt_beside_laws.specs.PageSigns.{AreFlatLines}
 use Rattle.wt_beside_laws.specs.SentStyled.{sent_content, AllNest}
 use Rattle.wt_beside_laws.specs.Stood.{things}
 use Rattle.wt_beside_laws.specs.Styled.{StyledContent, signs_in, IsStyledContent}
 use Rattle.wt_beside_laws.specs.StyledNodes.{AreSomeAndPut, AreUrlsApart}
 
--- A content that is read by itself and calls nothing, as `IsFlatIn`, with bold and italic or without.
+-- A content that is read by itself and calls nothing: text, with bold and italic or without, and forms that are nodes, which stay whatever is
+-- written beside them. The source of each is read so whatever follows it, and doesn't end in an open tag.
 pub record IsStyledIn (k : TextBlock) (q : List ℕ) : Type 0 where
   pub utf8 : IsUtf8 q
   pub ended : page_items (source_of k q ++ byte.line_break ∷ []) ≡ block_items k q ++ char None byte.line_break ∷ []
@@ -44,6 +45,11 @@ pub record IsStyledIn (k : TextBlock) (q : List ℕ) : Type 0 where
   pub kept : AreKept (signs_of k q)
   pub calm : AreCalm (signs_of k q)
   pub shut : AreShut (signs_of k q)
+
+-- no bold and no italic is in it
+pub record IsFlatIn (k : TextBlock) (q : List ℕ) : Type 0 where
+  pub styled : IsStyledIn k q
+  pub unstyled : AreUnstyled (lines_in k q)
 
 -- ---- what is written for it
 

@@ -66,7 +66,8 @@ ghost use Rattle.wt_moved_laws.specs.Standing.{standing};
 ghost use Rattle.wt_text_edit_laws.specs.Contents.{IsContent};
 ghost use Rattle.wt_text_edit_laws.specs.TextBlocks.{TextBlock, block_tree};
 ghost use Rattle.wt_beside_laws.specs.ContentEdits.{new_content, MakesContent};
-ghost use Rattle.wt_beside_laws.specs.FlatBlocks.{IsFlatIn, IsFlatEditOf};
+ghost use Rattle.wt_beside_laws.specs.FlatBlocks.{IsFlatEditOf};
+ghost use Rattle.wt_beside_laws.specs.StyledIn.{IsFlatIn, IsStyledEditOf};
 ghost use Rattle.wt_tiles.specs.declared.glyph.GlyphClass.TheVariants as class;
 
 mod styles;
@@ -335,12 +336,14 @@ pub fn flat_pages_are_such_again()
     ensures { (q : List ℕ) (ps : Pieces) → IsFlatPage q → IsFlatEdit q ps → IsFlatPage (new_flat q ps) }
 {}
 
-/// A paragraph or a heading of flat lines (`IsFlatIn`), wherever it is in a page, takes any texts beside its nodes, which stay
-/// (`IsFlatEditOf`); in a heading they are on one line. Its content is one that is read by itself (`IsContent`). What is sent for it is
-/// taken, what is written for it may stand in the place of the old content and shows what was sent (`MakesContent`), and it is such a
-/// block again.
+/// A paragraph or a heading of flat lines without bold and italic (`IsFlatIn`), wherever it is in a page, takes any texts beside its nodes, which
+/// stay (`IsFlatEditOf`); in a heading they are on one line. Its content is one that is read by itself (`IsContent`), and what is sent for it is
+/// what may be sent for one with bold and italic (`IsStyledEditOf`). So it is taken, what is written for it may stand in the place of the old
+/// content and shows what was sent (`MakesContent`), and it is such a block again.
 pub fn flat_contents_are_made()
     ensures content { (k : TextBlock) (q : List ℕ) → IsFlatIn k q → IsContent k q }
+    ensures edit { (k : TextBlock) (q : List ℕ) (n : ℕ) (before : List Item) (block : Block) (ps : Pieces) → IsFlatIn k q → 0 < n
+        → children_of block ≡ children_of (standing n before (block_tree k q)) → IsFlatEditOf k block ps → IsStyledEditOf k block ps }
     ensures made { (k : TextBlock) (q : List ℕ) (n : ℕ) (before : List Item) (block : Block) (m : Label) (ps : Pieces) → IsFlatIn k q → 0 < n
         → block ≡ standing n before (block_tree k q) → IsFlatEditOf k block ps → MakesContent k q block m ps }
     ensures again { (k : TextBlock) (q : List ℕ) (n : ℕ) (before : List Item) (block : Block) (m : Label) (ps : Pieces) → IsFlatIn k q → 0 < n

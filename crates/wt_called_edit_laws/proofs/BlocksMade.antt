@@ -1,5 +1,5 @@
 -- What is sent for a block whose content was edited makes the block with the new content, wherever it is.
-use Rattle.std.proofs.Common.{◌≡◌, ◌⊎◌, inl, inr, ℕ, zero, suc, Option, Some, None, List, [], ◌∷◌, ◌++◌, map, refl, sym, ap, ◌∙◌, subst, append_assoc}
+use Rattle.std.proofs.Common.{◌≡◌, ◌<◌, ◌⊎◌, inl, inr, ℕ, zero, suc, Option, Some, None, List, [], ◌∷◌, ◌++◌, map, refl, sym, ap, ◌∙◌, subst, append_assoc}
 use Rattle.std.specs.Str.{IsUtf8}
 use Rattle.wt_tree.specs.Plain.{Plains, Face, ended, along, element, face, text_before, plain_before}
 use Rattle.wt_tree.specs.Source.{flat}
@@ -30,8 +30,10 @@ use Rattle.wt_text_edit_laws.proofs.Blocks.Contents.{typed_block, typed_new}
 use Rattle.wt_text_edit_laws.proofs.Blocks.Contents.{block_source as source_is}
 use Rattle.wt_text_edit_laws.proofs.Blocks.TypedFacts.{framed, text_shown, typed_shown}
 use Rattle.wt_beside_laws.specs.ContentEdits.{MakesContent}
-use Rattle.wt_beside_laws.proofs.Made.Making.{makes_so}
+use Rattle.wt_beside_laws.specs.FlatBlocks.{IsFlatEditOf}
+use Rattle.wt_beside_laws.specs.StyledIn.{IsFlatIn}
 use Rattle.wt_beside_laws.proofs.Styled.Making.{styled_makes}
+use Rattle.wt_beside_laws.proofs.Styled.WithoutStyles.{flat_edit}
 use Rattle.wt_called_edit_laws.specs.CalledBlocks.{tree_by}
 use Rattle.wt_called_edit_laws.specs.EditsAt.{IsStanding, StandsTo, StandsAmong, AllStand, edited_at, edited_among, edited_by, content_of, with_content, with_contents, AreGone, IsOneText, Fits, FitsSpot, AreFitting}
 use Rattle.wt_called_edit_laws.specs.Nodes.{block_at}
@@ -229,9 +231,7 @@ as_made k q l m ps h =
 own_made : (k : TextBlock) (q : List ℕ) (l m : Label) (ps : Pieces) → IsContent k q → IsStanding (block_tree k q) (page_node (edited (block_of k) l m ps))
     → Fits k q (edited (block_of k) l m ps) → IsMade k q (edited (block_of k) l m ps)
 own_made k q l m ps c h (inl one) = as_made k q l m ps (text_made k q l m ps c h one)
-own_made k q l m ps c h (inr (inl (f, e))) =
-    as_made k q l m ps (makes_so k q h.number h.before (page_node (edited (block_of k) l m ps)) m ps f h.some h.is e)
-own_made k q l m ps c h (inr (inr (f, e))) =
+own_made k q l m ps c h (inr (f, e)) =
     as_made k q l m ps (styled_makes k q h.number h.before (page_node (edited (block_of k) l m ps)) m ps f h.some h.is e)
 
 edited_made : (k : TextBlock) (q : List ℕ) (j : Block) (l m : Label) (ps : Pieces) → IsContent k q → IsStanding (block_tree k q) (page_node (edited j l m ps))
@@ -240,6 +240,13 @@ edited_made k q j l m ps c h f =
     let e : j ≡ block_of k = same_block j (block_of k) (standing_kind k q (page_node (edited j l m ps)) h) in
     let P : Block → Type 0 = λ i. IsStanding (block_tree k q) (page_node (edited i l m ps)) → Fits k q (edited i l m ps) → IsMade k q (edited i l m ps) in
     subst P (sym e) (λ g i. own_made k q l m ps c g i) h f
+
+-- where no style is in the block, any nodes of it may stay
+pub flat_fits : (k : TextBlock) (q : List ℕ) (n : ℕ) (b : List Item) (l m : Label) (ps : Pieces) → IsFlatIn k q → 0 < n
+    → IsFlatEditOf k (standing n b (block_tree k q)) ps → Fits k q (edited (block_of k) l m ps)
+flat_fits k q n b l m ps h some e =
+    let t : Tree = page_node (edited (block_of k) l m ps) in
+    inr (h.styled, flat_edit k q n b t ps h some e.old (record { old = refl; stay = e.stay; are = e.are; fit = e.fit; plain = e.plain }))
 
 -- ---- at the paths of the blocks
 

@@ -16,7 +16,6 @@ use Rattle.wt_typed_blocks.specs.Edited.{Pieces, no_pieces, gone, written, kept,
 use Rattle.wt_typed_blocks.specs.EditedUnmarked.{bare_node, bare_body}
 use Rattle.wt_text_edit_laws.specs.BlockSpots.{BlockSpot, spots_source}
 use Rattle.wt_text_edit_laws.specs.TextBlocks.{TextBlock, block_tree}
-use Rattle.wt_beside_laws.specs.FlatBlocks.{IsFlatIn, IsFlatEditOf}
 use Rattle.wt_beside_laws.specs.StyledIn.{IsStyledIn, IsStyledEditOf}
 use Rattle.wt_called_edit_laws.specs.AnyBlocks.{first_paths, other_paths, EndHere, GoOn}
 
@@ -117,12 +116,11 @@ IsOneText k (kept t u ps) = ⊥
 IsOneText k (around l m is ps) = ⊥
 IsOneText k (new_style m is ps) = ⊥
 
--- One text in the place of all that the block held; or, where its content is flat, nodes of it as they are, and any texts between them; or so, where
--- bold and italic are in it, which stay, with any texts in them, or are new.
+-- One text in the place of all that the block held; or, where its content is so read, nodes of it as they are, and any texts between them; bold and
+-- italic stay, with any texts in them, or are new.
 abbrev pub Fits : TextBlock → List ℕ → Edited → Type 0
 Fits k q (stays t u) = ⊥
-Fits k q (edited j l m ps) =
-    IsOneText j ps ⊎ ((IsFlatIn k q × IsFlatEditOf k (page_node (edited j l m ps)) ps) ⊎ (IsStyledIn k q × IsStyledEditOf k (page_node (edited j l m ps)) ps))
+Fits k q (edited j l m ps) = IsOneText j ps ⊎ (IsStyledIn k q × IsStyledEditOf k (page_node (edited j l m ps)) ps)
 Fits k q (round l m es) = ⊥
 
 abbrev pub FitsSpot : BlockSpot → Option Edited → Type 0

@@ -2,7 +2,7 @@
 //! taken, and texts beside what stays in them, and nothing else is changed.
 #![tactic(auto)]
 
-ghost use Rattle.std.specs.Prelude.{ℕ, List, [], ◌∷◌, ◌≡◌, Option, None};
+ghost use Rattle.std.specs.Prelude.{ℕ, ◌<◌, List, [], ◌∷◌, ◌≡◌, Option, None};
 ghost use Rattle.wt_expand.specs.Work.{Pages};
 ghost use Rattle.wt_text_edit_laws.specs.BlockSpots.{BlockSpot, AreRead, AreBlockSpots, spots_source};
 ghost use Rattle.wt_called_edit_laws.specs.Parts.{AreCalled, IsByParts};
@@ -12,11 +12,14 @@ ghost use Rattle.wt_span.specs.Items.{Item};
 ghost use Rattle.wt_tree.specs.Tree.{Label, Tree};
 ghost use Rattle.wt_checks.specs.Kept.{children};
 ghost use Rattle.wt_expand.specs.PageItems.{page_items};
-ghost use Rattle.wt_typed_blocks.specs.Edited.{Edited, Edits};
+ghost use Rattle.wt_typed_blocks.specs.Edited.{Pieces, Edited, edited, Edits};
 ghost use Rattle.wt_typed_blocks.specs.Sent.{paragraph};
 ghost use Rattle.wt_text_edit_laws.specs.BlockEdits.{typed_as};
 ghost use Rattle.wt_text_edit_laws.specs.Parts.{part_tree};
-ghost use Rattle.wt_text_edit_laws.specs.TextBlocks.{a_paragraph};
+ghost use Rattle.wt_text_edit_laws.specs.TextBlocks.{TextBlock, a_paragraph, block_of, block_tree};
+ghost use Rattle.wt_beside_laws.specs.FlatBlocks.{IsFlatEditOf};
+ghost use Rattle.wt_beside_laws.specs.StyledIn.{IsFlatIn};
+ghost use Rattle.wt_moved_laws.specs.Standing.{standing};
 ghost use Rattle.wt_text_edit_laws.specs.TypedPages.{IsTypedPage};
 ghost use Rattle.wt_called_edit_laws.specs.AnyBlocks.{AreSpots, AllLead};
 ghost use Rattle.wt_called_edit_laws.specs.AnyTexts.{TakesAnyTexts};
@@ -43,7 +46,7 @@ ghost use Rattle.wt_called_edit_laws.specs.TreeEdits.{IsNumberedBody, HasOwnEdit
 ghost use Rattle.wt_called_edit_laws.specs.CalledTexts.{TakesTextsAmong};
 ghost use Rattle.wt_called_edit_laws.specs.ChosenContents.{HasContentEdits};
 ghost use Rattle.wt_called_edit_laws.specs.ContentsTaken.{TakesContents};
-ghost use Rattle.wt_called_edit_laws.specs.EditsAt.{AllStand};
+ghost use Rattle.wt_called_edit_laws.specs.EditsAt.{Fits, AllStand};
 ghost use Rattle.wt_called_edit_laws.specs.Settled.{IsSettled};
 ghost use Rattle.wt_called_edit_laws.specs.SettledPages.{OnlyTextsAreOthers};
 ghost use Rattle.wt_called_edit_laws.specs.Covered.{CleanWhereFree, IsEditablePage};
@@ -207,6 +210,14 @@ pub fn any_texts_may_be_typed_at_paths()
     ensures { (t : Tree) (ss : List BlockSpot) (fs : TreeFrames) → IsNumberedBody t → AllLead ss (paths_to fs) t → HasOwnEdits t ss (paths_to fs) }
 {}
 
+/// Where no bold and no italic is in what a block holds (`IsFlatIn` of `wt_beside_laws`), any nodes of it may stay, in
+/// their order, and any texts be between them: so much is asked of what is sent (`Fits`), and no more.
+#[tactic(auto, using(crate::proofs::BlocksMade::flat_fits))]
+pub fn any_nodes_may_stay_without_styles()
+    ensures { (k : TextBlock) (q : List ℕ) (n : ℕ) (before : List Item) (l m : Label) (ps : Pieces) → IsFlatIn k q → 0 < n
+        → IsFlatEditOf k (standing n before (block_tree k q)) ps → Fits k q (edited (block_of k) l m ps) }
+{}
+
 /// And whatever contents that may be sent (`Fits`) are chosen for the blocks at the places, of which nodes each stays as
 /// it is or is gone, there is an edit that sends these: every other node is sent so, too.
 #[tactic(auto, using(crate::proofs::OwnContents::own_contents))]
@@ -223,10 +234,10 @@ pub fn edited_contents_at_places_are_told_apart()
 
 /// The contents of any number of paragraphs and headings at once, which are among any calls and which no group holds, in
 /// the body, in cells and in captions. Each is at a path of the page's tree. An edit may put one text in the place of all
-/// that a block holds; in a block whose content is flat (`IsFlatIn` of `wt_beside_laws`), or flat but for bold and italic
-/// (`IsStyledIn`), it may also type texts beside the nodes that it holds, delete and change texts, and delete nodes; so it
-/// may in bold and italic, which may also be new. It is done: the new page has these contents, as they are spelled, and every other byte is what it was; unless it is
-/// longer than a page may be. Without marks, too, where each edited block shows something else. For any such contents
+/// that a block holds; in a block whose content is read so (`IsStyledIn` of `wt_beside_laws`), it may also type texts beside
+/// the nodes that it holds, delete and change texts, and delete nodes; so it may in bold and italic, which may also be new
+/// (`Fits`). It is done: the new page has these contents, as they are spelled, and every other byte is what it was; unless
+/// it is longer than a page may be. Without marks, too, where each edited block shows something else. For any such contents
 /// there is such an edit. The new page is such a page again.
 #[tactic(auto, using(crate::proofs::CallsTake::contents_taken))]
 pub fn contents_among_calls_are_taken()

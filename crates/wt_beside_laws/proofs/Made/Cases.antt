@@ -39,10 +39,10 @@ use Rattle.wt_text_edit_laws.specs.TextBlocks.{a_paragraph, a_heading, IsFrame}
 use Rattle.wt_text_edit_laws.specs.TypedHeadings.{spaced, heading_line, IsHeadingInside, IsOfLevel}
 use Rattle.wt_beside_laws.specs.Calm.{AreCalm}
 use Rattle.wt_beside_laws.specs.Content.{AreKept}
-use Rattle.wt_beside_laws.specs.FlatBlocks.{IsFlatIn}
 use Rattle.wt_beside_laws.specs.Kept.{characters, sign}
 use Rattle.wt_beside_laws.specs.PageBlocks.{AreUnstyled, AreShut}
 use Rattle.wt_beside_laws.specs.PageSigns.{signs_of_lines, AreFlatLines}
+use Rattle.wt_beside_laws.specs.StyledIn.{IsFlatIn}
 use Rattle.wt_beside_laws.proofs.Firm.{alone_as, parts_read}
 use Rattle.wt_beside_laws.proofs.Edits.Cases.{AreFlat, items_are, break_kept, break_calm, break_flat}
 
@@ -61,18 +61,20 @@ paragraph_by q xs is ended alone before_break given more =
     let h : AreFlat q (page_items q) = subst (AreFlat q) (sym is) given in
     let b : AreBlockItems (page_items q) = subst AreBlockItems (sym is) more in
     record {
-      utf8 = h.utf8;
-      ended = ended ∙ ap (λ (ys : List Item). ys ++ char None 10 ∷ []) (sym is);
-      unended = refl;
-      is = record { are_lines = b.are_lines; unled = b.unled; alone = alone; before_break = before_break };
-      calls_nothing = h.calls_nothing;
-      of_page = b.of_page;
-      has_items = b.has_items;
-      flat = h.flat;
+      styled = record {
+        utf8 = h.utf8;
+        ended = ended ∙ ap (λ (ys : List Item). ys ++ char None 10 ∷ []) (sym is);
+        unended = refl;
+        is = record { are_lines = b.are_lines; unled = b.unled; alone = alone; before_break = before_break };
+        calls_nothing = h.calls_nothing;
+        of_page = b.of_page;
+        has_items = b.has_items;
+        flat = h.flat;
+        kept = h.kept;
+        calm = h.calm;
+        shut = h.shut;
+      };
       unstyled = h.unstyled;
-      kept = h.kept;
-      calm = h.calm;
-      shut = h.shut;
     }
 
 before_break_are : page_items (codes "x<br>y\n") ≡ page_chars (codes "x<br>y\n")
@@ -144,18 +146,20 @@ heading_by : (xs : List Item) → page_items (codes "x<br>y") ≡ xs → IsUtf8 
 heading_by xs is utf8 given =
     let h : AreHeadingItems (page_items (codes "x<br>y")) = subst AreHeadingItems (sym is) given in
     record {
-      utf8 = utf8;
-      ended = ended_heading_are ∙ ap (λ (ys : List Item). ys ++ char None 10 ∷ []) (sym h.line);
-      unended = heading_are ∙ sym h.line;
-      is = record { frame = frame; inside = h.inside; of_level = h.of_level };
-      calls_nothing = h.calls_nothing;
-      of_page = h.of_page;
-      has_items = h.has_items;
-      flat = h.flat;
+      styled = record {
+        utf8 = utf8;
+        ended = ended_heading_are ∙ ap (λ (ys : List Item). ys ++ char None 10 ∷ []) (sym h.line);
+        unended = heading_are ∙ sym h.line;
+        is = record { frame = frame; inside = h.inside; of_level = h.of_level };
+        calls_nothing = h.calls_nothing;
+        of_page = h.of_page;
+        has_items = h.has_items;
+        flat = h.flat;
+        kept = h.kept;
+        calm = h.calm;
+        shut = h.shut;
+      };
       unstyled = h.unstyled;
-      kept = h.kept;
-      calm = h.calm;
-      shut = h.shut;
     }
 
 heading_items : AreHeadingItems (page_chars (codes "x<br>y"))

@@ -10,7 +10,7 @@ use Rattle.std.proofs.lemmas.Str.{encode_ascii}
 use Rattle.wt_span.specs.Items.{Item, source, sources}
 use Rattle.wt_names.proofs.Ascii.{IsWide, encode_wide}
 use Rattle.wt_guards.specs.Content.{ContentSign, Thing, letter, thing}
-use Rattle.wt_guards.specs.Guards.{Setting, nowiki, nowiki_if, is_guarded, spelled_from, spelled}
+use Rattle.wt_guards.specs.Guards.{Setting, nowiki, nowiki_if, is_guarded, spelled_from}
 use Rattle.wt_guards.specs.Letters.{is_escaped, reference, written_by}
 use Rattle.wt_guards.proofs.Escapes.{is_escapable, escapable, each_escapable}
 use Rattle.wt_spelling_laws.proofs.Forms.{IsTame}
@@ -30,11 +30,11 @@ use Rattle.wt_text_edit_laws.specs.TextBlocks.{TextBlock, a_paragraph, a_heading
 use Rattle.wt_text_edit_laws.proofs.Between.ClosingTags.{Unclosed, ClosesNothing, unclosed_byte, not_less, not_slash, unclosed_untagged, unclosed_behind}
 use Rattle.wt_text_edit_laws.proofs.Between.LineWords.{lacks}
 use Rattle.wt_text_edit_laws.proofs.Texts.TypedItems.{wide_tame, tame_if}
-use Rattle.wt_beside_laws.specs.FlatBlocks.{begins_at, signs_in, IsSealed, AreSealed}
+use Rattle.wt_beside_laws.specs.FlatBlocks.{begins_at, signs_in, AreSealed}
 use Rattle.wt_beside_laws.specs.PageSigns.{tile_signs, signs_of_tiles, line_signs, signs_of_lines}
 use Rattle.wt_beside_laws.specs.Stood.{things}
 use Rattle.wt_beside_laws.proofs.Contents.{begin_letter}
-use Rattle.wt_beside_laws.proofs.Among.{AreAmong, Each, each_among}
+use Rattle.wt_beside_laws.proofs.Among.{Each}
 use Rattle.wt_beside_laws.proofs.SentNodes.{no_things}
 
 -- ---- what is put closes none
@@ -178,24 +178,3 @@ as_items name q us h = subst (λ (bs : List ℕ). Unclosed name (bs ++ us)) (sym
 pub block_open : (k : TextBlock) (q name us : List ℕ) → Unclosed name (q ++ us) → Each (OpenFor name) (things (signs_in k q))
 block_open a_paragraph q name us h = lines_open name us 0 (lines (page_items q)) (page_items q) (lines_are (page_items q)) (as_items name q us h)
 block_open (a_heading s) q name us h = line_open name us (begins_at (a_heading s)) (page_items q) (as_items name q us h)
-
--- ---- in the place of the old content
-
--- its nodes are sealed
-each_sealed : (signs : List ContentSign) → AreSealed signs → Each (λ t. IsSealed t.source) (things signs)
-each_sealed [] h = tt
-each_sealed (letter c ∷ after) h = each_sealed after h
-each_sealed (thing t ∷ after) h = (h.0, each_sealed after h.1)
-
-sealed_each : (signs : List ContentSign) → Each (λ t. IsSealed t.source) (things signs) → AreSealed signs
-sealed_each [] h = tt
-sealed_each (letter c ∷ after) h = sealed_each after h
-sealed_each (thing t ∷ after) h = (h.0, sealed_each after h.1)
-
-pub some_sealed : (olds news : List ContentSign) → AreAmong (things news) (things olds) → AreSealed olds → AreSealed news
-some_sealed olds news e h = sealed_each news (each_among (λ t. IsSealed t.source) (things news) (things olds) e (each_sealed olds h))
-
-pub closes_no_more : (k : TextBlock) (q : List ℕ) (s : Setting) (signs : List ContentSign) → AreSealed (signs_in k q) → AreAmong (things signs) (things (signs_in k q))
-    → (name us vs : List ℕ) → Unclosed name (q ++ us) → Unclosed name vs → Unclosed name (spelled s signs ++ vs)
-closes_no_more k q s signs a e name us vs h g =
-    content_closes s [] signs name vs (each_among (OpenFor name) (things signs) (things (signs_in k q)) e (block_open k q name us h)) (some_sealed (signs_in k q) signs e a) g

@@ -5,9 +5,8 @@ use Rattle.wt_tree.specs.declared.kind.Kind.TheVariants as kind
 use Rattle.wt_span.specs.Items.{Item, char}
 use Rattle.wt_span.specs.Runs.{runs, IsRun, AreRuns}
 use Rattle.wt_span.proofs.RunLaws.{runs_are}
-use Rattle.wt_guards.specs.Content.{ContentSign, Thing, letter, thing}
-use Rattle.wt_guards.specs.Guards.{Setting, nowiki, is_guarded}
-use Rattle.wt_guards.specs.Letters.{is_escaped}
+use Rattle.wt_guards.specs.Content.{Thing}
+use Rattle.wt_guards.specs.Guards.{nowiki}
 use Rattle.wt_expand.specs.PageItems.{page_items}
 use Rattle.wt_inline.specs.declared.loose.Loose.{Loose}
 use Rattle.wt_inline.specs.declared.loose.Loose.TheVariants.{Text, Sep}
@@ -16,18 +15,12 @@ use Rattle.wt_inline.specs.Parts.{Part, loose, node, held_parts, one_leaf, child
 use Rattle.wt_context.specs.Line.{line_parts}
 use Rattle.wt_called_trees.specs.Rounded.{HasItems, AllHaveItems}
 use Rattle.wt_text_edit_laws.specs.LonePages.{page_chars}
-use Rattle.wt_text_edit_laws.specs.ParagraphParts.{joined_parts}
 use Rattle.wt_beside_laws.specs.Content.{guard_items, letter_items}
-use Rattle.wt_beside_laws.specs.Flat.{content_parts}
-use Rattle.wt_beside_laws.specs.PageBlocks.{AreUnstyled}
-use Rattle.wt_beside_laws.specs.PageSigns.{signs_of_lines, AreFlatLines}
-use Rattle.wt_beside_laws.specs.Stood.{things}
 use Rattle.wt_text_edit_laws.proofs.Blocks.PageItems.{all_of}
 use Rattle.wt_text_edit_laws.proofs.Texts.TypedShown.{AllOfPage, both_of_page}
-use Rattle.wt_beside_laws.proofs.Among.{AreAmong, Each, each_among}
+use Rattle.wt_beside_laws.proofs.Among.{Each}
 use Rattle.wt_beside_laws.proofs.Edits.FullTrees.{node_alone}
 use Rattle.wt_beside_laws.proofs.LineShown.{guard_tree}
-use Rattle.wt_beside_laws.proofs.LineThings.{lines_have}
 use Rattle.wt_beside_laws.proofs.PartThings.{HaveThings, tree_source}
 
 -- ---- parts
@@ -150,24 +143,3 @@ chars_have (b ∷ bs) = (refl, chars_have bs)
 pub letter_has : (e : Bool) (c : ℕ) → PartsHave (parts Text (letter_items e c))
 letter_has true c = (((refl, tt), refl), tt)
 letter_has false c = chars_have (encode_utf8 c)
-
-content_has : (s : Setting) (before signs : List ContentSign) → Each ThingHas (things signs) → PartsHave (content_parts s before signs)
-content_has s before [] f = guard_has (is_guarded s before [])
-content_has s before (letter c ∷ after) f =
-    let own : List Part = parts Text (letter_items (is_escaped s.within s.place before c after) c) in
-    let more : List Part = content_parts s (letter c ∷ before) after in
-    have_both (parts Text (guard_items (is_guarded s before (letter c ∷ after)))) (own ++ more) (guard_has (is_guarded s before (letter c ∷ after)))
-    (have_both own more (letter_has (is_escaped s.within s.place before c after) c) (content_has s (letter c ∷ before) after f))
-content_has s before (thing t ∷ after) f =
-    let own : List Part = line_parts (page_items t.source) in
-    let more : List Part = content_parts s (thing t ∷ before) after in
-    have_both (parts Text (guard_items (is_guarded s before (thing t ∷ after)))) (own ++ more) (guard_has (is_guarded s before (thing t ∷ after)))
-    (have_both own more f.0 (content_has s (thing t ∷ before) after f.1))
-
-pub nodes_have_items : (s : Setting) (ls : List (List Item)) (at : ℕ) (signs : List ContentSign) → AreFlatLines ls → AreUnstyled ls
-    → AreAmong (things signs) (things (signs_of_lines at ls)) → AllHaveItems (forest (children (joined_parts ls))) → AllOfPage (held_by_all (forest (children (joined_parts ls))))
-    → AllHaveItems (forest (children (content_parts s [] signs))) × AllOfPage (held_by_all (forest (children (content_parts s [] signs))))
-nodes_have_items s ls at signs flat u some held own_items =
-    let own : Each ThingHas (things (signs_of_lines at ls)) =
-    things_have at (joined_parts ls) (things (signs_of_lines at ls)) (lines_have at ls u flat) (children_nodes (joined_parts ls) (held, own_items)) in
-    children_have (content_parts s [] signs) (content_has s [] signs (each_among ThingHas (things signs) (things (signs_of_lines at ls)) some own))

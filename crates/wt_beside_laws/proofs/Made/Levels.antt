@@ -28,13 +28,13 @@ use Rattle.wt_text_edit_laws.specs.TypedHeadings.{Sides, AreSides, IsOfLevel, Be
 use Rattle.wt_text_edit_laws.proofs.Headings.HeadingRows.{apart_level}
 use Rattle.wt_text_edit_laws.proofs.Headings.TypedTexts.{no_equals, begins_other, begins_still, ends_behind as behind_other}
 use Rattle.wt_beside_laws.specs.Content.{AreKept, guard_items, letter_items, content_items}
-use Rattle.wt_beside_laws.specs.InHeadings.{AreOnOneLine, IsHeadingContent}
+use Rattle.wt_beside_laws.specs.InHeadings.{AreOnOneLine}
 use Rattle.wt_beside_laws.specs.Lines.{AreCharacters, line_items}
 use Rattle.wt_beside_laws.specs.Nodes.{IsNode, AreNodes}
 use Rattle.wt_beside_laws.specs.PageSigns.{form_role, atom_role, tile_signs, signs_of_tiles, line_signs, signs_of_lines, IsFlatForm, IsFlatTile, AreFlatTiles, AreFlatLines}
 use Rattle.wt_beside_laws.specs.Stood.{things}
 use Rattle.wt_beside_laws.proofs.Contents.{content_alone}
-use Rattle.wt_beside_laws.proofs.Among.{AreAmong, same_among, Each, each_among}
+use Rattle.wt_beside_laws.proofs.Among.{same_among, Each}
 use Rattle.wt_beside_laws.proofs.PageSigns.{some_nodes}
 use Rattle.wt_beside_laws.proofs.LineHeadings.{same_items, ends_behind, UnequalLast, letter_unequal, end_unequal, begins_unequal, unequal_end}
 use Rattle.wt_beside_laws.proofs.LineKinds.{line_opens}
@@ -188,10 +188,6 @@ nodes_told at ls f =
     let seen : EndInSigns olds = nodes_end olds (some_nodes ls at olds f (same_among (things olds) (things olds) refl)) in
     each_told olds (lines_told at ls f seen)
 
-content_told : (at : ℕ) (ls : List (List Item)) (signs : List ContentSign) → AreFlatLines ls → AreAmong (things signs) (things (signs_of_lines at ls)) → AllTold signs
-content_told at ls signs f e =
-    told_each signs (each_among Told (things signs) (things (signs_of_lines at ls)) e (nodes_told at ls f))
-
 -- ---- the last item
 
 or_last : (a b : Bool) → b ≡ true → (a || b) ≡ true
@@ -264,8 +260,3 @@ level_told s signs sides w k c n o h a =
       first = begins_other sides.lead (ss ++ sides.trail) a.lead (begins_still ss sides.trail begins);
       last = behind_other sides.lead (ss ++ sides.trail) (unequal_end ss sides.trail a.trail (inr last));
     })
-
-pub keeps_level : (at : ℕ) (ls : List (List Item)) (s : Setting) (signs : List ContentSign) (sides : Sides) → AreFlatLines ls → IsHeadingContent s signs → AreSides sides
-    → AreAmong (things signs) (things (signs_of_lines at ls)) → IsOfLevel sides (page_items (spelled s signs))
-keeps_level at ls s signs sides f h a e =
-    level_told s signs sides h.flat.of_block h.flat.kept h.flat.characters h.flat.nodes h.one_line (content_told at ls signs f e) a

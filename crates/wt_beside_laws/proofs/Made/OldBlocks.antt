@@ -1,5 +1,5 @@
 -- A flat block in a page: its kind and delimiters, and that it is what its lines make.
-use Rattle.std.proofs.Common.{◌≡◌, ℕ, ◌<◌, None, List, [], ◌∷◌, length, refl, sym, ap, ◌∙◌, subst, append-nil}
+use Rattle.std.proofs.Common.{◌≡◌, ℕ, ◌<◌, None, List, [], ◌∷◌, length, refl, sym, ap, ◌∙◌, append-nil}
 use Rattle.std.specs.Str.{IsUtf8}
 use Rattle.wt_span.specs.Items.{Item, sources}
 use Rattle.wt_tree.specs.declared.kind.Kind.{Kind}
@@ -23,9 +23,8 @@ use Rattle.wt_text_edit_laws.specs.ParagraphParts.{joined_parts}
 use Rattle.wt_text_edit_laws.specs.TextBlocks.{TextBlock, a_paragraph, a_heading, block_of, source_of, block_items, block_tree}
 use Rattle.wt_text_edit_laws.specs.TypedHeadings.{opening}
 use Rattle.wt_text_edit_laws.proofs.Blocks.BlockLeaves.{open_items, close_items}
-use Rattle.wt_beside_laws.specs.FlatBlocks.{lines_in, begins_at, IsFlatIn}
+use Rattle.wt_beside_laws.specs.FlatBlocks.{lines_in, begins_at}
 use Rattle.wt_beside_laws.specs.ContentEdits.{content_edit}
-use Rattle.wt_beside_laws.specs.PageBlocks.{IsBlockOfLines}
 use Rattle.wt_beside_laws.proofs.Made.OwnPages.{content_ordinary}
 
 -- ---- by its parts
@@ -131,15 +130,3 @@ pub no_group : (k : TextBlock) (q : List ℕ) (n : ℕ) (b : List Item) → IsUt
     → CallsNothing (block_items k q) → HasNoGroup (standing n b (block_tree k q))
 no_group k q n b u h e c =
     ordinary_ungrouped (standing n b (block_tree k q)) (standing_ordinary n b (block_tree k q) (content_ordinary k q u h e c))
-
-pub of_lines : (k : TextBlock) (q : List ℕ) (block : Tree) → IsFlatIn k q → IsIn k q block → IsBlockOfLines (lines_in k q) block
-of_lines k q block h i = record {
-  number = i.number;
-  before = i.before;
-  form = block_of k;
-  opening = open_items k;
-  closing = close_items k;
-  some = i.some;
-  is = as_parts k q block i ∙ ap (λ (ps : List Part). standing i.number i.before (with_parts k ps)) (lines_are k q);
-  ungrouped = subst HasNoGroup (sym i.is) (no_group k q i.number i.before h.utf8 h.is h.unended h.calls_nothing);
-}

@@ -1,4 +1,4 @@
--- A content that is written for a paragraph or a heading: its lines and parts, how it is read, and that it is such a block again.
+-- A content that is written for a paragraph or a heading: its lines, and how it is read.
 use Rattle.std.proofs.Common.{◌≡◌, ℕ, Bool, false, None, List, [], ◌∷◌, ◌++◌, map, refl, sym, ap, ap₂, ◌∙◌, subst, append-nil, All}
 use Rattle.std.specs.Prelude.{if◌then◌else◌}
 use Rattle.std.proofs.lemmas.List.Elements.{All-nil, All-cons, All-head, All-tail}
@@ -9,47 +9,30 @@ use Rattle.wt_guards.specs.Guards.{Setting, spelled}
 use Rattle.wt_expand.specs.PageItems.{page_items}
 use Rattle.wt_lines.specs.declared.kind.LineKind.TheVariants as line
 use Rattle.wt_lines.specs.Kinds.{line_kind}
-use Rattle.wt_lines.specs.Lines.{lines, full_lines, content}
-use Rattle.wt_inline.specs.ItemTree.{forest, held_by_all}
-use Rattle.wt_inline.specs.Parts.{Part, children}
-use Rattle.wt_called_trees.specs.Rounded.{AllHaveItems}
-use Rattle.wt_text_edit_laws.specs.Contents.{AreUnled, AreParagraphLines, IsContentOf, content_parts_of, StaysAnywhere}
+use Rattle.wt_lines.specs.Lines.{lines, content}
+use Rattle.wt_text_edit_laws.specs.Contents.{AreUnled}
 use Rattle.wt_text_edit_laws.specs.NoCalls.{NonePairs, AreUnbraced, CallsNothing}
-use Rattle.wt_text_edit_laws.specs.ParagraphParts.{joined_parts}
 use Rattle.wt_text_edit_laws.specs.TextBetween.{StandsBehind}
 use Rattle.wt_text_edit_laws.specs.TextBlocks.{TextBlock, a_paragraph, a_heading, source_of, block_items}
-use Rattle.wt_text_edit_laws.specs.TypedHeadings.{Sides}
 use Rattle.wt_text_edit_laws.proofs.Between.Fronts.{behind_reads}
 use Rattle.wt_text_edit_laws.proofs.Between.LessBraces.{none_unbraced}
 use Rattle.wt_text_edit_laws.proofs.Blocks.BlockReading.{IsBeforeAny, HasFrame, any_front}
 use Rattle.wt_text_edit_laws.proofs.Blocks.TypedBraces.{line_unbraced}
 use Rattle.wt_text_edit_laws.proofs.Prose.InFront.{Reads, reads_nothing, read_break, read_items}
 use Rattle.wt_text_edit_laws.proofs.Prose.Uncommented.{BeginsUncommented}
-use Rattle.wt_text_edit_laws.proofs.Texts.TypedShown.{AllOfPage}
 use Rattle.wt_beside_laws.specs.Calm.{IsCalm, AreCalm}
 use Rattle.wt_beside_laws.specs.Content.{AreKept}
-use Rattle.wt_beside_laws.specs.Flat.{IsFlatContent, content_parts}
-use Rattle.wt_beside_laws.specs.FlatBlocks.{lines_in, begins_at, signs_in, IsFlatIn}
-use Rattle.wt_beside_laws.specs.InHeadings.{AreOnOneLine, IsHeadingContent}
+use Rattle.wt_beside_laws.specs.FlatBlocks.{lines_in}
+use Rattle.wt_beside_laws.specs.InHeadings.{AreOnOneLine}
 use Rattle.wt_beside_laws.specs.Lines.{IsLineOfText, AreCharacters, AreUnbroken, line_items, later_lines, content_lines}
 use Rattle.wt_beside_laws.specs.Nodes.{AreNodes}
-use Rattle.wt_beside_laws.specs.PageBlocks.{AreUnstyled, AreShut}
-use Rattle.wt_beside_laws.specs.PageSigns.{signs_of_lines, AreFlatLines}
-use Rattle.wt_beside_laws.specs.Stood.{things}
-use Rattle.wt_beside_laws.proofs.Among.{AreAmong}
-use Rattle.wt_beside_laws.proofs.BlockSigns.{some_shut}
-use Rattle.wt_beside_laws.proofs.CalmContents.{content_utf8, content_unbraced, nowiki_calm, reference_calm}
+use Rattle.wt_beside_laws.proofs.CalmContents.{content_unbraced, nowiki_calm, reference_calm}
 use Rattle.wt_beside_laws.proofs.Contents.{content_reads, content_alone}
-use Rattle.wt_beside_laws.proofs.FlatAgain.{EachSource, HoldsOfPut, again_flat, again_unstyled, again_kept, again_shut, again_each}
-use Rattle.wt_beside_laws.proofs.LineHeadings.{heading_inside, heading_parts, same_items}
+use Rattle.wt_beside_laws.proofs.FlatAgain.{EachSource, HoldsOfPut}
+use Rattle.wt_beside_laws.proofs.LineHeadings.{same_items}
 use Rattle.wt_beside_laws.proofs.LineItems.{content_lines_are}
 use Rattle.wt_beside_laws.proofs.LineKinds.{lines_are_text}
-use Rattle.wt_beside_laws.proofs.LineParagraphs.{unmarked, flat_paragraph}
-use Rattle.wt_beside_laws.proofs.LineRows.{lines_joined}
-use Rattle.wt_beside_laws.proofs.Made.Items.{nodes_have_items}
-use Rattle.wt_beside_laws.proofs.Made.Levels.{keeps_level}
-use Rattle.wt_beside_laws.proofs.Made.OldBlocks.{lines_are}
-use Rattle.wt_beside_laws.proofs.Made.OwnPages.{own_frame}
+use Rattle.wt_beside_laws.proofs.LineParagraphs.{unmarked}
 
 -- ---- a content of a block of this kind
 
@@ -57,14 +40,6 @@ use Rattle.wt_beside_laws.proofs.Made.OwnPages.{own_frame}
 abbrev pub FitsIn : TextBlock → Setting → List ContentSign → Type 0
 FitsIn a_paragraph s signs = Unit {0}
 FitsIn (a_heading h) s signs = (s.place ≡ place.Heading) × AreOnOneLine signs
-
-pub record IsWritten (k : TextBlock) (s : Setting) (signs : List ContentSign) : Type 0 where
-  pub flat : IsFlatContent s signs
-  pub fits : FitsIn k s signs
-  pub calm : AreCalm signs
-
-in_heading : (h : Sides) (s : Setting) (signs : List ContentSign) → IsWritten (a_heading h) s signs → IsHeadingContent s signs
-in_heading h s signs w = record { flat = w.flat; of_heading = w.fits.0; one_line = w.fits.1 }
 
 -- ---- its lines
 
@@ -80,17 +55,6 @@ pub lines_by : (k : TextBlock) (s : Setting) (signs : List ContentSign) → AreK
 lines_by a_paragraph s signs kept unbroken fits = content_lines_are s signs kept unbroken
 lines_by (a_heading h) s signs kept unbroken fits =
     ap₂ (λ (l : List Item) (ls : List (List Item)). l ∷ ls) (content_alone s signs kept ∙ sym (same_items s [] signs fits.1)) (sym (none_later s [] signs fits.1))
-
-pub lines_written : (k : TextBlock) (s : Setting) (signs : List ContentSign) → IsWritten k s signs → lines_in k (spelled s signs) ≡ content_lines s signs
-lines_written k s signs w = lines_by k s signs w.flat.kept w.flat.unbroken w.fits
-
--- ---- its parts
-
-pub parts_written : (k : TextBlock) (s : Setting) (signs : List ContentSign) → IsWritten k s signs
-    → content_parts_of k (page_items (spelled s signs)) ≡ content_parts s [] signs
-parts_written a_paragraph s signs w =
-    ap joined_parts (content_lines_are s signs w.flat.kept w.flat.unbroken) ∙ lines_joined s [] signs w.flat.nodes w.flat.flat w.flat.meet
-parts_written (a_heading h) s signs w = heading_parts s signs (in_heading h s signs w)
 
 -- ---- how it is read
 
@@ -146,33 +110,10 @@ pub texts_by : (n : ℕ) (s : Setting) (signs : List ContentSign) → s.within �
 texts_by n s signs block typed nodes kept unbroken =
     subst (All (λ l. line_kind n l ≡ line.Text)) (sym (content_lines_are s signs kept unbroken)) (all_texts n (content_lines s signs) (lines_are_text n s signs block typed nodes))
 
-texts_stay : (n : ℕ) (s : Setting) (signs : List ContentSign) → IsFlatContent s signs → All (λ l. line_kind n l ≡ line.Text) (lines (page_items (spelled s signs)))
-texts_stay n s signs f = texts_by n s signs f.of_block f.characters f.nodes f.kept f.unbroken
-
-pub stays_anywhere : (k : TextBlock) (s : Setting) (signs : List ContentSign) → IsFlatContent s signs → StaysAnywhere k (spelled s signs)
-stays_anywhere a_paragraph s signs f = λ n. texts_stay n s signs f
-stays_anywhere (a_heading h) s signs f = tt
-
 pub all_unled : (ls : List (List Item)) → All (IsLineOfText 0) (map content ls) → AreUnled ls
 all_unled [] h = tt
 all_unled (l ∷ ls) h =
     (unmarked 0 l (All-head (IsLineOfText 0) (content l) (map content ls) h), all_unled ls (All-tail (IsLineOfText 0) (content l) (map content ls) h))
-
-paragraph_written : (s : Setting) (signs : List ContentSign) → IsFlatContent s signs → AreParagraphLines (spelled s signs)
-paragraph_written s signs f = record {
-  are_lines = texts_stay 0 s signs f;
-  unled = all_unled (full_lines (page_items (spelled s signs))) ((flat_paragraph s signs f).text 0);
-  alone = alone s signs f.kept;
-  before_break = before_break s signs f.kept;
-}
-
--- of the nodes of flat lines
-content_written : (k : TextBlock) (q : List ℕ) (s : Setting) (signs : List ContentSign) → AreFlatLines (lines_in k q) → HasFrame k → IsWritten k s signs
-    → AreAmong (things signs) (things (signs_in k q)) → IsContentOf k (spelled s signs)
-content_written a_paragraph q s signs l f w e = paragraph_written s signs w.flat
-content_written (a_heading h) q s signs l f w e =
-    let own : IsHeadingContent s signs = in_heading h s signs w in
-    record { frame = f; inside = heading_inside s signs own; of_level = keeps_level (begins_at (a_heading h)) (page_items q ∷ []) s signs h l own f.sides e }
 
 -- ---- it calls nothing
 
@@ -198,42 +139,3 @@ to_calm (thing t ∷ after) h = (h.0, to_calm after h.1)
 
 pub put_calm : HoldsOfPut IsCalm
 put_calm = record { of_nowiki = nowiki_calm; of_reference = reference_calm }
-
--- ---- it is such a block again
-
--- what holds of the lines of what was sent holds of the lines that are written
-of_written : (P : List (List Item) → Type 0) (k : TextBlock) (s : Setting) (signs : List ContentSign) → IsWritten k s signs → P (content_lines s signs)
-    → P (lines_in k (spelled s signs))
-of_written P k s signs w h = subst P (sym (lines_written k s signs w)) h
-
-held_again : (k : TextBlock) (q : List ℕ) (s : Setting) (signs : List ContentSign) → IsFlatIn k q → AreAmong (things signs) (things (signs_in k q))
-    → AllHaveItems (forest (children (content_parts s [] signs))) × AllOfPage (held_by_all (forest (children (content_parts s [] signs))))
-held_again k q s signs h e =
-    nodes_have_items s (lines_in k q) (begins_at k) signs h.flat h.unstyled e
-    (subst (λ (ps : List Part). AllHaveItems (forest (children ps))) (lines_are k q) h.has_items)
-    (subst (λ (ps : List Part). AllOfPage (held_by_all (forest (children ps)))) (lines_are k q) h.of_page)
-
-pub flat_again : (k : TextBlock) (q : List ℕ) (s : Setting) (signs : List ContentSign) → IsFlatIn k q → IsWritten k s signs → AreAmong (things signs) (things (signs_in k q))
-    → IsFlatIn k (spelled s signs)
-flat_again k q s signs h w e =
-    let f : HasFrame k = own_frame k q h.is in
-    let b : IsBeforeAny (spelled s signs) = before_any s signs w.flat.kept in
-    let held = held_again k q s signs h e in
-    let parts : content_parts_of k (page_items (spelled s signs)) ≡ content_parts s [] signs = parts_written k s signs w in
-    let at : ℕ = begins_at k in
-    record {
-      utf8 = content_utf8 s signs w.flat.characters w.calm;
-      ended = ended_so k (spelled s signs) f b;
-      unended = unended_so k (spelled s signs) f b;
-      is = content_written k q s signs h.flat f w e;
-      calls_nothing = calls_none k s signs f w.flat.kept w.calm;
-      of_page = subst (λ (ps : List Part). AllOfPage (held_by_all (forest (children ps)))) (sym parts) held.1;
-      has_items = subst (λ (ps : List Part). AllHaveItems (forest (children ps))) (sym parts) held.0;
-      flat = of_written AreFlatLines k s signs w (again_flat s signs w.flat);
-      unstyled = of_written AreUnstyled k s signs w (again_unstyled s signs w.flat);
-      kept = of_written (λ (ls : List (List Item)). AreKept (signs_of_lines at ls)) k s signs w (again_kept at s signs w.flat);
-      calm = of_written (λ (ls : List (List Item)). AreCalm (signs_of_lines at ls)) k s signs w
-          (to_calm (signs_of_lines at (content_lines s signs)) (again_each IsCalm put_calm at s signs w.flat (from_calm signs w.calm)));
-      shut = of_written (λ (ls : List (List Item)). AreShut (signs_of_lines at ls)) k s signs w
-          (again_shut at s signs w.flat (some_shut (signs_in k q) signs e h.shut));
-    }

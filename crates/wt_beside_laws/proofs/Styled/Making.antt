@@ -58,7 +58,7 @@ abbrev pub IsOwn : Tree → Type 0
 IsOwn block =
     AreStyledSent (known block) (children_of block) × AllShow (known block) (children_of block) × AreKnown (known block) (children_of block)
 
-record IsSentWell (k : TextBlock) (q : List ℕ) (block : Tree) (ps : Pieces) : Type 0 where
+pub record IsSentWell (k : TextBlock) (q : List ℕ) (block : Tree) (ps : Pieces) : Type 0 where
   pub free : NoneIsGroup (page_pieces ps)
   pub sent : AreStyledSent (known block) (sent_pieces ps)
   pub shows : AllShow (known block) (sent_pieces ps)
@@ -72,7 +72,7 @@ stays_in : (k : TextBlock) (block : Tree) (ps : Pieces) → IsStyledEditOf k blo
 stays_in a_paragraph block ps e = tt
 stays_in (a_heading w) block ps e = (refl, sent_on_one_line (known block) ps e.stay e.are e.fit e.nest)
 
-sent_well : (k : TextBlock) (q : List ℕ) (block : Tree) (ps : Pieces) → IsOwn block → IsStyledIn k q → IsIn k q block → IsStyledEditOf k block ps
+pub sent_well : (k : TextBlock) (q : List ℕ) (block : Tree) (ps : Pieces) → IsOwn block → IsStyledIn k q → IsIn k q block → IsStyledEditOf k block ps
     → IsSentWell k q block ps
 sent_well k q block ps own h i e =
     let p : Page = known block in
@@ -120,7 +120,7 @@ taken_so k q block m ps i e w =
 
 -- ---- what is written, and what it shows
 
-content_is : (k : TextBlock) (q : List ℕ) (block : Tree) (m : Label) (ps : Pieces) → IsIn k q block → IsStyledEditOf k block ps → IsSentWell k q block ps
+pub content_is : (k : TextBlock) (q : List ℕ) (block : Tree) (m : Label) (ps : Pieces) → IsIn k q block → IsStyledEditOf k block ps → IsSentWell k q block ps
     → new_content k block m ps ≡ spelled (setting k block) (signs_in (sent_for block ps))
 content_is k q block m ps i e w =
     new_is k q block m ps i e.old ∙ ap (spelled (setting k block)) (sent_signs (known block) (place_of (block_of k)) (sent_pieces ps) w.sent)
@@ -170,7 +170,7 @@ then_by k q block m ps own h i e =
 
 -- ---- in other words
 
-own_so : (k : TextBlock) (q : List ℕ) (block : Tree) → IsStyledIn k q → IsIn k q block → IsOwn block
+pub own_so : (k : TextBlock) (q : List ℕ) (block : Tree) → IsStyledIn k q → IsIn k q block → IsOwn block
 own_so k q block h i = own_styled same_node k q block tells_same h i
 
 pub styled_makes : (k : TextBlock) (q : List ℕ) (n : ℕ) (b : List Item) (block : Tree) (m : Label) (ps : Pieces) → IsStyledIn k q → 0 < n

@@ -55,7 +55,7 @@ fits_of (a_heading w) s t h = h
 as_heading : (w : Sides) (s : Setting) (t : StyledContent) → IsStyledContent s t → StaysIn (a_heading w) s t → IsStyledHeading s t
 as_heading w s t c h = record { styled = c; of_heading = h.0; one_line = h.1 }
 
-lines_so : (k : TextBlock) (s : Setting) (t : StyledContent) → IsStyledContent s t → StaysIn k s t → lines_in k (spelled s (signs_in t)) ≡ content_lines s (signs_in t)
+pub lines_so : (k : TextBlock) (s : Setting) (t : StyledContent) → IsStyledContent s t → StaysIn k s t → lines_in k (spelled s (signs_in t)) ≡ content_lines s (signs_in t)
 lines_so k s t c h = lines_by k s (signs_in t) c.kept c.unbroken (fits_of k s t h)
 
 pub styled_parts_so : (k : TextBlock) (s : Setting) (t : StyledContent) → IsStyledContent s t → StaysIn k s t

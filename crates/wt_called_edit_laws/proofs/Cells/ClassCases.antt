@@ -65,7 +65,7 @@ use Rattle.wt_text_edit_laws.specs.TypedHeadings.{spaced}
 use Rattle.wt_text_edit_laws.proofs.Blocks.Contents.{block_content, typed_firm}
 use Rattle.wt_beside_laws.proofs.Edits.Cases.{items_are}
 use Rattle.wt_beside_laws.proofs.Made.Cases.{as_paragraph}
-use Rattle.wt_beside_laws.proofs.Made.NewContents.{flat_content}
+use Rattle.wt_beside_laws.proofs.Styled.WithoutStyles.{flat_content}
 use Rattle.wt_called_edit_laws.specs.CalledBlocks.{spots_among, items_behind}
 use Rattle.wt_called_edit_laws.specs.Covered.{IsBeside, IfGroup, NoGroupAt, NoneGroupAt, IsEditablePage}
 use Rattle.wt_called_edit_laws.specs.Groups.{called_tree}

@@ -1,0 +1,222 @@
+-- A content without bold and italic is one with them, of which none is there: what is sent for it nests, and it has no delimiter.
+use Rattle.std.proofs.Common.{◌≡◌, ◌≢◌, ℕ, ◌<◌, Bool, true, false, Option, Some, None, List, [], ◌∷◌, refl, sym, ap, ◌∙◌, subst}
+use Rattle.std.specs.Str.{chars}
+use Rattle.wt_span.specs.Items.{Item}
+use Rattle.wt_link_spelling.specs.Spelling.{children_of}
+use Rattle.wt_tree.specs.declared.kind.Kind.{Kind}
+use Rattle.wt_tree.specs.EditShapes.{edit_shape}
+use Rattle.wt_tree.specs.declared.edit_shape.InlineForm.{InlineForm}
+use Rattle.wt_tree.specs.declared.edit_shape.InlineForm.TheVariants as inline
+use Rattle.wt_tree.specs.declared.edit_shape.Sort.TheVariants as sort
+use Rattle.wt_tree.specs.Tree.{Label, Tree, tree, Trees, none, more}
+use Rattle.wt_guards.specs.declared.role.Role.{Role}
+use Rattle.wt_guards.specs.declared.role.Role.TheVariants.{Link, External, Bare, Switch, Toggle, Mark, Group, Function, Node}
+use Rattle.wt_guards.specs.Content.{ContentSign, Thing, letter, thing}
+use Rattle.wt_guards.specs.Guards.{is_adjacent}
+use Rattle.wt_original.specs.Kept.{Kept, kept_nodes, kept_with}
+use Rattle.wt_visible.specs.SameNodes.{same_node}
+use Rattle.wt_moved_laws.specs.Standing.{standing}
+use Rattle.wt_typed_blocks.specs.Edited.{Pieces, no_pieces, gone, written, kept, around, new_style, text_node, page_pieces, sent_pieces, PiecesStay}
+use Rattle.wt_text_edit_laws.specs.Contents.{IsContent}
+use Rattle.wt_text_edit_laws.specs.TextBlocks.{TextBlock, block_tree}
+use Rattle.wt_beside_laws.specs.ContentEdits.{new_content, MakesContent}
+use Rattle.wt_beside_laws.specs.Flat.{IsFlat, AreFlat, IsFlatContent}
+use Rattle.wt_beside_laws.specs.FlatBlocks.{lines_in, IsFlatEditOf}
+use Rattle.wt_beside_laws.specs.OwnSigns.{HasOwnBy, HaveOwn}
+use Rattle.wt_beside_laws.specs.PageBlocks.{AreUnstyled}
+use Rattle.wt_beside_laws.specs.SentPieces.{HaveNoStyle}
+use Rattle.wt_beside_laws.specs.SentStyled.{text_then, found_then, sent_by, sent_content, KeptIsFlat, breaks_line, NestsBy, AllNest}
+use Rattle.wt_beside_laws.specs.Stood.{things}
+use Rattle.wt_beside_laws.specs.Styled.{StyledContent, signs_in, IsStyledContent}
+use Rattle.wt_beside_laws.specs.StyledIn.{IsFlatIn, sent_for, IsStyledEditOf}
+use Rattle.wt_beside_laws.specs.StyledNodes.{MayEndUrl, IsUrlApart, AreUrlsApart}
+use Rattle.wt_beside_laws.proofs.Among.{Each}
+use Rattle.wt_beside_laws.proofs.BlockSigns.{flat_block}
+use Rattle.wt_beside_laws.proofs.Made.Making.{known, setting, in_page}
+use Rattle.wt_beside_laws.proofs.Made.OldBlocks.{IsIn}
+use Rattle.wt_beside_laws.proofs.Styled.Delimiters.{no_delimiter}
+use Rattle.wt_beside_laws.proofs.Styled.Making.{IsSentWell, sent_well, content_is, own_so, styled_makes, styled_then}
+use Rattle.wt_beside_laws.proofs.Styled.OldStyled.{styled_in_content, styled_of_lines}
+use Rattle.wt_beside_laws.proofs.FlatAgain.{again_unstyled}
+use Rattle.wt_beside_laws.proofs.Styled.StyledWritten.{lines_so}
+
+-- ---- what is sent has none
+
+text_flat : (cs : List ℕ) (t : StyledContent) → AreFlat (signs_in t) → AreFlat (signs_in (text_then cs t))
+text_flat [] t h = h
+text_flat (c ∷ cs) t h = text_flat cs t h
+
+found_flat : (k : Option Kept) (t : StyledContent) → KeptIsFlat k → AreFlat (signs_in t) → AreFlat (signs_in (found_then k t))
+found_flat None t f h = h
+found_flat (Some k) t f h = (f, h)
+
+one_flat : (w : InlineForm) (l : Label) (k : Option Kept) (inside t : StyledContent) → HasOwnBy w l → KeptIsFlat k → AreFlat (signs_in t)
+    → AreFlat (signs_in (sent_by w k l inside t))
+one_flat inline.Nothing l k inside t s f h = h
+one_flat inline.Characters l k inside t s f h = text_flat (chars l.shown) t h
+one_flat inline.Bold l k inside t s f h = absurd s
+one_flat inline.Italic l k inside t s f h = absurd s
+one_flat inline.Shown l k inside t s f h = found_flat k t f h
+one_flat inline.PageLink l k inside t s f h = found_flat k t f h
+one_flat inline.ExternalLink l k inside t s f h = found_flat k t f h
+one_flat inline.Tag l k inside t s f h = found_flat k t f h
+one_flat inline.Break l k inside t s f h = found_flat k t f h
+one_flat inline.AsItStood l k inside t s f h = found_flat k t f h
+
+sent_flat : (block : Tree) (us : Trees) → HaveOwn us → AreFlat (signs_in (sent_content (known block) us))
+sent_flat block none s = tt
+sent_flat block (more (tree l ts) us) s =
+    one_flat (edit_shape l.kind).inline l (kept_with l.id (kept_nodes block)) (sent_content (known block) ts) (sent_content (known block) us) s.0
+    (no_delimiter same_node block l.id) (sent_flat block us s.1)
+
+-- ---- it nests
+
+outside : (text : List ℕ) → false ≡ true → breaks_line text ≡ false
+outside text e = absurd (cc)
+
+one_nests : (w : InlineForm) (l : Label) (inside : Bool → Bool → Type 0) → HasOwnBy w l → NestsBy w false false l inside
+one_nests inline.Nothing l inside s = tt
+one_nests inline.Characters l inside s = outside l.shown
+one_nests inline.Bold l inside s = absurd s
+one_nests inline.Italic l inside s = absurd s
+one_nests inline.Shown l inside s = tt
+one_nests inline.PageLink l inside s = tt
+one_nests inline.ExternalLink l inside s = tt
+one_nests inline.Tag l inside s = tt
+one_nests inline.Break l inside s = tt
+one_nests inline.AsItStood l inside s = tt
+
+all_nest : (us : Trees) → HaveOwn us → AllNest false false us
+all_nest none s = tt
+all_nest (more (tree l ts) us) s = (one_nests (edit_shape l.kind).inline l (λ b i. AllNest b i ts) s.0, all_nest us s.1)
+
+-- ---- no URL is before a delimiter
+
+end_apart : (r : Role) (v : Bool) → IsFlat r → MayEndUrl r v
+end_apart Link v h = tt
+end_apart External v h = tt
+end_apart (Bare ends) v h = tt
+end_apart Switch v h = tt
+end_apart Toggle v h = absurd h
+end_apart (Mark ends began) v h = tt
+end_apart (Group g) v h = tt
+end_apart Function v h = tt
+end_apart Node v h = tt
+
+url_apart : (r n : Role) (v : Bool) → IsFlat n → IsUrlApart r n v
+url_apart Link n v h = tt
+url_apart External n v h = tt
+url_apart (Bare ends) n v h = end_apart n v h
+url_apart Switch n v h = tt
+url_apart Toggle n v h = tt
+url_apart (Mark ends began) n v h = tt
+url_apart (Group g) n v h = tt
+url_apart Function n v h = tt
+url_apart Node n v h = tt
+
+each_flat : (signs : List ContentSign) → AreFlat signs → Each (λ t. IsFlat t.role) (things signs)
+each_flat [] h = tt
+each_flat (letter c ∷ after) h = each_flat after h
+each_flat (thing t ∷ after) h = (h.0, each_flat after h.1)
+
+all_apart : (ts : List Thing) → Each (λ t. IsFlat t.role) ts → AreUrlsApart ts
+all_apart [] h = tt
+all_apart (t ∷ []) h = tt
+all_apart (t ∷ n ∷ ts) h = (url_apart t.role n.role (is_adjacent t n) h.1.0, all_apart (n ∷ ts) h.1)
+
+-- ---- what stays of a block without styles is no style
+
+as_numbered : (w : InlineForm) (l m : Label) → m.id ≡ l.id → HasOwnBy w l → HasOwnBy w m
+as_numbered inline.Nothing l m e h = tt
+as_numbered inline.Characters l m e h = tt
+as_numbered inline.Bold l m e h = h
+as_numbered inline.Italic l m e h = h
+as_numbered inline.Shown l m e h = subst (λ (n : ℕ). n ≢ 0) (sym e) h
+as_numbered inline.PageLink l m e h = subst (λ (n : ℕ). n ≢ 0) (sym e) h
+as_numbered inline.ExternalLink l m e h = subst (λ (n : ℕ). n ≢ 0) (sym e) h
+as_numbered inline.Tag l m e h = subst (λ (n : ℕ). n ≢ 0) (sym e) h
+as_numbered inline.Break l m e h = subst (λ (n : ℕ). n ≢ 0) (sym e) h
+as_numbered inline.AsItStood l m e h = subst (λ (n : ℕ). n ≢ 0) (sym e) h
+
+text_own : (x : Label) (text : List ℕ) (us : Trees) → HaveOwn us → HaveOwn (text_node x text us)
+text_own x [] us h = h
+text_own x (c ∷ cs) us h = (tt, h)
+
+pieces_own : (ps : Pieces) → HaveOwn (page_pieces ps) → PiecesStay ps → HaveNoStyle ps → HaveOwn (sent_pieces ps)
+pieces_own no_pieces e h p = tt
+pieces_own (gone (tree l ts) ps) e h p = pieces_own ps e.1 h p
+pieces_own (written x text ps) e h p = text_own x text (sent_pieces ps) (pieces_own ps e h p)
+pieces_own (kept (tree l ts) (tree m us) ps) e h p = (
+  subst (λ (k : Kind). HasOwnBy (edit_shape k).inline m) (sym h.0.0.kind) (as_numbered (edit_shape l.kind).inline l m h.0.0.id e.0),
+  pieces_own ps e.1 h.1 p,
+)
+pieces_own (around l m is ps) e h p = absurd p
+pieces_own (new_style m is ps) e h p = absurd p
+
+-- ---- so the edit is one of a content with styles
+
+-- of the block, and of any node with its children
+are_own : (k : TextBlock) (q : List ℕ) (block t : Tree) (ps : Pieces) → IsFlatIn k q → IsIn k q block → children_of t ≡ children_of block → IsFlatEditOf k t ps
+    → HaveOwn (sent_pieces ps)
+are_own k q block t ps h i same e =
+    let own : HaveOwn (children_of block) = (flat_block (lines_in k q) block h.styled.flat h.unstyled (styled_of_lines k q block h.styled i)).own in
+    pieces_own ps (subst HaveOwn (sym (e.old ∙ same)) own) e.stay e.plain
+
+edit_styled : (k : TextBlock) (q : List ℕ) (block t : Tree) (ps : Pieces) → IsFlatIn k q → IsIn k q block → children_of t ≡ children_of block → IsFlatEditOf k t ps
+    → IsStyledEditOf k t ps
+edit_styled k q block t ps h i same e =
+    let own : HaveOwn (sent_pieces ps) = are_own k q block t ps h i same e in
+    let signs : List ContentSign = signs_in (sent_for t ps) in
+    record {
+      old = e.old;
+      stay = e.stay;
+      are = e.are;
+      fit = e.fit;
+      nest = all_nest (sent_pieces ps) own;
+      apart = all_apart (things signs) (each_flat signs (sent_flat t (sent_pieces ps) own));
+    }
+
+-- ---- and no style begins in the new content
+
+flat_so : (k : TextBlock) (block : Tree) (t : StyledContent) → IsStyledContent (setting k block) t → AreFlat (signs_in t) → IsFlatContent (setting k block) (signs_in t)
+flat_so k block t c f = record {
+  of_block = c.of_block;
+  characters = c.characters;
+  kept = c.kept;
+  nodes = c.nodes;
+  unbroken = c.unbroken;
+  flat = f;
+  meet = c.meet;
+}
+
+unstyled_so : (k : TextBlock) (q : List ℕ) (block : Tree) (m : Label) (ps : Pieces) → IsFlatIn k q → IsIn k q block → IsFlatEditOf k block ps
+    → AreUnstyled (lines_in k (new_content k block m ps))
+unstyled_so k q block m ps h i e =
+    let d : IsStyledEditOf k block ps = edit_styled k q block block ps h i refl e in
+    let w : IsSentWell k q block ps = sent_well k q block ps (own_so k q block h.styled i) h.styled i d in
+    let t : StyledContent = sent_for block ps in
+    let f : IsFlatContent (setting k block) (signs_in t) =
+    flat_so k block t w.is.content (sent_flat block (sent_pieces ps) (are_own k q block block ps h i refl e)) in
+    subst (λ (bs : List ℕ). AreUnstyled (lines_in k bs)) (sym (content_is k q block m ps i d w))
+    (subst AreUnstyled (sym (lines_so k (setting k block) t w.is.content w.is.stays)) (again_unstyled (setting k block) (signs_in t) f))
+
+-- ---- in other words
+
+pub flat_content : (k : TextBlock) (q : List ℕ) → IsFlatIn k q → IsContent k q
+flat_content k q h = styled_in_content k q h.styled
+
+pub flat_edit : (k : TextBlock) (q : List ℕ) (n : ℕ) (b : List Item) (t : Tree) (ps : Pieces) → IsFlatIn k q → 0 < n
+    → children_of t ≡ children_of (standing n b (block_tree k q)) → IsFlatEditOf k t ps → IsStyledEditOf k t ps
+flat_edit k q n b t ps h some same e =
+    let block : Tree = standing n b (block_tree k q) in edit_styled k q block t ps h (in_page k q n b block some refl) same e
+
+pub flat_makes : (k : TextBlock) (q : List ℕ) (n : ℕ) (b : List Item) (block : Tree) (m : Label) (ps : Pieces) → IsFlatIn k q → 0 < n
+    → block ≡ standing n b (block_tree k q) → IsFlatEditOf k block ps → MakesContent k q block m ps
+flat_makes k q n b block m ps h some is e = styled_makes k q n b block m ps h.styled some is (flat_edit k q n b block ps h some (ap children_of is) e)
+
+pub flat_then : (k : TextBlock) (q : List ℕ) (n : ℕ) (b : List Item) (block : Tree) (m : Label) (ps : Pieces) → IsFlatIn k q → 0 < n
+    → block ≡ standing n b (block_tree k q) → IsFlatEditOf k block ps → IsFlatIn k (new_content k block m ps)
+flat_then k q n b block m ps h some is e = record {
+  styled = styled_then k q n b block m ps h.styled some is (flat_edit k q n b block ps h some (ap children_of is) e);
+  unstyled = unstyled_so k q block m ps h (in_page k q n b block some is) e;
+}
