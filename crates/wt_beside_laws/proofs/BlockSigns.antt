@@ -1,13 +1,13 @@
 -- A block of the page by its lines has the nodes of these lines, and what is sent for it is a content that is read sign by sign.
-use Rattle.std.proofs.Common.{arith, ◌≡◌, inl, inr, ℕ, ◌+◌, ◌<◌, Bool, false, List, [], ◌∷◌, ◌++◌, length, refl, sym, ap, ◌∙◌, subst}
+use Rattle.std.proofs.Common.{arith, ◌≡◌, ℕ, ◌+◌, ◌<◌, Bool, false, List, ◌++◌, length, refl, sym, ap, ◌∙◌, subst}
 use Rattle.wt_span.specs.Items.{Item}
 use Rattle.wt_tree.specs.Kinds.{is_leaf}
 use Rattle.wt_tree.specs.Tiling.{HasNoGroup, NoneIsGroup}
 use Rattle.wt_tree.specs.Tree.{Tree, tree, Trees, label}
 use Rattle.wt_tree.specs.declared.edit_shape.Place.{Place}
-use Rattle.wt_guards.specs.Content.{ContentSign, Thing}
+use Rattle.wt_guards.specs.Content.{ContentSign}
 use Rattle.wt_guards.specs.Guards.{Setting}
-use Rattle.wt_isolation.specs.OpenTags.{ends_open, any_ends_open}
+use Rattle.wt_isolation.specs.OpenTags.{any_ends_open}
 use Rattle.wt_inline.specs.ItemTree.{plain, ItemTree, inner, forest}
 use Rattle.wt_inline.specs.Parts.{Part, children}
 use Rattle.wt_annotated.specs.Labels.{label_at}
@@ -25,7 +25,6 @@ use Rattle.wt_text_edit_laws.specs.ParagraphParts.{joined_parts}
 use Rattle.wt_beside_laws.specs.PageSigns.{signs_of_lines, AreFlatLines}
 use Rattle.wt_beside_laws.specs.SentNodes.{AreSent, numbers}
 use Rattle.wt_beside_laws.specs.Stood.{things}
-use Rattle.wt_beside_laws.proofs.Among.{AreAmong, same_among}
 use Rattle.wt_beside_laws.proofs.BlockNumbers.{block_counts}
 use Rattle.wt_beside_laws.proofs.FlatContents.{flat_content}
 use Rattle.wt_beside_laws.proofs.LineThings.{lines_have}
@@ -143,15 +142,6 @@ pub block_shut : (ls : List (List Item)) (block : Tree) (at : ℕ) → AreFlatLi
 block_shut ls block at f u b s =
     ap (λ (t : Tree). any_ends_open (children_of t)) b.is ∙ shut_by b.form b.number at b.before b.opening b.closing ls u f s
 
--- a content of some of these nodes
-shut_among : (ts os : List Thing) → AreAmong ts os → ShutThings os → ShutThings ts
-shut_among [] os a h = tt
-shut_among (t ∷ ts) [] a h = absurd a
-shut_among (t ∷ ts) (o ∷ os) (inl s) h = (ap (λ (n : Thing). ends_open n.source) s.0 ∙ h.0, shut_among ts os s.1 h.1)
-shut_among (t ∷ ts) (o ∷ os) (inr r) h = shut_among (t ∷ ts) os r h.1
-
-pub some_shut : (olds news : List ContentSign) → AreAmong (things news) (things olds) → AreShut olds → AreShut news
-some_shut olds news e h = are_shut news (shut_among (things news) (things olds) e (shut_things olds h))
-
+-- a content of these nodes
 pub same_shut : (olds news : List ContentSign) → things news ≡ things olds → AreShut olds → AreShut news
-same_shut olds news e h = some_shut olds news (same_among (things news) (things olds) e) h
+same_shut olds news e h = are_shut news (subst ShutThings (sym e) (shut_things olds h))

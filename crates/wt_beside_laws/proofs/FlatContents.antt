@@ -22,8 +22,8 @@ use Rattle.wt_beside_laws.specs.Kept.{IsKept}
 use Rattle.wt_beside_laws.specs.Lines.{AreCharacters, AreUnbroken}
 use Rattle.wt_beside_laws.specs.PageSigns.{form_sign, tile_signs, signs_of_tiles, line_signs, signs_of_lines, IsFlatForm, IsFlatTile, AreFlatTiles, HasNoBreak, AreFlatLines}
 use Rattle.wt_beside_laws.specs.Stood.{IsTileOf, AreStood, things}
-use Rattle.wt_beside_laws.proofs.Among.{AreAmong, same_among, Each, each_among}
-use Rattle.wt_beside_laws.proofs.PageSigns.{some_nodes, some_flat_meet, lines_stood, none_take, none_drop}
+use Rattle.wt_beside_laws.proofs.Each.{Each}
+use Rattle.wt_beside_laws.proofs.PageSigns.{flat_nodes, flat_meet, lines_stood, none_take, none_drop}
 use Rattle.wt_beside_laws.proofs.SentNodes.{things_append, no_things}
 
 -- ---- what holds of each node
@@ -127,22 +127,14 @@ lines_unbroken at (xs ∷ ys ∷ ls) h =
 
 -- ---- the content
 
--- some of the page's nodes, in their order
-pub some_content : (s : Setting) (ls : List (List Item)) (at : ℕ) (signs : List ContentSign) → s.within ≡ false → AreFlatLines ls → AreKept (signs_of_lines at ls)
-    → AreCharacters signs → AreAmong (things signs) (things (signs_of_lines at ls)) → IsFlatContent s signs
-some_content s ls at signs block flat kept characters some =
-    let olds : List Thing = things (signs_of_lines at ls) in
-    record {
-      of_block = block;
-      characters = characters;
-      kept = each_kept signs (each_among Kept (things signs) olds some (kept_each (signs_of_lines at ls) kept));
-      nodes = some_nodes ls at signs flat some;
-      unbroken = each_unbroken signs (each_among Unbroken (things signs) olds some (lines_unbroken at ls flat));
-      flat = each_flat signs (each_among Flat (things signs) olds some (flat_each false (signs_of_lines at ls) (lines_stood at ls flat)));
-      meet = some_flat_meet s ls at signs flat some;
-    }
-
 pub flat_content : (s : Setting) (ls : List (List Item)) (at : ℕ) (signs : List ContentSign) → s.within ≡ false → AreFlatLines ls → AreKept (signs_of_lines at ls)
     → AreCharacters signs → things signs ≡ things (signs_of_lines at ls) → IsFlatContent s signs
-flat_content s ls at signs block flat kept characters same =
-    some_content s ls at signs block flat kept characters (same_among (things signs) (things (signs_of_lines at ls)) same)
+flat_content s ls at signs block flat kept characters same = record {
+  of_block = block;
+  characters = characters;
+  kept = each_kept signs (subst (Each Kept) (sym same) (kept_each (signs_of_lines at ls) kept));
+  nodes = flat_nodes ls at signs flat same;
+  unbroken = each_unbroken signs (subst (Each Unbroken) (sym same) (lines_unbroken at ls flat));
+  flat = each_flat signs (subst (Each Flat) (sym same) (flat_each false (signs_of_lines at ls) (lines_stood at ls flat)));
+  meet = flat_meet s ls at signs flat same;
+}

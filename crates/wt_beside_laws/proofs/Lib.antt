@@ -14,7 +14,7 @@ pub mod NodesBegin
 pub mod NodesEnd
 pub mod NodesMeet
 pub mod NodesStand
-pub mod Among
+pub mod Each
 pub mod PageNodes
 pub mod PageSigns
 pub mod PairTiles

@@ -25,7 +25,6 @@ use Rattle.wt_tiles.specs.Urls.{is_dropped, is_word, bare_url_at}
 use Rattle.wt_beside_laws.specs.Cuts.{own_glyphs, ends_word, form_before}
 use Rattle.wt_beside_laws.specs.Nodes.{IsNode, IsDelimiter, IsOneLexeme, IsTagNode, IsCategoryNode, IsMediaNode, AreNodes, MayBeBehind, MayFollow, MayLead, MeetAt, AllMeet}
 use Rattle.wt_beside_laws.specs.Stood.{is_url_end, EndsUrl, IsTileOf, IsRead, HasBehind, line_glyphs, AreStood, AreAt, things}
-use Rattle.wt_beside_laws.proofs.Among.{AreAmong, same_among}
 use Rattle.wt_beside_laws.proofs.NodesBegin.{no_url}
 use Rattle.wt_beside_laws.proofs.NodesEnd.{external_last, lexeme_last, other_last}
 use Rattle.wt_beside_laws.proofs.Stood.{stood}
@@ -358,19 +357,6 @@ pairs_first [] h = tt
 pairs_first (t ∷ []) h = tt
 pairs_first (t ∷ n ∷ ts) h = (h.0.0, pairs_first (n ∷ ts) h.1)
 
-each_of : (t : Thing) (ts os : List Thing) → AreAmong ts os → MeetsEach t os → MeetsEach t ts
-each_of t [] os a h = tt
-each_of t (n ∷ ts) [] a h = absurd a
-each_of t (n ∷ ts) (o ∷ os) (inl s) h = (subst (MeetInPage t) (sym s.0) h.0, each_of t ts os s.1 h.1)
-each_of t (n ∷ ts) (o ∷ os) (inr r) h = each_of t (n ∷ ts) os r h.1
-
--- so of some of them
-pairs_of : (ts os : List Thing) → AreAmong ts os → PairsMeet os → PairsMeet ts
-pairs_of [] os a h = tt
-pairs_of (t ∷ ts) [] a h = absurd a
-pairs_of (t ∷ ts) (o ∷ os) (inl s) h = (subst (λ (n : Thing). MeetsEach n ts) (sym s.0) (each_of o ts os s.1 h.0), pairs_of ts os s.1 h.1)
-pairs_of (t ∷ ts) (o ∷ os) (inr r) h = pairs_of (t ∷ ts) os r h.1
-
 source_some : (bs : List ℕ) → 0 < length (map glyph_of (page_items bs)) → 0 < length bs
 source_some [] h =
     let z : length (map glyph_of (page_items [])) ≡ 0 = ap (λ (xs : List Item). length (map glyph_of xs)) (read_items [] [] reads_nothing) in
@@ -403,25 +389,12 @@ all_pairs a at (thing t ∷ after) h places = (
   all_pairs (ends_word a (own_glyphs t)) (at + length t.source) after h.1 places.1,
 )
 
--- ---- some of its nodes, in their order
-
-nodes_among : (ts os : List Thing) → AreAmong ts os → EachIsNode os → EachIsNode ts
-nodes_among [] os a h = tt
-nodes_among (t ∷ ts) [] a h = absurd a
-nodes_among (t ∷ ts) (o ∷ os) (inl s) h = (subst (λ (n : Thing). IsNode n.role (own_glyphs n)) (sym s.0) h.0, nodes_among ts os s.1 h.1)
-nodes_among (t ∷ ts) (o ∷ os) (inr r) h = nodes_among (t ∷ ts) os r h.1
-
-pub some_stay : (olds signs : List ContentSign) → AreStood false olds → AreAmong (things signs) (things olds) → AreNodes signs
-some_stay olds signs h some = nodes_of signs (nodes_among (things signs) (things olds) some (each_node false olds h))
-
-pub some_meet : (s : Setting) (olds signs : List ContentSign) (at : ℕ) → AreStood false olds → AreAt at olds → AreAmong (things signs) (things olds)
-    → AllMeet s [] signs []
-some_meet s olds signs at h places some =
-    all_meet s [] signs
-    (nodes_among (things signs) (things olds) some (each_node false olds h), pairs_first (things signs) (pairs_of (things signs) (things olds) some (all_pairs false at olds h places)))
+-- ---- its nodes, with any texts between them
 
 pub nodes_stay : (olds signs : List ContentSign) → AreStood false olds → things signs ≡ things olds → AreNodes signs
-nodes_stay olds signs h same = some_stay olds signs h (same_among (things signs) (things olds) same)
+nodes_stay olds signs h same = nodes_of signs (subst EachIsNode (sym same) (each_node false olds h))
 
 pub nodes_meet : (s : Setting) (olds signs : List ContentSign) (at : ℕ) → AreStood false olds → AreAt at olds → things signs ≡ things olds → AllMeet s [] signs []
-nodes_meet s olds signs at h places same = some_meet s olds signs at h places (same_among (things signs) (things olds) same)
+nodes_meet s olds signs at h places same =
+    all_meet s [] signs
+    (subst EachIsNode (sym same) (each_node false olds h), pairs_first (things signs) (subst PairsMeet (sym same) (all_pairs false at olds h places)))

@@ -30,8 +30,7 @@ use Rattle.wt_beside_laws.specs.Cuts.{own_glyphs, ends_word, form_before}
 use Rattle.wt_beside_laws.specs.Nodes.{AreNodes, AllMeet}
 use Rattle.wt_beside_laws.specs.PageSigns.{atom_role, tile_role, form_sign, tile_signs, signs_of_tiles, line_signs, signs_of_lines, IsFlatForm, IsFlatTile, AreFlatTiles, HasNoBreak, AreFlatLines}
 use Rattle.wt_beside_laws.specs.Stood.{IsTileOf, OpensNoPair, IsRead, line_glyphs, AreStood, AreAt, things}
-use Rattle.wt_beside_laws.proofs.Among.{AreAmong}
-use Rattle.wt_beside_laws.proofs.PageNodes.{some_stay, some_meet, nodes_stay, nodes_meet}
+use Rattle.wt_beside_laws.proofs.PageNodes.{nodes_stay, nodes_meet}
 
 -- ---- letters
 
@@ -385,13 +384,6 @@ lines_stood at ls h = (lines_read at ls h).stood
 
 pub lines_at : (at : ℕ) (ls : List (List Item)) → AreFlatLines ls → AreAt at (signs_of_lines at ls)
 lines_at at ls h = (lines_read at ls h).places
-
-pub some_nodes : (ls : List (List Item)) (at : ℕ) (signs : List ContentSign) → AreFlatLines ls → AreAmong (things signs) (things (signs_of_lines at ls)) → AreNodes signs
-some_nodes ls at signs h some = some_stay (signs_of_lines at ls) signs (lines_read at ls h).stood some
-
-pub some_flat_meet : (s : Setting) (ls : List (List Item)) (at : ℕ) (signs : List ContentSign) → AreFlatLines ls
-    → AreAmong (things signs) (things (signs_of_lines at ls)) → AllMeet s [] signs []
-some_flat_meet s ls at signs h some = let r = lines_read at ls h in some_meet s (signs_of_lines at ls) signs at r.stood r.places some
 
 pub flat_nodes : (ls : List (List Item)) (at : ℕ) (signs : List ContentSign) → AreFlatLines ls → things signs ≡ things (signs_of_lines at ls) → AreNodes signs
 flat_nodes ls at signs h same = nodes_stay (signs_of_lines at ls) signs (lines_read at ls h).stood same

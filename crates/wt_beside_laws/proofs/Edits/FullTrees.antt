@@ -24,7 +24,7 @@ use Rattle.wt_beside_laws.specs.Content.{guard_items, letter_items}
 use Rattle.wt_beside_laws.specs.Flat.{content_parts}
 use Rattle.wt_text_edit_laws.specs.ParagraphParts.{para_with}
 use Rattle.wt_beside_laws.specs.Stood.{things}
-use Rattle.wt_beside_laws.proofs.Among.{Each}
+use Rattle.wt_beside_laws.proofs.Each.{Each}
 use Rattle.wt_beside_laws.proofs.LineShown.{guard_tree}
 
 -- ---- parts

@@ -64,7 +64,7 @@ use Rattle.wt_beside_laws.proofs.Edits.OldPages.{IsOneBlock, body_label, one_tre
 use Rattle.wt_beside_laws.proofs.Edits.Pieces.{pieces_characters}
 use Rattle.wt_beside_laws.proofs.Edits.FlatEdits.{are_sent, are_edited, ungrouped, answer_so}
 use Rattle.wt_beside_laws.proofs.Edits.OldFull.{old_full}
-use Rattle.wt_beside_laws.proofs.Among.{Each}
+use Rattle.wt_beside_laws.proofs.Each.{Each}
 use Rattle.wt_beside_laws.proofs.Edits.FullTrees.{para_plain, content_full, same_full}
 
 -- ---- its nodes are the page's

@@ -18,7 +18,7 @@ use Rattle.wt_beside_laws.proofs.LineThings.{lines_have}
 use Rattle.wt_beside_laws.proofs.PartThings.{HaveThings, tree_source}
 use Rattle.wt_beside_laws.specs.FlatPages.{lines_of, IsFlatPage}
 use Rattle.wt_beside_laws.proofs.Edits.OldPages.{flat_page}
-use Rattle.wt_beside_laws.proofs.Among.{Each}
+use Rattle.wt_beside_laws.proofs.Each.{Each}
 use Rattle.wt_beside_laws.proofs.Edits.FullTrees.{IsFullTree, AreFullParts, AreFull, FullThing, each_full, node_alone}
 
 -- ---- the nodes among parts

@@ -34,7 +34,7 @@ use Rattle.wt_beside_laws.specs.FlatBlocks.{begins_at, signs_in, AreSealed}
 use Rattle.wt_beside_laws.specs.PageSigns.{tile_signs, signs_of_tiles, line_signs, signs_of_lines}
 use Rattle.wt_beside_laws.specs.Stood.{things}
 use Rattle.wt_beside_laws.proofs.Contents.{begin_letter}
-use Rattle.wt_beside_laws.proofs.Among.{Each}
+use Rattle.wt_beside_laws.proofs.Each.{Each}
 use Rattle.wt_beside_laws.proofs.SentNodes.{no_things}
 
 -- ---- what is put closes none

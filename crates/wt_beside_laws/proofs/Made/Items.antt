@@ -18,7 +18,7 @@ use Rattle.wt_text_edit_laws.specs.LonePages.{page_chars}
 use Rattle.wt_beside_laws.specs.Content.{guard_items, letter_items}
 use Rattle.wt_text_edit_laws.proofs.Blocks.PageItems.{all_of}
 use Rattle.wt_text_edit_laws.proofs.Texts.TypedShown.{AllOfPage, both_of_page}
-use Rattle.wt_beside_laws.proofs.Among.{Each}
+use Rattle.wt_beside_laws.proofs.Each.{Each}
 use Rattle.wt_beside_laws.proofs.Edits.FullTrees.{node_alone}
 use Rattle.wt_beside_laws.proofs.LineShown.{guard_tree}
 use Rattle.wt_beside_laws.proofs.PartThings.{HaveThings, tree_source}

@@ -34,8 +34,8 @@ use Rattle.wt_beside_laws.specs.Nodes.{IsNode, AreNodes}
 use Rattle.wt_beside_laws.specs.PageSigns.{form_role, atom_role, tile_signs, signs_of_tiles, line_signs, signs_of_lines, IsFlatForm, IsFlatTile, AreFlatTiles, AreFlatLines}
 use Rattle.wt_beside_laws.specs.Stood.{things}
 use Rattle.wt_beside_laws.proofs.Contents.{content_alone}
-use Rattle.wt_beside_laws.proofs.Among.{same_among, Each}
-use Rattle.wt_beside_laws.proofs.PageSigns.{some_nodes}
+use Rattle.wt_beside_laws.proofs.Each.{Each}
+use Rattle.wt_beside_laws.proofs.PageSigns.{flat_nodes}
 use Rattle.wt_beside_laws.proofs.LineHeadings.{same_items, ends_behind, UnequalLast, letter_unequal, end_unequal, begins_unequal, unequal_end}
 use Rattle.wt_beside_laws.proofs.LineKinds.{line_opens}
 use Rattle.wt_beside_laws.proofs.NodeEnds.{EndInSigns, nodes_end, unequal_by}
@@ -185,7 +185,7 @@ told_each (thing t ∷ after) h = (h.0, told_each after h.1)
 pub nodes_told : (at : ℕ) (ls : List (List Item)) → AreFlatLines ls → Each Told (things (signs_of_lines at ls))
 nodes_told at ls f =
     let olds : List ContentSign = signs_of_lines at ls in
-    let seen : EndInSigns olds = nodes_end olds (some_nodes ls at olds f (same_among (things olds) (things olds) refl)) in
+    let seen : EndInSigns olds = nodes_end olds (flat_nodes ls at olds f refl) in
     each_told olds (lines_told at ls f seen)
 
 -- ---- the last item

@@ -34,7 +34,7 @@ use Rattle.wt_beside_laws.specs.PageSigns.{line_signs, signs_of_lines, AreFlatTi
 use Rattle.wt_beside_laws.specs.Stood.{things}
 use Rattle.wt_beside_laws.specs.Styled.{StyledContent, finished, sign, styled, delimiter, signs_before, signs_in, signs_past, AreNested, styled_parts}
 use Rattle.wt_beside_laws.specs.StyledNodes.{IsPut, AreSomeAndPut}
-use Rattle.wt_beside_laws.proofs.Among.{Each}
+use Rattle.wt_beside_laws.proofs.Each.{Each}
 use Rattle.wt_beside_laws.proofs.Contents.{nowiki_reads}
 use Rattle.wt_beside_laws.proofs.Firm.{alone_as}
 use Rattle.wt_beside_laws.proofs.LineThings.{nodes_parts}

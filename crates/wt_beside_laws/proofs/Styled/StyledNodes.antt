@@ -25,7 +25,7 @@ use Rattle.wt_beside_laws.specs.StyledNodes.{IsPut, AreSomeAndPut, IsUrlApart, A
 use Rattle.wt_beside_laws.proofs.Contents.{nowiki_reads}
 use Rattle.wt_beside_laws.proofs.Firm.{alone_as}
 use Rattle.wt_beside_laws.proofs.FlatAgain.{nowiki_kept}
-use Rattle.wt_beside_laws.proofs.Among.{Each}
+use Rattle.wt_beside_laws.proofs.Each.{Each}
 use Rattle.wt_beside_laws.proofs.FlatContents.{Kept, kept_each, each_kept, Unbroken, each_unbroken, lines_unbroken}
 use Rattle.wt_beside_laws.proofs.NodesMeet.{atom_may}
 use Rattle.wt_beside_laws.proofs.PageNodes.{follows_none, Meet, MeetInPage, EachIsNode, EachMeets, MeetsEach, PairsMeet, nodes_of, all_meet, each_node, all_pairs}

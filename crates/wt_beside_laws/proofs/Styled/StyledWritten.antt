@@ -27,7 +27,7 @@ use Rattle.wt_beside_laws.specs.Styled.{StyledContent, mark_source, signs_in, Is
 use Rattle.wt_beside_laws.specs.StyledHeadings.{IsStyledHeading}
 use Rattle.wt_beside_laws.specs.StyledIn.{IsStyledIn, StaysIn, IsStyledFor}
 use Rattle.wt_beside_laws.specs.StyledNodes.{IsPut, AreSomeAndPut}
-use Rattle.wt_beside_laws.proofs.Among.{Each}
+use Rattle.wt_beside_laws.proofs.Each.{Each}
 use Rattle.wt_beside_laws.proofs.CalmContents.{content_utf8, content_unbraced, nowiki_calm}
 use Rattle.wt_beside_laws.proofs.FlatAgain.{EachSource, IsShut, put_shut, from_shut, to_shut}
 use Rattle.wt_beside_laws.proofs.LineItems.{content_lines_are}

@@ -30,7 +30,7 @@ use Rattle.wt_beside_laws.specs.Stood.{things}
 use Rattle.wt_beside_laws.specs.Styled.{StyledContent, signs_in, IsStyledContent}
 use Rattle.wt_beside_laws.specs.StyledIn.{IsFlatIn, sent_for, IsStyledEditOf}
 use Rattle.wt_beside_laws.specs.StyledNodes.{MayEndUrl, IsUrlApart, AreUrlsApart}
-use Rattle.wt_beside_laws.proofs.Among.{Each}
+use Rattle.wt_beside_laws.proofs.Each.{Each}
 use Rattle.wt_beside_laws.proofs.BlockSigns.{flat_block}
 use Rattle.wt_beside_laws.proofs.Made.Making.{known, setting, in_page}
 use Rattle.wt_beside_laws.proofs.Made.OldBlocks.{IsIn}
