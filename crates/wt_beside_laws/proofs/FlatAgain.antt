@@ -1,4 +1,4 @@
--- The lines of a content that is read sign by sign are flat lines again.
+-- What is written of a content, sign by sign, is flat tiles again, and their sources hold what its sources hold.
 use Rattle.std.proofs.Common.{arith, ◌≡◌, ℕ, suc, ◌+◌, ◌==◌, Bool, true, false, Option, Some, None, List, [], ◌∷◌, ◌++◌, length, map, take, drop, refl, sym, ap, ◌∙◌, subst, inl, inr, append-nil}
 use Rattle.std.specs.Prelude.{codes, encode_utf8, if◌then◌else◌}
 use Rattle.std.specs.Fmt.{digits}
@@ -16,14 +16,13 @@ use Rattle.wt_span.specs.Lexemes.{form_at as lexeme_at}
 use Rattle.wt_guards.specs.declared.role.Role.{Role}
 use Rattle.wt_guards.specs.declared.role.Role.TheVariants.{Link, External, Bare, Switch, Toggle, Mark, Group, Function, Node}
 use Rattle.wt_guards.specs.Content.{ContentSign, Thing, letter, thing}
-use Rattle.wt_guards.specs.Guards.{Setting, nowiki, is_guarded, spelled}
-use Rattle.wt_guards.specs.Letters.{is_escaped, reference}
-use Rattle.wt_guards.proofs.Escapes.{is_escapable, escapable, each_escapable}
+use Rattle.wt_guards.specs.Guards.{nowiki}
+use Rattle.wt_guards.specs.Letters.{reference}
+use Rattle.wt_guards.proofs.Escapes.{is_escapable, each_escapable}
 use Rattle.wt_isolation.specs.OpenTags.{ends_open}
 use Rattle.wt_expand.specs.PageItems.{page_items}
 use Rattle.wt_expand.proofs.PageLaws.{page_sources}
-use Rattle.wt_lines.specs.Lines.{lines, AreLines, IsUnbroken}
-use Rattle.wt_lines.proofs.LineLaws.{lines_are}
+use Rattle.wt_lines.specs.Lines.{AreLines, IsUnbroken}
 use Rattle.wt_spelling_laws.proofs.Forms.{comment_other, nowiki_form, reference_form}
 use Rattle.wt_tiles.specs.declared.glyph.Glyph.{Glyph}
 use Rattle.wt_tiles.specs.declared.glyph.Glyph.TheVariants as glyph
@@ -35,30 +34,23 @@ use Rattle.wt_tiles.specs.Contexts.{in_line}
 use Rattle.wt_tiles.specs.Glyphs.{byte_glyphs}
 use Rattle.wt_tiles.specs.Links.{leaf}
 use Rattle.wt_tiles.specs.Tags.{tag_at}
-use Rattle.wt_tiles.specs.Tiles.{size, Cut, chars as run, closed, pair_or_island, shapes, parts as tile_parts, tiles}
+use Rattle.wt_tiles.specs.Tiles.{size, Cut, chars as run, closed, pair_or_island, parts as tile_parts, tiles}
 use Rattle.wt_tiles.specs.Urls.{bare_url_at}
-use Rattle.wt_tiles.proofs.Joining.{tiles_are}
 use Rattle.wt_tiles.proofs.TagInsides.{no_tag}
-use Rattle.wt_context.specs.Line.{context_parts}
-use Rattle.wt_context.specs.Nodes.{segments}
-use Rattle.wt_context.specs.RunCuts.{has_run}
 use Rattle.wt_text_edit_laws.specs.LonePages.{page_chars}
 use Rattle.wt_text_edit_laws.proofs.Texts.TypedItems.{references}
 use Rattle.wt_beside_laws.specs.Content.{AreKept, guard_items, letter_items}
 use Rattle.wt_beside_laws.specs.Cuts.{add_chars, add_tile, own_glyphs, own_form, add_node, guard_cut, letter_cut}
-use Rattle.wt_beside_laws.specs.Flat.{IsFlat, AreFlat, IsFlatContent}
+use Rattle.wt_beside_laws.specs.Flat.{IsFlat}
 use Rattle.wt_beside_laws.specs.Kept.{lexeme, IsKept}
-use Rattle.wt_beside_laws.specs.Lines.{AreCharacters, line_items, later_lines, content_lines}
-use Rattle.wt_beside_laws.specs.Nodes.{IsPair, IsTagNode, IsOneLexeme, IsNode, AreNodes, AllMeet}
-use Rattle.wt_beside_laws.specs.PageBlocks.{AreShut, AreUnstyled}
-use Rattle.wt_beside_laws.specs.PageSigns.{tile_signs, signs_of_tiles, line_signs, signs_of_lines, IsFlatForm, IsFlatTile, AreFlatTiles, HasNoBreak, AreFlatLines}
+use Rattle.wt_beside_laws.specs.Nodes.{IsPair, IsTagNode, IsOneLexeme, IsNode}
+use Rattle.wt_beside_laws.specs.PageBlocks.{AreShut}
+use Rattle.wt_beside_laws.specs.PageSigns.{tile_signs, signs_of_tiles, IsFlatForm, IsFlatTile, AreFlatTiles, HasNoBreak}
 use Rattle.wt_beside_laws.specs.Stood.{OpensNone, OpensNoPair}
 use Rattle.wt_beside_laws.proofs.Contents.{nowiki_reads, reference_reads}
 use Rattle.wt_beside_laws.proofs.Firm.{alone_as}
 use Rattle.wt_beside_laws.proofs.FormKinds.{IsNodeKind, form_is_node}
-use Rattle.wt_beside_laws.proofs.LineItems.{content_lines_are}
-use Rattle.wt_beside_laws.proofs.LineParts.{has_form, glyphs_long, line_cuts, line_unstyled}
-use Rattle.wt_beside_laws.proofs.LineTiles.{line_cut}
+use Rattle.wt_beside_laws.proofs.LineParts.{has_form, glyphs_long}
 use Rattle.wt_beside_laws.proofs.NodesBegin.{no_url}
 use Rattle.wt_beside_laws.proofs.NodesStand.{by_less, opened_shape}
 use Rattle.wt_beside_laws.proofs.PageSigns.{IsFlatKind}
@@ -424,75 +416,7 @@ node_flat Q t c xs f n k g =
     subst (λ (o : Option Shape). FlatCut Q (add_node o (length (own_glyphs t)) c) (page_items t.source ++ xs)) (sym h.alone)
     (tile_flat Q h.shape (page_items t.source) c xs long (node_tile t h.shape f n h.alone) (subst Q (sym (page_sources t.source)) k) g)
 
-line_flat : (Q : List ℕ → Type 0) (p : HoldsOfPut Q) (s : Setting) (before signs : List ContentSign) → AreCharacters signs → EachSource Q signs → AreNodes signs → AreFlat signs
-    → FlatCut Q (line_cut in_line s before signs) (line_items s before signs)
-line_flat Q p s before [] c k n f =
-    subst (FlatCut Q (guard_cut (is_guarded s before []) (0, []))) (append-nil (guard_items (is_guarded s before [])))
-    (guard_flat Q p (is_guarded s before []) (0, []) [] (none_flat Q))
-line_flat Q p s before (letter d ∷ after) c k n f =
-    let e : Bool = is_escaped s.within s.place before d after in
-    let cut : Cut = line_cut in_line s (letter d ∷ before) after in
-    let xs : List Item = line_items s (letter d ∷ before) after in
-    guard_flat Q p (is_guarded s before (letter d ∷ after)) (if d == 10 then (0, []) else letter_cut e d cut) (if d == 10 then [] else letter_items e d ++ xs)
-    (letter_by Q (d == 10) e d cut xs
-    (letter_flat Q p e d cut xs c.0 (escapable s.within s.place before d after) (line_flat Q p s (letter d ∷ before) after c.1 k n f)))
-line_flat Q p s before (thing t ∷ after) c k n f =
-    let cut : Cut = line_cut in_line s (thing t ∷ before) after in
-    let xs : List Item = line_items s (thing t ∷ before) after in
-    guard_flat Q p (is_guarded s before (thing t ∷ after)) (add_node (own_form in_line (own_glyphs t)) (length (own_glyphs t)) cut) (page_items t.source ++ xs)
-    (node_flat Q t cut xs f.0 n.0 k.0 (line_flat Q p s (thing t ∷ before) after c k.1 n.1 f.1))
-
 -- ---- lines
-
--- its forms stay, its sources are so, and it has no style
-record FlatLine (Q : List ℕ → Type 0) (xs : List Item) : Type 0 where
-  tiles : AreFlatTiles (tiles in_line xs)
-  kept : (at : ℕ) → EachSource Q (line_signs at xs)
-  unstyled : has_run (segments context_parts in_line xs) ≡ false
-
-abbrev FlatLines : (List ℕ → Type 0) → List (List Item) → Type 0
-FlatLines Q [] = Unit {0}
-FlatLines Q (l ∷ ls) = FlatLine Q l × FlatLines Q ls
-
--- what is known of the signs behind a place
-record Known (Q : List ℕ → Type 0) (s : Setting) (before signs : List ContentSign) : Type 0 where
-  characters : AreCharacters signs
-  source : EachSource Q signs
-  nodes : AreNodes signs
-  flat : AreFlat signs
-  meet : AllMeet s before signs []
-
-one_line : (Q : List ℕ → Type 0) (p : HoldsOfPut Q) (s : Setting) (before signs : List ContentSign) → Known Q s before signs → FlatLine Q (line_items s before signs)
-unfolding shapes
-one_line Q p s before signs k =
-    let xs : List Item = line_items s before signs in
-    let cut : Cut = line_cut in_line s before signs in
-    let is : tile_parts (closed cut.0 cut.1) xs ≡ tiles in_line xs =
-    ap (λ (d : Cut). tile_parts (closed d.0 d.1) xs) (sym (line_cuts s before signs k.nodes k.meet)) ∙ sym (tiles_are in_line xs) in
-    let g : FlatShapes Q (tiles in_line xs) =
-    subst (FlatShapes Q) is (closed_flat Q cut xs (line_flat Q p s before signs k.characters k.source k.nodes k.flat)) in
-    record { tiles = g.tiles; kept = g.kept; unstyled = line_unstyled s before signs k.nodes k.flat k.meet }
-
-later_flat : (Q : List ℕ → Type 0) (p : HoldsOfPut Q) (s : Setting) (before signs : List ContentSign) → Known Q s before signs → FlatLines Q (later_lines s before signs)
-later_flat Q p s before [] k = tt
-later_flat Q p s before (letter d ∷ after) k =
-    let more : Known Q s (letter d ∷ before) after =
-    record { characters = k.characters.1; source = k.source; nodes = k.nodes; flat = k.flat; meet = k.meet.1 } in
-    later_by (d == 10) (line_items s (letter d ∷ before) after) (later_lines s (letter d ∷ before) after)
-    (one_line Q p s (letter d ∷ before) after more) (later_flat Q p s (letter d ∷ before) after more)
-  where
-    later_by : (t : Bool) (l : List Item) (ls : List (List Item)) → FlatLine Q l → FlatLines Q ls → FlatLines Q (if t then l ∷ ls else ls)
-    later_by true l ls h g = (h, g)
-    later_by false l ls h g = g
-later_flat Q p s before (thing t ∷ after) k =
-    later_flat Q p s (thing t ∷ before) after
-    (record { characters = k.characters; source = k.source.1; nodes = k.nodes.1; flat = k.flat.1; meet = k.meet.1 })
-
-all_flat : (Q : List ℕ → Type 0) (p : HoldsOfPut Q) (s : Setting) (signs : List ContentSign) → IsFlatContent s signs → EachSource Q signs
-    → FlatLines Q (content_lines s signs)
-all_flat Q p s signs h q =
-    let k : Known Q s [] signs = record { characters = h.characters; source = q; nodes = h.nodes; flat = h.flat; meet = h.meet } in
-    (one_line Q p s [] signs k, later_flat Q p s [] signs k)
 
 -- no line goes on over its end
 no_break : (xs : List Item) → IsUnbroken xs → HasNoBreak xs
@@ -508,11 +432,6 @@ pub unbroken_lines : (ls : List (List Item)) (xs : List Item) → AreLines ls xs
 unbroken_lines [] xs h = tt
 unbroken_lines (l ∷ []) xs h = (no_break l h.0, tt)
 unbroken_lines (l ∷ m ∷ ls) xs h = (no_break l h.0, unbroken_lines (m ∷ ls) h.2 h.5)
-
-all_unbroken : (s : Setting) (signs : List ContentSign) → IsFlatContent s signs → Unbroken (content_lines s signs)
-all_unbroken s signs h =
-    let xs : List Item = page_items (spelled s signs) in
-    subst Unbroken (content_lines_are s signs h.kept h.unbroken) (unbroken_lines (lines xs) xs (lines_are xs))
 
 -- ---- in other words
 
@@ -535,39 +454,3 @@ pub to_shut : (signs : List ContentSign) → EachSource IsShut signs → AreShut
 to_shut [] h = tt
 to_shut (letter c ∷ after) h = to_shut after h
 to_shut (thing t ∷ after) h = (h.0, to_shut after h.1)
-
-flat_lines : (Q : List ℕ → Type 0) (ls : List (List Item)) → Unbroken ls → FlatLines Q ls → AreFlatLines ls
-flat_lines Q [] b f = tt
-flat_lines Q (l ∷ ls) b f = (b.0, f.0.tiles, flat_lines Q ls b.1 f.1)
-
-unstyled_lines : (Q : List ℕ → Type 0) (ls : List (List Item)) → FlatLines Q ls → AreUnstyled ls
-unstyled_lines Q [] f = tt
-unstyled_lines Q (l ∷ ls) f = (f.0.unstyled, unstyled_lines Q ls f.1)
-
-so_lines : (Q : List ℕ → Type 0) (at : ℕ) (ls : List (List Item)) → FlatLines Q ls → EachSource Q (signs_of_lines at ls)
-so_lines Q at [] f = tt
-so_lines Q at (l ∷ []) f = f.0.kept at
-so_lines Q at (l ∷ m ∷ ls) f =
-    so_both Q (line_signs at l) (letter 10 ∷ signs_of_lines (at + length (sources l) + 1) (m ∷ ls)) (f.0.kept at)
-    (so_lines Q (at + length (sources l) + 1) (m ∷ ls) f.1)
-
--- whatever holds of each source, and of what is put, holds of the sources of the new lines
-pub again_each : (Q : List ℕ → Type 0) (p : HoldsOfPut Q) (at : ℕ) (s : Setting) (signs : List ContentSign) → IsFlatContent s signs → EachSource Q signs
-    → EachSource Q (signs_of_lines at (content_lines s signs))
-again_each Q p at s signs h q = so_lines Q at (content_lines s signs) (all_flat Q p s signs h q)
-
-kept_content : (s : Setting) (signs : List ContentSign) → IsFlatContent s signs → FlatLines IsKept (content_lines s signs)
-kept_content s signs h = all_flat IsKept put_kept s signs h (from_kept signs h.kept)
-
-pub again_flat : (s : Setting) (signs : List ContentSign) → IsFlatContent s signs → AreFlatLines (content_lines s signs)
-again_flat s signs h = flat_lines IsKept (content_lines s signs) (all_unbroken s signs h) (kept_content s signs h)
-
-pub again_unstyled : (s : Setting) (signs : List ContentSign) → IsFlatContent s signs → AreUnstyled (content_lines s signs)
-again_unstyled s signs h = unstyled_lines IsKept (content_lines s signs) (kept_content s signs h)
-
-pub again_kept : (at : ℕ) (s : Setting) (signs : List ContentSign) → IsFlatContent s signs → AreKept (signs_of_lines at (content_lines s signs))
-again_kept at s signs h = to_kept (signs_of_lines at (content_lines s signs)) (so_lines IsKept at (content_lines s signs) (kept_content s signs h))
-
-pub again_shut : (at : ℕ) (s : Setting) (signs : List ContentSign) → IsFlatContent s signs → AreShut signs → AreShut (signs_of_lines at (content_lines s signs))
-again_shut at s signs h k =
-    to_shut (signs_of_lines at (content_lines s signs)) (so_lines IsShut at (content_lines s signs) (all_flat IsShut put_shut s signs h (from_shut signs k)))

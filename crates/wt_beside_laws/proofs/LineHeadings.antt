@@ -1,4 +1,4 @@
--- A content of a heading is on one line, begins and ends with no blank, and is read there as its signs.
+-- A content of a heading is on one line, begins and ends with no blank, and keeps its level.
 use Rattle.std.proofs.Common.{arith, ◌≡◌, ℕ, ◌<◌, ◌≤◌, ◌==◌, Bool, true, false, List, [], ◌∷◌, ◌++◌, length, map, refl, sym, ap, ◌∙◌, subst, append-nil, inl, inr, ◌⊎◌, All}
 use Rattle.std.specs.Prelude.{◌||◌, if◌then◌else◌, encode_utf8}
 use Rattle.std.proofs.lemmas.Bool.{cases_lt}
@@ -16,23 +16,17 @@ use Rattle.wt_spelling_laws.proofs.Lines.{end_guarded}
 use Rattle.wt_spelling_laws.proofs.TextKinds.{OpensText}
 use Rattle.wt_expand.specs.PageItems.{page_items}
 use Rattle.wt_lines.specs.Lines.{IsUnbroken}
-use Rattle.wt_inline.specs.declared.loose.Loose.TheVariants.{Text}
-use Rattle.wt_inline.specs.Parts.{Part, parts}
-use Rattle.wt_context.specs.Line.{line_parts}
-use Rattle.wt_headings.specs.Headings.{heading}
 use Rattle.wt_text_edit_laws.specs.LonePages.{page_chars}
-use Rattle.wt_text_edit_laws.specs.TypedHeadings.{Sides, AreBlanks, AreSides, heading_line, IsOfLevel, NoBreaks, BeginsWithout, EndsWithout, is_equals_sign, IsHeadingInside}
-use Rattle.wt_text_edit_laws.proofs.Headings.HeadingRows.{round_is, apart_level}
+use Rattle.wt_text_edit_laws.specs.TypedHeadings.{Sides, AreBlanks, AreSides, IsOfLevel, NoBreaks, BeginsWithout, EndsWithout, is_equals_sign, IsHeadingInside}
+use Rattle.wt_text_edit_laws.proofs.Headings.HeadingRows.{apart_level}
 use Rattle.wt_text_edit_laws.proofs.Headings.TypedTexts.{end_by, no_equals, begins_other, begins_still, ends_still, ends_blank, ends_other, ends_behind as behind_other}
 use Rattle.wt_beside_laws.specs.Content.{AreKept, guard_items, letter_items, content_items}
-use Rattle.wt_beside_laws.specs.Flat.{content_parts, line_content}
-use Rattle.wt_beside_laws.specs.InHeadings.{AreOnOneLine, IsHeadingContent, LastEndsUnequal, IsSome, KeepsLevel, heading_of}
+use Rattle.wt_beside_laws.specs.InHeadings.{AreOnOneLine, IsHeadingContent, LastEndsUnequal, IsSome, KeepsLevel}
 use Rattle.wt_beside_laws.specs.Lines.{AreCharacters, AreUnbroken, line_items}
 use Rattle.wt_beside_laws.specs.Nodes.{AreNodes}
 use Rattle.wt_beside_laws.proofs.Contents.{content_alone}
 use Rattle.wt_beside_laws.proofs.LineItems.{letter_unbroken}
 use Rattle.wt_beside_laws.proofs.LineKinds.{Opens, line_opens}
-use Rattle.wt_beside_laws.proofs.LineParts.{line_parts_are}
 use Rattle.wt_beside_laws.proofs.NodeEnds.{EndInSigns, nodes_end, ends_unequal}
 
 -- ---- one line
@@ -71,16 +65,6 @@ same_items s before (letter c ∷ after) o =
     ∙ ap (λ xs. guard ++ (own ++ xs)) (same_items s (letter c ∷ before) after o.1)
 same_items s before (thing t ∷ after) o =
     ap (λ xs. guard_items (is_guarded s before (thing t ∷ after)) ++ (page_items t.source ++ xs)) (same_items s (thing t ∷ before) after o)
-
-pub same_parts : (s : Setting) (before signs : List ContentSign) → AreOnOneLine signs → line_content s before signs ≡ content_parts s before signs
-same_parts s before [] o = refl
-same_parts s before (letter c ∷ after) o =
-    let guard : List Part = parts Text (guard_items (is_guarded s before (letter c ∷ after))) in
-    let own : List Part = parts Text (letter_items (is_escaped s.within s.place before c after) c) in
-    ap (λ (t : Bool). guard ++ (if t then [] else own ++ line_content s (letter c ∷ before) after)) o.0
-    ∙ ap (λ ps. guard ++ (own ++ ps)) (same_parts s (letter c ∷ before) after o.1)
-same_parts s before (thing t ∷ after) o =
-    ap (λ ps. parts Text (guard_items (is_guarded s before (thing t ∷ after))) ++ (line_parts (page_items t.source) ++ ps)) (same_parts s (thing t ∷ before) after o)
 
 -- ---- what is first
 
@@ -241,16 +225,3 @@ level_by s signs sides block kept characters nodes one a k =
 pub content_level : (s : Setting) (signs : List ContentSign) (sides : Sides) → IsHeadingContent s signs → AreSides sides → KeepsLevel sides signs
     → IsOfLevel sides (page_items (spelled s signs))
 content_level s signs sides h a k = level_by s signs sides h.flat.of_block h.flat.kept h.flat.characters h.flat.nodes h.one_line a k
-
--- ---- what it is
-
-pub heading_parts : (s : Setting) (signs : List ContentSign) → IsHeadingContent s signs → line_parts (page_items (spelled s signs)) ≡ content_parts s [] signs
-heading_parts s signs h =
-    ap line_parts (content_alone s signs h.flat.kept ∙ sym (same_items s [] signs h.one_line))
-    ∙ line_parts_are s [] signs h.flat.nodes h.flat.flat h.flat.meet
-    ∙ same_parts s [] signs h.one_line
-
-pub heading_tree : (s : Setting) (signs : List ContentSign) (sides : Sides) → IsHeadingContent s signs → AreSides sides → IsOfLevel sides (page_items (spelled s signs))
-    → heading (heading_line sides (page_items (spelled s signs))) ≡ heading_of sides (content_parts s [] signs)
-heading_tree s signs sides h a p =
-    round_is sides (page_items (spelled s signs)) a (heading_inside s signs h) p ∙ ap (heading_of sides) (heading_parts s signs h)

@@ -1,37 +1,27 @@
--- A content without styles is one paragraph.
-use Rattle.std.proofs.Common.{arith, ◌≡◌, ℕ, ◌+◌, Bool, true, false, List, [], ◌∷◌, ◌++◌, map, refl, sym, ap, ◌∙◌, subst, append-nil, All}
+-- Lines of text are one paragraph.
+use Rattle.std.proofs.Common.{arith, ◌≡◌, ℕ, ◌+◌, Bool, true, false, List, [], ◌∷◌, ◌++◌, map, refl, sym, ap, ◌∙◌, append-nil, All}
 use Rattle.std.specs.Prelude.{if◌then◌else◌}
 use Rattle.std.proofs.lemmas.List.Elements.{All-nil, All-cons, All-head, All-tail}
 use Rattle.wt_tree.specs.declared.kind.Kind.TheVariants as kind
 use Rattle.wt_span.specs.Items.{Item, is_mark}
 use Rattle.wt_span.specs.Runs.{AreRuns}
-use Rattle.wt_span.proofs.RunLaws.{runs_are}
-use Rattle.wt_guards.specs.Content.{ContentSign}
-use Rattle.wt_guards.specs.Guards.{Setting, spelled}
-use Rattle.wt_expand.specs.PageItems.{page_items}
 use Rattle.wt_lines.specs.declared.kind.LineKind.{LineKind}
 use Rattle.wt_lines.specs.declared.kind.LineKind.TheVariants as line
 use Rattle.wt_lines.specs.declared.kind.TheConstants.{MOST_TABLES}
-use Rattle.wt_lines.specs.Lines.{full_lines, content, empty_end, is_break_item, goes_on}
+use Rattle.wt_lines.specs.Lines.{content, empty_end, is_break_item, goes_on}
 use Rattle.wt_lines.specs.Kinds.{kind_of_signs, line_kind}
-use Rattle.wt_lines.proofs.FullLines.{same_lines}
 use Rattle.wt_tables.specs.Extents.{behind}
 use Rattle.wt_headings.specs.Lines.{ending}
 use Rattle.wt_inline.specs.ItemTree.{plain, ItemTree, inner, nothing, further, forest}
 use Rattle.wt_inline.specs.Parts.{Part, children}
-use Rattle.wt_page.specs.Rows.{Row, marks_len, whole_row, line_rows, rows_from, rows, last_ending}
+use Rattle.wt_page.specs.Rows.{Row, marks_len, whole_row, line_rows, rows_from, last_ending}
 use Rattle.wt_page.specs.Stretches.{Stretch, gap, tree_block, stretches_parts}
 use Rattle.wt_page.specs.Texts.{para_parts, para}
-use Rattle.wt_page.specs.Body.{within, blocks, meaning}
+use Rattle.wt_page.specs.Body.{within}
 use Rattle.wt_text_edit_laws.specs.ParagraphBetween.{body_with}
 use Rattle.wt_text_edit_laws.proofs.Texts.PlainRows.{text_row, within_are}
-use Rattle.wt_beside_laws.specs.Flat.{IsFlatContent, content_parts}
 use Rattle.wt_text_edit_laws.specs.ParagraphParts.{para_with}
-use Rattle.wt_beside_laws.specs.Lines.{IsLineOfText, line_items, later_lines}
-use Rattle.wt_beside_laws.proofs.Contents.{content_alone}
-use Rattle.wt_beside_laws.proofs.LineItems.{content_lines_are}
-use Rattle.wt_beside_laws.proofs.LineKinds.{lines_are_text}
-use Rattle.wt_beside_laws.proofs.LineRows.{OwnBreaks, rows_parts, content_own, lines_joined}
+use Rattle.wt_beside_laws.specs.Lines.{IsLineOfText}
 
 -- ---- lines of text
 
@@ -115,40 +105,9 @@ last_none l ((y ∷ m) ∷ ls) xs r e =
 
 -- ---- the content
 
-pub record Paragraph (s : Setting) (signs : List ContentSign) (xs : List Item) : Type 0 where
-  pub text : (n : ℕ) → All (IsLineOfText n) (map content (full_lines xs))
-  pub closed : empty_end xs ≡ []
-  pub parts : para_parts (map text_row (full_lines xs)) ≡ content_parts s [] signs
-
-pub flat_paragraph : (s : Setting) (signs : List ContentSign) → IsFlatContent s signs → Paragraph s signs (page_items (spelled s signs))
-flat_paragraph s signs h =
-    let xs : List Item = page_items (spelled s signs) in
-    let is = content_lines_are s signs h.kept h.unbroken in
-    let all : (n : ℕ) → All (IsLineOfText n) (map content (full_lines xs) ++ empty_end xs) =
-    λ n. subst (All (IsLineOfText n)) (sym is ∙ same_lines xs) (lines_are_text n s signs h.of_block h.characters h.nodes) in
-    let closed : empty_end xs ≡ [] = no_end 0 xs (rest_all (IsLineOfText 0) (map content (full_lines xs)) (empty_end xs) (all 0)) in
-    let own : OwnBreaks xs = subst OwnBreaks (sym (content_alone s signs h.kept)) (content_own s [] signs h.unbroken) in
-    record {
-      text = λ n. front_all (IsLineOfText n) (map content (full_lines xs)) (empty_end xs) (all n);
-      closed = closed;
-      parts = rows_parts xs (line_items s [] signs) (later_lines s [] signs) own closed is ∙ lines_joined s [] signs h.nodes h.flat h.meet;
-    }
-
-pub rows_are : (s : Setting) (signs : List ContentSign) → IsFlatContent s signs
-    → rows (page_items (spelled s signs)) ≡ map text_row (full_lines (page_items (spelled s signs)))
-unfolding rows
-rows_are s signs h =
-    let ls : List (List Item) = full_lines (page_items (spelled s signs)) in
-    ap (rows_from 0) (sym (append-nil ls)) ∙ rows_text 0 ls [] ((flat_paragraph s signs h).text 0) ∙ append-nil (map text_row ls)
-
 pub para_by : (rs : List Row) (ps : List Part) → para_parts rs ≡ ps → para rs ≡ para_with ps
 unfolding para
 para_by rs ps e = ap (λ qs. inner (plain kind.Para) [] (forest (children qs)) []) e
-
-pub para_is : (s : Setting) (signs : List ContentSign) → IsFlatContent s signs → para (rows (page_items (spelled s signs))) ≡ para_with (content_parts s [] signs)
-para_is s signs h =
-    let ls : List (List Item) = full_lines (page_items (spelled s signs)) in
-    ap para (rows_are s signs h) ∙ para_by (map text_row ls) (content_parts s [] signs) (flat_paragraph s signs h).parts
 
 abbrev pub body_of : List Stretch → ItemTree
 body_of ss = inner (plain kind.Body) [] (forest (children (stretches_parts ss))) []
@@ -161,13 +120,3 @@ body_by (l ∷ ls) xs t r e p =
     ap body_of (within_are MOST_TABLES l ls)
     ∙ ap (λ ys. body_of (gap [] ∷ tree_block (para (map text_row (l ∷ ls))) ∷ gap ys ∷ [])) (last_none l ls xs r e)
     ∙ ap (λ u. inner (plain kind.Body) [] (further u nothing) []) p
-
-pub meaning_is : (s : Setting) (signs : List ContentSign) → IsFlatContent s signs
-    → meaning (page_items (spelled s signs)) ≡ body_with (para_with (content_parts s [] signs) ∷ [])
-unfolding meaning blocks
-meaning_is s signs h =
-    let xs : List Item = page_items (spelled s signs) in
-    let p = flat_paragraph s signs h in
-    ap (λ rs. body_of (within MOST_TABLES rs)) (rows_are s signs h)
-    ∙ body_by (full_lines xs) xs (para_with (content_parts s [] signs)) (runs_are goes_on xs) p.closed
-    (para_by (map text_row (full_lines xs)) (content_parts s [] signs) p.parts)

@@ -20,12 +20,9 @@ use Rattle.wt_page.specs.Texts.{para_parts}
 use Rattle.wt_text_edit_laws.specs.LonePages.{page_chars}
 use Rattle.wt_text_edit_laws.proofs.Texts.PlainRows.{text_row}
 use Rattle.wt_beside_laws.specs.Content.{guard_items, letter_items, content_items}
-use Rattle.wt_beside_laws.specs.Flat.{AreFlat, content_parts, line_content}
-use Rattle.wt_beside_laws.specs.Lines.{AreUnbroken, line_items, later_lines}
-use Rattle.wt_beside_laws.specs.Nodes.{AreNodes, AllMeet}
+use Rattle.wt_beside_laws.specs.Lines.{AreUnbroken}
 use Rattle.wt_text_edit_laws.specs.ParagraphParts.{after_breaks, joined_parts}
 use Rattle.wt_beside_laws.proofs.LineItems.{break_items}
-use Rattle.wt_beside_laws.proofs.LineParts.{line_parts_are}
 
 abbrev break : Item
 break = char None 10
@@ -107,25 +104,10 @@ content_own s before (thing t ∷ after) u =
     (guard_own (is_guarded s before (thing t ∷ after)))
     (own_both (page_items t.source) (content_items s (thing t ∷ before) after) (unbroken_own (page_items t.source) u.0) (content_own s (thing t ∷ before) after u.1))
 
-abbrev later_content : Setting → List ContentSign → List ContentSign → List Part
-later_content s before [] = []
-later_content s before (letter c ∷ after) =
-    if c == 10 then parts Text (break ∷ []) ++ (line_content s (letter c ∷ before) after ++ later_content s (letter c ∷ before) after)
-    else later_content s (letter c ∷ before) after
-later_content s before (thing t ∷ after) = later_content s (thing t ∷ before) after
-
 pub later_by : (t : Bool) (l : List Item) (ls : List (List Item)) (own more : List Part) → line_parts l ≡ own → after_breaks ls ≡ more
     → after_breaks (if t then l ∷ ls else ls) ≡ (if t then parts Text (break ∷ []) ++ (own ++ more) else more)
 later_by true l ls own more e f = ap (λ ps. parts Text (break ∷ []) ++ (ps ++ after_breaks ls)) e ∙ ap (λ ps. parts Text (break ∷ []) ++ (own ++ ps)) f
 later_by false l ls own more e f = f
-
-later_are : (s : Setting) (before signs : List ContentSign) → AreNodes signs → AreFlat signs → AllMeet s before signs []
-    → after_breaks (later_lines s before signs) ≡ later_content s before signs
-later_are s before [] n f m = refl
-later_are s before (letter c ∷ after) n f m =
-    later_by (c == 10) (line_items s (letter c ∷ before) after) (later_lines s (letter c ∷ before) after) (line_content s (letter c ∷ before) after)
-    (later_content s (letter c ∷ before) after) (line_parts_are s (letter c ∷ before) after n f m.1) (later_are s (letter c ∷ before) after n f m.1)
-later_are s before (thing t ∷ after) n f m = later_are s (thing t ∷ before) after n.1 f.1 m.1
 
 -- a line and what follows it
 pub both_by : (t : Bool) (own line later all : List Part) → (t ≡ true → own ≡ parts Text (break ∷ [])) → line ++ later ≡ all
@@ -139,26 +121,3 @@ break_parts s before c after e =
     let is : 10 ≡ c = grind (arith, nat_tests, e) in
     subst (λ (k : ℕ). parts Text (letter_items (is_escaped s.within s.place before k after) k) ≡ parts Text (break ∷ [])) is
     (ap (parts Text) (break_items s.within s.place before after))
-
-content_joined : (s : Setting) (before signs : List ContentSign) → line_content s before signs ++ later_content s before signs ≡ content_parts s before signs
-content_joined s before [] = append-nil (parts Text (guard_items (is_guarded s before [])))
-content_joined s before (letter c ∷ after) =
-    let own : List Part = parts Text (letter_items (is_escaped s.within s.place before c after) c) in
-    let line : List Part = line_content s (letter c ∷ before) after in
-    let later : List Part = later_content s (letter c ∷ before) after in
-    let guard : List Part = parts Text (guard_items (is_guarded s before (letter c ∷ after))) in
-    append_assoc guard (if c == 10 then [] else own ++ line) (if c == 10 then parts Text (break ∷ []) ++ (line ++ later) else later)
-    ∙ ap (λ ps. guard ++ ps)
-    (both_by (c == 10) own line later (content_parts s (letter c ∷ before) after) (break_parts s before c after) (content_joined s (letter c ∷ before) after))
-content_joined s before (thing t ∷ after) =
-    let own : List Part = line_parts (page_items t.source) in
-    let line : List Part = line_content s (thing t ∷ before) after in
-    let later : List Part = later_content s (thing t ∷ before) after in
-    let guard : List Part = parts Text (guard_items (is_guarded s before (thing t ∷ after))) in
-    append_assoc guard (own ++ line) later ∙ ap (λ ps. guard ++ ps) (append_assoc own line later ∙ ap (λ ps. own ++ ps) (content_joined s (thing t ∷ before) after))
-
-pub lines_joined : (s : Setting) (before signs : List ContentSign) → AreNodes signs → AreFlat signs → AllMeet s before signs []
-    → joined_parts (line_items s before signs ∷ later_lines s before signs) ≡ content_parts s before signs
-lines_joined s before signs n f m =
-    ap (λ ps. ps ++ after_breaks (later_lines s before signs)) (line_parts_are s before signs n f m)
-    ∙ ap (λ ps. line_content s before signs ++ ps) (later_are s before signs n f m) ∙ content_joined s before signs

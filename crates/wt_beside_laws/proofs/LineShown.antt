@@ -1,4 +1,4 @@
--- A content without styles shows its texts, and its nodes as each is shown by itself.
+-- What parts of texts show, one by one: characters, references, and the nowikis that are put.
 use Rattle.std.proofs.Common.{◌≡◌, ℕ, ◌+◌, Bool, true, false, None, Option, List, [], ◌∷◌, ◌++◌, map, refl, sym, ap, ◌∙◌, append_assoc, append-nil, subst}
 use Rattle.std.specs.Prelude.{encode_utf8}
 use Rattle.std.specs.List.{flat_map}
@@ -9,16 +9,13 @@ use Rattle.wt_span.specs.Items.{Item}
 use Rattle.wt_span.specs.Runs.{IsRun, AreRuns, runs}
 use Rattle.wt_span.specs.Tags.{opening_tag, tag_after}
 use Rattle.wt_span.proofs.RunLaws.{runs_are}
-use Rattle.wt_guards.specs.Content.{ContentSign, letter, thing}
-use Rattle.wt_guards.specs.Guards.{Setting, nowiki, is_guarded}
-use Rattle.wt_guards.specs.Letters.{is_escaped, reference}
-use Rattle.wt_expand.specs.PageItems.{page_items}
+use Rattle.wt_guards.specs.Guards.{nowiki}
+use Rattle.wt_guards.specs.Letters.{reference}
 use Rattle.wt_inline.specs.declared.loose.Loose.TheVariants.{Text, Sep}
 use Rattle.wt_inline.specs.Carried.{shown_item}
 use Rattle.wt_inline.specs.ItemTree.{plain, ItemTree, inner, nothing, forest, tree_items}
 use Rattle.wt_inline.specs.Parts.{Part, loose, node, held_parts, one_leaf, child, children, form_leaf, nowiki as nowiki_tree, parts}
-use Rattle.wt_context.specs.Line.{line_parts}
-use Rattle.wt_context.proofs.PlainNodes.{AreTexts, texts_both, texts_first, texts_rest, text_parts}
+use Rattle.wt_context.proofs.PlainNodes.{AreTexts, texts_first, texts_rest, text_parts}
 use Rattle.wt_annotated.specs.CutTexts.{all_cut_texts}
 use Rattle.wt_annotated.specs.Labels.{label_at}
 use Rattle.wt_annotated.specs.Numbering.{count, all_with_numbers}
@@ -27,10 +24,7 @@ use Rattle.wt_moved_laws.specs.Standing.{standing}
 use Rattle.wt_moved_laws.proofs.Moved.{shows_the_same}
 use Rattle.wt_text_edit_laws.specs.LonePages.{page_chars}
 use Rattle.wt_beside_laws.specs.Content.{guard_items, letter_items}
-use Rattle.wt_beside_laws.specs.Flat.{AreFlat, IsFlatContent, content_parts}
-use Rattle.wt_beside_laws.specs.Nodes.{AreNodes}
-use Rattle.wt_beside_laws.specs.Shown.{parts_shown_at, content_shown}
-use Rattle.wt_beside_laws.proofs.LineParts.{node_texts}
+use Rattle.wt_beside_laws.specs.Shown.{parts_shown_at}
 
 -- ---- the parts, one by one
 
@@ -117,39 +111,3 @@ letter_shows false c ps rest =
 
 pub guard_texts : (u : Bool) → AreTexts (parts Text (guard_items u))
 guard_texts u = text_parts (guard_items u)
-
-content_texts : (s : Setting) (before signs : List ContentSign) → AreNodes signs → AreFlat signs → AreTexts (content_parts s before signs)
-content_texts s before [] n f = guard_texts (is_guarded s before [])
-content_texts s before (letter c ∷ after) n f =
-    let own : List Item = letter_items (is_escaped s.within s.place before c after) c in
-    let more : List Part = content_parts s (letter c ∷ before) after in
-    texts_both (parts Text (guard_items (is_guarded s before (letter c ∷ after)))) (parts Text own ++ more) (guard_texts (is_guarded s before (letter c ∷ after)))
-    (texts_both (parts Text own) more (text_parts own) (content_texts s (letter c ∷ before) after n f))
-content_texts s before (thing t ∷ after) n f =
-    let own : List Part = line_parts (page_items t.source) in
-    let more : List Part = content_parts s (thing t ∷ before) after in
-    texts_both (parts Text (guard_items (is_guarded s before (thing t ∷ after)))) (own ++ more) (guard_texts (is_guarded s before (thing t ∷ after)))
-    (texts_both own more (node_texts t f.0 n.0) (content_texts s (thing t ∷ before) after n.1 f.1))
-
-content_shows : (s : Setting) (before signs : List ContentSign) (rest : Plains) → AreNodes signs → AreFlat signs
-    → one_by_one (content_parts s before signs) rest ≡ content_shown signs rest
-content_shows s before [] rest n f =
-    ap (λ ps. one_by_one ps rest) (sym (append-nil (parts Text (guard_items (is_guarded s before []))))) ∙ guard_shows (is_guarded s before []) [] rest
-content_shows s before (letter c ∷ after) rest n f =
-    let own : List Item = letter_items (is_escaped s.within s.place before c after) c in
-    let more : List Part = content_parts s (letter c ∷ before) after in
-    guard_shows (is_guarded s before (letter c ∷ after)) (parts Text own ++ more) rest
-    ∙ letter_shows (is_escaped s.within s.place before c after) c more rest
-    ∙ ap (text_before (encode_utf8 c)) (content_shows s (letter c ∷ before) after rest n f)
-content_shows s before (thing t ∷ after) rest n f =
-    let own : List Part = line_parts (page_items t.source) in
-    let more : List Part = content_parts s (thing t ∷ before) after in
-    guard_shows (is_guarded s before (thing t ∷ after)) (own ++ more) rest
-    ∙ shown_append own more rest
-    ∙ ap (one_by_one own) (content_shows s (thing t ∷ before) after rest n.1 f.1)
-    ∙ sym (children_show 0 [] own (content_shown after rest) (node_texts t f.0 n.0))
-
-pub content_is_shown : (n : ℕ) (before : List Item) (s : Setting) (signs : List ContentSign) (rest : Plains) → IsFlatContent s signs
-    → parts_shown_at n before (content_parts s [] signs) rest ≡ content_shown signs rest
-content_is_shown n before s signs rest h =
-    children_show n before (content_parts s [] signs) rest (content_texts s [] signs h.nodes h.flat) ∙ content_shows s [] signs rest h.nodes h.flat

@@ -1,13 +1,10 @@
--- A content between other lines of a page: its lines are rows of text, and it is one paragraph, or a heading.
+-- Lines of text between other lines of a page: they are rows of text, and one paragraph.
 use Rattle.std.proofs.Common.{◌≡◌, ℕ, true, None, List, [], ◌∷◌, ◌++◌, map, refl, sym, ap, ◌∙◌, subst, append-nil, All}
 use Rattle.std.proofs.lemmas.List.Elements.{All-nil, All-cons, All-head, All-tail}
 use Rattle.wt_tree.specs.declared.kind.Kind.TheVariants as kind
 use Rattle.wt_span.specs.Items.{Item, char}
 use Rattle.wt_span.specs.Runs.{AreRuns}
 use Rattle.wt_span.proofs.RunLaws.{runs_are, runs_only}
-use Rattle.wt_guards.specs.Content.{ContentSign}
-use Rattle.wt_guards.specs.Guards.{Setting, spelled}
-use Rattle.wt_expand.specs.PageItems.{page_items}
 use Rattle.wt_lines.specs.declared.kind.TheConstants.{MOST_TABLES}
 use Rattle.wt_lines.specs.Lines.{full_lines, content, empty_end, is_break_item, goes_on}
 use Rattle.wt_headings.specs.Lines.{ending}
@@ -19,20 +16,14 @@ use Rattle.wt_page.specs.Stretches.{stretches_parts}
 use Rattle.wt_page.specs.Texts.{para}
 use Rattle.wt_page.specs.Body.{blocks, body_parts, meaning}
 use Rattle.wt_rows.proofs.Portions.{no_parts, breaks_first}
-use Rattle.wt_text_edit_laws.specs.ParagraphBetween.{AreClosed, before_marks, EndsApart, EndsParagraph, blocks_in, body_with}
-use Rattle.wt_text_edit_laws.specs.TypedHeadings.{Sides, AreSides, heading_line, IsOfLevel, EndsLine}
-use Rattle.wt_text_edit_laws.proofs.Headings.HeadingRows.{round_stands}
+use Rattle.wt_text_edit_laws.specs.ParagraphBetween.{EndsApart, EndsParagraph, blocks_in, body_with}
 use Rattle.wt_text_edit_laws.proofs.Paragraphs.Apart.{BeginsText, after_text}
 use Rattle.wt_text_edit_laws.proofs.Paragraphs.Standing.{parts_in, parts_before, round_node, body_is}
 use Rattle.wt_text_edit_laws.proofs.Prose.ProseLines.{ended, first_ended, rest_ended, ended_runs, content_ended}
 use Rattle.wt_text_edit_laws.proofs.Prose.ProseBlocks.{para_ended, last_ended, last_unended}
 use Rattle.wt_text_edit_laws.proofs.Texts.PlainRows.{text_row, within_are, last_break}
-use Rattle.wt_beside_laws.specs.Flat.{IsFlatContent, content_parts}
-use Rattle.wt_text_edit_laws.specs.ParagraphParts.{para_with}
-use Rattle.wt_beside_laws.specs.InHeadings.{IsHeadingContent, heading_of}
 use Rattle.wt_beside_laws.specs.Lines.{IsLineOfText}
-use Rattle.wt_beside_laws.proofs.LineHeadings.{heading_inside, heading_parts}
-use Rattle.wt_beside_laws.proofs.LineParagraphs.{rows_text, last_none, flat_paragraph, para_by}
+use Rattle.wt_beside_laws.proofs.LineParagraphs.{rows_text, last_none}
 
 abbrev break : Item
 break = char None 10
@@ -55,13 +46,6 @@ pub lines_by : (xs : List Item) (t : ItemTree) (ls : List (List Item)) → full_
 lines_by xs t [] i r e a p = let no : one_empty ≡ [] = sym (ap empty_end r) ∙ e in cc
 lines_by xs t (l ∷ ls) i r e a p =
     record { first = l; others = ls; are = i; text = a; unended = sym (last_unended l ls) ∙ last_none l ls xs r e; makes = p }
-
-lines_of : (s : Setting) (signs : List ContentSign) → IsFlatContent s signs → ContentLines (page_items (spelled s signs)) (para_with (content_parts s [] signs))
-lines_of s signs h =
-    let xs : List Item = page_items (spelled s signs) in
-    let p = flat_paragraph s signs h in
-    lines_by xs (para_with (content_parts s [] signs)) (full_lines xs) refl (runs_are goes_on xs) p.closed p.text
-    (para_by (map text_row (full_lines xs)) (content_parts s [] signs) p.parts)
 
 -- with a line break behind the last
 ended_all : (n : ℕ) (l : List Item) (ls : List (List Item)) → All (IsLineOfText n) (map content (l ∷ ls)) → last_break (ending l) ls ≡ []
@@ -148,17 +132,3 @@ stands_so before own tail t a c e =
     let all : parts_in (before ++ (own ++ tail)) ≡ parts_in before ++ node t ∷ parts_in tail =
     parts_before before (own ++ tail) a (begins_text own tail t c e) ∙ ap (λ ps. parts_in before ++ ps) (stands_parts own tail t c e) in
     body_is (before ++ (own ++ tail)) (parts_in before ++ node t ∷ parts_in tail) all ∙ ap body_with (round_node t (parts_in before) (parts_in tail))
-
-pub paragraph_stands : (before : List Item) (s : Setting) (signs : List ContentSign) (tail : List Item) → EndsApart before → IsFlatContent s signs
-    → EndsParagraph tail
-    → meaning (before ++ (page_items (spelled s signs) ++ tail)) ≡ body_with (blocks_in before ++ para_with (content_parts s [] signs) ∷ blocks_in tail)
-paragraph_stands before s signs tail a h e =
-    stands_so before (page_items (spelled s signs)) tail (para_with (content_parts s [] signs)) a (lines_of s signs h) e
-
-pub heading_stands : (before : List Item) (s : Setting) (signs : List ContentSign) (sides : Sides) (tail : List Item) → AreClosed (before_marks before)
-    → AreSides sides → IsHeadingContent s signs → IsOfLevel sides (page_items (spelled s signs)) → EndsLine tail
-    → meaning (before ++ (heading_line sides (page_items (spelled s signs)) ++ tail))
-    ≡ body_with (blocks_in before ++ heading_of sides (content_parts s [] signs) ∷ blocks_in tail)
-heading_stands before s signs sides tail c a h p e =
-    round_stands before sides (page_items (spelled s signs)) tail c a (heading_inside s signs h) p e
-    ∙ ap (λ ps. body_with (blocks_in before ++ heading_of sides ps ∷ blocks_in tail)) (heading_parts s signs h)

@@ -230,7 +230,7 @@ pub fn texts_beside_nodes_are_lines_of_text()
 /// A content without styles is one paragraph. On each of its lines, and in the paragraph, characters, references and the
 /// nowikis that are put are what they are anywhere, and each node is what its source is on a line by itself. So it is for the
 /// rows that its lines make, and as a page of its own.
-#[tactic(auto, using(crate::proofs::LineParts::line_parts_are, crate::proofs::LineParagraphs::para_is, crate::proofs::LineParagraphs::meaning_is))]
+#[tactic(auto, using(crate::proofs::LineParts::line_parts_are, crate::proofs::Styled::Plain::para_is, crate::proofs::Styled::Plain::meaning_is))]
 pub fn texts_beside_nodes_are_one_paragraph()
     ensures line { (s : Setting) (before signs : List ContentSign) → AreNodes signs → AreFlat signs → AllMeet s before signs []
         → line_parts (line_items s before signs) ≡ line_content s before signs }
@@ -242,7 +242,7 @@ pub fn texts_beside_nodes_are_one_paragraph()
 
 /// Wherever such a paragraph is, and whatever the numbers of its nodes, its inside shows the texts that were typed, as they were
 /// typed, and between them each node as its source shows by itself: the references and the nowikis that are put leave no trace.
-#[tactic(auto, using(crate::proofs::LineShown::content_is_shown))]
+#[tactic(auto, using(crate::proofs::Styled::Plain::content_is_shown))]
 pub fn texts_beside_nodes_are_shown()
     ensures { (n : ℕ) (before : List Item) (s : Setting) (signs : List ContentSign) (rest : Plains) → IsFlatContent s signs
         → parts_shown_at n before (content_parts s [] signs) rest ≡ content_shown signs rest }
@@ -262,7 +262,7 @@ pub fn texts_beside_nodes_may_be_in_headings()
 
 /// Between other lines of a page such a content is one paragraph of the body, or a heading: the body's other children are
 /// those that what is before it and what is behind it make by themselves, whatever is typed in it.
-#[tactic(auto, using(crate::proofs::LineStands::paragraph_stands, crate::proofs::LineStands::heading_stands))]
+#[tactic(auto, using(crate::proofs::Styled::Plain::paragraph_stands, crate::proofs::Styled::Plain::heading_stands))]
 pub fn texts_beside_nodes_stand_between_lines()
     ensures paragraph { (before : List Item) (s : Setting) (signs : List ContentSign) (tail : List Item) → EndsApart before → IsFlatContent s signs
         → EndsParagraph tail

@@ -12,7 +12,8 @@ use Rattle.wt_beside_laws.specs.PageBlocks.{AreUnstyled, AreShut}
 use Rattle.wt_beside_laws.specs.PageSigns.{signs_of_lines, AreFlatLines}
 use Rattle.wt_beside_laws.proofs.BlockSigns.{same_shut}
 use Rattle.wt_beside_laws.proofs.CalmContents.{content_utf8, content_calm, nowiki_calm, reference_calm}
-use Rattle.wt_beside_laws.proofs.FlatAgain.{EachSource, HoldsOfPut, again_flat, again_unstyled, again_kept, again_shut, again_each}
+use Rattle.wt_beside_laws.proofs.FlatAgain.{EachSource, HoldsOfPut}
+use Rattle.wt_beside_laws.proofs.Styled.Plain.{again_each, again_flat, again_kept, again_shut, again_unstyled}
 use Rattle.wt_beside_laws.proofs.LineItems.{content_lines_are}
 use Rattle.wt_beside_laws.proofs.LineKinds.{are_lines_of_text}
 use Rattle.wt_beside_laws.specs.FlatPages.{lines_of, IsFlatPage, IsFlatEdit, new_signs, new_flat}

@@ -53,8 +53,7 @@ use Rattle.wt_beside_laws.specs.Shown.{parts_shown_at}
 use Rattle.wt_beside_laws.specs.Stood.{things}
 use Rattle.wt_beside_laws.proofs.BlockSigns.{block_nodes, sent_content, block_shows}
 use Rattle.wt_beside_laws.proofs.CalmContents.{content_utf8, content_expanded, content_unrefused}
-use Rattle.wt_beside_laws.proofs.LineParagraphs.{flat_paragraph, meaning_is}
-use Rattle.wt_beside_laws.proofs.LineShown.{content_is_shown}
+use Rattle.wt_beside_laws.proofs.Styled.Plain.{closed_is, meaning_is, content_is_shown}
 use Rattle.wt_beside_laws.proofs.OwnSigns.{own_content, own_sent}
 use Rattle.wt_beside_laws.proofs.SentNodes.{same_nodes}
 use Rattle.wt_beside_laws.proofs.SentPieces.{texts_alone, same_numbers}
@@ -135,7 +134,7 @@ one_empty = [] ∷ []
 
 not_empty : (q : List ℕ) (ps : Pieces) → IsFlatContent (setting q) (new_signs q ps) → new_flat q ps ≡ [] → ⊥
 not_empty q ps f z =
-    let closed : empty_end (page_items (new_flat q ps)) ≡ [] = (flat_paragraph (setting q) (new_signs q ps) f).closed in
+    let closed : empty_end (page_items (new_flat q ps)) ≡ [] = closed_is (setting q) (new_signs q ps) f in
     let none : page_items (new_flat q ps) ≡ [] = ap page_items z ∙ read_items [] [] reads_nothing in
     let no : one_empty ≡ [] = sym (ap empty_end none) ∙ closed in cc
 

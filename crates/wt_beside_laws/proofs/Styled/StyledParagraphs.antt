@@ -134,6 +134,9 @@ styled_paragraph s t h =
       parts_are = rows_parts xs (line_items s [] signs) (later_lines s [] signs) own closed is ∙ lines_joined s [] t h.nodes h.nested h.meet;
     }
 
+pub styled_closed : (s : Setting) (t : StyledContent) → IsStyledContent s t → empty_end (page_items (spelled s (signs_in t))) ≡ []
+styled_closed s t h = (styled_paragraph s t h).closed
+
 pub styled_text : (s : Setting) (t : StyledContent) → IsStyledContent s t → All (IsLineOfText 0) (map content (full_lines (page_items (spelled s (signs_in t)))))
 styled_text s t h = (styled_paragraph s t h).text 0
 

@@ -37,7 +37,7 @@ use Rattle.wt_beside_laws.proofs.Made.OldBlocks.{IsIn}
 use Rattle.wt_beside_laws.proofs.Styled.Delimiters.{no_delimiter}
 use Rattle.wt_beside_laws.proofs.Styled.Making.{IsSentWell, sent_well, content_is, own_so, styled_makes, styled_then}
 use Rattle.wt_beside_laws.proofs.Styled.OldStyled.{styled_in_content, styled_of_lines}
-use Rattle.wt_beside_laws.proofs.FlatAgain.{again_unstyled}
+use Rattle.wt_beside_laws.proofs.Styled.Plain.{again_unstyled}
 use Rattle.wt_beside_laws.proofs.Styled.StyledWritten.{lines_so}
 
 -- ---- what is sent has none

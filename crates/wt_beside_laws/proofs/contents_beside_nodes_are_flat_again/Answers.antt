@@ -1,4 +1,4 @@
-use Rattle.wt_beside_laws.proofs.FlatAgain.{again_flat, again_unstyled, again_kept, again_shut}
+use Rattle.wt_beside_laws.proofs.Styled.Plain.{again_flat, again_unstyled, again_kept, again_shut}
 use Rattle.wt_beside_laws.proofs.contents_beside_nodes_are_flat_again.Goals as goal
 
 pub returns-clause-lines : goal.returns-clause-lines

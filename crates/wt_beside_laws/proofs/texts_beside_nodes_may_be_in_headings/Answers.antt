@@ -1,4 +1,5 @@
-use Rattle.wt_beside_laws.proofs.LineHeadings.{heading_inside, content_level, heading_tree}
+use Rattle.wt_beside_laws.proofs.LineHeadings.{heading_inside, content_level}
+use Rattle.wt_beside_laws.proofs.Styled.Plain.{heading_tree}
 use Rattle.wt_beside_laws.proofs.texts_beside_nodes_may_be_in_headings.Goals as goal
 
 pub returns-clause-inside : goal.returns-clause-inside
