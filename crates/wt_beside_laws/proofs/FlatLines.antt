@@ -1,10 +1,9 @@
 -- Lines of text of a page are one paragraph, with a line break between each two.
-use Rattle.std.proofs.Common.{◌≡◌, ℕ, Some, None, List, [], ◌∷◌, ◌++◌, map, sym, ap, ◌∙◌, subst, append-nil, All}
-use Rattle.std.proofs.lemmas.List.Elements.{All-nil, All-cons, All-head, All-tail}
-use Rattle.wt_span.specs.Items.{Item, char, whole, call_of}
+use Rattle.std.proofs.Common.{◌≡◌, ℕ, List, [], ◌∷◌, ◌++◌, map, sym, ap, ◌∙◌, subst, append-nil, All}
+use Rattle.std.proofs.lemmas.List.Elements.{All-nil, All-cons}
+use Rattle.wt_span.specs.Items.{Item}
 use Rattle.wt_span.proofs.RunLaws.{runs_are}
 use Rattle.wt_expand.specs.PageItems.{page_items}
-use Rattle.wt_expand.proofs.PageLaws.{page_has_no_calls}
 use Rattle.wt_lines.specs.declared.kind.TheConstants.{MOST_TABLES}
 use Rattle.wt_lines.specs.Lines.{lines, full_lines, content, empty_end, goes_on}
 use Rattle.wt_lines.proofs.FullLines.{same_lines}
@@ -16,19 +15,7 @@ use Rattle.wt_text_edit_laws.proofs.Texts.PlainRows.{text_row}
 use Rattle.wt_text_edit_laws.specs.ParagraphParts.{para_with, joined_parts}
 use Rattle.wt_beside_laws.specs.Lines.{IsLineOfText, AreLinesOfText}
 use Rattle.wt_beside_laws.proofs.LineParagraphs.{front_all, rest_all, no_end, rows_text, para_by, body_of, body_by}
-use Rattle.wt_beside_laws.proofs.LineRows.{OwnBreaks, chars_own, row_parts}
-
--- ---- the page's line breaks are its own
-
-first_own : (x : Item) → call_of x ≡ None → OwnBreaks (x ∷ [])
-first_own (char None b) e = chars_own (b ∷ [])
-first_own (char (Some k) b) e = absurd (cc)
-first_own (whole f o bs) e = ((λ z. absurd (cc)), tt)
-
-all_own : (xs : List Item) → All (λ x. call_of x ≡ None) xs → OwnBreaks xs
-all_own [] h = tt
-all_own (x ∷ xs) h =
-    ((first_own x (All-head (λ x. call_of x ≡ None) x xs h)).0, all_own xs (All-tail (λ x. call_of x ≡ None) x xs h))
+use Rattle.wt_text_edit_laws.proofs.Paragraphs.LineBlocks.{OwnBreaks, page_breaks, row_parts}
 
 -- ---- the paragraph
 
@@ -55,4 +42,4 @@ own_meaning xs o h =
     ∙ body_by ls xs (para_with (joined_parts (lines xs))) (runs_are goes_on xs) closed (para_by (map text_row ls) (joined_parts (lines xs)) parts)
 
 pub lines_meaning : (q : List ℕ) → AreLinesOfText 0 (lines (page_items q)) → meaning (page_items q) ≡ body_with (para_with (joined_parts (lines (page_items q))) ∷ [])
-lines_meaning q h = own_meaning (page_items q) (all_own (page_items q) (page_has_no_calls q)) (are_all (lines (page_items q)) h)
+lines_meaning q h = own_meaning (page_items q) (page_breaks q) (are_all (lines (page_items q)) h)

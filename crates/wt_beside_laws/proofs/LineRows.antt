@@ -1,69 +1,32 @@
 -- The lines of a content as the rows of a paragraph.
 use Rattle.std.proofs.Common.{arith, ◌≡◌, ℕ, ◌==◌, Bool, true, false, None, List, [], ◌∷◌, ◌++◌, map, refl, sym, ap, ◌∙◌, subst, append-nil, append_assoc}
-use Rattle.std.specs.Prelude.{if◌then◌else◌, not, encode_utf8}
-use Rattle.std.specs.List.{AllByRecursion}
+use Rattle.std.specs.Prelude.{if◌then◌else◌, encode_utf8}
 use Rattle.std.proofs.lemmas.Bool.Decides.{nat_tests}
 use Rattle.wt_span.specs.Items.{Item, char}
-use Rattle.wt_span.specs.Runs.{IsRun, AreRuns}
 use Rattle.wt_span.proofs.RunLaws.{runs_are}
 use Rattle.wt_guards.specs.Content.{ContentSign, letter, thing}
 use Rattle.wt_guards.specs.Guards.{Setting, is_guarded}
 use Rattle.wt_guards.specs.Letters.{is_escaped}
 use Rattle.wt_expand.specs.PageItems.{page_items}
-use Rattle.wt_lines.specs.Lines.{lines, full_lines, content, empty_end, is_break_item, goes_on, IsUnbroken}
+use Rattle.wt_lines.specs.Lines.{lines, full_lines, content, empty_end, goes_on, IsUnbroken}
 use Rattle.wt_lines.proofs.FullLines.{same_lines}
-use Rattle.wt_headings.specs.Lines.{ending}
 use Rattle.wt_inline.specs.declared.loose.Loose.TheVariants.{Text}
 use Rattle.wt_inline.specs.Parts.{Part, parts}
 use Rattle.wt_context.specs.Line.{line_parts}
 use Rattle.wt_page.specs.Texts.{para_parts}
-use Rattle.wt_text_edit_laws.specs.LonePages.{page_chars}
 use Rattle.wt_text_edit_laws.proofs.Texts.PlainRows.{text_row}
 use Rattle.wt_beside_laws.specs.Content.{guard_items, letter_items, content_items}
 use Rattle.wt_beside_laws.specs.Lines.{AreUnbroken}
 use Rattle.wt_text_edit_laws.specs.ParagraphParts.{after_breaks, joined_parts}
 use Rattle.wt_beside_laws.proofs.LineItems.{break_items}
+use Rattle.wt_text_edit_laws.proofs.Paragraphs.LineBlocks.{OwnBreaks, chars_own, row_parts}
 
 abbrev break : Item
 break = char None 10
 
--- the line breaks are characters of the page
-abbrev pub OwnBreaks : List Item → Type 0
-OwnBreaks xs = AllByRecursion (λ x. is_break_item x ≡ true → x ≡ break) xs
-
-own_first : (xs ys : List Item) → OwnBreaks (xs ++ ys) → OwnBreaks xs
-own_first [] ys h = tt
-own_first (x ∷ xs) ys h = (h.0, own_first xs ys h.1)
-
-own_rest : (xs ys : List Item) → OwnBreaks (xs ++ ys) → OwnBreaks ys
-own_rest [] ys h = h
-own_rest (x ∷ xs) ys h = own_rest xs ys h.1
-
 own_both : (xs ys : List Item) → OwnBreaks xs → OwnBreaks ys → OwnBreaks (xs ++ ys)
 own_both [] ys h k = k
 own_both (x ∷ xs) ys h k = (h.0, own_both xs ys h.1 k)
-
-not_true : (b : Bool) → not b ≡ false → b ≡ true
-not_true true e = refl
-not_true false e = cc
-
--- a line before another one ends with its line break
-ends_line : (l : List Item) (y : Item) (others : List Item) → IsRun goes_on l (y ∷ others) → OwnBreaks l → ending l ≡ break ∷ []
-ends_line [] y others r o = absurd r
-ends_line (x ∷ []) y others r o =
-    let e : is_break_item x ≡ true = not_true (is_break_item x) r in
-    ap (λ (t : Bool). if t then x ∷ [] else []) e ∙ ap (λ z. z ∷ []) (o.0 e)
-ends_line (x ∷ z ∷ zs) y others r o = ends_line (z ∷ zs) y others r.1 o.1
-
-pub row_parts : (ls : List (List Item)) (xs : List Item) → AreRuns goes_on ls xs → OwnBreaks xs → para_parts (map text_row ls) ≡ joined_parts (map content ls)
-row_parts [] xs r o = refl
-row_parts (l ∷ []) xs r o = refl
-row_parts (l ∷ [] ∷ ls) xs r o = absurd r.3.2
-row_parts (l ∷ (y ∷ m) ∷ ls) xs r o =
-    let own : OwnBreaks (l ++ r.0) = subst OwnBreaks r.1 o in
-    let on : IsRun goes_on l (y ∷ (m ++ r.3.0)) = subst (IsRun goes_on l) r.3.1 r.2 in
-    ap (λ zs. line_parts (content l) ++ (parts Text zs ++ para_parts (map text_row ((y ∷ m) ∷ ls)))) (ends_line l y (m ++ r.3.0) on (own_first l r.0 own))
-    ∙ ap (λ ps. line_parts (content l) ++ (parts Text (break ∷ []) ++ ps)) (row_parts ((y ∷ m) ∷ ls) r.0 r.3 (own_rest l r.0 own))
 
 pub rows_parts : (xs l : List Item) (ls : List (List Item)) → OwnBreaks xs → empty_end xs ≡ [] → lines xs ≡ l ∷ ls
     → para_parts (map text_row (full_lines xs)) ≡ joined_parts (l ∷ ls)
@@ -76,13 +39,6 @@ rows_parts xs l ls o e i =
 unbroken_own : (xs : List Item) → IsUnbroken xs → OwnBreaks xs
 unbroken_own [] u = tt
 unbroken_own (x ∷ xs) u = ((λ e. let no : true ≡ false = sym e ∙ u.0 in cc), unbroken_own xs u.1)
-
-pub chars_own : (bs : List ℕ) → OwnBreaks (page_chars bs)
-chars_own [] = tt
-chars_own (b ∷ bs) = ((λ e. ap (char None) (is_ten b e)), chars_own bs)
-  where
-    is_ten : (b : ℕ) → (b == 10) ≡ true → b ≡ 10
-    is_ten b e = grind (arith, nat_tests, e)
 
 guard_own : (u : Bool) → OwnBreaks (guard_items u)
 guard_own true = ((λ e. cc), tt)

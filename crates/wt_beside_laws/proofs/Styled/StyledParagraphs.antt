@@ -28,7 +28,8 @@ use Rattle.wt_beside_laws.proofs.Contents.{content_alone}
 use Rattle.wt_beside_laws.proofs.LineItems.{content_lines_are}
 use Rattle.wt_beside_laws.proofs.LineKinds.{lines_are_text}
 use Rattle.wt_beside_laws.proofs.LineParagraphs.{front_all, rest_all, no_end, rows_text, para_by, body_of, body_by}
-use Rattle.wt_beside_laws.proofs.LineRows.{OwnBreaks, rows_parts, content_own, later_by, both_by, break_parts}
+use Rattle.wt_text_edit_laws.proofs.Paragraphs.LineBlocks.{OwnBreaks}
+use Rattle.wt_beside_laws.proofs.LineRows.{rows_parts, content_own, later_by, both_by, break_parts}
 use Rattle.wt_beside_laws.proofs.LineStands.{lines_by, stands_so}
 use Rattle.wt_beside_laws.proofs.Styled.StyledLines.{nodes_behind, within_style, styled_line}
 
