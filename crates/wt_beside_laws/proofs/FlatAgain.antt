@@ -47,7 +47,8 @@ use Rattle.wt_text_edit_laws.proofs.Texts.TypedItems.{references}
 use Rattle.wt_beside_laws.specs.Content.{AreKept, guard_items, letter_items}
 use Rattle.wt_beside_laws.specs.Cuts.{add_chars, add_tile, own_glyphs, own_form, add_node, guard_cut, letter_cut}
 use Rattle.wt_beside_laws.specs.Flat.{IsFlat, AreFlat, IsFlatContent}
-use Rattle.wt_beside_laws.specs.Kept.{lexeme, IsKept}
+use Rattle.wt_text_edit_laws.specs.TextBetween.{EndsBy}
+use Rattle.wt_beside_laws.specs.Kept.{lexeme, is_lexeme_end, IsKept}
 use Rattle.wt_beside_laws.specs.Lines.{AreCharacters, line_items, later_lines, content_lines}
 use Rattle.wt_beside_laws.specs.Nodes.{IsPair, IsTagNode, IsOneLexeme, IsNode, AreNodes, AllMeet}
 use Rattle.wt_beside_laws.specs.PageBlocks.{AreShut, AreUnstyled}
@@ -127,7 +128,7 @@ node_lone External own w f n e = other_first w.kind 91 own n.inside n.is refl
 node_lone (Bare ends) own w f n e = other_first w.kind n.first own n.others n.is (url_first n.first n.others n.shape n.url)
 node_lone Switch own w f n e = other_first w.kind 95 own (glyph.Byte 95 ∷ byte_glyphs n.word) n.is refl
 node_lone Toggle own w f n e = absurd f
-node_lone (Mark ends began) own w f n e = absurd n
+node_lone (Mark ends began) own w f n e = subst (OpensNoPair w.kind) (sym n.is) (no_opening w.kind (glyph.Mark ∷ []) (no_tag (glyph.Mark ∷ []) refl))
 node_lone (Group g) own w f n e = absurd n
 node_lone Function own w f n e = lexeme_lone w.kind own n
 node_lone Node own w f n e = elim n [
@@ -141,40 +142,7 @@ node_lone Node own w f n e = elim n [
   ]
 ]
 
--- ---- no node is a mark
-
-abbrev IsUnmarked : List Glyph → Type 0
-IsUnmarked [] = Unit {0}
-IsUnmarked (glyph.Byte b ∷ gs) = Unit {0}
-IsUnmarked (glyph.Entity c ∷ gs) = Unit {0}
-IsUnmarked (glyph.Atom ∷ gs) = Unit {0}
-IsUnmarked (glyph.Mark ∷ gs) = ⊥
-
-lexeme_unmarked : (own : List Glyph) → IsOneLexeme own → IsUnmarked own
-lexeme_unmarked own n = elim n [
-  | inl i ↦ subst IsUnmarked (sym i) tt
-  | inr i ↦ subst IsUnmarked (sym i.1) tt
-]
-
-node_unmarked : (r : Role) (own : List Glyph) → IsFlat r → IsNode r own → IsUnmarked own
-node_unmarked Link own f n = subst IsUnmarked (sym n.is) tt
-node_unmarked External own f n = subst IsUnmarked (sym n.is) tt
-node_unmarked (Bare ends) own f n = subst IsUnmarked (sym n.is) tt
-node_unmarked Switch own f n = subst IsUnmarked (sym n.is) tt
-node_unmarked Toggle own f n = absurd f
-node_unmarked (Mark ends began) own f n = absurd n
-node_unmarked (Group g) own f n = absurd n
-node_unmarked Function own f n = lexeme_unmarked own n
-node_unmarked Node own f n = elim n [
-  | inl one ↦ lexeme_unmarked own one
-  | inr other ↦ elim other [
-    | inl tag ↦ subst IsUnmarked (sym tag.is) tt
-    | inr link ↦ elim link [
-      | inl category ↦ subst IsUnmarked (sym category.is) tt
-      | inr media ↦ subst IsUnmarked (sym media.is) tt
-    ]
-  ]
-]
+-- ---- a form
 
 stays_kind : (k : TileKind) → IsNodeKind k → IsFlatKind k
 stays_kind kind.Link h = tt
@@ -190,15 +158,18 @@ stays_kind kind.Atom h = absurd h
 stays_kind kind.Mark h = absurd h
 stays_kind kind.Chars h = absurd h
 
+mark_flat : (w : Shape) → Some (leaf kind.Mark 1) ≡ Some w → IsFlatKind w.kind
+mark_flat w e = subst (λ (v : Shape). IsFlatKind v.kind) (same_shape (leaf kind.Mark 1) w e) tt
+
 atom_flat : (w : Shape) → Some (leaf kind.Atom 1) ≡ Some w → IsFlatKind w.kind
 atom_flat w e = subst (λ (v : Shape). IsFlatKind v.kind) (same_shape (leaf kind.Atom 1) w e) tt
 
-form_flat : (own : List Glyph) (w : Shape) → IsUnmarked own → own_form in_line own ≡ Some w → IsFlatKind w.kind
-form_flat [] w u e = cc
-form_flat (glyph.Byte b ∷ gs) w u e = stays_kind w.kind (form_is_node in_line false (glyph.Byte b ∷ gs) w e)
-form_flat (glyph.Entity c ∷ gs) w u e = atom_flat w e
-form_flat (glyph.Atom ∷ gs) w u e = atom_flat w e
-form_flat (glyph.Mark ∷ gs) w u e = absurd u
+form_flat : (own : List Glyph) (w : Shape) → own_form in_line own ≡ Some w → IsFlatKind w.kind
+form_flat [] w e = cc
+form_flat (glyph.Byte b ∷ gs) w e = stays_kind w.kind (form_is_node in_line false (glyph.Byte b ∷ gs) w e)
+form_flat (glyph.Entity c ∷ gs) w e = atom_flat w e
+form_flat (glyph.Atom ∷ gs) w e = atom_flat w e
+form_flat (glyph.Mark ∷ gs) w e = mark_flat w e
 
 flat_tile : (k : TileKind) (own : List Item) → IsFlatKind k → IsFlatForm k own → IsFlatTile k own
 flat_tile kind.Link own h f = f
@@ -211,13 +182,13 @@ flat_tile kind.Pair own h f = f
 flat_tile kind.TagIsland own h f = f
 flat_tile kind.Switch own h f = f
 flat_tile kind.Atom own h f = f
-flat_tile kind.Mark own h f = absurd h
+flat_tile kind.Mark own h f = f
 flat_tile kind.Chars own h f = absurd h
 
 -- a node that stays, as a tile
 node_tile : (t : Thing) (w : Shape) → IsFlat t.role → IsNode t.role (own_glyphs t) → own_form in_line (own_glyphs t) ≡ Some w → IsFlatTile w.kind (page_items t.source)
 node_tile t w f n e =
-    flat_tile w.kind (page_items t.source) (form_flat (own_glyphs t) w (node_unmarked t.role (own_glyphs t) f n) e)
+    flat_tile w.kind (page_items t.source) (form_flat (own_glyphs t) w e)
     (record { alone = ap page_items (page_sources t.source); lone = node_lone t.role (own_glyphs t) w f n e })
 
 -- ---- sources
@@ -260,9 +231,13 @@ pub nowiki_kept : IsKept nowiki
 unfolding nowiki comment_len
 nowiki_kept = record {
   parts = lexeme Raw 60 (codes "nowiki/>") ∷ [];
-  are = (record { form = λ rest. nowiki_form Page rest; uncommented = λ rest. refl; begins = refl }, tt);
+  are = (record { form = λ rest. nowiki_form Page rest; uncommented = λ rest. refl; begins = refl; ends = refl }, tt);
   is = refl;
 }
+
+reference_ends : (c : ℕ) → is_escapable c ≡ true → EndsBy is_lexeme_end (reference c)
+unfolding reference digits
+reference_ends c e = each_escapable (λ k. EndsBy is_lexeme_end (reference k)) refl refl refl refl refl refl refl refl refl refl refl refl refl c e
 
 reference_kept : (c : ℕ) → is_escapable c ≡ true → IsKept (reference c)
 reference_kept c e =
@@ -276,6 +251,7 @@ reference_kept c e =
               ∙ ap (λ (bs : List ℕ). Some (Entity c, length bs)) r.is;
           uncommented = λ rest. comment_other 38 (r.others ++ rest) (omega arith);
           begins = refl;
+          ends = subst (EndsBy is_lexeme_end) r.is (reference_ends c e);
         },
         tt,
       );

@@ -101,7 +101,7 @@ tile_unbroken kind.Pair at xs f h = form_unbroken kind.Pair at xs f h
 tile_unbroken kind.TagIsland at xs f h = form_unbroken kind.TagIsland at xs f h
 tile_unbroken kind.Switch at xs f h = form_unbroken kind.Switch at xs f h
 tile_unbroken kind.Atom at xs f h = form_unbroken kind.Atom at xs f h
-tile_unbroken kind.Mark at xs f h = absurd f
+tile_unbroken kind.Mark at xs f h = form_unbroken kind.Mark at xs f h
 tile_unbroken kind.Chars at xs f h = subst (Each Unbroken) (sym (no_things (chars (sources xs)))) tt
 
 tiles_unbroken : (ws : List Shape) (at : ℕ) (xs : List Item) → AreFlatTiles (parts ws xs) → HasNoBreak xs → Each Unbroken (things (signs_of_tiles at (parts ws xs)))

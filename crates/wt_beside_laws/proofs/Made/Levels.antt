@@ -151,7 +151,7 @@ tile_told kind.Pair at xs f h = (tt, tt)
 tile_told kind.TagIsland at xs f h = (tt, tt)
 tile_told kind.Switch at xs f h = (tt, tt)
 tile_told kind.Atom at xs f h = (atom_told xs (map sign (page_items (sources xs))), tt)
-tile_told kind.Mark at xs f h = absurd f
+tile_told kind.Mark at xs f h = (tt, tt)
 tile_told kind.Chars at xs f h = letters_told (chars (sources xs))
 
 tiles_told : (at : ℕ) (ps : List (Shape × List Item)) → AreFlatTiles ps → EndInSigns (signs_of_tiles at ps) → AllTold (signs_of_tiles at ps)
@@ -214,7 +214,7 @@ role_apart Link items end n h f = end_unequal end items (unequal_by Link items n
 role_apart External items end n h f = end_unequal end items (unequal_by External items n tt)
 role_apart Switch items end n h f = end_unequal end items (unequal_by Switch items n tt)
 role_apart Toggle items end n h f = end_unequal end items (unequal_by Toggle items n tt)
-role_apart (Mark ends began) items end n h f = absurd n
+role_apart (Mark ends began) items end n h f = end_unequal end items (unequal_by (Mark ends began) items n tt)
 role_apart (Group g) items end n h f = absurd n
 role_apart Function items end n h f = end_unequal end items (unequal_by Function items n tt)
 role_apart Node items end n h f = end_unequal end items (unequal_by Node items n tt)
