@@ -10,6 +10,7 @@ use Rattle.wt_guards.specs.Content.{ContentSign, letter, thing}
 use Rattle.wt_link_spelling.specs.Spelling.{children_of}
 use Rattle.wt_expand.specs.PageItems.{page_items}
 use Rattle.wt_lines.specs.Lines.{lines}
+use Rattle.wt_page.specs.Rows.{marks_len}
 use Rattle.wt_inline.specs.ItemTree.{forest, held_by_all}
 use Rattle.wt_inline.specs.Parts.{children}
 use Rattle.wt_content.specs.Content.{has_break}
@@ -42,6 +43,11 @@ begins_at (a_heading s) = length (opening s)
 abbrev pub signs_in : TextBlock → List ℕ → List ContentSign
 signs_in k q = signs_of_lines (begins_at k) (lines_in k q)
 
+-- a heading doesn't begin with a mark; of a paragraph this is asked with its lines
+abbrev pub IsUnledIn : TextBlock → List ℕ → Type 0
+IsUnledIn a_paragraph q = Unit {0}
+IsUnledIn (a_heading s) q = marks_len (page_items q) ≡ 0
+
 -- ---- closing tags
 
 -- Each closing tag that begins in this source ends in it, whatever follows: where none of this name is in the source before something, and none in
@@ -64,6 +70,7 @@ pub record IsFlatIn (k : TextBlock) (q : List ℕ) : Type 0 where
   pub ended : page_items (source_of k q ++ byte.line_break ∷ []) ≡ block_items k q ++ char None byte.line_break ∷ []
   pub unended : page_items (source_of k q) ≡ block_items k q
   pub is : IsContentOf k q
+  pub unled : IsUnledIn k q
   pub calls_nothing : CallsNothing (block_items k q)
   pub of_page : list_all is_page (held_by_all (forest (children (content_parts_of k (page_items q))))) ≡ true
   pub has_items : AllHaveItems (forest (children (content_parts_of k (page_items q))))

@@ -29,7 +29,7 @@ use Rattle.wt_text_edit_laws.proofs.Texts.TypedShown.{AllOfPage}
 use Rattle.wt_beside_laws.specs.Calm.{IsCalm, AreCalm}
 use Rattle.wt_beside_laws.specs.Content.{AreKept}
 use Rattle.wt_beside_laws.specs.Flat.{IsFlatContent, content_parts}
-use Rattle.wt_beside_laws.specs.FlatBlocks.{lines_in, begins_at, signs_in, IsFlatIn}
+use Rattle.wt_beside_laws.specs.FlatBlocks.{lines_in, begins_at, signs_in, IsFlatIn, IsUnledIn}
 use Rattle.wt_beside_laws.specs.InHeadings.{AreOnOneLine, IsHeadingContent}
 use Rattle.wt_beside_laws.specs.Lines.{IsLineOfText, AreCharacters, AreUnbroken, line_items, later_lines, content_lines}
 use Rattle.wt_beside_laws.specs.Nodes.{AreNodes}
@@ -43,13 +43,14 @@ use Rattle.wt_beside_laws.proofs.Contents.{content_reads, content_alone}
 use Rattle.wt_beside_laws.proofs.FlatAgain.{EachSource, HoldsOfPut, again_flat, again_unstyled, again_kept, again_shut, again_each}
 use Rattle.wt_beside_laws.proofs.LineHeadings.{heading_inside, heading_parts, same_items}
 use Rattle.wt_beside_laws.proofs.LineItems.{content_lines_are}
-use Rattle.wt_beside_laws.proofs.LineKinds.{lines_are_text}
+use Rattle.wt_beside_laws.proofs.LineKinds.{lines_are_text, are_lines_of_text}
 use Rattle.wt_beside_laws.proofs.LineParagraphs.{unmarked, flat_paragraph}
 use Rattle.wt_beside_laws.proofs.LineRows.{lines_joined}
 use Rattle.wt_beside_laws.proofs.Made.Items.{nodes_have_items}
 use Rattle.wt_beside_laws.proofs.Made.Levels.{keeps_level}
 use Rattle.wt_beside_laws.proofs.Made.OldBlocks.{lines_are}
 use Rattle.wt_beside_laws.proofs.Made.OwnPages.{own_frame}
+use Rattle.wt_beside_laws.proofs.Marks.Within.{unled_lines}
 
 -- ---- a content of a block of this kind
 
@@ -206,6 +207,15 @@ of_written : (P : List (List Item) → Type 0) (k : TextBlock) (s : Setting) (si
     → P (lines_in k (spelled s signs))
 of_written P k s signs w h = subst P (sym (lines_written k s signs w)) h
 
+pub unled_in : (k : TextBlock) (q : List ℕ) → AreUnled (lines_in k q) → IsUnledIn k q
+unled_in a_paragraph q u = tt
+unled_in (a_heading h) q u = u.0
+
+unled_written : (k : TextBlock) (s : Setting) (signs : List ContentSign) → IsWritten k s signs → IsUnledIn k (spelled s signs)
+unled_written k s signs w =
+    unled_in k (spelled s signs)
+    (of_written AreUnled k s signs w (unled_lines 0 (content_lines s signs) (are_lines_of_text 0 s signs w.flat.of_block w.flat.characters w.flat.nodes)))
+
 held_again : (k : TextBlock) (q : List ℕ) (s : Setting) (signs : List ContentSign) → IsFlatIn k q → AreAmong (things signs) (things (signs_in k q))
     → AllHaveItems (forest (children (content_parts s [] signs))) × AllOfPage (held_by_all (forest (children (content_parts s [] signs))))
 held_again k q s signs h e =
@@ -226,6 +236,7 @@ flat_again k q s signs h w e =
       ended = ended_so k (spelled s signs) f b;
       unended = unended_so k (spelled s signs) f b;
       is = content_written k q s signs h.flat f w e;
+      unled = unled_written k s signs w;
       calls_nothing = calls_none k s signs f w.flat.kept w.calm;
       of_page = subst (λ (ps : List Part). AllOfPage (held_by_all (forest (children ps)))) (sym parts) held.1;
       has_items = subst (λ (ps : List Part). AllHaveItems (forest (children ps))) (sym parts) held.0;

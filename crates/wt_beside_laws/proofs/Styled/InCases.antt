@@ -110,6 +110,7 @@ italic_and_break =
       ended = before_break_are ∙ ap (λ (ys : List Item). ys ++ char None 10 ∷ []) (sym items_are);
       unended = refl;
       is = record { are_lines = h.are_lines; unled = h.unled; alone = quote_stands (codes "'x''<br>y"); before_break = quote_stands (codes "'x''<br>y\n") };
+      unled = tt;
       calls_nothing = h.calls_nothing;
       of_page = h.of_page;
       has_items = h.has_items;

@@ -9,7 +9,7 @@ use Rattle.wt_lines.specs.Lines.{full_lines}
 use Rattle.wt_inline.specs.ItemTree.{forest, held_by_all}
 use Rattle.wt_inline.specs.Parts.{Part, children}
 use Rattle.wt_called_trees.specs.Rounded.{AllHaveItems}
-use Rattle.wt_text_edit_laws.specs.Contents.{AreParagraphLines, IsContentOf, content_parts_of, StaysAnywhere, IsNewContent}
+use Rattle.wt_text_edit_laws.specs.Contents.{AreParagraphLines, IsContentOf, content_parts_of, StaysAnywhere, IsNewContent, AreUnled}
 use Rattle.wt_text_edit_laws.specs.ParagraphParts.{joined_parts}
 use Rattle.wt_text_edit_laws.specs.TextBlocks.{TextBlock, a_paragraph, a_heading}
 use Rattle.wt_text_edit_laws.specs.TypedHeadings.{Sides}
@@ -18,7 +18,7 @@ use Rattle.wt_text_edit_laws.proofs.Blocks.BlockReading.{IsBeforeAny, HasFrame}
 use Rattle.wt_text_edit_laws.proofs.Texts.TypedShown.{AllOfPage}
 use Rattle.wt_beside_laws.specs.Calm.{HaveNoBraces, IsCalm, AreCalm}
 use Rattle.wt_beside_laws.specs.Content.{AreKept}
-use Rattle.wt_beside_laws.specs.FlatBlocks.{lines_in, begins_at, signs_in as signs_of}
+use Rattle.wt_beside_laws.specs.FlatBlocks.{lines_in, begins_at, signs_in as signs_of, IsUnledIn}
 use Rattle.wt_beside_laws.specs.Lines.{content_lines}
 use Rattle.wt_beside_laws.specs.PageBlocks.{AreShut}
 use Rattle.wt_beside_laws.specs.PageSigns.{signs_of_lines, AreFlatLines}
@@ -37,7 +37,7 @@ use Rattle.wt_beside_laws.proofs.Made.Levels.{BareTold, Told, AllTold, told_each
 use Rattle.wt_beside_laws.proofs.Made.NodesSealed.{nodes_sealed}
 use Rattle.wt_beside_laws.proofs.Made.OldBlocks.{lines_are}
 use Rattle.wt_beside_laws.proofs.Made.OwnPages.{own_frame}
-use Rattle.wt_beside_laws.proofs.Made.Written.{FitsIn, lines_by, before_any, uncommented, firm, alone, before_break, ended_so, unended_so, texts_by, all_unled, calls_none, from_calm, to_calm, put_calm}
+use Rattle.wt_beside_laws.proofs.Made.Written.{FitsIn, lines_by, before_any, uncommented, firm, alone, before_break, ended_so, unended_so, texts_by, all_unled, calls_none, from_calm, to_calm, put_calm, unled_in}
 use Rattle.wt_beside_laws.proofs.Styled.HeldStyles.{styled_have_items}
 use Rattle.wt_beside_laws.proofs.Styled.OldStyled.{styled_in_content}
 use Rattle.wt_beside_laws.proofs.Styled.StyledAgain.{quotes_utf8, again_each, again_lines, again_kept, again_shut}
@@ -45,6 +45,8 @@ use Rattle.wt_beside_laws.proofs.Styled.StyledHeadings.{styled_inside, inside_pa
 use Rattle.wt_beside_laws.proofs.Styled.StyledLines.{mark_items}
 use Rattle.wt_beside_laws.proofs.Styled.StyledNodes.{each_some}
 use Rattle.wt_beside_laws.proofs.Styled.StyledParagraphs.{lines_joined, styled_text}
+use Rattle.wt_beside_laws.proofs.Marks.Within.{unled_lines}
+use Rattle.wt_beside_laws.proofs.LineKinds.{are_lines_of_text}
 
 -- ---- its lines and parts
 
@@ -145,6 +147,12 @@ of_lines_so : (P : List (List Item) → Type 0) (k : TextBlock) (s : Setting) (t
     → P (content_lines s (signs_in t)) → P (lines_in k (spelled s (signs_in t)))
 of_lines_so P k s t c w h = subst P (sym (lines_so k s t c w)) h
 
+unled_so : (k : TextBlock) (s : Setting) (t : StyledContent) → IsStyledContent s t → StaysIn k s t → IsUnledIn k (spelled s (signs_in t))
+unled_so k s t c w =
+    let signs : List ContentSign = signs_in t in
+    unled_in k (spelled s signs)
+    (of_lines_so AreUnled k s t c w (unled_lines 0 (content_lines s signs) (are_lines_of_text 0 s signs c.of_block c.characters c.nodes)))
+
 held_so : (k : TextBlock) (q : List ℕ) (s : Setting) (t : StyledContent) → IsStyledIn k q → IsStyledFor k q s t → AreHeld (forest (children (styled_parts false s [] t [])))
 held_so k q s t h w =
     styled_have_items s (lines_in k q) (begins_at k) t h.flat w.content.nested w.nodes
@@ -166,6 +174,7 @@ styled_again k q s t h w =
       ended = ended_so k (spelled s signs) f b;
       unended = unended_so k (spelled s signs) f b;
       is = content_so k q s t f h w;
+      unled = unled_so k s t c w.stays;
       calls_nothing = calls_none k s signs f c.kept calm;
       of_page = subst (λ (ps : List Part). AllOfPage (held_by_all (forest (children ps)))) (sym parts) held.1;
       has_items = subst (λ (ps : List Part). AllHaveItems (forest (children ps))) (sym parts) held.0;
