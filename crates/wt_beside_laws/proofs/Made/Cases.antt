@@ -50,13 +50,13 @@ use Rattle.wt_page.specs.Rows.{marks_len}
 -- ---- as a paragraph
 
 -- what else its items have to be
-record AreBlockItems (xs : List Item) : Type 0 where
+pub record AreBlockItems (xs : List Item) : Type 0 where
   pub are_lines : All IsTextLine (lines xs)
   pub unled : AreUnled (full_lines xs)
   pub of_page : list_all is_page (held_by_all (forest (children (joined_parts (lines xs))))) ≡ true
   pub has_items : AllHaveItems (forest (children (joined_parts (lines xs))))
 
-paragraph_by : (q : List ℕ) (xs : List Item) → page_items q ≡ xs → page_items (q ++ 10 ∷ []) ≡ xs ++ char None 10 ∷ []
+pub paragraph_by : (q : List ℕ) (xs : List Item) → page_items q ≡ xs → page_items (q ++ 10 ∷ []) ≡ xs ++ char None 10 ∷ []
     → StandsBehind q → StandsBehind (q ++ 10 ∷ []) → AreFlat q xs → AreBlockItems xs → IsFlatIn a_paragraph q
 paragraph_by q xs is ended alone before_break given more =
     let h : AreFlat q (page_items q) = subst (AreFlat q) (sym is) given in

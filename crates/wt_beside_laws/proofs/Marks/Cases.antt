@@ -1,0 +1,116 @@
+-- Worked case: the paragraph `x<noinclude>y`, in which an include tag is within its line, is flat.
+use Rattle.std.proofs.Common.{arith, ◌≡◌, ℕ, true, None, List, [], ◌∷◌, ◌++◌, refl, sym, ap, ◌∙◌, subst, All}
+use Rattle.std.specs.Prelude.{codes}
+use Rattle.std.specs.List.{list_all}
+use Rattle.std.specs.Str.{IsUtf8, chars}
+use Rattle.std.proofs.Math.Utf8.{encode}
+use Rattle.std.proofs.lemmas.List.Elements.{All-nil, All-cons}
+use Rattle.wt_span.specs.Comments.{comment_len, comment_line_len}
+use Rattle.wt_span.specs.Entities.{entity_at, named_entity, entity_names, decimal_entity, hex_entity}
+use Rattle.wt_span.specs.declared.form.ItemForm.TheVariants as form
+use Rattle.wt_span.specs.declared.form.LexKind.TheVariants.{Include}
+use Rattle.wt_span.specs.Items.{Item, char, whole}
+use Rattle.wt_span.specs.Lexemes.{form_at as word_at, sign_word, words, closed as words_closed}
+use Rattle.wt_span.specs.Tags.{raw_len, include_at, opening_tag as opening_word, closing_tag as closing_word, tag_after as word_after, with_inside, is_extension}
+use Rattle.wt_expand.specs.PageItems.{page_items}
+use Rattle.wt_lines.specs.Kinds.{kind_of_signs}
+use Rattle.wt_lines.specs.Lines.{lines, full_lines}
+use Rattle.wt_inline.specs.ItemTree.{forest, held_by_all}
+use Rattle.wt_inline.specs.Parts.{children}
+use Rattle.wt_tiles.specs.Tags.{tag_at, opening_tag, closing_tag, tag_after, name_of, live_name}
+use Rattle.wt_tiles.specs.Tiles.{form_at, link_or_url, tag_tile, switch_at, shapes, closed, tiles}
+use Rattle.wt_tiles.specs.Links.{link_at}
+use Rattle.wt_tiles.specs.Urls.{scheme_len, ext_link_at, bare_url_at}
+use Rattle.wt_context.specs.Chunks.{chunks}
+use Rattle.wt_context.specs.Line.{context_parts, line_parts}
+use Rattle.wt_context.specs.Nodes.{segments}
+use Rattle.wt_context.specs.Segments.{loose_segments}
+use Rattle.wt_context.specs.Styled.{with_styles}
+use Rattle.wt_quotes.specs.Styles.{style_tree_of}
+use Rattle.wt_quotes.specs.Toggles.{toggle_at, toggles_of}
+use Rattle.wt_blocks.specs.Headings.{level}
+use Rattle.wt_annotated.specs.Clean.{is_page}
+use Rattle.wt_called_trees.specs.Rounded.{AllHaveItems}
+use Rattle.wt_text_edit_laws.specs.Contents.{AreUnled}
+use Rattle.wt_text_edit_laws.specs.LonePages.{page_chars}
+use Rattle.wt_text_edit_laws.specs.NoCalls.{CallsNothing}
+use Rattle.wt_text_edit_laws.specs.ParagraphParts.{joined_parts}
+use Rattle.wt_text_edit_laws.specs.Paragraphs.{IsTextLine}
+use Rattle.wt_text_edit_laws.specs.TextBetween.{StandsBehind}
+use Rattle.wt_text_edit_laws.specs.TextBlocks.{a_paragraph, a_heading, IsFrame}
+use Rattle.wt_text_edit_laws.specs.TypedHeadings.{spaced, heading_line, IsHeadingInside, IsOfLevel}
+use Rattle.wt_isolation.specs.OpenTags.{ends_open}
+use Rattle.wt_beside_laws.specs.Calm.{IsCalm, AreCalm, HaveNoBraces}
+use Rattle.wt_beside_laws.specs.Content.{AreKept}
+use Rattle.wt_beside_laws.specs.FlatBlocks.{IsFlatIn}
+use Rattle.wt_beside_laws.specs.Kept.{characters, lexeme, IsPart, IsKept}
+use Rattle.wt_beside_laws.specs.PageBlocks.{AreUnstyled, AreShut}
+use Rattle.wt_beside_laws.specs.PageSigns.{signs_of_lines, AreFlatLines}
+use Rattle.wt_beside_laws.proofs.Firm.{alone_as, parts_read}
+use Rattle.wt_beside_laws.proofs.Edits.Cases.{AreFlat}
+use Rattle.wt_beside_laws.proofs.Made.Cases.{AreBlockItems, paragraph_by}
+use Rattle.wt_page.specs.Rows.{marks_len}
+
+
+abbrev own : List ℕ
+own = codes "x<noinclude>y"
+
+abbrev tag_item : Item
+tag_item = whole form.Include None (codes "<noinclude>")
+
+abbrev own_items : List Item
+own_items = char None 120 ∷ tag_item ∷ char None 121 ∷ []
+
+tag_part : IsPart (lexeme Include 60 (codes "noinclude>"))
+unfolding word_at comment_len raw_len include_at opening_word closing_word word_after with_inside is_extension entity_at named_entity entity_names decimal_entity hex_entity sign_word
+tag_part = record { form = λ rest. refl; uncommented = λ rest. refl; begins = refl; ends = refl }
+
+items_are : page_items own ≡ own_items
+items_are =
+    alone_as own own_items (parts_read (characters (codes "x") ∷ lexeme Include 60 (codes "noinclude>") ∷ characters (codes "y") ∷ []) ((refl, tt), (tag_part, ((refl, tt), tt))))
+
+before_break_are : page_items (own ++ 10 ∷ []) ≡ own_items ++ char None 10 ∷ []
+before_break_are =
+    alone_as (own ++ 10 ∷ []) (own_items ++ char None 10 ∷ [])
+    (parts_read (characters (codes "x") ∷ lexeme Include 60 (codes "noinclude>") ∷ characters (codes "y\n") ∷ []) ((refl, tt), (tag_part, ((refl, (refl, tt)), tt))))
+
+tag_alone : page_items (codes "<noinclude>") ≡ tag_item ∷ []
+tag_alone = alone_as (codes "<noinclude>") (tag_item ∷ []) (parts_read (lexeme Include 60 (codes "noinclude>") ∷ []) (tag_part, tt))
+
+tag_kept : IsKept (codes "<noinclude>")
+tag_kept = record { parts = lexeme Include 60 (codes "noinclude>") ∷ []; are = (tag_part, tt); is = refl }
+
+tag_calm : IsCalm (codes "<noinclude>")
+unfolding encode
+tag_calm = record { utf8 = (codes "<noinclude>", (refl, refl)); unbraced = subst HaveNoBraces (sym tag_alone) tt }
+
+x_stands : (rest : List ℕ) → StandsBehind (120 ∷ rest)
+unfolding comment_len
+x_stands rest = record { uncommented = refl }
+
+tag_flat : AreFlat own own_items
+unfolding kind_of_signs context_parts with_styles style_tree_of toggles_of toggle_at chunks segments loose_segments tiles shapes closed form_at link_or_url link_at ext_link_at bare_url_at scheme_len tag_tile tag_at opening_tag closing_tag tag_after name_of live_name switch_at chars encode children
+tag_flat = record {
+  utf8 = (own, (refl, refl));
+  some = λ e. absurd (cc);
+  calls_nothing = tt;
+  text = (record { text = refl; unmarked = refl }, tt);
+  flat = ((refl, (tt, (refl, tt))), ((120 ∷ [], (refl, refl)), (record { alone = tag_alone; lone = tt }, ((121 ∷ [], (refl, refl)), tt))), tt);
+  unstyled = (refl, tt);
+  kept = (tag_kept, tt);
+  calm = (tag_calm, tt);
+  shut = (refl, tt);
+  full = (refl, ((refl, tt, refl), (refl, tt)));
+}
+
+tag_items : AreBlockItems own_items
+unfolding kind_of_signs context_parts with_styles style_tree_of toggles_of toggle_at chunks segments loose_segments tiles shapes closed form_at link_or_url link_at ext_link_at bare_url_at scheme_len tag_tile tag_at opening_tag closing_tag tag_after name_of live_name switch_at chars encode children
+tag_items = record {
+  are_lines = All-cons IsTextLine own_items [] refl (All-nil IsTextLine);
+  unled = (refl, tt);
+  of_page = refl;
+  has_items = ((refl, tt), ((refl, tt), ((refl, tt), tt)));
+}
+
+with_a_tag : IsFlatIn a_paragraph own
+with_a_tag = paragraph_by own own_items items_are before_break_are (x_stands (codes "<noinclude>y")) (x_stands (codes "<noinclude>y\n")) tag_flat tag_items
