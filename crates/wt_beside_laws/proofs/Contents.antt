@@ -36,7 +36,7 @@ unfolding nowiki comment_len opening_tag tag_after
 nowiki_reads rest xs r =
     reads_form Raw 60 (codes "nowiki/>") rest xs (nowiki_form Page rest) (uncommented_other 60 (codes "nowiki/>" ++ rest) refl refl) r
 
-guard_reads : (guarded : Bool) → ReadsAs (nowiki_if guarded) (guard_items guarded)
+pub guard_reads : (guarded : Bool) → ReadsAs (nowiki_if guarded) (guard_items guarded)
 guard_reads true = nowiki_reads
 guard_reads false = nothing_reads
 
@@ -80,7 +80,7 @@ begin_letter P s c d before after e f p q g =
 
 -- ---- a character, before what is spelled behind it
 
-abbrev further : Setting → ℕ → List ContentSign → List ContentSign → List ℕ
+abbrev pub further : Setting → ℕ → List ContentSign → List ContentSign → List ℕ
 further s c before after = spelled_from s (letter c ∷ before) after
 
 -- behind a byte

@@ -235,7 +235,7 @@ nowiki_kept = record {
   is = refl;
 }
 
-reference_ends : (c : ℕ) → is_escapable c ≡ true → EndsBy is_lexeme_end (reference c)
+pub reference_ends : (c : ℕ) → is_escapable c ≡ true → EndsBy is_lexeme_end (reference c)
 unfolding reference digits
 reference_ends c e = each_escapable (λ k. EndsBy is_lexeme_end (reference k)) refl refl refl refl refl refl refl refl refl refl refl refl refl c e
 

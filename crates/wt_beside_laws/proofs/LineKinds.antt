@@ -86,7 +86,7 @@ letter_opens s before c after xs false i v f =
     let b = not_bracket (is_bracket c) (is_escaped s.within s.place before c after) (bracket_escaped s.within s.place before c after) i in
     plain_opens c xs v (both (is_free c) (not (is_bracket c)) f (ap not b))
 
-no_break : (c : ℕ) → is_free c ≡ true → (c == 10) ≡ false
+pub no_break : (c : ℕ) → is_free c ≡ true → (c == 10) ≡ false
 no_break c f = by (not (line_start_hazard c)) (c == 10) f
   where
     by : (v w : Bool) → (v && not w) ≡ true → w ≡ false
@@ -96,13 +96,13 @@ no_break c f = by (not (line_start_hazard c)) (c == 10) f
 
 -- ---- a node that stays
 
-abbrev OpensGlyph : Glyph → Type 0
+abbrev pub OpensGlyph : Glyph → Type 0
 OpensGlyph (glyph.Byte b) = OpensText b
 OpensGlyph (glyph.Entity c) = Unit {0}
 OpensGlyph glyph.Atom = Unit {0}
 OpensGlyph glyph.Mark = ⊥
 
-abbrev FirstOpens : List Glyph → Type 0
+abbrev pub FirstOpens : List Glyph → Type 0
 FirstOpens [] = ⊥
 FirstOpens (g ∷ gs) = OpensGlyph g
 
@@ -206,7 +206,7 @@ other_opens own n = elim n [
 ]
 
 -- a mark may be first on a line where nothing is put before it only if it was so in the page
-node_opens : (r : Role) (own : List Glyph) → IsNode r own → (is_new_at_start r ≡ true → ⊥) → FirstOpens own
+pub node_opens : (r : Role) (own : List Glyph) → IsNode r own → (is_new_at_start r ≡ true → ⊥) → FirstOpens own
 node_opens Link own n f = subst FirstOpens (sym n.is) at_bracket
 node_opens External own n f = subst FirstOpens (sym n.is) at_bracket
 node_opens (Bare ends) own n f = subst FirstOpens (sym n.is) (url_opens n.first n.others n.shape n.url)
@@ -227,7 +227,7 @@ start_says false false true true new first rest w l i = refl
 start_says false false true false true first rest w l i = refl
 start_says false false true false false first rest w l i = cc
 
-new_guarded : (s : Setting) (before : List ContentSign) (t : Thing) (after : List ContentSign) → s.within ≡ false → is_line_start (nearest before) ≡ true
+pub new_guarded : (s : Setting) (before : List ContentSign) (t : Thing) (after : List ContentSign) → s.within ≡ false → is_line_start (nearest before) ≡ true
     → is_new_at_start t.role ≡ true → is_guarded s before (thing t ∷ after) ≡ true
 unfolding is_guarded is_start_guard
 new_guarded s before t after w l i =

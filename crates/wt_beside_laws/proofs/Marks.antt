@@ -1,2 +1,4 @@
 mod Cases
+pub mod Commented
+pub mod InLine
 pub mod Within
