@@ -32,6 +32,7 @@ ghost use Rattle.wt_tiles.specs.Links.{link_at};
 ghost use Rattle.wt_tiles.specs.Tiles.{size, cuts};
 ghost use Rattle.wt_tiles.specs.Urls.{scheme_len, ext_link_at, bare_url_at};
 ghost use Rattle.wt_beside_laws.specs.Beginnings.{IsApart};
+ghost use Rattle.wt_beside_laws.specs.Commented.{AreHeld};
 ghost use Rattle.wt_beside_laws.specs.Content.{AreKept, content_items};
 ghost use Rattle.wt_beside_laws.specs.Cuts.{IsFree, content_cut};
 ghost use Rattle.wt_beside_laws.specs.Flat.{AreFlat, IsFlatContent, content_parts, line_content};
@@ -87,6 +88,15 @@ pub use styles::{
 pub fn texts_beside_nodes_make_no_lexeme()
     ensures alone { (s : Setting) (signs : List ContentSign) → AreKept signs → page_items (spelled s signs) ≡ content_items s [] signs }
     ensures before { (s : Setting) (signs : List ContentSign) (rest : List ℕ) → AreKept signs → StandsBehind rest
+        → page_items (spelled s signs ++ rest) ≡ content_items s [] signs ++ page_items rest }
+{}
+
+/// So it is where comments are among the nodes, each on its line behind something else: a comment is read so whatever is
+/// written beside it, since `<nowiki/>` is put before it where it would begin a line.
+#[tactic(auto, using(crate::proofs::Marks::Commented::commented_alone, crate::proofs::Marks::Commented::commented_before))]
+pub fn texts_beside_comments_make_no_lexeme()
+    ensures alone { (s : Setting) (signs : List ContentSign) → s.within ≡ false → AreHeld signs → AreNodes signs → page_items (spelled s signs) ≡ content_items s [] signs }
+    ensures before { (s : Setting) (signs : List ContentSign) (rest : List ℕ) → s.within ≡ false → AreHeld signs → AreNodes signs → StandsBehind rest
         → page_items (spelled s signs ++ rest) ≡ content_items s [] signs ++ page_items rest }
 {}
 

@@ -1,4 +1,4 @@
--- Worked case: the paragraph `x<noinclude>y`, in which an include tag is within its line, is flat.
+-- Worked cases: `<!--c-->` is a comment whatever is behind it, and the paragraph `x<noinclude>y`, in which an include tag is within its line, is flat.
 use Rattle.std.proofs.Common.{arith, ◌≡◌, ℕ, true, None, List, [], ◌∷◌, ◌++◌, refl, sym, ap, ◌∙◌, subst, All}
 use Rattle.std.specs.Prelude.{codes}
 use Rattle.std.specs.List.{list_all}
@@ -41,6 +41,7 @@ use Rattle.wt_text_edit_laws.specs.TextBlocks.{a_paragraph, a_heading, IsFrame}
 use Rattle.wt_text_edit_laws.specs.TypedHeadings.{spaced, heading_line, IsHeadingInside, IsOfLevel}
 use Rattle.wt_isolation.specs.OpenTags.{ends_open}
 use Rattle.wt_beside_laws.specs.Calm.{IsCalm, AreCalm, HaveNoBraces}
+use Rattle.wt_beside_laws.specs.Commented.{IsComment}
 use Rattle.wt_beside_laws.specs.Content.{AreKept}
 use Rattle.wt_beside_laws.specs.FlatBlocks.{IsFlatIn}
 use Rattle.wt_beside_laws.specs.Kept.{characters, lexeme, IsPart, IsKept}
@@ -51,6 +52,10 @@ use Rattle.wt_beside_laws.proofs.Edits.Cases.{AreFlat}
 use Rattle.wt_beside_laws.proofs.Made.Cases.{AreBlockItems, paragraph_by}
 use Rattle.wt_page.specs.Rows.{marks_len}
 
+
+comment : IsComment (codes "!--c-->")
+unfolding comment_len
+comment = record { len = λ rest. refl; ends = refl }
 
 abbrev own : List ℕ
 own = codes "x<noinclude>y"

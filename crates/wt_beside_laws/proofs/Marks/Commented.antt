@@ -26,10 +26,12 @@ use Rattle.wt_spelling_laws.proofs.TextReads.{equal_or, apart}
 use Rattle.wt_tiles.specs.declared.glyph.Glyph.{Glyph}
 use Rattle.wt_tiles.specs.Glyphs.{glyph_of}
 use Rattle.wt_text_edit_laws.specs.LonePages.{page_chars}
-use Rattle.wt_text_edit_laws.proofs.Between.Fronts.{ReadsAfter, reads_after, reads_either, page_read}
-use Rattle.wt_text_edit_laws.proofs.Prose.InFront.{Reads, reads_nothing, read_break}
+use Rattle.wt_text_edit_laws.specs.TextBetween.{StandsBehind}
+use Rattle.wt_text_edit_laws.proofs.Between.Fronts.{behind_reads, ReadsAfter, reads_after, reads_either, page_read}
+use Rattle.wt_text_edit_laws.proofs.Prose.InFront.{Reads, reads_nothing, read_break, read_items}
 use Rattle.wt_text_edit_laws.proofs.Prose.Uncommented.{BeginsUncommented, uncommented_other}
 use Rattle.wt_text_edit_laws.proofs.Texts.TypedItems.{references, wide_tame, tame_if}
+use Rattle.wt_beside_laws.specs.Commented.{IsComment, IsCommentSource, IsHeld, AreHeld}
 use Rattle.wt_beside_laws.specs.Content.{guard_items, letter_items, content_items}
 use Rattle.wt_beside_laws.specs.Cuts.{own_glyphs}
 use Rattle.wt_beside_laws.specs.Kept.{Part, characters, sign, lexeme, IsPart, AreParts, parts_source, parts_items, IsKept}
@@ -39,23 +41,9 @@ use Rattle.wt_beside_laws.proofs.Contents.{further, begin_letter, guard_reads}
 use Rattle.wt_beside_laws.proofs.Firm.{ReadsAs, alone_as, parts_read, less_firm}
 use Rattle.wt_beside_laws.proofs.FlatAgain.{reference_ends}
 use Rattle.wt_beside_laws.proofs.LineKinds.{FirstOpens, node_opens, new_guarded, no_break}
-use Rattle.wt_beside_laws.proofs.Marks.InLine.{InLine, InLineAs, IsComment, comment_in, kept_in, nowiki_in, letter_in}
+use Rattle.wt_beside_laws.proofs.Marks.InLine.{InLine, InLineAs, comment_in, kept_in, nowiki_in, letter_in}
 
 -- ---- a node
-
-pub record IsCommentSource (source : List ℕ) : Type 0 where
-  pub others : List ℕ
-  pub is : source ≡ 60 ∷ others
-  pub comment : IsComment others
-
--- a comment, or another node on one line that stands whatever is written behind it
-abbrev pub IsHeld : List ℕ → Type 0
-IsHeld source = (IsKept source × HasNoBreak (page_items source)) ⊎ IsCommentSource source
-
-abbrev pub AreHeld : List ContentSign → Type 0
-AreHeld [] = Unit {0}
-AreHeld (letter c ∷ after) = AreHeld after
-AreHeld (thing t ∷ after) = IsHeld t.source × AreHeld after
 
 pub comment_alone : (q : List ℕ) → IsComment q → page_items (60 ∷ q) ≡ whole form.Comment None (60 ∷ q) ∷ []
 comment_alone q h =
@@ -235,3 +223,8 @@ commented_reads s signs w h n rest xs r =
 
 pub commented_alone : (s : Setting) (signs : List ContentSign) → s.within ≡ false → AreHeld signs → AreNodes signs → page_items (spelled s signs) ≡ content_items s [] signs
 commented_alone s signs w h n = alone_as (spelled s signs) (content_items s [] signs) (commented_reads s signs w h n)
+
+pub commented_before : (s : Setting) (signs : List ContentSign) (rest : List ℕ) → s.within ≡ false → AreHeld signs → AreNodes signs → StandsBehind rest
+    → page_items (spelled s signs ++ rest) ≡ content_items s [] signs ++ page_items rest
+commented_before s signs rest w h n b =
+    read_items (spelled s signs ++ rest) (content_items s [] signs ++ page_items rest) (commented_reads s signs w h n rest (page_items rest) (behind_reads rest b))

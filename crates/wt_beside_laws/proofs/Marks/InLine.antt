@@ -29,6 +29,7 @@ use Rattle.wt_text_edit_laws.proofs.Between.Fronts.{ReadsAfter, reads_after, rea
 use Rattle.wt_text_edit_laws.proofs.Prose.InFront.{Reads}
 use Rattle.wt_text_edit_laws.proofs.Prose.Uncommented.{BeginsUncommented, uncommented_other}
 use Rattle.wt_text_edit_laws.proofs.Texts.TypedItems.{references, wide_form, wide_tame, tame_if, IsMild, wide_mild, mild_if, no_form_byte}
+use Rattle.wt_beside_laws.specs.Commented.{IsComment}
 use Rattle.wt_beside_laws.specs.Content.{guard_items, letter_items}
 use Rattle.wt_beside_laws.specs.Kept.{Part, characters, sign, lexeme, is_firm, AreFirm, is_lexeme_end, IsPart, AreParts, part_source, parts_source, part_items, parts_items, IsKept}
 use Rattle.wt_beside_laws.specs.PageSigns.{HasNoBreak}
@@ -81,11 +82,6 @@ end_flag b [] h = other (b == 62) (b == 59) refl refl h
 end_flag b (c ∷ q) h = end_flag c q h
 
 -- ---- a comment
-
--- These bytes behind a `<` are one with it, whatever is written behind them. It ends with its `>`.
-pub record IsComment (q : List ℕ) : Type 0 where
-  pub len : (rest : List ℕ) → comment_len (60 ∷ (q ++ rest)) ≡ Some (suc (length q))
-  pub ends : EndsBy is_lexeme_end (60 ∷ q)
 
 comment_form : (bs : List ℕ) (n : ℕ) → comment_len bs ≡ Some n → form_at Page false bs ≡ Some (Comment, n)
 unfolding form_at
