@@ -24,7 +24,7 @@ use Rattle.wt_tiles.specs.declared.tag.Tag.{Tag}
 use Rattle.wt_tiles.specs.declared.target.LinkKind.{LinkKind}
 use Rattle.wt_tiles.specs.declared.target.LinkKind.TheVariants.{Page, Category, Media}
 use Rattle.wt_tiles.specs.declared.target.Target.{Target}
-use Rattle.wt_tiles.specs.Glyphs.{glyph_of_form, glyph_of, in_class, is_small, first_is, run_len, begins, begins_like, like_byte, byte_glyphs}
+use Rattle.wt_tiles.specs.Glyphs.{glyph_of, in_class, is_small, first_is, run_len, begins, begins_like, like_byte, byte_glyphs}
 use Rattle.wt_tiles.specs.Links.{target_of, kind_of, target_len, inner_len, has_pipe, head_len, link_shape, link_with, link_to, link_by, link_in}
 use Rattle.wt_tiles.specs.Partners.{number}
 use Rattle.wt_tiles.specs.Searches.{IsHead}

@@ -1,57 +1,40 @@
 -- Worked cases: `<!--c-->` is a comment whatever is behind it, and the paragraph `x<noinclude>y`, in which an include tag is within its line, is flat.
-use Rattle.std.proofs.Common.{arith, ◌≡◌, ℕ, true, None, List, [], ◌∷◌, ◌++◌, refl, sym, ap, ◌∙◌, subst, All}
+use Rattle.std.proofs.Common.{◌≡◌, ℕ, None, List, [], ◌∷◌, ◌++◌, refl, sym, subst}
 use Rattle.std.specs.Prelude.{codes}
-use Rattle.std.specs.List.{list_all}
-use Rattle.std.specs.Str.{IsUtf8, chars}
+use Rattle.std.specs.Str.{chars}
 use Rattle.std.proofs.Math.Utf8.{encode}
 use Rattle.std.proofs.lemmas.List.Elements.{All-nil, All-cons}
-use Rattle.wt_span.specs.Comments.{comment_len, comment_line_len}
+use Rattle.wt_span.specs.Comments.{comment_len}
 use Rattle.wt_span.specs.Entities.{entity_at, named_entity, entity_names, decimal_entity, hex_entity}
 use Rattle.wt_span.specs.declared.form.ItemForm.TheVariants as form
 use Rattle.wt_span.specs.declared.form.LexKind.TheVariants.{Include}
 use Rattle.wt_span.specs.Items.{Item, char, whole}
-use Rattle.wt_span.specs.Lexemes.{form_at as word_at, sign_word, words, closed as words_closed}
+use Rattle.wt_span.specs.Lexemes.{form_at as word_at, sign_word}
 use Rattle.wt_span.specs.Tags.{raw_len, include_at, opening_tag as opening_word, closing_tag as closing_word, tag_after as word_after, with_inside, is_extension}
 use Rattle.wt_expand.specs.PageItems.{page_items}
 use Rattle.wt_lines.specs.Kinds.{kind_of_signs}
-use Rattle.wt_lines.specs.Lines.{lines, full_lines}
-use Rattle.wt_inline.specs.ItemTree.{forest, held_by_all}
 use Rattle.wt_inline.specs.Parts.{children}
 use Rattle.wt_tiles.specs.Tags.{tag_at, opening_tag, closing_tag, tag_after, name_of, live_name}
 use Rattle.wt_tiles.specs.Tiles.{form_at, link_or_url, tag_tile, switch_at, shapes, closed, tiles}
 use Rattle.wt_tiles.specs.Links.{link_at}
 use Rattle.wt_tiles.specs.Urls.{scheme_len, ext_link_at, bare_url_at}
 use Rattle.wt_context.specs.Chunks.{chunks}
-use Rattle.wt_context.specs.Line.{context_parts, line_parts}
+use Rattle.wt_context.specs.Line.{context_parts}
 use Rattle.wt_context.specs.Nodes.{segments}
 use Rattle.wt_context.specs.Segments.{loose_segments}
 use Rattle.wt_context.specs.Styled.{with_styles}
 use Rattle.wt_quotes.specs.Styles.{style_tree_of}
 use Rattle.wt_quotes.specs.Toggles.{toggle_at, toggles_of}
-use Rattle.wt_blocks.specs.Headings.{level}
-use Rattle.wt_annotated.specs.Clean.{is_page}
-use Rattle.wt_called_trees.specs.Rounded.{AllHaveItems}
-use Rattle.wt_text_edit_laws.specs.Contents.{AreUnled}
-use Rattle.wt_text_edit_laws.specs.LonePages.{page_chars}
-use Rattle.wt_text_edit_laws.specs.NoCalls.{CallsNothing}
-use Rattle.wt_text_edit_laws.specs.ParagraphParts.{joined_parts}
 use Rattle.wt_text_edit_laws.specs.Paragraphs.{IsTextLine}
 use Rattle.wt_text_edit_laws.specs.TextBetween.{StandsBehind}
-use Rattle.wt_text_edit_laws.specs.TextBlocks.{a_paragraph, a_heading, IsFrame}
-use Rattle.wt_text_edit_laws.specs.TypedHeadings.{spaced, heading_line, IsHeadingInside, IsOfLevel}
-use Rattle.wt_isolation.specs.OpenTags.{ends_open}
-use Rattle.wt_beside_laws.specs.Calm.{IsCalm, AreCalm, HaveNoBraces}
+use Rattle.wt_text_edit_laws.specs.TextBlocks.{a_paragraph}
+use Rattle.wt_beside_laws.specs.Calm.{IsCalm, HaveNoBraces}
 use Rattle.wt_beside_laws.specs.Commented.{IsComment}
-use Rattle.wt_beside_laws.specs.Content.{AreKept}
 use Rattle.wt_beside_laws.specs.FlatBlocks.{IsFlatIn}
 use Rattle.wt_beside_laws.specs.Kept.{characters, lexeme, IsPart, IsKept}
-use Rattle.wt_beside_laws.specs.PageBlocks.{AreUnstyled, AreShut}
-use Rattle.wt_beside_laws.specs.PageSigns.{signs_of_lines, AreFlatLines}
 use Rattle.wt_beside_laws.proofs.Firm.{alone_as, parts_read}
 use Rattle.wt_beside_laws.proofs.Edits.Cases.{AreFlat}
 use Rattle.wt_beside_laws.proofs.Made.Cases.{AreBlockItems, paragraph_by}
-use Rattle.wt_page.specs.Rows.{marks_len}
-
 
 comment : IsComment (codes "!--c-->")
 unfolding comment_len

@@ -1,6 +1,6 @@
 -- A content with comments, none of which begins a line, is read as its signs, one after the other.
-use Rattle.std.proofs.Common.{arith, ◌≡◌, ◌⊎◌, ℕ, suc, ◌<◌, ◌≤◌, ◌==◌, Bool, true, false, Some, None, List, [], ◌∷◌, ◌++◌, length, map, refl, sym, ap, ◌∙◌, subst, inl, inr, append-nil, append_assoc, All}
-use Rattle.std.specs.Prelude.{◌||◌, ◌&&◌, not, codes, encode_utf8}
+use Rattle.std.proofs.Common.{arith, ◌≡◌, ℕ, ◌<◌, ◌≤◌, ◌==◌, Bool, true, false, None, List, [], ◌∷◌, ◌++◌, length, map, refl, sym, ap, ◌∙◌, subst, inl, inr, append-nil, append_assoc, All}
+use Rattle.std.specs.Prelude.{codes, encode_utf8}
 use Rattle.std.proofs.lemmas.Bool.{cases_lt}
 use Rattle.std.proofs.lemmas.Bool.Decides.{nat_tests}
 use Rattle.std.proofs.lemmas.List.Elements.{All-head}
@@ -8,16 +8,15 @@ use Rattle.std.proofs.lemmas.Str.{encode_ascii}
 use Rattle.wt_span.specs.declared.form.ItemForm.TheVariants as form
 use Rattle.wt_span.specs.Bytes.{is_blank}
 use Rattle.wt_span.specs.Comments.{comment_len}
-use Rattle.wt_span.specs.Tags.{opening_tag, tag_after}
 use Rattle.wt_span.specs.Items.{Item, char, whole}
 use Rattle.wt_names.proofs.Ascii.{IsWide, encode_wide, encode_some}
 use Rattle.wt_guards.specs.declared.role.Role.{Role}
 use Rattle.wt_guards.specs.declared.role.Role.TheVariants.{Link, External, Bare, Switch, Toggle, Mark, Group, Function, Node}
-use Rattle.wt_guards.specs.Content.{ContentSign, Thing, letter, thing, nearest, ends_line}
-use Rattle.wt_guards.specs.Letters.{is_bracket, is_escaped, reference, written_by}
-use Rattle.wt_guards.specs.Guards.{Setting, nowiki, nowiki_if, is_guarded, is_line_start, is_line_begun, is_new_at_start, spelled_from, spelled}
+use Rattle.wt_guards.specs.Content.{ContentSign, letter, thing, nearest, ends_line}
+use Rattle.wt_guards.specs.Letters.{is_escaped, written_by}
+use Rattle.wt_guards.specs.Guards.{Setting, nowiki, nowiki_if, is_guarded, is_line_start, is_line_begun, spelled_from, spelled}
 use Rattle.wt_guards.specs.Table.{line_start_hazard}
-use Rattle.wt_guards.proofs.Escapes.{is_escapable, escapable}
+use Rattle.wt_guards.proofs.Escapes.{escapable}
 use Rattle.wt_expand.specs.PageItems.{page_items}
 use Rattle.wt_spelling_laws.proofs.Forms.{comment_other, comment_not, IsTame}
 use Rattle.wt_spelling_laws.proofs.Lines.{is_free, unguarded_begins}
@@ -27,20 +26,19 @@ use Rattle.wt_tiles.specs.declared.glyph.Glyph.{Glyph}
 use Rattle.wt_tiles.specs.Glyphs.{glyph_of}
 use Rattle.wt_text_edit_laws.specs.LonePages.{page_chars}
 use Rattle.wt_text_edit_laws.specs.TextBetween.{StandsBehind}
-use Rattle.wt_text_edit_laws.proofs.Between.Fronts.{behind_reads, ReadsAfter, reads_after, reads_either, page_read}
+use Rattle.wt_text_edit_laws.proofs.Between.Fronts.{behind_reads, reads_after, reads_either, page_read}
 use Rattle.wt_text_edit_laws.proofs.Prose.InFront.{Reads, reads_nothing, read_break, read_items}
 use Rattle.wt_text_edit_laws.proofs.Prose.Uncommented.{BeginsUncommented, uncommented_other}
 use Rattle.wt_text_edit_laws.proofs.Texts.TypedItems.{references, wide_tame, tame_if}
 use Rattle.wt_beside_laws.specs.Commented.{IsComment, IsCommentSource, IsHeld, AreHeld}
 use Rattle.wt_beside_laws.specs.Content.{guard_items, letter_items, content_items}
 use Rattle.wt_beside_laws.specs.Cuts.{own_glyphs}
-use Rattle.wt_beside_laws.specs.Kept.{Part, characters, sign, lexeme, IsPart, AreParts, parts_source, parts_items, IsKept}
+use Rattle.wt_beside_laws.specs.Kept.{Part, characters, sign, lexeme, AreParts, parts_source, parts_items, IsKept}
 use Rattle.wt_beside_laws.specs.Nodes.{IsNode, AreNodes}
-use Rattle.wt_beside_laws.specs.PageSigns.{HasNoBreak}
 use Rattle.wt_beside_laws.proofs.Contents.{further, begin_letter, guard_reads}
 use Rattle.wt_beside_laws.proofs.Firm.{ReadsAs, alone_as, parts_read, less_firm}
 use Rattle.wt_beside_laws.proofs.FlatAgain.{reference_ends}
-use Rattle.wt_beside_laws.proofs.LineKinds.{FirstOpens, node_opens, new_guarded, no_break}
+use Rattle.wt_beside_laws.proofs.LineKinds.{FirstOpens, node_opens, new_guarded}
 use Rattle.wt_beside_laws.proofs.Marks.InLine.{InLine, InLineAs, comment_in, kept_in, nowiki_in, letter_in}
 
 -- ---- a node

@@ -1,6 +1,6 @@
 -- What is read in a line, where no line break stands before it: there a comment is a comment, and no comment line.
-use Rattle.std.proofs.Common.{arith, ◌≡◌, ℕ, suc, ◌<◌, ◌≤◌, ◌==◌, Bool, true, false, Some, None, List, [], ◌∷◌, ◌++◌, length, take, drop, refl, sym, ap, ◌∙◌, subst, inl, inr, append-nil, append_assoc, All}
-use Rattle.std.specs.Prelude.{◌||◌, not, codes, encode_utf8}
+use Rattle.std.proofs.Common.{arith, ◌≡◌, ℕ, suc, ◌≤◌, ◌==◌, Bool, true, false, Some, None, List, [], ◌∷◌, ◌++◌, length, refl, sym, ap, ◌∙◌, subst, inl, inr, append_assoc, All}
+use Rattle.std.specs.Prelude.{◌||◌, codes, encode_utf8}
 use Rattle.std.proofs.Math.Seq.{take-append_seam}
 use Rattle.std.proofs.lemmas.Bool.{cases_lt}
 use Rattle.std.proofs.lemmas.Bool.Decides.{nat_tests}
@@ -10,31 +10,29 @@ use Rattle.wt_span.specs.declared.form.Mode.TheVariants.{Page}
 use Rattle.wt_span.specs.declared.form.LexKind.{LexKind}
 use Rattle.wt_span.specs.declared.form.LexKind.TheVariants.{Comment, Raw, Entity, Pipe, Equals}
 use Rattle.wt_span.specs.declared.form.ItemForm.TheVariants as form
-use Rattle.wt_span.specs.Bytes.{is_blank, is_break}
+use Rattle.wt_span.specs.Bytes.{is_break}
 use Rattle.wt_span.specs.Comments.{comment_len}
 use Rattle.wt_span.specs.Tags.{opening_tag, tag_after}
 use Rattle.wt_span.specs.Items.{Item, char, whole}
-use Rattle.wt_span.specs.Lexemes.{cuts, form_at}
-use Rattle.wt_names.proofs.Ascii.{IsWide, encode_wide, encode_some}
+use Rattle.wt_span.specs.Lexemes.{form_at}
+use Rattle.wt_names.proofs.Ascii.{IsWide, encode_wide}
 use Rattle.wt_guards.specs.Content.{ContentSign, letter, thing}
 use Rattle.wt_guards.specs.Letters.{is_bracket, is_escaped, reference, written_by}
 use Rattle.wt_guards.specs.Guards.{Setting, nowiki, nowiki_if}
 use Rattle.wt_guards.proofs.Escapes.{is_escapable, escapable}
 use Rattle.wt_expand.specs.PageItems.{items_of_word, page_items}
-use Rattle.wt_spelling_laws.proofs.Forms.{comment_other, comment_not, other_byte, equals_byte, IsTame, less_byte, and_byte, nowiki_form, reference_form}
-use Rattle.wt_spelling_laws.proofs.TextReads.{bracket_escaped, not_bracket, equal_or, apart}
+use Rattle.wt_spelling_laws.proofs.Forms.{other_byte, equals_byte, IsTame, less_byte, and_byte, nowiki_form, reference_form}
+use Rattle.wt_spelling_laws.proofs.TextReads.{bracket_escaped, not_bracket, equal_or}
 use Rattle.wt_text_edit_laws.specs.LonePages.{page_chars}
 use Rattle.wt_text_edit_laws.specs.TextBetween.{EndsBy}
-use Rattle.wt_text_edit_laws.proofs.Between.Fronts.{ReadsAfter, reads_after, reads_either, first_from, byte_from, form_from, items_from}
-use Rattle.wt_text_edit_laws.proofs.Prose.InFront.{Reads}
-use Rattle.wt_text_edit_laws.proofs.Prose.Uncommented.{BeginsUncommented, uncommented_other}
+use Rattle.wt_text_edit_laws.proofs.Between.Fronts.{ReadsAfter, first_from, byte_from, form_from, items_from}
 use Rattle.wt_text_edit_laws.proofs.Texts.TypedItems.{references, wide_form, wide_tame, tame_if, IsMild, wide_mild, mild_if, no_form_byte}
 use Rattle.wt_beside_laws.specs.Commented.{IsComment}
 use Rattle.wt_beside_laws.specs.Content.{guard_items, letter_items}
 use Rattle.wt_beside_laws.specs.Kept.{Part, characters, sign, lexeme, is_firm, AreFirm, is_lexeme_end, IsPart, AreParts, part_source, parts_source, part_items, parts_items, IsKept}
 use Rattle.wt_beside_laws.specs.PageSigns.{HasNoBreak}
 use Rattle.wt_beside_laws.proofs.Contents.{further, begin_letter}
-use Rattle.wt_beside_laws.proofs.Firm.{ReadsAs, alone_as, parts_read, open_items, close_items, pipe_byte, other_form, less_firm}
+use Rattle.wt_beside_laws.proofs.Firm.{ReadsAs, alone_as, parts_read, open_items, close_items, pipe_byte, other_form}
 
 -- ---- in a line
 

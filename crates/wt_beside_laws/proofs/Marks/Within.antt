@@ -1,5 +1,5 @@
 -- Marks of a block by its lines: none is first on its line in the page, and no line break ends its source.
-use Rattle.std.proofs.Common.{arith, ◌≡◌, ℕ, zero, suc, ◌+◌, ◌-◌, ◌<◌, ◌≤◌, ◌==◌, Bool, true, false, Option, Some, None, List, [], ◌∷◌, ◌++◌, length, map, take, drop, refl, sym, ap, ◌∙◌, subst, append_assoc}
+use Rattle.std.proofs.Common.{arith, ◌≡◌, ℕ, zero, suc, ◌+◌, ◌-◌, ◌<◌, ◌≤◌, ◌==◌, Bool, true, false, Option, Some, List, [], ◌∷◌, ◌++◌, length, map, take, drop, refl, sym, ap, ◌∙◌, subst, append_assoc}
 use Rattle.std.specs.Prelude.{◌&&◌, ◌||◌, not, nat_eq, nat_lt, slice_get}
 use Rattle.std.specs.Cmp.Lexicographic.{pointwise}
 use Rattle.std.specs.List.{ends_with}
@@ -9,7 +9,7 @@ use Rattle.std.proofs.lemmas.List.{length-append, length-map, take-append-drop}
 use Rattle.std.proofs.lemmas.Grind.{flat_map-append}
 use Rattle.wt_span.specs.declared.form.ItemForm.{ItemForm}
 use Rattle.wt_span.specs.declared.form.ItemForm.TheVariants as form
-use Rattle.wt_span.specs.Items.{Item, char, whole, source, sources, is_mark}
+use Rattle.wt_span.specs.Items.{Item, char, whole, source, sources}
 use Rattle.wt_span.specs.Lexemes.{words, closed as words_closed}
 use Rattle.wt_lines.specs.Lines.{is_break_item, AreLines}
 use Rattle.wt_tree.specs.Source.{flat}
@@ -20,7 +20,6 @@ use Rattle.wt_original.specs.declared.block.Extent.{Extent}
 use Rattle.wt_original.specs.Kept.{is_break_at, began_line}
 use Rattle.wt_expand.specs.PageItems.{page_items}
 use Rattle.wt_page.specs.Rows.{marks_len}
-use Rattle.wt_tiles.specs.declared.glyph.Glyph.{Glyph}
 use Rattle.wt_tiles.specs.declared.shape.Shape.{Shape}
 use Rattle.wt_tiles.specs.declared.shape.TileKind.{TileKind}
 use Rattle.wt_tiles.specs.declared.shape.TileKind.TheVariants as kind
