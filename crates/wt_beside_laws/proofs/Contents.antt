@@ -157,29 +157,3 @@ letter_reads : (s : Setting) (before : List ContentSign) (c : ℕ) (after : List
 letter_reads s before c after xs true h g =
     both_read (reference c) (further s c before after) (letter_items true c) xs (reference_reads c (escapable s.within s.place before c after h)) g
 letter_reads s before c after xs false h g = plain_reads s before c after xs h g
-
--- ---- all of it
-
-pub content_reads : (s : Setting) (before signs : List ContentSign) → AreKept signs → ReadsAs (spelled_from s before signs) (content_items s before signs)
-content_reads s before [] h = guard_reads (is_guarded s before [])
-content_reads s before (letter c ∷ after) h =
-    let e = is_escaped s.within s.place before c after in
-    let own : List Item = letter_items e c ++ content_items s (letter c ∷ before) after in
-    both_read (nowiki_if (is_guarded s before (letter c ∷ after))) (written_by e c ++ further s c before after) (guard_items (is_guarded s before (letter c ∷ after))) own
-    (guard_reads (is_guarded s before (letter c ∷ after)))
-    (letter_reads s before c after (content_items s (letter c ∷ before) after) e refl (content_reads s (letter c ∷ before) after h))
-content_reads s before (thing t ∷ after) h =
-    let q : List ℕ = spelled_from s (thing t ∷ before) after in
-    let xs : List Item = content_items s (thing t ∷ before) after in
-    both_read (nowiki_if (is_guarded s before (thing t ∷ after))) (t.source ++ q) (guard_items (is_guarded s before (thing t ∷ after))) (page_items t.source ++ xs)
-    (guard_reads (is_guarded s before (thing t ∷ after)))
-    (both_read t.source q (page_items t.source) xs (kept_reads t.source h.0) (content_reads s (thing t ∷ before) after h.1))
-
-pub content_alone : (s : Setting) (signs : List ContentSign) → AreKept signs → page_items (spelled s signs) ≡ content_items s [] signs
-content_alone s signs h = alone_as (spelled s signs) (content_items s [] signs) (content_reads s [] signs h)
-
-pub content_before : (s : Setting) (signs : List ContentSign) (rest : List ℕ) → AreKept signs → StandsBehind rest
-    → page_items (spelled s signs ++ rest) ≡ content_items s [] signs ++ page_items rest
-content_before s signs rest h b =
-    read_items (spelled s signs ++ rest) (content_items s [] signs ++ page_items rest)
-    (content_reads s [] signs h rest (page_items rest) (behind_reads rest b))

@@ -58,11 +58,13 @@ use Rattle.wt_beside_laws.proofs.Contents.{nowiki_reads, reference_reads}
 use Rattle.wt_beside_laws.proofs.Firm.{alone_as}
 use Rattle.wt_beside_laws.proofs.FormKinds.{IsNodeKind, form_is_node}
 use Rattle.wt_beside_laws.proofs.LineItems.{content_lines_are}
+use Rattle.wt_beside_laws.proofs.Marks.InLine.{reference_ends}
 use Rattle.wt_beside_laws.proofs.LineParts.{has_form, glyphs_long, line_cuts, line_unstyled}
 use Rattle.wt_beside_laws.proofs.LineTiles.{line_cut}
 use Rattle.wt_beside_laws.proofs.NodesBegin.{no_url}
 use Rattle.wt_beside_laws.proofs.NodesStand.{by_less, opened_shape}
 use Rattle.wt_beside_laws.proofs.PageSigns.{IsFlatKind}
+use Rattle.wt_beside_laws.specs.Commented.{IsHeld}
 
 -- ---- a tag that opens a pair has its closing tag
 
@@ -235,10 +237,6 @@ nowiki_kept = record {
   is = refl;
 }
 
-pub reference_ends : (c : ℕ) → is_escapable c ≡ true → EndsBy is_lexeme_end (reference c)
-unfolding reference digits
-reference_ends c e = each_escapable (λ k. EndsBy is_lexeme_end (reference k)) refl refl refl refl refl refl refl refl refl refl refl refl refl c e
-
 reference_kept : (c : ℕ) → is_escapable c ≡ true → IsKept (reference c)
 reference_kept c e =
     let r = references c e in
@@ -258,8 +256,19 @@ reference_kept c e =
       is = append-nil (38 ∷ r.others) ∙ sym r.is;
     }
 
-pub put_kept : HoldsOfPut IsKept
-put_kept = record { of_nowiki = nowiki_kept; of_reference = reference_kept }
+-- a lexeme by itself has no line break
+held_lexeme : (f : ItemForm) (q : List ℕ) → IsKept q → page_items q ≡ whole f None q ∷ [] → IsHeld q
+held_lexeme f q k e = inl (k, subst HasNoBreak (sym e) (tt, tt))
+
+nowiki_held : IsHeld nowiki
+nowiki_held = held_lexeme form.Nowiki nowiki nowiki_kept (alone_as nowiki (whole form.Nowiki None nowiki ∷ []) nowiki_reads)
+
+reference_held : (c : ℕ) → is_escapable c ≡ true → IsHeld (reference c)
+reference_held c e =
+    held_lexeme (form.Entity c) (reference c) (reference_kept c e) (alone_as (reference c) (whole (form.Entity c) None (reference c) ∷ []) (reference_reads c e))
+
+pub put_kept : HoldsOfPut IsHeld
+put_kept = record { of_nowiki = nowiki_held; of_reference = reference_held }
 
 abbrev pub IsShut : List ℕ → Type 0
 IsShut bs = ends_open bs ≡ false
@@ -488,16 +497,16 @@ unbroken_lines (l ∷ m ∷ ls) xs h = (no_break l h.0, unbroken_lines (m ∷ ls
 all_unbroken : (s : Setting) (signs : List ContentSign) → IsFlatContent s signs → Unbroken (content_lines s signs)
 all_unbroken s signs h =
     let xs : List Item = page_items (spelled s signs) in
-    subst Unbroken (content_lines_are s signs h.kept h.unbroken) (unbroken_lines (lines xs) xs (lines_are xs))
+    subst Unbroken (content_lines_are s signs (record { within = h.of_block; kept = h.kept; nodes = h.nodes }) h.unbroken) (unbroken_lines (lines xs) xs (lines_are xs))
 
 -- ---- in other words
 
-pub from_kept : (signs : List ContentSign) → AreKept signs → EachSource IsKept signs
+pub from_kept : (signs : List ContentSign) → AreKept signs → EachSource IsHeld signs
 from_kept [] h = tt
 from_kept (letter c ∷ after) h = from_kept after h
 from_kept (thing t ∷ after) h = (h.0, from_kept after h.1)
 
-pub to_kept : (signs : List ContentSign) → EachSource IsKept signs → AreKept signs
+pub to_kept : (signs : List ContentSign) → EachSource IsHeld signs → AreKept signs
 to_kept [] h = tt
 to_kept (letter c ∷ after) h = to_kept after h
 to_kept (thing t ∷ after) h = (h.0, to_kept after h.1)
@@ -532,17 +541,17 @@ pub again_each : (Q : List ℕ → Type 0) (p : HoldsOfPut Q) (at : ℕ) (s : Se
     → EachSource Q (signs_of_lines at (content_lines s signs))
 again_each Q p at s signs h q = so_lines Q at (content_lines s signs) (all_flat Q p s signs h q)
 
-kept_content : (s : Setting) (signs : List ContentSign) → IsFlatContent s signs → FlatLines IsKept (content_lines s signs)
-kept_content s signs h = all_flat IsKept put_kept s signs h (from_kept signs h.kept)
+kept_content : (s : Setting) (signs : List ContentSign) → IsFlatContent s signs → FlatLines IsHeld (content_lines s signs)
+kept_content s signs h = all_flat IsHeld put_kept s signs h (from_kept signs h.kept)
 
 pub again_flat : (s : Setting) (signs : List ContentSign) → IsFlatContent s signs → AreFlatLines (content_lines s signs)
-again_flat s signs h = flat_lines IsKept (content_lines s signs) (all_unbroken s signs h) (kept_content s signs h)
+again_flat s signs h = flat_lines IsHeld (content_lines s signs) (all_unbroken s signs h) (kept_content s signs h)
 
 pub again_unstyled : (s : Setting) (signs : List ContentSign) → IsFlatContent s signs → AreUnstyled (content_lines s signs)
-again_unstyled s signs h = unstyled_lines IsKept (content_lines s signs) (kept_content s signs h)
+again_unstyled s signs h = unstyled_lines IsHeld (content_lines s signs) (kept_content s signs h)
 
 pub again_kept : (at : ℕ) (s : Setting) (signs : List ContentSign) → IsFlatContent s signs → AreKept (signs_of_lines at (content_lines s signs))
-again_kept at s signs h = to_kept (signs_of_lines at (content_lines s signs)) (so_lines IsKept at (content_lines s signs) (kept_content s signs h))
+again_kept at s signs h = to_kept (signs_of_lines at (content_lines s signs)) (so_lines IsHeld at (content_lines s signs) (kept_content s signs h))
 
 pub again_shut : (at : ℕ) (s : Setting) (signs : List ContentSign) → IsFlatContent s signs → AreShut signs → AreShut (signs_of_lines at (content_lines s signs))
 again_shut at s signs h k =

@@ -28,10 +28,10 @@ use Rattle.wt_text_edit_laws.proofs.Texts.PlainRows.{text_row, within_are}
 use Rattle.wt_beside_laws.specs.Flat.{IsFlatContent, content_parts}
 use Rattle.wt_text_edit_laws.specs.ParagraphParts.{para_with}
 use Rattle.wt_beside_laws.specs.Lines.{IsLineOfText, line_items, later_lines}
-use Rattle.wt_beside_laws.proofs.Contents.{content_alone}
 use Rattle.wt_beside_laws.proofs.LineItems.{content_lines_are}
 use Rattle.wt_beside_laws.proofs.LineKinds.{lines_are_text}
 use Rattle.wt_beside_laws.proofs.LineRows.{OwnBreaks, rows_parts, content_own, lines_joined}
+use Rattle.wt_beside_laws.proofs.Marks.Commented.{content_alone}
 
 -- ---- lines of text
 
@@ -123,11 +123,11 @@ pub record Paragraph (s : Setting) (signs : List ContentSign) (xs : List Item) :
 pub flat_paragraph : (s : Setting) (signs : List ContentSign) → IsFlatContent s signs → Paragraph s signs (page_items (spelled s signs))
 flat_paragraph s signs h =
     let xs : List Item = page_items (spelled s signs) in
-    let is = content_lines_are s signs h.kept h.unbroken in
+    let is = content_lines_are s signs (record { within = h.of_block; kept = h.kept; nodes = h.nodes }) h.unbroken in
     let all : (n : ℕ) → All (IsLineOfText n) (map content (full_lines xs) ++ empty_end xs) =
     λ n. subst (All (IsLineOfText n)) (sym is ∙ same_lines xs) (lines_are_text n s signs h.of_block h.characters h.nodes) in
     let closed : empty_end xs ≡ [] = no_end 0 xs (rest_all (IsLineOfText 0) (map content (full_lines xs)) (empty_end xs) (all 0)) in
-    let own : OwnBreaks xs = subst OwnBreaks (sym (content_alone s signs h.kept)) (content_own s [] signs h.unbroken) in
+    let own : OwnBreaks xs = subst OwnBreaks (sym (content_alone s signs (record { within = h.of_block; kept = h.kept; nodes = h.nodes }))) (content_own s [] signs h.unbroken) in
     record {
       text = λ n. front_all (IsLineOfText n) (map content (full_lines xs)) (empty_end xs) (all n);
       closed = closed;

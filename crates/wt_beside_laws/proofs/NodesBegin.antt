@@ -21,7 +21,6 @@ use Rattle.wt_beside_laws.specs.Cuts.{content_cut, own_glyphs, IsFree}
 use Rattle.wt_beside_laws.specs.Glyphs.{content_glyphs, is_url_start, AvoidsUrls, AllAvoid}
 use Rattle.wt_beside_laws.specs.Nodes.{IsDelimiter, IsOneLexeme, IsTagNode, IsCategoryNode, IsMediaNode, IsNode, AreNodes, AllMeet}
 use Rattle.wt_beside_laws.proofs.ContentGlyphs.{glyphs_are}
-use Rattle.wt_beside_laws.proofs.Contents.{content_alone}
 use Rattle.wt_beside_laws.proofs.ContentTiles.{content_tiles}
 use Rattle.wt_beside_laws.proofs.NodesMeet.{nodes_stand}
 use Rattle.wt_beside_laws.proofs.TypedForms.{bare_none}
@@ -152,10 +151,3 @@ pub tiles_before : (s : Setting) (signs : List ContentSign) (rest : List Glyph) 
     → cuts in_line false 0 (content_glyphs s [] signs rest) ≡ content_cut in_line s [] signs (cuts in_line false 0 rest)
 tiles_before s signs rest n m apart free =
     content_tiles in_line s signs rest (all_urls signs n) (all_switches signs n) apart free (nodes_stand s [] signs rest n (all_urls signs n) m)
-
-pub tiles_alone : (s : Setting) (signs : List ContentSign) → AreKept signs → AreNodes signs → AllMeet s [] signs []
-    → cuts in_line false 0 (map glyph_of (page_items (spelled s signs))) ≡ content_cut in_line s [] signs (0, [])
-tiles_alone s signs k n m =
-    ap (λ xs. cuts in_line false 0 (map glyph_of xs)) (content_alone s signs k ∙ sym (append-nil (content_items s [] signs)))
-    ∙ ap (λ gs. cuts in_line false 0 gs) (glyphs_are s [] signs [])
-    ∙ tiles_before s signs [] n m (record { urls = tt; switches = refl }) (λ a. refl)

@@ -2,7 +2,6 @@
 use Rattle.std.specs.Prelude.{◌≡◌, ◌⊎◌, ℕ, suc, Some, List, [], ◌∷◌, ◌++◌, length}
 use Rattle.wt_span.specs.Characters as byte
 use Rattle.wt_span.specs.Comments.{comment_len}
-use Rattle.wt_guards.specs.Content.{ContentSign, letter, thing}
 use Rattle.wt_expand.specs.PageItems.{page_items}
 use Rattle.wt_text_edit_laws.specs.TextBetween.{EndsBy}
 use Rattle.wt_beside_laws.specs.Kept.{is_lexeme_end, IsKept}
@@ -21,9 +20,3 @@ pub record IsCommentSource (source : List ℕ) : Type 0 where
 -- a comment, or another node on one line that stands whatever is written behind it
 abbrev pub IsHeld : List ℕ → Type 0
 IsHeld source = (IsKept source × HasNoBreak (page_items source)) ⊎ IsCommentSource source
-
--- so each node's source
-abbrev pub AreHeld : List ContentSign → Type 0
-AreHeld [] = Unit {0}
-AreHeld (letter c ∷ after) = AreHeld after
-AreHeld (thing t ∷ after) = IsHeld t.source × AreHeld after

@@ -44,7 +44,7 @@ use Rattle.wt_beside_laws.specs.Kept.{characters, sign}
 use Rattle.wt_beside_laws.specs.PageBlocks.{AreUnstyled, AreShut}
 use Rattle.wt_beside_laws.specs.PageSigns.{signs_of_lines, AreFlatLines}
 use Rattle.wt_beside_laws.proofs.Firm.{alone_as, parts_read}
-use Rattle.wt_beside_laws.proofs.Edits.Cases.{AreFlat, items_are, break_kept, break_calm, break_flat}
+use Rattle.wt_beside_laws.proofs.Edits.Cases.{AreFlat, items_are, break_held, break_calm, break_flat}
 use Rattle.wt_page.specs.Rows.{marks_len}
 
 -- ---- as a paragraph
@@ -174,7 +174,7 @@ heading_items = record {
   has_items = ((refl, tt), ((refl, tt), ((refl, tt), tt)));
   flat = break_flat.flat;
   unstyled = break_flat.unstyled;
-  kept = (break_kept, tt);
+  kept = (break_held, tt);
   calm = (break_calm, tt);
   shut = (refl, tt);
 }

@@ -33,12 +33,12 @@ use Rattle.wt_beside_laws.specs.Lines.{AreCharacters, line_items}
 use Rattle.wt_beside_laws.specs.Nodes.{IsNode, AreNodes}
 use Rattle.wt_beside_laws.specs.PageSigns.{form_role, atom_role, tile_signs, signs_of_tiles, line_signs, signs_of_lines, IsFlatForm, IsFlatTile, AreFlatTiles, AreFlatLines}
 use Rattle.wt_beside_laws.specs.Stood.{things}
-use Rattle.wt_beside_laws.proofs.Contents.{content_alone}
 use Rattle.wt_beside_laws.proofs.Among.{AreAmong, same_among, Each, each_among}
 use Rattle.wt_beside_laws.proofs.PageSigns.{some_nodes}
 use Rattle.wt_beside_laws.proofs.LineHeadings.{same_items, ends_behind, UnequalLast, letter_unequal, end_unequal, begins_unequal, unequal_end}
 use Rattle.wt_beside_laws.proofs.LineKinds.{line_opens}
 use Rattle.wt_beside_laws.proofs.NodeEnds.{EndInSigns, nodes_end, unequal_by}
+use Rattle.wt_beside_laws.proofs.Marks.Commented.{content_alone}
 
 -- ---- what a bare URL's role tells of its last item
 
@@ -254,7 +254,7 @@ pub level_told : (s : Setting) (signs : List ContentSign) (sides : Sides) → s.
     → AllTold signs → AreSides sides → IsOfLevel sides (page_items (spelled s signs))
 level_told s signs sides w k c n o h a =
     let own : List Item = page_items (spelled s signs) in
-    let is : own ≡ content_items s [] signs = content_alone s signs k in
+    let is : own ≡ content_items s [] signs = content_alone s signs (record { within = w; kept = k; nodes = n }) in
     let ss : List ℕ = map sign own in
     let begins : BeginsWithout is_equals_sign ss =
     subst (λ (xs : List Item). BeginsWithout is_equals_sign (map sign xs)) (sym (is ∙ sym (same_items s [] signs o)))

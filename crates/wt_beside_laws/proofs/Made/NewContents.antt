@@ -36,7 +36,7 @@ use Rattle.wt_beside_laws.proofs.Made.NodesSealed.{nodes_sealed}
 use Rattle.wt_beside_laws.proofs.PageSigns.{flat_nodes}
 use Rattle.wt_beside_laws.proofs.Made.Closes.{closes_no_more}
 use Rattle.wt_beside_laws.proofs.Made.OldBlocks.{with_parts, parts_are, lines_are, no_group}
-use Rattle.wt_beside_laws.proofs.Made.Written.{IsWritten, uncommented, firm, stays_anywhere, flat_again}
+use Rattle.wt_beside_laws.proofs.Made.Written.{IsWritten, uncommented, firm, stays_anywhere, flat_again, read_flat}
 
 -- ---- neither a group nor a style is in it
 
@@ -115,10 +115,10 @@ firm_content : (k : TextBlock) (q : List ℕ) (s : Setting) (signs : List Conten
     → IsFirmContent k (spelled s signs)
 firm_content k q s signs h w e = record {
   content = flat_content k (spelled s signs) (flat_again k q s signs h w e);
-  firm = λ rest b. firm s signs rest w.flat.kept b;
-  uncommented = λ rest b. uncommented s signs rest w.flat.kept b;
+  firm = λ rest b. firm s signs rest (read_flat s signs w.flat) b;
+  uncommented = λ rest b. uncommented s signs rest (read_flat s signs w.flat) b;
   stays = stays_anywhere k s signs w.flat;
-  unbraced = content_unbraced s signs w.flat.kept w.calm;
+  unbraced = content_unbraced s signs (read_flat s signs w.flat) w.calm;
 }
 
 own_sealed : (k : TextBlock) (q : List ℕ) → IsFlatIn k q → AreSealed (signs_in k q)

@@ -47,6 +47,8 @@ use Rattle.wt_beside_laws.proofs.NodesEnd.{EndsWith, external_ends, ClosesAt, in
 use Rattle.wt_beside_laws.proofs.NodesStand.{EachIs, all_by}
 use Rattle.wt_beside_laws.proofs.PairTiles.{HasTag, partner_tag}
 use Rattle.wt_beside_laws.proofs.UrlFronts.{some_shape}
+use Rattle.wt_beside_laws.specs.Commented.{IsHeld}
+use Rattle.wt_beside_laws.proofs.Marks.Commented.{comment_alone}
 
 -- ---- lexemes
 
@@ -126,6 +128,13 @@ lexemes_end : (q : List ℕ) → IsKept q → LexemesEnd (page_items q)
 lexemes_end q h =
     let own : ReadsAs q (parts_items h.parts) = subst (λ bs. ReadsAs bs (parts_items h.parts)) h.is (parts_read h.parts h.are) in
     subst LexemesEnd (sym (alone_as q (parts_items h.parts) own)) (parts_end h.parts h.are)
+
+held_ends : (q : List ℕ) → IsHeld q → LexemesEnd (page_items q)
+held_ends q h = elim h [
+  | inl k ↦ lexemes_end q k.0
+  | inr c ↦ subst (λ bs. LexemesEnd (page_items bs)) (sym c.is)
+      (subst LexemesEnd (sym (comment_alone c.others c.comment)) (lexeme_stops (60 ∷ c.others) c.comment.ends, tt))
+]
 
 -- ---- items without a `<` outside of lexemes
 
@@ -507,6 +516,6 @@ pub nodes_sealed : (signs : List ContentSign) → AreNodes signs → AreKept sig
 nodes_sealed [] n k = tt
 nodes_sealed (letter c ∷ after) n k = nodes_sealed after n k
 nodes_sealed (thing t ∷ after) n k = (
-  subst IsSealed (page_sources t.source) (node_sealed t.role (page_items t.source) (lexemes_end t.source k.0) n.0),
+  subst IsSealed (page_sources t.source) (node_sealed t.role (page_items t.source) (held_ends t.source k.0) n.0),
   nodes_sealed after n.1 k.1,
 )

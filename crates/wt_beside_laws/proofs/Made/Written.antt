@@ -28,7 +28,7 @@ use Rattle.wt_text_edit_laws.proofs.Prose.Uncommented.{BeginsUncommented}
 use Rattle.wt_text_edit_laws.proofs.Texts.TypedShown.{AllOfPage}
 use Rattle.wt_beside_laws.specs.Calm.{IsCalm, AreCalm}
 use Rattle.wt_beside_laws.specs.Content.{AreKept}
-use Rattle.wt_beside_laws.specs.Flat.{IsFlatContent, content_parts}
+use Rattle.wt_beside_laws.specs.Flat.{IsFlatContent, content_parts, IsReadIn}
 use Rattle.wt_beside_laws.specs.FlatBlocks.{lines_in, begins_at, signs_in, IsFlatIn, IsUnledIn}
 use Rattle.wt_beside_laws.specs.InHeadings.{AreOnOneLine, IsHeadingContent}
 use Rattle.wt_beside_laws.specs.Lines.{IsLineOfText, AreCharacters, AreUnbroken, line_items, later_lines, content_lines}
@@ -39,7 +39,6 @@ use Rattle.wt_beside_laws.specs.Stood.{things}
 use Rattle.wt_beside_laws.proofs.Among.{AreAmong}
 use Rattle.wt_beside_laws.proofs.BlockSigns.{some_shut}
 use Rattle.wt_beside_laws.proofs.CalmContents.{content_utf8, content_unbraced, nowiki_calm, reference_calm}
-use Rattle.wt_beside_laws.proofs.Contents.{content_reads, content_alone}
 use Rattle.wt_beside_laws.proofs.FlatAgain.{EachSource, HoldsOfPut, again_flat, again_unstyled, again_kept, again_shut, again_each}
 use Rattle.wt_beside_laws.proofs.LineHeadings.{heading_inside, heading_parts, same_items}
 use Rattle.wt_beside_laws.proofs.LineItems.{content_lines_are}
@@ -51,6 +50,7 @@ use Rattle.wt_beside_laws.proofs.Made.Levels.{keeps_level}
 use Rattle.wt_beside_laws.proofs.Made.OldBlocks.{lines_are}
 use Rattle.wt_beside_laws.proofs.Made.OwnPages.{own_frame}
 use Rattle.wt_beside_laws.proofs.Marks.Within.{unled_lines}
+use Rattle.wt_beside_laws.proofs.Marks.Commented.{content_alone, content_reads}
 
 -- ---- a content of a block of this kind
 
@@ -67,6 +67,9 @@ pub record IsWritten (k : TextBlock) (s : Setting) (signs : List ContentSign) : 
 in_heading : (h : Sides) (s : Setting) (signs : List ContentSign) → IsWritten (a_heading h) s signs → IsHeadingContent s signs
 in_heading h s signs w = record { flat = w.flat; of_heading = w.fits.0; one_line = w.fits.1 }
 
+pub read_flat : (s : Setting) (signs : List ContentSign) → IsFlatContent s signs → IsReadIn s signs
+read_flat s signs h = record { within = h.of_block; kept = h.kept; nodes = h.nodes }
+
 -- ---- its lines
 
 none_later : (s : Setting) (before signs : List ContentSign) → AreOnOneLine signs → later_lines s before signs ≡ []
@@ -76,48 +79,48 @@ none_later s before (letter c ∷ after) o =
     ∙ none_later s (letter c ∷ before) after o.1
 none_later s before (thing t ∷ after) o = none_later s (thing t ∷ before) after o
 
-pub lines_by : (k : TextBlock) (s : Setting) (signs : List ContentSign) → AreKept signs → AreUnbroken signs → FitsIn k s signs
+pub lines_by : (k : TextBlock) (s : Setting) (signs : List ContentSign) → IsReadIn s signs → AreUnbroken signs → FitsIn k s signs
     → lines_in k (spelled s signs) ≡ content_lines s signs
 lines_by a_paragraph s signs kept unbroken fits = content_lines_are s signs kept unbroken
 lines_by (a_heading h) s signs kept unbroken fits =
     ap₂ (λ (l : List Item) (ls : List (List Item)). l ∷ ls) (content_alone s signs kept ∙ sym (same_items s [] signs fits.1)) (sym (none_later s [] signs fits.1))
 
 pub lines_written : (k : TextBlock) (s : Setting) (signs : List ContentSign) → IsWritten k s signs → lines_in k (spelled s signs) ≡ content_lines s signs
-lines_written k s signs w = lines_by k s signs w.flat.kept w.flat.unbroken w.fits
+lines_written k s signs w = lines_by k s signs (read_flat s signs w.flat) w.flat.unbroken w.fits
 
 -- ---- its parts
 
 pub parts_written : (k : TextBlock) (s : Setting) (signs : List ContentSign) → IsWritten k s signs
     → content_parts_of k (page_items (spelled s signs)) ≡ content_parts s [] signs
 parts_written a_paragraph s signs w =
-    ap joined_parts (content_lines_are s signs w.flat.kept w.flat.unbroken) ∙ lines_joined s [] signs w.flat.nodes w.flat.flat w.flat.meet
+    ap joined_parts (content_lines_are s signs (read_flat s signs w.flat) w.flat.unbroken) ∙ lines_joined s [] signs w.flat.nodes w.flat.flat w.flat.meet
 parts_written (a_heading h) s signs w = heading_parts s signs (in_heading h s signs w)
 
 -- ---- how it is read
 
-pub before_any : (s : Setting) (signs : List ContentSign) → AreKept signs → IsBeforeAny (spelled s signs)
+pub before_any : (s : Setting) (signs : List ContentSign) → IsReadIn s signs → IsBeforeAny (spelled s signs)
 before_any s signs k rest xs r =
-    subst (λ (ys : List Item). Reads (spelled s signs ++ rest) (ys ++ xs)) (sym (content_alone s signs k)) (content_reads s [] signs k rest xs r)
+    subst (λ (ys : List Item). Reads (spelled s signs ++ rest) (ys ++ xs)) (sym (content_alone s signs k)) (content_reads s signs k rest xs r)
 
 stands : (bs : List ℕ) → BeginsUncommented bs → StandsBehind bs
 stands bs h = record { uncommented = h.is }
 
-pub uncommented : (s : Setting) (signs : List ContentSign) (rest : List ℕ) → AreKept signs → StandsBehind rest → StandsBehind (spelled s signs ++ rest)
+pub uncommented : (s : Setting) (signs : List ContentSign) (rest : List ℕ) → IsReadIn s signs → StandsBehind rest → StandsBehind (spelled s signs ++ rest)
 uncommented s signs rest k b =
     let r : Reads (spelled s signs ++ rest) (page_items (spelled s signs) ++ page_items rest) = before_any s signs k rest (page_items rest) (behind_reads rest b) in
     stands (spelled s signs ++ rest) r.begins
 
-pub firm : (s : Setting) (signs : List ContentSign) (rest : List ℕ) → AreKept signs → StandsBehind rest
+pub firm : (s : Setting) (signs : List ContentSign) (rest : List ℕ) → IsReadIn s signs → StandsBehind rest
     → page_items (spelled s signs ++ rest) ≡ page_items (spelled s signs) ++ page_items rest
 firm s signs rest k b =
     read_items (spelled s signs ++ rest) (page_items (spelled s signs) ++ page_items rest) (before_any s signs k rest (page_items rest) (behind_reads rest b))
 
-pub alone : (s : Setting) (signs : List ContentSign) → AreKept signs → StandsBehind (spelled s signs)
+pub alone : (s : Setting) (signs : List ContentSign) → IsReadIn s signs → StandsBehind (spelled s signs)
 alone s signs k =
     let r : Reads (spelled s signs ++ []) (page_items (spelled s signs) ++ []) = before_any s signs k [] [] reads_nothing in
     subst StandsBehind (append-nil (spelled s signs)) (stands (spelled s signs ++ []) r.begins)
 
-pub before_break : (s : Setting) (signs : List ContentSign) → AreKept signs → StandsBehind (spelled s signs ++ 10 ∷ [])
+pub before_break : (s : Setting) (signs : List ContentSign) → IsReadIn s signs → StandsBehind (spelled s signs ++ 10 ∷ [])
 before_break s signs k =
     let r : Reads (spelled s signs ++ 10 ∷ []) (page_items (spelled s signs) ++ char None 10 ∷ []) =
     before_any s signs k (10 ∷ []) (char None 10 ∷ []) (read_break [] [] reads_nothing) in
@@ -145,7 +148,7 @@ all_texts n (l ∷ ls) h =
 pub texts_by : (n : ℕ) (s : Setting) (signs : List ContentSign) → s.within ≡ false → AreCharacters signs → AreNodes signs → AreKept signs → AreUnbroken signs
     → All (λ l. line_kind n l ≡ line.Text) (lines (page_items (spelled s signs)))
 texts_by n s signs block typed nodes kept unbroken =
-    subst (All (λ l. line_kind n l ≡ line.Text)) (sym (content_lines_are s signs kept unbroken)) (all_texts n (content_lines s signs) (lines_are_text n s signs block typed nodes))
+    subst (All (λ l. line_kind n l ≡ line.Text)) (sym (content_lines_are s signs (record { within = block; kept = kept; nodes = nodes }) unbroken)) (all_texts n (content_lines s signs) (lines_are_text n s signs block typed nodes))
 
 texts_stay : (n : ℕ) (s : Setting) (signs : List ContentSign) → IsFlatContent s signs → All (λ l. line_kind n l ≡ line.Text) (lines (page_items (spelled s signs)))
 texts_stay n s signs f = texts_by n s signs f.of_block f.characters f.nodes f.kept f.unbroken
@@ -163,8 +166,8 @@ paragraph_written : (s : Setting) (signs : List ContentSign) → IsFlatContent s
 paragraph_written s signs f = record {
   are_lines = texts_stay 0 s signs f;
   unled = all_unled (full_lines (page_items (spelled s signs))) ((flat_paragraph s signs f).text 0);
-  alone = alone s signs f.kept;
-  before_break = before_break s signs f.kept;
+  alone = alone s signs (read_flat s signs f);
+  before_break = before_break s signs (read_flat s signs f);
 }
 
 -- of the nodes of flat lines
@@ -177,11 +180,11 @@ content_written (a_heading h) q s signs l f w e =
 
 -- ---- it calls nothing
 
-block_unbraced : (k : TextBlock) (s : Setting) (signs : List ContentSign) → HasFrame k → AreKept signs → AreCalm signs → AreUnbraced (block_items k (spelled s signs))
+block_unbraced : (k : TextBlock) (s : Setting) (signs : List ContentSign) → HasFrame k → IsReadIn s signs → AreCalm signs → AreUnbraced (block_items k (spelled s signs))
 block_unbraced a_paragraph s signs f kept calm = content_unbraced s signs kept calm
 block_unbraced (a_heading h) s signs f kept calm = line_unbraced h (page_items (spelled s signs)) f (content_unbraced s signs kept calm)
 
-pub calls_none : (k : TextBlock) (s : Setting) (signs : List ContentSign) → HasFrame k → AreKept signs → AreCalm signs → CallsNothing (block_items k (spelled s signs))
+pub calls_none : (k : TextBlock) (s : Setting) (signs : List ContentSign) → HasFrame k → IsReadIn s signs → AreCalm signs → CallsNothing (block_items k (spelled s signs))
 calls_none k s signs f kept calm =
     let xs : List Item = block_items k (spelled s signs) in subst NonePairs (sym (none_unbraced xs (block_unbraced k s signs f kept calm))) tt
 
@@ -227,7 +230,7 @@ pub flat_again : (k : TextBlock) (q : List ℕ) (s : Setting) (signs : List Cont
     → IsFlatIn k (spelled s signs)
 flat_again k q s signs h w e =
     let f : HasFrame k = own_frame k q h.is in
-    let b : IsBeforeAny (spelled s signs) = before_any s signs w.flat.kept in
+    let b : IsBeforeAny (spelled s signs) = before_any s signs (read_flat s signs w.flat) in
     let held = held_again k q s signs h e in
     let parts : content_parts_of k (page_items (spelled s signs)) ≡ content_parts s [] signs = parts_written k s signs w in
     let at : ℕ = begins_at k in
@@ -237,7 +240,7 @@ flat_again k q s signs h w e =
       unended = unended_so k (spelled s signs) f b;
       is = content_written k q s signs h.flat f w e;
       unled = unled_written k s signs w;
-      calls_nothing = calls_none k s signs f w.flat.kept w.calm;
+      calls_nothing = calls_none k s signs f (read_flat s signs w.flat) w.calm;
       of_page = subst (λ (ps : List Part). AllOfPage (held_by_all (forest (children ps)))) (sym parts) held.1;
       has_items = subst (λ (ps : List Part). AllHaveItems (forest (children ps))) (sym parts) held.0;
       flat = of_written AreFlatLines k s signs w (again_flat s signs w.flat);

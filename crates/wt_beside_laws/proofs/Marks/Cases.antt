@@ -1,5 +1,5 @@
 -- Worked cases: `<!--c-->` is a comment whatever is behind it, and the paragraph `x<noinclude>y`, in which an include tag is within its line, is flat.
-use Rattle.std.proofs.Common.{◌≡◌, ℕ, None, List, [], ◌∷◌, ◌++◌, refl, sym, subst}
+use Rattle.std.proofs.Common.{◌≡◌, ℕ, None, List, [], ◌∷◌, ◌++◌, refl, sym, subst, inl}
 use Rattle.std.specs.Prelude.{codes}
 use Rattle.std.specs.Str.{chars}
 use Rattle.std.proofs.Math.Utf8.{encode}
@@ -35,6 +35,7 @@ use Rattle.wt_beside_laws.specs.Kept.{characters, lexeme, IsPart, IsKept}
 use Rattle.wt_beside_laws.proofs.Firm.{alone_as, parts_read}
 use Rattle.wt_beside_laws.proofs.Edits.Cases.{AreFlat}
 use Rattle.wt_beside_laws.proofs.Made.Cases.{AreBlockItems, paragraph_by}
+use Rattle.wt_beside_laws.specs.PageSigns.{HasNoBreak}
 
 comment : IsComment (codes "!--c-->")
 unfolding comment_len
@@ -85,7 +86,7 @@ tag_flat = record {
   text = (record { text = refl; unmarked = refl }, tt);
   flat = ((refl, (tt, (refl, tt))), ((120 ∷ [], (refl, refl)), (record { alone = tag_alone; lone = tt }, ((121 ∷ [], (refl, refl)), tt))), tt);
   unstyled = (refl, tt);
-  kept = (tag_kept, tt);
+  kept = (inl (tag_kept, subst HasNoBreak (sym tag_alone) (tt, tt)), tt);
   calm = (tag_calm, tt);
   shut = (refl, tt);
   full = (refl, ((refl, tt, refl), (refl, tt)));

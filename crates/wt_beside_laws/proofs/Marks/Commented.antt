@@ -30,16 +30,16 @@ use Rattle.wt_text_edit_laws.proofs.Between.Fronts.{behind_reads, reads_after, r
 use Rattle.wt_text_edit_laws.proofs.Prose.InFront.{Reads, reads_nothing, read_break, read_items}
 use Rattle.wt_text_edit_laws.proofs.Prose.Uncommented.{BeginsUncommented, uncommented_other}
 use Rattle.wt_text_edit_laws.proofs.Texts.TypedItems.{references, wide_tame, tame_if}
-use Rattle.wt_beside_laws.specs.Commented.{IsComment, IsCommentSource, IsHeld, AreHeld}
-use Rattle.wt_beside_laws.specs.Content.{guard_items, letter_items, content_items}
+use Rattle.wt_beside_laws.specs.Commented.{IsComment, IsCommentSource, IsHeld}
+use Rattle.wt_beside_laws.specs.Content.{AreKept, guard_items, letter_items, content_items}
 use Rattle.wt_beside_laws.specs.Cuts.{own_glyphs}
+use Rattle.wt_beside_laws.specs.Flat.{IsReadIn}
 use Rattle.wt_beside_laws.specs.Kept.{Part, characters, sign, lexeme, AreParts, parts_source, parts_items, IsKept}
 use Rattle.wt_beside_laws.specs.Nodes.{IsNode, AreNodes}
 use Rattle.wt_beside_laws.proofs.Contents.{further, begin_letter, guard_reads}
 use Rattle.wt_beside_laws.proofs.Firm.{ReadsAs, alone_as, parts_read, less_firm}
-use Rattle.wt_beside_laws.proofs.FlatAgain.{reference_ends}
 use Rattle.wt_beside_laws.proofs.LineKinds.{FirstOpens, node_opens, new_guarded}
-use Rattle.wt_beside_laws.proofs.Marks.InLine.{InLine, InLineAs, comment_in, kept_in, nowiki_in, letter_in}
+use Rattle.wt_beside_laws.proofs.Marks.InLine.{InLine, InLineAs, comment_in, kept_in, nowiki_in, letter_in, reference_ends}
 
 -- ---- a node
 
@@ -187,7 +187,7 @@ no_line_end Node own n = refl
 -- ---- all of it
 
 content_level : (s : Setting) (before signs : List ContentSign) (start : Bool) → s.within ≡ false → is_line_start (nearest before) ≡ start
-    → (start ≡ true → is_line_begun before ≡ true) → AreHeld signs → AreNodes signs → (rest : List ℕ) (xs : List Item) → Reads rest xs
+    → (start ≡ true → is_line_begun before ≡ true) → AreKept signs → AreNodes signs → (rest : List ℕ) (xs : List Item) → Reads rest xs
     → Level start (spelled_from s before signs ++ rest) (content_items s before signs ++ xs)
 content_level s before [] start w l b h n rest xs r =
     let all : Reads (nowiki_if (is_guarded s before []) ++ rest) (guard_items (is_guarded s before []) ++ xs) = guard_reads (is_guarded s before []) rest xs r in
@@ -214,15 +214,15 @@ content_level s before (thing t ∷ after) start w l b h n rest xs r =
     (node_opens t.role (own_glyphs t) n.0 (λ i. let no : true ≡ false = sym (new_guarded s before t after w (l ∙ z) i) ∙ g in cc)) (more ++ rest)))
 
 -- So a content of a paragraph or a heading is read before whatever is read behind it.
-pub commented_reads : (s : Setting) (signs : List ContentSign) → s.within ≡ false → AreHeld signs → AreNodes signs → ReadsAs (spelled s signs) (content_items s [] signs)
-commented_reads s signs w h n rest xs r =
-    let l = content_level s [] signs true w refl (λ z. refl) h n rest xs r in
+pub content_reads : (s : Setting) (signs : List ContentSign) → IsReadIn s signs → ReadsAs (spelled s signs) (content_items s [] signs)
+content_reads s signs k rest xs r =
+    let l = content_level s [] signs true k.within refl (λ z. refl) k.kept k.nodes rest xs r in
     reads_either (spelled s signs ++ rest) (content_items s [] signs ++ xs) (l.begins refl) l.line
 
-pub commented_alone : (s : Setting) (signs : List ContentSign) → s.within ≡ false → AreHeld signs → AreNodes signs → page_items (spelled s signs) ≡ content_items s [] signs
-commented_alone s signs w h n = alone_as (spelled s signs) (content_items s [] signs) (commented_reads s signs w h n)
+pub content_alone : (s : Setting) (signs : List ContentSign) → IsReadIn s signs → page_items (spelled s signs) ≡ content_items s [] signs
+content_alone s signs k = alone_as (spelled s signs) (content_items s [] signs) (content_reads s signs k)
 
-pub commented_before : (s : Setting) (signs : List ContentSign) (rest : List ℕ) → s.within ≡ false → AreHeld signs → AreNodes signs → StandsBehind rest
+pub content_before : (s : Setting) (signs : List ContentSign) (rest : List ℕ) → IsReadIn s signs → StandsBehind rest
     → page_items (spelled s signs ++ rest) ≡ content_items s [] signs ++ page_items rest
-commented_before s signs rest w h n b =
-    read_items (spelled s signs ++ rest) (content_items s [] signs ++ page_items rest) (commented_reads s signs w h n rest (page_items rest) (behind_reads rest b))
+content_before s signs rest k b =
+    read_items (spelled s signs ++ rest) (content_items s [] signs ++ page_items rest) (content_reads s signs k rest (page_items rest) (behind_reads rest b))

@@ -19,7 +19,7 @@ use Rattle.wt_names.proofs.Ascii.{IsWide, encode_wide}
 use Rattle.wt_guards.specs.Content.{ContentSign, letter, thing}
 use Rattle.wt_guards.specs.Letters.{is_bracket, is_escaped, reference, written_by}
 use Rattle.wt_guards.specs.Guards.{Setting, nowiki, nowiki_if}
-use Rattle.wt_guards.proofs.Escapes.{is_escapable, escapable}
+use Rattle.wt_guards.proofs.Escapes.{is_escapable, escapable, each_escapable}
 use Rattle.wt_expand.specs.PageItems.{items_of_word, page_items}
 use Rattle.wt_spelling_laws.proofs.Forms.{other_byte, equals_byte, IsTame, less_byte, and_byte, nowiki_form, reference_form}
 use Rattle.wt_spelling_laws.proofs.TextReads.{bracket_escaped, not_bracket, equal_or}
@@ -33,6 +33,7 @@ use Rattle.wt_beside_laws.specs.Kept.{Part, characters, sign, lexeme, is_firm, A
 use Rattle.wt_beside_laws.specs.PageSigns.{HasNoBreak}
 use Rattle.wt_beside_laws.proofs.Contents.{further, begin_letter}
 use Rattle.wt_beside_laws.proofs.Firm.{ReadsAs, alone_as, parts_read, open_items, close_items, pipe_byte, other_form}
+use Rattle.std.specs.Fmt.{digits}
 
 -- ---- in a line
 
@@ -144,8 +145,12 @@ pub guard_in : (guarded : Bool) → InLineAs (nowiki_if guarded) (guard_items gu
 guard_in true = nowiki_in
 guard_in false = λ rest xs r. r
 
-reference_ends : (c : ℕ) → is_escapable c ≡ true → EndsBy is_lexeme_end (reference c) → InLineAs (reference c) (whole (form.Entity c) None (reference c) ∷ [])
-reference_ends c e ends rest xs k =
+pub reference_ends : (c : ℕ) → is_escapable c ≡ true → EndsBy is_lexeme_end (reference c)
+unfolding reference digits
+reference_ends c e = each_escapable (λ k. EndsBy is_lexeme_end (reference k)) refl refl refl refl refl refl refl refl refl refl refl refl refl c e
+
+reference_in : (c : ℕ) → is_escapable c ≡ true → EndsBy is_lexeme_end (reference c) → InLineAs (reference c) (whole (form.Entity c) None (reference c) ∷ [])
+reference_in c e ends rest xs k =
     let r = references c e in
     let own : List ℕ = 38 ∷ r.others in
     let f : form_at Page false (38 ∷ (r.others ++ rest)) ≡ Some (Entity c, suc (length r.others)) =
@@ -210,5 +215,5 @@ pub letter_in : (s : Setting) (before : List ContentSign) (c : ℕ) (after : Lis
     → is_escaped s.within s.place before c after ≡ e → (e ≡ true → EndsBy is_lexeme_end (reference c)) → (c == 10) ≡ false
     → InLine (further s c before after ++ rest) xs → InLine (written_by e c ++ (further s c before after ++ rest)) (letter_items e c ++ xs)
 letter_in s before c after rest xs true h ends n g =
-    reference_ends c (escapable s.within s.place before c after h) (ends refl) (further s c before after ++ rest) xs g
+    reference_in c (escapable s.within s.place before c after h) (ends refl) (further s c before after ++ rest) xs g
 letter_in s before c after rest xs false h ends n g = plain_in s before c after rest xs h n g

@@ -1,5 +1,5 @@
 -- Marks of a block by its lines: none is first on its line in the page, and no line break ends its source.
-use Rattle.std.proofs.Common.{arith, ◌≡◌, ℕ, zero, suc, ◌+◌, ◌-◌, ◌<◌, ◌≤◌, ◌==◌, Bool, true, false, Option, Some, List, [], ◌∷◌, ◌++◌, length, map, take, drop, refl, sym, ap, ◌∙◌, subst, append_assoc}
+use Rattle.std.proofs.Common.{arith, ◌≡◌, ℕ, zero, suc, ◌+◌, ◌-◌, ◌<◌, ◌≤◌, ◌==◌, Bool, true, false, Option, Some, List, [], ◌∷◌, ◌++◌, length, map, take, drop, refl, sym, ap, ◌∙◌, subst, append_assoc, inl, inr}
 use Rattle.std.specs.Prelude.{◌&&◌, ◌||◌, not, nat_eq, nat_lt, slice_get}
 use Rattle.std.specs.Cmp.Lexicographic.{pointwise}
 use Rattle.std.specs.List.{ends_with}
@@ -43,6 +43,7 @@ use Rattle.wt_beside_laws.proofs.FormKinds.{IsNodeKind, form_is_node}
 use Rattle.wt_beside_laws.proofs.PageSigns.{AreChars, are_chars, none_take, none_drop}
 use Rattle.wt_beside_laws.proofs.PartThings.{none_of_both}
 use Rattle.wt_beside_laws.proofs.SentNodes.{things_append, no_things}
+use Rattle.wt_beside_laws.specs.Commented.{IsHeld}
 
 -- ---- the last byte
 
@@ -139,6 +140,12 @@ kept_end q h n =
     let own : ReadsAs q (parts_items h.parts) = subst (λ bs. ReadsAs bs (parts_items h.parts)) h.is (parts_read h.parts h.are) in
     subst (EndsBy not_break) h.is (parts_end h.parts h.are (subst HasNoBreak (alone_as q (parts_items h.parts) own) n))
 
+held_end : (q : List ℕ) → IsHeld q → EndsBy not_break q
+held_end q h = elim h [
+  | inl k ↦ kept_end q k.0 k.1
+  | inr c ↦ subst (EndsBy not_break) (sym c.is) (lexeme_end (60 ∷ c.others) c.comment.ends)
+]
+
 -- ---- a tile
 
 nothing_read : page_items [] ≡ []
@@ -159,8 +166,8 @@ read_some ys e some = by (sources ys) refl
 abbrev Goes : List Item → Type 0
 Goes ys = (0 < length (sources ys)) × EndsBy not_break (sources ys)
 
-form_goes : (k : TileKind) (ys : List Item) → IsFlatForm k ys → IsKept (sources ys) → HasNoBreak ys → 0 < length ys → Goes ys
-form_goes k ys f h n some = (read_some ys f.alone some, kept_end (sources ys) h (subst HasNoBreak (sym f.alone) n))
+form_goes : (k : TileKind) (ys : List Item) → IsFlatForm k ys → IsHeld (sources ys) → HasNoBreak ys → 0 < length ys → Goes ys
+form_goes k ys f h n some = (read_some ys f.alone some, held_end (sources ys) h)
 
 chars_go : (ys : List Item) → AreChars ys → HasNoBreak ys → EndsBy not_break (sources ys)
 chars_go [] c n = tt

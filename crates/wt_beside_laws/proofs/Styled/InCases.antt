@@ -44,7 +44,7 @@ use Rattle.wt_beside_laws.specs.PageBlocks.{AreShut}
 use Rattle.wt_beside_laws.specs.PageSigns.{signs_of_lines, AreFlatLines}
 use Rattle.wt_beside_laws.specs.StyledIn.{IsStyledIn}
 use Rattle.wt_beside_laws.proofs.Firm.{alone_as, parts_read}
-use Rattle.wt_beside_laws.proofs.Edits.Cases.{break_alone, break_kept, break_calm}
+use Rattle.wt_beside_laws.proofs.Edits.Cases.{break_alone, break_held, break_calm}
 
 abbrev own : List ℕ
 own = codes "''x''<br>y"
@@ -93,7 +93,7 @@ own_items = record {
     ((codes "''x''", (refl, refl)), (record { alone = break_alone; lone = tt }, ((121 ∷ [], (refl, refl)), tt))),
     tt,
   );
-  kept = (break_kept, tt);
+  kept = (break_held, tt);
   calm = (break_calm, tt);
   shut = (refl, tt);
 }

@@ -47,6 +47,10 @@ use Rattle.wt_beside_laws.proofs.Styled.StyledNodes.{each_some}
 use Rattle.wt_beside_laws.proofs.Styled.StyledParagraphs.{lines_joined, styled_text}
 use Rattle.wt_beside_laws.proofs.Marks.Within.{unled_lines}
 use Rattle.wt_beside_laws.proofs.LineKinds.{are_lines_of_text}
+use Rattle.wt_beside_laws.specs.Flat.{IsReadIn}
+
+read_styled : (s : Setting) (t : StyledContent) → IsStyledContent s t → IsReadIn s (signs_in t)
+read_styled s t h = record { within = h.of_block; kept = h.kept; nodes = h.nodes }
 
 -- ---- its lines and parts
 
@@ -58,12 +62,12 @@ as_heading : (w : Sides) (s : Setting) (t : StyledContent) → IsStyledContent s
 as_heading w s t c h = record { styled = c; of_heading = h.0; one_line = h.1 }
 
 lines_so : (k : TextBlock) (s : Setting) (t : StyledContent) → IsStyledContent s t → StaysIn k s t → lines_in k (spelled s (signs_in t)) ≡ content_lines s (signs_in t)
-lines_so k s t c h = lines_by k s (signs_in t) c.kept c.unbroken (fits_of k s t h)
+lines_so k s t c h = lines_by k s (signs_in t) (read_styled s t c) c.unbroken (fits_of k s t h)
 
 pub styled_parts_so : (k : TextBlock) (s : Setting) (t : StyledContent) → IsStyledContent s t → StaysIn k s t
     → content_parts_of k (page_items (spelled s (signs_in t))) ≡ styled_parts false s [] t []
 styled_parts_so a_paragraph s t c h =
-    ap joined_parts (content_lines_are s (signs_in t) c.kept c.unbroken) ∙ lines_joined s [] t c.nodes c.nested c.meet
+    ap joined_parts (content_lines_are s (signs_in t) (read_styled s t c) c.unbroken) ∙ lines_joined s [] t c.nodes c.nested c.meet
 styled_parts_so (a_heading w) s t c h = inside_parts s t (as_heading w s t c h)
 
 stays_so : (k : TextBlock) (s : Setting) (t : StyledContent) → IsStyledContent s t → StaysAnywhere k (spelled s (signs_in t))
@@ -74,8 +78,8 @@ lines_of_text : (s : Setting) (t : StyledContent) → IsStyledContent s t → Ar
 lines_of_text s t c = record {
   are_lines = texts_by 0 s (signs_in t) c.of_block c.characters c.nodes c.kept c.unbroken;
   unled = all_unled (full_lines (page_items (spelled s (signs_in t)))) (styled_text s t c);
-  alone = alone s (signs_in t) c.kept;
-  before_break = before_break s (signs_in t) c.kept;
+  alone = alone s (signs_in t) (read_styled s t c);
+  before_break = before_break s (signs_in t) (read_styled s t c);
 }
 
 -- a delimiter and a nowiki are no URL
@@ -164,7 +168,7 @@ styled_again k q s t h w =
     let signs : List ContentSign = signs_in t in
     let c : IsStyledContent s t = w.content in
     let f : HasFrame k = own_frame k q h.is in
-    let b : IsBeforeAny (spelled s signs) = before_any s signs c.kept in
+    let b : IsBeforeAny (spelled s signs) = before_any s signs (read_styled s t c) in
     let calm : AreCalm signs = calm_so k q s t h w in
     let held = held_so k q s t h w in
     let parts : content_parts_of k (page_items (spelled s signs)) ≡ styled_parts false s [] t [] = styled_parts_so k s t c w.stays in
@@ -175,7 +179,7 @@ styled_again k q s t h w =
       unended = unended_so k (spelled s signs) f b;
       is = content_so k q s t f h w;
       unled = unled_so k s t c w.stays;
-      calls_nothing = calls_none k s signs f c.kept calm;
+      calls_nothing = calls_none k s signs f (read_styled s t c) calm;
       of_page = subst (λ (ps : List Part). AllOfPage (held_by_all (forest (children ps)))) (sym parts) held.1;
       has_items = subst (λ (ps : List Part). AllHaveItems (forest (children ps))) (sym parts) held.0;
       flat = of_lines_so AreFlatLines k s t c w.stays (again_lines s t c);
@@ -204,10 +208,10 @@ pub styled_new : (k : TextBlock) (q : List ℕ) (s : Setting) (t : StyledContent
 styled_new k q s t h w = record {
   firm = record {
     content = styled_in_content k (spelled s (signs_in t)) (styled_again k q s t h w);
-    firm = λ rest b. firm s (signs_in t) rest w.content.kept b;
-    uncommented = λ rest b. uncommented s (signs_in t) rest w.content.kept b;
+    firm = λ rest b. firm s (signs_in t) rest (read_styled s t w.content) b;
+    uncommented = λ rest b. uncommented s (signs_in t) rest (read_styled s t w.content) b;
     stays = stays_so k s t w.content;
-    unbraced = content_unbraced s (signs_in t) w.content.kept (calm_so k q s t h w);
+    unbraced = content_unbraced s (signs_in t) (read_styled s t w.content) (calm_so k q s t h w);
   };
   closes = λ name us vs o n. closes_so k q s t h w name us vs o n;
 }
