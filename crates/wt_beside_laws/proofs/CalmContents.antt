@@ -25,7 +25,7 @@ use Rattle.wt_text_edit_laws.specs.NoCalls.{NonePairs, CallsNothing, AreUnbraced
 use Rattle.wt_text_edit_laws.proofs.Between.LessBraces.{none_unbraced}
 use Rattle.wt_text_edit_laws.proofs.Between.NoCalls.{calm_expanded, calm_unrefused}
 use Rattle.wt_beside_laws.specs.Calm.{is_brace, HaveNoBraces, IsCalm, AreCalm}
-use Rattle.wt_beside_laws.specs.Content.{AreKept, guard_items, letter_items, content_items}
+use Rattle.wt_beside_laws.specs.Content.{guard_items, letter_items, content_items}
 use Rattle.wt_beside_laws.specs.Lines.{AreCharacters}
 use Rattle.wt_beside_laws.proofs.Contents.{nowiki_reads, reference_reads}
 use Rattle.wt_beside_laws.proofs.Firm.{alone_as}

@@ -15,19 +15,16 @@ use Rattle.wt_span.specs.Lexemes.{form_at}
 use Rattle.wt_names.proofs.Ascii.{IsWide, encode_wide, encode_some}
 use Rattle.wt_guards.specs.Content.{ContentSign, letter, thing}
 use Rattle.wt_guards.specs.Letters.{is_bracket, is_escaped, reference, written_by}
-use Rattle.wt_guards.specs.Guards.{Setting, nowiki, nowiki_if, is_guarded, spelled_from, spelled}
+use Rattle.wt_guards.specs.Guards.{Setting, nowiki, nowiki_if, spelled_from}
 use Rattle.wt_guards.proofs.Escapes.{is_escapable, escapable}
-use Rattle.wt_expand.specs.PageItems.{page_items}
 use Rattle.wt_spelling_laws.proofs.Forms.{comment_other, comment_not, other_byte, equals_byte, IsTame, less_byte, and_byte, nowiki_form, reference_form}
 use Rattle.wt_spelling_laws.proofs.TextReads.{Begins, unguarded, bracket_escaped, not_bracket, equal_or, apart}
 use Rattle.wt_text_edit_laws.specs.LonePages.{page_chars}
-use Rattle.wt_text_edit_laws.specs.TextBetween.{StandsBehind}
-use Rattle.wt_text_edit_laws.proofs.Between.Fronts.{behind_reads}
-use Rattle.wt_text_edit_laws.proofs.Prose.InFront.{Reads, reads_byte, reads_form, read_items}
+use Rattle.wt_text_edit_laws.proofs.Prose.InFront.{Reads, reads_byte, reads_form}
 use Rattle.wt_text_edit_laws.proofs.Prose.Uncommented.{uncommented_other}
 use Rattle.wt_text_edit_laws.proofs.Texts.TypedItems.{references, wide_form, wide_tame, tame_if, IsMild, wide_mild, mild_if, no_form_byte}
-use Rattle.wt_beside_laws.specs.Content.{AreKept, guard_items, letter_items, content_items}
-use Rattle.wt_beside_laws.proofs.Firm.{ReadsAs, nothing_reads, both_read, alone_as, kept_reads}
+use Rattle.wt_beside_laws.specs.Content.{guard_items, letter_items}
+use Rattle.wt_beside_laws.proofs.Firm.{ReadsAs, nothing_reads, both_read}
 
 -- ---- what is put
 

@@ -14,7 +14,7 @@ use Rattle.wt_guards.specs.Letters.{is_escaped}
 use Rattle.wt_expand.specs.PageItems.{page_items}
 use Rattle.wt_lines.specs.Lines.{lines, onto, IsUnbroken}
 use Rattle.wt_text_edit_laws.specs.LonePages.{page_chars}
-use Rattle.wt_beside_laws.specs.Content.{AreKept, guard_items, letter_items, content_items}
+use Rattle.wt_beside_laws.specs.Content.{guard_items, letter_items, content_items}
 use Rattle.wt_beside_laws.specs.Lines.{AreUnbroken, line_items, later_lines, content_lines}
 use Rattle.wt_beside_laws.proofs.Marks.Commented.{content_alone}
 use Rattle.wt_beside_laws.specs.Flat.{IsReadIn}

@@ -1,5 +1,5 @@
 -- Comments among the nodes that stay in a content beside text that is typed.
-use Rattle.std.specs.Prelude.{◌≡◌, ◌⊎◌, ℕ, suc, Some, List, [], ◌∷◌, ◌++◌, length}
+use Rattle.std.specs.Prelude.{◌≡◌, ◌⊎◌, ℕ, suc, Some, List, ◌∷◌, ◌++◌, length}
 use Rattle.wt_span.specs.Characters as byte
 use Rattle.wt_span.specs.Comments.{comment_len}
 use Rattle.wt_expand.specs.PageItems.{page_items}
