@@ -26,6 +26,7 @@ use Rattle.wt_beside_laws.specs.Nodes.{IsBareNode}
 use Rattle.wt_beside_laws.specs.Shown.{content_shown}
 use Rattle.wt_beside_laws.proofs.Firm.{alone_as, firm_read}
 use Rattle.wt_beside_laws.specs.PageSigns.{HasNoBreak}
+use Rattle.wt_beside_laws.specs.NodeItems.{node_items}
 
 abbrev in_paragraph : Setting
 in_paragraph = record { within = false; place = Paragraph; source = [] }
@@ -46,13 +47,13 @@ ends_apart = refl
 
 -- a blank, a URL, a line break and `x`
 url_between : content_parts in_paragraph (letter 120 ∷ []) (letter 32 ∷ thing url ∷ letter 10 ∷ letter 120 ∷ [])
-    ≡ loose Text None 32 ∷ (line_parts (page_items (codes "http://k")) ++ loose Text None 10 ∷ loose Text None 120 ∷ [])
+    ≡ loose Text None 32 ∷ (line_parts (node_items (codes "http://k")) ++ loose Text None 10 ∷ loose Text None 120 ∷ [])
 unfolding is_guarded is_between_guard is_start_guard is_end_guard is_blank_guard hazard line_start_hazard is_escaped encode
 url_between = refl
 
 -- and its first line
 url_last : line_content in_paragraph (letter 120 ∷ []) (letter 32 ∷ thing url ∷ letter 10 ∷ letter 120 ∷ [])
-    ≡ loose Text None 32 ∷ (line_parts (page_items (codes "http://k")) ++ [])
+    ≡ loose Text None 32 ∷ (line_parts (node_items (codes "http://k")) ++ [])
 unfolding is_guarded is_between_guard is_start_guard is_end_guard is_blank_guard hazard line_start_hazard is_escaped encode
 url_last = refl
 
@@ -66,7 +67,7 @@ typed_shown = refl
 scheme_firm : AreFirm (codes "http://k")
 scheme_firm = (refl, (refl, (refl, (refl, (refl, (refl, (refl, (refl, tt))))))))
 
-url_items : page_items (codes "http://k") ≡ page_chars (codes "http://k")
+url_items : node_items (codes "http://k") ≡ page_chars (codes "http://k")
 url_items = alone_as (codes "http://k") (page_chars (codes "http://k")) (firm_read (codes "http://k") scheme_firm)
 
 url_node : IsBareNode (byte_glyphs (codes "http://k"))

@@ -28,6 +28,7 @@ use Rattle.wt_beside_laws.proofs.LineItems.{letter_unbroken}
 use Rattle.wt_beside_laws.proofs.LineKinds.{Opens, line_opens}
 use Rattle.wt_beside_laws.proofs.NodeEnds.{EndInSigns, nodes_end, ends_unequal}
 use Rattle.wt_beside_laws.proofs.Marks.Commented.{content_alone}
+use Rattle.wt_beside_laws.specs.NodeItems.{node_items}
 
 -- ---- one line
 
@@ -51,7 +52,7 @@ content_none s before (letter c ∷ after) o u =
     unbroken_both (guard_items (is_guarded s before (letter c ∷ after))) (letter_items e c ++ more) (guard_none (is_guarded s before (letter c ∷ after)))
     (unbroken_both (letter_items e c) more (none_by (letter_items e c) (letter_unbroken e c o.0)) (content_none s (letter c ∷ before) after o.1 u))
 content_none s before (thing t ∷ after) o u =
-    let own : List Item = page_items t.source in
+    let own : List Item = node_items t.source in
     let more : List Item = content_items s (thing t ∷ before) after in
     unbroken_both (guard_items (is_guarded s before (thing t ∷ after))) (own ++ more) (guard_none (is_guarded s before (thing t ∷ after)))
     (unbroken_both own more (none_by own u.0) (content_none s (thing t ∷ before) after o u.1))
@@ -64,7 +65,7 @@ same_items s before (letter c ∷ after) o =
     ap (λ (t : Bool). guard ++ (if t then [] else own ++ line_items s (letter c ∷ before) after)) o.0
     ∙ ap (λ xs. guard ++ (own ++ xs)) (same_items s (letter c ∷ before) after o.1)
 same_items s before (thing t ∷ after) o =
-    ap (λ xs. guard_items (is_guarded s before (thing t ∷ after)) ++ (page_items t.source ++ xs)) (same_items s (thing t ∷ before) after o)
+    ap (λ xs. guard_items (is_guarded s before (thing t ∷ after)) ++ (node_items t.source ++ xs)) (same_items s (thing t ∷ before) after o)
 
 -- ---- what is first
 
@@ -119,7 +120,7 @@ content_last s before (letter c ∷ after) own w p e f =
     last_behind own (guard ++ (next ++ more)) (last_behind guard (next ++ more)
     (content_last s (letter c ∷ before) after next w p e (λ z. letter_last t c (λ y. end_by s before c w p z))))
 content_last s before (thing t ∷ after) own w p e f =
-    let next : List Item = page_items t.source in
+    let next : List Item = node_items t.source in
     let more : List Item = content_items s (thing t ∷ before) after in
     let guard : List Item = guard_items (is_guarded s before (thing t ∷ after)) in
     last_behind own (guard ++ (next ++ more)) (last_behind guard (next ++ more) (content_last s (thing t ∷ before) after next w p e.1 (λ z. e.0)))
@@ -183,12 +184,12 @@ content_unequal s before (letter c) (d ∷ after) n e =
 content_unequal s before (thing t) [] n e =
     let guard : List Item = guard_items (is_guarded s before (thing t ∷ [])) in
     let end : Bool = is_guarded s (thing t ∷ before) [] in
-    ends_behind is_equals_sign guard (page_items t.source ++ guard_items end) (end_unequal end (page_items t.source) (ends_unequal t n.0 e))
+    ends_behind is_equals_sign guard (node_items t.source ++ guard_items end) (end_unequal end (node_items t.source) (ends_unequal t n.0 e))
 content_unequal s before (thing t) (d ∷ after) n e =
     let guard : List Item = guard_items (is_guarded s before (thing t ∷ d ∷ after)) in
     let more : List Item = content_items s (thing t ∷ before) (d ∷ after) in
-    ends_behind is_equals_sign guard (page_items t.source ++ more)
-    (ends_behind is_equals_sign (page_items t.source) more (content_unequal s (thing t ∷ before) d after n.1 e))
+    ends_behind is_equals_sign guard (node_items t.source ++ more)
+    (ends_behind is_equals_sign (node_items t.source) more (content_unequal s (thing t ∷ before) d after n.1 e))
 
 all_unequal : (s : Setting) (signs : List ContentSign) → s.within ≡ false → AreNodes signs → LastEndsUnequal signs → UnequalLast (content_items s [] signs)
 all_unequal s [] w n e = subst (λ (u : Bool). UnequalLast (guard_items u)) (sym (end_guarded s [] w refl)) refl

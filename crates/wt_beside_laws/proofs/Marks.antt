@@ -1,5 +1,7 @@
 mod Cases
 pub mod Commented
+pub mod Ends
 pub mod InLine
+pub mod Shown
 pub mod Tiles
 pub mod Within

@@ -39,6 +39,7 @@ use Rattle.wt_beside_laws.proofs.LineHeadings.{same_items, ends_behind, UnequalL
 use Rattle.wt_beside_laws.proofs.LineKinds.{line_opens}
 use Rattle.wt_beside_laws.proofs.NodeEnds.{EndInSigns, nodes_end, unequal_by}
 use Rattle.wt_beside_laws.proofs.Marks.Commented.{content_alone}
+use Rattle.wt_beside_laws.specs.NodeItems.{node_items}
 
 -- ---- what a bare URL's role tells of its last item
 
@@ -56,7 +57,7 @@ BareTold Function ss = Unit {0}
 BareTold Node ss = Unit {0}
 
 abbrev pub Told : Thing → Type 0
-Told t = BareTold t.role (map sign (page_items t.source))
+Told t = BareTold t.role (map sign (node_items t.source))
 
 abbrev pub AllTold : List ContentSign → Type 0
 AllTold [] = Unit {0}
@@ -113,8 +114,8 @@ bare_by : (v : Bool) (xs : List Item) → ends_with nat_eq (flat_map text_of (ma
 bare_by true xs e h = tt
 bare_by false xs e h = told_from [] xs h e
 
-bare_told : (xs : List Item) → IsFlatForm kind.BareUrl xs → EndsWithout is_blank (map sign (page_items (sources xs)))
-    → BareTold (Bare (ends_with nat_eq (flat_map text_of (map glyph_of xs)) (61 ∷ []))) (map sign (page_items (sources xs)))
+bare_told : (xs : List Item) → IsFlatForm kind.BareUrl xs → EndsWithout is_blank (map sign (node_items (sources xs)))
+    → BareTold (Bare (ends_with nat_eq (flat_map text_of (map glyph_of xs)) (61 ∷ []))) (map sign (node_items (sources xs)))
 bare_told xs f h =
     let v : Bool = ends_with nat_eq (flat_map text_of (map glyph_of xs)) (61 ∷ []) in
     subst (λ (ys : List Item). BareTold (Bare v) (map sign ys)) (sym f.alone)
@@ -150,7 +151,7 @@ tile_told kind.Br at xs f h = (tt, tt)
 tile_told kind.Pair at xs f h = (tt, tt)
 tile_told kind.TagIsland at xs f h = (tt, tt)
 tile_told kind.Switch at xs f h = (tt, tt)
-tile_told kind.Atom at xs f h = (atom_told xs (map sign (page_items (sources xs))), tt)
+tile_told kind.Atom at xs f h = (atom_told xs (map sign (node_items (sources xs))), tt)
 tile_told kind.Mark at xs f h = (tt, tt)
 tile_told kind.Chars at xs f h = letters_told (chars (sources xs))
 
@@ -231,13 +232,13 @@ content_apart s before (letter c) (d ∷ after) w n h =
 content_apart s before (thing t) [] w n h =
     let guard : List Item = guard_items (is_guarded s before (thing t ∷ [])) in
     let end : Bool = is_guarded s (thing t ∷ before) [] in
-    ends_behind is_equals_sign guard (page_items t.source ++ guard_items end)
-    (role_apart t.role (page_items t.source) end n.0 h.0 (λ e. bare_guarded s t before w e))
+    ends_behind is_equals_sign guard (node_items t.source ++ guard_items end)
+    (role_apart t.role (node_items t.source) end n.0 h.0 (λ e. bare_guarded s t before w e))
 content_apart s before (thing t) (d ∷ after) w n h =
     let guard : List Item = guard_items (is_guarded s before (thing t ∷ d ∷ after)) in
     let more : List Item = content_items s (thing t ∷ before) (d ∷ after) in
-    ends_behind is_equals_sign guard (page_items t.source ++ more)
-    (ends_behind is_equals_sign (page_items t.source) more (content_apart s (thing t ∷ before) d after w n.1 h.1))
+    ends_behind is_equals_sign guard (node_items t.source ++ more)
+    (ends_behind is_equals_sign (node_items t.source) more (content_apart s (thing t ∷ before) d after w n.1 h.1))
 
 all_apart : (s : Setting) (signs : List ContentSign) → s.within ≡ false → AreNodes signs → AllTold signs → UnequalLast (content_items s [] signs)
 all_apart s [] w n h = subst (λ (u : Bool). UnequalLast (guard_items u)) (sym (end_guarded s [] w refl)) refl

@@ -45,6 +45,7 @@ use Rattle.wt_beside_laws.proofs.Styled.BlockNodes.{style_round}
 use Rattle.wt_beside_laws.proofs.Styled.BlockStyles.{QuotesAre, quotes_between, parts_cut, line_quotes, line_fill, line_is, line_things}
 use Rattle.wt_beside_laws.proofs.Styled.SentStyles.{nowiki_alone}
 use Rattle.wt_beside_laws.proofs.Styled.StyledNodes.{each_some}
+use Rattle.wt_beside_laws.specs.NodeItems.{node_items}
 
 -- ---- the nodes among parts
 
@@ -141,13 +142,13 @@ each_own : (ts : List Thing) → Each ThingHas ts → Each OwnHas ts
 each_own [] h = tt
 each_own (t ∷ ts) h = ((λ f. h.0), each_own ts h.1)
 
-nowiki_own : PartsHave (line_parts (page_items nowiki))
+nowiki_own : PartsHave (line_parts (node_items nowiki))
 nowiki_own = subst PartsHave (sym (ap line_parts (alone_as nowiki (guard_items true) nowiki_reads) ∙ nowiki_alone)) (guard_has true)
 
 put_has : (t : Thing) → IsPut t → OwnHas t
 put_has t p f = elim p [
   | inl m ↦ absurd (subst IsFlat m.1 f)
-  | inr w ↦ subst (λ (bs : List ℕ). PartsHave (line_parts (page_items bs))) (sym w.1) nowiki_own
+  | inr w ↦ subst (λ (bs : List ℕ). PartsHave (line_parts (node_items bs))) (sym w.1) nowiki_own
 ]
 
 each_behind : (P : Thing → Type 0) (t : StyledContent) (after : List ContentSign) → Each P (things (signs_before t after)) → Each P (things after)
@@ -179,7 +180,7 @@ styled_has bold italic s before (sign (letter c) t) after k f =
     (have_both own later (letter_has escaped c) (styled_has bold italic s (letter c ∷ before) t after k.1 f))
 styled_has bold italic s before (sign (thing x) t) after k f =
     let guarded : Bool = is_guarded s before (thing x ∷ signs_before t after) in
-    let own : List Part = line_parts (page_items x.source) in
+    let own : List Part = line_parts (node_items x.source) in
     let later : List Part = styled_parts false s (thing x ∷ before) t after in
     have_both (parts Text (guard_items guarded)) (own ++ later) (guard_has guarded)
     (have_both own later (f.0 k.0) (styled_has bold italic s (thing x ∷ before) t after k.1 f.1))

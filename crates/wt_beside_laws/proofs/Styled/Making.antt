@@ -26,7 +26,7 @@ use Rattle.wt_text_edit_laws.specs.TextBlocks.{TextBlock, a_paragraph, a_heading
 use Rattle.wt_text_edit_laws.proofs.Blocks.BlockLeaves.{open_items}
 use Rattle.wt_beside_laws.specs.Content.{AreKept}
 use Rattle.wt_beside_laws.specs.ContentEdits.{content_edit, new_content, MakesContent}
-use Rattle.wt_beside_laws.specs.FlatBlocks.{lines_in, signs_in as signs_of}
+use Rattle.wt_beside_laws.specs.FlatBlocks.{lines_in, signs_in as signs_of, sent_for}
 use Rattle.wt_beside_laws.specs.PageBlocks.{IsBlockOfLines}
 use Rattle.wt_beside_laws.specs.PageSigns.{signs_of_lines}
 use Rattle.wt_beside_laws.specs.SentPieces.{TextsFit}
@@ -35,7 +35,7 @@ use Rattle.wt_beside_laws.specs.Shown.{parts_shown_at}
 use Rattle.wt_beside_laws.specs.Stood.{things}
 use Rattle.wt_beside_laws.specs.Styled.{StyledContent, signs_in, styled_parts, IsStyledContent}
 use Rattle.wt_beside_laws.specs.StyledBlocks.{all_numbers, things_with, AreSomeOf}
-use Rattle.wt_beside_laws.specs.StyledIn.{IsStyledIn, StaysIn, IsStyledFor, sent_for, IsStyledEditOf}
+use Rattle.wt_beside_laws.specs.StyledIn.{IsStyledIn, StaysIn, IsStyledFor, IsStyledEditOf}
 use Rattle.wt_beside_laws.specs.StyledNodes.{AreSomeAndPut}
 use Rattle.wt_beside_laws.proofs.Made.Inline.{stays_inline}
 use Rattle.wt_beside_laws.proofs.Made.Letters.{pieces_fit}

@@ -40,6 +40,7 @@ use Rattle.wt_beside_laws.proofs.Contents.{nowiki_reads}
 use Rattle.wt_beside_laws.proofs.Firm.{alone_as}
 use Rattle.wt_beside_laws.proofs.LineSegments.{read_line}
 use Rattle.wt_beside_laws.proofs.LineShown.{twice, children_show, guard_shows}
+use Rattle.wt_beside_laws.specs.NodeItems.{node_items}
 
 -- ---- signs
 
@@ -166,7 +167,7 @@ pub nowiki_alone : line_parts (whole form.Nowiki None nowiki ∷ []) ≡ parts T
 unfolding loose_segments closed
 nowiki_alone = read_line (0, leaf tile.Atom 1 ∷ []) (whole form.Nowiki None nowiki ∷ []) (loose_segment (whole form.Nowiki None nowiki ∷ []) ∷ []) refl refl refl
 
-nowiki_shown : (rest : Plains) → parts_shown_at 0 [] (line_parts (page_items nowiki)) rest ≡ rest
+nowiki_shown : (rest : Plains) → parts_shown_at 0 [] (line_parts (node_items nowiki)) rest ≡ rest
 nowiki_shown rest =
     let own : List Item = whole form.Nowiki None nowiki ∷ [] in
     ap (λ xs. parts_shown_at 0 [] (line_parts xs) rest) (alone_as nowiki own nowiki_reads)
@@ -203,7 +204,7 @@ style_is kind l ts held rest e f g =
     ∙ sym (by_showing showing.Element l (λ ps. plains_before ts ps) rest e)
 
 node_is : (p : Page) (l : Label) (ts : Trees) (t : StyledContent) (rest : Plains) (u : IsUnchanged p l ts)
-    → ((k : Kept) → kept_with l.id p.kept ≡ Some k → (ps : Plains) → parts_shown_at 0 [] (line_parts (page_items (flat k.node))) ps ≡ plain_before (tree l ts) ps)
+    → ((k : Kept) → kept_with l.id p.kept ≡ Some k → (ps : Plains) → parts_shown_at 0 [] (line_parts (node_items (flat k.node))) ps ≡ plain_before (tree l ts) ps)
     → styled_shown (found_then (kept_with l.id p.kept) t) rest ≡ plain_before (tree l ts) (styled_shown t rest)
 node_is p l ts t rest u s = ap (λ (o : Option Kept). styled_shown (found_then o t) rest) u.found ∙ s u.kept u.found (styled_shown t rest)
 

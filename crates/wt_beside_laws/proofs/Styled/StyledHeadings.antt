@@ -22,6 +22,7 @@ use Rattle.wt_beside_laws.specs.StyledHeadings.{IsStyledHeading}
 use Rattle.wt_beside_laws.proofs.LineHeadings.{same_items, inside_by, level_by}
 use Rattle.wt_beside_laws.proofs.Styled.StyledLines.{styled_line}
 use Rattle.wt_beside_laws.proofs.Marks.Commented.{content_alone}
+use Rattle.wt_beside_laws.specs.NodeItems.{node_items}
 
 one_behind : (t : StyledContent) (after : List ContentSign) → AreOnOneLine (signs_before t after) → AreOnOneLine after
 one_behind finished after o = o
@@ -40,7 +41,7 @@ same_parts s before (sign (letter c) t) after o =
     ap (λ (b : Bool). guard ++ (if b then [] else own ++ styled_parts true s (letter c ∷ before) t after)) o.0
     ∙ ap (λ ps. guard ++ (own ++ ps)) (same_parts s (letter c ∷ before) t after o.1)
 same_parts s before (sign (thing x) t) after o =
-    ap (λ ps. parts Text (guard_items (is_guarded s before (thing x ∷ signs_before t after))) ++ (line_parts (page_items x.source) ++ ps))
+    ap (λ ps. parts Text (guard_items (is_guarded s before (thing x ∷ signs_before t after))) ++ (line_parts (node_items x.source) ++ ps))
     (same_parts s (thing x ∷ before) t after o)
 same_parts s before (styled kind opening closing inside t) after o =
     let first : List ContentSign = delimiter kind opening ∷ before in

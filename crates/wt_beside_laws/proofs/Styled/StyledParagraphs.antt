@@ -32,6 +32,7 @@ use Rattle.wt_beside_laws.proofs.LineRows.{rows_parts, content_own, later_by, bo
 use Rattle.wt_beside_laws.proofs.LineStands.{lines_by, stands_so}
 use Rattle.wt_beside_laws.proofs.Styled.StyledLines.{nodes_behind, within_style, styled_line}
 use Rattle.wt_beside_laws.proofs.Marks.Commented.{content_alone}
+use Rattle.wt_beside_laws.specs.NodeItems.{node_items}
 
 -- ---- the lines behind a place
 
@@ -93,7 +94,7 @@ all_joined s before (sign (letter c) t) =
     ∙ ap (λ ps. guard ++ ps)
     (both_by (c == 10) own line later (styled_parts false s (letter c ∷ before) t []) (break_parts s before c signs) (all_joined s (letter c ∷ before) t))
 all_joined s before (sign (thing x) t) =
-    let own : List Part = line_parts (page_items x.source) in
+    let own : List Part = line_parts (node_items x.source) in
     let line : List Part = styled_parts true s (thing x ∷ before) t [] in
     let later : List Part = later_parts s (thing x ∷ before) t in
     let guard : List Part = parts Text (guard_items (is_guarded s before (thing x ∷ signs_before t []))) in

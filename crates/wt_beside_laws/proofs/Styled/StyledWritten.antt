@@ -48,6 +48,7 @@ use Rattle.wt_beside_laws.proofs.Styled.StyledParagraphs.{lines_joined, styled_t
 use Rattle.wt_beside_laws.proofs.Marks.Within.{unled_lines}
 use Rattle.wt_beside_laws.proofs.LineKinds.{are_lines_of_text}
 use Rattle.wt_beside_laws.specs.Flat.{IsReadIn}
+use Rattle.wt_beside_laws.specs.NodeItems.{node_items}
 
 read_styled : (s : Setting) (t : StyledContent) → IsStyledContent s t → IsReadIn s (signs_in t)
 read_styled s t h = record { within = h.of_block; kept = h.kept; nodes = h.nodes }
@@ -85,8 +86,8 @@ lines_of_text s t c = record {
 -- a delimiter and a nowiki are no URL
 put_told : (t : Thing) → IsPut t → Told t
 put_told t p = elim p [
-  | inl m ↦ subst (λ (r : Role). BareTold r (map sign_of (page_items t.source))) (sym m.1) tt
-  | inr w ↦ subst (λ (r : Role). BareTold r (map sign_of (page_items t.source))) (sym w.0) tt
+  | inl m ↦ subst (λ (r : Role). BareTold r (map sign_of (node_items t.source))) (sym m.1) tt
+  | inr w ↦ subst (λ (r : Role). BareTold r (map sign_of (node_items t.source))) (sym w.0) tt
 ]
 
 content_so : (k : TextBlock) (q : List ℕ) (s : Setting) (t : StyledContent) → HasFrame k → IsStyledIn k q → IsStyledFor k q s t → IsContentOf k (spelled s (signs_in t))

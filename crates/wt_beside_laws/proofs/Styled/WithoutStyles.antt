@@ -21,14 +21,14 @@ use Rattle.wt_text_edit_laws.specs.Contents.{IsContent}
 use Rattle.wt_text_edit_laws.specs.TextBlocks.{TextBlock, block_tree}
 use Rattle.wt_beside_laws.specs.ContentEdits.{new_content, MakesContent}
 use Rattle.wt_beside_laws.specs.Flat.{IsFlat, AreFlat, IsFlatContent}
-use Rattle.wt_beside_laws.specs.FlatBlocks.{lines_in, IsFlatEditOf}
+use Rattle.wt_beside_laws.specs.FlatBlocks.{lines_in, sent_for, IsFlatEditOf}
 use Rattle.wt_beside_laws.specs.OwnSigns.{HasOwnBy, HaveOwn}
 use Rattle.wt_beside_laws.specs.PageBlocks.{AreUnstyled}
 use Rattle.wt_beside_laws.specs.SentPieces.{HaveNoStyle}
 use Rattle.wt_beside_laws.specs.SentStyled.{text_then, found_then, sent_by, sent_content, KeptIsFlat, breaks_line, NestsBy, AllNest}
 use Rattle.wt_beside_laws.specs.Stood.{things}
 use Rattle.wt_beside_laws.specs.Styled.{StyledContent, signs_in, IsStyledContent}
-use Rattle.wt_beside_laws.specs.StyledIn.{IsFlatIn, sent_for, IsStyledEditOf}
+use Rattle.wt_beside_laws.specs.StyledIn.{IsFlatIn, IsStyledEditOf}
 use Rattle.wt_beside_laws.specs.StyledNodes.{MayEndUrl, IsUrlApart, AreUrlsApart}
 use Rattle.wt_beside_laws.proofs.Each.{Each}
 use Rattle.wt_beside_laws.proofs.BlockSigns.{flat_block}
