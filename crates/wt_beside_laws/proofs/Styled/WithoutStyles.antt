@@ -10,9 +10,8 @@ use Rattle.wt_tree.specs.declared.edit_shape.InlineForm.TheVariants as inline
 use Rattle.wt_tree.specs.declared.edit_shape.Sort.TheVariants as sort
 use Rattle.wt_tree.specs.Tree.{Label, Tree, tree, Trees, none, more}
 use Rattle.wt_guards.specs.declared.role.Role.{Role}
-use Rattle.wt_guards.specs.declared.role.Role.TheVariants.{Link, External, Bare, Switch, Toggle, Mark, Group, Function, Node}
+use Rattle.wt_guards.specs.declared.role.Role.TheVariants.{Toggle}
 use Rattle.wt_guards.specs.Content.{ContentSign, Thing, letter, thing}
-use Rattle.wt_guards.specs.Guards.{is_adjacent}
 use Rattle.wt_original.specs.Kept.{Kept, kept_nodes, kept_with}
 use Rattle.wt_visible.specs.SameNodes.{same_node}
 use Rattle.wt_moved_laws.specs.Standing.{standing}
@@ -29,7 +28,7 @@ use Rattle.wt_beside_laws.specs.SentStyled.{text_then, found_then, sent_by, sent
 use Rattle.wt_beside_laws.specs.Stood.{things}
 use Rattle.wt_beside_laws.specs.Styled.{StyledContent, signs_in, IsStyledContent}
 use Rattle.wt_beside_laws.specs.StyledIn.{IsFlatIn, sent_for, IsStyledEditOf}
-use Rattle.wt_beside_laws.specs.StyledNodes.{MayEndUrl, IsUrlApart, AreUrlsApart}
+use Rattle.wt_beside_laws.specs.StyledNodes.{AreUrlsApart}
 use Rattle.wt_beside_laws.proofs.Each.{Each}
 use Rattle.wt_beside_laws.proofs.BlockSigns.{flat_block}
 use Rattle.wt_beside_laws.proofs.Made.Making.{known, setting, in_page}
@@ -92,27 +91,8 @@ all_nest (more (tree l ts) us) s = (one_nests (edit_shape l.kind).inline l (λ b
 
 -- ---- no URL is before a delimiter
 
-end_apart : (r : Role) (v : Bool) → IsFlat r → MayEndUrl r v
-end_apart Link v h = tt
-end_apart External v h = tt
-end_apart (Bare ends) v h = tt
-end_apart Switch v h = tt
-end_apart Toggle v h = absurd h
-end_apart (Mark ends began) v h = tt
-end_apart (Group g) v h = tt
-end_apart Function v h = tt
-end_apart Node v h = tt
-
-url_apart : (r n : Role) (v : Bool) → IsFlat n → IsUrlApart r n v
-url_apart Link n v h = tt
-url_apart External n v h = tt
-url_apart (Bare ends) n v h = end_apart n v h
-url_apart Switch n v h = tt
-url_apart Toggle n v h = tt
-url_apart (Mark ends began) n v h = tt
-url_apart (Group g) n v h = tt
-url_apart Function n v h = tt
-url_apart Node n v h = tt
+no_toggle : (r : Role) → IsFlat r → r ≡ Toggle → ⊥
+no_toggle r h e = subst IsFlat e h
 
 each_flat : (signs : List ContentSign) → AreFlat signs → Each (λ t. IsFlat t.role) (things signs)
 each_flat [] h = tt
@@ -122,7 +102,7 @@ each_flat (thing t ∷ after) h = (h.0, each_flat after h.1)
 all_apart : (ts : List Thing) → Each (λ t. IsFlat t.role) ts → AreUrlsApart ts
 all_apart [] h = tt
 all_apart (t ∷ []) h = tt
-all_apart (t ∷ n ∷ ts) h = (url_apart t.role n.role (is_adjacent t n) h.1.0, all_apart (n ∷ ts) h.1)
+all_apart (t ∷ n ∷ ts) h = ((λ e z. absurd (no_toggle n.role h.1.0 e)), all_apart (n ∷ ts) h.1)
 
 -- ---- what stays of a block without styles is no style
 
