@@ -349,7 +349,7 @@ word_same : (a : Bool) (own : List Glyph) → 0 < length own → ends_word a own
 word_same a [] some = absurd (omega (arith, some))
 word_same a (g ∷ gs) some = refl
 
-form_some : (a : Bool) (own behind : List Glyph) (w : Shape) → form_before in_line a own behind ≡ Some w → 0 < length own
+pub form_some : (a : Bool) (own behind : List Glyph) (w : Shape) → form_before in_line a own behind ≡ Some w → 0 < length own
 form_some a [] behind w e = cc
 form_some a (g ∷ gs) behind w e = omega arith
 
@@ -387,7 +387,7 @@ pairs_first [] h = tt
 pairs_first (t ∷ []) h = tt
 pairs_first (t ∷ n ∷ ts) h = (h.0.0, pairs_first (n ∷ ts) h.1)
 
-source_some : (bs : List ℕ) → 0 < length (map glyph_of (page_items bs)) → 0 < length bs
+pub source_some : (bs : List ℕ) → 0 < length (map glyph_of (page_items bs)) → 0 < length bs
 source_some [] h =
     let z : length (map glyph_of (page_items [])) ≡ 0 = ap (λ (xs : List Item). length (map glyph_of xs)) (read_items [] [] reads_nothing) in
     absurd (omega (arith, z, h))
