@@ -415,9 +415,9 @@ pub record BareFront (gs rest : List Glyph) (w : Shape) : Type 0 where
   pub unquoted : first_is (class.Only 39) rest ≡ true → is_quote_last gs ≡ false
 
 -- before an apostrophe, where it ends with one, it would have ended before that
-and_none : (b : Bool) → (b && false) ≡ false
-and_none true = refl
-and_none false = refl
+never : (b : Bool) → (b && false) ≡ false
+never true = refl
+never false = refl
 
 quoted_run : (us rest : List Glyph) → is_quote_last us ≡ true → first_is (class.Only 39) rest ≡ true → url_run (us ++ rest) < length us
 quoted_run [] rest l q = absurd (cc)
@@ -427,7 +427,7 @@ quoted_run (g ∷ []) (r ∷ rest) l q =
     ap (λ (v : Bool). v && (is_in (λ (b : ℕ). b == 39) r && true)) l ∙ ap (λ (v : Bool). v && true) q in
     let none : url_run (g ∷ r ∷ rest) ≡ 0 =
     ap (λ (u : Bool). if is_url_glyph g && not u then suc (url_run (r ∷ rest)) else 0) two
-    ∙ ap (λ (v : Bool). if v then suc (url_run (r ∷ rest)) else 0) (and_none (is_url_glyph g)) in
+    ∙ ap (λ (v : Bool). if v then suc (url_run (r ∷ rest)) else 0) (never (is_url_glyph g)) in
     omega (arith, none)
 quoted_run (g ∷ h ∷ us) rest l q = by (is_url_glyph g && not (begins (codes "''") (g ∷ h ∷ us))) (quoted_run (h ∷ us) rest l q)
   where
