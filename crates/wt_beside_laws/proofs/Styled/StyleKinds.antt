@@ -56,7 +56,7 @@ far_from total low had_bold had_italic outside (step s b i flag ∷ rs) h =
     (every_weaker (λ u. s + bytes_by b i < u.to) (λ u. low < u.to) (λ u l. omega (arith, l, h.0)) (styles_by total (run hb hi o rs))
     (far_from total (s + bytes_by b i) hb hi o rs h.2))
 
--- ---- a style that is open
+-- ---- a style that goes on
 
 abbrev of_kind : Bool → Bool → Bool → Bool
 of_kind true bold italic = bold
@@ -101,7 +101,7 @@ breaks_at false false true o s true false flag h f = cc
 breaks_at false true true false s true false flag h f = cc
 breaks_at false true true true s true false flag h f = omega arith
 
--- one that begins is open then
+-- one that begins goes on then
 opened : (k hb hi o : Bool) (s : ℕ) (b i flag : Bool) → begins (effect_of k (made hb hi o (step s b i flag))) ≡ true → of_kind k (toggled b hb) (toggled i hi) ≡ true
 opened true true hi o s true i flag f = cc
 opened true false hi o s true i flag f = refl
@@ -146,7 +146,7 @@ ended_later k total t ts e = to_else (stops (effect_of k t)) (record { to = clos
 behind_stop : (k : Bool) (x : Style) (total : ℕ) (hb hi o : Bool) (s : ℕ) (b i flag : Bool) (rs : List Step) → AreSteps (s + bytes_by b i) total rs → 2 ≤ bytes_by b i
     → x.bold ≡ k → of_kind k hb hi ≡ true → x.to ≡ closing_place k (made hb hi o (step s b i flag))
     → Every (IsOtherOrFar x) (styles_by total (run hb hi o (step s b i flag ∷ rs)))
-behind_stop k x total hb hi o s b i flag rs h some e open is =
+behind_stop k x total hb hi o s b i flag rs h some e had is =
     let t : PlacedToggle = made hb hi o (step s b i flag) in
     let rest : List PlacedToggle = run (toggled b hb) (toggled i hi) (outside_after hb hi b i flag) rs in
     let all = taken_by hb hi o s b i flag in
@@ -154,7 +154,7 @@ behind_stop k x total hb hi o s b i flag rs h some e open is =
     begun_when (IsOtherOrFar x) total t rest
     (λ j f. elim (same_or_other j k) [
       | inl same ↦ (
-          let here : closing_place k t ≡ s = breaks_at k hb hi o s b i flag open (subst (λ (v : Bool). begins (effect_of v t) ≡ true) same f) in
+          let here : closing_place k t ≡ s = breaks_at k hb hi o s b i flag had (subst (λ (v : Bool). begins (effect_of v t) ≡ true) same f) in
           let w = ends_well j total (s + bytes_by b i) (toggled b hb) (toggled i hi) (outside_after hb hi b i flag) rs h in
           inr (omega (arith, here, is, w.0, some))
           )
@@ -168,11 +168,11 @@ behind_pass : (k : Bool) (x : Style) (total : ℕ) (hb hi o : Bool) (s : ℕ) (b
     → stops (effect_of k (made hb hi o (step s b i flag))) ≡ false
     → Every (IsOtherOrFar x) (styles_by total (run (toggled b hb) (toggled i hi) (outside_after hb hi b i flag) rs))
     → Every (IsOtherOrFar x) (styles_by total (run hb hi o (step s b i flag ∷ rs)))
-behind_pass k x total hb hi o s b i flag rs e open stay hs =
+behind_pass k x total hb hi o s b i flag rs e had stay hs =
     let t : PlacedToggle = made hb hi o (step s b i flag) in
     begun_when (IsOtherOrFar x) total t (run (toggled b hb) (toggled i hi) (outside_after hb hi b i flag) rs)
     (λ j f. elim (same_or_other j k) [
-      | inl same ↦ absurd (none_begins k hb hi o s b i flag open stay (subst (λ (v : Bool). begins (effect_of v t) ≡ true) same f))
+      | inl same ↦ absurd (none_begins k hb hi o s b i flag had stay (subst (λ (v : Bool). begins (effect_of v t) ≡ true) same f))
       | inr other ↦ inl (other ∙ ap not (sym e))
     ])
     hs
@@ -183,19 +183,19 @@ behind_by : (v k : Bool) (x : Style) (total : ℕ) (hb hi o : Bool) (s : ℕ) (b
     → (of_kind k (toggled b hb) (toggled i hi) ≡ true → x.to ≡ (ending k total (run (toggled b hb) (toggled i hi) (outside_after hb hi b i flag) rs)).to
     → Every (IsOtherOrFar x) (styles_by total (run (toggled b hb) (toggled i hi) (outside_after hb hi b i flag) rs)))
     → Every (IsOtherOrFar x) (styles_by total (run hb hi o (step s b i flag ∷ rs)))
-behind_by true k x total hb hi o s b i flag rs h some e open is stop go =
-    behind_stop k x total hb hi o s b i flag rs h some e open
+behind_by true k x total hb hi o s b i flag rs h some e had is stop go =
+    behind_stop k x total hb hi o s b i flag rs h some e had
     (is ∙ ended_here k total (made hb hi o (step s b i flag)) (run (toggled b hb) (toggled i hi) (outside_after hb hi b i flag) rs) stop)
-behind_by false k x total hb hi o s b i flag rs h some e open is stay go =
-    behind_pass k x total hb hi o s b i flag rs e open stay
-    (go (stays_open k hb hi o s b i flag open stay)
+behind_by false k x total hb hi o s b i flag rs h some e had is stay go =
+    behind_pass k x total hb hi o s b i flag rs e had stay
+    (go (stays_open k hb hi o s b i flag had stay)
     (is ∙ ended_later k total (made hb hi o (step s b i flag)) (run (toggled b hb) (toggled i hi) (outside_after hb hi b i flag) rs) stay))
 
 all_behind : (k : Bool) (x : Style) (total low : ℕ) (hb hi o : Bool) (rs : List Step) → AreSteps low total rs → x.bold ≡ k → of_kind k hb hi ≡ true
     → x.to ≡ (ending k total (run hb hi o rs)).to → Every (IsOtherOrFar x) (styles_by total (run hb hi o rs))
-all_behind k x total low hb hi o [] h e open is = tt
-all_behind k x total low hb hi o (step s b i flag ∷ rs) h e open is =
-    behind_by (stops (effect_of k (made hb hi o (step s b i flag)))) k x total hb hi o s b i flag rs h.2 (some_bytes b i h.1) e open is refl
+all_behind k x total low hb hi o [] h e had is = tt
+all_behind k x total low hb hi o (step s b i flag ∷ rs) h e had is =
+    behind_by (stops (effect_of k (made hb hi o (step s b i flag)))) k x total hb hi o s b i flag rs h.2 (some_bytes b i h.1) e had is refl
     (λ a c. all_behind k x total (s + bytes_by b i) (toggled b hb) (toggled i hi) (outside_after hb hi b i flag) rs h.2 e a c)
 
 -- each style and the later ones

@@ -114,6 +114,12 @@ style_holds kind.Bold e = refl
 style_holds kind.Italic e = refl
 style_holds k e = cc
 
+flat_whole : (l : Label) (ts : Trees) → is_leaf l.kind ≡ false → flat (tree l ts) ≡ l.opening ++ (flat_of_all ts ++ l.closing)
+flat_whole l ts e = whole_by l ts e ∙ append_assoc l.opening (flat_of_all ts) l.closing
+  where
+    whole_by : (m : Label) (us : Trees) → is_leaf m.kind ≡ false → flat (tree m us) ≡ (m.opening ++ flat_of_all us) ++ m.closing
+    whole_by m us z = rw z refl
+
 some_same : (m n : ℕ) → Some m ≡ Some n → m ≡ n
 some_same m n e = cc
 
@@ -170,8 +176,7 @@ styles_stand (more (tree l ts) us) block at from first bs e q put =
     let here : (c : ℕ) → QuoteAt c at (flat t) → QuoteAt c first bs = λ c z. put c (quote_left c at (flat t) (flat_of_all us) z) in (
       stand_by (edit_shape l.kind).inline l (HaveQuoted ts) (StyleIsQuoted first bs (kept_with l.id (kept_nodes block))) (AllStandQuoted first bs (known block) ts) q.0
           (λ style i h.
-          let whole : flat t ≡ l.opening ++ (flat_of_all ts ++ l.closing) =
-          ap (λ (v : Bool). if v then l.own else l.opening ++ (flat_of_all ts ++ l.closing)) (style_no_leaf l.kind style) in (
+          let whole : flat t ≡ l.opening ++ (flat_of_all ts ++ l.closing) = flat_whole l ts (style_no_leaf l.kind style) in (
             own_stands block l ts at from first bs style i (own_found (Finds block) at from l ts i.number own) whole here,
             styles_stand ts block (at + length l.opening) (from + length l.opening) first bs (inside_found (Finds block) at from l ts (style_holds l.kind style) own) h
                 (λ c z. here c (subst (QuoteAt c at) (sym whole)
