@@ -11,7 +11,6 @@ use Rattle.wt_guards.specs.Content.{Thing, letter, thing}
 use Rattle.wt_guards.specs.Guards.{Setting, nowiki, is_guarded, is_between_guard, is_start_guard, is_end_guard, is_blank_guard}
 use Rattle.wt_guards.specs.Letters.{is_escaped, reference}
 use Rattle.wt_guards.specs.Table.{hazard, line_start_hazard}
-use Rattle.wt_expand.specs.PageItems.{page_items}
 use Rattle.wt_lines.specs.Lines.{IsUnbroken}
 use Rattle.wt_tiles.specs.Glyphs.{glyph_of, byte_glyphs}
 use Rattle.wt_tiles.specs.Urls.{scheme_len, is_url_char, is_dropped, kept_len, bare_shape, bare_url_at}

@@ -16,7 +16,6 @@ use Rattle.wt_guards.specs.Content.{ContentSign, letter, letters}
 use Rattle.wt_original.specs.Kept.{Kept, kept_with}
 use Rattle.wt_original.specs.Page.{Page}
 use Rattle.wt_link_spelling.specs.Spelling.{kept_thing, as_it_stood, unless_kept, anew_by, signs_by, signs_of_all}
-use Rattle.wt_expand.specs.PageItems.{page_items}
 use Rattle.wt_context.specs.Line.{line_parts}
 use Rattle.wt_typed_blocks.specs.Edited.{Pieces, no_pieces, gone, written, kept, around, new_style, text_node, sent_pieces, PiecesStay, pieces_before}
 use Rattle.wt_beside_laws.specs.SentNodes.{IsUnchanged, IsSentBy, AreSent}

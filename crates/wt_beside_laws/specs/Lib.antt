@@ -29,4 +29,5 @@ pub mod SentStyled
 pub mod StyledNodes
 pub mod StyledHeadings
 pub mod StyledBlocks
+pub mod NewStyles
 pub mod StyledIn

@@ -13,7 +13,7 @@ use Rattle.wt_inline.specs.ItemTree.{forest, held_by_all}
 use Rattle.wt_inline.specs.Parts.{children}
 use Rattle.wt_annotated.specs.Clean.{is_page}
 use Rattle.wt_called_trees.specs.Rounded.{AllHaveItems}
-use Rattle.wt_typed_blocks.specs.Edited.{Pieces, page_pieces, sent_pieces, PiecesStay}
+use Rattle.wt_typed_blocks.specs.Edited.{Pieces, page_pieces, PiecesStay}
 use Rattle.wt_text_edit_laws.specs.Contents.{IsContentOf, content_parts_of}
 use Rattle.wt_text_edit_laws.specs.NoCalls.{CallsNothing}
 use Rattle.wt_text_edit_laws.specs.TextBlocks.{TextBlock, a_paragraph, a_heading, source_of, block_items}
@@ -25,10 +25,10 @@ use Rattle.wt_beside_laws.specs.InHeadings.{AreOnOneLine}
 use Rattle.wt_beside_laws.specs.Led.{AreMarksLed}
 use Rattle.wt_beside_laws.specs.PageBlocks.{AreUnstyled, AreShut}
 use Rattle.wt_beside_laws.specs.PageSigns.{AreFlatLines}
-use Rattle.wt_beside_laws.specs.SentStyled.{AllNest}
+use Rattle.wt_beside_laws.specs.NewStyles.{NewStylesNest}
 use Rattle.wt_beside_laws.specs.Stood.{things}
 use Rattle.wt_beside_laws.specs.Styled.{StyledContent, signs_in, IsStyledContent}
-use Rattle.wt_beside_laws.specs.StyledNodes.{AreSomeAndPut, AreUrlsApart}
+use Rattle.wt_beside_laws.specs.StyledNodes.{AreSomeAndPut}
 
 -- A content that is read by itself and calls nothing: text, with bold and italic or without, and forms that are nodes, which stay whatever is
 -- written beside them. The source of each is read so whatever follows it, and doesn't end in an open tag.
@@ -65,13 +65,12 @@ pub record IsStyledFor (k : TextBlock) (q : List ℕ) (s : Setting) (t : StyledC
 
 -- ---- what is sent for it
 
--- As for a flat block, where bold and italic nodes of the page may stay, too, and new ones may come, with any such pieces in them. The styles nest,
--- no bare URL is directly before a delimiter in the page, and before each line of comments a line ends.
+-- As for a flat block, where bold and italic nodes of the page may stay, too, and new ones may come, with any such pieces in them: a new one in none
+-- of its kind, and round none. In bold and italic no text has a line break. Before each line of comments a line ends.
 pub record IsStyledEditOf (k : TextBlock) (block : Tree) (ps : Pieces) : Type 0 where
   pub old : page_pieces ps ≡ children_of block
   pub stay : PiecesStay ps
   pub are : AreNodesAndTexts ps
   pub fit : TextsFitIn k ps
-  pub nest : AllNest false false (sent_pieces ps)
-  pub apart : AreUrlsApart (things (signs_in (sent_for block ps)))
+  pub new : NewStylesNest false false ps
   pub led : AreMarksLed (signs_in (sent_for block ps))

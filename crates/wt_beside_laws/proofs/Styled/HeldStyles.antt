@@ -7,7 +7,6 @@ use Rattle.wt_quotes.specs.Styles.{style_tree_of}
 use Rattle.wt_guards.specs.Content.{ContentSign, Thing, letter, thing}
 use Rattle.wt_guards.specs.Guards.{Setting, nowiki, is_guarded}
 use Rattle.wt_guards.specs.Letters.{is_escaped}
-use Rattle.wt_expand.specs.PageItems.{page_items}
 use Rattle.wt_inline.specs.declared.loose.Loose.TheVariants.{Text}
 use Rattle.wt_inline.specs.ItemTree.{forest, held_by_all}
 use Rattle.wt_inline.specs.Parts.{Part, loose, node, children, parts}

@@ -21,7 +21,6 @@ use Rattle.wt_guards.specs.Content.{ContentSign, letter, letters}
 use Rattle.wt_guards.specs.Guards.{nowiki}
 use Rattle.wt_original.specs.Kept.{Kept, kept_with}
 use Rattle.wt_original.specs.Page.{Page}
-use Rattle.wt_expand.specs.PageItems.{page_items}
 use Rattle.wt_link_spelling.specs.Spelling.{kept_thing, opening_place, closing_place, as_it_stood, unless_kept, anew_by, or_nowiki as signs_or_nowiki, style, signs_by, signs_of, signs_of_all}
 use Rattle.wt_inline.specs.declared.loose.Loose.TheVariants.{Text}
 use Rattle.wt_inline.specs.Parts.{Part, parts}

@@ -14,7 +14,6 @@ use Rattle.wt_quotes.specs.Turns.{is_of}
 use Rattle.wt_guards.specs.Content.{ContentSign, Thing, letter, thing}
 use Rattle.wt_guards.specs.Guards.{Setting, nowiki, is_guarded}
 use Rattle.wt_guards.specs.Letters.{is_escaped, reference}
-use Rattle.wt_expand.specs.PageItems.{page_items}
 use Rattle.wt_inline.specs.declared.loose.Loose.TheVariants.{Text}
 use Rattle.wt_inline.specs.Parts.{Part, node, part, parts}
 use Rattle.wt_tiles.specs.declared.glyph.Glyph.{Glyph}
