@@ -26,6 +26,8 @@ use Rattle.wt_beside_laws.specs.Shown.{content_shown}
 use Rattle.wt_beside_laws.proofs.Firm.{alone_as, firm_read}
 use Rattle.wt_beside_laws.specs.PageSigns.{HasNoBreak}
 use Rattle.wt_beside_laws.specs.NodeItems.{node_items}
+use Rattle.wt_expand.specs.PageItems.{page_items}
+use Rattle.wt_beside_laws.proofs.NodeItems.{node_as}
 
 abbrev in_paragraph : Setting
 in_paragraph = record { within = false; place = Paragraph; source = [] }
@@ -67,7 +69,10 @@ scheme_firm : AreFirm (codes "http://k")
 scheme_firm = (refl, (refl, (refl, (refl, (refl, (refl, (refl, (refl, tt))))))))
 
 url_items : node_items (codes "http://k") ≡ page_chars (codes "http://k")
-url_items = alone_as (codes "http://k") (page_chars (codes "http://k")) (firm_read (codes "http://k") scheme_firm)
+url_items = node_as (codes "http://k") (page_chars (codes "http://k")) (firm_read (codes "http://k") scheme_firm)
+
+url_page : page_items (codes "http://k") ≡ page_chars (codes "http://k")
+url_page = alone_as (codes "http://k") (page_chars (codes "http://k")) (firm_read (codes "http://k") scheme_firm)
 
 url_node : IsBareNode (byte_glyphs (codes "http://k"))
 unfolding bare_url_at scheme_len is_url_char is_dropped kept_len
@@ -78,9 +83,10 @@ unfolding is_guarded is_between_guard is_start_guard is_end_guard is_blank_guard
 flat_lines = record {
   of_block = refl;
   characters = (refl, (refl, (refl, (refl, tt))));
-  kept = (inl (record { parts = characters (codes "http://k") ∷ []; are = (scheme_firm, tt); is = refl }, subst HasNoBreak (sym url_items) (refl, (refl, (refl, (refl, (refl, (refl, (refl, (refl, tt))))))))), tt);
+  kept = ((inl (record { parts = characters (codes "http://k") ∷ []; are = (scheme_firm, tt); is = refl }, subst HasNoBreak (sym url_page) (refl, (refl, (refl, (refl, (refl, (refl, (refl, (refl, tt))))))))), tt), tt);
   nodes = (subst (λ xs. IsBareNode (map glyph_of xs)) (sym url_items) url_node, tt);
   unbroken = (subst IsUnbroken (sym url_items) (refl, (refl, (refl, (refl, (refl, (refl, (refl, (refl, tt)))))))), tt);
   flat = (tt, tt);
+  led = record { first = tt; others = (λ e. cc, tt) };
   meet = (tt, (tt, (tt, (tt, (tt, tt)))));
 }

@@ -84,7 +84,7 @@ rows_then n xs ys t c =
     ∙ rows_text n (first_ended c.first c.others) (rest_ended c.first c.others) (full_lines ys) (still_unled c.first c.others c.unled)
     (ended_all n c.first c.others (c.text n) c.unended)
 
-unbroken_rows : (xs : List Item) (t : ItemTree) (c : ContentLines xs t) → rows (xs ++ []) ≡ paragraph_rows c.first c.others
+pub unbroken_rows : (xs : List Item) (t : ItemTree) (c : ContentLines xs t) → rows (xs ++ []) ≡ paragraph_rows c.first c.others
 unfolding rows
 unbroken_rows xs t c =
     ap (λ zs. rows_from 0 (full_lines zs)) (append-nil xs) ∙ rows_last 0 xs t c ∙ append-nil (paragraph_rows c.first c.others)

@@ -12,7 +12,7 @@ use Rattle.wt_span.specs.Lexemes.{form_at as word_at, sign_word, words, closed a
 use Rattle.wt_span.specs.Tags.{raw_len, include_at, opening_tag as opening_word, closing_tag as closing_word, tag_after as word_after, with_inside, is_extension}
 use Rattle.wt_expand.specs.PageItems.{page_items}
 use Rattle.wt_lines.specs.Kinds.{kind_of_signs}
-use Rattle.wt_lines.specs.Lines.{lines, full_lines}
+use Rattle.wt_lines.specs.Lines.{lines}
 use Rattle.wt_inline.specs.ItemTree.{forest, held_by_all}
 use Rattle.wt_inline.specs.Parts.{children}
 use Rattle.wt_tiles.specs.Tags.{tag_at, opening_tag, closing_tag, tag_after, name_of, live_name}
@@ -29,7 +29,6 @@ use Rattle.wt_quotes.specs.Toggles.{toggle_at, toggles_of}
 use Rattle.wt_blocks.specs.Headings.{level}
 use Rattle.wt_annotated.specs.Clean.{is_page}
 use Rattle.wt_called_trees.specs.Rounded.{AllHaveItems}
-use Rattle.wt_text_edit_laws.specs.Contents.{AreUnled}
 use Rattle.wt_text_edit_laws.specs.LonePages.{page_chars}
 use Rattle.wt_text_edit_laws.specs.NoCalls.{CallsNothing}
 use Rattle.wt_text_edit_laws.specs.ParagraphParts.{joined_parts}
@@ -52,7 +51,7 @@ use Rattle.wt_page.specs.Rows.{marks_len}
 -- what else its items have to be
 pub record AreBlockItems (xs : List Item) : Type 0 where
   pub are_lines : All IsTextLine (lines xs)
-  pub unled : AreUnled (full_lines xs)
+  pub unled : marks_len xs ≡ 0
   pub of_page : list_all is_page (held_by_all (forest (children (joined_parts (lines xs))))) ≡ true
   pub has_items : AllHaveItems (forest (children (joined_parts (lines xs))))
 
@@ -67,7 +66,6 @@ paragraph_by q xs is ended alone before_break given more =
         ended = ended ∙ ap (λ (ys : List Item). ys ++ char None 10 ∷ []) (sym is);
         unended = refl;
         is = record { are_lines = b.are_lines; unled = b.unled; alone = alone; before_break = before_break };
-        unled = tt;
         calls_nothing = h.calls_nothing;
         of_page = b.of_page;
         has_items = b.has_items;
@@ -94,7 +92,7 @@ break_items : AreBlockItems (page_chars (codes "x<br>y"))
 unfolding kind_of_signs context_parts with_styles style_tree_of toggles_of toggle_at chunks segments loose_segments tiles shapes closed form_at link_or_url link_at ext_link_at bare_url_at scheme_len tag_tile tag_at opening_tag closing_tag tag_after name_of live_name switch_at chars children
 break_items = record {
   are_lines = All-cons IsTextLine (page_chars (codes "x<br>y")) [] refl (All-nil IsTextLine);
-  unled = (refl, tt);
+  unled = refl;
   of_page = refl;
   has_items = ((refl, tt), ((refl, tt), ((refl, tt), tt)));
 }
@@ -134,7 +132,6 @@ frame = record {
 record AreHeadingItems (xs : List Item) : Type 0 where
   pub line : heading_line (spaced 2) xs ≡ page_chars words_as_heading
   pub calls_nothing : CallsNothing (heading_line (spaced 2) xs)
-  pub unled : marks_len xs ≡ 0
   pub inside : IsHeadingInside xs
   pub of_level : IsOfLevel (spaced 2) xs
   pub of_page : list_all is_page (held_by_all (forest (children (line_parts xs)))) ≡ true
@@ -154,7 +151,6 @@ heading_by xs is utf8 given =
         ended = ended_heading_are ∙ ap (λ (ys : List Item). ys ++ char None 10 ∷ []) (sym h.line);
         unended = heading_are ∙ sym h.line;
         is = record { frame = frame; inside = h.inside; of_level = h.of_level };
-        unled = h.unled;
         calls_nothing = h.calls_nothing;
         of_page = h.of_page;
         has_items = h.has_items;
@@ -170,7 +166,6 @@ heading_items : AreHeadingItems (page_chars (codes "x<br>y"))
 unfolding page_items words words_closed level kind_of_signs context_parts with_styles style_tree_of toggles_of toggle_at chunks segments loose_segments tiles shapes closed form_at link_or_url link_at ext_link_at bare_url_at scheme_len tag_tile tag_at opening_tag closing_tag tag_after name_of live_name switch_at chars children
 heading_items = record {
   line = refl;
-  unled = refl;
   calls_nothing = tt;
   inside = record { unbroken = (refl, (refl, (refl, (refl, (refl, (refl, tt)))))); begins = refl; ends = refl };
   of_level = refl;
@@ -178,7 +173,7 @@ heading_items = record {
   has_items = ((refl, tt), ((refl, tt), ((refl, tt), tt)));
   flat = break_flat.flat;
   unstyled = break_flat.unstyled;
-  kept = (break_held, tt);
+  kept = ((break_held, tt), tt);
   calm = (break_calm, tt);
   shut = (refl, tt);
 }

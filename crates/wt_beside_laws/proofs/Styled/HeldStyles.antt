@@ -35,7 +35,7 @@ use Rattle.wt_beside_laws.specs.Styled.{StyledContent, finished, sign, styled, d
 use Rattle.wt_beside_laws.specs.StyledNodes.{IsPut, AreSomeAndPut}
 use Rattle.wt_beside_laws.proofs.Each.{Each}
 use Rattle.wt_beside_laws.proofs.Contents.{nowiki_reads}
-use Rattle.wt_beside_laws.proofs.Firm.{alone_as}
+use Rattle.wt_beside_laws.proofs.NodeItems.{node_as}
 use Rattle.wt_beside_laws.proofs.LineThings.{nodes_parts}
 use Rattle.wt_beside_laws.proofs.PageSigns.{flat_nodes}
 use Rattle.wt_beside_laws.proofs.Made.Closes.{each_both}
@@ -142,7 +142,7 @@ each_own [] h = tt
 each_own (t ∷ ts) h = ((λ f. h.0), each_own ts h.1)
 
 nowiki_own : PartsHave (line_parts (node_items nowiki))
-nowiki_own = subst PartsHave (sym (ap line_parts (alone_as nowiki (guard_items true) nowiki_reads) ∙ nowiki_alone)) (guard_has true)
+nowiki_own = subst PartsHave (sym (ap line_parts (node_as nowiki (guard_items true) nowiki_reads) ∙ nowiki_alone)) (guard_has true)
 
 put_has : (t : Thing) → IsPut t → OwnHas t
 put_has t p f = elim p [

@@ -24,6 +24,7 @@ use Rattle.wt_text_edit_laws.specs.TypedHeadings.{Sides, AreSides, heading_line,
 use Rattle.wt_beside_laws.specs.Content.{AreKept, guard_items, letter_items}
 use Rattle.wt_beside_laws.specs.Flat.{AreFlat, IsFlatContent, content_parts}
 use Rattle.wt_beside_laws.specs.InHeadings.{AreOnOneLine, IsHeadingContent, heading_of}
+use Rattle.wt_beside_laws.specs.Led.{AreMarksLed}
 use Rattle.wt_beside_laws.specs.Lines.{AreCharacters, AreUnbroken, line_items, later_lines, content_lines}
 use Rattle.wt_beside_laws.specs.Nodes.{AreNodes, AllMeet}
 use Rattle.wt_beside_laws.specs.PageBlocks.{AreUnstyled, AreShut}
@@ -68,6 +69,7 @@ content_is s signs h =
       nodes = subst AreNodes e h.nodes;
       unbroken = subst AreUnbroken e h.unbroken;
       nested = nested signs h.flat;
+      led = subst AreMarksLed e h.led;
       meet = subst (λ (ss : List ContentSign). AllMeet s [] ss []) e h.meet;
     }
 

@@ -36,7 +36,7 @@ use Rattle.wt_beside_laws.specs.Shown.{parts_shown_at}
 use Rattle.wt_beside_laws.specs.Styled.{StyledContent, finished, sign, styled, mark_source, delimiter, signs_before, signs_in, AreNested}
 use Rattle.wt_beside_laws.specs.StyledShown.{style_shown, styled_shown}
 use Rattle.wt_beside_laws.proofs.Contents.{nowiki_reads}
-use Rattle.wt_beside_laws.proofs.Firm.{alone_as}
+use Rattle.wt_beside_laws.proofs.NodeItems.{node_as}
 use Rattle.wt_beside_laws.proofs.LineSegments.{read_line}
 use Rattle.wt_beside_laws.proofs.LineShown.{twice, children_show, guard_shows}
 use Rattle.wt_beside_laws.specs.NodeItems.{node_items}
@@ -169,7 +169,7 @@ nowiki_alone = read_line (0, leaf tile.Atom 1 ∷ []) (whole form.Nowiki None no
 nowiki_shown : (rest : Plains) → parts_shown_at 0 [] (line_parts (node_items nowiki)) rest ≡ rest
 nowiki_shown rest =
     let own : List Item = whole form.Nowiki None nowiki ∷ [] in
-    ap (λ xs. parts_shown_at 0 [] (line_parts xs) rest) (alone_as nowiki own nowiki_reads)
+    ap (λ xs. parts_shown_at 0 [] (line_parts xs) rest) (node_as nowiki own nowiki_reads)
     ∙ ap (λ (ps : List Part). parts_shown_at 0 [] ps rest) nowiki_alone
     ∙ children_show 0 [] (parts Text own) rest (text_parts own)
     ∙ guard_shows true [] rest

@@ -27,7 +27,7 @@ use Rattle.wt_beside_laws.specs.Nodes.{AreNodes, AllMeet}
 use Rattle.wt_beside_laws.specs.PageBlocks.{AreShut}
 use Rattle.wt_beside_laws.specs.PageSigns.{line_signs, signs_of_lines, AreFlatTiles, AreFlatLines}
 use Rattle.wt_beside_laws.specs.Styled.{StyledContent, finished, sign, styled, mark_source, delimiter, signs_before, signs_in, signs_past, AreNested, IsStyledContent}
-use Rattle.wt_beside_laws.proofs.FlatAgain.{EachSource, so_both, HoldsOfPut, put_kept, IsShut, put_shut, FlatCut, FlatShapes, closed_flat, chars_before, none_flat, guard_flat, letter_flat, letter_by, node_flat, Unbroken, unbroken_lines, from_kept, to_kept, from_shut, to_shut}
+use Rattle.wt_beside_laws.proofs.FlatAgain.{EachSource, so_both, HoldsOfPut, put_kept, IsShut, put_shut, FlatCut, FlatShapes, closed_flat, chars_before, none_flat, guard_flat, letter_flat, letter_by, node_flat, Unbroken, unbroken_lines, from_kept, to_kept, lines_tied, from_shut, to_shut}
 use Rattle.wt_beside_laws.proofs.LineItems.{content_lines_are}
 use Rattle.wt_beside_laws.proofs.LineParts.{line_cuts}
 use Rattle.wt_beside_laws.proofs.LineTiles.{line_cut}
@@ -151,7 +151,7 @@ one_line Q p s before t k =
     ap (λ (d : Cut). tile_parts (closed d.0 d.1) xs) (sym (line_cuts s before signs k.nodes k.meet)) ∙ sym (tiles_are in_line xs) in
     let g : FlatShapes Q (tiles in_line xs) =
     subst (FlatShapes Q) is (closed_flat Q cut xs (styled_flat Q p s false false t before [] k.typed k.source k.nodes k.nested (end_flat Q p s (signs_past t before)))) in
-    record { tiles = g.tiles; kept = g.kept }
+    record { tiles = g.tiles; kept = g.kept true }
 
 later_line : (Q : List ℕ → Type 0) (b : Bool) (l : List Item) (ls : List (List Item)) → StyledLine Q l → StyledLines Q ls → StyledLines Q (if b then l ∷ ls else ls)
 later_line Q true l ls h g = (h, g)
@@ -191,7 +191,7 @@ all_styled Q p s t h q =
 all_unbroken : (s : Setting) (t : StyledContent) → IsStyledContent s t → Unbroken (content_lines s (signs_in t))
 all_unbroken s t h =
     let xs : List Item = page_items (spelled s (signs_in t)) in
-    subst Unbroken (content_lines_are s (signs_in t) (record { within = h.of_block; kept = h.kept; nodes = h.nodes }) h.unbroken) (unbroken_lines (lines xs) xs (lines_are xs))
+    subst Unbroken (content_lines_are s (signs_in t) (record { within = h.of_block; kept = h.kept; nodes = h.nodes; led = h.led }) h.unbroken) (unbroken_lines (lines xs) xs (lines_are xs))
 
 flat_lines : (Q : List ℕ → Type 0) (ls : List (List Item)) → Unbroken ls → StyledLines Q ls → AreFlatLines ls
 flat_lines Q [] b f = tt
@@ -214,7 +214,7 @@ again_lines s t h =
 
 pub again_kept : (at : ℕ) (s : Setting) (t : StyledContent) → IsStyledContent s t → AreKept (signs_of_lines at (content_lines s (signs_in t)))
 again_kept at s t h =
-    to_kept (signs_of_lines at (content_lines s (signs_in t)))
+    to_kept (signs_of_lines at (content_lines s (signs_in t))) (lines_tied at (content_lines s (signs_in t)))
     (so_lines IsHeld at (content_lines s (signs_in t)) (all_styled IsHeld put_kept s t h (from_kept (signs_in t) h.kept)))
 
 pub again_shut : (at : ℕ) (s : Setting) (t : StyledContent) → IsStyledContent s t → AreShut (signs_in t) → AreShut (signs_of_lines at (content_lines s (signs_in t)))

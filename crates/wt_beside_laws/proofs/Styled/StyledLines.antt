@@ -39,7 +39,8 @@ use Rattle.wt_beside_laws.specs.Lines.{line_items}
 use Rattle.wt_beside_laws.specs.Nests.{quote, marks, mark_segments, nest_segments, style_tree}
 use Rattle.wt_beside_laws.specs.Nodes.{IsNode, AreNodes, AllMeet}
 use Rattle.wt_beside_laws.specs.Styled.{StyledContent, finished, sign, styled, mark_source, delimiter, signs_before, signs_past, AreNested, styled_parts}
-use Rattle.wt_beside_laws.proofs.Firm.{alone_as, firm_read}
+use Rattle.wt_beside_laws.proofs.Firm.{firm_read}
+use Rattle.wt_beside_laws.proofs.NodeItems.{node_as}
 use Rattle.wt_beside_laws.proofs.LineParts.{has_form, glyphs_long, node_alone, line_cuts}
 use Rattle.wt_beside_laws.proofs.LineSegments.{cut_segments, segments_are, tile_first, one_segment}
 use Rattle.wt_beside_laws.proofs.LineTiles.{line_cut}
@@ -150,8 +151,8 @@ node_read bold italic next any t c xs vs ps f n r =
 -- ---- a delimiter
 
 pub mark_items : (kind : Bool) → node_items (mark_source kind) ≡ marks kind
-mark_items true = alone_as (mark_source true) (page_chars (mark_source true)) (firm_read (mark_source true) (refl, (refl, (refl, tt))))
-mark_items false = alone_as (mark_source false) (page_chars (mark_source false)) (firm_read (mark_source false) (refl, (refl, tt)))
+mark_items true = node_as (mark_source true) (page_chars (mark_source true)) (firm_read (mark_source true) (refl, (refl, (refl, tt))))
+mark_items false = node_as (mark_source false) (page_chars (mark_source false)) (firm_read (mark_source false) (refl, (refl, tt)))
 
 pub mark_glyphs : (kind : Bool) → map glyph_of (node_items (mark_source kind)) ≡ byte_glyphs (mark_source kind)
 mark_glyphs true = ap (map glyph_of) (mark_items true)

@@ -2,6 +2,7 @@
 use Rattle.std.proofs.Common.{◌≡◌, ℕ, ◌==◌, Bool, true, false, not, List, [], ◌∷◌, ◌++◌, map, refl, sym, ap, ◌∙◌, subst, append_assoc, append-nil, All}
 use Rattle.std.specs.Prelude.{◌||◌, if◌then◌else◌}
 use Rattle.wt_span.specs.Items.{Item}
+use Rattle.wt_span.specs.Runs.{AreRuns}
 use Rattle.wt_span.proofs.RunLaws.{runs_are}
 use Rattle.wt_guards.specs.Content.{ContentSign, letter, thing}
 use Rattle.wt_guards.specs.Guards.{Setting, is_guarded, spelled}
@@ -13,23 +14,24 @@ use Rattle.wt_lines.proofs.FullLines.{same_lines}
 use Rattle.wt_inline.specs.declared.loose.Loose.TheVariants.{Text}
 use Rattle.wt_inline.specs.Parts.{Part, node, parts}
 use Rattle.wt_context.specs.Line.{line_parts}
-use Rattle.wt_page.specs.Rows.{rows}
+use Rattle.wt_page.specs.Rows.{marks_len, rows}
 use Rattle.wt_page.specs.Texts.{para_parts, para}
 use Rattle.wt_page.specs.Body.{within, blocks, meaning}
 use Rattle.wt_text_edit_laws.specs.ParagraphBetween.{EndsApart, EndsParagraph, blocks_in, body_with}
 use Rattle.wt_text_edit_laws.specs.ParagraphParts.{break, after_breaks, joined_parts, para_with}
 use Rattle.wt_text_edit_laws.proofs.Texts.PlainRows.{text_row}
 use Rattle.wt_beside_laws.specs.Content.{guard_items, letter_items}
-use Rattle.wt_beside_laws.specs.Lines.{IsLineOfText, line_items, later_lines}
+use Rattle.wt_beside_laws.specs.Lines.{IsLineOfText, AreLinesOfText, line_items, later_lines}
 use Rattle.wt_beside_laws.specs.Nests.{style_tree}
 use Rattle.wt_beside_laws.specs.Nodes.{AreNodes, AllMeet}
 use Rattle.wt_beside_laws.specs.Styled.{StyledContent, finished, sign, styled, delimiter, signs_before, signs_in, signs_past, AreNested, IsStyledContent, styled_parts}
+use Rattle.wt_beside_laws.proofs.FlatLines.{lines_unled}
 use Rattle.wt_beside_laws.proofs.LineItems.{content_lines_are}
-use Rattle.wt_beside_laws.proofs.LineKinds.{lines_are_text}
+use Rattle.wt_beside_laws.proofs.LineKinds.{lines_are_text, are_lines_of_text}
 use Rattle.wt_beside_laws.proofs.LineParagraphs.{front_all, rest_all, no_end, body_of, body_by}
-use Rattle.wt_text_edit_laws.proofs.Paragraphs.LineBlocks.{OwnBreaks}
+use Rattle.wt_text_edit_laws.proofs.Paragraphs.LineBlocks.{OwnBreaks, paragraph_rows}
 use Rattle.wt_beside_laws.proofs.LineRows.{rows_parts, content_own, later_by, both_by, break_parts}
-use Rattle.wt_beside_laws.proofs.LineStands.{lines_by, stands_so}
+use Rattle.wt_beside_laws.proofs.LineStands.{ContentLines, lines_by, unbroken_rows, stands_so}
 use Rattle.wt_beside_laws.proofs.Styled.StyledLines.{nodes_behind, within_style, styled_line}
 use Rattle.wt_beside_laws.proofs.Marks.Commented.{content_alone}
 use Rattle.wt_beside_laws.specs.NodeItems.{node_items}
