@@ -1,4 +1,5 @@
 mod Cases
+mod LineCases
 pub mod Commented
 pub mod Ends
 pub mod InLine
