@@ -20,6 +20,7 @@ pub mod PageNodes
 pub mod PageSigns
 pub mod PairTiles
 pub mod OwnSigns
+pub mod OwnItems
 pub mod SentNodes
 pub mod Stood
 pub mod TagFronts

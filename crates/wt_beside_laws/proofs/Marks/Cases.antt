@@ -107,7 +107,6 @@ unfolding kind_of_signs context_parts with_styles style_tree_of toggles_of toggl
 tag_items = record {
   are_lines = All-cons IsTextLine own_items [] refl (All-nil IsTextLine);
   unled = refl;
-  of_page = refl;
   has_items = ((refl, tt), ((refl, tt), ((refl, tt), tt)));
 }
 
@@ -163,7 +162,6 @@ unfolding kind_of_signs context_parts with_styles style_tree_of toggles_of toggl
 comment_items = record {
   are_lines = All-cons IsTextLine remarked_items [] refl (All-nil IsTextLine);
   unled = refl;
-  of_page = refl;
   has_items = ((refl, tt), ((refl, tt), ((refl, tt), tt)));
 }
 

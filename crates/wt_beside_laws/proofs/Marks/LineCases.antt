@@ -124,7 +124,6 @@ unfolding kind_of_signs context_parts with_styles style_tree_of toggles_of toggl
 own_block = record {
   are_lines = All-cons IsTextLine (char None 120 ∷ []) (later_line ∷ []) refl (All-cons IsTextLine later_line [] refl (All-nil IsTextLine));
   unled = refl;
-  of_page = refl;
   has_items = ((refl, tt), ((refl, tt), ((refl, tt), tt)));
 }
 

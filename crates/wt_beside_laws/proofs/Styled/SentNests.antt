@@ -1,5 +1,5 @@
 -- What is sent nests, where the page's content does and new styles are as they may be.
-use Rattle.std.proofs.Common.{◌≡◌, Bool, true, false, not, List, [], ◌∷◌, refl, sym, ap, ◌∙◌, subst, inl, inr}
+use Rattle.std.proofs.Common.{◌≡◌, Bool, true, false, not, List, [], ◌∷◌, refl, sym, ap, ◌∙◌, subst}
 use Rattle.std.specs.Prelude.{◌||◌, ℕ}
 use Rattle.std.specs.Str.{IsUtf8}
 use Rattle.wt_tree.specs.declared.kind.Kind.{Kind}

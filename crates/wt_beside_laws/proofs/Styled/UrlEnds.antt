@@ -1,10 +1,10 @@
 -- A bare URL of the page that an apostrophe follows doesn't end with one; by the bytes of the content.
-use Rattle.std.proofs.Common.{arith, ◌≡◌, ◌⊎◌, ℕ, ◌+◌, ◌-◌, ◌<◌, ◌≤◌, suc, Bool, true, false, Option, Some, None, List, [], ◌∷◌, ◌++◌, length, map, take, drop, refl, sym, ap, ◌∙◌, subst, inl, inr, append_assoc, append-nil, All}
-use Rattle.std.specs.Prelude.{encode_utf8, if◌then◌else◌}
-use Rattle.std.specs.Str.{chars, IsUtf8}
+use Rattle.std.proofs.Common.{arith, ◌≡◌, ◌⊎◌, ℕ, ◌+◌, ◌-◌, ◌<◌, ◌≤◌, suc, Bool, true, false, Some, None, List, [], ◌∷◌, ◌++◌, length, map, take, drop, refl, sym, ap, ◌∙◌, subst, inl, inr, append_assoc, append-nil, All}
+use Rattle.std.specs.Prelude.{encode_utf8}
+use Rattle.std.specs.Str.{chars}
 use Rattle.std.proofs.Math.Utf8.{encodes}
 use Rattle.std.proofs.lemmas.Bool.{cases_lt}
-use Rattle.std.proofs.lemmas.List.{length-append, take-append-drop}
+use Rattle.std.proofs.lemmas.List.{take-append-drop}
 use Rattle.std.proofs.lemmas.List.Elements.{All-head}
 use Rattle.std.proofs.lemmas.Str.{encodes-chars, encode_ascii}
 use Rattle.wt_names.proofs.Ascii.{IsWide, encode_wide, encode_some}
@@ -86,7 +86,7 @@ quote_cut c at (x ∷ xs) ys h = elim h [
 ]
 
 from_cut : (c at : ℕ) (xs ys : List ℕ) → IsFrom c at (xs ++ ys) → IsFrom c (at + length xs) ys
-from_cut c at xs ys h = elim h [ | inl lt ↦ inl (omega (arith, lt)) | inr q ↦ quote_cut c at xs ys q ]
+from_cut c at xs ys h = elim h [ inl lt ↦ inl (omega (arith, lt)) | inr q ↦ quote_cut c at xs ys q ]
 
 abbrev FirstQuote : List ℕ → Type 0
 FirstQuote [] = ⊥

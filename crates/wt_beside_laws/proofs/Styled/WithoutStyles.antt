@@ -1,5 +1,5 @@
 -- A content without bold and italic is one with them, of which none is there: what is sent for it nests, and it has no delimiter.
-use Rattle.std.proofs.Common.{◌≡◌, ◌≢◌, ℕ, ◌<◌, Bool, true, false, Option, Some, None, List, [], ◌∷◌, refl, sym, ap, ◌∙◌, subst}
+use Rattle.std.proofs.Common.{◌≡◌, ◌≢◌, ℕ, ◌<◌, false, Option, Some, None, List, [], ◌∷◌, refl, sym, ap, ◌∙◌, subst}
 use Rattle.std.specs.Str.{chars}
 use Rattle.wt_span.specs.Items.{Item}
 use Rattle.wt_link_spelling.specs.Spelling.{children_of}
