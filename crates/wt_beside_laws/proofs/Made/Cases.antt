@@ -32,7 +32,7 @@ use Rattle.wt_text_edit_laws.specs.NoCalls.{CallsNothing}
 use Rattle.wt_text_edit_laws.specs.ParagraphParts.{joined_parts}
 use Rattle.wt_text_edit_laws.specs.Paragraphs.{IsTextLine}
 use Rattle.wt_text_edit_laws.specs.TextBetween.{StandsBehind}
-use Rattle.wt_text_edit_laws.specs.TextBlocks.{a_paragraph, a_heading, IsFrame}
+use Rattle.wt_text_edit_laws.specs.TextBlocks.{a_paragraph, a_heading, source_of, IsFrame}
 use Rattle.wt_text_edit_laws.specs.TypedHeadings.{spaced, heading_line, IsHeadingInside, IsOfLevel}
 use Rattle.wt_beside_laws.specs.Calm.{AreCalm}
 use Rattle.wt_beside_laws.specs.Content.{AreKept}
@@ -123,9 +123,9 @@ frame = record {
   ended = refl;
 }
 
--- what its items have to be
-record AreHeadingItems (xs : List Item) : Type 0 where
-  pub line : heading_line (spaced 2) xs ≡ page_chars words_as_heading
+-- what its items have to be, where these are those of its line
+pub record AreHeadingItems (all xs : List Item) : Type 0 where
+  pub line : heading_line (spaced 2) xs ≡ all
   pub calls_nothing : CallsNothing (heading_line (spaced 2) xs)
   pub inside : IsHeadingInside xs
   pub of_level : IsOfLevel (spaced 2) xs
@@ -136,14 +136,16 @@ record AreHeadingItems (xs : List Item) : Type 0 where
   pub calm : AreCalm (signs_of_lines 3 (xs ∷ []))
   pub shut : AreShut (signs_of_lines 3 (xs ∷ []))
 
-heading_by : (xs : List Item) → page_items (codes "x<br>y") ≡ xs → IsUtf8 (codes "x<br>y") → AreHeadingItems xs → IsFlatIn (a_heading (spaced 2)) (codes "x<br>y")
-heading_by xs is utf8 given =
-    let h : AreHeadingItems (page_items (codes "x<br>y")) = subst AreHeadingItems (sym is) given in
+pub heading_by : (q : List ℕ) (all xs : List Item) → page_items (source_of (a_heading (spaced 2)) q) ≡ all
+    → page_items (source_of (a_heading (spaced 2)) q ++ 10 ∷ []) ≡ all ++ char None 10 ∷ [] → page_items q ≡ xs → IsUtf8 q → AreHeadingItems all xs
+    → IsFlatIn (a_heading (spaced 2)) q
+heading_by q all xs alone before_break is utf8 given =
+    let h : AreHeadingItems all (page_items q) = subst (AreHeadingItems all) (sym is) given in
     record {
       styled = record {
         utf8 = utf8;
-        ended = ended_heading_are ∙ ap (λ (ys : List Item). ys ++ char None 10 ∷ []) (sym h.line);
-        unended = heading_are ∙ sym h.line;
+        ended = before_break ∙ ap (λ (ys : List Item). ys ++ char None 10 ∷ []) (sym h.line);
+        unended = alone ∙ sym h.line;
         is = record { frame = frame; inside = h.inside; of_level = h.of_level };
         calls_nothing = h.calls_nothing;
         has_items = h.has_items;
@@ -155,7 +157,7 @@ heading_by xs is utf8 given =
       unstyled = h.unstyled;
     }
 
-heading_items : AreHeadingItems (page_chars (codes "x<br>y"))
+heading_items : AreHeadingItems (page_chars words_as_heading) (page_chars (codes "x<br>y"))
 unfolding page_items words words_closed level kind_of_signs context_parts with_styles style_tree_of toggles_of toggle_at chunks segments loose_segments tiles shapes closed form_at link_or_url link_at ext_link_at bare_url_at scheme_len tag_tile tag_at opening_tag closing_tag tag_after name_of live_name switch_at chars children
 heading_items = record {
   line = refl;
@@ -171,4 +173,5 @@ heading_items = record {
 }
 
 pub as_heading : IsFlatIn (a_heading (spaced 2)) (codes "x<br>y")
-as_heading = heading_by (page_chars (codes "x<br>y")) items_are break_flat.utf8 heading_items
+as_heading =
+    heading_by (codes "x<br>y") (page_chars words_as_heading) (page_chars (codes "x<br>y")) heading_are ended_heading_are items_are break_flat.utf8 heading_items

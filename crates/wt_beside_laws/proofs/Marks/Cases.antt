@@ -1,4 +1,5 @@
--- Worked cases: `<!--c-->` is a comment whatever is behind it, and the paragraphs `x<noinclude>y` and `x<!--c-->y`, in which a mark is within its line, are flat.
+-- Worked cases: `<!--c-->` is a comment whatever is behind it, and the paragraphs `x<noinclude>y` and `x<!--c-->y`, in which a mark is within its line, are flat, as
+-- `x<!--c-->y` is in a heading.
 use Rattle.std.proofs.Common.{◌≡◌, ℕ, None, List, [], ◌∷◌, ◌++◌, refl, sym, subst, inl, inr}
 use Rattle.std.specs.Prelude.{codes}
 use Rattle.std.specs.Str.{chars}
@@ -27,7 +28,9 @@ use Rattle.wt_quotes.specs.Styles.{style_tree_of}
 use Rattle.wt_quotes.specs.Toggles.{toggle_at, toggles_of}
 use Rattle.wt_text_edit_laws.specs.Paragraphs.{IsTextLine}
 use Rattle.wt_text_edit_laws.specs.TextBetween.{StandsBehind}
-use Rattle.wt_text_edit_laws.specs.TextBlocks.{a_paragraph}
+use Rattle.wt_text_edit_laws.specs.TextBlocks.{a_paragraph, a_heading}
+use Rattle.wt_text_edit_laws.specs.TypedHeadings.{spaced}
+use Rattle.wt_blocks.specs.Headings.{level}
 use Rattle.wt_beside_laws.specs.Calm.{IsCalm, HaveNoBraces}
 use Rattle.wt_beside_laws.specs.Commented.{IsComment, IsHeld}
 use Rattle.wt_beside_laws.proofs.Marks.Shown.{comment_node}
@@ -38,7 +41,7 @@ use Rattle.wt_beside_laws.specs.StyledIn.{IsFlatIn}
 use Rattle.wt_beside_laws.specs.Kept.{characters, lexeme, IsPart, IsKept}
 use Rattle.wt_beside_laws.proofs.Firm.{ReadsAs, alone_as, parts_read}
 use Rattle.wt_beside_laws.proofs.Edits.Cases.{AreFlat}
-use Rattle.wt_beside_laws.proofs.Made.Cases.{AreBlockItems, paragraph_by}
+use Rattle.wt_beside_laws.proofs.Made.Cases.{AreBlockItems, paragraph_by, AreHeadingItems, heading_by}
 use Rattle.wt_beside_laws.specs.PageSigns.{HasNoBreak}
 
 comment : IsComment (codes "!--c-->")
@@ -168,3 +171,38 @@ comment_items = record {
 with_a_comment : IsFlatIn a_paragraph remarked
 with_a_comment =
     paragraph_by remarked remarked_items remarked_are remarked_before (x_stands (codes "<!--c-->y")) (x_stands (codes "<!--c-->y\n")) comment_flat comment_items
+
+-- ---- in a heading
+
+abbrev remarked_heading : List ℕ
+remarked_heading = codes "== x<!--c-->y =="
+
+abbrev heading_items : List Item
+heading_items =
+    char None 61 ∷ char None 61 ∷ char None 32 ∷ char None 120 ∷ comment_item ∷ char None 121 ∷ char None 32 ∷ char None 61 ∷ char None 61 ∷ []
+
+heading_are : page_items remarked_heading ≡ heading_items
+unfolding page_items words words_closed word_at comment_len comment_line_len raw_len include_at opening_word closing_word word_after with_inside is_extension entity_at named_entity entity_names decimal_entity hex_entity sign_word
+heading_are = refl
+
+heading_before : page_items (remarked_heading ++ 10 ∷ []) ≡ heading_items ++ char None 10 ∷ []
+unfolding page_items words words_closed word_at comment_len comment_line_len raw_len include_at opening_word closing_word word_after with_inside is_extension entity_at named_entity entity_names decimal_entity hex_entity sign_word
+heading_before = refl
+
+comment_in_heading : AreHeadingItems heading_items remarked_items
+unfolding page_items words words_closed level kind_of_signs context_parts with_styles style_tree_of toggles_of toggle_at chunks segments loose_segments tiles shapes closed form_at link_or_url link_at ext_link_at bare_url_at scheme_len tag_tile tag_at opening_tag closing_tag tag_after name_of live_name switch_at chars children
+comment_in_heading = record {
+  line = refl;
+  calls_nothing = tt;
+  inside = record { unbroken = (refl, (refl, (refl, tt))); begins = refl; ends = refl };
+  of_level = refl;
+  has_items = ((refl, tt), ((refl, tt), ((refl, tt), tt)));
+  flat = comment_flat.flat;
+  unstyled = comment_flat.unstyled;
+  kept = ((comment_held, refl), tt);
+  calm = (comment_calm, tt);
+  shut = (refl, tt);
+}
+
+with_a_comment_in_a_heading : IsFlatIn (a_heading (spaced 2)) remarked
+with_a_comment_in_a_heading = heading_by remarked heading_items remarked_items heading_are heading_before remarked_are comment_flat.utf8 comment_in_heading
