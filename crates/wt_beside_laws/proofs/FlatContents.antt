@@ -1,5 +1,5 @@
 -- A content of the nodes of flat lines of a page, with texts between them, is one that is read sign by sign.
-use Rattle.std.proofs.Common.{◌≡◌, ℕ, ◌+◌, Bool, false, List, [], ◌∷◌, ◌++◌, length, map, take, drop, refl, sym, subst}
+use Rattle.std.proofs.Common.{◌≡◌, ℕ, ◌+◌, Bool, true, false, List, [], ◌∷◌, ◌++◌, length, map, take, drop, refl, sym, subst}
 use Rattle.std.specs.Str.{chars}
 use Rattle.wt_span.specs.Items.{Item, char, whole, sources}
 use Rattle.wt_guards.specs.declared.role.Role.{Role}

@@ -1,5 +1,5 @@
 -- A form of a line is the same by itself: its source has the node that it has in the line.
-use Rattle.std.proofs.Common.{arith, ◌≡◌, ◌<◌, Bool, false, Option, Some, None, List, [], ◌∷◌, ◌++◌, length, map, refl, sym, ap, ◌∙◌, subst, append-nil, inl}
+use Rattle.std.proofs.Common.{arith, ◌≡◌, ◌<◌, Bool, true, false, Option, Some, None, List, [], ◌∷◌, ◌++◌, length, map, refl, sym, ap, ◌∙◌, subst, append-nil, inl}
 use Rattle.std.specs.List.{flat_map}
 use Rattle.std.proofs.lemmas.List.{length-map, map-append}
 use Rattle.wt_span.specs.Items.{Item}

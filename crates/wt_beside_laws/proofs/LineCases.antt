@@ -87,6 +87,6 @@ flat_lines = record {
   nodes = (subst (λ xs. IsBareNode (map glyph_of xs)) (sym url_items) url_node, tt);
   unbroken = (subst IsUnbroken (sym url_items) (refl, (refl, (refl, (refl, (refl, (refl, (refl, (refl, tt)))))))), tt);
   flat = (tt, tt);
-  led = record { first = tt; others = (λ e. cc, tt) };
+  led = record { first = tt; others = ((λ e. absurd (cc)), tt) };
   meet = (tt, (tt, (tt, (tt, (tt, tt)))));
 }

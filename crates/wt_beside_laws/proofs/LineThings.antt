@@ -52,7 +52,7 @@ use Rattle.wt_beside_laws.proofs.FormKinds.{IsNodeKind, form_is_node}
 use Rattle.wt_beside_laws.proofs.FormsAlone.{by_parts, form_alone}
 use Rattle.wt_beside_laws.proofs.FormOpenings.{OpensAs, opens_so}
 use Rattle.wt_beside_laws.proofs.LineSegments.{unstyled}
-use Rattle.wt_beside_laws.proofs.PageLexemes.{IsPageForm, AreOfPage, no_brace}
+use Rattle.wt_beside_laws.proofs.PageLexemes.{IsPageForm, AreOfPage, node_of_page, no_brace}
 use Rattle.wt_beside_laws.proofs.PageSigns.{AreChars, are_chars, IsFlatKind, flat_nodes}
 use Rattle.wt_beside_laws.proofs.PartThings.{IsThing, thing_at, tree_source, IsAlone, HaveThings, parts_width, things_both}
 use Rattle.wt_beside_laws.proofs.SentNodes.{things_append, no_things}

@@ -105,9 +105,6 @@ break_alone =
     alone_as (codes "<br>") (page_chars (codes "<br>"))
     (parts_read (sign 60 (codes "br>") ∷ []) ((record { none = λ rest. refl; uncommented = λ rest. refl }, (refl, (refl, (refl, tt)))), tt))
 
-pub break_node : node_items (codes "<br>") ≡ page_chars (codes "<br>")
-break_node = kept_node (codes "<br>") break_kept ∙ break_alone
-
 pub break_kept : IsKept (codes "<br>")
 unfolding word_at comment_len raw_len include_at opening_word closing_word word_after with_inside is_extension entity_at named_entity entity_names decimal_entity hex_entity sign_word
 break_kept = record {
@@ -115,6 +112,9 @@ break_kept = record {
   are = ((record { none = λ rest. refl; uncommented = λ rest. refl }, (refl, (refl, (refl, tt)))), tt);
   is = refl;
 }
+
+pub break_node : node_items (codes "<br>") ≡ page_chars (codes "<br>")
+break_node = kept_node (codes "<br>") break_kept ∙ break_alone
 
 pub break_held : IsHeld (codes "<br>")
 break_held = inl (break_kept, subst HasNoBreak (sym break_alone) (refl, (refl, (refl, (refl, tt)))))

@@ -114,7 +114,7 @@ between_none (letter c ∷ before) t l e = let r = no_first t e in rw (r.1) refl
 between_none (thing a ∷ before) t l e =
     let r = no_first t e in
     let q = no_first a l in
-    unparted (is_function a.role) (is_mark_role a.role) (is_mark_role t.role) (ends_line a.role) (is_adjacent a t) (has_brace_last a.source) _ q.3 q.2 r.2 l
+    unparted (is_function t.role) (is_mark_role a.role) (is_mark_role t.role) (ends_line a.role) (is_adjacent a t) (has_brace_last a.source) _ r.3 q.2 r.2 l
 
 blank_none : (before : List ContentSign) → is_line_start (nearest before) ≡ true → is_blank_last (nearest before) ≡ false
 blank_none [] l = refl

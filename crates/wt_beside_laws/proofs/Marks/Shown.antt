@@ -1,5 +1,5 @@
 -- What is first on a line: something that is shown, or marks behind which something is shown. So the line is no line of comments.
-use Rattle.std.proofs.Common.{arith, ◌≡◌, ℕ, suc, ◌+◌, ◌-◌, ◌<◌, ◌≤◌, ◌==◌, Bool, true, false, Some, None, List, [], ◌∷◌, ◌++◌, length, map, refl, sym, ap, ◌∙◌, subst, inl, inr, append-nil, append_assoc, All}
+use Rattle.std.proofs.Common.{arith, ◌≡◌, ℕ, suc, ◌+◌, ◌-◌, ◌<◌, ◌≤◌, ◌==◌, Bool, true, false, Option, Some, None, List, [], ◌∷◌, ◌++◌, length, map, refl, sym, ap, ◌∙◌, subst, inl, inr, append-nil, append_assoc, All}
 use Rattle.std.specs.Prelude.{◌&&◌, ◌||◌, codes, encode_utf8, nat_lt, slice_index, if◌then◌else◌}
 use Rattle.std.specs.Option.{option_or}
 use Rattle.std.proofs.lemmas.Bool.{cases_lt}
@@ -163,14 +163,19 @@ node_shown r own false e n = opens_shown own (node_opens r own n e)
 not_blank : (b : ℕ) → OpensText b → is_blank b ≡ false
 not_blank b o = let s = o.space in let t = o.tab in rw (s, t) refl
 
+is_word : Option (LexKind × ℕ) → Bool
+is_word None = false
+is_word (Some w) = true
+
 lexeme_break : (kind : LexKind) (b : ℕ) (q : List ℕ) → IsLexeme kind b q → (b == 10) ≡ false
 lexeme_break kind b q h = by (b == 10) refl
   where
     by : (v : Bool) → (b == 10) ≡ v → v ≡ false
     by true e =
         let is : b ≡ 10 = grind (arith, nat_tests, e) in
-        let no : None ≡ Some (kind, suc (length q)) =
-        sym (other_byte Page 10 (q ++ []) refl) ∙ subst (λ (k : ℕ). form_at Page false (k ∷ (q ++ [])) ≡ Some (kind, suc (length q))) is (h.form []) in
+        let no : false ≡ true =
+        ap is_word (sym (other_byte Page 10 (q ++ []) refl))
+        ∙ ap is_word (subst (λ (k : ℕ). form_at Page false (k ∷ (q ++ [])) ≡ Some (kind, suc (length q))) is (h.form [])) in
         cc
     by false e = refl
 
