@@ -4,9 +4,11 @@ use Rattle.wt_span.specs.Origins.{OuterCall, Span}
 use Rattle.wt_expand.specs.Work.{Pages}
 use Rattle.wt_expand.specs.PageCalls.{expanded_page}
 use Rattle.wt_joined_calls.specs.Expanded.{moved_span, moved_place, moved_call}
-use Rattle.wt_text_edit_laws.specs.BlockSpots.{BlockSpot, SameRound}
+use Rattle.wt_text_edit_laws.specs.BlockSpots.{BlockSpot, SameRound, AreContents}
 use Rattle.wt_text_edit_laws.specs.TextBlocks.{source_of}
+use Rattle.wt_called_edit_laws.specs.CalledBlocks.{CallNothing}
 use Rattle.wt_called_edit_laws.specs.Parts.{called_outers}
+use Rattle.wt_called_edit_laws.proofs.Parts.NoCallsCalled.{calm_outers}
 use Rattle.wt_called_trees.specs.MovedCalls.{IsMoved, AreMoved}
 
 -- ---- a call that is moved twice, and one that isn't moved
@@ -85,18 +87,26 @@ both_calls (c ∷ cs) (d ∷ ds) us vs m n = (m.0, both_calls cs ds us vs m.1 n)
 
 -- ---- those of the page
 
-pub outers_moved : (pages : Pages) (ss rs : List BlockSpot) (behind : List ℕ) → SameRound ss rs → AreMoved (called_outers pages ss behind) (called_outers pages rs behind)
-outers_moved pages [] [] behind e = same_calls (expanded_page pages behind).outer
-outers_moved pages [] (r ∷ rs) behind e = absurd e
-outers_moved pages (s ∷ ss) [] behind e = absurd e
-outers_moved pages (s ∷ ss) (r ∷ rs) behind e =
+own_calls : (cs ds : List OuterCall) → cs ≡ [] → ds ≡ [] → AreMoved cs ds
+own_calls cs ds e f = subst (λ (os : List OuterCall). AreMoved os ds) (sym e) (subst (λ (os : List OuterCall). AreMoved [] os) (sym f) tt)
+
+pub outers_moved : (pages : Pages) (ss rs : List BlockSpot) (behind : List ℕ) → SameRound ss rs → AreContents ss → CallNothing ss → AreContents rs → CallNothing rs
+    → AreMoved (called_outers pages ss behind) (called_outers pages rs behind)
+outers_moved pages [] [] behind e b c d f = same_calls (expanded_page pages behind).outer
+outers_moved pages [] (r ∷ rs) behind e b c d f = absurd e
+outers_moved pages (s ∷ ss) [] behind e b c d f = absurd e
+outers_moved pages (s ∷ ss) (r ∷ rs) behind e b c d f =
     let was : List OuterCall = (expanded_page pages s.before).outer in
     let now : List OuterCall = (expanded_page pages r.before).outer in
+    let own_old : List OuterCall = (expanded_page pages (source_of s.block s.text)).outer in
+    let own_new : List OuterCall = (expanded_page pages (source_of r.block r.text)).outer in
     let old : List OuterCall = called_outers pages ss behind in
     let new : List OuterCall = called_outers pages rs behind in
     let i : ℕ = length (source_of s.block s.text) in
     let j : ℕ = length (source_of r.block r.text) in
-    both_calls was now (map (moved_call (length s.before)) (map (moved_call i) old)) (map (moved_call (length r.before)) (map (moved_call j) new))
+    both_calls was now (map (moved_call (length s.before)) (own_old ++ map (moved_call i) old)) (map (moved_call (length r.before)) (own_new ++ map (moved_call j) new))
     (subst (λ bs. AreMoved was (expanded_page pages bs).outer) (sym e.0) (same_calls was))
-    (further_calls (length s.before) (length r.before) (map (moved_call i) old) (map (moved_call j) new)
-    (further_calls i j old new (outers_moved pages ss rs behind e.2)))
+    (further_calls (length s.before) (length r.before) (own_old ++ map (moved_call i) old) (own_new ++ map (moved_call j) new)
+    (both_calls own_old own_new (map (moved_call i) old) (map (moved_call j) new)
+    (own_calls own_old own_new (calm_outers pages s.block s.text b.0 c.0) (calm_outers pages r.block r.text d.0 f.0))
+    (further_calls i j old new (outers_moved pages ss rs behind e.2 b.1 c.1 d.1 f.1))))

@@ -6,7 +6,7 @@ ghost use Rattle.std.specs.Prelude.{ℕ, ◌<◌, List, [], ◌∷◌, ◌≡◌
 ghost use Rattle.wt_expand.specs.Work.{Pages};
 ghost use Rattle.wt_text_edit_laws.specs.BlockSpots.{BlockSpot, AreRead, AreBlockSpots, spots_source};
 ghost use Rattle.wt_called_edit_laws.specs.Parts.{AreCalled, IsByParts};
-ghost use Rattle.wt_called_edit_laws.specs.Retyped.{AreRetyped, IsExpandedAgain};
+ghost use Rattle.wt_called_edit_laws.specs.Retyped.{AreRetyped, AreWrittenAnew, IsExpandedAgain};
 ghost use Rattle.std.specs.Str.{IsUtf8};
 ghost use Rattle.wt_span.specs.Items.{Item};
 ghost use Rattle.wt_tree.specs.Tree.{Label, Tree};
@@ -51,24 +51,26 @@ ghost use Rattle.wt_called_edit_laws.specs.Settled.{IsSettled};
 ghost use Rattle.wt_called_edit_laws.specs.SettledPages.{OnlyTextsAreOthers};
 ghost use Rattle.wt_called_edit_laws.specs.Covered.{CleanWhereFree, IsEditablePage};
 
-/// A page with blocks among calls, none of which goes over the end of a part, is expanded part by part: its items are
-/// those of what stands before, between and behind the blocks, with the numbers that their calls have in the page, and
-/// between these the blocks' own; its calls are those of these parts, with their places; and so is the work.
+/// A page with blocks among calls, and with calls in them, none of which goes over the end of a part, is expanded part by
+/// part: its items are those of what stands before, between and behind the blocks, and of the blocks, with the numbers that
+/// their calls have in the page; its calls are those of these parts, with their places; and so is the work.
 pub fn pages_with_blocks_are_expanded_by_their_parts()
-    ensures { (pages : Pages) (ss : List BlockSpot) (behind : List ℕ) → AreCalled ss behind → IsByParts pages ss behind }
+    ensures { (pages : Pages) (ss : List BlockSpot) (behind : List ℕ) → AreCalled pages ss behind → IsByParts pages ss behind }
 {}
 
-/// Where texts are typed in the blocks of such a page, it is such a page again, its work is the same, and it is refused
-/// only if it was refused before.
+/// Where new contents are written in the blocks of such a page, with some of the calls that were there, and in which no two
+/// braces are left, it is such a page again, it is no more work, and it is refused only if it was refused before. So it is
+/// where texts are typed, and where any contents are written that call nothing.
 pub fn pages_with_typed_texts_are_expanded_again()
-    ensures { (pages : Pages) (ss rs : List BlockSpot) (behind : List ℕ) → AreCalled ss behind → AreRetyped ss rs
+    ensures typed { (pages : Pages) (ss rs : List BlockSpot) → AreRetyped ss rs → AreWrittenAnew pages ss rs }
+    ensures again { (pages : Pages) (ss rs : List BlockSpot) (behind : List ℕ) → AreCalled pages ss behind → AreWrittenAnew pages ss rs
         → IsExpandedAgain pages ss rs behind }
 {}
 
 /// A page that calls nothing is such a page.
 #[tactic(auto, using(crate::proofs::Parts::NoCallsCalled::read_called))]
 pub fn pages_without_calls_are_such()
-    ensures { (ss : List BlockSpot) (behind : List ℕ) → AreRead ss behind → AreCalled ss behind }
+    ensures { (pages : Pages) (ss : List BlockSpot) (behind : List ℕ) → AreRead ss behind → AreCalled pages ss behind }
 {}
 
 /// A paragraph in a cell of a table, which may be in a cell of another table, is at a place of the page's tree that its
@@ -155,14 +157,14 @@ pub fn groups_stay_round_typed_texts()
 /// No call of such a page that is text shares a byte with one of the blocks.
 #[tactic(auto, using(crate::proofs::FreeBlocks::blocks_free))]
 pub fn text_calls_touch_no_block()
-    ensures { (pages : Pages) (ss : List BlockSpot) (behind : List ℕ) → AreCalled ss behind
+    ensures { (pages : Pages) (ss : List BlockSpot) (behind : List ℕ) → AreAmongCalls pages ss behind
         → AreFreeFrom (expanded_page pages (spots_source ss behind)).text_calls 0 ss }
 {}
 
 /// So none of these blocks is tangled, wherever it is in the page's tree: it can be read by itself.
 #[tactic(auto, using(crate::proofs::Untangled::blocks_untangled))]
 pub fn blocks_among_calls_are_untangled()
-    ensures { (pages : Pages) (ss : List BlockSpot) (behind : List ℕ) → AreCalled ss behind
+    ensures { (pages : Pages) (ss : List BlockSpot) (behind : List ℕ) → AreAmongCalls pages ss behind
         → AreUntangledFrom (expanded_page pages (spots_source ss behind)) (spots_source ss behind) 0 ss }
 {}
 

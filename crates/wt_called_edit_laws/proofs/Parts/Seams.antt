@@ -15,8 +15,8 @@ use Rattle.wt_joined_calls.specs.Apart.{AreMet}
 use Rattle.wt_joined_calls.proofs.MetWords.{words_meet}
 use Rattle.wt_text_edit_laws.specs.TextBetween.{BeginsShown}
 use Rattle.wt_text_edit_laws.specs.TextBlocks.{TextBlock, source_of, block_items}
-use Rattle.wt_text_edit_laws.specs.Contents.{IsContent}
-use Rattle.wt_text_edit_laws.specs.BlockSpots.{BlockSpot, spots_source, EndBeforeBlocks, IsRead, AreReadAfter}
+use Rattle.wt_text_edit_laws.specs.ReadContents.{IsReadContent}
+use Rattle.wt_text_edit_laws.specs.BlockSpots.{BlockSpot, spots_source, EndBeforeBlocks, IsReadSpot, AreReadSpots}
 use Rattle.wt_text_edit_laws.proofs.Prose.Uncommented.{BeginsUncommented, either_flag}
 use Rattle.wt_text_edit_laws.proofs.Prose.InFront.{Reads, read_items}
 use Rattle.wt_text_edit_laws.proofs.Between.LineForms.{marks_settle}
@@ -47,16 +47,16 @@ line_met q (b ∷ r) xs e is =
 
 -- ---- the parts of a page
 
-pub block_reads : (s : BlockSpot) (ss : List BlockSpot) (behind : List ℕ) → IsRead s → AreReadAfter ss behind → EndBeforeBlocks (s ∷ ss) behind
+pub block_reads : (s : BlockSpot) (ss : List BlockSpot) (behind : List ℕ) → IsReadSpot s → AreReadSpots ss behind → EndBeforeBlocks (s ∷ ss) behind
     → Reads (source_of s.block s.text ++ spots_source ss behind) (block_items s.block s.text ++ spots_items ss behind)
 block_reads s ss behind h f b =
     block_front s.block s.text (spots_source ss behind) (spots_items ss behind) h.block b.1 (further_ends ss behind f) (further_reads ss behind f b.2)
 
 -- a block is read so by itself, too
-pub block_alone : (k : TextBlock) (q : List ℕ) → IsContent k q → page_items (source_of k q) ≡ block_items k q
+pub block_alone : (k : TextBlock) (q : List ℕ) → IsReadContent k q → page_items (source_of k q) ≡ block_items k q
 block_alone k q h = h.unended
 
-pub block_met : (s : BlockSpot) (ss : List BlockSpot) (behind : List ℕ) → IsRead s → AreReadAfter ss behind → EndBeforeBlocks (s ∷ ss) behind
+pub block_met : (s : BlockSpot) (ss : List BlockSpot) (behind : List ℕ) → IsReadSpot s → AreReadSpots ss behind → EndBeforeBlocks (s ∷ ss) behind
     → AreMet (words Page (source_of s.block s.text)) (words Page (spots_source ss behind)) (words Page (source_of s.block s.text ++ spots_source ss behind))
 block_met s ss behind h f b =
     let own : List ℕ = source_of s.block s.text in
@@ -66,7 +66,7 @@ block_met s ss behind h f b =
     ∙ sym (ap (λ (xs : List Item). xs ++ spots_items ss behind) (block_alone s.block s.text h.block)) in
     line_met own rest (spots_items ss behind) (further_ends ss behind f) items
 
-pub before_met : (s : BlockSpot) (ss : List BlockSpot) (behind : List ℕ) → IsRead s → AreReadAfter ss behind → EndBeforeBlocks (s ∷ ss) behind
+pub before_met : (s : BlockSpot) (ss : List BlockSpot) (behind : List ℕ) → IsReadSpot s → AreReadSpots ss behind → EndBeforeBlocks (s ∷ ss) behind
     → AreMet (words Page s.before) (words Page (source_of s.block s.text ++ spots_source ss behind)) (words Page (spots_source (s ∷ ss) behind))
 before_met s ss behind h f b =
     let rest : List ℕ = source_of s.block s.text ++ spots_source ss behind in
