@@ -23,7 +23,7 @@ use Rattle.wt_text_edit_laws.proofs.Between.LineForms.{marks_settle}
 use Rattle.wt_text_edit_laws.proofs.Between.Shown.{shown_before, shown_reads}
 use Rattle.wt_text_edit_laws.proofs.Paragraphs.Texts.{EndsHere, here_begins}
 use Rattle.wt_text_edit_laws.proofs.Blocks.BlockReading.{spots_items, block_front, block_shown, further_ends, further_reads}
-use Rattle.wt_called_edit_laws.proofs.Parts.Uncrossed.{line_settles}
+use Rattle.wt_called_edit_laws.proofs.Parts.Uncrossed.{break_cut, part_settles}
 
 -- ---- a text before one that begins with no comment
 
@@ -43,7 +43,7 @@ line_met q [] xs e is = inl (ap (words Page) (append-nil q) ∙ sym (ap (λ (ws 
 line_met q (b ∷ r) xs e is =
     let P : ℕ → Type 0 = λ (c : ℕ). page_items (q ++ c ∷ r) ≡ page_items q ++ xs → AreMet (words Page q) (words Page (c ∷ r)) (words Page (q ++ c ∷ r)) in
     subst P (sym e) (λ same.
-    words_meet Page q (10 ∷ r) (line_settles q r xs same) (begins_same (after_all (lexer Page) false q) (10 ∷ r) (here_begins (10 ∷ r) refl))) is
+    words_meet Page q (10 ∷ r) (part_settles q (10 ∷ r) xs (break_cut q r) same) (begins_same (after_all (lexer Page) false q) (10 ∷ r) (here_begins (10 ∷ r) refl))) is
 
 -- ---- the parts of a page
 
