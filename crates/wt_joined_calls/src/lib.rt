@@ -23,7 +23,6 @@ pub fn texts_side_by_side_give_both()
 
 /// A text that begins with no call gives the same where a line begins and where none does; and so do two texts side by
 /// side that give the same, each by itself.
-#[tactic(auto, using(crate::proofs::ExpandedBoth::plain_anywhere, crate::proofs::ExpandedBoth::both_anywhere))]
 pub fn texts_give_the_same_anywhere()
     ensures plain { (pages : Pages) (bs : List ℕ) → BeginsPlain (reduced (words Page bs)) → GivesAnywhere pages bs }
     ensures both { (pages : Pages) (bs cs : List ℕ) → AreReadApart Page bs cs → GivesAnywhere pages bs → GivesAnywhere pages cs
