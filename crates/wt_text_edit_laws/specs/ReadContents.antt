@@ -1,5 +1,5 @@
 -- The content of a paragraph or a heading, whatever it calls: how its lexemes are read, by itself and before what follows.
-use Rattle.std.specs.Prelude.{◌≡◌, ℕ, not, Bool, true, false, None, List, [], ◌∷◌, ◌++◌, if◌then◌else◌}
+use Rattle.std.specs.Prelude.{◌≡◌, ◌==◌, ℕ, not, Bool, true, false, None, List, [], ◌∷◌, ◌++◌, if◌then◌else◌}
 use Rattle.std.specs.Str.{IsUtf8}
 use Rattle.wt_span.specs.Bytes.{is_blank}
 use Rattle.wt_span.specs.Characters as byte
@@ -37,10 +37,16 @@ pub record IsReadContent (k : TextBlock) (q : List ℕ) : Type 0 where
 
 -- ---- before what follows
 
--- It is read the same whatever stands behind it, and nothing begins in it that goes on there.
+-- no `}` is first
+abbrev pub BeginsUnclosed : List ℕ → Type 0
+BeginsUnclosed [] = Unit {0}
+BeginsUnclosed (b ∷ bs) = (b == byte.closing_brace) ≡ false
+
+-- It is read the same whatever stands behind it, unless that begins with a `}`, since a call may be last in it; and nothing begins in it that goes on
+-- there.
 pub record IsFirmlyRead (q : List ℕ) : Type 0 where
-  pub firm : (rest : List ℕ) → StandsBehind rest → page_items (q ++ rest) ≡ page_items q ++ page_items rest
-  pub uncommented : (rest : List ℕ) → StandsBehind rest → StandsBehind (q ++ rest)
+  pub firm : (rest : List ℕ) → StandsBehind rest → BeginsUnclosed rest → page_items (q ++ rest) ≡ page_items q ++ page_items rest
+  pub uncommented : (rest : List ℕ) → StandsBehind rest → BeginsUnclosed rest → StandsBehind (q ++ rest)
 
 -- So of one in the place of an old one, which closes no tag that this didn't close.
 pub record IsReadAnew (k : TextBlock) (was now : List ℕ) : Type 0 where
