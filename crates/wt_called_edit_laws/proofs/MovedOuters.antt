@@ -35,7 +35,7 @@ places_twice a b (o ∷ os) = ap₂ (λ (x : Option ℕ) (xs : List (Option ℕ)
 abbrev placed_call : OuterCall → ℕ → List Span → List (Option ℕ) → OuterCall
 placed_call c i ps os = record { start = i; source = c.source; argument = c.argument; parts = ps; equals = os; href = c.href }
 
-moved_twice : (a b : ℕ) (c : OuterCall) → moved_call a (moved_call b c) ≡ moved_call (a + b) c
+pub moved_twice : (a b : ℕ) (c : OuterCall) → moved_call a (moved_call b c) ≡ moved_call (a + b) c
 moved_twice a b c =
     ap (λ (i : ℕ). placed_call c i (map (moved_span a) (map (moved_span b) c.parts)) (map (moved_place a) (map (moved_place b) c.equals))) (sum a b c.start)
     ∙ ap₂ (λ (ps : List Span) (os : List (Option ℕ)). placed_call c ((a + b) + c.start) ps os) (spans_twice a b c.parts) (places_twice a b c.equals)
@@ -59,7 +59,7 @@ moved_still c =
 
 -- ---- lists of calls
 
-same_calls : (cs : List OuterCall) → AreMoved cs cs
+pub same_calls : (cs : List OuterCall) → AreMoved cs cs
 same_calls [] = tt
 same_calls (c ∷ cs) = (record { call = c; first = 0; second = 0; was = moved_still c; now = moved_still c }, same_calls cs)
 
@@ -79,11 +79,22 @@ further_calls a b (c ∷ cs) (d ∷ ds) m =
       further_calls a b cs ds m.1,
     )
 
-both_calls : (cs ds us vs : List OuterCall) → AreMoved cs ds → AreMoved us vs → AreMoved (cs ++ us) (ds ++ vs)
+pub both_calls : (cs ds us vs : List OuterCall) → AreMoved cs ds → AreMoved us vs → AreMoved (cs ++ us) (ds ++ vs)
 both_calls [] [] us vs m n = n
 both_calls [] (d ∷ ds) us vs m n = absurd m
 both_calls (c ∷ cs) [] us vs m n = absurd m
 both_calls (c ∷ cs) (d ∷ ds) us vs m n = (m.0, both_calls cs ds us vs m.1 n)
+
+-- the second ones so many bytes later
+pub later_calls : (d : ℕ) (cs ds : List OuterCall) → AreMoved cs ds → AreMoved cs (map (moved_call d) ds)
+later_calls d [] [] m = tt
+later_calls d [] (x ∷ ds) m = absurd m
+later_calls d (c ∷ cs) [] m = absurd m
+later_calls d (c ∷ cs) (x ∷ ds) m =
+    let o : IsMoved c x = m.0 in (
+      record { call = o.call; first = o.first; second = d + o.second; was = o.was; now = ap (moved_call d) o.now ∙ moved_twice d o.second o.call },
+      later_calls d cs ds m.1,
+    )
 
 -- ---- those of the page
 

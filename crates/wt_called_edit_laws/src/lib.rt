@@ -2,7 +2,7 @@
 //! taken, and texts beside what stays in them, and nothing else is changed.
 #![tactic(auto)]
 
-ghost use Rattle.std.specs.Prelude.{ℕ, ◌<◌, List, [], ◌∷◌, ◌≡◌, Option, None};
+ghost use Rattle.std.specs.Prelude.{ℕ, ◌<◌, List, [], ◌∷◌, ◌≡◌, Option, None, false};
 ghost use Rattle.wt_expand.specs.Work.{Pages};
 ghost use Rattle.wt_text_edit_laws.specs.BlockSpots.{BlockSpot, AreRead, AreBlockSpots, spots_source};
 ghost use Rattle.wt_called_edit_laws.specs.Parts.{AreCalled, IsByParts};
@@ -50,6 +50,11 @@ ghost use Rattle.wt_called_edit_laws.specs.EditsAt.{Fits, AllStand};
 ghost use Rattle.wt_called_edit_laws.specs.Settled.{IsSettled};
 ghost use Rattle.wt_called_edit_laws.specs.SettledPages.{OnlyTextsAreOthers};
 ghost use Rattle.wt_called_edit_laws.specs.Covered.{CleanWhereFree, IsEditablePage};
+ghost use Rattle.wt_called_edit_laws.specs.Written.{AreReadThings, AreOwnParts, written_items, written_calls, written_work, IsWrittenAs};
+ghost use Rattle.wt_guards.specs.Content.{ContentSign};
+ghost use Rattle.wt_guards.specs.Guards.{Setting, spelled};
+ghost use Rattle.wt_text_edit_laws.specs.ReadContents.{IsFirmlyRead};
+ghost use Rattle.wt_beside_laws.specs.Content.{content_items};
 
 /// A page with blocks among calls, and with calls in them, none of which goes over the end of a part, is expanded part by
 /// part: its items are those of what stands before, between and behind the blocks, and of the blocks, with the numbers that
@@ -71,6 +76,19 @@ pub fn pages_with_typed_texts_are_expanded_again()
 #[tactic(auto, using(crate::proofs::Parts::NoCallsCalled::read_called))]
 pub fn pages_without_calls_are_such()
     ensures { (pages : Pages) (ss : List BlockSpot) (behind : List ℕ) → AreRead ss behind → AreCalled pages ss behind }
+{}
+
+/// A content of text that is typed and nodes that stay, calls among them (`AreReadThings`), gives, as it is written, what its
+/// signs give, one after the other: its items are those of the characters, of the nowikis that are put, and of each node by
+/// itself, with the numbers that its calls have there; its calls are those of its nodes, but for their places; and so is the
+/// work of expanding it. No two braces are left in it, so it is a part of any page. It is read the same whatever stands
+/// behind it, unless a `}` is first.
+pub fn written_contents_give_what_their_signs_give()
+    ensures gives { (pages : Pages) (s : Setting) (signs : List ContentSign) → s.within ≡ false → AreReadThings signs → AreOwnParts pages signs
+        → IsWrittenAs pages (spelled s signs) (λ i. written_items pages s i [] signs) (written_calls pages signs) (written_work pages signs) }
+    ensures firm { (s : Setting) (signs : List ContentSign) → s.within ≡ false → AreReadThings signs → IsFirmlyRead (spelled s signs) }
+    ensures alone { (s : Setting) (signs : List ContentSign) → s.within ≡ false → AreReadThings signs
+        → page_items (spelled s signs) ≡ content_items s [] signs }
 {}
 
 /// A paragraph in a cell of a table, which may be in a cell of another table, is at a place of the page's tree that its

@@ -27,7 +27,7 @@ use Rattle.wt_called_edit_laws.proofs.Parts.Uncrossed.{break_cut, part_settles}
 
 -- ---- a text before one that begins with no comment
 
-begins_same : (a : Bool) (cs : List ℕ) → BeginsUncommented cs → cuts Page a 0 cs ≡ cuts Page false 0 cs
+pub begins_same : (a : Bool) (cs : List ℕ) → BeginsUncommented cs → cuts Page a 0 cs ≡ cuts Page false 0 cs
 begins_same a [] u = refl
 begins_same a (b ∷ cs) u =
     cuts_cons Page a b cs (form_at Page false (b ∷ cs)) (either_flag Page a (b ∷ cs) u) ∙ sym (cuts_cons Page false b cs (form_at Page false (b ∷ cs)) refl)
