@@ -27,4 +27,5 @@ pub mod SentStyled
 pub mod StyledNodes
 pub mod StyledHeadings
 pub mod StyledBlocks
+pub mod NewStyles
 pub mod StyledIn
