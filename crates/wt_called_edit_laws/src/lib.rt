@@ -232,7 +232,6 @@ pub fn any_texts_may_be_typed_at_paths()
 
 /// Where no bold and no italic is in what a block holds (`IsFlatIn` of `wt_beside_laws`), any nodes of it may stay, in
 /// their order, and any texts be between them: so much is asked of what is sent (`Fits`), and no more.
-#[tactic(auto, using(crate::proofs::BlocksMade::flat_fits))]
 pub fn any_nodes_may_stay_without_styles()
     ensures { (k : TextBlock) (q : List ℕ) (n : ℕ) (before : List Item) (l m : Label) (ps : Pieces) → IsFlatIn k q → 0 < n
         → IsFlatEditOf k (standing n before (block_tree k q)) ps → Fits k q (edited (block_of k) l m ps) }

@@ -84,7 +84,7 @@ quote_cut c at (x ∷ xs) ys h = elim h [
 ]
 
 from_cut : (c at : ℕ) (xs ys : List ℕ) → IsFrom c at (xs ++ ys) → IsFrom c (at + length xs) ys
-from_cut c at xs ys h = elim h [ | inl lt ↦ inl (omega (arith, lt)) | inr q ↦ quote_cut c at xs ys q ]
+from_cut c at xs ys h = elim h [ inl lt ↦ inl (omega (arith, lt)) | inr q ↦ quote_cut c at xs ys q ]
 
 abbrev FirstQuote : List ℕ → Type 0
 FirstQuote [] = ⊥
