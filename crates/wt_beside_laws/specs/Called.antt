@@ -1,0 +1,147 @@
+-- A content among whose nodes are calls: what each node is in the page, by the items that it has there.
+use Rattle.std.specs.Prelude.{◌≡◌, ℕ, ◌+◌, ◌==◌, ◌&&◌, ◌||◌, not, Bool, true, false, Option, Some, List, [], ◌∷◌, ◌++◌, length, map, nat_lt, if◌then◌else◌}
+use Rattle.wt_span.specs.Bytes.{is_blank}
+use Rattle.wt_span.specs.Characters as byte
+use Rattle.wt_span.specs.Items.{Item, char}
+use Rattle.wt_guards.specs.declared.role.Role.{Role}
+use Rattle.wt_guards.specs.declared.role.Role.TheVariants.{Link, External, Bare, Switch, Toggle, Mark, Group, Function, Node}
+use Rattle.wt_guards.specs.Content.{ContentSign, Thing, letter, thing}
+use Rattle.wt_guards.specs.Guards.{Setting, is_guarded}
+use Rattle.wt_guards.specs.Letters.{is_escaped}
+use Rattle.wt_expand.specs.PageCalls.{numbered, page_stretches, expanded_page}
+use Rattle.wt_expand.specs.PageItems.{page_items}
+use Rattle.wt_expand.specs.Work.{Pages}
+use Rattle.wt_inline.specs.declared.loose.Loose.TheVariants.{Text}
+use Rattle.wt_inline.specs.Parts.{Part, parts}
+use Rattle.wt_context.specs.Line.{line_parts}
+use Rattle.wt_lines.specs.Lines.{IsUnbroken}
+use Rattle.wt_beside_laws.specs.Content.{guard_items, letter_items}
+use Rattle.wt_beside_laws.specs.Cuts.{own_glyphs}
+use Rattle.wt_beside_laws.specs.Flat.{IsFlat}
+use Rattle.wt_beside_laws.specs.Nodes.{IsNode}
+
+-- ---- the items, where those of each node are given, in the order of the nodes
+
+abbrev pub items_with : Setting → List ContentSign → List ContentSign → List (List Item) → List Item
+items_with s before [] owns = guard_items (is_guarded s before [])
+items_with s before (letter c ∷ after) owns =
+    guard_items (is_guarded s before (letter c ∷ after)) ++ (letter_items (is_escaped s.within s.place before c after) c ++ items_with s (letter c ∷ before) after owns)
+items_with s before (thing t ∷ after) [] = guard_items (is_guarded s before (thing t ∷ after))
+items_with s before (thing t ∷ after) (own ∷ owns) = guard_items (is_guarded s before (thing t ∷ after)) ++ (own ++ items_with s (thing t ∷ before) after owns)
+
+-- in a folder, where so many calls come before the content: each node's source is a part of the page
+abbrev pub owns_in : Pages → ℕ → List ContentSign → List (List Item)
+owns_in pages i [] = []
+owns_in pages i (letter c ∷ after) = owns_in pages i after
+owns_in pages i (thing t ∷ after) = numbered i (page_stretches pages t.source) ∷ owns_in pages (i + length (expanded_page pages t.source).outer) after
+
+-- up to the end of the line
+abbrev pub line_with : Setting → List ContentSign → List ContentSign → List (List Item) → List Item
+line_with s before [] owns = guard_items (is_guarded s before [])
+line_with s before (letter c ∷ after) owns =
+    guard_items (is_guarded s before (letter c ∷ after))
+    ++ (if c == byte.line_break then [] else letter_items (is_escaped s.within s.place before c after) c ++ line_with s (letter c ∷ before) after owns)
+line_with s before (thing t ∷ after) [] = guard_items (is_guarded s before (thing t ∷ after))
+line_with s before (thing t ∷ after) (own ∷ owns) = guard_items (is_guarded s before (thing t ∷ after)) ++ (own ++ line_with s (thing t ∷ before) after owns)
+
+-- the lines behind it
+abbrev pub later_with : Setting → List ContentSign → List ContentSign → List (List Item) → List (List Item)
+later_with s before [] owns = []
+later_with s before (letter c ∷ after) owns =
+    if c == byte.line_break then line_with s (letter c ∷ before) after owns ∷ later_with s (letter c ∷ before) after owns
+    else later_with s (letter c ∷ before) after owns
+later_with s before (thing t ∷ after) [] = []
+later_with s before (thing t ∷ after) (own ∷ owns) = later_with s (thing t ∷ before) after owns
+
+abbrev pub lines_with : Setting → List ContentSign → List (List Item) → List (List Item)
+lines_with s signs owns = line_with s [] signs owns ∷ later_with s [] signs owns
+
+-- ---- what they are as the parts of a paragraph or a heading
+
+-- each node is what its items are on a line by themselves
+abbrev pub parts_with : Setting → List ContentSign → List ContentSign → List (List Item) → List Part
+parts_with s before [] owns = parts Text (guard_items (is_guarded s before []))
+parts_with s before (letter c ∷ after) owns =
+    parts Text (guard_items (is_guarded s before (letter c ∷ after)))
+    ++ (parts Text (letter_items (is_escaped s.within s.place before c after) c) ++ parts_with s (letter c ∷ before) after owns)
+parts_with s before (thing t ∷ after) [] = parts Text (guard_items (is_guarded s before (thing t ∷ after)))
+parts_with s before (thing t ∷ after) (own ∷ owns) =
+    parts Text (guard_items (is_guarded s before (thing t ∷ after))) ++ (line_parts own ++ parts_with s (thing t ∷ before) after owns)
+
+-- up to the end of the line
+abbrev pub line_parts_with : Setting → List ContentSign → List ContentSign → List (List Item) → List Part
+line_parts_with s before [] owns = parts Text (guard_items (is_guarded s before []))
+line_parts_with s before (letter c ∷ after) owns =
+    parts Text (guard_items (is_guarded s before (letter c ∷ after)))
+    ++ (if c == byte.line_break then [] else parts Text (letter_items (is_escaped s.within s.place before c after) c) ++ line_parts_with s (letter c ∷ before) after owns)
+line_parts_with s before (thing t ∷ after) [] = parts Text (guard_items (is_guarded s before (thing t ∷ after)))
+line_parts_with s before (thing t ∷ after) (own ∷ owns) =
+    parts Text (guard_items (is_guarded s before (thing t ∷ after))) ++ (line_parts own ++ line_parts_with s (thing t ∷ before) after owns)
+
+-- ---- calls that give words
+
+-- it may begin, end or part a form, a style, a line or a block
+abbrev pub is_form_sign : ℕ → Bool
+is_form_sign b =
+    b == byte.line_break
+    || (b == byte.apostrophe
+    || (b == byte.less_than
+    || (b == byte.greater_than
+    || (b == byte.ampersand
+    || (b == byte.opening_bracket
+    || (b == byte.closing_bracket
+    || (b == byte.opening_brace
+    || (b == byte.closing_brace
+    || (b == byte.vertical_bar
+    || (b == byte.underscore
+    || (b == byte.colon
+    || (b == byte.slash
+    || (b == byte.equals_sign
+    || (b == byte.asterisk || (b == byte.hash || (b == byte.semicolon || (b == byte.hyphen || b == byte.exclamation_mark)))))))))))))))))
+
+abbrev pub is_word_byte : ℕ → Bool
+is_word_byte b = nat_lt b 256 && not (is_form_sign b)
+
+abbrev pub AreWordBytes : List ℕ → Type 0
+AreWordBytes [] = Unit {0}
+AreWordBytes (b ∷ bs) = (is_word_byte b ≡ true) × AreWordBytes bs
+
+-- there is one, and the first is no blank
+abbrev pub BeginsVisible : List ℕ → Type 0
+BeginsVisible [] = ⊥
+BeginsVisible (b ∷ bs) = is_blank b ≡ false
+
+-- The items of one call are these characters.
+pub record AreWords (shown : List ℕ) (own : List Item) : Type 0 where
+  pub call : ℕ
+  pub is : own ≡ map (char (Some call)) shown
+  pub words : AreWordBytes shown
+  pub begins : BeginsVisible shown
+
+-- ---- the nodes
+
+-- one of the page, on one line, by its own source
+pub record IsOwnNode (t : Thing) (own : List Item) : Type 0 where
+  pub is : own ≡ page_items t.source
+  pub flat : IsFlat t.role
+  pub node : IsNode t.role (own_glyphs t)
+  pub unbroken : IsUnbroken (page_items t.source)
+
+-- Of a group, whose source stands here for what its call shows, the items are words; of any other node they are those of its source.
+abbrev pub IsGivenAs : Role → Thing → List Item → Type 0
+IsGivenAs Link t own = IsOwnNode t own
+IsGivenAs External t own = IsOwnNode t own
+IsGivenAs (Bare ends) t own = IsOwnNode t own
+IsGivenAs Switch t own = IsOwnNode t own
+IsGivenAs Toggle t own = IsOwnNode t own
+IsGivenAs (Mark ends began) t own = IsOwnNode t own
+IsGivenAs (Group g) t own = AreWords t.source own
+IsGivenAs Function t own = IsOwnNode t own
+IsGivenAs Node t own = IsOwnNode t own
+
+abbrev pub AreGiven : List ContentSign → List (List Item) → Type 0
+AreGiven [] [] = Unit {0}
+AreGiven [] (own ∷ owns) = ⊥
+AreGiven (letter c ∷ after) owns = AreGiven after owns
+AreGiven (thing t ∷ after) [] = ⊥
+AreGiven (thing t ∷ after) (own ∷ owns) = IsGivenAs t.role t own × AreGiven after owns
