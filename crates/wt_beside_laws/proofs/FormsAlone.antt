@@ -90,7 +90,8 @@ alone_by External a own behind w f st i o l e = other_alone External a own behin
 alone_by (Bare ends) a own behind w f st i o l e = bare_alone ends own w st.node i o l
 alone_by Switch a own behind w f st i o l e = other_alone Switch a own behind w f st (free_behind Switch behind (λ g. tt)) e
 alone_by Toggle a own behind w f st i o l e = absurd f
-alone_by (Mark ends began) a own behind w f st i o l e = absurd i
+alone_by (Mark ends began) a own behind w f st i o l e =
+    other_alone (Mark ends began) a own behind w f st (free_behind (Mark ends began) behind (λ g. tt)) e
 alone_by (Group g) a own behind w f st i o l e = absurd i
 alone_by Function a own behind w f st i o l e = other_alone Function a own behind w f st (free_behind Function behind (λ g. tt)) e
 alone_by Node a own behind w f st i o l e = other_alone Node a own behind w f st (free_behind Node behind (λ g. tt)) e

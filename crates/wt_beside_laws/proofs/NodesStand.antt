@@ -222,6 +222,12 @@ one_stands word own behind n = elim n [
   | inr i ↦ subst (λ gs. Holds word gs behind) (sym i.1) (record { shape = leaf kind.Atom 1; alone = refl; whole = refl; before = λ a h. refl })
 ]
 
+-- ---- marks
+
+mark_stands : (word : Bool) (own behind : List Glyph) → own ≡ glyph.Mark ∷ [] → Holds word own behind
+mark_stands word own behind i =
+    subst (λ gs. Holds word gs behind) (sym i) (record { shape = leaf kind.Mark 1; alone = refl; whole = refl; before = λ a h. refl })
+
 -- ---- tags
 
 as_tag : (a : Bool) (gs : List Glyph) (t : Tag) → link_at gs ≡ None → ext_link_at gs ≡ None → bare_url_at a gs ≡ None → tag_at gs ≡ Some t
@@ -365,7 +371,7 @@ node_stands External word own behind n f l = holding word own behind (external_s
 node_stands (Bare ends) word own behind n f l = holding word own behind (bare_stands ends word own behind n f l)
 node_stands Switch word own behind n f l = holding word own behind (switch_stands word own behind n)
 node_stands Toggle word own behind n f l = delimiter_stands word own behind n
-node_stands (Mark ends began) word own behind n f l = absurd n
+node_stands (Mark ends began) word own behind n f l = holding word own behind (mark_stands word own behind n.is)
 node_stands (Group g) word own behind n f l = absurd n
 node_stands Function word own behind n f l = holding word own behind (one_stands word own behind n)
 node_stands Node word own behind n f l = holding word own behind (other_stands word own behind n)

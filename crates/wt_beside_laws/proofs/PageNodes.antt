@@ -67,7 +67,7 @@ link_follows External own n e = subst NoTrail (sym n.is) refl
 link_follows (Bare ends) own n e = cc
 link_follows Switch own n e = subst NoTrail (sym n.is) refl
 link_follows Toggle own n e = delimiter_trail own n
-link_follows (Mark ends began) own n e = absurd n
+link_follows (Mark ends began) own n e = subst NoTrail (sym n.is) refl
 link_follows (Group g) own n e = absurd n
 link_follows Function own n e = lexeme_trail own n
 link_follows Node own n e = other_trail own n
@@ -79,7 +79,7 @@ bare_never ends External own n e = cc
 bare_never ends (Bare last) own n e = cc
 bare_never ends Switch own n e = cc
 bare_never ends Toggle own n e = cc
-bare_never ends (Mark last began) own n e = absurd n
+bare_never ends (Mark last began) own n e = cc
 bare_never ends (Group g) own n e = absurd n
 bare_never ends Function own n e = cc
 bare_never ends Node own n e = cc
@@ -94,7 +94,7 @@ table_follows External s own other n m e = follows_none other External (λ g. tt
 table_follows (Bare ends) s own other n m e = bare_never ends s other m e
 table_follows Switch s own other n m e = follows_none other Switch (λ g. tt)
 table_follows Toggle s own other n m e = follows_none other Toggle (λ g. tt)
-table_follows (Mark ends began) s own other n m e = absurd n
+table_follows (Mark ends began) s own other n m e = follows_none other (Mark ends began) (λ g. tt)
 table_follows (Group g) s own other n m e = absurd n
 table_follows Function s own other n m e = follows_none other Function (λ g. tt)
 table_follows Node s own other n m e = follows_none other Node (λ g. tt)
@@ -107,7 +107,7 @@ bare_led External ends own n e = external_last false own n
 bare_led (Bare last) ends own n e = cc
 bare_led Switch ends own n e = cc
 bare_led Toggle ends own n e = cc
-bare_led (Mark last began) ends own n e = absurd n
+bare_led (Mark last began) ends own n e = ap (ends_word false) n.is
 bare_led (Group g) ends own n e = absurd n
 bare_led Function ends own n e = lexeme_last false own n
 bare_led Node ends own n e = other_last false own n
@@ -132,16 +132,32 @@ Meet t n = MayFollow t.role (own_glyphs n) × MayLead n.role (ends_word false (o
 abbrev pub MeetInPage : Thing → Thing → Type 0
 MeetInPage t n = is_adjacent t n ≡ true → Meet t n
 
-no_mark : (r : Role) (own : List Glyph) → IsNode r own → is_mark r ≡ false
-no_mark Link own n = refl
-no_mark External own n = refl
-no_mark (Bare ends) own n = refl
-no_mark Switch own n = refl
-no_mark Toggle own n = refl
-no_mark (Mark ends began) own n = absurd n
-no_mark (Group g) own n = refl
-no_mark Function own n = refl
-no_mark Node own n = refl
+mark_follows : (r : Role) (other : List Glyph) → is_mark r ≡ true → MayFollow r other
+mark_follows Link other e = cc
+mark_follows External other e = cc
+mark_follows (Bare ends) other e = cc
+mark_follows Switch other e = cc
+mark_follows Toggle other e = cc
+mark_follows (Mark ends began) other e = follows_none other (Mark ends began) (λ g. tt)
+mark_follows (Group g) other e = cc
+mark_follows Function other e = cc
+mark_follows Node other e = cc
+
+mark_led : (r : Role) (word : Bool) → is_mark r ≡ true → MayLead r word
+mark_led Link word e = cc
+mark_led External word e = cc
+mark_led (Bare ends) word e = cc
+mark_led Switch word e = cc
+mark_led Toggle word e = cc
+mark_led (Mark ends began) word e = tt
+mark_led (Group g) word e = cc
+mark_led Function word e = cc
+mark_led Node word e = cc
+
+are_both : (a b : Bool) → (a && b) ≡ true → (a ≡ true) × (b ≡ true)
+are_both true true e = (refl, refl)
+are_both true false e = cc
+are_both false b e = cc
 
 by_table : (f m h p q : Bool) → m ≡ false → (if f then true else if m then q else h && (p || not false)) ≡ false → h ≡ false
 by_table true m h p q e z = cc
@@ -150,10 +166,10 @@ by_table false false true true q e z = cc
 by_table false false true false q e z = cc
 by_table false false false p q e z = refl
 
-meet_apart : (t n : Thing) → IsNode t.role (own_glyphs t) → IsNode n.role (own_glyphs n) → is_adjacent t n ≡ false → is_parted t n ≡ false → Meet t n
+table_meets : (t n : Thing) → IsNode t.role (own_glyphs t) → IsNode n.role (own_glyphs n) → (is_mark t.role && is_mark n.role) ≡ false → is_adjacent t n ≡ false
+    → is_parted t n ≡ false → Meet t n
 unfolding is_parted
-meet_apart t n own other e z =
-    let both : (is_mark t.role && is_mark n.role) ≡ false = ap (λ (v : Bool). v && is_mark n.role) (no_mark t.role (own_glyphs t) own) in
+table_meets t n own other both e z =
     let at : (if is_function n.role && has_brace_last t.source then true else if is_mark t.role && is_mark n.role then not (ends_line t.role) && not (is_adjacent t n)
     else hazard (left_side t.role) (side_of n.role) && (is_always_parted t.role n.role || not false)) ≡ false =
     ap (λ (v : Bool). if is_function n.role && has_brace_last t.source then true else if is_mark t.role && is_mark n.role then not (ends_line t.role) && not (is_adjacent t n)
@@ -161,6 +177,16 @@ meet_apart t n own other e z =
     let none : hazard (left_side t.role) (side_of n.role) ≡ false =
     by_table (is_function n.role && has_brace_last t.source) (is_mark t.role && is_mark n.role) (hazard (left_side t.role) (side_of n.role)) (is_always_parted t.role n.role) _ both at in
     (table_follows t.role n.role (own_glyphs t) (own_glyphs n) own other none, table_leads t.role n.role (own_glyphs t) own none)
+
+-- beside a mark another one may be
+meet_apart : (t n : Thing) → IsNode t.role (own_glyphs t) → IsNode n.role (own_glyphs n) → is_adjacent t n ≡ false → is_parted t n ≡ false → Meet t n
+meet_apart t n own other e z = by (is_mark t.role && is_mark n.role) refl
+  where
+    by : (v : Bool) → (is_mark t.role && is_mark n.role) ≡ v → Meet t n
+    by true i =
+        let marks = are_both (is_mark t.role) (is_mark n.role) i in
+        (mark_follows t.role (own_glyphs n) marks.0, mark_led n.role (ends_word false (own_glyphs t)) marks.1)
+    by false i = table_meets t n own other i e z
 
 meet : (t n : Thing) → IsNode t.role (own_glyphs t) → IsNode n.role (own_glyphs n) → MeetInPage t n → is_parted t n ≡ false → Meet t n
 meet t n own other page z = meet_by (is_adjacent t n) refl
@@ -287,7 +313,7 @@ node_none External own k n tile = subst EndsNone (sym n.is) refl
 node_none (Bare ends) own k n tile = subst EndsNone (sym n.is) (url_none n.first n.others n.shape n.url)
 node_none Switch own k n tile = subst EndsNone (sym n.is) refl
 node_none Toggle own k n tile = absurd tile
-node_none (Mark ends began) own k n tile = absurd tile
+node_none (Mark ends began) own k n tile = subst EndsNone (sym n.is) refl
 node_none (Group g) own k n tile = absurd tile
 node_none Function own k n tile = lexeme_none own n
 node_none Node own k n tile = other_none own n

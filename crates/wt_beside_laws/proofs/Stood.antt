@@ -152,7 +152,7 @@ page_stays a External inside behind n tile alone = cc
 page_stays a (Bare ends) inside behind n tile alone = cc
 page_stays a Switch inside behind n tile alone = cc
 page_stays a Toggle inside behind n tile alone = absurd tile
-page_stays a (Mark ends began) inside behind n tile alone = absurd tile
+page_stays a (Mark ends began) inside behind n tile alone = absurd (let no = tile.0 in cc)
 page_stays a (Group g) inside behind n tile alone = absurd tile
 page_stays a Function inside behind n tile alone = cc
 page_stays a Node inside behind n tile alone = absurd tile
@@ -163,7 +163,7 @@ category_stays a External inside behind n tile alone = cc
 category_stays a (Bare ends) inside behind n tile alone = cc
 category_stays a Switch inside behind n tile alone = cc
 category_stays a Toggle inside behind n tile alone = absurd tile
-category_stays a (Mark ends began) inside behind n tile alone = absurd tile
+category_stays a (Mark ends began) inside behind n tile alone = absurd (let no = tile.0 in cc)
 category_stays a (Group g) inside behind n tile alone = absurd tile
 category_stays a Function inside behind n tile alone = cc
 category_stays a Node inside behind n tile alone = record { node = inr (inr (inl n)); lead = tt; has = tt }
@@ -174,7 +174,7 @@ media_stays a External inside behind n tile alone = cc
 media_stays a (Bare ends) inside behind n tile alone = cc
 media_stays a Switch inside behind n tile alone = cc
 media_stays a Toggle inside behind n tile alone = absurd tile
-media_stays a (Mark ends began) inside behind n tile alone = absurd tile
+media_stays a (Mark ends began) inside behind n tile alone = absurd (let no = tile.0 in cc)
 media_stays a (Group g) inside behind n tile alone = absurd tile
 media_stays a Function inside behind n tile alone = cc
 media_stays a Node inside behind n tile alone = record { node = inr (inr (inr n)); lead = tt; has = tt }
@@ -245,7 +245,7 @@ external_kind a External own behind n tile = record { node = n; lead = tt; has =
 external_kind a (Bare ends) own behind n tile = cc
 external_kind a Switch own behind n tile = cc
 external_kind a Toggle own behind n tile = absurd tile
-external_kind a (Mark ends began) own behind n tile = absurd tile
+external_kind a (Mark ends began) own behind n tile = absurd (let no = tile.0 in cc)
 external_kind a (Group g) own behind n tile = absurd tile
 external_kind a Function own behind n tile = cc
 external_kind a Node own behind n tile = absurd tile
@@ -279,7 +279,7 @@ bare_kinds a External own behind n e ends tile = cc
 bare_kinds a (Bare last) own behind n e ends tile = record { node = n; lead = e; has = ends }
 bare_kinds a Switch own behind n e ends tile = cc
 bare_kinds a Toggle own behind n e ends tile = absurd tile
-bare_kinds a (Mark last began) own behind n e ends tile = absurd tile
+bare_kinds a (Mark last began) own behind n e ends tile = absurd (let no = tile.0 in cc)
 bare_kinds a (Group g) own behind n e ends tile = absurd tile
 bare_kinds a Function own behind n e ends tile = cc
 bare_kinds a Node own behind n e ends tile = absurd tile
@@ -316,7 +316,7 @@ tag_kinds a External own behind k n is tile = absurd (subst IsTagTile tile is)
 tag_kinds a (Bare ends) own behind k n is tile = absurd (subst IsTagTile tile is)
 tag_kinds a Switch own behind k n is tile = absurd (subst IsTagTile tile is)
 tag_kinds a Toggle own behind k n is tile = absurd tile
-tag_kinds a (Mark ends began) own behind k n is tile = absurd tile
+tag_kinds a (Mark ends began) own behind k n is tile = absurd (subst IsTagTile tile.0 is)
 tag_kinds a (Group g) own behind k n is tile = absurd tile
 tag_kinds a Function own behind k n is tile = absurd (subst IsTagTile tile is)
 tag_kinds a Node own behind k n is tile = record { node = inr (inl n); lead = tt; has = tt }
@@ -487,7 +487,7 @@ switch_kinds a External own behind n tile = cc
 switch_kinds a (Bare ends) own behind n tile = cc
 switch_kinds a Switch own behind n tile = record { node = n; lead = tt; has = tt }
 switch_kinds a Toggle own behind n tile = absurd tile
-switch_kinds a (Mark ends began) own behind n tile = absurd tile
+switch_kinds a (Mark ends began) own behind n tile = absurd (let no = tile.0 in cc)
 switch_kinds a (Group g) own behind n tile = absurd tile
 switch_kinds a Function own behind n tile = cc
 switch_kinds a Node own behind n tile = absurd tile
@@ -505,21 +505,21 @@ atom_kinds a External own behind n tile = cc
 atom_kinds a (Bare ends) own behind n tile = cc
 atom_kinds a Switch own behind n tile = cc
 atom_kinds a Toggle own behind n tile = absurd tile
-atom_kinds a (Mark ends began) own behind n tile = absurd tile
+atom_kinds a (Mark ends began) own behind n tile = absurd (let no = tile.0 in cc)
 atom_kinds a (Group g) own behind n tile = absurd tile
 atom_kinds a Function own behind n tile = record { node = n; lead = tt; has = tt }
 atom_kinds a Node own behind n tile = record { node = inl n; lead = tt; has = tt }
 
-mark_kinds : (r : Role) → IsTileOf r kind.Mark → ⊥
-mark_kinds Link tile = cc
-mark_kinds External tile = cc
-mark_kinds (Bare ends) tile = cc
-mark_kinds Switch tile = cc
-mark_kinds Toggle tile = tile
-mark_kinds (Mark ends began) tile = tile
-mark_kinds (Group g) tile = tile
-mark_kinds Function tile = cc
-mark_kinds Node tile = tile
+mark_kinds : (a : Bool) (r : Role) (own behind : List Glyph) → own ≡ glyph.Mark ∷ [] → IsTileOf r kind.Mark → Stays a r own behind
+mark_kinds a Link own behind is tile = cc
+mark_kinds a External own behind is tile = cc
+mark_kinds a (Bare ends) own behind is tile = cc
+mark_kinds a Switch own behind is tile = cc
+mark_kinds a Toggle own behind is tile = absurd tile
+mark_kinds a (Mark ends began) own behind is tile = record { node = record { is = is; unended = tile.1; behind = tile.2 }; lead = tt; has = tt }
+mark_kinds a (Group g) own behind is tile = absurd tile
+mark_kinds a Function own behind is tile = cc
+mark_kinds a Node own behind is tile = absurd tile
 
 -- a tile of one item is all of them
 one_item : (k : TileKind) (g : Glyph) (gs : List Glyph) (w : Shape) → leaf k 1 ≡ w → size w ≡ suc (length gs) → g ∷ gs ≡ g ∷ []
@@ -550,7 +550,7 @@ read_so a r (glyph.Atom ∷ gs) behind w e whole tile lone =
     (subst (λ (u : Shape). IsTileOf r u.kind) (sym is) tile)
 read_so a r (glyph.Mark ∷ gs) behind w e whole tile lone =
     let is : leaf kind.Mark 1 ≡ w = same_shape (leaf kind.Mark 1) w e in
-    absurd (mark_kinds r (subst (λ (u : Shape). IsTileOf r u.kind) (sym is) tile))
+    mark_kinds a r (glyph.Mark ∷ gs) behind (one_item kind.Mark glyph.Mark gs w is whole) (subst (λ (u : Shape). IsTileOf r u.kind) (sym is) tile)
 
 pub stood : (a : Bool) (r : Role) (own behind : List Glyph) → IsRead a r own behind → Stays a r own behind
 stood a r own behind h = read_so a r own behind h.shape h.form h.whole h.tile h.lone

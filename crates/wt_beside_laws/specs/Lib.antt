@@ -1,5 +1,6 @@
 pub mod Kept
 pub mod Nodes
+pub mod Commented
 pub mod Content
 pub mod Cuts
 pub mod PageSigns

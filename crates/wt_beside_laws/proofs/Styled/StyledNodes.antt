@@ -18,7 +18,7 @@ use Rattle.wt_beside_laws.specs.Kept.{IsKept, characters}
 use Rattle.wt_beside_laws.specs.Lines.{AreCharacters}
 use Rattle.wt_beside_laws.specs.Nests.{marks}
 use Rattle.wt_beside_laws.specs.Nodes.{IsDelimiter, IsNode, MayFollow, MayLead}
-use Rattle.wt_beside_laws.specs.PageSigns.{signs_of_lines, AreFlatLines}
+use Rattle.wt_beside_laws.specs.PageSigns.{signs_of_lines, AreFlatLines, HasNoBreak}
 use Rattle.wt_beside_laws.specs.Stood.{things}
 use Rattle.wt_beside_laws.specs.Styled.{StyledContent, mark_source, signs_in, AreNested, IsStyledContent}
 use Rattle.wt_beside_laws.specs.StyledNodes.{IsPut, AreSomeAndPut, IsUrlApart, AreUrlsApart}
@@ -31,6 +31,7 @@ use Rattle.wt_beside_laws.proofs.NodesMeet.{atom_may}
 use Rattle.wt_beside_laws.proofs.PageNodes.{follows_none, Meet, MeetInPage, EachIsNode, EachMeets, MeetsEach, PairsMeet, nodes_of, all_meet, each_node, all_pairs}
 use Rattle.wt_beside_laws.proofs.PageSigns.{lines_stood, lines_at}
 use Rattle.wt_beside_laws.proofs.Styled.StyledLines.{mark_items, mark_glyphs}
+use Rattle.wt_beside_laws.specs.Commented.{IsHeld}
 
 -- ---- what is put
 
@@ -57,10 +58,14 @@ mark_kept : (kind : Bool) → IsKept (mark_source kind)
 mark_kept true = record { parts = characters (mark_source true) ∷ []; are = ((refl, (refl, (refl, tt))), tt); is = refl }
 mark_kept false = record { parts = characters (mark_source false) ∷ []; are = ((refl, (refl, tt)), tt); is = refl }
 
+mark_held : (kind : Bool) → IsHeld (mark_source kind)
+mark_held true = inl (mark_kept true, subst HasNoBreak (sym (mark_items true)) (refl, (refl, (refl, tt))))
+mark_held false = inl (mark_kept false, subst HasNoBreak (sym (mark_items false)) (refl, (refl, tt)))
+
 put_kept : (t : Thing) → IsPut t → Kept t
 put_kept t p = elim p [
-  | inl m ↦ subst IsKept (sym m.2) (mark_kept m.0)
-  | inr w ↦ subst IsKept (sym w.1) nowiki_kept
+  | inl m ↦ subst IsHeld (sym m.2) (mark_held m.0)
+  | inr w ↦ subst IsHeld (sym w.1) (inl (nowiki_kept, subst HasNoBreak (sym nowiki_items) (tt, tt)))
 ]
 
 marks_unbroken : (kind : Bool) → IsUnbroken (marks kind)
