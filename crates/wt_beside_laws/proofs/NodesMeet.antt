@@ -26,7 +26,7 @@ use Rattle.wt_beside_laws.proofs.TypedForms.{letter_fits, FirstFits}
 
 -- ---- a node and a letter
 
-letter_behind : (s : Setting) (t : Thing) (before : List ContentSign) (d : ℕ) (after : List ContentSign)
+pub letter_behind : (s : Setting) (t : Thing) (before : List ContentSign) (d : ℕ) (after : List ContentSign)
     → is_guarded s (thing t ∷ before) (letter d ∷ after) ≡ false → hazard (left_side t.role) (side.Text d) ≡ false
 unfolding is_guarded is_between_guard
 letter_behind s t before d after e = (or_parts (hazard (left_side t.role) (side.Text d)) _ e).0
@@ -37,7 +37,7 @@ unfolding is_guarded is_between_guard
 letter_before s t before d after e = (or_parts (hazard (side.Text d) (side_of t.role)) _ e).0
 
 -- what is first, as it may be behind a node
-by_fits : (r : Role) (gs : List Glyph) → FirstFits (MayBeBehind r) gs → MayFollow r gs
+pub by_fits : (r : Role) (gs : List Glyph) → FirstFits (MayBeBehind r) gs → MayFollow r gs
 by_fits r [] h = tt
 by_fits r (g ∷ gs) h = h
 
@@ -72,7 +72,7 @@ bare_letter : (ends t : Bool) (d : ℕ) (more : List Glyph) → hazard (left_sid
 unfolding hazard
 bare_letter ends t d more e = url_letter ends t d more (not_false (is_white d) e)
 
-letter_may : (r : Role) (t : Bool) (d : ℕ) (more : List Glyph) → hazard (left_side r) (side.Text d) ≡ false → FirstFits (MayBeBehind r) (letter_glyphs t d ++ more)
+pub letter_may : (r : Role) (t : Bool) (d : ℕ) (more : List Glyph) → hazard (left_side r) (side.Text d) ≡ false → FirstFits (MayBeBehind r) (letter_glyphs t d ++ more)
 letter_may Link t d more e = link_letter t d more e
 letter_may External t d more e = letter_fits (MayBeBehind External) t d more tt (λ z. tt) (λ b le. tt)
 letter_may (Bare ends) t d more e = bare_letter ends t d more e
@@ -119,7 +119,7 @@ none_before (Group g) = tt
 none_before Function = tt
 none_before Node = tt
 
-guard_may : (r : Role) (u : Bool) (more : List Glyph) → (u ≡ false → MayFollow r more) → MayFollow r (guard_glyphs u ++ more)
+pub guard_may : (r : Role) (u : Bool) (more : List Glyph) → (u ≡ false → MayFollow r more) → MayFollow r (guard_glyphs u ++ more)
 guard_may r true more f = atom_may r
 guard_may r false more f = f refl
 

@@ -1,5 +1,5 @@
 -- A content among whose nodes are calls: what each node is in the page, by the items that it has there.
-use Rattle.std.specs.Prelude.{◌≡◌, ℕ, ◌+◌, ◌==◌, ◌&&◌, ◌||◌, not, Bool, true, false, Option, Some, List, [], ◌∷◌, ◌++◌, length, map, nat_lt, if◌then◌else◌}
+use Rattle.std.specs.Prelude.{◌≡◌, ℕ, ◌+◌, ◌==◌, ◌&&◌, ◌||◌, not, Bool, true, false, Some, List, [], ◌∷◌, ◌++◌, length, map, nat_lt, if◌then◌else◌}
 use Rattle.wt_span.specs.Bytes.{is_blank}
 use Rattle.wt_span.specs.Characters as byte
 use Rattle.wt_span.specs.Items.{Item, char}
@@ -15,10 +15,12 @@ use Rattle.wt_inline.specs.declared.loose.Loose.TheVariants.{Text}
 use Rattle.wt_inline.specs.Parts.{Part, parts}
 use Rattle.wt_context.specs.Line.{line_parts}
 use Rattle.wt_lines.specs.Lines.{IsUnbroken}
+use Rattle.wt_called_trees.specs.CallTexts.{AreOwnOrTexts}
 use Rattle.wt_beside_laws.specs.Content.{guard_items, letter_items}
 use Rattle.wt_beside_laws.specs.Cuts.{own_glyphs}
 use Rattle.wt_beside_laws.specs.Flat.{IsFlat}
-use Rattle.wt_beside_laws.specs.Nodes.{IsNode}
+use Rattle.wt_beside_laws.specs.Lines.{AreCharacters}
+use Rattle.wt_beside_laws.specs.Nodes.{IsNode, AllMeet}
 
 -- ---- the items, where those of each node are given, in the order of the nodes
 
@@ -145,3 +147,32 @@ AreGiven [] (own ∷ owns) = ⊥
 AreGiven (letter c ∷ after) owns = AreGiven after owns
 AreGiven (thing t ∷ after) [] = ⊥
 AreGiven (thing t ∷ after) (own ∷ owns) = IsGivenAs t.role t own × AreGiven after owns
+
+-- what each is on a line by itself is characters, and nodes of the page of which none is empty
+abbrev pub AreOwnInside : List (List Item) → Type 0
+AreOwnInside [] = Unit {0}
+AreOwnInside (own ∷ owns) = AreOwnOrTexts (line_parts own) × AreOwnInside owns
+
+-- ---- a content that begins and ends with text
+
+abbrev pub BeginsWithText : List ContentSign → Type 0
+BeginsWithText [] = ⊥
+BeginsWithText (letter c ∷ after) = Unit {0}
+BeginsWithText (thing t ∷ after) = ⊥
+
+abbrev pub EndsWithText : List ContentSign → Type 0
+EndsWithText [] = ⊥
+EndsWithText (letter c ∷ []) = Unit {0}
+EndsWithText (thing t ∷ []) = ⊥
+EndsWithText (letter c ∷ sign ∷ after) = EndsWithText (sign ∷ after)
+EndsWithText (thing t ∷ sign ∷ after) = EndsWithText (sign ∷ after)
+
+-- Texts that are typed beside calls that give words, and beside nodes that stay, with text first and last.
+pub record IsCalledContent (s : Setting) (signs : List ContentSign) (owns : List (List Item)) : Type 0 where
+  pub of_block : s.within ≡ false
+  pub characters : AreCharacters signs
+  pub given : AreGiven signs owns
+  pub own : AreOwnInside owns
+  pub meet : AllMeet s [] signs []
+  pub begins : BeginsWithText signs
+  pub ends : EndsWithText signs

@@ -28,3 +28,4 @@ pub mod StyledNodes
 pub mod StyledHeadings
 pub mod StyledBlocks
 pub mod StyledIn
+pub mod Called
