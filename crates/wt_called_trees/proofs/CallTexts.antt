@@ -102,13 +102,13 @@ group_is calls o at j x xs h e =
 
 -- ---- nodes of the page and texts of calls, side by side
 
-record IsCallText (j : ℕ) (t : ItemTree) : Type 0 where
-  first : Item
-  others : List Item
-  is : t ≡ loose_leaf Text (first ∷ others)
-  of_call : AllOf j (first ∷ others)
+pub record IsCallText (j : ℕ) (t : ItemTree) : Type 0 where
+  pub first : Item
+  pub others : List Item
+  pub is : t ≡ loose_leaf Text (first ∷ others)
+  pub of_call : AllOf j (first ∷ others)
 
-abbrev IsPiece : Option ℕ → ItemTree → Type 0
+abbrev pub IsPiece : Option ℕ → ItemTree → Type 0
 IsPiece None t = IsOwn t
 IsPiece (Some j) t = IsCallText j t
 

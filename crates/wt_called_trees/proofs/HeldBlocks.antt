@@ -44,9 +44,12 @@ or_first : (v w : Bool) → v ≡ true → (v || w) ≡ true
 or_first true w e = refl
 or_first false w e = cc
 
+no_call : (k : ℕ) → Some k ≡ None → ⊥
+no_call k e = cc
+
 -- the first item is the page's
 has_first : (xs : List Item) → ((p : Option ℕ) → first_of xs p ≡ None) → list_any is_page xs ≡ true
-has_first [] h = let no : Some 0 ≡ None = h (Some 0) in cc
+has_first [] h = absurd (no_call 0 (h (Some 0)))
 has_first (x ∷ xs) h = or_first (is_page x) (list_any is_page xs) (ap is_no_call (h None))
 
 some_page : (x : Item) (xs : List Item) → OfPage (x ∷ xs) → list_any is_page (x ∷ xs) ≡ true

@@ -1,9 +1,8 @@
 //! Laws of the trees of pages with calls in which texts are typed: the groups and all other nodes stay what they are.
 #![tactic(auto)]
 
-ghost use Rattle.std.specs.Prelude.{ℕ, List};
+ghost use Rattle.std.specs.Prelude.{◌≡◌, ℕ, List};
 ghost use Rattle.wt_span.specs.Origins.{OuterCall};
-ghost use Rattle.std.specs.Prelude.{◌≡◌};
 ghost use Rattle.wt_span.specs.Items.{Item};
 ghost use Rattle.wt_inline.specs.ItemTree.{Head, ItemTree, inner, forest};
 ghost use Rattle.wt_inline.specs.Parts.{Part, children};
@@ -36,7 +35,6 @@ pub fn groups_stay_round_blocks_with_calls()
 /// A block of texts, of which calls give some, and of nodes of the page is such a block where its first and its last item
 /// are the page's (`IsRoundTexts`): the characters of each call are a group, and everything else is itself. So is each
 /// block of the page alone.
-#[tactic(auto, using(crate::proofs::HeldBlocks::texts_hold, crate::proofs::HeldBlocks::block_is, crate::proofs::HeldBlocks::own_holds))]
 pub fn blocks_of_texts_hold_their_calls()
     ensures holds { (h : Head) (opening : List Item) (ps : List Part) (closing : List Item) → IsRoundTexts h opening ps closing
         → HoldsItsCalls (inner h opening (forest (children ps)) closing) }
