@@ -6,3 +6,5 @@ pub mod CalledLines
 pub mod CalledParts
 pub mod CalledParagraphs
 pub mod CalledBlocks
+pub mod Bare
+pub mod Folders

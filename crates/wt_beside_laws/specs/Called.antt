@@ -2,11 +2,11 @@
 use Rattle.std.specs.Prelude.{◌≡◌, ℕ, ◌+◌, ◌==◌, ◌&&◌, ◌||◌, not, Bool, true, false, Some, List, [], ◌∷◌, ◌++◌, length, map, nat_lt, if◌then◌else◌}
 use Rattle.wt_span.specs.Bytes.{is_blank}
 use Rattle.wt_span.specs.Characters as byte
-use Rattle.wt_span.specs.Items.{Item, char}
+use Rattle.wt_span.specs.Items.{Item, char, sources}
 use Rattle.wt_guards.specs.declared.role.Role.{Role}
 use Rattle.wt_guards.specs.declared.role.Role.TheVariants.{Link, External, Bare, Switch, Toggle, Mark, Group, Function, Node}
 use Rattle.wt_guards.specs.Content.{ContentSign, Thing, letter, thing}
-use Rattle.wt_guards.specs.Guards.{Setting, is_guarded}
+use Rattle.wt_guards.specs.Guards.{Setting, has_brace_last, is_guarded}
 use Rattle.wt_guards.specs.Letters.{is_escaped}
 use Rattle.wt_expand.specs.PageCalls.{numbered, page_stretches, expanded_page}
 use Rattle.wt_expand.specs.PageItems.{page_items}
@@ -174,5 +174,65 @@ pub record IsCalledContent (s : Setting) (signs : List ContentSign) (owns : List
   pub given : AreGiven signs owns
   pub own : AreOwnInside owns
   pub meet : AllMeet s [] signs []
+  pub begins : BeginsWithText signs
+  pub ends : EndsWithText signs
+
+-- ---- in a folder
+
+-- the characters that a call gives, and any other node as it is
+abbrev pub shown_source : Role → Pages → List ℕ → List ℕ
+shown_source Link pages source = source
+shown_source External pages source = source
+shown_source (Bare ends) pages source = source
+shown_source Switch pages source = source
+shown_source Toggle pages source = source
+shown_source (Mark ends began) pages source = source
+shown_source (Group g) pages source = sources (expanded_page pages source).items
+shown_source Function pages source = source
+shown_source Node pages source = source
+
+abbrev pub shown_signs : Pages → List ContentSign → List ContentSign
+shown_signs pages [] = []
+shown_signs pages (letter c ∷ after) = letter c ∷ shown_signs pages after
+shown_signs pages (thing t ∷ after) = thing (record t { source = shown_source t.role pages t.source }) ∷ shown_signs pages after
+
+-- It is one call, which gives words.
+pub record GivesWords (pages : Pages) (source : List ℕ) : Type 0 where
+  pub items : (i : ℕ) → numbered i (page_stretches pages source) ≡ map (char (Some i)) (sources (expanded_page pages source).items)
+  pub words : AreWordBytes (sources (expanded_page pages source).items)
+  pub begins : BeginsVisible (sources (expanded_page pages source).items)
+  pub unbraced : has_brace_last source ≡ false
+  pub shown_unbraced : has_brace_last (sources (expanded_page pages source).items) ≡ false
+
+-- It calls nothing, and is a node of the page, on one line, in which no node is empty.
+pub record StaysAsItIs (pages : Pages) (t : Thing) : Type 0 where
+  pub items : (i : ℕ) → numbered i (page_stretches pages t.source) ≡ page_items t.source
+  pub flat : IsFlat t.role
+  pub node : IsNode t.role (own_glyphs t)
+  pub unbroken : IsUnbroken (page_items t.source)
+  pub own : AreOwnOrTexts (line_parts (page_items t.source))
+
+abbrev pub IsOfFolder : Role → Pages → Thing → Type 0
+IsOfFolder Link pages t = StaysAsItIs pages t
+IsOfFolder External pages t = StaysAsItIs pages t
+IsOfFolder (Bare ends) pages t = StaysAsItIs pages t
+IsOfFolder Switch pages t = StaysAsItIs pages t
+IsOfFolder Toggle pages t = StaysAsItIs pages t
+IsOfFolder (Mark ends began) pages t = StaysAsItIs pages t
+IsOfFolder (Group g) pages t = GivesWords pages t.source
+IsOfFolder Function pages t = StaysAsItIs pages t
+IsOfFolder Node pages t = StaysAsItIs pages t
+
+abbrev pub AreOfFolder : Pages → List ContentSign → Type 0
+AreOfFolder pages [] = Unit {0}
+AreOfFolder pages (letter c ∷ after) = AreOfFolder pages after
+AreOfFolder pages (thing t ∷ after) = IsOfFolder t.role pages t × AreOfFolder pages after
+
+-- Texts that are typed beside calls, with what these give in a folder.
+pub record IsCalledIn (pages : Pages) (s : Setting) (signs : List ContentSign) : Type 0 where
+  pub of_block : s.within ≡ false
+  pub characters : AreCharacters signs
+  pub given : AreOfFolder pages signs
+  pub meet : AllMeet s [] (shown_signs pages signs) []
   pub begins : BeginsWithText signs
   pub ends : EndsWithText signs
