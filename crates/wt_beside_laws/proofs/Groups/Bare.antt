@@ -1,5 +1,5 @@
 -- Where `<nowiki/>` is put, and how characters are written, hangs on no node's source but by its last brace.
-use Rattle.std.proofs.Common.{◌≡◌, ℕ, ◌==◌, Bool, true, false, not, Option, Some, None, List, [], ◌∷◌, ◌++◌, refl, sym, ap, ap₂, ◌∙◌, subst}
+use Rattle.std.proofs.Common.{◌≡◌, ℕ, ◌==◌, Bool, true, false, not, Option, Some, None, List, [], ◌∷◌, ◌++◌, length, refl, sym, ap, ap₂, ◌∙◌}
 use Rattle.std.specs.Prelude.{◌&&◌, ◌||◌, if◌then◌else◌}
 use Rattle.wt_span.specs.Bytes.{is_blank}
 use Rattle.wt_span.specs.Characters as byte
@@ -8,7 +8,7 @@ use Rattle.wt_tree.specs.declared.edit_shape.Place.{Place}
 use Rattle.wt_tree.specs.declared.edit_shape.Place.TheVariants as place
 use Rattle.wt_guards.specs.declared.role.Role.{Role}
 use Rattle.wt_guards.specs.Content.{Thing, ContentSign, letter, thing, nearest, ends_line, is_invisible, shows_blanks}
-use Rattle.wt_guards.specs.Guards.{Setting, has_brace_last, is_line_start, is_empty_line, is_line_mark_next, is_line_begun, is_start_hazard, is_new_next, is_start_guard, is_end, is_line_end, is_new_at_end, is_unended, is_blank_last, is_group_last, is_brace_last, is_content_end_guard, is_end_guard, is_nearest, is_group_or_bare, is_past_node, past, reached, is_new_text_next, is_blank_guard, is_parted, is_between_guard, is_guarded}
+use Rattle.wt_guards.specs.Guards.{Setting, end_of, is_reached, has_brace_last, is_line_start, is_empty_line, is_line_mark_next, is_line_begun, is_start_hazard, is_new_next, is_start_guard, is_end, is_line_end, is_new_at_end, is_unended, is_blank_last, is_group_last, is_brace_last, is_content_end_guard, is_end_guard, is_nearest, is_group_or_bare, is_past_node, past, reached, is_new_text_next, is_blank_guard, is_parted, is_between_guard, is_guarded}
 use Rattle.wt_guards.specs.Content.{is_group}
 use Rattle.wt_guards.specs.Letters.{opens_tag, opens_entity, is_next, is_apostrophe_or_end, are_slashes, is_blank_to_end, is_clear, is_indented, is_escaped}
 use Rattle.wt_beside_laws.specs.Called.{items_with}
@@ -102,7 +102,7 @@ one_bare f b (letter c ∷ xs) = refl
 one_bare f b (thing t ∷ xs) = b t
 
 brace_bare : (source : List ℕ) → Blind (is_brace_last source)
-brace_bare source t = ap (λ (v : Bool). v && _) (brace_is (has_brace_last t.source))
+brace_bare source t = ap (λ (v : Bool). v && not (is_reached (end_of t.place) (Some (length source)))) (brace_is (has_brace_last t.source))
 
 content_end_bare : (source : List ℕ) (p : Place) → Blind (is_content_end_guard source p)
 content_end_bare source place.Paragraph t = ap (λ (v : Bool). is_group_last (Some (thing t)) || v) (brace_bare source t)
