@@ -169,7 +169,7 @@ map_take zero xs = refl
 map_take (suc n) [] = refl
 map_take (suc n) (x ∷ xs) = ap (λ gs. glyph_of x ∷ gs) (map_take n xs)
 
-map_drop : (n : ℕ) (xs : List Item) → map glyph_of (drop n xs) ≡ drop n (map glyph_of xs)
+pub map_drop : (n : ℕ) (xs : List Item) → map glyph_of (drop n xs) ≡ drop n (map glyph_of xs)
 map_drop zero xs = refl
 map_drop (suc n) [] = refl
 map_drop (suc n) (x ∷ xs) = map_drop n xs

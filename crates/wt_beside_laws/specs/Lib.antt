@@ -27,5 +27,6 @@ pub mod SentStyled
 pub mod StyledNodes
 pub mod StyledHeadings
 pub mod StyledBlocks
+pub mod NewStyles
 pub mod StyledIn
 pub mod Called

@@ -1,6 +1,6 @@
 -- The tiles of a line of texts, words of calls and nodes that stay.
 use Rattle.std.proofs.Common.{◌≡◌, ◌⊎◌, inl, inr, ℕ, ◌==◌, Bool, true, false, not, Option, None, List, [], ◌∷◌, ◌++◌, length, refl, sym, ◌∙◌, subst, append-nil}
-use Rattle.std.specs.Prelude.{◌&&◌, if◌then◌else◌}
+use Rattle.std.specs.Prelude.{◌&&◌, codes, if◌then◌else◌}
 use Rattle.wt_span.specs.Items.{Item}
 use Rattle.wt_guards.specs.declared.role.Role.{Role}
 use Rattle.wt_guards.specs.Content.{ContentSign, Thing, letter, thing}
@@ -23,7 +23,7 @@ use Rattle.wt_beside_laws.specs.Nodes.{MayFollow, MeetAt, AllMeet}
 use Rattle.wt_beside_laws.proofs.ContentTiles.{one_more, none_more, Follows, guard_follows, letter_follows, node_follows}
 use Rattle.wt_beside_laws.proofs.LineTiles.{tag_less, switch_less, line_glyphs, line_cut, line_front, end_follows, letter_by}
 use Rattle.wt_beside_laws.proofs.NodesBegin.{other_avoids, all_switches}
-use Rattle.wt_beside_laws.proofs.NodesMeet.{atom_may, letter_behind, by_fits, letter_may, guard_may, leads_by}
+use Rattle.wt_beside_laws.proofs.NodesMeet.{atom_may, begins_more, letter_behind, by_fits, letter_may, guard_may, leads_by}
 use Rattle.wt_beside_laws.proofs.NodesStand.{node_stands}
 use Rattle.wt_beside_laws.proofs.TypedForms.{tag_other, switch_other, link_none, external_none, bare_none, all_none, tag_none, switch_none}
 use Rattle.wt_beside_laws.proofs.Groups.Schemes.{reaches, no_scheme, FirstNeither, given_neither, words_reach, line_reaches}
@@ -57,32 +57,35 @@ words_formless (b ∷ bs) h v =
 
 -- ---- what follows a node
 
-end_may : (r : Role) (u : Bool) → MayFollow r (guard_glyphs u)
-end_may r true = atom_may r
-end_may r false = tt
+end_may : (r : Role) (own : List Glyph) (u : Bool) → MayFollow r own (guard_glyphs u)
+end_may r own true = inl (atom_may r)
+end_may r own false = tt
 
-ended_may : (r : Role) (t : Bool) (gs : List Glyph) → MayFollow r gs → MayFollow r (if t then [] else gs)
-ended_may r true gs m = tt
-ended_may r false gs m = m
+ended_may : (r : Role) (own : List Glyph) (t : Bool) (gs : List Glyph) → MayFollow r own gs → MayFollow r own (if t then [] else gs)
+ended_may r own true gs m = tt
+ended_may r own false gs m = m
 
-some_first : (r : Role) (own more : List Glyph) → FirstNeither own → MayFollow r own → MayFollow r (own ++ more)
-some_first r [] more h m = absurd h
-some_first r (g ∷ gs) more h m = m
+some_first : (r : Role) (own other more : List Glyph) → FirstNeither other → MayFollow r own other → MayFollow r own (other ++ more)
+some_first r own [] more h m = absurd h
+some_first r own (g ∷ gs) more h m = elim m [
+  | inl e ↦ inl e
+  | inr q ↦ inr (record { unquoted = q.unquoted; quotes = begins_more (codes "''") (g ∷ gs) more q.quotes })
+]
 
 line_may : (s : Setting) (t : Thing) (before after : List ContentSign) (owns : List (List Item)) → AreGiven after owns → AllMeet s (thing t ∷ before) after []
-    → MayFollow t.role (line_glyphs s (thing t ∷ before) after)
-line_may s t before [] owns h m = end_may t.role (is_guarded s (thing t ∷ before) [])
+    → MayFollow t.role (own_glyphs t) (line_glyphs s (thing t ∷ before) after)
+line_may s t before [] owns h m = end_may t.role (own_glyphs t) (is_guarded s (thing t ∷ before) [])
 line_may s t before (letter d ∷ after) owns h m =
     let e = is_escaped s.within s.place (thing t ∷ before) d after in
     let more : List Glyph = line_glyphs s (letter d ∷ thing t ∷ before) after in
     let own : List Glyph = letter_glyphs e d ++ more in
-    guard_may t.role (is_guarded s (thing t ∷ before) (letter d ∷ after)) (if d == 10 then [] else own)
-    (λ z. ended_may t.role (d == 10) own (by_fits t.role own (letter_may t.role e d more (letter_behind s t before d after z))))
+    guard_may t.role (own_glyphs t) (is_guarded s (thing t ∷ before) (letter d ∷ after)) (if d == 10 then [] else own)
+    (λ z. ended_may t.role (own_glyphs t) (d == 10) own (by_fits t.role (own_glyphs t) own (letter_may t.role e d more (letter_behind s t before d after z))))
 line_may s t before (thing n ∷ after) [] h m = absurd h
 line_may s t before (thing n ∷ after) (own ∷ owns) h m =
     let more : List Glyph = line_glyphs s (thing n ∷ thing t ∷ before) after in
-    guard_may t.role (is_guarded s (thing t ∷ before) (thing n ∷ after)) (own_glyphs n ++ more)
-    (λ z. some_first t.role (own_glyphs n) more (given_neither n own (given_or n.role n own h.0))
+    guard_may t.role (own_glyphs t) (is_guarded s (thing t ∷ before) (thing n ∷ after)) (own_glyphs n ++ more)
+    (λ z. some_first t.role (own_glyphs t) (own_glyphs n) more (given_neither n own (given_or n.role n own h.0))
     (subst (λ u. MeetAt u (thing t ∷ before) (thing n ∷ after) []) z m.0).0)
 
 -- ---- what is typed

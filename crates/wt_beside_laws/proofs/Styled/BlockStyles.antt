@@ -2,6 +2,7 @@
 use Rattle.std.proofs.Common.{arith, ◌≡◌, ℕ, zero, suc, ◌+◌, ◌-◌, ◌<◌, ◌≤◌, Bool, true, false, not, Option, Some, None, List, [], ◌∷◌, ◌++◌, length, map, take, drop, refl, sym, ap, ◌∙◌, subst, append-nil}
 use Rattle.std.specs.Prelude.{◌||◌}
 use Rattle.std.specs.List.{flat_map}
+use Rattle.std.proofs.lemmas.Bool.Decides.{nat_tests}
 use Rattle.std.proofs.lemmas.Grind.{flat_map-append}
 use Rattle.wt_span.specs.Items.{Item, char, whole, sources}
 use Rattle.wt_span.specs.Runs.{runs, IsRun, AreRuns}
@@ -54,6 +55,7 @@ use Rattle.wt_beside_laws.proofs.Styled.BlockNodes.{IsFound, HaveFound, found_bo
 pub record QuoteSegment (u : Segment) : Type 0 where
   pub origin : Option ℕ
   pub byte : ℕ
+  pub is : byte ≡ 39
   pub items : u.items ≡ char origin byte ∷ []
   pub parts : u.parts ≡ loose Text origin byte ∷ []
 
@@ -86,7 +88,7 @@ not_first false b e f = cc
 
 run_quote : (r others : List Item) → IsRun one_stretch r others → (loose_segment r).quote ≡ true → QuoteSegment (loose_segment r)
 run_quote [] others h q = absurd h
-run_quote (char o b ∷ []) others h q = record { origin = o; byte = b; items = refl; parts = refl }
+run_quote (char o b ∷ []) others h q = record { origin = o; byte = b; is = grind (arith, nat_tests, q); items = refl; parts = refl }
 run_quote (whole f o bs ∷ []) others h q = cc
 run_quote (x ∷ y ∷ r) others h q = absurd (not_first (is_quote x) (is_quote y) h.0 q)
 
