@@ -6,5 +6,7 @@ pub mod CalledLines
 pub mod CalledParts
 pub mod CalledParagraphs
 pub mod CalledBlocks
+pub mod CalledShown
 pub mod Bare
 pub mod Folders
+pub mod Faults

@@ -1,5 +1,6 @@
 -- A content among whose nodes are calls: what each node is in the page, by the items that it has there.
-use Rattle.std.specs.Prelude.{◌≡◌, ℕ, ◌+◌, ◌==◌, ◌&&◌, ◌||◌, not, Bool, true, false, Some, List, [], ◌∷◌, ◌++◌, length, map, nat_lt, if◌then◌else◌}
+use Rattle.std.specs.Prelude.{◌≡◌, ℕ, ◌+◌, ◌==◌, ◌&&◌, ◌||◌, not, Bool, true, false, Some, List, [], ◌∷◌, ◌++◌, length, map, nat_lt, if◌then◌else◌, encode_utf8}
+use Rattle.wt_tree.specs.Plain.{Plains, text_before}
 use Rattle.wt_span.specs.Bytes.{is_blank}
 use Rattle.wt_span.specs.Characters as byte
 use Rattle.wt_span.specs.Items.{Item, char, sources}
@@ -21,6 +22,7 @@ use Rattle.wt_beside_laws.specs.Cuts.{own_glyphs}
 use Rattle.wt_beside_laws.specs.Flat.{IsFlat}
 use Rattle.wt_beside_laws.specs.Lines.{AreCharacters}
 use Rattle.wt_beside_laws.specs.Nodes.{IsNode, AllMeet}
+use Rattle.wt_beside_laws.specs.Shown.{parts_shown_at}
 
 -- ---- the items, where those of each node are given, in the order of the nodes
 
@@ -176,6 +178,15 @@ pub record IsCalledContent (s : Setting) (signs : List ContentSign) (owns : List
   pub meet : AllMeet s [] signs []
   pub begins : BeginsWithText signs
   pub ends : EndsWithText signs
+
+-- ---- what it shows
+
+-- the texts, and each node as its items show by themselves
+abbrev pub called_shown : List ContentSign → List (List Item) → Plains → Plains
+called_shown [] owns rest = rest
+called_shown (letter c ∷ after) owns rest = text_before (encode_utf8 c) (called_shown after owns rest)
+called_shown (thing t ∷ after) [] rest = rest
+called_shown (thing t ∷ after) (own ∷ owns) rest = parts_shown_at 0 [] (line_parts own) (called_shown after owns rest)
 
 -- ---- in a folder
 

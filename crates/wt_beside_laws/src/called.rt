@@ -6,13 +6,14 @@ ghost use Rattle.wt_span.specs.Items.{Item};
 ghost use Rattle.wt_span.specs.Origins.{OuterCall};
 ghost use Rattle.wt_guards.specs.Content.{ContentSign};
 ghost use Rattle.wt_guards.specs.Guards.{Setting};
+ghost use Rattle.wt_expand.specs.Work.{Pages};
 ghost use Rattle.wt_lines.specs.Lines.{lines};
 ghost use Rattle.wt_inline.specs.ItemTree.{plain};
 ghost use Rattle.wt_page.specs.Body.{meaning};
 ghost use Rattle.wt_called_trees.specs.HeldCalls.{block_in, HoldsItsCalls, block_of_texts};
 ghost use Rattle.wt_text_edit_laws.specs.ParagraphBetween.{EndsApart, EndsParagraph, blocks_in, body_with};
 ghost use Rattle.wt_text_edit_laws.specs.ParagraphParts.{joined_parts, para_with};
-ghost use Rattle.wt_beside_laws.specs.Called.{items_with, parts_with, IsCalledContent};
+ghost use Rattle.wt_beside_laws.specs.Called.{items_with, owns_in, parts_with, IsCalledContent, shown_signs, IsCalledIn};
 ghost use Rattle.wt_beside_laws.specs.Lines.{IsLineOfText};
 
 /// Texts beside calls that give words, and beside nodes that stay, are one paragraph, whatever is typed: each line is text wherever it is in
@@ -36,4 +37,14 @@ pub fn texts_beside_calls_hold_these()
         → HoldsItsCalls (para_with (joined_parts (lines (items_with s [] signs owns)))) }
     ensures block { (calls : List OuterCall) (s : Setting) (signs : List ContentSign) (owns : List (List Item)) → IsCalledContent s signs owns
         → block_in calls (para_with (joined_parts (lines (items_with s [] signs owns)))) ≡ block_of_texts calls (plain kind.Para) [] (parts_with s [] signs owns) [] }
+{}
+
+/// In a folder where each call of such a content gives words (`IsCalledIn`), and however many calls come before it in the page, the content is one,
+/// by what its calls give (`owns_in`), where each group's source stands for the words that it shows: where `<nowiki/>` is put, and how characters are
+/// written, doesn't hang on it.
+pub fn texts_beside_calls_are_such_in_a_folder()
+    ensures content { (pages : Pages) (i : ℕ) (s : Setting) (signs : List ContentSign) → IsCalledIn pages s signs
+        → IsCalledContent s (shown_signs pages signs) (owns_in pages i signs) }
+    ensures items { (pages : Pages) (i : ℕ) (s : Setting) (signs : List ContentSign) → IsCalledIn pages s signs
+        → items_with s [] signs (owns_in pages i signs) ≡ items_with s [] (shown_signs pages signs) (owns_in pages i signs) }
 {}

@@ -73,7 +73,10 @@ ghost use Rattle.wt_tiles.specs.declared.glyph.GlyphClass.TheVariants as class;
 mod called;
 mod styles;
 
-pub use called::{texts_beside_calls_are_one_paragraph, texts_beside_calls_hold_these};
+pub use called::{
+    texts_beside_calls_are_one_paragraph, texts_beside_calls_are_such_in_a_folder,
+    texts_beside_calls_hold_these,
+};
 pub use styles::{
     blocks_with_styles_have_their_nodes, contents_sent_with_styles_are_such,
     contents_with_styles_are_such_again, contents_with_styles_may_take_their_place,

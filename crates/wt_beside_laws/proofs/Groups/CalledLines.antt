@@ -97,7 +97,7 @@ items_own s before (thing t ∷ after) (own ∷ owns) h =
 
 -- ---- each is text
 
-words_open : (j : ℕ) (bs : List ℕ) (xs : List Item) → AreWordBytes bs → BeginsVisible bs → Opens (call_chars j bs ++ xs)
+pub words_open : (j : ℕ) (bs : List ℕ) (xs : List Item) → AreWordBytes bs → BeginsVisible bs → Opens (call_chars j bs ++ xs)
 words_open j [] xs h v = absurd v
 words_open j (b ∷ bs) xs h v = word_opens b h.0 v
 

@@ -40,7 +40,7 @@ one_read o d c xs next any ps q r =
     let k = char_read (char o d) c.0 c.1 xs r.apart (ap (λ (t : Bool). t && begins_with_quote (cut_segments context_parts in_line c xs)) q) in
     record { shows = k.shows ∙ ap (λ qs. part Text (char o d) ∷ qs) r.shows; apart = k.apart; first = λ z. k.first ∙ q }
 
-words_read : (j b : ℕ) (bs : List ℕ) (c : Cut) (xs : List Item) (next any : Bool) (ps : List Part) → AreWordBytes (b ∷ bs) → Read c xs next ps
+pub words_read : (j b : ℕ) (bs : List ℕ) (c : Cut) (xs : List Item) (next any : Bool) (ps : List Part) → AreWordBytes (b ∷ bs) → Read c xs next ps
     → Read (add_chars (length (byte_glyphs (b ∷ bs))) c) (call_chars j (b ∷ bs) ++ xs) any (parts Text (call_chars j (b ∷ bs)) ++ ps)
 words_read j b [] c xs next any ps h r =
     let one : suc c.0 ≡ length (byte_glyphs (b ∷ [])) + c.0 = omega arith in
