@@ -1,20 +1,29 @@
 //! Laws of texts that are typed beside calls: what such a content is in the page's tree.
 
-ghost use Rattle.std.specs.Prelude.{◌≡◌, ℕ, List, [], ◌∷◌, ◌++◌, All};
+ghost use Rattle.std.specs.Prelude.{◌≡◌, ℕ, false, Some, List, [], ◌∷◌, ◌++◌, map, All};
 ghost use Rattle.wt_tree.specs.declared.kind.Kind.TheVariants as kind;
-ghost use Rattle.wt_span.specs.Items.{Item};
+ghost use Rattle.wt_tree.specs.Plain.{Plains, ended, along, element, text_before, plain_before};
+ghost use Rattle.wt_span.specs.Items.{Item, char};
 ghost use Rattle.wt_span.specs.Origins.{OuterCall};
 ghost use Rattle.wt_guards.specs.Content.{ContentSign};
 ghost use Rattle.wt_guards.specs.Guards.{Setting};
 ghost use Rattle.wt_expand.specs.Work.{Pages};
 ghost use Rattle.wt_lines.specs.Lines.{lines};
-ghost use Rattle.wt_inline.specs.ItemTree.{plain};
+ghost use Rattle.wt_inline.specs.declared.loose.Loose.TheVariants.{Text};
+ghost use Rattle.wt_inline.specs.ItemTree.{plain, nothing, further};
+ghost use Rattle.wt_inline.specs.Parts.{loose_leaf};
+ghost use Rattle.wt_context.specs.Line.{line_parts};
 ghost use Rattle.wt_page.specs.Body.{meaning};
+ghost use Rattle.wt_annotated.specs.Annotated.{all_unplaced};
+ghost use Rattle.wt_annotated.specs.CutTexts.{cut_texts};
+ghost use Rattle.wt_isolation.specs.GroupItems.{with_break_anew, empty_nowiki};
+ghost use Rattle.wt_selser.specs.GroupFaults.{paragraph_face, is_faulty};
 ghost use Rattle.wt_called_trees.specs.HeldCalls.{block_in, HoldsItsCalls, block_of_texts};
 ghost use Rattle.wt_text_edit_laws.specs.ParagraphBetween.{EndsApart, EndsParagraph, blocks_in, body_with};
 ghost use Rattle.wt_text_edit_laws.specs.ParagraphParts.{joined_parts, para_with};
-ghost use Rattle.wt_beside_laws.specs.Called.{items_with, owns_in, parts_with, IsCalledContent, shown_signs, IsCalledIn};
+ghost use Rattle.wt_beside_laws.specs.Called.{items_with, owns_in, parts_with, AreWordBytes, BeginsVisible, AreWords, IsCalledContent, called_shown, shown_signs, IsCalledIn};
 ghost use Rattle.wt_beside_laws.specs.Lines.{IsLineOfText};
+ghost use Rattle.wt_beside_laws.specs.Shown.{parts_shown_at};
 
 /// Texts beside calls that give words, and beside nodes that stay, are one paragraph, whatever is typed: each line is text wherever it is in
 /// tables, and what is in the paragraph is in the order of the signs (`parts_with`): the words of each call are characters of this call. Between
@@ -37,6 +46,24 @@ pub fn texts_beside_calls_hold_these()
         → HoldsItsCalls (para_with (joined_parts (lines (items_with s [] signs owns)))) }
     ensures block { (calls : List OuterCall) (s : Setting) (signs : List ContentSign) (owns : List (List Item)) → IsCalledContent s signs owns
         → block_in calls (para_with (joined_parts (lines (items_with s [] signs owns)))) ≡ block_of_texts calls (plain kind.Para) [] (parts_with s [] signs owns) [] }
+{}
+
+/// It shows the texts that were typed, and between them each node as its items show by themselves (`called_shown`); a call shows its words.
+pub fn texts_beside_calls_are_shown()
+    ensures shown { (calls : List OuterCall) (s : Setting) (signs : List ContentSign) (owns : List (List Item)) (rest : Plains) → IsCalledContent s signs owns
+        → plain_before (cut_texts (block_in calls (para_with (joined_parts (lines (items_with s [] signs owns)))))) rest
+        ≡ along (element paragraph_face (called_shown signs owns ended)) rest }
+    ensures words { (shown : List ℕ) (own : List Item) (rest : Plains) → AreWords shown own
+        → parts_shown_at 0 [] (line_parts own) rest ≡ text_before shown rest }
+{}
+
+/// The group of a call that gives words has no fault (`is_faulty`): read alone, behind a `<nowiki/>`, it shows the same, its line has even toggles,
+/// and no text in it could go on after it. So `edit` doesn't refuse to read a paragraph by itself that holds it.
+#[tactic(auto, using(crate::proofs::Groups::Faults::no_fault))]
+pub fn groups_of_words_have_no_fault()
+    ensures { (calls : List OuterCall) (j : ℕ) (shown : List ℕ) → AreWordBytes shown → BeginsVisible shown
+        → is_faulty (empty_nowiki ∷ with_break_anew calls (map (char (Some j)) shown)) (all_unplaced (further (loose_leaf Text (map (char (Some j)) shown)) nothing))
+        ≡ false }
 {}
 
 /// In a folder where each call of such a content gives words (`IsCalledIn`), and however many calls come before it in the page, the content is one,

@@ -74,7 +74,8 @@ mod called;
 mod styles;
 
 pub use called::{
-    texts_beside_calls_are_one_paragraph, texts_beside_calls_are_such_in_a_folder,
+    groups_of_words_have_no_fault, texts_beside_calls_are_one_paragraph,
+    texts_beside_calls_are_shown, texts_beside_calls_are_such_in_a_folder,
     texts_beside_calls_hold_these,
 };
 pub use styles::{

@@ -2,8 +2,7 @@
 use Rattle.std.proofs.Common.{◌≡◌, ◌⊎◌, inl, inr, ℕ, Bool, true, false, Option, None, Some, List, [], ◌∷◌, ◌++◌, map, refl, sym, ap, ◌∙◌, subst, append-nil}
 use Rattle.std.specs.Prelude.{encode_utf8}
 use Rattle.std.specs.List.{flat_map}
-use Rattle.wt_tree.specs.declared.kind.Kind.TheVariants as kind
-use Rattle.wt_tree.specs.Plain.{Face, Plains, ended, along, element, text_before, plain_before, plains_before}
+use Rattle.wt_tree.specs.Plain.{Plains, ended, along, element, text_before, plain_before, plains_before}
 use Rattle.wt_tree.specs.Tree.{Tree, tree}
 use Rattle.wt_span.specs.Items.{Item, char}
 use Rattle.wt_span.specs.Origins.{OuterCall}
@@ -24,6 +23,7 @@ use Rattle.wt_annotated.specs.Labels.{label_at}
 use Rattle.wt_annotated.specs.Numbering.{with_numbers}
 use Rattle.wt_annotated.specs.Seams.{first_of}
 use Rattle.wt_annotated.specs.WithoutCalls.{placed}
+use Rattle.wt_selser.specs.GroupFaults.{paragraph_face}
 use Rattle.wt_moved_laws.specs.Placeless.{placeless}
 use Rattle.wt_moved_laws.specs.Standing.{standing}
 use Rattle.wt_moved_laws.proofs.Placeless.{shown_placeless}
@@ -134,16 +134,13 @@ parts_show s before (thing t ∷ after) (own ∷ owns) rest h =
 
 -- ---- the paragraph
 
-abbrev para_face : Face
-para_face = record { kind = kind.Para; attrs = []; mw = None }
-
 pub called_shows : (calls : List OuterCall) (s : Setting) (signs : List ContentSign) (owns : List (List Item)) (rest : Plains) → IsCalledContent s signs owns
     → plain_before (cut_texts (block_in calls (para_with (joined_parts (lines (items_with s [] signs owns)))))) rest
-    ≡ along (element para_face (called_shown signs owns ended)) rest
+    ≡ along (element paragraph_face (called_shown signs owns ended)) rest
 called_shows calls s signs owns rest h =
     let ps : List Part = parts_with s [] signs owns in
     ap (λ (t : Tree). plain_before (cut_texts t) rest) (called_block calls s signs owns h)
-    ∙ ap (λ (qs : Plains). along (element para_face qs) rest)
+    ∙ ap (λ (qs : Plains). along (element paragraph_face qs) rest)
     (children_in_page calls ps ended (parts_own s [] signs owns h.own) ∙ parts_show s [] signs owns ended h.given)
 
 -- ---- words

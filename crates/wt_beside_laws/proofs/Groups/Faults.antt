@@ -98,8 +98,8 @@ AllZero [] = Unit {0}
 AllZero (n ∷ ns) = (n ≡ 0) × AllZero ns
 
 quotes_taken : (n : ℕ) (gs : List Glyph) → NoQuotes gs → NoQuotes (take n gs)
-quotes_taken n [] h = tt
-quotes_taken zero (g ∷ gs) h = tt
+quotes_taken zero gs h = tt
+quotes_taken (suc n) [] h = tt
 quotes_taken (suc n) (g ∷ gs) h = (h.0, quotes_taken n gs h.1)
 
 quotes_dropped : (n : ℕ) (gs : List Glyph) → NoQuotes gs → NoQuotes (drop n gs)
