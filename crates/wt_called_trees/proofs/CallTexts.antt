@@ -11,18 +11,17 @@ use Rattle.wt_span.specs.Cuts.{text_by, source_of_call}
 use Rattle.wt_span.specs.Runs.{put, runs}
 use Rattle.wt_inline.specs.declared.loose.Loose.TheVariants.{Text, Sep}
 use Rattle.wt_inline.specs.ItemTree.{ItemTree, ItemTrees, nothing, further, forest, tree_items, held_by_all}
-use Rattle.wt_inline.specs.Parts.{Part, loose, node, held_parts, same_origin, one_leaf, loose_head, loose_leaf, child, children}
+use Rattle.wt_inline.specs.Parts.{Part, loose, node, held_parts, same_origin, one_leaf, loose_leaf, child, children}
 use Rattle.wt_annotated.specs.Annotated.{group_label, all_unplaced}
-use Rattle.wt_annotated.specs.Clean.{is_no_call, is_page, is_body}
+use Rattle.wt_annotated.specs.Clean.{is_no_call, is_page}
 use Rattle.wt_annotated.specs.GroupData.{group_data}
 use Rattle.wt_annotated.specs.GroupParts.{called}
 use Rattle.wt_annotated.specs.GroupParts.{Part as Piece}
 use Rattle.wt_annotated.specs.Seams.{last_of, first_of, parted, text_step, text_from}
 use Rattle.wt_annotated.specs.Walked.{free_places, clean_at, part_step, parts_from, Near, near_group, near_runs, group_at, walked, near}
-use Rattle.wt_annotated.specs.WithoutCalls.{placed}
 use Rattle.wt_annotated.proofs.Seams.{first_append}
 use Rattle.wt_moved_laws.specs.Placeless.{placeless, all_placeless}
-use Rattle.wt_called_trees.specs.Rounded.{HasItems, IsOwn}
+use Rattle.wt_called_trees.specs.Rounded.{IsOwn}
 use Rattle.wt_called_trees.specs.CallTexts.{AreOwnOrTexts, call_group, by_call, in_page, all_in_page}
 use Rattle.wt_called_trees.proofs.OwnWalks.{before_free, last_own, first_own, own_clean, walk_own, has_page}
 use Rattle.wt_called_trees.proofs.RunCuts.{FreeBefore, near_apart, near_alone}

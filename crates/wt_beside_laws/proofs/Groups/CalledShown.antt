@@ -1,9 +1,9 @@
 -- What texts beside calls show: the texts as they were typed, and each node and the words of each call as they are shown by themselves.
-use Rattle.std.proofs.Common.{◌≡◌, ◌⊎◌, inl, inr, ℕ, Bool, true, false, Option, None, Some, List, [], ◌∷◌, ◌++◌, map, refl, sym, ap, ◌∙◌, subst, append-nil}
+use Rattle.std.proofs.Common.{◌≡◌, ◌⊎◌, inl, inr, ℕ, Option, None, Some, List, [], ◌∷◌, ◌++◌, map, refl, sym, ap, ◌∙◌, subst, append-nil}
 use Rattle.std.specs.Prelude.{encode_utf8}
 use Rattle.std.specs.List.{flat_map}
 use Rattle.wt_tree.specs.Plain.{Plains, ended, along, element, text_before, plain_before, plains_before}
-use Rattle.wt_tree.specs.Tree.{Tree, tree}
+use Rattle.wt_tree.specs.Tree.{Tree}
 use Rattle.wt_span.specs.Items.{Item, char}
 use Rattle.wt_span.specs.Origins.{OuterCall}
 use Rattle.wt_span.specs.Runs.{IsRun, AreRuns, runs}
@@ -14,14 +14,13 @@ use Rattle.wt_guards.specs.Letters.{is_escaped}
 use Rattle.wt_lines.specs.Lines.{lines}
 use Rattle.wt_inline.specs.declared.loose.Loose.TheVariants.{Text, Sep}
 use Rattle.wt_inline.specs.Carried.{shown_item}
-use Rattle.wt_inline.specs.ItemTree.{plain, ItemTree, forest, tree_items}
+use Rattle.wt_inline.specs.ItemTree.{ItemTree, tree_items}
 use Rattle.wt_inline.specs.Parts.{Part, loose, node, held_parts, one_leaf, child, children, loose_leaf, parts}
 use Rattle.wt_context.specs.Line.{line_parts}
-use Rattle.wt_context.proofs.PlainNodes.{AreTexts, texts_first, texts_rest, text_parts}
+use Rattle.wt_context.proofs.PlainNodes.{AreTexts, text_parts}
 use Rattle.wt_annotated.specs.CutTexts.{cut_texts, all_cut_texts}
 use Rattle.wt_annotated.specs.Labels.{label_at}
 use Rattle.wt_annotated.specs.Numbering.{with_numbers}
-use Rattle.wt_annotated.specs.Seams.{first_of}
 use Rattle.wt_annotated.specs.WithoutCalls.{placed}
 use Rattle.wt_selser.specs.GroupFaults.{paragraph_face}
 use Rattle.wt_moved_laws.specs.Placeless.{placeless}
@@ -29,16 +28,16 @@ use Rattle.wt_moved_laws.specs.Standing.{standing}
 use Rattle.wt_moved_laws.proofs.Placeless.{shown_placeless}
 use Rattle.wt_moved_laws.proofs.Recuts.{texts_same}
 use Rattle.wt_called_trees.specs.CallTexts.{AreOwnOrTexts, by_call, in_page, all_in_page}
-use Rattle.wt_called_trees.specs.HeldCalls.{block_in, block_of_texts}
+use Rattle.wt_called_trees.specs.HeldCalls.{block_in}
 use Rattle.wt_called_trees.specs.Rounded.{IsOwn}
 use Rattle.wt_called_trees.proofs.GroupsStay.{numbers_gone}
 use Rattle.wt_called_trees.proofs.OwnWalks.{first_own, has_page}
 use Rattle.wt_text_edit_laws.specs.ParagraphParts.{joined_parts, para_with}
-use Rattle.wt_beside_laws.specs.Called.{items_with, parts_with, AreWordBytes, AreWords, IsOwnNode, AreGiven, called_shown, IsCalledContent}
+use Rattle.wt_beside_laws.specs.Called.{items_with, parts_with, AreWords, IsOwnNode, AreGiven, called_shown, IsCalledContent}
 use Rattle.wt_beside_laws.specs.Content.{guard_items, letter_items}
 use Rattle.wt_beside_laws.specs.Shown.{parts_shown_at}
 use Rattle.wt_beside_laws.proofs.LineParts.{node_texts}
-use Rattle.wt_beside_laws.proofs.LineShown.{one_by_one, shown_append, text_shows, run_shows, children_show, guard_shows, letter_shows, twice}
+use Rattle.wt_beside_laws.proofs.LineShown.{one_by_one, shown_append, text_shows, children_show, guard_shows, letter_shows, twice}
 use Rattle.wt_beside_laws.proofs.Groups.CalledBlocks.{called_block, parts_own}
 use Rattle.wt_beside_laws.proofs.Groups.CalledParts.{words_alone}
 use Rattle.wt_beside_laws.proofs.Groups.Words.{call_chars, given_or}

@@ -17,7 +17,7 @@ use Rattle.wt_tiles.specs.Tiles.{Cut, form_at, cuts, switch_at}
 use Rattle.wt_tiles.specs.Urls.{is_word}
 use Rattle.wt_beside_laws.specs.Beginnings.{AvoidsSwitches, AllAvoidSwitches}
 use Rattle.wt_beside_laws.specs.Called.{AreWordBytes, BeginsVisible, AreWords, IsOwnNode, AreGiven}
-use Rattle.wt_beside_laws.specs.Cuts.{add_chars, own_glyphs, own_form, add_node, guard_cut, letter_cut, ends_word, is_word_last}
+use Rattle.wt_beside_laws.specs.Cuts.{add_chars, own_glyphs, own_form, add_node, letter_cut, ends_word, is_word_last}
 use Rattle.wt_beside_laws.specs.Glyphs.{guard_glyphs, letter_glyphs}
 use Rattle.wt_beside_laws.specs.Nodes.{MayFollow, MeetAt, AllMeet}
 use Rattle.wt_beside_laws.proofs.ContentTiles.{one_more, none_more, Follows, guard_follows, letter_follows, node_follows}

@@ -1,15 +1,15 @@
 -- A group of words has no fault: read alone it shows the same, its line has even toggles, and no text in it could go on after it.
 use Rattle.std.proofs.Common.{arith, ◌≡◌, ℕ, zero, suc, ◌+◌, ◌==◌, Bool, true, false, Option, None, Some, List, [], ◌∷◌, ◌++◌, length, map, take, drop, refl, sym, ap, ap₂, ◌∙◌, subst, append-nil, All}
-use Rattle.std.specs.Prelude.{◌&&◌, ◌||◌, ◌%◌, codes, count_by, if◌then◌else◌, is_some, slice_get, nat_lt}
+use Rattle.std.specs.Prelude.{◌&&◌, ◌||◌, ◌%◌, count_by, if◌then◌else◌, is_some, slice_get, nat_lt}
 use Rattle.std.specs.List.{flat_map, list_any}
 use Rattle.std.proofs.lemmas.Bool.Decides.{Decides-eqb}
 use Rattle.std.proofs.lemmas.List.Elements.{All-nil, All-cons}
 use Rattle.std.proofs.lemmas.List.Sums.{sum_by-cons}
 use Rattle.wt_tree.specs.declared.kind.Kind.TheVariants as kind
-use Rattle.wt_tree.specs.Plain.{Plain, Plains, ended, along, element, text_before, plain_before, plains_before}
-use Rattle.wt_tree.specs.Tree.{Tree, Trees, none, more}
+use Rattle.wt_tree.specs.Plain.{Plain, Plains, ended, element, plains_before}
+use Rattle.wt_tree.specs.Tree.{Trees}
 use Rattle.wt_span.specs.declared.form.ItemForm.TheVariants as form
-use Rattle.wt_span.specs.Items.{Item, char, whole, is_char_in}
+use Rattle.wt_span.specs.Items.{Item, char}
 use Rattle.wt_span.specs.Origins.{OuterCall, same_call}
 use Rattle.wt_span.specs.Runs.{IsRun, runs}
 use Rattle.wt_span.proofs.RunLaws.{runs_cut}
@@ -28,16 +28,16 @@ use Rattle.wt_tiles.specs.Urls.{scheme_len}
 use Rattle.wt_inline.specs.declared.loose.Loose.TheVariants.{Text}
 use Rattle.wt_inline.specs.Carried.{shown_item}
 use Rattle.wt_inline.specs.ItemTree.{ItemTree, ItemTrees, nothing, further, forest}
-use Rattle.wt_inline.specs.Parts.{Part, loose, node, one_leaf, child, children, held_parts, loose_leaf, parts, nowiki as nowiki_tree}
+use Rattle.wt_inline.specs.Parts.{Part, node, one_leaf, child, children, held_parts, loose_leaf, parts, nowiki as nowiki_tree}
 use Rattle.wt_context.specs.Line.{context_parts, line_parts}
 use Rattle.wt_page.specs.Body.{meaning}
-use Rattle.wt_annotated.specs.Annotated.{unplaced, all_unplaced}
+use Rattle.wt_annotated.specs.Annotated.{all_unplaced}
 use Rattle.wt_annotated.specs.Labels.{label_at}
-use Rattle.wt_isolation.specs.GroupItems.{given_first, is_template, needs_break, break_of, break_before, with_break_anew, empty_nowiki}
-use Rattle.wt_isolation.specs.OpenTexts.{begins_open, begins_bracket, holds_open, has_open_text}
-use Rattle.wt_isolation.specs.Toggles.{lines as glyph_lines, onto, is_quote, quote_runs, tile_runs, runs_of, switches_italic, switches_bold, is_odd, are_odd, is_odd_line, has_odd_line}
+use Rattle.wt_isolation.specs.GroupItems.{given_first, is_template, break_before, with_break_anew, empty_nowiki}
+use Rattle.wt_isolation.specs.OpenTexts.{begins_bracket, holds_open, has_open_text}
+use Rattle.wt_isolation.specs.Toggles.{lines as glyph_lines, onto, is_quote, quote_runs, tile_runs, runs_of, switches_italic, switches_bold, is_odd, is_odd_line, has_odd_line}
 use Rattle.wt_selser.specs.GroupFaults.{trees_in, shown_by, shown_alone, paragraph_face, one_paragraph, shows_other, is_faulty}
-use Rattle.wt_visible.specs.Children.{differing, listed}
+use Rattle.wt_visible.specs.Children.{differing}
 use Rattle.wt_visible.proofs.DifferingLaws.{same_none}
 use Rattle.wt_text_edit_laws.specs.ParagraphBetween.{body_with}
 use Rattle.wt_text_edit_laws.specs.ParagraphParts.{joined_parts, para_with}

@@ -1,15 +1,14 @@
 -- Texts beside calls in a folder: what these give there.
-use Rattle.std.proofs.Common.{◌≡◌, ◌⊎◌, inl, inr, ℕ, ◌+◌, Bool, true, false, Some, List, [], ◌∷◌, ◌++◌, length, map, refl, sym, ap, ap₂, ◌∙◌, subst}
-use Rattle.wt_span.specs.Items.{Item, char, sources}
+use Rattle.std.proofs.Common.{◌≡◌, ◌⊎◌, inl, inr, ℕ, ◌+◌, Bool, List, [], ◌∷◌, length, refl, sym, ap, ap₂, ◌∙◌, subst}
+use Rattle.wt_span.specs.Items.{Item, sources}
 use Rattle.wt_guards.specs.declared.role.Role.{Role}
 use Rattle.wt_guards.specs.declared.role.Role.TheVariants.{Link, External, Bare, Switch, Toggle, Mark, Group, Function, Node}
 use Rattle.wt_guards.specs.Content.{ContentSign, Thing, letter, thing}
 use Rattle.wt_guards.specs.Guards.{Setting, has_brace_last}
 use Rattle.wt_expand.specs.PageCalls.{numbered, page_stretches, expanded_page}
-use Rattle.wt_expand.specs.PageItems.{page_items}
 use Rattle.wt_expand.specs.Work.{Pages}
 use Rattle.wt_inline.specs.declared.loose.Loose.TheVariants.{Text}
-use Rattle.wt_inline.specs.Parts.{Part, parts}
+use Rattle.wt_inline.specs.Parts.{parts}
 use Rattle.wt_context.specs.Line.{line_parts}
 use Rattle.wt_called_trees.specs.CallTexts.{AreOwnOrTexts}
 use Rattle.wt_beside_laws.specs.Called.{items_with, owns_in, AreWords, IsOwnNode, IsGivenAs, AreGiven, AreOwnInside, BeginsWithText, EndsWithText, IsCalledContent, shown_source, shown_signs, GivesWords, StaysAsItIs, IsOfFolder, AreOfFolder, IsCalledIn}

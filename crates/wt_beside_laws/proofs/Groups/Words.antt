@@ -1,6 +1,6 @@
 -- The characters of a word that a call gives: they begin no form and no block, and are read as they are.
-use Rattle.std.proofs.Common.{arith, ◌≡◌, ◌⊎◌, inl, inr, ℕ, ◌<◌, ◌==◌, Bool, true, false, not, Option, Some, None, List, [], ◌∷◌, ◌++◌, length, map, refl, sym, ap, ◌∙◌, subst}
-use Rattle.std.specs.Prelude.{◌&&◌, ◌||◌, nat_lt}
+use Rattle.std.proofs.Common.{arith, ◌≡◌, ◌⊎◌, inl, inr, ℕ, ◌<◌, ◌==◌, Bool, true, false, Some, List, [], ◌∷◌, map, refl, sym, ap, ◌∙◌, subst}
+use Rattle.std.specs.Prelude.{◌&&◌, nat_lt}
 use Rattle.std.specs.Char.{to_ascii_lowercase}
 use Rattle.std.proofs.lemmas.Bool.Decides.{nat_tests, Decides-eqb}
 use Rattle.wt_span.specs.Bytes.{is_blank}
@@ -10,13 +10,11 @@ use Rattle.wt_guards.specs.declared.role.Role.TheVariants.{Link, External, Bare,
 use Rattle.wt_guards.specs.Content.{Thing}
 use Rattle.wt_guards.specs.Table.{line_start_hazard}
 use Rattle.wt_spelling_laws.proofs.TextKinds.{OpensText, opens_text}
-use Rattle.wt_expand.specs.PageItems.{page_items}
-use Rattle.wt_tiles.specs.declared.glyph.Glyph.{Glyph}
 use Rattle.wt_tiles.specs.declared.glyph.Glyph.TheVariants as glyph
 use Rattle.wt_tiles.specs.Glyphs.{glyph_of, byte_glyphs}
 use Rattle.wt_lines.specs.Lines.{IsUnbroken}
 use Rattle.wt_text_edit_laws.specs.LonePages.{page_chars}
-use Rattle.wt_beside_laws.specs.Called.{is_word_byte, AreWordBytes, BeginsVisible, AreWords, IsOwnNode, IsGivenAs}
+use Rattle.wt_beside_laws.specs.Called.{is_word_byte, AreWordBytes, AreWords, IsOwnNode, IsGivenAs}
 use Rattle.wt_beside_laws.specs.Cuts.{own_glyphs}
 use Rattle.wt_beside_laws.specs.Kept.{is_firm, AreFirm}
 use Rattle.wt_beside_laws.proofs.Firm.{alone_as, firm_read}
