@@ -27,7 +27,7 @@ own_rows xs b h =
     ∙ rows_text 0 b.first b.others [] b.unled (subst (λ (ms : List (List Item)). All (IsLineOfText 0) (map content ms)) b.are_lines all)
     ∙ append-nil (paragraph_rows b.first b.others)
 
-own_meaning : (xs : List Item) → OwnBreaks xs → marks_len xs ≡ 0 → All (IsLineOfText 0) (lines xs) → meaning xs ≡ body_with (para_with (joined_parts (lines xs)) ∷ [])
+pub own_meaning : (xs : List Item) → OwnBreaks xs → marks_len xs ≡ 0 → All (IsLineOfText 0) (lines xs) → meaning xs ≡ body_with (para_with (joined_parts (lines xs)) ∷ [])
 unfolding meaning blocks
 own_meaning xs o u h =
     let b : IsLineBlock xs = line_block xs u h in
