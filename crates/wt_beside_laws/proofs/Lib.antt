@@ -59,6 +59,7 @@ pub mod CalmContents
 pub mod FlatLines
 pub mod PlainContents
 pub mod Edits
+pub mod Groups
 pub mod Made
 pub mod Marks
 pub mod Styled
