@@ -15,6 +15,7 @@ pub mod Parts
 pub mod TypedHeadings
 pub mod ParagraphParts
 pub mod TextBlocks
+pub mod ReadContents
 pub mod Contents
 pub mod BlockSpots
 pub mod BlockEdits
