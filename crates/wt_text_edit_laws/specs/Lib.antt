@@ -20,3 +20,4 @@ pub mod BlockSpots
 pub mod BlockEdits
 pub mod UnmarkedBlocks
 pub mod OwnNodes
+pub mod PageCuts
