@@ -60,3 +60,4 @@ pub mod PlainContents
 pub mod Edits
 pub mod Made
 pub mod Styled
+pub mod Derived

@@ -1,5 +1,5 @@
 -- Where every lexeme of a front is the same alone, what begins in the front ends in it, or is a tag that nothing in the text closes.
-use Rattle.std.proofs.Common.{arith, ◌≡◌, ◌⊎◌, inl, inr, ℕ, zero, suc, ◌+◌, ◌-◌, ◌<◌, ◌≤◌, ◌==◌, Bool, true, false, Option, Some, None, List, [], ◌∷◌, ◌++◌, length, get_or, take, drop, nat_lt, refl, sym, ap, ◌∙◌, subst, length-append, length-take, length-drop, codes}
+use Rattle.std.proofs.Common.{arith, ◌≡◌, ◌⊎◌, inl, inr, ℕ, zero, suc, ◌+◌, ◌-◌, ◌<◌, ◌≤◌, ◌==◌, Bool, true, false, Option, Some, None, List, [], ◌∷◌, ◌++◌, length, get_or, take, drop, nat_lt, refl, sym, ap, ◌∙◌, subst, append-nil, length-append, length-take, length-drop, codes}
 use Rattle.std.specs.Prelude.{◌&&◌, ◌||◌, not, is_some, if◌then◌else◌, slice_index}
 use Rattle.std.specs.Option.{option_map, option_or, unwrap_or}
 use Rattle.std.specs.List.{prefix_len}
@@ -21,9 +21,10 @@ use Rattle.wt_lex.proofs.Fronts.{drop_front, begins_more, begins_front, byte_fro
 use Rattle.wt_lex.proofs.TagForms.{OptTag, opening_fits}
 use Rattle.wt_lex.proofs.WholeTags.{inside_front}
 use Rattle.wt_scans.specs.Lexer.{lexer}
-use Rattle.wt_scans.specs.Scans.{AtStarts, Settles}
+use Rattle.wt_scans.specs.Scans.{skipped_by, AtStarts, Settles}
 use Rattle.wt_scans.proofs.Joins.{starts_more}
 use Rattle.wt_spelling_laws.specs.Reading.{stands}
+use Rattle.wt_spelling_laws.proofs.Forms.{comment_other, other_byte}
 use Rattle.wt_text_edit_laws.specs.TextBetween.{ends_comment, ends_tag_before, ends_before, HasEndsBefore}
 use Rattle.wt_text_edit_laws.proofs.Prose.Uncommented.{BeginsUncommented, uncommented_other, either_flag}
 use Rattle.wt_text_edit_laws.proofs.Between.LineRemarks.{comment_form}
@@ -37,10 +38,10 @@ nothing_through w c cs some = by (begins w (c ∷ cs))
     by true = some
     by false = omega arith
 
-found_up_to : (w xs rest : List ℕ) → 1 ≤ length w → 0 < length rest → through w (xs ++ rest) ≤ length xs → stands w xs ≡ true
-found_up_to w [] [] some more le = absurd (omega (arith, more))
-found_up_to w [] (c ∷ cs) some more le = let one = nothing_through w c cs some in absurd (omega (arith, one, le))
-found_up_to w (x ∷ xs) rest some more le = by (begins w ((x ∷ xs) ++ rest)) refl le (λ f. found_up_to w xs rest some more f)
+found_up_to : (w xs rest : List ℕ) → 1 ≤ length w → through w (xs ++ rest) < length (xs ++ rest) → through w (xs ++ rest) ≤ length xs → stands w xs ≡ true
+found_up_to w [] [] some lt le = absurd (omega (arith, lt))
+found_up_to w [] (c ∷ cs) some lt le = let one = nothing_through w c cs some in absurd (omega (arith, one, le))
+found_up_to w (x ∷ xs) rest some lt le = by (begins w ((x ∷ xs) ++ rest)) refl lt le (λ f g. found_up_to w xs rest some f g)
   where
     here : (u v : Bool) → u ≡ true → (u || v) ≡ true
     here true v e = refl
@@ -50,13 +51,14 @@ found_up_to w (x ∷ xs) rest some more le = by (begins w ((x ∷ xs) ++ rest)) 
     later true v e = refl
     later false v e = e
 
-    by : (t : Bool) → begins w ((x ∷ xs) ++ rest) ≡ t → (if t then length w else 1 + through w (xs ++ rest)) ≤ suc (length xs)
-        → (through w (xs ++ rest) ≤ length xs → stands w xs ≡ true) → (begins w (x ∷ xs) || stands w xs) ≡ true
-    by true e le f =
+    by : (t : Bool) → begins w ((x ∷ xs) ++ rest) ≡ t → (if t then length w else 1 + through w (xs ++ rest)) < suc (length (xs ++ rest))
+        → (if t then length w else 1 + through w (xs ++ rest)) ≤ suc (length xs)
+        → (through w (xs ++ rest) < length (xs ++ rest) → through w (xs ++ rest) ≤ length xs → stands w xs ≡ true) → (begins w (x ∷ xs) || stands w xs) ≡ true
+    by true e lt le f =
         let front : begins w (take (length (x ∷ xs)) ((x ∷ xs) ++ rest)) ≡ true = begins_front w ((x ∷ xs) ++ rest) (length (x ∷ xs)) le e in
         let own : begins w (x ∷ xs) ≡ true = sym (ap (begins w) (take-append_seam (x ∷ xs) rest)) ∙ front in
         here (begins w (x ∷ xs)) (stands w xs) own
-    by false e le f = later (begins w (x ∷ xs)) (stands w xs) (f (omega (arith, le)))
+    by false e lt le f = later (begins w (x ∷ xs)) (stands w xs) (f (omega (arith, lt)) (omega (arith, le)))
 
 -- ---- comments
 
@@ -126,22 +128,27 @@ no_form_here a b bs c e f = by (comment_line_word a (b ∷ bs)) f
         let others : Option Word = option_or (as_word Raw (raw_len (b ∷ bs))) (option_or (include_at Page (b ∷ bs)) (option_or (entity_word (entity_at (b ∷ bs))) (sign_word (b ∷ bs)))) in
         let h : Some (Comment, c) ≡ None = sym (ap (λ o. option_or (as_word Comment o) others) e) ∙ g in cc
 
+-- and what begins there doesn't go on to the text's end
+abbrev IsShortAt : Bool → List ℕ → List ℕ → Type 0
+IsShortAt a xs rest = (w : Word) → form_at Page a (xs ++ rest) ≡ Some w → w.1 < length (xs ++ rest)
+
 -- a form that is the same in the front lies in it
 form_short : (a : Bool) (b : ℕ) (q rest : List ℕ) (w : Word) → IsSame a (b ∷ q) rest → form_at Page a ((b ∷ q) ++ rest) ≡ Some w → w.1 ≤ length (b ∷ q)
 form_short a b q rest w same e = let fits = form_fits Page a (b ∷ q) w (sym same ∙ e) in fits.within
 
-comment_ended : (a : Bool) (b : ℕ) (q rest : List ℕ) → 0 < length rest → IsSame a (b ∷ q) rest → ends_comment (b ∷ q) ≡ true
+comment_ended : (a : Bool) (b : ℕ) (q rest : List ℕ) → IsShortAt a (b ∷ q) rest → IsSame a (b ∷ q) rest → ends_comment (b ∷ q) ≡ true
 comment_ended a b q rest more same = by (begins (codes "<!--") xs) refl
   where
     xs : List ℕ
     xs = b ∷ q
 
-    sized : (o : Option Word) → form_at Page a (xs ++ rest) ≡ o → (c : ℕ) → comment_len (xs ++ rest) ≡ Some c → c ≤ length xs
+    sized : (o : Option Word) → form_at Page a (xs ++ rest) ≡ o → (c : ℕ) → comment_len (xs ++ rest) ≡ Some c → (c ≤ length xs) × (c < length (xs ++ rest))
     sized None f c e = absurd (no_form_here a b (q ++ rest) c e f)
     sized (Some w) f c e =
         let long = comment_first a b (q ++ rest) c w e f in
         let short = form_short a b q rest w same f in
-        omega (arith, long, short)
+        let less = more w f in
+        (omega (arith, long, short), omega (arith, long, less))
 
     by : (t : Bool) → begins (codes "<!--") xs ≡ t → (if t then stands (codes "-->") (drop 4 xs) else true) ≡ true
     by false e = refl
@@ -151,7 +158,9 @@ comment_ended a b q rest more same = by (begins (codes "<!--") xs) refl
         let size = sized (form_at Page a (xs ++ rest)) refl (4 + through (codes "-->") (drop 4 (xs ++ rest))) (comment_here (xs ++ rest) all) in
         let cut : drop 4 (xs ++ rest) ≡ drop 4 xs ++ rest = drop-append-le 4 xs rest four in
         let there : through (codes "-->") (drop 4 (xs ++ rest)) ≡ through (codes "-->") (drop 4 xs ++ rest) = ap (through (codes "-->")) cut in
-        found_up_to (codes "-->") (drop 4 xs) rest (omega arith) more (omega (arith, size, there, length-drop 4 xs))
+        let all_size = ap length cut in
+        found_up_to (codes "-->") (drop 4 xs) rest (omega arith) (omega (arith, size.1, there, all_size, length-drop 4 (xs ++ rest)))
+        (omega (arith, size.0, there, length-drop 4 xs))
 
 -- ---- an opening tag of a front is one of the text
 
@@ -278,8 +287,8 @@ tag_form a bs t e = flagged ∙ plain
     flagged : form_at Page a bs ≡ form_at Page false bs
     flagged = either_flag Page a bs (begins_so bs e none)
 
-    plain : form_at Page false bs ≡ option_or (as_word Raw (raw_by is_raw_name (Some t) bs)) (option_or (option_or (opening_include Page (Some t) bs) (closing_include Page (closing_tag bs)))
-    (option_or (entity_word (entity_at bs)) (sign_word bs)))
+    plain : form_at Page false bs ≡ option_or (as_word Raw (raw_by is_raw_name (Some t) bs))
+        (option_or (option_or (opening_include Page (Some t) bs) (closing_include Page (closing_tag bs))) (option_or (entity_word (entity_at bs)) (sign_word bs)))
     plain =
         ap (λ o. option_or (as_word Comment o) (option_or (as_word Raw (raw_by is_raw_name (opening_tag bs) bs))
         (option_or (option_or (opening_include Page (opening_tag bs) bs) (closing_include Page (closing_tag bs))) (option_or (entity_word (entity_at bs)) (sign_word bs))))) none
@@ -349,7 +358,7 @@ found_here a b q rest t n same e named f =
         omega (arith, z, short)
 
 -- a hidden part that nothing ends goes on to the end
-not_hidden : (a : Bool) (b : ℕ) (q rest : List ℕ) (t : Tag) → 0 < length rest → IsSame a (b ∷ q) rest → opening_tag ((b ∷ q) ++ rest) ≡ Some t
+not_hidden : (a : Bool) (b : ℕ) (q rest : List ℕ) (t : Tag) → IsShortAt a (b ∷ q) rest → IsSame a (b ∷ q) rest → opening_tag ((b ∷ q) ++ rest) ≡ Some t
     → with_inside t ((b ∷ q) ++ rest) ≡ None → hides Page t.name ≡ false
 not_hidden a b q rest t more same e f = by (hides Page t.name) (whole_form a whole t None e f)
   where
@@ -362,8 +371,8 @@ not_hidden a b q rest t more same e f = by (hides Page t.name) (whole_form a who
     goes_on (Some w) g is =
         let z : length whole ≡ w.1 =
         form_hidden (is_raw_name t.name) (is_left_out Page t.name) t (length whole) (behind_tags whole) (closing_include Page (closing_tag whole)) w (sym is ∙ g) in
-        let short = form_short a b q rest w same g in
-        omega (arith, z, short, more, length-append (b ∷ q) rest)
+        let less = more w g in
+        omega (arith, z, less)
     goes_on None g is = none (is_raw_name t.name) (is_left_out Page t.name) (closing_include Page (closing_tag whole)) (sym is ∙ g)
       where
         none : (raw left : Bool) (o : Option Word) → option_or (as_word Raw (if raw then None else None))
@@ -377,7 +386,7 @@ not_hidden a b q rest t more same e f = by (hides Page t.name) (whole_form a who
     by false is = refl
     by true is = absurd (goes_on (form_at Page a whole) refl is)
 
-tag_ended : (a : Bool) (b : ℕ) (q rest : List ℕ) (o : Option Tag) → 0 < length rest → IsSame a (b ∷ q) rest → opening_tag (b ∷ q) ≡ o
+tag_ended : (a : Bool) (b : ℕ) (q rest : List ℕ) (o : Option Tag) → IsShortAt a (b ∷ q) rest → IsSame a (b ∷ q) rest → opening_tag (b ∷ q) ≡ o
     → ends_tag_before rest o (b ∷ q) ≡ true
 tag_ended a b q rest None more same e = refl
 tag_ended a b q rest (Some t) more same e = by (is_raw_name t.name || hides Page t.name) refl
@@ -424,13 +433,57 @@ nothing_open : (rest : List ℕ) → ends_before rest [] ≡ true
 unfolding opening_tag
 nothing_open rest = refl
 
-ends_here : (rest : List ℕ) → 0 < length rest → (a : Bool) (xs : List ℕ) → IsSame a xs rest → ends_before rest xs ≡ true
-ends_here rest more a [] same = nothing_open rest
-ends_here rest more a (b ∷ q) same =
+ends_here : (rest : List ℕ) (a : Bool) (b : ℕ) (q : List ℕ) → IsShortAt a (b ∷ q) rest → IsSame a (b ∷ q) rest → ends_before rest (b ∷ q) ≡ true
+ends_here rest a b q more same =
     and_both (ends_comment (b ∷ q)) (ends_tag_before rest (opening_tag (b ∷ q)) (b ∷ q)) (comment_ended a b q rest more same)
     (tag_ended a b q rest (opening_tag (b ∷ q)) more same refl)
+
+short_by : (a : Bool) (b : ℕ) (q rest : List ℕ) → 0 < length rest → IsSame a (b ∷ q) rest → IsShortAt a (b ∷ q) rest
+short_by a b q rest more same = λ w e. let short = form_short a b q rest w same e in omega (arith, short, more, length-append (b ∷ q) rest)
+
+each_ends : (rest : List ℕ) → 0 < length rest → (a : Bool) (xs : List ℕ) → IsSame a xs rest → ends_before rest xs ≡ true
+each_ends rest more a [] same = nothing_open rest
+each_ends rest more a (b ∷ q) same = ends_here rest a b q (short_by a b q rest more same) same
 
 pub settled_ends : (q rest : List ℕ) → 0 < length rest → Settles (lexer Page) rest false 0 q → HasEndsBefore rest q
 settled_ends q rest more h =
     starts_more (lexer Page) (λ a xs. form_at Page a (xs ++ rest) ≡ form_at Page a xs) (λ a xs. ends_before rest xs ≡ true) false 0 q
-    (λ a xs same. ends_here rest more a xs same) h
+    (λ a xs same. each_ends rest more a xs same) h
+
+-- ---- of a line with which the text ends
+
+break_form : (a : Bool) → form_at Page a (10 ∷ []) ≡ None
+break_form a =
+    either_flag Page a (10 ∷ []) (uncommented_other 10 [] refl (comment_other 10 [] (omega arith))) ∙ other_byte Page 10 [] refl
+
+break_ends : ends_before [] (10 ∷ []) ≡ true
+unfolding opening_tag
+break_ends = refl
+
+line_ends : (a : Bool) (b : ℕ) (q : List ℕ) → IsSame a (b ∷ q) (10 ∷ []) → ends_before [] ((b ∷ q) ++ 10 ∷ []) ≡ true
+line_ends a b q same = ends_here [] a b (q ++ 10 ∷ []) less whole
+  where
+    line : List ℕ
+    line = (b ∷ q) ++ 10 ∷ []
+
+    whole : IsSame a line []
+    whole = ap (form_at Page a) (append-nil line)
+
+    less : IsShortAt a line []
+    less w e =
+        let here : form_at Page a line ≡ Some w = sym whole ∙ e in
+        let short = form_short a b q (10 ∷ []) w same here in
+        let size = ap length (append-nil line) in
+        omega (arith, short, size, length-append (b ∷ q) (10 ∷ []))
+
+line_starts : (q : List ℕ) (a : Bool) (n : ℕ) → Settles (lexer Page) (10 ∷ []) a n q
+    → AtStarts (lexer Page) (λ after here. ends_before [] here ≡ true) a n (q ++ 10 ∷ [])
+line_starts [] a zero h = (break_ends, ap (skipped_by (lexer Page)) (break_form a))
+line_starts [] a (suc n) h = absurd (omega (arith, h))
+line_starts (b ∷ q) a (suc n) h = line_starts q (is_break b) n h
+line_starts (b ∷ q) a zero h =
+    let P : ℕ → Type 0 = λ n. AtStarts (lexer Page) (λ after here. ends_before [] here ≡ true) (is_break b) n (q ++ 10 ∷ []) in
+    (line_ends a b q h.0, subst P (sym (ap (skipped_by (lexer Page)) h.0)) (line_starts q (is_break b) (skipped_by (lexer Page) (form_at Page a (b ∷ q))) h.1))
+
+pub line_settled : (q : List ℕ) → Settles (lexer Page) (10 ∷ []) false 0 q → HasEndsBefore [] (q ++ 10 ∷ [])
+line_settled q h = line_starts q false 0 h

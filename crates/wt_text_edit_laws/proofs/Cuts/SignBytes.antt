@@ -97,7 +97,7 @@ run_signs kind byte bs f h =
 two_signs : (byte : ℕ) (bs : List ℕ) → begins (byte ∷ byte ∷ []) bs ≡ true → is_sign_byte byte ≡ true → AreSigns (take 2 bs)
 two_signs byte bs e h =
     let t : HasTwo byte bs = two_braces byte bs e in
-    subst (λ (xs : List ℕ). AreSigns (take 2 xs)) (sym t.1) (h, h, tt)
+    subst (λ (xs : List ℕ). AreSigns (take 2 xs)) (sym t.1) (h, (h, tt))
 
 one_sign : (byte : ℕ) (bs : List ℕ) → begins (byte ∷ []) bs ≡ true → is_sign_byte byte ≡ true → AreSigns (take 1 bs)
 one_sign byte [] e h = let le = begins_len (byte ∷ []) [] e in absurd (omega (arith, le))
