@@ -2,3 +2,4 @@
 pub mod NodesHave
 pub mod BlockContents
 pub mod CutPages
+mod Cases

@@ -20,7 +20,7 @@ use Rattle.wt_scans.specs.Lexer.{lexer}
 use Rattle.wt_scans.specs.Scans.{after_all, skipped_by, AtStarts, Settles, IsFrontOf}
 use Rattle.wt_scans.proofs.LexemeFronts.{lexemes_front}
 use Rattle.wt_text_edit_laws.specs.LonePages.{page_chars}
-use Rattle.wt_text_edit_laws.specs.TextBetween.{EndsBy}
+use Rattle.wt_text_edit_laws.specs.TextBetween.{EndsBy, StandsBehind}
 use Rattle.wt_text_edit_laws.proofs.Prose.Uncommented.{BeginsUncommented}
 use Rattle.wt_text_edit_laws.proofs.Between.Fronts.{ReadsAfter, first_items, page_read, items_from, first_from, byte_from, form_from, reads_either}
 use Rattle.wt_text_edit_laws.proofs.Between.LineComments.{ends_behind}
@@ -394,3 +394,6 @@ pub behind_alone : (q rest : List ℕ) (ys zs : List Item) → BeginsUncommented
     → page_items rest ≡ zs
 behind_alone q rest ys zs u e is =
     let c = page_cut q rest ys zs e is in alone_after (after_all (lexer Page) false q) rest zs u c.behind
+
+pub behind_stands : (q rest : List ℕ) (ys zs : List Item) → page_items (q ++ rest) ≡ ys ++ zs → sources ys ≡ q → StandsBehind rest → page_items rest ≡ zs
+behind_stands q rest ys zs e is s = behind_alone q rest ys zs (record { is = s.uncommented }) e is

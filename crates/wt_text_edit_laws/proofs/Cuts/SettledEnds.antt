@@ -126,7 +126,7 @@ no_form_here a b bs c e f = by (comment_line_word a (b ∷ bs)) f
     by (Some w) g = cc
     by None g =
         let others : Option Word = option_or (as_word Raw (raw_len (b ∷ bs))) (option_or (include_at Page (b ∷ bs)) (option_or (entity_word (entity_at (b ∷ bs))) (sign_word (b ∷ bs)))) in
-        let h : Some (Comment, c) ≡ None = sym (ap (λ o. option_or (as_word Comment o) others) e) ∙ g in cc
+        let h : ◌≡◌ {A = Option Word} (Some (Comment, c)) None = sym (ap (λ o. option_or (as_word Comment o) others) e) ∙ g in cc
 
 -- and what begins there doesn't go on to the text's end
 abbrev IsShortAt : Bool → List ℕ → List ℕ → Type 0
