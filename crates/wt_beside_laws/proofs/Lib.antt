@@ -59,5 +59,6 @@ pub mod FlatLines
 pub mod PlainContents
 pub mod Edits
 pub mod Made
+pub mod Marks
 pub mod Styled
 pub mod Derived
