@@ -17,7 +17,6 @@ use Rattle.wt_annotated.specs.GroupData.{group_data}
 use Rattle.wt_annotated.specs.Labels.{label_at}
 use Rattle.wt_annotated.specs.WithoutCalls.{inside_by, holds_page, InsideOf, NoneEmpty, AllNonEmpty, IsPlain}
 use Rattle.wt_annotated.proofs.NoGroups.{only_plain}
-
 use Rattle.wt_expand.specs.PageItems.{page_items}
 use Rattle.wt_moved_laws.specs.Standing.{IsOrdinary, AreOrdinary}
 use Rattle.wt_called_trees.specs.Rounded.{HasItems, AllHaveItems}

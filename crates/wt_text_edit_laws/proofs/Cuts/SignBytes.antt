@@ -37,18 +37,18 @@ each_sign : (P : ℕ → Type 0) → P 123 → P 125 → P 91 → P 93 → P 124
 each_sign P p q r s t u b h = elim (either (b == 123) (b == 125 || (b == 91 || (b == 93 || (b == 124 || b == 61)))) h) [
   | inl e ↦ subst P (sym (eqb-true b 123 e)) p
   | inr h ↦ elim (either (b == 125) (b == 91 || (b == 93 || (b == 124 || b == 61))) h) [
-      | inl e ↦ subst P (sym (eqb-true b 125 e)) q
-      | inr h ↦ elim (either (b == 91) (b == 93 || (b == 124 || b == 61)) h) [
-          | inl e ↦ subst P (sym (eqb-true b 91 e)) r
-          | inr h ↦ elim (either (b == 93) (b == 124 || b == 61) h) [
-              | inl e ↦ subst P (sym (eqb-true b 93 e)) s
-              | inr h ↦ elim (either (b == 124) (b == 61) h) [
-                  | inl e ↦ subst P (sym (eqb-true b 124 e)) t
-                  | inr e ↦ subst P (sym (eqb-true b 61 e)) u
-                ]
-            ]
+    | inl e ↦ subst P (sym (eqb-true b 125 e)) q
+    | inr h ↦ elim (either (b == 91) (b == 93 || (b == 124 || b == 61)) h) [
+      | inl e ↦ subst P (sym (eqb-true b 91 e)) r
+      | inr h ↦ elim (either (b == 93) (b == 124 || b == 61) h) [
+        | inl e ↦ subst P (sym (eqb-true b 93 e)) s
+        | inr h ↦ elim (either (b == 124) (b == 61) h) [
+          | inl e ↦ subst P (sym (eqb-true b 124 e)) t
+          | inr e ↦ subst P (sym (eqb-true b 61 e)) u
         ]
+      ]
     ]
+  ]
 ]
 
 -- ---- signs as words
