@@ -63,3 +63,4 @@ pub mod Groups
 pub mod Made
 pub mod Marks
 pub mod Styled
+pub mod Derived
