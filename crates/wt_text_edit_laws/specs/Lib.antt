@@ -7,6 +7,7 @@ pub mod ProsePages
 pub mod ProseTrees
 pub mod ProseEdits
 pub mod ProseUnmarked
+pub mod ProseChanges
 pub mod NoCalls
 pub mod TextBetween
 pub mod ParagraphBetween

@@ -45,6 +45,7 @@ ghost use Rattle.wt_text_edit_laws.specs.ProsePages.{Passage, prose, AreProse, I
 ghost use Rattle.wt_text_edit_laws.specs.ProseTrees.{prose_page};
 ghost use Rattle.wt_text_edit_laws.specs.ProseUnmarked.{unmarked_prose, IsUnmarkedEdit};
 ghost use Rattle.wt_text_edit_laws.specs.ProseEdits.{PassageEdit, old_passages, new_passages, sent_prose, IsProseEdit};
+ghost use Rattle.wt_text_edit_laws.specs.ProseChanges.{ProseChange, passages_before, changed_prose, passages_changed, IsProseChange};
 ghost use Rattle.wt_text_edit_laws.specs.NoCalls.{CallsNothing};
 ghost use Rattle.wt_text_edit_laws.specs.TextBetween.{AreWholeLines, AreEnded, HasEndsBefore, BeginsShown, StandsBefore, StandsBehind};
 ghost use Rattle.wt_text_edit_laws.specs.Paragraphs.{IsParagraph};
@@ -194,6 +195,29 @@ pub fn unmarked_prose_is_taken()
         → IsUnmarkedEdit es → stands ≡ Some (prose (old_passages es)) → length (prose (old_passages es)) ≤ PAGE_BYTES
         → length (prose (new_passages es)) ≤ PAGE_BYTES → length input ≤ HTML_BYTES
         → read input ≡ as_page (unmarked_prose b es) unsourced → DoneByEdit pages stands input }
+{}
+
+/// Paragraphs come into prose and go from it: an edit that sends the body marked `children`, some of its paragraphs as
+/// they are, in their order, and any number of new ones with any texts before, between and after these, is done, unless
+/// the new page is longer than a page may be. In the new page two line breaks are before each new paragraph, and so many
+/// as the page had, or one more, after those that are side by side; what isn't sent is gone, but for the line breaks
+/// after it; and every other byte is what it was. Asked is that the new page begins with a paragraph: the first one stays,
+/// or a new one is before it. So it is, too, for each input that is read as such a tree, and so the command `edit`
+/// answers, over a folder that has the page. The new page is prose again.
+#[tactic(auto, using(crate::proofs::Prose::ChangesTaken::takes_changes, crate::proofs::Prose::ChangesTaken::edit_takes_changes, crate::proofs::Prose::ChangesTaken::command_takes_changes, crate::proofs::Prose::ChangesTaken::changed_again))]
+pub fn paragraphs_come_and_go()
+    ensures tree { (pages : Pages) (c : ProseChange) (b : Label) → IsProseChange c → length (prose (passages_changed c)) ≤ PAGE_BYTES
+        → edit_to pages (prose (passages_before c.changes)) (changed_prose b c) ≡ done (prose (passages_changed c)) }
+    ensures edit { (pages : Pages) (c : ProseChange) (input : List ℕ) (b : Label) (unsourced : Option ℕ) → IsProseChange c
+        → length (prose (passages_before c.changes)) ≤ PAGE_BYTES → length (prose (passages_changed c)) ≤ PAGE_BYTES
+        → length input ≤ HTML_BYTES → read input ≡ as_page (changed_prose b c) unsourced
+        → edit_of pages (Some (prose (passages_before c.changes))) input ≡ done (prose (passages_changed c)) }
+    ensures command { (pages : Pages) (c : ProseChange) (words : List (List ℕ)) (title input : List ℕ) (b : Label) (unsourced : Option ℕ)
+        → command_of words ≡ Some (Edit title) → pages title ≡ Some (prose (passages_before c.changes)) → IsProseChange c
+        → length (prose (passages_before c.changes)) ≤ PAGE_BYTES → length (prose (passages_changed c)) ≤ PAGE_BYTES
+        → length input ≤ HTML_BYTES → read input ≡ as_page (changed_prose b c) unsourced
+        → answer_told (Some pages) (Some input) words ≡ Some (done (prose (passages_changed c))) }
+    ensures again { (c : ProseChange) → IsProseChange c → IsProsePage (prose (passages_changed c)) }
 {}
 
 // ---- braces that make no call
