@@ -4,3 +4,4 @@ pub mod Between
 pub mod Paragraphs
 pub mod Headings
 pub mod Blocks
+pub mod PlainGroups

@@ -9,6 +9,7 @@ pub mod ProseEdits
 pub mod ProseUnmarked
 pub mod ProseChanges
 pub mod NoCalls
+pub mod PlainGroups
 pub mod TextBetween
 pub mod ParagraphBetween
 pub mod Paragraphs
