@@ -53,7 +53,7 @@ nodes : (page : Page) (i j : ℕ) (v w : Bool) (cs : Coming) → AllStay cs → 
 nodes page i j v w no_more h f it = tt
 nodes page i j v w (spaced x cs) h f it = (λ a b. absurd (cc), nodes page i j v w cs h f it)
 nodes page i j v w (comes k x [] cs) h f it = (λ a b. absurd (cc), nodes page i j v w cs h f it)
-nodes page i j v w (comes k x (c ∷ bs) cs) h f it = (λ a b. absurd (cc), λ a b. absurd (cc), nodes page i j v w cs h f it)
+nodes page i j v w (comes k x (c ∷ bs) cs) h f it = (λ a b. absurd (cc), (λ a b. absurd (cc), nodes page i j v w cs h f it))
 nodes page i j v w (stays t u cs) h f it =
     let d = or_false (has_frame t) (have_frame (page_children cs)) f in
     let s = each_split (Itself page) (placed i v t) (all_placed i v (page_children cs)) it in
@@ -69,7 +69,7 @@ groups : (page : Page) (i j : ℕ) (v w : Bool) (cs : Coming) → AllStay cs →
 groups page i j v w no_more h it = tt
 groups page i j v w (spaced x cs) h it = (λ k. absurd (cc), groups page i j v w cs h it)
 groups page i j v w (comes m x [] cs) h it = (λ k. absurd (cc), groups page i j v w cs h it)
-groups page i j v w (comes m x (c ∷ bs) cs) h it = (λ k. absurd (cc), λ k. absurd (cc), groups page i j v w cs h it)
+groups page i j v w (comes m x (c ∷ bs) cs) h it = (λ k. absurd (cc), (λ k. absurd (cc), groups page i j v w cs h it))
 groups page i j v w (stays t u cs) h it =
     let s = each_split (Itself page) (placed i v t) (all_placed i v (page_children cs)) it in
     each_join (GroupKept false page) (placed j w u) (all_placed j w (sent_children cs)) (groups_kept page i j v w t u h.0.as_is s.0)
@@ -81,7 +81,7 @@ marked_so : (page : Page) (j : ℕ) (cs : Coming) → AllStay cs → AllByRecurs
 marked_so page j no_more h = tt
 marked_so page j (spaced x cs) h = (λ e. absurd (cc), marked_so page j cs h)
 marked_so page j (comes m x [] cs) h = (λ e. absurd (cc), marked_so page j cs h)
-marked_so page j (comes m x (c ∷ bs) cs) h = (λ e. absurd (cc), λ e. absurd (cc), marked_so page j cs h)
+marked_so page j (comes m x (c ∷ bs) cs) h = (λ e. absurd (cc), (λ e. absurd (cc), marked_so page j cs h))
 marked_so page j (stays t u cs) h =
     each_join (MarkKept page) (placed j false u) (all_placed j false (sent_children cs)) (marks_none page j false u (no_mark t u h.0.as_is))
     (marked_so page j cs h.1)

@@ -13,8 +13,9 @@ use Rattle.wt_typed_blocks.proofs.ComingPasses.{same_number, same_space}
 
 -- a block that is sent with its number: it is sought among the page's nodes
 abbrev sought : Tree → Trees → Trees → List Step
-sought u ts us = passed_up_to holder.Body (label u).id ts
-++ (kept_first (from_number (label u).id ts) u ++ steps holder.Body (behind_first (from_number (label u).id ts)) us)
+sought u ts us =
+    passed_up_to holder.Body (label u).id ts
+    ++ (kept_first (from_number (label u).id ts) u ++ steps holder.Body (behind_first (from_number (label u).id ts)) us)
 
 is_sought : (u : Tree) (ts us : Trees) → is_space (label u).kind ≡ false → ((label u).id == 0) ≡ false
     → steps holder.Body ts (more u us) ≡ sought u ts us
