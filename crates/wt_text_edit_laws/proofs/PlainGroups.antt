@@ -49,6 +49,7 @@ use Rattle.wt_isolation.specs.Toggles as toggles
 use Rattle.wt_isolation.specs.Toggles.{is_quote, quote_runs, tile_runs, runs_of, switches_italic, switches_bold, are_odd, is_odd_line, has_odd_line}
 use Rattle.wt_selser.specs.Edits.{is_tangled}
 use Rattle.wt_selser.specs.GroupFaults.{trees_in, shown_by, shown_alone, paragraph_face, one_paragraph, shows_other, is_faulty, faulty_at, has_faulty_group, is_faulty_node}
+use Rattle.wt_spelling_laws.proofs.TextKinds.{atom_opens, opens_kind}
 use Rattle.wt_text_edit_laws.specs.LonePages.{page_chars, page_of}
 use Rattle.wt_text_edit_laws.specs.PlainTexts.{is_plain}
 use Rattle.wt_text_edit_laws.specs.PlainGroups.{IsPlainLine, AreOneText, IsPlainGroup, HasPlainGroups, HavePlainGroups}
@@ -100,8 +101,7 @@ alone_lines o text e = ap (onto (whole form.Nowiki None nowiki ∷ [])) (given_l
 
 -- a line that begins with an atom is text
 atom_text : (ss : List ℕ) → kind_of_signs 0 (256 ∷ ss) ≡ line.Text
-unfolding kind_of_signs
-atom_text ss = refl
+atom_text ss = opens_kind 0 256 ss atom_opens
 
 all_text : (o : Option ℕ) (text : List ℕ) → has_break text ≡ false → All IsText (lines (alone o text))
 all_text o text e =
@@ -242,16 +242,18 @@ AreSmall ns = AllByRecursion (λ (n : ℕ). n ≤ 1) ns
 
 small_runs : (gs : List Glyph) (n : ℕ) → n ≤ 1 → (n ≡ 1 → first_quote gs ≡ false) → Apart gs → AreSmall (quote_runs n gs)
 small_runs [] n le f h = (le, tt)
-small_runs (g ∷ gs) n le f h = by (is_quote g) refl
+small_runs (g ∷ gs) n le f h =
+    by (is_quote g) refl (λ q. small_runs gs 1 (omega arith) (λ z. h.0 q) h.1) (small_runs gs 0 (omega arith) (λ z. absurd (omega (arith, z))) h.1)
   where
-    one : (m : ℕ) → m ≤ 1 → (m ≡ 1 → is_quote g ≡ false) → is_quote g ≡ true → AreSmall (quote_runs (suc m) gs)
-    one zero less e q = small_runs gs 1 (omega arith) (λ z. h.0 q) h.1
-    one (suc zero) less e q = let no : is_quote g ≡ false = e refl in absurd (cc)
-    one (suc (suc m)) less e q = absurd (omega (arith, less))
+    one : (m : ℕ) → m ≤ 1 → (m ≡ 1 → is_quote g ≡ false) → is_quote g ≡ true → AreSmall (quote_runs 1 gs) → AreSmall (quote_runs (suc m) gs)
+    one zero less e q k = k
+    one (suc zero) less e q k = let no : is_quote g ≡ false = e refl in absurd (cc)
+    one (suc (suc m)) less e q k = absurd (omega (arith, less))
 
-    by : (b : Bool) → is_quote g ≡ b → AreSmall (if b then quote_runs (suc n) gs else n ∷ quote_runs 0 gs)
-    by true q = one n le f q
-    by false q = (le, small_runs gs 0 (omega arith) (λ z. absurd (omega (arith, z))) h.1)
+    by : (b : Bool) → is_quote g ≡ b → (is_quote g ≡ true → AreSmall (quote_runs 1 gs)) → AreSmall (quote_runs 0 gs)
+        → AreSmall (if b then quote_runs (suc n) gs else n ∷ quote_runs 0 gs)
+    by true q k j = one n le f q (k q)
+    by false q k j = (le, j)
 
 small_joined : (ms ns : List ℕ) → AreSmall ms → AreSmall ns → AreSmall (ms ++ ns)
 small_joined [] ns h k = k

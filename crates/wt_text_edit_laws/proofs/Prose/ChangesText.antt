@@ -145,26 +145,31 @@ typed_first : (p : Passage) (ps : List Passage) → AreProse (p ∷ ps) → IsTy
 typed_first p [] h = h
 typed_first p (q ∷ ps) h = h.0
 
-mutual
-  -- with those that stay among these
-  after_follows : (c : PassageChange) (cs : List PassageChange) (b m : ℕ) → AreProse (passages_before (c ∷ cs)) → TakeTexts (c ∷ cs) → 2 ≤ b → 2 ≤ m
-      → Follows b m (passages_after (c ∷ cs))
-  after_follows (stays p u xs) cs b m h t le more = follows_so b m (passages_after (stays p u xs ∷ cs)) le more (after_prose p u xs cs h t)
-  after_follows (goes p) [] b m h t le more = tt
-  after_follows (goes p) (c ∷ cs) b m h t le more = after_follows c cs b m h.2 t le more
+-- one that stays, before others
+stays_prose : (p : Passage) (u : Tree) (xs : List Addition) (cs : List PassageChange) → AreProse (p ∷ passages_before cs) → TakeTexts (stays p u xs ∷ cs)
+    → ((b m : ℕ) → 2 ≤ b → 2 ≤ m → Follows b m (passages_after cs)) → AreProse (passages_after (stays p u xs ∷ cs))
+stays_prose p u xs [] h t g =
+    let left : ℕ = p.breaks + 0 in
+    new_prose p.paragraph (new_texts xs) left (0 + left) [] h t.0 tt
+stays_prose p u xs (c ∷ cs) h t g =
+    let left : ℕ = p.breaks + breaks_left (c ∷ cs) in
+    let behind : ℕ = one_if (any_stays (c ∷ cs)) + left in
+    let two : 2 ≤ p.breaks = h.1 in
+    let le : 2 ≤ left = omega (arith, two) in
+    let more : 2 ≤ behind = omega (arith, le) in
+    new_prose p.paragraph (new_texts xs) left behind (passages_after (c ∷ cs)) h.0 t.0 (g left behind le more)
 
-  after_prose : (p : Passage) (u : Tree) (xs : List Addition) (cs : List PassageChange) → AreProse (p ∷ passages_before cs) → TakeTexts (stays p u xs ∷ cs)
-      → AreProse (passages_after (stays p u xs ∷ cs))
-  after_prose p u xs [] h t =
-      let left : ℕ = p.breaks + 0 in
-      new_prose p.paragraph (new_texts xs) left (0 + left) [] h t.0 tt
-  after_prose p u xs (c ∷ cs) h t =
-      let left : ℕ = p.breaks + breaks_left (c ∷ cs) in
-      let behind : ℕ = one_if (any_stays (c ∷ cs)) + left in
-      let two : 2 ≤ p.breaks = h.1 in
-      let le : 2 ≤ left = omega (arith, two) in
-      let more : 2 ≤ behind = omega (arith, le) in
-      new_prose p.paragraph (new_texts xs) left behind (passages_after (c ∷ cs)) h.0 t.0 (after_follows c cs left behind h.2 t.1 le more)
+-- with those that stay among these
+after_follows : (cs : List PassageChange) (b m : ℕ) → AreRest cs → TakeTexts cs → 2 ≤ b → 2 ≤ m → Follows b m (passages_after cs)
+after_follows [] b m h t le more = tt
+after_follows (stays p u xs ∷ cs) b m h t le more =
+    follows_so b m (passages_after (stays p u xs ∷ cs)) le more
+    (stays_prose p u xs cs h t (λ a n less least. after_follows cs a n (rest_of p cs h) t.1 less least))
+after_follows (goes p ∷ cs) b m h t le more = after_follows cs b m (rest_of p cs h) t le more
+
+after_prose : (p : Passage) (u : Tree) (xs : List Addition) (cs : List PassageChange) → AreProse (p ∷ passages_before cs) → TakeTexts (stays p u xs ∷ cs)
+    → AreProse (passages_after (stays p u xs ∷ cs))
+after_prose p u xs cs h t = stays_prose p u xs cs h t (λ a n less least. after_follows cs a n (rest_of p cs h) t.1 less least)
 
 -- behind new ones at the page's start
 first_follows : (cs : List PassageChange) → AreProse (passages_before cs) → TakeTexts cs → Follows (breaks_before cs) (breaks_before cs) (passages_after cs)
@@ -177,7 +182,7 @@ first_follows (goes p ∷ c ∷ cs) h t =
     let two : 2 ≤ p.breaks = h.1 in
     let left : ℕ = breaks_left (c ∷ cs) in
     let le : 2 ≤ one_if (any_stays (c ∷ cs)) + (p.breaks + left) = omega (arith, two) in
-    after_follows c cs (one_if (any_stays (c ∷ cs)) + (p.breaks + left)) (one_if (any_stays (c ∷ cs)) + (p.breaks + left)) h.2 t le le
+    after_follows (c ∷ cs) (one_if (any_stays (c ∷ cs)) + (p.breaks + left)) (one_if (any_stays (c ∷ cs)) + (p.breaks + left)) h.2 t le le
 
 first_prose : (texts : List (List ℕ)) (cs : List PassageChange) → AreProse (passages_before cs) → AllByRecursion IsUtf8 texts → TakeTexts cs → BeginsSo texts cs
     → AreProse (new_first texts cs ++ passages_after cs)
