@@ -1,6 +1,6 @@
 -- A group of plain text has no fault: read alone it is one paragraph of this text, no apostrophe switches a style, and no text of it could go on.
-use Rattle.std.proofs.Common.{arith, ◌≡◌, ◌≢◌, ℕ, zero, suc, ◌+◌, ◌==◌, ◌≤◌, Bool, true, false, Option, Some, None, List, [], ◌∷◌, ◌++◌, map, take, drop, refl, sym, ap, ◌∙◌, subst, All}
-use Rattle.std.specs.Prelude.{◌&&◌, ◌||◌, ◌%◌, cond, codes, fold, count_by, is_some, if◌then◌else◌}
+use Rattle.std.proofs.Common.{arith, ◌≡◌, ℕ, zero, suc, ◌+◌, ◌==◌, ◌≤◌, Bool, true, false, Option, Some, None, List, [], ◌∷◌, ◌++◌, map, take, drop, refl, sym, ap, ◌∙◌, subst, All}
+use Rattle.std.specs.Prelude.{◌&&◌, ◌||◌, ◌%◌, cond, fold, count_by, is_some, if◌then◌else◌}
 use Rattle.std.specs.List.{list_all, list_any, flat_map, AllByRecursion}
 use Rattle.std.proofs.lemmas.List.Elements.{All-nil, All-cons}
 use Rattle.wt_tree.specs.declared.kind.Kind.{Kind}
@@ -35,15 +35,14 @@ use Rattle.wt_tiles.specs.Contexts.{in_line}
 use Rattle.wt_tiles.specs.Glyphs.{glyph_of, glyph_of_form}
 use Rattle.wt_tiles.specs.Tiles.{shapes, size}
 use Rattle.wt_checks.proofs.InOrder.{test_equal}
-use Rattle.wt_page.specs.Body.{meaning}
 use Rattle.wt_annotated.specs.Annotated.{all_unplaced}
 use Rattle.wt_annotated.specs.Labels.{label_at}
 use Rattle.wt_content.specs.Content.{has_break}
 use Rattle.wt_visible.specs.Children.{differing}
 use Rattle.wt_visible.proofs.DifferingLaws.{same_none}
-use Rattle.wt_isolation.specs.GroupItems.{empty_nowiki, items_alone}
+use Rattle.wt_isolation.specs.GroupItems.{empty_nowiki}
 use Rattle.wt_isolation.specs.OpenTags.{before, touches_open_tag}
-use Rattle.wt_isolation.specs.OpenTexts.{begins_bracket, holds_open, in_style, has_open_text, open_text_by}
+use Rattle.wt_isolation.specs.OpenTexts.{holds_open, in_style, has_open_text, open_text_by}
 use Rattle.wt_isolation.specs.TextCalls.{touches_text_call}
 use Rattle.wt_isolation.specs.Toggles as toggles
 use Rattle.wt_isolation.specs.Toggles.{is_quote, quote_runs, tile_runs, runs_of, switches_italic, switches_bold, are_odd, is_odd_line, has_odd_line}

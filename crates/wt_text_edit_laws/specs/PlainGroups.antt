@@ -1,5 +1,5 @@
 -- Groups of plain text: what one call gave, a line of text in which nothing begins.
-use Rattle.std.specs.Prelude.{◌≡◌, ℕ, Bool, true, false, Option, Some, List, [], ◌∷◌, map, codes}
+use Rattle.std.specs.Prelude.{◌≡◌, ℕ, true, false, Option, Some, List, ◌∷◌, map, codes}
 use Rattle.std.specs.List.{list_all}
 use Rattle.wt_span.specs.Items.{char}
 use Rattle.wt_span.specs.Origins.{Expanded}

@@ -1,9 +1,9 @@
 -- The answer to such an edit: the page with the slices of these steps, unless that is longer than a page may be.
-use Rattle.std.proofs.Common.{◌≡◌, ℕ, Bool, false, List, [], ◌∷◌, ◌++◌, refl, ap, ◌∙◌}
-use Rattle.std.specs.Prelude.{Option, Some, None, option_map}
+use Rattle.std.proofs.Common.{◌≡◌, ℕ, false, List, [], ◌∷◌, ◌++◌, refl, ap, ◌∙◌}
+use Rattle.std.specs.Prelude.{Option, None, option_map}
 use Rattle.std.specs.List.{flat_map}
 use Rattle.wt_span.specs.Origins.{Expanded}
-use Rattle.wt_tree.specs.Opened.{opened, without_sections}
+use Rattle.wt_tree.specs.Opened.{without_sections}
 use Rattle.wt_tree.specs.Tiling.{InPreorder}
 use Rattle.wt_tree.specs.Tree.{Label, Tree, Trees}
 use Rattle.wt_checks.specs.declared.refusal.TreeRefusal.{TreeRefusal}

@@ -1,15 +1,15 @@
 -- Blocks that come and go pass the checks, and nothing is wrong with them.
-use Rattle.std.proofs.Common.{◌≡◌, ◌≢◌, ℕ, Bool, true, false, List, [], ◌∷◌, ◌++◌, refl, sym, ap, ◌∙◌, subst, inl, inr}
-use Rattle.std.specs.Prelude.{◌==◌, ◌||◌, not, if◌then◌else◌, Option, None}
+use Rattle.std.proofs.Common.{◌≡◌, ℕ, Bool, true, false, List, [], ◌∷◌, ◌++◌, refl, sym, ap, ◌∙◌, subst, inl, inr}
+use Rattle.std.specs.Prelude.{◌==◌, ◌||◌, not, if◌then◌else◌, None}
 use Rattle.std.specs.List.{AllByRecursion, flat_map}
 use Rattle.std.proofs.lemmas.Grind.{flat_map-append}
 use Rattle.wt_tree.specs.Tiling.{InPreorder}
 use Rattle.wt_tree.specs.declared.kind.Kind.{Kind}
-use Rattle.wt_tree.specs.Tree.{Label, Tree, tree, Trees, none, more, label}
+use Rattle.wt_tree.specs.Tree.{Label, Tree, tree, label}
 use Rattle.wt_original.specs.Kept.{kept_with}
 use Rattle.wt_checks.specs.Checked.{checked}
 use Rattle.wt_checks.specs.Kept.{IsSublist, kept_under, NodeAsItWas, GroupKept, NodeKept, MarkKept, Kept}
-use Rattle.wt_checks.specs.Places.{Place, placed, all_placed, places, is_content, Page, page_of}
+use Rattle.wt_checks.specs.Places.{placed, all_placed, places, is_content, Page, page_of}
 use Rattle.wt_checks.specs.PutBack.{has_frame, have_frame, IsOneBody}
 use Rattle.wt_checks.proofs.Found.{Itself, each_itself, found_root}
 use Rattle.wt_checks.proofs.InOrder.{not_zero_kept}
@@ -18,12 +18,12 @@ use Rattle.wt_checks.proofs.Repeated.{or_false}
 use Rattle.wt_checks.proofs.WhatIsKept.{increasing, unrefused}
 use Rattle.wt_content.specs.declared.children.Holder.TheVariants as holder
 use Rattle.wt_content.specs.declared.reason.ContentWhy.{ContentWhy}
-use Rattle.wt_content.specs.Children.{is_space, child_faults, all_child_faults, bad_children, new_faults}
+use Rattle.wt_content.specs.Children.{is_space, all_child_faults, bad_children, new_faults}
 use Rattle.wt_content.specs.Content.{first_why}
 use Rattle.wt_tree.specs.EditShapes.{edit_shape}
 use Rattle.wt_slices.specs.Changes.{Pair, pair_at}
-use Rattle.wt_typed_blocks.specs.Sent.{IsSentAsIs, StandsAsIs}
-use Rattle.wt_typed_blocks.specs.Coming.{Coming, no_more, spaced, comes, stays, goes, white_space, new_paragraph, page_children, sent_children, body_before, body_sent, Stays, AllStay}
+use Rattle.wt_typed_blocks.specs.Sent.{StandsAsIs}
+use Rattle.wt_typed_blocks.specs.Coming.{Coming, no_more, spaced, comes, stays, goes, page_children, sent_children, body_before, body_sent, Stays, AllStay}
 use Rattle.wt_typed_blocks.proofs.EditedKept.{more_sublist, under_join, both_joined, some_under, kept_by, nodes_kept, groups_kept, marks_none}
 use Rattle.wt_typed_blocks.proofs.EditedSlices.{Same, no_pairs}
 use Rattle.wt_typed_blocks.proofs.SentFrames.{no_frame_sent}

@@ -1,5 +1,5 @@
 -- What a body that is sent so shows.
-use Rattle.std.proofs.Common.{◌≡◌, ℕ, List, [], ◌∷◌, refl, ap, ◌∙◌}
+use Rattle.std.proofs.Common.{◌≡◌, [], ◌∷◌, refl, ap, ◌∙◌}
 use Rattle.std.specs.Prelude.{None}
 use Rattle.wt_tree.specs.Plain.{Plains, ended, along, element, text_before, plain_before, plains_before}
 use Rattle.wt_tree.specs.declared.kind.Kind.TheVariants as kind

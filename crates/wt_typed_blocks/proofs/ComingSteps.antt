@@ -1,13 +1,12 @@
 -- What is listed so is what the steps of a body are.
-use Rattle.std.proofs.Common.{◌≡◌, ◌≢◌, ℕ, Bool, true, false, List, [], ◌∷◌, ◌++◌, refl, sym, ap, ◌∙◌, subst}
+use Rattle.std.proofs.Common.{◌≡◌, ◌≢◌, ℕ, Bool, true, false, List, [], ◌∷◌, ◌++◌, refl, sym, ap, ◌∙◌}
 use Rattle.std.specs.Prelude.{◌==◌, not, if◌then◌else◌}
-use Rattle.wt_tree.specs.Tree.{Label, Tree, tree, Trees, none, more, label}
+use Rattle.wt_tree.specs.Tree.{Tree, Trees, more, label}
 use Rattle.wt_content.specs.declared.children.Holder.TheVariants as holder
 use Rattle.wt_content.specs.Children.{is_space}
 use Rattle.wt_slices.specs.Steps as step
 use Rattle.wt_slices.specs.Steps.{Step, passed_one, passed_up_to, from_number, kept_first, behind_first, steps}
 use Rattle.wt_checks.proofs.InOrder.{test_equal, test_other}
-use Rattle.wt_typed_blocks.specs.Sent.{StandsAsIs}
 use Rattle.wt_typed_blocks.specs.Coming.{Coming, no_more, spaced, comes, stays, goes, new_paragraph, page_children, sent_children, Stays, AllStay, NextIsOther, AreListed, steps_of}
 use Rattle.wt_typed_blocks.proofs.ComingPasses.{same_number, same_space}
 

@@ -1,6 +1,5 @@
 -- The children of the body of prose, and what is sent for them where paragraphs come and go, one by one.
-use Rattle.std.proofs.Common.{arith, ◌≡◌, ◌≢◌, ℕ, zero, suc, ◌+◌, ◌≤◌, true, false, List, [], ◌∷◌, ◌++◌, map, refl, sym, ap, ◌∙◌, subst}
-use Rattle.std.specs.Prelude.{◌==◌}
+use Rattle.std.proofs.Common.{arith, ◌≡◌, ◌≢◌, ℕ, zero, suc, ◌+◌, ◌≤◌, List, [], ◌∷◌, ◌++◌, map, refl, ap, ◌∙◌}
 use Rattle.std.specs.List.{flat_map}
 use Rattle.wt_tree.specs.Tree.{Tree, tree, Trees, none, more}
 use Rattle.wt_span.specs.Items.{Item}
@@ -10,7 +9,7 @@ use Rattle.wt_annotated.specs.Numbering.{count_all}
 use Rattle.wt_annotated.specs.WithoutCalls.{all_placed}
 use Rattle.wt_typed_blocks.specs.Coming as coming
 use Rattle.wt_typed_blocks.specs.Coming.{Coming, no_more, spaced, comes, white_space, new_paragraph, page_children, sent_children, Stays, AllStay, NextIsOther, AreListed}
-use Rattle.wt_text_edit_laws.proofs.Texts.TypedLeaves.{Leaf, leaf_tree, leaves_para}
+use Rattle.wt_text_edit_laws.proofs.Texts.TypedLeaves.{leaf_tree, leaves_para}
 use Rattle.wt_text_edit_laws.specs.ProsePages.{Passage}
 use Rattle.wt_text_edit_laws.specs.ProseTrees.{separator}
 use Rattle.wt_text_edit_laws.specs.ProseChanges.{Addition, white, paragraph, PassageChange, stays, goes, ProseChange, passages_before, sent_before, sent_passages, after_breaks, AreSentAsIs}

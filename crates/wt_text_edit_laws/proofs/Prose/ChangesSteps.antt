@@ -1,6 +1,6 @@
 -- What is written round new paragraphs of prose, and where paragraphs go.
-use Rattle.std.proofs.Common.{arith, ◌≡◌, ℕ, zero, suc, ◌≤◌, Bool, true, false, List, [], ◌∷◌, ◌++◌, refl, sym, ap, ◌∙◌, subst, append-nil}
-use Rattle.std.specs.Prelude.{◌||◌, ◌&&◌, if◌then◌else◌, replicate}
+use Rattle.std.proofs.Common.{arith, ◌≡◌, ℕ, zero, suc, ◌≤◌, Bool, true, false, List, [], ◌∷◌, refl, ap, ◌∙◌, append-nil}
+use Rattle.std.specs.Prelude.{◌||◌, if◌then◌else◌, replicate}
 use Rattle.std.specs.Str.{chars}
 use Rattle.wt_span.specs.Characters as byte
 use Rattle.wt_tree.specs.declared.kind.Mark.{Mark}

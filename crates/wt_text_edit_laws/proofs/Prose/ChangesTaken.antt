@@ -1,13 +1,11 @@
 -- Paragraphs come into prose and go from it: `edit` is done, and the new page is prose.
-use Rattle.std.proofs.Common.{arith, ◌≡◌, ℕ, ◌≤◌, Bool, true, false, Option, Some, None, List, [], ◌∷◌, ◌++◌, length, nat_lt, refl, sym, ap, ◌∙◌, subst, append-nil}
+use Rattle.std.proofs.Common.{arith, ◌≡◌, ℕ, ◌≤◌, Bool, true, false, Option, Some, None, List, [], ◌∷◌, length, refl, sym, ap, ◌∙◌, subst}
 use Rattle.std.specs.Prelude.{Ok, Err, if◌then◌else◌}
-use Rattle.std.specs.List.{flat_map}
 use Rattle.std.specs.Str.{IsUtf8}
 use Rattle.wt_span.specs.declared.limits.TheConstants.{HTML_BYTES, PAGE_BYTES}
 use Rattle.wt_devices.specs.Device.{Pages}
 use Rattle.wt_tree.specs.declared.kind.Kind.TheVariants as kind
 use Rattle.wt_tree.specs.declared.kind.Mark.TheVariants as marks
-use Rattle.wt_tree.specs.Plain.{Plains, ended}
 use Rattle.wt_tree.specs.Tiling.{InPreorder, NoneIsGroup}
 use Rattle.wt_tree.specs.Tree.{Label, Tree, tree, Trees, none}
 use Rattle.wt_utf8.specs.Places.{not_utf8_place}
@@ -27,23 +25,20 @@ use Rattle.wt_visible.specs.SameNodes.{same_node}
 use Rattle.wt_visible.proofs.DifferingLaws.{same_none}
 use Rattle.wt_selser.specs.declared.refusal.EditRefusal.TheVariants as refusal
 use Rattle.wt_selser.specs.Edits.{most_bytes, if_short, edit_answer}
-use Rattle.wt_slices.specs.BodySlices.{start, body_slices}
-use Rattle.wt_slices.specs.Steps.{Step}
 use Rattle.wt_splice.specs.Splice.{spliced}
 use Rattle.wt_commands.specs.declared.refusal.Refusal.TheVariants.{TooLong, InputTooLong}
 use Rattle.wt_commands.specs.declared.command.Command.TheVariants.{Edit}
 use Rattle.wt_commands.specs.Words.{command_of}
 use Rattle.wt_commands.specs.Answers.{Answer, done, refused, text_answer, title_answer, expanded_by, unspelled_by, unspelled_answer, new_by, new_expanded, new_answer, edit_by, edit_from, edit_to, edited_answer, input_answer, edit_of, answer_to, answer_told}
 use Rattle.wt_commands.proofs.SectionEdits.{page_bare}
-use Rattle.wt_typed_blocks.specs.Coming.{Coming, page_children, sent_children, body_before, body_sent, AllStay, AreListed, coming_shows, steps_of}
+use Rattle.wt_typed_blocks.specs.Coming.{Coming, body_before, body_sent, AllStay}
 use Rattle.wt_typed_blocks.proofs.ComingAnswer.{coming_slices, answer_in_sections}
 use Rattle.wt_typed_blocks.proofs.ComingShows.{body_shows}
 use Rattle.wt_typed_blocks.proofs.EditedSlices.{Same}
 use Rattle.wt_text_edit_laws.specs.LonePages.{of_items}
 use Rattle.wt_text_edit_laws.specs.ProsePages.{Passage, prose, AreProse, IsProsePage}
-use Rattle.wt_text_edit_laws.specs.ProseTrees.{prose_body}
 use Rattle.wt_text_edit_laws.specs.ProseEdits.{PassageEdit, kept, old_passages}
-use Rattle.wt_text_edit_laws.specs.ProseChanges.{ProseChange, passages_before, sent_before, sent_passages, changed_prose, new_texts, passages_changed, AreSentAsIs, IsProseChange}
+use Rattle.wt_text_edit_laws.specs.ProseChanges.{ProseChange, passages_before, changed_prose, passages_changed, AreSentAsIs, IsProseChange}
 use Rattle.wt_text_edit_laws.proofs.Prose.ProseReading.{prose_expanded, prose_unrefused}
 use Rattle.wt_text_edit_laws.proofs.Prose.ProseTrees.{blocks_from, prose_blocks}
 use Rattle.wt_text_edit_laws.proofs.Prose.ProseTexts.{prose_tree, prose_written}
@@ -51,7 +46,7 @@ use Rattle.wt_text_edit_laws.proofs.Prose.ProseFacts.{FactsOf, facts_all, prose_
 use Rattle.wt_text_edit_laws.proofs.Prose.ProseTakes.{prose_utf8, page_shows, body_label, as_edit, not_longer}
 use Rattle.wt_text_edit_laws.proofs.Prose.ChangesListed.{coming_of, whole_coming, whole_page, whole_sent, whole_stay, whole_listed, all_stay}
 use Rattle.wt_text_edit_laws.proofs.Prose.ChangesSteps.{tail_first, first_tails}
-use Rattle.wt_text_edit_laws.proofs.Prose.ChangesMake.{added_text, added_make, text_of, changes_make}
+use Rattle.wt_text_edit_laws.proofs.Prose.ChangesMake.{added_make, text_of, changes_make}
 use Rattle.wt_text_edit_laws.proofs.Prose.ChangesText.{as_rest, whole_text, whole_prose, whole_shows}
 
 -- ---- the page

@@ -1,24 +1,23 @@
 -- The new page of prose in which paragraphs come and go is prose, and shows what was sent.
-use Rattle.std.proofs.Common.{arith, ◌≡◌, ℕ, zero, suc, ◌+◌, ◌≤◌, Bool, true, false, List, [], ◌∷◌, ◌++◌, refl, sym, ap, ◌∙◌, subst, append_assoc, append-nil}
+use Rattle.std.proofs.Common.{arith, ◌≡◌, ℕ, zero, suc, ◌+◌, ◌≤◌, true, false, List, [], ◌∷◌, ◌++◌, refl, sym, ap, ◌∙◌, append_assoc, append-nil}
 use Rattle.std.specs.Prelude.{None, replicate}
 use Rattle.std.specs.List.{flat_map, AllByRecursion}
 use Rattle.std.specs.Str.{IsUtf8}
 use Rattle.wt_tree.specs.declared.kind.Kind.TheVariants as kind
 use Rattle.wt_tree.specs.declared.edit_shape.Place.TheVariants as place
-use Rattle.wt_tree.specs.Plain.{element, Plains, ended, along, text_before, plain_before}
+use Rattle.wt_tree.specs.Plain.{element, Plains, ended, along, plain_before}
 use Rattle.wt_tree.specs.Tree.{Tree}
 use Rattle.wt_span.specs.Items.{Item}
 use Rattle.wt_guards.specs.Guards.{Setting}
 use Rattle.wt_inline.specs.Carried.{shown_item}
 use Rattle.wt_expand.specs.PageItems.{page_items}
 use Rattle.wt_annotated.specs.Labels.{label_at}
-use Rattle.wt_slices.specs.BodySlices.{before_new}
 use Rattle.wt_typed_blocks.specs.Coming.{Coming, coming_before}
 use Rattle.wt_text_edit_laws.specs.TypedPages.{IsTypedPage}
-use Rattle.wt_text_edit_laws.specs.ProsePages.{Passage, passage_source, prose, AreProse}
-use Rattle.wt_text_edit_laws.specs.ProseChanges.{Addition, white, paragraph, PassageChange, stays, goes, ProseChange, passages_before, spelled_new, new_texts, any_stays, one_if, breaks_left, with_new, passages_after, breaks_before, new_first, passages_changed, AreTexts, TakeTexts, BeginsSo, IsProseChange}
+use Rattle.wt_text_edit_laws.specs.ProsePages.{Passage, prose, AreProse}
+use Rattle.wt_text_edit_laws.specs.ProseChanges.{Addition, white, paragraph, PassageChange, stays, goes, ProseChange, passages_before, spelled_new, new_texts, any_stays, one_if, breaks_left, with_new, passages_after, breaks_before, new_first, passages_changed, TakeTexts, BeginsSo, IsProseChange}
 use Rattle.wt_text_edit_laws.proofs.Texts.TypedItems.{typed_shows}
-use Rattle.wt_text_edit_laws.proofs.Texts.TypedLeaves.{AreOwn, leaf_shown, leaves_shown}
+use Rattle.wt_text_edit_laws.proofs.Texts.TypedLeaves.{AreOwn, leaves_shown}
 use Rattle.wt_text_edit_laws.proofs.Texts.TypedShown.{leaves_show}
 use Rattle.wt_text_edit_laws.proofs.Prose.BlockFacts.{paragraph_shown}
 use Rattle.wt_text_edit_laws.proofs.Prose.ProseFacts.{own_of, prose_shows}
