@@ -511,6 +511,35 @@ test("what was shown before and not stored comes to nothing", { skip }, async ()
   assert.equal(await stored(), PAGE.replace("Third", "Third!?"));
 });
 
+test("what is typed right after a dialog is left stays where it is typed", { skip }, async () => {
+  // The browser tells `close` when it next draws: a letter comes in between.
+  const leave = (/** @type {string} */ id, /** @type {string} */ how, /** @type {string} */ letter) => tab.js(`
+    (async () => {
+      const dialog = document.getElementById("${id}");
+      const isTold = new Promise((done) => dialog.addEventListener("close", () => setTimeout(done)));
+      ${how};
+      for (let step = 0; step < 10; step += 1) await null; // what goes on at once
+      document.execCommand("insertText", false, "${letter}");
+      await isTold;
+    })()`);
+  const escape = `dialog.dispatchEvent(new KeyboardEvent("keydown", { key: "Escape", bubbles: true }))`;
+  const cancel = `dialog.querySelector("[value=cancel]").click()`;
+  await select("Third", 5);
+  await tab.type("ly");
+  let typed = "";
+  for (const [how, letter] of [[escape, "a"], [cancel, "b"]]) {
+    assert.equal(await save(), "changes");
+    await leave("changes", how, letter);
+    typed += letter;
+    await tab.press("Control+k");
+    await tab.until(`document.getElementById("link").open`);
+    await leave("link", cancel, letter.toUpperCase());
+    typed += letter.toUpperCase();
+  }
+  await tab.type("!");
+  assert.equal(await stored(), PAGE.replace("Third", `Thirdly${typed}!`));
+});
+
 /** Ways in which the page can't be fetched while its changes are shown. */
 const NOT_FETCHED = [
   `throw new TypeError("lost")`,

@@ -20,7 +20,7 @@ use Rattle.wt_beside_laws.specs.Content.{AreKept}
 use Rattle.wt_beside_laws.specs.Flat.{IsFlatContent}
 use Rattle.wt_beside_laws.specs.Lines.{AreCharacters}
 use Rattle.wt_beside_laws.specs.OwnSigns.{own_signs, HaveOwn, IsFlatBlock}
-use Rattle.wt_beside_laws.specs.PageBlocks.{AreUnstyled, AreShut, ShowSources, IsBlockOfLines}
+use Rattle.wt_beside_laws.specs.PageBlocks.{AreUnstyled, AreShut, ShowSources, AreSoIn, IsBlockOfLines}
 use Rattle.wt_text_edit_laws.specs.ParagraphParts.{joined_parts}
 use Rattle.wt_beside_laws.specs.PageSigns.{signs_of_lines, AreFlatLines}
 use Rattle.wt_beside_laws.specs.SentNodes.{AreSent, numbers}
@@ -77,18 +77,19 @@ flat_block ls block f u b =
 -- ---- its nodes
 
 nodes_by : (k : Block) (block : Tree) (n at : ℕ) (before opening closing : List Item) (ls : List (List Item)) → AreUnstyled ls → AreFlatLines ls
+    → AreSoIn block (things (signs_of_lines at ls))
     → things (own_signs block at at (children_of (standing n before (block_by k opening (joined_parts ls) closing)))) ≡ things (signs_of_lines at ls)
-nodes_by k block n at before opening closing ls u f =
+nodes_by k block n at before opening closing ls u f so =
     let ps : List Part = joined_parts ls in
     ap (λ (ts : Trees). things (own_signs block at at ts)) (its_children k n before opening closing ps)
-    ∙ own_things ps block at at (n + 1) (before ++ opening) (things (signs_of_lines at ls)) (lines_have at ls u f)
+    ∙ own_things ps block at at (n + 1) (before ++ opening) (things (signs_of_lines at ls)) (lines_have at ls u f) so
 
 pub block_nodes : (ls : List (List Item)) (block : Tree) → AreFlatLines ls → AreUnstyled ls → IsBlockOfLines ls block
     → things (own_signs block (length (label block).opening) (length (label block).opening) (children_of block))
     ≡ things (signs_of_lines (length (label block).opening) ls)
 block_nodes ls block f u b =
     let at : ℕ = length (label block).opening in
-    ap (λ (t : Tree). things (own_signs block at at (children_of t))) b.is ∙ nodes_by b.form block b.number at b.before b.opening b.closing ls u f
+    ap (λ (t : Tree). things (own_signs block at at (children_of t))) b.is ∙ nodes_by b.form block b.number at b.before b.opening b.closing ls u f b.marks
 
 -- ---- what is sent
 

@@ -25,10 +25,12 @@ use Rattle.wt_text_edit_laws.specs.NoCalls.{NonePairs, CallsNothing, AreUnbraced
 use Rattle.wt_text_edit_laws.proofs.Between.LessBraces.{none_unbraced}
 use Rattle.wt_text_edit_laws.proofs.Between.NoCalls.{calm_expanded, calm_unrefused}
 use Rattle.wt_beside_laws.specs.Calm.{is_brace, HaveNoBraces, IsCalm, AreCalm}
-use Rattle.wt_beside_laws.specs.Content.{AreKept, guard_items, letter_items, content_items}
+use Rattle.wt_beside_laws.specs.Content.{guard_items, letter_items, content_items}
 use Rattle.wt_beside_laws.specs.Lines.{AreCharacters}
-use Rattle.wt_beside_laws.proofs.Contents.{content_alone, nowiki_reads, reference_reads}
+use Rattle.wt_beside_laws.proofs.Contents.{nowiki_reads, reference_reads}
 use Rattle.wt_beside_laws.proofs.Firm.{alone_as}
+use Rattle.wt_beside_laws.proofs.Marks.Commented.{content_alone}
+use Rattle.wt_beside_laws.specs.Flat.{IsReadIn}
 
 -- ---- UTF-8
 
@@ -119,19 +121,19 @@ unbraced_so [] h = tt
 unbraced_so (char o b ∷ xs) h = (h.0, unbraced_so xs h.1)
 unbraced_so (whole f o bs ∷ xs) h = unbraced_so xs h
 
-pub content_unbraced : (s : Setting) (signs : List ContentSign) → AreKept signs → AreCalm signs → AreUnbraced (page_items (spelled s signs))
+pub content_unbraced : (s : Setting) (signs : List ContentSign) → IsReadIn s signs → AreCalm signs → AreUnbraced (page_items (spelled s signs))
 content_unbraced s signs k h =
     let xs : List Item = page_items (spelled s signs) in
     unbraced_so xs (subst HaveNoBraces (sym (content_alone s signs k)) (content_none s [] signs h))
 
-pub content_calm : (s : Setting) (signs : List ContentSign) → AreKept signs → AreCalm signs → CallsNothing (page_items (spelled s signs))
+pub content_calm : (s : Setting) (signs : List ContentSign) → IsReadIn s signs → AreCalm signs → CallsNothing (page_items (spelled s signs))
 content_calm s signs k h = subst NonePairs (sym (none_unbraced (page_items (spelled s signs)) (content_unbraced s signs k h))) tt
 
-pub content_expanded : (pages : Pages) (s : Setting) (signs : List ContentSign) → AreKept signs → AreCalm signs
+pub content_expanded : (pages : Pages) (s : Setting) (signs : List ContentSign) → IsReadIn s signs → AreCalm signs
     → expanded_page pages (spelled s signs) ≡ of_items (page_items (spelled s signs))
 content_expanded pages s signs k h = calm_expanded pages (spelled s signs) (content_calm s signs k h)
 
-pub content_unrefused : (pages : Pages) (s : Setting) (signs : List ContentSign) → AreKept signs → AreCalm signs
+pub content_unrefused : (pages : Pages) (s : Setting) (signs : List ContentSign) → IsReadIn s signs → AreCalm signs
     → first_refusal pages (spelled s signs) (page_work pages (spelled s signs)) ≡ None
 content_unrefused pages s signs k h = calm_unrefused pages (spelled s signs) (content_calm s signs k h)
 

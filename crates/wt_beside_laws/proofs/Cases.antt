@@ -35,7 +35,7 @@ entity : IsKept (codes "&amp;")
 unfolding form_at comment_len raw_len include_at opening_tag closing_tag entity_at named_entity entity_names decimal_entity hex_entity sign_word
 entity = record {
   parts = lexeme (Entity 38) 38 (codes "amp;") ∷ [];
-  are = (record { form = λ rest. refl; uncommented = λ rest. refl; begins = refl }, tt);
+  are = (record { form = λ rest. refl; uncommented = λ rest. refl; begins = refl; ends = refl }, tt);
   is = refl;
 }
 
@@ -43,7 +43,7 @@ empty_nowiki : IsKept (codes "<nowiki/>")
 unfolding form_at comment_len raw_len opening_tag tag_after with_inside is_extension
 empty_nowiki = record {
   parts = lexeme Raw 60 (codes "nowiki/>") ∷ [];
-  are = (record { form = λ rest. refl; uncommented = λ rest. refl; begins = refl }, tt);
+  are = (record { form = λ rest. refl; uncommented = λ rest. refl; begins = refl; ends = refl }, tt);
   is = refl;
 }
 
@@ -67,7 +67,7 @@ footnote : IsKept (codes "<ref name=\"n\"/>")
 unfolding form_at comment_len raw_len opening_tag tag_after with_inside is_extension
 footnote = record {
   parts = lexeme Raw 60 (codes "ref name=\"n\"/>") ∷ [];
-  are = (record { form = λ rest. refl; uncommented = λ rest. refl; begins = refl }, tt);
+  are = (record { form = λ rest. refl; uncommented = λ rest. refl; begins = refl; ends = refl }, tt);
   is = refl;
 }
 
@@ -76,7 +76,7 @@ link_with_entity : IsKept (codes "[[a|&amp;b]]")
 unfolding form_at comment_len raw_len include_at opening_tag closing_tag entity_at named_entity entity_names decimal_entity hex_entity sign_word
 link_with_entity = record {
   parts = characters (codes "[[a|") ∷ lexeme (Entity 38) 38 (codes "amp;") ∷ characters (codes "b]]") ∷ [];
-  are = (firm (codes "[[a|") refl, (record { form = λ rest. refl; uncommented = λ rest. refl; begins = refl }, (firm (codes "b]]") refl, tt)));
+  are = (firm (codes "[[a|") refl, (record { form = λ rest. refl; uncommented = λ rest. refl; begins = refl; ends = refl }, (firm (codes "b]]") refl, tt)));
   is = refl;
 }
 

@@ -38,11 +38,12 @@ use Rattle.wt_tiles.specs.Tiles.{size, Cut, chars as run, closed, pair_or_island
 use Rattle.wt_tiles.specs.Urls.{bare_url_at}
 use Rattle.wt_tiles.proofs.TagInsides.{no_tag}
 use Rattle.wt_text_edit_laws.specs.LonePages.{page_chars}
+use Rattle.wt_text_edit_laws.specs.TextBetween.{EndsBy}
 use Rattle.wt_text_edit_laws.proofs.Texts.TypedItems.{references}
 use Rattle.wt_beside_laws.specs.Content.{AreKept, guard_items, letter_items}
 use Rattle.wt_beside_laws.specs.Cuts.{add_chars, add_tile, own_glyphs, own_form, add_node, guard_cut, letter_cut}
 use Rattle.wt_beside_laws.specs.Flat.{IsFlat}
-use Rattle.wt_beside_laws.specs.Kept.{lexeme, IsKept}
+use Rattle.wt_beside_laws.specs.Kept.{lexeme, is_lexeme_end, IsKept}
 use Rattle.wt_beside_laws.specs.Nodes.{IsPair, IsTagNode, IsOneLexeme, IsNode}
 use Rattle.wt_beside_laws.specs.PageBlocks.{AreShut}
 use Rattle.wt_beside_laws.specs.PageSigns.{tile_signs, signs_of_tiles, IsFlatForm, IsFlatTile, AreFlatTiles, HasNoBreak}
@@ -51,9 +52,11 @@ use Rattle.wt_beside_laws.proofs.Contents.{nowiki_reads, reference_reads}
 use Rattle.wt_beside_laws.proofs.Firm.{alone_as}
 use Rattle.wt_beside_laws.proofs.FormKinds.{IsNodeKind, form_is_node}
 use Rattle.wt_beside_laws.proofs.LineParts.{has_form, glyphs_long}
+use Rattle.wt_beside_laws.proofs.Marks.InLine.{reference_ends}
 use Rattle.wt_beside_laws.proofs.NodesBegin.{no_url}
 use Rattle.wt_beside_laws.proofs.NodesStand.{by_less, opened_shape}
 use Rattle.wt_beside_laws.proofs.PageSigns.{IsFlatKind}
+use Rattle.wt_beside_laws.specs.Commented.{IsHeld}
 
 -- ---- a tag that opens a pair has its closing tag
 
@@ -119,7 +122,7 @@ node_lone External own w f n e = other_first w.kind 91 own n.inside n.is refl
 node_lone (Bare ends) own w f n e = other_first w.kind n.first own n.others n.is (url_first n.first n.others n.shape n.url)
 node_lone Switch own w f n e = other_first w.kind 95 own (glyph.Byte 95 ∷ byte_glyphs n.word) n.is refl
 node_lone Toggle own w f n e = absurd f
-node_lone (Mark ends began) own w f n e = absurd n
+node_lone (Mark ends began) own w f n e = subst (OpensNoPair w.kind) (sym n.is) (no_opening w.kind (glyph.Mark ∷ []) (no_tag (glyph.Mark ∷ []) refl))
 node_lone (Group g) own w f n e = absurd n
 node_lone Function own w f n e = lexeme_lone w.kind own n
 node_lone Node own w f n e = elim n [
@@ -133,40 +136,7 @@ node_lone Node own w f n e = elim n [
   ]
 ]
 
--- ---- no node is a mark
-
-abbrev IsUnmarked : List Glyph → Type 0
-IsUnmarked [] = Unit {0}
-IsUnmarked (glyph.Byte b ∷ gs) = Unit {0}
-IsUnmarked (glyph.Entity c ∷ gs) = Unit {0}
-IsUnmarked (glyph.Atom ∷ gs) = Unit {0}
-IsUnmarked (glyph.Mark ∷ gs) = ⊥
-
-lexeme_unmarked : (own : List Glyph) → IsOneLexeme own → IsUnmarked own
-lexeme_unmarked own n = elim n [
-  | inl i ↦ subst IsUnmarked (sym i) tt
-  | inr i ↦ subst IsUnmarked (sym i.1) tt
-]
-
-node_unmarked : (r : Role) (own : List Glyph) → IsFlat r → IsNode r own → IsUnmarked own
-node_unmarked Link own f n = subst IsUnmarked (sym n.is) tt
-node_unmarked External own f n = subst IsUnmarked (sym n.is) tt
-node_unmarked (Bare ends) own f n = subst IsUnmarked (sym n.is) tt
-node_unmarked Switch own f n = subst IsUnmarked (sym n.is) tt
-node_unmarked Toggle own f n = absurd f
-node_unmarked (Mark ends began) own f n = absurd n
-node_unmarked (Group g) own f n = absurd n
-node_unmarked Function own f n = lexeme_unmarked own n
-node_unmarked Node own f n = elim n [
-  | inl one ↦ lexeme_unmarked own one
-  | inr other ↦ elim other [
-    | inl tag ↦ subst IsUnmarked (sym tag.is) tt
-    | inr link ↦ elim link [
-      | inl category ↦ subst IsUnmarked (sym category.is) tt
-      | inr media ↦ subst IsUnmarked (sym media.is) tt
-    ]
-  ]
-]
+-- ---- a form
 
 stays_kind : (k : TileKind) → IsNodeKind k → IsFlatKind k
 stays_kind kind.Link h = tt
@@ -182,15 +152,18 @@ stays_kind kind.Atom h = absurd h
 stays_kind kind.Mark h = absurd h
 stays_kind kind.Chars h = absurd h
 
+mark_flat : (w : Shape) → Some (leaf kind.Mark 1) ≡ Some w → IsFlatKind w.kind
+mark_flat w e = subst (λ (v : Shape). IsFlatKind v.kind) (same_shape (leaf kind.Mark 1) w e) tt
+
 atom_flat : (w : Shape) → Some (leaf kind.Atom 1) ≡ Some w → IsFlatKind w.kind
 atom_flat w e = subst (λ (v : Shape). IsFlatKind v.kind) (same_shape (leaf kind.Atom 1) w e) tt
 
-form_flat : (own : List Glyph) (w : Shape) → IsUnmarked own → own_form in_line own ≡ Some w → IsFlatKind w.kind
-form_flat [] w u e = cc
-form_flat (glyph.Byte b ∷ gs) w u e = stays_kind w.kind (form_is_node in_line false (glyph.Byte b ∷ gs) w e)
-form_flat (glyph.Entity c ∷ gs) w u e = atom_flat w e
-form_flat (glyph.Atom ∷ gs) w u e = atom_flat w e
-form_flat (glyph.Mark ∷ gs) w u e = absurd u
+form_flat : (own : List Glyph) (w : Shape) → own_form in_line own ≡ Some w → IsFlatKind w.kind
+form_flat [] w e = cc
+form_flat (glyph.Byte b ∷ gs) w e = stays_kind w.kind (form_is_node in_line false (glyph.Byte b ∷ gs) w e)
+form_flat (glyph.Entity c ∷ gs) w e = atom_flat w e
+form_flat (glyph.Atom ∷ gs) w e = atom_flat w e
+form_flat (glyph.Mark ∷ gs) w e = mark_flat w e
 
 flat_tile : (k : TileKind) (own : List Item) → IsFlatKind k → IsFlatForm k own → IsFlatTile k own
 flat_tile kind.Link own h f = f
@@ -203,13 +176,13 @@ flat_tile kind.Pair own h f = f
 flat_tile kind.TagIsland own h f = f
 flat_tile kind.Switch own h f = f
 flat_tile kind.Atom own h f = f
-flat_tile kind.Mark own h f = absurd h
+flat_tile kind.Mark own h f = f
 flat_tile kind.Chars own h f = absurd h
 
 -- a node that stays, as a tile
 node_tile : (t : Thing) (w : Shape) → IsFlat t.role → IsNode t.role (own_glyphs t) → own_form in_line (own_glyphs t) ≡ Some w → IsFlatTile w.kind (page_items t.source)
 node_tile t w f n e =
-    flat_tile w.kind (page_items t.source) (form_flat (own_glyphs t) w (node_unmarked t.role (own_glyphs t) f n) e)
+    flat_tile w.kind (page_items t.source) (form_flat (own_glyphs t) w e)
     (record { alone = ap page_items (page_sources t.source); lone = node_lone t.role (own_glyphs t) w f n e })
 
 -- ---- sources
@@ -252,7 +225,7 @@ pub nowiki_kept : IsKept nowiki
 unfolding nowiki comment_len
 nowiki_kept = record {
   parts = lexeme Raw 60 (codes "nowiki/>") ∷ [];
-  are = (record { form = λ rest. nowiki_form Page rest; uncommented = λ rest. refl; begins = refl }, tt);
+  are = (record { form = λ rest. nowiki_form Page rest; uncommented = λ rest. refl; begins = refl; ends = refl }, tt);
   is = refl;
 }
 
@@ -268,14 +241,26 @@ reference_kept c e =
               ∙ ap (λ (bs : List ℕ). Some (Entity c, length bs)) r.is;
           uncommented = λ rest. comment_other 38 (r.others ++ rest) (omega arith);
           begins = refl;
+          ends = subst (EndsBy is_lexeme_end) r.is (reference_ends c e);
         },
         tt,
       );
       is = append-nil (38 ∷ r.others) ∙ sym r.is;
     }
 
-pub put_kept : HoldsOfPut IsKept
-put_kept = record { of_nowiki = nowiki_kept; of_reference = reference_kept }
+-- a lexeme by itself has no line break
+held_lexeme : (f : ItemForm) (q : List ℕ) → IsKept q → page_items q ≡ whole f None q ∷ [] → IsHeld q
+held_lexeme f q k e = inl (k, subst HasNoBreak (sym e) (tt, tt))
+
+nowiki_held : IsHeld nowiki
+nowiki_held = held_lexeme form.Nowiki nowiki nowiki_kept (alone_as nowiki (whole form.Nowiki None nowiki ∷ []) nowiki_reads)
+
+reference_held : (c : ℕ) → is_escapable c ≡ true → IsHeld (reference c)
+reference_held c e =
+    held_lexeme (form.Entity c) (reference c) (reference_kept c e) (alone_as (reference c) (whole (form.Entity c) None (reference c) ∷ []) (reference_reads c e))
+
+pub put_kept : HoldsOfPut IsHeld
+put_kept = record { of_nowiki = nowiki_held; of_reference = reference_held }
 
 abbrev pub IsShut : List ℕ → Type 0
 IsShut bs = ends_open bs ≡ false
@@ -435,12 +420,12 @@ unbroken_lines (l ∷ m ∷ ls) xs h = (no_break l h.0, unbroken_lines (m ∷ ls
 
 -- ---- in other words
 
-pub from_kept : (signs : List ContentSign) → AreKept signs → EachSource IsKept signs
+pub from_kept : (signs : List ContentSign) → AreKept signs → EachSource IsHeld signs
 from_kept [] h = tt
 from_kept (letter c ∷ after) h = from_kept after h
 from_kept (thing t ∷ after) h = (h.0, from_kept after h.1)
 
-pub to_kept : (signs : List ContentSign) → EachSource IsKept signs → AreKept signs
+pub to_kept : (signs : List ContentSign) → EachSource IsHeld signs → AreKept signs
 to_kept [] h = tt
 to_kept (letter c ∷ after) h = to_kept after h
 to_kept (thing t ∷ after) h = (h.0, to_kept after h.1)

@@ -18,7 +18,7 @@ use Rattle.wt_tiles.specs.Urls.{is_word}
 use Rattle.wt_beside_laws.specs.Content.{AreKept}
 use Rattle.wt_beside_laws.specs.Cuts.{own_glyphs, ends_word}
 use Rattle.wt_beside_laws.specs.Flat.{IsFlat, AreFlat, IsFlatContent}
-use Rattle.wt_beside_laws.specs.Kept.{IsKept}
+use Rattle.wt_beside_laws.specs.Commented.{IsHeld}
 use Rattle.wt_beside_laws.specs.Lines.{AreCharacters, AreUnbroken}
 use Rattle.wt_beside_laws.specs.PageSigns.{form_sign, tile_signs, signs_of_tiles, line_signs, signs_of_lines, IsFlatForm, IsFlatTile, AreFlatTiles, HasNoBreak, AreFlatLines}
 use Rattle.wt_beside_laws.specs.Stood.{IsTileOf, AreStood, things}
@@ -34,7 +34,7 @@ both P (t ∷ ts) us h k = (h.0, both P ts us h.1 k)
 
 -- its source stands so whatever is written behind it
 abbrev pub Kept : Thing → Type 0
-Kept t = IsKept t.source
+Kept t = IsHeld t.source
 
 pub kept_each : (signs : List ContentSign) → AreKept signs → Each Kept (things signs)
 kept_each [] h = tt
@@ -101,7 +101,7 @@ tile_unbroken kind.Pair at xs f h = form_unbroken kind.Pair at xs f h
 tile_unbroken kind.TagIsland at xs f h = form_unbroken kind.TagIsland at xs f h
 tile_unbroken kind.Switch at xs f h = form_unbroken kind.Switch at xs f h
 tile_unbroken kind.Atom at xs f h = form_unbroken kind.Atom at xs f h
-tile_unbroken kind.Mark at xs f h = absurd f
+tile_unbroken kind.Mark at xs f h = form_unbroken kind.Mark at xs f h
 tile_unbroken kind.Chars at xs f h = subst (Each Unbroken) (sym (no_things (chars (sources xs)))) tt
 
 tiles_unbroken : (ws : List Shape) (at : ℕ) (xs : List Item) → AreFlatTiles (parts ws xs) → HasNoBreak xs → Each Unbroken (things (signs_of_tiles at (parts ws xs)))

@@ -59,4 +59,5 @@ pub mod FlatLines
 pub mod PlainContents
 pub mod Edits
 pub mod Made
+pub mod Marks
 pub mod Styled

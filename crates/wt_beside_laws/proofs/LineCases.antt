@@ -1,5 +1,5 @@
 -- Worked cases: two lines, and a line with a URL in it.
-use Rattle.std.proofs.Common.{◌≡◌, false, None, [], ◌∷◌, ◌++◌, map, refl, sym, subst}
+use Rattle.std.proofs.Common.{◌≡◌, false, None, [], ◌∷◌, ◌++◌, map, refl, sym, subst, inl}
 use Rattle.std.specs.Prelude.{codes}
 use Rattle.std.proofs.Math.Utf8.{encode}
 use Rattle.wt_tree.specs.Plain.{text, ended, along}
@@ -25,6 +25,7 @@ use Rattle.wt_beside_laws.specs.Lines.{content_lines}
 use Rattle.wt_beside_laws.specs.Nodes.{IsBareNode}
 use Rattle.wt_beside_laws.specs.Shown.{content_shown}
 use Rattle.wt_beside_laws.proofs.Firm.{alone_as, firm_read}
+use Rattle.wt_beside_laws.specs.PageSigns.{HasNoBreak}
 
 abbrev in_paragraph : Setting
 in_paragraph = record { within = false; place = Paragraph; source = [] }
@@ -77,7 +78,7 @@ unfolding is_guarded is_between_guard is_start_guard is_end_guard is_blank_guard
 flat_lines = record {
   of_block = refl;
   characters = (refl, (refl, (refl, (refl, tt))));
-  kept = (record { parts = characters (codes "http://k") ∷ []; are = (scheme_firm, tt); is = refl }, tt);
+  kept = (inl (record { parts = characters (codes "http://k") ∷ []; are = (scheme_firm, tt); is = refl }, subst HasNoBreak (sym url_items) (refl, (refl, (refl, (refl, (refl, (refl, (refl, (refl, tt))))))))), tt);
   nodes = (subst (λ xs. IsBareNode (map glyph_of xs)) (sym url_items) url_node, tt);
   unbroken = (subst IsUnbroken (sym url_items) (refl, (refl, (refl, (refl, (refl, (refl, (refl, (refl, tt)))))))), tt);
   flat = (tt, tt);

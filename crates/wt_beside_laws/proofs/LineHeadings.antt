@@ -24,10 +24,10 @@ use Rattle.wt_beside_laws.specs.Content.{AreKept, guard_items, letter_items, con
 use Rattle.wt_beside_laws.specs.InHeadings.{AreOnOneLine, IsHeadingContent, LastEndsUnequal, IsSome, KeepsLevel}
 use Rattle.wt_beside_laws.specs.Lines.{AreCharacters, AreUnbroken, line_items}
 use Rattle.wt_beside_laws.specs.Nodes.{AreNodes}
-use Rattle.wt_beside_laws.proofs.Contents.{content_alone}
 use Rattle.wt_beside_laws.proofs.LineItems.{letter_unbroken}
 use Rattle.wt_beside_laws.proofs.LineKinds.{Opens, line_opens}
 use Rattle.wt_beside_laws.proofs.NodeEnds.{EndInSigns, nodes_end, ends_unequal}
+use Rattle.wt_beside_laws.proofs.Marks.Commented.{content_alone}
 
 -- ---- one line
 
@@ -129,7 +129,7 @@ content_last s before (thing t ∷ after) own w p e f =
 pub inside_by : (s : Setting) (signs : List ContentSign) → s.within ≡ false → s.place ≡ place.Heading → AreKept signs → AreUnbroken signs → AreCharacters signs
     → AreNodes signs → AreOnOneLine signs → IsHeadingInside (page_items (spelled s signs))
 inside_by s signs block head kept unbroken characters nodes one =
-    let is = content_alone s signs kept in
+    let is = content_alone s signs (record { within = block; kept = kept; nodes = nodes }) in
     subst IsHeadingInside (sym is)
     (record {
       unbroken = content_none s [] signs one unbroken;
@@ -208,7 +208,7 @@ pub level_by : (s : Setting) (signs : List ContentSign) (sides : Sides) → s.wi
     → AreSides sides → KeepsLevel sides signs → IsOfLevel sides (page_items (spelled s signs))
 level_by s signs sides block kept characters nodes one a k =
     let own : List Item = page_items (spelled s signs) in
-    let is : own ≡ content_items s [] signs = content_alone s signs kept in
+    let is : own ≡ content_items s [] signs = content_alone s signs (record { within = block; kept = kept; nodes = nodes }) in
     let ss : List ℕ = map sign own in
     let begins : BeginsWithout is_equals_sign ss =
     subst (λ xs. BeginsWithout is_equals_sign (map sign xs)) (sym (is ∙ sym (same_items s [] signs one)))

@@ -14,9 +14,10 @@ use Rattle.wt_guards.specs.Letters.{is_escaped}
 use Rattle.wt_expand.specs.PageItems.{page_items}
 use Rattle.wt_lines.specs.Lines.{lines, onto, IsUnbroken}
 use Rattle.wt_text_edit_laws.specs.LonePages.{page_chars}
-use Rattle.wt_beside_laws.specs.Content.{AreKept, guard_items, letter_items, content_items}
+use Rattle.wt_beside_laws.specs.Content.{guard_items, letter_items, content_items}
 use Rattle.wt_beside_laws.specs.Lines.{AreUnbroken, line_items, later_lines, content_lines}
-use Rattle.wt_beside_laws.proofs.Contents.{content_alone}
+use Rattle.wt_beside_laws.proofs.Marks.Commented.{content_alone}
+use Rattle.wt_beside_laws.specs.Flat.{IsReadIn}
 
 -- ---- items without a line break
 
@@ -89,6 +90,6 @@ lines_from s before (thing t ∷ after) u =
     (unbroken_before (page_items t.source) xs (line_items s (thing t ∷ before) after) (later_lines s (thing t ∷ before) after) u.0
     (lines_from s (thing t ∷ before) after u.1))
 
-pub content_lines_are : (s : Setting) (signs : List ContentSign) → AreKept signs → AreUnbroken signs
+pub content_lines_are : (s : Setting) (signs : List ContentSign) → IsReadIn s signs → AreUnbroken signs
     → lines (page_items (spelled s signs)) ≡ content_lines s signs
 content_lines_are s signs k u = ap lines (content_alone s signs k) ∙ lines_from s [] signs u

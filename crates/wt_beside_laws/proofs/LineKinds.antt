@@ -1,6 +1,6 @@
 -- Each line of a content is text: it begins with an atom, or with a character that begins no other block.
-use Rattle.std.proofs.Common.{arith, ◌≡◌, ℕ, ◌+◌, ◌<◌, ◌≤◌, ◌==◌, Bool, true, false, Option, Some, List, [], ◌∷◌, ◌++◌, length, map, refl, sym, ap, ◌∙◌, subst, inl, inr, ◌⊎◌, All}
-use Rattle.std.specs.Prelude.{if◌then◌else◌, encode_utf8, not, ◌&&◌}
+use Rattle.std.proofs.Common.{arith, ◌≡◌, ℕ, ◌+◌, ◌<◌, ◌≤◌, ◌==◌, Bool, true, false, Option, Some, List, [], ◌∷◌, ◌++◌, length, map, refl, sym, ap, ap₂, ◌∙◌, subst, inl, inr, ◌⊎◌, All}
+use Rattle.std.specs.Prelude.{if◌then◌else◌, encode_utf8, not, ◌&&◌, ◌||◌}
 use Rattle.std.specs.Char.{IsScalar, to_ascii_lowercase}
 use Rattle.std.specs.List.{prefix_len}
 use Rattle.std.proofs.lemmas.Bool.{cases_lt}
@@ -15,8 +15,8 @@ use Rattle.wt_names.proofs.Ascii.{IsWide, encode_wide, encode_some}
 use Rattle.wt_names.proofs.Utf8.{utf8_bytes}
 use Rattle.wt_guards.specs.declared.role.Role.{Role}
 use Rattle.wt_guards.specs.declared.role.Role.TheVariants.{Link, External, Bare, Switch, Toggle, Mark, Group, Function, Node}
-use Rattle.wt_guards.specs.Content.{ContentSign, letter, thing, nearest}
-use Rattle.wt_guards.specs.Guards.{Setting, is_guarded, is_line_start, is_line_begun}
+use Rattle.wt_guards.specs.Content.{ContentSign, Thing, letter, thing, nearest}
+use Rattle.wt_guards.specs.Guards.{Setting, is_guarded, is_between_guard, is_start_guard, is_line_start, is_empty_line, is_line_mark_next, is_line_begun, is_start_hazard, is_new_at_start, is_end_guard, is_blank_guard}
 use Rattle.wt_guards.specs.Table.{line_start_hazard}
 use Rattle.wt_guards.specs.Letters.{is_bracket, is_escaped}
 use Rattle.wt_spelling_laws.proofs.TextReads.{bracket_escaped, not_bracket}
@@ -86,7 +86,7 @@ letter_opens s before c after xs false i v f =
     let b = not_bracket (is_bracket c) (is_escaped s.within s.place before c after) (bracket_escaped s.within s.place before c after) i in
     plain_opens c xs v (both (is_free c) (not (is_bracket c)) f (ap not b))
 
-no_break : (c : ℕ) → is_free c ≡ true → (c == 10) ≡ false
+pub no_break : (c : ℕ) → is_free c ≡ true → (c == 10) ≡ false
 no_break c f = by (not (line_start_hazard c)) (c == 10) f
   where
     by : (v w : Bool) → (v && not w) ≡ true → w ≡ false
@@ -96,13 +96,13 @@ no_break c f = by (not (line_start_hazard c)) (c == 10) f
 
 -- ---- a node that stays
 
-abbrev OpensGlyph : Glyph → Type 0
+abbrev pub OpensGlyph : Glyph → Type 0
 OpensGlyph (glyph.Byte b) = OpensText b
 OpensGlyph (glyph.Entity c) = Unit {0}
 OpensGlyph glyph.Atom = Unit {0}
 OpensGlyph glyph.Mark = ⊥
 
-abbrev FirstOpens : List Glyph → Type 0
+abbrev pub FirstOpens : List Glyph → Type 0
 FirstOpens [] = ⊥
 FirstOpens (g ∷ gs) = OpensGlyph g
 
@@ -205,16 +205,36 @@ other_opens own n = elim n [
   ]
 ]
 
-node_opens : (r : Role) (own : List Glyph) → IsNode r own → FirstOpens own
-node_opens Link own n = subst FirstOpens (sym n.is) at_bracket
-node_opens External own n = subst FirstOpens (sym n.is) at_bracket
-node_opens (Bare ends) own n = subst FirstOpens (sym n.is) (url_opens n.first n.others n.shape n.url)
-node_opens Switch own n = subst FirstOpens (sym n.is) at_underscore
-node_opens Toggle own n = delimiter_opens own n
-node_opens (Mark ends began) own n = absurd n
-node_opens (Group g) own n = absurd n
-node_opens Function own n = lexeme_opens own n
-node_opens Node own n = other_opens own n
+-- a mark may be first on a line where nothing is put before it only if it was so in the page
+pub node_opens : (r : Role) (own : List Glyph) → IsNode r own → (is_new_at_start r ≡ true → ⊥) → FirstOpens own
+node_opens Link own n f = subst FirstOpens (sym n.is) at_bracket
+node_opens External own n f = subst FirstOpens (sym n.is) at_bracket
+node_opens (Bare ends) own n f = subst FirstOpens (sym n.is) (url_opens n.first n.others n.shape n.url)
+node_opens Switch own n f = subst FirstOpens (sym n.is) at_underscore
+node_opens Toggle own n f = delimiter_opens own n
+node_opens (Mark ends began) own n f = absurd (f (ap₂ (λ (u v : Bool). not u && not v) n.unended n.behind))
+node_opens (Group g) own n f = absurd n
+node_opens Function own n f = lexeme_opens own n
+node_opens Node own n f = other_opens own n
+
+-- nothing begins a line that didn't begin one
+start_says : (between within start empty new first rest : Bool) → within ≡ false → start ≡ true → new ≡ true
+    → (between || (not within && (((start && (empty || new)) || first) || rest))) ≡ true
+start_says true within start empty new first rest w l i = refl
+start_says false true start empty new first rest w l i = cc
+start_says false false false empty new first rest w l i = cc
+start_says false false true true new first rest w l i = refl
+start_says false false true false true first rest w l i = refl
+start_says false false true false false first rest w l i = cc
+
+pub new_guarded : (s : Setting) (before : List ContentSign) (t : Thing) (after : List ContentSign) → s.within ≡ false → is_line_start (nearest before) ≡ true
+    → is_new_at_start t.role ≡ true → is_guarded s before (thing t ∷ after) ≡ true
+unfolding is_guarded is_start_guard
+new_guarded s before t after w l i =
+    start_says (is_between_guard (nearest before) (Some (thing t))) s.within (is_line_start (nearest before))
+    (is_empty_line (thing t ∷ after) && not (is_line_mark_next (Some (thing t)))) (is_new_at_start t.role)
+    (is_line_begun before && is_start_hazard (Some (thing t)))
+    (is_end_guard s.source s.place before (thing t ∷ after) || is_blank_guard s.source before (thing t ∷ after)) w l i
 
 -- ---- a line
 
@@ -230,7 +250,8 @@ line_opens s before (letter c ∷ after) w l b v n =
 line_opens s before (thing t ∷ after) w l b v n =
     let more : List Item = line_items s (thing t ∷ before) after in
     guard_opens (is_guarded s before (thing t ∷ after)) (page_items t.source ++ more)
-    (λ g. items_open (page_items t.source) more (node_opens t.role (own_glyphs t) n.0))
+    (λ g. items_open (page_items t.source) more (node_opens t.role (own_glyphs t) n.0
+    (λ i. let no : true ≡ false = sym (new_guarded s before t after w l i) ∙ g in cc)))
 
 -- ---- all lines
 

@@ -129,7 +129,7 @@ node_first External own f n e = bracket_first own n.inside n.is e
 node_first (Bare ends) own f n e = url_first n.first n.others n.shape n.url (first_is own (glyph.Byte n.first ∷ n.others) n.is e)
 node_first Switch own f n e = switch_first own (glyph.Byte 95 ∷ byte_glyphs n.word) n.is e
 node_first Toggle own f n e = f
-node_first (Mark ends began) own f n e = n
+node_first (Mark ends began) own f n e = let no : 0 ≡ 39 = first_is own (glyph.Mark ∷ []) n.is e in omega (arith, no)
 node_first (Group g) own f n e = n
 node_first Function own f n e = lexeme_first own n e
 node_first Node own f n e = other_first own n e

@@ -57,7 +57,7 @@ use Rattle.wt_beside_laws.proofs.PageLexemes.{IsPageForm, AreOfPage, are_of_page
 use Rattle.wt_beside_laws.proofs.PageSigns.{AreChars, are_chars, IsFlatKind, flat_nodes}
 use Rattle.wt_beside_laws.proofs.PartThings.{IsThing, thing_at, tree_source, IsAlone, HaveThings, parts_width, things_both}
 use Rattle.wt_beside_laws.proofs.SentNodes.{things_append, no_things}
-use Rattle.wt_beside_laws.proofs.TileRoles.{NoBraces, link_thing, category_thing, switch_thing, break_thing, placeholder_thing, pair_thing, external_thing, bare_thing, IsLexemeForm, lexeme_thing}
+use Rattle.wt_beside_laws.proofs.TileRoles.{NoBraces, link_thing, category_thing, switch_thing, break_thing, placeholder_thing, pair_thing, external_thing, bare_thing, IsLexemeForm, lexeme_thing, IsMarkForm, mark_thing}
 use Rattle.wt_beside_laws.proofs.UrlShown.{AreTextual, all_textual, url_shows}
 
 -- ---- what begins a form
@@ -219,6 +219,38 @@ atom_told a at w (whole f o bs ∷ y ∷ ys) zs i some l alone e apart =
     let one : size w ≡ 1 = (whole_kind a f (map glyph_of (y ∷ (ys ++ zs))) w e).1 in
     absurd (omega (arith, one, l))
 
+-- an include tag
+atom_apart : (w : Shape) → Some (leaf kind.Atom 1) ≡ Some w → w.kind ≡ kind.Mark → ⊥
+atom_apart w e i = cc
+
+mark_form : (a : Bool) (f : ItemForm) (gs : List Glyph) (w : Shape) → IsPageForm f → tile_with in_line a (glyph_of_form f) (glyph_of_form f ∷ gs) ≡ Some w
+    → w.kind ≡ kind.Mark → IsMarkForm f
+mark_form a form.Chars gs w p e i = absurd p
+mark_form a (form.Entity c) gs w p e i = absurd (atom_apart w e i)
+mark_form a form.Nowiki gs w p e i = absurd (atom_apart w e i)
+mark_form a form.Extension gs w p e i = absurd (atom_apart w e i)
+mark_form a form.Function gs w p e i = absurd p
+mark_form a form.Comment gs w p e i = tt
+mark_form a form.Include gs w p e i = tt
+mark_form a form.Hidden gs w p e i = tt
+mark_form a form.EmptyCall gs w p e i = absurd p
+
+mark_told : (a : Bool) (at : ℕ) (w : Shape) (ys zs : List Item) → w.kind ≡ kind.Mark → 0 < length ys → length ys ≡ size w → page_items (sources ys) ≡ ys
+    → tile_at in_line a (map glyph_of (ys ++ zs)) ≡ Some w → line_parts ys ≡ parts Text ys
+    → Told at (parts Text ys) (things (form_sign kind.Mark at ys)) (length (sources ys))
+mark_told a at w [] zs i some l alone e apart = absurd (omega (arith, some))
+mark_told a at w (char o b ∷ ys) zs i some l alone e apart = absurd (subst IsNodeKind i (form_is_node in_line a (map glyph_of (char o b ∷ (ys ++ zs))) w e))
+mark_told a at w (whole f o bs ∷ []) zs i some l alone e apart =
+    let p : AreOfPage (whole f o bs ∷ []) = subst AreOfPage alone (are_of_page (sources (whole f o bs ∷ []))) in
+    let u : ItemTree = whole_tree f o bs in
+    let own : tree_source u ≡ sources (whole f o bs ∷ []) =
+    ap sources (sym (append-nil (tree_items u)) ∙ held_of_parts Text (whole f o bs ∷ [])) ∙ sources_opened (whole f o bs ∷ []) in
+    node_told at u (role.Mark false false) (whole f o bs ∷ []) (record { source = own; read = alone; alone = apart })
+    (mark_thing f o bs (mark_form a f (map glyph_of zs) w p.0 e i))
+mark_told a at w (whole f o bs ∷ y ∷ ys) zs i some l alone e apart =
+    let one : size w ≡ 1 = (whole_kind a f (map glyph_of (y ∷ (ys ++ zs))) w e).1 in
+    absurd (omega (arith, one, l))
+
 -- a URL by itself
 bare_textual : (own : List Glyph) → IsBareNode own → AreTextual own
 bare_textual own n = subst AreTextual (sym n.is) (all_textual (glyph.Byte n.first ∷ n.others) n.shape n.url (n.whole ∙ ap length n.is))
@@ -299,7 +331,9 @@ form_told kind.Switch a at w ys zs f =
 form_told kind.Atom a at w ys zs f =
     atom_told a at w ys zs f.kind_is f.some f.placed.0 f.form.alone f.read
     (form_alone kind.Atom a w ys zs f.kind_is f.flat f.form (subst (λ (j : TileKind). OpensAs j w) (sym f.kind_is) tt) (sym f.placed.0) f.some f.read)
-form_told kind.Mark a at w ys zs f = absurd f.flat
+form_told kind.Mark a at w ys zs f =
+    mark_told a at w ys zs f.kind_is f.some f.placed.0 f.form.alone f.read
+    (form_alone kind.Mark a w ys zs f.kind_is f.flat f.form (subst (λ (j : TileKind). OpensAs j w) (sym f.kind_is) tt) (sym f.placed.0) f.some f.read)
 form_told kind.Chars a at w ys zs f = absurd f.flat
 
 -- ---- the tiles of a line
@@ -342,7 +376,7 @@ tile_told kind.Pair a at w xs i f s some p n = form_here kind.Pair a at w xs i t
 tile_told kind.TagIsland a at w xs i f s some p n = form_here kind.TagIsland a at w xs i tt f s some p n
 tile_told kind.Switch a at w xs i f s some p n = form_here kind.Switch a at w xs i tt f s some p n
 tile_told kind.Atom a at w xs i f s some p n = form_here kind.Atom a at w xs i tt f s some p n
-tile_told kind.Mark a at w xs i f s some p n = absurd f
+tile_told kind.Mark a at w xs i f s some p n = form_here kind.Mark a at w xs i tt f s some p n
 tile_told kind.Chars a at w xs i f s some p n =
     let ys : List Item = take (size w) xs in
     subst (λ (ts : List Thing). Told at (parts Text ys) ts (length (sources ys))) (sym (no_things (chars (sources ys)))) (chars_told at ys (are_chars (size w) a xs s.1))

@@ -297,13 +297,16 @@ other_fails p own f n = elim n [
   ]
 ]
 
+mark_fails : (p : ℕ → Bool) (own : List Glyph) → own ≡ glyph.Mark ∷ [] → LastFails p own
+mark_fails p own i = subst (LastFails p) (sym i) refl
+
 node_fails : (p : ℕ → Bool) (r : Role) (own : List Glyph) → FailsAtEnds p → (IsBareNode own → LastFails p own) → IsNode r own → LastFails p own
 node_fails p Link own f k n = link_fails p own f n
 node_fails p External own f k n = external_fails p own f n
 node_fails p (Bare ends) own f k n = k n
 node_fails p Switch own f k n = switch_fails p own f n
 node_fails p Toggle own f k n = delimiter_fails p own f n
-node_fails p (Mark ends began) own f k n = absurd n
+node_fails p (Mark ends began) own f k n = mark_fails p own n.is
 node_fails p (Group g) own f k n = absurd n
 node_fails p Function own f k n = lexeme_fails p own n
 node_fails p Node own f k n = other_fails p own f n
@@ -359,7 +362,7 @@ unequal_by Link items n e = last_sign is_equals_sign items refl refl (link_fails
 unequal_by External items n e = last_sign is_equals_sign items refl refl (external_fails is_equals_sign (map glyph_of items) no_equals n)
 unequal_by Switch items n e = last_sign is_equals_sign items refl refl (switch_fails is_equals_sign (map glyph_of items) no_equals n)
 unequal_by Toggle items n e = last_sign is_equals_sign items refl refl (delimiter_fails is_equals_sign (map glyph_of items) no_equals n)
-unequal_by (Mark ends began) items n e = absurd n
+unequal_by (Mark ends began) items n e = last_sign is_equals_sign items refl refl (mark_fails is_equals_sign (map glyph_of items) n.is)
 unequal_by (Group g) items n e = absurd n
 unequal_by Function items n e = last_sign is_equals_sign items refl refl (lexeme_fails is_equals_sign (map glyph_of items) n)
 unequal_by Node items n e = last_sign is_equals_sign items refl refl (other_fails is_equals_sign (map glyph_of items) no_equals n)

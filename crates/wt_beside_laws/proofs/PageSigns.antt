@@ -169,7 +169,7 @@ map_take zero xs = refl
 map_take (suc n) [] = refl
 map_take (suc n) (x ∷ xs) = ap (λ gs. glyph_of x ∷ gs) (map_take n xs)
 
-map_drop : (n : ℕ) (xs : List Item) → map glyph_of (drop n xs) ≡ drop n (map glyph_of xs)
+pub map_drop : (n : ℕ) (xs : List Item) → map glyph_of (drop n xs) ≡ drop n (map glyph_of xs)
 map_drop zero xs = refl
 map_drop (suc n) [] = refl
 map_drop (suc n) (x ∷ xs) = map_drop n xs
@@ -240,7 +240,7 @@ IsFlatKind kind.Pair = Unit {0}
 IsFlatKind kind.TagIsland = Unit {0}
 IsFlatKind kind.Switch = Unit {0}
 IsFlatKind kind.Atom = Unit {0}
-IsFlatKind kind.Mark = ⊥
+IsFlatKind kind.Mark = Unit {0}
 IsFlatKind kind.Chars = ⊥
 
 pub role_fits : (k : TileKind) (xs : List Item) → IsFlatKind k → IsTileOf (tile_role k xs) k
@@ -254,7 +254,7 @@ role_fits kind.Pair xs h = tt
 role_fits kind.TagIsland xs h = tt
 role_fits kind.Switch xs h = refl
 role_fits kind.Atom xs h = atom_tile xs
-role_fits kind.Mark xs h = absurd h
+role_fits kind.Mark xs h = (refl, refl, refl)
 role_fits kind.Chars xs h = absurd h
 
 pub before_is : (a : Bool) (own behind : List Glyph) → 0 < length own → form_before in_line a own behind ≡ tile_at in_line a (own ++ behind)
@@ -310,7 +310,7 @@ by_kind kind.Pair a at w xs more e f s some le n r = form_tile kind.Pair a at w 
 by_kind kind.TagIsland a at w xs more e f s some le n r = form_tile kind.TagIsland a at w xs more e tt f s some le r
 by_kind kind.Switch a at w xs more e f s some le n r = form_tile kind.Switch a at w xs more e tt f s some le r
 by_kind kind.Atom a at w xs more e f s some le n r = form_tile kind.Atom a at w xs more e tt f s some le r
-by_kind kind.Mark a at w xs more e f s some le n r = absurd f
+by_kind kind.Mark a at w xs more e f s some le n r = form_tile kind.Mark a at w xs more e tt f s some le r
 by_kind kind.Chars a at w xs more e f s some le n r =
     chars_read a at (take (size w) xs) (drop (size w) xs) more (are_chars (size w) a xs s.1) (none_take (size w) xs n) f r
 

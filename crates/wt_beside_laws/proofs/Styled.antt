@@ -26,6 +26,11 @@ pub mod StyledAgain
 pub mod OldStyled
 pub mod StyledTexts
 pub mod OwnStyled
+pub mod StyleKinds
+pub mod OwnNests
+pub mod SentNests
+pub mod UrlEnds
+pub mod UrlsApart
 mod Cases
 mod InCases
 mod EditCases

@@ -7,13 +7,13 @@ use Rattle.wt_guards.specs.Guards.{Setting, nowiki, is_guarded}
 use Rattle.wt_guards.specs.Letters.{is_escaped, reference}
 use Rattle.wt_expand.specs.PageItems.{page_items}
 use Rattle.wt_text_edit_laws.specs.LonePages.{page_chars}
-use Rattle.wt_beside_laws.specs.Kept.{IsKept}
+use Rattle.wt_beside_laws.specs.Commented.{IsHeld}
 
--- the source of each node stands so whatever is written behind it
+-- each node is a comment, or its source stands so whatever is written behind it
 abbrev pub AreKept : List ContentSign → Type 0
 AreKept [] = Unit {0}
 AreKept (letter c ∷ after) = AreKept after
-AreKept (thing t ∷ after) = IsKept t.source × AreKept after
+AreKept (thing t ∷ after) = IsHeld t.source × AreKept after
 
 abbrev pub guard_items : Bool → List Item
 guard_items true = whole form.Nowiki None nowiki ∷ []

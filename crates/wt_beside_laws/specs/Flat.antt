@@ -31,6 +31,12 @@ AreFlat [] = Unit {0}
 AreFlat (letter c ∷ after) = AreFlat after
 AreFlat (thing t ∷ after) = IsFlat t.role × AreFlat after
 
+-- What its reading hangs on, in a paragraph or a heading.
+pub record IsReadIn (s : Setting) (signs : List ContentSign) : Type 0 where
+  pub within : s.within ≡ false
+  pub kept : AreKept signs
+  pub nodes : AreNodes signs
+
 -- Such a content of a paragraph or a heading: text that is typed, and nodes that stay, each read so whatever is written behind it, on one line
 -- each, and beside each other as they may stand in a page.
 pub record IsFlatContent (s : Setting) (signs : List ContentSign) : Type 0 where

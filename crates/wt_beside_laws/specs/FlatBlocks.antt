@@ -8,6 +8,7 @@ use Rattle.wt_guards.specs.Content.{ContentSign, letter, thing}
 use Rattle.wt_link_spelling.specs.Spelling.{children_of}
 use Rattle.wt_expand.specs.PageItems.{page_items}
 use Rattle.wt_lines.specs.Lines.{lines}
+use Rattle.wt_page.specs.Rows.{marks_len}
 use Rattle.wt_content.specs.Content.{has_break}
 use Rattle.wt_typed_blocks.specs.Edited.{Pieces, no_pieces, gone, written, kept, around, new_style, page_pieces, PiecesStay}
 use Rattle.wt_text_edit_laws.specs.TextBlocks.{TextBlock, a_paragraph, a_heading}
@@ -31,6 +32,11 @@ begins_at (a_heading s) = length (opening s)
 -- its signs, by the tiles of its lines
 abbrev pub signs_in : TextBlock → List ℕ → List ContentSign
 signs_in k q = signs_of_lines (begins_at k) (lines_in k q)
+
+-- a heading doesn't begin with a mark; of a paragraph this is asked with its lines
+abbrev pub IsUnledIn : TextBlock → List ℕ → Type 0
+IsUnledIn a_paragraph q = Unit {0}
+IsUnledIn (a_heading s) q = marks_len (page_items q) ≡ 0
 
 -- ---- closing tags
 

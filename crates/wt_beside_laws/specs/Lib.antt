@@ -1,5 +1,6 @@
 pub mod Kept
 pub mod Nodes
+pub mod Commented
 pub mod Content
 pub mod Cuts
 pub mod PageSigns
@@ -26,4 +27,5 @@ pub mod SentStyled
 pub mod StyledNodes
 pub mod StyledHeadings
 pub mod StyledBlocks
+pub mod NewStyles
 pub mod StyledIn

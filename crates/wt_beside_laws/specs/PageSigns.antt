@@ -7,7 +7,7 @@ use Rattle.wt_span.specs.declared.form.ItemForm.TheVariants as form
 use Rattle.wt_span.specs.Characters as byte
 use Rattle.wt_span.specs.Items.{Item, char, whole, sources}
 use Rattle.wt_guards.specs.declared.role.Role.{Role}
-use Rattle.wt_guards.specs.declared.role.Role.TheVariants.{Link, External, Bare, Switch, Function, Node}
+use Rattle.wt_guards.specs.declared.role.Role.TheVariants.{Link, External, Bare, Switch, Mark, Function, Node}
 use Rattle.wt_guards.specs.Content.{ContentSign, letter, thing, letters}
 use Rattle.wt_expand.specs.PageItems.{page_items}
 use Rattle.wt_tiles.specs.declared.shape.Shape.{Shape}
@@ -37,6 +37,7 @@ atom_role [] = Node
 atom_role (char o b ∷ xs) = Node
 atom_role (whole f o bs ∷ xs) = form_role f
 
+-- a mark is within its line
 abbrev pub tile_role : TileKind → List Item → Role
 tile_role kind.Link xs = Link
 tile_role kind.Category xs = Node
@@ -48,7 +49,7 @@ tile_role kind.Pair xs = Node
 tile_role kind.TagIsland xs = Node
 tile_role kind.Switch xs = Switch
 tile_role kind.Atom xs = atom_role xs
-tile_role kind.Mark xs = Node
+tile_role kind.Mark xs = Mark false false
 tile_role kind.Chars xs = Node
 
 -- ---- the signs
@@ -92,7 +93,6 @@ pub record IsFlatForm (k : TileKind) (xs : List Item) : Type 0 where
   pub alone : page_items (sources xs) ≡ xs
   pub lone : OpensNoPair k (map glyph_of xs)
 
--- no mark is among them
 abbrev pub IsFlatTile : TileKind → List Item → Type 0
 IsFlatTile kind.Link xs = IsFlatForm kind.Link xs
 IsFlatTile kind.Category xs = IsFlatForm kind.Category xs
@@ -104,7 +104,7 @@ IsFlatTile kind.Pair xs = IsFlatForm kind.Pair xs
 IsFlatTile kind.TagIsland xs = IsFlatForm kind.TagIsland xs
 IsFlatTile kind.Switch xs = IsFlatForm kind.Switch xs
 IsFlatTile kind.Atom xs = IsFlatForm kind.Atom xs
-IsFlatTile kind.Mark xs = ⊥
+IsFlatTile kind.Mark xs = IsFlatForm kind.Mark xs
 IsFlatTile kind.Chars xs = IsUtf8 (sources xs)
 
 abbrev pub AreFlatTiles : List (Shape × List Item) → Type 0

@@ -21,15 +21,16 @@ use Rattle.wt_text_edit_laws.specs.NoCalls.{CallsNothing}
 use Rattle.wt_text_edit_laws.specs.TextBlocks.{TextBlock, a_paragraph, a_heading, source_of, block_items}
 use Rattle.wt_beside_laws.specs.Calm.{AreCalm}
 use Rattle.wt_beside_laws.specs.Content.{AreKept}
-use Rattle.wt_beside_laws.specs.FlatBlocks.{lines_in, signs_in as signs_of, TextsFitIn}
+use Rattle.wt_beside_laws.specs.FlatBlocks.{lines_in, signs_in as signs_of, IsUnledIn, TextsFitIn}
 use Rattle.wt_beside_laws.specs.FlatPages.{AreNodesAndTexts}
 use Rattle.wt_beside_laws.specs.InHeadings.{AreOnOneLine}
 use Rattle.wt_beside_laws.specs.PageBlocks.{AreUnstyled, AreShut}
 use Rattle.wt_beside_laws.specs.PageSigns.{AreFlatLines}
-use Rattle.wt_beside_laws.specs.SentStyled.{sent_content, AllNest}
+use Rattle.wt_beside_laws.specs.NewStyles.{NewStylesNest}
+use Rattle.wt_beside_laws.specs.SentStyled.{sent_content}
 use Rattle.wt_beside_laws.specs.Stood.{things}
 use Rattle.wt_beside_laws.specs.Styled.{StyledContent, signs_in, IsStyledContent}
-use Rattle.wt_beside_laws.specs.StyledNodes.{AreSomeAndPut, AreUrlsApart}
+use Rattle.wt_beside_laws.specs.StyledNodes.{AreSomeAndPut}
 
 -- A content that is read by itself and calls nothing: text, with bold and italic or without, and forms that are nodes, which stay whatever is
 -- written beside them. The source of each is read so whatever follows it, and doesn't end in an open tag.
@@ -38,6 +39,7 @@ pub record IsStyledIn (k : TextBlock) (q : List ℕ) : Type 0 where
   pub ended : page_items (source_of k q ++ byte.line_break ∷ []) ≡ block_items k q ++ char None byte.line_break ∷ []
   pub unended : page_items (source_of k q) ≡ block_items k q
   pub is : IsContentOf k q
+  pub unled : IsUnledIn k q
   pub calls_nothing : CallsNothing (block_items k q)
   pub of_page : list_all is_page (held_by_all (forest (children (content_parts_of k (page_items q))))) ≡ true
   pub has_items : AllHaveItems (forest (children (content_parts_of k (page_items q))))
@@ -69,12 +71,11 @@ pub record IsStyledFor (k : TextBlock) (q : List ℕ) (s : Setting) (t : StyledC
 abbrev pub sent_for : Tree → Pieces → StyledContent
 sent_for block ps = sent_content (page_of same_node block) (sent_pieces ps)
 
--- As for a flat block, where bold and italic nodes of the page may stay, too, and new ones may come, with any such pieces in them. The styles nest,
--- and no bare URL is directly before a delimiter in the page.
+-- As for a flat block, where bold and italic nodes of the page may stay, too, and new ones may come, with any such pieces in them: a new one in none
+-- of its kind, and round none. In bold and italic no text has a line break.
 pub record IsStyledEditOf (k : TextBlock) (block : Tree) (ps : Pieces) : Type 0 where
   pub old : page_pieces ps ≡ children_of block
   pub stay : PiecesStay ps
   pub are : AreNodesAndTexts ps
   pub fit : TextsFitIn k ps
-  pub nest : AllNest false false (sent_pieces ps)
-  pub apart : AreUrlsApart (things (signs_in (sent_for block ps)))
+  pub new : NewStylesNest false false ps

@@ -34,7 +34,7 @@ ghost use Rattle.wt_tiles.specs.Urls.{scheme_len, ext_link_at, bare_url_at};
 ghost use Rattle.wt_beside_laws.specs.Beginnings.{IsApart};
 ghost use Rattle.wt_beside_laws.specs.Content.{AreKept, content_items};
 ghost use Rattle.wt_beside_laws.specs.Cuts.{IsFree, content_cut};
-ghost use Rattle.wt_beside_laws.specs.Flat.{AreFlat, IsFlatContent, content_parts, line_content};
+ghost use Rattle.wt_beside_laws.specs.Flat.{AreFlat, IsFlatContent, content_parts, line_content, IsReadIn};
 ghost use Rattle.wt_beside_laws.specs.Glyphs.{content_glyphs, IsPast, AllAvoid};
 ghost use Rattle.wt_beside_laws.specs.InHeadings.{IsHeadingContent, KeepsLevel, heading_of};
 ghost use Rattle.wt_headings.specs.Headings.{heading};
@@ -84,10 +84,10 @@ pub use styles::{
 /// A content of text that is typed and of nodes that stay, as it is spelled, makes no lexeme over the border of a text and
 /// a node: its items are those of each node by itself, the characters and references of the text, and the nowikis that
 /// are put between. So they are before whatever stands behind the content.
-#[tactic(auto, using(crate::proofs::Contents::content_alone, crate::proofs::Contents::content_before))]
+#[tactic(auto, using(crate::proofs::Marks::Commented::content_alone, crate::proofs::Marks::Commented::content_before))]
 pub fn texts_beside_nodes_make_no_lexeme()
-    ensures alone { (s : Setting) (signs : List ContentSign) → AreKept signs → page_items (spelled s signs) ≡ content_items s [] signs }
-    ensures before { (s : Setting) (signs : List ContentSign) (rest : List ℕ) → AreKept signs → StandsBehind rest
+    ensures alone { (s : Setting) (signs : List ContentSign) → IsReadIn s signs → page_items (spelled s signs) ≡ content_items s [] signs }
+    ensures before { (s : Setting) (signs : List ContentSign) (rest : List ℕ) → IsReadIn s signs → StandsBehind rest
         → page_items (spelled s signs ++ rest) ≡ content_items s [] signs ++ page_items rest }
 {}
 
@@ -114,9 +114,9 @@ pub fn no_url_begins_in_typed_text()
 /// each reference and each nowiki that is put is one, and the characters between them are runs. So they are before what is
 /// behind the content, if that joins no node, begins neither what goes on with a URL nor a switch, and is read so whatever
 /// comes before it. Nodes between which nothing is put are to stand as they may stand in a page.
-#[tactic(auto, using(crate::proofs::NodesBegin::tiles_alone, crate::proofs::NodesBegin::tiles_before))]
+#[tactic(auto, using(crate::proofs::Marks::Tiles::tiles_alone, crate::proofs::NodesBegin::tiles_before))]
 pub fn texts_beside_nodes_make_no_tile()
-    ensures alone { (s : Setting) (signs : List ContentSign) → AreKept signs → AreNodes signs → AllMeet s [] signs []
+    ensures alone { (s : Setting) (signs : List ContentSign) → IsReadIn s signs → AllMeet s [] signs []
         → cuts in_line false 0 (map glyph_of (page_items (spelled s signs))) ≡ content_cut in_line s [] signs (0, []) }
     ensures before { (s : Setting) (signs : List ContentSign) (rest : List Sign) → AreNodes signs → AllMeet s [] signs rest → IsApart rest → IsFree in_line rest
         → cuts in_line false 0 (content_glyphs s [] signs rest) ≡ content_cut in_line s [] signs (cuts in_line false 0 rest) }
@@ -222,7 +222,7 @@ pub fn contents_beside_nodes_are_flat_again()
 /// The lines of such a content are cut where a line break is typed, and each is a line of text, in a table too: nothing that
 /// is typed, and no node, makes it a heading, a list, a rule, preformatted text or a part of a table, and none is blank.
 pub fn texts_beside_nodes_are_lines_of_text()
-    ensures lines { (s : Setting) (signs : List ContentSign) → AreKept signs → AreUnbroken signs → lines (page_items (spelled s signs)) ≡ content_lines s signs }
+    ensures lines { (s : Setting) (signs : List ContentSign) → IsReadIn s signs → AreUnbroken signs → lines (page_items (spelled s signs)) ≡ content_lines s signs }
     ensures text { (tables : ℕ) (s : Setting) (signs : List ContentSign) → s.within ≡ false → AreCharacters signs → AreNodes signs
         → AreLinesOfText tables (content_lines s signs) }
 {}
@@ -304,9 +304,9 @@ pub fn what_is_sent_is_what_is_shown()
 #[tactic(auto, using(crate::proofs::CalmContents::content_utf8, crate::proofs::CalmContents::content_expanded, crate::proofs::CalmContents::content_unrefused))]
 pub fn texts_beside_nodes_call_nothing()
     ensures utf8 { (s : Setting) (signs : List ContentSign) → AreCharacters signs → AreCalm signs → IsUtf8 (spelled s signs) }
-    ensures expanded { (pages : Pages) (s : Setting) (signs : List ContentSign) → AreKept signs → AreCalm signs
+    ensures expanded { (pages : Pages) (s : Setting) (signs : List ContentSign) → IsReadIn s signs → AreCalm signs
         → expanded_page pages (spelled s signs) ≡ of_items (page_items (spelled s signs)) }
-    ensures unrefused { (pages : Pages) (s : Setting) (signs : List ContentSign) → AreKept signs → AreCalm signs
+    ensures unrefused { (pages : Pages) (s : Setting) (signs : List ContentSign) → IsReadIn s signs → AreCalm signs
         → first_refusal pages (spelled s signs) (page_work pages (spelled s signs)) ≡ None }
 {}
 

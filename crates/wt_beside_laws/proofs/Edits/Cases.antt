@@ -1,5 +1,5 @@
 -- Worked case: the page `x<br>y` is a flat page.
-use Rattle.std.proofs.Common.{◌≡◌, ℕ, List, [], ◌∷◌, refl, sym, subst}
+use Rattle.std.proofs.Common.{◌≡◌, ℕ, List, [], ◌∷◌, refl, sym, subst, inl}
 use Rattle.std.specs.Prelude.{codes}
 use Rattle.std.specs.Str.{IsUtf8, chars}
 use Rattle.std.proofs.Math.Utf8.{encode}
@@ -35,13 +35,14 @@ use Rattle.wt_beside_laws.specs.Kept.{characters, sign, IsKept}
 use Rattle.wt_beside_laws.specs.Lines.{AreLinesOfText}
 use Rattle.wt_beside_laws.specs.PageBlocks.{AreUnstyled, AreShut}
 use Rattle.wt_text_edit_laws.specs.ParagraphParts.{joined_parts}
-use Rattle.wt_beside_laws.specs.PageSigns.{signs_of_lines, AreFlatLines}
+use Rattle.wt_beside_laws.specs.PageSigns.{signs_of_lines, AreFlatLines, HasNoBreak}
 use Rattle.wt_beside_laws.proofs.Firm.{alone_as, parts_read}
 use Rattle.wt_beside_laws.proofs.FlatLines.{lines_meaning}
 use Rattle.wt_beside_laws.specs.FlatPages.{lines_of, paragraph_of, IsFlatPage}
 use Rattle.wt_beside_laws.proofs.Edits.OldPages.{IsOneBlock, one_tree, one_ungrouped}
 use Rattle.wt_beside_laws.proofs.Edits.FullTrees.{AreFullParts, para_plain}
 use Rattle.wt_beside_laws.proofs.Edits.NewPages.{means_source}
+use Rattle.wt_beside_laws.specs.Commented.{IsHeld}
 
 -- ---- a page whose nodes are full has no groups
 
@@ -109,6 +110,9 @@ break_kept = record {
   is = refl;
 }
 
+pub break_held : IsHeld (codes "<br>")
+break_held = inl (break_kept, subst HasNoBreak (sym break_alone) (refl, (refl, (refl, (refl, tt)))))
+
 pub break_calm : IsCalm (codes "<br>")
 unfolding encode
 break_calm = record { utf8 = (codes "<br>", (refl, refl)); unbraced = subst HaveNoBraces (sym break_alone) (refl, (refl, (refl, (refl, tt)))) }
@@ -126,7 +130,7 @@ break_flat = record {
     tt,
   );
   unstyled = (refl, tt);
-  kept = (break_kept, tt);
+  kept = (break_held, tt);
   calm = (break_calm, tt);
   shut = (refl, tt);
   full = (refl, ((refl, tt, refl), (refl, tt)));

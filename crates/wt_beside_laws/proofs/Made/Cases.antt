@@ -44,18 +44,19 @@ use Rattle.wt_beside_laws.specs.PageBlocks.{AreUnstyled, AreShut}
 use Rattle.wt_beside_laws.specs.PageSigns.{signs_of_lines, AreFlatLines}
 use Rattle.wt_beside_laws.specs.StyledIn.{IsFlatIn}
 use Rattle.wt_beside_laws.proofs.Firm.{alone_as, parts_read}
-use Rattle.wt_beside_laws.proofs.Edits.Cases.{AreFlat, items_are, break_kept, break_calm, break_flat}
+use Rattle.wt_beside_laws.proofs.Edits.Cases.{AreFlat, items_are, break_held, break_calm, break_flat}
+use Rattle.wt_page.specs.Rows.{marks_len}
 
 -- ---- as a paragraph
 
 -- what else its items have to be
-record AreBlockItems (xs : List Item) : Type 0 where
+pub record AreBlockItems (xs : List Item) : Type 0 where
   pub are_lines : All IsTextLine (lines xs)
   pub unled : AreUnled (full_lines xs)
   pub of_page : list_all is_page (held_by_all (forest (children (joined_parts (lines xs))))) ≡ true
   pub has_items : AllHaveItems (forest (children (joined_parts (lines xs))))
 
-paragraph_by : (q : List ℕ) (xs : List Item) → page_items q ≡ xs → page_items (q ++ 10 ∷ []) ≡ xs ++ char None 10 ∷ []
+pub paragraph_by : (q : List ℕ) (xs : List Item) → page_items q ≡ xs → page_items (q ++ 10 ∷ []) ≡ xs ++ char None 10 ∷ []
     → StandsBehind q → StandsBehind (q ++ 10 ∷ []) → AreFlat q xs → AreBlockItems xs → IsFlatIn a_paragraph q
 paragraph_by q xs is ended alone before_break given more =
     let h : AreFlat q (page_items q) = subst (AreFlat q) (sym is) given in
@@ -66,6 +67,7 @@ paragraph_by q xs is ended alone before_break given more =
         ended = ended ∙ ap (λ (ys : List Item). ys ++ char None 10 ∷ []) (sym is);
         unended = refl;
         is = record { are_lines = b.are_lines; unled = b.unled; alone = alone; before_break = before_break };
+        unled = tt;
         calls_nothing = h.calls_nothing;
         of_page = b.of_page;
         has_items = b.has_items;
@@ -132,6 +134,7 @@ frame = record {
 record AreHeadingItems (xs : List Item) : Type 0 where
   pub line : heading_line (spaced 2) xs ≡ page_chars words_as_heading
   pub calls_nothing : CallsNothing (heading_line (spaced 2) xs)
+  pub unled : marks_len xs ≡ 0
   pub inside : IsHeadingInside xs
   pub of_level : IsOfLevel (spaced 2) xs
   pub of_page : list_all is_page (held_by_all (forest (children (line_parts xs)))) ≡ true
@@ -151,6 +154,7 @@ heading_by xs is utf8 given =
         ended = ended_heading_are ∙ ap (λ (ys : List Item). ys ++ char None 10 ∷ []) (sym h.line);
         unended = heading_are ∙ sym h.line;
         is = record { frame = frame; inside = h.inside; of_level = h.of_level };
+        unled = h.unled;
         calls_nothing = h.calls_nothing;
         of_page = h.of_page;
         has_items = h.has_items;
@@ -166,6 +170,7 @@ heading_items : AreHeadingItems (page_chars (codes "x<br>y"))
 unfolding page_items words words_closed level kind_of_signs context_parts with_styles style_tree_of toggles_of toggle_at chunks segments loose_segments tiles shapes closed form_at link_or_url link_at ext_link_at bare_url_at scheme_len tag_tile tag_at opening_tag closing_tag tag_after name_of live_name switch_at chars children
 heading_items = record {
   line = refl;
+  unled = refl;
   calls_nothing = tt;
   inside = record { unbroken = (refl, (refl, (refl, (refl, (refl, (refl, tt)))))); begins = refl; ends = refl };
   of_level = refl;
@@ -173,7 +178,7 @@ heading_items = record {
   has_items = ((refl, tt), ((refl, tt), ((refl, tt), tt)));
   flat = break_flat.flat;
   unstyled = break_flat.unstyled;
-  kept = (break_kept, tt);
+  kept = (break_held, tt);
   calm = (break_calm, tt);
   shut = (refl, tt);
 }

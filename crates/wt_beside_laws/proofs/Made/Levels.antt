@@ -33,12 +33,12 @@ use Rattle.wt_beside_laws.specs.Lines.{AreCharacters, line_items}
 use Rattle.wt_beside_laws.specs.Nodes.{IsNode, AreNodes}
 use Rattle.wt_beside_laws.specs.PageSigns.{form_role, atom_role, tile_signs, signs_of_tiles, line_signs, signs_of_lines, IsFlatForm, IsFlatTile, AreFlatTiles, AreFlatLines}
 use Rattle.wt_beside_laws.specs.Stood.{things}
-use Rattle.wt_beside_laws.proofs.Contents.{content_alone}
 use Rattle.wt_beside_laws.proofs.Each.{Each}
 use Rattle.wt_beside_laws.proofs.PageSigns.{flat_nodes}
 use Rattle.wt_beside_laws.proofs.LineHeadings.{same_items, ends_behind, UnequalLast, letter_unequal, end_unequal, begins_unequal, unequal_end}
 use Rattle.wt_beside_laws.proofs.LineKinds.{line_opens}
 use Rattle.wt_beside_laws.proofs.NodeEnds.{EndInSigns, nodes_end, unequal_by}
+use Rattle.wt_beside_laws.proofs.Marks.Commented.{content_alone}
 
 -- ---- what a bare URL's role tells of its last item
 
@@ -151,7 +151,7 @@ tile_told kind.Pair at xs f h = (tt, tt)
 tile_told kind.TagIsland at xs f h = (tt, tt)
 tile_told kind.Switch at xs f h = (tt, tt)
 tile_told kind.Atom at xs f h = (atom_told xs (map sign (page_items (sources xs))), tt)
-tile_told kind.Mark at xs f h = absurd f
+tile_told kind.Mark at xs f h = (tt, tt)
 tile_told kind.Chars at xs f h = letters_told (chars (sources xs))
 
 tiles_told : (at : ℕ) (ps : List (Shape × List Item)) → AreFlatTiles ps → EndInSigns (signs_of_tiles at ps) → AllTold (signs_of_tiles at ps)
@@ -210,7 +210,7 @@ role_apart Link items end n h f = end_unequal end items (unequal_by Link items n
 role_apart External items end n h f = end_unequal end items (unequal_by External items n tt)
 role_apart Switch items end n h f = end_unequal end items (unequal_by Switch items n tt)
 role_apart Toggle items end n h f = end_unequal end items (unequal_by Toggle items n tt)
-role_apart (Mark ends began) items end n h f = absurd n
+role_apart (Mark ends began) items end n h f = end_unequal end items (unequal_by (Mark ends began) items n tt)
 role_apart (Group g) items end n h f = absurd n
 role_apart Function items end n h f = end_unequal end items (unequal_by Function items n tt)
 role_apart Node items end n h f = end_unequal end items (unequal_by Node items n tt)
@@ -250,7 +250,7 @@ pub level_told : (s : Setting) (signs : List ContentSign) (sides : Sides) → s.
     → AllTold signs → AreSides sides → IsOfLevel sides (page_items (spelled s signs))
 level_told s signs sides w k c n o h a =
     let own : List Item = page_items (spelled s signs) in
-    let is : own ≡ content_items s [] signs = content_alone s signs k in
+    let is : own ≡ content_items s [] signs = content_alone s signs (record { within = w; kept = k; nodes = n }) in
     let ss : List ℕ = map sign own in
     let begins : BeginsWithout is_equals_sign ss =
     subst (λ (xs : List Item). BeginsWithout is_equals_sign (map sign xs)) (sym (is ∙ sym (same_items s [] signs o)))

@@ -22,17 +22,18 @@ use Rattle.wt_text_edit_laws.proofs.Prose.InFront.{Reads, reads_nothing, read_br
 use Rattle.wt_text_edit_laws.proofs.Prose.Uncommented.{BeginsUncommented}
 use Rattle.wt_beside_laws.specs.Calm.{IsCalm, AreCalm}
 use Rattle.wt_beside_laws.specs.Content.{AreKept}
-use Rattle.wt_beside_laws.specs.FlatBlocks.{lines_in}
+use Rattle.wt_beside_laws.specs.Flat.{IsReadIn}
+use Rattle.wt_beside_laws.specs.FlatBlocks.{lines_in, IsUnledIn}
 use Rattle.wt_beside_laws.specs.InHeadings.{AreOnOneLine}
 use Rattle.wt_beside_laws.specs.Lines.{IsLineOfText, AreCharacters, AreUnbroken, line_items, later_lines, content_lines}
 use Rattle.wt_beside_laws.specs.Nodes.{AreNodes}
 use Rattle.wt_beside_laws.proofs.CalmContents.{content_unbraced, nowiki_calm, reference_calm}
-use Rattle.wt_beside_laws.proofs.Contents.{content_reads, content_alone}
 use Rattle.wt_beside_laws.proofs.FlatAgain.{EachSource, HoldsOfPut}
 use Rattle.wt_beside_laws.proofs.LineHeadings.{same_items}
 use Rattle.wt_beside_laws.proofs.LineItems.{content_lines_are}
 use Rattle.wt_beside_laws.proofs.LineKinds.{lines_are_text}
 use Rattle.wt_beside_laws.proofs.LineParagraphs.{unmarked}
+use Rattle.wt_beside_laws.proofs.Marks.Commented.{content_alone, content_reads}
 
 -- ---- a content of a block of this kind
 
@@ -50,37 +51,42 @@ none_later s before (letter c ∷ after) o =
     ∙ none_later s (letter c ∷ before) after o.1
 none_later s before (thing t ∷ after) o = none_later s (thing t ∷ before) after o
 
-pub lines_by : (k : TextBlock) (s : Setting) (signs : List ContentSign) → AreKept signs → AreUnbroken signs → FitsIn k s signs
+pub lines_by : (k : TextBlock) (s : Setting) (signs : List ContentSign) → IsReadIn s signs → AreUnbroken signs → FitsIn k s signs
     → lines_in k (spelled s signs) ≡ content_lines s signs
 lines_by a_paragraph s signs kept unbroken fits = content_lines_are s signs kept unbroken
 lines_by (a_heading h) s signs kept unbroken fits =
     ap₂ (λ (l : List Item) (ls : List (List Item)). l ∷ ls) (content_alone s signs kept ∙ sym (same_items s [] signs fits.1)) (sym (none_later s [] signs fits.1))
 
+-- no line of it begins with a mark
+pub unled_in : (k : TextBlock) (q : List ℕ) → AreUnled (lines_in k q) → IsUnledIn k q
+unled_in a_paragraph q u = tt
+unled_in (a_heading h) q u = u.0
+
 -- ---- how it is read
 
-pub before_any : (s : Setting) (signs : List ContentSign) → AreKept signs → IsBeforeAny (spelled s signs)
+pub before_any : (s : Setting) (signs : List ContentSign) → IsReadIn s signs → IsBeforeAny (spelled s signs)
 before_any s signs k rest xs r =
-    subst (λ (ys : List Item). Reads (spelled s signs ++ rest) (ys ++ xs)) (sym (content_alone s signs k)) (content_reads s [] signs k rest xs r)
+    subst (λ (ys : List Item). Reads (spelled s signs ++ rest) (ys ++ xs)) (sym (content_alone s signs k)) (content_reads s signs k rest xs r)
 
 stands : (bs : List ℕ) → BeginsUncommented bs → StandsBehind bs
 stands bs h = record { uncommented = h.is }
 
-pub uncommented : (s : Setting) (signs : List ContentSign) (rest : List ℕ) → AreKept signs → StandsBehind rest → StandsBehind (spelled s signs ++ rest)
+pub uncommented : (s : Setting) (signs : List ContentSign) (rest : List ℕ) → IsReadIn s signs → StandsBehind rest → StandsBehind (spelled s signs ++ rest)
 uncommented s signs rest k b =
     let r : Reads (spelled s signs ++ rest) (page_items (spelled s signs) ++ page_items rest) = before_any s signs k rest (page_items rest) (behind_reads rest b) in
     stands (spelled s signs ++ rest) r.begins
 
-pub firm : (s : Setting) (signs : List ContentSign) (rest : List ℕ) → AreKept signs → StandsBehind rest
+pub firm : (s : Setting) (signs : List ContentSign) (rest : List ℕ) → IsReadIn s signs → StandsBehind rest
     → page_items (spelled s signs ++ rest) ≡ page_items (spelled s signs) ++ page_items rest
 firm s signs rest k b =
     read_items (spelled s signs ++ rest) (page_items (spelled s signs) ++ page_items rest) (before_any s signs k rest (page_items rest) (behind_reads rest b))
 
-pub alone : (s : Setting) (signs : List ContentSign) → AreKept signs → StandsBehind (spelled s signs)
+pub alone : (s : Setting) (signs : List ContentSign) → IsReadIn s signs → StandsBehind (spelled s signs)
 alone s signs k =
     let r : Reads (spelled s signs ++ []) (page_items (spelled s signs) ++ []) = before_any s signs k [] [] reads_nothing in
     subst StandsBehind (append-nil (spelled s signs)) (stands (spelled s signs ++ []) r.begins)
 
-pub before_break : (s : Setting) (signs : List ContentSign) → AreKept signs → StandsBehind (spelled s signs ++ 10 ∷ [])
+pub before_break : (s : Setting) (signs : List ContentSign) → IsReadIn s signs → StandsBehind (spelled s signs ++ 10 ∷ [])
 before_break s signs k =
     let r : Reads (spelled s signs ++ 10 ∷ []) (page_items (spelled s signs) ++ char None 10 ∷ []) =
     before_any s signs k (10 ∷ []) (char None 10 ∷ []) (read_break [] [] reads_nothing) in
@@ -108,7 +114,7 @@ all_texts n (l ∷ ls) h =
 pub texts_by : (n : ℕ) (s : Setting) (signs : List ContentSign) → s.within ≡ false → AreCharacters signs → AreNodes signs → AreKept signs → AreUnbroken signs
     → All (λ l. line_kind n l ≡ line.Text) (lines (page_items (spelled s signs)))
 texts_by n s signs block typed nodes kept unbroken =
-    subst (All (λ l. line_kind n l ≡ line.Text)) (sym (content_lines_are s signs kept unbroken)) (all_texts n (content_lines s signs) (lines_are_text n s signs block typed nodes))
+    subst (All (λ l. line_kind n l ≡ line.Text)) (sym (content_lines_are s signs (record { within = block; kept = kept; nodes = nodes }) unbroken)) (all_texts n (content_lines s signs) (lines_are_text n s signs block typed nodes))
 
 pub all_unled : (ls : List (List Item)) → All (IsLineOfText 0) (map content ls) → AreUnled ls
 all_unled [] h = tt
@@ -117,11 +123,11 @@ all_unled (l ∷ ls) h =
 
 -- ---- it calls nothing
 
-block_unbraced : (k : TextBlock) (s : Setting) (signs : List ContentSign) → HasFrame k → AreKept signs → AreCalm signs → AreUnbraced (block_items k (spelled s signs))
+block_unbraced : (k : TextBlock) (s : Setting) (signs : List ContentSign) → HasFrame k → IsReadIn s signs → AreCalm signs → AreUnbraced (block_items k (spelled s signs))
 block_unbraced a_paragraph s signs f kept calm = content_unbraced s signs kept calm
 block_unbraced (a_heading h) s signs f kept calm = line_unbraced h (page_items (spelled s signs)) f (content_unbraced s signs kept calm)
 
-pub calls_none : (k : TextBlock) (s : Setting) (signs : List ContentSign) → HasFrame k → AreKept signs → AreCalm signs → CallsNothing (block_items k (spelled s signs))
+pub calls_none : (k : TextBlock) (s : Setting) (signs : List ContentSign) → HasFrame k → IsReadIn s signs → AreCalm signs → CallsNothing (block_items k (spelled s signs))
 calls_none k s signs f kept calm =
     let xs : List Item = block_items k (spelled s signs) in subst NonePairs (sym (none_unbraced xs (block_unbraced k s signs f kept calm))) tt
 

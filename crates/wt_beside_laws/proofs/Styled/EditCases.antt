@@ -75,8 +75,7 @@ edit_of = record {
   );
   are = ((are_letters.0, tt), (tt, ((are_letters.1, tt), tt)));
   fit = tt;
-  nest = ((refl, ((λ e. refl), tt)), (tt, ((refl, ((λ e. refl), tt)), tt)));
-  apart = (tt, (tt, (tt, (tt, tt))));
+  new = (((λ e. refl), tt), (refl, refl, ((λ e. refl), tt), tt));
 }
 
 -- so it is of the page's block

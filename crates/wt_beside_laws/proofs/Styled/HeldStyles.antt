@@ -40,7 +40,7 @@ use Rattle.wt_beside_laws.proofs.Firm.{alone_as}
 use Rattle.wt_beside_laws.proofs.LineThings.{nodes_parts}
 use Rattle.wt_beside_laws.proofs.PageSigns.{flat_nodes}
 use Rattle.wt_beside_laws.proofs.Made.Closes.{each_both}
-use Rattle.wt_beside_laws.proofs.Made.Items.{IsHeld, AreHeld, PartsHave, have_both, children_have, NodesHave, children_nodes, ThingHas, things_have, guard_has, letter_has}
+use Rattle.wt_beside_laws.proofs.Made.Items.{IsOwnNode, AreOwnNodes, PartsHave, have_both, children_have, NodesHave, children_nodes, ThingHas, things_have, guard_has, letter_has}
 use Rattle.wt_beside_laws.proofs.Styled.BlockNodes.{style_round}
 use Rattle.wt_beside_laws.proofs.Styled.BlockStyles.{QuotesAre, quotes_between, parts_cut, line_quotes, line_fill, line_is, line_things}
 use Rattle.wt_beside_laws.proofs.Styled.SentStyles.{nowiki_alone}
@@ -73,7 +73,7 @@ inside_have opening ps closing h f =
     let held : List Item = held_by_all (forest (children ps)) in
     children_nodes ps (h, (all_of held closing (all_of opening (held ++ closing) f).1).0)
 
-style_have : (kind : Bool) (opening : List Item) (ps : List Part) (closing : List Item) → IsHeld (style_round kind opening ps closing) → NodesHave ps
+style_have : (kind : Bool) (opening : List Item) (ps : List Part) (closing : List Item) → IsOwnNode (style_round kind opening ps closing) → NodesHave ps
 style_have true opening ps closing h = inside_have opening ps closing h.0.1 h.1
 style_have false opening ps closing h = inside_have opening ps closing h.0.1 h.1
 
@@ -157,7 +157,7 @@ each_behind P (sign (thing x) t) after h = each_behind P t after h.1
 each_behind P (styled kind opening closing inside t) after h =
     each_behind P t after (each_behind P inside (delimiter kind closing ∷ signs_before t after) h.1).1
 
-style_held : (kind : Bool) (ps : List Part) → PartsHave ps → IsHeld (style_tree kind ps)
+style_held : (kind : Bool) (ps : List Part) → PartsHave ps → IsOwnNode (style_tree kind ps)
 style_held true ps f =
     let h = children_have ps f in
     let held : List Item = held_by_all (forest (children ps)) in
@@ -197,7 +197,7 @@ styled_has bold italic s before (styled kind opening closing inside t) after k f
 
 pub styled_have_items : (s : Setting) (ls : List (List Item)) (at : ℕ) (t : StyledContent) → AreFlatLines ls → AreNested false false t
     → AreSomeAndPut (things (signs_in t)) (things (signs_of_lines at ls)) → AllHaveItems (forest (children (joined_parts ls)))
-    → AllOfPage (held_by_all (forest (children (joined_parts ls)))) → AreHeld (forest (children (styled_parts false s [] t [])))
+    → AllOfPage (held_by_all (forest (children (joined_parts ls)))) → AreOwnNodes (forest (children (styled_parts false s [] t [])))
 styled_have_items s ls at t flat nest some held own =
     let olds : List Thing = things (signs_of_lines at ls) in
     let page : Each ThingHas olds = lines_have at ls flat (flat_nodes ls at (signs_of_lines at ls) flat refl) (children_nodes (joined_parts ls) (held, own)) in

@@ -44,7 +44,7 @@ use Rattle.wt_beside_laws.specs.PageBlocks.{AreShut}
 use Rattle.wt_beside_laws.specs.PageSigns.{signs_of_lines, AreFlatLines}
 use Rattle.wt_beside_laws.specs.StyledIn.{IsStyledIn}
 use Rattle.wt_beside_laws.proofs.Firm.{alone_as, parts_read}
-use Rattle.wt_beside_laws.proofs.Edits.Cases.{break_alone, break_kept, break_calm}
+use Rattle.wt_beside_laws.proofs.Edits.Cases.{break_alone, break_held, break_calm}
 
 abbrev pub own : List ℕ
 own = codes "''x''<br>y"
@@ -93,7 +93,7 @@ own_items = record {
     ((codes "''x''", (refl, refl)), (record { alone = break_alone; lone = tt }, ((121 ∷ [], (refl, refl)), tt))),
     tt,
   );
-  kept = (break_kept, tt);
+  kept = (break_held, tt);
   calm = (break_calm, tt);
   shut = (refl, tt);
 }
@@ -110,6 +110,7 @@ italic_and_break =
       ended = before_break_are ∙ ap (λ (ys : List Item). ys ++ char None 10 ∷ []) (sym items_are);
       unended = refl;
       is = record { are_lines = h.are_lines; unled = h.unled; alone = quote_stands (codes "'x''<br>y"); before_break = quote_stands (codes "'x''<br>y\n") };
+      unled = tt;
       calls_nothing = h.calls_nothing;
       of_page = h.of_page;
       has_items = h.has_items;

@@ -20,7 +20,7 @@ use Rattle.wt_tiles.proofs.Joining.{tiles_are}
 use Rattle.wt_text_edit_laws.specs.LonePages.{page_chars}
 use Rattle.wt_beside_laws.specs.Content.{AreKept, guard_items, letter_items}
 use Rattle.wt_beside_laws.specs.Cuts.{add_chars, own_glyphs, own_form, add_node, guard_cut, letter_cut}
-use Rattle.wt_beside_laws.specs.Kept.{IsKept}
+use Rattle.wt_beside_laws.specs.Commented.{IsHeld}
 use Rattle.wt_beside_laws.specs.Lines.{AreCharacters, line_items, later_lines, content_lines}
 use Rattle.wt_beside_laws.specs.Nests.{marks}
 use Rattle.wt_beside_laws.specs.Nodes.{AreNodes, AllMeet}
@@ -190,7 +190,7 @@ all_styled Q p s t h q =
 all_unbroken : (s : Setting) (t : StyledContent) → IsStyledContent s t → Unbroken (content_lines s (signs_in t))
 all_unbroken s t h =
     let xs : List Item = page_items (spelled s (signs_in t)) in
-    subst Unbroken (content_lines_are s (signs_in t) h.kept h.unbroken) (unbroken_lines (lines xs) xs (lines_are xs))
+    subst Unbroken (content_lines_are s (signs_in t) (record { within = h.of_block; kept = h.kept; nodes = h.nodes }) h.unbroken) (unbroken_lines (lines xs) xs (lines_are xs))
 
 flat_lines : (Q : List ℕ → Type 0) (ls : List (List Item)) → Unbroken ls → StyledLines Q ls → AreFlatLines ls
 flat_lines Q [] b f = tt
@@ -209,12 +209,12 @@ again_each Q p at s t h q = so_lines Q at (content_lines s (signs_in t)) (all_st
 
 pub again_lines : (s : Setting) (t : StyledContent) → IsStyledContent s t → AreFlatLines (content_lines s (signs_in t))
 again_lines s t h =
-    flat_lines IsKept (content_lines s (signs_in t)) (all_unbroken s t h) (all_styled IsKept put_kept s t h (from_kept (signs_in t) h.kept))
+    flat_lines IsHeld (content_lines s (signs_in t)) (all_unbroken s t h) (all_styled IsHeld put_kept s t h (from_kept (signs_in t) h.kept))
 
 pub again_kept : (at : ℕ) (s : Setting) (t : StyledContent) → IsStyledContent s t → AreKept (signs_of_lines at (content_lines s (signs_in t)))
 again_kept at s t h =
     to_kept (signs_of_lines at (content_lines s (signs_in t)))
-    (so_lines IsKept at (content_lines s (signs_in t)) (all_styled IsKept put_kept s t h (from_kept (signs_in t) h.kept)))
+    (so_lines IsHeld at (content_lines s (signs_in t)) (all_styled IsHeld put_kept s t h (from_kept (signs_in t) h.kept)))
 
 pub again_shut : (at : ℕ) (s : Setting) (t : StyledContent) → IsStyledContent s t → AreShut (signs_in t) → AreShut (signs_of_lines at (content_lines s (signs_in t)))
 again_shut at s t h k =

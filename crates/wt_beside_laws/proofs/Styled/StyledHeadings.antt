@@ -19,9 +19,9 @@ use Rattle.wt_beside_laws.specs.InHeadings.{AreOnOneLine, KeepsLevel, heading_of
 use Rattle.wt_beside_laws.specs.Nests.{style_tree}
 use Rattle.wt_beside_laws.specs.Styled.{StyledContent, finished, sign, styled, delimiter, signs_before, signs_in, signs_past, styled_parts}
 use Rattle.wt_beside_laws.specs.StyledHeadings.{IsStyledHeading}
-use Rattle.wt_beside_laws.proofs.Contents.{content_alone}
 use Rattle.wt_beside_laws.proofs.LineHeadings.{same_items, inside_by, level_by}
 use Rattle.wt_beside_laws.proofs.Styled.StyledLines.{styled_line}
+use Rattle.wt_beside_laws.proofs.Marks.Commented.{content_alone}
 
 one_behind : (t : StyledContent) (after : List ContentSign) → AreOnOneLine (signs_before t after) → AreOnOneLine after
 one_behind finished after o = o
@@ -60,7 +60,7 @@ styled_level s t sides h a k = level_by s (signs_in t) sides h.styled.of_block h
 
 pub inside_parts : (s : Setting) (t : StyledContent) → IsStyledHeading s t → line_parts (page_items (spelled s (signs_in t))) ≡ styled_parts false s [] t []
 inside_parts s t h =
-    ap line_parts (content_alone s (signs_in t) h.styled.kept ∙ sym (same_items s [] (signs_in t) h.one_line))
+    ap line_parts (content_alone s (signs_in t) (record { within = h.styled.of_block; kept = h.styled.kept; nodes = h.styled.nodes }) ∙ sym (same_items s [] (signs_in t) h.one_line))
     ∙ styled_line s [] t h.styled.nodes h.styled.nested h.styled.meet
     ∙ same_parts s [] t [] h.one_line
 

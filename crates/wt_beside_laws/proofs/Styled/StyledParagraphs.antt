@@ -24,7 +24,6 @@ use Rattle.wt_beside_laws.specs.Lines.{IsLineOfText, line_items, later_lines}
 use Rattle.wt_beside_laws.specs.Nests.{style_tree}
 use Rattle.wt_beside_laws.specs.Nodes.{AreNodes, AllMeet}
 use Rattle.wt_beside_laws.specs.Styled.{StyledContent, finished, sign, styled, delimiter, signs_before, signs_in, signs_past, AreNested, IsStyledContent, styled_parts}
-use Rattle.wt_beside_laws.proofs.Contents.{content_alone}
 use Rattle.wt_beside_laws.proofs.LineItems.{content_lines_are}
 use Rattle.wt_beside_laws.proofs.LineKinds.{lines_are_text}
 use Rattle.wt_beside_laws.proofs.LineParagraphs.{front_all, rest_all, no_end, rows_text, para_by, body_of, body_by}
@@ -32,6 +31,7 @@ use Rattle.wt_text_edit_laws.proofs.Paragraphs.LineBlocks.{OwnBreaks}
 use Rattle.wt_beside_laws.proofs.LineRows.{rows_parts, content_own, later_by, both_by, break_parts}
 use Rattle.wt_beside_laws.proofs.LineStands.{lines_by, stands_so}
 use Rattle.wt_beside_laws.proofs.Styled.StyledLines.{nodes_behind, within_style, styled_line}
+use Rattle.wt_beside_laws.proofs.Marks.Commented.{content_alone}
 
 -- ---- the lines behind a place
 
@@ -124,11 +124,11 @@ styled_paragraph : (s : Setting) (t : StyledContent) → IsStyledContent s t →
 styled_paragraph s t h =
     let signs : List ContentSign = signs_in t in
     let xs : List Item = page_items (spelled s signs) in
-    let is = content_lines_are s signs h.kept h.unbroken in
+    let is = content_lines_are s signs (record { within = h.of_block; kept = h.kept; nodes = h.nodes }) h.unbroken in
     let all : (n : ℕ) → All (IsLineOfText n) (map content (full_lines xs) ++ empty_end xs) =
     λ n. subst (All (IsLineOfText n)) (sym is ∙ same_lines xs) (lines_are_text n s signs h.of_block h.characters h.nodes) in
     let closed : empty_end xs ≡ [] = no_end 0 xs (rest_all (IsLineOfText 0) (map content (full_lines xs)) (empty_end xs) (all 0)) in
-    let own : OwnBreaks xs = subst OwnBreaks (sym (content_alone s signs h.kept)) (content_own s [] signs h.unbroken) in
+    let own : OwnBreaks xs = subst OwnBreaks (sym (content_alone s signs (record { within = h.of_block; kept = h.kept; nodes = h.nodes }))) (content_own s [] signs h.unbroken) in
     record {
       text = λ n. front_all (IsLineOfText n) (map content (full_lines xs)) (empty_end xs) (all n);
       closed = closed;

@@ -9,7 +9,7 @@ use Rattle.wt_lines.specs.Lines.{full_lines}
 use Rattle.wt_inline.specs.ItemTree.{forest, held_by_all}
 use Rattle.wt_inline.specs.Parts.{Part, children}
 use Rattle.wt_called_trees.specs.Rounded.{AllHaveItems}
-use Rattle.wt_text_edit_laws.specs.Contents.{AreParagraphLines, IsContentOf, content_parts_of, StaysAnywhere, IsNewContent}
+use Rattle.wt_text_edit_laws.specs.Contents.{AreParagraphLines, IsContentOf, content_parts_of, StaysAnywhere, IsNewContent, AreUnled}
 use Rattle.wt_text_edit_laws.specs.ParagraphParts.{joined_parts}
 use Rattle.wt_text_edit_laws.specs.TextBlocks.{TextBlock, a_paragraph, a_heading}
 use Rattle.wt_text_edit_laws.specs.TypedHeadings.{Sides}
@@ -18,7 +18,7 @@ use Rattle.wt_text_edit_laws.proofs.Blocks.BlockReading.{IsBeforeAny, HasFrame}
 use Rattle.wt_text_edit_laws.proofs.Texts.TypedShown.{AllOfPage}
 use Rattle.wt_beside_laws.specs.Calm.{HaveNoBraces, IsCalm, AreCalm}
 use Rattle.wt_beside_laws.specs.Content.{AreKept}
-use Rattle.wt_beside_laws.specs.FlatBlocks.{lines_in, begins_at, signs_in as signs_of}
+use Rattle.wt_beside_laws.specs.FlatBlocks.{lines_in, begins_at, signs_in as signs_of, IsUnledIn}
 use Rattle.wt_beside_laws.specs.Lines.{content_lines}
 use Rattle.wt_beside_laws.specs.PageBlocks.{AreShut}
 use Rattle.wt_beside_laws.specs.PageSigns.{signs_of_lines, AreFlatLines}
@@ -32,12 +32,12 @@ use Rattle.wt_beside_laws.proofs.CalmContents.{content_utf8, content_unbraced, n
 use Rattle.wt_beside_laws.proofs.FlatAgain.{EachSource, IsShut, put_shut, from_shut, to_shut}
 use Rattle.wt_beside_laws.proofs.LineItems.{content_lines_are}
 use Rattle.wt_beside_laws.proofs.Made.Closes.{guard_closes, OpenFor, content_closes, block_open}
-use Rattle.wt_beside_laws.proofs.Made.Items.{AreHeld}
+use Rattle.wt_beside_laws.proofs.Made.Items.{AreOwnNodes}
 use Rattle.wt_beside_laws.proofs.Made.Levels.{BareTold, Told, AllTold, told_each, nodes_told, level_told}
 use Rattle.wt_beside_laws.proofs.Made.NodesSealed.{nodes_sealed}
 use Rattle.wt_beside_laws.proofs.Made.OldBlocks.{lines_are}
 use Rattle.wt_beside_laws.proofs.Made.OwnPages.{own_frame}
-use Rattle.wt_beside_laws.proofs.Made.Written.{FitsIn, lines_by, before_any, uncommented, firm, alone, before_break, ended_so, unended_so, texts_by, all_unled, calls_none, from_calm, to_calm, put_calm}
+use Rattle.wt_beside_laws.proofs.Made.Written.{FitsIn, lines_by, before_any, uncommented, firm, alone, before_break, ended_so, unended_so, texts_by, all_unled, calls_none, from_calm, to_calm, put_calm, unled_in}
 use Rattle.wt_beside_laws.proofs.Styled.HeldStyles.{styled_have_items}
 use Rattle.wt_beside_laws.proofs.Styled.OldStyled.{styled_in_content}
 use Rattle.wt_beside_laws.proofs.Styled.StyledAgain.{quotes_utf8, again_each, again_lines, again_kept, again_shut}
@@ -45,6 +45,12 @@ use Rattle.wt_beside_laws.proofs.Styled.StyledHeadings.{styled_inside, inside_pa
 use Rattle.wt_beside_laws.proofs.Styled.StyledLines.{mark_items}
 use Rattle.wt_beside_laws.proofs.Styled.StyledNodes.{each_some}
 use Rattle.wt_beside_laws.proofs.Styled.StyledParagraphs.{lines_joined, styled_text}
+use Rattle.wt_beside_laws.proofs.Marks.Within.{unled_lines}
+use Rattle.wt_beside_laws.proofs.LineKinds.{are_lines_of_text}
+use Rattle.wt_beside_laws.specs.Flat.{IsReadIn}
+
+read_styled : (s : Setting) (t : StyledContent) → IsStyledContent s t → IsReadIn s (signs_in t)
+read_styled s t h = record { within = h.of_block; kept = h.kept; nodes = h.nodes }
 
 -- ---- its lines and parts
 
@@ -56,12 +62,12 @@ as_heading : (w : Sides) (s : Setting) (t : StyledContent) → IsStyledContent s
 as_heading w s t c h = record { styled = c; of_heading = h.0; one_line = h.1 }
 
 pub lines_so : (k : TextBlock) (s : Setting) (t : StyledContent) → IsStyledContent s t → StaysIn k s t → lines_in k (spelled s (signs_in t)) ≡ content_lines s (signs_in t)
-lines_so k s t c h = lines_by k s (signs_in t) c.kept c.unbroken (fits_of k s t h)
+lines_so k s t c h = lines_by k s (signs_in t) (read_styled s t c) c.unbroken (fits_of k s t h)
 
 pub styled_parts_so : (k : TextBlock) (s : Setting) (t : StyledContent) → IsStyledContent s t → StaysIn k s t
     → content_parts_of k (page_items (spelled s (signs_in t))) ≡ styled_parts false s [] t []
 styled_parts_so a_paragraph s t c h =
-    ap joined_parts (content_lines_are s (signs_in t) c.kept c.unbroken) ∙ lines_joined s [] t c.nodes c.nested c.meet
+    ap joined_parts (content_lines_are s (signs_in t) (read_styled s t c) c.unbroken) ∙ lines_joined s [] t c.nodes c.nested c.meet
 styled_parts_so (a_heading w) s t c h = inside_parts s t (as_heading w s t c h)
 
 stays_so : (k : TextBlock) (s : Setting) (t : StyledContent) → IsStyledContent s t → StaysAnywhere k (spelled s (signs_in t))
@@ -72,8 +78,8 @@ lines_of_text : (s : Setting) (t : StyledContent) → IsStyledContent s t → Ar
 lines_of_text s t c = record {
   are_lines = texts_by 0 s (signs_in t) c.of_block c.characters c.nodes c.kept c.unbroken;
   unled = all_unled (full_lines (page_items (spelled s (signs_in t)))) (styled_text s t c);
-  alone = alone s (signs_in t) c.kept;
-  before_break = before_break s (signs_in t) c.kept;
+  alone = alone s (signs_in t) (read_styled s t c);
+  before_break = before_break s (signs_in t) (read_styled s t c);
 }
 
 -- a delimiter and a nowiki are no URL
@@ -145,7 +151,13 @@ of_lines_so : (P : List (List Item) → Type 0) (k : TextBlock) (s : Setting) (t
     → P (content_lines s (signs_in t)) → P (lines_in k (spelled s (signs_in t)))
 of_lines_so P k s t c w h = subst P (sym (lines_so k s t c w)) h
 
-held_so : (k : TextBlock) (q : List ℕ) (s : Setting) (t : StyledContent) → IsStyledIn k q → IsStyledFor k q s t → AreHeld (forest (children (styled_parts false s [] t [])))
+unled_so : (k : TextBlock) (s : Setting) (t : StyledContent) → IsStyledContent s t → StaysIn k s t → IsUnledIn k (spelled s (signs_in t))
+unled_so k s t c w =
+    let signs : List ContentSign = signs_in t in
+    unled_in k (spelled s signs)
+    (of_lines_so AreUnled k s t c w (unled_lines 0 (content_lines s signs) (are_lines_of_text 0 s signs c.of_block c.characters c.nodes)))
+
+held_so : (k : TextBlock) (q : List ℕ) (s : Setting) (t : StyledContent) → IsStyledIn k q → IsStyledFor k q s t → AreOwnNodes (forest (children (styled_parts false s [] t [])))
 held_so k q s t h w =
     styled_have_items s (lines_in k q) (begins_at k) t h.flat w.content.nested w.nodes
     (subst (λ (ps : List Part). AllHaveItems (forest (children ps))) (lines_are k q) h.has_items)
@@ -156,7 +168,7 @@ styled_again k q s t h w =
     let signs : List ContentSign = signs_in t in
     let c : IsStyledContent s t = w.content in
     let f : HasFrame k = own_frame k q h.is in
-    let b : IsBeforeAny (spelled s signs) = before_any s signs c.kept in
+    let b : IsBeforeAny (spelled s signs) = before_any s signs (read_styled s t c) in
     let calm : AreCalm signs = calm_so k q s t h w in
     let held = held_so k q s t h w in
     let parts : content_parts_of k (page_items (spelled s signs)) ≡ styled_parts false s [] t [] = styled_parts_so k s t c w.stays in
@@ -166,7 +178,8 @@ styled_again k q s t h w =
       ended = ended_so k (spelled s signs) f b;
       unended = unended_so k (spelled s signs) f b;
       is = content_so k q s t f h w;
-      calls_nothing = calls_none k s signs f c.kept calm;
+      unled = unled_so k s t c w.stays;
+      calls_nothing = calls_none k s signs f (read_styled s t c) calm;
       of_page = subst (λ (ps : List Part). AllOfPage (held_by_all (forest (children ps)))) (sym parts) held.1;
       has_items = subst (λ (ps : List Part). AllHaveItems (forest (children ps))) (sym parts) held.0;
       flat = of_lines_so AreFlatLines k s t c w.stays (again_lines s t c);
@@ -195,10 +208,10 @@ pub styled_new : (k : TextBlock) (q : List ℕ) (s : Setting) (t : StyledContent
 styled_new k q s t h w = record {
   firm = record {
     content = styled_in_content k (spelled s (signs_in t)) (styled_again k q s t h w);
-    firm = λ rest b. firm s (signs_in t) rest w.content.kept b;
-    uncommented = λ rest b. uncommented s (signs_in t) rest w.content.kept b;
+    firm = λ rest b. firm s (signs_in t) rest (read_styled s t w.content) b;
+    uncommented = λ rest b. uncommented s (signs_in t) rest (read_styled s t w.content) b;
     stays = stays_so k s t w.content;
-    unbraced = content_unbraced s (signs_in t) w.content.kept (calm_so k q s t h w);
+    unbraced = content_unbraced s (signs_in t) (read_styled s t w.content) (calm_so k q s t h w);
   };
   closes = λ name us vs o n. closes_so k q s t h w name us vs o n;
 }
