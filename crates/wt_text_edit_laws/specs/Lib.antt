@@ -7,7 +7,9 @@ pub mod ProsePages
 pub mod ProseTrees
 pub mod ProseEdits
 pub mod ProseUnmarked
+pub mod ProseChanges
 pub mod NoCalls
+pub mod PlainGroups
 pub mod TextBetween
 pub mod ParagraphBetween
 pub mod Paragraphs
