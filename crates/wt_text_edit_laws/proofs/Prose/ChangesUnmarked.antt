@@ -27,17 +27,16 @@ use Rattle.wt_checks.proofs.Frames.{bare_root}
 use Rattle.wt_checks.proofs.Repeated.{or_false}
 use Rattle.wt_difference.specs.Difference.{is_partner, stays_in, is_stable, numbers, numbers_in, same_inside, same_children, are_none, difference}
 use Rattle.wt_difference.specs.Insides.{has_inside, from_blocks, held}
-use Rattle.wt_difference.specs.Remarked.{mark_between, mark_of, remarked_in, all_remarked, remarked}
+use Rattle.wt_difference.specs.Remarked.{mark_of, remarked_in, all_remarked, remarked}
 use Rattle.wt_difference.specs.Unedited.{IsUnedited, AreUnedited}
 use Rattle.wt_difference.proofs.Remarks.{bare_stays, marks_alone, none_marked}
 use Rattle.wt_difference.proofs.UneditedLaws.{nothing_differs}
-use Rattle.wt_expand.specs.PageCalls.{expanded_page}
 use Rattle.wt_inline.specs.ItemTree.{ItemTree}
 use Rattle.wt_annotated.specs.Labels.{label_at}
 use Rattle.wt_schema.specs.Read.{page as as_page, read}
 use Rattle.wt_page_round_trip.specs.PageTree.{page_tree}
 use Rattle.wt_page_round_trip.proofs.Pages.{page_opened}
-use Rattle.wt_page_round_trip.proofs.PageTrees.{ungathered_numbered, page_numbered}
+use Rattle.wt_page_round_trip.proofs.PageTrees.{page_numbered}
 use Rattle.wt_commands.specs.Answers.{edit_to}
 use Rattle.wt_commands.specs.UnmarkedEdits.{EditIsDone, DoneByEdit}
 use Rattle.wt_commands.proofs.SectionEdits.{page_bare}
@@ -47,7 +46,7 @@ use Rattle.wt_typed_blocks.specs.Coming.{Coming, no_more, spaced, comes, white_s
 use Rattle.wt_typed_blocks.proofs.ComingPasses.{one_body}
 use Rattle.wt_typed_blocks.proofs.SentFrames.{no_frame_sent}
 use Rattle.wt_typed_blocks.proofs.SentGroups.{both_ways, no_mark}
-use Rattle.wt_text_edit_laws.specs.ProsePages.{Passage, prose, AreProse}
+use Rattle.wt_text_edit_laws.specs.ProsePages.{Passage, prose}
 use Rattle.wt_text_edit_laws.specs.ProseTrees.{separator}
 use Rattle.wt_text_edit_laws.specs.ProseChanges.{Addition, white, paragraph, PassageChange, stays, goes, ProseChange, passages_before, changed_prose, new_texts, passages_changed, after_breaks}
 use Rattle.wt_text_edit_laws.specs.UnmarkedChanges.{unmarked_change, AreOwn, SomeComes, SomeChanges, IsUnmarkedChange}
@@ -56,7 +55,7 @@ use Rattle.wt_text_edit_laws.proofs.Prose.ProseTexts.{prose_written}
 use Rattle.wt_text_edit_laws.proofs.Prose.ProseTrees.{leafy, blocks_of, blocks_from, prose_blocks}
 use Rattle.wt_text_edit_laws.proofs.Prose.ProseTakes.{prose_utf8}
 use Rattle.wt_text_edit_laws.proofs.Prose.ProseUnmarked.{kind_opened, prose_text}
-use Rattle.wt_text_edit_laws.proofs.Prose.ChangesListed.{passage_node, number_past, items_past, number_after, items_after, with_breaks, with_added, coming_of, whole_coming, whole_page, whole_sent, whole_stay, later}
+use Rattle.wt_text_edit_laws.proofs.Prose.ChangesListed.{number_past, items_past, number_after, items_after, with_breaks, with_added, coming_of, whole_coming, whole_page, whole_sent, whole_stay, later}
 use Rattle.wt_text_edit_laws.proofs.Prose.ChangesTaken.{label_of, stay_so, opened_is, sent_is, unframed, takes_changes}
 
 -- ---- the page's own body, with what is sent for the nodes that stay
