@@ -23,6 +23,7 @@ pub mod HeadingsInCells
 pub mod InCells
 pub mod UnmarkedCells
 pub mod OwnTexts
+pub mod CalledContents
 pub mod ItemSpots
 pub mod CalledBlocks
 pub mod Written

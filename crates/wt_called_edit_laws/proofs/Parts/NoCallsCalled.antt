@@ -119,6 +119,10 @@ read_called pages (s ∷ ss) behind h =
       },
     )
 
+pub read_contents : (ss : List BlockSpot) (behind : List ℕ) → AreRead ss behind → AreContents ss
+read_contents [] behind h = absurd h
+read_contents (s ∷ ss) behind h = (h.0.block, contents_after ss behind h.1)
+
 pub read_none_called : (ss : List BlockSpot) (behind : List ℕ) → AreRead ss behind → CallNothing ss
 read_none_called [] behind h = absurd h
 read_none_called (s ∷ ss) behind h = let c = read_calm s ss behind h in c.calm
