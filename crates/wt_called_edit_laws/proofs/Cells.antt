@@ -30,6 +30,7 @@ pub mod PlacePaths
 pub mod PlaceTrees
 pub mod ItemFrames
 pub mod CalledFrames
+pub mod CallingFrames
 pub mod SpotFrames
 pub mod ContentItems
 pub mod SpotRows

@@ -26,5 +26,6 @@ pub mod OwnTexts
 pub mod CalledContents
 pub mod ItemSpots
 pub mod CalledBlocks
+pub mod CallingBlocks
 pub mod Written
 pub mod SentAsIs

@@ -28,7 +28,7 @@ none_front [] ys h = tt
 none_front (opening ∷ xs) ys h = none_front xs ys h
 none_front (closing ∷ xs) ys h = absurd h
 
-pairs_front : (xs ys : List Brace) → NonePairs (xs ++ ys) → NonePairs xs
+pub pairs_front : (xs ys : List Brace) → NonePairs (xs ++ ys) → NonePairs xs
 pairs_front [] ys h = tt
 pairs_front (opening ∷ xs) ys h = none_front xs ys h
 pairs_front (closing ∷ xs) ys h = pairs_front xs ys h
