@@ -7,7 +7,9 @@ pub mod ProsePages
 pub mod ProseTrees
 pub mod ProseEdits
 pub mod ProseUnmarked
+pub mod ProseChanges
 pub mod NoCalls
+pub mod PlainGroups
 pub mod TextBetween
 pub mod ParagraphBetween
 pub mod Paragraphs
@@ -21,3 +23,4 @@ pub mod BlockSpots
 pub mod BlockEdits
 pub mod UnmarkedBlocks
 pub mod OwnNodes
+pub mod PageCuts
