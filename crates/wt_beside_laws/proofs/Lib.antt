@@ -64,3 +64,4 @@ pub mod Groups
 pub mod Made
 pub mod Marks
 pub mod Styled
+pub mod Derived

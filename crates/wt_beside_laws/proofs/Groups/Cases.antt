@@ -1,5 +1,5 @@
 -- Worked cases: a paragraph with a call that gives a word, between two letters that are typed.
-use Rattle.std.proofs.Common.{arith, ◌≡◌, ℕ, ◌<◌, Bool, true, false, Option, Some, None, List, [], ◌∷◌, map, refl, inl}
+use Rattle.std.proofs.Common.{◌≡◌, false, Some, None, List, [], ◌∷◌, refl}
 use Rattle.std.specs.Prelude.{codes, if◌then◌else◌}
 use Rattle.std.specs.Str.{bytes_eq, is_utf8, chars}
 use Rattle.std.specs.Str.Lossy.{utf8_valid_len}
@@ -11,7 +11,7 @@ use Rattle.wt_span.specs.Tags.{raw_len, opening_tag, tag_after, closing_tag, wit
 use Rattle.wt_span.specs.Lexemes.{sign_word, form_at, closed, words}
 use Rattle.wt_span.specs.Braces.{rewritten, reduced, parts_of}
 use Rattle.wt_span.specs.declared.form.ItemForm.TheVariants as form
-use Rattle.wt_span.specs.Items.{Item, char, whole, sources}
+use Rattle.wt_span.specs.Items.{char, whole}
 use Rattle.wt_names.specs.Good.{is_forbidden, is_allowed, has_signature, is_step, begins_with_step, holds_step, ends_with_step, is_good, read_text}
 use Rattle.wt_names.specs.Namespace.{name_of, image, is_called, namespace_named, prefix_of, full_name_of}
 use Rattle.wt_names.specs.Reading.{whole_in, cut_namespace, title_in}
@@ -22,7 +22,7 @@ use Rattle.wt_guards.specs.Content.{ContentSign, Thing, letter, thing}
 use Rattle.wt_guards.specs.Guards.{Setting, nowiki, is_guarded, is_between_guard, is_start_guard, is_end_guard, is_blank_guard}
 use Rattle.wt_guards.specs.Letters.{is_escaped}
 use Rattle.wt_guards.specs.Table.{hazard, line_start_hazard}
-use Rattle.wt_expand.specs.PageCalls.{numbered, page_stretches, expanded_page}
+use Rattle.wt_expand.specs.PageCalls.{page_stretches, expanded_page}
 use Rattle.wt_expand.specs.Texts.{trimmed, trimmed_items, name_text}
 use Rattle.wt_expand.specs.Targets.{title_in_target, title_of_target, is_function, called}
 use Rattle.wt_expand.specs.Templates.{begins_only, ends_only, template_text}
@@ -70,7 +70,7 @@ pub in_class : IsCalledIn a_word in_paragraph typed
 unfolding is_guarded is_between_guard is_start_guard is_end_guard is_blank_guard hazard line_start_hazard
 in_class = record {
   of_block = refl;
-  characters = (inl (omega arith), (inl (omega arith), tt));
+  characters = (refl, (refl, tt));
   given = (gives_b, tt);
   meet = (tt, (tt, (tt, tt)));
   begins = tt;
