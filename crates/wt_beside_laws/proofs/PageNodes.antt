@@ -28,6 +28,7 @@ use Rattle.wt_beside_laws.proofs.NodesBegin.{no_url}
 use Rattle.wt_beside_laws.proofs.NodesEnd.{external_last, lexeme_last, other_last}
 use Rattle.wt_beside_laws.proofs.Stood.{stood}
 use Rattle.wt_beside_laws.specs.NodeItems.{node_items}
+use Rattle.wt_beside_laws.proofs.NodeItems.{node_read}
 
 -- ---- the first item of a node
 
