@@ -11,6 +11,7 @@ use Rattle.wt_guards.specs.Content.{ContentSign, Thing, letter, thing, side_of, 
 use Rattle.wt_guards.specs.Guards.{Setting, end_of, start_of, is_reached, has_brace_last, is_mark, is_always_parted, is_adjacent, left_side, is_parted, is_between_guard, is_guarded}
 use Rattle.wt_guards.specs.Table.{hazard}
 use Rattle.wt_spelling_laws.proofs.TextReads.{or_parts}
+use Rattle.wt_text_edit_laws.proofs.Between.Fronts.{reads_after}
 use Rattle.wt_text_edit_laws.proofs.Prose.InFront.{reads_nothing}
 use Rattle.wt_span.specs.Items.{Item}
 use Rattle.wt_tiles.specs.declared.glyph.Glyph.{Glyph}
