@@ -3,8 +3,9 @@
 use std::alloc::Global;
 use wt_block_signs::{
     Style, USUAL, begins_line, ends_with_given_sign, goes_on_behind, has_signed_text, is_cell,
-    is_item, is_lined, is_list, is_row_without_sign, push_begun, push_closing, push_heading_end,
-    push_heading_start, push_opening, push_signs, shared_line, shares_line, sign_of, style_of,
+    is_item, is_lined, is_list, is_paragraph_in_line, is_row_without_sign, push_begun,
+    push_closing, push_heading_end, push_heading_start, push_opening, push_signs, shared_line,
+    shares_line, sign_of, style_of,
 };
 use wt_checks::original;
 use wt_content_proposal::{Edges, Writing, edges_of, spelled};
@@ -665,6 +666,14 @@ fn is_group_without_sign(known: &Known<'_, '_>, node: &Node<'_>) -> bool {
     }
 }
 
+/// Whether a node is a paragraph that went on in a line of the page, and would be another block at a line's start.
+fn was_in_line(known: &Known<'_, '_>, node: &Node<'_>) -> bool {
+    match original(known.index, node.id) {
+        Some(visit) => is_paragraph_in_line(known.page, visit.node),
+        None => false,
+    }
+}
+
 /// Appends a block as it was in the page, where it was there as it is; it says whether it does. An item
 /// is so only with its signs, a row with its sign, which a group gets that begins with a row without one.
 fn push_if_standing<'t, 'a>(
@@ -686,6 +695,9 @@ fn push_if_standing<'t, 'a>(
     }
     if is_group_without_sign(known, node) {
         out.push_str("|-\n")?;
+    }
+    if begins_line(out) && was_in_line(known, node) {
+        out.push_str("<nowiki/>")?;
     }
     push_begun(out, node.kind, source.as_str())?;
     Ok(true)

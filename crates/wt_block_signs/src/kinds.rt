@@ -50,3 +50,22 @@ pub fn is_row_without_sign(node: &Node<'_>) -> bool {
         _ => false,
     }
 }
+
+/// Whether a node of the page is a paragraph that goes on in a line, as after a table's end or a rule, and begins with a
+/// blank or the sign of a list: it would be another block at a line's start.
+pub fn is_paragraph_in_line(page: &str, node: &Node<'_>) -> bool {
+    let Some(ranges) = node.ranges else {
+        return false;
+    };
+    let bytes = page.as_bytes();
+    let start = ranges.start as usize;
+    let begins_with_sign = matches!(
+        bytes.get(start),
+        Some(b' ' | b'\t' | b'*' | b'#' | b':' | b';')
+    );
+    let begins_line = match start.checked_sub(1) {
+        Some(at) => bytes.get(at) == Some(&b'\n'),
+        None => true,
+    };
+    matches!(node.kind, Kind::Para) && begins_with_sign && !begins_line
+}

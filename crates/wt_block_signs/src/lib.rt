@@ -12,7 +12,9 @@ pub use delimiters::{
     push_opening, push_signs, shared_line, shares_line,
 };
 pub use items::{sign_of, signs_of};
-pub use kinds::{is_cell, is_item, is_lined, is_list, is_part, is_row_without_sign};
+pub use kinds::{
+    is_cell, is_item, is_lined, is_list, is_paragraph_in_line, is_part, is_row_without_sign,
+};
 pub use style::{
     Style, USUAL, ends_with_given_sign, has_signed_text, is_bare_sign, joins_sign, style_of,
     style_within,

@@ -390,7 +390,7 @@ fn push_with_letters(
 
 /// Appends the text of an external link, apart from its URL where it begins with a blank.
 fn push_with_blank(out: &mut Str, inside: &str) -> Result<(), NoMemory> {
-    if inside.starts_with(" ") {
+    if inside.starts_with(" ") || inside.starts_with("\t") {
         out.push_str("<nowiki/>")?;
     }
     out.push_str(inside)
@@ -658,6 +658,30 @@ fn text_right<'t, 'a>(
     }
 }
 
+/// Whether what a node shows ends with a line break.
+fn ends_with_break(node: &Node<'_>) -> bool {
+    match node.children.as_slice().last() {
+        Some(last) => ends_with_break(last),
+        None => node.shown().ends_with("\n"),
+    }
+}
+
+/// Whether a text begins a line that a template begins, with a blank or the sign of a term that wasn't there: what writes
+/// nothing comes between, from which a group is always parted.
+fn begins_given_line(before: Option<&Node<'_>>, text: &Node<'_>, left: Option<&Node<'_>>) -> bool {
+    let first = text.shown().as_bytes().first();
+    let stands = match left {
+        Some(old) => old.shown().as_bytes().first() == first,
+        None => false,
+    };
+    match before {
+        Some(group) if matches!(group.kind, Kind::Group) && !stands => {
+            matches!(first, Some(b' ' | b'\t' | b';')) && ends_with_break(group)
+        }
+        _ => false,
+    }
+}
+
 /// Appends the units of nodes between two edges.
 #[cycle(units)]
 fn push_units<'n, 't, 'a>(
@@ -674,6 +698,9 @@ fn push_units<'n, 't, 'a>(
         if is_text(node) && writing.keeps {
             let left = text_left(known, block, nodes, at, edges);
             let right = text_right(known, block, nodes, at, edges);
+            if begins_given_line(before(nodes, at), node, left) {
+                push_thing(out, Role::Node, Str::new(alloc), None)?;
+            }
             push_text(alloc, out, node.shown(), left, right)?;
         } else {
             push_node(alloc, out, known, block, writing, node)?;

@@ -6,7 +6,7 @@ use crate::gap::{Gap, is_below_heading};
 use crate::lines::{is_doubled, leaves_line_start, range_of, sign_at_line_start};
 use crate::tags::{Tags, breaks_before_tag, breaks_behind_tag, tag_of};
 use std::alloc::Global;
-use wt_block_signs::{is_cell, is_item, signs_of};
+use wt_block_signs::{is_cell, is_item, is_paragraph_in_line, signs_of};
 use wt_checks::is_compared;
 use wt_known::{Known, joined as texts_joined};
 use wt_places::Slot;
@@ -153,7 +153,7 @@ fn push_missing_signs(
 }
 
 /// Appends a slice of a gap. Where a cell or an item that went on in a line begins one after it, the two signs of a
-/// cell become one, and an item has all of its signs.
+/// cell become one, and an item has all of its signs; a paragraph that would be another block then has `<nowiki/>`.
 pub fn push_part_of(
     alloc: Global,
     out: &mut Vec<Change>,
@@ -173,6 +173,8 @@ pub fn push_part_of(
             by.push_str(sign_at_line_start(page, node, end))?;
         } else if is_item(node.kind) {
             push_missing_signs(alloc, &mut by, known, node)?;
+        } else if is_paragraph_in_line(page, node) {
+            by.push_str("<nowiki/>")?;
         }
     }
     push_change(
@@ -194,11 +196,21 @@ struct Left {
     standing: usize,
 }
 
+/// Whether a slice begins where the child before the gap ends, as a paragraph after a table's end or a rule may.
+fn is_behind_block(gap: &Gap<'_, '_, '_>, slice: Slot) -> bool {
+    match gap.before {
+        Some(before) => range_of(before).end == slice.start,
+        None => false,
+    }
+}
+
 /// How many line breaks are left of those before and after a slice that goes: the longer of the two. But what comes
-/// after it goes on in its line, or is as close to a heading as it was; and beside an include tag those are left that
-/// are beside the tag.
-fn breaks_left(gap: &Gap<'_, '_, '_>, tags: Tags, before: usize, behind: usize) -> usize {
-    if gap.is_tight || before == 0 || tags.before.is_some() {
+/// after it goes on in the line of a comment or an include tag, or is as close to a heading as it was; and beside an
+/// include tag those are left that are beside the tag.
+fn breaks_left(gap: &Gap<'_, '_, '_>, slice: Slice, before: usize, behind: usize) -> usize {
+    let tags = slice.tags;
+    let goes_on = before == 0 && !is_behind_block(gap, slice.place);
+    if gap.is_tight || goes_on || tags.before.is_some() {
         before
     } else if tags.behind.is_some() && 0 < behind {
         behind
@@ -222,7 +234,7 @@ fn left_of(page: &str, gap: &Gap<'_, '_, '_>, at: usize, slice: Slice, place: Sl
     let from = back_over_blanks(page, at, slice.place.start);
     let before = most_breaks(page, from, slice.place.start);
     let behind = most_breaks(page, slice.place.end, place.end);
-    let left = breaks_left(gap, slice.tags, before, behind);
+    let left = breaks_left(gap, slice, before, behind);
     let start = if left < before {
         from.max(gap.place.start)
     } else {

@@ -12,18 +12,51 @@ fn may_begin_table(text: &str) -> bool {
     }
 }
 
+/// Whether a text that begins with a dash may be a rule, as it or with what comes after it.
+fn may_begin_rule(text: &str) -> bool {
+    let bytes = text.as_bytes();
+    let dashes = bytes.iter().take_while(|byte| **byte == b'-').count();
+    dashes > 3 || dashes == bytes.len()
+}
+
 /// Whether a text may begin a line: it begins with no sign of a block.
 fn may_begin(text: &str) -> bool {
     match text.chars().next() {
         None => false,
         Some('{') => !may_begin_table(text),
+        Some('-') => !may_begin_rule(text),
         Some(first) => !line_start_hazard(first) && first != '|',
     }
 }
 
-/// Whether a kind is written for a sign of a line that is no block's.
+/// Whether a text may be within a line, where it may not begin one: it begins with a blank or the sign of a list or a
+/// rule, which means nothing there.
+fn may_go_on(text: &str) -> bool {
+    matches!(text.as_bytes().first(), Some(b' ' | b'*' | b'#' | b'-'))
+}
+
+/// Whether a kind is written for a sign of a line that is no block's, or shows nothing.
 fn is_sign(kind: Kind) -> bool {
-    matches!(kind, Kind::Entity | Kind::Island | Kind::Category)
+    matches!(
+        kind,
+        Kind::Entity
+            | Kind::Island
+            | Kind::Category
+            | Kind::Nowiki
+            | Kind::Switch
+            | Kind::Comment
+            | Kind::Include
+    )
+}
+
+/// The first of these nodes that is no comment or include tag.
+fn first_shown<'n, 'a>(nodes: &'n [Node<'a>]) -> Option<&'n Node<'a>> {
+    for node in nodes {
+        if !node.kind.is_mark() {
+            return Some(node);
+        }
+    }
+    None
 }
 
 /// Whether nodes are of one line: texts without line breaks, styles, links, tags, and what is written for a sign.
@@ -53,14 +86,14 @@ fn is_within_line(left: Option<&Unit<'_>>) -> bool {
     }
 }
 
-/// Whether what a group shows begins and ends no block wherever it is in a line, or, where it begins with a blank,
-/// where it is now, within one.
+/// Whether what a group shows begins and ends no block wherever it is in a line, or, where it begins with a blank or a
+/// sign, where it is now, within one.
 fn is_of_line(nodes: &[Node<'_>], left: Option<&Unit<'_>>) -> bool {
-    let begins = match nodes.first() {
+    let begins = match first_shown(nodes) {
         None => false,
         Some(node) if !matches!(node.kind, Kind::Text) => true,
         Some(node) => {
-            may_begin(node.shown()) || (node.shown().starts_with(" ") && is_within_line(left))
+            may_begin(node.shown()) || (may_go_on(node.shown()) && is_within_line(left))
         }
     };
     begins && are_of_line(nodes)

@@ -306,6 +306,71 @@ fn is_new_start(spot: InsidePlace<'_>, units: &[Unit<'_>], at: usize) -> bool {
     is_sign(*first) && !spot.began(place.start) && is_read_otherwise(spot, *first, units, at)
 }
 
+/// Whether a unit is a node or text that stands by itself and ends with a line break, after which no character says so.
+fn ends_line_as_it_is(unit: &Unit<'_>) -> bool {
+    matches!(unit, Unit::Thing(_))
+        && !matches!(role_of(unit), Some(Role::Mark { .. }))
+        && ends_line(unit)
+}
+
+/// Whether typed text begins a line here, after text of the page that ends with a line break, and would be another block.
+fn is_typed_start(spot: InsidePlace<'_>, units: &[Unit<'_>], at: usize) -> bool {
+    let (Some(Unit::Text(text)), Some(before)) = (units.get(at), before_marks(units, at)) else {
+        return false;
+    };
+    let Some(first) = text.as_bytes().first() else {
+        return false;
+    };
+    let rest = units_from(units, at);
+    ends_line_as_it_is(before)
+        && is_sign(*first)
+        && (is_blank(*first) || begins_block(spot, *first, rest))
+}
+
+/// Whether nothing but blanks, comments and include tags is in the line that goes on so.
+fn is_line_empty(units: &[Unit<'_>]) -> bool {
+    for unit in units {
+        let source = source_of(unit);
+        let line = line_of(source);
+        let is_mark = matches!(role_of(unit), Some(Role::Mark { .. }));
+        if !is_mark && last_letter(line).is_some() {
+            return false;
+        }
+        if line.len() < source.len() {
+            return !is_mark;
+        }
+    }
+    true
+}
+
+/// Whether two units are side by side in the page, too.
+fn are_neighbours(left: Option<&Unit<'_>>, right: Option<&Unit<'_>>) -> bool {
+    match (placed(left), placed(right)) {
+        (Some((_, ended)), Some((_, begun))) => ended.end == begun.start,
+        _ => false,
+    }
+}
+
+/// Whether a line of a paragraph was emptied here, beside text of the page: it would end the paragraph. At the end of
+/// what is written nothing comes after it.
+fn is_emptied_line(spot: InsidePlace<'_>, units: &[Unit<'_>], at: usize) -> bool {
+    if !matches!(spot.place, Place::Paragraph) || spot.is_preformatted {
+        return false;
+    }
+    let left = before(units, at);
+    let right = units.get(at);
+    let is_behind_break = match left {
+        Some(unit) => {
+            ends_line_as_it_is(unit)
+                || (ends_line(unit)
+                    && matches!(unit, Unit::Text(_))
+                    && matches!(right, Some(Unit::Thing(_))))
+        }
+        None => matches!(right, Some(Unit::Thing(_))),
+    };
+    is_behind_break && !are_neighbours(left, right) && is_line_empty(units_from(units, at))
+}
+
 /// Whether a unit is as it begins the inside in the page.
 fn is_standing_first(spot: InsidePlace<'_>, unit: &Unit<'_>) -> bool {
     match unit {
@@ -525,32 +590,58 @@ fn meeting(units: &[Unit<'_>], at: usize) -> Option<Stretch> {
     }
 }
 
-/// Where a group that begins or ends with an apostrophe meets a blank, which joins none: a place in the page.
+/// Where a group that begins or ends with an apostrophe meets a blank or a line break, which joins none: a place in the page.
 fn blank_beside(units: &[Unit<'_>], at: usize) -> Option<Stretch> {
     let left = before(units, at)?;
     let right = units.get(at)?;
     if let Some((Role::Group(group), place)) = placed(Some(left))
         && group.closes_with_apostrophe
-        && source_of(right)
-            .first()
-            .is_some_and(|first| is_blank(*first))
+        && (begins_with_space(right) || is_break(right))
     {
         return Some(behind(place.end));
     }
     match placed(Some(right)) {
-        Some((Role::Group(group), place)) if group.opens_with_apostrophe && ends_with_blank(left) =>
-            {
-                Some(Stretch {
-                    start: 0,
-                    end: place.start,
-                })
-            }
+        Some((Role::Group(group), place))
+            if group.opens_with_apostrophe && (ends_with_space(left) || is_break(left)) => {
+            Some(Stretch {
+                start: 0,
+                end: place.start,
+            })
+        }
         _ => None,
     }
 }
 
-fn ends_with_blank(unit: &Unit<'_>) -> bool {
-    source_of(unit).last().is_some_and(|last| is_blank(*last))
+/// A blank or a line break.
+fn is_space(byte: u8) -> bool {
+    is_blank(byte) || byte == b'\n'
+}
+
+fn begins_with_space(unit: &Unit<'_>) -> bool {
+    source_of(unit)
+        .first()
+        .is_some_and(|first| is_space(*first))
+}
+
+fn ends_with_space(unit: &Unit<'_>) -> bool {
+    source_of(unit).last().is_some_and(|last| is_space(*last))
+}
+
+/// Whether a unit is a `br`.
+fn is_break(unit: &Unit<'_>) -> bool {
+    matches!(role_of(unit), Some(Role::Node)) && source_of(unit).starts_with(b"<br")
+}
+
+/// Whether two comments or include tags come together directly after something in their line: they join nothing.
+fn are_marks_in_line(units: &[Unit<'_>], at: usize) -> bool {
+    let (Some(left), Some(right)) = (before(units, at), units.get(at)) else {
+        return false;
+    };
+    let Some(first) = before(units, at.saturating_sub(1)) else {
+        return false;
+    };
+    let are_marks = is_mark_in_line(left) && matches!(role_of(right), Some(Role::Mark { .. }));
+    are_marks && !matches!(role_of(first), Some(Role::Mark { .. })) && !ends_line(first)
 }
 
 // ---- all
@@ -583,7 +674,10 @@ fn joint_before(spot: Option<InsidePlace<'_>>, units: &[Unit<'_>], at: usize) ->
     if let Some(place) = blank_beside(units, at) {
         return Some(place);
     }
-    if are_five(units, at) || is_url_in_style(units, at) || may_begin(spot?, units, at) {
+    if are_five(units, at) || is_url_in_style(units, at) || are_marks_in_line(units, at) {
+        return Some(behind(0));
+    }
+    if may_begin(spot?, units, at) {
         Some(behind(0))
     } else {
         None
@@ -593,7 +687,12 @@ fn joint_before(spot: Option<InsidePlace<'_>>, units: &[Unit<'_>], at: usize) ->
 /// Whether a unit would be read otherwise at the start of a line or of the inside, and no table of neighbours says so.
 fn is_at_start(spot: Option<InsidePlace<'_>>, units: &[Unit<'_>], at: usize) -> bool {
     match spot {
-        Some(spot) => is_caption_sign(spot, units, at) || is_new_start(spot, units, at),
+        Some(spot) => {
+            is_caption_sign(spot, units, at)
+                || is_new_start(spot, units, at)
+                || is_typed_start(spot, units, at)
+                || is_emptied_line(spot, units, at)
+        }
         None => false,
     }
 }
@@ -626,6 +725,9 @@ pub fn with_joints<'n>(
     for at in 0..units.len() {
         push_before(alloc, &mut out, spot, units, at)?;
         out.push(copy_of(alloc, &units[at])?)?;
+    }
+    if !units.is_empty() && is_at_start(spot, units, units.len()) {
+        push_nowiki(alloc, &mut out)?;
     }
     if let Some(end) = ended_brace(spot, units) {
         out.push(joint_at(alloc, behind(end)))?;
