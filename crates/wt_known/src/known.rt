@@ -300,7 +300,7 @@ impl<'t, 'a> Known<'t, 'a> {
     }
 
     /// The texts beside the page's node of this number.
-    fn sides_of(&self, block: Option<&Block<'t, 'a>>, number: u32) -> Option<Sides<'t, 'a>> {
+    fn sides_of(&self, block: &Option<Block<'t, 'a>>, number: u32) -> Option<Sides<'t, 'a>> {
         if number == 0 {
             return None;
         }
@@ -316,7 +316,7 @@ impl<'t, 'a> Known<'t, 'a> {
     }
 
     /// The text after the page's node of this number.
-    pub fn behind(&self, block: Option<&Block<'t, 'a>>, number: u32) -> Option<&'t Node<'a>> {
+    pub fn behind(&self, block: &Option<Block<'t, 'a>>, number: u32) -> Option<&'t Node<'a>> {
         match self.sides_of(block, number) {
             Some(sides) => sides.behind,
             None => None,
@@ -324,7 +324,7 @@ impl<'t, 'a> Known<'t, 'a> {
     }
 
     /// The text before it.
-    pub fn before(&self, block: Option<&Block<'t, 'a>>, number: u32) -> Option<&'t Node<'a>> {
+    pub fn before(&self, block: &Option<Block<'t, 'a>>, number: u32) -> Option<&'t Node<'a>> {
         match self.sides_of(block, number) {
             Some(sides) => sides.before,
             None => None,
@@ -333,7 +333,7 @@ impl<'t, 'a> Known<'t, 'a> {
 
     /// The page's node of this number, with its place in the page: as its neighbours in the block see it, where
     /// it is there.
-    pub fn find(&self, block: Option<&Block<'t, 'a>>, number: u32) -> Option<Kept<'t, 'a>> {
+    pub fn find(&self, block: &Option<Block<'t, 'a>>, number: u32) -> Option<Kept<'t, 'a>> {
         if let Some(block) = block
             && let Some(kept) = block.find(number)
         {
@@ -351,7 +351,7 @@ impl<'t, 'a> Known<'t, 'a> {
     }
 
     /// What is known of the groups of the page: of all, or of those in the block.
-    pub fn groups<'k>(&'k self, block: Option<&'k Block<'t, 'a>>) -> Option<&'k Page<'t, 'a>> {
+    pub fn groups<'k>(&'k self, block: &'k Option<Block<'t, 'a>>) -> Option<&'k Page<'t, 'a>> {
         match &self.whole {
             Some(whole) => Some(&whole.page),
             None => match block {
