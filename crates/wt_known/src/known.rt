@@ -138,6 +138,26 @@ pub fn block_of<'t, 'a>(alloc: Global, node: &'t Node<'a>) -> Result<Block<'t, '
 }
 
 impl<'t, 'a> Block<'t, 'a> {
+    /// The same where a blank is written before its inside.
+    pub fn behind_blank(self) -> Block<'t, 'a> {
+        let Block {
+            page,
+            sides,
+            first,
+            start,
+            inside,
+            before: _,
+        } = self;
+        Block {
+            page,
+            sides,
+            first,
+            start,
+            inside,
+            before: b' ',
+        }
+    }
+
     /// The block's node of this number, with its place in the page.
     fn find(&self, number: u32) -> Option<Kept<'t, 'a>> {
         let kept = self.page.find(number)?;

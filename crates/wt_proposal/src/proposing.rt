@@ -135,19 +135,22 @@ fn push_inside<'t, 'a>(
         return Ok(());
     }
     let start = inside_start(old.ranges);
-    let mut standing = block_of(alloc, old)?;
+    let block = block_of(alloc, old)?;
     let mut by = Str::new(alloc);
-    if is_behind_blank(out.as_slice(), start) {
-        standing.before = b' ';
-    } else if keeps && begins_with_sign(standing.before, new, old) {
+    let is_apart = is_behind_blank(out.as_slice(), start);
+    let is_parted = !is_apart && keeps && begins_with_sign(block.before, new, old);
+    if is_parted {
         by.push_str(" ")?;
-        standing.before = b' ';
     }
-    let standing = Some(standing);
+    let block = Some(if is_apart || is_parted {
+        block.behind_blank()
+    } else {
+        block
+    });
     let source = spelled(
         alloc,
         known,
-        &standing,
+        &block,
         writing_in(keeps, old),
         text_of_staying(known.page, known.index, new),
         &edges_of(inside(old)),
