@@ -37,7 +37,7 @@ pub fn edges_of<'t, 'a>(nodes: &'t [Node<'a>]) -> Edges<'t, 'a> {
     }
 }
 
-fn edges_in<'t, 'a>(kept: Option<Kept<'t, 'a>>) -> Edges<'t, 'a> {
+fn edges_in<'t, 'a>(kept: &Option<Kept<'t, 'a>>) -> Edges<'t, 'a> {
     match kept {
         Some(kept) => edges_of(kept.node.children.as_slice()),
         None => Edges {
@@ -63,7 +63,7 @@ fn push_thing(
     Ok(())
 }
 
-fn place_of(kept: Option<Kept<'_, '_>>) -> Option<Stretch> {
+fn place_of(kept: &Option<Kept<'_, '_>>) -> Option<Stretch> {
     match kept {
         Some(kept) => Some(kept.place),
         None => None,
@@ -91,11 +91,11 @@ fn push_kept(
     alloc: Global,
     out: &mut Vec<Unit<'_>>,
     keeps: bool,
-    kept: Option<Kept<'_, '_>>,
+    kept: &Option<Kept<'_, '_>>,
     kind: Kind,
 ) -> Result<(), NoMemory> {
     match kept {
-        Some(old) if !matches!(kind, Kind::Skip) => push_as_it_stood(alloc, out, keeps, old),
+        Some(old) if !matches!(kind, Kind::Skip) => push_as_it_stood(alloc, out, keeps, *old),
         _ => Ok(()),
     }
 }
@@ -105,9 +105,9 @@ fn push_if_unchanged<'t, 'a>(
     alloc: Global,
     out: &mut Vec<Unit<'_>>,
     known: &Known<'t, 'a>,
-    block: Option<&Block<'t, 'a>>,
+    block: &Option<Block<'t, 'a>>,
     keeps: bool,
-    kept: Option<Kept<'_, '_>>,
+    kept: &Option<Kept<'_, '_>>,
     node: &Node<'_>,
 ) -> Result<bool, NoMemory> {
     let Some(old) = kept else {
@@ -116,10 +116,10 @@ fn push_if_unchanged<'t, 'a>(
     let Some(groups) = known.groups(block) else {
         return Ok(false);
     };
-    if !is_unchanged(alloc, groups, old, node)? {
+    if !is_unchanged(alloc, groups, *old, node)? {
         return Ok(false);
     }
-    push_as_it_stood(alloc, out, keeps, old)?;
+    push_as_it_stood(alloc, out, keeps, *old)?;
     Ok(true)
 }
 
@@ -128,9 +128,9 @@ fn push_shown<'t, 'a>(
     alloc: Global,
     out: &mut Vec<Unit<'_>>,
     known: &Known<'t, 'a>,
-    block: Option<&Block<'t, 'a>>,
+    block: &Option<Block<'t, 'a>>,
     keeps: bool,
-    kept: Option<Kept<'_, '_>>,
+    kept: &Option<Kept<'_, '_>>,
     node: &Node<'_>,
 ) -> Result<(), NoMemory> {
     if push_if_unchanged(alloc, out, known, block, keeps, kept, node)? {
@@ -197,11 +197,11 @@ fn push_closing(alloc: Global, out: &mut Vec<Unit<'_>>, old: Kept<'_, '_>) -> Re
 /// The page's node, where it is of the same kind and its delimiters stay.
 fn with_delimiters<'t, 'a>(
     keeps: bool,
-    kept: Option<Kept<'t, 'a>>,
+    kept: &Option<Kept<'t, 'a>>,
     kind: Kind,
 ) -> Option<Kept<'t, 'a>> {
     match kept {
-        Some(old) if keeps && same_kind(old.node.kind, kind) => Some(old),
+        Some(old) if keeps && same_kind(old.node.kind, kind) => Some(*old),
         _ => None,
     }
 }
@@ -221,15 +221,15 @@ fn push_style<'n, 't, 'a>(
     alloc: Global,
     out: &mut Vec<Unit<'n>>,
     known: &Known<'t, 'a>,
-    block: Option<&Block<'t, 'a>>,
+    block: &Option<Block<'t, 'a>>,
     writing: Writing,
-    kept: Option<Kept<'t, 'a>>,
+    kept: &Option<Kept<'t, 'a>>,
     node: &'n Node<'_>,
 ) -> Result<(), NoMemory> {
     let nodes = node.children.as_slice();
     if let Some(old) = with_delimiters(writing.keeps, kept, node.kind) {
         push_opening(alloc, out, old)?;
-        push_units(alloc, out, known, block, writing, nodes, edges_in(kept))?;
+        push_units(alloc, out, known, block, writing, nodes, &edges_in(kept))?;
         if matches!(node.kind, Kind::Bold) && is_new_italic_alone(nodes) {
             push_nowiki(alloc, out)?;
         }
@@ -240,7 +240,7 @@ fn push_style<'n, 't, 'a>(
     if nodes.is_empty() {
         push_nowiki(alloc, out)?;
     }
-    push_units(alloc, out, known, block, writing, nodes, edges_in(kept))?;
+    push_units(alloc, out, known, block, writing, nodes, &edges_in(kept))?;
     if matches!(node.kind, Kind::Bold) && is_italic_alone(nodes) {
         push_nowiki(alloc, out)?;
     }
@@ -476,7 +476,7 @@ fn new_source(alloc: Global, keeps: bool, node: &Node<'_>, inside: &str) -> Resu
 fn source_round(
     alloc: Global,
     keeps: bool,
-    kept: Option<Kept<'_, '_>>,
+    kept: &Option<Kept<'_, '_>>,
     node: &Node<'_>,
     inside: &str,
 ) -> Result<Str, NoMemory> {
@@ -522,9 +522,9 @@ fn push_element<'t, 'a>(
     alloc: Global,
     out: &mut Vec<Unit<'_>>,
     known: &Known<'t, 'a>,
-    block: Option<&Block<'t, 'a>>,
+    block: &Option<Block<'t, 'a>>,
     writing: Writing,
-    kept: Option<Kept<'t, 'a>>,
+    kept: &Option<Kept<'t, 'a>>,
     node: &Node<'_>,
 ) -> Result<(), NoMemory> {
     if writing.keeps && !is_behind_word(out.as_slice()) && is_bare_now(alloc, kept, node)? {
@@ -533,7 +533,7 @@ fn push_element<'t, 'a>(
         return push_thing(out, role, source, Some(place_of_bare(kept)));
     }
     let nodes = node.children.as_slice();
-    let mut inside = within(alloc, known, block, writing, nodes, edges_in(kept))?;
+    let mut inside = within(alloc, known, block, writing, nodes, &edges_in(kept))?;
     if writing.keeps && !is_tag(node.kind) {
         inside = with_colons(alloc, inside)?;
     }
@@ -541,14 +541,14 @@ fn push_element<'t, 'a>(
     push_thing(out, role_of(node.kind), source, place_of(kept))
 }
 
-fn place_of_bare(kept: Option<Kept<'_, '_>>) -> Stretch {
+fn place_of_bare(kept: &Option<Kept<'_, '_>>) -> Stretch {
     place_of(kept).unwrap_or(place_of_new())
 }
 
 /// Whether a link is written as its URL alone: one that is new or was written so, and shows its URL.
 fn is_bare_now(
     alloc: Global,
-    kept: Option<Kept<'_, '_>>,
+    kept: &Option<Kept<'_, '_>>,
     node: &Node<'_>,
 ) -> Result<bool, NoMemory> {
     let was_bare = match kept {
@@ -567,10 +567,10 @@ fn is_bare_now(
 fn within<'t, 'a>(
     alloc: Global,
     known: &Known<'t, 'a>,
-    block: Option<&Block<'t, 'a>>,
+    block: &Option<Block<'t, 'a>>,
     writing: Writing,
     nodes: &[Node<'_>],
-    edges: Edges<'t, 'a>,
+    edges: &Edges<'t, 'a>,
 ) -> Result<String, NoMemory> {
     let units = units_of(alloc, known, block, writing, nodes, edges, None)?;
     let setting = Setting {
@@ -589,7 +589,7 @@ fn push_node<'n, 't, 'a>(
     alloc: Global,
     out: &mut Vec<Unit<'n>>,
     known: &Known<'t, 'a>,
-    block: Option<&Block<'t, 'a>>,
+    block: &Option<Block<'t, 'a>>,
     writing: Writing,
     node: &'n Node<'_>,
 ) -> Result<(), NoMemory> {
@@ -599,21 +599,21 @@ fn push_node<'n, 't, 'a>(
         InlineForm::Nothing => Ok(()),
         InlineForm::Characters => push_letters(out, node.shown()),
         InlineForm::Bold | InlineForm::Italic => {
-            push_style(alloc, out, known, block, writing, kept, node)
+            push_style(alloc, out, known, block, writing, &kept, node)
         }
         InlineForm::AsItStood => {
             let is_mark = node.kind.is_mark();
             if is_mark && node.id != 0 && known.is_left(node.id) {
                 return Ok(());
             }
-            push_kept(alloc, out, keeps, kept, node.kind)
+            push_kept(alloc, out, keeps, &kept, node.kind)
         }
-        InlineForm::Shown => push_shown(alloc, out, known, block, keeps, kept, node),
+        InlineForm::Shown => push_shown(alloc, out, known, block, keeps, &kept, node),
         InlineForm::PageLink | InlineForm::ExternalLink | InlineForm::Tag | InlineForm::Break => {
-            if push_if_unchanged(alloc, out, known, block, keeps, kept, node)? {
+            if push_if_unchanged(alloc, out, known, block, keeps, &kept, node)? {
                 return Ok(());
             }
-            push_element(alloc, out, known, block, writing, kept, node)
+            push_element(alloc, out, known, block, writing, &kept, node)
         }
     }
 }
@@ -633,10 +633,10 @@ fn behind<'n, 'a>(nodes: &'n [Node<'a>], at: usize) -> Option<&'n Node<'a>> {
 /// The page's text after the node before a place, or at the edge.
 fn text_left<'t, 'a>(
     known: &Known<'t, 'a>,
-    block: Option<&Block<'t, 'a>>,
+    block: &Option<Block<'t, 'a>>,
     nodes: &[Node<'_>],
     at: usize,
-    edges: Edges<'t, 'a>,
+    edges: &Edges<'t, 'a>,
 ) -> Option<&'t Node<'a>> {
     match before(nodes, at) {
         Some(node) => known.behind(block, node.id),
@@ -647,10 +647,10 @@ fn text_left<'t, 'a>(
 /// The page's text before the node after a place, or at the edge.
 fn text_right<'t, 'a>(
     known: &Known<'t, 'a>,
-    block: Option<&Block<'t, 'a>>,
+    block: &Option<Block<'t, 'a>>,
     nodes: &[Node<'_>],
     at: usize,
-    edges: Edges<'t, 'a>,
+    edges: &Edges<'t, 'a>,
 ) -> Option<&'t Node<'a>> {
     match behind(nodes, at) {
         Some(node) => known.before(block, node.id),
@@ -688,10 +688,10 @@ fn push_units<'n, 't, 'a>(
     alloc: Global,
     out: &mut Vec<Unit<'n>>,
     known: &Known<'t, 'a>,
-    block: Option<&Block<'t, 'a>>,
+    block: &Option<Block<'t, 'a>>,
     writing: Writing,
     nodes: &'n [Node<'_>],
-    edges: Edges<'t, 'a>,
+    edges: &Edges<'t, 'a>,
 ) -> Result<(), NoMemory> {
     for at in 0..nodes.len() {
         let node = &nodes[at];
@@ -714,10 +714,10 @@ fn push_units<'n, 't, 'a>(
 fn units_of<'n, 't, 'a>(
     alloc: Global,
     known: &Known<'t, 'a>,
-    block: Option<&Block<'t, 'a>>,
+    block: &Option<Block<'t, 'a>>,
     writing: Writing,
     nodes: &'n [Node<'_>],
-    edges: Edges<'t, 'a>,
+    edges: &Edges<'t, 'a>,
     spot: Option<InsidePlace<'_>>,
 ) -> Result<Vec<Unit<'n>>, NoMemory> {
     let mut units = Vec::new(alloc);
@@ -735,7 +735,7 @@ fn units_of<'n, 't, 'a>(
 
 fn spot_of<'t, 'a>(
     known: &Known<'t, 'a>,
-    block: Option<&Block<'_, '_>>,
+    block: &Option<Block<'_, '_>>,
     place: Place,
 ) -> InsidePlace<'t> {
     let (before, start, is_delimited) = match block {
@@ -764,10 +764,10 @@ fn may_be_empty(place: Place) -> bool {
 pub fn spelled<'t, 'a>(
     alloc: Global,
     known: &Known<'t, 'a>,
-    block: Option<&Block<'t, 'a>>,
+    block: &Option<Block<'t, 'a>>,
     writing: Writing,
     nodes: &[Node<'_>],
-    edges: Edges<'t, 'a>,
+    edges: &Edges<'t, 'a>,
 ) -> Result<Str, NoMemory> {
     let spot = spot_of(known, block, writing.place);
     let units = units_of(alloc, known, block, writing, nodes, edges, Some(spot))?;

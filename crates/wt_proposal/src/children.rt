@@ -31,7 +31,7 @@ fn text_at_end<'t, 'a>(block: Option<&'t Node<'a>>) -> Option<&'t Node<'a>> {
 fn coming_of<'t, 'a>(
     alloc: Global,
     known: &Known<'t, 'a>,
-    plan: Plan<'_>,
+    plan: &Plan<'_>,
     outer: &str,
     gap: &Gap<'_, 't, 'a>,
 ) -> Result<Option<Coming>, NoMemory> {
@@ -246,7 +246,7 @@ pub fn push_gap<'t, 'a>(
     alloc: Global,
     out: &mut Vec<Change>,
     known: &Known<'t, 'a>,
-    plan: Plan<'_>,
+    plan: &Plan<'_>,
     outer: &str,
     gap: &Gap<'_, 't, 'a>,
 ) -> Result<(), NoMemory> {
@@ -281,7 +281,7 @@ fn push_part<'t, 'a>(
     alloc: Global,
     out: &mut Vec<Change>,
     known: &Known<'t, 'a>,
-    plan: Plan<'_>,
+    plan: &Plan<'_>,
     outer: &str,
     gap: &Gap<'_, 't, 'a>,
 ) -> Result<(), NoMemory> {

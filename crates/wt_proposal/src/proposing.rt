@@ -55,7 +55,7 @@ pub struct Plan<'w> {
 
 impl<'w> Plan<'w> {
     /// Whether texts keep their bytes in the block with this number.
-    pub fn keeps(self, block: usize) -> bool {
+    pub fn keeps(&self, block: usize) -> bool {
         self.keeping.keeps(block)
     }
 }
@@ -135,21 +135,25 @@ fn push_inside<'t, 'a>(
         return Ok(());
     }
     let start = inside_start(old.ranges);
-    let mut standing = block_of(alloc, old)?;
+    let block = block_of(alloc, old)?;
     let mut by = Str::new(alloc);
-    if is_behind_blank(out.as_slice(), start) {
-        standing.before = b' ';
-    } else if keeps && begins_with_sign(standing.before, new, old) {
+    let is_apart = is_behind_blank(out.as_slice(), start);
+    let is_parted = !is_apart && keeps && begins_with_sign(block.before, new, old);
+    if is_parted {
         by.push_str(" ")?;
-        standing.before = b' ';
     }
+    let block = Some(if is_apart || is_parted {
+        block.behind_blank()
+    } else {
+        block
+    });
     let source = spelled(
         alloc,
         known,
-        Some(&standing),
+        &block,
         writing_in(keeps, old),
         text_of_staying(known.page, known.index, new),
-        edges_of(inside(old)),
+        &edges_of(inside(old)),
     )?;
     by.push_str(source.as_str())?;
     let place = Slot {
@@ -211,14 +215,14 @@ fn push_own_line<'t, 'a>(
     old: &'t Node<'a>,
 ) -> Result<(), NoMemory> {
     let start = inside_start(old.ranges);
-    let block = block_of(alloc, old)?;
+    let block = Some(block_of(alloc, old)?);
     let source = spelled(
         alloc,
         known,
-        Some(&block),
+        &block,
         writing_in(keeps, old),
         text_of_staying(known.page, known.index, new),
-        edges_of(inside(old)),
+        &edges_of(inside(old)),
     )?;
     let mut by = signs_of(alloc, known, old)?;
     if !source.as_str().is_empty() {
@@ -423,7 +427,7 @@ fn push_span<'t, 'a>(
     alloc: Global,
     out: &mut Vec<Change>,
     known: &Known<'t, 'a>,
-    plan: Plan<'_>,
+    plan: &Plan<'_>,
     held: &Held<'_, 't, 'a>,
     new: &[Node<'a>],
     span: &Span,
@@ -480,13 +484,13 @@ fn push_blank(
     alloc: Global,
     out: &mut Vec<Change>,
     new: &Node<'_>,
-    part: Part<'_, '_>,
+    part: &Part<'_, '_>,
     is_tight: bool,
 ) -> Result<(), NoMemory> {
-    let Part { old, beside } = part;
+    let old = part.old;
     if !is_bare_sign(old)
         || is_tight
-        || style_of(beside).is_tight
+        || style_of(part.beside).is_tight
         || same_inside(alloc, old, new)?
     {
         return Ok(());
@@ -502,7 +506,7 @@ fn push_children<'t, 'a>(
     alloc: Global,
     out: &mut Vec<Change>,
     known: &Known<'t, 'a>,
-    plan: Plan<'_>,
+    plan: &Plan<'_>,
     nodes: &'t [Node<'a>],
     held: &Held<'_, 't, 'a>,
     block: Numbering,
@@ -539,11 +543,11 @@ fn push_children<'t, 'a>(
                     alloc,
                     out,
                     child,
-                    part,
+                    &part,
                     held.style.is_tight && is_cell(within.kind),
                 )?;
             }
-            push_node(alloc, out, known, plan, child, part, line.block.inside())?;
+            push_node(alloc, out, known, plan, child, &part, line.block.inside())?;
         }
         line = line.behind(turn.passed, turn.reached, at);
     }
@@ -560,7 +564,7 @@ fn push_children<'t, 'a>(
 }
 
 /// How new parts are written in a node of the page: lists in an item as this one is, cells in a row as those of it.
-fn style_in(part: Part<'_, '_>) -> Style {
+fn style_in(part: &Part<'_, '_>) -> Style {
     match part.old.kind {
         Kind::Tr => style_within(part.old, part.beside),
         kind if is_item(kind) => style_of(Some(part.old)),
@@ -574,9 +578,9 @@ fn push_node<'t, 'a>(
     alloc: Global,
     out: &mut Vec<Change>,
     known: &Known<'t, 'a>,
-    plan: Plan<'_>,
+    plan: &Plan<'_>,
     new: &'t Node<'a>,
-    part: Part<'t, 'a>,
+    part: &Part<'t, 'a>,
     block: Numbering,
 ) -> Result<(), NoMemory> {
     let old = part.old;
@@ -639,7 +643,7 @@ fn changes_of<'t, 'a>(
         old: tree,
         beside: None,
     };
-    push_node(alloc, &mut out, &known, plan, edited, whole, body)?;
+    push_node(alloc, &mut out, &known, &plan, edited, &whole, body)?;
     Ok(out)
 }
 
