@@ -1,6 +1,6 @@
 //! What comes in a gap, and where it is put.
 
-use crate::blanks::{is_at_line_start, most_breaks, past_spaces};
+use crate::blanks::{most_breaks, past_spaces};
 use crate::breaks::{
     between, is_box, is_heading, is_lined_block, kind_at_end, kind_at_start, least_between,
     push_breaks,
@@ -8,9 +8,10 @@ use crate::breaks::{
 use crate::gap::{Gap, is_before_text};
 use crate::gone::{Slice, push_change, push_part_of};
 use crate::lines::{
-    is_doubled, is_doubled_at, is_in_stack, next_in_page, push_in_line, range_of, shares_line,
+    first_sign, is_doubled, is_doubled_at, is_in_stack, next_in_page, push_in_line, range_of,
+    shares_line,
 };
-use crate::nodes::count_of;
+use crate::nodes::{count_of, first_block};
 use crate::tags::{Tags, breaks_before_tag, breaks_behind_tag};
 use std::alloc::Global;
 use wt_block_signs::{
@@ -18,7 +19,7 @@ use wt_block_signs::{
 };
 use wt_checks::{Visit, is_compared, original};
 use wt_difference::Child;
-use wt_known::{Known, breaks_between};
+use wt_known::{Known, breaks_between, is_at_line_start};
 use wt_places::Slot;
 use wt_span::{NoMemory, Str};
 use wt_splice::Change;
@@ -160,16 +161,6 @@ fn breaks_below(
     between(known.closeness, gap.is_tight, last, coming.first)
 }
 
-/// The first of those that come.
-fn first_coming<'n, 'a>(nodes: &'n [Node<'a>]) -> Option<&'n Node<'a>> {
-    for node in nodes {
-        if is_compared(node.kind) {
-            return Some(node);
-        }
-    }
-    None
-}
-
 /// Whether what comes directly after the child before is in a stack of boxes of the page, as that one is.
 fn goes_on_in_stack(
     known: &Known<'_, '_>,
@@ -181,7 +172,7 @@ fn goes_on_in_stack(
     if gap.is_tight || !are_boxes || !is_directly_behind(gap, before) {
         return false;
     }
-    match first_coming(gap.new) {
+    match first_block(gap.new) {
         Some(first) => is_in_stack(known, first) && is_in_stack(known, before),
         None => false,
     }
@@ -478,6 +469,55 @@ fn comes_last_in_line(page: &str, gap: &Gap<'_, '_, '_>, coming: &Coming) -> boo
         && most_breaks(page, range_of(before).start, range_of(before).end) == 0
 }
 
+/// Whether the next cell of the page goes on in the line of this one.
+fn is_followed_in_line(known: &Known<'_, '_>, cell: &Node<'_>) -> bool {
+    match original(known.index, cell.id) {
+        Some(visit) => match next_in_page(known, visit) {
+            Some(next) => is_doubled(known.page, next),
+            None => false,
+        },
+        None => false,
+    }
+}
+
+/// Whether what comes is one cell before the first one of a line, in which no blanks are beside the signs.
+fn comes_first_in_line(known: &Known<'_, '_>, gap: &Gap<'_, '_, '_>, coming: &Coming) -> bool {
+    let Some(behind) = gap.behind else {
+        return false;
+    };
+    gap.before.is_none()
+        && is_cell(coming.first)
+        && same_kind(coming.first, behind.kind)
+        && count_of(gap.new) == 1
+        && coming.is_of_line
+        && style_of(gap.behind).is_tight
+        && !is_doubled(known.page, behind)
+        && is_at_line_start(known.page, range_of(behind).start)
+        && is_followed_in_line(known, behind)
+}
+
+/// What is written of what comes in a line of the page: after a cell of it, or before its first one, whose sign is that
+/// of one that goes on then. None where it begins a line of its own.
+fn source_in_line(
+    alloc: Global,
+    known: &Known<'_, '_>,
+    gap: &Gap<'_, '_, '_>,
+    coming: &Coming,
+) -> Result<Option<Str>, NoMemory> {
+    let source = coming.source.as_str();
+    let mut out = Str::new(alloc);
+    if joins_line(known.page, gap, coming) || comes_last_in_line(known.page, gap, coming) {
+        push_in_line(&mut out, source)?;
+        return Ok(Some(out));
+    }
+    if comes_first_in_line(known, gap, coming) {
+        out.push_str(source)?;
+        out.push_str(first_sign(source))?;
+        return Ok(Some(out));
+    }
+    Ok(None)
+}
+
 /// Whether what comes is one cell in the place of one that went on in the line of the cell before, which has its kind.
 fn takes_place_in_line(page: &str, gap: &Gap<'_, '_, '_>, coming: &Coming, at: usize) -> bool {
     let Some(before) = gap.before else {
@@ -517,6 +557,11 @@ pub fn push_new<'t, 'a>(
     let page = known.page;
     let slice = slices.first().copied();
     let place = place_of(gap, slice);
+    if slice.is_none()
+        && let Some(by) = source_in_line(alloc, known, gap, coming)?
+    {
+        return push_change(out, place, by);
+    }
     let to = match slices.get(1) {
         Some(next) => next.place.start,
         None => gap.place.end,
@@ -529,11 +574,6 @@ pub fn push_new<'t, 'a>(
     };
     let behind = breaks_behind(known, gap, slice, coming, after);
     let mut by = Str::new(alloc);
-    let joins = joins_line(page, gap, coming) || comes_last_in_line(page, gap, coming);
-    if slice.is_none() && joins {
-        push_in_line(&mut by, coming.source.as_str())?;
-        return push_change(out, place, by);
-    }
     let is_in_line = slice.is_some() && takes_place_in_line(page, gap, coming, place.start);
     push_source(&mut by, coming, is_in_line, before)?;
     if begins_without_sign(gap) {

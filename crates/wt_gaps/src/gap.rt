@@ -44,8 +44,8 @@ impl Numbering {
 /// the end of the one before, where that was looked for, whether that one is text alone as it was edited, the page's
 /// children between them, and the edited ones, with the number of the block of the first, whether they are lines of an
 /// item, a list or a table, with no empty line between them, whether a cell holds them, or a row without a sign of its
-/// own, how a list in an item is written that holds them, and whether the one after it is an item that gets a line of
-/// its own by itself.
+/// own, how a list in an item is written that holds them, and of the one after it whether it begins with the character
+/// with which it began in the page, and whether it is an item that gets a line of its own by itself.
 #[derive(Clone, Copy)]
 pub struct Gap<'w, 't, 'a> {
     pub place: Slot,
@@ -59,6 +59,7 @@ pub struct Gap<'w, 't, 'a> {
     pub text_before: Option<&'t Node<'a>>,
     pub is_behind_text: bool,
     pub behind: Option<&'t Node<'a>>,
+    pub begins_alike: bool,
     pub gets_line: bool,
     pub gone: &'w [Child<'t, 'a>],
     pub new: &'w [Node<'a>],

@@ -153,7 +153,8 @@ fn push_missing_signs(
 }
 
 /// Appends a slice of a gap. Where a cell or an item that went on in a line begins one after it, the two signs of a
-/// cell become one, and an item has all of its signs; a paragraph that would be another block then has `<nowiki/>`.
+/// cell become one, and an item has all of its signs; a paragraph that would be another block then has `<nowiki/>`, if it
+/// still begins so.
 pub fn push_part_of(
     alloc: Global,
     out: &mut Vec<Change>,
@@ -173,7 +174,7 @@ pub fn push_part_of(
             by.push_str(sign_at_line_start(page, node, end))?;
         } else if is_item(node.kind) {
             push_missing_signs(alloc, &mut by, known, node)?;
-        } else if is_paragraph_in_line(page, node) {
+        } else if gap.begins_alike && is_paragraph_in_line(page, node) {
             by.push_str("<nowiki/>")?;
         }
     }

@@ -1,10 +1,10 @@
 //! Where nodes are in the page, and which cells go on in the line of the one before them.
 
-use crate::blanks::{byte_at, is_at_line_start, most_breaks, past_blanks};
+use crate::blanks::{byte_at, most_breaks, past_blanks};
 use crate::breaks::{between, is_box, kind_at_end, kind_at_start, least_between, push_breaks};
 use wt_block_signs::{is_cell, is_part};
 use wt_checks::{Visit, is_compared, original};
-use wt_known::{Known, breaks_between};
+use wt_known::{Known, breaks_between, is_at_line_start};
 use wt_places::Slot;
 use wt_span::{NoMemory, Str};
 use wt_tree::{Kind, Node, same_kind};
@@ -232,8 +232,13 @@ pub fn shares_line(page: &str, last: Kind, cell: &Node<'_>) -> bool {
     is_cell(last) && same_kind(last, cell.kind) && is_doubled(page, cell)
 }
 
+/// The sign with which a cell begins.
+pub fn first_sign(cell: &str) -> &'static str {
+    if cell.starts_with("!") { "!" } else { "|" }
+}
+
 /// Appends a cell that goes on in a line, given as it begins one.
 pub fn push_in_line(out: &mut Str, cell: &str) -> Result<(), NoMemory> {
-    out.push_str(if cell.starts_with("!") { "!" } else { "|" })?;
+    out.push_str(first_sign(cell))?;
     out.push_str(cell)
 }

@@ -7,7 +7,7 @@ use wt_block_signs::{USUAL, ends_with_given_sign, goes_on_behind, is_item};
 use wt_checks::is_compared;
 use wt_difference::inside;
 use wt_gaps::{
-    Coming, Gap, Passed, behind_first, between_coming, comes_along, count_of, empties_row,
+    Coming, Gap, Passed, behind_first, between_coming, comes_along, count_of, empties_row, first_block,
     kind_at_end, kind_at_start, last_number, mark_at, nodes_between, place_behind, push_between,
     push_breaks, push_comment, push_emptied_row, push_gone, push_new, push_up_to_comment, signs_in,
     slices_of, style_beside, wanted_between,
@@ -114,16 +114,6 @@ fn push_as_between(
         Some(before) => push_between(out, known, before, node),
         None => Ok(false),
     }
-}
-
-/// The first of these nodes that counts.
-fn first_block<'w, 'a>(nodes: &'w [Node<'a>]) -> Option<&'w Node<'a>> {
-    for node in nodes {
-        if is_compared(node.kind) {
-            return Some(node);
-        }
-    }
-    None
 }
 
 /// What comes, of which nothing is written yet, and begins with a comment that comes along with this block.

@@ -16,8 +16,10 @@ use wt_block_signs::{
 use wt_checks::{Visit, is_compared};
 use wt_content_proposal::{Writing, edges_of, spelled};
 use wt_difference::{Child, held, inside, inside_count, same_inside};
-use wt_gaps::{Gap, Numbering, Tags, byte_at, children_between, nodes_between, push_change};
-use wt_known::{Known, block_of, takes_from_elsewhere, text_of_staying};
+use wt_gaps::{
+    Gap, Numbering, Tags, byte_at, children_between, first_block, nodes_between, push_change,
+};
+use wt_known::{Known, block_of, first_text, takes_from_elsewhere, text_of_staying};
 use wt_places::{
     Beside, Reached, Slot, begun, inside_end, inside_start, inside_stop, next_turn, places,
     start_of, tested, turns,
@@ -173,17 +175,23 @@ fn push_inside<'t, 'a>(
 
 /// Whether the first of these nodes that counts is a list or a group; not where none counts.
 fn begin_with_list(nodes: &[Node<'_>]) -> bool {
-    for node in nodes {
-        if is_compared(node.kind) {
-            return is_list(node.kind) || matches!(node.kind, Kind::Group);
-        }
+    match first_block(nodes) {
+        Some(node) => is_list(node.kind) || matches!(node.kind, Kind::Group),
+        None => false,
     }
-    false
 }
 
 /// Whether an item of the page that had no line of its own gets one: it has text now, or no list begins on its line.
 fn gets_line(new: &Node<'_>, old: &Node<'_>) -> bool {
     is_item(old.kind) && old.opening().is_empty() && !begin_with_list(new.children.as_slice())
+}
+
+/// Whether a node of the page begins with the character of its text with which it began.
+fn begins_alike(new: &Node<'_>, old: &Node<'_>) -> bool {
+    match (first_text(inside(new)), first_text(inside(old))) {
+        (Some(text), Some(was)) => text.shown().as_bytes().first() == was.shown().as_bytes().first(),
+        _ => false,
+    }
 }
 
 /// Past the signs of an item, which may begin at this place of the page.
@@ -283,7 +291,8 @@ struct Line {
 }
 
 /// A gap, by how many of the page's children come before it, whether the last of them is text alone as it was edited,
-/// by how many come before what comes after it, and whether this is an item that gets a line of its own.
+/// by how many come before what comes after it, whether this begins as it did, and whether it is an item that gets a line
+/// of its own.
 #[derive(Clone, Copy)]
 struct Span {
     place: Slot,
@@ -291,6 +300,7 @@ struct Span {
     is_behind_text: bool,
     to: usize,
     is_last: bool,
+    begins_alike: bool,
     gets_line: bool,
     first: Numbering,
 }
@@ -362,6 +372,7 @@ impl Line {
             is_behind_text: self.is_behind_text(nodes),
             to: self.from.saturating_add(passed).saturating_sub(1),
             is_last: false,
+            begins_alike: true,
             gets_line: false,
             first: self.first,
         }
@@ -378,6 +389,7 @@ impl Line {
             is_behind_text: self.is_behind_text(nodes),
             to: held.children.len(),
             is_last: true,
+            begins_alike: true,
             gets_line: false,
             first: self.first,
         }
@@ -446,6 +458,7 @@ fn push_span<'t, 'a>(
         text_before: None,
         is_behind_text: span.is_behind_text,
         behind,
+        begins_alike: span.begins_alike,
         gets_line: span.gets_line,
         gone: children_between(held.children, span.from, span.to),
         new,
@@ -527,10 +540,10 @@ fn push_children<'t, 'a>(
         if let Some(place) = turn.gap {
             let new = nodes_between(nodes, line.came_from, at);
             let mut span = line.span(nodes, place, turn.passed);
-            span.gets_line = match turn.within {
-                Some(within) => gets_line(child, within),
-                None => false,
-            };
+            if let Some(within) = turn.within {
+                span.begins_alike = begins_alike(child, within);
+                span.gets_line = gets_line(child, within);
+            }
             push_span(alloc, out, known, plan, held, new, &span)?;
         }
         if let Some(within) = turn.within {
