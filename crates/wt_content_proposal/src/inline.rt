@@ -1,15 +1,15 @@
 //! Inline content as wikitext: what was in the page as it was, texts too, and what is new as `edit` spells it.
 
-use crate::nowiki::nowiki_round;
+use crate::standing::{place_of, push_if_unchanged, push_kept, push_shown, push_thing};
 use std::alloc::Global;
-use wt_guards::{Role, Setting, Stretch, Thing, Unit, spelling_of};
+use wt_guards::{Role, Setting, Stretch, Unit, spelling_of};
 use wt_known::{Block, Known, first_text, joined, last_text};
 use wt_link_spelling::{external_link, href_of, page_link};
-use wt_original::{Kept, is_unchanged, shown_text};
+use wt_original::{Kept, shown_text};
 use wt_span::{NoMemory, Str, Text};
 use wt_text_proposal::{
     InsidePlace, NOWHERE, ends_with_apostrophe, is_bare_url, place_of_new, push_letters,
-    push_nowiki, push_text, role_in_line, shortened, source_of, with_colons, with_fragment,
+    push_nowiki, push_text, shortened, source_of, with_colons, with_fragment,
     with_joints, with_plain,
 };
 use wt_tree::{InlineForm, Kind, Node, Place, flat, push_texts, same_attrs, same_kind};
@@ -45,108 +45,6 @@ fn edges_in<'t, 'a>(kept: &Option<Kept<'t, 'a>>) -> Edges<'t, 'a> {
             last: None,
         },
     }
-}
-
-// ---- one unit
-
-fn push_thing(
-    out: &mut Vec<Unit<'_>>,
-    role: Role,
-    source: Str,
-    place: Option<Stretch>,
-) -> Result<(), NoMemory> {
-    out.push(Unit::Thing(Thing {
-        role,
-        source,
-        place,
-    }))?;
-    Ok(())
-}
-
-fn place_of(kept: &Option<Kept<'_, '_>>) -> Option<Stretch> {
-    match kept {
-        Some(kept) => Some(kept.place),
-        None => None,
-    }
-}
-
-/// Appends a node as it was in the page.
-fn push_as_it_stood(
-    alloc: Global,
-    out: &mut Vec<Unit<'_>>,
-    keeps: bool,
-    old: Kept<'_, '_>,
-) -> Result<(), NoMemory> {
-    let source = flat(alloc, old.node)?;
-    let role = if keeps {
-        role_in_line(old.role, old.node, out.as_slice().last(), old.place)
-    } else {
-        old.role
-    };
-    push_thing(out, role, source, Some(old.place))
-}
-
-/// The same of a node that may not have been there. What a link skips is no part of its text.
-fn push_kept(
-    alloc: Global,
-    out: &mut Vec<Unit<'_>>,
-    keeps: bool,
-    kept: &Option<Kept<'_, '_>>,
-    kind: Kind,
-) -> Result<(), NoMemory> {
-    match kept {
-        Some(old) if !matches!(kind, Kind::Skip) => push_as_it_stood(alloc, out, keeps, *old),
-        _ => Ok(()),
-    }
-}
-
-/// Appends a node as it was in the page, where it shows what it showed; it says whether it does.
-fn push_if_unchanged<'t, 'a>(
-    alloc: Global,
-    out: &mut Vec<Unit<'_>>,
-    known: &Known<'t, 'a>,
-    block: &Option<Block<'t, 'a>>,
-    keeps: bool,
-    kept: &Option<Kept<'_, '_>>,
-    node: &Node<'_>,
-) -> Result<bool, NoMemory> {
-    let Some(old) = kept else {
-        return Ok(false);
-    };
-    let Some(groups) = known.groups(block) else {
-        return Ok(false);
-    };
-    if !is_unchanged(alloc, groups, *old, node)? {
-        return Ok(false);
-    }
-    push_as_it_stood(alloc, out, keeps, *old)?;
-    Ok(true)
-}
-
-/// Appends a `nowiki` or a reference as it was in the page, or what it shows now: of a `nowiki` between its tags.
-fn push_shown<'t, 'a>(
-    alloc: Global,
-    out: &mut Vec<Unit<'_>>,
-    known: &Known<'t, 'a>,
-    block: &Option<Block<'t, 'a>>,
-    keeps: bool,
-    kept: &Option<Kept<'_, '_>>,
-    node: &Node<'_>,
-) -> Result<(), NoMemory> {
-    if push_if_unchanged(alloc, out, known, block, keeps, kept, node)? {
-        return Ok(());
-    }
-    if keeps
-        && let Some(old) = kept
-        && let Some(source) = nowiki_round(alloc, known, block, old.node, node)?
-    {
-        return push_thing(out, old.role, source, Some(old.place));
-    }
-    let text = shown_text(alloc, node)?;
-    if !text.is_empty() {
-        out.push(Unit::Copied(Str::from_string(text)))?;
-    }
-    Ok(())
 }
 
 // ---- bold and italic

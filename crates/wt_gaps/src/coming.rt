@@ -139,6 +139,11 @@ fn is_directly_behind(gap: &Gap<'_, '_, '_>, before: &Node<'_>) -> bool {
     gap.place.start <= range_of(before).end
 }
 
+/// Whether a part of a gap ends where the child after it begins: the last part of each does.
+fn is_directly_before(gap: &Gap<'_, '_, '_>, behind: &Node<'_>) -> bool {
+    range_of(behind).start <= gap.place.end
+}
+
 /// Whether what is directly below the child before in the page is as close to it as it may be.
 fn is_above_closely(page: &str, gap: &Gap<'_, '_, '_>, before: &Node<'_>) -> bool {
     let below = first_gone(gap.gone).or(gap.behind);
@@ -282,8 +287,7 @@ fn ends_in_stack<'t, 'a>(
     behind: &Node<'_>,
 ) -> bool {
     let is_before_heading = is_heading(kind_at_start(behind));
-    let is_directly_before = range_of(behind).start <= gap.place.end;
-    if gap.is_tight || !is_box(last) || is_before_heading || !is_directly_before {
+    if gap.is_tight || !is_box(last) || is_before_heading || !is_directly_before(gap, behind) {
         return false;
     }
     match last_coming(known, gap) {
@@ -486,6 +490,7 @@ fn comes_first_in_line(known: &Known<'_, '_>, gap: &Gap<'_, '_, '_>, coming: &Co
         return false;
     };
     gap.before.is_none()
+        && is_directly_before(gap, behind)
         && is_cell(coming.first)
         && same_kind(coming.first, behind.kind)
         && count_of(gap.new) == 1
