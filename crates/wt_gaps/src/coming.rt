@@ -1,6 +1,6 @@
 //! What comes in a gap, and where it is put.
 
-use crate::blanks::{most_breaks, past_spaces};
+use crate::blanks::{byte_at, most_breaks, past_spaces};
 use crate::breaks::{
     between, is_box, is_heading, is_lined_block, kind_at_end, kind_at_start, least_between,
     push_breaks,
@@ -82,7 +82,8 @@ pub fn signs_in(
 }
 
 /// What comes: the kind of the first, the kinds of what all of them show first and last, whether the last is of one
-/// line, in which a cell may follow, whether a comment comes before the first, and how it is written.
+/// line, in which a cell may follow, whether a comment comes before the first, and one after the last, whose line has to
+/// end, and how it is written.
 #[derive(Drop)]
 pub struct Coming {
     pub first: Kind,
@@ -90,6 +91,7 @@ pub struct Coming {
     pub last: Kind,
     pub is_of_line: bool,
     pub is_led: bool,
+    pub is_trailed: bool,
     pub source: Str,
 }
 
@@ -393,11 +395,9 @@ fn breaks_behind<'t, 'a>(
     let page = known.page;
     let last = coming.last;
     let Some(behind) = gap.behind else {
-        return if gap.in_cell && is_doubled_at(page, gap.place.end) {
-            1
-        } else {
-            0
-        };
+        let ends_line = (gap.in_cell && is_doubled_at(page, gap.place.end))
+            || (coming.is_trailed && byte_at(page, after.start) != b'\n');
+        return if ends_line { 1 } else { 0 };
     };
     let standing = most_breaks(page, after.start, after.end);
     let wanted = if standing == 0 && coming.is_of_line && shares_line(page, last, behind) {

@@ -116,6 +116,19 @@ pub fn push_comment(
     ))
 }
 
+/// Appends a comment of the page that has a line of its own, without its line break.
+pub fn push_comment_line(
+    out: &mut Str,
+    known: &Known<'_, '_>,
+    comment: &Node<'_>,
+) -> Result<(), NoMemory> {
+    let Some(visit) = original(known.index, comment.id) else {
+        return Ok(());
+    };
+    let source = slice_of(known.page, range_of(visit.node));
+    out.push_str(source.strip_suffix("\n").unwrap_or(source))
+}
+
 /// The block after one of the page's, in what holds it; None where a comment or an include tag comes first.
 pub fn next_in_page<'t, 'a>(known: &Known<'t, 'a>, visit: Visit<'t, 'a>) -> Option<&'t Node<'a>> {
     let first = (visit.node.id as usize).saturating_add(1);

@@ -17,7 +17,7 @@ use wt_checks::{Visit, is_compared};
 use wt_content_proposal::{Writing, edges_of, spelled};
 use wt_difference::{Child, held, inside, inside_count, same_inside};
 use wt_gaps::{
-    Gap, Numbering, Tags, byte_at, children_between, first_block, nodes_between, push_change,
+    Along, Gap, Numbering, Tags, byte_at, children_between, first_block, nodes_between, push_change,
 };
 use wt_known::{Known, block_of, first_text, takes_from_elsewhere, text_of_staying};
 use wt_places::{
@@ -48,11 +48,11 @@ impl Keeping {
 }
 
 /// What a proposal is made by, beside what is known of the page: where texts keep their bytes, and by the number of each
-/// comment whether it comes along with the block below it.
+/// comment whether it comes along with a block beside it.
 #[derive(Clone, Copy)]
 pub struct Plan<'w> {
     pub keeping: Keeping,
-    pub along: &'w [bool],
+    pub along: &'w [Along],
 }
 
 impl<'w> Plan<'w> {
