@@ -11,14 +11,14 @@ use crate::lines::{
     first_sign, is_doubled, is_doubled_at, is_in_stack, next_in_page, push_in_line, range_of,
     shares_line,
 };
-use crate::nodes::{count_of, first_block};
+use crate::nodes::{count_of, first_block, last_block};
 use crate::tags::{Tags, breaks_before_tag, breaks_behind_tag};
 use std::alloc::Global;
 use wt_block_signs::{
     Style, is_cell, is_item, is_lined, is_list, is_row_without_sign, signs_of, style_of,
 };
 use wt_checks::{Visit, is_compared, original};
-use wt_difference::Child;
+use wt_difference::{Child, inside};
 use wt_known::{Known, breaks_between, is_at_line_start};
 use wt_places::Slot;
 use wt_span::{NoMemory, Str};
@@ -249,16 +249,10 @@ fn breaks_before(
 
 /// The last of those that come, as the page has it; None where it is new.
 fn last_coming<'t, 'a>(known: &Known<'t, 'a>, gap: &Gap<'_, 't, 'a>) -> Option<Visit<'t, 'a>> {
-    let mut last = 0;
-    for node in gap.new {
-        if is_compared(node.kind) {
-            last = node.id;
-        }
+    match last_block(gap.new) {
+        Some(node) if node.id != 0 => original(known.index, node.id),
+        _ => None,
     }
-    if last == 0 {
-        return None;
-    }
-    original(known.index, last)
 }
 
 /// Whether the last of those that come was in the page, and had something directly below it there.
@@ -300,12 +294,26 @@ fn ends_in_stack<'t, 'a>(
     }
 }
 
-/// Whether what comes after a paragraph ends with one, too, as where it is split: what is below is as close to this one,
-/// but for a heading.
+/// Whether the last of those that come ends as the page's block before the gap does: it is the second half of that one.
+fn is_second_half(gap: &Gap<'_, '_, '_>, before: &Node<'_>) -> bool {
+    let Some(new) = last_block(gap.new) else {
+        return false;
+    };
+    match (inside(new).last(), inside(before).last()) {
+        (Some(last), Some(was)) => {
+            (was.id != 0 && was.id == last.id)
+                || (!last.shown().is_empty() && was.shown().ends_with(last.shown()))
+        }
+        _ => false,
+    }
+}
+
+/// Whether what comes after a paragraph ends with one, too: what is below is as close to this one, but a heading only
+/// where the paragraph was split.
 fn goes_on_as_paragraph(gap: &Gap<'_, '_, '_>, last: Kind, below: Kind) -> bool {
     match gap.before {
-        Some(before) if !gap.is_tight && !is_heading(below) => {
-            matches!(before.kind, Kind::Para) && matches!(last, Kind::Para)
+        Some(before) if !gap.is_tight && matches!(before.kind, Kind::Para) => {
+            matches!(last, Kind::Para) && (!is_heading(below) || is_second_half(gap, before))
         }
         _ => false,
     }

@@ -2,7 +2,7 @@
 
 use crate::blanks::{back_over_blanks, byte_at, most_breaks, past_blanks};
 use crate::breaks::{breaks, kind_at_end, kind_at_start, least_between};
-use crate::gap::{Gap, is_below_heading};
+use crate::gap::{Gap, Joined, is_below_heading};
 use crate::lines::{is_doubled, leaves_line_start, range_of, sign_at_line_start};
 use crate::tags::{Tags, breaks_before_tag, breaks_behind_tag, tag_of};
 use std::alloc::Global;
@@ -231,8 +231,9 @@ fn is_behind_block(gap: &Gap<'_, '_, '_>, slice: Slot) -> bool {
 }
 
 /// How many line breaks are left of those before and after a slice that goes: the longer of the two. But what comes
-/// after it goes on in the line of a comment or an include tag, or is as close to a heading as it was; and beside an
-/// include tag those are left that are beside the tag.
+/// after it goes on in the line of a comment or an include tag, or is as close to a heading as it was; beside an include
+/// tag those are left that are beside the tag; and where the slice was joined with what is beside it, those on its other
+/// side.
 fn breaks_left(gap: &Gap<'_, '_, '_>, slice: Slice, before: usize, behind: usize) -> usize {
     let tags = slice.tags;
     let goes_on = before == 0 && !is_behind_block(gap, slice.place);
@@ -243,7 +244,11 @@ fn breaks_left(gap: &Gap<'_, '_, '_>, slice: Slice, before: usize, behind: usize
     } else if is_below_heading(gap) {
         before
     } else {
-        before.max(behind)
+        match gap.joined {
+            Joined::Nowhere => before.max(behind),
+            Joined::Before => behind,
+            Joined::Behind => before,
+        }
     }
 }
 

@@ -13,11 +13,11 @@ use wt_block_signs::{
     Style, USUAL, ends_with_given_sign, is_bare_sign, is_cell, is_item, is_list,
     is_row_without_sign, joins_sign, signs_of, style_of, style_within,
 };
-use wt_checks::{Visit, is_compared};
+use wt_checks::{Visit, is_compared, is_content};
 use wt_content_proposal::{Writing, edges_of, spelled};
 use wt_difference::{Child, held, inside, inside_count, same_inside};
 use wt_gaps::{
-    Along, Gap, Numbering, Tags, byte_at, children_between, first_block, nodes_between, push_change,
+    Along, Gap, Joined, Numbering, Tags, byte_at, children_between, first_block, nodes_between, push_change,
 };
 use wt_known::{Known, block_of, first_text, takes_from_elsewhere, text_of_staying};
 use wt_places::{
@@ -291,8 +291,8 @@ struct Line {
 }
 
 /// A gap, by how many of the page's children come before it, whether the last of them is text alone as it was edited,
-/// by how many come before what comes after it, whether this begins as it did, and whether it is an item that gets a line
-/// of its own.
+/// by how many come before what comes after it, whether this begins as it did, whether it is an item that gets a line of
+/// its own, and where the text of what goes went.
 #[derive(Clone, Copy)]
 struct Span {
     place: Slot,
@@ -302,6 +302,7 @@ struct Span {
     is_last: bool,
     begins_alike: bool,
     gets_line: bool,
+    joined: Joined,
     first: Numbering,
 }
 
@@ -352,14 +353,15 @@ impl Line {
         }
     }
 
-    /// Whether the edited child before those that come, one of these, is text alone, which isn't read with a sign that
-    /// comes after it.
+    /// The edited child before those that come, one of these.
+    fn before<'n, 'a>(&self, nodes: &'n [Node<'a>]) -> Option<&'n Node<'a>> {
+        nodes.get(self.came_from.checked_sub(1)?)
+    }
+
+    /// Whether this child is text alone, which isn't read with a sign that comes after it.
     fn is_behind_text(&self, nodes: &[Node<'_>]) -> bool {
-        match self.came_from.checked_sub(1) {
-            Some(at) => match nodes.get(at) {
-                Some(node) => !holds_more(node) && !ends_with_sign(node),
-                None => false,
-            },
+        match self.before(nodes) {
+            Some(node) => !holds_more(node) && !ends_with_sign(node),
             None => false,
         }
     }
@@ -374,6 +376,7 @@ impl Line {
             is_last: false,
             begins_alike: true,
             gets_line: false,
+            joined: Joined::Nowhere,
             first: self.first,
         }
     }
@@ -391,8 +394,61 @@ impl Line {
             is_last: true,
             begins_alike: true,
             gets_line: false,
+            joined: Joined::Nowhere,
             first: self.first,
         }
+    }
+}
+
+/// The one block of the page among these; None where there are none or several.
+fn only_block<'t, 'a>(children: &[Child<'t, 'a>]) -> Option<&'t Node<'a>> {
+    let mut found = None;
+    for child in children {
+        if is_compared(child.node.kind) {
+            if found.is_some() {
+                return None;
+            }
+            found = Some(child.node);
+        }
+    }
+    found
+}
+
+/// Whether what a block of the page ended with is at the end of an edited one now, whose inside was changed.
+fn ends_with_end_of(new: &Node<'_>, gone: &Node<'_>) -> bool {
+    match (inside(new).last(), inside(gone).last()) {
+        (Some(last), Some(was)) if is_content(new.mark()) => {
+            (was.id != 0 && was.id == last.id)
+                || (!was.shown().is_empty() && last.shown().ends_with(was.shown()))
+        }
+        _ => false,
+    }
+}
+
+/// The same of what it began with.
+fn begins_with_start_of(new: &Node<'_>, gone: &Node<'_>) -> bool {
+    match (inside(new).first(), inside(gone).first()) {
+        (Some(first), Some(was)) if is_content(new.mark()) => {
+            (was.id != 0 && was.id == first.id)
+                || (!was.shown().is_empty() && first.shown().starts_with(was.shown()))
+        }
+        _ => false,
+    }
+}
+
+/// Where the text of the one block that goes between two edited ones went.
+fn joined_between(
+    before: Option<&Node<'_>>,
+    behind: &Node<'_>,
+    gone: &[Child<'_, '_>],
+) -> Joined {
+    let Some(gone) = only_block(gone) else {
+        return Joined::Nowhere;
+    };
+    match before {
+        Some(before) if ends_with_end_of(before, gone) => Joined::Before,
+        _ if begins_with_start_of(behind, gone) => Joined::Behind,
+        _ => Joined::Nowhere,
     }
 }
 
@@ -460,6 +516,7 @@ fn push_span<'t, 'a>(
         behind,
         begins_alike: span.begins_alike,
         gets_line: span.gets_line,
+        joined: span.joined,
         gone: children_between(held.children, span.from, span.to),
         new,
         first: span.first,
@@ -540,6 +597,8 @@ fn push_children<'t, 'a>(
         if let Some(place) = turn.gap {
             let new = nodes_between(nodes, line.came_from, at);
             let mut span = line.span(nodes, place, turn.passed);
+            let gone = children_between(held.children, span.from, span.to);
+            span.joined = joined_between(line.before(nodes), child, gone);
             if let Some(within) = turn.within {
                 span.begins_alike = begins_alike(child, within);
                 span.gets_line = gets_line(child, within);
