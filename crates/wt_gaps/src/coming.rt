@@ -107,12 +107,32 @@ pub fn style_beside(gap: &Gap<'_, '_, '_>) -> Style {
 
 // ---- line breaks beside it
 
-/// Where those come that take the place of a slice, or no other's: after the child before, or before the one after.
+/// Whether the first of those that come begins as the page's paragraph after the gap does: it is the first half of that
+/// one.
+fn is_first_half(gap: &Gap<'_, '_, '_>) -> bool {
+    let (Some(new), Some(behind)) = (first_block(gap.new), gap.behind) else {
+        return false;
+    };
+    let are_paragraphs = matches!(new.kind, Kind::Para) && matches!(behind.kind, Kind::Para);
+    if !are_paragraphs || !is_directly_before(gap, behind) {
+        return false;
+    }
+    match (inside(new).first(), inside(behind).first()) {
+        (Some(first), Some(was)) => {
+            (was.id != 0 && was.id == first.id)
+                || (!first.shown().is_empty() && was.shown().starts_with(first.shown()))
+        }
+        _ => false,
+    }
+}
+
+/// Where those come that take the place of a slice, or no other's: after the child before, or before the one after, where
+/// there is none before, or this one is split.
 fn place_of(gap: &Gap<'_, '_, '_>, slice: Option<Slice>) -> Slot {
     if let Some(slice) = slice {
         return slice.place;
     }
-    let at = if gap.before.is_none() && gap.behind.is_some() {
+    let at = if gap.behind.is_some() && (gap.before.is_none() || is_first_half(gap)) {
         gap.place.end
     } else {
         gap.place.start
