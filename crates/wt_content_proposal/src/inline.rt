@@ -9,8 +9,8 @@ use wt_original::{Kept, shown_text};
 use wt_span::{NoMemory, Str, Text};
 use wt_text_proposal::{
     InsidePlace, NOWHERE, ends_with_apostrophe, is_bare_url, place_of_new, push_letters,
-    push_nowiki, push_text, shortened, source_of, with_colons, with_fragment,
-    with_joints, with_plain,
+    push_nowiki, push_text, shortened, source_of, with_colons, with_fragment, with_joints,
+    with_plain,
 };
 use wt_tree::{InlineForm, Kind, Node, Place, flat, push_texts, same_attrs, same_kind};
 

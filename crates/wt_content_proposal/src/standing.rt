@@ -58,7 +58,13 @@ fn is_within_line(out: &[Unit<'_>]) -> bool {
 
 /// Whether a node of the page is a comment that had a line of its own there, and is in the line of something else now.
 fn loses_line(out: &[Unit<'_>], old: &Kept<'_, '_>) -> bool {
-    matches!(old.role, Role::Mark { ends_line: true, .. }) && is_within_line(out)
+    matches!(
+        old.role,
+        Role::Mark {
+            ends_line: true,
+            ..
+        }
+    ) && is_within_line(out)
 }
 
 /// Appends such a comment, without its line break and the blanks that it had beside it.

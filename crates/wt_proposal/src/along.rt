@@ -327,7 +327,12 @@ fn note_children(
             let next = at.saturating_add(1);
             if is_moved && !is_in_turn {
                 note_before(out, blocks.below, nodes_between(nodes, from, at), node.id);
-                note_behind(out, blocks.above, nodes_between(nodes, next, nodes.len()), node.id);
+                note_behind(
+                    out,
+                    blocks.above,
+                    nodes_between(nodes, next, nodes.len()),
+                    node.id,
+                );
             }
             from = next;
         }

@@ -17,7 +17,8 @@ use wt_checks::{Visit, is_compared, is_content};
 use wt_content_proposal::{Writing, edges_of, spelled};
 use wt_difference::{Child, held, inside, inside_count, same_inside};
 use wt_gaps::{
-    Along, Gap, Joined, Numbering, Tags, byte_at, children_between, first_block, nodes_between, push_change,
+    Along, Gap, Joined, Numbering, Tags, byte_at, children_between, first_block, nodes_between,
+    push_change,
 };
 use wt_known::{Known, block_of, first_text, takes_from_elsewhere, text_of_staying};
 use wt_places::{
@@ -189,7 +190,8 @@ fn gets_line(new: &Node<'_>, old: &Node<'_>) -> bool {
 /// Whether a node of the page begins with the character of its text with which it began.
 fn begins_alike(new: &Node<'_>, old: &Node<'_>) -> bool {
     match (first_text(inside(new)), first_text(inside(old))) {
-        (Some(text), Some(was)) => text.shown().as_bytes().first() == was.shown().as_bytes().first(),
+        (Some(text), Some(was)) => text.shown().as_bytes().first()
+            == was.shown().as_bytes().first(),
         _ => false,
     }
 }
@@ -437,11 +439,7 @@ fn begins_with_start_of(new: &Node<'_>, gone: &Node<'_>) -> bool {
 }
 
 /// Where the text of the one block that goes between two edited ones went.
-fn joined_between(
-    before: Option<&Node<'_>>,
-    behind: &Node<'_>,
-    gone: &[Child<'_, '_>],
-) -> Joined {
+fn joined_between(before: Option<&Node<'_>>, behind: &Node<'_>, gone: &[Child<'_, '_>]) -> Joined {
     let Some(gone) = only_block(gone) else {
         return Joined::Nowhere;
     };
