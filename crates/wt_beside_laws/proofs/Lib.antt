@@ -4,6 +4,7 @@ mod StoodCases
 mod LineCases
 mod BlockCases
 pub mod Firm
+pub mod NodeItems
 pub mod ContentGlyphs
 pub mod ContentTiles
 pub mod Contents

@@ -1,4 +1,6 @@
 pub mod Kept
+pub mod NodeItems
+pub mod Led
 pub mod Nodes
 pub mod Commented
 pub mod Content
