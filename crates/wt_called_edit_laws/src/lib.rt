@@ -51,7 +51,7 @@ ghost use Rattle.wt_called_edit_laws.specs.Settled.{IsSettled};
 ghost use Rattle.wt_called_edit_laws.specs.SettledPages.{OnlyTextsAreOthers};
 ghost use Rattle.wt_called_edit_laws.specs.Covered.{CleanWhereFree, IsEditablePage};
 ghost use Rattle.wt_called_edit_laws.specs.CallingBlocks.{IsContentIn, AreEdited, AreCallingBlocks, tree_with_calls, CallingBlocksStand};
-ghost use Rattle.wt_called_edit_laws.specs.CallingGroups.{AreCallingOutside, CallingGroupsStay};
+ghost use Rattle.wt_called_edit_laws.specs.CallingGroups.{AreCallingOutside, CallingGroupsStay, CallingNodesStay};
 ghost use Rattle.wt_called_trees.specs.HeldCalls.{AllHold};
 ghost use Rattle.wt_text_edit_laws.specs.Contents.{IsContent};
 ghost use Rattle.wt_text_edit_laws.specs.NoCalls.{CallsNothing};
@@ -194,6 +194,7 @@ pub fn groups_stay_round_typed_texts()
 /// is such a page again.
 pub fn groups_stay_round_blocks_that_call()
     ensures stay { (pages : Pages) (ss : List BlockSpot) (behind : List ℕ) → AreCallingOutside pages ss behind → CallingGroupsStay pages ss behind }
+    ensures nodes { (pages : Pages) (ss : List BlockSpot) (behind : List ℕ) → AreCallingOutside pages ss behind → CallingNodesStay pages ss behind }
     ensures again { (pages : Pages) (ss rs : List BlockSpot) (behind : List ℕ) → AreCallingOutside pages ss behind → AreEdited pages ss rs
         → AllHold (tree_with_calls pages 0 rs) (counted rs) → AreCallingOutside pages rs behind }
 {}
