@@ -10,3 +10,4 @@ pub mod CalledShown
 pub mod Bare
 pub mod Folders
 pub mod Faults
+mod Cases

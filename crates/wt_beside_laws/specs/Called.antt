@@ -84,24 +84,14 @@ line_parts_with s before (thing t ∷ after) (own ∷ owns) =
 
 -- ---- calls that give words
 
--- it may begin, end or part a form, a style, a line or a block
+-- wherever it is it may begin or end a form, a style or a line
 abbrev pub is_form_sign : ℕ → Bool
 is_form_sign b =
     b == byte.line_break
     || (b == byte.apostrophe
     || (b == byte.less_than
-    || (b == byte.greater_than
     || (b == byte.ampersand
-    || (b == byte.opening_bracket
-    || (b == byte.closing_bracket
-    || (b == byte.opening_brace
-    || (b == byte.closing_brace
-    || (b == byte.vertical_bar
-    || (b == byte.underscore
-    || (b == byte.colon
-    || (b == byte.slash
-    || (b == byte.equals_sign
-    || (b == byte.asterisk || (b == byte.hash || (b == byte.semicolon || (b == byte.hyphen || b == byte.exclamation_mark)))))))))))))))))
+    || (b == byte.opening_bracket || (b == byte.opening_brace || (b == byte.closing_brace || (b == byte.underscore || b == byte.colon)))))))
 
 abbrev pub is_word_byte : ℕ → Bool
 is_word_byte b = nat_lt b 256 && not (is_form_sign b)
@@ -110,17 +100,28 @@ abbrev pub AreWordBytes : List ℕ → Type 0
 AreWordBytes [] = Unit {0}
 AreWordBytes (b ∷ bs) = (is_word_byte b ≡ true) × AreWordBytes bs
 
--- there is one, and the first is no blank
-abbrev pub BeginsVisible : List ℕ → Type 0
-BeginsVisible [] = ⊥
-BeginsVisible (b ∷ bs) = is_blank b ≡ false
+-- where it is first on a line it may begin a block, or a slash a URL with what is before it
+abbrev pub is_first_sign : ℕ → Bool
+is_first_sign b =
+    is_blank b
+    || (b == byte.greater_than
+    || (b == byte.closing_bracket
+    || (b == byte.vertical_bar
+    || (b == byte.slash
+    || (b == byte.equals_sign
+    || (b == byte.asterisk || (b == byte.hash || (b == byte.semicolon || (b == byte.hyphen || b == byte.exclamation_mark)))))))))
+
+-- there is a first one, and it is none of these
+abbrev pub BeginsWord : List ℕ → Type 0
+BeginsWord [] = ⊥
+BeginsWord (b ∷ bs) = is_first_sign b ≡ false
 
 -- The items of one call are these characters.
 pub record AreWords (shown : List ℕ) (own : List Item) : Type 0 where
   pub call : ℕ
   pub is : own ≡ map (char (Some call)) shown
   pub words : AreWordBytes shown
-  pub begins : BeginsVisible shown
+  pub begins : BeginsWord shown
 
 -- ---- the nodes
 
@@ -211,7 +212,7 @@ shown_signs pages (thing t ∷ after) = thing (record t { source = shown_source 
 pub record GivesWords (pages : Pages) (source : List ℕ) : Type 0 where
   pub items : (i : ℕ) → numbered i (page_stretches pages source) ≡ map (char (Some i)) (sources (expanded_page pages source).items)
   pub words : AreWordBytes (sources (expanded_page pages source).items)
-  pub begins : BeginsVisible (sources (expanded_page pages source).items)
+  pub begins : BeginsWord (sources (expanded_page pages source).items)
   pub unbraced : has_brace_last source ≡ false
   pub shown_unbraced : has_brace_last (sources (expanded_page pages source).items) ≡ false
 

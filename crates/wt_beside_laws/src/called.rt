@@ -21,7 +21,7 @@ ghost use Rattle.wt_selser.specs.GroupFaults.{paragraph_face, is_faulty};
 ghost use Rattle.wt_called_trees.specs.HeldCalls.{block_in, HoldsItsCalls, block_of_texts};
 ghost use Rattle.wt_text_edit_laws.specs.ParagraphBetween.{EndsApart, EndsParagraph, blocks_in, body_with};
 ghost use Rattle.wt_text_edit_laws.specs.ParagraphParts.{joined_parts, para_with};
-ghost use Rattle.wt_beside_laws.specs.Called.{items_with, owns_in, parts_with, AreWordBytes, BeginsVisible, AreWords, IsCalledContent, called_shown, shown_signs, IsCalledIn};
+ghost use Rattle.wt_beside_laws.specs.Called.{items_with, owns_in, parts_with, AreWordBytes, BeginsWord, AreWords, IsCalledContent, called_shown, shown_signs, IsCalledIn};
 ghost use Rattle.wt_beside_laws.specs.Lines.{IsLineOfText};
 ghost use Rattle.wt_beside_laws.specs.Shown.{parts_shown_at};
 
@@ -61,7 +61,7 @@ pub fn texts_beside_calls_are_shown()
 /// and no text in it could go on after it. So `edit` doesn't refuse to read a paragraph by itself that holds it.
 #[tactic(auto, using(crate::proofs::Groups::Faults::no_fault))]
 pub fn groups_of_words_have_no_fault()
-    ensures { (calls : List OuterCall) (j : ℕ) (shown : List ℕ) → AreWordBytes shown → BeginsVisible shown
+    ensures { (calls : List OuterCall) (j : ℕ) (shown : List ℕ) → AreWordBytes shown → BeginsWord shown
         → is_faulty (empty_nowiki ∷ with_break_anew calls (map (char (Some j)) shown)) (all_unplaced (further (loose_leaf Text (map (char (Some j)) shown)) nothing))
         ≡ false }
 {}

@@ -8,6 +8,7 @@ pub mod ProseTrees
 pub mod ProseEdits
 pub mod ProseUnmarked
 pub mod ProseChanges
+pub mod UnmarkedChanges
 pub mod NoCalls
 pub mod PlainGroups
 pub mod TextBetween

@@ -15,7 +15,7 @@ use Rattle.wt_lines.specs.Lines.{lines}
 use Rattle.wt_tiles.specs.declared.glyph.Glyph.{Glyph}
 use Rattle.wt_tiles.specs.Glyphs.{glyph_of}
 use Rattle.wt_text_edit_laws.proofs.Paragraphs.LineBlocks.{OwnBreaks}
-use Rattle.wt_beside_laws.specs.Called.{items_with, line_with, later_with, lines_with, AreWordBytes, BeginsVisible, AreWords, IsOwnNode, AreGiven}
+use Rattle.wt_beside_laws.specs.Called.{items_with, line_with, later_with, lines_with, AreWordBytes, BeginsWord, AreWords, IsOwnNode, AreGiven}
 use Rattle.wt_beside_laws.specs.Content.{guard_items, letter_items}
 use Rattle.wt_beside_laws.specs.Cuts.{own_glyphs}
 use Rattle.wt_beside_laws.specs.Glyphs.{guard_glyphs, letter_glyphs}
@@ -97,7 +97,7 @@ items_own s before (thing t ∷ after) (own ∷ owns) h =
 
 -- ---- each is text
 
-pub words_open : (j : ℕ) (bs : List ℕ) (xs : List Item) → AreWordBytes bs → BeginsVisible bs → Opens (call_chars j bs ++ xs)
+pub words_open : (j : ℕ) (bs : List ℕ) (xs : List Item) → AreWordBytes bs → BeginsWord bs → Opens (call_chars j bs ++ xs)
 words_open j [] xs h v = absurd v
 words_open j (b ∷ bs) xs h v = word_opens b h.0 v
 

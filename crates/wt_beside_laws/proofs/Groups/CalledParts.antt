@@ -15,7 +15,7 @@ use Rattle.wt_tiles.specs.Tiles.{Cut, cuts}
 use Rattle.wt_context.specs.Chunks.{begins_with_quote}
 use Rattle.wt_context.specs.Line.{context_parts, line_parts}
 use Rattle.wt_text_edit_laws.specs.ParagraphParts.{break, after_breaks, joined_parts}
-use Rattle.wt_beside_laws.specs.Called.{line_with, later_with, parts_with, line_parts_with, lines_with, AreWordBytes, BeginsVisible, AreWords, IsOwnNode, AreGiven}
+use Rattle.wt_beside_laws.specs.Called.{line_with, later_with, parts_with, line_parts_with, lines_with, AreWordBytes, BeginsWord, AreWords, IsOwnNode, AreGiven}
 use Rattle.wt_beside_laws.specs.Content.{guard_items, letter_items}
 use Rattle.wt_beside_laws.specs.Cuts.{add_chars, own_glyphs, own_form, add_node, letter_cut}
 use Rattle.wt_beside_laws.specs.Nodes.{AllMeet}
@@ -54,7 +54,7 @@ words_read j b (d ∷ bs) c xs next any ps h r =
     (one_read (Some j) b (add_chars n c) more next any qs (not_word 39 b refl h.0) (words_read j d bs c xs next next ps h.1 r))
 
 -- on a line by themselves they are what they are anywhere
-pub words_alone : (j : ℕ) (bs : List ℕ) → AreWordBytes bs → BeginsVisible bs → line_parts (call_chars j bs) ≡ parts Text (call_chars j bs)
+pub words_alone : (j : ℕ) (bs : List ℕ) → AreWordBytes bs → BeginsWord bs → line_parts (call_chars j bs) ≡ parts Text (call_chars j bs)
 words_alone j [] h v = absurd v
 words_alone j (b ∷ bs) h v =
     let own : List Item = call_chars j (b ∷ bs) in
@@ -77,7 +77,7 @@ words_given t own c xs next any ps w r =
     (subst (λ qs. Read (add_chars (length gs) c) (items ++ xs) any (qs ++ ps)) (sym (words_alone w.call t.source w.words w.begins))
     (words_all w.call t.source c xs next any ps w.words w.begins r))))
   where
-    words_all : (j : ℕ) (bs : List ℕ) (c : Cut) (xs : List Item) (next any : Bool) (ps : List Part) → AreWordBytes bs → BeginsVisible bs → Read c xs next ps
+    words_all : (j : ℕ) (bs : List ℕ) (c : Cut) (xs : List Item) (next any : Bool) (ps : List Part) → AreWordBytes bs → BeginsWord bs → Read c xs next ps
         → Read (add_chars (length (byte_glyphs bs)) c) (call_chars j bs ++ xs) any (parts Text (call_chars j bs) ++ ps)
     words_all j [] c xs next any ps h v r = absurd v
     words_all j (b ∷ bs) c xs next any ps h v r = words_read j b bs c xs next any ps h r

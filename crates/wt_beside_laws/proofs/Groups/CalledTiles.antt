@@ -16,7 +16,7 @@ use Rattle.wt_tiles.specs.Tags.{tag_at}
 use Rattle.wt_tiles.specs.Tiles.{Cut, form_at, cuts, switch_at}
 use Rattle.wt_tiles.specs.Urls.{is_word}
 use Rattle.wt_beside_laws.specs.Beginnings.{AvoidsSwitches, AllAvoidSwitches}
-use Rattle.wt_beside_laws.specs.Called.{AreWordBytes, BeginsVisible, AreWords, IsOwnNode, AreGiven}
+use Rattle.wt_beside_laws.specs.Called.{AreWordBytes, BeginsWord, AreWords, IsOwnNode, AreGiven}
 use Rattle.wt_beside_laws.specs.Cuts.{add_chars, own_glyphs, own_form, add_node, letter_cut, ends_word, is_word_last}
 use Rattle.wt_beside_laws.specs.Glyphs.{guard_glyphs, letter_glyphs}
 use Rattle.wt_beside_laws.specs.Nodes.{MayFollow, MeetAt, AllMeet}
@@ -44,12 +44,12 @@ words_cuts a b (d ∷ bs) more c h e f =
     (word_none a b (d ∷ bs) (byte_glyphs (d ∷ bs) ++ more) h (words_reach (d ∷ bs) more h.1 e))
     (words_cuts (is_word b) d bs more c h.1 e f)
 
-pub words_follow : (word : Bool) (bs : List ℕ) (more : List Glyph) (c : Cut) → AreWordBytes bs → BeginsVisible bs → reaches more ≡ false
+pub words_follow : (word : Bool) (bs : List ℕ) (more : List Glyph) (c : Cut) → AreWordBytes bs → BeginsWord bs → reaches more ≡ false
     → Follows in_line (ends_word false (byte_glyphs bs)) more c → Follows in_line word (byte_glyphs bs ++ more) (add_chars (length (byte_glyphs bs)) c)
 words_follow word [] more c h v e f = absurd v
 words_follow word (b ∷ bs) more c h v e f = λ a i. words_cuts a b bs more c h e (f (ends_word false (byte_glyphs (b ∷ bs))) (λ z. z))
 
-pub words_formless : (bs : List ℕ) → AreWordBytes bs → BeginsVisible bs → own_form in_line (byte_glyphs bs) ≡ None
+pub words_formless : (bs : List ℕ) → AreWordBytes bs → BeginsWord bs → own_form in_line (byte_glyphs bs) ≡ None
 words_formless [] h v = absurd v
 words_formless (b ∷ bs) h v =
     word_none false b bs (byte_glyphs bs) h
@@ -105,7 +105,7 @@ letter_none a s before c after e switches r =
 
 -- ---- switches
 
-words_switches : (bs : List ℕ) → AreWordBytes bs → BeginsVisible bs → AvoidsSwitches (byte_glyphs bs)
+words_switches : (bs : List ℕ) → AreWordBytes bs → BeginsWord bs → AvoidsSwitches (byte_glyphs bs)
 words_switches [] h v = absurd v
 words_switches (b ∷ bs) h v = other_avoids b (byte_glyphs bs) (not_word 95 b refl h.0)
 
@@ -123,7 +123,7 @@ all_given_switches (thing t ∷ after) (own ∷ owns) h = (given_switches t own 
 
 -- ---- the line
 
-words_shown : (word : Bool) (t : Thing) (more : List Glyph) (c : Cut) → AreWordBytes t.source → BeginsVisible t.source → reaches more ≡ false
+words_shown : (word : Bool) (t : Thing) (more : List Glyph) (c : Cut) → AreWordBytes t.source → BeginsWord t.source → reaches more ≡ false
     → Follows in_line (ends_word false (own_glyphs t)) more c
     → Follows in_line word (own_glyphs t ++ more) (add_node (own_form in_line (own_glyphs t)) (length (own_glyphs t)) c)
 words_shown word t more c h v e f =

@@ -42,7 +42,7 @@ use Rattle.wt_visible.proofs.DifferingLaws.{same_none}
 use Rattle.wt_text_edit_laws.specs.ParagraphBetween.{body_with}
 use Rattle.wt_text_edit_laws.specs.ParagraphParts.{joined_parts, para_with}
 use Rattle.wt_text_edit_laws.proofs.Paragraphs.LineBlocks.{OwnBreaks}
-use Rattle.wt_beside_laws.specs.Called.{is_word_byte, AreWordBytes, BeginsVisible}
+use Rattle.wt_beside_laws.specs.Called.{is_word_byte, is_first_sign, AreWordBytes, BeginsWord}
 use Rattle.wt_beside_laws.specs.Content.{guard_items}
 use Rattle.wt_beside_laws.specs.Cuts.{add_chars, guard_cut}
 use Rattle.wt_beside_laws.specs.Lines.{IsLineOfText}
@@ -57,35 +57,36 @@ use Rattle.wt_beside_laws.proofs.LineShown.{guard_tree}
 use Rattle.wt_beside_laws.proofs.Groups.CalledLines.{words_open}
 use Rattle.wt_beside_laws.proofs.Groups.CalledParts.{words_read}
 use Rattle.wt_beside_laws.proofs.Groups.CalledTiles.{words_follow}
-use Rattle.wt_beside_laws.proofs.Groups.Words.{not_word, call_chars, call_glyphs, words_unbroken}
+use Rattle.wt_beside_laws.proofs.Groups.Words.{not_word, not_first, call_chars, call_glyphs, words_unbroken}
 
 -- ---- a call that gives words begins no block
 
-no_block_sign : (b : ℕ) → is_word_byte b ≡ true → is_block_sign b ≡ false
-no_block_sign b e = rw (not_word 42 b refl e, not_word 35 b refl e, not_word 58 b refl e, not_word 59 b refl e) refl
+no_block_sign : (b : ℕ) → is_word_byte b ≡ true → is_first_sign b ≡ false → is_block_sign b ≡ false
+no_block_sign b e v = rw (not_first 42 b refl v, not_first 35 b refl v, not_word 58 b refl e, not_first 59 b refl v) refl
 
-word_opens_none : (o : Option ℕ) (b : ℕ) (xs : List Item) → is_word_byte b ≡ true → opens_block (char o b ∷ xs) ≡ false
-word_opens_none o b xs e =
-    ap₂ (λ (u v : Bool). u || (v && begins_with_bar xs)) (no_block_sign b e) (not_word 123 b refl e)
+word_opens_none : (o : Option ℕ) (b : ℕ) (xs : List Item) → is_word_byte b ≡ true → is_first_sign b ≡ false → opens_block (char o b ∷ xs) ≡ false
+word_opens_none o b xs e v =
+    ap₂ (λ (u w : Bool). u || (w && begins_with_bar xs)) (no_block_sign b e v) (not_word 123 b refl e)
 
-given_opens_none : (o : Option ℕ) (b : ℕ) (xs : List Item) (v : Bool) → is_word_byte b ≡ true → opens_block (if v then char o b ∷ xs else []) ≡ false
-given_opens_none o b xs true e = word_opens_none o b xs e
-given_opens_none o b xs false e = refl
+given_opens_none : (o : Option ℕ) (b : ℕ) (xs : List Item) (w : Bool) → is_word_byte b ≡ true → is_first_sign b ≡ false
+    → opens_block (if w then char o b ∷ xs else []) ≡ false
+given_opens_none o b xs true e v = word_opens_none o b xs e v
+given_opens_none o b xs false e v = refl
 
 and_none : (u v : Bool) → v ≡ false → (u && v) ≡ false
 and_none true v e = e
 and_none false v e = refl
 
-no_break : (calls : List OuterCall) (j b : ℕ) (bs : List ℕ) → is_word_byte b ≡ true → break_before calls (call_chars j (b ∷ bs)) ≡ []
-no_break calls j b bs e =
+no_break : (calls : List OuterCall) (j b : ℕ) (bs : List ℕ) → is_word_byte b ≡ true → is_first_sign b ≡ false → break_before calls (call_chars j (b ∷ bs)) ≡ []
+no_break calls j b bs e v =
     let xs : List Item = call_chars j bs in
-    ap (λ (v : Bool). if v then char (Some j) 10 ∷ [] else [])
+    ap (λ (w : Bool). if w then char (Some j) 10 ∷ [] else [])
     (and_none (is_template (slice_get calls j)) (opens_block (given_first j (char (Some j) b ∷ xs)))
-    (given_opens_none (Some j) b (given_first j xs) (same_call (Some j) (Some j)) e))
+    (given_opens_none (Some j) b (given_first j xs) (same_call (Some j) (Some j)) e v))
 
-pub words_anew : (calls : List OuterCall) (j : ℕ) (bs : List ℕ) → AreWordBytes bs → BeginsVisible bs → with_break_anew calls (call_chars j bs) ≡ call_chars j bs
+pub words_anew : (calls : List OuterCall) (j : ℕ) (bs : List ℕ) → AreWordBytes bs → BeginsWord bs → with_break_anew calls (call_chars j bs) ≡ call_chars j bs
 words_anew calls j [] h v = absurd v
-words_anew calls j (b ∷ bs) h v = ap (λ xs. xs ++ call_chars j (b ∷ bs)) (no_break calls j b bs h.0)
+words_anew calls j (b ∷ bs) h v = ap (λ xs. xs ++ call_chars j (b ∷ bs)) (no_break calls j b bs h.0 v)
 
 -- ---- its toggles
 
@@ -199,7 +200,7 @@ nowiki_first : (xs : List Item) → empty_nowiki ∷ xs ≡ guard_items true ++ 
 unfolding empty_nowiki nowiki
 nowiki_first xs = refl
 
-alone_line : (j b : ℕ) (bs : List ℕ) → AreWordBytes (b ∷ bs) → BeginsVisible (b ∷ bs)
+alone_line : (j b : ℕ) (bs : List ℕ) → AreWordBytes (b ∷ bs) → BeginsWord (b ∷ bs)
     → line_parts (guard_items true ++ call_chars j (b ∷ bs)) ≡ parts Text (guard_items true) ++ parts Text (call_chars j (b ∷ bs))
 alone_line j b bs h v =
     let own : List Item = call_chars j (b ∷ bs) in
@@ -219,7 +220,7 @@ alone_line j b bs h v =
 one_line : (xs : List Item) → lines (xs ++ []) ≡ (xs ++ []) ∷ [] → lines xs ≡ xs ∷ []
 one_line xs e = subst (λ ys. lines ys ≡ ys ∷ []) (append-nil xs) e
 
-alone_means : (j b : ℕ) (bs : List ℕ) → AreWordBytes (b ∷ bs) → BeginsVisible (b ∷ bs)
+alone_means : (j b : ℕ) (bs : List ℕ) → AreWordBytes (b ∷ bs) → BeginsWord (b ∷ bs)
     → meaning (guard_items true ++ call_chars j (b ∷ bs))
     ≡ body_with (para_with (parts Text (guard_items true) ++ parts Text (call_chars j (b ∷ bs))) ∷ [])
 alone_means j b bs h v =
@@ -269,7 +270,7 @@ para_alone : (ps : List Part) → shown_by (all_unplaced (trees_in (body_with (p
 unfolding label_at
 para_alone ps = refl
 
-words_same : (j b : ℕ) (bs : List ℕ) → AreWordBytes (b ∷ bs) → BeginsVisible (b ∷ bs)
+words_same : (j b : ℕ) (bs : List ℕ) → AreWordBytes (b ∷ bs) → BeginsWord (b ∷ bs)
     → shows_other (empty_nowiki ∷ call_chars j (b ∷ bs)) (all_unplaced (further (loose_leaf Text (call_chars j (b ∷ bs))) nothing)) ≡ false
 words_same j b bs h v =
     let own : List Item = call_chars j (b ∷ bs) in
@@ -285,7 +286,7 @@ words_same j b bs h v =
 
 -- ---- the group
 
-pub no_fault : (calls : List OuterCall) (j : ℕ) (bs : List ℕ) → AreWordBytes bs → BeginsVisible bs
+pub no_fault : (calls : List OuterCall) (j : ℕ) (bs : List ℕ) → AreWordBytes bs → BeginsWord bs
     → is_faulty (empty_nowiki ∷ with_break_anew calls (call_chars j bs)) (all_unplaced (further (loose_leaf Text (call_chars j bs)) nothing)) ≡ false
 no_fault calls j [] h v = absurd v
 no_fault calls j (b ∷ bs) h v =

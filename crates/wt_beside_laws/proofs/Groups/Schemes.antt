@@ -15,7 +15,7 @@ use Rattle.wt_tiles.specs.declared.glyph.Glyph.{Glyph}
 use Rattle.wt_tiles.specs.declared.glyph.Glyph.TheVariants as glyph
 use Rattle.wt_tiles.specs.Glyphs.{is_in, byte_glyphs, like_byte, begins_like}
 use Rattle.wt_tiles.specs.Urls.{scheme_len}
-use Rattle.wt_beside_laws.specs.Called.{AreWordBytes, BeginsVisible, AreWords, IsOwnNode, AreGiven}
+use Rattle.wt_beside_laws.specs.Called.{AreWordBytes, BeginsWord, AreWords, IsOwnNode, AreGiven}
 use Rattle.wt_beside_laws.specs.Cuts.{own_glyphs}
 use Rattle.wt_beside_laws.specs.Glyphs.{guard_glyphs, letter_glyphs, is_url_start, AvoidsUrls}
 use Rattle.wt_beside_laws.proofs.LineTiles.{line_glyphs}
@@ -127,9 +127,9 @@ avoids_neither : (own : List Glyph) → AvoidsUrls own → FirstNeither own
 avoids_neither [] h = absurd h
 avoids_neither (g ∷ gs) h = past_neither g h
 
-words_neither : (bs : List ℕ) → AreWordBytes bs → BeginsVisible bs → FirstNeither (byte_glyphs bs)
+words_neither : (bs : List ℕ) → AreWordBytes bs → BeginsWord bs → FirstNeither (byte_glyphs bs)
 words_neither [] h b = absurd b
-words_neither (b ∷ bs) h v = (word_colon b h.0, word_slash b h.0)
+words_neither (b ∷ bs) h v = (word_colon b h.0, word_slash b v)
 
 pub node_avoids : (t : Thing) (own : List Item) → IsOwnNode t own → AvoidsUrls (own_glyphs t)
 node_avoids t own n = (all_urls (thing t ∷ []) (n.node, tt)).0

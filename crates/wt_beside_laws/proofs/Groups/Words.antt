@@ -1,6 +1,6 @@
 -- The characters of a word that a call gives: they begin no form and no block, and are read as they are.
 use Rattle.std.proofs.Common.{arith, ◌≡◌, ◌⊎◌, inl, inr, ℕ, ◌<◌, ◌==◌, Bool, true, false, Some, List, [], ◌∷◌, map, refl, sym, ap, ◌∙◌, subst}
-use Rattle.std.specs.Prelude.{◌&&◌, nat_lt}
+use Rattle.std.specs.Prelude.{◌&&◌, ◌||◌, nat_lt}
 use Rattle.std.specs.Char.{to_ascii_lowercase}
 use Rattle.std.proofs.lemmas.Bool.Decides.{nat_tests, Decides-eqb}
 use Rattle.wt_span.specs.Bytes.{is_blank}
@@ -14,7 +14,7 @@ use Rattle.wt_tiles.specs.declared.glyph.Glyph.TheVariants as glyph
 use Rattle.wt_tiles.specs.Glyphs.{glyph_of, byte_glyphs}
 use Rattle.wt_lines.specs.Lines.{IsUnbroken}
 use Rattle.wt_text_edit_laws.specs.LonePages.{page_chars}
-use Rattle.wt_beside_laws.specs.Called.{is_word_byte, AreWordBytes, AreWords, IsOwnNode, IsGivenAs}
+use Rattle.wt_beside_laws.specs.Called.{is_word_byte, is_first_sign, AreWordBytes, AreWords, IsOwnNode, IsGivenAs}
 use Rattle.wt_beside_laws.specs.Cuts.{own_glyphs}
 use Rattle.wt_beside_laws.specs.Kept.{is_firm, AreFirm}
 use Rattle.wt_beside_laws.proofs.Firm.{alone_as, firm_read}
@@ -53,37 +53,54 @@ contrary false v f e = refl
 pub word_colon : (b : ℕ) → is_word_byte b ≡ true → (to_ascii_lowercase b == 58) ≡ false
 word_colon b e = contrary (to_ascii_lowercase b == 58) (b == 58) (lower_colon b) (not_word 58 b refl e)
 
-pub word_slash : (b : ℕ) → is_word_byte b ≡ true → (to_ascii_lowercase b == 47) ≡ false
-word_slash b e = contrary (to_ascii_lowercase b == 47) (b == 47) (lower_slash b) (not_word 47 b refl e)
+-- the first one
+pub not_first : (k b : ℕ) → is_first_sign k ≡ true → is_first_sign b ≡ false → (b == k) ≡ false
+not_first k b f e = by (b == k) refl
+  where
+    by : (v : Bool) → (b == k) ≡ v → (b == k) ≡ false
+    by true i =
+        let is : b ≡ k = (Decides-eqb b k).0 i in
+        let no : true ≡ false = sym f ∙ subst (λ (n : ℕ). is_first_sign n ≡ false) is e in cc
+    by false i = i
+
+or_first : (v w : Bool) → (v || w) ≡ false → v ≡ false
+or_first true w e = cc
+or_first false w e = refl
+
+first_visible : (b : ℕ) → is_first_sign b ≡ false → is_blank b ≡ false
+first_visible b e = or_first (is_blank b) _ e
+
+pub word_slash : (b : ℕ) → is_first_sign b ≡ false → (to_ascii_lowercase b == 47) ≡ false
+word_slash b e = contrary (to_ascii_lowercase b == 47) (b == 47) (lower_slash b) (not_first 47 b refl e)
 
 -- it may begin a line
-hazard_none : (b : ℕ) → is_word_byte b ≡ true → is_blank b ≡ false → line_start_hazard b ≡ false
+hazard_none : (b : ℕ) → is_word_byte b ≡ true → is_first_sign b ≡ false → line_start_hazard b ≡ false
 unfolding line_start_hazard
 hazard_none b e n =
     rw (
-      n,
-      not_word 61 b refl e,
-      not_word 42 b refl e,
-      not_word 35 b refl e,
+      first_visible b n,
+      not_first 61 b refl n,
+      not_first 42 b refl n,
+      not_first 35 b refl n,
       not_word 58 b refl e,
-      not_word 59 b refl e,
-      not_word 45 b refl e,
-      not_word 33 b refl e,
+      not_first 59 b refl n,
+      not_first 45 b refl n,
+      not_first 33 b refl n,
     )
     refl
 
-pub word_opens : (b : ℕ) → is_word_byte b ≡ true → is_blank b ≡ false → OpensText b
+pub word_opens : (b : ℕ) → is_word_byte b ≡ true → is_first_sign b ≡ false → OpensText b
 word_opens b e n =
     opens_text b (word_small b e)
     (rw (
       hazard_none b e n,
       not_word 10 b refl e,
       not_word 91 b refl e,
-      not_word 93 b refl e,
+      not_first 93 b refl n,
       not_word 123 b refl e,
       not_word 125 b refl e,
-      not_word 124 b refl e,
-      not_word 62 b refl e,
+      not_first 124 b refl n,
+      not_first 62 b refl n,
     )
     refl)
 
