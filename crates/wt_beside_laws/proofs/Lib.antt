@@ -4,6 +4,7 @@ mod StoodCases
 mod LineCases
 mod BlockCases
 pub mod Firm
+pub mod NodeItems
 pub mod ContentGlyphs
 pub mod ContentTiles
 pub mod Contents
@@ -59,6 +60,8 @@ pub mod CalmContents
 pub mod FlatLines
 pub mod PlainContents
 pub mod Edits
+pub mod Groups
 pub mod Made
 pub mod Marks
 pub mod Styled
+pub mod Derived

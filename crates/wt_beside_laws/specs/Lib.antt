@@ -1,4 +1,6 @@
 pub mod Kept
+pub mod NodeItems
+pub mod Led
 pub mod Nodes
 pub mod Commented
 pub mod Content
@@ -29,3 +31,4 @@ pub mod StyledHeadings
 pub mod StyledBlocks
 pub mod NewStyles
 pub mod StyledIn
+pub mod Called

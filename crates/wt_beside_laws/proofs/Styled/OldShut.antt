@@ -40,7 +40,7 @@ use Rattle.wt_text_edit_laws.specs.TextBlocks.{TextBlock, block_of, block_items,
 use Rattle.wt_text_edit_laws.proofs.Blocks.BlockLeaves.{open_items, close_items}
 use Rattle.wt_beside_laws.specs.Calm.{AreCalm}
 use Rattle.wt_beside_laws.specs.Content.{AreKept}
-use Rattle.wt_beside_laws.specs.FlatBlocks.{lines_in, begins_at, signs_in, IsUnledIn}
+use Rattle.wt_beside_laws.specs.FlatBlocks.{lines_in, begins_at, signs_in}
 use Rattle.wt_beside_laws.specs.Nodes.{AreNodes}
 use Rattle.wt_beside_laws.specs.PageBlocks.{AreShut}
 use Rattle.wt_beside_laws.specs.PageSigns.{line_signs, signs_of_lines, AreFlatTiles, AreFlatLines}
@@ -222,14 +222,13 @@ content_shut k q h f =
     let t : Tree = standing 0 [] (block_tree k q) in
     own_shut k q f (ap any_ends_open (sym (inside_is t)) ∙ (h.untangled nowhere t refl).0)
 
-pub content_styled : (k : TextBlock) (q : List ℕ) → IsContent k q → IsUnledIn k q → CallsNothing (block_items k q) → AreFlatLines (lines_in k q)
+pub content_styled : (k : TextBlock) (q : List ℕ) → IsContent k q → CallsNothing (block_items k q) → AreFlatLines (lines_in k q)
     → AreKept (signs_in k q) → AreCalm (signs_in k q) → IsStyledIn k q
-content_styled k q h unled none flat kept calm = record {
+content_styled k q h none flat kept calm = record {
   utf8 = h.utf8;
   ended = h.ended;
   unended = h.unended;
   is = h.is;
-  unled = unled;
   calls_nothing = none;
   has_items = h.has_items;
   flat = flat;
