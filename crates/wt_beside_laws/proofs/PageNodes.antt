@@ -11,6 +11,7 @@ use Rattle.wt_guards.specs.Content.{ContentSign, Thing, letter, thing, side_of, 
 use Rattle.wt_guards.specs.Guards.{Setting, end_of, start_of, is_reached, has_brace_last, is_mark, is_always_parted, is_adjacent, left_side, is_parted, is_between_guard, is_guarded}
 use Rattle.wt_guards.specs.Table.{hazard}
 use Rattle.wt_spelling_laws.proofs.TextReads.{or_parts}
+use Rattle.wt_text_edit_laws.proofs.Between.Fronts.{reads_after}
 use Rattle.wt_text_edit_laws.proofs.Prose.InFront.{reads_nothing}
 use Rattle.wt_span.specs.Items.{Item}
 use Rattle.wt_tiles.specs.declared.glyph.Glyph.{Glyph}
@@ -28,6 +29,7 @@ use Rattle.wt_beside_laws.proofs.NodesBegin.{no_url}
 use Rattle.wt_beside_laws.proofs.NodesEnd.{external_last, lexeme_last, other_last}
 use Rattle.wt_beside_laws.proofs.Stood.{stood}
 use Rattle.wt_beside_laws.specs.NodeItems.{node_items}
+use Rattle.wt_beside_laws.proofs.NodeItems.{node_read}
 
 -- ---- the first item of a node
 

@@ -163,7 +163,7 @@ node_shown r own false e n = opens_shown own (node_opens r own n e)
 not_blank : (b : ℕ) → OpensText b → is_blank b ≡ false
 not_blank b o = let s = o.space in let t = o.tab in rw (s, t) refl
 
-is_word : Option (LexKind × ℕ) → Bool
+abbrev is_word : Option (LexKind × ℕ) → Bool
 is_word None = false
 is_word (Some w) = true
 
