@@ -33,6 +33,7 @@ ghost use Rattle.wt_beside_laws.specs.Calm.{AreCalm};
 ghost use Rattle.wt_beside_laws.specs.Content.{AreKept};
 ghost use Rattle.wt_beside_laws.specs.ContentEdits.{new_content, MakesContent};
 ghost use Rattle.wt_beside_laws.specs.FlatBlocks.{lines_in, signs_in as signs_of};
+ghost use Rattle.wt_beside_laws.specs.HeldLines.{AreHeldLines};
 ghost use Rattle.wt_beside_laws.specs.InHeadings.{KeepsLevel, heading_of};
 ghost use Rattle.wt_beside_laws.specs.Led.{AreMarksLed};
 ghost use Rattle.wt_beside_laws.specs.Lines.{AreCharacters, line_items, content_lines};
@@ -159,11 +160,12 @@ pub fn texts_sent_in_styles_are_such()
         → AreUrlsApart (things (signs_in (sent_content (page_of same block) us))) → IsStyledContent s (sent_content (page_of same block) us) }
 {}
 
-/// A content that is read by itself (`IsContent`) and calls nothing is such a one with bold and italic or without (`IsStyledIn`) where each form of
-/// its lines is a node that stays (`AreFlatLines`, `AreKept`) and brings no calls (`AreCalm`): none of these ends in an open tag then.
+/// A content that is read by itself (`IsContent`) and calls nothing is such a one with bold and italic or without (`IsStyledIn`) where the source of
+/// each form of its lines stands whatever is written behind it (`AreKept`) and brings no calls (`AreCalm`), and each is a node (`AreHeldLines`). So
+/// each is read by itself as it is in its line, and none ends in an open tag.
 #[tactic(auto, using(crate::proofs::Styled::OldShut::content_styled))]
 pub fn contents_of_nodes_that_stay_take_styles()
-    ensures { (k : TextBlock) (q : List ℕ) → IsContent k q → CallsNothing (block_items k q) → AreFlatLines (lines_in k q)
+    ensures { (k : TextBlock) (q : List ℕ) → IsContent k q → CallsNothing (block_items k q) → AreHeldLines (lines_in k q)
         → AreKept (signs_of k q) → AreCalm (signs_of k q) → IsStyledIn k q }
 {}
 

@@ -41,12 +41,14 @@ use Rattle.wt_text_edit_laws.proofs.Blocks.BlockLeaves.{open_items, close_items}
 use Rattle.wt_beside_laws.specs.Calm.{AreCalm}
 use Rattle.wt_beside_laws.specs.Content.{AreKept}
 use Rattle.wt_beside_laws.specs.FlatBlocks.{lines_in, begins_at, signs_in}
+use Rattle.wt_beside_laws.specs.HeldLines.{AreHeldLines}
 use Rattle.wt_beside_laws.specs.Nodes.{AreNodes}
 use Rattle.wt_beside_laws.specs.PageBlocks.{AreShut}
 use Rattle.wt_beside_laws.specs.PageSigns.{line_signs, signs_of_lines, AreFlatTiles, AreFlatLines}
 use Rattle.wt_beside_laws.specs.Stood.{things}
 use Rattle.wt_beside_laws.specs.StyledIn.{IsStyledIn}
 use Rattle.wt_beside_laws.proofs.BlockSigns.{its_children}
+use Rattle.wt_beside_laws.proofs.HeldLines.{content_flat}
 use Rattle.wt_beside_laws.proofs.LineThings.{nodes_parts}
 use Rattle.wt_beside_laws.proofs.Made.OldBlocks.{with_parts, parts_are, lines_are}
 use Rattle.wt_beside_laws.proofs.PageSigns.{flat_nodes}
@@ -222,17 +224,19 @@ content_shut k q h f =
     let t : Tree = standing 0 [] (block_tree k q) in
     own_shut k q f (ap any_ends_open (sym (inside_is t)) ∙ (h.untangled nowhere t refl).0)
 
-pub content_styled : (k : TextBlock) (q : List ℕ) → IsContent k q → CallsNothing (block_items k q) → AreFlatLines (lines_in k q)
+pub content_styled : (k : TextBlock) (q : List ℕ) → IsContent k q → CallsNothing (block_items k q) → AreHeldLines (lines_in k q)
     → AreKept (signs_in k q) → AreCalm (signs_in k q) → IsStyledIn k q
-content_styled k q h none flat kept calm = record {
-  utf8 = h.utf8;
-  ended = h.ended;
-  unended = h.unended;
-  is = h.is;
-  calls_nothing = none;
-  has_items = h.has_items;
-  flat = flat;
-  kept = kept;
-  calm = calm;
-  shut = content_shut k q h flat;
-}
+content_styled k q h none held kept calm =
+    let flat : AreFlatLines (lines_in k q) = content_flat k q h.is held kept in
+    record {
+      utf8 = h.utf8;
+      ended = h.ended;
+      unended = h.unended;
+      is = h.is;
+      calls_nothing = none;
+      has_items = h.has_items;
+      flat = flat;
+      kept = kept;
+      calm = calm;
+      shut = content_shut k q h flat;
+    }
