@@ -1,5 +1,5 @@
 -- A content of text that is typed and nodes that stay, calls among them, as it is written: what it gives is what its signs give, one after the other.
-use Rattle.std.specs.Prelude.{◌≡◌, ◌⊎◌, ℕ, ◌+◌, ◌==◌, ◌||◌, not, Bool, false, None, List, [], ◌∷◌, ◌++◌}
+use Rattle.std.specs.Prelude.{◌≡◌, ◌⊎◌, ℕ, ◌+◌, ◌==◌, ◌||◌, not, Bool, true, false, None, List, [], ◌∷◌, ◌++◌}
 use Rattle.wt_span.specs.declared.form.Mode.TheVariants.{Page}
 use Rattle.wt_span.specs.Characters as byte
 use Rattle.wt_span.specs.Items.{Item}
