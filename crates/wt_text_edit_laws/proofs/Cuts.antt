@@ -5,3 +5,5 @@ pub mod SettledEnds
 pub mod Unmarked
 pub mod HeadingCuts
 pub mod Utf8Cuts
+pub mod RowLines
+pub mod BodyBlocks

@@ -21,3 +21,4 @@ pub mod BlockEdits
 pub mod UnmarkedBlocks
 pub mod OwnNodes
 pub mod PageCuts
+pub mod BodyParagraphs
