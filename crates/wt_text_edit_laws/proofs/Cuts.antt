@@ -7,3 +7,5 @@ pub mod HeadingCuts
 pub mod Utf8Cuts
 pub mod RowLines
 pub mod BodyBlocks
+pub mod TextLines
+pub mod BodyParagraphs

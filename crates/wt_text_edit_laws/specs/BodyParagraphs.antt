@@ -11,6 +11,7 @@ use Rattle.wt_row_laws.specs.Blocks.{Block, paragraph, block_rows, AreBlocks}
 use Rattle.wt_text_edit_laws.specs.PageCuts.{AreTextItems, begins_unmarked}
 use Rattle.wt_text_edit_laws.specs.ParagraphBetween.{EndsApart, EndsParagraph}
 use Rattle.wt_text_edit_laws.specs.ParagraphParts.{joined_parts, para_with}
+use Rattle.wt_text_edit_laws.specs.TextBetween.{AreEnded}
 
 -- ---- a paragraph of the body
 
@@ -68,5 +69,6 @@ pub record IsParagraphAt (xs : List Item) (r : Row) (rs : List Row) : Type 0 whe
   pub is : xs ≡ before ++ (own ++ rest)
   pub text : begins_unmarked own ≡ true → AreTextItems (sources own) own
   pub tree : para (r ∷ rs) ≡ para_with (joined_parts (lines own))
+  pub ended : AreEnded (sources before)
   pub apart : EndsApart before
   pub ends : EndsParagraph rest

@@ -171,7 +171,7 @@ text_line (l ∷ ls) n front r ss e k w =
 
 -- ---- rows of text at the front
 
-pub whole_text : List Item → Row
+abbrev pub whole_text : List Item → Row
 whole_text l = whole_row line.Text (marks_len l) l
 
 abbrev pub AllText : ℕ → List (List Item) → Type 0
@@ -196,7 +196,6 @@ no_lines n (l ∷ ls) e = absurd (some_rows n l (written_rows (behind n (kind_at
 
 lines_more : (n : ℕ) (ls : List (List Item)) (r : Row) (rs ss : List Row) (t : TextLine n ls [] r (rs ++ ss))
     → ((ms : List (List Item)) → rows_from n ms ≡ rs ++ ss → TextLines n ms rs ss) → TextLines n ls (r ∷ rs) ss
-unfolding whole_text
 lines_more n ls r rs ss t go =
     let none : t.before ≡ [] = no_lines n t.before t.front_is in
     let rest : rows_from n t.behind_it ≡ rs ++ ss = sym (ap (λ (ms : List (List Item)). rows_from (tables_behind n ms) t.behind_it) none) ∙ t.rest_is in
