@@ -29,7 +29,7 @@ own_rows xs h =
     let ls : List (List Item) = full_lines xs in
     ap (rows_from 0) (sym (append-nil ls)) ∙ rows_text 0 ls [] h ∙ append-nil (map text_row ls)
 
-own_meaning : (xs : List Item) → OwnBreaks xs → All (IsLineOfText 0) (lines xs) → meaning xs ≡ body_with (para_with (joined_parts (lines xs)) ∷ [])
+pub own_meaning : (xs : List Item) → OwnBreaks xs → All (IsLineOfText 0) (lines xs) → meaning xs ≡ body_with (para_with (joined_parts (lines xs)) ∷ [])
 unfolding meaning blocks
 own_meaning xs o h =
     let ls : List (List Item) = full_lines xs in

@@ -19,6 +19,7 @@ pub mod PageNodes
 pub mod PageSigns
 pub mod PairTiles
 pub mod OwnSigns
+pub mod OwnItems
 pub mod SentNodes
 pub mod Stood
 pub mod TagFronts
@@ -58,6 +59,7 @@ pub mod CalmContents
 pub mod FlatLines
 pub mod PlainContents
 pub mod Edits
+pub mod Groups
 pub mod Made
 pub mod Marks
 pub mod Styled

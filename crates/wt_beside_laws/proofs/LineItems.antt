@@ -27,11 +27,11 @@ unbroken_before (y ∷ ys) xs l ls u e =
     ap (λ (t : Bool). if t then [] ∷ lines (ys ++ xs) else onto (y ∷ []) (lines (ys ++ xs))) u.0
     ∙ ap (onto (y ∷ [])) (unbroken_before ys xs l ls u.1 e)
 
-guard_before : (u : Bool) (xs l : List Item) (ls : List (List Item)) → lines xs ≡ l ∷ ls → lines (guard_items u ++ xs) ≡ (guard_items u ++ l) ∷ ls
+pub guard_before : (u : Bool) (xs l : List Item) (ls : List (List Item)) → lines xs ≡ l ∷ ls → lines (guard_items u ++ xs) ≡ (guard_items u ++ l) ∷ ls
 guard_before true xs l ls e = ap (onto (guard_items true)) e
 guard_before false xs l ls e = e
 
-guard_alone : (u : Bool) → lines (guard_items u) ≡ guard_items u ∷ []
+pub guard_alone : (u : Bool) → lines (guard_items u) ≡ guard_items u ∷ []
 guard_alone true = refl
 guard_alone false = refl
 

@@ -52,7 +52,7 @@ no_mark : (x : Item) → OpensText (sign x) → is_mark x ≡ false
 no_mark (char o b) h = refl
 no_mark (whole f o bs) h = mark_sign f h.mark
 
-opens_line : (tables : ℕ) (xs : List Item) → Opens xs → IsLineOfText tables xs
+pub opens_line : (tables : ℕ) (xs : List Item) → Opens xs → IsLineOfText tables xs
 opens_line tables [] h = absurd h
 opens_line tables (x ∷ xs) h = record {
   text = opens_kind tables (sign x) (map sign xs) h;
@@ -61,7 +61,7 @@ opens_line tables (x ∷ xs) h = record {
 
 -- ---- what is put, and what is typed
 
-guard_opens : (u : Bool) (xs : List Item) → (u ≡ false → Opens xs) → Opens (guard_items u ++ xs)
+pub guard_opens : (u : Bool) (xs : List Item) → (u ≡ false → Opens xs) → Opens (guard_items u ++ xs)
 guard_opens true xs f = atom_opens
 guard_opens false xs f = f refl
 
@@ -79,7 +79,7 @@ plain_opens c xs v m = elim (cases_lt c 128) [
   | inr wide ↦ bytes_open (encode_utf8 c) xs (encode_wide c wide) (utf8_bytes (encode_utf8 c) (IsUtf8-encode c v)) (encode_some c)
 ]
 
-letter_opens : (s : Setting) (before : List ContentSign) (c : ℕ) (after : List ContentSign) (xs : List Item) (e : Bool)
+pub letter_opens : (s : Setting) (before : List ContentSign) (c : ℕ) (after : List ContentSign) (xs : List Item) (e : Bool)
     → is_escaped s.within s.place before c after ≡ e → IsScalar c → is_free c ≡ true → Opens (letter_items e c ++ xs)
 letter_opens s before c after xs true i v f = atom_opens
 letter_opens s before c after xs false i v f =
@@ -121,7 +121,7 @@ item_opens : (x : Item) → OpensGlyph (glyph_of x) → OpensText (sign x)
 item_opens (char o b) h = h
 item_opens (whole f o bs) h = whole_opens f o bs h
 
-items_open : (own xs : List Item) → FirstOpens (map glyph_of own) → Opens (own ++ xs)
+pub items_open : (own xs : List Item) → FirstOpens (map glyph_of own) → Opens (own ++ xs)
 items_open [] xs h = absurd h
 items_open (x ∷ own) xs h = item_opens x h
 
@@ -255,7 +255,7 @@ line_opens s before (thing t ∷ after) w l b v n =
 
 -- ---- all lines
 
-later_by : (tables : ℕ) (t : Bool) (l : List Item) (ls : List (List Item)) → (t ≡ true → IsLineOfText tables l) → All (IsLineOfText tables) ls
+pub later_by : (tables : ℕ) (t : Bool) (l : List Item) (ls : List (List Item)) → (t ≡ true → IsLineOfText tables l) → All (IsLineOfText tables) ls
     → All (IsLineOfText tables) (if t then l ∷ ls else ls)
 later_by tables true l ls f h = All-cons (IsLineOfText tables) l ls (f refl) h
 later_by tables false l ls f h = h

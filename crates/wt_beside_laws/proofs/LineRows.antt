@@ -24,7 +24,7 @@ use Rattle.wt_text_edit_laws.proofs.Paragraphs.LineBlocks.{OwnBreaks, chars_own,
 abbrev break : Item
 break = char None 10
 
-own_both : (xs ys : List Item) → OwnBreaks xs → OwnBreaks ys → OwnBreaks (xs ++ ys)
+pub own_both : (xs ys : List Item) → OwnBreaks xs → OwnBreaks ys → OwnBreaks (xs ++ ys)
 own_both [] ys h k = k
 own_both (x ∷ xs) ys h k = (h.0, own_both xs ys h.1 k)
 
@@ -36,15 +36,15 @@ rows_parts xs l ls o e i =
 
 -- ---- those of a content
 
-unbroken_own : (xs : List Item) → IsUnbroken xs → OwnBreaks xs
+pub unbroken_own : (xs : List Item) → IsUnbroken xs → OwnBreaks xs
 unbroken_own [] u = tt
 unbroken_own (x ∷ xs) u = ((λ e. let no : true ≡ false = sym e ∙ u.0 in cc), unbroken_own xs u.1)
 
-guard_own : (u : Bool) → OwnBreaks (guard_items u)
+pub guard_own : (u : Bool) → OwnBreaks (guard_items u)
 guard_own true = ((λ e. cc), tt)
 guard_own false = tt
 
-letter_own : (e : Bool) (c : ℕ) → OwnBreaks (letter_items e c)
+pub letter_own : (e : Bool) (c : ℕ) → OwnBreaks (letter_items e c)
 letter_own true c = ((λ e. cc), tt)
 letter_own false c = chars_own (encode_utf8 c)
 

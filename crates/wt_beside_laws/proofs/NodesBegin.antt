@@ -57,7 +57,7 @@ url_no_underscore b gs w is = by (b == 95) refl
 
 -- ---- each kind of node
 
-other_avoids : (b : ℕ) (gs : List Glyph) → (b == 95) ≡ false → AvoidsSwitches (glyph.Byte b ∷ gs)
+pub other_avoids : (b : ℕ) (gs : List Glyph) → (b == 95) ≡ false → AvoidsSwitches (glyph.Byte b ∷ gs)
 other_avoids b [] e = rw e refl
 other_avoids b (g ∷ gs) e = rw e refl
 

@@ -78,7 +78,7 @@ unfolding tag_at opening_tag closing_tag
 less_none [] h = refl
 less_none (g ∷ gs) h = rw (h.0, h.1) refl
 
-tag_other : (b : ℕ) (gs : List Glyph) → (b == 60) ≡ false → tag_at (glyph.Byte b ∷ gs) ≡ None
+pub tag_other : (b : ℕ) (gs : List Glyph) → (b == 60) ≡ false → tag_at (glyph.Byte b ∷ gs) ≡ None
 unfolding tag_at opening_tag closing_tag
 tag_other b gs e = rw e refl
 
@@ -152,7 +152,7 @@ three_underscores : (gs : List Glyph) → switch_at (glyph.Byte 95 ∷ glyph.Byt
 unfolding switch_at switch_names
 three_underscores gs = refl
 
-switch_other : (b : ℕ) (gs : List Glyph) → (b == 95) ≡ false → switch_at (glyph.Byte b ∷ gs) ≡ None
+pub switch_other : (b : ℕ) (gs : List Glyph) → (b == 95) ≡ false → switch_at (glyph.Byte b ∷ gs) ≡ None
 unfolding switch_at
 switch_other b gs e = rw e refl
 

@@ -29,3 +29,4 @@ pub mod StyledHeadings
 pub mod StyledBlocks
 pub mod NewStyles
 pub mod StyledIn
+pub mod Called

@@ -70,9 +70,15 @@ ghost use Rattle.wt_beside_laws.specs.FlatBlocks.{IsFlatEditOf};
 ghost use Rattle.wt_beside_laws.specs.StyledIn.{IsFlatIn, IsStyledEditOf};
 ghost use Rattle.wt_tiles.specs.declared.glyph.GlyphClass.TheVariants as class;
 
+mod called;
 mod styles;
 mod untangled;
 
+pub use called::{
+    groups_of_words_have_no_fault, texts_beside_calls_are_one_paragraph,
+    texts_beside_calls_are_shown, texts_beside_calls_are_such_in_a_folder,
+    texts_beside_calls_hold_these,
+};
 pub use styles::{
     blocks_with_styles_have_their_nodes, contents_sent_with_styles_are_such,
     contents_with_styles_are_such_again, contents_with_styles_may_take_their_place,

@@ -5,3 +5,4 @@ pub mod Paragraphs
 pub mod Headings
 pub mod Blocks
 pub mod Cuts
+pub mod PlainGroups
