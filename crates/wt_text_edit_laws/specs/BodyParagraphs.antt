@@ -1,17 +1,22 @@
 -- Paragraphs of the body of a page, by the blocks that the page's rows are cut into; and where each is in the page.
-use Rattle.std.specs.Prelude.{◌≡◌, ◌≢◌, true, List, [], ◌∷◌, ◌++◌}
+use Rattle.std.specs.Prelude.{◌≡◌, ◌≢◌, ℕ, true, List, [], ◌∷◌, ◌++◌}
+use Rattle.std.specs.Str.{IsUtf8}
 use Rattle.wt_span.specs.Items.{Item, sources}
 use Rattle.wt_inline.specs.ItemTree.{ItemTree}
 use Rattle.wt_lines.specs.declared.kind.LineKind.{LineKind}
 use Rattle.wt_lines.specs.declared.kind.LineKind.TheVariants as line
 use Rattle.wt_lines.specs.Lines.{full_lines, lines}
+use Rattle.wt_expand.specs.PageItems.{page_items}
 use Rattle.wt_page.specs.Rows.{Row, rows_from}
 use Rattle.wt_page.specs.Texts.{para}
 use Rattle.wt_row_laws.specs.Blocks.{Block, paragraph, block_rows, AreBlocks}
-use Rattle.wt_text_edit_laws.specs.PageCuts.{AreTextItems, begins_unmarked}
+use Rattle.wt_text_edit_laws.specs.BlockSpots.{BlockSpot}
+use Rattle.wt_text_edit_laws.specs.NoCalls.{CallsNothing}
+use Rattle.wt_text_edit_laws.specs.PageCuts.{AreTextItems, begins_unmarked, EndsClosed, IsFreeBlock}
 use Rattle.wt_text_edit_laws.specs.ParagraphBetween.{EndsApart, EndsParagraph}
 use Rattle.wt_text_edit_laws.specs.ParagraphParts.{joined_parts, para_with}
 use Rattle.wt_text_edit_laws.specs.TextBetween.{AreEnded}
+use Rattle.wt_text_edit_laws.specs.TextBlocks.{a_paragraph}
 
 -- ---- a paragraph of the body
 
@@ -72,3 +77,18 @@ pub record IsParagraphAt (xs : List Item) (r : Row) (rs : List Row) : Type 0 whe
   pub ended : AreEnded (sources before)
   pub apart : EndsApart before
   pub ends : EndsParagraph rest
+
+-- as a part of a page
+abbrev pub spot_at : List Item → List Item → BlockSpot
+spot_at before own = record { before = sources before; block = a_paragraph; text = sources own }
+
+-- ---- where its content may be edited
+
+-- The page calls nothing. The paragraph isn't tangled and holds nothing that can only be kept as a whole; no mark is behind the blanks that begin it;
+-- and where it ends the page, it holds no comment and no hidden part that nothing ends.
+pub record IsFreeParagraph (page : List ℕ) (own rest : List Item) : Type 0 where
+  pub utf8 : IsUtf8 page
+  pub calls_nothing : CallsNothing (page_items page)
+  pub free : IsFreeBlock a_paragraph (sources own)
+  pub unmarked : begins_unmarked own ≡ true
+  pub closed : EndsClosed (sources own) (sources rest)
