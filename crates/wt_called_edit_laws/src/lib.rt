@@ -61,6 +61,10 @@ ghost use Rattle.wt_guards.specs.Guards.{Setting, spelled};
 ghost use Rattle.wt_text_edit_laws.specs.ReadContents.{IsFirmlyRead};
 ghost use Rattle.wt_beside_laws.specs.Content.{content_items};
 
+mod body_paragraphs;
+
+pub use body_paragraphs::paragraphs_of_the_body_may_be_edited;
+
 /// A page with blocks among calls, and with calls in them, none of which goes over the end of a part, is expanded part by
 /// part: its items are those of what stands before, between and behind the blocks, and of the blocks, with the numbers that
 /// their calls have in the page; its calls are those of these parts, with their places; and so is the work.
