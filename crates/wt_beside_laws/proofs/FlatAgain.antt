@@ -406,7 +406,7 @@ node_flat Q t c xs f n k g =
 -- ---- lines
 
 -- no line goes on over its end
-no_break : (xs : List Item) → IsUnbroken xs → HasNoBreak xs
+pub no_break : (xs : List Item) → IsUnbroken xs → HasNoBreak xs
 no_break [] h = tt
 no_break (char o b ∷ xs) h = (h.0, no_break xs h.1)
 no_break (whole f o bs ∷ xs) h = (tt, no_break xs h.1)

@@ -21,6 +21,7 @@ pub mod PageSigns
 pub mod PairTiles
 pub mod OwnSigns
 pub mod OwnItems
+pub mod HeldLines
 pub mod SentNodes
 pub mod Stood
 pub mod TagFronts

@@ -14,7 +14,7 @@ use Rattle.wt_beside_laws.proofs.Firm.{ReadsAs}
 behind_first : (q : List ℕ) → page_items (10 ∷ q) ≡ char None 10 ∷ items_from true 0 q
 behind_first q = first_items (10 ∷ q) ∙ sym (first_from false (10 ∷ q)) ∙ byte_from false 10 q (other_byte Page 10 q refl)
 
-are_from : (q : List ℕ) → node_items q ≡ items_from true 0 q
+pub are_from : (q : List ℕ) → node_items q ≡ items_from true 0 q
 unfolding node_items
 are_from q = ap (drop 1) (behind_first q)
 

@@ -21,6 +21,7 @@ pub mod SentPieces
 pub mod Calm
 pub mod FlatPages
 pub mod FlatBlocks
+pub mod HeldLines
 pub mod ContentEdits
 pub mod Nests
 pub mod Styled

@@ -24,12 +24,16 @@ ghost use Rattle.wt_page.specs.Texts.{para};
 ghost use Rattle.wt_moved_laws.specs.Standing.{standing};
 ghost use Rattle.wt_typed_blocks.specs.Edited.{Pieces};
 ghost use Rattle.wt_text_edit_laws.specs.Contents.{IsContent, IsNewContent};
+ghost use Rattle.wt_text_edit_laws.specs.NoCalls.{CallsNothing};
 ghost use Rattle.wt_text_edit_laws.specs.ParagraphBetween.{AreClosed, before_marks, EndsApart, EndsParagraph, blocks_in, body_with};
 ghost use Rattle.wt_text_edit_laws.specs.ParagraphParts.{para_with};
-ghost use Rattle.wt_text_edit_laws.specs.TextBlocks.{TextBlock, block_tree};
+ghost use Rattle.wt_text_edit_laws.specs.TextBlocks.{TextBlock, block_items, block_tree};
 ghost use Rattle.wt_text_edit_laws.specs.TypedHeadings.{Sides, AreSides, heading_line, IsOfLevel, IsHeadingInside, EndsLine};
+ghost use Rattle.wt_beside_laws.specs.Calm.{AreCalm};
 ghost use Rattle.wt_beside_laws.specs.Content.{AreKept};
 ghost use Rattle.wt_beside_laws.specs.ContentEdits.{new_content, MakesContent};
+ghost use Rattle.wt_beside_laws.specs.FlatBlocks.{lines_in, signs_in as signs_of};
+ghost use Rattle.wt_beside_laws.specs.HeldLines.{AreHeldLines};
 ghost use Rattle.wt_beside_laws.specs.InHeadings.{KeepsLevel, heading_of};
 ghost use Rattle.wt_beside_laws.specs.Led.{AreMarksLed};
 ghost use Rattle.wt_beside_laws.specs.Lines.{AreCharacters, line_items, content_lines};
@@ -154,6 +158,15 @@ pub fn texts_sent_in_styles_are_such()
         → IsBlockOfLines ls block → AreKept (signs_of_lines (length (label block).opening) ls) → AllNest false false us
         → AreMarksLed (signs_in (sent_content (page_of same block) us)) → AreSomeOf (all_numbers us) (all_numbers (children_of block)) → AreCharacters (signs_in (sent_content (page_of same block) us))
         → AreUrlsApart (things (signs_in (sent_content (page_of same block) us))) → IsStyledContent s (sent_content (page_of same block) us) }
+{}
+
+/// A content that is read by itself (`IsContent`) and calls nothing is such a one with bold and italic or without (`IsStyledIn`) where the source of
+/// each form of its lines stands whatever is written behind it (`AreKept`) and brings no calls (`AreCalm`), and each is a node (`AreHeldLines`). So
+/// each is read by itself as it is in its line, and none ends in an open tag.
+#[tactic(auto, using(crate::proofs::Styled::OldShut::content_styled))]
+pub fn contents_of_nodes_that_stay_take_styles()
+    ensures { (k : TextBlock) (q : List ℕ) → IsContent k q → CallsNothing (block_items k q) → AreHeldLines (lines_in k q)
+        → AreKept (signs_of k q) → AreCalm (signs_of k q) → IsStyledIn k q }
 {}
 
 /// A paragraph or a heading with bold and italic (`IsStyledIn`) holds a content that is read by itself, whatever is round it; and what is written
