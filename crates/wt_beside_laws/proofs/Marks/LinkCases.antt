@@ -1,23 +1,18 @@
--- Worked case: the link `[[a<!--c-->b]]` is a node with a comment in it, and the line `x [[a<!--c-->b]] y` is flat.
-use Rattle.std.proofs.Common.{◌≡◌, ℕ, None, List, [], ◌∷◌, ◌++◌, refl, sym, subst, inl, inr}
+-- Worked case: the link `[[a<!--c-->b]]` is a node with a comment in it, which is one item.
+use Rattle.std.proofs.Common.{◌≡◌, ℕ, None, List, [], ◌∷◌, ◌++◌, refl, sym, subst, inr}
 use Rattle.std.specs.Prelude.{codes}
-use Rattle.std.proofs.Math.Utf8.{encode}
 use Rattle.wt_span.specs.Comments.{comment_len, comment_line_len}
 use Rattle.wt_span.specs.Entities.{entity_at, named_entity, entity_names, decimal_entity, hex_entity}
 use Rattle.wt_span.specs.declared.form.ItemForm.TheVariants as form
-use Rattle.wt_span.specs.Items.{Item, char, whole}
+use Rattle.wt_span.specs.Items.{Item, whole}
 use Rattle.wt_span.specs.Lexemes.{form_at as word_at, sign_word, words, closed as words_closed}
 use Rattle.wt_span.specs.Tags.{raw_len, include_at, opening_tag as opening_word, closing_tag as closing_word, tag_after as word_after, with_inside, is_extension}
 use Rattle.wt_expand.specs.PageItems.{page_items}
-use Rattle.wt_tiles.specs.Tags.{tag_at, opening_tag, closing_tag, tag_after, name_of, live_name}
-use Rattle.wt_tiles.specs.Tiles.{form_at, link_or_url, tag_tile, switch_at, shapes, closed, tiles}
-use Rattle.wt_tiles.specs.Links.{link_at}
-use Rattle.wt_tiles.specs.Urls.{scheme_len, ext_link_at, bare_url_at}
 use Rattle.wt_text_edit_laws.specs.LonePages.{page_chars}
 use Rattle.wt_beside_laws.specs.Commented.{IsComment, BeginsShown, IsHeld}
 use Rattle.wt_beside_laws.specs.Kept.{characters, AreFirm, IsKept}
 use Rattle.wt_beside_laws.specs.NodeItems.{node_items}
-use Rattle.wt_beside_laws.specs.PageSigns.{HasNoBreak, AreFlatLines}
+use Rattle.wt_beside_laws.specs.PageSigns.{HasNoBreak}
 use Rattle.wt_beside_laws.proofs.Firm.{alone_as, firm_read}
 
 abbrev front : List ℕ
@@ -66,11 +61,3 @@ link_items = page_chars front ++ (whole form.Comment None (codes "<!--c-->") ∷
 link_alone : node_items (codes "[[a<!--c-->b]]") ≡ link_items
 unfolding node_items page_items words words_closed word_at comment_len comment_line_len raw_len include_at opening_word closing_word word_after with_inside is_extension entity_at named_entity entity_names decimal_entity hex_entity sign_word
 link_alone = refl
-
-link_line : AreFlatLines ((page_chars (codes "x ") ++ (link_items ++ page_chars (codes " y"))) ∷ [])
-unfolding tiles shapes closed form_at link_or_url link_at ext_link_at bare_url_at scheme_len tag_tile tag_at opening_tag closing_tag tag_after name_of live_name switch_at encode
-link_line = (
-  (refl, (refl, (refl, (refl, (refl, (tt, (refl, (refl, (refl, (refl, (refl, tt))))))))))),
-  ((codes "x ", (refl, refl)), (record { alone = link_alone; lone = tt }, ((codes " y", (refl, refl)), tt))),
-  tt,
-)
