@@ -111,7 +111,7 @@ given_opens s before t after own more w l h g = elim h [
   | inr x ↦ subst (λ xs. Opens (xs ++ more)) (sym x.is) (words_open x.call t.source more x.words x.begins)
 ]
 
-line_opens : (s : Setting) (before signs : List ContentSign) (owns : List (List Item)) → s.within ≡ false → is_line_start (nearest before) ≡ true
+pub line_opens : (s : Setting) (before signs : List ContentSign) (owns : List (List Item)) → s.within ≡ false → is_line_start (nearest before) ≡ true
     → is_line_begun before ≡ true → AreCharacters signs → AreGiven signs owns → Opens (line_with s before signs owns)
 line_opens s before [] owns w l b v h = subst (λ u. Opens (guard_items u)) (sym (end_guarded s before w l)) atom_opens
 line_opens s before (letter c ∷ after) owns w l b v h =
