@@ -19,6 +19,7 @@ pub mod PageNodes
 pub mod PageSigns
 pub mod PairTiles
 pub mod OwnSigns
+pub mod OwnItems
 pub mod SentNodes
 pub mod Stood
 pub mod TagFronts
@@ -62,3 +63,4 @@ pub mod Groups
 pub mod Made
 pub mod Marks
 pub mod Styled
+pub mod Derived

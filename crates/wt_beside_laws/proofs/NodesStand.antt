@@ -77,7 +77,7 @@ quote_no_trail glyph.Mark gs q = cc
 
 past_trail : (own gs : List Glyph) → MayFollow Link own gs → first_is class.Trail gs ≡ false
 past_trail own [] h = refl
-past_trail own (g ∷ gs) h = elim h [ | inl e ↦ e | inr q ↦ quote_no_trail g gs q.quotes ]
+past_trail own (g ∷ gs) h = elim h [ inl e ↦ e | inr q ↦ quote_no_trail g gs q.quotes ]
 
 bare_before : (ends : Bool) (own gs : List Glyph) (w : Shape) → MayFollow (Bare ends) own gs → bare_url_at false own ≡ Some w → bare_url_at false (own ++ gs) ≡ Some w
 bare_before ends own [] w f e = bare_stays own [] w tt e

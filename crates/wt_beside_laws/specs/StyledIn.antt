@@ -1,6 +1,5 @@
 -- A paragraph or a heading of the page that holds texts, nodes that stay, and bold and italic, by its lines; and what is sent for it.
-use Rattle.std.specs.Prelude.{◌≡◌, ℕ, true, false, None, List, [], ◌∷◌, ◌++◌}
-use Rattle.std.specs.List.{list_all}
+use Rattle.std.specs.Prelude.{◌≡◌, ℕ, false, None, List, [], ◌∷◌, ◌++◌}
 use Rattle.std.specs.Str.{IsUtf8}
 use Rattle.wt_span.specs.Characters as byte
 use Rattle.wt_span.specs.Items.{char}
@@ -10,9 +9,8 @@ use Rattle.wt_guards.specs.Guards.{Setting}
 use Rattle.wt_original.specs.Page.{page_of}
 use Rattle.wt_link_spelling.specs.Spelling.{children_of}
 use Rattle.wt_expand.specs.PageItems.{page_items}
-use Rattle.wt_inline.specs.ItemTree.{forest, held_by_all}
+use Rattle.wt_inline.specs.ItemTree.{forest}
 use Rattle.wt_inline.specs.Parts.{children}
-use Rattle.wt_annotated.specs.Clean.{is_page}
 use Rattle.wt_called_trees.specs.Rounded.{AllHaveItems}
 use Rattle.wt_visible.specs.SameNodes.{same_node}
 use Rattle.wt_typed_blocks.specs.Edited.{Pieces, page_pieces, sent_pieces, PiecesStay}
@@ -41,7 +39,6 @@ pub record IsStyledIn (k : TextBlock) (q : List ℕ) : Type 0 where
   pub is : IsContentOf k q
   pub unled : IsUnledIn k q
   pub calls_nothing : CallsNothing (block_items k q)
-  pub of_page : list_all is_page (held_by_all (forest (children (content_parts_of k (page_items q))))) ≡ true
   pub has_items : AllHaveItems (forest (children (content_parts_of k (page_items q))))
   pub flat : AreFlatLines (lines_in k q)
   pub kept : AreKept (signs_of k q)

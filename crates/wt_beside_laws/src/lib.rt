@@ -72,6 +72,7 @@ ghost use Rattle.wt_tiles.specs.declared.glyph.GlyphClass.TheVariants as class;
 
 mod called;
 mod styles;
+mod untangled;
 
 pub use called::{
     groups_of_words_have_no_fault, texts_beside_calls_are_one_paragraph,
@@ -86,6 +87,7 @@ pub use styles::{
     texts_in_styles_are_shown, texts_in_styles_may_be_in_headings,
     texts_in_styles_stand_between_lines, texts_sent_in_styles_are_such,
 };
+pub use untangled::untangled_blocks_are_contents;
 
 /// A content of text that is typed and of nodes that stay, as it is spelled, makes no lexeme over the border of a text and
 /// a node: its items are those of each node by itself, the characters and references of the text, and the nowikis that

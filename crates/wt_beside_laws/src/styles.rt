@@ -111,7 +111,7 @@ pub fn texts_in_styles_may_be_in_headings()
 
 /// A content with styles of nodes of flat lines of a page (`AreFlatLines`), any of them in their order, with any texts between them and styles
 /// round them, is one that is read sign by sign, if the source of each node stands whatever is written behind it. The delimiters, and the nowikis of
-/// empty styles, may be anywhere among these nodes (`AreSomeAndPut`), but not directly behind a bare URL where the page has them there.
+/// empty styles, may be anywhere among these nodes (`AreSomeAndPut`). A bare URL that is directly before a delimiter in the page ends with no apostrophe.
 pub fn nodes_of_the_page_stay_in_styles()
     ensures { (s : Setting) (ls : List (List Item)) (at : ℕ) (t : StyledContent) → s.within ≡ false → AreFlatLines ls → AreKept (signs_of_lines at ls)
         → AreCharacters (signs_in t) → AreNested false false t → AreSomeAndPut (things (signs_in t)) (things (signs_of_lines at ls))
@@ -146,7 +146,7 @@ pub fn blocks_with_styles_have_their_nodes()
 
 /// What an editor sends of such a block is such a content, whatever is typed: nodes with numbers of the block's own, any of them in their order,
 /// directly in it or in bold and italic, which may be others than the block's, and which nest (`AllNest`). It is asked that the source of each node
-/// of the block stands, and that no bare URL is directly before a delimiter in the page.
+/// of the block stands, and that no bare URL that is directly before a delimiter in the page ends with an apostrophe.
 pub fn texts_sent_in_styles_are_such()
     ensures { (same : Tree → Tree → Bool) (s : Setting) (ls : List (List Item)) (block : Tree) (us : Trees) → s.within ≡ false → AreFlatLines ls
         → IsBlockOfLines ls block → AreKept (signs_of_lines (length (label block).opening) ls) → AllNest false false us

@@ -9,12 +9,12 @@ use Rattle.wt_text_edit_laws.specs.TextBlocks.{TextBlock}
 use Rattle.wt_text_edit_laws.specs.Contents.{IsNewContent}
 use Rattle.wt_text_edit_laws.proofs.Blocks.Contents.{new_again}
 use Rattle.wt_called_edit_laws.specs.Retyped.{AreRetyped}
-use Rattle.wt_called_edit_laws.proofs.Parts.Retyped.{same_round, blocks_over, called_blocks}
+use Rattle.wt_called_edit_laws.proofs.Parts.Retyped.{same_round, blocks_over}
 use Rattle.wt_called_trees.specs.Rounded.{AreOwn, IsClean, AreClean}
 use Rattle.wt_called_trees.proofs.FrameEnds.{held, own_split, firsts_same, last_same, clean_same}
 use Rattle.wt_called_trees.proofs.FramesWalked.{no_leaf}
 use Rattle.wt_called_edit_laws.specs.CalledBlocks.{tree_by, counted, StandAmongCalls}
-use Rattle.wt_called_edit_laws.proofs.Cells.CalledFrames.{again_among}
+use Rattle.wt_called_edit_laws.proofs.Cells.CalledFrames.{among_contents, again_among}
 use Rattle.wt_called_edit_laws.proofs.Cells.SpotTrees.{counted_same}
 use Rattle.wt_called_edit_laws.specs.Groups.{AreOutsideGroups}
 use Rattle.wt_called_edit_laws.proofs.OwnBlocks.{counted_own}
@@ -68,7 +68,7 @@ retyped_after (s ∷ ss) (r ∷ rs) (q ∷ qs) h g = (
 pub outside_again : (pages : Pages) (ss rs : List BlockSpot) (behind : List ℕ) → AreOutsideGroups pages ss behind → AreRetyped ss rs → AreOutsideGroups pages rs behind
 outside_again pages ss rs behind h t =
     let f : StandAmongCalls pages ss behind = h.stand in
-    let blocks : AreContents ss = called_blocks ss behind h.among.called in
+    let blocks : AreContents ss = among_contents pages ss behind h.among in
     let same : counted rs ≡ counted ss = counted_same ss rs (same_round ss rs t) in
     let was : AreOwn (tree_by ss) (all_places f.frames) = subst (AreOwn (tree_by ss)) (sym f.in_order) (counted_own ss blocks) in
     let now : AreOwn (tree_by rs) (all_places f.frames) =

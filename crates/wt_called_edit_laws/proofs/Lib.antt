@@ -40,4 +40,5 @@ pub mod PagesSettled
 pub mod GroupsOfPage
 pub mod BlocksOutside
 pub mod Parts
+pub mod Written
 pub mod Cells

@@ -8,8 +8,10 @@ use Rattle.wt_page.specs.Body.{meaning}
 use Rattle.wt_row_laws.specs.Frames.{Frames, trees_at, all_places, content, AreFrames}
 use Rattle.wt_text_edit_laws.specs.BlockSpots.{BlockSpot, spots_source}
 use Rattle.wt_text_edit_laws.specs.ParagraphBetween.{body_with}
-use Rattle.wt_text_edit_laws.specs.TextBlocks.{a_paragraph, block_tree}
-use Rattle.wt_called_edit_laws.specs.Parts.{AreCalled, part_items, calls_in}
+use Rattle.wt_joined_calls.specs.Expanded.{part_items, calls_in}
+use Rattle.wt_text_edit_laws.specs.NoCalls.{CallsNothing}
+use Rattle.wt_text_edit_laws.specs.TextBlocks.{a_paragraph, block_items, block_tree}
+use Rattle.wt_called_edit_laws.specs.Parts.{AreCalled}
 use Rattle.wt_called_edit_laws.specs.Retyped.{AreRetyped}
 use Rattle.wt_called_edit_laws.specs.ItemSpots.{ItemSpot, ArePlaced}
 
@@ -26,9 +28,16 @@ abbrev pub items_behind : Pages → ℕ → List BlockSpot → List ℕ → List
 items_behind pages k [] behind = part_items pages k behind
 items_behind pages k (s ∷ ss) behind = items_behind pages (k + calls_in pages s.before) ss behind
 
--- No call goes over the end of a part; and by what the calls give, each block is a block of its own, in the body, in a cell or in a caption.
+-- no block calls anything by itself
+abbrev pub CallNothing : List BlockSpot → Type 0
+CallNothing [] = Unit {0}
+CallNothing (s ∷ ss) = CallsNothing (block_items s.block s.text) × CallNothing ss
+
+-- No call goes over the end of a part, and none is in a block; and by what the calls give, each block is a block of its own, in the body, in a cell or
+-- in a caption.
 pub record AreAmongCalls (pages : Pages) (ss : List BlockSpot) (behind : List ℕ) : Type 0 where
-  pub called : AreCalled ss behind
+  pub called : AreCalled pages ss behind
+  pub calm : CallNothing ss
   pub placed : ArePlaced (spots_among pages 0 ss) (items_behind pages 0 ss behind)
 
 -- ---- its meaning

@@ -25,4 +25,5 @@ pub mod UnmarkedCells
 pub mod OwnTexts
 pub mod ItemSpots
 pub mod CalledBlocks
+pub mod Written
 pub mod SentAsIs

@@ -2,11 +2,11 @@
 //! taken, and texts beside what stays in them, and nothing else is changed.
 #![tactic(auto)]
 
-ghost use Rattle.std.specs.Prelude.{ℕ, ◌<◌, List, [], ◌∷◌, ◌≡◌, Option, None};
+ghost use Rattle.std.specs.Prelude.{ℕ, ◌<◌, List, [], ◌∷◌, ◌≡◌, Option, None, false};
 ghost use Rattle.wt_expand.specs.Work.{Pages};
 ghost use Rattle.wt_text_edit_laws.specs.BlockSpots.{BlockSpot, AreRead, AreBlockSpots, spots_source};
 ghost use Rattle.wt_called_edit_laws.specs.Parts.{AreCalled, IsByParts};
-ghost use Rattle.wt_called_edit_laws.specs.Retyped.{AreRetyped, IsExpandedAgain};
+ghost use Rattle.wt_called_edit_laws.specs.Retyped.{AreRetyped, AreWrittenAnew, IsExpandedAgain};
 ghost use Rattle.std.specs.Str.{IsUtf8};
 ghost use Rattle.wt_span.specs.Items.{Item};
 ghost use Rattle.wt_tree.specs.Tree.{Label, Tree};
@@ -50,25 +50,45 @@ ghost use Rattle.wt_called_edit_laws.specs.EditsAt.{Fits, AllStand};
 ghost use Rattle.wt_called_edit_laws.specs.Settled.{IsSettled};
 ghost use Rattle.wt_called_edit_laws.specs.SettledPages.{OnlyTextsAreOthers};
 ghost use Rattle.wt_called_edit_laws.specs.Covered.{CleanWhereFree, IsEditablePage};
+ghost use Rattle.wt_called_edit_laws.specs.Written.{AreReadThings, AreOwnParts, written_items, written_calls, written_work, IsWrittenAs};
+ghost use Rattle.wt_guards.specs.Content.{ContentSign};
+ghost use Rattle.wt_guards.specs.Guards.{Setting, spelled};
+ghost use Rattle.wt_text_edit_laws.specs.ReadContents.{IsFirmlyRead};
+ghost use Rattle.wt_beside_laws.specs.Content.{content_items};
 
-/// A page with blocks among calls, none of which goes over the end of a part, is expanded part by part: its items are
-/// those of what stands before, between and behind the blocks, with the numbers that their calls have in the page, and
-/// between these the blocks' own; its calls are those of these parts, with their places; and so is the work.
+/// A page with blocks among calls, and with calls in them, none of which goes over the end of a part, is expanded part by
+/// part: its items are those of what stands before, between and behind the blocks, and of the blocks, with the numbers that
+/// their calls have in the page; its calls are those of these parts, with their places; and so is the work.
 pub fn pages_with_blocks_are_expanded_by_their_parts()
-    ensures { (pages : Pages) (ss : List BlockSpot) (behind : List ℕ) → AreCalled ss behind → IsByParts pages ss behind }
+    ensures { (pages : Pages) (ss : List BlockSpot) (behind : List ℕ) → AreCalled pages ss behind → IsByParts pages ss behind }
 {}
 
-/// Where texts are typed in the blocks of such a page, it is such a page again, its work is the same, and it is refused
-/// only if it was refused before.
+/// Where new contents are written in the blocks of such a page, with some of the calls that were there, and in which no two
+/// braces are left, it is such a page again, it is no more work, and it is refused only if it was refused before. So it is
+/// where texts are typed, and where any contents are written that call nothing.
 pub fn pages_with_typed_texts_are_expanded_again()
-    ensures { (pages : Pages) (ss rs : List BlockSpot) (behind : List ℕ) → AreCalled ss behind → AreRetyped ss rs
+    ensures typed { (pages : Pages) (ss rs : List BlockSpot) → AreRetyped ss rs → AreWrittenAnew pages ss rs }
+    ensures again { (pages : Pages) (ss rs : List BlockSpot) (behind : List ℕ) → AreCalled pages ss behind → AreWrittenAnew pages ss rs
         → IsExpandedAgain pages ss rs behind }
 {}
 
 /// A page that calls nothing is such a page.
 #[tactic(auto, using(crate::proofs::Parts::NoCallsCalled::read_called))]
 pub fn pages_without_calls_are_such()
-    ensures { (ss : List BlockSpot) (behind : List ℕ) → AreRead ss behind → AreCalled ss behind }
+    ensures { (pages : Pages) (ss : List BlockSpot) (behind : List ℕ) → AreRead ss behind → AreCalled pages ss behind }
+{}
+
+/// A content of text that is typed and nodes that stay, calls among them (`AreReadThings`), gives, as it is written, what its
+/// signs give, one after the other: its items are those of the characters, of the nowikis that are put, and of each node by
+/// itself, with the numbers that its calls have there; its calls are those of its nodes, but for their places; and so is the
+/// work of expanding it. No two braces are left in it, so it is a part of any page. It is read the same whatever stands
+/// behind it, unless a `}` is first.
+pub fn written_contents_give_what_their_signs_give()
+    ensures gives { (pages : Pages) (s : Setting) (signs : List ContentSign) → s.within ≡ false → AreReadThings signs → AreOwnParts pages signs
+        → IsWrittenAs pages (spelled s signs) (λ i. written_items pages s i [] signs) (written_calls pages signs) (written_work pages signs) }
+    ensures firm { (s : Setting) (signs : List ContentSign) → s.within ≡ false → AreReadThings signs → IsFirmlyRead (spelled s signs) }
+    ensures alone { (s : Setting) (signs : List ContentSign) → s.within ≡ false → AreReadThings signs
+        → page_items (spelled s signs) ≡ content_items s [] signs }
 {}
 
 /// A paragraph in a cell of a table, which may be in a cell of another table, is at a place of the page's tree that its
@@ -155,14 +175,14 @@ pub fn groups_stay_round_typed_texts()
 /// No call of such a page that is text shares a byte with one of the blocks.
 #[tactic(auto, using(crate::proofs::FreeBlocks::blocks_free))]
 pub fn text_calls_touch_no_block()
-    ensures { (pages : Pages) (ss : List BlockSpot) (behind : List ℕ) → AreCalled ss behind
+    ensures { (pages : Pages) (ss : List BlockSpot) (behind : List ℕ) → AreAmongCalls pages ss behind
         → AreFreeFrom (expanded_page pages (spots_source ss behind)).text_calls 0 ss }
 {}
 
 /// So none of these blocks is tangled, wherever it is in the page's tree: it can be read by itself.
 #[tactic(auto, using(crate::proofs::Untangled::blocks_untangled))]
 pub fn blocks_among_calls_are_untangled()
-    ensures { (pages : Pages) (ss : List BlockSpot) (behind : List ℕ) → AreCalled ss behind
+    ensures { (pages : Pages) (ss : List BlockSpot) (behind : List ℕ) → AreAmongCalls pages ss behind
         → AreUntangledFrom (expanded_page pages (spots_source ss behind)) (spots_source ss behind) 0 ss }
 {}
 
@@ -212,7 +232,6 @@ pub fn any_texts_may_be_typed_at_paths()
 
 /// Where no bold and no italic is in what a block holds (`IsFlatIn` of `wt_beside_laws`), any nodes of it may stay, in
 /// their order, and any texts be between them: so much is asked of what is sent (`Fits`), and no more.
-#[tactic(auto, using(crate::proofs::BlocksMade::flat_fits))]
 pub fn any_nodes_may_stay_without_styles()
     ensures { (k : TextBlock) (q : List ℕ) (n : ℕ) (before : List Item) (l m : Label) (ps : Pieces) → IsFlatIn k q → 0 < n
         → IsFlatEditOf k (standing n before (block_tree k q)) ps → Fits k q (edited (block_of k) l m ps) }

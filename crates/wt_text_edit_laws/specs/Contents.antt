@@ -25,6 +25,7 @@ use Rattle.wt_called_trees.specs.Rounded.{AllHaveItems}
 use Rattle.wt_text_edit_laws.specs.NoCalls.{AreUnbraced}
 use Rattle.wt_text_edit_laws.specs.ParagraphParts.{joined_parts}
 use Rattle.wt_text_edit_laws.specs.Paragraphs.{IsTextLine}
+use Rattle.wt_text_edit_laws.specs.ReadContents.{IsFirmlyRead}
 use Rattle.wt_text_edit_laws.specs.TextBetween.{StandsBehind, LineEnds}
 use Rattle.wt_text_edit_laws.specs.TextBlocks.{TextBlock, a_paragraph, a_heading, source_of, block_items, block_tree, IsFrame}
 use Rattle.wt_text_edit_laws.specs.TypedHeadings.{Sides, IsHeadingInside, IsOfLevel}
@@ -95,4 +96,4 @@ pub record IsNewContent (k : TextBlock) (was now : List ℕ) : Type 0 where
 
 -- Nothing begins in what is firm. What begins in another content ends in it, or is a tag that nothing in the rest of the page closes.
 abbrev pub TextEnds : TextBlock → List ℕ → List ℕ → Type 0
-TextEnds k q rest = IsFirmContent k q ⊎ LineEnds (source_of k q) rest
+TextEnds k q rest = IsFirmlyRead q ⊎ LineEnds (source_of k q) rest

@@ -1,7 +1,6 @@
 -- Worked cases: `x<br>y` is flat as a paragraph, and between `== ` and ` ==` as a heading.
-use Rattle.std.proofs.Common.{arith, ◌≡◌, ℕ, true, None, List, [], ◌∷◌, ◌++◌, refl, sym, ap, ◌∙◌, subst, All}
+use Rattle.std.proofs.Common.{arith, ◌≡◌, ℕ, None, List, [], ◌∷◌, ◌++◌, refl, sym, ap, ◌∙◌, subst, All}
 use Rattle.std.specs.Prelude.{codes}
-use Rattle.std.specs.List.{list_all}
 use Rattle.std.specs.Str.{IsUtf8, chars}
 use Rattle.std.proofs.Math.Utf8.{encode}
 use Rattle.std.proofs.lemmas.List.Elements.{All-nil, All-cons}
@@ -13,7 +12,7 @@ use Rattle.wt_span.specs.Tags.{raw_len, include_at, opening_tag as opening_word,
 use Rattle.wt_expand.specs.PageItems.{page_items}
 use Rattle.wt_lines.specs.Kinds.{kind_of_signs}
 use Rattle.wt_lines.specs.Lines.{lines, full_lines}
-use Rattle.wt_inline.specs.ItemTree.{forest, held_by_all}
+use Rattle.wt_inline.specs.ItemTree.{forest}
 use Rattle.wt_inline.specs.Parts.{children}
 use Rattle.wt_tiles.specs.Tags.{tag_at, opening_tag, closing_tag, tag_after, name_of, live_name}
 use Rattle.wt_tiles.specs.Tiles.{form_at, link_or_url, tag_tile, switch_at, shapes, closed, tiles}
@@ -27,7 +26,6 @@ use Rattle.wt_context.specs.Styled.{with_styles}
 use Rattle.wt_quotes.specs.Styles.{style_tree_of}
 use Rattle.wt_quotes.specs.Toggles.{toggle_at, toggles_of}
 use Rattle.wt_blocks.specs.Headings.{level}
-use Rattle.wt_annotated.specs.Clean.{is_page}
 use Rattle.wt_called_trees.specs.Rounded.{AllHaveItems}
 use Rattle.wt_text_edit_laws.specs.Contents.{AreUnled}
 use Rattle.wt_text_edit_laws.specs.LonePages.{page_chars}
@@ -53,7 +51,6 @@ use Rattle.wt_page.specs.Rows.{marks_len}
 pub record AreBlockItems (xs : List Item) : Type 0 where
   pub are_lines : All IsTextLine (lines xs)
   pub unled : AreUnled (full_lines xs)
-  pub of_page : list_all is_page (held_by_all (forest (children (joined_parts (lines xs))))) ≡ true
   pub has_items : AllHaveItems (forest (children (joined_parts (lines xs))))
 
 pub paragraph_by : (q : List ℕ) (xs : List Item) → page_items q ≡ xs → page_items (q ++ 10 ∷ []) ≡ xs ++ char None 10 ∷ []
@@ -69,7 +66,6 @@ paragraph_by q xs is ended alone before_break given more =
         is = record { are_lines = b.are_lines; unled = b.unled; alone = alone; before_break = before_break };
         unled = tt;
         calls_nothing = h.calls_nothing;
-        of_page = b.of_page;
         has_items = b.has_items;
         flat = h.flat;
         kept = h.kept;
@@ -95,7 +91,6 @@ unfolding kind_of_signs context_parts with_styles style_tree_of toggles_of toggl
 break_items = record {
   are_lines = All-cons IsTextLine (page_chars (codes "x<br>y")) [] refl (All-nil IsTextLine);
   unled = (refl, tt);
-  of_page = refl;
   has_items = ((refl, tt), ((refl, tt), ((refl, tt), tt)));
 }
 
@@ -137,7 +132,6 @@ record AreHeadingItems (xs : List Item) : Type 0 where
   pub unled : marks_len xs ≡ 0
   pub inside : IsHeadingInside xs
   pub of_level : IsOfLevel (spaced 2) xs
-  pub of_page : list_all is_page (held_by_all (forest (children (line_parts xs)))) ≡ true
   pub has_items : AllHaveItems (forest (children (line_parts xs)))
   pub flat : AreFlatLines (xs ∷ [])
   pub unstyled : AreUnstyled (xs ∷ [])
@@ -156,7 +150,6 @@ heading_by xs is utf8 given =
         is = record { frame = frame; inside = h.inside; of_level = h.of_level };
         unled = h.unled;
         calls_nothing = h.calls_nothing;
-        of_page = h.of_page;
         has_items = h.has_items;
         flat = h.flat;
         kept = h.kept;
@@ -174,7 +167,6 @@ heading_items = record {
   calls_nothing = tt;
   inside = record { unbroken = (refl, (refl, (refl, (refl, (refl, (refl, tt)))))); begins = refl; ends = refl };
   of_level = refl;
-  of_page = refl;
   has_items = ((refl, tt), ((refl, tt), ((refl, tt), tt)));
   flat = break_flat.flat;
   unstyled = break_flat.unstyled;

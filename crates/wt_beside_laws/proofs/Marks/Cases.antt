@@ -98,7 +98,6 @@ unfolding kind_of_signs context_parts with_styles style_tree_of toggles_of toggl
 tag_items = record {
   are_lines = All-cons IsTextLine own_items [] refl (All-nil IsTextLine);
   unled = (refl, tt);
-  of_page = refl;
   has_items = ((refl, tt), ((refl, tt), ((refl, tt), tt)));
 }
 
@@ -154,7 +153,6 @@ unfolding kind_of_signs context_parts with_styles style_tree_of toggles_of toggl
 comment_items = record {
   are_lines = All-cons IsTextLine remarked_items [] refl (All-nil IsTextLine);
   unled = (refl, tt);
-  of_page = refl;
   has_items = ((refl, tt), ((refl, tt), ((refl, tt), tt)));
 }
 

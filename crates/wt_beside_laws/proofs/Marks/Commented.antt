@@ -52,7 +52,7 @@ source_in : (source : List ℕ) → IsCommentSource source → InLineAs source (
 source_in source h =
     subst (λ bs. InLineAs bs (page_items bs)) (sym h.is) (subst (InLineAs (60 ∷ h.others)) (sym (comment_alone h.others h.comment)) (comment_in h.others h.comment))
 
-held_in : (source : List ℕ) → IsHeld source → InLineAs source (page_items source)
+pub held_in : (source : List ℕ) → IsHeld source → InLineAs source (page_items source)
 held_in source h = elim h [
   | inl k ↦ kept_in source k.0 k.1
   | inr c ↦ source_in source c
@@ -81,7 +81,7 @@ kept_begins source h o rest =
     let is : page_items source ≡ parts_items h.parts = alone_as source (parts_items h.parts) read in
     subst (λ bs. BeginsUncommented (bs ++ rest)) h.is (begins_parts h.parts h.are (subst (λ xs. FirstOpens (map glyph_of xs)) is o) rest)
 
-held_begins : (source : List ℕ) → IsHeld source → FirstOpens (map glyph_of (page_items source)) → (rest : List ℕ) → BeginsUncommented (source ++ rest)
+pub held_begins : (source : List ℕ) → IsHeld source → FirstOpens (map glyph_of (page_items source)) → (rest : List ℕ) → BeginsUncommented (source ++ rest)
 held_begins source h o rest = elim h [
   | inl k ↦ kept_begins source k.0 o rest
   | inr c ↦ absurd (subst (λ xs. FirstOpens (map glyph_of xs)) (ap page_items c.is ∙ comment_alone c.others c.comment) o)
@@ -121,7 +121,7 @@ wide_begins (b ∷ bs) rest h some =
     let f : is_blank b ≡ false = grind (arith, nat_tests, w) in
     uncommented_other b (bs ++ rest) f (comment_other b (bs ++ rest) (omega (arith, w)))
 
-letter_begins : (s : Setting) (before : List ContentSign) (c : ℕ) (after : List ContentSign) (rest : List ℕ) (e : Bool) → is_escaped s.within s.place before c after ≡ e
+pub letter_begins : (s : Setting) (before : List ContentSign) (c : ℕ) (after : List ContentSign) (rest : List ℕ) (e : Bool) → is_escaped s.within s.place before c after ≡ e
     → is_free c ≡ true → BeginsUncommented (written_by e c ++ (further s c before after ++ rest))
 letter_begins s before c after rest true h f =
     let r = references c (escapable s.within s.place before c after h) in
@@ -134,20 +134,20 @@ letter_begins s before c after rest false h f = elim (cases_lt c 128) [
 
 -- ---- where a line starts, or in it
 
-record Level (start : Bool) (bs : List ℕ) (xs : List Item) : Type 0 where
-  line : InLine bs xs
-  begins : start ≡ true → BeginsUncommented bs
+pub record Level (start : Bool) (bs : List ℕ) (xs : List Item) : Type 0 where
+  pub line : InLine bs xs
+  pub begins : start ≡ true → BeginsUncommented bs
 
 nowiki_begins : (q : List ℕ) → BeginsUncommented (nowiki ++ q)
 unfolding nowiki comment_len
 nowiki_begins q = uncommented_other 60 (codes "nowiki/>" ++ q) refl refl
 
-guard_level : (u start : Bool) (q : List ℕ) (xs : List Item) → InLine q xs → (u ≡ false → start ≡ true → BeginsUncommented q)
+pub guard_level : (u start : Bool) (q : List ℕ) (xs : List Item) → InLine q xs → (u ≡ false → start ≡ true → BeginsUncommented q)
     → Level start (nowiki_if u ++ q) (guard_items u ++ xs)
 guard_level true start q xs r f = record { line = nowiki_in q xs r; begins = λ z. nowiki_begins q }
 guard_level false start q xs r f = record { line = r; begins = f refl }
 
-joined : (start : Bool) (g own more rest : List ℕ) (gs os ms xs : List Item) → Level start (g ++ (own ++ (more ++ rest))) (gs ++ (os ++ (ms ++ xs)))
+pub joined : (start : Bool) (g own more rest : List ℕ) (gs os ms xs : List Item) → Level start (g ++ (own ++ (more ++ rest))) (gs ++ (os ++ (ms ++ xs)))
     → Level start ((g ++ (own ++ more)) ++ rest) ((gs ++ (os ++ ms)) ++ xs)
 joined start g own more rest gs os ms xs l =
     let bs : (g ++ (own ++ more)) ++ rest ≡ g ++ (own ++ (more ++ rest)) = append_assoc g (own ++ more) rest ∙ ap (λ ys. g ++ ys) (append_assoc own more rest) in
@@ -161,7 +161,7 @@ break_in s before after q xs r =
     subst (λ bs. InLine (bs ++ q) (page_chars bs ++ xs)) (sym (encode_ascii 10 (omega arith))) (reads_after false (10 ∷ q) (char None 10 ∷ xs) (read_break q xs r))
 
 -- a character, before what is spelled behind it
-letter_level : (s : Setting) (before : List ContentSign) (c : ℕ) (after : List ContentSign) (rest : List ℕ) (xs : List Item) (v : Bool) → (c == 10) ≡ v
+pub letter_level : (s : Setting) (before : List ContentSign) (c : ℕ) (after : List ContentSign) (rest : List ℕ) (xs : List Item) (v : Bool) → (c == 10) ≡ v
     → Level v (further s c before after ++ rest) xs
     → InLine (written_by (is_escaped s.within s.place before c after) c ++ (further s c before after ++ rest)) (letter_items (is_escaped s.within s.place before c after) c ++ xs)
 letter_level s before c after rest xs true i l =
@@ -173,7 +173,7 @@ letter_level s before c after rest xs false i l =
     letter_in s before c after rest xs (is_escaped s.within s.place before c after) refl
     (λ e. reference_ends c (escapable s.within s.place before c after e)) i l.line
 
-no_line_end : (r : Role) (own : List Glyph) → IsNode r own → ends_line r ≡ false
+pub no_line_end : (r : Role) (own : List Glyph) → IsNode r own → ends_line r ≡ false
 no_line_end Link own n = refl
 no_line_end External own n = refl
 no_line_end (Bare ends) own n = refl

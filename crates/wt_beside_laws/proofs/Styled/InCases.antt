@@ -1,7 +1,6 @@
 -- Worked case: the paragraph `''x''<br>y` holds a content with styles.
-use Rattle.std.proofs.Common.{◌≡◌, true, None, List, [], ◌∷◌, ◌++◌, refl, sym, ap, ◌∙◌, subst, All}
+use Rattle.std.proofs.Common.{◌≡◌, None, List, [], ◌∷◌, ◌++◌, refl, sym, ap, ◌∙◌, subst, All}
 use Rattle.std.specs.Prelude.{ℕ, codes}
-use Rattle.std.specs.List.{list_all}
 use Rattle.std.specs.Str.{IsUtf8, chars}
 use Rattle.std.proofs.Math.Utf8.{encode}
 use Rattle.std.proofs.lemmas.List.Elements.{All-nil, All-cons}
@@ -13,7 +12,7 @@ use Rattle.wt_span.specs.Tags.{raw_len, include_at, opening_tag as opening_word,
 use Rattle.wt_expand.specs.PageItems.{page_items}
 use Rattle.wt_lines.specs.Kinds.{kind_of_signs}
 use Rattle.wt_lines.specs.Lines.{lines, full_lines}
-use Rattle.wt_inline.specs.ItemTree.{forest, held_by_all}
+use Rattle.wt_inline.specs.ItemTree.{forest}
 use Rattle.wt_inline.specs.Parts.{children}
 use Rattle.wt_tiles.specs.Tags.{tag_at, opening_tag, closing_tag, tag_after, name_of, live_name}
 use Rattle.wt_tiles.specs.Tiles.{form_at, link_or_url, tag_tile, switch_at, shapes, closed, tiles}
@@ -28,7 +27,6 @@ use Rattle.wt_quotes.specs.Styles.{style_tree_of}
 use Rattle.wt_quotes.specs.Runs.{place_of}
 use Rattle.wt_quotes.specs.Toggles.{toggle_at, toggles_of}
 use Rattle.wt_quotes.specs.Turns.{since, next, bold_ends_later, effect_on, is_bold_outside_at, turn_at}
-use Rattle.wt_annotated.specs.Clean.{is_page}
 use Rattle.wt_called_trees.specs.Rounded.{AllHaveItems}
 use Rattle.wt_text_edit_laws.specs.Contents.{AreUnled}
 use Rattle.wt_text_edit_laws.specs.LonePages.{page_chars}
@@ -72,7 +70,6 @@ record AreStyledItems (xs : List Item) : Type 0 where
   pub are_lines : All IsTextLine (lines xs)
   pub unled : AreUnled (full_lines xs)
   pub calls_nothing : CallsNothing xs
-  pub of_page : list_all is_page (held_by_all (forest (children (joined_parts (lines xs))))) ≡ true
   pub has_items : AllHaveItems (forest (children (joined_parts (lines xs))))
   pub flat : AreFlatLines (lines xs)
   pub kept : AreKept (signs_of_lines 0 (lines xs))
@@ -86,7 +83,6 @@ own_items = record {
   are_lines = All-cons IsTextLine (page_chars own) [] refl (All-nil IsTextLine);
   unled = (refl, tt);
   calls_nothing = tt;
-  of_page = refl;
   has_items = ((refl, ((refl, tt), tt)), ((refl, tt), ((refl, tt), tt)));
   flat = (
     (refl, (refl, (refl, (refl, (refl, (refl, (refl, (refl, (refl, (refl, tt)))))))))),
@@ -112,7 +108,6 @@ italic_and_break =
       is = record { are_lines = h.are_lines; unled = h.unled; alone = quote_stands (codes "'x''<br>y"); before_break = quote_stands (codes "'x''<br>y\n") };
       unled = tt;
       calls_nothing = h.calls_nothing;
-      of_page = h.of_page;
       has_items = h.has_items;
       flat = h.flat;
       kept = h.kept;

@@ -38,6 +38,7 @@ use Rattle.wt_beside_laws.proofs.Made.NodesSealed.{nodes_sealed}
 use Rattle.wt_beside_laws.proofs.Made.OldBlocks.{lines_are}
 use Rattle.wt_beside_laws.proofs.Made.OwnPages.{own_frame}
 use Rattle.wt_beside_laws.proofs.Made.Written.{FitsIn, lines_by, before_any, uncommented, firm, alone, before_break, ended_so, unended_so, texts_by, all_unled, calls_none, from_calm, to_calm, put_calm, unled_in}
+use Rattle.wt_beside_laws.proofs.OwnItems.{content_own}
 use Rattle.wt_beside_laws.proofs.Styled.HeldStyles.{styled_have_items}
 use Rattle.wt_beside_laws.proofs.Styled.OldStyled.{styled_in_content}
 use Rattle.wt_beside_laws.proofs.Styled.StyledAgain.{quotes_utf8, again_each, again_lines, again_kept, again_shut}
@@ -161,7 +162,7 @@ held_so : (k : TextBlock) (q : List ℕ) (s : Setting) (t : StyledContent) → I
 held_so k q s t h w =
     styled_have_items s (lines_in k q) (begins_at k) t h.flat w.content.nested w.nodes
     (subst (λ (ps : List Part). AllHaveItems (forest (children ps))) (lines_are k q) h.has_items)
-    (subst (λ (ps : List Part). AllOfPage (held_by_all (forest (children ps)))) (lines_are k q) h.of_page)
+    (subst (λ (ps : List Part). AllOfPage (held_by_all (forest (children ps)))) (lines_are k q) (content_own k q))
 
 pub styled_again : (k : TextBlock) (q : List ℕ) (s : Setting) (t : StyledContent) → IsStyledIn k q → IsStyledFor k q s t → IsStyledIn k (spelled s (signs_in t))
 styled_again k q s t h w =
@@ -180,7 +181,6 @@ styled_again k q s t h w =
       is = content_so k q s t f h w;
       unled = unled_so k s t c w.stays;
       calls_nothing = calls_none k s signs f (read_styled s t c) calm;
-      of_page = subst (λ (ps : List Part). AllOfPage (held_by_all (forest (children ps)))) (sym parts) held.1;
       has_items = subst (λ (ps : List Part). AllHaveItems (forest (children ps))) (sym parts) held.0;
       flat = of_lines_so AreFlatLines k s t c w.stays (again_lines s t c);
       kept = of_lines_so (λ (ls : List (List Item)). AreKept (signs_of_lines at ls)) k s t c w.stays (again_kept at s t c);

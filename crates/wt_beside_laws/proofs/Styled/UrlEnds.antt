@@ -1,19 +1,18 @@
 -- A bare URL of the page that an apostrophe follows doesn't end with one; by the bytes of the content.
-use Rattle.std.proofs.Common.{arith, ◌≡◌, ◌⊎◌, ℕ, ◌+◌, ◌-◌, ◌<◌, ◌≤◌, suc, Bool, true, false, Option, Some, None, List, [], ◌∷◌, ◌++◌, length, map, take, drop, refl, sym, ap, ◌∙◌, subst, inl, inr, append_assoc, append-nil, All}
-use Rattle.std.specs.Prelude.{encode_utf8, if◌then◌else◌}
-use Rattle.std.specs.Str.{chars, IsUtf8}
+use Rattle.std.proofs.Common.{arith, ◌≡◌, ◌⊎◌, ℕ, ◌+◌, ◌-◌, ◌<◌, ◌≤◌, suc, Bool, true, false, Some, None, List, [], ◌∷◌, ◌++◌, length, map, take, drop, refl, sym, ap, ◌∙◌, subst, inl, inr, append_assoc, append-nil, All}
+use Rattle.std.specs.Prelude.{encode_utf8}
+use Rattle.std.specs.Str.{chars}
 use Rattle.std.proofs.Math.Utf8.{encodes}
 use Rattle.std.proofs.lemmas.Bool.{cases_lt}
-use Rattle.std.proofs.lemmas.List.{length-append, take-append-drop}
+use Rattle.std.proofs.lemmas.List.{take-append-drop}
 use Rattle.std.proofs.lemmas.List.Elements.{All-head}
 use Rattle.std.proofs.lemmas.Str.{encodes-chars, encode_ascii}
 use Rattle.wt_names.proofs.Ascii.{IsWide, encode_wide, encode_some}
 use Rattle.wt_span.specs.declared.form.Mode.TheVariants.{Page}
 use Rattle.wt_span.specs.Bytes.{is_break}
 use Rattle.wt_span.specs.Items.{Item, char, sources}
-use Rattle.wt_span.specs.Lexemes.{form_at}
 use Rattle.wt_spelling_laws.proofs.Forms.{other_byte}
-use Rattle.wt_guards.specs.Content.{ContentSign, Thing, letter, thing, letters}
+use Rattle.wt_guards.specs.Content.{ContentSign, Thing, letter, thing}
 use Rattle.wt_guards.specs.Guards.{end_of}
 use Rattle.wt_expand.specs.PageItems.{page_items}
 use Rattle.wt_inline.proofs.HeldLaws.{held_append, sources_append}
@@ -84,7 +83,7 @@ quote_cut c at (x ∷ xs) ys h = elim h [
 ]
 
 from_cut : (c at : ℕ) (xs ys : List ℕ) → IsFrom c at (xs ++ ys) → IsFrom c (at + length xs) ys
-from_cut c at xs ys h = elim h [ | inl lt ↦ inl (omega (arith, lt)) | inr q ↦ quote_cut c at xs ys q ]
+from_cut c at xs ys h = elim h [ inl lt ↦ inl (omega (arith, lt)) | inr q ↦ quote_cut c at xs ys q ]
 
 abbrev FirstQuote : List ℕ → Type 0
 FirstQuote [] = ⊥

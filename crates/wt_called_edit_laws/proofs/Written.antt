@@ -1,0 +1,5 @@
+-- Contents with calls, as they are written.
+pub mod Joined
+pub mod Ends
+pub mod Reads
+pub mod Signs
