@@ -30,7 +30,9 @@ pub mod PlacePaths
 pub mod PlaceTrees
 pub mod ItemFrames
 pub mod CalledFrames
+pub mod CallingFrames
 pub mod SpotFrames
+pub mod ContentItems
 pub mod SpotRows
 pub mod SpotSlots
 pub mod SpotTrees

@@ -16,7 +16,7 @@ ghost use Rattle.wt_typed_blocks.specs.Edited.{Pieces, Edited, edited, Edits};
 ghost use Rattle.wt_typed_blocks.specs.Sent.{paragraph};
 ghost use Rattle.wt_text_edit_laws.specs.BlockEdits.{typed_as};
 ghost use Rattle.wt_text_edit_laws.specs.Parts.{part_tree};
-ghost use Rattle.wt_text_edit_laws.specs.TextBlocks.{TextBlock, a_paragraph, block_of, block_tree};
+ghost use Rattle.wt_text_edit_laws.specs.TextBlocks.{TextBlock, a_paragraph, block_of, block_items, block_tree};
 ghost use Rattle.wt_beside_laws.specs.FlatBlocks.{IsFlatEditOf};
 ghost use Rattle.wt_beside_laws.specs.StyledIn.{IsFlatIn};
 ghost use Rattle.wt_moved_laws.specs.Standing.{standing};
@@ -50,6 +50,9 @@ ghost use Rattle.wt_called_edit_laws.specs.EditsAt.{Fits, AllStand};
 ghost use Rattle.wt_called_edit_laws.specs.Settled.{IsSettled};
 ghost use Rattle.wt_called_edit_laws.specs.SettledPages.{OnlyTextsAreOthers};
 ghost use Rattle.wt_called_edit_laws.specs.Covered.{CleanWhereFree, IsEditablePage};
+ghost use Rattle.wt_called_edit_laws.specs.CallingBlocks.{IsContentIn, AreEdited, AreCallingBlocks, CallingBlocksStand};
+ghost use Rattle.wt_text_edit_laws.specs.Contents.{IsContent};
+ghost use Rattle.wt_text_edit_laws.specs.NoCalls.{CallsNothing};
 ghost use Rattle.wt_called_edit_laws.specs.Written.{AreReadThings, AreOwnParts, written_items, written_calls, written_work, IsWrittenAs};
 ghost use Rattle.wt_guards.specs.Content.{ContentSign};
 ghost use Rattle.wt_guards.specs.Guards.{Setting, spelled};
@@ -156,6 +159,18 @@ pub fn blocks_among_calls_stand_at_their_places()
     ensures stand { (pages : Pages) (ss : List BlockSpot) (behind : List ℕ) → AreAmongCalls pages ss behind → StandAmongCalls pages ss behind }
     ensures again { (pages : Pages) (ss rs : List BlockSpot) (behind : List ℕ) → AreAmongCalls pages ss behind → AreRetyped ss rs
         → AreAmongCalls pages rs behind }
+{}
+
+/// And such blocks may hold calls, too. By what their calls give, each is a block of its own, at a place of the page's tree;
+/// what is written in them beside their calls doesn't move it, and all else is the same. With such contents it is such a
+/// page again. A content that calls nothing is such a content in each folder, and a page whose blocks call nothing is such
+/// a page.
+pub fn blocks_with_calls_stand_at_their_places()
+    ensures stand { (pages : Pages) (ss : List BlockSpot) (behind : List ℕ) → AreCallingBlocks pages ss behind → CallingBlocksStand pages ss behind }
+    ensures again { (pages : Pages) (ss rs : List BlockSpot) (behind : List ℕ) → AreCallingBlocks pages ss behind → AreEdited pages ss rs
+        → AreCallingBlocks pages rs behind }
+    ensures content { (pages : Pages) (k : TextBlock) (q : List ℕ) → IsContent k q → CallsNothing (block_items k q) → IsContentIn pages k q }
+    ensures calm { (pages : Pages) (ss : List BlockSpot) (behind : List ℕ) → AreAmongCalls pages ss behind → AreCallingBlocks pages ss behind }
 {}
 
 /// A page that calls nothing (`AreContentSpots`) is such a page, too.

@@ -29,6 +29,7 @@ use Rattle.wt_called_edit_laws.specs.Parts.{AreCalled}
 use Rattle.wt_joined_calls.specs.Expanded.{part_items}
 use Rattle.wt_text_edit_laws.proofs.Blocks.BlockReading.{content_read}
 use Rattle.wt_called_edit_laws.proofs.Parts.NoCallsCalled.{calm_anywhere}
+use Rattle.wt_called_edit_laws.proofs.Cells.ContentItems.{content_items}
 use Rattle.wt_called_edit_laws.specs.CalledBlocks.{spots_among, items_behind, CallNothing, AreAmongCalls}
 use Rattle.wt_called_edit_laws.specs.ItemSpots.{ArePlaced}
 use Rattle.wt_called_edit_laws.proofs.Cells.AnyCases.{a_spot, typed_a}
@@ -91,10 +92,10 @@ unfolding words closed form_at comment_len comment_line_len raw_len opening_tag 
     full_name_of whole_in cut_namespace title_in template_text begins_only ends_only loop_text depth_text absent_text
     utf8_valid_len is_utf8 chars encode link_to page_stretches expanded_page kind_of_signs
 placed_here = (
-  (block_content a_paragraph (codes "a") (inl typed_a), record { whole = refl; in_cells = (refl, tt); apart = refl }, typed_stays_text 1 (codes "a") typed_a),
+  (content_items a_paragraph (codes "a") (block_content a_paragraph (codes "a") (inl typed_a)), record { whole = refl; in_cells = (refl, tt); apart = refl }, typed_stays_text 1 (codes "a") typed_a),
   (refl, refl),
 )
 
 -- So texts may be typed in it.
 in_class : AreAmongCalls opens_table blocks_here (codes "\n|}")
-in_class = record { called = called_here; calm = calm_here; placed = placed_here }
+in_class = record { called = called_here; contents = (block_content a_paragraph (codes "a") (inl typed_a), tt); calm = calm_here; placed = placed_here }

@@ -12,24 +12,22 @@ use Rattle.wt_text_edit_laws.specs.TextBlocks.{TextBlock, source_of, block_items
 use Rattle.wt_text_edit_laws.proofs.Blocks.TypedBraces.{AreNewOver}
 use Rattle.wt_called_edit_laws.specs.Parts.{calls_to, called_items}
 use Rattle.wt_called_edit_laws.specs.Retyped.{AreRetyped}
-use Rattle.wt_called_edit_laws.proofs.Parts.NoCallsCalled.{PartsCalm, parts_calm, read_called, read_none_called, calm_items, calm_count}
+use Rattle.wt_called_edit_laws.proofs.Parts.NoCallsCalled.{PartsCalm, parts_calm, read_called, read_contents, read_none_called, calm_items, calm_count}
 use Rattle.wt_called_edit_laws.proofs.Parts.Retyped.{is_by_parts, firm_calm, same_round, new_over, blocks_over, typed_again}
 use Rattle.wt_called_edit_laws.specs.AnyBlocks.{AreSpots}
-use Rattle.wt_called_edit_laws.specs.ItemSpots.{ItemSpot, items_of_spots, placed_items, ArePlaced, AreContentSpots, SameItems, AreNewIn, AreContentsIn}
+use Rattle.wt_called_edit_laws.specs.ItemSpots.{ItemSpot, items_of_spots, placed_items, ArePlaced, AreContentSpots, SameItems, AreNewIn}
 use Rattle.wt_called_edit_laws.specs.CalledBlocks.{spots_among, items_behind, CallNothing, AreAmongCalls, tree_by, counted, StandAmongCalls}
-use Rattle.wt_called_edit_laws.proofs.Cells.ItemFrames.{placed_blocks, counted_in, items_over, items_framed}
+use Rattle.wt_called_edit_laws.proofs.Cells.ItemFrames.{counted_in, items_over, items_framed}
+use Rattle.wt_called_edit_laws.proofs.Cells.ContentItems.{round_is, tree_is, over_items}
+use Rattle.wt_called_edit_laws.specs.CalledContents.{items_round}
 use Rattle.wt_called_edit_laws.proofs.Cells.SpotFrames.{parts_placed}
 use Rattle.wt_called_edit_laws.proofs.Cells.SpotRows.{trees_by}
 use Rattle.wt_called_edit_laws.proofs.Cells.SpotsRead.{parts_read}
 
 -- ---- the blocks' contents
 
-contents_from : (pages : Pages) (k : ℕ) (ss : List BlockSpot) → AreContentsIn (spots_among pages k ss) → AreContents ss
-contents_from pages k [] h = tt
-contents_from pages k (s ∷ ss) h = (h.0, contents_from pages (k + calls_in pages s.before) ss h.1)
-
 pub among_contents : (pages : Pages) (ss : List BlockSpot) (behind : List ℕ) → AreAmongCalls pages ss behind → AreContents ss
-among_contents pages ss behind h = contents_from pages 0 ss (placed_blocks (spots_among pages 0 ss) (items_behind pages 0 ss behind) h.placed)
+among_contents pages ss behind h = h.contents
 
 text_calm : (k : TextBlock) (was now : List ℕ) → (now ≡ was) ⊎ IsNewContent k was now → CallsNothing (block_items k was) → CallsNothing (block_items k now)
 text_calm k was now (inl e) h = subst (λ q. CallsNothing (block_items k q)) (sym e) h
@@ -52,8 +50,8 @@ called_are pages k (s ∷ ss) behind b c =
     let n : ℕ = calls_to pages k s in
     let calm : CallsNothing (page_items bs) = subst CallsNothing (sym b.0.unended) c.0 in
     ap (λ (xs : List Item). part_items pages k s.before ++ xs)
-    (ap₂ (λ (xs : List Item) (j : ℕ). xs ++ called_items pages j ss behind) (calm_items pages n bs calm ∙ b.0.unended) (calm_count pages n bs calm)
-    ∙ ap (λ (xs : List Item). block_items s.block s.text ++ xs) (called_are pages n ss behind b.1 c.1))
+    (ap₂ (λ (xs : List Item) (j : ℕ). xs ++ called_items pages j ss behind) (calm_items pages n bs calm ∙ b.0.unended ∙ round_is s.block s.text) (calm_count pages n bs calm)
+    ∙ ap (λ (xs : List Item). items_round s.block (page_items s.text) ++ xs) (called_are pages n ss behind b.1 c.1))
 
 same_among : (pages : Pages) (k : ℕ) (ss rs : List BlockSpot) → SameRound ss rs → SameItems (spots_among pages k ss) (spots_among pages k rs)
 same_among pages k [] [] e = tt
@@ -76,7 +74,7 @@ same_behind pages k (s ∷ ss) (r ∷ rs) behind e =
 new_among : (pages : Pages) (k j : ℕ) (ss rs : List BlockSpot) → AreNewOver ss rs → AreNewIn (spots_among pages k ss) (spots_among pages j rs)
 new_among pages k j [] rs o = tt
 new_among pages k j (s ∷ ss) [] o = tt
-new_among pages k j (s ∷ ss) (r ∷ rs) o = (o.0, new_among pages (k + calls_in pages s.before) (j + calls_in pages r.before) ss rs o.1)
+new_among pages k j (s ∷ ss) (r ∷ rs) o = (over_items r.block s.text r.text o.0, new_among pages (k + calls_in pages s.before) (j + calls_in pages r.before) ss rs o.1)
 
 counted_same : (pages : Pages) (k : ℕ) (ss : List BlockSpot) → counted_in (spots_among pages k ss) ≡ counted ss
 counted_same pages k [] = refl
@@ -84,7 +82,7 @@ counted_same pages k (s ∷ ss) = ap (λ (ns : List ℕ). 0 ∷ map suc ns) (cou
 
 trees_same : (pages : Pages) (k : ℕ) (ss : List BlockSpot) (i : ℕ) → tree_by ss i ≡ trees_by (spots_among pages k ss) i
 trees_same pages k [] i = refl
-trees_same pages k (s ∷ ss) zero = refl
+trees_same pages k (s ∷ ss) zero = tree_is s.block s.text
 trees_same pages k (s ∷ ss) (suc i) = trees_same pages (k + calls_in pages s.before) ss i
 
 pub stand_among : (pages : Pages) (ss : List BlockSpot) (behind : List ℕ) → AreAmongCalls pages ss behind → StandAmongCalls pages ss behind
@@ -111,6 +109,7 @@ again_among pages ss rs behind h t =
     let e : SameRound ss rs = same_round ss rs t in
     record {
       called = again.called;
+      contents = blocks_over ss rs t h.contents;
       calm = calm_over ss rs t h.calm;
       placed = subst (ArePlaced (spots_among pages 0 rs)) (sym (same_behind pages 0 ss rs behind e))
           (items_over (spots_among pages 0 ss) (spots_among pages 0 rs) (items_behind pages 0 ss behind) h.placed (same_among pages 0 ss rs e)
@@ -122,9 +121,9 @@ again_among pages ss rs behind h t =
 pub calm_among : (pages : Pages) (k : ℕ) (ss : List BlockSpot) (behind : List ℕ) → PartsCalm ss behind → spots_among pages k ss ≡ items_of_spots ss
 calm_among pages k [] behind h = refl
 calm_among pages k (s ∷ ss) behind h =
-    let own : ItemSpot = record { before = part_items pages k s.before; block = s.block; text = s.text } in
+    let own : ItemSpot = record { before = part_items pages k s.before; block = s.block; content = page_items s.text } in
     ap (λ (n : ℕ). own ∷ spots_among pages n ss) (calm_count pages k s.before h.0)
-    ∙ ap₂ (λ (xs : List Item) (rs : List ItemSpot). record { before = xs; block = s.block; text = s.text } ∷ rs) (calm_items pages k s.before h.0)
+    ∙ ap₂ (λ (xs : List Item) (rs : List ItemSpot). record { before = xs; block = s.block; content = page_items s.text } ∷ rs) (calm_items pages k s.before h.0)
     (calm_among pages k ss behind h.1)
 
 calm_behind : (pages : Pages) (k : ℕ) (ss : List BlockSpot) (behind : List ℕ) → PartsCalm ss behind → items_behind pages k ss behind ≡ page_items behind
@@ -137,6 +136,7 @@ contents_among_calls pages ss behind h =
     let c : PartsCalm ss behind = parts_calm ss behind h.read in
     record {
       called = read_called pages ss behind h.read;
+      contents = read_contents ss behind h.read;
       calm = read_none_called ss behind h.read;
       placed = subst (λ rs. ArePlaced rs (items_behind pages 0 ss behind)) (sym (calm_among pages 0 ss behind c))
           (subst (ArePlaced (items_of_spots ss)) (sym (calm_behind pages 0 ss behind c)) h.placed);

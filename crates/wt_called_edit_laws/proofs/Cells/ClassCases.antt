@@ -69,6 +69,7 @@ use Rattle.wt_beside_laws.proofs.Styled.WithoutStyles.{flat_content}
 use Rattle.wt_called_edit_laws.specs.CalledBlocks.{spots_among, items_behind, CallNothing}
 use Rattle.wt_text_edit_laws.proofs.Blocks.BlockReading.{content_read}
 use Rattle.wt_called_edit_laws.proofs.Parts.NoCallsCalled.{calm_anywhere}
+use Rattle.wt_called_edit_laws.proofs.Cells.ContentItems.{content_items}
 use Rattle.wt_called_edit_laws.specs.Covered.{IsBeside, IfGroup, NoGroupAt, NoneGroupAt, IsEditablePage}
 use Rattle.wt_called_edit_laws.specs.Groups.{called_tree}
 use Rattle.wt_called_edit_laws.specs.InCells.{AreTextLines}
@@ -208,10 +209,10 @@ unfolding words closed form_at comment_len comment_line_len raw_len opening_tag 
     full_name_of whole_in cut_namespace title_in template_text begins_only ends_only loop_text depth_text absent_text
     utf8_valid_len is_utf8 chars encode link_to page_stretches expanded_page kind_of_signs
 placed_here = (
-  (title_content, record { whole = refl; in_cells = tt; apart = tt }, tt),
+  (content_items (a_heading (spaced 2)) (codes "h") title_content, record { whole = refl; in_cells = tt; apart = tt }, tt),
   (
     (refl, tt),
-    (break_content, record { whole = refl; in_cells = (refl, tt); apart = refl }, stays_text),
+    (content_items a_paragraph (codes "x<br>y") break_content, record { whole = refl; in_cells = (refl, tt); apart = refl }, stays_text),
     (refl, refl),
   ),
 )
@@ -261,7 +262,7 @@ no_group_of_cell = refl
 -- So both may be edited.
 pub in_class : IsEditablePage a_word (a_title ∷ in_a_cell ∷ []) behind
 in_class = record {
-  among = record { called = called_here; calm = calm_here; placed = placed_here };
+  among = record { called = called_here; contents = (title_content, (break_content, tt)); calm = calm_here; placed = placed_here };
   unrefused = unrefused_here;
   in_no_group = (
     clear_node 7 (called_tree a_word whole_page) no_group_of_title,

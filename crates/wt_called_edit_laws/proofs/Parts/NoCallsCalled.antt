@@ -28,7 +28,7 @@ none_front [] ys h = tt
 none_front (opening ∷ xs) ys h = none_front xs ys h
 none_front (closing ∷ xs) ys h = absurd h
 
-pairs_front : (xs ys : List Brace) → NonePairs (xs ++ ys) → NonePairs xs
+pub pairs_front : (xs ys : List Brace) → NonePairs (xs ++ ys) → NonePairs xs
 pairs_front [] ys h = tt
 pairs_front (opening ∷ xs) ys h = none_front xs ys h
 pairs_front (closing ∷ xs) ys h = pairs_front xs ys h
@@ -118,6 +118,10 @@ read_called pages (s ∷ ss) behind h =
         apart = pairs_some (all_left (s ∷ ss) behind) (braces_of (spots_items (s ∷ ss) behind)) c.left n;
       },
     )
+
+pub read_contents : (ss : List BlockSpot) (behind : List ℕ) → AreRead ss behind → AreContents ss
+read_contents [] behind h = absurd h
+read_contents (s ∷ ss) behind h = (h.0.block, contents_after ss behind h.1)
 
 pub read_none_called : (ss : List BlockSpot) (behind : List ℕ) → AreRead ss behind → CallNothing ss
 read_none_called [] behind h = absurd h
