@@ -3,3 +3,4 @@ pub mod Joined
 pub mod Ends
 pub mod Reads
 pub mod Signs
+pub mod Held

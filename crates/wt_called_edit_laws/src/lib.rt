@@ -58,6 +58,10 @@ ghost use Rattle.wt_guards.specs.Content.{ContentSign};
 ghost use Rattle.wt_guards.specs.Guards.{Setting, spelled};
 ghost use Rattle.wt_text_edit_laws.specs.ReadContents.{IsFirmlyRead};
 ghost use Rattle.wt_beside_laws.specs.Content.{content_items};
+ghost use Rattle.wt_joined_calls.specs.Expanded.{part_items};
+ghost use Rattle.wt_called_trees.specs.HeldCalls.{HoldsItsCalls};
+ghost use Rattle.wt_beside_laws.specs.Called.{items_with, owns_in, IsCalledIn};
+ghost use Rattle.wt_called_edit_laws.specs.CalledContents.{tree_round};
 
 /// A page with blocks among calls, and with calls in them, none of which goes over the end of a part, is expanded part by
 /// part: its items are those of what stands before, between and behind the blocks, and of the blocks, with the numbers that
@@ -171,6 +175,15 @@ pub fn blocks_with_calls_stand_at_their_places()
         → AreCallingBlocks pages rs behind }
     ensures content { (pages : Pages) (k : TextBlock) (q : List ℕ) → IsContent k q → CallsNothing (block_items k q) → IsContentIn pages k q }
     ensures calm { (pages : Pages) (ss : List BlockSpot) (behind : List ℕ) → AreAmongCalls pages ss behind → AreCallingBlocks pages ss behind }
+{}
+
+/// What is written for texts beside calls that give words (`IsCalledIn` of `wt_beside_laws`) gives the words of these calls, and between them the texts as
+/// they are spelled, and as a paragraph it holds its calls, however many calls come before it in the page.
+pub fn written_paragraphs_hold_their_calls()
+    ensures gives { (pages : Pages) (i : ℕ) (s : Setting) (signs : List ContentSign) → IsCalledIn pages s signs → AreReadThings signs → AreOwnParts pages signs
+        → part_items pages i (spelled s signs) ≡ items_with s [] signs (owns_in pages i signs) }
+    ensures holds { (pages : Pages) (i : ℕ) (s : Setting) (signs : List ContentSign) → IsCalledIn pages s signs → AreReadThings signs → AreOwnParts pages signs
+        → HoldsItsCalls (tree_round a_paragraph (part_items pages i (spelled s signs))) }
 {}
 
 /// A page that calls nothing (`AreContentSpots`) is such a page, too.
