@@ -24,7 +24,7 @@ ghost use Rattle.wt_text_edit_laws.specs.TypedPages.{IsTypedPage};
 ghost use Rattle.wt_called_edit_laws.specs.AnyBlocks.{AreSpots, AllLead};
 ghost use Rattle.wt_called_edit_laws.specs.AnyTexts.{TakesAnyTexts};
 ghost use Rattle.wt_called_edit_laws.specs.ItemSpots.{AreContentSpots};
-ghost use Rattle.wt_called_edit_laws.specs.CalledBlocks.{AreAmongCalls, StandAmongCalls};
+ghost use Rattle.wt_called_edit_laws.specs.CalledBlocks.{AreAmongCalls, counted, StandAmongCalls};
 ghost use Rattle.wt_called_edit_laws.specs.CellEdits.{CellPage, page_with, IsCellPage, IsCellEdit, LeadsFrom, TakesText, own_sents};
 ghost use Rattle.wt_called_edit_laws.specs.HeadingsInCells.{IsHeadingInCell, HeadingStandsInCell};
 ghost use Rattle.wt_called_edit_laws.specs.UnmarkedCells.{TakesUnmarked};
@@ -50,7 +50,9 @@ ghost use Rattle.wt_called_edit_laws.specs.EditsAt.{Fits, AllStand};
 ghost use Rattle.wt_called_edit_laws.specs.Settled.{IsSettled};
 ghost use Rattle.wt_called_edit_laws.specs.SettledPages.{OnlyTextsAreOthers};
 ghost use Rattle.wt_called_edit_laws.specs.Covered.{CleanWhereFree, IsEditablePage};
-ghost use Rattle.wt_called_edit_laws.specs.CallingBlocks.{IsContentIn, AreEdited, AreCallingBlocks, CallingBlocksStand};
+ghost use Rattle.wt_called_edit_laws.specs.CallingBlocks.{IsContentIn, AreEdited, AreCallingBlocks, tree_with_calls, CallingBlocksStand};
+ghost use Rattle.wt_called_edit_laws.specs.CallingGroups.{AreCallingOutside, CallingGroupsStay};
+ghost use Rattle.wt_called_trees.specs.HeldCalls.{AllHold};
 ghost use Rattle.wt_text_edit_laws.specs.Contents.{IsContent};
 ghost use Rattle.wt_text_edit_laws.specs.NoCalls.{CallsNothing};
 ghost use Rattle.wt_called_edit_laws.specs.Written.{AreReadThings, AreOwnParts, written_items, written_calls, written_work, IsWrittenAs};
@@ -198,6 +200,15 @@ pub fn groups_stay_round_typed_texts()
     ensures again { (pages : Pages) (ss rs : List BlockSpot) (behind : List ℕ) → AreOutsideGroups pages ss behind → AreRetyped ss rs
         → AreOutsideGroups pages rs behind }
     ensures stay { (pages : Pages) (ss : List BlockSpot) (behind : List ℕ) → AreOutsideGroups pages ss behind → GroupsStayAmong pages ss behind }
+{}
+
+/// And so it is where the blocks hold calls (`AreCallingOutside`): whatever is written in them beside their calls, the page's
+/// tree has the same groups round them and the same other nodes; each call of a block is a group in it. With such contents it
+/// is such a page again.
+pub fn groups_stay_round_blocks_that_call()
+    ensures stay { (pages : Pages) (ss : List BlockSpot) (behind : List ℕ) → AreCallingOutside pages ss behind → CallingGroupsStay pages ss behind }
+    ensures again { (pages : Pages) (ss rs : List BlockSpot) (behind : List ℕ) → AreCallingOutside pages ss behind → AreEdited pages ss rs
+        → AllHold (tree_with_calls pages 0 rs) (counted rs) → AreCallingOutside pages rs behind }
 {}
 
 /// No call of such a page that is text shares a byte with one of the blocks.
