@@ -4,3 +4,4 @@ pub mod Ends
 pub mod Reads
 pub mod Signs
 pub mod Held
+pub mod NewContents

@@ -50,7 +50,7 @@ ghost use Rattle.wt_called_edit_laws.specs.EditsAt.{Fits, AllStand};
 ghost use Rattle.wt_called_edit_laws.specs.Settled.{IsSettled};
 ghost use Rattle.wt_called_edit_laws.specs.SettledPages.{OnlyTextsAreOthers};
 ghost use Rattle.wt_called_edit_laws.specs.Covered.{CleanWhereFree, IsEditablePage};
-ghost use Rattle.wt_called_edit_laws.specs.CallingBlocks.{IsContentIn, AreEdited, AreCallingBlocks, tree_with_calls, CallingBlocksStand};
+ghost use Rattle.wt_called_edit_laws.specs.CallingBlocks.{IsContentIn, IsNewContentIn, AreEdited, AreCallingBlocks, tree_with_calls, CallingBlocksStand};
 ghost use Rattle.wt_called_edit_laws.specs.CallingGroups.{AreCallingOutside, CallingGroupsStay};
 ghost use Rattle.wt_called_trees.specs.HeldCalls.{AllHold};
 ghost use Rattle.wt_text_edit_laws.specs.Contents.{IsContent};
@@ -64,6 +64,7 @@ ghost use Rattle.wt_joined_calls.specs.Expanded.{part_items};
 ghost use Rattle.wt_called_trees.specs.HeldCalls.{HoldsItsCalls};
 ghost use Rattle.wt_beside_laws.specs.Called.{items_with, owns_in, IsCalledIn};
 ghost use Rattle.wt_called_edit_laws.specs.CalledContents.{tree_round};
+ghost use Rattle.wt_called_edit_laws.specs.WrittenAnew.{node_sources, StayButForOthers, IsWrittenBeside};
 
 /// A page with blocks among calls, and with calls in them, none of which goes over the end of a part, is expanded part by
 /// part: its items are those of what stands before, between and behind the blocks, and of the blocks, with the numbers that
@@ -186,6 +187,14 @@ pub fn written_paragraphs_hold_their_calls()
         → part_items pages i (spelled s signs) ≡ items_with s [] signs (owns_in pages i signs) }
     ensures holds { (pages : Pages) (i : ℕ) (s : Setting) (signs : List ContentSign) → IsCalledIn pages s signs → AreReadThings signs → AreOwnParts pages signs
         → HoldsItsCalls (tree_round a_paragraph (part_items pages i (spelled s signs))) }
+{}
+
+/// Such a paragraph is a content in a folder, as it is written, and is a new one in the place of any other such paragraph whose nodes it has, in their order:
+/// each that calls stays, and any other may go (`StayButForOthers`). So any texts may be typed beside these calls.
+pub fn paragraphs_beside_calls_may_be_written_anew()
+    ensures content { (pages : Pages) (s : Setting) (signs : List ContentSign) → IsWrittenBeside pages s signs → IsContentIn pages a_paragraph (spelled s signs) }
+    ensures anew { (pages : Pages) (s : Setting) (t : Setting) (olds signs : List ContentSign) → IsWrittenBeside pages s olds → IsWrittenBeside pages t signs
+        → StayButForOthers pages (node_sources olds) (node_sources signs) → IsNewContentIn pages a_paragraph (spelled s olds) (spelled t signs) }
 {}
 
 /// A page that calls nothing (`AreContentSpots`) is such a page, too.
