@@ -5,3 +5,4 @@ pub mod Reads
 pub mod Signs
 pub mod Held
 pub mod NewContents
+pub mod Cases
