@@ -1,16 +1,22 @@
 -- Where contents are written in blocks that hold calls, beside these calls, the groups of the page and its other nodes stay.
-use Rattle.std.proofs.Common.{◌≡◌, ◌⊎◌, inl, inr, ℕ, None, List, [], ◌∷◌, ◌++◌, refl, sym, ap, ◌∙◌, subst}
+use Rattle.std.proofs.Common.{◌≡◌, ◌⊎◌, inl, inr, ℕ, zero, suc, None, List, [], ◌∷◌, ◌++◌, refl, sym, ap, ◌∙◌, subst}
 use Rattle.wt_span.specs.Origins.{OuterCall}
 use Rattle.wt_expand.specs.Work.{Pages, Entry}
 use Rattle.wt_expand.specs.PageCalls.{expanded_page}
 use Rattle.wt_annotated.specs.Annotated.{annotated}
 use Rattle.wt_annotated.specs.GroupData.{group_data}
 use Rattle.wt_inline.specs.ItemTree.{ItemTree}
-use Rattle.wt_moved_laws.specs.Placeless.{placeless}
+use Rattle.wt_span.specs.Items.{Item}
+use Rattle.wt_checks.specs.Kept.{children}
+use Rattle.wt_joined_calls.specs.Expanded.{part_items}
+use Rattle.wt_moved_laws.specs.Placeless.{placeless, all_placeless}
+use Rattle.wt_called_edit_laws.specs.CalledContents.{tree_round}
+use Rattle.wt_called_edit_laws.specs.Nodes.{IsBlock, AreBlocks, NodesStayRound}
+use Rattle.wt_called_edit_laws.proofs.CutFrames.{nodes_stay_round}
 use Rattle.wt_row_laws.specs.Frames.{Frames, all_places, content}
 use Rattle.wt_text_edit_laws.specs.BlockSpots.{BlockSpot, spots_source, SameRound}
 use Rattle.wt_text_edit_laws.specs.ReadContents.{IsReadAnew}
-use Rattle.wt_text_edit_laws.specs.TextBlocks.{TextBlock, source_of}
+use Rattle.wt_text_edit_laws.specs.TextBlocks.{TextBlock, a_paragraph, a_heading, source_of}
 use Rattle.wt_called_trees.specs.HeldCalls.{AllHold, GroupsStayRound}
 use Rattle.wt_called_trees.specs.MovedCalls.{AreMoved}
 use Rattle.wt_called_trees.specs.Rounded.{HaveSameData}
@@ -18,8 +24,8 @@ use Rattle.wt_called_trees.proofs.GroupsStay.{groups_stay_round}
 use Rattle.wt_called_trees.proofs.MovedData.{moved_data}
 use Rattle.wt_called_edit_laws.specs.CalledBlocks.{counted}
 use Rattle.wt_called_edit_laws.specs.CallingBlocks.{IsNewContentIn, AreEdited, AreCallingBlocks, tree_with_calls, CallingBlocksStand}
-use Rattle.wt_called_edit_laws.specs.CallingGroups.{AreCallingOutside, CallingGroupsStay}
-use Rattle.wt_called_edit_laws.specs.Parts.{called_outers, work_in}
+use Rattle.wt_called_edit_laws.specs.CallingGroups.{AreCallingOutside, CallingGroupsStay, CallingNodesStay}
+use Rattle.wt_called_edit_laws.specs.Parts.{calls_to, calls_past, called_outers, work_in}
 use Rattle.wt_called_edit_laws.specs.Retyped.{AreSomeOf, IsPartAnew}
 use Rattle.wt_called_edit_laws.proofs.Cells.CallingFrames.{edited_anew, calling_again}
 use Rattle.wt_called_edit_laws.proofs.Cells.SpotTrees.{counted_same}
@@ -82,6 +88,39 @@ calling_groups pages ss behind h =
           let others : List OuterCall = (expanded_page pages (spots_source rs behind)).outer in
           ap (λ m. placeless (annotated others (group_data others) m)) (h.stand.means rs t)
           ∙ g.stay others (tree_with_calls pages 0 rs) (calls_kept pages ss rs behind h.blocks t) (held_there pages ss rs behind h.stand t o);
+    }
+
+-- ---- its nodes
+
+is_block : (k : TextBlock) (xs : List Item) → IsBlock (tree_round k xs)
+is_block a_paragraph xs = inl refl
+is_block (a_heading s) xs = inr (s.level, refl)
+
+tree_is_block : (pages : Pages) (k : ℕ) (ss : List BlockSpot) (n : ℕ) → IsBlock (tree_with_calls pages k ss n)
+tree_is_block pages k [] n = inl refl
+tree_is_block pages k (s ∷ ss) zero = is_block s.block (part_items pages (calls_to pages k s) s.text)
+tree_is_block pages k (s ∷ ss) (suc n) = tree_is_block pages (calls_past pages k s) ss n
+
+all_blocks : (pages : Pages) (ss : List BlockSpot) (ns : List ℕ) → AreBlocks (tree_with_calls pages 0 ss) ns
+all_blocks pages ss [] = tt
+all_blocks pages ss (n ∷ ns) = (tree_is_block pages 0 ss n, all_blocks pages ss ns)
+
+pub calling_nodes : (pages : Pages) (ss : List BlockSpot) (behind : List ℕ) → AreCallingOutside pages ss behind → CallingNodesStay pages ss behind
+calling_nodes pages ss behind h =
+    let fs : Frames = h.stand.frames in
+    let calls : List OuterCall = (expanded_page pages (spots_source ss behind)).outer in
+    let n : NodesStayRound calls fs =
+    nodes_stay_round calls fs (tree_with_calls pages 0 ss) h.stand.of_cells (held_there pages ss ss behind h.stand (edited_self pages ss) h.hold) h.clean in
+    record {
+      nodes = n.nodes;
+      in_order = n.in_order ∙ h.stand.in_order;
+      inner_nodes = n.inner_nodes;
+      holders = n.holders;
+      stay = λ rs t o.
+          let others : List OuterCall = (expanded_page pages (spots_source rs behind)).outer in
+          ap (λ m. all_placeless (children (annotated others (group_data others) m))) (h.stand.means rs t)
+          ∙ n.stay others (tree_with_calls pages 0 rs) (calls_kept pages ss rs behind h.blocks t) (held_there pages ss rs behind h.stand t o)
+          (all_blocks pages rs (all_places fs));
     }
 
 -- ---- contents that are written after others

@@ -62,9 +62,10 @@ pub fn calls_take_texts_in_cells()
     ensures { (c : Call) (ended : ℕ) → Ends c ended → EndsAsEdit c ended → TakesTextsInCells c ended }
 {}
 
-/// Such a call takes paragraphs that come into a page of typed paragraphs and go from it (`IsProseChange`): `edit` has
-/// written the page with those that stay and the new ones, and no line; or a device failed, or memory ran out.
+/// Every such call takes paragraphs that come into a page of typed paragraphs and go from it (`IsProseChange`): `edit` has
+/// written the page with those that stay and the new ones, and no line, and `selser` is done; or a device failed, or
+/// memory ran out.
 #[tactic(auto, using(crate::proofs::ProseCalls::calls_take_changes))]
 pub fn calls_take_changed_prose()
-    ensures { (c : Call) (ended : ℕ) → Ends c ended → TakesChangedProse c ended }
+    ensures { (c : Call) (ended : ℕ) → Ends c ended → EndsAsEdit c ended → TakesChangedProse c ended }
 {}

@@ -47,9 +47,10 @@ pub fn run<S: Source, F: Folder, W: Sink, E: Sink>(
         (fetched_from F.Folder folder.old folder.new) (written_to W.Sink out.old out.new)
         (written_to E.Sink err.old err.new)) result }
 
-    // Paragraphs that come and go are taken, on a page of typed paragraphs with empty lines between them: where a call of
-    // `edit` sends some of these as they are, in their order, and any number of new ones with any texts (`IsProseChange` of
-    // `wt_text_edit_laws`), the page with these was written, and no line; or a device failed, or memory ran out.
+    // Paragraphs that come and go are taken, on a page of typed paragraphs with empty lines between them: where a call sends
+    // some of these as they are, in their order, and any number of new ones with any texts (`IsProseChange` of
+    // `wt_text_edit_laws`), it is done, and with `edit` the page with these was written, and no line; or a device failed, or
+    // memory ran out.
     ensures takes_changed_prose { TakesChangedProse (call words.now (read_from S.Source input.old input.new)
         (fetched_from F.Folder folder.old folder.new) (written_to W.Sink out.old out.new)
         (written_to E.Sink err.old err.new)) result }

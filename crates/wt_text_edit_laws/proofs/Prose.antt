@@ -15,5 +15,6 @@ pub mod ChangesSteps
 pub mod ChangesMake
 pub mod ChangesText
 pub mod ChangesTaken
+pub mod ChangesUnmarked
 mod Cases
 mod ChangeCases

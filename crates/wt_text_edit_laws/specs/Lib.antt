@@ -8,6 +8,7 @@ pub mod ProseTrees
 pub mod ProseEdits
 pub mod ProseUnmarked
 pub mod ProseChanges
+pub mod UnmarkedChanges
 pub mod NoCalls
 pub mod PlainGroups
 pub mod TextBetween
@@ -24,3 +25,4 @@ pub mod BlockEdits
 pub mod UnmarkedBlocks
 pub mod OwnNodes
 pub mod PageCuts
+pub mod BodyParagraphs

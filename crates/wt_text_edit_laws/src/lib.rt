@@ -52,6 +52,7 @@ ghost use Rattle.wt_text_edit_laws.specs.ProseTrees.{prose_page};
 ghost use Rattle.wt_text_edit_laws.specs.ProseUnmarked.{unmarked_prose, IsUnmarkedEdit};
 ghost use Rattle.wt_text_edit_laws.specs.ProseEdits.{PassageEdit, old_passages, new_passages, sent_prose, IsProseEdit};
 ghost use Rattle.wt_text_edit_laws.specs.ProseChanges.{ProseChange, passages_before, changed_prose, passages_changed, IsProseChange};
+ghost use Rattle.wt_text_edit_laws.specs.UnmarkedChanges.{unmarked_change, IsUnmarkedChange};
 ghost use Rattle.wt_text_edit_laws.specs.NoCalls.{CallsNothing};
 ghost use Rattle.wt_text_edit_laws.specs.PlainGroups.{IsPlainLine, AreOneText, HavePlainGroups};
 ghost use Rattle.wt_text_edit_laws.specs.TextBetween.{AreWholeLines, AreEnded, HasEndsBefore, BeginsShown, StandsBefore, StandsBehind};
@@ -66,7 +67,10 @@ ghost use Rattle.wt_text_edit_laws.specs.UnmarkedBlocks.{unmarked_page, IsUnmark
 
 mod cut_pages;
 
-pub use cut_pages::{parts_of_a_page_are_read_by_themselves, settled_parts_have_ends};
+pub use cut_pages::{
+    paragraphs_of_the_body_are_lines_of_text, parts_of_a_page_are_read_by_themselves,
+    settled_parts_have_ends,
+};
 
 // ---- a typed text, and a page that is one paragraph
 
@@ -229,6 +233,16 @@ pub fn paragraphs_come_and_go()
         → length input ≤ HTML_BYTES → read input ≡ as_page (changed_prose b c) unsourced
         → answer_told (Some pages) (Some input) words ≡ Some (done (prose (passages_changed c))) }
     ensures again { (c : ProseChange) → IsProseChange c → IsProsePage (prose (passages_changed c)) }
+{}
+
+/// Without marks, too, as a browser sends it: where a paragraph comes or goes, `edit` of the difference is done, whatever
+/// mark is on the body. So `selser`, which is never refused then (`run` promises that), takes it.
+#[tactic(auto, using(crate::proofs::Prose::ChangesUnmarked::unmarked_done))]
+pub fn unmarked_changes_of_prose_are_taken()
+    ensures { (pages : Pages) (c : ProseChange) (stands : Option (List ℕ)) (input : List ℕ) (b : Label) (unsourced : Option ℕ)
+        → IsUnmarkedChange c → stands ≡ Some (prose (passages_before c.changes)) → length (prose (passages_before c.changes)) ≤ PAGE_BYTES
+        → length (prose (passages_changed c)) ≤ PAGE_BYTES → length input ≤ HTML_BYTES
+        → read input ≡ as_page (unmarked_change b c) unsourced → DoneByEdit pages stands input }
 {}
 
 // ---- braces that make no call

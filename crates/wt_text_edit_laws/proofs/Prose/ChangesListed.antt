@@ -169,7 +169,7 @@ unfolding label_at
 rest_sent zero m after cs ts h = h
 rest_sent (suc k) m after cs ts h = h
 
-later : (n k : ℕ) (before : List Item) (p : Passage) → 1 ≤ n → 1 ≤ number_after k (number_past n before p) (items_past before p)
+pub later : (n k : ℕ) (before : List Item) (p : Passage) → 1 ≤ n → 1 ≤ number_after k (number_past n before p) (items_past before p)
 later n k before p le =
     let a : suc n ≤ number_past n before p = past_more n before p in
     let b : number_past n before p ≤ number_after k (number_past n before p) (items_past before p) = after_least k (number_past n before p) (items_past before p) in

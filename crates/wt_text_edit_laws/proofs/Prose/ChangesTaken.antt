@@ -68,7 +68,7 @@ facts_of ps h =
     let h : AreProse (old_passages (as_kept ps)) = subst AreProse (sym (as_they_are ps)) h in
     facts_all (page_items (prose ps)) (as_kept ps) h 1 [] (omega arith) refl
 
-unframed : (ps : List Passage) → AreProse ps → have_frame (blocks_from 1 [] ps) ≡ false
+pub unframed : (ps : List Passage) → AreProse ps → have_frame (blocks_from 1 [] ps) ≡ false
 unframed ps h = subst (λ (qs : List Passage). have_frame (blocks_from 1 [] qs) ≡ false) (as_they_are ps) (facts_of ps h).unframed
 
 ungrouped : (ps : List Passage) → AreProse ps → NoneIsGroup (blocks_from 1 [] ps)
@@ -76,19 +76,19 @@ ungrouped ps h = subst (λ (qs : List Passage). NoneIsGroup (blocks_from 1 [] qs
 
 -- ---- what is sent
 
-abbrev label_of : ProseChange → Label
+abbrev pub label_of : ProseChange → Label
 label_of c = body_label (passages_before c.changes)
 
-sent_is : (b : Label) (c : ProseChange) → changed_prose b c ≡ body_sent (label_of c) b (whole_coming c)
+pub sent_is : (b : Label) (c : ProseChange) → changed_prose b c ≡ body_sent (label_of c) b (whole_coming c)
 sent_is b c =
     ap (λ (us : Trees). tree (record b { kind = kind.Body; id = 0; attrs = []; mark = marks.Children; mw = None }) us) (sym (whole_sent c))
 
-stay_so : (c : ProseChange) → IsProseChange c → AreSentAsIs c.changes (blocks_from 1 [] (passages_before c.changes))
+pub stay_so : (c : ProseChange) → IsProseChange c → AreSentAsIs c.changes (blocks_from 1 [] (passages_before c.changes))
 stay_so c h =
     let ps : List Passage = passages_before c.changes in
     subst (λ t. AreSentAsIs c.changes (children t)) (prose_blocks ps (prose_written ps h.are_prose)) h.as_is
 
-opened_is : (pages : Pages) (c : ProseChange) (h : IsProseChange c)
+pub opened_is : (pages : Pages) (c : ProseChange) (h : IsProseChange c)
     → ungathered (expanded_page pages (prose (passages_before c.changes))).outer (expanded_page pages (prose (passages_before c.changes))).items
     ≡ body_before (label_of c) (whole_coming c)
 opened_is pages c h =
