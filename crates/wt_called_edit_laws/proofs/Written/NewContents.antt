@@ -1,15 +1,12 @@
 -- A paragraph of texts beside calls that give words, as it is written, is a content in a folder, and a new one in the place of another one whose nodes it has; those that don't call may go.
-use Rattle.std.proofs.Common.{◌≡◌, inl, inr, ℕ, ◌+◌, ◌==◌, Bool, true, false, None, List, [], ◌∷◌, ◌++◌, refl, sym, ap, ap₂, ◌∙◌, subst, append-nil, append_assoc, All}
+use Rattle.std.proofs.Common.{◌≡◌, inl, inr, ℕ, ◌+◌, ◌==◌, Bool, true, false, None, List, [], ◌∷◌, ◌++◌, refl, sym, ap, ap₂, ◌∙◌, subst, append-nil, append_assoc}
 use Rattle.std.specs.Prelude.{◌||◌, not, if◌then◌else◌}
 use Rattle.std.specs.Str.{IsUtf8}
-use Rattle.std.proofs.lemmas.List.Elements.{All-nil, All-cons, All-head, All-tail}
 use Rattle.std.proofs.lemmas.Str.{IsUtf8-append}
 use Rattle.wt_span.specs.Bytes.{is_blank, is_break}
 use Rattle.wt_span.specs.Items.{Item, char, whole}
 use Rattle.wt_span.specs.Origins.{OuterCall}
 use Rattle.wt_lines.specs.declared.kind.LineKind.TheVariants as line
-use Rattle.wt_lines.specs.Kinds.{line_kind}
-use Rattle.wt_lines.specs.Lines.{lines}
 use Rattle.wt_guards.specs.Content.{ContentSign, letter, thing}
 use Rattle.wt_guards.specs.Guards.{Setting, nowiki_if, is_guarded, spelled_from, spelled}
 use Rattle.wt_guards.specs.Letters.{is_escaped, written_by}
@@ -26,7 +23,7 @@ use Rattle.wt_text_edit_laws.proofs.Between.ClosingTags.{Unclosed, unclosed_behi
 use Rattle.wt_text_edit_laws.proofs.Prose.InFront.{Reads, reads_nothing, read_break, read_items}
 use Rattle.wt_beside_laws.specs.Called.{items_with, owns_in, shown_signs, BeginsWithText, IsCalledIn, IsCalledContent}
 use Rattle.wt_beside_laws.specs.Content.{letter_items, content_items}
-use Rattle.wt_beside_laws.specs.Lines.{AreCharacters, IsLineOfText}
+use Rattle.wt_beside_laws.specs.Lines.{AreCharacters}
 use Rattle.wt_beside_laws.specs.Stood.{things}
 use Rattle.wt_beside_laws.proofs.CalmContents.{guard_utf8, letter_utf8}
 use Rattle.wt_beside_laws.proofs.Each.{Each}
@@ -121,13 +118,6 @@ read_so pages s signs h =
 
 -- ---- and is lines of text, by what its calls give
 
-of_lines : (P Q : List Item → Type 0) → ((l : List Item) → P l → Q l) → (ls : List (List Item)) → All P ls → All Q ls
-of_lines P Q f [] h = All-nil Q
-of_lines P Q f (l ∷ ls) h = All-cons Q l ls (f l (All-head P l ls h)) (of_lines P Q f ls (All-tail P l ls h))
-
-kinds_of : (n : ℕ) (ls : List (List Item)) → All (IsLineOfText n) ls → All (λ l. line_kind n l ≡ line.Text) ls
-kinds_of n ls h = of_lines (IsLineOfText n) (λ l. line_kind n l ≡ line.Text) (λ l k. k.text) ls h
-
 given_items : (pages : Pages) (i : ℕ) (s : Setting) (signs : List ContentSign) → IsWrittenBeside pages s signs
     → part_items pages i (spelled s signs) ≡ items_with s [] (shown_signs pages signs) (owns_in pages i signs)
 given_items pages i s signs h = written_gives pages i s signs h.called h.read h.parts ∙ items_in pages i s signs h.called
@@ -135,7 +125,7 @@ given_items pages i s signs h = written_gives pages i s signs h.called h.read h.
 text_items : (s : Setting) (signs : List ContentSign) (owns : List (List Item)) → IsCalledContent s signs owns → AreTextItems (items_with s [] signs owns)
 text_items s signs owns h =
     let xs : List Item = items_with s [] signs owns in
-    record { are_lines = kinds_of 0 (lines xs) (called_lines 0 s signs owns h); unled = called_unled s signs owns h; own_breaks = items_own s [] signs owns h.given }
+    record { are_lines = called_lines 0 s signs owns h; unled = called_unled s signs owns h; own_breaks = items_own s [] signs owns h.given }
 
 pub content_in : (pages : Pages) (s : Setting) (signs : List ContentSign) → IsWrittenBeside pages s signs → IsContentIn pages a_paragraph (spelled s signs)
 content_in pages s signs h =
@@ -155,7 +145,7 @@ stays_so pages i n s signs h =
     let shown : List ContentSign = shown_signs pages signs in
     let owns : List (List Item) = owns_in pages i signs in
     subst (AreTextLines n) (sym (given_items pages i s signs h))
-    (kinds_of n (lines (items_with s [] shown owns)) (called_lines n s shown owns (called_in pages i s signs h.called)))
+    (called_lines n s shown owns (called_in pages i s signs h.called))
 
 -- ---- it closes no tag that the other one didn't close
 
