@@ -5,5 +5,6 @@ pub mod Levels
 pub mod Reads
 pub mod Signs
 pub mod Held
+pub mod AllHeld
 pub mod NewContents
 pub mod Cases

@@ -1,12 +1,17 @@
--- Paragraphs of texts beside calls that give words, as they are written.
+-- Paragraphs of texts beside calls that give words, as they are written; and blocks that hold their calls, however many come before.
 use Rattle.std.specs.Prelude.{◌≡◌, ◌⊎◌, ℕ, List, [], ◌∷◌}
 use Rattle.std.specs.Str.{IsUtf8}
 use Rattle.wt_guards.specs.Content.{ContentSign, letter, thing}
 use Rattle.wt_guards.specs.Guards.{Setting}
 use Rattle.wt_expand.specs.PageCalls.{expanded_page}
 use Rattle.wt_expand.specs.Work.{Pages}
+use Rattle.wt_joined_calls.specs.Expanded.{part_items}
+use Rattle.wt_called_trees.specs.HeldCalls.{HoldsItsCalls}
+use Rattle.wt_text_edit_laws.specs.BlockSpots.{BlockSpot}
+use Rattle.wt_text_edit_laws.specs.TextBlocks.{TextBlock}
 use Rattle.wt_beside_laws.specs.Called.{IsCalledIn}
 use Rattle.wt_beside_laws.specs.FlatBlocks.{AreSealed}
+use Rattle.wt_called_edit_laws.specs.CalledContents.{tree_round}
 use Rattle.wt_called_edit_laws.specs.Written.{AreReadThings, AreOwnParts}
 
 -- the sources of the nodes
@@ -35,3 +40,13 @@ pub record IsWrittenBeside (pages : Pages) (s : Setting) (signs : List ContentSi
   pub parts : AreOwnParts pages signs
   pub sealed : AreSealed signs
   pub utf8 : AreUtf8 (node_sources signs)
+
+-- ---- blocks that hold their calls
+
+-- wherever it is in the page, its calls are between items of the page
+abbrev pub HoldsAnywhere : Pages → TextBlock → List ℕ → Type 0
+HoldsAnywhere pages k q = (i : ℕ) → HoldsItsCalls (tree_round k (part_items pages i q))
+
+abbrev pub EachHolds : Pages → List BlockSpot → Type 0
+EachHolds pages [] = Unit {0}
+EachHolds pages (s ∷ ss) = HoldsAnywhere pages s.block s.text × EachHolds pages ss

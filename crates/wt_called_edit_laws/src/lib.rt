@@ -63,7 +63,7 @@ ghost use Rattle.wt_beside_laws.specs.Content.{content_items};
 ghost use Rattle.wt_joined_calls.specs.Expanded.{part_items};
 ghost use Rattle.wt_beside_laws.specs.Called.{items_with, owns_in, IsCalledIn};
 ghost use Rattle.wt_called_edit_laws.specs.CalledContents.{tree_round};
-ghost use Rattle.wt_called_edit_laws.specs.WrittenAnew.{node_sources, StayButForOthers, IsWrittenBeside};
+ghost use Rattle.wt_called_edit_laws.specs.WrittenAnew.{node_sources, StayButForOthers, IsWrittenBeside, HoldsAnywhere, EachHolds};
 
 mod body_paragraphs;
 
@@ -198,6 +198,15 @@ pub fn paragraphs_beside_calls_may_be_written_anew()
     ensures content { (pages : Pages) (s : Setting) (signs : List ContentSign) → IsWrittenBeside pages s signs → IsContentIn pages a_paragraph (spelled s signs) }
     ensures anew { (pages : Pages) (s : Setting) (t : Setting) (olds signs : List ContentSign) → IsWrittenBeside pages s olds → IsWrittenBeside pages t signs
         → StayButForOthers pages (node_sources olds) (node_sources signs) → IsNewContentIn pages a_paragraph (spelled s olds) (spelled t signs) }
+{}
+
+/// Blocks of which each holds its calls, however many come before it (`EachHolds`), hold them in their page: such paragraphs do, and so do contents
+/// that call nothing.
+pub fn blocks_hold_their_calls_in_their_page()
+    ensures all { (pages : Pages) (ss : List BlockSpot) → EachHolds pages ss → AllHold (tree_with_calls pages 0 ss) (counted ss) }
+    ensures written { (pages : Pages) (s : Setting) (signs : List ContentSign) → IsWrittenBeside pages s signs
+        → HoldsAnywhere pages a_paragraph (spelled s signs) }
+    ensures calm { (pages : Pages) (k : TextBlock) (q : List ℕ) → IsContent k q → CallsNothing (block_items k q) → HoldsAnywhere pages k q }
 {}
 
 /// A page that calls nothing (`AreContentSpots`) is such a page, too.
