@@ -12,7 +12,7 @@ ghost use Rattle.wt_span.specs.Items.{Item};
 ghost use Rattle.wt_tree.specs.Tree.{Label, Tree};
 ghost use Rattle.wt_checks.specs.Kept.{children};
 ghost use Rattle.wt_expand.specs.PageItems.{page_items};
-ghost use Rattle.wt_typed_blocks.specs.Edited.{Pieces, Edited, edited, Edits};
+ghost use Rattle.wt_typed_blocks.specs.Edited.{Pieces, Edited, edited, Edits, page_node};
 ghost use Rattle.wt_typed_blocks.specs.Sent.{paragraph};
 ghost use Rattle.wt_text_edit_laws.specs.BlockEdits.{typed_as};
 ghost use Rattle.wt_text_edit_laws.specs.Parts.{part_tree};
@@ -60,6 +60,10 @@ ghost use Rattle.wt_guards.specs.Content.{ContentSign};
 ghost use Rattle.wt_guards.specs.Guards.{Setting, spelled};
 ghost use Rattle.wt_text_edit_laws.specs.ReadContents.{IsFirmlyRead};
 ghost use Rattle.wt_beside_laws.specs.Content.{content_items};
+
+mod body_paragraphs;
+
+pub use body_paragraphs::paragraphs_of_the_body_may_be_edited;
 
 /// A page with blocks among calls, and with calls in them, none of which goes over the end of a part, is expanded part by
 /// part: its items are those of what stands before, between and behind the blocks, and of the blocks, with the numbers that
@@ -261,7 +265,8 @@ pub fn any_texts_may_be_typed_at_paths()
 /// their order, and any texts be between them: so much is asked of what is sent (`Fits`), and no more.
 pub fn any_nodes_may_stay_without_styles()
     ensures { (k : TextBlock) (q : List ℕ) (n : ℕ) (before : List Item) (l m : Label) (ps : Pieces) → IsFlatIn k q → 0 < n
-        → IsFlatEditOf k (standing n before (block_tree k q)) ps → Fits k q (edited (block_of k) l m ps) }
+        → page_node (edited (block_of k) l m ps) ≡ standing n before (block_tree k q) → IsFlatEditOf k (standing n before (block_tree k q)) ps
+        → Fits k q (edited (block_of k) l m ps) }
 {}
 
 /// And whatever contents that may be sent (`Fits`) are chosen for the blocks at the places, of which nodes each stays as
