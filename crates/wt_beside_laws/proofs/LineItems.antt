@@ -18,6 +18,7 @@ use Rattle.wt_beside_laws.specs.Content.{guard_items, letter_items, content_item
 use Rattle.wt_beside_laws.specs.Lines.{AreUnbroken, line_items, later_lines, content_lines}
 use Rattle.wt_beside_laws.proofs.Marks.Commented.{content_alone}
 use Rattle.wt_beside_laws.specs.Flat.{IsReadIn}
+use Rattle.wt_beside_laws.specs.NodeItems.{node_items}
 
 -- ---- items without a line break
 
@@ -27,11 +28,11 @@ unbroken_before (y ∷ ys) xs l ls u e =
     ap (λ (t : Bool). if t then [] ∷ lines (ys ++ xs) else onto (y ∷ []) (lines (ys ++ xs))) u.0
     ∙ ap (onto (y ∷ [])) (unbroken_before ys xs l ls u.1 e)
 
-guard_before : (u : Bool) (xs l : List Item) (ls : List (List Item)) → lines xs ≡ l ∷ ls → lines (guard_items u ++ xs) ≡ (guard_items u ++ l) ∷ ls
+pub guard_before : (u : Bool) (xs l : List Item) (ls : List (List Item)) → lines xs ≡ l ∷ ls → lines (guard_items u ++ xs) ≡ (guard_items u ++ l) ∷ ls
 guard_before true xs l ls e = ap (onto (guard_items true)) e
 guard_before false xs l ls e = e
 
-guard_alone : (u : Bool) → lines (guard_items u) ≡ guard_items u ∷ []
+pub guard_alone : (u : Bool) → lines (guard_items u) ≡ guard_items u ∷ []
 guard_alone true = refl
 guard_alone false = refl
 
@@ -86,8 +87,8 @@ lines_from s before (letter c ∷ after) u =
     (letter_lines s before c after (c == 10) refl (lines_from s (letter c ∷ before) after u))
 lines_from s before (thing t ∷ after) u =
     let xs : List Item = content_items s (thing t ∷ before) after in
-    guard_before (is_guarded s before (thing t ∷ after)) (page_items t.source ++ xs) _ _
-    (unbroken_before (page_items t.source) xs (line_items s (thing t ∷ before) after) (later_lines s (thing t ∷ before) after) u.0
+    guard_before (is_guarded s before (thing t ∷ after)) (node_items t.source ++ xs) _ _
+    (unbroken_before (node_items t.source) xs (line_items s (thing t ∷ before) after) (later_lines s (thing t ∷ before) after) u.0
     (lines_from s (thing t ∷ before) after u.1))
 
 pub content_lines_are : (s : Setting) (signs : List ContentSign) → IsReadIn s signs → AreUnbroken signs

@@ -59,7 +59,7 @@ scheme_less gs more e =
     let none = scheme_by (begins_like (codes "http://") (gs ++ more)) (begins_like (codes "https://") (gs ++ more)) (begins_like (codes "ftp://") (gs ++ more)) e in
     rw (like_less (codes "http://") gs more none.0, like_less (codes "https://") gs more none.1, like_less (codes "ftp://") gs more none.2) refl
 
-tag_less : (gs more : List Glyph) → tag_at (gs ++ more) ≡ None → tag_at gs ≡ None
+pub tag_less : (gs more : List Glyph) → tag_at (gs ++ more) ≡ None → tag_at gs ≡ None
 tag_less gs more e = by (tag_at gs) refl
   where
     by : (o : Option Tag) → tag_at gs ≡ o → tag_at gs ≡ None
@@ -87,7 +87,7 @@ one_only : (v : Bool) → (v && false) ≡ false
 one_only true = refl
 one_only false = refl
 
-switch_less : (gs more : List Glyph) → switch_at (gs ++ more) ≡ None → switch_at gs ≡ None
+pub switch_less : (gs more : List Glyph) → switch_at (gs ++ more) ≡ None → switch_at gs ≡ None
 unfolding switch_at
 switch_less [] more e = refl
 switch_less (g ∷ []) more e = rw (one_only (is_in (λ (c : ℕ). c == 95) g)) refl
@@ -113,14 +113,14 @@ line_cut cx s before (thing t ∷ after) =
     guard_cut (is_guarded s before (thing t ∷ after)) (add_node (own_form cx (own_glyphs t)) (length (own_glyphs t)) (line_cut cx s (thing t ∷ before) after))
 
 -- the whole content goes on with more
-record Front (gs all : List Glyph) : Type 0 where
-  more : List Glyph
-  is : all ≡ gs ++ more
+pub record Front (gs all : List Glyph) : Type 0 where
+  pub more : List Glyph
+  pub is : all ≡ gs ++ more
 
 put_front : (us gs all : List Glyph) → Front gs all → Front (us ++ gs) (us ++ all)
 put_front us gs all f = record { more = f.more; is = ap (λ ys. us ++ ys) f.is ∙ sym (append_assoc us gs f.more) }
 
-line_front : (s : Setting) (before signs : List ContentSign) → Front (line_glyphs s before signs) (content_glyphs s before signs [])
+pub line_front : (s : Setting) (before signs : List ContentSign) → Front (line_glyphs s before signs) (content_glyphs s before signs [])
 line_front s before [] = record { more = []; is = refl }
 line_front s before (letter c ∷ after) =
     let own : List Glyph = letter_glyphs (is_escaped s.within s.place before c after) c in
@@ -181,11 +181,11 @@ line_may s t before (thing n ∷ after) h m =
 
 -- ---- the line
 
-end_follows : (cx : Context) (word u : Bool) → Follows cx word (guard_glyphs u) (guard_cut u (0, []))
+pub end_follows : (cx : Context) (word u : Bool) → Follows cx word (guard_glyphs u) (guard_cut u (0, []))
 end_follows cx word true a h = refl
 end_follows cx word false a h = refl
 
-letter_by : (cx : Context) (word e : Bool) (t : Bool) (d : ℕ) (more : List Glyph) (c : Cut) → Follows cx word (letter_glyphs e d ++ more) (letter_cut e d c)
+pub letter_by : (cx : Context) (word e : Bool) (t : Bool) (d : ℕ) (more : List Glyph) (c : Cut) → Follows cx word (letter_glyphs e d ++ more) (letter_cut e d c)
     → Follows cx word (if t then [] else letter_glyphs e d ++ more) (if t then (0, []) else letter_cut e d c)
 letter_by cx word e true d more c f a h = refl
 letter_by cx word e false d more c f a h = f a h

@@ -57,7 +57,7 @@ url_no_underscore b gs w is = by (b == 95) refl
 
 -- ---- each kind of node
 
-other_avoids : (b : ℕ) (gs : List Glyph) → (b == 95) ≡ false → AvoidsSwitches (glyph.Byte b ∷ gs)
+pub other_avoids : (b : ℕ) (gs : List Glyph) → (b == 95) ≡ false → AvoidsSwitches (glyph.Byte b ∷ gs)
 other_avoids b [] e = rw e refl
 other_avoids b (g ∷ gs) e = rw e refl
 
@@ -115,7 +115,7 @@ node_urls External own n = subst AvoidsUrls (sym n.is) refl
 node_urls (Bare ends) own n = subst AvoidsUrls (sym n.is) (url_first n.first n.others n.shape n.url)
 node_urls Switch own n = subst AvoidsUrls (sym n.is) refl
 node_urls Toggle own n = delimiter_urls own n
-node_urls (Mark ends began) own n = subst AvoidsUrls (sym n.is) refl
+node_urls (Mark ends began) own n = subst AvoidsUrls (sym n) refl
 node_urls (Group g) own n = absurd n
 node_urls Function own n = lexeme_urls own n
 node_urls Node own n = other_urls own n
@@ -126,7 +126,7 @@ node_switches External own n = subst AvoidsSwitches (sym n.is) (other_avoids 91 
 node_switches (Bare ends) own n = subst AvoidsSwitches (sym n.is) (other_avoids n.first n.others (url_no_underscore n.first n.others n.shape n.url))
 node_switches Switch own n = subst AvoidsSwitches (sym n.is) refl
 node_switches Toggle own n = delimiter_switches own n
-node_switches (Mark ends began) own n = subst AvoidsSwitches (sym n.is) refl
+node_switches (Mark ends began) own n = subst AvoidsSwitches (sym n) refl
 node_switches (Group g) own n = absurd n
 node_switches Function own n = lexeme_switches own n
 node_switches Node own n = other_switches own n

@@ -127,7 +127,7 @@ both_more : (v u w : Bool) → (v && u) ≡ true → (u ≡ true → w ≡ true)
 both_more true u w e f = f e
 both_more false u w e f = cc
 
-begins_more : (word : List ℕ) (gs more : List Glyph) → begins word gs ≡ true → begins word (gs ++ more) ≡ true
+pub begins_more : (word : List ℕ) (gs more : List Glyph) → begins word gs ≡ true → begins word (gs ++ more) ≡ true
 begins_more [] gs more e = e
 begins_more (b ∷ word) [] more e = cc
 begins_more (b ∷ word) (g ∷ gs) more e =

@@ -77,7 +77,7 @@ quote_no_trail glyph.Mark gs q = cc
 
 past_trail : (own gs : List Glyph) → MayFollow Link own gs → first_is class.Trail gs ≡ false
 past_trail own [] h = refl
-past_trail own (g ∷ gs) h = elim h [ | inl e ↦ e | inr q ↦ quote_no_trail g gs q.quotes ]
+past_trail own (g ∷ gs) h = elim h [ inl e ↦ e | inr q ↦ quote_no_trail g gs q.quotes ]
 
 bare_before : (ends : Bool) (own gs : List Glyph) (w : Shape) → MayFollow (Bare ends) own gs → bare_url_at false own ≡ Some w → bare_url_at false (own ++ gs) ≡ Some w
 bare_before ends own [] w f e = bare_stays own [] w tt e
@@ -386,7 +386,7 @@ node_stands External word own behind n f l = holding word own behind (external_s
 node_stands (Bare ends) word own behind n f l = holding word own behind (bare_stands ends word own behind n f l)
 node_stands Switch word own behind n f l = holding word own behind (switch_stands word own behind n)
 node_stands Toggle word own behind n f l = delimiter_stands word own behind n
-node_stands (Mark ends began) word own behind n f l = holding word own behind (mark_stands word own behind n.is)
+node_stands (Mark ends began) word own behind n f l = holding word own behind (mark_stands word own behind n)
 node_stands (Group g) word own behind n f l = absurd n
 node_stands Function word own behind n f l = holding word own behind (one_stands word own behind n)
 node_stands Node word own behind n f l = holding word own behind (other_stands word own behind n)

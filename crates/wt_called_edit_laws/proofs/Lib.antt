@@ -40,4 +40,6 @@ pub mod PagesSettled
 pub mod GroupsOfPage
 pub mod BlocksOutside
 pub mod Parts
+pub mod Written
+pub mod CallingGroups
 pub mod Cells

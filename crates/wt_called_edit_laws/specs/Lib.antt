@@ -23,6 +23,10 @@ pub mod HeadingsInCells
 pub mod InCells
 pub mod UnmarkedCells
 pub mod OwnTexts
+pub mod CalledContents
 pub mod ItemSpots
 pub mod CalledBlocks
+pub mod CallingBlocks
+pub mod CallingGroups
+pub mod Written
 pub mod SentAsIs

@@ -2,21 +2,21 @@
 //! taken, and texts beside what stays in them, and nothing else is changed.
 #![tactic(auto)]
 
-ghost use Rattle.std.specs.Prelude.{ℕ, ◌<◌, List, [], ◌∷◌, ◌≡◌, Option, None};
+ghost use Rattle.std.specs.Prelude.{ℕ, ◌<◌, List, [], ◌∷◌, ◌≡◌, Option, None, false};
 ghost use Rattle.wt_expand.specs.Work.{Pages};
 ghost use Rattle.wt_text_edit_laws.specs.BlockSpots.{BlockSpot, AreRead, AreBlockSpots, spots_source};
 ghost use Rattle.wt_called_edit_laws.specs.Parts.{AreCalled, IsByParts};
-ghost use Rattle.wt_called_edit_laws.specs.Retyped.{AreRetyped, IsExpandedAgain};
+ghost use Rattle.wt_called_edit_laws.specs.Retyped.{AreRetyped, AreWrittenAnew, IsExpandedAgain};
 ghost use Rattle.std.specs.Str.{IsUtf8};
 ghost use Rattle.wt_span.specs.Items.{Item};
 ghost use Rattle.wt_tree.specs.Tree.{Label, Tree};
 ghost use Rattle.wt_checks.specs.Kept.{children};
 ghost use Rattle.wt_expand.specs.PageItems.{page_items};
-ghost use Rattle.wt_typed_blocks.specs.Edited.{Pieces, Edited, edited, Edits};
+ghost use Rattle.wt_typed_blocks.specs.Edited.{Pieces, Edited, edited, Edits, page_node};
 ghost use Rattle.wt_typed_blocks.specs.Sent.{paragraph};
 ghost use Rattle.wt_text_edit_laws.specs.BlockEdits.{typed_as};
 ghost use Rattle.wt_text_edit_laws.specs.Parts.{part_tree};
-ghost use Rattle.wt_text_edit_laws.specs.TextBlocks.{TextBlock, a_paragraph, block_of, block_tree};
+ghost use Rattle.wt_text_edit_laws.specs.TextBlocks.{TextBlock, a_paragraph, block_of, block_items, block_tree};
 ghost use Rattle.wt_beside_laws.specs.FlatBlocks.{IsFlatEditOf};
 ghost use Rattle.wt_beside_laws.specs.StyledIn.{IsFlatIn};
 ghost use Rattle.wt_moved_laws.specs.Standing.{standing};
@@ -24,7 +24,7 @@ ghost use Rattle.wt_text_edit_laws.specs.TypedPages.{IsTypedPage};
 ghost use Rattle.wt_called_edit_laws.specs.AnyBlocks.{AreSpots, AllLead};
 ghost use Rattle.wt_called_edit_laws.specs.AnyTexts.{TakesAnyTexts};
 ghost use Rattle.wt_called_edit_laws.specs.ItemSpots.{AreContentSpots};
-ghost use Rattle.wt_called_edit_laws.specs.CalledBlocks.{AreAmongCalls, StandAmongCalls};
+ghost use Rattle.wt_called_edit_laws.specs.CalledBlocks.{AreAmongCalls, counted, StandAmongCalls};
 ghost use Rattle.wt_called_edit_laws.specs.CellEdits.{CellPage, page_with, IsCellPage, IsCellEdit, LeadsFrom, TakesText, own_sents};
 ghost use Rattle.wt_called_edit_laws.specs.HeadingsInCells.{IsHeadingInCell, HeadingStandsInCell};
 ghost use Rattle.wt_called_edit_laws.specs.UnmarkedCells.{TakesUnmarked};
@@ -50,25 +50,54 @@ ghost use Rattle.wt_called_edit_laws.specs.EditsAt.{Fits, AllStand};
 ghost use Rattle.wt_called_edit_laws.specs.Settled.{IsSettled};
 ghost use Rattle.wt_called_edit_laws.specs.SettledPages.{OnlyTextsAreOthers};
 ghost use Rattle.wt_called_edit_laws.specs.Covered.{CleanWhereFree, IsEditablePage};
+ghost use Rattle.wt_called_edit_laws.specs.CallingBlocks.{IsContentIn, AreEdited, AreCallingBlocks, tree_with_calls, CallingBlocksStand};
+ghost use Rattle.wt_called_edit_laws.specs.CallingGroups.{AreCallingOutside, CallingGroupsStay, CallingNodesStay};
+ghost use Rattle.wt_called_trees.specs.HeldCalls.{AllHold};
+ghost use Rattle.wt_text_edit_laws.specs.Contents.{IsContent};
+ghost use Rattle.wt_text_edit_laws.specs.NoCalls.{CallsNothing};
+ghost use Rattle.wt_called_edit_laws.specs.Written.{AreReadThings, AreOwnParts, written_items, written_calls, written_work, IsWrittenAs};
+ghost use Rattle.wt_guards.specs.Content.{ContentSign};
+ghost use Rattle.wt_guards.specs.Guards.{Setting, spelled};
+ghost use Rattle.wt_text_edit_laws.specs.ReadContents.{IsFirmlyRead};
+ghost use Rattle.wt_beside_laws.specs.Content.{content_items};
 
-/// A page with blocks among calls, none of which goes over the end of a part, is expanded part by part: its items are
-/// those of what stands before, between and behind the blocks, with the numbers that their calls have in the page, and
-/// between these the blocks' own; its calls are those of these parts, with their places; and so is the work.
+mod body_paragraphs;
+
+pub use body_paragraphs::paragraphs_of_the_body_may_be_edited;
+
+/// A page with blocks among calls, and with calls in them, none of which goes over the end of a part, is expanded part by
+/// part: its items are those of what stands before, between and behind the blocks, and of the blocks, with the numbers that
+/// their calls have in the page; its calls are those of these parts, with their places; and so is the work.
 pub fn pages_with_blocks_are_expanded_by_their_parts()
-    ensures { (pages : Pages) (ss : List BlockSpot) (behind : List ℕ) → AreCalled ss behind → IsByParts pages ss behind }
+    ensures { (pages : Pages) (ss : List BlockSpot) (behind : List ℕ) → AreCalled pages ss behind → IsByParts pages ss behind }
 {}
 
-/// Where texts are typed in the blocks of such a page, it is such a page again, its work is the same, and it is refused
-/// only if it was refused before.
+/// Where new contents are written in the blocks of such a page, with some of the calls that were there, and in which no two
+/// braces are left, it is such a page again, it is no more work, and it is refused only if it was refused before. So it is
+/// where texts are typed, and where any contents are written that call nothing.
 pub fn pages_with_typed_texts_are_expanded_again()
-    ensures { (pages : Pages) (ss rs : List BlockSpot) (behind : List ℕ) → AreCalled ss behind → AreRetyped ss rs
+    ensures typed { (pages : Pages) (ss rs : List BlockSpot) → AreRetyped ss rs → AreWrittenAnew pages ss rs }
+    ensures again { (pages : Pages) (ss rs : List BlockSpot) (behind : List ℕ) → AreCalled pages ss behind → AreWrittenAnew pages ss rs
         → IsExpandedAgain pages ss rs behind }
 {}
 
 /// A page that calls nothing is such a page.
 #[tactic(auto, using(crate::proofs::Parts::NoCallsCalled::read_called))]
 pub fn pages_without_calls_are_such()
-    ensures { (ss : List BlockSpot) (behind : List ℕ) → AreRead ss behind → AreCalled ss behind }
+    ensures { (pages : Pages) (ss : List BlockSpot) (behind : List ℕ) → AreRead ss behind → AreCalled pages ss behind }
+{}
+
+/// A content of text that is typed and nodes that stay, calls among them (`AreReadThings`), gives, as it is written, what its
+/// signs give, one after the other: its items are those of the characters, of the nowikis that are put, and of each node by
+/// itself, with the numbers that its calls have there; its calls are those of its nodes, but for their places; and so is the
+/// work of expanding it. No two braces are left in it, so it is a part of any page. It is read the same whatever stands
+/// behind it, unless a `}` is first.
+pub fn written_contents_give_what_their_signs_give()
+    ensures gives { (pages : Pages) (s : Setting) (signs : List ContentSign) → s.within ≡ false → AreReadThings signs → AreOwnParts pages signs
+        → IsWrittenAs pages (spelled s signs) (λ i. written_items pages s i [] signs) (written_calls pages signs) (written_work pages signs) }
+    ensures firm { (s : Setting) (signs : List ContentSign) → s.within ≡ false → AreReadThings signs → IsFirmlyRead (spelled s signs) }
+    ensures alone { (s : Setting) (signs : List ContentSign) → s.within ≡ false → AreReadThings signs
+        → page_items (spelled s signs) ≡ content_items s [] signs }
 {}
 
 /// A paragraph in a cell of a table, which may be in a cell of another table, is at a place of the page's tree that its
@@ -138,6 +167,18 @@ pub fn blocks_among_calls_stand_at_their_places()
         → AreAmongCalls pages rs behind }
 {}
 
+/// And such blocks may hold calls, too. By what their calls give, each is a block of its own, at a place of the page's tree;
+/// what is written in them beside their calls doesn't move it, and all else is the same. With such contents it is such a
+/// page again. A content that calls nothing is such a content in each folder, and a page whose blocks call nothing is such
+/// a page.
+pub fn blocks_with_calls_stand_at_their_places()
+    ensures stand { (pages : Pages) (ss : List BlockSpot) (behind : List ℕ) → AreCallingBlocks pages ss behind → CallingBlocksStand pages ss behind }
+    ensures again { (pages : Pages) (ss rs : List BlockSpot) (behind : List ℕ) → AreCallingBlocks pages ss behind → AreEdited pages ss rs
+        → AreCallingBlocks pages rs behind }
+    ensures content { (pages : Pages) (k : TextBlock) (q : List ℕ) → IsContent k q → CallsNothing (block_items k q) → IsContentIn pages k q }
+    ensures calm { (pages : Pages) (ss : List BlockSpot) (behind : List ℕ) → AreAmongCalls pages ss behind → AreCallingBlocks pages ss behind }
+{}
+
 /// A page that calls nothing (`AreContentSpots`) is such a page, too.
 pub fn pages_without_calls_are_among_these()
     ensures { (pages : Pages) (ss : List BlockSpot) (behind : List ℕ) → AreContentSpots ss behind → AreAmongCalls pages ss behind }
@@ -152,17 +193,27 @@ pub fn groups_stay_round_typed_texts()
     ensures stay { (pages : Pages) (ss : List BlockSpot) (behind : List ℕ) → AreOutsideGroups pages ss behind → GroupsStayAmong pages ss behind }
 {}
 
+/// And so it is where the blocks hold calls (`AreCallingOutside`): whatever is written in them beside their calls, the page's
+/// tree has the same groups round them and the same other nodes; each call of a block is a group in it. With such contents it
+/// is such a page again.
+pub fn groups_stay_round_blocks_that_call()
+    ensures stay { (pages : Pages) (ss : List BlockSpot) (behind : List ℕ) → AreCallingOutside pages ss behind → CallingGroupsStay pages ss behind }
+    ensures nodes { (pages : Pages) (ss : List BlockSpot) (behind : List ℕ) → AreCallingOutside pages ss behind → CallingNodesStay pages ss behind }
+    ensures again { (pages : Pages) (ss rs : List BlockSpot) (behind : List ℕ) → AreCallingOutside pages ss behind → AreEdited pages ss rs
+        → AllHold (tree_with_calls pages 0 rs) (counted rs) → AreCallingOutside pages rs behind }
+{}
+
 /// No call of such a page that is text shares a byte with one of the blocks.
 #[tactic(auto, using(crate::proofs::FreeBlocks::blocks_free))]
 pub fn text_calls_touch_no_block()
-    ensures { (pages : Pages) (ss : List BlockSpot) (behind : List ℕ) → AreCalled ss behind
+    ensures { (pages : Pages) (ss : List BlockSpot) (behind : List ℕ) → AreAmongCalls pages ss behind
         → AreFreeFrom (expanded_page pages (spots_source ss behind)).text_calls 0 ss }
 {}
 
 /// So none of these blocks is tangled, wherever it is in the page's tree: it can be read by itself.
 #[tactic(auto, using(crate::proofs::Untangled::blocks_untangled))]
 pub fn blocks_among_calls_are_untangled()
-    ensures { (pages : Pages) (ss : List BlockSpot) (behind : List ℕ) → AreCalled ss behind
+    ensures { (pages : Pages) (ss : List BlockSpot) (behind : List ℕ) → AreAmongCalls pages ss behind
         → AreUntangledFrom (expanded_page pages (spots_source ss behind)) (spots_source ss behind) 0 ss }
 {}
 
@@ -212,10 +263,10 @@ pub fn any_texts_may_be_typed_at_paths()
 
 /// Where no bold and no italic is in what a block holds (`IsFlatIn` of `wt_beside_laws`), any nodes of it may stay, in
 /// their order, and any texts be between them: so much is asked of what is sent (`Fits`), and no more.
-#[tactic(auto, using(crate::proofs::BlocksMade::flat_fits))]
 pub fn any_nodes_may_stay_without_styles()
     ensures { (k : TextBlock) (q : List ℕ) (n : ℕ) (before : List Item) (l m : Label) (ps : Pieces) → IsFlatIn k q → 0 < n
-        → IsFlatEditOf k (standing n before (block_tree k q)) ps → Fits k q (edited (block_of k) l m ps) }
+        → page_node (edited (block_of k) l m ps) ≡ standing n before (block_tree k q) → IsFlatEditOf k (standing n before (block_tree k q)) ps
+        → Fits k q (edited (block_of k) l m ps) }
 {}
 
 /// And whatever contents that may be sent (`Fits`) are chosen for the blocks at the places, of which nodes each stays as

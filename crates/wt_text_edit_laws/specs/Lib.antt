@@ -18,8 +18,11 @@ pub mod Parts
 pub mod TypedHeadings
 pub mod ParagraphParts
 pub mod TextBlocks
+pub mod ReadContents
 pub mod Contents
 pub mod BlockSpots
 pub mod BlockEdits
 pub mod UnmarkedBlocks
 pub mod OwnNodes
+pub mod PageCuts
+pub mod BodyParagraphs

@@ -65,6 +65,13 @@ ghost use Rattle.wt_text_edit_laws.specs.BlockEdits.{BlockEdit, new_spots, old_p
 ghost use Rattle.wt_text_edit_laws.specs.OwnNodes.{TypedSpot, spots_of, AreTypedSpots, own_edit};
 ghost use Rattle.wt_text_edit_laws.specs.UnmarkedBlocks.{unmarked_page, IsUnmarkedBlockEdit};
 
+mod cut_pages;
+
+pub use cut_pages::{
+    paragraphs_of_the_body_are_lines_of_text, parts_of_a_page_are_read_by_themselves,
+    settled_parts_have_ends,
+};
+
 // ---- a typed text, and a page that is one paragraph
 
 /// Text of a paragraph, a heading, an item or a cell, whatever somebody typed there, calls nothing: as a

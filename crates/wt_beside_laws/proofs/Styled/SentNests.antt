@@ -1,5 +1,5 @@
 -- What is sent nests, where the page's content does and new styles are as they may be.
-use Rattle.std.proofs.Common.{◌≡◌, Bool, true, false, not, List, [], ◌∷◌, refl, sym, ap, ◌∙◌, subst, inl, inr}
+use Rattle.std.proofs.Common.{◌≡◌, Bool, true, false, not, List, [], ◌∷◌, refl, sym, ap, ◌∙◌, subst}
 use Rattle.std.specs.Prelude.{◌||◌, ℕ}
 use Rattle.std.specs.Str.{IsUtf8}
 use Rattle.wt_tree.specs.declared.kind.Kind.{Kind}
@@ -10,14 +10,14 @@ use Rattle.wt_tree.specs.declared.edit_shape.InlineForm.TheVariants as inline
 use Rattle.wt_tree.specs.EditShapes.{edit_shape}
 use Rattle.wt_tree.specs.Kinds.{showing as showing_of}
 use Rattle.wt_tree.specs.Tiling.{is_group, HasNoGroup, NoneIsGroup}
-use Rattle.wt_tree.specs.Tree.{Label, Tree, tree, Trees, none, more, label}
+use Rattle.wt_tree.specs.Tree.{Label, Tree, tree, Trees, none, more}
 use Rattle.wt_content.specs.Content.{has_break}
 use Rattle.wt_typed_blocks.specs.Sent.{IsSentAsIs, StandsAsIs, AllStandAsIs}
 use Rattle.wt_typed_blocks.specs.Edited.{Pieces, no_pieces, gone, written, kept, around, new_style, as_new, page_pieces, text_node, sent_pieces, IsStyle, PiecesStay}
 use Rattle.wt_typed_blocks.proofs.SentGroups.{in_group, of_style as by_style, apart, apart_groups}
 use Rattle.wt_beside_laws.specs.FlatPages.{AreNodesAndTexts}
 use Rattle.wt_beside_laws.specs.Nests.{of_style}
-use Rattle.wt_beside_laws.specs.NewStyles.{is_bold_form, is_bold, has_style_by, has_style, have_style, NewStylesNest}
+use Rattle.wt_beside_laws.specs.NewStyles.{is_bold_form, has_style_by, has_style, have_style, NewStylesNest}
 use Rattle.wt_beside_laws.specs.SentPieces.{IsNodeForm}
 use Rattle.wt_beside_laws.specs.SentStyled.{breaks_line, NestsBy, Nests, AllNest}
 use Rattle.wt_beside_laws.proofs.SentPieces.{not_group}

@@ -1,5 +1,5 @@
 -- No bare URL that ends with an apostrophe is directly before a delimiter in the page: at each place of a delimiter there is an apostrophe.
-use Rattle.std.proofs.Common.{arith, ◌≡◌, ◌≢◌, ℕ, ◌+◌, ◌-◌, Bool, true, false, Option, Some, None, List, [], ◌∷◌, ◌++◌, length, refl, sym, ap, ◌∙◌, subst, inl, inr, append_assoc}
+use Rattle.std.proofs.Common.{arith, ◌≡◌, ℕ, ◌+◌, ◌-◌, Bool, true, false, Option, Some, None, List, [], ◌∷◌, ◌++◌, length, refl, sym, ap, ◌∙◌, subst, inl, inr, append_assoc}
 use Rattle.std.specs.Prelude.{◌==◌, ◌&&◌, not, min, if◌then◌else◌}
 use Rattle.std.specs.Str.{chars}
 use Rattle.std.proofs.lemmas.Bool.Decides.{nat_tests}
@@ -18,15 +18,14 @@ use Rattle.wt_guards.specs.declared.role.Role.{Role}
 use Rattle.wt_guards.specs.declared.role.Role.TheVariants.{Toggle, Node}
 use Rattle.wt_guards.specs.declared.role.Stretch.{Stretch}
 use Rattle.wt_guards.specs.Content.{ContentSign, Thing}
-use Rattle.wt_guards.specs.Guards.{end_of, start_of, is_this, is_reached, is_adjacent}
-use Rattle.wt_original.specs.Kept.{Kept, kept_of, kept_nodes, kept_with, items, visible, is_delimited, found_at, found_from, found_in}
+use Rattle.wt_guards.specs.Guards.{end_of, start_of, is_reached}
+use Rattle.wt_original.specs.Kept.{Kept, kept_nodes, kept_with, items, visible, is_delimited, found_at, found_from, found_in}
 use Rattle.wt_original.specs.Page.{Page}
-use Rattle.wt_inline.specs.ItemTree.{ItemTree, ItemTrees, nothing, further, forest, tree_items, held_by_all}
-use Rattle.wt_inline.specs.Parts.{Part, children}
+use Rattle.wt_inline.specs.ItemTree.{ItemTrees, nothing, further, forest, tree_items, held_by_all}
+use Rattle.wt_inline.specs.Parts.{children}
 use Rattle.wt_inline.proofs.HeldLaws.{held_children, sources_append}
 use Rattle.wt_annotated.specs.Numbering.{count}
 use Rattle.wt_annotated.specs.WithoutCalls.{placed}
-use Rattle.wt_expand.specs.PageItems.{page_items}
 use Rattle.wt_link_spelling.specs.Spelling.{is_style, stretch, opening_place, closing_place, children_of}
 use Rattle.wt_moved_laws.specs.Standing.{standing}
 use Rattle.wt_moved_laws.proofs.Sources.{standing_source}
@@ -34,13 +33,11 @@ use Rattle.wt_typed_blocks.specs.Sent.{IsSentAsIs, StandsAsIs, AllStandAsIs}
 use Rattle.wt_typed_blocks.specs.Edited.{Pieces, no_pieces, gone, written, kept, around, new_style, as_new, page_pieces, text_node, sent_pieces, PiecesStay}
 use Rattle.wt_typed_blocks.proofs.SentGroups.{in_group, apart, apart_groups}
 use Rattle.wt_text_edit_laws.specs.ParagraphParts.{joined_parts}
-use Rattle.wt_text_edit_laws.specs.TextBlocks.{TextBlock, block_of}
-use Rattle.wt_text_edit_laws.proofs.Blocks.BlockLeaves.{open_items, close_items}
+use Rattle.wt_text_edit_laws.specs.TextBlocks.{TextBlock}
 use Rattle.wt_beside_laws.specs.Cuts.{own_glyphs}
 use Rattle.wt_beside_laws.specs.Flat.{IsFlat}
 use Rattle.wt_beside_laws.specs.FlatBlocks.{lines_in, begins_at, signs_in as signs_of}
 use Rattle.wt_beside_laws.specs.PageBlocks.{IsBlockOfLines}
-use Rattle.wt_beside_laws.specs.PageSigns.{signs_of_lines}
 use Rattle.wt_beside_laws.specs.SentStyled.{text_then, found_then, or_nowiki, sent_by, sent_before, sent_content, KeptIsFlat, HasNoDelimiter}
 use Rattle.wt_beside_laws.specs.Stood.{things}
 use Rattle.wt_beside_laws.specs.Styled.{StyledContent, finished, sign, styled, delimiter, signs_before, signs_in}
