@@ -118,11 +118,11 @@ fn kept_inside<'t, 'a>(
     old: &'t Node<'a>,
     node: &Node<'_>,
 ) -> Result<Str, NoMemory> {
-    let block = block_of(alloc, old)?;
+    let block = Some(block_of(alloc, old)?);
     let writing = writing_of(around.keeps, node.kind);
     let text = text_of(known.page, known.index, node);
     let edges = edges_of(inside(old));
-    spelled(alloc, known, Some(&block), writing, text, edges)
+    spelled(alloc, known, &block, writing, text, &edges)
 }
 
 /// The inside of a new block.
@@ -138,7 +138,7 @@ fn new_inside<'t, 'a>(
         last: around.tail,
     };
     let text = text_of(known.page, known.index, node);
-    spelled(alloc, known, None, writing, text, edges)
+    spelled(alloc, known, &None, writing, text, &edges)
 }
 
 /// The inside of a block.

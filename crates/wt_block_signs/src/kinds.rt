@@ -1,5 +1,6 @@
 //! What the kinds of blocks are to their neighbours, by the table of kinds.
 
+use wt_known::is_at_line_start;
 use wt_tree::{Kind, Node, Placement};
 
 /// Whether it is a list.
@@ -63,9 +64,5 @@ pub fn is_paragraph_in_line(page: &str, node: &Node<'_>) -> bool {
         bytes.get(start),
         Some(b' ' | b'\t' | b'*' | b'#' | b':' | b';')
     );
-    let begins_line = match start.checked_sub(1) {
-        Some(at) => bytes.get(at) == Some(&b'\n'),
-        None => true,
-    };
-    matches!(node.kind, Kind::Para) && begins_with_sign && !begins_line
+    matches!(node.kind, Kind::Para) && begins_with_sign && !is_at_line_start(page, start)
 }

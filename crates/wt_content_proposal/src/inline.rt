@@ -1,16 +1,16 @@
 //! Inline content as wikitext: what was in the page as it was, texts too, and what is new as `edit` spells it.
 
-use crate::nowiki::nowiki_round;
+use crate::standing::{place_of, push_if_unchanged, push_kept, push_shown, push_thing};
 use std::alloc::Global;
-use wt_guards::{Role, Setting, Stretch, Thing, Unit, spelling_of};
+use wt_guards::{Role, Setting, Stretch, Unit, spelling_of};
 use wt_known::{Block, Known, first_text, joined, last_text};
 use wt_link_spelling::{external_link, href_of, page_link};
-use wt_original::{Kept, is_unchanged, shown_text};
+use wt_original::{Kept, shown_text};
 use wt_span::{NoMemory, Str, Text};
 use wt_text_proposal::{
     InsidePlace, NOWHERE, ends_with_apostrophe, is_bare_url, place_of_new, push_letters,
-    push_nowiki, push_text, role_in_line, shortened, source_of, with_colons, with_fragment,
-    with_joints, with_plain,
+    push_nowiki, push_text, shortened, source_of, with_colons, with_fragment, with_joints,
+    with_plain,
 };
 use wt_tree::{InlineForm, Kind, Node, Place, flat, push_texts, same_attrs, same_kind};
 
@@ -37,7 +37,7 @@ pub fn edges_of<'t, 'a>(nodes: &'t [Node<'a>]) -> Edges<'t, 'a> {
     }
 }
 
-fn edges_in<'t, 'a>(kept: Option<Kept<'t, 'a>>) -> Edges<'t, 'a> {
+fn edges_in<'t, 'a>(kept: &Option<Kept<'t, 'a>>) -> Edges<'t, 'a> {
     match kept {
         Some(kept) => edges_of(kept.node.children.as_slice()),
         None => Edges {
@@ -45,108 +45,6 @@ fn edges_in<'t, 'a>(kept: Option<Kept<'t, 'a>>) -> Edges<'t, 'a> {
             last: None,
         },
     }
-}
-
-// ---- one unit
-
-fn push_thing(
-    out: &mut Vec<Unit<'_>>,
-    role: Role,
-    source: Str,
-    place: Option<Stretch>,
-) -> Result<(), NoMemory> {
-    out.push(Unit::Thing(Thing {
-        role,
-        source,
-        place,
-    }))?;
-    Ok(())
-}
-
-fn place_of(kept: Option<Kept<'_, '_>>) -> Option<Stretch> {
-    match kept {
-        Some(kept) => Some(kept.place),
-        None => None,
-    }
-}
-
-/// Appends a node as it was in the page.
-fn push_as_it_stood(
-    alloc: Global,
-    out: &mut Vec<Unit<'_>>,
-    keeps: bool,
-    old: Kept<'_, '_>,
-) -> Result<(), NoMemory> {
-    let source = flat(alloc, old.node)?;
-    let role = if keeps {
-        role_in_line(old.role, old.node, out.as_slice().last(), old.place)
-    } else {
-        old.role
-    };
-    push_thing(out, role, source, Some(old.place))
-}
-
-/// The same of a node that may not have been there. What a link skips is no part of its text.
-fn push_kept(
-    alloc: Global,
-    out: &mut Vec<Unit<'_>>,
-    keeps: bool,
-    kept: Option<Kept<'_, '_>>,
-    kind: Kind,
-) -> Result<(), NoMemory> {
-    match kept {
-        Some(old) if !matches!(kind, Kind::Skip) => push_as_it_stood(alloc, out, keeps, old),
-        _ => Ok(()),
-    }
-}
-
-/// Appends a node as it was in the page, where it shows what it showed; it says whether it does.
-fn push_if_unchanged<'t, 'a>(
-    alloc: Global,
-    out: &mut Vec<Unit<'_>>,
-    known: &Known<'t, 'a>,
-    block: Option<&Block<'t, 'a>>,
-    keeps: bool,
-    kept: Option<Kept<'_, '_>>,
-    node: &Node<'_>,
-) -> Result<bool, NoMemory> {
-    let Some(old) = kept else {
-        return Ok(false);
-    };
-    let Some(groups) = known.groups(block) else {
-        return Ok(false);
-    };
-    if !is_unchanged(alloc, groups, old, node)? {
-        return Ok(false);
-    }
-    push_as_it_stood(alloc, out, keeps, old)?;
-    Ok(true)
-}
-
-/// Appends a `nowiki` or a reference as it was in the page, or what it shows now: of a `nowiki` between its tags.
-fn push_shown<'t, 'a>(
-    alloc: Global,
-    out: &mut Vec<Unit<'_>>,
-    known: &Known<'t, 'a>,
-    block: Option<&Block<'t, 'a>>,
-    keeps: bool,
-    kept: Option<Kept<'_, '_>>,
-    node: &Node<'_>,
-) -> Result<(), NoMemory> {
-    if push_if_unchanged(alloc, out, known, block, keeps, kept, node)? {
-        return Ok(());
-    }
-    if keeps
-        && let Some(old) = kept
-        && let Some(source) = nowiki_round(alloc, known, block, old.node, node)?
-    {
-        return push_thing(out, old.role, source, Some(old.place));
-    }
-    let text = shown_text(alloc, node)?;
-    if !text.is_empty() {
-        out.push(Unit::Copied(Str::from_string(text)))?;
-    }
-    Ok(())
 }
 
 // ---- bold and italic
@@ -197,11 +95,11 @@ fn push_closing(alloc: Global, out: &mut Vec<Unit<'_>>, old: Kept<'_, '_>) -> Re
 /// The page's node, where it is of the same kind and its delimiters stay.
 fn with_delimiters<'t, 'a>(
     keeps: bool,
-    kept: Option<Kept<'t, 'a>>,
+    kept: &Option<Kept<'t, 'a>>,
     kind: Kind,
 ) -> Option<Kept<'t, 'a>> {
     match kept {
-        Some(old) if keeps && same_kind(old.node.kind, kind) => Some(old),
+        Some(old) if keeps && same_kind(old.node.kind, kind) => Some(*old),
         _ => None,
     }
 }
@@ -221,15 +119,15 @@ fn push_style<'n, 't, 'a>(
     alloc: Global,
     out: &mut Vec<Unit<'n>>,
     known: &Known<'t, 'a>,
-    block: Option<&Block<'t, 'a>>,
+    block: &Option<Block<'t, 'a>>,
     writing: Writing,
-    kept: Option<Kept<'t, 'a>>,
+    kept: &Option<Kept<'t, 'a>>,
     node: &'n Node<'_>,
 ) -> Result<(), NoMemory> {
     let nodes = node.children.as_slice();
     if let Some(old) = with_delimiters(writing.keeps, kept, node.kind) {
         push_opening(alloc, out, old)?;
-        push_units(alloc, out, known, block, writing, nodes, edges_in(kept))?;
+        push_units(alloc, out, known, block, writing, nodes, &edges_in(kept))?;
         if matches!(node.kind, Kind::Bold) && is_new_italic_alone(nodes) {
             push_nowiki(alloc, out)?;
         }
@@ -240,7 +138,7 @@ fn push_style<'n, 't, 'a>(
     if nodes.is_empty() {
         push_nowiki(alloc, out)?;
     }
-    push_units(alloc, out, known, block, writing, nodes, edges_in(kept))?;
+    push_units(alloc, out, known, block, writing, nodes, &edges_in(kept))?;
     if matches!(node.kind, Kind::Bold) && is_italic_alone(nodes) {
         push_nowiki(alloc, out)?;
     }
@@ -476,7 +374,7 @@ fn new_source(alloc: Global, keeps: bool, node: &Node<'_>, inside: &str) -> Resu
 fn source_round(
     alloc: Global,
     keeps: bool,
-    kept: Option<Kept<'_, '_>>,
+    kept: &Option<Kept<'_, '_>>,
     node: &Node<'_>,
     inside: &str,
 ) -> Result<Str, NoMemory> {
@@ -522,9 +420,9 @@ fn push_element<'t, 'a>(
     alloc: Global,
     out: &mut Vec<Unit<'_>>,
     known: &Known<'t, 'a>,
-    block: Option<&Block<'t, 'a>>,
+    block: &Option<Block<'t, 'a>>,
     writing: Writing,
-    kept: Option<Kept<'t, 'a>>,
+    kept: &Option<Kept<'t, 'a>>,
     node: &Node<'_>,
 ) -> Result<(), NoMemory> {
     if writing.keeps && !is_behind_word(out.as_slice()) && is_bare_now(alloc, kept, node)? {
@@ -533,7 +431,7 @@ fn push_element<'t, 'a>(
         return push_thing(out, role, source, Some(place_of_bare(kept)));
     }
     let nodes = node.children.as_slice();
-    let mut inside = within(alloc, known, block, writing, nodes, edges_in(kept))?;
+    let mut inside = within(alloc, known, block, writing, nodes, &edges_in(kept))?;
     if writing.keeps && !is_tag(node.kind) {
         inside = with_colons(alloc, inside)?;
     }
@@ -541,14 +439,14 @@ fn push_element<'t, 'a>(
     push_thing(out, role_of(node.kind), source, place_of(kept))
 }
 
-fn place_of_bare(kept: Option<Kept<'_, '_>>) -> Stretch {
+fn place_of_bare(kept: &Option<Kept<'_, '_>>) -> Stretch {
     place_of(kept).unwrap_or(place_of_new())
 }
 
 /// Whether a link is written as its URL alone: one that is new or was written so, and shows its URL.
 fn is_bare_now(
     alloc: Global,
-    kept: Option<Kept<'_, '_>>,
+    kept: &Option<Kept<'_, '_>>,
     node: &Node<'_>,
 ) -> Result<bool, NoMemory> {
     let was_bare = match kept {
@@ -567,10 +465,10 @@ fn is_bare_now(
 fn within<'t, 'a>(
     alloc: Global,
     known: &Known<'t, 'a>,
-    block: Option<&Block<'t, 'a>>,
+    block: &Option<Block<'t, 'a>>,
     writing: Writing,
     nodes: &[Node<'_>],
-    edges: Edges<'t, 'a>,
+    edges: &Edges<'t, 'a>,
 ) -> Result<String, NoMemory> {
     let units = units_of(alloc, known, block, writing, nodes, edges, None)?;
     let setting = Setting {
@@ -589,7 +487,7 @@ fn push_node<'n, 't, 'a>(
     alloc: Global,
     out: &mut Vec<Unit<'n>>,
     known: &Known<'t, 'a>,
-    block: Option<&Block<'t, 'a>>,
+    block: &Option<Block<'t, 'a>>,
     writing: Writing,
     node: &'n Node<'_>,
 ) -> Result<(), NoMemory> {
@@ -599,21 +497,21 @@ fn push_node<'n, 't, 'a>(
         InlineForm::Nothing => Ok(()),
         InlineForm::Characters => push_letters(out, node.shown()),
         InlineForm::Bold | InlineForm::Italic => {
-            push_style(alloc, out, known, block, writing, kept, node)
+            push_style(alloc, out, known, block, writing, &kept, node)
         }
         InlineForm::AsItStood => {
             let is_mark = node.kind.is_mark();
             if is_mark && node.id != 0 && known.is_left(node.id) {
                 return Ok(());
             }
-            push_kept(alloc, out, keeps, kept, node.kind)
+            push_kept(alloc, out, keeps, &kept, node.kind)
         }
-        InlineForm::Shown => push_shown(alloc, out, known, block, keeps, kept, node),
+        InlineForm::Shown => push_shown(alloc, out, known, block, keeps, &kept, node),
         InlineForm::PageLink | InlineForm::ExternalLink | InlineForm::Tag | InlineForm::Break => {
-            if push_if_unchanged(alloc, out, known, block, keeps, kept, node)? {
+            if push_if_unchanged(alloc, out, known, block, keeps, &kept, node)? {
                 return Ok(());
             }
-            push_element(alloc, out, known, block, writing, kept, node)
+            push_element(alloc, out, known, block, writing, &kept, node)
         }
     }
 }
@@ -633,10 +531,10 @@ fn behind<'n, 'a>(nodes: &'n [Node<'a>], at: usize) -> Option<&'n Node<'a>> {
 /// The page's text after the node before a place, or at the edge.
 fn text_left<'t, 'a>(
     known: &Known<'t, 'a>,
-    block: Option<&Block<'t, 'a>>,
+    block: &Option<Block<'t, 'a>>,
     nodes: &[Node<'_>],
     at: usize,
-    edges: Edges<'t, 'a>,
+    edges: &Edges<'t, 'a>,
 ) -> Option<&'t Node<'a>> {
     match before(nodes, at) {
         Some(node) => known.behind(block, node.id),
@@ -647,10 +545,10 @@ fn text_left<'t, 'a>(
 /// The page's text before the node after a place, or at the edge.
 fn text_right<'t, 'a>(
     known: &Known<'t, 'a>,
-    block: Option<&Block<'t, 'a>>,
+    block: &Option<Block<'t, 'a>>,
     nodes: &[Node<'_>],
     at: usize,
-    edges: Edges<'t, 'a>,
+    edges: &Edges<'t, 'a>,
 ) -> Option<&'t Node<'a>> {
     match behind(nodes, at) {
         Some(node) => known.before(block, node.id),
@@ -688,10 +586,10 @@ fn push_units<'n, 't, 'a>(
     alloc: Global,
     out: &mut Vec<Unit<'n>>,
     known: &Known<'t, 'a>,
-    block: Option<&Block<'t, 'a>>,
+    block: &Option<Block<'t, 'a>>,
     writing: Writing,
     nodes: &'n [Node<'_>],
-    edges: Edges<'t, 'a>,
+    edges: &Edges<'t, 'a>,
 ) -> Result<(), NoMemory> {
     for at in 0..nodes.len() {
         let node = &nodes[at];
@@ -714,10 +612,10 @@ fn push_units<'n, 't, 'a>(
 fn units_of<'n, 't, 'a>(
     alloc: Global,
     known: &Known<'t, 'a>,
-    block: Option<&Block<'t, 'a>>,
+    block: &Option<Block<'t, 'a>>,
     writing: Writing,
     nodes: &'n [Node<'_>],
-    edges: Edges<'t, 'a>,
+    edges: &Edges<'t, 'a>,
     spot: Option<InsidePlace<'_>>,
 ) -> Result<Vec<Unit<'n>>, NoMemory> {
     let mut units = Vec::new(alloc);
@@ -735,7 +633,7 @@ fn units_of<'n, 't, 'a>(
 
 fn spot_of<'t, 'a>(
     known: &Known<'t, 'a>,
-    block: Option<&Block<'_, '_>>,
+    block: &Option<Block<'_, '_>>,
     place: Place,
 ) -> InsidePlace<'t> {
     let (before, start, is_delimited) = match block {
@@ -764,10 +662,10 @@ fn may_be_empty(place: Place) -> bool {
 pub fn spelled<'t, 'a>(
     alloc: Global,
     known: &Known<'t, 'a>,
-    block: Option<&Block<'t, 'a>>,
+    block: &Option<Block<'t, 'a>>,
     writing: Writing,
     nodes: &[Node<'_>],
-    edges: Edges<'t, 'a>,
+    edges: &Edges<'t, 'a>,
 ) -> Result<Str, NoMemory> {
     let spot = spot_of(known, block, writing.place);
     let units = units_of(alloc, known, block, writing, nodes, edges, Some(spot))?;

@@ -4,5 +4,6 @@
 
 mod inline;
 mod nowiki;
+mod standing;
 
 pub use inline::{Edges, Writing, edges_of, spelled};

@@ -45,7 +45,7 @@ fn push_raw(out: &mut Str, text: &str) -> Result<(), NoMemory> {
 fn source_of_reference<'t, 'a>(
     alloc: Global,
     known: &Known<'t, 'a>,
-    block: Option<&Block<'t, 'a>>,
+    block: &Option<Block<'t, 'a>>,
     number: u32,
     text: &str,
 ) -> Result<Option<Str>, NoMemory> {
@@ -68,7 +68,7 @@ fn source_of_reference<'t, 'a>(
 pub fn nowiki_round<'t, 'a>(
     alloc: Global,
     known: &Known<'t, 'a>,
-    block: Option<&Block<'t, 'a>>,
+    block: &Option<Block<'t, 'a>>,
     old: &Node<'_>,
     node: &Node<'_>,
 ) -> Result<Option<Str>, NoMemory> {

@@ -61,8 +61,3 @@ pub fn most_breaks(page: &str, from: usize, to: usize) -> usize {
     }
     most
 }
-
-/// Whether what is at a place of the page begins a line there.
-pub fn is_at_line_start(page: &str, at: usize) -> bool {
-    at == 0 || byte_at(page, at.saturating_sub(1)) == b'\n'
-}

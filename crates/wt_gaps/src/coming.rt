@@ -1,6 +1,6 @@
 //! What comes in a gap, and where it is put.
 
-use crate::blanks::{is_at_line_start, most_breaks, past_spaces};
+use crate::blanks::{byte_at, most_breaks, past_spaces};
 use crate::breaks::{
     between, is_box, is_heading, is_lined_block, kind_at_end, kind_at_start, least_between,
     push_breaks,
@@ -8,17 +8,18 @@ use crate::breaks::{
 use crate::gap::{Gap, is_before_text};
 use crate::gone::{Slice, push_change, push_part_of};
 use crate::lines::{
-    is_doubled, is_doubled_at, is_in_stack, next_in_page, push_in_line, range_of, shares_line,
+    first_sign, is_doubled, is_doubled_at, is_in_stack, next_in_page, push_in_line, range_of,
+    shares_line,
 };
-use crate::nodes::count_of;
+use crate::nodes::{count_of, first_block, last_block};
 use crate::tags::{Tags, breaks_before_tag, breaks_behind_tag};
 use std::alloc::Global;
 use wt_block_signs::{
     Style, is_cell, is_item, is_lined, is_list, is_row_without_sign, signs_of, style_of,
 };
 use wt_checks::{Visit, is_compared, original};
-use wt_difference::Child;
-use wt_known::{Known, breaks_between};
+use wt_difference::{Child, inside};
+use wt_known::{Known, breaks_between, is_at_line_start};
 use wt_places::Slot;
 use wt_span::{NoMemory, Str};
 use wt_splice::Change;
@@ -81,7 +82,8 @@ pub fn signs_in(
 }
 
 /// What comes: the kind of the first, the kinds of what all of them show first and last, whether the last is of one
-/// line, in which a cell may follow, whether a comment comes before the first, and how it is written.
+/// line, in which a cell may follow, whether a comment comes before the first, and one after the last, whose line has to
+/// end, and how it is written.
 #[derive(Drop)]
 pub struct Coming {
     pub first: Kind,
@@ -89,6 +91,7 @@ pub struct Coming {
     pub last: Kind,
     pub is_of_line: bool,
     pub is_led: bool,
+    pub is_trailed: bool,
     pub source: Str,
 }
 
@@ -104,12 +107,32 @@ pub fn style_beside(gap: &Gap<'_, '_, '_>) -> Style {
 
 // ---- line breaks beside it
 
-/// Where those come that take the place of a slice, or no other's: after the child before, or before the one after.
+/// Whether the first of those that come begins as the page's paragraph after the gap does: it is the first half of that
+/// one.
+fn is_first_half(gap: &Gap<'_, '_, '_>) -> bool {
+    let (Some(new), Some(behind)) = (first_block(gap.new), gap.behind) else {
+        return false;
+    };
+    let are_paragraphs = matches!(new.kind, Kind::Para) && matches!(behind.kind, Kind::Para);
+    if !are_paragraphs || !is_directly_before(gap, behind) {
+        return false;
+    }
+    match (inside(new).first(), inside(behind).first()) {
+        (Some(first), Some(was)) => {
+            (was.id != 0 && was.id == first.id)
+                || (!first.shown().is_empty() && was.shown().starts_with(first.shown()))
+        }
+        _ => false,
+    }
+}
+
+/// Where those come that take the place of a slice, or no other's: after the child before, or before the one after, where
+/// there is none before, or this one is split.
 fn place_of(gap: &Gap<'_, '_, '_>, slice: Option<Slice>) -> Slot {
     if let Some(slice) = slice {
         return slice.place;
     }
-    let at = if gap.before.is_none() && gap.behind.is_some() {
+    let at = if gap.behind.is_some() && (gap.before.is_none() || is_first_half(gap)) {
         gap.place.end
     } else {
         gap.place.start
@@ -138,6 +161,11 @@ fn is_directly_behind(gap: &Gap<'_, '_, '_>, before: &Node<'_>) -> bool {
     gap.place.start <= range_of(before).end
 }
 
+/// Whether a part of a gap ends where the child after it begins: the last part of each does.
+fn is_directly_before(gap: &Gap<'_, '_, '_>, behind: &Node<'_>) -> bool {
+    range_of(behind).start <= gap.place.end
+}
+
 /// Whether what is directly below the child before in the page is as close to it as it may be.
 fn is_above_closely(page: &str, gap: &Gap<'_, '_, '_>, before: &Node<'_>) -> bool {
     let below = first_gone(gap.gone).or(gap.behind);
@@ -160,16 +188,6 @@ fn breaks_below(
     between(known.closeness, gap.is_tight, last, coming.first)
 }
 
-/// The first of those that come.
-fn first_coming<'n, 'a>(nodes: &'n [Node<'a>]) -> Option<&'n Node<'a>> {
-    for node in nodes {
-        if is_compared(node.kind) {
-            return Some(node);
-        }
-    }
-    None
-}
-
 /// Whether what comes directly after the child before is in a stack of boxes of the page, as that one is.
 fn goes_on_in_stack(
     known: &Known<'_, '_>,
@@ -181,7 +199,7 @@ fn goes_on_in_stack(
     if gap.is_tight || !are_boxes || !is_directly_behind(gap, before) {
         return false;
     }
-    match first_coming(gap.new) {
+    match first_block(gap.new) {
         Some(first) => is_in_stack(known, first) && is_in_stack(known, before),
         None => false,
     }
@@ -251,16 +269,10 @@ fn breaks_before(
 
 /// The last of those that come, as the page has it; None where it is new.
 fn last_coming<'t, 'a>(known: &Known<'t, 'a>, gap: &Gap<'_, 't, 'a>) -> Option<Visit<'t, 'a>> {
-    let mut last = 0;
-    for node in gap.new {
-        if is_compared(node.kind) {
-            last = node.id;
-        }
+    match last_block(gap.new) {
+        Some(node) if node.id != 0 => original(known.index, node.id),
+        _ => None,
     }
-    if last == 0 {
-        return None;
-    }
-    original(known.index, last)
 }
 
 /// Whether the last of those that come was in the page, and had something directly below it there.
@@ -291,8 +303,7 @@ fn ends_in_stack<'t, 'a>(
     behind: &Node<'_>,
 ) -> bool {
     let is_before_heading = is_heading(kind_at_start(behind));
-    let is_directly_before = range_of(behind).start <= gap.place.end;
-    if gap.is_tight || !is_box(last) || is_before_heading || !is_directly_before {
+    if gap.is_tight || !is_box(last) || is_before_heading || !is_directly_before(gap, behind) {
         return false;
     }
     match last_coming(known, gap) {
@@ -303,12 +314,26 @@ fn ends_in_stack<'t, 'a>(
     }
 }
 
-/// Whether what comes after a paragraph ends with one, too, as where it is split: what is below is as close to this one,
-/// but for a heading.
+/// Whether the last of those that come ends as the page's block before the gap does: it is the second half of that one.
+fn is_second_half(gap: &Gap<'_, '_, '_>, before: &Node<'_>) -> bool {
+    let Some(new) = last_block(gap.new) else {
+        return false;
+    };
+    match (inside(new).last(), inside(before).last()) {
+        (Some(last), Some(was)) => {
+            (was.id != 0 && was.id == last.id)
+                || (!last.shown().is_empty() && was.shown().ends_with(last.shown()))
+        }
+        _ => false,
+    }
+}
+
+/// Whether what comes after a paragraph ends with one, too: what is below is as close to this one, but a heading only
+/// where the paragraph was split.
 fn goes_on_as_paragraph(gap: &Gap<'_, '_, '_>, last: Kind, below: Kind) -> bool {
     match gap.before {
-        Some(before) if !gap.is_tight && !is_heading(below) => {
-            matches!(before.kind, Kind::Para) && matches!(last, Kind::Para)
+        Some(before) if !gap.is_tight && matches!(before.kind, Kind::Para) => {
+            matches!(last, Kind::Para) && (!is_heading(below) || is_second_half(gap, before))
         }
         _ => false,
     }
@@ -398,11 +423,9 @@ fn breaks_behind<'t, 'a>(
     let page = known.page;
     let last = coming.last;
     let Some(behind) = gap.behind else {
-        return if gap.in_cell && is_doubled_at(page, gap.place.end) {
-            1
-        } else {
-            0
-        };
+        let ends_line = (gap.in_cell && is_doubled_at(page, gap.place.end))
+            || (coming.is_trailed && byte_at(page, after.start) != b'\n');
+        return if ends_line { 1 } else { 0 };
     };
     let standing = most_breaks(page, after.start, after.end);
     let wanted = if standing == 0 && coming.is_of_line && shares_line(page, last, behind) {
@@ -478,6 +501,56 @@ fn comes_last_in_line(page: &str, gap: &Gap<'_, '_, '_>, coming: &Coming) -> boo
         && most_breaks(page, range_of(before).start, range_of(before).end) == 0
 }
 
+/// Whether the next cell of the page goes on in the line of this one.
+fn is_followed_in_line(known: &Known<'_, '_>, cell: &Node<'_>) -> bool {
+    match original(known.index, cell.id) {
+        Some(visit) => match next_in_page(known, visit) {
+            Some(next) => is_doubled(known.page, next),
+            None => false,
+        },
+        None => false,
+    }
+}
+
+/// Whether what comes is one cell before the first one of a line, in which no blanks are beside the signs.
+fn comes_first_in_line(known: &Known<'_, '_>, gap: &Gap<'_, '_, '_>, coming: &Coming) -> bool {
+    let Some(behind) = gap.behind else {
+        return false;
+    };
+    gap.before.is_none()
+        && is_directly_before(gap, behind)
+        && is_cell(coming.first)
+        && same_kind(coming.first, behind.kind)
+        && count_of(gap.new) == 1
+        && coming.is_of_line
+        && style_of(gap.behind).is_tight
+        && !is_doubled(known.page, behind)
+        && is_at_line_start(known.page, range_of(behind).start)
+        && is_followed_in_line(known, behind)
+}
+
+/// What is written of what comes in a line of the page: after a cell of it, or before its first one, whose sign is that
+/// of one that goes on then. None where it begins a line of its own.
+fn source_in_line(
+    alloc: Global,
+    known: &Known<'_, '_>,
+    gap: &Gap<'_, '_, '_>,
+    coming: &Coming,
+) -> Result<Option<Str>, NoMemory> {
+    let source = coming.source.as_str();
+    let mut out = Str::new(alloc);
+    if joins_line(known.page, gap, coming) || comes_last_in_line(known.page, gap, coming) {
+        push_in_line(&mut out, source)?;
+        return Ok(Some(out));
+    }
+    if comes_first_in_line(known, gap, coming) {
+        out.push_str(source)?;
+        out.push_str(first_sign(source))?;
+        return Ok(Some(out));
+    }
+    Ok(None)
+}
+
 /// Whether what comes is one cell in the place of one that went on in the line of the cell before, which has its kind.
 fn takes_place_in_line(page: &str, gap: &Gap<'_, '_, '_>, coming: &Coming, at: usize) -> bool {
     let Some(before) = gap.before else {
@@ -517,6 +590,11 @@ pub fn push_new<'t, 'a>(
     let page = known.page;
     let slice = slices.first().copied();
     let place = place_of(gap, slice);
+    if slice.is_none()
+        && let Some(by) = source_in_line(alloc, known, gap, coming)?
+    {
+        return push_change(out, place, by);
+    }
     let to = match slices.get(1) {
         Some(next) => next.place.start,
         None => gap.place.end,
@@ -529,11 +607,6 @@ pub fn push_new<'t, 'a>(
     };
     let behind = breaks_behind(known, gap, slice, coming, after);
     let mut by = Str::new(alloc);
-    let joins = joins_line(page, gap, coming) || comes_last_in_line(page, gap, coming);
-    if slice.is_none() && joins {
-        push_in_line(&mut by, coming.source.as_str())?;
-        return push_change(out, place, by);
-    }
     let is_in_line = slice.is_some() && takes_place_in_line(page, gap, coming, place.start);
     push_source(&mut by, coming, is_in_line, before)?;
     if begins_without_sign(gap) {

@@ -39,13 +39,22 @@ impl Numbering {
     }
 }
 
+/// Into which of the children beside a gap the text of the one that goes went, as where two paragraphs are joined.
+#[derive(Clone, Copy)]
+pub enum Joined {
+    Nowhere,
+    Before,
+    Behind,
+}
+
 /// A gap between two children that stay in their turn, or the part of it between two comments or include tags: where
 /// it is, the include tags beside it, from where on blanks before it count, these two as the page has them, the text at
 /// the end of the one before, where that was looked for, whether that one is text alone as it was edited, the page's
 /// children between them, and the edited ones, with the number of the block of the first, whether they are lines of an
 /// item, a list or a table, with no empty line between them, whether a cell holds them, or a row without a sign of its
-/// own, how a list in an item is written that holds them, and whether the one after it is an item that gets a line of
-/// its own by itself.
+/// own, how a list in an item is written that holds them, and of the one after it whether it begins with the character
+/// with which it began in the page, and whether it is an item that gets a line of its own by itself; and where the text
+/// of what goes went.
 #[derive(Clone, Copy)]
 pub struct Gap<'w, 't, 'a> {
     pub place: Slot,
@@ -59,7 +68,9 @@ pub struct Gap<'w, 't, 'a> {
     pub text_before: Option<&'t Node<'a>>,
     pub is_behind_text: bool,
     pub behind: Option<&'t Node<'a>>,
+    pub begins_alike: bool,
     pub gets_line: bool,
+    pub joined: Joined,
     pub gone: &'w [Child<'t, 'a>],
     pub new: &'w [Node<'a>],
     pub first: Numbering,

@@ -1,8 +1,8 @@
 //! What goes of the children of the page in a gap.
 
-use crate::blanks::{back_over_blanks, most_breaks, past_blanks};
+use crate::blanks::{back_over_blanks, byte_at, most_breaks, past_blanks};
 use crate::breaks::{breaks, kind_at_end, kind_at_start, least_between};
-use crate::gap::{Gap, is_below_heading};
+use crate::gap::{Gap, Joined, is_below_heading};
 use crate::lines::{is_doubled, leaves_line_start, range_of, sign_at_line_start};
 use crate::tags::{Tags, breaks_before_tag, breaks_behind_tag, tag_of};
 use std::alloc::Global;
@@ -61,17 +61,42 @@ fn push_slice(
     Ok(())
 }
 
-/// Whether a node is one of the comments that come along with the block below them; `along` says it of each number.
-pub fn comes_along(along: &[bool], node: &Node<'_>) -> bool {
-    along.get(node.id as usize).copied().unwrap_or(false)
+/// Whether a node is a comment that comes along with a block that moved: before the one below it, or behind the one above.
+#[derive(Clone, Copy)]
+pub enum Along {
+    No,
+    Before,
+    Behind,
+}
+
+/// How a node comes along; `along` says it of each number.
+pub fn way_of(along: &[Along], node: &Node<'_>) -> Along {
+    along.get(node.id as usize).copied().unwrap_or(Along::No)
+}
+
+/// Whether a node is one of the comments that come along with a block.
+pub fn comes_along(along: &[Along], node: &Node<'_>) -> bool {
+    !matches!(way_of(along, node), Along::No)
+}
+
+/// Where a node is that goes: of a comment all but its own line break.
+fn place_of(page: &str, node: &Node<'_>) -> Slot {
+    let place = range_of(node);
+    let last = place.end.saturating_sub(1);
+    let has_break = node.kind.is_mark() && place.start < last && byte_at(page, last) == b'\n';
+    Slot {
+        start: place.start,
+        end: if has_break { last } else { place.end },
+    }
 }
 
 /// The slices of a gap's children that go: those that are next to each other in one, with the comments that come along
 /// with them. Another comment or an include tag between two of them stays.
 pub fn slices_of(
     alloc: Global,
+    page: &str,
     gap: &Gap<'_, '_, '_>,
-    along: &[bool],
+    along: &[Along],
 ) -> Result<Vec<Slice>, NoMemory> {
     let mut out = Vec::new(alloc);
     let mut slice = None;
@@ -79,7 +104,7 @@ pub fn slices_of(
     for child in gap.gone {
         let node = child.node;
         if is_compared(node.kind) || comes_along(along, node) {
-            slice = Some(joined(slice, tag, range_of(node)));
+            slice = Some(joined(slice, tag, place_of(page, node)));
         } else if node.kind.is_mark() {
             tag = tag_of(node);
             push_slice(&mut out, slice, tag)?;
@@ -153,7 +178,8 @@ fn push_missing_signs(
 }
 
 /// Appends a slice of a gap. Where a cell or an item that went on in a line begins one after it, the two signs of a
-/// cell become one, and an item has all of its signs; a paragraph that would be another block then has `<nowiki/>`.
+/// cell become one, and an item has all of its signs; a paragraph that would be another block then has `<nowiki/>`, if it
+/// still begins so.
 pub fn push_part_of(
     alloc: Global,
     out: &mut Vec<Change>,
@@ -173,7 +199,7 @@ pub fn push_part_of(
             by.push_str(sign_at_line_start(page, node, end))?;
         } else if is_item(node.kind) {
             push_missing_signs(alloc, &mut by, known, node)?;
-        } else if is_paragraph_in_line(page, node) {
+        } else if gap.begins_alike && is_paragraph_in_line(page, node) {
             by.push_str("<nowiki/>")?;
         }
     }
@@ -205,8 +231,9 @@ fn is_behind_block(gap: &Gap<'_, '_, '_>, slice: Slot) -> bool {
 }
 
 /// How many line breaks are left of those before and after a slice that goes: the longer of the two. But what comes
-/// after it goes on in the line of a comment or an include tag, or is as close to a heading as it was; and beside an
-/// include tag those are left that are beside the tag.
+/// after it goes on in the line of a comment or an include tag, or is as close to a heading as it was; beside an include
+/// tag those are left that are beside the tag; and where the slice was joined with what is beside it, those on its other
+/// side.
 fn breaks_left(gap: &Gap<'_, '_, '_>, slice: Slice, before: usize, behind: usize) -> usize {
     let tags = slice.tags;
     let goes_on = before == 0 && !is_behind_block(gap, slice.place);
@@ -217,7 +244,11 @@ fn breaks_left(gap: &Gap<'_, '_, '_>, slice: Slice, before: usize, behind: usize
     } else if is_below_heading(gap) {
         before
     } else {
-        before.max(behind)
+        match gap.joined {
+            Joined::Nowhere => before.max(behind),
+            Joined::Before => behind,
+            Joined::Behind => before,
+        }
     }
 }
 

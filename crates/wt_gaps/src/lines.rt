@@ -1,10 +1,10 @@
 //! Where nodes are in the page, and which cells go on in the line of the one before them.
 
-use crate::blanks::{byte_at, is_at_line_start, most_breaks, past_blanks};
+use crate::blanks::{byte_at, most_breaks, past_blanks};
 use crate::breaks::{between, is_box, kind_at_end, kind_at_start, least_between, push_breaks};
 use wt_block_signs::{is_cell, is_part};
 use wt_checks::{Visit, is_compared, original};
-use wt_known::{Known, breaks_between};
+use wt_known::{Known, breaks_between, is_at_line_start};
 use wt_places::Slot;
 use wt_span::{NoMemory, Str};
 use wt_tree::{Kind, Node, same_kind};
@@ -27,17 +27,38 @@ fn slice_of<'p>(page: &'p str, place: Slot) -> &'p str {
     slice
 }
 
-/// The place in the page between two blocks that are neighbours there, with nothing but line breaks and blanks.
+/// The place in the page between two blocks that are neighbours there, with nothing but line breaks and blanks; it is
+/// empty where they share a line.
 fn place_between(known: &Known<'_, '_>, before: &Node<'_>, node: &Node<'_>) -> Option<Slot> {
     if before.id == 0 || node.id == 0 {
         return None;
     }
     let start = range_of(original(known.index, before.id)?.node).end;
     let end = range_of(original(known.index, node.id)?.node).start;
-    if breaks_between(known.page, start, end)? == 0 {
-        return None;
+    breaks_between(known.page, start, end)?;
+    if start <= end {
+        Some(Slot { start, end })
+    } else {
+        None
     }
-    Some(Slot { start, end })
+}
+
+/// Whether a block is of the kind that it has in the page.
+fn is_of_its_kind(known: &Known<'_, '_>, node: &Node<'_>) -> bool {
+    match original(known.index, node.id) {
+        Some(visit) => node.id != 0 && same_kind(visit.node.kind, node.kind),
+        None => false,
+    }
+}
+
+/// How many line breaks two blocks that are neighbours in the page ask for: none more than it has, unless one of them has
+/// another kind now.
+fn least_of(known: &Known<'_, '_>, is_tight: bool, before: &Node<'_>, node: &Node<'_>) -> usize {
+    if is_of_its_kind(known, before) && is_of_its_kind(known, node) {
+        0
+    } else {
+        least_between(is_tight, kind_at_end(before), kind_at_start(node))
+    }
 }
 
 /// Appends what the page has between two blocks, the second of which comes after the first one again, with as many
@@ -54,7 +75,7 @@ pub fn push_between(
     let Some(place) = place_between(known, before, node) else {
         return Ok(false);
     };
-    let least = least_between(false, kind_at_end(before), kind_at_start(node));
+    let least = least_of(known, false, before, node);
     let standing = breaks_between(known.page, place.start, place.end).unwrap_or(0);
     out.push_str(slice_of(known.page, place))?;
     push_breaks(out, least.saturating_sub(standing))?;
@@ -79,19 +100,25 @@ pub fn push_up_to_comment(
         Some(visit) => range_of(visit.node).start,
         None => place.end,
     };
-    let least = least_between(is_tight, kind_at_end(before), kind_at_start(block));
+    let least = least_of(known, is_tight, before, block);
     let standing = most_breaks(known.page, place.start, start);
     out.push_str(slice_of(known.page, place))?;
     push_breaks(out, least.saturating_sub(standing))
 }
 
-/// Where a comment of the page ends with the blanks and line breaks after it; in an item, a list or a table, where no
-/// empty line is, with its own line break.
-fn end_of_comment(page: &str, is_tight: bool, end: usize) -> usize {
+/// Where a comment of the page, which ends here, ends with the blanks and line breaks up to what comes next; in an item, a
+/// list or a table, where no empty line is, with its own line break.
+fn end_of_comment(known: &Known<'_, '_>, is_tight: bool, comment: &Node<'_>, end: usize) -> usize {
+    let page = known.page;
+    let next = (comment.id as usize).saturating_add(1);
+    let to = match known.index.get(next) {
+        Some(visit) => range_of(visit.node).start,
+        None => page.len(),
+    };
     if is_tight && is_at_line_start(page, end) {
         end
     } else {
-        past_blanks(page, end, page.len())
+        past_blanks(page, end, to)
     }
 }
 
@@ -106,7 +133,7 @@ pub fn push_comment(
         return Ok(());
     };
     let place = range_of(visit.node);
-    let end = end_of_comment(known.page, is_tight, place.end);
+    let end = end_of_comment(known, is_tight, comment, place.end);
     out.push_str(slice_of(
         known.page,
         Slot {
@@ -114,6 +141,19 @@ pub fn push_comment(
             end,
         },
     ))
+}
+
+/// Appends a comment of the page that has a line of its own, without its line break.
+pub fn push_comment_line(
+    out: &mut Str,
+    known: &Known<'_, '_>,
+    comment: &Node<'_>,
+) -> Result<(), NoMemory> {
+    let Some(visit) = original(known.index, comment.id) else {
+        return Ok(());
+    };
+    let source = slice_of(known.page, range_of(visit.node));
+    out.push_str(source.strip_suffix("\n").unwrap_or(source))
 }
 
 /// The block after one of the page's, in what holds it; None where a comment or an include tag comes first.
@@ -232,8 +272,13 @@ pub fn shares_line(page: &str, last: Kind, cell: &Node<'_>) -> bool {
     is_cell(last) && same_kind(last, cell.kind) && is_doubled(page, cell)
 }
 
+/// The sign with which a cell begins.
+pub fn first_sign(cell: &str) -> &'static str {
+    if cell.starts_with("!") { "!" } else { "|" }
+}
+
 /// Appends a cell that goes on in a line, given as it begins one.
 pub fn push_in_line(out: &mut Str, cell: &str) -> Result<(), NoMemory> {
-    out.push_str(if cell.starts_with("!") { "!" } else { "|" })?;
+    out.push_str(first_sign(cell))?;
     out.push_str(cell)
 }

@@ -26,6 +26,27 @@ pub fn nodes_between<'w, 'a>(nodes: &'w [Node<'a>], from: usize, to: usize) -> &
     }
 }
 
+/// The first of these nodes that counts.
+pub fn first_block<'n, 'a>(nodes: &'n [Node<'a>]) -> Option<&'n Node<'a>> {
+    for node in nodes {
+        if is_compared(node.kind) {
+            return Some(node);
+        }
+    }
+    None
+}
+
+/// The last of these nodes that counts.
+pub fn last_block<'n, 'a>(nodes: &'n [Node<'a>]) -> Option<&'n Node<'a>> {
+    let mut last = None;
+    for node in nodes {
+        if is_compared(node.kind) {
+            last = Some(node);
+        }
+    }
+    last
+}
+
 /// How many of these nodes count.
 pub fn count_of(nodes: &[Node<'_>]) -> usize {
     let mut count = 0usize;

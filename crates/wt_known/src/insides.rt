@@ -1,5 +1,6 @@
 //! The text with which an item or a cell begins, and the comments and include tags on lines of their own below it.
 
+use crate::lines::is_at_line_start;
 use wt_checks::{Visit, original};
 use wt_difference::inside;
 use wt_tree::{Holding, Kind, Node};
@@ -14,12 +15,9 @@ fn holds_more(kind: Kind) -> bool {
 
 /// Whether a node of the page begins a line.
 fn begins_line(page: &str, node: &Node<'_>) -> bool {
-    let Some(ranges) = node.ranges else {
-        return false;
-    };
-    match (ranges.start as usize).checked_sub(1) {
-        Some(at) => page.as_bytes().get(at) == Some(&b'\n'),
-        None => true,
+    match node.ranges {
+        Some(ranges) => is_at_line_start(page, ranges.start as usize),
+        None => false,
     }
 }
 
@@ -39,7 +37,24 @@ fn is_on_own_line(
     }
 }
 
-/// The inside of an edited node without the comments and include tags at its end that are on lines of their own.
+/// Whether a comment or an include tag of the page goes on in the line of the one before it, which was sent before it, too.
+fn goes_on_in_line(index: &[Visit<'_, '_>], before: &Node<'_>, node: &Node<'_>) -> bool {
+    if node.id == 0 || !node.kind.is_mark() || before.id.saturating_add(1) != node.id {
+        return false;
+    }
+    match (original(index, before.id), original(index, node.id)) {
+        (Some(left), Some(visit)) => match (left.node.ranges, visit.node.ranges) {
+            (Some(ended), Some(begun)) => {
+                left.parent == visit.parent && ended.end == begun.start
+            }
+            _ => false,
+        },
+        _ => false,
+    }
+}
+
+/// The inside of an edited node without the comments and include tags at its end that are on lines of their own, or after
+/// another one of these.
 fn text_in<'n, 'b>(
     page: &str,
     index: &[Visit<'_, '_>],
@@ -52,7 +67,9 @@ fn text_in<'n, 'b>(
     }
     let mut end = 0;
     for at in 0..inside.len() {
-        if !is_on_own_line(page, index, holder, &inside[at]) {
+        let is_below = is_on_own_line(page, index, holder, &inside[at])
+            || (end < at && goes_on_in_line(index, &inside[at - 1], &inside[at]));
+        if !is_below {
             end = at.saturating_add(1);
         }
     }

@@ -138,6 +138,26 @@ pub fn block_of<'t, 'a>(alloc: Global, node: &'t Node<'a>) -> Result<Block<'t, '
 }
 
 impl<'t, 'a> Block<'t, 'a> {
+    /// The same where a blank is written before its inside.
+    pub fn behind_blank(self) -> Block<'t, 'a> {
+        let Block {
+            page,
+            sides,
+            first,
+            start,
+            inside,
+            before: _,
+        } = self;
+        Block {
+            page,
+            sides,
+            first,
+            start,
+            inside,
+            before: b' ',
+        }
+    }
+
     /// The block's node of this number, with its place in the page.
     fn find(&self, number: u32) -> Option<Kept<'t, 'a>> {
         let kept = self.page.find(number)?;
@@ -300,7 +320,7 @@ impl<'t, 'a> Known<'t, 'a> {
     }
 
     /// The texts beside the page's node of this number.
-    fn sides_of(&self, block: Option<&Block<'t, 'a>>, number: u32) -> Option<Sides<'t, 'a>> {
+    fn sides_of(&self, block: &Option<Block<'t, 'a>>, number: u32) -> Option<Sides<'t, 'a>> {
         if number == 0 {
             return None;
         }
@@ -316,7 +336,7 @@ impl<'t, 'a> Known<'t, 'a> {
     }
 
     /// The text after the page's node of this number.
-    pub fn behind(&self, block: Option<&Block<'t, 'a>>, number: u32) -> Option<&'t Node<'a>> {
+    pub fn behind(&self, block: &Option<Block<'t, 'a>>, number: u32) -> Option<&'t Node<'a>> {
         match self.sides_of(block, number) {
             Some(sides) => sides.behind,
             None => None,
@@ -324,7 +344,7 @@ impl<'t, 'a> Known<'t, 'a> {
     }
 
     /// The text before it.
-    pub fn before(&self, block: Option<&Block<'t, 'a>>, number: u32) -> Option<&'t Node<'a>> {
+    pub fn before(&self, block: &Option<Block<'t, 'a>>, number: u32) -> Option<&'t Node<'a>> {
         match self.sides_of(block, number) {
             Some(sides) => sides.before,
             None => None,
@@ -333,7 +353,7 @@ impl<'t, 'a> Known<'t, 'a> {
 
     /// The page's node of this number, with its place in the page: as its neighbours in the block see it, where
     /// it is there.
-    pub fn find(&self, block: Option<&Block<'t, 'a>>, number: u32) -> Option<Kept<'t, 'a>> {
+    pub fn find(&self, block: &Option<Block<'t, 'a>>, number: u32) -> Option<Kept<'t, 'a>> {
         if let Some(block) = block
             && let Some(kept) = block.find(number)
         {
@@ -351,7 +371,7 @@ impl<'t, 'a> Known<'t, 'a> {
     }
 
     /// What is known of the groups of the page: of all, or of those in the block.
-    pub fn groups<'k>(&'k self, block: Option<&'k Block<'t, 'a>>) -> Option<&'k Page<'t, 'a>> {
+    pub fn groups<'k>(&'k self, block: &'k Option<Block<'t, 'a>>) -> Option<&'k Page<'t, 'a>> {
         match &self.whole {
             Some(whole) => Some(&whole.page),
             None => match block {

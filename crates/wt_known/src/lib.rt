@@ -4,9 +4,11 @@
 mod closeness;
 mod insides;
 mod known;
+mod lines;
 mod texts;
 
 pub use closeness::{Closeness, breaks_between};
 pub use insides::{text_of, text_of_staying};
 pub use known::{Block, Known, Sides, block_of, first_text, last_text, takes_from_elsewhere};
+pub use lines::is_at_line_start;
 pub use texts::joined;

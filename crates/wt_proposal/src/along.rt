@@ -1,12 +1,12 @@
-//! Comments that come along with a block that moved: those that are before it in the page, and were sent before it. And
-//! which comments and include tags are left where the page has them.
+//! Comments that come along with a block that moved: those that are before it in the page, or directly below it, and were
+//! sent so. And which comments and include tags are left where the page has them.
 
 use std::alloc::Global;
 use wt_block_signs::is_cell;
 use wt_checks::{Visit, is_compared, is_content, original};
 use wt_difference::{are_same, inside_count, is_block_part, stays_in};
-use wt_gaps::{byte_at, is_at_line_start, nodes_between, range_of};
-use wt_known::text_of;
+use wt_gaps::{Along, byte_at, nodes_between, range_of};
+use wt_known::{breaks_between, is_at_line_start, text_of};
 use wt_places::turns;
 use wt_span::NoMemory;
 use wt_tree::{Kind, Node};
@@ -62,12 +62,18 @@ fn note_row(out: &mut [u32], index: &[Visit<'_, '_>], from: usize, at: usize) {
     }
 }
 
-/// Of each comment of the page, by its number, the number of what it is directly before; 0 of all other nodes.
-fn blocks_below(alloc: Global, page: &str, index: &[Visit<'_, '_>]) -> Result<Vec<u32>, NoMemory> {
+/// Of each node of the page, by its number: none.
+fn no_numbers(alloc: Global, index: &[Visit<'_, '_>]) -> Result<Vec<u32>, NoMemory> {
     let mut out = Vec::new(alloc);
     for _ in 0..index.len() {
         out.push(0)?;
     }
+    Ok(out)
+}
+
+/// Of each comment of the page, by its number, the number of what it is directly before; 0 of all other nodes.
+fn blocks_below(alloc: Global, page: &str, index: &[Visit<'_, '_>]) -> Result<Vec<u32>, NoMemory> {
+    let mut out = no_numbers(alloc, index)?;
     let mut from = 0;
     for at in 0..index.len() {
         if is_comment(index[at].node) {
@@ -80,20 +86,115 @@ fn blocks_below(alloc: Global, page: &str, index: &[Visit<'_, '_>]) -> Result<Ve
     Ok(out)
 }
 
-// ---- in the edited tree
+/// What is said of a number; 0 where nothing is.
+fn said_of(numbers: &[u32], number: u32) -> u32 {
+    numbers.get(number as usize).copied().unwrap_or(0)
+}
 
-/// The number of what a comment is before in the page; 0 of any other node.
-fn block_below(below: &[u32], node: &Node<'_>) -> u32 {
-    if !is_comment(node) {
+/// Whether the line that begins at a place of the page is empty, or the page ends there.
+fn is_before_empty_line(page: &str, from: usize) -> bool {
+    for at in from..page.len() {
+        match byte_at(page, at) {
+            b' ' | b'\t' => {}
+            byte => return byte == b'\n',
+        }
+    }
+    true
+}
+
+/// The number of the block that a comment of the page is below, where the child of its holder before it has this number:
+/// this one, if the comment is on the line after it, or that of the comment before it; 0 of any other node.
+fn block_over(
+    page: &str,
+    index: &[Visit<'_, '_>],
+    above: &[u32],
+    before: u32,
+    comment: &Node<'_>,
+) -> u32 {
+    let Some(visit) = original(index, before) else {
+        return 0;
+    };
+    if before == 0 || !is_comment(comment) || !is_alone(page, comment) {
         return 0;
     }
-    below.get(node.id as usize).copied().unwrap_or(0)
+    let end = range_of(visit.node).end;
+    let breaks = breaks_between(page, end, range_of(comment).start);
+    if is_comment(visit.node) && breaks == Some(0) {
+        said_of(above, before)
+    } else if is_compared(visit.node.kind) && !is_cell(visit.node.kind) && breaks == Some(1) {
+        before
+    } else {
+        0
+    }
+}
+
+/// Of each comment of the page, by its number, the number of the block that it is directly below, or is so with comments
+/// between; 0 of all other nodes.
+fn blocks_over(alloc: Global, page: &str, index: &[Visit<'_, '_>]) -> Result<Vec<u32>, NoMemory> {
+    let mut out = no_numbers(alloc, index)?;
+    let mut children = no_numbers(alloc, index)?;
+    for at in 1..index.len() {
+        let visit = index[at];
+        let holder = visit.parent as usize;
+        let before = said_of(children.as_slice(), visit.parent);
+        let over = block_over(page, index, out.as_slice(), before, visit.node);
+        if at < out.len() {
+            out[at] = over;
+        }
+        if holder < children.len() {
+            children[holder] = visit.node.id;
+        }
+    }
+    Ok(out)
+}
+
+/// Whether an empty line comes after the page's node with this number, or the page's end.
+fn is_last_in_row(page: &str, index: &[Visit<'_, '_>], at: usize) -> bool {
+    match index.get(at) {
+        Some(visit) => is_before_empty_line(page, range_of(visit.node).end),
+        None => false,
+    }
+}
+
+/// The same where an empty line comes after it, or after the comments below it, or the page's end: it belongs to what is
+/// above it.
+fn blocks_above(alloc: Global, page: &str, index: &[Visit<'_, '_>]) -> Result<Vec<u32>, NoMemory> {
+    let mut out = blocks_over(alloc, page, index)?;
+    let mut next = 0;
+    for count in 0..out.len() {
+        let at = out.len().saturating_sub(count).saturating_sub(1);
+        if at < out.len() {
+            if out[at] != 0 && out[at] != next && !is_last_in_row(page, index, at) {
+                out[at] = 0;
+            }
+            next = out[at];
+        }
+    }
+    Ok(out)
+}
+
+// ---- in the edited tree
+
+/// The number of what a comment is beside in the page; 0 of any other node.
+fn block_beside(blocks: &[u32], node: &Node<'_>) -> u32 {
+    if is_comment(node) {
+        said_of(blocks, node.id)
+    } else {
+        0
+    }
+}
+
+/// The blocks beside the page's comments: those that they are before, and those that they are below.
+#[derive(Clone, Copy)]
+struct Blocks<'w> {
+    below: &'w [u32],
+    above: &'w [u32],
 }
 
 /// Whether one of these nodes is a comment that may come along.
-fn may_come(below: &[u32], nodes: &[Node<'_>]) -> bool {
+fn may_come(blocks: &Blocks<'_>, nodes: &[Node<'_>]) -> bool {
     for node in nodes {
-        if block_below(below, node) != 0 {
+        if block_beside(blocks.below, node) != 0 || block_beside(blocks.above, node) != 0 {
             return true;
         }
     }
@@ -111,7 +212,7 @@ fn own_row(below: &[u32], nodes: &[Node<'_>], number: u32) -> usize {
             if node.id != next {
                 from = at;
             }
-            next = if block_below(below, node) == number {
+            next = if block_beside(below, node) == number {
                 node.id.saturating_add(1)
             } else {
                 0
@@ -123,11 +224,28 @@ fn own_row(below: &[u32], nodes: &[Node<'_>], number: u32) -> usize {
 
 /// Notes those of these nodes, which were sent before the block with this number, that the page has directly before it, too,
 /// in the same order.
-fn note_before(out: &mut [bool], below: &[u32], nodes: &[Node<'_>], number: u32) {
+fn note_before(out: &mut [Along], below: &[u32], nodes: &[Node<'_>], number: u32) {
     for node in nodes_between(nodes, own_row(below, nodes, number), nodes.len()) {
         let at = node.id as usize;
-        if block_below(below, node) == number && at < out.len() {
-            out[at] = true;
+        if block_beside(below, node) == number && at < out.len() {
+            out[at] = Along::Before;
+        }
+    }
+}
+
+/// Notes those of these nodes, which were sent after the block with this number, that the page has below it, too, in the
+/// same order.
+fn note_behind(out: &mut [Along], above: &[u32], nodes: &[Node<'_>], number: u32) {
+    let mut last = 0;
+    for node in nodes {
+        let is_next = block_beside(above, node) == number && last < node.id;
+        if ends_row(node.kind) || (is_comment(node) && !is_next) {
+            return;
+        }
+        let at = node.id as usize;
+        if is_comment(node) && at < out.len() {
+            out[at] = Along::Behind;
+            last = node.id;
         }
     }
 }
@@ -190,13 +308,13 @@ fn turns_in(
 /// Notes the comments that come along among these children.
 fn note_children(
     alloc: Global,
-    out: &mut [bool],
-    below: &[u32],
+    out: &mut [Along],
+    blocks: &Blocks<'_>,
     index: &[Visit<'_, '_>],
     holder: Holder,
     nodes: &[Node<'_>],
 ) -> Result<(), NoMemory> {
-    if !may_come(below, nodes) {
+    if !may_come(blocks, nodes) {
         return Ok(());
     }
     let turns = turns_in(alloc, index, holder, nodes)?;
@@ -206,10 +324,17 @@ fn note_children(
         if ends_row(node.kind) {
             let is_in_turn = turns.get(at).copied().unwrap_or(false);
             let is_moved = holder.gets(index, node) || holder.keeps(index, node);
+            let next = at.saturating_add(1);
             if is_moved && !is_in_turn {
-                note_before(out, below, nodes_between(nodes, from, at), node.id);
+                note_before(out, blocks.below, nodes_between(nodes, from, at), node.id);
+                note_behind(
+                    out,
+                    blocks.above,
+                    nodes_between(nodes, next, nodes.len()),
+                    node.id,
+                );
             }
-            from = at.saturating_add(1);
+            from = next;
         }
     }
     Ok(())
@@ -227,8 +352,8 @@ fn text_count(page: &str, index: &[Visit<'_, '_>], stays: bool, node: &Node<'_>)
 /// Notes the comments that come along in a node, which stays or doesn't, and in those that it holds.
 fn note_within(
     alloc: Global,
-    out: &mut [bool],
-    below: &[u32],
+    out: &mut [Along],
+    blocks: &Blocks<'_>,
     page: &str,
     index: &[Visit<'_, '_>],
     node: &Node<'_>,
@@ -238,30 +363,38 @@ fn note_within(
     let nodes = node.children.as_slice();
     let from = text_count(page, index, stays, node);
     let children = nodes_between(nodes, from, nodes.len());
-    note_children(alloc, out, below, index, holder, children)?;
+    note_children(alloc, out, blocks, index, holder, children)?;
     for child in nodes {
         if is_block_part(child.kind) {
             let stays = holder.keeps(index, child);
-            note_within(alloc, out, below, page, index, child, stays)?;
+            note_within(alloc, out, blocks, page, index, child, stays)?;
         }
     }
     Ok(())
 }
 
-/// Of each node of the page, by its number, whether it is a comment that comes along: the block that it is directly
-/// before was moved, in what holds it or into another node, and the comment was sent before it.
+/// Of each node of the page, by its number, whether it is a comment that comes along: the block that it is directly before
+/// or below was moved, in what holds it or into another node, and the comment was sent before or after it.
 pub fn comments_along(
     alloc: Global,
     page: &str,
     index: &[Visit<'_, '_>],
     edited: &Node<'_>,
-) -> Result<Vec<bool>, NoMemory> {
+) -> Result<Vec<Along>, NoMemory> {
     let below = blocks_below(alloc, page, index)?;
-    let mut out = none_noted(alloc, index)?;
+    let above = blocks_above(alloc, page, index)?;
+    let blocks = Blocks {
+        below: below.as_slice(),
+        above: above.as_slice(),
+    };
+    let mut out = Vec::new(alloc);
+    for _ in 0..index.len() {
+        out.push(Along::No)?;
+    }
     note_within(
         alloc,
         out.as_mut_slice(),
-        below.as_slice(),
+        &blocks,
         page,
         index,
         edited,
@@ -361,7 +494,7 @@ pub fn marks_left(
     index: &[Visit<'_, '_>],
     tree: &Node<'_>,
     edited: &Node<'_>,
-    along: &[bool],
+    along: &[Along],
     is_asked: bool,
 ) -> Result<Vec<bool>, NoMemory> {
     if !is_asked {
@@ -370,7 +503,7 @@ pub fn marks_left(
     let mut left = none_noted(alloc, index)?;
     note_left(alloc, left.as_mut_slice(), index, edited, tree)?;
     for at in 0..left.len() {
-        if along.get(at).copied().unwrap_or(false) {
+        if !matches!(along.get(at).copied().unwrap_or(Along::No), Along::No) {
             left[at] = false;
         }
     }

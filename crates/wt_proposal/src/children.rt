@@ -7,10 +7,10 @@ use wt_block_signs::{USUAL, ends_with_given_sign, goes_on_behind, is_item};
 use wt_checks::is_compared;
 use wt_difference::inside;
 use wt_gaps::{
-    Coming, Gap, Passed, behind_first, between_coming, comes_along, count_of, empties_row,
-    kind_at_end, kind_at_start, last_number, mark_at, nodes_between, place_behind, push_between,
-    push_breaks, push_comment, push_emptied_row, push_gone, push_new, push_up_to_comment, signs_in,
-    slices_of, style_beside, wanted_between,
+    Along, Coming, Gap, Passed, behind_first, between_coming, comes_along, count_of, empties_row,
+    first_block, kind_at_end, kind_at_start, last_number, mark_at, nodes_between, place_behind,
+    push_between, push_breaks, push_comment, push_comment_line, push_emptied_row, push_gone,
+    push_new, push_up_to_comment, signs_in, slices_of, style_beside, wanted_between, way_of,
 };
 use wt_known::{Known, last_text};
 use wt_span::{NoMemory, Str};
@@ -31,7 +31,7 @@ fn text_at_end<'t, 'a>(block: Option<&'t Node<'a>>) -> Option<&'t Node<'a>> {
 fn coming_of<'t, 'a>(
     alloc: Global,
     known: &Known<'t, 'a>,
-    plan: Plan<'_>,
+    plan: &Plan<'_>,
     outer: &str,
     gap: &Gap<'_, 't, 'a>,
 ) -> Result<Option<Coming>, NoMemory> {
@@ -41,7 +41,10 @@ fn coming_of<'t, 'a>(
     let mut before = None;
     for at in 0..gap.new.len() {
         let node = &gap.new[at];
-        if comes_along(plan.along, node) {
+        let way = way_of(plan.along, node);
+        if matches!(way, Along::Behind) {
+            coming = trailed_by(known, coming, node)?;
+        } else if matches!(way, Along::Before) {
             let rest = nodes_between(gap.new, at, gap.new.len());
             coming = led_by(alloc, known, gap.is_tight, coming, before, rest)?;
             before = None;
@@ -99,6 +102,7 @@ fn begun_with<'t, 'a>(
         last: kind_at_end(node),
         is_of_line: may_go_on(source.as_str(), 0, node),
         is_led: false,
+        is_trailed: false,
         source,
     })
 }
@@ -116,16 +120,6 @@ fn push_as_between(
     }
 }
 
-/// The first of these nodes that counts.
-fn first_block<'w, 'a>(nodes: &'w [Node<'a>]) -> Option<&'w Node<'a>> {
-    for node in nodes {
-        if is_compared(node.kind) {
-            return Some(node);
-        }
-    }
-    None
-}
-
 /// What comes, of which nothing is written yet, and begins with a comment that comes along with this block.
 fn led_to(alloc: Global, block: &Node<'_>) -> Coming {
     Coming {
@@ -134,6 +128,7 @@ fn led_to(alloc: Global, block: &Node<'_>) -> Coming {
         last: kind_at_end(block),
         is_of_line: false,
         is_led: true,
+        is_trailed: false,
         source: Str::new(alloc),
     }
 }
@@ -164,6 +159,23 @@ fn led_by(
         }
         push_comment(&mut coming.source, known, is_tight, comment)?;
     }
+    Ok(Some(coming))
+}
+
+/// What came so far, and on the next line a comment that comes along with the last block of it.
+fn trailed_by(
+    known: &Known<'_, '_>,
+    coming: Option<Coming>,
+    comment: &Node<'_>,
+) -> Result<Option<Coming>, NoMemory> {
+    let mut coming = match coming {
+        Some(coming) => coming,
+        None => return Ok(None),
+    };
+    coming.source.push_str("\n")?;
+    push_comment_line(&mut coming.source, known, comment)?;
+    coming.is_of_line = false;
+    coming.is_trailed = true;
     Ok(Some(coming))
 }
 
@@ -215,6 +227,7 @@ fn followed<'t, 'a>(
         last,
         is_of_line: _,
         is_led,
+        is_trailed: _,
         mut source,
     } = coming;
     let goes_on = goes_on_in_line(known, before, node);
@@ -236,6 +249,7 @@ fn followed<'t, 'a>(
         last: kind_at_end(node),
         is_of_line: may_go_on(source.as_str(), from, node),
         is_led,
+        is_trailed: false,
         source,
     })
 }
@@ -246,7 +260,7 @@ pub fn push_gap<'t, 'a>(
     alloc: Global,
     out: &mut Vec<Change>,
     known: &Known<'t, 'a>,
-    plan: Plan<'_>,
+    plan: &Plan<'_>,
     outer: &str,
     gap: &Gap<'_, 't, 'a>,
 ) -> Result<(), NoMemory> {
@@ -281,11 +295,11 @@ fn push_part<'t, 'a>(
     alloc: Global,
     out: &mut Vec<Change>,
     known: &Known<'t, 'a>,
-    plan: Plan<'_>,
+    plan: &Plan<'_>,
     outer: &str,
     gap: &Gap<'_, 't, 'a>,
 ) -> Result<(), NoMemory> {
-    let slices = slices_of(alloc, gap, plan.along)?;
+    let slices = slices_of(alloc, known.page, gap, plan.along)?;
     let slices = slices.as_slice();
     let coming = coming_of(alloc, known, plan, outer, gap)?;
     match coming {

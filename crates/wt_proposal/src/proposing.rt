@@ -13,11 +13,14 @@ use wt_block_signs::{
     Style, USUAL, ends_with_given_sign, is_bare_sign, is_cell, is_item, is_list,
     is_row_without_sign, joins_sign, signs_of, style_of, style_within,
 };
-use wt_checks::{Visit, is_compared};
+use wt_checks::{Visit, is_compared, is_content};
 use wt_content_proposal::{Writing, edges_of, spelled};
 use wt_difference::{Child, held, inside, inside_count, same_inside};
-use wt_gaps::{Gap, Numbering, Tags, byte_at, children_between, nodes_between, push_change};
-use wt_known::{Known, block_of, takes_from_elsewhere, text_of_staying};
+use wt_gaps::{
+    Along, Gap, Joined, Numbering, Tags, byte_at, children_between, first_block, nodes_between,
+    push_change,
+};
+use wt_known::{Known, block_of, first_text, takes_from_elsewhere, text_of_staying};
 use wt_places::{
     Beside, Reached, Slot, begun, inside_end, inside_start, inside_stop, next_turn, places,
     start_of, tested, turns,
@@ -46,16 +49,16 @@ impl Keeping {
 }
 
 /// What a proposal is made by, beside what is known of the page: where texts keep their bytes, and by the number of each
-/// comment whether it comes along with the block below it.
+/// comment whether it comes along with a block beside it.
 #[derive(Clone, Copy)]
 pub struct Plan<'w> {
     pub keeping: Keeping,
-    pub along: &'w [bool],
+    pub along: &'w [Along],
 }
 
 impl<'w> Plan<'w> {
     /// Whether texts keep their bytes in the block with this number.
-    pub fn keeps(self, block: usize) -> bool {
+    pub fn keeps(&self, block: usize) -> bool {
         self.keeping.keeps(block)
     }
 }
@@ -135,21 +138,25 @@ fn push_inside<'t, 'a>(
         return Ok(());
     }
     let start = inside_start(old.ranges);
-    let mut standing = block_of(alloc, old)?;
+    let block = block_of(alloc, old)?;
     let mut by = Str::new(alloc);
-    if is_behind_blank(out.as_slice(), start) {
-        standing.before = b' ';
-    } else if keeps && begins_with_sign(standing.before, new, old) {
+    let is_apart = is_behind_blank(out.as_slice(), start);
+    let is_parted = !is_apart && keeps && begins_with_sign(block.before, new, old);
+    if is_parted {
         by.push_str(" ")?;
-        standing.before = b' ';
     }
+    let block = Some(if is_apart || is_parted {
+        block.behind_blank()
+    } else {
+        block
+    });
     let source = spelled(
         alloc,
         known,
-        Some(&standing),
+        &block,
         writing_in(keeps, old),
         text_of_staying(known.page, known.index, new),
-        edges_of(inside(old)),
+        &edges_of(inside(old)),
     )?;
     by.push_str(source.as_str())?;
     let place = Slot {
@@ -169,17 +176,24 @@ fn push_inside<'t, 'a>(
 
 /// Whether the first of these nodes that counts is a list or a group; not where none counts.
 fn begin_with_list(nodes: &[Node<'_>]) -> bool {
-    for node in nodes {
-        if is_compared(node.kind) {
-            return is_list(node.kind) || matches!(node.kind, Kind::Group);
-        }
+    match first_block(nodes) {
+        Some(node) => is_list(node.kind) || matches!(node.kind, Kind::Group),
+        None => false,
     }
-    false
 }
 
 /// Whether an item of the page that had no line of its own gets one: it has text now, or no list begins on its line.
 fn gets_line(new: &Node<'_>, old: &Node<'_>) -> bool {
     is_item(old.kind) && old.opening().is_empty() && !begin_with_list(new.children.as_slice())
+}
+
+/// Whether a node of the page begins with the character of its text with which it began.
+fn begins_alike(new: &Node<'_>, old: &Node<'_>) -> bool {
+    match (first_text(inside(new)), first_text(inside(old))) {
+        (Some(text), Some(was)) => text.shown().as_bytes().first()
+            == was.shown().as_bytes().first(),
+        _ => false,
+    }
 }
 
 /// Past the signs of an item, which may begin at this place of the page.
@@ -211,14 +225,14 @@ fn push_own_line<'t, 'a>(
     old: &'t Node<'a>,
 ) -> Result<(), NoMemory> {
     let start = inside_start(old.ranges);
-    let block = block_of(alloc, old)?;
+    let block = Some(block_of(alloc, old)?);
     let source = spelled(
         alloc,
         known,
-        Some(&block),
+        &block,
         writing_in(keeps, old),
         text_of_staying(known.page, known.index, new),
-        edges_of(inside(old)),
+        &edges_of(inside(old)),
     )?;
     let mut by = signs_of(alloc, known, old)?;
     if !source.as_str().is_empty() {
@@ -279,7 +293,8 @@ struct Line {
 }
 
 /// A gap, by how many of the page's children come before it, whether the last of them is text alone as it was edited,
-/// by how many come before what comes after it, and whether this is an item that gets a line of its own.
+/// by how many come before what comes after it, whether this begins as it did, whether it is an item that gets a line of
+/// its own, and where the text of what goes went.
 #[derive(Clone, Copy)]
 struct Span {
     place: Slot,
@@ -287,7 +302,9 @@ struct Span {
     is_behind_text: bool,
     to: usize,
     is_last: bool,
+    begins_alike: bool,
     gets_line: bool,
+    joined: Joined,
     first: Numbering,
 }
 
@@ -338,14 +355,15 @@ impl Line {
         }
     }
 
-    /// Whether the edited child before those that come, one of these, is text alone, which isn't read with a sign that
-    /// comes after it.
+    /// The edited child before those that come, one of these.
+    fn before<'n, 'a>(&self, nodes: &'n [Node<'a>]) -> Option<&'n Node<'a>> {
+        nodes.get(self.came_from.checked_sub(1)?)
+    }
+
+    /// Whether this child is text alone, which isn't read with a sign that comes after it.
     fn is_behind_text(&self, nodes: &[Node<'_>]) -> bool {
-        match self.came_from.checked_sub(1) {
-            Some(at) => match nodes.get(at) {
-                Some(node) => !holds_more(node) && !ends_with_sign(node),
-                None => false,
-            },
+        match self.before(nodes) {
+            Some(node) => !holds_more(node) && !ends_with_sign(node),
             None => false,
         }
     }
@@ -358,7 +376,9 @@ impl Line {
             is_behind_text: self.is_behind_text(nodes),
             to: self.from.saturating_add(passed).saturating_sub(1),
             is_last: false,
+            begins_alike: true,
             gets_line: false,
+            joined: Joined::Nowhere,
             first: self.first,
         }
     }
@@ -374,9 +394,59 @@ impl Line {
             is_behind_text: self.is_behind_text(nodes),
             to: held.children.len(),
             is_last: true,
+            begins_alike: true,
             gets_line: false,
+            joined: Joined::Nowhere,
             first: self.first,
         }
+    }
+}
+
+/// The one block of the page among these; None where there are none or several.
+fn only_block<'t, 'a>(children: &[Child<'t, 'a>]) -> Option<&'t Node<'a>> {
+    let mut found = None;
+    for child in children {
+        if is_compared(child.node.kind) {
+            if found.is_some() {
+                return None;
+            }
+            found = Some(child.node);
+        }
+    }
+    found
+}
+
+/// Whether what a block of the page ended with is at the end of an edited one now, whose inside was changed.
+fn ends_with_end_of(new: &Node<'_>, gone: &Node<'_>) -> bool {
+    match (inside(new).last(), inside(gone).last()) {
+        (Some(last), Some(was)) if is_content(new.mark()) => {
+            (was.id != 0 && was.id == last.id)
+                || (!was.shown().is_empty() && last.shown().ends_with(was.shown()))
+        }
+        _ => false,
+    }
+}
+
+/// The same of what it began with.
+fn begins_with_start_of(new: &Node<'_>, gone: &Node<'_>) -> bool {
+    match (inside(new).first(), inside(gone).first()) {
+        (Some(first), Some(was)) if is_content(new.mark()) => {
+            (was.id != 0 && was.id == first.id)
+                || (!was.shown().is_empty() && first.shown().starts_with(was.shown()))
+        }
+        _ => false,
+    }
+}
+
+/// Where the text of the one block that goes between two edited ones went.
+fn joined_between(before: Option<&Node<'_>>, behind: &Node<'_>, gone: &[Child<'_, '_>]) -> Joined {
+    let Some(gone) = only_block(gone) else {
+        return Joined::Nowhere;
+    };
+    match before {
+        Some(before) if ends_with_end_of(before, gone) => Joined::Before,
+        _ if begins_with_start_of(behind, gone) => Joined::Behind,
+        _ => Joined::Nowhere,
     }
 }
 
@@ -423,7 +493,7 @@ fn push_span<'t, 'a>(
     alloc: Global,
     out: &mut Vec<Change>,
     known: &Known<'t, 'a>,
-    plan: Plan<'_>,
+    plan: &Plan<'_>,
     held: &Held<'_, 't, 'a>,
     new: &[Node<'a>],
     span: &Span,
@@ -442,7 +512,9 @@ fn push_span<'t, 'a>(
         text_before: None,
         is_behind_text: span.is_behind_text,
         behind,
+        begins_alike: span.begins_alike,
         gets_line: span.gets_line,
+        joined: span.joined,
         gone: children_between(held.children, span.from, span.to),
         new,
         first: span.first,
@@ -480,13 +552,13 @@ fn push_blank(
     alloc: Global,
     out: &mut Vec<Change>,
     new: &Node<'_>,
-    part: Part<'_, '_>,
+    part: &Part<'_, '_>,
     is_tight: bool,
 ) -> Result<(), NoMemory> {
-    let Part { old, beside } = part;
+    let old = part.old;
     if !is_bare_sign(old)
         || is_tight
-        || style_of(beside).is_tight
+        || style_of(part.beside).is_tight
         || same_inside(alloc, old, new)?
     {
         return Ok(());
@@ -502,7 +574,7 @@ fn push_children<'t, 'a>(
     alloc: Global,
     out: &mut Vec<Change>,
     known: &Known<'t, 'a>,
-    plan: Plan<'_>,
+    plan: &Plan<'_>,
     nodes: &'t [Node<'a>],
     held: &Held<'_, 't, 'a>,
     block: Numbering,
@@ -523,10 +595,12 @@ fn push_children<'t, 'a>(
         if let Some(place) = turn.gap {
             let new = nodes_between(nodes, line.came_from, at);
             let mut span = line.span(nodes, place, turn.passed);
-            span.gets_line = match turn.within {
-                Some(within) => gets_line(child, within),
-                None => false,
-            };
+            let gone = children_between(held.children, span.from, span.to);
+            span.joined = joined_between(line.before(nodes), child, gone);
+            if let Some(within) = turn.within {
+                span.begins_alike = begins_alike(child, within);
+                span.gets_line = gets_line(child, within);
+            }
             push_span(alloc, out, known, plan, held, new, &span)?;
         }
         if let Some(within) = turn.within {
@@ -539,11 +613,11 @@ fn push_children<'t, 'a>(
                     alloc,
                     out,
                     child,
-                    part,
+                    &part,
                     held.style.is_tight && is_cell(within.kind),
                 )?;
             }
-            push_node(alloc, out, known, plan, child, part, line.block.inside())?;
+            push_node(alloc, out, known, plan, child, &part, line.block.inside())?;
         }
         line = line.behind(turn.passed, turn.reached, at);
     }
@@ -560,7 +634,7 @@ fn push_children<'t, 'a>(
 }
 
 /// How new parts are written in a node of the page: lists in an item as this one is, cells in a row as those of it.
-fn style_in(part: Part<'_, '_>) -> Style {
+fn style_in(part: &Part<'_, '_>) -> Style {
     match part.old.kind {
         Kind::Tr => style_within(part.old, part.beside),
         kind if is_item(kind) => style_of(Some(part.old)),
@@ -574,9 +648,9 @@ fn push_node<'t, 'a>(
     alloc: Global,
     out: &mut Vec<Change>,
     known: &Known<'t, 'a>,
-    plan: Plan<'_>,
+    plan: &Plan<'_>,
     new: &'t Node<'a>,
-    part: Part<'t, 'a>,
+    part: &Part<'t, 'a>,
     block: Numbering,
 ) -> Result<(), NoMemory> {
     let old = part.old;
@@ -639,7 +713,7 @@ fn changes_of<'t, 'a>(
         old: tree,
         beside: None,
     };
-    push_node(alloc, &mut out, &known, plan, edited, whole, body)?;
+    push_node(alloc, &mut out, &known, &plan, edited, &whole, body)?;
     Ok(out)
 }
 
