@@ -2,4 +2,5 @@
 pub mod NodesHave
 pub mod BlockContents
 pub mod CutPages
+pub mod BodyRead
 mod Cases

@@ -4,6 +4,7 @@ mod CalledCases
 mod ClassCases
 pub mod AnyPages
 pub mod BodyPages
+pub mod OwnParagraphs
 mod Cases
 pub mod CellRows
 pub mod CellSpots

@@ -5,3 +5,7 @@ pub mod SettledEnds
 pub mod Unmarked
 pub mod HeadingCuts
 pub mod Utf8Cuts
+pub mod RowLines
+pub mod BodyBlocks
+pub mod TextLines
+pub mod BodyParagraphs

@@ -25,3 +25,4 @@ pub mod BlockEdits
 pub mod UnmarkedBlocks
 pub mod OwnNodes
 pub mod PageCuts
+pub mod BodyParagraphs

@@ -67,7 +67,10 @@ ghost use Rattle.wt_text_edit_laws.specs.UnmarkedBlocks.{unmarked_page, IsUnmark
 
 mod cut_pages;
 
-pub use cut_pages::{parts_of_a_page_are_read_by_themselves, settled_parts_have_ends};
+pub use cut_pages::{
+    paragraphs_of_the_body_are_lines_of_text, parts_of_a_page_are_read_by_themselves,
+    settled_parts_have_ends,
+};
 
 // ---- a typed text, and a page that is one paragraph
 
