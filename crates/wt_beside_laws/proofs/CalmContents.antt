@@ -28,9 +28,10 @@ use Rattle.wt_beside_laws.specs.Calm.{is_brace, HaveNoBraces, IsCalm, AreCalm}
 use Rattle.wt_beside_laws.specs.Content.{guard_items, letter_items, content_items}
 use Rattle.wt_beside_laws.specs.Lines.{AreCharacters}
 use Rattle.wt_beside_laws.proofs.Contents.{nowiki_reads, reference_reads}
-use Rattle.wt_beside_laws.proofs.Firm.{alone_as}
+use Rattle.wt_beside_laws.proofs.NodeItems.{node_as}
 use Rattle.wt_beside_laws.proofs.Marks.Commented.{content_alone}
 use Rattle.wt_beside_laws.specs.Flat.{IsReadIn}
+use Rattle.wt_beside_laws.specs.NodeItems.{node_items}
 
 -- ---- UTF-8
 
@@ -111,7 +112,7 @@ content_none s before (letter c ∷ after) h =
     (both_have_none own more (letter_none e c (λ f. not_bracket (is_bracket c) e (bracket_escaped s.within s.place before c after) f))
     (content_none s (letter c ∷ before) after h))
 content_none s before (thing t ∷ after) h =
-    let own : List Item = page_items t.source in
+    let own : List Item = node_items t.source in
     let more : List Item = content_items s (thing t ∷ before) after in
     both_have_none (guard_items (is_guarded s before (thing t ∷ after))) (own ++ more) (guard_none (is_guarded s before (thing t ∷ after)))
     (both_have_none own more h.0.unbraced (content_none s (thing t ∷ before) after h.1))
@@ -142,11 +143,11 @@ content_unrefused pages s signs k h = calm_unrefused pages (spelled s signs) (co
 pub nowiki_calm : IsCalm nowiki
 nowiki_calm = record {
   utf8 = guard_utf8 true;
-  unbraced = subst HaveNoBraces (sym (alone_as nowiki (whole form.Nowiki None nowiki ∷ []) nowiki_reads)) tt;
+  unbraced = subst HaveNoBraces (sym (node_as nowiki (whole form.Nowiki None nowiki ∷ []) nowiki_reads)) tt;
 }
 
 pub reference_calm : (c : ℕ) → is_escapable c ≡ true → IsCalm (reference c)
 reference_calm c e = record {
   utf8 = reference_utf8 c e;
-  unbraced = subst HaveNoBraces (sym (alone_as (reference c) (whole (form.Entity c) None (reference c) ∷ []) (reference_reads c e))) tt;
+  unbraced = subst HaveNoBraces (sym (node_as (reference c) (whole (form.Entity c) None (reference c) ∷ []) (reference_reads c e))) tt;
 }

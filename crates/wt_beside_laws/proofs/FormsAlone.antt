@@ -1,5 +1,5 @@
 -- A form of a line is the same by itself: its source has the node that it has in the line.
-use Rattle.std.proofs.Common.{arith, ◌≡◌, ◌<◌, Bool, false, Option, Some, None, List, [], ◌∷◌, ◌++◌, length, map, refl, sym, ap, ◌∙◌, subst, append-nil, inl}
+use Rattle.std.proofs.Common.{arith, ◌≡◌, ◌<◌, Bool, true, false, Option, Some, None, List, [], ◌∷◌, ◌++◌, length, map, refl, sym, ap, ◌∙◌, subst, append-nil, inl}
 use Rattle.std.specs.List.{flat_map}
 use Rattle.std.proofs.lemmas.List.{length-map, map-append}
 use Rattle.wt_span.specs.Items.{Item}
@@ -99,13 +99,13 @@ alone_by Node a own behind w f st i o l e = other_alone Node a own behind w f st
 own_alone : (k : TileKind) (a : Bool) (w : Shape) (ys zs : List Item) → w.kind ≡ k → IsFlatKind k → IsFlatForm k ys → OpensAs w.kind w → size w ≡ length ys → 0 < length ys
     → tile_at in_line a (map glyph_of (ys ++ zs)) ≡ Some w → own_form in_line (map glyph_of ys) ≡ Some w
 own_alone k a w ys zs i flat f opens fits some e =
-    let r : Role = tile_role k ys in
+    let r : Role = tile_role k true ys in
     let own : List Glyph = map glyph_of ys in
     let behind : List Glyph = map glyph_of zs in
     let long : length own ≡ length ys = length-map ys glyph_of in
     let form : form_before in_line a own behind ≡ Some w =
     before_is a own behind (omega (arith, some, long)) ∙ ap (tile_at in_line a) (sym (map-append glyph_of ys zs)) ∙ e in
-    let tile : IsTileOf r w.kind = subst (IsTileOf r) (sym i) (role_fits k ys flat) in
+    let tile : IsTileOf r w.kind = subst (IsTileOf r) (sym i) (role_fits k true ys flat) in
     let whole : size w ≡ length own = fits ∙ sym long in
     let lone : OpensNoPair w.kind own = subst (λ (j : TileKind). OpensNoPair j own) (sym i) f.lone in
     let read : IsRead a r own behind = record { shape = w; form = form; whole = whole; tile = tile; lone = lone } in

@@ -4,6 +4,7 @@ mod StoodCases
 mod LineCases
 mod BlockCases
 pub mod Firm
+pub mod NodeItems
 pub mod ContentGlyphs
 pub mod ContentTiles
 pub mod Contents
@@ -20,6 +21,7 @@ pub mod PageSigns
 pub mod PairTiles
 pub mod OwnSigns
 pub mod OwnItems
+pub mod HeldLines
 pub mod SentNodes
 pub mod Stood
 pub mod TagFronts

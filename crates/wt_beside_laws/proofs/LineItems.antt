@@ -18,6 +18,7 @@ use Rattle.wt_beside_laws.specs.Content.{guard_items, letter_items, content_item
 use Rattle.wt_beside_laws.specs.Lines.{AreUnbroken, line_items, later_lines, content_lines}
 use Rattle.wt_beside_laws.proofs.Marks.Commented.{content_alone}
 use Rattle.wt_beside_laws.specs.Flat.{IsReadIn}
+use Rattle.wt_beside_laws.specs.NodeItems.{node_items}
 
 -- ---- items without a line break
 
@@ -86,8 +87,8 @@ lines_from s before (letter c ∷ after) u =
     (letter_lines s before c after (c == 10) refl (lines_from s (letter c ∷ before) after u))
 lines_from s before (thing t ∷ after) u =
     let xs : List Item = content_items s (thing t ∷ before) after in
-    guard_before (is_guarded s before (thing t ∷ after)) (page_items t.source ++ xs) _ _
-    (unbroken_before (page_items t.source) xs (line_items s (thing t ∷ before) after) (later_lines s (thing t ∷ before) after) u.0
+    guard_before (is_guarded s before (thing t ∷ after)) (node_items t.source ++ xs) _ _
+    (unbroken_before (node_items t.source) xs (line_items s (thing t ∷ before) after) (later_lines s (thing t ∷ before) after) u.0
     (lines_from s (thing t ∷ before) after u.1))
 
 pub content_lines_are : (s : Setting) (signs : List ContentSign) → IsReadIn s signs → AreUnbroken signs

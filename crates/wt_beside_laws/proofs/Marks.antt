@@ -1,5 +1,8 @@
 mod Cases
+mod LineCases
 pub mod Commented
+pub mod Ends
 pub mod InLine
+pub mod Shown
 pub mod Tiles
 pub mod Within

@@ -11,8 +11,8 @@ use Rattle.wt_guards.specs.Content.{ContentSign, Thing, letter, thing, side_of, 
 use Rattle.wt_guards.specs.Guards.{Setting, end_of, start_of, is_reached, has_brace_last, is_mark, is_always_parted, is_adjacent, left_side, is_parted, is_between_guard, is_guarded}
 use Rattle.wt_guards.specs.Table.{hazard}
 use Rattle.wt_spelling_laws.proofs.TextReads.{or_parts}
-use Rattle.wt_expand.specs.PageItems.{page_items}
-use Rattle.wt_text_edit_laws.proofs.Prose.InFront.{reads_nothing, read_items}
+use Rattle.wt_text_edit_laws.proofs.Between.Fronts.{reads_after}
+use Rattle.wt_text_edit_laws.proofs.Prose.InFront.{reads_nothing}
 use Rattle.wt_span.specs.Items.{Item}
 use Rattle.wt_tiles.specs.declared.glyph.Glyph.{Glyph}
 use Rattle.wt_tiles.specs.declared.glyph.Glyph.TheVariants as glyph
@@ -28,6 +28,8 @@ use Rattle.wt_beside_laws.specs.Stood.{is_url_end, EndsUrl, IsTileOf, IsRead, Ha
 use Rattle.wt_beside_laws.proofs.NodesBegin.{no_url}
 use Rattle.wt_beside_laws.proofs.NodesEnd.{external_last, lexeme_last, other_last}
 use Rattle.wt_beside_laws.proofs.Stood.{stood}
+use Rattle.wt_beside_laws.specs.NodeItems.{node_items}
+use Rattle.wt_beside_laws.proofs.NodeItems.{node_read}
 
 -- ---- the first item of a node
 
@@ -71,7 +73,7 @@ link_follows External own n e = subst NoTrail (sym n.is) refl
 link_follows (Bare ends) own n e = cc
 link_follows Switch own n e = subst NoTrail (sym n.is) refl
 link_follows Toggle own n e = delimiter_trail own n
-link_follows (Mark ends began) own n e = subst NoTrail (sym n.is) refl
+link_follows (Mark ends began) own n e = subst NoTrail (sym n) refl
 link_follows (Group g) own n e = absurd n
 link_follows Function own n e = lexeme_trail own n
 link_follows Node own n e = other_trail own n
@@ -111,7 +113,7 @@ bare_led External ends own n e = external_last false own n
 bare_led (Bare last) ends own n e = cc
 bare_led Switch ends own n e = cc
 bare_led Toggle ends own n e = cc
-bare_led (Mark last began) ends own n e = ap (ends_word false) n.is
+bare_led (Mark last began) ends own n e = ap (ends_word false) n
 bare_led (Group g) ends own n e = absurd n
 bare_led Function ends own n e = lexeme_last false own n
 bare_led Node ends own n e = other_last false own n
@@ -317,7 +319,7 @@ node_none External own k n tile = subst EndsNone (sym n.is) refl
 node_none (Bare ends) own k n tile = subst EndsNone (sym n.is) (url_none n.first n.others n.shape n.url)
 node_none Switch own k n tile = subst EndsNone (sym n.is) refl
 node_none Toggle own k n tile = absurd tile
-node_none (Mark ends began) own k n tile = subst EndsNone (sym n.is) refl
+node_none (Mark ends began) own k n tile = subst EndsNone (sym n) refl
 node_none (Group g) own k n tile = absurd tile
 node_none Function own k n tile = lexeme_none own n
 node_none Node own k n tile = other_none own n
@@ -387,9 +389,10 @@ pairs_first [] h = tt
 pairs_first (t ∷ []) h = tt
 pairs_first (t ∷ n ∷ ts) h = (h.0.0, pairs_first (n ∷ ts) h.1)
 
-pub source_some : (bs : List ℕ) → 0 < length (map glyph_of (page_items bs)) → 0 < length bs
+pub source_some : (bs : List ℕ) → 0 < length (map glyph_of (node_items bs)) → 0 < length bs
 source_some [] h =
-    let z : length (map glyph_of (page_items [])) ≡ 0 = ap (λ (xs : List Item). length (map glyph_of xs)) (read_items [] [] reads_nothing) in
+    let z : length (map glyph_of (node_items [])) ≡ 0 =
+    ap (λ (xs : List Item). length (map glyph_of xs)) (node_read [] [] (reads_after true [] [] reads_nothing)) in
     absurd (omega (arith, z, h))
 source_some (b ∷ bs) h = omega arith
 

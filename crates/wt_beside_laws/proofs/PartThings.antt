@@ -32,7 +32,7 @@ use Rattle.wt_moved_laws.proofs.Sources.{standing_source}
 use Rattle.wt_original.specs.Kept.{Kept, KeptNode, items, visible, found_at, found_from, found_in, kept_of, role_of}
 use Rattle.wt_original.specs.Page.{page_of}
 use Rattle.wt_original.specs.declared.block.Extent.{Extent}
-use Rattle.wt_expand.specs.PageItems.{page_items}
+use Rattle.wt_beside_laws.specs.NodeItems.{node_items}
 use Rattle.wt_context.specs.Line.{line_parts}
 use Rattle.wt_context.proofs.PlainNodes.{IsText}
 use Rattle.wt_beside_laws.specs.OwnSigns.{own_node, own_by, own_signs, HasOwnBy, HaveOwn}
@@ -75,7 +75,7 @@ tree_source u = sources (tree_items u)
 
 -- its source by itself is this node
 abbrev pub IsAlone : ItemTree → Type 0
-IsAlone u = line_parts (page_items (tree_source u)) ≡ node u ∷ []
+IsAlone u = line_parts (node_items (tree_source u)) ≡ node u ∷ []
 
 -- so many bytes come before these parts
 abbrev pub HaveThings : ℕ → List Part → List Thing → Type 0
@@ -290,8 +290,8 @@ pub shows_source : (same : Tree → Tree → Bool) (block : Tree) (at from n : �
 shows_source same block at from n before u alone found = λ k e rest.
     let t : Tree = standing n before u in
     let is : kept_of block (found_at at from t) ≡ k = same_kept (kept_of block (found_at at from t)) k (sym found ∙ e) in
-    ap (λ (j : Kept). parts_shown_at 0 [] (line_parts (page_items (flat j.node))) rest) (sym is)
-    ∙ ap (λ (bs : List ℕ). parts_shown_at 0 [] (line_parts (page_items bs)) rest) (standing_source n before u)
+    ap (λ (j : Kept). parts_shown_at 0 [] (line_parts (node_items (flat j.node))) rest) (sym is)
+    ∙ ap (λ (bs : List ℕ). parts_shown_at 0 [] (line_parts (node_items bs)) rest) (standing_source n before u)
     ∙ ap (λ (ps : List Part). parts_shown_at 0 [] ps rest) alone
     ∙ lone_shows n before u rest
   where

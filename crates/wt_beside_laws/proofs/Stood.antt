@@ -154,7 +154,7 @@ page_stays a External inside behind n tile alone = cc
 page_stays a (Bare ends) inside behind n tile alone = cc
 page_stays a Switch inside behind n tile alone = cc
 page_stays a Toggle inside behind n tile alone = absurd tile
-page_stays a (Mark ends began) inside behind n tile alone = absurd (let no = tile.0 in cc)
+page_stays a (Mark ends began) inside behind n tile alone = cc
 page_stays a (Group g) inside behind n tile alone = absurd tile
 page_stays a Function inside behind n tile alone = cc
 page_stays a Node inside behind n tile alone = absurd tile
@@ -165,7 +165,7 @@ category_stays a External inside behind n tile alone = cc
 category_stays a (Bare ends) inside behind n tile alone = cc
 category_stays a Switch inside behind n tile alone = cc
 category_stays a Toggle inside behind n tile alone = absurd tile
-category_stays a (Mark ends began) inside behind n tile alone = absurd (let no = tile.0 in cc)
+category_stays a (Mark ends began) inside behind n tile alone = cc
 category_stays a (Group g) inside behind n tile alone = absurd tile
 category_stays a Function inside behind n tile alone = cc
 category_stays a Node inside behind n tile alone = record { node = inr (inr (inl n)); lead = tt; has = tt; unquoted = λ q. tt }
@@ -176,7 +176,7 @@ media_stays a External inside behind n tile alone = cc
 media_stays a (Bare ends) inside behind n tile alone = cc
 media_stays a Switch inside behind n tile alone = cc
 media_stays a Toggle inside behind n tile alone = absurd tile
-media_stays a (Mark ends began) inside behind n tile alone = absurd (let no = tile.0 in cc)
+media_stays a (Mark ends began) inside behind n tile alone = cc
 media_stays a (Group g) inside behind n tile alone = absurd tile
 media_stays a Function inside behind n tile alone = cc
 media_stays a Node inside behind n tile alone = record { node = inr (inr (inr n)); lead = tt; has = tt; unquoted = λ q. tt }
@@ -247,7 +247,7 @@ external_kind a External own behind n tile = record { node = n; lead = tt; has =
 external_kind a (Bare ends) own behind n tile = cc
 external_kind a Switch own behind n tile = cc
 external_kind a Toggle own behind n tile = absurd tile
-external_kind a (Mark ends began) own behind n tile = absurd (let no = tile.0 in cc)
+external_kind a (Mark ends began) own behind n tile = cc
 external_kind a (Group g) own behind n tile = absurd tile
 external_kind a Function own behind n tile = cc
 external_kind a Node own behind n tile = absurd tile
@@ -282,7 +282,7 @@ bare_kinds a External own behind n e ends q tile = cc
 bare_kinds a (Bare last) own behind n e ends q tile = record { node = n; lead = e; has = ends; unquoted = q }
 bare_kinds a Switch own behind n e ends q tile = cc
 bare_kinds a Toggle own behind n e ends q tile = absurd tile
-bare_kinds a (Mark last began) own behind n e ends q tile = absurd (let no = tile.0 in cc)
+bare_kinds a (Mark last began) own behind n e ends q tile = cc
 bare_kinds a (Group g) own behind n e ends q tile = absurd tile
 bare_kinds a Function own behind n e ends q tile = cc
 bare_kinds a Node own behind n e ends q tile = absurd tile
@@ -319,7 +319,7 @@ tag_kinds a External own behind k n is tile = absurd (subst IsTagTile tile is)
 tag_kinds a (Bare ends) own behind k n is tile = absurd (subst IsTagTile tile is)
 tag_kinds a Switch own behind k n is tile = absurd (subst IsTagTile tile is)
 tag_kinds a Toggle own behind k n is tile = absurd tile
-tag_kinds a (Mark ends began) own behind k n is tile = absurd (subst IsTagTile tile.0 is)
+tag_kinds a (Mark ends began) own behind k n is tile = absurd (subst IsTagTile tile is)
 tag_kinds a (Group g) own behind k n is tile = absurd tile
 tag_kinds a Function own behind k n is tile = absurd (subst IsTagTile tile is)
 tag_kinds a Node own behind k n is tile = record { node = inr (inl n); lead = tt; has = tt; unquoted = λ q. tt }
@@ -490,7 +490,7 @@ switch_kinds a External own behind n tile = cc
 switch_kinds a (Bare ends) own behind n tile = cc
 switch_kinds a Switch own behind n tile = record { node = n; lead = tt; has = tt; unquoted = λ q. tt }
 switch_kinds a Toggle own behind n tile = absurd tile
-switch_kinds a (Mark ends began) own behind n tile = absurd (let no = tile.0 in cc)
+switch_kinds a (Mark ends began) own behind n tile = cc
 switch_kinds a (Group g) own behind n tile = absurd tile
 switch_kinds a Function own behind n tile = cc
 switch_kinds a Node own behind n tile = absurd tile
@@ -508,7 +508,7 @@ atom_kinds a External own behind n tile = cc
 atom_kinds a (Bare ends) own behind n tile = cc
 atom_kinds a Switch own behind n tile = cc
 atom_kinds a Toggle own behind n tile = absurd tile
-atom_kinds a (Mark ends began) own behind n tile = absurd (let no = tile.0 in cc)
+atom_kinds a (Mark ends began) own behind n tile = cc
 atom_kinds a (Group g) own behind n tile = absurd tile
 atom_kinds a Function own behind n tile = record { node = n; lead = tt; has = tt; unquoted = λ q. tt }
 atom_kinds a Node own behind n tile = record { node = inl n; lead = tt; has = tt; unquoted = λ q. tt }
@@ -519,7 +519,7 @@ mark_kinds a External own behind is tile = cc
 mark_kinds a (Bare ends) own behind is tile = cc
 mark_kinds a Switch own behind is tile = cc
 mark_kinds a Toggle own behind is tile = absurd tile
-mark_kinds a (Mark ends began) own behind is tile = record { node = record { is = is; unended = tile.1; behind = tile.2 }; lead = tt; has = tt; unquoted = λ q. tt }
+mark_kinds a (Mark ends began) own behind is tile = record { node = is; lead = tt; has = tt; unquoted = λ q. tt }
 mark_kinds a (Group g) own behind is tile = absurd tile
 mark_kinds a Function own behind is tile = cc
 mark_kinds a Node own behind is tile = absurd tile

@@ -23,6 +23,7 @@ pub mod HeldStyles
 pub mod StyledWritten
 pub mod StyledHeadings
 pub mod StyledAgain
+pub mod OldShut
 pub mod OldStyled
 pub mod StyledTexts
 pub mod OwnStyled

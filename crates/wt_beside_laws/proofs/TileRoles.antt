@@ -218,9 +218,9 @@ IsMarkForm form.Include = Unit {0}
 IsMarkForm form.Hidden = Unit {0}
 IsMarkForm form.EmptyCall = ⊥
 
-of_mark : (u : ItemTree) (k : Kind) → (head_of u).kind ≡ k → IsThingForm (edit_shape k).inline → is_numbered k ≡ true → (edit_shape k).sort ≡ sort.Mark
-    → IsThing u (role.Mark false false)
-of_mark u k e f numbered is = record {
+of_mark : (ends began : Bool) (u : ItemTree) (k : Kind) → (head_of u).kind ≡ k → IsThingForm (edit_shape k).inline → is_numbered k ≡ true → (edit_shape k).sort ≡ sort.Mark
+    → IsThing u (role.Mark ends began)
+of_mark ends began u k e f numbered is = record {
   form = subst (λ (j : Kind). IsThingForm (edit_shape j).inline) (sym e) f;
   numbered = ap is_numbered e ∙ numbered;
   role = λ block s n before so.
@@ -229,13 +229,13 @@ of_mark u k e f numbered is = record {
       ∙ ap₂ (λ (v w : Bool). role.Mark v w) (ap (λ (bs : List ℕ). ends_with nat_eq bs (10 ∷ [])) (standing_source n before u) ∙ so.0) (so.1 s refl);
 }
 
-pub mark_thing : (f : ItemForm) (o : Option ℕ) (bs : List ℕ) → IsMarkForm f → IsThing (whole_tree f o bs) (role.Mark false false)
-mark_thing form.Chars o bs l = absurd l
-mark_thing (form.Entity c) o bs l = absurd l
-mark_thing form.Nowiki o bs l = absurd l
-mark_thing form.Extension o bs l = absurd l
-mark_thing form.Function o bs l = absurd l
-mark_thing form.Comment o bs l = of_mark (whole_tree form.Comment o bs) node_kind.Comment refl tt refl refl
-mark_thing form.Include o bs l = of_mark (whole_tree form.Include o bs) node_kind.Include refl tt refl refl
-mark_thing form.Hidden o bs l = of_mark (whole_tree form.Hidden o bs) node_kind.Include refl tt refl refl
-mark_thing form.EmptyCall o bs l = absurd l
+pub mark_thing : (ends began : Bool) (f : ItemForm) (o : Option ℕ) (bs : List ℕ) → IsMarkForm f → IsThing (whole_tree f o bs) (role.Mark ends began)
+mark_thing ends began form.Chars o bs l = absurd l
+mark_thing ends began (form.Entity c) o bs l = absurd l
+mark_thing ends began form.Nowiki o bs l = absurd l
+mark_thing ends began form.Extension o bs l = absurd l
+mark_thing ends began form.Function o bs l = absurd l
+mark_thing ends began form.Comment o bs l = of_mark ends began (whole_tree form.Comment o bs) node_kind.Comment refl tt refl refl
+mark_thing ends began form.Include o bs l = of_mark ends began (whole_tree form.Include o bs) node_kind.Include refl tt refl refl
+mark_thing ends began form.Hidden o bs l = of_mark ends began (whole_tree form.Hidden o bs) node_kind.Include refl tt refl refl
+mark_thing ends began form.EmptyCall o bs l = absurd l

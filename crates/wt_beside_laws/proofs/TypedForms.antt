@@ -10,7 +10,6 @@ use Rattle.wt_names.proofs.Ascii.{IsWide, encode_wide, encode_some}
 use Rattle.wt_guards.specs.Content.{ContentSign, letter, thing, nearest}
 use Rattle.wt_guards.specs.Letters.{is_bracket, is_escaped, opens_tag}
 use Rattle.wt_guards.specs.Guards.{Setting, is_guarded}
-use Rattle.wt_expand.specs.PageItems.{page_items}
 use Rattle.wt_spelling_laws.proofs.TextReads.{bracket_escaped, not_bracket, equal_or, or_parts}
 use Rattle.wt_tiles.specs.declared.context.Context.{Context}
 use Rattle.wt_tiles.specs.declared.glyph.Glyph.{Glyph}
@@ -24,6 +23,7 @@ use Rattle.wt_tiles.specs.Urls.{scheme_len, url_items, ext_link_at, kept_len, ba
 use Rattle.wt_beside_laws.specs.Beginnings.{is_lone_underscore, AvoidsSwitches, AllAvoidSwitches, IsApart}
 use Rattle.wt_beside_laws.specs.Glyphs.{guard_glyphs, letter_glyphs, content_glyphs, AllAvoid}
 use Rattle.wt_beside_laws.proofs.TypedTiles.{scheme_none}
+use Rattle.wt_beside_laws.specs.NodeItems.{node_items}
 
 -- ---- the first item of what follows
 
@@ -138,7 +138,7 @@ behind_underscore : (s : Setting) (before after : List ContentSign) (rest : List
     → is_lone_underscore (content_glyphs s (letter 95 ∷ before) after rest) ≡ false
 behind_underscore s before [] rest h e = guard_alone (is_guarded s (letter 95 ∷ before) []) rest e
 behind_underscore s before (thing t ∷ after) rest h e =
-    let own : List Glyph = map glyph_of (page_items t.source) in
+    let own : List Glyph = map glyph_of (node_items t.source) in
     let more : List Glyph = content_glyphs s (thing t ∷ letter 95 ∷ before) after rest in
     guard_alone (is_guarded s (letter 95 ∷ before) (thing t ∷ after)) (own ++ more) (thing_alone own more h.0)
 behind_underscore s before (letter d ∷ after) rest h e =

@@ -7,10 +7,9 @@ use Rattle.wt_span.specs.Items.{Item, char, sources}
 use Rattle.wt_guards.specs.declared.role.Role.{Role}
 use Rattle.wt_guards.specs.declared.role.Role.TheVariants.{Link, External, Bare, Switch, Toggle, Mark, Group, Function, Node}
 use Rattle.wt_guards.specs.Content.{ContentSign, Thing, letter, thing}
-use Rattle.wt_guards.specs.Guards.{Setting, has_brace_last, is_guarded}
+use Rattle.wt_guards.specs.Guards.{Setting, has_brace_last, is_guarded, is_mark, is_new_at_start}
 use Rattle.wt_guards.specs.Letters.{is_escaped}
 use Rattle.wt_expand.specs.PageCalls.{numbered, page_stretches, expanded_page}
-use Rattle.wt_expand.specs.PageItems.{page_items}
 use Rattle.wt_expand.specs.Work.{Pages}
 use Rattle.wt_inline.specs.declared.loose.Loose.TheVariants.{Text}
 use Rattle.wt_inline.specs.Parts.{Part, parts}
@@ -21,6 +20,7 @@ use Rattle.wt_beside_laws.specs.Content.{guard_items, letter_items}
 use Rattle.wt_beside_laws.specs.Cuts.{own_glyphs}
 use Rattle.wt_beside_laws.specs.Flat.{IsFlat}
 use Rattle.wt_beside_laws.specs.Lines.{AreCharacters}
+use Rattle.wt_beside_laws.specs.NodeItems.{node_items}
 use Rattle.wt_beside_laws.specs.Nodes.{IsNode, AllMeet}
 use Rattle.wt_beside_laws.specs.Shown.{parts_shown_at}
 
@@ -125,12 +125,13 @@ pub record AreWords (shown : List ℕ) (own : List Item) : Type 0 where
 
 -- ---- the nodes
 
--- one of the page, on one line, by its own source
+-- one of the page, on one line, by its own source; a mark is within its line
 pub record IsOwnNode (t : Thing) (own : List Item) : Type 0 where
-  pub is : own ≡ page_items t.source
+  pub is : own ≡ node_items t.source
   pub flat : IsFlat t.role
   pub node : IsNode t.role (own_glyphs t)
-  pub unbroken : IsUnbroken (page_items t.source)
+  pub inside : is_mark t.role ≡ true → is_new_at_start t.role ≡ true
+  pub unbroken : IsUnbroken (node_items t.source)
 
 -- Of a group, whose source stands here for what its call shows, the items are words; of any other node they are those of its source.
 abbrev pub IsGivenAs : Role → Thing → List Item → Type 0
@@ -218,11 +219,12 @@ pub record GivesWords (pages : Pages) (source : List ℕ) : Type 0 where
 
 -- It calls nothing, and is a node of the page, on one line, in which no node is empty.
 pub record StaysAsItIs (pages : Pages) (t : Thing) : Type 0 where
-  pub items : (i : ℕ) → numbered i (page_stretches pages t.source) ≡ page_items t.source
+  pub items : (i : ℕ) → numbered i (page_stretches pages t.source) ≡ node_items t.source
   pub flat : IsFlat t.role
   pub node : IsNode t.role (own_glyphs t)
-  pub unbroken : IsUnbroken (page_items t.source)
-  pub own : AreOwnOrTexts (line_parts (page_items t.source))
+  pub inside : is_mark t.role ≡ true → is_new_at_start t.role ≡ true
+  pub unbroken : IsUnbroken (node_items t.source)
+  pub own : AreOwnOrTexts (line_parts (node_items t.source))
 
 abbrev pub IsOfFolder : Role → Pages → Thing → Type 0
 IsOfFolder Link pages t = StaysAsItIs pages t

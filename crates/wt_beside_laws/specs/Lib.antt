@@ -1,4 +1,6 @@
 pub mod Kept
+pub mod NodeItems
+pub mod Led
 pub mod Nodes
 pub mod Commented
 pub mod Content
@@ -19,6 +21,7 @@ pub mod SentPieces
 pub mod Calm
 pub mod FlatPages
 pub mod FlatBlocks
+pub mod HeldLines
 pub mod ContentEdits
 pub mod Nests
 pub mod Styled

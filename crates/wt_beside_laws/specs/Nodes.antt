@@ -88,11 +88,9 @@ IsDelimiter own = (own ≡ byte_glyphs (codes "''")) ⊎ (own ≡ byte_glyphs (c
 abbrev pub IsOneLexeme : List Glyph → Type 0
 IsOneLexeme own = (own ≡ glyph.Atom ∷ []) ⊎ ((c : ℕ) × (own ≡ glyph.Entity c ∷ []))
 
--- A mark within its line: an include tag. No line break ends its source, and in the page something is before it on its line.
-pub record IsMarkNode (ends began : Bool) (own : List Glyph) : Type 0 where
-  pub is : own ≡ glyph.Mark ∷ []
-  pub unended : ends ≡ false
-  pub behind : began ≡ false
+-- a comment, a line of comments, or an include tag
+abbrev pub IsMarkNode : List Glyph → Type 0
+IsMarkNode own = own ≡ glyph.Mark ∷ []
 
 -- it isn't the opening tag of a pair
 abbrev pub IsLone : Name → TagShape → Type 0
@@ -130,7 +128,7 @@ IsNode External own = IsExternalNode own
 IsNode (Bare ends) own = IsBareNode own
 IsNode Switch own = IsSwitchNode own
 IsNode Toggle own = IsDelimiter own
-IsNode (Mark ends began) own = IsMarkNode ends began own
+IsNode (Mark ends began) own = IsMarkNode own
 IsNode (Group g) own = ⊥
 IsNode Function own = IsOneLexeme own
 IsNode Node own = IsOneLexeme own ⊎ (IsTagNode own ⊎ (IsCategoryNode own ⊎ IsMediaNode own))

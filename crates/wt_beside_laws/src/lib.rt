@@ -39,6 +39,7 @@ ghost use Rattle.wt_beside_laws.specs.Glyphs.{content_glyphs, IsPast, AllAvoid};
 ghost use Rattle.wt_beside_laws.specs.InHeadings.{IsHeadingContent, KeepsLevel, heading_of};
 ghost use Rattle.wt_headings.specs.Headings.{heading};
 ghost use Rattle.wt_text_edit_laws.specs.TypedHeadings.{Sides, AreSides, heading_line, IsOfLevel, IsHeadingInside, EndsLine};
+ghost use Rattle.wt_beside_laws.specs.Led.{BeginsUnled, AreMarksLed};
 ghost use Rattle.wt_beside_laws.specs.Lines.{AreCharacters, AreUnbroken, line_items, content_lines, AreLinesOfText};
 ghost use Rattle.wt_beside_laws.specs.Nodes.{AreNodes, AllMeet};
 ghost use Rattle.wt_beside_laws.specs.Shown.{parts_shown_at, content_shown};
@@ -171,11 +172,12 @@ pub fn nodes_sent_are_those_of_the_page()
 {}
 
 /// A content of the nodes of flat lines of a page (`AreFlatLines`), with any texts between them, is one that is read sign by sign
-/// (`IsFlatContent`), if the source of each node stands whatever is written behind it.
+/// (`IsFlatContent`), if the source of each node stands whatever is written behind it, and a line begins where a line of comments stands
+/// (`AreMarksLed`).
 #[tactic(auto, using(crate::proofs::FlatContents::flat_content))]
 pub fn texts_beside_nodes_of_the_page_are_flat()
     ensures { (s : Setting) (ls : List (List Item)) (at : ℕ) (signs : List ContentSign) → s.within ≡ false → AreFlatLines ls
-        → AreKept (signs_of_lines at ls) → AreCharacters signs → things signs ≡ things (signs_of_lines at ls) → IsFlatContent s signs }
+        → AreKept (signs_of_lines at ls) → AreCharacters signs → AreMarksLed signs → things signs ≡ things (signs_of_lines at ls) → IsFlatContent s signs }
 {}
 
 /// A paragraph or a heading of the page that its lines make (`IsBlockOfLines`), none of which has a style (`AreUnstyled`) or a form that
@@ -210,12 +212,13 @@ pub fn nodes_of_flat_lines_show_their_sources()
 
 /// What is sent for such a block, with its nodes as they are and any texts between them, is a content that is read sign by sign
 /// (`IsFlatContent`): each node has the number of the page's, in the page's order, and is of the same kind and plain view (`AreSent`).
-/// Asked of the page is that the source of each node stands whatever is written behind it (`AreKept`).
+/// Asked of the page is that the source of each node stands whatever is written behind it (`AreKept`), and of what is sent that a line begins
+/// where a line of comments stands (`AreMarksLed`).
 pub fn texts_sent_beside_nodes_are_flat()
     ensures { (same : Block → Block → Bool) (s : Setting) (pl : Where) (ls : List (List Item)) (block : Block) (news : Trees) → TellsSame same → s.within ≡ false
         → AreFlatLines ls → AreUnstyled ls → IsBlockOfLines ls block → AreKept (signs_of_lines (length (label block).opening) ls)
         → AreSent (page_of same block) news → numbers news ≡ numbers (children_of block) → AreCharacters (signs_of_all (page_of same block) pl news)
-        → IsFlatContent s (signs_of_all (page_of same block) pl news) }
+        → AreMarksLed (signs_of_all (page_of same block) pl news) → IsFlatContent s (signs_of_all (page_of same block) pl news) }
 {}
 
 /// What is written for such a content is again lines of a page of which the content may be: its lines are flat (`AreFlatLines`), no
@@ -231,7 +234,7 @@ pub fn contents_beside_nodes_are_flat_again()
 /// is typed, and no node, makes it a heading, a list, a rule, preformatted text or a part of a table, and none is blank.
 pub fn texts_beside_nodes_are_lines_of_text()
     ensures lines { (s : Setting) (signs : List ContentSign) → IsReadIn s signs → AreUnbroken signs → lines (page_items (spelled s signs)) ≡ content_lines s signs }
-    ensures text { (tables : ℕ) (s : Setting) (signs : List ContentSign) → s.within ≡ false → AreCharacters signs → AreNodes signs
+    ensures text { (tables : ℕ) (s : Setting) (signs : List ContentSign) → s.within ≡ false → BeginsUnled signs → AreCharacters signs → AreNodes signs
         → AreLinesOfText tables (content_lines s signs) }
 {}
 

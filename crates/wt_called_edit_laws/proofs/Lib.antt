@@ -41,4 +41,5 @@ pub mod GroupsOfPage
 pub mod BlocksOutside
 pub mod Parts
 pub mod Written
+pub mod CallingGroups
 pub mod Cells

@@ -1,5 +1,6 @@
 -- Contents with calls, as they are written.
 pub mod Joined
 pub mod Ends
+pub mod Levels
 pub mod Reads
 pub mod Signs

@@ -2,14 +2,14 @@
 use Rattle.std.specs.Prelude.{◌≡◌, ◌⊎◌, ℕ, ◌+◌, zero, suc, true, List, [], ◌∷◌, All}
 use Rattle.std.specs.List.{AllByRecursion}
 use Rattle.wt_span.specs.Items.{Item}
-use Rattle.wt_lines.specs.Lines.{is_break_item, lines, full_lines}
+use Rattle.wt_lines.specs.Lines.{is_break_item, lines}
 use Rattle.wt_inline.specs.ItemTree.{ItemTree}
 use Rattle.wt_page.specs.Body.{meaning}
 use Rattle.wt_row_laws.specs.Frames.{Frames, trees_at, all_places, content, AreFrames}
 use Rattle.wt_expand.specs.Work.{Pages}
 use Rattle.wt_expand.specs.PageCalls.{expanded_page}
 use Rattle.wt_joined_calls.specs.Expanded.{part_items, calls_in, GivesAnywhere}
-use Rattle.wt_text_edit_laws.specs.Contents.{AreUnled}
+use Rattle.wt_page.specs.Rows.{marks_len}
 use Rattle.wt_text_edit_laws.specs.ParagraphBetween.{body_with}
 use Rattle.wt_text_edit_laws.specs.ParagraphParts.{break, joined_parts, para_with}
 use Rattle.wt_text_edit_laws.specs.Paragraphs.{IsTextLine}
@@ -28,10 +28,10 @@ abbrev pub tree_round : TextBlock → List Item → ItemTree
 tree_round a_paragraph xs = para_with (joined_parts (lines xs))
 tree_round (a_heading s) xs = heading_round s xs
 
--- Lines of text. No mark stands before one, and each line break is the page's own.
+-- Lines of text. No mark stands before the first, and each line break is the page's own.
 pub record AreTextItems (xs : List Item) : Type 0 where
   pub are_lines : All IsTextLine (lines xs)
-  pub unled : AreUnled (full_lines xs)
+  pub unled : marks_len xs ≡ 0
   pub own_breaks : AllByRecursion (λ x. is_break_item x ≡ true → x ≡ break) xs
 
 pub record AreHeadingItems (s : Sides) (xs : List Item) : Type 0 where

@@ -6,7 +6,8 @@ use Rattle.wt_page.specs.Body.{meaning}
 use Rattle.wt_row_laws.specs.Frames.{Frames, trees_at, all_places, content, AreFrames}
 use Rattle.wt_expand.specs.Work.{Pages}
 use Rattle.wt_expand.specs.PageCalls.{expanded_page}
-use Rattle.wt_joined_calls.specs.Expanded.{part_items, calls_in, GivesAnywhere}
+use Rattle.wt_joined_calls.specs.Expanded.{part_items, GivesAnywhere}
+use Rattle.wt_called_trees.specs.MovedCalls.{AreMoved}
 use Rattle.wt_text_edit_laws.specs.BlockSpots.{BlockSpot, spots_source}
 use Rattle.wt_text_edit_laws.specs.ParagraphBetween.{body_with}
 use Rattle.wt_text_edit_laws.specs.ReadContents.{IsReadContent}
@@ -27,11 +28,11 @@ pub record IsContentIn (pages : Pages) (k : TextBlock) (q : List ℕ) : Type 0 w
   pub items : (i : ℕ) → part_items pages i (source_of k q) ≡ items_round k (part_items pages i q)
   pub is : (i : ℕ) → AreItemsOf k (part_items pages i q)
 
--- In the place of an old one, whose calls it has: it is a part of the page as that was, and each of its lines is text anywhere.
+-- In the place of an old one, whose calls it has, but for their places: it is a part of the page as that was, and each of its lines is text anywhere.
 pub record IsNewContentIn (pages : Pages) (k : TextBlock) (was now : List ℕ) : Type 0 where
   pub part : IsPartAnew pages k was now
   pub content : IsContentIn pages k now
-  pub calls : calls_in pages (source_of k now) ≡ calls_in pages (source_of k was)
+  pub calls : AreMoved (expanded_page pages (source_of k was)).outer (expanded_page pages (source_of k now)).outer
   pub stays : (i n : ℕ) → StayText k n (part_items pages i now)
 
 abbrev pub AreContentsInFolder : Pages → List BlockSpot → Type 0

@@ -27,5 +27,6 @@ pub mod CalledContents
 pub mod ItemSpots
 pub mod CalledBlocks
 pub mod CallingBlocks
+pub mod CallingGroups
 pub mod Written
 pub mod SentAsIs

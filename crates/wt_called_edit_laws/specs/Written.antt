@@ -1,24 +1,27 @@
 -- A content of text that is typed and nodes that stay, calls among them, as it is written: what it gives is what its signs give, one after the other.
-use Rattle.std.specs.Prelude.{◌≡◌, ◌⊎◌, ℕ, ◌+◌, ◌==◌, ◌||◌, not, Bool, false, None, List, [], ◌∷◌, ◌++◌}
+use Rattle.std.specs.Prelude.{◌≡◌, ◌⊎◌, ℕ, ◌+◌, ◌==◌, ◌||◌, not, Bool, true, false, None, List, [], ◌∷◌, ◌++◌}
 use Rattle.wt_span.specs.declared.form.Mode.TheVariants.{Page}
 use Rattle.wt_span.specs.Characters as byte
 use Rattle.wt_span.specs.Items.{Item}
 use Rattle.wt_span.specs.Origins.{OuterCall}
 use Rattle.wt_guards.specs.Content.{ContentSign, Thing, letter, thing, ends_line}
-use Rattle.wt_guards.specs.Guards.{Setting, is_guarded}
+use Rattle.wt_guards.specs.Guards.{Setting, is_guarded, is_new_at_start, is_mark}
 use Rattle.wt_guards.specs.Letters.{is_escaped}
 use Rattle.wt_scans.specs.Lexer.{lexer}
 use Rattle.wt_scans.specs.Scans.{Settles}
+use Rattle.wt_expand.specs.PageItems.{page_items}
 use Rattle.wt_expand.specs.Work.{Pages, Entry, deep_place}
 use Rattle.wt_expand.specs.PageCalls.{expanded_page}
 use Rattle.wt_joined_calls.specs.Expanded.{part_items, calls_in, GivesAnywhere}
 use Rattle.wt_called_trees.specs.MovedCalls.{AreMoved}
 use Rattle.wt_text_edit_laws.specs.ReadContents.{BeginsUnclosed}
 use Rattle.wt_text_edit_laws.specs.TextBetween.{EndsBy}
-use Rattle.wt_beside_laws.specs.Commented.{IsHeld}
+use Rattle.wt_beside_laws.specs.Commented.{IsCommentSource}
 use Rattle.wt_beside_laws.specs.Content.{guard_items, letter_items}
 use Rattle.wt_beside_laws.specs.Cuts.{own_glyphs}
+use Rattle.wt_beside_laws.specs.Kept.{IsKept}
 use Rattle.wt_beside_laws.specs.Nodes.{IsNode}
+use Rattle.wt_beside_laws.specs.PageSigns.{HasNoBreak}
 use Rattle.wt_called_edit_laws.specs.Parts.{left_of, work_in}
 
 -- ---- the source of a node
@@ -41,9 +44,13 @@ pub record IsCallSource (bs : List ℕ) : Type 0 where
   pub is : bs ≡ byte.opening_brace ∷ others
   pub settles : (rest : List ℕ) → BeginsUnclosed rest → Settles (lexer Page) rest false 0 bs
 
--- it stays what it is beside text that is typed
+-- a comment, or another node on one line that stands whatever is written behind it
+abbrev pub IsHeldInLine : List ℕ → Type 0
+IsHeldInLine source = (IsKept source × HasNoBreak (page_items source)) ⊎ IsCommentSource source
+
+-- it stays what it is beside text that is typed; a mark is within its line
 pub record IsReadThing (t : Thing) : Type 0 where
-  pub source : (IsHeld t.source × IsNode t.role (own_glyphs t)) ⊎ (IsCallSource t.source × (ends_line t.role ≡ false))
+  pub source : (IsHeldInLine t.source × IsNode t.role (own_glyphs t) × (is_mark t.role ≡ true → is_new_at_start t.role ≡ true)) ⊎ (IsCallSource t.source × (ends_line t.role ≡ false))
   pub begins : BeginsOutward t.source
   pub ends : EndsOutward t.source
 

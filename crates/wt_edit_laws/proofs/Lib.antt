@@ -1,4 +1,5 @@
 pub mod OneByOne
 pub mod TextEditsStand
 pub mod ChildrenStand
+pub mod KeptPlaces
 mod Cases

@@ -5,13 +5,13 @@ use Rattle.wt_span.specs.Characters as byte
 use Rattle.wt_span.specs.Items.{Item, char, is_char_in, is_mark, sign, sources}
 use Rattle.wt_span.specs.Origins.{Expanded}
 use Rattle.wt_inline.specs.ItemTree.{ItemTree}
-use Rattle.wt_lines.specs.Lines.{lines, full_lines}
+use Rattle.wt_lines.specs.Lines.{lines}
 use Rattle.wt_blocks.specs.Headings.{level}
 use Rattle.wt_expand.specs.PageItems.{page_items}
+use Rattle.wt_page.specs.Rows.{marks_len}
 use Rattle.wt_selser.specs.Edits.{is_tangled}
 use Rattle.wt_moved_laws.specs.Standing.{standing}
 use Rattle.wt_text_edit_laws.specs.BlockSpots.{BlockSpot, spots_source}
-use Rattle.wt_text_edit_laws.specs.Contents.{AreUnled}
 use Rattle.wt_text_edit_laws.specs.LonePages.{page_chars}
 use Rattle.wt_text_edit_laws.specs.Paragraphs.{IsTextLine}
 use Rattle.wt_text_edit_laws.specs.Parts.{HasNoGroups}
@@ -26,11 +26,11 @@ abbrev pub begins_unmarked : List Item → Bool
 begins_unmarked [] = true
 begins_unmarked (x ∷ xs) = if is_char_in is_blank x then begins_unmarked xs else not (is_mark x)
 
--- Lines of text. No mark stands before one of them, nor behind the blanks that begin the first.
+-- Lines of text. No mark stands before the first, nor behind the blanks that begin it.
 pub record AreTextItems (q : List ℕ) (xs : List Item) : Type 0 where
   pub source : sources xs ≡ q
   pub are_lines : All IsTextLine (lines xs)
-  pub unled : AreUnled (full_lines xs)
+  pub unled : marks_len xs ≡ 0
   pub unmarked : begins_unmarked xs ≡ true
 
 -- A heading's line: its first `=` and blanks, what it holds, blanks and its last `=`, and what is behind these, where what begins ends.

@@ -14,7 +14,8 @@ use Rattle.wt_checks.specs.Kept.{children as nodes_in}
 use Rattle.wt_expand.specs.PageItems.{page_items}
 use Rattle.wt_isolation.specs.OpenTags.{before, ends_open, any_ends_open}
 use Rattle.wt_isolation.specs.TextCalls.{touches_text_call}
-use Rattle.wt_lines.specs.Lines.{lines, full_lines}
+use Rattle.wt_lines.specs.Lines.{lines}
+use Rattle.wt_page.specs.Rows.{marks_len}
 use Rattle.wt_moved_laws.specs.Placeless.{placeless, all_placeless}
 use Rattle.wt_moved_laws.specs.Standing.{standing}
 use Rattle.wt_moved_laws.proofs.Moved.{moved}
@@ -22,7 +23,7 @@ use Rattle.wt_selser.specs.Edits.{is_tangled}
 use Rattle.wt_selser.specs.GroupFaults.{has_faulty_group}
 use Rattle.wt_spelling_laws.proofs.Forms.{other_byte}
 use Rattle.wt_text_edit_laws.specs.BlockSpots.{BlockSpot}
-use Rattle.wt_text_edit_laws.specs.Contents.{AreUnled, AreParagraphLines, IsHeadingLine, IsContentOf, IsContent}
+use Rattle.wt_text_edit_laws.specs.Contents.{AreParagraphLines, IsHeadingLine, IsContentOf, IsContent}
 use Rattle.wt_text_edit_laws.specs.LonePages.{page_chars}
 use Rattle.wt_text_edit_laws.specs.NoCalls.{Brace, braces, NonePairs, CallsNothing}
 use Rattle.wt_text_edit_laws.specs.PageCuts.{begins_unmarked, AreTextItems, AreHeadingItems, AreBlockItems, IsUntangledAt, IsFreeBlock, EndsThere, EndsClosed}
@@ -105,7 +106,7 @@ unmarked_alone bs xs e h =
 paragraph_lines : (q : List ℕ) (xs : List Item) → AreTextItems q xs → ReadAlone q xs → AreParagraphLines q
 paragraph_lines q xs h r = record {
   are_lines = subst (λ (ys : List Item). All IsTextLine (lines ys)) (sym r.unended) h.are_lines;
-  unled = subst (λ (ys : List Item). AreUnled (full_lines ys)) (sym r.unended) h.unled;
+  unled = subst (λ (ys : List Item). marks_len ys ≡ 0) (sym r.unended) h.unled;
   alone = unmarked_alone q xs r.unended h.unmarked;
   before_break = unmarked_alone (q ++ 10 ∷ []) (xs ++ char None 10 ∷ []) r.ended (unmarked_before xs [] h.unmarked);
 }

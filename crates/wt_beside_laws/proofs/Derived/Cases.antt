@@ -46,7 +46,7 @@ unfolding kind_of_signs
 text = record {
   source = refl;
   are_lines = All-cons IsTextLine (page_chars (codes "x<br>y")) [] refl (All-nil IsTextLine);
-  unled = (refl, tt);
+  unled = refl;
   unmarked = refl;
 }
 

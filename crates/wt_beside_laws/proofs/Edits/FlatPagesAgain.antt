@@ -59,7 +59,7 @@ flat_again q ps h e =
     record {
       utf8 = content_utf8 (setting q) signs f.characters calm;
       calls_nothing = content_calm (setting q) signs (read_flat (setting q) signs f) calm;
-      text = of_new (AreLinesOfText 0) q ps h e (are_lines_of_text 0 (setting q) signs refl f.characters f.nodes);
+      text = of_new (AreLinesOfText 0) q ps h e (are_lines_of_text 0 (setting q) signs refl f.led.first f.characters f.nodes);
       flat = of_new AreFlatLines q ps h e (again_flat (setting q) signs f);
       unstyled = of_new AreUnstyled q ps h e (again_unstyled (setting q) signs f);
       kept = of_new (λ (ls : List (List Item)). AreKept (signs_of_lines 0 ls)) q ps h e (again_kept 0 (setting q) signs f);

@@ -67,7 +67,7 @@ use Rattle.wt_beside_laws.proofs.Each.{Each}
 use Rattle.wt_beside_laws.proofs.Edits.FullTrees.{para_plain, content_full, same_full}
 
 pub read_flat : (s : Setting) (signs : List ContentSign) → IsFlatContent s signs → IsReadIn s signs
-read_flat s signs h = record { within = h.of_block; kept = h.kept; nodes = h.nodes }
+read_flat s signs h = record { within = h.of_block; kept = h.kept; nodes = h.nodes; led = h.led }
 
 -- ---- its nodes are the page's
 
@@ -94,7 +94,7 @@ new_content q ps h e =
     subst (λ (n : ℕ). AreKept (signs_of_lines n (lines_of q))) (sym (opening_none q)) h.kept in
     sent_content same_node (setting q) place.Paragraph (lines_of q) (block_of q) (sent_pieces ps) tells_same refl h.flat h.unstyled (of_lines q h) kept_so
     (are_sent q ps h e) (same_numbers (block_of q) ps e.old e.stay e.go)
-    (pieces_characters (known q) place.Paragraph ps e.stay (are_sent q ps h e) e.are)
+    (pieces_characters (known q) place.Paragraph ps e.stay (are_sent q ps h e) e.are) e.led
 
 -- ---- it calls nothing
 

@@ -56,7 +56,7 @@ use Rattle.wt_text_edit_laws.specs.TextBlocks.{a_paragraph}
 use Rattle.wt_beside_laws.specs.Content.{AreKept}
 use Rattle.wt_beside_laws.specs.PageSigns.{signs_of_lines}
 use Rattle.wt_beside_laws.specs.Stood.{things}
-use Rattle.wt_beside_laws.proofs.Marks.Within.{marks_within, unled_lines, lines_source, lines_bytes}
+use Rattle.wt_beside_laws.proofs.Marks.Within.{marks_within, lines_source, lines_bytes}
 
 -- ---- pages of one paragraph
 
@@ -143,7 +143,7 @@ its_bytes q =
 its_marks : (q : List ℕ) → IsFlatPage q → AreSoIn (block_of q) (things (signs_of_lines (length (label (block_of q)).opening) (lines_of q)))
 its_marks q h =
     let none : length (label (block_of q)).opening ≡ 0 = ap (λ (l : Label). length l.opening) (label_is (joined_parts (lines_of q))) in
-    marks_within (lines_of q) (block_of q) [] (its_bytes q) (unled_lines 0 (lines_of q) h.text) h.flat
+    marks_within (lines_of q) (block_of q) [] (its_bytes q) h.flat
     (subst (λ (n : ℕ). AreKept (signs_of_lines n (lines_of q))) (sym none) h.kept)
 
 pub of_lines : (q : List ℕ) → IsFlatPage q → IsBlockOfLines (lines_of q) (block_of q)

@@ -6,11 +6,10 @@ use Rattle.std.proofs.lemmas.List.{map-append}
 use Rattle.std.proofs.lemmas.List.Elements.{All-nil, All-cons}
 use Rattle.wt_span.specs.Items.{Item}
 use Rattle.wt_guards.specs.Content.{ContentSign, Thing, letter, thing, nearest}
-use Rattle.wt_guards.specs.Guards.{Setting, is_guarded, is_line_start, is_line_begun}
+use Rattle.wt_guards.specs.Guards.{Setting, is_guarded, is_line_start, is_line_begun, is_mark as is_mark_role}
 use Rattle.wt_guards.specs.Letters.{is_escaped}
 use Rattle.wt_spelling_laws.proofs.Lines.{unguarded_begins, end_guarded}
 use Rattle.wt_spelling_laws.proofs.TextKinds.{atom_opens}
-use Rattle.wt_expand.specs.PageItems.{page_items}
 use Rattle.wt_lines.specs.Lines.{lines}
 use Rattle.wt_tiles.specs.declared.glyph.Glyph.{Glyph}
 use Rattle.wt_tiles.specs.Glyphs.{glyph_of}
@@ -19,9 +18,10 @@ use Rattle.wt_beside_laws.specs.Called.{items_with, line_with, later_with, lines
 use Rattle.wt_beside_laws.specs.Content.{guard_items, letter_items}
 use Rattle.wt_beside_laws.specs.Cuts.{own_glyphs}
 use Rattle.wt_beside_laws.specs.Glyphs.{guard_glyphs, letter_glyphs}
-use Rattle.wt_beside_laws.specs.Lines.{AreCharacters, IsLineOfText}
+use Rattle.wt_beside_laws.specs.Lines.{AreCharacters, IsLineOfText, AreLinesOfText}
+use Rattle.wt_beside_laws.specs.NodeItems.{node_items}
 use Rattle.wt_beside_laws.proofs.LineItems.{unbroken_before, guard_before, guard_alone, letter_unbroken, break_items}
-use Rattle.wt_beside_laws.proofs.LineKinds.{Opens, opens_line, guard_opens, letter_opens, no_break, items_open, node_opens, new_guarded, later_by}
+use Rattle.wt_beside_laws.proofs.LineKinds.{Opens, opens_line, opens_unmarked, guard_opens, letter_opens, no_break, items_open, node_opens, new_guarded, later_by}
 use Rattle.wt_beside_laws.proofs.LineParts.{guard_is, letter_is}
 use Rattle.wt_beside_laws.proofs.LineRows.{own_both, unbroken_own, guard_own, letter_own}
 use Rattle.wt_beside_laws.proofs.LineTiles.{line_glyphs}
@@ -106,10 +106,13 @@ given_opens : (s : Setting) (before : List ContentSign) (t : Thing) (after : Lis
 given_opens s before t after own more w l h g = elim h [
   | inl n ↦
       subst (λ xs. Opens (xs ++ more)) (sym n.is)
-      (items_open (page_items t.source) more (node_opens t.role (own_glyphs t) n.node
-      (λ i. let no : true ≡ false = sym (new_guarded s before t after w l i) ∙ g in cc)))
+      (items_open (node_items t.source) more (node_opens t.role (own_glyphs t) n.node (unmarked n (is_mark_role t.role) refl)))
   | inr x ↦ subst (λ xs. Opens (xs ++ more)) (sym x.is) (words_open x.call t.source more x.words x.begins)
 ]
+  where
+    unmarked : IsOwnNode t own → (v : Bool) → is_mark_role t.role ≡ v → v ≡ false
+    unmarked n true e = let no : true ≡ false = sym (new_guarded s before t after w l (n.inside e)) ∙ g in cc
+    unmarked n false e = refl
 
 line_opens : (s : Setting) (before signs : List ContentSign) (owns : List (List Item)) → s.within ≡ false → is_line_start (nearest before) ≡ true
     → is_line_begun before ≡ true → AreCharacters signs → AreGiven signs owns → Opens (line_with s before signs owns)
@@ -141,3 +144,8 @@ pub lines_are_text : (tables : ℕ) (s : Setting) (signs : List ContentSign) (ow
 lines_are_text tables s signs owns w v h =
     All-cons (IsLineOfText tables) (line_with s [] signs owns) (later_with s [] signs owns)
     (opens_line tables (line_with s [] signs owns) (line_opens s [] signs owns w refl refl v h)) (later_are tables s [] signs owns w v h)
+
+pub are_lines_of_text : (tables : ℕ) (s : Setting) (signs : List ContentSign) (owns : List (List Item)) → s.within ≡ false → AreCharacters signs → AreGiven signs owns
+    → AreLinesOfText tables (lines_with s signs owns)
+are_lines_of_text tables s signs owns w v h =
+    (opens_unmarked (line_with s [] signs owns) (line_opens s [] signs owns w refl refl v h), lines_are_text tables s signs owns w v h)

@@ -1,6 +1,5 @@
 -- A content whose nodes have given items is one paragraph.
 use Rattle.std.proofs.Common.{◌≡◌, ℕ, List, [], ◌∷◌, ◌++◌, map, refl, sym, ap, ◌∙◌, subst, All}
-use Rattle.std.proofs.lemmas.List.Elements.{All-head, All-tail}
 use Rattle.wt_span.specs.Items.{Item}
 use Rattle.wt_span.proofs.RunLaws.{runs_are}
 use Rattle.wt_guards.specs.Content.{ContentSign}
@@ -9,17 +8,18 @@ use Rattle.wt_lines.specs.Lines.{lines, full_lines, content, empty_end, goes_on}
 use Rattle.wt_lines.proofs.FullLines.{same_lines}
 use Rattle.wt_inline.specs.Parts.{Part}
 use Rattle.wt_page.specs.Body.{meaning}
+use Rattle.wt_page.specs.Rows.{marks_len}
 use Rattle.wt_page.specs.Texts.{para_parts}
-use Rattle.wt_text_edit_laws.specs.Contents.{AreUnled}
 use Rattle.wt_text_edit_laws.specs.ParagraphBetween.{EndsApart, EndsParagraph, blocks_in, body_with}
 use Rattle.wt_text_edit_laws.specs.ParagraphParts.{joined_parts, para_with}
 use Rattle.wt_text_edit_laws.proofs.Texts.PlainRows.{text_row}
 use Rattle.wt_beside_laws.specs.Called.{items_with, line_with, later_with, parts_with, IsCalledContent}
-use Rattle.wt_beside_laws.specs.Lines.{IsLineOfText}
-use Rattle.wt_beside_laws.proofs.LineParagraphs.{front_all, rest_all, no_end, unmarked, para_by}
+use Rattle.wt_beside_laws.specs.Lines.{IsLineOfText, AreLinesOfText}
+use Rattle.wt_beside_laws.proofs.LineParagraphs.{front_all, rest_all, no_end}
+use Rattle.wt_beside_laws.proofs.FlatLines.{lines_unled}
 use Rattle.wt_beside_laws.proofs.LineRows.{rows_parts}
 use Rattle.wt_beside_laws.proofs.LineStands.{lines_by, stands_so}
-use Rattle.wt_beside_laws.proofs.Groups.CalledLines.{lines_from, items_own, lines_are_text}
+use Rattle.wt_beside_laws.proofs.Groups.CalledLines.{lines_from, items_own, lines_are_text, are_lines_of_text}
 use Rattle.wt_beside_laws.proofs.Groups.CalledParts.{lines_joined}
 
 pub called_lines : (tables : ℕ) (s : Setting) (signs : List ContentSign) (owns : List (List Item)) → IsCalledContent s signs owns
@@ -36,15 +36,10 @@ called_parts s signs owns h = ap joined_parts (lines_from s [] signs owns h.give
 full_text : (tables : ℕ) (xs : List Item) → All (IsLineOfText tables) (lines xs) → All (IsLineOfText tables) (map content (full_lines xs) ++ empty_end xs)
 full_text tables xs h = subst (All (IsLineOfText tables)) (same_lines xs) h
 
-unled : (ls : List (List Item)) → All (IsLineOfText 0) (map content ls) → AreUnled ls
-unled [] h = tt
-unled (l ∷ ls) h =
-    (unmarked 0 l (All-head (IsLineOfText 0) (content l) (map content ls) h), unled ls (All-tail (IsLineOfText 0) (content l) (map content ls) h))
-
-pub called_unled : (s : Setting) (signs : List ContentSign) (owns : List (List Item)) → IsCalledContent s signs owns → AreUnled (full_lines (items_with s [] signs owns))
+called_unled : (s : Setting) (signs : List ContentSign) (owns : List (List Item)) → IsCalledContent s signs owns → marks_len (items_with s [] signs owns) ≡ 0
 called_unled s signs owns h =
-    let xs : List Item = items_with s [] signs owns in
-    unled (full_lines xs) (front_all (IsLineOfText 0) (map content (full_lines xs)) (empty_end xs) (full_text 0 xs (called_lines 0 s signs owns h)))
+    lines_unled 0 (items_with s [] signs owns)
+    (subst (AreLinesOfText 0) (sym (lines_from s [] signs owns h.given)) (are_lines_of_text 0 s signs owns h.of_block h.characters h.given))
 
 called_closed : (s : Setting) (signs : List ContentSign) (owns : List (List Item)) → IsCalledContent s signs owns → empty_end (items_with s [] signs owns) ≡ []
 called_closed s signs owns h =
@@ -66,6 +61,6 @@ called_stands before s signs owns tail a h e =
     let xs : List Item = items_with s [] signs owns in
     let ps : List Part = parts_with s [] signs owns in
     stands_so before xs tail (para_with ps) a
-    (lines_by xs (para_with ps) (full_lines xs) refl (runs_are goes_on xs) (called_closed s signs owns h)
+    (lines_by xs ps (full_lines xs) refl (runs_are goes_on xs) (called_closed s signs owns h) (called_unled s signs owns h)
     (λ n. front_all (IsLineOfText n) (map content (full_lines xs)) (empty_end xs) (full_text n xs (called_lines n s signs owns h)))
-    (para_by (map text_row (full_lines xs)) ps (called_rows s signs owns h))) e
+    (called_rows s signs owns h)) e

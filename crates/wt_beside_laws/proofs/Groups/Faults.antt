@@ -232,7 +232,7 @@ alone_means j b bs h v =
     subst (All (IsLineOfText 0)) (sym whole_line)
     (All-cons (IsLineOfText 0) xs [] (opens_line 0 xs (guard_opens true own (λ e. words_open j (b ∷ bs) [] h v))) (All-nil (IsLineOfText 0))) in
     let own_breaks : OwnBreaks xs = own_both (guard_items true) own (guard_own true) (unbroken_own own (words_unbroken j (b ∷ bs) h)) in
-    own_meaning xs own_breaks text
+    own_meaning xs own_breaks refl text
     ∙ ap (λ (ls : List (List Item)). body_with (para_with (joined_parts ls) ∷ [])) whole_line
     ∙ ap (λ (ps : List Part). body_with (para_with ps ∷ [])) (append-nil (line_parts xs) ∙ alone_line j b bs h v)
 

@@ -44,7 +44,7 @@ case_of Function pages t h = inl (h, refl, λ u own k. k)
 case_of Node pages t h = inl (h, refl, λ u own k. k)
 
 stays_given : (pages : Pages) (i : ℕ) (t : Thing) → StaysAsItIs pages t → IsOwnNode t (own_of pages i t)
-stays_given pages i t h = record { is = h.items i; flat = h.flat; node = h.node; unbroken = h.unbroken }
+stays_given pages i t h = record { is = h.items i; flat = h.flat; node = h.node; inside = h.inside; unbroken = h.unbroken }
 
 words_given : (pages : Pages) (i : ℕ) (t : Thing) → GivesWords pages t.source → AreWords (sources (expanded_page pages t.source).items) (own_of pages i t)
 words_given pages i t h = record { call = i; is = h.items i; words = h.words; begins = h.begins }

@@ -17,7 +17,8 @@ use Rattle.wt_text_edit_laws.specs.LonePages.{page_chars}
 use Rattle.wt_beside_laws.specs.Called.{is_word_byte, is_first_sign, AreWordBytes, AreWords, IsOwnNode, IsGivenAs}
 use Rattle.wt_beside_laws.specs.Cuts.{own_glyphs}
 use Rattle.wt_beside_laws.specs.Kept.{is_firm, AreFirm}
-use Rattle.wt_beside_laws.proofs.Firm.{alone_as, firm_read}
+use Rattle.wt_beside_laws.proofs.Firm.{firm_read}
+use Rattle.wt_beside_laws.proofs.NodeItems.{node_as}
 
 -- ---- bytes
 
@@ -126,7 +127,7 @@ firm_bytes (b ∷ bs) h = (firm_byte b h.0, firm_bytes bs h.1)
 
 pub shown_glyphs : (t : Thing) → AreWordBytes t.source → own_glyphs t ≡ byte_glyphs t.source
 shown_glyphs t h =
-    ap (map glyph_of) (alone_as t.source (page_chars t.source) (firm_read t.source (firm_bytes t.source h))) ∙ chars_glyphs t.source
+    ap (map glyph_of) (node_as t.source (page_chars t.source) (firm_read t.source (firm_bytes t.source h))) ∙ chars_glyphs t.source
 
 pub words_unbroken : (j : ℕ) (bs : List ℕ) → AreWordBytes bs → IsUnbroken (call_chars j bs)
 words_unbroken j [] h = tt

@@ -11,7 +11,7 @@ use Rattle.wt_span.specs.Lexemes.{form_at as word_at, sign_word, words, closed a
 use Rattle.wt_span.specs.Tags.{raw_len, include_at, opening_tag as opening_word, closing_tag as closing_word, tag_after as word_after, with_inside, is_extension}
 use Rattle.wt_expand.specs.PageItems.{page_items}
 use Rattle.wt_lines.specs.Kinds.{kind_of_signs}
-use Rattle.wt_lines.specs.Lines.{lines, full_lines}
+use Rattle.wt_lines.specs.Lines.{lines}
 use Rattle.wt_inline.specs.ItemTree.{forest}
 use Rattle.wt_inline.specs.Parts.{children}
 use Rattle.wt_tiles.specs.Tags.{tag_at, opening_tag, closing_tag, tag_after, name_of, live_name}
@@ -27,13 +27,12 @@ use Rattle.wt_quotes.specs.Styles.{style_tree_of}
 use Rattle.wt_quotes.specs.Toggles.{toggle_at, toggles_of}
 use Rattle.wt_blocks.specs.Headings.{level}
 use Rattle.wt_called_trees.specs.Rounded.{AllHaveItems}
-use Rattle.wt_text_edit_laws.specs.Contents.{AreUnled}
 use Rattle.wt_text_edit_laws.specs.LonePages.{page_chars}
 use Rattle.wt_text_edit_laws.specs.NoCalls.{CallsNothing}
 use Rattle.wt_text_edit_laws.specs.ParagraphParts.{joined_parts}
 use Rattle.wt_text_edit_laws.specs.Paragraphs.{IsTextLine}
 use Rattle.wt_text_edit_laws.specs.TextBetween.{StandsBehind}
-use Rattle.wt_text_edit_laws.specs.TextBlocks.{a_paragraph, a_heading, IsFrame}
+use Rattle.wt_text_edit_laws.specs.TextBlocks.{a_paragraph, a_heading, source_of, IsFrame}
 use Rattle.wt_text_edit_laws.specs.TypedHeadings.{spaced, heading_line, IsHeadingInside, IsOfLevel}
 use Rattle.wt_beside_laws.specs.Calm.{AreCalm}
 use Rattle.wt_beside_laws.specs.Content.{AreKept}
@@ -50,7 +49,7 @@ use Rattle.wt_page.specs.Rows.{marks_len}
 -- what else its items have to be
 pub record AreBlockItems (xs : List Item) : Type 0 where
   pub are_lines : All IsTextLine (lines xs)
-  pub unled : AreUnled (full_lines xs)
+  pub unled : marks_len xs ≡ 0
   pub has_items : AllHaveItems (forest (children (joined_parts (lines xs))))
 
 pub paragraph_by : (q : List ℕ) (xs : List Item) → page_items q ≡ xs → page_items (q ++ 10 ∷ []) ≡ xs ++ char None 10 ∷ []
@@ -64,7 +63,6 @@ paragraph_by q xs is ended alone before_break given more =
         ended = ended ∙ ap (λ (ys : List Item). ys ++ char None 10 ∷ []) (sym is);
         unended = refl;
         is = record { are_lines = b.are_lines; unled = b.unled; alone = alone; before_break = before_break };
-        unled = tt;
         calls_nothing = h.calls_nothing;
         has_items = b.has_items;
         flat = h.flat;
@@ -90,7 +88,7 @@ break_items : AreBlockItems (page_chars (codes "x<br>y"))
 unfolding kind_of_signs context_parts with_styles style_tree_of toggles_of toggle_at chunks segments loose_segments tiles shapes closed form_at link_or_url link_at ext_link_at bare_url_at scheme_len tag_tile tag_at opening_tag closing_tag tag_after name_of live_name switch_at chars children
 break_items = record {
   are_lines = All-cons IsTextLine (page_chars (codes "x<br>y")) [] refl (All-nil IsTextLine);
-  unled = (refl, tt);
+  unled = refl;
   has_items = ((refl, tt), ((refl, tt), ((refl, tt), tt)));
 }
 
@@ -125,11 +123,10 @@ frame = record {
   ended = refl;
 }
 
--- what its items have to be
-record AreHeadingItems (xs : List Item) : Type 0 where
-  pub line : heading_line (spaced 2) xs ≡ page_chars words_as_heading
+-- what its items have to be, where these are those of its line
+pub record AreHeadingItems (all xs : List Item) : Type 0 where
+  pub line : heading_line (spaced 2) xs ≡ all
   pub calls_nothing : CallsNothing (heading_line (spaced 2) xs)
-  pub unled : marks_len xs ≡ 0
   pub inside : IsHeadingInside xs
   pub of_level : IsOfLevel (spaced 2) xs
   pub has_items : AllHaveItems (forest (children (line_parts xs)))
@@ -139,16 +136,17 @@ record AreHeadingItems (xs : List Item) : Type 0 where
   pub calm : AreCalm (signs_of_lines 3 (xs ∷ []))
   pub shut : AreShut (signs_of_lines 3 (xs ∷ []))
 
-heading_by : (xs : List Item) → page_items (codes "x<br>y") ≡ xs → IsUtf8 (codes "x<br>y") → AreHeadingItems xs → IsFlatIn (a_heading (spaced 2)) (codes "x<br>y")
-heading_by xs is utf8 given =
-    let h : AreHeadingItems (page_items (codes "x<br>y")) = subst AreHeadingItems (sym is) given in
+pub heading_by : (q : List ℕ) (all xs : List Item) → page_items (source_of (a_heading (spaced 2)) q) ≡ all
+    → page_items (source_of (a_heading (spaced 2)) q ++ 10 ∷ []) ≡ all ++ char None 10 ∷ [] → page_items q ≡ xs → IsUtf8 q → AreHeadingItems all xs
+    → IsFlatIn (a_heading (spaced 2)) q
+heading_by q all xs alone before_break is utf8 given =
+    let h : AreHeadingItems all (page_items q) = subst (AreHeadingItems all) (sym is) given in
     record {
       styled = record {
         utf8 = utf8;
-        ended = ended_heading_are ∙ ap (λ (ys : List Item). ys ++ char None 10 ∷ []) (sym h.line);
-        unended = heading_are ∙ sym h.line;
+        ended = before_break ∙ ap (λ (ys : List Item). ys ++ char None 10 ∷ []) (sym h.line);
+        unended = alone ∙ sym h.line;
         is = record { frame = frame; inside = h.inside; of_level = h.of_level };
-        unled = h.unled;
         calls_nothing = h.calls_nothing;
         has_items = h.has_items;
         flat = h.flat;
@@ -159,21 +157,21 @@ heading_by xs is utf8 given =
       unstyled = h.unstyled;
     }
 
-heading_items : AreHeadingItems (page_chars (codes "x<br>y"))
+heading_items : AreHeadingItems (page_chars words_as_heading) (page_chars (codes "x<br>y"))
 unfolding page_items words words_closed level kind_of_signs context_parts with_styles style_tree_of toggles_of toggle_at chunks segments loose_segments tiles shapes closed form_at link_or_url link_at ext_link_at bare_url_at scheme_len tag_tile tag_at opening_tag closing_tag tag_after name_of live_name switch_at chars children
 heading_items = record {
   line = refl;
-  unled = refl;
   calls_nothing = tt;
   inside = record { unbroken = (refl, (refl, (refl, (refl, (refl, (refl, tt)))))); begins = refl; ends = refl };
   of_level = refl;
   has_items = ((refl, tt), ((refl, tt), ((refl, tt), tt)));
   flat = break_flat.flat;
   unstyled = break_flat.unstyled;
-  kept = (break_held, tt);
+  kept = ((break_held, tt), tt);
   calm = (break_calm, tt);
   shut = (refl, tt);
 }
 
 pub as_heading : IsFlatIn (a_heading (spaced 2)) (codes "x<br>y")
-as_heading = heading_by (page_chars (codes "x<br>y")) items_are break_flat.utf8 heading_items
+as_heading =
+    heading_by (codes "x<br>y") (page_chars words_as_heading) (page_chars (codes "x<br>y")) heading_are ended_heading_are items_are break_flat.utf8 heading_items

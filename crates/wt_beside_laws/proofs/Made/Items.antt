@@ -7,7 +7,6 @@ use Rattle.wt_span.specs.Runs.{runs, IsRun, AreRuns}
 use Rattle.wt_span.proofs.RunLaws.{runs_are}
 use Rattle.wt_guards.specs.Content.{Thing}
 use Rattle.wt_guards.specs.Guards.{nowiki}
-use Rattle.wt_expand.specs.PageItems.{page_items}
 use Rattle.wt_inline.specs.declared.loose.Loose.{Loose}
 use Rattle.wt_inline.specs.declared.loose.Loose.TheVariants.{Text, Sep}
 use Rattle.wt_inline.specs.ItemTree.{plain, ItemTree, inner, ItemTrees, nothing, forest, tree_items, held_by_all}
@@ -22,6 +21,7 @@ use Rattle.wt_beside_laws.proofs.Each.{Each}
 use Rattle.wt_beside_laws.proofs.Edits.FullTrees.{node_alone}
 use Rattle.wt_beside_laws.proofs.LineShown.{guard_tree}
 use Rattle.wt_beside_laws.proofs.PartThings.{HaveThings, tree_source}
+use Rattle.wt_beside_laws.specs.NodeItems.{node_items}
 
 -- ---- parts
 
@@ -120,7 +120,7 @@ children_nodes ps f = runs_nodes (runs one_leaf ps) ps (runs_are one_leaf ps) f
 -- ---- the nodes of a content
 
 abbrev pub ThingHas : Thing → Type 0
-ThingHas t = PartsHave (line_parts (page_items t.source))
+ThingHas t = PartsHave (line_parts (node_items t.source))
 
 pub things_have : (at : ℕ) (ps : List Part) (ts : List Thing) → HaveThings at ps ts → NodesHave ps → Each ThingHas ts
 things_have at [] ts h f = subst (Each ThingHas) (sym h) tt

@@ -15,7 +15,6 @@ use Rattle.wt_guards.specs.declared.role.Role.{Role}
 use Rattle.wt_guards.specs.declared.role.Role.TheVariants.{Link, External, Bare, Switch, Toggle, Mark, Group, Function, Node}
 use Rattle.wt_guards.specs.Content.{ContentSign, letter, thing}
 use Rattle.wt_expand.specs.PageItems.{raw_form_by, items_of_word, page_items}
-use Rattle.wt_expand.proofs.PageLaws.{page_sources}
 use Rattle.wt_tiles.specs.declared.glyph.Glyph.{Glyph}
 use Rattle.wt_tiles.specs.declared.glyph.Glyph.TheVariants as glyph
 use Rattle.wt_tiles.specs.declared.glyph.GlyphClass.TheVariants as class
@@ -47,8 +46,12 @@ use Rattle.wt_beside_laws.proofs.NodesEnd.{EndsWith, external_ends, ClosesAt, in
 use Rattle.wt_beside_laws.proofs.NodesStand.{EachIs, all_by}
 use Rattle.wt_beside_laws.proofs.PairTiles.{HasTag, partner_tag}
 use Rattle.wt_beside_laws.proofs.UrlFronts.{some_shape}
-use Rattle.wt_beside_laws.specs.Commented.{IsHeld}
-use Rattle.wt_beside_laws.proofs.Marks.Commented.{comment_alone}
+use Rattle.wt_beside_laws.specs.Commented.{IsCommentLine, IsHeld}
+use Rattle.wt_spelling_laws.proofs.TextReads.{apart}
+use Rattle.wt_text_edit_laws.specs.TextBetween.{HasNoTag}
+use Rattle.wt_beside_laws.proofs.Marks.Shown.{comment_node, line_node, kept_node}
+use Rattle.wt_beside_laws.proofs.NodeItems.{node_sources}
+use Rattle.wt_beside_laws.specs.NodeItems.{node_items}
 
 -- ---- lexemes
 
@@ -59,7 +62,7 @@ FormEnds (form.Entity c) bs = EndsBy stops bs
 FormEnds form.Nowiki bs = EndsBy stops bs
 FormEnds form.Extension bs = EndsBy stops bs
 FormEnds form.Function bs = EndsBy stops bs
-FormEnds form.Comment bs = EndsBy stops bs
+FormEnds form.Comment bs = IsSealed bs
 FormEnds form.Include bs = EndsBy stops bs
 FormEnds form.Hidden bs = EndsBy stops bs
 FormEnds form.EmptyCall bs = EndsBy stops bs
@@ -92,8 +95,8 @@ raw_word (Some t) bs l = by (is_nowiki t.name)
 
 word_ends : (kind : LexKind) (bs : List ℕ) → EndsBy stops bs → LexemesEnd (items_of_word kind bs)
 word_ends lex.Chars bs w = chars_end bs
-word_ends lex.CommentLine bs w = (w, tt)
-word_ends lex.Comment bs w = (w, tt)
+word_ends lex.CommentLine bs w = (ends_sealed bs w, tt)
+word_ends lex.Comment bs w = (ends_sealed bs w, tt)
 word_ends lex.Raw bs w = raw_word (raw_opening bs) bs w
 word_ends lex.Include bs w = (w, tt)
 word_ends lex.Hidden bs w = (w, tt)
@@ -129,12 +132,23 @@ lexemes_end q h =
     let own : ReadsAs q (parts_items h.parts) = subst (λ bs. ReadsAs bs (parts_items h.parts)) h.is (parts_read h.parts h.are) in
     subst LexemesEnd (sym (alone_as q (parts_items h.parts) own)) (parts_end h.parts h.are)
 
-held_ends : (q : List ℕ) → IsHeld q → LexemesEnd (page_items q)
-held_ends q h = elim h [
-  | inl k ↦ lexemes_end q k.0
-  | inr c ↦ subst (λ bs. LexemesEnd (page_items bs)) (sym c.is)
-      (subst LexemesEnd (sym (comment_alone c.others c.comment)) (lexeme_stops (60 ∷ c.others) c.comment.ends, tt))
-]
+untagged_sealed : (bs : List ℕ) → HasNoTag bs → IsSealed bs
+untagged_sealed [] h = none_sealed
+untagged_sealed (b ∷ bs) h = both_sealed (b ∷ []) bs (byte_sealed b (apart b 60 h.0)) (untagged_sealed bs h.1)
+
+-- behind the last `>` of a line of comments no tag begins
+line_sealed : (q : List ℕ) → IsCommentLine q → IsSealed q
+line_sealed q h =
+    let is : q ≡ (h.before ++ 62 ∷ []) ++ h.behind = h.closed ∙ sym (append_assoc h.before (62 ∷ []) h.behind) in
+    subst IsSealed (sym is)
+    (both_sealed (h.before ++ 62 ∷ []) h.behind (ends_sealed (h.before ++ 62 ∷ []) (last_ends 62 h.before refl)) (untagged_sealed h.behind h.untagged))
+
+held_ends : (q : List ℕ) → IsHeld q → LexemesEnd (node_items q)
+held_ends q (inl k) = subst LexemesEnd (sym (kept_node q k.0)) (lexemes_end q k.0)
+held_ends q (inr (inl c)) =
+    subst (λ bs. LexemesEnd (node_items bs)) (sym c.is)
+    (subst LexemesEnd (sym (comment_node c.others c.comment)) (ends_sealed (60 ∷ c.others) (lexeme_stops (60 ∷ c.others) c.comment.ends), tt))
+held_ends q (inr (inr l)) = subst LexemesEnd (sym (line_node q l)) (line_sealed q l, tt)
 
 -- ---- items without a `<` outside of lexemes
 
@@ -154,7 +168,7 @@ form_sealed (form.Entity c) bs l = ends_sealed bs l
 form_sealed form.Nowiki bs l = ends_sealed bs l
 form_sealed form.Extension bs l = ends_sealed bs l
 form_sealed form.Function bs l = ends_sealed bs l
-form_sealed form.Comment bs l = ends_sealed bs l
+form_sealed form.Comment bs l = l
 form_sealed form.Include bs l = ends_sealed bs l
 form_sealed form.Hidden bs l = ends_sealed bs l
 form_sealed form.EmptyCall bs l = ends_sealed bs l
@@ -507,7 +521,7 @@ node_sealed External xs l n = tailed_sealed 93 xs refl (external_tailed (map gly
 node_sealed (Bare ends) xs l n = others_sealed xs l (url_others (map glyph_of xs) n)
 node_sealed Switch xs l n = others_sealed xs l (switch_others (map glyph_of xs) n)
 node_sealed Toggle xs l n = others_sealed xs l (delimiter_others (map glyph_of xs) n)
-node_sealed (Mark ends began) xs l n = others_sealed xs l (mark_others (map glyph_of xs) n.is)
+node_sealed (Mark ends began) xs l n = others_sealed xs l (mark_others (map glyph_of xs) n)
 node_sealed (Group g) xs l n = absurd n
 node_sealed Function xs l n = others_sealed xs l (lexeme_others (map glyph_of xs) n)
 node_sealed Node xs l n = other_sealed xs l n
@@ -516,6 +530,6 @@ pub nodes_sealed : (signs : List ContentSign) → AreNodes signs → AreKept sig
 nodes_sealed [] n k = tt
 nodes_sealed (letter c ∷ after) n k = nodes_sealed after n k
 nodes_sealed (thing t ∷ after) n k = (
-  subst IsSealed (page_sources t.source) (node_sealed t.role (page_items t.source) (held_ends t.source k.0) n.0),
+  subst IsSealed (node_sources t.source) (node_sealed t.role (node_items t.source) (held_ends t.source k.0.0) n.0),
   nodes_sealed after n.1 k.1,
 )

@@ -20,7 +20,7 @@ use Rattle.wt_moved_laws.proofs.Sources.{standing_source}
 use Rattle.wt_moved_laws.proofs.Ordinary.{standing_ordinary, ordinary_ungrouped}
 use Rattle.wt_typed_blocks.specs.Sent.{kind_of}
 use Rattle.wt_typed_blocks.specs.Edited.{Pieces, page_pieces, page_node}
-use Rattle.wt_text_edit_laws.specs.Contents.{IsContentOf, AreUnled, content_parts_of}
+use Rattle.wt_text_edit_laws.specs.Contents.{IsContentOf, content_parts_of}
 use Rattle.wt_text_edit_laws.specs.NoCalls.{CallsNothing}
 use Rattle.wt_text_edit_laws.specs.LonePages.{page_chars}
 use Rattle.wt_text_edit_laws.specs.ParagraphParts.{joined_parts}
@@ -30,13 +30,13 @@ use Rattle.wt_text_edit_laws.proofs.Blocks.BlockLeaves.{open_items, close_items}
 use Rattle.wt_text_edit_laws.proofs.Blocks.Contents.{block_source}
 use Rattle.wt_text_edit_laws.proofs.Blocks.TypedFacts.{framed}
 use Rattle.wt_beside_laws.specs.Content.{AreKept}
-use Rattle.wt_beside_laws.specs.FlatBlocks.{lines_in, begins_at, signs_in, IsUnledIn}
+use Rattle.wt_beside_laws.specs.FlatBlocks.{lines_in, begins_at, signs_in}
 use Rattle.wt_beside_laws.specs.ContentEdits.{content_edit}
 use Rattle.wt_beside_laws.specs.PageBlocks.{AreSoIn}
 use Rattle.wt_beside_laws.specs.PageSigns.{signs_of_lines, AreFlatLines}
 use Rattle.wt_beside_laws.specs.Stood.{things}
-use Rattle.wt_beside_laws.proofs.Made.OwnPages.{text_lines, content_ordinary}
-use Rattle.wt_beside_laws.proofs.Marks.Within.{marks_within, unled_lines, lines_source, lines_bytes}
+use Rattle.wt_beside_laws.proofs.Made.OwnPages.{content_ordinary}
+use Rattle.wt_beside_laws.proofs.Marks.Within.{marks_within, lines_source, lines_bytes}
 use Rattle.wt_expand.proofs.PageLaws.{page_sources}
 
 -- ---- by its parts
@@ -147,19 +147,15 @@ bytes_in : (k : TextBlock) (q : List ℕ) → lines_source (lines_in k q) ≡ q
 bytes_in a_paragraph q = lines_bytes (lines (page_items q)) (page_items q) (lines_join (page_items q)) ∙ page_sources q
 bytes_in (a_heading s) q = page_sources q
 
-unled_in : (k : TextBlock) (q : List ℕ) → IsContentOf k q → IsUnledIn k q → AreUnled (lines_in k q)
-unled_in a_paragraph q h u = unled_lines 0 (lines (page_items q)) (text_lines q h)
-unled_in (a_heading s) q h u = (u, tt)
-
--- its marks are within their lines
-pub marks_in : (k : TextBlock) (q : List ℕ) (block : Tree) → IsIn k q block → IsContentOf k q → IsUnledIn k q → AreFlatLines (lines_in k q) → AreKept (signs_in k q)
+-- its marks are as their roles say
+pub marks_in : (k : TextBlock) (q : List ℕ) (block : Tree) → IsIn k q block → AreFlatLines (lines_in k q) → AreKept (signs_in k q)
     → AreSoIn block (things (signs_of_lines (length (label block).opening) (lines_in k q)))
-marks_in k q block i h u f kept =
+marks_in k q block i f kept =
     let ls : List (List Item) = lines_in k q in
     let opens : (label block).opening ≡ sources (open_items k) = block_opening k q block i in
     let own : flat block ≡ source_of k q = ap flat i.is ∙ standing_source i.number i.before (block_tree k q) ∙ block_source k q in
     let is : flat block ≡ (label block).opening ++ (lines_source ls ++ sources (close_items k)) =
     own ∙ sym (framed k q) ∙ ap (λ (bs : List ℕ). sources (open_items k) ++ (bs ++ sources (close_items k))) (sym (bytes_in k q))
     ∙ ap (λ (bs : List ℕ). bs ++ (lines_source ls ++ sources (close_items k))) (sym opens) in
-    marks_within ls block (sources (close_items k)) is (unled_in k q h u) f
+    marks_within ls block (sources (close_items k)) is f
     (subst (λ (n : ℕ). AreKept (signs_of_lines n ls)) (sym (block_begins k q block i)) kept)

@@ -10,7 +10,6 @@ use Rattle.wt_expand.specs.PageItems.{page_items}
 use Rattle.wt_lines.specs.declared.kind.LineKind.TheVariants as line
 use Rattle.wt_lines.specs.Kinds.{line_kind}
 use Rattle.wt_lines.specs.Lines.{lines, content}
-use Rattle.wt_text_edit_laws.specs.Contents.{AreUnled}
 use Rattle.wt_text_edit_laws.specs.NoCalls.{NonePairs, AreUnbraced, CallsNothing}
 use Rattle.wt_text_edit_laws.specs.TextBetween.{StandsBehind}
 use Rattle.wt_text_edit_laws.specs.TextBlocks.{TextBlock, a_paragraph, a_heading, source_of, block_items}
@@ -21,19 +20,18 @@ use Rattle.wt_text_edit_laws.proofs.Blocks.TypedBraces.{line_unbraced}
 use Rattle.wt_text_edit_laws.proofs.Prose.InFront.{Reads, reads_nothing, read_break, read_items}
 use Rattle.wt_text_edit_laws.proofs.Prose.Uncommented.{BeginsUncommented}
 use Rattle.wt_beside_laws.specs.Calm.{IsCalm, AreCalm}
-use Rattle.wt_beside_laws.specs.Content.{AreKept}
 use Rattle.wt_beside_laws.specs.Flat.{IsReadIn}
-use Rattle.wt_beside_laws.specs.FlatBlocks.{lines_in, IsUnledIn}
+use Rattle.wt_beside_laws.specs.FlatBlocks.{lines_in}
 use Rattle.wt_beside_laws.specs.InHeadings.{AreOnOneLine}
-use Rattle.wt_beside_laws.specs.Lines.{IsLineOfText, AreCharacters, AreUnbroken, line_items, later_lines, content_lines}
-use Rattle.wt_beside_laws.specs.Nodes.{AreNodes}
+use Rattle.wt_beside_laws.specs.Lines.{AreLinesOfText, AreCharacters, AreUnbroken, line_items, later_lines, content_lines}
 use Rattle.wt_beside_laws.proofs.CalmContents.{content_unbraced, nowiki_calm, reference_calm}
 use Rattle.wt_beside_laws.proofs.FlatAgain.{EachSource, HoldsOfPut}
 use Rattle.wt_beside_laws.proofs.LineHeadings.{same_items}
 use Rattle.wt_beside_laws.proofs.LineItems.{content_lines_are}
-use Rattle.wt_beside_laws.proofs.LineKinds.{lines_are_text}
-use Rattle.wt_beside_laws.proofs.LineParagraphs.{unmarked}
+use Rattle.wt_beside_laws.proofs.LineKinds.{lines_are_text, are_lines_of_text}
+use Rattle.wt_beside_laws.proofs.FlatLines.{lines_unled}
 use Rattle.wt_beside_laws.proofs.Marks.Commented.{content_alone, content_reads}
+use Rattle.wt_page.specs.Rows.{marks_len}
 
 -- ---- a content of a block of this kind
 
@@ -56,11 +54,6 @@ pub lines_by : (k : TextBlock) (s : Setting) (signs : List ContentSign) → IsRe
 lines_by a_paragraph s signs kept unbroken fits = content_lines_are s signs kept unbroken
 lines_by (a_heading h) s signs kept unbroken fits =
     ap₂ (λ (l : List Item) (ls : List (List Item)). l ∷ ls) (content_alone s signs kept ∙ sym (same_items s [] signs fits.1)) (sym (none_later s [] signs fits.1))
-
--- no line of it begins with a mark
-pub unled_in : (k : TextBlock) (q : List ℕ) → AreUnled (lines_in k q) → IsUnledIn k q
-unled_in a_paragraph q u = tt
-unled_in (a_heading h) q u = u.0
 
 -- ---- how it is read
 
@@ -106,20 +99,15 @@ unended_so k q f b =
 
 -- ---- which lines these are
 
-all_texts : (n : ℕ) (ls : List (List Item)) → All (IsLineOfText n) ls → All (λ l. line_kind n l ≡ line.Text) ls
-all_texts n [] h = All-nil (λ l. line_kind n l ≡ line.Text)
-all_texts n (l ∷ ls) h =
-    All-cons (λ l. line_kind n l ≡ line.Text) l ls (All-head (IsLineOfText n) l ls h).text (all_texts n ls (All-tail (IsLineOfText n) l ls h))
-
-pub texts_by : (n : ℕ) (s : Setting) (signs : List ContentSign) → s.within ≡ false → AreCharacters signs → AreNodes signs → AreKept signs → AreUnbroken signs
+pub texts_by : (n : ℕ) (s : Setting) (signs : List ContentSign) → IsReadIn s signs → AreCharacters signs → AreUnbroken signs
     → All (λ l. line_kind n l ≡ line.Text) (lines (page_items (spelled s signs)))
-texts_by n s signs block typed nodes kept unbroken =
-    subst (All (λ l. line_kind n l ≡ line.Text)) (sym (content_lines_are s signs (record { within = block; kept = kept; nodes = nodes }) unbroken)) (all_texts n (content_lines s signs) (lines_are_text n s signs block typed nodes))
+texts_by n s signs k typed unbroken =
+    subst (All (λ l. line_kind n l ≡ line.Text)) (sym (content_lines_are s signs k unbroken)) (lines_are_text n s signs k.within typed k.nodes)
 
-pub all_unled : (ls : List (List Item)) → All (IsLineOfText 0) (map content ls) → AreUnled ls
-all_unled [] h = tt
-all_unled (l ∷ ls) h =
-    (unmarked 0 l (All-head (IsLineOfText 0) (content l) (map content ls) h), all_unled ls (All-tail (IsLineOfText 0) (content l) (map content ls) h))
+pub unled_by : (s : Setting) (signs : List ContentSign) → IsReadIn s signs → AreCharacters signs → AreUnbroken signs → marks_len (page_items (spelled s signs)) ≡ 0
+unled_by s signs k typed unbroken =
+    lines_unled 0 (page_items (spelled s signs))
+    (subst (AreLinesOfText 0) (sym (content_lines_are s signs k unbroken)) (are_lines_of_text 0 s signs k.within k.led.first typed k.nodes))
 
 -- ---- it calls nothing
 

@@ -8,10 +8,10 @@ use Rattle.std.proofs.lemmas.List.Elements.{All-head, All-tail}
 use Rattle.std.proofs.lemmas.Str.{encode_ascii}
 use Rattle.wt_span.specs.declared.form.Mode.TheVariants.{Page}
 use Rattle.wt_span.specs.declared.form.LexKind.{LexKind}
-use Rattle.wt_span.specs.declared.form.LexKind.TheVariants.{Comment, Raw, Entity, Pipe, Equals}
+use Rattle.wt_span.specs.declared.form.LexKind.TheVariants.{CommentLine, Comment, Raw, Entity, Pipe, Equals}
 use Rattle.wt_span.specs.declared.form.ItemForm.TheVariants as form
 use Rattle.wt_span.specs.Bytes.{is_break}
-use Rattle.wt_span.specs.Comments.{comment_len}
+use Rattle.wt_span.specs.Comments.{comment_len, comment_line_len}
 use Rattle.wt_span.specs.Tags.{opening_tag, tag_after}
 use Rattle.wt_span.specs.Items.{Item, char, whole}
 use Rattle.wt_span.specs.Lexemes.{form_at}
@@ -27,7 +27,7 @@ use Rattle.wt_text_edit_laws.specs.LonePages.{page_chars}
 use Rattle.wt_text_edit_laws.specs.TextBetween.{EndsBy}
 use Rattle.wt_text_edit_laws.proofs.Between.Fronts.{ReadsAfter, first_from, byte_from, form_from, items_from}
 use Rattle.wt_text_edit_laws.proofs.Texts.TypedItems.{references, wide_form, wide_tame, tame_if, IsMild, wide_mild, mild_if, no_form_byte}
-use Rattle.wt_beside_laws.specs.Commented.{IsComment}
+use Rattle.wt_beside_laws.specs.Commented.{IsComment, IsCommentLine}
 use Rattle.wt_beside_laws.specs.Content.{guard_items, letter_items}
 use Rattle.wt_beside_laws.specs.Kept.{Part, characters, sign, lexeme, is_firm, AreFirm, is_lexeme_end, IsPart, AreParts, part_source, parts_source, part_items, parts_items, IsKept}
 use Rattle.wt_beside_laws.specs.PageSigns.{HasNoBreak}
@@ -59,16 +59,16 @@ abbrev last_flag : Bool → List ℕ → Bool
 last_flag v [] = v
 last_flag v (b ∷ q) = last_flag (is_break b) q
 
-skipped : (v : Bool) (q rest : List ℕ) (xs : List Item) → last_flag v q ≡ false → InLine rest xs → items_from v (length q) (q ++ rest) ≡ xs
-skipped v [] rest xs e r = ap (λ (w : Bool). items_from w 0 rest) e ∙ first_from false rest ∙ r.items
-skipped v (b ∷ q) rest xs e r = skipped (is_break b) q rest xs e r
+skipped : (v w : Bool) (q rest : List ℕ) (xs : List Item) → last_flag v q ≡ w → ReadsAfter w rest xs → items_from v (length q) (q ++ rest) ≡ xs
+skipped v w [] rest xs e r = ap (λ (u : Bool). items_from u 0 rest) e ∙ first_from w rest ∙ r.items
+skipped v w (b ∷ q) rest xs e r = skipped (is_break b) w q rest xs e r
 
 form_in : (kind : LexKind) (b : ℕ) (q rest : List ℕ) (xs : List Item) → last_flag (is_break b) q ≡ false
     → form_at Page false (b ∷ (q ++ rest)) ≡ Some (kind, suc (length q)) → InLine rest xs → InLine (b ∷ (q ++ rest)) (items_of_word kind (b ∷ q) ++ xs)
 form_in kind b q rest xs e f r = record {
   items = sym (first_from false (b ∷ (q ++ rest))) ∙ form_from false b (q ++ rest) kind (length q) f
       ∙ ap (λ ys. items_of_word kind (b ∷ ys) ++ items_from (is_break b) (length q) (q ++ rest)) (take-append_seam q rest)
-      ∙ ap (λ ys. items_of_word kind (b ∷ q) ++ ys) (skipped (is_break b) q rest xs e r);
+      ∙ ap (λ ys. items_of_word kind (b ∷ q) ++ ys) (skipped (is_break b) false q rest xs e r);
 }
 
 end_flag : (b : ℕ) (q : List ℕ) → EndsBy is_lexeme_end (b ∷ q) → last_flag (is_break b) q ≡ false
@@ -79,6 +79,37 @@ end_flag b [] h = other (b == 62) (b == 59) refl refl h
     other false true e f i = let is : b ≡ 59 = grind (arith, nat_tests, f) in subst (λ (k : ℕ). (k == 10) ≡ false) (sym is) refl
     other false false e f i = cc
 end_flag b (c ∷ q) h = end_flag c q h
+
+-- ---- a line of comments, where a line begins
+
+line_word : (bs : List ℕ) (n : ℕ) → comment_line_len bs ≡ Some n → form_at Page true bs ≡ Some (CommentLine, n)
+unfolding form_at
+line_word bs n e = rw e refl
+
+line_flag : (b : ℕ) (q : List ℕ) → EndsBy is_break (b ∷ q) → last_flag (is_break b) q ≡ true
+line_flag b [] h = h
+line_flag b (c ∷ q) h = line_flag c q h
+
+line_by : (b : ℕ) (q rest : List ℕ) (xs : List Item) → form_at Page true (b ∷ (q ++ rest)) ≡ Some (CommentLine, suc (length q)) → last_flag (is_break b) q ≡ true
+    → ReadsAfter true rest xs → ReadsAfter true (b ∷ (q ++ rest)) (whole form.Comment None (b ∷ q) ∷ xs)
+line_by b q rest xs f e r = record {
+  items = sym (first_from true (b ∷ (q ++ rest))) ∙ form_from true b (q ++ rest) CommentLine (length q) f
+      ∙ ap (λ ys. items_of_word CommentLine (b ∷ ys) ++ items_from (is_break b) (length q) (q ++ rest)) (take-append_seam q rest)
+      ∙ ap (λ ys. items_of_word CommentLine (b ∷ q) ++ ys) (skipped (is_break b) true q rest xs e r);
+}
+
+pub comment_line : (source rest : List ℕ) (xs : List Item) → IsCommentLine source → ReadsAfter true rest xs
+    → ReadsAfter true (source ++ rest) (whole form.Comment None source ∷ xs)
+comment_line source rest xs h r =
+    subst (λ bs. ReadsAfter true (bs ++ rest) (whole form.Comment None bs ∷ xs)) (sym h.is)
+    (line_by h.first h.others rest xs (line_word (h.first ∷ (h.others ++ rest)) (suc (length h.others)) (h.len rest)) (line_flag h.first h.others h.ends) r)
+
+-- a line break that is a character, before what begins a line
+pub break_after : (bs : List ℕ) (xs : List Item) → ReadsAfter true bs xs → InLine (10 ∷ bs) (char None 10 ∷ xs)
+break_after bs xs r = record {
+  items = sym (first_from false (10 ∷ bs)) ∙ byte_from false 10 bs (other_byte Page 10 bs refl)
+      ∙ ap (λ ys. char None 10 ∷ ys) (first_from true bs ∙ r.items);
+}
 
 -- ---- a comment
 

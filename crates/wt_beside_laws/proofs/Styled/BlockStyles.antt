@@ -108,7 +108,7 @@ all_quotes ((w, xs) ∷ ps) =
     (tile_quotes (tile_tree context_parts in_line w.kind w xs) xs) (all_quotes ps)
 
 -- delimiters have no node
-quotes_none : (us : List Segment) (at : ℕ) (ts : List Thing) → AreQuotes us → QuotesAre us → HaveThings at (segment_parts us) ts → ts ≡ []
+pub quotes_none : (us : List Segment) (at : ℕ) (ts : List Thing) → AreQuotes us → QuotesAre us → HaveThings at (segment_parts us) ts → ts ≡ []
 quotes_none [] at ts q a h = h
 quotes_none (u ∷ us) at ts q a h =
     let k = a.0 q.0 in
@@ -131,14 +131,14 @@ pub parts_cut : (low mid high : ℕ) (us : List Segment) → low ≤ mid → mid
 parts_cut low mid high us l m =
     ap segment_parts (between_both low mid high us l m) ∙ flat_map-append (λ (u : Segment). u.parts) (between low mid us) (between mid high us)
 
-record Cut (at : ℕ) (ps qs : List Part) (ts : List Thing) : Type 0 where
-  first : List Thing
-  later : List Thing
-  is : ts ≡ first ++ later
-  own : HaveThings at ps first
-  rest : HaveThings (at + parts_width ps) qs later
+pub record Cut (at : ℕ) (ps qs : List Part) (ts : List Thing) : Type 0 where
+  pub first : List Thing
+  pub later : List Thing
+  pub is : ts ≡ first ++ later
+  pub own : HaveThings at ps first
+  pub rest : HaveThings (at + parts_width ps) qs later
 
-things_cut : (at : ℕ) (ps qs : List Part) (ts : List Thing) → HaveThings at (ps ++ qs) ts → Cut at ps qs ts
+pub things_cut : (at : ℕ) (ps qs : List Part) (ts : List Thing) → HaveThings at (ps ++ qs) ts → Cut at ps qs ts
 things_cut at [] qs ts h =
     let z : at ≡ at + 0 = omega arith in
     record { first = []; later = ts; is = refl; own = refl; rest = subst (λ (n : ℕ). HaveThings n qs ts) z h }

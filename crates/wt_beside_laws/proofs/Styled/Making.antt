@@ -26,7 +26,7 @@ use Rattle.wt_text_edit_laws.specs.TextBlocks.{TextBlock, a_paragraph, a_heading
 use Rattle.wt_text_edit_laws.proofs.Blocks.BlockLeaves.{open_items}
 use Rattle.wt_beside_laws.specs.Content.{AreKept}
 use Rattle.wt_beside_laws.specs.ContentEdits.{content_edit, new_content, MakesContent}
-use Rattle.wt_beside_laws.specs.FlatBlocks.{lines_in, signs_in as signs_of}
+use Rattle.wt_beside_laws.specs.FlatBlocks.{lines_in, signs_in as signs_of, sent_for}
 use Rattle.wt_beside_laws.specs.PageBlocks.{IsBlockOfLines}
 use Rattle.wt_beside_laws.specs.PageSigns.{signs_of_lines}
 use Rattle.wt_beside_laws.specs.SentPieces.{TextsFit}
@@ -35,7 +35,7 @@ use Rattle.wt_beside_laws.specs.Shown.{parts_shown_at}
 use Rattle.wt_beside_laws.specs.Stood.{things}
 use Rattle.wt_beside_laws.specs.Styled.{StyledContent, signs_in, styled_parts, IsStyledContent}
 use Rattle.wt_beside_laws.specs.StyledBlocks.{all_numbers, things_with, AreSomeOf}
-use Rattle.wt_beside_laws.specs.StyledIn.{IsStyledIn, StaysIn, IsStyledFor, sent_for, IsStyledEditOf}
+use Rattle.wt_beside_laws.specs.StyledIn.{IsStyledIn, StaysIn, IsStyledFor, IsStyledEditOf}
 use Rattle.wt_beside_laws.specs.StyledNodes.{AreSomeAndPut, AreUrlsApart}
 use Rattle.wt_beside_laws.proofs.Made.Inline.{stays_inline}
 use Rattle.wt_beside_laws.proofs.Made.Letters.{pieces_fit}
@@ -104,7 +104,7 @@ sent_well k q block ps own h i e =
     let nest : AllNest false false us = sent_nest ps none e.stay e.are (subst (AllNest false false) (sym e.old) right.0) e.new in
     let apart : AreUrlsApart (things (signs_in t)) = urls_apart k q block ps h i right.1 e.old none e.stay (no_delimiter same_node block) nodes in
     let content : IsStyledContent (setting k block) t =
-    sent_styles same_node (setting k block) ls block us refl h.flat b kept_so nest some (sent_characters p us shown_so) apart in
+    sent_styles same_node (setting k block) ls block us refl h.flat b kept_so nest e.led some (sent_characters p us shown_so) apart in
     record {
       free = none;
       sent = styled_so;

@@ -283,5 +283,5 @@ styled_of_lines k q block h i = record {
   some = i.some;
   is = i.is ∙ ap (standing i.number i.before) (tree_lines k q);
   ungrouped = subst HasNoGroup (sym i.is) (no_group k q i.number i.before h.utf8 h.is h.unended h.calls_nothing);
-  marks = marks_in k q block i h.is h.unled h.flat h.kept;
+  marks = marks_in k q block i h.flat h.kept;
 }

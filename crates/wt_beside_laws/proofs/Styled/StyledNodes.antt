@@ -23,26 +23,29 @@ use Rattle.wt_beside_laws.specs.Stood.{things}
 use Rattle.wt_beside_laws.specs.Styled.{StyledContent, mark_source, signs_in, AreNested, IsStyledContent}
 use Rattle.wt_beside_laws.specs.StyledNodes.{IsPut, AreSomeAndPut, EndsUnquoted, IsUrlApart, AreUrlsApart}
 use Rattle.wt_beside_laws.proofs.Contents.{nowiki_reads}
-use Rattle.wt_beside_laws.proofs.Firm.{alone_as}
-use Rattle.wt_beside_laws.proofs.FlatAgain.{nowiki_kept}
+use Rattle.wt_beside_laws.proofs.FlatAgain.{put_kept as held_put}
+use Rattle.wt_beside_laws.proofs.Marks.Shown.{kept_node}
+use Rattle.wt_beside_laws.proofs.NodeItems.{node_as}
 use Rattle.wt_beside_laws.proofs.Each.{Each}
 use Rattle.wt_beside_laws.proofs.FlatContents.{Kept, kept_each, each_kept, Unbroken, each_unbroken, lines_unbroken}
 use Rattle.wt_beside_laws.proofs.NodesMeet.{atom_may}
 use Rattle.wt_beside_laws.proofs.PageNodes.{follows_none, Meet, MeetInPage, EachIsNode, EachMeets, MeetsEach, PairsMeet, nodes_of, all_meet, each_node, all_pairs}
 use Rattle.wt_beside_laws.proofs.PageSigns.{lines_stood, lines_at}
 use Rattle.wt_beside_laws.proofs.Styled.StyledLines.{mark_items, mark_glyphs}
-use Rattle.wt_beside_laws.specs.Commented.{IsHeld}
+use Rattle.wt_beside_laws.specs.Commented.{IsHeld, EndsAsSaid}
+use Rattle.wt_beside_laws.specs.Led.{AreMarksLed}
+use Rattle.wt_beside_laws.specs.NodeItems.{node_items}
 
 -- ---- what is put
 
 own_mark : (t : Thing) (kind : Bool) → t.source ≡ mark_source kind → own_glyphs t ≡ byte_glyphs (mark_source kind)
-own_mark t kind e = ap (λ (bs : List ℕ). map glyph_of (page_items bs)) e ∙ mark_glyphs kind
+own_mark t kind e = ap (λ (bs : List ℕ). map glyph_of (node_items bs)) e ∙ mark_glyphs kind
 
-nowiki_items : page_items nowiki ≡ whole form.Nowiki None nowiki ∷ []
-nowiki_items = alone_as nowiki (whole form.Nowiki None nowiki ∷ []) nowiki_reads
+nowiki_items : node_items nowiki ≡ whole form.Nowiki None nowiki ∷ []
+nowiki_items = node_as nowiki (whole form.Nowiki None nowiki ∷ []) nowiki_reads
 
 own_nowiki : (t : Thing) → t.source ≡ nowiki → own_glyphs t ≡ glyph.Atom ∷ []
-own_nowiki t e = ap (λ (bs : List ℕ). map glyph_of (page_items bs)) e ∙ ap (map glyph_of) nowiki_items
+own_nowiki t e = ap (λ (bs : List ℕ). map glyph_of (node_items bs)) e ∙ ap (map glyph_of) nowiki_items
 
 delimiter_of : (kind : Bool) → IsDelimiter (byte_glyphs (mark_source kind))
 delimiter_of true = inr refl
@@ -58,14 +61,20 @@ mark_kept : (kind : Bool) → IsKept (mark_source kind)
 mark_kept true = record { parts = characters (mark_source true) ∷ []; are = ((refl, (refl, (refl, tt))), tt); is = refl }
 mark_kept false = record { parts = characters (mark_source false) ∷ []; are = ((refl, (refl, tt)), tt); is = refl }
 
+mark_page : (kind : Bool) → page_items (mark_source kind) ≡ marks kind
+mark_page kind = sym (kept_node (mark_source kind) (mark_kept kind)) ∙ mark_items kind
+
 mark_held : (kind : Bool) → IsHeld (mark_source kind)
-mark_held true = inl (mark_kept true, subst HasNoBreak (sym (mark_items true)) (refl, (refl, (refl, tt))))
-mark_held false = inl (mark_kept false, subst HasNoBreak (sym (mark_items false)) (refl, (refl, tt)))
+mark_held true = inl (mark_kept true, subst HasNoBreak (sym (mark_page true)) (refl, (refl, (refl, tt))))
+mark_held false = inl (mark_kept false, subst HasNoBreak (sym (mark_page false)) (refl, (refl, tt)))
+
+ends_so : (t : Thing) (r : Role) → t.role ≡ r → EndsAsSaid r t.source → EndsAsSaid t.role t.source
+ends_so t r e h = subst (λ (o : Role). EndsAsSaid o t.source) (sym e) h
 
 put_kept : (t : Thing) → IsPut t → Kept t
 put_kept t p = elim p [
-  | inl m ↦ subst IsHeld (sym m.2) (mark_held m.0)
-  | inr w ↦ subst IsHeld (sym w.1) (inl (nowiki_kept, subst HasNoBreak (sym nowiki_items) (tt, tt)))
+  | inl m ↦ (subst IsHeld (sym m.2) (mark_held m.0), ends_so t Toggle m.1 tt)
+  | inr w ↦ (subst IsHeld (sym w.1) (held_put.of_nowiki), ends_so t Node w.0 tt)
 ]
 
 marks_unbroken : (kind : Bool) → IsUnbroken (marks kind)
@@ -74,8 +83,8 @@ marks_unbroken false = (refl, (refl, tt))
 
 put_unbroken : (t : Thing) → IsPut t → Unbroken t
 put_unbroken t p = elim p [
-  | inl m ↦ subst (λ (bs : List ℕ). IsUnbroken (page_items bs)) (sym m.2) (subst IsUnbroken (sym (mark_items m.0)) (marks_unbroken m.0))
-  | inr w ↦ subst (λ (bs : List ℕ). IsUnbroken (page_items bs)) (sym w.1) (subst IsUnbroken (sym nowiki_items) (refl, tt))
+  | inl m ↦ subst (λ (bs : List ℕ). IsUnbroken (node_items bs)) (sym m.2) (subst IsUnbroken (sym (mark_items m.0)) (marks_unbroken m.0))
+  | inr w ↦ subst (λ (bs : List ℕ). IsUnbroken (node_items bs)) (sym w.1) (subst IsUnbroken (sym nowiki_items) (refl, tt))
 ]
 
 -- ---- what holds of the page's nodes and of those that are put holds of all
@@ -192,9 +201,9 @@ meet_some (t ∷ n ∷ ts) ps a u m = elim a [
 -- ---- the content
 
 pub styled_content : (s : Setting) (ls : List (List Item)) (at : ℕ) (t : StyledContent) → s.within ≡ false → AreFlatLines ls → AreKept (signs_of_lines at ls)
-    → AreCharacters (signs_in t) → AreNested false false t → AreSomeAndPut (things (signs_in t)) (things (signs_of_lines at ls)) → AreUrlsApart (things (signs_in t))
+    → AreCharacters (signs_in t) → AreNested false false t → AreMarksLed (signs_in t) → AreSomeAndPut (things (signs_in t)) (things (signs_of_lines at ls)) → AreUrlsApart (things (signs_in t))
     → IsStyledContent s t
-styled_content s ls at t block flat kept typed nested some apart =
+styled_content s ls at t block flat kept typed nested led some apart =
     let olds : List ContentSign = signs_of_lines at ls in
     let signs : List ContentSign = signs_in t in
     let nodes : EachIsNode (things signs) = nodes_some (things signs) (things olds) some (each_node false olds (lines_stood at ls flat)) in
@@ -206,5 +215,6 @@ styled_content s ls at t block flat kept typed nested some apart =
       nodes = nodes_of signs nodes;
       unbroken = each_unbroken signs (each_some Unbroken put_unbroken (things signs) (things olds) some (lines_unbroken at ls flat));
       nested = nested;
+      led = led;
       meet = all_meet s [] signs (nodes, meets);
     }

@@ -5,11 +5,10 @@ use Rattle.wt_guards.specs.declared.role.Role.{Role}
 use Rattle.wt_guards.specs.Content.{ContentSign, Thing, letter, thing}
 use Rattle.wt_guards.specs.Guards.{Setting, nowiki, spelled}
 use Rattle.wt_expand.specs.PageItems.{page_items}
-use Rattle.wt_lines.specs.Lines.{full_lines}
 use Rattle.wt_inline.specs.ItemTree.{forest, held_by_all}
 use Rattle.wt_inline.specs.Parts.{Part, children}
 use Rattle.wt_called_trees.specs.Rounded.{AllHaveItems}
-use Rattle.wt_text_edit_laws.specs.Contents.{AreParagraphLines, IsContentOf, content_parts_of, StaysAnywhere, IsNewContent, AreUnled}
+use Rattle.wt_text_edit_laws.specs.Contents.{AreParagraphLines, IsContentOf, content_parts_of, StaysAnywhere, IsNewContent}
 use Rattle.wt_text_edit_laws.specs.ParagraphParts.{joined_parts}
 use Rattle.wt_text_edit_laws.specs.TextBlocks.{TextBlock, a_paragraph, a_heading}
 use Rattle.wt_text_edit_laws.specs.TypedHeadings.{Sides}
@@ -18,7 +17,7 @@ use Rattle.wt_text_edit_laws.proofs.Blocks.BlockReading.{IsBeforeAny, HasFrame}
 use Rattle.wt_text_edit_laws.proofs.Texts.TypedShown.{AllOfPage}
 use Rattle.wt_beside_laws.specs.Calm.{HaveNoBraces, IsCalm, AreCalm}
 use Rattle.wt_beside_laws.specs.Content.{AreKept}
-use Rattle.wt_beside_laws.specs.FlatBlocks.{lines_in, begins_at, signs_in as signs_of, IsUnledIn}
+use Rattle.wt_beside_laws.specs.FlatBlocks.{lines_in, begins_at, signs_in as signs_of}
 use Rattle.wt_beside_laws.specs.Lines.{content_lines}
 use Rattle.wt_beside_laws.specs.PageBlocks.{AreShut}
 use Rattle.wt_beside_laws.specs.PageSigns.{signs_of_lines, AreFlatLines}
@@ -37,7 +36,7 @@ use Rattle.wt_beside_laws.proofs.Made.Levels.{BareTold, Told, AllTold, told_each
 use Rattle.wt_beside_laws.proofs.Made.NodesSealed.{nodes_sealed}
 use Rattle.wt_beside_laws.proofs.Made.OldBlocks.{lines_are}
 use Rattle.wt_beside_laws.proofs.Made.OwnPages.{own_frame}
-use Rattle.wt_beside_laws.proofs.Made.Written.{FitsIn, lines_by, before_any, uncommented, firm, alone, before_break, ended_so, unended_so, texts_by, all_unled, calls_none, from_calm, to_calm, put_calm, unled_in}
+use Rattle.wt_beside_laws.proofs.Made.Written.{FitsIn, lines_by, before_any, uncommented, firm, alone, before_break, ended_so, unended_so, texts_by, unled_by, calls_none, from_calm, to_calm, put_calm}
 use Rattle.wt_beside_laws.proofs.OwnItems.{content_own}
 use Rattle.wt_beside_laws.proofs.Styled.HeldStyles.{styled_have_items}
 use Rattle.wt_beside_laws.proofs.Styled.OldStyled.{styled_in_content}
@@ -45,13 +44,12 @@ use Rattle.wt_beside_laws.proofs.Styled.StyledAgain.{quotes_utf8, again_each, ag
 use Rattle.wt_beside_laws.proofs.Styled.StyledHeadings.{styled_inside, inside_parts}
 use Rattle.wt_beside_laws.proofs.Styled.StyledLines.{mark_items}
 use Rattle.wt_beside_laws.proofs.Styled.StyledNodes.{each_some}
-use Rattle.wt_beside_laws.proofs.Styled.StyledParagraphs.{lines_joined, styled_text}
-use Rattle.wt_beside_laws.proofs.Marks.Within.{unled_lines}
-use Rattle.wt_beside_laws.proofs.LineKinds.{are_lines_of_text}
+use Rattle.wt_beside_laws.proofs.Styled.StyledParagraphs.{lines_joined}
 use Rattle.wt_beside_laws.specs.Flat.{IsReadIn}
+use Rattle.wt_beside_laws.specs.NodeItems.{node_items}
 
 read_styled : (s : Setting) (t : StyledContent) → IsStyledContent s t → IsReadIn s (signs_in t)
-read_styled s t h = record { within = h.of_block; kept = h.kept; nodes = h.nodes }
+read_styled s t h = record { within = h.of_block; kept = h.kept; nodes = h.nodes; led = h.led }
 
 -- ---- its lines and parts
 
@@ -72,13 +70,13 @@ styled_parts_so a_paragraph s t c h =
 styled_parts_so (a_heading w) s t c h = inside_parts s t (as_heading w s t c h)
 
 stays_so : (k : TextBlock) (s : Setting) (t : StyledContent) → IsStyledContent s t → StaysAnywhere k (spelled s (signs_in t))
-stays_so a_paragraph s t c = λ n. texts_by n s (signs_in t) c.of_block c.characters c.nodes c.kept c.unbroken
+stays_so a_paragraph s t c = λ n. texts_by n s (signs_in t) (read_styled s t c) c.characters c.unbroken
 stays_so (a_heading w) s t c = tt
 
 lines_of_text : (s : Setting) (t : StyledContent) → IsStyledContent s t → AreParagraphLines (spelled s (signs_in t))
 lines_of_text s t c = record {
-  are_lines = texts_by 0 s (signs_in t) c.of_block c.characters c.nodes c.kept c.unbroken;
-  unled = all_unled (full_lines (page_items (spelled s (signs_in t)))) (styled_text s t c);
+  are_lines = texts_by 0 s (signs_in t) (read_styled s t c) c.characters c.unbroken;
+  unled = unled_by s (signs_in t) (read_styled s t c) c.characters c.unbroken;
   alone = alone s (signs_in t) (read_styled s t c);
   before_break = before_break s (signs_in t) (read_styled s t c);
 }
@@ -86,8 +84,8 @@ lines_of_text s t c = record {
 -- a delimiter and a nowiki are no URL
 put_told : (t : Thing) → IsPut t → Told t
 put_told t p = elim p [
-  | inl m ↦ subst (λ (r : Role). BareTold r (map sign_of (page_items t.source))) (sym m.1) tt
-  | inr w ↦ subst (λ (r : Role). BareTold r (map sign_of (page_items t.source))) (sym w.0) tt
+  | inl m ↦ subst (λ (r : Role). BareTold r (map sign_of (node_items t.source))) (sym m.1) tt
+  | inr w ↦ subst (λ (r : Role). BareTold r (map sign_of (node_items t.source))) (sym w.0) tt
 ]
 
 content_so : (k : TextBlock) (q : List ℕ) (s : Setting) (t : StyledContent) → HasFrame k → IsStyledIn k q → IsStyledFor k q s t → IsContentOf k (spelled s (signs_in t))
@@ -100,7 +98,7 @@ content_so (a_heading g) q s t f h w =
     record {
       frame = f;
       inside = styled_inside s t (as_heading g s t c w.stays);
-      of_level = level_told s (signs_in t) g c.of_block c.kept c.characters c.nodes w.stays.1 told f.sides;
+      of_level = level_told s (signs_in t) g c.of_block c.kept c.characters c.nodes c.led w.stays.1 told f.sides;
     }
 
 -- ---- what holds of the sources of the page's nodes and of what is put holds of its sources
@@ -152,12 +150,6 @@ of_lines_so : (P : List (List Item) → Type 0) (k : TextBlock) (s : Setting) (t
     → P (content_lines s (signs_in t)) → P (lines_in k (spelled s (signs_in t)))
 of_lines_so P k s t c w h = subst P (sym (lines_so k s t c w)) h
 
-unled_so : (k : TextBlock) (s : Setting) (t : StyledContent) → IsStyledContent s t → StaysIn k s t → IsUnledIn k (spelled s (signs_in t))
-unled_so k s t c w =
-    let signs : List ContentSign = signs_in t in
-    unled_in k (spelled s signs)
-    (of_lines_so AreUnled k s t c w (unled_lines 0 (content_lines s signs) (are_lines_of_text 0 s signs c.of_block c.characters c.nodes)))
-
 held_so : (k : TextBlock) (q : List ℕ) (s : Setting) (t : StyledContent) → IsStyledIn k q → IsStyledFor k q s t → AreOwnNodes (forest (children (styled_parts false s [] t [])))
 held_so k q s t h w =
     styled_have_items s (lines_in k q) (begins_at k) t h.flat w.content.nested w.nodes
@@ -179,7 +171,6 @@ styled_again k q s t h w =
       ended = ended_so k (spelled s signs) f b;
       unended = unended_so k (spelled s signs) f b;
       is = content_so k q s t f h w;
-      unled = unled_so k s t c w.stays;
       calls_nothing = calls_none k s signs f (read_styled s t c) calm;
       has_items = subst (λ (ps : List Part). AllHaveItems (forest (children ps))) (sym parts) held.0;
       flat = of_lines_so AreFlatLines k s t c w.stays (again_lines s t c);

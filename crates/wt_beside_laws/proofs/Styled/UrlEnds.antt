@@ -14,7 +14,6 @@ use Rattle.wt_span.specs.Items.{Item, char, sources}
 use Rattle.wt_spelling_laws.proofs.Forms.{other_byte}
 use Rattle.wt_guards.specs.Content.{ContentSign, Thing, letter, thing}
 use Rattle.wt_guards.specs.Guards.{end_of}
-use Rattle.wt_expand.specs.PageItems.{page_items}
 use Rattle.wt_inline.proofs.HeldLaws.{held_append, sources_append}
 use Rattle.wt_inline.specs.Parts.{held_parts}
 use Rattle.wt_tiles.specs.declared.glyph.Glyph.{Glyph}
@@ -33,13 +32,17 @@ use Rattle.wt_context.proofs.LineHolding.{line_source}
 use Rattle.wt_text_edit_laws.specs.ParagraphParts.{after_breaks, joined_parts}
 use Rattle.wt_text_edit_laws.proofs.Between.Fronts.{first_items, items_from, first_from, byte_from}
 use Rattle.wt_beside_laws.specs.Cuts.{own_glyphs, ends_word}
-use Rattle.wt_beside_laws.specs.PageSigns.{tile_signs, signs_of_tiles, line_signs, signs_of_lines, IsFlatTile, AreFlatTiles, AreFlatLines}
+use Rattle.wt_beside_laws.specs.PageSigns.{ends_break, tile_signs, signs_of_tiles, line_signs, signs_of_lines, IsFlatTile, AreFlatTiles, AreFlatLines}
 use Rattle.wt_beside_laws.specs.Stood.{line_glyphs, AreStood, AreAt, things}
 use Rattle.wt_beside_laws.specs.StyledNodes.{EndsUnquoted}
 use Rattle.wt_beside_laws.proofs.Each.{Each}
 use Rattle.wt_beside_laws.proofs.PageNodes.{form_some, source_some}
 use Rattle.wt_beside_laws.proofs.PageSigns.{map_drop}
 use Rattle.wt_beside_laws.proofs.Stood.{stood}
+use Rattle.wt_beside_laws.specs.NodeItems.{node_items}
+use Rattle.wt_beside_laws.proofs.NodeItems.{node_same}
+use Rattle.wt_spelling_laws.proofs.Forms.{comment_other}
+use Rattle.wt_text_edit_laws.proofs.Prose.Uncommented.{uncommented_other}
 
 -- ---- an apostrophe at a place
 
@@ -110,14 +113,15 @@ bytes_append (thing t ∷ xs) ys = ap (λ (bs : List ℕ). t.source ++ bs) (byte
 
 -- ---- an apostrophe that is first among them is the first item
 
-quote_items : (bs : List ℕ) → page_items (39 ∷ bs) ≡ char None 39 ∷ items_from (is_break 39) 0 bs
-quote_items bs = first_items (39 ∷ bs) ∙ sym (first_from false (39 ∷ bs)) ∙ byte_from false 39 bs (other_byte Page 39 bs refl)
+quote_items : (bs : List ℕ) → node_items (39 ∷ bs) ≡ char None 39 ∷ items_from (is_break 39) 0 bs
+quote_items bs =
+    node_same (39 ∷ bs) (uncommented_other 39 bs refl (comment_other 39 bs (omega arith))) ∙ first_items (39 ∷ bs) ∙ sym (first_from false (39 ∷ bs)) ∙ byte_from false 39 bs (other_byte Page 39 bs refl)
 
 source_first : (source ys : List ℕ) (gs : List Glyph) → 0 < length source → FirstQuote (source ++ ys)
-    → first_is (class.Only 39) (map glyph_of (page_items source) ++ gs) ≡ true
+    → first_is (class.Only 39) (map glyph_of (node_items source) ++ gs) ≡ true
 source_first [] ys gs some q = absurd (omega (arith, some))
 source_first (b ∷ bs) ys gs some q =
-    subst (λ (k : ℕ). first_is (class.Only 39) (map glyph_of (page_items (k ∷ bs)) ++ gs) ≡ true) (sym q)
+    subst (λ (k : ℕ). first_is (class.Only 39) (map glyph_of (node_items (k ∷ bs)) ++ gs) ≡ true) (sym q)
     (ap (λ (xs : List Item). first_is (class.Only 39) (map glyph_of xs ++ gs)) (quote_items bs))
 
 wide_first : (bs ys : List ℕ) → All IsWide bs → 0 < length bs → FirstQuote (bs ++ ys) → ⊥
@@ -186,42 +190,42 @@ letters_bytes : (cs : List ℕ) → bytes_in (map letter cs) ≡ encodes cs
 letters_bytes [] = refl
 letters_bytes (c ∷ cs) = ap (λ (bs : List ℕ). encode_utf8 c ++ bs) (letters_bytes cs)
 
-tile_bytes : (k : TileKind) (at : ℕ) (ys : List Item) → IsFlatTile k ys → bytes_in (tile_signs k at ys) ≡ sources ys
-tile_bytes kind.Link at ys f = append-nil (sources ys)
-tile_bytes kind.Category at ys f = append-nil (sources ys)
-tile_bytes kind.Media at ys f = append-nil (sources ys)
-tile_bytes kind.ExtLink at ys f = append-nil (sources ys)
-tile_bytes kind.BareUrl at ys f = append-nil (sources ys)
-tile_bytes kind.Br at ys f = append-nil (sources ys)
-tile_bytes kind.Pair at ys f = append-nil (sources ys)
-tile_bytes kind.TagIsland at ys f = append-nil (sources ys)
-tile_bytes kind.Switch at ys f = append-nil (sources ys)
-tile_bytes kind.Atom at ys f = append-nil (sources ys)
-tile_bytes kind.Mark at ys f = append-nil (sources ys)
-tile_bytes kind.Chars at ys f = letters_bytes (chars (sources ys)) ∙ encodes-chars (sources ys) f
+tile_bytes : (k : TileKind) (began : Bool) (at : ℕ) (ys : List Item) → IsFlatTile k ys → bytes_in (tile_signs k began at ys) ≡ sources ys
+tile_bytes kind.Link began at ys f = append-nil (sources ys)
+tile_bytes kind.Category began at ys f = append-nil (sources ys)
+tile_bytes kind.Media began at ys f = append-nil (sources ys)
+tile_bytes kind.ExtLink began at ys f = append-nil (sources ys)
+tile_bytes kind.BareUrl began at ys f = append-nil (sources ys)
+tile_bytes kind.Br began at ys f = append-nil (sources ys)
+tile_bytes kind.Pair began at ys f = append-nil (sources ys)
+tile_bytes kind.TagIsland began at ys f = append-nil (sources ys)
+tile_bytes kind.Switch began at ys f = append-nil (sources ys)
+tile_bytes kind.Atom began at ys f = append-nil (sources ys)
+tile_bytes kind.Mark began at ys f = append-nil (sources ys)
+tile_bytes kind.Chars began at ys f = letters_bytes (chars (sources ys)) ∙ encodes-chars (sources ys) f
 
 none_bytes : (xs : List Item) → map glyph_of xs ≡ [] → [] ≡ sources xs
 none_bytes [] e = refl
 none_bytes (x ∷ xs) e = absurd (cc)
 
-shapes_bytes : (ws : List Shape) (a : Bool) (at : ℕ) (xs : List Item) → AreTiles in_line a ws (map glyph_of xs) → AreFlatTiles (tiles_by ws xs)
-    → bytes_in (signs_of_tiles at (tiles_by ws xs)) ≡ sources xs
-shapes_bytes [] a at xs t f = none_bytes xs t
-shapes_bytes (w ∷ ws) a at xs t f =
+shapes_bytes : (ws : List Shape) (a began : Bool) (at : ℕ) (xs : List Item) → AreTiles in_line a ws (map glyph_of xs) → AreFlatTiles (tiles_by ws xs)
+    → bytes_in (signs_of_tiles began at (tiles_by ws xs)) ≡ sources xs
+shapes_bytes [] a began at xs t f = none_bytes xs t
+shapes_bytes (w ∷ ws) a began at xs t f =
     let m : ℕ = size w in
     let ys : List Item = take m xs in
     let zs : List Item = drop m xs in
-    let later : List ContentSign = signs_of_tiles (at + length (sources ys)) (tiles_by ws zs) in
+    let later : List ContentSign = signs_of_tiles (ends_break (sources ys)) (at + length (sources ys)) (tiles_by ws zs) in
     let flag : Bool = is_word_at (map glyph_of xs) (m - 1) in
-    bytes_append (tile_signs w.kind at ys) later
-    ∙ ap (λ (bs : List ℕ). bs ++ bytes_in later) (tile_bytes w.kind at ys f.0)
+    bytes_append (tile_signs w.kind began at ys) later
+    ∙ ap (λ (bs : List ℕ). bs ++ bytes_in later) (tile_bytes w.kind began at ys f.0)
     ∙ ap (λ (bs : List ℕ). sources ys ++ bs)
-    (shapes_bytes ws flag (at + length (sources ys)) zs (subst (λ (gs : List Glyph). AreTiles in_line flag ws gs) (sym (map_drop m xs)) t.4) f.1)
+    (shapes_bytes ws flag (ends_break (sources ys)) (at + length (sources ys)) zs (subst (λ (gs : List Glyph). AreTiles in_line flag ws gs) (sym (map_drop m xs)) t.4) f.1)
     ∙ sym (sources_append ys zs) ∙ ap sources (take-append-drop m xs)
 
 line_bytes : (at : ℕ) (xs : List Item) → AreFlatTiles (tiles in_line xs) → bytes_in (line_signs at xs) ≡ sources xs
 unfolding tiles
-line_bytes at xs f = shapes_bytes (shapes in_line (map glyph_of xs)) false at xs (shapes_are in_line (map glyph_of xs)) f
+line_bytes at xs f = shapes_bytes (shapes in_line (map glyph_of xs)) false true at xs (shapes_are in_line (map glyph_of xs)) f
 
 -- with line breaks between them
 abbrev after_bytes : List (List Item) → List ℕ

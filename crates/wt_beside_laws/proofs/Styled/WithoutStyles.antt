@@ -17,14 +17,14 @@ use Rattle.wt_text_edit_laws.specs.Contents.{IsContent}
 use Rattle.wt_text_edit_laws.specs.TextBlocks.{TextBlock, block_tree}
 use Rattle.wt_beside_laws.specs.ContentEdits.{new_content, MakesContent}
 use Rattle.wt_beside_laws.specs.Flat.{AreFlat, IsFlatContent}
-use Rattle.wt_beside_laws.specs.FlatBlocks.{lines_in, IsFlatEditOf}
+use Rattle.wt_beside_laws.specs.FlatBlocks.{lines_in, sent_for, IsFlatEditOf}
 use Rattle.wt_beside_laws.specs.OwnSigns.{HasOwnBy, HaveOwn}
 use Rattle.wt_beside_laws.specs.PageBlocks.{AreUnstyled}
 use Rattle.wt_beside_laws.specs.NewStyles.{NewStylesNest}
 use Rattle.wt_beside_laws.specs.SentPieces.{HaveNoStyle}
 use Rattle.wt_beside_laws.specs.SentStyled.{text_then, found_then, sent_by, sent_content, KeptIsFlat}
 use Rattle.wt_beside_laws.specs.Styled.{StyledContent, signs_in, IsStyledContent}
-use Rattle.wt_beside_laws.specs.StyledIn.{IsFlatIn, sent_for, IsStyledEditOf}
+use Rattle.wt_beside_laws.specs.StyledIn.{IsFlatIn, IsStyledEditOf}
 use Rattle.wt_beside_laws.proofs.BlockSigns.{flat_block}
 use Rattle.wt_beside_laws.proofs.Made.Making.{known, setting, in_page}
 use Rattle.wt_beside_laws.proofs.Made.OldBlocks.{IsIn}
@@ -112,7 +112,7 @@ are_own k q block t ps h i same e =
     pieces_own ps (subst HaveOwn (sym (e.old ∙ same)) own) e.stay e.plain
 
 edit_styled : (k : TextBlock) (t : Tree) (ps : Pieces) → IsFlatEditOf k t ps → IsStyledEditOf k t ps
-edit_styled k t ps e = record { old = e.old; stay = e.stay; are = e.are; fit = e.fit; new = no_new ps e.plain }
+edit_styled k t ps e = record { old = e.old; stay = e.stay; are = e.are; led = e.led; fit = e.fit; new = no_new ps e.plain }
 
 -- ---- and no style begins in the new content
 
@@ -124,6 +124,7 @@ flat_so k block t c f = record {
   nodes = c.nodes;
   unbroken = c.unbroken;
   flat = f;
+  led = c.led;
   meet = c.meet;
 }
 

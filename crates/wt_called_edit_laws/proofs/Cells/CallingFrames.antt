@@ -27,13 +27,15 @@ use Rattle.wt_called_edit_laws.specs.Retyped.{IsPartAnew, AreWrittenAnew}
 use Rattle.wt_called_edit_laws.proofs.Cells.ContentItems.{round_is, content_items}
 use Rattle.wt_called_edit_laws.proofs.Cells.ItemFrames.{counted_in, items_over, items_framed}
 use Rattle.wt_called_edit_laws.proofs.Cells.SpotRows.{trees_by}
+use Rattle.wt_called_edit_laws.proofs.MovedOuters.{moved_count}
+use Rattle.wt_expand.specs.PageCalls.{expanded_page}
 use Rattle.wt_called_edit_laws.proofs.Parts.NoCallsCalled.{pairs_front, calm_items, calm_count}
 use Rattle.wt_called_edit_laws.proofs.Parts.PartByPart.{lexemes_plain}
 use Rattle.wt_called_edit_laws.proofs.Parts.Retyped.{is_by_parts, expanded_again, calm_lexemes}
 
 -- ---- the page with new contents
 
-edited_anew : (pages : Pages) (ss rs : List BlockSpot) → AreEdited pages ss rs → AreWrittenAnew pages ss rs
+pub edited_anew : (pages : Pages) (ss rs : List BlockSpot) → AreEdited pages ss rs → AreWrittenAnew pages ss rs
 edited_anew pages [] [] h = tt
 edited_anew pages [] (r ∷ rs) h = absurd h
 edited_anew pages (s ∷ ss) [] h = absurd h
@@ -50,7 +52,9 @@ to_same pages k s r e = ap (λ bs. k + calls_in pages bs) e
 own_same : (pages : Pages) (s r : BlockSpot) → r.block ≡ s.block → (r.text ≡ s.text) ⊎ IsNewContentIn pages r.block s.text r.text
     → calls_in pages (source_of r.block r.text) ≡ calls_in pages (source_of s.block s.text)
 own_same pages s r e (inl t) = ap₂ (λ (k : TextBlock) (q : List ℕ). calls_in pages (source_of k q)) e t
-own_same pages s r e (inr n) = n.calls ∙ ap (λ k. calls_in pages (source_of k s.text)) e
+own_same pages s r e (inr n) =
+    moved_count (expanded_page pages (source_of r.block s.text)).outer (expanded_page pages (source_of r.block r.text)).outer n.calls
+    ∙ ap (λ k. calls_in pages (source_of k s.text)) e
 
 past_same : (pages : Pages) (k : ℕ) (s r : BlockSpot) → r.before ≡ s.before → r.block ≡ s.block → (r.text ≡ s.text) ⊎ IsNewContentIn pages r.block s.text r.text
     → calls_past pages k r ≡ calls_past pages k s

@@ -15,7 +15,7 @@ use Rattle.wt_text_edit_laws.specs.TypedHeadings.{Sides, AreSides, heading_line,
 use Rattle.wt_text_edit_laws.proofs.Texts.PlainRows.{text_row}
 use Rattle.wt_text_edit_laws.proofs.Prose.ProseReading.{break}
 use Rattle.wt_text_edit_laws.proofs.Prose.ProseLines.{first_ended, rest_ended}
-use Rattle.wt_text_edit_laws.proofs.Paragraphs.LineBlocks.{IsLineBlock, line_block}
+use Rattle.wt_text_edit_laws.proofs.Paragraphs.LineBlocks.{later_row, paragraph_rows, IsLineBlock, line_block}
 use Rattle.wt_text_edit_laws.proofs.Headings.HeadingRows.{heading_row, round_then, round_last, round_is}
 use Rattle.wt_text_edit_laws.proofs.Paragraphs.Joining.{lines_join, rows_join}
 use Rattle.wt_text_edit_laws.proofs.Paragraphs.Marks.{AreMarks, EndsInMarks, marks_end, with_lead, led, rows_led}
@@ -41,8 +41,8 @@ behind_is n [] e = refl
 behind_is n (y ∷ ys) e = (e, refl)
 
 text_led : (n : ℕ) (ms zs l : List Item) (ls : List (List Item)) (rest : List Row) → AreMarks ms
-    → rows_from n (full_lines zs) ≡ text_row l ∷ (map text_row ls ++ rest) → rows_from n (full_lines (ms ++ zs)) ≡ with_lead ms (text_row l) ∷ (map text_row ls ++ rest)
-text_led n ms zs l ls rest m e = rows_led n ms zs (text_row l) (map text_row ls ++ rest) m e tt
+    → rows_from n (full_lines zs) ≡ paragraph_rows l ls ++ rest → rows_from n (full_lines (ms ++ zs)) ≡ led ms (paragraph_rows l ls) ++ rest
+text_led n ms zs l ls rest m e = rows_led n ms zs (text_row l) (map later_row ls ++ rest) m e tt
 
 text_is : (n : ℕ) (own ms tail : List Item) (b : IsLineBlock own) → AreTextLines n own → AreMarks ms → EndsLine tail
     → rows_from n (full_lines (ms ++ (own ++ tail))) ≡ led ms (own_rows own b tail) ++ rows_from n (full_lines (past_break tail))

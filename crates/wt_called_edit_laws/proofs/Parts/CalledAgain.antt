@@ -132,6 +132,15 @@ both_some (u ∷ us) [] ds es h g = absurd h
 both_some (u ∷ us) (v ∷ vs) ds es (inl h) g = inl (h.0, both_some us vs ds es h.1 g)
 both_some (u ∷ us) (v ∷ vs) ds es (inr h) g = inr (both_some (u ∷ us) vs ds es h g)
 
+-- some of some
+pub some_after : (us vs ws : List Entry) → AreSomeOf us vs → AreSomeOf vs ws → AreSomeOf us ws
+some_after [] vs ws h g = tt
+some_after (u ∷ us) [] ws h g = absurd h
+some_after (u ∷ us) (v ∷ vs) [] h g = absurd g
+some_after (u ∷ us) (v ∷ vs) (w ∷ ws) h (inr g) = inr (some_after (u ∷ us) (v ∷ vs) ws h g)
+some_after (u ∷ us) (v ∷ vs) (w ∷ ws) (inl h) (inl g) = inl (h.0 ∙ g.0, some_after us vs ws h.1 g.1)
+some_after (u ∷ us) (v ∷ vs) (w ∷ ws) (inr h) (inl g) = inr (some_after (u ∷ us) vs ws h g.1)
+
 text_work : (pages : Pages) (s r : BlockSpot) → r.block ≡ s.block → (r.text ≡ s.text) ⊎ IsPartAnew pages r.block s.text r.text
     → AreSomeOf (work_in pages (source_of r.block r.text)) (work_in pages (source_of s.block s.text))
 text_work pages s r k o =

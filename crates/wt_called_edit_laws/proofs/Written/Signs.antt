@@ -9,12 +9,12 @@ use Rattle.wt_span.specs.declared.form.Mode.TheVariants.{Page}
 use Rattle.wt_span.specs.Comments.{comment_len, comment_line_len}
 use Rattle.wt_span.specs.Entities.{entity_at, named_entity, decimal_entity, hex_entity, entity_names}
 use Rattle.wt_span.specs.Tags.{raw_len, opening_tag, tag_after, closing_tag, with_inside, include_at}
-use Rattle.wt_span.specs.Items.{Item, char, whole}
+use Rattle.wt_span.specs.Items.{Item, char}
 use Rattle.wt_span.specs.Lexemes.{words, closed, sign_word, cuts, form_at}
 use Rattle.wt_span.specs.Origins.{OuterCall}
 use Rattle.wt_names.proofs.Ascii.{IsWide, encode_wide}
-use Rattle.wt_guards.specs.Content.{ContentSign, Thing, letter, thing, nearest, ends_line}
-use Rattle.wt_guards.specs.Guards.{Setting, nowiki, nowiki_if, is_guarded, is_line_start, is_line_begun, spelled_from, spelled}
+use Rattle.wt_guards.specs.Content.{ContentSign, letter, thing}
+use Rattle.wt_guards.specs.Guards.{Setting, nowiki, nowiki_if, is_guarded, spelled_from, spelled}
 use Rattle.wt_guards.specs.Letters.{is_bracket, is_escaped, reference, written_by}
 use Rattle.wt_guards.proofs.Escapes.{is_escapable, escapable}
 use Rattle.wt_expand.specs.PageItems.{page_items}
@@ -34,18 +34,19 @@ use Rattle.wt_text_edit_laws.proofs.Between.Fronts.{page_read}
 use Rattle.wt_text_edit_laws.proofs.Prose.InFront.{Reads, reads_nothing, reads_byte, read_items}
 use Rattle.wt_text_edit_laws.proofs.Texts.TypedItems.{wide_form, no_form_byte}
 use Rattle.wt_beside_laws.specs.Content.{guard_items, letter_items, content_items}
+use Rattle.wt_beside_laws.specs.NodeItems.{node_items}
 use Rattle.wt_beside_laws.proofs.Contents.{nowiki_reads, reference_reads}
 use Rattle.wt_beside_laws.proofs.Firm.{alone_as}
-use Rattle.wt_beside_laws.proofs.Marks.Commented.{Level, letter_level}
 use Rattle.wt_beside_laws.proofs.Marks.InLine.{InLine, nowiki_in}
 use Rattle.wt_called_edit_laws.specs.Parts.{work_in}
 use Rattle.wt_called_edit_laws.specs.Written.{IsOwnPart, IsReadThing, AreReadThings, AreOwnParts, written_items, written_calls, written_work, IsWrittenAs}
 use Rattle.wt_called_edit_laws.proofs.MovedOuters.{same_calls}
 use Rattle.wt_called_edit_laws.proofs.Parts.Seams.{begins_same}
 use Rattle.wt_called_edit_laws.proofs.Parts.Uncrossed.{AreCut, part_settles}
-use Rattle.wt_called_edit_laws.proofs.Written.Ends.{plain_bracket, IsNoBracket, no_bracket, spelled_outward, spelled_unclosed, written_cut, nowiki_cut, source_cut, source_after, nowiki_after, written_after}
+use Rattle.wt_called_edit_laws.proofs.Written.Ends.{plain_bracket, no_bracket, spelled_outward, spelled_unclosed, written_cut, nowiki_cut, source_cut, source_after, nowiki_after, written_after}
 use Rattle.wt_called_edit_laws.proofs.Written.Joined.{both_written, calm_written, calm_then}
-use Rattle.wt_called_edit_laws.proofs.Written.Reads.{alone_level, line_after, no_end}
+use Rattle.wt_called_edit_laws.proofs.Written.Levels.{Level, letter_level}
+use Rattle.wt_called_edit_laws.proofs.Written.Reads.{alone_level, line_after, no_end, thing_same}
 
 -- ---- what is written for a character, by itself
 
@@ -191,11 +192,11 @@ signs_written pages s before (thing t ∷ after) w h g =
     let ms : List Item = content_items s (thing t ∷ before) after in
     let next : Level false more ms = alone_level s (thing t ∷ before) after false w (no_end t own) (λ z. cc) h.1 in
     let unclosed = subst (λ (bs : List ℕ). BeginsUnclosed bs) (append-nil more) (spelled_unclosed s (thing t ∷ before) after [] h.1 tt) in
-    let line : InLine (t.source ++ more) (page_items t.source ++ ms) = line_after t own more ms unclosed next.line in
+    let line : InLine (t.source ++ more) (node_items t.source ++ ms) = line_after t own more ms unclosed next.line in
     let met : AreMet (words Page t.source) (words Page more) (words Page (t.source ++ more)) =
-    met_line t.source more (page_items t.source) ms (source_cut t.source more own.ends (spelled_outward s (thing t ∷ before) after h.1)) refl line
+    met_line t.source more (node_items t.source) ms (source_cut t.source more own.ends (spelled_outward s (thing t ∷ before) after h.1)) (thing_same t own) line
     (source_after t.source own.ends) in
-    guard_then pages u (t.source ++ more) (page_items t.source ++ ms)
+    guard_then pages u (t.source ++ more) (node_items t.source ++ ms)
     (λ i. part_items pages i t.source ++ written_items pages s (i + calls_in pages t.source) (thing t ∷ before) after)
     ((expanded_page pages t.source).outer ++ written_calls pages after) (work_in pages t.source ++ written_work pages after) line
     (both_written pages t.source more (λ i. part_items pages i t.source) (λ i. written_items pages s i (thing t ∷ before) after)
