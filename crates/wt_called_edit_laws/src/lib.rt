@@ -31,7 +31,7 @@ ghost use Rattle.wt_called_edit_laws.specs.UnmarkedCells.{TakesUnmarked};
 ghost use Rattle.wt_called_edit_laws.specs.InCells.{IsInCell, AreTextLines, StandsInCell};
 ghost use Rattle.wt_expand.specs.PageCalls.{expanded_page};
 ghost use Rattle.wt_called_edit_laws.specs.CalledPages.{IsCalledPage};
-ghost use Rattle.wt_called_edit_laws.specs.FreeBlocks.{AreFreeFrom};
+ghost use Rattle.wt_called_edit_laws.specs.FreeBlocks.{AreFreeFrom, NoTextCalls};
 ghost use Rattle.wt_called_edit_laws.specs.Groups.{AreOutsideGroups, GroupsStayAmong, called_tree};
 ghost use Rattle.wt_called_edit_laws.specs.Untangled.{AreUntangledFrom};
 ghost use Rattle.wt_span.specs.Origins.{OuterCall};
@@ -237,6 +237,13 @@ pub fn groups_stay_round_blocks_that_call()
 #[tactic(auto, using(crate::proofs::FreeBlocks::blocks_free))]
 pub fn text_calls_touch_no_block()
     ensures { (pages : Pages) (ss : List BlockSpot) (behind : List ℕ) → AreAmongCalls pages ss behind
+        → AreFreeFrom (expanded_page pages (spots_source ss behind)).text_calls 0 ss }
+{}
+
+/// So it is of blocks that hold calls, if none of these is text itself.
+#[tactic(auto, using(crate::proofs::FreeBlocks::calls_free))]
+pub fn text_calls_touch_no_block_that_calls()
+    ensures { (pages : Pages) (ss : List BlockSpot) (behind : List ℕ) → AreCalled pages ss behind → NoTextCalls pages ss
         → AreFreeFrom (expanded_page pages (spots_source ss behind)).text_calls 0 ss }
 {}
 
