@@ -48,7 +48,7 @@ ghost use Rattle.wt_called_edit_laws.specs.ChosenContents.{HasContentEdits};
 ghost use Rattle.wt_called_edit_laws.specs.ContentsTaken.{TakesContents};
 ghost use Rattle.wt_called_edit_laws.specs.EditsAt.{Fits, AllStand};
 ghost use Rattle.wt_called_edit_laws.specs.Settled.{IsSettled};
-ghost use Rattle.wt_called_edit_laws.specs.SettledPages.{OnlyTextsAreOthers};
+ghost use Rattle.wt_called_edit_laws.specs.SettledPages.{OnlyTextsAreOthers, OnlyBlocksAreOthers};
 ghost use Rattle.wt_called_edit_laws.specs.Covered.{CleanWhereFree, IsEditablePage};
 ghost use Rattle.wt_called_edit_laws.specs.CallingBlocks.{IsContentIn, IsNewContentIn, AreEdited, AreCallingBlocks, tree_with_calls, CallingBlocksStand};
 ghost use Rattle.wt_called_edit_laws.specs.CallingGroups.{AreCallingOutside, CallingGroupsStay, CallingNodesStay};
@@ -358,6 +358,12 @@ pub fn numbers_and_places_hang_on_the_rest()
 #[tactic(auto, using(crate::proofs::SettledPages::only_texts))]
 pub fn only_typed_texts_among_calls_are_others()
     ensures { (pages : Pages) (ss : List BlockSpot) (behind : List ℕ) → IsCalledPage pages ss behind → OnlyTextsAreOthers pages ss behind }
+{}
+
+/// So it is where these blocks hold calls: each is at its place with its groups.
+#[tactic(auto, using(crate::proofs::SettledPages::only_blocks))]
+pub fn only_blocks_that_call_are_others()
+    ensures { (pages : Pages) (ss : List BlockSpot) (behind : List ℕ) → AreCallingOutside pages ss behind → OnlyBlocksAreOthers pages ss behind }
 {}
 
 /// A page with calls, with places for blocks in its body and in the cells and captions of its tables. Where no group of

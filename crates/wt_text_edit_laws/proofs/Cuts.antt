@@ -8,4 +8,5 @@ pub mod Utf8Cuts
 pub mod RowLines
 pub mod BodyBlocks
 pub mod TextLines
+pub mod BodyChildren
 pub mod BodyParagraphs

@@ -8,13 +8,15 @@ use Rattle.wt_lines.specs.declared.kind.LineKind.TheVariants as line
 use Rattle.wt_lines.specs.Lines.{full_lines, lines}
 use Rattle.wt_expand.specs.PageItems.{page_items}
 use Rattle.wt_page.specs.Rows.{Row, rows_from}
+use Rattle.wt_page.specs.Body.{meaning}
 use Rattle.wt_page.specs.Texts.{para}
 use Rattle.wt_row_laws.specs.Blocks.{Block, paragraph, block_rows, AreBlocks}
 use Rattle.wt_text_edit_laws.specs.BlockSpots.{BlockSpot}
 use Rattle.wt_text_edit_laws.specs.NoCalls.{CallsNothing}
-use Rattle.wt_text_edit_laws.specs.PageCuts.{AreTextItems, begins_unmarked, EndsClosed, IsFreeBlock}
-use Rattle.wt_text_edit_laws.specs.ParagraphBetween.{EndsApart, EndsParagraph}
+use Rattle.wt_text_edit_laws.specs.PageCuts.{AreTextItems, begins_unmarked, EndsClosed, IsUntangledAt}
+use Rattle.wt_text_edit_laws.specs.ParagraphBetween.{EndsApart, EndsParagraph, body_with}
 use Rattle.wt_text_edit_laws.specs.ParagraphParts.{joined_parts, para_with}
+use Rattle.wt_text_edit_laws.specs.Parts.{HasNoGroups}
 use Rattle.wt_text_edit_laws.specs.TextBetween.{AreEnded}
 use Rattle.wt_text_edit_laws.specs.TextBlocks.{a_paragraph}
 
@@ -66,7 +68,13 @@ pub record IsBareParagraph (xs : List Item) (r : Row) (rs : List Row) : Type 0 w
 
 -- ---- where it is
 
--- Its items, between those before it and those behind it: its lines are text, and no other text is beside them.
+-- this node is a child of the body that items mean
+pub record IsBodyChild (xs : List Item) (u : ItemTree) : Type 0 where
+  pub before : List ItemTree
+  pub behind : List ItemTree
+  pub is : meaning xs ≡ body_with (before ++ u ∷ behind)
+
+-- Its items, between those before it and those behind it: its lines are text, what they make is a child of the body, and no other text is beside them.
 pub record IsParagraphAt (xs : List Item) (r : Row) (rs : List Row) : Type 0 where
   pub before : List Item
   pub own : List Item
@@ -74,6 +82,7 @@ pub record IsParagraphAt (xs : List Item) (r : Row) (rs : List Row) : Type 0 whe
   pub is : xs ≡ before ++ (own ++ rest)
   pub text : begins_unmarked own ≡ true → AreTextItems (sources own) own
   pub tree : para (r ∷ rs) ≡ para_with (joined_parts (lines own))
+  pub child : IsBodyChild xs (para (r ∷ rs))
   pub ended : AreEnded (sources before)
   pub apart : EndsApart before
   pub ends : EndsParagraph rest
@@ -84,11 +93,12 @@ spot_at before own = record { before = sources before; block = a_paragraph; text
 
 -- ---- where its content may be edited
 
--- The page calls nothing. The paragraph isn't tangled and holds nothing that can only be kept as a whole; no mark is behind the blanks that begin it;
--- and where it ends the page, it holds no comment and no hidden part that nothing ends.
+-- The page calls nothing, and no node of it can only be kept as a whole. The paragraph isn't tangled; no mark is behind the blanks that begin it; and
+-- where it ends the page, it holds no comment and no hidden part that nothing ends.
 pub record IsFreeParagraph (page : List ℕ) (own rest : List Item) : Type 0 where
   pub utf8 : IsUtf8 page
   pub calls_nothing : CallsNothing (page_items page)
-  pub free : IsFreeBlock a_paragraph (sources own)
+  pub ungrouped : HasNoGroups page
+  pub untangled : IsUntangledAt (para_with (joined_parts (lines own)))
   pub unmarked : begins_unmarked own ≡ true
   pub closed : EndsClosed (sources own) (sources rest)

@@ -263,12 +263,12 @@ untangled_anywhere k q items t u g e =
 
 -- ---- so it is a content
 
-pub block_content : (k : TextBlock) (q : List ℕ) (xs : List Item) → ReadAlone (source_of k q) xs → BlockRead k q xs → CallsNothing xs → IsFreeBlock k q
-    → IsContent k q
-block_content k q xs alone read calm free =
+-- where all in it is the page's own, and no node of it is empty
+pub content_of : (k : TextBlock) (q : List ℕ) (xs : List Item) → ReadAlone (source_of k q) xs → BlockRead k q xs → CallsNothing xs → NodesHave k q
+    → IsUntangledAt (block_tree k q) → IsContent k q
+content_of k q xs alone read calm nodes untangled =
     let unended : page_items (source_of k q) ≡ block_items k q = alone.unended ∙ sym read.items in
     let calls : CallsNothing (block_items k q) = subst CallsNothing (sym read.items) calm in
-    let nodes = nodes_have k q read.utf8 read.is unended calls free.ungrouped in
     record {
       utf8 = read.utf8;
       ended = alone.ended ∙ ap (λ (ys : List Item). ys ++ char None 10 ∷ []) (sym read.items);
@@ -276,5 +276,12 @@ block_content k q xs alone read calm free =
       is = read.is;
       of_page = nodes.of_page;
       has_items = nodes.has_items;
-      untangled = λ items t e. untangled_anywhere k q items t free.untangled (no_group k q 0 [] read.utf8 read.is unended calls) e;
+      untangled = λ items t e. untangled_anywhere k q items t untangled (no_group k q 0 [] read.utf8 read.is unended calls) e;
     }
+
+pub block_content : (k : TextBlock) (q : List ℕ) (xs : List Item) → ReadAlone (source_of k q) xs → BlockRead k q xs → CallsNothing xs → IsFreeBlock k q
+    → IsContent k q
+block_content k q xs alone read calm free =
+    let unended : page_items (source_of k q) ≡ block_items k q = alone.unended ∙ sym read.items in
+    let calls : CallsNothing (block_items k q) = subst CallsNothing (sym read.items) calm in
+    content_of k q xs alone read calm (nodes_have k q read.utf8 read.is unended calls free.ungrouped) free.untangled

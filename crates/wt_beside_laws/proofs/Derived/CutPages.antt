@@ -28,7 +28,7 @@ use Rattle.wt_text_edit_laws.proofs.Cuts.Utf8Cuts.{ended_utf8, there_utf8}
 use Rattle.wt_text_edit_laws.proofs.Paragraphs.Texts.{one_line}
 use Rattle.wt_text_edit_laws.proofs.Prose.InFront.{reads_nothing, read_items}
 use Rattle.wt_text_edit_laws.proofs.Prose.Uncommented.{BeginsUncommented}
-use Rattle.wt_beside_laws.proofs.Derived.BlockContents.{block_source, there_begins, break_first, read_alone, block_read, block_unmarked, unmarked_joined, first_unbraced, calm_between, block_content}
+use Rattle.wt_beside_laws.proofs.Derived.BlockContents.{block_source, there_begins, break_first, ReadAlone, read_alone, BlockRead, block_read, block_unmarked, unmarked_joined, first_unbraced, calm_between, block_content}
 
 -- ---- edges of parts
 
@@ -122,8 +122,9 @@ some_before line rest h = omega (arith, h, length-append line rest)
 
 spot_read : (s : BlockSpot) (rest : List ℕ) (zs : List Item) (c : IsSpotCut s zs) → page_items (s.before ++ (source_of s.block s.text ++ rest)) ≡ zs
     → IsUtf8 (s.before ++ (source_of s.block s.text ++ rest)) → CallsNothing zs → AreEnded s.before → EndsThere rest
-    → EndsClosed (source_of s.block s.text) rest → IsFreeBlock s.block s.text → SpotRead s rest c.rest
-spot_read s rest zs c e u calm ended there closed free =
+    → EndsClosed (source_of s.block s.text) rest
+    → (ReadAlone (source_of s.block s.text) c.own → BlockRead s.block s.text c.own → CallsNothing c.own → IsContent s.block s.text) → SpotRead s rest c.rest
+spot_read s rest zs c e u calm ended there closed make =
     let line : List ℕ = source_of s.block s.text in
     let whole : page_items (s.before ++ (line ++ rest)) ≡ c.before ++ (c.own ++ c.rest) = e ∙ c.is in
     let first = page_cut s.before (line ++ rest) c.before (c.own ++ c.rest) whole c.source in
@@ -141,7 +142,7 @@ spot_read s rest zs c e u calm ended there closed free =
     let read = block_read s.block s.text c.own c.block line_parts.0 alone in
     let calls : CallsNothing (c.before ++ (c.own ++ c.rest)) = subst CallsNothing c.is calm in
     let own_calm : CallsNothing c.own = calm_between c.before c.own c.rest (first_unbraced rest c.rest there behind) calls in
-    let content : IsContent s.block s.text = block_content s.block s.text c.own alone read own_calm free in
+    let content : IsContent s.block s.text = make alone read own_calm in
     record {
       before_utf8 = before_parts.0;
       rest_utf8 = line_parts.1;
@@ -160,7 +161,8 @@ further_read [] behind zs e u calm h f =
     let begins = there_begins behind h in
     ((record { uncommented = begins.is }, u, ends_line behind h), tt)
 further_read (s ∷ ss) behind zs e u calm h f =
-    let r = spot_read s (spots_source ss behind) zs h.0 e u calm h.1 (further_there ss behind h.0.rest h.4) h.3 f.0 in
+    let r = spot_read s (spots_source ss behind) zs h.0 e u calm h.1 (further_there ss behind h.0.rest h.4) h.3
+    (λ a b c. block_content s.block s.text h.0.own a b c f.0) in
     let more = further_read ss behind h.0.rest r.rest_is r.rest_utf8 r.calm h.4 f.1 in (
       (record { ended = h.1; before_utf8 = r.before_utf8; block = r.content }, begins_line s.before h.2, more.0),
       (r.ends, inr r.line, more.1),
@@ -171,9 +173,22 @@ pub cut_read : (ss : List BlockSpot) (behind : List ℕ) → IsUtf8 (spots_sourc
 cut_read [] behind u calm h f = absurd h
 cut_read (s ∷ ss) behind u calm h f =
     let page : List ℕ = spots_source (s ∷ ss) behind in
-    let r = spot_read s (spots_source ss behind) (page_items page) h.0 refl u calm h.1 (further_there ss behind h.0.rest h.3) h.2 f.0 in
+    let r = spot_read s (spots_source ss behind) (page_items page) h.0 refl u calm h.1 (further_there ss behind h.0.rest h.3) h.2
+    (λ a b c. block_content s.block s.text h.0.own a b c f.0) in
     let more = further_read ss behind h.0.rest r.rest_is r.rest_utf8 r.calm h.3 f.1 in (
       record { ended = h.1; before_utf8 = r.before_utf8; block = r.content },
       more.0,
       record { calls_nothing = calm; end_before = (r.ends, inr r.line, more.1) },
+    )
+
+-- one block, whose content is told
+pub one_read : (s : BlockSpot) (behind : List ℕ) (c : IsSpotCut s (page_items (spots_source (s ∷ []) behind))) → IsUtf8 (spots_source (s ∷ []) behind)
+    → CallsNothing (page_items (spots_source (s ∷ []) behind)) → AreEnded s.before → EndsThere behind → EndsClosed (source_of s.block s.text) behind
+    → (ReadAlone (source_of s.block s.text) c.own → BlockRead s.block s.text c.own → CallsNothing c.own → IsContent s.block s.text) → AreRead (s ∷ []) behind
+one_read s behind c u calm ended there closed make =
+    let r = spot_read s behind (page_items (spots_source (s ∷ []) behind)) c refl u calm ended there closed make in
+    let begins = there_begins behind there in (
+      record { ended = ended; before_utf8 = r.before_utf8; block = r.content },
+      (record { uncommented = begins.is }, r.rest_utf8, ends_line behind there),
+      record { calls_nothing = calm; end_before = (r.ends, inr r.line, tt) },
     )

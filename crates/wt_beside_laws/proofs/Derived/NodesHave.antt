@@ -1,5 +1,5 @@
 -- A block that by itself has no node that can only be kept as a whole: all in it is the page's own, and each node in it has an item.
-use Rattle.std.proofs.Common.{◌≡◌, ℕ, Bool, true, false, List, [], ◌∷◌, ◌++◌, refl, sym, ap, ◌∙◌, subst}
+use Rattle.std.proofs.Common.{◌≡◌, ℕ, Bool, true, false, List, [], ◌∷◌, ◌++◌, refl, sym, ap, ◌∙◌, subst, append_assoc}
 use Rattle.std.specs.Prelude.{◌||◌}
 use Rattle.std.specs.Str.{IsUtf8}
 use Rattle.std.specs.List.{list_all, list_any}
@@ -96,4 +96,31 @@ nodes_have k q u h e c g =
     record {
       of_page = inside_page k q (all_of block [] own).0;
       has_items = all_have (inside_of k q) (inside_ordinary k q (content_ordinary k q u h e c)) (inside_full k q plain.none_empty.1);
+    }
+
+-- ---- as a child of the body of a page
+
+held_joined : (us : List ItemTree) (t : ItemTree) (vs : List ItemTree)
+    → held_by_all (forest (us ++ t ∷ vs)) ≡ held_by_all (forest us) ++ (tree_items t ++ held_by_all (forest vs))
+held_joined [] t vs = refl
+held_joined (u ∷ us) t vs =
+    ap (λ (xs : List Item). tree_items u ++ xs) (held_joined us t vs)
+    ∙ sym (append_assoc (tree_items u) (held_by_all (forest us)) (tree_items t ++ held_by_all (forest vs)))
+
+full_at : (us : List ItemTree) (t : ItemTree) (vs : List ItemTree) → AllNonEmpty (forest (us ++ t ∷ vs)) → NoneEmpty t
+full_at [] t vs h = h.1
+full_at (u ∷ us) t vs h = full_at us t vs h.2
+
+pub child_nodes_have : (k : TextBlock) (q page : List ℕ) (us vs : List ItemTree) → IsUtf8 q → IsContentOf k q → page_items (source_of k q) ≡ block_items k q
+    → CallsNothing (block_items k q) → HasNoGroups page → meaning (page_items page) ≡ body_with (us ++ block_tree k q ∷ vs) → NodesHave k q
+child_nodes_have k q page us vs u h e c g is =
+    let t : ItemTree = block_tree k q in
+    let all : ItemTrees = forest (us ++ t ∷ vs) in
+    let plain : IsPlain (body_with (us ++ t ∷ vs)) =
+    only_plain [] (group_data []) all (subst (λ (b : ItemTree). HasNoGroup (annotated [] (group_data []) b)) is g) in
+    let held : list_all is_page (held_by_all all) ≡ true = (all_of (held_by_all all) [] plain.of_page).0 in
+    let rest = (all_of (held_by_all (forest us)) (tree_items t ++ held_by_all (forest vs)) (sym (ap (list_all is_page) (held_joined us t vs)) ∙ held)).1 in
+    record {
+      of_page = inside_page k q (all_of (tree_items t) (held_by_all (forest vs)) rest).0;
+      has_items = all_have (inside_of k q) (inside_ordinary k q (content_ordinary k q u h e c)) (inside_full k q (full_at us t vs plain.none_empty));
     }

@@ -37,8 +37,8 @@ ends : (xs ys : List Item) → EndsApart xs → EndsParagraph ys → EndsAfter a
 ends xs ys h e = subst (λ (bs : List Bool). EndsAfter a_paragraph (length bs) ys) (sym (none_open xs h.are_closed)) (last_ends a_paragraph ys e)
 
 pub body_spots_are : (page : List ℕ) (r : Row) (rs : List Row) (p : IsParagraphAt (page_items page) r rs) → IsFreeParagraph page p.own p.rest
-    → HasNoGroups page → AreContentSpots (spot_at p.before p.own ∷ []) (sources p.rest)
-body_spots_are page r rs p f g =
+    → AreContentSpots (spot_at p.before p.own ∷ []) (sources p.rest)
+body_spots_are page r rs p f =
     let sb : List ℕ = sources p.before in
     let so : List ℕ = sources p.own in
     let sr : List ℕ = sources p.rest in
@@ -58,10 +58,10 @@ body_spots_are page r rs p f g =
         (content_items a_paragraph so read.0.block, leads (page_items sb) apart, stays (page_items sb) so apart read.0.block.is),
         ends (page_items sb) (page_items sr) apart ended,
       );
-      ungrouped = subst HasNoGroups (sym same) g;
+      ungrouped = subst HasNoGroups (sym same) f.ungrouped;
     }
 
 pub body_called : (pages : Pages) (page : List ℕ) (r : Row) (rs : List Row) (p : IsParagraphAt (page_items page) r rs) → IsFreeParagraph page p.own p.rest
-    → HasNoGroups page → IsCalledPage pages (spot_at p.before p.own ∷ []) (sources p.rest)
-body_called pages page r rs p f g =
-    calm_contents pages (spot_at p.before p.own ∷ []) (sources p.rest) (body_spots_are page r rs p f g)
+    → IsCalledPage pages (spot_at p.before p.own ∷ []) (sources p.rest)
+body_called pages page r rs p f =
+    calm_contents pages (spot_at p.before p.own ∷ []) (sources p.rest) (body_spots_are page r rs p f)

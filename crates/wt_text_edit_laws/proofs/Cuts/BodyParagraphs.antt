@@ -19,13 +19,13 @@ use Rattle.wt_page.specs.Texts.{para_parts, para}
 use Rattle.wt_row_laws.specs.Blocks.{BeginOtherwise}
 use Rattle.wt_expand.specs.PageItems.{page_items}
 use Rattle.wt_row_laws.specs.Counts.{opened, ended}
-use Rattle.wt_text_edit_laws.specs.BodyParagraphs.{rows_of, AreBare, IsBareParagraph, IsParagraphAt}
-use Rattle.wt_text_edit_laws.specs.Contents.{AreUnled}
+use Rattle.wt_text_edit_laws.specs.BodyParagraphs.{rows_of, AreBare, IsBodyChild, IsBareParagraph, IsParagraphAt}
 use Rattle.wt_text_edit_laws.specs.PageCuts.{begins_unmarked, AreTextItems}
 use Rattle.wt_text_edit_laws.specs.ParagraphBetween.{written_rows, tables_behind, rows_of_lines, AreClosed, before_marks, EndApart, EndsApart, BeginApart, EndsParagraph}
 use Rattle.wt_text_edit_laws.specs.ParagraphParts.{break, joined_parts, para_with}
 use Rattle.wt_text_edit_laws.specs.Paragraphs.{IsTextLine}
 use Rattle.wt_text_edit_laws.proofs.Cuts.BodyBlocks.{BlockAt, block_at}
+use Rattle.wt_text_edit_laws.proofs.Cuts.BodyChildren.{body_child}
 use Rattle.wt_text_edit_laws.proofs.Cuts.RowLines.{TextLine, text_line, TextLines, text_lines, whole_text, AllText, tables_count}
 use Rattle.wt_text_edit_laws.proofs.Cuts.TextLines.{runs_behind, runs_before, joined_is, joined_both, lines_of, whole_before, no_marks_end, ending_break, IsEnding, ending_own, content_lines, AllUnled, contents_unled, lines_unled, texts_are, some_items, ended_bytes}
 use Rattle.wt_text_edit_laws.proofs.Paragraphs.LineBlocks.{OwnBreaks, page_breaks, row_parts}
@@ -200,8 +200,8 @@ para_is : (rs : List Row) (ps : List Part) → para_parts rs ≡ ps → para rs 
 unfolding para
 para_is rs ps e = ap (λ (qs : List Part). inner (plain kind.Para) [] (forest (children qs)) []) e
 
-placed : (xs : List Item) (r : Row) (rs : List Row) → OwnBreaks xs → LinesAt xs r rs → AreBare (r ∷ rs) → IsParagraphAt xs r rs
-placed xs r rs o l bare =
+placed : (xs : List Item) (r : Row) (rs : List Row) → OwnBreaks xs → LinesAt xs r rs → AreBare (r ∷ rs) → IsBodyChild xs (para (r ∷ rs)) → IsParagraphAt xs r rs
+placed xs r rs o l bare child =
     let ts : List (List Item) = l.first ∷ l.more in
     let text : List Item = joined ts in
     let own : List Item = content text in
@@ -224,6 +224,7 @@ placed xs r rs o l bare =
       text = told.text;
       tree = para_is (r ∷ rs) (joined_parts (lines own))
           (ap para_parts (l.rows_are ∙ rows_plain ts unled) ∙ row_parts ts text own_runs breaks ∙ ap joined_parts (sym told.lines_are));
+      child = child;
       ended = ended_bytes front (own_first front (text ++ last) (subst OwnBreaks items o)) (whole_before l.before l.first (l.more ++ l.behind) xs runs);
       apart = before_apart l.before l.front (lines_of l.before (runs_before goes_on l.before (ts ++ l.behind) xs runs))
           (whole_before l.before l.first (l.more ++ l.behind) xs runs) l.closed l.front_is l.apart;
@@ -233,7 +234,7 @@ placed xs r rs o l bare =
     }
 
 pub paragraph_at : (xs : List Item) (r : Row) (rs : List Row) → OwnBreaks xs → IsBareParagraph xs r rs → IsParagraphAt xs r rs
-paragraph_at xs r rs o h = placed xs r rs o (lines_at xs r rs h) h.bare
+paragraph_at xs r rs o h = placed xs r rs o (lines_at xs r rs h) h.bare (body_child xs r rs h.of_body)
 
 pub page_paragraph_at : (page : List ℕ) (r : Row) (rs : List Row) → IsBareParagraph (page_items page) r rs → IsParagraphAt (page_items page) r rs
 page_paragraph_at page r rs h = paragraph_at (page_items page) r rs (page_breaks page) h
