@@ -31,11 +31,11 @@ ghost use Rattle.wt_called_edit_laws.specs.UnmarkedCells.{TakesUnmarked};
 ghost use Rattle.wt_called_edit_laws.specs.InCells.{IsInCell, AreTextLines, StandsInCell};
 ghost use Rattle.wt_expand.specs.PageCalls.{expanded_page};
 ghost use Rattle.wt_called_edit_laws.specs.CalledPages.{IsCalledPage};
-ghost use Rattle.wt_called_edit_laws.specs.FreeBlocks.{AreFreeFrom};
+ghost use Rattle.wt_called_edit_laws.specs.FreeBlocks.{AreFreeFrom, NoTextCalls};
 ghost use Rattle.wt_called_edit_laws.specs.Groups.{AreOutsideGroups, GroupsStayAmong, called_tree};
 ghost use Rattle.wt_called_edit_laws.specs.Untangled.{AreUntangledFrom};
 ghost use Rattle.wt_span.specs.Origins.{OuterCall};
-ghost use Rattle.wt_inline.specs.ItemTree.{ItemTree};
+ghost use Rattle.wt_inline.specs.ItemTree.{ItemTree, plain};
 ghost use Rattle.wt_row_laws.specs.Frames.{Frames};
 ghost use Rattle.wt_called_trees.specs.TreeFrames.{TreeFrames};
 ghost use Rattle.wt_called_edit_laws.specs.Nodes.{NodesStayIn};
@@ -52,7 +52,7 @@ ghost use Rattle.wt_called_edit_laws.specs.SettledPages.{OnlyTextsAreOthers, Onl
 ghost use Rattle.wt_called_edit_laws.specs.Covered.{CleanWhereFree, IsEditablePage};
 ghost use Rattle.wt_called_edit_laws.specs.CallingBlocks.{IsContentIn, IsNewContentIn, AreEdited, AreCallingBlocks, tree_with_calls, CallingBlocksStand};
 ghost use Rattle.wt_called_edit_laws.specs.CallingGroups.{AreCallingOutside, CallingGroupsStay, CallingNodesStay};
-ghost use Rattle.wt_called_trees.specs.HeldCalls.{HoldsItsCalls, AllHold};
+ghost use Rattle.wt_called_trees.specs.HeldCalls.{block_in, HoldsItsCalls, AllHold, block_of_texts};
 ghost use Rattle.wt_text_edit_laws.specs.Contents.{IsContent};
 ghost use Rattle.wt_text_edit_laws.specs.NoCalls.{CallsNothing};
 ghost use Rattle.wt_called_edit_laws.specs.Written.{AreReadThings, AreOwnParts, written_items, written_calls, written_work, IsWrittenAs};
@@ -61,8 +61,12 @@ ghost use Rattle.wt_guards.specs.Guards.{Setting, spelled};
 ghost use Rattle.wt_text_edit_laws.specs.ReadContents.{IsFirmlyRead};
 ghost use Rattle.wt_beside_laws.specs.Content.{content_items};
 ghost use Rattle.wt_joined_calls.specs.Expanded.{part_items};
-ghost use Rattle.wt_beside_laws.specs.Called.{items_with, owns_in, IsCalledIn};
+ghost use Rattle.wt_beside_laws.specs.Called.{items_with, owns_in, parts_with, shown_signs, called_shown, IsCalledIn};
 ghost use Rattle.wt_called_edit_laws.specs.CalledContents.{tree_round};
+ghost use Rattle.wt_tree.specs.declared.kind.Kind.TheVariants as kind;
+ghost use Rattle.wt_tree.specs.Plain.{Plains, ended, along, element, plain_before};
+ghost use Rattle.wt_annotated.specs.CutTexts.{cut_texts};
+ghost use Rattle.wt_selser.specs.GroupFaults.{paragraph_face};
 ghost use Rattle.wt_called_edit_laws.specs.WrittenAnew.{node_sources, StayButForOthers, IsWrittenBeside, HoldsAnywhere, EachHolds};
 
 mod body_paragraphs;
@@ -184,12 +188,19 @@ pub fn blocks_with_calls_stand_at_their_places()
 {}
 
 /// What is written for texts beside calls that give words (`IsCalledIn` of `wt_beside_laws`) gives the words of these calls, and between them the texts as
-/// they are spelled, and as a paragraph it holds its calls, however many calls come before it in the page.
+/// they are spelled, and as a paragraph it holds its calls, however many calls come before it in the page. In the page's tree the words of each call are a
+/// group by themselves, and it shows the texts that were typed, and between them these words.
 pub fn written_paragraphs_hold_their_calls()
     ensures gives { (pages : Pages) (i : ℕ) (s : Setting) (signs : List ContentSign) → IsCalledIn pages s signs → AreReadThings signs → AreOwnParts pages signs
         → part_items pages i (spelled s signs) ≡ items_with s [] signs (owns_in pages i signs) }
     ensures holds { (pages : Pages) (i : ℕ) (s : Setting) (signs : List ContentSign) → IsCalledIn pages s signs → AreReadThings signs → AreOwnParts pages signs
         → HoldsItsCalls (tree_round a_paragraph (part_items pages i (spelled s signs))) }
+    ensures block { (pages : Pages) (calls : List OuterCall) (i : ℕ) (s : Setting) (signs : List ContentSign) → IsCalledIn pages s signs → AreReadThings signs
+        → AreOwnParts pages signs → block_in calls (tree_round a_paragraph (part_items pages i (spelled s signs)))
+        ≡ block_of_texts calls (plain kind.Para) [] (parts_with s [] (shown_signs pages signs) (owns_in pages i signs)) [] }
+    ensures shown { (pages : Pages) (calls : List OuterCall) (i : ℕ) (s : Setting) (signs : List ContentSign) (rest : Plains) → IsCalledIn pages s signs
+        → AreReadThings signs → AreOwnParts pages signs → plain_before (cut_texts (block_in calls (tree_round a_paragraph (part_items pages i (spelled s signs))))) rest
+        ≡ along (element paragraph_face (called_shown (shown_signs pages signs) (owns_in pages i signs) ended)) rest }
 {}
 
 /// Such a paragraph is a content in a folder, as it is written, and is a new one in the place of any other such paragraph whose nodes it has, in their order:
@@ -237,6 +248,13 @@ pub fn groups_stay_round_blocks_that_call()
 #[tactic(auto, using(crate::proofs::FreeBlocks::blocks_free))]
 pub fn text_calls_touch_no_block()
     ensures { (pages : Pages) (ss : List BlockSpot) (behind : List ℕ) → AreAmongCalls pages ss behind
+        → AreFreeFrom (expanded_page pages (spots_source ss behind)).text_calls 0 ss }
+{}
+
+/// So it is of blocks that hold calls, if none of these is text itself.
+#[tactic(auto, using(crate::proofs::FreeBlocks::calls_free))]
+pub fn text_calls_touch_no_block_that_calls()
+    ensures { (pages : Pages) (ss : List BlockSpot) (behind : List ℕ) → AreCalled pages ss behind → NoTextCalls pages ss
         → AreFreeFrom (expanded_page pages (spots_source ss behind)).text_calls 0 ss }
 {}
 
