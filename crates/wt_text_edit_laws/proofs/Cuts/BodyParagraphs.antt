@@ -20,7 +20,6 @@ use Rattle.wt_row_laws.specs.Blocks.{BeginOtherwise}
 use Rattle.wt_expand.specs.PageItems.{page_items}
 use Rattle.wt_row_laws.specs.Counts.{opened, ended}
 use Rattle.wt_text_edit_laws.specs.BodyParagraphs.{rows_of, AreBare, IsBodyChild, IsBareParagraph, IsParagraphAt}
-use Rattle.wt_text_edit_laws.specs.Contents.{AreUnled}
 use Rattle.wt_text_edit_laws.specs.PageCuts.{begins_unmarked, AreTextItems}
 use Rattle.wt_text_edit_laws.specs.ParagraphBetween.{written_rows, tables_behind, rows_of_lines, AreClosed, before_marks, EndApart, EndsApart, BeginApart, EndsParagraph}
 use Rattle.wt_text_edit_laws.specs.ParagraphParts.{break, joined_parts, para_with}

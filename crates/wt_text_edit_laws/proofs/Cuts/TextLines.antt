@@ -12,13 +12,13 @@ use Rattle.wt_lines.specs.Lines.{is_break_item, onto, lines, goes_on, full_lines
 use Rattle.wt_lines.proofs.FullLines.{same_lines}
 use Rattle.wt_headings.specs.Lines.{kind_at, ending}
 use Rattle.wt_page.specs.Rows.{marks_len}
-use Rattle.wt_text_edit_laws.specs.Contents.{AreUnled}
 use Rattle.wt_text_edit_laws.specs.Paragraphs.{IsTextLine}
 use Rattle.wt_text_edit_laws.specs.ParagraphBetween.{before_marks}
 use Rattle.wt_text_edit_laws.specs.ParagraphParts.{break}
 use Rattle.wt_text_edit_laws.specs.TextBetween.{AreEnded}
 use Rattle.wt_text_edit_laws.proofs.Cuts.RowLines.{AllText}
 use Rattle.wt_text_edit_laws.proofs.Paragraphs.LineBlocks.{OwnBreaks}
+use Rattle.wt_text_edit_laws.proofs.Prose.ProseLines.{unled_by}
 
 -- ---- some of the runs
 
@@ -193,21 +193,15 @@ pub contents_unled : (ls : List (List Item)) → AllUnled ls → AllUnled (map c
 contents_unled [] h = tt
 contents_unled (l ∷ ls) h = (content_unled l h.0, contents_unled ls h.1)
 
-full_unled : (l : List Item) → marks_len (content l) ≡ 0 → marks_len l ≡ 0
-full_unled [] h = refl
-full_unled (x ∷ []) h = by (is_break_item x) refl h
+-- what is first in the first line is first
+pub lines_unled : (xs : List Item) → AllUnled (lines xs) → marks_len xs ≡ 0
+lines_unled [] h = refl
+lines_unled (char o b ∷ xs) h = refl
+lines_unled (whole f o bs ∷ xs) h = by (lines xs) h
   where
-    by : (v : Bool) → is_break_item x ≡ v → marks_len (if v then [] else x ∷ []) ≡ 0 → marks_len (x ∷ []) ≡ 0
-    by true e f = ap (λ (u : Bool). cond u (1 + 0) 0) (break_no_mark x e)
-    by false e f = f
-full_unled (x ∷ y ∷ ys) h = led_by x (content (y ∷ ys)) (y ∷ ys) h
-
-unled_from : (ls ends : List (List Item)) → AllUnled (map content ls ++ ends) → AreUnled ls
-unled_from [] ends h = tt
-unled_from (l ∷ ls) ends h = (full_unled l h.0, unled_from ls ends h.1)
-
-pub lines_unled : (xs : List Item) → AllUnled (lines xs) → AreUnled (full_lines xs)
-lines_unled xs h = unled_from (full_lines xs) (empty_end xs) (subst AllUnled (same_lines xs) h)
+    by : (ls : List (List Item)) → AllUnled (onto (whole f o bs ∷ []) ls) → marks_len (whole f o bs ∷ xs) ≡ 0
+    by [] k = unled_by (whole f o bs) [] xs (is_mark (whole f o bs)) refl k.0
+    by (l ∷ ls) k = unled_by (whole f o bs) l xs (is_mark (whole f o bs)) refl k.0
 
 -- ---- each is text
 
