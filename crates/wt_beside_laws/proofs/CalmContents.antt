@@ -35,7 +35,7 @@ use Rattle.wt_beside_laws.specs.NodeItems.{node_items}
 
 -- ---- UTF-8
 
-guard_utf8 : (guarded : Bool) → IsUtf8 (nowiki_if guarded)
+pub guard_utf8 : (guarded : Bool) → IsUtf8 (nowiki_if guarded)
 unfolding nowiki lib.Utf8.encode
 guard_utf8 true = (nowiki, (refl, refl))
 guard_utf8 false = IsUtf8-nil
@@ -47,7 +47,7 @@ reference_utf8 c e = each_escapable (λ k. IsUtf8 (reference k))
     (reference 62, (refl, refl)) (reference 60, (refl, refl)) (reference 38, (refl, refl)) (reference 39, (refl, refl)) (reference 95, (refl, refl))
     (reference 58, (refl, refl)) (reference 61, (refl, refl)) (reference 33, (refl, refl)) c e
 
-letter_utf8 : (s : Setting) (before after : List ContentSign) (c : ℕ) (t : Bool) → is_escaped s.within s.place before c after ≡ t → IsScalar c
+pub letter_utf8 : (s : Setting) (before after : List ContentSign) (c : ℕ) (t : Bool) → is_escaped s.within s.place before c after ≡ t → IsScalar c
     → IsUtf8 (written_by t c)
 letter_utf8 s before after c true e h = reference_utf8 c (escapable s.within s.place before c after e)
 letter_utf8 s before after c false e h = IsUtf8-encode c h

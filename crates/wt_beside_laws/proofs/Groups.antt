@@ -6,6 +6,7 @@ pub mod CalledLines
 pub mod CalledParts
 pub mod CalledParagraphs
 pub mod CalledBlocks
+pub mod CalledHeadings
 pub mod CalledShown
 pub mod Bare
 pub mod Folders

@@ -24,7 +24,7 @@ use Rattle.wt_text_edit_laws.specs.TypedHeadings.{NoBreaks}
 use Rattle.wt_text_edit_laws.proofs.Between.Fronts.{items_from, first_from, reads_after}
 use Rattle.wt_text_edit_laws.proofs.Cuts.ItemCuts.{page_cut, cut_from}
 use Rattle.wt_text_edit_laws.proofs.Prose.InFront.{reads_nothing}
-use Rattle.wt_beside_laws.specs.Commented.{IsComment, IsCommentLine, IsHeld}
+use Rattle.wt_beside_laws.specs.Commented.{IsComment, IsCommentLine, IsRemarked, IsHeld}
 use Rattle.wt_beside_laws.specs.Content.{AreKept}
 use Rattle.wt_beside_laws.specs.FlatBlocks.{lines_in, signs_in}
 use Rattle.wt_beside_laws.specs.HeldLines.{IsHeldForm, IsHeldTile, AreHeldTiles, AreHeldLines}
@@ -33,8 +33,8 @@ use Rattle.wt_beside_laws.specs.NodeItems.{node_items}
 use Rattle.wt_beside_laws.specs.PageSigns.{ends_break, form_sign, tile_signs, signs_of_tiles, signs_of_lines, IsFlatForm, IsFlatTile, AreFlatTiles, HasNoBreak, AreFlatLines}
 use Rattle.wt_beside_laws.proofs.Firm.{kept_reads}
 use Rattle.wt_beside_laws.proofs.FlatAgain.{no_break}
-use Rattle.wt_beside_laws.proofs.Marks.InLine.{InLine, comment_in}
-use Rattle.wt_beside_laws.proofs.Marks.Shown.{comment_node, kept_node}
+use Rattle.wt_beside_laws.proofs.Marks.InLine.{InLine, comment_in, remarks_items, remarked_in}
+use Rattle.wt_beside_laws.proofs.Marks.Shown.{comment_node, kept_node, remarked_node}
 use Rattle.wt_beside_laws.proofs.NodeItems.{are_from}
 
 -- ---- a source by itself
@@ -51,13 +51,21 @@ comment_from false q h =
     let line : InLine ((60 ∷ q) ++ []) (own ++ []) = comment_in q h [] [] (reads_after false [] [] reads_nothing) in
     ap (items_from false 0) (sym (append-nil (60 ∷ q))) ∙ first_from false ((60 ∷ q) ++ []) ∙ line.items ∙ sym (comment_node q h)
 
+remarked_from : (a : Bool) (source : List ℕ) → IsRemarked source → items_from a 0 source ≡ node_items source
+remarked_from true source r = sym (are_from source)
+remarked_from false source r =
+    let own : List Item = page_items r.front ++ remarks_items r.remarks in
+    let line : InLine (source ++ []) (own ++ []) = remarked_in source r [] [] (reads_after false [] [] reads_nothing) in
+    ap (items_from false 0) (sym (append-nil source)) ∙ first_from false (source ++ []) ∙ line.items ∙ append-nil own ∙ sym (remarked_node source r)
+
 -- wherever it is read as these items, a line of comments where a line begins
 held_from : (a : Bool) (source : List ℕ) (xs : List Item) → IsHeld source → (IsCommentLine source → node_items source ≡ xs) → items_from a 0 source ≡ xs
     → node_items source ≡ xs
 held_from a source xs (inl kept) led e = kept_node source kept.0 ∙ sym (kept_from a source kept.0) ∙ e
 held_from a source xs (inr (inl comment)) led e =
     ap node_items comment.is ∙ sym (comment_from a comment.others comment.comment) ∙ ap (items_from a 0) (sym comment.is) ∙ e
-held_from a source xs (inr (inr line)) led e = led line
+held_from a source xs (inr (inr (inl line))) led e = led line
+held_from a source xs (inr (inr (inr r))) led e = sym (remarked_from a source r) ∙ e
 
 -- ---- in the page
 

@@ -33,15 +33,15 @@ use Rattle.wt_beside_laws.specs.Led.{AreMarksLed}
 
 -- ---- one line
 
-unbroken_both : (xs ys : List Item) → NoBreaks xs → NoBreaks ys → NoBreaks (xs ++ ys)
+pub unbroken_both : (xs ys : List Item) → NoBreaks xs → NoBreaks ys → NoBreaks (xs ++ ys)
 unbroken_both [] ys h k = k
 unbroken_both (x ∷ xs) ys h k = (h.0, unbroken_both xs ys h.1 k)
 
-none_by : (xs : List Item) → IsUnbroken xs → NoBreaks xs
+pub none_by : (xs : List Item) → IsUnbroken xs → NoBreaks xs
 none_by [] h = tt
 none_by (x ∷ xs) h = (h.0, none_by xs h.1)
 
-guard_none : (u : Bool) → NoBreaks (guard_items u)
+pub guard_none : (u : Bool) → NoBreaks (guard_items u)
 guard_none true = (refl, tt)
 guard_none false = tt
 
@@ -73,13 +73,13 @@ same_items s before (thing t ∷ after) o =
 neither : (b : ℕ) → OpensText b → is_blank b ≡ false
 neither b o = ap (λ (t : Bool). t || (b == 9)) o.space ∙ o.tab
 
-begins_seen : (xs : List Item) → Opens xs → BeginsWithout is_blank (map sign xs)
+pub begins_seen : (xs : List Item) → Opens xs → BeginsWithout is_blank (map sign xs)
 begins_seen [] h = h
 begins_seen (x ∷ xs) h = neither (sign x) h
 
 -- ---- what is last
 
-abbrev SeenLast : List Item → Type 0
+abbrev pub SeenLast : List Item → Type 0
 SeenLast xs = EndsWithout is_blank (map sign xs)
 
 pub ends_behind : (q : ℕ → Bool) (xs ys : List Item) → EndsWithout q (map sign ys) → EndsWithout q (map sign (xs ++ ys))
@@ -88,7 +88,7 @@ ends_behind q (x ∷ []) [] h = absurd h
 ends_behind q (x ∷ []) (y ∷ ys) h = h
 ends_behind q (x ∷ z ∷ xs) ys h = ends_behind q (z ∷ xs) ys h
 
-last_behind : (xs ys : List Item) → SeenLast ys → SeenLast (xs ++ ys)
+pub last_behind : (xs ys : List Item) → SeenLast ys → SeenLast (xs ++ ys)
 last_behind xs ys h = ends_behind is_blank xs ys h
 
 wide_last : (bs : List ℕ) → All IsWide bs → 0 < length bs → SeenLast (page_chars bs)
@@ -99,14 +99,14 @@ wide_last (b ∷ []) h some = not_blank b (All-head IsWide b [] h)
     not_blank b le = grind (arith, nat_tests)
 wide_last (b ∷ c ∷ bs) h some = wide_last (c ∷ bs) (All-tail IsWide b (c ∷ bs) h) (omega arith)
 
-letter_last : (e : Bool) (c : ℕ) → (e ≡ false → is_blank c ≡ false) → SeenLast (letter_items e c)
+pub letter_last : (e : Bool) (c : ℕ) → (e ≡ false → is_blank c ≡ false) → SeenLast (letter_items e c)
 letter_last true c f = refl
 letter_last false c f = elim (cases_lt c 128) [
   | inl small ↦ subst (λ bs. SeenLast (page_chars bs)) (sym (encode_ascii c small)) (f refl)
   | inr wide ↦ wide_last (encode_utf8 c) (encode_wide c wide) (encode_some c)
 ]
 
-end_last : (u : Bool) (own : List Item) → (u ≡ false → SeenLast own) → SeenLast (own ++ guard_items u)
+pub end_last : (u : Bool) (own : List Item) → (u ≡ false → SeenLast own) → SeenLast (own ++ guard_items u)
 end_last true own f = last_behind own (guard_items true) refl
 end_last false own f = subst SeenLast (sym (append-nil own)) (f refl)
 

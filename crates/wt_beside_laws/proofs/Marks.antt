@@ -3,6 +3,7 @@ mod LineCases
 pub mod Commented
 pub mod Ends
 pub mod InLine
+mod LinkCases
 pub mod Shown
 pub mod Tiles
 pub mod Within

@@ -3,7 +3,8 @@ use Rattle.std.specs.Prelude.{◌≡◌, ℕ, ◌+◌, ◌==◌, ◌&&◌, ◌||
 use Rattle.wt_tree.specs.Plain.{Plains, text_before}
 use Rattle.wt_span.specs.Bytes.{is_blank}
 use Rattle.wt_span.specs.Characters as byte
-use Rattle.wt_span.specs.Items.{Item, char, sources}
+use Rattle.wt_span.specs.Items.{Item, char, sources, sign}
+use Rattle.wt_tree.specs.declared.edit_shape.Place.TheVariants as place
 use Rattle.wt_guards.specs.declared.role.Role.{Role}
 use Rattle.wt_guards.specs.declared.role.Role.TheVariants.{Link, External, Bare, Switch, Toggle, Mark, Group, Function, Node}
 use Rattle.wt_guards.specs.Content.{ContentSign, Thing, letter, thing}
@@ -19,6 +20,8 @@ use Rattle.wt_called_trees.specs.CallTexts.{AreOwnOrTexts}
 use Rattle.wt_beside_laws.specs.Content.{guard_items, letter_items}
 use Rattle.wt_beside_laws.specs.Cuts.{own_glyphs}
 use Rattle.wt_beside_laws.specs.Flat.{IsFlat}
+use Rattle.wt_text_edit_laws.specs.TypedHeadings.{EndsWithout, is_equals_sign}
+use Rattle.wt_beside_laws.specs.InHeadings.{AreOnOneLine}
 use Rattle.wt_beside_laws.specs.Lines.{AreCharacters}
 use Rattle.wt_beside_laws.specs.NodeItems.{node_items}
 use Rattle.wt_beside_laws.specs.Nodes.{IsNode, AllMeet}
@@ -180,6 +183,24 @@ pub record IsCalledContent (s : Setting) (signs : List ContentSign) (owns : List
   pub meet : AllMeet s [] signs []
   pub begins : BeginsWithText signs
   pub ends : EndsWithText signs
+
+-- ---- a heading
+
+-- none ends with a blank or with `=`
+abbrev pub AllEndSeen : List (List Item) → Type 0
+AllEndSeen [] = Unit {0}
+AllEndSeen (own ∷ owns) = EndsWithout is_blank (map sign own) × EndsWithout is_equals_sign (map sign own) × AllEndSeen owns
+
+-- The same in a heading: it is on one line, and may begin and end with anything.
+pub record IsCalledHeading (s : Setting) (signs : List ContentSign) (owns : List (List Item)) : Type 0 where
+  pub of_block : s.within ≡ false
+  pub of_heading : s.place ≡ place.Heading
+  pub one_line : AreOnOneLine signs
+  pub characters : AreCharacters signs
+  pub given : AreGiven signs owns
+  pub own : AreOwnInside owns
+  pub meet : AllMeet s [] signs []
+  pub end_seen : AllEndSeen owns
 
 -- ---- what it shows
 

@@ -21,7 +21,9 @@ ghost use Rattle.wt_selser.specs.GroupFaults.{paragraph_face, is_faulty};
 ghost use Rattle.wt_called_trees.specs.HeldCalls.{block_in, HoldsItsCalls, block_of_texts};
 ghost use Rattle.wt_text_edit_laws.specs.ParagraphBetween.{EndsApart, EndsParagraph, blocks_in, body_with};
 ghost use Rattle.wt_text_edit_laws.specs.ParagraphParts.{joined_parts, para_with};
-ghost use Rattle.wt_beside_laws.specs.Called.{items_with, owns_in, parts_with, AreWordBytes, BeginsWord, AreWords, IsCalledContent, called_shown, shown_signs, IsCalledIn};
+ghost use Rattle.wt_text_edit_laws.specs.LonePages.{page_chars};
+ghost use Rattle.wt_text_edit_laws.specs.TypedHeadings.{Sides, AreSides, opening, closing_items, heading_round, IsHeadingInside, IsOfLevel};
+ghost use Rattle.wt_beside_laws.specs.Called.{items_with, owns_in, parts_with, AreWordBytes, BeginsWord, AreWords, IsCalledContent, IsCalledHeading, called_shown, shown_signs, IsCalledIn};
 ghost use Rattle.wt_beside_laws.specs.Lines.{IsLineOfText};
 ghost use Rattle.wt_beside_laws.specs.Shown.{parts_shown_at};
 
@@ -46,6 +48,20 @@ pub fn texts_beside_calls_hold_these()
         → HoldsItsCalls (para_with (joined_parts (lines (items_with s [] signs owns)))) }
     ensures block { (calls : List OuterCall) (s : Setting) (signs : List ContentSign) (owns : List (List Item)) → IsCalledContent s signs owns
         → block_in calls (para_with (joined_parts (lines (items_with s [] signs owns)))) ≡ block_of_texts calls (plain kind.Para) [] (parts_with s [] signs owns) [] }
+{}
+
+/// So in a heading, where texts are typed on one line, and which may begin and end with calls: it is on one line, begins and ends with no blank,
+/// keeps its level, and holds its calls between its delimiters.
+pub fn texts_beside_calls_may_be_in_headings()
+    ensures inside { (s : Setting) (signs : List ContentSign) (owns : List (List Item)) → IsCalledHeading s signs owns
+        → IsHeadingInside (items_with s [] signs owns) }
+    ensures level { (s : Setting) (signs : List ContentSign) (owns : List (List Item)) (sides : Sides) → IsCalledHeading s signs owns → AreSides sides
+        → IsOfLevel sides (items_with s [] signs owns) }
+    ensures holds { (s : Setting) (signs : List ContentSign) (owns : List (List Item)) (sides : Sides) → IsCalledHeading s signs owns → AreSides sides
+        → HoldsItsCalls (heading_round sides (items_with s [] signs owns)) }
+    ensures block { (calls : List OuterCall) (s : Setting) (signs : List ContentSign) (owns : List (List Item)) (sides : Sides) → IsCalledHeading s signs owns
+        → AreSides sides → block_in calls (heading_round sides (items_with s [] signs owns))
+        ≡ block_of_texts calls (plain (kind.Heading sides.level)) (page_chars (opening sides)) (parts_with s [] signs owns) (closing_items sides) }
 {}
 
 /// It shows the texts that were typed, and between them each node as its items show by themselves (`called_shown`); a call shows its words.

@@ -32,6 +32,7 @@ pub mod PlaceTrees
 pub mod ItemFrames
 pub mod CalledFrames
 pub mod CallingFrames
+mod CallingCases
 pub mod SpotFrames
 pub mod ContentItems
 pub mod SpotRows

@@ -4,3 +4,7 @@ pub mod Ends
 pub mod Levels
 pub mod Reads
 pub mod Signs
+pub mod Held
+pub mod AllHeld
+pub mod NewContents
+pub mod Cases

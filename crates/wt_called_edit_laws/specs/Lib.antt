@@ -29,4 +29,5 @@ pub mod CalledBlocks
 pub mod CallingBlocks
 pub mod CallingGroups
 pub mod Written
+pub mod WrittenAnew
 pub mod SentAsIs

@@ -48,11 +48,11 @@ ghost use Rattle.wt_called_edit_laws.specs.ChosenContents.{HasContentEdits};
 ghost use Rattle.wt_called_edit_laws.specs.ContentsTaken.{TakesContents};
 ghost use Rattle.wt_called_edit_laws.specs.EditsAt.{Fits, AllStand};
 ghost use Rattle.wt_called_edit_laws.specs.Settled.{IsSettled};
-ghost use Rattle.wt_called_edit_laws.specs.SettledPages.{OnlyTextsAreOthers};
+ghost use Rattle.wt_called_edit_laws.specs.SettledPages.{OnlyTextsAreOthers, OnlyBlocksAreOthers};
 ghost use Rattle.wt_called_edit_laws.specs.Covered.{CleanWhereFree, IsEditablePage};
-ghost use Rattle.wt_called_edit_laws.specs.CallingBlocks.{IsContentIn, AreEdited, AreCallingBlocks, tree_with_calls, CallingBlocksStand};
+ghost use Rattle.wt_called_edit_laws.specs.CallingBlocks.{IsContentIn, IsNewContentIn, AreEdited, AreCallingBlocks, tree_with_calls, CallingBlocksStand};
 ghost use Rattle.wt_called_edit_laws.specs.CallingGroups.{AreCallingOutside, CallingGroupsStay, CallingNodesStay};
-ghost use Rattle.wt_called_trees.specs.HeldCalls.{AllHold};
+ghost use Rattle.wt_called_trees.specs.HeldCalls.{HoldsItsCalls, AllHold};
 ghost use Rattle.wt_text_edit_laws.specs.Contents.{IsContent};
 ghost use Rattle.wt_text_edit_laws.specs.NoCalls.{CallsNothing};
 ghost use Rattle.wt_called_edit_laws.specs.Written.{AreReadThings, AreOwnParts, written_items, written_calls, written_work, IsWrittenAs};
@@ -60,6 +60,10 @@ ghost use Rattle.wt_guards.specs.Content.{ContentSign};
 ghost use Rattle.wt_guards.specs.Guards.{Setting, spelled};
 ghost use Rattle.wt_text_edit_laws.specs.ReadContents.{IsFirmlyRead};
 ghost use Rattle.wt_beside_laws.specs.Content.{content_items};
+ghost use Rattle.wt_joined_calls.specs.Expanded.{part_items};
+ghost use Rattle.wt_beside_laws.specs.Called.{items_with, owns_in, IsCalledIn};
+ghost use Rattle.wt_called_edit_laws.specs.CalledContents.{tree_round};
+ghost use Rattle.wt_called_edit_laws.specs.WrittenAnew.{node_sources, StayButForOthers, IsWrittenBeside, HoldsAnywhere, EachHolds};
 
 mod body_paragraphs;
 
@@ -177,6 +181,32 @@ pub fn blocks_with_calls_stand_at_their_places()
         → AreCallingBlocks pages rs behind }
     ensures content { (pages : Pages) (k : TextBlock) (q : List ℕ) → IsContent k q → CallsNothing (block_items k q) → IsContentIn pages k q }
     ensures calm { (pages : Pages) (ss : List BlockSpot) (behind : List ℕ) → AreAmongCalls pages ss behind → AreCallingBlocks pages ss behind }
+{}
+
+/// What is written for texts beside calls that give words (`IsCalledIn` of `wt_beside_laws`) gives the words of these calls, and between them the texts as
+/// they are spelled, and as a paragraph it holds its calls, however many calls come before it in the page.
+pub fn written_paragraphs_hold_their_calls()
+    ensures gives { (pages : Pages) (i : ℕ) (s : Setting) (signs : List ContentSign) → IsCalledIn pages s signs → AreReadThings signs → AreOwnParts pages signs
+        → part_items pages i (spelled s signs) ≡ items_with s [] signs (owns_in pages i signs) }
+    ensures holds { (pages : Pages) (i : ℕ) (s : Setting) (signs : List ContentSign) → IsCalledIn pages s signs → AreReadThings signs → AreOwnParts pages signs
+        → HoldsItsCalls (tree_round a_paragraph (part_items pages i (spelled s signs))) }
+{}
+
+/// Such a paragraph is a content in a folder, as it is written, and is a new one in the place of any other such paragraph whose nodes it has, in their order:
+/// each that calls stays, and any other may go (`StayButForOthers`). So any texts may be typed beside these calls.
+pub fn paragraphs_beside_calls_may_be_written_anew()
+    ensures content { (pages : Pages) (s : Setting) (signs : List ContentSign) → IsWrittenBeside pages s signs → IsContentIn pages a_paragraph (spelled s signs) }
+    ensures anew { (pages : Pages) (s : Setting) (t : Setting) (olds signs : List ContentSign) → IsWrittenBeside pages s olds → IsWrittenBeside pages t signs
+        → StayButForOthers pages (node_sources olds) (node_sources signs) → IsNewContentIn pages a_paragraph (spelled s olds) (spelled t signs) }
+{}
+
+/// Blocks of which each holds its calls, however many come before it (`EachHolds`), hold them in their page: such paragraphs do, and so do contents
+/// that call nothing.
+pub fn blocks_hold_their_calls_in_their_page()
+    ensures all { (pages : Pages) (ss : List BlockSpot) → EachHolds pages ss → AllHold (tree_with_calls pages 0 ss) (counted ss) }
+    ensures written { (pages : Pages) (s : Setting) (signs : List ContentSign) → IsWrittenBeside pages s signs
+        → HoldsAnywhere pages a_paragraph (spelled s signs) }
+    ensures calm { (pages : Pages) (k : TextBlock) (q : List ℕ) → IsContent k q → CallsNothing (block_items k q) → HoldsAnywhere pages k q }
 {}
 
 /// A page that calls nothing (`AreContentSpots`) is such a page, too.
@@ -317,6 +347,12 @@ pub fn numbers_and_places_hang_on_the_rest()
 #[tactic(auto, using(crate::proofs::SettledPages::only_texts))]
 pub fn only_typed_texts_among_calls_are_others()
     ensures { (pages : Pages) (ss : List BlockSpot) (behind : List ℕ) → IsCalledPage pages ss behind → OnlyTextsAreOthers pages ss behind }
+{}
+
+/// So it is where these blocks hold calls: each is at its place with its groups.
+#[tactic(auto, using(crate::proofs::SettledPages::only_blocks))]
+pub fn only_blocks_that_call_are_others()
+    ensures { (pages : Pages) (ss : List BlockSpot) (behind : List ℕ) → AreCallingOutside pages ss behind → OnlyBlocksAreOthers pages ss behind }
 {}
 
 /// A page with calls, with places for blocks in its body and in the cells and captions of its tables. Where no group of

@@ -14,8 +14,8 @@ use Rattle.wt_tree.specs.declared.edit_shape.Sort.{Sort}
 use Rattle.wt_tree.specs.declared.edit_shape.Sort.TheVariants as sort
 use Rattle.wt_tree.specs.EditShapes.{edit_shape}
 use Rattle.wt_checks.proofs.Lookups.{each_join}
-use Rattle.wt_original.specs.Kept.{Item, character, opaque, invisible, characters, items_by, items, items_of_all, visible, is_break_at, began_line, ended_content, transclusion, role_by, KeptNode, found_at, found_if, is_delimited, holds_kept, found_from, found_in}
-use Rattle.wt_edit_laws.specs.KeptPlaces.{LiesIn, EndsLine, BeginsLine, IsToldMark, IsToldGroup}
+use Rattle.wt_original.specs.Kept.{Item, character, opaque, invisible, characters, items_by, items, items_of_all, visible, is_break_at, began_line, ended_content, role_by, KeptNode, found_at, found_if, is_delimited, holds_kept, found_from, found_in}
+use Rattle.wt_edit_laws.specs.KeptPlaces.{LiesIn, EndsLine, BeginsLine, IsToldMark}
 
 -- ---- visible items
 
@@ -169,19 +169,19 @@ byte_before block f l front b e =
       ap (λ (k : ℕ). slice_get (flat block) k) less ∙ ap (λ (bs : List ℕ). slice_get bs (length front)) is ∙ last_got front b (flat f.node ++ l.after),
     )
 
-either : (v w : Bool) → (v || w) ≡ true → (v ≡ true) ⊎ (w ≡ true)
+pub either : (v w : Bool) → (v || w) ≡ true → (v ≡ true) ⊎ (w ≡ true)
 either true w e = inl refl
 either false w e = inr e
 
-both_true : (v w : Bool) → (v && w) ≡ true → (v ≡ true) × (w ≡ true)
+pub both_true : (v w : Bool) → (v && w) ≡ true → (v ≡ true) × (w ≡ true)
 both_true true w e = (refl, e)
 both_true false w e = absurd (cc)
 
-or_right : (v w : Bool) → w ≡ true → (v || w) ≡ true
+pub or_right : (v w : Bool) → w ≡ true → (v || w) ≡ true
 or_right true w e = refl
 or_right false w e = e
 
-and_both : (v w : Bool) → v ≡ true → w ≡ true → (v && w) ≡ true
+pub and_both : (v w : Bool) → v ≡ true → w ≡ true → (v && w) ≡ true
 and_both true w e f = f
 and_both false w e f = absurd (cc)
 
@@ -242,7 +242,7 @@ ends_told (b ∷ bs) cs e h =
 pub ends_line : (bs : List ℕ) → (ends_with nat_eq bs (byte.line_break ∷ []) ≡ true) ↔ EndsLine bs
 ends_line bs = (ends_told bs bs refl, λ h. ap (λ (ds : List ℕ). ends_with nat_eq ds (byte.line_break ∷ [])) h.is ∙ ends_as h.front byte.line_break)
 
--- ---- marks and groups
+-- ---- marks, and what groups share with them
 
 pub mark_told : (block : Tree) (f : KeptNode) (l : LiesIn block f) → (edit_shape (label f.node).kind).sort ≡ sort.Mark → IsToldMark block f l.before
 mark_told block f l e = record {
@@ -253,13 +253,13 @@ mark_told block f l e = record {
   beginning = began block f l;
 }
 
-no_length : (xs : List Item) → ((length xs == 0) ≡ true) ↔ (xs ≡ [])
+pub no_length : (xs : List Item) → ((length xs == 0) ≡ true) ↔ (xs ≡ [])
 no_length [] = (λ e. refl, λ e. refl)
 no_length (x ∷ xs) =
     let no : (suc (length xs) == 0) ≡ false = grind (arith, nat_tests) in
     (λ e. absurd (cc), λ e. absurd (cc))
 
-ended_end : (block : Tree) (f : KeptNode) (l : LiesIn block f) → length (label block).closing ≤ length (flat block)
+pub ended_end : (block : Tree) (f : KeptNode) (l : LiesIn block f) → length (label block).closing ≤ length (flat block)
     → (ended_content block f.extent ≡ true) ↔ (length l.after ≡ length (label block).closing)
 ended_end block f l le =
     let c : ℕ = length (label block).closing in
@@ -268,13 +268,3 @@ ended_end block f l le =
     let end : f.extent.end ≡ length l.before + length (flat f.node) = l.end in
     let d = Decides-eqb f.extent.end (length (flat block) - c) in
     (λ e. let s = d.0 e in omega (arith, long, end, s, le), λ e. d.1 (omega (arith, long, end, e, le)))
-
-pub group_told : (block : Tree) (f : KeptNode) (l : LiesIn block f) → (edit_shape (label f.node).kind).sort ≡ sort.Group
-    → IsToldGroup block f l.before l.after
-group_told block f l e = record {
-  told = transclusion block f.extent f.node;
-  role = ap (λ (s : Sort). role_by s block f.extent f.node) e;
-  unseen = no_length (visible (items f.node));
-  beginning = began block f l;
-  ending = ended_end block f l;
-}

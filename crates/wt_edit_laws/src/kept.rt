@@ -15,12 +15,12 @@ pub fn kept_nodes_lie_in_their_block()
 {}
 
 /// What a comment, an include tag or a group is to its neighbours is told by the source before it and after it: whether
-/// it begins its line, whether it ends it, and of a group whether something of it is seen, and whether it ends the
-/// block's content.
-#[tactic(auto, using(crate::proofs::KeptPlaces::mark_told, crate::proofs::KeptPlaces::group_told))]
+/// it begins its line and whether it ends it. Of a group this also says what is seen of it: nothing, blanks alone, two
+/// slashes, an apostrophe first or last; and whether it ends the block's content or is between equals signs.
+#[tactic(auto, using(crate::proofs::KeptPlaces::mark_told, crate::proofs::GroupsTold::group_told))]
 pub fn marks_and_groups_are_told_by_their_neighbours()
     ensures marks { (block : Tree) (f : KeptNode) (l : LiesIn block f) → (edit_shape (label f.node).kind).sort ≡ sort.Mark
         → IsToldMark block f l.before }
     ensures groups { (block : Tree) (f : KeptNode) (l : LiesIn block f) → (edit_shape (label f.node).kind).sort ≡ sort.Group
-        → IsToldGroup block f l.before l.after }
+        → IsToldGroup block f l }
 {}

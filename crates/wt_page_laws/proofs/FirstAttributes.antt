@@ -1,7 +1,7 @@
 -- The attributes that items give are the first of their names among those that are read.
 use Rattle.std.proofs.Common.{arith, ◌≡◌, ◌≢◌, ◌⊎◌, ℕ, suc, ◌≤◌, Bool, true, false, Option, Some, None, List, [], ◌∷◌, drop, refl, sym, ap, ◌∙◌, subst, inl, inr, true≢false}
 use Rattle.std.specs.Prelude.{option_map, filter_map, if◌then◌else◌}
-use Rattle.core.specs.List.{cons_option}
+use Rattle.std.specs.List.{cons_option}
 use Rattle.wt_span.specs.Bytes.{lower}
 use Rattle.wt_span.specs.Items.{Item}
 use Rattle.wt_tree.specs.Kinds.{order}

@@ -114,7 +114,7 @@ given_opens s before t after own more w l h g = elim h [
     unmarked n true e = let no : true ≡ false = sym (new_guarded s before t after w l (n.inside e)) ∙ g in cc
     unmarked n false e = refl
 
-line_opens : (s : Setting) (before signs : List ContentSign) (owns : List (List Item)) → s.within ≡ false → is_line_start (nearest before) ≡ true
+pub line_opens : (s : Setting) (before signs : List ContentSign) (owns : List (List Item)) → s.within ≡ false → is_line_start (nearest before) ≡ true
     → is_line_begun before ≡ true → AreCharacters signs → AreGiven signs owns → Opens (line_with s before signs owns)
 line_opens s before [] owns w l b v h = subst (λ u. Opens (guard_items u)) (sym (end_guarded s before w l)) atom_opens
 line_opens s before (letter c ∷ after) owns w l b v h =

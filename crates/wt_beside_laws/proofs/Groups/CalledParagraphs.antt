@@ -36,7 +36,7 @@ called_parts s signs owns h = ap joined_parts (lines_from s [] signs owns h.give
 full_text : (tables : ℕ) (xs : List Item) → All (IsLineOfText tables) (lines xs) → All (IsLineOfText tables) (map content (full_lines xs) ++ empty_end xs)
 full_text tables xs h = subst (All (IsLineOfText tables)) (same_lines xs) h
 
-called_unled : (s : Setting) (signs : List ContentSign) (owns : List (List Item)) → IsCalledContent s signs owns → marks_len (items_with s [] signs owns) ≡ 0
+pub called_unled : (s : Setting) (signs : List ContentSign) (owns : List (List Item)) → IsCalledContent s signs owns → marks_len (items_with s [] signs owns) ≡ 0
 called_unled s signs owns h =
     lines_unled 0 (items_with s [] signs owns)
     (subst (AreLinesOfText 0) (sym (lines_from s [] signs owns h.given)) (are_lines_of_text 0 s signs owns h.of_block h.characters h.given))

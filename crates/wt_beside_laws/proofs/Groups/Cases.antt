@@ -31,10 +31,10 @@ use Rattle.wt_expand.specs.Expansion.{text_members, most_templates, absent_text,
 use Rattle.wt_beside_laws.specs.Called.{items_with, owns_in, GivesWords, IsCalledIn}
 
 -- `Template:T` is a word, and no other page is there
-abbrev a_word : Pages
+abbrev pub a_word : Pages
 a_word full = if bytes_eq full (codes "Template:T") then Some (codes "b") else None
 
-gives_b : GivesWords a_word (codes "{{t}}")
+pub gives_b : GivesWords a_word (codes "{{t}}")
 unfolding words closed form_at comment_len comment_line_len raw_len opening_tag tag_after closing_tag with_inside is_extension
     include_at entity_at named_entity decimal_entity hex_entity entity_names sign_word reduced rewritten parts_of text_members trimmed
     trimmed_items name_text called most_templates is_function title_of_target title_in_target read_text is_allowed is_forbidden
@@ -44,7 +44,7 @@ unfolding words closed form_at comment_len comment_line_len raw_len opening_tag 
 gives_b = record { items = λ i. refl; words = (refl, tt); begins = refl; unbraced = refl; shown_unbraced = refl }
 
 -- the group that it is where letters are beside it
-abbrev beside_letters : Transclusion
+abbrev pub beside_letters : Transclusion
 beside_letters = record {
   slashes = false;
   is_invisible = false;
@@ -57,13 +57,13 @@ beside_letters = record {
   between_equals = false;
 }
 
-abbrev call : Thing
+abbrev pub call : Thing
 call = record { role = Group beside_letters; source = codes "{{t}}"; place = Some (record { start = 1; end = 6 }) }
 
-abbrev in_paragraph : Setting
+abbrev pub in_paragraph : Setting
 in_paragraph = record { within = false; place = place.Paragraph; source = codes "x{{t}}y" }
 
-abbrev typed : List ContentSign
+abbrev pub typed : List ContentSign
 typed = letter 120 ∷ thing call ∷ letter 121 ∷ []
 
 pub in_class : IsCalledIn a_word in_paragraph typed

@@ -46,10 +46,11 @@ use Rattle.wt_beside_laws.proofs.NodesEnd.{EndsWith, external_ends, ClosesAt, in
 use Rattle.wt_beside_laws.proofs.NodesStand.{EachIs, all_by}
 use Rattle.wt_beside_laws.proofs.PairTiles.{HasTag, partner_tag}
 use Rattle.wt_beside_laws.proofs.UrlFronts.{some_shape}
-use Rattle.wt_beside_laws.specs.Commented.{IsCommentLine, IsHeld}
+use Rattle.wt_beside_laws.specs.Commented.{IsCommentLine, AreRemarks, IsHeld}
 use Rattle.wt_spelling_laws.proofs.TextReads.{apart}
 use Rattle.wt_text_edit_laws.specs.TextBetween.{HasNoTag}
-use Rattle.wt_beside_laws.proofs.Marks.Shown.{comment_node, line_node, kept_node}
+use Rattle.wt_beside_laws.proofs.Marks.InLine.{remarks_items}
+use Rattle.wt_beside_laws.proofs.Marks.Shown.{comment_node, line_node, kept_node, remarked_node}
 use Rattle.wt_beside_laws.proofs.NodeItems.{node_sources}
 use Rattle.wt_beside_laws.specs.NodeItems.{node_items}
 
@@ -143,12 +144,21 @@ line_sealed q h =
     subst IsSealed (sym is)
     (both_sealed (h.before ++ 62 ∷ []) h.behind (ends_sealed (h.before ++ 62 ∷ []) (last_ends 62 h.before refl)) (untagged_sealed h.behind h.untagged))
 
+remarks_ends : (rs : List (List ℕ × List ℕ)) → AreRemarks rs → LexemesEnd (remarks_items rs)
+remarks_ends [] h = tt
+remarks_ends ((q, behind) ∷ rs) h = (
+  ends_sealed (60 ∷ q) (lexeme_stops (60 ∷ q) h.0.ends),
+  both_end (page_items behind) (remarks_items rs) (lexemes_end behind h.1) (remarks_ends rs h.3),
+)
+
 held_ends : (q : List ℕ) → IsHeld q → LexemesEnd (node_items q)
 held_ends q (inl k) = subst LexemesEnd (sym (kept_node q k.0)) (lexemes_end q k.0)
 held_ends q (inr (inl c)) =
     subst (λ bs. LexemesEnd (node_items bs)) (sym c.is)
     (subst LexemesEnd (sym (comment_node c.others c.comment)) (ends_sealed (60 ∷ c.others) (lexeme_stops (60 ∷ c.others) c.comment.ends), tt))
-held_ends q (inr (inr l)) = subst LexemesEnd (sym (line_node q l)) (line_sealed q l, tt)
+held_ends q (inr (inr (inr r))) =
+    subst LexemesEnd (sym (remarked_node q r)) (both_end (page_items r.front) (remarks_items r.remarks) (lexemes_end r.front r.kept) (remarks_ends r.remarks r.are))
+held_ends q (inr (inr (inl l))) = subst LexemesEnd (sym (line_node q l)) (line_sealed q l, tt)
 
 -- ---- items without a `<` outside of lexemes
 

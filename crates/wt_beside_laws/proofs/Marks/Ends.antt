@@ -13,7 +13,7 @@ use Rattle.wt_original.specs.Kept.{is_break_at}
 use Rattle.wt_expand.specs.PageItems.{page_items}
 use Rattle.wt_text_edit_laws.specs.LonePages.{page_chars}
 use Rattle.wt_text_edit_laws.specs.TextBetween.{EndsBy}
-use Rattle.wt_beside_laws.specs.Commented.{IsCommentLine, IsHeld, EndsAsSaid}
+use Rattle.wt_beside_laws.specs.Commented.{IsCommentLine, remarks_source, AreRemarks, IsRemarked, IsHeld, EndsAsSaid}
 use Rattle.wt_beside_laws.specs.Kept.{Part, characters, sign, lexeme, is_lexeme_end, IsPart, AreParts, part_source, parts_source, part_items, parts_items, IsKept}
 use Rattle.wt_beside_laws.specs.PageSigns.{ends_break, HasNoBreak}
 use Rattle.wt_beside_laws.proofs.Firm.{ReadsAs, alone_as, parts_read}
@@ -111,12 +111,26 @@ kept_end q h n =
     let own : ReadsAs q (parts_items h.parts) = subst (λ bs. ReadsAs bs (parts_items h.parts)) h.is (parts_read h.parts h.are) in
     subst (LastIs false) h.is (parts_end h.parts h.are (subst HasNoBreak (alone_as q (parts_items h.parts) own) n))
 
+remarks_end : (rs : List (List ℕ × List ℕ)) → AreRemarks rs → LastIs false (remarks_source rs)
+remarks_end [] h = tt
+remarks_end ((q, behind) ∷ rs) h =
+    both_end false (60 ∷ q) (behind ++ remarks_source rs) (lexeme_end (60 ∷ q) h.0.ends)
+    (both_end false behind (remarks_source rs) (kept_end behind h.1 h.2) (remarks_end rs h.3))
+
+remarked_end : (q : List ℕ) → IsRemarked q → LastIs false q
+remarked_end q h =
+    subst (LastIs false) (sym h.is) (both_end false h.front (remarks_source h.remarks) (kept_end h.front h.kept h.unbroken) (remarks_end h.remarks h.are))
+
 -- ---- a node
 
 pub held_end : (q : List ℕ) → 0 < length q → IsHeld q → LastIs (ends_break q) q
 held_end q some (inl k) = as_ended false q some (kept_end q k.0 k.1)
 held_end q some (inr (inl c)) = as_ended false q some (subst (LastIs false) (sym c.is) (lexeme_end (60 ∷ c.others) c.comment.ends))
-held_end q some (inr (inr l)) = as_ended true q some (subst (LastIs true) (sym l.is) (line_end (l.first ∷ l.others) l.ends))
+held_end q some (inr (inr (inl l))) = as_ended true q some (subst (LastIs true) (sym l.is) (line_end (l.first ∷ l.others) l.ends))
+held_end q some (inr (inr (inr r))) = as_ended false q some (remarked_end q r)
+
+pub remarked_unended : (q : List ℕ) → IsRemarked q → ends_break q ≡ false
+remarked_unended q h = unended q (remarked_end q h)
 
 pub kept_unended : (q : List ℕ) → IsKept q → HasNoBreak (page_items q) → ends_break q ≡ false
 kept_unended q k n = unended q (kept_end q k n)

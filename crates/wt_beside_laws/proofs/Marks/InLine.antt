@@ -27,7 +27,7 @@ use Rattle.wt_text_edit_laws.specs.LonePages.{page_chars}
 use Rattle.wt_text_edit_laws.specs.TextBetween.{EndsBy}
 use Rattle.wt_text_edit_laws.proofs.Between.Fronts.{ReadsAfter, first_from, byte_from, form_from, items_from}
 use Rattle.wt_text_edit_laws.proofs.Texts.TypedItems.{references, wide_form, wide_tame, tame_if, IsMild, wide_mild, mild_if, no_form_byte}
-use Rattle.wt_beside_laws.specs.Commented.{IsComment, IsCommentLine}
+use Rattle.wt_beside_laws.specs.Commented.{IsComment, IsCommentLine, remarks_source, AreRemarks, IsRemarked}
 use Rattle.wt_beside_laws.specs.Content.{guard_items, letter_items}
 use Rattle.wt_beside_laws.specs.Kept.{Part, characters, sign, lexeme, is_firm, AreFirm, is_lexeme_end, IsPart, AreParts, part_source, parts_source, part_items, parts_items, IsKept}
 use Rattle.wt_beside_laws.specs.PageSigns.{HasNoBreak}
@@ -43,7 +43,7 @@ InLine bs xs = ReadsAfter false bs xs
 abbrev pub InLineAs : List ℕ → List Item → Type 0
 InLineAs q own = (rest : List ℕ) (xs : List Item) → InLine rest xs → InLine (q ++ rest) (own ++ xs)
 
-both_in : (q p : List ℕ) (xs ys : List Item) → InLineAs q xs → InLineAs p ys → InLineAs (q ++ p) (xs ++ ys)
+pub both_in : (q p : List ℕ) (xs ys : List Item) → InLineAs q xs → InLineAs p ys → InLineAs (q ++ p) (xs ++ ys)
 both_in q p xs ys f g rest zs r =
     subst (λ bs. InLine bs ((xs ++ ys) ++ zs)) (sym (append_assoc q p rest))
     (subst (λ us. InLine (q ++ (p ++ rest)) us) (sym (append_assoc xs ys zs)) (f (p ++ rest) (ys ++ zs) (g rest zs r)))
@@ -165,6 +165,23 @@ kept_in q h n =
     let is : page_items q ≡ parts_items h.parts = alone_as q (parts_items h.parts) read in
     subst (λ xs. InLineAs q xs) (sym is)
     (subst (λ bs. InLineAs bs (parts_items h.parts)) h.is (parts_in h.parts h.are (subst HasNoBreak is n)))
+
+-- ---- a node with comments in it
+
+abbrev pub remarks_items : List (List ℕ × List ℕ) → List Item
+remarks_items [] = []
+remarks_items ((q, behind) ∷ rs) = (whole form.Comment None (60 ∷ q) ∷ []) ++ (page_items behind ++ remarks_items rs)
+
+pub remarks_in : (rs : List (List ℕ × List ℕ)) → AreRemarks rs → InLineAs (remarks_source rs) (remarks_items rs)
+remarks_in [] h = λ rest xs r. r
+remarks_in ((q, behind) ∷ rs) h =
+    both_in (60 ∷ q) (behind ++ remarks_source rs) (whole form.Comment None (60 ∷ q) ∷ []) (page_items behind ++ remarks_items rs) (comment_in q h.0)
+    (both_in behind (remarks_source rs) (page_items behind) (remarks_items rs) (kept_in behind h.1 h.2) (remarks_in rs h.3))
+
+pub remarked_in : (source : List ℕ) (h : IsRemarked source) → InLineAs source (page_items h.front ++ remarks_items h.remarks)
+remarked_in source h =
+    subst (λ bs. InLineAs bs (page_items h.front ++ remarks_items h.remarks)) (sym h.is)
+    (both_in h.front (remarks_source h.remarks) (page_items h.front) (remarks_items h.remarks) (kept_in h.front h.kept h.unbroken) (remarks_in h.remarks h.are))
 
 -- ---- what is put, and what is typed
 

@@ -113,7 +113,7 @@ own_flat = record {
   text = (refl, All-cons (IsLineOfText 0) (char None 120 ∷ []) (later_line ∷ []) refl (All-cons (IsLineOfText 0) later_line [] refl (All-nil (IsLineOfText 0))));
   flat = ((refl, tt), ((120 ∷ [], (refl, refl)), tt), ((tt, (refl, tt)), (record { alone = remark_behind; lone = tt }, ((121 ∷ [], (refl, refl)), tt)), tt));
   unstyled = (refl, (refl, tt));
-  kept = ((inr (inr remark_line), refl), tt);
+  kept = ((inr (inr (inl remark_line)), refl), tt);
   calm = (remark_calm, tt);
   shut = (refl, tt);
   full = (refl, (refl, ((refl, tt, refl), (refl, tt))));

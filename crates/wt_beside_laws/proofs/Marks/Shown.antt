@@ -14,7 +14,7 @@ use Rattle.wt_span.specs.Bytes.{is_blank, is_break, blank_len}
 use Rattle.wt_span.specs.Comments.{comment_len, comment_line_len, remarks_len, remarks_with}
 use Rattle.wt_span.specs.Tags.{raw_len, include_at}
 use Rattle.wt_span.specs.Entities.{entity_at}
-use Rattle.wt_span.specs.Items.{Item, whole}
+use Rattle.wt_span.specs.Items.{Item, char, whole}
 use Rattle.wt_span.specs.Lexemes.{as_word, entity_word, sign_word, form_at, cuts}
 use Rattle.wt_lex.proofs.Cuts.{cuts_cons}
 use Rattle.wt_names.proofs.Ascii.{IsWide, encode_wide, encode_some}
@@ -37,7 +37,7 @@ use Rattle.wt_text_edit_laws.proofs.Between.LineForms.{get_behind}
 use Rattle.wt_text_edit_laws.proofs.Prose.InFront.{reads_nothing}
 use Rattle.wt_text_edit_laws.proofs.Prose.Uncommented.{BeginsUncommented, uncommented_other}
 use Rattle.wt_text_edit_laws.proofs.Texts.TypedItems.{items_cut, references, wide_tame, tame_if}
-use Rattle.wt_beside_laws.specs.Commented.{IsComment, IsCommentLine, IsHeld, EndsAsSaid}
+use Rattle.wt_beside_laws.specs.Commented.{IsComment, IsCommentLine, remarks_source, BeginsShown, IsRemarked, IsHeld, EndsAsSaid}
 use Rattle.wt_beside_laws.specs.Content.{AreKept}
 use Rattle.wt_beside_laws.specs.Cuts.{own_glyphs}
 use Rattle.wt_beside_laws.specs.Kept.{Part, characters, sign, lexeme, IsLexeme, AreParts, parts_source, parts_items, IsKept}
@@ -46,7 +46,7 @@ use Rattle.wt_beside_laws.specs.Nodes.{IsNode, AreNodes}
 use Rattle.wt_beside_laws.proofs.Contents.{further, begin_letter}
 use Rattle.wt_beside_laws.proofs.Firm.{ReadsAs, alone_as, parts_read, less_firm}
 use Rattle.wt_beside_laws.proofs.LineKinds.{no_break, FirstOpens, node_opens, mark_is, mark_begun, mark_unempty, begun_free, both_free, or_none}
-use Rattle.wt_beside_laws.proofs.Marks.InLine.{InLine, comment_in, comment_line}
+use Rattle.wt_beside_laws.proofs.Marks.InLine.{InLine, comment_in, comment_line, remarks_items, remarked_in}
 use Rattle.wt_beside_laws.proofs.Marks.Ends.{line_ended, ended_role}
 use Rattle.wt_beside_laws.proofs.NodeItems.{node_read, node_as}
 
@@ -144,14 +144,17 @@ kept_node source h =
 
 abbrev FirstShown : List Glyph → Type 0
 FirstShown [] = ⊥
-FirstShown (glyph.Byte b ∷ gs) = OpensText b
+FirstShown (glyph.Byte b ∷ gs) = (is_blank b ≡ false) × ((b == 10) ≡ false)
 FirstShown (glyph.Entity c ∷ gs) = Unit {0}
 FirstShown (glyph.Atom ∷ gs) = Unit {0}
 FirstShown (glyph.Mark ∷ gs) = Unit {0}
 
+not_blank : (b : ℕ) → OpensText b → is_blank b ≡ false
+not_blank b o = let s = o.space in let t = o.tab in rw (s, t) refl
+
 opens_shown : (gs : List Glyph) → FirstOpens gs → FirstShown gs
 opens_shown [] h = h
-opens_shown (glyph.Byte b ∷ gs) h = h
+opens_shown (glyph.Byte b ∷ gs) h = (not_blank b h, h.break)
 opens_shown (glyph.Entity c ∷ gs) h = tt
 opens_shown (glyph.Atom ∷ gs) h = tt
 opens_shown (glyph.Mark ∷ gs) h = absurd h
@@ -159,9 +162,6 @@ opens_shown (glyph.Mark ∷ gs) h = absurd h
 node_shown : (r : Role) (own : List Glyph) (v : Bool) → is_mark_role r ≡ v → IsNode r own → FirstShown own
 node_shown r own true e n = subst FirstShown (sym (mark_is r own n e)) tt
 node_shown r own false e n = opens_shown own (node_opens r own n e)
-
-not_blank : (b : ℕ) → OpensText b → is_blank b ≡ false
-not_blank b o = let s = o.space in let t = o.tab in rw (s, t) refl
 
 abbrev is_word : Option (LexKind × ℕ) → Bool
 is_word None = false
@@ -186,16 +186,16 @@ parts_shown (characters (b ∷ bs) ∷ ps) h o rest = record {
   first = b;
   others = (bs ++ parts_source ps) ++ rest;
   is = refl;
-  blank = not_blank b o;
-  break = o.break;
+  blank = o.0;
+  break = o.1;
   none = comment_other b ((bs ++ parts_source ps) ++ rest) (less_firm b h.0.0);
 }
 parts_shown (sign b q ∷ ps) h o rest = record {
   first = b;
   others = (q ++ parts_source ps) ++ rest;
   is = refl;
-  blank = not_blank b o;
-  break = o.break;
+  blank = o.0;
+  break = o.1;
   none = ap (λ bs. comment_len (b ∷ bs)) (append_assoc q (parts_source ps) rest) ∙ h.0.0.uncommented (parts_source ps ++ rest);
 }
 parts_shown (lexeme kind b q ∷ ps) h o rest = record {
@@ -212,6 +212,35 @@ kept_shown source h o rest =
     let read : ReadsAs source (parts_items h.parts) = subst (λ bs. ReadsAs bs (parts_items h.parts)) h.is (parts_read h.parts h.are) in
     let is : node_items source ≡ parts_items h.parts = node_as source (parts_items h.parts) read in
     subst (λ bs. IsShownFirst (bs ++ rest)) h.is (parts_shown h.parts h.are (subst (λ xs. FirstShown (map glyph_of xs)) is o) rest)
+
+-- of a node with comments in it
+begins_shown : (xs : List Item) → BeginsShown xs → FirstShown (map glyph_of xs)
+begins_shown [] h = h
+begins_shown (char o b ∷ xs) h = h
+begins_shown (whole form.Chars o bs ∷ xs) h = tt
+begins_shown (whole (form.Entity c) o bs ∷ xs) h = tt
+begins_shown (whole form.Nowiki o bs ∷ xs) h = tt
+begins_shown (whole form.Extension o bs ∷ xs) h = tt
+begins_shown (whole form.Function o bs ∷ xs) h = tt
+begins_shown (whole form.Comment o bs ∷ xs) h = tt
+begins_shown (whole form.Include o bs ∷ xs) h = tt
+begins_shown (whole form.Hidden o bs ∷ xs) h = tt
+begins_shown (whole form.EmptyCall o bs ∷ xs) h = tt
+
+pub remarked_shown : (source : List ℕ) → IsRemarked source → (rest : List ℕ) → IsShownFirst (source ++ rest)
+remarked_shown source h rest =
+    let first : FirstShown (map glyph_of (node_items h.front)) =
+    subst (λ xs. FirstShown (map glyph_of xs)) (sym (kept_node h.front h.kept)) (begins_shown (page_items h.front) h.begins) in
+    subst (λ bs. IsShownFirst (bs ++ rest)) (sym h.is)
+    (subst IsShownFirst (sym (append_assoc h.front (remarks_source h.remarks) rest)) (kept_shown h.front h.kept first (remarks_source h.remarks ++ rest)))
+
+pub remarked_node : (source : List ℕ) (h : IsRemarked source) → node_items source ≡ page_items h.front ++ remarks_items h.remarks
+remarked_node source h =
+    let own : List Item = page_items h.front ++ remarks_items h.remarks in
+    let line : InLine (source ++ []) (own ++ []) = remarked_in source h [] [] (reads_after false [] [] reads_nothing) in
+    ap node_items (sym (append-nil source))
+    ∙ node_read (source ++ []) (own ++ []) (seen_read (source ++ []) (own ++ []) (shown_seen (source ++ []) (remarked_shown source h [])) line)
+    ∙ append-nil own
 
 -- of a thing whose source isn't a comment
 pub thing_shown : (t : Thing) → IsKept t.source → IsNode t.role (own_glyphs t) → (rest : List ℕ) → IsShownFirst (t.source ++ rest)
@@ -308,8 +337,9 @@ held_seen : (t : Thing) (more : List ℕ) → IsHeld t.source → IsNode t.role 
 held_seen t more (inl k) n e f g = shown_seen (t.source ++ more) (thing_shown t k.0 n more)
 held_seen t more (inr (inl c)) n e f g =
     subst (λ bs. IsSeen (bs ++ more)) (sym c.is) (seen_comment c.others more c.comment (g (comment_mark t c.others c.is c.comment n)))
-held_seen t more (inr (inr l)) n e f g =
+held_seen t more (inr (inr (inl l))) n e f g =
     let no : true ≡ false = sym (line_ends t l n e) ∙ f in cc
+held_seen t more (inr (inr (inr r))) n e f g = shown_seen (t.source ++ more) (remarked_shown t.source r more)
 
 pub seen_from : (s : Setting) (before signs : List ContentSign) → s.within ≡ false → is_line_begun before ≡ true → is_empty_line signs ≡ false
     → AreKept signs → AreNodes signs → (rest : List ℕ) → IsSeen (spelled_from s before signs ++ rest)

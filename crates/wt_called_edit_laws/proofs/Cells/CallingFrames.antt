@@ -156,7 +156,7 @@ begins_unbraced [] u = tt
 begins_unbraced (char o b ∷ xs) u = u.0
 begins_unbraced (whole f o bs ∷ xs) u = unbraced_ends (whole f o bs ∷ []) tt
 
-own_calm : (k : TextBlock) (q : List ℕ) → IsContent k q → CallsNothing (block_items k q) → CallsNothing (page_items q)
+pub own_calm : (k : TextBlock) (q : List ℕ) → IsContent k q → CallsNothing (block_items k q) → CallsNothing (page_items q)
 own_calm a_paragraph q h c = c
 own_calm (a_heading s) q h c =
     let f = content_frame (a_heading s) q h in
