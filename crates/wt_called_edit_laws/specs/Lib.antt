@@ -31,3 +31,5 @@ pub mod CallingGroups
 pub mod Written
 pub mod WrittenAnew
 pub mod SentAsIs
+pub mod PlacedBlocks
+pub mod PlacedSpots

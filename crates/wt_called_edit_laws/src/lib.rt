@@ -70,8 +70,16 @@ ghost use Rattle.wt_selser.specs.GroupFaults.{paragraph_face};
 ghost use Rattle.wt_called_edit_laws.specs.WrittenAnew.{node_sources, StayButForOthers, IsWrittenBeside, HoldsAnywhere, EachHolds};
 
 mod body_paragraphs;
+mod placed_blocks;
 
-pub use body_paragraphs::paragraphs_of_the_body_may_be_edited;
+pub use body_paragraphs::{
+    nodes_of_paragraphs_of_the_body_stay, paragraphs_of_the_body_are_edited,
+    paragraphs_of_the_body_may_be_edited,
+};
+pub use placed_blocks::{
+    all_blocks_at_their_places_may_be_edited, blocks_at_their_places_may_be_edited,
+    lines_of_a_page_are_blocks_of_it,
+};
 
 /// A page with blocks among calls, and with calls in them, none of which goes over the end of a part, is expanded part by
 /// part: its items are those of what stands before, between and behind the blocks, and of the blocks, with the numbers that
