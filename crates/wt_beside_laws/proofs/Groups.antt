@@ -11,4 +11,4 @@ pub mod CalledShown
 pub mod Bare
 pub mod Folders
 pub mod Faults
-mod Cases
+pub mod Cases
