@@ -30,6 +30,7 @@ pub mod BareInsides
 mod SettledCases
 pub mod Settles
 pub mod SettledPages
+pub mod SettledAt
 pub mod RunsFree
 pub mod FreePlaces
 pub mod GroupsKept

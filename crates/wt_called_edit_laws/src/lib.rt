@@ -48,6 +48,7 @@ ghost use Rattle.wt_called_edit_laws.specs.ChosenContents.{HasContentEdits};
 ghost use Rattle.wt_called_edit_laws.specs.ContentsTaken.{TakesContents};
 ghost use Rattle.wt_called_edit_laws.specs.EditsAt.{Fits, AllStand};
 ghost use Rattle.wt_called_edit_laws.specs.Settled.{IsSettled};
+ghost use Rattle.wt_called_edit_laws.specs.SettledAt.{BlocksAtPaths};
 ghost use Rattle.wt_called_edit_laws.specs.SettledPages.{OnlyTextsAreOthers, OnlyBlocksAreOthers};
 ghost use Rattle.wt_called_edit_laws.specs.Covered.{CleanWhereFree, IsEditablePage};
 ghost use Rattle.wt_called_edit_laws.specs.CallingBlocks.{IsContentIn, IsNewContentIn, AreEdited, AreCallingBlocks, tree_with_calls, CallingBlocksStand};
@@ -379,6 +380,13 @@ pub fn only_typed_texts_among_calls_are_others()
 #[tactic(auto, using(crate::proofs::SettledPages::only_blocks))]
 pub fn only_blocks_that_call_are_others()
     ensures { (pages : Pages) (ss : List BlockSpot) (behind : List ℕ) → AreCallingOutside pages ss behind → OnlyBlocksAreOthers pages ss behind }
+{}
+
+/// Each of these blocks is at a path of the page's tree, with its groups, and with the number and the place that the rest of
+/// the page leaves it.
+#[tactic(auto, using(crate::proofs::SettledAt::blocks_at_paths))]
+pub fn blocks_that_call_are_at_paths()
+    ensures { (pages : Pages) (ss : List BlockSpot) (behind : List ℕ) → AreCallingOutside pages ss behind → BlocksAtPaths pages ss behind }
 {}
 
 /// A page with calls, with places for blocks in its body and in the cells and captions of its tables. Where no group of
