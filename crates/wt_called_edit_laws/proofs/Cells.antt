@@ -7,6 +7,8 @@ pub mod BodyPages
 pub mod OwnParagraphs
 pub mod PlacedBlocks
 pub mod PlacedSpots
+pub mod PlacedLines
+mod PlacedCases
 pub mod TakenParagraphs
 mod Cases
 pub mod CellRows

@@ -34,3 +34,4 @@ pub mod WrittenAnew
 pub mod SentAsIs
 pub mod PlacedBlocks
 pub mod PlacedSpots
+pub mod PlacedLines

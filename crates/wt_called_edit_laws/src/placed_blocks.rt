@@ -3,6 +3,7 @@
 ghost use Rattle.std.specs.Prelude.{◌≡◌, List, [], ◌∷◌, ℕ};
 ghost use Rattle.std.specs.Str.{IsUtf8};
 ghost use Rattle.wt_span.specs.Items.{Item, sources};
+ghost use Rattle.wt_lines.specs.Lines.{full_lines};
 ghost use Rattle.wt_expand.specs.PageItems.{page_items};
 ghost use Rattle.wt_expand.specs.Work.{Pages};
 ghost use Rattle.wt_text_edit_laws.specs.BlockSpots.{BlockSpot, spots_source};
@@ -13,6 +14,7 @@ ghost use Rattle.wt_text_edit_laws.specs.TextBlocks.{TextBlock, a_paragraph, a_h
 ghost use Rattle.wt_text_edit_laws.specs.TypedHeadings.{Sides};
 ghost use Rattle.wt_called_edit_laws.specs.CalledPages.{IsCalledPage};
 ghost use Rattle.wt_called_edit_laws.specs.PlacedBlocks.{IsBlockIn, block_spot, IsFreeIn, IsHeadingOn, IsParagraphOn};
+ghost use Rattle.wt_called_edit_laws.specs.PlacedLines.{LinedBlock, all_lines, spots_by, end_by, AreLined, AllClosed};
 ghost use Rattle.wt_called_edit_laws.specs.PlacedSpots.{AreBlocksIn};
 
 /// Some lines of a page are a paragraph of it, or one is a heading's, in the body, in a cell or in a caption: whatever they
@@ -38,4 +40,13 @@ pub fn all_blocks_at_their_places_may_be_edited()
     ensures { (pages : Pages) (ss : List BlockSpot) (behind : List ℕ) → IsUtf8 (spots_source ss behind)
         → CallsNothing (page_items (spots_source ss behind)) → HasNoGroups (spots_source ss behind) → AreBlocksIn ss behind → AreFree ss
         → IsCalledPage pages ss behind }
+{}
+
+/// Any number of paragraphs and headings may be told by the page's lines: those before each, its own, and those behind the
+/// last (`AreLined`). The page's items are cut at each of them, so that this page may be edited with all of them.
+pub fn lines_of_a_page_are_cut_at_its_blocks()
+    ensures whole { (page : List ℕ) (ls : List LinedBlock) (behind : List (List Item)) → full_lines (page_items page) ≡ all_lines ls behind → AreLined ls behind
+        → spots_source (spots_by [] ls) (end_by [] ls behind) ≡ page }
+    ensures blocks { (page : List ℕ) (ls : List LinedBlock) (behind : List (List Item)) → full_lines (page_items page) ≡ all_lines ls behind
+        → AllClosed (spots_by [] ls) (end_by [] ls behind) → AreLined ls behind → AreBlocksIn (spots_by [] ls) (end_by [] ls behind) }
 {}

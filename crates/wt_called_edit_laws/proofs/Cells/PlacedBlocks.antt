@@ -119,11 +119,11 @@ block_called pages page k q b f = calm_contents pages (block_spot k q b.before �
 
 -- ---- a heading by lines
 
-own_first : (xs ys : List Item) → OwnBreaks (xs ++ ys) → OwnBreaks xs
+pub own_first : (xs ys : List Item) → OwnBreaks (xs ++ ys) → OwnBreaks xs
 own_first [] ys h = tt
 own_first (x ∷ xs) ys h = (h.0, own_first xs ys h.1)
 
-own_rest : (xs ys : List Item) → OwnBreaks (xs ++ ys) → OwnBreaks ys
+pub own_rest : (xs ys : List Item) → OwnBreaks (xs ++ ys) → OwnBreaks ys
 own_rest [] ys h = h
 own_rest (x ∷ xs) ys h = own_rest xs ys h.1
 
@@ -207,11 +207,11 @@ texts_at : (n : ℕ) (ls : List (List Item)) → AreLinesAt n ls → All (λ (l 
 texts_at n [] h = All-nil (λ (l : List Item). line_kind n l ≡ line.Text)
 texts_at n (l ∷ ls) h = All-cons (λ (l : List Item). line_kind n l ≡ line.Text) (content l) (map content ls) h.1 (texts_at n ls h.3)
 
-record OwnLines (n : ℕ) (ps : List Item) : Type 0 where
-  items : begins_unmarked (content ps) ≡ true → AreTextItems (sources (content ps)) (content ps)
-  stays : StayText a_paragraph n (content ps)
+pub record OwnLines (n : ℕ) (ps : List Item) : Type 0 where
+  pub items : begins_unmarked (content ps) ≡ true → AreTextItems (sources (content ps)) (content ps)
+  pub stays : StayText a_paragraph n (content ps)
 
-own_lines : (n : ℕ) (ps : List Item) (ts : List (List Item)) (y : Item) (ys : List Item) → ps ≡ y ∷ ys → full_lines ps ≡ ts → AreLinesAt n ts → OwnLines n ps
+pub own_lines : (n : ℕ) (ps : List Item) (ts : List (List Item)) (y : Item) (ys : List Item) → ps ≡ y ∷ ys → full_lines ps ≡ ts → AreLinesAt n ts → OwnLines n ps
 own_lines n [] ts y ys is e h = cc
 own_lines n (x ∷ ps) ts y ys is e h =
     let own : lines (content (x ∷ ps)) ≡ map content ts = content_lines x ps ∙ ap (map content) e in
@@ -235,7 +235,7 @@ paragraph_leads ls are whole cells apart =
       apart = subst EndApart (sym (ap (λ (xs : List Item). written_rows 0 (full_lines xs)) same ∙ ap (written_rows 0) are)) apart;
     }
 
-text_last : (n : ℕ) (es : List Item) → IsEnding es → BeginApart (rows_from n []) → EndsAfter a_paragraph n (es ++ [])
+pub text_last : (n : ℕ) (es : List Item) → IsEnding es → BeginApart (rows_from n []) → EndsAfter a_paragraph n (es ++ [])
 text_last n [] h s = tt
 text_last n (x ∷ es) h s = (h.0, subst (λ (ys : List Item). BeginApart (rows_from n (full_lines (ys ++ [])))) (sym h.1) s)
 

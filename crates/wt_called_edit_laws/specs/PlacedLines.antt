@@ -1,0 +1,70 @@
+-- Any number of paragraphs and headings of a page where they are in it, by the page's lines: in the body, in cells and in captions.
+use Rattle.std.specs.Prelude.{◌≡◌, ℕ, true, Bool, List, [], ◌∷◌, ◌++◌, length}
+use Rattle.wt_span.specs.Items.{Item, sources}
+use Rattle.wt_lines.specs.Lines.{content}
+use Rattle.wt_headings.specs.Lines.{ending}
+use Rattle.wt_tables.specs.Parts.{joined}
+use Rattle.wt_page.specs.Rows.{rows_from}
+use Rattle.wt_row_laws.specs.Slots.{AllTrue}
+use Rattle.wt_text_edit_laws.specs.BlockSpots.{BlockSpot, spots_source}
+use Rattle.wt_text_edit_laws.specs.PageCuts.{AreBlockItems, begins_unmarked, EndsClosed}
+use Rattle.wt_text_edit_laws.specs.ParagraphBetween.{written_rows, BeginApart}
+use Rattle.wt_text_edit_laws.specs.TextBlocks.{TextBlock, a_paragraph, a_heading, source_of}
+use Rattle.wt_called_edit_laws.specs.AnyBlocks.{open_after, EndsFor, NextApart}
+use Rattle.wt_called_edit_laws.specs.PlacedBlocks.{AreLinesAt}
+
+-- a block with its lines, and those before it, behind the one before or at the page's start
+pub record LinedBlock : Type 0 where
+  pub before : List (List Item)
+  pub block : TextBlock
+  pub text : List ℕ
+  pub first : List Item
+  pub more : List (List Item)
+
+abbrev pub all_lines : List LinedBlock → List (List Item) → List (List Item)
+all_lines [] behind = behind
+all_lines (b ∷ bs) behind = b.before ++ ((b.first ∷ b.more) ++ all_lines bs behind)
+
+-- as parts of a page, where this is left of the line before
+abbrev pub spots_by : List Item → List LinedBlock → List BlockSpot
+spots_by es [] = []
+spots_by es (b ∷ bs) =
+    record { before = sources (es ++ joined b.before); block = b.block; text = b.text } ∷ spots_by (ending (joined (b.first ∷ b.more))) bs
+
+abbrev pub end_by : List Item → List LinedBlock → List (List Item) → List ℕ
+end_by es [] behind = sources (es ++ joined behind)
+end_by es (b ∷ bs) behind = end_by (ending (joined (b.first ∷ b.more))) bs behind
+
+-- ---- where they stand
+
+-- its own lines, where so many tables are open
+abbrev pub OwnLined : TextBlock → ℕ → List ℕ → List (List Item) → Type 0
+OwnLined a_paragraph n q ls = AreLinesAt n ls × (begins_unmarked (content (joined ls)) ≡ true) × (sources (content (joined ls)) ≡ q)
+OwnLined (a_heading s) n q ls = AreBlockItems (a_heading s) q (content (joined ls))
+
+-- in the body, in a cell or in a caption, and before a paragraph is no text
+abbrev pub IsLinedAt : List Bool → LinedBlock → Type 0
+IsLinedAt open_tables b =
+    AllTrue (open_after open_tables (written_rows (length open_tables) b.before)) × EndsFor b.block (written_rows (length open_tables) b.before)
+    × OwnLined b.block (length (open_after open_tables (written_rows (length open_tables) b.before))) b.text (b.first ∷ b.more)
+
+-- behind a paragraph is no text
+abbrev pub LinesApart : TextBlock → ℕ → List (List Item) → Type 0
+LinesApart a_paragraph n ls = BeginApart (rows_from n ls)
+LinesApart (a_heading s) n ls = Unit {0}
+
+abbrev pub AreLinedAfter : TextBlock → List Bool → List LinedBlock → List (List Item) → Type 0
+AreLinedAfter last open_tables [] behind = LinesApart last (length open_tables) behind
+AreLinedAfter last open_tables (b ∷ bs) behind =
+    NextApart last b.block (written_rows (length open_tables) b.before) × IsLinedAt open_tables b
+    × AreLinedAfter b.block (open_after open_tables (written_rows (length open_tables) b.before)) bs behind
+
+-- there is one at least
+abbrev pub AreLined : List LinedBlock → List (List Item) → Type 0
+AreLined [] behind = ⊥
+AreLined (b ∷ bs) behind = IsLinedAt [] b × AreLinedAfter b.block (open_after [] (written_rows 0 b.before)) bs behind
+
+-- one that ends the page holds no mark that nothing ends
+abbrev pub AllClosed : List BlockSpot → List ℕ → Type 0
+AllClosed [] behind = Unit {0}
+AllClosed (s ∷ ss) behind = EndsClosed (source_of s.block s.text) (spots_source ss behind) × AllClosed ss behind
