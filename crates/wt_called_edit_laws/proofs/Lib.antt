@@ -31,6 +31,7 @@ mod SettledCases
 pub mod Settles
 pub mod SettledPages
 pub mod SettledAt
+pub mod PartTexts
 pub mod RunsFree
 pub mod FreePlaces
 pub mod GroupsKept
