@@ -14,6 +14,7 @@ pub mod ContentsTaken
 pub mod Settled
 pub mod SettledPages
 pub mod SettledAt
+pub mod PartTexts
 pub mod Covered
 pub mod Parts
 pub mod Retyped

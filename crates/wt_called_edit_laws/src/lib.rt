@@ -48,6 +48,7 @@ ghost use Rattle.wt_called_edit_laws.specs.ChosenContents.{HasContentEdits};
 ghost use Rattle.wt_called_edit_laws.specs.ContentsTaken.{TakesContents};
 ghost use Rattle.wt_called_edit_laws.specs.EditsAt.{Fits, AllStand};
 ghost use Rattle.wt_called_edit_laws.specs.Settled.{IsSettled};
+ghost use Rattle.wt_called_edit_laws.specs.PartTexts.{AreTextsOfPage, HasItsText};
 ghost use Rattle.wt_called_edit_laws.specs.SettledAt.{BlocksAtPaths};
 ghost use Rattle.wt_called_edit_laws.specs.SettledPages.{OnlyTextsAreOthers, OnlyBlocksAreOthers};
 ghost use Rattle.wt_called_edit_laws.specs.Covered.{CleanWhereFree, IsEditablePage};
@@ -379,6 +380,18 @@ pub fn only_blocks_that_call_are_others()
 #[tactic(auto, using(crate::proofs::SettledAt::blocks_at_paths))]
 pub fn blocks_that_call_are_at_paths()
     ensures { (pages : Pages) (ss : List BlockSpot) (behind : List ℕ) → AreCallingOutside pages ss behind → BlocksAtPaths pages ss behind }
+{}
+
+/// What is on the page for the items of each of these blocks is the block, whatever calls come before it.
+#[tactic(auto, using(crate::proofs::PartTexts::block_texts))]
+pub fn blocks_are_on_the_page_for_their_items()
+    ensures { (pages : Pages) (ss : List BlockSpot) (behind : List ℕ) → AreCalled pages ss behind → AreTextsOfPage pages ss behind }
+{}
+
+/// And the source of a block that holds its calls, with the groups in it, is that.
+#[tactic(auto, using(crate::proofs::BlockTexts::block_flat))]
+pub fn blocks_that_call_have_their_texts()
+    ensures { (calls : List OuterCall) (t : ItemTree) → HasItsText calls t }
 {}
 
 /// A page with calls, with places for blocks in its body and in the cells and captions of its tables. Where no group of
