@@ -8,3 +8,5 @@ pub mod Held
 pub mod AllHeld
 pub mod NewContents
 pub mod Cases
+pub mod InPieces
+mod PieceCases

@@ -29,6 +29,7 @@ pub mod ItemSpots
 pub mod CalledBlocks
 pub mod CallingBlocks
 pub mod CallingGroups
+pub mod InPieces
 pub mod Written
 pub mod WrittenAnew
 pub mod SentAsIs
