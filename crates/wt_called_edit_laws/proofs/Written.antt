@@ -9,4 +9,5 @@ pub mod AllHeld
 pub mod NewContents
 pub mod Cases
 pub mod InPieces
+pub mod FromPage
 mod PieceCases

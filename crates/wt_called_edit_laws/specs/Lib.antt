@@ -30,6 +30,7 @@ pub mod CalledBlocks
 pub mod CallingBlocks
 pub mod CallingGroups
 pub mod InPieces
+pub mod PageThings
 pub mod Written
 pub mod WrittenAnew
 pub mod SentAsIs

@@ -246,7 +246,7 @@ turned (c ∷ cs) (d ∷ ds) m =
 pub written_over : (pages : Pages) (q : List ℕ) (bs : List (List ℕ)) (s : Setting) (signs : List ContentSign) → AreMoved (calls_of pages bs) (expanded_page pages q).outer
     → work_in pages q ≡ work_of pages bs → ((name us : List ℕ) → Unclosed name (q ++ us) → Each (OpenAt name) bs) → IsWrittenBeside pages s signs
     → StayButForOthers pages bs (node_sources signs) → IsNewContentIn pages a_paragraph q (spelled s signs)
-written_over pages q bs s signs old was_work open h e =
+written_over pages q bs s signs old was_work opens h e =
     let r : List ℕ = spelled s signs in
     let now : IsCalledIn pages s signs = h.called in
     let b = content_written pages s signs now.of_block h.read h.parts in
@@ -260,7 +260,7 @@ written_over pages q bs s signs old was_work open h e =
         read = record {
           read = read_so pages s signs h;
           firm = called_firm s signs now.of_block h.read;
-          closes = λ name us vs o v. closes_so s bs signs pages e h name vs (open name us o) v;
+          closes = λ name us vs o v. closes_so s bs signs pages e h name vs (opens name us o) v;
         };
         anywhere = part.anywhere;
         left = part.left;
