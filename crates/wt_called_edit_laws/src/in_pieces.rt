@@ -15,7 +15,6 @@ ghost use Rattle.wt_called_edit_laws.specs.WrittenAnew.{node_sources, StayButFor
 
 /// A paragraph of the page, whatever it is, may be cut in pieces (`AreInPieces`): texts, calls and other nodes, of which each gives what it gives by
 /// itself. A paragraph of texts beside some of these pieces, in their order, each that calls among them, is a new content in its place.
-#[tactic(auto, using(crate::proofs::Written::InPieces::pieces_anew))]
 pub fn paragraphs_in_pieces_may_be_written_anew()
     ensures { (pages : Pages) (bs : List (List ℕ)) (s : Setting) (signs : List ContentSign) → AreInPieces pages bs → IsWrittenBeside pages s signs
         → StayButForOthers pages bs (node_sources signs) → IsNewContentIn pages a_paragraph (pieces_source bs) (spelled s signs) }
@@ -23,7 +22,6 @@ pub fn paragraphs_in_pieces_may_be_written_anew()
 
 /// So any texts may be typed beside the calls and the other nodes of a paragraph of the page (`ArePageThings`): the calls give words, each node stays
 /// what it is beside text, and no two that the page has side by side join. Each that calls stays, any other may go, and text is first and last.
-#[tactic(auto, using(crate::proofs::Written::FromPage::beside_these, crate::proofs::Written::FromPage::page_takes))]
 pub fn paragraphs_of_the_page_take_texts_beside_calls()
     ensures beside { (pages : Pages) (olds : List Thing) (s : Setting) (signs : List ContentSign) → s.within ≡ false → AreCharacters signs → BeginsWithText signs
         → EndsWithText signs → ArePageThings pages olds → ThingsStay pages olds (things signs) → IsWrittenBeside pages s signs }
