@@ -30,6 +30,8 @@ pub mod ItemSpots
 pub mod CalledBlocks
 pub mod CallingBlocks
 pub mod CallingGroups
+pub mod InPieces
+pub mod PageThings
 pub mod Written
 pub mod WrittenAnew
 pub mod SentAsIs

@@ -72,8 +72,12 @@ ghost use Rattle.wt_selser.specs.GroupFaults.{paragraph_face};
 ghost use Rattle.wt_called_edit_laws.specs.WrittenAnew.{node_sources, StayButForOthers, IsWrittenBeside, HoldsAnywhere, EachHolds};
 
 mod body_paragraphs;
+mod in_pieces;
 
 pub use body_paragraphs::paragraphs_of_the_body_may_be_edited;
+pub use in_pieces::{
+    paragraphs_in_pieces_may_be_written_anew, paragraphs_of_the_page_take_texts_beside_calls,
+};
 
 /// A page with blocks among calls, and with calls in them, none of which goes over the end of a part, is expanded part by
 /// part: its items are those of what stands before, between and behind the blocks, and of the blocks, with the numbers that
