@@ -35,3 +35,5 @@ pub mod PageThings
 pub mod Written
 pub mod WrittenAnew
 pub mod SentAsIs
+pub mod PlacedBlocks
+pub mod PlacedSpots

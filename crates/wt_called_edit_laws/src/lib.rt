@@ -73,10 +73,18 @@ ghost use Rattle.wt_called_edit_laws.specs.WrittenAnew.{node_sources, StayButFor
 
 mod body_paragraphs;
 mod in_pieces;
+mod placed_blocks;
 
-pub use body_paragraphs::paragraphs_of_the_body_may_be_edited;
+pub use body_paragraphs::{
+    nodes_of_paragraphs_of_the_body_stay, paragraphs_of_the_body_are_edited,
+    paragraphs_of_the_body_may_be_edited,
+};
 pub use in_pieces::{
     paragraphs_in_pieces_may_be_written_anew, paragraphs_of_the_page_take_texts_beside_calls,
+};
+pub use placed_blocks::{
+    all_blocks_at_their_places_may_be_edited, blocks_at_their_places_may_be_edited,
+    lines_of_a_page_are_blocks_of_it,
 };
 
 /// A page with blocks among calls, and with calls in them, none of which goes over the end of a part, is expanded part by
