@@ -1,13 +1,17 @@
 -- Any number of paragraphs and headings of a page where they are in it, by the page's lines: in the body, in cells and in captions.
 use Rattle.std.specs.Prelude.{◌≡◌, ℕ, true, Bool, List, [], ◌∷◌, ◌++◌, length}
+use Rattle.std.specs.Str.{IsUtf8}
 use Rattle.wt_span.specs.Items.{Item, sources}
-use Rattle.wt_lines.specs.Lines.{content}
+use Rattle.wt_expand.specs.PageItems.{page_items}
+use Rattle.wt_lines.specs.Lines.{content, full_lines}
 use Rattle.wt_headings.specs.Lines.{ending}
 use Rattle.wt_tables.specs.Parts.{joined}
 use Rattle.wt_page.specs.Rows.{rows_from}
 use Rattle.wt_row_laws.specs.Slots.{AllTrue}
 use Rattle.wt_text_edit_laws.specs.BlockSpots.{BlockSpot, spots_source}
-use Rattle.wt_text_edit_laws.specs.PageCuts.{AreBlockItems, begins_unmarked, EndsClosed}
+use Rattle.wt_text_edit_laws.specs.PageCuts.{AreBlockItems, begins_unmarked, EndsClosed, AreFree}
+use Rattle.wt_text_edit_laws.specs.NoCalls.{CallsNothing}
+use Rattle.wt_text_edit_laws.specs.Parts.{HasNoGroups}
 use Rattle.wt_text_edit_laws.specs.ParagraphBetween.{written_rows, BeginApart}
 use Rattle.wt_text_edit_laws.specs.TextBlocks.{TextBlock, a_paragraph, a_heading, source_of}
 use Rattle.wt_called_edit_laws.specs.AnyBlocks.{open_after, EndsFor, NextApart}
@@ -68,3 +72,14 @@ AreLined (b ∷ bs) behind = IsLinedAt [] b × AreLinedAfter b.block (open_after
 abbrev pub AllClosed : List BlockSpot → List ℕ → Type 0
 AllClosed [] behind = Unit {0}
 AllClosed (s ∷ ss) behind = EndsClosed (source_of s.block s.text) (spots_source ss behind) × AllClosed ss behind
+
+-- The page calls nothing, and no node of it can only be kept as a whole. Its lines are those of these blocks, and those beside them; and no block is
+-- tangled.
+pub record IsLinedPage (page : List ℕ) (bs : List LinedBlock) (behind : List (List Item)) : Type 0 where
+  pub utf8 : IsUtf8 page
+  pub calls_nothing : CallsNothing (page_items page)
+  pub ungrouped : HasNoGroups page
+  pub are : full_lines (page_items page) ≡ all_lines bs behind
+  pub lined : AreLined bs behind
+  pub closed : AllClosed (spots_by [] bs) (end_by [] bs behind)
+  pub free : AreFree (spots_by [] bs)

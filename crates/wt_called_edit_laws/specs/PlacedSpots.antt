@@ -1,9 +1,12 @@
 -- Any number of paragraphs and headings of a page where they are in it, by the page's items: in the body, in cells and in captions.
 use Rattle.std.specs.Prelude.{ℕ, Bool, List, [], ◌∷◌, length}
+use Rattle.std.specs.Str.{IsUtf8}
 use Rattle.wt_span.specs.Items.{Item}
 use Rattle.wt_expand.specs.PageItems.{page_items}
 use Rattle.wt_text_edit_laws.specs.BlockSpots.{BlockSpot, spots_source}
-use Rattle.wt_text_edit_laws.specs.PageCuts.{IsSpotCut, BeginsBreak, EndsThere, EndsClosed}
+use Rattle.wt_text_edit_laws.specs.NoCalls.{CallsNothing}
+use Rattle.wt_text_edit_laws.specs.PageCuts.{IsSpotCut, BeginsBreak, EndsThere, EndsClosed, AreFree}
+use Rattle.wt_text_edit_laws.specs.Parts.{HasNoGroups}
 use Rattle.wt_text_edit_laws.specs.TextBetween.{AreEnded}
 use Rattle.wt_text_edit_laws.specs.TextBlocks.{TextBlock, source_of}
 use Rattle.wt_called_edit_laws.specs.AnyBlocks.{open_behind_part, LeadsInto, past_break, BeginsAfter, EndsAfter}
@@ -25,3 +28,11 @@ AreBlocksIn (s ∷ ss) behind =
     (c : IsSpotCut s (page_items (spots_source (s ∷ ss) behind))) × AreEnded s.before × EndsClosed (source_of s.block s.text) (spots_source ss behind)
     × LeadsInto s.block [] c.before × StayText s.block (length (open_behind_part [] c.before)) c.own
     × AreFurtherIn s.block (open_behind_part [] c.before) ss behind c.rest
+
+-- The page calls nothing, and no node of it can only be kept as a whole. Such blocks are at their places in it, and none is tangled.
+pub record IsPlacedPage (ss : List BlockSpot) (behind : List ℕ) : Type 0 where
+  pub utf8 : IsUtf8 (spots_source ss behind)
+  pub calls_nothing : CallsNothing (page_items (spots_source ss behind))
+  pub ungrouped : HasNoGroups (spots_source ss behind)
+  pub blocks : AreBlocksIn ss behind
+  pub free : AreFree ss

@@ -1,21 +1,17 @@
 //! Laws of paragraphs and headings where they are in a page, by its items or by its lines: their contents may be edited.
 
 ghost use Rattle.std.specs.Prelude.{◌≡◌, List, [], ◌∷◌, ℕ};
-ghost use Rattle.std.specs.Str.{IsUtf8};
 ghost use Rattle.wt_span.specs.Items.{Item, sources};
 ghost use Rattle.wt_lines.specs.Lines.{full_lines};
 ghost use Rattle.wt_expand.specs.PageItems.{page_items};
 ghost use Rattle.wt_expand.specs.Work.{Pages};
 ghost use Rattle.wt_text_edit_laws.specs.BlockSpots.{BlockSpot, spots_source};
-ghost use Rattle.wt_text_edit_laws.specs.NoCalls.{CallsNothing};
-ghost use Rattle.wt_text_edit_laws.specs.PageCuts.{AreFree};
-ghost use Rattle.wt_text_edit_laws.specs.Parts.{HasNoGroups};
 ghost use Rattle.wt_text_edit_laws.specs.TextBlocks.{TextBlock, a_paragraph, a_heading};
 ghost use Rattle.wt_text_edit_laws.specs.TypedHeadings.{Sides};
 ghost use Rattle.wt_called_edit_laws.specs.CalledPages.{IsCalledPage};
 ghost use Rattle.wt_called_edit_laws.specs.PlacedBlocks.{IsBlockIn, block_spot, IsFreeIn, IsHeadingOn, IsParagraphOn};
-ghost use Rattle.wt_called_edit_laws.specs.PlacedLines.{LinedBlock, all_lines, spots_by, end_by, AreLined, AllClosed};
-ghost use Rattle.wt_called_edit_laws.specs.PlacedSpots.{AreBlocksIn};
+ghost use Rattle.wt_called_edit_laws.specs.PlacedLines.{LinedBlock, all_lines, spots_by, end_by, AreLined, IsLinedPage};
+ghost use Rattle.wt_called_edit_laws.specs.PlacedSpots.{IsPlacedPage};
 
 /// Some lines of a page are a paragraph of it, or one is a heading's, in the body, in a cell or in a caption: whatever they
 /// hold and whatever is round them. Of a paragraph each line is text there, none has a mark before it, and no other text
@@ -34,12 +30,10 @@ pub fn blocks_at_their_places_may_be_edited()
         → IsCalledPage pages (block_spot k q b.before ∷ []) (sources b.rest) }
 {}
 
-/// So with any number of them at once, at each of which the page's items are cut (`AreBlocksIn`).
+/// So with any number of them at once, at each of which the page's items are cut (`IsPlacedPage`).
 #[tactic(auto, using(crate::proofs::Cells::PlacedSpots::spots_called))]
 pub fn all_blocks_at_their_places_may_be_edited()
-    ensures { (pages : Pages) (ss : List BlockSpot) (behind : List ℕ) → IsUtf8 (spots_source ss behind)
-        → CallsNothing (page_items (spots_source ss behind)) → HasNoGroups (spots_source ss behind) → AreBlocksIn ss behind → AreFree ss
-        → IsCalledPage pages ss behind }
+    ensures { (pages : Pages) (ss : List BlockSpot) (behind : List ℕ) → IsPlacedPage ss behind → IsCalledPage pages ss behind }
 {}
 
 /// Any number of paragraphs and headings may be told by the page's lines: those before each, its own, and those behind the
@@ -47,6 +41,8 @@ pub fn all_blocks_at_their_places_may_be_edited()
 pub fn lines_of_a_page_are_cut_at_its_blocks()
     ensures whole { (page : List ℕ) (ls : List LinedBlock) (behind : List (List Item)) → full_lines (page_items page) ≡ all_lines ls behind → AreLined ls behind
         → spots_source (spots_by [] ls) (end_by [] ls behind) ≡ page }
-    ensures blocks { (page : List ℕ) (ls : List LinedBlock) (behind : List (List Item)) → full_lines (page_items page) ≡ all_lines ls behind
-        → AllClosed (spots_by [] ls) (end_by [] ls behind) → AreLined ls behind → AreBlocksIn (spots_by [] ls) (end_by [] ls behind) }
+    ensures blocks { (page : List ℕ) (ls : List LinedBlock) (behind : List (List Item)) → IsLinedPage page ls behind
+        → IsPlacedPage (spots_by [] ls) (end_by [] ls behind) }
+    ensures called { (pages : Pages) (page : List ℕ) (ls : List LinedBlock) (behind : List (List Item)) → IsLinedPage page ls behind
+        → IsCalledPage pages (spots_by [] ls) (end_by [] ls behind) }
 {}

@@ -5,3 +5,4 @@ pub mod AmongCalls
 pub mod CalmCalls
 pub mod TextCalls
 pub mod ProseCalls
+pub mod PlacedCalls

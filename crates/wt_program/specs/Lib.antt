@@ -4,3 +4,4 @@ pub mod AnyCalls
 pub mod CalledCalls
 pub mod ContentCalls
 pub mod ProseCalls
+pub mod PlacedCalls

@@ -8,6 +8,7 @@ ghost use Rattle.wt_program.specs.CalledCalls.{TakesTextsAmongCalls};
 ghost use Rattle.wt_program.specs.Calls.{TakesTexts};
 ghost use Rattle.wt_program.specs.CellCalls.{TakesTextsInCells};
 ghost use Rattle.wt_program.specs.ContentCalls.{TakesContentsAmongCalls};
+ghost use Rattle.wt_program.specs.PlacedCalls.{TakesContentsAtPlaces, TakesTextsAtPlaces, TakesContentsInLines, TakesTextsInLines};
 ghost use Rattle.wt_program.specs.ProseCalls.{TakesChangedProse};
 
 /// Every call that keeps what `run` of `wt_pagetool` promises (`Ends`, `EndsAsEdit`) takes edited contents of paragraphs
@@ -60,6 +61,23 @@ pub fn calls_take_texts()
 #[tactic(auto, using(crate::proofs::CellsCalls::takes_in_cells))]
 pub fn calls_take_texts_in_cells()
     ensures { (c : Call) (ended : ℕ) → Ends c ended → EndsAsEdit c ended → TakesTextsInCells c ended }
+{}
+
+/// Where a call takes contents on pages with calls, it takes those of paragraphs and headings that aren't tangled, at their
+/// places in a page that calls nothing and in which no node can only be kept as a whole (`IsPlacedPage`): whatever they
+/// hold and whatever is round them, in the body, in cells and in captions. So it takes texts. The same is said of such a
+/// page by its lines (`IsLinedPage`).
+pub fn contents_at_their_places_are_taken_so()
+    ensures contents { (c : Call) (ended : ℕ) → TakesContentsAmongCalls c ended → TakesContentsAtPlaces c ended }
+    ensures texts { (c : Call) (ended : ℕ) → TakesContentsAmongCalls c ended → TakesTextsAtPlaces c ended }
+    ensures contents_in_lines { (c : Call) (ended : ℕ) → TakesContentsAmongCalls c ended → TakesContentsInLines c ended }
+    ensures texts_in_lines { (c : Call) (ended : ℕ) → TakesContentsAmongCalls c ended → TakesTextsInLines c ended }
+{}
+
+/// So every call that keeps what `run` of `wt_pagetool` promises takes these contents and texts.
+pub fn calls_take_contents_in_lines()
+    ensures contents { (c : Call) (ended : ℕ) → Ends c ended → EndsAsEdit c ended → TakesContentsInLines c ended }
+    ensures texts { (c : Call) (ended : ℕ) → Ends c ended → EndsAsEdit c ended → TakesTextsInLines c ended }
 {}
 
 /// Every such call takes paragraphs that come into a page of typed paragraphs and go from it (`IsProseChange`): `edit` has

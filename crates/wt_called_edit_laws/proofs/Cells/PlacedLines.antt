@@ -1,5 +1,6 @@
 -- Any number of paragraphs and headings of a page by its lines: the page's items are cut at each.
 use Rattle.std.proofs.Common.{◌≡◌, ℕ, Bool, List, [], ◌∷◌, ◌++◌, length, refl, sym, ap, ◌∙◌, subst, append_assoc}
+use Rattle.std.specs.Str.{IsUtf8}
 use Rattle.std.proofs.lemmas.Grind.{flat_map-append}
 use Rattle.wt_span.specs.Items.{Item, source, sources}
 use Rattle.wt_span.specs.Runs.{AreRuns}
@@ -10,9 +11,12 @@ use Rattle.wt_headings.proofs.Ends.{content_ending}
 use Rattle.wt_tables.specs.Parts.{joined}
 use Rattle.wt_page.specs.Rows.{Row, rows_from}
 use Rattle.wt_expand.specs.PageItems.{page_items}
+use Rattle.wt_expand.specs.Work.{Pages}
 use Rattle.wt_expand.proofs.PageLaws.{page_sources}
 use Rattle.wt_row_laws.specs.Slots.{AllTrue}
 use Rattle.wt_text_edit_laws.specs.BlockSpots.{spots_source}
+use Rattle.wt_text_edit_laws.specs.NoCalls.{CallsNothing}
+use Rattle.wt_text_edit_laws.specs.Parts.{HasNoGroups}
 use Rattle.wt_text_edit_laws.specs.PageCuts.{AreTextItems, AreBlockItems, EndsThere}
 use Rattle.wt_text_edit_laws.specs.ParagraphBetween.{written_rows, BeginApart}
 use Rattle.wt_text_edit_laws.specs.ParagraphParts.{break}
@@ -22,8 +26,10 @@ use Rattle.wt_text_edit_laws.proofs.Paragraphs.LineBlocks.{OwnBreaks, page_break
 use Rattle.wt_beside_laws.proofs.Derived.BlockContents.{block_source}
 use Rattle.wt_called_edit_laws.specs.AnyBlocks.{open_after, rows_of_part, EndsFor, NextApart, LeadsInto, EndsAfter}
 use Rattle.wt_called_edit_laws.specs.CalledContents.{StayText}
-use Rattle.wt_called_edit_laws.specs.PlacedLines.{LinedBlock, all_lines, spots_by, end_by, OwnLined, LinesApart, AreLinedAfter, AreLined, AllClosed}
-use Rattle.wt_called_edit_laws.specs.PlacedSpots.{AreFurtherIn, AreBlocksIn}
+use Rattle.wt_called_edit_laws.specs.CalledPages.{IsCalledPage}
+use Rattle.wt_called_edit_laws.specs.PlacedLines.{LinedBlock, all_lines, spots_by, end_by, OwnLined, LinesApart, AreLinedAfter, AreLined, AllClosed, IsLinedPage}
+use Rattle.wt_called_edit_laws.specs.PlacedSpots.{AreFurtherIn, AreBlocksIn, IsPlacedPage}
+use Rattle.wt_called_edit_laws.proofs.Cells.PlacedSpots.{spots_called}
 use Rattle.wt_called_edit_laws.proofs.Cells.PlacedBlocks.{own_first, own_rest, own_lines, text_last}
 
 -- ---- one block
@@ -248,6 +254,18 @@ lined_whole page ls behind are h =
     let runs : AreRuns goes_on (all_lines ls behind) xs = subst (λ (ks : List (List Item)). AreRuns goes_on ks xs) are (runs_are goes_on xs) in
     first_source ls behind h ∙ ap sources (sym (joined_is goes_on (all_lines ls behind) xs runs)) ∙ page_sources page
 
-pub lined_in : (page : List ℕ) (ls : List LinedBlock) (behind : List (List Item)) → full_lines (page_items page) ≡ all_lines ls behind
-    → AllClosed (spots_by [] ls) (end_by [] ls behind) → AreLined ls behind → AreBlocksIn (spots_by [] ls) (end_by [] ls behind)
-lined_in page ls behind are c h = placed ls behind (page_items page) (ap page_items (lined_whole page ls behind are h)) are (page_breaks page) c h
+pub lined_in : (page : List ℕ) (ls : List LinedBlock) (behind : List (List Item)) → IsLinedPage page ls behind
+    → IsPlacedPage (spots_by [] ls) (end_by [] ls behind)
+lined_in page ls behind h =
+    let same : spots_source (spots_by [] ls) (end_by [] ls behind) ≡ page = lined_whole page ls behind h.are h.lined in
+    record {
+      utf8 = subst IsUtf8 (sym same) h.utf8;
+      calls_nothing = subst (λ (bs : List ℕ). CallsNothing (page_items bs)) (sym same) h.calls_nothing;
+      ungrouped = subst HasNoGroups (sym same) h.ungrouped;
+      blocks = placed ls behind (page_items page) (ap page_items same) h.are (page_breaks page) h.closed h.lined;
+      free = h.free;
+    }
+
+pub lined_called : (pages : Pages) (page : List ℕ) (ls : List LinedBlock) (behind : List (List Item)) → IsLinedPage page ls behind
+    → IsCalledPage pages (spots_by [] ls) (end_by [] ls behind)
+lined_called pages page ls behind h = spots_called pages (spots_by [] ls) (end_by [] ls behind) (lined_in page ls behind h)

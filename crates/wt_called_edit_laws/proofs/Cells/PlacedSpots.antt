@@ -1,14 +1,11 @@
 -- Any number of paragraphs and headings of a page where they are in it: their contents may be edited.
 use Rattle.std.proofs.Common.{◌≡◌, ℕ, Bool, List, [], ◌∷◌, ◌++◌, length, refl, ap, ◌∙◌, sym, subst, append_assoc}
-use Rattle.std.specs.Str.{IsUtf8}
 use Rattle.std.proofs.lemmas.Grind.{flat_map-append}
 use Rattle.wt_span.specs.Items.{Item, source, sources}
 use Rattle.wt_expand.specs.PageItems.{page_items}
 use Rattle.wt_expand.specs.Work.{Pages}
 use Rattle.wt_text_edit_laws.specs.BlockSpots.{BlockSpot, spots_source, AreReadAfter, AreRead}
-use Rattle.wt_text_edit_laws.specs.NoCalls.{CallsNothing}
-use Rattle.wt_text_edit_laws.specs.PageCuts.{AreCuts, AreFurtherCuts, IsSpotCut, BeginsBreak, EndsThere, AreFree}
-use Rattle.wt_text_edit_laws.specs.Parts.{HasNoGroups}
+use Rattle.wt_text_edit_laws.specs.PageCuts.{AreCuts, AreFurtherCuts, IsSpotCut, BeginsBreak, EndsThere}
 use Rattle.wt_text_edit_laws.specs.TextBlocks.{TextBlock, source_of}
 use Rattle.wt_text_edit_laws.proofs.Cuts.ItemCuts.{front_alone, behind_alone}
 use Rattle.wt_beside_laws.proofs.Derived.BlockContents.{block_source, there_begins}
@@ -18,7 +15,7 @@ use Rattle.wt_called_edit_laws.specs.AnyBlocks.{open_behind_part, LeadsInto, pas
 use Rattle.wt_called_edit_laws.specs.CalledContents.{AreItemsOf, StayText}
 use Rattle.wt_called_edit_laws.specs.CalledPages.{IsCalledPage}
 use Rattle.wt_called_edit_laws.specs.ItemSpots.{items_of_spots, ArePlacedAfter, ArePlaced}
-use Rattle.wt_called_edit_laws.specs.PlacedSpots.{AreFurtherIn, AreBlocksIn}
+use Rattle.wt_called_edit_laws.specs.PlacedSpots.{AreFurtherIn, AreBlocksIn, IsPlacedPage}
 use Rattle.wt_called_edit_laws.proofs.CalmPages.{calm_contents}
 use Rattle.wt_called_edit_laws.proofs.Cells.ContentItems.{content_items}
 use Rattle.wt_called_edit_laws.proofs.Cells.PlacedBlocks.{stays_so}
@@ -104,9 +101,7 @@ placed (s ∷ ss) behind r h =
       further_placed s.block now ss behind c.rest r.1 p.last h.5,
     )
 
-pub spots_called : (pages : Pages) (ss : List BlockSpot) (behind : List ℕ) → IsUtf8 (spots_source ss behind)
-    → CallsNothing (page_items (spots_source ss behind)) → HasNoGroups (spots_source ss behind) → AreBlocksIn ss behind → AreFree ss
-    → IsCalledPage pages ss behind
-spots_called pages ss behind u calm ungrouped h f =
-    let read : AreRead ss behind = cut_read ss behind u calm (are_cuts ss behind h) f in
-    calm_contents pages ss behind (record { read = read; placed = placed ss behind read h; ungrouped = ungrouped })
+pub spots_called : (pages : Pages) (ss : List BlockSpot) (behind : List ℕ) → IsPlacedPage ss behind → IsCalledPage pages ss behind
+spots_called pages ss behind h =
+    let read : AreRead ss behind = cut_read ss behind h.utf8 h.calls_nothing (are_cuts ss behind h.blocks) h.free in
+    calm_contents pages ss behind (record { read = read; placed = placed ss behind read h.blocks; ungrouped = h.ungrouped })

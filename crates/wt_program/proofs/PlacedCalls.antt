@@ -1,0 +1,34 @@
+-- What a call does with contents on pages with calls it does with those at their places in pages without calls: the pages are such pages.
+use Rattle.std.proofs.Common.{ℕ, []}
+use Rattle.wt_commands.specs.Calls.{Call}
+use Rattle.wt_pagetool.specs.Promises.{Ends, EndsAsEdit}
+use Rattle.wt_called_edit_laws.specs.PlacedLines.{spots_by, end_by}
+use Rattle.wt_called_edit_laws.proofs.BlocksOutside.{called_editable}
+use Rattle.wt_called_edit_laws.proofs.Cells.PlacedLines.{lined_in}
+use Rattle.wt_called_edit_laws.proofs.Cells.PlacedSpots.{spots_called}
+use Rattle.wt_program.specs.CalledCalls.{TakesTextsAmongCalls}
+use Rattle.wt_program.specs.ContentCalls.{TakesContentsAmongCalls}
+use Rattle.wt_program.specs.PlacedCalls.{TakesContentsAtPlaces, TakesTextsAtPlaces, TakesContentsInLines, TakesTextsInLines}
+use Rattle.wt_program.proofs.AmongCalls.{calls_take}
+use Rattle.wt_program.proofs.TextCalls.{texts_so}
+
+pub contents_at : (c : Call) (ended : ℕ) → TakesContentsAmongCalls c ended → TakesContentsAtPlaces c ended
+contents_at c ended t = λ pages ss behind told h. t pages ss behind told (called_editable pages ss behind (spots_called pages ss behind h))
+
+texts_by : (c : Call) (ended : ℕ) → TakesTextsAmongCalls c ended → TakesTextsAtPlaces c ended
+texts_by c ended t = λ pages ss behind told h. t pages ss behind told (called_editable pages ss behind (spots_called pages ss behind h))
+
+pub texts_at : (c : Call) (ended : ℕ) → TakesContentsAmongCalls c ended → TakesTextsAtPlaces c ended
+texts_at c ended t = texts_by c ended (texts_so c ended t)
+
+pub contents_in : (c : Call) (ended : ℕ) → TakesContentsAmongCalls c ended → TakesContentsInLines c ended
+contents_in c ended t = λ pages page bs behind told h. contents_at c ended t pages (spots_by [] bs) (end_by [] bs behind) told (lined_in page bs behind h)
+
+pub texts_in : (c : Call) (ended : ℕ) → TakesContentsAmongCalls c ended → TakesTextsInLines c ended
+texts_in c ended t = λ pages page bs behind told h. texts_at c ended t pages (spots_by [] bs) (end_by [] bs behind) told (lined_in page bs behind h)
+
+pub calls_take_in_lines : (c : Call) (ended : ℕ) → Ends c ended → EndsAsEdit c ended → TakesContentsInLines c ended
+calls_take_in_lines c ended ends as_edit = contents_in c ended (calls_take c ended ends as_edit)
+
+pub calls_type_in_lines : (c : Call) (ended : ℕ) → Ends c ended → EndsAsEdit c ended → TakesTextsInLines c ended
+calls_type_in_lines c ended ends as_edit = texts_in c ended (calls_take c ended ends as_edit)
