@@ -15,8 +15,9 @@ use crate::call::PartAt;
 use crate::parts::{PartSign, parts_between};
 use std::alloc::Global;
 use std::marker::Model;
+use wt_functions::braces_taken;
 use wt_lex::Lexeme;
-use wt_span::{LexKind, NoMemory, Range, braces_taken, rest_of};
+use wt_span::{LexKind, NoMemory, Range, rest_of};
 
 /// A run of open braces that has two left.
 #[derive(Clone, Copy, Debug)]

@@ -1,5 +1,5 @@
 -- What is answered where a byte isn't taken.
-use Rattle.std.specs.Prelude.{ℕ, ◌==◌, Unit, Result, Ok, Err, if◌then◌else◌}
+use Rattle.std.specs.Prelude.{ℕ, ◌==◌, Result, Ok, Err, if◌then◌else◌}
 use Rattle.wt_html_grammar.specs.declared.why.HtmlWhy.{HtmlWhy}
 use Rattle.wt_html_grammar.specs.declared.why.HtmlWhy.TheVariants as why
 use Rattle.wt_html_reasons.specs.declared.refusal.Fault.{Fault}

@@ -3,7 +3,6 @@
 //! that any call may give for want of memory.
 #![tactic(auto)]
 
-mod braces;
 mod form;
 mod function;
 mod items;
@@ -19,7 +18,6 @@ mod str;
 mod tag_name;
 mod text;
 
-pub use braces::braces_taken;
 pub use form::{ItemForm, LexKind, Mode, Outer, Piece};
 pub use function::Function;
 pub use items::Items;

@@ -1,8 +1,8 @@
 use Rattle.std.proofs.Common.{refl}
 use Rattle.wt_inline.specs.View.{item_trees}
-use Rattle.wt_runs.specs.Children.{trees_after}
-use Rattle.wt_runs.proofs.ChildWalks.{follow_step}
-use Rattle.wt_runs.proofs.child.with_followers.Goals as goal
+use Rattle.wt_ranges.specs.Followers.{trees_after}
+use Rattle.wt_ranges.proofs.ChildWalks.{follow_step}
+use Rattle.wt_ranges.proofs.children.with_followers.Goals as goal
 
 pub loop-tree-preserved : goal.loop-tree-preserved
 loop-tree-preserved c =

@@ -8,8 +8,9 @@ use Rattle.wt_inline.specs.ItemTree.{ItemTree, tree_items, held_by_all, forest}
 use Rattle.wt_inline.specs.View.{item_tree, item_trees}
 use Rattle.wt_inline.specs.declared.tree.PieceTree.{PieceTree}
 use Rattle.wt_runs.specs.declared.child.Child.{Child}
-use Rattle.wt_runs.specs.declared.child.Followed.{Followed}
-use Rattle.wt_runs.specs.Children.{near_of, nears_of, children_at, tree_after, trees_after}
+use Rattle.wt_ranges.specs.declared.children.Followed.{Followed}
+use Rattle.wt_runs.specs.Children.{near_of, nears_of, children_at}
+use Rattle.wt_ranges.specs.Followers.{tree_after, trees_after}
 use Rattle.wt_annotated.specs.GroupData.{group_data}
 use Rattle.wt_annotated.specs.Seams.{first_of, last_of, parted, text_from}
 use Rattle.wt_annotated.specs.Walked.{Near, clean_at, walked}

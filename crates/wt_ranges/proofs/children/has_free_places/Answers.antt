@@ -10,7 +10,7 @@ use Rattle.wt_annotated.specs.TreeWalk.{opened, filled, HasLasts}
 use Rattle.wt_annotated.specs.Walked.{free_places}
 use Rattle.wt_annotated.proofs.Seams.{last_append}
 use Rattle.wt_annotated.proofs.TreeWalks.{held_in_all, held_parts}
-use Rattle.wt_runs.proofs.child.has_free_places.Goals as goal
+use Rattle.wt_ranges.proofs.children.has_free_places.Goals as goal
 
 last_whole : (o : Option ℕ) (n : PieceTree) → last_of o (tree_items (item_tree n)) ≡ last_of (filled o n) (items (out-PieceTree n).closing)
 last_whole o n =

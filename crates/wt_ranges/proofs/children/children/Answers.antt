@@ -2,8 +2,8 @@ use Rattle.std.proofs.Common.{◌+◌, ap, arith}
 use Rattle.wt_inline.specs.View.{item_trees}
 use Rattle.wt_runs.specs.Children.{children_at}
 use Rattle.wt_annotated.specs.Pieces.{outer_calls}
-use Rattle.wt_runs.proofs.ChildWalks.{child_is, read_first, read_room, read_step}
-use Rattle.wt_runs.proofs.child.children.Goals as goal
+use Rattle.wt_ranges.proofs.ChildWalks.{child_is, read_first, read_room, read_step}
+use Rattle.wt_ranges.proofs.children.children.Goals as goal
 
 pub loop-tree-init : goal.loop-tree-init
 loop-tree-init c = read_first (outer_calls c.args.calls.now) c.in_ok-children.children c.in_ok-followed.followed.items c.args.before c.args.after c.args.byte

@@ -1,7 +1,7 @@
 use Rattle.std.proofs.Common.{◌≡◌, drop}
 use Rattle.wt_annotated.specs.Seams.{first_found}
 use Rattle.wt_annotated.proofs.TreeWalks.{held_in_all}
-use Rattle.wt_runs.proofs.tree_seam.+finding.Given as goal
+use Rattle.wt_ranges.proofs.tree_seam.+finding.Given as goal
 
 -- what is left to look through decides
 abbrev pub invariant-first_found_in_all-loop-tree : goal.invariant-first_found_in_all-loop-tree
