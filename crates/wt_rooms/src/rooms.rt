@@ -1,6 +1,8 @@
+//! What is put into the rooms of a caller, and the lengths that are said of it.
+
 ghost use Rattle.std.specs.Prelude.{◌≡◌, ◌≤◌, ◌++◌, ◌&&◌, nat_le, drop, length};
-ghost use Rattle.wt_replies.specs.Replies.{room, IsHandedBack};
-ghost use Rattle.wt_replies.specs.ReplyView.{told_of};
+ghost use Rattle.wt_rooms.specs.Rooms.{room, IsHandedBack};
+ghost use Rattle.wt_rooms.specs.ReplyView.{told_of};
 
 use crate::reply::{Reply, SHORT};
 
@@ -46,4 +48,15 @@ pub fn hand_back(
     put(reply.line.as_slice(), line);
     put(reply.missing.as_slice(), missing);
     reply.status
+}
+
+/// Says that no text is given: memory ran out.
+pub fn hand_nothing(out_length: &mut usize, line_length: &mut usize, missing_length: &mut usize)
+    ensures out { out_length.new ≡ 0 }
+    ensures line { line_length.new ≡ 0 }
+    ensures missing { missing_length.new ≡ 0 }
+{
+    *out_length = 0;
+    *line_length = 0;
+    *missing_length = 0;
 }
