@@ -11,4 +11,5 @@ pub mod CalledShown
 pub mod Bare
 pub mod Folders
 pub mod Faults
-mod Cases
+pub mod Cases
+pub mod Meet

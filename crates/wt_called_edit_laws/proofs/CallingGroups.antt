@@ -71,7 +71,7 @@ held_there : (pages : Pages) (ss rs : List BlockSpot) (behind : List ℕ) (f : C
 held_there pages ss rs behind f t h =
     subst (AllHold (tree_with_calls pages 0 rs)) (counted_same ss rs (edited_round pages ss rs t) ∙ sym f.in_order) h
 
-edited_self : (pages : Pages) (ss : List BlockSpot) → AreEdited pages ss ss
+pub edited_self : (pages : Pages) (ss : List BlockSpot) → AreEdited pages ss ss
 edited_self pages [] = tt
 edited_self pages (s ∷ ss) = (refl, refl, inl refl, edited_self pages ss)
 

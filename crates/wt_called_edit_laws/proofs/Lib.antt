@@ -30,6 +30,9 @@ pub mod BareInsides
 mod SettledCases
 pub mod Settles
 pub mod SettledPages
+pub mod SettledAt
+pub mod PartTexts
+pub mod BlockTexts
 pub mod RunsFree
 pub mod FreePlaces
 pub mod GroupsKept

@@ -31,11 +31,11 @@ ghost use Rattle.wt_called_edit_laws.specs.UnmarkedCells.{TakesUnmarked};
 ghost use Rattle.wt_called_edit_laws.specs.InCells.{IsInCell, AreTextLines, StandsInCell};
 ghost use Rattle.wt_expand.specs.PageCalls.{expanded_page};
 ghost use Rattle.wt_called_edit_laws.specs.CalledPages.{IsCalledPage};
-ghost use Rattle.wt_called_edit_laws.specs.FreeBlocks.{AreFreeFrom};
+ghost use Rattle.wt_called_edit_laws.specs.FreeBlocks.{AreFreeFrom, NoTextCalls};
 ghost use Rattle.wt_called_edit_laws.specs.Groups.{AreOutsideGroups, GroupsStayAmong, called_tree};
 ghost use Rattle.wt_called_edit_laws.specs.Untangled.{AreUntangledFrom};
 ghost use Rattle.wt_span.specs.Origins.{OuterCall};
-ghost use Rattle.wt_inline.specs.ItemTree.{ItemTree};
+ghost use Rattle.wt_inline.specs.ItemTree.{ItemTree, plain};
 ghost use Rattle.wt_row_laws.specs.Frames.{Frames};
 ghost use Rattle.wt_called_trees.specs.TreeFrames.{TreeFrames};
 ghost use Rattle.wt_called_edit_laws.specs.Nodes.{NodesStayIn};
@@ -48,11 +48,13 @@ ghost use Rattle.wt_called_edit_laws.specs.ChosenContents.{HasContentEdits};
 ghost use Rattle.wt_called_edit_laws.specs.ContentsTaken.{TakesContents};
 ghost use Rattle.wt_called_edit_laws.specs.EditsAt.{Fits, AllStand};
 ghost use Rattle.wt_called_edit_laws.specs.Settled.{IsSettled};
+ghost use Rattle.wt_called_edit_laws.specs.PartTexts.{AreTextsOfPage, HasItsText};
+ghost use Rattle.wt_called_edit_laws.specs.SettledAt.{BlocksAtPaths};
 ghost use Rattle.wt_called_edit_laws.specs.SettledPages.{OnlyTextsAreOthers, OnlyBlocksAreOthers};
 ghost use Rattle.wt_called_edit_laws.specs.Covered.{CleanWhereFree, IsEditablePage};
 ghost use Rattle.wt_called_edit_laws.specs.CallingBlocks.{IsContentIn, IsNewContentIn, AreEdited, AreCallingBlocks, tree_with_calls, CallingBlocksStand};
 ghost use Rattle.wt_called_edit_laws.specs.CallingGroups.{AreCallingOutside, CallingGroupsStay, CallingNodesStay};
-ghost use Rattle.wt_called_trees.specs.HeldCalls.{HoldsItsCalls, AllHold};
+ghost use Rattle.wt_called_trees.specs.HeldCalls.{block_in, HoldsItsCalls, AllHold, block_of_texts};
 ghost use Rattle.wt_text_edit_laws.specs.Contents.{IsContent};
 ghost use Rattle.wt_text_edit_laws.specs.NoCalls.{CallsNothing};
 ghost use Rattle.wt_called_edit_laws.specs.Written.{AreReadThings, AreOwnParts, written_items, written_calls, written_work, IsWrittenAs};
@@ -61,13 +63,29 @@ ghost use Rattle.wt_guards.specs.Guards.{Setting, spelled};
 ghost use Rattle.wt_text_edit_laws.specs.ReadContents.{IsFirmlyRead};
 ghost use Rattle.wt_beside_laws.specs.Content.{content_items};
 ghost use Rattle.wt_joined_calls.specs.Expanded.{part_items};
-ghost use Rattle.wt_beside_laws.specs.Called.{items_with, owns_in, IsCalledIn};
+ghost use Rattle.wt_beside_laws.specs.Called.{items_with, owns_in, parts_with, shown_signs, called_shown, IsCalledIn};
 ghost use Rattle.wt_called_edit_laws.specs.CalledContents.{tree_round};
+ghost use Rattle.wt_tree.specs.declared.kind.Kind.TheVariants as kind;
+ghost use Rattle.wt_tree.specs.Plain.{Plains, ended, along, element, plain_before};
+ghost use Rattle.wt_annotated.specs.CutTexts.{cut_texts};
+ghost use Rattle.wt_selser.specs.GroupFaults.{paragraph_face};
 ghost use Rattle.wt_called_edit_laws.specs.WrittenAnew.{node_sources, StayButForOthers, IsWrittenBeside, HoldsAnywhere, EachHolds};
 
 mod body_paragraphs;
+mod in_pieces;
+mod placed_blocks;
 
-pub use body_paragraphs::paragraphs_of_the_body_may_be_edited;
+pub use body_paragraphs::{
+    nodes_of_paragraphs_of_the_body_stay, paragraphs_of_the_body_are_edited,
+    paragraphs_of_the_body_may_be_edited,
+};
+pub use in_pieces::{
+    paragraphs_in_pieces_may_be_written_anew, paragraphs_of_the_page_take_texts_beside_calls,
+};
+pub use placed_blocks::{
+    all_blocks_at_their_places_may_be_edited, blocks_at_their_places_may_be_edited,
+    lines_of_a_page_are_blocks_of_it,
+};
 
 /// A page with blocks among calls, and with calls in them, none of which goes over the end of a part, is expanded part by
 /// part: its items are those of what stands before, between and behind the blocks, and of the blocks, with the numbers that
@@ -184,12 +202,19 @@ pub fn blocks_with_calls_stand_at_their_places()
 {}
 
 /// What is written for texts beside calls that give words (`IsCalledIn` of `wt_beside_laws`) gives the words of these calls, and between them the texts as
-/// they are spelled, and as a paragraph it holds its calls, however many calls come before it in the page.
+/// they are spelled, and as a paragraph it holds its calls, however many calls come before it in the page. In the page's tree the words of each call are a
+/// group by themselves, and it shows the texts that were typed, and between them these words.
 pub fn written_paragraphs_hold_their_calls()
     ensures gives { (pages : Pages) (i : ℕ) (s : Setting) (signs : List ContentSign) → IsCalledIn pages s signs → AreReadThings signs → AreOwnParts pages signs
         → part_items pages i (spelled s signs) ≡ items_with s [] signs (owns_in pages i signs) }
     ensures holds { (pages : Pages) (i : ℕ) (s : Setting) (signs : List ContentSign) → IsCalledIn pages s signs → AreReadThings signs → AreOwnParts pages signs
         → HoldsItsCalls (tree_round a_paragraph (part_items pages i (spelled s signs))) }
+    ensures block { (pages : Pages) (calls : List OuterCall) (i : ℕ) (s : Setting) (signs : List ContentSign) → IsCalledIn pages s signs → AreReadThings signs
+        → AreOwnParts pages signs → block_in calls (tree_round a_paragraph (part_items pages i (spelled s signs)))
+        ≡ block_of_texts calls (plain kind.Para) [] (parts_with s [] (shown_signs pages signs) (owns_in pages i signs)) [] }
+    ensures shown { (pages : Pages) (calls : List OuterCall) (i : ℕ) (s : Setting) (signs : List ContentSign) (rest : Plains) → IsCalledIn pages s signs
+        → AreReadThings signs → AreOwnParts pages signs → plain_before (cut_texts (block_in calls (tree_round a_paragraph (part_items pages i (spelled s signs))))) rest
+        ≡ along (element paragraph_face (called_shown (shown_signs pages signs) (owns_in pages i signs) ended)) rest }
 {}
 
 /// Such a paragraph is a content in a folder, as it is written, and is a new one in the place of any other such paragraph whose nodes it has, in their order:
@@ -237,6 +262,13 @@ pub fn groups_stay_round_blocks_that_call()
 #[tactic(auto, using(crate::proofs::FreeBlocks::blocks_free))]
 pub fn text_calls_touch_no_block()
     ensures { (pages : Pages) (ss : List BlockSpot) (behind : List ℕ) → AreAmongCalls pages ss behind
+        → AreFreeFrom (expanded_page pages (spots_source ss behind)).text_calls 0 ss }
+{}
+
+/// So it is of blocks that hold calls, if none of these is text itself.
+#[tactic(auto, using(crate::proofs::FreeBlocks::calls_free))]
+pub fn text_calls_touch_no_block_that_calls()
+    ensures { (pages : Pages) (ss : List BlockSpot) (behind : List ℕ) → AreCalled pages ss behind → NoTextCalls pages ss
         → AreFreeFrom (expanded_page pages (spots_source ss behind)).text_calls 0 ss }
 {}
 
@@ -353,6 +385,25 @@ pub fn only_typed_texts_among_calls_are_others()
 #[tactic(auto, using(crate::proofs::SettledPages::only_blocks))]
 pub fn only_blocks_that_call_are_others()
     ensures { (pages : Pages) (ss : List BlockSpot) (behind : List ℕ) → AreCallingOutside pages ss behind → OnlyBlocksAreOthers pages ss behind }
+{}
+
+/// Each of these blocks is at a path of the page's tree, with its groups, and with the number and the place that the rest of
+/// the page leaves it.
+#[tactic(auto, using(crate::proofs::SettledAt::blocks_at_paths))]
+pub fn blocks_that_call_are_at_paths()
+    ensures { (pages : Pages) (ss : List BlockSpot) (behind : List ℕ) → AreCallingOutside pages ss behind → BlocksAtPaths pages ss behind }
+{}
+
+/// What is on the page for the items of each of these blocks is the block, whatever calls come before it.
+#[tactic(auto, using(crate::proofs::PartTexts::block_texts))]
+pub fn blocks_are_on_the_page_for_their_items()
+    ensures { (pages : Pages) (ss : List BlockSpot) (behind : List ℕ) → AreCalled pages ss behind → AreTextsOfPage pages ss behind }
+{}
+
+/// And the source of a block that holds its calls, with the groups in it, is that.
+#[tactic(auto, using(crate::proofs::BlockTexts::block_flat))]
+pub fn blocks_that_call_have_their_texts()
+    ensures { (calls : List OuterCall) (t : ItemTree) → HasItsText calls t }
 {}
 
 /// A page with calls, with places for blocks in its body and in the cells and captions of its tables. Where no group of

@@ -1,5 +1,5 @@
 -- A paragraph or a heading of a page, by its items there: it is read so by itself, and is a content that may be edited, where it isn't tangled.
-use Rattle.std.proofs.Common.{arith, ◌≡◌, ◌≤◌, ℕ, zero, suc, Bool, true, false, None, List, [], ◌∷◌, ◌++◌, length, map, refl, sym, ap, ◌∙◌, subst, append-nil, append_assoc}
+use Rattle.std.proofs.Common.{arith, ◌≡◌, ◌≤◌, ℕ, zero, suc, Bool, true, false, None, List, [], ◌∷◌, ◌++◌, map, refl, sym, ap, ◌∙◌, subst, append-nil, append_assoc}
 use Rattle.std.specs.Prelude.{All, ◌||◌}
 use Rattle.std.specs.Str.{IsUtf8}
 use Rattle.std.proofs.lemmas.Grind.{flat_map-append}
@@ -22,25 +22,24 @@ use Rattle.wt_moved_laws.proofs.Moved.{moved}
 use Rattle.wt_selser.specs.Edits.{is_tangled}
 use Rattle.wt_selser.specs.GroupFaults.{has_faulty_group}
 use Rattle.wt_spelling_laws.proofs.Forms.{other_byte}
-use Rattle.wt_text_edit_laws.specs.BlockSpots.{BlockSpot}
 use Rattle.wt_text_edit_laws.specs.Contents.{AreParagraphLines, IsHeadingLine, IsContentOf, IsContent}
 use Rattle.wt_text_edit_laws.specs.LonePages.{page_chars}
 use Rattle.wt_text_edit_laws.specs.NoCalls.{Brace, braces, NonePairs, CallsNothing}
 use Rattle.wt_text_edit_laws.specs.PageCuts.{begins_unmarked, AreTextItems, AreHeadingItems, AreBlockItems, IsUntangledAt, IsFreeBlock, EndsThere, EndsClosed}
 use Rattle.wt_text_edit_laws.specs.Paragraphs.{IsTextLine}
 use Rattle.wt_text_edit_laws.specs.TextBetween.{StandsBehind}
-use Rattle.wt_text_edit_laws.specs.TextBlocks.{TextBlock, a_paragraph, a_heading, source_of, block_items, block_tree, IsFrame}
-use Rattle.wt_text_edit_laws.specs.TypedHeadings.{Sides, AreSides, AreIdle, equals, opening, closing_items, heading_line, IsHeadingInside}
+use Rattle.wt_text_edit_laws.specs.TextBlocks.{TextBlock, a_paragraph, a_heading, source_of, block_items, block_tree}
+use Rattle.wt_text_edit_laws.specs.TypedHeadings.{Sides, AreIdle, equals, opening, heading_line, IsHeadingInside}
 use Rattle.wt_text_edit_laws.proofs.Between.BraceWords.{pairs_behind}
 use Rattle.wt_text_edit_laws.proofs.Between.Fronts.{items_from, byte_from}
 use Rattle.wt_text_edit_laws.proofs.Between.LessBraces.{IsSome, all_some, some_both, pairs_some, BeginsUnbraced, braces_of, items_before_start}
 use Rattle.wt_text_edit_laws.proofs.Between.LineComments.{lines_ended}
 use Rattle.wt_text_edit_laws.proofs.Blocks.Untangled.{opens_same}
-use Rattle.wt_text_edit_laws.proofs.Cuts.HeadingCuts.{HeadingCut, heading_cut, heading_source}
-use Rattle.wt_text_edit_laws.proofs.Cuts.ItemCuts.{front_alone, behind_alone, page_from}
+use Rattle.wt_text_edit_laws.proofs.Cuts.HeadingCuts.{heading_cut, heading_source}
+use Rattle.wt_text_edit_laws.proofs.Cuts.ItemCuts.{front_alone, page_from}
 use Rattle.wt_text_edit_laws.proofs.Cuts.Unmarked.{unmarked_begins, unmarked_before}
 use Rattle.wt_text_edit_laws.proofs.Cuts.Utf8Cuts.{heading_utf8}
-use Rattle.wt_text_edit_laws.proofs.Paragraphs.Texts.{EndsHere, here_begins, one_line}
+use Rattle.wt_text_edit_laws.proofs.Paragraphs.Texts.{here_begins, one_line}
 use Rattle.wt_text_edit_laws.proofs.Prose.InFront.{reads_nothing, read_items}
 use Rattle.wt_text_edit_laws.proofs.Prose.Uncommented.{BeginsUncommented}
 use Rattle.wt_selser.proofs.NoGroups.{untangled}

@@ -1,10 +1,10 @@
 -- A worked case: a page is cut at its second paragraph, `x<br>y`, by its items.
-use Rattle.std.proofs.Common.{◌≡◌, ℕ, None, List, [], ◌∷◌, ◌++◌, refl, All}
+use Rattle.std.proofs.Common.{◌≡◌, None, [], ◌∷◌, ◌++◌, refl, All}
 use Rattle.std.specs.Prelude.{codes}
 use Rattle.std.proofs.lemmas.List.Elements.{All-nil, All-cons}
-use Rattle.wt_span.specs.Comments.{comment_len, comment_line_len}
+use Rattle.wt_span.specs.Comments.{comment_len}
 use Rattle.wt_span.specs.Entities.{entity_at, named_entity, entity_names, decimal_entity, hex_entity}
-use Rattle.wt_span.specs.Items.{Item, char}
+use Rattle.wt_span.specs.Items.{char}
 use Rattle.wt_span.specs.Lexemes.{form_at, sign_word}
 use Rattle.wt_span.specs.Tags.{raw_len, include_at, opening_tag, closing_tag, tag_after, with_inside, is_extension}
 use Rattle.wt_expand.specs.PageItems.{page_items}

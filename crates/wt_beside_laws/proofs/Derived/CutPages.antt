@@ -1,5 +1,5 @@
 -- A page that calls nothing, cut at blocks that aren't tangled: it is read part by part, and each block is a content.
-use Rattle.std.proofs.Common.{arith, ◌≡◌, ◌≢◌, inl, inr, ℕ, zero, suc, ◌<◌, ◌≤◌, ◌==◌, Bool, true, false, None, List, [], ◌∷◌, ◌++◌, length, refl, sym, ap, ◌∙◌, subst, append_assoc, append-nil, length-append}
+use Rattle.std.proofs.Common.{arith, ◌≡◌, ◌≢◌, inl, inr, ℕ, zero, suc, ◌<◌, ◌≤◌, ◌==◌, Bool, true, false, None, List, [], ◌∷◌, ◌++◌, length, refl, sym, ap, ◌∙◌, subst, append_assoc, length-append}
 use Rattle.std.specs.Prelude.{map}
 use Rattle.std.specs.Str.{IsUtf8}
 use Rattle.std.proofs.lemmas.Bool.{eqb-true}
@@ -10,10 +10,10 @@ use Rattle.wt_span.specs.Items.{Item, char, sign, source, sources}
 use Rattle.wt_expand.specs.PageItems.{page_items}
 use Rattle.wt_scans.specs.Lexer.{lexer}
 use Rattle.wt_scans.specs.Scans.{after_all}
-use Rattle.wt_text_edit_laws.specs.BlockSpots.{BlockSpot, spots_source, EndBeforeBlocks, IsRead, AreReadAfter, AsAWhole, AreRead}
+use Rattle.wt_text_edit_laws.specs.BlockSpots.{BlockSpot, spots_source, EndBeforeBlocks, AreReadAfter, AreRead}
 use Rattle.wt_text_edit_laws.specs.Contents.{IsHeadingLine, IsContent}
 use Rattle.wt_text_edit_laws.specs.NoCalls.{braces, NonePairs, CallsNothing}
-use Rattle.wt_text_edit_laws.specs.PageCuts.{begins_unmarked, IsFreeBlock, BeginsBreak, EndsThere, EndsClosed, IsSpotCut, AreFurtherCuts, AreCuts, AreFree}
+use Rattle.wt_text_edit_laws.specs.PageCuts.{begins_unmarked, BeginsBreak, EndsThere, EndsClosed, IsSpotCut, AreFurtherCuts, AreCuts, AreFree}
 use Rattle.wt_text_edit_laws.specs.TextBetween.{EndsBy, is_end, AreEnded, HasEndsBefore, LineEnds}
 use Rattle.wt_text_edit_laws.specs.TextBlocks.{TextBlock, a_paragraph, a_heading, source_of, BeginsLine}
 use Rattle.wt_text_edit_laws.specs.TypedHeadings.{equals, closing, EndsLine}

@@ -4,7 +4,6 @@ use Rattle.std.specs.Prelude.{◌||◌}
 use Rattle.std.specs.Str.{IsUtf8}
 use Rattle.std.specs.List.{list_all, list_any}
 use Rattle.wt_span.specs.Items.{Item}
-use Rattle.wt_tree.specs.declared.kind.Kind.{Kind}
 use Rattle.wt_tree.specs.Kinds.{is_leaf, is_section}
 use Rattle.wt_tree.specs.Tiling.{HasNoGroup}
 use Rattle.wt_tree.specs.Tree.{Trees}
@@ -26,7 +25,7 @@ use Rattle.wt_text_edit_laws.specs.Parts.{HasNoGroups}
 use Rattle.wt_text_edit_laws.specs.ParagraphBetween.{body_with}
 use Rattle.wt_text_edit_laws.specs.TextBlocks.{TextBlock, a_paragraph, a_heading, source_of, block_items, block_tree}
 use Rattle.wt_text_edit_laws.specs.LonePages.{page_chars}
-use Rattle.wt_text_edit_laws.specs.TypedHeadings.{Sides, opening, closing_items}
+use Rattle.wt_text_edit_laws.specs.TypedHeadings.{opening, closing_items}
 use Rattle.wt_text_edit_laws.proofs.Blocks.PageItems.{all_of}
 use Rattle.wt_beside_laws.proofs.Made.OwnPages.{content_means, content_ordinary}
 

@@ -1,5 +1,5 @@
 -- A block among those that rows are cut into: the rows before it open as many tables as they end, and before a paragraph they end with no text.
-use Rattle.std.proofs.Common.{arith, ◌≡◌, ◌+◌, ℕ, zero, Bool, true, false, List, [], ◌∷◌, ◌++◌, refl, sym, ap, ◌∙◌, subst, append_assoc, append-nil}
+use Rattle.std.proofs.Common.{arith, ◌≡◌, ◌+◌, false, List, [], ◌∷◌, ◌++◌, refl, sym, ap, ◌∙◌, subst, append_assoc, append-nil}
 use Rattle.wt_lines.specs.declared.kind.LineKind.{LineKind}
 use Rattle.wt_lines.specs.declared.kind.LineKind.TheVariants as line
 use Rattle.wt_blocks.specs.Paragraphs.{is_text}
@@ -7,7 +7,6 @@ use Rattle.wt_tables.specs.Extents.{is_open, is_end}
 use Rattle.wt_page.specs.Rows.{Row}
 use Rattle.wt_row_laws.specs.Blocks.{Block, blank, table, heading, rule, lists, preformatted, paragraph, block_rows, AllAre, BeginOtherwise, IsBlock, AreBlocks}
 use Rattle.wt_row_laws.specs.Counts.{opened, ended}
-use Rattle.wt_row_laws.specs.Units.{IsUnit, HoldsUnits}
 use Rattle.wt_row_laws.proofs.Counting.{one, opened_put, ended_put, opened_onto, ended_onto}
 use Rattle.wt_row_laws.proofs.UnitCuts.{holds_units}
 use Rattle.wt_text_edit_laws.specs.BodyParagraphs.{rows_of}

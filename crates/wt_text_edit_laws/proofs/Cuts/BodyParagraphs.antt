@@ -1,18 +1,18 @@
 -- A paragraph of the body: its lines are text by themselves, and no other text is beside them.
-use Rattle.std.proofs.Common.{arith, ◌≡◌, ℕ, zero, suc, ◌+◌, Bool, true, false, None, List, [], ◌∷◌, ◌++◌, map, refl, sym, ap, ◌∙◌, subst, append_assoc, append-nil, cond, All}
+use Rattle.std.proofs.Common.{arith, ◌≡◌, ℕ, suc, ◌+◌, Bool, true, false, List, [], ◌∷◌, ◌++◌, map, refl, sym, ap, ◌∙◌, subst, append_assoc, cond, All}
 use Rattle.std.specs.Prelude.{take}
 use Rattle.wt_tree.specs.declared.kind.Kind.TheVariants as kind
-use Rattle.wt_span.specs.Items.{Item, char, is_mark, sources}
+use Rattle.wt_span.specs.Items.{Item, is_mark, sources}
 use Rattle.wt_span.specs.Runs.{AreRuns}
 use Rattle.wt_span.proofs.RunLaws.{runs_are}
 use Rattle.wt_blocks.specs.Paragraphs.{is_text}
 use Rattle.wt_lines.specs.declared.kind.LineKind.{LineKind}
 use Rattle.wt_lines.specs.declared.kind.LineKind.TheVariants as line
 use Rattle.wt_lines.specs.Lines.{lines, full_lines, content, empty_end, goes_on}
-use Rattle.wt_headings.specs.Lines.{kind_at, ending}
+use Rattle.wt_headings.specs.Lines.{ending}
 use Rattle.wt_headings.proofs.Ends.{content_ending}
 use Rattle.wt_tables.specs.Parts.{joined}
-use Rattle.wt_inline.specs.ItemTree.{ItemTree, plain, inner, forest}
+use Rattle.wt_inline.specs.ItemTree.{plain, inner, forest}
 use Rattle.wt_inline.specs.Parts.{children, Part}
 use Rattle.wt_page.specs.Rows.{Row, marks_len, whole_row, rows_from, rows}
 use Rattle.wt_page.specs.Texts.{para_parts, para}
@@ -24,9 +24,9 @@ use Rattle.wt_text_edit_laws.specs.PageCuts.{begins_unmarked, AreTextItems}
 use Rattle.wt_text_edit_laws.specs.ParagraphBetween.{written_rows, tables_behind, rows_of_lines, AreClosed, before_marks, EndApart, EndsApart, BeginApart, EndsParagraph}
 use Rattle.wt_text_edit_laws.specs.ParagraphParts.{break, joined_parts, para_with}
 use Rattle.wt_text_edit_laws.specs.Paragraphs.{IsTextLine}
-use Rattle.wt_text_edit_laws.proofs.Cuts.BodyBlocks.{BlockAt, block_at}
+use Rattle.wt_text_edit_laws.proofs.Cuts.BodyBlocks.{block_at}
 use Rattle.wt_text_edit_laws.proofs.Cuts.BodyChildren.{body_child}
-use Rattle.wt_text_edit_laws.proofs.Cuts.RowLines.{TextLine, text_line, TextLines, text_lines, whole_text, AllText, tables_count}
+use Rattle.wt_text_edit_laws.proofs.Cuts.RowLines.{text_line, text_lines, whole_text, AllText, tables_count}
 use Rattle.wt_text_edit_laws.proofs.Cuts.TextLines.{runs_behind, runs_before, joined_is, joined_both, lines_of, whole_before, no_marks_end, ending_break, IsEnding, ending_own, content_lines, AllUnled, contents_unled, lines_unled, texts_are, some_items, ended_bytes}
 use Rattle.wt_text_edit_laws.proofs.Paragraphs.LineBlocks.{OwnBreaks, page_breaks, row_parts}
 use Rattle.wt_text_edit_laws.proofs.Texts.PlainRows.{text_row}

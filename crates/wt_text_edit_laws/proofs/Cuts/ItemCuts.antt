@@ -1,5 +1,5 @@
 -- The items of a page, cut anywhere: the first of them are those of their source by itself, and the others those of what follows.
-use Rattle.std.proofs.Common.{arith, ◌≡◌, ◌⊎◌, inl, inr, ℕ, zero, suc, ◌+◌, ◌-◌, ◌<◌, ◌≤◌, Bool, true, false, Option, Some, None, List, [], ◌∷◌, ◌++◌, length, take, map, refl, sym, ap, ◌∙◌, subst, append-nil, length-append}
+use Rattle.std.proofs.Common.{arith, ◌≡◌, ◌⊎◌, inl, inr, ℕ, zero, suc, ◌+◌, ◌-◌, ◌<◌, ◌≤◌, Bool, true, false, Option, Some, None, List, [], ◌∷◌, ◌++◌, length, take, refl, sym, ap, ◌∙◌, subst, append-nil, length-append}
 use Rattle.std.specs.Prelude.{not, if◌then◌else◌}
 use Rattle.std.proofs.lemmas.Bool.{cases_lt}
 use Rattle.std.proofs.lemmas.List.{take-append-le, take_all}
@@ -17,12 +17,12 @@ use Rattle.wt_lex.proofs.AllForms.{form_fits}
 use Rattle.wt_expand.specs.PageItems.{raw_form_by, form_of, items_of_word, page_items}
 use Rattle.wt_expand.proofs.PageLaws.{char_sources, form_sources}
 use Rattle.wt_scans.specs.Lexer.{lexer}
-use Rattle.wt_scans.specs.Scans.{after_all, skipped_by, AtStarts, Settles, IsFrontOf}
+use Rattle.wt_scans.specs.Scans.{after_all, skipped_by, Settles, IsFrontOf}
 use Rattle.wt_scans.proofs.LexemeFronts.{lexemes_front}
 use Rattle.wt_text_edit_laws.specs.LonePages.{page_chars}
 use Rattle.wt_text_edit_laws.specs.TextBetween.{EndsBy, StandsBehind}
 use Rattle.wt_text_edit_laws.proofs.Prose.Uncommented.{BeginsUncommented}
-use Rattle.wt_text_edit_laws.proofs.Between.Fronts.{ReadsAfter, first_items, page_read, items_from, first_from, byte_from, form_from, reads_either}
+use Rattle.wt_text_edit_laws.proofs.Between.Fronts.{first_items, items_from, first_from, byte_from, form_from, reads_either}
 use Rattle.wt_text_edit_laws.proofs.Between.LineComments.{ends_behind}
 use Rattle.wt_text_edit_laws.proofs.Cuts.SignBytes.{is_sign_byte, AreSigns, IsAnyWord, any_word, signs_read}
 

@@ -1,9 +1,8 @@
 -- Where every lexeme of a front is the same alone, what begins in the front ends in it, or is a tag that nothing in the text closes.
-use Rattle.std.proofs.Common.{arith, ◌≡◌, ◌⊎◌, inl, inr, ℕ, zero, suc, ◌+◌, ◌-◌, ◌<◌, ◌≤◌, ◌==◌, Bool, true, false, Option, Some, None, List, [], ◌∷◌, ◌++◌, length, get_or, take, drop, nat_lt, refl, sym, ap, ◌∙◌, subst, append-nil, length-append, length-take, length-drop, codes}
+use Rattle.std.proofs.Common.{arith, ◌≡◌, ℕ, zero, suc, ◌+◌, ◌-◌, ◌<◌, ◌≤◌, ◌==◌, Bool, true, false, Option, Some, None, List, [], ◌∷◌, ◌++◌, length, get_or, take, drop, nat_lt, refl, sym, ap, ◌∙◌, subst, append-nil, length-append, length-take, length-drop, codes}
 use Rattle.std.specs.Prelude.{◌&&◌, ◌||◌, not, is_some, if◌then◌else◌, slice_index}
-use Rattle.std.specs.Option.{option_map, option_or, unwrap_or}
+use Rattle.std.specs.Option.{option_or, unwrap_or}
 use Rattle.std.specs.List.{prefix_len}
-use Rattle.std.proofs.lemmas.Bool.{cases_lt}
 use Rattle.std.proofs.lemmas.List.{take-take, drop-append-le}
 use Rattle.std.proofs.lemmas.List.Sums.{prefix_len-le-length}
 use Rattle.std.proofs.Math.Seq.{take-append_seam}
@@ -12,7 +11,7 @@ use Rattle.wt_span.specs.declared.form.LexKind.TheVariants.{CommentLine, Comment
 use Rattle.wt_span.specs.Bytes.{is_blank, is_break, begins, through, name_len, blank_len, lower}
 use Rattle.wt_span.specs.Comments.{comment_len, comment_line_len, remarks_len, remarks_with}
 use Rattle.wt_span.specs.Entities.{entity_at}
-use Rattle.wt_span.specs.Tags.{Tag, is_tag_byte, is_tag_inside, closes_itself, tag_after, opening_tag, closing_tag, with_inside, is_raw_name, raw_by, raw_len, hides, is_left_out, hidden_len, opening_include, closing_include, include_at}
+use Rattle.wt_span.specs.Tags.{Tag, is_tag_byte, is_tag_inside, closes_itself, tag_after, opening_tag, closing_tag, with_inside, is_raw_name, raw_by, raw_len, hides, is_left_out, opening_include, closing_include, include_at}
 use Rattle.wt_span.specs.Lexemes.{Word, as_word, comment_line_word, entity_word, sign_word, form_at}
 use Rattle.wt_lex.proofs.AllForms.{form_fits}
 use Rattle.wt_lex.proofs.Begins.{and_left, and_right, lt_is, is_within, byte_is, begins_get, begins_len}

@@ -1,16 +1,14 @@
 -- Whole lines among the lines of some items: those before them end with a line break, and theirs are lines of text.
-use Rattle.std.proofs.Common.{arith, ◌≡◌, ◌≢◌, ℕ, zero, suc, ◌+◌, Bool, true, false, not, None, List, [], ◌∷◌, ◌++◌, map, refl, sym, ap, ◌∙◌, subst, append_assoc, append-nil, cond, All}
-use Rattle.std.specs.Prelude.{◌&&◌, if◌then◌else◌, take, drop}
-use Rattle.std.specs.List.{AllByRecursion, list_all}
+use Rattle.std.proofs.Common.{arith, ◌≡◌, ℕ, ◌+◌, Bool, true, false, not, List, [], ◌∷◌, ◌++◌, map, refl, sym, ap, ◌∙◌, subst, append_assoc, cond, All}
+use Rattle.std.specs.Prelude.{◌&&◌, if◌then◌else◌}
+use Rattle.std.specs.List.{list_all}
 use Rattle.std.proofs.lemmas.List.Elements.{All-nil, All-cons}
 use Rattle.wt_span.specs.Items.{Item, char, whole, is_mark, source, sources}
 use Rattle.wt_span.specs.Runs.{put, runs, IsRun, AreRuns}
 use Rattle.wt_span.proofs.RunLaws.{runs_only}
 use Rattle.wt_tables.specs.Parts.{joined}
-use Rattle.wt_lines.specs.declared.kind.LineKind.TheVariants as line
 use Rattle.wt_lines.specs.Lines.{is_break_item, onto, lines, goes_on, full_lines, content, empty_end}
-use Rattle.wt_lines.proofs.FullLines.{same_lines}
-use Rattle.wt_headings.specs.Lines.{kind_at, ending}
+use Rattle.wt_headings.specs.Lines.{ending}
 use Rattle.wt_page.specs.Rows.{marks_len}
 use Rattle.wt_text_edit_laws.specs.Paragraphs.{IsTextLine}
 use Rattle.wt_text_edit_laws.specs.ParagraphBetween.{before_marks}

@@ -1,12 +1,12 @@
 -- A page is UTF-8, and so is each part of it, where it is cut at a block.
-use Rattle.std.proofs.Common.{arith, ◌≡◌, ◌≢◌, inl, inr, ℕ, zero, suc, ◌<◌, ◌≤◌, ◌==◌, true, List, [], ◌∷◌, ◌++◌, refl, sym, ap, ◌∙◌, subst, append_assoc, append-nil}
+use Rattle.std.proofs.Common.{arith, ◌≡◌, ◌≢◌, inl, inr, ℕ, zero, suc, ◌<◌, ◌≤◌, ◌==◌, true, List, [], ◌∷◌, ◌++◌, refl, sym, ap, subst, append_assoc, append-nil}
 use Rattle.std.specs.Str.{IsUtf8}
 use Rattle.std.proofs.lemmas.Bool.{eqb-true}
 use Rattle.std.proofs.lemmas.Str.{IsUtf8-append, IsUtf8-nil}
 use Rattle.wt_names.proofs.Utf8.{utf8_around}
 use Rattle.wt_text_edit_laws.specs.PageCuts.{EndsThere}
 use Rattle.wt_text_edit_laws.specs.TextBetween.{is_end, AreEnded}
-use Rattle.wt_text_edit_laws.specs.TextBlocks.{TextBlock, a_paragraph, a_heading, source_of}
+use Rattle.wt_text_edit_laws.specs.TextBlocks.{a_heading, source_of}
 use Rattle.wt_text_edit_laws.specs.TypedHeadings.{Sides, AreBlanks, equals, opening, closing}
 use Rattle.wt_text_edit_laws.proofs.Between.LineWords.{either}
 use Rattle.wt_text_edit_laws.proofs.Blocks.BlockReading.{AreQuiet, quiet_joined, run_quiet, blanks_quiet, each_quiet}
