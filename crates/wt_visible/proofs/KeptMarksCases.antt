@@ -1,12 +1,9 @@
 -- Worked cases: comments, include tags, calls and islands that an edited tree still has.
-use Rattle.std.proofs.Common.{arith, ◌≡◌, ◌≤◌, ◌+◌, ℕ, Bool, true, false, Some, List, [], ◌∷◌, ◌++◌, ap, refl, codes, inl, take}
+use Rattle.std.proofs.Common.{arith, ◌≡◌, ◌≤◌, ◌+◌, ℕ, Bool, true, false, List, [], ◌∷◌, ◌++◌, ap, refl, codes, inl, take}
 use Rattle.std.specs.Prelude.{cond}
 use Rattle.std.specs.Str.{bytes_eq}
 use Rattle.wt_tree.specs.Tree.{Tree, tree, none, more}
 use Rattle.wt_tree.specs.declared.kind.Kind.TheVariants as kind
-use Rattle.wt_tree.specs.declared.node.DataMw.TheVariants as mw
-use Rattle.wt_tree.specs.declared.node.Part.{Part}
-use Rattle.wt_tree.specs.declared.node.Part.TheVariants as part
 use Rattle.wt_checks.specs.Alike.{same_kind}
 use Rattle.wt_checks.specs.Places.{places, page_of}
 use Rattle.wt_checks.proofs.Cases.{blank, body, node, words, group}
@@ -156,14 +153,3 @@ call_stays : KeepsMarks (two_calls (codes "{{a}}") (codes "{{b}}")) (two_calls (
     (body (node kind.Para 1 (tree (record (blank kind.Group 2) { own = codes "{{a}}" }) none ∷ []) ∷ [])) → ⊥
 unfolding same_kind
 call_stays h = let t : 0 ≡ 1 = ap (times (codes "{{b}}")) h.calls in absurd (omega (arith, t))
-
--- the list `* b`, `* a`, and a call whose text ends with a line break: the group is the whole list, and the call is the page's
-abbrev grown : List ℕ → List Part → Tree
-grown source parts = body (tree (record (blank kind.Group 1) { own = source; mw = Some (mw.Parts parts) }) none ∷ [])
-
-abbrev list_call : Part
-list_call = part.Template (codes "L") (codes "./Template:L") [] 0
-
-group_from_its_call : sources kind.Group (places (grown (codes "* b" ++ 10 ∷ codes "{{L}}") (part.Literal (codes "* b" ++ 10 ∷ []) ∷ list_call ∷ []))) ≡ codes "{{L}}" ∷ []
-unfolding same_kind
-group_from_its_call = refl

@@ -1,15 +1,10 @@
 -- Comments and include tags show nothing, and of a call and an island (an extension, a file) a new page could show the same by other
 -- bytes; so no comparison of what is shown finds one that was lost, or another in its place. The calls and islands of a new page are those
--- that the edited tree still has, in its order. A group may get larger at its front (a list that ends in a template whose text ends with a
--- line break is one group as a whole), so what it has before its first call doesn't count. Of comments and include tags it has those, and none more often than the page.
-use Rattle.std.specs.Prelude.{◌≡◌, ◌⊎◌, ◌&&◌, ◌||◌, ℕ, Bool, Option, Some, None, List, [], ◌∷◌, drop, length, map, nat_eq, if◌then◌else◌}
-use Rattle.std.specs.List.{flat_map, starts_with}
+-- that the edited tree still has, in its order. Of comments and include tags it has those, and none more often than the page.
+use Rattle.std.specs.Prelude.{◌≡◌, ◌⊎◌, ◌&&◌, ◌||◌, ℕ, Bool, Option, Some, None, List, [], ◌∷◌, map, if◌then◌else◌}
+use Rattle.std.specs.List.{flat_map}
 use Rattle.wt_tree.specs.Source.{flat}
-use Rattle.wt_tree.specs.Tree.{Tree, label}
-use Rattle.wt_tree.specs.declared.node.DataMw.{DataMw}
-use Rattle.wt_tree.specs.declared.node.DataMw.TheVariants as mw
-use Rattle.wt_tree.specs.declared.node.Part.{Part}
-use Rattle.wt_tree.specs.declared.node.Part.TheVariants as part
+use Rattle.wt_tree.specs.Tree.{Tree}
 use Rattle.wt_tree.specs.declared.kind.Kind.{Kind}
 use Rattle.wt_tree.specs.declared.kind.Kind.TheVariants as kind
 use Rattle.wt_checks.specs.Alike.{same_kind}
@@ -31,33 +26,9 @@ mark_at p = if is_mark p then p ∷ [] else []
 abbrev pub marks : List Place → List Place
 marks ps = flat_map mark_at ps
 
--- the text that a part of a group is, between its calls
-abbrev pub literal : Part → List ℕ
-literal (part.Template target href params i) = []
-literal (part.Function name target params i) = []
-literal (part.Param source) = []
-literal (part.Literal text) = text
-
--- what a group has before its first call; nothing of another node
-abbrev pub first_literal : List Part → List ℕ
-first_literal [] = []
-first_literal (p ∷ ps) = literal p
-
-abbrev pub front_of : Option DataMw → List ℕ
-front_of None = []
-front_of (Some (mw.Parts ps)) = first_literal ps
-front_of (Some (mw.Extension name body)) = []
-
-abbrev pub behind : List ℕ → List ℕ → List ℕ
-behind front source = if starts_with nat_eq source front then drop (length front) source else source
-
--- the source of a node, of a group from its first call on
-abbrev pub source_of : Tree → List ℕ
-source_of t = behind (front_of (label t).mw) (flat t)
-
 -- the source of a node of a kind
 abbrev pub source_at : Kind → Place → List (List ℕ)
-source_at k p = if is_own k p then source_of p.node ∷ [] else []
+source_at k p = if is_own k p then flat p.node ∷ [] else []
 
 -- of all of them, in the order of a page
 abbrev pub sources : Kind → List Place → List (List ℕ)

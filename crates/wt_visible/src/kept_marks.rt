@@ -1,74 +1,25 @@
 //! Comments, include tags, calls and islands that an edited tree still has, looked for in a new page, in which no
 //! other may be.
 
-ghost use Rattle.std.specs.Prelude.{◌≡◌, ◌≤◌, ◌↔◌, ◌∷◌, ◌++◌, ℕ, List, drop, length, map, option_copied, option_map, take, IfOk, OnOk};
+ghost use Rattle.std.specs.Prelude.{◌≡◌, ◌≤◌, ◌↔◌, ◌∷◌, ◌++◌, ℕ, List, drop, length, map, option_map, take, IfOk, OnOk};
 ghost use Rattle.std.specs.Bool.{Decides};
 ghost use Rattle.wt_tree.specs.View.{view};
 ghost use Rattle.wt_checks.specs.Places.{page_of, places};
 ghost use Rattle.wt_checks.specs.View.{all_seen, indexed, seen};
-ghost use Rattle.wt_visible.specs.KeptMarks.{behind, first_literal, front_of, is_mark, is_own, literal, mark_at, marks, source_at, source_of, sources, still, still_at, there, HasNoMore, IsWithin, Keeps, KeepsEach, KeepsInOrder, KeepsKind, KeepsMarks, KeepsOrder};
+ghost use Rattle.wt_visible.specs.KeptMarks.{is_mark, is_own, mark_at, marks, source_at, sources, still, still_at, there, HasNoMore, IsWithin, Keeps, KeepsEach, KeepsInOrder, KeepsKind, KeepsMarks, KeepsOrder};
 ghost use Rattle.wt_visible.specs.Tally.{trimmed, StandAmong};
 
 use crate::tally::{Tally, trimmed};
 use std::alloc::Global;
 use wt_checks::{Visit, original, preorder, same_kind};
 use wt_span::{NoMemory, Str};
-use wt_tree::{DataMw, Kind, Node, Part, flat};
+use wt_tree::{Kind, Node, flat};
 
 /// Whether a node is of this kind and is outside groups.
 fn is_own(kind: Kind, visit: Visit<'_, '_>) -> bool
     ensures { result ≡ is_own kind (seen visit.entry) }
 {
     visit.node.id != 0 && same_kind(visit.node.kind, kind)
-}
-
-/// The text that a part of a group is, between its calls.
-fn literal<'p>(part: &'p Part) -> &'p str
-    ensures { result.now ≡ literal part.now }
-{
-    match part {
-        Part::Literal(text) => text.as_str(),
-        Part::Template { .. } | Part::Function { .. } | Part::Param { .. } => "",
-    }
-}
-
-/// What a group has before its first call.
-fn first_literal<'p>(parts: &'p [Part]) -> &'p str
-    ensures { result.now ≡ first_literal parts.now }
-{
-    match parts {
-        [] => "",
-        [first, ..] => literal(first),
-    }
-}
-
-/// The same; nothing of another node.
-fn front_of<'p>(data: Option<&'p DataMw>) -> &'p str
-    ensures { result.now ≡ front_of (option_copied data.entry) }
-{
-    match data {
-        Some(DataMw::Parts(parts)) => first_literal(parts.as_slice()),
-        Some(DataMw::Extension { .. }) => "",
-        None => "",
-    }
-}
-
-/// What comes after a front, where a source begins with it.
-fn behind<'s>(front: &str, source: &'s str) -> &'s str
-    ensures { result.now ≡ behind front.now source.now }
-{
-    match source.strip_prefix(front) {
-        Some(rest) => rest,
-        None => source,
-    }
-}
-
-/// The source of a node, of a group from its first call on.
-fn source_of(alloc: Global, node: &Node<'_>) -> Result<Str, NoMemory>
-    ensures { IfOk result (λ source. source ≡ source_of (view node.now)) }
-{
-    let source = flat(alloc, node)?;
-    Str::copy_of(alloc, behind(front_of(node.mw()), source.as_str()))
 }
 
 /// Appends the source of a node that is of this kind.
@@ -83,7 +34,7 @@ fn push_source(
     if !is_own(kind, visit) {
         return Ok(());
     }
-    let source = source_of(alloc, visit.node)?;
+    let source = flat(alloc, visit.node)?;
     out.push(source)?;
     Ok(())
 }
@@ -398,7 +349,7 @@ fn marks_of<'t, 'a>(alloc: Global, root: &'t Node<'a>) -> Result<Vec<Visit<'t, '
 
 /// Whether a new page keeps what an edited tree shows least of: the comments, include tags, calls and islands of
 /// the page that it still has by their numbers. The calls and islands of the new page are these, in the order of
-/// the edited tree and with the page's sources, of a group from its first call on, without the white space round them. Each comment and tag is
+/// the edited tree and with the page's sources, without the white space round them. Each comment and tag is
 /// there as often as in the edited tree, the tags in its order, and none more often than in the page. `index` has
 /// the page's nodes by their numbers.
 pub fn keeps_marks(
