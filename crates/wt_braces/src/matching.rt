@@ -4,7 +4,7 @@
 //! and the `]]` that pairs with it.
 
 ghost use Rattle.std.specs.Prelude.{◌≡◌, ◌≤◌, ◌<◌, ℕ, ◌+◌, ◌-◌, ◌^◌, List, [], ◌∷◌, false, map, reverse, length, drop, OnOk, IfOk};
-ghost use Rattle.wt_span.specs.Braces.{Member, parts_between, taken, closed_by, with_word};
+ghost use Rattle.wt_span.specs.Braces.{Member, parts_between, closed_by, with_word};
 ghost use Rattle.wt_lex.specs.Places.{word_of};
 ghost use Rattle.wt_braces.specs.Views.{part_of, sign_at, closed_at};
 ghost use Rattle.wt_braces.specs.PartRows.{Fit};
@@ -15,6 +15,7 @@ use crate::call::PartAt;
 use crate::parts::{PartSign, parts_between};
 use std::alloc::Global;
 use std::marker::Model;
+use wt_functions::braces_taken;
 use wt_lex::Lexeme;
 use wt_span::{LexKind, NoMemory, Range, rest_of};
 
@@ -262,7 +263,7 @@ impl Matching {
             let Some(run) = self.pop_run() else {
                 return Ok(());
             };
-            let braces = taken(run.left, at.end - place);
+            let braces = braces_taken(run.left, at.end - place);
             place += braces;
             self.close_call(alloc, run, braces, place)?;
         }
@@ -294,11 +295,4 @@ impl Matching {
         }
         Ok(())
     }
-}
-
-/// How many braces a call takes of each run.
-fn taken(opening: u32, closing: u32) -> u32
-    ensures { result ≡ taken opening closing }
-{
-    if opening >= 3 && closing >= 3 { 3 } else { 2 }
 }

@@ -334,16 +334,6 @@ fn link_round(
     Ok(Some(out))
 }
 
-/// The text of an external link, apart from its URL where it begins with a blank.
-fn with_blank(alloc: Global, keeps: bool, inside: &str) -> Result<Str, NoMemory> {
-    if !keeps {
-        return Str::copy_of(alloc, inside);
-    }
-    let mut out = Str::new(alloc);
-    push_with_blank(&mut out, inside)?;
-    Ok(out)
-}
-
 fn new_source(alloc: Global, keeps: bool, node: &Node<'_>, inside: &str) -> Result<Str, NoMemory> {
     match node.kind.edit_shape().inline {
         InlineForm::PageLink => {
@@ -355,10 +345,7 @@ fn new_source(alloc: Global, keeps: bool, node: &Node<'_>, inside: &str) -> Resu
                 Ok(link)
             }
         }
-        InlineForm::ExternalLink => {
-            let inside = with_blank(alloc, keeps, inside)?;
-            external_link(alloc, node, inside.as_str())
-        }
+        InlineForm::ExternalLink => external_link(alloc, node, inside),
         InlineForm::Break => Str::copy_of(alloc, "<br>"),
         InlineForm::Nothing
         | InlineForm::Characters

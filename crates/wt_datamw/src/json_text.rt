@@ -97,6 +97,5 @@ pub fn push_quoted(out: &mut Vec<u8>, text: &[u8]) -> Result<(), NoMemory>
 {
     push(out, b"\"")?;
     push_escaped(out, text)?;
-    push(out, b"\"")?;
-    Ok(())
+    push(out, b"\"")
 }

@@ -59,8 +59,7 @@ fn push_params_listed(out: &mut Vec<u8>, params: &[(Str, Str)]) -> Result<(), No
         [] => Ok(()),
         [(name, source), rest @ ..] => {
             push_param(out, name, source)?;
-            push_later_params(out, rest)?;
-            Ok(())
+            push_later_params(out, rest)
         }
     }
 }
@@ -192,8 +191,7 @@ fn push_function(
     push_number(out, i)?;
     push_params_start(out)?;
     push_params(alloc, out, params)?;
-    push_function_target(out, name, target)?;
-    Ok(())
+    push_function_target(out, name, target)
 }
 
 /// A transclusion: its number among the group's calls, its parameters, its target.
@@ -212,8 +210,7 @@ fn push_template(
     push_number(out, i)?;
     push_params_start(out)?;
     push_params(alloc, out, params)?;
-    push_target(out, href, target)?;
-    Ok(())
+    push_target(out, href, target)
 }
 
 #[tactic(auto, unfolding(json::specs::Print::escape_byte, crate::specs::MwPieces::argument_start))]
@@ -267,8 +264,7 @@ fn push_parts_listed(alloc: Global, out: &mut Vec<u8>, parts: &[Part]) -> Result
         [] => Ok(()),
         [part, rest @ ..] => {
             push_part(alloc, out, part)?;
-            push_later_parts(alloc, out, rest)?;
-            Ok(())
+            push_later_parts(alloc, out, rest)
         }
     }
 }

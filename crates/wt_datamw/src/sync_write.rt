@@ -19,8 +19,7 @@ fn push_closing(out: &mut Vec<u8>, text: &str) -> Result<(), NoMemory>
         bytes => {
             push(out, b"\"c\":")?;
             push_quoted(out, bytes)?;
-            push(out, b",")?;
-            Ok(())
+            push(out, b",")
         }
     }
 }
@@ -30,8 +29,7 @@ fn push_next(out: &mut Vec<u8>, number: u32) -> Result<(), NoMemory>
     ensures { OnOk result (out.new.items ≡ out.old.items ++ next_text number) }
 {
     push(out, b",")?;
-    push_number(out, number)?;
-    Ok(())
+    push_number(out, number)
 }
 
 #[tactic(auto, unfolding(json::specs::Print::escape_byte, crate::specs::SyncPieces::dsr_text))]
@@ -43,8 +41,7 @@ fn push_dsr(out: &mut Vec<u8>, dsr: Ranges) -> Result<(), NoMemory>
     push_next(out, dsr.end)?;
     push_next(out, dsr.open_w)?;
     push_next(out, dsr.close_w)?;
-    push(out, b"]")?;
-    Ok(())
+    push(out, b"]")
 }
 
 #[tactic(auto, unfolding(json::specs::Print::escape_byte))]
@@ -55,8 +52,7 @@ fn push_opening(out: &mut Vec<u8>, text: &str) -> Result<(), NoMemory>
         [] => Ok(()),
         bytes => {
             push(out, b",\"o\":")?;
-            push_quoted(out, bytes)?;
-            Ok(())
+            push_quoted(out, bytes)
         }
     }
 }
@@ -69,8 +65,7 @@ fn push_source(out: &mut Vec<u8>, source: Option<&str>) -> Result<(), NoMemory>
         None => Ok(()),
         Some(text) => {
             push(out, b",\"src\":")?;
-            push_quoted(out, text.as_bytes())?;
-            Ok(())
+            push_quoted(out, text.as_bytes())
         }
     }
 }

@@ -4,6 +4,7 @@ use Rattle.std.specs.Prelude.{if◌then◌else◌}
 use Rattle.std.specs.List.{flat_map}
 use Rattle.std.specs.Str.{IsUtf8}
 use Rattle.std.proofs.lemmas.Grind.{flat_map-append}
+use Rattle.wt_span.specs.Bytes.{is_blank}
 use Rattle.wt_names.specs.declared.namespace.Ns.{Ns}
 use Rattle.wt_names.specs.declared.namespace.Ns.TheVariants as ns
 use Rattle.wt_names.specs.declared.title.Title.{Title}
@@ -16,7 +17,7 @@ use Rattle.wt_guards.specs.declared.role.Role.{Role}
 use Rattle.wt_guards.specs.declared.role.Role.TheVariants as role
 use Rattle.wt_tree.specs.declared.edit_shape.Place.{Place}
 use Rattle.wt_guards.specs.Content.{ContentSign, letters}
-use Rattle.wt_guards.specs.Guards.{nowiki}
+use Rattle.wt_guards.specs.Guards.{nowiki, nowiki_if}
 use Rattle.wt_guards.specs.WrittenLaws.{itself, breaks}
 use Rattle.wt_guards.proofs.Breaks.{same_breaks}
 use Rattle.wt_tree.specs.declared.edit_shape.InlineForm.{InlineForm}
@@ -129,9 +130,15 @@ link_breaks (Some t) ts inside =
     omega (arith, b, c, d, e) in
     a ∙ sum
 
+guard_breaks : (g : Bool) → breaks (nowiki_if g) ≡ 0
+unfolding nowiki
+guard_breaks true = refl
+guard_breaks false = refl
+
 after_space_breaks : (inside : List ℕ) → breaks (after_space inside) ≡ breaks inside
 after_space_breaks [] = refl
-after_space_breaks (b ∷ bs) = refl
+after_space_breaks (b ∷ bs) =
+    breaks_joined (nowiki_if (is_blank b)) (b ∷ bs) ∙ ap (λ (n : ℕ). n + breaks (b ∷ bs)) (guard_breaks (is_blank b))
 
 external_breaks : (url inside : List ℕ) → breaks (external_link url inside) ≡ breaks url + breaks inside
 external_breaks url inside =

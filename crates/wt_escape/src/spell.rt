@@ -80,8 +80,7 @@ fn push_heading(out: &mut String, level: u8, inside: &str) -> Result<(), AllocEr
     out.push_str(" ")?;
     out.push_str(inside)?;
     out.push_str(" ")?;
-    push_equals(out, level)?;
-    Ok(())
+    push_equals(out, level)
 }
 
 fn push_item(out: &mut String, sign: char, inside: &str) -> Result<(), AllocError>
@@ -89,8 +88,7 @@ fn push_item(out: &mut String, sign: char, inside: &str) -> Result<(), AllocErro
 {
     out.push(sign)?;
     out.push_str(" ")?;
-    out.push_str(inside)?;
-    Ok(())
+    out.push_str(inside)
 }
 
 fn push_framed(

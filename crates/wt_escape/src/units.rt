@@ -67,8 +67,7 @@ fn push_kept(alloc: Global, out: &mut Vec<Unit<'_>>, kept: Kept<'_, '_>) -> Resu
     ensures { OnOk result (all_signs out.new.items ≡ all_signs out.old.items ++ kept_thing (kept_view kept.entry) ∷ []) }
 {
     let source = flat(alloc, kept.node)?;
-    push_thing(out, kept.role, source, Some(kept.place))?;
-    Ok(())
+    push_thing(out, kept.role, source, Some(kept.place))
 }
 
 fn push_as_it_stood(
@@ -103,8 +102,7 @@ fn push_new(
 ) -> Result<(), NoMemory>
     ensures { OnOk result (all_signs out.new.items ≡ all_signs out.old.items ++ new_thing role source (option_map kept_view kept.entry)) }
 {
-    push_thing(out, role, source, place_of(kept))?;
-    Ok(())
+    push_thing(out, role, source, place_of(kept))
 }
 
 /// The characters that a changed node shows.
@@ -112,8 +110,7 @@ fn push_shown(alloc: Global, out: &mut Vec<Unit<'_>>, node: &Node<'_>) -> Result
     ensures { OnOk result (all_signs out.new.items ≡ all_signs out.old.items ++ letters (shown (view node.now))) }
 {
     let text = shown_text(alloc, node)?;
-    push_copied(out, Str::from_string(text))?;
-    Ok(())
+    push_copied(out, Str::from_string(text))
 }
 
 // ---- unchanged nodes
@@ -231,8 +228,7 @@ fn push_toggle(
     ensures { OnOk result (all_signs out.new.items ≡ all_signs out.old.items ++ toggle sign.now place ∷ []) }
 {
     let source = Str::copy_of(alloc, sign)?;
-    push_thing(out, Role::Toggle, source, place)?;
-    Ok(())
+    push_thing(out, Role::Toggle, source, place)
 }
 
 fn push_all<'t>(out: &mut Vec<Unit<'t>>, units: Vec<Unit<'t>>) -> Result<(), AllocError>
@@ -255,8 +251,7 @@ fn push_nowiki(alloc: Global, out: &mut Vec<Unit<'_>>) -> Result<(), NoMemory>
     ensures { OnOk result (all_signs out.new.items ≡ all_signs out.old.items ++ new_thing role.Node nowiki None) }
 {
     let source = nowiki_source(alloc)?;
-    push_new(out, Role::Node, source, None)?;
-    Ok(())
+    push_new(out, Role::Node, source, None)
 }
 
 /// An empty inside is `<nowiki/>`.
@@ -290,8 +285,7 @@ fn push_style<'t>(
     let closing = closing_place(alloc, kept)?;
     push_toggle(alloc, out, sign, opening)?;
     push_or_nowiki(alloc, out, inside)?;
-    push_toggle(alloc, out, sign, closing)?;
-    Ok(())
+    push_toggle(alloc, out, sign, closing)
 }
 
 // ---- all nodes

@@ -4,7 +4,7 @@ use Rattle.std.specs.Prelude.{not, ◌||◌, ◌&&◌, ◌==◌, if◌then◌els
 use Rattle.std.proofs.lemmas.Bool.Decides.{Decides-eqb}
 use Rattle.wt_tree.specs.declared.edit_shape.Place.{Place}
 use Rattle.wt_guards.specs.Content.{ContentSign, nearest}
-use Rattle.wt_guards.specs.Letters.{is_bracket, is_escaped, opens_tag, opens_entity, is_next, is_apostrophe_or_end, are_slashes, is_blank_to_end, is_term, is_header, is_indented}
+use Rattle.wt_guards.specs.Letters.{is_bracket, is_escaped, opens_tag, opens_entity, is_next, is_apostrophe_or_end, are_slashes, is_blank_to_end, is_term, is_header, is_indented, meets_mark}
 
 abbrev pub is_escapable : ℕ → Bool
 is_escapable c = is_bracket c || (c == 60 || (c == 38 || (c == 39 || (c == 95 || (c == 58 || (c == 61 || c == 33))))))
@@ -28,7 +28,7 @@ others_stay within p before c after e =
     chain (is_bracket c) (c == 60) (c == 38) (c == 39) (c == 95) (c == 58) (c == 61) (c == 33) (opens_tag (nearest after)) (opens_entity (nearest after))
     (is_apostrophe_or_end (nearest before) || is_apostrophe_or_end (nearest after)) (is_next 95 (nearest before)) (is_term p || are_slashes after)
     (is_blank_to_end after)
-    ((is_header p && (is_next 33 (nearest before) || is_next 33 (nearest after))) || (not within && is_indented before)) e
+    ((is_header p && meets_mark within before after) || (not within && is_indented before)) e
 
 by_contrast : (a e : Bool) → (a ≡ false → e ≡ false) → e ≡ true → a ≡ true
 by_contrast true e h f = refl

@@ -96,9 +96,18 @@ term : spelled (at Term) (text (codes "a:b")) ≡ codes "a&#58;b"
 unfolding is_guarded is_between_guard is_start_guard is_end_guard is_blank_guard hazard line_start_hazard nowiki is_escaped reference digits lib.Utf8.encode
 term = refl
 
-header : spelled (at Header) (text (codes "a!!b!")) ≡ codes "a&#33;&#33;b!"
+header : spelled (at Header) (text (codes "a!!b!c")) ≡ codes "a&#33;&#33;b!c"
 unfolding is_guarded is_between_guard is_start_guard is_end_guard is_blank_guard hazard line_start_hazard nowiki is_escaped reference digits lib.Utf8.encode
 header = refl
+
+-- the signs of the next cell may come after a `!` that ends a header cell, and not after one that ends a link in it
+header_end : spelled (at Header) (text (codes "a!")) ≡ codes "a&#33;"
+unfolding is_guarded is_between_guard is_start_guard is_end_guard is_blank_guard hazard line_start_hazard nowiki is_escaped reference digits lib.Utf8.encode
+header_end = refl
+
+in_header_link : spelled (record { within = true; place = Header; source = [] }) (text (codes "a!")) ≡ codes "a!"
+unfolding is_guarded is_between_guard is_start_guard is_end_guard is_blank_guard hazard line_start_hazard nowiki is_escaped reference digits lib.Utf8.encode
+in_header_link = refl
 
 -- a character past ASCII is written as its bytes
 past_ascii : spelled (at Paragraph) (letter 233 ∷ []) ≡ 195 ∷ 169 ∷ []

@@ -14,7 +14,7 @@ use Rattle.wt_guards.specs.declared.side.Side.{Side}
 use Rattle.wt_guards.specs.declared.side.Side.TheVariants as side
 use Rattle.wt_guards.specs.Table.{hazard, line_start_hazard}
 use Rattle.wt_guards.specs.Content.{Thing, ContentSign, letter, thing, nearest, side_of, ends_line, is_invisible, is_group, is_function}
-use Rattle.wt_guards.specs.Letters.{written}
+use Rattle.wt_guards.specs.Letters.{is_end, written}
 
 -- ---- a node
 
@@ -96,11 +96,6 @@ is_start_guard before after =
 -- ---- ends of lines
 
 -- the content ends here, or the line
-abbrev pub is_end : Option ContentSign → Bool
-is_end None = true
-is_end (Some (letter c)) = false
-is_end (Some (thing t)) = false
-
 abbrev pub is_line_end : Option ContentSign → Bool
 is_line_end None = true
 is_line_end (Some (letter c)) = c == byte.line_break

@@ -29,6 +29,12 @@ is_next d None = false
 is_next d (Some (letter c)) = c == d
 is_next d (Some (thing t)) = false
 
+-- nothing follows that shows anything
+abbrev pub is_end : Option ContentSign → Bool
+is_end None = true
+is_end (Some (letter c)) = false
+is_end (Some (thing t)) = false
+
 -- the nearest sign is no character, or an apostrophe
 abbrev pub is_apostrophe_or_end : Option ContentSign → Bool
 is_apostrophe_or_end None = true
@@ -75,6 +81,12 @@ is_indented [] = false
 is_indented (letter c ∷ before) = is_blank c && is_indented before
 is_indented (thing t ∷ before) = not (ends_line t.role) && ((shows_blanks t.role && is_clear before) || (is_invisible t.role && is_indented before))
 
+-- A `!` in a header cell is read with one beside it; with the signs of the next cell, too, where it ends the content. In the inside of a
+-- link or tag (`within`) no content ends.
+abbrev pub meets_mark : Bool → List ContentSign → List ContentSign → Bool
+meets_mark within before after =
+    is_next byte.exclamation_mark (nearest before) || (is_next byte.exclamation_mark (nearest after) || (not within && is_end (nearest after)))
+
 -- Whether a character is written as a reference. In content that is the inside of a link or tag (`within`) no line begins.
 unfoldable pub is_escaped : Bool → Place → List ContentSign → ℕ → List ContentSign → Bool
 is_escaped within place before c after =
@@ -85,7 +97,7 @@ is_escaped within place before c after =
     else if c == byte.underscore then is_next byte.underscore (nearest before)
     else if c == byte.colon then is_term place || are_slashes after
     else if c == byte.equals_sign then is_blank_to_end after
-    else if c == byte.exclamation_mark then (is_header place && (is_next byte.exclamation_mark (nearest before) || is_next byte.exclamation_mark (nearest after))) || (not within && is_indented before)
+    else if c == byte.exclamation_mark then (is_header place && meets_mark within before after) || (not within && is_indented before)
     else false
 
 -- `>`, `<` and `&` by their names, and others by their numbers

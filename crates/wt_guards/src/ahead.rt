@@ -2,8 +2,8 @@
 
 ghost use Rattle.std.specs.Prelude.{◌≡◌, option_map, Option};
 ghost use Rattle.wt_guards.specs.Content.{nearest, is_group};
-ghost use Rattle.wt_guards.specs.Letters.{opens_tag, opens_entity, is_next, is_apostrophe_or_end, are_slashes, is_blank_to_end};
-ghost use Rattle.wt_guards.specs.Guards.{is_line_start, is_line_mark_next, is_start_hazard, is_new_next, is_end, is_line_end, is_blank_last, is_group_last, is_empty_line, is_nearest};
+ghost use Rattle.wt_guards.specs.Letters.{opens_tag, opens_entity, is_next, is_end, is_apostrophe_or_end, are_slashes, is_blank_to_end};
+ghost use Rattle.wt_guards.specs.Guards.{is_line_start, is_line_mark_next, is_start_hazard, is_new_next, is_line_end, is_blank_last, is_group_last, is_empty_line, is_nearest};
 ghost use Rattle.wt_guards.specs.Views.{sign_of, signs_left};
 ghost use Rattle.wt_span.specs.Bytes.{is_blank};
 

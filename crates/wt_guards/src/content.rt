@@ -19,7 +19,8 @@ pub fn push_nowiki(out: &mut String) -> Result<(), AllocError>
     out.push_str("<nowiki/>")
 }
 
-fn push_nowiki_if(out: &mut String, is_guarded: bool) -> Result<(), AllocError>
+/// Appends what keeps two signs apart, where it is asked for.
+pub fn push_nowiki_if(out: &mut String, is_guarded: bool) -> Result<(), AllocError>
     ensures { OnOk result (string_bytes out.new ≡ string_bytes out.old ++ nowiki_if is_guarded) }
 {
     if is_guarded {

@@ -2,10 +2,10 @@
 
 ghost use Rattle.std.specs.Prelude.{◌≡◌, ◌++◌, OnOk, ℕ, List, string_bytes, codes, decimal};
 ghost use Rattle.wt_guards.specs.Content.{ContentSign as AnySign};
-ghost use Rattle.wt_guards.specs.Letters.{is_bracket, is_term, is_header, is_escaped, reference, written_by, written};
+ghost use Rattle.wt_guards.specs.Letters.{is_bracket, is_term, is_header, is_escaped, meets_mark, reference, written_by, written};
 ghost use Rattle.wt_guards.specs.Views.{signs_left, IsBehind};
 
-use crate::ahead::{is_apostrophe_or_end, is_next, opens_entity, opens_tag};
+use crate::ahead::{is_apostrophe_or_end, is_end, is_next, opens_entity, opens_tag};
 use crate::behind::Behind;
 use crate::signs::Signs;
 use std::alloc::AllocError;
@@ -36,6 +36,15 @@ fn is_header(place: Place) -> bool
     }
 }
 
+/// Whether a `!` in a header cell is read with one beside it, or may be with the signs of the next cell, since it ends the
+/// content. In the inside of a link or tag (`within`) no content ends.
+fn meets_mark(within: bool, behind: Behind<'_>, after: Signs<'_, '_>) -> bool
+    ensures { (source : List ℕ) (before : List AnySign) → IsBehind source before behind.entry
+        → result ≡ meets_mark within before (signs_left after.entry) }
+{
+    is_next('!', behind.last) || is_next('!', after.peek()) || (!within && is_end(after.peek()))
+}
+
 /// Whether a character is written as a reference, by what comes before and after it. In the inside
 /// of a link or tag (`within`) no line begins.
 #[tactic(auto, unfolding(crate::specs::Letters::is_escaped))]
@@ -54,7 +63,7 @@ fn is_escaped(within: bool, place: Place, behind: Behind<'_>, c: char, after: Si
         ':' => is_term(place) || after.are_slashes(),
         '=' => after.is_blank_to_end(),
         '!' => {
-            (is_header(place) && (is_next('!', behind.last) || is_next('!', after.peek())))
+            (is_header(place) && meets_mark(within, behind, after))
                 || (!within && behind.is_indented)
         }
         _ => false,

@@ -16,7 +16,7 @@ mod role;
 mod side;
 mod signs;
 
-pub use content::{push_nowiki, spelling_of};
+pub use content::{push_nowiki, push_nowiki_if, spelling_of};
 pub use guards::Setting;
 pub use laws::{line_breaks_stay, quiet_content_stays, text_is_harmless};
 pub use role::{Role, Stretch, Transclusion};

@@ -15,16 +15,16 @@ use Rattle.wt_html_grammar.specs.Events.{Building, built}
 use Rattle.wt_html_grammar.proofs.Telling.{stands_told}
 use Rattle.wt_html_grammar.proofs.Places.{run_err, taken_err, refused, cut_off, well_of, no_front}
 use Rattle.wt_html_grammar.proofs.Whole.{front_of}
-use Rattle.wt_html_elements.specs.declared.fault.Fault.{Fault}
-use Rattle.wt_html_elements.specs.declared.fault.Fault.TheVariants as faults
-use Rattle.wt_html_elements.specs.declared.fault.HtmlRefusal.{HtmlRefusal}
-use Rattle.wt_html_elements.specs.declared.fault.HtmlRefusal.TheVariants as refusals
+use Rattle.wt_html_reasons.specs.declared.refusal.Fault.{Fault}
+use Rattle.wt_html_reasons.specs.declared.refusal.Fault.TheVariants as faults
+use Rattle.wt_html_reasons.specs.declared.refusal.HtmlRefusal.{HtmlRefusal}
+use Rattle.wt_html_reasons.specs.declared.refusal.HtmlRefusal.TheVariants as refusals
 use Rattle.wt_html_elements.specs.declared.content.Content.{Content}
 use Rattle.wt_html_elements.specs.declared.reading.Reading.{Reading}
 use Rattle.wt_html_elements.specs.Kept.{IsKept, is_between}
 use Rattle.wt_html_elements.specs.Built.{view_content, views}
 use Rattle.wt_html_elements.specs.Held.{fits, needed, spent}
-use Rattle.wt_html_elements.specs.Faults.{refusal_of}
+use Rattle.wt_html_reasons.specs.Refusals.{refusal_of}
 use Rattle.wt_html_elements.specs.Reads.{parts_of, state_of, tag_held, Reads, Took}
 use Rattle.wt_html_elements.specs.Fed.{FedAs}
 use Rattle.wt_html_elements.specs.Answer.{RefusedFor, IsIll, Answers, answer_of}

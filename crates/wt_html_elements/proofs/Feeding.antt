@@ -12,8 +12,8 @@ use Rattle.wt_html_grammar.specs.Markup.{empty}
 use Rattle.wt_html_grammar.specs.Events.{Building, calm, put, out, out_open, out_end, out_name, out_escape, unit_if, decoded, tell, tell_on, built}
 use Rattle.wt_html_grammar.proofs.Steps.{if_case, run_append}
 use Rattle.wt_html_grammar.proofs.Places.{run_push, run_err, taken_last, taken_err}
-use Rattle.wt_html_elements.specs.declared.fault.Fault.{Fault}
-use Rattle.wt_html_elements.specs.declared.fault.Fault.TheVariants as faults
+use Rattle.wt_html_reasons.specs.declared.refusal.Fault.{Fault}
+use Rattle.wt_html_reasons.specs.declared.refusal.Fault.TheVariants as faults
 use Rattle.wt_html_elements.specs.declared.machine.Mode.{Mode}
 use Rattle.wt_html_elements.specs.declared.machine.Mode.TheVariants as modes
 use Rattle.wt_html_elements.specs.declared.machine.Within.{Within}

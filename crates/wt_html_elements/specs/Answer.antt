@@ -4,8 +4,8 @@ use Rattle.wt_html_grammar.specs.declared.why.HtmlWhy.TheVariants.{End}
 use Rattle.wt_html_grammar.specs.Grammar.{Front}
 use Rattle.wt_html_grammar.specs.Places.{Refused}
 use Rattle.wt_html_grammar.specs.Markup.{Stands}
-use Rattle.wt_html_elements.specs.declared.fault.HtmlRefusal.{HtmlRefusal}
-use Rattle.wt_html_elements.specs.declared.fault.HtmlRefusal.TheVariants as refusals
+use Rattle.wt_html_reasons.specs.declared.refusal.HtmlRefusal.{HtmlRefusal}
+use Rattle.wt_html_reasons.specs.declared.refusal.HtmlRefusal.TheVariants as refusals
 use Rattle.wt_html_elements.specs.declared.content.Content.{Content}
 use Rattle.wt_html_elements.specs.declared.reader.Reader.{Reader}
 use Rattle.wt_html_elements.specs.Reads.{tag_held}

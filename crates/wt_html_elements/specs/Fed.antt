@@ -2,8 +2,8 @@
 use Rattle.std.specs.Prelude.{◌≡◌, ℕ, ◌-◌, ◌≤◌, Option, Some, None, Err, List, length}
 use Rattle.wt_html_grammar.specs.Machine.{start, run}
 use Rattle.wt_html_grammar.specs.Places.{taken}
-use Rattle.wt_html_elements.specs.declared.fault.HtmlRefusal.{HtmlRefusal}
-use Rattle.wt_html_elements.specs.declared.fault.HtmlRefusal.TheVariants as refusals
+use Rattle.wt_html_reasons.specs.declared.refusal.HtmlRefusal.{HtmlRefusal}
+use Rattle.wt_html_reasons.specs.declared.refusal.HtmlRefusal.TheVariants as refusals
 use Rattle.wt_html_elements.specs.declared.reading.Reading.{Reading}
 use Rattle.wt_html_elements.specs.Reads.{Reads, tag_held}
 

@@ -3,8 +3,8 @@ use Rattle.std.specs.Prelude.{◌≡◌, ℕ, ◌+◌, ◌≤◌, true, Result, 
 use Rattle.wt_html_grammar.specs.Machine.{State, start, run}
 use Rattle.wt_html_grammar.specs.Places.{taken}
 use Rattle.wt_html_grammar.specs.Events.{Building, built}
-use Rattle.wt_html_elements.specs.declared.fault.Fault.{Fault}
-use Rattle.wt_html_elements.specs.declared.fault.Fault.TheVariants as faults
+use Rattle.wt_html_reasons.specs.declared.refusal.Fault.{Fault}
+use Rattle.wt_html_reasons.specs.declared.refusal.Fault.TheVariants as faults
 use Rattle.wt_html_elements.specs.declared.reading.Reading.{Reading}
 use Rattle.wt_html_elements.specs.Kept.{IsKept, is_between}
 use Rattle.wt_html_elements.specs.Held.{tag_len, needed, spent, fits}

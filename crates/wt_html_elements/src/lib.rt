@@ -17,8 +17,8 @@ mod tag;
 mod whole;
 
 pub use content::{Attribute, Content};
-pub use fault::HtmlRefusal;
 pub use laws::one_kept;
 pub use reader::Reader;
 pub use whole::read_elements;
 pub use wt_html_grammar::HtmlWhy;
+pub use wt_html_reasons::HtmlRefusal;

@@ -20,6 +20,7 @@ use crate::signs::{
     is_void,
 };
 use wt_html_grammar::{Event, Following, HtmlWhy, NESTED_ELEMENTS, follow};
+use wt_html_reasons::follow_name;
 
 /// Where a reader is, outside escapes and characters of several bytes.
 #[derive(Clone, Copy)]
@@ -407,12 +408,9 @@ impl Machine {
     {
         match builder.innermost_name().get(self.at) {
             Some(letter) => {
-                if byte == *letter {
-                    self.at += 1;
-                    Ok(Event::Quiet)
-                } else {
-                    Err(HtmlWhy::EndTag)
-                }
+                follow_name(*letter, byte)?;
+                self.at += 1;
+                Ok(Event::Quiet)
             }
             None => self.behind_end_name(builder, byte),
         }

@@ -4,10 +4,10 @@ ghost use Rattle.wt_html_elements.specs.Kept.{IsKept};
 ghost use Rattle.wt_html_elements.specs.Fed.{FedAs};
 
 use crate::content::Content;
-use crate::fault::{HtmlRefusal, refusal_of};
 use crate::reading::Reading;
 use std::alloc::Global;
 use wt_html_grammar::HtmlWhy;
+use wt_html_reasons::{HtmlRefusal, refusal_of};
 use wt_span::rest_of;
 
 /// A reader of HTML that comes in pieces. Each byte is decoded as it comes. `taken` is the number of

@@ -5,9 +5,9 @@ ghost use Rattle.wt_html_elements.specs.Runs.{stays, put_run};
 ghost use Rattle.wt_html_elements.specs.Reads.{Reads, TookByte, TookRun, Took, state_of, parts_of};
 
 use crate::builder::Builder;
-use crate::fault::Fault;
 use crate::machine::{Machine, Mode, Within};
 use std::alloc::Global;
+use wt_html_reasons::Fault;
 use wt_span::{NoMemory, front_of};
 
 /// What is read: where the machine is, and what was built.

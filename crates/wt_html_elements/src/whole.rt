@@ -2,9 +2,9 @@ ghost use Rattle.std.specs.Prelude.{◌<◌, ◌^◌, length};
 ghost use Rattle.wt_html_elements.specs.Answer.{Answers};
 
 use crate::content::Content;
-use crate::fault::HtmlRefusal;
 use crate::reader::Reader;
 use std::alloc::Global;
+use wt_html_reasons::HtmlRefusal;
 
 /// The root element that the whole input stands for, or the place and the reason of its first
 /// fault.

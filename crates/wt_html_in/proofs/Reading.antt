@@ -6,8 +6,8 @@ use Rattle.std.proofs.Math.Logic.{∥∥₁_elim}
 use Rattle.std.proofs.Props.{props}
 use Rattle.wt_html_grammar.specs.Markup.{Markup, Stands}
 use Rattle.wt_html_elements.specs.declared.content.Content.{Content}
-use Rattle.wt_html_elements.specs.declared.fault.HtmlRefusal.{HtmlRefusal as ElementsRefusal}
-use Rattle.wt_html_elements.specs.declared.fault.HtmlRefusal.TheVariants as elements_refusals
+use Rattle.wt_html_reasons.specs.declared.refusal.HtmlRefusal.{HtmlRefusal as ElementsRefusal}
+use Rattle.wt_html_reasons.specs.declared.refusal.HtmlRefusal.TheVariants as elements_refusals
 use Rattle.wt_html_elements.specs.declared.reader.Reader.{Reader as ElementsReader}
 use Rattle.wt_html_elements.specs.Built.{view_content}
 use Rattle.wt_html_elements.specs.Fed.{FedAs}

@@ -3,8 +3,8 @@ use Rattle.std.specs.Prelude.{◌≡◌, ℕ, ◌≤◌, Option, Some, None, Lis
 use Rattle.wt_html_grammar.specs.Grammar.{Front}
 use Rattle.wt_html_grammar.specs.declared.why.HtmlWhy.TheVariants.{End}
 use Rattle.wt_html_elements.specs.Answer.{IsFed as IsFedElements, held_len}
-use Rattle.wt_html_elements.specs.declared.fault.HtmlRefusal.{HtmlRefusal as ElementsRefusal}
-use Rattle.wt_html_elements.specs.declared.fault.HtmlRefusal.TheVariants as elements
+use Rattle.wt_html_reasons.specs.declared.refusal.HtmlRefusal.{HtmlRefusal as ElementsRefusal}
+use Rattle.wt_html_reasons.specs.declared.refusal.HtmlRefusal.TheVariants as elements
 use Rattle.wt_html_in.specs.declared.reader.Reader.{Reader}
 use Rattle.wt_html_in.specs.declared.refusal.HtmlRefusal.{HtmlRefusal}
 use Rattle.wt_html_in.specs.declared.refusal.HtmlRefusal.TheVariants as refusals

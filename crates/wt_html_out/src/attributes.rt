@@ -22,8 +22,7 @@ pub fn push_attribute(out: &mut Vec<u8>, name: AttrName, value: &[u8]) -> Result
     push(out, name.text())?;
     push(out, b"=\"")?;
     push_escaped(out, Escaping::DoubleQuoted, value)?;
-    push(out, b"\"")?;
-    Ok(())
+    push(out, b"\"")
 }
 
 /// An attribute, where there is one.
@@ -61,8 +60,7 @@ fn push_id(out: &mut Vec<u8>, id: u32) -> Result<(), NoMemory>
     }
     push(out, b" id=\"mw")?;
     push_number(out, id)?;
-    push(out, b"\"")?;
-    Ok(())
+    push(out, b"\"")
 }
 
 /// Escapes what comes after a place, as a value that is in `'`. Mostly nothing of it needs an
@@ -87,8 +85,7 @@ fn push_mw_escaped(alloc: Global, out: &mut Vec<u8>, mw: &DataMw) -> Result<(), 
 {
     let at = out.len();
     push_mw_text(alloc, out, mw)?;
-    escape_behind(alloc, out, at)?;
-    Ok(())
+    escape_behind(alloc, out, at)
 }
 
 #[tactic(auto, unfolding(wt_markup::specs::Html::mw_attribute))]
@@ -100,8 +97,7 @@ fn push_mw(alloc: Global, out: &mut Vec<u8>, mw: Option<&DataMw>) -> Result<(), 
     };
     push(out, b" data-mw='")?;
     push_mw_escaped(alloc, out, value)?;
-    push(out, b"'")?;
-    Ok(())
+    push(out, b"'")
 }
 
 /// Texts as one: a single text where it is, several put together.
@@ -172,16 +168,14 @@ fn push_sync_escaped(
 {
     let at = out.len();
     push_sync_of(alloc, out, node, dsr)?;
-    escape_behind(alloc, out, at)?;
-    Ok(())
+    escape_behind(alloc, out, at)
 }
 
 #[tactic(auto, unfolding(wt_markup::specs::Html::sync_start))]
 fn push_sync_start(out: &mut Vec<u8>) -> Result<(), NoMemory>
     ensures { OnOk result (out.new.items ≡ out.old.items ++ sync_start) }
 {
-    push(out, b" data-parsoid='")?;
-    Ok(())
+    push(out, b" data-parsoid='")
 }
 
 #[tactic(auto, unfolding(wt_markup::specs::Html::sync_value))]
@@ -195,8 +189,7 @@ fn push_sync_value(
 {
     push_sync_start(out)?;
     push_sync_escaped(alloc, out, node, dsr)?;
-    push(out, b"'")?;
-    Ok(())
+    push(out, b"'")
 }
 
 #[tactic(auto, unfolding(wt_markup::specs::Html::sync_attribute))]
@@ -206,8 +199,7 @@ fn push_sync(alloc: Global, out: &mut Vec<u8>, node: &Node<'_>) -> Result<(), No
     let Some(dsr) = node.ranges else {
         return Ok(());
     };
-    push_sync_value(alloc, out, node, dsr)?;
-    Ok(())
+    push_sync_value(alloc, out, node, dsr)
 }
 
 /// The number of a node and its data.
@@ -216,8 +208,7 @@ pub fn push_carried(alloc: Global, out: &mut Vec<u8>, node: &Node<'_>) -> Result
 {
     push_id(out, node.id)?;
     push_mw(alloc, out, node.mw())?;
-    push_sync(alloc, out, node)?;
-    Ok(())
+    push_sync(alloc, out, node)
 }
 
 /// The attributes of a node's element, in their order.
@@ -227,6 +218,5 @@ pub fn push_attributes(alloc: Global, out: &mut Vec<u8>, node: &Node<'_>) -> Res
 {
     push_fixed(out, node.kind)?;
     push_own(out, node.attrs())?;
-    push_carried(alloc, out, node)?;
-    Ok(())
+    push_carried(alloc, out, node)
 }

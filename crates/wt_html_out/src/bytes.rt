@@ -69,8 +69,7 @@ fn push_byte_double(out: &mut Vec<u8>, byte: u8) -> Result<(), NoMemory>
         push(out, b"&quot;")?;
         return Ok(());
     }
-    push_byte(out, byte)?;
-    Ok(())
+    push_byte(out, byte)
 }
 
 #[tactic(auto, unfolding(wt_markup::specs::Escapes::escape_single))]
@@ -81,8 +80,7 @@ fn push_byte_single(out: &mut Vec<u8>, byte: u8) -> Result<(), NoMemory>
         push(out, b"&#39;")?;
         return Ok(());
     }
-    push_byte(out, byte)?;
-    Ok(())
+    push_byte(out, byte)
 }
 
 /// How many bytes at the front need no escape in a text and aren't this quote.

@@ -44,8 +44,7 @@ fn push_both(out: &mut Vec<u8>, word: &Attr, value: &[u8]) -> Result<(), NoMemor
     push(out, word.name.text())?;
     push(out, b"=\"")?;
     push_values(out, word.value.as_str().as_bytes(), value)?;
-    push(out, b"\"")?;
-    Ok(())
+    push(out, b"\"")
 }
 
 /// The group's word and an attribute of its first element.
@@ -62,8 +61,7 @@ fn push_joined_type(
         return Ok(());
     }
     push_attribute(out, word.name, word.value.as_str().as_bytes())?;
-    push_attribute(out, name, value)?;
-    Ok(())
+    push_attribute(out, name, value)
 }
 
 /// The group's word and the element's own attributes.
@@ -74,8 +72,7 @@ fn push_before_own(out: &mut Vec<u8>, word: &Attr, attrs: &[Attr]) -> Result<(),
         [] => push_attribute(out, word.name, word.value.as_str().as_bytes()),
         [first, rest @ ..] => {
             push_joined_type(out, word, first.name, first.value.as_str().as_bytes())?;
-            push_own(out, rest)?;
-            Ok(())
+            push_own(out, rest)
         }
     }
 }
@@ -94,8 +91,7 @@ fn push_word(
         None => push_before_own(out, word, attrs),
         Some(fixed) => {
             push_joined_type(out, word, fixed.name, fixed.value)?;
-            push_own(out, attrs)?;
-            Ok(())
+            push_own(out, attrs)
         }
     }
 }
@@ -107,8 +103,7 @@ fn push_typed(out: &mut Vec<u8>, words: &[Attr], kind: Kind, attrs: &[Attr]) -> 
     match words {
         [] => {
             push_fixed(out, kind)?;
-            push_own(out, attrs)?;
-            Ok(())
+            push_own(out, attrs)
         }
         [word, ..] => push_word(out, word, kind.fixed(), attrs),
     }
@@ -129,8 +124,7 @@ fn push_first(
 {
     push_about(out, number)?;
     push_typed(out, group.attrs(), kind, attrs)?;
-    push_carried(alloc, out, group)?;
-    Ok(())
+    push_carried(alloc, out, group)
 }
 
 /// The attributes of another element of a group.
@@ -140,8 +134,7 @@ fn push_next(out: &mut Vec<u8>, number: usize, kind: Kind, attrs: &[Attr]) -> Re
 {
     push_about(out, number)?;
     push_fixed(out, kind)?;
-    push_own(out, attrs)?;
-    Ok(())
+    push_own(out, attrs)
 }
 
 /// An element of a group.

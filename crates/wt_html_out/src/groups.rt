@@ -47,8 +47,7 @@ fn push_group_tag(
     push(out, b"<")?;
     push_name(out, element.kind)?;
     push_group_attributes(alloc, out, element)?;
-    push(out, end)?;
-    Ok(())
+    push(out, end)
 }
 
 /// The start of the element round a text, or round nothing.

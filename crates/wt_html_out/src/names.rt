@@ -21,6 +21,5 @@ pub fn push_name(out: &mut Vec<u8>, kind: Kind) -> Result<(), NoMemory>
 {
     let spelling = kind.spelling();
     push(out, spelling.name)?;
-    push_level(out, spelling.level)?;
-    Ok(())
+    push_level(out, spelling.level)
 }

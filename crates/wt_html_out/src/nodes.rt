@@ -110,16 +110,14 @@ pub fn push_frame_start(out: &mut Vec<u8>) -> Result<(), NoMemory>
     push(
         out,
         b"<!DOCTYPE html><html><head><meta charset=\"utf-8\"/></head>",
-    )?;
-    Ok(())
+    )
 }
 
 #[tactic(auto, unfolding(wt_markup::specs::Html::frame_end))]
 pub fn push_frame_end(out: &mut Vec<u8>) -> Result<(), NoMemory>
     ensures { OnOk result (out.new.items ≡ out.old.items ++ frame_end) }
 {
-    push(out, b"</html>")?;
-    Ok(())
+    push(out, b"</html>")
 }
 
 /// The HTML of a page by its bytes, in memory, if it has no more than `most`. A page whose HTML is

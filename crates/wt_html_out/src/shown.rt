@@ -24,8 +24,7 @@ fn push_tag(out: &mut Vec<u8>, node: &Node<'_>, end: &[u8]) -> Result<(), NoMemo
     push_name(out, node.kind)?;
     push_fixed(out, node.kind)?;
     push_own(out, node.attrs())?;
-    push(out, end)?;
-    Ok(())
+    push(out, end)
 }
 
 /// An element of a group, inside of another one.

@@ -17,8 +17,7 @@ pub fn push_start(alloc: Global, out: &mut Vec<u8>, node: &Node<'_>) -> Result<(
     push(out, b"<")?;
     push_name(out, node.kind)?;
     push_attributes(alloc, out, node)?;
-    push(out, b">")?;
-    Ok(())
+    push(out, b">")
 }
 
 #[tactic(auto, unfolding(wt_markup::specs::Html::void_tag))]
@@ -28,8 +27,7 @@ pub fn push_void(alloc: Global, out: &mut Vec<u8>, node: &Node<'_>) -> Result<()
     push(out, b"<")?;
     push_name(out, node.kind)?;
     push_attributes(alloc, out, node)?;
-    push(out, b"/>")?;
-    Ok(())
+    push(out, b"/>")
 }
 
 /// The start tag of the section of this number.
@@ -49,8 +47,7 @@ pub fn push_end_of(out: &mut Vec<u8>, kind: Kind) -> Result<(), NoMemory>
 {
     push(out, b"</")?;
     push_name(out, kind)?;
-    push(out, b">")?;
-    Ok(())
+    push(out, b">")
 }
 
 #[tactic(auto, unfolding(wt_markup::specs::Html::end_tag))]

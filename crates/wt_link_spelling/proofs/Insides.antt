@@ -1,11 +1,11 @@
 -- The inside of a link, empty or not.
-use Rattle.std.proofs.Common.{arith, ◌≡◌, ◌≢◌, ◌≤◌, ℕ, None, List, [], ◌∷◌, length, refl}
+use Rattle.std.proofs.Common.{arith, ◌≡◌, ◌≢◌, ◌≤◌, ℕ, None, List, [], ◌∷◌, ◌++◌, length, refl}
 use Rattle.wt_tree.specs.declared.node.Node.{Node}
 use Rattle.wt_tree.specs.View.{views}
-use Rattle.wt_guards.specs.Guards.{nowiki}
-use Rattle.wt_link_spelling.specs.Spelling.{after_space, nowiki_or, only_text}
+use Rattle.wt_guards.specs.Guards.{nowiki, nowiki_if}
+use Rattle.wt_link_spelling.specs.Spelling.{after_space, begins_with_blank, nowiki_or, only_text}
 
-pub space_before : (bs : List ℕ) → length bs ≢ 0 → after_space bs ≡ 32 ∷ bs
+pub space_before : (bs : List ℕ) → length bs ≢ 0 → after_space bs ≡ 32 ∷ (nowiki_if (begins_with_blank bs) ++ bs)
 space_before [] h = absurd (h refl)
 space_before (b ∷ bs) h = refl
 

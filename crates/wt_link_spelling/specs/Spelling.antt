@@ -1,6 +1,7 @@
 -- The spelling: the signs of the edited content, and what is written for a block.
 use Rattle.std.specs.Prelude.{ℕ, ◌+◌, ◌-◌, min, Bool, true, false, ◌==◌, Option, Some, None, List, [], ◌∷◌, ◌++◌, length, if◌then◌else◌, codes, replicate, encode_utf8}
 use Rattle.std.specs.Str.{bytes_eq}
+use Rattle.wt_span.specs.Bytes.{is_blank}
 use Rattle.wt_span.specs.Characters as byte
 use Rattle.wt_names.specs.declared.namespace.Ns.{Ns}
 use Rattle.wt_names.specs.declared.namespace.Ns.TheVariants as ns
@@ -24,7 +25,7 @@ use Rattle.wt_tree.specs.declared.edit_shape.Place.{Place}
 use Rattle.wt_tree.specs.declared.edit_shape.Place.TheVariants as place
 use Rattle.wt_tree.specs.EditShapes.{edit_shape}
 use Rattle.wt_guards.specs.Content.{ContentSign, thing, letters}
-use Rattle.wt_guards.specs.Guards.{nowiki, spelled}
+use Rattle.wt_guards.specs.Guards.{nowiki, nowiki_if, spelled}
 use Rattle.wt_original.specs.Kept.{Kept, kept_with, shown}
 use Rattle.wt_original.specs.Page.{Page, page_of, no_page, is_unchanged}
 
@@ -156,9 +157,14 @@ abbrev pub page_link : Option Title → Trees → List ℕ → List ℕ
 page_link None ts inside = []
 page_link (Some t) ts inside = byte.opening_bracket ∷ byte.opening_bracket ∷ (colon t.ns ++ (text_of t ++ (link_text (is_text (only_text ts) (full_name_of t)) inside ++ (byte.closing_bracket ∷ byte.closing_bracket ∷ []))))
 
+abbrev pub begins_with_blank : List ℕ → Bool
+begins_with_blank [] = false
+begins_with_blank (b ∷ bs) = is_blank b
+
+-- A space and the inside. Blanks after a URL are no text: before one with which the text begins is `<nowiki/>`.
 abbrev pub after_space : List ℕ → List ℕ
 after_space [] = []
-after_space (b ∷ bs) = byte.space ∷ b ∷ bs
+after_space (b ∷ bs) = byte.space ∷ (nowiki_if (is_blank b) ++ (b ∷ bs))
 
 abbrev pub external_link : List ℕ → List ℕ → List ℕ
 external_link url inside = byte.opening_bracket ∷ (url ++ (after_space inside ++ (byte.closing_bracket ∷ [])))

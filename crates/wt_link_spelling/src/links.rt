@@ -8,10 +8,10 @@ ghost use Rattle.wt_tree.specs.declared.node.Node.{out-Node};
 ghost use Rattle.wt_tree.specs.declared.kind.AttrName.TheVariants as attr;
 ghost use Rattle.wt_tree.specs.EditShapes.{edit_shape};
 ghost use Rattle.wt_original.specs.Gathered.{kept_view};
-ghost use Rattle.wt_link_spelling.specs.Spelling.{value_of, href_of, text_by, only_text, is_text, colon, link_text, nowiki_or, page_link, after_space, external_link, tag_pair};
+ghost use Rattle.wt_link_spelling.specs.Spelling.{value_of, href_of, text_by, only_text, is_text, colon, link_text, nowiki_or, page_link, begins_with_blank, after_space, external_link, tag_pair};
 
 use std::alloc::{AllocError, Global};
-use wt_guards::push_nowiki;
+use wt_guards::{push_nowiki, push_nowiki_if};
 use wt_names::{Ns, Title, full_name, title_of_href};
 use wt_original::Kept;
 use wt_span::{NoMemory, Str, Text};
@@ -157,12 +157,23 @@ pub fn page_link(alloc: Global, node: &Node<'_>, inside: &str) -> Result<Str, No
     Ok(Str::from_string(out))
 }
 
+fn begins_with_blank(text: &str) -> bool
+    ensures { result ≡ begins_with_blank text.now }
+{
+    match text.as_bytes() {
+        [] => false,
+        [first, ..] => *first == b' ' || *first == b'\t',
+    }
+}
+
+/// Appends the text of a link after its URL. Blanks there are no text: before one with which it begins is `<nowiki/>`.
 #[tactic(auto, using(crate::proofs::Insides::space_before, crate::proofs::Insides::nothing_before))]
 fn push_after_space(out: &mut String, inside: &str) -> Result<(), AllocError>
     ensures { OnOk result (string_bytes out.new ≡ string_bytes out.old ++ after_space inside.now) }
 {
     if !inside.is_empty() {
         out.push_str(" ")?;
+        push_nowiki_if(out, begins_with_blank(inside))?;
         out.push_str(inside)?;
     }
     Ok(())

@@ -1,7 +1,9 @@
 pub mod CarriedNumbers
 pub mod CarriedParts
+pub mod ChildWalks
 pub mod Finishing
 pub mod GroupNodes
 pub mod Groupings
 pub mod Headings
 pub mod KeptNodes
+pub mod TreeSeams

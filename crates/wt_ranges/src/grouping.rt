@@ -25,12 +25,13 @@ ghost use Rattle.wt_annotated.specs.NumbersNeeded.{numbers_needed};
 ghost use Rattle.wt_annotated.specs.Pieces.{outer_calls};
 ghost use Rattle.wt_runs.specs.RunTrees.{run_tree};
 
+use crate::children::children;
 use crate::finished::{AllFinished, Finished, finished_group, finished_inner, finished_leaf};
 use crate::kept::{Frame, inner_frame};
 use std::alloc::Global;
 use wt_annotated::{Cursor, annotated_node, is_filled, next_after};
 use wt_inline::{NodeHead, PieceTree, with_room};
-use wt_runs::{Child, Run, children, cut_runs};
+use wt_runs::{Child, Run, cut_runs};
 use wt_span::{List, NoMemory, Outer};
 use wt_tree::Node;
 

@@ -2,12 +2,14 @@
 #![tactic(auto)]
 
 mod carried;
+mod children;
 mod finished;
 mod group_node;
 mod group_word;
 mod grouping;
 mod kept;
 mod page_tree;
+mod tree_seam;
 
 pub use page_tree::{Annotated, group};
 pub use wt_annotated::{

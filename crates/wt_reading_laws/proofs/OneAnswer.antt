@@ -16,8 +16,8 @@ use Rattle.wt_html_elements.specs.Built.{view_content}
 use Rattle.wt_html_elements.specs.Fed.{FedAs}
 use Rattle.wt_html_elements.specs.Reads.{state_of}
 use Rattle.wt_html_elements.specs.declared.content.Content.{Content}
-use Rattle.wt_html_elements.specs.declared.fault.HtmlRefusal.{HtmlRefusal}
-use Rattle.wt_html_elements.specs.declared.fault.HtmlRefusal.TheVariants as refusals
+use Rattle.wt_html_reasons.specs.declared.refusal.HtmlRefusal.{HtmlRefusal}
+use Rattle.wt_html_reasons.specs.declared.refusal.HtmlRefusal.TheVariants as refusals
 use Rattle.wt_html_elements.specs.declared.reader.Reader.{Reader}
 use Rattle.wt_html_elements.specs.declared.reading.Reading.{Reading}
 use Rattle.wt_reading_laws.specs.Pieces.{GoOnAlike}

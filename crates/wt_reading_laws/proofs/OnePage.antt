@@ -2,7 +2,7 @@
 use Rattle.std.proofs.Common.{◌≡◌, ◌↔◌, ◌⊎◌, inl, inr, ℕ, List, ◌++◌, Option, Some, None, Ok, refl, sym, ◌∙◌, subst}
 use Rattle.wt_tree.specs.Tree.{Tree}
 use Rattle.wt_html_grammar.specs.declared.why.HtmlWhy.{HtmlWhy}
-use Rattle.wt_html_elements.specs.declared.fault.HtmlRefusal.{HtmlRefusal as ElementsRefusal}
+use Rattle.wt_html_reasons.specs.declared.refusal.HtmlRefusal.{HtmlRefusal as ElementsRefusal}
 use Rattle.wt_schema.specs.Read.{IsRead, page, ill, misfit, read}
 use Rattle.wt_schema.proofs.OneReading.{one_read, reads}
 use Rattle.wt_html_in.specs.Answers.{Answers, RefusedFor, body_of, unsourced_of}

@@ -5,8 +5,8 @@ ghost use Rattle.wt_html_grammar.specs.declared.why.HtmlWhy.{HtmlWhy};
 ghost use Rattle.wt_html_elements.specs.Answer.{Answers, IsFed, IsIll, RefusedFor};
 ghost use Rattle.wt_html_elements.specs.Built.{view_content};
 ghost use Rattle.wt_html_elements.specs.declared.content.Content.{Content};
-ghost use Rattle.wt_html_elements.specs.declared.fault.HtmlRefusal.{HtmlRefusal};
-ghost use Rattle.wt_html_elements.specs.declared.fault.HtmlRefusal.TheVariants as refusals;
+ghost use Rattle.wt_html_reasons.specs.declared.refusal.HtmlRefusal.{HtmlRefusal};
+ghost use Rattle.wt_html_reasons.specs.declared.refusal.HtmlRefusal.TheVariants as refusals;
 ghost use Rattle.wt_html_elements.specs.declared.reader.Reader.{Reader};
 ghost use Rattle.wt_reading_laws.specs.Pieces.{GoOnAlike};
 

@@ -1,9 +1,8 @@
--- Worked cases of a table, of the names that it hasn't, and of what is told.
+-- Worked cases of a table, and of the names that it hasn't.
 use Rattle.std.proofs.Common.{◌≡◌, ℕ, List, [], ◌∷◌, refl}
 use Rattle.std.specs.Prelude.{Some, None, codes}
 use Rattle.wt_replies.specs.declared.table.Page.{Page}
 use Rattle.wt_replies.specs.Tables.{entry_of, or_else, pages_of, missing_names}
-use Rattle.wt_replies.specs.Replies.{Told, told_by}
 
 abbrev entry : List ℕ → List ℕ → ℕ → Page
 entry name text state = record { name = record { ref_ptr = (0, 0); now = name }; text = record { ref_ptr = (0, 0); now = text }; state = state }
@@ -32,15 +31,3 @@ one_more = refl
 
 two_missing : missing_names (entry_of table) (codes "A" ∷ codes "DE" ∷ codes "B" ∷ codes "C" ∷ codes "F" ∷ []) ≡ 68 ∷ 69 ∷ 0 ∷ 70 ∷ 0 ∷ []
 two_missing = refl
-
-abbrev all_there : Told
-all_there = record { status = 0; out = codes "x"; line = []; missing = [] }
-
-told_as_ended : told_by 0 (codes "x") [] [] ≡ all_there
-told_as_ended = refl
-
-abbrev names_alone : Told
-names_alone = record { status = 101; out = []; line = []; missing = 68 ∷ 0 ∷ [] }
-
-told_missing : told_by 2 [] (codes "wtround: no such page") (68 ∷ 0 ∷ []) ≡ names_alone
-told_missing = refl

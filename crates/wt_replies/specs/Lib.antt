@@ -1,6 +1,5 @@
 pub mod Indexes
 pub mod Replies
-pub mod ReplyView
 pub mod Runs
 pub mod Tables
 pub mod Words

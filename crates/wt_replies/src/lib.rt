@@ -1,25 +1,25 @@
 //! The commands of `wt_pagetool` over buffers of a caller and a table of pages.
 #![tactic(auto)]
 
-ghost use Rattle.wt_replies.specs.Replies.{room, IsAnswered};
+ghost use Rattle.wt_replies.specs.Replies.{IsAnswered};
+ghost use Rattle.wt_rooms.specs.Rooms.{room};
 
 mod folder;
 mod index;
 mod missing;
 mod ran;
 mod reply;
-mod rooms;
 mod source;
 mod table;
 mod words;
 mod written;
 
 use crate::reply::reply_to;
-use crate::rooms::hand_back;
 use std::alloc::Global;
 pub use table::Page;
 pub use words::Word;
 use wt_pagetool::Status;
+use wt_rooms::{hand_back, hand_nothing};
 
 /// Answers the words of a command over the bytes of `input` and the pages of a table.
 ///
@@ -43,9 +43,6 @@ pub fn answer(
     ensures { IsAnswered words.now input.now pages.now (room out.old out.new out_length.new)
         (room line.old line.new line_length.new) (room missing.old missing.new missing_length.new) result }
 {
-    *out_length = 0;
-    *line_length = 0;
-    *missing_length = 0;
     match reply_to(alloc, words, input, pages) {
         Ok(reply) => hand_back(
             &reply,
@@ -56,6 +53,9 @@ pub fn answer(
             missing,
             missing_length,
         ),
-        Err(_) => Status::NoMemory.code(),
+        Err(_) => {
+            hand_nothing(out_length, line_length, missing_length);
+            Status::NoMemory.code()
+        }
     }
 }

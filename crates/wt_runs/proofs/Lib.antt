@@ -1,3 +1,1 @@
-pub mod ChildWalks
 pub mod RunCuts
-pub mod TreeSeams

@@ -1,12 +1,10 @@
 -- Children of a node that is kept, as they are walked over.
-use Rattle.std.specs.Prelude.{ℕ, Option, List, [], ◌∷◌, map}
+use Rattle.std.specs.Prelude.{ℕ, Option, List, map}
 use Rattle.wt_span.specs.Origins.{OuterCall}
-use Rattle.wt_inline.specs.ItemTree.{ItemTree, held_by_all, forest}
+use Rattle.wt_inline.specs.ItemTree.{ItemTree, forest}
 use Rattle.wt_inline.specs.View.{item_tree}
 use Rattle.wt_runs.specs.declared.child.Child.{Child}
-use Rattle.wt_runs.specs.declared.child.Followed.{Followed}
 use Rattle.wt_annotated.specs.GroupData.{group_data}
-use Rattle.wt_annotated.specs.Seams.{first_of}
 use Rattle.wt_annotated.specs.Walked.{Near, walked, near}
 
 abbrev pub near_of : List OuterCall → Child → Near
@@ -26,12 +24,3 @@ nears_of calls cs = map (near_of calls) cs
 -- the children of a node from its first item on
 abbrev pub children_at : List OuterCall → Option ℕ → ℕ → Option ℕ → List ItemTree → List Near
 children_at calls o at p ts = near calls (group_data calls) o at p (forest ts)
-
--- ---- trees with the call of the first item after them
-
-abbrev pub tree_after : Followed → ItemTree × Option ℕ
-tree_after f = (item_tree f.tree, f.after)
-
-abbrev pub trees_after : List ItemTree → Option ℕ → List (ItemTree × Option ℕ)
-trees_after [] p = []
-trees_after (t ∷ ts) p = (t, first_of (held_by_all (forest ts)) p) ∷ trees_after ts p

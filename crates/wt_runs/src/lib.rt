@@ -1,9 +1,8 @@
-//! The children of a node, and the runs of them that are kept or become a group.
+//! The children of a node that are kept, and the runs of them that are kept or become a group.
 #![tactic(auto)]
 
 mod child;
 mod run;
-mod tree_seam;
 
-pub use child::{Child, children};
+pub use child::Child;
 pub use run::{Run, cut_runs};

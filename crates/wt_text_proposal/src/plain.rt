@@ -240,6 +240,13 @@ fn is_plain_underscore(cut: Cut<'_, '_, '_>) -> bool {
     *last == b'_' && before.is_known() && !before.is(b'_') && next.is_known() && !next.is(b'_')
 }
 
+/// Whether a `!` ends a header cell, with no other before it. (Where the signs of the next cell come after it, who asks
+/// for the inside writes a reference.)
+fn is_plain_mark(place: Option<Place>, cut: Cut<'_, '_, '_>) -> bool {
+    let ends_cell = matches!(place, Some(Place::Header)) && matches!(cut.next(), Beside::Edge);
+    ends_cell && !cut.behind().is(b'!')
+}
+
 /// Whether a character means nothing where it is. In a link's text (without a place, as that of a tag) brackets may
 /// end the link.
 fn is_plain(place: Option<Place>, cut: Cut<'_, '_, '_>, byte: u8) -> bool {
@@ -251,6 +258,7 @@ fn is_plain(place: Option<Place>, cut: Cut<'_, '_, '_>, byte: u8) -> bool {
         b'>' => !cut.around.is_in_tag && !cut.is_behind_dashes(),
         b'[' | b']' | b'{' | b'}' => place.is_some() && is_plain_bracket(cut, byte),
         b'_' => is_plain_underscore(cut),
+        b'!' => is_plain_mark(place, cut),
         _ => false,
     }
 }

@@ -1,5 +1,5 @@
 //! The table of kinds in code: a row for each kind.
-ghost use Rattle.std.specs.Prelude.{◌≡◌, false, true};
+ghost use Rattle.std.specs.Prelude.{◌≡◌, [], None, Some, false, true};
 ghost use Rattle.wt_tree.specs.Kinds.{
   row,
   shape,
@@ -32,6 +32,7 @@ ghost use Rattle.wt_tree.specs.Kinds.{
   order,
 };
 ghost use Rattle.wt_tree.specs.Tiling.{is_group};
+ghost use Rattle.wt_tree.specs.declared.kind.AttrName.TheVariants as attr;
 ghost use Rattle.wt_tree.specs.declared.kind.Showing.TheVariants.{Element};
 ghost use Rattle.wt_tree.specs.declared.row.Holding.TheVariants.{NoElements};
 ghost use Rattle.wt_tree.specs.declared.row.Payload.TheVariants.{NoData};
@@ -143,6 +144,27 @@ fn fixed(name: AttrName, value: &'static [u8]) -> Option<Fixed>
     ensures { fixed_of result ≡ Some (name, value.now) }
 {
     Some(Fixed { name, value })
+}
+
+/// A kind without attributes.
+fn plain(name: &'static [u8], word: &'static [u8]) -> Spelling
+    ensures { spelling_of result ≡ spelled name.now None None [] word.now }
+{
+    spelled(name, None, None, &[], word)
+}
+
+/// A kind with attributes of its own alone.
+fn owning(name: &'static [u8], own: &'static [Own], word: &'static [u8]) -> Spelling
+    ensures { spelling_of result ≡ spelled name.now None None own.now word.now }
+{
+    spelled(name, None, None, own, word)
+}
+
+/// A kind that its type alone tells.
+fn typed(name: &'static [u8], value: &'static [u8], word: &'static [u8]) -> Spelling
+    ensures { spelling_of result ≡ spelled name.now None (Some (attr.Typeof, value.now)) [] word.now }
+{
+    spelled(name, None, fixed(AttrName::Typeof, value), &[], word)
 }
 
 #[tactic(auto, unfolding(crate::specs::Kinds::tag_name))]
@@ -341,26 +363,26 @@ impl Kind {
         ensures { spelling_of result ≡ spelling self }
     {
         match self {
-            Kind::Body => spelled(b"body", None, None, &[], b""),
-            Kind::Section(_) => spelled(b"section", None, None, &[], b""),
-            Kind::Para => spelled(b"p", None, None, &[], b"p"),
+            Kind::Body => plain(b"body", b""),
+            Kind::Section(_) => plain(b"section", b""),
+            Kind::Para => plain(b"p", b"p"),
             Kind::Heading(level) => spelled(b"h", Some(level), None, &[], b"h"),
-            Kind::Rule => spelled(b"hr", None, None, &[], b"hr"),
-            Kind::Ul => spelled(b"ul", None, None, &[], b"ul"),
-            Kind::Ol => spelled(b"ol", None, None, &[], b"ol"),
-            Kind::Dl => spelled(b"dl", None, None, &[], b"dl"),
-            Kind::Li => spelled(b"li", None, None, &[], b"li"),
-            Kind::Dt => spelled(b"dt", None, None, &[], b"dt"),
-            Kind::Dd => spelled(b"dd", None, None, &[], b"dd"),
-            Kind::Pre => spelled(b"pre", None, None, &[], b"pre"),
-            Kind::Table => spelled(b"table", None, None, styles(), b"table"),
-            Kind::Tbody => spelled(b"tbody", None, None, &[], b"tbody"),
-            Kind::Tr => spelled(b"tr", None, None, styles(), b"tr"),
-            Kind::Caption => spelled(b"caption", None, None, styles(), b"caption"),
-            Kind::Td => spelled(b"td", None, None, styles(), b"td"),
-            Kind::Th => spelled(b"th", None, None, styles(), b"th"),
-            Kind::Bold => spelled(b"b", None, None, &[], b"b"),
-            Kind::Italic => spelled(b"i", None, None, &[], b"i"),
+            Kind::Rule => plain(b"hr", b"hr"),
+            Kind::Ul => plain(b"ul", b"ul"),
+            Kind::Ol => plain(b"ol", b"ol"),
+            Kind::Dl => plain(b"dl", b"dl"),
+            Kind::Li => plain(b"li", b"li"),
+            Kind::Dt => plain(b"dt", b"dt"),
+            Kind::Dd => plain(b"dd", b"dd"),
+            Kind::Pre => plain(b"pre", b"pre"),
+            Kind::Table => owning(b"table", styles(), b"table"),
+            Kind::Tbody => plain(b"tbody", b"tbody"),
+            Kind::Tr => owning(b"tr", styles(), b"tr"),
+            Kind::Caption => owning(b"caption", styles(), b"caption"),
+            Kind::Td => owning(b"td", styles(), b"td"),
+            Kind::Th => owning(b"th", styles(), b"th"),
+            Kind::Bold => plain(b"b", b"b"),
+            Kind::Italic => plain(b"i", b"i"),
             Kind::WikiLink => spelled(
                 b"a",
                 None,
@@ -382,43 +404,19 @@ impl Kind {
                 link(),
                 b"category",
             ),
-            Kind::Tag(tag) => spelled(name_of_tag(tag), None, None, own_of_tag(tag), b"tag"),
-            Kind::Br => spelled(b"br", None, None, &[], b"br"),
-            Kind::Entity => spelled(
-                b"span",
-                None,
-                fixed(AttrName::Typeof, b"mw:Entity"),
-                &[],
-                b"entity",
-            ),
-            Kind::Nowiki => spelled(
-                b"span",
-                None,
-                fixed(AttrName::Typeof, b"mw:Nowiki"),
-                &[],
-                b"nowiki",
-            ),
-            Kind::Island => spelled(b"span", None, None, island_type(), b"island"),
-            Kind::Switch => spelled(b"meta", None, None, switch_name(), b"switch"),
-            Kind::Comment => spelled(
-                b"meta",
-                None,
-                fixed(AttrName::Typeof, b"mw:Comment"),
-                &[],
-                b"comment",
-            ),
-            Kind::Include => spelled(b"meta", None, None, include_type(), b"include"),
-            Kind::Skip => spelled(
-                b"meta",
-                None,
-                fixed(AttrName::Typeof, b"mw:Skip"),
-                &[],
-                b"skip",
-            ),
-            Kind::Sep => spelled(b"", None, None, &[], b""),
-            Kind::Text => spelled(b"", None, None, &[], b""),
-            Kind::Group => spelled(b"", None, None, &[], b"group"),
-            Kind::Empty => spelled(b"", None, None, &[], b""),
+            Kind::Tag(tag) => owning(name_of_tag(tag), own_of_tag(tag), b"tag"),
+            Kind::Br => plain(b"br", b"br"),
+            Kind::Entity => typed(b"span", b"mw:Entity", b"entity"),
+            Kind::Nowiki => typed(b"span", b"mw:Nowiki", b"nowiki"),
+            Kind::Island => owning(b"span", island_type(), b"island"),
+            Kind::Switch => owning(b"meta", switch_name(), b"switch"),
+            Kind::Comment => typed(b"meta", b"mw:Comment", b"comment"),
+            Kind::Include => owning(b"meta", include_type(), b"include"),
+            Kind::Skip => typed(b"meta", b"mw:Skip", b"skip"),
+            Kind::Sep => plain(b"", b""),
+            Kind::Text => plain(b"", b""),
+            Kind::Group => plain(b"", b"group"),
+            Kind::Empty => plain(b"", b""),
         }
     }
 

@@ -1,7 +1,8 @@
 //! The call that the C library exports.
 #![tactic(auto)]
 
-ghost use Rattle.wt_replies.specs.Replies.{room, IsAnswered};
+ghost use Rattle.wt_replies.specs.Replies.{IsAnswered};
+ghost use Rattle.wt_rooms.specs.Rooms.{room};
 
 use std::alloc::Global;
 use wt_replies::{Page, Word, answer};

@@ -14,7 +14,7 @@ close_call-requires c =
     let n = c.args.at.end - c.args.at.start in
     let h = c.loop-place.invariant.leads c.requires.at c.requires.before c.requires.stands in
     can_take c.requires.at (again n rewritten (n, c.requires.before)) c.pop_run.new.self c.loop-place.self c.loop-place.place
-    c.args.at.end c.taken-braces.result c.in-Some.run' h c.in-Some.ensures c.loop-place-test.true c.taken-braces.ensures
+    c.args.at.end c.braces_taken-braces.result c.in-Some.run' h c.in-Some.ensures c.loop-place-test.true c.braces_taken-braces.ensures
 
 pub loop-place-preserved : goal.loop-place-preserved
 loop-place-preserved c =
@@ -22,12 +22,12 @@ loop-place-preserved c =
     let some = c.loop-place.invariant.leads c.requires.at c.requires.before c.requires.stands in
     record {
       order = take_order c.requires.at (again n rewritten (n, c.requires.before)) c.pop_run.new.self c.loop-place.self
-          c.loop-place.place c.args.at.end c.taken-braces.result c.in-Some.run' some c.in-Some.ensures c.loop-place-test.true
-          c.taken-braces.ensures;
+          c.loop-place.place c.args.at.end c.braces_taken-braces.result c.in-Some.run' some c.in-Some.ensures c.loop-place-test.true
+          c.braces_taken-braces.ensures;
       leads = λ from before s.
           leads_more from (again n rewritten (n, before)) c.pop_run.new.self c.loop-place.self c.close_call.new.self
-          c.loop-place.place c.args.at.end c.taken-braces.result c.in-Some.run'
-          (c.loop-place.invariant.leads from before s) c.in-Some.ensures c.loop-place-test.true c.taken-braces.ensures
+          c.loop-place.place c.args.at.end c.braces_taken-braces.result c.in-Some.run'
+          (c.loop-place.invariant.leads from before s) c.in-Some.ensures c.loop-place-test.true c.braces_taken-braces.ensures
           c.in_ok-close_call.ensures;
     }
 

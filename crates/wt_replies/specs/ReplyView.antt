@@ -1,6 +1,0 @@
--- What the code keeps of a reply, as what the caller gets.
-use Rattle.wt_replies.specs.declared.reply.Reply.{Reply}
-use Rattle.wt_replies.specs.Replies.{Told}
-
-abbrev pub told_of : Reply → Told
-told_of reply = record { status = reply.status; out = reply.out; line = reply.line; missing = reply.missing }
