@@ -21,7 +21,8 @@ use Rattle.wt_text_edit_laws.specs.Contents.{IsContent}
 use Rattle.wt_text_edit_laws.proofs.Blocks.BlocksAgain.{AreClear}
 use Rattle.wt_text_edit_laws.proofs.Blocks.BlockReading.{begins_here}
 use Rattle.wt_text_edit_laws.proofs.Paragraphs.ClearLines.{clear_first, clear_line}
-use Rattle.wt_called_edit_laws.specs.CalledBlocks.{AreAmongCalls}
+use Rattle.wt_called_edit_laws.specs.CalledBlocks.{AreAmongCalls, tree_by}
+use Rattle.wt_called_edit_laws.specs.Nodes.{block_at}
 use Rattle.wt_called_edit_laws.specs.Parts.{AreCalled}
 use Rattle.wt_called_edit_laws.proofs.Cells.CalledFrames.{among_contents}
 use Rattle.wt_called_edit_laws.specs.FreeBlocks.{AreFreeFrom}
@@ -65,7 +66,7 @@ called_clear pages (s ∷ ss) behind h = (clear_first s.before h.0.ended, furthe
 -- ---- the blocks of a page
 
 untangled_from : (items : Expanded) (page front : List ℕ) (ss : List BlockSpot) (behind : List ℕ) (at : ℕ) → page ≡ front ++ spots_source ss behind → at ≡ length front
-    → AreFreeFrom items.text_calls at ss → AreClear front ss → AreContents ss → AreUntangledFrom items page at ss
+    → AreFreeFrom items.text_calls at ss → AreClear front ss → AreContents ss → AreUntangledFrom items page (block_at (tree_by ss)) at ss
 untangled_from items page front [] behind at e i f c b = tt
 untangled_from items page front (s ∷ ss) behind at e i f c b =
     let line : List ℕ = source_of s.block s.text in
@@ -82,7 +83,7 @@ untangled_from items page front (s ∷ ss) behind at e i f c b =
     )
 
 pub blocks_untangled : (pages : Pages) (ss : List BlockSpot) (behind : List ℕ) → AreAmongCalls pages ss behind
-    → AreUntangledFrom (expanded_page pages (spots_source ss behind)) (spots_source ss behind) 0 ss
+    → AreUntangledFrom (expanded_page pages (spots_source ss behind)) (spots_source ss behind) (block_at (tree_by ss)) 0 ss
 blocks_untangled pages ss behind h =
     untangled_from (expanded_page pages (spots_source ss behind)) (spots_source ss behind) [] ss behind 0 refl refl (blocks_free pages ss behind h)
     (called_clear pages ss behind h.called) (among_contents pages ss behind h)

@@ -24,7 +24,7 @@ ghost use Rattle.wt_text_edit_laws.specs.TypedPages.{IsTypedPage};
 ghost use Rattle.wt_called_edit_laws.specs.AnyBlocks.{AreSpots, AllLead};
 ghost use Rattle.wt_called_edit_laws.specs.AnyTexts.{TakesAnyTexts};
 ghost use Rattle.wt_called_edit_laws.specs.ItemSpots.{AreContentSpots};
-ghost use Rattle.wt_called_edit_laws.specs.CalledBlocks.{AreAmongCalls, counted, StandAmongCalls};
+ghost use Rattle.wt_called_edit_laws.specs.CalledBlocks.{AreAmongCalls, counted, tree_by, StandAmongCalls};
 ghost use Rattle.wt_called_edit_laws.specs.CellEdits.{CellPage, page_with, IsCellPage, IsCellEdit, LeadsFrom, TakesText, own_sents};
 ghost use Rattle.wt_called_edit_laws.specs.HeadingsInCells.{IsHeadingInCell, HeadingStandsInCell};
 ghost use Rattle.wt_called_edit_laws.specs.UnmarkedCells.{TakesUnmarked};
@@ -38,7 +38,7 @@ ghost use Rattle.wt_span.specs.Origins.{OuterCall};
 ghost use Rattle.wt_inline.specs.ItemTree.{ItemTree, plain};
 ghost use Rattle.wt_row_laws.specs.Frames.{Frames};
 ghost use Rattle.wt_called_trees.specs.TreeFrames.{TreeFrames};
-ghost use Rattle.wt_called_edit_laws.specs.Nodes.{NodesStayIn};
+ghost use Rattle.wt_called_edit_laws.specs.Nodes.{block_at, NodesStayIn};
 ghost use Rattle.wt_called_edit_laws.specs.PathsTo.{paths_to, PathsSend};
 ghost use Rattle.wt_called_edit_laws.specs.Sends.{ContentsMake};
 ghost use Rattle.wt_called_edit_laws.specs.Stand.{BlocksStand, BlocksAreFree};
@@ -276,7 +276,7 @@ pub fn text_calls_touch_no_block_that_calls()
 #[tactic(auto, using(crate::proofs::Untangled::blocks_untangled))]
 pub fn blocks_among_calls_are_untangled()
     ensures { (pages : Pages) (ss : List BlockSpot) (behind : List ℕ) → AreAmongCalls pages ss behind
-        → AreUntangledFrom (expanded_page pages (spots_source ss behind)) (spots_source ss behind) 0 ss }
+        → AreUntangledFrom (expanded_page pages (spots_source ss behind)) (spots_source ss behind) (block_at (tree_by ss)) 0 ss }
 {}
 
 /// A page that calls nothing, and of which no node can only be kept as a whole (`AreContentSpots`), is such a page, whatever
