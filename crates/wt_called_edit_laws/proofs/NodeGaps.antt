@@ -1,5 +1,5 @@
 -- What a page has before each place of its nodes: its source before this block, which is the same whatever the texts are.
-use Rattle.std.proofs.Common.{◌≡◌, ℕ, false, List, [], ◌∷◌, ◌++◌, length, refl, sym, ap, ap₂, ◌∙◌, subst, append-nil, append_assoc}
+use Rattle.std.proofs.Common.{◌≡◌, ℕ, suc, false, List, [], ◌∷◌, ◌++◌, length, map, refl, sym, ap, ap₂, ◌∙◌, subst, append-nil, append_assoc}
 use Rattle.wt_tree.specs.Kinds.{is_leaf}
 use Rattle.wt_tree.specs.Source.{flat, flat_of_all}
 use Rattle.wt_tree.specs.Tree.{Label, Tree, tree, Trees}
@@ -7,7 +7,9 @@ use Rattle.wt_inline.specs.ItemTree.{ItemTree}
 use Rattle.wt_moved_laws.specs.Standing.{standing}
 use Rattle.wt_moved_laws.proofs.Sources.{standing_source}
 use Rattle.wt_text_edit_laws.specs.BlockSpots.{BlockSpot, spots_source, AreContents}
+use Rattle.wt_text_edit_laws.proofs.Blocks.Contents.{block_source as source_is}
 use Rattle.wt_called_edit_laws.specs.CalledBlocks.{tree_by, counted}
+use Rattle.wt_called_edit_laws.specs.PartTexts.{HaveOwnSources}
 use Rattle.wt_called_edit_laws.proofs.Cells.PlaceGaps.{Gaps, last_gap, then_gap, put_before, numbers_in, numbers_before, fill, fill_before, source_at, sources_at, sources_both, own_sources, FillsAll, AreSame, same_gaps, sources_counted, count_counted, many_by, AtPlaces, at_before}
 use Rattle.wt_called_trees.specs.TreeFrames.{TreeFrame, spot, kept, holder, TreeFrames, no_nodes, more_nodes, filled, all_filled, spots_in, spots}
 use Rattle.wt_called_edit_laws.specs.Nodes.{block_at, NoLeaves, NoneLeaves}
@@ -58,6 +60,16 @@ have_sources t (n ∷ ns) = (spot_source t n, have_sources t ns)
 pub both_have : (b : ℕ → Tree) (t : ℕ → ItemTree) (ms ns : List ℕ) → HaveSources b t (ms ++ ns) → HaveSources b t ms × HaveSources b t ns
 both_have b t [] ns h = (tt, h)
 both_have b t (m ∷ ms) ns h = let r = both_have b t ms ns h.1 in ((h.0, r.0), r.1)
+
+sources_moved : (b : ℕ → Tree) (t : ℕ → ItemTree) (ns : List ℕ) → HaveSources (λ n. b (suc n)) (λ n. t (suc n)) ns → HaveSources b t (map suc ns)
+sources_moved b t [] h = tt
+sources_moved b t (n ∷ ns) h = (h.0, sources_moved b t ns h.1)
+
+-- nodes with the blocks' sources, one after the other
+pub own_have : (b : ℕ → Tree) (ss : List BlockSpot) → HaveOwnSources b ss → HaveSources b (tree_by ss) (counted ss)
+own_have b [] h = tt
+own_have b (s ∷ ss) h =
+    (h.0 ∙ sym (source_is s.block s.text), sources_moved b (tree_by (s ∷ ss)) (counted ss) (own_have (λ n. b (suc n)) ss h.1))
 
 -- what is in a node that holds places
 holder_source : (l : Label) (ts : Trees) → is_leaf l.kind ≡ false → l.opening ++ flat_of_all ts ++ l.closing ≡ flat (tree l ts)

@@ -2,6 +2,9 @@
 use Rattle.std.specs.Prelude.{◌≡◌, ℕ, zero, suc, ◌+◌, false, Some, List, [], ◌∷◌, length}
 use Rattle.wt_span.specs.Origins.{Expanded}
 use Rattle.wt_tree.specs.Tree.{Tree, label}
+use Rattle.wt_checks.specs.Kept.{children}
+use Rattle.wt_isolation.specs.OpenTags.{any_ends_open}
+use Rattle.wt_selser.specs.GroupFaults.{has_faulty_group}
 use Rattle.wt_moved_laws.specs.Placeless.{placeless}
 use Rattle.wt_selser.specs.Edits.{is_tangled}
 use Rattle.wt_text_edit_laws.specs.BlockSpots.{BlockSpot}
@@ -17,3 +20,10 @@ AreUntangledFrom items bytes b at (s ∷ ss) =
     ((t : Tree) (first last : ℕ) → placeless t ≡ b zero
     → (label t).ranges ≡ Some (record { start = start; end = end; open_w = first; close_w = last }) → is_tangled items bytes t ≡ false)
     × AreUntangledFrom items bytes (λ n. b (suc n)) end ss
+
+-- in each of these blocks no tag is open, and no group is faulty, wherever it is
+abbrev pub AreWhole : Expanded → (ℕ → Tree) → List BlockSpot → Type 0
+AreWhole items b [] = Unit {0}
+AreWhole items b (s ∷ ss) =
+    ((t : Tree) → placeless t ≡ b zero → (any_ends_open (children t) ≡ false) × (has_faulty_group items (children t) ≡ false))
+    × AreWhole items (λ n. b (suc n)) ss
