@@ -91,17 +91,17 @@ mutual
   all_untangled items page b t o front no_nodes z (more_edits s ss) g w p e at h = absurd p
   all_untangled items page b t o front (more_nodes f fs) z no_edits g w p e at h = absurd p
   all_untangled items page b t o front (more_nodes f fs) z (more_edits s ss) g w p e at h =
-      let both = both_have b t (spots_in f) (spots fs) g in
+      let here = both_have b t (spots_in f) (spots fs) g in
       let own : List ℕ = flat (filled b f) in
       let first : placeless (page_node s) ≡ filled b f =
       same_first (placeless (page_node s)) (filled b f) (all_placeless (page_nodes ss)) (all_filled b fs) e in
       let size : length (page_source s) ≡ length own = ap length (page_flat (length front) s at.0 ∙ sym (flat_same (page_node s)) ∙ ap flat first) in
       let both : length (front ++ own) ≡ length front + length own = length-append front own in
       let place : length front + length (page_source s) ≡ length (front ++ own) = omega (arith, size, both) in (
-        node_untangled items page b t o front f (gaps_in fs z) s both.0 w.0 p.0 first at.0 h,
-        all_untangled items page b t o (front ++ own) fs z ss both.1 w.1 p.1
+        node_untangled items page b t o front f (gaps_in fs z) s here.0 w.0 p.0 first at.0 h,
+        all_untangled items page b t o (front ++ own) fs z ss here.1 w.1 p.1
             (same_rest (placeless (page_node s)) (filled b f) (all_placeless (page_nodes ss)) (all_filled b fs) e)
-            (subst (λ (i : ℕ). LieAt i ss) place at.1) (past_node (IsFree items page b t) b t front f (gaps_in fs z) both.0 w.0 h),
+            (subst (λ (i : ℕ). LieAt i ss) place at.1) (past_node (IsFree items page b t) b t front f (gaps_in fs z) here.0 w.0 h),
       )
 
 -- ---- the places of the page's blocks
