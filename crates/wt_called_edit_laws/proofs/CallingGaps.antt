@@ -57,20 +57,25 @@ gaps_by_letters pages (then_gap xs i g) (s ∷ ss) behind m o l f =
 
 -- ---- of a page
 
+-- with such contents its nodes have the page's source
+pub calling_source : (pages : Pages) (ss rs : List BlockSpot) (behind : List ℕ) (f : CallingNodesStay pages ss behind) → IsCallingPage pages ss behind
+    → AreEdited pages ss rs → EachHolds pages rs → flat_of_all (all_filled (block_with_groups pages rs behind) f.nodes) ≡ spots_source rs behind
+calling_source pages ss rs behind f h t o =
+    let expanded = expanded_again pages ss rs behind h.outside.blocks.called (edited_anew pages ss rs t) in
+    sym (ap flat_of_all (f.stay rs t (all_hold pages rs o)))
+    ∙ all_flat_same (children (spots_tree pages rs behind))
+    ∙ (page_body pages (spots_source rs behind) (called_utf8 pages rs behind expanded.called) (expanded.unrefused h.unrefused)).source
+
 calling_fills : (pages : Pages) (ss : List BlockSpot) (behind : List ℕ) (f : CallingNodesStay pages ss behind) → IsCallingPage pages ss behind
     → FillsEdited pages (page_gaps f.nodes) ss behind
 calling_fills pages ss behind f h = λ rs t o.
     let again = calling_outside pages ss rs behind h.outside t (all_hold pages rs o) in
     let expanded = expanded_again pages ss rs behind h.outside.blocks.called (edited_anew pages ss rs t) in
-    let refused = expanded.unrefused h.unrefused in
     let b : ℕ → Tree = block_with_groups pages rs behind in
     let in_order : spots f.nodes ≡ counted rs = f.in_order ∙ sym (counted_same ss rs (edited_round pages ss rs t)) in
     let sources : HaveSources b (tree_by rs) (spots f.nodes) =
-    subst (HaveSources b (tree_by rs)) (sym in_order) (own_have b rs (blocks_have pages rs behind again refused)) in
-    filled_page b rs behind f.nodes sources f.inner_nodes in_order
-    (sym (ap flat_of_all (f.stay rs t (all_hold pages rs o)))
-    ∙ all_flat_same (children (spots_tree pages rs behind))
-    ∙ (page_body pages (spots_source rs behind) (called_utf8 pages rs behind expanded.called) refused).source)
+    subst (HaveSources b (tree_by rs)) (sym in_order) (own_have b rs (blocks_have pages rs behind again (expanded.unrefused h.unrefused))) in
+    filled_page b rs behind f.nodes sources f.inner_nodes in_order (calling_source pages ss rs behind f h t o)
 
 pub calling_gaps : (pages : Pages) (ss : List BlockSpot) (behind : List ℕ) (f : CallingNodesStay pages ss behind) → IsCallingPage pages ss behind
     → AreSame (page_gaps f.nodes) ss

@@ -49,4 +49,5 @@ pub mod CallingGroups
 pub mod CallingPages
 pub mod CallingGaps
 pub mod CallingApart
+pub mod CallingSent
 pub mod Cells

@@ -9,7 +9,7 @@ ghost use Rattle.wt_typed_blocks.specs.EditedPage.{LieAt, AreApart};
 ghost use Rattle.wt_called_trees.specs.TreeFrames.{all_filled};
 ghost use Rattle.wt_text_edit_laws.specs.BlockSpots.{BlockSpot, spots_source};
 ghost use Rattle.wt_called_edit_laws.specs.CallingBlocks.{AreEdited};
-ghost use Rattle.wt_called_edit_laws.specs.CallingEdits.{AllTakeLetters, IsCallingPage, StaysAt};
+ghost use Rattle.wt_called_edit_laws.specs.CallingEdits.{AllTakeLetters, IsCallingPage, StaysAt, IsSentFor, MakesPage};
 ghost use Rattle.wt_called_edit_laws.specs.CallingGroups.{block_with_groups, CallingNodesStay};
 ghost use Rattle.wt_called_edit_laws.specs.FreeBlocks.{NoTextCalls};
 ghost use Rattle.wt_called_edit_laws.specs.Sends.{AllSend};
@@ -46,4 +46,12 @@ pub fn edits_of_blocks_that_call_are_apart()
         → IsCallingPage pages ss behind → AllSend o f.nodes es
         → all_placeless (page_nodes es) ≡ all_filled (block_with_groups pages ss behind) f.nodes → LieAt 0 es
         → AreApart (expanded_page pages (spots_source ss behind)) (spots_source ss behind) es }
+{}
+
+/// And where each content that is sent makes its block with the groups in it (`IsSentFor`), what is sent makes the new page: its bytes, and what it
+/// shows (`MakesPage`).
+#[tactic(auto, using(crate::proofs::CallingSent::page_made))]
+pub fn edits_of_blocks_that_call_make_the_page()
+    ensures { (pages : Pages) (ss rs : List BlockSpot) (behind : List ℕ) (f : CallingNodesStay pages ss behind) (o : ℕ → Option Edited) (es : Edits)
+        → IsCallingPage pages ss behind → AreEdited pages ss rs → EachHolds pages rs → IsSentFor pages ss rs behind f o es → MakesPage pages rs behind es }
 {}
