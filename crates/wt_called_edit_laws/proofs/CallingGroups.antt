@@ -36,10 +36,10 @@ use Rattle.wt_called_edit_laws.proofs.Parts.Retyped.{is_by_parts, expanded_again
 
 -- ---- the calls of the page with other contents
 
-edited_round : (pages : Pages) (ss rs : List BlockSpot) → AreEdited pages ss rs → SameRound ss rs
+pub edited_round : (pages : Pages) (ss rs : List BlockSpot) → AreEdited pages ss rs → SameRound ss rs
 edited_round pages ss rs t = anew_round pages ss rs (edited_anew pages ss rs t)
 
-one_moved : (pages : Pages) (s r : BlockSpot) → r.block ≡ s.block → (r.text ≡ s.text) ⊎ IsNewContentIn pages r.block s.text r.text
+pub one_moved : (pages : Pages) (s r : BlockSpot) → r.block ≡ s.block → (r.text ≡ s.text) ⊎ IsNewContentIn pages r.block s.text r.text
     → AreMoved (expanded_page pages (source_of s.block s.text)).outer (expanded_page pages (source_of r.block r.text)).outer
 one_moved pages s r k (inl e) =
     let was : List OuterCall = (expanded_page pages (source_of s.block s.text)).outer in

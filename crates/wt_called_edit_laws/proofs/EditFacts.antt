@@ -46,7 +46,7 @@ use Rattle.wt_called_edit_laws.proofs.TilesStand.{blocks_stand}
 use Rattle.wt_called_edit_laws.proofs.BlocksMade.{AreMadeSpots, all_made, blocks_made, all_taken, contents_retyped}
 use Rattle.wt_called_edit_laws.proofs.CalledUtf8.{called_utf8, retyped}
 use Rattle.wt_called_edit_laws.proofs.Leads.{all_stand, edit_at, edited_there}
-use Rattle.wt_called_edit_laws.proofs.NodeGaps.{AreThePage, filled_page, gaps_so, numbers_so}
+use Rattle.wt_called_edit_laws.proofs.NodeGaps.{AreThePage, have_sources, filled_page, gaps_so, numbers_so}
 use Rattle.wt_called_edit_laws.proofs.PageBody.{IsBodyOf, page_body}
 use Rattle.wt_called_edit_laws.proofs.PagesSettled.{called_settled}
 use Rattle.wt_called_edit_laws.proofs.TextsUntangled.{edit_untangled}
@@ -124,7 +124,7 @@ nodes_source pages ss rs behind f t =
 
 pub are_the_page : (pages : Pages) (ss : List BlockSpot) (behind : List ℕ) (f : IsFramedPage pages ss behind) → AreThePage f.nodes ss behind
 are_the_page pages ss behind f = λ rs e b o.
-    filled_page rs behind f.nodes f.inner_nodes (f.in_order ∙ sym (counted_same ss rs e))
+    filled_page (block_at (tree_by rs)) rs behind f.nodes (have_sources (tree_by rs) (spots f.nodes)) f.inner_nodes (f.in_order ∙ sym (counted_same ss rs e))
     (nodes_source pages ss rs behind f (retyped ss rs e o))
 
 -- ---- the paths
@@ -192,8 +192,8 @@ well_sent pages ss behind f es h e =
       taken = all_taken ss os f.nodes es spots_made sends;
       lie = lie;
       apart =
-          edit_untangled (expanded_page pages page) page (edit_at os) ss f.nodes es f.inner_nodes
-          (gaps_so ss behind f.nodes f.in_order contents (are_the_page pages ss behind f)) (numbers_so ss f.nodes f.in_order) contents
+          edit_untangled (expanded_page pages page) page (edit_at os) (block_at (tree_by ss)) ss f.nodes es (have_sources (tree_by ss) (spots f.nodes)) f.inner_nodes
+          (gaps_so ss behind f.nodes f.in_order contents (are_the_page pages ss behind f)) (numbers_so ss f.nodes f.in_order)
           (blocks_untangled pages ss behind h.outside.among) sends old lie;
       new = nodes_made.sources ∙ nodes_source pages ss rs behind f again;
       shows =

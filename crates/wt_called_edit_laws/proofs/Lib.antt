@@ -30,6 +30,7 @@ pub mod BareInsides
 mod SettledCases
 pub mod Settles
 pub mod SettledPages
+pub mod SpotSources
 pub mod SettledAt
 pub mod PartTexts
 pub mod BlockTexts
@@ -45,4 +46,8 @@ pub mod BlocksOutside
 pub mod Parts
 pub mod Written
 pub mod CallingGroups
+pub mod CallingPages
+pub mod CallingGaps
+pub mod CallingApart
+pub mod CallingSent
 pub mod Cells

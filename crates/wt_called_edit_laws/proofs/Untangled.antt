@@ -1,5 +1,5 @@
 -- A block among calls isn't tangled: no call that is text touches it, no tag is open before it or in it, and no group is in it.
-use Rattle.std.proofs.Common.{arith, ◌≡◌, ℕ, ◌+◌, Bool, true, false, Some, List, [], ◌∷◌, ◌++◌, length, take, refl, sym, ap, ap₂, ◌∙◌, append_assoc, length-append}
+use Rattle.std.proofs.Common.{arith, ◌≡◌, ℕ, suc, ◌+◌, Bool, true, false, Some, List, [], ◌∷◌, ◌++◌, length, take, refl, sym, ap, ap₂, ◌∙◌, append_assoc, length-append}
 use Rattle.std.specs.Prelude.{◌||◌}
 use Rattle.std.proofs.Math.Seq.{take-append_seam}
 use Rattle.wt_span.specs.Origins.{Expanded}
@@ -10,22 +10,22 @@ use Rattle.wt_expand.specs.PageCalls.{expanded_page}
 use Rattle.wt_expand.specs.Work.{Pages}
 use Rattle.wt_isolation.specs.OpenTags.{ends_open, any_ends_open, before}
 use Rattle.wt_isolation.specs.TextCalls.{touches_text_call}
-use Rattle.wt_moved_laws.specs.Placeless.{placeless}
-use Rattle.wt_moved_laws.specs.Standing.{standing}
+use Rattle.wt_checks.specs.Kept.{children}
 use Rattle.wt_selser.specs.Edits.{is_tangled}
 use Rattle.wt_selser.specs.GroupFaults.{has_faulty_group}
 use Rattle.wt_text_edit_laws.specs.BlockSpots.{BlockSpot, spots_source, AreContents, AreReadSpots}
 use Rattle.wt_text_edit_laws.specs.TextBetween.{AreEnded}
-use Rattle.wt_text_edit_laws.specs.TextBlocks.{TextBlock, source_of, block_tree, BeginsLine}
+use Rattle.wt_text_edit_laws.specs.TextBlocks.{source_of, BeginsLine}
 use Rattle.wt_text_edit_laws.specs.Contents.{IsContent}
 use Rattle.wt_text_edit_laws.proofs.Blocks.BlocksAgain.{AreClear}
 use Rattle.wt_text_edit_laws.proofs.Blocks.BlockReading.{begins_here}
 use Rattle.wt_text_edit_laws.proofs.Paragraphs.ClearLines.{clear_first, clear_line}
-use Rattle.wt_called_edit_laws.specs.CalledBlocks.{AreAmongCalls}
+use Rattle.wt_called_edit_laws.specs.CalledBlocks.{AreAmongCalls, tree_by}
+use Rattle.wt_called_edit_laws.specs.Nodes.{block_at}
 use Rattle.wt_called_edit_laws.specs.Parts.{AreCalled}
 use Rattle.wt_called_edit_laws.proofs.Cells.CalledFrames.{among_contents}
 use Rattle.wt_called_edit_laws.specs.FreeBlocks.{AreFreeFrom}
-use Rattle.wt_called_edit_laws.specs.Untangled.{AreUntangledFrom}
+use Rattle.wt_called_edit_laws.specs.Untangled.{AreUntangledFrom, AreWhole}
 use Rattle.wt_called_edit_laws.proofs.FreeBlocks.{blocks_free}
 
 -- ---- a block
@@ -37,11 +37,10 @@ none_of false true c d e f g h = cc
 none_of false false true d e f g h = cc
 none_of false false false true e f g h = cc
 
-block_untangled : (items : Expanded) (page front : List ℕ) (k : TextBlock) (q : List ℕ) (r : Ranges) (t : Tree) → IsContent k q
-    → touches_text_call items.text_calls (Some r) ≡ false → take r.start page ≡ front → ends_open front ≡ false
-    → placeless t ≡ placeless (standing 0 [] (block_tree k q)) → (label t).ranges ≡ Some r → is_tangled items page t ≡ false
-block_untangled items page front k q r (tree l ts) h free is clear same at =
-    let own = h.untangled items (tree l ts) same in
+block_untangled : (items : Expanded) (page front : List ℕ) (r : Ranges) (t : Tree) → (any_ends_open (children t) ≡ false) × (has_faulty_group items (children t) ≡ false)
+    → touches_text_call items.text_calls (Some r) ≡ false → take r.start page ≡ front → ends_open front ≡ false → (label t).ranges ≡ Some r
+    → is_tangled items page t ≡ false
+block_untangled items page front r (tree l ts) own free is clear at =
     none_of (touches_text_call items.text_calls l.ranges) (ends_open (before page l.ranges)) (any_ends_open ts) (has_faulty_group items ts)
     (ap (touches_text_call items.text_calls) at ∙ free)
     (ap (λ o. ends_open (before page o)) at ∙ ap ends_open is ∙ clear)
@@ -58,16 +57,16 @@ further_clear front [] behind h = tt
 further_clear front (s ∷ ss) behind h =
     (begins_clear front s.before h.0.ended h.1, further_clear ((front ++ s.before) ++ source_of s.block s.text) ss behind h.2)
 
-called_clear : (pages : Pages) (ss : List BlockSpot) (behind : List ℕ) → AreCalled pages ss behind → AreClear [] ss
+pub called_clear : (pages : Pages) (ss : List BlockSpot) (behind : List ℕ) → AreCalled pages ss behind → AreClear [] ss
 called_clear pages [] behind h = absurd h
 called_clear pages (s ∷ ss) behind h = (clear_first s.before h.0.ended, further_clear (s.before ++ source_of s.block s.text) ss behind h.1)
 
 -- ---- the blocks of a page
 
-untangled_from : (items : Expanded) (page front : List ℕ) (ss : List BlockSpot) (behind : List ℕ) (at : ℕ) → page ≡ front ++ spots_source ss behind → at ≡ length front
-    → AreFreeFrom items.text_calls at ss → AreClear front ss → AreContents ss → AreUntangledFrom items page at ss
-untangled_from items page front [] behind at e i f c b = tt
-untangled_from items page front (s ∷ ss) behind at e i f c b =
+pub untangled_from : (items : Expanded) (page front : List ℕ) (b : ℕ → Tree) (ss : List BlockSpot) (behind : List ℕ) (at : ℕ) → page ≡ front ++ spots_source ss behind → at ≡ length front
+    → AreFreeFrom items.text_calls at ss → AreClear front ss → AreWhole items b ss → AreUntangledFrom items page b at ss
+untangled_from items page front b [] behind at e i f c w = tt
+untangled_from items page front b (s ∷ ss) behind at e i f c w =
     let line : List ℕ = source_of s.block s.text in
     let rest : List ℕ = spots_source ss behind in
     let all : List ℕ = front ++ s.before in
@@ -76,13 +75,18 @@ untangled_from items page front (s ∷ ss) behind at e i f c b =
     let first : take (at + length s.before) page ≡ all = ap₂ (λ (n : ℕ) (bs : List ℕ). take n bs) size is ∙ take-append_seam all (line ++ rest) in
     let end : (at + length s.before) + length line ≡ length (all ++ line) = let z = length-append all line in omega (arith, size, z) in (
       λ t first_w last_w same ranges.
-          block_untangled items page all s.block s.text (record { start = at + length s.before; end = (at + length s.before) + length line; open_w = first_w; close_w = last_w }) t
-          b.0 (f.0 first_w last_w) first c.0 same ranges,
-      untangled_from items page (all ++ line) ss behind ((at + length s.before) + length line) (is ∙ sym (append_assoc all line rest)) end f.1 c.1 b.1,
+          block_untangled items page all (record { start = at + length s.before; end = (at + length s.before) + length line; open_w = first_w; close_w = last_w }) t
+          (w.0 t same) (f.0 first_w last_w) first c.0 ranges,
+      untangled_from items page (all ++ line) (λ n. b (suc n)) ss behind ((at + length s.before) + length line) (is ∙ sym (append_assoc all line rest)) end f.1 c.1 w.1,
     )
 
+contents_whole : (items : Expanded) (ss : List BlockSpot) → AreContents ss → AreWhole items (block_at (tree_by ss)) ss
+contents_whole items [] c = tt
+contents_whole items (s ∷ ss) c = let own = c.0 in (own.untangled items, contents_whole items ss c.1)
+
 pub blocks_untangled : (pages : Pages) (ss : List BlockSpot) (behind : List ℕ) → AreAmongCalls pages ss behind
-    → AreUntangledFrom (expanded_page pages (spots_source ss behind)) (spots_source ss behind) 0 ss
+    → AreUntangledFrom (expanded_page pages (spots_source ss behind)) (spots_source ss behind) (block_at (tree_by ss)) 0 ss
 blocks_untangled pages ss behind h =
-    untangled_from (expanded_page pages (spots_source ss behind)) (spots_source ss behind) [] ss behind 0 refl refl (blocks_free pages ss behind h)
-    (called_clear pages ss behind h.called) (among_contents pages ss behind h)
+    untangled_from (expanded_page pages (spots_source ss behind)) (spots_source ss behind) [] (block_at (tree_by ss)) ss behind 0 refl refl (blocks_free pages ss behind h)
+    (called_clear pages ss behind h.called)
+    (contents_whole (expanded_page pages (spots_source ss behind)) ss (among_contents pages ss behind h))

@@ -30,6 +30,7 @@ pub mod ItemSpots
 pub mod CalledBlocks
 pub mod CallingBlocks
 pub mod CallingGroups
+pub mod CallingEdits
 pub mod InPieces
 pub mod PageThings
 pub mod Written

@@ -1,6 +1,7 @@
 -- What is on the page for the items of a block: by its calls, each of which is there once.
-use Rattle.std.specs.Prelude.{◌≡◌, ℕ, None, List, [], ◌∷◌}
+use Rattle.std.specs.Prelude.{◌≡◌, ℕ, zero, suc, None, List, [], ◌∷◌}
 use Rattle.wt_tree.specs.Source.{flat}
+use Rattle.wt_tree.specs.Tree.{Tree}
 use Rattle.wt_inline.specs.ItemTree.{ItemTree, tree_items}
 use Rattle.wt_annotated.specs.CutTexts.{cut_texts}
 use Rattle.wt_annotated.specs.Seams.{text_from}
@@ -27,3 +28,8 @@ AreTextsOfPage pages ss behind = AreBlockTexts pages (expanded_page pages (spots
 -- a block that holds its calls has this source, with these calls
 abbrev pub HasItsText : List OuterCall → ItemTree → Type 0
 HasItsText calls t = HoldsItsCalls t → flat (cut_texts (block_in calls t)) ≡ text_from calls None (tree_items t)
+
+-- each of these nodes, one a block, has the block's source
+abbrev pub HaveOwnSources : (ℕ → Tree) → List BlockSpot → Type 0
+HaveOwnSources b [] = Unit {0}
+HaveOwnSources b (s ∷ ss) = (flat (b zero) ≡ source_of s.block s.text) × HaveOwnSources (λ n. b (suc n)) ss

@@ -3,7 +3,8 @@
 #![tactic(auto)]
 
 ghost use Rattle.std.specs.Prelude.{ℕ, ◌<◌, List, [], ◌∷◌, ◌≡◌, Option, None, false};
-ghost use Rattle.wt_expand.specs.Work.{Pages};
+ghost use Rattle.wt_expand.specs.Expansion.{page_work};
+ghost use Rattle.wt_expand.specs.Work.{Pages, first_refusal};
 ghost use Rattle.wt_text_edit_laws.specs.BlockSpots.{BlockSpot, AreRead, AreBlockSpots, spots_source};
 ghost use Rattle.wt_called_edit_laws.specs.Parts.{AreCalled, IsByParts};
 ghost use Rattle.wt_called_edit_laws.specs.Retyped.{AreRetyped, AreWrittenAnew, IsExpandedAgain};
@@ -24,7 +25,7 @@ ghost use Rattle.wt_text_edit_laws.specs.TypedPages.{IsTypedPage};
 ghost use Rattle.wt_called_edit_laws.specs.AnyBlocks.{AreSpots, AllLead};
 ghost use Rattle.wt_called_edit_laws.specs.AnyTexts.{TakesAnyTexts};
 ghost use Rattle.wt_called_edit_laws.specs.ItemSpots.{AreContentSpots};
-ghost use Rattle.wt_called_edit_laws.specs.CalledBlocks.{AreAmongCalls, counted, StandAmongCalls};
+ghost use Rattle.wt_called_edit_laws.specs.CalledBlocks.{AreAmongCalls, counted, tree_by, StandAmongCalls};
 ghost use Rattle.wt_called_edit_laws.specs.CellEdits.{CellPage, page_with, IsCellPage, IsCellEdit, LeadsFrom, TakesText, own_sents};
 ghost use Rattle.wt_called_edit_laws.specs.HeadingsInCells.{IsHeadingInCell, HeadingStandsInCell};
 ghost use Rattle.wt_called_edit_laws.specs.UnmarkedCells.{TakesUnmarked};
@@ -38,7 +39,7 @@ ghost use Rattle.wt_span.specs.Origins.{OuterCall};
 ghost use Rattle.wt_inline.specs.ItemTree.{ItemTree, plain};
 ghost use Rattle.wt_row_laws.specs.Frames.{Frames};
 ghost use Rattle.wt_called_trees.specs.TreeFrames.{TreeFrames};
-ghost use Rattle.wt_called_edit_laws.specs.Nodes.{NodesStayIn};
+ghost use Rattle.wt_called_edit_laws.specs.Nodes.{block_at, NodesStayIn};
 ghost use Rattle.wt_called_edit_laws.specs.PathsTo.{paths_to, PathsSend};
 ghost use Rattle.wt_called_edit_laws.specs.Sends.{ContentsMake};
 ghost use Rattle.wt_called_edit_laws.specs.Stand.{BlocksStand, BlocksAreFree};
@@ -48,12 +49,12 @@ ghost use Rattle.wt_called_edit_laws.specs.ChosenContents.{HasContentEdits};
 ghost use Rattle.wt_called_edit_laws.specs.ContentsTaken.{TakesContents};
 ghost use Rattle.wt_called_edit_laws.specs.EditsAt.{Fits, AllStand};
 ghost use Rattle.wt_called_edit_laws.specs.Settled.{IsSettled};
-ghost use Rattle.wt_called_edit_laws.specs.PartTexts.{AreTextsOfPage, HasItsText};
+ghost use Rattle.wt_called_edit_laws.specs.PartTexts.{AreTextsOfPage, HasItsText, HaveOwnSources};
 ghost use Rattle.wt_called_edit_laws.specs.SettledAt.{BlocksAtPaths};
 ghost use Rattle.wt_called_edit_laws.specs.SettledPages.{OnlyTextsAreOthers, OnlyBlocksAreOthers};
 ghost use Rattle.wt_called_edit_laws.specs.Covered.{CleanWhereFree, IsEditablePage};
 ghost use Rattle.wt_called_edit_laws.specs.CallingBlocks.{IsContentIn, IsNewContentIn, AreEdited, AreCallingBlocks, tree_with_calls, CallingBlocksStand};
-ghost use Rattle.wt_called_edit_laws.specs.CallingGroups.{AreCallingOutside, CallingGroupsStay, CallingNodesStay};
+ghost use Rattle.wt_called_edit_laws.specs.CallingGroups.{AreCallingOutside, CallingGroupsStay, CallingNodesStay, block_with_groups};
 ghost use Rattle.wt_called_trees.specs.HeldCalls.{block_in, HoldsItsCalls, AllHold, block_of_texts};
 ghost use Rattle.wt_text_edit_laws.specs.Contents.{IsContent};
 ghost use Rattle.wt_text_edit_laws.specs.NoCalls.{CallsNothing};
@@ -72,12 +73,18 @@ ghost use Rattle.wt_selser.specs.GroupFaults.{paragraph_face};
 ghost use Rattle.wt_called_edit_laws.specs.WrittenAnew.{node_sources, StayButForOthers, IsWrittenBeside, HoldsAnywhere, EachHolds};
 
 mod body_paragraphs;
+mod calling_pages;
 mod in_pieces;
 mod placed_blocks;
 
 pub use body_paragraphs::{
     nodes_of_paragraphs_of_the_body_stay, paragraphs_of_the_body_are_edited,
     paragraphs_of_the_body_may_be_edited,
+};
+pub use calling_pages::{
+    blocks_that_call_are_untangled, blocks_that_call_stay_where_nothing_is_written,
+    edits_of_blocks_that_call_are_apart, edits_of_blocks_that_call_make_the_page,
+    pages_whose_blocks_call_are_such_again,
 };
 pub use in_pieces::{
     paragraphs_in_pieces_may_be_written_anew, paragraphs_of_the_page_take_texts_beside_calls,
@@ -276,7 +283,7 @@ pub fn text_calls_touch_no_block_that_calls()
 #[tactic(auto, using(crate::proofs::Untangled::blocks_untangled))]
 pub fn blocks_among_calls_are_untangled()
     ensures { (pages : Pages) (ss : List BlockSpot) (behind : List ℕ) → AreAmongCalls pages ss behind
-        → AreUntangledFrom (expanded_page pages (spots_source ss behind)) (spots_source ss behind) 0 ss }
+        → AreUntangledFrom (expanded_page pages (spots_source ss behind)) (spots_source ss behind) (block_at (tree_by ss)) 0 ss }
 {}
 
 /// A page that calls nothing, and of which no node can only be kept as a whole (`AreContentSpots`), is such a page, whatever
@@ -404,6 +411,14 @@ pub fn blocks_are_on_the_page_for_their_items()
 #[tactic(auto, using(crate::proofs::BlockTexts::block_flat))]
 pub fn blocks_that_call_have_their_texts()
     ensures { (calls : List OuterCall) (t : ItemTree) → HasItsText calls t }
+{}
+
+/// So each block of such a page has its source in the page's tree, with the groups in it.
+#[tactic(auto, using(crate::proofs::SpotSources::blocks_have))]
+pub fn blocks_that_call_have_their_sources()
+    ensures { (pages : Pages) (ss : List BlockSpot) (behind : List ℕ) → AreCallingOutside pages ss behind
+        → first_refusal pages (spots_source ss behind) (page_work pages (spots_source ss behind)) ≡ None
+        → HaveOwnSources (block_with_groups pages ss behind) ss }
 {}
 
 /// A page with calls, with places for blocks in its body and in the cells and captions of its tables. Where no group of

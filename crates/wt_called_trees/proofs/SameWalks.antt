@@ -123,7 +123,7 @@ runs_by calls cs h ms ns e =
 -- ---- the walk
 
 mutual
-  walk_same : (calls cs : List OuterCall) → HaveSameData calls cs → (o : Option ℕ) (at b : ℕ) (p : Option ℕ) (t : ItemTree)
+  pub walk_same : (calls cs : List OuterCall) → HaveSameData calls cs → (o : Option ℕ) (at b : ℕ) (p : Option ℕ) (t : ItemTree)
       → placeless (walked calls (group_data calls) o at p t) ≡ placeless (walked cs (group_data cs) o b p t)
   walk_same calls cs h o at b p (inner k q ts c) =
       let all : List Item = q ++ (held_by_all ts ++ c) in

@@ -42,5 +42,13 @@ meaning_ones : (xs : List Item) → ArePageItems xs → AreOnes (tree_items (mea
 unfolding meaning
 meaning_ones xs h = all_both IsOne (held_by_all (body_nodes xs)) [] (nodes_ones (body_nodes xs) (page_shown xs h).1) tt
 
+-- so are the items that a page is expanded to, and those that the nodes of its meaning hold
+pub items_ones : (pages : Pages) (page : List ℕ) → IsUtf8 page → first_refusal pages page (page_work pages page) ≡ None → AreOnes (expanded_page pages page).items
+items_ones pages page u e = let h = expanded_items pages page u e in page_ones (expanded_page pages page).items h.page
+
+pub tree_ones : (pages : Pages) (page : List ℕ) → IsUtf8 page → first_refusal pages page (page_work pages page) ≡ None
+    → AreOnes (tree_items (meaning (expanded_page pages page).items))
+tree_ones pages page u e = meaning_ones (expanded_page pages page).items (expanded_items pages page u e)
+
 pub its_page : (pages : Pages) (page : List ℕ) → IsUtf8 page → first_refusal pages page (page_work pages page) ≡ None → IsItsPage pages page
-its_page pages page u e = meaning_stands pages page (meaning_ones (expanded_page pages page).items (expanded_items pages page u e))
+its_page pages page u e = meaning_stands pages page (tree_ones pages page u e)

@@ -137,7 +137,7 @@ opened_some (whole form.Hidden o bs) h e = cc
 opened_some (whole form.EmptyCall o bs) h e = cc
 
 -- opened items stand for the same text of the page
-opened_text : (calls : List OuterCall) (o : Option ℕ) (xs : List Item) → AreOnes xs → text_from calls o (opened_all xs) ≡ text_from calls o xs
+pub opened_text : (calls : List OuterCall) (o : Option ℕ) (xs : List Item) → AreOnes xs → text_from calls o (opened_all xs) ≡ text_from calls o xs
 opened_text calls o [] h = refl
 opened_text calls o (x ∷ xs) h =
     by_origin calls o (call_of x) (source x) (opened x) (opened_all xs) (opened_of x) (opened_source x) (opened_some x h.0)

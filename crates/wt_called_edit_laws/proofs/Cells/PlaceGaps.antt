@@ -181,20 +181,22 @@ back_of : TextBlock → List ℕ
 back_of a_paragraph = []
 back_of (a_heading s) = closing s
 
-framed : (k : TextBlock) (c : ℕ) (rest : List ℕ) → source_of k (c ∷ []) ++ rest ≡ front_of k ++ c ∷ (back_of k ++ rest)
+framed : (k : TextBlock) (c : ℕ) (bs rest : List ℕ) → source_of k (c ∷ bs) ++ rest ≡ front_of k ++ c ∷ (bs ++ (back_of k ++ rest))
 unfolding front_of back_of
-framed a_paragraph c rest = refl
-framed (a_heading s) c rest = append_assoc (opening s) (c ∷ closing s) rest
+framed a_paragraph c bs rest = refl
+framed (a_heading s) c bs rest =
+    append_assoc (opening s) (c ∷ (bs ++ closing s)) rest ∙ ap (λ ys. opening s ++ c ∷ ys) (append_assoc bs (closing s) rest)
 
-placed : (xs rest : List ℕ) (k : TextBlock) (c : ℕ) → xs ++ (source_of k (c ∷ []) ++ rest) ≡ (xs ++ front_of k) ++ c ∷ (back_of k ++ rest)
-placed xs rest k c = ap (λ ys. xs ++ ys) (framed k c rest) ∙ sym (append_assoc xs (front_of k) (c ∷ (back_of k ++ rest)))
+placed : (xs rest : List ℕ) (k : TextBlock) (c : ℕ) (bs : List ℕ)
+    → xs ++ (source_of k (c ∷ bs) ++ rest) ≡ (xs ++ front_of k) ++ c ∷ (bs ++ (back_of k ++ rest))
+placed xs rest k c bs = ap (λ ys. xs ++ ys) (framed k c bs rest) ∙ sym (append_assoc xs (front_of k) (c ∷ (bs ++ (back_of k ++ rest))))
 
-same_front : (k : TextBlock) (xs ys us vs : List ℕ) → xs ++ (source_of k (97 ∷ []) ++ us) ≡ ys ++ (source_of k (97 ∷ []) ++ vs)
-    → xs ++ (source_of k (98 ∷ []) ++ us) ≡ ys ++ (source_of k (98 ∷ []) ++ vs) → xs ≡ ys
-same_front k xs ys us vs e f =
+pub same_front : (k : TextBlock) (bs xs ys us vs : List ℕ) → xs ++ (source_of k (97 ∷ bs) ++ us) ≡ ys ++ (source_of k (97 ∷ bs) ++ vs)
+    → xs ++ (source_of k (98 ∷ bs) ++ us) ≡ ys ++ (source_of k (98 ∷ bs) ++ vs) → xs ≡ ys
+same_front k bs xs ys us vs e f =
     let apart : 97 ≢ 98 = λ n. absurd (omega (arith, n)) in
-    let r = same_round (xs ++ front_of k) (back_of k ++ us) (ys ++ front_of k) (back_of k ++ vs) 97 98 apart
-    (sym (placed xs us k 97) ∙ e ∙ placed ys vs k 97) (sym (placed xs us k 98) ∙ f ∙ placed ys vs k 98) in
+    let r = same_round (xs ++ front_of k) (bs ++ (back_of k ++ us)) (ys ++ front_of k) (bs ++ (back_of k ++ vs)) 97 98 apart
+    (sym (placed xs us k 97 bs) ∙ e ∙ placed ys vs k 97 bs) (sym (placed xs us k 98 bs) ∙ f ∙ placed ys vs k 98 bs) in
     append_cancel_right xs ys (front_of k) r.0
 
 pub self_round : (ss : List BlockSpot) → SameRound ss ss
@@ -237,7 +239,7 @@ same_gaps (then_gap xs i g) (s ∷ ss) behind m b f =
     let d : IsNewContent k s.text (97 ∷ []) = typed_new k s.text (97 ∷ []) a in
     let e : IsNewContent k s.text (98 ∷ []) = typed_new k s.text (98 ∷ []) c in
     let first : xs ≡ s.before =
-    same_front k xs s.before (fill (own_sources ss) g) (spots_source ss behind)
+    same_front k [] xs s.before (fill (own_sources ss) g) (spots_source ss behind)
     (f (with_source s (97 ∷ []) ∷ ss) (refl, refl, self_round ss) (d.firm.content, b.1) (inr d, self_new ss))
     (f (with_source s (98 ∷ []) ∷ ss) (refl, refl, self_round ss) (e.firm.content, b.1) (inr e, self_new ss)) in
     let rest : FillsAll g ss behind = λ rs r h o.
