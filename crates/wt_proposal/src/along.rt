@@ -184,17 +184,64 @@ fn block_beside(blocks: &[u32], node: &Node<'_>) -> u32 {
     }
 }
 
-/// The blocks beside the page's comments: those that they are before, and those that they are below.
+/// The blocks beside the page's comments: those that they are before, and those that they are below; and by the number
+/// of each node of the page whether the edited tree has it.
 #[derive(Clone, Copy)]
 struct Blocks<'w> {
     below: &'w [u32],
     above: &'w [u32],
+    sent: &'w [bool],
+}
+
+/// Notes the nodes of the page that these are and hold.
+fn note_sent(sent: &mut [bool], nodes: &[Node<'_>]) {
+    for node in nodes {
+        let at = node.id as usize;
+        if at != 0 && at < sent.len() {
+            sent[at] = true;
+        }
+        note_sent(sent, node.children.as_slice());
+    }
+}
+
+/// Whether a comment was in a list or a table of the page that isn't there any more.
+fn is_left_alone(blocks: &Blocks<'_>, index: &[Visit<'_, '_>], node: &Node<'_>) -> bool {
+    match original(index, node.id) {
+        Some(visit) if node.id != 0 && is_comment(node) && visit.parent != 0 => {
+            !blocks
+                .sent
+                .get(visit.parent as usize)
+                .copied()
+                .unwrap_or(false)
+        }
+        _ => false,
+    }
+}
+
+/// Notes those of these nodes that are such comments: they come before the block that was sent after them, or, if there is
+/// none, behind the last one.
+fn note_alone(
+    out: &mut [Along],
+    blocks: &Blocks<'_>,
+    index: &[Visit<'_, '_>],
+    nodes: &[Node<'_>],
+    way: Along,
+) {
+    for node in nodes {
+        let at = node.id as usize;
+        if is_left_alone(blocks, index, node) && at < out.len() {
+            out[at] = way;
+        }
+    }
 }
 
 /// Whether one of these nodes is a comment that may come along.
-fn may_come(blocks: &Blocks<'_>, nodes: &[Node<'_>]) -> bool {
+fn may_come(blocks: &Blocks<'_>, index: &[Visit<'_, '_>], nodes: &[Node<'_>]) -> bool {
     for node in nodes {
-        if block_beside(blocks.below, node) != 0 || block_beside(blocks.above, node) != 0 {
+        if block_beside(blocks.below, node) != 0
+            || block_beside(blocks.above, node) != 0
+            || is_left_alone(blocks, index, node)
+        {
             return true;
         }
     }
@@ -314,7 +361,7 @@ fn note_children(
     holder: Holder,
     nodes: &[Node<'_>],
 ) -> Result<(), NoMemory> {
-    if !may_come(blocks, nodes) {
+    if !may_come(blocks, index, nodes) {
         return Ok(());
     }
     let turns = turns_in(alloc, index, holder, nodes)?;
@@ -325,6 +372,13 @@ fn note_children(
             let is_in_turn = turns.get(at).copied().unwrap_or(false);
             let is_moved = holder.gets(index, node) || holder.keeps(index, node);
             let next = at.saturating_add(1);
+            note_alone(
+                out,
+                blocks,
+                index,
+                nodes_between(nodes, from, at),
+                Along::Before,
+            );
             if is_moved && !is_in_turn {
                 note_before(out, blocks.below, nodes_between(nodes, from, at), node.id);
                 note_behind(
@@ -337,6 +391,8 @@ fn note_children(
             from = next;
         }
     }
+    let rest = nodes_between(nodes, from, nodes.len());
+    note_alone(out, blocks, index, rest, Along::Behind);
     Ok(())
 }
 
@@ -383,9 +439,12 @@ pub fn comments_along(
 ) -> Result<Vec<Along>, NoMemory> {
     let below = blocks_below(alloc, page, index)?;
     let above = blocks_above(alloc, page, index)?;
+    let mut sent = none_noted(alloc, index)?;
+    note_sent(sent.as_mut_slice(), edited.children.as_slice());
     let blocks = Blocks {
         below: below.as_slice(),
         above: above.as_slice(),
+        sent: sent.as_slice(),
     };
     let mut out = Vec::new(alloc);
     for _ in 0..index.len() {
