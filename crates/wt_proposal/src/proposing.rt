@@ -551,6 +551,7 @@ fn part_at<'t, 'a>(children: &[Child<'t, 'a>], at: usize) -> Option<&'t Node<'a>
 fn push_blank(
     alloc: Global,
     out: &mut Vec<Change>,
+    known: &Known<'_, '_>,
     new: &Node<'_>,
     part: &Part<'_, '_>,
     is_tight: bool,
@@ -559,6 +560,7 @@ fn push_blank(
     if !is_bare_sign(old)
         || is_tight
         || style_of(part.beside).is_tight
+        || text_of_staying(known.page, known.index, new).is_empty()
         || same_inside(alloc, old, new)?
     {
         return Ok(());
@@ -612,6 +614,7 @@ fn push_children<'t, 'a>(
                 push_blank(
                     alloc,
                     out,
+                    known,
                     child,
                     &part,
                     held.style.is_tight && is_cell(within.kind),
@@ -672,7 +675,9 @@ fn push_node<'t, 'a>(
         number: old.id,
         begun,
         stop: inside_stop(old.ranges),
-        from: inside_count(new),
+        from: text_of_staying(known.page, known.index, new)
+            .len()
+            .min(inside_count(new)),
     };
     push_children(
         alloc,
