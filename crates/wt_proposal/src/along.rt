@@ -371,24 +371,19 @@ fn note_children(
         if ends_row(node.kind) {
             let is_in_turn = turns.get(at).copied().unwrap_or(false);
             let is_moved = holder.gets(index, node) || holder.keeps(index, node);
-            let next = at.saturating_add(1);
-            note_alone(
-                out,
-                blocks,
-                index,
-                nodes_between(nodes, from, at),
-                Along::Before,
-            );
+            let before = nodes_between(nodes, from, at);
+            from = at.saturating_add(1);
+            let behind = nodes_between(nodes, from, nodes.len());
+            let way = if is_in_turn {
+                Along::Behind
+            } else {
+                Along::Before
+            };
+            note_alone(out, blocks, index, before, way);
             if is_moved && !is_in_turn {
-                note_before(out, blocks.below, nodes_between(nodes, from, at), node.id);
-                note_behind(
-                    out,
-                    blocks.above,
-                    nodes_between(nodes, next, nodes.len()),
-                    node.id,
-                );
+                note_before(out, blocks.below, before, node.id);
+                note_behind(out, blocks.above, behind, node.id);
             }
-            from = next;
         }
     }
     let rest = nodes_between(nodes, from, nodes.len());
