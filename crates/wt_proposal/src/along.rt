@@ -86,6 +86,14 @@ fn blocks_below(alloc: Global, page: &str, index: &[Visit<'_, '_>]) -> Result<Ve
     Ok(out)
 }
 
+/// Notes a number of another one.
+fn note_number(numbers: &mut [u32], of: u32, number: u32) {
+    let at = of as usize;
+    if at < numbers.len() {
+        numbers[at] = number;
+    }
+}
+
 /// What is said of a number; 0 where nothing is.
 fn said_of(numbers: &[u32], number: u32) -> u32 {
     numbers.get(number as usize).copied().unwrap_or(0)
@@ -135,15 +143,10 @@ fn blocks_over(alloc: Global, page: &str, index: &[Visit<'_, '_>]) -> Result<Vec
     let mut children = no_numbers(alloc, index)?;
     for at in 1..index.len() {
         let visit = index[at];
-        let holder = visit.parent as usize;
         let before = said_of(children.as_slice(), visit.parent);
         let over = block_over(page, index, out.as_slice(), before, visit.node);
-        if at < out.len() {
-            out[at] = over;
-        }
-        if holder < children.len() {
-            children[holder] = visit.node.id;
-        }
+        note_number(out.as_mut_slice(), visit.node.id, over);
+        note_number(children.as_mut_slice(), visit.parent, visit.node.id);
     }
     Ok(out)
 }
