@@ -207,15 +207,16 @@ fn note_sent(sent: &mut [bool], nodes: &[Node<'_>]) {
     }
 }
 
+/// Whether the edited tree has the page's node of this number.
+fn was_sent(sent: &[bool], number: u32) -> bool {
+    sent.get(number as usize).copied().unwrap_or(false)
+}
+
 /// Whether a comment was in a list or a table of the page that isn't there any more.
 fn is_left_alone(blocks: &Blocks<'_>, index: &[Visit<'_, '_>], node: &Node<'_>) -> bool {
     match original(index, node.id) {
         Some(visit) if node.id != 0 && is_comment(node) && visit.parent != 0 => {
-            !blocks
-                .sent
-                .get(visit.parent as usize)
-                .copied()
-                .unwrap_or(false)
+            !was_sent(blocks.sent, visit.parent)
         }
         _ => false,
     }
