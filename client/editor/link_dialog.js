@@ -99,7 +99,20 @@ function key(event) {
   }
 }
 
-function closed() {
+/**
+ * Closes the dialog, and answers at once: the browser tells `close` when it next draws, and something may be
+ * typed into the text before that.
+ * @param {Event} event  by which it is left
+ * @param {string} how  "apply", "remove" or "cancel"
+ */
+function leave(event, how) {
+  event.preventDefault();
+  dialog.close(how);
+  answered();
+}
+
+function answered() {
+  if (dialog.open) return;
   const goal = readTarget(target.value);
   if (dialog.returnValue === "remove") answer("remove");
   else if (dialog.returnValue !== "apply" || goal === null) answer(null);
@@ -108,17 +121,18 @@ function closed() {
 
 /** @param {Event} event */
 function submitted(event) {
-  const submitter = /** @type {SubmitEvent} */ (event).submitter;
-  if (submitter?.getAttribute("value") === "cancel" || readTarget(target.value) !== null) return;
+  const how = /** @type {SubmitEvent} */ (event).submitter?.getAttribute("value") ?? "apply";
+  if (how === "cancel" || readTarget(target.value) !== null) return leave(event, how);
   event.preventDefault();
   target.focus();
 }
 
 target.addEventListener("input", showTitles);
 target.addEventListener("keydown", key);
-byId("link-remove").addEventListener("click", () => dialog.close("remove"));
+byId("link-remove").addEventListener("click", (event) => leave(event, "remove"));
 dialog.querySelector("form")?.addEventListener("submit", submitted);
-dialog.addEventListener("close", closed);
+dialog.addEventListener("cancel", (event) => leave(event, "cancel"));
+dialog.addEventListener("close", answered); // where the browser closed it without asking
 
 /**
  * Asks what a link is to lead to.

@@ -8,27 +8,34 @@
 
 const STOPS = "button:enabled, a[href], input:enabled, [tabindex='0']";
 
-/** @param {HTMLDialogElement} dialog  with an element of the class `shade` before it */
-export function layOver(dialog) {
+/**
+ * @param {HTMLDialogElement} dialog  with an element of the class `shade` before it, and a form
+ * @param {() => void} left  called where it is left by Escape or by a button that submits its form, at once:
+ *   the browser tells `close` when it next draws, and something may be typed before that
+ */
+export function layOver(dialog, left) {
   dialog.setAttribute("aria-modal", "true");
   const stops = () => /** @type {HTMLElement[]} */ ([...dialog.querySelectorAll(STOPS)]);
-  document.addEventListener("keydown", (event) => dialog.open && keyIn(dialog, stops(), event), true);
+  const leave = (/** @type {Event} */ event) => {
+    event.preventDefault();
+    dialog.close();
+    left();
+  };
+  dialog.addEventListener("submit", leave);
+  document.addEventListener("keydown", (event) => dialog.open && keyIn(stops(), leave, event), true);
   document.addEventListener("focusin", (event) => {
     if (dialog.open && !dialog.contains(/** @type {Node} */ (event.target))) stops()[0]?.focus();
   });
 }
 
 /**
- * @param {HTMLDialogElement} dialog
- * @param {HTMLElement[]} stops  what Tab goes to in it
+ * @param {HTMLElement[]} stops  what Tab goes to in the dialog
+ * @param {(event: Event) => void} leave
  * @param {KeyboardEvent} event
  */
-function keyIn(dialog, stops, event) {
+function keyIn(stops, leave, event) {
   if (event.isComposing) return;
-  if (event.key === "Escape") {
-    event.preventDefault();
-    dialog.close();
-  }
+  if (event.key === "Escape") leave(event);
   if (event.key !== "Tab" || stops.length === 0) return;
   event.preventDefault();
   const at = stops.indexOf(/** @type {HTMLElement} */ (document.activeElement));

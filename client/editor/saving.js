@@ -65,12 +65,11 @@ export class Saving {
      * @type {() => void}
      */
     this.restore = () => undefined;
-    layOver(this.dialog);
+    layOver(this.dialog, () => this.restore());
     this.button.addEventListener("click", () => this.preview());
     byId("changes-save").addEventListener("click", () => this.#store());
     byId("refusal-close").addEventListener("click", () => (this.clear(), this.restore()));
     byId("refusal-show").addEventListener("click", () => this.#goToPlace());
-    this.dialog.addEventListener("close", () => this.isBusy || this.restore());
   }
 
   /** Whether nothing in the text may change: the server is asked, or what would be stored is shown. */

@@ -402,6 +402,7 @@ test("an emptied cell", { skip }, async () => {
 });
 
 test("typing and deleting is undone and done again", { skip }, async () => {
+  await tab.js("void (performance.now = () => 0)"); // letters are typed soon, however slow the machine is
   await select("Third", 0, "Third", 5);
   await tab.type("Fourth");
   await select("five", 0, "Second line", 6);
@@ -511,6 +512,35 @@ test("what was shown before and not stored comes to nothing", { skip }, async ()
   assert.equal(await stored(), PAGE.replace("Third", "Third!?"));
 });
 
+test("what is typed right after a dialog is left stays where it is typed", { skip }, async () => {
+  // The browser tells `close` when it next draws: a letter comes in between.
+  const leave = (/** @type {string} */ id, /** @type {string} */ how, /** @type {string} */ letter) => tab.js(`
+    (async () => {
+      const dialog = document.getElementById("${id}");
+      const isTold = new Promise((done) => dialog.addEventListener("close", () => setTimeout(done)));
+      ${how};
+      for (let step = 0; step < 10; step += 1) await null; // what goes on at once
+      document.execCommand("insertText", false, "${letter}");
+      await isTold;
+    })()`);
+  const escape = `dialog.dispatchEvent(new KeyboardEvent("keydown", { key: "Escape", bubbles: true }))`;
+  const cancel = `dialog.querySelector("[value=cancel]").click()`;
+  await select("Third", 5);
+  await tab.type("ly");
+  let typed = "";
+  for (const [how, letter] of [[escape, "a"], [cancel, "b"]]) {
+    assert.equal(await save(), "changes");
+    await leave("changes", how, letter);
+    typed += letter;
+    await tab.press("Control+k");
+    await tab.until(`document.getElementById("link").open`);
+    await leave("link", cancel, letter.toUpperCase());
+    typed += letter.toUpperCase();
+  }
+  await tab.type("!");
+  assert.equal(await stored(), PAGE.replace("Third", `Thirdly${typed}!`));
+});
+
 /** Ways in which the page can't be fetched while its changes are shown. */
 const NOT_FETCHED = [
   `throw new TypeError("lost")`,
@@ -591,6 +621,29 @@ async function intercept(body) {
   })()`);
 }
 
+/**
+ * Holds what is to be done after a second or more, so that no machine is too slow to type a word at once:
+ * `pause()` in the page does it, and tells how much it was.
+ */
+async function holdPauses() {
+  await tab.js(`(() => {
+    const [set, clear, held] = [setTimeout, clearTimeout, new Map()];
+    globalThis.setTimeout = (action, milliseconds, ...words) => {
+      if (!(milliseconds >= 1000)) return set(action, milliseconds, ...words);
+      const number = -1 - held.size;
+      held.set(number, action);
+      return number;
+    };
+    globalThis.clearTimeout = (number) => held.delete(number) || clear(number);
+    globalThis.pause = () => {
+      const due = [...held.values()];
+      held.clear();
+      for (const action of due) action();
+      return due.length;
+    };
+  })()`);
+}
+
 /** An answer that doesn't come, and one that is cut off. */
 const LOST_ANSWERS = [
   `throw new TypeError("lost")`,
@@ -663,13 +716,17 @@ test("of a long page what would change is asked for behind the typing", { skip }
     globalThis.asked = [...(globalThis.asked ?? []), what + " " + by];
     return answer;
   `);
+  await holdPauses();
   const asked = (/** @type {number} */ count) => tab.until(`globalThis.asked?.length === ${count}`);
+  const pause = async () => assert.equal(await tab.js("pause()"), 1);
   await select("Third", 5);
   await tab.type("ly");
+  await pause();
   await asked(1);
   assert.equal(await stored(), long.replace("Third", "Thirdly"));
   assert.deepEqual(await tab.js("asked.splice(0)"), ["shown html", "shown prepared", "stored prepared"]);
   await tab.type("x");
+  await pause();
   await asked(1);
   await tab.type("y");
   assert.equal(await save(), "changes");
@@ -680,6 +737,7 @@ test("of a long page what would change is asked for behind the typing", { skip }
   assert.equal(wiki.read("A page"), long.replace("Third", "Thirdlyxy"));
   await tab.js("asked.splice(0)");
   await tab.type("z");
+  await pause();
   await asked(1);
   wiki.write("A page", `${long}changed by another\n`);
   assert.match(await refused(), /Stale/);

@@ -1,5 +1,6 @@
 """gate-times tells by a process's words and folder what it works on, and by what a prover writes what each function takes."""
 import os
+import re
 import signal
 import subprocess
 import sys
@@ -129,6 +130,12 @@ class Functions(unittest.TestCase):
         )
 
 
+def catches(process: int, number: int) -> bool:
+    """Whether a process handles this signal by now."""
+    status = Path(f"/proc/{process}/status").read_text(encoding="utf-8")
+    return bool(int(re.findall("SigCgt:\\s*([0-9a-f]+)", status)[0], 16) >> (number - 1) & 1)
+
+
 class Ending(unittest.TestCase):
     def test_ended_early_it_ends_the_gate_and_prints_what_it_has_seen(self) -> None:
         with tempfile.TemporaryDirectory() as room:
@@ -140,7 +147,8 @@ class Ending(unittest.TestCase):
             run = subprocess.Popen(words, env=environment, stdout=subprocess.PIPE, text=True)
             assert run.stdout is not None
             self.assertEqual(run.stdout.readline(), "begun\n")
-            time.sleep(1.5)
+            while not catches(run.pid, signal.SIGTERM):
+                time.sleep(0.01)
             run.send_signal(signal.SIGTERM)
             printed, _ = run.communicate(timeout=30)
             self.assertIn("On the clock:", printed)

@@ -1,6 +1,7 @@
 -- Worked cases: lines with and without a style, and a paragraph of the page by its line.
 use Rattle.std.proofs.Common.{◌≡◌, true, [], ◌∷◌, refl, arith}
 use Rattle.std.specs.Prelude.{codes}
+use Rattle.std.specs.Str.{chars}
 use Rattle.wt_tree.specs.declared.kind.Kind.TheVariants as kind
 use Rattle.wt_tree.specs.Tree.{tree, none}
 use Rattle.wt_inline.specs.Parts.{children}
@@ -34,7 +35,7 @@ two_apostrophes = refl
 
 -- the paragraph of the page `ab`
 lone_block : IsBlockOfLines (page_chars (codes "ab") ∷ []) (whole_node kind.Para 1 2 (tree (whole_label kind.Text 0 2 (codes "ab")) none))
-unfolding label_at children context_parts with_styles style_tree_of toggles_of toggle_at chunks segments loose_segments tiles shapes closed form_at link_or_url link_at ext_link_at bare_url_at scheme_len tag_tile tag_at opening_tag closing_tag switch_at
+unfolding label_at children context_parts with_styles style_tree_of toggles_of toggle_at chunks segments loose_segments tiles shapes closed form_at link_or_url link_at ext_link_at bare_url_at scheme_len tag_tile tag_at opening_tag closing_tag switch_at chars
 lone_block = record {
   number = 1;
   before = [];
@@ -44,4 +45,5 @@ lone_block = record {
   some = omega arith;
   is = refl;
   ungrouped = (refl, ((refl, tt), tt));
+  marks = tt;
 }

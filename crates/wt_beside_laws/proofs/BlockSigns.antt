@@ -16,11 +16,12 @@ use Rattle.wt_moved_laws.specs.Standing.{standing}
 use Rattle.wt_original.specs.Kept.{KeptNode, found_from, found_in}
 use Rattle.wt_original.specs.Page.{page_of, TellsSame}
 use Rattle.wt_typed_blocks.specs.Sent.{Block, paragraph, heading, kind_of}
+use Rattle.wt_beside_laws.specs.Led.{AreMarksLed}
 use Rattle.wt_beside_laws.specs.Content.{AreKept}
 use Rattle.wt_beside_laws.specs.Flat.{IsFlatContent}
 use Rattle.wt_beside_laws.specs.Lines.{AreCharacters}
 use Rattle.wt_beside_laws.specs.OwnSigns.{own_signs, HaveOwn, IsFlatBlock}
-use Rattle.wt_beside_laws.specs.PageBlocks.{AreUnstyled, AreShut, ShowSources, IsBlockOfLines}
+use Rattle.wt_beside_laws.specs.PageBlocks.{AreUnstyled, AreShut, ShowSources, AreSoIn, IsBlockOfLines}
 use Rattle.wt_text_edit_laws.specs.ParagraphParts.{joined_parts}
 use Rattle.wt_beside_laws.specs.PageSigns.{signs_of_lines, AreFlatLines}
 use Rattle.wt_beside_laws.specs.SentNodes.{AreSent, numbers}
@@ -77,31 +78,33 @@ flat_block ls block f u b =
 -- ---- its nodes
 
 nodes_by : (k : Block) (block : Tree) (n at : ℕ) (before opening closing : List Item) (ls : List (List Item)) → AreUnstyled ls → AreFlatLines ls
+    → AreSoIn block (things (signs_of_lines at ls))
     → things (own_signs block at at (children_of (standing n before (block_by k opening (joined_parts ls) closing)))) ≡ things (signs_of_lines at ls)
-nodes_by k block n at before opening closing ls u f =
+nodes_by k block n at before opening closing ls u f so =
     let ps : List Part = joined_parts ls in
     ap (λ (ts : Trees). things (own_signs block at at ts)) (its_children k n before opening closing ps)
-    ∙ own_things ps block at at (n + 1) (before ++ opening) (things (signs_of_lines at ls)) (lines_have at ls u f)
+    ∙ own_things ps block at at (n + 1) (before ++ opening) (things (signs_of_lines at ls)) (lines_have at ls u f) so
 
 pub block_nodes : (ls : List (List Item)) (block : Tree) → AreFlatLines ls → AreUnstyled ls → IsBlockOfLines ls block
     → things (own_signs block (length (label block).opening) (length (label block).opening) (children_of block))
     ≡ things (signs_of_lines (length (label block).opening) ls)
 block_nodes ls block f u b =
     let at : ℕ = length (label block).opening in
-    ap (λ (t : Tree). things (own_signs block at at (children_of t))) b.is ∙ nodes_by b.form block b.number at b.before b.opening b.closing ls u f
+    ap (λ (t : Tree). things (own_signs block at at (children_of t))) b.is ∙ nodes_by b.form block b.number at b.before b.opening b.closing ls u f b.marks
 
 -- ---- what is sent
 
 pub sent_content : (same : Tree → Tree → Bool) (s : Setting) (pl : Place) (ls : List (List Item)) (block : Tree) (news : Trees) → TellsSame same → s.within ≡ false
     → AreFlatLines ls → AreUnstyled ls → IsBlockOfLines ls block → AreKept (signs_of_lines (length (label block).opening) ls)
     → AreSent (page_of same block) news → numbers news ≡ numbers (children_of block) → AreCharacters (signs_of_all (page_of same block) pl news)
+    → AreMarksLed (signs_of_all (page_of same block) pl news)
     → IsFlatContent s (signs_of_all (page_of same block) pl news)
-sent_content same s pl ls block news tells within f u b kept sent counted characters =
+sent_content same s pl ls block news tells within f u b kept sent counted characters led =
     let flat : IsFlatBlock block = flat_block ls block f u b in
     let nodes : things (signs_of_all (page_of same block) pl news) ≡ things (signs_of_lines (length (label block).opening) ls) =
     same_nodes (page_of same block) pl (children_of block) news (own_sent same block tells flat) sent counted
     ∙ ap things (own_content same block pl tells flat) ∙ block_nodes ls block f u b in
-    flat_content s ls (length (label block).opening) (signs_of_all (page_of same block) pl news) within f kept characters nodes
+    flat_content s ls (length (label block).opening) (signs_of_all (page_of same block) pl news) within f kept characters led nodes
 
 -- ---- what its nodes show
 

@@ -25,14 +25,17 @@ use Rattle.wt_text_edit_laws.specs.NoCalls.{NonePairs, CallsNothing, AreUnbraced
 use Rattle.wt_text_edit_laws.proofs.Between.LessBraces.{none_unbraced}
 use Rattle.wt_text_edit_laws.proofs.Between.NoCalls.{calm_expanded, calm_unrefused}
 use Rattle.wt_beside_laws.specs.Calm.{is_brace, HaveNoBraces, IsCalm, AreCalm}
-use Rattle.wt_beside_laws.specs.Content.{AreKept, guard_items, letter_items, content_items}
+use Rattle.wt_beside_laws.specs.Content.{guard_items, letter_items, content_items}
 use Rattle.wt_beside_laws.specs.Lines.{AreCharacters}
-use Rattle.wt_beside_laws.proofs.Contents.{content_alone, nowiki_reads, reference_reads}
-use Rattle.wt_beside_laws.proofs.Firm.{alone_as}
+use Rattle.wt_beside_laws.proofs.Contents.{nowiki_reads, reference_reads}
+use Rattle.wt_beside_laws.proofs.NodeItems.{node_as}
+use Rattle.wt_beside_laws.proofs.Marks.Commented.{content_alone}
+use Rattle.wt_beside_laws.specs.Flat.{IsReadIn}
+use Rattle.wt_beside_laws.specs.NodeItems.{node_items}
 
 -- ---- UTF-8
 
-guard_utf8 : (guarded : Bool) → IsUtf8 (nowiki_if guarded)
+pub guard_utf8 : (guarded : Bool) → IsUtf8 (nowiki_if guarded)
 unfolding nowiki lib.Utf8.encode
 guard_utf8 true = (nowiki, (refl, refl))
 guard_utf8 false = IsUtf8-nil
@@ -44,7 +47,7 @@ reference_utf8 c e = each_escapable (λ k. IsUtf8 (reference k))
     (reference 62, (refl, refl)) (reference 60, (refl, refl)) (reference 38, (refl, refl)) (reference 39, (refl, refl)) (reference 95, (refl, refl))
     (reference 58, (refl, refl)) (reference 61, (refl, refl)) (reference 33, (refl, refl)) c e
 
-letter_utf8 : (s : Setting) (before after : List ContentSign) (c : ℕ) (t : Bool) → is_escaped s.within s.place before c after ≡ t → IsScalar c
+pub letter_utf8 : (s : Setting) (before after : List ContentSign) (c : ℕ) (t : Bool) → is_escaped s.within s.place before c after ≡ t → IsScalar c
     → IsUtf8 (written_by t c)
 letter_utf8 s before after c true e h = reference_utf8 c (escapable s.within s.place before c after e)
 letter_utf8 s before after c false e h = IsUtf8-encode c h
@@ -109,7 +112,7 @@ content_none s before (letter c ∷ after) h =
     (both_have_none own more (letter_none e c (λ f. not_bracket (is_bracket c) e (bracket_escaped s.within s.place before c after) f))
     (content_none s (letter c ∷ before) after h))
 content_none s before (thing t ∷ after) h =
-    let own : List Item = page_items t.source in
+    let own : List Item = node_items t.source in
     let more : List Item = content_items s (thing t ∷ before) after in
     both_have_none (guard_items (is_guarded s before (thing t ∷ after))) (own ++ more) (guard_none (is_guarded s before (thing t ∷ after)))
     (both_have_none own more h.0.unbraced (content_none s (thing t ∷ before) after h.1))
@@ -119,19 +122,19 @@ unbraced_so [] h = tt
 unbraced_so (char o b ∷ xs) h = (h.0, unbraced_so xs h.1)
 unbraced_so (whole f o bs ∷ xs) h = unbraced_so xs h
 
-pub content_unbraced : (s : Setting) (signs : List ContentSign) → AreKept signs → AreCalm signs → AreUnbraced (page_items (spelled s signs))
+pub content_unbraced : (s : Setting) (signs : List ContentSign) → IsReadIn s signs → AreCalm signs → AreUnbraced (page_items (spelled s signs))
 content_unbraced s signs k h =
     let xs : List Item = page_items (spelled s signs) in
     unbraced_so xs (subst HaveNoBraces (sym (content_alone s signs k)) (content_none s [] signs h))
 
-pub content_calm : (s : Setting) (signs : List ContentSign) → AreKept signs → AreCalm signs → CallsNothing (page_items (spelled s signs))
+pub content_calm : (s : Setting) (signs : List ContentSign) → IsReadIn s signs → AreCalm signs → CallsNothing (page_items (spelled s signs))
 content_calm s signs k h = subst NonePairs (sym (none_unbraced (page_items (spelled s signs)) (content_unbraced s signs k h))) tt
 
-pub content_expanded : (pages : Pages) (s : Setting) (signs : List ContentSign) → AreKept signs → AreCalm signs
+pub content_expanded : (pages : Pages) (s : Setting) (signs : List ContentSign) → IsReadIn s signs → AreCalm signs
     → expanded_page pages (spelled s signs) ≡ of_items (page_items (spelled s signs))
 content_expanded pages s signs k h = calm_expanded pages (spelled s signs) (content_calm s signs k h)
 
-pub content_unrefused : (pages : Pages) (s : Setting) (signs : List ContentSign) → AreKept signs → AreCalm signs
+pub content_unrefused : (pages : Pages) (s : Setting) (signs : List ContentSign) → IsReadIn s signs → AreCalm signs
     → first_refusal pages (spelled s signs) (page_work pages (spelled s signs)) ≡ None
 content_unrefused pages s signs k h = calm_unrefused pages (spelled s signs) (content_calm s signs k h)
 
@@ -140,11 +143,11 @@ content_unrefused pages s signs k h = calm_unrefused pages (spelled s signs) (co
 pub nowiki_calm : IsCalm nowiki
 nowiki_calm = record {
   utf8 = guard_utf8 true;
-  unbraced = subst HaveNoBraces (sym (alone_as nowiki (whole form.Nowiki None nowiki ∷ []) nowiki_reads)) tt;
+  unbraced = subst HaveNoBraces (sym (node_as nowiki (whole form.Nowiki None nowiki ∷ []) nowiki_reads)) tt;
 }
 
 pub reference_calm : (c : ℕ) → is_escapable c ≡ true → IsCalm (reference c)
 reference_calm c e = record {
   utf8 = reference_utf8 c e;
-  unbraced = subst HaveNoBraces (sym (alone_as (reference c) (whole (form.Entity c) None (reference c) ∷ []) (reference_reads c e))) tt;
+  unbraced = subst HaveNoBraces (sym (node_as (reference c) (whole (form.Entity c) None (reference c) ∷ []) (reference_reads c e))) tt;
 }

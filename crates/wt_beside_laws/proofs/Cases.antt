@@ -7,12 +7,13 @@ use Rattle.wt_span.specs.Comments.{comment_len}
 use Rattle.wt_span.specs.Entities.{entity_at, named_entity, entity_names, decimal_entity, hex_entity}
 use Rattle.wt_span.specs.Lexemes.{form_at, sign_word}
 use Rattle.wt_span.specs.Tags.{raw_len, include_at, opening_tag, closing_tag, tag_after, with_inside, is_extension}
-use Rattle.wt_expand.specs.PageItems.{page_items}
+use Rattle.wt_beside_laws.specs.NodeItems.{node_items}
 use Rattle.wt_text_edit_laws.specs.LonePages.{page_chars}
 use Rattle.wt_tiles.specs.Glyphs.{byte_glyphs}
 use Rattle.wt_tiles.specs.Urls.{scheme_len, is_url_char, is_dropped, kept_len, bare_shape, bare_url_at}
 use Rattle.wt_beside_laws.specs.Kept.{is_firm, AreFirm, characters, sign, lexeme, IsKept}
-use Rattle.wt_beside_laws.proofs.Firm.{alone_as, parts_read}
+use Rattle.wt_beside_laws.proofs.Firm.{parts_read}
+use Rattle.wt_beside_laws.proofs.NodeItems.{node_as}
 
 both_true : (u v : Bool) → (u && v) ≡ true → (u ≡ true) × (v ≡ true)
 both_true true v e = (refl, e)
@@ -35,7 +36,7 @@ entity : IsKept (codes "&amp;")
 unfolding form_at comment_len raw_len include_at opening_tag closing_tag entity_at named_entity entity_names decimal_entity hex_entity sign_word
 entity = record {
   parts = lexeme (Entity 38) 38 (codes "amp;") ∷ [];
-  are = (record { form = λ rest. refl; uncommented = λ rest. refl; begins = refl }, tt);
+  are = (record { form = λ rest. refl; uncommented = λ rest. refl; begins = refl; ends = refl }, tt);
   is = refl;
 }
 
@@ -43,7 +44,7 @@ empty_nowiki : IsKept (codes "<nowiki/>")
 unfolding form_at comment_len raw_len opening_tag tag_after with_inside is_extension
 empty_nowiki = record {
   parts = lexeme Raw 60 (codes "nowiki/>") ∷ [];
-  are = (record { form = λ rest. refl; uncommented = λ rest. refl; begins = refl }, tt);
+  are = (record { form = λ rest. refl; uncommented = λ rest. refl; begins = refl; ends = refl }, tt);
   is = refl;
 }
 
@@ -57,17 +58,17 @@ bold_tag = record {
 }
 
 -- by itself it is read as its characters
-pub break_alone : page_items (codes "<br>") ≡ page_chars (codes "<br>")
+pub break_alone : node_items (codes "<br>") ≡ page_chars (codes "<br>")
 unfolding form_at comment_len raw_len include_at opening_tag closing_tag tag_after with_inside is_extension entity_at named_entity entity_names decimal_entity hex_entity sign_word
 break_alone =
-    alone_as (codes "<br>") (page_chars (codes "<br>"))
+    node_as (codes "<br>") (page_chars (codes "<br>"))
     (parts_read (sign 60 (codes "br>") ∷ []) ((record { none = λ rest. refl; uncommented = λ rest. refl }, firm (codes "br>") refl), tt))
 
 footnote : IsKept (codes "<ref name=\"n\"/>")
 unfolding form_at comment_len raw_len opening_tag tag_after with_inside is_extension
 footnote = record {
   parts = lexeme Raw 60 (codes "ref name=\"n\"/>") ∷ [];
-  are = (record { form = λ rest. refl; uncommented = λ rest. refl; begins = refl }, tt);
+  are = (record { form = λ rest. refl; uncommented = λ rest. refl; begins = refl; ends = refl }, tt);
   is = refl;
 }
 
@@ -76,7 +77,7 @@ link_with_entity : IsKept (codes "[[a|&amp;b]]")
 unfolding form_at comment_len raw_len include_at opening_tag closing_tag entity_at named_entity entity_names decimal_entity hex_entity sign_word
 link_with_entity = record {
   parts = characters (codes "[[a|") ∷ lexeme (Entity 38) 38 (codes "amp;") ∷ characters (codes "b]]") ∷ [];
-  are = (firm (codes "[[a|") refl, (record { form = λ rest. refl; uncommented = λ rest. refl; begins = refl }, (firm (codes "b]]") refl, tt)));
+  are = (firm (codes "[[a|") refl, (record { form = λ rest. refl; uncommented = λ rest. refl; begins = refl; ends = refl }, (firm (codes "b]]") refl, tt)));
   is = refl;
 }
 

@@ -6,12 +6,12 @@ use Rattle.wt_span.specs.Items.{Item, char}
 use Rattle.wt_guards.specs.Content.{ContentSign, letter, thing}
 use Rattle.wt_guards.specs.Letters.{is_escaped}
 use Rattle.wt_guards.specs.Guards.{Setting, is_guarded}
-use Rattle.wt_expand.specs.PageItems.{page_items}
 use Rattle.wt_text_edit_laws.specs.LonePages.{page_chars}
 use Rattle.wt_tiles.specs.declared.glyph.Glyph.{Glyph}
 use Rattle.wt_tiles.specs.Glyphs.{glyph_of, byte_glyphs}
 use Rattle.wt_beside_laws.specs.Content.{guard_items, letter_items, content_items}
 use Rattle.wt_beside_laws.specs.Glyphs.{guard_glyphs, letter_glyphs, content_glyphs}
+use Rattle.wt_beside_laws.specs.NodeItems.{node_items}
 
 chars_are : (bs : List ℕ) → map glyph_of (page_chars bs) ≡ byte_glyphs bs
 chars_are [] = refl
@@ -44,5 +44,5 @@ glyphs_are s before (letter c ∷ after) rest =
     (content_glyphs s (letter c ∷ before) after (map glyph_of rest)) (guard_is u) (letter_is e c) (glyphs_are s (letter c ∷ before) after rest)
 glyphs_are s before (thing t ∷ after) rest =
     let u = is_guarded s before (thing t ∷ after) in
-    three_are (guard_items u) (page_items t.source) (content_items s (thing t ∷ before) after) rest (guard_glyphs u) (map glyph_of (page_items t.source))
+    three_are (guard_items u) (node_items t.source) (content_items s (thing t ∷ before) after) rest (guard_glyphs u) (map glyph_of (node_items t.source))
     (content_glyphs s (thing t ∷ before) after (map glyph_of rest)) (guard_is u) refl (glyphs_are s (thing t ∷ before) after rest)

@@ -28,14 +28,14 @@ use Rattle.wt_beside_laws.proofs.TypedForms.{typed_none}
 -- ---- characters
 
 -- where no form begins
-one_more : (cx : Context) (a : Bool) (b : ℕ) (more : List Glyph) (n : ℕ) (c : Cut) → form_at cx a (glyph.Byte b ∷ more) ≡ None
+pub one_more : (cx : Context) (a : Bool) (b : ℕ) (more : List Glyph) (n : ℕ) (c : Cut) → form_at cx a (glyph.Byte b ∷ more) ≡ None
     → cuts cx (is_word b) 0 more ≡ add_chars n c → cuts cx a 0 (glyph.Byte b ∷ more) ≡ add_chars (suc n) c
 one_more cx a b more n c e f =
     let again : ℕ → Cut = λ (m : ℕ). cuts cx (is_word b) m more in
     let one : suc (n + c.0) ≡ suc n + c.0 = omega arith in
     ap (λ (o : Option Shape). cut_with o again) e ∙ ap (λ (k : Cut). cut_with None (λ (m : ℕ). k)) f ∙ ap (λ (m : ℕ). (m, c.1)) one
 
-none_more : (c : Cut) → c ≡ add_chars 0 c
+pub none_more : (c : Cut) → c ≡ add_chars 0 c
 none_more c = ap (λ (m : ℕ). (m, c.1)) (omega arith)
 
 abbrev IsQuiet : ℕ → Type 0

@@ -15,19 +15,16 @@ use Rattle.wt_span.specs.Lexemes.{form_at}
 use Rattle.wt_names.proofs.Ascii.{IsWide, encode_wide, encode_some}
 use Rattle.wt_guards.specs.Content.{ContentSign, letter, thing}
 use Rattle.wt_guards.specs.Letters.{is_bracket, is_escaped, reference, written_by}
-use Rattle.wt_guards.specs.Guards.{Setting, nowiki, nowiki_if, is_guarded, spelled_from, spelled}
+use Rattle.wt_guards.specs.Guards.{Setting, nowiki, nowiki_if, spelled_from}
 use Rattle.wt_guards.proofs.Escapes.{is_escapable, escapable}
-use Rattle.wt_expand.specs.PageItems.{page_items}
 use Rattle.wt_spelling_laws.proofs.Forms.{comment_other, comment_not, other_byte, equals_byte, IsTame, less_byte, and_byte, nowiki_form, reference_form}
 use Rattle.wt_spelling_laws.proofs.TextReads.{Begins, unguarded, bracket_escaped, not_bracket, equal_or, apart}
 use Rattle.wt_text_edit_laws.specs.LonePages.{page_chars}
-use Rattle.wt_text_edit_laws.specs.TextBetween.{StandsBehind}
-use Rattle.wt_text_edit_laws.proofs.Between.Fronts.{behind_reads}
-use Rattle.wt_text_edit_laws.proofs.Prose.InFront.{Reads, reads_byte, reads_form, read_items}
+use Rattle.wt_text_edit_laws.proofs.Prose.InFront.{Reads, reads_byte, reads_form}
 use Rattle.wt_text_edit_laws.proofs.Prose.Uncommented.{uncommented_other}
 use Rattle.wt_text_edit_laws.proofs.Texts.TypedItems.{references, wide_form, wide_tame, tame_if, IsMild, wide_mild, mild_if, no_form_byte}
-use Rattle.wt_beside_laws.specs.Content.{AreKept, guard_items, letter_items, content_items}
-use Rattle.wt_beside_laws.proofs.Firm.{ReadsAs, nothing_reads, both_read, alone_as, kept_reads}
+use Rattle.wt_beside_laws.specs.Content.{guard_items, letter_items}
+use Rattle.wt_beside_laws.proofs.Firm.{ReadsAs, nothing_reads, both_read}
 
 -- ---- what is put
 
@@ -36,7 +33,7 @@ unfolding nowiki comment_len opening_tag tag_after
 nowiki_reads rest xs r =
     reads_form Raw 60 (codes "nowiki/>") rest xs (nowiki_form Page rest) (uncommented_other 60 (codes "nowiki/>" ++ rest) refl refl) r
 
-guard_reads : (guarded : Bool) → ReadsAs (nowiki_if guarded) (guard_items guarded)
+pub guard_reads : (guarded : Bool) → ReadsAs (nowiki_if guarded) (guard_items guarded)
 guard_reads true = nowiki_reads
 guard_reads false = nothing_reads
 
@@ -80,7 +77,7 @@ begin_letter P s c d before after e f p q g =
 
 -- ---- a character, before what is spelled behind it
 
-abbrev further : Setting → ℕ → List ContentSign → List ContentSign → List ℕ
+abbrev pub further : Setting → ℕ → List ContentSign → List ContentSign → List ℕ
 further s c before after = spelled_from s (letter c ∷ before) after
 
 -- behind a byte
@@ -157,29 +154,3 @@ letter_reads : (s : Setting) (before : List ContentSign) (c : ℕ) (after : List
 letter_reads s before c after xs true h g =
     both_read (reference c) (further s c before after) (letter_items true c) xs (reference_reads c (escapable s.within s.place before c after h)) g
 letter_reads s before c after xs false h g = plain_reads s before c after xs h g
-
--- ---- all of it
-
-pub content_reads : (s : Setting) (before signs : List ContentSign) → AreKept signs → ReadsAs (spelled_from s before signs) (content_items s before signs)
-content_reads s before [] h = guard_reads (is_guarded s before [])
-content_reads s before (letter c ∷ after) h =
-    let e = is_escaped s.within s.place before c after in
-    let own : List Item = letter_items e c ++ content_items s (letter c ∷ before) after in
-    both_read (nowiki_if (is_guarded s before (letter c ∷ after))) (written_by e c ++ further s c before after) (guard_items (is_guarded s before (letter c ∷ after))) own
-    (guard_reads (is_guarded s before (letter c ∷ after)))
-    (letter_reads s before c after (content_items s (letter c ∷ before) after) e refl (content_reads s (letter c ∷ before) after h))
-content_reads s before (thing t ∷ after) h =
-    let q : List ℕ = spelled_from s (thing t ∷ before) after in
-    let xs : List Item = content_items s (thing t ∷ before) after in
-    both_read (nowiki_if (is_guarded s before (thing t ∷ after))) (t.source ++ q) (guard_items (is_guarded s before (thing t ∷ after))) (page_items t.source ++ xs)
-    (guard_reads (is_guarded s before (thing t ∷ after)))
-    (both_read t.source q (page_items t.source) xs (kept_reads t.source h.0) (content_reads s (thing t ∷ before) after h.1))
-
-pub content_alone : (s : Setting) (signs : List ContentSign) → AreKept signs → page_items (spelled s signs) ≡ content_items s [] signs
-content_alone s signs h = alone_as (spelled s signs) (content_items s [] signs) (content_reads s [] signs h)
-
-pub content_before : (s : Setting) (signs : List ContentSign) (rest : List ℕ) → AreKept signs → StandsBehind rest
-    → page_items (spelled s signs ++ rest) ≡ content_items s [] signs ++ page_items rest
-content_before s signs rest h b =
-    read_items (spelled s signs ++ rest) (content_items s [] signs ++ page_items rest)
-    (content_reads s [] signs h rest (page_items rest) (behind_reads rest b))

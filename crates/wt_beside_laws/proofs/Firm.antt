@@ -67,10 +67,10 @@ open_begins bs = uncommented_other 91 bs refl (comment_other 91 bs (omega arith)
 close_begins : (bs : List ℕ) → BeginsUncommented (93 ∷ bs)
 close_begins bs = uncommented_other 93 bs refl (comment_other 93 bs (omega arith))
 
-abbrev from_here : List ℕ → List Item
+abbrev pub from_here : List ℕ → List Item
 from_here bs = items_cut bs (cuts Page false 0 bs)
 
-open_items : (a : Bool) (bs : List ℕ) → items_cut (91 ∷ bs) (cuts Page a 0 (91 ∷ bs)) ≡ char None 91 ∷ from_here bs
+pub open_items : (a : Bool) (bs : List ℕ) → items_cut (91 ∷ bs) (cuts Page a 0 (91 ∷ bs)) ≡ char None 91 ∷ from_here bs
 open_items a [] = byte_from a 91 [] (either_flag Page a (91 ∷ []) (open_begins []) ∙ lone_open)
 open_items a (d ∷ r) = elim (equal_or 91 d) [
   | inl i ↦ subst (λ (x : ℕ). items_cut (91 ∷ x ∷ r) (cuts Page a 0 (91 ∷ x ∷ r)) ≡ char None 91 ∷ from_here (x ∷ r)) i
@@ -80,7 +80,7 @@ open_items a (d ∷ r) = elim (equal_or 91 d) [
   | inr n ↦ byte_from a 91 (d ∷ r) (either_flag Page a (91 ∷ d ∷ r) (open_begins (d ∷ r)) ∙ one_open d r n)
 ]
 
-close_items : (a : Bool) (bs : List ℕ) → items_cut (93 ∷ bs) (cuts Page a 0 (93 ∷ bs)) ≡ char None 93 ∷ from_here bs
+pub close_items : (a : Bool) (bs : List ℕ) → items_cut (93 ∷ bs) (cuts Page a 0 (93 ∷ bs)) ≡ char None 93 ∷ from_here bs
 close_items a [] = byte_from a 93 [] (either_flag Page a (93 ∷ []) (close_begins []) ∙ lone_close)
 close_items a (d ∷ r) = elim (equal_or 93 d) [
   | inl i ↦ subst (λ (x : ℕ). items_cut (93 ∷ x ∷ r) (cuts Page a 0 (93 ∷ x ∷ r)) ≡ char None 93 ∷ from_here (x ∷ r)) i
@@ -98,7 +98,7 @@ read_close bs xs r = record { items = λ a. close_items a bs ∙ ap (λ ys. char
 
 -- ---- other characters
 
-pipe_byte : (bs : List ℕ) → form_at Page false (124 ∷ bs) ≡ Some (Pipe, 1)
+pub pipe_byte : (bs : List ℕ) → form_at Page false (124 ∷ bs) ≡ Some (Pipe, 1)
 unfolding form_at comment_len raw_len include_at opening_tag closing_tag entity_at named_entity entity_names decimal_entity hex_entity sign_word
 pipe_byte bs = refl
 
@@ -112,14 +112,14 @@ not_true : (b : Bool) → not b ≡ true → b ≡ false
 not_true true e = cc
 not_true false e = refl
 
-other_form : (b : ℕ) → is_firm b ≡ true → (b == 91) ≡ false → (b == 93) ≡ false → (b == 124) ≡ false → (b == 61) ≡ false → is_form_byte b ≡ false
+pub other_form : (b : ℕ) → is_firm b ≡ true → (b == 91) ≡ false → (b == 93) ≡ false → (b == 124) ≡ false → (b == 61) ≡ false → is_form_byte b ≡ false
 other_form b f o c p q =
     let a = or_parts (b == 60) (b == 38 || (b == 123 || b == 125)) (not_true (b == 60 || (b == 38 || (b == 123 || b == 125))) f) in
     let d = or_parts (b == 38) (b == 123 || b == 125) a.1 in
     let e = or_parts (b == 123) (b == 125) d.1 in
     rw (a.0, d.0, e.0, e.1, o, c, p, q) refl
 
-less_firm : (b : ℕ) → is_firm b ≡ true → b ≢ 60
+pub less_firm : (b : ℕ) → is_firm b ≡ true → b ≢ 60
 less_firm b f = apart b 60 (or_parts (b == 60) (b == 38 || (b == 123 || b == 125)) (not_true (b == 60 || (b == 38 || (b == 123 || b == 125))) f)).0
 
 pub firm_reads : (b : ℕ) (bs : List ℕ) (xs : List Item) → is_firm b ≡ true → Reads bs xs → Reads (b ∷ bs) (char None b ∷ xs)

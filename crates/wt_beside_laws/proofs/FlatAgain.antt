@@ -21,7 +21,7 @@ use Rattle.wt_guards.specs.Letters.{reference}
 use Rattle.wt_guards.proofs.Escapes.{is_escapable, each_escapable}
 use Rattle.wt_isolation.specs.OpenTags.{ends_open}
 use Rattle.wt_expand.specs.PageItems.{page_items}
-use Rattle.wt_expand.proofs.PageLaws.{page_sources}
+use Rattle.wt_beside_laws.proofs.NodeItems.{node_as, node_sources}
 use Rattle.wt_lines.specs.Lines.{AreLines, IsUnbroken}
 use Rattle.wt_spelling_laws.proofs.Forms.{comment_other, nowiki_form, reference_form}
 use Rattle.wt_tiles.specs.declared.glyph.Glyph.{Glyph}
@@ -38,22 +38,26 @@ use Rattle.wt_tiles.specs.Tiles.{size, Cut, chars as run, closed, pair_or_island
 use Rattle.wt_tiles.specs.Urls.{bare_url_at}
 use Rattle.wt_tiles.proofs.TagInsides.{no_tag}
 use Rattle.wt_text_edit_laws.specs.LonePages.{page_chars}
+use Rattle.wt_text_edit_laws.specs.TextBetween.{EndsBy}
 use Rattle.wt_text_edit_laws.proofs.Texts.TypedItems.{references}
 use Rattle.wt_beside_laws.specs.Content.{AreKept, guard_items, letter_items}
 use Rattle.wt_beside_laws.specs.Cuts.{add_chars, add_tile, own_glyphs, own_form, add_node, guard_cut, letter_cut}
 use Rattle.wt_beside_laws.specs.Flat.{IsFlat}
-use Rattle.wt_beside_laws.specs.Kept.{lexeme, IsKept}
+use Rattle.wt_beside_laws.specs.Kept.{lexeme, is_lexeme_end, IsKept}
 use Rattle.wt_beside_laws.specs.Nodes.{IsPair, IsTagNode, IsOneLexeme, IsNode}
 use Rattle.wt_beside_laws.specs.PageBlocks.{AreShut}
-use Rattle.wt_beside_laws.specs.PageSigns.{tile_signs, signs_of_tiles, IsFlatForm, IsFlatTile, AreFlatTiles, HasNoBreak}
+use Rattle.wt_beside_laws.specs.PageSigns.{ends_break, atom_role, tile_signs, signs_of_tiles, line_signs, signs_of_lines, IsFlatForm, IsFlatTile, AreFlatTiles, HasNoBreak}
 use Rattle.wt_beside_laws.specs.Stood.{OpensNone, OpensNoPair}
 use Rattle.wt_beside_laws.proofs.Contents.{nowiki_reads, reference_reads}
 use Rattle.wt_beside_laws.proofs.Firm.{alone_as}
 use Rattle.wt_beside_laws.proofs.FormKinds.{IsNodeKind, form_is_node}
 use Rattle.wt_beside_laws.proofs.LineParts.{has_form, glyphs_long}
+use Rattle.wt_beside_laws.proofs.Marks.InLine.{reference_ends}
 use Rattle.wt_beside_laws.proofs.NodesBegin.{no_url}
 use Rattle.wt_beside_laws.proofs.NodesStand.{by_less, opened_shape}
 use Rattle.wt_beside_laws.proofs.PageSigns.{IsFlatKind}
+use Rattle.wt_beside_laws.specs.Commented.{IsHeld, EndsAsSaid}
+use Rattle.wt_beside_laws.specs.NodeItems.{node_items}
 
 -- ---- a tag that opens a pair has its closing tag
 
@@ -119,7 +123,7 @@ node_lone External own w f n e = other_first w.kind 91 own n.inside n.is refl
 node_lone (Bare ends) own w f n e = other_first w.kind n.first own n.others n.is (url_first n.first n.others n.shape n.url)
 node_lone Switch own w f n e = other_first w.kind 95 own (glyph.Byte 95 ∷ byte_glyphs n.word) n.is refl
 node_lone Toggle own w f n e = absurd f
-node_lone (Mark ends began) own w f n e = absurd n
+node_lone (Mark ends began) own w f n e = subst (OpensNoPair w.kind) (sym n) (no_opening w.kind (glyph.Mark ∷ []) (no_tag (glyph.Mark ∷ []) refl))
 node_lone (Group g) own w f n e = absurd n
 node_lone Function own w f n e = lexeme_lone w.kind own n
 node_lone Node own w f n e = elim n [
@@ -133,40 +137,7 @@ node_lone Node own w f n e = elim n [
   ]
 ]
 
--- ---- no node is a mark
-
-abbrev IsUnmarked : List Glyph → Type 0
-IsUnmarked [] = Unit {0}
-IsUnmarked (glyph.Byte b ∷ gs) = Unit {0}
-IsUnmarked (glyph.Entity c ∷ gs) = Unit {0}
-IsUnmarked (glyph.Atom ∷ gs) = Unit {0}
-IsUnmarked (glyph.Mark ∷ gs) = ⊥
-
-lexeme_unmarked : (own : List Glyph) → IsOneLexeme own → IsUnmarked own
-lexeme_unmarked own n = elim n [
-  | inl i ↦ subst IsUnmarked (sym i) tt
-  | inr i ↦ subst IsUnmarked (sym i.1) tt
-]
-
-node_unmarked : (r : Role) (own : List Glyph) → IsFlat r → IsNode r own → IsUnmarked own
-node_unmarked Link own f n = subst IsUnmarked (sym n.is) tt
-node_unmarked External own f n = subst IsUnmarked (sym n.is) tt
-node_unmarked (Bare ends) own f n = subst IsUnmarked (sym n.is) tt
-node_unmarked Switch own f n = subst IsUnmarked (sym n.is) tt
-node_unmarked Toggle own f n = absurd f
-node_unmarked (Mark ends began) own f n = absurd n
-node_unmarked (Group g) own f n = absurd n
-node_unmarked Function own f n = lexeme_unmarked own n
-node_unmarked Node own f n = elim n [
-  | inl one ↦ lexeme_unmarked own one
-  | inr other ↦ elim other [
-    | inl tag ↦ subst IsUnmarked (sym tag.is) tt
-    | inr link ↦ elim link [
-      | inl category ↦ subst IsUnmarked (sym category.is) tt
-      | inr media ↦ subst IsUnmarked (sym media.is) tt
-    ]
-  ]
-]
+-- ---- a form
 
 stays_kind : (k : TileKind) → IsNodeKind k → IsFlatKind k
 stays_kind kind.Link h = tt
@@ -182,15 +153,18 @@ stays_kind kind.Atom h = absurd h
 stays_kind kind.Mark h = absurd h
 stays_kind kind.Chars h = absurd h
 
+mark_flat : (w : Shape) → Some (leaf kind.Mark 1) ≡ Some w → IsFlatKind w.kind
+mark_flat w e = subst (λ (v : Shape). IsFlatKind v.kind) (same_shape (leaf kind.Mark 1) w e) tt
+
 atom_flat : (w : Shape) → Some (leaf kind.Atom 1) ≡ Some w → IsFlatKind w.kind
 atom_flat w e = subst (λ (v : Shape). IsFlatKind v.kind) (same_shape (leaf kind.Atom 1) w e) tt
 
-form_flat : (own : List Glyph) (w : Shape) → IsUnmarked own → own_form in_line own ≡ Some w → IsFlatKind w.kind
-form_flat [] w u e = cc
-form_flat (glyph.Byte b ∷ gs) w u e = stays_kind w.kind (form_is_node in_line false (glyph.Byte b ∷ gs) w e)
-form_flat (glyph.Entity c ∷ gs) w u e = atom_flat w e
-form_flat (glyph.Atom ∷ gs) w u e = atom_flat w e
-form_flat (glyph.Mark ∷ gs) w u e = absurd u
+form_flat : (own : List Glyph) (w : Shape) → own_form in_line own ≡ Some w → IsFlatKind w.kind
+form_flat [] w e = cc
+form_flat (glyph.Byte b ∷ gs) w e = stays_kind w.kind (form_is_node in_line false (glyph.Byte b ∷ gs) w e)
+form_flat (glyph.Entity c ∷ gs) w e = atom_flat w e
+form_flat (glyph.Atom ∷ gs) w e = atom_flat w e
+form_flat (glyph.Mark ∷ gs) w e = mark_flat w e
 
 flat_tile : (k : TileKind) (own : List Item) → IsFlatKind k → IsFlatForm k own → IsFlatTile k own
 flat_tile kind.Link own h f = f
@@ -203,14 +177,14 @@ flat_tile kind.Pair own h f = f
 flat_tile kind.TagIsland own h f = f
 flat_tile kind.Switch own h f = f
 flat_tile kind.Atom own h f = f
-flat_tile kind.Mark own h f = absurd h
+flat_tile kind.Mark own h f = f
 flat_tile kind.Chars own h f = absurd h
 
 -- a node that stays, as a tile
-node_tile : (t : Thing) (w : Shape) → IsFlat t.role → IsNode t.role (own_glyphs t) → own_form in_line (own_glyphs t) ≡ Some w → IsFlatTile w.kind (page_items t.source)
+node_tile : (t : Thing) (w : Shape) → IsFlat t.role → IsNode t.role (own_glyphs t) → own_form in_line (own_glyphs t) ≡ Some w → IsFlatTile w.kind (node_items t.source)
 node_tile t w f n e =
-    flat_tile w.kind (page_items t.source) (form_flat (own_glyphs t) w (node_unmarked t.role (own_glyphs t) f n) e)
-    (record { alone = ap page_items (page_sources t.source); lone = node_lone t.role (own_glyphs t) w f n e })
+    flat_tile w.kind (node_items t.source) (form_flat (own_glyphs t) w e)
+    (record { alone = ap node_items (node_sources t.source); lone = node_lone t.role (own_glyphs t) w f n e })
 
 -- ---- sources
 
@@ -224,19 +198,19 @@ letters_so : (Q : List ℕ → Type 0) (cs : List ℕ) → EachSource Q (map let
 letters_so Q [] = tt
 letters_so Q (c ∷ cs) = letters_so Q cs
 
-tile_so : (Q : List ℕ → Type 0) (k : TileKind) (at : ℕ) (own : List Item) → Q (sources own) → EachSource Q (tile_signs k at own)
-tile_so Q kind.Link at own h = (h, tt)
-tile_so Q kind.Category at own h = (h, tt)
-tile_so Q kind.Media at own h = (h, tt)
-tile_so Q kind.ExtLink at own h = (h, tt)
-tile_so Q kind.BareUrl at own h = (h, tt)
-tile_so Q kind.Br at own h = (h, tt)
-tile_so Q kind.Pair at own h = (h, tt)
-tile_so Q kind.TagIsland at own h = (h, tt)
-tile_so Q kind.Switch at own h = (h, tt)
-tile_so Q kind.Atom at own h = (h, tt)
-tile_so Q kind.Mark at own h = (h, tt)
-tile_so Q kind.Chars at own h = letters_so Q (chars (sources own))
+tile_so : (Q : List ℕ → Type 0) (k : TileKind) (began : Bool) (at : ℕ) (own : List Item) → Q (sources own) → EachSource Q (tile_signs k began at own)
+tile_so Q kind.Link began at own h = (h, tt)
+tile_so Q kind.Category began at own h = (h, tt)
+tile_so Q kind.Media began at own h = (h, tt)
+tile_so Q kind.ExtLink began at own h = (h, tt)
+tile_so Q kind.BareUrl began at own h = (h, tt)
+tile_so Q kind.Br began at own h = (h, tt)
+tile_so Q kind.Pair began at own h = (h, tt)
+tile_so Q kind.TagIsland began at own h = (h, tt)
+tile_so Q kind.Switch began at own h = (h, tt)
+tile_so Q kind.Atom began at own h = (h, tt)
+tile_so Q kind.Mark began at own h = (h, tt)
+tile_so Q kind.Chars began at own h = letters_so Q (chars (sources own))
 
 pub so_both : (Q : List ℕ → Type 0) (xs ys : List ContentSign) → EachSource Q xs → EachSource Q ys → EachSource Q (xs ++ ys)
 so_both Q [] ys h k = k
@@ -252,7 +226,7 @@ pub nowiki_kept : IsKept nowiki
 unfolding nowiki comment_len
 nowiki_kept = record {
   parts = lexeme Raw 60 (codes "nowiki/>") ∷ [];
-  are = (record { form = λ rest. nowiki_form Page rest; uncommented = λ rest. refl; begins = refl }, tt);
+  are = (record { form = λ rest. nowiki_form Page rest; uncommented = λ rest. refl; begins = refl; ends = refl }, tt);
   is = refl;
 }
 
@@ -268,14 +242,26 @@ reference_kept c e =
               ∙ ap (λ (bs : List ℕ). Some (Entity c, length bs)) r.is;
           uncommented = λ rest. comment_other 38 (r.others ++ rest) (omega arith);
           begins = refl;
+          ends = subst (EndsBy is_lexeme_end) r.is (reference_ends c e);
         },
         tt,
       );
       is = append-nil (38 ∷ r.others) ∙ sym r.is;
     }
 
-pub put_kept : HoldsOfPut IsKept
-put_kept = record { of_nowiki = nowiki_kept; of_reference = reference_kept }
+-- a lexeme by itself has no line break
+held_lexeme : (f : ItemForm) (q : List ℕ) → IsKept q → page_items q ≡ whole f None q ∷ [] → IsHeld q
+held_lexeme f q k e = inl (k, subst HasNoBreak (sym e) (tt, tt))
+
+nowiki_held : IsHeld nowiki
+nowiki_held = held_lexeme form.Nowiki nowiki nowiki_kept (alone_as nowiki (whole form.Nowiki None nowiki ∷ []) nowiki_reads)
+
+reference_held : (c : ℕ) → is_escapable c ≡ true → IsHeld (reference c)
+reference_held c e =
+    held_lexeme (form.Entity c) (reference c) (reference_kept c e) (alone_as (reference c) (whole (form.Entity c) None (reference c) ∷ []) (reference_reads c e))
+
+pub put_kept : HoldsOfPut IsHeld
+put_kept = record { of_nowiki = nowiki_held; of_reference = reference_held }
 
 abbrev pub IsShut : List ℕ → Type 0
 IsShut bs = ends_open bs ≡ false
@@ -293,18 +279,18 @@ put_shut = record { of_nowiki = nowiki_shut; of_reference = reference_shut }
 
 -- a lexeme by itself, as a tile
 record IsAtom (Q : List ℕ → Type 0) (x : Item) : Type 0 where
-  alone : page_items (sources (x ∷ [])) ≡ x ∷ []
+  alone : node_items (sources (x ∷ [])) ≡ x ∷ []
   so : Q (sources (x ∷ []))
 
-whole_atom : (Q : List ℕ → Type 0) (f : ItemForm) (bs : List ℕ) → page_items bs ≡ whole f None bs ∷ [] → Q bs → IsAtom Q (whole f None bs)
-whole_atom Q f bs e k = record { alone = ap page_items (append-nil bs) ∙ e; so = subst Q (sym (append-nil bs)) k }
+whole_atom : (Q : List ℕ → Type 0) (f : ItemForm) (bs : List ℕ) → node_items bs ≡ whole f None bs ∷ [] → Q bs → IsAtom Q (whole f None bs)
+whole_atom Q f bs e k = record { alone = ap node_items (append-nil bs) ∙ e; so = subst Q (sym (append-nil bs)) k }
 
 nowiki_atom : (Q : List ℕ → Type 0) → HoldsOfPut Q → IsAtom Q (whole form.Nowiki None nowiki)
-nowiki_atom Q p = whole_atom Q form.Nowiki nowiki (alone_as nowiki (whole form.Nowiki None nowiki ∷ []) nowiki_reads) p.of_nowiki
+nowiki_atom Q p = whole_atom Q form.Nowiki nowiki (node_as nowiki (whole form.Nowiki None nowiki ∷ []) nowiki_reads) p.of_nowiki
 
 reference_atom : (Q : List ℕ → Type 0) (c : ℕ) → HoldsOfPut Q → is_escapable c ≡ true → IsAtom Q (whole (form.Entity c) None (reference c))
 reference_atom Q c p e =
-    whole_atom Q (form.Entity c) (reference c) (alone_as (reference c) (whole (form.Entity c) None (reference c) ∷ []) (reference_reads c e)) (p.of_reference c e)
+    whole_atom Q (form.Entity c) (reference c) (node_as (reference c) (whole (form.Entity c) None (reference c) ∷ []) (reference_reads c e)) (p.of_reference c e)
 
 -- ---- cuts
 
@@ -312,18 +298,19 @@ reference_atom Q c p e =
 pub record FlatCut (Q : List ℕ → Type 0) (c : Cut) (xs : List Item) : Type 0 where
   pub text : IsUtf8 (sources (take c.0 xs))
   pub tiles : AreFlatTiles (tile_parts c.1 (drop c.0 xs))
-  pub kept : (at : ℕ) → EachSource Q (signs_of_tiles at (tile_parts c.1 (drop c.0 xs)))
+  pub kept : (began : Bool) (at : ℕ) → EachSource Q (signs_of_tiles began at (tile_parts c.1 (drop c.0 xs)))
 
 pub record FlatShapes (Q : List ℕ → Type 0) (ps : List (Shape × List Item)) : Type 0 where
   pub tiles : AreFlatTiles ps
-  pub kept : (at : ℕ) → EachSource Q (signs_of_tiles at ps)
+  pub kept : (began : Bool) (at : ℕ) → EachSource Q (signs_of_tiles began at ps)
 
 -- a tile before others
-tile_before : (Q : List ℕ → Type 0) (w : Shape) (own : List Item) (ps : List (Shape × List Item)) → IsFlatTile w.kind own → ((at : ℕ) → EachSource Q (tile_signs w.kind at own))
+tile_before : (Q : List ℕ → Type 0) (w : Shape) (own : List Item) (ps : List (Shape × List Item)) → IsFlatTile w.kind own → ((began : Bool) (at : ℕ) → EachSource Q (tile_signs w.kind began at own))
     → FlatShapes Q ps → FlatShapes Q ((w, own) ∷ ps)
 tile_before Q w own ps t k f = record {
   tiles = (t, f.tiles);
-  kept = λ at. so_both Q (tile_signs w.kind at own) (signs_of_tiles (at + length (sources own)) ps) (k at) (f.kept (at + length (sources own)));
+  kept = λ began at. so_both Q (tile_signs w.kind began at own) (signs_of_tiles (ends_break (sources own)) (at + length (sources own)) ps) (k began at)
+      (f.kept (ends_break (sources own)) (at + length (sources own)));
 }
 
 closed_by : (Q : List ℕ → Type 0) (t : Bool) (n : ℕ) (ws : List Shape) (xs : List Item) → (n == 0) ≡ t → FlatCut Q (n, ws) xs → FlatShapes Q (tile_parts (if t then ws else run n ∷ ws) xs)
@@ -334,7 +321,7 @@ closed_by Q true n ws xs e f =
 closed_by Q false n ws xs e f =
     let all : n ≡ size (run n) = omega arith in
     subst (λ (m : ℕ). FlatShapes Q ((run n, take m xs) ∷ tile_parts ws (drop m xs))) all
-    (tile_before Q (run n) (take n xs) (tile_parts ws (drop n xs)) f.text (λ at. letters_so Q (chars (sources (take n xs)))) (record { tiles = f.tiles; kept = f.kept }))
+    (tile_before Q (run n) (take n xs) (tile_parts ws (drop n xs)) f.text (λ began at. letters_so Q (chars (sources (take n xs)))) (record { tiles = f.tiles; kept = f.kept }))
 
 pub closed_flat : (Q : List ℕ → Type 0) (c : Cut) (xs : List Item) → FlatCut Q c xs → FlatShapes Q (tile_parts (closed c.0 c.1) xs)
 unfolding closed
@@ -359,7 +346,7 @@ tile_flat Q w own c xs l t k f =
     ∙ ap (λ (zs : List Item). (w, zs) ∷ tile_parts ws (drop (length own) ys)) (sym (front_taken own xs))
     ∙ ap (λ (n : ℕ). (w, take n ys) ∷ tile_parts ws (drop n ys)) (sym l) in
     let g : FlatShapes Q ((w, take (size w) ys) ∷ tile_parts ws (drop (size w) ys)) =
-    subst (FlatShapes Q) is (tile_before Q w own (tile_parts ws xs) t (λ at. tile_so Q w.kind at own k) (closed_flat Q c xs f)) in
+    subst (FlatShapes Q) is (tile_before Q w own (tile_parts ws xs) t (λ began at. tile_so Q w.kind began at own k) (closed_flat Q c xs f)) in
     record { text = IsUtf8-nil; tiles = g.tiles; kept = g.kept }
 
 atom_before : (Q : List ℕ → Type 0) (x : Item) (c : Cut) (xs : List Item) → IsAtom Q x → FlatCut Q c xs → FlatCut Q (add_tile (leaf kind.Atom 1) c) (x ∷ xs)
@@ -386,13 +373,13 @@ pub chars_before : (Q : List ℕ → Type 0) (bs : List ℕ) (c : Cut) (xs : Lis
 chars_before Q bs c xs u f = record {
   text = subst IsUtf8 (sym (ap sources (taken_more bs c.0 xs) ∙ chars_source bs (take c.0 xs))) (IsUtf8-append bs (sources (take c.0 xs)) u f.text);
   tiles = subst (λ (ys : List Item). AreFlatTiles (tile_parts c.1 ys)) (sym (dropped_more bs c.0 xs)) f.tiles;
-  kept = λ at. subst (λ (ys : List Item). EachSource Q (signs_of_tiles at (tile_parts c.1 ys))) (sym (dropped_more bs c.0 xs)) (f.kept at);
+  kept = λ began at. subst (λ (ys : List Item). EachSource Q (signs_of_tiles began at (tile_parts c.1 ys))) (sym (dropped_more bs c.0 xs)) (f.kept began at);
 }
 
 -- ---- a line, sign by sign
 
 pub none_flat : (Q : List ℕ → Type 0) → FlatCut Q (0, []) []
-none_flat Q = record { text = IsUtf8-nil; tiles = tt; kept = λ at. tt }
+none_flat Q = record { text = IsUtf8-nil; tiles = tt; kept = λ began at. tt }
 
 pub guard_flat : (Q : List ℕ → Type 0) (p : HoldsOfPut Q) (u : Bool) (c : Cut) (xs : List Item) → FlatCut Q c xs → FlatCut Q (guard_cut u c) (guard_items u ++ xs)
 guard_flat Q p true c xs f = atom_before Q (whole form.Nowiki None nowiki) c xs (nowiki_atom Q p) f
@@ -409,17 +396,17 @@ letter_by Q true e d c xs f = none_flat Q
 letter_by Q false e d c xs f = f
 
 pub node_flat : (Q : List ℕ → Type 0) (t : Thing) (c : Cut) (xs : List Item) → IsFlat t.role → IsNode t.role (own_glyphs t) → Q t.source → FlatCut Q c xs
-    → FlatCut Q (add_node (own_form in_line (own_glyphs t)) (length (own_glyphs t)) c) (page_items t.source ++ xs)
+    → FlatCut Q (add_node (own_form in_line (own_glyphs t)) (length (own_glyphs t)) c) (node_items t.source ++ xs)
 node_flat Q t c xs f n k g =
     let h = has_form t.role (own_glyphs t) f n in
-    let long : size h.shape ≡ length (page_items t.source) = h.whole ∙ glyphs_long (page_items t.source) in
-    subst (λ (o : Option Shape). FlatCut Q (add_node o (length (own_glyphs t)) c) (page_items t.source ++ xs)) (sym h.alone)
-    (tile_flat Q h.shape (page_items t.source) c xs long (node_tile t h.shape f n h.alone) (subst Q (sym (page_sources t.source)) k) g)
+    let long : size h.shape ≡ length (node_items t.source) = h.whole ∙ glyphs_long (node_items t.source) in
+    subst (λ (o : Option Shape). FlatCut Q (add_node o (length (own_glyphs t)) c) (node_items t.source ++ xs)) (sym h.alone)
+    (tile_flat Q h.shape (node_items t.source) c xs long (node_tile t h.shape f n h.alone) (subst Q (sym (node_sources t.source)) k) g)
 
 -- ---- lines
 
 -- no line goes on over its end
-no_break : (xs : List Item) → IsUnbroken xs → HasNoBreak xs
+pub no_break : (xs : List Item) → IsUnbroken xs → HasNoBreak xs
 no_break [] h = tt
 no_break (char o b ∷ xs) h = (h.0, no_break xs h.1)
 no_break (whole f o bs ∷ xs) h = (tt, no_break xs h.1)
@@ -435,15 +422,70 @@ unbroken_lines (l ∷ m ∷ ls) xs h = (no_break l h.0, unbroken_lines (m ∷ ls
 
 -- ---- in other words
 
-pub from_kept : (signs : List ContentSign) → AreKept signs → EachSource IsKept signs
+pub from_kept : (signs : List ContentSign) → AreKept signs → EachSource IsHeld signs
 from_kept [] h = tt
 from_kept (letter c ∷ after) h = from_kept after h
-from_kept (thing t ∷ after) h = (h.0, from_kept after h.1)
+from_kept (thing t ∷ after) h = (h.0.0, from_kept after h.1)
 
-pub to_kept : (signs : List ContentSign) → EachSource IsKept signs → AreKept signs
-to_kept [] h = tt
-to_kept (letter c ∷ after) h = to_kept after h
-to_kept (thing t ∷ after) h = (h.0, to_kept after h.1)
+-- each mark is as its role says
+abbrev pub AreTied : List ContentSign → Type 0
+AreTied [] = Unit {0}
+AreTied (letter c ∷ after) = AreTied after
+AreTied (thing t ∷ after) = EndsAsSaid t.role t.source × AreTied after
+
+pub to_kept : (signs : List ContentSign) → AreTied signs → EachSource IsHeld signs → AreKept signs
+to_kept [] d h = tt
+to_kept (letter c ∷ after) d h = to_kept after d h
+to_kept (thing t ∷ after) d h = ((h.0, d.0), to_kept after d.1 h.1)
+
+tied_both : (xs ys : List ContentSign) → AreTied xs → AreTied ys → AreTied (xs ++ ys)
+tied_both [] ys h k = k
+tied_both (letter c ∷ xs) ys h k = tied_both xs ys h k
+tied_both (thing t ∷ xs) ys h k = (h.0, tied_both xs ys h.1 k)
+
+letters_tied : (cs : List ℕ) → AreTied (map letter cs)
+letters_tied [] = tt
+letters_tied (c ∷ cs) = letters_tied cs
+
+atom_tied : (xs : List Item) (bs : List ℕ) → EndsAsSaid (atom_role xs) bs
+atom_tied [] bs = tt
+atom_tied (char o b ∷ xs) bs = tt
+atom_tied (whole form.Chars o cs ∷ xs) bs = tt
+atom_tied (whole (form.Entity c) o cs ∷ xs) bs = tt
+atom_tied (whole form.Nowiki o cs ∷ xs) bs = tt
+atom_tied (whole form.Extension o cs ∷ xs) bs = tt
+atom_tied (whole form.Function o cs ∷ xs) bs = tt
+atom_tied (whole form.Comment o cs ∷ xs) bs = tt
+atom_tied (whole form.Include o cs ∷ xs) bs = tt
+atom_tied (whole form.Hidden o cs ∷ xs) bs = tt
+atom_tied (whole form.EmptyCall o cs ∷ xs) bs = tt
+
+tile_tied : (k : TileKind) (began : Bool) (at : ℕ) (xs : List Item) → AreTied (tile_signs k began at xs)
+tile_tied kind.Link began at xs = (tt, tt)
+tile_tied kind.Category began at xs = (tt, tt)
+tile_tied kind.Media began at xs = (tt, tt)
+tile_tied kind.ExtLink began at xs = (tt, tt)
+tile_tied kind.BareUrl began at xs = (tt, tt)
+tile_tied kind.Br began at xs = (tt, tt)
+tile_tied kind.Pair began at xs = (tt, tt)
+tile_tied kind.TagIsland began at xs = (tt, tt)
+tile_tied kind.Switch began at xs = (tt, tt)
+tile_tied kind.Atom began at xs = (atom_tied xs (sources xs), tt)
+tile_tied kind.Mark began at xs = (refl, tt)
+tile_tied kind.Chars began at xs = letters_tied (chars (sources xs))
+
+tiles_tied : (began : Bool) (at : ℕ) (ps : List (Shape × List Item)) → AreTied (signs_of_tiles began at ps)
+tiles_tied began at [] = tt
+tiles_tied began at ((w, xs) ∷ ps) =
+    tied_both (tile_signs w.kind began at xs) (signs_of_tiles (ends_break (sources xs)) (at + length (sources xs)) ps) (tile_tied w.kind began at xs)
+    (tiles_tied (ends_break (sources xs)) (at + length (sources xs)) ps)
+
+pub lines_tied : (at : ℕ) (ls : List (List Item)) → AreTied (signs_of_lines at ls)
+lines_tied at [] = tt
+lines_tied at (xs ∷ []) = tiles_tied true at (tiles in_line xs)
+lines_tied at (xs ∷ ys ∷ ls) =
+    tied_both (line_signs at xs) (letter 10 ∷ signs_of_lines (at + length (sources xs) + 1) (ys ∷ ls)) (tiles_tied true at (tiles in_line xs))
+    (lines_tied (at + length (sources xs) + 1) (ys ∷ ls))
 
 pub from_shut : (signs : List ContentSign) → AreShut signs → EachSource IsShut signs
 from_shut [] h = tt

@@ -1,12 +1,11 @@
 -- A content of the nodes of flat lines of a page, with texts between them, is one that is read sign by sign.
-use Rattle.std.proofs.Common.{◌≡◌, ℕ, ◌+◌, Bool, false, List, [], ◌∷◌, ◌++◌, length, map, take, drop, refl, sym, subst}
+use Rattle.std.proofs.Common.{◌≡◌, ℕ, ◌+◌, Bool, true, false, List, [], ◌∷◌, ◌++◌, length, map, take, drop, refl, sym, subst}
 use Rattle.std.specs.Str.{chars}
 use Rattle.wt_span.specs.Items.{Item, char, whole, sources}
 use Rattle.wt_guards.specs.declared.role.Role.{Role}
 use Rattle.wt_guards.specs.declared.role.Role.TheVariants.{Link, External, Bare, Switch, Toggle, Mark, Group, Function, Node}
 use Rattle.wt_guards.specs.Content.{ContentSign, Thing, letter, thing}
 use Rattle.wt_guards.specs.Guards.{Setting}
-use Rattle.wt_expand.specs.PageItems.{page_items}
 use Rattle.wt_lines.specs.Lines.{IsUnbroken}
 use Rattle.wt_tiles.specs.declared.shape.Shape.{Shape}
 use Rattle.wt_tiles.specs.declared.shape.TileKind.{TileKind}
@@ -18,13 +17,15 @@ use Rattle.wt_tiles.specs.Urls.{is_word}
 use Rattle.wt_beside_laws.specs.Content.{AreKept}
 use Rattle.wt_beside_laws.specs.Cuts.{own_glyphs, ends_word}
 use Rattle.wt_beside_laws.specs.Flat.{IsFlat, AreFlat, IsFlatContent}
-use Rattle.wt_beside_laws.specs.Kept.{IsKept}
+use Rattle.wt_beside_laws.specs.Commented.{IsHeld, EndsAsSaid}
 use Rattle.wt_beside_laws.specs.Lines.{AreCharacters, AreUnbroken}
-use Rattle.wt_beside_laws.specs.PageSigns.{form_sign, tile_signs, signs_of_tiles, line_signs, signs_of_lines, IsFlatForm, IsFlatTile, AreFlatTiles, HasNoBreak, AreFlatLines}
+use Rattle.wt_beside_laws.specs.Led.{AreMarksLed}
+use Rattle.wt_beside_laws.specs.PageSigns.{ends_break, form_sign, tile_signs, signs_of_tiles, line_signs, signs_of_lines, IsFlatForm, IsFlatTile, AreFlatTiles, HasNoBreak, AreFlatLines}
 use Rattle.wt_beside_laws.specs.Stood.{IsTileOf, AreStood, things}
 use Rattle.wt_beside_laws.proofs.Each.{Each}
 use Rattle.wt_beside_laws.proofs.PageSigns.{flat_nodes, flat_meet, lines_stood, none_take, none_drop}
 use Rattle.wt_beside_laws.proofs.SentNodes.{things_append, no_things}
+use Rattle.wt_beside_laws.specs.NodeItems.{node_items}
 
 -- ---- what holds of each node
 
@@ -34,7 +35,7 @@ both P (t ∷ ts) us h k = (h.0, both P ts us h.1 k)
 
 -- its source stands so whatever is written behind it
 abbrev pub Kept : Thing → Type 0
-Kept t = IsKept t.source
+Kept t = IsHeld t.source × EndsAsSaid t.role t.source
 
 pub kept_each : (signs : List ContentSign) → AreKept signs → Each Kept (things signs)
 kept_each [] h = tt
@@ -48,7 +49,7 @@ each_kept (thing t ∷ after) h = (h.0, each_kept after h.1)
 
 -- it doesn't go on over the end of its line
 abbrev pub Unbroken : Thing → Type 0
-Unbroken t = IsUnbroken (page_items t.source)
+Unbroken t = IsUnbroken (node_items t.source)
 
 pub each_unbroken : (signs : List ContentSign) → Each Unbroken (things signs) → AreUnbroken signs
 each_unbroken [] h = tt
@@ -87,35 +88,36 @@ unbroken [] h = tt
 unbroken (char o b ∷ xs) h = (h.0, unbroken xs h.1)
 unbroken (whole f o bs ∷ xs) h = (refl, unbroken xs h.1)
 
-form_unbroken : (k : TileKind) (at : ℕ) (xs : List Item) → IsFlatForm k xs → HasNoBreak xs → Each Unbroken (things (form_sign k at xs))
-form_unbroken k at xs f h = (subst IsUnbroken (sym f.alone) (unbroken xs h), tt)
+form_unbroken : (k : TileKind) (began : Bool) (at : ℕ) (xs : List Item) → IsFlatForm k xs → HasNoBreak xs → Each Unbroken (things (form_sign k began at xs))
+form_unbroken k began at xs f h = (subst IsUnbroken (sym f.alone) (unbroken xs h), tt)
 
-tile_unbroken : (k : TileKind) (at : ℕ) (xs : List Item) → IsFlatTile k xs → HasNoBreak xs → Each Unbroken (things (tile_signs k at xs))
-tile_unbroken kind.Link at xs f h = form_unbroken kind.Link at xs f h
-tile_unbroken kind.Category at xs f h = form_unbroken kind.Category at xs f h
-tile_unbroken kind.Media at xs f h = form_unbroken kind.Media at xs f h
-tile_unbroken kind.ExtLink at xs f h = form_unbroken kind.ExtLink at xs f h
-tile_unbroken kind.BareUrl at xs f h = form_unbroken kind.BareUrl at xs f h
-tile_unbroken kind.Br at xs f h = form_unbroken kind.Br at xs f h
-tile_unbroken kind.Pair at xs f h = form_unbroken kind.Pair at xs f h
-tile_unbroken kind.TagIsland at xs f h = form_unbroken kind.TagIsland at xs f h
-tile_unbroken kind.Switch at xs f h = form_unbroken kind.Switch at xs f h
-tile_unbroken kind.Atom at xs f h = form_unbroken kind.Atom at xs f h
-tile_unbroken kind.Mark at xs f h = absurd f
-tile_unbroken kind.Chars at xs f h = subst (Each Unbroken) (sym (no_things (chars (sources xs)))) tt
+tile_unbroken : (k : TileKind) (began : Bool) (at : ℕ) (xs : List Item) → IsFlatTile k xs → HasNoBreak xs → Each Unbroken (things (tile_signs k began at xs))
+tile_unbroken kind.Link began at xs f h = form_unbroken kind.Link began at xs f h
+tile_unbroken kind.Category began at xs f h = form_unbroken kind.Category began at xs f h
+tile_unbroken kind.Media began at xs f h = form_unbroken kind.Media began at xs f h
+tile_unbroken kind.ExtLink began at xs f h = form_unbroken kind.ExtLink began at xs f h
+tile_unbroken kind.BareUrl began at xs f h = form_unbroken kind.BareUrl began at xs f h
+tile_unbroken kind.Br began at xs f h = form_unbroken kind.Br began at xs f h
+tile_unbroken kind.Pair began at xs f h = form_unbroken kind.Pair began at xs f h
+tile_unbroken kind.TagIsland began at xs f h = form_unbroken kind.TagIsland began at xs f h
+tile_unbroken kind.Switch began at xs f h = form_unbroken kind.Switch began at xs f h
+tile_unbroken kind.Atom began at xs f h = form_unbroken kind.Atom began at xs f h
+tile_unbroken kind.Mark began at xs f h = form_unbroken kind.Mark began at xs f h
+tile_unbroken kind.Chars began at xs f h = subst (Each Unbroken) (sym (no_things (chars (sources xs)))) tt
 
-tiles_unbroken : (ws : List Shape) (at : ℕ) (xs : List Item) → AreFlatTiles (parts ws xs) → HasNoBreak xs → Each Unbroken (things (signs_of_tiles at (parts ws xs)))
-tiles_unbroken [] at xs f h = tt
-tiles_unbroken (w ∷ ws) at xs f h =
+tiles_unbroken : (ws : List Shape) (began : Bool) (at : ℕ) (xs : List Item) → AreFlatTiles (parts ws xs) → HasNoBreak xs
+    → Each Unbroken (things (signs_of_tiles began at (parts ws xs)))
+tiles_unbroken [] began at xs f h = tt
+tiles_unbroken (w ∷ ws) began at xs f h =
     let ys : List Item = take (size w) xs in
-    let more : List ContentSign = signs_of_tiles (at + length (sources ys)) (parts ws (drop (size w) xs)) in
-    subst (Each Unbroken) (sym (things_append (tile_signs w.kind at ys) more))
-    (both Unbroken (things (tile_signs w.kind at ys)) (things more) (tile_unbroken w.kind at ys f.0 (none_take (size w) xs h))
-    (tiles_unbroken ws (at + length (sources ys)) (drop (size w) xs) f.1 (none_drop (size w) xs h)))
+    let more : List ContentSign = signs_of_tiles (ends_break (sources ys)) (at + length (sources ys)) (parts ws (drop (size w) xs)) in
+    subst (Each Unbroken) (sym (things_append (tile_signs w.kind began at ys) more))
+    (both Unbroken (things (tile_signs w.kind began at ys)) (things more) (tile_unbroken w.kind began at ys f.0 (none_take (size w) xs h))
+    (tiles_unbroken ws (ends_break (sources ys)) (at + length (sources ys)) (drop (size w) xs) f.1 (none_drop (size w) xs h)))
 
 line_unbroken : (at : ℕ) (xs : List Item) → AreFlatTiles (tiles in_line xs) → HasNoBreak xs → Each Unbroken (things (line_signs at xs))
 unfolding tiles
-line_unbroken at xs f h = tiles_unbroken (shapes in_line (map glyph_of xs)) at xs f h
+line_unbroken at xs f h = tiles_unbroken (shapes in_line (map glyph_of xs)) true at xs f h
 
 pub lines_unbroken : (at : ℕ) (ls : List (List Item)) → AreFlatLines ls → Each Unbroken (things (signs_of_lines at ls))
 lines_unbroken at [] h = tt
@@ -128,13 +130,14 @@ lines_unbroken at (xs ∷ ys ∷ ls) h =
 -- ---- the content
 
 pub flat_content : (s : Setting) (ls : List (List Item)) (at : ℕ) (signs : List ContentSign) → s.within ≡ false → AreFlatLines ls → AreKept (signs_of_lines at ls)
-    → AreCharacters signs → things signs ≡ things (signs_of_lines at ls) → IsFlatContent s signs
-flat_content s ls at signs block flat kept characters same = record {
+    → AreCharacters signs → AreMarksLed signs → things signs ≡ things (signs_of_lines at ls) → IsFlatContent s signs
+flat_content s ls at signs block flat kept characters led same = record {
   of_block = block;
   characters = characters;
   kept = each_kept signs (subst (Each Kept) (sym same) (kept_each (signs_of_lines at ls) kept));
   nodes = flat_nodes ls at signs flat same;
   unbroken = each_unbroken signs (subst (Each Unbroken) (sym same) (lines_unbroken at ls flat));
   flat = each_flat signs (subst (Each Flat) (sym same) (flat_each false (signs_of_lines at ls) (lines_stood at ls flat)));
+  led = led;
   meet = flat_meet s ls at signs flat same;
 }

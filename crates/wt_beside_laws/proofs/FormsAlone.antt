@@ -1,5 +1,5 @@
 -- A form of a line is the same by itself: its source has the node that it has in the line.
-use Rattle.std.proofs.Common.{arith, ◌≡◌, ◌<◌, Bool, false, Option, Some, None, List, [], ◌∷◌, ◌++◌, length, map, refl, sym, ap, ◌∙◌, subst, append-nil}
+use Rattle.std.proofs.Common.{arith, ◌≡◌, ◌<◌, Bool, true, false, Option, Some, None, List, [], ◌∷◌, ◌++◌, length, map, refl, sym, ap, ◌∙◌, subst, append-nil, inl}
 use Rattle.std.specs.List.{flat_map}
 use Rattle.std.proofs.lemmas.List.{length-map, map-append}
 use Rattle.wt_span.specs.Items.{Item}
@@ -25,7 +25,7 @@ use Rattle.wt_context.specs.Segments.{one_stretch, loose_segment, loose_segments
 use Rattle.wt_context.specs.Unstyled.{tile_parts}
 use Rattle.wt_beside_laws.specs.Cuts.{own_form, form_before, StandsAs}
 use Rattle.wt_beside_laws.specs.Flat.{IsFlat}
-use Rattle.wt_beside_laws.specs.Nodes.{IsBareNode, MayFollow}
+use Rattle.wt_beside_laws.specs.Nodes.{IsBareNode, MayBeBehind, MayFollow}
 use Rattle.wt_beside_laws.specs.PageSigns.{tile_role, IsFlatForm}
 use Rattle.wt_beside_laws.specs.Stood.{IsTileOf, OpensNoPair, IsRead, HasBehind}
 use Rattle.wt_beside_laws.proofs.FlatContents.{flat_role}
@@ -65,12 +65,12 @@ bare_alone ends own w n i o l =
     let same : v ≡ w = own_is ∙ ap bare_shape (n.whole ∙ sym l) ∙ sym its in
     subst (λ (gs : List Glyph). own_form in_line gs ≡ Some w) (sym n.is) (form ∙ ap (λ (u : Shape). Some u) same)
 
-no_trail : (gs : List Glyph) → HasBehind Link gs → MayFollow Link gs
-no_trail [] h = tt
-no_trail (g ∷ gs) h = h
+no_trail : (own gs : List Glyph) → HasBehind Link gs → MayFollow Link own gs
+no_trail own [] h = tt
+no_trail own (g ∷ gs) h = inl h
 
 -- any other is the same before anything that may be behind it
-other_alone : (r : Role) (a : Bool) (own behind : List Glyph) (w : Shape) → IsFlat r → Stays a r own behind → MayFollow r behind
+other_alone : (r : Role) (a : Bool) (own behind : List Glyph) (w : Shape) → IsFlat r → Stays a r own behind → MayFollow r own behind
     → form_before in_line a own behind ≡ Some w → own_form in_line own ≡ Some w
 other_alone r a own behind w f st follow e =
     let h = has_form r own f st.node in
@@ -79,32 +79,33 @@ other_alone r a own behind w f st follow e =
     let same : h.shape ≡ w = same_shape h.shape w (sym (stands.1 a (λ z. z)) ∙ e) in
     h.alone ∙ ap (λ (u : Shape). Some u) same
 
-free_behind : (r : Role) (gs : List Glyph) → ((g : Glyph) → MayFollow r (g ∷ [])) → MayFollow r gs
-free_behind r [] f = tt
-free_behind r (g ∷ gs) f = f g
+free_behind : (r : Role) (own gs : List Glyph) → ((g : Glyph) → MayBeBehind r g) → MayFollow r own gs
+free_behind r own [] f = tt
+free_behind r own (g ∷ gs) f = inl (f g)
 
 alone_by : (r : Role) (a : Bool) (own behind : List Glyph) (w : Shape) → IsFlat r → Stays a r own behind → IsTileOf r w.kind → OpensAs w.kind w
     → size w ≡ length own → form_before in_line a own behind ≡ Some w → own_form in_line own ≡ Some w
-alone_by Link a own behind w f st i o l e = other_alone Link a own behind w f st (no_trail behind st.has) e
-alone_by External a own behind w f st i o l e = other_alone External a own behind w f st (free_behind External behind (λ g. tt)) e
+alone_by Link a own behind w f st i o l e = other_alone Link a own behind w f st (no_trail own behind st.has) e
+alone_by External a own behind w f st i o l e = other_alone External a own behind w f st (free_behind External own behind (λ g. tt)) e
 alone_by (Bare ends) a own behind w f st i o l e = bare_alone ends own w st.node i o l
-alone_by Switch a own behind w f st i o l e = other_alone Switch a own behind w f st (free_behind Switch behind (λ g. tt)) e
+alone_by Switch a own behind w f st i o l e = other_alone Switch a own behind w f st (free_behind Switch own behind (λ g. tt)) e
 alone_by Toggle a own behind w f st i o l e = absurd f
-alone_by (Mark ends began) a own behind w f st i o l e = absurd i
+alone_by (Mark ends began) a own behind w f st i o l e =
+    other_alone (Mark ends began) a own behind w f st (free_behind (Mark ends began) own behind (λ g. tt)) e
 alone_by (Group g) a own behind w f st i o l e = absurd i
-alone_by Function a own behind w f st i o l e = other_alone Function a own behind w f st (free_behind Function behind (λ g. tt)) e
-alone_by Node a own behind w f st i o l e = other_alone Node a own behind w f st (free_behind Node behind (λ g. tt)) e
+alone_by Function a own behind w f st i o l e = other_alone Function a own behind w f st (free_behind Function own behind (λ g. tt)) e
+alone_by Node a own behind w f st i o l e = other_alone Node a own behind w f st (free_behind Node own behind (λ g. tt)) e
 
 own_alone : (k : TileKind) (a : Bool) (w : Shape) (ys zs : List Item) → w.kind ≡ k → IsFlatKind k → IsFlatForm k ys → OpensAs w.kind w → size w ≡ length ys → 0 < length ys
     → tile_at in_line a (map glyph_of (ys ++ zs)) ≡ Some w → own_form in_line (map glyph_of ys) ≡ Some w
 own_alone k a w ys zs i flat f opens fits some e =
-    let r : Role = tile_role k ys in
+    let r : Role = tile_role k true ys in
     let own : List Glyph = map glyph_of ys in
     let behind : List Glyph = map glyph_of zs in
     let long : length own ≡ length ys = length-map ys glyph_of in
     let form : form_before in_line a own behind ≡ Some w =
     before_is a own behind (omega (arith, some, long)) ∙ ap (tile_at in_line a) (sym (map-append glyph_of ys zs)) ∙ e in
-    let tile : IsTileOf r w.kind = subst (IsTileOf r) (sym i) (role_fits k ys flat) in
+    let tile : IsTileOf r w.kind = subst (IsTileOf r) (sym i) (role_fits k true ys flat) in
     let whole : size w ≡ length own = fits ∙ sym long in
     let lone : OpensNoPair w.kind own = subst (λ (j : TileKind). OpensNoPair j own) (sym i) f.lone in
     let read : IsRead a r own behind = record { shape = w; form = form; whole = whole; tile = tile; lone = lone } in

@@ -4,6 +4,7 @@ mod StoodCases
 mod LineCases
 mod BlockCases
 pub mod Firm
+pub mod NodeItems
 pub mod ContentGlyphs
 pub mod ContentTiles
 pub mod Contents
@@ -19,6 +20,8 @@ pub mod PageNodes
 pub mod PageSigns
 pub mod PairTiles
 pub mod OwnSigns
+pub mod OwnItems
+pub mod HeldLines
 pub mod SentNodes
 pub mod Stood
 pub mod TagFronts
@@ -58,5 +61,8 @@ pub mod CalmContents
 pub mod FlatLines
 pub mod PlainContents
 pub mod Edits
+pub mod Groups
 pub mod Made
+pub mod Marks
 pub mod Styled
+pub mod Derived

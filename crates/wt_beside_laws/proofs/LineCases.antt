@@ -1,5 +1,5 @@
 -- Worked cases: two lines, and a line with a URL in it.
-use Rattle.std.proofs.Common.{◌≡◌, false, None, [], ◌∷◌, ◌++◌, map, refl, sym, subst}
+use Rattle.std.proofs.Common.{◌≡◌, false, None, [], ◌∷◌, ◌++◌, map, refl, sym, subst, inl}
 use Rattle.std.specs.Prelude.{codes}
 use Rattle.std.proofs.Math.Utf8.{encode}
 use Rattle.wt_tree.specs.Plain.{text, ended, along}
@@ -11,7 +11,6 @@ use Rattle.wt_guards.specs.Content.{Thing, letter, thing}
 use Rattle.wt_guards.specs.Guards.{Setting, nowiki, is_guarded, is_between_guard, is_start_guard, is_end_guard, is_blank_guard}
 use Rattle.wt_guards.specs.Letters.{is_escaped, reference}
 use Rattle.wt_guards.specs.Table.{hazard, line_start_hazard}
-use Rattle.wt_expand.specs.PageItems.{page_items}
 use Rattle.wt_lines.specs.Lines.{IsUnbroken}
 use Rattle.wt_tiles.specs.Glyphs.{glyph_of, byte_glyphs}
 use Rattle.wt_tiles.specs.Urls.{scheme_len, is_url_char, is_dropped, kept_len, bare_shape, bare_url_at}
@@ -25,6 +24,10 @@ use Rattle.wt_beside_laws.specs.Lines.{content_lines}
 use Rattle.wt_beside_laws.specs.Nodes.{IsBareNode}
 use Rattle.wt_beside_laws.specs.Shown.{content_shown}
 use Rattle.wt_beside_laws.proofs.Firm.{alone_as, firm_read}
+use Rattle.wt_beside_laws.specs.PageSigns.{HasNoBreak}
+use Rattle.wt_beside_laws.specs.NodeItems.{node_items}
+use Rattle.wt_expand.specs.PageItems.{page_items}
+use Rattle.wt_beside_laws.proofs.NodeItems.{node_as}
 
 abbrev in_paragraph : Setting
 in_paragraph = record { within = false; place = Paragraph; source = [] }
@@ -45,13 +48,13 @@ ends_apart = refl
 
 -- a blank, a URL, a line break and `x`
 url_between : content_parts in_paragraph (letter 120 ∷ []) (letter 32 ∷ thing url ∷ letter 10 ∷ letter 120 ∷ [])
-    ≡ loose Text None 32 ∷ (line_parts (page_items (codes "http://k")) ++ loose Text None 10 ∷ loose Text None 120 ∷ [])
+    ≡ loose Text None 32 ∷ (line_parts (node_items (codes "http://k")) ++ loose Text None 10 ∷ loose Text None 120 ∷ [])
 unfolding is_guarded is_between_guard is_start_guard is_end_guard is_blank_guard hazard line_start_hazard is_escaped encode
 url_between = refl
 
 -- and its first line
 url_last : line_content in_paragraph (letter 120 ∷ []) (letter 32 ∷ thing url ∷ letter 10 ∷ letter 120 ∷ [])
-    ≡ loose Text None 32 ∷ (line_parts (page_items (codes "http://k")) ++ [])
+    ≡ loose Text None 32 ∷ (line_parts (node_items (codes "http://k")) ++ [])
 unfolding is_guarded is_between_guard is_start_guard is_end_guard is_blank_guard hazard line_start_hazard is_escaped encode
 url_last = refl
 
@@ -65,8 +68,11 @@ typed_shown = refl
 scheme_firm : AreFirm (codes "http://k")
 scheme_firm = (refl, (refl, (refl, (refl, (refl, (refl, (refl, (refl, tt))))))))
 
-url_items : page_items (codes "http://k") ≡ page_chars (codes "http://k")
-url_items = alone_as (codes "http://k") (page_chars (codes "http://k")) (firm_read (codes "http://k") scheme_firm)
+url_items : node_items (codes "http://k") ≡ page_chars (codes "http://k")
+url_items = node_as (codes "http://k") (page_chars (codes "http://k")) (firm_read (codes "http://k") scheme_firm)
+
+url_page : page_items (codes "http://k") ≡ page_chars (codes "http://k")
+url_page = alone_as (codes "http://k") (page_chars (codes "http://k")) (firm_read (codes "http://k") scheme_firm)
 
 url_node : IsBareNode (byte_glyphs (codes "http://k"))
 unfolding bare_url_at scheme_len is_url_char is_dropped kept_len
@@ -77,9 +83,10 @@ unfolding is_guarded is_between_guard is_start_guard is_end_guard is_blank_guard
 flat_lines = record {
   of_block = refl;
   characters = (refl, (refl, (refl, (refl, tt))));
-  kept = (record { parts = characters (codes "http://k") ∷ []; are = (scheme_firm, tt); is = refl }, tt);
+  kept = ((inl (record { parts = characters (codes "http://k") ∷ []; are = (scheme_firm, tt); is = refl }, subst HasNoBreak (sym url_page) (refl, (refl, (refl, (refl, (refl, (refl, (refl, (refl, tt))))))))), tt), tt);
   nodes = (subst (λ xs. IsBareNode (map glyph_of xs)) (sym url_items) url_node, tt);
   unbroken = (subst IsUnbroken (sym url_items) (refl, (refl, (refl, (refl, (refl, (refl, (refl, (refl, tt)))))))), tt);
   flat = (tt, tt);
+  led = record { first = tt; others = ((λ e. absurd (cc)), tt) };
   meet = (tt, (tt, (tt, (tt, (tt, tt)))));
 }

@@ -24,22 +24,24 @@ use Rattle.wt_beside_laws.specs.Content.{AreKept, guard_items, letter_items, con
 use Rattle.wt_beside_laws.specs.InHeadings.{AreOnOneLine, IsHeadingContent, LastEndsUnequal, IsSome, KeepsLevel}
 use Rattle.wt_beside_laws.specs.Lines.{AreCharacters, AreUnbroken, line_items}
 use Rattle.wt_beside_laws.specs.Nodes.{AreNodes}
-use Rattle.wt_beside_laws.proofs.Contents.{content_alone}
 use Rattle.wt_beside_laws.proofs.LineItems.{letter_unbroken}
 use Rattle.wt_beside_laws.proofs.LineKinds.{Opens, line_opens}
 use Rattle.wt_beside_laws.proofs.NodeEnds.{EndInSigns, nodes_end, ends_unequal}
+use Rattle.wt_beside_laws.proofs.Marks.Commented.{content_alone}
+use Rattle.wt_beside_laws.specs.NodeItems.{node_items}
+use Rattle.wt_beside_laws.specs.Led.{AreMarksLed}
 
 -- ---- one line
 
-unbroken_both : (xs ys : List Item) → NoBreaks xs → NoBreaks ys → NoBreaks (xs ++ ys)
+pub unbroken_both : (xs ys : List Item) → NoBreaks xs → NoBreaks ys → NoBreaks (xs ++ ys)
 unbroken_both [] ys h k = k
 unbroken_both (x ∷ xs) ys h k = (h.0, unbroken_both xs ys h.1 k)
 
-none_by : (xs : List Item) → IsUnbroken xs → NoBreaks xs
+pub none_by : (xs : List Item) → IsUnbroken xs → NoBreaks xs
 none_by [] h = tt
 none_by (x ∷ xs) h = (h.0, none_by xs h.1)
 
-guard_none : (u : Bool) → NoBreaks (guard_items u)
+pub guard_none : (u : Bool) → NoBreaks (guard_items u)
 guard_none true = (refl, tt)
 guard_none false = tt
 
@@ -51,7 +53,7 @@ content_none s before (letter c ∷ after) o u =
     unbroken_both (guard_items (is_guarded s before (letter c ∷ after))) (letter_items e c ++ more) (guard_none (is_guarded s before (letter c ∷ after)))
     (unbroken_both (letter_items e c) more (none_by (letter_items e c) (letter_unbroken e c o.0)) (content_none s (letter c ∷ before) after o.1 u))
 content_none s before (thing t ∷ after) o u =
-    let own : List Item = page_items t.source in
+    let own : List Item = node_items t.source in
     let more : List Item = content_items s (thing t ∷ before) after in
     unbroken_both (guard_items (is_guarded s before (thing t ∷ after))) (own ++ more) (guard_none (is_guarded s before (thing t ∷ after)))
     (unbroken_both own more (none_by own u.0) (content_none s (thing t ∷ before) after o u.1))
@@ -64,20 +66,20 @@ same_items s before (letter c ∷ after) o =
     ap (λ (t : Bool). guard ++ (if t then [] else own ++ line_items s (letter c ∷ before) after)) o.0
     ∙ ap (λ xs. guard ++ (own ++ xs)) (same_items s (letter c ∷ before) after o.1)
 same_items s before (thing t ∷ after) o =
-    ap (λ xs. guard_items (is_guarded s before (thing t ∷ after)) ++ (page_items t.source ++ xs)) (same_items s (thing t ∷ before) after o)
+    ap (λ xs. guard_items (is_guarded s before (thing t ∷ after)) ++ (node_items t.source ++ xs)) (same_items s (thing t ∷ before) after o)
 
 -- ---- what is first
 
 neither : (b : ℕ) → OpensText b → is_blank b ≡ false
 neither b o = ap (λ (t : Bool). t || (b == 9)) o.space ∙ o.tab
 
-begins_seen : (xs : List Item) → Opens xs → BeginsWithout is_blank (map sign xs)
+pub begins_seen : (xs : List Item) → Opens xs → BeginsWithout is_blank (map sign xs)
 begins_seen [] h = h
 begins_seen (x ∷ xs) h = neither (sign x) h
 
 -- ---- what is last
 
-abbrev SeenLast : List Item → Type 0
+abbrev pub SeenLast : List Item → Type 0
 SeenLast xs = EndsWithout is_blank (map sign xs)
 
 pub ends_behind : (q : ℕ → Bool) (xs ys : List Item) → EndsWithout q (map sign ys) → EndsWithout q (map sign (xs ++ ys))
@@ -86,7 +88,7 @@ ends_behind q (x ∷ []) [] h = absurd h
 ends_behind q (x ∷ []) (y ∷ ys) h = h
 ends_behind q (x ∷ z ∷ xs) ys h = ends_behind q (z ∷ xs) ys h
 
-last_behind : (xs ys : List Item) → SeenLast ys → SeenLast (xs ++ ys)
+pub last_behind : (xs ys : List Item) → SeenLast ys → SeenLast (xs ++ ys)
 last_behind xs ys h = ends_behind is_blank xs ys h
 
 wide_last : (bs : List ℕ) → All IsWide bs → 0 < length bs → SeenLast (page_chars bs)
@@ -97,14 +99,14 @@ wide_last (b ∷ []) h some = not_blank b (All-head IsWide b [] h)
     not_blank b le = grind (arith, nat_tests)
 wide_last (b ∷ c ∷ bs) h some = wide_last (c ∷ bs) (All-tail IsWide b (c ∷ bs) h) (omega arith)
 
-letter_last : (e : Bool) (c : ℕ) → (e ≡ false → is_blank c ≡ false) → SeenLast (letter_items e c)
+pub letter_last : (e : Bool) (c : ℕ) → (e ≡ false → is_blank c ≡ false) → SeenLast (letter_items e c)
 letter_last true c f = refl
 letter_last false c f = elim (cases_lt c 128) [
   | inl small ↦ subst (λ bs. SeenLast (page_chars bs)) (sym (encode_ascii c small)) (f refl)
   | inr wide ↦ wide_last (encode_utf8 c) (encode_wide c wide) (encode_some c)
 ]
 
-end_last : (u : Bool) (own : List Item) → (u ≡ false → SeenLast own) → SeenLast (own ++ guard_items u)
+pub end_last : (u : Bool) (own : List Item) → (u ≡ false → SeenLast own) → SeenLast (own ++ guard_items u)
 end_last true own f = last_behind own (guard_items true) refl
 end_last false own f = subst SeenLast (sym (append-nil own)) (f refl)
 
@@ -119,7 +121,7 @@ content_last s before (letter c ∷ after) own w p e f =
     last_behind own (guard ++ (next ++ more)) (last_behind guard (next ++ more)
     (content_last s (letter c ∷ before) after next w p e (λ z. letter_last t c (λ y. end_by s before c w p z))))
 content_last s before (thing t ∷ after) own w p e f =
-    let next : List Item = page_items t.source in
+    let next : List Item = node_items t.source in
     let more : List Item = content_items s (thing t ∷ before) after in
     let guard : List Item = guard_items (is_guarded s before (thing t ∷ after)) in
     last_behind own (guard ++ (next ++ more)) (last_behind guard (next ++ more) (content_last s (thing t ∷ before) after next w p e.1 (λ z. e.0)))
@@ -127,21 +129,21 @@ content_last s before (thing t ∷ after) own w p e f =
 -- ---- the content
 
 pub inside_by : (s : Setting) (signs : List ContentSign) → s.within ≡ false → s.place ≡ place.Heading → AreKept signs → AreUnbroken signs → AreCharacters signs
-    → AreNodes signs → AreOnOneLine signs → IsHeadingInside (page_items (spelled s signs))
-inside_by s signs block head kept unbroken characters nodes one =
-    let is = content_alone s signs kept in
+    → AreNodes signs → AreMarksLed signs → AreOnOneLine signs → IsHeadingInside (page_items (spelled s signs))
+inside_by s signs block head kept unbroken characters nodes led one =
+    let is = content_alone s signs (record { within = block; kept = kept; nodes = nodes; led = led }) in
     subst IsHeadingInside (sym is)
     (record {
       unbroken = content_none s [] signs one unbroken;
       begins = subst (λ xs. BeginsWithout is_blank (map sign xs)) (same_items s [] signs one)
-          (begins_seen (line_items s [] signs) (line_opens s [] signs block refl refl characters nodes));
+          (begins_seen (line_items s [] signs) (line_opens s [] signs block refl led.first characters nodes));
       ends = content_last s [] signs [] block head (nodes_end signs nodes)
           (λ z. let no : true ≡ false = sym (end_guarded s [] block refl) ∙ z in cc);
     })
 
 pub heading_inside : (s : Setting) (signs : List ContentSign) → IsHeadingContent s signs → IsHeadingInside (page_items (spelled s signs))
 heading_inside s signs h =
-    inside_by s signs h.flat.of_block h.of_heading h.flat.kept h.flat.unbroken h.flat.characters h.flat.nodes h.one_line
+    inside_by s signs h.flat.of_block h.of_heading h.flat.kept h.flat.unbroken h.flat.characters h.flat.nodes h.flat.led h.one_line
 
 -- ---- its level
 
@@ -183,12 +185,12 @@ content_unequal s before (letter c) (d ∷ after) n e =
 content_unequal s before (thing t) [] n e =
     let guard : List Item = guard_items (is_guarded s before (thing t ∷ [])) in
     let end : Bool = is_guarded s (thing t ∷ before) [] in
-    ends_behind is_equals_sign guard (page_items t.source ++ guard_items end) (end_unequal end (page_items t.source) (ends_unequal t n.0 e))
+    ends_behind is_equals_sign guard (node_items t.source ++ guard_items end) (end_unequal end (node_items t.source) (ends_unequal t n.0 e))
 content_unequal s before (thing t) (d ∷ after) n e =
     let guard : List Item = guard_items (is_guarded s before (thing t ∷ d ∷ after)) in
     let more : List Item = content_items s (thing t ∷ before) (d ∷ after) in
-    ends_behind is_equals_sign guard (page_items t.source ++ more)
-    (ends_behind is_equals_sign (page_items t.source) more (content_unequal s (thing t ∷ before) d after n.1 e))
+    ends_behind is_equals_sign guard (node_items t.source ++ more)
+    (ends_behind is_equals_sign (node_items t.source) more (content_unequal s (thing t ∷ before) d after n.1 e))
 
 all_unequal : (s : Setting) (signs : List ContentSign) → s.within ≡ false → AreNodes signs → LastEndsUnequal signs → UnequalLast (content_items s [] signs)
 all_unequal s [] w n e = subst (λ (u : Bool). UnequalLast (guard_items u)) (sym (end_guarded s [] w refl)) refl
@@ -204,15 +206,15 @@ unequal_end ss [] a (inl h) = absurd h
 unequal_end ss [] a (inr h) = ends_other ss [] a h
 unequal_end ss (b ∷ bs) a h = ends_still ss b bs (ends_blank b bs a)
 
-pub level_by : (s : Setting) (signs : List ContentSign) (sides : Sides) → s.within ≡ false → AreKept signs → AreCharacters signs → AreNodes signs → AreOnOneLine signs
-    → AreSides sides → KeepsLevel sides signs → IsOfLevel sides (page_items (spelled s signs))
-level_by s signs sides block kept characters nodes one a k =
+pub level_by : (s : Setting) (signs : List ContentSign) (sides : Sides) → s.within ≡ false → AreKept signs → AreCharacters signs → AreNodes signs → AreMarksLed signs
+    → AreOnOneLine signs → AreSides sides → KeepsLevel sides signs → IsOfLevel sides (page_items (spelled s signs))
+level_by s signs sides block kept characters nodes led one a k =
     let own : List Item = page_items (spelled s signs) in
-    let is : own ≡ content_items s [] signs = content_alone s signs kept in
+    let is : own ≡ content_items s [] signs = content_alone s signs (record { within = block; kept = kept; nodes = nodes; led = led }) in
     let ss : List ℕ = map sign own in
     let begins : BeginsWithout is_equals_sign ss =
     subst (λ xs. BeginsWithout is_equals_sign (map sign xs)) (sym (is ∙ sym (same_items s [] signs one)))
-    (begins_unequal (line_items s [] signs) (line_opens s [] signs block refl refl characters nodes)) in
+    (begins_unequal (line_items s [] signs) (line_opens s [] signs block refl led.first characters nodes)) in
     let last : IsSome sides.trail ⊎ EndsWithout is_equals_sign ss = elim k [
       | inl some ↦ inl some
       | inr ends ↦ inr (subst UnequalLast (sym is) (all_unequal s signs block nodes ends))
@@ -224,4 +226,4 @@ level_by s signs sides block kept characters nodes one a k =
 
 pub content_level : (s : Setting) (signs : List ContentSign) (sides : Sides) → IsHeadingContent s signs → AreSides sides → KeepsLevel sides signs
     → IsOfLevel sides (page_items (spelled s signs))
-content_level s signs sides h a k = level_by s signs sides h.flat.of_block h.flat.kept h.flat.characters h.flat.nodes h.one_line a k
+content_level s signs sides h a k = level_by s signs sides h.flat.of_block h.flat.kept h.flat.characters h.flat.nodes h.flat.led h.one_line a k

@@ -14,9 +14,11 @@ use Rattle.wt_guards.specs.Letters.{is_escaped}
 use Rattle.wt_expand.specs.PageItems.{page_items}
 use Rattle.wt_lines.specs.Lines.{lines, onto, IsUnbroken}
 use Rattle.wt_text_edit_laws.specs.LonePages.{page_chars}
-use Rattle.wt_beside_laws.specs.Content.{AreKept, guard_items, letter_items, content_items}
+use Rattle.wt_beside_laws.specs.Content.{guard_items, letter_items, content_items}
 use Rattle.wt_beside_laws.specs.Lines.{AreUnbroken, line_items, later_lines, content_lines}
-use Rattle.wt_beside_laws.proofs.Contents.{content_alone}
+use Rattle.wt_beside_laws.proofs.Marks.Commented.{content_alone}
+use Rattle.wt_beside_laws.specs.Flat.{IsReadIn}
+use Rattle.wt_beside_laws.specs.NodeItems.{node_items}
 
 -- ---- items without a line break
 
@@ -26,11 +28,11 @@ unbroken_before (y ∷ ys) xs l ls u e =
     ap (λ (t : Bool). if t then [] ∷ lines (ys ++ xs) else onto (y ∷ []) (lines (ys ++ xs))) u.0
     ∙ ap (onto (y ∷ [])) (unbroken_before ys xs l ls u.1 e)
 
-guard_before : (u : Bool) (xs l : List Item) (ls : List (List Item)) → lines xs ≡ l ∷ ls → lines (guard_items u ++ xs) ≡ (guard_items u ++ l) ∷ ls
+pub guard_before : (u : Bool) (xs l : List Item) (ls : List (List Item)) → lines xs ≡ l ∷ ls → lines (guard_items u ++ xs) ≡ (guard_items u ++ l) ∷ ls
 guard_before true xs l ls e = ap (onto (guard_items true)) e
 guard_before false xs l ls e = e
 
-guard_alone : (u : Bool) → lines (guard_items u) ≡ guard_items u ∷ []
+pub guard_alone : (u : Bool) → lines (guard_items u) ≡ guard_items u ∷ []
 guard_alone true = refl
 guard_alone false = refl
 
@@ -85,10 +87,10 @@ lines_from s before (letter c ∷ after) u =
     (letter_lines s before c after (c == 10) refl (lines_from s (letter c ∷ before) after u))
 lines_from s before (thing t ∷ after) u =
     let xs : List Item = content_items s (thing t ∷ before) after in
-    guard_before (is_guarded s before (thing t ∷ after)) (page_items t.source ++ xs) _ _
-    (unbroken_before (page_items t.source) xs (line_items s (thing t ∷ before) after) (later_lines s (thing t ∷ before) after) u.0
+    guard_before (is_guarded s before (thing t ∷ after)) (node_items t.source ++ xs) _ _
+    (unbroken_before (node_items t.source) xs (line_items s (thing t ∷ before) after) (later_lines s (thing t ∷ before) after) u.0
     (lines_from s (thing t ∷ before) after u.1))
 
-pub content_lines_are : (s : Setting) (signs : List ContentSign) → AreKept signs → AreUnbroken signs
+pub content_lines_are : (s : Setting) (signs : List ContentSign) → IsReadIn s signs → AreUnbroken signs
     → lines (page_items (spelled s signs)) ≡ content_lines s signs
 content_lines_are s signs k u = ap lines (content_alone s signs k) ∙ lines_from s [] signs u

@@ -1,9 +1,9 @@
 -- Lines of text are one paragraph.
-use Rattle.std.proofs.Common.{arith, ◌≡◌, ℕ, ◌+◌, Bool, true, false, List, [], ◌∷◌, ◌++◌, map, refl, sym, ap, ◌∙◌, append-nil, All}
+use Rattle.std.proofs.Common.{◌≡◌, ℕ, Bool, true, false, List, [], ◌∷◌, ◌++◌, map, refl, sym, ap, ◌∙◌, append-nil, All}
 use Rattle.std.specs.Prelude.{if◌then◌else◌}
 use Rattle.std.proofs.lemmas.List.Elements.{All-nil, All-cons, All-head, All-tail}
 use Rattle.wt_tree.specs.declared.kind.Kind.TheVariants as kind
-use Rattle.wt_span.specs.Items.{Item, is_mark}
+use Rattle.wt_span.specs.Items.{Item}
 use Rattle.wt_span.specs.Runs.{AreRuns}
 use Rattle.wt_lines.specs.declared.kind.LineKind.{LineKind}
 use Rattle.wt_lines.specs.declared.kind.LineKind.TheVariants as line
@@ -19,7 +19,9 @@ use Rattle.wt_page.specs.Stretches.{Stretch, gap, tree_block, stretches_parts}
 use Rattle.wt_page.specs.Texts.{para_parts, para}
 use Rattle.wt_page.specs.Body.{within}
 use Rattle.wt_text_edit_laws.specs.ParagraphBetween.{body_with}
-use Rattle.wt_text_edit_laws.proofs.Texts.PlainRows.{text_row, within_are}
+use Rattle.wt_text_edit_laws.proofs.Paragraphs.Apart.{within_text}
+use Rattle.wt_text_edit_laws.proofs.Paragraphs.LineBlocks.{later_row, paragraph_rows, paragraph_last, paragraph_texts}
+use Rattle.wt_text_edit_laws.proofs.Texts.PlainRows.{text_row}
 use Rattle.wt_text_edit_laws.specs.ParagraphParts.{para_with}
 use Rattle.wt_beside_laws.specs.Lines.{IsLineOfText}
 
@@ -42,40 +44,27 @@ unfolding kind_of_signs
 no_text_at n e = cc
 
 pub no_end : (n : ℕ) (xs : List Item) → All (IsLineOfText n) (empty_end xs) → empty_end xs ≡ []
-no_end n [] h = absurd (no_text_at n (All-head (IsLineOfText n) [] [] h).text)
+no_end n [] h = absurd (no_text_at n (All-head (IsLineOfText n) [] [] h))
 no_end n (x ∷ []) h = by (is_break_item x) h
   where
     by : (t : Bool) → All (IsLineOfText n) (if t then one_empty else []) → (if t then one_empty else []) ≡ []
-    by true k = absurd (no_text_at n (All-head (IsLineOfText n) [] [] k).text)
+    by true k = absurd (no_text_at n (All-head (IsLineOfText n) [] [] k))
     by false k = refl
 no_end n (x ∷ y ∷ ys) h = no_end n (y ∷ ys) h
 
 -- ---- their rows
 
-first_unmarked : (x : Item) (xs ys : List Item) → marks_len (x ∷ xs) ≡ 0 → marks_len (x ∷ ys) ≡ 0
-first_unmarked x xs ys e = by (is_mark x) e
-  where
-    by : (t : Bool) → (if t then 1 + marks_len xs else 0) ≡ 0 → (if t then 1 + marks_len ys else 0) ≡ 0
-    by true k = absurd (omega (arith, k))
-    by false k = refl
-
-pub unmarked : (n : ℕ) (l : List Item) → IsLineOfText n (content l) → marks_len l ≡ 0
-unmarked n [] h = refl
-unmarked n (x ∷ []) h = by (is_break_item x) h
-  where
-    by : (t : Bool) → IsLineOfText n (if t then [] else x ∷ []) → marks_len (x ∷ []) ≡ 0
-    by true k = absurd (no_text_at n k.text)
-    by false k = k.unmarked
-unmarked n (x ∷ y ∷ ys) h = first_unmarked x (content (y ∷ ys)) (y ∷ ys) h.unmarked
+later_rows : (n : ℕ) (ls ms : List (List Item)) → All (IsLineOfText n) (map content ls) → rows_from n (ls ++ ms) ≡ map later_row ls ++ rows_from n ms
+later_rows n [] ms h = refl
+later_rows n (l ∷ ls) ms h =
+    ap (λ (k : LineKind). line_rows k l ++ rows_from (behind n k) (ls ++ ms)) (All-head (IsLineOfText n) (content l) (map content ls) h)
+    ∙ ap (λ rs. later_row l ∷ rs) (later_rows n ls ms (All-tail (IsLineOfText n) (content l) (map content ls) h))
 
 -- before other lines
-pub rows_text : (n : ℕ) (ls ms : List (List Item)) → All (IsLineOfText n) (map content ls) → rows_from n (ls ++ ms) ≡ map text_row ls ++ rows_from n ms
-rows_text n [] ms h = refl
-rows_text n (l ∷ ls) ms h =
-    let own : IsLineOfText n (content l) = All-head (IsLineOfText n) (content l) (map content ls) h in
-    ap (λ (k : LineKind). line_rows k l ++ rows_from (behind n k) (ls ++ ms)) own.text
-    ∙ ap (λ (m : ℕ). whole_row line.Text m l ∷ rows_from n (ls ++ ms)) (unmarked n l own)
-    ∙ ap (λ rs. text_row l ∷ rs) (rows_text n ls ms (All-tail (IsLineOfText n) (content l) (map content ls) h))
+pub rows_text : (n : ℕ) (l : List Item) (ls ms : List (List Item)) → marks_len l ≡ 0 → All (IsLineOfText n) (map content (l ∷ ls))
+    → rows_from n ((l ∷ ls) ++ ms) ≡ paragraph_rows l ls ++ rows_from n ms
+rows_text n l ls ms u h =
+    later_rows n (l ∷ ls) ms h ∙ ap (λ (m : ℕ). whole_row line.Text m l ∷ (map later_row ls ++ rows_from n ms)) u
 
 -- ---- nothing ends the last one
 
@@ -112,11 +101,10 @@ para_by rs ps e = ap (λ qs. inner (plain kind.Para) [] (forest (children qs)) [
 abbrev pub body_of : List Stretch → ItemTree
 body_of ss = inner (plain kind.Body) [] (forest (children (stretches_parts ss))) []
 
-pub body_by : (ls : List (List Item)) (xs : List Item) (t : ItemTree) → AreRuns goes_on ls xs → empty_end xs ≡ [] → para (map text_row ls) ≡ t
-    → body_of (within MOST_TABLES (map text_row ls)) ≡ body_with (t ∷ [])
+pub body_by : (l : List Item) (ls : List (List Item)) (xs : List Item) (t : ItemTree) → AreRuns goes_on (l ∷ ls) xs → empty_end xs ≡ [] → para (paragraph_rows l ls) ≡ t
+    → body_of (within MOST_TABLES (paragraph_rows l ls)) ≡ body_with (t ∷ [])
 unfolding children
-body_by [] xs t r e p = let no : one_empty ≡ [] = sym (ap empty_end r) ∙ e in cc
-body_by (l ∷ ls) xs t r e p =
-    ap body_of (within_are MOST_TABLES l ls)
-    ∙ ap (λ ys. body_of (gap [] ∷ tree_block (para (map text_row (l ∷ ls))) ∷ gap ys ∷ [])) (last_none l ls xs r e)
+body_by l ls xs t r e p =
+    ap body_of (within_text MOST_TABLES (text_row l) (map later_row ls) (paragraph_texts l ls))
+    ∙ ap (λ ys. body_of (gap [] ∷ tree_block (para (paragraph_rows l ls)) ∷ gap ys ∷ [])) (paragraph_last l ls ∙ last_none l ls xs r e)
     ∙ ap (λ u. inner (plain kind.Body) [] (further u nothing) []) p

@@ -15,7 +15,6 @@ use Rattle.wt_guards.specs.Content.{ContentSign, Thing, letter, thing, nearest}
 use Rattle.wt_guards.specs.Guards.{Setting, nowiki, is_guarded}
 use Rattle.wt_guards.specs.Letters.{is_escaped, is_next, is_apostrophe_or_end, reference}
 use Rattle.wt_spelling_laws.proofs.TextReads.{or_parts}
-use Rattle.wt_expand.specs.PageItems.{page_items}
 use Rattle.wt_inline.specs.declared.loose.Loose.TheVariants.{Text}
 use Rattle.wt_inline.specs.Parts.{Part, part, parts}
 use Rattle.wt_tiles.specs.declared.glyph.Glyph.{Glyph}
@@ -43,10 +42,11 @@ use Rattle.wt_beside_laws.proofs.LineTiles.{line_glyphs, line_cut, line_follows}
 use Rattle.wt_beside_laws.proofs.NodesBegin.{no_url, all_urls, all_switches}
 use Rattle.wt_beside_laws.proofs.NodesMeet.{none_before}
 use Rattle.wt_beside_laws.proofs.NodesStand.{node_stands}
+use Rattle.wt_beside_laws.specs.NodeItems.{node_items}
 
 -- ---- as glyphs
 
-guard_is : (u : Bool) (xs : List Item) → map glyph_of (guard_items u ++ xs) ≡ guard_glyphs u ++ map glyph_of xs
+pub guard_is : (u : Bool) (xs : List Item) → map glyph_of (guard_items u ++ xs) ≡ guard_glyphs u ++ map glyph_of xs
 guard_is true xs = refl
 guard_is false xs = refl
 
@@ -54,7 +54,7 @@ bytes_are : (bs : List ℕ) → map glyph_of (page_chars bs) ≡ byte_glyphs bs
 bytes_are [] = refl
 bytes_are (b ∷ bs) = ap (λ gs. glyph.Byte b ∷ gs) (bytes_are bs)
 
-letter_is : (e : Bool) (c : ℕ) (xs : List Item) → map glyph_of (letter_items e c ++ xs) ≡ letter_glyphs e c ++ map glyph_of xs
+pub letter_is : (e : Bool) (c : ℕ) (xs : List Item) → map glyph_of (letter_items e c ++ xs) ≡ letter_glyphs e c ++ map glyph_of xs
 letter_is true c xs = refl
 letter_is false c xs = map-append glyph_of (page_chars (encode_utf8 c)) xs ∙ ap (λ gs. gs ++ map glyph_of xs) (bytes_are (encode_utf8 c))
 
@@ -73,9 +73,9 @@ line_is s before (letter c ∷ after) =
     by false e xs gs h = letter_is e c xs ∙ ap (λ hs. letter_glyphs e c ++ hs) h
 line_is s before (thing t ∷ after) =
     let u = is_guarded s before (thing t ∷ after) in
-    guard_is u (page_items t.source ++ line_items s (thing t ∷ before) after)
+    guard_is u (node_items t.source ++ line_items s (thing t ∷ before) after)
     ∙ ap (λ gs. guard_glyphs u ++ gs)
-    (map-append glyph_of (page_items t.source) (line_items s (thing t ∷ before) after) ∙ ap (λ gs. own_glyphs t ++ gs) (line_is s (thing t ∷ before) after))
+    (map-append glyph_of (node_items t.source) (line_items s (thing t ∷ before) after) ∙ ap (λ gs. own_glyphs t ++ gs) (line_is s (thing t ∷ before) after))
 
 -- ---- a node that stays
 
@@ -129,7 +129,7 @@ node_first External own f n e = bracket_first own n.inside n.is e
 node_first (Bare ends) own f n e = url_first n.first n.others n.shape n.url (first_is own (glyph.Byte n.first ∷ n.others) n.is e)
 node_first Switch own f n e = switch_first own (glyph.Byte 95 ∷ byte_glyphs n.word) n.is e
 node_first Toggle own f n e = f
-node_first (Mark ends began) own f n e = n
+node_first (Mark ends began) own f n e = let no : 0 ≡ 39 = first_is own (glyph.Mark ∷ []) n e in omega (arith, no)
 node_first (Group g) own f n e = n
 node_first Function own f n e = lexeme_first own n e
 node_first Node own f n e = other_first own n e
@@ -163,9 +163,9 @@ node_alone own w s e k =
     (tile_read w (0, []) own [] true true [] s (e ∙ glyphs_long own) (none_read true)) in
     read_line c own (cut_segments context_parts in_line c own) all refl r.apart ∙ r.shows ∙ append-nil s.segment.parts
 
-pub node_texts : (t : Thing) → IsFlat t.role → IsNode t.role (own_glyphs t) → AreTexts (line_parts (page_items t.source))
+pub node_texts : (t : Thing) → IsFlat t.role → IsNode t.role (own_glyphs t) → AreTexts (line_parts (node_items t.source))
 node_texts t f n =
-    let own : List Item = page_items t.source in
+    let own : List Item = node_items t.source in
     let h = has_form t.role (own_glyphs t) f n in
     let s = one_segment own h.shape h.alone (h.whole ∙ glyphs_long own) in
     subst AreTexts (sym (node_alone own h.shape s h.whole h.before)) s.texts
@@ -175,12 +175,12 @@ node_texts t f n =
 abbrev Read : Cut → List Item → Bool → List Part → Type 0
 Read c xs next ps = IsRead (cut_segments context_parts in_line c xs) next ps
 
-guard_read : (u : Bool) (c : Cut) (xs : List Item) (next : Bool) (ps : List Part) → Read c xs next ps
+pub guard_read : (u : Bool) (c : Cut) (xs : List Item) (next : Bool) (ps : List Part) → Read c xs next ps
     → Read (guard_cut u c) (guard_items u ++ xs) next (parts Text (guard_items u) ++ ps)
 guard_read true c xs next ps r = atom_read (whole form.Nowiki None nowiki) c xs next next ps refl r
 guard_read false c xs next ps r = r
 
-end_read : (u any : Bool) → Read (guard_cut u (0, [])) (guard_items u) any (parts Text (guard_items u))
+pub end_read : (u any : Bool) → Read (guard_cut u (0, [])) (guard_items u) any (parts Text (guard_items u))
 end_read true any = atom_read (whole form.Nowiki None nowiki) (0, []) [] any any [] refl (none_read any)
 end_read false any = none_read any
 
@@ -226,7 +226,7 @@ bytes_read : (bs : List ℕ) (c : Cut) (xs : List Item) (next any : Bool) (ps : 
 bytes_read [] c xs next any ps w some r = absurd (omega (arith, some))
 bytes_read (b ∷ bs) c xs next any ps w some r = wide_read b bs c xs next any ps w r
 
-letter_read : (e : Bool) (d : ℕ) (c : Cut) (xs : List Item) (next : Bool) (ps : List Part) → (e ≡ false → (d == 39) ≡ true → next ≡ false) → Read c xs next ps
+pub letter_read : (e : Bool) (d : ℕ) (c : Cut) (xs : List Item) (next : Bool) (ps : List Part) → (e ≡ false → (d == 39) ≡ true → next ≡ false) → Read c xs next ps
     → Read (letter_cut e d c) (letter_items e d ++ xs) (d == 39) (parts Text (letter_items e d) ++ ps)
 letter_read true d c xs next ps f r = atom_read (whole (form.Entity d) None (reference d)) c xs next (d == 39) ps refl r
 letter_read false d c xs next ps f r = elim (cases_lt d 128) [
@@ -238,7 +238,7 @@ letter_read false d c xs next ps f r = elim (cases_lt d 128) [
 ]
 
 -- behind an apostrophe that is written as it is no other one is typed, and no node follows
-apostrophe_next : (s : Setting) (before : List ContentSign) (d : ℕ) (after : List ContentSign) → is_escaped s.within s.place before d after ≡ false → (d == 39) ≡ true
+pub apostrophe_next : (s : Setting) (before : List ContentSign) (d : ℕ) (after : List ContentSign) → is_escaped s.within s.place before d after ≡ false → (d == 39) ≡ true
     → is_next 39 (nearest after) ≡ false
 unfolding is_escaped
 apostrophe_next s before d after e i =
@@ -253,10 +253,10 @@ apostrophe_next s before d after e i =
     behind (Some (letter c)) h = h
     behind (Some (thing t)) h = cc
 
-node_read : (t : Thing) (c : Cut) (xs : List Item) (next any : Bool) (ps : List Part) → IsFlat t.role → IsNode t.role (own_glyphs t) → Read c xs next ps
-    → Read (add_node (own_form in_line (own_glyphs t)) (length (own_glyphs t)) c) (page_items t.source ++ xs) any (line_parts (page_items t.source) ++ ps)
+pub node_read : (t : Thing) (c : Cut) (xs : List Item) (next any : Bool) (ps : List Part) → IsFlat t.role → IsNode t.role (own_glyphs t) → Read c xs next ps
+    → Read (add_node (own_form in_line (own_glyphs t)) (length (own_glyphs t)) c) (node_items t.source ++ xs) any (line_parts (node_items t.source) ++ ps)
 node_read t c xs next any ps f n r =
-    let own : List Item = page_items t.source in
+    let own : List Item = node_items t.source in
     let h = has_form t.role (own_glyphs t) f n in
     let long : size h.shape ≡ length own = h.whole ∙ glyphs_long own in
     let s = one_segment own h.shape h.alone long in
@@ -266,7 +266,7 @@ node_read t c xs next any ps f n r =
 
 -- ---- the line
 
-letter_by : (t e : Bool) (d : ℕ) (c : Cut) (xs : List Item) (ps : List Part) → Read (letter_cut e d c) (letter_items e d ++ xs) (d == 39) (parts Text (letter_items e d) ++ ps)
+pub letter_by : (t e : Bool) (d : ℕ) (c : Cut) (xs : List Item) (ps : List Part) → Read (letter_cut e d c) (letter_items e d ++ xs) (d == 39) (parts Text (letter_items e d) ++ ps)
     → Read (if t then (0, []) else letter_cut e d c) (if t then [] else letter_items e d ++ xs) (d == 39) (if t then [] else parts Text (letter_items e d) ++ ps)
 letter_by true e d c xs ps r = none_read (d == 39)
 letter_by false e d c xs ps r = r
@@ -289,8 +289,8 @@ line_read s before (thing t ∷ after) n f =
     let c : Cut = line_cut in_line s (thing t ∷ before) after in
     let xs : List Item = line_items s (thing t ∷ before) after in
     let ps : List Part = line_content s (thing t ∷ before) after in
-    guard_read (is_guarded s before (thing t ∷ after)) (add_node (own_form in_line own) (length own) c) (page_items t.source ++ xs) false
-    (line_parts (page_items t.source) ++ ps)
+    guard_read (is_guarded s before (thing t ∷ after)) (add_node (own_form in_line own) (length own) c) (node_items t.source ++ xs) false
+    (line_parts (node_items t.source) ++ ps)
     (node_read t c xs (is_next 39 (nearest after)) false ps f.0 n.0 (line_read s (thing t ∷ before) after n.1 f.1))
 
 -- its tiles

@@ -7,7 +7,6 @@ use Rattle.wt_span.proofs.RunLaws.{runs_are}
 use Rattle.wt_guards.specs.Content.{ContentSign, letter, thing}
 use Rattle.wt_guards.specs.Guards.{Setting, is_guarded}
 use Rattle.wt_guards.specs.Letters.{is_escaped}
-use Rattle.wt_expand.specs.PageItems.{page_items}
 use Rattle.wt_lines.specs.Lines.{lines, full_lines, content, empty_end, goes_on, IsUnbroken}
 use Rattle.wt_lines.proofs.FullLines.{same_lines}
 use Rattle.wt_inline.specs.declared.loose.Loose.TheVariants.{Text}
@@ -20,11 +19,12 @@ use Rattle.wt_beside_laws.specs.Lines.{AreUnbroken}
 use Rattle.wt_text_edit_laws.specs.ParagraphParts.{after_breaks, joined_parts}
 use Rattle.wt_beside_laws.proofs.LineItems.{break_items}
 use Rattle.wt_text_edit_laws.proofs.Paragraphs.LineBlocks.{OwnBreaks, chars_own, row_parts}
+use Rattle.wt_beside_laws.specs.NodeItems.{node_items}
 
 abbrev break : Item
 break = char None 10
 
-own_both : (xs ys : List Item) → OwnBreaks xs → OwnBreaks ys → OwnBreaks (xs ++ ys)
+pub own_both : (xs ys : List Item) → OwnBreaks xs → OwnBreaks ys → OwnBreaks (xs ++ ys)
 own_both [] ys h k = k
 own_both (x ∷ xs) ys h k = (h.0, own_both xs ys h.1 k)
 
@@ -36,15 +36,15 @@ rows_parts xs l ls o e i =
 
 -- ---- those of a content
 
-unbroken_own : (xs : List Item) → IsUnbroken xs → OwnBreaks xs
+pub unbroken_own : (xs : List Item) → IsUnbroken xs → OwnBreaks xs
 unbroken_own [] u = tt
 unbroken_own (x ∷ xs) u = ((λ e. let no : true ≡ false = sym e ∙ u.0 in cc), unbroken_own xs u.1)
 
-guard_own : (u : Bool) → OwnBreaks (guard_items u)
+pub guard_own : (u : Bool) → OwnBreaks (guard_items u)
 guard_own true = ((λ e. cc), tt)
 guard_own false = tt
 
-letter_own : (e : Bool) (c : ℕ) → OwnBreaks (letter_items e c)
+pub letter_own : (e : Bool) (c : ℕ) → OwnBreaks (letter_items e c)
 letter_own true c = ((λ e. cc), tt)
 letter_own false c = chars_own (encode_utf8 c)
 
@@ -56,9 +56,9 @@ content_own s before (letter c ∷ after) u =
     (guard_own (is_guarded s before (letter c ∷ after)))
     (own_both (letter_items e c) (content_items s (letter c ∷ before) after) (letter_own e c) (content_own s (letter c ∷ before) after u))
 content_own s before (thing t ∷ after) u =
-    own_both (guard_items (is_guarded s before (thing t ∷ after))) (page_items t.source ++ content_items s (thing t ∷ before) after)
+    own_both (guard_items (is_guarded s before (thing t ∷ after))) (node_items t.source ++ content_items s (thing t ∷ before) after)
     (guard_own (is_guarded s before (thing t ∷ after)))
-    (own_both (page_items t.source) (content_items s (thing t ∷ before) after) (unbroken_own (page_items t.source) u.0) (content_own s (thing t ∷ before) after u.1))
+    (own_both (node_items t.source) (content_items s (thing t ∷ before) after) (unbroken_own (node_items t.source) u.0) (content_own s (thing t ∷ before) after u.1))
 
 pub later_by : (t : Bool) (l : List Item) (ls : List (List Item)) (own more : List Part) → line_parts l ≡ own → after_breaks ls ≡ more
     → after_breaks (if t then l ∷ ls else ls) ≡ (if t then parts Text (break ∷ []) ++ (own ++ more) else more)

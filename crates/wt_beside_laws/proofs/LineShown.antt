@@ -46,7 +46,7 @@ shown_append (loose k o b ∷ ps) qs rest = ap (text_before (b ∷ [])) (shown_a
 shown_append (node t ∷ ps) qs rest = ap (plain_before (standing 0 [] t)) (shown_append ps qs rest)
 
 -- characters that are one leaf
-text_shows : (o : Option ℕ) (b : ℕ) (r others : List Part) (rest : Plains) → IsRun one_leaf (loose Text o b ∷ r) others → AreTexts r
+pub text_shows : (o : Option ℕ) (b : ℕ) (r others : List Part) (rest : Plains) → IsRun one_leaf (loose Text o b ∷ r) others → AreTexts r
     → text_before (flat_map shown_item (held_parts (loose Text o b ∷ r))) rest ≡ one_by_one (loose Text o b ∷ r) rest
 text_shows o b [] others rest h t = refl
 text_shows o b (loose Text p c ∷ r) others rest h t =
@@ -54,7 +54,7 @@ text_shows o b (loose Text p c ∷ r) others rest h t =
 text_shows o b (loose Sep p c ∷ r) others rest h t = absurd t.0
 text_shows o b (node x ∷ r) others rest h t = let no = h.0 in cc
 
-run_shows : (n : ℕ) (before : List Item) (r others : List Part) (rest : Plains) → IsRun one_leaf r others → AreTexts r
+pub run_shows : (n : ℕ) (before : List Item) (r others : List Part) (rest : Plains) → IsRun one_leaf r others → AreTexts r
     → plain_before (standing n before (child r)) rest ≡ one_by_one r rest
 unfolding label_at
 run_shows n before [] others rest h t = absurd h

@@ -13,7 +13,6 @@ use Rattle.wt_tree.specs.declared.kind.Kind.TheVariants as node_kind
 use Rattle.wt_guards.specs.declared.role.Role.{Role}
 use Rattle.wt_guards.specs.declared.role.Role.TheVariants as role
 use Rattle.wt_guards.specs.Content.{ContentSign, Thing, letter, thing}
-use Rattle.wt_expand.specs.PageItems.{page_items}
 use Rattle.wt_inline.specs.declared.loose.Loose.TheVariants.{Text}
 use Rattle.wt_inline.specs.Inside.{opened_all}
 use Rattle.wt_inline.specs.ItemTree.{plain, ItemTree, tree_items}
@@ -47,18 +46,19 @@ use Rattle.wt_context.proofs.TilePlaces.{MayStand, IsPlaced, tiles_placed}
 use Rattle.wt_beside_laws.specs.Nodes.{IsBareNode, IsNode, AreNodes}
 use Rattle.wt_beside_laws.specs.PageBlocks.{AreUnstyled}
 use Rattle.wt_text_edit_laws.specs.ParagraphParts.{joined_parts}
-use Rattle.wt_beside_laws.specs.PageSigns.{form_role, tile_role, form_sign, tile_signs, signs_of_tiles, line_signs, signs_of_lines, IsFlatForm, IsFlatTile, AreFlatTiles, AreFlatLines}
+use Rattle.wt_beside_laws.specs.PageSigns.{ends_break, form_role, tile_role, form_sign, tile_signs, signs_of_tiles, line_signs, signs_of_lines, IsFlatForm, IsFlatTile, AreFlatTiles, AreFlatLines}
 use Rattle.wt_beside_laws.specs.Stood.{things}
 use Rattle.wt_beside_laws.proofs.FormKinds.{IsNodeKind, form_is_node}
 use Rattle.wt_beside_laws.proofs.FormsAlone.{by_parts, form_alone}
 use Rattle.wt_beside_laws.proofs.FormOpenings.{OpensAs, opens_so}
 use Rattle.wt_beside_laws.proofs.LineSegments.{unstyled}
-use Rattle.wt_beside_laws.proofs.PageLexemes.{IsPageForm, AreOfPage, are_of_page, no_brace}
+use Rattle.wt_beside_laws.proofs.PageLexemes.{IsPageForm, AreOfPage, node_of_page, no_brace}
 use Rattle.wt_beside_laws.proofs.PageSigns.{AreChars, are_chars, IsFlatKind, flat_nodes}
 use Rattle.wt_beside_laws.proofs.PartThings.{IsThing, thing_at, tree_source, IsAlone, HaveThings, parts_width, things_both}
 use Rattle.wt_beside_laws.proofs.SentNodes.{things_append, no_things}
-use Rattle.wt_beside_laws.proofs.TileRoles.{NoBraces, link_thing, category_thing, switch_thing, break_thing, placeholder_thing, pair_thing, external_thing, bare_thing, IsLexemeForm, lexeme_thing}
+use Rattle.wt_beside_laws.proofs.TileRoles.{NoBraces, link_thing, category_thing, switch_thing, break_thing, placeholder_thing, pair_thing, external_thing, bare_thing, IsLexemeForm, lexeme_thing, IsMarkForm, mark_thing}
 use Rattle.wt_beside_laws.proofs.UrlShown.{AreTextual, all_textual, url_shows}
+use Rattle.wt_beside_laws.specs.NodeItems.{node_items}
 
 -- ---- what begins a form
 
@@ -156,13 +156,13 @@ pub record Told (at : ℕ) (ps : List Part) (ts : List Thing) (n : ℕ) : Type 0
 -- the node of these items, which are read so by themselves
 pub record IsNodeOf (u : ItemTree) (ys : List Item) : Type 0 where
   pub source : tree_source u ≡ sources ys
-  pub read : page_items (sources ys) ≡ ys
+  pub read : node_items (sources ys) ≡ ys
   pub alone : line_parts ys ≡ node u ∷ []
 
 node_told : (at : ℕ) (u : ItemTree) (r : Role) (ys : List Item) → IsNodeOf u ys → IsThing u r → Told at (node u ∷ []) (thing_at r (sources ys) at ∷ []) (length (sources ys))
 node_told at u r ys o i =
     let long : length (tree_source u) ≡ length (sources ys) = ap length o.source in
-    let alone : IsAlone u = ap (λ (bs : List ℕ). line_parts (page_items bs)) o.source ∙ ap line_parts o.read ∙ o.alone in
+    let alone : IsAlone u = ap (λ (bs : List ℕ). line_parts (node_items bs)) o.source ∙ ap line_parts o.read ∙ o.alone in
     record { have = (r, [], ap (λ (cs : List ℕ). thing_at r cs at ∷ []) (sym o.source), i, alone, refl); wide = omega (arith, long) }
 
 chars_told : (at : ℕ) (ys : List Item) → AreChars ys → Told at (parts Text ys) [] (length (sources ys))
@@ -193,29 +193,62 @@ lexeme_form a form.Include gs w p e i = absurd (mark_apart w e i)
 lexeme_form a form.Hidden gs w p e i = absurd (mark_apart w e i)
 lexeme_form a form.EmptyCall gs w p e i = absurd p
 
-whole_unbraced : (f : ItemForm) (o : Option ℕ) (bs : List ℕ) → page_items (sources (whole f o bs ∷ [])) ≡ whole f o bs ∷ [] → NoBraces (sources (whole f o bs ∷ []))
+whole_unbraced : (f : ItemForm) (o : Option ℕ) (bs : List ℕ) → node_items (sources (whole f o bs ∷ [])) ≡ whole f o bs ∷ [] → NoBraces (sources (whole f o bs ∷ []))
 whole_unbraced f o [] e = refl
 whole_unbraced f o (b ∷ bs) e = first_unbraced b (bs ++ []) (no_brace b (bs ++ []) f o (b ∷ bs) e)
 
-lexeme_told : (at : ℕ) (f : ItemForm) (o : Option ℕ) (bs : List ℕ) → IsLexemeForm f → page_items (sources (whole f o bs ∷ [])) ≡ whole f o bs ∷ []
+lexeme_told : (began : Bool) (at : ℕ) (f : ItemForm) (o : Option ℕ) (bs : List ℕ) → IsLexemeForm f → node_items (sources (whole f o bs ∷ [])) ≡ whole f o bs ∷ []
     → line_parts (whole f o bs ∷ []) ≡ parts Text (whole f o bs ∷ [])
-    → Told at (parts Text (whole f o bs ∷ [])) (things (form_sign kind.Atom at (whole f o bs ∷ []))) (length (sources (whole f o bs ∷ [])))
-lexeme_told at f o bs l e apart =
+    → Told at (parts Text (whole f o bs ∷ [])) (things (form_sign kind.Atom began at (whole f o bs ∷ []))) (length (sources (whole f o bs ∷ [])))
+lexeme_told began at f o bs l e apart =
     let u : ItemTree = whole_tree f o bs in
     let own : tree_source u ≡ sources (whole f o bs ∷ []) =
     ap sources (sym (append-nil (tree_items u)) ∙ held_of_parts Text (whole f o bs ∷ [])) ∙ sources_opened (whole f o bs ∷ []) in
     node_told at u (form_role f) (whole f o bs ∷ []) (record { source = own; read = e; alone = apart })
     (lexeme_thing f o bs l (subst NoBraces (sym own) (whole_unbraced f o bs e)))
 
-atom_told : (a : Bool) (at : ℕ) (w : Shape) (ys zs : List Item) → w.kind ≡ kind.Atom → 0 < length ys → length ys ≡ size w → page_items (sources ys) ≡ ys
+atom_told : (a began : Bool) (at : ℕ) (w : Shape) (ys zs : List Item) → w.kind ≡ kind.Atom → 0 < length ys → length ys ≡ size w → node_items (sources ys) ≡ ys
     → tile_at in_line a (map glyph_of (ys ++ zs)) ≡ Some w → line_parts ys ≡ parts Text ys
-    → Told at (parts Text ys) (things (form_sign kind.Atom at ys)) (length (sources ys))
-atom_told a at w [] zs i some l alone e apart = absurd (omega (arith, some))
-atom_told a at w (char o b ∷ ys) zs i some l alone e apart = absurd (subst IsNodeKind i (form_is_node in_line a (map glyph_of (char o b ∷ (ys ++ zs))) w e))
-atom_told a at w (whole f o bs ∷ []) zs i some l alone e apart =
-    let p : AreOfPage (whole f o bs ∷ []) = subst AreOfPage alone (are_of_page (sources (whole f o bs ∷ []))) in
-    lexeme_told at f o bs (lexeme_form a f (map glyph_of zs) w p.0 e i) alone apart
-atom_told a at w (whole f o bs ∷ y ∷ ys) zs i some l alone e apart =
+    → Told at (parts Text ys) (things (form_sign kind.Atom began at ys)) (length (sources ys))
+atom_told a began at w [] zs i some l alone e apart = absurd (omega (arith, some))
+atom_told a began at w (char o b ∷ ys) zs i some l alone e apart = absurd (subst IsNodeKind i (form_is_node in_line a (map glyph_of (char o b ∷ (ys ++ zs))) w e))
+atom_told a began at w (whole f o bs ∷ []) zs i some l alone e apart =
+    let p : AreOfPage (whole f o bs ∷ []) = subst AreOfPage alone (node_of_page (sources (whole f o bs ∷ []))) in
+    lexeme_told began at f o bs (lexeme_form a f (map glyph_of zs) w p.0 e i) alone apart
+atom_told a began at w (whole f o bs ∷ y ∷ ys) zs i some l alone e apart =
+    let one : size w ≡ 1 = (whole_kind a f (map glyph_of (y ∷ (ys ++ zs))) w e).1 in
+    absurd (omega (arith, one, l))
+
+-- an include tag
+atom_apart : (w : Shape) → Some (leaf kind.Atom 1) ≡ Some w → w.kind ≡ kind.Mark → ⊥
+atom_apart w e i = cc
+
+mark_form : (a : Bool) (f : ItemForm) (gs : List Glyph) (w : Shape) → IsPageForm f → tile_with in_line a (glyph_of_form f) (glyph_of_form f ∷ gs) ≡ Some w
+    → w.kind ≡ kind.Mark → IsMarkForm f
+mark_form a form.Chars gs w p e i = absurd p
+mark_form a (form.Entity c) gs w p e i = absurd (atom_apart w e i)
+mark_form a form.Nowiki gs w p e i = absurd (atom_apart w e i)
+mark_form a form.Extension gs w p e i = absurd (atom_apart w e i)
+mark_form a form.Function gs w p e i = absurd p
+mark_form a form.Comment gs w p e i = tt
+mark_form a form.Include gs w p e i = tt
+mark_form a form.Hidden gs w p e i = tt
+mark_form a form.EmptyCall gs w p e i = absurd p
+
+mark_told : (a began : Bool) (at : ℕ) (w : Shape) (ys zs : List Item) → w.kind ≡ kind.Mark → 0 < length ys → length ys ≡ size w → node_items (sources ys) ≡ ys
+    → tile_at in_line a (map glyph_of (ys ++ zs)) ≡ Some w → line_parts ys ≡ parts Text ys
+    → Told at (parts Text ys) (things (form_sign kind.Mark began at ys)) (length (sources ys))
+mark_told a began at w [] zs i some l alone e apart = absurd (omega (arith, some))
+mark_told a began at w (char o b ∷ ys) zs i some l alone e apart = absurd (subst IsNodeKind i (form_is_node in_line a (map glyph_of (char o b ∷ (ys ++ zs))) w e))
+mark_told a began at w (whole f o bs ∷ []) zs i some l alone e apart =
+    let p : AreOfPage (whole f o bs ∷ []) = subst AreOfPage alone (node_of_page (sources (whole f o bs ∷ []))) in
+    let u : ItemTree = whole_tree f o bs in
+    let own : tree_source u ≡ sources (whole f o bs ∷ []) =
+    ap sources (sym (append-nil (tree_items u)) ∙ held_of_parts Text (whole f o bs ∷ [])) ∙ sources_opened (whole f o bs ∷ []) in
+    let ends : Bool = ends_break (sources (whole f o bs ∷ [])) in
+    node_told at u (role.Mark ends began) (whole f o bs ∷ []) (record { source = own; read = alone; alone = apart })
+    (mark_thing ends began f o bs (mark_form a f (map glyph_of zs) w p.0 e i))
+mark_told a began at w (whole f o bs ∷ y ∷ ys) zs i some l alone e apart =
     let one : size w ≡ 1 = (whole_kind a f (map glyph_of (y ∷ (ys ++ zs))) w e).1 in
     absurd (omega (arith, one, l))
 
@@ -223,9 +256,9 @@ atom_told a at w (whole f o bs ∷ y ∷ ys) zs i some l alone e apart =
 bare_textual : (own : List Glyph) → IsBareNode own → AreTextual own
 bare_textual own n = subst AreTextual (sym n.is) (all_textual (glyph.Byte n.first ∷ n.others) n.shape n.url (n.whole ∙ ap length n.is))
 
-url_told : (at : ℕ) (w : Shape) (ys : List Item) → w ≡ bare_shape (size w) → length ys ≡ size w → IsNodeOf (bare_url w ys) ys
-    → AreTextual (map glyph_of ys) → Told at (node (bare_url w ys) ∷ []) (things (form_sign kind.BareUrl at ys)) (length (sources ys))
-url_told at w ys is l own t =
+url_told : (began : Bool) (at : ℕ) (w : Shape) (ys : List Item) → w ≡ bare_shape (size w) → length ys ≡ size w → IsNodeOf (bare_url w ys) ys
+    → AreTextual (map glyph_of ys) → Told at (node (bare_url w ys) ∷ []) (things (form_sign kind.BareUrl began at ys)) (length (sources ys))
+url_told began at w ys is l own t =
     let m : ℕ = size w in
     let text : List ℕ = flat_map text_of (map glyph_of ys) in
     let u : IsThing (bare_url (bare_shape m) ys) (role.Bare (ends_with nat_eq text (61 ∷ []))) =
@@ -234,19 +267,19 @@ url_told at w ys is l own t =
     (subst (λ (v : Shape). IsThing (bare_url v ys) (role.Bare (ends_with nat_eq text (61 ∷ [])))) (sym is) u)
 
 -- what is known of a form and its items
-record IsFormOf (k : TileKind) (a : Bool) (w : Shape) (ys zs : List Item) : Type 0 where
+record IsFormOf (k : TileKind) (a began : Bool) (w : Shape) (ys zs : List Item) : Type 0 where
   kind_is : w.kind ≡ k
   flat : IsFlatKind k
   some : 0 < length ys
   read : tile_at in_line a (map glyph_of (ys ++ zs)) ≡ Some w
   placed : IsPlaced in_line (w, ys)
   form : IsFlatForm k ys
-  stays : IsNode (tile_role k ys) (map glyph_of ys)
+  stays : IsNode (tile_role k began ys) (map glyph_of ys)
 
 -- the node of such a form
-its_node : (k : TileKind) (a : Bool) (w : Shape) (ys zs : List Item) (u : ItemTree) → IsFormOf k a w ys zs → IsNodeKind k → tile_tree context_parts in_line k w ys ≡ Some u
+its_node : (k : TileKind) (a began : Bool) (w : Shape) (ys zs : List Item) (u : ItemTree) → IsFormOf k a began w ys zs → IsNodeKind k → tile_tree context_parts in_line k w ys ≡ Some u
     → IsNodeOf u ys
-its_node k a w ys zs u f n e =
+its_node k a began w ys zs u f n e =
     let held : OptHolds (Some u) ys = subst (λ (o : Option ItemTree). OptHolds o ys) e (tile_source k w ys f.kind_is f.placed) in
     let b = begins k a w ys zs f.kind_is n f.some f.read in
     record {
@@ -255,52 +288,54 @@ its_node k a w ys zs u f n e =
       alone = form_alone k a w ys zs f.kind_is f.flat f.form b.opens (sym f.placed.0) f.some f.read ∙ ap (λ (o : Option ItemTree). tile_parts_of o ys) e;
     }
 
-form_told : (k : TileKind) (a : Bool) (at : ℕ) (w : Shape) (ys zs : List Item) → IsFormOf k a w ys zs
-    → Told at (tile_parts_of (tile_tree context_parts in_line k w ys) ys) (things (tile_signs k at ys)) (length (sources ys))
-form_told kind.Link a at w ys zs f =
+form_told : (k : TileKind) (a began : Bool) (at : ℕ) (w : Shape) (ys zs : List Item) → IsFormOf k a began w ys zs
+    → Told at (tile_parts_of (tile_tree context_parts in_line k w ys) ys) (things (tile_signs k began at ys)) (length (sources ys))
+form_told kind.Link a began at w ys zs f =
     let ps : List Part = context_parts (in_text in_line) (inside_of w ys) in
     let u : ItemTree = nested_tree nested.Link w ys ps in
-    node_told at u role.Link ys (its_node kind.Link a w ys zs u f tt refl) (link_thing w ys ps)
-form_told kind.Category a at w ys zs f =
+    node_told at u role.Link ys (its_node kind.Link a began w ys zs u f tt refl) (link_thing w ys ps)
+form_told kind.Category a began at w ys zs f =
     let u : ItemTree = leaf_tree as_leaf.Category ys in
-    node_told at u role.Node ys (its_node kind.Category a w ys zs u f tt refl) (category_thing ys)
-form_told kind.Media a at w ys zs f =
+    node_told at u role.Node ys (its_node kind.Category a began w ys zs u f tt refl) (category_thing ys)
+form_told kind.Media a began at w ys zs f =
     let u : ItemTree = leaf_tree as_leaf.Placeholder ys in
-    let own = its_node kind.Media a w ys zs u f tt refl in
+    let own = its_node kind.Media a began w ys zs u f tt refl in
     let b = begins kind.Media a w ys zs f.kind_is tt f.some f.read in
     node_told at u role.Node ys own (placeholder_thing ys (subst NoBraces (sym own.source) b.unbraced))
-form_told kind.ExtLink a at w ys zs f =
+form_told kind.ExtLink a began at w ys zs f =
     let ps : List Part = context_parts (in_text in_line) (inside_of w ys) in
     let u : ItemTree = nested_tree nested.ExtLink w ys ps in
     let b = begins kind.ExtLink a w ys zs f.kind_is tt f.some f.read in
-    node_told at u role.External ys (its_node kind.ExtLink a w ys zs u f tt refl)
+    node_told at u role.External ys (its_node kind.ExtLink a began w ys zs u f tt refl)
     (external_thing w ys ps (b.some w.opening (subst (λ (j : TileKind). OpensAs j w) f.kind_is b.opens)))
-form_told kind.BareUrl a at w ys zs f =
+form_told kind.BareUrl a began at w ys zs f =
     let b = begins kind.BareUrl a w ys zs f.kind_is tt f.some f.read in
-    url_told at w ys (subst (λ (j : TileKind). OpensAs j w) f.kind_is b.opens) f.placed.0 (its_node kind.BareUrl a w ys zs (bare_url w ys) f tt refl)
+    url_told began at w ys (subst (λ (j : TileKind). OpensAs j w) f.kind_is b.opens) f.placed.0 (its_node kind.BareUrl a began w ys zs (bare_url w ys) f tt refl)
     (bare_textual (map glyph_of ys) f.stays)
-form_told kind.Br a at w ys zs f =
+form_told kind.Br a began at w ys zs f =
     let u : ItemTree = leaf_tree as_leaf.Break ys in
-    node_told at u role.Node ys (its_node kind.Br a w ys zs u f tt refl) (break_thing (plain node_kind.Br) ys refl)
-form_told kind.Pair a at w ys zs f =
+    node_told at u role.Node ys (its_node kind.Br a began w ys zs u f tt refl) (break_thing (plain node_kind.Br) ys refl)
+form_told kind.Pair a began at w ys zs f =
     let ps : List Part = context_parts (in_pair in_line) (inside_of w ys) in
     let u : ItemTree = nested_tree nested.Pair w ys ps in
-    let own = its_node kind.Pair a w ys zs u f tt refl in
+    let own = its_node kind.Pair a began w ys zs u f tt refl in
     let b = begins kind.Pair a w ys zs f.kind_is tt f.some f.read in
     node_told at u role.Node ys own (pair_thing w ys ps (subst NoBraces (sym own.source) b.unbraced))
-form_told kind.TagIsland a at w ys zs f =
+form_told kind.TagIsland a began at w ys zs f =
     let u : ItemTree = leaf_tree as_leaf.Placeholder ys in
-    let own = its_node kind.TagIsland a w ys zs u f tt refl in
+    let own = its_node kind.TagIsland a began w ys zs u f tt refl in
     let b = begins kind.TagIsland a w ys zs f.kind_is tt f.some f.read in
     node_told at u role.Node ys own (placeholder_thing ys (subst NoBraces (sym own.source) b.unbraced))
-form_told kind.Switch a at w ys zs f =
+form_told kind.Switch a began at w ys zs f =
     let u : ItemTree = leaf_tree as_leaf.Switch ys in
-    node_told at u role.Switch ys (its_node kind.Switch a w ys zs u f tt refl) (switch_thing ys)
-form_told kind.Atom a at w ys zs f =
-    atom_told a at w ys zs f.kind_is f.some f.placed.0 f.form.alone f.read
+    node_told at u role.Switch ys (its_node kind.Switch a began w ys zs u f tt refl) (switch_thing ys)
+form_told kind.Atom a began at w ys zs f =
+    atom_told a began at w ys zs f.kind_is f.some f.placed.0 f.form.alone f.read
     (form_alone kind.Atom a w ys zs f.kind_is f.flat f.form (subst (λ (j : TileKind). OpensAs j w) (sym f.kind_is) tt) (sym f.placed.0) f.some f.read)
-form_told kind.Mark a at w ys zs f = absurd f.flat
-form_told kind.Chars a at w ys zs f = absurd f.flat
+form_told kind.Mark a began at w ys zs f =
+    mark_told a began at w ys zs f.kind_is f.some f.placed.0 f.form.alone f.read
+    (form_alone kind.Mark a w ys zs f.kind_is f.flat f.form (subst (λ (j : TileKind). OpensAs j w) (sym f.kind_is) tt) (sym f.placed.0) f.some f.read)
+form_told kind.Chars a began at w ys zs f = absurd f.flat
 
 -- ---- the tiles of a line
 
@@ -310,14 +345,14 @@ nodes_parts (letter c ∷ xs) ys h = nodes_parts xs ys h
 nodes_parts (thing t ∷ xs) ys h = let r = nodes_parts xs ys h.1 in ((h.0, r.0), r.1)
 
 -- a form, by its kind, among the items of a line
-form_here : (k : TileKind) (a : Bool) (at : ℕ) (w : Shape) (xs : List Item) → w.kind ≡ k → IsFlatKind k → IsFlatForm k (take (size w) xs)
-    → tile_at in_line a (map glyph_of xs) ≡ Some w → 0 < size w → IsPlaced in_line (w, take (size w) xs) → AreNodes (form_sign k at (take (size w) xs))
-    → Told at (tile_parts_of (tile_tree context_parts in_line k w (take (size w) xs)) (take (size w) xs)) (things (tile_signs k at (take (size w) xs)))
+form_here : (k : TileKind) (a began : Bool) (at : ℕ) (w : Shape) (xs : List Item) → w.kind ≡ k → IsFlatKind k → IsFlatForm k (take (size w) xs)
+    → tile_at in_line a (map glyph_of xs) ≡ Some w → 0 < size w → IsPlaced in_line (w, take (size w) xs) → AreNodes (form_sign k began at (take (size w) xs))
+    → Told at (tile_parts_of (tile_tree context_parts in_line k w (take (size w) xs)) (take (size w) xs)) (things (tile_signs k began at (take (size w) xs)))
     (length (sources (take (size w) xs)))
-form_here k a at w xs i flat f e some p n =
+form_here k a began at w xs i flat f e some p n =
     let ys : List Item = take (size w) xs in
     let long : length ys ≡ size w = p.0 in
-    form_told k a at w ys (drop (size w) xs)
+    form_told k a began at w ys (drop (size w) xs)
     (record {
       kind_is = i;
       flat = flat;
@@ -325,25 +360,25 @@ form_here k a at w xs i flat f e some p n =
       read = ap (λ us. tile_at in_line a (map glyph_of us)) (take-append-drop (size w) xs) ∙ e;
       placed = p;
       form = f;
-      stays = subst (λ us. IsNode (tile_role k ys) (map glyph_of us)) f.alone n.0;
+      stays = subst (λ us. IsNode (tile_role k began ys) (map glyph_of us)) f.alone n.0;
     })
 
-tile_told : (k : TileKind) (a : Bool) (at : ℕ) (w : Shape) (xs : List Item) → w.kind ≡ k → IsFlatTile k (take (size w) xs) → StandsBy k in_line a w (map glyph_of xs)
-    → 0 < size w → IsPlaced in_line (w, take (size w) xs) → AreNodes (tile_signs k at (take (size w) xs))
-    → Told at (tile_parts_of (tile_tree context_parts in_line k w (take (size w) xs)) (take (size w) xs)) (things (tile_signs k at (take (size w) xs)))
+tile_told : (k : TileKind) (a began : Bool) (at : ℕ) (w : Shape) (xs : List Item) → w.kind ≡ k → IsFlatTile k (take (size w) xs) → StandsBy k in_line a w (map glyph_of xs)
+    → 0 < size w → IsPlaced in_line (w, take (size w) xs) → AreNodes (tile_signs k began at (take (size w) xs))
+    → Told at (tile_parts_of (tile_tree context_parts in_line k w (take (size w) xs)) (take (size w) xs)) (things (tile_signs k began at (take (size w) xs)))
     (length (sources (take (size w) xs)))
-tile_told kind.Link a at w xs i f s some p n = form_here kind.Link a at w xs i tt f s some p n
-tile_told kind.Category a at w xs i f s some p n = form_here kind.Category a at w xs i tt f s some p n
-tile_told kind.Media a at w xs i f s some p n = form_here kind.Media a at w xs i tt f s some p n
-tile_told kind.ExtLink a at w xs i f s some p n = form_here kind.ExtLink a at w xs i tt f s some p n
-tile_told kind.BareUrl a at w xs i f s some p n = form_here kind.BareUrl a at w xs i tt f s some p n
-tile_told kind.Br a at w xs i f s some p n = form_here kind.Br a at w xs i tt f s some p n
-tile_told kind.Pair a at w xs i f s some p n = form_here kind.Pair a at w xs i tt f s some p n
-tile_told kind.TagIsland a at w xs i f s some p n = form_here kind.TagIsland a at w xs i tt f s some p n
-tile_told kind.Switch a at w xs i f s some p n = form_here kind.Switch a at w xs i tt f s some p n
-tile_told kind.Atom a at w xs i f s some p n = form_here kind.Atom a at w xs i tt f s some p n
-tile_told kind.Mark a at w xs i f s some p n = absurd f
-tile_told kind.Chars a at w xs i f s some p n =
+tile_told kind.Link a began at w xs i f s some p n = form_here kind.Link a began at w xs i tt f s some p n
+tile_told kind.Category a began at w xs i f s some p n = form_here kind.Category a began at w xs i tt f s some p n
+tile_told kind.Media a began at w xs i f s some p n = form_here kind.Media a began at w xs i tt f s some p n
+tile_told kind.ExtLink a began at w xs i f s some p n = form_here kind.ExtLink a began at w xs i tt f s some p n
+tile_told kind.BareUrl a began at w xs i f s some p n = form_here kind.BareUrl a began at w xs i tt f s some p n
+tile_told kind.Br a began at w xs i f s some p n = form_here kind.Br a began at w xs i tt f s some p n
+tile_told kind.Pair a began at w xs i f s some p n = form_here kind.Pair a began at w xs i tt f s some p n
+tile_told kind.TagIsland a began at w xs i f s some p n = form_here kind.TagIsland a began at w xs i tt f s some p n
+tile_told kind.Switch a began at w xs i f s some p n = form_here kind.Switch a began at w xs i tt f s some p n
+tile_told kind.Atom a began at w xs i f s some p n = form_here kind.Atom a began at w xs i tt f s some p n
+tile_told kind.Mark a began at w xs i f s some p n = form_here kind.Mark a began at w xs i tt f s some p n
+tile_told kind.Chars a began at w xs i f s some p n =
     let ys : List Item = take (size w) xs in
     subst (λ (ts : List Thing). Told at (parts Text ys) ts (length (sources ys))) (sym (no_things (chars (sources ys)))) (chars_told at ys (are_chars (size w) a xs s.1))
 
@@ -380,22 +415,22 @@ map_drop zero (x ∷ xs) = refl
 map_drop (suc n) [] = refl
 map_drop (suc n) (x ∷ xs) = map_drop n xs
 
-tiles_told : (ws : List Shape) (a : Bool) (at : ℕ) (xs : List Item) → AreTiles in_line a ws (map glyph_of xs) → AllByRecursion (IsPlaced in_line) (tile_parts ws xs)
-    → AreFlatTiles (tile_parts ws xs) → AreNodes (signs_of_tiles at (tile_parts ws xs))
-    → Told at (flat_map (tile_part context_parts in_line) (tile_parts ws xs)) (things (signs_of_tiles at (tile_parts ws xs))) (length (sources xs))
-tiles_told [] a at xs t p f n = none_told at xs t
-tiles_told (w ∷ ws) a at xs t p f n =
+tiles_told : (ws : List Shape) (a began : Bool) (at : ℕ) (xs : List Item) → AreTiles in_line a ws (map glyph_of xs) → AllByRecursion (IsPlaced in_line) (tile_parts ws xs)
+    → AreFlatTiles (tile_parts ws xs) → AreNodes (signs_of_tiles began at (tile_parts ws xs))
+    → Told at (flat_map (tile_part context_parts in_line) (tile_parts ws xs)) (things (signs_of_tiles began at (tile_parts ws xs))) (length (sources xs))
+tiles_told [] a began at xs t p f n = none_told at xs t
+tiles_told (w ∷ ws) a began at xs t p f n =
     let m : ℕ = size w in
     let ys : List Item = take m xs in
     let zs : List Item = drop m xs in
-    let more : List ContentSign = signs_of_tiles (at + length (sources ys)) (tile_parts ws zs) in
-    let split = nodes_parts (tile_signs w.kind at ys) more n in
-    let own = tile_told w.kind a at w xs refl f.0 t.2 t.0 p.0 split.0 in
-    let rest = tiles_told ws (is_word_at (map glyph_of xs) (m - 1)) (at + length (sources ys)) zs
+    let more : List ContentSign = signs_of_tiles (ends_break (sources ys)) (at + length (sources ys)) (tile_parts ws zs) in
+    let split = nodes_parts (tile_signs w.kind began at ys) more n in
+    let own = tile_told w.kind a began at w xs refl f.0 t.2 t.0 p.0 split.0 in
+    let rest = tiles_told ws (is_word_at (map glyph_of xs) (m - 1)) (ends_break (sources ys)) (at + length (sources ys)) zs
     (subst (λ gs. AreTiles in_line (is_word_at (map glyph_of xs) (m - 1)) ws gs) (sym (map_drop m xs)) t.4) p.1 f.1 split.1 in
-    subst (Told at (flat_map (tile_part context_parts in_line) (tile_parts (w ∷ ws) xs)) (things (signs_of_tiles at (tile_parts (w ∷ ws) xs)))) (sources_cut m xs)
+    subst (Told at (flat_map (tile_part context_parts in_line) (tile_parts (w ∷ ws) xs)) (things (signs_of_tiles began at (tile_parts (w ∷ ws) xs)))) (sources_cut m xs)
     (both_told at (length (sources ys)) (length (sources zs)) (tile_part context_parts in_line (w, ys)) (flat_map (tile_part context_parts in_line) (tile_parts ws zs))
-    (tile_signs w.kind at ys) more own rest)
+    (tile_signs w.kind began at ys) more own rest)
 
 -- ---- a line without styles is its tiles
 
@@ -413,7 +448,7 @@ line_is xs e = contexts_are in_line xs (omega arith) ∙ unstyled (segments cont
 pub tiles_here : (at : ℕ) (xs : List Item) → AllByRecursion (IsPlaced in_line) (tiles in_line xs) → AreFlatTiles (tiles in_line xs) → AreNodes (line_signs at xs)
     → Told at (flat_map (tile_part context_parts in_line) (tiles in_line xs)) (things (line_signs at xs)) (length (sources xs))
 unfolding tiles
-tiles_here at xs p f n = tiles_told (shapes in_line (map glyph_of xs)) false at xs (shapes_are in_line (map glyph_of xs)) p f n
+tiles_here at xs p f n = tiles_told (shapes in_line (map glyph_of xs)) false true at xs (shapes_are in_line (map glyph_of xs)) p f n
 
 line_told : (at : ℕ) (xs : List Item) → has_run (segments context_parts in_line xs) ≡ false → AreFlatTiles (tiles in_line xs) → AreNodes (line_signs at xs)
     → Told at (line_parts xs) (things (line_signs at xs)) (length (sources xs))

@@ -1,10 +1,12 @@
 -- The tiles of a line of a content, sign by sign.
-use Rattle.std.proofs.Common.{arith, ◌≡◌, ℕ, zero, ◌+◌, ◌==◌, Bool, true, false, Option, Some, None, List, [], ◌∷◌, ◌++◌, length, refl, sym, ap, ◌∙◌, subst, append_assoc}
+use Rattle.std.proofs.Common.{arith, ◌≡◌, ℕ, zero, ◌+◌, ◌==◌, Bool, true, false, Option, Some, None, List, [], ◌∷◌, ◌++◌, length, refl, sym, ap, ◌∙◌, subst, append_assoc, inl}
 use Rattle.std.specs.Prelude.{◌&&◌, not, if◌then◌else◌, codes, option_map}
 use Rattle.wt_guards.specs.declared.role.Role.{Role}
-use Rattle.wt_guards.specs.Content.{ContentSign, letter, thing}
-use Rattle.wt_guards.specs.Guards.{Setting, is_guarded}
+use Rattle.wt_guards.specs.declared.side.Side.TheVariants as side
+use Rattle.wt_guards.specs.Content.{ContentSign, Thing, letter, thing}
+use Rattle.wt_guards.specs.Guards.{Setting, left_side, is_guarded}
 use Rattle.wt_guards.specs.Letters.{is_bracket, is_escaped}
+use Rattle.wt_guards.specs.Table.{hazard}
 use Rattle.wt_spelling_laws.proofs.TextReads.{bracket_escaped, not_bracket, or_parts}
 use Rattle.wt_tiles.specs.declared.context.Context.{Context}
 use Rattle.wt_tiles.specs.declared.glyph.Glyph.{Glyph}
@@ -20,9 +22,9 @@ use Rattle.wt_tiles.specs.Urls.{scheme_len}
 use Rattle.wt_beside_laws.specs.Beginnings.{AllAvoidSwitches}
 use Rattle.wt_beside_laws.specs.Cuts.{own_glyphs, own_form, add_node, guard_cut, letter_cut, is_word_last}
 use Rattle.wt_beside_laws.specs.Glyphs.{guard_glyphs, letter_glyphs, content_glyphs, AllAvoid}
-use Rattle.wt_beside_laws.specs.Nodes.{AreNodes, MayFollow, AllMeet}
+use Rattle.wt_beside_laws.specs.Nodes.{AreNodes, MayFollow, MeetAt, AllMeet}
 use Rattle.wt_beside_laws.proofs.ContentTiles.{Follows, guard_follows, letter_follows, node_follows}
-use Rattle.wt_beside_laws.proofs.NodesMeet.{follows, leads_by}
+use Rattle.wt_beside_laws.proofs.NodesMeet.{letter_behind, by_fits, letter_may, atom_may, guard_may, node_first, leads_by}
 use Rattle.wt_beside_laws.proofs.NodesStand.{node_stands}
 use Rattle.wt_beside_laws.proofs.TagTiles.{tag_stays}
 use Rattle.wt_beside_laws.proofs.TypedForms.{link_none, external_none, bare_none, all_none, tag_none, switch_none}
@@ -57,7 +59,7 @@ scheme_less gs more e =
     let none = scheme_by (begins_like (codes "http://") (gs ++ more)) (begins_like (codes "https://") (gs ++ more)) (begins_like (codes "ftp://") (gs ++ more)) e in
     rw (like_less (codes "http://") gs more none.0, like_less (codes "https://") gs more none.1, like_less (codes "ftp://") gs more none.2) refl
 
-tag_less : (gs more : List Glyph) → tag_at (gs ++ more) ≡ None → tag_at gs ≡ None
+pub tag_less : (gs more : List Glyph) → tag_at (gs ++ more) ≡ None → tag_at gs ≡ None
 tag_less gs more e = by (tag_at gs) refl
   where
     by : (o : Option Tag) → tag_at gs ≡ o → tag_at gs ≡ None
@@ -85,7 +87,7 @@ one_only : (v : Bool) → (v && false) ≡ false
 one_only true = refl
 one_only false = refl
 
-switch_less : (gs more : List Glyph) → switch_at (gs ++ more) ≡ None → switch_at gs ≡ None
+pub switch_less : (gs more : List Glyph) → switch_at (gs ++ more) ≡ None → switch_at gs ≡ None
 unfolding switch_at
 switch_less [] more e = refl
 switch_less (g ∷ []) more e = rw (one_only (is_in (λ (c : ℕ). c == 95) g)) refl
@@ -111,14 +113,14 @@ line_cut cx s before (thing t ∷ after) =
     guard_cut (is_guarded s before (thing t ∷ after)) (add_node (own_form cx (own_glyphs t)) (length (own_glyphs t)) (line_cut cx s (thing t ∷ before) after))
 
 -- the whole content goes on with more
-record Front (gs all : List Glyph) : Type 0 where
-  more : List Glyph
-  is : all ≡ gs ++ more
+pub record Front (gs all : List Glyph) : Type 0 where
+  pub more : List Glyph
+  pub is : all ≡ gs ++ more
 
 put_front : (us gs all : List Glyph) → Front gs all → Front (us ++ gs) (us ++ all)
 put_front us gs all f = record { more = f.more; is = ap (λ ys. us ++ ys) f.is ∙ sym (append_assoc us gs f.more) }
 
-line_front : (s : Setting) (before signs : List ContentSign) → Front (line_glyphs s before signs) (content_glyphs s before signs [])
+pub line_front : (s : Setting) (before signs : List ContentSign) → Front (line_glyphs s before signs) (content_glyphs s before signs [])
 line_front s before [] = record { more = []; is = refl }
 line_front s before (letter c ∷ after) =
     let own : List Glyph = letter_glyphs (is_escaped s.within s.place before c after) c in
@@ -154,17 +156,36 @@ line_none cx a s before c after e urls switches =
 
 -- ---- a node that stays
 
-less_follows : (r : Role) (gs more : List Glyph) → MayFollow r (gs ++ more) → MayFollow r gs
-less_follows r [] more m = tt
-less_follows r (g ∷ gs) more m = m
+end_may : (r : Role) (own : List Glyph) (u : Bool) → MayFollow r own (guard_glyphs u)
+end_may r own true = inl (atom_may r)
+end_may r own false = tt
+
+line_letter : (r : Role) (own : List Glyph) (v e : Bool) (d : ℕ) (more : List Glyph) → hazard (left_side r) (side.Text d) ≡ false
+    → MayFollow r own (if v then [] else letter_glyphs e d ++ more)
+line_letter r own true e d more h = tt
+line_letter r own false e d more h = by_fits r own (letter_glyphs e d ++ more) (letter_may r e d more h)
+
+-- what its line has behind it
+line_may : (s : Setting) (t : Thing) (before after : List ContentSign) → AllAvoid after → AllMeet s (thing t ∷ before) after []
+    → MayFollow t.role (own_glyphs t) (line_glyphs s (thing t ∷ before) after)
+line_may s t before [] h m = end_may t.role (own_glyphs t) (is_guarded s (thing t ∷ before) [])
+line_may s t before (letter d ∷ after) h m =
+    let e : Bool = is_escaped s.within s.place (thing t ∷ before) d after in
+    let more : List Glyph = line_glyphs s (letter d ∷ thing t ∷ before) after in
+    guard_may t.role (own_glyphs t) (is_guarded s (thing t ∷ before) (letter d ∷ after)) (if d == 10 then [] else letter_glyphs e d ++ more)
+    (λ z. line_letter t.role (own_glyphs t) (d == 10) e d more (letter_behind s t before d after z))
+line_may s t before (thing n ∷ after) h m =
+    let more : List Glyph = line_glyphs s (thing n ∷ thing t ∷ before) after in
+    guard_may t.role (own_glyphs t) (is_guarded s (thing t ∷ before) (thing n ∷ after)) (own_glyphs n ++ more)
+    (λ z. node_first t.role (own_glyphs t) (own_glyphs n) more h.0 (subst (λ u. MeetAt u (thing t ∷ before) (thing n ∷ after) []) z m.0).0)
 
 -- ---- the line
 
-end_follows : (cx : Context) (word u : Bool) → Follows cx word (guard_glyphs u) (guard_cut u (0, []))
+pub end_follows : (cx : Context) (word u : Bool) → Follows cx word (guard_glyphs u) (guard_cut u (0, []))
 end_follows cx word true a h = refl
 end_follows cx word false a h = refl
 
-letter_by : (cx : Context) (word e : Bool) (t : Bool) (d : ℕ) (more : List Glyph) (c : Cut) → Follows cx word (letter_glyphs e d ++ more) (letter_cut e d c)
+pub letter_by : (cx : Context) (word e : Bool) (t : Bool) (d : ℕ) (more : List Glyph) (c : Cut) → Follows cx word (letter_glyphs e d ++ more) (letter_cut e d c)
     → Follows cx word (if t then [] else letter_glyphs e d ++ more) (if t then (0, []) else letter_cut e d c)
 letter_by cx word e true d more c f a h = refl
 letter_by cx word e false d more c f a h = f a h
@@ -185,10 +206,8 @@ line_follows s before (thing t ∷ after) n urls switches m =
     let u = is_guarded s before (thing t ∷ after) in
     let own : List Glyph = own_glyphs t in
     let more : List Glyph = line_glyphs s (thing t ∷ before) after in
-    let front = line_front s (thing t ∷ before) after in
     let word = not u && is_word_last before in
-    let may : MayFollow t.role more = less_follows t.role more front.more (subst (MayFollow t.role) front.is (follows s t before after [] urls.1 m.1)) in
     guard_follows in_line (is_word_last before) u (own ++ more) (add_node (own_form in_line own) (length own) (line_cut in_line s (thing t ∷ before) after))
     (node_follows in_line word (own_form in_line own) own more (line_cut in_line s (thing t ∷ before) after)
-    (node_stands t.role word own more n.0 may (leads_by s t before after [] u refl m.0))
+    (node_stands t.role word own more n.0 (line_may s t before after urls.1 m.1) (leads_by s t before after [] u refl m.0))
     (line_follows s (thing t ∷ before) after n.1 urls.1 switches.1 m.1))

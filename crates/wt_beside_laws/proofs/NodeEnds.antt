@@ -9,7 +9,6 @@ use Rattle.wt_span.specs.Items.{Item, char, whole, is_mark_form, sign}
 use Rattle.wt_guards.specs.declared.role.Role.{Role}
 use Rattle.wt_guards.specs.declared.role.Role.TheVariants.{Link, External, Bare, Switch, Toggle, Mark, Group, Function, Node}
 use Rattle.wt_guards.specs.Content.{Thing, ContentSign, letter, thing}
-use Rattle.wt_expand.specs.PageItems.{page_items}
 use Rattle.wt_tiles.specs.declared.glyph.Glyph.{Glyph}
 use Rattle.wt_tiles.specs.declared.glyph.Glyph.TheVariants as glyph
 use Rattle.wt_tiles.specs.declared.glyph.GlyphClass.TheVariants as class
@@ -37,6 +36,7 @@ use Rattle.wt_beside_laws.proofs.NodesStand.{EachIs, all_by}
 use Rattle.wt_beside_laws.proofs.PairTiles.{HasTag, partner_tag, same_list}
 use Rattle.wt_beside_laws.proofs.TagFronts.{byte_is}
 use Rattle.wt_beside_laws.proofs.UrlFronts.{some_shape}
+use Rattle.wt_beside_laws.specs.NodeItems.{node_items}
 
 -- ---- the last of some items
 
@@ -297,13 +297,16 @@ other_fails p own f n = elim n [
   ]
 ]
 
+mark_fails : (p : ℕ → Bool) (own : List Glyph) → own ≡ glyph.Mark ∷ [] → LastFails p own
+mark_fails p own i = subst (LastFails p) (sym i) refl
+
 node_fails : (p : ℕ → Bool) (r : Role) (own : List Glyph) → FailsAtEnds p → (IsBareNode own → LastFails p own) → IsNode r own → LastFails p own
 node_fails p Link own f k n = link_fails p own f n
 node_fails p External own f k n = external_fails p own f n
 node_fails p (Bare ends) own f k n = k n
 node_fails p Switch own f k n = switch_fails p own f n
 node_fails p Toggle own f k n = delimiter_fails p own f n
-node_fails p (Mark ends began) own f k n = absurd n
+node_fails p (Mark ends began) own f k n = mark_fails p own n
 node_fails p (Group g) own f k n = absurd n
 node_fails p Function own f k n = lexeme_fails p own n
 node_fails p Node own f k n = other_fails p own f n
@@ -329,7 +332,7 @@ last_sign p (x ∷ y ∷ xs) a c h = last_sign p (y ∷ xs) a c h
 abbrev pub EndInSigns : List ContentSign → Type 0
 EndInSigns [] = Unit {0}
 EndInSigns (letter c ∷ after) = EndInSigns after
-EndInSigns (thing t ∷ after) = EndsWithout is_blank (map sign (page_items t.source)) × EndInSigns after
+EndInSigns (thing t ∷ after) = EndsWithout is_blank (map sign (node_items t.source)) × EndInSigns after
 
 no_blank : FailsAtEnds is_blank
 no_blank = record { bracket = refl; greater = refl; underscore = refl; apostrophe = refl; small = small_by }
@@ -341,7 +344,7 @@ pub nodes_end : (signs : List ContentSign) → AreNodes signs → EndInSigns sig
 nodes_end [] n = tt
 nodes_end (letter c ∷ after) n = nodes_end after n
 nodes_end (thing t ∷ after) n = (
-  last_sign is_blank (page_items t.source) refl refl (node_fails is_blank t.role (own_glyphs t) no_blank (bare_fails (own_glyphs t)) n.0),
+  last_sign is_blank (node_items t.source) refl refl (node_fails is_blank t.role (own_glyphs t) no_blank (bare_fails (own_glyphs t)) n.0),
   nodes_end after n.1,
 )
 
@@ -359,11 +362,11 @@ unequal_by Link items n e = last_sign is_equals_sign items refl refl (link_fails
 unequal_by External items n e = last_sign is_equals_sign items refl refl (external_fails is_equals_sign (map glyph_of items) no_equals n)
 unequal_by Switch items n e = last_sign is_equals_sign items refl refl (switch_fails is_equals_sign (map glyph_of items) no_equals n)
 unequal_by Toggle items n e = last_sign is_equals_sign items refl refl (delimiter_fails is_equals_sign (map glyph_of items) no_equals n)
-unequal_by (Mark ends began) items n e = absurd n
+unequal_by (Mark ends began) items n e = last_sign is_equals_sign items refl refl (mark_fails is_equals_sign (map glyph_of items) n)
 unequal_by (Group g) items n e = absurd n
 unequal_by Function items n e = last_sign is_equals_sign items refl refl (lexeme_fails is_equals_sign (map glyph_of items) n)
 unequal_by Node items n e = last_sign is_equals_sign items refl refl (other_fails is_equals_sign (map glyph_of items) no_equals n)
 
-pub ends_unequal : (t : Thing) → IsNode t.role (own_glyphs t) → EndsUnequal t.role (map sign (page_items t.source))
-    → EndsWithout is_equals_sign (map sign (page_items t.source))
-ends_unequal t n e = unequal_by t.role (page_items t.source) n e
+pub ends_unequal : (t : Thing) → IsNode t.role (own_glyphs t) → EndsUnequal t.role (map sign (node_items t.source))
+    → EndsWithout is_equals_sign (map sign (node_items t.source))
+ends_unequal t n e = unequal_by t.role (node_items t.source) n e

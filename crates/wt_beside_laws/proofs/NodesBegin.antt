@@ -1,27 +1,22 @@
 -- What nodes that stay begin with; and the tiles of a content with such nodes.
-use Rattle.std.proofs.Common.{arith, ◌≡◌, ℕ, ◌==◌, Bool, true, false, Some, None, List, [], ◌∷◌, map, refl, sym, ap, ◌∙◌, subst, append-nil, inl, inr, ◌⊎◌}
+use Rattle.std.proofs.Common.{arith, ◌≡◌, ℕ, ◌==◌, Bool, true, false, Some, None, List, [], ◌∷◌, refl, sym, ◌∙◌, subst, inl, inr, ◌⊎◌}
 use Rattle.std.specs.Prelude.{◌||◌}
 use Rattle.std.specs.Char.{to_ascii_lowercase}
 use Rattle.std.proofs.lemmas.Bool.Decides.{nat_tests}
 use Rattle.wt_guards.specs.declared.role.Role.{Role}
 use Rattle.wt_guards.specs.declared.role.Role.TheVariants.{Link, External, Bare, Switch, Toggle, Mark, Group, Function, Node}
 use Rattle.wt_guards.specs.Content.{ContentSign, letter, thing}
-use Rattle.wt_guards.specs.Guards.{Setting, spelled}
-use Rattle.wt_expand.specs.PageItems.{page_items}
+use Rattle.wt_guards.specs.Guards.{Setting}
 use Rattle.wt_tiles.specs.declared.glyph.Glyph.{Glyph}
 use Rattle.wt_tiles.specs.declared.glyph.Glyph.TheVariants as glyph
 use Rattle.wt_tiles.specs.declared.shape.Shape.{Shape}
 use Rattle.wt_tiles.specs.Contexts.{in_line}
-use Rattle.wt_tiles.specs.Glyphs.{glyph_of}
 use Rattle.wt_tiles.specs.Tiles.{cuts}
 use Rattle.wt_tiles.specs.Urls.{scheme_len, bare_url_at}
 use Rattle.wt_beside_laws.specs.Beginnings.{AvoidsSwitches, AllAvoidSwitches, IsApart}
-use Rattle.wt_beside_laws.specs.Content.{AreKept, content_items}
 use Rattle.wt_beside_laws.specs.Cuts.{content_cut, own_glyphs, IsFree}
 use Rattle.wt_beside_laws.specs.Glyphs.{content_glyphs, is_url_start, AvoidsUrls, AllAvoid}
 use Rattle.wt_beside_laws.specs.Nodes.{IsDelimiter, IsOneLexeme, IsTagNode, IsCategoryNode, IsMediaNode, IsNode, AreNodes, AllMeet}
-use Rattle.wt_beside_laws.proofs.ContentGlyphs.{glyphs_are}
-use Rattle.wt_beside_laws.proofs.Contents.{content_alone}
 use Rattle.wt_beside_laws.proofs.ContentTiles.{content_tiles}
 use Rattle.wt_beside_laws.proofs.NodesMeet.{nodes_stand}
 use Rattle.wt_beside_laws.proofs.TypedForms.{bare_none}
@@ -62,7 +57,7 @@ url_no_underscore b gs w is = by (b == 95) refl
 
 -- ---- each kind of node
 
-other_avoids : (b : ℕ) (gs : List Glyph) → (b == 95) ≡ false → AvoidsSwitches (glyph.Byte b ∷ gs)
+pub other_avoids : (b : ℕ) (gs : List Glyph) → (b == 95) ≡ false → AvoidsSwitches (glyph.Byte b ∷ gs)
 other_avoids b [] e = rw e refl
 other_avoids b (g ∷ gs) e = rw e refl
 
@@ -120,7 +115,7 @@ node_urls External own n = subst AvoidsUrls (sym n.is) refl
 node_urls (Bare ends) own n = subst AvoidsUrls (sym n.is) (url_first n.first n.others n.shape n.url)
 node_urls Switch own n = subst AvoidsUrls (sym n.is) refl
 node_urls Toggle own n = delimiter_urls own n
-node_urls (Mark ends began) own n = absurd n
+node_urls (Mark ends began) own n = subst AvoidsUrls (sym n) refl
 node_urls (Group g) own n = absurd n
 node_urls Function own n = lexeme_urls own n
 node_urls Node own n = other_urls own n
@@ -131,7 +126,7 @@ node_switches External own n = subst AvoidsSwitches (sym n.is) (other_avoids 91 
 node_switches (Bare ends) own n = subst AvoidsSwitches (sym n.is) (other_avoids n.first n.others (url_no_underscore n.first n.others n.shape n.url))
 node_switches Switch own n = subst AvoidsSwitches (sym n.is) refl
 node_switches Toggle own n = delimiter_switches own n
-node_switches (Mark ends began) own n = absurd n
+node_switches (Mark ends began) own n = subst AvoidsSwitches (sym n) refl
 node_switches (Group g) own n = absurd n
 node_switches Function own n = lexeme_switches own n
 node_switches Node own n = other_switches own n
@@ -152,10 +147,3 @@ pub tiles_before : (s : Setting) (signs : List ContentSign) (rest : List Glyph) 
     → cuts in_line false 0 (content_glyphs s [] signs rest) ≡ content_cut in_line s [] signs (cuts in_line false 0 rest)
 tiles_before s signs rest n m apart free =
     content_tiles in_line s signs rest (all_urls signs n) (all_switches signs n) apart free (nodes_stand s [] signs rest n (all_urls signs n) m)
-
-pub tiles_alone : (s : Setting) (signs : List ContentSign) → AreKept signs → AreNodes signs → AllMeet s [] signs []
-    → cuts in_line false 0 (map glyph_of (page_items (spelled s signs))) ≡ content_cut in_line s [] signs (0, [])
-tiles_alone s signs k n m =
-    ap (λ xs. cuts in_line false 0 (map glyph_of xs)) (content_alone s signs k ∙ sym (append-nil (content_items s [] signs)))
-    ∙ ap (λ gs. cuts in_line false 0 gs) (glyphs_are s [] signs [])
-    ∙ tiles_before s signs [] n m (record { urls = tt; switches = refl }) (λ a. refl)

@@ -1,6 +1,6 @@
 -- Where nothing is put between two signs, neither is what would join the other.
-use Rattle.std.proofs.Common.{arith, ◌≡◌, ℕ, ◌<◌, ◌≤◌, Bool, true, false, List, [], ◌∷◌, ◌++◌, refl, sym, subst}
-use Rattle.std.specs.Prelude.{◌&&◌, not}
+use Rattle.std.proofs.Common.{arith, ◌≡◌, ℕ, ◌<◌, ◌≤◌, Bool, true, false, List, [], ◌∷◌, ◌++◌, refl, sym, subst, inl, inr, ◌==◌}
+use Rattle.std.specs.Prelude.{◌&&◌, not, codes}
 use Rattle.std.proofs.lemmas.Bool.Decides.{nat_tests}
 use Rattle.std.proofs.lemmas.Str.{encode_ascii}
 use Rattle.wt_span.specs.Bytes.{is_white}
@@ -16,7 +16,7 @@ use Rattle.wt_tiles.specs.declared.glyph.Glyph.{Glyph}
 use Rattle.wt_tiles.specs.declared.glyph.Glyph.TheVariants as glyph
 use Rattle.wt_tiles.specs.declared.glyph.GlyphClass.TheVariants as class
 use Rattle.wt_tiles.specs.Contexts.{in_line}
-use Rattle.wt_tiles.specs.Glyphs.{in_class, byte_glyphs}
+use Rattle.wt_tiles.specs.Glyphs.{is_in, in_class, begins, byte_glyphs}
 use Rattle.wt_tiles.specs.Urls.{is_url_char, is_word}
 use Rattle.wt_beside_laws.specs.Cuts.{own_glyphs, is_word_last, AllStand}
 use Rattle.wt_beside_laws.specs.Glyphs.{guard_glyphs, letter_glyphs, content_glyphs, AvoidsUrls, AllAvoid}
@@ -26,7 +26,7 @@ use Rattle.wt_beside_laws.proofs.TypedForms.{letter_fits, FirstFits}
 
 -- ---- a node and a letter
 
-letter_behind : (s : Setting) (t : Thing) (before : List ContentSign) (d : ℕ) (after : List ContentSign)
+pub letter_behind : (s : Setting) (t : Thing) (before : List ContentSign) (d : ℕ) (after : List ContentSign)
     → is_guarded s (thing t ∷ before) (letter d ∷ after) ≡ false → hazard (left_side t.role) (side.Text d) ≡ false
 unfolding is_guarded is_between_guard
 letter_behind s t before d after e = (or_parts (hazard (left_side t.role) (side.Text d)) _ e).0
@@ -37,9 +37,9 @@ unfolding is_guarded is_between_guard
 letter_before s t before d after e = (or_parts (hazard (side.Text d) (side_of t.role)) _ e).0
 
 -- what is first, as it may be behind a node
-by_fits : (r : Role) (gs : List Glyph) → FirstFits (MayBeBehind r) gs → MayFollow r gs
-by_fits r [] h = tt
-by_fits r (g ∷ gs) h = h
+pub by_fits : (r : Role) (own gs : List Glyph) → FirstFits (MayBeBehind r) gs → MayFollow r own gs
+by_fits r own [] h = tt
+by_fits r own (g ∷ gs) h = inl h
 
 no_trail : (d : ℕ) → is_trail d ≡ false → in_class class.Trail (glyph.Byte d) ≡ false
 no_trail d e = e
@@ -72,7 +72,7 @@ bare_letter : (ends t : Bool) (d : ℕ) (more : List Glyph) → hazard (left_sid
 unfolding hazard
 bare_letter ends t d more e = url_letter ends t d more (not_false (is_white d) e)
 
-letter_may : (r : Role) (t : Bool) (d : ℕ) (more : List Glyph) → hazard (left_side r) (side.Text d) ≡ false → FirstFits (MayBeBehind r) (letter_glyphs t d ++ more)
+pub letter_may : (r : Role) (t : Bool) (d : ℕ) (more : List Glyph) → hazard (left_side r) (side.Text d) ≡ false → FirstFits (MayBeBehind r) (letter_glyphs t d ++ more)
 letter_may Link t d more e = link_letter t d more e
 letter_may External t d more e = letter_fits (MayBeBehind External) t d more tt (λ z. tt) (λ b le. tt)
 letter_may (Bare ends) t d more e = bare_letter ends t d more e
@@ -119,29 +119,42 @@ none_before (Group g) = tt
 none_before Function = tt
 none_before Node = tt
 
-guard_may : (r : Role) (u : Bool) (more : List Glyph) → (u ≡ false → MayFollow r more) → MayFollow r (guard_glyphs u ++ more)
-guard_may r true more f = atom_may r
-guard_may r false more f = f refl
+pub guard_may : (r : Role) (own : List Glyph) (u : Bool) (more : List Glyph) → (u ≡ false → MayFollow r own more) → MayFollow r own (guard_glyphs u ++ more)
+guard_may r own true more f = inl (atom_may r)
+guard_may r own false more f = f refl
 
-node_first : (r : Role) (own more : List Glyph) → AvoidsUrls own → MayFollow r own → MayFollow r (own ++ more)
-node_first r [] more h f = absurd h
-node_first r (g ∷ gs) more h f = f
+both_more : (v u w : Bool) → (v && u) ≡ true → (u ≡ true → w ≡ true) → (v && w) ≡ true
+both_more true u w e f = f e
+both_more false u w e f = cc
+
+pub begins_more : (word : List ℕ) (gs more : List Glyph) → begins word gs ≡ true → begins word (gs ++ more) ≡ true
+begins_more [] gs more e = e
+begins_more (b ∷ word) [] more e = cc
+begins_more (b ∷ word) (g ∷ gs) more e =
+    both_more (is_in (λ (c : ℕ). c == b) g) (begins word gs) (begins word (gs ++ more)) e (begins_more word gs more)
+
+pub node_first : (r : Role) (own other more : List Glyph) → AvoidsUrls other → MayFollow r own other → MayFollow r own (other ++ more)
+node_first r own [] more h f = absurd h
+node_first r own (g ∷ gs) more h f = elim f [
+  | inl e ↦ inl e
+  | inr q ↦ inr (record { unquoted = q.unquoted; quotes = begins_more (codes "''") (g ∷ gs) more q.quotes })
+]
 
 -- ---- all of them
 
 pub follows : (s : Setting) (t : Thing) (before after : List ContentSign) (rest : List Glyph) → AllAvoid after → AllMeet s (thing t ∷ before) after rest
-    → MayFollow t.role (content_glyphs s (thing t ∷ before) after rest)
+    → MayFollow t.role (own_glyphs t) (content_glyphs s (thing t ∷ before) after rest)
 follows s t before [] rest h m =
-    guard_may t.role (is_guarded s (thing t ∷ before) []) rest (λ e. subst (λ u. MeetAt u (thing t ∷ before) [] rest) e m)
+    guard_may t.role (own_glyphs t) (is_guarded s (thing t ∷ before) []) rest (λ e. subst (λ u. MeetAt u (thing t ∷ before) [] rest) e m)
 follows s t before (letter d ∷ after) rest h m =
     let e = is_escaped s.within s.place (thing t ∷ before) d after in
     let own : List Glyph = letter_glyphs e d ++ content_glyphs s (letter d ∷ thing t ∷ before) after rest in
-    guard_may t.role (is_guarded s (thing t ∷ before) (letter d ∷ after)) own
-    (λ z. by_fits t.role own (letter_may t.role e d (content_glyphs s (letter d ∷ thing t ∷ before) after rest) (letter_behind s t before d after z)))
+    guard_may t.role (own_glyphs t) (is_guarded s (thing t ∷ before) (letter d ∷ after)) own
+    (λ z. by_fits t.role (own_glyphs t) own (letter_may t.role e d (content_glyphs s (letter d ∷ thing t ∷ before) after rest) (letter_behind s t before d after z)))
 follows s t before (thing n ∷ after) rest h m =
     let more : List Glyph = content_glyphs s (thing n ∷ thing t ∷ before) after rest in
-    guard_may t.role (is_guarded s (thing t ∷ before) (thing n ∷ after)) (own_glyphs n ++ more)
-    (λ z. node_first t.role (own_glyphs n) more h.0 (subst (λ u. MeetAt u (thing t ∷ before) (thing n ∷ after) rest) z m.0).0)
+    guard_may t.role (own_glyphs t) (is_guarded s (thing t ∷ before) (thing n ∷ after)) (own_glyphs n ++ more)
+    (λ z. node_first t.role (own_glyphs t) (own_glyphs n) more h.0 (subst (λ u. MeetAt u (thing t ∷ before) (thing n ∷ after) rest) z m.0).0)
 
 pub leads_by : (s : Setting) (t : Thing) (before after : List ContentSign) (rest : List Glyph) (u : Bool) → is_guarded s before (thing t ∷ after) ≡ u
     → MeetAt u before (thing t ∷ after) rest → MayLead t.role (not u && is_word_last before)

@@ -1,5 +1,7 @@
 -- Nodes that stay are the same tiles beside text that is typed and beside each other.
 use Rattle.std.proofs.Common.{arith, ◌≡◌, ℕ, suc, ◌+◌, ◌-◌, ◌≤◌, ◌==◌, Bool, true, false, Option, Some, None, List, [], ◌∷◌, ◌++◌, length, drop, refl, sym, ap, ap₂, ◌∙◌, subst, inl, inr, ◌⊎◌, All}
+use Rattle.std.specs.Prelude.{◌&&◌, codes}
+use Rattle.std.proofs.lemmas.Bool.Decides.{nat_tests}
 use Rattle.std.proofs.lemmas.List.{drop-append-le, length-append, length-drop}
 use Rattle.std.proofs.lemmas.List.Elements.{All-nil, All-cons, All-contains}
 use Rattle.wt_span.specs.declared.tag_name.TagName.{TagName}
@@ -16,7 +18,7 @@ use Rattle.wt_tiles.specs.declared.tag.TagShape.{TagShape}
 use Rattle.wt_tiles.specs.declared.tag.TagShape.TheVariants.{Opening, Alone, Closing}
 use Rattle.wt_tiles.specs.declared.tag.Tag.{Tag}
 use Rattle.wt_tiles.specs.Contexts.{in_line}
-use Rattle.wt_tiles.specs.Glyphs.{first_is, byte_glyphs}
+use Rattle.wt_tiles.specs.Glyphs.{first_is, begins, byte_glyphs}
 use Rattle.wt_tiles.specs.Links.{leaf, link_at}
 use Rattle.wt_tiles.specs.Tags.{opening_tag, closing_tag, tag_at}
 use Rattle.wt_tiles.specs.Partners.{number, partner}
@@ -24,12 +26,11 @@ use Rattle.wt_tiles.specs.Tiles.{size, len_of, pair_or_island, shape_of_tag, lin
 use Rattle.wt_tiles.specs.Urls.{scheme_len, ext_link_at, bare_url_at}
 use Rattle.wt_beside_laws.specs.Cuts.{own_form, form_before, StandsAs, Stands}
 use Rattle.wt_beside_laws.specs.Nodes.{IsLinkNode, IsExternalNode, IsBareNode, IsSwitchNode, IsDelimiter, IsOneLexeme, IsNode, MayFollow, MayLead, IsLone, IsPair, IsTagNode, IsCategoryNode, IsMediaNode}
-use Rattle.wt_beside_laws.specs.Tiles.{IsPastUrl}
 use Rattle.wt_beside_laws.proofs.LinkTiles.{link_stays, category_stays}
 use Rattle.wt_beside_laws.proofs.MediaTiles.{media_stays}
 use Rattle.wt_beside_laws.proofs.PairTiles.{closing_stays, partner_short, partner_stays, partner_tag}
 use Rattle.wt_beside_laws.proofs.TagTiles.{tag_stays}
-use Rattle.wt_beside_laws.proofs.UrlTiles.{ext_stays, bare_stays}
+use Rattle.wt_beside_laws.proofs.UrlTiles.{ext_stays, bare_stays, bare_unquoted}
 use Rattle.wt_tiles.proofs.TagInsides.{no_form}
 
 -- ---- the form that is first of several
@@ -63,13 +64,27 @@ record Holds (word : Bool) (own behind : List Glyph) : Type 0 where
 holding : (word : Bool) (own behind : List Glyph) → Holds word own behind → Stands in_line word own behind
 holding word own behind h = subst (λ o. StandsAs o in_line word own behind) (sym h.alone) (h.whole, h.before)
 
-past_trail : (gs : List Glyph) → MayFollow Link gs → first_is class.Trail gs ≡ false
-past_trail [] h = refl
-past_trail (g ∷ gs) h = h
+-- an apostrophe is no letter
+quote_no_trail : (g : Glyph) (gs : List Glyph) → begins (codes "''") (g ∷ gs) ≡ true → first_is class.Trail (g ∷ gs) ≡ false
+quote_no_trail (glyph.Byte b) gs q = by (b == 39) refl q
+  where
+    by : (v : Bool) → (b == 39) ≡ v → (v && begins (codes "'") gs) ≡ true → first_is class.Trail (glyph.Byte b ∷ gs) ≡ false
+    by true e z = let is : b ≡ 39 = grind (arith, nat_tests, e) in subst (λ (c : ℕ). first_is class.Trail (glyph.Byte c ∷ gs) ≡ false) (sym is) refl
+    by false e z = cc
+quote_no_trail (glyph.Entity c) gs q = cc
+quote_no_trail glyph.Atom gs q = cc
+quote_no_trail glyph.Mark gs q = cc
 
-past_url : (ends : Bool) (gs : List Glyph) → MayFollow (Bare ends) gs → IsPastUrl gs
-past_url ends [] h = tt
-past_url ends (g ∷ gs) h = h
+past_trail : (own gs : List Glyph) → MayFollow Link own gs → first_is class.Trail gs ≡ false
+past_trail own [] h = refl
+past_trail own (g ∷ gs) h = elim h [ inl e ↦ e | inr q ↦ quote_no_trail g gs q.quotes ]
+
+bare_before : (ends : Bool) (own gs : List Glyph) (w : Shape) → MayFollow (Bare ends) own gs → bare_url_at false own ≡ Some w → bare_url_at false (own ++ gs) ≡ Some w
+bare_before ends own [] w f e = bare_stays own [] w tt e
+bare_before ends own (g ∷ gs) w f e = elim f [
+  | inl p ↦ bare_stays own (g ∷ gs) w p e
+  | inr q ↦ bare_unquoted own (g ∷ gs) w q.unquoted q.quotes e
+]
 
 two_fit : (w : Shape) (own inside : List Glyph) → own ≡ glyph.Byte 91 ∷ glyph.Byte 91 ∷ inside → size w ≡ length own → size w ≤ 2 + length inside
 two_fit w own inside i e = let l : length own ≡ length (glyph.Byte 91 ∷ glyph.Byte 91 ∷ inside) = ap length i in omega (arith, l, e)
@@ -77,7 +92,7 @@ two_fit w own inside i e = let l : length own ≡ length (glyph.Byte 91 ∷ glyp
 one_fits : (w : Shape) (own inside : List Glyph) → own ≡ glyph.Byte 91 ∷ inside → size w ≡ length own → size w ≤ 1 + length inside
 one_fits w own inside i e = let l : length own ≡ length (glyph.Byte 91 ∷ inside) = ap length i in omega (arith, l, e)
 
-link_stands : (word : Bool) (own behind : List Glyph) → IsLinkNode own → MayFollow Link behind → Holds word own behind
+link_stands : (word : Bool) (own behind : List Glyph) → IsLinkNode own → MayFollow Link own behind → Holds word own behind
 link_stands word own behind n f =
     let two : List Glyph = glyph.Byte 91 ∷ glyph.Byte 91 ∷ n.inside in
     subst (λ gs. Holds word gs behind) (sym n.is)
@@ -87,7 +102,7 @@ link_stands word own behind n f =
       whole = n.whole ∙ ap length n.is;
       before = λ a h.
           as_link a (two ++ behind) n.shape
-          (link_stays (glyph.Byte 91) (glyph.Byte 91) n.inside behind n.shape n.plain (past_trail behind f) (two_fit n.shape own n.inside n.is n.whole) n.link);
+          (link_stays (glyph.Byte 91) (glyph.Byte 91) n.inside behind n.shape n.plain (past_trail own behind f) (two_fit n.shape own n.inside n.is n.whole) n.link);
     })
 
 -- a single `[` is no link to a page
@@ -130,7 +145,7 @@ bare_by : (a word : Bool) (gs : List Glyph) (w : Shape) → word ≡ false → (
 bare_by true word gs w e h is = let no : false ≡ true = sym e ∙ h refl in cc
 bare_by false word gs w e h is = is
 
-bare_stands : (ends word : Bool) (own behind : List Glyph) → IsBareNode own → MayFollow (Bare ends) behind → word ≡ false → Holds word own behind
+bare_stands : (ends word : Bool) (own behind : List Glyph) → IsBareNode own → MayFollow (Bare ends) own behind → word ≡ false → Holds word own behind
 bare_stands ends word own behind n f e =
     let us : List Glyph = glyph.Byte n.first ∷ n.others in
     subst (λ gs. Holds word gs behind) (sym n.is)
@@ -140,7 +155,7 @@ bare_stands ends word own behind n f e =
       whole = n.whole ∙ ap length n.is;
       before = λ a h.
           as_bare a (us ++ behind) n.shape (no_link n.first (n.others ++ behind) n.unbracketed) (no_external n.first (n.others ++ behind) n.unbracketed)
-          (bare_by a word (us ++ behind) n.shape e h (bare_stays us behind n.shape (past_url ends behind f) n.url));
+          (bare_by a word (us ++ behind) n.shape e h (bare_before ends us behind n.shape (subst (λ (gs : List Glyph). MayFollow (Bare ends) gs behind) n.is f) n.url));
     })
 
 -- ---- switches
@@ -221,6 +236,12 @@ one_stands word own behind n = elim n [
   | inl i ↦ subst (λ gs. Holds word gs behind) (sym i) (record { shape = leaf kind.Atom 1; alone = refl; whole = refl; before = λ a h. refl })
   | inr i ↦ subst (λ gs. Holds word gs behind) (sym i.1) (record { shape = leaf kind.Atom 1; alone = refl; whole = refl; before = λ a h. refl })
 ]
+
+-- ---- marks
+
+mark_stands : (word : Bool) (own behind : List Glyph) → own ≡ glyph.Mark ∷ [] → Holds word own behind
+mark_stands word own behind i =
+    subst (λ gs. Holds word gs behind) (sym i) (record { shape = leaf kind.Mark 1; alone = refl; whole = refl; before = λ a h. refl })
 
 -- ---- tags
 
@@ -359,13 +380,13 @@ delimiter_stands word own behind n = elim n [
   | inr i ↦ subst (λ o. StandsAs o in_line word own behind) (sym (ap (own_form in_line) i ∙ apostrophe (glyph.Byte 39 ∷ glyph.Byte 39 ∷ []))) (inr i)
 ]
 
-pub node_stands : (r : Role) (word : Bool) (own behind : List Glyph) → IsNode r own → MayFollow r behind → MayLead r word → Stands in_line word own behind
+pub node_stands : (r : Role) (word : Bool) (own behind : List Glyph) → IsNode r own → MayFollow r own behind → MayLead r word → Stands in_line word own behind
 node_stands Link word own behind n f l = holding word own behind (link_stands word own behind n f)
 node_stands External word own behind n f l = holding word own behind (external_stands word own behind n)
 node_stands (Bare ends) word own behind n f l = holding word own behind (bare_stands ends word own behind n f l)
 node_stands Switch word own behind n f l = holding word own behind (switch_stands word own behind n)
 node_stands Toggle word own behind n f l = delimiter_stands word own behind n
-node_stands (Mark ends began) word own behind n f l = absurd n
+node_stands (Mark ends began) word own behind n f l = holding word own behind (mark_stands word own behind n)
 node_stands (Group g) word own behind n f l = absurd n
 node_stands Function word own behind n f l = holding word own behind (one_stands word own behind n)
 node_stands Node word own behind n f l = holding word own behind (other_stands word own behind n)

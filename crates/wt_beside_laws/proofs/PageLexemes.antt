@@ -16,6 +16,10 @@ use Rattle.wt_span.specs.Items.{Item, char, whole, items_by}
 use Rattle.wt_span.specs.Lexemes.{Word, words, sign_word, form_at}
 use Rattle.wt_lex.proofs.AllForms.{form_fits}
 use Rattle.wt_expand.specs.PageItems.{raw_form_by, items_of_word, items_of_words, page_items}
+use Rattle.wt_spelling_laws.proofs.Forms.{comment_other}
+use Rattle.wt_text_edit_laws.proofs.Prose.Uncommented.{uncommented_other}
+use Rattle.wt_beside_laws.specs.NodeItems.{node_items}
+use Rattle.wt_beside_laws.proofs.NodeItems.{behind_break, node_same}
 use Rattle.wt_text_edit_laws.proofs.Between.Fronts.{first_items, first_from, items_from, byte_from, form_from}
 
 -- ---- their forms
@@ -76,6 +80,9 @@ pub are_of_page : (bs : List ℕ) → AreOfPage (page_items bs)
 unfolding page_items
 are_of_page bs = words_page (words Page bs) bs
 
+pub node_of_page : (bs : List ℕ) → AreOfPage (node_items bs)
+node_of_page bs = subst AreOfPage (behind_break bs) (are_of_page (10 ∷ bs))
+
 -- ---- a brace is a character
 
 abbrev IsCharFirst : List Item → Type 0
@@ -106,12 +113,16 @@ brace_first : (bs : List ℕ) → IsCharFirst (page_items (123 ∷ bs))
 brace_first bs =
     subst IsCharFirst (sym (first_items (123 ∷ bs) ∙ sym (first_from false (123 ∷ bs)))) (brace_by bs (form_at Page false (123 ∷ bs)) refl (brace_form bs))
 
+brace_node : (bs : List ℕ) → IsCharFirst (node_items (123 ∷ bs))
+brace_node bs =
+    subst IsCharFirst (sym (node_same (123 ∷ bs) (uncommented_other 123 bs refl (comment_other 123 bs (omega arith))))) (brace_first bs)
+
 -- so what is one item begins with none
-pub no_brace : (b : ℕ) (bs : List ℕ) (f : ItemForm) (o : Option ℕ) (cs : List ℕ) → page_items (b ∷ bs) ≡ whole f o cs ∷ [] → (b == 123) ≡ false
+pub no_brace : (b : ℕ) (bs : List ℕ) (f : ItemForm) (o : Option ℕ) (cs : List ℕ) → node_items (b ∷ bs) ≡ whole f o cs ∷ [] → (b == 123) ≡ false
 no_brace b bs f o cs e = by (b == 123) refl
   where
     by : (v : Bool) → (b == 123) ≡ v → v ≡ false
     by true i =
         let is : 123 ≡ b = grind (arith, nat_tests, i) in
-        absurd (subst IsCharFirst e (subst (λ (k : ℕ). IsCharFirst (page_items (k ∷ bs))) is (brace_first bs)))
+        absurd (subst IsCharFirst e (subst (λ (k : ℕ). IsCharFirst (node_items (k ∷ bs))) is (brace_node bs)))
     by false i = refl

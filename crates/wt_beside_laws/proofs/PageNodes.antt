@@ -11,8 +11,8 @@ use Rattle.wt_guards.specs.Content.{ContentSign, Thing, letter, thing, side_of, 
 use Rattle.wt_guards.specs.Guards.{Setting, end_of, start_of, is_reached, has_brace_last, is_mark, is_always_parted, is_adjacent, left_side, is_parted, is_between_guard, is_guarded}
 use Rattle.wt_guards.specs.Table.{hazard}
 use Rattle.wt_spelling_laws.proofs.TextReads.{or_parts}
-use Rattle.wt_expand.specs.PageItems.{page_items}
-use Rattle.wt_text_edit_laws.proofs.Prose.InFront.{reads_nothing, read_items}
+use Rattle.wt_text_edit_laws.proofs.Between.Fronts.{reads_after}
+use Rattle.wt_text_edit_laws.proofs.Prose.InFront.{reads_nothing}
 use Rattle.wt_span.specs.Items.{Item}
 use Rattle.wt_tiles.specs.declared.glyph.Glyph.{Glyph}
 use Rattle.wt_tiles.specs.declared.glyph.Glyph.TheVariants as glyph
@@ -28,12 +28,18 @@ use Rattle.wt_beside_laws.specs.Stood.{is_url_end, EndsUrl, IsTileOf, IsRead, Ha
 use Rattle.wt_beside_laws.proofs.NodesBegin.{no_url}
 use Rattle.wt_beside_laws.proofs.NodesEnd.{external_last, lexeme_last, other_last}
 use Rattle.wt_beside_laws.proofs.Stood.{stood}
+use Rattle.wt_beside_laws.specs.NodeItems.{node_items}
+use Rattle.wt_beside_laws.proofs.NodeItems.{node_read}
 
 -- ---- the first item of a node
 
 -- it isn't what joins a link, unless it begins a URL
 abbrev NoTrail : List Glyph → Type 0
-NoTrail own = MayFollow Link own
+NoTrail own = first_is class.Trail own ≡ false
+
+trail_follows : (own other : List Glyph) → NoTrail other → MayFollow Link own other
+trail_follows own [] h = tt
+trail_follows own (g ∷ gs) h = inl h
 
 lexeme_trail : (own : List Glyph) → IsOneLexeme own → NoTrail own
 lexeme_trail own n = elim n [
@@ -67,37 +73,37 @@ link_follows External own n e = subst NoTrail (sym n.is) refl
 link_follows (Bare ends) own n e = cc
 link_follows Switch own n e = subst NoTrail (sym n.is) refl
 link_follows Toggle own n e = delimiter_trail own n
-link_follows (Mark ends began) own n e = absurd n
+link_follows (Mark ends began) own n e = subst NoTrail (sym n) refl
 link_follows (Group g) own n e = absurd n
 link_follows Function own n e = lexeme_trail own n
 link_follows Node own n e = other_trail own n
 
-bare_never : (ends : Bool) (r : Role) (own : List Glyph) → IsNode r own → hazard (left_side (Bare ends)) (side_of r) ≡ false → MayFollow (Bare ends) own
+bare_never : (ends : Bool) (r : Role) (own other : List Glyph) → IsNode r other → hazard (left_side (Bare ends)) (side_of r) ≡ false → MayFollow (Bare ends) own other
 unfolding hazard
-bare_never ends Link own n e = cc
-bare_never ends External own n e = cc
-bare_never ends (Bare last) own n e = cc
-bare_never ends Switch own n e = cc
-bare_never ends Toggle own n e = cc
-bare_never ends (Mark last began) own n e = absurd n
-bare_never ends (Group g) own n e = absurd n
-bare_never ends Function own n e = cc
-bare_never ends Node own n e = cc
+bare_never ends Link own other n e = cc
+bare_never ends External own other n e = cc
+bare_never ends (Bare last) own other n e = cc
+bare_never ends Switch own other n e = cc
+bare_never ends Toggle own other n e = cc
+bare_never ends (Mark last began) own other n e = cc
+bare_never ends (Group g) own other n e = absurd n
+bare_never ends Function own other n e = cc
+bare_never ends Node own other n e = cc
 
-pub follows_none : (own : List Glyph) (r : Role) → ((g : Glyph) → MayBeBehind r g) → MayFollow r own
-follows_none [] r f = tt
-follows_none (g ∷ gs) r f = f g
+pub follows_none : (own other : List Glyph) (r : Role) → ((g : Glyph) → MayBeBehind r g) → MayFollow r own other
+follows_none own [] r f = tt
+follows_none own (g ∷ gs) r f = inl (f g)
 
-table_follows : (r s : Role) (own other : List Glyph) → IsNode r own → IsNode s other → hazard (left_side r) (side_of s) ≡ false → MayFollow r other
-table_follows Link s own other n m e = link_follows s other m e
-table_follows External s own other n m e = follows_none other External (λ g. tt)
-table_follows (Bare ends) s own other n m e = bare_never ends s other m e
-table_follows Switch s own other n m e = follows_none other Switch (λ g. tt)
-table_follows Toggle s own other n m e = follows_none other Toggle (λ g. tt)
-table_follows (Mark ends began) s own other n m e = absurd n
+table_follows : (r s : Role) (own other : List Glyph) → IsNode r own → IsNode s other → hazard (left_side r) (side_of s) ≡ false → MayFollow r own other
+table_follows Link s own other n m e = trail_follows own other (link_follows s other m e)
+table_follows External s own other n m e = follows_none own other External (λ g. tt)
+table_follows (Bare ends) s own other n m e = bare_never ends s own other m e
+table_follows Switch s own other n m e = follows_none own other Switch (λ g. tt)
+table_follows Toggle s own other n m e = follows_none own other Toggle (λ g. tt)
+table_follows (Mark ends began) s own other n m e = follows_none own other (Mark ends began) (λ g. tt)
 table_follows (Group g) s own other n m e = absurd n
-table_follows Function s own other n m e = follows_none other Function (λ g. tt)
-table_follows Node s own other n m e = follows_none other Node (λ g. tt)
+table_follows Function s own other n m e = follows_none own other Function (λ g. tt)
+table_follows Node s own other n m e = follows_none own other Node (λ g. tt)
 
 -- before a bare URL, where the table has none between
 bare_led : (r : Role) (ends : Bool) (own : List Glyph) → IsNode r own → hazard (left_side r) (side_of (Bare ends)) ≡ false → ends_word false own ≡ false
@@ -107,7 +113,7 @@ bare_led External ends own n e = external_last false own n
 bare_led (Bare last) ends own n e = cc
 bare_led Switch ends own n e = cc
 bare_led Toggle ends own n e = cc
-bare_led (Mark last began) ends own n e = absurd n
+bare_led (Mark last began) ends own n e = ap (ends_word false) n
 bare_led (Group g) ends own n e = absurd n
 bare_led Function ends own n e = lexeme_last false own n
 bare_led Node ends own n e = other_last false own n
@@ -126,22 +132,38 @@ table_leads r Node own n e = tt
 -- ---- two nodes side by side
 
 abbrev pub Meet : Thing → Thing → Type 0
-Meet t n = MayFollow t.role (own_glyphs n) × MayLead n.role (ends_word false (own_glyphs t))
+Meet t n = MayFollow t.role (own_glyphs t) (own_glyphs n) × MayLead n.role (ends_word false (own_glyphs t))
 
 -- if they are so in the page
 abbrev pub MeetInPage : Thing → Thing → Type 0
 MeetInPage t n = is_adjacent t n ≡ true → Meet t n
 
-no_mark : (r : Role) (own : List Glyph) → IsNode r own → is_mark r ≡ false
-no_mark Link own n = refl
-no_mark External own n = refl
-no_mark (Bare ends) own n = refl
-no_mark Switch own n = refl
-no_mark Toggle own n = refl
-no_mark (Mark ends began) own n = absurd n
-no_mark (Group g) own n = refl
-no_mark Function own n = refl
-no_mark Node own n = refl
+mark_follows : (r : Role) (own other : List Glyph) → is_mark r ≡ true → MayFollow r own other
+mark_follows Link own other e = cc
+mark_follows External own other e = cc
+mark_follows (Bare ends) own other e = cc
+mark_follows Switch own other e = cc
+mark_follows Toggle own other e = cc
+mark_follows (Mark ends began) own other e = follows_none own other (Mark ends began) (λ g. tt)
+mark_follows (Group g) own other e = cc
+mark_follows Function own other e = cc
+mark_follows Node own other e = cc
+
+mark_led : (r : Role) (word : Bool) → is_mark r ≡ true → MayLead r word
+mark_led Link word e = cc
+mark_led External word e = cc
+mark_led (Bare ends) word e = cc
+mark_led Switch word e = cc
+mark_led Toggle word e = cc
+mark_led (Mark ends began) word e = tt
+mark_led (Group g) word e = cc
+mark_led Function word e = cc
+mark_led Node word e = cc
+
+are_both : (a b : Bool) → (a && b) ≡ true → (a ≡ true) × (b ≡ true)
+are_both true true e = (refl, refl)
+are_both true false e = cc
+are_both false b e = cc
 
 by_table : (f m h p q : Bool) → m ≡ false → (if f then true else if m then q else h && (p || not false)) ≡ false → h ≡ false
 by_table true m h p q e z = cc
@@ -150,10 +172,10 @@ by_table false false true true q e z = cc
 by_table false false true false q e z = cc
 by_table false false false p q e z = refl
 
-meet_apart : (t n : Thing) → IsNode t.role (own_glyphs t) → IsNode n.role (own_glyphs n) → is_adjacent t n ≡ false → is_parted t n ≡ false → Meet t n
+table_meets : (t n : Thing) → IsNode t.role (own_glyphs t) → IsNode n.role (own_glyphs n) → (is_mark t.role && is_mark n.role) ≡ false → is_adjacent t n ≡ false
+    → is_parted t n ≡ false → Meet t n
 unfolding is_parted
-meet_apart t n own other e z =
-    let both : (is_mark t.role && is_mark n.role) ≡ false = ap (λ (v : Bool). v && is_mark n.role) (no_mark t.role (own_glyphs t) own) in
+table_meets t n own other both e z =
     let at : (if is_function n.role && has_brace_last t.source then true else if is_mark t.role && is_mark n.role then not (ends_line t.role) && not (is_adjacent t n)
     else hazard (left_side t.role) (side_of n.role) && (is_always_parted t.role n.role || not false)) ≡ false =
     ap (λ (v : Bool). if is_function n.role && has_brace_last t.source then true else if is_mark t.role && is_mark n.role then not (ends_line t.role) && not (is_adjacent t n)
@@ -161,6 +183,16 @@ meet_apart t n own other e z =
     let none : hazard (left_side t.role) (side_of n.role) ≡ false =
     by_table (is_function n.role && has_brace_last t.source) (is_mark t.role && is_mark n.role) (hazard (left_side t.role) (side_of n.role)) (is_always_parted t.role n.role) _ both at in
     (table_follows t.role n.role (own_glyphs t) (own_glyphs n) own other none, table_leads t.role n.role (own_glyphs t) own none)
+
+-- beside a mark another one may be
+meet_apart : (t n : Thing) → IsNode t.role (own_glyphs t) → IsNode n.role (own_glyphs n) → is_adjacent t n ≡ false → is_parted t n ≡ false → Meet t n
+meet_apart t n own other e z = by (is_mark t.role && is_mark n.role) refl
+  where
+    by : (v : Bool) → (is_mark t.role && is_mark n.role) ≡ v → Meet t n
+    by true i =
+        let marks = are_both (is_mark t.role) (is_mark n.role) i in
+        (mark_follows t.role (own_glyphs t) (own_glyphs n) marks.0, mark_led n.role (ends_word false (own_glyphs t)) marks.1)
+    by false i = table_meets t n own other i e z
 
 meet : (t n : Thing) → IsNode t.role (own_glyphs t) → IsNode n.role (own_glyphs n) → MeetInPage t n → is_parted t n ≡ false → Meet t n
 meet t n own other page z = meet_by (is_adjacent t n) refl
@@ -287,39 +319,39 @@ node_none External own k n tile = subst EndsNone (sym n.is) refl
 node_none (Bare ends) own k n tile = subst EndsNone (sym n.is) (url_none n.first n.others n.shape n.url)
 node_none Switch own k n tile = subst EndsNone (sym n.is) refl
 node_none Toggle own k n tile = absurd tile
-node_none (Mark ends began) own k n tile = absurd tile
+node_none (Mark ends began) own k n tile = subst EndsNone (sym n) refl
 node_none (Group g) own k n tile = absurd tile
 node_none Function own k n tile = lexeme_none own n
 node_none Node own k n tile = other_none own n
 
 -- a node that is directly behind another one
-past_url : (own more : List Glyph) (ends : Bool) → EndsUrl (own ++ more) → EndsNone own → MayFollow (Bare ends) own
-past_url [] more ends h none = tt
-past_url (g ∷ gs) more ends h none = elim h [
-  | inl e ↦ e
+past_url : (own other more : List Glyph) (ends : Bool) → EndsUrl (other ++ more) → EndsNone other → MayFollow (Bare ends) own other
+past_url own [] more ends h none = tt
+past_url own (g ∷ gs) more ends h none = elim h [
+  | inl e ↦ inl e
   | inr e ↦ (let no : true ≡ false = sym e ∙ none in cc)
 ]
 
-past_trail : (own more : List Glyph) → first_is class.Trail (own ++ more) ≡ false → MayFollow Link own
-past_trail [] more h = tt
-past_trail (g ∷ gs) more h = h
+past_trail : (own other more : List Glyph) → first_is class.Trail (other ++ more) ≡ false → MayFollow Link own other
+past_trail own [] more h = tt
+past_trail own (g ∷ gs) more h = inl h
 
-behind_follows : (r : Role) (own more : List Glyph) → HasBehind r (own ++ more) → EndsNone own → MayFollow r own
-behind_follows Link own more h none = past_trail own more h
-behind_follows External own more h none = follows_none own External (λ g. tt)
-behind_follows (Bare ends) own more h none = past_url own more ends h none
-behind_follows Switch own more h none = follows_none own Switch (λ g. tt)
-behind_follows Toggle own more h none = follows_none own Toggle (λ g. tt)
-behind_follows (Mark ends began) own more h none = follows_none own (Mark ends began) (λ g. tt)
-behind_follows (Group g) own more h none = follows_none own (Group g) (λ g. tt)
-behind_follows Function own more h none = follows_none own Function (λ g. tt)
-behind_follows Node own more h none = follows_none own Node (λ g. tt)
+behind_follows : (r : Role) (own other more : List Glyph) → HasBehind r (other ++ more) → EndsNone other → MayFollow r own other
+behind_follows Link own other more h none = past_trail own other more h
+behind_follows External own other more h none = follows_none own other External (λ g. tt)
+behind_follows (Bare ends) own other more h none = past_url own other more ends h none
+behind_follows Switch own other more h none = follows_none own other Switch (λ g. tt)
+behind_follows Toggle own other more h none = follows_none own other Toggle (λ g. tt)
+behind_follows (Mark ends began) own other more h none = follows_none own other (Mark ends began) (λ g. tt)
+behind_follows (Group g) own other more h none = follows_none own other (Group g) (λ g. tt)
+behind_follows Function own other more h none = follows_none own other Function (λ g. tt)
+behind_follows Node own other more h none = follows_none own other Node (λ g. tt)
 
 word_same : (a : Bool) (own : List Glyph) → 0 < length own → ends_word a own ≡ ends_word false own
 word_same a [] some = absurd (omega (arith, some))
 word_same a (g ∷ gs) some = refl
 
-form_some : (a : Bool) (own behind : List Glyph) (w : Shape) → form_before in_line a own behind ≡ Some w → 0 < length own
+pub form_some : (a : Bool) (own behind : List Glyph) (w : Shape) → form_before in_line a own behind ≡ Some w → 0 < length own
 form_some a [] behind w e = cc
 form_some a (g ∷ gs) behind w e = omega arith
 
@@ -329,7 +361,7 @@ beside : (a : Bool) (t n : Thing) (after : List ContentSign) → IsRead a t.role
 beside a t n after h k =
     let s = stood a t.role (own_glyphs t) (own_glyphs n ++ line_glyphs after) h in
     let u = stood (ends_word a (own_glyphs t)) n.role (own_glyphs n) (line_glyphs after) k in (
-      behind_follows t.role (own_glyphs n) (line_glyphs after) s.has (node_none n.role (own_glyphs n) k.shape.kind u.node k.tile),
+      behind_follows t.role (own_glyphs t) (own_glyphs n) (line_glyphs after) s.has (node_none n.role (own_glyphs n) k.shape.kind u.node k.tile),
       subst (MayLead n.role) (word_same a (own_glyphs t) (form_some a (own_glyphs t) (own_glyphs n ++ line_glyphs after) h.shape h.form)) u.lead,
     )
 
@@ -357,9 +389,10 @@ pairs_first [] h = tt
 pairs_first (t ∷ []) h = tt
 pairs_first (t ∷ n ∷ ts) h = (h.0.0, pairs_first (n ∷ ts) h.1)
 
-source_some : (bs : List ℕ) → 0 < length (map glyph_of (page_items bs)) → 0 < length bs
+pub source_some : (bs : List ℕ) → 0 < length (map glyph_of (node_items bs)) → 0 < length bs
 source_some [] h =
-    let z : length (map glyph_of (page_items [])) ≡ 0 = ap (λ (xs : List Item). length (map glyph_of xs)) (read_items [] [] reads_nothing) in
+    let z : length (map glyph_of (node_items [])) ≡ 0 =
+    ap (λ (xs : List Item). length (map glyph_of xs)) (node_read [] [] (reads_after true [] [] reads_nothing)) in
     absurd (omega (arith, z, h))
 source_some (b ∷ bs) h = omega arith
 

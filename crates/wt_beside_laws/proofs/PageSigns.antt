@@ -28,7 +28,7 @@ use Rattle.wt_tiles.specs.Urls.{is_word}
 use Rattle.wt_tiles.proofs.Readings.{shapes_are}
 use Rattle.wt_beside_laws.specs.Cuts.{own_glyphs, ends_word, form_before}
 use Rattle.wt_beside_laws.specs.Nodes.{AreNodes, AllMeet}
-use Rattle.wt_beside_laws.specs.PageSigns.{atom_role, tile_role, form_sign, tile_signs, signs_of_tiles, line_signs, signs_of_lines, IsFlatForm, IsFlatTile, AreFlatTiles, HasNoBreak, AreFlatLines}
+use Rattle.wt_beside_laws.specs.PageSigns.{ends_break, atom_role, tile_role, form_sign, tile_signs, signs_of_tiles, line_signs, signs_of_lines, IsFlatForm, IsFlatTile, AreFlatTiles, HasNoBreak, AreFlatLines}
 use Rattle.wt_beside_laws.specs.Stood.{IsTileOf, OpensNoPair, IsRead, line_glyphs, AreStood, AreAt, things}
 use Rattle.wt_beside_laws.proofs.PageNodes.{nodes_stay, nodes_meet}
 
@@ -169,7 +169,7 @@ map_take zero xs = refl
 map_take (suc n) [] = refl
 map_take (suc n) (x ∷ xs) = ap (λ gs. glyph_of x ∷ gs) (map_take n xs)
 
-map_drop : (n : ℕ) (xs : List Item) → map glyph_of (drop n xs) ≡ drop n (map glyph_of xs)
+pub map_drop : (n : ℕ) (xs : List Item) → map glyph_of (drop n xs) ≡ drop n (map glyph_of xs)
 map_drop zero xs = refl
 map_drop (suc n) [] = refl
 map_drop (suc n) (x ∷ xs) = map_drop n xs
@@ -240,32 +240,32 @@ IsFlatKind kind.Pair = Unit {0}
 IsFlatKind kind.TagIsland = Unit {0}
 IsFlatKind kind.Switch = Unit {0}
 IsFlatKind kind.Atom = Unit {0}
-IsFlatKind kind.Mark = ⊥
+IsFlatKind kind.Mark = Unit {0}
 IsFlatKind kind.Chars = ⊥
 
-pub role_fits : (k : TileKind) (xs : List Item) → IsFlatKind k → IsTileOf (tile_role k xs) k
-role_fits kind.Link xs h = refl
-role_fits kind.Category xs h = tt
-role_fits kind.Media xs h = tt
-role_fits kind.ExtLink xs h = refl
-role_fits kind.BareUrl xs h = refl
-role_fits kind.Br xs h = tt
-role_fits kind.Pair xs h = tt
-role_fits kind.TagIsland xs h = tt
-role_fits kind.Switch xs h = refl
-role_fits kind.Atom xs h = atom_tile xs
-role_fits kind.Mark xs h = absurd h
-role_fits kind.Chars xs h = absurd h
+pub role_fits : (k : TileKind) (began : Bool) (xs : List Item) → IsFlatKind k → IsTileOf (tile_role k began xs) k
+role_fits kind.Link began xs h = refl
+role_fits kind.Category began xs h = tt
+role_fits kind.Media began xs h = tt
+role_fits kind.ExtLink began xs h = refl
+role_fits kind.BareUrl began xs h = refl
+role_fits kind.Br began xs h = tt
+role_fits kind.Pair began xs h = tt
+role_fits kind.TagIsland began xs h = tt
+role_fits kind.Switch began xs h = refl
+role_fits kind.Atom began xs h = atom_tile xs
+role_fits kind.Mark began xs h = refl
+role_fits kind.Chars began xs h = absurd h
 
 pub before_is : (a : Bool) (own behind : List Glyph) → 0 < length own → form_before in_line a own behind ≡ tile_at in_line a (own ++ behind)
 before_is a [] behind some = absurd (omega (arith, some))
 before_is a (g ∷ gs) behind some = refl
 
-form_read : (a : Bool) (at : ℕ) (w : Shape) (k : TileKind) (ys zs : List Item) (more : List ContentSign) → w.kind ≡ k → IsFlatKind k → IsFlatForm k ys → size w ≡ length ys
+form_read : (a began : Bool) (at : ℕ) (w : Shape) (k : TileKind) (ys zs : List Item) (more : List ContentSign) → w.kind ≡ k → IsFlatKind k → IsFlatForm k ys → size w ≡ length ys
     → 0 < length ys → tile_at in_line a (map glyph_of (ys ++ zs)) ≡ Some w → Read (ends_word a (map glyph_of ys)) (at + length (sources ys)) zs more
-    → Read a at (ys ++ zs) (form_sign k at ys ++ more)
-form_read a at w k ys zs more kind_is flat f fits some e r =
-    let t : Thing = record { role = tile_role k ys; source = sources ys; place = Some (record { start = at; end = at + length (sources ys) }) } in
+    → Read a at (ys ++ zs) (form_sign k began at ys ++ more)
+form_read a began at w k ys zs more kind_is flat f fits some e r =
+    let t : Thing = record { role = tile_role k began ys; source = sources ys; place = Some (record { start = at; end = at + length (sources ys) }) } in
     let own : own_glyphs t ≡ map glyph_of ys = ap (λ xs. map glyph_of xs) f.alone in
     let long : length (map glyph_of ys) ≡ length ys = length-map ys glyph_of in
     let form : form_before in_line a (map glyph_of ys) (line_glyphs more) ≡ Some w =
@@ -273,7 +273,7 @@ form_read a at w k ys zs more kind_is flat f fits some e r =
     ∙ before_is a (map glyph_of ys) (map glyph_of zs) (omega (arith, some, long))
     ∙ ap (tile_at in_line a) (sym (map-append glyph_of ys zs)) ∙ e in
     let read : IsRead a t.role (map glyph_of ys) (line_glyphs more) =
-    record { shape = w; form = form; whole = fits ∙ sym long; tile = subst (IsTileOf (tile_role k ys)) (sym kind_is) (role_fits k ys flat); lone = subst (λ (j : TileKind). OpensNoPair j (map glyph_of ys)) (sym kind_is) f.lone } in
+    record { shape = w; form = form; whole = fits ∙ sym long; tile = subst (IsTileOf (tile_role k began ys)) (sym kind_is) (role_fits k began ys flat); lone = subst (λ (j : TileKind). OpensNoPair j (map glyph_of ys)) (sym kind_is) f.lone } in
     record {
       stood = (
         subst (λ (gs : List Glyph). IsRead a t.role gs (line_glyphs more)) (sym own) read,
@@ -286,32 +286,32 @@ form_read a at w k ys zs more kind_is flat f fits some e r =
           ∙ sym (map-append glyph_of ys zs);
     }
 
-form_tile : (k : TileKind) (a : Bool) (at : ℕ) (w : Shape) (xs : List Item) (more : List ContentSign) → w.kind ≡ k → IsFlatKind k → IsFlatForm k (take (size w) xs)
+form_tile : (k : TileKind) (a began : Bool) (at : ℕ) (w : Shape) (xs : List Item) (more : List ContentSign) → w.kind ≡ k → IsFlatKind k → IsFlatForm k (take (size w) xs)
     → tile_at in_line a (map glyph_of xs) ≡ Some w → 0 < size w → size w ≤ length xs
     → Read (ends_word a (map glyph_of (take (size w) xs))) (at + length (sources (take (size w) xs))) (drop (size w) xs) more
-    → Read a at (take (size w) xs ++ drop (size w) xs) (form_sign k at (take (size w) xs) ++ more)
-form_tile k a at w xs more e flat f s some le r =
+    → Read a at (take (size w) xs ++ drop (size w) xs) (form_sign k began at (take (size w) xs) ++ more)
+form_tile k a began at w xs more e flat f s some le r =
     let cut = length-take (size w) xs in
     let long : length (take (size w) xs) ≡ size w = omega (arith, cut, le) in
-    form_read a at w k (take (size w) xs) (drop (size w) xs) more e flat f (sym long) (omega (arith, long, some))
+    form_read a began at w k (take (size w) xs) (drop (size w) xs) more e flat f (sym long) (omega (arith, long, some))
     (ap (λ us. tile_at in_line a (map glyph_of us)) (take-append-drop (size w) xs) ∙ s) r
 
-by_kind : (k : TileKind) (a : Bool) (at : ℕ) (w : Shape) (xs : List Item) (more : List ContentSign) → w.kind ≡ k → IsFlatTile k (take (size w) xs)
+by_kind : (k : TileKind) (a began : Bool) (at : ℕ) (w : Shape) (xs : List Item) (more : List ContentSign) → w.kind ≡ k → IsFlatTile k (take (size w) xs)
     → StandsBy k in_line a w (map glyph_of xs) → 0 < size w → size w ≤ length xs → HasNoBreak xs
     → Read (ends_word a (map glyph_of (take (size w) xs))) (at + length (sources (take (size w) xs))) (drop (size w) xs) more
-    → Read a at (take (size w) xs ++ drop (size w) xs) (tile_signs k at (take (size w) xs) ++ more)
-by_kind kind.Link a at w xs more e f s some le n r = form_tile kind.Link a at w xs more e tt f s some le r
-by_kind kind.Category a at w xs more e f s some le n r = form_tile kind.Category a at w xs more e tt f s some le r
-by_kind kind.Media a at w xs more e f s some le n r = form_tile kind.Media a at w xs more e tt f s some le r
-by_kind kind.ExtLink a at w xs more e f s some le n r = form_tile kind.ExtLink a at w xs more e tt f s some le r
-by_kind kind.BareUrl a at w xs more e f s some le n r = form_tile kind.BareUrl a at w xs more e tt f s some le r
-by_kind kind.Br a at w xs more e f s some le n r = form_tile kind.Br a at w xs more e tt f s some le r
-by_kind kind.Pair a at w xs more e f s some le n r = form_tile kind.Pair a at w xs more e tt f s some le r
-by_kind kind.TagIsland a at w xs more e f s some le n r = form_tile kind.TagIsland a at w xs more e tt f s some le r
-by_kind kind.Switch a at w xs more e f s some le n r = form_tile kind.Switch a at w xs more e tt f s some le r
-by_kind kind.Atom a at w xs more e f s some le n r = form_tile kind.Atom a at w xs more e tt f s some le r
-by_kind kind.Mark a at w xs more e f s some le n r = absurd f
-by_kind kind.Chars a at w xs more e f s some le n r =
+    → Read a at (take (size w) xs ++ drop (size w) xs) (tile_signs k began at (take (size w) xs) ++ more)
+by_kind kind.Link a began at w xs more e f s some le n r = form_tile kind.Link a began at w xs more e tt f s some le r
+by_kind kind.Category a began at w xs more e f s some le n r = form_tile kind.Category a began at w xs more e tt f s some le r
+by_kind kind.Media a began at w xs more e f s some le n r = form_tile kind.Media a began at w xs more e tt f s some le r
+by_kind kind.ExtLink a began at w xs more e f s some le n r = form_tile kind.ExtLink a began at w xs more e tt f s some le r
+by_kind kind.BareUrl a began at w xs more e f s some le n r = form_tile kind.BareUrl a began at w xs more e tt f s some le r
+by_kind kind.Br a began at w xs more e f s some le n r = form_tile kind.Br a began at w xs more e tt f s some le r
+by_kind kind.Pair a began at w xs more e f s some le n r = form_tile kind.Pair a began at w xs more e tt f s some le r
+by_kind kind.TagIsland a began at w xs more e f s some le n r = form_tile kind.TagIsland a began at w xs more e tt f s some le r
+by_kind kind.Switch a began at w xs more e f s some le n r = form_tile kind.Switch a began at w xs more e tt f s some le r
+by_kind kind.Atom a began at w xs more e f s some le n r = form_tile kind.Atom a began at w xs more e tt f s some le r
+by_kind kind.Mark a began at w xs more e f s some le n r = form_tile kind.Mark a began at w xs more e tt f s some le r
+by_kind kind.Chars a began at w xs more e f s some le n r =
     chars_read a at (take (size w) xs) (drop (size w) xs) more (are_chars (size w) a xs s.1) (none_take (size w) xs n) f r
 
 -- ---- a line, and lines
@@ -323,10 +323,10 @@ no_tiles a at [] tail e end =
     record { stood = end.stood a; places = subst (λ (n : ℕ). AreAt n tail) z end.places; glyphs = end.none }
 no_tiles a at (x ∷ xs) tail e end = cc
 
-tiles_read : (ws : List Shape) (a : Bool) (at : ℕ) (xs : List Item) (tail : List ContentSign) → AreTiles in_line a ws (map glyph_of xs) → AreFlatTiles (parts ws xs)
-    → HasNoBreak xs → EndsLine (at + length (sources xs)) tail → Read a at xs (signs_of_tiles at (parts ws xs) ++ tail)
-tiles_read [] a at xs tail t f n end = no_tiles a at xs tail t end
-tiles_read (w ∷ ws) a at xs tail t f n end =
+tiles_read : (ws : List Shape) (a began : Bool) (at : ℕ) (xs : List Item) (tail : List ContentSign) → AreTiles in_line a ws (map glyph_of xs) → AreFlatTiles (parts ws xs)
+    → HasNoBreak xs → EndsLine (at + length (sources xs)) tail → Read a at xs (signs_of_tiles began at (parts ws xs) ++ tail)
+tiles_read [] a began at xs tail t f n end = no_tiles a at xs tail t end
+tiles_read (w ∷ ws) a began at xs tail t f n end =
     let m : ℕ = size w in
     let ys : List Item = take m xs in
     let zs : List Item = drop m xs in
@@ -338,21 +338,21 @@ tiles_read (w ∷ ws) a at xs tail t f n end =
     let sum : length (sources xs) ≡ length (sources ys) + length (sources zs) =
     ap (λ us. length (sources us)) (sym all) ∙ ap length (sources_append ys zs) ∙ length-append (sources ys) (sources zs) in
     let z : at + length (sources xs) ≡ at + length (sources ys) + length (sources zs) = omega (arith, sum) in
-    let behind : Read (is_word_at (map glyph_of xs) (m - 1)) (at + length (sources ys)) zs (signs_of_tiles (at + length (sources ys)) (parts ws zs) ++ tail) =
-    tiles_read ws (is_word_at (map glyph_of xs) (m - 1)) (at + length (sources ys)) zs tail
+    let behind : Read (is_word_at (map glyph_of xs) (m - 1)) (at + length (sources ys)) zs (signs_of_tiles (ends_break (sources ys)) (at + length (sources ys)) (parts ws zs) ++ tail) =
+    tiles_read ws (is_word_at (map glyph_of xs) (m - 1)) (ends_break (sources ys)) (at + length (sources ys)) zs tail
     (subst (λ gs. AreTiles in_line (is_word_at (map glyph_of xs) (m - 1)) ws gs) (sym (map_drop m xs)) t.4) f.1 (none_drop m xs n)
     (subst (λ (i : ℕ). EndsLine i tail) z end) in
-    let more : List ContentSign = signs_of_tiles (at + length (sources ys)) (parts ws zs) ++ tail in
-    let own : Read a at (ys ++ zs) (tile_signs w.kind at ys ++ more) =
-    by_kind w.kind a at w xs more refl f.0 t.2 some (omega (arith, le, long)) n (subst (λ (v : Bool). Read v (at + length (sources ys)) zs more) flag behind) in
-    subst (λ us. Read a at us (signs_of_tiles at ((w, ys) ∷ parts ws zs) ++ tail)) all
-    (subst (λ us. Read a at (ys ++ zs) us) (sym (append_assoc (tile_signs w.kind at ys) (signs_of_tiles (at + length (sources ys)) (parts ws zs)) tail)) own)
+    let more : List ContentSign = signs_of_tiles (ends_break (sources ys)) (at + length (sources ys)) (parts ws zs) ++ tail in
+    let own : Read a at (ys ++ zs) (tile_signs w.kind began at ys ++ more) =
+    by_kind w.kind a began at w xs more refl f.0 t.2 some (omega (arith, le, long)) n (subst (λ (v : Bool). Read v (at + length (sources ys)) zs more) flag behind) in
+    subst (λ us. Read a at us (signs_of_tiles began at ((w, ys) ∷ parts ws zs) ++ tail)) all
+    (subst (λ us. Read a at (ys ++ zs) us) (sym (append_assoc (tile_signs w.kind began at ys) (signs_of_tiles (ends_break (sources ys)) (at + length (sources ys)) (parts ws zs)) tail)) own)
 
 line_read : (a : Bool) (at : ℕ) (xs : List Item) (tail : List ContentSign) → a ≡ false → AreFlatTiles (tiles in_line xs) → HasNoBreak xs
     → EndsLine (at + length (sources xs)) tail → Read a at xs (line_signs at xs ++ tail)
 unfolding tiles
 line_read true at xs tail e f n end = cc
-line_read false at xs tail e f n end = tiles_read (shapes in_line (map glyph_of xs)) false at xs tail (shapes_are in_line (map glyph_of xs)) f n end
+line_read false at xs tail e f n end = tiles_read (shapes in_line (map glyph_of xs)) false true at xs tail (shapes_are in_line (map glyph_of xs)) f n end
 
 none_left : (at : ℕ) → EndsLine at []
 none_left at = record { stood = λ a. tt; places = tt; none = refl }

@@ -32,11 +32,11 @@ use Rattle.wt_moved_laws.proofs.Sources.{standing_source}
 use Rattle.wt_original.specs.Kept.{Kept, KeptNode, items, visible, found_at, found_from, found_in, kept_of, role_of}
 use Rattle.wt_original.specs.Page.{page_of}
 use Rattle.wt_original.specs.declared.block.Extent.{Extent}
-use Rattle.wt_expand.specs.PageItems.{page_items}
+use Rattle.wt_beside_laws.specs.NodeItems.{node_items}
 use Rattle.wt_context.specs.Line.{line_parts}
 use Rattle.wt_context.proofs.PlainNodes.{IsText}
 use Rattle.wt_beside_laws.specs.OwnSigns.{own_node, own_by, own_signs, HasOwnBy, HaveOwn}
-use Rattle.wt_beside_laws.specs.PageBlocks.{AreShut, ShowSources}
+use Rattle.wt_beside_laws.specs.PageBlocks.{AreShut, ShowSources, IsRoleAt, AreSoIn}
 use Rattle.wt_beside_laws.specs.SentPieces.{IsNodeForm, ShowsItsSource}
 use Rattle.wt_beside_laws.specs.Shown.{parts_shown_at}
 use Rattle.wt_beside_laws.specs.Stood.{things}
@@ -61,11 +61,11 @@ IsThingForm inline.Tag = Unit {0}
 IsThingForm inline.Break = Unit {0}
 IsThingForm inline.AsItStood = Unit {0}
 
--- a node with a number, which is this to its neighbours wherever it is
+-- a node with a number, which is this to its neighbours wherever it is, a mark where it is as its role says
 pub record IsThing (u : ItemTree) (r : Role) : Type 0 where
   pub form : IsThingForm (edit_shape (head_of u).kind).inline
   pub numbered : is_numbered (head_of u).kind ≡ true
-  pub role : (block : Tree) (s : Extent) (n : ℕ) (before : List Item) → role_of block s (standing n before u) ≡ r
+  pub role : (block : Tree) (s : Extent) (n : ℕ) (before : List Item) → IsRoleAt r block s.start (sources (tree_items u)) → role_of block s (standing n before u) ≡ r
 
 abbrev pub thing_at : Role → List ℕ → ℕ → Thing
 thing_at r bs at = record { role = r; source = bs; place = Some (record { start = at; end = at + length bs }) }
@@ -75,7 +75,7 @@ tree_source u = sources (tree_items u)
 
 -- its source by itself is this node
 abbrev pub IsAlone : ItemTree → Type 0
-IsAlone u = line_parts (page_items (tree_source u)) ≡ node u ∷ []
+IsAlone u = line_parts (node_items (tree_source u)) ≡ node u ∷ []
 
 -- so many bytes come before these parts
 abbrev pub HaveThings : ℕ → List Part → List Thing → Type 0
@@ -171,18 +171,18 @@ stands_kind n before (inner h opening ts closing) = refl
 pub stands_form : (n : ℕ) (before : List Item) (u : ItemTree) (r : Role) → IsThing u r → IsThingForm (edit_shape (label (standing n before u)).kind).inline
 stands_form n before u r i = subst (λ (k : Kind). IsThingForm (edit_shape k).inline) (sym (stands_kind n before u)) i.form
 
-node_own : (block : Tree) (at from n : ℕ) (before : List Item) (u : ItemTree) (r : Role) → IsThing u r
+node_own : (block : Tree) (at from n : ℕ) (before : List Item) (u : ItemTree) (r : Role) → IsThing u r → IsRoleAt r block at (tree_source u)
     → things (own_of block at from (standing n before u)) ≡ thing_at r (tree_source u) at ∷ []
-node_own block at from n before u r i =
+node_own block at from n before u r i m =
     let t : Tree = standing n before u in
     ap things (own_is block at from t (stands_form n before u r i))
-    ∙ ap₂ (λ (q : Role) (bs : List ℕ). thing_at q bs at ∷ []) (i.role block (found_at at from t).extent n before) (standing_source n before u)
+    ∙ ap₂ (λ (q : Role) (bs : List ℕ). thing_at q bs at ∷ []) (i.role block (found_at at from t).extent n before m) (standing_source n before u)
 
 runs_things : (rs : List (List Part)) (ps : List Part) (block : Tree) (at from n : ℕ) (before : List Item) (ts : List Thing) → AreRuns one_leaf rs ps
-    → HaveThings at ps ts → things (own_signs block at from (nodes_of n before (forest (map child rs)))) ≡ ts
-runs_things [] ps block at from n before ts a h = sym (subst (λ (qs : List Part). HaveThings at qs ts) a h)
-runs_things ([] ∷ rs) ps block at from n before ts a h = absurd a.2
-runs_things ((loose k o b ∷ r) ∷ rs) ps block at from n before ts a h =
+    → HaveThings at ps ts → AreSoIn block ts → things (own_signs block at from (nodes_of n before (forest (map child rs)))) ≡ ts
+runs_things [] ps block at from n before ts a h m = sym (subst (λ (qs : List Part). HaveThings at qs ts) a h)
+runs_things ([] ∷ rs) ps block at from n before ts a h m = absurd a.2
+runs_things ((loose k o b ∷ r) ∷ rs) ps block at from n before ts a h m =
     let run : List Part = loose k o b ∷ r in
     let u : ItemTree = child run in
     let t : Tree = standing n before u in
@@ -194,25 +194,26 @@ runs_things ((loose k o b ∷ r) ∷ rs) ps block at from n before ts a h =
     ∙ ap (λ (ss : List Thing). ss ++ things (own_signs block (at + length (flat t)) (from + length (visible (items t))) us))
     (leaf_none k (held_parts run) block at from n before)
     ∙ runs_things rs a.0 block (at + length (flat t)) (from + length (visible (items t))) (n + count (placed before u)) (before ++ tree_items u) ts a.3
-    (subst (λ (w : ℕ). HaveThings (at + w) a.0 ts) wide behind)
-runs_things ((node u ∷ []) ∷ rs) ps block at from n before ts a h =
+    (subst (λ (w : ℕ). HaveThings (at + w) a.0 ts) wide behind) m
+runs_things ((node u ∷ []) ∷ rs) ps block at from n before ts a h m =
     let t : Tree = standing n before u in
     let us : Trees = nodes_of (n + count (placed before u)) (before ++ tree_items u) (forest (map child rs)) in
     let own : HaveThings at (node u ∷ a.0) ts = subst (λ (qs : List Part). HaveThings at qs ts) a.1 h in
     let wide : length (tree_source u) ≡ length (flat t) = ap length (sym (standing_source n before u)) in
+    let so : AreSoIn block (thing_at own.0 (tree_source u) at ∷ own.1) = subst (AreSoIn block) own.2 m in
     first_things block at from t us
     ∙ ap (λ (ss : List Thing). ss ++ things (own_signs block (at + length (flat t)) (from + length (visible (items t))) us))
-    (node_own block at from n before u own.0 own.3)
+    (node_own block at from n before u own.0 own.3 so.0)
     ∙ ap (λ (ss : List Thing). thing_at own.0 (tree_source u) at ∷ ss)
     (runs_things rs a.0 block (at + length (flat t)) (from + length (visible (items t))) (n + count (placed before u)) (before ++ tree_items u) own.1 a.3
-    (subst (λ (w : ℕ). HaveThings (at + w) a.0 own.1) wide own.5))
+    (subst (λ (w : ℕ). HaveThings (at + w) a.0 own.1) wide own.5) so.1)
     ∙ sym own.2
-runs_things ((node u ∷ p ∷ r) ∷ rs) ps block at from n before ts a h = absurd (let no = a.2.0 in cc)
+runs_things ((node u ∷ p ∷ r) ∷ rs) ps block at from n before ts a h m = absurd (let no = a.2.0 in cc)
 
-pub own_things : (ps : List Part) (block : Tree) (at from n : ℕ) (before : List Item) (ts : List Thing) → HaveThings at ps ts
+pub own_things : (ps : List Part) (block : Tree) (at from n : ℕ) (before : List Item) (ts : List Thing) → HaveThings at ps ts → AreSoIn block ts
     → things (own_signs block at from (nodes_of n before (forest (children ps)))) ≡ ts
 unfolding children
-own_things ps block at from n before ts h = runs_things (runs one_leaf ps) ps block at from n before ts (runs_are one_leaf ps) h
+own_things ps block at from n before ts h m = runs_things (runs one_leaf ps) ps block at from n before ts (runs_are one_leaf ps) h m
 
 -- ---- each has a number
 
@@ -289,8 +290,8 @@ pub shows_source : (same : Tree → Tree → Bool) (block : Tree) (at from n : �
 shows_source same block at from n before u alone found = λ k e rest.
     let t : Tree = standing n before u in
     let is : kept_of block (found_at at from t) ≡ k = same_kept (kept_of block (found_at at from t)) k (sym found ∙ e) in
-    ap (λ (j : Kept). parts_shown_at 0 [] (line_parts (page_items (flat j.node))) rest) (sym is)
-    ∙ ap (λ (bs : List ℕ). parts_shown_at 0 [] (line_parts (page_items bs)) rest) (standing_source n before u)
+    ap (λ (j : Kept). parts_shown_at 0 [] (line_parts (node_items (flat j.node))) rest) (sym is)
+    ∙ ap (λ (bs : List ℕ). parts_shown_at 0 [] (line_parts (node_items bs)) rest) (standing_source n before u)
     ∙ ap (λ (ps : List Part). parts_shown_at 0 [] ps rest) alone
     ∙ lone_shows n before u rest
   where

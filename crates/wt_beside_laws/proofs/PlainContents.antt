@@ -9,7 +9,6 @@ use Rattle.wt_span.proofs.RunLaws.{runs_are}
 use Rattle.wt_guards.specs.Content.{ContentSign, Thing, letter, thing}
 use Rattle.wt_guards.specs.Guards.{Setting, nowiki, is_guarded}
 use Rattle.wt_guards.specs.Letters.{is_escaped}
-use Rattle.wt_expand.specs.PageItems.{page_items}
 use Rattle.wt_inline.specs.declared.loose.Loose.{Loose}
 use Rattle.wt_inline.specs.declared.loose.Loose.TheVariants.{Text, Sep}
 use Rattle.wt_inline.specs.ItemTree.{plain, ItemTree, inner, nothing, forest}
@@ -25,6 +24,7 @@ use Rattle.wt_beside_laws.specs.PageSigns.{signs_of_lines, AreFlatLines}
 use Rattle.wt_beside_laws.specs.Stood.{things}
 use Rattle.wt_beside_laws.proofs.LineThings.{lines_have}
 use Rattle.wt_beside_laws.proofs.PartThings.{HaveThings, tree_source}
+use Rattle.wt_beside_laws.specs.NodeItems.{node_items}
 
 -- ---- parts
 
@@ -98,7 +98,7 @@ children_nodes ps f = runs_nodes (runs one_leaf ps) ps (runs_are one_leaf ps) f
 
 abbrev FullThings : List Thing → Type 0
 FullThings [] = Unit {0}
-FullThings (t ∷ ts) = AreFullParts (line_parts (page_items t.source)) × FullThings ts
+FullThings (t ∷ ts) = AreFullParts (line_parts (node_items t.source)) × FullThings ts
 
 have_full : (at : ℕ) (ps : List Part) (ts : List Thing) → HaveThings at ps ts → FullNodes ps → FullThings ts
 have_full at [] ts h f = subst FullThings (sym h) tt
@@ -135,7 +135,7 @@ content_full s before (letter c ∷ after) f =
     full_both (parts Text (guard_items (is_guarded s before (letter c ∷ after)))) (own ++ more) (guard_full (is_guarded s before (letter c ∷ after)))
     (full_both own more (letter_full (is_escaped s.within s.place before c after) c) (content_full s (letter c ∷ before) after f))
 content_full s before (thing t ∷ after) f =
-    let own : List Part = line_parts (page_items t.source) in
+    let own : List Part = line_parts (node_items t.source) in
     let more : List Part = content_parts s (thing t ∷ before) after in
     full_both (parts Text (guard_items (is_guarded s before (thing t ∷ after)))) (own ++ more) (guard_full (is_guarded s before (thing t ∷ after)))
     (full_both own more f.0 (content_full s (thing t ∷ before) after f.1))

@@ -16,13 +16,13 @@ use Rattle.wt_guards.specs.Content.{ContentSign, letter, letters}
 use Rattle.wt_original.specs.Kept.{Kept, kept_with}
 use Rattle.wt_original.specs.Page.{Page}
 use Rattle.wt_link_spelling.specs.Spelling.{kept_thing, as_it_stood, unless_kept, anew_by, signs_by, signs_of_all}
-use Rattle.wt_expand.specs.PageItems.{page_items}
 use Rattle.wt_context.specs.Line.{line_parts}
 use Rattle.wt_typed_blocks.specs.Edited.{Pieces, no_pieces, gone, written, kept, around, new_style, text_node, sent_pieces, PiecesStay, pieces_before}
 use Rattle.wt_beside_laws.specs.SentNodes.{IsUnchanged, IsSentBy, AreSent}
 use Rattle.wt_beside_laws.specs.SentPieces.{IsNodeForm, PiecesShow}
 use Rattle.wt_beside_laws.specs.Shown.{parts_shown_at, content_shown}
 use Rattle.wt_beside_laws.proofs.LineShown.{twice}
+use Rattle.wt_beside_laws.specs.NodeItems.{node_items}
 
 -- ---- texts
 
@@ -51,7 +51,7 @@ found_thing p l ts new u =
 
 -- the page's node with its number shows this
 abbrev Shows : Page → Label → (Plains → Plains) → Type 0
-Shows p l f = (k : Kept) → kept_with l.id p.kept ≡ Some k → (rest : Plains) → parts_shown_at 0 [] (line_parts (page_items (flat k.node))) rest ≡ f rest
+Shows p l f = (k : Kept) → kept_with l.id p.kept ≡ Some k → (rest : Plains) → parts_shown_at 0 [] (line_parts (node_items (flat k.node))) rest ≡ f rest
 
 thing_shown : (p : Page) (l : Label) (ts : Trees) (own signs : List ContentSign) (f : Plains → Plains) (rest : Plains) (u : IsUnchanged p l ts)
     → Shows p l f → own ≡ kept_thing u.kept ∷ [] → content_shown (own ++ signs) rest ≡ f (content_shown signs rest)

@@ -30,8 +30,9 @@ use Rattle.wt_tiles.specs.Tiles.{size, len_of, closing_for, pair_or_island, shap
 use Rattle.wt_tiles.specs.Urls.{scheme_len, ext_link_at, bare_url_at}
 use Rattle.wt_tiles.proofs.TagInsides.{no_tag}
 use Rattle.wt_beside_laws.specs.Cuts.{form_before}
-use Rattle.wt_beside_laws.specs.Nodes.{IsLinkNode, IsCategoryNode, IsMediaNode, IsExternalNode, IsBareNode, IsSwitchNode, IsOneLexeme, IsTagNode, IsAllOf, IsLone, IsNode, MayLead}
+use Rattle.wt_beside_laws.specs.Nodes.{is_quote_last, IsLinkNode, IsCategoryNode, IsMediaNode, IsExternalNode, IsBareNode, IsSwitchNode, IsOneLexeme, IsTagNode, IsAllOf, IsLone, IsNode, MayLead}
 use Rattle.wt_beside_laws.specs.Stood.{EndsUrl, IsTileOf, OpensNone, OpensNoPair, IsRead, HasBehind}
+use Rattle.wt_beside_laws.specs.StyledNodes.{EndsUnquoted}
 use Rattle.wt_beside_laws.specs.Tiles.{IsPlainKind, IsCategoryKind, IsMediaKind, LeadsBy, AimsBy, IsPlainLink, IsCategoryLink}
 use Rattle.wt_beside_laws.proofs.LinkFronts.{link_tile, JoinsNone, LinkFront, in_front}
 use Rattle.wt_beside_laws.proofs.LinkTiles.{if_some, with_made, same_shape}
@@ -81,6 +82,7 @@ pub record Stays (a : Bool) (r : Role) (own behind : List Glyph) : Type 0 where
   pub node : IsNode r own
   pub lead : MayLead r a
   pub has : HasBehind r behind
+  pub unquoted : first_is (class.Only 39) behind ≡ true → EndsUnquoted r own
 
 -- ---- links
 
@@ -147,12 +149,12 @@ abbrev LinkStays : Bool → Role → List Glyph → List Glyph → LinkKind → 
 LinkStays a r inside behind k = IsTileOf r (link_tile k) → JoinsNone k behind → Stays a r (two_brackets inside) behind
 
 page_stays : (a : Bool) (r : Role) (inside behind : List Glyph) → IsLinkNode (two_brackets inside) → LinkStays a r inside behind Page
-page_stays a Link inside behind n tile alone = record { node = n; lead = tt; has = alone }
+page_stays a Link inside behind n tile alone = record { node = n; lead = tt; has = alone; unquoted = λ q. tt }
 page_stays a External inside behind n tile alone = cc
 page_stays a (Bare ends) inside behind n tile alone = cc
 page_stays a Switch inside behind n tile alone = cc
 page_stays a Toggle inside behind n tile alone = absurd tile
-page_stays a (Mark ends began) inside behind n tile alone = absurd tile
+page_stays a (Mark ends began) inside behind n tile alone = cc
 page_stays a (Group g) inside behind n tile alone = absurd tile
 page_stays a Function inside behind n tile alone = cc
 page_stays a Node inside behind n tile alone = absurd tile
@@ -163,10 +165,10 @@ category_stays a External inside behind n tile alone = cc
 category_stays a (Bare ends) inside behind n tile alone = cc
 category_stays a Switch inside behind n tile alone = cc
 category_stays a Toggle inside behind n tile alone = absurd tile
-category_stays a (Mark ends began) inside behind n tile alone = absurd tile
+category_stays a (Mark ends began) inside behind n tile alone = cc
 category_stays a (Group g) inside behind n tile alone = absurd tile
 category_stays a Function inside behind n tile alone = cc
-category_stays a Node inside behind n tile alone = record { node = inr (inr (inl n)); lead = tt; has = tt }
+category_stays a Node inside behind n tile alone = record { node = inr (inr (inl n)); lead = tt; has = tt; unquoted = λ q. tt }
 
 media_stays : (a : Bool) (r : Role) (inside behind : List Glyph) → IsMediaNode (two_brackets inside) → LinkStays a r inside behind Media
 media_stays a Link inside behind n tile alone = cc
@@ -174,10 +176,10 @@ media_stays a External inside behind n tile alone = cc
 media_stays a (Bare ends) inside behind n tile alone = cc
 media_stays a Switch inside behind n tile alone = cc
 media_stays a Toggle inside behind n tile alone = absurd tile
-media_stays a (Mark ends began) inside behind n tile alone = absurd tile
+media_stays a (Mark ends began) inside behind n tile alone = cc
 media_stays a (Group g) inside behind n tile alone = absurd tile
 media_stays a Function inside behind n tile alone = cc
-media_stays a Node inside behind n tile alone = record { node = inr (inr (inr n)); lead = tt; has = tt }
+media_stays a Node inside behind n tile alone = record { node = inr (inr (inr n)); lead = tt; has = tt; unquoted = λ q. tt }
 
 by_kind : (k : LinkKind) (a : Bool) (r : Role) (inside behind : List Glyph) (w : Shape) (f : LinkFront inside behind w) → kind_of f.t ≡ k → size w ≡ 2 + length inside
     → LinkStays a r inside behind k
@@ -241,11 +243,11 @@ external_node g inside w f whole =
 
 external_kind : (a : Bool) (r : Role) (own behind : List Glyph) → IsExternalNode own → IsTileOf r kind.ExtLink → Stays a r own behind
 external_kind a Link own behind n tile = cc
-external_kind a External own behind n tile = record { node = n; lead = tt; has = tt }
+external_kind a External own behind n tile = record { node = n; lead = tt; has = tt; unquoted = λ q. tt }
 external_kind a (Bare ends) own behind n tile = cc
 external_kind a Switch own behind n tile = cc
 external_kind a Toggle own behind n tile = absurd tile
-external_kind a (Mark ends began) own behind n tile = absurd tile
+external_kind a (Mark ends began) own behind n tile = cc
 external_kind a (Group g) own behind n tile = absurd tile
 external_kind a Function own behind n tile = cc
 external_kind a Node own behind n tile = absurd tile
@@ -273,16 +275,17 @@ unbracketed b gs w e = by (b == 91) refl
         let none : None ≡ Some w = sym (no_bracket_url gs) ∙ ap (λ (c : ℕ). bare_url_at false (glyph.Byte c ∷ gs)) (sym is) ∙ e in cc
     by false i = i
 
-bare_kinds : (a : Bool) (r : Role) (own behind : List Glyph) → IsBareNode own → a ≡ false → EndsUrl behind → IsTileOf r kind.BareUrl → Stays a r own behind
-bare_kinds a Link own behind n e ends tile = cc
-bare_kinds a External own behind n e ends tile = cc
-bare_kinds a (Bare last) own behind n e ends tile = record { node = n; lead = e; has = ends }
-bare_kinds a Switch own behind n e ends tile = cc
-bare_kinds a Toggle own behind n e ends tile = absurd tile
-bare_kinds a (Mark last began) own behind n e ends tile = absurd tile
-bare_kinds a (Group g) own behind n e ends tile = absurd tile
-bare_kinds a Function own behind n e ends tile = cc
-bare_kinds a Node own behind n e ends tile = absurd tile
+bare_kinds : (a : Bool) (r : Role) (own behind : List Glyph) → IsBareNode own → a ≡ false → EndsUrl behind
+    → (first_is (class.Only 39) behind ≡ true → is_quote_last own ≡ false) → IsTileOf r kind.BareUrl → Stays a r own behind
+bare_kinds a Link own behind n e ends q tile = cc
+bare_kinds a External own behind n e ends q tile = cc
+bare_kinds a (Bare last) own behind n e ends q tile = record { node = n; lead = e; has = ends; unquoted = q }
+bare_kinds a Switch own behind n e ends q tile = cc
+bare_kinds a Toggle own behind n e ends q tile = absurd tile
+bare_kinds a (Mark last began) own behind n e ends q tile = cc
+bare_kinds a (Group g) own behind n e ends q tile = absurd tile
+bare_kinds a Function own behind n e ends q tile = cc
+bare_kinds a Node own behind n e ends q tile = absurd tile
 
 bare_stays : (a : Bool) (r : Role) (b : ℕ) (gs behind : List Glyph) (w : Shape) → bare_url_at a (glyph.Byte b ∷ (gs ++ behind)) ≡ Some w → size w ≡ suc (length gs)
     → IsTileOf r w.kind → Stays a r (glyph.Byte b ∷ gs) behind
@@ -291,7 +294,7 @@ bare_stays a r b gs behind w e whole tile =
     let url : bare_url_at false (glyph.Byte b ∷ gs) ≡ Some w = f.1.url in
     bare_kinds a r (glyph.Byte b ∷ gs) behind
     (record { shape = w; first = b; others = gs; is = refl; unbracketed = unbracketed b gs w url; url = url; whole = omega (arith, whole) })
-    f.0 f.1.ends (subst (IsTileOf r) (bare_tile a (glyph.Byte b ∷ (gs ++ behind)) w e) tile)
+    f.0 f.1.ends f.1.unquoted (subst (IsTileOf r) (bare_tile a (glyph.Byte b ∷ (gs ++ behind)) w e) tile)
 
 -- ---- tags
 
@@ -316,10 +319,10 @@ tag_kinds a External own behind k n is tile = absurd (subst IsTagTile tile is)
 tag_kinds a (Bare ends) own behind k n is tile = absurd (subst IsTagTile tile is)
 tag_kinds a Switch own behind k n is tile = absurd (subst IsTagTile tile is)
 tag_kinds a Toggle own behind k n is tile = absurd tile
-tag_kinds a (Mark ends began) own behind k n is tile = absurd tile
+tag_kinds a (Mark ends began) own behind k n is tile = absurd (subst IsTagTile tile is)
 tag_kinds a (Group g) own behind k n is tile = absurd tile
 tag_kinds a Function own behind k n is tile = absurd (subst IsTagTile tile is)
-tag_kinds a Node own behind k n is tile = record { node = inr (inl n); lead = tt; has = tt }
+tag_kinds a Node own behind k n is tile = record { node = inr (inl n); lead = tt; has = tt; unquoted = λ q. tt }
 
 lone_tile : (m : Name) (h : TagShape) (n : ℕ) (gs : List Glyph) → IsLone m h → IsTagTile ((shape_of_tag 0 m h n gs).kind)
 lone_tile (Paired m) Opening n gs l = absurd l
@@ -485,9 +488,9 @@ switch_kinds : (a : Bool) (r : Role) (own behind : List Glyph) → IsSwitchNode 
 switch_kinds a Link own behind n tile = cc
 switch_kinds a External own behind n tile = cc
 switch_kinds a (Bare ends) own behind n tile = cc
-switch_kinds a Switch own behind n tile = record { node = n; lead = tt; has = tt }
+switch_kinds a Switch own behind n tile = record { node = n; lead = tt; has = tt; unquoted = λ q. tt }
 switch_kinds a Toggle own behind n tile = absurd tile
-switch_kinds a (Mark ends began) own behind n tile = absurd tile
+switch_kinds a (Mark ends began) own behind n tile = cc
 switch_kinds a (Group g) own behind n tile = absurd tile
 switch_kinds a Function own behind n tile = cc
 switch_kinds a Node own behind n tile = absurd tile
@@ -505,21 +508,21 @@ atom_kinds a External own behind n tile = cc
 atom_kinds a (Bare ends) own behind n tile = cc
 atom_kinds a Switch own behind n tile = cc
 atom_kinds a Toggle own behind n tile = absurd tile
-atom_kinds a (Mark ends began) own behind n tile = absurd tile
+atom_kinds a (Mark ends began) own behind n tile = cc
 atom_kinds a (Group g) own behind n tile = absurd tile
-atom_kinds a Function own behind n tile = record { node = n; lead = tt; has = tt }
-atom_kinds a Node own behind n tile = record { node = inl n; lead = tt; has = tt }
+atom_kinds a Function own behind n tile = record { node = n; lead = tt; has = tt; unquoted = λ q. tt }
+atom_kinds a Node own behind n tile = record { node = inl n; lead = tt; has = tt; unquoted = λ q. tt }
 
-mark_kinds : (r : Role) → IsTileOf r kind.Mark → ⊥
-mark_kinds Link tile = cc
-mark_kinds External tile = cc
-mark_kinds (Bare ends) tile = cc
-mark_kinds Switch tile = cc
-mark_kinds Toggle tile = tile
-mark_kinds (Mark ends began) tile = tile
-mark_kinds (Group g) tile = tile
-mark_kinds Function tile = cc
-mark_kinds Node tile = tile
+mark_kinds : (a : Bool) (r : Role) (own behind : List Glyph) → own ≡ glyph.Mark ∷ [] → IsTileOf r kind.Mark → Stays a r own behind
+mark_kinds a Link own behind is tile = cc
+mark_kinds a External own behind is tile = cc
+mark_kinds a (Bare ends) own behind is tile = cc
+mark_kinds a Switch own behind is tile = cc
+mark_kinds a Toggle own behind is tile = absurd tile
+mark_kinds a (Mark ends began) own behind is tile = record { node = is; lead = tt; has = tt; unquoted = λ q. tt }
+mark_kinds a (Group g) own behind is tile = absurd tile
+mark_kinds a Function own behind is tile = cc
+mark_kinds a Node own behind is tile = absurd tile
 
 -- a tile of one item is all of them
 one_item : (k : TileKind) (g : Glyph) (gs : List Glyph) (w : Shape) → leaf k 1 ≡ w → size w ≡ suc (length gs) → g ∷ gs ≡ g ∷ []
@@ -550,7 +553,7 @@ read_so a r (glyph.Atom ∷ gs) behind w e whole tile lone =
     (subst (λ (u : Shape). IsTileOf r u.kind) (sym is) tile)
 read_so a r (glyph.Mark ∷ gs) behind w e whole tile lone =
     let is : leaf kind.Mark 1 ≡ w = same_shape (leaf kind.Mark 1) w e in
-    absurd (mark_kinds r (subst (λ (u : Shape). IsTileOf r u.kind) (sym is) tile))
+    mark_kinds a r (glyph.Mark ∷ gs) behind (one_item kind.Mark glyph.Mark gs w is whole) (subst (λ (u : Shape). IsTileOf r u.kind) (sym is) tile)
 
 pub stood : (a : Bool) (r : Role) (own behind : List Glyph) → IsRead a r own behind → Stays a r own behind
 stood a r own behind h = read_so a r own behind h.shape h.form h.whole h.tile h.lone

@@ -23,9 +23,15 @@ pub mod HeldStyles
 pub mod StyledWritten
 pub mod StyledHeadings
 pub mod StyledAgain
+pub mod OldShut
 pub mod OldStyled
 pub mod StyledTexts
 pub mod OwnStyled
+pub mod StyleKinds
+pub mod OwnNests
+pub mod SentNests
+pub mod UrlEnds
+pub mod UrlsApart
 mod Cases
 mod InCases
 mod EditCases

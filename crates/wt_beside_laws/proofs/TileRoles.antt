@@ -70,7 +70,7 @@ pub of_kind : (u : ItemTree) (k : Kind) (r : Role) → (head_of u).kind ≡ k �
 of_kind u k r e i = record {
   form = subst (λ (j : Kind). IsThingForm (edit_shape j).inline) (sym e) i.form;
   numbered = ap is_numbered e ∙ i.numbered;
-  role = λ block s n before.
+  role = λ block s n before so.
       role_is block (standing n before u) s k (stands_kind n before u ∙ e) ∙ sort_role (edit_shape k).sort r block s (standing n before u) i.sorted;
 }
 
@@ -79,7 +79,7 @@ pub of_island : (u : ItemTree) → (head_of u).kind ≡ node_kind.Island → NoB
 of_island u e b = record {
   form = subst (λ (j : Kind). IsThingForm (edit_shape j).inline) (sym e) tt;
   numbered = ap is_numbered e;
-  role = λ block s n before.
+  role = λ block s n before so.
       role_is block (standing n before u) s node_kind.Island (stands_kind n before u ∙ e)
       ∙ ap (λ (bs : List ℕ). island (starts_with nat_eq bs (123 ∷ 123 ∷ []))) (standing_source n before u)
       ∙ ap island b;
@@ -148,7 +148,7 @@ external_thing w xs ps some =
     record {
       form = subst (λ (j : Kind). IsThingForm (edit_shape j).inline) (sym (external_kind w xs ps)) tt;
       numbered = ap is_numbered (external_kind w xs ps);
-      role = λ block s n before.
+      role = λ block s n before so.
           role_is block (standing n before u) s node_kind.ExtLink (stands_kind n before u ∙ external_kind w xs ps)
           ∙ ap (λ (bs : List ℕ). url bs (shown (standing n before u))) (external_opening w xs ps n before)
           ∙ url_opened (sources (opening_of w xs)) (shown (standing n before u)) some;
@@ -173,7 +173,7 @@ bare_thing m xs text shows =
     record {
       form = subst (λ (j : Kind). IsThingForm (edit_shape j).inline) (sym (bare_kind m xs)) tt;
       numbered = ap is_numbered (bare_kind m xs);
-      role = λ block s n before.
+      role = λ block s n before so.
           role_is block (standing n before u) s node_kind.ExtLink (stands_kind n before u ∙ bare_kind m xs)
           ∙ ap₂ (λ (bs cs : List ℕ). url bs cs) (bare_opening m n before xs) (shows n before);
     }
@@ -203,3 +203,39 @@ lexeme_thing form.Comment o bs l b = absurd l
 lexeme_thing form.Include o bs l b = absurd l
 lexeme_thing form.Hidden o bs l b = absurd l
 lexeme_thing form.EmptyCall o bs l b = absurd l
+
+-- ---- marks
+
+-- those of a page without calls
+abbrev pub IsMarkForm : ItemForm → Type 0
+IsMarkForm form.Chars = ⊥
+IsMarkForm (form.Entity c) = ⊥
+IsMarkForm form.Nowiki = ⊥
+IsMarkForm form.Extension = ⊥
+IsMarkForm form.Function = ⊥
+IsMarkForm form.Comment = Unit {0}
+IsMarkForm form.Include = Unit {0}
+IsMarkForm form.Hidden = Unit {0}
+IsMarkForm form.EmptyCall = ⊥
+
+of_mark : (ends began : Bool) (u : ItemTree) (k : Kind) → (head_of u).kind ≡ k → IsThingForm (edit_shape k).inline → is_numbered k ≡ true → (edit_shape k).sort ≡ sort.Mark
+    → IsThing u (role.Mark ends began)
+of_mark ends began u k e f numbered is = record {
+  form = subst (λ (j : Kind). IsThingForm (edit_shape j).inline) (sym e) f;
+  numbered = ap is_numbered e ∙ numbered;
+  role = λ block s n before so.
+      role_is block (standing n before u) s k (stands_kind n before u ∙ e)
+      ∙ ap (λ (w : Sort). role_by w block s (standing n before u)) is
+      ∙ ap₂ (λ (v w : Bool). role.Mark v w) (ap (λ (bs : List ℕ). ends_with nat_eq bs (10 ∷ [])) (standing_source n before u) ∙ so.0) (so.1 s refl);
+}
+
+pub mark_thing : (ends began : Bool) (f : ItemForm) (o : Option ℕ) (bs : List ℕ) → IsMarkForm f → IsThing (whole_tree f o bs) (role.Mark ends began)
+mark_thing ends began form.Chars o bs l = absurd l
+mark_thing ends began (form.Entity c) o bs l = absurd l
+mark_thing ends began form.Nowiki o bs l = absurd l
+mark_thing ends began form.Extension o bs l = absurd l
+mark_thing ends began form.Function o bs l = absurd l
+mark_thing ends began form.Comment o bs l = of_mark ends began (whole_tree form.Comment o bs) node_kind.Comment refl tt refl refl
+mark_thing ends began form.Include o bs l = of_mark ends began (whole_tree form.Include o bs) node_kind.Include refl tt refl refl
+mark_thing ends began form.Hidden o bs l = of_mark ends began (whole_tree form.Hidden o bs) node_kind.Include refl tt refl refl
+mark_thing ends began form.EmptyCall o bs l = absurd l

@@ -10,7 +10,6 @@ use Rattle.wt_names.proofs.Ascii.{IsWide, encode_wide, encode_some}
 use Rattle.wt_guards.specs.Content.{ContentSign, letter, thing, nearest}
 use Rattle.wt_guards.specs.Letters.{is_bracket, is_escaped, opens_tag}
 use Rattle.wt_guards.specs.Guards.{Setting, is_guarded}
-use Rattle.wt_expand.specs.PageItems.{page_items}
 use Rattle.wt_spelling_laws.proofs.TextReads.{bracket_escaped, not_bracket, equal_or, or_parts}
 use Rattle.wt_tiles.specs.declared.context.Context.{Context}
 use Rattle.wt_tiles.specs.declared.glyph.Glyph.{Glyph}
@@ -24,6 +23,7 @@ use Rattle.wt_tiles.specs.Urls.{scheme_len, url_items, ext_link_at, kept_len, ba
 use Rattle.wt_beside_laws.specs.Beginnings.{is_lone_underscore, AvoidsSwitches, AllAvoidSwitches, IsApart}
 use Rattle.wt_beside_laws.specs.Glyphs.{guard_glyphs, letter_glyphs, content_glyphs, AllAvoid}
 use Rattle.wt_beside_laws.proofs.TypedTiles.{scheme_none}
+use Rattle.wt_beside_laws.specs.NodeItems.{node_items}
 
 -- ---- the first item of what follows
 
@@ -78,7 +78,7 @@ unfolding tag_at opening_tag closing_tag
 less_none [] h = refl
 less_none (g ∷ gs) h = rw (h.0, h.1) refl
 
-tag_other : (b : ℕ) (gs : List Glyph) → (b == 60) ≡ false → tag_at (glyph.Byte b ∷ gs) ≡ None
+pub tag_other : (b : ℕ) (gs : List Glyph) → (b == 60) ≡ false → tag_at (glyph.Byte b ∷ gs) ≡ None
 unfolding tag_at opening_tag closing_tag
 tag_other b gs e = rw e refl
 
@@ -138,7 +138,7 @@ behind_underscore : (s : Setting) (before after : List ContentSign) (rest : List
     → is_lone_underscore (content_glyphs s (letter 95 ∷ before) after rest) ≡ false
 behind_underscore s before [] rest h e = guard_alone (is_guarded s (letter 95 ∷ before) []) rest e
 behind_underscore s before (thing t ∷ after) rest h e =
-    let own : List Glyph = map glyph_of (page_items t.source) in
+    let own : List Glyph = map glyph_of (node_items t.source) in
     let more : List Glyph = content_glyphs s (thing t ∷ letter 95 ∷ before) after rest in
     guard_alone (is_guarded s (letter 95 ∷ before) (thing t ∷ after)) (own ++ more) (thing_alone own more h.0)
 behind_underscore s before (letter d ∷ after) rest h e =
@@ -152,7 +152,7 @@ three_underscores : (gs : List Glyph) → switch_at (glyph.Byte 95 ∷ glyph.Byt
 unfolding switch_at switch_names
 three_underscores gs = refl
 
-switch_other : (b : ℕ) (gs : List Glyph) → (b == 95) ≡ false → switch_at (glyph.Byte b ∷ gs) ≡ None
+pub switch_other : (b : ℕ) (gs : List Glyph) → (b == 95) ≡ false → switch_at (glyph.Byte b ∷ gs) ≡ None
 unfolding switch_at
 switch_other b gs e = rw e refl
 

@@ -9,13 +9,13 @@ use Rattle.std.proofs.lemmas.Str.{encode_ascii}
 use Rattle.wt_names.proofs.Ascii.{IsWide, encode_wide, encode_some}
 use Rattle.wt_guards.specs.Content.{ContentSign, letter, thing}
 use Rattle.wt_guards.specs.Letters.{is_term, is_escaped}
-use Rattle.wt_expand.specs.PageItems.{page_items}
 use Rattle.wt_guards.specs.Guards.{Setting, is_guarded}
 use Rattle.wt_tiles.specs.declared.glyph.Glyph.{Glyph}
 use Rattle.wt_tiles.specs.declared.glyph.Glyph.TheVariants as glyph
 use Rattle.wt_tiles.specs.Glyphs.{glyph_of, byte_glyphs, like_byte, begins_like}
 use Rattle.wt_tiles.specs.Urls.{scheme_len}
 use Rattle.wt_beside_laws.specs.Glyphs.{guard_glyphs, letter_glyphs, content_glyphs, is_url_start, AvoidsUrls, IsPast, AllAvoid}
+use Rattle.wt_beside_laws.specs.NodeItems.{node_items}
 
 -- ---- a word of which each byte goes on with the beginning of a URL
 
@@ -85,7 +85,7 @@ step s before (letter c ∷ after) rest m ws more h past e =
     (guard_by m ws (is_guarded s before (letter c ∷ after)) (letter_glyphs t c ++ content_glyphs s (letter c ∷ before) after rest) e) in
     record { c = c; after = after; is = refl; plain = l.plain; like = l.like; avoid = h; further = l.rest }
 step s before (thing t ∷ after) rest m ws more h past e =
-    let own : List Glyph = map glyph_of (page_items t.source) in
+    let own : List Glyph = map glyph_of (node_items t.source) in
     let no : false ≡ true = sym (thing_first m ws own (content_glyphs s (thing t ∷ before) after rest) more.1 h.0)
     ∙ guard_by m ws (is_guarded s before (thing t ∷ after)) (own ++ content_glyphs s (thing t ∷ before) after rest) e in cc
 

@@ -18,6 +18,7 @@ use Rattle.wt_tiles.specs.Tiles.{size}
 use Rattle.wt_tiles.specs.Urls.{scheme_len, is_url_char, is_url_glyph, url_run, url_items, text_len, ext_shape, ext_link_after, ext_link_of, ext_link_at, is_dropped, has_paren, kept_len, bare_shape, bare_url_of, bare_url_at}
 use Rattle.wt_tiles.proofs.LinkFits.{OptPlace, place_fits}
 use Rattle.wt_tiles.proofs.UrlFits.{url_run_le, kept_le}
+use Rattle.wt_beside_laws.specs.Nodes.{is_quote_last}
 use Rattle.wt_beside_laws.specs.Stood.{EndsUrl, is_url_end}
 use Rattle.wt_beside_laws.proofs.LinkTiles.{place_by, same_shape, if_some, first_stays}
 use Rattle.wt_beside_laws.proofs.UrlTiles.{IsOfFirst, is_after, both_some, scheme_stays, scheme_some, like_stays}
@@ -411,6 +412,42 @@ dropped_first (suc n) (g ∷ gs) le e f = inr (left_true (is_in is_url_end g) (l
 pub record BareFront (gs rest : List Glyph) (w : Shape) : Type 0 where
   pub url : bare_url_at false gs ≡ Some w
   pub ends : EndsUrl rest
+  pub unquoted : first_is (class.Only 39) rest ≡ true → is_quote_last gs ≡ false
+
+-- before an apostrophe, where it ends with one, it would have ended before that
+never : (b : Bool) → (b && false) ≡ false
+never true = refl
+never false = refl
+
+quoted_run : (us rest : List Glyph) → is_quote_last us ≡ true → first_is (class.Only 39) rest ≡ true → url_run (us ++ rest) < length us
+quoted_run [] rest l q = absurd (cc)
+quoted_run (g ∷ []) [] l q = absurd (cc)
+quoted_run (g ∷ []) (r ∷ rest) l q =
+    let two : begins (codes "''") (g ∷ r ∷ rest) ≡ true =
+    ap (λ (v : Bool). v && (is_in (λ (b : ℕ). b == 39) r && true)) l ∙ ap (λ (v : Bool). v && true) q in
+    let none : url_run (g ∷ r ∷ rest) ≡ 0 =
+    ap (λ (u : Bool). if is_url_glyph g && not u then suc (url_run (r ∷ rest)) else 0) two
+    ∙ ap (λ (v : Bool). if v then suc (url_run (r ∷ rest)) else 0) (never (is_url_glyph g)) in
+    omega (arith, none)
+quoted_run (g ∷ h ∷ us) rest l q = by (is_url_glyph g && not (begins (codes "''") (g ∷ h ∷ us))) (quoted_run (h ∷ us) rest l q)
+  where
+    by : (v : Bool) → url_run (h ∷ (us ++ rest)) < length (h ∷ us) → (if v then suc (url_run (h ∷ (us ++ rest))) else 0) < suc (length (h ∷ us))
+    by true lt = omega (arith, lt)
+    by false lt = omega arith
+
+quote_drop : (n : ℕ) (gs : List Glyph) → n < length gs → is_quote_last (drop n gs) ≡ is_quote_last gs
+quote_drop zero gs lt = refl
+quote_drop (suc n) [] lt = absurd (omega (arith, lt))
+quote_drop (suc n) (g ∷ []) lt = absurd (omega (arith, lt))
+quote_drop (suc n) (g ∷ h ∷ gs) lt = quote_drop n (h ∷ gs) (omega (arith, lt))
+
+front_unquoted : (s : ℕ) (gs rest : List Glyph) (n : ℕ) → s < length gs → url_run (drop s gs ++ rest) ≡ length (drop s gs) + n → first_is (class.Only 39) rest ≡ true
+    → is_quote_last gs ≡ false
+front_unquoted s gs rest n lt all q = by (is_quote_last gs) refl
+  where
+    by : (v : Bool) → is_quote_last gs ≡ v → v ≡ false
+    by true e = let short = quoted_run (drop s gs) rest (quote_drop s gs lt ∙ e) q in absurd (omega (arith, short, all))
+    by false e = refl
 
 bare_parts : (gs rest : List Glyph) (w : Shape) (s : ℕ) → scheme_len (gs ++ rest) ≡ s → 1 ≤ s → 1 ≤ kept_len (url_items (gs ++ rest))
     → s + kept_len (url_items (gs ++ rest)) ≡ length gs → bare_url_of s (kept_len (url_items (gs ++ rest))) ≡ Some w → BareFront gs rest w
@@ -437,6 +474,7 @@ bare_parts gs rest w s scheme some one whole is =
     record {
       url = ap₂ (λ (i j : ℕ). bare_url_of i j) own_scheme number ∙ is;
       ends = dropped_first n rest (url_run_le rest) d.ends (λ z. none_run rest z);
+      unquoted = λ q. front_unquoted s gs rest n (omega (arith, whole, one)) all q;
     }
   where
     taken_all : (i : ℕ) (xs : List Glyph) → i ≤ length xs → length (take i xs) ≡ i

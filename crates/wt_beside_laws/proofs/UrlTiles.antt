@@ -1,5 +1,5 @@
 -- External links, bare URLs and switches are the same tiles whatever is read behind them, but for what goes on with a URL.
-use Rattle.std.proofs.Common.{arith, ◌≡◌, ℕ, suc, ◌+◌, ◌-◌, ◌<◌, ◌≤◌, ◌==◌, Bool, true, false, Option, Some, None, List, [], ◌∷◌, ◌++◌, length, take, drop, refl, sym, ap, ap₂, ◌∙◌, subst, nat_lt}
+use Rattle.std.proofs.Common.{arith, ◌≡◌, ℕ, zero, suc, ◌+◌, ◌-◌, ◌<◌, ◌≤◌, ◌==◌, Bool, true, false, Option, Some, None, List, [], ◌∷◌, ◌++◌, length, take, drop, refl, sym, ap, ap₂, ◌∙◌, subst, nat_lt}
 use Rattle.std.specs.Prelude.{◌&&◌, not, codes, option_map, if◌then◌else◌}
 use Rattle.std.proofs.lemmas.Bool.Decides.{nat_tests}
 use Rattle.std.proofs.lemmas.List.{drop-append-le, take-append-le, length-drop, length-take}
@@ -13,6 +13,7 @@ use Rattle.wt_tiles.specs.Glyphs.{is_in, in_class, first_is, run_len, begins, li
 use Rattle.wt_tiles.specs.Links.{place}
 use Rattle.wt_tiles.specs.Tiles.{size}
 use Rattle.wt_tiles.specs.Urls.{scheme_len, is_url_char, is_url_glyph, url_run, url_items, text_len, ext_shape, ext_link_after, ext_link_of, ext_link_at, kept_len, bare_shape, bare_url_of, bare_url_at}
+use Rattle.wt_beside_laws.specs.Nodes.{is_quote_last}
 use Rattle.wt_beside_laws.specs.Tiles.{IsPastUrl}
 use Rattle.wt_beside_laws.proofs.LinkTiles.{place_by, same_shape, if_some}
 
@@ -115,6 +116,23 @@ url_past [] [] e = refl
 url_past [] (r ∷ rest) e = ap (λ (u : Bool). if u && not (begins (codes "''") (r ∷ rest)) then suc (url_run rest) else 0) e
 url_past (g ∷ []) rest e = url_by g [] rest (url_past [] rest e) (quotes_past g rest e)
 url_past (g ∷ h ∷ gs) rest e = url_by g (h ∷ gs) rest (url_past (h ∷ gs) rest e) refl
+
+-- before two apostrophes, where it ends with none
+pub url_unquoted : (gs rest : List Glyph) → is_quote_last gs ≡ false → begins (codes "''") rest ≡ true → url_run (gs ++ rest) ≡ url_run gs
+url_unquoted [] [] l q = cc
+url_unquoted [] (r ∷ rest) l q =
+    ap (λ (u : Bool). if is_url_glyph r && not u then suc (url_run rest) else 0) q
+    ∙ ap (λ (v : Bool). if v then suc (url_run rest) else 0) (and_none (is_url_glyph r))
+url_unquoted (g ∷ []) rest l q =
+    url_by g [] rest (url_unquoted [] rest refl q)
+    (ap (λ (v : Bool). v && begins (codes "'") rest) l ∙ sym (ap (λ (v : Bool). v && begins (codes "'") []) l))
+url_unquoted (g ∷ h ∷ gs) rest l q = url_by g (h ∷ gs) rest (url_unquoted (h ∷ gs) rest l q) refl
+
+unquoted_drop : (n : ℕ) (gs : List Glyph) → is_quote_last gs ≡ false → is_quote_last (drop n gs) ≡ false
+unquoted_drop zero gs l = l
+unquoted_drop (suc n) [] l = refl
+unquoted_drop (suc n) (g ∷ []) l = unquoted_drop n [] refl
+unquoted_drop (suc n) (g ∷ h ∷ gs) l = unquoted_drop n (h ∷ gs) l
 
 -- ---- an external link
 
@@ -280,10 +298,11 @@ run_fits (g ∷ gs) = fits_by (is_url_glyph g && not (begins (codes "''") (g ∷
     fits_by true le = omega (arith, le)
     fits_by false le = omega arith
 
--- behind it is no item of a URL
-pub bare_stays : (gs rest : List Glyph) (w : Shape) → IsPastUrl rest → bare_url_at false gs ≡ Some w → bare_url_at false (gs ++ rest) ≡ Some w
+-- no more items are of it
+bare_by_run : (gs rest : List Glyph) (w : Shape) → url_run (drop (scheme_len gs) gs ++ rest) ≡ url_run (drop (scheme_len gs) gs)
+    → bare_url_at false gs ≡ Some w → bare_url_at false (gs ++ rest) ≡ Some w
 unfolding bare_url_at
-bare_stays gs rest w past e =
+bare_by_run gs rest w same e =
     let s : ℕ = scheme_len gs in
     let us : List Glyph = drop s gs in
     let g = both_some s (kept_len (url_items gs)) (Some (bare_shape (s + kept_len (url_items gs)))) w e in
@@ -291,6 +310,16 @@ bare_stays gs rest w past e =
     let items : url_items (gs ++ rest) ≡ url_items gs =
     ap (λ (j : ℕ). take (url_run (drop j (gs ++ rest))) (drop j (gs ++ rest))) c.0
     ∙ ap (λ hs. take (url_run hs) hs) (drop-append-le s gs rest c.1)
-    ∙ ap (λ (i : ℕ). take i (us ++ rest)) (url_past us rest past)
+    ∙ ap (λ (i : ℕ). take i (us ++ rest)) same
     ∙ take-append-le (url_run us) us rest (run_fits us) in
     ap₂ (λ (i : ℕ) (hs : List Glyph). bare_url_of i (kept_len hs)) c.0 items ∙ e
+
+-- behind it is no item of a URL
+pub bare_stays : (gs rest : List Glyph) (w : Shape) → IsPastUrl rest → bare_url_at false gs ≡ Some w → bare_url_at false (gs ++ rest) ≡ Some w
+bare_stays gs rest w past e = bare_by_run gs rest w (url_past (drop (scheme_len gs) gs) rest past) e
+
+-- behind it are two apostrophes
+pub bare_unquoted : (gs rest : List Glyph) (w : Shape) → is_quote_last gs ≡ false → begins (codes "''") rest ≡ true → bare_url_at false gs ≡ Some w
+    → bare_url_at false (gs ++ rest) ≡ Some w
+bare_unquoted gs rest w last quotes e =
+    bare_by_run gs rest w (url_unquoted (drop (scheme_len gs) gs) rest (unquoted_drop (scheme_len gs) gs last) quotes) e

@@ -4,7 +4,7 @@ use Rattle.std.specs.Str.{IsUtf8}
 use Rattle.wt_span.specs.Characters as byte
 use Rattle.wt_span.specs.Items.{Item, char, whole}
 use Rattle.wt_guards.specs.Content.{ContentSign, letter, thing}
-use Rattle.wt_expand.specs.PageItems.{page_items}
+use Rattle.wt_beside_laws.specs.NodeItems.{node_items}
 
 abbrev pub is_brace : ℕ → Bool
 is_brace b = b == byte.opening_brace || b == byte.closing_brace
@@ -17,7 +17,7 @@ HaveNoBraces (whole f o bs ∷ xs) = HaveNoBraces xs
 
 pub record IsCalm (source : List ℕ) : Type 0 where
   pub utf8 : IsUtf8 source
-  pub unbraced : HaveNoBraces (page_items source)
+  pub unbraced : HaveNoBraces (node_items source)
 
 -- so each node's source
 abbrev pub AreCalm : List ContentSign → Type 0

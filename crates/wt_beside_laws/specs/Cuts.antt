@@ -3,7 +3,6 @@ use Rattle.std.specs.Prelude.{◌≡◌, ◌⊎◌, ℕ, ◌+◌, ◌&&◌, Bool
 use Rattle.wt_guards.specs.Content.{ContentSign, Thing, letter, thing}
 use Rattle.wt_guards.specs.Guards.{Setting, is_guarded}
 use Rattle.wt_guards.specs.Letters.{is_escaped}
-use Rattle.wt_expand.specs.PageItems.{page_items}
 use Rattle.wt_tiles.specs.declared.context.Context.{Context}
 use Rattle.wt_tiles.specs.declared.glyph.Glyph.{Glyph}
 use Rattle.wt_tiles.specs.declared.shape.Shape.{Shape}
@@ -12,6 +11,7 @@ use Rattle.wt_tiles.specs.Glyphs.{glyph_of, is_in, byte_glyphs}
 use Rattle.wt_tiles.specs.Links.{leaf}
 use Rattle.wt_tiles.specs.Tiles.{size, Cut, closed, tile_with, cuts}
 use Rattle.wt_tiles.specs.Urls.{is_word}
+use Rattle.wt_beside_laws.specs.NodeItems.{node_items}
 use Rattle.wt_beside_laws.specs.Glyphs.{content_glyphs}
 
 -- so many characters before what follows
@@ -23,7 +23,7 @@ abbrev pub add_tile : Shape → Cut → Cut
 add_tile w c = (0, w ∷ closed c.0 c.1)
 
 abbrev pub own_glyphs : Thing → List Glyph
-own_glyphs t = map glyph_of (page_items t.source)
+own_glyphs t = map glyph_of (node_items t.source)
 
 -- the form that a node begins with; none, if it is a style delimiter
 abbrev pub own_form : Context → List Glyph → Option Shape

@@ -6,11 +6,12 @@ use Rattle.wt_guards.specs.declared.role.Role.TheVariants.{Link, External, Bare,
 use Rattle.wt_guards.specs.Content.{ContentSign, letter, thing}
 use Rattle.wt_guards.specs.Guards.{Setting, is_guarded}
 use Rattle.wt_guards.specs.Letters.{is_escaped}
-use Rattle.wt_expand.specs.PageItems.{page_items}
 use Rattle.wt_inline.specs.declared.loose.Loose.TheVariants.{Text}
 use Rattle.wt_inline.specs.Parts.{Part, parts}
 use Rattle.wt_context.specs.Line.{line_parts}
+use Rattle.wt_beside_laws.specs.NodeItems.{node_items}
 use Rattle.wt_beside_laws.specs.Content.{AreKept, guard_items, letter_items}
+use Rattle.wt_beside_laws.specs.Led.{AreMarksLed}
 use Rattle.wt_beside_laws.specs.Lines.{AreCharacters, AreUnbroken}
 use Rattle.wt_beside_laws.specs.Nodes.{AreNodes, AllMeet}
 
@@ -31,6 +32,13 @@ AreFlat [] = Unit {0}
 AreFlat (letter c ∷ after) = AreFlat after
 AreFlat (thing t ∷ after) = IsFlat t.role × AreFlat after
 
+-- What its reading hangs on, in a paragraph or a heading.
+pub record IsReadIn (s : Setting) (signs : List ContentSign) : Type 0 where
+  pub within : s.within ≡ false
+  pub kept : AreKept signs
+  pub nodes : AreNodes signs
+  pub led : AreMarksLed signs
+
 -- Such a content of a paragraph or a heading: text that is typed, and nodes that stay, each read so whatever is written behind it, on one line
 -- each, and beside each other as they may stand in a page.
 pub record IsFlatContent (s : Setting) (signs : List ContentSign) : Type 0 where
@@ -40,6 +48,7 @@ pub record IsFlatContent (s : Setting) (signs : List ContentSign) : Type 0 where
   pub nodes : AreNodes signs
   pub unbroken : AreUnbroken signs
   pub flat : AreFlat signs
+  pub led : AreMarksLed signs
   pub meet : AllMeet s [] signs []
 
 -- ---- what it is
@@ -51,7 +60,7 @@ content_parts s before (letter c ∷ after) =
     parts Text (guard_items (is_guarded s before (letter c ∷ after)))
     ++ (parts Text (letter_items (is_escaped s.within s.place before c after) c) ++ content_parts s (letter c ∷ before) after)
 content_parts s before (thing t ∷ after) =
-    parts Text (guard_items (is_guarded s before (thing t ∷ after))) ++ (line_parts (page_items t.source) ++ content_parts s (thing t ∷ before) after)
+    parts Text (guard_items (is_guarded s before (thing t ∷ after))) ++ (line_parts (node_items t.source) ++ content_parts s (thing t ∷ before) after)
 
 -- those up to the end of the line
 abbrev pub line_content : Setting → List ContentSign → List ContentSign → List Part
@@ -60,4 +69,4 @@ line_content s before (letter c ∷ after) =
     parts Text (guard_items (is_guarded s before (letter c ∷ after)))
     ++ (if c == byte.line_break then [] else parts Text (letter_items (is_escaped s.within s.place before c after) c) ++ line_content s (letter c ∷ before) after)
 line_content s before (thing t ∷ after) =
-    parts Text (guard_items (is_guarded s before (thing t ∷ after))) ++ (line_parts (page_items t.source) ++ line_content s (thing t ∷ before) after)
+    parts Text (guard_items (is_guarded s before (thing t ∷ after))) ++ (line_parts (node_items t.source) ++ line_content s (thing t ∷ before) after)

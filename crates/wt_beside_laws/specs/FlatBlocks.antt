@@ -5,16 +5,21 @@ use Rattle.wt_span.specs.Items.{Item}
 use Rattle.wt_span.specs.Tags.{to_closing}
 use Rattle.wt_tree.specs.Tree.{Tree}
 use Rattle.wt_guards.specs.Content.{ContentSign, letter, thing}
+use Rattle.wt_original.specs.Page.{page_of}
 use Rattle.wt_link_spelling.specs.Spelling.{children_of}
 use Rattle.wt_expand.specs.PageItems.{page_items}
 use Rattle.wt_lines.specs.Lines.{lines}
 use Rattle.wt_content.specs.Content.{has_break}
-use Rattle.wt_typed_blocks.specs.Edited.{Pieces, no_pieces, gone, written, kept, around, new_style, page_pieces, PiecesStay}
+use Rattle.wt_typed_blocks.specs.Edited.{Pieces, no_pieces, gone, written, kept, around, new_style, page_pieces, sent_pieces, PiecesStay}
 use Rattle.wt_text_edit_laws.specs.TextBlocks.{TextBlock, a_paragraph, a_heading}
 use Rattle.wt_text_edit_laws.specs.TypedHeadings.{opening}
+use Rattle.wt_visible.specs.SameNodes.{same_node}
 use Rattle.wt_beside_laws.specs.FlatPages.{AreNodesAndTexts}
+use Rattle.wt_beside_laws.specs.Led.{AreMarksLed}
 use Rattle.wt_beside_laws.specs.PageSigns.{signs_of_lines}
 use Rattle.wt_beside_laws.specs.SentPieces.{HaveNoStyle}
+use Rattle.wt_beside_laws.specs.SentStyled.{sent_content}
+use Rattle.wt_beside_laws.specs.Styled.{StyledContent, signs_in as signs_of}
 
 -- ---- its lines
 
@@ -61,10 +66,16 @@ abbrev pub TextsFitIn : TextBlock → Pieces → Type 0
 TextsFitIn a_paragraph ps = Unit {0}
 TextsFitIn (a_heading s) ps = AreOneLine ps
 
+-- its signs, and the styles round them
+abbrev pub sent_for : Tree → Pieces → StyledContent
+sent_for block ps = sent_content (page_of same_node block) (sent_pieces ps)
+
 -- Nodes of this block stay, in their order, and each is sent as it is; any texts are between them, in a heading on one line. What else it held is gone.
+-- Before each line of comments a line ends.
 pub record IsFlatEditOf (k : TextBlock) (block : Tree) (ps : Pieces) : Type 0 where
   pub old : page_pieces ps ≡ children_of block
   pub stay : PiecesStay ps
   pub are : AreNodesAndTexts ps
   pub fit : TextsFitIn k ps
   pub plain : HaveNoStyle ps
+  pub led : AreMarksLed (signs_of (sent_for block ps))

@@ -24,6 +24,7 @@ use Rattle.wt_text_edit_laws.specs.Parts.{part_tree, HasNoGroups}
 use Rattle.wt_beside_laws.specs.Calm.{AreCalm}
 use Rattle.wt_beside_laws.specs.Content.{AreKept}
 use Rattle.wt_text_edit_laws.specs.ParagraphParts.{para_with, joined_parts}
+use Rattle.wt_beside_laws.specs.Led.{AreMarksLed}
 use Rattle.wt_beside_laws.specs.Lines.{AreLinesOfText}
 use Rattle.wt_beside_laws.specs.PageBlocks.{AreUnstyled, AreShut}
 use Rattle.wt_beside_laws.specs.PageSigns.{signs_of_lines, AreFlatLines}
@@ -65,13 +66,6 @@ AreNodesAndTexts (kept t u ps) = IsNodeForm (edit_shape (label t).kind).inline �
 AreNodesAndTexts (around l m is ps) = AreNodesAndTexts is × AreNodesAndTexts ps
 AreNodesAndTexts (new_style m is ps) = AreNodesAndTexts is × AreNodesAndTexts ps
 
--- All nodes of the paragraph stay, each is sent as it is, and any texts are between them.
-pub record IsFlatEdit (q : List ℕ) (ps : Pieces) : Type 0 where
-  pub old : page_pieces ps ≡ children_of (block_of q)
-  pub stay : PiecesStay ps
-  pub go : OnlyTextsGo ps
-  pub are : AreNodesAndTexts ps
-
 -- the paragraph, sent with this label
 abbrev pub flat_edits : Label → List ℕ → Pieces → Edits
 flat_edits m q ps = more_edits (edited paragraph (label (block_of q)) m ps) no_edits
@@ -86,6 +80,14 @@ new_signs q ps = signs_of_all (page_of same_node (block_of q)) place.Paragraph (
 
 abbrev pub new_flat : List ℕ → Pieces → List ℕ
 new_flat q ps = spelled (record { within = false; place = place.Paragraph; source = flat (block_of q) }) (new_signs q ps)
+
+-- All nodes of the paragraph stay, each is sent as it is, and any texts are between them. Before each line of comments a line ends.
+pub record IsFlatEdit (q : List ℕ) (ps : Pieces) : Type 0 where
+  pub old : page_pieces ps ≡ children_of (block_of q)
+  pub stay : PiecesStay ps
+  pub go : OnlyTextsGo ps
+  pub are : AreNodesAndTexts ps
+  pub led : AreMarksLed (new_signs q ps)
 
 -- ---- without marks
 

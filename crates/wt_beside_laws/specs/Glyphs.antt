@@ -4,10 +4,10 @@ use Rattle.std.specs.Char.{to_ascii_lowercase}
 use Rattle.wt_guards.specs.Content.{ContentSign, letter, thing}
 use Rattle.wt_guards.specs.Guards.{Setting, is_guarded}
 use Rattle.wt_guards.specs.Letters.{is_escaped}
-use Rattle.wt_expand.specs.PageItems.{page_items}
 use Rattle.wt_tiles.specs.declared.glyph.Glyph.{Glyph}
 use Rattle.wt_tiles.specs.declared.glyph.Glyph.TheVariants as glyph
 use Rattle.wt_tiles.specs.Glyphs.{glyph_of, is_in, byte_glyphs}
+use Rattle.wt_beside_laws.specs.NodeItems.{node_items}
 
 abbrev pub guard_glyphs : Bool → List Glyph
 guard_glyphs true = glyph.Atom ∷ []
@@ -23,7 +23,7 @@ content_glyphs s before [] rest = guard_glyphs (is_guarded s before []) ++ rest
 content_glyphs s before (letter c ∷ after) rest =
     guard_glyphs (is_guarded s before (letter c ∷ after)) ++ (letter_glyphs (is_escaped s.within s.place before c after) c ++ content_glyphs s (letter c ∷ before) after rest)
 content_glyphs s before (thing t ∷ after) rest =
-    guard_glyphs (is_guarded s before (thing t ∷ after)) ++ (map glyph_of (page_items t.source) ++ content_glyphs s (thing t ∷ before) after rest)
+    guard_glyphs (is_guarded s before (thing t ∷ after)) ++ (map glyph_of (node_items t.source) ++ content_glyphs s (thing t ∷ before) after rest)
 
 -- `t`, `p`, `s`, `:` or `/`, with which the beginning of a URL goes on
 abbrev pub is_url_start : Glyph → Bool
@@ -43,4 +43,4 @@ IsPast (g ∷ gs) = is_url_start g ≡ false
 abbrev pub AllAvoid : List ContentSign → Type 0
 AllAvoid [] = Unit {0}
 AllAvoid (letter c ∷ after) = AllAvoid after
-AllAvoid (thing t ∷ after) = AvoidsUrls (map glyph_of (page_items t.source)) × AllAvoid after
+AllAvoid (thing t ∷ after) = AvoidsUrls (map glyph_of (node_items t.source)) × AllAvoid after

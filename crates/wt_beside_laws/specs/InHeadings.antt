@@ -8,11 +8,11 @@ use Rattle.wt_guards.specs.declared.role.Role.{Role}
 use Rattle.wt_guards.specs.declared.role.Role.TheVariants.{Link, External, Bare, Switch, Toggle, Mark, Group, Function, Node}
 use Rattle.wt_guards.specs.Content.{ContentSign, letter, thing}
 use Rattle.wt_guards.specs.Guards.{Setting}
-use Rattle.wt_expand.specs.PageItems.{page_items}
 use Rattle.wt_inline.specs.ItemTree.{plain, ItemTree, inner, forest}
 use Rattle.wt_inline.specs.Parts.{Part, children}
 use Rattle.wt_text_edit_laws.specs.LonePages.{page_chars}
 use Rattle.wt_text_edit_laws.specs.TypedHeadings.{Sides, opening, closing_items, EndsWithout, is_equals_sign}
+use Rattle.wt_beside_laws.specs.NodeItems.{node_items}
 use Rattle.wt_beside_laws.specs.Flat.{IsFlatContent}
 
 -- no line break is typed
@@ -42,7 +42,7 @@ EndsUnequal Node ss = Unit {0}
 
 abbrev pub SignEndsUnequal : ContentSign → Type 0
 SignEndsUnequal (letter c) = Unit {0}
-SignEndsUnequal (thing t) = EndsUnequal t.role (map sign (page_items t.source))
+SignEndsUnequal (thing t) = EndsUnequal t.role (map sign (node_items t.source))
 
 abbrev pub LastEndsUnequal : List ContentSign → Type 0
 LastEndsUnequal [] = Unit {0}

@@ -9,6 +9,7 @@ use Rattle.wt_span.specs.Items.{Item}
 use Rattle.wt_span.specs.Lexemes.{form_at}
 use Rattle.wt_expand.specs.PageItems.{items_of_word}
 use Rattle.wt_text_edit_laws.specs.LonePages.{page_chars}
+use Rattle.wt_text_edit_laws.specs.TextBetween.{EndsBy}
 
 -- Characters, a `<` or `&` of which no lexeme is made, with characters behind it, or a lexeme.
 pub data Part : Type 0 where
@@ -29,11 +30,16 @@ pub record IsSign (b : ℕ) (q : List ℕ) : Type 0 where
   pub none : (rest : List ℕ) → form_at Page false (b ∷ (q ++ rest)) ≡ None
   pub uncommented : (rest : List ℕ) → comment_len (b ∷ (q ++ rest)) ≡ None
 
+-- a `>` or a `;`
+abbrev pub is_lexeme_end : ℕ → Bool
+is_lexeme_end b = b == byte.greater_than || b == byte.semicolon
+
 -- these bytes are one, whatever is written behind them, and no comment
 pub record IsLexeme (kind : LexKind) (b : ℕ) (q : List ℕ) : Type 0 where
   pub form : (rest : List ℕ) → form_at Page false (b ∷ (q ++ rest)) ≡ Some (kind, suc (length q))
   pub uncommented : (rest : List ℕ) → comment_len (b ∷ (q ++ rest)) ≡ None
   pub begins : is_blank b ≡ false
+  pub ends : EndsBy is_lexeme_end (b ∷ q)
 
 abbrev pub IsPart : Part → Type 0
 IsPart (characters bs) = AreFirm bs

@@ -1,5 +1,8 @@
 pub mod Kept
+pub mod NodeItems
+pub mod Led
 pub mod Nodes
+pub mod Commented
 pub mod Content
 pub mod Cuts
 pub mod PageSigns
@@ -18,6 +21,7 @@ pub mod SentPieces
 pub mod Calm
 pub mod FlatPages
 pub mod FlatBlocks
+pub mod HeldLines
 pub mod ContentEdits
 pub mod Nests
 pub mod Styled
@@ -26,4 +30,6 @@ pub mod SentStyled
 pub mod StyledNodes
 pub mod StyledHeadings
 pub mod StyledBlocks
+pub mod NewStyles
 pub mod StyledIn
+pub mod Called

@@ -10,7 +10,7 @@ use Rattle.wt_tiles.specs.declared.glyph.Glyph.{Glyph}
 use Rattle.wt_tiles.specs.declared.glyph.Glyph.TheVariants as glyph
 use Rattle.wt_tiles.specs.declared.glyph.GlyphClass.TheVariants as class
 use Rattle.wt_tiles.specs.declared.shape.Shape.{Shape}
-use Rattle.wt_tiles.specs.Glyphs.{in_class, first_is, byte_glyphs}
+use Rattle.wt_tiles.specs.Glyphs.{is_in, in_class, first_is, begins, byte_glyphs}
 use Rattle.wt_tiles.specs.declared.tag.Name.{Name}
 use Rattle.wt_tiles.specs.declared.tag.Name.TheVariants.{Paired, Break, Island}
 use Rattle.wt_tiles.specs.declared.tag.TagShape.{TagShape}
@@ -88,6 +88,10 @@ IsDelimiter own = (own ≡ byte_glyphs (codes "''")) ⊎ (own ≡ byte_glyphs (c
 abbrev pub IsOneLexeme : List Glyph → Type 0
 IsOneLexeme own = (own ≡ glyph.Atom ∷ []) ⊎ ((c : ℕ) × (own ≡ glyph.Entity c ∷ []))
 
+-- a comment, a line of comments, or an include tag
+abbrev pub IsMarkNode : List Glyph → Type 0
+IsMarkNode own = own ≡ glyph.Mark ∷ []
+
 -- it isn't the opening tag of a pair
 abbrev pub IsLone : Name → TagShape → Type 0
 IsLone (Paired m) Opening = ⊥
@@ -124,7 +128,7 @@ IsNode External own = IsExternalNode own
 IsNode (Bare ends) own = IsBareNode own
 IsNode Switch own = IsSwitchNode own
 IsNode Toggle own = IsDelimiter own
-IsNode (Mark ends began) own = ⊥
+IsNode (Mark ends began) own = IsMarkNode own
 IsNode (Group g) own = ⊥
 IsNode Function own = IsOneLexeme own
 IsNode Node own = IsOneLexeme own ⊎ (IsTagNode own ⊎ (IsCategoryNode own ⊎ IsMediaNode own))
@@ -148,9 +152,21 @@ MayBeBehind (Group h) g = Unit {0}
 MayBeBehind Function g = Unit {0}
 MayBeBehind Node g = Unit {0}
 
-abbrev pub MayFollow : Role → List Glyph → Type 0
-MayFollow r [] = Unit {0}
-MayFollow r (g ∷ gs) = MayBeBehind r g
+-- an apostrophe is last
+abbrev pub is_quote_last : List Glyph → Bool
+is_quote_last [] = false
+is_quote_last (g ∷ []) = is_in (λ b. b == byte.apostrophe) g
+is_quote_last (g ∷ h ∷ gs) = is_quote_last (h ∷ gs)
+
+-- two apostrophes are first behind a node that doesn't end with one: so they aren't of a URL, either
+pub record IsBeforeQuotes (own behind : List Glyph) : Type 0 where
+  pub unquoted : is_quote_last own ≡ false
+  pub quotes : begins (codes "''") behind ≡ true
+
+-- what may be read behind a node with these items
+abbrev pub MayFollow : Role → List Glyph → List Glyph → Type 0
+MayFollow r own [] = Unit {0}
+MayFollow r own (g ∷ gs) = MayBeBehind r g ⊎ IsBeforeQuotes own (g ∷ gs)
 
 -- before a bare URL is no letter, digit or `_`
 abbrev pub MayLead : Role → Bool → Type 0
@@ -169,9 +185,9 @@ abbrev pub MeetAt : Bool → List ContentSign → List ContentSign → List Glyp
 MeetAt true before after rest = Unit {0}
 MeetAt false [] after rest = Unit {0}
 MeetAt false (letter c ∷ before) after rest = Unit {0}
-MeetAt false (thing t ∷ before) [] rest = MayFollow t.role rest
+MeetAt false (thing t ∷ before) [] rest = MayFollow t.role (own_glyphs t) rest
 MeetAt false (thing t ∷ before) (letter c ∷ after) rest = Unit {0}
-MeetAt false (thing t ∷ before) (thing n ∷ after) rest = MayFollow t.role (own_glyphs n) × MayLead n.role (ends_word false (own_glyphs t))
+MeetAt false (thing t ∷ before) (thing n ∷ after) rest = MayFollow t.role (own_glyphs t) (own_glyphs n) × MayLead n.role (ends_word false (own_glyphs t))
 
 abbrev pub AllMeet : Setting → List ContentSign → List ContentSign → List Glyph → Type 0
 AllMeet s before [] rest = MeetAt (is_guarded s before []) before [] rest

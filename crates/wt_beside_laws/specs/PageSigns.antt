@@ -1,5 +1,5 @@
 -- The signs of a line of a page, by its tiles: the characters, and each form as a node.
-use Rattle.std.specs.Prelude.{◌≡◌, ℕ, ◌+◌, ◌==◌, false, nat_eq, Some, List, [], ◌∷◌, ◌++◌, length, map}
+use Rattle.std.specs.Prelude.{◌≡◌, ℕ, ◌+◌, ◌==◌, Bool, true, false, nat_eq, Some, List, [], ◌∷◌, ◌++◌, length, map}
 use Rattle.std.specs.List.{ends_with, flat_map}
 use Rattle.std.specs.Str.{IsUtf8}
 use Rattle.wt_span.specs.declared.form.ItemForm.{ItemForm}
@@ -7,9 +7,8 @@ use Rattle.wt_span.specs.declared.form.ItemForm.TheVariants as form
 use Rattle.wt_span.specs.Characters as byte
 use Rattle.wt_span.specs.Items.{Item, char, whole, sources}
 use Rattle.wt_guards.specs.declared.role.Role.{Role}
-use Rattle.wt_guards.specs.declared.role.Role.TheVariants.{Link, External, Bare, Switch, Function, Node}
+use Rattle.wt_guards.specs.declared.role.Role.TheVariants.{Link, External, Bare, Switch, Mark, Function, Node}
 use Rattle.wt_guards.specs.Content.{ContentSign, letter, thing, letters}
-use Rattle.wt_expand.specs.PageItems.{page_items}
 use Rattle.wt_tiles.specs.declared.shape.Shape.{Shape}
 use Rattle.wt_tiles.specs.declared.shape.TileKind.{TileKind}
 use Rattle.wt_tiles.specs.declared.shape.TileKind.TheVariants as kind
@@ -17,6 +16,7 @@ use Rattle.wt_tiles.specs.Contexts.{in_line}
 use Rattle.wt_tiles.specs.Glyphs.{glyph_of}
 use Rattle.wt_tiles.specs.Links.{text_of}
 use Rattle.wt_tiles.specs.Tiles.{tiles}
+use Rattle.wt_beside_laws.specs.NodeItems.{node_items}
 use Rattle.wt_beside_laws.specs.Stood.{OpensNoPair}
 
 -- ---- what a form is to its neighbours
@@ -37,47 +37,54 @@ atom_role [] = Node
 atom_role (char o b ∷ xs) = Node
 atom_role (whole f o bs ∷ xs) = form_role f
 
-abbrev pub tile_role : TileKind → List Item → Role
-tile_role kind.Link xs = Link
-tile_role kind.Category xs = Node
-tile_role kind.Media xs = Node
-tile_role kind.ExtLink xs = External
-tile_role kind.BareUrl xs = Bare (ends_with nat_eq (flat_map text_of (map glyph_of xs)) (byte.equals_sign ∷ []))
-tile_role kind.Br xs = Node
-tile_role kind.Pair xs = Node
-tile_role kind.TagIsland xs = Node
-tile_role kind.Switch xs = Switch
-tile_role kind.Atom xs = atom_role xs
-tile_role kind.Mark xs = Node
-tile_role kind.Chars xs = Node
+-- a line break ends it
+abbrev pub ends_break : List ℕ → Bool
+ends_break bs = ends_with nat_eq bs (byte.line_break ∷ [])
+
+-- of a tile that began its line or not
+abbrev pub tile_role : TileKind → Bool → List Item → Role
+tile_role kind.Link began xs = Link
+tile_role kind.Category began xs = Node
+tile_role kind.Media began xs = Node
+tile_role kind.ExtLink began xs = External
+tile_role kind.BareUrl began xs = Bare (ends_with nat_eq (flat_map text_of (map glyph_of xs)) (byte.equals_sign ∷ []))
+tile_role kind.Br began xs = Node
+tile_role kind.Pair began xs = Node
+tile_role kind.TagIsland began xs = Node
+tile_role kind.Switch began xs = Switch
+tile_role kind.Atom began xs = atom_role xs
+tile_role kind.Mark began xs = Mark (ends_break (sources xs)) began
+tile_role kind.Chars began xs = Node
 
 -- ---- the signs
 
--- a form, by its kind, place and items
-abbrev pub form_sign : TileKind → ℕ → List Item → List ContentSign
-form_sign k at xs = thing (record { role = tile_role k xs; source = sources xs; place = Some (record { start = at; end = at + length (sources xs) }) }) ∷ []
+-- a form, by its kind, whether it began its line, its place and its items
+abbrev pub form_sign : TileKind → Bool → ℕ → List Item → List ContentSign
+form_sign k began at xs =
+    thing (record { role = tile_role k began xs; source = sources xs; place = Some (record { start = at; end = at + length (sources xs) }) }) ∷ []
 
-abbrev pub tile_signs : TileKind → ℕ → List Item → List ContentSign
-tile_signs kind.Link at xs = form_sign kind.Link at xs
-tile_signs kind.Category at xs = form_sign kind.Category at xs
-tile_signs kind.Media at xs = form_sign kind.Media at xs
-tile_signs kind.ExtLink at xs = form_sign kind.ExtLink at xs
-tile_signs kind.BareUrl at xs = form_sign kind.BareUrl at xs
-tile_signs kind.Br at xs = form_sign kind.Br at xs
-tile_signs kind.Pair at xs = form_sign kind.Pair at xs
-tile_signs kind.TagIsland at xs = form_sign kind.TagIsland at xs
-tile_signs kind.Switch at xs = form_sign kind.Switch at xs
-tile_signs kind.Atom at xs = form_sign kind.Atom at xs
-tile_signs kind.Mark at xs = form_sign kind.Mark at xs
-tile_signs kind.Chars at xs = letters (sources xs)
+abbrev pub tile_signs : TileKind → Bool → ℕ → List Item → List ContentSign
+tile_signs kind.Link began at xs = form_sign kind.Link began at xs
+tile_signs kind.Category began at xs = form_sign kind.Category began at xs
+tile_signs kind.Media began at xs = form_sign kind.Media began at xs
+tile_signs kind.ExtLink began at xs = form_sign kind.ExtLink began at xs
+tile_signs kind.BareUrl began at xs = form_sign kind.BareUrl began at xs
+tile_signs kind.Br began at xs = form_sign kind.Br began at xs
+tile_signs kind.Pair began at xs = form_sign kind.Pair began at xs
+tile_signs kind.TagIsland began at xs = form_sign kind.TagIsland began at xs
+tile_signs kind.Switch began at xs = form_sign kind.Switch began at xs
+tile_signs kind.Atom began at xs = form_sign kind.Atom began at xs
+tile_signs kind.Mark began at xs = form_sign kind.Mark began at xs
+tile_signs kind.Chars began at xs = letters (sources xs)
 
-abbrev pub signs_of_tiles : ℕ → List (Shape × List Item) → List ContentSign
-signs_of_tiles at [] = []
-signs_of_tiles at ((w, xs) ∷ ps) = tile_signs w.kind at xs ++ signs_of_tiles (at + length (sources xs)) ps
+-- a line begins there or not; one begins behind a line of comments
+abbrev pub signs_of_tiles : Bool → ℕ → List (Shape × List Item) → List ContentSign
+signs_of_tiles began at [] = []
+signs_of_tiles began at ((w, xs) ∷ ps) = tile_signs w.kind began at xs ++ signs_of_tiles (ends_break (sources xs)) (at + length (sources xs)) ps
 
 -- of a line with so many bytes before it
 abbrev pub line_signs : ℕ → List Item → List ContentSign
-line_signs at xs = signs_of_tiles at (tiles in_line xs)
+line_signs at xs = signs_of_tiles true at (tiles in_line xs)
 
 -- of lines with a line break between each two
 abbrev pub signs_of_lines : ℕ → List (List Item) → List ContentSign
@@ -89,10 +96,9 @@ signs_of_lines at (xs ∷ ys ∷ ls) = line_signs at xs ++ (letter byte.line_bre
 
 -- its source by itself is read as its items, and it is no tag that opens a pair without a closing tag
 pub record IsFlatForm (k : TileKind) (xs : List Item) : Type 0 where
-  pub alone : page_items (sources xs) ≡ xs
+  pub alone : node_items (sources xs) ≡ xs
   pub lone : OpensNoPair k (map glyph_of xs)
 
--- no mark is among them
 abbrev pub IsFlatTile : TileKind → List Item → Type 0
 IsFlatTile kind.Link xs = IsFlatForm kind.Link xs
 IsFlatTile kind.Category xs = IsFlatForm kind.Category xs
@@ -104,7 +110,7 @@ IsFlatTile kind.Pair xs = IsFlatForm kind.Pair xs
 IsFlatTile kind.TagIsland xs = IsFlatForm kind.TagIsland xs
 IsFlatTile kind.Switch xs = IsFlatForm kind.Switch xs
 IsFlatTile kind.Atom xs = IsFlatForm kind.Atom xs
-IsFlatTile kind.Mark xs = ⊥
+IsFlatTile kind.Mark xs = IsFlatForm kind.Mark xs
 IsFlatTile kind.Chars xs = IsUtf8 (sources xs)
 
 abbrev pub AreFlatTiles : List (Shape × List Item) → Type 0

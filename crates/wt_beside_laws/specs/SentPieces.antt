@@ -9,10 +9,10 @@ use Rattle.wt_tree.specs.declared.edit_shape.InlineForm.{InlineForm}
 use Rattle.wt_tree.specs.declared.edit_shape.InlineForm.TheVariants as inline
 use Rattle.wt_original.specs.Kept.{Kept, kept_with}
 use Rattle.wt_original.specs.Page.{Page}
-use Rattle.wt_expand.specs.PageItems.{page_items}
 use Rattle.wt_context.specs.Line.{line_parts}
 use Rattle.wt_content.specs.Content.{break_fault}
 use Rattle.wt_typed_blocks.specs.Edited.{Pieces, no_pieces, gone, written, kept, around, new_style}
+use Rattle.wt_beside_laws.specs.NodeItems.{node_items}
 use Rattle.wt_beside_laws.specs.Shown.{parts_shown_at}
 
 -- a text, or a separator
@@ -81,7 +81,7 @@ IsNodeForm inline.AsItStood = Unit {0}
 -- the page's node shows what the source of the node with its number shows by itself
 abbrev pub ShowsItsSource : Page → Tree → Type 0
 ShowsItsSource p t = (k : Kept) → kept_with (label t).id p.kept ≡ Some k
-    → (rest : Plains) → parts_shown_at 0 [] (line_parts (page_items (flat k.node))) rest ≡ plain_before t rest
+    → (rest : Plains) → parts_shown_at 0 [] (line_parts (node_items (flat k.node))) rest ≡ plain_before t rest
 
 -- what stays are nodes that show their source, and the texts are texts; bold and italic aren't among them
 abbrev pub PiecesShow : Page → Pieces → Type 0

@@ -6,12 +6,13 @@ use Rattle.wt_guards.specs.Content.{ContentSign, letter, thing}
 use Rattle.wt_guards.specs.Guards.{Setting, is_guarded}
 use Rattle.wt_guards.specs.Letters.{is_escaped}
 use Rattle.wt_link_spelling.specs.Spelling.{toggle}
-use Rattle.wt_expand.specs.PageItems.{page_items}
 use Rattle.wt_inline.specs.declared.loose.Loose.TheVariants.{Text}
 use Rattle.wt_inline.specs.Parts.{Part, node, parts}
 use Rattle.wt_context.specs.Line.{line_parts}
+use Rattle.wt_beside_laws.specs.NodeItems.{node_items}
 use Rattle.wt_beside_laws.specs.Content.{AreKept, guard_items, letter_items}
 use Rattle.wt_beside_laws.specs.Flat.{IsFlat}
+use Rattle.wt_beside_laws.specs.Led.{AreMarksLed}
 use Rattle.wt_beside_laws.specs.Lines.{AreCharacters, AreUnbroken}
 use Rattle.wt_beside_laws.specs.Nests.{style_tree, of_style}
 use Rattle.wt_beside_laws.specs.Nodes.{AreNodes, AllMeet}
@@ -69,6 +70,7 @@ pub record IsStyledContent (s : Setting) (t : StyledContent) : Type 0 where
   pub nodes : AreNodes (signs_in t)
   pub unbroken : AreUnbroken (signs_in t)
   pub nested : AreNested false false t
+  pub led : AreMarksLed (signs_in t)
   pub meet : AllMeet s [] (signs_in t) []
 
 -- ---- what it is
@@ -83,7 +85,7 @@ styled_parts line s before (sign (letter c) t) after =
     parts Text (letter_items (is_escaped s.within s.place before c (signs_before t after)) c) ++ styled_parts line s (letter c ∷ before) t after)
 styled_parts line s before (sign (thing x) t) after =
     parts Text (guard_items (is_guarded s before (thing x ∷ signs_before t after)))
-    ++ (line_parts (page_items x.source) ++ styled_parts line s (thing x ∷ before) t after)
+    ++ (line_parts (node_items x.source) ++ styled_parts line s (thing x ∷ before) t after)
 styled_parts line s before (styled bold opening closing inside t) after =
     parts Text (guard_items (is_guarded s before (delimiter bold opening ∷ signs_before inside (delimiter bold closing ∷ signs_before t after))))
     ++ (node (style_tree bold (styled_parts false s (delimiter bold opening ∷ before) inside (delimiter bold closing ∷ signs_before t after)))

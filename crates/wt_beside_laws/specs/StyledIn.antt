@@ -1,35 +1,32 @@
 -- A paragraph or a heading of the page that holds texts, nodes that stay, and bold and italic, by its lines; and what is sent for it.
-use Rattle.std.specs.Prelude.{◌≡◌, ℕ, true, false, None, List, [], ◌∷◌, ◌++◌}
-use Rattle.std.specs.List.{list_all}
+use Rattle.std.specs.Prelude.{◌≡◌, ℕ, false, None, List, [], ◌∷◌, ◌++◌}
 use Rattle.std.specs.Str.{IsUtf8}
 use Rattle.wt_span.specs.Characters as byte
 use Rattle.wt_span.specs.Items.{char}
 use Rattle.wt_tree.specs.declared.edit_shape.Place.TheVariants as place
 use Rattle.wt_tree.specs.Tree.{Tree}
 use Rattle.wt_guards.specs.Guards.{Setting}
-use Rattle.wt_original.specs.Page.{page_of}
 use Rattle.wt_link_spelling.specs.Spelling.{children_of}
 use Rattle.wt_expand.specs.PageItems.{page_items}
-use Rattle.wt_inline.specs.ItemTree.{forest, held_by_all}
+use Rattle.wt_inline.specs.ItemTree.{forest}
 use Rattle.wt_inline.specs.Parts.{children}
-use Rattle.wt_annotated.specs.Clean.{is_page}
 use Rattle.wt_called_trees.specs.Rounded.{AllHaveItems}
-use Rattle.wt_visible.specs.SameNodes.{same_node}
-use Rattle.wt_typed_blocks.specs.Edited.{Pieces, page_pieces, sent_pieces, PiecesStay}
+use Rattle.wt_typed_blocks.specs.Edited.{Pieces, page_pieces, PiecesStay}
 use Rattle.wt_text_edit_laws.specs.Contents.{IsContentOf, content_parts_of}
 use Rattle.wt_text_edit_laws.specs.NoCalls.{CallsNothing}
 use Rattle.wt_text_edit_laws.specs.TextBlocks.{TextBlock, a_paragraph, a_heading, source_of, block_items}
 use Rattle.wt_beside_laws.specs.Calm.{AreCalm}
 use Rattle.wt_beside_laws.specs.Content.{AreKept}
-use Rattle.wt_beside_laws.specs.FlatBlocks.{lines_in, signs_in as signs_of, TextsFitIn}
+use Rattle.wt_beside_laws.specs.FlatBlocks.{lines_in, signs_in as signs_of, TextsFitIn, sent_for}
 use Rattle.wt_beside_laws.specs.FlatPages.{AreNodesAndTexts}
 use Rattle.wt_beside_laws.specs.InHeadings.{AreOnOneLine}
+use Rattle.wt_beside_laws.specs.Led.{AreMarksLed}
 use Rattle.wt_beside_laws.specs.PageBlocks.{AreUnstyled, AreShut}
 use Rattle.wt_beside_laws.specs.PageSigns.{AreFlatLines}
-use Rattle.wt_beside_laws.specs.SentStyled.{sent_content, AllNest}
+use Rattle.wt_beside_laws.specs.NewStyles.{NewStylesNest}
 use Rattle.wt_beside_laws.specs.Stood.{things}
 use Rattle.wt_beside_laws.specs.Styled.{StyledContent, signs_in, IsStyledContent}
-use Rattle.wt_beside_laws.specs.StyledNodes.{AreSomeAndPut, AreUrlsApart}
+use Rattle.wt_beside_laws.specs.StyledNodes.{AreSomeAndPut}
 
 -- A content that is read by itself and calls nothing: text, with bold and italic or without, and forms that are nodes, which stay whatever is
 -- written beside them. The source of each is read so whatever follows it, and doesn't end in an open tag.
@@ -39,7 +36,6 @@ pub record IsStyledIn (k : TextBlock) (q : List ℕ) : Type 0 where
   pub unended : page_items (source_of k q) ≡ block_items k q
   pub is : IsContentOf k q
   pub calls_nothing : CallsNothing (block_items k q)
-  pub of_page : list_all is_page (held_by_all (forest (children (content_parts_of k (page_items q))))) ≡ true
   pub has_items : AllHaveItems (forest (children (content_parts_of k (page_items q))))
   pub flat : AreFlatLines (lines_in k q)
   pub kept : AreKept (signs_of k q)
@@ -66,15 +62,12 @@ pub record IsStyledFor (k : TextBlock) (q : List ℕ) (s : Setting) (t : StyledC
 
 -- ---- what is sent for it
 
-abbrev pub sent_for : Tree → Pieces → StyledContent
-sent_for block ps = sent_content (page_of same_node block) (sent_pieces ps)
-
--- As for a flat block, where bold and italic nodes of the page may stay, too, and new ones may come, with any such pieces in them. The styles nest,
--- and no bare URL is directly before a delimiter in the page.
+-- As for a flat block, where bold and italic nodes of the page may stay, too, and new ones may come, with any such pieces in them: a new one in none
+-- of its kind, and round none. In bold and italic no text has a line break. Before each line of comments a line ends.
 pub record IsStyledEditOf (k : TextBlock) (block : Tree) (ps : Pieces) : Type 0 where
   pub old : page_pieces ps ≡ children_of block
   pub stay : PiecesStay ps
   pub are : AreNodesAndTexts ps
   pub fit : TextsFitIn k ps
-  pub nest : AllNest false false (sent_pieces ps)
-  pub apart : AreUrlsApart (things (signs_in (sent_for block ps)))
+  pub new : NewStylesNest false false ps
+  pub led : AreMarksLed (signs_in (sent_for block ps))

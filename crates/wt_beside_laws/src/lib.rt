@@ -34,11 +34,12 @@ ghost use Rattle.wt_tiles.specs.Urls.{scheme_len, ext_link_at, bare_url_at};
 ghost use Rattle.wt_beside_laws.specs.Beginnings.{IsApart};
 ghost use Rattle.wt_beside_laws.specs.Content.{AreKept, content_items};
 ghost use Rattle.wt_beside_laws.specs.Cuts.{IsFree, content_cut};
-ghost use Rattle.wt_beside_laws.specs.Flat.{AreFlat, IsFlatContent, content_parts, line_content};
+ghost use Rattle.wt_beside_laws.specs.Flat.{AreFlat, IsFlatContent, content_parts, line_content, IsReadIn};
 ghost use Rattle.wt_beside_laws.specs.Glyphs.{content_glyphs, IsPast, AllAvoid};
 ghost use Rattle.wt_beside_laws.specs.InHeadings.{IsHeadingContent, KeepsLevel, heading_of};
 ghost use Rattle.wt_headings.specs.Headings.{heading};
 ghost use Rattle.wt_text_edit_laws.specs.TypedHeadings.{Sides, AreSides, heading_line, IsOfLevel, IsHeadingInside, EndsLine};
+ghost use Rattle.wt_beside_laws.specs.Led.{BeginsUnled, AreMarksLed};
 ghost use Rattle.wt_beside_laws.specs.Lines.{AreCharacters, AreUnbroken, line_items, content_lines, AreLinesOfText};
 ghost use Rattle.wt_beside_laws.specs.Nodes.{AreNodes, AllMeet};
 ghost use Rattle.wt_beside_laws.specs.Shown.{parts_shown_at, content_shown};
@@ -70,8 +71,15 @@ ghost use Rattle.wt_beside_laws.specs.FlatBlocks.{IsFlatEditOf};
 ghost use Rattle.wt_beside_laws.specs.StyledIn.{IsFlatIn, IsStyledEditOf};
 ghost use Rattle.wt_tiles.specs.declared.glyph.GlyphClass.TheVariants as class;
 
+mod called;
 mod styles;
+mod untangled;
 
+pub use called::{
+    groups_of_words_have_no_fault, texts_beside_calls_are_one_paragraph,
+    texts_beside_calls_are_shown, texts_beside_calls_are_such_in_a_folder,
+    texts_beside_calls_hold_these, texts_beside_calls_may_be_in_headings,
+};
 pub use styles::{
     blocks_with_styles_have_their_nodes, contents_sent_with_styles_are_such,
     contents_with_styles_are_such_again, contents_with_styles_may_take_their_place,
@@ -80,14 +88,15 @@ pub use styles::{
     texts_in_styles_are_shown, texts_in_styles_may_be_in_headings,
     texts_in_styles_stand_between_lines, texts_sent_in_styles_are_such,
 };
+pub use untangled::{untangled_blocks_are_contents, untangled_paragraphs_of_the_body_are_contents};
 
 /// A content of text that is typed and of nodes that stay, as it is spelled, makes no lexeme over the border of a text and
 /// a node: its items are those of each node by itself, the characters and references of the text, and the nowikis that
 /// are put between. So they are before whatever stands behind the content.
-#[tactic(auto, using(crate::proofs::Contents::content_alone, crate::proofs::Contents::content_before))]
+#[tactic(auto, using(crate::proofs::Marks::Commented::content_alone, crate::proofs::Marks::Commented::content_before))]
 pub fn texts_beside_nodes_make_no_lexeme()
-    ensures alone { (s : Setting) (signs : List ContentSign) → AreKept signs → page_items (spelled s signs) ≡ content_items s [] signs }
-    ensures before { (s : Setting) (signs : List ContentSign) (rest : List ℕ) → AreKept signs → StandsBehind rest
+    ensures alone { (s : Setting) (signs : List ContentSign) → IsReadIn s signs → page_items (spelled s signs) ≡ content_items s [] signs }
+    ensures before { (s : Setting) (signs : List ContentSign) (rest : List ℕ) → IsReadIn s signs → StandsBehind rest
         → page_items (spelled s signs ++ rest) ≡ content_items s [] signs ++ page_items rest }
 {}
 
@@ -114,9 +123,9 @@ pub fn no_url_begins_in_typed_text()
 /// each reference and each nowiki that is put is one, and the characters between them are runs. So they are before what is
 /// behind the content, if that joins no node, begins neither what goes on with a URL nor a switch, and is read so whatever
 /// comes before it. Nodes between which nothing is put are to stand as they may stand in a page.
-#[tactic(auto, using(crate::proofs::NodesBegin::tiles_alone, crate::proofs::NodesBegin::tiles_before))]
+#[tactic(auto, using(crate::proofs::Marks::Tiles::tiles_alone, crate::proofs::NodesBegin::tiles_before))]
 pub fn texts_beside_nodes_make_no_tile()
-    ensures alone { (s : Setting) (signs : List ContentSign) → AreKept signs → AreNodes signs → AllMeet s [] signs []
+    ensures alone { (s : Setting) (signs : List ContentSign) → IsReadIn s signs → AllMeet s [] signs []
         → cuts in_line false 0 (map glyph_of (page_items (spelled s signs))) ≡ content_cut in_line s [] signs (0, []) }
     ensures before { (s : Setting) (signs : List ContentSign) (rest : List Sign) → AreNodes signs → AllMeet s [] signs rest → IsApart rest → IsFree in_line rest
         → cuts in_line false 0 (content_glyphs s [] signs rest) ≡ content_cut in_line s [] signs (cuts in_line false 0 rest) }
@@ -163,11 +172,12 @@ pub fn nodes_sent_are_those_of_the_page()
 {}
 
 /// A content of the nodes of flat lines of a page (`AreFlatLines`), with any texts between them, is one that is read sign by sign
-/// (`IsFlatContent`), if the source of each node stands whatever is written behind it.
+/// (`IsFlatContent`), if the source of each node stands whatever is written behind it, and a line begins where a line of comments stands
+/// (`AreMarksLed`).
 #[tactic(auto, using(crate::proofs::FlatContents::flat_content))]
 pub fn texts_beside_nodes_of_the_page_are_flat()
     ensures { (s : Setting) (ls : List (List Item)) (at : ℕ) (signs : List ContentSign) → s.within ≡ false → AreFlatLines ls
-        → AreKept (signs_of_lines at ls) → AreCharacters signs → things signs ≡ things (signs_of_lines at ls) → IsFlatContent s signs }
+        → AreKept (signs_of_lines at ls) → AreCharacters signs → AreMarksLed signs → things signs ≡ things (signs_of_lines at ls) → IsFlatContent s signs }
 {}
 
 /// A paragraph or a heading of the page that its lines make (`IsBlockOfLines`), none of which has a style (`AreUnstyled`) or a form that
@@ -202,12 +212,13 @@ pub fn nodes_of_flat_lines_show_their_sources()
 
 /// What is sent for such a block, with its nodes as they are and any texts between them, is a content that is read sign by sign
 /// (`IsFlatContent`): each node has the number of the page's, in the page's order, and is of the same kind and plain view (`AreSent`).
-/// Asked of the page is that the source of each node stands whatever is written behind it (`AreKept`).
+/// Asked of the page is that the source of each node stands whatever is written behind it (`AreKept`), and of what is sent that a line begins
+/// where a line of comments stands (`AreMarksLed`).
 pub fn texts_sent_beside_nodes_are_flat()
     ensures { (same : Block → Block → Bool) (s : Setting) (pl : Where) (ls : List (List Item)) (block : Block) (news : Trees) → TellsSame same → s.within ≡ false
         → AreFlatLines ls → AreUnstyled ls → IsBlockOfLines ls block → AreKept (signs_of_lines (length (label block).opening) ls)
         → AreSent (page_of same block) news → numbers news ≡ numbers (children_of block) → AreCharacters (signs_of_all (page_of same block) pl news)
-        → IsFlatContent s (signs_of_all (page_of same block) pl news) }
+        → AreMarksLed (signs_of_all (page_of same block) pl news) → IsFlatContent s (signs_of_all (page_of same block) pl news) }
 {}
 
 /// What is written for such a content is again lines of a page of which the content may be: its lines are flat (`AreFlatLines`), no
@@ -222,8 +233,8 @@ pub fn contents_beside_nodes_are_flat_again()
 /// The lines of such a content are cut where a line break is typed, and each is a line of text, in a table too: nothing that
 /// is typed, and no node, makes it a heading, a list, a rule, preformatted text or a part of a table, and none is blank.
 pub fn texts_beside_nodes_are_lines_of_text()
-    ensures lines { (s : Setting) (signs : List ContentSign) → AreKept signs → AreUnbroken signs → lines (page_items (spelled s signs)) ≡ content_lines s signs }
-    ensures text { (tables : ℕ) (s : Setting) (signs : List ContentSign) → s.within ≡ false → AreCharacters signs → AreNodes signs
+    ensures lines { (s : Setting) (signs : List ContentSign) → IsReadIn s signs → AreUnbroken signs → lines (page_items (spelled s signs)) ≡ content_lines s signs }
+    ensures text { (tables : ℕ) (s : Setting) (signs : List ContentSign) → s.within ≡ false → BeginsUnled signs → AreCharacters signs → AreNodes signs
         → AreLinesOfText tables (content_lines s signs) }
 {}
 
@@ -304,9 +315,9 @@ pub fn what_is_sent_is_what_is_shown()
 #[tactic(auto, using(crate::proofs::CalmContents::content_utf8, crate::proofs::CalmContents::content_expanded, crate::proofs::CalmContents::content_unrefused))]
 pub fn texts_beside_nodes_call_nothing()
     ensures utf8 { (s : Setting) (signs : List ContentSign) → AreCharacters signs → AreCalm signs → IsUtf8 (spelled s signs) }
-    ensures expanded { (pages : Pages) (s : Setting) (signs : List ContentSign) → AreKept signs → AreCalm signs
+    ensures expanded { (pages : Pages) (s : Setting) (signs : List ContentSign) → IsReadIn s signs → AreCalm signs
         → expanded_page pages (spelled s signs) ≡ of_items (page_items (spelled s signs)) }
-    ensures unrefused { (pages : Pages) (s : Setting) (signs : List ContentSign) → AreKept signs → AreCalm signs
+    ensures unrefused { (pages : Pages) (s : Setting) (signs : List ContentSign) → IsReadIn s signs → AreCalm signs
         → first_refusal pages (spelled s signs) (page_work pages (spelled s signs)) ≡ None }
 {}
 

@@ -24,13 +24,18 @@ ghost use Rattle.wt_page.specs.Texts.{para};
 ghost use Rattle.wt_moved_laws.specs.Standing.{standing};
 ghost use Rattle.wt_typed_blocks.specs.Edited.{Pieces};
 ghost use Rattle.wt_text_edit_laws.specs.Contents.{IsContent, IsNewContent};
+ghost use Rattle.wt_text_edit_laws.specs.NoCalls.{CallsNothing};
 ghost use Rattle.wt_text_edit_laws.specs.ParagraphBetween.{AreClosed, before_marks, EndsApart, EndsParagraph, blocks_in, body_with};
 ghost use Rattle.wt_text_edit_laws.specs.ParagraphParts.{para_with};
-ghost use Rattle.wt_text_edit_laws.specs.TextBlocks.{TextBlock, block_tree};
+ghost use Rattle.wt_text_edit_laws.specs.TextBlocks.{TextBlock, block_items, block_tree};
 ghost use Rattle.wt_text_edit_laws.specs.TypedHeadings.{Sides, AreSides, heading_line, IsOfLevel, IsHeadingInside, EndsLine};
+ghost use Rattle.wt_beside_laws.specs.Calm.{AreCalm};
 ghost use Rattle.wt_beside_laws.specs.Content.{AreKept};
 ghost use Rattle.wt_beside_laws.specs.ContentEdits.{new_content, MakesContent};
+ghost use Rattle.wt_beside_laws.specs.FlatBlocks.{lines_in, signs_in as signs_of};
+ghost use Rattle.wt_beside_laws.specs.HeldLines.{AreHeldLines};
 ghost use Rattle.wt_beside_laws.specs.InHeadings.{KeepsLevel, heading_of};
+ghost use Rattle.wt_beside_laws.specs.Led.{AreMarksLed};
 ghost use Rattle.wt_beside_laws.specs.Lines.{AreCharacters, line_items, content_lines};
 ghost use Rattle.wt_beside_laws.specs.Nests.{Nest, nest_segments, nest_parts, IsNest};
 ghost use Rattle.wt_beside_laws.specs.Nodes.{AreNodes, AllMeet};
@@ -111,10 +116,11 @@ pub fn texts_in_styles_may_be_in_headings()
 
 /// A content with styles of nodes of flat lines of a page (`AreFlatLines`), any of them in their order, with any texts between them and styles
 /// round them, is one that is read sign by sign, if the source of each node stands whatever is written behind it. The delimiters, and the nowikis of
-/// empty styles, may be anywhere among these nodes (`AreSomeAndPut`), but not directly behind a bare URL where the page has them there.
+/// empty styles, may be anywhere among these nodes (`AreSomeAndPut`). A bare URL that is directly before a delimiter in the page ends with no apostrophe,
+/// and where a line of comments stands a line begins (`AreMarksLed`).
 pub fn nodes_of_the_page_stay_in_styles()
     ensures { (s : Setting) (ls : List (List Item)) (at : ℕ) (t : StyledContent) → s.within ≡ false → AreFlatLines ls → AreKept (signs_of_lines at ls)
-        → AreCharacters (signs_in t) → AreNested false false t → AreSomeAndPut (things (signs_in t)) (things (signs_of_lines at ls))
+        → AreCharacters (signs_in t) → AreNested false false t → AreMarksLed (signs_in t) → AreSomeAndPut (things (signs_in t)) (things (signs_of_lines at ls))
         → AreUrlsApart (things (signs_in t)) → IsStyledContent s t }
 {}
 
@@ -146,12 +152,21 @@ pub fn blocks_with_styles_have_their_nodes()
 
 /// What an editor sends of such a block is such a content, whatever is typed: nodes with numbers of the block's own, any of them in their order,
 /// directly in it or in bold and italic, which may be others than the block's, and which nest (`AllNest`). It is asked that the source of each node
-/// of the block stands, and that no bare URL is directly before a delimiter in the page.
+/// of the block stands, and that no bare URL that is directly before a delimiter in the page ends with an apostrophe.
 pub fn texts_sent_in_styles_are_such()
     ensures { (same : Tree → Tree → Bool) (s : Setting) (ls : List (List Item)) (block : Tree) (us : Trees) → s.within ≡ false → AreFlatLines ls
         → IsBlockOfLines ls block → AreKept (signs_of_lines (length (label block).opening) ls) → AllNest false false us
-        → AreSomeOf (all_numbers us) (all_numbers (children_of block)) → AreCharacters (signs_in (sent_content (page_of same block) us))
+        → AreMarksLed (signs_in (sent_content (page_of same block) us)) → AreSomeOf (all_numbers us) (all_numbers (children_of block)) → AreCharacters (signs_in (sent_content (page_of same block) us))
         → AreUrlsApart (things (signs_in (sent_content (page_of same block) us))) → IsStyledContent s (sent_content (page_of same block) us) }
+{}
+
+/// A content that is read by itself (`IsContent`) and calls nothing is such a one with bold and italic or without (`IsStyledIn`) where the source of
+/// each form of its lines stands whatever is written behind it (`AreKept`) and brings no calls (`AreCalm`), and each is a node (`AreHeldLines`). So
+/// each is read by itself as it is in its line, and none ends in an open tag.
+#[tactic(auto, using(crate::proofs::Styled::OldShut::content_styled))]
+pub fn contents_of_nodes_that_stay_take_styles()
+    ensures { (k : TextBlock) (q : List ℕ) → IsContent k q → CallsNothing (block_items k q) → AreHeldLines (lines_in k q)
+        → AreKept (signs_of k q) → AreCalm (signs_of k q) → IsStyledIn k q }
 {}
 
 /// A paragraph or a heading with bold and italic (`IsStyledIn`) holds a content that is read by itself, whatever is round it; and what is written

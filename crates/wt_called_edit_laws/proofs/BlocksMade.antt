@@ -8,7 +8,7 @@ use Rattle.wt_span.specs.Items.{Item, sources}
 use Rattle.wt_annotated.specs.Labels.{label_at}
 use Rattle.wt_checks.specs.Kept.{children}
 use Rattle.wt_content.specs.Content.{bad_content}
-use Rattle.wt_link_spelling.specs.Spelling.{inline_spelling}
+use Rattle.wt_link_spelling.specs.Spelling.{inline_spelling, children_of}
 use Rattle.wt_visible.specs.SameNodes.{same_node}
 use Rattle.wt_moved_laws.specs.Placeless.{placeless}
 use Rattle.wt_moved_laws.specs.Standing.{standing}
@@ -243,10 +243,11 @@ edited_made k q j l m ps c h f =
 
 -- where no style is in the block, any nodes of it may stay
 pub flat_fits : (k : TextBlock) (q : List ℕ) (n : ℕ) (b : List Item) (l m : Label) (ps : Pieces) → IsFlatIn k q → 0 < n
-    → IsFlatEditOf k (standing n b (block_tree k q)) ps → Fits k q (edited (block_of k) l m ps)
-flat_fits k q n b l m ps h some e =
+    → page_node (edited (block_of k) l m ps) ≡ standing n b (block_tree k q) → IsFlatEditOf k (standing n b (block_tree k q)) ps
+    → Fits k q (edited (block_of k) l m ps)
+flat_fits k q n b l m ps h some is e =
     let t : Tree = page_node (edited (block_of k) l m ps) in
-    inr (h.styled, flat_edit k q n b t ps h some e.old (record { old = refl; stay = e.stay; are = e.are; fit = e.fit; plain = e.plain }))
+    inr (h.styled, flat_edit k q n b t ps h some (ap children_of is) (subst (λ (u : Tree). IsFlatEditOf k u ps) (sym is) e))
 
 -- ---- at the paths of the blocks
 

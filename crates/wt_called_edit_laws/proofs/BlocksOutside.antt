@@ -28,12 +28,11 @@ use Rattle.wt_text_edit_laws.specs.TextBlocks.{source_of, block_tree}
 use Rattle.wt_beside_laws.proofs.Made.OwnPages.{content_ordinary}
 use Rattle.wt_called_trees.specs.TreeFrames.{TreeFrame, spot, kept, holder, TreeFrames, no_nodes, more_nodes, filled, all_filled, spots_in, spots}
 use Rattle.wt_called_trees.proofs.FramesWalked.{no_leaf}
-use Rattle.wt_called_edit_laws.specs.CalledBlocks.{tree_by, counted}
+use Rattle.wt_called_edit_laws.specs.CalledBlocks.{CallNothing, tree_by, counted}
 use Rattle.wt_called_edit_laws.specs.CalledPages.{IsCalledPage}
 use Rattle.wt_called_edit_laws.specs.Covered.{IsBeside, IfGroup, NoGroupAt, NoneGroupAt, HaveBytes, AreInNoGroup, IsEditablePage}
 use Rattle.wt_called_edit_laws.specs.Groups.{called_tree}
 use Rattle.wt_called_edit_laws.specs.Nodes.{block_at, NoLeaves, NoneLeaves, IsHolder, AreHolders}
-use Rattle.wt_called_edit_laws.specs.Parts.{CallNothing, AreParted, AreCalled}
 use Rattle.wt_called_edit_laws.specs.Settled.{settled, all_settled, IsSettled}
 use Rattle.wt_called_edit_laws.proofs.BareInsides.{IsBare, AreBare, page_bare}
 use Rattle.wt_called_edit_laws.proofs.Cells.PlaceGaps.{Gaps, last_gap, then_gap, put_before, numbers_in, source_at, AreSame, AtPlaces}
@@ -366,10 +365,6 @@ counted_solid (s ∷ ss) h c =
       solid_up s ss (counted ss) (counted_solid ss h.1 c.1),
     )
 
-called_calm : (ss : List BlockSpot) (behind : List ℕ) → AreCalled ss behind → CallNothing ss
-called_calm [] behind h = absurd h
-called_calm (s ∷ ss) behind h = let w : AreParted (s ∷ ss) behind = h.2 in w.calm
-
 at_body : (b : ℕ) (t : Tree) → (label t).kind ≡ kind.Body → NoneGroupAt b (children t) → NoGroupAt b t
 at_body b (tree l ts) e h = subst (λ (g : Bool). IfGroup g (IsBeside b l.ranges) (NoneGroupAt b ts)) (sym (ap is_group e)) h
 
@@ -397,7 +392,7 @@ blocks_outside pages ss behind h =
     let is : children t ≡ all_settled n 0 ts =
     body_settled t body.kind body.opening (called_settled pages page) ∙ ap (all_settled n 0) same in
     let bare : AreBare ts = subst AreBare same (all_placeless_bare (children t) (none_bare t body.kind (called_bare pages page))) in
-    let solid : AreSolid u (spots fs) = subst (AreSolid u) (sym f.in_order) (counted_solid ss contents (called_calm ss behind h.outside.among.called)) in
+    let solid : AreSolid u (spots fs) = subst (AreSolid u) (sym f.in_order) (counted_solid ss contents h.outside.among.calm) in
     let free : SpotsIn (λ b. NoGroupAt b t) u 0 fs =
     map_spots (λ b. FreeIn b n 0 ts) (λ b. NoGroupAt b t) u 0 fs (λ b k. at_body b t body.kind (subst (NoneGroupAt b) (sym is) k.free))
     (frames_free u content fs n 0 f.holders bare solid) in

@@ -2,13 +2,14 @@
 use Rattle.std.proofs.Common.{◌≡◌, ◌⊎◌, inl, inr, ℕ, Option, Some, None, List, [], ◌∷◌, ◌++◌, refl}
 use Rattle.std.specs.Str.{IsUtf8}
 use Rattle.std.proofs.lemmas.Str.{IsUtf8-append}
-use Rattle.wt_text_edit_laws.specs.BlockSpots.{BlockSpot, spots_source, IsRead, AreReadAfter, SameRound, AreContents}
+use Rattle.wt_expand.specs.Work.{Pages}
+use Rattle.wt_text_edit_laws.specs.BlockSpots.{BlockSpot, spots_source, IsReadSpot, AreReadSpots, SameRound, AreContents}
 use Rattle.wt_text_edit_laws.specs.TextBlocks.{block_of, source_of}
 use Rattle.wt_text_edit_laws.specs.BlockEdits.{typed_as}
 use Rattle.wt_text_edit_laws.specs.OwnNodes.{IsTypedSpot}
 use Rattle.wt_text_edit_laws.specs.Contents.{IsContent, IsNewContent}
 use Rattle.wt_text_edit_laws.proofs.Blocks.BlockReading.{content_frame}
-use Rattle.wt_text_edit_laws.proofs.Blocks.BlocksAgain.{content_utf8}
+use Rattle.wt_text_edit_laws.proofs.Blocks.BlocksAgain.{read_utf8_of}
 use Rattle.wt_text_edit_laws.proofs.Blocks.Contents.{typed_new}
 use Rattle.wt_text_edit_laws.proofs.Blocks.TypedBraces.{AreNewOver}
 use Rattle.wt_called_edit_laws.specs.AnyBlocks.{with_text, with_texts}
@@ -19,18 +20,18 @@ use Rattle.wt_called_edit_laws.specs.Retyped.{AreRetyped}
 
 -- ---- UTF-8
 
-one_utf8 : (s : BlockSpot) (rest : List ℕ) → IsRead s → IsUtf8 rest → IsUtf8 (s.before ++ (source_of s.block s.text ++ rest))
+one_utf8 : (s : BlockSpot) (rest : List ℕ) → IsReadSpot s → IsUtf8 rest → IsUtf8 (s.before ++ (source_of s.block s.text ++ rest))
 one_utf8 s rest h u =
     IsUtf8-append s.before (source_of s.block s.text ++ rest) h.before_utf8
-    (IsUtf8-append (source_of s.block s.text) rest (content_utf8 s.block s.text h.block) u)
+    (IsUtf8-append (source_of s.block s.text) rest (read_utf8_of s.block s.text h.block) u)
 
-further_utf8 : (ss : List BlockSpot) (behind : List ℕ) → AreReadAfter ss behind → IsUtf8 (spots_source ss behind)
+further_utf8 : (ss : List BlockSpot) (behind : List ℕ) → AreReadSpots ss behind → IsUtf8 (spots_source ss behind)
 further_utf8 [] behind h = h.1
 further_utf8 (s ∷ ss) behind h = one_utf8 s (spots_source ss behind) h.0 (further_utf8 ss behind h.2)
 
-pub called_utf8 : (ss : List BlockSpot) (behind : List ℕ) → AreCalled ss behind → IsUtf8 (spots_source ss behind)
-called_utf8 [] behind h = absurd h
-called_utf8 (s ∷ ss) behind h = one_utf8 s (spots_source ss behind) h.0 (further_utf8 ss behind h.1)
+pub called_utf8 : (pages : Pages) (ss : List BlockSpot) (behind : List ℕ) → AreCalled pages ss behind → IsUtf8 (spots_source ss behind)
+called_utf8 pages [] behind h = absurd h
+called_utf8 pages (s ∷ ss) behind h = one_utf8 s (spots_source ss behind) h.0 (further_utf8 ss behind h.1)
 
 -- ---- typed again
 

@@ -4,6 +4,7 @@ mod CalledCases
 mod ClassCases
 pub mod AnyPages
 pub mod BodyPages
+pub mod OwnParagraphs
 mod Cases
 pub mod CellRows
 pub mod CellSpots
@@ -30,7 +31,10 @@ pub mod PlacePaths
 pub mod PlaceTrees
 pub mod ItemFrames
 pub mod CalledFrames
+pub mod CallingFrames
+mod CallingCases
 pub mod SpotFrames
+pub mod ContentItems
 pub mod SpotRows
 pub mod SpotSlots
 pub mod SpotTrees

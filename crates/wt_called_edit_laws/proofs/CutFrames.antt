@@ -29,8 +29,9 @@ use Rattle.wt_called_trees.specs.TreeFrames.{TreeFrame, spot, kept, holder, Tree
 use Rattle.wt_called_trees.specs.Rounded.{AreOwn, AreClean, body_of, body_label, block_alone}
 use Rattle.wt_called_trees.proofs.FramesWalked.{kept_before, holder_label, no_leaf, call_after, stretch, nodes_of, spots_are}
 use Rattle.wt_called_trees.proofs.FrameEnds.{held}
-use Rattle.wt_called_trees.proofs.GroupsStay.{numbers_gone, stays}
-use Rattle.wt_called_edit_laws.specs.Nodes.{IsBlock, AreBlocks, block_at, NoneLeaves, AreHolders, NodesStay}
+use Rattle.wt_called_trees.proofs.GroupsStay.{numbers_gone, stays, held_stay}
+use Rattle.wt_called_trees.specs.HeldCalls.{block_in, blocks_in, AllHold}
+use Rattle.wt_called_edit_laws.specs.Nodes.{IsBlock, AreBlocks, block_at, NoneLeaves, AreHolders, NodesStay, NodesStayRound}
 
 -- ---- cutting
 
@@ -195,29 +196,45 @@ cuts_before : (b : ℕ → Tree) (x : Texts) (ts : Trees) (fs : TreeFrames) → 
 cuts_before b x none fs h = h
 cuts_before b x (more t ts) fs h = cuts_before b x ts fs h
 
-blocks_split : (t : ℕ → ItemTree) (ms ns : List ℕ) → AreBlocks t (ms ++ ns) → AreBlocks t ms × AreBlocks t ns
-blocks_split t [] ns h = (tt, h)
-blocks_split t (m ∷ ms) ns h = let r = blocks_split t ms ns h.1 in ((h.0, r.0), r.1)
+-- each of these blocks is one where texts are cut
+abbrev AllBorder : (ℕ → Tree) → List ℕ → Type 0
+AllBorder b [] = Unit {0}
+AllBorder b (n ∷ ns) = ((x : Texts) → AtBorder x (cut_texts (b n))) × AllBorder b ns
 
-at_cuts : (calls : List OuterCall) (t w : ℕ → ItemTree) (o : Option ℕ) (us : List ItemTree) (fs : Frames) (p : Option ℕ) (part : Part) (x : Texts)
-    → AreFrames fs part → Fits part x → AreBlocks w (all_places fs) → AtCuts (block_alone w) x (nodes_of calls t o us fs p)
-at_cuts calls t w o us no_frames p part x h g k = cuts_before (block_alone w) x (stretch calls o p us) no_nodes tt
-at_cuts calls t w o us (more_frames (whole u) fs) p part x h g k = at_cuts calls t w o (us ++ u ∷ []) fs p part x h.1 g k
-at_cuts calls t w o us (more_frames (place n) fs) p part x h g k =
-    cuts_before (block_alone w) x (stretch calls o None us) (more_nodes (spot n) (nodes_of calls t None [] fs p))
-    (spot_border x (w n) k.0, at_cuts calls t w None [] fs p part x h.1 g k.1)
-at_cuts calls t w o us (more_frames (around j q gs c) fs) p part x h g k =
-    let r = blocks_split w (all_places gs) (all_places fs) k in
+border_split : (b : ℕ → Tree) (ms ns : List ℕ) → AllBorder b (ms ++ ns) → AllBorder b ms × AllBorder b ns
+border_split b [] ns h = (tt, h)
+border_split b (m ∷ ms) ns h = let r = border_split b ms ns h.1 in ((h.0, r.0), r.1)
+
+own_border : (t : ℕ → ItemTree) (ns : List ℕ) → AreBlocks t ns → AllBorder (block_alone t) ns
+own_border t [] h = tt
+own_border t (n ∷ ns) h = ((λ x. spot_border x (t n) h.0), own_border t ns h.1)
+
+held_border : (calls : List OuterCall) (x : Texts) (t : ItemTree) → IsBlock t → AtBorder x (cut_texts (block_in calls t))
+held_border calls x (inner h q ts c) is = block_border x _ _ (block_kind h.kind is)
+
+all_border : (calls : List OuterCall) (t : ℕ → ItemTree) (ns : List ℕ) → AreBlocks t ns → AllBorder (blocks_in calls t) ns
+all_border calls t [] h = tt
+all_border calls t (n ∷ ns) h = ((λ x. held_border calls x (t n) h.0), all_border calls t ns h.1)
+
+at_cuts : (calls : List OuterCall) (t : ℕ → ItemTree) (b : ℕ → Tree) (o : Option ℕ) (us : List ItemTree) (fs : Frames) (p : Option ℕ) (part : Part) (x : Texts)
+    → AreFrames fs part → Fits part x → AllBorder b (all_places fs) → AtCuts b x (nodes_of calls t o us fs p)
+at_cuts calls t b o us no_frames p part x h g k = cuts_before b x (stretch calls o p us) no_nodes tt
+at_cuts calls t b o us (more_frames (whole u) fs) p part x h g k = at_cuts calls t b o (us ++ u ∷ []) fs p part x h.1 g k
+at_cuts calls t b o us (more_frames (place n) fs) p part x h g k =
+    cuts_before b x (stretch calls o None us) (more_nodes (spot n) (nodes_of calls t None [] fs p))
+    (k.0 x, at_cuts calls t b None [] fs p part x h.1 g k.1)
+at_cuts calls t b o us (more_frames (around j q gs c) fs) p part x h g k =
+    let r = border_split b (all_places gs) (all_places fs) k in
     let a : Option ℕ = call_after o us in
     let after : Option ℕ = first_of (held t fs) p in
     let u : ItemTree = tree_at t (around j q gs c) in
     let s = is_round part h.0.0 x j.kind g h.0.1 in
-    cuts_before (block_alone w) x (stretch calls o (first_of (tree_items u) after) us)
+    cuts_before b x (stretch calls o (first_of (tree_items u) after) us)
     (more_nodes (holder (holder_label j q c) (nodes_of calls t (last_of a q) [] gs (first_of c after))) (nodes_of calls t (last_of a (tree_items u)) [] fs p)) (
       s.0,
       (λ ts. s.1 (holder_label j q c) ts refl),
-      at_cuts calls t w (last_of a q) [] gs (first_of c after) h.0.0 (texts_of_kind j.kind) h.0.2 (fits part h.0.0 j.kind h.0.1) r.0,
-      at_cuts calls t w (last_of a (tree_items u)) [] fs p part x h.1 g r.1,
+      at_cuts calls t b (last_of a q) [] gs (first_of c after) h.0.0 (texts_of_kind j.kind) h.0.2 (fits part h.0.0 j.kind h.0.1) r.0,
+      at_cuts calls t b (last_of a (tree_items u)) [] fs p part x h.1 g r.1,
     )
 
 -- ---- none round places is a leaf
@@ -327,6 +344,24 @@ nodes_stay calls fs t h g clean =
           placeless_children (annotated others (group_data others) (body_of (trees_at w fs)))
           ∙ ap children (stays calls others fs t w same h g own clean)
           ∙ body_cut (all_filled (block_alone w) nodes)
-          ∙ cuts_are (block_alone w) true Page none nodes (at_cuts calls t w None [] fs None content Page h tt blocks)
+          ∙ cuts_are (block_alone w) true Page none nodes (at_cuts calls t (block_alone w) None [] fs None content Page h tt (own_border w (all_places fs) blocks))
           ∙ all_filled_same (cut_block (block_alone w)) (block_at w) (block_is w) (cut_nodes true Page none nodes);
+    }
+
+-- so it is round blocks that hold calls
+pub nodes_stay_round : (calls : List OuterCall) (fs : Frames) (t : ℕ → ItemTree) → AreFrames fs content → AllHold t (all_places fs) → AreClean t None fs None
+    → NodesStayRound calls fs
+nodes_stay_round calls fs t h g clean =
+    let nodes : TreeFrames = nodes_of calls t None [] fs None in
+    record {
+      nodes = cut_nodes true Page none nodes;
+      in_order = cut_spots true Page none nodes ∙ spots_are calls t None [] fs None;
+      inner_nodes = cut_leaves true Page none nodes (none_leaves calls t None [] fs None content h);
+      holders = cut_holders true Page none nodes content (are_holders calls t None [] fs None content h);
+      stay = λ others w same hold blocks.
+          placeless_children (annotated others (group_data others) (body_of (trees_at w fs)))
+          ∙ ap children (held_stay calls others fs t w same h g hold clean)
+          ∙ body_cut (all_filled (blocks_in others w) nodes)
+          ∙ cuts_are (blocks_in others w) true Page none nodes
+          (at_cuts calls t (blocks_in others w) None [] fs None content Page h tt (all_border others w (all_places fs) blocks));
     }

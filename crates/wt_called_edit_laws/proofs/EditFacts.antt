@@ -28,7 +28,8 @@ use Rattle.wt_called_edit_laws.specs.CalledTexts.{spots_tree}
 use Rattle.wt_called_edit_laws.specs.EditsAt.{AllStand, edited_by, with_contents, IsContentEdit}
 use Rattle.wt_called_edit_laws.proofs.Cells.SpotTrees.{counted_same}
 use Rattle.wt_called_edit_laws.specs.Retyped.{AreRetyped}
-use Rattle.wt_called_edit_laws.proofs.Parts.Retyped.{called_blocks, expanded_again}
+use Rattle.wt_called_edit_laws.proofs.Parts.Retyped.{typed_again}
+use Rattle.wt_called_edit_laws.proofs.Cells.CalledFrames.{among_contents}
 use Rattle.wt_called_trees.specs.TreeFrames.{TreeFrames, all_filled, spots}
 use Rattle.wt_called_edit_laws.specs.CalledPages.{IsCalledPage}
 use Rattle.wt_called_edit_laws.proofs.CleanAgain.{outside_again}
@@ -79,7 +80,7 @@ pub record IsFramedPage (pages : Pages) (ss : List BlockSpot) (behind : List ℕ
 pub called_again : (pages : Pages) (ss rs : List BlockSpot) (behind : List ℕ) → IsCalledPage pages ss behind → AreRetyped ss rs → IsCalledPage pages rs behind
 called_again pages ss rs behind h t = record {
   outside = outside_again pages ss rs behind h.outside t;
-  unrefused = (expanded_again pages ss rs behind h.outside.among.called t).unrefused h.unrefused;
+  unrefused = (typed_again pages ss rs behind h.outside.among.called t).unrefused h.unrefused;
 }
 
 pub framed_page : (pages : Pages) (ss : List BlockSpot) (behind : List ℕ) → IsCalledPage pages ss behind → IsFramedPage pages ss behind
@@ -97,21 +98,21 @@ framed_page pages ss behind h =
       stay = λ rs t.
           let others : List OuterCall = (expanded_page pages (spots_source rs behind)).outer in
           ap (λ m. all_placeless (children (annotated others (group_data others) m))) (f.means rs t)
-          ∙ n.stay others (tree_by rs) (calls_same pages ss rs behind h.outside.among.called t) (own_among pages ss rs behind h.outside t)
+          ∙ n.stay others (tree_by rs) (calls_same pages ss rs behind h.outside.among t) (own_among pages ss rs behind h.outside t)
           (all_blocks rs (all_places f.frames));
     }
 
 -- ---- its body, with any contents
 
 pub spots_utf8 : (pages : Pages) (ss : List BlockSpot) (behind : List ℕ) → IsCalledPage pages ss behind → IsUtf8 (spots_source ss behind)
-spots_utf8 pages ss behind h = called_utf8 ss behind h.outside.among.called
+spots_utf8 pages ss behind h = called_utf8 pages ss behind h.outside.among.called
 
 pub spots_body : (pages : Pages) (ss : List BlockSpot) (behind : List ℕ) → IsCalledPage pages ss behind
     → IsBodyOf (spots_source ss behind) (spots_tree pages ss behind)
 spots_body pages ss behind h = page_body pages (spots_source ss behind) (spots_utf8 pages ss behind h) h.unrefused
 
 pub spots_contents : (pages : Pages) (ss : List BlockSpot) (behind : List ℕ) → IsCalledPage pages ss behind → AreContents ss
-spots_contents pages ss behind h = called_blocks ss behind h.outside.among.called
+spots_contents pages ss behind h = among_contents pages ss behind h.outside.among
 
 -- its nodes have the page's source
 nodes_source : (pages : Pages) (ss rs : List BlockSpot) (behind : List ℕ) (f : IsFramedPage pages ss behind) → AreRetyped ss rs
@@ -193,7 +194,7 @@ well_sent pages ss behind f es h e =
       apart =
           edit_untangled (expanded_page pages page) page (edit_at os) ss f.nodes es f.inner_nodes
           (gaps_so ss behind f.nodes f.in_order contents (are_the_page pages ss behind f)) (numbers_so ss f.nodes f.in_order) contents
-          (blocks_untangled pages ss behind h.outside.among.called) sends old lie;
+          (blocks_untangled pages ss behind h.outside.among) sends old lie;
       new = nodes_made.sources ∙ nodes_source pages ss rs behind f again;
       shows =
           let us : Trees = children (spots_tree pages rs behind) in

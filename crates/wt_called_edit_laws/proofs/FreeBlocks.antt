@@ -1,5 +1,5 @@
 -- Each call of a page that is text is in one part of it, so it shares no byte with a block.
-use Rattle.std.proofs.Common.{arith, ◌≡◌, ℕ, ◌+◌, ◌≤◌, Bool, true, false, List, [], ◌∷◌, ◌++◌, length, map, nat_lt, refl, sym, ap₂, ◌∙◌, subst}
+use Rattle.std.proofs.Common.{arith, ◌≡◌, ℕ, ◌+◌, ◌≤◌, Bool, true, false, List, [], ◌∷◌, ◌++◌, length, map, nat_lt, refl, sym, ap, ap₂, ◌∙◌, subst}
 use Rattle.std.specs.Prelude.{◌&&◌, ◌||◌, ◌-◌, take, drop, slice_index}
 use Rattle.std.specs.List.{list_any}
 use Rattle.std.proofs.lemmas.Bool.Decides.{nat_tests}
@@ -18,11 +18,14 @@ use Rattle.wt_expand.specs.PageCalls.{Stretch, call_stretches, stretches_of, all
 use Rattle.wt_transclusion.proofs.Full.{text_bytes}
 use Rattle.wt_joined_calls.specs.Expanded.{moved_span}
 use Rattle.wt_joined_calls.proofs.ApartStretches.{spans_both}
-use Rattle.wt_text_edit_laws.specs.BlockSpots.{BlockSpot, spots_source}
+use Rattle.wt_text_edit_laws.specs.BlockSpots.{BlockSpot, spots_source, AreContents}
 use Rattle.wt_text_edit_laws.specs.TextBlocks.{source_of}
+use Rattle.wt_called_edit_laws.specs.CalledBlocks.{CallNothing, AreAmongCalls}
 use Rattle.wt_called_edit_laws.specs.Parts.{AreCalled, called_texts}
+use Rattle.wt_called_edit_laws.proofs.Cells.CalledFrames.{among_contents}
+use Rattle.wt_called_edit_laws.proofs.Parts.NoCallsCalled.{calm_texts}
 use Rattle.wt_called_edit_laws.proofs.Parts.Retyped.{is_by_parts}
-use Rattle.wt_called_edit_laws.specs.FreeBlocks.{AreFreeFrom}
+use Rattle.wt_called_edit_laws.specs.FreeBlocks.{AreFreeFrom, NoTextCalls}
 
 -- ---- calls that are text lie in their part
 
@@ -170,17 +173,20 @@ spans_twice a b (s ∷ xs) =
     let q : a + (b + s.1) ≡ (a + b) + s.1 = omega arith in
     ap₂ (λ (x : Span) (ys : List Span). x ∷ ys) (ap₂ (λ (i j : ℕ). (i, j)) p q) (spans_twice a b xs)
 
-texts_free : (pages : Pages) (ss : List BlockSpot) (behind : List ℕ) → AreFreeFrom (called_texts pages ss behind) 0 ss
-texts_free pages [] behind = tt
-texts_free pages (s ∷ ss) behind =
+texts_free : (pages : Pages) (ss : List BlockSpot) (behind : List ℕ) → NoTextCalls pages ss → AreFreeFrom (called_texts pages ss behind) 0 ss
+texts_free pages [] behind h = tt
+texts_free pages (s ∷ ss) behind h =
     let a : ℕ = length s.before in
     let b : ℕ = length (source_of s.block s.text) in
     let first : List Span = (expanded_page pages s.before).text_calls in
     let rest : List Span = called_texts pages ss behind in
     let within : AreWithin 0 a first = texts_within pages s.before in
-    let later : AreFreeFrom (map (moved_span (a + b)) rest) ((a + b) + 0) ss = free_moved (a + b) 0 rest ss (texts_free pages ss behind) in
+    let none : (expanded_page pages (source_of s.block s.text)).text_calls ≡ [] = h.0 in
+    let behind_it : map (moved_span a) ((expanded_page pages (source_of s.block s.text)).text_calls ++ map (moved_span b) rest) ≡ map (moved_span (a + b)) rest =
+    ap (λ (xs : List Span). map (moved_span a) (xs ++ map (moved_span b) rest)) none ∙ spans_twice a b rest in
+    let later : AreFreeFrom (map (moved_span (a + b)) rest) ((a + b) + 0) ss = free_moved (a + b) 0 rest ss (texts_free pages ss behind h.1) in
     let z : (a + b) + 0 ≡ (0 + a) + b = omega arith in
-    subst (λ (xs : List Span). AreFreeFrom (first ++ xs) 0 (s ∷ ss)) (sym (spans_twice a b rest)) (
+    subst (λ (xs : List Span). AreFreeFrom (first ++ xs) 0 (s ∷ ss)) (sym behind_it) (
       λ before behind.
           both_none (0 + a) ((0 + a) + b) first (map (moved_span (a + b)) rest) (none_before (0 + a) ((0 + a) + b) a first (omega arith) within)
           (none_behind (0 + a) ((0 + a) + b) (a + b) rest (omega arith)),
@@ -188,7 +194,17 @@ texts_free pages (s ∷ ss) behind =
           (subst (λ (j : ℕ). AreFreeFrom (map (moved_span (a + b)) rest) j ss) z later),
     )
 
-pub blocks_free : (pages : Pages) (ss : List BlockSpot) (behind : List ℕ) → AreCalled ss behind
+pub calls_free : (pages : Pages) (ss : List BlockSpot) (behind : List ℕ) → AreCalled pages ss behind → NoTextCalls pages ss
+    → AreFreeFrom (expanded_page pages (spots_source ss behind)).text_calls 0 ss
+calls_free pages ss behind h n =
+    let by = is_by_parts pages ss behind h in
+    subst (λ (xs : List Span). AreFreeFrom xs 0 ss) (sym by.texts) (texts_free pages ss behind n)
+
+calm_none : (pages : Pages) (ss : List BlockSpot) → AreContents ss → CallNothing ss → NoTextCalls pages ss
+calm_none pages [] h c = tt
+calm_none pages (s ∷ ss) h c = (calm_texts pages s.block s.text h.0 c.0, calm_none pages ss h.1 c.1)
+
+pub blocks_free : (pages : Pages) (ss : List BlockSpot) (behind : List ℕ) → AreAmongCalls pages ss behind
     → AreFreeFrom (expanded_page pages (spots_source ss behind)).text_calls 0 ss
 blocks_free pages ss behind h =
-    let by = is_by_parts pages ss behind h in subst (λ (xs : List Span). AreFreeFrom xs 0 ss) (sym by.texts) (texts_free pages ss behind)
+    calls_free pages ss behind h.called (calm_none pages ss (among_contents pages ss behind h) h.calm)

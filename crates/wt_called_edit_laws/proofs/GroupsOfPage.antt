@@ -23,11 +23,11 @@ use Rattle.wt_text_edit_laws.proofs.Blocks.BlockReading.{content_frame}
 use Rattle.wt_text_edit_laws.proofs.Blocks.Contents.{block_source}
 use Rattle.wt_text_edit_laws.proofs.Blocks.OwnContents.{paragraph_some}
 use Rattle.wt_called_edit_laws.specs.Retyped.{AreRetyped}
-use Rattle.wt_called_edit_laws.proofs.Parts.Retyped.{called_blocks, expanded_again}
+use Rattle.wt_called_edit_laws.proofs.Parts.Retyped.{typed_again}
 use Rattle.wt_called_trees.specs.Rounded.{AreOwn}
 use Rattle.wt_called_trees.proofs.FrameEnds.{held}
 use Rattle.wt_called_edit_laws.specs.CalledBlocks.{AreAmongCalls, StandAmongCalls, tree_by, counted}
-use Rattle.wt_called_edit_laws.proofs.Cells.CalledFrames.{stand_among}
+use Rattle.wt_called_edit_laws.proofs.Cells.CalledFrames.{among_contents, stand_among}
 use Rattle.wt_called_edit_laws.proofs.Cells.PlaceGaps.{Gaps, last_gap, then_gap, numbers_in, fill, source_at, sources_at, own_sources, FillsAll, AreSame, same_gaps, sources_counted, count_counted, many_by, self_round, AtPlaces as AtGaps}
 use Rattle.wt_called_edit_laws.proofs.Cells.SpotTrees.{counted_same}
 use Rattle.wt_called_edit_laws.specs.CalledPages.{IsCalledPage}
@@ -86,11 +86,11 @@ page_text : (pages : Pages) (ss rs : List BlockSpot) (behind : List ℕ) (h : Ar
 page_text pages ss rs behind h f free t =
     let page : List ℕ = spots_source rs behind in
     let calls : List OuterCall = (expanded_page pages page).outer in
-    let again = expanded_again pages ss rs behind h.called t in
+    let again = typed_again pages ss rs behind h.called t in
     ap (text_from calls None) (sym (append-nil (held (tree_by rs) f.frames)))
     ∙ ap (λ m. text_from calls None (tree_items m)) (sym (f.means rs t))
     ∙ sym (page_is calls (tree_items (meaning (expanded_page pages page).items)))
-    ∙ its_page pages page (called_utf8 rs behind again.called) (again.unrefused free)
+    ∙ its_page pages page (called_utf8 pages rs behind again.called) (again.unrefused free)
 
 abbrev page_gaps : Pages → (ss : List BlockSpot) (behind : List ℕ) → Frames → Gaps
 page_gaps pages ss behind fs = text_gaps (expanded_page pages (spots_source ss behind)).outer (tree_by ss) None fs (last_gap [])
@@ -101,10 +101,10 @@ fills_page pages ss behind h f free rs e b o =
     let t : AreRetyped ss rs = retyped ss rs e o in
     let calls : List OuterCall = (expanded_page pages (spots_source ss behind)).outer in
     let others : List OuterCall = (expanded_page pages (spots_source rs behind)).outer in
-    let was = own_places pages ss ss behind f (self_round ss) (called_blocks ss behind h.called) in
+    let was = own_places pages ss ss behind f (self_round ss) (among_contents pages ss behind h) in
     let now = own_places pages ss rs behind f e b in
     let g : Gaps = text_gaps others (tree_by rs) None f.frames (last_gap []) in
-    ap (fill (own_sources rs)) (gaps_same calls others (calls_same pages ss rs behind h.called t) (tree_by ss) (tree_by rs) None f.frames (last_gap []) (last_gap []) was now refl)
+    ap (fill (own_sources rs)) (gaps_same calls others (calls_same pages ss rs behind h t) (tree_by ss) (tree_by rs) None f.frames (last_gap []) (last_gap []) was now refl)
     ∙ ap (λ (ts : List (List ℕ)). fill ts g) (sym (ap (λ (is : List ℕ). sources_at (tree_by rs) is []) (f.in_order ∙ sym (counted_same ss rs e)) ∙ sources_counted rs))
     ∙ all_fill others (tree_by rs) None f.frames (last_gap []) [] now
     ∙ append-nil (text_from others None (held (tree_by rs) f.frames))
@@ -141,7 +141,7 @@ page_outside pages ss behind h free g =
     let f : StandAmongCalls pages ss behind = squashed_stand pages ss behind (stand_among pages ss behind h) in
     let fs : Frames = f.frames in
     let t : ℕ → ItemTree = tree_by ss in
-    let blocks : AreContents ss = called_blocks ss behind h.called in
+    let blocks : AreContents ss = among_contents pages ss behind h in
     let own : AreOwn t (all_places fs) = own_places pages ss ss behind f (self_round ss) blocks in
     let u : Tree = annotated calls (group_data calls) (body_with (trees_at t fs)) in
     let inside : AreInNoGroup 0 ss u = subst (λ m. AreInNoGroup 0 ss (annotated calls (group_data calls) m)) (f.means ss (retyped_self ss)) g in

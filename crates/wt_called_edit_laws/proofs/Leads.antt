@@ -134,7 +134,7 @@ next_by : (v : Bool) (n : ℕ) → 0 < n → 0 < (if v then n + 1 else n)
 next_by true n h = omega (arith, h)
 next_by false n h = h
 
-next_some : (k : Kind) (n : ℕ) → 0 < n → 0 < next_after k n
+pub next_some : (k : Kind) (n : ℕ) → 0 < n → 0 < next_after k n
 next_some k n h = next_by (is_numbered k) n h
 
 stands_so : (u : ItemTree) (t : Tree) (n at : ℕ) → 0 < n → t ≡ settled n at (placeless t) → placeless t ≡ placeless (standing 0 [] u) → ArePlain (u ∷ [])

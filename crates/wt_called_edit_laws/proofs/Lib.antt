@@ -30,6 +30,7 @@ pub mod BareInsides
 mod SettledCases
 pub mod Settles
 pub mod SettledPages
+pub mod SettledAt
 pub mod RunsFree
 pub mod FreePlaces
 pub mod GroupsKept
@@ -40,4 +41,6 @@ pub mod PagesSettled
 pub mod GroupsOfPage
 pub mod BlocksOutside
 pub mod Parts
+pub mod Written
+pub mod CallingGroups
 pub mod Cells

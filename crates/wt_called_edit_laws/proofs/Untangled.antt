@@ -14,15 +14,16 @@ use Rattle.wt_moved_laws.specs.Placeless.{placeless}
 use Rattle.wt_moved_laws.specs.Standing.{standing}
 use Rattle.wt_selser.specs.Edits.{is_tangled}
 use Rattle.wt_selser.specs.GroupFaults.{has_faulty_group}
-use Rattle.wt_text_edit_laws.specs.BlockSpots.{BlockSpot, spots_source, AreContents, AreReadAfter}
+use Rattle.wt_text_edit_laws.specs.BlockSpots.{BlockSpot, spots_source, AreContents, AreReadSpots}
 use Rattle.wt_text_edit_laws.specs.TextBetween.{AreEnded}
 use Rattle.wt_text_edit_laws.specs.TextBlocks.{TextBlock, source_of, block_tree, BeginsLine}
 use Rattle.wt_text_edit_laws.specs.Contents.{IsContent}
 use Rattle.wt_text_edit_laws.proofs.Blocks.BlocksAgain.{AreClear}
 use Rattle.wt_text_edit_laws.proofs.Blocks.BlockReading.{begins_here}
 use Rattle.wt_text_edit_laws.proofs.Paragraphs.ClearLines.{clear_first, clear_line}
+use Rattle.wt_called_edit_laws.specs.CalledBlocks.{AreAmongCalls}
 use Rattle.wt_called_edit_laws.specs.Parts.{AreCalled}
-use Rattle.wt_called_edit_laws.proofs.Parts.Retyped.{called_blocks}
+use Rattle.wt_called_edit_laws.proofs.Cells.CalledFrames.{among_contents}
 use Rattle.wt_called_edit_laws.specs.FreeBlocks.{AreFreeFrom}
 use Rattle.wt_called_edit_laws.specs.Untangled.{AreUntangledFrom}
 use Rattle.wt_called_edit_laws.proofs.FreeBlocks.{blocks_free}
@@ -52,14 +53,14 @@ begins_clear : (front bs : List ℕ) → AreEnded bs → BeginsLine (page_items 
 begins_clear front [] e h = absurd (begins_here [] h)
 begins_clear front (b ∷ bs) e h = clear_line front b bs e
 
-further_clear : (front : List ℕ) (ss : List BlockSpot) (behind : List ℕ) → AreReadAfter ss behind → AreClear front ss
+further_clear : (front : List ℕ) (ss : List BlockSpot) (behind : List ℕ) → AreReadSpots ss behind → AreClear front ss
 further_clear front [] behind h = tt
 further_clear front (s ∷ ss) behind h =
     (begins_clear front s.before h.0.ended h.1, further_clear ((front ++ s.before) ++ source_of s.block s.text) ss behind h.2)
 
-called_clear : (ss : List BlockSpot) (behind : List ℕ) → AreCalled ss behind → AreClear [] ss
-called_clear [] behind h = absurd h
-called_clear (s ∷ ss) behind h = (clear_first s.before h.0.ended, further_clear (s.before ++ source_of s.block s.text) ss behind h.1)
+called_clear : (pages : Pages) (ss : List BlockSpot) (behind : List ℕ) → AreCalled pages ss behind → AreClear [] ss
+called_clear pages [] behind h = absurd h
+called_clear pages (s ∷ ss) behind h = (clear_first s.before h.0.ended, further_clear (s.before ++ source_of s.block s.text) ss behind h.1)
 
 -- ---- the blocks of a page
 
@@ -80,8 +81,8 @@ untangled_from items page front (s ∷ ss) behind at e i f c b =
       untangled_from items page (all ++ line) ss behind ((at + length s.before) + length line) (is ∙ sym (append_assoc all line rest)) end f.1 c.1 b.1,
     )
 
-pub blocks_untangled : (pages : Pages) (ss : List BlockSpot) (behind : List ℕ) → AreCalled ss behind
+pub blocks_untangled : (pages : Pages) (ss : List BlockSpot) (behind : List ℕ) → AreAmongCalls pages ss behind
     → AreUntangledFrom (expanded_page pages (spots_source ss behind)) (spots_source ss behind) 0 ss
 blocks_untangled pages ss behind h =
     untangled_from (expanded_page pages (spots_source ss behind)) (spots_source ss behind) [] ss behind 0 refl refl (blocks_free pages ss behind h)
-    (called_clear ss behind h) (called_blocks ss behind h)
+    (called_clear pages ss behind h.called) (among_contents pages ss behind h)

@@ -6,10 +6,13 @@ use Rattle.wt_expand.specs.PageCalls.{expanded_page}
 use Rattle.wt_inline.specs.ItemTree.{ItemTree}
 use Rattle.wt_page.specs.Body.{meaning}
 use Rattle.wt_row_laws.specs.Frames.{Frames, trees_at, all_places, content, AreFrames}
-use Rattle.wt_text_edit_laws.specs.BlockSpots.{BlockSpot, spots_source}
+use Rattle.wt_expand.specs.PageItems.{page_items}
+use Rattle.wt_text_edit_laws.specs.BlockSpots.{BlockSpot, spots_source, AreContents}
 use Rattle.wt_text_edit_laws.specs.ParagraphBetween.{body_with}
-use Rattle.wt_text_edit_laws.specs.TextBlocks.{a_paragraph, block_tree}
-use Rattle.wt_called_edit_laws.specs.Parts.{AreCalled, part_items, calls_in}
+use Rattle.wt_joined_calls.specs.Expanded.{part_items, calls_in}
+use Rattle.wt_text_edit_laws.specs.NoCalls.{CallsNothing}
+use Rattle.wt_text_edit_laws.specs.TextBlocks.{a_paragraph, block_items, block_tree}
+use Rattle.wt_called_edit_laws.specs.Parts.{AreCalled}
 use Rattle.wt_called_edit_laws.specs.Retyped.{AreRetyped}
 use Rattle.wt_called_edit_laws.specs.ItemSpots.{ItemSpot, ArePlaced}
 
@@ -19,16 +22,24 @@ use Rattle.wt_called_edit_laws.specs.ItemSpots.{ItemSpot, ArePlaced}
 abbrev pub spots_among : Pages → ℕ → List BlockSpot → List ItemSpot
 spots_among pages k [] = []
 spots_among pages k (s ∷ ss) =
-    record { before = part_items pages k s.before; block = s.block; text = s.text } ∷ spots_among pages (k + calls_in pages s.before) ss
+    record { before = part_items pages k s.before; block = s.block; content = page_items s.text } ∷ spots_among pages (k + calls_in pages s.before) ss
 
 -- the items behind the last
 abbrev pub items_behind : Pages → ℕ → List BlockSpot → List ℕ → List Item
 items_behind pages k [] behind = part_items pages k behind
 items_behind pages k (s ∷ ss) behind = items_behind pages (k + calls_in pages s.before) ss behind
 
--- No call goes over the end of a part; and by what the calls give, each block is a block of its own, in the body, in a cell or in a caption.
+-- no block calls anything by itself
+abbrev pub CallNothing : List BlockSpot → Type 0
+CallNothing [] = Unit {0}
+CallNothing (s ∷ ss) = CallsNothing (block_items s.block s.text) × CallNothing ss
+
+-- No call goes over the end of a part, and none is in a block; each content is one that is read by itself; and by what the calls give, each block is a
+-- block of its own, in the body, in a cell or in a caption.
 pub record AreAmongCalls (pages : Pages) (ss : List BlockSpot) (behind : List ℕ) : Type 0 where
-  pub called : AreCalled ss behind
+  pub called : AreCalled pages ss behind
+  pub contents : AreContents ss
+  pub calm : CallNothing ss
   pub placed : ArePlaced (spots_among pages 0 ss) (items_behind pages 0 ss behind)
 
 -- ---- its meaning

@@ -4,25 +4,25 @@ use Rattle.wt_span.specs.Items.{Item}
 use Rattle.wt_expand.specs.PageItems.{page_items}
 use Rattle.wt_text_edit_laws.specs.BlockSpots.{BlockSpot, spots_source, AreRead}
 use Rattle.wt_text_edit_laws.specs.Parts.{HasNoGroups}
-use Rattle.wt_text_edit_laws.specs.TextBlocks.{TextBlock, block_items}
-use Rattle.wt_text_edit_laws.specs.Contents.{IsContent, IsNewContent}
-use Rattle.wt_called_edit_laws.specs.AnyBlocks.{open_behind_part, StaysText, LeadsInto, past_break, BeginsAfter, EndsAfter}
+use Rattle.wt_text_edit_laws.specs.TextBlocks.{TextBlock}
+use Rattle.wt_called_edit_laws.specs.AnyBlocks.{open_behind_part, LeadsInto, past_break, BeginsAfter, EndsAfter}
+use Rattle.wt_called_edit_laws.specs.CalledContents.{items_round, AreItemsOf, StayText, IsTextAnywhere}
 
--- a block with its content, and the items before it, behind the one before or at the page's start
+-- a block with the items of its content, and those before it, behind the one before or at the page's start
 pub record ItemSpot : Type 0 where
   pub before : List Item
   pub block : TextBlock
-  pub text : List ℕ
+  pub content : List Item
 
 -- and behind the last
 abbrev pub placed_items : List ItemSpot → List Item → List Item
 placed_items [] behind = behind
-placed_items (s ∷ ss) behind = s.before ++ (block_items s.block s.text ++ placed_items ss behind)
+placed_items (s ∷ ss) behind = s.before ++ (items_round s.block s.content ++ placed_items ss behind)
 
 -- ---- of a page without calls
 
 abbrev pub items_of_spot : BlockSpot → ItemSpot
-items_of_spot s = record { before = page_items s.before; block = s.block; text = s.text }
+items_of_spot s = record { before = page_items s.before; block = s.block; content = page_items s.text }
 
 abbrev pub items_of_spots : List BlockSpot → List ItemSpot
 items_of_spots [] = []
@@ -32,7 +32,7 @@ items_of_spots (s ∷ ss) = items_of_spot s ∷ items_of_spots ss
 
 -- as `AreParts`, which is asked of bytes
 abbrev pub IsPlacedAt : List Bool → List Item → ItemSpot → Type 0
-IsPlacedAt bs xs s = IsContent s.block s.text × LeadsInto s.block bs xs × StaysText s.block (length (open_behind_part bs xs)) s.text
+IsPlacedAt bs xs s = AreItemsOf s.block s.content × LeadsInto s.block bs xs × StayText s.block (length (open_behind_part bs xs)) s.content
 
 abbrev pub ArePlacedAfter : TextBlock → List Bool → List ItemSpot → List Item → Type 0
 ArePlacedAfter last bs [] behind = EndsAfter last (length bs) behind
@@ -61,12 +61,12 @@ SameItems [] (r ∷ rs) = ⊥
 SameItems (s ∷ ss) [] = ⊥
 SameItems (s ∷ ss) (r ∷ rs) = (r.before ≡ s.before) × (r.block ≡ s.block) × SameItems ss rs
 
--- which are the same, or new ones in their places
+-- which are the same, or text anywhere
 abbrev pub AreNewIn : List ItemSpot → List ItemSpot → Type 0
 AreNewIn [] rs = Unit {0}
 AreNewIn (s ∷ ss) [] = Unit {0}
-AreNewIn (s ∷ ss) (r ∷ rs) = ((r.text ≡ s.text) ⊎ IsNewContent r.block s.text r.text) × AreNewIn ss rs
+AreNewIn (s ∷ ss) (r ∷ rs) = ((r.content ≡ s.content) ⊎ IsTextAnywhere r.block r.content) × AreNewIn ss rs
 
 abbrev pub AreContentsIn : List ItemSpot → Type 0
 AreContentsIn [] = Unit {0}
-AreContentsIn (s ∷ ss) = IsContent s.block s.text × AreContentsIn ss
+AreContentsIn (s ∷ ss) = AreItemsOf s.block s.content × AreContentsIn ss

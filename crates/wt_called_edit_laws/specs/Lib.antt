@@ -13,6 +13,7 @@ pub mod ChosenContents
 pub mod ContentsTaken
 pub mod Settled
 pub mod SettledPages
+pub mod SettledAt
 pub mod Covered
 pub mod Parts
 pub mod Retyped
@@ -23,6 +24,11 @@ pub mod HeadingsInCells
 pub mod InCells
 pub mod UnmarkedCells
 pub mod OwnTexts
+pub mod CalledContents
 pub mod ItemSpots
 pub mod CalledBlocks
+pub mod CallingBlocks
+pub mod CallingGroups
+pub mod Written
+pub mod WrittenAnew
 pub mod SentAsIs

@@ -1,4 +1,4 @@
--- The trees of a page with calls, whatever texts are typed in its paragraphs and headings.
+-- The trees of a page with calls, whatever is written in its paragraphs and headings.
 use Rattle.std.specs.Prelude.{◌≡◌, ℕ, List}
 use Rattle.wt_expand.specs.Work.{Pages}
 use Rattle.wt_tree.specs.Tree.{tree}
@@ -6,10 +6,13 @@ use Rattle.wt_sections.specs.Sections.{with_sections}
 use Rattle.wt_page_round_trip.specs.PageTree.{page_tree}
 use Rattle.wt_text_edit_laws.specs.BlockSpots.{BlockSpot, spots_source}
 use Rattle.wt_called_edit_laws.specs.Retyped.{AreRetyped}
+use Rattle.wt_called_trees.specs.HeldCalls.{AllHold}
 use Rattle.wt_called_trees.specs.Rounded.{body_label}
 use Rattle.wt_called_trees.specs.TreeFrames.{TreeFrames, all_filled, spots}
 use Rattle.wt_called_edit_laws.specs.Nodes.{block_at}
 use Rattle.wt_called_edit_laws.specs.CalledBlocks.{tree_by, counted}
+use Rattle.wt_called_edit_laws.specs.CallingBlocks.{AreEdited, tree_with_calls}
+use Rattle.wt_called_edit_laws.specs.CallingGroups.{block_with_groups}
 use Rattle.wt_called_edit_laws.specs.Settled.{page_settled}
 
 -- Nothing but these blocks is another one: the tree is that of the same nodes with the blocks at their places, its numbers and places counted
@@ -19,3 +22,10 @@ pub record OnlyTextsAreOthers (pages : Pages) (ss : List BlockSpot) (behind : Li
   pub in_order : spots nodes ≡ counted ss
   pub trees : (rs : List BlockSpot) → AreRetyped ss rs
       → page_tree pages (spots_source rs behind) ≡ with_sections (page_settled (tree body_label (all_filled (block_at (tree_by rs)) nodes)))
+
+-- So it is where the blocks hold calls: each of them is there with its groups.
+pub record OnlyBlocksAreOthers (pages : Pages) (ss : List BlockSpot) (behind : List ℕ) : Type 0 where
+  pub nodes : TreeFrames
+  pub in_order : spots nodes ≡ counted ss
+  pub trees : (rs : List BlockSpot) → AreEdited pages ss rs → AllHold (tree_with_calls pages 0 rs) (counted rs)
+      → page_tree pages (spots_source rs behind) ≡ with_sections (page_settled (tree body_label (all_filled (block_with_groups pages rs behind) nodes)))

@@ -2,21 +2,21 @@
 //! taken, and texts beside what stays in them, and nothing else is changed.
 #![tactic(auto)]
 
-ghost use Rattle.std.specs.Prelude.{ℕ, ◌<◌, List, [], ◌∷◌, ◌≡◌, Option, None};
+ghost use Rattle.std.specs.Prelude.{ℕ, ◌<◌, List, [], ◌∷◌, ◌≡◌, Option, None, false};
 ghost use Rattle.wt_expand.specs.Work.{Pages};
 ghost use Rattle.wt_text_edit_laws.specs.BlockSpots.{BlockSpot, AreRead, AreBlockSpots, spots_source};
 ghost use Rattle.wt_called_edit_laws.specs.Parts.{AreCalled, IsByParts};
-ghost use Rattle.wt_called_edit_laws.specs.Retyped.{AreRetyped, IsExpandedAgain};
+ghost use Rattle.wt_called_edit_laws.specs.Retyped.{AreRetyped, AreWrittenAnew, IsExpandedAgain};
 ghost use Rattle.std.specs.Str.{IsUtf8};
 ghost use Rattle.wt_span.specs.Items.{Item};
 ghost use Rattle.wt_tree.specs.Tree.{Label, Tree};
 ghost use Rattle.wt_checks.specs.Kept.{children};
 ghost use Rattle.wt_expand.specs.PageItems.{page_items};
-ghost use Rattle.wt_typed_blocks.specs.Edited.{Pieces, Edited, edited, Edits};
+ghost use Rattle.wt_typed_blocks.specs.Edited.{Pieces, Edited, edited, Edits, page_node};
 ghost use Rattle.wt_typed_blocks.specs.Sent.{paragraph};
 ghost use Rattle.wt_text_edit_laws.specs.BlockEdits.{typed_as};
 ghost use Rattle.wt_text_edit_laws.specs.Parts.{part_tree};
-ghost use Rattle.wt_text_edit_laws.specs.TextBlocks.{TextBlock, a_paragraph, block_of, block_tree};
+ghost use Rattle.wt_text_edit_laws.specs.TextBlocks.{TextBlock, a_paragraph, block_of, block_items, block_tree};
 ghost use Rattle.wt_beside_laws.specs.FlatBlocks.{IsFlatEditOf};
 ghost use Rattle.wt_beside_laws.specs.StyledIn.{IsFlatIn};
 ghost use Rattle.wt_moved_laws.specs.Standing.{standing};
@@ -24,18 +24,18 @@ ghost use Rattle.wt_text_edit_laws.specs.TypedPages.{IsTypedPage};
 ghost use Rattle.wt_called_edit_laws.specs.AnyBlocks.{AreSpots, AllLead};
 ghost use Rattle.wt_called_edit_laws.specs.AnyTexts.{TakesAnyTexts};
 ghost use Rattle.wt_called_edit_laws.specs.ItemSpots.{AreContentSpots};
-ghost use Rattle.wt_called_edit_laws.specs.CalledBlocks.{AreAmongCalls, StandAmongCalls};
+ghost use Rattle.wt_called_edit_laws.specs.CalledBlocks.{AreAmongCalls, counted, StandAmongCalls};
 ghost use Rattle.wt_called_edit_laws.specs.CellEdits.{CellPage, page_with, IsCellPage, IsCellEdit, LeadsFrom, TakesText, own_sents};
 ghost use Rattle.wt_called_edit_laws.specs.HeadingsInCells.{IsHeadingInCell, HeadingStandsInCell};
 ghost use Rattle.wt_called_edit_laws.specs.UnmarkedCells.{TakesUnmarked};
 ghost use Rattle.wt_called_edit_laws.specs.InCells.{IsInCell, AreTextLines, StandsInCell};
 ghost use Rattle.wt_expand.specs.PageCalls.{expanded_page};
 ghost use Rattle.wt_called_edit_laws.specs.CalledPages.{IsCalledPage};
-ghost use Rattle.wt_called_edit_laws.specs.FreeBlocks.{AreFreeFrom};
+ghost use Rattle.wt_called_edit_laws.specs.FreeBlocks.{AreFreeFrom, NoTextCalls};
 ghost use Rattle.wt_called_edit_laws.specs.Groups.{AreOutsideGroups, GroupsStayAmong, called_tree};
 ghost use Rattle.wt_called_edit_laws.specs.Untangled.{AreUntangledFrom};
 ghost use Rattle.wt_span.specs.Origins.{OuterCall};
-ghost use Rattle.wt_inline.specs.ItemTree.{ItemTree};
+ghost use Rattle.wt_inline.specs.ItemTree.{ItemTree, plain};
 ghost use Rattle.wt_row_laws.specs.Frames.{Frames};
 ghost use Rattle.wt_called_trees.specs.TreeFrames.{TreeFrames};
 ghost use Rattle.wt_called_edit_laws.specs.Nodes.{NodesStayIn};
@@ -48,27 +48,65 @@ ghost use Rattle.wt_called_edit_laws.specs.ChosenContents.{HasContentEdits};
 ghost use Rattle.wt_called_edit_laws.specs.ContentsTaken.{TakesContents};
 ghost use Rattle.wt_called_edit_laws.specs.EditsAt.{Fits, AllStand};
 ghost use Rattle.wt_called_edit_laws.specs.Settled.{IsSettled};
-ghost use Rattle.wt_called_edit_laws.specs.SettledPages.{OnlyTextsAreOthers};
+ghost use Rattle.wt_called_edit_laws.specs.SettledAt.{BlocksAtPaths};
+ghost use Rattle.wt_called_edit_laws.specs.SettledPages.{OnlyTextsAreOthers, OnlyBlocksAreOthers};
 ghost use Rattle.wt_called_edit_laws.specs.Covered.{CleanWhereFree, IsEditablePage};
+ghost use Rattle.wt_called_edit_laws.specs.CallingBlocks.{IsContentIn, IsNewContentIn, AreEdited, AreCallingBlocks, tree_with_calls, CallingBlocksStand};
+ghost use Rattle.wt_called_edit_laws.specs.CallingGroups.{AreCallingOutside, CallingGroupsStay, CallingNodesStay};
+ghost use Rattle.wt_called_trees.specs.HeldCalls.{block_in, HoldsItsCalls, AllHold, block_of_texts};
+ghost use Rattle.wt_text_edit_laws.specs.Contents.{IsContent};
+ghost use Rattle.wt_text_edit_laws.specs.NoCalls.{CallsNothing};
+ghost use Rattle.wt_called_edit_laws.specs.Written.{AreReadThings, AreOwnParts, written_items, written_calls, written_work, IsWrittenAs};
+ghost use Rattle.wt_guards.specs.Content.{ContentSign};
+ghost use Rattle.wt_guards.specs.Guards.{Setting, spelled};
+ghost use Rattle.wt_text_edit_laws.specs.ReadContents.{IsFirmlyRead};
+ghost use Rattle.wt_beside_laws.specs.Content.{content_items};
+ghost use Rattle.wt_joined_calls.specs.Expanded.{part_items};
+ghost use Rattle.wt_beside_laws.specs.Called.{items_with, owns_in, parts_with, shown_signs, called_shown, IsCalledIn};
+ghost use Rattle.wt_called_edit_laws.specs.CalledContents.{tree_round};
+ghost use Rattle.wt_tree.specs.declared.kind.Kind.TheVariants as kind;
+ghost use Rattle.wt_tree.specs.Plain.{Plains, ended, along, element, plain_before};
+ghost use Rattle.wt_annotated.specs.CutTexts.{cut_texts};
+ghost use Rattle.wt_selser.specs.GroupFaults.{paragraph_face};
+ghost use Rattle.wt_called_edit_laws.specs.WrittenAnew.{node_sources, StayButForOthers, IsWrittenBeside, HoldsAnywhere, EachHolds};
 
-/// A page with blocks among calls, none of which goes over the end of a part, is expanded part by part: its items are
-/// those of what stands before, between and behind the blocks, with the numbers that their calls have in the page, and
-/// between these the blocks' own; its calls are those of these parts, with their places; and so is the work.
+mod body_paragraphs;
+
+pub use body_paragraphs::paragraphs_of_the_body_may_be_edited;
+
+/// A page with blocks among calls, and with calls in them, none of which goes over the end of a part, is expanded part by
+/// part: its items are those of what stands before, between and behind the blocks, and of the blocks, with the numbers that
+/// their calls have in the page; its calls are those of these parts, with their places; and so is the work.
 pub fn pages_with_blocks_are_expanded_by_their_parts()
-    ensures { (pages : Pages) (ss : List BlockSpot) (behind : List ℕ) → AreCalled ss behind → IsByParts pages ss behind }
+    ensures { (pages : Pages) (ss : List BlockSpot) (behind : List ℕ) → AreCalled pages ss behind → IsByParts pages ss behind }
 {}
 
-/// Where texts are typed in the blocks of such a page, it is such a page again, its work is the same, and it is refused
-/// only if it was refused before.
+/// Where new contents are written in the blocks of such a page, with some of the calls that were there, and in which no two
+/// braces are left, it is such a page again, it is no more work, and it is refused only if it was refused before. So it is
+/// where texts are typed, and where any contents are written that call nothing.
 pub fn pages_with_typed_texts_are_expanded_again()
-    ensures { (pages : Pages) (ss rs : List BlockSpot) (behind : List ℕ) → AreCalled ss behind → AreRetyped ss rs
+    ensures typed { (pages : Pages) (ss rs : List BlockSpot) → AreRetyped ss rs → AreWrittenAnew pages ss rs }
+    ensures again { (pages : Pages) (ss rs : List BlockSpot) (behind : List ℕ) → AreCalled pages ss behind → AreWrittenAnew pages ss rs
         → IsExpandedAgain pages ss rs behind }
 {}
 
 /// A page that calls nothing is such a page.
 #[tactic(auto, using(crate::proofs::Parts::NoCallsCalled::read_called))]
 pub fn pages_without_calls_are_such()
-    ensures { (ss : List BlockSpot) (behind : List ℕ) → AreRead ss behind → AreCalled ss behind }
+    ensures { (pages : Pages) (ss : List BlockSpot) (behind : List ℕ) → AreRead ss behind → AreCalled pages ss behind }
+{}
+
+/// A content of text that is typed and nodes that stay, calls among them (`AreReadThings`), gives, as it is written, what its
+/// signs give, one after the other: its items are those of the characters, of the nowikis that are put, and of each node by
+/// itself, with the numbers that its calls have there; its calls are those of its nodes, but for their places; and so is the
+/// work of expanding it. No two braces are left in it, so it is a part of any page. It is read the same whatever stands
+/// behind it, unless a `}` is first.
+pub fn written_contents_give_what_their_signs_give()
+    ensures gives { (pages : Pages) (s : Setting) (signs : List ContentSign) → s.within ≡ false → AreReadThings signs → AreOwnParts pages signs
+        → IsWrittenAs pages (spelled s signs) (λ i. written_items pages s i [] signs) (written_calls pages signs) (written_work pages signs) }
+    ensures firm { (s : Setting) (signs : List ContentSign) → s.within ≡ false → AreReadThings signs → IsFirmlyRead (spelled s signs) }
+    ensures alone { (s : Setting) (signs : List ContentSign) → s.within ≡ false → AreReadThings signs
+        → page_items (spelled s signs) ≡ content_items s [] signs }
 {}
 
 /// A paragraph in a cell of a table, which may be in a cell of another table, is at a place of the page's tree that its
@@ -138,6 +176,51 @@ pub fn blocks_among_calls_stand_at_their_places()
         → AreAmongCalls pages rs behind }
 {}
 
+/// And such blocks may hold calls, too. By what their calls give, each is a block of its own, at a place of the page's tree;
+/// what is written in them beside their calls doesn't move it, and all else is the same. With such contents it is such a
+/// page again. A content that calls nothing is such a content in each folder, and a page whose blocks call nothing is such
+/// a page.
+pub fn blocks_with_calls_stand_at_their_places()
+    ensures stand { (pages : Pages) (ss : List BlockSpot) (behind : List ℕ) → AreCallingBlocks pages ss behind → CallingBlocksStand pages ss behind }
+    ensures again { (pages : Pages) (ss rs : List BlockSpot) (behind : List ℕ) → AreCallingBlocks pages ss behind → AreEdited pages ss rs
+        → AreCallingBlocks pages rs behind }
+    ensures content { (pages : Pages) (k : TextBlock) (q : List ℕ) → IsContent k q → CallsNothing (block_items k q) → IsContentIn pages k q }
+    ensures calm { (pages : Pages) (ss : List BlockSpot) (behind : List ℕ) → AreAmongCalls pages ss behind → AreCallingBlocks pages ss behind }
+{}
+
+/// What is written for texts beside calls that give words (`IsCalledIn` of `wt_beside_laws`) gives the words of these calls, and between them the texts as
+/// they are spelled, and as a paragraph it holds its calls, however many calls come before it in the page. In the page's tree the words of each call are a
+/// group by themselves, and it shows the texts that were typed, and between them these words.
+pub fn written_paragraphs_hold_their_calls()
+    ensures gives { (pages : Pages) (i : ℕ) (s : Setting) (signs : List ContentSign) → IsCalledIn pages s signs → AreReadThings signs → AreOwnParts pages signs
+        → part_items pages i (spelled s signs) ≡ items_with s [] signs (owns_in pages i signs) }
+    ensures holds { (pages : Pages) (i : ℕ) (s : Setting) (signs : List ContentSign) → IsCalledIn pages s signs → AreReadThings signs → AreOwnParts pages signs
+        → HoldsItsCalls (tree_round a_paragraph (part_items pages i (spelled s signs))) }
+    ensures block { (pages : Pages) (calls : List OuterCall) (i : ℕ) (s : Setting) (signs : List ContentSign) → IsCalledIn pages s signs → AreReadThings signs
+        → AreOwnParts pages signs → block_in calls (tree_round a_paragraph (part_items pages i (spelled s signs)))
+        ≡ block_of_texts calls (plain kind.Para) [] (parts_with s [] (shown_signs pages signs) (owns_in pages i signs)) [] }
+    ensures shown { (pages : Pages) (calls : List OuterCall) (i : ℕ) (s : Setting) (signs : List ContentSign) (rest : Plains) → IsCalledIn pages s signs
+        → AreReadThings signs → AreOwnParts pages signs → plain_before (cut_texts (block_in calls (tree_round a_paragraph (part_items pages i (spelled s signs))))) rest
+        ≡ along (element paragraph_face (called_shown (shown_signs pages signs) (owns_in pages i signs) ended)) rest }
+{}
+
+/// Such a paragraph is a content in a folder, as it is written, and is a new one in the place of any other such paragraph whose nodes it has, in their order:
+/// each that calls stays, and any other may go (`StayButForOthers`). So any texts may be typed beside these calls.
+pub fn paragraphs_beside_calls_may_be_written_anew()
+    ensures content { (pages : Pages) (s : Setting) (signs : List ContentSign) → IsWrittenBeside pages s signs → IsContentIn pages a_paragraph (spelled s signs) }
+    ensures anew { (pages : Pages) (s : Setting) (t : Setting) (olds signs : List ContentSign) → IsWrittenBeside pages s olds → IsWrittenBeside pages t signs
+        → StayButForOthers pages (node_sources olds) (node_sources signs) → IsNewContentIn pages a_paragraph (spelled s olds) (spelled t signs) }
+{}
+
+/// Blocks of which each holds its calls, however many come before it (`EachHolds`), hold them in their page: such paragraphs do, and so do contents
+/// that call nothing.
+pub fn blocks_hold_their_calls_in_their_page()
+    ensures all { (pages : Pages) (ss : List BlockSpot) → EachHolds pages ss → AllHold (tree_with_calls pages 0 ss) (counted ss) }
+    ensures written { (pages : Pages) (s : Setting) (signs : List ContentSign) → IsWrittenBeside pages s signs
+        → HoldsAnywhere pages a_paragraph (spelled s signs) }
+    ensures calm { (pages : Pages) (k : TextBlock) (q : List ℕ) → IsContent k q → CallsNothing (block_items k q) → HoldsAnywhere pages k q }
+{}
+
 /// A page that calls nothing (`AreContentSpots`) is such a page, too.
 pub fn pages_without_calls_are_among_these()
     ensures { (pages : Pages) (ss : List BlockSpot) (behind : List ℕ) → AreContentSpots ss behind → AreAmongCalls pages ss behind }
@@ -152,17 +235,34 @@ pub fn groups_stay_round_typed_texts()
     ensures stay { (pages : Pages) (ss : List BlockSpot) (behind : List ℕ) → AreOutsideGroups pages ss behind → GroupsStayAmong pages ss behind }
 {}
 
+/// And so it is where the blocks hold calls (`AreCallingOutside`): whatever is written in them beside their calls, the page's
+/// tree has the same groups round them and the same other nodes; each call of a block is a group in it. With such contents it
+/// is such a page again.
+pub fn groups_stay_round_blocks_that_call()
+    ensures stay { (pages : Pages) (ss : List BlockSpot) (behind : List ℕ) → AreCallingOutside pages ss behind → CallingGroupsStay pages ss behind }
+    ensures nodes { (pages : Pages) (ss : List BlockSpot) (behind : List ℕ) → AreCallingOutside pages ss behind → CallingNodesStay pages ss behind }
+    ensures again { (pages : Pages) (ss rs : List BlockSpot) (behind : List ℕ) → AreCallingOutside pages ss behind → AreEdited pages ss rs
+        → AllHold (tree_with_calls pages 0 rs) (counted rs) → AreCallingOutside pages rs behind }
+{}
+
 /// No call of such a page that is text shares a byte with one of the blocks.
 #[tactic(auto, using(crate::proofs::FreeBlocks::blocks_free))]
 pub fn text_calls_touch_no_block()
-    ensures { (pages : Pages) (ss : List BlockSpot) (behind : List ℕ) → AreCalled ss behind
+    ensures { (pages : Pages) (ss : List BlockSpot) (behind : List ℕ) → AreAmongCalls pages ss behind
+        → AreFreeFrom (expanded_page pages (spots_source ss behind)).text_calls 0 ss }
+{}
+
+/// So it is of blocks that hold calls, if none of these is text itself.
+#[tactic(auto, using(crate::proofs::FreeBlocks::calls_free))]
+pub fn text_calls_touch_no_block_that_calls()
+    ensures { (pages : Pages) (ss : List BlockSpot) (behind : List ℕ) → AreCalled pages ss behind → NoTextCalls pages ss
         → AreFreeFrom (expanded_page pages (spots_source ss behind)).text_calls 0 ss }
 {}
 
 /// So none of these blocks is tangled, wherever it is in the page's tree: it can be read by itself.
 #[tactic(auto, using(crate::proofs::Untangled::blocks_untangled))]
 pub fn blocks_among_calls_are_untangled()
-    ensures { (pages : Pages) (ss : List BlockSpot) (behind : List ℕ) → AreCalled ss behind
+    ensures { (pages : Pages) (ss : List BlockSpot) (behind : List ℕ) → AreAmongCalls pages ss behind
         → AreUntangledFrom (expanded_page pages (spots_source ss behind)) (spots_source ss behind) 0 ss }
 {}
 
@@ -212,10 +312,10 @@ pub fn any_texts_may_be_typed_at_paths()
 
 /// Where no bold and no italic is in what a block holds (`IsFlatIn` of `wt_beside_laws`), any nodes of it may stay, in
 /// their order, and any texts be between them: so much is asked of what is sent (`Fits`), and no more.
-#[tactic(auto, using(crate::proofs::BlocksMade::flat_fits))]
 pub fn any_nodes_may_stay_without_styles()
     ensures { (k : TextBlock) (q : List ℕ) (n : ℕ) (before : List Item) (l m : Label) (ps : Pieces) → IsFlatIn k q → 0 < n
-        → IsFlatEditOf k (standing n before (block_tree k q)) ps → Fits k q (edited (block_of k) l m ps) }
+        → page_node (edited (block_of k) l m ps) ≡ standing n before (block_tree k q) → IsFlatEditOf k (standing n before (block_tree k q)) ps
+        → Fits k q (edited (block_of k) l m ps) }
 {}
 
 /// And whatever contents that may be sent (`Fits`) are chosen for the blocks at the places, of which nodes each stays as
@@ -266,6 +366,19 @@ pub fn numbers_and_places_hang_on_the_rest()
 #[tactic(auto, using(crate::proofs::SettledPages::only_texts))]
 pub fn only_typed_texts_among_calls_are_others()
     ensures { (pages : Pages) (ss : List BlockSpot) (behind : List ℕ) → IsCalledPage pages ss behind → OnlyTextsAreOthers pages ss behind }
+{}
+
+/// So it is where these blocks hold calls: each is at its place with its groups.
+#[tactic(auto, using(crate::proofs::SettledPages::only_blocks))]
+pub fn only_blocks_that_call_are_others()
+    ensures { (pages : Pages) (ss : List BlockSpot) (behind : List ℕ) → AreCallingOutside pages ss behind → OnlyBlocksAreOthers pages ss behind }
+{}
+
+/// Each of these blocks is at a path of the page's tree, with its groups, and with the number and the place that the rest of
+/// the page leaves it.
+#[tactic(auto, using(crate::proofs::SettledAt::blocks_at_paths))]
+pub fn blocks_that_call_are_at_paths()
+    ensures { (pages : Pages) (ss : List BlockSpot) (behind : List ℕ) → AreCallingOutside pages ss behind → BlocksAtPaths pages ss behind }
 {}
 
 /// A page with calls, with places for blocks in its body and in the cells and captions of its tables. Where no group of

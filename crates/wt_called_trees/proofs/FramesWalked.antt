@@ -22,11 +22,12 @@ use Rattle.wt_row_laws.specs.Rounds.{IsCellKind}
 use Rattle.wt_row_laws.specs.Frames.{Frame, place, whole, around, Frames, no_frames, more_frames, tree_at, trees_at, all_places, Part, content, in_table, in_body, in_row, Holds, AreFrames}
 use Rattle.wt_moved_laws.specs.Placeless.{placeless_label, placeless, all_placeless}
 use Rattle.wt_called_trees.specs.TreeFrames.{TreeFrame, spot, kept, holder, TreeFrames, no_nodes, more_nodes, filled, all_filled, spots}
-use Rattle.wt_called_trees.specs.Rounded.{AreOwn, AreClean, HaveSameData, block_alone}
+use Rattle.wt_called_trees.specs.Rounded.{AreClean, HaveSameData}
+use Rattle.wt_called_trees.specs.HeldCalls.{AllHold, blocks_in}
 use Rattle.wt_called_trees.proofs.SameWalks.{label_same, siblings_same}
 use Rattle.wt_called_trees.proofs.RunCuts.{FreeBefore, near_apart, near_alone}
-use Rattle.wt_called_trees.proofs.OwnWalks.{OfPage, behind_free, before_free, last_own, first_own, text_own, own_clean, walk_own, has_page}
-use Rattle.wt_called_trees.proofs.FrameEnds.{held, own_split, first_same, firsts_same, last_same, clean_same}
+use Rattle.wt_called_trees.proofs.OwnWalks.{OfPage, behind_free, before_free, text_own}
+use Rattle.wt_called_trees.proofs.FrameEnds.{held, hold_split, first_held, firsts_held, last_held, clean_held}
 
 -- ---- siblings
 
@@ -221,13 +222,13 @@ holder_is cs b o at p k q us c gs leaf qs close e =
 -- ---- all of them
 
 pub nodes_are : (cs calls : List OuterCall) → HaveSameData cs calls → (t w : ℕ → ItemTree) (o : Option ℕ) (at : ℕ) (us : List ItemTree) (fs : Frames) (p : Option ℕ)
-    (part : Part) → AreFrames fs part → AreOwn t (all_places fs) → AreOwn w (all_places fs) → AreClean t (call_after o us) fs p
+    (part : Part) → AreFrames fs part → AllHold t (all_places fs) → AllHold w (all_places fs) → AreClean t (call_after o us) fs p
     → all_placeless (trees (near_runs cs (group_data cs) (siblings cs o at p (us ++ trees_at w fs))))
-    ≡ all_filled (block_alone w) (nodes_of calls t o us fs p)
+    ≡ all_filled (blocks_in cs w) (nodes_of calls t o us fs p)
 nodes_are cs calls h t w o at us no_frames p part of_cells g k clean =
     ap (λ vs. all_placeless (trees (near_runs cs (group_data cs) (siblings cs o at p vs)))) (append-nil us)
     ∙ siblings_same cs calls h o at 0 p (forest us)
-    ∙ kept_alone (block_alone w) (stretch calls o p us)
+    ∙ kept_alone (blocks_in cs w) (stretch calls o p us)
 nodes_are cs calls h t w o at us (more_frames (whole u) fs) p part of_cells g k clean =
     let behind : call_after o (us ++ u ∷ []) ≡ last_of (call_after o us) (tree_items u) =
     ap (last_of o) (forest_more us (u ∷ []) ∙ ap (λ xs. held_by_all (forest us) ++ xs) (append-nil (tree_items u)))
@@ -239,39 +240,39 @@ nodes_are cs calls h t w o at us (more_frames (place n) fs) p part of_cells g k 
     let i : ℕ = byte_after cs o at us in
     let q : Option ℕ = first_of (held w fs) p in
     let i2 : ℕ = i + length (text_from cs a (tree_items (w n))) in
-    let old_last : last_of a (tree_items (t n)) ≡ None = last_own a (tree_items (t n)) g.0.of_page (has_page (t n) g.0.has_items) in
-    let new_last : last_of a (tree_items (w n)) ≡ None = last_own a (tree_items (w n)) k.0.of_page (has_page (w n) k.0.has_items) in
-    let begins : first_of (tree_items (w n)) q ≡ None = first_own (tree_items (w n)) q k.0.of_page (has_page (w n) k.0.has_items) in
-    node_round cs calls h (block_alone w) o at p us (w n) (trees_at w fs) None (spot n) (nodes_of calls t None [] fs p)
+    let old_last : last_of a (tree_items (t n)) ≡ None = g.0.ends a in
+    let new_last : last_of a (tree_items (w n)) ≡ None = k.0.ends a in
+    let begins : first_of (tree_items (w n)) q ≡ None = k.0.begins q in
+    node_round cs calls h (blocks_in cs w) o at p us (w n) (trees_at w fs) None (spot n) (nodes_of calls t None [] fs p)
     (first_append (tree_items (w n)) (held w fs) p ∙ begins)
     (before_free a (first_of (tree_items (w n)) q) begins)
-    (own_clean a q (w n) k.0.of_page (has_page (w n) k.0.has_items))
+    (k.0.clean a q)
     (free_next cs (last_of a (tree_items (w n))) i2 p (trees_at w fs) (behind_free (last_of a (tree_items (w n))) q new_last))
-    (walk_own cs a i q [] (w n) k.0.of_page k.0.has_items)
+    (k.0.walks cs a i q)
     (ap (λ (x : Option ℕ). all_placeless (trees (near_runs cs (group_data cs) (siblings cs x i2 p (trees_at w fs))))) new_last
     ∙ nodes_are cs calls h t w None i2 [] fs p part of_cells.1 g.1 k.1 (subst (λ (x : Option ℕ). AreClean t x fs p) old_last clean.1))
 nodes_are cs calls h t w o at us (more_frames (around j x gs c) fs) p part of_cells g k clean =
-    let r = own_split t (all_places gs) (all_places fs) g in
-    let s = own_split w (all_places gs) (all_places fs) k in
+    let r = hold_split t (all_places gs) (all_places fs) g in
+    let s = hold_split w (all_places gs) (all_places fs) k in
     let f : Frame = around j x gs c in
     let a : Option ℕ = call_after o us in
     let i : ℕ = byte_after cs o at us in
     let q : Option ℕ = first_of (held t fs) p in
     let q2 : Option ℕ = first_of (held w fs) p in
-    let after : q2 ≡ q = firsts_same w t fs s.1 r.1 p in
+    let after : q2 ≡ q = firsts_held w t fs s.1 r.1 p in
     let u : ItemTree = tree_at w f in
     let i2 : ℕ = i + length (text_from cs a (tree_items u)) in
     let leaf : is_leaf j.kind ≡ false = no_leaf part of_cells.0.0 j.kind of_cells.0.1 in
-    let is_clean : clean_at a q2 u ≡ true = ap (λ y. clean_at a y u) after ∙ clean_same w t a q j x c gs leaf s.0 r.0 ∙ clean.0.0 in
+    let is_clean : clean_at a q2 u ≡ true = ap (λ y. clean_at a y u) after ∙ clean_held w t a q j x c gs leaf s.0 r.0 ∙ clean.0.0 in
     let ends : CleanEnds a q2 x u c = clean_ends a q2 j x (trees_at w gs) c leaf is_clean in
-    let last : last_of a (tree_items u) ≡ last_of a (tree_items (tree_at t f)) = last_same w t f s.0 r.0 a in
-    node_round cs calls h (block_alone w) o at p us u (trees_at w fs) (first_of (tree_items (tree_at t f)) q)
+    let last : last_of a (tree_items u) ≡ last_of a (tree_items (tree_at t f)) = last_held w t f s.0 r.0 a in
+    node_round cs calls h (blocks_in cs w) o at p us u (trees_at w fs) (first_of (tree_items (tree_at t f)) q)
     (holder (holder_label j x c) (nodes_of calls t (last_of a x) [] gs (first_of c q)))
     (nodes_of calls t (last_of a (tree_items (tree_at t f))) [] fs p)
-    (first_append (tree_items u) (held w fs) p ∙ ap (first_of (tree_items u)) after ∙ first_same w t f s.0 r.0 q)
+    (first_append (tree_items u) (held w fs) p ∙ ap (first_of (tree_items u)) after ∙ first_held w t f s.0 r.0 q)
     ends.first is_clean
     (free_next cs (last_of a (tree_items u)) i2 p (trees_at w fs) ends.last)
-    (holder_is cs (block_alone w) a i q2 j x (trees_at w gs) c (nodes_of calls t (last_of a x) [] gs (first_of c q)) leaf ends.opening ends.closing
+    (holder_is cs (blocks_in cs w) a i q2 j x (trees_at w gs) c (nodes_of calls t (last_of a x) [] gs (first_of c q)) leaf ends.opening ends.closing
     (ap (λ (y : Option ℕ). all_placeless (trees (near_runs cs (group_data cs)
     (siblings cs (last_of a x) (i + length (text_from cs a x)) (first_of c y) (trees_at w gs))))) after
     ∙ nodes_are cs calls h t w (last_of a x) (i + length (text_from cs a x)) [] gs (first_of c q) of_cells.0.0 of_cells.0.2 r.0 s.0 clean.0.1))

@@ -1,6 +1,8 @@
 pub mod SameWalks
 pub mod RunCuts
 pub mod OwnWalks
+pub mod CallTexts
+pub mod HeldBlocks
 pub mod FrameEnds
 pub mod FramesWalked
 pub mod GroupsStay

@@ -1,3 +1,4 @@
 pub mod Below
 pub mod TextEdits
 pub mod NewChildren
+pub mod KeptPlaces

@@ -512,6 +512,15 @@ fn is_followed_in_line(known: &Known<'_, '_>, cell: &Node<'_>) -> bool {
     }
 }
 
+/// Whether the sign of a cell may stand directly behind this source of another: it is a sign alone, or doesn't end with a
+/// bar (that of its attributes), which would be read as one with the sign.
+fn leads_sign(source: &str) -> bool {
+    match source.as_bytes().last() {
+        Some(byte) => source.len() == 1 || *byte != b'|',
+        None => false,
+    }
+}
+
 /// Whether what comes is one cell before the first one of a line, in which no blanks are beside the signs.
 fn comes_first_in_line(known: &Known<'_, '_>, gap: &Gap<'_, '_, '_>, coming: &Coming) -> bool {
     let Some(behind) = gap.behind else {
@@ -523,6 +532,7 @@ fn comes_first_in_line(known: &Known<'_, '_>, gap: &Gap<'_, '_, '_>, coming: &Co
         && same_kind(coming.first, behind.kind)
         && count_of(gap.new) == 1
         && coming.is_of_line
+        && leads_sign(coming.source.as_str())
         && style_of(gap.behind).is_tight
         && !is_doubled(known.page, behind)
         && is_at_line_start(known.page, range_of(behind).start)

@@ -18,7 +18,7 @@ use Rattle.wt_expand.specs.Expansion.{Output, just, then_output, joined, Reading
 use Rattle.wt_expand.specs.Work.{Entry}
 use Rattle.wt_transclusion.specs.Stretch.{IsFull, AreFull, AllFull}
 use Rattle.wt_transclusion.proofs.Full.{full_text, text_bytes}
-use Rattle.wt_joined_calls.specs.Apart.{AreApart, AreMet, given_from, stretches_from, AreReadApart, GivesBoth}
+use Rattle.wt_joined_calls.specs.Apart.{AreApart, AreMet, given_from, stretches_from, AreReadApart, AreAlike, GivesBoth}
 use Rattle.wt_joined_calls.proofs.ApartCalls.{reduced_apart, run_cut}
 
 -- whether a line begins behind these members, which take these bytes
@@ -154,12 +154,6 @@ spans_both (own xs ∷ ss) ts = spans_both ss ts
 spans_both (outer c xs ∷ ss) ts = spans_both ss ts
 spans_both (text_call s ∷ ss) ts = ap (λ (us : List Span). s ∷ us) (spans_both ss ts)
 
--- the same items, calls and text calls
-record AreAlike (ss ts : List Stretch) : Type 0 where
-  items : (k : ℕ) → numbered k ss ≡ numbered k ts
-  outers : outer_calls ss ≡ outer_calls ts
-  texts : text_spans ss ≡ text_spans ts
-
 alike_behind : (ss ts us : List Stretch) → AreAlike ts us → AreAlike (ss ++ ts) (ss ++ us)
 alike_behind ss ts us a = record {
   items = λ k.
@@ -265,7 +259,7 @@ record IsSame (r : Reading) (at : ℕ) (s : Bool) (zs : List ℕ) (ms : Members)
   outputs : given_from r s zs ≡ joined (outputs_of r s zs ms)
   alike : AreAlike (stretches_from r at s zs) (all_stretches r at s zs ms)
 
-same_self : (ss : List Stretch) → AreAlike ss ss
+pub same_self : (ss : List Stretch) → AreAlike ss ss
 same_self ss = record { items = λ k. refl; outers = refl; texts = refl }
 
 both_by : (r : Reading) (at : ℕ) (s : Bool) (bs cs : List ℕ)

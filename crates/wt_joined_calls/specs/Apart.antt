@@ -58,6 +58,12 @@ pub record AreReadApart (m : Mode) (bs cs : List ℕ) : Type 0 where
 abbrev pub stretches_from : Reading → ℕ → Bool → List ℕ → List Stretch
 stretches_from r at start bs = all_stretches r at start bs (text_members r.mode bs)
 
+-- stretches that give the same items, calls and calls that are text
+pub record AreAlike (ss ts : List Stretch) : Type 0 where
+  pub items : (k : ℕ) → numbered k ss ≡ numbered k ts
+  pub outers : outer_calls ss ≡ outer_calls ts
+  pub texts : text_spans ss ≡ text_spans ts
+
 -- What they give, and which calls they have, is what the two have, one after the other.
 pub record GivesBoth (r : Reading) (at : ℕ) (start : Bool) (bs cs : List ℕ) : Type 0 where
   pub line : Bool

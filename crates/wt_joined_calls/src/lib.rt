@@ -2,6 +2,8 @@
 #![tactic(auto)]
 
 ghost use Rattle.std.specs.Prelude.{◌≡◌, ◌++◌, false, ℕ, Bool, List};
+ghost use Rattle.wt_span.specs.declared.form.Mode.TheVariants.{Page};
+ghost use Rattle.wt_span.specs.Braces.{reduced};
 ghost use Rattle.wt_span.specs.declared.form.Mode.{Mode};
 ghost use Rattle.wt_span.specs.Lexemes.{cuts, words};
 ghost use Rattle.wt_expand.specs.Expansion.{Reading};
@@ -9,7 +11,7 @@ ghost use Rattle.wt_expand.specs.Work.{Pages};
 ghost use Rattle.wt_scans.specs.Lexer.{lexer};
 ghost use Rattle.wt_scans.specs.Scans.{after_all, Settles};
 ghost use Rattle.wt_joined_calls.specs.Apart.{AreMet, AreReadApart, GivesBoth};
-ghost use Rattle.wt_joined_calls.specs.Expanded.{AreParts, ExpandsBoth};
+ghost use Rattle.wt_joined_calls.specs.Expanded.{GivesAnywhere, BeginsPlain, AreParts, ExpandsBoth};
 
 /// Two texts of which each is read as it is by itself, and where no two braces that open in the first one are closed in
 /// the second one: their items and calls are those of the first and those of the second one, and so is the work of
@@ -19,11 +21,19 @@ pub fn texts_side_by_side_give_both()
     ensures { (r : Reading) (at : ℕ) (start : Bool) (bs cs : List ℕ) → AreReadApart r.mode bs cs → GivesBoth r at start bs cs }
 {}
 
-/// So a page of two such parts, of which the second begins with no call, is expanded part by part: its items are those
-/// of the first one and those of the second one, where the calls of the first come before; its calls, and those that are
-/// text, are those of both, with their places; and so is the work of expanding it.
+/// A text that begins with no call gives the same where a line begins and where none does; and so do two texts side by
+/// side that give the same, each by itself.
+pub fn texts_give_the_same_anywhere()
+    ensures plain { (pages : Pages) (bs : List ℕ) → BeginsPlain (reduced (words Page bs)) → GivesAnywhere pages bs }
+    ensures both { (pages : Pages) (bs cs : List ℕ) → AreReadApart Page bs cs → GivesAnywhere pages bs → GivesAnywhere pages cs
+        → GivesAnywhere pages (bs ++ cs) }
+{}
+
+/// So a page of two such parts, of which the second gives the same wherever it begins, is expanded part by part: its
+/// items are those of the first one and those of the second one, where the calls of the first come before; its calls, and
+/// those that are text, are those of both, with their places; and so is the work of expanding it.
 pub fn parts_of_pages_expand_by_themselves()
-    ensures { (pages : Pages) (bs cs : List ℕ) → AreParts bs cs → ExpandsBoth pages bs cs }
+    ensures { (pages : Pages) (bs cs : List ℕ) → AreParts pages bs cs → ExpandsBoth pages bs cs }
 {}
 
 /// Two texts of which the first is read the same before the second (`Settles`), and the second the same behind it, are

@@ -37,3 +37,4 @@ pub mod Repeats
 pub mod TableEnds
 pub mod TextDoubts
 pub mod MadeLines
+pub mod FirstAttributes

@@ -15,3 +15,4 @@ pub mod Doubtful
 pub mod Fronts
 pub mod Sides
 pub mod MadePages
+pub mod FirstAttributes

@@ -30,7 +30,8 @@ pub use styles::{
     toggles_are_counted_by_length,
 };
 pub use tiles::{
-    brackets_balance, keys_are_behind_the_first_pipe, links_lead_to_their_url, media_end_balanced,
-    switches_are_told_in_small, urls_lead_to_themselves,
+    attributes_are_the_first_of_their_names, brackets_balance, keys_are_behind_the_first_pipe,
+    links_lead_to_their_url, media_end_balanced, switches_are_told_in_small,
+    urls_lead_to_themselves,
 };
 pub use walks::walks_go_over_their_items;

@@ -4,3 +4,4 @@ pub mod AnyCalls
 pub mod AmongCalls
 pub mod CalmCalls
 pub mod TextCalls
+pub mod ProseCalls

@@ -3,3 +3,4 @@ pub mod CellCalls
 pub mod AnyCalls
 pub mod CalledCalls
 pub mod ContentCalls
+pub mod ProseCalls

@@ -8,6 +8,7 @@ ghost use Rattle.wt_program.specs.CalledCalls.{TakesTextsAmongCalls};
 ghost use Rattle.wt_program.specs.Calls.{TakesTexts};
 ghost use Rattle.wt_program.specs.CellCalls.{TakesTextsInCells};
 ghost use Rattle.wt_program.specs.ContentCalls.{TakesContentsAmongCalls};
+ghost use Rattle.wt_program.specs.ProseCalls.{TakesChangedProse};
 
 /// Every call that keeps what `run` of `wt_pagetool` promises (`Ends`, `EndsAsEdit`) takes edited contents of paragraphs
 /// and headings among calls (`IsEditablePage`): `edit` has written the new page and no line, and `selser` is done; or a
@@ -59,4 +60,12 @@ pub fn calls_take_texts()
 #[tactic(auto, using(crate::proofs::CellsCalls::takes_in_cells))]
 pub fn calls_take_texts_in_cells()
     ensures { (c : Call) (ended : ℕ) → Ends c ended → EndsAsEdit c ended → TakesTextsInCells c ended }
+{}
+
+/// Every such call takes paragraphs that come into a page of typed paragraphs and go from it (`IsProseChange`): `edit` has
+/// written the page with those that stay and the new ones, and no line, and `selser` is done; or a device failed, or
+/// memory ran out.
+#[tactic(auto, using(crate::proofs::ProseCalls::calls_take_changes))]
+pub fn calls_take_changed_prose()
+    ensures { (c : Call) (ended : ℕ) → Ends c ended → EndsAsEdit c ended → TakesChangedProse c ended }
 {}

@@ -1,4 +1,5 @@
-//! The program's call: `run` answers the words of a command line, and takes edits of contents; and the laws by which it does.
+//! The program's call: `run` answers the words of a command line, and takes edits of contents and paragraphs that come and go; and the
+//! laws by which it does.
 #![tactic(auto)]
 
 ghost use Rattle.std.specs.Prelude.{◌≡◌, ◌+◌};
@@ -9,13 +10,15 @@ ghost use Rattle.wt_commands.specs.Devices.{read_from, fetched_from, written_to}
 ghost use Rattle.wt_pagetool.specs.Promises.{AsksFor, Ends, EndsAsEdit, GivesBack, ReadsAtMost, Waits, Wrote};
 ghost use Rattle.wt_commands.specs.Words.{command_of, Fetches, Reads};
 ghost use Rattle.wt_program.specs.ContentCalls.{TakesContentsAmongCalls};
+ghost use Rattle.wt_program.specs.ProseCalls.{TakesChangedProse};
 
 mod laws;
 
 pub use laws::{
-    calls_take_contents_among_calls, calls_take_texts, calls_take_texts_among_calls,
-    calls_take_texts_anywhere, calls_take_texts_in_cells, texts_among_calls_are_taken_so,
-    texts_in_cells_are_taken_so, texts_on_pages_without_calls_are_taken_so,
+    calls_take_changed_prose, calls_take_contents_among_calls, calls_take_texts,
+    calls_take_texts_among_calls, calls_take_texts_anywhere, calls_take_texts_in_cells,
+    texts_among_calls_are_taken_so, texts_in_cells_are_taken_so,
+    texts_on_pages_without_calls_are_taken_so,
 };
 use std::alloc::Global;
 use wt_devices::{Folder, Sink, Source};
@@ -24,9 +27,9 @@ use wt_span::{List, PAGE_BYTES, Str};
 
 /// Answers the words of a command line, without the program's name, and gives the number to end with
 /// (`Status::code` of `wt_pagetool`). This is `run` of `wt_pagetool`, which says what each command does, with all
-/// that it promises and one promise more, which follows from that and from the laws of edits
-/// (`takes_contents_among_calls`).
-#[tactic(auto, using(crate::proofs::AmongCalls::calls_take))]
+/// that it promises and two promises more, which follow from that and from the laws of edits
+/// (`takes_contents_among_calls`, `takes_changed_prose`).
+#[tactic(auto, using(crate::proofs::AmongCalls::calls_take, crate::proofs::ProseCalls::calls_take_changes))]
 pub fn run<S: Source, F: Folder, W: Sink, E: Sink>(
     alloc: Global,
     words: &List<Str>,
@@ -41,6 +44,14 @@ pub fn run<S: Source, F: Folder, W: Sink, E: Sink>(
     // (`IsEditablePage` of `wt_called_edit_laws`), it is done, and with `edit` the page with these contents was written,
     // and no line; or a device failed, or memory ran out.
     ensures takes_contents_among_calls { TakesContentsAmongCalls (call words.now (read_from S.Source input.old input.new)
+        (fetched_from F.Folder folder.old folder.new) (written_to W.Sink out.old out.new)
+        (written_to E.Sink err.old err.new)) result }
+
+    // Paragraphs that come and go are taken, on a page of typed paragraphs with empty lines between them: where a call sends
+    // some of these as they are, in their order, and any number of new ones with any texts (`IsProseChange` of
+    // `wt_text_edit_laws`), it is done, and with `edit` the page with these was written, and no line; or a device failed, or
+    // memory ran out.
+    ensures takes_changed_prose { TakesChangedProse (call words.now (read_from S.Source input.old input.new)
         (fetched_from F.Folder folder.old folder.new) (written_to W.Sink out.old out.new)
         (written_to E.Sink err.old err.new)) result }
 

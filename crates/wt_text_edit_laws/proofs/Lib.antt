@@ -4,3 +4,5 @@ pub mod Between
 pub mod Paragraphs
 pub mod Headings
 pub mod Blocks
+pub mod Cuts
+pub mod PlainGroups

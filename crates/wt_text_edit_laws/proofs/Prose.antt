@@ -10,4 +10,11 @@ pub mod BlockFacts
 pub mod ProseFacts
 pub mod ProseTakes
 pub mod ProseUnmarked
+pub mod ChangesListed
+pub mod ChangesSteps
+pub mod ChangesMake
+pub mod ChangesText
+pub mod ChangesTaken
+pub mod ChangesUnmarked
 mod Cases
+mod ChangeCases

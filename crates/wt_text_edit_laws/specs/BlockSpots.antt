@@ -9,6 +9,7 @@ use Rattle.wt_text_edit_laws.specs.ParagraphBetween.{blocks_in}
 use Rattle.wt_text_edit_laws.specs.Parts.{HasNoGroups}
 use Rattle.wt_text_edit_laws.specs.TextBlocks.{TextBlock, source_of, block_tree, IsBlock, LeadsTo, EndsBlock, BeginsLine, BeginsBetween}
 use Rattle.wt_text_edit_laws.specs.Contents.{IsContent, TextEnds}
+use Rattle.wt_text_edit_laws.specs.ReadContents.{IsReadContent}
 use Rattle.wt_text_edit_laws.specs.TypedHeadings.{EndsLine}
 
 -- ---- the page's source
@@ -82,6 +83,16 @@ pub record IsRead (s : BlockSpot) : Type 0 where
 abbrev pub AreReadAfter : List BlockSpot → List ℕ → Type 0
 AreReadAfter [] behind = StandsBehind behind × IsUtf8 behind × EndsLine (page_items behind)
 AreReadAfter (s ∷ ss) behind = IsRead s × BeginsLine (page_items s.before) × AreReadAfter ss behind
+
+-- by their lexemes alone, whatever they call
+pub record IsReadSpot (s : BlockSpot) : Type 0 where
+  pub ended : AreEnded s.before
+  pub before_utf8 : IsUtf8 s.before
+  pub block : IsReadContent s.block s.text
+
+abbrev pub AreReadSpots : List BlockSpot → List ℕ → Type 0
+AreReadSpots [] behind = StandsBehind behind × IsUtf8 behind × EndsLine (page_items behind)
+AreReadSpots (s ∷ ss) behind = IsReadSpot s × BeginsLine (page_items s.before) × AreReadSpots ss behind
 
 -- there is one at least
 abbrev pub AreRead : List BlockSpot → List ℕ → Type 0

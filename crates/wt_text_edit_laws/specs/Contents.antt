@@ -9,7 +9,7 @@ use Rattle.wt_span.specs.Tags.{to_closing}
 use Rattle.wt_tree.specs.Tree.{Tree}
 use Rattle.wt_lines.specs.declared.kind.LineKind.TheVariants as line
 use Rattle.wt_lines.specs.Kinds.{line_kind}
-use Rattle.wt_lines.specs.Lines.{lines, full_lines}
+use Rattle.wt_lines.specs.Lines.{lines}
 use Rattle.wt_inline.specs.ItemTree.{forest, held_by_all}
 use Rattle.wt_inline.specs.Parts.{Part, children}
 use Rattle.wt_context.specs.Line.{line_parts}
@@ -25,21 +25,18 @@ use Rattle.wt_called_trees.specs.Rounded.{AllHaveItems}
 use Rattle.wt_text_edit_laws.specs.NoCalls.{AreUnbraced}
 use Rattle.wt_text_edit_laws.specs.ParagraphParts.{joined_parts}
 use Rattle.wt_text_edit_laws.specs.Paragraphs.{IsTextLine}
+use Rattle.wt_text_edit_laws.specs.ReadContents.{IsFirmlyRead}
 use Rattle.wt_text_edit_laws.specs.TextBetween.{StandsBehind, LineEnds}
 use Rattle.wt_text_edit_laws.specs.TextBlocks.{TextBlock, a_paragraph, a_heading, source_of, block_items, block_tree, IsFrame}
 use Rattle.wt_text_edit_laws.specs.TypedHeadings.{Sides, IsHeadingInside, IsOfLevel}
 
 -- ---- its lines
 
--- before none of them stands a mark
-abbrev pub AreUnled : List (List Item) → Type 0
-AreUnled [] = Unit {0}
-AreUnled (l ∷ ls) = (marks_len l ≡ 0) × AreUnled ls
-
--- Lines of text. No comment begins them, nor follows the blanks that begin them, where the page ends with them, and where a line break follows.
+-- Lines of text, and no mark is before the first: it would stand before the paragraph. Before another line one may be, such as a line of comments. No
+-- comment begins them, nor follows the blanks that begin them, where the page ends with them, and where a line break follows.
 pub record AreParagraphLines (q : List ℕ) : Type 0 where
   pub are_lines : All IsTextLine (lines (page_items q))
-  pub unled : AreUnled (full_lines (page_items q))
+  pub unled : marks_len (page_items q) ≡ 0
   pub alone : StandsBehind q
   pub before_break : StandsBehind (q ++ byte.line_break ∷ [])
 
@@ -95,4 +92,4 @@ pub record IsNewContent (k : TextBlock) (was now : List ℕ) : Type 0 where
 
 -- Nothing begins in what is firm. What begins in another content ends in it, or is a tag that nothing in the rest of the page closes.
 abbrev pub TextEnds : TextBlock → List ℕ → List ℕ → Type 0
-TextEnds k q rest = IsFirmContent k q ⊎ LineEnds (source_of k q) rest
+TextEnds k q rest = IsFirmlyRead q ⊎ LineEnds (source_of k q) rest

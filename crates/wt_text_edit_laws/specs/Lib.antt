@@ -7,7 +7,10 @@ pub mod ProsePages
 pub mod ProseTrees
 pub mod ProseEdits
 pub mod ProseUnmarked
+pub mod ProseChanges
+pub mod UnmarkedChanges
 pub mod NoCalls
+pub mod PlainGroups
 pub mod TextBetween
 pub mod ParagraphBetween
 pub mod Paragraphs
@@ -15,8 +18,11 @@ pub mod Parts
 pub mod TypedHeadings
 pub mod ParagraphParts
 pub mod TextBlocks
+pub mod ReadContents
 pub mod Contents
 pub mod BlockSpots
 pub mod BlockEdits
 pub mod UnmarkedBlocks
 pub mod OwnNodes
+pub mod PageCuts
+pub mod BodyParagraphs

@@ -1,13 +1,19 @@
 //! Laws of text edits: a page takes any text that somebody types in its paragraphs and headings.
 #![tactic(auto)]
 
-ghost use Rattle.std.specs.Prelude.{◌≡◌, ◌≤◌, ◌+◌, ◌*◌, ℕ, List, length, Option, false, None, Some, ◌++◌, ◌∷◌};
+ghost use Rattle.std.specs.Prelude.{◌≡◌, ◌≤◌, ◌+◌, ◌*◌, ℕ, List, length, Option, false, None, Some, ◌++◌, ◌∷◌, map};
 ghost use Rattle.std.specs.List.{flat_map};
 ghost use Rattle.std.specs.Str.{IsUtf8};
 ghost use Rattle.wt_span.specs.declared.limits.TheConstants.{HTML_BYTES, PAGE_BYTES};
-ghost use Rattle.wt_span.specs.Items.{Item};
+ghost use Rattle.wt_span.specs.Items.{Item, char};
+ghost use Rattle.wt_span.specs.Origins.{Expanded};
+ghost use Rattle.wt_isolation.specs.GroupItems.{empty_nowiki};
+ghost use Rattle.wt_isolation.specs.OpenTags.{before, touches_open_tag};
+ghost use Rattle.wt_isolation.specs.TextCalls.{touches_text_call};
+ghost use Rattle.wt_selser.specs.Edits.{is_tangled};
+ghost use Rattle.wt_selser.specs.GroupFaults.{is_faulty};
 ghost use Rattle.wt_span.specs.declared.form.Mode.TheVariants.{Page};
-ghost use Rattle.wt_tree.specs.Tree.{Label};
+ghost use Rattle.wt_tree.specs.Tree.{Label, Trees, tree};
 ghost use Rattle.wt_tree.specs.declared.edit_shape.Place.TheVariants as place;
 ghost use Rattle.wt_inline.specs.Carried.{shown_item};
 ghost use Rattle.wt_devices.specs.Device.{Pages};
@@ -45,7 +51,10 @@ ghost use Rattle.wt_text_edit_laws.specs.ProsePages.{Passage, prose, AreProse, I
 ghost use Rattle.wt_text_edit_laws.specs.ProseTrees.{prose_page};
 ghost use Rattle.wt_text_edit_laws.specs.ProseUnmarked.{unmarked_prose, IsUnmarkedEdit};
 ghost use Rattle.wt_text_edit_laws.specs.ProseEdits.{PassageEdit, old_passages, new_passages, sent_prose, IsProseEdit};
+ghost use Rattle.wt_text_edit_laws.specs.ProseChanges.{ProseChange, passages_before, changed_prose, passages_changed, IsProseChange};
+ghost use Rattle.wt_text_edit_laws.specs.UnmarkedChanges.{unmarked_change, IsUnmarkedChange};
 ghost use Rattle.wt_text_edit_laws.specs.NoCalls.{CallsNothing};
+ghost use Rattle.wt_text_edit_laws.specs.PlainGroups.{IsPlainLine, AreOneText, HavePlainGroups};
 ghost use Rattle.wt_text_edit_laws.specs.TextBetween.{AreWholeLines, AreEnded, HasEndsBefore, BeginsShown, StandsBefore, StandsBehind};
 ghost use Rattle.wt_text_edit_laws.specs.Paragraphs.{IsParagraph};
 ghost use Rattle.wt_text_edit_laws.specs.ParagraphBetween.{EndsApart, EndsParagraph, blocks_in, body_round, AreClosed, before_marks, body_with};
@@ -55,6 +64,13 @@ ghost use Rattle.wt_text_edit_laws.specs.BlockSpots.{BlockSpot, spots_source, pa
 ghost use Rattle.wt_text_edit_laws.specs.BlockEdits.{BlockEdit, new_spots, old_page, new_page, sent_page, IsBlockEdit};
 ghost use Rattle.wt_text_edit_laws.specs.OwnNodes.{TypedSpot, spots_of, AreTypedSpots, own_edit};
 ghost use Rattle.wt_text_edit_laws.specs.UnmarkedBlocks.{unmarked_page, IsUnmarkedBlockEdit};
+
+mod cut_pages;
+
+pub use cut_pages::{
+    paragraphs_of_the_body_are_lines_of_text, parts_of_a_page_are_read_by_themselves,
+    settled_parts_have_ends,
+};
 
 // ---- a typed text, and a page that is one paragraph
 
@@ -196,6 +212,39 @@ pub fn unmarked_prose_is_taken()
         → read input ≡ as_page (unmarked_prose b es) unsourced → DoneByEdit pages stands input }
 {}
 
+/// Paragraphs come into prose and go from it: an edit that sends the body marked `children`, some of its paragraphs as
+/// they are, in their order, and any number of new ones with any texts before, between and after these, is done, unless
+/// the new page is longer than a page may be. In the new page two line breaks are before each new paragraph, and so many
+/// as the page had, or one more, after those that are side by side; what isn't sent is gone, but for the line breaks
+/// after it; and every other byte is what it was. Asked is that the new page begins with a paragraph: the first one stays,
+/// or a new one is before it. So it is, too, for each input that is read as such a tree, and so the command `edit`
+/// answers, over a folder that has the page. The new page is prose again.
+#[tactic(auto, using(crate::proofs::Prose::ChangesTaken::takes_changes, crate::proofs::Prose::ChangesTaken::edit_takes_changes, crate::proofs::Prose::ChangesTaken::command_takes_changes, crate::proofs::Prose::ChangesTaken::changed_again))]
+pub fn paragraphs_come_and_go()
+    ensures tree { (pages : Pages) (c : ProseChange) (b : Label) → IsProseChange c → length (prose (passages_changed c)) ≤ PAGE_BYTES
+        → edit_to pages (prose (passages_before c.changes)) (changed_prose b c) ≡ done (prose (passages_changed c)) }
+    ensures edit { (pages : Pages) (c : ProseChange) (input : List ℕ) (b : Label) (unsourced : Option ℕ) → IsProseChange c
+        → length (prose (passages_before c.changes)) ≤ PAGE_BYTES → length (prose (passages_changed c)) ≤ PAGE_BYTES
+        → length input ≤ HTML_BYTES → read input ≡ as_page (changed_prose b c) unsourced
+        → edit_of pages (Some (prose (passages_before c.changes))) input ≡ done (prose (passages_changed c)) }
+    ensures command { (pages : Pages) (c : ProseChange) (words : List (List ℕ)) (title input : List ℕ) (b : Label) (unsourced : Option ℕ)
+        → command_of words ≡ Some (Edit title) → pages title ≡ Some (prose (passages_before c.changes)) → IsProseChange c
+        → length (prose (passages_before c.changes)) ≤ PAGE_BYTES → length (prose (passages_changed c)) ≤ PAGE_BYTES
+        → length input ≤ HTML_BYTES → read input ≡ as_page (changed_prose b c) unsourced
+        → answer_told (Some pages) (Some input) words ≡ Some (done (prose (passages_changed c))) }
+    ensures again { (c : ProseChange) → IsProseChange c → IsProsePage (prose (passages_changed c)) }
+{}
+
+/// Without marks, too, as a browser sends it: where a paragraph comes or goes, `edit` of the difference is done, whatever
+/// mark is on the body. So `selser`, which is never refused then (`run` promises that), takes it.
+#[tactic(auto, using(crate::proofs::Prose::ChangesUnmarked::unmarked_done))]
+pub fn unmarked_changes_of_prose_are_taken()
+    ensures { (pages : Pages) (c : ProseChange) (stands : Option (List ℕ)) (input : List ℕ) (b : Label) (unsourced : Option ℕ)
+        → IsUnmarkedChange c → stands ≡ Some (prose (passages_before c.changes)) → length (prose (passages_before c.changes)) ≤ PAGE_BYTES
+        → length (prose (passages_changed c)) ≤ PAGE_BYTES → length input ≤ HTML_BYTES
+        → read input ≡ as_page (unmarked_change b c) unsourced → DoneByEdit pages stands input }
+{}
+
 // ---- braces that make no call
 
 /// A page in which no two opening braces side by side come before two closing ones calls nothing, whatever the folder
@@ -205,6 +254,20 @@ pub fn unmarked_prose_is_taken()
 pub fn unpaired_braces_call_nothing()
     ensures expanded { (pages : Pages) (page : List ℕ) → CallsNothing (page_items page) → expanded_page pages page ≡ of_items (page_items page) }
     ensures unrefused { (pages : Pages) (page : List ℕ) → CallsNothing (page_items page) → refusal_of_page pages page ≡ None }
+{}
+
+// ---- groups of plain text
+
+/// A group that shows a line of plain text, as a call gave it, has no fault: read alone it is one paragraph of this text,
+/// none of its apostrophes switches a style, and none of its texts could go on. So a block whose groups are such, in its
+/// bold and italic nodes, too, and that touches no text call and no open tag, isn't tangled.
+#[tactic(auto, using(crate::proofs::PlainGroups::no_fault, crate::proofs::PlainGroups::untangled))]
+pub fn groups_of_plain_text_have_no_fault()
+    ensures group { (call : Option ℕ) (text : List ℕ) (ts : Trees) → IsPlainLine text → AreOneText ts text
+        → is_faulty (empty_nowiki ∷ map (char call) text) ts ≡ false }
+    ensures block { (page : Expanded) (bytes : List ℕ) (l : Label) (ts : Trees) → HavePlainGroups page ts
+        → touches_text_call page.text_calls l.ranges ≡ false → touches_open_tag (before bytes l.ranges) (tree l ts) ≡ false
+        → is_tangled page bytes (tree l ts) ≡ false }
 {}
 
 // ---- a text between two other parts of a page

@@ -3,6 +3,7 @@ mod AloneCases
 pub mod Bytes
 mod Cases
 pub mod Choosing
+pub mod Deep
 pub mod Fitting
 pub mod Going
 pub mod Standing

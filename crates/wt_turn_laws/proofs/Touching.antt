@@ -130,11 +130,11 @@ comes page s (more u us) ts t r has c =
 
 -- ---- where it comes
 
-record ComesAt (page : Page) (holder n : ℕ) (us : Trees) (i : ℕ) (ss : List Slot) : Type 0 where
-  place : Slot
-  is : IsAmong place ss
-  behind : (j : ℕ) (w : Tree) → j < i → InTurnAt page holder n us j w → end_at (partner page w) ≤ place.start
-  before : (j : ℕ) (w : Tree) → i < j → InTurnAt page holder n us j w → place.end ≤ gap_end (partner page w)
+pub record ComesAt (page : Page) (holder n : ℕ) (us : Trees) (i : ℕ) (ss : List Slot) : Type 0 where
+  pub place : Slot
+  pub is : IsAmong place ss
+  pub behind : (j : ℕ) (w : Tree) → j < i → InTurnAt page holder n us j w → end_at (partner page w) ≤ place.start
+  pub before : (j : ℕ) (w : Tree) → i < j → InTurnAt page holder n us j w → place.end ≤ gap_end (partner page w)
 
 -- all that comes after a child that stays begins where it ends, or after
 after_it : (page : Page) → Sound page → (t u : Tree) (us ts : Trees) (r : Reached) → Has page t → InTurn page (label t).id r.number u us
@@ -182,7 +182,7 @@ pub out : (page : Page) (t u : Tree) (us ts : Trees) (r : Reached) (b : Bool) �
     → IsAmong x (along_by page t r ts u us b) → IsAmong x (along page t false r ts (more u us))
 out page t u us ts r b e x h = subst (IsAmong x) (sym (ap (along_by page t r ts u us) e)) h
 
-comes_at : (page : Page) → Sound page → (us ts : Trees) (t : Tree) (r : Reached) (i : ℕ) (v : Tree) → Has page t → slice_get (listed us) i ≡ Some v
+pub comes_at : (page : Page) → Sound page → (us ts : Trees) (t : Tree) (r : Reached) (i : ℕ) (v : Tree) → Has page t → slice_get (listed us) i ≡ Some v
     → slice_get (turns page (label t).id r.number us) i ≡ Some false → is_compared (showing (label v).kind) ≡ true
     → ComesAt page (label t).id r.number us i (along page t false r ts us)
 comes_at page s none ts t r i v has e f c = absurd (cc)

@@ -13,7 +13,10 @@ ghost use Rattle.wt_places.specs.Turns.{turns};
 ghost use Rattle.wt_tree.specs.Tree.{Trees};
 ghost use Rattle.wt_turn_laws.specs.Choices.{IsFirstOfMost, IsRising, TakesFirst, moved, taken, those_that_may_stay};
 
-pub use changed::{changed_insides_are_places, what_comes_has_a_place, what_goes_lies_in_a_place};
+pub use changed::{
+    changed_insides_are_places, changed_insides_in_nodes_are_places, what_comes_has_a_place,
+    what_comes_into_nodes_has_a_place, what_goes_lies_in_a_place,
+};
 pub use left_alone::{
     unedited_blocks_have_no_place, unedited_nodes_have_no_place, untouched_bytes_stay,
 };

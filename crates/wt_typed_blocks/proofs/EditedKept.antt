@@ -30,7 +30,7 @@ use Rattle.wt_typed_blocks.proofs.SentGroups.{in_group, style_ungrouped, placed_
 
 -- ---- numbers in their order
 
-more_sublist : (xs us vs : List ℕ) → IsSublist xs vs → IsSublist xs (us ++ vs)
+pub more_sublist : (xs us vs : List ℕ) → IsSublist xs vs → IsSublist xs (us ++ vs)
 more_sublist [] us vs h = tt
 more_sublist (x ∷ xs) [] vs h = h
 more_sublist (x ∷ xs) (u ∷ us) vs h = inr (more_sublist (x ∷ xs) us vs h)
@@ -45,11 +45,11 @@ join_by : (b : Bool) (m : ℕ) (ms all ns : List ℕ) → all ≡ ms ++ ns → (
 join_by true m ms all ns e = ap (λ ks. m ∷ ks) e
 join_by false m ms all ns e = e
 
-under_join : (n : ℕ) (ps qs : List Place) → kept_under n (ps ++ qs) ≡ kept_under n ps ++ kept_under n qs
+pub under_join : (n : ℕ) (ps qs : List Place) → kept_under n (ps ++ qs) ≡ kept_under n ps ++ kept_under n qs
 under_join n [] qs = refl
 under_join n (p ∷ ps) qs = join_by (is_kept p && p.parent == n) (number p) (kept_under n ps) (kept_under n (ps ++ qs)) (kept_under n qs) (under_join n ps qs)
 
-both_joined : (n : ℕ) (ps qs rs zs : List Place) → IsSublist (kept_under n ps) (kept_under n rs) → IsSublist (kept_under n qs) (kept_under n zs)
+pub both_joined : (n : ℕ) (ps qs rs zs : List Place) → IsSublist (kept_under n ps) (kept_under n rs) → IsSublist (kept_under n qs) (kept_under n zs)
     → IsSublist (kept_under n (ps ++ qs)) (kept_under n (rs ++ zs))
 both_joined n ps qs rs zs h k =
     subst (λ (xs : List ℕ). IsSublist xs (kept_under n (rs ++ zs))) (sym (under_join n ps qs))
@@ -78,7 +78,7 @@ holder_under n m v w l k ts us h some =
     subst P (sym h.id) (both_under (not (l.id == 0) && m == n) l.id (kept_under n (all_placed (parent_below m l.id) c us)) ys some)
 
 mutual
-  some_under : (n m : ℕ) (v w : Bool) (t u : Tree) → StandsAsIs t u → IsSublist (kept_under n (placed m w u)) (kept_under n (placed m v t))
+  pub some_under : (n m : ℕ) (v w : Bool) (t u : Tree) → StandsAsIs t u → IsSublist (kept_under n (placed m w u)) (kept_under n (placed m v t))
   some_under n m v w (tree l ts) (tree k us) h =
       let c : Bool = w || is_content k.mark in
       let d : Bool = v || is_content l.mark in
@@ -190,7 +190,7 @@ as_it_was l m ts us s e f =
     } in
     record { kind = sym s.kind; attrs = sym s.attrs; mw = inr (sym s.mw); holds = inr holds }
 
-kept_by : (page : Page) (p q : Place) → page (number p) ≡ Some q → NodeAsItWas q.node p.node → NodeKept page p
+pub kept_by : (page : Page) (p q : Place) → page (number p) ≡ Some q → NodeAsItWas q.node p.node → NodeKept page p
 kept_by page p q e h = λ a b. subst (λ (o : Option Place). MatchOption o (Unit {0}) (λ r. is_group (kind_at r) ≡ false → NodeAsItWas r.node p.node)) (sym e) (λ g. h)
 
 kept_of : (a b : Bool) → (a || b) ≡ true → b ≡ false → a ≡ true
@@ -220,7 +220,7 @@ group_no_node page i j v w l m ts us s e f it = λ a b.
     (sym (found_sent page i v l m ts s it (kept_sent l m s f a))) (λ x. let d : is_group l.kind ≡ false = x in absurd (cc))
 
 mutual
-  nodes_kept : (page : Page) (i j : ℕ) (v w : Bool) (t u : Tree) → StandsAsIs t u → has_frame t ≡ false → AllByRecursion (Itself page) (placed i v t)
+  pub nodes_kept : (page : Page) (i j : ℕ) (v w : Bool) (t u : Tree) → StandsAsIs t u → has_frame t ≡ false → AllByRecursion (Itself page) (placed i v t)
       → AllByRecursion (NodeKept page) (placed j w u)
   nodes_kept page i j v w (tree l ts) (tree m us) h f it =
       let d = or_false (is_frame l.kind) (have_frame ts) f in
@@ -334,7 +334,7 @@ group_was l m ts us s e g = record {
 }
 
 mutual
-  groups_kept : (page : Page) (i j : ℕ) (v w : Bool) (t u : Tree) → StandsAsIs t u → AllByRecursion (Itself page) (placed i v t)
+  pub groups_kept : (page : Page) (i j : ℕ) (v w : Bool) (t u : Tree) → StandsAsIs t u → AllByRecursion (Itself page) (placed i v t)
       → AllByRecursion (GroupKept false page) (placed j w u)
   groups_kept page i j v w (tree l ts) (tree m us) h it =
       let old : Place = record { node = tree l ts; parent = i; in_content = v } in
@@ -425,7 +425,7 @@ groups_stand l b ss pre h o = (λ k. absurd (cc), children_groups (page_of (page
 -- ---- marks
 
 mutual
-  marks_none : (page : Page) (j : ℕ) (w : Bool) (u : Tree) → has_mark u ≡ false → AllByRecursion (MarkKept page) (placed j w u)
+  pub marks_none : (page : Page) (j : ℕ) (w : Bool) (u : Tree) → has_mark u ≡ false → AllByRecursion (MarkKept page) (placed j w u)
   marks_none page j w (tree m us) h =
       let d = or_false (is_marked m.mark) (have_mark us) h in (
         λ e. let n : is_marked m.mark ≡ false = d.0 in absurd (cc),

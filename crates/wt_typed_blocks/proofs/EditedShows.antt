@@ -51,7 +51,7 @@ node_shows l m us f rest h e =
 
 -- what a group holds is found by its number
 abbrev mutual
-  FindsGroups : Page → Tree → Type 0
+  pub FindsGroups : Page → Tree → Type 0
   FindsGroups page (tree l ts) = GroupOr (is_group l.kind) ((us : Trees) → group_held page l.id us ≡ ts) (FindAllGroups page ts)
 
   FindAllGroups : Page → Trees → Type 0
@@ -78,7 +78,7 @@ abbrev mutual
 
 -- where there is none, so they are
 mutual
-  none_to_find : (page : Page) (t : Tree) → HasNoGroup t → FindsGroups page t
+  pub none_to_find : (page : Page) (t : Tree) → HasNoGroup t → FindsGroups page t
   none_to_find page (tree l ts) h =
       no_group ((us : Trees) → group_held page l.id us ≡ ts) (is_group l.kind) h.0 (all_none_to_find page ts h.1)
 
@@ -184,7 +184,7 @@ holder_shows page l m us f rest h g e =
     ∙ node_shows l m (all_restored page us) f rest h e
 
 mutual
-  shows_same : (page : Page) (t u : Tree) (rest : Plains) → StandsAsIs t u → FindsGroups page t → plain_before (restored page u) rest ≡ plain_before t rest
+  pub shows_same : (page : Page) (t u : Tree) (rest : Plains) → StandsAsIs t u → FindsGroups page t → plain_before (restored page u) rest ≡ plain_before t rest
   shows_same page (tree l ts) (tree m us) rest h g =
       in_both (is_group l.kind) h.1 g (λ e s f. group_shows page l m ts us rest h.0 e (f us))
       (λ e a f. holder_shows page l m us (λ ps. plains_before ts ps) rest h.0 e (λ ps. all_show_same page ts us ps a f))

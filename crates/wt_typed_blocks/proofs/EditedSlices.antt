@@ -45,7 +45,7 @@ abbrev mutual
   pairs_of (more_edits s ss) = pairs_in s ++ pairs_of ss
 
 mutual
-  no_pairs : (page : Page) (j : ℕ) (w : Bool) (u : Tree) → has_mark u ≡ false → flat_map (pair_at page) (placed j w u) ≡ []
+  pub no_pairs : (page : Page) (j : ℕ) (w : Bool) (u : Tree) → has_mark u ≡ false → flat_map (pair_at page) (placed j w u) ≡ []
   no_pairs page j w (tree m us) h =
       let d = or_false (is_marked m.mark) (have_mark us) h in
       ap (λ (c : Mark). (if is_edited c then pair_with (page m.id) (tree m us) else [])
@@ -105,7 +105,7 @@ abbrev mutual
   changes_of same (more_edits s ss) = change_of same s ++ changes_of same ss
 
 mutual
-  no_insides : (same : Same) (page : Page) (u : Tree) → has_mark u ≡ false → insides same page u ≡ []
+  pub no_insides : (same : Same) (page : Page) (u : Tree) → has_mark u ≡ false → insides same page u ≡ []
   no_insides same page (tree m us) h =
       let d = or_false (is_marked m.mark) (have_mark us) h in
       ap (λ (c : Mark). if is_content c then inside_of same (page m.id) (tree m us) else all_insides same page us) (mark_none m.mark d.0)

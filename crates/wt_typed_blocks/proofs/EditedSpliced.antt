@@ -16,7 +16,7 @@ use Rattle.wt_typed_blocks.specs.Typed.{place_of, block_source}
 use Rattle.wt_typed_blocks.proofs.EditedSlices.{Same, content_of, change_of, changes_of, content_is}
 
 -- what stands from a place on in a front, before what follows it
-up_to : (from : ℕ) (front rest : List ℕ) → from ≤ length front → between from (length front) (front ++ rest) ≡ drop from front
+pub up_to : (from : ℕ) (front rest : List ℕ) → from ≤ length front → between from (length front) (front ++ rest) ≡ drop from front
 up_to from front rest le =
     let long : length (drop from front) ≡ length front - from = length-drop from front in
     ap (take (length front - from)) (drop-append-le from front rest le)
@@ -89,11 +89,11 @@ source_is at (edited k l m ps) h = block_flat k l m ps
 source_is at (round l m ss) h = source_by (is_leaf l.kind) l.own (block_source l (page_nodes ss)) h.0
 
 -- After a front of the page, from any place in it on, the changes make this page.
-abbrev Makes : List ℕ → List Change → List ℕ → List ℕ → Type 0
+abbrev pub Makes : List ℕ → List Change → List ℕ → List ℕ → Type 0
 Makes page cs front new = (from : ℕ) → from ≤ length front → spliced_from page from cs ≡ drop from front ++ new
 
 -- what stands in front of the inside of a node
-opened_front : (front o : List ℕ) (page : List ℕ) (cs : List Change) (new : List ℕ) → Makes page cs (front ++ o) new → Makes page cs front (o ++ new)
+pub opened_front : (front o : List ℕ) (page : List ℕ) (cs : List Change) (new : List ℕ) → Makes page cs (front ++ o) new → Makes page cs front (o ++ new)
 opened_front front o page cs new k = λ from le.
     let long : length (front ++ o) ≡ length front + length o = length-append front o in
     k from (omega (arith, long, le))

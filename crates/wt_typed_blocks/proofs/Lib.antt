@@ -11,4 +11,8 @@ pub mod AsEdits
 pub mod SentSections
 pub mod SentShows
 pub mod SentUnmarked
+pub mod ComingPasses
+pub mod ComingSteps
+pub mod ComingAnswer
+pub mod ComingShows
 mod Cases

@@ -4,3 +4,4 @@ pub mod Unmarked
 pub mod Edited
 pub mod EditedPage
 pub mod EditedUnmarked
+pub mod Coming

@@ -21,6 +21,11 @@ ghost use Rattle.wt_typed_blocks.specs.Unmarked.{free_body, AreToldApart};
 ghost use Rattle.wt_typed_blocks.specs.Edited.{Edits, page_nodes, page_body, sent_body, AreEdited, AreOutside, edits_show};
 ghost use Rattle.wt_typed_blocks.specs.EditedPage.{edited_sources, AreTaken, LieAt, AreApart};
 ghost use Rattle.wt_typed_blocks.specs.EditedUnmarked.{bare_body, AreTold};
+ghost use Rattle.wt_checks.specs.Places.{page_of};
+ghost use Rattle.wt_slices.specs.BodySlices.{start, body_slices};
+ghost use Rattle.wt_selser.specs.Edits.{if_short};
+ghost use Rattle.wt_splice.specs.Splice.{spliced};
+ghost use Rattle.wt_typed_blocks.specs.Coming.{Coming, page_children, body_before, body_sent, AllStay, AreListed, steps_of, coming_shows};
 
 /// Where texts were typed in some paragraphs and headings of a body, outside its groups, and all else is sent as it is,
 /// no check refuses it.
@@ -111,4 +116,37 @@ pub fn edited_contents_are_told_apart()
     ensures { (tree : Tree) (l b : Label) (es : Edits) → (label tree).kind ≡ kind.Body → InPreorder tree → HasBareSections tree
         → without_sections tree ≡ page_body l es → InPreorder (page_body l es)
         → have_frame (page_nodes es) ≡ false → AreEdited es → AreTold es → remarked tree (bare_body l b es) ≡ sent_body l b es }
+{}
+
+// ---- blocks that come and go
+
+/// Where the body is marked `children`, some of its blocks aren't sent, the others are as they are, in their order, and
+/// new paragraphs are among them, no check refuses the edit.
+#[tactic(auto, using(crate::proofs::ComingPasses::passes))]
+pub fn blocks_that_come_and_go_pass_the_checks()
+    ensures { (l b : Label) (cs : Coming) → InPreorder (body_before l cs) → have_frame (page_children cs) ≡ false → AllStay cs
+        → checked false (body_before l cs) (body_sent l b cs) ≡ None }
+{}
+
+/// And `edit` is done: the new page is the old one with the slices of these steps, unless that is longer than a page
+/// may be. Asked is that what comes is listed directly after what stays before it. So it is of a page in sections, too.
+#[tactic(auto, using(crate::proofs::ComingAnswer::answer_is, crate::proofs::ComingAnswer::answer_in_sections))]
+pub fn blocks_that_come_and_go_are_taken()
+    ensures body { (same : Tree → Tree → Bool) (items : Expanded) (page : List ℕ) (l b : Label) (cs : Coming) → InPreorder (body_before l cs)
+        → have_frame (page_children cs) ≡ false → AllStay cs → AreListed cs
+        → edit_answer same items page (body_before l cs) (body_sent l b cs)
+        ≡ if_short (spliced page (body_slices same (page_of (body_before l cs)) start (steps_of cs))) }
+    ensures sections { (same : Tree → Tree → Bool) (items : Expanded) (page : List ℕ) (tree : Tree) (l b : Label) (cs : Coming)
+        → HasBareSections tree → without_sections tree ≡ body_before l cs → InPreorder (body_before l cs)
+        → have_frame (page_children cs) ≡ false → AllStay cs → AreListed cs
+        → edit_answer same items page tree (body_sent l b cs)
+        ≡ if_short (spliced page (body_slices same (page_of (body_before l cs)) start (steps_of cs))) }
+{}
+
+/// Where no group is in the body, what was sent shows the blocks that stay as the page does, and the new paragraphs with
+/// their texts.
+#[tactic(auto, using(crate::proofs::ComingShows::body_shows))]
+pub fn blocks_that_come_and_go_are_shown()
+    ensures { (tree : Tree) (l b : Label) (cs : Coming) → AllStay cs → NoneIsGroup (page_children cs)
+        → shown_children (restored_from tree (body_sent l b cs)) ≡ listed (coming_shows cs) }
 {}

@@ -1,8 +1,9 @@
 -- Worked case: the page `x<br>y` is a flat page.
-use Rattle.std.proofs.Common.{◌≡◌, ℕ, List, [], ◌∷◌, refl, sym, subst}
+use Rattle.std.proofs.Common.{◌≡◌, ℕ, List, [], ◌∷◌, refl, sym, ◌∙◌, subst, inl}
 use Rattle.std.specs.Prelude.{codes}
 use Rattle.std.specs.Str.{IsUtf8, chars}
 use Rattle.std.proofs.Math.Utf8.{encode}
+use Rattle.std.proofs.lemmas.List.Elements.{All-nil, All-cons}
 use Rattle.wt_span.specs.Comments.{comment_len}
 use Rattle.wt_span.specs.Entities.{entity_at, named_entity, entity_names, decimal_entity, hex_entity}
 use Rattle.wt_span.specs.Items.{Item}
@@ -32,16 +33,19 @@ use Rattle.wt_text_edit_laws.proofs.Between.NoCalls.{calm_expanded, calm_unrefus
 use Rattle.wt_beside_laws.specs.Calm.{IsCalm, AreCalm, HaveNoBraces}
 use Rattle.wt_beside_laws.specs.Content.{AreKept}
 use Rattle.wt_beside_laws.specs.Kept.{characters, sign, IsKept}
-use Rattle.wt_beside_laws.specs.Lines.{AreLinesOfText}
+use Rattle.wt_beside_laws.specs.Lines.{IsLineOfText, AreLinesOfText}
 use Rattle.wt_beside_laws.specs.PageBlocks.{AreUnstyled, AreShut}
 use Rattle.wt_text_edit_laws.specs.ParagraphParts.{joined_parts}
-use Rattle.wt_beside_laws.specs.PageSigns.{signs_of_lines, AreFlatLines}
+use Rattle.wt_beside_laws.specs.PageSigns.{signs_of_lines, AreFlatLines, HasNoBreak}
 use Rattle.wt_beside_laws.proofs.Firm.{alone_as, parts_read}
 use Rattle.wt_beside_laws.proofs.FlatLines.{lines_meaning}
 use Rattle.wt_beside_laws.specs.FlatPages.{lines_of, paragraph_of, IsFlatPage}
 use Rattle.wt_beside_laws.proofs.Edits.OldPages.{IsOneBlock, one_tree, one_ungrouped}
 use Rattle.wt_beside_laws.proofs.Edits.FullTrees.{AreFullParts, para_plain}
 use Rattle.wt_beside_laws.proofs.Edits.NewPages.{means_source}
+use Rattle.wt_beside_laws.specs.Commented.{IsHeld}
+use Rattle.wt_beside_laws.specs.NodeItems.{node_items}
+use Rattle.wt_beside_laws.proofs.Marks.Shown.{kept_node}
 
 -- ---- a page whose nodes are full has no groups
 
@@ -109,9 +113,15 @@ break_kept = record {
   is = refl;
 }
 
+pub break_node : node_items (codes "<br>") ≡ page_chars (codes "<br>")
+break_node = kept_node (codes "<br>") break_kept ∙ break_alone
+
+pub break_held : IsHeld (codes "<br>")
+break_held = inl (break_kept, subst HasNoBreak (sym break_alone) (refl, (refl, (refl, (refl, tt)))))
+
 pub break_calm : IsCalm (codes "<br>")
 unfolding encode
-break_calm = record { utf8 = (codes "<br>", (refl, refl)); unbraced = subst HaveNoBraces (sym break_alone) (refl, (refl, (refl, (refl, tt)))) }
+break_calm = record { utf8 = (codes "<br>", (refl, refl)); unbraced = subst HaveNoBraces (sym break_node) (refl, (refl, (refl, (refl, tt)))) }
 
 pub break_flat : AreFlat (codes "x<br>y") (page_chars (codes "x<br>y"))
 unfolding kind_of_signs context_parts with_styles style_tree_of toggles_of toggle_at chunks segments loose_segments tiles shapes closed form_at link_or_url link_at ext_link_at bare_url_at scheme_len tag_tile tag_at opening_tag closing_tag tag_after name_of live_name switch_at chars encode
@@ -119,14 +129,14 @@ break_flat = record {
   utf8 = (codes "x<br>y", (refl, refl));
   some = λ e. absurd (cc);
   calls_nothing = tt;
-  text = (record { text = refl; unmarked = refl }, tt);
+  text = (refl, All-cons (IsLineOfText 0) (page_chars (codes "x<br>y")) [] refl (All-nil (IsLineOfText 0)));
   flat = (
     (refl, (refl, (refl, (refl, (refl, (refl, tt)))))),
-    ((120 ∷ [], (refl, refl)), (record { alone = break_alone; lone = tt }, ((121 ∷ [], (refl, refl)), tt))),
+    ((120 ∷ [], (refl, refl)), (record { alone = break_node; lone = tt }, ((121 ∷ [], (refl, refl)), tt))),
     tt,
   );
   unstyled = (refl, tt);
-  kept = (break_kept, tt);
+  kept = ((break_held, tt), tt);
   calm = (break_calm, tt);
   shut = (refl, tt);
   full = (refl, ((refl, tt, refl), (refl, tt)));

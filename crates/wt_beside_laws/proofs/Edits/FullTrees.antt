@@ -8,7 +8,6 @@ use Rattle.wt_span.proofs.RunLaws.{runs_are}
 use Rattle.wt_guards.specs.Content.{Thing, ContentSign, letter, thing}
 use Rattle.wt_guards.specs.Guards.{Setting, nowiki, is_guarded}
 use Rattle.wt_guards.specs.Letters.{is_escaped}
-use Rattle.wt_expand.specs.PageItems.{page_items}
 use Rattle.wt_inline.specs.declared.loose.Loose.{Loose}
 use Rattle.wt_inline.specs.declared.loose.Loose.TheVariants.{Text, Sep}
 use Rattle.wt_inline.specs.ItemTree.{plain, ItemTree, inner, nothing, forest, tree_items, held_by_all}
@@ -26,6 +25,7 @@ use Rattle.wt_text_edit_laws.specs.ParagraphParts.{para_with}
 use Rattle.wt_beside_laws.specs.Stood.{things}
 use Rattle.wt_beside_laws.proofs.Each.{Each}
 use Rattle.wt_beside_laws.proofs.LineShown.{guard_tree}
+use Rattle.wt_beside_laws.specs.NodeItems.{node_items}
 
 -- ---- parts
 
@@ -42,7 +42,7 @@ AreFullParts (node t ∷ ps) = IsFullTree t × AreFullParts ps
 abbrev pub AreFull : List ContentSign → Type 0
 AreFull [] = Unit {0}
 AreFull (letter c ∷ after) = AreFull after
-AreFull (thing t ∷ after) = AreFullParts (line_parts (page_items t.source)) × AreFull after
+AreFull (thing t ∷ after) = AreFullParts (line_parts (node_items t.source)) × AreFull after
 
 full_both : (ps qs : List Part) → AreFullParts ps → AreFullParts qs → AreFullParts (ps ++ qs)
 full_both [] qs h k = k
@@ -152,7 +152,7 @@ content_full s before (letter c ∷ after) h =
     full_both (parts Text (guard_items (is_guarded s before (letter c ∷ after)))) (own ++ more) (guard_full (is_guarded s before (letter c ∷ after)))
     (full_both own more (letter_full e c) (content_full s (letter c ∷ before) after h))
 content_full s before (thing t ∷ after) h =
-    let own : List Part = line_parts (page_items t.source) in
+    let own : List Part = line_parts (node_items t.source) in
     let more : List Part = content_parts s (thing t ∷ before) after in
     full_both (parts Text (guard_items (is_guarded s before (thing t ∷ after)))) (own ++ more) (guard_full (is_guarded s before (thing t ∷ after)))
     (full_both own more h.0 (content_full s (thing t ∷ before) after h.1))
@@ -160,7 +160,7 @@ content_full s before (thing t ∷ after) h =
 -- ---- of the same nodes
 
 abbrev pub FullThing : Thing → Type 0
-FullThing t = AreFullParts (line_parts (page_items t.source))
+FullThing t = AreFullParts (line_parts (node_items t.source))
 
 full_each : (signs : List ContentSign) → AreFull signs → Each FullThing (things signs)
 full_each [] h = tt

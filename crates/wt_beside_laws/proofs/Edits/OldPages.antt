@@ -1,13 +1,13 @@
 -- A flat page: its tree, its paragraph, and what refuses it.
 use Rattle.std.proofs.Common.{arith, ◌≡◌, ◌≢◌, ℕ, false, Option, Some, None, List, [], ◌∷◌, ◌++◌, refl, sym, ap, ap₂, ◌∙◌, subst, append-nil, Bool}
-use Rattle.std.specs.Prelude.{◌||◌, take}
+use Rattle.std.specs.Prelude.{◌||◌, take, length}
 use Rattle.std.specs.Str.{IsUtf8}
 use Rattle.wt_span.specs.Items.{Item, sources}
 use Rattle.wt_devices.specs.Device.{Pages}
 use Rattle.wt_tree.specs.declared.kind.Kind.{Kind}
 use Rattle.wt_tree.specs.declared.kind.Kind.TheVariants as kind
 use Rattle.wt_tree.specs.declared.kind.Ranges.{Ranges}
-use Rattle.wt_tree.specs.Source.{flat_of_all}
+use Rattle.wt_tree.specs.Source.{flat, flat_of_all}
 use Rattle.wt_tree.specs.Tiling.{HasNoGroup, NoneIsGroup}
 use Rattle.wt_tree.specs.Tree.{Label, Tree, tree, Trees, label}
 use Rattle.wt_checks.specs.PutBack.{have_frame}
@@ -45,10 +45,18 @@ use Rattle.wt_selser.proofs.NoGroups.{untangled}
 use Rattle.wt_text_edit_laws.proofs.Blocks.Unframed.{blocks_unframed}
 use Rattle.wt_text_edit_laws.specs.ParagraphParts.{para_with, joined_parts}
 use Rattle.wt_beside_laws.specs.OwnSigns.{IsFlatBlock}
-use Rattle.wt_beside_laws.specs.PageBlocks.{IsBlockOfLines}
+use Rattle.wt_beside_laws.specs.PageBlocks.{IsBlockOfLines, AreSoIn}
 use Rattle.wt_beside_laws.proofs.BlockSigns.{flat_block, block_shut}
 use Rattle.wt_beside_laws.proofs.FlatLines.{lines_meaning}
 use Rattle.wt_beside_laws.specs.FlatPages.{lines_of, paragraph_of, block_of, IsFlatPage}
+use Rattle.wt_moved_laws.proofs.Sources.{standing_source}
+use Rattle.wt_lines.proofs.LineLaws.{lines_are as lines_join}
+use Rattle.wt_text_edit_laws.proofs.Blocks.Contents.{block_source}
+use Rattle.wt_text_edit_laws.specs.TextBlocks.{a_paragraph}
+use Rattle.wt_beside_laws.specs.Content.{AreKept}
+use Rattle.wt_beside_laws.specs.PageSigns.{signs_of_lines}
+use Rattle.wt_beside_laws.specs.Stood.{things}
+use Rattle.wt_beside_laws.proofs.Marks.Within.{marks_within, lines_source, lines_bytes}
 
 -- ---- pages of one paragraph
 
@@ -125,6 +133,19 @@ block_is q ts is = block_by (block_of q) ts (kind_is q) is
 pub numbered : (q : List ℕ) → (label (block_of q)).id ≢ 0
 numbered q = subst (λ (l : Label). l.id ≢ 0) (sym (label_is (joined_parts (lines_of q)))) (omega arith)
 
+its_bytes : (q : List ℕ) → flat (block_of q) ≡ (label (block_of q)).opening ++ (lines_source (lines_of q) ++ [])
+its_bytes q =
+    standing_source 1 [] (paragraph_of q) ∙ block_source a_paragraph q
+    ∙ sym (page_sources q) ∙ sym (lines_bytes (lines_of q) (page_items q) (lines_join (page_items q)))
+    ∙ sym (append-nil (lines_source (lines_of q)))
+    ∙ ap (λ (bs : List ℕ). bs ++ (lines_source (lines_of q) ++ [])) (sym (ap (λ (l : Label). l.opening) (label_is (joined_parts (lines_of q)))))
+
+its_marks : (q : List ℕ) → IsFlatPage q → AreSoIn (block_of q) (things (signs_of_lines (length (label (block_of q)).opening) (lines_of q)))
+its_marks q h =
+    let none : length (label (block_of q)).opening ≡ 0 = ap (λ (l : Label). length l.opening) (label_is (joined_parts (lines_of q))) in
+    marks_within (lines_of q) (block_of q) [] (its_bytes q) h.flat
+    (subst (λ (n : ℕ). AreKept (signs_of_lines n (lines_of q))) (sym none) h.kept)
+
 pub of_lines : (q : List ℕ) → IsFlatPage q → IsBlockOfLines (lines_of q) (block_of q)
 of_lines q h = record {
   number = 1;
@@ -135,6 +156,7 @@ of_lines q h = record {
   some = omega arith;
   is = refl;
   ungrouped = (one_ungrouped q (paragraph_of q) (flat_page q h)).0;
+  marks = its_marks q h;
 }
 
 pub is_flat : (q : List ℕ) → IsFlatPage q → IsFlatBlock (block_of q)

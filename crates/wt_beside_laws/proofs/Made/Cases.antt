@@ -1,7 +1,6 @@
 -- Worked cases: `x<br>y` is flat as a paragraph, and between `== ` and ` ==` as a heading.
-use Rattle.std.proofs.Common.{arith, ◌≡◌, ℕ, true, None, List, [], ◌∷◌, ◌++◌, refl, sym, ap, ◌∙◌, subst, All}
+use Rattle.std.proofs.Common.{arith, ◌≡◌, ℕ, None, List, [], ◌∷◌, ◌++◌, refl, sym, ap, ◌∙◌, subst, All}
 use Rattle.std.specs.Prelude.{codes}
-use Rattle.std.specs.List.{list_all}
 use Rattle.std.specs.Str.{IsUtf8, chars}
 use Rattle.std.proofs.Math.Utf8.{encode}
 use Rattle.std.proofs.lemmas.List.Elements.{All-nil, All-cons}
@@ -12,8 +11,8 @@ use Rattle.wt_span.specs.Lexemes.{form_at as word_at, sign_word, words, closed a
 use Rattle.wt_span.specs.Tags.{raw_len, include_at, opening_tag as opening_word, closing_tag as closing_word, tag_after as word_after, with_inside, is_extension}
 use Rattle.wt_expand.specs.PageItems.{page_items}
 use Rattle.wt_lines.specs.Kinds.{kind_of_signs}
-use Rattle.wt_lines.specs.Lines.{lines, full_lines}
-use Rattle.wt_inline.specs.ItemTree.{forest, held_by_all}
+use Rattle.wt_lines.specs.Lines.{lines}
+use Rattle.wt_inline.specs.ItemTree.{forest}
 use Rattle.wt_inline.specs.Parts.{children}
 use Rattle.wt_tiles.specs.Tags.{tag_at, opening_tag, closing_tag, tag_after, name_of, live_name}
 use Rattle.wt_tiles.specs.Tiles.{form_at, link_or_url, tag_tile, switch_at, shapes, closed, tiles}
@@ -27,15 +26,13 @@ use Rattle.wt_context.specs.Styled.{with_styles}
 use Rattle.wt_quotes.specs.Styles.{style_tree_of}
 use Rattle.wt_quotes.specs.Toggles.{toggle_at, toggles_of}
 use Rattle.wt_blocks.specs.Headings.{level}
-use Rattle.wt_annotated.specs.Clean.{is_page}
 use Rattle.wt_called_trees.specs.Rounded.{AllHaveItems}
-use Rattle.wt_text_edit_laws.specs.Contents.{AreUnled}
 use Rattle.wt_text_edit_laws.specs.LonePages.{page_chars}
 use Rattle.wt_text_edit_laws.specs.NoCalls.{CallsNothing}
 use Rattle.wt_text_edit_laws.specs.ParagraphParts.{joined_parts}
 use Rattle.wt_text_edit_laws.specs.Paragraphs.{IsTextLine}
 use Rattle.wt_text_edit_laws.specs.TextBetween.{StandsBehind}
-use Rattle.wt_text_edit_laws.specs.TextBlocks.{a_paragraph, a_heading, IsFrame}
+use Rattle.wt_text_edit_laws.specs.TextBlocks.{a_paragraph, a_heading, source_of, IsFrame}
 use Rattle.wt_text_edit_laws.specs.TypedHeadings.{spaced, heading_line, IsHeadingInside, IsOfLevel}
 use Rattle.wt_beside_laws.specs.Calm.{AreCalm}
 use Rattle.wt_beside_laws.specs.Content.{AreKept}
@@ -44,18 +41,18 @@ use Rattle.wt_beside_laws.specs.PageBlocks.{AreUnstyled, AreShut}
 use Rattle.wt_beside_laws.specs.PageSigns.{signs_of_lines, AreFlatLines}
 use Rattle.wt_beside_laws.specs.StyledIn.{IsFlatIn}
 use Rattle.wt_beside_laws.proofs.Firm.{alone_as, parts_read}
-use Rattle.wt_beside_laws.proofs.Edits.Cases.{AreFlat, items_are, break_kept, break_calm, break_flat}
+use Rattle.wt_beside_laws.proofs.Edits.Cases.{AreFlat, items_are, break_held, break_calm, break_flat}
+use Rattle.wt_page.specs.Rows.{marks_len}
 
 -- ---- as a paragraph
 
 -- what else its items have to be
-record AreBlockItems (xs : List Item) : Type 0 where
+pub record AreBlockItems (xs : List Item) : Type 0 where
   pub are_lines : All IsTextLine (lines xs)
-  pub unled : AreUnled (full_lines xs)
-  pub of_page : list_all is_page (held_by_all (forest (children (joined_parts (lines xs))))) ≡ true
+  pub unled : marks_len xs ≡ 0
   pub has_items : AllHaveItems (forest (children (joined_parts (lines xs))))
 
-paragraph_by : (q : List ℕ) (xs : List Item) → page_items q ≡ xs → page_items (q ++ 10 ∷ []) ≡ xs ++ char None 10 ∷ []
+pub paragraph_by : (q : List ℕ) (xs : List Item) → page_items q ≡ xs → page_items (q ++ 10 ∷ []) ≡ xs ++ char None 10 ∷ []
     → StandsBehind q → StandsBehind (q ++ 10 ∷ []) → AreFlat q xs → AreBlockItems xs → IsFlatIn a_paragraph q
 paragraph_by q xs is ended alone before_break given more =
     let h : AreFlat q (page_items q) = subst (AreFlat q) (sym is) given in
@@ -67,7 +64,6 @@ paragraph_by q xs is ended alone before_break given more =
         unended = refl;
         is = record { are_lines = b.are_lines; unled = b.unled; alone = alone; before_break = before_break };
         calls_nothing = h.calls_nothing;
-        of_page = b.of_page;
         has_items = b.has_items;
         flat = h.flat;
         kept = h.kept;
@@ -92,8 +88,7 @@ break_items : AreBlockItems (page_chars (codes "x<br>y"))
 unfolding kind_of_signs context_parts with_styles style_tree_of toggles_of toggle_at chunks segments loose_segments tiles shapes closed form_at link_or_url link_at ext_link_at bare_url_at scheme_len tag_tile tag_at opening_tag closing_tag tag_after name_of live_name switch_at chars children
 break_items = record {
   are_lines = All-cons IsTextLine (page_chars (codes "x<br>y")) [] refl (All-nil IsTextLine);
-  unled = (refl, tt);
-  of_page = refl;
+  unled = refl;
   has_items = ((refl, tt), ((refl, tt), ((refl, tt), tt)));
 }
 
@@ -128,13 +123,12 @@ frame = record {
   ended = refl;
 }
 
--- what its items have to be
-record AreHeadingItems (xs : List Item) : Type 0 where
-  pub line : heading_line (spaced 2) xs ≡ page_chars words_as_heading
+-- what its items have to be, where these are those of its line
+pub record AreHeadingItems (all xs : List Item) : Type 0 where
+  pub line : heading_line (spaced 2) xs ≡ all
   pub calls_nothing : CallsNothing (heading_line (spaced 2) xs)
   pub inside : IsHeadingInside xs
   pub of_level : IsOfLevel (spaced 2) xs
-  pub of_page : list_all is_page (held_by_all (forest (children (line_parts xs)))) ≡ true
   pub has_items : AllHaveItems (forest (children (line_parts xs)))
   pub flat : AreFlatLines (xs ∷ [])
   pub unstyled : AreUnstyled (xs ∷ [])
@@ -142,17 +136,18 @@ record AreHeadingItems (xs : List Item) : Type 0 where
   pub calm : AreCalm (signs_of_lines 3 (xs ∷ []))
   pub shut : AreShut (signs_of_lines 3 (xs ∷ []))
 
-heading_by : (xs : List Item) → page_items (codes "x<br>y") ≡ xs → IsUtf8 (codes "x<br>y") → AreHeadingItems xs → IsFlatIn (a_heading (spaced 2)) (codes "x<br>y")
-heading_by xs is utf8 given =
-    let h : AreHeadingItems (page_items (codes "x<br>y")) = subst AreHeadingItems (sym is) given in
+pub heading_by : (q : List ℕ) (all xs : List Item) → page_items (source_of (a_heading (spaced 2)) q) ≡ all
+    → page_items (source_of (a_heading (spaced 2)) q ++ 10 ∷ []) ≡ all ++ char None 10 ∷ [] → page_items q ≡ xs → IsUtf8 q → AreHeadingItems all xs
+    → IsFlatIn (a_heading (spaced 2)) q
+heading_by q all xs alone before_break is utf8 given =
+    let h : AreHeadingItems all (page_items q) = subst (AreHeadingItems all) (sym is) given in
     record {
       styled = record {
         utf8 = utf8;
-        ended = ended_heading_are ∙ ap (λ (ys : List Item). ys ++ char None 10 ∷ []) (sym h.line);
-        unended = heading_are ∙ sym h.line;
+        ended = before_break ∙ ap (λ (ys : List Item). ys ++ char None 10 ∷ []) (sym h.line);
+        unended = alone ∙ sym h.line;
         is = record { frame = frame; inside = h.inside; of_level = h.of_level };
         calls_nothing = h.calls_nothing;
-        of_page = h.of_page;
         has_items = h.has_items;
         flat = h.flat;
         kept = h.kept;
@@ -162,21 +157,21 @@ heading_by xs is utf8 given =
       unstyled = h.unstyled;
     }
 
-heading_items : AreHeadingItems (page_chars (codes "x<br>y"))
+heading_items : AreHeadingItems (page_chars words_as_heading) (page_chars (codes "x<br>y"))
 unfolding page_items words words_closed level kind_of_signs context_parts with_styles style_tree_of toggles_of toggle_at chunks segments loose_segments tiles shapes closed form_at link_or_url link_at ext_link_at bare_url_at scheme_len tag_tile tag_at opening_tag closing_tag tag_after name_of live_name switch_at chars children
 heading_items = record {
   line = refl;
   calls_nothing = tt;
   inside = record { unbroken = (refl, (refl, (refl, (refl, (refl, (refl, tt)))))); begins = refl; ends = refl };
   of_level = refl;
-  of_page = refl;
   has_items = ((refl, tt), ((refl, tt), ((refl, tt), tt)));
   flat = break_flat.flat;
   unstyled = break_flat.unstyled;
-  kept = (break_kept, tt);
+  kept = ((break_held, tt), tt);
   calm = (break_calm, tt);
   shut = (refl, tt);
 }
 
 pub as_heading : IsFlatIn (a_heading (spaced 2)) (codes "x<br>y")
-as_heading = heading_by (page_chars (codes "x<br>y")) items_are break_flat.utf8 heading_items
+as_heading =
+    heading_by (codes "x<br>y") (page_chars words_as_heading) (page_chars (codes "x<br>y")) heading_are ended_heading_are items_are break_flat.utf8 heading_items

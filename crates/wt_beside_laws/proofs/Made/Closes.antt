@@ -31,7 +31,7 @@ use Rattle.wt_text_edit_laws.proofs.Between.ClosingTags.{Unclosed, ClosesNothing
 use Rattle.wt_text_edit_laws.proofs.Between.LineWords.{lacks}
 use Rattle.wt_text_edit_laws.proofs.Texts.TypedItems.{wide_tame, tame_if}
 use Rattle.wt_beside_laws.specs.FlatBlocks.{begins_at, signs_in, AreSealed}
-use Rattle.wt_beside_laws.specs.PageSigns.{tile_signs, signs_of_tiles, line_signs, signs_of_lines}
+use Rattle.wt_beside_laws.specs.PageSigns.{ends_break, tile_signs, signs_of_tiles, line_signs, signs_of_lines}
 use Rattle.wt_beside_laws.specs.Stood.{things}
 use Rattle.wt_beside_laws.proofs.Contents.{begin_letter}
 use Rattle.wt_beside_laws.proofs.Each.{Each}
@@ -128,35 +128,36 @@ each_both P (thing t ∷ xs) ys h k = (h.0, each_both P xs ys h.1 k)
 no_letters : (P : Thing → Type 0) (cs : List ℕ) → Each P (things (map letter cs))
 no_letters P cs = subst (Each P) (sym (no_things cs)) tt
 
-tile_open : (name us : List ℕ) (k : TileKind) (at : ℕ) (xs : List Item) → Unclosed name (sources xs ++ us) → Each (OpenFor name) (things (tile_signs k at xs))
-tile_open name us kind.Link at xs h = ((us, h), tt)
-tile_open name us kind.Category at xs h = ((us, h), tt)
-tile_open name us kind.Media at xs h = ((us, h), tt)
-tile_open name us kind.ExtLink at xs h = ((us, h), tt)
-tile_open name us kind.BareUrl at xs h = ((us, h), tt)
-tile_open name us kind.Br at xs h = ((us, h), tt)
-tile_open name us kind.Pair at xs h = ((us, h), tt)
-tile_open name us kind.TagIsland at xs h = ((us, h), tt)
-tile_open name us kind.Switch at xs h = ((us, h), tt)
-tile_open name us kind.Atom at xs h = ((us, h), tt)
-tile_open name us kind.Mark at xs h = ((us, h), tt)
-tile_open name us kind.Chars at xs h = no_letters (OpenFor name) (chars (sources xs))
+tile_open : (name us : List ℕ) (k : TileKind) (began : Bool) (at : ℕ) (xs : List Item) → Unclosed name (sources xs ++ us)
+    → Each (OpenFor name) (things (tile_signs k began at xs))
+tile_open name us kind.Link began at xs h = ((us, h), tt)
+tile_open name us kind.Category began at xs h = ((us, h), tt)
+tile_open name us kind.Media began at xs h = ((us, h), tt)
+tile_open name us kind.ExtLink began at xs h = ((us, h), tt)
+tile_open name us kind.BareUrl began at xs h = ((us, h), tt)
+tile_open name us kind.Br began at xs h = ((us, h), tt)
+tile_open name us kind.Pair began at xs h = ((us, h), tt)
+tile_open name us kind.TagIsland began at xs h = ((us, h), tt)
+tile_open name us kind.Switch began at xs h = ((us, h), tt)
+tile_open name us kind.Atom began at xs h = ((us, h), tt)
+tile_open name us kind.Mark began at xs h = ((us, h), tt)
+tile_open name us kind.Chars began at xs h = no_letters (OpenFor name) (chars (sources xs))
 
 before_both : (name : List ℕ) (xs ys : List Item) (us : List ℕ) → Unclosed name (sources (xs ++ ys) ++ us) → Unclosed name (sources xs ++ (sources ys ++ us))
 before_both name xs ys us h =
     subst (Unclosed name) (ap (λ (bs : List ℕ). bs ++ us) (flat_map-append source xs ys) ∙ append_assoc (sources xs) (sources ys) us) h
 
-tiles_open : (name us : List ℕ) (at : ℕ) (ps : List (Shape × List Item)) → Unclosed name (sources (joined ps) ++ us) → Each (OpenFor name) (things (signs_of_tiles at ps))
-tiles_open name us at [] h = tt
-tiles_open name us at ((w, xs) ∷ ps) h =
+tiles_open : (name us : List ℕ) (began : Bool) (at : ℕ) (ps : List (Shape × List Item)) → Unclosed name (sources (joined ps) ++ us) → Each (OpenFor name) (things (signs_of_tiles began at ps))
+tiles_open name us began at [] h = tt
+tiles_open name us began at ((w, xs) ∷ ps) h =
     let both : Unclosed name (sources xs ++ (sources (joined ps) ++ us)) = before_both name xs (joined ps) us h in
-    each_both (OpenFor name) (tile_signs w.kind at xs) (signs_of_tiles (at + length (sources xs)) ps)
-    (tile_open name (sources (joined ps) ++ us) w.kind at xs both)
-    (tiles_open name us (at + length (sources xs)) ps (unclosed_behind name (sources xs) (sources (joined ps) ++ us) both))
+    each_both (OpenFor name) (tile_signs w.kind began at xs) (signs_of_tiles (ends_break (sources xs)) (at + length (sources xs)) ps)
+    (tile_open name (sources (joined ps) ++ us) w.kind began at xs both)
+    (tiles_open name us (ends_break (sources xs)) (at + length (sources xs)) ps (unclosed_behind name (sources xs) (sources (joined ps) ++ us) both))
 
 line_open : (name us : List ℕ) (at : ℕ) (xs : List Item) → Unclosed name (sources xs ++ us) → Each (OpenFor name) (things (line_signs at xs))
 line_open name us at xs h =
-    tiles_open name us at (tiles in_line xs) (subst (λ (ys : List Item). Unclosed name (sources ys ++ us)) (sym (tiles_join in_line xs)) h)
+    tiles_open name us true at (tiles in_line xs) (subst (λ (ys : List Item). Unclosed name (sources ys ++ us)) (sym (tiles_join in_line xs)) h)
 
 lines_open : (name us : List ℕ) (at : ℕ) (ls : List (List Item)) (xs : List Item) → AreLines ls xs → Unclosed name (sources xs ++ us)
     → Each (OpenFor name) (things (signs_of_lines at ls))

@@ -31,14 +31,16 @@ use Rattle.wt_beside_laws.specs.Content.{AreKept, guard_items, letter_items, con
 use Rattle.wt_beside_laws.specs.InHeadings.{AreOnOneLine}
 use Rattle.wt_beside_laws.specs.Lines.{AreCharacters, line_items}
 use Rattle.wt_beside_laws.specs.Nodes.{IsNode, AreNodes}
-use Rattle.wt_beside_laws.specs.PageSigns.{form_role, atom_role, tile_signs, signs_of_tiles, line_signs, signs_of_lines, IsFlatForm, IsFlatTile, AreFlatTiles, AreFlatLines}
+use Rattle.wt_beside_laws.specs.PageSigns.{ends_break, form_role, atom_role, tile_signs, signs_of_tiles, line_signs, signs_of_lines, IsFlatForm, IsFlatTile, AreFlatTiles, AreFlatLines}
 use Rattle.wt_beside_laws.specs.Stood.{things}
-use Rattle.wt_beside_laws.proofs.Contents.{content_alone}
 use Rattle.wt_beside_laws.proofs.Each.{Each}
 use Rattle.wt_beside_laws.proofs.PageSigns.{flat_nodes}
 use Rattle.wt_beside_laws.proofs.LineHeadings.{same_items, ends_behind, UnequalLast, letter_unequal, end_unequal, begins_unequal, unequal_end}
 use Rattle.wt_beside_laws.proofs.LineKinds.{line_opens}
 use Rattle.wt_beside_laws.proofs.NodeEnds.{EndInSigns, nodes_end, unequal_by}
+use Rattle.wt_beside_laws.proofs.Marks.Commented.{content_alone}
+use Rattle.wt_beside_laws.specs.NodeItems.{node_items}
+use Rattle.wt_beside_laws.specs.Led.{AreMarksLed}
 
 -- ---- what a bare URL's role tells of its last item
 
@@ -56,7 +58,7 @@ BareTold Function ss = Unit {0}
 BareTold Node ss = Unit {0}
 
 abbrev pub Told : Thing → Type 0
-Told t = BareTold t.role (map sign (page_items t.source))
+Told t = BareTold t.role (map sign (node_items t.source))
 
 abbrev pub AllTold : List ContentSign → Type 0
 AllTold [] = Unit {0}
@@ -113,8 +115,8 @@ bare_by : (v : Bool) (xs : List Item) → ends_with nat_eq (flat_map text_of (ma
 bare_by true xs e h = tt
 bare_by false xs e h = told_from [] xs h e
 
-bare_told : (xs : List Item) → IsFlatForm kind.BareUrl xs → EndsWithout is_blank (map sign (page_items (sources xs)))
-    → BareTold (Bare (ends_with nat_eq (flat_map text_of (map glyph_of xs)) (61 ∷ []))) (map sign (page_items (sources xs)))
+bare_told : (xs : List Item) → IsFlatForm kind.BareUrl xs → EndsWithout is_blank (map sign (node_items (sources xs)))
+    → BareTold (Bare (ends_with nat_eq (flat_map text_of (map glyph_of xs)) (61 ∷ []))) (map sign (node_items (sources xs)))
 bare_told xs f h =
     let v : Bool = ends_with nat_eq (flat_map text_of (map glyph_of xs)) (61 ∷ []) in
     subst (λ (ys : List Item). BareTold (Bare v) (map sign ys)) (sym f.alone)
@@ -140,34 +142,34 @@ letters_told : (cs : List ℕ) → AllTold (map letter cs)
 letters_told [] = tt
 letters_told (c ∷ cs) = letters_told cs
 
-tile_told : (k : TileKind) (at : ℕ) (xs : List Item) → IsFlatTile k xs → EndInSigns (tile_signs k at xs) → AllTold (tile_signs k at xs)
-tile_told kind.Link at xs f h = (tt, tt)
-tile_told kind.Category at xs f h = (tt, tt)
-tile_told kind.Media at xs f h = (tt, tt)
-tile_told kind.ExtLink at xs f h = (tt, tt)
-tile_told kind.BareUrl at xs f h = (bare_told xs f h.0, tt)
-tile_told kind.Br at xs f h = (tt, tt)
-tile_told kind.Pair at xs f h = (tt, tt)
-tile_told kind.TagIsland at xs f h = (tt, tt)
-tile_told kind.Switch at xs f h = (tt, tt)
-tile_told kind.Atom at xs f h = (atom_told xs (map sign (page_items (sources xs))), tt)
-tile_told kind.Mark at xs f h = absurd f
-tile_told kind.Chars at xs f h = letters_told (chars (sources xs))
+tile_told : (k : TileKind) (began : Bool) (at : ℕ) (xs : List Item) → IsFlatTile k xs → EndInSigns (tile_signs k began at xs) → AllTold (tile_signs k began at xs)
+tile_told kind.Link began at xs f h = (tt, tt)
+tile_told kind.Category began at xs f h = (tt, tt)
+tile_told kind.Media began at xs f h = (tt, tt)
+tile_told kind.ExtLink began at xs f h = (tt, tt)
+tile_told kind.BareUrl began at xs f h = (bare_told xs f h.0, tt)
+tile_told kind.Br began at xs f h = (tt, tt)
+tile_told kind.Pair began at xs f h = (tt, tt)
+tile_told kind.TagIsland began at xs f h = (tt, tt)
+tile_told kind.Switch began at xs f h = (tt, tt)
+tile_told kind.Atom began at xs f h = (atom_told xs (map sign (node_items (sources xs))), tt)
+tile_told kind.Mark began at xs f h = (tt, tt)
+tile_told kind.Chars began at xs f h = letters_told (chars (sources xs))
 
-tiles_told : (at : ℕ) (ps : List (Shape × List Item)) → AreFlatTiles ps → EndInSigns (signs_of_tiles at ps) → AllTold (signs_of_tiles at ps)
-tiles_told at [] f h = tt
-tiles_told at ((w, xs) ∷ ps) f h =
-    let own : List ContentSign = tile_signs w.kind at xs in
-    let more : List ContentSign = signs_of_tiles (at + length (sources xs)) ps in
-    told_both own more (tile_told w.kind at xs f.0 (seen_front own more h)) (tiles_told (at + length (sources xs)) ps f.1 (seen_rest own more h))
+tiles_told : (began : Bool) (at : ℕ) (ps : List (Shape × List Item)) → AreFlatTiles ps → EndInSigns (signs_of_tiles began at ps) → AllTold (signs_of_tiles began at ps)
+tiles_told began at [] f h = tt
+tiles_told began at ((w, xs) ∷ ps) f h =
+    let own : List ContentSign = tile_signs w.kind began at xs in
+    let more : List ContentSign = signs_of_tiles (ends_break (sources xs)) (at + length (sources xs)) ps in
+    told_both own more (tile_told w.kind began at xs f.0 (seen_front own more h)) (tiles_told (ends_break (sources xs)) (at + length (sources xs)) ps f.1 (seen_rest own more h))
 
 lines_told : (at : ℕ) (ls : List (List Item)) → AreFlatLines ls → EndInSigns (signs_of_lines at ls) → AllTold (signs_of_lines at ls)
 lines_told at [] f h = tt
-lines_told at (l ∷ []) f h = tiles_told at (tiles in_line l) f.1 h
+lines_told at (l ∷ []) f h = tiles_told true at (tiles in_line l) f.1 h
 lines_told at (l ∷ m ∷ ls) f h =
     let own : List ContentSign = line_signs at l in
     let more : List ContentSign = signs_of_lines (at + length (sources l) + 1) (m ∷ ls) in
-    told_both own (letter 10 ∷ more) (tiles_told at (tiles in_line l) f.1 (seen_front own (letter 10 ∷ more) h))
+    told_both own (letter 10 ∷ more) (tiles_told true at (tiles in_line l) f.1 (seen_front own (letter 10 ∷ more) h))
     (lines_told (at + length (sources l) + 1) (m ∷ ls) f.2 (seen_rest own (letter 10 ∷ more) h))
 
 -- ---- a content of some of these nodes
@@ -210,7 +212,7 @@ role_apart Link items end n h f = end_unequal end items (unequal_by Link items n
 role_apart External items end n h f = end_unequal end items (unequal_by External items n tt)
 role_apart Switch items end n h f = end_unequal end items (unequal_by Switch items n tt)
 role_apart Toggle items end n h f = end_unequal end items (unequal_by Toggle items n tt)
-role_apart (Mark ends began) items end n h f = absurd n
+role_apart (Mark ends began) items end n h f = end_unequal end items (unequal_by (Mark ends began) items n tt)
 role_apart (Group g) items end n h f = absurd n
 role_apart Function items end n h f = end_unequal end items (unequal_by Function items n tt)
 role_apart Node items end n h f = end_unequal end items (unequal_by Node items n tt)
@@ -231,13 +233,13 @@ content_apart s before (letter c) (d ∷ after) w n h =
 content_apart s before (thing t) [] w n h =
     let guard : List Item = guard_items (is_guarded s before (thing t ∷ [])) in
     let end : Bool = is_guarded s (thing t ∷ before) [] in
-    ends_behind is_equals_sign guard (page_items t.source ++ guard_items end)
-    (role_apart t.role (page_items t.source) end n.0 h.0 (λ e. bare_guarded s t before w e))
+    ends_behind is_equals_sign guard (node_items t.source ++ guard_items end)
+    (role_apart t.role (node_items t.source) end n.0 h.0 (λ e. bare_guarded s t before w e))
 content_apart s before (thing t) (d ∷ after) w n h =
     let guard : List Item = guard_items (is_guarded s before (thing t ∷ d ∷ after)) in
     let more : List Item = content_items s (thing t ∷ before) (d ∷ after) in
-    ends_behind is_equals_sign guard (page_items t.source ++ more)
-    (ends_behind is_equals_sign (page_items t.source) more (content_apart s (thing t ∷ before) d after w n.1 h.1))
+    ends_behind is_equals_sign guard (node_items t.source ++ more)
+    (ends_behind is_equals_sign (node_items t.source) more (content_apart s (thing t ∷ before) d after w n.1 h.1))
 
 all_apart : (s : Setting) (signs : List ContentSign) → s.within ≡ false → AreNodes signs → AllTold signs → UnequalLast (content_items s [] signs)
 all_apart s [] w n h = subst (λ (u : Bool). UnequalLast (guard_items u)) (sym (end_guarded s [] w refl)) refl
@@ -246,15 +248,15 @@ all_apart s (next ∷ after) w n h = content_apart s [] next after w n h
 -- ---- the level
 
 -- where each bare URL says so of its last item
-pub level_told : (s : Setting) (signs : List ContentSign) (sides : Sides) → s.within ≡ false → AreKept signs → AreCharacters signs → AreNodes signs → AreOnOneLine signs
-    → AllTold signs → AreSides sides → IsOfLevel sides (page_items (spelled s signs))
-level_told s signs sides w k c n o h a =
+pub level_told : (s : Setting) (signs : List ContentSign) (sides : Sides) → s.within ≡ false → AreKept signs → AreCharacters signs → AreNodes signs → AreMarksLed signs
+    → AreOnOneLine signs → AllTold signs → AreSides sides → IsOfLevel sides (page_items (spelled s signs))
+level_told s signs sides w k c n d o h a =
     let own : List Item = page_items (spelled s signs) in
-    let is : own ≡ content_items s [] signs = content_alone s signs k in
+    let is : own ≡ content_items s [] signs = content_alone s signs (record { within = w; kept = k; nodes = n; led = d }) in
     let ss : List ℕ = map sign own in
     let begins : BeginsWithout is_equals_sign ss =
     subst (λ (xs : List Item). BeginsWithout is_equals_sign (map sign xs)) (sym (is ∙ sym (same_items s [] signs o)))
-    (begins_unequal (line_items s [] signs) (line_opens s [] signs w refl refl c n)) in
+    (begins_unequal (line_items s [] signs) (line_opens s [] signs w refl d.first c n)) in
     let last : EndsWithout is_equals_sign ss = subst UnequalLast (sym is) (all_apart s signs w n h) in
     apart_level sides own a (record {
       first = begins_other sides.lead (ss ++ sides.trail) a.lead (begins_still ss sides.trail begins);

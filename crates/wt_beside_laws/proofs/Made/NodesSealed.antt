@@ -1,25 +1,20 @@
 -- Each node of a content that stays ends each closing tag that begins in it: so what is written closes no tag behind it.
 use Rattle.std.proofs.Common.{arith, ◌≡◌, ◌≢◌, ◌⊎◌, inl, inr, ℕ, zero, suc, ◌+◌, ◌-◌, ◌≤◌, ◌==◌, Bool, true, false, Option, Some, None, List, [], ◌∷◌, ◌++◌, length, map, take, drop, refl, sym, ap, ◌∙◌, subst, append_assoc}
-use Rattle.std.specs.Prelude.{◌&&◌, not, codes, if◌then◌else◌}
+use Rattle.std.specs.Prelude.{◌||◌, ◌&&◌, not, codes, if◌then◌else◌}
 use Rattle.std.specs.Char.{to_ascii_lowercase}
 use Rattle.std.proofs.lemmas.Bool.{eqb-true}
 use Rattle.std.proofs.lemmas.List.{length-drop}
 use Rattle.std.proofs.lemmas.List.Elements.{All-contains}
-use Rattle.std.proofs.Math.Seq.{take-append_seam}
-use Rattle.wt_span.specs.declared.form.Mode.TheVariants.{Page as of_page}
 use Rattle.wt_span.specs.declared.form.LexKind.{LexKind}
 use Rattle.wt_span.specs.declared.form.LexKind.TheVariants as lex
 use Rattle.wt_span.specs.declared.form.ItemForm.{ItemForm}
 use Rattle.wt_span.specs.declared.form.ItemForm.TheVariants as form
 use Rattle.wt_span.specs.Items.{Item, char, whole, source, sources, items_by}
 use Rattle.wt_span.specs.Tags.{Tag as RawTag, opening_tag as raw_opening, is_nowiki}
-use Rattle.wt_lex.specs.WholeWords.{IsWholeWord}
-use Rattle.wt_lex.proofs.WholeWords.{form_whole}
 use Rattle.wt_guards.specs.declared.role.Role.{Role}
 use Rattle.wt_guards.specs.declared.role.Role.TheVariants.{Link, External, Bare, Switch, Toggle, Mark, Group, Function, Node}
 use Rattle.wt_guards.specs.Content.{ContentSign, letter, thing}
 use Rattle.wt_expand.specs.PageItems.{raw_form_by, items_of_word, page_items}
-use Rattle.wt_expand.proofs.PageLaws.{page_sources}
 use Rattle.wt_tiles.specs.declared.glyph.Glyph.{Glyph}
 use Rattle.wt_tiles.specs.declared.glyph.Glyph.TheVariants as glyph
 use Rattle.wt_tiles.specs.declared.glyph.GlyphClass.TheVariants as class
@@ -28,7 +23,7 @@ use Rattle.wt_tiles.specs.declared.tag.Tag.{Tag}
 use Rattle.wt_tiles.specs.declared.target.LinkKind.{LinkKind}
 use Rattle.wt_tiles.specs.declared.target.LinkKind.TheVariants.{Page, Category, Media}
 use Rattle.wt_tiles.specs.declared.target.Target.{Target}
-use Rattle.wt_tiles.specs.Glyphs.{glyph_of_form, glyph_of, in_class, is_small, first_is, run_len, begins, begins_like, like_byte, byte_glyphs}
+use Rattle.wt_tiles.specs.Glyphs.{glyph_of, in_class, is_small, first_is, run_len, begins, begins_like, like_byte, byte_glyphs}
 use Rattle.wt_tiles.specs.Links.{target_of, kind_of, target_len, inner_len, has_pipe, head_len, link_shape, link_with, link_to, link_by, link_in}
 use Rattle.wt_tiles.specs.Partners.{number}
 use Rattle.wt_tiles.specs.Searches.{IsHead}
@@ -40,31 +35,38 @@ use Rattle.wt_text_edit_laws.specs.LonePages.{page_chars}
 use Rattle.wt_text_edit_laws.specs.TextBetween.{EndsBy}
 use Rattle.wt_beside_laws.specs.Content.{AreKept}
 use Rattle.wt_beside_laws.specs.FlatBlocks.{IsSealed, AreSealed}
-use Rattle.wt_beside_laws.specs.Kept.{Part, characters, sign, lexeme, IsPart, AreParts, part_items, parts_items, IsKept}
+use Rattle.wt_beside_laws.specs.Kept.{Part, characters, sign, lexeme, is_lexeme_end, IsPart, AreParts, part_items, parts_items, IsKept}
 use Rattle.wt_beside_laws.specs.Nodes.{IsLinkNode, IsExternalNode, IsBareNode, IsSwitchNode, IsDelimiter, IsCategoryNode, IsMediaNode, IsPair, IsTagNode, IsOneLexeme, IsNode, AreNodes}
 use Rattle.wt_beside_laws.specs.Tiles.{IsPlainKind, IsCategoryKind, IsMediaKind, LeadsBy, AimsBy}
 use Rattle.wt_beside_laws.proofs.Firm.{ReadsAs, alone_as, parts_read}
 use Rattle.wt_beside_laws.proofs.LinkTiles.{with_made}
-use Rattle.wt_beside_laws.proofs.Made.Sealed.{stops, none_sealed, byte_sealed, both_sealed, ends_sealed, last_ends, raw_ends, entity_ends}
+use Rattle.wt_beside_laws.proofs.Made.Sealed.{stops, none_sealed, byte_sealed, both_sealed, ends_sealed, last_ends}
 use Rattle.wt_beside_laws.proofs.NodeEnds.{kept_most, partner_suffix, none_tagged}
 use Rattle.wt_beside_laws.proofs.NodesEnd.{EndsWith, external_ends, ClosesAt, inner_by, second_is, inside_of, other_ends, aims_other, category_other, media_other, tag_ends}
 use Rattle.wt_beside_laws.proofs.NodesStand.{EachIs, all_by}
 use Rattle.wt_beside_laws.proofs.PairTiles.{HasTag, partner_tag}
 use Rattle.wt_beside_laws.proofs.UrlFronts.{some_shape}
+use Rattle.wt_beside_laws.specs.Commented.{IsCommentLine, AreRemarks, IsHeld}
+use Rattle.wt_spelling_laws.proofs.TextReads.{apart}
+use Rattle.wt_text_edit_laws.specs.TextBetween.{HasNoTag}
+use Rattle.wt_beside_laws.proofs.Marks.InLine.{remarks_items}
+use Rattle.wt_beside_laws.proofs.Marks.Shown.{comment_node, line_node, kept_node, remarked_node}
+use Rattle.wt_beside_laws.proofs.NodeItems.{node_sources}
+use Rattle.wt_beside_laws.specs.NodeItems.{node_items}
 
 -- ---- lexemes
 
--- what a raw tag and an entity end with
+-- what a lexeme ends with
 abbrev FormEnds : ItemForm → List ℕ → Type 0
 FormEnds form.Chars bs = EndsBy stops bs
 FormEnds (form.Entity c) bs = EndsBy stops bs
 FormEnds form.Nowiki bs = EndsBy stops bs
 FormEnds form.Extension bs = EndsBy stops bs
 FormEnds form.Function bs = EndsBy stops bs
-FormEnds form.Comment bs = Unit {0}
-FormEnds form.Include bs = Unit {0}
-FormEnds form.Hidden bs = Unit {0}
-FormEnds form.EmptyCall bs = Unit {0}
+FormEnds form.Comment bs = IsSealed bs
+FormEnds form.Include bs = EndsBy stops bs
+FormEnds form.Hidden bs = EndsBy stops bs
+FormEnds form.EmptyCall bs = EndsBy stops bs
 
 abbrev LexemesEnd : List Item → Type 0
 LexemesEnd [] = Unit {0}
@@ -80,6 +82,10 @@ chars_end : (bs : List ℕ) → LexemesEnd (page_chars bs)
 chars_end [] = tt
 chars_end (b ∷ bs) = chars_end bs
 
+or_true : (a : Bool) {b : Bool} → b ≡ true → (a || b) ≡ true
+or_true true e = refl
+or_true false e = e
+
 raw_word : (o : Option RawTag) (bs : List ℕ) → EndsBy stops bs → LexemesEnd (items_by (raw_form_by o) None bs)
 raw_word None bs l = (l, tt)
 raw_word (Some t) bs l = by (is_nowiki t.name)
@@ -88,17 +94,14 @@ raw_word (Some t) bs l = by (is_nowiki t.name)
     by true = (l, tt)
     by false = (l, tt)
 
-word_ends : (kind : LexKind) (bs : List ℕ) → IsWholeWord of_page kind bs → LexemesEnd (items_of_word kind bs)
+word_ends : (kind : LexKind) (bs : List ℕ) → EndsBy stops bs → LexemesEnd (items_of_word kind bs)
 word_ends lex.Chars bs w = chars_end bs
-word_ends lex.CommentLine bs w = (tt, tt)
-word_ends lex.Comment bs w = (tt, tt)
-word_ends lex.Raw bs w = elim w [
-  | inl nowiki ↦ raw_word (raw_opening bs) bs (raw_ends _ bs nowiki)
-  | inr extension ↦ raw_word (raw_opening bs) bs (raw_ends _ bs extension)
-]
-word_ends lex.Include bs w = (tt, tt)
-word_ends lex.Hidden bs w = (tt, tt)
-word_ends (lex.Entity c) bs w = (entity_ends c bs w, tt)
+word_ends lex.CommentLine bs w = (ends_sealed bs w, tt)
+word_ends lex.Comment bs w = (ends_sealed bs w, tt)
+word_ends lex.Raw bs w = raw_word (raw_opening bs) bs w
+word_ends lex.Include bs w = (w, tt)
+word_ends lex.Hidden bs w = (w, tt)
+word_ends (lex.Entity c) bs w = (w, tt)
 word_ends lex.Opens bs w = chars_end bs
 word_ends lex.Closes bs w = chars_end bs
 word_ends lex.LinkOpen bs w = chars_end bs
@@ -106,11 +109,20 @@ word_ends lex.LinkClose bs w = chars_end bs
 word_ends lex.Pipe bs w = chars_end bs
 word_ends lex.Equals bs w = chars_end bs
 
+lexeme_stops : (bs : List ℕ) → EndsBy is_lexeme_end bs → EndsBy stops bs
+lexeme_stops [] e = tt
+lexeme_stops (b ∷ []) e = stops_at (b == 62) (b == 59) e
+  where
+    stops_at : (u v : Bool) → (u || v) ≡ true → (b == 93 || (u || (v || (b == 95 || b == 39)))) ≡ true
+    stops_at true v i = or_true (b == 93) refl
+    stops_at false true i = or_true (b == 93) refl
+    stops_at false false i = cc
+lexeme_stops (b ∷ c ∷ cs) e = lexeme_stops (c ∷ cs) e
+
 part_ends : (p : Part) → IsPart p → LexemesEnd (part_items p)
 part_ends (characters bs) h = chars_end bs
 part_ends (sign b q) h = chars_end (b ∷ q)
-part_ends (lexeme kind b q) h =
-    word_ends kind (b ∷ q) (subst (IsWholeWord of_page kind) (take-append_seam (b ∷ q) []) (form_whole of_page false kind (suc (length q)) (b ∷ (q ++ [])) (h.form [])))
+part_ends (lexeme kind b q) h = word_ends kind (b ∷ q) (lexeme_stops (b ∷ q) h.ends)
 
 parts_end : (ps : List Part) → AreParts ps → LexemesEnd (parts_items ps)
 parts_end [] h = tt
@@ -121,33 +133,60 @@ lexemes_end q h =
     let own : ReadsAs q (parts_items h.parts) = subst (λ bs. ReadsAs bs (parts_items h.parts)) h.is (parts_read h.parts h.are) in
     subst LexemesEnd (sym (alone_as q (parts_items h.parts) own)) (parts_end h.parts h.are)
 
+untagged_sealed : (bs : List ℕ) → HasNoTag bs → IsSealed bs
+untagged_sealed [] h = none_sealed
+untagged_sealed (b ∷ bs) h = both_sealed (b ∷ []) bs (byte_sealed b (apart b 60 h.0)) (untagged_sealed bs h.1)
+
+-- behind the last `>` of a line of comments no tag begins
+line_sealed : (q : List ℕ) → IsCommentLine q → IsSealed q
+line_sealed q h =
+    let is : q ≡ (h.before ++ 62 ∷ []) ++ h.behind = h.closed ∙ sym (append_assoc h.before (62 ∷ []) h.behind) in
+    subst IsSealed (sym is)
+    (both_sealed (h.before ++ 62 ∷ []) h.behind (ends_sealed (h.before ++ 62 ∷ []) (last_ends 62 h.before refl)) (untagged_sealed h.behind h.untagged))
+
+remarks_ends : (rs : List (List ℕ × List ℕ)) → AreRemarks rs → LexemesEnd (remarks_items rs)
+remarks_ends [] h = tt
+remarks_ends ((q, behind) ∷ rs) h = (
+  ends_sealed (60 ∷ q) (lexeme_stops (60 ∷ q) h.0.ends),
+  both_end (page_items behind) (remarks_items rs) (lexemes_end behind h.1) (remarks_ends rs h.3),
+)
+
+held_ends : (q : List ℕ) → IsHeld q → LexemesEnd (node_items q)
+held_ends q (inl k) = subst LexemesEnd (sym (kept_node q k.0)) (lexemes_end q k.0)
+held_ends q (inr (inl c)) =
+    subst (λ bs. LexemesEnd (node_items bs)) (sym c.is)
+    (subst LexemesEnd (sym (comment_node c.others c.comment)) (ends_sealed (60 ∷ c.others) (lexeme_stops (60 ∷ c.others) c.comment.ends), tt))
+held_ends q (inr (inr (inr r))) =
+    subst LexemesEnd (sym (remarked_node q r)) (both_end (page_items r.front) (remarks_items r.remarks) (lexemes_end r.front r.kept) (remarks_ends r.remarks r.are))
+held_ends q (inr (inr (inl l))) = subst LexemesEnd (sym (line_node q l)) (line_sealed q l, tt)
+
 -- ---- items without a `<` outside of lexemes
 
 abbrev IsOther : Glyph → Type 0
 IsOther (glyph.Byte b) = b ≢ 60
 IsOther (glyph.Entity c) = Unit {0}
 IsOther glyph.Atom = Unit {0}
-IsOther glyph.Mark = ⊥
+IsOther glyph.Mark = Unit {0}
 
 abbrev AreOthers : List Glyph → Type 0
 AreOthers [] = Unit {0}
 AreOthers (g ∷ gs) = IsOther g × AreOthers gs
 
-form_sealed : (f : ItemForm) (bs : List ℕ) → FormEnds f bs → IsOther (glyph_of_form f) → IsSealed bs
-form_sealed form.Chars bs l u = ends_sealed bs l
-form_sealed (form.Entity c) bs l u = ends_sealed bs l
-form_sealed form.Nowiki bs l u = ends_sealed bs l
-form_sealed form.Extension bs l u = ends_sealed bs l
-form_sealed form.Function bs l u = ends_sealed bs l
-form_sealed form.Comment bs l u = absurd u
-form_sealed form.Include bs l u = absurd u
-form_sealed form.Hidden bs l u = absurd u
-form_sealed form.EmptyCall bs l u = absurd u
+form_sealed : (f : ItemForm) (bs : List ℕ) → FormEnds f bs → IsSealed bs
+form_sealed form.Chars bs l = ends_sealed bs l
+form_sealed (form.Entity c) bs l = ends_sealed bs l
+form_sealed form.Nowiki bs l = ends_sealed bs l
+form_sealed form.Extension bs l = ends_sealed bs l
+form_sealed form.Function bs l = ends_sealed bs l
+form_sealed form.Comment bs l = l
+form_sealed form.Include bs l = ends_sealed bs l
+form_sealed form.Hidden bs l = ends_sealed bs l
+form_sealed form.EmptyCall bs l = ends_sealed bs l
 
 others_sealed : (xs : List Item) → LexemesEnd xs → AreOthers (map glyph_of xs) → IsSealed (sources xs)
 others_sealed [] l u = none_sealed
 others_sealed (char o b ∷ xs) l u = both_sealed (b ∷ []) (sources xs) (byte_sealed b u.0) (others_sealed xs l u.1)
-others_sealed (whole f o bs ∷ xs) l u = both_sealed bs (sources xs) (form_sealed f bs l.0 u.0) (others_sealed xs l.1 u.1)
+others_sealed (whole f o bs ∷ xs) l u = both_sealed bs (sources xs) (form_sealed f bs l.0) (others_sealed xs l.1 u.1)
 
 -- ---- items that end with a sign that stops tags, and letters that join a link
 
@@ -338,7 +377,7 @@ unfolding is_url_char
 url_other (glyph.Byte b) e = λ is. let f : is_url_glyph (glyph.Byte 60) ≡ true = subst (λ (k : ℕ). is_url_glyph (glyph.Byte k) ≡ true) is e in absurd (cc)
 url_other (glyph.Entity c) e = tt
 url_other glyph.Atom e = tt
-url_other glyph.Mark e = absurd (cc)
+url_other glyph.Mark e = tt
 
 run_others : (us : List Glyph) → length us ≤ url_run us → AreOthers us
 run_others [] le = tt
@@ -359,7 +398,7 @@ like_other b (glyph.Byte c) n e = λ is.
     absurd (cc)
 like_other b (glyph.Entity c) n e = tt
 like_other b glyph.Atom n e = tt
-like_other b glyph.Mark n e = absurd (cc)
+like_other b glyph.Mark n e = tt
 
 abbrev AreNoLess : List ℕ → Type 0
 AreNoLess [] = Unit {0}
@@ -468,6 +507,9 @@ lexeme_others own n = elim n [
   | inr i ↦ subst AreOthers (sym i.1) (tt, tt)
 ]
 
+mark_others : (own : List Glyph) → own ≡ glyph.Mark ∷ [] → AreOthers own
+mark_others own i = subst AreOthers (sym i) (tt, tt)
+
 -- ---- all nodes
 
 other_sealed : (xs : List Item) → LexemesEnd xs → (let own = map glyph_of xs in IsOneLexeme own ⊎ (IsTagNode own ⊎ (IsCategoryNode own ⊎ IsMediaNode own)))
@@ -489,7 +531,7 @@ node_sealed External xs l n = tailed_sealed 93 xs refl (external_tailed (map gly
 node_sealed (Bare ends) xs l n = others_sealed xs l (url_others (map glyph_of xs) n)
 node_sealed Switch xs l n = others_sealed xs l (switch_others (map glyph_of xs) n)
 node_sealed Toggle xs l n = others_sealed xs l (delimiter_others (map glyph_of xs) n)
-node_sealed (Mark ends began) xs l n = absurd n
+node_sealed (Mark ends began) xs l n = others_sealed xs l (mark_others (map glyph_of xs) n)
 node_sealed (Group g) xs l n = absurd n
 node_sealed Function xs l n = others_sealed xs l (lexeme_others (map glyph_of xs) n)
 node_sealed Node xs l n = other_sealed xs l n
@@ -498,6 +540,6 @@ pub nodes_sealed : (signs : List ContentSign) → AreNodes signs → AreKept sig
 nodes_sealed [] n k = tt
 nodes_sealed (letter c ∷ after) n k = nodes_sealed after n k
 nodes_sealed (thing t ∷ after) n k = (
-  subst IsSealed (page_sources t.source) (node_sealed t.role (page_items t.source) (lexemes_end t.source k.0) n.0),
+  subst IsSealed (node_sources t.source) (node_sealed t.role (node_items t.source) (held_ends t.source k.0.0) n.0),
   nodes_sealed after n.1 k.1,
 )

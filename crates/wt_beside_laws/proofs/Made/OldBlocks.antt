@@ -1,10 +1,11 @@
 -- A flat block in a page: its kind and delimiters, and that it is what its lines make.
-use Rattle.std.proofs.Common.{◌≡◌, ℕ, ◌<◌, None, List, [], ◌∷◌, length, refl, sym, ap, ◌∙◌, append-nil}
+use Rattle.std.proofs.Common.{◌≡◌, ℕ, ◌<◌, None, List, [], ◌∷◌, ◌++◌, length, refl, sym, ap, ◌∙◌, subst, append-nil}
 use Rattle.std.specs.Str.{IsUtf8}
 use Rattle.wt_span.specs.Items.{Item, sources}
 use Rattle.wt_tree.specs.declared.kind.Kind.{Kind}
 use Rattle.wt_tree.specs.Plain.{Face, face}
 use Rattle.wt_tree.specs.Tiling.{HasNoGroup}
+use Rattle.wt_tree.specs.Source.{flat}
 use Rattle.wt_tree.specs.Tree.{Label, Tree, tree, Trees, label}
 use Rattle.wt_expand.specs.PageItems.{page_items}
 use Rattle.wt_inline.specs.ItemTree.{plain, ItemTree, inner, forest}
@@ -13,6 +14,9 @@ use Rattle.wt_context.specs.Line.{line_parts}
 use Rattle.wt_annotated.specs.Labels.{label_at}
 use Rattle.wt_link_spelling.specs.Spelling.{children_of}
 use Rattle.wt_moved_laws.specs.Standing.{standing}
+use Rattle.wt_lines.specs.Lines.{lines}
+use Rattle.wt_lines.proofs.LineLaws.{lines_are as lines_join}
+use Rattle.wt_moved_laws.proofs.Sources.{standing_source}
 use Rattle.wt_moved_laws.proofs.Ordinary.{standing_ordinary, ordinary_ungrouped}
 use Rattle.wt_typed_blocks.specs.Sent.{kind_of}
 use Rattle.wt_typed_blocks.specs.Edited.{Pieces, page_pieces, page_node}
@@ -23,9 +27,17 @@ use Rattle.wt_text_edit_laws.specs.ParagraphParts.{joined_parts}
 use Rattle.wt_text_edit_laws.specs.TextBlocks.{TextBlock, a_paragraph, a_heading, block_of, source_of, block_items, block_tree}
 use Rattle.wt_text_edit_laws.specs.TypedHeadings.{opening}
 use Rattle.wt_text_edit_laws.proofs.Blocks.BlockLeaves.{open_items, close_items}
-use Rattle.wt_beside_laws.specs.FlatBlocks.{lines_in, begins_at}
+use Rattle.wt_text_edit_laws.proofs.Blocks.Contents.{block_source}
+use Rattle.wt_text_edit_laws.proofs.Blocks.TypedFacts.{framed}
+use Rattle.wt_beside_laws.specs.Content.{AreKept}
+use Rattle.wt_beside_laws.specs.FlatBlocks.{lines_in, begins_at, signs_in}
 use Rattle.wt_beside_laws.specs.ContentEdits.{content_edit}
+use Rattle.wt_beside_laws.specs.PageBlocks.{AreSoIn}
+use Rattle.wt_beside_laws.specs.PageSigns.{signs_of_lines, AreFlatLines}
+use Rattle.wt_beside_laws.specs.Stood.{things}
 use Rattle.wt_beside_laws.proofs.Made.OwnPages.{content_ordinary}
+use Rattle.wt_beside_laws.proofs.Marks.Within.{marks_within, lines_source, lines_bytes}
+use Rattle.wt_expand.proofs.PageLaws.{page_sources}
 
 -- ---- by its parts
 
@@ -130,3 +142,20 @@ pub no_group : (k : TextBlock) (q : List ℕ) (n : ℕ) (b : List Item) → IsUt
     → CallsNothing (block_items k q) → HasNoGroup (standing n b (block_tree k q))
 no_group k q n b u h e c =
     ordinary_ungrouped (standing n b (block_tree k q)) (standing_ordinary n b (block_tree k q) (content_ordinary k q u h e c))
+
+bytes_in : (k : TextBlock) (q : List ℕ) → lines_source (lines_in k q) ≡ q
+bytes_in a_paragraph q = lines_bytes (lines (page_items q)) (page_items q) (lines_join (page_items q)) ∙ page_sources q
+bytes_in (a_heading s) q = page_sources q
+
+-- its marks are as their roles say
+pub marks_in : (k : TextBlock) (q : List ℕ) (block : Tree) → IsIn k q block → AreFlatLines (lines_in k q) → AreKept (signs_in k q)
+    → AreSoIn block (things (signs_of_lines (length (label block).opening) (lines_in k q)))
+marks_in k q block i f kept =
+    let ls : List (List Item) = lines_in k q in
+    let opens : (label block).opening ≡ sources (open_items k) = block_opening k q block i in
+    let own : flat block ≡ source_of k q = ap flat i.is ∙ standing_source i.number i.before (block_tree k q) ∙ block_source k q in
+    let is : flat block ≡ (label block).opening ++ (lines_source ls ++ sources (close_items k)) =
+    own ∙ sym (framed k q) ∙ ap (λ (bs : List ℕ). sources (open_items k) ++ (bs ++ sources (close_items k))) (sym (bytes_in k q))
+    ∙ ap (λ (bs : List ℕ). bs ++ (lines_source ls ++ sources (close_items k))) (sym opens) in
+    marks_within ls block (sources (close_items k)) is f
+    (subst (λ (n : ℕ). AreKept (signs_of_lines n ls)) (sym (block_begins k q block i)) kept)

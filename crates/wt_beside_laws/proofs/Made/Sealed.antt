@@ -1,20 +1,16 @@
 -- Bytes in which each closing tag ends that begins there: those whose last byte is in no name and no blank, those without a `<`, and both in a row.
-use Rattle.std.proofs.Common.{arith, ◌≡◌, ◌≢◌, inl, inr, ℕ, suc, ◌+◌, ◌-◌, ◌<◌, ◌≤◌, ◌==◌, Bool, true, false, Option, Some, None, List, [], ◌∷◌, ◌++◌, length, get_or, take, drop, nat_lt, nat_le, refl, sym, ap, ◌∙◌, subst, append_assoc}
+use Rattle.std.proofs.Common.{arith, ◌≡◌, ◌≢◌, inl, inr, ℕ, suc, ◌+◌, ◌-◌, ◌≤◌, ◌==◌, Bool, true, false, Option, Some, None, List, [], ◌∷◌, ◌++◌, length, get_or, take, drop, nat_lt, refl, sym, ap, ◌∙◌, subst, append_assoc}
 use Rattle.std.specs.Prelude.{◌&&◌, ◌||◌, if◌then◌else◌, slice_index, codes}
 use Rattle.std.specs.Option.{option_map, option_or}
-use Rattle.std.specs.Char.{is_ascii_alphabetic, is_ascii_alphanumeric, is_ascii_digit, is_ascii_hexdigit}
-use Rattle.std.specs.List.{prefix_len, list_all}
-use Rattle.std.specs.Str.Parse.{digits_value}
+use Rattle.std.specs.Char.{is_ascii_alphabetic, is_ascii_alphanumeric}
+use Rattle.std.specs.List.{prefix_len}
 use Rattle.std.proofs.lemmas.Bool.{cases_lt, eqb-true}
 use Rattle.std.proofs.lemmas.List.{get_or-drop}
 use Rattle.std.proofs.lemmas.List.Sums.{prefix_len_passes}
 use Rattle.std.proofs.Math.Seq.{take-append_seam}
 use Rattle.wt_span.specs.Bytes.{is_blank, begins, name_len, blank_len, lower}
-use Rattle.wt_span.specs.Entities.{named_in, entity_names, named_entity, is_entity_number, numbered, decimal_entity, hex_entity, entity_at}
-use Rattle.wt_span.specs.Tags.{Tag, opening_tag, closing_tag, len_if_named, to_closing, with_inside, raw_by}
-use Rattle.wt_span.specs.Whole.{IsRawTag}
-use Rattle.wt_lex.proofs.Begins.{and_left, and_right, byte_is, lt_is, begins_get}
-use Rattle.wt_lex.proofs.TagForms.{TagFits, OptTag, opening_fits, OptEnds, closing_ends}
+use Rattle.wt_span.specs.Tags.{Tag, closing_tag, len_if_named, to_closing}
+use Rattle.wt_lex.proofs.Begins.{and_left}
 use Rattle.wt_lex.proofs.WholeTags.{closing_front, closing_more}
 use Rattle.wt_text_edit_laws.specs.TextBetween.{EndsBy}
 use Rattle.wt_text_edit_laws.proofs.Between.ClosingTags.{Unclosed, unclosed_byte, unclosed_rest, unclosed_behind, not_less}
@@ -149,111 +145,3 @@ pub last_ends : (c : ℕ) (ws : List ℕ) → stops c ≡ true → EndsBy stops 
 last_ends c [] e = e
 last_ends c (b ∷ []) e = e
 last_ends c (b ∷ d ∷ ws) e = last_ends c (d ∷ ws) e
-
-ends_at : (b : ℕ) (q : List ℕ) → stops (get_or (b ∷ q) (length q) 0) ≡ true → EndsBy stops (b ∷ q)
-ends_at b [] e = e
-ends_at b (c ∷ q) e = ends_at c q e
-
--- ---- raw tags and entities
-
-abbrev OptLast : List ℕ → ℕ → Option ℕ → Type 0
-OptLast bs c None = Unit {0}
-OptLast bs c (Some n) = get_or bs (n - 1) 0 ≡ c
-
-inside_by : (bs : List ℕ) (t : Tag) (o : Option ℕ) → TagFits bs t → OptEnds (drop t.len bs) o → OptLast bs 62 (option_map (λ n. t.len + n) o)
-inside_by bs t None f g = tt
-inside_by bs t (Some n) f g =
-    let z : t.len + n - 1 ≡ t.len + (n - 1) = omega (arith, g.some) in
-    ap (λ i. get_or bs i 0) z ∙ sym (get_or-drop t.len bs (n - 1) 0) ∙ g.last
-
-inside_if : (bs : List ℕ) (v : Bool) (n : ℕ) (o : Option ℕ) → get_or bs (n - 1) 0 ≡ 62 → OptLast bs 62 o → OptLast bs 62 (if v then Some n else o)
-inside_if bs true n o f g = f
-inside_if bs false n o f g = g
-
-inside_last : (bs : List ℕ) (t : Tag) → TagFits bs t → OptLast bs 62 (with_inside t bs)
-unfolding with_inside
-inside_last bs t f =
-    inside_if bs t.alone t.len (option_map (λ n. t.len + n) (to_closing t.name (drop t.len bs))) f.last
-    (inside_by bs t (to_closing t.name (drop t.len bs)) f (closing_ends t.name (drop t.len bs)))
-
-raw_last : (named : List ℕ → Bool) (o : Option Tag) (bs : List ℕ) → OptTag bs o → OptLast bs 62 (raw_by named o bs)
-raw_last named None bs f = tt
-raw_last named (Some t) bs f = by (named t.name)
-  where
-    by : (v : Bool) → OptLast bs 62 (if v then with_inside t bs else None)
-    by true = inside_last bs t f
-    by false = tt
-
--- all of the bytes
-whole_ends : (bs : List ℕ) (c : ℕ) (o : Option ℕ) → stops c ≡ true → OptLast bs c o → o ≡ Some (length bs) → EndsBy stops bs
-whole_ends [] c o e f is = tt
-whole_ends (b ∷ q) c o e f is =
-    let z : suc (length q) - 1 ≡ length q = omega arith in
-    let last : get_or (b ∷ q) (length q) 0 ≡ c =
-    sym (ap (λ i. get_or (b ∷ q) i 0) z) ∙ subst (OptLast (b ∷ q) c) is f in
-    ends_at b q (ap stops last ∙ e)
-
-pub raw_ends : (named : List ℕ → Bool) (bs : List ℕ) → IsRawTag named bs → EndsBy stops bs
-raw_ends named bs is = whole_ends bs 62 (raw_by named (opening_tag bs) bs) refl (raw_last named (opening_tag bs) bs (opening_fits bs)) is
-
--- an entity ends with its `;`
-abbrev EntityLast : List ℕ → Option (ℕ × ℕ) → Type 0
-EntityLast bs None = Unit {0}
-EntityLast bs (Some e) = get_or bs (e.1 - 1) 0 ≡ 59
-
-or_entity : (bs : List ℕ) (a b : Option (ℕ × ℕ)) → EntityLast bs a → EntityLast bs b → EntityLast bs (option_or a b)
-or_entity bs None b f g = g
-or_entity bs (Some e) b f g = f
-
-if_entity : (bs : List ℕ) (t : Bool) (o : Option (ℕ × ℕ)) → (t ≡ true → EntityLast bs o) → EntityLast bs (if t then o else None)
-if_entity bs true o f = f refl
-if_entity bs false o f = tt
-
-entry_by : (bs : List ℕ) (t : Bool) (name : List ℕ) (c : ℕ) (o : Option (ℕ × ℕ)) → (t ≡ true → get_or bs (length name - 1) 0 ≡ 59) → EntityLast bs o
-    → EntityLast bs (if t then Some (c, length name) else o)
-entry_by bs true name c o f g = f refl
-entry_by bs false name c o f g = g
-
-abbrev ends_name : List ℕ → Bool
-ends_name name = nat_lt 0 (length name) && get_or name (length name - 1) 0 == 59
-
-name_last : (name bs : List ℕ) → ends_name name ≡ true → begins name bs ≡ true → get_or bs (length name - 1) 0 ≡ 59
-name_last name bs h e =
-    let pos = lt_is 0 (length name) (and_left (nat_lt 0 (length name)) _ h) in
-    begins_get name bs e (length name - 1) (omega (arith, pos)) ∙ byte_is name (length name - 1) 59 (and_right (nat_lt 0 (length name)) _ h)
-
-table_last : (table : List (List ℕ × ℕ)) (bs : List ℕ) → list_all (λ e. ends_name e.0) table ≡ true → EntityLast bs (named_in table bs)
-table_last [] bs h = tt
-table_last ((name, c) ∷ entries) bs h =
-    entry_by bs (begins name bs) name c (named_in entries bs) (name_last name bs (and_left (ends_name name) _ h))
-    (table_last entries bs (and_right (ends_name name) _ h))
-
-names_last : (bs : List ℕ) → EntityLast bs (named_entity bs)
-unfolding named_entity entity_names
-names_last bs = table_last entity_names bs refl
-
-numbered_last : (start most base : ℕ) (is_digit : ℕ → Bool) (bs : List ℕ) → EntityLast bs (numbered start most base is_digit bs)
-numbered_last start most base is_digit bs =
-    let n = prefix_len is_digit (drop start bs) in
-    let c = digits_value base (take n (drop start bs)) in
-    if_entity bs (nat_lt 0 n && (nat_le n most && (get_or bs (start + n) 0 == 59 && is_entity_number c))) (Some (c, start + n + 1))
-    (λ e.
-    let last = byte_is bs (start + n) 59 (and_left (get_or bs (start + n) 0 == 59) _ (and_right (nat_le n most) _ (and_right (nat_lt 0 n) _ e))) in
-    let z : start + n + 1 - 1 ≡ start + n = omega arith in
-    ap (λ k. get_or bs k 0) z ∙ last)
-
-decimal_last : (bs : List ℕ) → EntityLast bs (decimal_entity bs)
-unfolding decimal_entity
-decimal_last bs = if_entity bs (begins (codes "&#") bs) (numbered 2 7 10 is_ascii_digit bs) (λ e. numbered_last 2 7 10 is_ascii_digit bs)
-
-hex_last : (bs : List ℕ) → EntityLast bs (hex_entity bs)
-unfolding hex_entity
-hex_last bs =
-    if_entity bs (begins (codes "&#x") bs || begins (codes "&#X") bs) (numbered 3 6 16 is_ascii_hexdigit bs) (λ e. numbered_last 3 6 16 is_ascii_hexdigit bs)
-
-entity_last : (bs : List ℕ) → EntityLast bs (entity_at bs)
-unfolding entity_at
-entity_last bs = or_entity bs (named_entity bs) _ (names_last bs) (or_entity bs (decimal_entity bs) (hex_entity bs) (decimal_last bs) (hex_last bs))
-
-pub entity_ends : (c : ℕ) (bs : List ℕ) → entity_at bs ≡ Some (c, length bs) → EndsBy stops bs
-entity_ends c bs is = whole_ends bs 59 (Some (length bs)) refl (subst (EntityLast bs) is (entity_last bs)) refl

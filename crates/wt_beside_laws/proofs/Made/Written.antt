@@ -10,7 +10,6 @@ use Rattle.wt_expand.specs.PageItems.{page_items}
 use Rattle.wt_lines.specs.declared.kind.LineKind.TheVariants as line
 use Rattle.wt_lines.specs.Kinds.{line_kind}
 use Rattle.wt_lines.specs.Lines.{lines, content}
-use Rattle.wt_text_edit_laws.specs.Contents.{AreUnled}
 use Rattle.wt_text_edit_laws.specs.NoCalls.{NonePairs, AreUnbraced, CallsNothing}
 use Rattle.wt_text_edit_laws.specs.TextBetween.{StandsBehind}
 use Rattle.wt_text_edit_laws.specs.TextBlocks.{TextBlock, a_paragraph, a_heading, source_of, block_items}
@@ -21,18 +20,18 @@ use Rattle.wt_text_edit_laws.proofs.Blocks.TypedBraces.{line_unbraced}
 use Rattle.wt_text_edit_laws.proofs.Prose.InFront.{Reads, reads_nothing, read_break, read_items}
 use Rattle.wt_text_edit_laws.proofs.Prose.Uncommented.{BeginsUncommented}
 use Rattle.wt_beside_laws.specs.Calm.{IsCalm, AreCalm}
-use Rattle.wt_beside_laws.specs.Content.{AreKept}
+use Rattle.wt_beside_laws.specs.Flat.{IsReadIn}
 use Rattle.wt_beside_laws.specs.FlatBlocks.{lines_in}
 use Rattle.wt_beside_laws.specs.InHeadings.{AreOnOneLine}
-use Rattle.wt_beside_laws.specs.Lines.{IsLineOfText, AreCharacters, AreUnbroken, line_items, later_lines, content_lines}
-use Rattle.wt_beside_laws.specs.Nodes.{AreNodes}
+use Rattle.wt_beside_laws.specs.Lines.{AreLinesOfText, AreCharacters, AreUnbroken, line_items, later_lines, content_lines}
 use Rattle.wt_beside_laws.proofs.CalmContents.{content_unbraced, nowiki_calm, reference_calm}
-use Rattle.wt_beside_laws.proofs.Contents.{content_reads, content_alone}
 use Rattle.wt_beside_laws.proofs.FlatAgain.{EachSource, HoldsOfPut}
 use Rattle.wt_beside_laws.proofs.LineHeadings.{same_items}
 use Rattle.wt_beside_laws.proofs.LineItems.{content_lines_are}
-use Rattle.wt_beside_laws.proofs.LineKinds.{lines_are_text}
-use Rattle.wt_beside_laws.proofs.LineParagraphs.{unmarked}
+use Rattle.wt_beside_laws.proofs.LineKinds.{lines_are_text, are_lines_of_text}
+use Rattle.wt_beside_laws.proofs.FlatLines.{lines_unled}
+use Rattle.wt_beside_laws.proofs.Marks.Commented.{content_alone, content_reads}
+use Rattle.wt_page.specs.Rows.{marks_len}
 
 -- ---- a content of a block of this kind
 
@@ -50,7 +49,7 @@ none_later s before (letter c ∷ after) o =
     ∙ none_later s (letter c ∷ before) after o.1
 none_later s before (thing t ∷ after) o = none_later s (thing t ∷ before) after o
 
-pub lines_by : (k : TextBlock) (s : Setting) (signs : List ContentSign) → AreKept signs → AreUnbroken signs → FitsIn k s signs
+pub lines_by : (k : TextBlock) (s : Setting) (signs : List ContentSign) → IsReadIn s signs → AreUnbroken signs → FitsIn k s signs
     → lines_in k (spelled s signs) ≡ content_lines s signs
 lines_by a_paragraph s signs kept unbroken fits = content_lines_are s signs kept unbroken
 lines_by (a_heading h) s signs kept unbroken fits =
@@ -58,29 +57,29 @@ lines_by (a_heading h) s signs kept unbroken fits =
 
 -- ---- how it is read
 
-pub before_any : (s : Setting) (signs : List ContentSign) → AreKept signs → IsBeforeAny (spelled s signs)
+pub before_any : (s : Setting) (signs : List ContentSign) → IsReadIn s signs → IsBeforeAny (spelled s signs)
 before_any s signs k rest xs r =
-    subst (λ (ys : List Item). Reads (spelled s signs ++ rest) (ys ++ xs)) (sym (content_alone s signs k)) (content_reads s [] signs k rest xs r)
+    subst (λ (ys : List Item). Reads (spelled s signs ++ rest) (ys ++ xs)) (sym (content_alone s signs k)) (content_reads s signs k rest xs r)
 
 stands : (bs : List ℕ) → BeginsUncommented bs → StandsBehind bs
 stands bs h = record { uncommented = h.is }
 
-pub uncommented : (s : Setting) (signs : List ContentSign) (rest : List ℕ) → AreKept signs → StandsBehind rest → StandsBehind (spelled s signs ++ rest)
+pub uncommented : (s : Setting) (signs : List ContentSign) (rest : List ℕ) → IsReadIn s signs → StandsBehind rest → StandsBehind (spelled s signs ++ rest)
 uncommented s signs rest k b =
     let r : Reads (spelled s signs ++ rest) (page_items (spelled s signs) ++ page_items rest) = before_any s signs k rest (page_items rest) (behind_reads rest b) in
     stands (spelled s signs ++ rest) r.begins
 
-pub firm : (s : Setting) (signs : List ContentSign) (rest : List ℕ) → AreKept signs → StandsBehind rest
+pub firm : (s : Setting) (signs : List ContentSign) (rest : List ℕ) → IsReadIn s signs → StandsBehind rest
     → page_items (spelled s signs ++ rest) ≡ page_items (spelled s signs) ++ page_items rest
 firm s signs rest k b =
     read_items (spelled s signs ++ rest) (page_items (spelled s signs) ++ page_items rest) (before_any s signs k rest (page_items rest) (behind_reads rest b))
 
-pub alone : (s : Setting) (signs : List ContentSign) → AreKept signs → StandsBehind (spelled s signs)
+pub alone : (s : Setting) (signs : List ContentSign) → IsReadIn s signs → StandsBehind (spelled s signs)
 alone s signs k =
     let r : Reads (spelled s signs ++ []) (page_items (spelled s signs) ++ []) = before_any s signs k [] [] reads_nothing in
     subst StandsBehind (append-nil (spelled s signs)) (stands (spelled s signs ++ []) r.begins)
 
-pub before_break : (s : Setting) (signs : List ContentSign) → AreKept signs → StandsBehind (spelled s signs ++ 10 ∷ [])
+pub before_break : (s : Setting) (signs : List ContentSign) → IsReadIn s signs → StandsBehind (spelled s signs ++ 10 ∷ [])
 before_break s signs k =
     let r : Reads (spelled s signs ++ 10 ∷ []) (page_items (spelled s signs) ++ char None 10 ∷ []) =
     before_any s signs k (10 ∷ []) (char None 10 ∷ []) (read_break [] [] reads_nothing) in
@@ -100,28 +99,23 @@ unended_so k q f b =
 
 -- ---- which lines these are
 
-all_texts : (n : ℕ) (ls : List (List Item)) → All (IsLineOfText n) ls → All (λ l. line_kind n l ≡ line.Text) ls
-all_texts n [] h = All-nil (λ l. line_kind n l ≡ line.Text)
-all_texts n (l ∷ ls) h =
-    All-cons (λ l. line_kind n l ≡ line.Text) l ls (All-head (IsLineOfText n) l ls h).text (all_texts n ls (All-tail (IsLineOfText n) l ls h))
-
-pub texts_by : (n : ℕ) (s : Setting) (signs : List ContentSign) → s.within ≡ false → AreCharacters signs → AreNodes signs → AreKept signs → AreUnbroken signs
+pub texts_by : (n : ℕ) (s : Setting) (signs : List ContentSign) → IsReadIn s signs → AreCharacters signs → AreUnbroken signs
     → All (λ l. line_kind n l ≡ line.Text) (lines (page_items (spelled s signs)))
-texts_by n s signs block typed nodes kept unbroken =
-    subst (All (λ l. line_kind n l ≡ line.Text)) (sym (content_lines_are s signs kept unbroken)) (all_texts n (content_lines s signs) (lines_are_text n s signs block typed nodes))
+texts_by n s signs k typed unbroken =
+    subst (All (λ l. line_kind n l ≡ line.Text)) (sym (content_lines_are s signs k unbroken)) (lines_are_text n s signs k.within typed k.nodes)
 
-pub all_unled : (ls : List (List Item)) → All (IsLineOfText 0) (map content ls) → AreUnled ls
-all_unled [] h = tt
-all_unled (l ∷ ls) h =
-    (unmarked 0 l (All-head (IsLineOfText 0) (content l) (map content ls) h), all_unled ls (All-tail (IsLineOfText 0) (content l) (map content ls) h))
+pub unled_by : (s : Setting) (signs : List ContentSign) → IsReadIn s signs → AreCharacters signs → AreUnbroken signs → marks_len (page_items (spelled s signs)) ≡ 0
+unled_by s signs k typed unbroken =
+    lines_unled 0 (page_items (spelled s signs))
+    (subst (AreLinesOfText 0) (sym (content_lines_are s signs k unbroken)) (are_lines_of_text 0 s signs k.within k.led.first typed k.nodes))
 
 -- ---- it calls nothing
 
-block_unbraced : (k : TextBlock) (s : Setting) (signs : List ContentSign) → HasFrame k → AreKept signs → AreCalm signs → AreUnbraced (block_items k (spelled s signs))
+block_unbraced : (k : TextBlock) (s : Setting) (signs : List ContentSign) → HasFrame k → IsReadIn s signs → AreCalm signs → AreUnbraced (block_items k (spelled s signs))
 block_unbraced a_paragraph s signs f kept calm = content_unbraced s signs kept calm
 block_unbraced (a_heading h) s signs f kept calm = line_unbraced h (page_items (spelled s signs)) f (content_unbraced s signs kept calm)
 
-pub calls_none : (k : TextBlock) (s : Setting) (signs : List ContentSign) → HasFrame k → AreKept signs → AreCalm signs → CallsNothing (block_items k (spelled s signs))
+pub calls_none : (k : TextBlock) (s : Setting) (signs : List ContentSign) → HasFrame k → IsReadIn s signs → AreCalm signs → CallsNothing (block_items k (spelled s signs))
 calls_none k s signs f kept calm =
     let xs : List Item = block_items k (spelled s signs) in subst NonePairs (sym (none_unbraced xs (block_unbraced k s signs f kept calm))) tt
 

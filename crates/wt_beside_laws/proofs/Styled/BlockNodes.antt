@@ -25,6 +25,7 @@ use Rattle.wt_link_spelling.specs.Spelling.{children_of}
 use Rattle.wt_context.specs.Styled.{style_kind}
 use Rattle.wt_context.proofs.PlainNodes.{IsText}
 use Rattle.wt_beside_laws.specs.StyledBlocks.{numbers_by, numbers_of, all_numbers, found_thing, things_with}
+use Rattle.wt_beside_laws.specs.PageBlocks.{AreSoIn}
 use Rattle.wt_beside_laws.proofs.OwnSigns.{Every, every_left, every_right, Finds, own_found, inside_found}
 use Rattle.wt_beside_laws.proofs.PartThings.{IsThingForm, IsThing, thing_at, tree_source, HaveThings, parts_width, loose_width, leaf_source, nodes_of, stands_form, node_number}
 
@@ -32,7 +33,7 @@ use Rattle.wt_beside_laws.proofs.PartThings.{IsThingForm, IsThing, thing_at, tre
 
 -- behind so many bytes of its block, wherever it stands
 pub record IsFound (at : ℕ) (u : ItemTree) (ts : List Thing) : Type 0 where
-  pub found : (block : Tree) (from n : ℕ) (before : List Item) → 0 < n → Every (Finds block) (found_from at from (standing n before u))
+  pub found : (block : Tree) (from n : ℕ) (before : List Item) → 0 < n → AreSoIn block ts → Every (Finds block) (found_from at from (standing n before u))
       → things_with (kept_nodes block) (numbers_of (standing n before u)) ≡ ts
 
 abbrev pub HaveFound : ℕ → List Part → List Thing → Type 0
@@ -77,12 +78,12 @@ finds_own block at from (tree l ts) d e = own_found (Finds block) at from l ts d
 
 thing_found : (at : ℕ) (u : ItemTree) (r : Role) → IsThing u r → IsFound at u (thing_at r (tree_source u) at ∷ [])
 thing_found at u r i = record {
-  found = λ block from n before some e.
+  found = λ block from n before some m e.
       let t : Tree = standing n before u in
       let f = finds_own block at from t (node_number n before u r some i) e in
       ap (things_with (kept_nodes block)) (tree_number t (stands_form n before u r i))
       ∙ ap (λ (o : Option Kept). found_thing o ++ []) f
-      ∙ ap₂ (λ (q : Role) (bs : List ℕ). thing_at q bs at ∷ []) (i.role block (found_at at from t).extent n before) (standing_source n before u);
+      ∙ ap₂ (λ (q : Role) (bs : List ℕ). thing_at q bs at ∷ []) (i.role block (found_at at from t).extent n before m.0) (standing_source n before u);
 }
 
 pub from_things : (at : ℕ) (ps : List Part) (ts : List Thing) → HaveThings at ps ts → HaveFound at ps ts
@@ -113,12 +114,16 @@ past_found k o b at (loose j i c ∷ r) others ts run h =
     subst (λ (n : ℕ). HaveFound n others ts) z (past_found j i c (at + 1) r others ts run.1 h.1)
 past_found k o b at (node x ∷ r) others ts run h = absurd (let no = run.0 in cc)
 
+so_parts : (block : Tree) (xs ys : List Thing) → AreSoIn block (xs ++ ys) → AreSoIn block xs × AreSoIn block ys
+so_parts block [] ys h = (tt, h)
+so_parts block (x ∷ xs) ys h = let r = so_parts block xs ys h.1 in ((h.0, r.0), r.1)
+
 runs_found : (rs : List (List Part)) (ps : List Part) (block : Tree) (at from n : ℕ) (before : List Item) (ts : List Thing) → 0 < n → AreRuns one_leaf rs ps
-    → HaveFound at ps ts → Every (Finds block) (found_in at from (nodes_of n before (forest (map child rs))))
+    → HaveFound at ps ts → AreSoIn block ts → Every (Finds block) (found_in at from (nodes_of n before (forest (map child rs))))
     → things_with (kept_nodes block) (all_numbers (nodes_of n before (forest (map child rs)))) ≡ ts
-runs_found [] ps block at from n before ts some a h e = sym (subst (λ (qs : List Part). HaveFound at qs ts) a h)
-runs_found ([] ∷ rs) ps block at from n before ts some a h e = absurd a.2
-runs_found ((loose k o b ∷ r) ∷ rs) ps block at from n before ts some a h e =
+runs_found [] ps block at from n before ts some a h so e = sym (subst (λ (qs : List Part). HaveFound at qs ts) a h)
+runs_found ([] ∷ rs) ps block at from n before ts some a h so e = absurd a.2
+runs_found ((loose k o b ∷ r) ∷ rs) ps block at from n before ts some a h so e =
     let run : List Part = loose k o b ∷ r in
     let u : ItemTree = child run in
     let t : Tree = standing n before u in
@@ -129,26 +134,27 @@ runs_found ((loose k o b ∷ r) ∷ rs) ps block at from n before ts some a h e 
     loose_width k o b r a.0 a.2 ∙ ap length (sym (leaf_source k (held_parts run))) ∙ ap length (sym (standing_source n before u)) in
     ap (λ (ns : List ℕ). things_with (kept_nodes block) (ns ++ all_numbers us)) (leaf_numbers k (held_parts run) n before)
     ∙ runs_found rs a.0 block (at + length (flat t)) (from + length (visible (items t))) m (before ++ tree_items u) ts (omega (arith, some)) a.3
-    (subst (λ (w : ℕ). HaveFound (at + w) a.0 ts) wide behind) (every_right (Finds block) (found_from at from t) _ e)
-runs_found ((node u ∷ []) ∷ rs) ps block at from n before ts some a h e =
+    (subst (λ (w : ℕ). HaveFound (at + w) a.0 ts) wide behind) so (every_right (Finds block) (found_from at from t) _ e)
+runs_found ((node u ∷ []) ∷ rs) ps block at from n before ts some a h so e =
     let t : Tree = standing n before u in
     let m : ℕ = n + count (placed before u) in
     let us : Trees = nodes_of m (before ++ tree_items u) (forest (map child rs)) in
     let own : HaveFound at (node u ∷ a.0) ts = subst (λ (qs : List Part). HaveFound at qs ts) a.1 h in
     let wide : length (tree_source u) ≡ length (flat t) = ap length (sym (standing_source n before u)) in
+    let each = so_parts block own.0 own.1 (subst (AreSoIn block) own.2 so) in
     with_append (kept_nodes block) (numbers_of t) (all_numbers us)
-    ∙ ap (λ (ss : List Thing). ss ++ things_with (kept_nodes block) (all_numbers us)) (own.3.found block from n before some (every_left (Finds block) (found_from at from t) _ e))
+    ∙ ap (λ (ss : List Thing). ss ++ things_with (kept_nodes block) (all_numbers us)) (own.3.found block from n before some each.0 (every_left (Finds block) (found_from at from t) _ e))
     ∙ ap (λ (ss : List Thing). own.0 ++ ss)
     (runs_found rs a.0 block (at + length (flat t)) (from + length (visible (items t))) m (before ++ tree_items u) own.1 (omega (arith, some)) a.3
-    (subst (λ (w : ℕ). HaveFound (at + w) a.0 own.1) wide own.4) (every_right (Finds block) (found_from at from t) _ e))
+    (subst (λ (w : ℕ). HaveFound (at + w) a.0 own.1) wide own.4) each.1 (every_right (Finds block) (found_from at from t) _ e))
     ∙ sym own.2
-runs_found ((node u ∷ p ∷ r) ∷ rs) ps block at from n before ts some a h e = absurd (let no = a.2.0 in cc)
+runs_found ((node u ∷ p ∷ r) ∷ rs) ps block at from n before ts some a h so e = absurd (let no = a.2.0 in cc)
 
-pub parts_found : (ps : List Part) (block : Tree) (at from n : ℕ) (before : List Item) (ts : List Thing) → 0 < n → HaveFound at ps ts
+pub parts_found : (ps : List Part) (block : Tree) (at from n : ℕ) (before : List Item) (ts : List Thing) → 0 < n → HaveFound at ps ts → AreSoIn block ts
     → Every (Finds block) (found_in at from (nodes_of n before (forest (children ps))))
     → things_with (kept_nodes block) (all_numbers (nodes_of n before (forest (children ps)))) ≡ ts
 unfolding children
-parts_found ps block at from n before ts some h e = runs_found (runs one_leaf ps) ps block at from n before ts some (runs_are one_leaf ps) h e
+parts_found ps block at from n before ts some h so e = runs_found (runs one_leaf ps) ps block at from n before ts some (runs_are one_leaf ps) h so e
 
 -- ---- a style
 
@@ -186,7 +192,7 @@ found_inside P at from (tree l ts) h e = inside_found P at from l ts h e
 pub style_found : (kind : Bool) (at : ℕ) (opening : List Item) (ps : List Part) (closing : List Item) (ts : List Thing) → HaveFound (at + length (sources opening)) ps ts
     → IsFound at (style_round kind opening ps closing) ts
 style_found kind at opening ps closing ts h = record {
-  found = λ block from n before some e.
+  found = λ block from n before some so e.
       let t : Tree = standing n before (style_round kind opening ps closing) in
       let c : children_of t ≡ nodes_of (n + 1) (before ++ opening) (forest (children ps)) = style_children kind n before opening closing ps in
       let m : ℕ = length (sources opening) in
@@ -196,7 +202,7 @@ style_found kind at opening ps closing ts h = record {
       (subst (λ (us : Trees). Every (Finds block) (found_in (at + length (label t).opening) (from + length (label t).opening) us)) c
       (found_inside (Finds block) at from t (style_holds kind n before opening closing ps) e)) in
       ap (things_with (kept_nodes block)) (style_numbers kind n before opening closing ps ∙ ap all_numbers c)
-      ∙ parts_found ps block (at + m) (from + m) (n + 1) (before ++ opening) ts (omega (arith, some)) h inside;
+      ∙ parts_found ps block (at + m) (from + m) (n + 1) (before ++ opening) ts (omega (arith, some)) h so inside;
 }
 
 -- ---- how wide it is

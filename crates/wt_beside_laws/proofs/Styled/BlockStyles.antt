@@ -2,6 +2,7 @@
 use Rattle.std.proofs.Common.{arith, ◌≡◌, ℕ, zero, suc, ◌+◌, ◌-◌, ◌<◌, ◌≤◌, Bool, true, false, not, Option, Some, None, List, [], ◌∷◌, ◌++◌, length, map, take, drop, refl, sym, ap, ◌∙◌, subst, append-nil}
 use Rattle.std.specs.Prelude.{◌||◌}
 use Rattle.std.specs.List.{flat_map}
+use Rattle.std.proofs.lemmas.Bool.Decides.{nat_tests}
 use Rattle.std.proofs.lemmas.Grind.{flat_map-append}
 use Rattle.wt_span.specs.Items.{Item, char, whole, sources}
 use Rattle.wt_span.specs.Runs.{runs, IsRun, AreRuns}
@@ -36,7 +37,7 @@ use Rattle.wt_context.proofs.TilePlaces.{tiles_placed}
 use Rattle.wt_typed_blocks.specs.Sent.{Block}
 use Rattle.wt_text_edit_laws.specs.ParagraphParts.{joined_parts}
 use Rattle.wt_beside_laws.specs.Nodes.{AreNodes}
-use Rattle.wt_beside_laws.specs.PageBlocks.{IsBlockOfLines}
+use Rattle.wt_beside_laws.specs.PageBlocks.{IsBlockOfLines, AreSoIn}
 use Rattle.wt_beside_laws.specs.PageSigns.{line_signs, signs_of_lines, AreFlatTiles, AreFlatLines}
 use Rattle.wt_beside_laws.specs.Stood.{things}
 use Rattle.wt_beside_laws.specs.StyledBlocks.{all_numbers, things_with}
@@ -54,6 +55,7 @@ use Rattle.wt_beside_laws.proofs.Styled.BlockNodes.{IsFound, HaveFound, found_bo
 pub record QuoteSegment (u : Segment) : Type 0 where
   pub origin : Option ℕ
   pub byte : ℕ
+  pub is : byte ≡ 39
   pub items : u.items ≡ char origin byte ∷ []
   pub parts : u.parts ≡ loose Text origin byte ∷ []
 
@@ -86,7 +88,7 @@ not_first false b e f = cc
 
 run_quote : (r others : List Item) → IsRun one_stretch r others → (loose_segment r).quote ≡ true → QuoteSegment (loose_segment r)
 run_quote [] others h q = absurd h
-run_quote (char o b ∷ []) others h q = record { origin = o; byte = b; items = refl; parts = refl }
+run_quote (char o b ∷ []) others h q = record { origin = o; byte = b; is = grind (arith, nat_tests, q); items = refl; parts = refl }
 run_quote (whole f o bs ∷ []) others h q = cc
 run_quote (x ∷ y ∷ r) others h q = absurd (not_first (is_quote x) (is_quote y) h.0 q)
 
@@ -106,7 +108,7 @@ all_quotes ((w, xs) ∷ ps) =
     (tile_quotes (tile_tree context_parts in_line w.kind w xs) xs) (all_quotes ps)
 
 -- delimiters have no node
-quotes_none : (us : List Segment) (at : ℕ) (ts : List Thing) → AreQuotes us → QuotesAre us → HaveThings at (segment_parts us) ts → ts ≡ []
+pub quotes_none : (us : List Segment) (at : ℕ) (ts : List Thing) → AreQuotes us → QuotesAre us → HaveThings at (segment_parts us) ts → ts ≡ []
 quotes_none [] at ts q a h = h
 quotes_none (u ∷ us) at ts q a h =
     let k = a.0 q.0 in
@@ -129,14 +131,14 @@ pub parts_cut : (low mid high : ℕ) (us : List Segment) → low ≤ mid → mid
 parts_cut low mid high us l m =
     ap segment_parts (between_both low mid high us l m) ∙ flat_map-append (λ (u : Segment). u.parts) (between low mid us) (between mid high us)
 
-record Cut (at : ℕ) (ps qs : List Part) (ts : List Thing) : Type 0 where
-  first : List Thing
-  later : List Thing
-  is : ts ≡ first ++ later
-  own : HaveThings at ps first
-  rest : HaveThings (at + parts_width ps) qs later
+pub record Cut (at : ℕ) (ps qs : List Part) (ts : List Thing) : Type 0 where
+  pub first : List Thing
+  pub later : List Thing
+  pub is : ts ≡ first ++ later
+  pub own : HaveThings at ps first
+  pub rest : HaveThings (at + parts_width ps) qs later
 
-things_cut : (at : ℕ) (ps qs : List Part) (ts : List Thing) → HaveThings at (ps ++ qs) ts → Cut at ps qs ts
+pub things_cut : (at : ℕ) (ps qs : List Part) (ts : List Thing) → HaveThings at (ps ++ qs) ts → Cut at ps qs ts
 things_cut at [] qs ts h =
     let z : at ≡ at + 0 = omega arith in
     record { first = []; later = ts; is = refl; own = refl; rest = subst (λ (n : ℕ). HaveThings n qs ts) z h }
@@ -297,10 +299,11 @@ lines_found at (xs ∷ ys ∷ ls) f n =
 
 nodes_by : (k : Block) (n : ℕ) (before opening closing : List Item) (ls : List (List Item)) → 0 < n
     → HasNoGroup (standing n before (block_by k opening (joined_parts ls) closing)) → AreFlatLines ls
+    → (let block : Tree = standing n before (block_by k opening (joined_parts ls) closing) in AreSoIn block (things (signs_of_lines (length (label block).opening) ls)))
     → things_with (kept_nodes (standing n before (block_by k opening (joined_parts ls) closing)))
     (all_numbers (children_of (standing n before (block_by k opening (joined_parts ls) closing))))
     ≡ things (signs_of_lines (length (label (standing n before (block_by k opening (joined_parts ls) closing))).opening) ls)
-nodes_by k n before opening closing ls some g f =
+nodes_by k n before opening closing ls some g f so =
     let ps : List Part = joined_parts ls in
     let block : Tree = standing n before (block_by k opening ps closing) in
     let at : ℕ = 0 + length (label block).opening in
@@ -310,11 +313,12 @@ nodes_by k n before opening closing ls some g f =
     let z : at ≡ length (label block).opening = omega arith in
     ap (λ (us : Trees). things_with (kept_nodes block) (all_numbers us)) e
     ∙ parts_found ps block at at (n + 1) (before ++ opening) (things (signs_of_lines at ls)) (omega arith)
-    (lines_found at ls f (flat_nodes ls at (signs_of_lines at ls) f refl)) (subst (λ (us : Trees). Every (Finds block) (found_in at at us)) e found)
+    (lines_found at ls f (flat_nodes ls at (signs_of_lines at ls) f refl)) (subst (λ (i : ℕ). AreSoIn block (things (signs_of_lines i ls))) (sym z) so) (subst (λ (us : Trees). Every (Finds block) (found_in at at us)) e found)
     ∙ ap (λ (i : ℕ). things (signs_of_lines i ls)) z
 
 pub styled_nodes : (ls : List (List Item)) (block : Tree) → AreFlatLines ls → IsBlockOfLines ls block
     → things_with (kept_nodes block) (all_numbers (children_of block)) ≡ things (signs_of_lines (length (label block).opening) ls)
 styled_nodes ls block f b =
     subst (λ (t : Tree). things_with (kept_nodes t) (all_numbers (children_of t)) ≡ things (signs_of_lines (length (label t).opening) ls)) (sym b.is)
-    (nodes_by b.form b.number b.before b.opening b.closing ls b.some (subst HasNoGroup b.is b.ungrouped) f)
+    (nodes_by b.form b.number b.before b.opening b.closing ls b.some (subst HasNoGroup b.is b.ungrouped) f
+    (subst (λ (t : Tree). AreSoIn t (things (signs_of_lines (length (label t).opening) ls))) b.is b.marks))

@@ -74,9 +74,9 @@ edit_of = record {
     ((record { kind = refl; id = refl; attrs = refl; mw = refl; shown = λ e. refl; unmarked = refl }, tt), (inl refl, tt, tt)),
   );
   are = ((are_letters.0, tt), (tt, ((are_letters.1, tt), tt)));
+  led = record { first = λ e. absurd (cc); others = ((λ e. absurd (cc)), ((λ e. absurd (cc)), ((λ e. absurd (cc)), ((λ e. absurd (cc)), ((λ e. absurd (cc)), tt))))) };
   fit = tt;
-  nest = ((refl, ((λ e. refl), tt)), (tt, ((refl, ((λ e. refl), tt)), tt)));
-  apart = (tt, (tt, (tt, (tt, tt))));
+  new = (((λ e. refl), tt), (refl, refl, ((λ e. refl), tt), tt));
 }
 
 -- so it is of the page's block

@@ -7,7 +7,6 @@ use Rattle.wt_quotes.specs.Styles.{style_tree_of}
 use Rattle.wt_guards.specs.Content.{ContentSign, Thing, letter, thing}
 use Rattle.wt_guards.specs.Guards.{Setting, nowiki, is_guarded}
 use Rattle.wt_guards.specs.Letters.{is_escaped}
-use Rattle.wt_expand.specs.PageItems.{page_items}
 use Rattle.wt_inline.specs.declared.loose.Loose.TheVariants.{Text}
 use Rattle.wt_inline.specs.ItemTree.{forest, held_by_all}
 use Rattle.wt_inline.specs.Parts.{Part, loose, node, children, parts}
@@ -36,15 +35,16 @@ use Rattle.wt_beside_laws.specs.Styled.{StyledContent, finished, sign, styled, d
 use Rattle.wt_beside_laws.specs.StyledNodes.{IsPut, AreSomeAndPut}
 use Rattle.wt_beside_laws.proofs.Each.{Each}
 use Rattle.wt_beside_laws.proofs.Contents.{nowiki_reads}
-use Rattle.wt_beside_laws.proofs.Firm.{alone_as}
+use Rattle.wt_beside_laws.proofs.NodeItems.{node_as}
 use Rattle.wt_beside_laws.proofs.LineThings.{nodes_parts}
 use Rattle.wt_beside_laws.proofs.PageSigns.{flat_nodes}
 use Rattle.wt_beside_laws.proofs.Made.Closes.{each_both}
-use Rattle.wt_beside_laws.proofs.Made.Items.{IsHeld, AreHeld, PartsHave, have_both, children_have, NodesHave, children_nodes, ThingHas, things_have, guard_has, letter_has}
+use Rattle.wt_beside_laws.proofs.Made.Items.{IsOwnNode, AreOwnNodes, PartsHave, have_both, children_have, NodesHave, children_nodes, ThingHas, things_have, guard_has, letter_has}
 use Rattle.wt_beside_laws.proofs.Styled.BlockNodes.{style_round}
 use Rattle.wt_beside_laws.proofs.Styled.BlockStyles.{QuotesAre, quotes_between, parts_cut, line_quotes, line_fill, line_is, line_things}
 use Rattle.wt_beside_laws.proofs.Styled.SentStyles.{nowiki_alone}
 use Rattle.wt_beside_laws.proofs.Styled.StyledNodes.{each_some}
+use Rattle.wt_beside_laws.specs.NodeItems.{node_items}
 
 -- ---- the nodes among parts
 
@@ -73,7 +73,7 @@ inside_have opening ps closing h f =
     let held : List Item = held_by_all (forest (children ps)) in
     children_nodes ps (h, (all_of held closing (all_of opening (held ++ closing) f).1).0)
 
-style_have : (kind : Bool) (opening : List Item) (ps : List Part) (closing : List Item) → IsHeld (style_round kind opening ps closing) → NodesHave ps
+style_have : (kind : Bool) (opening : List Item) (ps : List Part) (closing : List Item) → IsOwnNode (style_round kind opening ps closing) → NodesHave ps
 style_have true opening ps closing h = inside_have opening ps closing h.0.1 h.1
 style_have false opening ps closing h = inside_have opening ps closing h.0.1 h.1
 
@@ -141,13 +141,13 @@ each_own : (ts : List Thing) → Each ThingHas ts → Each OwnHas ts
 each_own [] h = tt
 each_own (t ∷ ts) h = ((λ f. h.0), each_own ts h.1)
 
-nowiki_own : PartsHave (line_parts (page_items nowiki))
-nowiki_own = subst PartsHave (sym (ap line_parts (alone_as nowiki (guard_items true) nowiki_reads) ∙ nowiki_alone)) (guard_has true)
+nowiki_own : PartsHave (line_parts (node_items nowiki))
+nowiki_own = subst PartsHave (sym (ap line_parts (node_as nowiki (guard_items true) nowiki_reads) ∙ nowiki_alone)) (guard_has true)
 
 put_has : (t : Thing) → IsPut t → OwnHas t
 put_has t p f = elim p [
   | inl m ↦ absurd (subst IsFlat m.1 f)
-  | inr w ↦ subst (λ (bs : List ℕ). PartsHave (line_parts (page_items bs))) (sym w.1) nowiki_own
+  | inr w ↦ subst (λ (bs : List ℕ). PartsHave (line_parts (node_items bs))) (sym w.1) nowiki_own
 ]
 
 each_behind : (P : Thing → Type 0) (t : StyledContent) (after : List ContentSign) → Each P (things (signs_before t after)) → Each P (things after)
@@ -157,7 +157,7 @@ each_behind P (sign (thing x) t) after h = each_behind P t after h.1
 each_behind P (styled kind opening closing inside t) after h =
     each_behind P t after (each_behind P inside (delimiter kind closing ∷ signs_before t after) h.1).1
 
-style_held : (kind : Bool) (ps : List Part) → PartsHave ps → IsHeld (style_tree kind ps)
+style_held : (kind : Bool) (ps : List Part) → PartsHave ps → IsOwnNode (style_tree kind ps)
 style_held true ps f =
     let h = children_have ps f in
     let held : List Item = held_by_all (forest (children ps)) in
@@ -179,7 +179,7 @@ styled_has bold italic s before (sign (letter c) t) after k f =
     (have_both own later (letter_has escaped c) (styled_has bold italic s (letter c ∷ before) t after k.1 f))
 styled_has bold italic s before (sign (thing x) t) after k f =
     let guarded : Bool = is_guarded s before (thing x ∷ signs_before t after) in
-    let own : List Part = line_parts (page_items x.source) in
+    let own : List Part = line_parts (node_items x.source) in
     let later : List Part = styled_parts false s (thing x ∷ before) t after in
     have_both (parts Text (guard_items guarded)) (own ++ later) (guard_has guarded)
     (have_both own later (f.0 k.0) (styled_has bold italic s (thing x ∷ before) t after k.1 f.1))
@@ -197,7 +197,7 @@ styled_has bold italic s before (styled kind opening closing inside t) after k f
 
 pub styled_have_items : (s : Setting) (ls : List (List Item)) (at : ℕ) (t : StyledContent) → AreFlatLines ls → AreNested false false t
     → AreSomeAndPut (things (signs_in t)) (things (signs_of_lines at ls)) → AllHaveItems (forest (children (joined_parts ls)))
-    → AllOfPage (held_by_all (forest (children (joined_parts ls)))) → AreHeld (forest (children (styled_parts false s [] t [])))
+    → AllOfPage (held_by_all (forest (children (joined_parts ls)))) → AreOwnNodes (forest (children (styled_parts false s [] t [])))
 styled_have_items s ls at t flat nest some held own =
     let olds : List Thing = things (signs_of_lines at ls) in
     let page : Each ThingHas olds = lines_have at ls flat (flat_nodes ls at (signs_of_lines at ls) flat refl) (children_nodes (joined_parts ls) (held, own)) in

@@ -1,7 +1,6 @@
 -- Worked case: the paragraph `''x''<br>y` holds a content with styles.
-use Rattle.std.proofs.Common.{◌≡◌, true, None, List, [], ◌∷◌, ◌++◌, refl, sym, ap, ◌∙◌, subst, All}
+use Rattle.std.proofs.Common.{◌≡◌, None, List, [], ◌∷◌, ◌++◌, refl, sym, ap, ◌∙◌, subst, All}
 use Rattle.std.specs.Prelude.{ℕ, codes}
-use Rattle.std.specs.List.{list_all}
 use Rattle.std.specs.Str.{IsUtf8, chars}
 use Rattle.std.proofs.Math.Utf8.{encode}
 use Rattle.std.proofs.lemmas.List.Elements.{All-nil, All-cons}
@@ -12,8 +11,8 @@ use Rattle.wt_span.specs.Lexemes.{form_at as word_at, sign_word}
 use Rattle.wt_span.specs.Tags.{raw_len, include_at, opening_tag as opening_word, closing_tag as closing_word, tag_after as word_after, with_inside, is_extension}
 use Rattle.wt_expand.specs.PageItems.{page_items}
 use Rattle.wt_lines.specs.Kinds.{kind_of_signs}
-use Rattle.wt_lines.specs.Lines.{lines, full_lines}
-use Rattle.wt_inline.specs.ItemTree.{forest, held_by_all}
+use Rattle.wt_lines.specs.Lines.{lines}
+use Rattle.wt_inline.specs.ItemTree.{forest}
 use Rattle.wt_inline.specs.Parts.{children}
 use Rattle.wt_tiles.specs.Tags.{tag_at, opening_tag, closing_tag, tag_after, name_of, live_name}
 use Rattle.wt_tiles.specs.Tiles.{form_at, link_or_url, tag_tile, switch_at, shapes, closed, tiles}
@@ -28,9 +27,8 @@ use Rattle.wt_quotes.specs.Styles.{style_tree_of}
 use Rattle.wt_quotes.specs.Runs.{place_of}
 use Rattle.wt_quotes.specs.Toggles.{toggle_at, toggles_of}
 use Rattle.wt_quotes.specs.Turns.{since, next, bold_ends_later, effect_on, is_bold_outside_at, turn_at}
-use Rattle.wt_annotated.specs.Clean.{is_page}
+use Rattle.wt_page.specs.Rows.{marks_len}
 use Rattle.wt_called_trees.specs.Rounded.{AllHaveItems}
-use Rattle.wt_text_edit_laws.specs.Contents.{AreUnled}
 use Rattle.wt_text_edit_laws.specs.LonePages.{page_chars}
 use Rattle.wt_text_edit_laws.specs.NoCalls.{CallsNothing}
 use Rattle.wt_text_edit_laws.specs.ParagraphParts.{joined_parts}
@@ -44,7 +42,7 @@ use Rattle.wt_beside_laws.specs.PageBlocks.{AreShut}
 use Rattle.wt_beside_laws.specs.PageSigns.{signs_of_lines, AreFlatLines}
 use Rattle.wt_beside_laws.specs.StyledIn.{IsStyledIn}
 use Rattle.wt_beside_laws.proofs.Firm.{alone_as, parts_read}
-use Rattle.wt_beside_laws.proofs.Edits.Cases.{break_alone, break_kept, break_calm}
+use Rattle.wt_beside_laws.proofs.Edits.Cases.{break_node, break_held, break_calm}
 
 abbrev pub own : List ℕ
 own = codes "''x''<br>y"
@@ -70,9 +68,8 @@ quote_stands rest = record { uncommented = refl }
 -- what its items have to be
 record AreStyledItems (xs : List Item) : Type 0 where
   pub are_lines : All IsTextLine (lines xs)
-  pub unled : AreUnled (full_lines xs)
+  pub unled : marks_len xs ≡ 0
   pub calls_nothing : CallsNothing xs
-  pub of_page : list_all is_page (held_by_all (forest (children (joined_parts (lines xs))))) ≡ true
   pub has_items : AllHaveItems (forest (children (joined_parts (lines xs))))
   pub flat : AreFlatLines (lines xs)
   pub kept : AreKept (signs_of_lines 0 (lines xs))
@@ -84,16 +81,15 @@ own_items : AreStyledItems (page_chars own)
 unfolding kind_of_signs context_parts with_styles style_tree_of toggles_of toggle_at chunks segments loose_segments tiles shapes closed form_at link_or_url link_at ext_link_at bare_url_at scheme_len tag_tile tag_at opening_tag closing_tag tag_after name_of live_name switch_at chars encode children place_of since next bold_ends_later effect_on is_bold_outside_at turn_at
 own_items = record {
   are_lines = All-cons IsTextLine (page_chars own) [] refl (All-nil IsTextLine);
-  unled = (refl, tt);
+  unled = refl;
   calls_nothing = tt;
-  of_page = refl;
   has_items = ((refl, ((refl, tt), tt)), ((refl, tt), ((refl, tt), tt)));
   flat = (
     (refl, (refl, (refl, (refl, (refl, (refl, (refl, (refl, (refl, (refl, tt)))))))))),
-    ((codes "''x''", (refl, refl)), (record { alone = break_alone; lone = tt }, ((121 ∷ [], (refl, refl)), tt))),
+    ((codes "''x''", (refl, refl)), (record { alone = break_node; lone = tt }, ((121 ∷ [], (refl, refl)), tt))),
     tt,
   );
-  kept = (break_kept, tt);
+  kept = ((break_held, tt), tt);
   calm = (break_calm, tt);
   shut = (refl, tt);
 }
@@ -111,7 +107,6 @@ italic_and_break =
       unended = refl;
       is = record { are_lines = h.are_lines; unled = h.unled; alone = quote_stands (codes "'x''<br>y"); before_break = quote_stands (codes "'x''<br>y\n") };
       calls_nothing = h.calls_nothing;
-      of_page = h.of_page;
       has_items = h.has_items;
       flat = h.flat;
       kept = h.kept;

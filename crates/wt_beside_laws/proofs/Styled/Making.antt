@@ -26,22 +26,26 @@ use Rattle.wt_text_edit_laws.specs.TextBlocks.{TextBlock, a_paragraph, a_heading
 use Rattle.wt_text_edit_laws.proofs.Blocks.BlockLeaves.{open_items}
 use Rattle.wt_beside_laws.specs.Content.{AreKept}
 use Rattle.wt_beside_laws.specs.ContentEdits.{content_edit, new_content, MakesContent}
-use Rattle.wt_beside_laws.specs.FlatBlocks.{lines_in, signs_in as signs_of}
+use Rattle.wt_beside_laws.specs.FlatBlocks.{lines_in, signs_in as signs_of, sent_for}
 use Rattle.wt_beside_laws.specs.PageBlocks.{IsBlockOfLines}
 use Rattle.wt_beside_laws.specs.PageSigns.{signs_of_lines}
 use Rattle.wt_beside_laws.specs.SentPieces.{TextsFit}
-use Rattle.wt_beside_laws.specs.SentStyled.{AreStyledSent, AllShow}
+use Rattle.wt_beside_laws.specs.SentStyled.{AreStyledSent, AllNest, AllShow}
 use Rattle.wt_beside_laws.specs.Shown.{parts_shown_at}
 use Rattle.wt_beside_laws.specs.Stood.{things}
 use Rattle.wt_beside_laws.specs.Styled.{StyledContent, signs_in, styled_parts, IsStyledContent}
 use Rattle.wt_beside_laws.specs.StyledBlocks.{all_numbers, things_with, AreSomeOf}
-use Rattle.wt_beside_laws.specs.StyledIn.{IsStyledIn, StaysIn, IsStyledFor, sent_for, IsStyledEditOf}
-use Rattle.wt_beside_laws.specs.StyledNodes.{AreSomeAndPut}
+use Rattle.wt_beside_laws.specs.StyledIn.{IsStyledIn, StaysIn, IsStyledFor, IsStyledEditOf}
+use Rattle.wt_beside_laws.specs.StyledNodes.{AreSomeAndPut, AreUrlsApart}
 use Rattle.wt_beside_laws.proofs.Made.Inline.{stays_inline}
 use Rattle.wt_beside_laws.proofs.Made.Letters.{pieces_fit}
 use Rattle.wt_beside_laws.proofs.Made.Making.{known, setting, new_is, takes_breaks, breaks_so, one_line_so, source_is, parts_show, in_page}
 use Rattle.wt_beside_laws.proofs.Made.OldBlocks.{with_parts, parts_are, face_of, IsIn, block_kind, block_face, block_begins, node_is}
 use Rattle.wt_beside_laws.proofs.Styled.BlockStyles.{styled_nodes}
+use Rattle.wt_beside_laws.proofs.Styled.Delimiters.{no_delimiter}
+use Rattle.wt_beside_laws.proofs.Styled.OwnNests.{AreRight, own_nests}
+use Rattle.wt_beside_laws.proofs.Styled.SentNests.{sent_nest}
+use Rattle.wt_beside_laws.proofs.Styled.UrlsApart.{urls_apart}
 use Rattle.wt_beside_laws.proofs.Styled.OldStyled.{styled_of_lines}
 use Rattle.wt_beside_laws.proofs.Styled.OwnStyled.{AreKnown, own_styled}
 use Rattle.wt_beside_laws.proofs.Styled.SentAmong.{some_of, things_among, sent_some, sent_styles}
@@ -63,14 +67,16 @@ pub record IsSentWell (k : TextBlock) (q : List ℕ) (block : Tree) (ps : Pieces
   pub sent : AreStyledSent (known block) (sent_pieces ps)
   pub shows : AllShow (known block) (sent_pieces ps)
   pub sound : AreSound (known block) (sent_pieces ps)
+  pub nest : AllNest false false (sent_pieces ps)
   pub is : IsStyledFor k q (setting k block) (sent_for block ps)
 
 none_in : (t : Tree) → HasNoGroup t → NoneIsGroup (children_of t)
 none_in (tree l ts) h = h.1
 
-stays_in : (k : TextBlock) (block : Tree) (ps : Pieces) → IsStyledEditOf k block ps → StaysIn k (setting k block) (sent_for block ps)
-stays_in a_paragraph block ps e = tt
-stays_in (a_heading w) block ps e = (refl, sent_on_one_line (known block) ps e.stay e.are e.fit e.nest)
+stays_in : (k : TextBlock) (block : Tree) (ps : Pieces) → IsStyledEditOf k block ps → AllNest false false (sent_pieces ps)
+    → StaysIn k (setting k block) (sent_for block ps)
+stays_in a_paragraph block ps e nest = tt
+stays_in (a_heading w) block ps e nest = (refl, sent_on_one_line (known block) ps e.stay e.are e.fit nest)
 
 pub sent_well : (k : TextBlock) (q : List ℕ) (block : Tree) (ps : Pieces) → IsOwn block → IsStyledIn k q → IsIn k q block → IsStyledEditOf k block ps
     → IsSentWell k q block ps
@@ -88,20 +94,24 @@ sent_well k q block ps own h i e =
     subst (λ (ts : Trees). AreSomeOf (all_numbers us) (all_numbers ts)) e.old (some_numbers ps none e.stay) in
     let kept_so : AreKept (signs_of_lines (length (label block).opening) ls) =
     subst (λ (n : ℕ). AreKept (signs_of_lines n ls)) (sym (block_begins k q block i)) h.kept in
-    let content : IsStyledContent (setting k block) t =
-    sent_styles same_node (setting k block) ls block us refl h.flat b kept_so e.nest some (sent_characters p us shown_so) e.apart in
     let page : things_with (kept_nodes block) (all_numbers (children_of block)) ≡ things (signs_of k q) =
     styled_nodes ls block h.flat b ∙ ap (λ (n : ℕ). things (signs_of_lines n ls)) (block_begins k q block i) in
     let among : AreSomeOf (things_with (kept_nodes block) (all_numbers us)) (things (signs_of k q)) =
     subst (AreSomeOf (things_with (kept_nodes block) (all_numbers us))) page (things_among (kept_nodes block) (all_numbers us) (all_numbers (children_of block)) some) in
     let nodes : AreSomeAndPut (things (signs_in t)) (things (signs_of k q)) =
     some_of (things (signs_in t)) (things_with (kept_nodes block) (all_numbers us)) (things (signs_of k q)) (sent_some p us) among in
+    let right : AreRight false false (children_of block) = own_nests k q block h i in
+    let nest : AllNest false false us = sent_nest ps none e.stay e.are (subst (AllNest false false) (sym e.old) right.0) e.new in
+    let apart : AreUrlsApart (things (signs_in t)) = urls_apart k q block ps h i right.1 e.old none e.stay (no_delimiter same_node block) nodes in
+    let content : IsStyledContent (setting k block) t =
+    sent_styles same_node (setting k block) ls block us refl h.flat b kept_so nest e.led some (sent_characters p us shown_so) apart in
     record {
       free = none;
       sent = styled_so;
       shows = shown_so;
       sound = sound_so;
-      is = record { content = content; nodes = nodes; stays = stays_in k block ps e };
+      nest = nest;
+      is = record { content = content; nodes = nodes; stays = stays_in k block ps e nest };
     }
 
 -- ---- nothing is wrong in it
@@ -116,7 +126,7 @@ taken_so k q block m ps i e w =
     subst (λ (v : Bool). TextsFit v (sent_pieces ps)) (sym kinds) (pieces_fit (takes_breaks k) ps e.stay e.are (one_line_so k ps e.fit)) in
     let l : Label = record m { kind = kind_of (block_of k); id = (label block).id; attrs = (label block).attrs; mark = marks.Content; mw = (label block).mw } in
     ap (λ (t : Tree). bad_content same_node t new) (node_is k q block m ps i e.old)
-    ∙ no_style_fault same_node block l (sent_pieces ps) w.sent w.sound e.nest w.shows fits
+    ∙ no_style_fault same_node block l (sent_pieces ps) w.sent w.sound w.nest w.shows fits
 
 -- ---- what is written, and what it shows
 

@@ -54,7 +54,8 @@ use Rattle.wt_beside_laws.specs.StyledIn.{IsStyledIn}
 use Rattle.wt_beside_laws.specs.Stood.{things}
 use Rattle.wt_beside_laws.proofs.BlockSigns.{its_children}
 use Rattle.wt_beside_laws.proofs.LineThings.{nodes_parts, segments_parts, tiles_here}
-use Rattle.wt_beside_laws.proofs.Made.OldBlocks.{with_parts, parts_are, lines_are, IsIn, no_group}
+use Rattle.wt_beside_laws.proofs.Made.OldBlocks.{with_parts, parts_are, lines_are, IsIn, no_group, marks_in}
+use Rattle.wt_beside_laws.proofs.OwnItems.{content_own}
 use Rattle.wt_beside_laws.proofs.PageSigns.{flat_nodes}
 use Rattle.wt_beside_laws.proofs.PartThings.{IsThing, thing_at, tree_source, HaveThings, nodes_of, stands_form, ShutThings, shut_things, none_of_both, leaf_shut, node_open}
 use Rattle.wt_beside_laws.proofs.SentNodes.{things_append}
@@ -265,7 +266,7 @@ styled_in_content k q h = record {
   ended = h.ended;
   unended = h.unended;
   is = h.is;
-  of_page = h.of_page;
+  of_page = content_own k q;
   has_items = h.has_items;
   untangled = λ items t e. own_untangled k q items t h e;
 }
@@ -282,4 +283,5 @@ styled_of_lines k q block h i = record {
   some = i.some;
   is = i.is ∙ ap (standing i.number i.before) (tree_lines k q);
   ungrouped = subst HasNoGroup (sym i.is) (no_group k q i.number i.before h.utf8 h.is h.unended h.calls_nothing);
+  marks = marks_in k q block i h.flat h.kept;
 }

@@ -261,7 +261,7 @@ unfolding label_at
 style_free true n before opening closing ps h = h.1
 style_free false n before opening closing ps h = h.1
 
-style_texts : (kind : Bool) (n : ℕ) (before opening closing : List Item) (ps : List Part) → HasTexts (standing n before (style_round kind opening ps closing))
+pub style_texts : (kind : Bool) (n : ℕ) (before opening closing : List Item) (ps : List Part) → HasTexts (standing n before (style_round kind opening ps closing))
     → HaveTexts (nodes_of (n + 1) (before ++ opening) (forest (children ps)))
 unfolding label_at
 style_texts true n before opening closing ps h = h

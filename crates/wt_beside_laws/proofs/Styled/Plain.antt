@@ -24,6 +24,7 @@ use Rattle.wt_text_edit_laws.specs.TypedHeadings.{Sides, AreSides, heading_line,
 use Rattle.wt_beside_laws.specs.Content.{AreKept, guard_items, letter_items}
 use Rattle.wt_beside_laws.specs.Flat.{AreFlat, IsFlatContent, content_parts}
 use Rattle.wt_beside_laws.specs.InHeadings.{AreOnOneLine, IsHeadingContent, heading_of}
+use Rattle.wt_beside_laws.specs.Led.{AreMarksLed}
 use Rattle.wt_beside_laws.specs.Lines.{AreCharacters, AreUnbroken, line_items, later_lines, content_lines}
 use Rattle.wt_beside_laws.specs.Nodes.{AreNodes, AllMeet}
 use Rattle.wt_beside_laws.specs.PageBlocks.{AreUnstyled, AreShut}
@@ -38,6 +39,7 @@ use Rattle.wt_beside_laws.proofs.Styled.StyledAgain.{again_each as styled_each, 
 use Rattle.wt_beside_laws.proofs.Styled.StyledHeadings.{styled_heading, styled_heading_stands}
 use Rattle.wt_beside_laws.proofs.Styled.StyledParagraphs.{styled_closed, styled_para, styled_meaning, styled_stands}
 use Rattle.wt_beside_laws.proofs.Styled.StyledShown.{styled_is_shown}
+use Rattle.wt_beside_laws.specs.NodeItems.{node_items}
 
 -- ---- it, as such a content
 
@@ -67,6 +69,7 @@ content_is s signs h =
       nodes = subst AreNodes e h.nodes;
       unbroken = subst AreUnbroken e h.unbroken;
       nested = nested signs h.flat;
+      led = subst AreMarksLed e h.led;
       meet = subst (λ (ss : List ContentSign). AllMeet s [] ss []) e h.meet;
     }
 
@@ -91,14 +94,14 @@ parts_are s before (letter c ∷ after) =
     (parts_are s (letter c ∷ before) after)
 parts_are s before (thing t ∷ after) =
     let more : List Part = styled_parts false s (thing t ∷ before) (plain after) [] in
-    ap (λ (ss : List ContentSign). parts Text (guard_items (is_guarded s before (thing t ∷ ss))) ++ (line_parts (page_items t.source) ++ more)) (signs_are after)
-    ∙ ap (λ (ps : List Part). parts Text (guard_items (is_guarded s before (thing t ∷ after))) ++ (line_parts (page_items t.source) ++ ps))
+    ap (λ (ss : List ContentSign). parts Text (guard_items (is_guarded s before (thing t ∷ ss))) ++ (line_parts (node_items t.source) ++ more)) (signs_are after)
+    ∙ ap (λ (ps : List Part). parts Text (guard_items (is_guarded s before (thing t ∷ after))) ++ (line_parts (node_items t.source) ++ ps))
     (parts_are s (thing t ∷ before) after)
 
 shown_are : (signs : List ContentSign) (rest : Plains) → styled_shown (plain signs) rest ≡ content_shown signs rest
 shown_are [] rest = refl
 shown_are (letter c ∷ after) rest = ap (text_before (encode_utf8 c)) (shown_are after rest)
-shown_are (thing t ∷ after) rest = ap (λ (ps : Plains). parts_shown_at 0 [] (line_parts (page_items t.source)) ps) (shown_are after rest)
+shown_are (thing t ∷ after) rest = ap (λ (ps : Plains). parts_shown_at 0 [] (line_parts (node_items t.source)) ps) (shown_are after rest)
 
 -- ---- a paragraph
 

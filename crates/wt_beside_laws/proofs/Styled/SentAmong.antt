@@ -13,6 +13,7 @@ use Rattle.wt_guards.specs.Guards.{Setting}
 use Rattle.wt_original.specs.Kept.{Kept, kept_nodes, kept_with}
 use Rattle.wt_original.specs.Page.{Page, page_of}
 use Rattle.wt_link_spelling.specs.Spelling.{children_of, opening_place, closing_place}
+use Rattle.wt_beside_laws.specs.Led.{AreMarksLed}
 use Rattle.wt_beside_laws.specs.Content.{AreKept}
 use Rattle.wt_beside_laws.specs.Lines.{AreCharacters}
 use Rattle.wt_beside_laws.specs.PageBlocks.{IsBlockOfLines}
@@ -144,9 +145,10 @@ mutual
 
 pub sent_styles : (same : Tree → Tree → Bool) (s : Setting) (ls : List (List Item)) (block : Tree) (us : Trees) → s.within ≡ false → AreFlatLines ls
     → IsBlockOfLines ls block → AreKept (signs_of_lines (length (label block).opening) ls) → AllNest false false us
+    → AreMarksLed (signs_in (sent_content (page_of same block) us))
     → AreSomeOf (all_numbers us) (all_numbers (children_of block)) → AreCharacters (signs_in (sent_content (page_of same block) us))
     → AreUrlsApart (things (signs_in (sent_content (page_of same block) us))) → IsStyledContent s (sent_content (page_of same block) us)
-sent_styles same s ls block us within flat b kept nest some typed apart =
+sent_styles same s ls block us within flat b kept nest led some typed apart =
     let p : Page = page_of same block in
     let at : ℕ = length (label block).opening in
     let t : StyledContent = sent_content p us in
@@ -155,4 +157,4 @@ sent_styles same s ls block us within flat b kept nest some typed apart =
     let all : AreSomeAndPut (things (signs_in t)) (things (signs_of_lines at ls)) =
     some_of (things (signs_in t)) (things_with (kept_nodes block) (all_numbers us)) (things (signs_of_lines at ls)) (sent_some p us)
     (subst (AreSomeOf (things_with (kept_nodes block) (all_numbers us))) (styled_nodes ls block flat b) own) in
-    styled_content s ls at t within flat kept typed (sent_nested p false false us (no_delimiter same block) nest) all apart
+    styled_content s ls at t within flat kept typed (sent_nested p false false us (no_delimiter same block) nest) led all apart

@@ -1,5 +1,5 @@
 -- Nothing is wrong in what is sent of a block with styles, its texts are characters, and in a heading it is on one line.
-use Rattle.std.proofs.Common.{arith, ◌≡◌, inl, inr, ℕ, ◌+◌, ◌≤◌, ◌==◌, Bool, true, false, List, [], ◌∷◌, ◌++◌, refl, sym, ap, ◌∙◌, subst, All}
+use Rattle.std.proofs.Common.{arith, ◌≡◌, inl, inr, ℕ, ◌≤◌, ◌==◌, Bool, true, false, List, [], ◌∷◌, ◌++◌, refl, sym, ap, ◌∙◌, subst, All}
 use Rattle.std.specs.Prelude.{◌||◌, if◌then◌else◌, Option, Some, None, encode_utf8}
 use Rattle.std.specs.List.{list_any}
 use Rattle.std.specs.Str.{IsUtf8, chars}
@@ -149,7 +149,7 @@ pieces_known same block (new_style m is ps) tells e g h =
 
 -- ---- a text on one line
 
-or_both : (a b : Bool) → (a || b) ≡ false → (a ≡ false) × (b ≡ false)
+pub or_both : (a b : Bool) → (a || b) ≡ false → (a ≡ false) × (b ≡ false)
 or_both true b e = absurd (cc)
 or_both false b e = (refl, e)
 
@@ -186,7 +186,7 @@ text_unbroken text u e = sym (ap has_break (encodes-chars text u)) ∙ all_unbro
 abbrev within : Bool → Surroundings
 within v = record { in_paragraph = v; in_link = false }
 
-or_true : (b : Bool) → (b || true) ≡ true
+pub or_true : (b : Bool) → (b || true) ≡ true
 or_true true = refl
 or_true false = refl
 
@@ -330,7 +330,7 @@ style_line : (kind : Bool) (o : Option Kept) (held t : StyledContent) → OneLin
 style_line kind o held t h k = λ after j. nowiki_line held h (delimiter kind (closing_place o) ∷ signs_before t after) (k after j)
 
 -- of a text it is known, or it is in a style
-abbrev LineBy : InlineForm → Label → Type 0
+abbrev pub LineBy : InlineForm → Label → Type 0
 LineBy inline.Nothing l = Unit {0}
 LineBy inline.Characters l = breaks_line l.shown ≡ false
 LineBy inline.Bold l = Unit {0}
@@ -355,7 +355,7 @@ one_line inline.Tag p l bold italic held t N e n f k = found_line (kept_with l.i
 one_line inline.Break p l bold italic held t N e n f k = found_line (kept_with l.id p.kept) t k
 one_line inline.AsItStood p l bold italic held t N e n f k = found_line (kept_with l.id p.kept) t k
 
-style_lines : (w : InlineForm) (l : Label) (bold italic : Bool) (N : Bool → Bool → Type 0) → (bold || italic) ≡ true → NestsBy w bold italic l N → LineBy w l
+pub style_lines : (w : InlineForm) (l : Label) (bold italic : Bool) (N : Bool → Bool → Type 0) → (bold || italic) ≡ true → NestsBy w bold italic l N → LineBy w l
 style_lines inline.Nothing l bold italic N e n = tt
 style_lines inline.Characters l bold italic N e n = n e
 style_lines inline.Bold l bold italic N e n = tt
@@ -378,7 +378,7 @@ mutual
   held_lines p none bold italic e n = λ after k. k
   held_lines p (more t us) bold italic e n = held_line p t (sent_content p us) bold italic e n.0 (held_lines p us bold italic e n.1)
 
-node_line : (w : InlineForm) (l : Label) → IsNodeForm w → LineBy w l
+pub node_line : (w : InlineForm) (l : Label) → IsNodeForm w → LineBy w l
 node_line inline.Nothing l n = absurd n
 node_line inline.Characters l n = absurd n
 node_line inline.Bold l n = tt
@@ -396,7 +396,7 @@ any_line (c ∷ cs) e =
     let r = or_both (is_break c) (has_line cs) e in
     ap (λ (v : Bool). v || list_any (λ d. d == 10) cs) r.0 ∙ any_line cs r.1
 
-typed_line : (text : List ℕ) → IsUtf8 text → has_break text ≡ false → breaks_line text ≡ false
+pub typed_line : (text : List ℕ) → IsUtf8 text → has_break text ≡ false → breaks_line text ≡ false
 typed_line text u b = any_line (chars text) (chars_line (chars text) (ap has_line (encodes-chars text u) ∙ sym (same_break text) ∙ b))
 
 nested_text : (x : Label) (text : List ℕ) (us : Trees) → AllNest false false (text_node x text us) → AllNest false false us

@@ -21,7 +21,6 @@ use Rattle.wt_guards.specs.Content.{ContentSign, letter, letters}
 use Rattle.wt_guards.specs.Guards.{nowiki}
 use Rattle.wt_original.specs.Kept.{Kept, kept_with}
 use Rattle.wt_original.specs.Page.{Page}
-use Rattle.wt_expand.specs.PageItems.{page_items}
 use Rattle.wt_link_spelling.specs.Spelling.{kept_thing, opening_place, closing_place, as_it_stood, unless_kept, anew_by, or_nowiki as signs_or_nowiki, style, signs_by, signs_of, signs_of_all}
 use Rattle.wt_inline.specs.declared.loose.Loose.TheVariants.{Text}
 use Rattle.wt_inline.specs.Parts.{Part, parts}
@@ -37,9 +36,10 @@ use Rattle.wt_beside_laws.specs.Shown.{parts_shown_at}
 use Rattle.wt_beside_laws.specs.Styled.{StyledContent, finished, sign, styled, mark_source, delimiter, signs_before, signs_in, AreNested}
 use Rattle.wt_beside_laws.specs.StyledShown.{style_shown, styled_shown}
 use Rattle.wt_beside_laws.proofs.Contents.{nowiki_reads}
-use Rattle.wt_beside_laws.proofs.Firm.{alone_as}
+use Rattle.wt_beside_laws.proofs.NodeItems.{node_as}
 use Rattle.wt_beside_laws.proofs.LineSegments.{read_line}
 use Rattle.wt_beside_laws.proofs.LineShown.{twice, children_show, guard_shows}
+use Rattle.wt_beside_laws.specs.NodeItems.{node_items}
 
 -- ---- signs
 
@@ -166,10 +166,10 @@ pub nowiki_alone : line_parts (whole form.Nowiki None nowiki ∷ []) ≡ parts T
 unfolding loose_segments closed
 nowiki_alone = read_line (0, leaf tile.Atom 1 ∷ []) (whole form.Nowiki None nowiki ∷ []) (loose_segment (whole form.Nowiki None nowiki ∷ []) ∷ []) refl refl refl
 
-nowiki_shown : (rest : Plains) → parts_shown_at 0 [] (line_parts (page_items nowiki)) rest ≡ rest
+nowiki_shown : (rest : Plains) → parts_shown_at 0 [] (line_parts (node_items nowiki)) rest ≡ rest
 nowiki_shown rest =
     let own : List Item = whole form.Nowiki None nowiki ∷ [] in
-    ap (λ xs. parts_shown_at 0 [] (line_parts xs) rest) (alone_as nowiki own nowiki_reads)
+    ap (λ xs. parts_shown_at 0 [] (line_parts xs) rest) (node_as nowiki own nowiki_reads)
     ∙ ap (λ (ps : List Part). parts_shown_at 0 [] ps rest) nowiki_alone
     ∙ children_show 0 [] (parts Text own) rest (text_parts own)
     ∙ guard_shows true [] rest
@@ -203,7 +203,7 @@ style_is kind l ts held rest e f g =
     ∙ sym (by_showing showing.Element l (λ ps. plains_before ts ps) rest e)
 
 node_is : (p : Page) (l : Label) (ts : Trees) (t : StyledContent) (rest : Plains) (u : IsUnchanged p l ts)
-    → ((k : Kept) → kept_with l.id p.kept ≡ Some k → (ps : Plains) → parts_shown_at 0 [] (line_parts (page_items (flat k.node))) ps ≡ plain_before (tree l ts) ps)
+    → ((k : Kept) → kept_with l.id p.kept ≡ Some k → (ps : Plains) → parts_shown_at 0 [] (line_parts (node_items (flat k.node))) ps ≡ plain_before (tree l ts) ps)
     → styled_shown (found_then (kept_with l.id p.kept) t) rest ≡ plain_before (tree l ts) (styled_shown t rest)
 node_is p l ts t rest u s = ap (λ (o : Option Kept). styled_shown (found_then o t) rest) u.found ∙ s u.kept u.found (styled_shown t rest)
 

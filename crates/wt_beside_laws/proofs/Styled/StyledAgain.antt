@@ -20,19 +20,20 @@ use Rattle.wt_tiles.proofs.Joining.{tiles_are}
 use Rattle.wt_text_edit_laws.specs.LonePages.{page_chars}
 use Rattle.wt_beside_laws.specs.Content.{AreKept, guard_items, letter_items}
 use Rattle.wt_beside_laws.specs.Cuts.{add_chars, own_glyphs, own_form, add_node, guard_cut, letter_cut}
-use Rattle.wt_beside_laws.specs.Kept.{IsKept}
+use Rattle.wt_beside_laws.specs.Commented.{IsHeld}
 use Rattle.wt_beside_laws.specs.Lines.{AreCharacters, line_items, later_lines, content_lines}
 use Rattle.wt_beside_laws.specs.Nests.{marks}
 use Rattle.wt_beside_laws.specs.Nodes.{AreNodes, AllMeet}
 use Rattle.wt_beside_laws.specs.PageBlocks.{AreShut}
 use Rattle.wt_beside_laws.specs.PageSigns.{line_signs, signs_of_lines, AreFlatTiles, AreFlatLines}
 use Rattle.wt_beside_laws.specs.Styled.{StyledContent, finished, sign, styled, mark_source, delimiter, signs_before, signs_in, signs_past, AreNested, IsStyledContent}
-use Rattle.wt_beside_laws.proofs.FlatAgain.{EachSource, so_both, HoldsOfPut, put_kept, IsShut, put_shut, FlatCut, FlatShapes, closed_flat, chars_before, none_flat, guard_flat, letter_flat, letter_by, node_flat, Unbroken, unbroken_lines, from_kept, to_kept, from_shut, to_shut}
+use Rattle.wt_beside_laws.proofs.FlatAgain.{EachSource, so_both, HoldsOfPut, put_kept, IsShut, put_shut, FlatCut, FlatShapes, closed_flat, chars_before, none_flat, guard_flat, letter_flat, letter_by, node_flat, Unbroken, unbroken_lines, from_kept, to_kept, lines_tied, from_shut, to_shut}
 use Rattle.wt_beside_laws.proofs.LineItems.{content_lines_are}
 use Rattle.wt_beside_laws.proofs.LineParts.{line_cuts}
 use Rattle.wt_beside_laws.proofs.LineTiles.{line_cut}
 use Rattle.wt_beside_laws.proofs.Styled.StyledLines.{nodes_behind, within_style, mark_items, mark_glyphs, no_form}
 use Rattle.wt_beside_laws.proofs.Styled.StyledParagraphs.{none_later, meet_behind}
+use Rattle.wt_beside_laws.specs.NodeItems.{node_items}
 
 -- ---- a delimiter is characters
 
@@ -52,10 +53,10 @@ mark_long true = refl
 mark_long false = refl
 
 delimiter_flat : (Q : List ℕ → Type 0) (kind : Bool) (c : Cut) (xs : List Item) → FlatCut Q c xs
-    → FlatCut Q (add_node (own_form in_line (map glyph_of (page_items (mark_source kind)))) (length (map glyph_of (page_items (mark_source kind)))) c)
-    (page_items (mark_source kind) ++ xs)
+    → FlatCut Q (add_node (own_form in_line (map glyph_of (node_items (mark_source kind)))) (length (map glyph_of (node_items (mark_source kind)))) c)
+    (node_items (mark_source kind) ++ xs)
 delimiter_flat Q kind c xs f =
-    let own : List Item = page_items (mark_source kind) in
+    let own : List Item = node_items (mark_source kind) in
     subst (λ (gs : List Glyph). FlatCut Q (add_node (own_form in_line gs) (length gs) c) (own ++ xs)) (sym (mark_glyphs kind))
     (subst (λ (o : Option Shape). FlatCut Q (add_node o (length (byte_glyphs (mark_source kind))) c) (own ++ xs)) (sym (no_form kind))
     (subst (λ (n : ℕ). FlatCut Q (add_chars n c) (own ++ xs)) (mark_long kind)
@@ -94,7 +95,7 @@ styled_flat Q p s bold italic (sign (thing x) t) before after c k n m f =
     let signs : List ContentSign = signs_before t after in
     let cut : Cut = line_cut in_line s (thing x ∷ before) signs in
     let xs : List Item = line_items s (thing x ∷ before) signs in
-    guard_flat Q p (is_guarded s before (thing x ∷ signs)) (add_node (own_form in_line (own_glyphs x)) (length (own_glyphs x)) cut) (page_items x.source ++ xs)
+    guard_flat Q p (is_guarded s before (thing x ∷ signs)) (add_node (own_form in_line (own_glyphs x)) (length (own_glyphs x)) cut) (node_items x.source ++ xs)
     (node_flat Q x cut xs m.0 n.0 k.0 (styled_flat Q p s bold italic t (thing x ∷ before) after c k.1 n.1 m.1 f))
 styled_flat Q p s bold italic (styled kind opening closing inside t) before after c k n m f =
     let first : List ContentSign = delimiter kind opening ∷ before in
@@ -107,11 +108,11 @@ styled_flat Q p s bold italic (styled kind opening closing inside t) before afte
     styled_flat Q p s bold italic t last after (chars_behind inside tail c) (source_behind Q inside tail k.1).1 (nodes_behind inside tail n.1).1 m.2 f in
     let end : FlatCut Q (line_cut in_line s past tail) (line_items s past tail) =
     guard_flat Q p (is_guarded s past tail)
-    (add_node (own_form in_line (map glyph_of (page_items (mark_source kind)))) (length (map glyph_of (page_items (mark_source kind)))) (line_cut in_line s last signs))
-    (page_items (mark_source kind) ++ line_items s last signs) (delimiter_flat Q kind (line_cut in_line s last signs) (line_items s last signs) later) in
+    (add_node (own_form in_line (map glyph_of (node_items (mark_source kind)))) (length (map glyph_of (node_items (mark_source kind)))) (line_cut in_line s last signs))
+    (node_items (mark_source kind) ++ line_items s last signs) (delimiter_flat Q kind (line_cut in_line s last signs) (line_items s last signs) later) in
     guard_flat Q p (is_guarded s before (delimiter kind opening ∷ held))
-    (add_node (own_form in_line (map glyph_of (page_items (mark_source kind)))) (length (map glyph_of (page_items (mark_source kind)))) (line_cut in_line s first held))
-    (page_items (mark_source kind) ++ line_items s first held)
+    (add_node (own_form in_line (map glyph_of (node_items (mark_source kind)))) (length (map glyph_of (node_items (mark_source kind)))) (line_cut in_line s first held))
+    (node_items (mark_source kind) ++ line_items s first held)
     (delimiter_flat Q kind (line_cut in_line s first held) (line_items s first held)
     (styled_flat Q p s (kind || bold) (not kind || italic) inside first tail c k.1 n.1 m.1 end))
 
@@ -150,7 +151,7 @@ one_line Q p s before t k =
     ap (λ (d : Cut). tile_parts (closed d.0 d.1) xs) (sym (line_cuts s before signs k.nodes k.meet)) ∙ sym (tiles_are in_line xs) in
     let g : FlatShapes Q (tiles in_line xs) =
     subst (FlatShapes Q) is (closed_flat Q cut xs (styled_flat Q p s false false t before [] k.typed k.source k.nodes k.nested (end_flat Q p s (signs_past t before)))) in
-    record { tiles = g.tiles; kept = g.kept }
+    record { tiles = g.tiles; kept = g.kept true }
 
 later_line : (Q : List ℕ → Type 0) (b : Bool) (l : List Item) (ls : List (List Item)) → StyledLine Q l → StyledLines Q ls → StyledLines Q (if b then l ∷ ls else ls)
 later_line Q true l ls h g = (h, g)
@@ -190,7 +191,7 @@ all_styled Q p s t h q =
 all_unbroken : (s : Setting) (t : StyledContent) → IsStyledContent s t → Unbroken (content_lines s (signs_in t))
 all_unbroken s t h =
     let xs : List Item = page_items (spelled s (signs_in t)) in
-    subst Unbroken (content_lines_are s (signs_in t) h.kept h.unbroken) (unbroken_lines (lines xs) xs (lines_are xs))
+    subst Unbroken (content_lines_are s (signs_in t) (record { within = h.of_block; kept = h.kept; nodes = h.nodes; led = h.led }) h.unbroken) (unbroken_lines (lines xs) xs (lines_are xs))
 
 flat_lines : (Q : List ℕ → Type 0) (ls : List (List Item)) → Unbroken ls → StyledLines Q ls → AreFlatLines ls
 flat_lines Q [] b f = tt
@@ -209,12 +210,12 @@ again_each Q p at s t h q = so_lines Q at (content_lines s (signs_in t)) (all_st
 
 pub again_lines : (s : Setting) (t : StyledContent) → IsStyledContent s t → AreFlatLines (content_lines s (signs_in t))
 again_lines s t h =
-    flat_lines IsKept (content_lines s (signs_in t)) (all_unbroken s t h) (all_styled IsKept put_kept s t h (from_kept (signs_in t) h.kept))
+    flat_lines IsHeld (content_lines s (signs_in t)) (all_unbroken s t h) (all_styled IsHeld put_kept s t h (from_kept (signs_in t) h.kept))
 
 pub again_kept : (at : ℕ) (s : Setting) (t : StyledContent) → IsStyledContent s t → AreKept (signs_of_lines at (content_lines s (signs_in t)))
 again_kept at s t h =
-    to_kept (signs_of_lines at (content_lines s (signs_in t)))
-    (so_lines IsKept at (content_lines s (signs_in t)) (all_styled IsKept put_kept s t h (from_kept (signs_in t) h.kept)))
+    to_kept (signs_of_lines at (content_lines s (signs_in t))) (lines_tied at (content_lines s (signs_in t)))
+    (so_lines IsHeld at (content_lines s (signs_in t)) (all_styled IsHeld put_kept s t h (from_kept (signs_in t) h.kept)))
 
 pub again_shut : (at : ℕ) (s : Setting) (t : StyledContent) → IsStyledContent s t → AreShut (signs_in t) → AreShut (signs_of_lines at (content_lines s (signs_in t)))
 again_shut at s t h k =

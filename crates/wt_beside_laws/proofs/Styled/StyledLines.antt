@@ -14,7 +14,6 @@ use Rattle.wt_quotes.specs.Turns.{is_of}
 use Rattle.wt_guards.specs.Content.{ContentSign, Thing, letter, thing}
 use Rattle.wt_guards.specs.Guards.{Setting, nowiki, is_guarded}
 use Rattle.wt_guards.specs.Letters.{is_escaped, reference}
-use Rattle.wt_expand.specs.PageItems.{page_items}
 use Rattle.wt_inline.specs.declared.loose.Loose.TheVariants.{Text}
 use Rattle.wt_inline.specs.Parts.{Part, node, part, parts}
 use Rattle.wt_tiles.specs.declared.glyph.Glyph.{Glyph}
@@ -40,7 +39,8 @@ use Rattle.wt_beside_laws.specs.Lines.{line_items}
 use Rattle.wt_beside_laws.specs.Nests.{quote, marks, mark_segments, nest_segments, style_tree}
 use Rattle.wt_beside_laws.specs.Nodes.{IsNode, AreNodes, AllMeet}
 use Rattle.wt_beside_laws.specs.Styled.{StyledContent, finished, sign, styled, mark_source, delimiter, signs_before, signs_past, AreNested, styled_parts}
-use Rattle.wt_beside_laws.proofs.Firm.{alone_as, firm_read}
+use Rattle.wt_beside_laws.proofs.Firm.{firm_read}
+use Rattle.wt_beside_laws.proofs.NodeItems.{node_as}
 use Rattle.wt_beside_laws.proofs.LineParts.{has_form, glyphs_long, node_alone, line_cuts}
 use Rattle.wt_beside_laws.proofs.LineSegments.{cut_segments, segments_are, tile_first, one_segment}
 use Rattle.wt_beside_laws.proofs.LineTiles.{line_cut}
@@ -49,6 +49,7 @@ use Rattle.wt_beside_laws.proofs.Styled.NestReads.{IsTail, NestRead, nothing_rea
 use Rattle.wt_beside_laws.proofs.Styled.NestRuns.{marks_first}
 use Rattle.wt_beside_laws.proofs.Styled.NestToggles.{nest_even}
 use Rattle.wt_beside_laws.proofs.Styled.StyledSigns.{is_toggle, raw_next, quote_next, quote_behind, after_delimiter}
+use Rattle.wt_beside_laws.specs.NodeItems.{node_items}
 
 abbrev cut_line : Cut → List Item → List Segment
 cut_line c xs = cut_segments context_parts in_line c xs
@@ -134,9 +135,9 @@ ended_read bold italic next false false c xs vs ps f g r = r
 
 node_read : (bold italic next any : Bool) (t : Thing) (c : Cut) (xs : List Item) (vs : List Segment) (ps : List Part) → IsFlat t.role → IsNode t.role (own_glyphs t)
     → Read bold italic next c xs vs ps
-    → Read bold italic any (add_node (own_form in_line (own_glyphs t)) (length (own_glyphs t)) c) (page_items t.source ++ xs) vs (line_parts (page_items t.source) ++ ps)
+    → Read bold italic any (add_node (own_form in_line (own_glyphs t)) (length (own_glyphs t)) c) (node_items t.source ++ xs) vs (line_parts (node_items t.source) ++ ps)
 node_read bold italic next any t c xs vs ps f n r =
-    let own : List Item = page_items t.source in
+    let own : List Item = node_items t.source in
     let h = has_form t.role (own_glyphs t) f n in
     let long : size h.shape ≡ length own = h.whole ∙ glyphs_long own in
     let s = one_segment own h.shape h.alone long in
@@ -149,11 +150,11 @@ node_read bold italic next any t c xs vs ps f n r =
 
 -- ---- a delimiter
 
-pub mark_items : (kind : Bool) → page_items (mark_source kind) ≡ marks kind
-mark_items true = alone_as (mark_source true) (page_chars (mark_source true)) (firm_read (mark_source true) (refl, (refl, (refl, tt))))
-mark_items false = alone_as (mark_source false) (page_chars (mark_source false)) (firm_read (mark_source false) (refl, (refl, tt)))
+pub mark_items : (kind : Bool) → node_items (mark_source kind) ≡ marks kind
+mark_items true = node_as (mark_source true) (page_chars (mark_source true)) (firm_read (mark_source true) (refl, (refl, (refl, tt))))
+mark_items false = node_as (mark_source false) (page_chars (mark_source false)) (firm_read (mark_source false) (refl, (refl, tt)))
 
-pub mark_glyphs : (kind : Bool) → map glyph_of (page_items (mark_source kind)) ≡ byte_glyphs (mark_source kind)
+pub mark_glyphs : (kind : Bool) → map glyph_of (node_items (mark_source kind)) ≡ byte_glyphs (mark_source kind)
 mark_glyphs true = ap (map glyph_of) (mark_items true)
 mark_glyphs false = ap (map glyph_of) (mark_items false)
 
@@ -182,12 +183,12 @@ marks_added false c xs =
     ∙ ap (λ us. s ∷ us) (quote_added quote c.0 c.1 xs refl)
 
 delimiter_added : (kind : Bool) (c : Cut) (xs : List Item)
-    → cut_line (add_node (own_form in_line (map glyph_of (page_items (mark_source kind)))) (length (map glyph_of (page_items (mark_source kind)))) c) (page_items (mark_source kind) ++ xs)
+    → cut_line (add_node (own_form in_line (map glyph_of (node_items (mark_source kind)))) (length (map glyph_of (node_items (mark_source kind)))) c) (node_items (mark_source kind) ++ xs)
     ≡ mark_segments kind ++ cut_line c xs
 delimiter_added kind c xs =
-    ap (λ (gs : List Glyph). cut_line (add_node (own_form in_line gs) (length gs) c) (page_items (mark_source kind) ++ xs)) (mark_glyphs kind)
-    ∙ ap (λ (o : Option Shape). cut_line (add_node o (length (byte_glyphs (mark_source kind))) c) (page_items (mark_source kind) ++ xs)) (no_form kind)
-    ∙ ap (λ (m : ℕ). cut_line (add_chars m c) (page_items (mark_source kind) ++ xs)) (mark_length kind)
+    ap (λ (gs : List Glyph). cut_line (add_node (own_form in_line gs) (length gs) c) (node_items (mark_source kind) ++ xs)) (mark_glyphs kind)
+    ∙ ap (λ (o : Option Shape). cut_line (add_node o (length (byte_glyphs (mark_source kind))) c) (node_items (mark_source kind) ++ xs)) (no_form kind)
+    ∙ ap (λ (m : ℕ). cut_line (add_chars m c) (node_items (mark_source kind) ++ xs)) (mark_length kind)
     ∙ ap (λ ys. cut_line (add_chars (width kind) c) (ys ++ xs)) (mark_items kind)
     ∙ marks_added kind c xs
 
@@ -256,8 +257,8 @@ styled_read line s bold italic (sign (thing x) t) before after vs n k g tail res
     let c : Cut = line_cut in_line s (thing x ∷ before) signs in
     let xs : List Item = line_items s (thing x ∷ before) signs in
     let ps : List Part = styled_parts line s (thing x ∷ before) t after in
-    guard_read bold italic (is_toggle x.role) (is_guarded s before (thing x ∷ signs)) (add_node (own_form in_line own) (length own) c) (page_items x.source ++ xs) vs
-    (line_parts (page_items x.source) ++ ps)
+    guard_read bold italic (is_toggle x.role) (is_guarded s before (thing x ∷ signs)) (add_node (own_form in_line own) (length own) c) (node_items x.source ++ xs) vs
+    (line_parts (node_items x.source) ++ ps)
     (node_read bold italic (quote_next s (thing x ∷ before) signs) (is_toggle x.role) x c xs vs ps k.0 n.0
     (styled_read line s bold italic t (thing x ∷ before) after vs n.1 k.1 g tail rest))
 styled_read line s bold italic (styled kind opening closing inside t) before after vs n k g tail rest =
@@ -275,8 +276,8 @@ styled_read line s bold italic (styled kind opening closing inside t) before aft
     (styled_read line s bold italic t last after vs (nodes_behind inside (delimiter kind closing ∷ signs) n.1).1 k.2 g tail rest) in
     let end : RestRead s (signs_past inside first) (delimiter kind closing ∷ signs) (mark_segments kind ++ nest_segments b.nest vs) =
     record {
-      cut = add_node (own_form in_line (map glyph_of (page_items (mark_source kind)))) (length (map glyph_of (page_items (mark_source kind)))) later_cut;
-      items = page_items (mark_source kind) ++ later_items;
+      cut = add_node (own_form in_line (map glyph_of (node_items (mark_source kind)))) (length (map glyph_of (node_items (mark_source kind)))) later_cut;
+      items = node_items (mark_source kind) ++ later_items;
       cut_is = refl;
       items_are = refl;
       are = delimiter_added kind later_cut later_items ∙ ap (λ us. mark_segments kind ++ us) b.is;
@@ -288,8 +289,8 @@ styled_read line s bold italic (styled kind opening closing inside t) before aft
     (styled_read false s (kind || bold) (not kind || italic) inside first (delimiter kind closing ∷ signs) (mark_segments kind ++ nest_segments b.nest vs) n.1 k.1
     (λ e. let no : true ≡ false = sym (within_style kind bold italic) ∙ e in cc) (inr (marks_first kind (nest_segments b.nest vs))) end) in
     guard_read bold italic true u
-    (add_node (own_form in_line (map glyph_of (page_items (mark_source kind)))) (length (map glyph_of (page_items (mark_source kind)))) (line_cut in_line s first held))
-    (page_items (mark_source kind) ++ line_items s first held) vs (node (style_tree kind ps) ∷ qs)
+    (add_node (own_form in_line (map glyph_of (node_items (mark_source kind)))) (length (map glyph_of (node_items (mark_source kind)))) (line_cut in_line s first held))
+    (node_items (mark_source kind) ++ line_items s first held) vs (node (style_tree kind ps) ∷ qs)
     (subst (λ us. NestRead bold italic true us vs (node (style_tree kind ps) ∷ qs))
     (sym (delimiter_added kind (line_cut in_line s first held) (line_items s first held)))
     (enclosed_read bold italic kind (cut_line (line_cut in_line s first held) (line_items s first held)) (cut_line later_cut later_items) vs ps qs b k.0 a))

@@ -17,31 +17,35 @@ use Rattle.wt_beside_laws.specs.Cuts.{own_glyphs, ends_word}
 use Rattle.wt_beside_laws.specs.Kept.{IsKept, characters}
 use Rattle.wt_beside_laws.specs.Lines.{AreCharacters}
 use Rattle.wt_beside_laws.specs.Nests.{marks}
-use Rattle.wt_beside_laws.specs.Nodes.{IsDelimiter, IsNode, MayFollow, MayLead}
-use Rattle.wt_beside_laws.specs.PageSigns.{signs_of_lines, AreFlatLines}
+use Rattle.wt_beside_laws.specs.Nodes.{is_quote_last, IsDelimiter, IsNode, MayFollow, MayLead}
+use Rattle.wt_beside_laws.specs.PageSigns.{signs_of_lines, AreFlatLines, HasNoBreak}
 use Rattle.wt_beside_laws.specs.Stood.{things}
 use Rattle.wt_beside_laws.specs.Styled.{StyledContent, mark_source, signs_in, AreNested, IsStyledContent}
-use Rattle.wt_beside_laws.specs.StyledNodes.{IsPut, AreSomeAndPut, IsUrlApart, AreUrlsApart}
+use Rattle.wt_beside_laws.specs.StyledNodes.{IsPut, AreSomeAndPut, EndsUnquoted, IsUrlApart, AreUrlsApart}
 use Rattle.wt_beside_laws.proofs.Contents.{nowiki_reads}
-use Rattle.wt_beside_laws.proofs.Firm.{alone_as}
-use Rattle.wt_beside_laws.proofs.FlatAgain.{nowiki_kept}
+use Rattle.wt_beside_laws.proofs.FlatAgain.{put_kept as held_put}
+use Rattle.wt_beside_laws.proofs.Marks.Shown.{kept_node}
+use Rattle.wt_beside_laws.proofs.NodeItems.{node_as}
 use Rattle.wt_beside_laws.proofs.Each.{Each}
 use Rattle.wt_beside_laws.proofs.FlatContents.{Kept, kept_each, each_kept, Unbroken, each_unbroken, lines_unbroken}
 use Rattle.wt_beside_laws.proofs.NodesMeet.{atom_may}
 use Rattle.wt_beside_laws.proofs.PageNodes.{follows_none, Meet, MeetInPage, EachIsNode, EachMeets, MeetsEach, PairsMeet, nodes_of, all_meet, each_node, all_pairs}
 use Rattle.wt_beside_laws.proofs.PageSigns.{lines_stood, lines_at}
 use Rattle.wt_beside_laws.proofs.Styled.StyledLines.{mark_items, mark_glyphs}
+use Rattle.wt_beside_laws.specs.Commented.{IsHeld, EndsAsSaid}
+use Rattle.wt_beside_laws.specs.Led.{AreMarksLed}
+use Rattle.wt_beside_laws.specs.NodeItems.{node_items}
 
 -- ---- what is put
 
 own_mark : (t : Thing) (kind : Bool) → t.source ≡ mark_source kind → own_glyphs t ≡ byte_glyphs (mark_source kind)
-own_mark t kind e = ap (λ (bs : List ℕ). map glyph_of (page_items bs)) e ∙ mark_glyphs kind
+own_mark t kind e = ap (λ (bs : List ℕ). map glyph_of (node_items bs)) e ∙ mark_glyphs kind
 
-nowiki_items : page_items nowiki ≡ whole form.Nowiki None nowiki ∷ []
-nowiki_items = alone_as nowiki (whole form.Nowiki None nowiki ∷ []) nowiki_reads
+nowiki_items : node_items nowiki ≡ whole form.Nowiki None nowiki ∷ []
+nowiki_items = node_as nowiki (whole form.Nowiki None nowiki ∷ []) nowiki_reads
 
 own_nowiki : (t : Thing) → t.source ≡ nowiki → own_glyphs t ≡ glyph.Atom ∷ []
-own_nowiki t e = ap (λ (bs : List ℕ). map glyph_of (page_items bs)) e ∙ ap (map glyph_of) nowiki_items
+own_nowiki t e = ap (λ (bs : List ℕ). map glyph_of (node_items bs)) e ∙ ap (map glyph_of) nowiki_items
 
 delimiter_of : (kind : Bool) → IsDelimiter (byte_glyphs (mark_source kind))
 delimiter_of true = inr refl
@@ -57,10 +61,20 @@ mark_kept : (kind : Bool) → IsKept (mark_source kind)
 mark_kept true = record { parts = characters (mark_source true) ∷ []; are = ((refl, (refl, (refl, tt))), tt); is = refl }
 mark_kept false = record { parts = characters (mark_source false) ∷ []; are = ((refl, (refl, tt)), tt); is = refl }
 
+mark_page : (kind : Bool) → page_items (mark_source kind) ≡ marks kind
+mark_page kind = sym (kept_node (mark_source kind) (mark_kept kind)) ∙ mark_items kind
+
+mark_held : (kind : Bool) → IsHeld (mark_source kind)
+mark_held true = inl (mark_kept true, subst HasNoBreak (sym (mark_page true)) (refl, (refl, (refl, tt))))
+mark_held false = inl (mark_kept false, subst HasNoBreak (sym (mark_page false)) (refl, (refl, tt)))
+
+ends_so : (t : Thing) (r : Role) → t.role ≡ r → EndsAsSaid r t.source → EndsAsSaid t.role t.source
+ends_so t r e h = subst (λ (o : Role). EndsAsSaid o t.source) (sym e) h
+
 put_kept : (t : Thing) → IsPut t → Kept t
 put_kept t p = elim p [
-  | inl m ↦ subst IsKept (sym m.2) (mark_kept m.0)
-  | inr w ↦ subst IsKept (sym w.1) nowiki_kept
+  | inl m ↦ (subst IsHeld (sym m.2) (mark_held m.0), ends_so t Toggle m.1 tt)
+  | inr w ↦ (subst IsHeld (sym w.1) (held_put.of_nowiki), ends_so t Node w.0 tt)
 ]
 
 marks_unbroken : (kind : Bool) → IsUnbroken (marks kind)
@@ -69,8 +83,8 @@ marks_unbroken false = (refl, (refl, tt))
 
 put_unbroken : (t : Thing) → IsPut t → Unbroken t
 put_unbroken t p = elim p [
-  | inl m ↦ subst (λ (bs : List ℕ). IsUnbroken (page_items bs)) (sym m.2) (subst IsUnbroken (sym (mark_items m.0)) (marks_unbroken m.0))
-  | inr w ↦ subst (λ (bs : List ℕ). IsUnbroken (page_items bs)) (sym w.1) (subst IsUnbroken (sym nowiki_items) (refl, tt))
+  | inl m ↦ subst (λ (bs : List ℕ). IsUnbroken (node_items bs)) (sym m.2) (subst IsUnbroken (sym (mark_items m.0)) (marks_unbroken m.0))
+  | inr w ↦ subst (λ (bs : List ℕ). IsUnbroken (node_items bs)) (sym w.1) (subst IsUnbroken (sym nowiki_items) (refl, tt))
 ]
 
 -- ---- what holds of the page's nodes and of those that are put holds of all
@@ -118,42 +132,43 @@ mark_last false = refl
 put_meets : (t n : Thing) → IsPut t → Meet t n
 put_meets t n p = elim p [
   | inl m ↦ (
-    subst (λ (r : Role). MayFollow r (own_glyphs n)) (sym m.1) (follows_none (own_glyphs n) Toggle (λ g. tt)),
+    subst (λ (r : Role). MayFollow r (own_glyphs t) (own_glyphs n)) (sym m.1) (follows_none (own_glyphs t) (own_glyphs n) Toggle (λ g. tt)),
     lead_free n.role (ends_word false (own_glyphs t)) (ap (ends_word false) (own_mark t m.0 m.2) ∙ mark_last m.0),
   )
   | inr w ↦ (
-    subst (λ (r : Role). MayFollow r (own_glyphs n)) (sym w.0) (follows_none (own_glyphs n) Node (λ g. tt)),
+    subst (λ (r : Role). MayFollow r (own_glyphs t) (own_glyphs n)) (sym w.0) (follows_none (own_glyphs t) (own_glyphs n) Node (λ g. tt)),
     lead_free n.role (ends_word false (own_glyphs t)) (ap (ends_word false) (own_nowiki t w.1)),
   )
 ]
 
-link_marked : (kind : Bool) → MayFollow Link (byte_glyphs (mark_source kind))
-link_marked true = refl
-link_marked false = refl
+link_marked : (own : List Glyph) (kind : Bool) → MayFollow Link own (byte_glyphs (mark_source kind))
+link_marked own true = inl refl
+link_marked own false = inl refl
 
-before_mark : (r s : Role) (own : List Glyph) (kind adjacent : Bool) → s ≡ Toggle → own ≡ byte_glyphs (mark_source kind) → IsUrlApart r s adjacent → adjacent ≡ true
-    → MayFollow r own
-before_mark Link s own kind adjacent e i u z = subst (MayFollow Link) (sym i) (link_marked kind)
-before_mark External s own kind adjacent e i u z = follows_none own External (λ g. tt)
-before_mark (Bare ends) s own kind adjacent e i u z =
-    let apart : adjacent ≡ false = subst (λ (r : Role). IsUrlApart (Bare ends) r adjacent) e u in
-    let no : true ≡ false = sym z ∙ apart in cc
-before_mark Switch s own kind adjacent e i u z = follows_none own Switch (λ g. tt)
-before_mark Toggle s own kind adjacent e i u z = follows_none own Toggle (λ g. tt)
-before_mark (Mark ends began) s own kind adjacent e i u z = follows_none own (Mark ends began) (λ g. tt)
-before_mark (Group g) s own kind adjacent e i u z = follows_none own (Group g) (λ h. tt)
-before_mark Function s own kind adjacent e i u z = follows_none own Function (λ g. tt)
-before_mark Node s own kind adjacent e i u z = follows_none own Node (λ g. tt)
+bare_marked : (ends : Bool) (own : List Glyph) (kind : Bool) → is_quote_last own ≡ false → MayFollow (Bare ends) own (byte_glyphs (mark_source kind))
+bare_marked ends own true u = inr (record { unquoted = u; quotes = refl })
+bare_marked ends own false u = inr (record { unquoted = u; quotes = refl })
+
+before_mark : (r : Role) (own other : List Glyph) (kind : Bool) → other ≡ byte_glyphs (mark_source kind) → EndsUnquoted r own → MayFollow r own other
+before_mark Link own other kind i u = subst (MayFollow Link own) (sym i) (link_marked own kind)
+before_mark External own other kind i u = follows_none own other External (λ g. tt)
+before_mark (Bare ends) own other kind i u = subst (MayFollow (Bare ends) own) (sym i) (bare_marked ends own kind u)
+before_mark Switch own other kind i u = follows_none own other Switch (λ g. tt)
+before_mark Toggle own other kind i u = follows_none own other Toggle (λ g. tt)
+before_mark (Mark ends began) own other kind i u = follows_none own other (Mark ends began) (λ g. tt)
+before_mark (Group g) own other kind i u = follows_none own other (Group g) (λ h. tt)
+before_mark Function own other kind i u = follows_none own other Function (λ g. tt)
+before_mark Node own other kind i u = follows_none own other Node (λ g. tt)
 
 -- before what is put
-meets_put : (t n : Thing) → IsPut n → IsUrlApart t.role n.role (is_adjacent t n) → is_adjacent t n ≡ true → Meet t n
+meets_put : (t n : Thing) → IsPut n → IsUrlApart t n → is_adjacent t n ≡ true → Meet t n
 meets_put t n p u z = elim p [
   | inl m ↦ (
-    before_mark t.role n.role (own_glyphs n) m.0 (is_adjacent t n) m.1 (own_mark n m.0 m.2) u z,
+    before_mark t.role (own_glyphs t) (own_glyphs n) m.0 (own_mark n m.0 m.2) (u m.1 z),
     subst (λ (r : Role). MayLead r (ends_word false (own_glyphs t))) (sym m.1) tt,
   )
   | inr w ↦ (
-    subst (MayFollow t.role) (sym (own_nowiki n w.1)) (atom_may t.role),
+    subst (MayFollow t.role (own_glyphs t)) (sym (own_nowiki n w.1)) (inl (atom_may t.role)),
     subst (λ (r : Role). MayLead r (ends_word false (own_glyphs t))) (sym w.0) tt,
   )
 ]
@@ -167,7 +182,7 @@ meets_at t [] n later h = h.0
 meets_at t (o ∷ gone) n later h = meets_at t gone n later h.1
 
 -- a node of the page, and what is behind it
-first_meet : (t n : Thing) (ts qs : List Thing) → AreSomeAndPut (n ∷ ts) qs → IsUrlApart t.role n.role (is_adjacent t n) → MeetsEach t qs → MeetInPage t n
+first_meet : (t n : Thing) (ts qs : List Thing) → AreSomeAndPut (n ∷ ts) qs → IsUrlApart t n → MeetsEach t qs → MeetInPage t n
 first_meet t n ts qs a u m z = elim a [
   | inl p ↦ meets_put t n p.0 u z
   | inr q ↦ meets_at t q.0 n q.1 (subst (MeetsEach t) q.2 m) z
@@ -186,9 +201,9 @@ meet_some (t ∷ n ∷ ts) ps a u m = elim a [
 -- ---- the content
 
 pub styled_content : (s : Setting) (ls : List (List Item)) (at : ℕ) (t : StyledContent) → s.within ≡ false → AreFlatLines ls → AreKept (signs_of_lines at ls)
-    → AreCharacters (signs_in t) → AreNested false false t → AreSomeAndPut (things (signs_in t)) (things (signs_of_lines at ls)) → AreUrlsApart (things (signs_in t))
+    → AreCharacters (signs_in t) → AreNested false false t → AreMarksLed (signs_in t) → AreSomeAndPut (things (signs_in t)) (things (signs_of_lines at ls)) → AreUrlsApart (things (signs_in t))
     → IsStyledContent s t
-styled_content s ls at t block flat kept typed nested some apart =
+styled_content s ls at t block flat kept typed nested led some apart =
     let olds : List ContentSign = signs_of_lines at ls in
     let signs : List ContentSign = signs_in t in
     let nodes : EachIsNode (things signs) = nodes_some (things signs) (things olds) some (each_node false olds (lines_stood at ls flat)) in
@@ -200,5 +215,6 @@ styled_content s ls at t block flat kept typed nested some apart =
       nodes = nodes_of signs nodes;
       unbroken = each_unbroken signs (each_some Unbroken put_unbroken (things signs) (things olds) some (lines_unbroken at ls flat));
       nested = nested;
+      led = led;
       meet = all_meet s [] signs (nodes, meets);
     }

@@ -2,6 +2,7 @@
 use Rattle.std.proofs.Common.{◌≡◌, ℕ, ◌==◌, Bool, true, false, not, List, [], ◌∷◌, ◌++◌, map, refl, sym, ap, ◌∙◌, subst, append_assoc, append-nil, All}
 use Rattle.std.specs.Prelude.{◌||◌, if◌then◌else◌}
 use Rattle.wt_span.specs.Items.{Item}
+use Rattle.wt_span.specs.Runs.{AreRuns}
 use Rattle.wt_span.proofs.RunLaws.{runs_are}
 use Rattle.wt_guards.specs.Content.{ContentSign, letter, thing}
 use Rattle.wt_guards.specs.Guards.{Setting, is_guarded, spelled}
@@ -13,25 +14,27 @@ use Rattle.wt_lines.proofs.FullLines.{same_lines}
 use Rattle.wt_inline.specs.declared.loose.Loose.TheVariants.{Text}
 use Rattle.wt_inline.specs.Parts.{Part, node, parts}
 use Rattle.wt_context.specs.Line.{line_parts}
-use Rattle.wt_page.specs.Rows.{rows_from, rows}
+use Rattle.wt_page.specs.Rows.{marks_len, rows}
 use Rattle.wt_page.specs.Texts.{para_parts, para}
 use Rattle.wt_page.specs.Body.{within, blocks, meaning}
 use Rattle.wt_text_edit_laws.specs.ParagraphBetween.{EndsApart, EndsParagraph, blocks_in, body_with}
 use Rattle.wt_text_edit_laws.specs.ParagraphParts.{break, after_breaks, joined_parts, para_with}
 use Rattle.wt_text_edit_laws.proofs.Texts.PlainRows.{text_row}
 use Rattle.wt_beside_laws.specs.Content.{guard_items, letter_items}
-use Rattle.wt_beside_laws.specs.Lines.{IsLineOfText, line_items, later_lines}
+use Rattle.wt_beside_laws.specs.Lines.{IsLineOfText, AreLinesOfText, line_items, later_lines}
 use Rattle.wt_beside_laws.specs.Nests.{style_tree}
 use Rattle.wt_beside_laws.specs.Nodes.{AreNodes, AllMeet}
 use Rattle.wt_beside_laws.specs.Styled.{StyledContent, finished, sign, styled, delimiter, signs_before, signs_in, signs_past, AreNested, IsStyledContent, styled_parts}
-use Rattle.wt_beside_laws.proofs.Contents.{content_alone}
+use Rattle.wt_beside_laws.proofs.FlatLines.{lines_unled}
 use Rattle.wt_beside_laws.proofs.LineItems.{content_lines_are}
-use Rattle.wt_beside_laws.proofs.LineKinds.{lines_are_text}
-use Rattle.wt_beside_laws.proofs.LineParagraphs.{front_all, rest_all, no_end, rows_text, para_by, body_of, body_by}
-use Rattle.wt_text_edit_laws.proofs.Paragraphs.LineBlocks.{OwnBreaks}
+use Rattle.wt_beside_laws.proofs.LineKinds.{lines_are_text, are_lines_of_text}
+use Rattle.wt_beside_laws.proofs.LineParagraphs.{front_all, rest_all, no_end, body_of, body_by}
+use Rattle.wt_text_edit_laws.proofs.Paragraphs.LineBlocks.{OwnBreaks, paragraph_rows}
 use Rattle.wt_beside_laws.proofs.LineRows.{rows_parts, content_own, later_by, both_by, break_parts}
-use Rattle.wt_beside_laws.proofs.LineStands.{lines_by, stands_so}
+use Rattle.wt_beside_laws.proofs.LineStands.{ContentLines, lines_by, unbroken_rows, stands_so}
 use Rattle.wt_beside_laws.proofs.Styled.StyledLines.{nodes_behind, within_style, styled_line}
+use Rattle.wt_beside_laws.proofs.Marks.Commented.{content_alone}
+use Rattle.wt_beside_laws.specs.NodeItems.{node_items}
 
 -- ---- the lines behind a place
 
@@ -93,7 +96,7 @@ all_joined s before (sign (letter c) t) =
     ∙ ap (λ ps. guard ++ ps)
     (both_by (c == 10) own line later (styled_parts false s (letter c ∷ before) t []) (break_parts s before c signs) (all_joined s (letter c ∷ before) t))
 all_joined s before (sign (thing x) t) =
-    let own : List Part = line_parts (page_items x.source) in
+    let own : List Part = line_parts (node_items x.source) in
     let line : List Part = styled_parts true s (thing x ∷ before) t [] in
     let later : List Part = later_parts s (thing x ∷ before) t in
     let guard : List Part = parts Text (guard_items (is_guarded s before (thing x ∷ signs_before t []))) in
@@ -117,6 +120,7 @@ lines_joined s before t n k m =
 
 record Paragraph (xs : List Item) (ps : List Part) : Type 0 where
   text : (n : ℕ) → All (IsLineOfText n) (map content (full_lines xs))
+  unled : marks_len xs ≡ 0
   closed : empty_end xs ≡ []
   parts_are : para_parts (map text_row (full_lines xs)) ≡ ps
 
@@ -124,13 +128,14 @@ styled_paragraph : (s : Setting) (t : StyledContent) → IsStyledContent s t →
 styled_paragraph s t h =
     let signs : List ContentSign = signs_in t in
     let xs : List Item = page_items (spelled s signs) in
-    let is = content_lines_are s signs h.kept h.unbroken in
+    let is = content_lines_are s signs (record { within = h.of_block; kept = h.kept; nodes = h.nodes; led = h.led }) h.unbroken in
     let all : (n : ℕ) → All (IsLineOfText n) (map content (full_lines xs) ++ empty_end xs) =
     λ n. subst (All (IsLineOfText n)) (sym is ∙ same_lines xs) (lines_are_text n s signs h.of_block h.characters h.nodes) in
     let closed : empty_end xs ≡ [] = no_end 0 xs (rest_all (IsLineOfText 0) (map content (full_lines xs)) (empty_end xs) (all 0)) in
-    let own : OwnBreaks xs = subst OwnBreaks (sym (content_alone s signs h.kept)) (content_own s [] signs h.unbroken) in
+    let own : OwnBreaks xs = subst OwnBreaks (sym (content_alone s signs (record { within = h.of_block; kept = h.kept; nodes = h.nodes; led = h.led }))) (content_own s [] signs h.unbroken) in
     record {
       text = λ n. front_all (IsLineOfText n) (map content (full_lines xs)) (empty_end xs) (all n);
+      unled = lines_unled 0 xs (subst (AreLinesOfText 0) (sym is) (are_lines_of_text 0 s signs h.of_block h.led.first h.characters h.nodes));
       closed = closed;
       parts_are = rows_parts xs (line_items s [] signs) (later_lines s [] signs) own closed is ∙ lines_joined s [] t h.nodes h.nested h.meet;
     }
@@ -138,20 +143,19 @@ styled_paragraph s t h =
 pub styled_closed : (s : Setting) (t : StyledContent) → IsStyledContent s t → empty_end (page_items (spelled s (signs_in t))) ≡ []
 styled_closed s t h = (styled_paragraph s t h).closed
 
-pub styled_text : (s : Setting) (t : StyledContent) → IsStyledContent s t → All (IsLineOfText 0) (map content (full_lines (page_items (spelled s (signs_in t)))))
-styled_text s t h = (styled_paragraph s t h).text 0
+-- by its lines
+its_lines : (xs : List Item) (ps : List Part) → Paragraph xs ps → ContentLines xs (para_with ps)
+its_lines xs ps p = lines_by xs ps (full_lines xs) refl (runs_are goes_on xs) p.closed p.unled p.text p.parts_are
 
-rows_are : (xs : List Item) (ps : List Part) → Paragraph xs ps → rows xs ≡ map text_row (full_lines xs)
-unfolding rows
-rows_are xs ps p =
-    ap (rows_from 0) (sym (append-nil (full_lines xs))) ∙ rows_text 0 (full_lines xs) [] (p.text 0) ∙ append-nil (map text_row (full_lines xs))
+rows_are : (xs : List Item) (ps : List Part) (c : ContentLines xs (para_with ps)) → rows xs ≡ paragraph_rows c.first c.others
+rows_are xs ps c = ap rows (sym (append-nil xs)) ∙ unbroken_rows xs (para_with ps) c
 
 pub styled_para : (s : Setting) (t : StyledContent) → IsStyledContent s t → para (rows (page_items (spelled s (signs_in t)))) ≡ para_with (styled_parts false s [] t [])
 styled_para s t h =
     let xs : List Item = page_items (spelled s (signs_in t)) in
     let ps : List Part = styled_parts false s [] t [] in
-    let p = styled_paragraph s t h in
-    ap para (rows_are xs ps p) ∙ para_by (map text_row (full_lines xs)) ps p.parts_are
+    let c : ContentLines xs (para_with ps) = its_lines xs ps (styled_paragraph s t h) in
+    ap para (rows_are xs ps c) ∙ c.makes
 
 pub styled_meaning : (s : Setting) (t : StyledContent) → IsStyledContent s t
     → meaning (page_items (spelled s (signs_in t))) ≡ body_with (para_with (styled_parts false s [] t []) ∷ [])
@@ -160,14 +164,13 @@ styled_meaning s t h =
     let xs : List Item = page_items (spelled s (signs_in t)) in
     let ps : List Part = styled_parts false s [] t [] in
     let p = styled_paragraph s t h in
-    ap (λ rs. body_of (within MOST_TABLES rs)) (rows_are xs ps p)
-    ∙ body_by (full_lines xs) xs (para_with ps) (runs_are goes_on xs) p.closed (para_by (map text_row (full_lines xs)) ps p.parts_are)
+    let c : ContentLines xs (para_with ps) = its_lines xs ps p in
+    ap (λ rs. body_of (within MOST_TABLES rs)) (rows_are xs ps c)
+    ∙ body_by c.first c.others xs (para_with ps) (subst (λ ms. AreRuns goes_on ms xs) c.are (runs_are goes_on xs)) p.closed c.makes
 
 pub styled_stands : (before : List Item) (s : Setting) (t : StyledContent) (tail : List Item) → EndsApart before → IsStyledContent s t → EndsParagraph tail
     → meaning (before ++ (page_items (spelled s (signs_in t)) ++ tail)) ≡ body_with (blocks_in before ++ para_with (styled_parts false s [] t []) ∷ blocks_in tail)
 styled_stands before s t tail a h e =
     let xs : List Item = page_items (spelled s (signs_in t)) in
     let ps : List Part = styled_parts false s [] t [] in
-    let p = styled_paragraph s t h in
-    stands_so before xs tail (para_with ps) a
-    (lines_by xs (para_with ps) (full_lines xs) refl (runs_are goes_on xs) p.closed p.text (para_by (map text_row (full_lines xs)) ps p.parts_are)) e
+    stands_so before xs tail (para_with ps) a (its_lines xs ps (styled_paragraph s t h)) e

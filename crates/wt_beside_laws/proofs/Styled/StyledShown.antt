@@ -6,7 +6,6 @@ use Rattle.wt_span.specs.Items.{Item}
 use Rattle.wt_guards.specs.Content.{ContentSign, letter, thing}
 use Rattle.wt_guards.specs.Guards.{Setting, is_guarded}
 use Rattle.wt_guards.specs.Letters.{is_escaped}
-use Rattle.wt_expand.specs.PageItems.{page_items}
 use Rattle.wt_inline.specs.declared.loose.Loose.TheVariants.{Text}
 use Rattle.wt_inline.specs.Parts.{Part, node, parts}
 use Rattle.wt_context.specs.Line.{line_parts}
@@ -23,6 +22,7 @@ use Rattle.wt_beside_laws.specs.StyledShown.{style_shown, styled_shown}
 use Rattle.wt_beside_laws.proofs.LineParts.{node_texts}
 use Rattle.wt_beside_laws.proofs.LineShown.{one_by_one, shown_append, children_show, guard_shows, letter_shows, guard_texts}
 use Rattle.wt_beside_laws.proofs.Styled.StyledLines.{nodes_behind}
+use Rattle.wt_beside_laws.specs.NodeItems.{node_items}
 
 -- ---- a style
 
@@ -46,7 +46,7 @@ styled_texts s bold italic before (sign (letter c) t) after n k =
     (texts_both (parts Text own) more (text_parts own) (styled_texts s bold italic (letter c ∷ before) t after n k.1))
 styled_texts s bold italic before (sign (thing x) t) after n k =
     let signs : List ContentSign = signs_before t after in
-    let own : List Part = line_parts (page_items x.source) in
+    let own : List Part = line_parts (node_items x.source) in
     let more : List Part = styled_parts false s (thing x ∷ before) t after in
     texts_both (parts Text (guard_items (is_guarded s before (thing x ∷ signs)))) (own ++ more) (guard_texts (is_guarded s before (thing x ∷ signs)))
     (texts_both own more (node_texts x k.0 n.0) (styled_texts s bold italic (thing x ∷ before) t after n.1 k.1))
@@ -73,7 +73,7 @@ styled_shows s bold italic before (sign (letter c) t) after rest n k =
     ∙ ap (text_before (encode_utf8 c)) (styled_shows s bold italic (letter c ∷ before) t after rest n k.1)
 styled_shows s bold italic before (sign (thing x) t) after rest n k =
     let signs : List ContentSign = signs_before t after in
-    let own : List Part = line_parts (page_items x.source) in
+    let own : List Part = line_parts (node_items x.source) in
     let more : List Part = styled_parts false s (thing x ∷ before) t after in
     guard_shows (is_guarded s before (thing x ∷ signs)) (own ++ more) rest
     ∙ shown_append own more rest

@@ -5,7 +5,6 @@ use Rattle.wt_guards.specs.declared.role.Role.{Role}
 use Rattle.wt_guards.specs.Content.{ContentSign, Thing, letter, thing}
 use Rattle.wt_guards.specs.Guards.{Setting, nowiki, spelled}
 use Rattle.wt_expand.specs.PageItems.{page_items}
-use Rattle.wt_lines.specs.Lines.{full_lines}
 use Rattle.wt_inline.specs.ItemTree.{forest, held_by_all}
 use Rattle.wt_inline.specs.Parts.{Part, children}
 use Rattle.wt_called_trees.specs.Rounded.{AllHaveItems}
@@ -32,19 +31,25 @@ use Rattle.wt_beside_laws.proofs.CalmContents.{content_utf8, content_unbraced, n
 use Rattle.wt_beside_laws.proofs.FlatAgain.{EachSource, IsShut, put_shut, from_shut, to_shut}
 use Rattle.wt_beside_laws.proofs.LineItems.{content_lines_are}
 use Rattle.wt_beside_laws.proofs.Made.Closes.{guard_closes, OpenFor, content_closes, block_open}
-use Rattle.wt_beside_laws.proofs.Made.Items.{AreHeld}
+use Rattle.wt_beside_laws.proofs.Made.Items.{AreOwnNodes}
 use Rattle.wt_beside_laws.proofs.Made.Levels.{BareTold, Told, AllTold, told_each, nodes_told, level_told}
 use Rattle.wt_beside_laws.proofs.Made.NodesSealed.{nodes_sealed}
 use Rattle.wt_beside_laws.proofs.Made.OldBlocks.{lines_are}
 use Rattle.wt_beside_laws.proofs.Made.OwnPages.{own_frame}
-use Rattle.wt_beside_laws.proofs.Made.Written.{FitsIn, lines_by, before_any, uncommented, firm, alone, before_break, ended_so, unended_so, texts_by, all_unled, calls_none, from_calm, to_calm, put_calm}
+use Rattle.wt_beside_laws.proofs.Made.Written.{FitsIn, lines_by, before_any, uncommented, firm, alone, before_break, ended_so, unended_so, texts_by, unled_by, calls_none, from_calm, to_calm, put_calm}
+use Rattle.wt_beside_laws.proofs.OwnItems.{content_own}
 use Rattle.wt_beside_laws.proofs.Styled.HeldStyles.{styled_have_items}
 use Rattle.wt_beside_laws.proofs.Styled.OldStyled.{styled_in_content}
 use Rattle.wt_beside_laws.proofs.Styled.StyledAgain.{quotes_utf8, again_each, again_lines, again_kept, again_shut}
 use Rattle.wt_beside_laws.proofs.Styled.StyledHeadings.{styled_inside, inside_parts}
 use Rattle.wt_beside_laws.proofs.Styled.StyledLines.{mark_items}
 use Rattle.wt_beside_laws.proofs.Styled.StyledNodes.{each_some}
-use Rattle.wt_beside_laws.proofs.Styled.StyledParagraphs.{lines_joined, styled_text}
+use Rattle.wt_beside_laws.proofs.Styled.StyledParagraphs.{lines_joined}
+use Rattle.wt_beside_laws.specs.Flat.{IsReadIn}
+use Rattle.wt_beside_laws.specs.NodeItems.{node_items}
+
+read_styled : (s : Setting) (t : StyledContent) → IsStyledContent s t → IsReadIn s (signs_in t)
+read_styled s t h = record { within = h.of_block; kept = h.kept; nodes = h.nodes; led = h.led }
 
 -- ---- its lines and parts
 
@@ -56,31 +61,31 @@ as_heading : (w : Sides) (s : Setting) (t : StyledContent) → IsStyledContent s
 as_heading w s t c h = record { styled = c; of_heading = h.0; one_line = h.1 }
 
 pub lines_so : (k : TextBlock) (s : Setting) (t : StyledContent) → IsStyledContent s t → StaysIn k s t → lines_in k (spelled s (signs_in t)) ≡ content_lines s (signs_in t)
-lines_so k s t c h = lines_by k s (signs_in t) c.kept c.unbroken (fits_of k s t h)
+lines_so k s t c h = lines_by k s (signs_in t) (read_styled s t c) c.unbroken (fits_of k s t h)
 
 pub styled_parts_so : (k : TextBlock) (s : Setting) (t : StyledContent) → IsStyledContent s t → StaysIn k s t
     → content_parts_of k (page_items (spelled s (signs_in t))) ≡ styled_parts false s [] t []
 styled_parts_so a_paragraph s t c h =
-    ap joined_parts (content_lines_are s (signs_in t) c.kept c.unbroken) ∙ lines_joined s [] t c.nodes c.nested c.meet
+    ap joined_parts (content_lines_are s (signs_in t) (read_styled s t c) c.unbroken) ∙ lines_joined s [] t c.nodes c.nested c.meet
 styled_parts_so (a_heading w) s t c h = inside_parts s t (as_heading w s t c h)
 
 stays_so : (k : TextBlock) (s : Setting) (t : StyledContent) → IsStyledContent s t → StaysAnywhere k (spelled s (signs_in t))
-stays_so a_paragraph s t c = λ n. texts_by n s (signs_in t) c.of_block c.characters c.nodes c.kept c.unbroken
+stays_so a_paragraph s t c = λ n. texts_by n s (signs_in t) (read_styled s t c) c.characters c.unbroken
 stays_so (a_heading w) s t c = tt
 
 lines_of_text : (s : Setting) (t : StyledContent) → IsStyledContent s t → AreParagraphLines (spelled s (signs_in t))
 lines_of_text s t c = record {
-  are_lines = texts_by 0 s (signs_in t) c.of_block c.characters c.nodes c.kept c.unbroken;
-  unled = all_unled (full_lines (page_items (spelled s (signs_in t)))) (styled_text s t c);
-  alone = alone s (signs_in t) c.kept;
-  before_break = before_break s (signs_in t) c.kept;
+  are_lines = texts_by 0 s (signs_in t) (read_styled s t c) c.characters c.unbroken;
+  unled = unled_by s (signs_in t) (read_styled s t c) c.characters c.unbroken;
+  alone = alone s (signs_in t) (read_styled s t c);
+  before_break = before_break s (signs_in t) (read_styled s t c);
 }
 
 -- a delimiter and a nowiki are no URL
 put_told : (t : Thing) → IsPut t → Told t
 put_told t p = elim p [
-  | inl m ↦ subst (λ (r : Role). BareTold r (map sign_of (page_items t.source))) (sym m.1) tt
-  | inr w ↦ subst (λ (r : Role). BareTold r (map sign_of (page_items t.source))) (sym w.0) tt
+  | inl m ↦ subst (λ (r : Role). BareTold r (map sign_of (node_items t.source))) (sym m.1) tt
+  | inr w ↦ subst (λ (r : Role). BareTold r (map sign_of (node_items t.source))) (sym w.0) tt
 ]
 
 content_so : (k : TextBlock) (q : List ℕ) (s : Setting) (t : StyledContent) → HasFrame k → IsStyledIn k q → IsStyledFor k q s t → IsContentOf k (spelled s (signs_in t))
@@ -93,7 +98,7 @@ content_so (a_heading g) q s t f h w =
     record {
       frame = f;
       inside = styled_inside s t (as_heading g s t c w.stays);
-      of_level = level_told s (signs_in t) g c.of_block c.kept c.characters c.nodes w.stays.1 told f.sides;
+      of_level = level_told s (signs_in t) g c.of_block c.kept c.characters c.nodes c.led w.stays.1 told f.sides;
     }
 
 -- ---- what holds of the sources of the page's nodes and of what is put holds of its sources
@@ -145,18 +150,18 @@ of_lines_so : (P : List (List Item) → Type 0) (k : TextBlock) (s : Setting) (t
     → P (content_lines s (signs_in t)) → P (lines_in k (spelled s (signs_in t)))
 of_lines_so P k s t c w h = subst P (sym (lines_so k s t c w)) h
 
-held_so : (k : TextBlock) (q : List ℕ) (s : Setting) (t : StyledContent) → IsStyledIn k q → IsStyledFor k q s t → AreHeld (forest (children (styled_parts false s [] t [])))
+held_so : (k : TextBlock) (q : List ℕ) (s : Setting) (t : StyledContent) → IsStyledIn k q → IsStyledFor k q s t → AreOwnNodes (forest (children (styled_parts false s [] t [])))
 held_so k q s t h w =
     styled_have_items s (lines_in k q) (begins_at k) t h.flat w.content.nested w.nodes
     (subst (λ (ps : List Part). AllHaveItems (forest (children ps))) (lines_are k q) h.has_items)
-    (subst (λ (ps : List Part). AllOfPage (held_by_all (forest (children ps)))) (lines_are k q) h.of_page)
+    (subst (λ (ps : List Part). AllOfPage (held_by_all (forest (children ps)))) (lines_are k q) (content_own k q))
 
 pub styled_again : (k : TextBlock) (q : List ℕ) (s : Setting) (t : StyledContent) → IsStyledIn k q → IsStyledFor k q s t → IsStyledIn k (spelled s (signs_in t))
 styled_again k q s t h w =
     let signs : List ContentSign = signs_in t in
     let c : IsStyledContent s t = w.content in
     let f : HasFrame k = own_frame k q h.is in
-    let b : IsBeforeAny (spelled s signs) = before_any s signs c.kept in
+    let b : IsBeforeAny (spelled s signs) = before_any s signs (read_styled s t c) in
     let calm : AreCalm signs = calm_so k q s t h w in
     let held = held_so k q s t h w in
     let parts : content_parts_of k (page_items (spelled s signs)) ≡ styled_parts false s [] t [] = styled_parts_so k s t c w.stays in
@@ -166,8 +171,7 @@ styled_again k q s t h w =
       ended = ended_so k (spelled s signs) f b;
       unended = unended_so k (spelled s signs) f b;
       is = content_so k q s t f h w;
-      calls_nothing = calls_none k s signs f c.kept calm;
-      of_page = subst (λ (ps : List Part). AllOfPage (held_by_all (forest (children ps)))) (sym parts) held.1;
+      calls_nothing = calls_none k s signs f (read_styled s t c) calm;
       has_items = subst (λ (ps : List Part). AllHaveItems (forest (children ps))) (sym parts) held.0;
       flat = of_lines_so AreFlatLines k s t c w.stays (again_lines s t c);
       kept = of_lines_so (λ (ls : List (List Item)). AreKept (signs_of_lines at ls)) k s t c w.stays (again_kept at s t c);
@@ -195,10 +199,10 @@ pub styled_new : (k : TextBlock) (q : List ℕ) (s : Setting) (t : StyledContent
 styled_new k q s t h w = record {
   firm = record {
     content = styled_in_content k (spelled s (signs_in t)) (styled_again k q s t h w);
-    firm = λ rest b. firm s (signs_in t) rest w.content.kept b;
-    uncommented = λ rest b. uncommented s (signs_in t) rest w.content.kept b;
+    firm = λ rest b. firm s (signs_in t) rest (read_styled s t w.content) b;
+    uncommented = λ rest b. uncommented s (signs_in t) rest (read_styled s t w.content) b;
     stays = stays_so k s t w.content;
-    unbraced = content_unbraced s (signs_in t) w.content.kept (calm_so k q s t h w);
+    unbraced = content_unbraced s (signs_in t) (read_styled s t w.content) (calm_so k q s t h w);
   };
   closes = λ name us vs o n. closes_so k q s t h w name us vs o n;
 }

@@ -1,5 +1,5 @@
 -- A content without bold and italic is one with them, of which none is there: what is sent for it nests, and it has no delimiter.
-use Rattle.std.proofs.Common.{◌≡◌, ◌≢◌, ℕ, ◌<◌, Bool, true, false, Option, Some, None, List, [], ◌∷◌, refl, sym, ap, ◌∙◌, subst}
+use Rattle.std.proofs.Common.{◌≡◌, ◌≢◌, ℕ, ◌<◌, false, Option, Some, None, List, [], ◌∷◌, refl, sym, ap, ◌∙◌, subst}
 use Rattle.std.specs.Str.{chars}
 use Rattle.wt_span.specs.Items.{Item}
 use Rattle.wt_link_spelling.specs.Spelling.{children_of}
@@ -9,10 +9,6 @@ use Rattle.wt_tree.specs.declared.edit_shape.InlineForm.{InlineForm}
 use Rattle.wt_tree.specs.declared.edit_shape.InlineForm.TheVariants as inline
 use Rattle.wt_tree.specs.declared.edit_shape.Sort.TheVariants as sort
 use Rattle.wt_tree.specs.Tree.{Label, Tree, tree, Trees, none, more}
-use Rattle.wt_guards.specs.declared.role.Role.{Role}
-use Rattle.wt_guards.specs.declared.role.Role.TheVariants.{Link, External, Bare, Switch, Toggle, Mark, Group, Function, Node}
-use Rattle.wt_guards.specs.Content.{ContentSign, Thing, letter, thing}
-use Rattle.wt_guards.specs.Guards.{is_adjacent}
 use Rattle.wt_original.specs.Kept.{Kept, kept_nodes, kept_with}
 use Rattle.wt_visible.specs.SameNodes.{same_node}
 use Rattle.wt_moved_laws.specs.Standing.{standing}
@@ -20,17 +16,15 @@ use Rattle.wt_typed_blocks.specs.Edited.{Pieces, no_pieces, gone, written, kept,
 use Rattle.wt_text_edit_laws.specs.Contents.{IsContent}
 use Rattle.wt_text_edit_laws.specs.TextBlocks.{TextBlock, block_tree}
 use Rattle.wt_beside_laws.specs.ContentEdits.{new_content, MakesContent}
-use Rattle.wt_beside_laws.specs.Flat.{IsFlat, AreFlat, IsFlatContent}
-use Rattle.wt_beside_laws.specs.FlatBlocks.{lines_in, IsFlatEditOf}
+use Rattle.wt_beside_laws.specs.Flat.{AreFlat, IsFlatContent}
+use Rattle.wt_beside_laws.specs.FlatBlocks.{lines_in, sent_for, IsFlatEditOf}
 use Rattle.wt_beside_laws.specs.OwnSigns.{HasOwnBy, HaveOwn}
 use Rattle.wt_beside_laws.specs.PageBlocks.{AreUnstyled}
+use Rattle.wt_beside_laws.specs.NewStyles.{NewStylesNest}
 use Rattle.wt_beside_laws.specs.SentPieces.{HaveNoStyle}
-use Rattle.wt_beside_laws.specs.SentStyled.{text_then, found_then, sent_by, sent_content, KeptIsFlat, breaks_line, NestsBy, AllNest}
-use Rattle.wt_beside_laws.specs.Stood.{things}
+use Rattle.wt_beside_laws.specs.SentStyled.{text_then, found_then, sent_by, sent_content, KeptIsFlat}
 use Rattle.wt_beside_laws.specs.Styled.{StyledContent, signs_in, IsStyledContent}
-use Rattle.wt_beside_laws.specs.StyledIn.{IsFlatIn, sent_for, IsStyledEditOf}
-use Rattle.wt_beside_laws.specs.StyledNodes.{MayEndUrl, IsUrlApart, AreUrlsApart}
-use Rattle.wt_beside_laws.proofs.Each.{Each}
+use Rattle.wt_beside_laws.specs.StyledIn.{IsFlatIn, IsStyledEditOf}
 use Rattle.wt_beside_laws.proofs.BlockSigns.{flat_block}
 use Rattle.wt_beside_laws.proofs.Made.Making.{known, setting, in_page}
 use Rattle.wt_beside_laws.proofs.Made.OldBlocks.{IsIn}
@@ -69,60 +63,15 @@ sent_flat block (more (tree l ts) us) s =
     one_flat (edit_shape l.kind).inline l (kept_with l.id (kept_nodes block)) (sent_content (known block) ts) (sent_content (known block) us) s.0
     (no_delimiter same_node block l.id) (sent_flat block us s.1)
 
--- ---- it nests
+-- ---- no style is new
 
-outside : (text : List ℕ) → false ≡ true → breaks_line text ≡ false
-outside text e = absurd (cc)
-
-one_nests : (w : InlineForm) (l : Label) (inside : Bool → Bool → Type 0) → HasOwnBy w l → NestsBy w false false l inside
-one_nests inline.Nothing l inside s = tt
-one_nests inline.Characters l inside s = outside l.shown
-one_nests inline.Bold l inside s = absurd s
-one_nests inline.Italic l inside s = absurd s
-one_nests inline.Shown l inside s = tt
-one_nests inline.PageLink l inside s = tt
-one_nests inline.ExternalLink l inside s = tt
-one_nests inline.Tag l inside s = tt
-one_nests inline.Break l inside s = tt
-one_nests inline.AsItStood l inside s = tt
-
-all_nest : (us : Trees) → HaveOwn us → AllNest false false us
-all_nest none s = tt
-all_nest (more (tree l ts) us) s = (one_nests (edit_shape l.kind).inline l (λ b i. AllNest b i ts) s.0, all_nest us s.1)
-
--- ---- no URL is before a delimiter
-
-end_apart : (r : Role) (v : Bool) → IsFlat r → MayEndUrl r v
-end_apart Link v h = tt
-end_apart External v h = tt
-end_apart (Bare ends) v h = tt
-end_apart Switch v h = tt
-end_apart Toggle v h = absurd h
-end_apart (Mark ends began) v h = tt
-end_apart (Group g) v h = tt
-end_apart Function v h = tt
-end_apart Node v h = tt
-
-url_apart : (r n : Role) (v : Bool) → IsFlat n → IsUrlApart r n v
-url_apart Link n v h = tt
-url_apart External n v h = tt
-url_apart (Bare ends) n v h = end_apart n v h
-url_apart Switch n v h = tt
-url_apart Toggle n v h = tt
-url_apart (Mark ends began) n v h = tt
-url_apart (Group g) n v h = tt
-url_apart Function n v h = tt
-url_apart Node n v h = tt
-
-each_flat : (signs : List ContentSign) → AreFlat signs → Each (λ t. IsFlat t.role) (things signs)
-each_flat [] h = tt
-each_flat (letter c ∷ after) h = each_flat after h
-each_flat (thing t ∷ after) h = (h.0, each_flat after h.1)
-
-all_apart : (ts : List Thing) → Each (λ t. IsFlat t.role) ts → AreUrlsApart ts
-all_apart [] h = tt
-all_apart (t ∷ []) h = tt
-all_apart (t ∷ n ∷ ts) h = (url_apart t.role n.role (is_adjacent t n) h.1.0, all_apart (n ∷ ts) h.1)
+no_new : (ps : Pieces) → HaveNoStyle ps → NewStylesNest false false ps
+no_new no_pieces p = tt
+no_new (gone t ps) p = no_new ps p
+no_new (written x text ps) p = ((λ e. absurd (cc)), no_new ps p)
+no_new (kept t u ps) p = no_new ps p
+no_new (around l m is ps) p = absurd p
+no_new (new_style m is ps) p = absurd p
 
 -- ---- what stays of a block without styles is no style
 
@@ -162,19 +111,8 @@ are_own k q block t ps h i same e =
     let own : HaveOwn (children_of block) = (flat_block (lines_in k q) block h.styled.flat h.unstyled (styled_of_lines k q block h.styled i)).own in
     pieces_own ps (subst HaveOwn (sym (e.old ∙ same)) own) e.stay e.plain
 
-edit_styled : (k : TextBlock) (q : List ℕ) (block t : Tree) (ps : Pieces) → IsFlatIn k q → IsIn k q block → children_of t ≡ children_of block → IsFlatEditOf k t ps
-    → IsStyledEditOf k t ps
-edit_styled k q block t ps h i same e =
-    let own : HaveOwn (sent_pieces ps) = are_own k q block t ps h i same e in
-    let signs : List ContentSign = signs_in (sent_for t ps) in
-    record {
-      old = e.old;
-      stay = e.stay;
-      are = e.are;
-      fit = e.fit;
-      nest = all_nest (sent_pieces ps) own;
-      apart = all_apart (things signs) (each_flat signs (sent_flat t (sent_pieces ps) own));
-    }
+edit_styled : (k : TextBlock) (t : Tree) (ps : Pieces) → IsFlatEditOf k t ps → IsStyledEditOf k t ps
+edit_styled k t ps e = record { old = e.old; stay = e.stay; are = e.are; led = e.led; fit = e.fit; new = no_new ps e.plain }
 
 -- ---- and no style begins in the new content
 
@@ -186,13 +124,14 @@ flat_so k block t c f = record {
   nodes = c.nodes;
   unbroken = c.unbroken;
   flat = f;
+  led = c.led;
   meet = c.meet;
 }
 
 unstyled_so : (k : TextBlock) (q : List ℕ) (block : Tree) (m : Label) (ps : Pieces) → IsFlatIn k q → IsIn k q block → IsFlatEditOf k block ps
     → AreUnstyled (lines_in k (new_content k block m ps))
 unstyled_so k q block m ps h i e =
-    let d : IsStyledEditOf k block ps = edit_styled k q block block ps h i refl e in
+    let d : IsStyledEditOf k block ps = edit_styled k block ps e in
     let w : IsSentWell k q block ps = sent_well k q block ps (own_so k q block h.styled i) h.styled i d in
     let t : StyledContent = sent_for block ps in
     let f : IsFlatContent (setting k block) (signs_in t) =
@@ -207,8 +146,7 @@ flat_content k q h = styled_in_content k q h.styled
 
 pub flat_edit : (k : TextBlock) (q : List ℕ) (n : ℕ) (b : List Item) (t : Tree) (ps : Pieces) → IsFlatIn k q → 0 < n
     → children_of t ≡ children_of (standing n b (block_tree k q)) → IsFlatEditOf k t ps → IsStyledEditOf k t ps
-flat_edit k q n b t ps h some same e =
-    let block : Tree = standing n b (block_tree k q) in edit_styled k q block t ps h (in_page k q n b block some refl) same e
+flat_edit k q n b t ps h some same e = edit_styled k t ps e
 
 pub flat_makes : (k : TextBlock) (q : List ℕ) (n : ℕ) (b : List Item) (block : Tree) (m : Label) (ps : Pieces) → IsFlatIn k q → 0 < n
     → block ≡ standing n b (block_tree k q) → IsFlatEditOf k block ps → MakesContent k q block m ps

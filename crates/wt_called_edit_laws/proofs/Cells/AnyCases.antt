@@ -40,7 +40,7 @@ use Rattle.wt_text_edit_laws.specs.BlockSpots.{BlockSpot, spots_source, AsAWhole
 use Rattle.wt_text_edit_laws.specs.Parts.{part_tree}
 use Rattle.wt_text_edit_laws.specs.TextBlocks.{a_paragraph, a_heading, IsFrame, IsTypedHeading}
 use Rattle.wt_text_edit_laws.specs.TypedHeadings.{spaced}
-use Rattle.wt_text_edit_laws.proofs.Blocks.Contents.{typed_firm}
+use Rattle.wt_text_edit_laws.proofs.Blocks.Contents.{typed_firmly}
 use Rattle.wt_text_edit_laws.specs.TypedPages.{IsTypedPage}
 use Rattle.wt_called_edit_laws.specs.AnyBlocks.{AreParts, AreSpots}
 use Rattle.wt_called_edit_laws.proofs.Cells.Cells.{typed_stays_text}
@@ -166,14 +166,14 @@ whole_here = record {
   calls_nothing = tt;
   end_before = (
     (refl, (refl, (refl, (refl, (refl, refl))))),
-    inl (typed_firm a_paragraph (codes "a") typed_a),
+    inl (typed_firmly a_paragraph (codes "a") typed_a),
     (
       (refl, (refl, (refl, refl))),
-      inl (typed_firm (a_heading (spaced 2)) (codes "h") typed_h),
+      inl (typed_firmly (a_heading (spaced 2)) (codes "h") typed_h),
       (
         (refl, refl),
-        inl (typed_firm a_paragraph (codes "b") typed_b),
-        ((refl, (refl, (refl, (refl, (refl, refl))))), inl (typed_firm a_paragraph (codes "c") typed_c), tt),
+        inl (typed_firmly a_paragraph (codes "b") typed_b),
+        ((refl, (refl, (refl, (refl, (refl, refl))))), inl (typed_firmly a_paragraph (codes "c") typed_c), tt),
       ),
     ),
   );

@@ -24,7 +24,7 @@ none_by : (bs : List Bool) → length bs ≡ 0 → bs ≡ []
 none_by [] e = refl
 none_by (b ∷ bs) e = absurd (omega (arith, e))
 
-none_open : (xs : List Item) → AreClosed (before_marks xs) → open_behind_part [] xs ≡ []
+pub none_open : (xs : List Item) → AreClosed (before_marks xs) → open_behind_part [] xs ≡ []
 none_open xs h =
     let ls : List (List Item) = full_lines (before_marks xs) in
     none_by (open_behind_part [] xs) (sym (open_size [] 0 ls refl) ∙ h.closed)
@@ -103,7 +103,7 @@ later_begins (a_heading s) next (y ∷ ys) b = (b, tt)
 
 -- ---- the end
 
-last_ends : (last : TextBlock) (ys : List Item) → EndsBlock last ys → EndsAfter last 0 ys
+pub last_ends : (last : TextBlock) (ys : List Item) → EndsBlock last ys → EndsAfter last 0 ys
 unfolding rows
 last_ends a_paragraph [] h = tt
 last_ends a_paragraph (y ∷ ys) h = (h.0, h.1)

@@ -24,9 +24,13 @@ use Rattle.wt_expand.specs.Expansion.{text_members, most_templates, absent_text,
 use Rattle.wt_expand.specs.PageCalls.{page_stretches, expanded_page}
 use Rattle.wt_text_edit_laws.specs.BlockSpots.{BlockSpot, spots_source}
 use Rattle.wt_text_edit_laws.specs.TextBlocks.{a_paragraph}
-use Rattle.wt_text_edit_laws.proofs.Blocks.Contents.{block_content, typed_firm}
-use Rattle.wt_called_edit_laws.specs.Parts.{AreCalled, part_items}
-use Rattle.wt_called_edit_laws.specs.CalledBlocks.{spots_among, items_behind, AreAmongCalls}
+use Rattle.wt_text_edit_laws.proofs.Blocks.Contents.{block_content, typed_firmly}
+use Rattle.wt_called_edit_laws.specs.Parts.{AreCalled}
+use Rattle.wt_joined_calls.specs.Expanded.{part_items}
+use Rattle.wt_text_edit_laws.proofs.Blocks.BlockReading.{content_read}
+use Rattle.wt_called_edit_laws.proofs.Parts.NoCallsCalled.{calm_anywhere}
+use Rattle.wt_called_edit_laws.proofs.Cells.ContentItems.{content_items}
+use Rattle.wt_called_edit_laws.specs.CalledBlocks.{spots_among, items_behind, CallNothing, AreAmongCalls}
 use Rattle.wt_called_edit_laws.specs.ItemSpots.{ArePlaced}
 use Rattle.wt_called_edit_laws.proofs.Cells.AnyCases.{a_spot, typed_a}
 use Rattle.wt_called_edit_laws.proofs.Cells.Cells.{typed_stays_text}
@@ -62,15 +66,20 @@ utf8_behind : IsUtf8 (codes "\n|}")
 unfolding encode
 utf8_behind = (codes "\n|}", (refl, refl))
 
-called_here : AreCalled blocks_here (codes "\n|}")
+calm_here : CallNothing blocks_here
+unfolding page_items words closed form_at comment_len comment_line_len raw_len opening_tag tag_after closing_tag with_inside include_at entity_at named_entity decimal_entity
+    hex_entity entity_names sign_word reduced rewritten
+calm_here = (tt, tt)
+
+called_here : AreCalled opens_table blocks_here (codes "\n|}")
 unfolding page_items words closed form_at comment_len comment_line_len raw_len opening_tag tag_after closing_tag with_inside include_at entity_at named_entity decimal_entity
     hex_entity entity_names sign_word reduced rewritten
 called_here = (
-  record { ended = refl; before_utf8 = utf8_before; block = block_content a_paragraph (codes "a") (inl typed_a) },
+  record { ended = refl; before_utf8 = utf8_before; block = content_read a_paragraph (codes "a") (block_content a_paragraph (codes "a") (inl typed_a)) },
   (record { uncommented = refl }, utf8_behind, refl),
   record {
-    end_before = ((refl, (refl, (refl, (refl, (refl, (refl, refl)))))), inl (typed_firm a_paragraph (codes "a") typed_a), tt);
-    calm = (tt, tt);
+    end_before = ((refl, (refl, (refl, (refl, (refl, (refl, refl)))))), inl (typed_firmly a_paragraph (codes "a") typed_a), tt);
+    anywhere = calm_anywhere opens_table blocks_here (block_content a_paragraph (codes "a") (inl typed_a), tt) calm_here;
     apart = tt;
   },
 )
@@ -83,10 +92,10 @@ unfolding words closed form_at comment_len comment_line_len raw_len opening_tag 
     full_name_of whole_in cut_namespace title_in template_text begins_only ends_only loop_text depth_text absent_text
     utf8_valid_len is_utf8 chars encode link_to page_stretches expanded_page kind_of_signs
 placed_here = (
-  (block_content a_paragraph (codes "a") (inl typed_a), record { whole = refl; in_cells = (refl, tt); apart = refl }, typed_stays_text 1 (codes "a") typed_a),
+  (content_items a_paragraph (codes "a") (block_content a_paragraph (codes "a") (inl typed_a)), record { whole = refl; in_cells = (refl, tt); apart = refl }, typed_stays_text 1 (codes "a") typed_a),
   (refl, refl),
 )
 
 -- So texts may be typed in it.
 in_class : AreAmongCalls opens_table blocks_here (codes "\n|}")
-in_class = record { called = called_here; placed = placed_here }
+in_class = record { called = called_here; contents = (block_content a_paragraph (codes "a") (inl typed_a), tt); calm = calm_here; placed = placed_here }

@@ -10,14 +10,13 @@ use Rattle.wt_lines.specs.Lines.{goes_on, full_lines, content, empty_end}
 use Rattle.wt_lines.proofs.FullLines.{same_lines}
 use Rattle.wt_tables.specs.Extents.{behind}
 use Rattle.wt_headings.specs.Lines.{kind_at, ending}
-use Rattle.wt_page.specs.Rows.{Row, whole_row, line_rows, rows_from, rows}
+use Rattle.wt_page.specs.Rows.{Row, marks_len, whole_row, line_rows, rows_from, rows}
 use Rattle.wt_row_laws.specs.Rounds.{TableRound, in_cell, in_cells}
 use Rattle.wt_text_edit_laws.specs.ParagraphBetween.{written_rows}
-use Rattle.wt_text_edit_laws.specs.Contents.{AreUnled}
-use Rattle.wt_text_edit_laws.proofs.Texts.PlainRows.{text_row, last_break}
+use Rattle.wt_text_edit_laws.proofs.Texts.PlainRows.{last_break}
 use Rattle.wt_text_edit_laws.proofs.Prose.ProseReading.{break}
-use Rattle.wt_text_edit_laws.proofs.Prose.ProseLines.{ended, content_ended, ended_runs}
-use Rattle.wt_text_edit_laws.proofs.Paragraphs.LineBlocks.{IsLineBlock, block_runs, still_unled}
+use Rattle.wt_text_edit_laws.proofs.Prose.ProseLines.{first_ended, rest_ended, ended, content_ended, ended_runs}
+use Rattle.wt_text_edit_laws.proofs.Paragraphs.LineBlocks.{later_row, paragraph_rows, IsLineBlock, block_runs, still_unled}
 use Rattle.wt_text_edit_laws.proofs.Paragraphs.Joining.{lines_join, rows_join}
 use Rattle.wt_called_edit_laws.specs.InCells.{rows_before, rows_behind, open_tables, AreBehind, AreTextLines}
 
@@ -53,12 +52,15 @@ abbrev AreAt : ℕ → List (List Item) → Type 0
 AreAt n [] = Unit {0}
 AreAt n (l ∷ ls) = (kind_at n l ≡ line.Text) × AreAt n ls
 
-texts_at : (n : ℕ) (ls ms : List (List Item)) → AreUnled ls → AreAt n ls → rows_from n (ls ++ ms) ≡ map text_row ls ++ rows_from n ms
-texts_at n [] ms h k = refl
-texts_at n (l ∷ ls) ms h k =
-    ap (λ (j : LineKind). line_rows j l ++ rows_from (behind n j) (ls ++ ms)) k.0
-    ∙ ap (λ (m : ℕ). whole_row line.Text m l ∷ rows_from n (ls ++ ms)) h.0
-    ∙ ap (λ rs. text_row l ∷ rs) (texts_at n ls ms h.1 k.1)
+later_at : (n : ℕ) (ls ms : List (List Item)) → AreAt n ls → rows_from n (ls ++ ms) ≡ map later_row ls ++ rows_from n ms
+later_at n [] ms k = refl
+later_at n (l ∷ ls) ms k =
+    ap (λ (j : LineKind). line_rows j l ++ rows_from (behind n j) (ls ++ ms)) k.0 ∙ ap (λ rs. later_row l ∷ rs) (later_at n ls ms k.1)
+
+texts_at : (n : ℕ) (l : List Item) (ls ms : List (List Item)) → marks_len l ≡ 0 → AreAt n (l ∷ ls)
+    → rows_from n ((l ∷ ls) ++ ms) ≡ paragraph_rows l ls ++ rows_from n ms
+texts_at n l ls ms h k =
+    later_at n (l ∷ ls) ms k ∙ ap (λ (m : ℕ). whole_row line.Text m l ∷ (map later_row ls ++ rows_from n ms)) h
 
 abbrev IsTextAt : ℕ → List Item → Type 0
 IsTextAt n l = line_kind n l ≡ line.Text
@@ -79,8 +81,8 @@ ended_at n l (m ∷ ls) h e = (h.0, ended_at n m ls h.1 e)
 
 -- by what follows the paragraph
 abbrev pub own_rows : (own : List Item) → IsLineBlock own → List Item → List Row
-own_rows own b [] = map text_row (b.first ∷ b.others)
-own_rows own b (y ∷ ys) = map text_row (ended b.first b.others)
+own_rows own b [] = paragraph_rows b.first b.others
+own_rows own b (y ∷ ys) = paragraph_rows (first_ended b.first b.others) (rest_ended b.first b.others)
 
 ended_lines : (own ys : List Item) (b : IsLineBlock own) → full_lines (own ++ break ∷ ys) ≡ ended b.first b.others ++ full_lines ys
 ended_lines own ys b =
@@ -92,13 +94,14 @@ pub text_rows : (n : ℕ) (own tail : List Item) (b : IsLineBlock own) (rs : Lis
 text_rows n own [] b rs a e =
     ap (λ zs. rows_from n (full_lines zs)) (append-nil own)
     ∙ ap (rows_from n) (b.are_lines ∙ sym (append-nil (b.first ∷ b.others)))
-    ∙ texts_at n (b.first ∷ b.others) [] b.are_unled (kinds_at n own b a)
-    ∙ ap (λ zs. map text_row (b.first ∷ b.others) ++ zs) e
+    ∙ texts_at n b.first b.others [] b.unled (kinds_at n own b a)
+    ∙ ap (λ zs. paragraph_rows b.first b.others ++ zs) e
 text_rows n own (y ∷ ys) b rs a e =
     ap (λ z. rows_from n (full_lines (own ++ z ∷ ys))) e.0
     ∙ ap (rows_from n) (ended_lines own ys b)
-    ∙ texts_at n (ended b.first b.others) (full_lines ys) (still_unled b.first b.others b.are_unled) (ended_at n b.first b.others (kinds_at n own b a) b.are_unended)
-    ∙ ap (λ zs. map text_row (ended b.first b.others) ++ zs) e.1
+    ∙ texts_at n (first_ended b.first b.others) (rest_ended b.first b.others) (full_lines ys) (still_unled b.first b.others b.unled)
+    (ended_at n b.first b.others (kinds_at n own b a) b.are_unended)
+    ∙ ap (λ zs. paragraph_rows (first_ended b.first b.others) (rest_ended b.first b.others) ++ zs) e.1
 
 pub page_rows : (xs own tail : List Item) (b : IsLineBlock own) (rs : List Row) → empty_end xs ≡ [] ∷ [] → AreTextLines (open_tables xs) own
     → AreBehind (open_tables xs) tail rs

@@ -22,7 +22,7 @@ use Rattle.wt_text_edit_laws.specs.TextBlocks.{a_paragraph}
 use Rattle.wt_text_edit_laws.specs.BlockSpots.{BlockSpot}
 use Rattle.wt_text_edit_laws.proofs.Between.LineForms.{ends_before_any}
 use Rattle.wt_text_edit_laws.proofs.Between.TextReads.{calm_between}
-use Rattle.wt_text_edit_laws.proofs.Blocks.Contents.{typed_firm}
+use Rattle.wt_text_edit_laws.proofs.Blocks.Contents.{typed_firmly}
 use Rattle.wt_called_edit_laws.specs.AnyBlocks.{open_after, rows_of_part, open_behind_part, LeadsInto, IsTextRead, EndsAfter, AreParts, AreSpots}
 use Rattle.wt_called_edit_laws.specs.CellEdits.{CellPage, IsCellPage}
 use Rattle.wt_called_edit_laws.specs.InCells.{rows_before, rows_behind, open_tables, AreBehind, IsInCell}
@@ -285,7 +285,7 @@ cell_spots c h =
       parts = parts;
       whole = record {
         calls_nothing = calm_between c.before c.text c.behind h.stands h.is_typed h.follows h.calls_nothing;
-        end_before = (ends_before_any (c.text ++ c.behind) c.before h.stands.has_ends, inl (typed_firm a_paragraph c.text h.is_typed), tt);
+        end_before = (ends_before_any (c.text ++ c.behind) c.before h.stands.has_ends, inl (typed_firmly a_paragraph c.text h.is_typed), tt);
       };
       ungrouped = h.ungrouped;
     }

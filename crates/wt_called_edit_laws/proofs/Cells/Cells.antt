@@ -12,18 +12,16 @@ use Rattle.wt_page.specs.Texts.{para}
 use Rattle.wt_page.specs.Body.{blocks, meaning}
 use Rattle.wt_expand.specs.PageItems.{page_items}
 use Rattle.wt_spelling_laws.proofs.TextKinds.{lines_are_text}
-use Rattle.wt_row_laws.specs.Blocks.{AllAre}
 use Rattle.wt_row_laws.specs.Rounds.{filled, in_cells, AreTexts as AreTextRows, ParagraphStands}
 use Rattle.wt_row_laws.proofs.Fitting.{node_is}
 use Rattle.wt_row_laws.proofs.InCells.{paragraph_stands}
 use Rattle.wt_text_edit_laws.specs.LonePages.{para_of}
 use Rattle.wt_text_edit_laws.specs.TypedPages.{IsTypedPage}
 use Rattle.wt_text_edit_laws.specs.ParagraphParts.{joined_parts, para_with}
-use Rattle.wt_text_edit_laws.proofs.Texts.PlainRows.{text_row}
 use Rattle.wt_text_edit_laws.proofs.Prose.ProseReading.{break}
-use Rattle.wt_text_edit_laws.proofs.Prose.ProseLines.{ended, IsTextBlock}
+use Rattle.wt_text_edit_laws.proofs.Prose.ProseLines.{first_ended, rest_ended, IsTextBlock}
 use Rattle.wt_text_edit_laws.proofs.Prose.ProseBlocks.{last_ended, last_unended}
-use Rattle.wt_text_edit_laws.proofs.Paragraphs.LineBlocks.{OwnBreaks, page_breaks, IsLineBlock, as_lines, rows_para, ended_para, text_tree}
+use Rattle.wt_text_edit_laws.proofs.Paragraphs.LineBlocks.{OwnBreaks, page_breaks, IsLineBlock, as_lines, paragraph_last, paragraph_texts, rows_para, ended_para, text_tree}
 use Rattle.wt_text_edit_laws.proofs.Paragraphs.Texts.{paragraph_written}
 use Rattle.wt_called_edit_laws.specs.InCells.{rows_behind, AreTextLines, IsInCell, StandsInCell}
 use Rattle.wt_called_edit_laws.proofs.Cells.CellRows.{in_order, own_rows, page_rows}
@@ -34,13 +32,13 @@ abbrev pub end_of : List Item → List Item
 end_of [] = []
 end_of (y ∷ ys) = break ∷ []
 
-all_text : (ls : List (List Item)) → AllAre line.Text (map text_row ls)
-all_text [] = tt
-all_text (l ∷ ls) = (refl, all_text ls)
-
 pub own_are : (own tail : List Item) (b : IsLineBlock own) → AreTextRows [] (end_of tail) (own_rows own b tail)
-own_are own [] b = (all_text (b.first ∷ b.others), refl, last_unended b.first b.others ∙ b.are_unended)
-own_are own (y ∷ ys) b = (all_text (ended b.first b.others), refl, last_ended b.first b.others)
+own_are own [] b =
+    (paragraph_texts b.first b.others, refl, paragraph_last b.first b.others ∙ last_unended b.first b.others ∙ b.are_unended)
+own_are own (y ∷ ys) b =
+    let first : List Item = first_ended b.first b.others in
+    let rest : List (List Item) = rest_ended b.first b.others in
+    (paragraph_texts first rest, refl, paragraph_last first rest ∙ last_ended b.first b.others)
 
 pub own_para : (own tail : List Item) (b : IsLineBlock own) → OwnBreaks own → para (own_rows own b tail) ≡ para_with (joined_parts (lines own))
 own_para own [] b o = rows_para own b o

@@ -62,11 +62,14 @@ use Rattle.wt_text_edit_laws.specs.Contents.{IsContent}
 use Rattle.wt_text_edit_laws.specs.LonePages.{page_chars}
 use Rattle.wt_text_edit_laws.specs.TextBlocks.{a_paragraph, a_heading}
 use Rattle.wt_text_edit_laws.specs.TypedHeadings.{spaced}
-use Rattle.wt_text_edit_laws.proofs.Blocks.Contents.{block_content, typed_firm}
+use Rattle.wt_text_edit_laws.proofs.Blocks.Contents.{block_content, typed_firmly}
 use Rattle.wt_beside_laws.proofs.Edits.Cases.{items_are}
 use Rattle.wt_beside_laws.proofs.Made.Cases.{as_paragraph}
 use Rattle.wt_beside_laws.proofs.Styled.WithoutStyles.{flat_content}
-use Rattle.wt_called_edit_laws.specs.CalledBlocks.{spots_among, items_behind}
+use Rattle.wt_called_edit_laws.specs.CalledBlocks.{spots_among, items_behind, CallNothing}
+use Rattle.wt_text_edit_laws.proofs.Blocks.BlockReading.{content_read}
+use Rattle.wt_called_edit_laws.proofs.Parts.NoCallsCalled.{calm_anywhere}
+use Rattle.wt_called_edit_laws.proofs.Cells.ContentItems.{content_items}
 use Rattle.wt_called_edit_laws.specs.Covered.{IsBeside, IfGroup, NoGroupAt, NoneGroupAt, IsEditablePage}
 use Rattle.wt_called_edit_laws.specs.Groups.{called_tree}
 use Rattle.wt_called_edit_laws.specs.InCells.{AreTextLines}
@@ -168,27 +171,32 @@ utf8_behind : IsUtf8 (codes "\n|}")
 unfolding encode
 utf8_behind = (codes "\n|}", (refl, refl))
 
-called_here : AreCalled (a_title ∷ in_a_cell ∷ []) behind
+calm_here : CallNothing (a_title ∷ in_a_cell ∷ [])
+unfolding page_items words closed form_at comment_len comment_line_len raw_len opening_tag tag_after closing_tag with_inside is_extension include_at entity_at
+    named_entity decimal_entity hex_entity entity_names sign_word reduced rewritten
+calm_here = (tt, (tt, tt))
+
+called_here : AreCalled a_word (a_title ∷ in_a_cell ∷ []) behind
 unfolding page_items words closed form_at comment_len comment_line_len raw_len opening_tag tag_after closing_tag with_inside is_extension include_at entity_at
     named_entity decimal_entity hex_entity entity_names sign_word reduced rewritten
 called_here = (
-  record { ended = refl; before_utf8 = utf8_first; block = title_content },
+  record { ended = refl; before_utf8 = utf8_first; block = content_read (a_heading (spaced 2)) (codes "h") title_content },
   (
-    record { ended = refl; before_utf8 = utf8_second; block = break_content },
+    record { ended = refl; before_utf8 = utf8_second; block = content_read a_paragraph (codes "x<br>y") break_content },
     refl,
     (record { uncommented = refl }, utf8_behind, refl),
   ),
   record {
     end_before = (
       (refl, (refl, (refl, (refl, (refl, refl))))),
-      inl (typed_firm (a_heading (spaced 2)) (codes "h") typed_h),
+      inl (typed_firmly (a_heading (spaced 2)) (codes "h") typed_h),
       (
         (refl, (refl, (refl, (refl, (refl, (refl, refl)))))),
         inr (refl, (refl, (refl, (refl, (refl, (refl, (refl, refl))))))),
         tt,
       ),
     );
-    calm = (tt, (tt, tt));
+    anywhere = calm_anywhere a_word (a_title ∷ in_a_cell ∷ []) (title_content, (break_content, tt)) calm_here;
     apart = tt;
   },
 )
@@ -201,10 +209,10 @@ unfolding words closed form_at comment_len comment_line_len raw_len opening_tag 
     full_name_of whole_in cut_namespace title_in template_text begins_only ends_only loop_text depth_text absent_text
     utf8_valid_len is_utf8 chars encode link_to page_stretches expanded_page kind_of_signs
 placed_here = (
-  (title_content, record { whole = refl; in_cells = tt; apart = tt }, tt),
+  (content_items (a_heading (spaced 2)) (codes "h") title_content, record { whole = refl; in_cells = tt; apart = tt }, tt),
   (
     (refl, tt),
-    (break_content, record { whole = refl; in_cells = (refl, tt); apart = refl }, stays_text),
+    (content_items a_paragraph (codes "x<br>y") break_content, record { whole = refl; in_cells = (refl, tt); apart = refl }, stays_text),
     (refl, refl),
   ),
 )
@@ -254,7 +262,7 @@ no_group_of_cell = refl
 -- So both may be edited.
 pub in_class : IsEditablePage a_word (a_title ∷ in_a_cell ∷ []) behind
 in_class = record {
-  among = record { called = called_here; placed = placed_here };
+  among = record { called = called_here; contents = (title_content, (break_content, tt)); calm = calm_here; placed = placed_here };
   unrefused = unrefused_here;
   in_no_group = (
     clear_node 7 (called_tree a_word whole_page) no_group_of_title,

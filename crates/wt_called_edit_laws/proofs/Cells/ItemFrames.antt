@@ -8,30 +8,25 @@ use Rattle.wt_page.specs.Body.{body_parts, meaning}
 use Rattle.wt_row_laws.specs.Frames.{Frames, trees_at, all_places, content, AreFrames}
 use Rattle.wt_row_laws.specs.Slots.{Slot, rows_at, AreAt, PlacesStand}
 use Rattle.wt_row_laws.proofs.Places.{places_stand}
-use Rattle.wt_text_edit_laws.specs.TextBlocks.{TextBlock, a_paragraph, a_heading}
-use Rattle.wt_text_edit_laws.specs.Contents.{IsContent, StaysAnywhere, IsNewContent}
+use Rattle.wt_text_edit_laws.specs.TextBlocks.{TextBlock}
 use Rattle.wt_text_edit_laws.specs.ParagraphBetween.{body_with}
-use Rattle.wt_text_edit_laws.proofs.Blocks.Contents.{over_content}
 use Rattle.wt_text_edit_laws.proofs.Paragraphs.Standing.{body_is}
-use Rattle.wt_called_edit_laws.specs.AnyBlocks.{open_behind_part, StaysText, LeadsInto, past_break, BeginsAfter}
+use Rattle.wt_called_edit_laws.specs.AnyBlocks.{open_behind_part, LeadsInto, past_break, BeginsAfter}
+use Rattle.wt_called_edit_laws.specs.CalledContents.{AreItemsOf, StayText, IsTextAnywhere}
 use Rattle.wt_called_edit_laws.specs.ItemSpots.{ItemSpot, placed_items, IsPlacedAt, ArePlacedAfter, ArePlaced, SameItems, AreNewIn, AreContentsIn}
 use Rattle.wt_called_edit_laws.proofs.Cells.SpotRows.{trees_by, page_rows, slots_rows, slots_at}
 use Rattle.wt_called_edit_laws.proofs.Cells.SpotSlots.{page_slots, numbered_from, same_slots, slots_numbers, slots_in_cells, slots_few, slots_apart}
 
 -- ---- with new contents
 
-stays_new : (k : TextBlock) (n : ℕ) (was now : List ℕ) → (now ≡ was) ⊎ IsNewContent k was now → StaysText k n was → StaysText k n now
-stays_new k n was now (inl e) h = subst (λ q. StaysText k n q) (sym e) h
-stays_new a_paragraph n was now (inr c) h = let s : StaysAnywhere a_paragraph now = c.firm.stays in s n
-stays_new (a_heading s) n was now (inr c) h = tt
-
-placed_over : (bs : List Bool) (xs : List Item) (s r : ItemSpot) → r.block ≡ s.block → (r.text ≡ s.text) ⊎ IsNewContent r.block s.text r.text → IsPlacedAt bs xs s → IsPlacedAt bs xs r
-placed_over bs xs s r k o h =
+placed_over : (bs : List Bool) (xs : List Item) (s r : ItemSpot) → r.block ≡ s.block → (r.content ≡ s.content) ⊎ IsTextAnywhere r.block r.content → IsPlacedAt bs xs s → IsPlacedAt bs xs r
+placed_over bs xs s r k (inl e) h =
     let n : ℕ = length (open_behind_part bs xs) in (
-      over_content r.block s.text r.text o (subst (λ j. IsContent j s.text) (sym k) h.0),
+      subst (λ ys. AreItemsOf r.block ys) (sym e) (subst (λ j. AreItemsOf j s.content) (sym k) h.0),
       subst (λ j. LeadsInto j bs xs) (sym k) h.1,
-      stays_new r.block n s.text r.text o (subst (λ j. StaysText j n s.text) (sym k) h.2),
+      subst (λ ys. StayText r.block n ys) (sym e) (subst (λ j. StayText j n s.content) (sym k) h.2),
     )
+placed_over bs xs s r k (inr t) h = (t.items, subst (λ j. LeadsInto j bs xs) (sym k) h.1, t.stays (length (open_behind_part bs xs)))
 
 by_front : (P : List Item → TextBlock → Type 0) (s r : ItemSpot) → r.before ≡ s.before → r.block ≡ s.block → P s.before s.block → P r.before r.block
 by_front P s r e k h = subst (λ xs. P xs r.block) (sym e) (subst (λ j. P s.before j) (sym k) h)

@@ -5,24 +5,23 @@ use Rattle.wt_lines.specs.Lines.{empty_end, full_lines}
 use Rattle.wt_inline.specs.ItemTree.{ItemTree}
 use Rattle.wt_page.specs.Rows.{Row, rows_from}
 use Rattle.wt_page.specs.Texts.{para}
-use Rattle.wt_expand.specs.PageItems.{page_items}
 use Rattle.wt_row_laws.specs.Rounds.{AreTexts as AreTextRows, IsHeading}
 use Rattle.wt_row_laws.specs.Slots.{Slot, rows_at, AreAt}
 use Rattle.wt_row_laws.proofs.Parsed.{rows_slots}
 use Rattle.wt_row_laws.proofs.Places.{rows_join as places_join, own_rows as placed_rows}
 use Rattle.wt_text_edit_laws.specs.ParagraphBetween.{before_marks}
-use Rattle.wt_text_edit_laws.specs.TextBlocks.{TextBlock, a_paragraph, a_heading, block_items, block_tree}
-use Rattle.wt_text_edit_laws.specs.Contents.{AreParagraphLines, IsHeadingLine, IsContent}
+use Rattle.wt_text_edit_laws.specs.TextBlocks.{TextBlock, a_paragraph, a_heading, block_tree}
 use Rattle.wt_text_edit_laws.specs.TypedHeadings.{Sides, AreSides, heading_line, IsHeadingInside, IsOfLevel, EndsLine}
 use Rattle.wt_text_edit_laws.proofs.Texts.PlainRows.{text_row}
 use Rattle.wt_text_edit_laws.proofs.Prose.ProseReading.{break}
 use Rattle.wt_text_edit_laws.proofs.Prose.ProseLines.{first_ended, rest_ended}
-use Rattle.wt_text_edit_laws.proofs.Paragraphs.LineBlocks.{page_breaks, IsLineBlock, line_block}
+use Rattle.wt_text_edit_laws.proofs.Paragraphs.LineBlocks.{later_row, paragraph_rows, IsLineBlock, line_block}
 use Rattle.wt_text_edit_laws.proofs.Headings.HeadingRows.{heading_row, round_then, round_last, round_is}
 use Rattle.wt_text_edit_laws.proofs.Paragraphs.Joining.{lines_join, rows_join}
 use Rattle.wt_text_edit_laws.proofs.Paragraphs.Marks.{AreMarks, EndsInMarks, marks_end, with_lead, led, rows_led}
 use Rattle.wt_called_edit_laws.specs.InCells.{AreBehind, AreTextLines}
-use Rattle.wt_called_edit_laws.specs.AnyBlocks.{rows_of_part, open_behind_part, StaysText, past_break, BeginsAfter, EndsAfter}
+use Rattle.wt_called_edit_laws.specs.AnyBlocks.{rows_of_part, open_behind_part, past_break, BeginsAfter, EndsAfter}
+use Rattle.wt_called_edit_laws.specs.CalledContents.{items_round, tree_round, AreTextItems, AreItemsOf, StayText}
 use Rattle.wt_called_edit_laws.specs.ItemSpots.{ItemSpot, placed_items, AreContentsIn, IsPlacedAt, ArePlacedAfter, ArePlaced}
 use Rattle.wt_called_edit_laws.proofs.Cells.CellRows.{own_rows, text_rows}
 use Rattle.wt_called_edit_laws.proofs.Cells.Cells.{end_of, own_are, own_para}
@@ -30,20 +29,20 @@ use Rattle.wt_called_edit_laws.proofs.Cells.SpotSlots.{marks_of, slot_of, end_be
 
 -- ---- a block's own rows
 
-pub paragraph_lines : (q : List ℕ) → IsContent a_paragraph q → IsLineBlock (page_items q)
-paragraph_lines q h = let own : AreParagraphLines q = h.is in line_block (page_items q) own.unled own.are_lines
+pub text_block : (xs : List Item) → AreTextItems xs → IsLineBlock xs
+text_block xs h = line_block xs h.unled h.are_lines
 
-abbrev pub block_rows : (k : TextBlock) (q : List ℕ) → IsContent k q → List Item → List Item → List Row
-block_rows a_paragraph q h ms tail = led ms (own_rows (page_items q) (paragraph_lines q h) tail)
-block_rows (a_heading s) q h ms tail = with_lead ms (heading_row (heading_line s (page_items q)) (end_of tail)) ∷ []
+abbrev pub block_rows : (k : TextBlock) (xs : List Item) → AreItemsOf k xs → List Item → List Item → List Row
+block_rows a_paragraph xs h ms tail = led ms (own_rows xs (text_block xs h) tail)
+block_rows (a_heading s) xs h ms tail = with_lead ms (heading_row (heading_line s xs) (end_of tail)) ∷ []
 
 behind_is : (n : ℕ) (tail : List Item) → EndsLine tail → AreBehind n tail (rows_from n (full_lines (past_break tail)))
 behind_is n [] e = refl
 behind_is n (y ∷ ys) e = (e, refl)
 
 text_led : (n : ℕ) (ms zs l : List Item) (ls : List (List Item)) (rest : List Row) → AreMarks ms
-    → rows_from n (full_lines zs) ≡ text_row l ∷ (map text_row ls ++ rest) → rows_from n (full_lines (ms ++ zs)) ≡ with_lead ms (text_row l) ∷ (map text_row ls ++ rest)
-text_led n ms zs l ls rest m e = rows_led n ms zs (text_row l) (map text_row ls ++ rest) m e tt
+    → rows_from n (full_lines zs) ≡ paragraph_rows l ls ++ rest → rows_from n (full_lines (ms ++ zs)) ≡ led ms (paragraph_rows l ls) ++ rest
+text_led n ms zs l ls rest m e = rows_led n ms zs (text_row l) (map later_row ls ++ rest) m e tt
 
 text_is : (n : ℕ) (own ms tail : List Item) (b : IsLineBlock own) → AreTextLines n own → AreMarks ms → EndsLine tail
     → rows_from n (full_lines (ms ++ (own ++ tail))) ≡ led ms (own_rows own b tail) ++ rows_from n (full_lines (past_break tail))
@@ -64,12 +63,10 @@ heading_is n s own ms (y ∷ ys) a h p m e =
     rows_led n ms (heading_line s own ++ y ∷ ys) (heading_row (heading_line s own) (break ∷ [])) (rows_from n (full_lines ys)) m
     (ap (λ z. rows_from n (full_lines (heading_line s own ++ z ∷ ys))) e ∙ round_then n s own ys a h p) tt
 
-block_is : (n : ℕ) (k : TextBlock) (q : List ℕ) (b : IsContent k q) (ms tail : List Item) → StaysText k n q → AreMarks ms → EndsLine tail
-    → rows_from n (full_lines (ms ++ (block_items k q ++ tail))) ≡ block_rows k q b ms tail ++ rows_from n (full_lines (past_break tail))
-block_is n a_paragraph q b ms tail a m e = text_is n (page_items q) ms tail (paragraph_lines q b) a m e
-block_is n (a_heading s) q b ms tail a m e =
-    let own : IsHeadingLine s q = b.is in
-    heading_is n s (page_items q) ms tail own.frame.sides own.inside own.of_level m e
+block_is : (n : ℕ) (k : TextBlock) (xs : List Item) (b : AreItemsOf k xs) (ms tail : List Item) → StayText k n xs → AreMarks ms → EndsLine tail
+    → rows_from n (full_lines (ms ++ (items_round k xs ++ tail))) ≡ block_rows k xs b ms tail ++ rows_from n (full_lines (past_break tail))
+block_is n a_paragraph xs b ms tail a m e = text_is n xs ms tail (text_block xs b) a m e
+block_is n (a_heading s) xs b ms tail a m e = heading_is n s xs ms tail b.sides b.inside b.of_level m e
 
 -- ---- they make its tree
 
@@ -83,21 +80,18 @@ unfolding para
 led_para ms [] = refl
 led_para ms (r ∷ rs) = refl
 
-block_at : (k : TextBlock) (q : List ℕ) (b : IsContent k q) (i : ℕ) (ms tail : List Item) (rest : List Slot) (p : ℕ → List Row) (t : ℕ → ItemTree)
-    → p i ≡ block_rows k q b ms tail → t i ≡ block_tree k q → AreAt rest p t → AreAt (slot_of k i ms (end_of tail) ∷ rest) p t
-block_at a_paragraph q b i ms tail rest p t e f h =
-    let own : List Item = page_items q in
-    let w : IsLineBlock own = paragraph_lines q b in (
+block_at : (k : TextBlock) (own : List Item) (b : AreItemsOf k own) (i : ℕ) (ms tail : List Item) (rest : List Slot) (p : ℕ → List Row) (t : ℕ → ItemTree)
+    → p i ≡ block_rows k own b ms tail → t i ≡ tree_round k own → AreAt rest p t → AreAt (slot_of k i ms (end_of tail) ∷ rest) p t
+block_at a_paragraph own b i ms tail rest p t e f h =
+    let w : IsLineBlock own = text_block own b in (
       subst (AreTextRows ms (end_of tail)) (sym e) (led_texts ms (end_of tail) (own_rows own w tail) (own_are own tail w)),
-      ap para e ∙ led_para ms (own_rows own w tail) ∙ own_para own tail w (page_breaks q) ∙ sym f,
+      ap para e ∙ led_para ms (own_rows own w tail) ∙ own_para own tail w b.own_breaks ∙ sym f,
       h,
     )
-block_at (a_heading s) q b i ms tail rest p t e f h =
-    let own : List Item = page_items q in
+block_at (a_heading s) own b i ms tail rest p t e f h =
     let mine : Row = with_lead ms (heading_row (heading_line s own) (end_of tail)) in
     let is : IsHeading ms (end_of tail) mine = record { is = refl; led = append-nil ms; ended = refl } in
-    let line : IsHeadingLine s q = b.is in
-    (record { row = mine; one = e; is = is; tree = round_is s own line.frame.sides line.inside line.of_level ∙ sym f }, h)
+    (record { row = mine; one = e; is = is; tree = round_is s own b.sides b.inside b.of_level ∙ sym f }, h)
 
 -- ---- what follows a block
 
@@ -113,7 +107,7 @@ begins_line last next bs (y ∷ ys) zs h = h.0
 pub line_behind : (last : TextBlock) (bs : List Bool) (ss : List ItemSpot) (behind : List Item) → ArePlacedAfter last bs ss behind → EndsLine (placed_items ss behind)
 line_behind last bs [] behind h = ends_line last (length bs) behind h
 line_behind last bs (s ∷ ss) behind h =
-    begins_line last s.block bs s.before (block_items s.block s.text ++ placed_items ss behind) h.0
+    begins_line last s.block bs s.before (items_round s.block s.content ++ placed_items ss behind) h.0
 
 some_end : (last next : TextBlock) (bs : List Bool) (ys zs : List Item) → BeginsAfter last next bs ys → end_of (ys ++ zs) ≡ break ∷ []
 some_end last next bs [] zs h = absurd h
@@ -123,7 +117,7 @@ end_is : (last : TextBlock) (bs : List Bool) (ss : List ItemSpot) (behind : List
     → end_of (placed_items ss behind) ≡ end_behind ss behind
 end_is last bs [] behind h = refl
 end_is last bs (s ∷ ss) behind h =
-    some_end last s.block bs s.before (block_items s.block s.text ++ placed_items ss behind) h.0
+    some_end last s.block bs s.before (items_round s.block s.content ++ placed_items ss behind) h.0
 
 past_join : (last next : TextBlock) (bs : List Bool) (ys zs : List Item) → BeginsAfter last next bs ys → past_break (ys ++ zs) ≡ past_break ys ++ zs
 past_join last next bs [] zs h = absurd h
@@ -143,25 +137,25 @@ part_is bs xs zs whole =
     ∙ rows_join (length bs) (full_lines ls) (full_lines (marks_of xs ++ zs))
     ∙ ap (λ (n : ℕ). rows_of_part bs xs ++ rows_from n (full_lines (marks_of xs ++ zs))) (open_size bs (length bs) (full_lines ls) refl)
 
-spot_is : (bs : List Bool) (xs : List Item) (s : ItemSpot) (tail : List Item) (b : IsContent s.block s.text) → IsPlacedAt bs xs s → EndsLine tail
-    → rows_from (length bs) (full_lines (xs ++ (block_items s.block s.text ++ tail)))
-    ≡ rows_of_part bs xs ++ (block_rows s.block s.text b (marks_of xs) tail ++ rows_from (length (open_behind_part bs xs)) (full_lines (past_break tail)))
+spot_is : (bs : List Bool) (xs : List Item) (s : ItemSpot) (tail : List Item) (b : AreItemsOf s.block s.content) → IsPlacedAt bs xs s → EndsLine tail
+    → rows_from (length bs) (full_lines (xs ++ (items_round s.block s.content ++ tail)))
+    ≡ rows_of_part bs xs ++ (block_rows s.block s.content b (marks_of xs) tail ++ rows_from (length (open_behind_part bs xs)) (full_lines (past_break tail)))
 spot_is bs xs s tail b h e =
-    part_is bs xs (block_items s.block s.text ++ tail) h.1.whole
+    part_is bs xs (items_round s.block s.content ++ tail) h.1.whole
     ∙ ap (λ rs. rows_of_part bs xs ++ rs)
-    (block_is (length (open_behind_part bs xs)) s.block s.text b (marks_of xs) tail h.2 (marks_end xs).are_marks e)
+    (block_is (length (open_behind_part bs xs)) s.block s.content b (marks_of xs) tail h.2 (marks_end xs).are_marks e)
 
 -- ---- all of them
 
 -- by the numbers of the blocks, behind the first
 abbrev pub later_rows : (ss : List ItemSpot) → List Item → AreContentsIn ss → ℕ → List Row
 later_rows [] behind b j = []
-later_rows (s ∷ ss) behind b zero = block_rows s.block s.text b.0 (marks_of (past_break s.before)) (placed_items ss behind)
+later_rows (s ∷ ss) behind b zero = block_rows s.block s.content b.0 (marks_of (past_break s.before)) (placed_items ss behind)
 later_rows (s ∷ ss) behind b (suc j) = later_rows ss behind b.1 j
 
 abbrev pub page_rows : (ss : List ItemSpot) → List Item → AreContentsIn ss → ℕ → List Row
 page_rows [] behind b j = []
-page_rows (s ∷ ss) behind b zero = block_rows s.block s.text b.0 (marks_of s.before) (placed_items ss behind)
+page_rows (s ∷ ss) behind b zero = block_rows s.block s.content b.0 (marks_of s.before) (placed_items ss behind)
 page_rows (s ∷ ss) behind b (suc j) = later_rows ss behind b.1 j
 
 slot_rows : (p : ℕ → List Row) (k : TextBlock) (i : ℕ) (a b : List Item) (rest : List Slot) → rows_at p (slot_of k i a b ∷ rest) ≡ p i ++ rows_at p rest
@@ -197,8 +191,8 @@ from_rows last i bs (s ∷ ss) behind b p h e =
     let xs : List Item = past_break ys in
     let cs : List Bool = open_behind_part bs xs in
     let tail : List Item = placed_items ss behind in
-    let rest : List Item = block_items s.block s.text ++ tail in
-    spot_rows p i bs xs s.block (end_behind ss behind) (slots_from (suc i) cs ss behind) (block_rows s.block s.text b.0 (marks_of xs) tail)
+    let rest : List Item = items_round s.block s.content ++ tail in
+    spot_rows p i bs xs s.block (end_behind ss behind) (slots_from (suc i) cs ss behind) (block_rows s.block s.content b.0 (marks_of xs) tail)
     (rows_from (length cs) (full_lines (past_break tail))) (first_of i p (later_rows (s ∷ ss) behind b) e)
     (from_rows s.block (suc i) cs ss behind b.1 p h.2 (others_of i p (later_rows (s ∷ ss) behind b) e))
     ∙ sym (spot_is bs xs s tail b.0 h.1 (line_behind s.block cs ss behind h.2))
@@ -212,7 +206,7 @@ slots_rows (s ∷ ss) behind b h =
     let cs : List Bool = open_behind_part [] xs in
     let tail : List Item = placed_items ss behind in
     let p : ℕ → List Row = page_rows (s ∷ ss) behind b in
-    spot_rows p 0 [] xs s.block (end_behind ss behind) (slots_from 1 cs ss behind) (block_rows s.block s.text b.0 (marks_of xs) tail)
+    spot_rows p 0 [] xs s.block (end_behind ss behind) (slots_from 1 cs ss behind) (block_rows s.block s.content b.0 (marks_of xs) tail)
     (rows_from (length cs) (full_lines (past_break tail))) refl
     (from_rows s.block 1 cs ss behind b.1 p h.1 (others_of 0 p p (from_none p)))
     ∙ sym (spot_is [] xs s tail b.0 h.0 (line_behind s.block cs ss behind h.1))
@@ -222,7 +216,7 @@ slots_rows (s ∷ ss) behind b h =
 -- the block with this number
 abbrev pub trees_by : List ItemSpot → ℕ → ItemTree
 trees_by [] i = block_tree a_paragraph []
-trees_by (s ∷ ss) zero = block_tree s.block s.text
+trees_by (s ∷ ss) zero = tree_round s.block s.content
 trees_by (s ∷ ss) (suc i) = trees_by ss i
 
 rows_at_places : (rs : List Row) (ss : List Slot) (p : ℕ → List Row) (t : ℕ → ItemTree) → AreAt ss p t → AreAt (rows_slots rs ++ ss) p t
@@ -233,12 +227,12 @@ rows_alone : (rs : List Row) (p : ℕ → List Row) (t : ℕ → ItemTree) → A
 rows_alone [] p t = tt
 rows_alone (r ∷ rs) p t = rows_alone rs p t
 
-spot_at : (s : ItemSpot) (b : IsContent s.block s.text) (i : ℕ) (bs : List Bool) (xs tail end : List Item) (rest : List Slot) (p : ℕ → List Row) (t : ℕ → ItemTree)
-    → end_of tail ≡ end → p i ≡ block_rows s.block s.text b (marks_of xs) tail → t i ≡ block_tree s.block s.text → AreAt rest p t
+spot_at : (s : ItemSpot) (b : AreItemsOf s.block s.content) (i : ℕ) (bs : List Bool) (xs tail end : List Item) (rest : List Slot) (p : ℕ → List Row) (t : ℕ → ItemTree)
+    → end_of tail ≡ end → p i ≡ block_rows s.block s.content b (marks_of xs) tail → t i ≡ tree_round s.block s.content → AreAt rest p t
     → AreAt (spot_slots i bs xs s.block end rest) p t
 spot_at s b i bs xs tail end rest p t is e f h =
     rows_at_places (rows_of_part bs xs) (slot_of s.block i (marks_of xs) end ∷ rest) p t
-    (subst (λ end. AreAt (slot_of s.block i (marks_of xs) end ∷ rest) p t) is (block_at s.block s.text b i (marks_of xs) tail rest p t e f h))
+    (subst (λ end. AreAt (slot_of s.block i (marks_of xs) end ∷ rest) p t) is (block_at s.block s.content b i (marks_of xs) tail rest p t e f h))
 
 from_at : (last : TextBlock) (i : ℕ) (bs : List Bool) (ss : List ItemSpot) (behind : List Item) (b : AreContentsIn ss) (p : ℕ → List Row) (t : ℕ → ItemTree)
     → ArePlacedAfter last bs ss behind → Shifted i p (later_rows ss behind b) → Shifted i t (trees_by ss) → AreAt (slots_from i bs ss behind) p t

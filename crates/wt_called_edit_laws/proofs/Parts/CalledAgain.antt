@@ -1,124 +1,203 @@
--- Where new contents are written in the blocks of a page with calls, it is such a page again, and as much work to expand; and it is refused only if it was before.
-use Rattle.std.proofs.Common.{◌≡◌, ◌⊎◌, inl, inr, ℕ, ◌+◌, Option, Some, None, List, [], ◌∷◌, ◌++◌, refl, sym, ap, ap₂, ◌∙◌, subst}
+-- Where new contents are written in the blocks of a page with calls, it is such a page again, and no more work to expand; and it is refused only if it
+-- was before.
+use Rattle.std.proofs.Common.{arith, ◌≡◌, ◌⊎◌, ◌≤◌, inl, inr, ℕ, ◌+◌, Bool, true, false, Option, Some, None, List, [], ◌∷◌, ◌++◌, nat_lt, refl, sym, ap, ap₂, ◌∙◌, subst}
+use Rattle.std.specs.Prelude.{if◌then◌else◌}
 use Rattle.std.specs.Option.{option_map, option_or}
+use Rattle.std.proofs.lemmas.Bool.Decides.{nat_tests}
 use Rattle.wt_span.specs.declared.form.Mode.TheVariants.{Page}
 use Rattle.wt_span.specs.Lexemes.{words}
-use Rattle.wt_expand.specs.Work.{Pages, Entry, entered, begun, fetched, ended, Refused, braces_too_deep, deep_place, cost_of, entry_refusal, refusal_from, first_refusal}
-use Rattle.wt_expand.specs.Expansion.{page_reading, text_given, page_work}
+use Rattle.wt_expand.specs.Work.{Pages, Entry, entered, begun, fetched, ended, Refused, braces_too_deep, too_large, most_cost, if_large, deep_place, cost_of, entry_refusal, refusal_from, first_refusal}
+use Rattle.wt_expand.specs.Expansion.{page_work}
+use Rattle.wt_joined_calls.specs.Expanded.{GivesAnywhere}
+use Rattle.wt_text_edit_laws.specs.NoCalls.{Brace}
+use Rattle.wt_text_edit_laws.specs.ReadContents.{IsReadContent, IsReadAnew}
+use Rattle.wt_text_edit_laws.specs.TextBlocks.{TextBlock, source_of}
+use Rattle.wt_text_edit_laws.specs.TextBetween.{AreEnded}
+use Rattle.wt_text_edit_laws.specs.BlockSpots.{BlockSpot, spots_source, EndBeforeBlocks, IsReadSpot, AreReadSpots, SameRound}
+use Rattle.std.specs.Str.{IsUtf8}
 use Rattle.wt_expand.specs.PageItems.{page_items}
-use Rattle.wt_text_edit_laws.specs.NoCalls.{Brace, NonePairs, CallsNothing}
-use Rattle.wt_text_edit_laws.specs.TextBlocks.{TextBlock, source_of, block_items}
-use Rattle.wt_text_edit_laws.specs.Contents.{IsFirmContent, IsNewContent}
-use Rattle.wt_text_edit_laws.specs.BlockSpots.{BlockSpot, spots_source, EndBeforeBlocks, SameRound, AreContents, AreReadAfter, IsRead}
-use Rattle.wt_text_edit_laws.proofs.Between.LessBraces.{IsSome, all_some, some_both, pairs_some, braces_of, none_unbraced}
-use Rattle.wt_text_edit_laws.proofs.Blocks.BlocksAgain.{spot_read_again, after_read_again}
-use Rattle.wt_text_edit_laws.proofs.Blocks.TypedAgain.{further_still_end, spot_still_ends}
-use Rattle.wt_text_edit_laws.proofs.Blocks.TypedBraces.{AreNewOver, firm_unbraced}
-use Rattle.wt_called_edit_laws.specs.Parts.{left_of, all_left, CallNothing, AreParted, AreCalled, called_work}
-use Rattle.wt_called_edit_laws.proofs.Parts.CalmBraces.{calm_left}
+use Rattle.wt_text_edit_laws.specs.TextBlocks.{BeginsLine}
+use Rattle.wt_text_edit_laws.proofs.Between.LessBraces.{IsSome, all_some, some_both, pairs_some}
+use Rattle.wt_text_edit_laws.proofs.Blocks.TypedAgain.{AreReadOver, further_still_end, spot_still_ends}
+use Rattle.wt_called_edit_laws.specs.Parts.{left_of, all_left, GiveAnywhere, AreParted, AreCalled, work_in, called_work}
+use Rattle.wt_called_edit_laws.specs.Retyped.{AreSomeOf, IsPartAnew, AreWrittenAnew}
 use Rattle.wt_called_edit_laws.proofs.Parts.Depths.{IsShallow, undeep_shallow, shallow_undeep}
 use Rattle.wt_called_edit_laws.proofs.Parts.PartByPart.{AreShallow, page_from}
-use Rattle.wt_called_edit_laws.proofs.Parts.Seams.{block_alone}
 
--- ---- a content that was written has no braces
+-- ---- the same content, or a new one
 
-firm_braces : (k : TextBlock) (q : List ℕ) → IsFirmContent k q → braces_of (block_items k q) ≡ []
-firm_braces k q h = none_unbraced (block_items k q) (firm_unbraced k q h)
+-- what holds of the old content, and of the new one
+by_text : (P : TextBlock → List ℕ → Type 0) (pages : Pages) (s r : BlockSpot) → r.block ≡ s.block → (r.text ≡ s.text) ⊎ IsPartAnew pages r.block s.text r.text
+    → P s.block s.text → (IsPartAnew pages r.block s.text r.text → P r.block r.text) → P r.block r.text
+by_text P pages s r k (inl e) h f = subst (λ q. P r.block q) (sym e) (subst (λ j. P j s.text) (sym k) h)
+by_text P pages s r k (inr n) h f = f n
 
-firm_calm : (k : TextBlock) (q : List ℕ) → IsFirmContent k q → CallsNothing (block_items k q)
-firm_calm k q h = subst NonePairs (sym (firm_braces k q h)) tt
+pub anew_round : (pages : Pages) (ss rs : List BlockSpot) → AreWrittenAnew pages ss rs → SameRound ss rs
+anew_round pages [] [] h = tt
+anew_round pages [] (r ∷ rs) h = absurd h
+anew_round pages (s ∷ ss) [] h = absurd h
+anew_round pages (s ∷ ss) (r ∷ rs) h = (h.0, h.1, anew_round pages ss rs h.3)
 
-none_of : (xs : List Brace) → IsSome xs [] → xs ≡ []
-none_of [] h = refl
-none_of (x ∷ xs) h = absurd h
-
-firm_left : (k : TextBlock) (q : List ℕ) → IsFirmContent k q → left_of (source_of k q) ≡ []
-firm_left k q t =
-    let items : page_items (source_of k q) ≡ block_items k q = block_alone k q t.content in
-    none_of (left_of (source_of k q))
-    (subst (λ bs. IsSome (left_of (source_of k q)) bs) (ap braces_of items ∙ firm_braces k q t)
-    (calm_left (source_of k q) (subst CallsNothing (sym items) (firm_calm k q t))))
-
-text_calm : (k : TextBlock) (was now : List ℕ) → (now ≡ was) ⊎ IsNewContent k was now → CallsNothing (block_items k was) → CallsNothing (block_items k now)
-text_calm k was now (inl e) h = subst (λ q. CallsNothing (block_items k q)) (sym e) h
-text_calm k was now (inr n) h = firm_calm k now n.firm
-
-text_left : (k : TextBlock) (was now : List ℕ) → (now ≡ was) ⊎ IsNewContent k was now → IsSome (left_of (source_of k now)) (left_of (source_of k was))
-text_left k was now (inl e) = subst (λ q. IsSome (left_of (source_of k q)) (left_of (source_of k was))) (sym e) (all_some (left_of (source_of k was)))
-text_left k was now (inr n) = subst (λ xs. IsSome xs (left_of (source_of k was))) (sym (firm_left k now n.firm)) tt
+anew_over : (pages : Pages) (ss rs : List BlockSpot) → AreWrittenAnew pages ss rs → AreReadOver ss rs
+anew_over pages [] [] h = tt
+anew_over pages [] (r ∷ rs) h = absurd h
+anew_over pages (s ∷ ss) [] h = absurd h
+anew_over pages (s ∷ ss) (r ∷ rs) h = (one h.2, anew_over pages ss rs h.3)
+  where
+    one : (r.text ≡ s.text) ⊎ IsPartAnew pages r.block s.text r.text → (r.text ≡ s.text) ⊎ IsReadAnew r.block s.text r.text
+    one (inl e) = inl e
+    one (inr n) = inr n.read
 
 -- ---- the page
 
-spots_calm : (ss rs : List BlockSpot) → SameRound ss rs → AreNewOver ss rs → CallNothing ss → CallNothing rs
-spots_calm [] [] e o c = tt
-spots_calm [] (r ∷ rs) e o c = absurd e
-spots_calm (s ∷ ss) [] e o c = absurd e
-spots_calm (s ∷ ss) (r ∷ rs) e o c =
-    (text_calm r.block s.text r.text o.0 (subst (λ k. CallsNothing (block_items k s.text)) (sym e.1) c.0), spots_calm ss rs e.2 o.1 c.1)
+spot_again : (pages : Pages) (s r : BlockSpot) → IsReadSpot s → r.before ≡ s.before → r.block ≡ s.block
+    → (r.text ≡ s.text) ⊎ IsPartAnew pages r.block s.text r.text → IsReadSpot r
+spot_again pages s r h e k o = record {
+  ended = subst AreEnded (sym e) h.ended;
+  before_utf8 = subst IsUtf8 (sym e) h.before_utf8;
+  block = by_text (λ j q. IsReadContent j q) pages s r k o h.block (λ n. let a = n.read in a.read);
+}
 
-spots_left : (ss rs : List BlockSpot) (behind : List ℕ) → SameRound ss rs → AreNewOver ss rs → IsSome (all_left rs behind) (all_left ss behind)
-spots_left [] [] behind e o = all_some (left_of behind)
-spots_left [] (r ∷ rs) behind e o = absurd e
-spots_left (s ∷ ss) [] behind e o = absurd e
-spots_left (s ∷ ss) (r ∷ rs) behind e o =
+after_again : (pages : Pages) (ss rs : List BlockSpot) (behind : List ℕ) → AreReadSpots ss behind → AreWrittenAnew pages ss rs → AreReadSpots rs behind
+after_again pages [] [] behind h t = h
+after_again pages [] (r ∷ rs) behind h t = absurd t
+after_again pages (s ∷ ss) [] behind h t = absurd t
+after_again pages (s ∷ ss) (r ∷ rs) behind h t = (
+  spot_again pages s r h.0 t.0 t.1 t.2,
+  subst (λ bs. BeginsLine (page_items bs)) (sym t.0) h.1,
+  after_again pages ss rs behind h.2 t.3,
+)
+
+anywhere_again : (pages : Pages) (ss rs : List BlockSpot) → AreWrittenAnew pages ss rs → GiveAnywhere pages ss → GiveAnywhere pages rs
+anywhere_again pages [] [] t h = tt
+anywhere_again pages [] (r ∷ rs) t h = absurd t
+anywhere_again pages (s ∷ ss) [] t h = absurd t
+anywhere_again pages (s ∷ ss) (r ∷ rs) t h =
+    (by_text (λ j q. GivesAnywhere pages (source_of j q)) pages s r t.1 t.2 h.0 (λ n. n.anywhere), anywhere_again pages ss rs t.3 h.1)
+
+text_left : (pages : Pages) (s r : BlockSpot) → r.block ≡ s.block → (r.text ≡ s.text) ⊎ IsPartAnew pages r.block s.text r.text
+    → IsSome (left_of (source_of r.block r.text)) (left_of (source_of s.block s.text))
+text_left pages s r k o =
+    by_text (λ j q. IsSome (left_of (source_of j q)) (left_of (source_of s.block s.text))) pages s r k o (all_some (left_of (source_of s.block s.text)))
+    (λ n. subst (λ (bs : List Brace). IsSome bs (left_of (source_of s.block s.text))) (sym n.left) tt)
+
+spots_left : (pages : Pages) (ss rs : List BlockSpot) (behind : List ℕ) → AreWrittenAnew pages ss rs → IsSome (all_left rs behind) (all_left ss behind)
+spots_left pages [] [] behind t = all_some (left_of behind)
+spots_left pages [] (r ∷ rs) behind t = absurd t
+spots_left pages (s ∷ ss) [] behind t = absurd t
+spots_left pages (s ∷ ss) (r ∷ rs) behind t =
     let front : IsSome (left_of r.before) (left_of s.before) =
-    subst (λ bs. IsSome (left_of bs) (left_of s.before)) (sym e.0) (all_some (left_of s.before)) in
-    let own : IsSome (left_of (source_of r.block r.text)) (left_of (source_of s.block s.text)) =
-    subst (λ k. IsSome (left_of (source_of r.block r.text)) (left_of (source_of k s.text))) e.1 (text_left r.block s.text r.text o.0) in
+    subst (λ bs. IsSome (left_of bs) (left_of s.before)) (sym t.0) (all_some (left_of s.before)) in
     some_both (left_of r.before) (left_of s.before)
     (left_of (source_of r.block r.text) ++ all_left rs behind) (left_of (source_of s.block s.text) ++ all_left ss behind) front
-    (some_both (left_of (source_of r.block r.text)) (left_of (source_of s.block s.text)) (all_left rs behind) (all_left ss behind) own (spots_left ss rs behind e.2 o.1))
+    (some_both (left_of (source_of r.block r.text)) (left_of (source_of s.block s.text)) (all_left rs behind) (all_left ss behind)
+    (text_left pages s r t.1 t.2) (spots_left pages ss rs behind t.3))
 
-pub called_again : (ss rs : List BlockSpot) (behind : List ℕ) → AreCalled ss behind → SameRound ss rs → AreContents rs → AreNewOver ss rs → AreCalled rs behind
-called_again [] rs behind h e t o = absurd h
-called_again (s ∷ ss) [] behind h e t o = absurd e
-called_again (s ∷ ss) (r ∷ rs) behind h e t o =
-    let w : AreParted (s ∷ ss) behind = h.2 in
-    let own : IsRead r = spot_read_again s r h.0 e.0 t.0 in
-    let after : AreReadAfter rs behind = after_read_again ss rs behind h.1 e.2 t.1 in
+pub called_again : (pages : Pages) (ss rs : List BlockSpot) (behind : List ℕ) → AreCalled pages ss behind → AreWrittenAnew pages ss rs → AreCalled pages rs behind
+called_again pages [] rs behind h t = absurd h
+called_again pages (s ∷ ss) [] behind h t = absurd t
+called_again pages (s ∷ ss) (r ∷ rs) behind h t =
+    let w : AreParted pages (s ∷ ss) behind = h.2 in
+    let e : SameRound (s ∷ ss) (r ∷ rs) = anew_round pages (s ∷ ss) (r ∷ rs) t in
+    let o : AreReadOver (s ∷ ss) (r ∷ rs) = anew_over pages (s ∷ ss) (r ∷ rs) t in
+    let after : AreReadSpots rs behind = after_again pages ss rs behind h.1 t.3 in
     let ends : EndBeforeBlocks (r ∷ rs) behind =
     spot_still_ends s r ss rs behind h.0 h.1 after e o w.end_before (further_still_end ss rs behind h.1 after e.2 o.1 w.end_before.2) in (
-      own,
+      spot_again pages s r h.0 t.0 t.1 t.2,
       after,
       record {
         end_before = ends;
-        calm = spots_calm (s ∷ ss) (r ∷ rs) e o w.calm;
-        apart = pairs_some (all_left (r ∷ rs) behind) (all_left (s ∷ ss) behind) (spots_left (s ∷ ss) (r ∷ rs) behind e o) w.apart;
+        anywhere = anywhere_again pages (s ∷ ss) (r ∷ rs) t w.anywhere;
+        apart = pairs_some (all_left (r ∷ rs) behind) (all_left (s ∷ ss) behind) (spots_left pages (s ∷ ss) (r ∷ rs) behind t) w.apart;
       },
     )
 
 -- ---- its work
 
-work_same : (pages : Pages) (ss rs : List BlockSpot) (behind : List ℕ) → SameRound ss rs → called_work pages rs behind ≡ called_work pages ss behind
-work_same pages [] [] behind e = refl
-work_same pages [] (r ∷ rs) behind e = absurd e
-work_same pages (s ∷ ss) [] behind e = absurd e
-work_same pages (s ∷ ss) (r ∷ rs) behind e =
-    ap₂ (λ (bs : List ℕ) (es : List Entry). (text_given (page_reading pages) bs).work ++ es) e.0 (work_same pages ss rs behind e.2)
+some_all : (es : List Entry) → AreSomeOf es es
+some_all [] = tt
+some_all (e ∷ es) = inl (refl, some_all es)
 
-pub work_of : (pages : Pages) (ss : List BlockSpot) (behind : List ℕ) → AreCalled ss behind → page_work pages (spots_source ss behind) ≡ entered None ∷ called_work pages ss behind
+some_more : (ds : List Entry) (e : Entry) (es : List Entry) → AreSomeOf ds es → AreSomeOf ds (e ∷ es)
+some_more [] e es h = tt
+some_more (d ∷ ds) e es h = inr h
+
+some_behind : (us ds es : List Entry) → AreSomeOf ds es → AreSomeOf ds (us ++ es)
+some_behind [] ds es h = h
+some_behind (u ∷ us) ds es h = some_more ds u (us ++ es) (some_behind us ds es h)
+
+pub both_some : (us vs ds es : List Entry) → AreSomeOf us vs → AreSomeOf ds es → AreSomeOf (us ++ ds) (vs ++ es)
+both_some [] vs ds es h g = some_behind vs ds es g
+both_some (u ∷ us) [] ds es h g = absurd h
+both_some (u ∷ us) (v ∷ vs) ds es (inl h) g = inl (h.0, both_some us vs ds es h.1 g)
+both_some (u ∷ us) (v ∷ vs) ds es (inr h) g = inr (both_some (u ∷ us) vs ds es h g)
+
+-- some of some
+pub some_after : (us vs ws : List Entry) → AreSomeOf us vs → AreSomeOf vs ws → AreSomeOf us ws
+some_after [] vs ws h g = tt
+some_after (u ∷ us) [] ws h g = absurd h
+some_after (u ∷ us) (v ∷ vs) [] h g = absurd g
+some_after (u ∷ us) (v ∷ vs) (w ∷ ws) h (inr g) = inr (some_after (u ∷ us) (v ∷ vs) ws h g)
+some_after (u ∷ us) (v ∷ vs) (w ∷ ws) (inl h) (inl g) = inl (h.0 ∙ g.0, some_after us vs ws h.1 g.1)
+some_after (u ∷ us) (v ∷ vs) (w ∷ ws) (inr h) (inl g) = inr (some_after (u ∷ us) vs ws h g.1)
+
+text_work : (pages : Pages) (s r : BlockSpot) → r.block ≡ s.block → (r.text ≡ s.text) ⊎ IsPartAnew pages r.block s.text r.text
+    → AreSomeOf (work_in pages (source_of r.block r.text)) (work_in pages (source_of s.block s.text))
+text_work pages s r k o =
+    by_text (λ j q. AreSomeOf (work_in pages (source_of j q)) (work_in pages (source_of s.block s.text))) pages s r k o
+    (some_all (work_in pages (source_of s.block s.text)))
+    (λ n. subst (λ j. AreSomeOf (work_in pages (source_of r.block r.text)) (work_in pages (source_of j s.text))) k n.work)
+
+some_work : (pages : Pages) (ss rs : List BlockSpot) (behind : List ℕ) → AreWrittenAnew pages ss rs
+    → AreSomeOf (called_work pages rs behind) (called_work pages ss behind)
+some_work pages [] [] behind t = some_all (work_in pages behind)
+some_work pages [] (r ∷ rs) behind t = absurd t
+some_work pages (s ∷ ss) [] behind t = absurd t
+some_work pages (s ∷ ss) (r ∷ rs) behind t =
+    let front : AreSomeOf (work_in pages r.before) (work_in pages s.before) =
+    subst (λ bs. AreSomeOf (work_in pages bs) (work_in pages s.before)) (sym t.0) (some_all (work_in pages s.before)) in
+    both_some (work_in pages r.before) (work_in pages s.before)
+    (work_in pages (source_of r.block r.text) ++ called_work pages rs behind) (work_in pages (source_of s.block s.text) ++ called_work pages ss behind) front
+    (both_some (work_in pages (source_of r.block r.text)) (work_in pages (source_of s.block s.text)) (called_work pages rs behind) (called_work pages ss behind)
+    (text_work pages s r t.1 t.2) (some_work pages ss rs behind t.3))
+
+pub work_of : (pages : Pages) (ss : List BlockSpot) (behind : List ℕ) → AreCalled pages ss behind
+    → page_work pages (spots_source ss behind) ≡ entered None ∷ called_work pages ss behind
 unfolding page_work
 work_of pages ss behind h = let f = page_from pages ss behind h in ap (λ (es : List Entry). entered None ∷ es) f.gives.work_is
 
-pub same_work : (pages : Pages) (ss rs : List BlockSpot) (behind : List ℕ) → AreCalled ss behind → AreCalled rs behind → SameRound ss rs
-    → page_work pages (spots_source rs behind) ≡ page_work pages (spots_source ss behind)
-same_work pages ss rs behind h g e =
-    work_of pages rs behind g ∙ ap (λ (es : List Entry). entered None ∷ es) (work_same pages ss rs behind e) ∙ sym (work_of pages ss behind h)
+pub less_work : (pages : Pages) (ss rs : List BlockSpot) (behind : List ℕ) → AreCalled pages ss behind → AreCalled pages rs behind → AreWrittenAnew pages ss rs
+    → AreSomeOf (page_work pages (spots_source rs behind)) (page_work pages (spots_source ss behind))
+less_work pages ss rs behind h g t =
+    subst (λ (ds : List Entry). AreSomeOf ds (page_work pages (spots_source ss behind))) (sym (work_of pages rs behind g))
+    (subst (λ (es : List Entry). AreSomeOf (entered None ∷ called_work pages rs behind) es) (sym (work_of pages ss behind h))
+    (inl (refl, some_work pages ss rs behind t)))
 
 -- ---- no call lies deeper
 
-shallow_same : (ss rs : List BlockSpot) (behind : List ℕ) → SameRound ss rs → AreShallow ss behind → AreShallow rs behind
-shallow_same [] [] behind e d = d
-shallow_same [] (r ∷ rs) behind e d = absurd e
-shallow_same (s ∷ ss) [] behind e d = absurd e
-shallow_same (s ∷ ss) (r ∷ rs) behind e d = (subst (λ bs. IsShallow (words Page bs)) (sym e.0) d.0, shallow_same ss rs behind e.2 d.1)
+text_shallow : (pages : Pages) (s r : BlockSpot) → r.block ≡ s.block → (r.text ≡ s.text) ⊎ IsPartAnew pages r.block s.text r.text
+    → IsShallow (words Page (source_of s.block s.text)) → IsShallow (words Page (source_of r.block r.text))
+text_shallow pages s r k o d =
+    by_text (λ j q. IsShallow (words Page (source_of j q))) pages s r k o d
+    (λ n. undeep_shallow (source_of r.block r.text)
+    (n.undeep (subst (λ j. deep_place Page (source_of j s.text) ≡ None) (sym k) (shallow_undeep (source_of s.block s.text) d))))
 
-undeep_again : (pages : Pages) (ss rs : List BlockSpot) (behind : List ℕ) → AreCalled ss behind → AreCalled rs behind → SameRound ss rs
+shallow_again : (pages : Pages) (ss rs : List BlockSpot) (behind : List ℕ) → AreWrittenAnew pages ss rs → AreShallow ss behind → AreShallow rs behind
+shallow_again pages [] [] behind t d = d
+shallow_again pages [] (r ∷ rs) behind t d = absurd t
+shallow_again pages (s ∷ ss) [] behind t d = absurd t
+shallow_again pages (s ∷ ss) (r ∷ rs) behind t d = (
+  subst (λ bs. IsShallow (words Page bs)) (sym t.0) d.0,
+  text_shallow pages s r t.1 t.2 d.1,
+  shallow_again pages ss rs behind t.3 d.2,
+)
+
+pub undeep_again : (pages : Pages) (ss rs : List BlockSpot) (behind : List ℕ) → AreCalled pages ss behind → AreCalled pages rs behind → AreWrittenAnew pages ss rs
     → deep_place Page (spots_source ss behind) ≡ None → deep_place Page (spots_source rs behind) ≡ None
-undeep_again pages ss rs behind h g e d =
+undeep_again pages ss rs behind h g t d =
     let f = page_from pages ss behind h in
     let n = page_from pages rs behind g in
-    shallow_undeep (spots_source rs behind) (n.shallow.1 (shallow_same ss rs behind e (f.shallow.0 (undeep_shallow (spots_source ss behind) d))))
+    shallow_undeep (spots_source rs behind) (n.shallow.1 (shallow_again pages ss rs behind t (f.shallow.0 (undeep_shallow (spots_source ss behind) d))))
 
 -- ---- what is refused
 
@@ -139,32 +218,51 @@ unfolding IsNothing
 no_place None e = refl
 no_place (Some n) e = absurd (subst IsNothing (sym e) tt)
 
-entry_again : (pages : Pages) (was now : List ℕ) (cost : ℕ) (e : Entry) → deep_place Page now ≡ None → entry_refusal pages was cost e ≡ None → entry_refusal pages now cost e ≡ None
-entry_again pages was now cost (entered None) d h = ap (option_map (braces_too_deep None)) d
-entry_again pages was now cost (entered (Some title)) d h = h
-entry_again pages was now cost begun d h = h
-entry_again pages was now cost (fetched title) d h = h
-entry_again pages was now cost (ended n) d h = h
+large_by : (t : Bool) → (if t then Some too_large else None) ≡ None → t ≡ false
+unfolding IsNothing
+large_by true e = absurd (subst IsNothing (sym e) tt)
+large_by false e = refl
 
-refused_again : (pages : Pages) (was now : List ℕ) (spent : ℕ) (es : List Entry) → deep_place Page now ≡ None → refusal_from pages was spent es ≡ None
-    → refusal_from pages now spent es ≡ None
-refused_again pages was now spent [] d h = refl
-refused_again pages was now spent (e ∷ es) d h =
-    let s = both_none (entry_refusal pages was (spent + cost_of e) e) (refusal_from pages was (spent + cost_of e) es) h in
-    none_or (entry_refusal pages now (spent + cost_of e) e) (refusal_from pages now (spent + cost_of e) es)
-    (entry_again pages was now (spent + cost_of e) e d s.0) (refused_again pages was now (spent + cost_of e) es d s.1)
+lt_less : (m c d : ℕ) → d ≤ c → nat_lt m c ≡ false → nat_lt m d ≡ false
+lt_less m c d le e = grind (arith, nat_tests)
+
+-- what costs less isn't too large either
+large_less : (c d : ℕ) → d ≤ c → if_large c ≡ None → if_large d ≡ None
+large_less c d le e = ap (λ (t : Bool). if t then Some too_large else None) (lt_less most_cost c d le (large_by (nat_lt most_cost c) e))
+
+entry_again : (pages : Pages) (was now : List ℕ) (cost less : ℕ) (e : Entry) → less ≤ cost → deep_place Page now ≡ None
+    → entry_refusal pages was cost e ≡ None → entry_refusal pages now less e ≡ None
+entry_again pages was now cost less (entered None) le d h = ap (option_map (braces_too_deep None)) d
+entry_again pages was now cost less (entered (Some title)) le d h = h
+entry_again pages was now cost less begun le d h = large_less cost less le h
+entry_again pages was now cost less (fetched title) le d h = h
+entry_again pages was now cost less (ended n) le d h = large_less cost less le h
+
+pub refused_again : (pages : Pages) (was now : List ℕ) (spent less : ℕ) (ds es : List Entry) → less ≤ spent → deep_place Page now ≡ None → AreSomeOf ds es
+    → refusal_from pages was spent es ≡ None → refusal_from pages now less ds ≡ None
+refused_again pages was now spent less [] es le d s h = refl
+refused_again pages was now spent less (x ∷ ds) [] le d s h = absurd s
+refused_again pages was now spent less (x ∷ ds) (e ∷ es) le d (inl s) h =
+    let split = both_none (entry_refusal pages was (spent + cost_of e) e) (refusal_from pages was (spent + cost_of e) es) h in
+    subst (λ (y : Entry). option_or (entry_refusal pages now (less + cost_of y) y) (refusal_from pages now (less + cost_of y) ds) ≡ None) (sym s.0)
+    (none_or (entry_refusal pages now (less + cost_of e) e) (refusal_from pages now (less + cost_of e) ds)
+    (entry_again pages was now (spent + cost_of e) (less + cost_of e) e (omega (arith, le)) d split.0)
+    (refused_again pages was now (spent + cost_of e) (less + cost_of e) ds es (omega (arith, le)) d s.1 split.1))
+refused_again pages was now spent less (x ∷ ds) (e ∷ es) le d (inr s) h =
+    let split = both_none (entry_refusal pages was (spent + cost_of e) e) (refusal_from pages was (spent + cost_of e) es) h in
+    refused_again pages was now (spent + cost_of e) less (x ∷ ds) es (omega (arith, le)) d s split.1
 
 undeep_of : (pages : Pages) (bs : List ℕ) (es : List Entry) → refusal_from pages bs 0 (entered None ∷ es) ≡ None → deep_place Page bs ≡ None
 undeep_of pages bs es h =
     let s = both_none (option_map (braces_too_deep None) (deep_place Page bs)) (refusal_from pages bs 0 es) h in no_place (deep_place Page bs) s.0
 
-pub still_unrefused : (pages : Pages) (ss rs : List BlockSpot) (behind : List ℕ) → AreCalled ss behind → AreCalled rs behind → SameRound ss rs
-    → first_refusal pages (spots_source ss behind) (page_work pages (spots_source ss behind)) ≡ None
+pub still_unrefused : (pages : Pages) (ss rs : List BlockSpot) (behind : List ℕ) → AreCalled pages ss behind → AreCalled pages rs behind
+    → AreWrittenAnew pages ss rs → first_refusal pages (spots_source ss behind) (page_work pages (spots_source ss behind)) ≡ None
     → first_refusal pages (spots_source rs behind) (page_work pages (spots_source rs behind)) ≡ None
 unfolding first_refusal
-still_unrefused pages ss rs behind h g e none =
+still_unrefused pages ss rs behind h g t none =
     let was : List ℕ = spots_source ss behind in
     let now : List ℕ = spots_source rs behind in
     let first : refusal_from pages was 0 (entered None ∷ called_work pages ss behind) ≡ None = sym (ap (refusal_from pages was 0) (work_of pages ss behind h)) ∙ none in
-    let undeep : deep_place Page now ≡ None = undeep_again pages ss rs behind h g e (undeep_of pages was (called_work pages ss behind) first) in
-    ap (refusal_from pages now 0) (same_work pages ss rs behind h g e) ∙ refused_again pages was now 0 (page_work pages was) undeep none
+    let undeep : deep_place Page now ≡ None = undeep_again pages ss rs behind h g t (undeep_of pages was (called_work pages ss behind) first) in
+    refused_again pages was now 0 0 (page_work pages now) (page_work pages was) (omega arith) undeep (less_work pages ss rs behind h g t) none

@@ -1,4 +1,4 @@
--- A page with blocks of text among calls is expanded part by part.
+-- A page with blocks among calls is expanded part by part, and the blocks are parts, too.
 use Rattle.std.proofs.Common.{arith, ◌≡◌, inl, inr, ℕ, ◌+◌, List, [], ◌∷◌, ◌++◌, None, length, map, refl, sym, ap, ap₂, ◌∙◌, subst}
 use Rattle.wt_span.specs.declared.form.Mode.TheVariants.{Page}
 use Rattle.wt_span.specs.declared.form.LexKind.TheVariants.{Chars}
@@ -10,22 +10,21 @@ use Rattle.wt_expand.specs.Work.{Pages, Entry, entered}
 use Rattle.wt_expand.specs.Expansion.{page_reading, text_given, page_work}
 use Rattle.wt_expand.specs.PageItems.{page_items}
 use Rattle.wt_expand.specs.PageCalls.{Stretch, own, outer, text_call, numbered, outer_calls, page_stretches, expanded_page}
-use Rattle.wt_joined_calls.specs.Apart.{NoneOpens, AreMet, AreApart}
-use Rattle.wt_joined_calls.specs.Expanded.{moved_call, moved_span, BeginsPlain, AreParts}
-use Rattle.wt_joined_calls.proofs.ApartCalls.{reduced_apart, run_cut}
-use Rattle.wt_joined_calls.proofs.ExpandedBoth.{items_both, expands_both}
+use Rattle.wt_joined_calls.specs.Apart.{NoneOpens, AreMet}
+use Rattle.wt_joined_calls.specs.Expanded.{moved_call, moved_span, part_items, calls_in, GivesAnywhere, BeginsPlain, AreParts}
+use Rattle.wt_joined_calls.proofs.ApartCalls.{reduced_apart}
+use Rattle.wt_joined_calls.proofs.ExpandedBoth.{plain_anywhere, both_anywhere, items_both, expands_both}
 use Rattle.wt_text_edit_laws.specs.LonePages.{of_items}
-use Rattle.wt_text_edit_laws.specs.NoCalls.{NonePairs, CallsNothing}
-use Rattle.wt_text_edit_laws.specs.TextBlocks.{source_of, block_items}
-use Rattle.wt_text_edit_laws.specs.BlockSpots.{BlockSpot, spots_source, EndBeforeBlocks, IsRead, AreReadAfter}
+use Rattle.wt_text_edit_laws.specs.NoCalls.{NonePairs}
+use Rattle.wt_text_edit_laws.specs.TextBlocks.{source_of}
+use Rattle.wt_text_edit_laws.specs.BlockSpots.{BlockSpot, spots_source, EndBeforeBlocks, IsReadSpot, AreReadSpots}
 use Rattle.wt_text_edit_laws.proofs.Texts.TypedText.{AreLexemes, lexemes_expanded, lexemes_work}
-use Rattle.wt_text_edit_laws.proofs.Between.NoCalls.{calm_reduced}
 use Rattle.wt_text_edit_laws.proofs.Paragraphs.Texts.{EndsHere}
 use Rattle.wt_text_edit_laws.proofs.Blocks.BlockReading.{further_ends}
-use Rattle.wt_called_edit_laws.specs.Parts.{left_of, all_left, CallNothing, AreParted, AreCalled, part_items, calls_in, called_items, called_outers, called_texts, called_work}
+use Rattle.wt_called_edit_laws.specs.Parts.{left_of, all_left, GiveAnywhere, AreParted, AreCalled, work_in, called_items, called_outers, called_texts, called_work}
 use Rattle.wt_called_edit_laws.proofs.Parts.LeftBraces.{pairs_rest, apart_by, left_both}
-use Rattle.wt_called_edit_laws.proofs.Parts.Depths.{IsShallow, shallow_both, both_shallow, calm_shallow}
-use Rattle.wt_called_edit_laws.proofs.Parts.Seams.{no_words, break_runs, block_alone, block_met, before_met}
+use Rattle.wt_called_edit_laws.proofs.Parts.Depths.{IsShallow, shallow_both, both_shallow}
+use Rattle.wt_called_edit_laws.proofs.Parts.Seams.{no_words, break_runs, block_met, before_met}
 
 -- ---- what a text gives
 
@@ -62,7 +61,7 @@ work_first pages bs es = refl
 
 -- ---- two parts
 
-pub both_give : (pages : Pages) (bs cs : List ℕ) (items : ℕ → List Item) (outers : List OuterCall) (texts : List Span) (work : List Entry) → AreParts bs cs
+pub both_give : (pages : Pages) (bs cs : List ℕ) (items : ℕ → List Item) (outers : List OuterCall) (texts : List Span) (work : List Entry) → AreParts pages bs cs
     → Gives pages cs items outers texts work
     → Gives pages (bs ++ cs) (λ k. part_items pages k bs ++ items (k + calls_in pages bs)) ((expanded_page pages bs).outer ++ map (moved_call (length bs)) outers)
     ((expanded_page pages bs).text_calls ++ map (moved_span (length bs)) texts) ((text_given (page_reading pages) bs).work ++ work)
@@ -113,45 +112,12 @@ calm_gives pages bs h =
       work_is = sym (work_behind pages bs) ∙ ap rest_of (lexemes_work pages bs h) ∙ none_behind;
     }
 
--- before another part it gives its items alone
-pub calm_before : (pages : Pages) (bs cs : List ℕ) (items : ℕ → List Item) (outers : List OuterCall) (texts : List Span) (work : List Entry) → AreParts bs cs
-    → AreLexemes (reduced (words Page bs)) → Gives pages cs items outers texts work
-    → Gives pages (bs ++ cs) (λ k. page_items bs ++ items k) (map (moved_call (length bs)) outers) (map (moved_span (length bs)) texts) work
-calm_before pages bs cs items outers texts work h l g =
-    let b = both_give pages bs cs items outers texts work h g in
-    let c = calm_gives pages bs l in
-    let none : calls_in pages bs ≡ 0 = ap length c.outers_are in
-    record {
-      items_are = λ k.
-          let z : k + calls_in pages bs ≡ k = omega (arith, none) in
-          b.items_are k ∙ ap₂ (λ (xs : List Item) (n : ℕ). xs ++ items n) (c.items_are k) z;
-      outers_are = b.outers_are ∙ ap (λ os. os ++ map (moved_call (length bs)) outers) c.outers_are;
-      texts_are = b.texts_are ∙ ap (λ ss. ss ++ map (moved_span (length bs)) texts) c.texts_are;
-      work_is = b.work_is ∙ ap (λ es. es ++ work) c.work_is;
-    }
-
 -- ---- no call begins a text
 
-plain_both : (xs ys : List Member) → AreLexemes xs → BeginsPlain ys → BeginsPlain (xs ++ ys)
-plain_both [] ys l p = p
-plain_both (lexeme w ∷ xs) ys l p = tt
-plain_both (call k inside ∷ xs) ys l p = absurd l
-
-plain_onto : (xs : List Member) (v w : Word) (ys : List Member) → AreLexemes (xs ++ lexeme v ∷ []) → BeginsPlain (xs ++ lexeme w ∷ ys)
-plain_onto [] v w ys l = tt
-plain_onto (lexeme u ∷ xs) v w ys l = tt
-plain_onto (call k inside ∷ xs) v w ys l = absurd l
-
-pub plain_met : (vs ws us : List Word) → AreMet vs ws us → AreApart vs ws → AreLexemes (reduced vs) → BeginsPlain (reduced ws) → BeginsPlain (reduced us)
-plain_met vs ws us (inl e) a l p =
-    subst (λ (xs : List Word). BeginsPlain (reduced xs)) (sym e)
-    (subst BeginsPlain (sym (reduced_apart vs ws a)) (plain_both (reduced vs) (reduced ws) l p))
-plain_met vs ws us (inr m) a l p =
-    let r = run_cut vs ws us a m in
-    subst BeginsPlain (sym r.both_is) (plain_onto (reduced m.before) (Chars, m.first) (Chars, m.first + m.second) (reduced m.after) (lexemes_so r.first_is l))
-  where
-    lexemes_so : {xs ys : List Member} → xs ≡ ys → AreLexemes xs → AreLexemes ys
-    lexemes_so e h = subst AreLexemes e h
+pub lexemes_plain : (xs : List Member) → AreLexemes xs → BeginsPlain xs
+lexemes_plain [] l = tt
+lexemes_plain (lexeme w ∷ xs) l = tt
+lexemes_plain (call k inside ∷ xs) l = absurd l
 
 no_members : reduced [] ≡ []
 unfolding reduced
@@ -179,7 +145,7 @@ ends_plain (b ∷ r) e =
 -- in none of the parts a call has a hundred others round it
 abbrev pub AreShallow : List BlockSpot → List ℕ → Type 0
 AreShallow [] behind = IsShallow (words Page behind)
-AreShallow (s ∷ ss) behind = IsShallow (words Page s.before) × AreShallow ss behind
+AreShallow (s ∷ ss) behind = IsShallow (words Page s.before) × IsShallow (words Page (source_of s.block s.text)) × AreShallow ss behind
 
 -- what a page has from a part on
 pub record From (pages : Pages) (ss : List BlockSpot) (behind : List ℕ) : Type 0 where
@@ -188,66 +154,55 @@ pub record From (pages : Pages) (ss : List BlockSpot) (behind : List ℕ) : Type
   pub gives : Gives pages (spots_source ss behind) (λ k. called_items pages k ss behind) (called_outers pages ss behind) (called_texts pages ss behind) (called_work pages ss behind)
 
 -- two parts of which the braces don't pair
-parts_by : (bs cs : List ℕ) → AreMet (words Page bs) (words Page cs) (words Page (bs ++ cs)) → NonePairs (left_of bs ++ left_of cs) → BeginsPlain (reduced (words Page cs))
-    → AreParts bs cs
-parts_by bs cs m n p = record { read = record { lexemes = m; apart = apart_by (words Page bs) (words Page cs) n }; plain = p }
+parts_by : (pages : Pages) (bs cs : List ℕ) → AreMet (words Page bs) (words Page cs) (words Page (bs ++ cs)) → NonePairs (left_of bs ++ left_of cs)
+    → GivesAnywhere pages cs → AreParts pages bs cs
+parts_by pages bs cs m n g = record { read = record { lexemes = m; apart = apart_by (words Page bs) (words Page cs) n }; anywhere = g }
 
-block_calm : (s : BlockSpot) → IsRead s → CallsNothing (block_items s.block s.text) → AreLexemes (reduced (words Page (source_of s.block s.text)))
-block_calm s h c = calm_reduced (source_of s.block s.text) (subst CallsNothing (sym (block_alone s.block s.text h.block)) c)
-
-spot_from : (pages : Pages) (s : BlockSpot) (ss : List BlockSpot) (behind : List ℕ) → IsRead s → AreReadAfter ss behind → EndBeforeBlocks (s ∷ ss) behind
-    → CallNothing (s ∷ ss) → NonePairs (all_left (s ∷ ss) behind) → From pages ss behind → From pages (s ∷ ss) behind
-spot_from pages s ss behind h f b c n rest =
+spot_from : (pages : Pages) (s : BlockSpot) (ss : List BlockSpot) (behind : List ℕ) → IsReadSpot s → AreReadSpots ss behind → EndBeforeBlocks (s ∷ ss) behind
+    → GivesAnywhere pages (source_of s.block s.text) → NonePairs (all_left (s ∷ ss) behind) → From pages ss behind → From pages (s ∷ ss) behind
+spot_from pages s ss behind h f b a n rest =
     let line : List ℕ = source_of s.block s.text in
     let more : List ℕ = spots_source ss behind in
-    let calm : AreLexemes (reduced (words Page line)) = block_calm s h c.0 in
     let met : AreMet (words Page line) (words Page more) (words Page (line ++ more)) = block_met s ss behind h f b in
     let none : NonePairs (left_of line ++ left_of more) =
     subst (λ bs. NonePairs (left_of line ++ bs)) (sym rest.left_is) (pairs_rest (left_of s.before) (left_of line ++ all_left ss behind) n) in
-    let plain : BeginsPlain (reduced (words Page more)) = ends_plain more (further_ends ss behind f) in
-    let parts : AreParts line more = parts_by line more met none plain in
+    let parts : AreParts pages line more = parts_by pages line more met none (plain_anywhere pages more (ends_plain more (further_ends ss behind f))) in
     let left : left_of (line ++ more) ≡ left_of line ++ all_left ss behind =
     left_both (words Page line) (words Page more) (words Page (line ++ more)) met none ∙ ap (λ bs. left_of line ++ bs) rest.left_is in
     let before : AreMet (words Page s.before) (words Page (line ++ more)) (words Page (s.before ++ (line ++ more))) = before_met s ss behind h f b in
     let no_pairs : NonePairs (left_of s.before ++ left_of (line ++ more)) = subst (λ bs. NonePairs (left_of s.before ++ bs)) (sym left) n in
-    let begins : BeginsPlain (reduced (words Page (line ++ more))) =
-    plain_met (words Page line) (words Page more) (words Page (line ++ more)) met (apart_by (words Page line) (words Page more) none) calm plain in
-    let all : AreParts s.before (line ++ more) = parts_by s.before (line ++ more) before no_pairs begins in
-    let own_items : page_items line ≡ block_items s.block s.text = block_alone s.block s.text h.block in
-    let g = both_give pages s.before (line ++ more) (λ k. page_items line ++ called_items pages k ss behind) (map (moved_call (length line)) (called_outers pages ss behind))
-    (map (moved_span (length line)) (called_texts pages ss behind)) (called_work pages ss behind) all
-    (calm_before pages line more (λ k. called_items pages k ss behind) (called_outers pages ss behind) (called_texts pages ss behind) (called_work pages ss behind) parts calm rest.gives) in
+    let all : AreParts pages s.before (line ++ more) =
+    parts_by pages s.before (line ++ more) before no_pairs (both_anywhere pages line more parts.read a parts.anywhere) in
+    let g = both_give pages line more (λ k. called_items pages k ss behind) (called_outers pages ss behind) (called_texts pages ss behind) (called_work pages ss behind) parts rest.gives in
     record {
       shallow = (
         λ d.
-            let a = shallow_both (words Page s.before) (words Page (line ++ more)) (words Page (s.before ++ (line ++ more))) before all.read.apart d in
-            let b = shallow_both (words Page line) (words Page more) (words Page (line ++ more)) met parts.read.apart a.1 in
-            (a.0, rest.shallow.0 b.1),
+            let u = shallow_both (words Page s.before) (words Page (line ++ more)) (words Page (s.before ++ (line ++ more))) before all.read.apart d in
+            let v = shallow_both (words Page line) (words Page more) (words Page (line ++ more)) met parts.read.apart u.1 in
+            (u.0, v.0, rest.shallow.0 v.1),
         λ d.
-            let b = both_shallow (words Page line) (words Page more) (words Page (line ++ more)) met parts.read.apart (calm_shallow (words Page line) calm) (rest.shallow.1 d.1) in
-            both_shallow (words Page s.before) (words Page (line ++ more)) (words Page (s.before ++ (line ++ more))) before all.read.apart d.0 b,
+            let v = both_shallow (words Page line) (words Page more) (words Page (line ++ more)) met parts.read.apart d.1 (rest.shallow.1 d.2) in
+            both_shallow (words Page s.before) (words Page (line ++ more)) (words Page (s.before ++ (line ++ more))) before all.read.apart d.0 v,
       );
       left_is = left_both (words Page s.before) (words Page (line ++ more)) (words Page (s.before ++ (line ++ more))) before no_pairs ∙ ap (λ bs. left_of s.before ++ bs) left;
-      gives = record {
-        items_are = λ k. g.items_are k ∙ ap (λ xs. part_items pages k s.before ++ (xs ++ called_items pages (k + calls_in pages s.before) ss behind)) own_items;
-        outers_are = g.outers_are;
-        texts_are = g.texts_are;
-        work_is = g.work_is;
-      };
+      gives = both_give pages s.before (line ++ more) (λ k. part_items pages k line ++ called_items pages (k + calls_in pages line) ss behind)
+          ((expanded_page pages line).outer ++ map (moved_call (length line)) (called_outers pages ss behind))
+          ((expanded_page pages line).text_calls ++ map (moved_span (length line)) (called_texts pages ss behind))
+          (work_in pages line ++ called_work pages ss behind) all g;
     }
 
-further_from : (pages : Pages) (ss : List BlockSpot) (behind : List ℕ) → AreReadAfter ss behind → EndBeforeBlocks ss behind → CallNothing ss
+further_from : (pages : Pages) (ss : List BlockSpot) (behind : List ℕ) → AreReadSpots ss behind → EndBeforeBlocks ss behind → GiveAnywhere pages ss
     → NonePairs (all_left ss behind) → From pages ss behind
-further_from pages [] behind f b c n = record { left_is = refl; shallow = (λ d. d, λ d. d); gives = own_gives pages behind }
-further_from pages (s ∷ ss) behind f b c n =
-    spot_from pages s ss behind f.0 f.2 b c n
-    (further_from pages ss behind f.2 b.2 c.1 (pairs_rest (left_of (source_of s.block s.text)) (all_left ss behind)
+further_from pages [] behind f b a n = record { left_is = refl; shallow = (λ d. d, λ d. d); gives = own_gives pages behind }
+further_from pages (s ∷ ss) behind f b a n =
+    spot_from pages s ss behind f.0 f.2 b a.0 n
+    (further_from pages ss behind f.2 b.2 a.1 (pairs_rest (left_of (source_of s.block s.text)) (all_left ss behind)
     (pairs_rest (left_of s.before) (left_of (source_of s.block s.text) ++ all_left ss behind) n)))
 
-pub page_from : (pages : Pages) (ss : List BlockSpot) (behind : List ℕ) → AreCalled ss behind → From pages ss behind
+pub page_from : (pages : Pages) (ss : List BlockSpot) (behind : List ℕ) → AreCalled pages ss behind → From pages ss behind
 page_from pages [] behind h = absurd h
 page_from pages (s ∷ ss) behind h =
-    let w : AreParted (s ∷ ss) behind = h.2 in
-    spot_from pages s ss behind h.0 h.1 w.end_before w.calm w.apart
-    (further_from pages ss behind h.1 w.end_before.2 w.calm.1 (pairs_rest (left_of (source_of s.block s.text)) (all_left ss behind)
+    let w : AreParted pages (s ∷ ss) behind = h.2 in
+    spot_from pages s ss behind h.0 h.1 w.end_before w.anywhere.0 w.apart
+    (further_from pages ss behind h.1 w.end_before.2 w.anywhere.1 (pairs_rest (left_of (source_of s.block s.text)) (all_left ss behind)
     (pairs_rest (left_of s.before) (left_of (source_of s.block s.text) ++ all_left ss behind) w.apart)))

@@ -1,15 +1,29 @@
 -- A page with calls in whose blocks new contents were written.
-use Rattle.std.proofs.Common.{ℕ, List, [], ◌∷◌, sym, ◌∙◌}
-use Rattle.wt_expand.specs.Work.{Pages}
-use Rattle.wt_text_edit_laws.specs.BlockSpots.{BlockSpot, spots_source, IsRead, AreReadAfter, SameRound, AreContents}
+use Rattle.std.proofs.Common.{◌≡◌, ◌⊎◌, inl, inr, ℕ, Option, None, List, [], ◌∷◌, refl, sym, ap, ◌∙◌, subst}
+use Rattle.wt_span.specs.declared.form.Mode.TheVariants.{Page}
+use Rattle.wt_span.specs.Lexemes.{words}
+use Rattle.wt_span.specs.Braces.{reduced}
+use Rattle.wt_expand.specs.PageItems.{page_items}
+use Rattle.wt_expand.specs.Work.{Pages, Entry}
+use Rattle.wt_joined_calls.proofs.ExpandedBoth.{plain_anywhere}
+use Rattle.wt_text_edit_laws.specs.NoCalls.{Brace, NonePairs, CallsNothing}
+use Rattle.wt_text_edit_laws.specs.TextBlocks.{TextBlock, source_of, block_items}
+use Rattle.wt_text_edit_laws.specs.Contents.{IsContent, IsFirmContent, IsNewContent}
+use Rattle.wt_text_edit_laws.specs.BlockSpots.{BlockSpot, spots_source, SameRound, AreContents}
+use Rattle.wt_text_edit_laws.proofs.Between.LessBraces.{IsSome, braces_of, none_unbraced}
+use Rattle.wt_text_edit_laws.proofs.Between.NoCalls.{calm_reduced}
+use Rattle.wt_text_edit_laws.proofs.Texts.TypedText.{AreLexemes}
+use Rattle.wt_text_edit_laws.proofs.Blocks.BlockReading.{read_anew}
 use Rattle.wt_text_edit_laws.proofs.Blocks.Contents.{new_contents}
-use Rattle.wt_text_edit_laws.proofs.Blocks.TypedBraces.{AreNewOver}
-use Rattle.wt_called_edit_laws.specs.Parts.{AreCalled, IsByParts}
-use Rattle.wt_called_edit_laws.specs.Retyped.{AreRetyped, IsExpandedAgain}
-use Rattle.wt_called_edit_laws.proofs.Parts.CalledAgain.{called_again, same_work, work_of, still_unrefused}
-use Rattle.wt_called_edit_laws.proofs.Parts.PartByPart.{items_of, page_from}
+use Rattle.wt_text_edit_laws.proofs.Blocks.TypedBraces.{AreNewOver, firm_unbraced}
+use Rattle.wt_called_edit_laws.specs.Parts.{left_of, AreCalled, work_in, IsByParts}
+use Rattle.wt_called_edit_laws.specs.Retyped.{AreRetyped, AreSomeOf, IsPartAnew, AreWrittenAnew, IsExpandedAgain}
+use Rattle.wt_called_edit_laws.proofs.Parts.CalmBraces.{calm_left}
+use Rattle.wt_called_edit_laws.proofs.Parts.CalledAgain.{called_again, less_work, work_of, still_unrefused}
+use Rattle.wt_called_edit_laws.proofs.Parts.Depths.{calm_shallow, shallow_undeep}
+use Rattle.wt_called_edit_laws.proofs.Parts.PartByPart.{items_of, calm_gives, lexemes_plain, page_from}
 
-pub is_by_parts : (pages : Pages) (ss : List BlockSpot) (behind : List ℕ) → AreCalled ss behind → IsByParts pages ss behind
+pub is_by_parts : (pages : Pages) (ss : List BlockSpot) (behind : List ℕ) → AreCalled pages ss behind → IsByParts pages ss behind
 is_by_parts pages ss behind h =
     let f = page_from pages ss behind h in
     record {
@@ -17,6 +31,49 @@ is_by_parts pages ss behind h =
       outers = f.gives.outers_are;
       texts = f.gives.texts_are;
       work = work_of pages ss behind h;
+    }
+
+pub expanded_again : (pages : Pages) (ss rs : List BlockSpot) (behind : List ℕ) → AreCalled pages ss behind → AreWrittenAnew pages ss rs
+    → IsExpandedAgain pages ss rs behind
+expanded_again pages ss rs behind h t =
+    let c : AreCalled pages rs behind = called_again pages ss rs behind h t in
+    record { called = c; work = less_work pages ss rs behind h c t; unrefused = still_unrefused pages ss rs behind h c t }
+
+-- ---- a content that calls nothing
+
+-- it begins with no call, so it gives the same anywhere
+pub calm_lexemes : (k : TextBlock) (q : List ℕ) → IsContent k q → CallsNothing (block_items k q) → AreLexemes (reduced (words Page (source_of k q)))
+calm_lexemes k q h c = calm_reduced (source_of k q) (subst CallsNothing (sym h.unended) c)
+
+-- one that was written has no braces
+firm_braces : (k : TextBlock) (q : List ℕ) → IsFirmContent k q → braces_of (block_items k q) ≡ []
+firm_braces k q h = none_unbraced (block_items k q) (firm_unbraced k q h)
+
+pub firm_calm : (k : TextBlock) (q : List ℕ) → IsFirmContent k q → CallsNothing (block_items k q)
+firm_calm k q h = subst NonePairs (sym (firm_braces k q h)) tt
+
+none_of : (xs : List Brace) → IsSome xs [] → xs ≡ []
+none_of [] h = refl
+none_of (x ∷ xs) h = absurd h
+
+firm_left : (k : TextBlock) (q : List ℕ) → IsFirmContent k q → left_of (source_of k q) ≡ []
+firm_left k q t =
+    let items : page_items (source_of k q) ≡ block_items k q = t.content.unended in
+    none_of (left_of (source_of k q))
+    (subst (λ bs. IsSome (left_of (source_of k q)) bs) (ap braces_of items ∙ firm_braces k q t)
+    (calm_left (source_of k q) (subst CallsNothing (sym items) (firm_calm k q t))))
+
+pub part_anew : (pages : Pages) (k : TextBlock) (was now : List ℕ) → IsNewContent k was now → IsPartAnew pages k was now
+part_anew pages k was now n =
+    let bs : List ℕ = source_of k now in
+    let own : AreLexemes (reduced (words Page bs)) = calm_lexemes k now n.firm.content (firm_calm k now n.firm) in
+    let gives = calm_gives pages bs own in
+    record {
+      read = read_anew k was now n;
+      anywhere = plain_anywhere pages bs (lexemes_plain (reduced (words Page bs)) own);
+      left = firm_left k now n.firm;
+      undeep = λ d. shallow_undeep bs (calm_shallow (words Page bs) own);
+      work = subst (λ (ds : List Entry). AreSomeOf ds (work_in pages (source_of k was))) (sym gives.work_is) tt;
     }
 
 -- ---- typed again
@@ -33,19 +90,18 @@ new_over [] (r ∷ rs) h = absurd h
 new_over (s ∷ ss) [] h = absurd h
 new_over (s ∷ ss) (r ∷ rs) h = (h.2, new_over ss rs h.3)
 
-blocks_after : (ss : List BlockSpot) (behind : List ℕ) → AreReadAfter ss behind → AreContents ss
-blocks_after [] behind h = tt
-blocks_after (s ∷ ss) behind h = let r : IsRead s = h.0 in (r.block, blocks_after ss behind h.2)
-
-pub called_blocks : (ss : List BlockSpot) (behind : List ℕ) → AreCalled ss behind → AreContents ss
-called_blocks [] behind h = absurd h
-called_blocks (s ∷ ss) behind h = let r : IsRead s = h.0 in (r.block, blocks_after ss behind h.1)
-
 pub blocks_over : (ss rs : List BlockSpot) → AreRetyped ss rs → AreContents ss → AreContents rs
 blocks_over ss rs h b = new_contents ss rs (same_round ss rs h) (new_over ss rs h) b
 
-pub expanded_again : (pages : Pages) (ss rs : List BlockSpot) (behind : List ℕ) → AreCalled ss behind → AreRetyped ss rs → IsExpandedAgain pages ss rs behind
-expanded_again pages ss rs behind h t =
-    let e : SameRound ss rs = same_round ss rs t in
-    let c : AreCalled rs behind = called_again ss rs behind h e (blocks_over ss rs t (called_blocks ss behind h)) (new_over ss rs t) in
-    record { called = c; work = same_work pages ss rs behind h c e; unrefused = still_unrefused pages ss rs behind h c e }
+pub written_anew : (pages : Pages) (ss rs : List BlockSpot) → AreRetyped ss rs → AreWrittenAnew pages ss rs
+written_anew pages [] [] h = tt
+written_anew pages [] (r ∷ rs) h = absurd h
+written_anew pages (s ∷ ss) [] h = absurd h
+written_anew pages (s ∷ ss) (r ∷ rs) h = (h.0, h.1, one h.2, written_anew pages ss rs h.3)
+  where
+    one : (r.text ≡ s.text) ⊎ IsNewContent r.block s.text r.text → (r.text ≡ s.text) ⊎ IsPartAnew pages r.block s.text r.text
+    one (inl e) = inl e
+    one (inr n) = inr (part_anew pages r.block s.text r.text n)
+
+pub typed_again : (pages : Pages) (ss rs : List BlockSpot) (behind : List ℕ) → AreCalled pages ss behind → AreRetyped ss rs → IsExpandedAgain pages ss rs behind
+typed_again pages ss rs behind h t = expanded_again pages ss rs behind h (written_anew pages ss rs t)

@@ -15,19 +15,19 @@ use Rattle.wt_joined_calls.specs.Apart.{AreMet}
 use Rattle.wt_joined_calls.proofs.MetWords.{words_meet}
 use Rattle.wt_text_edit_laws.specs.TextBetween.{BeginsShown}
 use Rattle.wt_text_edit_laws.specs.TextBlocks.{TextBlock, source_of, block_items}
-use Rattle.wt_text_edit_laws.specs.Contents.{IsContent}
-use Rattle.wt_text_edit_laws.specs.BlockSpots.{BlockSpot, spots_source, EndBeforeBlocks, IsRead, AreReadAfter}
+use Rattle.wt_text_edit_laws.specs.ReadContents.{IsReadContent}
+use Rattle.wt_text_edit_laws.specs.BlockSpots.{BlockSpot, spots_source, EndBeforeBlocks, IsReadSpot, AreReadSpots}
 use Rattle.wt_text_edit_laws.proofs.Prose.Uncommented.{BeginsUncommented, either_flag}
 use Rattle.wt_text_edit_laws.proofs.Prose.InFront.{Reads, read_items}
 use Rattle.wt_text_edit_laws.proofs.Between.LineForms.{marks_settle}
 use Rattle.wt_text_edit_laws.proofs.Between.Shown.{shown_before, shown_reads}
 use Rattle.wt_text_edit_laws.proofs.Paragraphs.Texts.{EndsHere, here_begins}
 use Rattle.wt_text_edit_laws.proofs.Blocks.BlockReading.{spots_items, block_front, block_shown, further_ends, further_reads}
-use Rattle.wt_called_edit_laws.proofs.Parts.Uncrossed.{line_settles}
+use Rattle.wt_called_edit_laws.proofs.Parts.Uncrossed.{break_cut, part_settles}
 
 -- ---- a text before one that begins with no comment
 
-begins_same : (a : Bool) (cs : List ℕ) → BeginsUncommented cs → cuts Page a 0 cs ≡ cuts Page false 0 cs
+pub begins_same : (a : Bool) (cs : List ℕ) → BeginsUncommented cs → cuts Page a 0 cs ≡ cuts Page false 0 cs
 begins_same a [] u = refl
 begins_same a (b ∷ cs) u =
     cuts_cons Page a b cs (form_at Page false (b ∷ cs)) (either_flag Page a (b ∷ cs) u) ∙ sym (cuts_cons Page false b cs (form_at Page false (b ∷ cs)) refl)
@@ -43,20 +43,20 @@ line_met q [] xs e is = inl (ap (words Page) (append-nil q) ∙ sym (ap (λ (ws 
 line_met q (b ∷ r) xs e is =
     let P : ℕ → Type 0 = λ (c : ℕ). page_items (q ++ c ∷ r) ≡ page_items q ++ xs → AreMet (words Page q) (words Page (c ∷ r)) (words Page (q ++ c ∷ r)) in
     subst P (sym e) (λ same.
-    words_meet Page q (10 ∷ r) (line_settles q r xs same) (begins_same (after_all (lexer Page) false q) (10 ∷ r) (here_begins (10 ∷ r) refl))) is
+    words_meet Page q (10 ∷ r) (part_settles q (10 ∷ r) xs (break_cut q r) same) (begins_same (after_all (lexer Page) false q) (10 ∷ r) (here_begins (10 ∷ r) refl))) is
 
 -- ---- the parts of a page
 
-pub block_reads : (s : BlockSpot) (ss : List BlockSpot) (behind : List ℕ) → IsRead s → AreReadAfter ss behind → EndBeforeBlocks (s ∷ ss) behind
+pub block_reads : (s : BlockSpot) (ss : List BlockSpot) (behind : List ℕ) → IsReadSpot s → AreReadSpots ss behind → EndBeforeBlocks (s ∷ ss) behind
     → Reads (source_of s.block s.text ++ spots_source ss behind) (block_items s.block s.text ++ spots_items ss behind)
 block_reads s ss behind h f b =
     block_front s.block s.text (spots_source ss behind) (spots_items ss behind) h.block b.1 (further_ends ss behind f) (further_reads ss behind f b.2)
 
 -- a block is read so by itself, too
-pub block_alone : (k : TextBlock) (q : List ℕ) → IsContent k q → page_items (source_of k q) ≡ block_items k q
+pub block_alone : (k : TextBlock) (q : List ℕ) → IsReadContent k q → page_items (source_of k q) ≡ block_items k q
 block_alone k q h = h.unended
 
-pub block_met : (s : BlockSpot) (ss : List BlockSpot) (behind : List ℕ) → IsRead s → AreReadAfter ss behind → EndBeforeBlocks (s ∷ ss) behind
+pub block_met : (s : BlockSpot) (ss : List BlockSpot) (behind : List ℕ) → IsReadSpot s → AreReadSpots ss behind → EndBeforeBlocks (s ∷ ss) behind
     → AreMet (words Page (source_of s.block s.text)) (words Page (spots_source ss behind)) (words Page (source_of s.block s.text ++ spots_source ss behind))
 block_met s ss behind h f b =
     let own : List ℕ = source_of s.block s.text in
@@ -66,7 +66,7 @@ block_met s ss behind h f b =
     ∙ sym (ap (λ (xs : List Item). xs ++ spots_items ss behind) (block_alone s.block s.text h.block)) in
     line_met own rest (spots_items ss behind) (further_ends ss behind f) items
 
-pub before_met : (s : BlockSpot) (ss : List BlockSpot) (behind : List ℕ) → IsRead s → AreReadAfter ss behind → EndBeforeBlocks (s ∷ ss) behind
+pub before_met : (s : BlockSpot) (ss : List BlockSpot) (behind : List ℕ) → IsReadSpot s → AreReadSpots ss behind → EndBeforeBlocks (s ∷ ss) behind
     → AreMet (words Page s.before) (words Page (source_of s.block s.text ++ spots_source ss behind)) (words Page (spots_source (s ∷ ss) behind))
 before_met s ss behind h f b =
     let rest : List ℕ = source_of s.block s.text ++ spots_source ss behind in

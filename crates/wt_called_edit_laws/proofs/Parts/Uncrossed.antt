@@ -1,10 +1,11 @@
--- A lexeme of a line ends before its line break where the items of a text are those of the line and those behind it: so the lexemes of the line are the
--- same by themselves.
-use Rattle.std.proofs.Common.{arith, ◌≡◌, inl, inr, ℕ, zero, suc, ◌+◌, ◌-◌, ◌≤◌, ◌==◌, Bool, true, false, Option, Some, None, List, [], ◌∷◌, ◌++◌, length, take, map, get_or, nat_lt, refl, sym, ap, ◌∙◌, subst, length-append}
-use Rattle.std.specs.Prelude.{if◌then◌else◌, codes}
+-- No lexeme goes over the end of a text where the items of it and what follows are those of the text and those behind it, and no run of braces and no
+-- two brackets go over it: so the lexemes of the text are the same by themselves.
+use Rattle.std.proofs.Common.{arith, ◌≡◌, ◌⊎◌, inl, inr, ℕ, zero, suc, ◌+◌, ◌-◌, ◌≤◌, ◌<◌, ◌==◌, Bool, true, false, Option, Some, None, List, [], ◌∷◌, ◌++◌, length, take, map, get_or, nat_lt, refl, sym, ap, ◌∙◌, subst, length-append}
+use Rattle.std.specs.Prelude.{if◌then◌else◌, not, codes}
 use Rattle.std.specs.Option.{option_or}
 use Rattle.std.specs.List.{prefix_len}
 use Rattle.std.proofs.lemmas.Bool.{cases_lt}
+use Rattle.std.proofs.lemmas.Bool.Decides.{nat_tests}
 use Rattle.std.proofs.lemmas.List.Sums.{prefix_len_passes}
 use Rattle.wt_span.specs.declared.form.Mode.TheVariants.{Page}
 use Rattle.wt_span.specs.declared.form.LexKind.{LexKind}
@@ -18,6 +19,7 @@ use Rattle.wt_span.specs.Entities.{entity_at}
 use Rattle.wt_span.specs.Items.{Item, char, whole, source, sources, items_by}
 use Rattle.wt_span.specs.Lexemes.{Word, as_word, comment_line_word, entity_word, run_at, sign_at, sign_word, form_at}
 use Rattle.wt_lex.proofs.AllForms.{form_fits}
+use Rattle.wt_lex.proofs.Begins.{begins_get, begins_len}
 use Rattle.wt_expand.specs.PageItems.{raw_form_by, form_of, items_of_word, page_items}
 use Rattle.wt_expand.proofs.PageLaws.{form_sources, page_sources}
 use Rattle.wt_scans.specs.Lexer.{lexer}
@@ -25,9 +27,29 @@ use Rattle.wt_scans.specs.Scans.{skipped_by, Passes, Settles}
 use Rattle.wt_scans.proofs.Joins.{passes_settle}
 use Rattle.wt_scans.proofs.LexemeFronts.{lexemes_front}
 use Rattle.wt_text_edit_laws.proofs.Between.Fronts.{first_items, items_from, first_from, byte_from, form_from}
-use Rattle.wt_text_edit_laws.proofs.Between.LineWords.{lacks, word_before}
+use Rattle.wt_text_edit_laws.specs.TextBetween.{EndsBy}
 
--- ---- signs end before a line break
+-- ---- signs end before the cut
+
+-- it begins with another byte than this, or is empty
+abbrev pub BeginsOther : ℕ → List ℕ → Type 0
+BeginsOther c [] = Unit {0}
+BeginsOther c (b ∷ bs) = (b == c) ≡ false
+
+-- the first text doesn't end with this byte, or the second one doesn't begin with it
+abbrev pub IsCutAt : ℕ → List ℕ → List ℕ → Type 0
+IsCutAt c q r = EndsBy (λ b. not (b == c)) q ⊎ BeginsOther c r
+
+-- no run of braces, and no two brackets, go over the end of the first text
+abbrev pub AreCut : List ℕ → List ℕ → Type 0
+AreCut q r = IsCutAt 123 q r × IsCutAt 125 q r × IsCutAt 91 q r × IsCutAt 93 q r
+
+cut_rest : (c b : ℕ) (q r : List ℕ) → IsCutAt c (b ∷ q) r → IsCutAt c q r
+cut_rest c b [] r h = inl tt
+cut_rest c b (d ∷ q) r h = h
+
+all_rest : (b : ℕ) (q r : List ℕ) → AreCut (b ∷ q) r → AreCut q r
+all_rest b q r h = (cut_rest 123 b q r h.0, cut_rest 125 b q r h.1, cut_rest 91 b q r h.2, cut_rest 93 b q r h.3)
 
 -- signs of so many bytes at most; every other form is one item
 abbrev IsShort : ℕ → LexKind → ℕ → Type 0
@@ -52,31 +74,62 @@ if_short : (k : ℕ) (t : Bool) (kind : LexKind) (n : ℕ) → (t ≡ true → I
 if_short k true kind n f = f refl
 if_short k false kind n f = tt
 
--- a line break stands at this place
-abbrev IsBreakAt : List ℕ → ℕ → Type 0
-IsBreakAt bs k = get_or bs k 0 ≡ 10
+not_same : (t : Bool) → not t ≡ true → t ≡ false
+not_same true e = cc
+not_same false e = refl
 
-run_ends : (byte k : ℕ) (bs : List ℕ) → (10 == byte) ≡ false → IsBreakAt bs k → prefix_len (λ b. b == byte) bs ≤ k
-run_ends byte k bs e g = elim (cases_lt k (prefix_len (λ b. b == byte) bs)) [
-  | inl lt ↦
-      let p : (get_or bs k 0 == byte) ≡ true = prefix_len_passes (λ b. b == byte) bs k 0 lt in
-      let q : (10 == byte) ≡ true = subst (λ (x : ℕ). (x == byte) ≡ true) g p in
-      absurd (cc)
+-- the byte before the cut, and the one behind it
+last_at : (c b : ℕ) (q r : List ℕ) → EndsBy (λ d. not (d == c)) (b ∷ q) → (get_or (b ∷ (q ++ r)) (length q) 0 == c) ≡ false
+last_at c b [] r h = not_same (b == c) h
+last_at c b (d ∷ q) r h = last_at c d q r h
+
+next_at : (c : ℕ) (q r : List ℕ) → (0 == c) ≡ false → BeginsOther c r → (get_or (q ++ r) (length q) 0 == c) ≡ false
+next_at c [] [] z h = z
+next_at c [] (d ∷ r) z h = h
+next_at c (b ∷ q) r z h = next_at c q r z h
+
+-- a run of such bytes ends at the cut
+run_ends : (c b : ℕ) (q r : List ℕ) → (0 == c) ≡ false → IsCutAt c (b ∷ q) r → prefix_len (λ d. d == c) (b ∷ (q ++ r)) ≤ suc (length q)
+run_ends c b q r z h = elim (cases_lt (suc (length q)) (prefix_len (λ d. d == c) (b ∷ (q ++ r)))) [
+  | inl lt ↦ absurd (over lt h)
   | inr le ↦ le
 ]
+  where
+    over : suc (length q) < prefix_len (λ d. d == c) (b ∷ (q ++ r)) → IsCutAt c (b ∷ q) r → ⊥
+    over lt (inl e) =
+        let p : (get_or (b ∷ (q ++ r)) (length q) 0 == c) ≡ true = prefix_len_passes (λ d. d == c) (b ∷ (q ++ r)) (length q) 0 (omega (arith, lt)) in
+        let n : (get_or (b ∷ (q ++ r)) (length q) 0 == c) ≡ false = last_at c b q r e in
+        absurd (cc)
+    over lt (inr o) =
+        let p : (get_or (b ∷ (q ++ r)) (suc (length q)) 0 == c) ≡ true = prefix_len_passes (λ d. d == c) (b ∷ (q ++ r)) (suc (length q)) 0 lt in
+        let n : (get_or (b ∷ (q ++ r)) (suc (length q)) 0 == c) ≡ false = next_at c (b ∷ q) r z o in
+        absurd (cc)
 
-word_ends : (w bs : List ℕ) (k : ℕ) → lacks (λ b. b == 10) w ≡ true → begins w bs ≡ true → IsBreakAt bs k → length w ≤ k
-word_ends w bs k u e g = word_before (λ b. b == 10) w bs k e u (ap (λ (x : ℕ). x == 10) g)
+-- and so do two of them
+pair_ends : (c b : ℕ) (q r : List ℕ) → IsCutAt c (b ∷ q) r → begins (c ∷ c ∷ []) (b ∷ (q ++ r)) ≡ true → 2 ≤ suc (length q)
+pair_ends c b (d ∷ q) r h e = omega arith
+pair_ends c b [] [] h e = let le = begins_len (c ∷ c ∷ []) (b ∷ []) e in absurd (omega (arith, le))
+pair_ends c b [] (d ∷ r) (inl n) e =
+    let f : b ≡ c = begins_get (c ∷ c ∷ []) (b ∷ d ∷ r) e 0 (omega arith) in
+    let same : (b == c) ≡ true = grind (arith, nat_tests, f) in
+    let other : (b == c) ≡ false = not_same (b == c) n in
+    absurd (cc)
+pair_ends c b [] (d ∷ r) (inr n) e =
+    let f : d ≡ c = begins_get (c ∷ c ∷ []) (b ∷ d ∷ r) e 1 (omega arith) in
+    let same : (d == c) ≡ true = grind (arith, nat_tests, f) in
+    absurd (cc)
 
-signs_short : (k : ℕ) (bs : List ℕ) → IsBreakAt bs k → OptShort k (sign_word bs)
+signs_short : (b : ℕ) (q r : List ℕ) → AreCut (b ∷ q) r → OptShort (suc (length q)) (sign_word (b ∷ (q ++ r)))
 unfolding sign_word
-signs_short k bs g =
-    or_short k (run_at Opens 123 bs) _ (if_short k (nat_lt 1 (prefix_len (λ b. b == 123) bs)) Opens (prefix_len (λ b. b == 123) bs) (λ t. run_ends 123 k bs refl g))
-    (or_short k (run_at Closes 125 bs) _ (if_short k (nat_lt 1 (prefix_len (λ b. b == 125) bs)) Closes (prefix_len (λ b. b == 125) bs) (λ t. run_ends 125 k bs refl g))
-    (or_short k (sign_at LinkOpen (codes "[[") 2 bs) _ (if_short k (begins (codes "[[") bs) LinkOpen 2 (λ t. word_ends (codes "[[") bs k refl t g))
-    (or_short k (sign_at LinkClose (codes "]]") 2 bs) _ (if_short k (begins (codes "]]") bs) LinkClose 2 (λ t. word_ends (codes "]]") bs k refl t g))
-    (or_short k (sign_at Pipe (codes "|") 1 bs) (sign_at Equals (codes "=") 1 bs) (if_short k (begins (codes "|") bs) Pipe 1 (λ t. word_ends (codes "|") bs k refl t g))
-    (if_short k (begins (codes "=") bs) Equals 1 (λ t. word_ends (codes "=") bs k refl t g))))))
+signs_short b q r h =
+    let k : ℕ = suc (length q) in
+    let bs : List ℕ = b ∷ (q ++ r) in
+    or_short k (run_at Opens 123 bs) _ (if_short k (nat_lt 1 (prefix_len (λ b. b == 123) bs)) Opens (prefix_len (λ b. b == 123) bs) (λ t. run_ends 123 b q r refl h.0))
+    (or_short k (run_at Closes 125 bs) _ (if_short k (nat_lt 1 (prefix_len (λ b. b == 125) bs)) Closes (prefix_len (λ b. b == 125) bs) (λ t. run_ends 125 b q r refl h.1))
+    (or_short k (sign_at LinkOpen (codes "[[") 2 bs) _ (if_short k (begins (codes "[[") bs) LinkOpen 2 (λ t. pair_ends 91 b q r h.2 t))
+    (or_short k (sign_at LinkClose (codes "]]") 2 bs) _ (if_short k (begins (codes "]]") bs) LinkClose 2 (λ t. pair_ends 93 b q r h.3 t))
+    (or_short k (sign_at Pipe (codes "|") 1 bs) (sign_at Equals (codes "=") 1 bs) (if_short k (begins (codes "|") bs) Pipe 1 (λ t. omega arith))
+    (if_short k (begins (codes "=") bs) Equals 1 (λ t. omega arith))))))
 
 -- ---- and every other form
 
@@ -118,17 +171,20 @@ unfolding include_at
 include_short k bs =
     or_short k (opening_include Page (opening_tag bs) bs) (closing_include Page (closing_tag bs)) (opening_short k bs (opening_tag bs)) (closing_short k (closing_tag bs))
 
-form_short : (k : ℕ) (a : Bool) (bs : List ℕ) → IsBreakAt bs k → OptShort k (form_at Page a bs)
+form_short : (a : Bool) (b : ℕ) (q r : List ℕ) → AreCut (b ∷ q) r → OptShort (suc (length q)) (form_at Page a (b ∷ (q ++ r)))
 unfolding form_at
-form_short k a bs g =
+form_short a b q r g =
+    let k : ℕ = suc (length q) in
+    let bs : List ℕ = b ∷ (q ++ r) in
     or_short k (comment_line_word a bs) _ (after_short k a bs)
     (or_short k (as_word Comment (comment_len bs)) _ (comment_short k (comment_len bs))
     (or_short k (as_word Raw (raw_len bs)) _ (raw_short k (raw_len bs))
     (or_short k (include_at Page bs) _ (include_short k bs)
-    (or_short k (entity_word (entity_at bs)) (sign_word bs) (entity_short k (entity_at bs)) (signs_short k bs g)))))
+    (or_short k (entity_word (entity_at bs)) (sign_word bs) (entity_short k (entity_at bs)) (signs_short b q r g)))))
 
-short_here : (k : ℕ) (a : Bool) (bs : List ℕ) (kind : LexKind) (n : ℕ) → IsBreakAt bs k → form_at Page a bs ≡ Some (kind, n) → IsShort k kind n
-short_here k a bs kind n g e = let P : Option Word → Type 0 = OptShort k in subst P e (form_short k a bs g)
+short_here : (a : Bool) (b : ℕ) (q r : List ℕ) (kind : LexKind) (n : ℕ) → AreCut (b ∷ q) r → form_at Page a (b ∷ (q ++ r)) ≡ Some (kind, n)
+    → IsShort (suc (length q)) kind n
+short_here a b q r kind n g e = let P : Option Word → Type 0 = OptShort (suc (length q)) in subst P e (form_short a b q r g)
 
 -- ---- items cut at another place
 
@@ -233,33 +289,30 @@ form_within LinkClose k n bs rest ys zs h e some le same = h
 form_within Pipe k n bs rest ys zs h e some le same = h
 form_within Equals k n bs rest ys zs h e some le same = h
 
-break_behind : (q r : List ℕ) → IsBreakAt (q ++ 10 ∷ r) (length q)
-break_behind [] r = refl
-break_behind (b ∷ q) r = break_behind q r
-
 taken : (j : ℕ) (bs : List ℕ) → j ≤ length bs → length (take j bs) ≡ j
 taken zero bs le = refl
 taken (suc j) [] le = absurd (omega (arith, le))
 taken (suc j) (b ∷ bs) le = ap suc (taken j bs (omega (arith, le)))
 
--- what is read of a line and what follows, of which the first items are those of the line
+-- what is read of a text and what follows, of which the first items are those of the text
 abbrev Goes : List ℕ → List Item → Bool → ℕ → List ℕ → Type 0
-Goes r zs a n q = (ys : List Item) → n ≤ length q → items_from a n (q ++ 10 ∷ r) ≡ ys ++ zs → bytes ys + n ≡ length q → Passes (lexer Page) (10 ∷ r) a n q
+Goes r zs a n q =
+    (ys : List Item) → AreCut q r → n ≤ length q → items_from a n (q ++ r) ≡ ys ++ zs → bytes ys + n ≡ length q → Passes (lexer Page) r a n q
 
-goes_byte : (r : List ℕ) (zs : List Item) (a : Bool) (b : ℕ) (q : List ℕ) (ys : List Item) → form_at Page a (b ∷ (q ++ 10 ∷ r)) ≡ None
-    → items_from a 0 (b ∷ (q ++ 10 ∷ r)) ≡ ys ++ zs → bytes ys + 0 ≡ suc (length q) → Goes r zs (is_break b) 0 q → Passes (lexer Page) (10 ∷ r) (is_break b) 0 q
-goes_byte r zs a b q ys f e s go =
+goes_byte : (r : List ℕ) (zs : List Item) (a : Bool) (b : ℕ) (q : List ℕ) (ys : List Item) → AreCut q r → form_at Page a (b ∷ (q ++ r)) ≡ None
+    → items_from a 0 (b ∷ (q ++ r)) ≡ ys ++ zs → bytes ys + 0 ≡ suc (length q) → Goes r zs (is_break b) 0 q → Passes (lexer Page) r (is_break b) 0 q
+goes_byte r zs a b q ys c f e s go =
     let own : List Item = char None b ∷ [] in
-    let all : own ++ items_from (is_break b) 0 (q ++ 10 ∷ r) ≡ ys ++ zs = sym (byte_from a b (q ++ 10 ∷ r) f) ∙ e in
-    let m = further own (items_from (is_break b) 0 (q ++ 10 ∷ r)) ys zs (omega arith, tt) (omega (arith, s)) all in
+    let all : own ++ items_from (is_break b) 0 (q ++ r) ≡ ys ++ zs = sym (byte_from a b (q ++ r) f) ∙ e in
+    let m = further own (items_from (is_break b) 0 (q ++ r)) ys zs (omega arith, tt) (omega (arith, s)) all in
     let size : bytes ys ≡ suc (bytes m.us) = ap bytes m.ys_are in
-    go m.us (omega arith) m.rest_are (omega (arith, size, s))
+    go m.us c (omega arith) m.rest_are (omega (arith, size, s))
 
-goes_form : (r : List ℕ) (zs : List Item) (a : Bool) (b : ℕ) (q : List ℕ) (ys : List Item) (kind : LexKind) (j : ℕ)
-    → form_at Page a (b ∷ (q ++ 10 ∷ r)) ≡ Some (kind, suc j) → items_from a 0 (b ∷ (q ++ 10 ∷ r)) ≡ ys ++ zs → bytes ys + 0 ≡ suc (length q)
-    → Goes r zs (is_break b) j q → Passes (lexer Page) (10 ∷ r) (is_break b) j q
-goes_form r zs a b q ys kind j f e s go =
-    let bs : List ℕ = q ++ 10 ∷ r in
+goes_form : (r : List ℕ) (zs : List Item) (a : Bool) (b : ℕ) (q : List ℕ) (ys : List Item) (kind : LexKind) (j : ℕ) → AreCut (b ∷ q) r
+    → form_at Page a (b ∷ (q ++ r)) ≡ Some (kind, suc j) → items_from a 0 (b ∷ (q ++ r)) ≡ ys ++ zs → bytes ys + 0 ≡ suc (length q)
+    → Goes r zs (is_break b) j q → Passes (lexer Page) r (is_break b) j q
+goes_form r zs a b q ys kind j c f e s go =
+    let bs : List ℕ = q ++ r in
     let word : List ℕ = b ∷ take j bs in
     let own : List Item = items_of_word kind word in
     let rest : List Item = items_from (is_break b) j bs in
@@ -267,12 +320,12 @@ goes_form r zs a b q ys kind j f e s go =
     let long : length (take j bs) ≡ j = taken j bs (omega (arith, fits.within)) in
     let all : own ++ rest ≡ ys ++ zs = sym (form_from a b bs kind j f) ∙ e in
     let le : suc j ≤ suc (length q) =
-    form_within kind (suc (length q)) (suc j) word rest ys zs (short_here (suc (length q)) a (b ∷ bs) kind (suc j) (break_behind (b ∷ q) r) f)
+    form_within kind (suc (length q)) (suc j) word rest ys zs (short_here a b q r kind (suc j) c f)
     (omega (arith, long)) (omega (arith, s)) (omega (arith, s)) all in
     let own_size : bytes own ≡ suc j = ap length (form_sources (form_of kind word) word) ∙ ap suc long in
     let m = further own rest ys zs (word_has (form_of kind word) b (take j bs)) (omega (arith, own_size, le, s)) all in
     let size : bytes ys ≡ bytes own + bytes m.us = ap bytes m.ys_are ∙ bytes_both own m.us in
-    go m.us (omega (arith, le)) m.rest_are (omega (arith, size, own_size, s))
+    go m.us (all_rest b q r c) (omega (arith, le)) m.rest_are (omega (arith, size, own_size, s))
   where
     bytes_both : (xs us : List Item) → bytes (xs ++ us) ≡ bytes xs + bytes us
     bytes_both [] us = let z : bytes us ≡ 0 + bytes us = omega arith in z
@@ -282,25 +335,29 @@ goes_form r zs a b q ys kind j f e s go =
         let i = bytes_both xs us in
         omega (arith, c, d, i)
 
-goes_by : (r : List ℕ) (zs : List Item) (a : Bool) (b : ℕ) (q : List ℕ) (ys : List Item) (o : Option Word) → form_at Page a (b ∷ (q ++ 10 ∷ r)) ≡ o
-    → items_from a 0 (b ∷ (q ++ 10 ∷ r)) ≡ ys ++ zs → bytes ys + 0 ≡ suc (length q) → ((n : ℕ) → Goes r zs (is_break b) n q)
-    → Passes (lexer Page) (10 ∷ r) (is_break b) (skipped_by (lexer Page) o) q
-goes_by r zs a b q ys None f e s go = goes_byte r zs a b q ys f e s (go 0)
-goes_by r zs a b q ys (Some (kind, zero)) f e s go = let fits = form_fits Page a (b ∷ (q ++ 10 ∷ r)) (kind, zero) f in absurd (omega (arith, fits.some))
-goes_by r zs a b q ys (Some (kind, suc j)) f e s go =
+goes_by : (r : List ℕ) (zs : List Item) (a : Bool) (b : ℕ) (q : List ℕ) (ys : List Item) (o : Option Word) → AreCut (b ∷ q) r → form_at Page a (b ∷ (q ++ r)) ≡ o
+    → items_from a 0 (b ∷ (q ++ r)) ≡ ys ++ zs → bytes ys + 0 ≡ suc (length q) → ((n : ℕ) → Goes r zs (is_break b) n q)
+    → Passes (lexer Page) r (is_break b) (skipped_by (lexer Page) o) q
+goes_by r zs a b q ys None c f e s go = goes_byte r zs a b q ys (all_rest b q r c) f e s (go 0)
+goes_by r zs a b q ys (Some (kind, zero)) c f e s go = let fits = form_fits Page a (b ∷ (q ++ r)) (kind, zero) f in absurd (omega (arith, fits.some))
+goes_by r zs a b q ys (Some (kind, suc j)) c f e s go =
     let z : j ≡ suc j - 1 = omega arith in
-    subst (λ (n : ℕ). Passes (lexer Page) (10 ∷ r) (is_break b) n q) z (goes_form r zs a b q ys kind j f e s (go j))
+    subst (λ (n : ℕ). Passes (lexer Page) r (is_break b) n q) z (goes_form r zs a b q ys kind j c f e s (go j))
 
 goes : (r : List ℕ) (zs : List Item) (a : Bool) (n : ℕ) (q : List ℕ) → Goes r zs a n q
-goes r zs a zero [] ys le e s = refl
-goes r zs a (suc n) [] ys le e s = absurd (omega (arith, le))
-goes r zs a (suc n) (b ∷ q) ys le e s = goes r zs (is_break b) n q ys (omega (arith, le)) e (omega (arith, s))
-goes r zs a zero (b ∷ q) ys le e s = goes_by r zs a b q ys (form_at Page a (b ∷ (q ++ 10 ∷ r))) refl e s (λ n. goes r zs (is_break b) n q)
+goes r zs a zero [] ys c le e s = refl
+goes r zs a (suc n) [] ys c le e s = absurd (omega (arith, le))
+goes r zs a (suc n) (b ∷ q) ys c le e s = goes r zs (is_break b) n q ys (all_rest b q r c) (omega (arith, le)) e (omega (arith, s))
+goes r zs a zero (b ∷ q) ys c le e s = goes_by r zs a b q ys (form_at Page a (b ∷ (q ++ r))) c refl e s (λ n. goes r zs (is_break b) n q)
 
--- ---- so the line settles
+-- ---- so the text settles
 
-pub line_settles : (q r : List ℕ) (zs : List Item) → page_items (q ++ 10 ∷ r) ≡ page_items q ++ zs → Settles (lexer Page) (10 ∷ r) false 0 q
-line_settles q r zs e =
-    let all : items_from false 0 (q ++ 10 ∷ r) ≡ page_items q ++ zs = first_from false (q ++ 10 ∷ r) ∙ sym (first_items (q ++ 10 ∷ r)) ∙ e in
+pub part_settles : (q r : List ℕ) (zs : List Item) → AreCut q r → page_items (q ++ r) ≡ page_items q ++ zs → Settles (lexer Page) r false 0 q
+part_settles q r zs c e =
+    let all : items_from false 0 (q ++ r) ≡ page_items q ++ zs = first_from false (q ++ r) ∙ sym (first_items (q ++ r)) ∙ e in
     let size : bytes (page_items q) ≡ length q = ap length (page_sources q) in
-    passes_settle (lexer Page) (10 ∷ r) false 0 q (lexemes_front Page) (goes r zs false 0 q (page_items q) (omega arith) all (omega (arith, size)))
+    passes_settle (lexer Page) r false 0 q (lexemes_front Page) (goes r zs false 0 q (page_items q) c (omega arith) all (omega (arith, size)))
+
+-- before a line break it does
+pub break_cut : (q r : List ℕ) → AreCut q (10 ∷ r)
+break_cut q r = (inr refl, inr refl, inr refl, inr refl)

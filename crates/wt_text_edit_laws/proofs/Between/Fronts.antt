@@ -123,7 +123,7 @@ joined rest xs a zero (b ∷ q) h r =
 
 -- ---- what stands before, and what stands behind
 
-front_reads : (bs rest : List ℕ) (xs : List Item) → Settles (lexer Page) rest false 0 bs
+pub front_reads : (bs rest : List ℕ) (xs : List Item) → Settles (lexer Page) rest false 0 bs
     → ReadsAfter (after_all (lexer Page) false bs) rest xs → ReadsAfter false (bs ++ rest) (page_items bs ++ xs)
 front_reads bs rest xs s r =
     let j = joined rest xs false 0 bs s r in

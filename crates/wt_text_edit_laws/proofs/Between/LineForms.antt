@@ -214,7 +214,7 @@ lines_settle rest a n q l h = settle_by is_break rest (λ q l. (lines_ended q l,
 
 -- ---- behind a comment or tag
 
-get_behind : (xs ys : List ℕ) (i : ℕ) → get_or (xs ++ ys) (length xs + i) 0 ≡ get_or ys i 0
+pub get_behind : (xs ys : List ℕ) (i : ℕ) → get_or (xs ++ ys) (length xs + i) 0 ≡ get_or ys i 0
 get_behind [] ys i = let f : 0 + i ≡ i = omega arith in ap (λ (j : ℕ). get_or ys j 0) f
 get_behind (x ∷ xs) ys i =
     let f : suc (length xs) + i ≡ suc (length xs + i) = omega arith in

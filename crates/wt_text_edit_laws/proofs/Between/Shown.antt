@@ -11,6 +11,7 @@ use Rattle.wt_lines.specs.declared.kind.LineKind.TheVariants as line
 use Rattle.wt_lines.specs.Kinds.{is_mark_sign, is_idle, past, first_of, rows, kind_of_signs, line_kind}
 use Rattle.wt_lines.specs.Lines.{is_break_item, onto, lines}
 use Rattle.wt_spelling_laws.proofs.Forms.{other_byte}
+use Rattle.wt_text_edit_laws.specs.ReadContents.{begins_shown}
 use Rattle.wt_text_edit_laws.specs.TextBetween.{BeginsShown}
 use Rattle.wt_text_edit_laws.proofs.Prose.InFront.{Reads}
 use Rattle.wt_text_edit_laws.proofs.Between.LineWords.{either}
@@ -18,11 +19,6 @@ use Rattle.wt_text_edit_laws.proofs.Between.LineRemarks.{blank_form}
 use Rattle.wt_text_edit_laws.proofs.Between.Fronts.{items_from, first_from, byte_from}
 
 -- ---- by its items
-
--- the first of them that is no blank is no line break
-abbrev pub begins_shown : List Item → Bool
-begins_shown [] = false
-begins_shown (x ∷ xs) = if is_char_in is_blank x then begins_shown xs else not (is_break_item x)
 
 shown_by : (t v : Bool) (xs ys : List Item) → (if t then begins_shown xs else not v) ≡ true → (begins_shown xs ≡ true → begins_shown (xs ++ ys) ≡ true)
     → (if t then begins_shown (xs ++ ys) else not v) ≡ true

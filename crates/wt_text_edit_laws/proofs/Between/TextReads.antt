@@ -20,7 +20,8 @@ use Rattle.wt_text_edit_laws.proofs.Prose.InFront.{Reads}
 use Rattle.wt_text_edit_laws.proofs.Prose.ProseReading.{page_front}
 use Rattle.wt_text_edit_laws.proofs.Between.LineForms.{ends_before_any}
 use Rattle.wt_text_edit_laws.proofs.Between.Fronts.{ReadsAfter, reads_after, page_read, before_reads, behind_reads}
-use Rattle.wt_text_edit_laws.proofs.Between.Shown.{begins_shown, shown_before, shown_lines, shown_reads}
+use Rattle.wt_text_edit_laws.specs.ReadContents.{begins_shown}
+use Rattle.wt_text_edit_laws.proofs.Between.Shown.{shown_before, shown_lines, shown_reads}
 use Rattle.wt_text_edit_laws.proofs.Between.NoCalls.{calm_expanded, calm_unrefused}
 use Rattle.wt_text_edit_laws.proofs.Between.LessBraces.{braces_of, items_behind_end, none_unbraced, unbraced_ends, page_unbraced, ended_unbraced}
 

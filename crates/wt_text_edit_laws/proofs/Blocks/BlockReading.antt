@@ -23,14 +23,15 @@ use Rattle.wt_text_edit_laws.specs.NoCalls.{CallsNothing}
 use Rattle.wt_text_edit_laws.specs.TextBetween.{AreEnded, HasEndsBefore, StandsBehind, LineEnds}
 use Rattle.wt_text_edit_laws.proofs.Between.LineForms.{ends_before_any}
 use Rattle.wt_text_edit_laws.proofs.Between.Fronts.{ReadsAfter, reads_after, reads_either, first_from, form_from, page_read, alone_reads, before_reads, behind_reads}
-use Rattle.wt_text_edit_laws.proofs.Between.Shown.{begins_shown, shown_before, shown_lines, shown_reads}
+use Rattle.wt_text_edit_laws.proofs.Between.Shown.{shown_before, shown_lines, shown_reads}
 use Rattle.wt_text_edit_laws.proofs.Between.LineComments.{lines_ended}
 use Rattle.wt_text_edit_laws.proofs.Between.NoCalls.{calm_expanded, calm_unrefused}
 use Rattle.wt_text_edit_laws.proofs.Paragraphs.Texts.{EndsHere, begins_before, here_begins, nothing_is, one_line, line_reads}
 use Rattle.wt_text_edit_laws.specs.TypedHeadings.{Sides, AreBlanks, AreSides, equals, opening, closing, closing_items, heading_line, EndsLine}
 use Rattle.wt_text_edit_laws.specs.TextBlocks.{TextBlock, a_paragraph, a_heading, source_of, block_items, IsFrame, IsTypedHeading, BeginsLine}
-use Rattle.wt_text_edit_laws.specs.Contents.{AreParagraphLines, IsHeadingLine, IsContentOf, IsContent, IsFirmContent, TextEnds}
-use Rattle.wt_text_edit_laws.specs.BlockSpots.{BlockSpot, spots_source, EndBeforeBlocks, IsRead, AreReadAfter, AreRead}
+use Rattle.wt_text_edit_laws.specs.Contents.{IsHeadingLine, IsContentOf, IsContent, IsFirmContent, IsNewContent, TextEnds}
+use Rattle.wt_text_edit_laws.specs.ReadContents.{begins_shown, BeginsParagraph, BeginsBlock, IsReadContent, BeginsUnclosed, IsFirmlyRead, IsReadAnew}
+use Rattle.wt_text_edit_laws.specs.BlockSpots.{BlockSpot, spots_source, EndBeforeBlocks, IsRead, AreReadAfter, IsReadSpot, AreReadSpots, AreRead}
 
 -- ---- a heading's delimiters
 
@@ -143,14 +144,32 @@ typed_text s q h = record { setting = h.setting; text = h.text; utf8 = h.utf8; o
 abbrev pub IsBeforeAny : List ℕ → Type 0
 IsBeforeAny q = (rest : List ℕ) (xs : List Item) → Reads rest xs → Reads (q ++ rest) (page_items q ++ xs)
 
-framed_front : (s : Sides) (q rest : List ℕ) (xs : List Item) → IsFrame s → IsBeforeAny q → EndsHere rest → Reads rest xs
+-- or before what doesn't begin with a `}`
+abbrev pub IsBeforeUnclosed : List ℕ → Type 0
+IsBeforeUnclosed q = (rest : List ℕ) (xs : List Item) → BeginsUnclosed rest → Reads rest xs → Reads (q ++ rest) (page_items q ++ xs)
+
+end_unclosed : (rest : List ℕ) → EndsHere rest → BeginsUnclosed rest
+end_unclosed [] e = tt
+end_unclosed (b ∷ r) e = subst (λ (c : ℕ). BeginsUnclosed (c ∷ r)) (sym e) refl
+
+signs_unclosed : (trail : List ℕ) (n : ℕ) (more : List ℕ) → AreBlanks trail → 1 ≤ n → BeginsUnclosed (trail ++ (equals n ++ more))
+signs_unclosed [] zero more h some = absurd (omega (arith, some))
+signs_unclosed [] (suc n) more h some = refl
+signs_unclosed (b ∷ bs) n more h some = each_quiet (λ (c : ℕ). (c == 125) ≡ false) refl refl refl b (or_right (b == 61) (is_blank b) h.0)
+
+closing_unclosed : (s : Sides) (rest : List ℕ) → AreSides s → BeginsUnclosed (closing s ++ rest)
+closing_unclosed s rest a =
+    subst BeginsUnclosed (sym (append_assoc s.trail (equals s.level ++ s.rest) rest ∙ ap (λ (bs : List ℕ). s.trail ++ bs) (append_assoc (equals s.level) s.rest rest)))
+    (signs_unclosed s.trail s.level (s.rest ++ rest) a.trail a.some)
+
+framed_front : (s : Sides) (q rest : List ℕ) (xs : List Item) → IsFrame s → IsBeforeUnclosed q → EndsHere rest → Reads rest xs
     → Reads (source_of (a_heading s) q ++ rest) (heading_line s (page_items q) ++ xs)
 framed_front s q rest xs h f e r =
     let own : List Item = page_items q in
     let o : List Item = page_chars (opening s) in
     let c : List Item = closing_items s in
     let end : Reads (closing s ++ rest) (c ++ xs) = closing_front s rest xs h e r in
-    let text : Reads (q ++ (closing s ++ rest)) (own ++ (c ++ xs)) = f (closing s ++ rest) (c ++ xs) end in
+    let text : Reads (q ++ (closing s ++ rest)) (own ++ (c ++ xs)) = f (closing s ++ rest) (c ++ xs) (closing_unclosed s rest h.sides) end in
     let all : Reads (opening s ++ (q ++ (closing s ++ rest))) (o ++ (own ++ (c ++ xs))) =
     read_quiet (opening s) (q ++ (closing s ++ rest)) (own ++ (c ++ xs)) (opening_quiet s h.sides) text in
     let source : source_of (a_heading s) q ++ rest ≡ opening s ++ (q ++ (closing s ++ rest)) =
@@ -164,17 +183,40 @@ abbrev pub HasFrame : TextBlock → Type 0
 HasFrame a_paragraph = Unit {0}
 HasFrame (a_heading s) = IsFrame s
 
--- a block whose content is read the same before anything
+-- a block whose content is read the same before anything, but a `}`
+unclosed_front : (k : TextBlock) (q rest : List ℕ) (xs : List Item) → HasFrame k → IsBeforeUnclosed q → EndsHere rest → Reads rest xs
+    → Reads (source_of k q ++ rest) (block_items k q ++ xs)
+unclosed_front a_paragraph q rest xs h f e r = f rest xs (end_unclosed rest e) r
+unclosed_front (a_heading s) q rest xs h f e r = framed_front s q rest xs h f e r
+
 pub any_front : (k : TextBlock) (q rest : List ℕ) (xs : List Item) → HasFrame k → IsBeforeAny q → EndsHere rest → Reads rest xs
     → Reads (source_of k q ++ rest) (block_items k q ++ xs)
-any_front a_paragraph q rest xs h f e r = f rest xs r
-any_front (a_heading s) q rest xs h f e r = framed_front s q rest xs h f e r
+any_front k q rest xs h f e r = unclosed_front k q rest xs h (λ rs ys u s. f rs ys s) e r
 
 -- ---- a content of the page
 
 pub content_frame : (k : TextBlock) (q : List ℕ) → IsContent k q → HasFrame k
 content_frame a_paragraph q h = tt
 content_frame (a_heading s) q h = let own : IsHeadingLine s q = h.is in own.frame
+
+content_begins_block : (k : TextBlock) (q : List ℕ) → IsContentOf k q → BeginsBlock k q
+content_begins_block a_paragraph q h = record { alone = h.alone; before_break = h.before_break; shown = shown_lines (page_items q) h.are_lines }
+content_begins_block (a_heading s) q h = h.frame
+
+pub content_read : (k : TextBlock) (q : List ℕ) → IsContent k q → IsReadContent k q
+content_read k q h = record { utf8 = h.utf8; ended = h.ended; unended = h.unended; begins = content_begins_block k q h.is }
+
+pub firmly_read : (k : TextBlock) (q : List ℕ) → IsFirmContent k q → IsFirmlyRead q
+firmly_read k q h = record { firm = λ rest b u. h.firm rest b; uncommented = λ rest b u. h.uncommented rest b }
+
+pub read_anew : (k : TextBlock) (was now : List ℕ) → IsNewContent k was now → IsReadAnew k was now
+read_anew k was now h = record { read = content_read k now h.firm.content; firm = firmly_read k now h.firm; closes = h.closes }
+
+-- ---- one by its lexemes
+
+pub read_frame : (k : TextBlock) (q : List ℕ) → IsReadContent k q → HasFrame k
+read_frame a_paragraph q h = tt
+read_frame (a_heading s) q h = h.begins
 
 -- no comment begins it
 run_begins : (n : ℕ) (bs : List ℕ) → 1 ≤ n → BeginsUncommented (equals n ++ bs)
@@ -187,23 +229,23 @@ heading_begins s q rest a =
     subst BeginsUncommented (sym (append_assoc (opening s) more rest ∙ append_assoc (equals s.level) s.lead (more ++ rest)))
     (run_begins s.level (s.lead ++ (more ++ rest)) a.some)
 
-paragraph_begins : (q rest : List ℕ) → AreParagraphLines q → EndsHere rest → BeginsUncommented (q ++ rest)
+paragraph_begins : (q rest : List ℕ) → BeginsParagraph q → EndsHere rest → BeginsUncommented (q ++ rest)
 paragraph_begins q [] h e = subst BeginsUncommented (sym (append-nil q)) (record { is = h.alone.uncommented })
 paragraph_begins q (b ∷ r) h e =
     let P : ℕ → Type 0 = λ (c : ℕ). BeginsUncommented (q ++ c ∷ r) in
     subst P (sym e) (subst BeginsUncommented (append_assoc q (10 ∷ []) r) (begins_before q r (lines_ended (q ++ 10 ∷ []) (one_line q)) h.before_break))
 
-content_begins : (k : TextBlock) (q rest : List ℕ) → IsContentOf k q → EndsHere rest → BeginsUncommented (source_of k q ++ rest)
+content_begins : (k : TextBlock) (q rest : List ℕ) → BeginsBlock k q → EndsHere rest → BeginsUncommented (source_of k q ++ rest)
 content_begins a_paragraph q rest h e = paragraph_begins q rest h e
-content_begins (a_heading s) q rest h e = heading_begins s q rest h.frame.sides
+content_begins (a_heading s) q rest h e = heading_begins s q rest h.sides
 
 -- before a line break, or where the page ends
-own_front : (k : TextBlock) (q rest : List ℕ) (xs : List Item) → IsContent k q → LineEnds (source_of k q) rest → EndsHere rest → Reads rest xs
+own_front : (k : TextBlock) (q rest : List ℕ) (xs : List Item) → IsReadContent k q → LineEnds (source_of k q) rest → EndsHere rest → Reads rest xs
     → Reads (source_of k q ++ rest) (block_items k q ++ xs)
 own_front k q [] xs h l e r =
     let line : List ℕ = source_of k q in
     let own : List Item = block_items k q in
-    let begins : BeginsUncommented line = subst BeginsUncommented (append-nil line) (content_begins k q [] h.is tt) in
+    let begins : BeginsUncommented line = subst BeginsUncommented (append-nil line) (content_begins k q [] h.begins tt) in
     let alone : Reads line (page_items line) = reads_either line (page_items line) begins (alone_reads line) in
     subst (λ ys. Reads (line ++ []) (own ++ ys)) (sym (nothing_is xs r))
     (subst (λ bs. Reads bs (own ++ [])) (sym (append-nil line)) (subst (λ ys. Reads line ys) (h.unended ∙ sym (append-nil own)) alone))
@@ -211,20 +253,20 @@ own_front k q (b ∷ r) xs h l e read =
     let line : List ℕ = source_of k q in
     let own : List Item = block_items k q in
     let P : ℕ → Type 0 = λ (c : ℕ). HasEndsBefore r (line ++ c ∷ []) → Reads (c ∷ r) xs → Reads (line ++ c ∷ r) (own ++ xs) in
-    subst P (sym e) (λ m z. reads_either (line ++ 10 ∷ r) (own ++ xs) (content_begins k q (10 ∷ r) h.is refl) (line_reads line r own xs m h.ended z)) l read
+    subst P (sym e) (λ m z. reads_either (line ++ 10 ∷ r) (own ++ xs) (content_begins k q (10 ∷ r) h.begins refl) (line_reads line r own xs m h.ended z)) l read
 
 -- one that is firm, whatever stands behind it
-pub firm_before : (k : TextBlock) (q : List ℕ) → IsFirmContent k q → IsBeforeAny q
-firm_before k q h rest xs r =
+pub firm_before : (q : List ℕ) → IsFirmlyRead q → IsBeforeUnclosed q
+firm_before q h rest xs c r =
     let b : BeginsUncommented rest = r.begins in
     let behind : StandsBehind rest = record { uncommented = b.is } in
-    let u : StandsBehind (q ++ rest) = h.uncommented rest behind in
-    let items : page_items (q ++ rest) ≡ page_items q ++ xs = h.firm rest behind ∙ ap (λ ys. page_items q ++ ys) (read_items rest xs r) in
+    let u : StandsBehind (q ++ rest) = h.uncommented rest behind c in
+    let items : page_items (q ++ rest) ≡ page_items q ++ xs = h.firm rest behind c ∙ ap (λ ys. page_items q ++ ys) (read_items rest xs r) in
     reads_either (q ++ rest) (page_items q ++ xs) (record { is = u.uncommented }) (subst (λ ys. ReadsAfter false (q ++ rest) ys) items (alone_reads (q ++ rest)))
 
-pub block_front : (k : TextBlock) (q rest : List ℕ) (xs : List Item) → IsContent k q → TextEnds k q rest → EndsHere rest → Reads rest xs
+pub block_front : (k : TextBlock) (q rest : List ℕ) (xs : List Item) → IsReadContent k q → TextEnds k q rest → EndsHere rest → Reads rest xs
     → Reads (source_of k q ++ rest) (block_items k q ++ xs)
-block_front k q rest xs h (inl f) e r = any_front k q rest xs (content_frame k q h) (firm_before k q f) e r
+block_front k q rest xs h (inl f) e r = unclosed_front k q rest xs (read_frame k q h) (firm_before q f) e r
 block_front k q rest xs h (inr l) e r = own_front k q rest xs h l e r
 
 -- ---- a block begins with something visible
@@ -233,14 +275,21 @@ run_shown : (n : ℕ) (bs : List ℕ) (ys : List Item) → 1 ≤ n → begins_sh
 run_shown zero bs ys some = absurd (omega (arith, some))
 run_shown (suc n) bs ys some = refl
 
-content_shown : (k : TextBlock) (q : List ℕ) → IsContentOf k q → begins_shown (block_items k q) ≡ true
-content_shown a_paragraph q h = shown_lines (page_items q) h.are_lines
-content_shown (a_heading s) q h = run_shown s.level s.lead (page_items q ++ closing_items s) h.frame.sides.some
+begins_by_sign : (k : TextBlock) (q : List ℕ) → BeginsBlock k q → begins_shown (block_items k q) ≡ true
+begins_by_sign a_paragraph q h = h.shown
+begins_by_sign (a_heading s) q h = run_shown s.level s.lead (page_items q ++ closing_items s) h.sides.some
 
-pub block_shown : (k : TextBlock) (q : List ℕ) → IsContent k q → begins_shown (block_items k q) ≡ true
-block_shown k q h = content_shown k q h.is
+pub block_shown : (k : TextBlock) (q : List ℕ) → IsReadContent k q → begins_shown (block_items k q) ≡ true
+block_shown k q h = begins_by_sign k q h.begins
 
 -- ---- the parts
+
+pub read_spot : (s : BlockSpot) → IsRead s → IsReadSpot s
+read_spot s h = record { ended = h.ended; before_utf8 = h.before_utf8; block = content_read s.block s.text h.block }
+
+pub read_spots : (ss : List BlockSpot) (behind : List ℕ) → AreReadAfter ss behind → AreReadSpots ss behind
+read_spots [] behind h = h
+read_spots (s ∷ ss) behind h = (read_spot s h.0, h.1, read_spots ss behind h.2)
 
 abbrev pub spots_items : List BlockSpot → List ℕ → List Item
 spots_items [] behind = page_items behind
@@ -250,7 +299,7 @@ in_front : (bs rest : List ℕ) (xs : List Item) → AreEnded bs → HasEndsBefo
     → ReadsAfter false (bs ++ rest) (page_items bs ++ xs)
 in_front bs rest xs l h r s = before_reads bs rest xs l h (shown_reads rest xs r s) (reads_after (after_all (lexer Page) false bs) rest xs r)
 
-spot_reads : (s : BlockSpot) (rest : List ℕ) (xs : List Item) → IsRead s → HasEndsBefore (source_of s.block s.text ++ rest) s.before → TextEnds s.block s.text rest → EndsHere rest → Reads rest xs
+spot_reads : (s : BlockSpot) (rest : List ℕ) (xs : List Item) → IsReadSpot s → HasEndsBefore (source_of s.block s.text ++ rest) s.before → TextEnds s.block s.text rest → EndsHere rest → Reads rest xs
     → ReadsAfter false (s.before ++ (source_of s.block s.text ++ rest)) (page_items s.before ++ (block_items s.block s.text ++ xs))
 spot_reads s rest xs h b l e r =
     in_front s.before (source_of s.block s.text ++ rest) (block_items s.block s.text ++ xs) h.ended b (block_front s.block s.text rest xs h.block l e r)
@@ -275,11 +324,11 @@ ends_before : (bs rest : List ℕ) → BeginsHere bs → EndsHere (bs ++ rest)
 ends_before [] rest h = absurd h
 ends_before (b ∷ bs) rest h = h
 
-pub further_ends : (ss : List BlockSpot) (behind : List ℕ) → AreReadAfter ss behind → EndsHere (spots_source ss behind)
+pub further_ends : (ss : List BlockSpot) (behind : List ℕ) → AreReadSpots ss behind → EndsHere (spots_source ss behind)
 further_ends [] behind h = subst EndsHere (page_sources behind) (line_ends (page_items behind) h.2)
 further_ends (s ∷ ss) behind h = ends_before s.before (source_of s.block s.text ++ spots_source ss behind) (begins_here s.before h.1)
 
-pub further_reads : (ss : List BlockSpot) (behind : List ℕ) → AreReadAfter ss behind → EndBeforeBlocks ss behind
+pub further_reads : (ss : List BlockSpot) (behind : List ℕ) → AreReadSpots ss behind → EndBeforeBlocks ss behind
     → Reads (spots_source ss behind) (spots_items ss behind)
 further_reads [] behind h b = behind_reads behind h.0
 further_reads (s ∷ ss) behind h b =
@@ -288,7 +337,7 @@ further_reads (s ∷ ss) behind h b =
     (spot_reads s (spots_source ss behind) (spots_items ss behind) h.0 b.0 b.1 (further_ends ss behind h.2) (further_reads ss behind h.2 b.2))
 
 -- whatever the braces among them are
-pub items_of_parts : (s : BlockSpot) (ss : List BlockSpot) (behind : List ℕ) → IsRead s → AreReadAfter ss behind
+pub items_of_parts : (s : BlockSpot) (ss : List BlockSpot) (behind : List ℕ) → IsReadSpot s → AreReadSpots ss behind
     → EndBeforeBlocks (s ∷ ss) behind → page_items (spots_source (s ∷ ss) behind) ≡ spots_items (s ∷ ss) behind
 items_of_parts s ss behind h f b =
     page_read (spots_source (s ∷ ss) behind) (spots_items (s ∷ ss) behind)
@@ -296,7 +345,7 @@ items_of_parts s ss behind h f b =
 
 pub read_items_of : (ss : List BlockSpot) (behind : List ℕ) → AreRead ss behind → page_items (spots_source ss behind) ≡ spots_items ss behind
 read_items_of [] behind h = absurd h
-read_items_of (s ∷ ss) behind h = items_of_parts s ss behind h.0 h.1 h.2.end_before
+read_items_of (s ∷ ss) behind h = items_of_parts s ss behind (read_spot s h.0) (read_spots ss behind h.1) h.2.end_before
 
 read_calm : (ss : List BlockSpot) (behind : List ℕ) → AreRead ss behind → CallsNothing (page_items (spots_source ss behind))
 read_calm [] behind h = absurd h

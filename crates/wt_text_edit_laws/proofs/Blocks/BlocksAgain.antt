@@ -12,7 +12,8 @@ use Rattle.wt_text_edit_laws.specs.TypedHeadings.{equals, opening, closing}
 use Rattle.wt_text_edit_laws.specs.TextBlocks.{TextBlock, a_paragraph, a_heading, source_of, IsBlock, BeginsLine, BeginsBetween}
 use Rattle.wt_text_edit_laws.specs.BlockSpots.{BlockSpot, spots_source, IsBlockSpot, AreFurtherBlocks, AsAWhole, AreBlockSpots, IsRead, AreReadAfter, AreRead, SameRound, AreBlocks, AreContents}
 use Rattle.wt_text_edit_laws.specs.Contents.{IsContent}
-use Rattle.wt_text_edit_laws.proofs.Blocks.BlockReading.{AreQuiet, run_quiet, blanks_quiet, opening_quiet, each_quiet, HasFrame, content_frame}
+use Rattle.wt_text_edit_laws.specs.ReadContents.{IsReadContent}
+use Rattle.wt_text_edit_laws.proofs.Blocks.BlockReading.{AreQuiet, run_quiet, blanks_quiet, opening_quiet, each_quiet, HasFrame, content_frame, read_frame}
 use Rattle.wt_text_edit_laws.proofs.Blocks.BlocksRead.{spots_read}
 
 -- ---- UTF-8
@@ -41,6 +42,9 @@ framed_utf8 (a_heading s) q f h =
     IsUtf8-append (opening s) (q ++ closing s) (quiet_utf8 (opening s) (opening_quiet s f.sides))
     (IsUtf8-append q (closing s) h
     (IsUtf8-append s.trail (equals s.level ++ s.rest) (quiet_utf8 s.trail (blanks_quiet s.trail f.sides.trail)) end))
+
+pub read_utf8_of : (k : TextBlock) (q : List ℕ) → IsReadContent k q → IsUtf8 (source_of k q)
+read_utf8_of k q h = framed_utf8 k q (read_frame k q h) h.utf8
 
 pub content_utf8 : (k : TextBlock) (q : List ℕ) → IsContent k q → IsUtf8 (source_of k q)
 content_utf8 k q h = framed_utf8 k q (content_frame k q h) h.utf8

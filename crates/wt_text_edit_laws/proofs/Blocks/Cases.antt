@@ -42,7 +42,7 @@ use Rattle.wt_text_edit_laws.specs.TypedHeadings.{Sides, spaced}
 use Rattle.wt_text_edit_laws.specs.TextBlocks.{a_paragraph, a_heading, IsFrame, IsTypedHeading, IsWrittenHeading, BeginsBetween}
 use Rattle.wt_text_edit_laws.specs.BlockSpots.{AreBlockSpots}
 use Rattle.wt_text_edit_laws.specs.BlockEdits.{BlockEdit, types, keeps, retyped, kept, old_spots, old_page, new_page, sendings}
-use Rattle.wt_text_edit_laws.proofs.Blocks.Contents.{typed_firm}
+use Rattle.wt_text_edit_laws.proofs.Blocks.Contents.{typed_firmly}
 
 abbrev free : Label
 free = record {
@@ -179,8 +179,8 @@ are_spots = (
     calls_nothing = tt;
     end_before = (
       refl,
-      inl (typed_firm (a_heading (spaced 2)) (codes "h") typed_h),
-      ((refl, refl), inl (typed_firm a_paragraph (codes "b") typed_b), ((refl, refl), inl (typed_firm (a_heading (spaced 3)) (codes "e") typed_e), tt)),
+      inl (typed_firmly (a_heading (spaced 2)) (codes "h") typed_h),
+      ((refl, refl), inl (typed_firmly a_paragraph (codes "b") typed_b), ((refl, refl), inl (typed_firmly (a_heading (spaced 3)) (codes "e") typed_e), tt)),
     );
   },
 )
@@ -209,7 +209,7 @@ unpaired = (
     ungrouped = (refl, ((refl, tt), ((refl, ((refl, tt), tt)), ((refl, tt), tt))));
     ends = (refl, refl);
   },
-  record { calls_nothing = tt; end_before = (refl, inl (typed_firm a_paragraph (codes "b") typed_b), tt) },
+  record { calls_nothing = tt; end_before = (refl, inl (typed_firmly a_paragraph (codes "b") typed_b), tt) },
 )
 
 paired : AreBlockSpots (record { before = []; block = a_paragraph; text = codes "b" } ∷ []) (codes "\n\n{{a}}\n") → ⊥

@@ -22,6 +22,7 @@ use Rattle.wt_text_edit_laws.specs.TextBetween.{StandsBehind}
 use Rattle.wt_text_edit_laws.specs.Paragraphs.{AreLetters, IsParagraph}
 use Rattle.wt_text_edit_laws.specs.TextBlocks.{TextBlock, a_paragraph, a_heading, source_of, block_items, block_tree, IsBlock, IsTypedIn}
 use Rattle.wt_text_edit_laws.specs.BlockSpots.{BlockSpot, SameRound, AreBlocks, AreContents}
+use Rattle.wt_text_edit_laws.specs.ReadContents.{IsFirmlyRead}
 use Rattle.wt_text_edit_laws.specs.Contents.{AreParagraphLines, IsContentOf, content_parts_of, IsContent, StaysAnywhere, IsFirmContent, IsNewContent}
 use Rattle.wt_text_edit_laws.proofs.Texts.TypedLeaves.{Leaf, letters, reference, guard, leaves, leaf_tree}
 use Rattle.wt_text_edit_laws.proofs.Texts.TypedShown.{AllOfPage, leaves_of_page}
@@ -34,7 +35,7 @@ use Rattle.wt_text_edit_laws.proofs.Between.LessBraces.{page_unbraced}
 use Rattle.wt_text_edit_laws.proofs.Paragraphs.LineBlocks.{page_breaks, all_unled, parts_source}
 use Rattle.wt_text_edit_laws.proofs.Paragraphs.Texts.{EndsHere, letters_joined, letters_stand, paragraph_lines, paragraph_utf8, paragraph_written}
 use Rattle.wt_text_edit_laws.proofs.Headings.HeadingRows.{text_inside}
-use Rattle.wt_text_edit_laws.proofs.Blocks.BlockReading.{typed_text, IsBeforeAny, HasFrame, any_front}
+use Rattle.wt_text_edit_laws.proofs.Blocks.BlockReading.{typed_text, IsBeforeAny, HasFrame, any_front, firmly_read}
 use Rattle.wt_text_edit_laws.proofs.Blocks.BlockLeaves.{open_items, close_items, block_leaves}
 use Rattle.wt_text_edit_laws.proofs.Blocks.BlockLines.{heading_frame, heading_level, heading_text}
 use Rattle.wt_text_edit_laws.proofs.Blocks.TypedBraces.{AreTypedOver, AreNewOver}
@@ -184,6 +185,9 @@ typed_firm k q h = record {
   stays = typed_stays k q h;
   unbraced = page_unbraced q (typed_page k q h);
 }
+
+pub typed_firmly : (k : TextBlock) (q : List ℕ) → IsTypedIn k q → IsFirmlyRead q
+typed_firmly k q h = firmly_read k q (typed_firm k q h)
 
 typed_unclosed : (q name rest : List ℕ) → IsTypedPage q → Unclosed name rest → Unclosed name (q ++ rest)
 typed_unclosed q name rest h g = subst (λ bs. Unclosed name (bs ++ rest)) (sym h.is) (spelled_unclosed h.setting h.text name rest g)

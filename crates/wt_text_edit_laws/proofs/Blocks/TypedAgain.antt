@@ -6,12 +6,29 @@ use Rattle.wt_text_edit_laws.proofs.Paragraphs.Texts.{EndsHere}
 use Rattle.wt_text_edit_laws.specs.TypedHeadings.{Sides, opening, closing}
 use Rattle.wt_text_edit_laws.specs.TextBlocks.{TextBlock, a_paragraph, a_heading, source_of, IsFrame}
 use Rattle.wt_text_edit_laws.specs.Contents.{IsNewContent, TextEnds}
-use Rattle.wt_text_edit_laws.specs.BlockSpots.{BlockSpot, spots_source, EndBeforeBlocks, AreBlockSpots, IsRead, AreReadAfter, AreRead, SameRound, AreBlocks, AreContents}
-use Rattle.wt_text_edit_laws.proofs.Blocks.BlockReading.{AreQuiet, opening_quiet, each_quiet, content_frame, BeginsHere, begins_here, further_ends}
+use Rattle.wt_text_edit_laws.specs.ReadContents.{IsReadAnew}
+use Rattle.wt_text_edit_laws.specs.BlockSpots.{BlockSpot, spots_source, EndBeforeBlocks, AreBlockSpots, IsReadSpot, AreReadSpots, AreRead, SameRound, AreBlocks, AreContents}
+use Rattle.wt_text_edit_laws.proofs.Blocks.BlockReading.{AreQuiet, opening_quiet, each_quiet, read_anew, read_frame, read_spot, read_spots, BeginsHere, begins_here, further_ends}
 use Rattle.wt_text_edit_laws.proofs.Blocks.BlocksRead.{spots_read}
 use Rattle.wt_text_edit_laws.proofs.Blocks.Contents.{blocks_contents, over_new}
 use Rattle.wt_text_edit_laws.proofs.Blocks.BlocksAgain.{parts_read_again, parts_again}
 use Rattle.wt_text_edit_laws.proofs.Blocks.TypedBraces.{AreTypedOver, AreNewOver, still_calm}
+
+-- ---- the contents of the new page are those of the old one, or in their places
+
+abbrev pub AreReadOver : List BlockSpot → List BlockSpot → Type 0
+AreReadOver [] rs = Unit {0}
+AreReadOver (s ∷ ss) [] = Unit {0}
+AreReadOver (s ∷ ss) (r ∷ rs) = ((r.text ≡ s.text) ⊎ IsReadAnew r.block s.text r.text) × AreReadOver ss rs
+
+pub read_over : (ss rs : List BlockSpot) → AreNewOver ss rs → AreReadOver ss rs
+read_over [] rs o = tt
+read_over (s ∷ ss) [] o = tt
+read_over (s ∷ ss) (r ∷ rs) o = (one o.0, read_over ss rs o.1)
+  where
+    one : (r.text ≡ s.text) ⊎ IsNewContent r.block s.text r.text → (r.text ≡ s.text) ⊎ IsReadAnew r.block s.text r.text
+    one (inl e) = inl e
+    one (inr n) = inr (read_anew r.block s.text r.text n)
 
 -- ---- what follows a block, in the old page and in the new one
 
@@ -31,7 +48,7 @@ both_begin [] cs us vs h g = absurd h
 both_begin (b ∷ bs) [] us vs h g = absurd g
 both_begin (b ∷ bs) (c ∷ cs) us vs h g = (h, g)
 
-both_end : (ss rs : List BlockSpot) (behind : List ℕ) → AreReadAfter ss behind → AreReadAfter rs behind → SameRound ss rs
+both_end : (ss rs : List BlockSpot) (behind : List ℕ) → AreReadSpots ss behind → AreReadSpots rs behind → SameRound ss rs
     → BothEnd (spots_source ss behind) (spots_source rs behind)
 both_end [] [] behind h g e = same_end behind (further_ends [] behind h)
 both_end [] (r ∷ rs) behind h g e = absurd e
@@ -74,11 +91,11 @@ quiet_unclosed name (b ∷ q) rest h g =
 line_split : (s : Sides) (q rest : List ℕ) → source_of (a_heading s) q ++ rest ≡ opening s ++ (q ++ (closing s ++ rest))
 line_split s q rest = append_assoc (opening s) (q ++ closing s) rest ∙ ap (λ (bs : List ℕ). opening s ++ bs) (append_assoc q (closing s) rest)
 
-heading_unclosed : (s : Sides) (name was now us vs : List ℕ) → IsNewContent (a_heading s) was now → BothEnd us vs → (Unclosed name us → Unclosed name vs)
+heading_unclosed : (s : Sides) (name was now us vs : List ℕ) → IsReadAnew (a_heading s) was now → BothEnd us vs → (Unclosed name us → Unclosed name vs)
     → Unclosed name (source_of (a_heading s) was ++ us) → Unclosed name (source_of (a_heading s) now ++ vs)
 heading_unclosed s name was now us vs n e f h =
     let P : List ℕ → Type 0 = λ bs. Unclosed name bs in
-    let frame : IsFrame s = content_frame (a_heading s) now n.firm.content in
+    let frame : IsFrame s = read_frame (a_heading s) now n.read in
     let old : Unclosed name (opening s ++ (was ++ (closing s ++ us))) = subst P (line_split s was us) h in
     let inside : Unclosed name (was ++ (closing s ++ us)) = unclosed_behind name (opening s) (was ++ (closing s ++ us)) old in
     let end : Unclosed name (closing s ++ us) = unclosed_behind name was (closing s ++ us) inside in
@@ -88,7 +105,7 @@ heading_unclosed s name was now us vs n e f h =
 
 -- ---- any
 
-text_unclosed : (k : TextBlock) (name was now us vs : List ℕ) → (now ≡ was) ⊎ IsNewContent k was now → BothEnd us vs → (Unclosed name us → Unclosed name vs)
+text_unclosed : (k : TextBlock) (name was now us vs : List ℕ) → (now ≡ was) ⊎ IsReadAnew k was now → BothEnd us vs → (Unclosed name us → Unclosed name vs)
     → Unclosed name (source_of k was ++ us) → Unclosed name (source_of k now ++ vs)
 text_unclosed k name was now us vs (inl is) e f h = subst (λ q. Unclosed name (source_of k q ++ vs)) (sym is) (kept_unclosed name (source_of k was) us vs e f h)
 text_unclosed a_paragraph name was now us vs (inr n) e f h = n.closes name us vs h (f (unclosed_behind name was us h))
@@ -98,22 +115,22 @@ text_unclosed (a_heading s) name was now us vs (inr n) e f h = heading_unclosed 
 abbrev from_block : BlockSpot → List BlockSpot → List ℕ → List ℕ
 from_block s ss behind = source_of s.block s.text ++ spots_source ss behind
 
-block_no_more : (s r : BlockSpot) (ss rs : List BlockSpot) (behind : List ℕ) → AreReadAfter ss behind → AreReadAfter rs behind
-    → SameRound (s ∷ ss) (r ∷ rs) → (r.text ≡ s.text) ⊎ IsNewContent r.block s.text r.text → ClosesNoMore (spots_source ss behind) (spots_source rs behind)
+block_no_more : (s r : BlockSpot) (ss rs : List BlockSpot) (behind : List ℕ) → AreReadSpots ss behind → AreReadSpots rs behind
+    → SameRound (s ∷ ss) (r ∷ rs) → (r.text ≡ s.text) ⊎ IsReadAnew r.block s.text r.text → ClosesNoMore (spots_source ss behind) (spots_source rs behind)
     → ClosesNoMore (from_block s ss behind) (from_block r rs behind)
 block_no_more s r ss rs behind f k e o c = λ name u.
     text_unclosed r.block name s.text r.text (spots_source ss behind) (spots_source rs behind) o (both_end ss rs behind f k e.2) (c name)
     (subst (λ b. Unclosed name (source_of b s.text ++ spots_source ss behind)) (sym e.1) u)
 
-spot_no_more : (s r : BlockSpot) (ss rs : List BlockSpot) (behind : List ℕ) → IsRead s → r.before ≡ s.before
+spot_no_more : (s r : BlockSpot) (ss rs : List BlockSpot) (behind : List ℕ) → IsReadSpot s → r.before ≡ s.before
     → ClosesNoMore (from_block s ss behind) (from_block r rs behind) → ClosesNoMore (spots_source (s ∷ ss) behind) (spots_source (r ∷ rs) behind)
 spot_no_more s r ss rs behind h e c = λ name u.
     let block : Unclosed name (from_block r rs behind) = c name (unclosed_behind name s.before (from_block s ss behind) u) in
     subst (λ bs. Unclosed name (bs ++ from_block r rs behind)) (sym e)
     (unclosed_other name s.before (from_block s ss behind) (from_block r rs behind) h.ended u block)
 
-further_no_more : (ss rs : List BlockSpot) (behind : List ℕ) → AreReadAfter ss behind → AreReadAfter rs behind
-    → SameRound ss rs → AreNewOver ss rs → ClosesNoMore (spots_source ss behind) (spots_source rs behind)
+further_no_more : (ss rs : List BlockSpot) (behind : List ℕ) → AreReadSpots ss behind → AreReadSpots rs behind
+    → SameRound ss rs → AreReadOver ss rs → ClosesNoMore (spots_source ss behind) (spots_source rs behind)
 further_no_more [] [] behind f k e o = λ name u. u
 further_no_more [] (r ∷ rs) behind f k e o = absurd e
 further_no_more (s ∷ ss) [] behind f k e o = absurd e
@@ -137,14 +154,14 @@ kept_still_ends : (k : TextBlock) (q us vs : List ℕ) → BothEnd us vs → Clo
 kept_still_ends k q us vs e c (inl t) = inl t
 kept_still_ends k q us vs e c (inr l) = inr (line_still_ends (source_of k q) us vs e c l)
 
-text_still_ends : (k : TextBlock) (was now us vs : List ℕ) → (now ≡ was) ⊎ IsNewContent k was now → BothEnd us vs → ClosesNoMore us vs → TextEnds k was us → TextEnds k now vs
+text_still_ends : (k : TextBlock) (was now us vs : List ℕ) → (now ≡ was) ⊎ IsReadAnew k was now → BothEnd us vs → ClosesNoMore us vs → TextEnds k was us → TextEnds k now vs
 text_still_ends k was now us vs (inl is) e c l = subst (λ q. TextEnds k q vs) (sym is) (kept_still_ends k was us vs e c l)
 text_still_ends k was now us vs (inr n) e c l = inl n.firm
 
 -- ---- the page
 
-pub spot_still_ends : (s r : BlockSpot) (ss rs : List BlockSpot) (behind : List ℕ) → IsRead s → AreReadAfter ss behind
-    → AreReadAfter rs behind → SameRound (s ∷ ss) (r ∷ rs) → AreNewOver (s ∷ ss) (r ∷ rs) → EndBeforeBlocks (s ∷ ss) behind
+pub spot_still_ends : (s r : BlockSpot) (ss rs : List BlockSpot) (behind : List ℕ) → IsReadSpot s → AreReadSpots ss behind
+    → AreReadSpots rs behind → SameRound (s ∷ ss) (r ∷ rs) → AreReadOver (s ∷ ss) (r ∷ rs) → EndBeforeBlocks (s ∷ ss) behind
     → EndBeforeBlocks rs behind → EndBeforeBlocks (r ∷ rs) behind
 spot_still_ends s r ss rs behind h f k e o b rest =
     let c : ClosesNoMore (spots_source ss behind) (spots_source rs behind) = further_no_more ss rs behind f k e.2 o.1 in (
@@ -155,8 +172,8 @@ spot_still_ends s r ss rs behind h f k e o b rest =
       rest,
     )
 
-pub further_still_end : (ss rs : List BlockSpot) (behind : List ℕ) → AreReadAfter ss behind → AreReadAfter rs behind
-    → SameRound ss rs → AreNewOver ss rs → EndBeforeBlocks ss behind → EndBeforeBlocks rs behind
+pub further_still_end : (ss rs : List BlockSpot) (behind : List ℕ) → AreReadSpots ss behind → AreReadSpots rs behind
+    → SameRound ss rs → AreReadOver ss rs → EndBeforeBlocks ss behind → EndBeforeBlocks rs behind
 further_still_end [] [] behind f k e o b = tt
 further_still_end [] (r ∷ rs) behind f k e o b = absurd e
 further_still_end (s ∷ ss) [] behind f k e o b = absurd e
@@ -168,8 +185,11 @@ read_again [] rs behind h e t o = absurd h
 read_again (s ∷ ss) [] behind h e t o = absurd e
 read_again (s ∷ ss) (r ∷ rs) behind h e t o =
     let p = parts_read_again s r ss rs behind h e t in
+    let was : AreReadSpots ss behind = read_spots ss behind h.1 in
+    let now : AreReadSpots rs behind = read_spots rs behind p.1 in
+    let over : AreReadOver (s ∷ ss) (r ∷ rs) = read_over (s ∷ ss) (r ∷ rs) o in
     let b : EndBeforeBlocks (r ∷ rs) behind =
-    spot_still_ends s r ss rs behind h.0 h.1 p.1 e o h.2.end_before (further_still_end ss rs behind h.1 p.1 e.2 o.1 h.2.end_before.2) in
+    spot_still_ends s r ss rs behind (read_spot s h.0) was now e over h.2.end_before (further_still_end ss rs behind was now e.2 over.1 h.2.end_before.2) in
     (p.0, p.1, record { calls_nothing = still_calm s r ss rs behind h p.0 p.1 b e o; end_before = b })
 
 pub typed_again : (ss rs : List BlockSpot) (behind : List ℕ) → AreBlockSpots ss behind → SameRound ss rs → AreBlocks rs → AreTypedOver ss rs

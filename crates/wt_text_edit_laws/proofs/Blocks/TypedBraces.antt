@@ -12,7 +12,7 @@ use Rattle.wt_text_edit_laws.specs.TypedHeadings.{Sides, AreIdle, equals, openin
 use Rattle.wt_text_edit_laws.specs.TextBlocks.{TextBlock, a_paragraph, a_heading, block_items, IsFrame, IsTypedIn, BeginsLine}
 use Rattle.wt_text_edit_laws.specs.Contents.{IsFirmContent, IsNewContent}
 use Rattle.wt_text_edit_laws.specs.BlockSpots.{BlockSpot, spots_source, EndBeforeBlocks, IsRead, AreReadAfter, AreRead, SameRound}
-use Rattle.wt_text_edit_laws.proofs.Blocks.BlockReading.{AreQuiet, run_quiet, blanks_quiet, opening_quiet, quiet_joined, each_quiet, content_frame, spots_items, items_of_parts}
+use Rattle.wt_text_edit_laws.proofs.Blocks.BlockReading.{AreQuiet, run_quiet, blanks_quiet, opening_quiet, quiet_joined, each_quiet, content_frame, read_spot, read_spots, spots_items, items_of_parts}
 
 -- ---- a block with such a content
 
@@ -122,6 +122,6 @@ pub still_calm : (s r : BlockSpot) (ss rs : List BlockSpot) (behind : List ℕ) 
 still_calm s r ss rs behind h g k b e o =
     let was : List Item = spots_items (s ∷ ss) behind in
     let now : List Item = spots_items (r ∷ rs) behind in
-    let calm : CallsNothing was = subst CallsNothing (items_of_parts s ss behind h.0 h.1 h.2.end_before) h.2.calls_nothing in
+    let calm : CallsNothing was = subst CallsNothing (items_of_parts s ss behind (read_spot s h.0) (read_spots ss behind h.1) h.2.end_before) h.2.calls_nothing in
     let so : CallsNothing now = pairs_some (braces_of now) (braces_of was) (spots_fewer s r ss rs behind h.0 h.1 g k e o) calm in
-    subst CallsNothing (sym (items_of_parts r rs behind g k b)) so
+    subst CallsNothing (sym (items_of_parts r rs behind (read_spot r g) (read_spots rs behind k) b)) so

@@ -1,9 +1,9 @@
 -- Rows before others that they don't join: their parts stand before the others' parts.
-use Rattle.std.proofs.Common.{◌≡◌, Bool, false, List, [], ◌∷◌, ◌++◌, map, refl, sym, ap, ◌∙◌, subst, append-nil, append_assoc, arith, inl, inr}
+use Rattle.std.proofs.Common.{◌≡◌, ℕ, zero, suc, Bool, false, List, [], ◌∷◌, ◌++◌, map, refl, sym, ap, ap₂, ◌∙◌, subst, append-nil, append_assoc, arith, inl, inr}
 use Rattle.std.specs.List.{AllByRecursion, flat_map}
 use Rattle.std.proofs.lemmas.Grind.{flat_map-append}
 use Rattle.wt_span.specs.Runs.{runs, IsRun, AreRuns}
-use Rattle.wt_span.proofs.RunLaws.{runs_are, runs_only}
+use Rattle.wt_span.proofs.RunLaws.{runs_are, runs_cut, runs_only}
 use Rattle.wt_lines.specs.declared.kind.LineKind.{LineKind}
 use Rattle.wt_lines.specs.declared.kind.LineKind.TheVariants as line
 use Rattle.wt_blocks.specs.Paragraphs.{is_text}
@@ -12,9 +12,12 @@ use Rattle.wt_tables.specs.Parts.{joined, units, unit_kind}
 use Rattle.wt_inline.specs.Parts.{Part}
 use Rattle.wt_page.specs.Rows.{Row, kind_of, rows}
 use Rattle.wt_page.specs.Stretches.{Stretch, stretch_parts, stretches_parts}
-use Rattle.wt_page.specs.Body.{one_block, same_block, run_stretches, within, blocks, body_parts}
+use Rattle.wt_page.specs.Body.{one_block, same_block, block_stretches, run_stretches, blocks_by, within, blocks, body_parts}
+use Rattle.wt_page.specs.Tables.{Reading, gaps}
+use Rattle.wt_page.specs.Texts.{with_separators, para}
 use Rattle.wt_span.specs.Items.{Item}
 use Rattle.wt_lines.specs.Lines.{full_lines}
+use Rattle.wt_row_laws.specs.Blocks.{AllAre}
 use Rattle.wt_row_laws.specs.Units.{IsUnit, AreUnits}
 use Rattle.wt_row_laws.proofs.Falling.{IsPart, unit_is_part}
 use Rattle.wt_row_laws.proofs.UnitCuts.{units_only, units_are}
@@ -173,28 +176,66 @@ before_text rs (r ∷ ss) h g e t =
 
 -- ---- behind text
 
-texts_units : (ls : List (List Item)) (ss : List Row) → units kind_of (map text_row ls ++ ss) ≡ map alone (map text_row ls) ++ units kind_of ss
-texts_units [] ss = refl
-texts_units (l ∷ ls) ss = unit_one (text_row l) (map text_row ls ++ ss) refl ∙ ap (λ us. alone (text_row l) ∷ us) (texts_units ls ss)
+texts_units : (rs ss : List Row) → AllAre line.Text rs → units kind_of (rs ++ ss) ≡ map alone rs ++ units kind_of ss
+texts_units [] ss h = refl
+texts_units (r ∷ rs) ss h = unit_one r (rs ++ ss) (ap is_open h.0) ∙ ap (λ us. alone r ∷ us) (texts_units rs ss h.1)
 
-texts_alone : (ls : List (List Item)) → units kind_of (map text_row ls) ≡ map alone (map text_row ls)
-texts_alone ls = ap (units kind_of) (sym (append-nil (map text_row ls))) ∙ texts_units ls [] ∙ append-nil (map alone (map text_row ls))
+pub texts_alone : (rs : List Row) → AllAre line.Text rs → units kind_of rs ≡ map alone rs
+texts_alone rs h = ap (units kind_of) (sym (append-nil rs)) ∙ texts_units rs [] h ∙ append-nil (map alone rs)
 
-texts_apart : (l : List Item) (ls : List (List Item)) (us : List (List Row)) → ((m : List Item) → IsRun same_block (alone (text_row m) ∷ []) us)
-    → Apart same_block (map alone (map text_row (l ∷ ls))) us
-texts_apart l [] us f = f l
-texts_apart l (m ∷ ls) us f = texts_apart m ls us f
+texts_apart : (r : Row) (rs : List Row) (us : List (List Row)) → AllAre line.Text (r ∷ rs)
+    → ((m : Row) → m.kind ≡ line.Text → IsRun same_block (alone m ∷ []) us) → Apart same_block (map alone (r ∷ rs)) us
+texts_apart r [] us h f = f r h.0
+texts_apart r (m ∷ rs) us h f = texts_apart m rs us h.1 f
 
-texts_beside : (l : List Item) (ls : List (List Item)) (ss : List Row) → ((m : List Item) → IsRun same_block (alone (text_row m) ∷ []) (units kind_of ss))
-    → body_parts (map text_row (l ∷ ls) ++ ss) ≡ body_parts (map text_row (l ∷ ls)) ++ body_parts ss
-texts_beside l ls ss f =
-    let rs : List Row = map text_row (l ∷ ls) in
-    parts_beside rs ss (texts_units (l ∷ ls) ss ∙ ap (λ us. us ++ units kind_of ss) (sym (texts_alone (l ∷ ls))))
-    (subst (λ us. Apart same_block us (units kind_of ss)) (sym (texts_alone (l ∷ ls))) (texts_apart l ls (units kind_of ss) f))
+texts_beside : (r : Row) (rs ss : List Row) → AllAre line.Text (r ∷ rs) → ((m : Row) → m.kind ≡ line.Text → IsRun same_block (alone m ∷ []) (units kind_of ss))
+    → body_parts ((r ∷ rs) ++ ss) ≡ body_parts (r ∷ rs) ++ body_parts ss
+texts_beside r rs ss h f =
+    parts_beside (r ∷ rs) ss (texts_units (r ∷ rs) ss h ∙ ap (λ us. us ++ units kind_of ss) (sym (texts_alone (r ∷ rs) h)))
+    (subst (λ us. Apart same_block us (units kind_of ss)) (sym (texts_alone (r ∷ rs) h)) (texts_apart r rs (units kind_of ss) h f))
+
+-- a row that is no text doesn't join a row of text
+no_join : (m r : Row) (ss : List Row) → m.kind ≡ line.Text → is_text r.kind ≡ false → IsRun same_block (alone m ∷ []) (units kind_of (r ∷ ss))
+no_join m r ss i h =
+    subst (λ us. IsRun same_block (alone m ∷ []) us) (sym (units_more r ss)) (ap (λ (k : LineKind). one_block k r.kind) i ∙ text_before r.kind h)
 
 -- rows of text before what doesn't begin with text
+pub after_rows : (r : Row) (rs ss : List Row) → AllAre line.Text (r ∷ rs) → BeginApart ss
+    → body_parts ((r ∷ rs) ++ ss) ≡ body_parts (r ∷ rs) ++ body_parts ss
+after_rows r rs [] h b = texts_beside r rs [] h (λ m i. tt)
+after_rows r rs (s ∷ ss) h b = texts_beside r rs (s ∷ ss) h (λ m i. no_join m s ss i b)
+
+all_text : (ls : List (List Item)) → AllAre line.Text (map text_row ls)
+all_text [] = tt
+all_text (l ∷ ls) = (refl, all_text ls)
+
 pub after_text : (l : List Item) (ls : List (List Item)) (ss : List Row) → BeginApart ss
     → body_parts (map text_row (l ∷ ls) ++ ss) ≡ body_parts (map text_row (l ∷ ls)) ++ body_parts ss
-after_text l ls [] h = texts_beside l ls [] (λ m. tt)
-after_text l ls (r ∷ ss) h =
-    texts_beside l ls (r ∷ ss) (λ m. subst (λ us. IsRun same_block (alone (text_row m) ∷ []) us) (sym (units_more r ss)) (text_before r.kind h))
+after_text l ls ss h = after_rows (text_row l) (map text_row ls) ss (all_text (l ∷ ls)) h
+
+-- ---- rows of text alone
+
+one_run : (r : Row) (rs : List Row) → AllAre line.Text (r ∷ rs) → IsRun same_block (map alone (r ∷ rs)) []
+one_run r [] h = tt
+one_run r (m ∷ rs) h =
+    let first = h.0 in
+    let second = h.1.0 in
+    (ap₂ one_block first second, one_run m rs h.1)
+
+joined_alone : (rs : List Row) → joined (map alone rs) ≡ rs
+joined_alone [] = refl
+joined_alone (r ∷ rs) = ap (λ ss. r ∷ ss) (joined_alone rs)
+
+texts_read : (read : Reading) (r : Row) (rs : List Row) → AllAre line.Text (r ∷ rs) → blocks_by read (r ∷ rs) ≡ with_separators (para (r ∷ rs)) (r ∷ rs)
+texts_read read r rs h =
+    let all : List Row = r ∷ rs in
+    ap (λ us. flat_map (run_stretches read) (runs same_block us)) (texts_alone all h)
+    ∙ ap (λ us. flat_map (run_stretches read) (runs same_block us)) (sym (append-nil (map alone all)))
+    ∙ ap (λ us. flat_map (run_stretches read) us) (runs_cut same_block (map alone all) [] (one_run r rs h))
+    ∙ ap (λ ss. block_stretches read (unit_kind kind_of ss) ss ++ []) (joined_alone all)
+    ∙ ap (λ (k : LineKind). block_stretches read k all ++ []) h.0
+
+-- they are one paragraph
+pub within_text : (n : ℕ) (r : Row) (rs : List Row) → AllAre line.Text (r ∷ rs) → within n (r ∷ rs) ≡ with_separators (para (r ∷ rs)) (r ∷ rs)
+within_text zero r rs h = texts_read gaps r rs h
+within_text (suc n) r rs h = texts_read (within n) r rs h

@@ -99,11 +99,11 @@ content_marks (m ∷ n ∷ ms) y ys = ap (λ (xs : List Item). m ∷ xs) (conten
 
 -- ---- and don't change its kind
 
-mark_sign : (m : Item) → is_mark m ≡ true → sign m ≡ 257
+pub mark_sign : (m : Item) → is_mark m ≡ true → sign m ≡ 257
 mark_sign (char o b) h = cc
 mark_sign (whole f o bs) h = rw h refl
 
-abbrev AreMarkSigns : List ℕ → Type 0
+abbrev pub AreMarkSigns : List ℕ → Type 0
 AreMarkSigns [] = Unit {0}
 AreMarkSigns (s ∷ ss) = (s ≡ 257) × AreMarkSigns ss
 
@@ -152,7 +152,7 @@ kind_is : (tables : ℕ) (ss : List ℕ) → kind_of_signs tables ss ≡ kind_by
 unfolding kind_of_signs
 kind_is tables ss = refl
 
-kind_marks : (tables : ℕ) (ss ts : List ℕ) → AreMarkSigns ss → kind_of_signs tables (ss ++ ts) ≡ kind_of_signs tables ts
+pub kind_marks : (tables : ℕ) (ss ts : List ℕ) → AreMarkSigns ss → kind_of_signs tables (ss ++ ts) ≡ kind_of_signs tables ts
 kind_marks tables ss ts h =
     kind_is tables (ss ++ ts)
     ∙ ap (λ (us : List ℕ). kind_by tables us (past is_mark_sign (ss ++ ts)) (ends_equal (reverse (ss ++ ts)))) (past_idle ss ts h)

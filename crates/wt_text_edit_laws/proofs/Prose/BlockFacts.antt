@@ -101,7 +101,7 @@ facts_nothing xs n before = record {
 
 -- ---- line breaks before others
 
-sep_source : (k : ℕ) → sources (sep_items k ++ []) ≡ replicate k 10
+pub sep_source : (k : ℕ) → sources (sep_items k ++ []) ≡ replicate k 10
 sep_source k = chars_source (replicate k 10)
 
 pub facts_sep : (xs : List Item) (n : ℕ) (before : List Item) (k : ℕ) (u : Tree) (ds : List Sending) (ts : List ItemTree) (was now : List ℕ) (shown : Plains)

@@ -21,7 +21,7 @@ its_source = refl
 
 -- ---- what is typed into it
 
-abbrev free : Label
+abbrev pub free : Label
 free = record {
   kind = kind.Text;
   id = 0;
@@ -37,7 +37,7 @@ free = record {
 }
 
 -- what is kept has no part in the new page's source
-abbrev node : Tree
+abbrev pub node : Tree
 node = tree free none
 
 abbrev first_typed : List PassageEdit

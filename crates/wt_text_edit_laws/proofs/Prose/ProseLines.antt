@@ -99,7 +99,7 @@ content_ended [] e = refl
 content_ended (x ∷ []) e = let n : is_break_item x ≡ false = not_by x (is_break_item x) e in rw n refl
 content_ended (x ∷ y ∷ ys) e = ap (λ xs. x ∷ xs) (content_ended (y ∷ ys) e)
 
-unled_by : (x : Item) (xs ys : List Item) (v : Bool) → is_mark x ≡ v → marks_len (x ∷ xs) ≡ 0 → marks_len (x ∷ ys) ≡ 0
+pub unled_by : (x : Item) (xs ys : List Item) (v : Bool) → is_mark x ≡ v → marks_len (x ∷ xs) ≡ 0 → marks_len (x ∷ ys) ≡ 0
 unled_by x xs ys true e h = let k : marks_len (x ∷ xs) ≡ 1 + marks_len xs = rw e refl in absurd (omega (arith, k, h))
 unled_by x xs ys false e h = rw e refl
 

@@ -78,7 +78,7 @@ abbrev pub body_label : List Passage → Label
 body_label ps = sized kind.Body 0 (held_by_all (forest (flat_map leafy ps)) ++ []) [] []
 
 -- what it shows
-page_shows : (pages : Pages) (ps : List Passage) → AreProse ps → shown_children (page_tree pages (prose ps)) ≡ listed (prose_shows ps)
+pub page_shows : (pages : Pages) (ps : List Passage) → AreProse ps → shown_children (page_tree pages (prose ps)) ≡ listed (prose_shows ps)
 page_shows pages ps h =
     gathered_shows (ungathered (expanded_page pages (prose ps)).outer (expanded_page pages (prose ps)).items)
     ∙ ap shown_children (prose_tree pages ps h ∙ prose_blocks ps (prose_written ps h))

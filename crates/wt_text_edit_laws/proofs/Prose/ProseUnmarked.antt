@@ -46,7 +46,7 @@ apart_so es h =
     let ps : List Passage = old_passages es in
     subst (λ (t : Tree). AreToldApart (sent_children (all_sendings es) (children t))) (prose_blocks ps (prose_written ps h.edit.are_prose)) h.apart
 
-kind_opened : (t : Tree) → (label t).kind ≡ (label (without_sections t)).kind
+pub kind_opened : (t : Tree) → (label t).kind ≡ (label (without_sections t)).kind
 kind_opened (tree l ts) = refl
 
 marks_are : (pages : Pages) (es : List PassageEdit) (b : Label) → IsUnmarkedEdit es
@@ -73,7 +73,7 @@ marks_are pages es b h =
 not_longer : (n m : ℕ) → n ≤ m → nat_lt m n ≡ false
 not_longer n m h = grind (arith, nat_tests)
 
-prose_text : (ps : List Passage) → AreProse ps → length (prose ps) ≤ PAGE_BYTES → IsText (prose ps)
+pub prose_text : (ps : List Passage) → AreProse ps → length (prose ps) ≤ PAGE_BYTES → IsText (prose ps)
 unfolding title_answer
 prose_text ps h le = λ made.
     ap (λ (v : Bool). if v then refused TooLong else text_answer (prose ps) made (not_utf8_place (prose ps))) (not_longer (length (prose ps)) PAGE_BYTES le)

@@ -497,7 +497,7 @@ not_begun word b bs e =
     false_as (begins word (glyph.Byte b ∷ map glyph_of (page_chars bs))) (bytes.begins word (b ∷ bs)) (glyphs_begin word (b ∷ bs))
     (or_left (bytes.begins word (b ∷ bs)) (stands word bs) e)
 
-form_parts : (b : ℕ) → is_plain b ≡ true → ((b == 60) ≡ false) × ((b == 91) ≡ false)
+pub form_parts : (b : ℕ) → is_plain b ≡ true → ((b == 60) ≡ false) × ((b == 91) ≡ false)
 form_parts b p =
     let f = not_false (is_form_byte b) p in
     let f38 = or_right (b == 60) _ f in

@@ -231,7 +231,7 @@ held_letters : (bs : List ℕ) → held_parts (map letter_part bs) ≡ page_char
 held_letters [] = refl
 held_letters (b ∷ bs) = ap (λ xs. char None b ∷ xs) (held_letters bs)
 
-guard_tree : nowiki_tree None nowiki ≡ inner (plain kind.Nowiki) (page_chars nowiki) nothing []
+pub guard_tree : nowiki_tree None nowiki ≡ inner (plain kind.Nowiki) (page_chars nowiki) nothing []
 unfolding nowiki_tree nowiki opening_tag tag_after children
 guard_tree = refl
 

@@ -1,0 +1,14 @@
+-- Texts beside calls: what such a content is in the page, where calls give words.
+pub mod Words
+pub mod Schemes
+pub mod CalledTiles
+pub mod CalledLines
+pub mod CalledParts
+pub mod CalledParagraphs
+pub mod CalledBlocks
+pub mod CalledHeadings
+pub mod CalledShown
+pub mod Bare
+pub mod Folders
+pub mod Faults
+pub mod Cases

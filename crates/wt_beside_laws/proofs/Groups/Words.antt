@@ -1,0 +1,160 @@
+-- The characters of a word that a call gives: they begin no form and no block, and are read as they are.
+use Rattle.std.proofs.Common.{arith, ◌≡◌, ◌⊎◌, inl, inr, ℕ, ◌<◌, ◌==◌, Bool, true, false, Some, List, [], ◌∷◌, map, refl, sym, ap, ◌∙◌, subst}
+use Rattle.std.specs.Prelude.{◌&&◌, ◌||◌, nat_lt}
+use Rattle.std.specs.Char.{to_ascii_lowercase}
+use Rattle.std.proofs.lemmas.Bool.Decides.{nat_tests, Decides-eqb}
+use Rattle.wt_span.specs.Bytes.{is_blank}
+use Rattle.wt_span.specs.Items.{Item, char}
+use Rattle.wt_guards.specs.declared.role.Role.{Role}
+use Rattle.wt_guards.specs.declared.role.Role.TheVariants.{Link, External, Bare, Switch, Toggle, Mark, Group, Function, Node}
+use Rattle.wt_guards.specs.Content.{Thing}
+use Rattle.wt_guards.specs.Table.{line_start_hazard}
+use Rattle.wt_spelling_laws.proofs.TextKinds.{OpensText, opens_text}
+use Rattle.wt_tiles.specs.declared.glyph.Glyph.TheVariants as glyph
+use Rattle.wt_tiles.specs.Glyphs.{glyph_of, byte_glyphs}
+use Rattle.wt_lines.specs.Lines.{IsUnbroken}
+use Rattle.wt_text_edit_laws.specs.LonePages.{page_chars}
+use Rattle.wt_beside_laws.specs.Called.{is_word_byte, is_first_sign, AreWordBytes, AreWords, IsOwnNode, IsGivenAs}
+use Rattle.wt_beside_laws.specs.Cuts.{own_glyphs}
+use Rattle.wt_beside_laws.specs.Kept.{is_firm, AreFirm}
+use Rattle.wt_beside_laws.proofs.Firm.{firm_read}
+use Rattle.wt_beside_laws.proofs.NodeItems.{node_as}
+
+-- ---- bytes
+
+pub not_word : (k b : ℕ) → is_word_byte k ≡ false → is_word_byte b ≡ true → (b == k) ≡ false
+not_word k b f e = by (b == k) refl
+  where
+    by : (v : Bool) → (b == k) ≡ v → (b == k) ≡ false
+    by true i =
+        let is : b ≡ k = (Decides-eqb b k).0 i in
+        let no : true ≡ false = sym (subst (λ (n : ℕ). is_word_byte n ≡ true) is e) ∙ f in cc
+    by false i = i
+
+and_first : (v w : Bool) → (v && w) ≡ true → v ≡ true
+and_first true w e = refl
+and_first false w e = cc
+
+pub word_small : (b : ℕ) → is_word_byte b ≡ true → b < 256
+word_small b e = small_by b (and_first (nat_lt b 256) _ e)
+  where
+    small_by : (b : ℕ) → nat_lt b 256 ≡ true → b < 256
+    small_by b e = grind (arith, nat_tests, e)
+
+lower_colon : (b : ℕ) → (to_ascii_lowercase b == 58) ≡ true → (b == 58) ≡ true
+lower_colon b e = grind (arith, nat_tests, e)
+
+lower_slash : (b : ℕ) → (to_ascii_lowercase b == 47) ≡ true → (b == 47) ≡ true
+lower_slash b e = grind (arith, nat_tests, e)
+
+contrary : (u v : Bool) → (u ≡ true → v ≡ true) → v ≡ false → u ≡ false
+contrary true v f e = sym (f refl) ∙ e
+contrary false v f e = refl
+
+pub word_colon : (b : ℕ) → is_word_byte b ≡ true → (to_ascii_lowercase b == 58) ≡ false
+word_colon b e = contrary (to_ascii_lowercase b == 58) (b == 58) (lower_colon b) (not_word 58 b refl e)
+
+-- the first one
+pub not_first : (k b : ℕ) → is_first_sign k ≡ true → is_first_sign b ≡ false → (b == k) ≡ false
+not_first k b f e = by (b == k) refl
+  where
+    by : (v : Bool) → (b == k) ≡ v → (b == k) ≡ false
+    by true i =
+        let is : b ≡ k = (Decides-eqb b k).0 i in
+        let no : true ≡ false = sym f ∙ subst (λ (n : ℕ). is_first_sign n ≡ false) is e in cc
+    by false i = i
+
+or_first : (v w : Bool) → (v || w) ≡ false → v ≡ false
+or_first true w e = cc
+or_first false w e = refl
+
+first_visible : (b : ℕ) → is_first_sign b ≡ false → is_blank b ≡ false
+first_visible b e = or_first (is_blank b) _ e
+
+pub word_slash : (b : ℕ) → is_first_sign b ≡ false → (to_ascii_lowercase b == 47) ≡ false
+word_slash b e = contrary (to_ascii_lowercase b == 47) (b == 47) (lower_slash b) (not_first 47 b refl e)
+
+-- it may begin a line
+hazard_none : (b : ℕ) → is_word_byte b ≡ true → is_first_sign b ≡ false → line_start_hazard b ≡ false
+unfolding line_start_hazard
+hazard_none b e n =
+    rw (
+      first_visible b n,
+      not_first 61 b refl n,
+      not_first 42 b refl n,
+      not_first 35 b refl n,
+      not_word 58 b refl e,
+      not_first 59 b refl n,
+      not_first 45 b refl n,
+      not_first 33 b refl n,
+    )
+    refl
+
+pub word_opens : (b : ℕ) → is_word_byte b ≡ true → is_first_sign b ≡ false → OpensText b
+word_opens b e n =
+    opens_text b (word_small b e)
+    (rw (
+      hazard_none b e n,
+      not_word 10 b refl e,
+      not_word 91 b refl e,
+      not_first 93 b refl n,
+      not_word 123 b refl e,
+      not_word 125 b refl e,
+      not_first 124 b refl n,
+      not_first 62 b refl n,
+    )
+    refl)
+
+-- ---- as items
+
+abbrev pub call_chars : ℕ → List ℕ → List Item
+call_chars j bs = map (char (Some j)) bs
+
+pub call_glyphs : (j : ℕ) (bs : List ℕ) → map glyph_of (call_chars j bs) ≡ byte_glyphs bs
+call_glyphs j [] = refl
+call_glyphs j (b ∷ bs) = ap (λ gs. glyph.Byte b ∷ gs) (call_glyphs j bs)
+
+chars_glyphs : (bs : List ℕ) → map glyph_of (page_chars bs) ≡ byte_glyphs bs
+chars_glyphs [] = refl
+chars_glyphs (b ∷ bs) = ap (λ gs. glyph.Byte b ∷ gs) (chars_glyphs bs)
+
+firm_byte : (b : ℕ) → is_word_byte b ≡ true → is_firm b ≡ true
+firm_byte b e = rw (not_word 60 b refl e, not_word 38 b refl e, not_word 123 b refl e, not_word 125 b refl e) refl
+
+firm_bytes : (bs : List ℕ) → AreWordBytes bs → AreFirm bs
+firm_bytes [] h = tt
+firm_bytes (b ∷ bs) h = (firm_byte b h.0, firm_bytes bs h.1)
+
+pub shown_glyphs : (t : Thing) → AreWordBytes t.source → own_glyphs t ≡ byte_glyphs t.source
+shown_glyphs t h =
+    ap (map glyph_of) (node_as t.source (page_chars t.source) (firm_read t.source (firm_bytes t.source h))) ∙ chars_glyphs t.source
+
+pub words_unbroken : (j : ℕ) (bs : List ℕ) → AreWordBytes bs → IsUnbroken (call_chars j bs)
+words_unbroken j [] h = tt
+words_unbroken j (b ∷ bs) h = (not_word 10 b refl h.0, words_unbroken j bs h.1)
+
+-- ---- a node
+
+pub given_or : (r : Role) (t : Thing) (own : List Item) → IsGivenAs r t own → IsOwnNode t own ⊎ AreWords t.source own
+given_or Link t own h = inl h
+given_or External t own h = inl h
+given_or (Bare ends) t own h = inl h
+given_or Switch t own h = inl h
+given_or Toggle t own h = inl h
+given_or (Mark ends began) t own h = inl h
+given_or (Group g) t own h = inr h
+given_or Function t own h = inl h
+given_or Node t own h = inl h
+
+-- its items are those of its source, as inline forms read them
+pub given_glyphs : (t : Thing) (own : List Item) → IsOwnNode t own ⊎ AreWords t.source own → map glyph_of own ≡ own_glyphs t
+given_glyphs t own h = elim h [
+  | inl n ↦ ap (map glyph_of) n.is
+  | inr w ↦ ap (map glyph_of) w.is ∙ call_glyphs w.call t.source ∙ sym (shown_glyphs t w.words)
+]
+
+pub given_unbroken : (t : Thing) (own : List Item) → IsOwnNode t own ⊎ AreWords t.source own → IsUnbroken own
+given_unbroken t own h = elim h [
+  | inl n ↦ subst IsUnbroken (sym n.is) n.unbroken
+  | inr w ↦ subst IsUnbroken (sym w.is) (words_unbroken w.call t.source w.words)
+]

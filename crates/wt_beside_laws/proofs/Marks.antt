@@ -1,0 +1,9 @@
+mod Cases
+mod LineCases
+pub mod Commented
+pub mod Ends
+pub mod InLine
+mod LinkCases
+pub mod Shown
+pub mod Tiles
+pub mod Within

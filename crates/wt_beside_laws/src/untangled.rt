@@ -1,0 +1,29 @@
+//! Laws of paragraphs and headings of a page as it is: what is asked of those whose content is edited follows from the page.
+
+ghost use Rattle.std.specs.Prelude.{ℕ, List, [], ◌∷◌};
+ghost use Rattle.std.specs.Str.{IsUtf8};
+ghost use Rattle.wt_span.specs.Items.{sources};
+ghost use Rattle.wt_expand.specs.PageItems.{page_items};
+ghost use Rattle.wt_page.specs.Rows.{Row};
+ghost use Rattle.wt_text_edit_laws.specs.BlockSpots.{BlockSpot, spots_source, AreRead};
+ghost use Rattle.wt_text_edit_laws.specs.BodyParagraphs.{IsParagraphAt, spot_at, IsFreeParagraph};
+ghost use Rattle.wt_text_edit_laws.specs.NoCalls.{CallsNothing};
+ghost use Rattle.wt_text_edit_laws.specs.PageCuts.{AreCuts, AreFree};
+
+/// Of a page that calls nothing, any paragraphs and headings that aren't tangled and hold nothing that can only be kept as
+/// a whole are contents that are read by themselves (`IsContent`), whatever they hold, and the page is read part by part
+/// (`AreRead`). Asked is that the page's own items are cut at these blocks: each is lines of text, or a heading's line, by
+/// its items in the page, begins where the page or its line does, behind comments and include tags or none, and ends with
+/// its line; and that one which ends the page holds no comment and no hidden part that nothing ends.
+#[tactic(auto, using(crate::proofs::Derived::CutPages::cut_read))]
+pub fn untangled_blocks_are_contents()
+    ensures { (ss : List BlockSpot) (behind : List ℕ) → IsUtf8 (spots_source ss behind) → CallsNothing (page_items (spots_source ss behind))
+        → AreCuts ss behind → AreFree ss → AreRead ss behind }
+{}
+
+/// So it is at each paragraph of the body that such a page means (`IsParagraphAt`), where that isn't tangled and holds
+/// nothing that can only be kept as a whole (`IsFreeParagraph`): whatever is in it and in the page.
+pub fn untangled_paragraphs_of_the_body_are_contents()
+    ensures { (page : List ℕ) (r : Row) (rs : List Row) (p : IsParagraphAt (page_items page) r rs) → IsFreeParagraph page p.own p.rest
+        → AreRead (spot_at p.before p.own ∷ []) (sources p.rest) }
+{}
