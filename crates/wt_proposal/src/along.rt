@@ -1,6 +1,8 @@
 //! Comments that come along with a block that moved: those that are before it in the page, or directly below it, and were
-//! sent so. And which comments and include tags are left where the page has them.
+//! sent so; and include tags whose partner comes along, too. And which comments and include tags are left where the page has
+//! them.
 
+use crate::pairs::{is_closing, is_tag, keep_together, pairs_along, tags_of};
 use std::alloc::Global;
 use wt_block_signs::is_cell;
 use wt_checks::{Visit, is_compared, is_content, original};
@@ -13,6 +15,11 @@ use wt_tree::{Kind, Node};
 
 fn is_comment(node: &Node<'_>) -> bool {
     matches!(node.kind, Kind::Comment)
+}
+
+/// Whether a node is a comment, or one of these include tags, which are taken as comments.
+fn is_loose(tags: &[bool], node: &Node<'_>) -> bool {
+    is_comment(node) || (is_tag(node) && was_sent(tags, node.id))
 }
 
 // ---- in the page
@@ -71,12 +78,18 @@ fn no_numbers(alloc: Global, index: &[Visit<'_, '_>]) -> Result<Vec<u32>, NoMemo
     Ok(out)
 }
 
-/// Of each comment of the page, by its number, the number of what it is directly before; 0 of all other nodes.
-fn blocks_below(alloc: Global, page: &str, index: &[Visit<'_, '_>]) -> Result<Vec<u32>, NoMemory> {
+/// Of each comment of the page, and of each of these include tags, by its number, the number of what it is directly before; 0
+/// of all other nodes.
+fn blocks_below(
+    alloc: Global,
+    page: &str,
+    index: &[Visit<'_, '_>],
+    tags: &[bool],
+) -> Result<Vec<u32>, NoMemory> {
     let mut out = no_numbers(alloc, index)?;
     let mut from = 0;
     for at in 0..index.len() {
-        if is_comment(index[at].node) {
+        if is_loose(tags, index[at].node) {
             from = row_from(page, index, from, at);
         } else {
             note_row(out.as_mut_slice(), index, from, at);
@@ -110,11 +123,22 @@ fn is_before_empty_line(page: &str, from: usize) -> bool {
     true
 }
 
+/// How many line breaks are between this mark of the page and one on the line after it: a comment has its own in it.
+fn breaks_behind_mark(mark: &Node<'_>) -> usize {
+    if is_tag(mark) { 1 } else { 0 }
+}
+
+/// Whether a comment of the page, or one of these include tags if it is a closing one, has a line of its own.
+fn may_be_below(page: &str, tags: &[bool], mark: &Node<'_>) -> bool {
+    is_loose(tags, mark) && is_alone(page, mark) && (is_comment(mark) || is_closing(page, mark))
+}
+
 /// The number of the block that a comment of the page is below, where the child of its holder before it has this number:
 /// this one, if the comment is on the line after it, or that of the comment before it; 0 of any other node.
 fn block_over(
     page: &str,
     index: &[Visit<'_, '_>],
+    tags: &[bool],
     above: &[u32],
     before: u32,
     comment: &Node<'_>,
@@ -122,12 +146,12 @@ fn block_over(
     let Some(visit) = original(index, before) else {
         return 0;
     };
-    if before == 0 || !is_comment(comment) || !is_alone(page, comment) {
+    if before == 0 || !may_be_below(page, tags, comment) {
         return 0;
     }
     let end = range_of(visit.node).end;
     let breaks = breaks_between(page, end, range_of(comment).start);
-    if is_comment(visit.node) && breaks == Some(0) {
+    if is_loose(tags, visit.node) && breaks == Some(breaks_behind_mark(visit.node)) {
         said_of(above, before)
     } else if is_compared(visit.node.kind) && !is_cell(visit.node.kind) && breaks == Some(1) {
         before
@@ -137,32 +161,44 @@ fn block_over(
 }
 
 /// Of each comment of the page, by its number, the number of the block that it is directly below, or is so with comments
-/// between; 0 of all other nodes.
-fn blocks_over(alloc: Global, page: &str, index: &[Visit<'_, '_>]) -> Result<Vec<u32>, NoMemory> {
+/// between; likewise of these include tags; 0 of all other nodes.
+fn blocks_over(
+    alloc: Global,
+    page: &str,
+    index: &[Visit<'_, '_>],
+    tags: &[bool],
+) -> Result<Vec<u32>, NoMemory> {
     let mut out = no_numbers(alloc, index)?;
     let mut children = no_numbers(alloc, index)?;
     for at in 1..index.len() {
         let visit = index[at];
         let before = said_of(children.as_slice(), visit.parent);
-        let over = block_over(page, index, out.as_slice(), before, visit.node);
+        let over = block_over(page, index, tags, out.as_slice(), before, visit.node);
         note_number(out.as_mut_slice(), visit.node.id, over);
         note_number(children.as_mut_slice(), visit.parent, visit.node.id);
     }
     Ok(out)
 }
 
-/// Whether an empty line comes after the page's node with this number, or the page's end.
+/// Whether the page's node with this number is an include tag, or an empty line comes after it, or the page's end.
 fn is_last_in_row(page: &str, index: &[Visit<'_, '_>], at: usize) -> bool {
     match index.get(at) {
-        Some(visit) => is_before_empty_line(page, range_of(visit.node).end),
+        Some(visit) => {
+            is_tag(visit.node) || is_before_empty_line(page, range_of(visit.node).end)
+        }
         None => false,
     }
 }
 
 /// The same where an empty line comes after it, or after the comments below it, or the page's end: it belongs to what is
-/// above it.
-fn blocks_above(alloc: Global, page: &str, index: &[Visit<'_, '_>]) -> Result<Vec<u32>, NoMemory> {
-    let mut out = blocks_over(alloc, page, index)?;
+/// above it, as a closing tag does.
+fn blocks_above(
+    alloc: Global,
+    page: &str,
+    index: &[Visit<'_, '_>],
+    tags: &[bool],
+) -> Result<Vec<u32>, NoMemory> {
+    let mut out = blocks_over(alloc, page, index, tags)?;
     let mut next = 0;
     for count in 0..out.len() {
         let at = out.len().saturating_sub(count).saturating_sub(1);
@@ -178,9 +214,9 @@ fn blocks_above(alloc: Global, page: &str, index: &[Visit<'_, '_>]) -> Result<Ve
 
 // ---- in the edited tree
 
-/// The number of what a comment is beside in the page; 0 of any other node.
+/// The number of what a comment is beside in the page, or an include tag that is taken as one; 0 of any other node.
 fn block_beside(blocks: &[u32], node: &Node<'_>) -> u32 {
-    if is_comment(node) {
+    if node.kind.is_mark() {
         said_of(blocks, node.id)
     } else {
         0
@@ -188,12 +224,13 @@ fn block_beside(blocks: &[u32], node: &Node<'_>) -> u32 {
 }
 
 /// The blocks beside the page's comments: those that they are before, and those that they are below; and by the number
-/// of each node of the page whether the edited tree has it.
+/// of each node of the page whether the edited tree has it, and whether it is an include tag that is taken as a comment.
 #[derive(Clone, Copy)]
 struct Blocks<'w> {
     below: &'w [u32],
     above: &'w [u32],
     sent: &'w [bool],
+    tags: &'w [bool],
 }
 
 /// Notes the nodes of the page that these are and hold.
@@ -259,7 +296,7 @@ fn own_row(below: &[u32], nodes: &[Node<'_>], number: u32) -> usize {
     let mut next = 0;
     for at in 0..nodes.len() {
         let node = &nodes[at];
-        if is_comment(node) {
+        if node.kind.is_mark() {
             if node.id != next {
                 from = at;
             }
@@ -286,15 +323,16 @@ fn note_before(out: &mut [Along], below: &[u32], nodes: &[Node<'_>], number: u32
 
 /// Notes those of these nodes, which were sent after the block with this number, that the page has below it, too, in the
 /// same order.
-fn note_behind(out: &mut [Along], above: &[u32], nodes: &[Node<'_>], number: u32) {
+fn note_behind(out: &mut [Along], blocks: &Blocks<'_>, nodes: &[Node<'_>], number: u32) {
     let mut last = 0;
     for node in nodes {
-        let is_next = block_beside(above, node) == number && last < node.id;
-        if ends_row(node.kind) || (is_comment(node) && !is_next) {
+        let is_next = block_beside(blocks.above, node) == number && last < node.id;
+        let is_mark = node.kind.is_mark();
+        if ends_row(blocks.tags, node) || (is_mark && !is_next) {
             return;
         }
         let at = node.id as usize;
-        if is_comment(node) && at < out.len() {
+        if is_mark && at < out.len() {
             out[at] = Along::Behind;
             last = node.id;
         }
@@ -302,8 +340,8 @@ fn note_behind(out: &mut [Along], above: &[u32], nodes: &[Node<'_>], number: u32
 }
 
 /// Whether comments that were sent before a node weren't sent before what comes after it.
-fn ends_row(kind: Kind) -> bool {
-    is_compared(kind) || (kind.is_mark() && !matches!(kind, Kind::Comment))
+fn ends_row(tags: &[bool], node: &Node<'_>) -> bool {
+    is_compared(node.kind) || (node.kind.is_mark() && !is_loose(tags, node))
 }
 
 /// What holds edited children: the page's node with this number, or a new one, and whether that stays.
@@ -372,7 +410,7 @@ fn note_children(
     let mut from = 0;
     for at in 0..nodes.len() {
         let node = &nodes[at];
-        if ends_row(node.kind) {
+        if ends_row(blocks.tags, node) {
             let is_in_turn = turns.get(at).copied().unwrap_or(false);
             let is_moved = holder.gets(index, node) || holder.keeps(index, node);
             let before = nodes_between(nodes, from, at);
@@ -386,7 +424,7 @@ fn note_children(
             note_alone(out, blocks, index, before, way);
             if is_moved && !is_in_turn {
                 note_before(out, blocks.below, before, node.id);
-                note_behind(out, blocks.above, behind, node.id);
+                note_behind(out, blocks, behind, node.id);
             }
         }
     }
@@ -428,22 +466,25 @@ fn note_within(
     Ok(())
 }
 
-/// Of each node of the page, by its number, whether it is a comment that comes along: the block that it is directly before
-/// or below was moved, in what holds it or into another node, and the comment was sent before or after it.
-pub fn comments_along(
+/// Of each node of the page, by its number, whether it is a comment that comes along, or one of these include tags: the
+/// block that it is directly before or below was moved, in what holds it or into another node, and it was sent before or
+/// after it.
+fn marks_along(
     alloc: Global,
     page: &str,
     index: &[Visit<'_, '_>],
     edited: &Node<'_>,
+    tags: &[bool],
 ) -> Result<Vec<Along>, NoMemory> {
-    let below = blocks_below(alloc, page, index)?;
-    let above = blocks_above(alloc, page, index)?;
+    let below = blocks_below(alloc, page, index, tags)?;
+    let above = blocks_above(alloc, page, index, tags)?;
     let mut sent = none_noted(alloc, index)?;
     note_sent(sent.as_mut_slice(), edited.children.as_slice());
     let blocks = Blocks {
         below: below.as_slice(),
         above: above.as_slice(),
         sent: sent.as_slice(),
+        tags,
     };
     let mut out = Vec::new(alloc);
     for _ in 0..index.len() {
@@ -459,6 +500,41 @@ pub fn comments_along(
         true,
     )?;
     Ok(out)
+}
+
+/// The include tags that come along if all do that may: those of a pair that both do, or of which one is in the block that
+/// the other one is before.
+fn tags_along(
+    alloc: Global,
+    page: &str,
+    index: &[Visit<'_, '_>],
+    edited: &Node<'_>,
+) -> Result<Vec<bool>, NoMemory> {
+    let tags = tags_of(alloc, index)?;
+    if !tags.as_slice().contains(&true) {
+        return Ok(tags);
+    }
+    let along = marks_along(alloc, page, index, edited, tags.as_slice())?;
+    let below = blocks_below(alloc, page, index, tags.as_slice())?;
+    pairs_along(alloc, page, index, along.as_slice(), below.as_slice())
+}
+
+/// Of each node of the page, by its number, whether it is a comment or an include tag that comes along: the block that it
+/// is directly before or below was moved, in what holds it or into another node, and it was sent before or after it; of
+/// the tags those whose partner comes along, too.
+pub fn comments_along(
+    alloc: Global,
+    page: &str,
+    index: &[Visit<'_, '_>],
+    edited: &Node<'_>,
+) -> Result<Vec<Along>, NoMemory> {
+    let tags = tags_along(alloc, page, index, edited)?;
+    let along = marks_along(alloc, page, index, edited, tags.as_slice())?;
+    if keep_together(along.as_slice(), tags.as_slice()) {
+        return Ok(along);
+    }
+    let none = none_noted(alloc, index)?;
+    marks_along(alloc, page, index, edited, none.as_slice())
 }
 
 /// Of each node of the page, by its number: no.

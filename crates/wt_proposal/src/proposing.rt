@@ -8,6 +8,7 @@ ghost use Rattle.wt_places.specs.Rewritten.{IsRewritten};
 
 use crate::along::{comments_along, marks_left};
 use crate::children::push_gap;
+use crate::lost::lose_marks;
 use std::alloc::Global;
 use wt_block_signs::{
     Style, USUAL, ends_with_given_sign, is_bare_sign, is_cell, is_item, is_list,
@@ -723,7 +724,8 @@ fn changes_of<'t, 'a>(
 }
 
 /// A new page for an edited one: the page written anew in the places in which the edited tree differs from
-/// its tree, and nowhere else. Whether it reads as it was edited isn't said. None where no new page was found.
+/// its tree, and nowhere else. Whether it reads as it was edited isn't said. None where no new page was found, or a comment
+/// or an include tag after a heading's last sign would be lost.
 /// `index` are the body and the nodes of the page with numbers (`numbered_nodes`).
 pub fn proposal<'t, 'a>(
     alloc: Global,
@@ -736,6 +738,9 @@ pub fn proposal<'t, 'a>(
     requires { indexed index.now ≡ page_of (view tree.now) }
     ensures { IfOk result (λ o. IfSome o (λ new. IsRewritten page.now (view tree.now) (view edited.now) new)) }
 {
+    if lose_marks(alloc, index, edited.children.as_slice())? {
+        return Ok(None);
+    }
     let changes = changes_of(alloc, page, index, tree, edited, keeping)?;
     let places = places(alloc, index, tree, edited)?;
     tested(alloc, page, changes.as_slice(), places.as_slice())
