@@ -36,16 +36,22 @@ fn is_alone(page: &str, comment: &Node<'_>) -> bool {
     is_at_line_start(page, place.start)
 }
 
+/// Whether a mark of the page goes on in the line of the tag before it.
+fn goes_on_behind_tag(before: &Node<'_>, mark: &Node<'_>) -> bool {
+    is_tag(before) && is_tag(mark) && range_of(before).end == range_of(mark).start
+}
+
 /// Where the row of comments begins that ends with this one, where those before it begin at `from`; after it, where it
 /// isn't alone on its line.
 fn row_from(page: &str, index: &[Visit<'_, '_>], from: usize, at: usize) -> usize {
     let (Some(visit), Some(before)) = (index.get(at), index.get(at.saturating_sub(1))) else {
         return at;
     };
-    if !is_alone(page, visit.node) {
+    let goes_on = from < at && visit.parent == before.parent;
+    if !is_alone(page, visit.node) && !(goes_on && goes_on_behind_tag(before.node, visit.node)) {
         return at.saturating_add(1);
     }
-    if from < at && visit.parent == before.parent {
+    if goes_on {
         from
     } else {
         at
@@ -123,14 +129,26 @@ fn is_before_empty_line(page: &str, from: usize) -> bool {
     true
 }
 
-/// How many line breaks are between this mark of the page and one on the line after it: a comment has its own in it.
-fn breaks_behind_mark(mark: &Node<'_>) -> usize {
-    if is_tag(mark) { 1 } else { 0 }
+/// Whether a mark of the page is a comment on a line of its own, or one of these include tags that closes.
+fn may_be_below(page: &str, tags: &[bool], mark: &Node<'_>) -> bool {
+    if is_comment(mark) {
+        is_alone(page, mark)
+    } else {
+        is_loose(tags, mark) && is_closing(page, mark)
+    }
 }
 
-/// Whether a comment of the page, or one of these include tags if it is a closing one, has a line of its own.
-fn may_be_below(page: &str, tags: &[bool], mark: &Node<'_>) -> bool {
-    is_loose(tags, mark) && is_alone(page, mark) && (is_comment(mark) || is_closing(page, mark))
+/// Whether a mark that may be below something is as close below this node of the page: a comment on the next line, a tag
+/// there or on the same one. A comment's line break is in the comment.
+fn is_close_below(page: &str, above: &Node<'_>, mark: &Node<'_>) -> bool {
+    let breaks = breaks_between(page, range_of(above).end, range_of(mark).start);
+    if is_tag(mark) {
+        matches!(breaks, Some(0 | 1))
+    } else if is_comment(above) {
+        breaks == Some(0)
+    } else {
+        breaks == Some(1)
+    }
 }
 
 /// The number of the block that a comment of the page is below, where the child of its holder before it has this number:
@@ -149,11 +167,11 @@ fn block_over(
     if before == 0 || !may_be_below(page, tags, comment) {
         return 0;
     }
-    let end = range_of(visit.node).end;
-    let breaks = breaks_between(page, end, range_of(comment).start);
-    if is_loose(tags, visit.node) && breaks == Some(breaks_behind_mark(visit.node)) {
+    if !is_close_below(page, visit.node, comment) {
+        0
+    } else if is_loose(tags, visit.node) {
         said_of(above, before)
-    } else if is_compared(visit.node.kind) && !is_cell(visit.node.kind) && breaks == Some(1) {
+    } else if is_compared(visit.node.kind) && !is_cell(visit.node.kind) {
         before
     } else {
         0
@@ -394,10 +412,53 @@ fn turns_in(
     }
 }
 
+/// What is noted: of each node of the page, by its number, how it comes along; and whether an include tag that doesn't was
+/// sent elsewhere than between the children that it is between in the page.
+#[derive(Drop)]
+struct Noted {
+    along: Vec<Along>,
+    strays: bool,
+}
+
+/// The number of the last child in its turn, and the greatest one of an include tag after it.
+#[derive(Clone, Copy)]
+struct Sent {
+    child: u32,
+    tag: u32,
+}
+
+impl Sent {
+    /// After a child in its turn, or an include tag that doesn't come along.
+    fn behind(self, node: &Node<'_>, is_in_turn: bool) -> Sent {
+        if is_tag(node) {
+            Sent {
+                child: self.child,
+                tag: self.tag.max(node.id),
+            }
+        } else if is_in_turn {
+            Sent {
+                child: node.id,
+                tag: 0,
+            }
+        } else {
+            self
+        }
+    }
+
+    /// Whether the page has this one before the child, or an include tag after it that was sent before it.
+    fn strays(self, node: &Node<'_>, is_in_turn: bool) -> bool {
+        if is_tag(node) {
+            node.id != 0 && node.id < self.child
+        } else {
+            is_in_turn && node.id < self.tag
+        }
+    }
+}
+
 /// Notes the comments that come along among these children.
 fn note_children(
     alloc: Global,
-    out: &mut [Along],
+    out: &mut Noted,
     blocks: &Blocks<'_>,
     index: &[Visit<'_, '_>],
     holder: Holder,
@@ -407,30 +468,38 @@ fn note_children(
         return Ok(());
     }
     let turns = turns_in(alloc, index, holder, nodes)?;
+    let mut sent = Sent { child: 0, tag: 0 };
     let mut from = 0;
     for at in 0..nodes.len() {
         let node = &nodes[at];
         if ends_row(blocks.tags, node) {
             let is_in_turn = turns.get(at).copied().unwrap_or(false);
-            let is_moved = holder.gets(index, node) || holder.keeps(index, node);
+            out.strays = out.strays || sent.strays(node, is_in_turn);
+            sent = sent.behind(node, is_in_turn);
             let before = nodes_between(nodes, from, at);
             from = at.saturating_add(1);
             let behind = nodes_between(nodes, from, nodes.len());
-            let way = if is_in_turn {
-                Along::Behind
-            } else {
-                Along::Before
-            };
-            note_alone(out, blocks, index, before, way);
+            let along = out.along.as_mut_slice();
+            note_alone(along, blocks, index, before, way_beside(is_in_turn));
+            let is_moved = holder.gets(index, node) || holder.keeps(index, node);
             if is_moved && !is_in_turn {
-                note_before(out, blocks.below, before, node.id);
-                note_behind(out, blocks, behind, node.id);
+                note_before(along, blocks.below, before, node.id);
+                note_behind(along, blocks, behind, node.id);
             }
         }
     }
     let rest = nodes_between(nodes, from, nodes.len());
-    note_alone(out, blocks, index, rest, Along::Behind);
+    note_alone(out.along.as_mut_slice(), blocks, index, rest, Along::Behind);
     Ok(())
+}
+
+/// How a comment that is left alone comes before a child, which is in its turn or not.
+fn way_beside(is_in_turn: bool) -> Along {
+    if is_in_turn {
+        Along::Behind
+    } else {
+        Along::Before
+    }
 }
 
 /// How many of the edited children of a node come before those that it has in lines of their own.
@@ -445,7 +514,7 @@ fn text_count(page: &str, index: &[Visit<'_, '_>], stays: bool, node: &Node<'_>)
 /// Notes the comments that come along in a node, which stays or doesn't, and in those that it holds.
 fn note_within(
     alloc: Global,
-    out: &mut [Along],
+    out: &mut Noted,
     blocks: &Blocks<'_>,
     page: &str,
     index: &[Visit<'_, '_>],
@@ -475,7 +544,7 @@ fn marks_along(
     index: &[Visit<'_, '_>],
     edited: &Node<'_>,
     tags: &[bool],
-) -> Result<Vec<Along>, NoMemory> {
+) -> Result<Noted, NoMemory> {
     let below = blocks_below(alloc, page, index, tags)?;
     let above = blocks_above(alloc, page, index, tags)?;
     let mut sent = none_noted(alloc, index)?;
@@ -486,19 +555,15 @@ fn marks_along(
         sent: sent.as_slice(),
         tags,
     };
-    let mut out = Vec::new(alloc);
+    let mut along = Vec::new(alloc);
     for _ in 0..index.len() {
-        out.push(Along::No)?;
+        along.push(Along::No)?;
     }
-    note_within(
-        alloc,
-        out.as_mut_slice(),
-        &blocks,
-        page,
-        index,
-        edited,
-        true,
-    )?;
+    let mut out = Noted {
+        along,
+        strays: false,
+    };
+    note_within(alloc, &mut out, &blocks, page, index, edited, true)?;
     Ok(out)
 }
 
@@ -514,14 +579,14 @@ fn tags_along(
     if !tags.as_slice().contains(&true) {
         return Ok(tags);
     }
-    let along = marks_along(alloc, page, index, edited, tags.as_slice())?;
+    let noted = marks_along(alloc, page, index, edited, tags.as_slice())?;
     let below = blocks_below(alloc, page, index, tags.as_slice())?;
-    pairs_along(alloc, page, index, along.as_slice(), below.as_slice())
+    pairs_along(alloc, page, index, noted.along.as_slice(), below.as_slice())
 }
 
 /// Of each node of the page, by its number, whether it is a comment or an include tag that comes along: the block that it
 /// is directly before or below was moved, in what holds it or into another node, and it was sent before or after it; of
-/// the tags those whose partner comes along, too.
+/// the tags those whose partner comes along, too, and none where one that doesn't was sent elsewhere: their order counts.
 pub fn comments_along(
     alloc: Global,
     page: &str,
@@ -529,12 +594,16 @@ pub fn comments_along(
     edited: &Node<'_>,
 ) -> Result<Vec<Along>, NoMemory> {
     let tags = tags_along(alloc, page, index, edited)?;
-    let along = marks_along(alloc, page, index, edited, tags.as_slice())?;
-    if keep_together(along.as_slice(), tags.as_slice()) {
-        return Ok(along);
+    let noted = marks_along(alloc, page, index, edited, tags.as_slice())?;
+    if !tags.as_slice().contains(&true) {
+        return Ok(noted.along);
+    }
+    if !noted.strays && keep_together(noted.along.as_slice(), tags.as_slice()) {
+        return Ok(noted.along);
     }
     let none = none_noted(alloc, index)?;
-    marks_along(alloc, page, index, edited, none.as_slice())
+    let noted = marks_along(alloc, page, index, edited, none.as_slice())?;
+    Ok(noted.along)
 }
 
 /// Of each node of the page, by its number: no.

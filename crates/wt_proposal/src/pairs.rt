@@ -42,7 +42,10 @@ fn is_closed_at(page: &str, opening: Slot, at: usize) -> bool {
 }
 
 /// Whether this opening tag, directly before a heading, is closed after the heading's last sign.
-fn is_closed_behind(page: &str, opening: Slot, heading: &Node<'_>) -> bool {
+fn is_closed_behind(page: &str, opening: Slot, heading: Option<&Node<'_>>) -> bool {
+    let Some(heading) = heading else {
+        return false;
+    };
     let Some(ranges) = heading.ranges else {
         return false;
     };
@@ -102,7 +105,7 @@ fn note(tags: &mut [bool], tag: &Node<'_>) {
     }
 }
 
-/// Notes an opening tag and the next tag of the page, if the second one closes the first, and both go.
+/// Notes the last opening tag and a closing one, if it closes that one, and both go.
 fn note_pair(
     tags: &mut [bool],
     page: &str,
@@ -133,21 +136,21 @@ pub fn pairs_along(
     for _ in 0..index.len() {
         out.push(false)?;
     }
-    let mut before: Option<&Node<'_>> = None;
+    let mut open: Vec<&Node<'_>> = Vec::new(alloc);
     for visit in index {
         let tag = visit.node;
-        if is_tag(tag) {
-            if let Some(opening) = before {
-                let block = block_below(index, below, opening);
-                note_pair(out.as_mut_slice(), page, along, block, opening, tag);
-            }
-            if let Some(block) = block_below(index, below, tag)
-                && is_along(along, tag)
-                && is_closed_behind(page, range_of(tag), block)
-            {
+        if is_tag(tag) && !is_closing(page, tag) {
+            let block = block_below(index, below, tag);
+            if !is_closed_behind(page, range_of(tag), block) {
+                open.push(tag)?;
+            } else if is_along(along, tag) {
                 note(out.as_mut_slice(), tag);
             }
-            before = Some(tag);
+        } else if is_tag(tag)
+            && let Some(opening) = open.pop()
+        {
+            let block = block_below(index, below, opening);
+            note_pair(out.as_mut_slice(), page, along, block, opening, tag);
         }
     }
     Ok(out)
