@@ -12,7 +12,7 @@ use wt_known::{Known, joined as texts_joined};
 use wt_places::Slot;
 use wt_span::{NoMemory, Str};
 use wt_splice::Change;
-use wt_tree::Node;
+use wt_tree::{Kind, Node};
 
 // ---- slices
 
@@ -340,6 +340,14 @@ pub fn push_emptied_row(
     push_gone(alloc, out, known, gap, behind_first(slices), 0)
 }
 
+/// Whether an item comes in the line of a call that shows nothing, which was before another item in it. A line with nothing
+/// but the call would part the list.
+fn joins_empty_call(page: &str, before: &Node<'_>, behind: &Node<'_>) -> bool {
+    is_item(behind.kind)
+        && matches!(kind_at_end(before), Kind::Empty)
+        && byte_at(page, range_of(before).end) != b'\n'
+}
+
 /// The line breaks that are wanted between the two that stay: one before a cell that doesn't go on in a line.
 pub fn wanted_between(page: &str, gap: &Gap<'_, '_, '_>) -> usize {
     let (Some(before), Some(behind)) = (gap.before, gap.behind) else {
@@ -347,6 +355,9 @@ pub fn wanted_between(page: &str, gap: &Gap<'_, '_, '_>) -> usize {
     };
     if is_cell(behind.kind) && !is_doubled(page, behind) {
         return 1;
+    }
+    if joins_empty_call(page, before, behind) {
+        return 0;
     }
     least_between(gap.is_tight, kind_at_end(before), kind_at_start(behind))
 }

@@ -4,7 +4,7 @@
 
 use crate::pairs::{is_closing, is_tag, keep_together, pairs_along, tags_of};
 use std::alloc::Global;
-use wt_block_signs::is_cell;
+use wt_block_signs::{is_cell, is_list};
 use wt_checks::{Visit, is_compared, is_content, original};
 use wt_difference::{are_same, inside_count, is_block_part, stays_in};
 use wt_gaps::{Along, byte_at, nodes_between, range_of};
@@ -242,12 +242,14 @@ fn block_beside(blocks: &[u32], node: &Node<'_>) -> u32 {
 }
 
 /// The blocks beside the page's comments: those that they are before, and those that they are below; and by the number
-/// of each node of the page whether the edited tree has it, and whether it is an include tag that is taken as a comment.
+/// of each node of the page whether the edited tree has it, whether it has it in the same holder, and whether it is an
+/// include tag that is taken as a comment.
 #[derive(Clone, Copy)]
 struct Blocks<'w> {
     below: &'w [u32],
     above: &'w [u32],
     sent: &'w [bool],
+    kept: &'w [bool],
     tags: &'w [bool],
 }
 
@@ -259,6 +261,30 @@ fn note_sent(sent: &mut [bool], nodes: &[Node<'_>]) {
             sent[at] = true;
         }
         note_sent(sent, node.children.as_slice());
+    }
+}
+
+/// Notes those of these children, and of those in them, that the page has in what holds them, too, which has this number.
+fn note_kept(kept: &mut [bool], index: &[Visit<'_, '_>], holder: u32, nodes: &[Node<'_>]) {
+    for node in nodes {
+        let at = node.id as usize;
+        if at != 0 && at < kept.len() && stays_in(index, holder, node) {
+            kept[at] = true;
+        }
+        note_kept(kept, index, node.id, node.children.as_slice());
+    }
+}
+
+/// Notes the comments among the children of a new list that the page has directly before what isn't in its place any more:
+/// they go into the list, as where paragraphs become its items.
+fn note_taken(out: &mut [Along], blocks: &Blocks<'_>, nodes: &[Node<'_>]) {
+    for node in nodes {
+        let at = node.id as usize;
+        let below = block_beside(blocks.below, node);
+        let is_taken = is_comment(node) && below != 0 && !was_sent(blocks.kept, below);
+        if is_taken && at < out.len() {
+            out[at] = Along::Before;
+        }
     }
 }
 
@@ -525,6 +551,9 @@ fn note_within(
     let nodes = node.children.as_slice();
     let from = text_count(page, index, stays, node);
     let children = nodes_between(nodes, from, nodes.len());
+    if !stays && is_list(node.kind) {
+        note_taken(out.along.as_mut_slice(), blocks, children);
+    }
     note_children(alloc, out, blocks, index, holder, children)?;
     for child in nodes {
         if is_block_part(child.kind) {
@@ -549,10 +578,13 @@ fn marks_along(
     let above = blocks_above(alloc, page, index, tags)?;
     let mut sent = none_noted(alloc, index)?;
     note_sent(sent.as_mut_slice(), edited.children.as_slice());
+    let mut kept = none_noted(alloc, index)?;
+    note_kept(kept.as_mut_slice(), index, 0, edited.children.as_slice());
     let blocks = Blocks {
         below: below.as_slice(),
         above: above.as_slice(),
         sent: sent.as_slice(),
+        kept: kept.as_slice(),
         tags,
     };
     let mut along = Vec::new(alloc);

@@ -178,7 +178,7 @@ fn trailed_by(
     }
     push_comment_line(&mut coming.source, known, comment)?;
     coming.is_of_line = false;
-    coming.is_trailed = true;
+    coming.is_trailed = matches!(comment.kind, Kind::Comment);
     Ok(Some(coming))
 }
 
