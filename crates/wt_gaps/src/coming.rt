@@ -181,7 +181,10 @@ fn ends_with_second_half(gap: &Gap<'_, '_, '_>) -> bool {
     if new.id != 0 || !is_list(new.kind) || !is_list(before.kind) {
         return false;
     }
-    match (new.children.as_slice().last(), before.children.as_slice().last()) {
+    match (
+        new.children.as_slice().last(),
+        before.children.as_slice().last(),
+    ) {
         (Some(last), Some(was)) => was.id != 0 && was.id == last.id,
         _ => false,
     }
@@ -605,7 +608,11 @@ fn source_in_line(
     };
     if let Some(beside) = beside {
         let mut out = Str::new(alloc);
-        push_in_line(&mut out, byte_at(known.page, range_of(beside).start), source)?;
+        push_in_line(
+            &mut out,
+            byte_at(known.page, range_of(beside).start),
+            source,
+        )?;
         return Ok(Some(InLine {
             source: out,
             past: 0,

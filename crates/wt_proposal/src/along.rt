@@ -51,11 +51,7 @@ fn row_from(page: &str, index: &[Visit<'_, '_>], from: usize, at: usize) -> usiz
     if !is_alone(page, visit.node) && !(goes_on && goes_on_behind_tag(before.node, visit.node)) {
         return at.saturating_add(1);
     }
-    if goes_on {
-        from
-    } else {
-        at
-    }
+    if goes_on { from } else { at }
 }
 
 /// Notes that the comments from `from` on are before the page's node with the number `at`, where that is a block, an item

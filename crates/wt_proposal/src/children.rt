@@ -10,7 +10,8 @@ use wt_gaps::{
     Along, Coming, Gap, Passed, behind_first, between_coming, comes_along, count_of, empties_row,
     first_block, kind_at_end, kind_at_start, last_number, mark_at, nodes_between, place_behind,
     push_between, push_breaks, push_comment, push_comment_line, push_emptied_row, push_gone,
-    push_new, push_up_to_comment, range_of, signs_in, slices_of, style_beside, wanted_between, way_of,
+    push_new, push_up_to_comment, range_of, signs_in, slices_of, style_beside, wanted_between,
+    way_of,
 };
 use wt_known::{Known, is_at_line_start, last_text};
 use wt_span::{NoMemory, Str};

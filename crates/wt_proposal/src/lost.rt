@@ -12,11 +12,7 @@ fn is_heading(node: &Node<'_>) -> bool {
 }
 
 /// Whether an edited node was a heading with such a comment or tag, and is none any more.
-fn loses_mark(
-    alloc: Global,
-    index: &[Visit<'_, '_>],
-    node: &Node<'_>,
-) -> Result<bool, NoMemory> {
+fn loses_mark(alloc: Global, index: &[Visit<'_, '_>], node: &Node<'_>) -> Result<bool, NoMemory> {
     if node.id == 0 || is_heading(node) {
         return Ok(false);
     }
