@@ -12,3 +12,4 @@ pub mod Bare
 pub mod Folders
 pub mod Faults
 pub mod Cases
+pub mod Meet

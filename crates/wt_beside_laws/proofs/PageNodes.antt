@@ -194,7 +194,7 @@ meet_apart t n own other e z = by (is_mark t.role && is_mark n.role) refl
         (mark_follows t.role (own_glyphs t) (own_glyphs n) marks.0, mark_led n.role (ends_word false (own_glyphs t)) marks.1)
     by false i = table_meets t n own other i e z
 
-meet : (t n : Thing) → IsNode t.role (own_glyphs t) → IsNode n.role (own_glyphs n) → MeetInPage t n → is_parted t n ≡ false → Meet t n
+pub meet : (t n : Thing) → IsNode t.role (own_glyphs t) → IsNode n.role (own_glyphs n) → MeetInPage t n → is_parted t n ≡ false → Meet t n
 meet t n own other page z = meet_by (is_adjacent t n) refl
   where
     meet_by : (v : Bool) → is_adjacent t n ≡ v → Meet t n
@@ -234,19 +234,19 @@ letter_comes (letter c ∷ before) ts h = h
 letter_comes (thing t ∷ before) [] h = (tt, tt)
 letter_comes (thing t ∷ before) (n ∷ ts) h = (h.0.1, h.1.1)
 
-letter_meets : (u : Bool) (before : List ContentSign) (c : ℕ) (after : List ContentSign) → MeetAt u before (letter c ∷ after) []
+pub letter_meets : (u : Bool) (before : List ContentSign) (c : ℕ) (after : List ContentSign) → MeetAt u before (letter c ∷ after) []
 letter_meets true before c after = tt
 letter_meets false [] c after = tt
 letter_meets false (letter d ∷ before) c after = tt
 letter_meets false (thing t ∷ before) c after = tt
 
-end_meets : (u : Bool) (before : List ContentSign) → MeetAt u before [] []
+pub end_meets : (u : Bool) (before : List ContentSign) → MeetAt u before [] []
 end_meets true before = tt
 end_meets false [] = tt
 end_meets false (letter d ∷ before) = tt
 end_meets false (thing t ∷ before) = tt
 
-unparted : (s : Setting) (t n : Thing) (before after : List ContentSign) → is_guarded s (thing t ∷ before) (thing n ∷ after) ≡ false → is_parted t n ≡ false
+pub unparted : (s : Setting) (t n : Thing) (before after : List ContentSign) → is_guarded s (thing t ∷ before) (thing n ∷ after) ≡ false → is_parted t n ≡ false
 unfolding is_guarded is_between_guard
 unparted s t n before after e = (or_parts (is_parted t n) _ e).0
 

@@ -5,6 +5,9 @@ mod ClassCases
 pub mod AnyPages
 pub mod BodyPages
 pub mod OwnParagraphs
+pub mod PlacedBlocks
+pub mod PlacedSpots
+pub mod TakenParagraphs
 mod Cases
 pub mod CellRows
 pub mod CellSpots

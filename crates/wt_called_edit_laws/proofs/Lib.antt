@@ -31,6 +31,8 @@ mod SettledCases
 pub mod Settles
 pub mod SettledPages
 pub mod SettledAt
+pub mod PartTexts
+pub mod BlockTexts
 pub mod RunsFree
 pub mod FreePlaces
 pub mod GroupsKept

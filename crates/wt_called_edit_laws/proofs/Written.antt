@@ -8,3 +8,6 @@ pub mod Held
 pub mod AllHeld
 pub mod NewContents
 pub mod Cases
+pub mod InPieces
+pub mod FromPage
+mod PieceCases

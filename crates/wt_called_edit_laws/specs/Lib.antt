@@ -14,6 +14,7 @@ pub mod ContentsTaken
 pub mod Settled
 pub mod SettledPages
 pub mod SettledAt
+pub mod PartTexts
 pub mod Covered
 pub mod Parts
 pub mod Retyped
@@ -29,6 +30,10 @@ pub mod ItemSpots
 pub mod CalledBlocks
 pub mod CallingBlocks
 pub mod CallingGroups
+pub mod InPieces
+pub mod PageThings
 pub mod Written
 pub mod WrittenAnew
 pub mod SentAsIs
+pub mod PlacedBlocks
+pub mod PlacedSpots

@@ -48,6 +48,7 @@ ghost use Rattle.wt_called_edit_laws.specs.ChosenContents.{HasContentEdits};
 ghost use Rattle.wt_called_edit_laws.specs.ContentsTaken.{TakesContents};
 ghost use Rattle.wt_called_edit_laws.specs.EditsAt.{Fits, AllStand};
 ghost use Rattle.wt_called_edit_laws.specs.Settled.{IsSettled};
+ghost use Rattle.wt_called_edit_laws.specs.PartTexts.{AreTextsOfPage, HasItsText};
 ghost use Rattle.wt_called_edit_laws.specs.SettledAt.{BlocksAtPaths};
 ghost use Rattle.wt_called_edit_laws.specs.SettledPages.{OnlyTextsAreOthers, OnlyBlocksAreOthers};
 ghost use Rattle.wt_called_edit_laws.specs.Covered.{CleanWhereFree, IsEditablePage};
@@ -71,8 +72,20 @@ ghost use Rattle.wt_selser.specs.GroupFaults.{paragraph_face};
 ghost use Rattle.wt_called_edit_laws.specs.WrittenAnew.{node_sources, StayButForOthers, IsWrittenBeside, HoldsAnywhere, EachHolds};
 
 mod body_paragraphs;
+mod in_pieces;
+mod placed_blocks;
 
-pub use body_paragraphs::paragraphs_of_the_body_may_be_edited;
+pub use body_paragraphs::{
+    nodes_of_paragraphs_of_the_body_stay, paragraphs_of_the_body_are_edited,
+    paragraphs_of_the_body_may_be_edited,
+};
+pub use in_pieces::{
+    paragraphs_in_pieces_may_be_written_anew, paragraphs_of_the_page_take_texts_beside_calls,
+};
+pub use placed_blocks::{
+    all_blocks_at_their_places_may_be_edited, blocks_at_their_places_may_be_edited,
+    lines_of_a_page_are_blocks_of_it,
+};
 
 /// A page with blocks among calls, and with calls in them, none of which goes over the end of a part, is expanded part by
 /// part: its items are those of what stands before, between and behind the blocks, and of the blocks, with the numbers that
@@ -379,6 +392,18 @@ pub fn only_blocks_that_call_are_others()
 #[tactic(auto, using(crate::proofs::SettledAt::blocks_at_paths))]
 pub fn blocks_that_call_are_at_paths()
     ensures { (pages : Pages) (ss : List BlockSpot) (behind : List ℕ) → AreCallingOutside pages ss behind → BlocksAtPaths pages ss behind }
+{}
+
+/// What is on the page for the items of each of these blocks is the block, whatever calls come before it.
+#[tactic(auto, using(crate::proofs::PartTexts::block_texts))]
+pub fn blocks_are_on_the_page_for_their_items()
+    ensures { (pages : Pages) (ss : List BlockSpot) (behind : List ℕ) → AreCalled pages ss behind → AreTextsOfPage pages ss behind }
+{}
+
+/// And the source of a block that holds its calls, with the groups in it, is that.
+#[tactic(auto, using(crate::proofs::BlockTexts::block_flat))]
+pub fn blocks_that_call_have_their_texts()
+    ensures { (calls : List OuterCall) (t : ItemTree) → HasItsText calls t }
 {}
 
 /// A page with calls, with places for blocks in its body and in the cells and captions of its tables. Where no group of

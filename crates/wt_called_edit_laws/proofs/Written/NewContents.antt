@@ -149,7 +149,7 @@ stays_so pages i n s signs h =
 
 -- ---- it closes no tag that the other one didn't close
 
-abbrev OpenAt : List ℕ → List ℕ → Type 0
+abbrev pub OpenAt : List ℕ → List ℕ → Type 0
 OpenAt name bs = (us : List ℕ) × Unclosed name (bs ++ us)
 
 three : (g w r rest : List ℕ) → (g ++ (w ++ r)) ++ rest ≡ g ++ (w ++ (r ++ rest))
@@ -182,19 +182,18 @@ each_stays P pages (b ∷ bs) [] e h = tt
 each_stays P pages (b ∷ bs) (d ∷ ds) (inl e) h = (subst P e.0 h.0, each_stays P pages bs ds e.1 h.1)
 each_stays P pages (b ∷ bs) (d ∷ ds) (inr e) h = each_stays P pages bs (d ∷ ds) e.1 h.1
 
-closes_so : (s₀ s : Setting) (olds signs : List ContentSign) (pages : Pages) → StayButForOthers pages (node_sources olds) (node_sources signs) → IsWrittenBeside pages s signs
-    → (name us vs : List ℕ) → Unclosed name (spelled s₀ olds ++ us) → Unclosed name vs → Unclosed name (spelled s signs ++ vs)
-closes_so s₀ s olds signs pages e h name us vs o v =
-    content_closes s [] signs name vs
-    (open_things name signs (each_stays (OpenAt name) pages (node_sources olds) (node_sources signs) e (open_nodes s₀ [] olds name us o))) h.sealed v
+closes_so : (s : Setting) (bs : List (List ℕ)) (signs : List ContentSign) (pages : Pages) → StayButForOthers pages bs (node_sources signs) → IsWrittenBeside pages s signs
+    → (name vs : List ℕ) → Each (OpenAt name) bs → Unclosed name vs → Unclosed name (spelled s signs ++ vs)
+closes_so s bs signs pages e h name vs o v =
+    content_closes s [] signs name vs (open_things name signs (each_stays (OpenAt name) pages bs (node_sources signs) e o)) h.sealed v
 
 -- ---- and has its calls, and its work
 
-abbrev calls_of : Pages → List (List ℕ) → List OuterCall
+abbrev pub calls_of : Pages → List (List ℕ) → List OuterCall
 calls_of pages [] = []
 calls_of pages (bs ∷ more) = (expanded_page pages bs).outer ++ calls_of pages more
 
-abbrev work_of : Pages → List (List ℕ) → List Entry
+abbrev pub work_of : Pages → List (List ℕ) → List Entry
 work_of pages [] = []
 work_of pages (bs ∷ more) = work_in pages bs ++ work_of pages more
 
@@ -243,33 +242,42 @@ turned (c ∷ cs) (d ∷ ds) m =
     let o : IsMoved c d = m.0 in
     (record { call = o.call; first = o.second; second = o.first; was = o.now; now = o.was }, turned cs ds m.1)
 
-pub written_anew : (pages : Pages) (s₀ s : Setting) (olds signs : List ContentSign) → IsWrittenBeside pages s₀ olds → IsWrittenBeside pages s signs
-    → StayButForOthers pages (node_sources olds) (node_sources signs) → IsNewContentIn pages a_paragraph (spelled s₀ olds) (spelled s signs)
-written_anew pages s₀ s olds signs k h e =
-    let q : List ℕ = spelled s₀ olds in
+-- in the place of any content that has the calls and the work of nodes that it holds
+pub written_over : (pages : Pages) (q : List ℕ) (bs : List (List ℕ)) (s : Setting) (signs : List ContentSign) → AreMoved (calls_of pages bs) (expanded_page pages q).outer
+    → work_in pages q ≡ work_of pages bs → ((name us : List ℕ) → Unclosed name (q ++ us) → Each (OpenAt name) bs) → IsWrittenBeside pages s signs
+    → StayButForOthers pages bs (node_sources signs) → IsNewContentIn pages a_paragraph q (spelled s signs)
+written_over pages q bs s signs old was_work opens h e =
     let r : List ℕ = spelled s signs in
-    let was : IsCalledIn pages s₀ olds = k.called in
     let now : IsCalledIn pages s signs = h.called in
-    let a = content_written pages s₀ olds was.of_block k.read k.parts in
     let b = content_written pages s signs now.of_block h.read h.parts in
     let part = b.part in
-    let calls : written_calls pages olds ≡ written_calls pages signs = calls_by pages olds ∙ calls_stay pages (node_sources olds) (node_sources signs) e ∙ sym (calls_by pages signs) in
-    let was_work : work_in pages q ≡ work_of pages (node_sources olds) = a.work_is ∙ work_by pages olds in
+    let calls : calls_of pages bs ≡ written_calls pages signs = calls_stay pages bs (node_sources signs) e ∙ sym (calls_by pages signs) in
     let now_work : work_in pages r ≡ work_of pages (node_sources signs) = b.work_is ∙ work_by pages signs in
-    let old : AreMoved (written_calls pages olds) (expanded_page pages q).outer = a.calls_are in
-    let new : AreMoved (written_calls pages olds) (expanded_page pages r).outer =
+    let new : AreMoved (calls_of pages bs) (expanded_page pages r).outer =
     subst (λ (cs : List OuterCall). AreMoved cs (expanded_page pages r).outer) (sym calls) b.calls_are in
     record {
       part = record {
-        read = record { read = read_so pages s signs h; firm = called_firm s signs now.of_block h.read; closes = closes_so s₀ s olds signs pages e h };
+        read = record {
+          read = read_so pages s signs h;
+          firm = called_firm s signs now.of_block h.read;
+          closes = λ name us vs o v. closes_so s bs signs pages e h name vs (opens name us o) v;
+        };
         anywhere = part.anywhere;
         left = part.left;
         undeep = λ i. part.undeep;
         work = subst (λ (es : List Entry). AreSomeOf es (work_in pages q)) (sym now_work)
-            (subst (λ (es : List Entry). AreSomeOf (work_of pages (node_sources signs)) es) (sym was_work)
-            (work_stays pages (node_sources olds) (node_sources signs) e));
+            (subst (λ (es : List Entry). AreSomeOf (work_of pages (node_sources signs)) es) (sym was_work) (work_stays pages bs (node_sources signs) e));
       };
       content = content_in pages s signs h;
-      calls = calls_after (expanded_page pages q).outer (written_calls pages olds) (expanded_page pages r).outer (turned (written_calls pages olds) (expanded_page pages q).outer old) new;
+      calls = calls_after (expanded_page pages q).outer (calls_of pages bs) (expanded_page pages r).outer (turned (calls_of pages bs) (expanded_page pages q).outer old) new;
       stays = λ i n. stays_so pages i n s signs h;
     }
+
+pub written_anew : (pages : Pages) (s₀ s : Setting) (olds signs : List ContentSign) → IsWrittenBeside pages s₀ olds → IsWrittenBeside pages s signs
+    → StayButForOthers pages (node_sources olds) (node_sources signs) → IsNewContentIn pages a_paragraph (spelled s₀ olds) (spelled s signs)
+written_anew pages s₀ s olds signs k h e =
+    let was : IsCalledIn pages s₀ olds = k.called in
+    let a = content_written pages s₀ olds was.of_block k.read k.parts in
+    written_over pages (spelled s₀ olds) (node_sources olds) s signs
+    (subst (λ (cs : List OuterCall). AreMoved cs (expanded_page pages (spelled s₀ olds)).outer) (calls_by pages olds) a.calls_are) (a.work_is ∙ work_by pages olds)
+    (λ name us o. open_nodes s₀ [] olds name us o) h e

@@ -1,0 +1,112 @@
+-- Any number of paragraphs and headings of a page where they are in it: their contents may be edited.
+use Rattle.std.proofs.Common.{◌≡◌, ℕ, Bool, List, [], ◌∷◌, ◌++◌, length, refl, ap, ◌∙◌, sym, subst, append_assoc}
+use Rattle.std.specs.Str.{IsUtf8}
+use Rattle.std.proofs.lemmas.Grind.{flat_map-append}
+use Rattle.wt_span.specs.Items.{Item, source, sources}
+use Rattle.wt_expand.specs.PageItems.{page_items}
+use Rattle.wt_expand.specs.Work.{Pages}
+use Rattle.wt_text_edit_laws.specs.BlockSpots.{BlockSpot, spots_source, AreReadAfter, AreRead}
+use Rattle.wt_text_edit_laws.specs.NoCalls.{CallsNothing}
+use Rattle.wt_text_edit_laws.specs.PageCuts.{AreCuts, AreFurtherCuts, IsSpotCut, BeginsBreak, EndsThere, AreFree}
+use Rattle.wt_text_edit_laws.specs.Parts.{HasNoGroups}
+use Rattle.wt_text_edit_laws.specs.TextBlocks.{TextBlock, source_of}
+use Rattle.wt_text_edit_laws.proofs.Cuts.ItemCuts.{front_alone, behind_alone}
+use Rattle.wt_beside_laws.proofs.Derived.BlockContents.{block_source, there_begins}
+use Rattle.wt_beside_laws.proofs.Derived.BodyRead.{parts_are}
+use Rattle.wt_beside_laws.proofs.Derived.CutPages.{cut_read}
+use Rattle.wt_called_edit_laws.specs.AnyBlocks.{open_behind_part, LeadsInto, past_break, BeginsAfter, EndsAfter}
+use Rattle.wt_called_edit_laws.specs.CalledContents.{AreItemsOf, StayText}
+use Rattle.wt_called_edit_laws.specs.CalledPages.{IsCalledPage}
+use Rattle.wt_called_edit_laws.specs.ItemSpots.{items_of_spots, ArePlacedAfter, ArePlaced}
+use Rattle.wt_called_edit_laws.specs.PlacedSpots.{AreFurtherIn, AreBlocksIn}
+use Rattle.wt_called_edit_laws.proofs.CalmPages.{calm_contents}
+use Rattle.wt_called_edit_laws.proofs.Cells.ContentItems.{content_items}
+use Rattle.wt_called_edit_laws.proofs.Cells.PlacedBlocks.{stays_so}
+
+-- ---- they are cuts
+
+further_cuts : (last : TextBlock) (bs : List Bool) (ss : List BlockSpot) (behind : List ℕ) (zs : List Item) → AreFurtherIn last bs ss behind zs
+    → AreFurtherCuts ss behind zs
+further_cuts last bs [] behind zs h = h.0
+further_cuts last bs (s ∷ ss) behind zs h =
+    (h.0, h.1, h.2, h.3, further_cuts s.block (open_behind_part bs (past_break h.0.before)) ss behind h.0.rest h.7)
+
+are_cuts : (ss : List BlockSpot) (behind : List ℕ) → AreBlocksIn ss behind → AreCuts ss behind
+are_cuts [] behind h = h
+are_cuts (s ∷ ss) behind h = (h.0, h.1, h.2, further_cuts s.block (open_behind_part [] h.0.before) ss behind h.0.rest h.5)
+
+break_there : (bs rest : List ℕ) → BeginsBreak bs → EndsThere (bs ++ rest)
+break_there [] rest h = absurd h
+break_there (b ∷ bs) rest h = h
+
+further_there : (last : TextBlock) (bs : List Bool) (ss : List BlockSpot) (behind : List ℕ) (zs : List Item) → AreFurtherIn last bs ss behind zs
+    → EndsThere (spots_source ss behind)
+further_there last bs [] behind zs h = h.0
+further_there last bs (s ∷ ss) behind zs h = break_there s.before (source_of s.block s.text ++ spots_source ss behind) h.2
+
+-- ---- each part by itself
+
+record PartItems (s : BlockSpot) (ss : List BlockSpot) (behind : List ℕ) (before own rest : List Item) : Type 0 where
+  front : page_items s.before ≡ before
+  last : page_items (spots_source ss behind) ≡ rest
+  stays : (n : ℕ) → StayText s.block n own → StayText s.block n (page_items s.text)
+
+part_alone : (s : BlockSpot) (ss : List BlockSpot) (behind : List ℕ) (zs : List Item) (c : IsSpotCut s zs)
+    → page_items (spots_source (s ∷ ss) behind) ≡ zs → EndsThere (spots_source ss behind) → PartItems s ss behind c.before c.own c.rest
+part_alone s ss behind zs c e there =
+    let line : List ℕ = source_of s.block s.text in
+    let sr : List ℕ = spots_source ss behind in
+    let whole : page_items (s.before ++ (line ++ sr)) ≡ c.before ++ (c.own ++ c.rest) = e ∙ c.is in
+    let joined : page_items ((s.before ++ line) ++ sr) ≡ (c.before ++ c.own) ++ c.rest =
+    ap page_items (append_assoc s.before line sr) ∙ whole ∙ sym (append_assoc c.before c.own c.rest) in
+    let source_is : sources (c.before ++ c.own) ≡ s.before ++ line =
+    flat_map-append source c.before c.own ∙ ap (λ (bs : List ℕ). bs ++ sources c.own) c.source
+    ∙ ap (λ (bs : List ℕ). s.before ++ bs) (block_source s.block s.text c.own c.block) in
+    let again : page_items (sources c.before ++ (sources c.own ++ sources c.rest)) ≡ c.before ++ (c.own ++ c.rest) =
+    ap page_items (parts_are (s.before ++ (line ++ sr)) c.before c.own c.rest whole) ∙ whole in
+    record {
+      front = front_alone s.before (line ++ sr) c.before (c.own ++ c.rest) whole c.source;
+      last = behind_alone (s.before ++ line) sr (c.before ++ c.own) c.rest (there_begins sr there) joined source_is;
+      stays = λ n h. stays_so s.block n s.text c.before c.own c.rest c.block again h;
+    }
+
+-- ---- where they stand
+
+further_placed : (last : TextBlock) (bs : List Bool) (ss : List BlockSpot) (behind : List ℕ) (zs : List Item) → AreReadAfter ss behind
+    → page_items (spots_source ss behind) ≡ zs → AreFurtherIn last bs ss behind zs → ArePlacedAfter last bs (items_of_spots ss) (page_items behind)
+further_placed last bs [] behind zs r e h = subst (EndsAfter last (length bs)) (sym e) h.1
+further_placed last bs (s ∷ ss) behind zs r e h =
+    let c : IsSpotCut s zs = h.0 in
+    let now : List Bool = open_behind_part bs (past_break c.before) in
+    let p = part_alone s ss behind zs c e (further_there s.block now ss behind c.rest h.7) in
+    let P : List Item → Type 0 = λ (xs : List Item). BeginsAfter last s.block bs xs
+    × (AreItemsOf s.block (page_items s.text) × LeadsInto s.block bs (past_break xs)
+    × StayText s.block (length (open_behind_part bs (past_break xs))) (page_items s.text))
+    × ArePlacedAfter s.block (open_behind_part bs (past_break xs)) (items_of_spots ss) (page_items behind) in
+    subst P (sym p.front) (
+      h.4,
+      (content_items s.block s.text r.0.block, h.5, p.stays (length now) h.6),
+      further_placed s.block now ss behind c.rest r.2 p.last h.7,
+    )
+
+placed : (ss : List BlockSpot) (behind : List ℕ) → AreRead ss behind → AreBlocksIn ss behind → ArePlaced (items_of_spots ss) (page_items behind)
+placed [] behind r h = absurd h
+placed (s ∷ ss) behind r h =
+    let zs : List Item = page_items (spots_source (s ∷ ss) behind) in
+    let c : IsSpotCut s zs = h.0 in
+    let now : List Bool = open_behind_part [] c.before in
+    let p = part_alone s ss behind zs c refl (further_there s.block now ss behind c.rest h.5) in
+    let P : List Item → Type 0 = λ (xs : List Item).
+    (AreItemsOf s.block (page_items s.text) × LeadsInto s.block [] xs × StayText s.block (length (open_behind_part [] xs)) (page_items s.text))
+    × ArePlacedAfter s.block (open_behind_part [] xs) (items_of_spots ss) (page_items behind) in
+    subst P (sym p.front) (
+      (content_items s.block s.text r.0.block, h.3, p.stays (length now) h.4),
+      further_placed s.block now ss behind c.rest r.1 p.last h.5,
+    )
+
+pub spots_called : (pages : Pages) (ss : List BlockSpot) (behind : List ℕ) → IsUtf8 (spots_source ss behind)
+    → CallsNothing (page_items (spots_source ss behind)) → HasNoGroups (spots_source ss behind) → AreBlocksIn ss behind → AreFree ss
+    → IsCalledPage pages ss behind
+spots_called pages ss behind u calm ungrouped h f =
+    let read : AreRead ss behind = cut_read ss behind u calm (are_cuts ss behind h) f in
+    calm_contents pages ss behind (record { read = read; placed = placed ss behind read h; ungrouped = ungrouped })

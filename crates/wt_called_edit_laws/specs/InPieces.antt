@@ -1,0 +1,16 @@
+-- A paragraph of the page in pieces, one after the other: texts, calls, and other nodes.
+use Rattle.std.specs.Prelude.{ℕ, List, [], ◌∷◌, ◌++◌}
+use Rattle.wt_span.specs.declared.form.Mode.TheVariants.{Page}
+use Rattle.wt_span.specs.Lexemes.{words}
+use Rattle.wt_expand.specs.Work.{Pages}
+use Rattle.wt_joined_calls.specs.Apart.{AreMet}
+use Rattle.wt_called_edit_laws.specs.Written.{IsOwnPart}
+
+abbrev pub pieces_source : List (List ℕ) → List ℕ
+pieces_source [] = []
+pieces_source (b ∷ bs) = b ++ pieces_source bs
+
+-- Each gives what it gives by itself, and no lexeme goes over from one into the next, unless both are characters.
+abbrev pub AreInPieces : Pages → List (List ℕ) → Type 0
+AreInPieces pages [] = Unit {0}
+AreInPieces pages (b ∷ bs) = IsOwnPart pages b × AreMet (words Page b) (words Page (pieces_source bs)) (words Page (b ++ pieces_source bs)) × AreInPieces pages bs

@@ -1,0 +1,31 @@
+//! Laws of paragraphs of the page that hold calls, cut in pieces: other texts are written beside what stays.
+
+ghost use Rattle.std.specs.Prelude.{◌≡◌, ℕ, false, List};
+ghost use Rattle.wt_guards.specs.Content.{ContentSign, Thing};
+ghost use Rattle.wt_guards.specs.Guards.{Setting, spelled};
+ghost use Rattle.wt_expand.specs.Work.{Pages};
+ghost use Rattle.wt_text_edit_laws.specs.TextBlocks.{a_paragraph};
+ghost use Rattle.wt_called_edit_laws.specs.CallingBlocks.{IsNewContentIn};
+ghost use Rattle.wt_called_edit_laws.specs.InPieces.{pieces_source, AreInPieces};
+ghost use Rattle.wt_beside_laws.specs.Called.{BeginsWithText, EndsWithText};
+ghost use Rattle.wt_beside_laws.specs.Lines.{AreCharacters};
+ghost use Rattle.wt_beside_laws.specs.Stood.{things};
+ghost use Rattle.wt_called_edit_laws.specs.PageThings.{ArePageThings, ThingsStay, thing_sources};
+ghost use Rattle.wt_called_edit_laws.specs.WrittenAnew.{node_sources, StayButForOthers, IsWrittenBeside};
+
+/// A paragraph of the page, whatever it is, may be cut in pieces (`AreInPieces`): texts, calls and other nodes, of which each gives what it gives by
+/// itself. A paragraph of texts beside some of these pieces, in their order, each that calls among them, is a new content in its place.
+pub fn paragraphs_in_pieces_may_be_written_anew()
+    ensures { (pages : Pages) (bs : List (List ℕ)) (s : Setting) (signs : List ContentSign) → AreInPieces pages bs → IsWrittenBeside pages s signs
+        → StayButForOthers pages bs (node_sources signs) → IsNewContentIn pages a_paragraph (pieces_source bs) (spelled s signs) }
+{}
+
+/// So any texts may be typed beside the calls and the other nodes of a paragraph of the page (`ArePageThings`): the calls give words, each node stays
+/// what it is beside text, and no two that the page has side by side join. Each that calls stays, any other may go, and text is first and last.
+pub fn paragraphs_of_the_page_take_texts_beside_calls()
+    ensures beside { (pages : Pages) (olds : List Thing) (s : Setting) (signs : List ContentSign) → s.within ≡ false → AreCharacters signs → BeginsWithText signs
+        → EndsWithText signs → ArePageThings pages olds → ThingsStay pages olds (things signs) → IsWrittenBeside pages s signs }
+    ensures anew { (pages : Pages) (bs : List (List ℕ)) (olds : List Thing) (s : Setting) (signs : List ContentSign) → AreInPieces pages bs
+        → StayButForOthers pages bs (thing_sources olds) → ArePageThings pages olds → s.within ≡ false → AreCharacters signs → BeginsWithText signs → EndsWithText signs
+        → ThingsStay pages olds (things signs) → IsNewContentIn pages a_paragraph (pieces_source bs) (spelled s signs) }
+{}

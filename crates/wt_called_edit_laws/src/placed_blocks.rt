@@ -1,0 +1,41 @@
+//! Laws of paragraphs and headings where they are in a page, by its items or by its lines: their contents may be edited.
+
+ghost use Rattle.std.specs.Prelude.{◌≡◌, List, [], ◌∷◌, ℕ};
+ghost use Rattle.std.specs.Str.{IsUtf8};
+ghost use Rattle.wt_span.specs.Items.{Item, sources};
+ghost use Rattle.wt_expand.specs.PageItems.{page_items};
+ghost use Rattle.wt_expand.specs.Work.{Pages};
+ghost use Rattle.wt_text_edit_laws.specs.BlockSpots.{BlockSpot, spots_source};
+ghost use Rattle.wt_text_edit_laws.specs.NoCalls.{CallsNothing};
+ghost use Rattle.wt_text_edit_laws.specs.PageCuts.{AreFree};
+ghost use Rattle.wt_text_edit_laws.specs.Parts.{HasNoGroups};
+ghost use Rattle.wt_text_edit_laws.specs.TextBlocks.{TextBlock, a_paragraph, a_heading};
+ghost use Rattle.wt_text_edit_laws.specs.TypedHeadings.{Sides};
+ghost use Rattle.wt_called_edit_laws.specs.CalledPages.{IsCalledPage};
+ghost use Rattle.wt_called_edit_laws.specs.PlacedBlocks.{IsBlockIn, block_spot, IsFreeIn, IsHeadingOn, IsParagraphOn};
+ghost use Rattle.wt_called_edit_laws.specs.PlacedSpots.{AreBlocksIn};
+
+/// Some lines of a page are a paragraph of it, or one is a heading's, in the body, in a cell or in a caption: whatever they
+/// hold and whatever is round them. Of a paragraph each line is text there, none has a mark before it, and no other text
+/// is beside them. By its items in the page each is a block at its place (`IsBlockIn`).
+pub fn lines_of_a_page_are_blocks_of_it()
+    ensures headings { (page : List ℕ) (s : Sides) (q : List ℕ) → IsHeadingOn (page_items page) s q → IsBlockIn (page_items page) (a_heading s) q }
+    ensures paragraphs { (page : List ℕ) (own : List Item) → IsParagraphOn (page_items page) own → IsBlockIn (page_items page) a_paragraph (sources own) }
+{}
+
+/// A page that calls nothing, and in which no node can only be kept as a whole, is one of those whose contents may be edited
+/// (`IsCalledPage`), with any such paragraph or heading that isn't tangled (`IsFreeIn`).
+pub fn blocks_at_their_places_may_be_edited()
+    ensures whole { (page : List ℕ) (k : TextBlock) (q : List ℕ) (b : IsBlockIn (page_items page) k q)
+        → spots_source (block_spot k q b.before ∷ []) (sources b.rest) ≡ page }
+    ensures called { (pages : Pages) (page : List ℕ) (k : TextBlock) (q : List ℕ) (b : IsBlockIn (page_items page) k q) → IsFreeIn page k q b.rest
+        → IsCalledPage pages (block_spot k q b.before ∷ []) (sources b.rest) }
+{}
+
+/// So with any number of them at once, at each of which the page's items are cut (`AreBlocksIn`).
+#[tactic(auto, using(crate::proofs::Cells::PlacedSpots::spots_called))]
+pub fn all_blocks_at_their_places_may_be_edited()
+    ensures { (pages : Pages) (ss : List BlockSpot) (behind : List ℕ) → IsUtf8 (spots_source ss behind)
+        → CallsNothing (page_items (spots_source ss behind)) → HasNoGroups (spots_source ss behind) → AreBlocksIn ss behind → AreFree ss
+        → IsCalledPage pages ss behind }
+{}
