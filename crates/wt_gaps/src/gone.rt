@@ -90,6 +90,27 @@ fn place_of(page: &str, node: &Node<'_>) -> Slot {
     }
 }
 
+/// The same with the blanks before it, if it has nothing else before it on its line: else they would begin what comes there.
+fn place_in_line(page: &str, gap: &Gap<'_, '_, '_>, node: &Node<'_>) -> Slot {
+    let place = place_of(page, node);
+    let from = gap.place.start.min(place.start);
+    let count = place.start.saturating_sub(from);
+    for passed in 0..count {
+        let at = place.start.saturating_sub(passed);
+        match byte_at(page, at.saturating_sub(1)) {
+            b' ' | b'\t' => {}
+            b'\n' => {
+                return Slot {
+                    start: at,
+                    end: place.end,
+                };
+            }
+            _ => return place,
+        }
+    }
+    place
+}
+
 /// The slices of a gap's children that go: those that are next to each other in one, with the comments that come along
 /// with them. Another comment or an include tag between two of them stays.
 pub fn slices_of(
@@ -104,7 +125,12 @@ pub fn slices_of(
     for child in gap.gone {
         let node = child.node;
         if is_compared(node.kind) || comes_along(along, node) {
-            slice = Some(joined(slice, tag, place_of(page, node)));
+            let place = if gap.is_tight {
+                place_of(page, node)
+            } else {
+                place_in_line(page, gap, node)
+            };
+            slice = Some(joined(slice, tag, place));
         } else if node.kind.is_mark() {
             tag = tag_of(node);
             push_slice(&mut out, slice, tag)?;
@@ -230,10 +256,18 @@ fn is_behind_block(gap: &Gap<'_, '_, '_>, slice: Slot) -> bool {
     }
 }
 
+/// Whether a comment or an include tag that stays is before this part of a gap.
+fn is_behind_mark(gap: &Gap<'_, '_, '_>) -> bool {
+    match gap.before {
+        Some(before) => range_of(before).end < gap.place.start,
+        None => false,
+    }
+}
+
 /// How many line breaks are left of those before and after a slice that goes: the longer of the two. But what comes
 /// after it goes on in the line of a comment or an include tag, or is as close to a heading as it was; beside an include
 /// tag those are left that are beside the tag; and where the slice was joined with what is beside it, those on its other
-/// side.
+/// side, one at least after a comment that stays.
 fn breaks_left(gap: &Gap<'_, '_, '_>, slice: Slice, before: usize, behind: usize) -> usize {
     let tags = slice.tags;
     let goes_on = before == 0 && !is_behind_block(gap, slice.place);
@@ -246,6 +280,7 @@ fn breaks_left(gap: &Gap<'_, '_, '_>, slice: Slice, before: usize, behind: usize
     } else {
         match gap.joined {
             Joined::Nowhere => before.max(behind),
+            Joined::Before if is_behind_mark(gap) => behind.max(1),
             Joined::Before => behind,
             Joined::Behind => before,
         }
