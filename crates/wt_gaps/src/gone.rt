@@ -108,7 +108,10 @@ fn place_in_line(page: &str, gap: &Gap<'_, '_, '_>, node: &Node<'_>) -> Slot {
             _ => return place,
         }
     }
-    place
+    Slot {
+        start: if from == 0 { 0 } else { place.start },
+        end: place.end,
+    }
 }
 
 /// The slices of a gap's children that go: those that are next to each other in one, with the comments that come along
@@ -256,8 +259,13 @@ fn is_behind_block(gap: &Gap<'_, '_, '_>, slice: Slot) -> bool {
     }
 }
 
-/// Whether a comment or an include tag that stays is before this part of a gap.
-fn is_behind_mark(gap: &Gap<'_, '_, '_>) -> bool {
+/// Whether a comment or an include tag that stays is in the gap before this slice.
+fn is_behind_mark(gap: &Gap<'_, '_, '_>, slice: Slot) -> bool {
+    for child in gap.gone {
+        if child.node.kind.is_mark() && range_of(child.node).start < slice.start {
+            return true;
+        }
+    }
     match gap.before {
         Some(before) => range_of(before).end < gap.place.start,
         None => false,
@@ -280,7 +288,7 @@ fn breaks_left(gap: &Gap<'_, '_, '_>, slice: Slice, before: usize, behind: usize
     } else {
         match gap.joined {
             Joined::Nowhere => before.max(behind),
-            Joined::Before if is_behind_mark(gap) => behind.max(1),
+            Joined::Before if is_behind_mark(gap, slice.place) => behind.max(1),
             Joined::Before => behind,
             Joined::Behind => before,
         }

@@ -41,19 +41,24 @@ fn is_closed_at(page: &str, opening: Slot, at: usize) -> bool {
     true
 }
 
+/// How many bytes of a node are its close delimiter.
+fn close_width(node: &Node<'_>) -> usize {
+    match node.ranges {
+        Some(ranges) => ranges.close_w as usize,
+        None => 0,
+    }
+}
+
 /// Whether this opening tag, directly before a heading, is closed after the heading's last sign.
 fn is_closed_behind(page: &str, opening: Slot, heading: Option<&Node<'_>>) -> bool {
     let Some(heading) = heading else {
         return false;
     };
-    let Some(ranges) = heading.ranges else {
-        return false;
-    };
-    let end = ranges.end as usize;
-    if ranges.start as usize != opening.end || !matches!(heading.kind, Kind::Heading(_)) {
+    let place = range_of(heading);
+    if place.start != opening.end || !matches!(heading.kind, Kind::Heading(_)) {
         return false;
     }
-    for at in end.saturating_sub(ranges.close_w as usize)..end {
+    for at in place.end.saturating_sub(close_width(heading))..place.end {
         if is_closed_at(page, opening, at) {
             return true;
         }
