@@ -538,7 +538,8 @@ fn style_of_first(around: &Surroundings<'_, '_, '_>) -> Style {
     }
 }
 
-/// Appends the items of a list, each on a line of its own; after a comment or an include tag on the one that it leaves.
+/// Appends the items of a list, each on a line of its own; after a comment or an include tag on the one that it leaves, and
+/// after a call that shows nothing in the line of this one.
 #[cycle(blocks)]
 fn push_items<'t, 'a>(
     alloc: Global,
@@ -567,6 +568,10 @@ fn push_items<'t, 'a>(
         } else if is_coming_mark(known, item) {
             push_line(out, is_begun)?;
             push_mark(alloc, out, known, item)?;
+            is_begun = true;
+        } else if matches!(item.kind, Kind::Group) {
+            push_line(out, is_begun)?;
+            push_block(alloc, out, known, &around.in_table(), item)?;
             is_begun = true;
         }
     }

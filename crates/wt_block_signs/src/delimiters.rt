@@ -269,3 +269,17 @@ pub fn push_heading_end(
     push_equals(out, level)?;
     out.push_str(behind)
 }
+
+/// Whether more than blanks comes after the last sign of a heading of the page: a comment or an include tag, which is in its
+/// delimiter and no node.
+pub fn has_mark_behind_signs(alloc: Global, heading: &Node<'_>) -> Result<bool, NoMemory> {
+    let closing = joined(alloc, heading.closing())?;
+    let closing = closing.as_str();
+    let (_, rest) = closing
+        .split_at_checked(before_equals(closing))
+        .unwrap_or((closing, ""));
+    let (_, behind) = rest
+        .split_at_checked(equals_len(rest))
+        .unwrap_or((rest, ""));
+    Ok(!behind.trim().is_empty())
+}

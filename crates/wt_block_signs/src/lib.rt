@@ -8,8 +8,8 @@ mod kinds;
 mod style;
 
 pub use delimiters::{
-    begins_line, goes_on_behind, push_begun, push_closing, push_heading_end, push_heading_start,
-    push_opening, push_signs, shared_line, shares_line,
+    begins_line, goes_on_behind, has_mark_behind_signs, push_begun, push_closing, push_heading_end,
+    push_heading_start, push_opening, push_signs, shared_line, shares_line,
 };
 pub use items::{sign_of, signs_of};
 pub use kinds::{

@@ -94,6 +94,7 @@ pub fn least_between(is_tight: bool, left: Kind, right: Kind) -> usize {
 fn is_close(closeness: Closeness, above: Kind, below: Kind) -> bool {
     match above {
         Kind::Heading(_) => closeness.below_headings,
+        _ if is_heading(below) => closeness.headings_below_text,
         Kind::Para => closeness.lists_below_text && is_list(below),
         _ => false,
     }

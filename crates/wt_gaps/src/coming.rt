@@ -172,8 +172,26 @@ fn is_above_closely(page: &str, gap: &Gap<'_, '_, '_>, before: &Node<'_>) -> boo
     is_directly_behind(gap, before) && is_followed_closely(page, before, below)
 }
 
+/// Whether the last of those that come is a new list with the last item of the page's list before the gap: the second half
+/// of that one.
+fn ends_with_second_half(gap: &Gap<'_, '_, '_>) -> bool {
+    let (Some(new), Some(before)) = (last_block(gap.new), gap.before) else {
+        return false;
+    };
+    if new.id != 0 || !is_list(new.kind) || !is_list(before.kind) {
+        return false;
+    }
+    match (
+        new.children.as_slice().last(),
+        before.children.as_slice().last(),
+    ) {
+        (Some(last), Some(was)) => was.id != 0 && was.id == last.id,
+        _ => false,
+    }
+}
+
 /// The line breaks between the child before and what comes after it: below a heading, a table or a list as many as the
-/// page has below this one.
+/// page has below this one, unless this is a list whose second half has that below it now.
 fn breaks_below(
     known: &Known<'_, '_>,
     gap: &Gap<'_, '_, '_>,
@@ -182,6 +200,7 @@ fn breaks_below(
 ) -> usize {
     let last = kind_at_end(before);
     let is_close = may_be_close(last, coming.start) && is_above_closely(known.page, gap, before);
+    let is_close = is_close && !ends_with_second_half(gap);
     if is_close || goes_on_in_stack(known, gap, before, coming) {
         return least_between(gap.is_tight, last, coming.start).max(1);
     }
@@ -351,7 +370,10 @@ fn breaks_below_new<'t, 'a>(
     if !gap.is_tight && may_be_close(last, below) && was_followed_closely(known, gap) {
         return least_between(gap.is_tight, last, below).max(1);
     }
-    if goes_on_as_paragraph(gap, last, below) || ends_in_stack(known, gap, last, behind) {
+    if goes_on_as_paragraph(gap, last, below)
+        || ends_in_stack(known, gap, last, behind)
+        || (!gap.is_tight && ends_with_second_half(gap))
+    {
         return least_between(gap.is_tight, last, below);
     }
     between(known.closeness, gap.is_tight, last, below)
@@ -437,7 +459,7 @@ fn breaks_behind<'t, 'a>(
     } else if standing == 0 {
         between(known.closeness, gap.is_tight, last, behind.kind)
     } else if is_parted_from_heading(gap, last, behind) {
-        2
+        between(known.closeness, gap.is_tight, last, behind.kind)
     } else {
         least_between(gap.is_tight, last, kind_at_start(behind))
     };
@@ -501,14 +523,14 @@ fn comes_last_in_line(page: &str, gap: &Gap<'_, '_, '_>, coming: &Coming) -> boo
         && most_breaks(page, range_of(before).start, range_of(before).end) == 0
 }
 
-/// Whether the next cell of the page goes on in the line of this one.
-fn is_followed_in_line(known: &Known<'_, '_>, cell: &Node<'_>) -> bool {
-    match original(known.index, cell.id) {
-        Some(visit) => match next_in_page(known, visit) {
-            Some(next) => is_doubled(known.page, next),
-            None => false,
-        },
-        None => false,
+/// The sign of the next cell of the page, where that goes on in the line of this one.
+fn next_sign(known: &Known<'_, '_>, cell: &Node<'_>) -> Option<u8> {
+    let visit = original(known.index, cell.id)?;
+    let next = next_in_page(known, visit)?;
+    if is_doubled(known.page, next) {
+        Some(byte_at(known.page, range_of(next).start))
+    } else {
+        None
     }
 }
 
@@ -536,7 +558,36 @@ fn comes_first_in_line(known: &Known<'_, '_>, gap: &Gap<'_, '_, '_>, coming: &Co
         && style_of(gap.behind).is_tight
         && !is_doubled(known.page, behind)
         && is_at_line_start(known.page, range_of(behind).start)
-        && is_followed_in_line(known, behind)
+        && next_sign(known, behind).is_some()
+}
+
+/// What is written in a line of the page, and how many bytes of what comes after it go: the sign of a cell that goes on now.
+#[derive(Drop)]
+struct InLine {
+    source: Str,
+    past: usize,
+}
+
+/// A cell before the first one of a line, whose sign is that of one that goes on then, as the others of the line do.
+fn before_first(
+    alloc: Global,
+    known: &Known<'_, '_>,
+    behind: Option<&Node<'_>>,
+    cell: &str,
+) -> Result<InLine, NoMemory> {
+    let mut source = Str::copy_of(alloc, cell)?;
+    let is_by_bars = match behind {
+        Some(behind) => {
+            matches!(behind.kind, Kind::Th) && next_sign(known, behind) == Some(b'|')
+        }
+        None => false,
+    };
+    if is_by_bars {
+        source.push_str("||")?;
+        return Ok(InLine { source, past: 1 });
+    }
+    source.push_str(first_sign(cell))?;
+    Ok(InLine { source, past: 0 })
 }
 
 /// What is written of what comes in a line of the page: after a cell of it, or before its first one, whose sign is that
@@ -546,17 +597,30 @@ fn source_in_line(
     known: &Known<'_, '_>,
     gap: &Gap<'_, '_, '_>,
     coming: &Coming,
-) -> Result<Option<Str>, NoMemory> {
+) -> Result<Option<InLine>, NoMemory> {
     let source = coming.source.as_str();
-    let mut out = Str::new(alloc);
-    if joins_line(known.page, gap, coming) || comes_last_in_line(known.page, gap, coming) {
-        push_in_line(&mut out, source)?;
-        return Ok(Some(out));
+    let beside = if joins_line(known.page, gap, coming) {
+        gap.behind
+    } else if comes_last_in_line(known.page, gap, coming) {
+        gap.before
+    } else {
+        None
+    };
+    if let Some(beside) = beside {
+        let mut out = Str::new(alloc);
+        push_in_line(
+            &mut out,
+            byte_at(known.page, range_of(beside).start),
+            source,
+        )?;
+        return Ok(Some(InLine {
+            source: out,
+            past: 0,
+        }));
     }
     if comes_first_in_line(known, gap, coming) {
-        out.push_str(source)?;
-        out.push_str(first_sign(source))?;
-        return Ok(Some(out));
+        let found = before_first(alloc, known, gap.behind, source)?;
+        return Ok(Some(found));
     }
     Ok(None)
 }
@@ -574,15 +638,15 @@ fn takes_place_in_line(page: &str, gap: &Gap<'_, '_, '_>, coming: &Coming, at: u
         && !is_at_line_start(page, at)
 }
 
-/// Appends what comes: in the line that is begun, or after so many line breaks.
+/// Appends what comes: in the line that is begun, with this sign doubled, or after so many line breaks.
 fn push_source(
     out: &mut Str,
     coming: &Coming,
-    is_in_line: bool,
+    sign: Option<u8>,
     breaks: usize,
 ) -> Result<(), NoMemory> {
-    if is_in_line {
-        return push_in_line(out, coming.source.as_str());
+    if let Some(sign) = sign {
+        return push_in_line(out, sign, coming.source.as_str());
     }
     push_breaks(out, breaks)?;
     out.push_str(coming.source.as_str())
@@ -601,9 +665,13 @@ pub fn push_new<'t, 'a>(
     let slice = slices.first().copied();
     let place = place_of(gap, slice);
     if slice.is_none()
-        && let Some(by) = source_in_line(alloc, known, gap, coming)?
+        && let Some(found) = source_in_line(alloc, known, gap, coming)?
     {
-        return push_change(out, place, by);
+        let in_line = Slot {
+            start: place.start,
+            end: place.end.saturating_add(found.past),
+        };
+        return push_change(out, in_line, found.source);
     }
     let to = match slices.get(1) {
         Some(next) => next.place.start,
@@ -617,8 +685,12 @@ pub fn push_new<'t, 'a>(
     };
     let behind = breaks_behind(known, gap, slice, coming, after);
     let mut by = Str::new(alloc);
-    let is_in_line = slice.is_some() && takes_place_in_line(page, gap, coming, place.start);
-    push_source(&mut by, coming, is_in_line, before)?;
+    let sign = if slice.is_some() && takes_place_in_line(page, gap, coming, place.start) {
+        Some(byte_at(page, place.start))
+    } else {
+        None
+    };
+    push_source(&mut by, coming, sign, before)?;
     if begins_without_sign(gap) {
         by.push_str("\n|-")?;
     }

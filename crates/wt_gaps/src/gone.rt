@@ -12,7 +12,7 @@ use wt_known::{Known, joined as texts_joined};
 use wt_places::Slot;
 use wt_span::{NoMemory, Str};
 use wt_splice::Change;
-use wt_tree::Node;
+use wt_tree::{Kind, Node};
 
 // ---- slices
 
@@ -90,6 +90,30 @@ fn place_of(page: &str, node: &Node<'_>) -> Slot {
     }
 }
 
+/// The same with the blanks before it, if it has nothing else before it on its line: else they would begin what comes there.
+fn place_in_line(page: &str, gap: &Gap<'_, '_, '_>, node: &Node<'_>) -> Slot {
+    let place = place_of(page, node);
+    let from = gap.place.start.min(place.start);
+    let count = place.start.saturating_sub(from);
+    for passed in 0..count {
+        let at = place.start.saturating_sub(passed);
+        match byte_at(page, at.saturating_sub(1)) {
+            b' ' | b'\t' => {}
+            b'\n' => {
+                return Slot {
+                    start: at,
+                    end: place.end,
+                };
+            }
+            _ => return place,
+        }
+    }
+    Slot {
+        start: if from == 0 { 0 } else { place.start },
+        end: place.end,
+    }
+}
+
 /// The slices of a gap's children that go: those that are next to each other in one, with the comments that come along
 /// with them. Another comment or an include tag between two of them stays.
 pub fn slices_of(
@@ -104,7 +128,12 @@ pub fn slices_of(
     for child in gap.gone {
         let node = child.node;
         if is_compared(node.kind) || comes_along(along, node) {
-            slice = Some(joined(slice, tag, place_of(page, node)));
+            let place = if gap.is_tight {
+                place_of(page, node)
+            } else {
+                place_in_line(page, gap, node)
+            };
+            slice = Some(joined(slice, tag, place));
         } else if node.kind.is_mark() {
             tag = tag_of(node);
             push_slice(&mut out, slice, tag)?;
@@ -230,10 +259,23 @@ fn is_behind_block(gap: &Gap<'_, '_, '_>, slice: Slot) -> bool {
     }
 }
 
+/// Whether a comment or an include tag that stays is in the gap before this slice.
+fn is_behind_mark(gap: &Gap<'_, '_, '_>, slice: Slot) -> bool {
+    for child in gap.gone {
+        if child.node.kind.is_mark() && range_of(child.node).start < slice.start {
+            return true;
+        }
+    }
+    match gap.before {
+        Some(before) => range_of(before).end < gap.place.start,
+        None => false,
+    }
+}
+
 /// How many line breaks are left of those before and after a slice that goes: the longer of the two. But what comes
 /// after it goes on in the line of a comment or an include tag, or is as close to a heading as it was; beside an include
 /// tag those are left that are beside the tag; and where the slice was joined with what is beside it, those on its other
-/// side.
+/// side, one at least after a comment that stays.
 fn breaks_left(gap: &Gap<'_, '_, '_>, slice: Slice, before: usize, behind: usize) -> usize {
     let tags = slice.tags;
     let goes_on = before == 0 && !is_behind_block(gap, slice.place);
@@ -246,6 +288,7 @@ fn breaks_left(gap: &Gap<'_, '_, '_>, slice: Slice, before: usize, behind: usize
     } else {
         match gap.joined {
             Joined::Nowhere => before.max(behind),
+            Joined::Before if is_behind_mark(gap, slice.place) => behind.max(1),
             Joined::Before => behind,
             Joined::Behind => before,
         }
@@ -340,6 +383,14 @@ pub fn push_emptied_row(
     push_gone(alloc, out, known, gap, behind_first(slices), 0)
 }
 
+/// Whether an item comes in the line of a call that shows nothing, which was before another item in it. A line with nothing
+/// but the call would part the list.
+fn joins_empty_call(page: &str, before: &Node<'_>, behind: &Node<'_>) -> bool {
+    is_item(behind.kind)
+        && matches!(kind_at_end(before), Kind::Empty)
+        && byte_at(page, range_of(before).end) != b'\n'
+}
+
 /// The line breaks that are wanted between the two that stay: one before a cell that doesn't go on in a line.
 pub fn wanted_between(page: &str, gap: &Gap<'_, '_, '_>) -> usize {
     let (Some(before), Some(behind)) = (gap.before, gap.behind) else {
@@ -347,6 +398,9 @@ pub fn wanted_between(page: &str, gap: &Gap<'_, '_, '_>) -> usize {
     };
     if is_cell(behind.kind) && !is_doubled(page, behind) {
         return 1;
+    }
+    if joins_empty_call(page, before, behind) {
+        return 0;
     }
     least_between(gap.is_tight, kind_at_end(before), kind_at_start(behind))
 }

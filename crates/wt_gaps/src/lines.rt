@@ -277,8 +277,15 @@ pub fn first_sign(cell: &str) -> &'static str {
     if cell.starts_with("!") { "!" } else { "|" }
 }
 
-/// Appends a cell that goes on in a line, given as it begins one.
-pub fn push_in_line(out: &mut Str, cell: &str) -> Result<(), NoMemory> {
+/// Appends a cell that goes on in a line, given as it begins one, after the sign of the line's cells doubled: a heading cell
+/// may go on after two bars, too.
+pub fn push_in_line(out: &mut Str, sign: u8, cell: &str) -> Result<(), NoMemory> {
+    if sign == b'|'
+        && let Some(rest) = cell.strip_prefix("!")
+    {
+        out.push_str("||")?;
+        return out.push_str(rest);
+    }
     out.push_str(first_sign(cell))?;
     out.push_str(cell)
 }

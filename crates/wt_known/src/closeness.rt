@@ -5,11 +5,12 @@ use wt_checks::{Visit, is_compared};
 use wt_tree::{Kind, Node};
 
 /// What most of the page's blocks do: whether what is below a heading comes directly below it, and whether a list does
-/// that is below a paragraph. No, where the page has none.
+/// that is below a paragraph, and a heading that is below something else than a heading. No, where the page has none.
 #[derive(Clone, Copy)]
 pub struct Closeness {
     pub below_headings: bool,
     pub lists_below_text: bool,
+    pub headings_below_text: bool,
 }
 
 /// How many line breaks are between two places of the page with nothing but blanks between them; None where there is
@@ -69,10 +70,15 @@ fn is_list(kind: Kind) -> bool {
     matches!(kind, Kind::Ul | Kind::Ol | Kind::Dl)
 }
 
+fn is_heading(kind: Kind) -> bool {
+    matches!(kind, Kind::Heading(_))
+}
+
 /// How close the blocks of the page's body are, of which these are the nodes.
 pub fn closeness_of(page: &str, index: &[Visit<'_, '_>]) -> Closeness {
     let mut headings = Pairs::none();
     let mut lists = Pairs::none();
+    let mut sections = Pairs::none();
     let mut above: Option<&Node<'_>> = None;
     for visit in index {
         let node = visit.node;
@@ -81,6 +87,7 @@ pub fn closeness_of(page: &str, index: &[Visit<'_, '_>]) -> Closeness {
                 let breaks = breaks_below(page, above, node);
                 match above.kind {
                     Kind::Heading(_) => headings = headings.with(breaks),
+                    _ if is_heading(node.kind) => sections = sections.with(breaks),
                     Kind::Para if is_list(node.kind) => lists = lists.with(breaks),
                     _ => {}
                 }
@@ -91,5 +98,6 @@ pub fn closeness_of(page: &str, index: &[Visit<'_, '_>]) -> Closeness {
     Closeness {
         below_headings: headings.are_close(),
         lists_below_text: lists.are_close(),
+        headings_below_text: sections.are_close(),
     }
 }

@@ -21,8 +21,20 @@ fn begins_line(page: &str, node: &Node<'_>) -> bool {
     }
 }
 
-/// Whether an edited node is a comment or an include tag that begins a line in the page, in any node or in the one with
-/// this number.
+/// Whether a node of the page is a comment or an include tag, or, where calls count (`with_calls`), one call that gives
+/// nothing.
+fn shows_nothing(node: &Node<'_>, with_calls: bool) -> bool {
+    let children = node.children.as_slice();
+    match children.first() {
+        Some(first) if matches!(node.kind, Kind::Group) => {
+            with_calls && children.len() == 1 && matches!(first.kind, Kind::Empty)
+        }
+        _ => node.kind.is_mark(),
+    }
+}
+
+/// Whether an edited node shows nothing and begins a line in the page, in any node or in the one with this number, where
+/// calls count, too.
 fn is_on_own_line(
     page: &str,
     index: &[Visit<'_, '_>],
@@ -30,7 +42,7 @@ fn is_on_own_line(
     node: &Node<'_>,
 ) -> bool {
     match original(index, node.id) {
-        Some(visit) if node.id != 0 && node.kind.is_mark() => {
+        Some(visit) if node.id != 0 && shows_nothing(visit.node, holder.is_some()) => {
             (holder.is_none() || holder == Some(visit.parent)) && begins_line(page, visit.node)
         }
         _ => false,
@@ -86,7 +98,8 @@ pub fn text_of<'n, 'b>(page: &str, index: &[Visit<'_, '_>], node: &'n Node<'b>) 
     text_in(page, index, None, node)
 }
 
-/// The same of a node of the page that stays: those comments and tags stay in it that the page has in it.
+/// The same of a node of the page that stays: those comments and tags stay in it that the page has in it, and calls that
+/// give nothing.
 pub fn text_of_staying<'n, 'b>(
     page: &str,
     index: &[Visit<'_, '_>],

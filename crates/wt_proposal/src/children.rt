@@ -4,15 +4,16 @@ use crate::proposing::Plan;
 use std::alloc::Global;
 use wt_block_proposal::{Surroundings, push_block, push_if_in_line};
 use wt_block_signs::{USUAL, ends_with_given_sign, goes_on_behind, is_item};
-use wt_checks::is_compared;
+use wt_checks::{is_compared, original};
 use wt_difference::inside;
 use wt_gaps::{
     Along, Coming, Gap, Passed, behind_first, between_coming, comes_along, count_of, empties_row,
     first_block, kind_at_end, kind_at_start, last_number, mark_at, nodes_between, place_behind,
     push_between, push_breaks, push_comment, push_comment_line, push_emptied_row, push_gone,
-    push_new, push_up_to_comment, signs_in, slices_of, style_beside, wanted_between, way_of,
+    push_new, push_up_to_comment, range_of, signs_in, slices_of, style_beside, wanted_between,
+    way_of,
 };
-use wt_known::{Known, last_text};
+use wt_known::{Known, is_at_line_start, last_text};
 use wt_span::{NoMemory, Str};
 use wt_splice::Change;
 use wt_tree::{Kind, Node};
@@ -162,7 +163,8 @@ fn led_by(
     Ok(Some(coming))
 }
 
-/// What came so far, and on the next line a comment that comes along with the last block of it.
+/// What came so far, and a mark that comes along with the last block of it: on the next line, as a comment is, or, as an
+/// include tag may be, in that of the block.
 fn trailed_by(
     known: &Known<'_, '_>,
     coming: Option<Coming>,
@@ -172,11 +174,21 @@ fn trailed_by(
         Some(coming) => coming,
         None => return Ok(None),
     };
-    coming.source.push_str("\n")?;
+    if begins_line(known, comment) {
+        coming.source.push_str("\n")?;
+    }
     push_comment_line(&mut coming.source, known, comment)?;
     coming.is_of_line = false;
-    coming.is_trailed = true;
+    coming.is_trailed = matches!(comment.kind, Kind::Comment);
     Ok(Some(coming))
+}
+
+/// Whether a mark of the page begins a line.
+fn begins_line(known: &Known<'_, '_>, mark: &Node<'_>) -> bool {
+    match original(known.index, mark.id) {
+        Some(visit) => is_at_line_start(known.page, range_of(visit.node).start),
+        None => true,
+    }
 }
 
 /// Whether an item that holds no lists goes on in the line of the one before it, as a definition in that of its term.

@@ -4,6 +4,8 @@
 
 mod along;
 mod children;
+mod lost;
+mod pairs;
 mod proposing;
 
 pub use proposing::{Keeping, proposal};

@@ -8,6 +8,7 @@ ghost use Rattle.wt_places.specs.Rewritten.{IsRewritten};
 
 use crate::along::{comments_along, marks_left};
 use crate::children::push_gap;
+use crate::lost::lose_marks;
 use std::alloc::Global;
 use wt_block_signs::{
     Style, USUAL, ends_with_given_sign, is_bare_sign, is_cell, is_item, is_list,
@@ -551,6 +552,7 @@ fn part_at<'t, 'a>(children: &[Child<'t, 'a>], at: usize) -> Option<&'t Node<'a>
 fn push_blank(
     alloc: Global,
     out: &mut Vec<Change>,
+    known: &Known<'_, '_>,
     new: &Node<'_>,
     part: &Part<'_, '_>,
     is_tight: bool,
@@ -559,6 +561,7 @@ fn push_blank(
     if !is_bare_sign(old)
         || is_tight
         || style_of(part.beside).is_tight
+        || text_of_staying(known.page, known.index, new).is_empty()
         || same_inside(alloc, old, new)?
     {
         return Ok(());
@@ -612,6 +615,7 @@ fn push_children<'t, 'a>(
                 push_blank(
                     alloc,
                     out,
+                    known,
                     child,
                     &part,
                     held.style.is_tight && is_cell(within.kind),
@@ -672,7 +676,9 @@ fn push_node<'t, 'a>(
         number: old.id,
         begun,
         stop: inside_stop(old.ranges),
-        from: inside_count(new),
+        from: text_of_staying(known.page, known.index, new)
+            .len()
+            .min(inside_count(new)),
     };
     push_children(
         alloc,
@@ -718,7 +724,8 @@ fn changes_of<'t, 'a>(
 }
 
 /// A new page for an edited one: the page written anew in the places in which the edited tree differs from
-/// its tree, and nowhere else. Whether it reads as it was edited isn't said. None where no new page was found.
+/// its tree, and nowhere else. Whether it reads as it was edited isn't said. None where no new page was found, or a comment
+/// or an include tag after a heading's last sign would be lost.
 /// `index` are the body and the nodes of the page with numbers (`numbered_nodes`).
 pub fn proposal<'t, 'a>(
     alloc: Global,
@@ -731,6 +738,9 @@ pub fn proposal<'t, 'a>(
     requires { indexed index.now ≡ page_of (view tree.now) }
     ensures { IfOk result (λ o. IfSome o (λ new. IsRewritten page.now (view tree.now) (view edited.now) new)) }
 {
+    if lose_marks(alloc, index, edited.children.as_slice())? {
+        return Ok(None);
+    }
     let changes = changes_of(alloc, page, index, tree, edited, keeping)?;
     let places = places(alloc, index, tree, edited)?;
     tested(alloc, page, changes.as_slice(), places.as_slice())

@@ -3,7 +3,7 @@
 
 use crate::texts::push_nowiki;
 use std::alloc::Global;
-use wt_guards::{Role, Stretch, Thing, Unit};
+use wt_guards::{Role, Stretch, Thing, Transclusion, Unit};
 use wt_span::{NoMemory, Str};
 use wt_tree::Place;
 
@@ -590,19 +590,25 @@ fn meeting(units: &[Unit<'_>], at: usize) -> Option<Stretch> {
     }
 }
 
+/// Whether a group begins or ends with an apostrophe.
+fn has_apostrophe(group: Transclusion) -> bool {
+    group.opens_with_apostrophe || group.closes_with_apostrophe
+}
+
 /// Where a group that begins or ends with an apostrophe meets a blank or a line break, which joins none: a place in the page.
 fn blank_beside(units: &[Unit<'_>], at: usize) -> Option<Stretch> {
     let left = before(units, at)?;
     let right = units.get(at)?;
     if let Some((Role::Group(group), place)) = placed(Some(left))
-        && group.closes_with_apostrophe
-        && (begins_with_space(right) || is_break(right))
+        && ((group.closes_with_apostrophe && begins_with_space(right))
+            || (has_apostrophe(group) && is_break(right)))
     {
         return Some(behind(place.end));
     }
     match placed(Some(right)) {
         Some((Role::Group(group), place))
-            if group.opens_with_apostrophe && (ends_with_space(left) || is_break(left)) => {
+            if (group.opens_with_apostrophe && ends_with_space(left))
+                || (has_apostrophe(group) && is_break(left)) => {
             Some(Stretch {
                 start: 0,
                 end: place.start,
@@ -661,6 +667,16 @@ fn ended_brace(spot: Option<InsidePlace<'_>>, units: &[Unit<'_>]) -> Option<usiz
     } else {
         None
     }
+}
+
+/// Whether a heading ends with a blank of the page, which would be none of its text.
+fn ends_with_page_blank(spot: Option<InsidePlace<'_>>, units: &[Unit<'_>]) -> bool {
+    let (Some(spot), Some(Unit::Thing(thing))) = (spot, units.last()) else {
+        return false;
+    };
+    let is_text = matches!(thing.role, Role::Node) && thing.place.is_some();
+    let last = thing.source.as_str().as_bytes().last();
+    matches!(spot.place, Place::Heading) && is_text && last.is_some_and(|byte| is_blank(*byte))
 }
 
 /// Where a joint comes before a unit, its place in the page.
@@ -726,7 +742,8 @@ pub fn with_joints<'n>(
         push_before(alloc, &mut out, spot, units, at)?;
         out.push(copy_of(alloc, &units[at])?)?;
     }
-    if !units.is_empty() && is_at_start(spot, units, units.len()) {
+    let is_open = !units.is_empty() && is_at_start(spot, units, units.len());
+    if is_open || ends_with_page_blank(spot, units) {
         push_nowiki(alloc, &mut out)?;
     }
     if let Some(end) = ended_brace(spot, units) {
