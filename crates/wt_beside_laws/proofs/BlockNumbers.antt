@@ -15,7 +15,7 @@ use Rattle.wt_annotated.specs.Numbering.{number_of, next_after, count, count_all
 use Rattle.wt_annotated.specs.WithoutCalls.{placed}
 use Rattle.wt_annotated.proofs.CutNumbered.{cut_numbered}
 use Rattle.wt_annotated.proofs.CutTexts.{BareInside}
-use Rattle.wt_moved_laws.specs.Standing.{standing}
+use Rattle.wt_part_laws.specs.Standing.{standing}
 use Rattle.wt_original.specs.Kept.{Kept, KeptNode, items, visible, is_delimited, holds_kept, found_at, found_if, found_from, found_in, kept_of, kept_nodes}
 use Rattle.wt_original.specs.Numbers.{counts_up}
 use Rattle.wt_beside_laws.proofs.BareLeaves.{placed_bare, HasBareLeaves, AllBareLeaves, cut_leaves}

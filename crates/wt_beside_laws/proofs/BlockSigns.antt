@@ -12,7 +12,7 @@ use Rattle.wt_inline.specs.ItemTree.{plain, ItemTree, inner, forest}
 use Rattle.wt_inline.specs.Parts.{Part, children}
 use Rattle.wt_annotated.specs.Labels.{label_at}
 use Rattle.wt_link_spelling.specs.Spelling.{signs_of_all, children_of}
-use Rattle.wt_moved_laws.specs.Standing.{standing}
+use Rattle.wt_part_laws.specs.Standing.{standing}
 use Rattle.wt_original.specs.Kept.{KeptNode, found_from, found_in}
 use Rattle.wt_original.specs.Page.{page_of, TellsSame}
 use Rattle.wt_typed_blocks.specs.Sent.{Block, paragraph, heading, kind_of}

@@ -15,7 +15,7 @@ use Rattle.wt_guards.specs.Content.{ContentSign, letter, thing}
 use Rattle.wt_guards.specs.Guards.{Setting, nowiki, nowiki_if, is_guarded, spelled_from, spelled}
 use Rattle.wt_guards.specs.Letters.{is_bracket, is_escaped, reference, written_by}
 use Rattle.wt_guards.proofs.Escapes.{is_escapable, escapable, each_escapable}
-use Rattle.wt_spelling_laws.proofs.TextReads.{bracket_escaped, not_bracket}
+use Rattle.wt_typed_blocks.proofs.TextReads.{bracket_escaped, not_bracket}
 use Rattle.wt_expand.specs.PageItems.{page_items}
 use Rattle.wt_expand.specs.PageCalls.{expanded_page}
 use Rattle.wt_expand.specs.Work.{Pages, first_refusal}

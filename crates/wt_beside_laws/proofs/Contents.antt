@@ -17,8 +17,8 @@ use Rattle.wt_guards.specs.Content.{ContentSign, letter, thing}
 use Rattle.wt_guards.specs.Letters.{is_bracket, is_escaped, reference, written_by}
 use Rattle.wt_guards.specs.Guards.{Setting, nowiki, nowiki_if, spelled_from}
 use Rattle.wt_guards.proofs.Escapes.{is_escapable, escapable}
-use Rattle.wt_spelling_laws.proofs.Forms.{comment_other, comment_not, other_byte, equals_byte, IsTame, less_byte, and_byte, nowiki_form, reference_form}
-use Rattle.wt_spelling_laws.proofs.TextReads.{Begins, unguarded, bracket_escaped, not_bracket, equal_or, apart}
+use Rattle.wt_typed_blocks.proofs.Forms.{comment_other, comment_not, other_byte, equals_byte, IsTame, less_byte, and_byte, nowiki_form, reference_form}
+use Rattle.wt_typed_blocks.proofs.TextReads.{Begins, unguarded, bracket_escaped, not_bracket, equal_or, apart}
 use Rattle.wt_text_edit_laws.specs.LonePages.{page_chars}
 use Rattle.wt_text_edit_laws.proofs.Prose.InFront.{Reads, reads_byte, reads_form}
 use Rattle.wt_text_edit_laws.proofs.Prose.Uncommented.{uncommented_other}

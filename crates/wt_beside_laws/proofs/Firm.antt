@@ -10,8 +10,8 @@ use Rattle.wt_span.specs.Items.{Item, char}
 use Rattle.wt_span.specs.Lexemes.{sign_word, cuts, form_at}
 use Rattle.wt_lex.specs.Words.{is_form_byte}
 use Rattle.wt_expand.specs.PageItems.{page_items}
-use Rattle.wt_spelling_laws.proofs.Forms.{comment_other, other_byte, equals_byte}
-use Rattle.wt_spelling_laws.proofs.TextReads.{or_parts, equal_or, apart}
+use Rattle.wt_typed_blocks.proofs.Forms.{comment_other, other_byte, equals_byte}
+use Rattle.wt_typed_blocks.proofs.TextReads.{or_parts, equal_or, apart}
 use Rattle.wt_text_edit_laws.specs.LonePages.{page_chars}
 use Rattle.wt_text_edit_laws.proofs.Between.Fronts.{first_from, byte_from, form_from}
 use Rattle.wt_text_edit_laws.proofs.Prose.InFront.{Reads, reads_nothing, reads_byte, reads_form, read_items}

@@ -23,7 +23,7 @@ use Rattle.wt_isolation.specs.OpenTags.{ends_open}
 use Rattle.wt_expand.specs.PageItems.{page_items}
 use Rattle.wt_beside_laws.proofs.NodeItems.{node_as, node_sources}
 use Rattle.wt_lines.specs.Lines.{AreLines, IsUnbroken}
-use Rattle.wt_spelling_laws.proofs.Forms.{comment_other, nowiki_form, reference_form}
+use Rattle.wt_typed_blocks.proofs.Forms.{comment_other, nowiki_form, reference_form}
 use Rattle.wt_tiles.specs.declared.glyph.Glyph.{Glyph}
 use Rattle.wt_tiles.specs.declared.glyph.Glyph.TheVariants as glyph
 use Rattle.wt_tiles.specs.declared.shape.Shape.{Shape}

@@ -7,8 +7,8 @@ use Rattle.wt_annotated.proofs.Widths.{sources_append}
 use Rattle.wt_guards.specs.Content.{ContentSign, letter, thing}
 use Rattle.wt_lines.specs.Lines.{lines, AreLines}
 use Rattle.wt_lines.proofs.LineLaws.{lines_are}
-use Rattle.wt_scans.specs.Lexer.{lexer}
-use Rattle.wt_scans.specs.Scans.{after_all}
+use Rattle.wt_part_laws.specs.Lexer.{lexer}
+use Rattle.wt_part_laws.specs.Scans.{after_all}
 use Rattle.wt_expand.specs.PageItems.{page_items}
 use Rattle.wt_expand.proofs.PageLaws.{page_sources}
 use Rattle.wt_tiles.specs.declared.shape.Shape.{Shape}

@@ -12,8 +12,8 @@ use Rattle.wt_tree.specs.declared.edit_shape.Place.TheVariants as place
 use Rattle.wt_guards.specs.Content.{ContentSign, letter, thing}
 use Rattle.wt_guards.specs.Guards.{Setting, is_guarded, spelled}
 use Rattle.wt_guards.specs.Letters.{is_escaped}
-use Rattle.wt_spelling_laws.proofs.Lines.{end_guarded}
-use Rattle.wt_spelling_laws.proofs.TextKinds.{OpensText}
+use Rattle.wt_typed_blocks.proofs.Lines.{end_guarded}
+use Rattle.wt_typed_blocks.proofs.TextKinds.{OpensText}
 use Rattle.wt_expand.specs.PageItems.{page_items}
 use Rattle.wt_lines.specs.Lines.{IsUnbroken}
 use Rattle.wt_text_edit_laws.specs.LonePages.{page_chars}

@@ -19,9 +19,9 @@ use Rattle.wt_guards.specs.Content.{ContentSign, Thing, letter, thing, nearest, 
 use Rattle.wt_guards.specs.Guards.{Setting, is_guarded, is_between_guard, is_start_guard, is_line_start, is_empty_line, is_line_mark_next, is_line_begun, is_start_hazard, is_new_at_start, is_new_next, is_end_guard, is_blank_guard, is_mark as is_mark_role}
 use Rattle.wt_guards.specs.Table.{line_start_hazard}
 use Rattle.wt_guards.specs.Letters.{is_bracket, is_escaped}
-use Rattle.wt_spelling_laws.proofs.TextReads.{bracket_escaped, not_bracket}
-use Rattle.wt_spelling_laws.proofs.Lines.{is_free, may_begin, both, unguarded_begins, end_guarded}
-use Rattle.wt_spelling_laws.proofs.TextKinds.{OpensText, opens_kind, opens_text, atom_opens}
+use Rattle.wt_typed_blocks.proofs.TextReads.{bracket_escaped, not_bracket}
+use Rattle.wt_typed_blocks.proofs.Lines.{is_free, may_begin, both, unguarded_begins, end_guarded}
+use Rattle.wt_typed_blocks.proofs.TextKinds.{OpensText, opens_kind, opens_text, atom_opens}
 use Rattle.wt_tiles.specs.declared.glyph.Glyph.{Glyph}
 use Rattle.wt_tiles.specs.declared.glyph.Glyph.TheVariants as glyph
 use Rattle.wt_tiles.specs.declared.shape.Shape.{Shape}

@@ -11,7 +11,7 @@ use Rattle.wt_lines.specs.declared.kind.TheConstants.{MOST_TABLES}
 use Rattle.wt_lines.specs.Lines.{content, empty_end, is_break_item, goes_on}
 use Rattle.wt_lines.specs.Kinds.{kind_of_signs, line_kind}
 use Rattle.wt_tables.specs.Extents.{behind}
-use Rattle.wt_headings.specs.Lines.{ending}
+use Rattle.wt_page.specs.Lines.{ending}
 use Rattle.wt_inline.specs.ItemTree.{plain, ItemTree, inner, nothing, further, forest}
 use Rattle.wt_inline.specs.Parts.{Part, children}
 use Rattle.wt_page.specs.Rows.{Row, marks_len, whole_row, line_rows, rows_from, last_ending}

@@ -14,7 +14,7 @@ use Rattle.wt_guards.specs.declared.role.Role.TheVariants.{Link, External, Bare,
 use Rattle.wt_guards.specs.Content.{ContentSign, Thing, letter, thing, nearest}
 use Rattle.wt_guards.specs.Guards.{Setting, nowiki, is_guarded}
 use Rattle.wt_guards.specs.Letters.{is_escaped, is_next, is_apostrophe_or_end, reference}
-use Rattle.wt_spelling_laws.proofs.TextReads.{or_parts}
+use Rattle.wt_typed_blocks.proofs.TextReads.{or_parts}
 use Rattle.wt_inline.specs.declared.loose.Loose.TheVariants.{Text}
 use Rattle.wt_inline.specs.Parts.{Part, part, parts}
 use Rattle.wt_tiles.specs.declared.glyph.Glyph.{Glyph}

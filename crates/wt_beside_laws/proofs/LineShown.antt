@@ -20,8 +20,8 @@ use Rattle.wt_annotated.specs.CutTexts.{all_cut_texts}
 use Rattle.wt_annotated.specs.Labels.{label_at}
 use Rattle.wt_annotated.specs.Numbering.{count, all_with_numbers}
 use Rattle.wt_annotated.specs.WithoutCalls.{placed, all_placed}
-use Rattle.wt_moved_laws.specs.Standing.{standing}
-use Rattle.wt_moved_laws.proofs.Moved.{shows_the_same}
+use Rattle.wt_part_laws.specs.Standing.{standing}
+use Rattle.wt_part_laws.proofs.Moved.{shows_the_same}
 use Rattle.wt_text_edit_laws.specs.LonePages.{page_chars}
 use Rattle.wt_beside_laws.specs.Content.{guard_items, letter_items}
 use Rattle.wt_beside_laws.specs.Shown.{parts_shown_at}

@@ -4,7 +4,7 @@ use Rattle.wt_span.specs.declared.form.Mode.TheVariants.{Page}
 use Rattle.wt_span.specs.Items.{Item, char, sources}
 use Rattle.wt_expand.specs.PageItems.{page_items}
 use Rattle.wt_expand.proofs.PageLaws.{page_sources}
-use Rattle.wt_spelling_laws.proofs.Forms.{other_byte}
+use Rattle.wt_typed_blocks.proofs.Forms.{other_byte}
 use Rattle.wt_text_edit_laws.proofs.Between.Fronts.{ReadsAfter, reads_after, reads_either, alone_reads, first_items, items_from, first_from, byte_from}
 use Rattle.wt_text_edit_laws.proofs.Prose.InFront.{reads_nothing}
 use Rattle.wt_text_edit_laws.proofs.Prose.Uncommented.{BeginsUncommented}

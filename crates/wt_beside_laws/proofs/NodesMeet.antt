@@ -11,7 +11,7 @@ use Rattle.wt_guards.specs.Content.{ContentSign, Thing, letter, thing, side_of}
 use Rattle.wt_guards.specs.Table.{hazard, is_trail}
 use Rattle.wt_guards.specs.Guards.{Setting, left_side, is_guarded, is_between_guard}
 use Rattle.wt_guards.specs.Letters.{is_escaped}
-use Rattle.wt_spelling_laws.proofs.TextReads.{or_parts}
+use Rattle.wt_typed_blocks.proofs.TextReads.{or_parts}
 use Rattle.wt_tiles.specs.declared.glyph.Glyph.{Glyph}
 use Rattle.wt_tiles.specs.declared.glyph.Glyph.TheVariants as glyph
 use Rattle.wt_tiles.specs.declared.glyph.GlyphClass.TheVariants as class

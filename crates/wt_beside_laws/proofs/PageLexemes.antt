@@ -16,7 +16,7 @@ use Rattle.wt_span.specs.Items.{Item, char, whole, items_by}
 use Rattle.wt_span.specs.Lexemes.{Word, words, sign_word, form_at}
 use Rattle.wt_lex.proofs.AllForms.{form_fits}
 use Rattle.wt_expand.specs.PageItems.{raw_form_by, items_of_word, items_of_words, page_items}
-use Rattle.wt_spelling_laws.proofs.Forms.{comment_other}
+use Rattle.wt_typed_blocks.proofs.Forms.{comment_other}
 use Rattle.wt_text_edit_laws.proofs.Prose.Uncommented.{uncommented_other}
 use Rattle.wt_beside_laws.specs.NodeItems.{node_items}
 use Rattle.wt_beside_laws.proofs.NodeItems.{behind_break, node_same}

@@ -10,7 +10,7 @@ use Rattle.wt_guards.specs.declared.role.Stretch.{Stretch}
 use Rattle.wt_guards.specs.Content.{ContentSign, Thing, letter, thing, side_of, ends_line, is_function}
 use Rattle.wt_guards.specs.Guards.{Setting, end_of, start_of, is_reached, has_brace_last, is_mark, is_always_parted, is_adjacent, left_side, is_parted, is_between_guard, is_guarded}
 use Rattle.wt_guards.specs.Table.{hazard}
-use Rattle.wt_spelling_laws.proofs.TextReads.{or_parts}
+use Rattle.wt_typed_blocks.proofs.TextReads.{or_parts}
 use Rattle.wt_text_edit_laws.proofs.Between.Fronts.{reads_after}
 use Rattle.wt_text_edit_laws.proofs.Prose.InFront.{reads_nothing}
 use Rattle.wt_span.specs.Items.{Item}

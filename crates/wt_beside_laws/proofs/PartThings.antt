@@ -26,9 +26,9 @@ use Rattle.wt_annotated.specs.CutTexts.{all_cut_texts}
 use Rattle.wt_annotated.specs.Labels.{label_at}
 use Rattle.wt_annotated.specs.Numbering.{number_of, count, all_with_numbers}
 use Rattle.wt_annotated.specs.WithoutCalls.{placed, all_placed}
-use Rattle.wt_moved_laws.specs.Standing.{standing}
-use Rattle.wt_moved_laws.proofs.Moved.{shows_the_same}
-use Rattle.wt_moved_laws.proofs.Sources.{standing_source}
+use Rattle.wt_part_laws.specs.Standing.{standing}
+use Rattle.wt_part_laws.proofs.Moved.{shows_the_same}
+use Rattle.wt_part_laws.proofs.Sources.{standing_source}
 use Rattle.wt_original.specs.Kept.{Kept, KeptNode, items, visible, found_at, found_from, found_in, kept_of, role_of}
 use Rattle.wt_original.specs.Page.{page_of}
 use Rattle.wt_original.specs.declared.block.Extent.{Extent}

@@ -26,8 +26,8 @@ use Rattle.wt_context.specs.Heads.{glyphs, placeholder, link_head, category_head
 use Rattle.wt_context.specs.Nodes.{opening_of, bare_url, nested_tree}
 use Rattle.wt_context.specs.declared.node.Nested.TheVariants as nested
 use Rattle.wt_annotated.specs.Labels.{label_at}
-use Rattle.wt_moved_laws.specs.Standing.{standing}
-use Rattle.wt_moved_laws.proofs.Sources.{standing_source}
+use Rattle.wt_part_laws.specs.Standing.{standing}
+use Rattle.wt_part_laws.proofs.Sources.{standing_source}
 use Rattle.wt_original.specs.Kept.{url, island, role_by, role_of, shown}
 use Rattle.wt_original.specs.declared.block.Extent.{Extent}
 use Rattle.wt_beside_laws.specs.PageSigns.{form_role}

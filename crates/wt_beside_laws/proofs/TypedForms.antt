@@ -10,7 +10,7 @@ use Rattle.wt_names.proofs.Ascii.{IsWide, encode_wide, encode_some}
 use Rattle.wt_guards.specs.Content.{ContentSign, letter, thing, nearest}
 use Rattle.wt_guards.specs.Letters.{is_bracket, is_escaped, opens_tag}
 use Rattle.wt_guards.specs.Guards.{Setting, is_guarded}
-use Rattle.wt_spelling_laws.proofs.TextReads.{bracket_escaped, not_bracket, equal_or, or_parts}
+use Rattle.wt_typed_blocks.proofs.TextReads.{bracket_escaped, not_bracket, equal_or, or_parts}
 use Rattle.wt_tiles.specs.declared.context.Context.{Context}
 use Rattle.wt_tiles.specs.declared.glyph.Glyph.{Glyph}
 use Rattle.wt_tiles.specs.declared.glyph.Glyph.TheVariants as glyph

@@ -25,7 +25,7 @@ use Rattle.wt_context.specs.Nodes.{opening_of, inside_of, bare_url}
 use Rattle.wt_annotated.specs.Labels.{label_at}
 use Rattle.wt_annotated.specs.Numbering.{count}
 use Rattle.wt_annotated.specs.WithoutCalls.{placed}
-use Rattle.wt_moved_laws.specs.Standing.{standing}
+use Rattle.wt_part_laws.specs.Standing.{standing}
 use Rattle.wt_original.specs.Kept.{shown, shown_in}
 use Rattle.wt_beside_laws.proofs.PartThings.{nodes_of}
 use Rattle.wt_beside_laws.proofs.UrlTiles.{both_some}

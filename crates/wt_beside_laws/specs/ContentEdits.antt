@@ -5,7 +5,7 @@ use Rattle.wt_tree.specs.Tree.{Label, Tree, label}
 use Rattle.wt_content.specs.Content.{bad_content}
 use Rattle.wt_link_spelling.specs.Spelling.{inline_spelling}
 use Rattle.wt_visible.specs.SameNodes.{same_node}
-use Rattle.wt_moved_laws.specs.Standing.{standing}
+use Rattle.wt_part_laws.specs.Standing.{standing}
 use Rattle.wt_typed_blocks.specs.Edited.{Pieces, Edited, edited, page_node, sent_node, edited_before}
 use Rattle.wt_typed_blocks.specs.EditedPage.{edited_source}
 use Rattle.wt_typed_blocks.specs.EditedUnmarked.{AreInline}

@@ -15,7 +15,7 @@ use Rattle.wt_lines.specs.Lines.{lines}
 use Rattle.wt_inline.specs.ItemTree.{ItemTree}
 use Rattle.wt_difference.specs.Difference.{same_inside}
 use Rattle.wt_visible.specs.SameNodes.{same_node}
-use Rattle.wt_moved_laws.specs.Standing.{standing}
+use Rattle.wt_part_laws.specs.Standing.{standing}
 use Rattle.wt_typed_blocks.specs.Sent.{paragraph}
 use Rattle.wt_typed_blocks.specs.Edited.{Pieces, no_pieces, gone, written, kept, around, new_style, page_pieces, sent_pieces, PiecesStay, edited, Edits, no_edits, more_edits, sent_body}
 use Rattle.wt_typed_blocks.specs.EditedUnmarked.{bare_node, bare_body, AreInline}

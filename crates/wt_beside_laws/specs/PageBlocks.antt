@@ -17,7 +17,7 @@ use Rattle.wt_inline.specs.Parts.{children}
 use Rattle.wt_context.specs.Line.{context_parts}
 use Rattle.wt_context.specs.Nodes.{segments}
 use Rattle.wt_context.specs.RunCuts.{has_run}
-use Rattle.wt_moved_laws.specs.Standing.{standing}
+use Rattle.wt_part_laws.specs.Standing.{standing}
 use Rattle.wt_original.specs.declared.block.Extent.{Extent}
 use Rattle.wt_original.specs.Kept.{began_line}
 use Rattle.wt_original.specs.Page.{Page}

@@ -10,7 +10,7 @@ use Rattle.wt_link_spelling.specs.Spelling.{children_of}
 use Rattle.wt_expand.specs.PageItems.{page_items}
 use Rattle.wt_inline.specs.ItemTree.{forest}
 use Rattle.wt_inline.specs.Parts.{children}
-use Rattle.wt_called_trees.specs.Rounded.{AllHaveItems}
+use Rattle.wt_part_laws.specs.Rounded.{AllHaveItems}
 use Rattle.wt_typed_blocks.specs.Edited.{Pieces, page_pieces, PiecesStay}
 use Rattle.wt_text_edit_laws.specs.Contents.{IsContentOf, content_parts_of}
 use Rattle.wt_text_edit_laws.specs.NoCalls.{CallsNothing}

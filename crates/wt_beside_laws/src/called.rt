@@ -18,7 +18,7 @@ ghost use Rattle.wt_annotated.specs.Annotated.{all_unplaced};
 ghost use Rattle.wt_annotated.specs.CutTexts.{cut_texts};
 ghost use Rattle.wt_isolation.specs.GroupItems.{with_break_anew, empty_nowiki};
 ghost use Rattle.wt_selser.specs.GroupFaults.{paragraph_face, is_faulty};
-ghost use Rattle.wt_called_trees.specs.HeldCalls.{block_in, HoldsItsCalls, block_of_texts};
+ghost use Rattle.wt_part_laws.specs.HeldCalls.{block_in, HoldsItsCalls, block_of_texts};
 ghost use Rattle.wt_text_edit_laws.specs.ParagraphBetween.{EndsApart, EndsParagraph, blocks_in, body_with};
 ghost use Rattle.wt_text_edit_laws.specs.ParagraphParts.{joined_parts, para_with};
 ghost use Rattle.wt_text_edit_laws.specs.LonePages.{page_chars};

@@ -19,7 +19,7 @@ use Rattle.wt_tiles.specs.declared.tile.Tile.{Tile}
 use Rattle.wt_page.specs.Rows.{signs}
 use Rattle.wt_page.specs.Lists.{is_bare, seen_signs, colon_at, term_len}
 use Rattle.wt_build.specs.SeenSigns.{seen_sign, seen_by}
-use Rattle.wt_headings.proofs.LowSigns.{low_sign}
+use Rattle.wt_page.proofs.LowSigns.{low_sign}
 
 abbrev is_other : ℕ → Bool
 is_other s = not (s == 58)

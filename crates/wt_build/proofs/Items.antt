@@ -16,7 +16,7 @@ use Rattle.wt_context.specs.Line.{line_parts}
 use Rattle.wt_page.specs.Rows.{Row, signs}
 use Rattle.wt_page.specs.Stretches.{gap, block, tree_block, opened_by}
 use Rattle.wt_page.specs.Lists.{prefix_of, item_opening_len, term_len, item_kind, item_by, line_item}
-use Rattle.wt_headings.proofs.LowSigns.{low_sign}
+use Rattle.wt_page.proofs.LowSigns.{low_sign}
 
 -- ---- where an open delimiter ends
 

@@ -14,7 +14,7 @@ use Rattle.wt_context.specs.Line.{line_parts}
 use Rattle.wt_page.specs.Rows.{Row, signs}
 use Rattle.wt_page.specs.Texts.{skipped, later_pre}
 use Rattle.wt_rows.specs.Views.{slice}
-use Rattle.wt_headings.proofs.LowSigns.{form_low}
+use Rattle.wt_page.proofs.LowSigns.{form_low}
 use Rattle.wt_rows.proofs.Straying.{slices_join}
 
 -- ---- slices that follow one another

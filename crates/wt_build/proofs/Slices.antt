@@ -5,7 +5,7 @@ use Rattle.std.proofs.lemmas.List.Elements.{All-take, All-drop}
 use Rattle.wt_span.specs.declared.form.Piece.{Piece}
 use Rattle.wt_span.specs.Origins.{IsSoundPiece}
 use Rattle.wt_lines.specs.Pieces.{AllParted}
-use Rattle.wt_headings.proofs.Pieces.{parted_rest, parted_front}
+use Rattle.wt_page.proofs.Pieces.{parted_rest, parted_front}
 use Rattle.wt_rows.specs.Views.{slice}
 
 pub sound_slice : (ps q : List Piece) (a b : ℕ) → All IsSoundPiece ps → q ≡ slice a b ps → All IsSoundPiece q

@@ -10,7 +10,7 @@ use Rattle.wt_build.specs.declared.text.TextKind.TheVariants as text
 use Rattle.wt_span.specs.declared.form.Piece.{Piece}
 use Rattle.wt_tables.specs.Parts.{unit_kind}
 use Rattle.wt_inline.specs.ItemTree.{ItemTree}
-use Rattle.wt_headings.specs.Headings.{heading}
+use Rattle.wt_page.specs.Headings.{heading}
 use Rattle.wt_page.specs.Rows.{Row, kind_of, signs}
 use Rattle.wt_page.specs.Stretches.{Stretch}
 use Rattle.wt_page.specs.Texts.{later_parts, later_line, later_pre, para, pre, rule}

@@ -4,8 +4,8 @@ use Rattle.wt_selser.specs.declared.refusal.EditRefusal.{EditRefusal}
 use Rattle.wt_selser.specs.declared.refusal.EditRefusal.TheVariants as of_edit
 use Rattle.wt_unmarked_edit.specs.Found.{IsOfNewPage, late_refusal, refusal_of_fault}
 use Rattle.wt_new_page.specs.declared.asked.Fault.{Fault}
-use Rattle.wt_selser_refusal.specs.declared.refusal.SelserRefusal.{SelserRefusal}
-use Rattle.wt_selser_refusal.specs.declared.refusal.SelserRefusal.TheVariants as refusal
+use Rattle.wt_edit.specs.declared.selser_refusal.SelserRefusal.{SelserRefusal}
+use Rattle.wt_edit.specs.declared.selser_refusal.SelserRefusal.TheVariants as refusal
 use Rattle.wt_commands.specs.Refusals.{refusal_of_edit, refusal_of_selser, status_of}
 use Rattle.wt_commands.specs.declared.status.Status.TheVariants as status
 

@@ -9,7 +9,7 @@ use Rattle.wt_difference.proofs.UneditedLaws.{nothing_differs}
 use Rattle.wt_expand.specs.Work.{Pages}
 use Rattle.wt_page_round_trip.specs.PageTree.{page_tree}
 use Rattle.wt_page_round_trip.proofs.PageTrees.{page_numbered}
-use Rattle.wt_round_trip.specs.Written.{unranged}
+use Rattle.wt_schema.specs.Written.{unranged}
 use Rattle.wt_visible.specs.Restored.{restored_from}
 use Rattle.wt_commands.specs.Answers.{done, html_answer}
 use Rattle.wt_pagetool.specs.Selser.{IsUnchanged}

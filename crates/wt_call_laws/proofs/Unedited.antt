@@ -21,12 +21,12 @@ use Rattle.wt_selser.specs.Leaves.{AllLeavesHoldNoNumber, LeavesHoldNoNumber}
 use Rattle.wt_commands.specs.Answers.{refusal_of_page, remarked_of}
 use Rattle.wt_commands.proofs.LeavesLaws.{page_leaves}
 use Rattle.wt_commands.proofs.ShownLaws.{page_body}
-use Rattle.wt_html_laws.proofs.OneBody.{read_is_one_body}
+use Rattle.wt_page_round_trip.proofs.OneBody.{read_is_one_body}
 use Rattle.wt_pagetool.specs.Rewrites.{WroteSelser}
 use Rattle.wt_span.specs.declared.limits.TheConstants.{PAGE_BYTES}
-use Rattle.wt_turn_laws.specs.Untouched.{AllLeavesAreBare, IsWholePage, LeavesAreBare}
-use Rattle.wt_turn_laws.proofs.Alone.{unedited_untouched}
-use Rattle.wt_turn_laws.proofs.Bytes.{untouched_stay}
+use Rattle.wt_call_laws.specs.Untouched.{AllLeavesAreBare, IsWholePage, LeavesAreBare}
+use Rattle.wt_call_laws.proofs.Alone.{unedited_untouched}
+use Rattle.wt_call_laws.proofs.Bytes.{untouched_stay}
 use Rattle.wt_call_laws.specs.KeptBytes.{KeepsUnedited}
 
 -- ---- the tree of a page

@@ -6,7 +6,7 @@ use Rattle.wt_checks.specs.Places.{page_of}
 use Rattle.wt_difference.specs.Unedited.{IsUnedited}
 use Rattle.wt_places.specs.Places.{gap_end}
 use Rattle.wt_splice.specs.Splice.{between}
-use Rattle.wt_turn_laws.specs.Untouched.{HasBytes, IsNumberedBehind, StaysAt}
+use Rattle.wt_call_laws.specs.Untouched.{HasBytes, IsNumberedBehind, StaysAt}
 
 -- Those of each node that stays in its turn, and so on up to the body, and that is the page's own; of a cell those that come after
 -- its sign. In the node no text comes after an inside.

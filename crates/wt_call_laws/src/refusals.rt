@@ -3,7 +3,7 @@ ghost use Rattle.std.specs.Prelude.{◌≡◌, ◌⊎◌, List, ℕ, Ok, Err};
 ghost use Rattle.wt_selser.specs.declared.refusal.EditRefusal.{EditRefusal};
 ghost use Rattle.wt_unmarked_edit.specs.Found.{IsOfNewPage, late_refusal, refusal_of_fault};
 ghost use Rattle.wt_new_page.specs.declared.asked.Fault.{Fault};
-ghost use Rattle.wt_selser_refusal.specs.declared.refusal.SelserRefusal.{SelserRefusal};
+ghost use Rattle.wt_edit.specs.declared.selser_refusal.SelserRefusal.{SelserRefusal};
 ghost use Rattle.wt_commands.specs.Refusals.{refusal_of_edit, refusal_of_selser, status_of};
 ghost use Rattle.wt_commands.specs.declared.status.Status.TheVariants as status;
 

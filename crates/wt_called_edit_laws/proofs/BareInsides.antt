@@ -23,7 +23,7 @@ use Rattle.wt_annotated.specs.GroupParts.{Part}
 use Rattle.wt_annotated.specs.Grouped.{Grouped, kept, group, GroupedAll, ended, along}
 use Rattle.wt_annotated.specs.Labels.{label_at}
 use Rattle.wt_annotated.specs.WithoutCalls.{inside_by}
-use Rattle.wt_moved_laws.specs.Placeless.{placeless, all_placeless}
+use Rattle.wt_part_laws.specs.Placeless.{placeless, all_placeless}
 
 -- a leaf holds nothing, and a group what has no numbers and places
 abbrev mutual

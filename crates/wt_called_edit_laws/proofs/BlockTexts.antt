@@ -23,7 +23,7 @@ use Rattle.wt_annotated.proofs.Ends.{none_after}
 use Rattle.wt_annotated.proofs.Seams.{before_call, after_call, free_is, before_more, after_first, page_is}
 use Rattle.wt_annotated.proofs.Tiles.{flat_numbered}
 use Rattle.wt_annotated.proofs.Walks.{walk_all}
-use Rattle.wt_called_trees.specs.HeldCalls.{HoldsItsCalls, block_in}
+use Rattle.wt_part_laws.specs.HeldCalls.{HoldsItsCalls, block_in}
 use Rattle.wt_called_edit_laws.proofs.TextsMake.{flat_same}
 use Rattle.wt_span.specs.Cuts.{call_of_item}
 

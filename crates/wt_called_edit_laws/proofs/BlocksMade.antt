@@ -10,10 +10,10 @@ use Rattle.wt_checks.specs.Kept.{children}
 use Rattle.wt_content.specs.Content.{bad_content}
 use Rattle.wt_link_spelling.specs.Spelling.{inline_spelling, children_of}
 use Rattle.wt_visible.specs.SameNodes.{same_node}
-use Rattle.wt_moved_laws.specs.Placeless.{placeless}
-use Rattle.wt_moved_laws.specs.Standing.{standing}
-use Rattle.wt_moved_laws.proofs.Placeless.{shown_placeless}
-use Rattle.wt_moved_laws.proofs.Sources.{standing_source}
+use Rattle.wt_part_laws.specs.Placeless.{placeless}
+use Rattle.wt_part_laws.specs.Standing.{standing}
+use Rattle.wt_part_laws.proofs.Placeless.{shown_placeless}
+use Rattle.wt_part_laws.proofs.Sources.{standing_source}
 use Rattle.wt_typed_blocks.specs.Sent.{Block, paragraph, heading, kind_of, text_in}
 use Rattle.wt_typed_blocks.specs.Typed.{place_of, block_source, Takes}
 use Rattle.wt_typed_blocks.specs.Edited.{Pieces, no_pieces, gone, written, kept, around, new_style, page_pieces, sent_pieces, text_node, pieces_before, Edited, stays, edited, round, Edits, no_edits, more_edits, page_node, page_nodes}
@@ -40,7 +40,7 @@ use Rattle.wt_called_edit_laws.specs.Nodes.{block_at}
 use Rattle.wt_called_edit_laws.specs.Retyped.{AreRetyped}
 use Rattle.wt_called_edit_laws.specs.Sends.{BlockSent, Sends, AllSend, MakesNode, BlocksMake}
 use Rattle.wt_called_edit_laws.specs.TreeEdits.{IsInline}
-use Rattle.wt_called_trees.specs.TreeFrames.{TreeFrame, spot, kept as kept_tree, holder, TreeFrames, no_nodes, more_nodes}
+use Rattle.wt_part_laws.specs.TreeFrames.{TreeFrame, spot, kept as kept_tree, holder, TreeFrames, no_nodes, more_nodes}
 use Rattle.wt_called_edit_laws.proofs.Cells.Nodes.{same_inside}
 use Rattle.wt_called_edit_laws.proofs.Cells.Equal.{same_first, same_rest, same_block}
 use Rattle.wt_called_edit_laws.proofs.Leads.{standing_kind, edit_at}

@@ -19,15 +19,15 @@ use Rattle.wt_annotated.specs.CutTexts.{cut_texts}
 use Rattle.wt_annotated.specs.GroupData.{group_data}
 use Rattle.wt_annotated.specs.Grouped.{grouped}
 use Rattle.wt_annotated.specs.Numbering.{next_after, count, with_numbers, all_with_numbers}
-use Rattle.wt_row_laws.specs.Frames.{Part, content}
-use Rattle.wt_moved_laws.specs.Placeless.{placeless, all_placeless}
-use Rattle.wt_moved_laws.specs.Standing.{standing, IsOrdinary}
-use Rattle.wt_moved_laws.proofs.Ordinary.{standing_ordinary, ordinary_ungrouped}
+use Rattle.wt_part_laws.specs.Frames.{Part, content}
+use Rattle.wt_part_laws.specs.Placeless.{placeless, all_placeless}
+use Rattle.wt_part_laws.specs.Standing.{standing, IsOrdinary}
+use Rattle.wt_part_laws.proofs.Ordinary.{standing_ordinary, ordinary_ungrouped}
 use Rattle.wt_text_edit_laws.specs.BlockSpots.{BlockSpot, spots_source, AreContents}
 use Rattle.wt_text_edit_laws.specs.TextBlocks.{source_of, block_tree}
 use Rattle.wt_beside_laws.proofs.Made.OwnPages.{content_ordinary}
-use Rattle.wt_called_trees.specs.TreeFrames.{TreeFrame, spot, kept, holder, TreeFrames, no_nodes, more_nodes, filled, all_filled, spots_in, spots}
-use Rattle.wt_called_trees.proofs.FramesWalked.{no_leaf}
+use Rattle.wt_part_laws.specs.TreeFrames.{TreeFrame, spot, kept, holder, TreeFrames, no_nodes, more_nodes, filled, all_filled, spots_in, spots}
+use Rattle.wt_part_laws.proofs.FramesWalked.{no_leaf}
 use Rattle.wt_called_edit_laws.specs.CalledBlocks.{CallNothing, tree_by, counted}
 use Rattle.wt_called_edit_laws.specs.CalledPages.{IsCalledPage}
 use Rattle.wt_called_edit_laws.specs.Covered.{IsBeside, IfGroup, NoGroupAt, NoneGroupAt, HaveBytes, AreInNoGroup, IsEditablePage}

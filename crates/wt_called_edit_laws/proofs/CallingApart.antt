@@ -3,10 +3,10 @@ use Rattle.std.proofs.Common.{◌≡◌, ℕ, Option, List, [], refl, sym, subst
 use Rattle.wt_expand.specs.PageCalls.{expanded_page}
 use Rattle.wt_expand.specs.Work.{Pages}
 use Rattle.wt_tree.specs.Tree.{Tree}
-use Rattle.wt_moved_laws.specs.Placeless.{all_placeless}
+use Rattle.wt_part_laws.specs.Placeless.{all_placeless}
 use Rattle.wt_typed_blocks.specs.Edited.{Edited, Edits, page_nodes}
 use Rattle.wt_typed_blocks.specs.EditedPage.{LieAt, AreApart}
-use Rattle.wt_called_trees.specs.TreeFrames.{all_filled, spots}
+use Rattle.wt_part_laws.specs.TreeFrames.{all_filled, spots}
 use Rattle.wt_text_edit_laws.specs.BlockSpots.{BlockSpot, spots_source}
 use Rattle.wt_called_edit_laws.specs.CalledBlocks.{tree_by, counted}
 use Rattle.wt_called_edit_laws.specs.CallingEdits.{IsCallingPage}

@@ -8,20 +8,20 @@ use Rattle.wt_annotated.specs.GroupData.{group_data}
 use Rattle.wt_inline.specs.ItemTree.{ItemTree}
 use Rattle.wt_span.specs.Items.{Item}
 use Rattle.wt_checks.specs.Kept.{children}
-use Rattle.wt_joined_calls.specs.Expanded.{part_items}
-use Rattle.wt_moved_laws.specs.Placeless.{placeless, all_placeless}
+use Rattle.wt_part_laws.specs.Expanded.{part_items}
+use Rattle.wt_part_laws.specs.Placeless.{placeless, all_placeless}
 use Rattle.wt_called_edit_laws.specs.CalledContents.{tree_round}
 use Rattle.wt_called_edit_laws.specs.Nodes.{IsBlock, AreBlocks, NodesStayRound}
 use Rattle.wt_called_edit_laws.proofs.CutFrames.{nodes_stay_round}
-use Rattle.wt_row_laws.specs.Frames.{Frames, all_places, content}
+use Rattle.wt_part_laws.specs.Frames.{Frames, all_places, content}
 use Rattle.wt_text_edit_laws.specs.BlockSpots.{BlockSpot, spots_source, SameRound}
 use Rattle.wt_text_edit_laws.specs.ReadContents.{IsReadAnew}
 use Rattle.wt_text_edit_laws.specs.TextBlocks.{TextBlock, a_paragraph, a_heading, source_of}
-use Rattle.wt_called_trees.specs.HeldCalls.{AllHold, GroupsStayRound}
-use Rattle.wt_called_trees.specs.MovedCalls.{AreMoved}
-use Rattle.wt_called_trees.specs.Rounded.{HaveSameData}
-use Rattle.wt_called_trees.proofs.GroupsStay.{groups_stay_round}
-use Rattle.wt_called_trees.proofs.MovedData.{moved_data}
+use Rattle.wt_part_laws.specs.HeldCalls.{AllHold, GroupsStayRound}
+use Rattle.wt_part_laws.specs.MovedCalls.{AreMoved}
+use Rattle.wt_part_laws.specs.Rounded.{HaveSameData}
+use Rattle.wt_part_laws.proofs.GroupsStay.{groups_stay_round}
+use Rattle.wt_part_laws.proofs.MovedData.{moved_data}
 use Rattle.wt_called_edit_laws.specs.CalledBlocks.{counted}
 use Rattle.wt_called_edit_laws.specs.CallingBlocks.{IsNewContentIn, AreEdited, AreCallingBlocks, tree_with_calls, CallingBlocksStand}
 use Rattle.wt_called_edit_laws.specs.CallingGroups.{AreCallingOutside, CallingGroupsStay, CallingNodesStay}

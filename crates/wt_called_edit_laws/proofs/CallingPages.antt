@@ -6,11 +6,11 @@ use Rattle.wt_expand.specs.Work.{Pages}
 use Rattle.wt_annotated.specs.CutTexts.{cut_texts}
 use Rattle.wt_tree.specs.Tree.{Tree}
 use Rattle.wt_inline.specs.ItemTree.{ItemTree}
-use Rattle.wt_joined_calls.specs.Expanded.{part_items, calls_in}
-use Rattle.wt_called_trees.specs.HeldCalls.{block_in}
-use Rattle.wt_called_trees.specs.MovedCalls.{AreMoved}
-use Rattle.wt_called_trees.specs.Rounded.{HaveSameData}
-use Rattle.wt_called_trees.proofs.SameWalks.{walk_same}
+use Rattle.wt_part_laws.specs.Expanded.{part_items, calls_in}
+use Rattle.wt_part_laws.specs.HeldCalls.{block_in}
+use Rattle.wt_part_laws.specs.MovedCalls.{AreMoved}
+use Rattle.wt_part_laws.specs.Rounded.{HaveSameData}
+use Rattle.wt_part_laws.proofs.SameWalks.{walk_same}
 use Rattle.wt_text_edit_laws.specs.BlockSpots.{BlockSpot, spots_source}
 use Rattle.wt_text_edit_laws.specs.TextBlocks.{source_of}
 use Rattle.wt_called_edit_laws.specs.CalledContents.{tree_round}

@@ -5,13 +5,13 @@ use Rattle.wt_tree.specs.Source.{flat_of_all}
 use Rattle.wt_tree.specs.Tree.{Tree, tree, Trees}
 use Rattle.wt_checks.specs.Kept.{children}
 use Rattle.wt_expand.specs.Work.{Pages}
-use Rattle.wt_moved_laws.specs.Placeless.{all_placeless}
-use Rattle.wt_moved_laws.proofs.Placeless.{all_shown_placeless}
+use Rattle.wt_part_laws.specs.Placeless.{all_placeless}
+use Rattle.wt_part_laws.proofs.Placeless.{all_shown_placeless}
 use Rattle.wt_typed_blocks.specs.Edited.{Edited, Edits, page_nodes, edits_show}
 use Rattle.wt_typed_blocks.specs.EditedPage.{edited_sources}
 use Rattle.wt_visible.specs.Children.{shown_children, listed}
 use Rattle.wt_visible.specs.SameNodes.{same_node}
-use Rattle.wt_called_trees.specs.TreeFrames.{all_filled}
+use Rattle.wt_part_laws.specs.TreeFrames.{all_filled}
 use Rattle.wt_text_edit_laws.specs.BlockSpots.{BlockSpot, spots_source}
 use Rattle.wt_called_edit_laws.specs.CalledTexts.{spots_tree}
 use Rattle.wt_called_edit_laws.specs.CallingBlocks.{AreEdited}

@@ -19,14 +19,14 @@ use Rattle.wt_annotated.specs.Seams.{last_of, first_of}
 use Rattle.wt_annotated.specs.WithoutCalls.{holds_page, InsideOf, NoneEmpty, AllNonEmpty, IsPlain}
 use Rattle.wt_annotated.proofs.Calls.{all_split}
 use Rattle.wt_annotated.proofs.NoGroups.{only_plain}
-use Rattle.wt_row_laws.specs.Frames.{Frame, place, whole, around, Frames, no_frames, more_frames, tree_at, trees_at, Part, content, IsFrame, AreFrames}
+use Rattle.wt_part_laws.specs.Frames.{Frame, place, whole, around, Frames, no_frames, more_frames, tree_at, trees_at, Part, content, IsFrame, AreFrames}
 use Rattle.wt_text_edit_laws.specs.BlockSpots.{BlockSpot, spots_source}
 use Rattle.wt_text_edit_laws.specs.ParagraphBetween.{body_with}
 use Rattle.wt_called_edit_laws.specs.Retyped.{AreRetyped}
-use Rattle.wt_called_trees.specs.Rounded.{IsClean, AreClean}
-use Rattle.wt_called_trees.proofs.FrameEnds.{held}
-use Rattle.wt_called_trees.proofs.FramesWalked.{no_leaf}
-use Rattle.wt_called_trees.proofs.OwnWalks.{OfPage, HasPage, own_clean}
+use Rattle.wt_part_laws.specs.Rounded.{IsClean, AreClean}
+use Rattle.wt_part_laws.proofs.FrameEnds.{held}
+use Rattle.wt_part_laws.proofs.FramesWalked.{no_leaf}
+use Rattle.wt_part_laws.proofs.OwnWalks.{OfPage, HasPage, own_clean}
 use Rattle.wt_called_edit_laws.specs.AnyBlocks.{AreSpots}
 use Rattle.wt_called_edit_laws.specs.ItemSpots.{AreContentSpots}
 use Rattle.wt_called_edit_laws.specs.CalledBlocks.{AreAmongCalls, tree_by, StandAmongCalls}

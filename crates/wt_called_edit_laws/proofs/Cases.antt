@@ -7,7 +7,7 @@ use Rattle.wt_tree.specs.Leaves.{leaf_label, text_leaf, sep_leaf}
 use Rattle.wt_tree.specs.Tree.{Label, none}
 use Rattle.wt_typed_blocks.specs.Edited.{no_pieces, gone, written, Edited, stays, edited, Edits, no_edits, more_edits}
 use Rattle.wt_typed_blocks.specs.Sent.{paragraph}
-use Rattle.wt_called_trees.specs.TreeFrames.{spot, kept, holder, TreeFrames, no_nodes, more_nodes}
+use Rattle.wt_part_laws.specs.TreeFrames.{spot, kept, holder, TreeFrames, no_nodes, more_nodes}
 use Rattle.wt_called_edit_laws.specs.PathsTo.{paths_to}
 use Rattle.wt_called_edit_laws.specs.Sends.{AllSend}
 use Rattle.wt_called_edit_laws.proofs.CutFrames.{cut_nodes}

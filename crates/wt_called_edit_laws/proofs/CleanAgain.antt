@@ -3,18 +3,18 @@ use Rattle.std.proofs.Common.{◌≡◌, ◌⊎◌, inl, inr, ℕ, Option, None,
 use Rattle.wt_expand.specs.Work.{Pages}
 use Rattle.wt_inline.specs.ItemTree.{ItemTree, tree_items}
 use Rattle.wt_annotated.specs.Seams.{last_of, first_of}
-use Rattle.wt_row_laws.specs.Frames.{Frame, place, whole, around, Frames, no_frames, more_frames, tree_at, places_in, all_places, Part, content, IsFrame, AreFrames}
+use Rattle.wt_part_laws.specs.Frames.{Frame, place, whole, around, Frames, no_frames, more_frames, tree_at, places_in, all_places, Part, content, IsFrame, AreFrames}
 use Rattle.wt_text_edit_laws.specs.BlockSpots.{BlockSpot, AreContents}
 use Rattle.wt_text_edit_laws.specs.TextBlocks.{TextBlock}
 use Rattle.wt_text_edit_laws.specs.Contents.{IsNewContent}
 use Rattle.wt_text_edit_laws.proofs.Blocks.Contents.{new_again}
 use Rattle.wt_called_edit_laws.specs.Retyped.{AreRetyped}
 use Rattle.wt_called_edit_laws.proofs.Parts.Retyped.{same_round, blocks_over}
-use Rattle.wt_called_trees.specs.Rounded.{AreOwn, IsClean, AreClean}
-use Rattle.wt_called_trees.proofs.FrameEnds.{held, hold_split, firsts_held, last_held, clean_held}
-use Rattle.wt_called_trees.proofs.HeldBlocks.{all_own_hold}
-use Rattle.wt_called_trees.specs.HeldCalls.{AllHold}
-use Rattle.wt_called_trees.proofs.FramesWalked.{no_leaf}
+use Rattle.wt_part_laws.specs.Rounded.{AreOwn, IsClean, AreClean}
+use Rattle.wt_part_laws.proofs.FrameEnds.{held, hold_split, firsts_held, last_held, clean_held}
+use Rattle.wt_part_laws.proofs.HeldBlocks.{all_own_hold}
+use Rattle.wt_part_laws.specs.HeldCalls.{AllHold}
+use Rattle.wt_part_laws.proofs.FramesWalked.{no_leaf}
 use Rattle.wt_called_edit_laws.specs.CalledBlocks.{tree_by, counted, StandAmongCalls}
 use Rattle.wt_called_edit_laws.proofs.Cells.CalledFrames.{among_contents, again_among}
 use Rattle.wt_called_edit_laws.proofs.Cells.SpotTrees.{counted_same}

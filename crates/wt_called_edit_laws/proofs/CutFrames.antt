@@ -18,19 +18,19 @@ use Rattle.wt_annotated.specs.Labels.{label_at}
 use Rattle.wt_annotated.specs.Numbering.{with_numbers}
 use Rattle.wt_annotated.specs.Seams.{last_of, first_of}
 use Rattle.wt_annotated.specs.WithoutCalls.{placed}
-use Rattle.wt_row_laws.specs.Rounds.{IsCellKind}
-use Rattle.wt_row_laws.specs.Frames.{place, whole, around, Frames, no_frames, more_frames, tree_at, trees_at, all_places, Part, content, in_table, in_body, in_row, Holds, AreFrames}
-use Rattle.wt_moved_laws.specs.Placeless.{placeless, all_placeless}
-use Rattle.wt_moved_laws.proofs.Recuts.{texts_same}
+use Rattle.wt_part_laws.specs.Rounds.{IsCellKind}
+use Rattle.wt_part_laws.specs.Frames.{place, whole, around, Frames, no_frames, more_frames, tree_at, trees_at, all_places, Part, content, in_table, in_body, in_row, Holds, AreFrames}
+use Rattle.wt_part_laws.specs.Placeless.{placeless, all_placeless}
+use Rattle.wt_part_laws.proofs.Recuts.{texts_same}
 use Rattle.wt_called_edit_laws.proofs.Cells.Cuts.{beside}
 use Rattle.wt_called_edit_laws.proofs.Cells.Nodes.{AtBorder}
 use Rattle.wt_called_edit_laws.proofs.Cells.ManyNodes.{fore_at, cut_at, cut_at_round}
-use Rattle.wt_called_trees.specs.TreeFrames.{TreeFrame, spot, kept, holder, TreeFrames, no_nodes, more_nodes, filled, all_filled, spots}
-use Rattle.wt_called_trees.specs.Rounded.{AreOwn, AreClean, body_of, body_label, block_alone}
-use Rattle.wt_called_trees.proofs.FramesWalked.{kept_before, holder_label, no_leaf, call_after, stretch, nodes_of, spots_are}
-use Rattle.wt_called_trees.proofs.FrameEnds.{held}
-use Rattle.wt_called_trees.proofs.GroupsStay.{numbers_gone, stays, held_stay}
-use Rattle.wt_called_trees.specs.HeldCalls.{block_in, blocks_in, AllHold}
+use Rattle.wt_part_laws.specs.TreeFrames.{TreeFrame, spot, kept, holder, TreeFrames, no_nodes, more_nodes, filled, all_filled, spots}
+use Rattle.wt_part_laws.specs.Rounded.{AreOwn, AreClean, body_of, body_label, block_alone}
+use Rattle.wt_part_laws.proofs.FramesWalked.{kept_before, holder_label, no_leaf, call_after, stretch, nodes_of, spots_are}
+use Rattle.wt_part_laws.proofs.FrameEnds.{held}
+use Rattle.wt_part_laws.proofs.GroupsStay.{numbers_gone, stays, held_stay}
+use Rattle.wt_part_laws.specs.HeldCalls.{block_in, blocks_in, AllHold}
 use Rattle.wt_called_edit_laws.specs.Nodes.{IsBlock, AreBlocks, block_at, NoneLeaves, AreHolders, NodesStay, NodesStayRound}
 
 -- ---- cutting

@@ -14,9 +14,9 @@ use Rattle.wt_annotated.specs.Annotated.{annotated}
 use Rattle.wt_annotated.specs.GroupData.{group_data}
 use Rattle.wt_annotated.specs.Reached.{reached_in_all}
 use Rattle.wt_annotated.specs.Slices.{IsSlice}
-use Rattle.wt_row_laws.specs.Frames.{all_places, content}
-use Rattle.wt_moved_laws.specs.Placeless.{all_placeless}
-use Rattle.wt_moved_laws.proofs.Placeless.{all_shown_placeless}
+use Rattle.wt_part_laws.specs.Frames.{all_places, content}
+use Rattle.wt_part_laws.specs.Placeless.{all_placeless}
+use Rattle.wt_part_laws.proofs.Placeless.{all_shown_placeless}
 use Rattle.wt_typed_blocks.specs.Edited.{Edited, Edits, page_nodes, AreOutside, edits_show}
 use Rattle.wt_typed_blocks.specs.EditedPage.{edited_sources, AreTaken, LieAt, AreApart}
 use Rattle.wt_visible.specs.Children.{shown_children, listed}
@@ -30,7 +30,7 @@ use Rattle.wt_called_edit_laws.proofs.Cells.SpotTrees.{counted_same}
 use Rattle.wt_called_edit_laws.specs.Retyped.{AreRetyped}
 use Rattle.wt_called_edit_laws.proofs.Parts.Retyped.{typed_again}
 use Rattle.wt_called_edit_laws.proofs.Cells.CalledFrames.{among_contents}
-use Rattle.wt_called_trees.specs.TreeFrames.{TreeFrames, all_filled, spots}
+use Rattle.wt_part_laws.specs.TreeFrames.{TreeFrames, all_filled, spots}
 use Rattle.wt_called_edit_laws.specs.CalledPages.{IsCalledPage}
 use Rattle.wt_called_edit_laws.proofs.CleanAgain.{outside_again}
 use Rattle.wt_called_edit_laws.proofs.GroupsAmong.{calls_same, own_among, retyped_self}

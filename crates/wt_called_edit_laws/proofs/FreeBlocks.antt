@@ -16,8 +16,8 @@ use Rattle.wt_expand.specs.Work.{Pages}
 use Rattle.wt_expand.specs.Expansion.{Reading, output_of, outputs_of, part_outputs, target_part, text_members, page_reading}
 use Rattle.wt_expand.specs.PageCalls.{Stretch, call_stretches, stretches_of, all_stretches, text_spans, page_stretches, expanded_page}
 use Rattle.wt_transclusion.proofs.Full.{text_bytes}
-use Rattle.wt_joined_calls.specs.Expanded.{moved_span}
-use Rattle.wt_joined_calls.proofs.ApartStretches.{spans_both}
+use Rattle.wt_part_laws.specs.Expanded.{moved_span}
+use Rattle.wt_part_laws.proofs.ApartStretches.{spans_both}
 use Rattle.wt_text_edit_laws.specs.BlockSpots.{BlockSpot, spots_source, AreContents}
 use Rattle.wt_text_edit_laws.specs.TextBlocks.{source_of}
 use Rattle.wt_called_edit_laws.specs.CalledBlocks.{CallNothing, AreAmongCalls}

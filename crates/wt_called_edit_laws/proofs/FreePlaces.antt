@@ -12,11 +12,11 @@ use Rattle.wt_annotated.specs.Seams.{last_of, first_of, parted, text_from}
 use Rattle.wt_annotated.specs.Walked.{clean_at, Near, near_runs, walked, near}
 use Rattle.wt_annotated.specs.WithoutCalls.{inside_by}
 use Rattle.wt_annotated.proofs.Seams.{text_append_from}
-use Rattle.wt_row_laws.specs.Frames.{Frame, place, whole, around, Frames, no_frames, more_frames, tree_at, trees_at, places_in, all_places, Part, content, IsFrame, AreFrames}
-use Rattle.wt_called_trees.specs.Rounded.{AreOwn, IsClean, AreClean, body_of}
-use Rattle.wt_called_trees.proofs.FrameEnds.{own_split}
-use Rattle.wt_called_trees.proofs.FramesWalked.{no_leaf}
-use Rattle.wt_called_trees.proofs.OwnWalks.{text_own}
+use Rattle.wt_part_laws.specs.Frames.{Frame, place, whole, around, Frames, no_frames, more_frames, tree_at, trees_at, places_in, all_places, Part, content, IsFrame, AreFrames}
+use Rattle.wt_part_laws.specs.Rounded.{AreOwn, IsClean, AreClean, body_of}
+use Rattle.wt_part_laws.proofs.FrameEnds.{own_split}
+use Rattle.wt_part_laws.proofs.FramesWalked.{no_leaf}
+use Rattle.wt_part_laws.proofs.OwnWalks.{text_own}
 use Rattle.wt_called_edit_laws.proofs.CutFrames.{no_group_round}
 use Rattle.wt_called_edit_laws.specs.Covered.{NoGroupAt, NoneGroupAt, IfGroup, AtPlace, AtPlaces, HaveBytes, HasAny, HoldsPlace, HoldPlaces, CleanWhereFree}
 use Rattle.wt_called_edit_laws.proofs.GroupsKept.{walk_free}

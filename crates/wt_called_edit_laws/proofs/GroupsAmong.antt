@@ -5,16 +5,16 @@ use Rattle.wt_expand.specs.Work.{Pages}
 use Rattle.wt_expand.specs.PageCalls.{expanded_page}
 use Rattle.wt_annotated.specs.Annotated.{annotated}
 use Rattle.wt_annotated.specs.GroupData.{group_data}
-use Rattle.wt_moved_laws.specs.Placeless.{placeless}
-use Rattle.wt_row_laws.specs.Frames.{Frames, all_places}
+use Rattle.wt_part_laws.specs.Placeless.{placeless}
+use Rattle.wt_part_laws.specs.Frames.{Frames, all_places}
 use Rattle.wt_text_edit_laws.specs.BlockSpots.{BlockSpot, spots_source, AreContents}
 use Rattle.wt_called_edit_laws.specs.Parts.{called_outers}
 use Rattle.wt_called_edit_laws.proofs.Parts.Retyped.{is_by_parts, same_round, blocks_over, typed_again}
 use Rattle.wt_called_edit_laws.specs.Retyped.{AreRetyped}
-use Rattle.wt_called_trees.specs.MovedCalls.{AreMoved}
-use Rattle.wt_called_trees.specs.Rounded.{HaveSameData, AreOwn, GroupsStay}
-use Rattle.wt_called_trees.proofs.GroupsStay.{groups_stay}
-use Rattle.wt_called_trees.proofs.MovedData.{moved_data}
+use Rattle.wt_part_laws.specs.MovedCalls.{AreMoved}
+use Rattle.wt_part_laws.specs.Rounded.{HaveSameData, AreOwn, GroupsStay}
+use Rattle.wt_part_laws.proofs.GroupsStay.{groups_stay}
+use Rattle.wt_part_laws.proofs.MovedData.{moved_data}
 use Rattle.wt_called_edit_laws.specs.CalledBlocks.{AreAmongCalls, tree_by}
 use Rattle.wt_called_edit_laws.proofs.Cells.CalledFrames.{among_contents, calm_over}
 use Rattle.wt_called_edit_laws.proofs.Cells.SpotTrees.{counted_same}

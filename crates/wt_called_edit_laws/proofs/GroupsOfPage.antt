@@ -13,7 +13,7 @@ use Rattle.wt_annotated.specs.GroupData.{group_data}
 use Rattle.wt_annotated.specs.Seams.{text_from}
 use Rattle.wt_annotated.proofs.Seams.{page_is}
 use Rattle.wt_page_round_trip.proofs.HeldPages.{its_page}
-use Rattle.wt_row_laws.specs.Frames.{Frames, trees_at, all_places}
+use Rattle.wt_part_laws.specs.Frames.{Frames, trees_at, all_places}
 use Rattle.wt_text_edit_laws.specs.BlockSpots.{BlockSpot, spots_source, SameRound, AreContents}
 use Rattle.wt_text_edit_laws.specs.ParagraphBetween.{body_with}
 use Rattle.wt_text_edit_laws.specs.TextBlocks.{TextBlock, a_paragraph, a_heading, source_of, block_tree}
@@ -24,8 +24,8 @@ use Rattle.wt_text_edit_laws.proofs.Blocks.Contents.{block_source}
 use Rattle.wt_text_edit_laws.proofs.Blocks.OwnContents.{paragraph_some}
 use Rattle.wt_called_edit_laws.specs.Retyped.{AreRetyped}
 use Rattle.wt_called_edit_laws.proofs.Parts.Retyped.{typed_again}
-use Rattle.wt_called_trees.specs.Rounded.{AreOwn}
-use Rattle.wt_called_trees.proofs.FrameEnds.{held}
+use Rattle.wt_part_laws.specs.Rounded.{AreOwn}
+use Rattle.wt_part_laws.proofs.FrameEnds.{held}
 use Rattle.wt_called_edit_laws.specs.CalledBlocks.{AreAmongCalls, StandAmongCalls, tree_by, counted}
 use Rattle.wt_called_edit_laws.proofs.Cells.CalledFrames.{among_contents, stand_among}
 use Rattle.wt_called_edit_laws.proofs.Cells.PlaceGaps.{Gaps, last_gap, then_gap, numbers_in, fill, source_at, sources_at, own_sources, FillsAll, AreSame, same_gaps, sources_counted, count_counted, many_by, self_round, AtPlaces as AtGaps}

@@ -3,13 +3,13 @@ use Rattle.std.proofs.Common.{◌≡◌, ℕ, false, Option, Some, None, ap, ◌
 use Rattle.wt_tree.specs.Kinds.{is_leaf}
 use Rattle.wt_tree.specs.Tiling.{is_group}
 use Rattle.wt_tree.specs.Tree.{Label, Tree, tree, Trees}
-use Rattle.wt_row_laws.specs.Frames.{Part, content}
-use Rattle.wt_moved_laws.specs.Placeless.{placeless_label, placeless, all_placeless}
+use Rattle.wt_part_laws.specs.Frames.{Part, content}
+use Rattle.wt_part_laws.specs.Placeless.{placeless_label, placeless, all_placeless}
 use Rattle.wt_typed_blocks.specs.Edited.{Edited, stays, edited, round, Edits, no_edits, more_edits, page_node, page_nodes, IsOutside, AreOutside}
 use Rattle.wt_called_edit_laws.proofs.Cells.Nodes.{same_inside, same_label}
 use Rattle.wt_called_edit_laws.proofs.Cells.Equal.{same_first, same_rest}
-use Rattle.wt_called_trees.specs.TreeFrames.{TreeFrame, spot, kept, holder, TreeFrames, no_nodes, more_nodes, filled, all_filled}
-use Rattle.wt_called_trees.proofs.FramesWalked.{no_leaf}
+use Rattle.wt_part_laws.specs.TreeFrames.{TreeFrame, spot, kept, holder, TreeFrames, no_nodes, more_nodes, filled, all_filled}
+use Rattle.wt_part_laws.proofs.FramesWalked.{no_leaf}
 use Rattle.wt_called_edit_laws.specs.Nodes.{IsHolder, AreHolders}
 use Rattle.wt_called_edit_laws.specs.Sends.{BlockSent, Sends, AllSend}
 use Rattle.wt_called_edit_laws.specs.Stand.{HasHolders, HaveHolders, BlocksAreFree}

@@ -16,9 +16,9 @@ use Rattle.wt_annotated.specs.Labels.{label_at}
 use Rattle.wt_annotated.specs.Numbering.{next_after, count}
 use Rattle.wt_annotated.specs.WithoutCalls.{holds_page, InsideOf, NoneEmpty, AllNonEmpty}
 use Rattle.wt_checks.specs.Kept.{children}
-use Rattle.wt_row_laws.specs.Frames.{Part}
-use Rattle.wt_moved_laws.specs.Placeless.{placeless_label, placeless, all_placeless}
-use Rattle.wt_moved_laws.specs.Standing.{standing}
+use Rattle.wt_part_laws.specs.Frames.{Part}
+use Rattle.wt_part_laws.specs.Placeless.{placeless_label, placeless, all_placeless}
+use Rattle.wt_part_laws.specs.Standing.{standing}
 use Rattle.wt_typed_blocks.specs.Sent.{kind_of}
 use Rattle.wt_typed_blocks.specs.Edited.{Edited, Edits}
 use Rattle.wt_text_edit_laws.specs.BlockSpots.{BlockSpot, AreContents}
@@ -31,8 +31,8 @@ use Rattle.wt_called_edit_laws.specs.EditsAt.{IsStanding, StandsTo, StandsAmong,
 use Rattle.wt_called_edit_laws.specs.Settled.{settled, all_settled, IsSettled}
 use Rattle.wt_called_edit_laws.proofs.Cells.Nodes.{same_label, same_inside}
 use Rattle.wt_called_edit_laws.proofs.Cells.Equal.{same_first, same_rest}
-use Rattle.wt_called_trees.specs.Rounded.{HasItems, AllHaveItems, IsOwn, AreOwn}
-use Rattle.wt_called_trees.specs.TreeFrames.{spot, kept, holder, TreeFrames, no_nodes, more_nodes, all_filled, spots}
+use Rattle.wt_part_laws.specs.Rounded.{HasItems, AllHaveItems, IsOwn, AreOwn}
+use Rattle.wt_part_laws.specs.TreeFrames.{spot, kept, holder, TreeFrames, no_nodes, more_nodes, all_filled, spots}
 use Rattle.wt_called_edit_laws.specs.Nodes.{AreHolders, block_at}
 use Rattle.wt_called_edit_laws.specs.PathsTo.{past_one, all_past, all_inside, paths_to, AreEditedThere}
 use Rattle.wt_called_edit_laws.proofs.CutFrames.{no_group_round}

@@ -4,13 +4,13 @@ use Rattle.std.proofs.lemmas.Bool.{cases_lt}
 use Rattle.wt_span.specs.Origins.{OuterCall, Span}
 use Rattle.wt_expand.specs.Work.{Pages}
 use Rattle.wt_expand.specs.PageCalls.{expanded_page}
-use Rattle.wt_joined_calls.specs.Expanded.{moved_span, moved_place, moved_call}
+use Rattle.wt_part_laws.specs.Expanded.{moved_span, moved_place, moved_call}
 use Rattle.wt_text_edit_laws.specs.BlockSpots.{BlockSpot, SameRound, AreContents}
 use Rattle.wt_text_edit_laws.specs.TextBlocks.{source_of}
 use Rattle.wt_called_edit_laws.specs.CalledBlocks.{CallNothing}
 use Rattle.wt_called_edit_laws.specs.Parts.{called_outers}
 use Rattle.wt_called_edit_laws.proofs.Parts.NoCallsCalled.{calm_outers}
-use Rattle.wt_called_trees.specs.MovedCalls.{IsMoved, AreMoved}
+use Rattle.wt_part_laws.specs.MovedCalls.{IsMoved, AreMoved}
 
 -- ---- a call that is moved twice, and one that isn't moved
 

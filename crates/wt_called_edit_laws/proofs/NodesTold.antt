@@ -10,15 +10,15 @@ use Rattle.wt_checks.specs.Kept.{children}
 use Rattle.wt_checks.proofs.Found.{own_by}
 use Rattle.wt_checks.proofs.Lookups.{each_split, NoZero, all_page_numbers}
 use Rattle.wt_difference.specs.Insides.{has_inside}
-use Rattle.wt_row_laws.specs.Frames.{Part, content, in_table, in_body, in_row, Holds}
-use Rattle.wt_moved_laws.specs.Placeless.{placeless_label, placeless, all_placeless}
+use Rattle.wt_part_laws.specs.Frames.{Part, content, in_table, in_body, in_row, Holds}
+use Rattle.wt_part_laws.specs.Placeless.{placeless_label, placeless, all_placeless}
 use Rattle.wt_typed_blocks.specs.Edited.{Edited, stays, edited, round, Edits, no_edits, more_edits, page_node, page_nodes}
 use Rattle.wt_typed_blocks.specs.EditedUnmarked.{AreRoundInBlocks, IsOwnRound, IsTold, AreTold}
 use Rattle.wt_called_edit_laws.proofs.Cells.Nodes.{same_inside}
 use Rattle.wt_called_edit_laws.proofs.Cells.Equal.{same_first, same_rest}
 use Rattle.wt_called_edit_laws.proofs.Cells.SentAsIs.{body_inner}
 use Rattle.wt_called_edit_laws.proofs.Cells.PartKinds.{part_kind}
-use Rattle.wt_called_trees.specs.TreeFrames.{TreeFrame, spot, kept, holder, TreeFrames, no_nodes, more_nodes, filled, all_filled}
+use Rattle.wt_part_laws.specs.TreeFrames.{TreeFrame, spot, kept, holder, TreeFrames, no_nodes, more_nodes, filled, all_filled}
 use Rattle.wt_called_edit_laws.specs.EditsAt.{IsOwnEdit, AreOwnEdits}
 use Rattle.wt_called_edit_laws.specs.Nodes.{IsHolder, AreHolders}
 use Rattle.wt_called_edit_laws.specs.Sends.{BlockSent, Sends, AllSend}

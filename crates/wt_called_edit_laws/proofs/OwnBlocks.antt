@@ -2,7 +2,7 @@
 use Rattle.std.proofs.Common.{ℕ, suc, List, [], ◌∷◌, map}
 use Rattle.wt_text_edit_laws.specs.BlockSpots.{BlockSpot, AreContents}
 use Rattle.wt_text_edit_laws.proofs.Blocks.OwnContents.{content_own}
-use Rattle.wt_called_trees.specs.Rounded.{AreOwn}
+use Rattle.wt_part_laws.specs.Rounded.{AreOwn}
 use Rattle.wt_called_edit_laws.specs.CalledBlocks.{tree_by, counted}
 
 own_up : (s : BlockSpot) (ss : List BlockSpot) (ns : List ℕ) → AreOwn (tree_by ss) ns → AreOwn (tree_by (s ∷ ss)) (map suc ns)

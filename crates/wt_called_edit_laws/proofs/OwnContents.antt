@@ -17,7 +17,7 @@ use Rattle.wt_called_edit_laws.specs.EditsAt.{IsStanding, StandsTo, StandsAmong,
 use Rattle.wt_called_edit_laws.specs.OwnTexts.{AreTypings}
 use Rattle.wt_called_edit_laws.specs.PathsTo.{paths_to}
 use Rattle.wt_called_edit_laws.specs.TreeEdits.{IsNumberedBody, IsEditOf, own_edit}
-use Rattle.wt_called_trees.specs.TreeFrames.{TreeFrames}
+use Rattle.wt_part_laws.specs.TreeFrames.{TreeFrames}
 use Rattle.wt_called_edit_laws.proofs.Cells.Nodes.{same_inside}
 use Rattle.wt_called_edit_laws.proofs.Cells.Equal.{same_first, same_rest, same_block}
 use Rattle.wt_called_edit_laws.proofs.Leads.{standing_kind, all_lead}

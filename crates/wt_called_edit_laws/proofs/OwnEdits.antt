@@ -11,7 +11,7 @@ use Rattle.wt_called_edit_laws.specs.OwnTexts.{AreTypings}
 use Rattle.wt_called_edit_laws.proofs.Cells.ManyPaths.{past, further, deeper, NoneEmpty, further_full, inside_full}
 use Rattle.wt_called_edit_laws.proofs.Cells.OwnTexts.{AreApart, further_apart, first_apart, inside_apart, tree_edit}
 use Rattle.wt_called_edit_laws.proofs.Cells.SentAsIs.{page_numbered}
-use Rattle.wt_called_trees.specs.TreeFrames.{spot, kept, holder, TreeFrames, no_nodes, more_nodes}
+use Rattle.wt_part_laws.specs.TreeFrames.{spot, kept, holder, TreeFrames, no_nodes, more_nodes}
 use Rattle.wt_called_edit_laws.specs.PathsTo.{past_one, all_past, all_inside, paths_to}
 use Rattle.wt_called_edit_laws.specs.TreeEdits.{IsNumberedBody, IsEditOf, own_edit, HasOwnEdits}
 

@@ -22,7 +22,7 @@ use Rattle.wt_expand.specs.PageCalls.{Stretch, own, outer, text_call, call_stret
 use Rattle.wt_expand.specs.Stretches.{page_bytes}
 use Rattle.wt_expand.proofs.PiecePlaces.{text_behind, behind_page, behind_same, AllFrom, form_from, chars_from}
 use Rattle.wt_expand.proofs.Given.{stretches_join}
-use Rattle.wt_joined_calls.specs.Expanded.{moved_call, part_items, calls_in}
+use Rattle.wt_part_laws.specs.Expanded.{moved_call, part_items, calls_in}
 use Rattle.wt_text_edit_laws.specs.BlockSpots.{BlockSpot}
 use Rattle.wt_text_edit_laws.specs.TextBlocks.{source_of}
 use Rattle.wt_called_edit_laws.specs.PartTexts.{AreBlockTexts, AreTextsOfPage}

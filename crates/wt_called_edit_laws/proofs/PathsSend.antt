@@ -1,13 +1,13 @@
 -- Contents that are edited at the paths of places, and nowhere else, are sent for the blocks at the places, and all else stays.
 use Rattle.std.proofs.Common.{◌≡◌, ℕ, zero, Option, None, List, [], ◌∷◌, ◌++◌, refl, sym, ap, ◌∙◌, subst}
 use Rattle.wt_tree.specs.Tree.{Label, Tree, tree}
-use Rattle.wt_moved_laws.specs.Placeless.{placeless_label, placeless, all_placeless}
+use Rattle.wt_part_laws.specs.Placeless.{placeless_label, placeless, all_placeless}
 use Rattle.wt_typed_blocks.specs.Edited.{Edited, stays, edited, round, Edits, no_edits, more_edits, page_node, page_nodes}
 use Rattle.wt_called_edit_laws.specs.AnyBlocks.{first_paths, other_paths, EndHere}
 use Rattle.wt_called_edit_laws.specs.EditsAt.{edited_at, edited_by, EditsOnly, AllEditOnly}
 use Rattle.wt_called_edit_laws.proofs.Cells.Equal.{same_first, same_rest}
 use Rattle.wt_called_edit_laws.proofs.Cells.Nodes.{same_inside}
-use Rattle.wt_called_trees.specs.TreeFrames.{spot, kept, holder, TreeFrames, no_nodes, more_nodes, all_filled, spots}
+use Rattle.wt_part_laws.specs.TreeFrames.{spot, kept, holder, TreeFrames, no_nodes, more_nodes, all_filled, spots}
 use Rattle.wt_called_edit_laws.specs.PathsTo.{past_one, all_past, all_inside, paths_to, AreEditedThere, PathsSend}
 use Rattle.wt_called_edit_laws.specs.Sends.{BlockSent, NoneEdited, Sends, AllSend}
 

@@ -6,10 +6,10 @@ use Rattle.wt_span.specs.Origins.{OuterCall}
 use Rattle.wt_inline.specs.ItemTree.{ItemTree, tree_items}
 use Rattle.wt_annotated.specs.Seams.{last_of, parted, text_from}
 use Rattle.wt_annotated.proofs.Seams.{text_append_from}
-use Rattle.wt_row_laws.specs.Frames.{Frame, place, whole, around, Frames, no_frames, more_frames, tree_at, places_in, all_places}
-use Rattle.wt_called_trees.specs.Rounded.{HaveSameData, AreOwn}
-use Rattle.wt_called_trees.proofs.FrameEnds.{held, own_split, last_same, lasts_same}
-use Rattle.wt_called_trees.proofs.OwnWalks.{text_own}
+use Rattle.wt_part_laws.specs.Frames.{Frame, place, whole, around, Frames, no_frames, more_frames, tree_at, places_in, all_places}
+use Rattle.wt_part_laws.specs.Rounded.{HaveSameData, AreOwn}
+use Rattle.wt_part_laws.proofs.FrameEnds.{held, own_split, last_same, lasts_same}
+use Rattle.wt_part_laws.proofs.OwnWalks.{text_own}
 use Rattle.wt_called_edit_laws.proofs.Cells.PlaceGaps.{Gaps, then_gap, put_before, numbers_in, numbers_before, fill, fill_before, source_at, sources_at, sources_both, at_before}
 use Rattle.wt_called_edit_laws.proofs.Cells.PlaceGaps.{AtPlaces as AtGaps}
 use Rattle.wt_called_edit_laws.specs.Covered.{AtPlace, AtPlaces}

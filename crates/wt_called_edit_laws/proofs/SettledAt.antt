@@ -8,10 +8,10 @@ use Rattle.wt_tree.specs.Tree.{Label, Tree, tree, Trees, none, more, label}
 use Rattle.wt_annotated.specs.Numbering.{next_after, count}
 use Rattle.wt_checks.specs.Kept.{children}
 use Rattle.wt_expand.specs.Work.{Pages}
-use Rattle.wt_row_laws.specs.Frames.{Part, content}
-use Rattle.wt_moved_laws.specs.Placeless.{placeless_label, placeless, all_placeless}
+use Rattle.wt_part_laws.specs.Frames.{Part, content}
+use Rattle.wt_part_laws.specs.Placeless.{placeless_label, placeless, all_placeless}
 use Rattle.wt_text_edit_laws.specs.BlockSpots.{BlockSpot, spots_source}
-use Rattle.wt_called_trees.specs.TreeFrames.{spot, kept, holder, TreeFrames, no_nodes, more_nodes, all_filled, spots}
+use Rattle.wt_part_laws.specs.TreeFrames.{spot, kept, holder, TreeFrames, no_nodes, more_nodes, all_filled, spots}
 use Rattle.wt_called_edit_laws.specs.CalledBlocks.{counted}
 use Rattle.wt_called_edit_laws.specs.CallingGroups.{AreCallingOutside, block_with_groups, CallingNodesStay}
 use Rattle.wt_called_edit_laws.specs.Groups.{called_tree}

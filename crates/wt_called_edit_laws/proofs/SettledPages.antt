@@ -4,12 +4,12 @@ use Rattle.wt_expand.specs.Work.{Pages}
 use Rattle.wt_tree.specs.Tree.{Label, Tree, tree, Trees, label}
 use Rattle.wt_sections.specs.Sections.{with_sections}
 use Rattle.wt_checks.specs.Kept.{children}
-use Rattle.wt_moved_laws.specs.Placeless.{placeless, all_placeless}
+use Rattle.wt_part_laws.specs.Placeless.{placeless, all_placeless}
 use Rattle.wt_text_edit_laws.specs.BlockSpots.{BlockSpot, spots_source}
 use Rattle.wt_called_edit_laws.specs.Retyped.{AreRetyped}
-use Rattle.wt_called_trees.specs.HeldCalls.{AllHold}
-use Rattle.wt_called_trees.specs.Rounded.{body_label}
-use Rattle.wt_called_trees.specs.TreeFrames.{all_filled}
+use Rattle.wt_part_laws.specs.HeldCalls.{AllHold}
+use Rattle.wt_part_laws.specs.Rounded.{body_label}
+use Rattle.wt_part_laws.specs.TreeFrames.{all_filled}
 use Rattle.wt_called_edit_laws.specs.Nodes.{block_at}
 use Rattle.wt_called_edit_laws.specs.CalledBlocks.{tree_by, counted}
 use Rattle.wt_called_edit_laws.specs.CallingBlocks.{AreEdited, tree_with_calls}

@@ -23,8 +23,8 @@ use Rattle.wt_annotated.specs.Reached.{reached, reached_in_all}
 use Rattle.wt_annotated.specs.Slices.{opening_by, opening_of, StandsIn, IsSlice}
 use Rattle.wt_annotated.proofs.AnnotatedTree.{annotated_tiles, annotated_slices, annotated_covers}
 use Rattle.wt_annotated.proofs.Ends.{body_clean}
-use Rattle.wt_moved_laws.specs.Placeless.{placeless_label, placeless, all_placeless}
-use Rattle.wt_called_trees.proofs.GroupsStay.{numbers_gone}
+use Rattle.wt_part_laws.specs.Placeless.{placeless_label, placeless, all_placeless}
+use Rattle.wt_part_laws.proofs.GroupsStay.{numbers_gone}
 use Rattle.wt_called_edit_laws.proofs.TextsMake.{flat_same}
 use Rattle.wt_called_edit_laws.proofs.TilesStand.{ranges_at, ranges_are}
 use Rattle.wt_called_edit_laws.specs.Settled.{settled, all_settled, IsSettled}

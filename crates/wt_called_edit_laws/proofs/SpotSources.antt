@@ -22,9 +22,9 @@ use Rattle.wt_annotated.specs.Seams.{text_from}
 use Rattle.wt_page.specs.Body.{meaning}
 use Rattle.wt_page_round_trip.proofs.HeldPages.{items_ones, tree_ones}
 use Rattle.wt_page_round_trip.proofs.OpenedPages.{IsOne, AreOnes, opened_text}
-use Rattle.wt_joined_calls.specs.Expanded.{part_items}
-use Rattle.wt_row_laws.specs.Frames.{Frame, place, whole, around, Frames, no_frames, more_frames, tree_at, trees_at, places_in, all_places}
-use Rattle.wt_called_trees.specs.HeldCalls.{AllHold, block_in}
+use Rattle.wt_part_laws.specs.Expanded.{part_items}
+use Rattle.wt_part_laws.specs.Frames.{Frame, place, whole, around, Frames, no_frames, more_frames, tree_at, trees_at, places_in, all_places}
+use Rattle.wt_part_laws.specs.HeldCalls.{AllHold, block_in}
 use Rattle.wt_text_edit_laws.specs.BlockSpots.{BlockSpot, spots_source}
 use Rattle.wt_text_edit_laws.specs.LonePages.{page_chars}
 use Rattle.wt_text_edit_laws.specs.ParagraphBetween.{body_with}

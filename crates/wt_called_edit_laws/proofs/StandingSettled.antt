@@ -20,10 +20,10 @@ use Rattle.wt_annotated.specs.Numbering.{number_of, next_after, count, count_all
 use Rattle.wt_annotated.specs.WithoutCalls.{inside_by, placed, all_placed}
 use Rattle.wt_annotated.proofs.CutNumbered.{cut_numbered}
 use Rattle.wt_annotated.proofs.CutTexts.{leaf_text, BareInside, BareTexts, AllBareTexts}
-use Rattle.wt_moved_laws.specs.Placeless.{placeless, all_placeless}
-use Rattle.wt_moved_laws.specs.Standing.{standing}
-use Rattle.wt_moved_laws.proofs.Moved.{moved}
-use Rattle.wt_moved_laws.proofs.Sources.{standing_source}
+use Rattle.wt_part_laws.specs.Placeless.{placeless, all_placeless}
+use Rattle.wt_part_laws.specs.Standing.{standing}
+use Rattle.wt_part_laws.proofs.Moved.{moved}
+use Rattle.wt_part_laws.proofs.Sources.{standing_source}
 use Rattle.wt_text_edit_laws.specs.LonePages.{page_chars}
 use Rattle.wt_text_edit_laws.proofs.Paragraphs.PartTrees.{ArePlain, plain_joined, plain_tree}
 use Rattle.wt_text_edit_laws.proofs.Prose.ProseTrees.{blocks_of}

@@ -7,12 +7,12 @@ use Rattle.wt_tree.specs.Kinds.{is_leaf, showing}
 use Rattle.wt_tree.specs.Plain.{Plains, Face, ended, along, element, face, shown_before, plain_before, plains_before}
 use Rattle.wt_tree.specs.Source.{flat, flat_of_all}
 use Rattle.wt_tree.specs.Tree.{Label, Tree, tree, Trees, none, more}
-use Rattle.wt_moved_laws.specs.Placeless.{placeless_label, placeless, all_placeless}
-use Rattle.wt_moved_laws.proofs.Placeless.{shown_placeless}
+use Rattle.wt_part_laws.specs.Placeless.{placeless_label, placeless, all_placeless}
+use Rattle.wt_part_laws.proofs.Placeless.{shown_placeless}
 use Rattle.wt_typed_blocks.specs.Edited.{Edited, stays, edited, round, Edits, no_edits, more_edits, page_node, page_nodes, edits_before}
 use Rattle.wt_called_edit_laws.proofs.Cells.Equal.{same_first, same_rest}
 use Rattle.wt_called_edit_laws.proofs.Cells.Nodes.{same_label, same_inside}
-use Rattle.wt_called_trees.specs.TreeFrames.{TreeFrame, spot, kept, holder, TreeFrames, no_nodes, more_nodes, filled, all_filled, spots_in, spots}
+use Rattle.wt_part_laws.specs.TreeFrames.{TreeFrame, spot, kept, holder, TreeFrames, no_nodes, more_nodes, filled, all_filled, spots_in, spots}
 use Rattle.wt_called_edit_laws.specs.Sends.{BlockSent, NoneEdited, Sends, AllSend, MakesNode, MakesNodes, BlocksMake, ContentsMake}
 use Rattle.wt_called_edit_laws.specs.Nodes.{NoLeaves, NoneLeaves}
 

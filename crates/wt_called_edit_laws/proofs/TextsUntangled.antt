@@ -6,7 +6,7 @@ use Rattle.wt_tree.specs.Tree.{Label, Tree, tree, Trees, label}
 use Rattle.wt_span.specs.Items.{sources}
 use Rattle.wt_span.specs.Origins.{Expanded}
 use Rattle.wt_inline.specs.ItemTree.{ItemTree, tree_items}
-use Rattle.wt_moved_laws.specs.Placeless.{placeless_label, placeless, all_placeless}
+use Rattle.wt_part_laws.specs.Placeless.{placeless_label, placeless, all_placeless}
 use Rattle.wt_selser.specs.Edits.{is_tangled}
 use Rattle.wt_typed_blocks.specs.Sent.{Block, paragraph, heading, kind_of}
 use Rattle.wt_typed_blocks.specs.Typed.{block_source}
@@ -19,7 +19,7 @@ use Rattle.wt_called_edit_laws.proofs.Cells.Nodes.{same_label, same_inside}
 use Rattle.wt_called_edit_laws.proofs.Cells.Equal.{same_first, same_rest}
 use Rattle.wt_called_edit_laws.proofs.Cells.PlaceGaps.{Gaps, last_gap, then_gap, put_before, numbers_in, source_at, AreSame, AtPlaces, at_before}
 use Rattle.wt_text_edit_laws.proofs.Blocks.Contents.{block_source as source_is}
-use Rattle.wt_called_trees.specs.TreeFrames.{TreeFrame, spot, kept, holder, TreeFrames, no_nodes, more_nodes, filled, all_filled, spots_in, spots}
+use Rattle.wt_part_laws.specs.TreeFrames.{TreeFrame, spot, kept, holder, TreeFrames, no_nodes, more_nodes, filled, all_filled, spots_in, spots}
 use Rattle.wt_called_edit_laws.specs.Untangled.{AreUntangledFrom}
 use Rattle.wt_called_edit_laws.specs.Nodes.{NoLeaves, NoneLeaves}
 use Rattle.wt_called_edit_laws.specs.Sends.{BlockSent, Sends, AllSend}

@@ -35,8 +35,8 @@ use Rattle.wt_annotated.specs.Numbering.{next_after, count, with_numbers, all_wi
 use Rattle.wt_annotated.specs.Ungrouped.{joined, ungrouped, all_ungrouped}
 use Rattle.wt_annotated.specs.WithoutCalls.{inside_by, InsideOf}
 use Rattle.wt_annotated.proofs.TakenApart.{taken_apart}
-use Rattle.wt_round_trip.specs.Written.{is_childless}
-use Rattle.wt_round_trip.proofs.Rows.{is_somewhere, held}
+use Rattle.wt_schema.specs.Written.{is_childless}
+use Rattle.wt_schema.proofs.Rows.{is_somewhere, held}
 use Rattle.wt_page_round_trip.proofs.ExpandedItems.{expanded_items}
 use Rattle.wt_page_round_trip.proofs.PageShown.{body_nodes, page_shown}
 use Rattle.wt_page_round_trip.proofs.ShownNodes.{NodeIsShown, IsOrdered, IsShownIn, AreShownIn}

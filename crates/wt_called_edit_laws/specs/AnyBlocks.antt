@@ -8,7 +8,7 @@ use Rattle.wt_lines.specs.Lines.{empty_end, full_lines}
 use Rattle.wt_page.specs.Rows.{Row, rows_from}
 use Rattle.wt_checks.specs.Kept.{children}
 use Rattle.wt_expand.specs.PageItems.{page_items}
-use Rattle.wt_row_laws.specs.Slots.{open_behind, AllTrue}
+use Rattle.wt_part_laws.specs.Slots.{open_behind, AllTrue}
 use Rattle.wt_typed_blocks.specs.Sent.{kind_of, Sent, stands, typed, holds, Sents, none_sent, more_sent, old_children, AreSent}
 use Rattle.wt_typed_blocks.specs.Typed.{TakeTexts}
 use Rattle.wt_text_edit_laws.specs.BlockEdits.{typed_as}

@@ -5,11 +5,11 @@ use Rattle.wt_expand.specs.Work.{Pages}
 use Rattle.wt_expand.specs.PageCalls.{expanded_page}
 use Rattle.wt_inline.specs.ItemTree.{ItemTree}
 use Rattle.wt_page.specs.Body.{meaning}
-use Rattle.wt_row_laws.specs.Frames.{Frames, trees_at, all_places, content, AreFrames}
+use Rattle.wt_part_laws.specs.Frames.{Frames, trees_at, all_places, content, AreFrames}
 use Rattle.wt_expand.specs.PageItems.{page_items}
 use Rattle.wt_text_edit_laws.specs.BlockSpots.{BlockSpot, spots_source, AreContents}
 use Rattle.wt_text_edit_laws.specs.ParagraphBetween.{body_with}
-use Rattle.wt_joined_calls.specs.Expanded.{part_items, calls_in}
+use Rattle.wt_part_laws.specs.Expanded.{part_items, calls_in}
 use Rattle.wt_text_edit_laws.specs.NoCalls.{CallsNothing}
 use Rattle.wt_text_edit_laws.specs.TextBlocks.{a_paragraph, block_items, block_tree}
 use Rattle.wt_called_edit_laws.specs.Parts.{AreCalled}

@@ -5,10 +5,10 @@ use Rattle.wt_span.specs.Items.{Item}
 use Rattle.wt_lines.specs.Lines.{is_break_item, lines}
 use Rattle.wt_inline.specs.ItemTree.{ItemTree}
 use Rattle.wt_page.specs.Body.{meaning}
-use Rattle.wt_row_laws.specs.Frames.{Frames, trees_at, all_places, content, AreFrames}
+use Rattle.wt_part_laws.specs.Frames.{Frames, trees_at, all_places, content, AreFrames}
 use Rattle.wt_expand.specs.Work.{Pages}
 use Rattle.wt_expand.specs.PageCalls.{expanded_page}
-use Rattle.wt_joined_calls.specs.Expanded.{part_items, calls_in, GivesAnywhere}
+use Rattle.wt_part_laws.specs.Expanded.{part_items, calls_in, GivesAnywhere}
 use Rattle.wt_page.specs.Rows.{marks_len}
 use Rattle.wt_text_edit_laws.specs.ParagraphBetween.{body_with}
 use Rattle.wt_text_edit_laws.specs.ParagraphParts.{break, joined_parts, para_with}

@@ -3,11 +3,11 @@ use Rattle.std.specs.Prelude.{◌≡◌, ◌⊎◌, ℕ, zero, suc, List, [], �
 use Rattle.wt_span.specs.Items.{Item}
 use Rattle.wt_inline.specs.ItemTree.{ItemTree}
 use Rattle.wt_page.specs.Body.{meaning}
-use Rattle.wt_row_laws.specs.Frames.{Frames, trees_at, all_places, content, AreFrames}
+use Rattle.wt_part_laws.specs.Frames.{Frames, trees_at, all_places, content, AreFrames}
 use Rattle.wt_expand.specs.Work.{Pages}
 use Rattle.wt_expand.specs.PageCalls.{expanded_page}
-use Rattle.wt_joined_calls.specs.Expanded.{part_items, GivesAnywhere}
-use Rattle.wt_called_trees.specs.MovedCalls.{AreMoved}
+use Rattle.wt_part_laws.specs.Expanded.{part_items, GivesAnywhere}
+use Rattle.wt_part_laws.specs.MovedCalls.{AreMoved}
 use Rattle.wt_text_edit_laws.specs.BlockSpots.{BlockSpot, spots_source}
 use Rattle.wt_text_edit_laws.specs.ParagraphBetween.{body_with}
 use Rattle.wt_text_edit_laws.specs.ReadContents.{IsReadContent}

@@ -3,12 +3,12 @@ use Rattle.std.specs.Prelude.{◌≡◌, ℕ, zero, suc, Option, Some, None, Lis
 use Rattle.wt_expand.specs.Expansion.{page_work}
 use Rattle.wt_expand.specs.PageCalls.{expanded_page}
 use Rattle.wt_expand.specs.Work.{Pages, first_refusal}
-use Rattle.wt_moved_laws.specs.Placeless.{all_placeless}
+use Rattle.wt_part_laws.specs.Placeless.{all_placeless}
 use Rattle.wt_typed_blocks.specs.Edited.{Edited, Edits, page_nodes, edits_show}
 use Rattle.wt_typed_blocks.specs.EditedPage.{edited_sources}
 use Rattle.wt_visible.specs.Children.{shown_children, listed}
 use Rattle.wt_visible.specs.SameNodes.{same_node}
-use Rattle.wt_called_trees.specs.TreeFrames.{all_filled}
+use Rattle.wt_part_laws.specs.TreeFrames.{all_filled}
 use Rattle.wt_text_edit_laws.specs.BlockSpots.{BlockSpot, spots_source}
 use Rattle.wt_text_edit_laws.specs.TextBlocks.{TextBlock}
 use Rattle.wt_called_edit_laws.specs.CalledTexts.{spots_tree}

@@ -5,12 +5,12 @@ use Rattle.wt_expand.specs.PageCalls.{expanded_page}
 use Rattle.wt_tree.specs.Tree.{Tree, tree}
 use Rattle.wt_annotated.specs.CutTexts.{cut_texts}
 use Rattle.wt_checks.specs.Kept.{children}
-use Rattle.wt_moved_laws.specs.Placeless.{placeless, all_placeless}
-use Rattle.wt_row_laws.specs.Frames.{content}
+use Rattle.wt_part_laws.specs.Placeless.{placeless, all_placeless}
+use Rattle.wt_part_laws.specs.Frames.{content}
 use Rattle.wt_text_edit_laws.specs.BlockSpots.{BlockSpot, spots_source}
-use Rattle.wt_called_trees.specs.HeldCalls.{AllHold, block_in, blocks_in}
-use Rattle.wt_called_trees.specs.Rounded.{AreClean, body_label}
-use Rattle.wt_called_trees.specs.TreeFrames.{TreeFrames, all_filled, spots}
+use Rattle.wt_part_laws.specs.HeldCalls.{AllHold, block_in, blocks_in}
+use Rattle.wt_part_laws.specs.Rounded.{AreClean, body_label}
+use Rattle.wt_part_laws.specs.TreeFrames.{TreeFrames, all_filled, spots}
 use Rattle.wt_called_edit_laws.specs.CalledBlocks.{counted}
 use Rattle.wt_called_edit_laws.specs.CallingBlocks.{AreEdited, AreCallingBlocks, tree_with_calls, CallingBlocksStand}
 use Rattle.wt_called_edit_laws.specs.Groups.{called_tree}

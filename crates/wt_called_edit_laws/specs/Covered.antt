@@ -11,10 +11,10 @@ use Rattle.wt_commands.specs.Answers.{refusal_of_page}
 use Rattle.wt_annotated.specs.Annotated.{annotated}
 use Rattle.wt_annotated.specs.GroupData.{group_data}
 use Rattle.wt_annotated.specs.Seams.{last_of, text_from}
-use Rattle.wt_row_laws.specs.Frames.{Frame, place, whole, around, Frames, no_frames, more_frames, tree_at, trees_at, all_places, content, AreFrames}
+use Rattle.wt_part_laws.specs.Frames.{Frame, place, whole, around, Frames, no_frames, more_frames, tree_at, trees_at, all_places, content, AreFrames}
 use Rattle.wt_text_edit_laws.specs.BlockSpots.{BlockSpot, spots_source}
 use Rattle.wt_text_edit_laws.specs.TextBlocks.{source_of}
-use Rattle.wt_called_trees.specs.Rounded.{AreOwn, AreClean, body_of}
+use Rattle.wt_part_laws.specs.Rounded.{AreOwn, AreClean, body_of}
 use Rattle.wt_called_edit_laws.specs.CalledBlocks.{AreAmongCalls}
 use Rattle.wt_called_edit_laws.specs.Groups.{called_tree}
 

@@ -9,7 +9,7 @@ use Rattle.wt_difference.specs.Difference.{same_inside}
 use Rattle.wt_difference.specs.Unedited.{SameLabel, IsUnedited}
 use Rattle.wt_link_spelling.specs.Spelling.{inline_spelling}
 use Rattle.wt_visible.specs.SameNodes.{same_node}
-use Rattle.wt_moved_laws.specs.Standing.{standing}
+use Rattle.wt_part_laws.specs.Standing.{standing}
 use Rattle.wt_typed_blocks.specs.Sent.{Block}
 use Rattle.wt_typed_blocks.specs.Typed.{place_of, Takes}
 use Rattle.wt_typed_blocks.specs.Edited.{Pieces, no_pieces, gone, written, kept, around, new_style, Edited, stays, edited, round, Edits, no_edits, more_edits, page_node, page_nodes, sent_node, AreEdited, sent_body}

@@ -7,11 +7,11 @@ use Rattle.wt_page.specs.Body.{meaning}
 use Rattle.wt_annotated.specs.Annotated.{annotated}
 use Rattle.wt_annotated.specs.CutTexts.{cut_texts}
 use Rattle.wt_annotated.specs.GroupData.{group_data}
-use Rattle.wt_moved_laws.specs.Placeless.{placeless}
+use Rattle.wt_part_laws.specs.Placeless.{placeless}
 use Rattle.wt_text_edit_laws.specs.BlockSpots.{BlockSpot, spots_source}
 use Rattle.wt_called_edit_laws.specs.Retyped.{AreRetyped}
-use Rattle.wt_called_trees.specs.Rounded.{AreClean, body_label, block_alone}
-use Rattle.wt_called_trees.specs.TreeFrames.{TreeFrames, all_filled, spots}
+use Rattle.wt_part_laws.specs.Rounded.{AreClean, body_label, block_alone}
+use Rattle.wt_part_laws.specs.TreeFrames.{TreeFrames, all_filled, spots}
 use Rattle.wt_called_edit_laws.specs.CalledBlocks.{AreAmongCalls, tree_by, counted, StandAmongCalls}
 
 -- the tree of a page, without its sections

@@ -8,7 +8,7 @@ use Rattle.wt_inline.specs.ItemTree.{ItemTree}
 use Rattle.wt_page.specs.Rows.{Row}
 use Rattle.wt_page.specs.Body.{meaning}
 use Rattle.wt_expand.specs.PageItems.{page_items}
-use Rattle.wt_row_laws.specs.Rounds.{Holder, round, AreCellHolders, TableRound, AreContent, IsTableRound}
+use Rattle.wt_part_laws.specs.Rounds.{Holder, round, AreCellHolders, TableRound, AreContent, IsTableRound}
 use Rattle.wt_text_edit_laws.specs.ParagraphBetween.{written_rows, body_with}
 use Rattle.wt_text_edit_laws.specs.TextBlocks.{a_heading, IsBlock}
 use Rattle.wt_text_edit_laws.specs.TypedHeadings.{Sides, heading_line, heading_with}

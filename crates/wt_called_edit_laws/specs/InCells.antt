@@ -11,8 +11,8 @@ use Rattle.wt_inline.specs.ItemTree.{ItemTree}
 use Rattle.wt_page.specs.Rows.{Row, unwritten_end, rows_from}
 use Rattle.wt_page.specs.Body.{meaning}
 use Rattle.wt_expand.specs.PageItems.{page_items}
-use Rattle.wt_row_laws.specs.Blocks.{BeginOtherwise}
-use Rattle.wt_row_laws.specs.Rounds.{Holder, round, AreCellHolders, TableRound, AreContent, IsTableRound, EndOtherwise}
+use Rattle.wt_part_laws.specs.Blocks.{BeginOtherwise}
+use Rattle.wt_part_laws.specs.Rounds.{Holder, round, AreCellHolders, TableRound, AreContent, IsTableRound, EndOtherwise}
 use Rattle.wt_text_edit_laws.specs.LonePages.{para_of}
 use Rattle.wt_text_edit_laws.specs.Paragraphs.{IsParagraph}
 use Rattle.wt_text_edit_laws.specs.ParagraphBetween.{written_rows, tables_behind, body_with}

@@ -3,7 +3,7 @@ use Rattle.std.specs.Prelude.{ℕ, List, [], ◌∷◌, ◌++◌}
 use Rattle.wt_span.specs.declared.form.Mode.TheVariants.{Page}
 use Rattle.wt_span.specs.Lexemes.{words}
 use Rattle.wt_expand.specs.Work.{Pages}
-use Rattle.wt_joined_calls.specs.Apart.{AreMet}
+use Rattle.wt_part_laws.specs.Apart.{AreMet}
 use Rattle.wt_called_edit_laws.specs.Written.{IsOwnPart}
 
 abbrev pub pieces_source : List (List ℕ) → List ℕ

@@ -8,12 +8,12 @@ use Rattle.wt_inline.specs.ItemTree.{ItemTree, inner}
 use Rattle.wt_checks.specs.Kept.{children}
 use Rattle.wt_annotated.specs.Annotated.{annotated}
 use Rattle.wt_annotated.specs.GroupData.{group_data}
-use Rattle.wt_row_laws.specs.Frames.{Frames, trees_at, all_places, Part, content, Holds, AreFrames}
-use Rattle.wt_moved_laws.specs.Standing.{standing}
-use Rattle.wt_moved_laws.specs.Placeless.{placeless, all_placeless}
-use Rattle.wt_called_trees.specs.TreeFrames.{TreeFrame, spot, kept, holder, TreeFrames, no_nodes, more_nodes, all_filled, spots}
-use Rattle.wt_called_trees.specs.Rounded.{AreOwn, AreClean, HaveSameData, body_of}
-use Rattle.wt_called_trees.specs.HeldCalls.{block_in, AllHold}
+use Rattle.wt_part_laws.specs.Frames.{Frames, trees_at, all_places, Part, content, Holds, AreFrames}
+use Rattle.wt_part_laws.specs.Standing.{standing}
+use Rattle.wt_part_laws.specs.Placeless.{placeless, all_placeless}
+use Rattle.wt_part_laws.specs.TreeFrames.{TreeFrame, spot, kept, holder, TreeFrames, no_nodes, more_nodes, all_filled, spots}
+use Rattle.wt_part_laws.specs.Rounded.{AreOwn, AreClean, HaveSameData, body_of}
+use Rattle.wt_part_laws.specs.HeldCalls.{block_in, AllHold}
 use Rattle.wt_annotated.specs.CutTexts.{cut_texts}
 
 -- ---- the blocks

@@ -5,11 +5,11 @@ use Rattle.wt_tree.specs.Tree.{Tree}
 use Rattle.wt_inline.specs.ItemTree.{ItemTree, tree_items}
 use Rattle.wt_annotated.specs.CutTexts.{cut_texts}
 use Rattle.wt_annotated.specs.Seams.{text_from}
-use Rattle.wt_called_trees.specs.HeldCalls.{HoldsItsCalls, block_in}
+use Rattle.wt_part_laws.specs.HeldCalls.{HoldsItsCalls, block_in}
 use Rattle.wt_expand.specs.PageCalls.{expanded_page}
 use Rattle.wt_expand.specs.Work.{Pages}
 use Rattle.wt_span.specs.Origins.{OuterCall}
-use Rattle.wt_joined_calls.specs.Expanded.{part_items}
+use Rattle.wt_part_laws.specs.Expanded.{part_items}
 use Rattle.wt_text_edit_laws.specs.BlockSpots.{BlockSpot, spots_source}
 use Rattle.wt_text_edit_laws.specs.TextBlocks.{source_of}
 use Rattle.wt_called_edit_laws.specs.Parts.{calls_to, calls_past}

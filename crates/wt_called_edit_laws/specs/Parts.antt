@@ -8,8 +8,8 @@ use Rattle.wt_span.specs.Origins.{OuterCall, Span}
 use Rattle.wt_expand.specs.Work.{Pages, Entry, entered}
 use Rattle.wt_expand.specs.Expansion.{page_reading, text_given, page_work}
 use Rattle.wt_expand.specs.PageCalls.{expanded_page}
-use Rattle.wt_joined_calls.specs.Apart.{close_left}
-use Rattle.wt_joined_calls.specs.Expanded.{moved_call, moved_span, part_items, calls_in, GivesAnywhere}
+use Rattle.wt_part_laws.specs.Apart.{close_left}
+use Rattle.wt_part_laws.specs.Expanded.{moved_call, moved_span, part_items, calls_in, GivesAnywhere}
 use Rattle.wt_text_edit_laws.specs.NoCalls.{Brace, opening, closing, NonePairs}
 use Rattle.wt_text_edit_laws.specs.TextBlocks.{TextBlock, source_of}
 use Rattle.wt_text_edit_laws.specs.BlockSpots.{BlockSpot, spots_source, EndBeforeBlocks, IsReadSpot, AreReadSpots}

@@ -1,10 +1,10 @@
 -- The paths at which the places of nodes are, and contents that are edited there and nowhere else.
 use Rattle.std.specs.Prelude.{◌≡◌, ℕ, zero, suc, Option, List, [], ◌∷◌, ◌++◌}
 use Rattle.wt_tree.specs.Tree.{Tree}
-use Rattle.wt_moved_laws.specs.Placeless.{all_placeless}
+use Rattle.wt_part_laws.specs.Placeless.{all_placeless}
 use Rattle.wt_typed_blocks.specs.Edited.{Edited, Edits, page_nodes}
 use Rattle.wt_called_edit_laws.specs.EditsAt.{edited_by, AllEditOnly}
-use Rattle.wt_called_trees.specs.TreeFrames.{spot, kept, holder, TreeFrames, no_nodes, more_nodes, all_filled, spots}
+use Rattle.wt_part_laws.specs.TreeFrames.{spot, kept, holder, TreeFrames, no_nodes, more_nodes, all_filled, spots}
 use Rattle.wt_called_edit_laws.specs.Sends.{AllSend}
 
 -- behind one more node

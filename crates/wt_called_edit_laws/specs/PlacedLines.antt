@@ -4,10 +4,10 @@ use Rattle.std.specs.Str.{IsUtf8}
 use Rattle.wt_span.specs.Items.{Item, sources}
 use Rattle.wt_expand.specs.PageItems.{page_items}
 use Rattle.wt_lines.specs.Lines.{content, full_lines}
-use Rattle.wt_headings.specs.Lines.{ending}
+use Rattle.wt_page.specs.Lines.{ending}
 use Rattle.wt_tables.specs.Parts.{joined}
 use Rattle.wt_page.specs.Rows.{rows_from}
-use Rattle.wt_row_laws.specs.Slots.{AllTrue}
+use Rattle.wt_part_laws.specs.Slots.{AllTrue}
 use Rattle.wt_text_edit_laws.specs.BlockSpots.{BlockSpot, spots_source}
 use Rattle.wt_text_edit_laws.specs.PageCuts.{AreBlockItems, begins_unmarked, EndsClosed, AreFree}
 use Rattle.wt_text_edit_laws.specs.NoCalls.{CallsNothing}

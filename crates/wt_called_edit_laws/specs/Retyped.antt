@@ -3,7 +3,7 @@ use Rattle.std.specs.Prelude.{◌≡◌, ◌⊎◌, ℕ, None, List, [], ◌∷�
 use Rattle.wt_span.specs.declared.form.Mode.TheVariants.{Page}
 use Rattle.wt_expand.specs.Work.{Pages, Entry, deep_place, first_refusal}
 use Rattle.wt_expand.specs.Expansion.{page_work}
-use Rattle.wt_joined_calls.specs.Expanded.{GivesAnywhere}
+use Rattle.wt_part_laws.specs.Expanded.{GivesAnywhere}
 use Rattle.wt_text_edit_laws.specs.Contents.{IsNewContent}
 use Rattle.wt_text_edit_laws.specs.ReadContents.{IsReadAnew}
 use Rattle.wt_text_edit_laws.specs.TextBlocks.{TextBlock, source_of}

@@ -4,10 +4,10 @@ use Rattle.wt_tree.specs.Plain.{Plains, plain_before, plains_before}
 use Rattle.wt_tree.specs.Source.{flat, flat_of_all}
 use Rattle.wt_tree.specs.Tree.{Tree, Trees}
 use Rattle.wt_visible.specs.SameNodes.{same_node}
-use Rattle.wt_moved_laws.specs.Placeless.{all_placeless}
+use Rattle.wt_part_laws.specs.Placeless.{all_placeless}
 use Rattle.wt_typed_blocks.specs.Edited.{Edited, stays, edited, round, Edits, no_edits, more_edits, page_nodes, edited_before, edits_before}
 use Rattle.wt_typed_blocks.specs.EditedPage.{edited_source, edited_sources}
-use Rattle.wt_called_trees.specs.TreeFrames.{TreeFrame, spot, kept, holder, TreeFrames, no_nodes, more_nodes, all_filled, spots}
+use Rattle.wt_part_laws.specs.TreeFrames.{TreeFrame, spot, kept, holder, TreeFrames, no_nodes, more_nodes, all_filled, spots}
 use Rattle.wt_called_edit_laws.specs.Nodes.{NoneLeaves}
 
 -- for a block at a place: this edit of its content, or the block as it is

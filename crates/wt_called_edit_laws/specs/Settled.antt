@@ -5,7 +5,7 @@ use Rattle.wt_tree.specs.Tiling.{is_group}
 use Rattle.wt_tree.specs.Tree.{Label, Tree, tree, Trees, none, more}
 use Rattle.wt_annotated.specs.Numbering.{number_of, next_after, count}
 use Rattle.wt_annotated.specs.Slices.{opening_of}
-use Rattle.wt_moved_laws.specs.Placeless.{placeless}
+use Rattle.wt_part_laws.specs.Placeless.{placeless}
 
 -- with this number, if its kind has one, at this byte, where it has this source
 abbrev pub settled_label : ℕ → ℕ → List ℕ → Label → Label

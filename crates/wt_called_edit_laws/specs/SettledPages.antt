@@ -6,9 +6,9 @@ use Rattle.wt_sections.specs.Sections.{with_sections}
 use Rattle.wt_page_round_trip.specs.PageTree.{page_tree}
 use Rattle.wt_text_edit_laws.specs.BlockSpots.{BlockSpot, spots_source}
 use Rattle.wt_called_edit_laws.specs.Retyped.{AreRetyped}
-use Rattle.wt_called_trees.specs.HeldCalls.{AllHold}
-use Rattle.wt_called_trees.specs.Rounded.{body_label}
-use Rattle.wt_called_trees.specs.TreeFrames.{TreeFrames, all_filled, spots}
+use Rattle.wt_part_laws.specs.HeldCalls.{AllHold}
+use Rattle.wt_part_laws.specs.Rounded.{body_label}
+use Rattle.wt_part_laws.specs.TreeFrames.{TreeFrames, all_filled, spots}
 use Rattle.wt_called_edit_laws.specs.Nodes.{block_at}
 use Rattle.wt_called_edit_laws.specs.CalledBlocks.{tree_by, counted}
 use Rattle.wt_called_edit_laws.specs.CallingBlocks.{AreEdited, tree_with_calls}

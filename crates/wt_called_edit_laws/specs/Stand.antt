@@ -6,11 +6,11 @@ use Rattle.wt_tree.specs.Tiling.{is_group, TiledFrom}
 use Rattle.wt_tree.specs.Tree.{Tree}
 use Rattle.wt_annotated.specs.Reached.{reached_in_all}
 use Rattle.wt_annotated.specs.Slices.{IsSlice}
-use Rattle.wt_row_laws.specs.Frames.{content}
-use Rattle.wt_moved_laws.specs.Placeless.{all_placeless}
+use Rattle.wt_part_laws.specs.Frames.{content}
+use Rattle.wt_part_laws.specs.Placeless.{all_placeless}
 use Rattle.wt_typed_blocks.specs.Edited.{Edited, stays, edited, round, Edits, no_edits, more_edits, page_nodes, AreOutside}
 use Rattle.wt_typed_blocks.specs.EditedPage.{LieAt}
-use Rattle.wt_called_trees.specs.TreeFrames.{TreeFrames, all_filled}
+use Rattle.wt_part_laws.specs.TreeFrames.{TreeFrames, all_filled}
 use Rattle.wt_called_edit_laws.specs.Nodes.{AreHolders}
 use Rattle.wt_called_edit_laws.specs.Sends.{AllSend}
 

@@ -7,8 +7,8 @@ use Rattle.wt_checks.specs.Kept.{children}
 use Rattle.wt_checks.specs.PutBack.{have_frame}
 use Rattle.wt_typed_blocks.specs.Sent.{Sents, old_children, AreSent, new_body}
 use Rattle.wt_typed_blocks.specs.Typed.{TakeTexts}
-use Rattle.wt_row_laws.specs.Frames.{content}
-use Rattle.wt_moved_laws.specs.Placeless.{all_placeless}
+use Rattle.wt_part_laws.specs.Frames.{content}
+use Rattle.wt_part_laws.specs.Placeless.{all_placeless}
 use Rattle.wt_typed_blocks.specs.Unmarked.{free_body}
 use Rattle.wt_typed_blocks.specs.Edited.{Edited, stays, edited, round, Edits, page_nodes}
 use Rattle.wt_typed_blocks.specs.EditedUnmarked.{AreInline, AreTold}
@@ -17,7 +17,7 @@ use Rattle.wt_called_edit_laws.specs.AnyBlocks.{typed_by, AllTypeOnly}
 use Rattle.wt_called_edit_laws.specs.AnyTexts.{AreOwn}
 use Rattle.wt_called_edit_laws.specs.EditsAt.{AreOwnEdits}
 use Rattle.wt_called_edit_laws.specs.OwnTexts.{AreTypings, path_texts, own_texts}
-use Rattle.wt_called_trees.specs.TreeFrames.{TreeFrames, all_filled}
+use Rattle.wt_part_laws.specs.TreeFrames.{TreeFrames, all_filled}
 use Rattle.wt_called_edit_laws.specs.Nodes.{AreHolders}
 use Rattle.wt_called_edit_laws.specs.Sends.{AllSend}
 

@@ -5,7 +5,7 @@ use Rattle.wt_tree.specs.Tree.{Tree, label}
 use Rattle.wt_checks.specs.Kept.{children}
 use Rattle.wt_isolation.specs.OpenTags.{any_ends_open}
 use Rattle.wt_selser.specs.GroupFaults.{has_faulty_group}
-use Rattle.wt_moved_laws.specs.Placeless.{placeless}
+use Rattle.wt_part_laws.specs.Placeless.{placeless}
 use Rattle.wt_selser.specs.Edits.{is_tangled}
 use Rattle.wt_text_edit_laws.specs.BlockSpots.{BlockSpot}
 use Rattle.wt_text_edit_laws.specs.TextBlocks.{source_of}

@@ -7,13 +7,13 @@ use Rattle.wt_span.specs.Origins.{OuterCall}
 use Rattle.wt_guards.specs.Content.{ContentSign, Thing, letter, thing, ends_line}
 use Rattle.wt_guards.specs.Guards.{Setting, is_guarded, is_new_at_start, is_mark}
 use Rattle.wt_guards.specs.Letters.{is_escaped}
-use Rattle.wt_scans.specs.Lexer.{lexer}
-use Rattle.wt_scans.specs.Scans.{Settles}
+use Rattle.wt_part_laws.specs.Lexer.{lexer}
+use Rattle.wt_part_laws.specs.Scans.{Settles}
 use Rattle.wt_expand.specs.PageItems.{page_items}
 use Rattle.wt_expand.specs.Work.{Pages, Entry, deep_place}
 use Rattle.wt_expand.specs.PageCalls.{expanded_page}
-use Rattle.wt_joined_calls.specs.Expanded.{part_items, calls_in, GivesAnywhere}
-use Rattle.wt_called_trees.specs.MovedCalls.{AreMoved}
+use Rattle.wt_part_laws.specs.Expanded.{part_items, calls_in, GivesAnywhere}
+use Rattle.wt_part_laws.specs.MovedCalls.{AreMoved}
 use Rattle.wt_text_edit_laws.specs.ReadContents.{BeginsUnclosed}
 use Rattle.wt_text_edit_laws.specs.TextBetween.{EndsBy}
 use Rattle.wt_beside_laws.specs.Commented.{IsCommentSource}

@@ -3,10 +3,10 @@
 ghost use Rattle.std.specs.Prelude.{◌≡◌, ℕ, Option, List};
 ghost use Rattle.wt_expand.specs.PageCalls.{expanded_page};
 ghost use Rattle.wt_expand.specs.Work.{Pages};
-ghost use Rattle.wt_moved_laws.specs.Placeless.{all_placeless};
+ghost use Rattle.wt_part_laws.specs.Placeless.{all_placeless};
 ghost use Rattle.wt_typed_blocks.specs.Edited.{Edited, Edits, page_nodes};
 ghost use Rattle.wt_typed_blocks.specs.EditedPage.{LieAt, AreApart};
-ghost use Rattle.wt_called_trees.specs.TreeFrames.{all_filled};
+ghost use Rattle.wt_part_laws.specs.TreeFrames.{all_filled};
 ghost use Rattle.wt_text_edit_laws.specs.BlockSpots.{BlockSpot, spots_source};
 ghost use Rattle.wt_called_edit_laws.specs.CallingBlocks.{AreEdited};
 ghost use Rattle.wt_called_edit_laws.specs.CallingEdits.{AllTakeLetters, IsCallingPage, StaysAt, IsSentFor, MakesPage};

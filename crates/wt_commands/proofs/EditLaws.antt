@@ -40,7 +40,7 @@ use Rattle.wt_commands.proofs.ExpandLaws.{fetched_as}
 use Rattle.wt_commands.proofs.PageLaws.{text_of, page_text, title_made, title_stands, expanded_done}
 use Rattle.wt_commands.proofs.ShownLaws.{IsBare, same_shown, page_face, read_face}
 use Rattle.wt_commands.proofs.SectionEdits.{edit_outside}
-use Rattle.wt_html_laws.proofs.OneBody.{read_is_one_body}
+use Rattle.wt_page_round_trip.proofs.OneBody.{read_is_one_body}
 
 -- ---- the new page
 

@@ -14,7 +14,7 @@ use Rattle.wt_html_in.specs.declared.edited.Edited.{Edited}
 use Rattle.wt_html_in.specs.declared.refusal.HtmlRefusal.TheVariants as refusals
 use Rattle.wt_html_grammar.specs.declared.why.HtmlWhy.{HtmlWhy}
 use Rattle.wt_schema.specs.declared.why.FitWhy.{FitWhy}
-use Rattle.wt_markup.specs.Html.{html_text}
+use Rattle.wt_schema.specs.Html.{html_text}
 use Rattle.wt_page_round_trip.specs.PageTree.{page_tree}
 use Rattle.wt_commands.specs.declared.output.Output.{Output}
 use Rattle.wt_commands.specs.declared.refusal.Refusal.{Refusal}

@@ -5,7 +5,7 @@ use Rattle.std.specs.Io.KnownBytes.{Appends}
 use Rattle.std.proofs.lemmas.Bool.Decides.{nat_tests}
 use Rattle.wt_devices.specs.Device.{Pages}
 use Rattle.wt_tree.specs.Opened.{without_sections}
-use Rattle.wt_markup.specs.Html.{html_text}
+use Rattle.wt_schema.specs.Html.{html_text}
 use Rattle.wt_schema.specs.Read.{read}
 use Rattle.wt_commands.specs.declared.output.Output.{Output}
 use Rattle.wt_commands.specs.declared.status.Status.{Status}
@@ -28,7 +28,7 @@ use Rattle.wt_commands.proofs.AnswerLaws.{input_within}
 use Rattle.wt_commands.proofs.WikitextLaws.{source_sourced, told_wikitext}
 use Rattle.wt_commands.proofs.StatusLaws.{IsUnansweredBy, unanswered, no_refusal}
 use Rattle.wt_page_round_trip.proofs.Pages.{page_is_read, same_page}
-use Rattle.wt_round_trip.specs.Written.{unranged}
+use Rattle.wt_schema.specs.Written.{unranged}
 
 -- what an answer that is HTML says of the page
 pub record Written (pages : Pages) (page bytes : List ℕ) : Type 0 where

@@ -11,10 +11,10 @@ use Rattle.wt_tree.specs.declared.row.Writing.TheVariants.{AsText, AsVoid, Round
 use Rattle.wt_tree.specs.Kinds.{is_leaf, is_numbered, writing, texts_of_kind}
 use Rattle.wt_tree.specs.Opened.{without_sections}
 use Rattle.wt_checks.specs.PutBack.{is_frame}
-use Rattle.wt_round_trip.proofs.Rows.{held}
+use Rattle.wt_schema.proofs.Rows.{held}
 use Rattle.wt_tree.specs.Tiling.{is_group, ids, ids_of_all, others, others_of_all}
 use Rattle.wt_tree.specs.Tree.{Label, Tree, tree, Trees, none, more, label}
-use Rattle.wt_round_trip.specs.Written.{IsWrittenGroup, NodeIsWritten, is_childless, IsCutIn, WrittenIn, AllWrittenIn}
+use Rattle.wt_schema.specs.Written.{IsWrittenGroup, NodeIsWritten, is_childless, IsCutIn, WrittenIn, AllWrittenIn}
 use Rattle.wt_expand.specs.Expansion.{page_work}
 use Rattle.wt_expand.specs.Work.{Pages, first_refusal}
 use Rattle.wt_page_round_trip.specs.PageTree.{page_tree}

@@ -11,10 +11,10 @@ use Rattle.wt_tree.specs.Kinds.{shape, showing, writing}
 use Rattle.wt_tree.specs.Plain.{face, Plain, text, element, Plains, ended, along, plains_before}
 use Rattle.wt_tree.specs.Tree.{Label, Trees, label}
 use Rattle.wt_schema.specs.Rows.{shows_text}
-use Rattle.wt_round_trip.specs.GroupNodes.{elements_for, element_label, inner_node, inner_nodes, group_nodes, is_ended}
-use Rattle.wt_round_trip.specs.Written.{PlainIn, PlainsIn, TopsIn}
-use Rattle.wt_round_trip.proofs.Faces.{held_somewhere}
-use Rattle.wt_round_trip.proofs.Rows.{is_somewhere, held}
+use Rattle.wt_schema.specs.GroupNodes.{elements_for, element_label, inner_node, inner_nodes, group_nodes, is_ended}
+use Rattle.wt_schema.specs.Written.{PlainIn, PlainsIn, TopsIn}
+use Rattle.wt_schema.proofs.Faces.{held_somewhere}
+use Rattle.wt_schema.proofs.Rows.{is_somewhere, held}
 use Rattle.wt_checks.specs.Elements.{bare, all_bare, written_for, read_by, read_before, all_read}
 use Rattle.wt_checks.specs.Groups.{has_mark, have_mark}
 use Rattle.wt_checks.specs.PutBack.{is_frame}

@@ -7,9 +7,9 @@ use Rattle.wt_tree.specs.Plain.{Plain, ended as nothing_more}
 use Rattle.wt_tree.specs.Tiling.{InPreorder}
 use Rattle.wt_tree.specs.Tree.{Tree, tree}
 use Rattle.wt_schema.specs.Read.{page as as_page, read}
-use Rattle.wt_html_laws.proofs.OneBody.{read_is_one_body}
-use Rattle.wt_markup.specs.Html.{html_text}
-use Rattle.wt_round_trip.specs.Written.{unranged}
+use Rattle.wt_page_round_trip.proofs.OneBody.{read_is_one_body}
+use Rattle.wt_schema.specs.Html.{html_text}
+use Rattle.wt_schema.specs.Written.{unranged}
 use Rattle.wt_expand.specs.PageCalls.{expanded_page}
 use Rattle.wt_expand.specs.Work.{Pages}
 use Rattle.wt_page_round_trip.specs.PageTree.{page_tree}

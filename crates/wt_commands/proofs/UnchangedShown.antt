@@ -13,8 +13,8 @@ use Rattle.wt_tree.specs.Kinds.{showing, writing}
 use Rattle.wt_tree.specs.Plain.{Plains, ended, shown_before, plain_before, plains_before}
 use Rattle.wt_tree.specs.Tiling.{is_group, InPreorder}
 use Rattle.wt_tree.specs.Tree.{Label, Tree, tree, Trees, none, more}
-use Rattle.wt_round_trip.specs.GroupNodes.{group_nodes}
-use Rattle.wt_round_trip.specs.Written.{label_read, unranged, unranged_all, is_childless, IsWrittenGroup, NodeIsWritten, WrittenIn, AllWrittenIn}
+use Rattle.wt_schema.specs.GroupNodes.{group_nodes}
+use Rattle.wt_schema.specs.Written.{label_read, unranged, unranged_all, is_childless, IsWrittenGroup, NodeIsWritten, WrittenIn, AllWrittenIn}
 use Rattle.wt_page_round_trip.proofs.Sectioned.{IsWrittenBody}
 use Rattle.wt_checks.specs.Groups.{is_marked, has_mark, have_mark}
 use Rattle.wt_checks.specs.Places.{placed, all_placed, places, is_content, Page, page_of, parent_below}

@@ -12,11 +12,11 @@ use Rattle.wt_tree.specs.Kinds.{shape, showing, writing, is_numbered, is_section
 use Rattle.wt_tree.specs.Opened.{all_opened_before, opened}
 use Rattle.wt_tree.specs.Tiling.{is_group, ids, ids_of_all, others, others_of_all, InPreorder}
 use Rattle.wt_tree.specs.Tree.{Label, Tree, tree, Trees, none, more, label}
-use Rattle.wt_round_trip.specs.GroupNodes.{elements_for, group_nodes, inner_node, inner_nodes}
+use Rattle.wt_schema.specs.GroupNodes.{elements_for, group_nodes, inner_node, inner_nodes}
 use Rattle.wt_tree.specs.Plain.{Plain, text, element, Plains, ended, along}
-use Rattle.wt_round_trip.specs.Written.{label_read, unranged, unranged_all, is_childless, IsTextIn, IsElementLabel, IsCutIn, IsWrittenGroup, NodeIsWritten, WrittenIn, AllWrittenIn}
-use Rattle.wt_round_trip.proofs.Bare.{others_read}
-use Rattle.wt_round_trip.proofs.Rows.{is_somewhere, held}
+use Rattle.wt_schema.specs.Written.{label_read, unranged, unranged_all, is_childless, IsTextIn, IsElementLabel, IsCutIn, IsWrittenGroup, NodeIsWritten, WrittenIn, AllWrittenIn}
+use Rattle.wt_schema.proofs.Bare.{others_read}
+use Rattle.wt_schema.proofs.Rows.{is_somewhere, held}
 use Rattle.wt_sections.specs.SectionLaws.{NoneIsSection}
 use Rattle.wt_page_round_trip.proofs.Sectioned.{IsWrittenBody}
 use Rattle.wt_checks.specs.Checked.{checked}

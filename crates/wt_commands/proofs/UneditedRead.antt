@@ -8,10 +8,10 @@ use Rattle.wt_tree.specs.Kinds.{writing}
 use Rattle.wt_recut.specs.Recut.{any_shows_block}
 use Rattle.wt_tree.specs.Tiling.{is_group}
 use Rattle.wt_tree.specs.Tree.{Label, Tree, tree, Trees, none, more}
-use Rattle.wt_round_trip.specs.GroupNodes.{group_nodes}
-use Rattle.wt_round_trip.specs.Written.{label_read, unranged, unranged_all, is_childless, IsWrittenGroup, NodeIsWritten, WrittenIn, AllWrittenIn}
-use Rattle.wt_round_trip.proofs.Bare.{others_read}
-use Rattle.wt_round_trip.proofs.Rows.{held}
+use Rattle.wt_schema.specs.GroupNodes.{group_nodes}
+use Rattle.wt_schema.specs.Written.{label_read, unranged, unranged_all, is_childless, IsWrittenGroup, NodeIsWritten, WrittenIn, AllWrittenIn}
+use Rattle.wt_schema.proofs.Bare.{others_read}
+use Rattle.wt_schema.proofs.Rows.{held}
 use Rattle.wt_page_round_trip.proofs.Sectioned.{IsWrittenBody}
 use Rattle.wt_difference.specs.Unedited.{SameLabel, GroupOr, IsUnedited, AreUnedited}
 use Rattle.wt_commands.proofs.UnchangedTree.{text_kind, no_group, group_no_body, group_held}

@@ -3,7 +3,7 @@ use Rattle.std.specs.Prelude.{◌≡◌, ℕ, List, length, nat_lt, Option, Some
 use Rattle.wt_devices.specs.Device.{Pages}
 use Rattle.wt_tree.specs.Tree.{Tree}
 use Rattle.wt_tree.specs.Source.{flat}
-use Rattle.wt_markup.specs.Html.{html_text}
+use Rattle.wt_schema.specs.Html.{html_text}
 use Rattle.wt_listing.specs.Listing.{listing}
 use Rattle.wt_lint.specs.Lines.{findings}
 use Rattle.wt_lint.specs.Report.{finding_lines}

@@ -11,7 +11,7 @@ use Rattle.wt_tree.specs.Tree.{Tree}
 use Rattle.wt_expand.specs.Work.{Pages}
 use Rattle.wt_schema.specs.Read.{Read, page as as_page, ill, misfit, read}
 use Rattle.wt_gen.specs.Gen.{sections, template}
-use Rattle.wt_markup.specs.Html.{html_text}
+use Rattle.wt_schema.specs.Html.{html_text}
 
 -- the page with so many sections
 abbrev pub gen_page : ℕ → List ℕ

@@ -4,7 +4,7 @@ use Rattle.std.specs.Io.KnownBytes.{Appends}
 use Rattle.wt_expand.specs.Work.{Pages}
 use Rattle.wt_tree.specs.Tree.{Tree}
 use Rattle.wt_tree.specs.Source.{flat}
-use Rattle.wt_markup.specs.Html.{html_text}
+use Rattle.wt_schema.specs.Html.{html_text}
 use Rattle.wt_schema.specs.Read.{page as as_page, read}
 use Rattle.wt_page_round_trip.specs.PageTree.{page_tree}
 use Rattle.wt_commands.specs.declared.status.Status.TheVariants.{Done}

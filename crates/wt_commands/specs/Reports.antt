@@ -10,7 +10,7 @@ use Rattle.wt_tree.specs.Source.{flat}
 use Rattle.wt_tree.specs.Tiling.{Tiled, Covers, InPreorder}
 use Rattle.wt_annotated.specs.Reached.{AreReachedSlices}
 use Rattle.wt_schema.specs.Read.{page as as_page, read}
-use Rattle.wt_markup.specs.Html.{html_text}
+use Rattle.wt_schema.specs.Html.{html_text}
 use Rattle.wt_page_round_trip.specs.PageTree.{page_tree}
 use Rattle.wt_slices.specs.BodySlices.{slices}
 use Rattle.wt_visible.specs.Restored.{restored_from}

@@ -2,7 +2,7 @@
 
 ghost use Rattle.std.specs.Prelude.{◌≡◌, ◌≤◌, length, string_bytes, [], ◌∷◌, IfOk, IfErr, Some};
 ghost use Rattle.wt_schema.specs.Read.{read};
-ghost use Rattle.wt_markup.specs.Html.{html_text};
+ghost use Rattle.wt_schema.specs.Html.{html_text};
 ghost use Rattle.wt_tree.specs.Tiling.{is_group};
 ghost use Rattle.wt_tree.specs.View.{view};
 ghost use Rattle.wt_commands.specs.Answers.{told_of_tree, gen_of, gen_answer};

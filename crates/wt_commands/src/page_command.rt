@@ -3,7 +3,7 @@ ghost use Rattle.wt_annotated.specs.Reached.{AreReachedSlices};
 ghost use Rattle.wt_expand.specs.Work.{Pages, names_asked};
 ghost use Rattle.wt_lint.specs.Lines.{findings};
 ghost use Rattle.wt_lint.specs.Report.{finding_lines};
-ghost use Rattle.wt_markup.specs.Html.{html_text};
+ghost use Rattle.wt_schema.specs.Html.{html_text};
 ghost use Rattle.wt_tree.specs.View.{view};
 ghost use Rattle.wt_transclusion.specs.Asked.{Asks};
 ghost use Rattle.wt_commands.specs.Answers.{html_within, made_of_tree, made, title_answer};

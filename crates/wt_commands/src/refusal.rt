@@ -6,9 +6,8 @@ use crate::status::Status;
 use std::alloc::{AllocError, Global};
 use wt_checks::{NodeNumber, TreeRefusal};
 use wt_devices::FetchRefusal;
-use wt_edit::{ContentWhy, EditRefusal};
+use wt_edit::{ContentWhy, EditRefusal, SelserRefusal};
 use wt_html_in::{FitWhy, HtmlRefusal, HtmlWhy};
-use wt_selser_refusal::SelserRefusal;
 use wt_span::{NoMemory, Str};
 use wt_transclusion::ExpandRefusal;
 

@@ -25,7 +25,7 @@ use Rattle.wt_annotated.specs.Reached.{reached, reached_in_all, AreReachedSlices
 use Rattle.wt_annotated.specs.GroupData.{group_data}
 use Rattle.wt_annotated.proofs.PageSlices.{slice_length}
 use Rattle.wt_annotated.proofs.AnnotatedTree.{annotated_slices}
-use Rattle.wt_round_trip.specs.Written.{IsElementLabel, IsLeafSource, HasSource, IsWrittenGroup, NodeIsWritten, is_childless, IsCutIn, WrittenIn, AllWrittenIn}
+use Rattle.wt_schema.specs.Written.{IsElementLabel, IsLeafSource, HasSource, IsWrittenGroup, NodeIsWritten, is_childless, IsCutIn, WrittenIn, AllWrittenIn}
 use Rattle.wt_page_round_trip.specs.PageTree.{page_tree}
 use Rattle.wt_page_round_trip.proofs.Sectioned.{IsWrittenBody}
 use Rattle.wt_page_round_trip.proofs.PageTrees.{ungathered, ungathered_tiled, clean_meaning, covers_width}

@@ -12,8 +12,8 @@ use Rattle.wt_tree.specs.Elements.{span}
 use Rattle.wt_tree.specs.Kinds.{element_name, showing, writing}
 use Rattle.wt_tree.specs.Plain.{Plains, text, element, ended, along, text_before, shown_before, plain_before, plains_before}
 use Rattle.wt_tree.specs.Tree.{Label, Tree, tree, Trees, none, more}
-use Rattle.wt_markup.specs.Escapes.{escaped}
-use Rattle.wt_markup.specs.Html.{tag_of, end_tag_of, element_by, group_part, group_parts, group_html, plains_html}
+use Rattle.wt_schema.specs.Escapes.{escaped}
+use Rattle.wt_schema.specs.Html.{tag_of, end_tag_of, element_by, group_part, group_parts, group_html, plains_html}
 
 -- ---- what is written as an element
 

@@ -5,7 +5,7 @@ use Rattle.wt_tree.specs.declared.row.Writing.TheVariants.{AsSection, RoundChara
 use Rattle.wt_tree.specs.Kinds.{writing}
 use Rattle.wt_tree.specs.Plain.{ended, plains_before}
 use Rattle.wt_tree.specs.Tiling.{is_group}
-use Rattle.wt_markup.specs.Html.{start_tag, section_start, end_tag, round_character, written, group_html, html, html_of_all}
+use Rattle.wt_schema.specs.Html.{start_tag, section_start, end_tag, round_character, written, group_html, html, html_of_all}
 use Rattle.wt_tree.specs.declared.node.Node.{Node, out-Node}
 use Rattle.wt_tree.specs.View.{label_of, view, views}
 use Rattle.wt_tree.proofs.Views.{view_out}

@@ -2,7 +2,7 @@
 -- element's own, escaped.
 use Rattle.std.proofs.Common.{◌≡◌, ℕ, List, ◌++◌, sym, ap, ◌∙◌, append_assoc, codes}
 use Rattle.std.proofs.lemmas.Grind.{flat_map-append}
-use Rattle.wt_markup.specs.Escapes.{escape, escape_double, escaped_double}
+use Rattle.wt_schema.specs.Escapes.{escape, escape_double, escaped_double}
 
 pub three_pushed : (old a b c x y z : List ℕ) → x ≡ old ++ a → y ≡ x ++ b → z ≡ y ++ c → z ≡ old ++ (a ++ (b ++ c))
 three_pushed old a b c x y z d e f =

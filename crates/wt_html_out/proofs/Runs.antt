@@ -5,7 +5,7 @@ use Rattle.std.specs.List.{flat_map, list_all}
 use Rattle.std.proofs.lemmas.List.{take-append-drop}
 use Rattle.std.proofs.Math.Seq.{take-length}
 use Rattle.wt_datamw.proofs.Runs.{both, plain_run}
-use Rattle.wt_markup.specs.Escapes.{escape, escape_double, escape_single, is_control}
+use Rattle.wt_schema.specs.Escapes.{escape, escape_double, escape_single, is_control}
 use Rattle.wt_html_out.specs.Runs.{is_plain}
 use Rattle.wt_html_out.specs.Escaping.{escape_in, quote_of}
 use Rattle.wt_html_out.specs.declared.bytes.Escaping.{Escaping}

@@ -9,8 +9,8 @@ use Rattle.wt_tree.specs.declared.node.Node.{Node, out-Node}
 use Rattle.wt_tree.specs.View.{label_of, view, views}
 use Rattle.wt_tree.proofs.Views.{view_out}
 use Rattle.wt_tree.specs.Tree.{Label, Tree, tree, Trees, none, more}
-use Rattle.wt_markup.specs.Escapes.{escape, escaped}
-use Rattle.wt_markup.specs.Html.{attributes, element_by, plains_html, face_attributes, group_element, group_span, group_parts, group_html}
+use Rattle.wt_schema.specs.Escapes.{escape, escaped}
+use Rattle.wt_schema.specs.Html.{attributes, element_by, plains_html, face_attributes, group_element, group_span, group_parts, group_html}
 use Rattle.wt_html_out.specs.declared.groups.Progress.{Progress}
 use Rattle.wt_html_out.specs.declared.groups.Progress.TheVariants as at
 use Rattle.wt_html_out.specs.Shown.{shown_by, shown_html, shown_html_of_all, is_start, span_start, text_start, span_end, text_end, ending, text_part, after_text, part_by, after_by, after, after_all, part, parts}

@@ -2,7 +2,7 @@
 use Rattle.std.specs.Prelude.{ℕ, List}
 use Rattle.std.specs.List.{flat_map}
 use Rattle.wt_span.specs.Characters as byte
-use Rattle.wt_markup.specs.Escapes.{escape, escape_double, escape_single}
+use Rattle.wt_schema.specs.Escapes.{escape, escape_double, escape_single}
 use Rattle.wt_html_out.specs.declared.bytes.Escaping.{Escaping}
 use Rattle.wt_html_out.specs.declared.bytes.Escaping.TheVariants as for
 

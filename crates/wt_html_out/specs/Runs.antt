@@ -1,7 +1,7 @@
 -- Bytes that are written as they are.
 use Rattle.std.specs.Prelude.{ℕ, Bool, ◌==◌, ◌&&◌, not}
 use Rattle.wt_span.specs.Characters as byte
-use Rattle.wt_markup.specs.Escapes.{is_control}
+use Rattle.wt_schema.specs.Escapes.{is_control}
 
 -- a byte that needs no escape in a text, and isn't this quote
 abbrev pub is_plain : ℕ → ℕ → Bool

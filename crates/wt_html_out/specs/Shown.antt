@@ -4,8 +4,8 @@ use Rattle.wt_tree.specs.declared.kind.Showing.{Showing}
 use Rattle.wt_tree.specs.declared.kind.Showing.TheVariants.{Characters, Inside, Nothing, Element}
 use Rattle.wt_tree.specs.Kinds.{showing, writing, fixed_attributes}
 use Rattle.wt_tree.specs.Tree.{Label, Tree, tree, Trees, none, more}
-use Rattle.wt_markup.specs.Escapes.{escaped}
-use Rattle.wt_markup.specs.Html.{attributes, tag_of, end_tag_of, element_by, face_attributes, group_attributes, group_element}
+use Rattle.wt_schema.specs.Escapes.{escaped}
+use Rattle.wt_schema.specs.Html.{attributes, tag_of, end_tag_of, element_by, face_attributes, group_attributes, group_element}
 use Rattle.wt_tree.specs.Elements.{span}
 use Rattle.wt_html_out.specs.declared.groups.Progress.{Progress}
 use Rattle.wt_html_out.specs.declared.groups.Progress.TheVariants as at

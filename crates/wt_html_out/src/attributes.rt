@@ -1,6 +1,6 @@
 ghost use Rattle.std.specs.Prelude.{◌≡◌, ◌≤◌, ◌++◌, take, drop, length, option_copied, IfOk, OnOk};
-ghost use Rattle.wt_markup.specs.Escapes.{escaped_single};
-ghost use Rattle.wt_markup.specs.Html.{attribute, attributes, id_attribute, mw_attribute, leaf_sync, inner_sync, sync_of, sync_start, sync_value, sync_attribute, carried_attributes, attributes_of};
+ghost use Rattle.wt_schema.specs.Escapes.{escaped_single};
+ghost use Rattle.wt_schema.specs.Html.{attribute, attributes, id_attribute, mw_attribute, leaf_sync, inner_sync, sync_of, sync_start, sync_value, sync_attribute, carried_attributes, attributes_of};
 ghost use Rattle.wt_datamw.specs.Mw.{mw_text};
 ghost use Rattle.wt_datamw.specs.Sync.{sync_text};
 ghost use Rattle.wt_tree.specs.Kinds.{one_if_any, fixed_of, fixed_attributes};
@@ -14,7 +14,7 @@ use wt_devices::{push, push_number};
 use wt_span::{NoMemory, Str, Text, rest_of};
 use wt_tree::{Attr, AttrName, DataMw, Fixed, Kind, Node, Ranges, Shown};
 
-#[tactic(auto, unfolding(wt_markup::specs::Html::attribute))]
+#[tactic(auto, unfolding(wt_schema::specs::Html::attribute))]
 pub fn push_attribute(out: &mut Vec<u8>, name: AttrName, value: &[u8]) -> Result<(), NoMemory>
     ensures { OnOk result (out.new.items ≡ out.old.items ++ attribute (name, value.now)) }
 {
@@ -51,7 +51,7 @@ pub fn push_own(out: &mut Vec<u8>, attrs: &[Attr]) -> Result<(), NoMemory>
     Ok(())
 }
 
-#[tactic(auto, unfolding(wt_markup::specs::Html::id_attribute))]
+#[tactic(auto, unfolding(wt_schema::specs::Html::id_attribute))]
 fn push_id(out: &mut Vec<u8>, id: u32) -> Result<(), NoMemory>
     ensures { OnOk result (out.new.items ≡ out.old.items ++ id_attribute id) }
 {
@@ -88,7 +88,7 @@ fn push_mw_escaped(alloc: Global, out: &mut Vec<u8>, mw: &DataMw) -> Result<(), 
     escape_behind(alloc, out, at)
 }
 
-#[tactic(auto, unfolding(wt_markup::specs::Html::mw_attribute))]
+#[tactic(auto, unfolding(wt_schema::specs::Html::mw_attribute))]
 fn push_mw(alloc: Global, out: &mut Vec<u8>, mw: Option<&DataMw>) -> Result<(), NoMemory>
     ensures { OnOk result (out.new.items ≡ out.old.items ++ mw_attribute (option_copied mw.entry)) }
 {
@@ -142,7 +142,7 @@ fn push_inner_sync(
 }
 
 /// What `data-parsoid` says of a node with these ranges.
-#[tactic(auto, unfolding(wt_markup::specs::Html::sync_of))]
+#[tactic(auto, unfolding(wt_schema::specs::Html::sync_of))]
 fn push_sync_of(
     alloc: Global,
     out: &mut Vec<u8>,
@@ -171,14 +171,14 @@ fn push_sync_escaped(
     escape_behind(alloc, out, at)
 }
 
-#[tactic(auto, unfolding(wt_markup::specs::Html::sync_start))]
+#[tactic(auto, unfolding(wt_schema::specs::Html::sync_start))]
 fn push_sync_start(out: &mut Vec<u8>) -> Result<(), NoMemory>
     ensures { OnOk result (out.new.items ≡ out.old.items ++ sync_start) }
 {
     push(out, b" data-parsoid='")
 }
 
-#[tactic(auto, unfolding(wt_markup::specs::Html::sync_value))]
+#[tactic(auto, unfolding(wt_schema::specs::Html::sync_value))]
 fn push_sync_value(
     alloc: Global,
     out: &mut Vec<u8>,
@@ -192,7 +192,7 @@ fn push_sync_value(
     push(out, b"'")
 }
 
-#[tactic(auto, unfolding(wt_markup::specs::Html::sync_attribute))]
+#[tactic(auto, unfolding(wt_schema::specs::Html::sync_attribute))]
 fn push_sync(alloc: Global, out: &mut Vec<u8>, node: &Node<'_>) -> Result<(), NoMemory>
     ensures { OnOk result (out.new.items ≡ out.old.items ++ sync_attribute (label_of (out-Node node.now)) (out-Node node.now).ranges) }
 {
@@ -212,7 +212,7 @@ pub fn push_carried(alloc: Global, out: &mut Vec<u8>, node: &Node<'_>) -> Result
 }
 
 /// The attributes of a node's element, in their order.
-#[tactic(auto, unfolding(wt_markup::specs::Html::attributes_of))]
+#[tactic(auto, unfolding(wt_schema::specs::Html::attributes_of))]
 pub fn push_attributes(alloc: Global, out: &mut Vec<u8>, node: &Node<'_>) -> Result<(), NoMemory>
     ensures { OnOk result (out.new.items ≡ out.old.items ++ attributes_of (label_of (out-Node node.now))) }
 {

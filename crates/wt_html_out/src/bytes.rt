@@ -2,7 +2,7 @@ ghost use Rattle.std.specs.Prelude.{◌≡◌, ◌++◌, ◌<◌, ◌≤◌, tru
 ghost use Rattle.std.specs.List.{list_all};
 ghost use Rattle.wt_html_out.specs.Runs.{is_plain};
 ghost use Rattle.wt_html_out.specs.Escaping.{escape_in, escaped_in, quote_of};
-ghost use Rattle.wt_markup.specs.Escapes.{escape, escape_double, escape_single, is_control};
+ghost use Rattle.wt_schema.specs.Escapes.{escape, escape_double, escape_single, is_control};
 
 use wt_devices::{push, push_number};
 use wt_span::{NoMemory, front_of, rest_of};
@@ -42,7 +42,7 @@ fn push_control(out: &mut Vec<u8>, byte: u8) -> Result<(), NoMemory>
     Ok(())
 }
 
-#[tactic(auto, unfolding(wt_markup::specs::Escapes::escape))]
+#[tactic(auto, unfolding(wt_schema::specs::Escapes::escape))]
 fn push_byte(out: &mut Vec<u8>, byte: u8) -> Result<(), NoMemory>
     ensures { OnOk result (out.new.items ≡ out.old.items ++ escape byte) }
 {
@@ -61,7 +61,7 @@ fn push_byte(out: &mut Vec<u8>, byte: u8) -> Result<(), NoMemory>
     Ok(())
 }
 
-#[tactic(auto, unfolding(wt_markup::specs::Escapes::escape_double))]
+#[tactic(auto, unfolding(wt_schema::specs::Escapes::escape_double))]
 fn push_byte_double(out: &mut Vec<u8>, byte: u8) -> Result<(), NoMemory>
     ensures { OnOk result (out.new.items ≡ out.old.items ++ escape_double byte) }
 {
@@ -72,7 +72,7 @@ fn push_byte_double(out: &mut Vec<u8>, byte: u8) -> Result<(), NoMemory>
     push_byte(out, byte)
 }
 
-#[tactic(auto, unfolding(wt_markup::specs::Escapes::escape_single))]
+#[tactic(auto, unfolding(wt_schema::specs::Escapes::escape_single))]
 fn push_byte_single(out: &mut Vec<u8>, byte: u8) -> Result<(), NoMemory>
     ensures { OnOk result (out.new.items ≡ out.old.items ++ escape_single byte) }
 {

@@ -1,8 +1,8 @@
 //! The attributes of the elements of a group.
 
 ghost use Rattle.std.specs.Prelude.{◌≡◌, ◌++◌, ◌∷◌, [], None, OnOk, codes};
-ghost use Rattle.wt_markup.specs.Html.{attribute, attributes, about_attribute, joined_type, with_type, first_attributes, next_attributes, group_attributes};
-ghost use Rattle.wt_markup.specs.Escapes.{escaped_double};
+ghost use Rattle.wt_schema.specs.Html.{attribute, attributes, about_attribute, joined_type, with_type, first_attributes, next_attributes, group_attributes};
+ghost use Rattle.wt_schema.specs.Escapes.{escaped_double};
 ghost use Rattle.wt_tree.specs.Kinds.{fixed_of, one_if_any, fixed_attributes};
 ghost use Rattle.wt_tree.specs.View.{attrs_of, label_of};
 ghost use Rattle.wt_tree.specs.declared.node.Node.{out-Node};
@@ -15,7 +15,7 @@ use wt_span::NoMemory;
 use wt_tree::{Attr, AttrName, Fixed, Kind, Node};
 
 /// The number of the group.
-#[tactic(auto, unfolding(wt_markup::specs::Html::about_attribute))]
+#[tactic(auto, unfolding(wt_schema::specs::Html::about_attribute))]
 fn push_about(out: &mut Vec<u8>, number: usize) -> Result<(), NoMemory>
     ensures { OnOk result (out.new.items ≡ out.old.items ++ about_attribute number) }
 {
@@ -36,7 +36,7 @@ fn push_values(out: &mut Vec<u8>, first: &[u8], second: &[u8]) -> Result<(), NoM
 }
 
 /// An attribute whose value is the group's word, a space and the element's own value.
-#[tactic(auto, unfolding(wt_markup::specs::Html::attribute))]
+#[tactic(auto, unfolding(wt_schema::specs::Html::attribute))]
 fn push_both(out: &mut Vec<u8>, word: &Attr, value: &[u8]) -> Result<(), NoMemory>
     ensures { OnOk result (out.new.items ≡ out.old.items ++ attribute ((word.now).name, (word.now).value ++ (codes " " ++ value.now))) }
 {
@@ -110,7 +110,7 @@ fn push_typed(out: &mut Vec<u8>, words: &[Attr], kind: Kind, attrs: &[Attr]) -> 
 }
 
 /// The attributes of a group's first element, which has this kind and these attributes of its own.
-#[tactic(auto, unfolding(wt_markup::specs::Html::first_attributes))]
+#[tactic(auto, unfolding(wt_schema::specs::Html::first_attributes))]
 fn push_first(
     alloc: Global,
     out: &mut Vec<u8>,
@@ -128,7 +128,7 @@ fn push_first(
 }
 
 /// The attributes of another element of a group.
-#[tactic(auto, unfolding(wt_markup::specs::Html::next_attributes))]
+#[tactic(auto, unfolding(wt_schema::specs::Html::next_attributes))]
 fn push_next(out: &mut Vec<u8>, number: usize, kind: Kind, attrs: &[Attr]) -> Result<(), NoMemory>
     ensures { OnOk result (out.new.items ≡ out.old.items ++ next_attributes number (fixed_attributes kind ++ attrs_of attrs.now)) }
 {

@@ -2,7 +2,7 @@
 
 ghost use Rattle.std.specs.Prelude.{◌≡◌, ◌++◌, IfOk, OnOk};
 ghost use Rattle.wt_html_out.specs.Shown.{is_start, span_start, text_start, span_end, text_end, ending, text_part, after_text, after, after_all, part, parts, shown_html_of_all};
-ghost use Rattle.wt_markup.specs.Html.{tag_of, group_attributes, group_element, group_html};
+ghost use Rattle.wt_schema.specs.Html.{tag_of, group_attributes, group_element, group_html};
 ghost use Rattle.wt_tree.specs.Elements.{span};
 ghost use Rattle.wt_tree.specs.Plain.{ended, plains_before};
 ghost use Rattle.wt_tree.specs.Kinds.{fixed_attributes};

@@ -1,7 +1,7 @@
 ghost use Rattle.std.specs.Prelude.{◌≡◌, ◌<◌, ◌≤◌, ◌++◌, ◌+◌, length, Err, IfOk, OnOk};
 ghost use Rattle.wt_html_out.specs.declared.refusal.LengthRefusal.TheVariants.{TooLong};
-ghost use Rattle.wt_markup.specs.Escapes.{escaped};
-ghost use Rattle.wt_markup.specs.Html.{html, html_of_all, groups, groups_of_all, frame_start, frame_end, html_text};
+ghost use Rattle.wt_schema.specs.Escapes.{escaped};
+ghost use Rattle.wt_schema.specs.Html.{html, html_of_all, groups, groups_of_all, frame_start, frame_end, html_text};
 ghost use Rattle.wt_tree.specs.View.{texts_of, view, views};
 
 use crate::bytes::{Escaping, push_escaped};
@@ -103,7 +103,7 @@ fn push_all(
     Ok(behind)
 }
 
-#[tactic(auto, unfolding(wt_markup::specs::Html::frame_start))]
+#[tactic(auto, unfolding(wt_schema::specs::Html::frame_start))]
 pub fn push_frame_start(out: &mut Vec<u8>) -> Result<(), NoMemory>
     ensures { OnOk result (out.new.items ≡ out.old.items ++ frame_start) }
 {
@@ -113,7 +113,7 @@ pub fn push_frame_start(out: &mut Vec<u8>) -> Result<(), NoMemory>
     )
 }
 
-#[tactic(auto, unfolding(wt_markup::specs::Html::frame_end))]
+#[tactic(auto, unfolding(wt_schema::specs::Html::frame_end))]
 pub fn push_frame_end(out: &mut Vec<u8>) -> Result<(), NoMemory>
     ensures { OnOk result (out.new.items ≡ out.old.items ++ frame_end) }
 {
@@ -122,7 +122,7 @@ pub fn push_frame_end(out: &mut Vec<u8>) -> Result<(), NoMemory>
 
 /// The HTML of a page by its bytes, in memory, if it has no more than `most`. A page whose HTML is
 /// longer takes memory for `most` bytes and for one node more that has no child, or one group.
-#[tactic(auto, unfolding(wt_markup::specs::Html::html_text))]
+#[tactic(auto, unfolding(wt_schema::specs::Html::html_text))]
 pub fn html_bytes_within(
     alloc: Global,
     t: &Annotated<'_>,

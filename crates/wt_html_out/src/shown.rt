@@ -2,7 +2,7 @@
 
 ghost use Rattle.std.specs.Prelude.{◌≡◌, ◌++◌, OnOk};
 ghost use Rattle.wt_html_out.specs.Shown.{shown_html, shown_html_of_all};
-ghost use Rattle.wt_markup.specs.Html.{attributes, tag_of, end_tag_of, element_by};
+ghost use Rattle.wt_schema.specs.Html.{attributes, tag_of, end_tag_of, element_by};
 ghost use Rattle.wt_tree.specs.Kinds.{fixed_attributes, writing};
 ghost use Rattle.wt_tree.specs.View.{attrs_of, view, views};
 ghost use Rattle.wt_tree.specs.declared.node.Node.{out-Node};

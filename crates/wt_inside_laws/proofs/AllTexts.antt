@@ -2,7 +2,7 @@
 use Rattle.std.proofs.Common.{◌≡◌, ℕ, List, [], ◌∷◌, ◌++◌, refl, sym, ap, ◌∙◌, subst, append_assoc, inl}
 use Rattle.wt_devices.specs.Device.{Pages}
 use Rattle.wt_page_round_trip.specs.PageTree.{page_tree}
-use Rattle.wt_local.specs.Replaced.{with_inside, with_insides}
+use Rattle.wt_inside_laws.specs.Replaced.{with_inside, with_insides}
 use Rattle.wt_text_edit_laws.specs.BlockSpots.{BlockSpot, spots_source, AreBlockSpots, SameRound, AreBlocks}
 use Rattle.wt_text_edit_laws.proofs.Blocks.TypedBraces.{AreTypedOver}
 use Rattle.wt_text_edit_laws.proofs.Blocks.TypedAgain.{typed_again}

@@ -2,7 +2,7 @@
 use Rattle.std.proofs.Common.{arith, ◌≡◌, ◌≢◌, ℕ, zero, suc, Option, Some, None, List, [], ◌∷◌, ◌++◌, map, length, refl, sym, ap, ◌∙◌, subst, length-append, inl}
 use Rattle.wt_devices.specs.Device.{Pages}
 use Rattle.wt_page_round_trip.specs.PageTree.{page_tree}
-use Rattle.wt_local.specs.Replaced.{with_inside, with_insides}
+use Rattle.wt_inside_laws.specs.Replaced.{with_inside, with_insides}
 use Rattle.wt_text_edit_laws.specs.Parts.{part_tree}
 use Rattle.wt_text_edit_laws.specs.TextBlocks.{source_of, block_tree, IsBlock}
 use Rattle.wt_text_edit_laws.specs.BlockSpots.{BlockSpot, spots_source, SameRound, AreBlocks}

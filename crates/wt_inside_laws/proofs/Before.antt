@@ -18,8 +18,8 @@ use Rattle.wt_annotated.specs.Numbering.{next_after, count, count_all, with_numb
 use Rattle.wt_annotated.specs.WithoutCalls.{inside_by, placed, all_placed}
 use Rattle.wt_annotated.proofs.Tiles.{group_leaf}
 use Rattle.wt_annotated.proofs.Widths.{width_append, width_three}
-use Rattle.wt_local.specs.Replaced.{Edit, moved, renumbered, moved_range, with_inside, all_with_inside}
-use Rattle.wt_moved_laws.specs.Standing.{standing}
+use Rattle.wt_inside_laws.specs.Replaced.{Edit, moved, renumbered, moved_range, with_inside, all_with_inside}
+use Rattle.wt_part_laws.specs.Standing.{standing}
 use Rattle.wt_inside_laws.proofs.Behind.{test_no_less, test_not_up, test_below}
 
 -- ---- all numbers below this one, and no place behind this one

@@ -11,8 +11,8 @@ use Rattle.wt_annotated.specs.Labels.{width}
 use Rattle.wt_annotated.specs.Numbering.{count}
 use Rattle.wt_annotated.specs.WithoutCalls.{placed}
 use Rattle.wt_annotated.proofs.Widths.{width_append}
-use Rattle.wt_local.specs.Replaced.{Edit, moved, renumbered, moved_range, with_inside, all_with_inside}
-use Rattle.wt_moved_laws.specs.Standing.{standing}
+use Rattle.wt_inside_laws.specs.Replaced.{Edit, moved, renumbered, moved_range, with_inside, all_with_inside}
+use Rattle.wt_part_laws.specs.Standing.{standing}
 use Rattle.wt_text_edit_laws.proofs.Prose.ProseTrees.{blocks_of, number_behind, items_behind}
 use Rattle.wt_inside_laws.proofs.Shifted.{shift_range, shifted, all_shifted, standing_shifted, placed_count}
 

@@ -9,8 +9,8 @@ use Rattle.wt_annotated.specs.Labels.{width}
 use Rattle.wt_sections.specs.Sections.{gathered, with_sections}
 use Rattle.wt_page_round_trip.specs.PageTree.{page_tree}
 use Rattle.wt_page_round_trip.proofs.PageTrees.{ungathered}
-use Rattle.wt_local.specs.Replaced.{Edit, moved_label, with_inside, all_with_inside}
-use Rattle.wt_row_laws.specs.Frames.{Frames, trees_at}
+use Rattle.wt_inside_laws.specs.Replaced.{Edit, moved_label, with_inside, all_with_inside}
+use Rattle.wt_part_laws.specs.Frames.{Frames, trees_at}
 use Rattle.wt_text_edit_laws.specs.TextBlocks.{TextBlock}
 use Rattle.wt_text_edit_laws.specs.BlockSpots.{BlockSpot, spots_source, SameRound}
 use Rattle.wt_text_edit_laws.proofs.Blocks.TypedBraces.{AreTypedOver}

@@ -21,7 +21,7 @@ use Rattle.wt_context.specs.Chunks.{chunks}
 use Rattle.wt_context.specs.Styled.{with_styles}
 use Rattle.wt_context.specs.Nodes.{segments}
 use Rattle.wt_context.specs.Line.{context_parts, line_trees}
-use Rattle.wt_headings.specs.Headings.{heading as page_heading}
+use Rattle.wt_page.specs.Headings.{heading as page_heading}
 use Rattle.wt_page.specs.Texts.{para, rule}
 use Rattle.wt_page.specs.Rows.{rows as rows_of}
 use Rattle.wt_blocks.specs.Headings.{level, opening, inside, closing}
@@ -38,7 +38,7 @@ use Rattle.wt_guards.specs.Guards.{nowiki as guard, is_guarded, is_between_guard
 use Rattle.wt_text_edit_laws.specs.TypedHeadings.{spaced}
 use Rattle.wt_text_edit_laws.specs.TextBlocks.{a_paragraph, a_heading}
 use Rattle.wt_text_edit_laws.specs.BlockEdits.{types, keeps, BlockEdit}
-use Rattle.wt_local.specs.Replaced.{Edit}
+use Rattle.wt_inside_laws.specs.Replaced.{Edit}
 use Rattle.wt_inside_laws.specs.TextsReplaced.{Place, replaced_by, all_replaced}
 
 abbrev free : Label

@@ -11,7 +11,7 @@ use Rattle.wt_annotated.specs.CutTexts.{all_cut_texts}
 use Rattle.wt_annotated.specs.Labels.{width}
 use Rattle.wt_annotated.specs.Numbering.{count_all, all_with_numbers}
 use Rattle.wt_annotated.specs.WithoutCalls.{all_placed}
-use Rattle.wt_local.specs.Replaced.{Edit, all_with_inside}
+use Rattle.wt_inside_laws.specs.Replaced.{Edit, all_with_inside}
 use Rattle.wt_text_edit_laws.proofs.Prose.ProseTrees.{blocks_of, number_behind, items_behind}
 use Rattle.wt_text_edit_laws.proofs.Blocks.KeptBlocks.{held_source}
 use Rattle.wt_called_edit_laws.proofs.Cells.Cuts.{lead_in, front}

@@ -5,9 +5,9 @@ use Rattle.wt_inline.specs.ItemTree.{ItemTree}
 use Rattle.wt_checks.specs.Kept.{children}
 use Rattle.wt_annotated.specs.Labels.{width}
 use Rattle.wt_annotated.specs.Numbering.{next_after}
-use Rattle.wt_row_laws.specs.Frames.{place, whole, around, Frames, no_frames, more_frames, tree_at, all_places}
-use Rattle.wt_local.specs.Replaced.{Edit}
-use Rattle.wt_moved_laws.specs.Standing.{standing}
+use Rattle.wt_part_laws.specs.Frames.{place, whole, around, Frames, no_frames, more_frames, tree_at, all_places}
+use Rattle.wt_inside_laws.specs.Replaced.{Edit}
+use Rattle.wt_part_laws.specs.Standing.{standing}
 use Rattle.wt_text_edit_laws.specs.TextBlocks.{TextBlock, source_of, block_tree}
 use Rattle.wt_text_edit_laws.proofs.Prose.ProseTrees.{number_behind, items_behind}
 use Rattle.wt_called_edit_laws.proofs.Cells.Nodes.{number_after, items_after}

@@ -13,9 +13,9 @@ use Rattle.wt_annotated.specs.Labels.{width, label_at}
 use Rattle.wt_annotated.specs.Numbering.{next_after, number_of, count, count_all}
 use Rattle.wt_annotated.specs.WithoutCalls.{inside_by, placed, all_placed}
 use Rattle.wt_annotated.proofs.Widths.{width_append, width_three}
-use Rattle.wt_row_laws.specs.Frames.{Frame, place, whole, around, Frames, no_frames, more_frames, tree_at, trees_at, places_in, all_places}
-use Rattle.wt_local.specs.Replaced.{Edit, with_inside, all_with_inside}
-use Rattle.wt_moved_laws.specs.Standing.{standing}
+use Rattle.wt_part_laws.specs.Frames.{Frame, place, whole, around, Frames, no_frames, more_frames, tree_at, trees_at, places_in, all_places}
+use Rattle.wt_inside_laws.specs.Replaced.{Edit, with_inside, all_with_inside}
+use Rattle.wt_part_laws.specs.Standing.{standing}
 use Rattle.wt_text_edit_laws.specs.TextBlocks.{TextBlock, a_paragraph, a_heading, block_tree, IsBlock}
 use Rattle.wt_text_edit_laws.specs.TypedHeadings.{Sides}
 use Rattle.wt_text_edit_laws.proofs.Prose.ProseTrees.{blocks_of, number_behind, items_behind}

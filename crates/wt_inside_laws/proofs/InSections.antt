@@ -3,7 +3,7 @@ use Rattle.std.proofs.Common.{arith, true≢false, ◌≡◌, ℕ, ◌+◌, ◌-
 use Rattle.wt_tree.specs.declared.kind.Ranges.{Ranges}
 use Rattle.wt_tree.specs.Tree.{Label, Tree, tree, Trees, none, more, label}
 use Rattle.wt_sections.specs.Sections.{spanned, last_ranges, section_label, section, Part, level_of, ends, before, from, put, opens, parts, part_trees, lead_if_any, with_lead, gathered, with_sections}
-use Rattle.wt_local.specs.Replaced.{Edit, moved_range, moved_label, renumbered, with_inside, all_with_inside}
+use Rattle.wt_inside_laws.specs.Replaced.{Edit, moved_range, moved_label, renumbered, with_inside, all_with_inside}
 use Rattle.wt_inside_laws.proofs.Behind.{test_no_less, test_below}
 
 same_level : (e : Edit) (t : Tree) → level_of (with_inside e t) ≡ level_of t

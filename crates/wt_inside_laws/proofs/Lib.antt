@@ -12,3 +12,10 @@ pub mod EditsFound
 pub mod AnyEdits
 pub mod AnyInsides
 pub mod BodyReplaced
+pub mod Between
+pub mod InsidesCases
+pub mod PageCases
+pub mod LocalCases
+pub mod EditCases
+pub mod Sources
+pub mod Meeting

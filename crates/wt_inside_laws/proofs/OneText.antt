@@ -19,11 +19,11 @@ use Rattle.wt_annotated.specs.Numbering.{count, count_all}
 use Rattle.wt_annotated.specs.WithoutCalls.{placed, all_placed}
 use Rattle.wt_annotated.proofs.Widths.{width_append}
 use Rattle.wt_page_round_trip.specs.PageTree.{page_tree}
-use Rattle.wt_local.specs.Replaced.{Edit, moved, moved_label, with_inside, all_with_inside}
+use Rattle.wt_inside_laws.specs.Replaced.{Edit, moved, moved_label, with_inside, all_with_inside}
 use Rattle.wt_text_edit_laws.proofs.Texts.LoneTrees.{sized}
 use Rattle.wt_text_edit_laws.proofs.Texts.TypedLeaves.{HasAny, leaves}
 use Rattle.wt_text_edit_laws.specs.TypedHeadings.{Sides, equals, opening, closing}
-use Rattle.wt_moved_laws.specs.Standing.{standing}
+use Rattle.wt_part_laws.specs.Standing.{standing}
 use Rattle.wt_text_edit_laws.proofs.Prose.ProseTrees.{blocks_of, number_behind, items_behind}
 use Rattle.wt_text_edit_laws.specs.ParagraphBetween.{blocks_in}
 use Rattle.wt_text_edit_laws.specs.TextBlocks.{TextBlock, a_paragraph, a_heading, source_of, block_tree, IsBlock}

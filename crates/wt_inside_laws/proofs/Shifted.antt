@@ -17,7 +17,7 @@ use Rattle.wt_annotated.specs.Numbering.{next_after, count, count_all, with_numb
 use Rattle.wt_annotated.specs.WithoutCalls.{inside_by, placed, all_placed}
 use Rattle.wt_annotated.proofs.Tiles.{group_leaf}
 use Rattle.wt_annotated.proofs.Widths.{width_append}
-use Rattle.wt_moved_laws.specs.Standing.{standing}
+use Rattle.wt_part_laws.specs.Standing.{standing}
 
 -- ---- moved by so many numbers and bytes
 

@@ -4,8 +4,8 @@ use Rattle.wt_devices.specs.Device.{Pages}
 use Rattle.wt_tree.specs.Tree.{Tree, tree, Trees, none, more}
 use Rattle.wt_checks.specs.Kept.{children}
 use Rattle.wt_expand.specs.PageItems.{page_items}
-use Rattle.wt_local.specs.Replaced.{Edit, with_insides}
-use Rattle.wt_moved_laws.specs.Standing.{standing}
+use Rattle.wt_inside_laws.specs.Replaced.{Edit, with_insides}
+use Rattle.wt_part_laws.specs.Standing.{standing}
 use Rattle.wt_page_round_trip.specs.PageTree.{page_tree}
 use Rattle.wt_typed_blocks.specs.Sent.{Sents}
 use Rattle.wt_text_edit_laws.specs.TextBlocks.{TextBlock, source_of, block_tree}

@@ -1,2 +1,11 @@
 pub mod TextsReplaced
 pub mod AnyReplaced
+pub mod Contents
+pub mod TextEdits
+pub mod LocalBlocks
+pub mod Joints
+pub mod Edges
+pub mod Replaced
+pub mod Once
+pub mod Swaps
+pub mod SameBut

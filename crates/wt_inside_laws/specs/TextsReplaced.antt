@@ -6,8 +6,8 @@ use Rattle.wt_checks.specs.Kept.{children}
 use Rattle.wt_expand.specs.PageItems.{page_items}
 use Rattle.wt_annotated.specs.Numbering.{count_all}
 use Rattle.wt_annotated.specs.WithoutCalls.{placed, all_placed}
-use Rattle.wt_local.specs.Replaced.{Edit}
-use Rattle.wt_moved_laws.specs.Standing.{standing}
+use Rattle.wt_inside_laws.specs.Replaced.{Edit}
+use Rattle.wt_part_laws.specs.Standing.{standing}
 use Rattle.wt_text_edit_laws.specs.TextBlocks.{TextBlock, source_of, block_tree}
 use Rattle.wt_text_edit_laws.specs.BlockSpots.{BlockSpot, spots_source, page_blocks}
 use Rattle.wt_text_edit_laws.specs.BlockEdits.{SpotEdit, BlockEdit, new_text}

@@ -16,7 +16,7 @@ use Rattle.wt_inline.specs.Inside.{opened_all}
 use Rattle.wt_inline.specs.ItemTree.{plain, ItemTree, inner, forest, tree_items}
 use Rattle.wt_inline.specs.Parts.{children}
 use Rattle.wt_inline.proofs.HeldLaws.{opened_append, sources_opened, are_children, only_children}
-use Rattle.wt_headings.specs.Headings.{heading}
+use Rattle.wt_page.specs.Headings.{heading}
 use Rattle.wt_page.specs.Rows.{Row, row_items, all_items, kind_of, rows_from, rows}
 use Rattle.wt_page.specs.Stretches.{stretches_parts}
 use Rattle.wt_page.specs.Texts.{rule}

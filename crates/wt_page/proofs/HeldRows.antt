@@ -9,8 +9,8 @@ use Rattle.wt_lines.specs.declared.kind.LineKind.{LineKind}
 use Rattle.wt_lines.specs.declared.kind.LineKind.TheVariants as line
 use Rattle.wt_lines.specs.Lines.{full_lines, goes_on}
 use Rattle.wt_tables.specs.Extents.{behind}
-use Rattle.wt_headings.specs.Lines.{kind_at}
-use Rattle.wt_headings.proofs.Ends.{content_ending}
+use Rattle.wt_page.specs.Lines.{kind_at}
+use Rattle.wt_page.proofs.Ends.{content_ending}
 use Rattle.wt_page.specs.Rows.{row_items, all_items, marks_len, idle_len, whole_row, sign_row, behind_sign, is_unseen, sign_rows, dashes, line_rows, unwritten_end, rows_from, rows}
 
 pub of_whole : (k : LineKind) (n : ℕ) (l : List Item) → all_items (whole_row k n l ∷ []) ≡ l

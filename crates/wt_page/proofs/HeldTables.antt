@@ -14,8 +14,8 @@ use Rattle.wt_inline.specs.Inside.{opened_all}
 use Rattle.wt_inline.specs.ItemTree.{plain}
 use Rattle.wt_inline.proofs.HeldLaws.{opened_append}
 use Rattle.wt_context.specs.Line.{line_parts}
-use Rattle.wt_headings.specs.Lines.{ending}
-use Rattle.wt_headings.proofs.Ends.{content_ending}
+use Rattle.wt_page.specs.Lines.{ending}
+use Rattle.wt_page.proofs.Ends.{content_ending}
 use Rattle.wt_page.specs.Rows.{Row, row_items, all_items, kind_of, first_lead}
 use Rattle.wt_page.specs.Stretches.{Stretch, gap, block, tree_block, node_of, opened_by}
 use Rattle.wt_page.specs.Tables.{Reading, with_attrs, gaps, cell_kind, cell_by, cells_by, cell_stretches, stray_len, from_sign, delimiter, behind_delimiter, delimiter_lead, first_items, row_by, row_stretches, rows_stretches, table_inside, table_by, last_of, without_last, table}

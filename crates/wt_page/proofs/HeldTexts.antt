@@ -14,7 +14,7 @@ use Rattle.wt_context.specs.Line.{line_parts, line_trees}
 use Rattle.wt_page.specs.Rows.{Row, row_items, all_items, first_lead, last_ending}
 use Rattle.wt_page.specs.Stretches.{gap, tree_block}
 use Rattle.wt_page.specs.Texts.{with_separators, later_parts, later_line, para_parts, para, skipped, later_pre, pre_opening, pre_parts, pre, rule}
-use Rattle.wt_headings.specs.Headings.{heading}
+use Rattle.wt_page.specs.Headings.{heading}
 use Rattle.wt_context.proofs.LineHolding.{line_holds, trees_hold}
 use Rattle.wt_page.proofs.Opened.{kept_parts, parts_append, parts_of}
 use Rattle.wt_page.proofs.Held.{kept, kept_tree, of_gap, of_tree, of_inner}

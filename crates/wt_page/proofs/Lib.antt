@@ -5,3 +5,9 @@ pub mod HeldRows
 pub mod HeldTables
 pub mod HeldTexts
 pub mod Opened
+pub mod Ends
+pub mod FormLengths
+pub mod HeadingCuts
+pub mod LowSigns
+pub mod PieceWidths
+pub mod Pieces

@@ -12,7 +12,7 @@ use Rattle.wt_blocks.specs.Paragraphs.{is_text}
 use Rattle.wt_tables.specs.Parts.{joined, units, unit_kind}
 use Rattle.wt_inline.specs.ItemTree.{plain, ItemTree, inner, forest}
 use Rattle.wt_inline.specs.Parts.{Part, AreChildren}
-use Rattle.wt_headings.specs.Headings.{heading}
+use Rattle.wt_page.specs.Headings.{heading}
 use Rattle.wt_page.specs.Rows.{Row, kind_of, rows_from, rows}
 use Rattle.wt_page.specs.Stretches.{Stretch, stretches_parts, node_of}
 use Rattle.wt_page.specs.Texts.{with_separators, para, pre, rule}

@@ -4,3 +4,6 @@ pub mod Rows
 pub mod Stretches
 pub mod Tables
 pub mod Texts
+pub mod Cuts
+pub mod Headings
+pub mod Lines

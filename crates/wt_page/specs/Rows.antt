@@ -10,7 +10,7 @@ use Rattle.wt_lines.specs.declared.kind.LineKind.TheVariants as line
 use Rattle.wt_lines.specs.Kinds.{is_idle, is_idle_all}
 use Rattle.wt_lines.specs.Lines.{full_lines, content}
 use Rattle.wt_tables.specs.Extents.{behind}
-use Rattle.wt_headings.specs.Lines.{kind_at, ending}
+use Rattle.wt_page.specs.Lines.{kind_at, ending}
 
 -- What a row is; what comes before the block that begins there (marks, and before a sign of a table blanks too); the row itself; and
 -- what ends it, which lies outside a block that ends there (its line break, and after a rule or a table blanks and marks too).

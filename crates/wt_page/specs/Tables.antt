@@ -10,7 +10,7 @@ use Rattle.wt_tables.specs.Cells.{Cell, cells_from, table_attributes, row_attrib
 use Rattle.wt_tables.specs.Parts.{RowOf, TableOf, is_blank_kind, table_of}
 use Rattle.wt_inline.specs.ItemTree.{Head, plain}
 use Rattle.wt_context.specs.Line.{line_parts}
-use Rattle.wt_headings.specs.Lines.{ending}
+use Rattle.wt_page.specs.Lines.{ending}
 use Rattle.wt_page.specs.Rows.{Row, row_items, all_items, kind_of, first_lead}
 use Rattle.wt_page.specs.Stretches.{Stretch, gap, block, tree_block, node_of, opened_by, enclosed}
 

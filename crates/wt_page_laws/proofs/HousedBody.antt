@@ -11,7 +11,7 @@ use Rattle.wt_tables.specs.Cells.{Cell, signs, parts as line_cuts, cell_of, cell
 use Rattle.wt_tables.specs.Parts.{joined, RowOf, TableOf, table_of, units, unit_kind}
 use Rattle.wt_inline.specs.ItemTree.{ItemTree, plain}
 use Rattle.wt_inline.specs.Parts.{Part, loose, node}
-use Rattle.wt_headings.specs.Headings.{heading}
+use Rattle.wt_page.specs.Headings.{heading}
 use Rattle.wt_page.specs.Rows.{Row, kind_of, rows}
 use Rattle.wt_page.specs.Stretches.{Stretch, gap, block, stretches_parts, node_of}
 use Rattle.wt_page.specs.Texts.{with_separators, para, pre, rule}

@@ -38,3 +38,38 @@ pub mod TableEnds
 pub mod TextDoubts
 pub mod MadeLines
 pub mod FirstAttributes
+pub mod Following
+pub mod Rows
+pub mod Shown
+pub mod NodeFields
+mod TreesCases
+mod SectionsCases
+pub mod Headings
+pub mod Levels
+pub mod Reaches
+pub mod SectionParts
+pub mod Refusing
+mod WorkCases
+pub mod Counting
+pub mod Entries
+pub mod Asking
+mod DevicesCases
+mod GatherCases
+mod SwitchCases
+mod ToldCases
+mod TrimCases
+mod GroupCases
+mod TableCases
+pub mod Fields
+pub mod GroupTexts
+pub mod MwAccepted
+pub mod Switching
+pub mod SyncAccepted
+pub mod Tables
+pub mod Tidy
+pub mod Trimming
+pub mod Gathering
+pub mod OneAnswer
+pub mod OnePage
+pub mod Utf8Texts
+pub mod OneHead

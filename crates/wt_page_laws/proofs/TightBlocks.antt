@@ -10,7 +10,7 @@ use Rattle.wt_inline.specs.declared.loose.Loose.TheVariants.{Text}
 use Rattle.wt_inline.specs.ItemTree.{ItemTree, plain}
 use Rattle.wt_inline.specs.Parts.{Part, node, parts}
 use Rattle.wt_context.specs.Line.{line_parts, line_trees}
-use Rattle.wt_headings.specs.Headings.{heading}
+use Rattle.wt_page.specs.Headings.{heading}
 use Rattle.wt_page.specs.Rows.{Row}
 use Rattle.wt_page.specs.Stretches.{Stretch, gap, front_len, front_gaps, past_front, opened_by, enclosed}
 use Rattle.wt_page.specs.Texts.{with_separators, later_parts, later_line, para_parts, para, skipped, later_pre, pre_parts, pre, rule}

@@ -4,7 +4,7 @@ use Rattle.std.specs.Prelude.{◌||◌}
 use Rattle.wt_span.specs.Items.{Item}
 use Rattle.wt_tree.specs.declared.kind.Kind.TheVariants as kind
 use Rattle.wt_tree.specs.Kinds.{shape, is_anywhere}
-use Rattle.wt_round_trip.specs.Written.{has_level}
+use Rattle.wt_schema.specs.Written.{has_level}
 use Rattle.wt_blocks.specs.Headings.{level as heading_level, opening, closing}
 use Rattle.wt_page_round_trip.proofs.TextItems.{BeginsLow, EndsLow}
 use Rattle.wt_page_round_trip.proofs.Inline.{IsInlineParent}

@@ -18,7 +18,7 @@ use Rattle.wt_tree.specs.Tree.{Label, Trees}
 use Rattle.wt_tree.specs.Tiling.{is_group}
 use Rattle.wt_tree.specs.Kinds.{row, shape, writing, showing, texts_of_kind, is_leaf, is_section, may_hold, spelling}
 use Rattle.wt_schema.specs.Rows.{shows_text}
-use Rattle.wt_round_trip.specs.Written.{has_level, HasSource, IsShown, HasAttributes, HasData, is_extension_label, is_childless}
+use Rattle.wt_schema.specs.Written.{has_level, HasSource, IsShown, HasAttributes, HasData, is_extension_label, is_childless}
 use Rattle.wt_inline.specs.ItemTree.{plain, ItemTrees, inner, leaf, forest, held_by_all}
 use Rattle.wt_inline.specs.Parts.{Part, children}
 use Rattle.wt_annotated.specs.Labels.{label_at}

@@ -16,7 +16,7 @@ use Rattle.wt_span.specs.declared.function.Function.{Function}
 use Rattle.wt_span.specs.declared.function.Function.TheVariants.{If, IfEq, Switch}
 use Rattle.wt_span.specs.Functions.{name_of}
 use Rattle.wt_span.specs.Origins.{Span, OuterCall, IsBorder, LieFrom, IsNameEnd, AreNameEnds}
-use Rattle.wt_round_trip.specs.Written.{IsUtf8IfAny}
+use Rattle.wt_schema.specs.Written.{IsUtf8IfAny}
 use Rattle.wt_call_data.specs.CallData.{Param, is_white, without_lead, trimmed, source_slice, param_by, next_number, params_from, put_param, params_of, text_or_none, target_by, function_named, braces_part, call_part}
 use Rattle.wt_call_data.proofs.CallTexts.{lead_border, tail_border}
 use Rattle.wt_call_data.proofs.Params.{names_ascend}

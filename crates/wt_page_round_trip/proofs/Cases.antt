@@ -11,8 +11,8 @@ use Rattle.wt_lines.specs.Kinds.{kind_of_signs}
 use Rattle.wt_datamw.specs.Mw.{mw_text}
 use Rattle.wt_datamw.specs.Sync.{sync_text, sync_members}
 use Rattle.wt_tree.specs.Kinds.{spelling, attribute_name}
-use Rattle.wt_markup.specs.Escapes.{escape, escape_double, escape_single}
-use Rattle.wt_markup.specs.Html.{attribute, id_attribute, mw_attribute, sync_of, sync_start, sync_value, sync_attribute, attributes_of, start_tag, void_tag, end_tag, frame_start, frame_end, html_text}
+use Rattle.wt_schema.specs.Escapes.{escape, escape_double, escape_single}
+use Rattle.wt_schema.specs.Html.{attribute, id_attribute, mw_attribute, sync_of, sync_start, sync_value, sync_attribute, attributes_of, start_tag, void_tag, end_tag, frame_start, frame_end, html_text}
 use Rattle.wt_expand.specs.PageItems.{page_items}
 use Rattle.wt_inline.specs.Carried.{extension_typeof, noinclude_typeof, onlyinclude_typeof, includeonly_typeof, extension_data}
 use Rattle.wt_inline.specs.Parts.{children, nowiki}
@@ -27,7 +27,7 @@ use Rattle.wt_context.specs.Chunks.{chunks}
 use Rattle.wt_context.specs.Styled.{with_styles}
 use Rattle.wt_context.specs.Nodes.{segments}
 use Rattle.wt_context.specs.Line.{context_parts, line_trees}
-use Rattle.wt_headings.specs.Headings.{heading}
+use Rattle.wt_page.specs.Headings.{heading}
 use Rattle.wt_page.specs.Texts.{para}
 use Rattle.wt_page.specs.Rows.{rows as rows_of}
 use Rattle.wt_blocks.specs.Headings.{level, opening, inside, closing}

@@ -13,7 +13,7 @@ use Rattle.wt_tree.specs.declared.row.Holding.TheVariants.{InlinesThenBlocks}
 use Rattle.wt_tree.specs.declared.row.Texts.TheVariants.{Bordered}
 use Rattle.wt_tree.specs.Kinds.{is_class, shape, is_anywhere, styles, spelling}
 use Rattle.wt_attributes.specs.Attributes.{attributes}
-use Rattle.wt_round_trip.specs.Written.{AreOwn}
+use Rattle.wt_schema.specs.Written.{AreOwn}
 use Rattle.wt_tables.specs.declared.scan.Splits.{Splits}
 use Rattle.wt_tables.specs.Cells.{Cell, parts, bar_at, past_bar, attributes_by, opening_len, cell_of, split_by, header_by, sign_len, cells_in, cells_from}
 use Rattle.wt_tables.specs.CutLaws.{AreCut}

@@ -27,7 +27,7 @@ use Rattle.wt_quotes.specs.Forest.{Forest, bare, grown, forest_of}
 use Rattle.wt_inline.specs.declared.loose.Loose.TheVariants.{Text}
 use Rattle.wt_inline.specs.ItemTree.{ItemTree, plain, leaf}
 use Rattle.wt_inline.specs.Parts.{Part, node, parts}
-use Rattle.wt_round_trip.specs.Written.{HasAttributes}
+use Rattle.wt_schema.specs.Written.{HasAttributes}
 use Rattle.wt_context.specs.Segments.{Segment, is_quote, one_stretch, loose_segment, loose_segments, tree_segment, segment_items, segment_parts}
 use Rattle.wt_context.specs.Heads.{glyphs, placeholder, link_head, category_head, key, ext_link_head, bracketed_url, text_of, bare_url_head, name_end, attribute_items, attributes_of, pair_by_name, pair_by, pair_head, switch_property, switch_head}
 use Rattle.wt_context.specs.Chunks.{chunks}

@@ -10,11 +10,11 @@ use Rattle.wt_inline.specs.RawTag.{len_of, opening_len, behind, inside_len}
 use Rattle.wt_inline.specs.Parts.{nowiki, whole_tree}
 use Rattle.wt_annotated.specs.Labels.{width}
 use Rattle.wt_annotated.specs.Counted.{numbered}
-use Rattle.wt_bounds.specs.Numbers.{makes_all}
-use Rattle.wt_bounds.proofs.BodyCounts.{meaning_count}
-use Rattle.wt_bounds.proofs.NumberLaws.{nowiki_inside}
+use Rattle.wt_page_round_trip.specs.Numbers.{makes_all}
+use Rattle.wt_page_round_trip.proofs.BodyCounts.{meaning_count}
+use Rattle.wt_page_round_trip.proofs.NumberLaws.{nowiki_inside}
 use Rattle.wt_page.specs.Body.{meaning}
-use Rattle.wt_headings.proofs.FormLengths.{IsFormOf, form_long}
+use Rattle.wt_page.proofs.FormLengths.{IsFormOf, form_long}
 use Rattle.wt_page_round_trip.proofs.OfPage.{AreOfPage}
 use Rattle.wt_page_round_trip.proofs.FormLengths.{AreForms, forms_of_page}
 

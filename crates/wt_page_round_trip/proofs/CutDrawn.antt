@@ -22,7 +22,7 @@ use Rattle.wt_tree.specs.Tiling.{is_group}
 use Rattle.wt_tree.specs.Tree.{Label, Tree, tree, Trees, none, more, label}
 use Rattle.wt_recut.proofs.Cut.{all_parts, recut_again}
 use Rattle.wt_schema.specs.Rows.{holds_page_text, holds_text}
-use Rattle.wt_round_trip.specs.Written.{leaf_kind, HasLeafKind, may_stand, IsTextIn, IsWrittenGroup, NodeIsWritten, is_childless, joins, goes_behind, are_ordered, IsCutIn, WrittenIn, AllWrittenIn}
+use Rattle.wt_schema.specs.Written.{leaf_kind, HasLeafKind, may_stand, IsTextIn, IsWrittenGroup, NodeIsWritten, is_childless, joins, goes_behind, are_ordered, IsCutIn, WrittenIn, AllWrittenIn}
 use Rattle.wt_annotated.specs.CutTexts.{cut_as, cut_texts, all_cut_texts}
 use Rattle.wt_page_round_trip.proofs.DrawnTrees.{IsInOrder, IsUncutIn, AreUncutIn, group_writing, shows_by, goes_by}
 

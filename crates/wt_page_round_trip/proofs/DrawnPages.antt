@@ -14,13 +14,13 @@ use Rattle.wt_recut.specs.Recut.{is_as_text}
 use Rattle.wt_tree.specs.Tiling.{is_group}
 use Rattle.wt_tree.specs.Tree.{Label, Tree, tree, Trees, none, more, label, trees}
 use Rattle.wt_schema.specs.Rows.{holds_text}
-use Rattle.wt_markup.specs.Html.{groups}
+use Rattle.wt_schema.specs.Html.{groups}
 use Rattle.wt_span.specs.Cuts.{page_of}
 use Rattle.wt_span.specs.Items.{Item, sources}
 use Rattle.wt_span.specs.Origins.{OuterCall}
 use Rattle.wt_span.specs.Runs.{runs}
 use Rattle.wt_span.proofs.RunLaws.{runs_are}
-use Rattle.wt_round_trip.specs.Written.{HasPlaces, is_childless}
+use Rattle.wt_schema.specs.Written.{HasPlaces, is_childless}
 use Rattle.wt_inline.specs.ItemTree.{Head, plain, ItemTree, inner, ItemTrees, nothing, further, tree_items, held_by_all}
 use Rattle.wt_annotated.specs.Annotated.{kept_label, unplaced, all_unplaced, placed, annotated}
 use Rattle.wt_annotated.specs.Clean.{is_page, own_by, is_clean}

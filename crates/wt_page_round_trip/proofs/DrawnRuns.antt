@@ -20,7 +20,7 @@ use Rattle.wt_tree.specs.Tree.{Label, Tree, tree, Trees, none, more, label, tree
 use Rattle.wt_schema.specs.Rows.{holds_text}
 use Rattle.wt_span.specs.Origins.{OuterCall}
 use Rattle.wt_span.specs.Runs.{IsRun, AreRuns}
-use Rattle.wt_round_trip.specs.Written.{leaf_kind, HasLeafKind, joins, goes_behind, are_ordered, is_childless}
+use Rattle.wt_schema.specs.Written.{leaf_kind, HasLeafKind, joins, goes_behind, are_ordered, is_childless}
 use Rattle.wt_inline.specs.ItemTree.{ItemTree, inner}
 use Rattle.wt_annotated.specs.Annotated.{unplaced, all_unplaced}
 use Rattle.wt_annotated.specs.GroupData.{group_data}

@@ -16,8 +16,8 @@ use Rattle.wt_recut.specs.Recut.{is_as_text, is_text, shows_block, any_shows_blo
 use Rattle.wt_tree.specs.Source.{flat, flat_of_all}
 use Rattle.wt_tree.specs.Tiling.{is_group}
 use Rattle.wt_tree.specs.Tree.{Label, Tree, tree, Trees, none, more}
-use Rattle.wt_round_trip.specs.GroupNodes.{elements_for, group_nodes, all_follow}
-use Rattle.wt_round_trip.specs.Written.{IsTextIn, HasPlaces, IsNumber, HasSource, IsElementLabel, IsWrittenGroup, TopsIn, NodeIsWritten, is_childless, joins, goes_behind, are_ordered}
+use Rattle.wt_schema.specs.GroupNodes.{elements_for, group_nodes, all_follow}
+use Rattle.wt_schema.specs.Written.{IsTextIn, HasPlaces, IsNumber, HasSource, IsElementLabel, IsWrittenGroup, TopsIn, NodeIsWritten, is_childless, joins, goes_behind, are_ordered}
 use Rattle.wt_annotated.specs.Labels.{leaf_open}
 use Rattle.wt_annotated.specs.Numbering.{number_of, next_after, count, count_all, with_id, with_numbers, all_with_numbers}
 use Rattle.wt_annotated.specs.Reached.{AreReachedSlices, reached, reached_in_all}

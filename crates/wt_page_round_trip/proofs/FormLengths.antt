@@ -4,7 +4,7 @@ use Rattle.std.specs.List.{AllByRecursion}
 use Rattle.wt_span.specs.declared.form.ItemForm.{ItemForm}
 use Rattle.wt_span.specs.declared.form.ItemForm.TheVariants as form
 use Rattle.wt_span.specs.Items.{Item, char, whole}
-use Rattle.wt_headings.proofs.FormLengths.{IsFormOf}
+use Rattle.wt_page.proofs.FormLengths.{IsFormOf}
 use Rattle.wt_page_round_trip.proofs.OfPage.{IsPageForm, AreOfPage}
 
 pub form_of_page : (f : ItemForm) (bs : List ℕ) → IsPageForm f bs → IsFormOf f bs

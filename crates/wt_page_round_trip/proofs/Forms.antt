@@ -24,8 +24,8 @@ use Rattle.wt_tree.specs.declared.kind.Kind.TheVariants as kind
 use Rattle.wt_lex.proofs.WholeTags.{raw_at}
 use Rattle.wt_tree.specs.Kinds.{may_hold, spelling}
 use Rattle.wt_tree.specs.Values.{extension_prefix, placeholder, no_include, no_include_end, only_include, only_include_end, include_only, is_extension_type, is_island_type, is_include_type}
-use Rattle.wt_round_trip.specs.Written.{IsUtf8IfAny, IsExtension, HasData, HasAttributes}
-use Rattle.wt_round_trip.proofs.Types.{extension_ascii, extension_utf8, include_utf8}
+use Rattle.wt_schema.specs.Written.{IsUtf8IfAny, IsExtension, HasData, HasAttributes}
+use Rattle.wt_schema.proofs.Types.{extension_ascii, extension_utf8, include_utf8}
 use Rattle.wt_inline.specs.RawTag.{len_of, name_of, is_alone, before_closing, opening_len, behind, inside_len, opening_of, inside_of, closing_of}
 use Rattle.wt_inline.specs.Carried.{extension_typeof, placeholder_typeof, noinclude_typeof, onlyinclude_typeof, includeonly_typeof, include_typeof, extension_data}
 use Rattle.wt_inline.specs.Parts.{form_leaf, whole_tree}

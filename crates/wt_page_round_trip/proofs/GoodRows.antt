@@ -15,7 +15,7 @@ use Rattle.wt_lines.specs.declared.kind.LineKind.TheVariants as line
 use Rattle.wt_lines.specs.Kinds.{past, is_idle, is_list}
 use Rattle.wt_lines.specs.Lines.{content, full_lines, goes_on, is_break_item}
 use Rattle.wt_tables.specs.Extents.{behind}
-use Rattle.wt_headings.specs.Lines.{kind_at, ending}
+use Rattle.wt_page.specs.Lines.{kind_at, ending}
 use Rattle.wt_page.specs.Rows.{Row, signs, marks_len, idle_len, whole_row, sign_row, behind_sign, is_unseen, sign_rows, dashes, line_rows, unwritten_end, rows_from, rows}
 use Rattle.wt_page_round_trip.proofs.TextItems.{AreTexts, EndsLow, cut_after}
 use Rattle.wt_page_round_trip.proofs.OfPage.{IsPageItem, AreOfPage, ArePageItems}

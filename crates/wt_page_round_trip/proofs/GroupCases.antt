@@ -11,8 +11,8 @@ use Rattle.wt_lines.specs.Kinds.{kind_of_signs}
 use Rattle.wt_datamw.specs.Mw.{mw_text}
 use Rattle.wt_datamw.specs.Sync.{sync_text, sync_members}
 use Rattle.wt_tree.specs.Kinds.{spelling, attribute_name}
-use Rattle.wt_markup.specs.Escapes.{escape, escape_double, escape_single}
-use Rattle.wt_markup.specs.Html.{attribute, id_attribute, mw_attribute, sync_of, sync_start, sync_value, sync_attribute, attributes_of, start_tag, void_tag, end_tag, about_attribute, first_attributes, next_attributes, frame_start, frame_end, html_text}
+use Rattle.wt_schema.specs.Escapes.{escape, escape_double, escape_single}
+use Rattle.wt_schema.specs.Html.{attribute, id_attribute, mw_attribute, sync_of, sync_start, sync_value, sync_attribute, attributes_of, start_tag, void_tag, end_tag, about_attribute, first_attributes, next_attributes, frame_start, frame_end, html_text}
 use Rattle.wt_expand.specs.PageItems.{page_items}
 use Rattle.wt_inline.specs.Parts.{children}
 use Rattle.wt_tiles.specs.Links.{link_at}

@@ -8,7 +8,7 @@ use Rattle.wt_tree.specs.declared.row.Writing.TheVariants.{AsText, AsVoid, Round
 use Rattle.wt_tree.specs.Kinds.{writing, is_numbered}
 use Rattle.wt_tree.specs.Tiling.{is_group}
 use Rattle.wt_tree.specs.Tree.{Tree, tree, Trees, none, more}
-use Rattle.wt_markup.specs.Html.{groups_by, groups, groups_of_all}
+use Rattle.wt_schema.specs.Html.{groups_by, groups, groups_of_all}
 use Rattle.wt_span.specs.Origins.{OuterCall}
 use Rattle.wt_inline.specs.ItemTree.{ItemTree, tree_items}
 use Rattle.wt_annotated.specs.Annotated.{placed, annotated}

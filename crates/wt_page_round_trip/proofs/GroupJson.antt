@@ -23,8 +23,8 @@ use Rattle.wt_datamw.specs.MwRead.{is_function_name, part_is_small, has_small_nu
 use Rattle.wt_datamw.proofs.Mws.{mw_depth}
 use Rattle.wt_datamw.proofs.MwBack.{template_small, function_small, parts_small, reads_ordered}
 use Rattle.wt_datamw.proofs.SyncTold.{json_read}
-use Rattle.wt_round_trip.specs.Written.{HasParts}
-use Rattle.wt_round_trip.proofs.Json.{HasUtf8, ItemsHaveUtf8, MembersHaveUtf8, data_utf8}
+use Rattle.wt_schema.specs.Written.{HasParts}
+use Rattle.wt_schema.proofs.Json.{HasUtf8, ItemsHaveUtf8, MembersHaveUtf8, data_utf8}
 
 abbrev Param : Type 0
 Param = List ℕ × List ℕ

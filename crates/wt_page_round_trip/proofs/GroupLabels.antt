@@ -10,7 +10,7 @@ use Rattle.wt_span.specs.Cuts.{place, source_of_call, text_between}
 use Rattle.wt_span.specs.Items.{Item, char, whole, sources, source}
 use Rattle.wt_span.specs.Origins.{OuterCall}
 use Rattle.wt_schema.specs.Groups.{transclusion, param}
-use Rattle.wt_round_trip.specs.Written.{IsNumber, IsWord, IsGroupLabel}
+use Rattle.wt_schema.specs.Written.{IsNumber, IsWord, IsGroupLabel}
 use Rattle.wt_call_data.specs.CallData.{next_call}
 use Rattle.wt_annotated.specs.Annotated.{group_label}
 use Rattle.wt_annotated.specs.GroupData.{call_parts, data_parts, group_data, next_number}

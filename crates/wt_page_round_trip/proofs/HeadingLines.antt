@@ -16,7 +16,7 @@ use Rattle.wt_lex.proofs.Begins.{begins_get, begins_len}
 use Rattle.wt_lines.specs.declared.kind.LineKind.TheVariants as line
 use Rattle.wt_lines.specs.Kinds.{is_mark_sign, is_idle, past, is_idle_all, is_alone, is_heading, kind_of_signs}
 use Rattle.wt_lines.specs.Lines.{content, is_break_item}
-use Rattle.wt_round_trip.specs.Written.{has_level}
+use Rattle.wt_schema.specs.Written.{has_level}
 use Rattle.wt_blocks.specs.Headings.{core, level_of, open_len, trimmed_len, level, opening, closing}
 use Rattle.wt_page.specs.Rows.{marks_len}
 use Rattle.wt_page_round_trip.proofs.TextItems.{BeginsLow, EndsLow}

@@ -11,7 +11,7 @@ use Rattle.wt_span.specs.Items.{Item, char, whole, sign, is_mark_form}
 use Rattle.wt_lines.specs.declared.kind.LineKind.TheVariants as line
 use Rattle.wt_lines.specs.Kinds.{kind_of_signs, past, is_idle}
 use Rattle.wt_lines.specs.Lines.{content}
-use Rattle.wt_headings.specs.Lines.{ending}
+use Rattle.wt_page.specs.Lines.{ending}
 use Rattle.wt_page_round_trip.proofs.TextItems.{AreTexts}
 use Rattle.wt_page_round_trip.proofs.PageLines.{IsBetween, is_white_byte, all_left, all_right, all_both, content_ending, ending_between}
 use Rattle.wt_page_round_trip.proofs.KindTests.{kind_told}

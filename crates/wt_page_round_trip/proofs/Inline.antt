@@ -23,7 +23,7 @@ use Rattle.wt_tree.specs.Kinds.{shape, admits, may_hold, spelling, texts_of_kind
 use Rattle.wt_tree.specs.declared.row.Texts.{Texts}
 use Rattle.wt_tree.specs.declared.row.Texts.TheVariants.{Separators, Page, Bordered, OwnCharacter}
 use Rattle.wt_schema.specs.Rows.{holds_text}
-use Rattle.wt_round_trip.specs.Written.{leaf_kind, may_stand, HasLeafKind}
+use Rattle.wt_schema.specs.Written.{leaf_kind, may_stand, HasLeafKind}
 use Rattle.wt_inline.specs.declared.loose.Loose.{Loose}
 use Rattle.wt_inline.specs.declared.loose.Loose.TheVariants.{Text, Sep}
 use Rattle.wt_inline.specs.RawTag.{len_of, opening_len, opening_of, inside_of, closing_of}

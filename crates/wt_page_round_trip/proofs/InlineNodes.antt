@@ -8,7 +8,7 @@ use Rattle.wt_tree.specs.declared.kind.Kind.TheVariants as kind
 use Rattle.wt_span.specs.declared.tag_name.TagName.{TagName}
 use Rattle.wt_tree.specs.Kinds.{shape, spelling, is_anywhere}
 use Rattle.wt_tree.specs.Values.{placeholder as placeholder_type, extension_prefix}
-use Rattle.wt_round_trip.specs.Written.{HasAttributes}
+use Rattle.wt_schema.specs.Written.{HasAttributes}
 use Rattle.wt_inline.specs.Carried.{placeholder_typeof}
 use Rattle.wt_inline.specs.ItemTree.{Head, ItemTree, ItemTrees, nothing, leaf, inner, forest}
 use Rattle.wt_inline.specs.Parts.{Part, children}

@@ -17,7 +17,7 @@ use Rattle.wt_schema.specs.Rows.{holds_text}
 use Rattle.wt_span.specs.Items.{Item, call_of, source, sources}
 use Rattle.wt_span.specs.Cuts.{text_by}
 use Rattle.wt_span.specs.Origins.{OuterCall}
-use Rattle.wt_round_trip.specs.Written.{IsTextIn, HasSource}
+use Rattle.wt_schema.specs.Written.{IsTextIn, HasSource}
 use Rattle.wt_inline.specs.ItemTree.{Head, ItemTree, inner, ItemTrees, tree_items, held_by_all}
 use Rattle.wt_annotated.specs.Clean.{is_no_call, is_page, is_body, own_by}
 use Rattle.wt_annotated.specs.Labels.{if_leaf, if_inner}

@@ -18,7 +18,7 @@ use Rattle.wt_span.specs.Items.{Item}
 use Rattle.wt_span.specs.Origins.{OuterCall}
 use Rattle.wt_span.specs.Runs.{runs, AreRuns}
 use Rattle.wt_span.proofs.RunLaws.{runs_are}
-use Rattle.wt_round_trip.specs.Written.{IsNumber, IsGroupLabel}
+use Rattle.wt_schema.specs.Written.{IsNumber, IsGroupLabel}
 use Rattle.wt_inline.specs.ItemTree.{ItemTree, inner, ItemTrees, nothing, further, tree_items, held_by_all}
 use Rattle.wt_annotated.specs.Annotated.{kept_label, group_label, placed, annotated}
 use Rattle.wt_annotated.specs.Clean.{is_clean}

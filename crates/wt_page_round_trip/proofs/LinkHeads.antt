@@ -22,8 +22,8 @@ use Rattle.wt_tiles.specs.declared.target.Target.{Target}
 use Rattle.wt_tiles.specs.Links.{is_atom, aimed, target_in, target_text, target_of}
 use Rattle.wt_tiles.proofs.Words.{and_left}
 use Rattle.wt_schema.specs.Rows.{link_by, link_read}
-use Rattle.wt_round_trip.specs.Written.{HasAttributes}
-use Rattle.wt_round_trip.proofs.Json.{ascii_then}
+use Rattle.wt_schema.specs.Written.{HasAttributes}
+use Rattle.wt_schema.proofs.Json.{ascii_then}
 use Rattle.wt_context.specs.Heads.{target_size, target, href_to, href_with}
 
 -- ---- a link is ASCII

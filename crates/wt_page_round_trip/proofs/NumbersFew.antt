@@ -19,7 +19,7 @@ use Rattle.wt_span.specs.Items.{Item, sources}
 use Rattle.wt_span.specs.Origins.{OuterCall}
 use Rattle.wt_span.specs.Runs.{runs, AreRuns}
 use Rattle.wt_span.proofs.RunLaws.{runs_are}
-use Rattle.wt_round_trip.specs.Written.{is_childless}
+use Rattle.wt_schema.specs.Written.{is_childless}
 use Rattle.wt_inline.specs.ItemTree.{ItemTree, inner, ItemTrees, nothing, further, tree_items, held_by_all}
 use Rattle.wt_inline.proofs.HeldLaws.{sources_append}
 use Rattle.wt_annotated.specs.Annotated.{unplaced, all_unplaced}

@@ -21,7 +21,7 @@ use Rattle.wt_expand.specs.Expansion.{Reading, target_part, part_outputs, output
 use Rattle.wt_expand.specs.PageCalls.{Stretch, own, link_of, outer_at, call_stretches, stretches_of, all_stretches, outer_calls, page_stretches, expanded_page}
 use Rattle.wt_expansion.proofs.SoundMembers.{IsSoundLexeme, IsCallHere, IsSoundMember, AreSoundMembers, text_sound, text_width}
 use Rattle.wt_expansion.proofs.SoundCalls.{calls_append, calls_are_sound}
-use Rattle.wt_round_trip.specs.Written.{IsUtf8IfAny}
+use Rattle.wt_schema.specs.Written.{IsUtf8IfAny}
 use Rattle.wt_page_round_trip.specs.GroupTexts.{ArePageCalls}
 use Rattle.wt_page_round_trip.proofs.LinkHeads.{link_utf8}
 

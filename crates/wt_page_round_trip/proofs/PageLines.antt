@@ -8,7 +8,7 @@ use Rattle.wt_recut.specs.Recut.{is_blank as is_white}
 use Rattle.wt_span.specs.Items.{Item, char, whole, is_mark, is_mark_form}
 use Rattle.wt_span.specs.Runs.{IsRun, AreRuns}
 use Rattle.wt_lines.specs.Lines.{is_break_item, goes_on, content}
-use Rattle.wt_headings.specs.Lines.{ending}
+use Rattle.wt_page.specs.Lines.{ending}
 use Rattle.wt_page_round_trip.proofs.TextItems.{AreTexts, BeginsLow, EndsLow, cut_after, cut_items_before, texts_both}
 use Rattle.wt_page_round_trip.proofs.OfPage.{IsPageItem, AreOfPage, ArePageItems, no_page_items}
 

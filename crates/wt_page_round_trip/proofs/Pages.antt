@@ -6,11 +6,11 @@ use Rattle.wt_span.specs.Origins.{OuterCall}
 use Rattle.wt_tree.specs.Opened.{without_sections}
 use Rattle.wt_tree.specs.Source.{flat}
 use Rattle.wt_tree.specs.Tree.{Tree}
-use Rattle.wt_markup.specs.Html.{groups, html_text}
+use Rattle.wt_schema.specs.Html.{groups, html_text}
 use Rattle.wt_schema.specs.Read.{read, page as read_page}
-use Rattle.wt_round_trip.specs.Written.{unranged, IsWritten}
-use Rattle.wt_round_trip.proofs.Again.{same_source}
-use Rattle.wt_round_trip.proofs.Whole.{written_read}
+use Rattle.wt_schema.specs.Written.{unranged, IsWritten}
+use Rattle.wt_schema.proofs.Again.{same_source}
+use Rattle.wt_schema.proofs.Whole.{written_read}
 use Rattle.wt_expand.specs.Expansion.{page_work}
 use Rattle.wt_expand.specs.PageCalls.{expanded_page}
 use Rattle.wt_expand.specs.Work.{Pages, first_refusal}

@@ -11,7 +11,7 @@ use Rattle.wt_tree.specs.declared.kind.Kind.{Kind}
 use Rattle.wt_tree.specs.Kinds.{texts_of_kind}
 use Rattle.wt_recut.specs.Recut.{is_blank as is_white}
 use Rattle.wt_schema.specs.Rows.{holds_text}
-use Rattle.wt_round_trip.specs.Written.{leaf_kind, may_stand, HasLeafKind}
+use Rattle.wt_schema.specs.Written.{leaf_kind, may_stand, HasLeafKind}
 use Rattle.wt_inline.specs.declared.loose.Loose.{Loose}
 use Rattle.wt_inline.specs.declared.loose.Loose.TheVariants.{Text, Sep}
 use Rattle.wt_inline.specs.Carried.{shown_item}

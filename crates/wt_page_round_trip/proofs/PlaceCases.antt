@@ -25,7 +25,7 @@ use Rattle.wt_context.specs.Styled.{with_styles}
 use Rattle.wt_context.specs.Nodes.{segments}
 use Rattle.wt_context.specs.Line.{context_parts, line_trees}
 use Rattle.wt_blocks.specs.Headings.{level, opening, inside, closing}
-use Rattle.wt_headings.specs.Headings.{heading}
+use Rattle.wt_page.specs.Headings.{heading}
 use Rattle.wt_page.specs.Texts.{para}
 use Rattle.wt_page.specs.Rows.{rows as rows_of}
 use Rattle.wt_page.specs.Body.{blocks, meaning}

@@ -10,7 +10,7 @@ use Rattle.wt_tables.specs.Extents.{is_open, is_end, behind, inner_len}
 use Rattle.wt_tables.specs.Parts.{joined, taken_len, put_first, units_from, units}
 use Rattle.wt_tables.proofs.Ends.{after_line, depth_len, inner_is}
 use Rattle.wt_tables.proofs.Opens.{open_few, end_inside}
-use Rattle.wt_headings.specs.Lines.{kind_at}
+use Rattle.wt_page.specs.Lines.{kind_at}
 use Rattle.wt_page.specs.Rows.{Row, kind_of, whole_row, sign_row, behind_sign, is_unseen, marks_len, idle_len, dashes, line_rows, unwritten_end, rows_from, rows}
 
 -- ---- rows in which tables open and end

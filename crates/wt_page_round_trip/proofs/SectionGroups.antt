@@ -4,7 +4,7 @@ use Rattle.std.specs.Prelude.{if◌then◌else◌}
 use Rattle.wt_tree.specs.Kinds.{writing}
 use Rattle.wt_tree.specs.Tiling.{is_group}
 use Rattle.wt_tree.specs.Tree.{Tree, tree, Trees, none, more}
-use Rattle.wt_markup.specs.Html.{groups_by, groups, groups_of_all}
+use Rattle.wt_schema.specs.Html.{groups_by, groups, groups_of_all}
 use Rattle.wt_sections.specs.Sections.{gathered, with_sections}
 use Rattle.wt_sections.proofs.Kept.{PassesSections, all_before, all_stay}
 

@@ -12,8 +12,8 @@ use Rattle.wt_tree.specs.Tree.{Label, Tree, tree, Trees, none, more}
 use Rattle.wt_annotated.specs.Numbering.{count, count_all, all_with_numbers}
 use Rattle.wt_sections.specs.Gathering.{heading_count}
 use Rattle.wt_sections.specs.Sections.{Part, section, level_of, ends, opens, before, from, put, parts, part_trees, lead_if_any, gathered, with_sections}
-use Rattle.wt_round_trip.specs.Written.{is_level, has_level, IsElementLabel, NodeIsWritten, IsCutIn, IsWrittenGroup, is_childless, WrittenIn, AllWrittenIn, PartIn, PartsIn, IsWritten}
-use Rattle.wt_round_trip.proofs.Shallower.{written_shallower, written_in_section, node_is_part}
+use Rattle.wt_schema.specs.Written.{is_level, has_level, IsElementLabel, NodeIsWritten, IsCutIn, IsWrittenGroup, is_childless, WrittenIn, AllWrittenIn, PartIn, PartsIn, IsWritten}
+use Rattle.wt_schema.proofs.Shallower.{written_shallower, written_in_section, node_is_part}
 
 -- ---- the level of a heading
 

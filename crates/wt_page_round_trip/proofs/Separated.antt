@@ -12,8 +12,8 @@ use Rattle.wt_tree.specs.declared.kind.Kind.{Kind}
 use Rattle.wt_tree.specs.declared.kind.Kind.TheVariants as kind
 use Rattle.wt_tree.specs.Kinds.{texts_of_kind, is_inline}
 use Rattle.wt_recut.specs.Recut.{is_blank as is_white}
-use Rattle.wt_round_trip.specs.Written.{leaf_kind, may_stand, HasLeafKind}
-use Rattle.wt_round_trip.proofs.Json.{ascii_then}
+use Rattle.wt_schema.specs.Written.{leaf_kind, may_stand, HasLeafKind}
+use Rattle.wt_schema.proofs.Json.{ascii_then}
 use Rattle.wt_inline.specs.declared.loose.Loose.{Loose}
 use Rattle.wt_inline.specs.declared.loose.Loose.TheVariants.{Sep}
 use Rattle.wt_inline.specs.ItemTree.{Head, ItemTree, inner}

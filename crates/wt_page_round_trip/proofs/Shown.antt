@@ -23,9 +23,9 @@ use Rattle.wt_recut.specs.Recut.{shows_block, any_shows_block}
 use Rattle.wt_tree.specs.Tiling.{is_group}
 use Rattle.wt_tree.specs.Tree.{Label, Tree, tree, Trees, none, more}
 use Rattle.wt_schema.specs.Rows.{holds_page_text, holds_text, shows_text}
-use Rattle.wt_round_trip.specs.GroupNodes.{elements_for, group_nodes, inner_nodes, is_empty_span, is_block_face, in_order, all_follow}
-use Rattle.wt_round_trip.specs.Written.{shown_of, leaf_kind, HasLeafKind, IsTextIn, IsShown, IsFace, PlainsIn, TopsIn, is_childless}
-use Rattle.wt_round_trip.proofs.Faces.{is_element}
+use Rattle.wt_schema.specs.GroupNodes.{elements_for, group_nodes, inner_nodes, is_empty_span, is_block_face, in_order, all_follow}
+use Rattle.wt_schema.specs.Written.{shown_of, leaf_kind, HasLeafKind, IsTextIn, IsShown, IsFace, PlainsIn, TopsIn, is_childless}
+use Rattle.wt_schema.proofs.Faces.{is_element}
 use Rattle.wt_page_round_trip.proofs.ShownNodes.{shows_words, can_follow, are_in_line, IsShownLabel, IsShownElement, NodeIsShown, IsOrdered, IsShownIn, AreShownIn}
 use Rattle.wt_page_round_trip.proofs.ShownKinds.{hidden_block, block_held, inline_held, page_takes, separators_take, own_character, none_follows, shown_element, leaf_ended, span_is}
 

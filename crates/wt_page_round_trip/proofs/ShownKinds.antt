@@ -14,8 +14,8 @@ use Rattle.wt_tree.specs.Kinds.{shape, showing, texts_of_kind, is_class, admits,
 use Rattle.wt_tree.specs.Plain.{ended, plains_before}
 use Rattle.wt_tree.specs.Tree.{Trees, none, more}
 use Rattle.wt_schema.specs.Rows.{shows_text}
-use Rattle.wt_round_trip.specs.GroupNodes.{is_ended}
-use Rattle.wt_round_trip.specs.Written.{IsFace, is_childless}
+use Rattle.wt_schema.specs.GroupNodes.{is_ended}
+use Rattle.wt_schema.specs.Written.{IsFace, is_childless}
 
 pub shown_element : (k : Kind) → showing k ≡ Element → shows_text k ≡ false
 shown_element kind.Entity e = absurd cc

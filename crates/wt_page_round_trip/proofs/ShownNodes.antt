@@ -11,7 +11,7 @@ use Rattle.wt_tree.specs.declared.row.Writing.TheVariants.{AsText, AsVoid, Round
 use Rattle.wt_tree.specs.Kinds.{writing, is_leaf, is_section, may_hold, texts_of_kind, is_inline}
 use Rattle.wt_tree.specs.Tree.{Label, Tree, tree, Trees, none, more}
 use Rattle.wt_schema.specs.Rows.{shows_text}
-use Rattle.wt_round_trip.specs.Written.{IsTextIn, has_level, HasSource, IsShown, HasAttributes, is_extension_label, HasData, is_childless}
+use Rattle.wt_schema.specs.Written.{IsTextIn, has_level, HasSource, IsShown, HasAttributes, is_extension_label, HasData, is_childless}
 use Rattle.wt_recut.specs.Recut.{shows_block}
 
 -- an element, by the tables of kinds, but for its number and its places; a section is none

@@ -23,7 +23,7 @@ use Rattle.wt_attributes.specs.Characters.{text_of}
 use Rattle.wt_attributes.specs.Classes.{run_len}
 use Rattle.wt_attributes.proofs.Fronts.{border_word}
 use Rattle.wt_attributes.proofs.Runs.{border_run}
-use Rattle.wt_round_trip.specs.Written.{IsUtf8IfAny, AreOwn, HasAttributes}
+use Rattle.wt_schema.specs.Written.{IsUtf8IfAny, AreOwn, HasAttributes}
 use Rattle.wt_context.specs.Heads.{attribute_items, attributes_of}
 use Rattle.wt_page_round_trip.proofs.OfPage.{ArePageItems}
 use Rattle.wt_page_round_trip.proofs.ShownTexts.{shown_utf8, same_text, blank_low}

@@ -37,7 +37,7 @@ use Rattle.wt_tiles.specs.Tiles.{size, pair_or_island, closing_for, shape_of_tag
 use Rattle.wt_tiles.specs.Reading.{tile_at}
 use Rattle.wt_tiles.proofs.Words.{and_left, and_right, false_true}
 use Rattle.wt_attributes.proofs.Fronts.{some_same}
-use Rattle.wt_round_trip.specs.Written.{HasAttributes}
+use Rattle.wt_schema.specs.Written.{HasAttributes}
 use Rattle.wt_inline.proofs.HeldLaws.{sources_append}
 use Rattle.wt_context.specs.Heads.{switch_names as told_names, switch_property}
 

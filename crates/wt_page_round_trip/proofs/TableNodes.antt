@@ -24,7 +24,7 @@ use Rattle.wt_lines.specs.Kinds.{is_idle}
 use Rattle.wt_attributes.specs.Attributes.{attributes}
 use Rattle.wt_tables.specs.Cells.{lead_len, is_dash, row_sign_len, table_attributes, row_attributes}
 use Rattle.wt_tables.specs.Parts.{RowOf, TableOf, is_blank_kind, table_of}
-use Rattle.wt_headings.specs.Lines.{ending}
+use Rattle.wt_page.specs.Lines.{ending}
 use Rattle.wt_page.specs.Rows.{Row, row_items, all_items, kind_of, signs}
 use Rattle.wt_page.specs.Stretches.{Stretch, gap}
 use Rattle.wt_page.specs.Tables.{Reading, cell_kind, cell_stretches, is_blank_row, stray_len, from_sign, delimiter, behind_delimiter, delimiter_lead, first_items, row_by, row_stretches, rows_stretches, table_inside, table_by, last_of, without_last, table}

@@ -11,14 +11,14 @@ use Rattle.wt_tree.specs.declared.row.Holding.TheVariants.{Inlines}
 use Rattle.wt_tree.specs.declared.row.Texts.TheVariants.{Page}
 use Rattle.wt_tree.specs.Kinds.{texts_of_kind, shape, is_anywhere, spelling}
 use Rattle.wt_lex.proofs.Begins.{begins_get, begins_len}
-use Rattle.wt_round_trip.specs.Written.{has_level}
+use Rattle.wt_schema.specs.Written.{has_level}
 use Rattle.wt_inline.specs.declared.loose.Loose.TheVariants.{Text}
 use Rattle.wt_inline.specs.ItemTree.{plain, ItemTree, inner, forest}
 use Rattle.wt_inline.specs.Parts.{Part, node, parts, children}
 use Rattle.wt_context.specs.Line.{line_parts, line_trees}
 use Rattle.wt_blocks.specs.Headings.{level as heading_level, opening, inside, closing}
 use Rattle.wt_blocks.proofs.HeadingLaws.{joined as heading_joined}
-use Rattle.wt_headings.specs.Headings.{heading}
+use Rattle.wt_page.specs.Headings.{heading}
 use Rattle.wt_annotated.specs.Annotated.{all_unplaced}
 use Rattle.wt_page.specs.Rows.{Row, signs, first_lead, last_ending}
 use Rattle.wt_page.specs.Texts.{with_separators, later_parts, later_line, para_parts, para, skipped, later_pre, pre_opening, pre_parts, pre, rule}

@@ -6,7 +6,7 @@ use Rattle.wt_tree.specs.Tiling.{is_group}
 use Rattle.wt_tree.specs.Tree.{Tree, label}
 use Rattle.wt_span.specs.Items.{Item, char, whole}
 use Rattle.wt_span.specs.Origins.{OuterCall, IsSoundCall}
-use Rattle.wt_round_trip.specs.Written.{IsUtf8IfAny, IsGroupLabel}
+use Rattle.wt_schema.specs.Written.{IsUtf8IfAny, IsGroupLabel}
 use Rattle.wt_inline.specs.ItemTree.{ItemTree, inner, ItemTrees, nothing, further}
 
 -- An outermost call of a page in UTF-8: sound, with a source that isn't empty, and with fewer parts than there are numbers.

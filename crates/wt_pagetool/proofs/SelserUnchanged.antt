@@ -23,7 +23,7 @@ use Rattle.wt_expand.specs.Work.{Pages}
 use Rattle.wt_schema.specs.Read.{page as as_page, read}
 use Rattle.wt_page_round_trip.specs.PageTree.{page_tree}
 use Rattle.wt_page_round_trip.proofs.PageTrees.{page_numbered}
-use Rattle.wt_round_trip.specs.Written.{unranged}
+use Rattle.wt_schema.specs.Written.{unranged}
 use Rattle.wt_visible.specs.Children.{shown_children}
 use Rattle.wt_visible.specs.Restored.{restored_from}
 use Rattle.wt_commands.specs.declared.output.Output.{Output}

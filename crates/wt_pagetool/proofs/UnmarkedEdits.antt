@@ -12,8 +12,8 @@ use Rattle.wt_span.specs.Origins.{Expanded}
 use Rattle.wt_tree.specs.Tree.{Tree}
 use Rattle.wt_edit.specs.declared.refusal.EditRefusal.{EditRefusal as WholeRefusal}
 use Rattle.wt_edit.specs.Edits.{IsPage, new_answer as new_edit}
-use Rattle.wt_selser_refusal.specs.declared.refusal.SelserRefusal.{SelserRefusal}
-use Rattle.wt_selser_refusal.specs.declared.refusal.SelserRefusal.TheVariants as of_selser
+use Rattle.wt_edit.specs.declared.selser_refusal.SelserRefusal.{SelserRefusal}
+use Rattle.wt_edit.specs.declared.selser_refusal.SelserRefusal.TheVariants as of_selser
 use Rattle.wt_unmarked_edit.specs.Counts.{IsCountedErr}
 use Rattle.wt_unmarked_edit.specs.Found.{FindsNew as FindsPage, FindsNone as FindsNoPage, IsCheck, ReadsBack, UnlessChecked}
 use Rattle.wt_commands.specs.declared.output.Output.{Output}

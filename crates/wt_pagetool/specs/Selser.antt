@@ -11,7 +11,7 @@ use Rattle.wt_span.specs.Origins.{Expanded}
 use Rattle.wt_span.specs.declared.limits.TheConstants.{HTML_BYTES}
 use Rattle.wt_tree.specs.Plain.{plain}
 use Rattle.wt_tree.specs.Tree.{Tree}
-use Rattle.wt_selser_refusal.specs.declared.refusal.SelserRefusal.{SelserRefusal}
+use Rattle.wt_edit.specs.declared.selser_refusal.SelserRefusal.{SelserRefusal}
 use Rattle.wt_unmarked_edit.specs.Found.{IsNewPage, IsNoNewPage}
 use Rattle.wt_commands.specs.declared.output.Output.{Output}
 use Rattle.wt_commands.specs.declared.refusal.Refusal.{Refusal}

@@ -14,7 +14,7 @@ use crate::selser_command::selser_page;
 use std::alloc::Global;
 use wt_commands::{Output, PIECE, PageCommand, Refusal, edited_page, output_of_title};
 use wt_devices::{Folder, Source};
-use wt_selser_refusal::Readings;
+use wt_edit::Readings;
 use wt_span::{HTML_BYTES, Str};
 
 /// What `html`, `ranges` or `lint` writes of the page under a title.

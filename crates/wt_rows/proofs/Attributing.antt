@@ -14,7 +14,7 @@ use Rattle.wt_tiles.proofs.Words.{edge_after}
 use Rattle.wt_page.specs.Rows.{signs}
 use Rattle.wt_rows.specs.declared.front.Front.TheVariants as front
 use Rattle.wt_rows.specs.Fronts.{with_front}
-use Rattle.wt_headings.proofs.LowSigns.{low_sign}
+use Rattle.wt_page.proofs.LowSigns.{low_sign}
 
 -- two signs at the front
 pub record BeginWith (a b : ℕ) (xs : List Item) : Type 0 where

@@ -6,7 +6,7 @@ use Rattle.std.proofs.lemmas.List.Elements.{All-take, All-drop}
 use Rattle.wt_span.specs.declared.form.Piece.{Piece}
 use Rattle.wt_span.specs.Items.{Item, items, sources}
 use Rattle.wt_span.specs.Origins.{IsSoundPiece}
-use Rattle.wt_headings.proofs.PieceWidths.{items_within}
+use Rattle.wt_page.proofs.PieceWidths.{items_within}
 use Rattle.wt_page.specs.Rows.{Row, row_items, all_items, unwritten_end}
 use Rattle.wt_rows.specs.declared.row.RowAt.{RowAt}
 use Rattle.wt_rows.specs.Ready.{IsReadyRow, AreInOrder, AreFewRows, AreReadyRows}

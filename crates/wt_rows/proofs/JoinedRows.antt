@@ -6,7 +6,7 @@ use Rattle.wt_span.specs.Items.{items}
 use Rattle.wt_lines.specs.declared.kind.LineKind.{LineKind}
 use Rattle.wt_lines.specs.Lines.{content}
 use Rattle.wt_lines.specs.Pieces.{AllParted}
-use Rattle.wt_headings.specs.Lines.{ending}
+use Rattle.wt_page.specs.Lines.{ending}
 use Rattle.wt_rows.specs.declared.row.RowAt.{RowAt}
 use Rattle.wt_page.specs.Rows.{row_items, all_items}
 use Rattle.wt_page.specs.Tables.{from_sign}

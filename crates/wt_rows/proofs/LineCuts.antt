@@ -27,7 +27,7 @@ use Rattle.wt_rows.specs.declared.front.Front.TheVariants as front
 use Rattle.wt_rows.specs.Building.{IsTableLine, IsIdleCut}
 use Rattle.wt_rows.specs.Fronts.{front_len, IsFrontCut}
 use Rattle.wt_rows.proofs.KindSigns.{Tells, past_idle}
-use Rattle.wt_headings.proofs.LowSigns.{form_low}
+use Rattle.wt_page.proofs.LowSigns.{form_low}
 
 -- ---- what stands on a line holds no line break
 

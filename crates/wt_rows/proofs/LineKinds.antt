@@ -4,7 +4,7 @@ use Rattle.wt_span.specs.Items.{Item}
 use Rattle.wt_lines.specs.declared.kind.LineKind.{LineKind}
 use Rattle.wt_lines.specs.declared.kind.LineKind.TheVariants as kind
 use Rattle.wt_lines.specs.Lines.{content}
-use Rattle.wt_headings.specs.Lines.{ending}
+use Rattle.wt_page.specs.Lines.{ending}
 use Rattle.wt_page.specs.Rows.{marks_len, idle_len, dashes, whole_row, line_rows}
 use Rattle.wt_rows.specs.Building.{cut_row, signed_rows, IsTableLine, IsTextLine}
 use Rattle.wt_rows.proofs.LineRows.{marked_row, idle_row, end_rows, rule_rows}

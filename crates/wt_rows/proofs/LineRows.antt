@@ -12,8 +12,8 @@ use Rattle.wt_lines.specs.declared.kind.LineKind.{LineKind}
 use Rattle.wt_lines.specs.declared.kind.LineKind.TheVariants as line
 use Rattle.wt_lines.specs.Kinds.{is_idle, is_idle_all}
 use Rattle.wt_lines.specs.Lines.{is_break_item, content}
-use Rattle.wt_headings.specs.Lines.{ending}
-use Rattle.wt_headings.proofs.Ends.{content_ending}
+use Rattle.wt_page.specs.Lines.{ending}
+use Rattle.wt_page.proofs.Ends.{content_ending}
 use Rattle.wt_page.specs.Rows.{Row, signs, marks_len, idle_len, dashes, whole_row, sign_rows}
 use Rattle.wt_rows.specs.Building.{cut_row, signed_rows}
 

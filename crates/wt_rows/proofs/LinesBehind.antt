@@ -11,8 +11,8 @@ use Rattle.wt_lines.specs.Kinds.{past, is_idle, is_mark_sign}
 use Rattle.wt_lines.specs.Lines.{IsUnbroken, content, full_lines}
 use Rattle.wt_lines.specs.Pieces.{AreLeadingMarks}
 use Rattle.wt_tables.specs.Extents.{behind}
-use Rattle.wt_headings.specs.Lines.{kind_at, ending}
-use Rattle.wt_headings.proofs.Pieces.{parted_rest, parted_front}
+use Rattle.wt_page.specs.Lines.{kind_at, ending}
+use Rattle.wt_page.proofs.Pieces.{parted_rest, parted_front}
 use Rattle.wt_rows.specs.declared.row.RowAt.{RowAt}
 use Rattle.wt_page.specs.Rows.{Row, signs, marks_len, line_rows, rows_from}
 use Rattle.wt_rows.specs.Views.{rows_view}

@@ -11,7 +11,7 @@ use Rattle.wt_lines.specs.declared.kind.LineKind.{LineKind}
 use Rattle.wt_lines.specs.Kinds.{past, is_idle}
 use Rattle.wt_lines.specs.Lines.{IsUnbroken}
 use Rattle.wt_lines.specs.Pieces.{AllParted, AreLeadingMarks}
-use Rattle.wt_headings.proofs.Pieces.{all_append}
+use Rattle.wt_page.proofs.Pieces.{all_append}
 use Rattle.wt_rows.specs.declared.row.RowAt.{RowAt}
 use Rattle.std.proofs.lemmas.List.Elements.{All-nil}
 use Rattle.wt_rows.proofs.KindSigns.{past_idle}

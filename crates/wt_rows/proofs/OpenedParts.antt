@@ -9,7 +9,7 @@ use Rattle.wt_tables.specs.Cells.{row_attributes, table_attributes}
 use Rattle.wt_inline.specs.ItemTree.{Head, ItemTree, inner, forest}
 use Rattle.wt_inline.specs.Parts.{children}
 use Rattle.wt_inline.specs.Grown.{Grown, Grows, made}
-use Rattle.wt_headings.specs.Lines.{ending}
+use Rattle.wt_page.specs.Lines.{ending}
 use Rattle.wt_rows.specs.declared.row.RowAt.{RowAt}
 use Rattle.wt_rows.specs.declared.stretch.StretchAt.{StretchAt}
 use Rattle.wt_rows.specs.declared.stretch.StretchAt.TheVariants as at

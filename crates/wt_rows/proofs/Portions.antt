@@ -17,7 +17,7 @@ use Rattle.wt_tables.proofs.Ends.{after_line, depth_len, inner_is}
 use Rattle.wt_inline.specs.declared.loose.Loose.TheVariants.{Sep}
 use Rattle.wt_inline.specs.Parts.{parts}
 use Rattle.wt_inline.specs.Grown.{made}
-use Rattle.wt_headings.specs.Lines.{kind_at}
+use Rattle.wt_page.specs.Lines.{kind_at}
 use Rattle.wt_page.specs.Rows.{Row, kind_of, line_rows, sign_rows, is_unseen, behind_sign, unwritten_end, rows_from, rows, marks_len, idle_len, dashes}
 use Rattle.wt_page.specs.Stretches.{gap, stretches_parts}
 use Rattle.wt_page.specs.Tables.{Reading}

@@ -9,7 +9,7 @@ use Rattle.wt_lines.specs.Kinds.{is_mark_sign, is_idle_all}
 use Rattle.wt_lines.specs.Lines.{IsUnbroken, content, full_lines}
 use Rattle.wt_lines.specs.Pieces.{AllParted}
 use Rattle.wt_tiles.specs.Cutting.{IsEdgeIn}
-use Rattle.wt_headings.specs.Lines.{kind_at}
+use Rattle.wt_page.specs.Lines.{kind_at}
 use Rattle.wt_rows.specs.declared.row.RowAt.{RowAt}
 use Rattle.wt_rows.specs.declared.rows.PageRows.{PageRows}
 use Rattle.wt_page.specs.Rows.{Row, signs, marks_len, idle_len, dashes, rows_from}

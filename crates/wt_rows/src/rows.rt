@@ -6,7 +6,7 @@ ghost use Rattle.wt_span.specs.Origins.{IsSoundPiece};
 ghost use Rattle.wt_lines.specs.Kinds.{past, is_idle, is_mark_sign};
 ghost use Rattle.wt_lines.specs.Lines.{IsUnbroken, content};
 ghost use Rattle.wt_lines.specs.Pieces.{AreLeadingMarks};
-ghost use Rattle.wt_headings.specs.Lines.{kind_at};
+ghost use Rattle.wt_page.specs.Lines.{kind_at};
 ghost use Rattle.wt_tiles.specs.Cutting.{IsEdgeIn};
 ghost use Rattle.wt_page.specs.Rows.{signs, marks_len, idle_len, line_rows, unwritten_end, rows};
 ghost use Rattle.wt_rows.specs.Ready.{Begins};
@@ -16,7 +16,7 @@ use crate::cuts::{cut, cut_front};
 use crate::front::Front;
 use crate::row::RowAt;
 use std::alloc::Global;
-use wt_headings::content_len;
+use wt_page::content_len;
 use wt_lines::{LineKind, Signs, is_chars, kind_of_pieces, marks_len};
 use wt_span::{List, NoMemory, Piece, front_of, rest_of};
 

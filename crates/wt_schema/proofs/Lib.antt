@@ -4,3 +4,32 @@ pub mod FirstMisfits
 pub mod FirstUnsourced
 pub mod SectionRows
 pub mod SectionNames
+mod MarkupCases
+mod RoundCases
+pub mod Pieces
+pub mod Json
+pub mod Types
+pub mod Said
+pub mod Names
+pub mod Order
+pub mod Numbers
+pub mod Rows
+pub mod Labels
+pub mod Faces
+pub mod Firsts
+pub mod Tags
+pub mod GroupItems
+pub mod Elements
+pub mod Bare
+pub mod Steps
+pub mod GroupFits
+pub mod Merged
+pub mod Ordered
+pub mod Fits
+pub mod SectionItems
+pub mod SectionBared
+pub mod SectionFits
+pub mod Whole
+pub mod Shallower
+pub mod ShownAgain
+pub mod Again

@@ -7,3 +7,7 @@ pub mod Fit
 pub mod Unsourced
 pub mod Read
 pub mod Misfits
+pub mod Escapes
+pub mod Html
+pub mod GroupNodes
+pub mod Written

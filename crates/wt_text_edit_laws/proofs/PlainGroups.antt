@@ -48,7 +48,7 @@ use Rattle.wt_isolation.specs.Toggles as toggles
 use Rattle.wt_isolation.specs.Toggles.{is_quote, quote_runs, tile_runs, runs_of, switches_italic, switches_bold, are_odd, is_odd_line, has_odd_line}
 use Rattle.wt_selser.specs.Edits.{is_tangled}
 use Rattle.wt_selser.specs.GroupFaults.{trees_in, shown_by, shown_alone, paragraph_face, one_paragraph, shows_other, is_faulty, faulty_at, has_faulty_group, is_faulty_node}
-use Rattle.wt_spelling_laws.proofs.TextKinds.{atom_opens, opens_kind}
+use Rattle.wt_typed_blocks.proofs.TextKinds.{atom_opens, opens_kind}
 use Rattle.wt_text_edit_laws.specs.LonePages.{page_chars, page_of}
 use Rattle.wt_text_edit_laws.specs.PlainTexts.{is_plain}
 use Rattle.wt_text_edit_laws.specs.PlainGroups.{IsPlainLine, AreOneText, IsPlainGroup, HasPlainGroups, HavePlainGroups}

@@ -10,7 +10,7 @@ use Rattle.wt_expand.specs.PageItems.{page_items}
 use Rattle.wt_page.specs.Rows.{Row, rows_from}
 use Rattle.wt_page.specs.Body.{meaning}
 use Rattle.wt_page.specs.Texts.{para}
-use Rattle.wt_row_laws.specs.Blocks.{Block, paragraph, block_rows, AreBlocks}
+use Rattle.wt_part_laws.specs.Blocks.{Block, paragraph, block_rows, AreBlocks}
 use Rattle.wt_text_edit_laws.specs.BlockSpots.{BlockSpot}
 use Rattle.wt_text_edit_laws.specs.NoCalls.{CallsNothing}
 use Rattle.wt_text_edit_laws.specs.PageCuts.{AreTextItems, begins_unmarked, EndsClosed, IsUntangledAt}

@@ -10,7 +10,7 @@ use Rattle.wt_blocks.specs.Headings.{level}
 use Rattle.wt_expand.specs.PageItems.{page_items}
 use Rattle.wt_page.specs.Rows.{marks_len}
 use Rattle.wt_selser.specs.Edits.{is_tangled}
-use Rattle.wt_moved_laws.specs.Standing.{standing}
+use Rattle.wt_part_laws.specs.Standing.{standing}
 use Rattle.wt_text_edit_laws.specs.BlockSpots.{BlockSpot, spots_source}
 use Rattle.wt_text_edit_laws.specs.LonePages.{page_chars}
 use Rattle.wt_text_edit_laws.specs.Paragraphs.{IsTextLine}

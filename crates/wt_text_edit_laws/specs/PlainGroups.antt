@@ -11,7 +11,7 @@ use Rattle.wt_tree.specs.Tree.{Label, Tree, tree, Trees, none, more}
 use Rattle.wt_content.specs.Content.{has_break}
 use Rattle.wt_isolation.specs.GroupItems.{empty_nowiki, items_alone}
 use Rattle.wt_isolation.specs.OpenTexts.{in_style}
-use Rattle.wt_spelling_laws.specs.Reading.{stands}
+use Rattle.wt_typed_blocks.specs.Reading.{stands}
 use Rattle.wt_text_edit_laws.specs.PlainTexts.{is_plain}
 
 -- None of `<` `&` `{` `}` `[` `]` `|` `=` is in it, no two apostrophes and no two `_` are side by side, and there is no `://` and no line break.

@@ -5,9 +5,9 @@ use Rattle.wt_span.specs.Bytes.{is_break, begins, blank_len}
 use Rattle.wt_span.specs.Comments.{remarks_len}
 use Rattle.wt_span.specs.Tags.{Tag, opening_tag, with_inside, is_raw_name, hides}
 use Rattle.wt_span.specs.Characters as byte
-use Rattle.wt_spelling_laws.specs.Reading.{stands}
-use Rattle.wt_scans.specs.Scans.{AtStarts}
-use Rattle.wt_scans.specs.Lexer.{lexer}
+use Rattle.wt_typed_blocks.specs.Reading.{stands}
+use Rattle.wt_part_laws.specs.Scans.{AtStarts}
+use Rattle.wt_part_laws.specs.Lexer.{lexer}
 
 -- ---- lines
 

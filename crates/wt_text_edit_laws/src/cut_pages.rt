@@ -5,8 +5,8 @@ ghost use Rattle.wt_span.specs.declared.form.Mode.TheVariants.{Page};
 ghost use Rattle.wt_span.specs.Items.{Item, sources};
 ghost use Rattle.wt_expand.specs.PageItems.{page_items};
 ghost use Rattle.wt_page.specs.Rows.{Row};
-ghost use Rattle.wt_scans.specs.Lexer.{lexer};
-ghost use Rattle.wt_scans.specs.Scans.{Settles};
+ghost use Rattle.wt_part_laws.specs.Lexer.{lexer};
+ghost use Rattle.wt_part_laws.specs.Scans.{Settles};
 ghost use Rattle.wt_text_edit_laws.specs.BodyParagraphs.{IsBareParagraph, IsParagraphAt};
 ghost use Rattle.wt_text_edit_laws.specs.TextBetween.{HasEndsBefore, StandsBehind};
 

@@ -16,3 +16,16 @@ pub mod ComingSteps
 pub mod ComingAnswer
 pub mod ComingShows
 mod Cases
+pub mod ShownWords
+pub mod Forms
+pub mod TextReads
+pub mod Signs
+pub mod Lines
+pub mod TextKinds
+mod NeighbourCases
+pub mod OneByOne
+pub mod TextEditsStand
+pub mod ChildrenStand
+pub mod KeptPlaces
+pub mod GroupsTold
+mod EditsCases

@@ -5,3 +5,8 @@ pub mod Edited
 pub mod EditedPage
 pub mod EditedUnmarked
 pub mod Coming
+pub mod Reading
+pub mod Below
+pub mod TextEdits
+pub mod NewChildren
+pub mod KeptPlaces

@@ -33,8 +33,8 @@ use Rattle.wt_new_page.specs.declared.asked.Fault.{Fault}
 use Rattle.wt_new_page.specs.declared.asked.Fault.TheVariants as fault
 use Rattle.wt_new_page.specs.declared.asked.ReadBack.{ReadBack}
 use Rattle.wt_new_page.specs.declared.asked.ReadBack.TheVariants as back
-use Rattle.wt_selser_refusal.specs.declared.refusal.SelserRefusal.{SelserRefusal}
-use Rattle.wt_selser_refusal.specs.declared.refusal.SelserRefusal.TheVariants as refusal
+use Rattle.wt_edit.specs.declared.selser_refusal.SelserRefusal.{SelserRefusal}
+use Rattle.wt_edit.specs.declared.selser_refusal.SelserRefusal.TheVariants as refusal
 use Rattle.wt_new_page.specs.declared.beside.Beside.{Beside}
 use Rattle.wt_unmarked_edit.specs.Counts.{IsCounted, IsCountedErr, IsCountedRead, IsOfFolder}
 use Rattle.wt_unmarked_edit.specs.Found.{AnswersUnmarked, FailsAs, FindsNew, FindsNone, FirstFails, IsFaultOf, IsFirst, IsNewPage, IsNoNewPage, IsOfNewPage, PageMustDo, ReadsBack, UnlessChecked, late_refusal, refusal_of_fault}

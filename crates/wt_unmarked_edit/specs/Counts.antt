@@ -1,8 +1,8 @@
 -- The folder's count of faults, and what a call does to it.
 use Rattle.std.specs.Prelude.{◌≡◌, ℕ, Result, Ok, Err}
 use Rattle.wt_devices.specs.Device.{Rose}
-use Rattle.wt_selser_refusal.specs.declared.refusal.SelserRefusal.{SelserRefusal}
-use Rattle.wt_selser_refusal.specs.declared.refusal.SelserRefusal.TheVariants as refusal
+use Rattle.wt_edit.specs.declared.selser_refusal.SelserRefusal.{SelserRefusal}
+use Rattle.wt_edit.specs.declared.selser_refusal.SelserRefusal.TheVariants as refusal
 
 -- it rose where the folder failed, and else it stays
 abbrev pub IsCountedErr : ℕ → ℕ → SelserRefusal → Type 0

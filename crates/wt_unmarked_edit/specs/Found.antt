@@ -21,8 +21,8 @@ use Rattle.wt_edit.specs.declared.refusal.EditRefusal.{EditRefusal}
 use Rattle.wt_edit.specs.declared.refusal.EditRefusal.TheVariants as of_edit
 use Rattle.wt_new_page.specs.declared.asked.Fault.{Fault}
 use Rattle.wt_new_page.specs.declared.asked.Fault.TheVariants as fault
-use Rattle.wt_selser_refusal.specs.declared.refusal.SelserRefusal.{SelserRefusal}
-use Rattle.wt_selser_refusal.specs.declared.refusal.SelserRefusal.TheVariants as refusal
+use Rattle.wt_edit.specs.declared.selser_refusal.SelserRefusal.{SelserRefusal}
+use Rattle.wt_edit.specs.declared.selser_refusal.SelserRefusal.TheVariants as refusal
 
 -- ---- a new page
 

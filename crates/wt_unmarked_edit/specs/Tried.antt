@@ -17,8 +17,8 @@ use Rattle.wt_new_page.specs.declared.asked.Fault.{Fault}
 use Rattle.wt_new_page.specs.declared.asked.Fault.TheVariants as fault
 use Rattle.wt_new_page.specs.declared.asked.Tried.{Tried}
 use Rattle.wt_new_page.specs.declared.asked.Tried.TheVariants as tried
-use Rattle.wt_selser_refusal.specs.declared.refusal.SelserRefusal.{SelserRefusal}
-use Rattle.wt_selser_refusal.specs.declared.refusal.SelserRefusal.TheVariants.{FolderFault, NoMemory}
+use Rattle.wt_edit.specs.declared.selser_refusal.SelserRefusal.{SelserRefusal}
+use Rattle.wt_edit.specs.declared.selser_refusal.SelserRefusal.TheVariants.{FolderFault, NoMemory}
 use Rattle.wt_unmarked_edit.specs.Found.{FailsAs, FirstFails, IsFaultOf, IsNewPage, IsProposed, PageMustDo, ReadsBack}
 
 -- ---- an expansion

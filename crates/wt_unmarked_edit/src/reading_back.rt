@@ -15,9 +15,8 @@ ghost use Rattle.wt_unmarked_edit.specs.Tried.{device_fault, HoldsRead, KnowsOf,
 use bumpalo::Bump;
 use std::alloc::Global;
 use wt_devices::Folder;
-use wt_edit::known_page;
+use wt_edit::{MOST_READINGS, Readings, SelserRefusal, known_page};
 use wt_new_page::{EditedPage, Fault, Memory, ReadBack, compared};
-use wt_selser_refusal::{MOST_READINGS, Readings, SelserRefusal};
 use wt_span::PAGE_BYTES;
 use wt_template_stack::Expansion;
 use wt_transclusion::ExpandRefusal;

@@ -16,9 +16,8 @@ ghost use Rattle.wt_unmarked_edit.specs.Tried.{KnowsOf};
 use crate::proposing::new_page;
 use wt_checks::numbered_nodes;
 use wt_devices::Folder;
-use wt_edit::KnownPage;
+use wt_edit::{KnownPage, MOST_READINGS, Readings, SelserRefusal};
 use wt_new_page::{Beside, EditedPage, Memory, set_beside};
-use wt_selser_refusal::{MOST_READINGS, Readings, SelserRefusal};
 use wt_span::Str;
 use wt_tree::Node;
 

@@ -16,12 +16,12 @@ use Rattle.wt_isolation.specs.OpenTags.{before, ends_open, any_ends_open}
 use Rattle.wt_isolation.specs.TextCalls.{touches_text_call}
 use Rattle.wt_lines.specs.Lines.{lines}
 use Rattle.wt_page.specs.Rows.{marks_len}
-use Rattle.wt_moved_laws.specs.Placeless.{placeless, all_placeless}
-use Rattle.wt_moved_laws.specs.Standing.{standing}
-use Rattle.wt_moved_laws.proofs.Moved.{moved}
+use Rattle.wt_part_laws.specs.Placeless.{placeless, all_placeless}
+use Rattle.wt_part_laws.specs.Standing.{standing}
+use Rattle.wt_part_laws.proofs.Moved.{moved}
 use Rattle.wt_selser.specs.Edits.{is_tangled}
 use Rattle.wt_selser.specs.GroupFaults.{has_faulty_group}
-use Rattle.wt_spelling_laws.proofs.Forms.{other_byte}
+use Rattle.wt_typed_blocks.proofs.Forms.{other_byte}
 use Rattle.wt_text_edit_laws.specs.Contents.{AreParagraphLines, IsHeadingLine, IsContentOf, IsContent}
 use Rattle.wt_text_edit_laws.specs.LonePages.{page_chars}
 use Rattle.wt_text_edit_laws.specs.NoCalls.{Brace, braces, NonePairs, CallsNothing}

@@ -8,8 +8,8 @@ use Rattle.std.proofs.lemmas.Grind.{flat_map-append}
 use Rattle.wt_span.specs.declared.form.Mode.TheVariants.{Page}
 use Rattle.wt_span.specs.Items.{Item, char, sign, source, sources}
 use Rattle.wt_expand.specs.PageItems.{page_items}
-use Rattle.wt_scans.specs.Lexer.{lexer}
-use Rattle.wt_scans.specs.Scans.{after_all}
+use Rattle.wt_part_laws.specs.Lexer.{lexer}
+use Rattle.wt_part_laws.specs.Scans.{after_all}
 use Rattle.wt_text_edit_laws.specs.BlockSpots.{BlockSpot, spots_source, EndBeforeBlocks, AreReadAfter, AreRead}
 use Rattle.wt_text_edit_laws.specs.Contents.{IsHeadingLine, IsContent}
 use Rattle.wt_text_edit_laws.specs.NoCalls.{braces, NonePairs, CallsNothing}

@@ -17,8 +17,8 @@ use Rattle.wt_annotated.specs.Labels.{label_at}
 use Rattle.wt_annotated.specs.WithoutCalls.{inside_by, holds_page, InsideOf, NoneEmpty, AllNonEmpty, IsPlain}
 use Rattle.wt_annotated.proofs.NoGroups.{only_plain}
 use Rattle.wt_expand.specs.PageItems.{page_items}
-use Rattle.wt_moved_laws.specs.Standing.{IsOrdinary, AreOrdinary}
-use Rattle.wt_called_trees.specs.Rounded.{HasItems, AllHaveItems}
+use Rattle.wt_part_laws.specs.Standing.{IsOrdinary, AreOrdinary}
+use Rattle.wt_part_laws.specs.Rounded.{HasItems, AllHaveItems}
 use Rattle.wt_text_edit_laws.specs.Contents.{IsContentOf, content_parts_of}
 use Rattle.wt_text_edit_laws.specs.NoCalls.{CallsNothing}
 use Rattle.wt_text_edit_laws.specs.Parts.{HasNoGroups}

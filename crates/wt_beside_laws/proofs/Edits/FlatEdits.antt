@@ -28,7 +28,7 @@ use Rattle.wt_visible.specs.SameNodes.{same_node}
 use Rattle.wt_visible.proofs.SameTells.{tells_same}
 use Rattle.wt_selser.specs.Edits.{most_bytes, is_tangled, edit_answer}
 use Rattle.wt_commands.proofs.SectionEdits.{page_bare}
-use Rattle.wt_moved_laws.proofs.Sources.{standing_source}
+use Rattle.wt_part_laws.proofs.Sources.{standing_source}
 use Rattle.wt_typed_blocks.specs.Sent.{paragraph}
 use Rattle.wt_typed_blocks.specs.Typed.{block_source}
 use Rattle.wt_typed_blocks.specs.Edited.{Pieces, page_pieces, sent_pieces, Edited, edited, Edits, page_node, sent_node, page_nodes, AreEdited, page_body, sent_body}

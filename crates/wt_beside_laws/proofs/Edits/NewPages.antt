@@ -34,7 +34,7 @@ use Rattle.wt_visible.proofs.SameTells.{tells_same}
 use Rattle.wt_selser.specs.Edits.{edit_answer}
 use Rattle.wt_commands.specs.declared.refusal.Refusal.TheVariants.{TooLong}
 use Rattle.wt_commands.specs.Answers.{Answer, done, refused, text_answer, title_answer, expanded_by, unspelled_by, unspelled_answer, new_by, new_expanded, new_answer, edit_by, edit_from, edit_to}
-use Rattle.wt_moved_laws.specs.Standing.{standing}
+use Rattle.wt_part_laws.specs.Standing.{standing}
 use Rattle.wt_typed_blocks.specs.Edited.{Pieces, no_pieces, gone, written, kept, around, new_style, page_pieces, sent_pieces, pieces_before, sent_body}
 use Rattle.wt_typed_blocks.proofs.EditedShows.{body_shows}
 use Rattle.wt_text_edit_laws.specs.ParagraphBetween.{body_with}

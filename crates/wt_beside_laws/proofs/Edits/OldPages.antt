@@ -26,7 +26,7 @@ use Rattle.wt_annotated.specs.GroupData.{group_data}
 use Rattle.wt_annotated.specs.Labels.{label_at}
 use Rattle.wt_annotated.specs.WithoutCalls.{IsPlain}
 use Rattle.wt_annotated.proofs.NoGroups.{only_plain}
-use Rattle.wt_moved_laws.specs.Standing.{standing, AreOrdinary}
+use Rattle.wt_part_laws.specs.Standing.{standing, AreOrdinary}
 use Rattle.wt_typed_blocks.specs.Sent.{paragraph}
 use Rattle.wt_text_edit_laws.specs.LonePages.{of_items}
 use Rattle.wt_text_edit_laws.specs.ParagraphBetween.{body_with}
@@ -49,7 +49,7 @@ use Rattle.wt_beside_laws.specs.PageBlocks.{IsBlockOfLines, AreSoIn}
 use Rattle.wt_beside_laws.proofs.BlockSigns.{flat_block, block_shut}
 use Rattle.wt_beside_laws.proofs.FlatLines.{lines_meaning}
 use Rattle.wt_beside_laws.specs.FlatPages.{lines_of, paragraph_of, block_of, IsFlatPage}
-use Rattle.wt_moved_laws.proofs.Sources.{standing_source}
+use Rattle.wt_part_laws.proofs.Sources.{standing_source}
 use Rattle.wt_lines.proofs.LineLaws.{lines_are as lines_join}
 use Rattle.wt_text_edit_laws.proofs.Blocks.Contents.{block_source}
 use Rattle.wt_text_edit_laws.specs.TextBlocks.{a_paragraph}

@@ -19,9 +19,9 @@ use Rattle.wt_annotated.specs.Clean.{is_no_call, is_page}
 use Rattle.wt_annotated.specs.Seams.{last_of, first_of}
 use Rattle.wt_annotated.proofs.Ends.{both}
 use Rattle.wt_annotated.proofs.Seams.{first_append, last_append}
-use Rattle.wt_called_trees.specs.CallTexts.{AreOwnOrTexts}
-use Rattle.wt_called_trees.specs.HeldCalls.{block_in, HoldsItsCalls, IsRoundTexts, block_of_texts}
-use Rattle.wt_called_trees.proofs.HeldBlocks.{texts_hold, block_is}
+use Rattle.wt_part_laws.specs.CallTexts.{AreOwnOrTexts}
+use Rattle.wt_part_laws.specs.HeldCalls.{block_in, HoldsItsCalls, IsRoundTexts, block_of_texts}
+use Rattle.wt_part_laws.proofs.HeldBlocks.{texts_hold, block_is}
 use Rattle.wt_text_edit_laws.specs.LonePages.{page_chars}
 use Rattle.wt_text_edit_laws.specs.ParagraphParts.{joined_parts, para_with}
 use Rattle.wt_text_edit_laws.proofs.Texts.TypedShown.{AllOfPage, both_of_page}

@@ -10,7 +10,7 @@ use Rattle.wt_span.specs.Origins.{OuterCall}
 use Rattle.wt_guards.specs.Content.{ContentSign, letter, thing}
 use Rattle.wt_guards.specs.Guards.{Setting, is_guarded}
 use Rattle.wt_guards.specs.Letters.{is_escaped}
-use Rattle.wt_spelling_laws.proofs.Lines.{end_guarded}
+use Rattle.wt_typed_blocks.proofs.Lines.{end_guarded}
 use Rattle.wt_expand.specs.PageItems.{page_items}
 use Rattle.wt_inline.specs.declared.loose.Loose.TheVariants.{Text}
 use Rattle.wt_inline.specs.ItemTree.{plain, inner, forest, tree_items, held_by_all}
@@ -19,9 +19,9 @@ use Rattle.wt_context.specs.Line.{line_parts}
 use Rattle.wt_annotated.specs.Clean.{is_page}
 use Rattle.wt_annotated.specs.Seams.{last_of, first_of}
 use Rattle.wt_annotated.proofs.Seams.{first_append, last_append}
-use Rattle.wt_called_trees.specs.HeldCalls.{block_in, HoldsItsCalls, IsRoundTexts, block_of_texts}
-use Rattle.wt_called_trees.proofs.HeldBlocks.{texts_hold, block_is}
-use Rattle.wt_called_trees.proofs.OwnWalks.{last_own, first_own}
+use Rattle.wt_part_laws.specs.HeldCalls.{block_in, HoldsItsCalls, IsRoundTexts, block_of_texts}
+use Rattle.wt_part_laws.proofs.HeldBlocks.{texts_hold, block_is}
+use Rattle.wt_part_laws.proofs.OwnWalks.{last_own, first_own}
 use Rattle.wt_text_edit_laws.specs.LonePages.{page_chars}
 use Rattle.wt_text_edit_laws.specs.TypedHeadings.{Sides, AreSides, equals, opening, closing_items, heading_round, NoBreaks, BeginsWithout, EndsWithout, is_equals_sign, IsHeadingInside, IsOfLevel}
 use Rattle.wt_text_edit_laws.proofs.Blocks.BlockLeaves.{items_of_page}

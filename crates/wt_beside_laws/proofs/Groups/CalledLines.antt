@@ -8,8 +8,8 @@ use Rattle.wt_span.specs.Items.{Item}
 use Rattle.wt_guards.specs.Content.{ContentSign, Thing, letter, thing, nearest}
 use Rattle.wt_guards.specs.Guards.{Setting, is_guarded, is_line_start, is_line_begun, is_mark as is_mark_role}
 use Rattle.wt_guards.specs.Letters.{is_escaped}
-use Rattle.wt_spelling_laws.proofs.Lines.{unguarded_begins, end_guarded}
-use Rattle.wt_spelling_laws.proofs.TextKinds.{atom_opens}
+use Rattle.wt_typed_blocks.proofs.Lines.{unguarded_begins, end_guarded}
+use Rattle.wt_typed_blocks.proofs.TextKinds.{atom_opens}
 use Rattle.wt_lines.specs.Lines.{lines}
 use Rattle.wt_tiles.specs.declared.glyph.Glyph.{Glyph}
 use Rattle.wt_tiles.specs.Glyphs.{glyph_of}

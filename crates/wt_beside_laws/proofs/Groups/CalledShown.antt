@@ -23,15 +23,15 @@ use Rattle.wt_annotated.specs.Labels.{label_at}
 use Rattle.wt_annotated.specs.Numbering.{with_numbers}
 use Rattle.wt_annotated.specs.WithoutCalls.{placed}
 use Rattle.wt_selser.specs.GroupFaults.{paragraph_face}
-use Rattle.wt_moved_laws.specs.Placeless.{placeless}
-use Rattle.wt_moved_laws.specs.Standing.{standing}
-use Rattle.wt_moved_laws.proofs.Placeless.{shown_placeless}
-use Rattle.wt_moved_laws.proofs.Recuts.{texts_same}
-use Rattle.wt_called_trees.specs.CallTexts.{AreOwnOrTexts, by_call, in_page, all_in_page}
-use Rattle.wt_called_trees.specs.HeldCalls.{block_in}
-use Rattle.wt_called_trees.specs.Rounded.{IsOwn}
-use Rattle.wt_called_trees.proofs.GroupsStay.{numbers_gone}
-use Rattle.wt_called_trees.proofs.OwnWalks.{first_own, has_page}
+use Rattle.wt_part_laws.specs.Placeless.{placeless}
+use Rattle.wt_part_laws.specs.Standing.{standing}
+use Rattle.wt_part_laws.proofs.Placeless.{shown_placeless}
+use Rattle.wt_part_laws.proofs.Recuts.{texts_same}
+use Rattle.wt_part_laws.specs.CallTexts.{AreOwnOrTexts, by_call, in_page, all_in_page}
+use Rattle.wt_part_laws.specs.HeldCalls.{block_in}
+use Rattle.wt_part_laws.specs.Rounded.{IsOwn}
+use Rattle.wt_part_laws.proofs.GroupsStay.{numbers_gone}
+use Rattle.wt_part_laws.proofs.OwnWalks.{first_own, has_page}
 use Rattle.wt_text_edit_laws.specs.ParagraphParts.{joined_parts, para_with}
 use Rattle.wt_beside_laws.specs.Called.{items_with, parts_with, AreWords, IsOwnNode, AreGiven, called_shown, IsCalledContent}
 use Rattle.wt_beside_laws.specs.Content.{guard_items, letter_items}

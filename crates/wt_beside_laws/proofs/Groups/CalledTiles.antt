@@ -6,7 +6,7 @@ use Rattle.wt_guards.specs.declared.role.Role.{Role}
 use Rattle.wt_guards.specs.Content.{ContentSign, Thing, letter, thing}
 use Rattle.wt_guards.specs.Guards.{Setting, is_guarded}
 use Rattle.wt_guards.specs.Letters.{is_bracket, is_escaped}
-use Rattle.wt_spelling_laws.proofs.TextReads.{bracket_escaped, not_bracket, or_parts}
+use Rattle.wt_typed_blocks.proofs.TextReads.{bracket_escaped, not_bracket, or_parts}
 use Rattle.wt_tiles.specs.declared.glyph.Glyph.{Glyph}
 use Rattle.wt_tiles.specs.declared.glyph.Glyph.TheVariants as glyph
 use Rattle.wt_tiles.specs.declared.shape.Shape.{Shape}

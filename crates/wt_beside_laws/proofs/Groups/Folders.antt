@@ -10,7 +10,7 @@ use Rattle.wt_expand.specs.Work.{Pages}
 use Rattle.wt_inline.specs.declared.loose.Loose.TheVariants.{Text}
 use Rattle.wt_inline.specs.Parts.{parts}
 use Rattle.wt_context.specs.Line.{line_parts}
-use Rattle.wt_called_trees.specs.CallTexts.{AreOwnOrTexts}
+use Rattle.wt_part_laws.specs.CallTexts.{AreOwnOrTexts}
 use Rattle.wt_beside_laws.specs.Called.{items_with, owns_in, AreWords, IsOwnNode, IsGivenAs, AreGiven, AreOwnInside, BeginsWithText, EndsWithText, IsCalledContent, shown_source, shown_signs, GivesWords, StaysAsItIs, IsOfFolder, AreOfFolder, IsCalledIn}
 use Rattle.wt_beside_laws.specs.Lines.{AreCharacters}
 use Rattle.wt_beside_laws.proofs.Groups.Bare.{brace_of, bare, items_same}

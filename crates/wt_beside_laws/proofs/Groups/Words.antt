@@ -9,7 +9,7 @@ use Rattle.wt_guards.specs.declared.role.Role.{Role}
 use Rattle.wt_guards.specs.declared.role.Role.TheVariants.{Link, External, Bare, Switch, Toggle, Mark, Group, Function, Node}
 use Rattle.wt_guards.specs.Content.{Thing}
 use Rattle.wt_guards.specs.Table.{line_start_hazard}
-use Rattle.wt_spelling_laws.proofs.TextKinds.{OpensText, opens_text}
+use Rattle.wt_typed_blocks.proofs.TextKinds.{OpensText, opens_text}
 use Rattle.wt_tiles.specs.declared.glyph.Glyph.TheVariants as glyph
 use Rattle.wt_tiles.specs.Glyphs.{glyph_of, byte_glyphs}
 use Rattle.wt_lines.specs.Lines.{IsUnbroken}

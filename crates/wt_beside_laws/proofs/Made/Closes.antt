@@ -13,8 +13,8 @@ use Rattle.wt_guards.specs.Content.{ContentSign, Thing, letter, thing}
 use Rattle.wt_guards.specs.Guards.{Setting, nowiki, nowiki_if, is_guarded, spelled_from}
 use Rattle.wt_guards.specs.Letters.{is_escaped, reference, written_by}
 use Rattle.wt_guards.proofs.Escapes.{is_escapable, escapable, each_escapable}
-use Rattle.wt_spelling_laws.proofs.Forms.{IsTame}
-use Rattle.wt_spelling_laws.proofs.TextReads.{equal_or, apart}
+use Rattle.wt_typed_blocks.proofs.Forms.{IsTame}
+use Rattle.wt_typed_blocks.proofs.TextReads.{equal_or, apart}
 use Rattle.wt_expand.specs.PageItems.{page_items}
 use Rattle.wt_expand.proofs.PageLaws.{page_sources}
 use Rattle.wt_lines.specs.Lines.{lines, AreLines}

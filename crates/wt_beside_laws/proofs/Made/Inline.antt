@@ -20,7 +20,7 @@ use Rattle.wt_annotated.specs.Annotated.{unplaced, all_unplaced}
 use Rattle.wt_annotated.specs.Labels.{label_at}
 use Rattle.wt_annotated.specs.Numbering.{count}
 use Rattle.wt_annotated.specs.WithoutCalls.{placed}
-use Rattle.wt_round_trip.specs.Written.{is_childless}
+use Rattle.wt_schema.specs.Written.{is_childless}
 use Rattle.wt_page_round_trip.proofs.ExpandedItems.{expanded_items}
 use Rattle.wt_page_round_trip.proofs.OfPage.{ArePageItems}
 use Rattle.wt_page_round_trip.proofs.PageShown.{body_nodes, page_shown}
@@ -28,7 +28,7 @@ use Rattle.wt_page_round_trip.proofs.ShownNodes.{NodeIsShown, IsOrdered, IsShown
 use Rattle.wt_difference.specs.Insides.{is_built_of, is_block_part}
 use Rattle.wt_expand.specs.PageItems.{page_items}
 use Rattle.wt_link_spelling.specs.Spelling.{children_of}
-use Rattle.wt_moved_laws.specs.Standing.{standing}
+use Rattle.wt_part_laws.specs.Standing.{standing}
 use Rattle.wt_typed_blocks.specs.Sent.{kind_of}
 use Rattle.wt_typed_blocks.specs.Edited.{Pieces, no_pieces, gone, written, kept, around, new_style, page_pieces, PiecesStay}
 use Rattle.wt_typed_blocks.proofs.SentGroups.{apart}

@@ -12,7 +12,7 @@ use Rattle.wt_inline.specs.declared.loose.Loose.TheVariants.{Text, Sep}
 use Rattle.wt_inline.specs.ItemTree.{plain, ItemTree, inner, ItemTrees, nothing, forest, tree_items, held_by_all}
 use Rattle.wt_inline.specs.Parts.{Part, loose, node, held_parts, one_leaf, child, children, parts}
 use Rattle.wt_context.specs.Line.{line_parts}
-use Rattle.wt_called_trees.specs.Rounded.{HasItems, AllHaveItems}
+use Rattle.wt_part_laws.specs.Rounded.{HasItems, AllHaveItems}
 use Rattle.wt_text_edit_laws.specs.LonePages.{page_chars}
 use Rattle.wt_beside_laws.specs.Content.{guard_items, letter_items}
 use Rattle.wt_text_edit_laws.proofs.Blocks.PageItems.{all_of}

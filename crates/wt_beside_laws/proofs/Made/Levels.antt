@@ -15,7 +15,7 @@ use Rattle.wt_guards.specs.declared.role.Role.TheVariants.{Link, External, Bare,
 use Rattle.wt_guards.specs.Content.{ContentSign, Thing, letter, thing}
 use Rattle.wt_guards.specs.Guards.{Setting, is_guarded, is_between_guard, is_start_guard, is_end_guard, spelled}
 use Rattle.wt_guards.specs.Letters.{is_escaped}
-use Rattle.wt_spelling_laws.proofs.Lines.{end_guarded}
+use Rattle.wt_typed_blocks.proofs.Lines.{end_guarded}
 use Rattle.wt_expand.specs.PageItems.{page_items}
 use Rattle.wt_tiles.specs.declared.shape.Shape.{Shape}
 use Rattle.wt_tiles.specs.declared.shape.TileKind.{TileKind}

@@ -14,7 +14,7 @@ use Rattle.wt_inline.specs.Parts.{Part}
 use Rattle.wt_annotated.specs.Labels.{label_at}
 use Rattle.wt_link_spelling.specs.Spelling.{signs_of_all, children_of, inline_spelling}
 use Rattle.wt_visible.specs.SameNodes.{same_node}
-use Rattle.wt_moved_laws.specs.Standing.{standing}
+use Rattle.wt_part_laws.specs.Standing.{standing}
 use Rattle.wt_typed_blocks.specs.Sent.{kind_of}
 use Rattle.wt_typed_blocks.specs.Edited.{Pieces, page_pieces, sent_pieces, page_node, sent_node}
 use Rattle.wt_typed_blocks.specs.EditedPage.{edited_source}

@@ -47,7 +47,7 @@ use Rattle.wt_beside_laws.proofs.NodesStand.{EachIs, all_by}
 use Rattle.wt_beside_laws.proofs.PairTiles.{HasTag, partner_tag}
 use Rattle.wt_beside_laws.proofs.UrlFronts.{some_shape}
 use Rattle.wt_beside_laws.specs.Commented.{IsCommentLine, AreRemarks, IsHeld}
-use Rattle.wt_spelling_laws.proofs.TextReads.{apart}
+use Rattle.wt_typed_blocks.proofs.TextReads.{apart}
 use Rattle.wt_text_edit_laws.specs.TextBetween.{HasNoTag}
 use Rattle.wt_beside_laws.proofs.Marks.InLine.{remarks_items}
 use Rattle.wt_beside_laws.proofs.Marks.Shown.{comment_node, line_node, kept_node, remarked_node}

@@ -13,11 +13,11 @@ use Rattle.wt_inline.specs.Parts.{Part, children}
 use Rattle.wt_context.specs.Line.{line_parts}
 use Rattle.wt_annotated.specs.Labels.{label_at}
 use Rattle.wt_link_spelling.specs.Spelling.{children_of}
-use Rattle.wt_moved_laws.specs.Standing.{standing}
+use Rattle.wt_part_laws.specs.Standing.{standing}
 use Rattle.wt_lines.specs.Lines.{lines}
 use Rattle.wt_lines.proofs.LineLaws.{lines_are as lines_join}
-use Rattle.wt_moved_laws.proofs.Sources.{standing_source}
-use Rattle.wt_moved_laws.proofs.Ordinary.{standing_ordinary, ordinary_ungrouped}
+use Rattle.wt_part_laws.proofs.Sources.{standing_source}
+use Rattle.wt_part_laws.proofs.Ordinary.{standing_ordinary, ordinary_ungrouped}
 use Rattle.wt_typed_blocks.specs.Sent.{kind_of}
 use Rattle.wt_typed_blocks.specs.Edited.{Pieces, page_pieces, page_node}
 use Rattle.wt_text_edit_laws.specs.Contents.{IsContentOf, content_parts_of}

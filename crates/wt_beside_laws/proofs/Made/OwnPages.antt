@@ -13,7 +13,7 @@ use Rattle.wt_page.specs.Body.{meaning}
 use Rattle.wt_rows.proofs.Portions.{no_parts}
 use Rattle.wt_annotated.specs.Annotated.{unplaced}
 use Rattle.wt_expand.specs.PageItems.{page_items}
-use Rattle.wt_moved_laws.specs.Standing.{IsOrdinary}
+use Rattle.wt_part_laws.specs.Standing.{IsOrdinary}
 use Rattle.wt_text_edit_laws.specs.Contents.{IsContentOf}
 use Rattle.wt_text_edit_laws.specs.NoCalls.{CallsNothing}
 use Rattle.wt_text_edit_laws.specs.ParagraphBetween.{AreClosed, blocks_in, body_with}

@@ -15,7 +15,7 @@ use Rattle.wt_guards.specs.Guards.{Setting, nowiki, nowiki_if, has_brace_last, i
 use Rattle.wt_guards.specs.Table.{hazard}
 use Rattle.wt_guards.proofs.Escapes.{escapable}
 use Rattle.wt_expand.specs.PageItems.{page_items}
-use Rattle.wt_spelling_laws.proofs.Lines.{unguarded_begins, end_guarded}
+use Rattle.wt_typed_blocks.proofs.Lines.{unguarded_begins, end_guarded}
 use Rattle.wt_text_edit_laws.specs.LonePages.{page_chars}
 use Rattle.wt_text_edit_laws.specs.TextBetween.{StandsBehind}
 use Rattle.wt_text_edit_laws.proofs.Between.Fronts.{ReadsAfter, behind_reads, reads_after, reads_either}

@@ -21,8 +21,8 @@ use Rattle.wt_guards.specs.Letters.{is_bracket, is_escaped, reference, written_b
 use Rattle.wt_guards.specs.Guards.{Setting, nowiki, nowiki_if}
 use Rattle.wt_guards.proofs.Escapes.{is_escapable, escapable, each_escapable}
 use Rattle.wt_expand.specs.PageItems.{items_of_word, page_items}
-use Rattle.wt_spelling_laws.proofs.Forms.{other_byte, equals_byte, IsTame, less_byte, and_byte, nowiki_form, reference_form}
-use Rattle.wt_spelling_laws.proofs.TextReads.{bracket_escaped, not_bracket, equal_or}
+use Rattle.wt_typed_blocks.proofs.Forms.{other_byte, equals_byte, IsTame, less_byte, and_byte, nowiki_form, reference_form}
+use Rattle.wt_typed_blocks.proofs.TextReads.{bracket_escaped, not_bracket, equal_or}
 use Rattle.wt_text_edit_laws.specs.LonePages.{page_chars}
 use Rattle.wt_text_edit_laws.specs.TextBetween.{EndsBy}
 use Rattle.wt_text_edit_laws.proofs.Between.Fronts.{ReadsAfter, first_from, byte_from, form_from, items_from}

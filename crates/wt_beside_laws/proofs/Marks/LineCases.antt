@@ -31,7 +31,7 @@ use Rattle.wt_quotes.specs.Styles.{style_tree_of}
 use Rattle.wt_quotes.specs.Toggles.{toggle_at, toggles_of}
 use Rattle.wt_annotated.specs.Labels.{label_at}
 use Rattle.wt_link_spelling.specs.Spelling.{children_of}
-use Rattle.wt_moved_laws.specs.Standing.{standing}
+use Rattle.wt_part_laws.specs.Standing.{standing}
 use Rattle.wt_typed_blocks.specs.Edited.{Pieces, no_pieces, gone, written, kept}
 use Rattle.wt_text_edit_laws.specs.ParagraphParts.{joined_parts, para_with}
 use Rattle.wt_text_edit_laws.specs.Paragraphs.{IsTextLine}

@@ -25,10 +25,10 @@ use Rattle.wt_guards.specs.Guards.{Setting, nowiki, nowiki_if, is_guarded, is_li
 use Rattle.wt_guards.specs.Table.{line_start_hazard}
 use Rattle.wt_guards.proofs.Escapes.{escapable}
 use Rattle.wt_expand.specs.PageItems.{page_items}
-use Rattle.wt_spelling_laws.proofs.Forms.{comment_other, comment_not, other_byte, IsTame}
-use Rattle.wt_spelling_laws.proofs.Lines.{is_free}
-use Rattle.wt_spelling_laws.proofs.TextKinds.{OpensText}
-use Rattle.wt_spelling_laws.proofs.TextReads.{equal_or, apart}
+use Rattle.wt_typed_blocks.proofs.Forms.{comment_other, comment_not, other_byte, IsTame}
+use Rattle.wt_typed_blocks.proofs.Lines.{is_free}
+use Rattle.wt_typed_blocks.proofs.TextKinds.{OpensText}
+use Rattle.wt_typed_blocks.proofs.TextReads.{equal_or, apart}
 use Rattle.wt_tiles.specs.declared.glyph.Glyph.{Glyph}
 use Rattle.wt_tiles.specs.declared.glyph.Glyph.TheVariants as glyph
 use Rattle.wt_tiles.specs.Glyphs.{glyph_of}

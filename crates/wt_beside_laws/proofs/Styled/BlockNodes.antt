@@ -18,8 +18,8 @@ use Rattle.wt_inline.specs.Parts.{Part, loose, node, held_parts, one_leaf, loose
 use Rattle.wt_annotated.specs.Labels.{label_at}
 use Rattle.wt_annotated.specs.Numbering.{count}
 use Rattle.wt_annotated.specs.WithoutCalls.{placed}
-use Rattle.wt_moved_laws.specs.Standing.{standing}
-use Rattle.wt_moved_laws.proofs.Sources.{standing_source}
+use Rattle.wt_part_laws.specs.Standing.{standing}
+use Rattle.wt_part_laws.proofs.Sources.{standing_source}
 use Rattle.wt_original.specs.Kept.{Kept, KeptNode, items, visible, holds_kept, found_at, found_from, found_in, kept_nodes, kept_with}
 use Rattle.wt_link_spelling.specs.Spelling.{children_of}
 use Rattle.wt_context.specs.Styled.{style_kind}

@@ -15,7 +15,7 @@ use Rattle.wt_guards.specs.Content.{ContentSign, Thing, letter}
 use Rattle.wt_inline.specs.declared.loose.Loose.TheVariants.{Text}
 use Rattle.wt_inline.specs.ItemTree.{ItemTree, forest}
 use Rattle.wt_inline.specs.Parts.{Part, loose, node, children}
-use Rattle.wt_moved_laws.specs.Standing.{standing}
+use Rattle.wt_part_laws.specs.Standing.{standing}
 use Rattle.wt_original.specs.Kept.{found_in, kept_nodes}
 use Rattle.wt_link_spelling.specs.Spelling.{children_of}
 use Rattle.wt_tiles.specs.declared.shape.Shape.{Shape}

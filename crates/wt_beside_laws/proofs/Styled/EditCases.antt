@@ -25,7 +25,7 @@ use Rattle.wt_quotes.specs.Toggles.{toggle_at, toggles_of}
 use Rattle.wt_quotes.specs.Turns.{since, next, bold_ends_later, effect_on, is_bold_outside_at, turn_at}
 use Rattle.wt_annotated.specs.Labels.{label_at}
 use Rattle.wt_link_spelling.specs.Spelling.{children_of}
-use Rattle.wt_moved_laws.specs.Standing.{standing}
+use Rattle.wt_part_laws.specs.Standing.{standing}
 use Rattle.wt_typed_blocks.specs.Edited.{Pieces, no_pieces, gone, written, kept, around, new_style}
 use Rattle.wt_text_edit_laws.specs.LonePages.{page_chars}
 use Rattle.wt_text_edit_laws.specs.ParagraphParts.{joined_parts, para_with}

@@ -21,7 +21,7 @@ use Rattle.wt_context.specs.Styled.{between, styled as with_forest, style_node}
 use Rattle.wt_context.specs.Styling.{Fill}
 use Rattle.wt_context.proofs.Forests.{fill_le}
 use Rattle.wt_context.proofs.QuotePlaces.{AreMarked, all_marked}
-use Rattle.wt_called_trees.specs.Rounded.{AllHaveItems}
+use Rattle.wt_part_laws.specs.Rounded.{AllHaveItems}
 use Rattle.wt_text_edit_laws.specs.ParagraphParts.{joined_parts}
 use Rattle.wt_text_edit_laws.proofs.Blocks.PageItems.{all_of}
 use Rattle.wt_text_edit_laws.proofs.Texts.TypedShown.{AllOfPage, both_of_page}

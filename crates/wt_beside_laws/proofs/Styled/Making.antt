@@ -17,7 +17,7 @@ use Rattle.wt_inline.specs.Parts.{Part}
 use Rattle.wt_link_spelling.specs.Spelling.{children_of}
 use Rattle.wt_visible.specs.SameNodes.{same_node}
 use Rattle.wt_visible.proofs.SameTells.{tells_same}
-use Rattle.wt_moved_laws.specs.Standing.{standing}
+use Rattle.wt_part_laws.specs.Standing.{standing}
 use Rattle.wt_typed_blocks.specs.Sent.{kind_of}
 use Rattle.wt_typed_blocks.specs.Edited.{Pieces, page_pieces, sent_pieces, pieces_before, page_node, sent_node, edited_before}
 use Rattle.wt_typed_blocks.specs.Typed.{place_of}

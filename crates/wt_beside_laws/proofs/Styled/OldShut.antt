@@ -31,8 +31,8 @@ use Rattle.wt_annotated.specs.Labels.{label_at}
 use Rattle.wt_annotated.specs.Numbering.{count}
 use Rattle.wt_annotated.specs.WithoutCalls.{placed}
 use Rattle.wt_link_spelling.specs.Spelling.{children_of}
-use Rattle.wt_moved_laws.specs.Standing.{standing}
-use Rattle.wt_moved_laws.proofs.Sources.{standing_source}
+use Rattle.wt_part_laws.specs.Standing.{standing}
+use Rattle.wt_part_laws.proofs.Sources.{standing_source}
 use Rattle.wt_text_edit_laws.specs.Contents.{IsContent}
 use Rattle.wt_text_edit_laws.specs.NoCalls.{CallsNothing}
 use Rattle.wt_text_edit_laws.specs.ParagraphParts.{joined_parts}

@@ -14,7 +14,7 @@ use Rattle.wt_tiles.specs.Contexts.{in_line}
 use Rattle.wt_context.specs.Line.{context_parts, line_parts}
 use Rattle.wt_context.specs.Nodes.{segments}
 use Rattle.wt_context.specs.RunCuts.{has_run}
-use Rattle.wt_headings.specs.Headings.{heading}
+use Rattle.wt_page.specs.Headings.{heading}
 use Rattle.wt_page.specs.Body.{meaning}
 use Rattle.wt_page.specs.Rows.{rows}
 use Rattle.wt_page.specs.Texts.{para}

@@ -12,7 +12,7 @@ use Rattle.wt_context.specs.Line.{line_parts}
 use Rattle.wt_context.specs.Styled.{style_kind}
 use Rattle.wt_context.proofs.PlainNodes.{AreTexts, texts_both, text_parts}
 use Rattle.wt_annotated.specs.Labels.{label_at}
-use Rattle.wt_moved_laws.specs.Standing.{standing}
+use Rattle.wt_part_laws.specs.Standing.{standing}
 use Rattle.wt_beside_laws.specs.Content.{guard_items, letter_items}
 use Rattle.wt_beside_laws.specs.Nests.{marks, style_tree}
 use Rattle.wt_beside_laws.specs.Nodes.{AreNodes}

@@ -9,7 +9,7 @@ use Rattle.wt_guards.specs.Content.{ContentSign, Thing, letter, thing, nearest}
 use Rattle.wt_guards.specs.Guards.{Setting, is_guarded, is_between_guard, is_parted}
 use Rattle.wt_guards.specs.Letters.{is_escaped, is_apostrophe_or_end}
 use Rattle.wt_guards.specs.Table.{hazard}
-use Rattle.wt_spelling_laws.proofs.TextReads.{or_parts}
+use Rattle.wt_typed_blocks.proofs.TextReads.{or_parts}
 use Rattle.wt_beside_laws.specs.Styled.{delimiter}
 
 abbrev pub is_toggle : Role → Bool

@@ -17,7 +17,7 @@ use Rattle.wt_annotated.specs.CutTexts.{cut_as, cut_texts, all_cut_texts}
 use Rattle.wt_annotated.specs.Labels.{label_at}
 use Rattle.wt_annotated.specs.Numbering.{number_of, with_id, count, next_after, with_numbers, all_with_numbers}
 use Rattle.wt_annotated.specs.WithoutCalls.{inside_by, placed, all_placed}
-use Rattle.wt_round_trip.specs.Written.{is_childless}
+use Rattle.wt_schema.specs.Written.{is_childless}
 use Rattle.wt_page_round_trip.proofs.ExpandedItems.{expanded_items}
 use Rattle.wt_page_round_trip.proofs.OfPage.{ArePageItems}
 use Rattle.wt_page_round_trip.proofs.PageShown.{body_nodes, page_shown}

@@ -7,7 +7,7 @@ use Rattle.wt_guards.specs.Guards.{Setting, nowiki, spelled}
 use Rattle.wt_expand.specs.PageItems.{page_items}
 use Rattle.wt_inline.specs.ItemTree.{forest, held_by_all}
 use Rattle.wt_inline.specs.Parts.{Part, children}
-use Rattle.wt_called_trees.specs.Rounded.{AllHaveItems}
+use Rattle.wt_part_laws.specs.Rounded.{AllHaveItems}
 use Rattle.wt_text_edit_laws.specs.Contents.{AreParagraphLines, IsContentOf, content_parts_of, StaysAnywhere, IsNewContent}
 use Rattle.wt_text_edit_laws.specs.ParagraphParts.{joined_parts}
 use Rattle.wt_text_edit_laws.specs.TextBlocks.{TextBlock, a_paragraph, a_heading}

@@ -11,7 +11,7 @@ use Rattle.wt_names.proofs.Ascii.{IsWide, encode_wide, encode_some}
 use Rattle.wt_span.specs.declared.form.Mode.TheVariants.{Page}
 use Rattle.wt_span.specs.Bytes.{is_break}
 use Rattle.wt_span.specs.Items.{Item, char, sources}
-use Rattle.wt_spelling_laws.proofs.Forms.{other_byte}
+use Rattle.wt_typed_blocks.proofs.Forms.{other_byte}
 use Rattle.wt_guards.specs.Content.{ContentSign, Thing, letter, thing}
 use Rattle.wt_guards.specs.Guards.{end_of}
 use Rattle.wt_inline.proofs.HeldLaws.{held_append, sources_append}
@@ -41,7 +41,7 @@ use Rattle.wt_beside_laws.proofs.PageSigns.{map_drop}
 use Rattle.wt_beside_laws.proofs.Stood.{stood}
 use Rattle.wt_beside_laws.specs.NodeItems.{node_items}
 use Rattle.wt_beside_laws.proofs.NodeItems.{node_same}
-use Rattle.wt_spelling_laws.proofs.Forms.{comment_other}
+use Rattle.wt_typed_blocks.proofs.Forms.{comment_other}
 use Rattle.wt_text_edit_laws.proofs.Prose.Uncommented.{uncommented_other}
 
 -- ---- an apostrophe at a place

@@ -27,8 +27,8 @@ use Rattle.wt_inline.proofs.HeldLaws.{held_children, sources_append}
 use Rattle.wt_annotated.specs.Numbering.{count}
 use Rattle.wt_annotated.specs.WithoutCalls.{placed}
 use Rattle.wt_link_spelling.specs.Spelling.{is_style, stretch, opening_place, closing_place, children_of}
-use Rattle.wt_moved_laws.specs.Standing.{standing}
-use Rattle.wt_moved_laws.proofs.Sources.{standing_source}
+use Rattle.wt_part_laws.specs.Standing.{standing}
+use Rattle.wt_part_laws.proofs.Sources.{standing_source}
 use Rattle.wt_typed_blocks.specs.Sent.{IsSentAsIs, StandsAsIs, AllStandAsIs}
 use Rattle.wt_typed_blocks.specs.Edited.{Pieces, no_pieces, gone, written, kept, around, new_style, as_new, page_pieces, text_node, sent_pieces, PiecesStay}
 use Rattle.wt_typed_blocks.proofs.SentGroups.{in_group, apart, apart_groups}

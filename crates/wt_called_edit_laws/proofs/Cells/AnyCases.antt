@@ -15,7 +15,7 @@ use Rattle.wt_tables.specs.Extents.{inner_len}
 use Rattle.wt_guards.specs.Guards.{nowiki, is_guarded, is_between_guard, is_start_guard, is_end_guard, is_blank_guard, is_parted}
 use Rattle.wt_guards.specs.Letters.{is_escaped}
 use Rattle.wt_guards.specs.Table.{hazard, line_start_hazard}
-use Rattle.wt_headings.specs.Headings.{heading}
+use Rattle.wt_page.specs.Headings.{heading}
 use Rattle.wt_inline.specs.Parts.{children}
 use Rattle.wt_tiles.specs.Links.{link_at}
 use Rattle.wt_tiles.specs.Urls.{scheme_len, kept_len, ext_link_at, bare_url_at}

@@ -11,7 +11,7 @@ use Rattle.wt_annotated.specs.GroupData.{group_data}
 use Rattle.wt_schema.specs.Read.{page as as_page, read}
 use Rattle.wt_commands.specs.Answers.{done, edit_to}
 use Rattle.wt_commands.specs.UnmarkedEdits.{DoneByEdit}
-use Rattle.wt_moved_laws.specs.Placeless.{all_placeless}
+use Rattle.wt_part_laws.specs.Placeless.{all_placeless}
 use Rattle.wt_typed_blocks.specs.Sent.{Sents}
 use Rattle.wt_text_edit_laws.specs.BlockSpots.{BlockSpot, spots_source, AreRead, AreContents}
 use Rattle.wt_text_edit_laws.specs.Parts.{part_tree}

@@ -5,7 +5,7 @@ use Rattle.wt_lines.specs.Kinds.{kind_of_signs}
 use Rattle.wt_lines.specs.Lines.{empty_end, full_lines}
 use Rattle.wt_page.specs.Rows.{Row, rows}
 use Rattle.wt_expand.specs.PageItems.{page_items}
-use Rattle.wt_row_laws.specs.Slots.{AllTrue}
+use Rattle.wt_part_laws.specs.Slots.{AllTrue}
 use Rattle.wt_text_edit_laws.specs.Paragraphs.{IsParagraph}
 use Rattle.wt_text_edit_laws.specs.ParagraphBetween.{written_rows, tables_behind, rows_of_lines, AreClosed, before_marks, EndApart}
 use Rattle.wt_text_edit_laws.specs.TextBlocks.{TextBlock, a_paragraph, a_heading, IsBlock, LeadsTo, EndsBlock, BeginsBetween}

@@ -26,7 +26,7 @@ use Rattle.wt_text_edit_laws.specs.BlockSpots.{BlockSpot, spots_source}
 use Rattle.wt_text_edit_laws.specs.TextBlocks.{a_paragraph}
 use Rattle.wt_text_edit_laws.proofs.Blocks.Contents.{block_content, typed_firmly}
 use Rattle.wt_called_edit_laws.specs.Parts.{AreCalled}
-use Rattle.wt_joined_calls.specs.Expanded.{part_items}
+use Rattle.wt_part_laws.specs.Expanded.{part_items}
 use Rattle.wt_text_edit_laws.proofs.Blocks.BlockReading.{content_read}
 use Rattle.wt_called_edit_laws.proofs.Parts.NoCallsCalled.{calm_anywhere}
 use Rattle.wt_called_edit_laws.proofs.Cells.ContentItems.{content_items}

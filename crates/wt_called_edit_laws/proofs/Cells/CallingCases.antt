@@ -26,8 +26,8 @@ use Rattle.wt_expand.specs.Templates.{begins_only, ends_only, template_text}
 use Rattle.wt_expand.specs.Work.{Pages}
 use Rattle.wt_expand.specs.Expansion.{text_members, most_templates, absent_text, loop_text, depth_text}
 use Rattle.wt_expand.specs.PageCalls.{page_stretches, expanded_page}
-use Rattle.wt_joined_calls.specs.Expanded.{part_items, GivesAnywhere}
-use Rattle.wt_joined_calls.proofs.ExpandedBoth.{plain_anywhere}
+use Rattle.wt_part_laws.specs.Expanded.{part_items, GivesAnywhere}
+use Rattle.wt_part_laws.proofs.ExpandedBoth.{plain_anywhere}
 use Rattle.wt_text_edit_laws.specs.BlockSpots.{BlockSpot}
 use Rattle.wt_text_edit_laws.specs.Paragraphs.{IsTextLine}
 use Rattle.wt_text_edit_laws.specs.ReadContents.{IsReadContent}

@@ -7,8 +7,8 @@ use Rattle.wt_span.specs.Braces.{reduced}
 use Rattle.wt_expand.specs.PageItems.{page_items}
 use Rattle.wt_expand.specs.Work.{Pages}
 use Rattle.wt_page.specs.Body.{meaning}
-use Rattle.wt_joined_calls.specs.Expanded.{part_items, calls_in}
-use Rattle.wt_joined_calls.proofs.ExpandedBoth.{plain_anywhere}
+use Rattle.wt_part_laws.specs.Expanded.{part_items, calls_in}
+use Rattle.wt_part_laws.proofs.ExpandedBoth.{plain_anywhere}
 use Rattle.wt_text_edit_laws.specs.BlockSpots.{BlockSpot, AreContents}
 use Rattle.wt_text_edit_laws.specs.Contents.{IsContent}
 use Rattle.wt_text_edit_laws.specs.LonePages.{page_chars}

@@ -10,7 +10,7 @@ use Rattle.wt_lines.specs.declared.kind.LineKind.TheVariants as line
 use Rattle.wt_lines.specs.Kinds.{kind_of_signs}
 use Rattle.wt_expand.specs.PageItems.{page_items}
 use Rattle.wt_page.specs.Rows.{Row}
-use Rattle.wt_row_laws.specs.Rounds.{TableRound, AreContent, IsTableRound}
+use Rattle.wt_part_laws.specs.Rounds.{TableRound, AreContent, IsTableRound}
 use Rattle.wt_text_edit_laws.specs.LonePages.{page_chars}
 use Rattle.wt_called_edit_laws.specs.HeadingsInCells.{IsHeadingInCell}
 use Rattle.wt_called_edit_laws.specs.InCells.{IsInCell}

@@ -9,9 +9,9 @@ use Rattle.wt_lines.specs.Kinds.{line_kind}
 use Rattle.wt_lines.specs.Lines.{goes_on, full_lines, content, empty_end}
 use Rattle.wt_lines.proofs.FullLines.{same_lines}
 use Rattle.wt_tables.specs.Extents.{behind}
-use Rattle.wt_headings.specs.Lines.{kind_at, ending}
+use Rattle.wt_page.specs.Lines.{kind_at, ending}
 use Rattle.wt_page.specs.Rows.{Row, marks_len, whole_row, line_rows, rows_from, rows}
-use Rattle.wt_row_laws.specs.Rounds.{TableRound, in_cell, in_cells}
+use Rattle.wt_part_laws.specs.Rounds.{TableRound, in_cell, in_cells}
 use Rattle.wt_text_edit_laws.specs.ParagraphBetween.{written_rows}
 use Rattle.wt_text_edit_laws.proofs.Texts.PlainRows.{last_break}
 use Rattle.wt_text_edit_laws.proofs.Prose.ProseReading.{break}

@@ -10,13 +10,13 @@ use Rattle.wt_blocks.specs.Paragraphs.{is_text}
 use Rattle.wt_tables.specs.Parts.{units, begins_part, begins_group}
 use Rattle.wt_page.specs.Rows.{Row, kind_of}
 use Rattle.wt_expand.specs.PageItems.{page_items}
-use Rattle.wt_row_laws.specs.Blocks.{BeginOtherwise}
-use Rattle.wt_row_laws.specs.Rounds.{TableRound, is_cell, BeginNoPart, BeginsPart, AreContent, IsTableRound, EndOtherwise}
-use Rattle.wt_row_laws.specs.Slots.{open_behind, AllTrue}
-use Rattle.wt_row_laws.specs.Units.{Level}
-use Rattle.wt_row_laws.proofs.Falling.{IsOther, sort, Falls, falls_open, falls_end, falls_other}
-use Rattle.wt_row_laws.proofs.UnitCuts.{first_unit, cut, level_open, level_other, level_ends}
-use Rattle.wt_row_laws.proofs.InCells.{alone_first}
+use Rattle.wt_part_laws.specs.Blocks.{BeginOtherwise}
+use Rattle.wt_part_laws.specs.Rounds.{TableRound, is_cell, BeginNoPart, BeginsPart, AreContent, IsTableRound, EndOtherwise}
+use Rattle.wt_part_laws.specs.Slots.{open_behind, AllTrue}
+use Rattle.wt_part_laws.specs.Units.{Level}
+use Rattle.wt_part_laws.proofs.Falling.{IsOther, sort, Falls, falls_open, falls_end, falls_other}
+use Rattle.wt_part_laws.proofs.UnitCuts.{first_unit, cut, level_open, level_other, level_ends}
+use Rattle.wt_part_laws.proofs.InCells.{alone_first}
 use Rattle.wt_text_edit_laws.specs.ParagraphBetween.{written_rows, before_marks, EndApart, BeginApart}
 use Rattle.wt_text_edit_laws.specs.TextBlocks.{a_paragraph}
 use Rattle.wt_text_edit_laws.specs.BlockSpots.{BlockSpot}

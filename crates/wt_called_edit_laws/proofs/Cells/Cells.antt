@@ -11,10 +11,10 @@ use Rattle.wt_page.specs.Stretches.{Stretch, stretches_parts, node_of}
 use Rattle.wt_page.specs.Texts.{para}
 use Rattle.wt_page.specs.Body.{blocks, meaning}
 use Rattle.wt_expand.specs.PageItems.{page_items}
-use Rattle.wt_spelling_laws.proofs.TextKinds.{lines_are_text}
-use Rattle.wt_row_laws.specs.Rounds.{filled, in_cells, AreTexts as AreTextRows, ParagraphStands}
-use Rattle.wt_row_laws.proofs.Fitting.{node_is}
-use Rattle.wt_row_laws.proofs.InCells.{paragraph_stands}
+use Rattle.wt_typed_blocks.proofs.TextKinds.{lines_are_text}
+use Rattle.wt_part_laws.specs.Rounds.{filled, in_cells, AreTexts as AreTextRows, ParagraphStands}
+use Rattle.wt_part_laws.proofs.Fitting.{node_is}
+use Rattle.wt_part_laws.proofs.InCells.{paragraph_stands}
 use Rattle.wt_text_edit_laws.specs.LonePages.{para_of}
 use Rattle.wt_text_edit_laws.specs.TypedPages.{IsTypedPage}
 use Rattle.wt_text_edit_laws.specs.ParagraphParts.{joined_parts, para_with}

@@ -27,7 +27,7 @@ use Rattle.wt_utf8.specs.Places.{not_utf8_place}
 use Rattle.wt_blocks.specs.Headings.{opening, inside, closing}
 use Rattle.wt_tables.specs.Cells.{single_at, bar_at, cell_of, cells, table_attributes, row_attributes}
 use Rattle.wt_tables.specs.Extents.{inner_len}
-use Rattle.wt_headings.specs.Headings.{heading}
+use Rattle.wt_page.specs.Headings.{heading}
 use Rattle.wt_inline.specs.Parts.{children}
 use Rattle.wt_tiles.specs.Links.{link_at}
 use Rattle.wt_tiles.specs.Urls.{scheme_len, kept_len, ext_link_at, bare_url_at}

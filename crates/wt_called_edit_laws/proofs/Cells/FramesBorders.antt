@@ -8,9 +8,9 @@ use Rattle.wt_tree.specs.Kinds.{texts_of_kind}
 use Rattle.wt_tree.specs.Tree.{Tree}
 use Rattle.wt_span.specs.Items.{Item}
 use Rattle.wt_inline.specs.ItemTree.{Head, ItemTree, inner, forest}
-use Rattle.wt_row_laws.specs.Rounds.{IsCellKind}
-use Rattle.wt_row_laws.specs.Frames.{place, whole, around, Frames, no_frames, more_frames, trees_at, all_places, Part, content, in_table, in_body, in_row, Holds, AreFrames}
-use Rattle.wt_moved_laws.specs.Standing.{standing}
+use Rattle.wt_part_laws.specs.Rounds.{IsCellKind}
+use Rattle.wt_part_laws.specs.Frames.{place, whole, around, Frames, no_frames, more_frames, trees_at, all_places, Part, content, in_table, in_body, in_row, Holds, AreFrames}
+use Rattle.wt_part_laws.specs.Standing.{standing}
 use Rattle.wt_called_edit_laws.proofs.Cells.Nodes.{AtBorder, IsHolder}
 use Rattle.wt_called_edit_laws.proofs.Cells.HolderKinds.{table_holder, rows_holder, row_holder, cell_holder, as_holder, block_at, table_block}
 use Rattle.wt_called_edit_laws.proofs.Cells.ManyNodes.{AtBorders, AllBorders}

@@ -6,14 +6,14 @@ use Rattle.wt_span.specs.Items.{Item, char}
 use Rattle.wt_lines.specs.Lines.{empty_end, full_lines}
 use Rattle.wt_inline.specs.ItemTree.{plain}
 use Rattle.wt_inline.specs.Parts.{children}
-use Rattle.wt_headings.specs.Headings.{heading}
+use Rattle.wt_page.specs.Headings.{heading}
 use Rattle.wt_page.specs.Rows.{Row, rows_from, rows}
 use Rattle.wt_page.specs.Stretches.{stretches_parts, node_of}
 use Rattle.wt_page.specs.Body.{blocks}
 use Rattle.wt_expand.specs.PageItems.{page_items}
-use Rattle.wt_row_laws.specs.Rounds.{filled, in_cells, IsHeading, HeadingStands}
-use Rattle.wt_row_laws.proofs.Fitting.{node_is}
-use Rattle.wt_row_laws.proofs.HeadingsInCells.{heading_stands}
+use Rattle.wt_part_laws.specs.Rounds.{filled, in_cells, IsHeading, HeadingStands}
+use Rattle.wt_part_laws.proofs.Fitting.{node_is}
+use Rattle.wt_part_laws.proofs.HeadingsInCells.{heading_stands}
 use Rattle.wt_text_edit_laws.specs.ParagraphBetween.{written_rows}
 use Rattle.wt_text_edit_laws.specs.TypedHeadings.{Sides, AreSides, heading_line, heading_with, IsHeadingText, IsOfLevel}
 use Rattle.wt_text_edit_laws.proofs.Headings.HeadingRows.{heading_row, rows_then, rows_last, tree_is}

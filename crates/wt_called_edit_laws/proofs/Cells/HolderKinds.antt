@@ -11,8 +11,8 @@ use Rattle.wt_tree.specs.declared.row.Texts.TheVariants.{Bordered}
 use Rattle.wt_span.specs.Items.{Item}
 use Rattle.wt_inline.specs.ItemTree.{Head, inner, ItemTrees}
 use Rattle.wt_annotated.specs.Labels.{label_at}
-use Rattle.wt_row_laws.specs.Rounds.{IsCellKind}
-use Rattle.wt_moved_laws.specs.Standing.{standing}
+use Rattle.wt_part_laws.specs.Rounds.{IsCellKind}
+use Rattle.wt_part_laws.specs.Standing.{standing}
 use Rattle.wt_called_edit_laws.proofs.Cells.Nodes.{AtBorder, IsHolder}
 
 -- ---- the kinds of holders

@@ -5,9 +5,9 @@ use Rattle.wt_lines.specs.Lines.{full_lines}
 use Rattle.wt_inline.specs.ItemTree.{ItemTree}
 use Rattle.wt_page.specs.Rows.{Row, rows_from, rows}
 use Rattle.wt_page.specs.Body.{body_parts, meaning}
-use Rattle.wt_row_laws.specs.Frames.{Frames, trees_at, all_places, content, AreFrames}
-use Rattle.wt_row_laws.specs.Slots.{Slot, rows_at, AreAt, PlacesStand}
-use Rattle.wt_row_laws.proofs.Places.{places_stand}
+use Rattle.wt_part_laws.specs.Frames.{Frames, trees_at, all_places, content, AreFrames}
+use Rattle.wt_part_laws.specs.Slots.{Slot, rows_at, AreAt, PlacesStand}
+use Rattle.wt_part_laws.proofs.Places.{places_stand}
 use Rattle.wt_text_edit_laws.specs.TextBlocks.{TextBlock}
 use Rattle.wt_text_edit_laws.specs.ParagraphBetween.{body_with}
 use Rattle.wt_text_edit_laws.proofs.Paragraphs.Standing.{body_is}

@@ -8,8 +8,8 @@ use Rattle.wt_tree.specs.Tree.{Tree, Trees, more}
 use Rattle.wt_span.specs.Items.{Item}
 use Rattle.wt_inline.specs.ItemTree.{ItemTree}
 use Rattle.wt_annotated.specs.CutTexts.{cut_as}
-use Rattle.wt_row_laws.specs.Frames.{place, whole, around, Frames, no_frames, more_frames, tree_at, trees_at}
-use Rattle.wt_moved_laws.specs.Standing.{standing}
+use Rattle.wt_part_laws.specs.Frames.{place, whole, around, Frames, no_frames, more_frames, tree_at, trees_at}
+use Rattle.wt_part_laws.specs.Standing.{standing}
 use Rattle.wt_text_edit_laws.proofs.Prose.ProseTrees.{blocks_of, number_behind, items_behind}
 use Rattle.wt_called_edit_laws.proofs.Cells.Cuts.{beside, front, cut_back, joined_beside, cut_beside}
 use Rattle.wt_called_edit_laws.proofs.Cells.Nodes.{number_after, items_after, blocks_split, fore, aft, AtBorder, cut_round, IsHolder}

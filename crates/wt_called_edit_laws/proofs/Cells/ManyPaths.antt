@@ -6,8 +6,8 @@ use Rattle.wt_tree.specs.Tree.{Label, Tree, tree, Trees, none, more}
 use Rattle.wt_span.specs.Items.{Item}
 use Rattle.wt_inline.specs.ItemTree.{ItemTree, forest, held_by_all}
 use Rattle.wt_annotated.specs.Numbering.{next_after}
-use Rattle.wt_row_laws.specs.Frames.{place, whole, around, Frames, no_frames, more_frames, tree_at, trees_at, all_places}
-use Rattle.wt_moved_laws.specs.Standing.{standing}
+use Rattle.wt_part_laws.specs.Frames.{place, whole, around, Frames, no_frames, more_frames, tree_at, trees_at, all_places}
+use Rattle.wt_part_laws.specs.Standing.{standing}
 use Rattle.wt_text_edit_laws.specs.TextBlocks.{TextBlock}
 use Rattle.wt_text_edit_laws.proofs.Prose.ProseTrees.{blocks_of, number_behind, items_behind}
 use Rattle.wt_called_edit_laws.specs.AnyBlocks.{LeadsTo, LeadsAmong}

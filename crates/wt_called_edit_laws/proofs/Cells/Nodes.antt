@@ -15,7 +15,7 @@ use Rattle.wt_annotated.specs.CutTexts.{cut_as, cut_texts, all_cut_texts}
 use Rattle.wt_annotated.specs.Labels.{width, label_at}
 use Rattle.wt_annotated.specs.Numbering.{number_of, next_after, with_id, with_numbers, all_with_numbers}
 use Rattle.wt_annotated.specs.WithoutCalls.{inside_by, all_placed}
-use Rattle.wt_moved_laws.specs.Standing.{standing}
+use Rattle.wt_part_laws.specs.Standing.{standing}
 use Rattle.wt_text_edit_laws.proofs.Prose.ProseTrees.{blocks_of, number_behind, items_behind}
 use Rattle.wt_text_edit_laws.proofs.Blocks.KeptBlocks.{blocks_source}
 use Rattle.wt_called_edit_laws.proofs.Cells.Cuts.{beside, cut_front, cut_back, recut_round}

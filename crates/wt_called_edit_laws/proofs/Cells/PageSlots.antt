@@ -7,11 +7,11 @@ use Rattle.wt_lines.specs.declared.kind.LineKind.TheVariants as line
 use Rattle.wt_lines.specs.Lines.{content}
 use Rattle.wt_tables.specs.Extents.{behind}
 use Rattle.wt_tables.specs.Parts.{begins_part}
-use Rattle.wt_headings.specs.Lines.{kind_at}
+use Rattle.wt_page.specs.Lines.{kind_at}
 use Rattle.wt_page.specs.Rows.{Row, line_rows}
-use Rattle.wt_row_laws.specs.Slots.{top_is, past_top, open_behind, Slot, a_row, AreInCells}
-use Rattle.wt_row_laws.proofs.OpenKinds.{begins_none, ends_none}
-use Rattle.wt_row_laws.proofs.Parsed.{rows_slots, rows_join}
+use Rattle.wt_part_laws.specs.Slots.{top_is, past_top, open_behind, Slot, a_row, AreInCells}
+use Rattle.wt_part_laws.proofs.OpenKinds.{begins_none, ends_none}
+use Rattle.wt_part_laws.proofs.Parsed.{rows_slots, rows_join}
 use Rattle.wt_text_edit_laws.specs.ParagraphBetween.{written_rows}
 use Rattle.wt_called_edit_laws.specs.AnyBlocks.{open_after}
 

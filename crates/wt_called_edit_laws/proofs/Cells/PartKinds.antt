@@ -4,8 +4,8 @@ use Rattle.wt_tree.specs.declared.kind.Kind.{Kind}
 use Rattle.wt_tree.specs.declared.kind.Kind.TheVariants as kind
 use Rattle.wt_tree.specs.Kinds.{is_numbered}
 use Rattle.wt_difference.specs.Insides.{is_block_part}
-use Rattle.wt_row_laws.specs.Rounds.{IsCellKind}
-use Rattle.wt_row_laws.specs.Frames.{Part, content, in_table, in_body, in_row, Holds}
+use Rattle.wt_part_laws.specs.Rounds.{IsCellKind}
+use Rattle.wt_part_laws.specs.Frames.{Part, content, in_table, in_body, in_row, Holds}
 
 -- ---- the kinds of nodes round blocks
 

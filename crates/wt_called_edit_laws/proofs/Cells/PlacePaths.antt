@@ -6,8 +6,8 @@ use Rattle.wt_span.specs.Items.{Item}
 use Rattle.wt_inline.specs.ItemTree.{ItemTree}
 use Rattle.wt_annotated.specs.Labels.{label_at}
 use Rattle.wt_checks.specs.Kept.{children}
-use Rattle.wt_row_laws.specs.Frames.{all_places, trees_at}
-use Rattle.wt_moved_laws.specs.Standing.{standing}
+use Rattle.wt_part_laws.specs.Frames.{all_places, trees_at}
+use Rattle.wt_part_laws.specs.Standing.{standing}
 use Rattle.wt_typed_blocks.specs.Sent.{Sent, stands, typed, holds, Sents, none_sent, more_sent, old_child, old_children}
 use Rattle.wt_typed_blocks.specs.Typed.{Takes, TakesText, TakeTexts}
 use Rattle.wt_text_edit_laws.specs.BlockSpots.{BlockSpot, spots_source}

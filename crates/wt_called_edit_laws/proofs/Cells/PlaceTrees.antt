@@ -1,7 +1,7 @@
 -- The blocks of a page by their numbers, and the page's tree with a place for each.
 use Rattle.std.proofs.Common.{◌≡◌, ℕ, zero, suc, List, [], ◌∷◌}
 use Rattle.wt_page.specs.Body.{meaning}
-use Rattle.wt_row_laws.specs.Frames.{Frames, trees_at, all_places, content, AreFrames}
+use Rattle.wt_part_laws.specs.Frames.{Frames, trees_at, all_places, content, AreFrames}
 use Rattle.wt_text_edit_laws.specs.BlockSpots.{BlockSpot, SameRound, AreContents}
 use Rattle.wt_text_edit_laws.specs.ParagraphBetween.{body_with}
 use Rattle.wt_text_edit_laws.specs.TextBlocks.{TextBlock, a_paragraph}

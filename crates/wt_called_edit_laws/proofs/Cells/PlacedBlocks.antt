@@ -7,18 +7,18 @@ use Rattle.wt_span.specs.Items.{Item, source, sources}
 use Rattle.wt_span.specs.declared.form.Mode.TheVariants.{Page}
 use Rattle.wt_span.specs.Runs.{AreRuns}
 use Rattle.wt_span.proofs.RunLaws.{runs_are}
-use Rattle.wt_scans.specs.Lexer.{lexer}
-use Rattle.wt_scans.specs.Scans.{after_all}
+use Rattle.wt_part_laws.specs.Lexer.{lexer}
+use Rattle.wt_part_laws.specs.Scans.{after_all}
 use Rattle.wt_lines.specs.declared.kind.LineKind.TheVariants as line
 use Rattle.wt_lines.specs.Kinds.{line_kind}
 use Rattle.wt_lines.specs.Lines.{full_lines, lines, content, empty_end, goes_on}
-use Rattle.wt_headings.specs.Lines.{ending}
-use Rattle.wt_headings.proofs.Ends.{content_ending}
+use Rattle.wt_page.specs.Lines.{ending}
+use Rattle.wt_page.proofs.Ends.{content_ending}
 use Rattle.wt_tables.specs.Parts.{joined}
 use Rattle.wt_page.specs.Rows.{rows_from}
 use Rattle.wt_expand.specs.PageItems.{page_items}
 use Rattle.wt_expand.specs.Work.{Pages}
-use Rattle.wt_row_laws.specs.Slots.{AllTrue}
+use Rattle.wt_part_laws.specs.Slots.{AllTrue}
 use Rattle.wt_text_edit_laws.specs.BlockSpots.{spots_source, AreRead}
 use Rattle.wt_text_edit_laws.specs.NoCalls.{CallsNothing}
 use Rattle.wt_text_edit_laws.specs.PageCuts.{AreTextItems, AreBlockItems, begins_unmarked, AreCuts, EndsThere}

@@ -6,14 +6,14 @@ use Rattle.wt_span.specs.Items.{Item, source, sources}
 use Rattle.wt_span.specs.Runs.{AreRuns}
 use Rattle.wt_span.proofs.RunLaws.{runs_are}
 use Rattle.wt_lines.specs.Lines.{full_lines, content, empty_end, goes_on}
-use Rattle.wt_headings.specs.Lines.{ending}
-use Rattle.wt_headings.proofs.Ends.{content_ending}
+use Rattle.wt_page.specs.Lines.{ending}
+use Rattle.wt_page.proofs.Ends.{content_ending}
 use Rattle.wt_tables.specs.Parts.{joined}
 use Rattle.wt_page.specs.Rows.{Row, rows_from}
 use Rattle.wt_expand.specs.PageItems.{page_items}
 use Rattle.wt_expand.specs.Work.{Pages}
 use Rattle.wt_expand.proofs.PageLaws.{page_sources}
-use Rattle.wt_row_laws.specs.Slots.{AllTrue}
+use Rattle.wt_part_laws.specs.Slots.{AllTrue}
 use Rattle.wt_text_edit_laws.specs.BlockSpots.{spots_source}
 use Rattle.wt_text_edit_laws.specs.NoCalls.{CallsNothing}
 use Rattle.wt_text_edit_laws.specs.Parts.{HasNoGroups}

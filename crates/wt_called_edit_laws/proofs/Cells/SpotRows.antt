@@ -5,10 +5,10 @@ use Rattle.wt_lines.specs.Lines.{empty_end, full_lines}
 use Rattle.wt_inline.specs.ItemTree.{ItemTree}
 use Rattle.wt_page.specs.Rows.{Row, rows_from}
 use Rattle.wt_page.specs.Texts.{para}
-use Rattle.wt_row_laws.specs.Rounds.{AreTexts as AreTextRows, IsHeading}
-use Rattle.wt_row_laws.specs.Slots.{Slot, rows_at, AreAt}
-use Rattle.wt_row_laws.proofs.Parsed.{rows_slots}
-use Rattle.wt_row_laws.proofs.Places.{rows_join as places_join, own_rows as placed_rows}
+use Rattle.wt_part_laws.specs.Rounds.{AreTexts as AreTextRows, IsHeading}
+use Rattle.wt_part_laws.specs.Slots.{Slot, rows_at, AreAt}
+use Rattle.wt_part_laws.proofs.Parsed.{rows_slots}
+use Rattle.wt_part_laws.proofs.Places.{rows_join as places_join, own_rows as placed_rows}
 use Rattle.wt_text_edit_laws.specs.ParagraphBetween.{before_marks}
 use Rattle.wt_text_edit_laws.specs.TextBlocks.{TextBlock, a_paragraph, a_heading, block_tree}
 use Rattle.wt_text_edit_laws.specs.TypedHeadings.{Sides, AreSides, heading_line, IsHeadingInside, IsOfLevel, EndsLine}

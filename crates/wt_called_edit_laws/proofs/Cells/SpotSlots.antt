@@ -8,12 +8,12 @@ use Rattle.wt_lines.specs.declared.kind.TheConstants.{MOST_TABLES}
 use Rattle.wt_lines.specs.Lines.{full_lines, content}
 use Rattle.wt_blocks.specs.Paragraphs.{is_text}
 use Rattle.wt_tables.specs.Extents.{behind}
-use Rattle.wt_headings.specs.Lines.{kind_at}
+use Rattle.wt_page.specs.Lines.{kind_at}
 use Rattle.wt_page.specs.Rows.{Row, line_rows, unwritten_end, rows_from}
-use Rattle.wt_row_laws.specs.Slots.{open_behind, Slot, a_row, a_paragraph as text_place, a_heading as heading_place, numbers_of, AllTrue, AreInCells, BeginsApart, AreApart, AreFew}
-use Rattle.wt_row_laws.proofs.OpenKinds.{opens_few}
-use Rattle.wt_row_laws.proofs.Parsed.{rows_slots, rows_join as slots_join}
-use Rattle.wt_row_laws.proofs.Places.{no_numbers, row_numbers}
+use Rattle.wt_part_laws.specs.Slots.{open_behind, Slot, a_row, a_paragraph as text_place, a_heading as heading_place, numbers_of, AllTrue, AreInCells, BeginsApart, AreApart, AreFew}
+use Rattle.wt_part_laws.proofs.OpenKinds.{opens_few}
+use Rattle.wt_part_laws.proofs.Parsed.{rows_slots, rows_join as slots_join}
+use Rattle.wt_part_laws.proofs.Places.{no_numbers, row_numbers}
 use Rattle.wt_text_edit_laws.specs.ParagraphBetween.{written_rows, tables_behind, before_marks, BeginApart}
 use Rattle.wt_text_edit_laws.specs.TextBlocks.{TextBlock, a_paragraph, a_heading, FirstApart}
 use Rattle.wt_text_edit_laws.proofs.Prose.ProseReading.{break}

@@ -8,7 +8,7 @@ use Rattle.wt_span.specs.declared.form.Mode.TheVariants.{Page}
 use Rattle.wt_span.specs.Lexemes.{words}
 use Rattle.wt_expand.specs.Work.{Pages, Entry, entered, begun, fetched, ended, Refused, braces_too_deep, too_large, most_cost, if_large, deep_place, cost_of, entry_refusal, refusal_from, first_refusal}
 use Rattle.wt_expand.specs.Expansion.{page_work}
-use Rattle.wt_joined_calls.specs.Expanded.{GivesAnywhere}
+use Rattle.wt_part_laws.specs.Expanded.{GivesAnywhere}
 use Rattle.wt_text_edit_laws.specs.NoCalls.{Brace}
 use Rattle.wt_text_edit_laws.specs.ReadContents.{IsReadContent, IsReadAnew}
 use Rattle.wt_text_edit_laws.specs.TextBlocks.{TextBlock, source_of}

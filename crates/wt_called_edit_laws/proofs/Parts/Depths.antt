@@ -10,8 +10,8 @@ use Rattle.wt_braces.specs.Deep.{deep_of, deep_of_all}
 use Rattle.wt_braces.proofs.Sizes.{AreWide, wide_reduced, wide_text}
 use Rattle.wt_braces.proofs.Depths.{too_deep_is}
 use Rattle.wt_expand.specs.Work.{deep_place}
-use Rattle.wt_joined_calls.specs.Apart.{AreMet, AreApart}
-use Rattle.wt_joined_calls.proofs.ApartCalls.{reduced_apart, run_cut}
+use Rattle.wt_part_laws.specs.Apart.{AreMet, AreApart}
+use Rattle.wt_part_laws.proofs.ApartCalls.{reduced_apart, run_cut}
 use Rattle.wt_text_edit_laws.proofs.Texts.TypedText.{AreLexemes}
 
 -- ---- no call has a hundred others round it

@@ -4,8 +4,8 @@ use Rattle.std.proofs.lemmas.Bool.Decides.{nat_tests}
 use Rattle.wt_span.specs.declared.form.LexKind.TheVariants.{Chars, CommentLine, Comment, Raw, Include, Hidden, Entity, Opens, Closes, LinkOpen, LinkClose, Pipe, Equals}
 use Rattle.wt_span.specs.Lexemes.{Word}
 use Rattle.wt_span.specs.Braces.{Member, lexeme, call, open_left, reduced}
-use Rattle.wt_joined_calls.specs.Apart.{close_left, NoneOpens, NoneCloses, AreApart, AreMet}
-use Rattle.wt_joined_calls.proofs.ApartCalls.{reduced_apart, run_cut}
+use Rattle.wt_part_laws.specs.Apart.{close_left, NoneOpens, NoneCloses, AreApart, AreMet}
+use Rattle.wt_part_laws.proofs.ApartCalls.{reduced_apart, run_cut}
 use Rattle.wt_text_edit_laws.specs.NoCalls.{Brace, opening, closing, NoneClose, NonePairs}
 use Rattle.wt_text_edit_laws.proofs.Between.BraceWords.{none_pair}
 use Rattle.wt_called_edit_laws.specs.Parts.{left_by, left_in}

@@ -6,8 +6,8 @@ use Rattle.wt_text_edit_laws.specs.NoCalls.{Brace, opening, closing, NoneClose, 
 use Rattle.wt_expand.specs.PageCalls.{expanded_page}
 use Rattle.wt_text_edit_laws.specs.Contents.{IsContent}
 use Rattle.wt_text_edit_laws.specs.TextBlocks.{TextBlock, source_of, block_items}
-use Rattle.wt_joined_calls.specs.Expanded.{part_items, calls_in}
-use Rattle.wt_joined_calls.proofs.ExpandedBoth.{plain_anywhere}
+use Rattle.wt_part_laws.specs.Expanded.{part_items, calls_in}
+use Rattle.wt_part_laws.proofs.ExpandedBoth.{plain_anywhere}
 use Rattle.wt_span.specs.declared.form.Mode.TheVariants.{Page}
 use Rattle.wt_span.specs.Lexemes.{words}
 use Rattle.wt_span.specs.Braces.{reduced}

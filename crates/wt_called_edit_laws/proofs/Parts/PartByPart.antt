@@ -10,10 +10,10 @@ use Rattle.wt_expand.specs.Work.{Pages, Entry, entered}
 use Rattle.wt_expand.specs.Expansion.{page_reading, text_given, page_work}
 use Rattle.wt_expand.specs.PageItems.{page_items}
 use Rattle.wt_expand.specs.PageCalls.{Stretch, own, outer, text_call, numbered, outer_calls, page_stretches, expanded_page}
-use Rattle.wt_joined_calls.specs.Apart.{NoneOpens, AreMet}
-use Rattle.wt_joined_calls.specs.Expanded.{moved_call, moved_span, part_items, calls_in, GivesAnywhere, BeginsPlain, AreParts}
-use Rattle.wt_joined_calls.proofs.ApartCalls.{reduced_apart}
-use Rattle.wt_joined_calls.proofs.ExpandedBoth.{plain_anywhere, both_anywhere, items_both, expands_both}
+use Rattle.wt_part_laws.specs.Apart.{NoneOpens, AreMet}
+use Rattle.wt_part_laws.specs.Expanded.{moved_call, moved_span, part_items, calls_in, GivesAnywhere, BeginsPlain, AreParts}
+use Rattle.wt_part_laws.proofs.ApartCalls.{reduced_apart}
+use Rattle.wt_part_laws.proofs.ExpandedBoth.{plain_anywhere, both_anywhere, items_both, expands_both}
 use Rattle.wt_text_edit_laws.specs.LonePages.{of_items}
 use Rattle.wt_text_edit_laws.specs.NoCalls.{NonePairs}
 use Rattle.wt_text_edit_laws.specs.TextBlocks.{source_of}

@@ -5,7 +5,7 @@ use Rattle.wt_span.specs.Lexemes.{words}
 use Rattle.wt_span.specs.Braces.{reduced}
 use Rattle.wt_expand.specs.PageItems.{page_items}
 use Rattle.wt_expand.specs.Work.{Pages, Entry}
-use Rattle.wt_joined_calls.proofs.ExpandedBoth.{plain_anywhere}
+use Rattle.wt_part_laws.proofs.ExpandedBoth.{plain_anywhere}
 use Rattle.wt_text_edit_laws.specs.NoCalls.{Brace, NonePairs, CallsNothing}
 use Rattle.wt_text_edit_laws.specs.TextBlocks.{TextBlock, source_of, block_items}
 use Rattle.wt_text_edit_laws.specs.Contents.{IsContent, IsFirmContent, IsNewContent}

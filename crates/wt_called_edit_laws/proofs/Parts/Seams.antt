@@ -7,12 +7,12 @@ use Rattle.wt_span.specs.declared.form.LexKind.TheVariants.{Chars}
 use Rattle.wt_span.specs.Items.{Item}
 use Rattle.wt_span.specs.Lexemes.{Word, Cut, cuts, closed, words, form_at}
 use Rattle.wt_lex.proofs.Cuts.{cuts_cons}
-use Rattle.wt_spelling_laws.proofs.Forms.{other_byte}
+use Rattle.wt_typed_blocks.proofs.Forms.{other_byte}
 use Rattle.wt_expand.specs.PageItems.{page_items}
-use Rattle.wt_scans.specs.Lexer.{lexer}
-use Rattle.wt_scans.specs.Scans.{after_all}
-use Rattle.wt_joined_calls.specs.Apart.{AreMet}
-use Rattle.wt_joined_calls.proofs.MetWords.{words_meet}
+use Rattle.wt_part_laws.specs.Lexer.{lexer}
+use Rattle.wt_part_laws.specs.Scans.{after_all}
+use Rattle.wt_part_laws.specs.Apart.{AreMet}
+use Rattle.wt_part_laws.proofs.MetWords.{words_meet}
 use Rattle.wt_text_edit_laws.specs.TextBetween.{BeginsShown}
 use Rattle.wt_text_edit_laws.specs.TextBlocks.{TextBlock, source_of, block_items}
 use Rattle.wt_text_edit_laws.specs.ReadContents.{IsReadContent}

@@ -22,10 +22,10 @@ use Rattle.wt_lex.proofs.AllForms.{form_fits}
 use Rattle.wt_lex.proofs.Begins.{begins_get, begins_len}
 use Rattle.wt_expand.specs.PageItems.{raw_form_by, form_of, items_of_word, page_items}
 use Rattle.wt_expand.proofs.PageLaws.{form_sources, page_sources}
-use Rattle.wt_scans.specs.Lexer.{lexer}
-use Rattle.wt_scans.specs.Scans.{skipped_by, Passes, Settles}
-use Rattle.wt_scans.proofs.Joins.{passes_settle}
-use Rattle.wt_scans.proofs.LexemeFronts.{lexemes_front}
+use Rattle.wt_part_laws.specs.Lexer.{lexer}
+use Rattle.wt_part_laws.specs.Scans.{skipped_by, Passes, Settles}
+use Rattle.wt_part_laws.proofs.Joins.{passes_settle}
+use Rattle.wt_part_laws.proofs.LexemeFronts.{lexemes_front}
 use Rattle.wt_text_edit_laws.proofs.Between.Fronts.{first_items, items_from, first_from, byte_from, form_from}
 use Rattle.wt_text_edit_laws.specs.TextBetween.{EndsBy}
 

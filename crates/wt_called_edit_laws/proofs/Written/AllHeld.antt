@@ -4,8 +4,8 @@ use Rattle.wt_guards.specs.Content.{ContentSign}
 use Rattle.wt_guards.specs.Guards.{Setting, spelled}
 use Rattle.wt_expand.specs.Work.{Pages}
 use Rattle.wt_inline.specs.ItemTree.{ItemTree}
-use Rattle.wt_called_trees.specs.HeldCalls.{HoldsItsCalls, AllHold}
-use Rattle.wt_called_trees.proofs.HeldBlocks.{own_holds}
+use Rattle.wt_part_laws.specs.HeldCalls.{HoldsItsCalls, AllHold}
+use Rattle.wt_part_laws.proofs.HeldBlocks.{own_holds}
 use Rattle.wt_text_edit_laws.specs.BlockSpots.{BlockSpot}
 use Rattle.wt_text_edit_laws.specs.Contents.{IsContent}
 use Rattle.wt_text_edit_laws.specs.NoCalls.{CallsNothing}

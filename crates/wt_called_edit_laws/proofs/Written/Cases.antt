@@ -18,15 +18,15 @@ use Rattle.wt_names.specs.Written.{link_to}
 use Rattle.wt_guards.specs.Content.{ContentSign, letter, thing}
 use Rattle.wt_guards.specs.Guards.{spelled, is_guarded, is_between_guard, is_start_guard, is_end_guard, is_blank_guard}
 use Rattle.wt_guards.specs.Table.{hazard, line_start_hazard}
-use Rattle.wt_scans.specs.Lexer.{lexer}
-use Rattle.wt_scans.specs.Scans.{Settles}
+use Rattle.wt_part_laws.specs.Lexer.{lexer}
+use Rattle.wt_part_laws.specs.Scans.{Settles}
 use Rattle.wt_expand.specs.PageCalls.{page_stretches, expanded_page}
 use Rattle.wt_expand.specs.Work.{deep_place}
 use Rattle.wt_expand.specs.Texts.{trimmed, trimmed_items, name_text}
 use Rattle.wt_expand.specs.Targets.{title_in_target, title_of_target, is_function, called}
 use Rattle.wt_expand.specs.Templates.{begins_only, ends_only, template_text}
 use Rattle.wt_expand.specs.Expansion.{text_members, most_templates, absent_text, loop_text, depth_text}
-use Rattle.wt_joined_calls.specs.Expanded.{GivesAnywhere}
+use Rattle.wt_part_laws.specs.Expanded.{GivesAnywhere}
 use Rattle.wt_text_edit_laws.specs.ReadContents.{BeginsUnclosed}
 use Rattle.wt_text_edit_laws.specs.TextBlocks.{a_paragraph}
 use Rattle.wt_text_edit_laws.proofs.Between.ClosingTags.{unclosed_untagged}

@@ -12,9 +12,9 @@ use Rattle.wt_guards.specs.Content.{ContentSign, letter, thing}
 use Rattle.wt_guards.specs.Guards.{Setting, nowiki, nowiki_if, is_guarded, spelled_from}
 use Rattle.wt_guards.specs.Letters.{is_bracket, is_escaped, reference, written_by}
 use Rattle.wt_guards.proofs.Escapes.{is_escapable, escapable}
-use Rattle.wt_scans.specs.Lexer.{lexer}
-use Rattle.wt_scans.specs.Scans.{after_all}
-use Rattle.wt_spelling_laws.proofs.TextReads.{or_parts, bracket_escaped, not_bracket}
+use Rattle.wt_part_laws.specs.Lexer.{lexer}
+use Rattle.wt_part_laws.specs.Scans.{after_all}
+use Rattle.wt_typed_blocks.proofs.TextReads.{or_parts, bracket_escaped, not_bracket}
 use Rattle.wt_text_edit_laws.specs.ReadContents.{BeginsUnclosed}
 use Rattle.wt_text_edit_laws.specs.TextBetween.{EndsBy}
 use Rattle.wt_text_edit_laws.proofs.Between.LineWords.{either}

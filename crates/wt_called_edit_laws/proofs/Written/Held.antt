@@ -11,9 +11,9 @@ use Rattle.wt_guards.specs.Content.{ContentSign, letter, thing}
 use Rattle.wt_guards.specs.Guards.{Setting, is_guarded, spelled}
 use Rattle.wt_guards.specs.Letters.{is_escaped}
 use Rattle.wt_expand.specs.Work.{Pages}
-use Rattle.wt_joined_calls.specs.Expanded.{part_items, calls_in}
+use Rattle.wt_part_laws.specs.Expanded.{part_items, calls_in}
 use Rattle.wt_lines.specs.Lines.{lines}
-use Rattle.wt_called_trees.specs.HeldCalls.{block_in, HoldsItsCalls, block_of_texts}
+use Rattle.wt_part_laws.specs.HeldCalls.{block_in, HoldsItsCalls, block_of_texts}
 use Rattle.wt_text_edit_laws.specs.ParagraphParts.{joined_parts, para_with}
 use Rattle.wt_text_edit_laws.specs.TextBlocks.{a_paragraph}
 use Rattle.wt_beside_laws.specs.Called.{items_with, owns_in, parts_with, shown_signs, called_shown, IsCalledIn}

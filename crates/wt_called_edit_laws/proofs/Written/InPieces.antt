@@ -6,7 +6,7 @@ use Rattle.wt_guards.specs.Guards.{Setting, spelled}
 use Rattle.wt_expand.specs.PageItems.{page_items}
 use Rattle.wt_expand.specs.PageCalls.{expanded_page}
 use Rattle.wt_expand.specs.Work.{Pages}
-use Rattle.wt_joined_calls.specs.Expanded.{part_items, calls_in}
+use Rattle.wt_part_laws.specs.Expanded.{part_items, calls_in}
 use Rattle.wt_text_edit_laws.specs.NoCalls.{AreUnbraced}
 use Rattle.wt_text_edit_laws.specs.TextBlocks.{a_paragraph}
 use Rattle.wt_text_edit_laws.proofs.Between.ClosingTags.{Unclosed, unclosed_behind}

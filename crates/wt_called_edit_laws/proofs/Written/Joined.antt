@@ -8,10 +8,10 @@ use Rattle.wt_span.specs.Braces.{reduced}
 use Rattle.wt_expand.specs.PageItems.{page_items}
 use Rattle.wt_expand.specs.PageCalls.{expanded_page}
 use Rattle.wt_expand.specs.Work.{Pages, Entry}
-use Rattle.wt_joined_calls.specs.Apart.{AreMet}
-use Rattle.wt_joined_calls.specs.Expanded.{moved_call, moved_span, part_items, calls_in, AreParts}
-use Rattle.wt_joined_calls.proofs.ExpandedBoth.{plain_anywhere, both_anywhere}
-use Rattle.wt_called_trees.specs.MovedCalls.{AreMoved}
+use Rattle.wt_part_laws.specs.Apart.{AreMet}
+use Rattle.wt_part_laws.specs.Expanded.{moved_call, moved_span, part_items, calls_in, AreParts}
+use Rattle.wt_part_laws.proofs.ExpandedBoth.{plain_anywhere, both_anywhere}
+use Rattle.wt_part_laws.specs.MovedCalls.{AreMoved}
 use Rattle.wt_text_edit_laws.specs.NoCalls.{Brace, NonePairs, CallsNothing, AreUnbraced}
 use Rattle.wt_text_edit_laws.proofs.Between.LessBraces.{IsSome, none_unbraced}
 use Rattle.wt_text_edit_laws.proofs.Between.NoCalls.{calm_reduced}

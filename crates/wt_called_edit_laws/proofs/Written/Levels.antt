@@ -16,9 +16,9 @@ use Rattle.wt_guards.specs.Letters.{is_escaped, written_by}
 use Rattle.wt_guards.specs.Table.{line_start_hazard}
 use Rattle.wt_guards.proofs.Escapes.{escapable}
 use Rattle.wt_expand.specs.PageItems.{page_items}
-use Rattle.wt_spelling_laws.proofs.Forms.{comment_other, comment_not, IsTame}
-use Rattle.wt_spelling_laws.proofs.TextKinds.{OpensText}
-use Rattle.wt_spelling_laws.proofs.TextReads.{equal_or, apart}
+use Rattle.wt_typed_blocks.proofs.Forms.{comment_other, comment_not, IsTame}
+use Rattle.wt_typed_blocks.proofs.TextKinds.{OpensText}
+use Rattle.wt_typed_blocks.proofs.TextReads.{equal_or, apart}
 use Rattle.wt_tiles.specs.Glyphs.{glyph_of}
 use Rattle.wt_text_edit_laws.specs.LonePages.{page_chars}
 use Rattle.wt_text_edit_laws.proofs.Prose.Uncommented.{BeginsUncommented, uncommented_other}
@@ -27,7 +27,7 @@ use Rattle.wt_beside_laws.specs.Kept.{Part, characters, sign, lexeme, AreParts, 
 use Rattle.wt_beside_laws.proofs.Marks.InLine.{InLine, InLineAs, comment_in, kept_in, nowiki_in, letter_in, reference_ends}
 use Rattle.wt_guards.specs.Content.{ContentSign, letter, thing, ends_line}
 use Rattle.wt_guards.specs.Guards.{Setting, nowiki, nowiki_if, is_new_at_start, is_mark as is_mark_role}
-use Rattle.wt_spelling_laws.proofs.Lines.{is_free}
+use Rattle.wt_typed_blocks.proofs.Lines.{is_free}
 use Rattle.wt_text_edit_laws.proofs.Between.Fronts.{reads_after, reads_either, page_read}
 use Rattle.wt_text_edit_laws.proofs.Prose.InFront.{Reads, reads_nothing, read_break}
 use Rattle.wt_beside_laws.specs.Commented.{IsComment, IsCommentSource}

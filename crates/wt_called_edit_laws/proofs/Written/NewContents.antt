@@ -13,9 +13,9 @@ use Rattle.wt_guards.specs.Letters.{is_escaped, written_by}
 use Rattle.wt_expand.specs.PageItems.{page_items}
 use Rattle.wt_expand.specs.PageCalls.{expanded_page}
 use Rattle.wt_expand.specs.Work.{Pages, Entry}
-use Rattle.wt_joined_calls.specs.Expanded.{part_items}
-use Rattle.wt_spelling_laws.proofs.Lines.{unguarded_begins}
-use Rattle.wt_called_trees.specs.MovedCalls.{IsMoved, AreMoved}
+use Rattle.wt_part_laws.specs.Expanded.{part_items}
+use Rattle.wt_typed_blocks.proofs.Lines.{unguarded_begins}
+use Rattle.wt_part_laws.specs.MovedCalls.{IsMoved, AreMoved}
 use Rattle.wt_text_edit_laws.specs.ReadContents.{begins_shown, BeginsParagraph, IsReadContent, IsFirmlyRead}
 use Rattle.wt_text_edit_laws.specs.TextBetween.{StandsBehind}
 use Rattle.wt_text_edit_laws.specs.TextBlocks.{a_paragraph}

@@ -11,7 +11,7 @@ use Rattle.wt_guards.specs.Content.{ContentSign}
 use Rattle.wt_guards.specs.Guards.{spelled}
 use Rattle.wt_expand.specs.PageItems.{page_items}
 use Rattle.wt_expand.specs.PageCalls.{expanded_page}
-use Rattle.wt_called_trees.specs.MovedCalls.{AreMoved}
+use Rattle.wt_part_laws.specs.MovedCalls.{AreMoved}
 use Rattle.wt_text_edit_laws.specs.NoCalls.{AreUnbraced}
 use Rattle.wt_text_edit_laws.specs.TextBlocks.{a_paragraph}
 use Rattle.wt_beside_laws.specs.Called.{BeginsWithText, EndsWithText}

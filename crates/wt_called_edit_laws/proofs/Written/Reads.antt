@@ -5,8 +5,8 @@ use Rattle.wt_guards.specs.Content.{ContentSign, Thing, letter, thing, nearest, 
 use Rattle.wt_guards.specs.Guards.{Setting, nowiki_if, is_guarded, is_line_start, is_line_begun, is_new_at_start, spelled_from, spelled}
 use Rattle.wt_guards.specs.Letters.{is_escaped, written_by}
 use Rattle.wt_expand.specs.PageItems.{page_items}
-use Rattle.wt_spelling_laws.proofs.Forms.{comment_other}
-use Rattle.wt_spelling_laws.proofs.Lines.{unguarded_begins}
+use Rattle.wt_typed_blocks.proofs.Forms.{comment_other}
+use Rattle.wt_typed_blocks.proofs.Lines.{unguarded_begins}
 use Rattle.wt_text_edit_laws.specs.ReadContents.{BeginsUnclosed, IsFirmlyRead}
 use Rattle.wt_text_edit_laws.specs.TextBetween.{StandsBehind}
 use Rattle.wt_text_edit_laws.proofs.Between.Fronts.{ReadsAfter, front_reads, behind_reads, reads_after, reads_either}

@@ -20,13 +20,13 @@ use Rattle.wt_guards.proofs.Escapes.{is_escapable, escapable}
 use Rattle.wt_expand.specs.PageItems.{page_items}
 use Rattle.wt_expand.specs.PageCalls.{expanded_page}
 use Rattle.wt_expand.specs.Work.{Pages, Entry}
-use Rattle.wt_scans.specs.Lexer.{lexer}
-use Rattle.wt_scans.specs.Scans.{after_all}
-use Rattle.wt_spelling_laws.proofs.Forms.{comment_other, other_byte}
-use Rattle.wt_spelling_laws.proofs.TextReads.{equal_or, apart}
-use Rattle.wt_joined_calls.specs.Apart.{AreMet}
-use Rattle.wt_joined_calls.specs.Expanded.{part_items, calls_in}
-use Rattle.wt_joined_calls.proofs.MetWords.{words_meet}
+use Rattle.wt_part_laws.specs.Lexer.{lexer}
+use Rattle.wt_part_laws.specs.Scans.{after_all}
+use Rattle.wt_typed_blocks.proofs.Forms.{comment_other, other_byte}
+use Rattle.wt_typed_blocks.proofs.TextReads.{equal_or, apart}
+use Rattle.wt_part_laws.specs.Apart.{AreMet}
+use Rattle.wt_part_laws.specs.Expanded.{part_items, calls_in}
+use Rattle.wt_part_laws.proofs.MetWords.{words_meet}
 use Rattle.wt_text_edit_laws.specs.LonePages.{page_chars}
 use Rattle.wt_text_edit_laws.specs.NoCalls.{is_brace, AreUnbraced}
 use Rattle.wt_text_edit_laws.specs.ReadContents.{BeginsUnclosed}

@@ -10,8 +10,8 @@ use Rattle.wt_span.specs.Tags.{Tag, opening_tag, closing_tag, len_if_named, to_c
 use Rattle.wt_span.specs.Lexemes.{form_at}
 use Rattle.wt_lex.proofs.Begins.{and_left, and_right, begins_get}
 use Rattle.wt_lex.proofs.TagForms.{OptTag, opening_fits}
-use Rattle.wt_scans.specs.Lexer.{lexer}
-use Rattle.wt_scans.specs.Scans.{skipped_by, AtStarts}
+use Rattle.wt_part_laws.specs.Lexer.{lexer}
+use Rattle.wt_part_laws.specs.Scans.{skipped_by, AtStarts}
 use Rattle.wt_text_edit_laws.specs.TextBetween.{is_end, AreEnded, ends_comment, ends_tag_before, ends_before}
 use Rattle.wt_text_edit_laws.proofs.Between.LineWords.{lacks}
 use Rattle.wt_text_edit_laws.proofs.Between.LineComments.{ends_behind, ends_dropped}

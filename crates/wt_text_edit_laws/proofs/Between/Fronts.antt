@@ -9,8 +9,8 @@ use Rattle.wt_span.specs.Lexemes.{Word, Cut, cuts, closed, words, form_at}
 use Rattle.wt_lex.proofs.AllForms.{form_fits}
 use Rattle.wt_lex.proofs.Cuts.{cuts_cons}
 use Rattle.wt_expand.specs.PageItems.{items_of_word, page_items}
-use Rattle.wt_scans.specs.Lexer.{lexer}
-use Rattle.wt_scans.specs.Scans.{after_all, skipped_by, Settles}
+use Rattle.wt_part_laws.specs.Lexer.{lexer}
+use Rattle.wt_part_laws.specs.Scans.{after_all, skipped_by, Settles}
 use Rattle.wt_text_edit_laws.proofs.Texts.TypedItems.{items_cut, closed_items}
 use Rattle.wt_text_edit_laws.proofs.Prose.Uncommented.{BeginsUncommented, either_flag}
 use Rattle.wt_text_edit_laws.proofs.Prose.InFront.{Reads}

@@ -8,7 +8,7 @@ use Rattle.wt_span.specs.Comments.{comment_len, remarks_len, remarks_with}
 use Rattle.wt_lex.proofs.Begins.{begins_len}
 use Rattle.wt_lex.proofs.Forms.{OptFits, comment_fits}
 use Rattle.wt_lex.proofs.Fronts.{begins_front, begins_none}
-use Rattle.wt_spelling_laws.specs.Reading.{stands}
+use Rattle.wt_typed_blocks.specs.Reading.{stands}
 use Rattle.wt_text_edit_laws.specs.TextBetween.{EndsBy, AreWholeLines, is_end, AreEnded, ends_comment}
 use Rattle.wt_text_edit_laws.proofs.Between.LineWords.{lacks, word_before, unbroken_front, word_up_to}
 

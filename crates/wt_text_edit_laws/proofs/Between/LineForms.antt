@@ -14,9 +14,9 @@ use Rattle.wt_span.specs.Lexemes.{Word, as_word, comment_line_word, entity_word,
 use Rattle.wt_lex.proofs.Begins.{and_left, and_right}
 use Rattle.wt_lex.proofs.Forms.{OptFits, comment_fits}
 use Rattle.wt_lex.proofs.TagForms.{OptTag, opening_fits, inside_fits}
-use Rattle.wt_scans.specs.Lexer.{lexer}
-use Rattle.wt_scans.specs.Scans.{skipped_by, AtStarts, Settles, IsFrontOf}
-use Rattle.wt_scans.proofs.LexemeFronts.{lexemes_front}
+use Rattle.wt_part_laws.specs.Lexer.{lexer}
+use Rattle.wt_part_laws.specs.Scans.{skipped_by, AtStarts, Settles, IsFrontOf}
+use Rattle.wt_part_laws.proofs.LexemeFronts.{lexemes_front}
 use Rattle.wt_text_edit_laws.specs.TextBetween.{EndsBy, AreWholeLines, is_end, AreEnded, BeginsShown, ends_comment, ends_tag, ends_here, HasEnds, ends_tag_before, ends_before, HasEndsBefore}
 use Rattle.wt_text_edit_laws.proofs.Between.LineWords.{either, Within, or_within, signs_within, entity_within, entity_word_within}
 use Rattle.wt_text_edit_laws.proofs.Between.LineComments.{ends_behind, last_end, lines_ended, comment_same, remarks_same}

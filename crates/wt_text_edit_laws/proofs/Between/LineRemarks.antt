@@ -13,9 +13,9 @@ use Rattle.wt_span.specs.Entities.{entity_at}
 use Rattle.wt_span.specs.Lexemes.{Word, as_word, entity_word, sign_word, form_at}
 use Rattle.wt_lex.proofs.Begins.{and_left, and_right, is_within, byte_is}
 use Rattle.wt_lex.proofs.Forms.{OptFits, comment_fits}
-use Rattle.wt_spelling_laws.proofs.Forms.{other_byte}
-use Rattle.wt_scans.specs.Lexer.{lexer}
-use Rattle.wt_scans.specs.Scans.{skipped_by, AtStarts}
+use Rattle.wt_typed_blocks.proofs.Forms.{other_byte}
+use Rattle.wt_part_laws.specs.Lexer.{lexer}
+use Rattle.wt_part_laws.specs.Scans.{skipped_by, AtStarts}
 use Rattle.wt_text_edit_laws.specs.TextBetween.{is_end, AreWholeLines, AreEnded, ends_comment, ends_tag_before, ends_before}
 use Rattle.wt_text_edit_laws.proofs.Between.LineWords.{either}
 use Rattle.wt_text_edit_laws.proofs.Between.LineComments.{ends_behind, comment_same, comment_short}

@@ -10,7 +10,7 @@ use Rattle.wt_span.specs.Items.{Item, char, whole, sign, is_char_in}
 use Rattle.wt_lines.specs.declared.kind.LineKind.TheVariants as line
 use Rattle.wt_lines.specs.Kinds.{is_mark_sign, is_idle, past, first_of, rows, kind_of_signs, line_kind}
 use Rattle.wt_lines.specs.Lines.{is_break_item, onto, lines}
-use Rattle.wt_spelling_laws.proofs.Forms.{other_byte}
+use Rattle.wt_typed_blocks.proofs.Forms.{other_byte}
 use Rattle.wt_text_edit_laws.specs.ReadContents.{begins_shown}
 use Rattle.wt_text_edit_laws.specs.TextBetween.{BeginsShown}
 use Rattle.wt_text_edit_laws.proofs.Prose.InFront.{Reads}

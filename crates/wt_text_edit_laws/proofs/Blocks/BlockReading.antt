@@ -7,7 +7,7 @@ use Rattle.wt_span.specs.declared.form.Mode.TheVariants.{Page}
 use Rattle.wt_span.specs.declared.form.LexKind.TheVariants.{Equals}
 use Rattle.wt_span.specs.Bytes.{is_blank}
 use Rattle.wt_span.specs.Items.{Item, char, sources}
-use Rattle.wt_spelling_laws.proofs.Forms.{comment_other, other_byte, equals_byte}
+use Rattle.wt_typed_blocks.proofs.Forms.{comment_other, other_byte, equals_byte}
 use Rattle.wt_expand.specs.PageCalls.{expanded_page}
 use Rattle.wt_expand.specs.PageItems.{page_items}
 use Rattle.wt_expand.specs.Work.{Pages, first_refusal}
@@ -15,8 +15,8 @@ use Rattle.wt_expand.specs.Expansion.{page_work}
 use Rattle.wt_expand.proofs.PageLaws.{page_sources}
 use Rattle.wt_text_edit_laws.specs.LonePages.{page_chars, of_items}
 use Rattle.wt_text_edit_laws.specs.TypedPages.{IsTypedPage}
-use Rattle.wt_scans.specs.Lexer.{lexer}
-use Rattle.wt_scans.specs.Scans.{after_all}
+use Rattle.wt_part_laws.specs.Lexer.{lexer}
+use Rattle.wt_part_laws.specs.Scans.{after_all}
 use Rattle.wt_text_edit_laws.proofs.Prose.Uncommented.{BeginsUncommented, uncommented_other}
 use Rattle.wt_text_edit_laws.proofs.Prose.InFront.{Reads, reads_byte, reads_form, read_items}
 use Rattle.wt_text_edit_laws.specs.NoCalls.{CallsNothing}

@@ -12,8 +12,8 @@ use Rattle.wt_isolation.specs.OpenTags.{ends_open}
 use Rattle.wt_annotated.specs.Annotated.{unplaced, all_unplaced}
 use Rattle.wt_expand.specs.PageItems.{page_items}
 use Rattle.wt_text_edit_laws.proofs.Texts.TypedLeaves.{AreOwn, leaves}
-use Rattle.wt_moved_laws.specs.Standing.{IsOrdinary, AreOrdinary}
-use Rattle.wt_moved_laws.proofs.Moved.{shows_the_same}
+use Rattle.wt_part_laws.specs.Standing.{IsOrdinary, AreOrdinary}
+use Rattle.wt_part_laws.proofs.Moved.{shows_the_same}
 use Rattle.wt_typed_blocks.specs.Sent.{paragraph, heading}
 use Rattle.wt_text_edit_laws.proofs.Prose.ProseTrees.{blocks_of, number_behind, items_behind}
 use Rattle.wt_text_edit_laws.proofs.Prose.ProseFacts.{plains_of}

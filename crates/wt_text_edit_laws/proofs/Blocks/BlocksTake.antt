@@ -42,7 +42,7 @@ use Rattle.wt_typed_blocks.proofs.SentShows.{body_shows}
 use Rattle.wt_text_edit_laws.proofs.Prose.ProseTrees.{blocks_of}
 use Rattle.wt_text_edit_laws.proofs.Prose.ProseTakes.{as_edit, not_longer}
 use Rattle.wt_annotated.specs.Annotated.{all_unplaced}
-use Rattle.wt_moved_laws.specs.Standing.{AreOrdinary}
+use Rattle.wt_part_laws.specs.Standing.{AreOrdinary}
 use Rattle.wt_text_edit_laws.specs.Parts.{part_tree}
 use Rattle.wt_text_edit_laws.proofs.Blocks.PageKinds.{page_ordinary}
 use Rattle.wt_text_edit_laws.specs.BlockSpots.{BlockSpot, spots_source, page_blocks, AreBlockSpots, AreBlocks}

@@ -5,8 +5,8 @@ use Rattle.wt_tree.specs.Tiling.{HasNoGroup, NoneIsGroup}
 use Rattle.wt_span.specs.Items.{Item}
 use Rattle.wt_inline.specs.ItemTree.{ItemTree, forest}
 use Rattle.wt_annotated.specs.Annotated.{all_unplaced}
-use Rattle.wt_moved_laws.specs.Standing.{standing, AreOrdinary}
-use Rattle.wt_moved_laws.proofs.Ordinary.{standing_ordinary, ordinary_ungrouped}
+use Rattle.wt_part_laws.specs.Standing.{standing, AreOrdinary}
+use Rattle.wt_part_laws.proofs.Ordinary.{standing_ordinary, ordinary_ungrouped}
 use Rattle.wt_text_edit_laws.specs.Parts.{HasNoGroups}
 use Rattle.wt_text_edit_laws.specs.BlockSpots.{BlockSpot, spots_source, page_blocks, AreBlockSpots}
 use Rattle.wt_text_edit_laws.proofs.Prose.ProseTrees.{blocks_of, number_behind, items_behind}

@@ -14,8 +14,8 @@ use Rattle.wt_inline.specs.Parts.{children}
 use Rattle.wt_guards.specs.Guards.{nowiki}
 use Rattle.wt_expand.specs.PageItems.{page_items}
 use Rattle.wt_expand.proofs.PageLaws.{page_sources}
-use Rattle.wt_spelling_laws.proofs.TextKinds.{lines_are_text}
-use Rattle.wt_called_trees.specs.Rounded.{HasItems, AllHaveItems}
+use Rattle.wt_typed_blocks.proofs.TextKinds.{lines_are_text}
+use Rattle.wt_part_laws.specs.Rounded.{HasItems, AllHaveItems}
 use Rattle.wt_text_edit_laws.specs.ParagraphParts.{joined_parts}
 use Rattle.wt_text_edit_laws.specs.TypedPages.{IsTypedPage}
 use Rattle.wt_text_edit_laws.specs.TextBetween.{StandsBehind}

@@ -7,9 +7,9 @@ use Rattle.wt_span.specs.Items.{Item, source, sources}
 use Rattle.wt_inline.specs.ItemTree.{ItemTree, forest, tree_items, held_by_all}
 use Rattle.wt_page.specs.Body.{meaning}
 use Rattle.wt_page.proofs.HeldBody.{sources_meaning}
-use Rattle.wt_moved_laws.specs.Standing.{standing}
-use Rattle.wt_moved_laws.proofs.Moved.{shows_the_same}
-use Rattle.wt_moved_laws.proofs.Sources.{standing_source}
+use Rattle.wt_part_laws.specs.Standing.{standing}
+use Rattle.wt_part_laws.proofs.Moved.{shows_the_same}
+use Rattle.wt_part_laws.proofs.Sources.{standing_source}
 use Rattle.wt_expand.specs.PageItems.{page_items}
 use Rattle.wt_expand.proofs.PageLaws.{page_sources}
 use Rattle.wt_text_edit_laws.proofs.Prose.ProseTrees.{blocks_of, number_behind, items_behind}

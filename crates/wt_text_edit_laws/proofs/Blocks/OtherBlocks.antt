@@ -4,8 +4,8 @@ use Rattle.wt_tree.specs.Tree.{more}
 use Rattle.wt_span.specs.Items.{Item}
 use Rattle.wt_inline.specs.ItemTree.{ItemTree}
 use Rattle.wt_checks.specs.Kept.{children}
-use Rattle.wt_moved_laws.specs.Placeless.{all_placeless, by_themselves}
-use Rattle.wt_moved_laws.proofs.Moved.{moved}
+use Rattle.wt_part_laws.specs.Placeless.{all_placeless, by_themselves}
+use Rattle.wt_part_laws.proofs.Moved.{moved}
 use Rattle.wt_text_edit_laws.proofs.Prose.ProseTrees.{blocks_of, number_behind, items_behind}
 use Rattle.wt_text_edit_laws.specs.Parts.{part_tree}
 use Rattle.wt_text_edit_laws.specs.BlockSpots.{BlockSpot, spots_source, page_blocks, AreBlockSpots}

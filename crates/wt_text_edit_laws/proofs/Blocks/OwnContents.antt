@@ -9,7 +9,7 @@ use Rattle.wt_tree.specs.Kinds.{is_leaf}
 use Rattle.wt_annotated.specs.Clean.{is_page, is_body}
 use Rattle.wt_annotated.specs.WithoutCalls.{InsideOf, holds_page, NoneEmpty, AllNonEmpty}
 use Rattle.wt_expand.specs.PageItems.{page_items}
-use Rattle.wt_called_trees.specs.Rounded.{HasItems, AllHaveItems, IsOwn}
+use Rattle.wt_part_laws.specs.Rounded.{HasItems, AllHaveItems, IsOwn}
 use Rattle.wt_text_edit_laws.specs.Contents.{AreParagraphLines, IsHeadingLine, content_parts_of, IsContent}
 use Rattle.wt_text_edit_laws.specs.LonePages.{page_chars}
 use Rattle.wt_text_edit_laws.specs.TextBlocks.{TextBlock, a_paragraph, a_heading, block_tree}

@@ -16,15 +16,15 @@ use Rattle.wt_expand.specs.PageCalls.{expanded_page}
 use Rattle.wt_expand.specs.PageItems.{page_items}
 use Rattle.wt_annotated.specs.Annotated.{all_unplaced}
 use Rattle.wt_page.specs.Body.{meaning}
-use Rattle.wt_round_trip.specs.Written.{is_childless}
-use Rattle.wt_round_trip.proofs.Rows.{is_somewhere, held}
+use Rattle.wt_schema.specs.Written.{is_childless}
+use Rattle.wt_schema.proofs.Rows.{is_somewhere, held}
 use Rattle.wt_page_round_trip.proofs.ExpandedItems.{expanded_items}
 use Rattle.wt_page_round_trip.proofs.OfPage.{ArePageItems}
 use Rattle.wt_page_round_trip.proofs.PageShown.{body_nodes, page_shown}
 use Rattle.wt_page_round_trip.proofs.ShownNodes.{NodeIsShown, IsOrdered, IsShownIn, AreShownIn}
 use Rattle.wt_edit.specs.Edits.{refusal_of_page}
 use Rattle.wt_text_edit_laws.specs.LonePages.{of_items}
-use Rattle.wt_moved_laws.specs.Standing.{IsOrdinary, AreOrdinary}
+use Rattle.wt_part_laws.specs.Standing.{IsOrdinary, AreOrdinary}
 use Rattle.wt_text_edit_laws.specs.ParagraphBetween.{body_with}
 
 -- ---- a node that is shown in another

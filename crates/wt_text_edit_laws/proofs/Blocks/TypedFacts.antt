@@ -27,10 +27,10 @@ use Rattle.wt_text_edit_laws.proofs.Texts.TypedLeaves.{AreOwn, Leaf, leaves, lea
 use Rattle.wt_text_edit_laws.proofs.Texts.TypedShown.{leaves_show}
 use Rattle.wt_text_edit_laws.proofs.Texts.TypedNodes.{nodes, nodes_flat, held_sources, none_open}
 use Rattle.wt_text_edit_laws.proofs.Texts.TypedTrees.{none_faulty}
-use Rattle.wt_moved_laws.specs.Standing.{standing, IsOrdinary}
-use Rattle.wt_moved_laws.proofs.Moved.{shows_the_same}
-use Rattle.wt_moved_laws.proofs.Ordinary.{standing_ordinary, ordinary_ungrouped, ordinary_unframed}
-use Rattle.wt_moved_laws.proofs.Sources.{standing_source}
+use Rattle.wt_part_laws.specs.Standing.{standing, IsOrdinary}
+use Rattle.wt_part_laws.proofs.Moved.{shows_the_same}
+use Rattle.wt_part_laws.proofs.Ordinary.{standing_ordinary, ordinary_ungrouped, ordinary_unframed}
+use Rattle.wt_part_laws.proofs.Sources.{standing_source}
 use Rattle.wt_typed_blocks.specs.Sent.{kind_of, Sents, old_children, AreSent, all_show}
 use Rattle.wt_typed_blocks.specs.Typed.{place_of, block_source, new_sources, Takes, TakeTexts, StandAt, AreUntangled}
 use Rattle.wt_text_edit_laws.proofs.Prose.ProseTrees.{items_behind}

@@ -5,8 +5,8 @@ use Rattle.wt_span.specs.Items.{Item}
 use Rattle.wt_inline.specs.ItemTree.{ItemTree, forest}
 use Rattle.wt_checks.specs.PutBack.{have_frame}
 use Rattle.wt_annotated.specs.Annotated.{all_unplaced}
-use Rattle.wt_moved_laws.specs.Standing.{standing, AreOrdinary}
-use Rattle.wt_moved_laws.proofs.Ordinary.{standing_ordinary, ordinary_unframed}
+use Rattle.wt_part_laws.specs.Standing.{standing, AreOrdinary}
+use Rattle.wt_part_laws.proofs.Ordinary.{standing_ordinary, ordinary_unframed}
 use Rattle.wt_text_edit_laws.proofs.Prose.ProseTrees.{blocks_of, number_behind, items_behind}
 
 pub blocks_unframed : (n : ℕ) (b : List Item) (ts : List ItemTree) → AreOrdinary (all_unplaced (forest ts)) → have_frame (blocks_of n b ts) ≡ false

@@ -15,8 +15,8 @@ use Rattle.wt_checks.specs.Kept.{children}
 use Rattle.wt_expand.specs.PageItems.{page_items}
 use Rattle.wt_isolation.specs.OpenTags.{open_by, node_ends_open, any_ends_open}
 use Rattle.wt_isolation.specs.OpenTexts.{in_style}
-use Rattle.wt_moved_laws.specs.Placeless.{placeless, all_placeless}
-use Rattle.wt_moved_laws.specs.Standing.{standing}
+use Rattle.wt_part_laws.specs.Placeless.{placeless, all_placeless}
+use Rattle.wt_part_laws.specs.Standing.{standing}
 use Rattle.wt_selser.specs.GroupFaults.{group_or_style, has_faulty_group}
 use Rattle.wt_text_edit_laws.specs.TextBlocks.{TextBlock, block_tree, IsBlock}
 use Rattle.wt_text_edit_laws.proofs.Blocks.BlockLeaves.{open_items, block_leaves, block_own}

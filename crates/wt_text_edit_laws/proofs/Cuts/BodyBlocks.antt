@@ -5,10 +5,10 @@ use Rattle.wt_lines.specs.declared.kind.LineKind.TheVariants as line
 use Rattle.wt_blocks.specs.Paragraphs.{is_text}
 use Rattle.wt_tables.specs.Extents.{is_open, is_end}
 use Rattle.wt_page.specs.Rows.{Row}
-use Rattle.wt_row_laws.specs.Blocks.{Block, blank, table, heading, rule, lists, preformatted, paragraph, block_rows, AllAre, BeginOtherwise, IsBlock, AreBlocks}
-use Rattle.wt_row_laws.specs.Counts.{opened, ended}
-use Rattle.wt_row_laws.proofs.Counting.{one, opened_put, ended_put, opened_onto, ended_onto}
-use Rattle.wt_row_laws.proofs.UnitCuts.{holds_units}
+use Rattle.wt_part_laws.specs.Blocks.{Block, blank, table, heading, rule, lists, preformatted, paragraph, block_rows, AllAre, BeginOtherwise, IsBlock, AreBlocks}
+use Rattle.wt_part_laws.specs.Counts.{opened, ended}
+use Rattle.wt_part_laws.proofs.Counting.{one, opened_put, ended_put, opened_onto, ended_onto}
+use Rattle.wt_part_laws.proofs.UnitCuts.{holds_units}
 use Rattle.wt_text_edit_laws.specs.BodyParagraphs.{rows_of}
 use Rattle.wt_text_edit_laws.specs.ParagraphBetween.{EndApart}
 

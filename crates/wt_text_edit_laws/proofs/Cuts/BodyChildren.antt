@@ -11,9 +11,9 @@ use Rattle.wt_page.specs.Stretches.{Stretch, gap, stretches_parts, tree_block}
 use Rattle.wt_page.specs.Tables.{Reading}
 use Rattle.wt_page.specs.Texts.{para}
 use Rattle.wt_page.specs.Body.{blocks_by, within, blocks}
-use Rattle.wt_row_laws.specs.Blocks.{Block, paragraph, block_parts}
-use Rattle.wt_row_laws.proofs.BlockCases.{read_by_cases}
-use Rattle.wt_row_laws.proofs.Fitting.{parts_round}
+use Rattle.wt_part_laws.specs.Blocks.{Block, paragraph, block_parts}
+use Rattle.wt_part_laws.proofs.BlockCases.{read_by_cases}
+use Rattle.wt_part_laws.proofs.Fitting.{parts_round}
 use Rattle.wt_text_edit_laws.specs.BodyParagraphs.{IsBodyParagraph, IsBodyChild}
 use Rattle.wt_text_edit_laws.specs.ParagraphBetween.{body_with}
 use Rattle.wt_text_edit_laws.proofs.Paragraphs.Standing.{round_node, body_is}

@@ -9,16 +9,16 @@ use Rattle.wt_blocks.specs.Paragraphs.{is_text}
 use Rattle.wt_lines.specs.declared.kind.LineKind.{LineKind}
 use Rattle.wt_lines.specs.declared.kind.LineKind.TheVariants as line
 use Rattle.wt_lines.specs.Lines.{lines, full_lines, content, empty_end, goes_on}
-use Rattle.wt_headings.specs.Lines.{ending}
-use Rattle.wt_headings.proofs.Ends.{content_ending}
+use Rattle.wt_page.specs.Lines.{ending}
+use Rattle.wt_page.proofs.Ends.{content_ending}
 use Rattle.wt_tables.specs.Parts.{joined}
 use Rattle.wt_inline.specs.ItemTree.{plain, inner, forest}
 use Rattle.wt_inline.specs.Parts.{children, Part}
 use Rattle.wt_page.specs.Rows.{Row, marks_len, whole_row, rows_from, rows}
 use Rattle.wt_page.specs.Texts.{para_parts, para}
-use Rattle.wt_row_laws.specs.Blocks.{BeginOtherwise}
+use Rattle.wt_part_laws.specs.Blocks.{BeginOtherwise}
 use Rattle.wt_expand.specs.PageItems.{page_items}
-use Rattle.wt_row_laws.specs.Counts.{opened, ended}
+use Rattle.wt_part_laws.specs.Counts.{opened, ended}
 use Rattle.wt_text_edit_laws.specs.BodyParagraphs.{rows_of, AreBare, IsBodyChild, IsBareParagraph, IsParagraphAt}
 use Rattle.wt_text_edit_laws.specs.PageCuts.{begins_unmarked, AreTextItems}
 use Rattle.wt_text_edit_laws.specs.ParagraphBetween.{written_rows, tables_behind, rows_of_lines, AreClosed, before_marks, EndApart, EndsApart, BeginApart, EndsParagraph}

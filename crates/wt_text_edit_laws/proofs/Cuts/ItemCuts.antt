@@ -16,9 +16,9 @@ use Rattle.wt_span.specs.Tags.{Tag, opening_tag, is_nowiki}
 use Rattle.wt_lex.proofs.AllForms.{form_fits}
 use Rattle.wt_expand.specs.PageItems.{raw_form_by, form_of, items_of_word, page_items}
 use Rattle.wt_expand.proofs.PageLaws.{char_sources, form_sources}
-use Rattle.wt_scans.specs.Lexer.{lexer}
-use Rattle.wt_scans.specs.Scans.{after_all, skipped_by, Settles, IsFrontOf}
-use Rattle.wt_scans.proofs.LexemeFronts.{lexemes_front}
+use Rattle.wt_part_laws.specs.Lexer.{lexer}
+use Rattle.wt_part_laws.specs.Scans.{after_all, skipped_by, Settles, IsFrontOf}
+use Rattle.wt_part_laws.proofs.LexemeFronts.{lexemes_front}
 use Rattle.wt_text_edit_laws.specs.LonePages.{page_chars}
 use Rattle.wt_text_edit_laws.specs.TextBetween.{EndsBy, StandsBehind}
 use Rattle.wt_text_edit_laws.proofs.Prose.Uncommented.{BeginsUncommented}

@@ -6,12 +6,12 @@ use Rattle.wt_lines.specs.declared.kind.LineKind.{LineKind}
 use Rattle.wt_lines.specs.declared.kind.LineKind.TheVariants as line
 use Rattle.wt_lines.specs.Lines.{content}
 use Rattle.wt_tables.specs.Extents.{is_open, is_end, behind}
-use Rattle.wt_headings.specs.Lines.{kind_at}
+use Rattle.wt_page.specs.Lines.{kind_at}
 use Rattle.wt_page.specs.Rows.{Row, marks_len, idle_len, dashes, is_unseen, behind_sign, sign_row, whole_row, line_rows, unwritten_end, rows_from}
-use Rattle.wt_row_laws.specs.Blocks.{AllAre}
-use Rattle.wt_row_laws.specs.Counts.{opened, ended}
-use Rattle.wt_row_laws.proofs.Counting.{one, opened_onto, ended_onto, opened_line, ended_line}
-use Rattle.wt_row_laws.proofs.OpenKinds.{ends_none}
+use Rattle.wt_part_laws.specs.Blocks.{AllAre}
+use Rattle.wt_part_laws.specs.Counts.{opened, ended}
+use Rattle.wt_part_laws.proofs.Counting.{one, opened_onto, ended_onto, opened_line, ended_line}
+use Rattle.wt_part_laws.proofs.OpenKinds.{ends_none}
 use Rattle.wt_text_edit_laws.specs.BodyParagraphs.{EndsIts, EndWhole}
 use Rattle.wt_text_edit_laws.specs.ParagraphBetween.{written_rows, tables_behind}
 

@@ -19,11 +19,11 @@ use Rattle.wt_lex.proofs.Forms.{OptFits, comment_fits}
 use Rattle.wt_lex.proofs.Fronts.{drop_front, begins_more, begins_front, byte_front, prefix_more, name_more}
 use Rattle.wt_lex.proofs.TagForms.{OptTag, opening_fits}
 use Rattle.wt_lex.proofs.WholeTags.{inside_front}
-use Rattle.wt_scans.specs.Lexer.{lexer}
-use Rattle.wt_scans.specs.Scans.{skipped_by, AtStarts, Settles}
-use Rattle.wt_scans.proofs.Joins.{starts_more}
-use Rattle.wt_spelling_laws.specs.Reading.{stands}
-use Rattle.wt_spelling_laws.proofs.Forms.{comment_other, other_byte}
+use Rattle.wt_part_laws.specs.Lexer.{lexer}
+use Rattle.wt_part_laws.specs.Scans.{skipped_by, AtStarts, Settles}
+use Rattle.wt_part_laws.proofs.Joins.{starts_more}
+use Rattle.wt_typed_blocks.specs.Reading.{stands}
+use Rattle.wt_typed_blocks.proofs.Forms.{comment_other, other_byte}
 use Rattle.wt_text_edit_laws.specs.TextBetween.{ends_comment, ends_tag_before, ends_before, HasEndsBefore}
 use Rattle.wt_text_edit_laws.proofs.Prose.Uncommented.{BeginsUncommented, uncommented_other, either_flag}
 use Rattle.wt_text_edit_laws.proofs.Between.LineRemarks.{comment_form}

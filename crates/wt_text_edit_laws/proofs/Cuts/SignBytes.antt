@@ -16,7 +16,7 @@ use Rattle.wt_span.specs.Lexemes.{Word, as_word, comment_line_word, entity_word,
 use Rattle.wt_lex.proofs.AllForms.{form_fits}
 use Rattle.wt_lex.proofs.Begins.{begins_get, begins_len}
 use Rattle.wt_expand.specs.PageItems.{items_of_word}
-use Rattle.wt_spelling_laws.proofs.Forms.{comment_other}
+use Rattle.wt_typed_blocks.proofs.Forms.{comment_other}
 use Rattle.wt_text_edit_laws.specs.LonePages.{page_chars}
 use Rattle.wt_text_edit_laws.proofs.Prose.Uncommented.{uncommented_other, either_flag}
 use Rattle.wt_text_edit_laws.proofs.Between.BraceWords.{HasTwo, two_braces}

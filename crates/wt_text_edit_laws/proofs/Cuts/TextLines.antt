@@ -8,7 +8,7 @@ use Rattle.wt_span.specs.Runs.{put, runs, IsRun, AreRuns}
 use Rattle.wt_span.proofs.RunLaws.{runs_only}
 use Rattle.wt_tables.specs.Parts.{joined}
 use Rattle.wt_lines.specs.Lines.{is_break_item, onto, lines, goes_on, full_lines, content, empty_end}
-use Rattle.wt_headings.specs.Lines.{ending}
+use Rattle.wt_page.specs.Lines.{ending}
 use Rattle.wt_page.specs.Rows.{marks_len}
 use Rattle.wt_text_edit_laws.specs.Paragraphs.{IsTextLine}
 use Rattle.wt_text_edit_laws.specs.ParagraphBetween.{before_marks}

@@ -21,8 +21,8 @@ use Rattle.wt_inline.specs.declared.loose.Loose.TheVariants.{Sep}
 use Rattle.wt_inline.specs.ItemTree.{plain, ItemTree, inner, forest}
 use Rattle.wt_inline.specs.Parts.{Part, node, parts, children}
 use Rattle.wt_context.specs.Line.{line_trees}
-use Rattle.wt_headings.specs.Headings.{heading}
-use Rattle.wt_headings.specs.Lines.{kind_at, ending}
+use Rattle.wt_page.specs.Headings.{heading}
+use Rattle.wt_page.specs.Lines.{kind_at, ending}
 use Rattle.wt_page.specs.Rows.{Row, kind_of, unwritten_end, line_rows, rows, rows_from}
 use Rattle.wt_page.specs.Stretches.{Stretch, stretches_parts}
 use Rattle.wt_page.specs.Body.{one_block, same_block, run_stretches, within, blocks, body_parts, meaning}

@@ -17,10 +17,10 @@ use Rattle.wt_page.specs.Tables.{Reading, gaps}
 use Rattle.wt_page.specs.Texts.{with_separators, para}
 use Rattle.wt_span.specs.Items.{Item}
 use Rattle.wt_lines.specs.Lines.{full_lines}
-use Rattle.wt_row_laws.specs.Blocks.{AllAre}
-use Rattle.wt_row_laws.specs.Units.{IsUnit, AreUnits}
-use Rattle.wt_row_laws.proofs.Falling.{IsPart, unit_is_part}
-use Rattle.wt_row_laws.proofs.UnitCuts.{units_only, units_are}
+use Rattle.wt_part_laws.specs.Blocks.{AllAre}
+use Rattle.wt_part_laws.specs.Units.{IsUnit, AreUnits}
+use Rattle.wt_part_laws.proofs.Falling.{IsPart, unit_is_part}
+use Rattle.wt_part_laws.proofs.UnitCuts.{units_only, units_are}
 use Rattle.wt_rows.proofs.FirstUnits.{units_more, unit_one}
 use Rattle.wt_text_edit_laws.proofs.Texts.PlainRows.{text_row}
 use Rattle.wt_text_edit_laws.specs.ParagraphBetween.{EndApart, BeginApart}

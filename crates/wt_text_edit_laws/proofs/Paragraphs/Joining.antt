@@ -4,7 +4,7 @@ use Rattle.std.specs.Prelude.{if◌then◌else◌}
 use Rattle.wt_span.specs.Items.{Item}
 use Rattle.wt_lines.specs.Lines.{is_break_item, goes_on, full_lines, empty_end}
 use Rattle.wt_tables.specs.Extents.{behind}
-use Rattle.wt_headings.specs.Lines.{kind_at}
+use Rattle.wt_page.specs.Lines.{kind_at}
 use Rattle.wt_page.specs.Rows.{Row, line_rows, rows_from, rows}
 use Rattle.wt_text_edit_laws.specs.ParagraphBetween.{written_rows, tables_behind, rows_of_lines, AreClosed}
 use Rattle.wt_text_edit_laws.proofs.Paragraphs.Apart.{Apart, runs_apart}

@@ -20,10 +20,10 @@ use Rattle.wt_inline.specs.Parts.{parts, held_parts, children}
 use Rattle.wt_inline.proofs.HeldLaws.{held_append}
 use Rattle.wt_context.specs.Line.{line_parts}
 use Rattle.wt_context.proofs.LineHolding.{line_source}
-use Rattle.wt_headings.specs.Lines.{ending}
+use Rattle.wt_page.specs.Lines.{ending}
 use Rattle.wt_page.specs.Rows.{Row, marks_len, whole_row, last_ending}
 use Rattle.wt_page.specs.Texts.{later_parts, later_line, para_parts, para}
-use Rattle.wt_row_laws.specs.Blocks.{AllAre}
+use Rattle.wt_part_laws.specs.Blocks.{AllAre}
 use Rattle.wt_text_edit_laws.specs.LonePages.{page_chars, para_of}
 use Rattle.wt_text_edit_laws.specs.ParagraphParts.{break, joined_parts, para_with}
 use Rattle.wt_text_edit_laws.specs.Paragraphs.{IsTextLine}

@@ -17,7 +17,7 @@ use Rattle.wt_tables.specs.Extents.{behind, is_open}
 use Rattle.wt_tables.specs.Parts.{joined, units}
 use Rattle.wt_inline.specs.declared.loose.Loose.TheVariants.{Sep}
 use Rattle.wt_inline.specs.Parts.{Part, part, parts}
-use Rattle.wt_headings.specs.Lines.{kind_at}
+use Rattle.wt_page.specs.Lines.{kind_at}
 use Rattle.wt_page.specs.Rows.{Row, kind_of, marks_len, idle_len, dashes, is_unseen, behind_sign, whole_row, sign_rows, line_rows, rows, rows_from}
 use Rattle.wt_page.specs.Stretches.{Stretch, stretch_parts, stretches_parts}
 use Rattle.wt_page.specs.Texts.{para}

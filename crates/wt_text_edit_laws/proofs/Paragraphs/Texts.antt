@@ -12,7 +12,7 @@ use Rattle.wt_span.specs.Lexemes.{cuts}
 use Rattle.wt_lex.proofs.Cuts.{cuts_cons}
 use Rattle.wt_isolation.specs.OpenTags.{ends_open, EndsOpen}
 use Rattle.wt_isolation.proofs.OpenTags.{opened}
-use Rattle.wt_spelling_laws.proofs.Forms.{comment_other, other_byte}
+use Rattle.wt_typed_blocks.proofs.Forms.{comment_other, other_byte}
 use Rattle.wt_expand.specs.PageItems.{items_of_word, page_items}
 use Rattle.wt_text_edit_laws.specs.TypedPages.{IsTypedPage}
 use Rattle.wt_text_edit_laws.proofs.Texts.SpelledUtf8.{spelled_utf8}
@@ -22,8 +22,8 @@ use Rattle.wt_text_edit_laws.proofs.Prose.Uncommented.{BeginsUncommented, uncomm
 use Rattle.wt_text_edit_laws.proofs.Prose.InFront.{Reads, reads_nothing, read_items}
 use Rattle.wt_text_edit_laws.proofs.Prose.ProseLines.{lines_block}
 use Rattle.wt_text_edit_laws.proofs.Prose.ProseTexts.{IsWritten, some_leaf, written}
-use Rattle.wt_scans.specs.Lexer.{lexer}
-use Rattle.wt_scans.specs.Scans.{after_all}
+use Rattle.wt_part_laws.specs.Lexer.{lexer}
+use Rattle.wt_part_laws.specs.Scans.{after_all}
 use Rattle.wt_text_edit_laws.specs.TextBetween.{HasNoTag, AreWholeLines, AreEnded, HasEndsBefore, StandsBehind}
 use Rattle.wt_text_edit_laws.proofs.Between.LineComments.{remarks_same}
 use Rattle.wt_text_edit_laws.proofs.Between.LineRemarks.{blank_form, comment_form, comment_some}

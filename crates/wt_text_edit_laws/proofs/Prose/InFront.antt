@@ -20,8 +20,8 @@ use Rattle.wt_guards.specs.Letters.{is_bracket, is_escaped, reference, written_b
 use Rattle.wt_guards.specs.Guards.{Setting, nowiki, nowiki_if, is_guarded, spelled_from, spelled}
 use Rattle.wt_guards.proofs.Escapes.{is_escapable, escapable, each_escapable}
 use Rattle.wt_expand.specs.PageItems.{items_of_word, page_items}
-use Rattle.wt_spelling_laws.proofs.Forms.{comment_other, comment_not, other_byte, equals_byte, IsTame, less_byte, and_byte, nowiki_form, reference_form}
-use Rattle.wt_spelling_laws.proofs.TextReads.{begin_next, bracket_escaped, not_bracket, equal_or, apart}
+use Rattle.wt_typed_blocks.proofs.Forms.{comment_other, comment_not, other_byte, equals_byte, IsTame, less_byte, and_byte, nowiki_form, reference_form}
+use Rattle.wt_typed_blocks.proofs.TextReads.{begin_next, bracket_escaped, not_bracket, equal_or, apart}
 use Rattle.wt_text_edit_laws.proofs.Texts.TypedItems.{ItemsOf, items_byte, items_form, references, wide_form, wide_tame, tame_if, IsMild, wide_mild, mild_if, no_form_byte, after_it, items_are}
 use Rattle.wt_text_edit_laws.specs.NoCalls.{is_brace, AreUnbraced}
 use Rattle.wt_text_edit_laws.proofs.Between.LineWords.{lacks}

@@ -15,7 +15,7 @@ use Rattle.wt_inline.specs.declared.loose.Loose.TheVariants.{Text, Sep}
 use Rattle.wt_inline.specs.ItemTree.{plain, ItemTree, inner, forest}
 use Rattle.wt_inline.specs.Parts.{Part, loose, node, held_parts, parts, one_leaf, loose_leaf, child, children}
 use Rattle.wt_context.specs.Line.{line_parts}
-use Rattle.wt_headings.specs.Lines.{ending}
+use Rattle.wt_page.specs.Lines.{ending}
 use Rattle.wt_page.specs.Rows.{Row, kind_of, rows, rows_from, last_ending}
 use Rattle.wt_page.specs.Stretches.{Stretch, gap, tree_block, stretch_parts}
 use Rattle.wt_page.specs.Tables.{Reading, gaps}

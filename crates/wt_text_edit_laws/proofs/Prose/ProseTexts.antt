@@ -12,7 +12,7 @@ use Rattle.wt_lines.specs.Kinds.{line_kind}
 use Rattle.wt_expand.specs.PageCalls.{expanded_page}
 use Rattle.wt_expand.specs.PageItems.{page_items}
 use Rattle.wt_expand.specs.Work.{Pages}
-use Rattle.wt_spelling_laws.proofs.TextKinds.{lines_are_text}
+use Rattle.wt_typed_blocks.proofs.TextKinds.{lines_are_text}
 use Rattle.wt_page.specs.Body.{meaning}
 use Rattle.wt_annotated.specs.Annotated.{annotated}
 use Rattle.wt_annotated.specs.GroupData.{group_data}

@@ -10,9 +10,9 @@ use Rattle.wt_lines.specs.declared.kind.LineKind.TheVariants as line
 use Rattle.wt_lines.specs.Lines.{lines}
 use Rattle.wt_lines.specs.Kinds.{line_kind}
 use Rattle.wt_expand.specs.PageItems.{page_items}
-use Rattle.wt_spelling_laws.specs.Reading.{stands}
-use Rattle.wt_spelling_laws.proofs.Signs.{no_styles, no_switches, no_addresses}
-use Rattle.wt_spelling_laws.proofs.TextKinds.{lines_are_text}
+use Rattle.wt_typed_blocks.specs.Reading.{stands}
+use Rattle.wt_typed_blocks.proofs.Signs.{no_styles, no_switches, no_addresses}
+use Rattle.wt_typed_blocks.proofs.TextKinds.{lines_are_text}
 use Rattle.wt_page.specs.Body.{meaning}
 use Rattle.wt_text_edit_laws.specs.PlainTexts.{is_plain, IsPlainText}
 use Rattle.wt_text_edit_laws.specs.LonePages.{page_chars, lone_body}

@@ -20,7 +20,7 @@ use Rattle.wt_inline.specs.ItemTree.{plain, ItemTree, inner, nothing, further, f
 use Rattle.wt_inline.specs.Parts.{Part, part, parts, one_leaf, held_parts, loose_leaf, child, children}
 use Rattle.wt_tiles.specs.Contexts.{in_line}
 use Rattle.wt_context.specs.Line.{most_contexts, context_parts, line_parts}
-use Rattle.wt_headings.specs.Lines.{ending, kind_at}
+use Rattle.wt_page.specs.Lines.{ending, kind_at}
 use Rattle.wt_page.specs.Rows.{Row, marks_len, whole_row, line_rows, rows_from, rows, kind_of, last_ending}
 use Rattle.wt_page.specs.Stretches.{Stretch, gap, tree_block, stretches_parts}
 use Rattle.wt_page.specs.Tables.{Reading, gaps}

@@ -7,7 +7,7 @@ use Rattle.wt_span.specs.declared.form.LexKind.TheVariants.{Chars}
 use Rattle.wt_span.specs.Bytes.{is_break}
 use Rattle.wt_span.specs.Lexemes.{Cut, cuts, cut_with, closed, form_at, words}
 use Rattle.wt_lex.specs.Words.{is_form_byte}
-use Rattle.wt_spelling_laws.proofs.Forms.{NoComments, comment_other, without_line, other_byte}
+use Rattle.wt_typed_blocks.proofs.Forms.{NoComments, comment_other, without_line, other_byte}
 use Rattle.std.proofs.lemmas.Bool.Decides.{nat_tests}
 use Rattle.wt_text_edit_laws.specs.PlainTexts.{is_plain}
 

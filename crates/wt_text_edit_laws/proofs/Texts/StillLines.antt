@@ -41,7 +41,7 @@ use Rattle.wt_context.specs.Chunks.{both_quotes, is_run, other_chunk, chunks_sin
 use Rattle.wt_context.specs.Styled.{styled, with_styles}
 use Rattle.wt_context.specs.Nodes.{Reading, tile_segments, segments, tile_tree, segments_by}
 use Rattle.wt_context.specs.Line.{within}
-use Rattle.wt_spelling_laws.specs.Reading.{stands}
+use Rattle.wt_typed_blocks.specs.Reading.{stands}
 use Rattle.wt_text_edit_laws.specs.PlainTexts.{is_plain}
 use Rattle.wt_text_edit_laws.specs.LonePages.{page_chars}
 use Rattle.wt_text_edit_laws.specs.StillItems.{starts_tag, IsStill, IsTypedForm, StillItems}

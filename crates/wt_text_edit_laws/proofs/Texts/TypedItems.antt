@@ -32,10 +32,10 @@ use Rattle.wt_isolation.specs.OpenTags.{ends_open}
 use Rattle.wt_tiles.specs.Glyphs.{glyph_of, begins}
 use Rattle.wt_tiles.specs.declared.glyph.Glyph.TheVariants as glyph
 use Rattle.wt_expand.specs.PageItems.{items_of_word, items_of_words, page_items}
-use Rattle.wt_spelling_laws.specs.Reading.{stands}
-use Rattle.wt_spelling_laws.proofs.Forms.{NoComments, comment_other, comment_not, without_line, other_byte, equals_byte, IsTame, less_byte, and_byte, nowiki_form, reference_form}
-use Rattle.wt_spelling_laws.proofs.TextReads.{begin_next, or_parts, bracket_escaped, not_bracket, equal_or, apart}
-use Rattle.wt_spelling_laws.proofs.Signs.{no_styles, no_switches, no_addresses}
+use Rattle.wt_typed_blocks.specs.Reading.{stands}
+use Rattle.wt_typed_blocks.proofs.Forms.{NoComments, comment_other, comment_not, without_line, other_byte, equals_byte, IsTame, less_byte, and_byte, nowiki_form, reference_form}
+use Rattle.wt_typed_blocks.proofs.TextReads.{begin_next, or_parts, bracket_escaped, not_bracket, equal_or, apart}
+use Rattle.wt_typed_blocks.proofs.Signs.{no_styles, no_switches, no_addresses}
 use Rattle.wt_text_edit_laws.specs.LonePages.{page_chars}
 use Rattle.wt_text_edit_laws.specs.StillItems.{starts_tag, IsTypedForm, StillItems}
 use Rattle.wt_text_edit_laws.proofs.Texts.PlainWords.{and_left, and_right, or_left, or_right}

@@ -11,7 +11,7 @@ use Rattle.wt_lines.specs.Kinds.{line_kind}
 use Rattle.wt_devices.specs.Device.{Pages}
 use Rattle.wt_expand.specs.PageItems.{page_items}
 use Rattle.wt_expand.proofs.PageLaws.{page_sources}
-use Rattle.wt_spelling_laws.proofs.TextKinds.{lines_are_text}
+use Rattle.wt_typed_blocks.proofs.TextKinds.{lines_are_text}
 use Rattle.wt_annotated.specs.Annotated.{annotated}
 use Rattle.wt_annotated.specs.GroupData.{group_data}
 use Rattle.wt_sections.specs.Sections.{with_sections}

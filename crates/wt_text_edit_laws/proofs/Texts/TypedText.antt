@@ -18,8 +18,8 @@ use Rattle.wt_expand.specs.Work.{Pages, entered, braces_too_deep, deep_place, re
 use Rattle.wt_expand.specs.Expansion.{Reading, joined, outputs_of, text_members, page_reading, page_work}
 use Rattle.wt_expand.specs.PageCalls.{expanded_page}
 use Rattle.wt_expand.proofs.NoCalls.{without_calls}
-use Rattle.wt_spelling_laws.specs.Reading.{shown_by, joined as joined_text, shown_words, read_text}
-use Rattle.wt_spelling_laws.proofs.TextReads.{text_reads_back}
+use Rattle.wt_typed_blocks.specs.Reading.{shown_by, joined as joined_text, shown_words, read_text}
+use Rattle.wt_typed_blocks.proofs.TextReads.{text_reads_back}
 use Rattle.wt_text_edit_laws.specs.LonePages.{of_items}
 
 -- ---- words that aren't runs of closing braces

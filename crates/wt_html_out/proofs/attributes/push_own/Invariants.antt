@@ -1,5 +1,5 @@
 use Rattle.std.proofs.Common.{◌≡◌, ◌++◌, take}
-use Rattle.wt_markup.specs.Html.{attributes}
+use Rattle.wt_schema.specs.Html.{attributes}
 use Rattle.wt_tree.specs.View.{attrs_of}
 use Rattle.wt_html_out.proofs.attributes.push_own.Given as goal
 

@@ -1,4 +1,4 @@
-use Rattle.wt_markup.specs.Html.{about_attribute}
+use Rattle.wt_schema.specs.Html.{about_attribute}
 use Rattle.wt_html_out.proofs.JoinedValue.{three_pushed}
 use Rattle.wt_html_out.proofs.group_attributes.push_about.Goals as goal
 

@@ -1,5 +1,5 @@
 use Rattle.std.proofs.Common.{◌≡◌, ◌+◌, ◌≤◌, ◌++◌, drop, length}
-use Rattle.wt_markup.specs.Html.{html_of_all, groups_of_all}
+use Rattle.wt_schema.specs.Html.{html_of_all, groups_of_all}
 use Rattle.wt_tree.specs.View.{views}
 use Rattle.wt_html_out.proofs.nodes.+html.Given as goal
 

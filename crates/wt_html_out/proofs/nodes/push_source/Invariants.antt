@@ -1,5 +1,5 @@
 use Rattle.std.proofs.Common.{◌≡◌, ◌++◌, take}
-use Rattle.wt_markup.specs.Escapes.{escaped}
+use Rattle.wt_schema.specs.Escapes.{escaped}
 use Rattle.wt_tree.specs.View.{texts_of}
 use Rattle.wt_html_out.proofs.nodes.push_source.Given as goal
 

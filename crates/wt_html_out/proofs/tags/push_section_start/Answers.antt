@@ -1,4 +1,4 @@
-use Rattle.wt_markup.specs.Html.{section_start}
+use Rattle.wt_schema.specs.Html.{section_start}
 use Rattle.wt_html_out.proofs.JoinedValue.{three_pushed}
 use Rattle.wt_html_out.proofs.tags.push_section_start.Goals as goal
 

@@ -2,7 +2,7 @@ use Rattle.std.proofs.Common.{List, drop, sym, ap, ◌∙◌, subst}
 use Rattle.wt_span.specs.declared.form.Piece.{Piece}
 use Rattle.wt_span.specs.Items.{items}
 use Rattle.wt_lines.specs.Lines.{full_lines, content}
-use Rattle.wt_headings.specs.Lines.{kind_at}
+use Rattle.wt_page.specs.Lines.{kind_at}
 use Rattle.wt_tables.proofs.Steps.{few_after}
 use Rattle.wt_rows.specs.Unread.{left}
 use Rattle.wt_rows.specs.Building.{AreWhole, made_rows}

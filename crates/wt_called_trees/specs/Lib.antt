@@ -1,5 +1,0 @@
-pub mod TreeFrames
-pub mod Rounded
-pub mod MovedCalls
-pub mod CallTexts
-pub mod HeldCalls

@@ -1,5 +1,0 @@
-use Rattle.wt_edit_laws.proofs.OneByOne.{frames_each}
-use Rattle.wt_edit_laws.proofs.trees.frames_are_told_one_by_one.Goals as goal
-
-pub returns : goal.returns
-returns c = frames_each

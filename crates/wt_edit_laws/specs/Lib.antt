@@ -1,4 +1,0 @@
-pub mod Below
-pub mod TextEdits
-pub mod NewChildren
-pub mod KeptPlaces

@@ -1,3 +1,0 @@
-pub mod SameBodies
-pub mod OpenedBodies
-pub mod JoinedTexts

@@ -1,0 +1,93 @@
+-- Worked cases of blocks that were retyped, by computing.
+use Rattle.std.proofs.Common.{◌≡◌, Bool, true, false, None, Some, [], ◌∷◌, refl, sym, inl, inr}
+use Rattle.std.specs.Prelude.{codes}
+use Rattle.wt_span.specs.Items.{char, whole}
+use Rattle.wt_span.specs.declared.form.ItemForm.TheVariants as form
+use Rattle.wt_span.specs.Origins.{Expanded}
+use Rattle.wt_tree.specs.declared.kind.Kind.TheVariants as kind
+use Rattle.wt_tree.specs.Tree.{Tree}
+use Rattle.wt_tree.specs.EditShapes.{edit_shape}
+use Rattle.wt_original.specs.Kept.{kept_with}
+use Rattle.wt_slices.specs.Changes.{Pair}
+use Rattle.wt_inside_laws.specs.TextEdits.{IsRetyped, holds_unclosed}
+use Rattle.wt_inside_laws.proofs.Sources.{untrue}
+use Rattle.wt_inside_laws.proofs.InsidesCases.{text, leaf, inner, para}
+
+abbrev same : Tree → Tree → Bool
+same t u = true
+
+-- the page `a` without calls
+abbrev page_a : Expanded
+page_a = record { items = char None 97 ∷ []; outer = []; text_calls = [] }
+
+-- signs of every kind typed in place of `a`
+abbrev signs_for_a : Pair
+signs_for_a = record { old = para (text (codes "a") ∷ []); new = para (text (codes "* [[x]] & ''y''") ∷ []) }
+
+signs_typed : IsRetyped same page_a (codes "a") signs_for_a
+unfolding kept_with
+signs_typed = record {
+  block = refl;
+  untangled = refl;
+  closed = refl;
+  in_order = refl;
+  untouched = tt;
+  texts = (
+    inr (record {
+      breaks = refl;
+      stays_empty = λ h e. absurd (untrue (sym h));
+      stays_ended = λ h e. absurd (untrue (sym h));
+      stays_tied = λ h. absurd (untrue (sym h));
+    }),
+    tt,
+  );
+  one_line = tt;
+}
+
+-- `a ''b'' __TOC__`: `c` typed in place of `b`, all else as it stood
+abbrev b_for_c : Pair
+b_for_c = record {
+  old = para (text (codes "a ") ∷ inner kind.Italic 2 (codes "''") (text (codes "b") ∷ []) (codes "''") ∷ text (codes " ") ∷ leaf kind.Switch 3 (codes "__TOC__") ∷ []);
+  new = para (text (codes "a ") ∷ inner kind.Italic 2 [] (text (codes "c") ∷ []) [] ∷ text (codes " ") ∷ leaf kind.Switch 3 [] ∷ []);
+}
+
+typed_in_style : IsRetyped same page_a (codes "a ''b'' __TOC__") b_for_c
+unfolding kept_with
+typed_in_style = record {
+  block = refl;
+  untangled = refl;
+  closed = refl;
+  in_order = refl;
+  untouched = (record { kept = _; found = refl; unchanged = refl; inside = refl }, tt);
+  texts = (
+    inl refl,
+    (
+      inr (record {
+        breaks = refl;
+        stays_empty = λ h e. absurd (untrue (sym h));
+        stays_ended = λ h e. absurd (untrue (sym h));
+        stays_tied = λ h. absurd (untrue (sym h));
+      }),
+      (inl refl, (inl refl, tt)),
+    ),
+  );
+  one_line = tt;
+}
+
+-- an unclosed comment: the block that goes up to the page's end holds it
+unclosed : holds_unclosed (char None 97 ∷ whole form.Comment None (codes "<!-- b") ∷ []) (codes "a<!-- b")
+    (Some (record { start = 0; end = 7; open_w = 0; close_w = 0 })) ≡ true
+unclosed = refl
+
+-- a closed one, one that a call gave, and a block before it
+closed_comment : holds_unclosed (char None 97 ∷ whole form.Comment None (codes "<!-- b-->") ∷ []) (codes "a<!-- b-->")
+    (Some (record { start = 0; end = 10; open_w = 0; close_w = 0 })) ≡ false
+closed_comment = refl
+
+of_a_call : holds_unclosed (char None 97 ∷ whole form.Comment (Some 0) (codes "<!-- b") ∷ []) (codes "a{{t}}")
+    (Some (record { start = 0; end = 6; open_w = 0; close_w = 0 })) ≡ false
+of_a_call = refl
+
+before_it : holds_unclosed (char None 97 ∷ char None 10 ∷ char None 10 ∷ whole form.Comment None (codes "<!-- b") ∷ []) (codes "a\n\n<!-- b")
+    (Some (record { start = 0; end = 1; open_w = 0; close_w = 0 })) ≡ false
+before_it = refl

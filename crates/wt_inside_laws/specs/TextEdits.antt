@@ -1,0 +1,160 @@
+-- A text edit: in paragraphs and headings somebody typed other texts between elements that nobody touched. It is never to be refused.
+use Rattle.std.specs.Prelude.{◌≡◌, ◌⊎◌, ◌≤◌, ◌-◌, ◌==◌, ◌&&◌, ℕ, Bool, true, false, not, Option, Some, None, List, [], ◌∷◌, drop, length, nat_eq, slice_get, count_by, codes, zip}
+use Rattle.std.specs.List.{AllByRecursion, ends_with}
+use Rattle.std.specs.Option.{is_some}
+use Rattle.wt_span.specs.declared.form.ItemForm.{ItemForm}
+use Rattle.wt_span.specs.declared.form.ItemForm.TheVariants as form
+use Rattle.wt_span.specs.Items.{Item, char, whole}
+use Rattle.wt_span.specs.Origins.{Expanded}
+use Rattle.wt_span.specs.Tags.{Tag, opening_tag, with_inside}
+use Rattle.wt_span.specs.Characters as byte
+use Rattle.wt_names.specs.Good.{holds}
+use Rattle.wt_tree.specs.declared.kind.Ranges.{Ranges}
+use Rattle.wt_tree.specs.Tree.{Tree, label}
+use Rattle.wt_tree.specs.Tiling.{is_group, numbers}
+use Rattle.wt_guards.specs.declared.role.Role.{Role}
+use Rattle.wt_guards.specs.declared.role.Role.TheVariants as role
+use Rattle.wt_guards.specs.Content.{ends_line}
+use Rattle.wt_tree.specs.declared.edit_shape.BlockForm.{BlockForm}
+use Rattle.wt_tree.specs.declared.edit_shape.BlockForm.TheVariants as block
+use Rattle.wt_tree.specs.EditShapes.{edit_shape}
+use Rattle.wt_original.specs.Kept.{Kept, kept_nodes, kept_with}
+use Rattle.wt_original.specs.Page.{Page, page_of, is_unchanged}
+use Rattle.wt_link_spelling.specs.Spelling.{children_of}
+use Rattle.wt_checks.specs.Checked.{checked}
+use Rattle.wt_content.specs.Content.{has_break}
+use Rattle.wt_slices.specs.Changes.{Pair, marked, AllStay}
+use Rattle.wt_slices.specs.BodySlices.{slices}
+use Rattle.wt_selser.specs.Edits.{is_tangled, most_bytes}
+use Rattle.wt_splice.specs.Splice.{spliced}
+use Rattle.wt_inside_laws.specs.Contents.{Border, element, bold, italic, end, borders, elements, Slot, slots}
+
+-- ---- a text
+
+-- the page's element at a border
+abbrev pub element_at : List Kept → Option Border → Option Kept
+element_at ks None = None
+element_at ks (Some (element n)) = kept_with n ks
+element_at ks (Some (bold n)) = None
+element_at ks (Some (italic n)) = None
+element_at ks (Some end) = None
+
+-- the text comes directly before a mark that ends a line
+abbrev pub is_line_mark : Option Kept → Bool
+is_line_mark None = false
+is_line_mark (Some k) = ends_line k.role
+
+-- a group that is between two `=` of the page
+abbrev pub is_between_equals : Role → Bool
+is_between_equals role.Link = false
+is_between_equals role.External = false
+is_between_equals (role.Bare ends) = false
+is_between_equals role.Switch = false
+is_between_equals role.Toggle = false
+is_between_equals (role.Mark ends began) = false
+is_between_equals (role.Group g) = g.between_equals
+is_between_equals role.Function = false
+is_between_equals role.Node = false
+
+-- two groups that are next to each other in the page, and the visible items nearest to the place between them are both `=`
+abbrev pub are_tied : Option Kept → Option Kept → Bool
+are_tied None right = false
+are_tied (Some k) None = false
+are_tied (Some k) (Some j) = is_group (label k.node).kind && (is_group (label j.node).kind && (k.place.end == j.place.start && is_between_equals j.role))
+
+abbrev pub ends_in_break : List ℕ → Bool
+ends_in_break text = ends_with nat_eq text (byte.line_break ∷ [])
+
+abbrev pub breaks_of : List ℕ → ℕ
+breaks_of text = count_by (λ b. b == byte.line_break) text
+
+-- What was typed in place of a text of the page: with as many line breaks; before a mark that ends a line it ends with a line break
+-- where the old text did, and is empty where that was; and between two groups that `=` tie it stays empty.
+pub record IsTyped (ks : List Kept) (old new : Slot) : Type 0 where
+  pub breaks : breaks_of new.text ≡ breaks_of old.text
+  pub stays_empty : is_line_mark (element_at ks old.right) ≡ true → old.text ≡ [] → new.text ≡ []
+  pub stays_ended : is_line_mark (element_at ks old.right) ≡ true → ends_in_break old.text ≡ true → ends_in_break new.text ≡ true
+  pub stays_tied : are_tied (element_at ks old.left) (element_at ks old.right) ≡ true → new.text ≡ []
+
+-- the page's text, or what was typed in place of it
+abbrev pub IsRetypedText : List Kept → Slot × Slot → Type 0
+IsRetypedText ks (old, new) = (new.text ≡ old.text) ⊎ IsTyped ks old new
+
+-- ---- a block
+
+-- paragraphs and headings
+abbrev pub takes_text : BlockForm → Bool
+takes_text block.Paragraph = true
+takes_text (block.Heading n) = true
+takes_text block.Rule = false
+takes_text block.Item = false
+takes_text block.NoBlock = false
+
+abbrev pub IsOneLine : BlockForm → List Slot → Type 0
+IsOneLine block.Paragraph ss = Unit {0}
+IsOneLine (block.Heading n) ss = AllByRecursion (λ s. has_break s.text ≡ false) ss
+IsOneLine block.Rule ss = Unit {0}
+IsOneLine block.Item ss = Unit {0}
+IsOneLine block.NoBlock ss = Unit {0}
+
+-- the page's element with its number: unchanged, and with the same elements in it
+pub record IsUntouched (page : Page) (t : Tree) : Type 0 where
+  pub kept : Kept
+  pub found : kept_with (label t).id page.kept ≡ Some kept
+  pub unchanged : is_unchanged page kept t ≡ true
+  pub inside : numbers t ≡ numbers kept.node
+
+-- a comment without `-->`, and a part that pages don't show without its closing tag
+abbrev pub is_tag_unclosed : Option Tag → List ℕ → Bool
+is_tag_unclosed None bs = false
+is_tag_unclosed (Some t) bs = not (is_some (with_inside t bs))
+
+abbrev pub is_unclosed : ItemForm → List ℕ → Bool
+is_unclosed form.Chars bs = false
+is_unclosed (form.Entity c) bs = false
+is_unclosed form.Nowiki bs = false
+is_unclosed form.Extension bs = false
+is_unclosed form.Function bs = false
+is_unclosed form.Comment bs = not (holds (codes "-->") (drop 4 bs))
+is_unclosed form.Include bs = false
+is_unclosed form.Hidden bs = is_tag_unclosed (opening_tag bs) bs
+is_unclosed form.EmptyCall bs = false
+
+-- an item of the page itself
+abbrev pub is_unclosed_item : Option Item → Bool
+is_unclosed_item None = false
+is_unclosed_item (Some (char o b)) = false
+is_unclosed_item (Some (whole f None bs)) = is_unclosed f bs
+is_unclosed_item (Some (whole f (Some k) bs)) = false
+
+abbrev pub last_of : List Item → Option Item
+last_of xs = slice_get xs (length xs - 1)
+
+abbrev pub reaches : ℕ → Option Ranges → Bool
+reaches size None = false
+reaches size (Some r) = r.end == size
+
+-- An unclosed mark runs to the page's end, so it is the page's last item; a block holds it where it goes up to there.
+abbrev pub holds_unclosed : List Item → List ℕ → Option Ranges → Bool
+holds_unclosed items page r = is_unclosed_item (last_of items) && reaches (length page) r
+
+-- A paragraph or heading of the page that isn't tangled and holds no unclosed mark, and what it was edited to: its elements are
+-- untouched and in their order, and each text between them is the page's or was typed.
+pub record IsRetyped (same : Tree → Tree → Bool) (items : Expanded) (page : List ℕ) (p : Pair) : Type 0 where
+  pub block : takes_text (edit_shape (label p.old).kind).form ≡ true
+  pub untangled : is_tangled items page p.old ≡ false
+  pub closed : holds_unclosed items.items page (label p.old).ranges ≡ false
+  pub in_order : borders (children_of p.new) ≡ borders (children_of p.old)
+  pub untouched : AllByRecursion (IsUntouched (page_of same p.old)) (elements (children_of p.new))
+  pub texts : AllByRecursion (IsRetypedText (kept_nodes p.old)) (zip (slots (children_of p.old)) (slots (children_of p.new)))
+  pub one_line : IsOneLine (edit_shape (label p.old).kind).form (slots (children_of p.new))
+
+-- ---- a page
+
+-- The edit of a page with these items and this tree passes all checks of marks and numbers, no blocks come or go, each marked block
+-- was retyped, and the new page isn't too long.
+pub record IsTextEdit (same : Tree → Tree → Bool) (items : Expanded) (page : List ℕ) (t edited : Tree) : Type 0 where
+  pub checks : checked false t edited ≡ None
+  pub stays : AllStay edited
+  pub blocks : AllByRecursion (IsRetyped same items page) (marked t edited)
+  pub room : length (spliced page (slices same t edited)) ≤ most_bytes

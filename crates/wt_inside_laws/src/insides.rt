@@ -1,0 +1,23 @@
+//! Text edits of a page and what they leave as it was, as definitions with laws.
+
+ghost use Rattle.std.specs.Prelude.{◌≡◌, ℕ, suc, List, length};
+ghost use Rattle.wt_tree.specs.Source.{flat, flat_of_all};
+ghost use Rattle.wt_tree.specs.Tree.{Tree, Trees};
+ghost use Rattle.wt_inside_laws.specs.Contents.{borders, texts};
+ghost use Rattle.wt_inside_laws.specs.Once.{HasOnce};
+ghost use Rattle.wt_inside_laws.specs.Replaced.{Edit, with_inside};
+ghost use Rattle.wt_inside_laws.specs.Swaps.{Swap};
+
+/// Between the texts of a content are its borders: there is one text more than borders.
+#[tactic(auto, using(crate::proofs::Between::texts_between))]
+pub fn texts_stand_between_borders()
+    ensures { (ts : Trees) → length (texts ts) ≡ suc (length (borders ts)) }
+{}
+
+/// Where the inside of a block of a page is replaced, its source is replaced in the page's, and every other
+/// byte stays.
+#[tactic(auto, using(crate::proofs::Sources::swapped))]
+pub fn only_the_inside_changes()
+    ensures { (e : Edit) (held : Trees) (t : Tree) → HasOnce e.number held t
+        → Swap (flat_of_all held) (flat_of_all e.inside) (flat t) (flat (with_inside e t)) }
+{}

@@ -1,5 +1,0 @@
-pub mod Placeless
-pub mod Recuts
-pub mod Moved
-pub mod Sources
-pub mod Ordinary

@@ -1,0 +1,146 @@
+-- With other blocks at its places that hold their calls, a tree begins and ends with items of the same calls, and its nodes are as clean.
+use Rattle.std.proofs.Common.{◌≡◌, ℕ, Bool, false, Option, List, [], ◌∷◌, ◌++◌, refl, sym, ap, ap₂, ◌∙◌}
+use Rattle.std.specs.Prelude.{◌&&◌, ◌||◌}
+use Rattle.std.specs.List.{list_all, list_any}
+use Rattle.std.proofs.lemmas.List.Folds.{list_any-append}
+use Rattle.wt_tree.specs.Kinds.{is_leaf}
+use Rattle.wt_span.specs.Items.{Item}
+use Rattle.wt_inline.specs.ItemTree.{Head, ItemTree, inner, ItemTrees, forest, tree_items, held_by_all}
+use Rattle.wt_annotated.specs.Clean.{is_page, is_body, own_by}
+use Rattle.wt_annotated.specs.Seams.{last_of, first_of, parted}
+use Rattle.wt_annotated.specs.Walked.{clean_at}
+use Rattle.wt_annotated.proofs.Seams.{first_append, last_append}
+use Rattle.wt_part_laws.specs.Frames.{Frame, place, whole, around, Frames, no_frames, more_frames, tree_at, trees_at, places_in, all_places}
+use Rattle.wt_part_laws.specs.Rounded.{AreOwn}
+use Rattle.wt_part_laws.specs.HeldCalls.{AllHold}
+use Rattle.wt_part_laws.proofs.HeldBlocks.{all_own_hold}
+
+abbrev pub held : (ℕ → ItemTree) → Frames → List Item
+held t fs = held_by_all (forest (trees_at t fs))
+
+pub hold_split : (t : ℕ → ItemTree) (ms ns : List ℕ) → AllHold t (ms ++ ns) → AllHold t ms × AllHold t ns
+hold_split t [] ns h = (tt, h)
+hold_split t (m ∷ ms) ns h = let r = hold_split t ms ns h.1 in ((h.0, r.0), r.1)
+
+-- ---- where they begin and end
+
+first_three : (xs ys zs : List Item) (p : Option ℕ) → first_of (xs ++ (ys ++ zs)) p ≡ first_of xs (first_of ys (first_of zs p))
+first_three xs ys zs p = first_append xs (ys ++ zs) p ∙ ap (first_of xs) (first_append ys zs p)
+
+last_three : (o : Option ℕ) (xs ys zs : List Item) → last_of o (xs ++ (ys ++ zs)) ≡ last_of (last_of (last_of o xs) ys) zs
+last_three o xs ys zs = last_append o xs (ys ++ zs) ∙ last_append (last_of o xs) ys zs
+
+mutual
+  pub first_held : (t w : ℕ → ItemTree) (f : Frame) → AllHold t (places_in f) → AllHold w (places_in f) → (p : Option ℕ)
+      → first_of (tree_items (tree_at t f)) p ≡ first_of (tree_items (tree_at w f)) p
+  first_held t w (place n) g h p =
+      g.0.begins p ∙ sym (h.0.begins p)
+  first_held t w (whole u) g h p = refl
+  first_held t w (around k q gs c) g h p =
+      first_three q (held t gs) c p ∙ ap (first_of q) (firsts_held t w gs g h (first_of c p)) ∙ sym (first_three q (held w gs) c p)
+
+  pub firsts_held : (t w : ℕ → ItemTree) (fs : Frames) → AllHold t (all_places fs) → AllHold w (all_places fs) → (p : Option ℕ)
+      → first_of (held t fs) p ≡ first_of (held w fs) p
+  firsts_held t w no_frames g h p = refl
+  firsts_held t w (more_frames f fs) g h p =
+      let r = hold_split t (places_in f) (all_places fs) g in
+      let s = hold_split w (places_in f) (all_places fs) h in
+      first_append (tree_items (tree_at t f)) (held t fs) p
+      ∙ ap (first_of (tree_items (tree_at t f))) (firsts_held t w fs r.1 s.1 p)
+      ∙ first_held t w f r.0 s.0 (first_of (held w fs) p)
+      ∙ sym (first_append (tree_items (tree_at w f)) (held w fs) p)
+
+mutual
+  pub last_held : (t w : ℕ → ItemTree) (f : Frame) → AllHold t (places_in f) → AllHold w (places_in f) → (o : Option ℕ)
+      → last_of o (tree_items (tree_at t f)) ≡ last_of o (tree_items (tree_at w f))
+  last_held t w (place n) g h o =
+      g.0.ends o ∙ sym (h.0.ends o)
+  last_held t w (whole u) g h o = refl
+  last_held t w (around k q gs c) g h o =
+      last_three o q (held t gs) c ∙ ap (λ (x : Option ℕ). last_of x c) (lasts_held t w gs g h (last_of o q)) ∙ sym (last_three o q (held w gs) c)
+
+  pub lasts_held : (t w : ℕ → ItemTree) (fs : Frames) → AllHold t (all_places fs) → AllHold w (all_places fs) → (o : Option ℕ)
+      → last_of o (held t fs) ≡ last_of o (held w fs)
+  lasts_held t w no_frames g h o = refl
+  lasts_held t w (more_frames f fs) g h o =
+      let r = hold_split t (places_in f) (all_places fs) g in
+      let s = hold_split w (places_in f) (all_places fs) h in
+      last_append o (tree_items (tree_at t f)) (held t fs)
+      ∙ lasts_held t w fs r.1 s.1 (last_of o (tree_items (tree_at t f)))
+      ∙ ap (λ (x : Option ℕ). last_of x (held w fs)) (last_held t w f r.0 s.0 o)
+      ∙ sym (last_append o (tree_items (tree_at w f)) (held w fs))
+
+-- ---- whether they have items of the page
+
+both_any : (xs ys us vs : List Item) → list_any is_page xs ≡ list_any is_page us → list_any is_page ys ≡ list_any is_page vs
+    → list_any is_page (xs ++ ys) ≡ list_any is_page (us ++ vs)
+both_any xs ys us vs e f = list_any-append is_page xs ys ∙ ap₂ (λ (a b : Bool). a || b) e f ∙ sym (list_any-append is_page us vs)
+
+mutual
+  any_held : (t w : ℕ → ItemTree) (f : Frame) → AllHold t (places_in f) → AllHold w (places_in f)
+      → list_any is_page (tree_items (tree_at t f)) ≡ list_any is_page (tree_items (tree_at w f))
+  any_held t w (place n) g h = g.0.some ∙ sym h.0.some
+  any_held t w (whole u) g h = refl
+  any_held t w (around k q gs c) g h =
+      both_any q (held t gs ++ c) q (held w gs ++ c) refl (both_any (held t gs) c (held w gs) c (anys_held t w gs g h) refl)
+
+  anys_held : (t w : ℕ → ItemTree) (fs : Frames) → AllHold t (all_places fs) → AllHold w (all_places fs)
+      → list_any is_page (held t fs) ≡ list_any is_page (held w fs)
+  anys_held t w no_frames g h = refl
+  anys_held t w (more_frames f fs) g h =
+      let r = hold_split t (places_in f) (all_places fs) g in
+      let s = hold_split w (places_in f) (all_places fs) h in
+      both_any (tree_items (tree_at t f)) (held t fs) (tree_items (tree_at w f)) (held w fs) (any_held t w f r.0 s.0) (anys_held t w fs r.1 s.1)
+
+-- ---- whether they are clean
+
+-- a node that is no leaf, by the calls at the ends of what it holds, and by whether it has an item of the page
+abbrev clean_so : Option ℕ → Option ℕ → Head → List Item → List Item → Option ℕ → Option ℕ → Bool → Bool
+clean_so o p k q c first last any =
+    (parted o (first_of q first) && (parted (last_of o q) first && (parted last (first_of c p) && parted (last_of last c) p)))
+    && (list_all is_page (q ++ c) && (is_body k.kind || any))
+
+clean_is : (o p : Option ℕ) (k : Head) (q c : List Item) (ts : ItemTrees) → is_leaf k.kind ≡ false
+    → clean_at o p (inner k q ts c)
+    ≡ clean_so o p k q c (first_of (held_by_all ts) (first_of c p)) (last_of (last_of o q) (held_by_all ts)) (list_any is_page (q ++ (held_by_all ts ++ c)))
+clean_is o p k q c ts e =
+    let i : List Item = held_by_all ts in
+    ap (λ v. (parted o (first_of q (first_of i (first_of c p)))
+    && (parted (last_of o q) (first_of i (first_of c p))
+    && (parted (last_of (last_of o q) i) (first_of c p) && parted (last_of (last_of (last_of o q) i) c) p)))
+    && (list_all is_page (own_by v q i c) && (is_body k.kind || list_any is_page (q ++ (i ++ c))))) e
+
+pub clean_held : (t w : ℕ → ItemTree) (o p : Option ℕ) (k : Head) (q c : List Item) (gs : Frames) → is_leaf k.kind ≡ false
+    → AllHold t (all_places gs) → AllHold w (all_places gs)
+    → clean_at o p (tree_at t (around k q gs c)) ≡ clean_at o p (tree_at w (around k q gs c))
+clean_held t w o p k q c gs e g h =
+    let any : Bool = list_any is_page (q ++ (held t gs ++ c)) in
+    let last : Option ℕ = last_of (last_of o q) (held t gs) in
+    clean_is o p k q c (forest (trees_at t gs)) e
+    ∙ ap (λ x. clean_so o p k q c x last any) (firsts_held t w gs g h (first_of c p))
+    ∙ ap (λ x. clean_so o p k q c (first_of (held w gs) (first_of c p)) x any) (lasts_held t w gs g h (last_of o q))
+    ∙ ap (clean_so o p k q c (first_of (held w gs) (first_of c p)) (last_of (last_of o q) (held w gs))) (any_held t w (around k q gs c) g h)
+    ∙ sym (clean_is o p k q c (forest (trees_at w gs)) e)
+
+-- ---- blocks of the page alone
+
+pub own_split : (t : ℕ → ItemTree) (ms ns : List ℕ) → AreOwn t (ms ++ ns) → AreOwn t ms × AreOwn t ns
+own_split t [] ns h = (tt, h)
+own_split t (m ∷ ms) ns h = let r = own_split t ms ns h.1 in ((h.0, r.0), r.1)
+
+pub firsts_same : (t w : ℕ → ItemTree) (fs : Frames) → AreOwn t (all_places fs) → AreOwn w (all_places fs) → (p : Option ℕ)
+    → first_of (held t fs) p ≡ first_of (held w fs) p
+firsts_same t w fs g h p = firsts_held t w fs (all_own_hold t (all_places fs) g) (all_own_hold w (all_places fs) h) p
+
+pub last_same : (t w : ℕ → ItemTree) (f : Frame) → AreOwn t (places_in f) → AreOwn w (places_in f) → (o : Option ℕ)
+    → last_of o (tree_items (tree_at t f)) ≡ last_of o (tree_items (tree_at w f))
+last_same t w f g h o = last_held t w f (all_own_hold t (places_in f) g) (all_own_hold w (places_in f) h) o
+
+pub lasts_same : (t w : ℕ → ItemTree) (fs : Frames) → AreOwn t (all_places fs) → AreOwn w (all_places fs) → (o : Option ℕ)
+    → last_of o (held t fs) ≡ last_of o (held w fs)
+lasts_same t w fs g h o = lasts_held t w fs (all_own_hold t (all_places fs) g) (all_own_hold w (all_places fs) h) o
+
+pub clean_same : (t w : ℕ → ItemTree) (o p : Option ℕ) (k : Head) (q c : List Item) (gs : Frames) → is_leaf k.kind ≡ false
+    → AreOwn t (all_places gs) → AreOwn w (all_places gs)
+    → clean_at o p (tree_at t (around k q gs c)) ≡ clean_at o p (tree_at w (around k q gs c))
+clean_same t w o p k q c gs e g h = clean_held t w o p k q c gs e (all_own_hold t (all_places gs) g) (all_own_hold w (all_places gs) h)

@@ -1,5 +1,0 @@
-use Rattle.wt_reading_laws.proofs.Gathering.{are_gathered}
-use Rattle.wt_reading_laws.proofs.gather.groups_by_places.Goals as goal
-
-pub returns : goal.returns
-returns c = are_gathered

@@ -1,5 +1,0 @@
-use Rattle.wt_reading_laws.proofs.Tables.{parts_laid_out}
-use Rattle.wt_reading_laws.proofs.table.parts_of_tables.Goals as goal
-
-pub returns : goal.returns
-returns g c = parts_laid_out

@@ -1,9 +1,0 @@
-pub mod Gathering
-pub mod GroupTexts
-pub mod Places
-pub mod Switches
-pub mod TableLayout
-pub mod Told
-pub mod Trimming
-pub mod Occurring
-pub mod Pieces

@@ -1,2 +1,0 @@
-pub mod GroupNodes
-pub mod Written

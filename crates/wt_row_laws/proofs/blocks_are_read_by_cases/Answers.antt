@@ -1,5 +1,0 @@
-use Rattle.wt_row_laws.proofs.BlockCases.{read_by_cases}
-use Rattle.wt_row_laws.proofs.blocks_are_read_by_cases.Goals as goal
-
-pub returns : goal.returns
-returns c = read_by_cases

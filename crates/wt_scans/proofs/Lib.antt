@@ -1,4 +1,0 @@
-pub mod Joins
-pub mod Parted
-pub mod LexemeFronts
-pub mod PartedTiles

@@ -1,3 +1,0 @@
-pub mod Scans
-pub mod Lexer
-pub mod Tiler

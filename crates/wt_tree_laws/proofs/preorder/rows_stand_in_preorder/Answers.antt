@@ -1,8 +1,0 @@
-use Rattle.wt_tree_laws.proofs.Rows.{own_first, stand_together}
-use Rattle.wt_tree_laws.proofs.preorder.rows_stand_in_preorder.Goals as goal
-
-pub returns-clause-own : goal.returns-clause-own
-returns-clause-own c = own_first
-
-pub returns-clause-together : goal.returns-clause-together
-returns-clause-together c = stand_together

@@ -1,5 +1,0 @@
-use Rattle.wt_tree_laws.proofs.Reaches.{gathered_held}
-use Rattle.wt_tree_laws.proofs.sections.sections_hold_what_follows.Goals as goal
-
-pub returns : goal.returns
-returns c = gathered_held

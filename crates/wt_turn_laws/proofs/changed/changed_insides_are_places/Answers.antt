@@ -1,5 +1,0 @@
-use Rattle.wt_turn_laws.proofs.Touching.{changed_inside}
-use Rattle.wt_turn_laws.proofs.changed.changed_insides_are_places.Goals as goal
-
-pub returns : goal.returns
-returns c = changed_inside

@@ -1,5 +1,0 @@
-use Rattle.wt_turn_laws.proofs.Deep.{come_there}
-use Rattle.wt_turn_laws.proofs.changed.what_comes_into_nodes_has_a_place.Goals as goal
-
-pub returns : goal.returns
-returns c = come_there

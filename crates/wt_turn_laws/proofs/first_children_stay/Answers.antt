@@ -1,5 +1,0 @@
-use Rattle.wt_turn_laws.proofs.Choosing.{turns_come_first}
-use Rattle.wt_turn_laws.proofs.first_children_stay.Goals as goal
-
-pub returns : goal.returns
-returns c = turns_come_first

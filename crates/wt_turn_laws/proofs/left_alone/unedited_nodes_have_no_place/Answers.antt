@@ -1,5 +1,0 @@
-use Rattle.wt_turn_laws.proofs.Alone.{unedited_untouched}
-use Rattle.wt_turn_laws.proofs.left_alone.unedited_nodes_have_no_place.Goals as goal
-
-pub returns : goal.returns
-returns c = unedited_untouched

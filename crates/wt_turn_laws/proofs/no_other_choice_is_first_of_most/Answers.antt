@@ -1,5 +1,0 @@
-use Rattle.wt_turn_laws.proofs.Choosing.{no_other}
-use Rattle.wt_turn_laws.proofs.no_other_choice_is_first_of_most.Goals as goal
-
-pub returns : goal.returns
-returns c = no_other

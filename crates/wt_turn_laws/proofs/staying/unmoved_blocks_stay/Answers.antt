@@ -1,5 +1,0 @@
-use Rattle.wt_turn_laws.proofs.Unmoved.{unmoved}
-use Rattle.wt_turn_laws.proofs.staying.unmoved_blocks_stay.Goals as goal
-
-pub returns : goal.returns
-returns c = unmoved

@@ -1,4 +1,0 @@
-pub mod Changed
-pub mod Choices
-pub mod Sent
-pub mod Untouched

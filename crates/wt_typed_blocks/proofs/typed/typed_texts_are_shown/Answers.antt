@@ -1,0 +1,8 @@
+use Rattle.wt_typed_blocks.proofs.SentShows.{page_shows, body_shows}
+use Rattle.wt_typed_blocks.proofs.typed.typed_texts_are_shown.Goals as goal
+
+pub returns-clause-page : goal.returns-clause-page
+returns-clause-page c = page_shows
+
+pub returns-clause-ungrouped : goal.returns-clause-ungrouped
+returns-clause-ungrouped c = body_shows

@@ -1,8 +1,0 @@
-use Rattle.wt_work_laws.proofs.Asking.{told, joined}
-use Rattle.wt_work_laws.proofs.asked.asked_names_stay.Goals as goal
-
-pub returns-clause-told : goal.returns-clause-told
-returns-clause-told c = told
-
-pub returns-clause-joined : goal.returns-clause-joined
-returns-clause-joined c = joined
