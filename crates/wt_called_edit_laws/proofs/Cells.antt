@@ -8,6 +8,7 @@ pub mod OwnParagraphs
 pub mod PlacedBlocks
 pub mod PlacedSpots
 pub mod PlacedLines
+pub mod PlacedAmong
 mod PlacedCases
 pub mod TakenParagraphs
 mod Cases

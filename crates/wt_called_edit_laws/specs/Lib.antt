@@ -39,3 +39,4 @@ pub mod SentAsIs
 pub mod PlacedBlocks
 pub mod PlacedSpots
 pub mod PlacedLines
+pub mod PlacedAmong

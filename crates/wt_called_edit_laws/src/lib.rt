@@ -90,7 +90,8 @@ pub use in_pieces::{
     paragraphs_in_pieces_may_be_written_anew, paragraphs_of_the_page_take_texts_beside_calls,
 };
 pub use placed_blocks::{
-    all_blocks_at_their_places_may_be_edited, blocks_at_their_places_may_be_edited,
+    all_blocks_among_calls_may_be_edited, all_blocks_at_their_places_may_be_edited,
+    blocks_at_their_places_may_be_edited,
     lines_of_a_page_are_blocks_of_it, lines_of_a_page_are_cut_at_its_blocks,
 };
 

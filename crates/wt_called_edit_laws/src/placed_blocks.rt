@@ -9,6 +9,8 @@ ghost use Rattle.wt_text_edit_laws.specs.BlockSpots.{BlockSpot, spots_source};
 ghost use Rattle.wt_text_edit_laws.specs.TextBlocks.{TextBlock, a_paragraph, a_heading};
 ghost use Rattle.wt_text_edit_laws.specs.TypedHeadings.{Sides};
 ghost use Rattle.wt_called_edit_laws.specs.CalledPages.{IsCalledPage};
+ghost use Rattle.wt_called_edit_laws.specs.Covered.{IsEditablePage};
+ghost use Rattle.wt_called_edit_laws.specs.PlacedAmong.{IsPlacedAmong};
 ghost use Rattle.wt_called_edit_laws.specs.PlacedBlocks.{IsBlockIn, block_spot, IsFreeIn, IsHeadingOn, IsParagraphOn};
 ghost use Rattle.wt_called_edit_laws.specs.PlacedLines.{LinedBlock, all_lines, spots_by, end_by, AreLined, IsLinedPage};
 ghost use Rattle.wt_called_edit_laws.specs.PlacedSpots.{IsPlacedPage};
@@ -45,4 +47,12 @@ pub fn lines_of_a_page_are_cut_at_its_blocks()
         → IsPlacedPage (spots_by [] ls) (end_by [] ls behind) }
     ensures called { (pages : Pages) (page : List ℕ) (ls : List LinedBlock) (behind : List (List Item)) → IsLinedPage page ls behind
         → IsCalledPage pages (spots_by [] ls) (end_by [] ls behind) }
+{}
+
+/// So with calls: a page whose items, where calls are characters, are cut at each of any number of paragraphs and headings that
+/// call nothing, so that no call goes over the end of a part, may be edited with them, if by what the calls give each is at
+/// such a place, none is tangled, and none is in a group (`IsPlacedAmong`).
+#[tactic(auto, using(crate::proofs::Cells::PlacedAmong::placed_editable))]
+pub fn all_blocks_among_calls_may_be_edited()
+    ensures { (pages : Pages) (ss : List BlockSpot) (behind : List ℕ) → IsPlacedAmong pages ss behind → IsEditablePage pages ss behind }
 {}
