@@ -4,6 +4,7 @@ use Rattle.std.specs.Str.{IsUtf8}
 use Rattle.wt_span.specs.Items.{Item}
 use Rattle.wt_expand.specs.PageItems.{page_items}
 use Rattle.wt_expand.specs.Work.{Pages}
+use Rattle.wt_part_laws.specs.Expanded.{calls_in}
 use Rattle.wt_text_edit_laws.specs.BlockSpots.{BlockSpot, spots_source, EndBeforeBlocks, IsRead, AreReadAfter, AreContents}
 use Rattle.wt_text_edit_laws.specs.Contents.{IsContent}
 use Rattle.wt_text_edit_laws.specs.NoCalls.{CallsNothing}
@@ -66,7 +67,7 @@ calm_blocks (s ∷ ss) h c =
 
 contents_in : (pages : Pages) (k : ℕ) (ss : List BlockSpot) → AreContents ss → AreContentsIn (spots_among pages k ss)
 contents_in pages k [] h = tt
-contents_in pages k (s ∷ ss) h = (content_items s.block s.text h.0, contents_in pages _ ss h.1)
+contents_in pages k (s ∷ ss) h = (content_items s.block s.text h.0, contents_in pages (k + calls_in pages s.before) ss h.1)
 
 placed_after : (last : TextBlock) (bs : List Bool) (ss : List ItemSpot) (behind : List Item) → AreContentsIn ss → StandAfter last bs ss behind
     → ArePlacedAfter last bs ss behind
