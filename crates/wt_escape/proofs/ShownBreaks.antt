@@ -135,15 +135,13 @@ unfolding nowiki
 guard_breaks true = refl
 guard_breaks false = refl
 
+no_more : (n : ℕ) → 0 + n ≡ n
+no_more n = omega arith
+
 after_space_breaks : (inside : List ℕ) → breaks (after_space inside) ≡ breaks inside
 after_space_breaks [] = refl
 after_space_breaks (b ∷ bs) =
-    let guard : List ℕ = nowiki_if (is_blank b) in
-    let text : List ℕ = b ∷ bs in
-    let e : breaks (guard ++ text) ≡ breaks guard + breaks text = breaks_joined guard text in
-    let f : breaks guard ≡ 0 = guard_breaks (is_blank b) in
-    let sum : breaks guard + breaks text ≡ breaks text = omega (arith, f) in
-    e ∙ sum
+    breaks_joined (nowiki_if (is_blank b)) (b ∷ bs) ∙ ap (λ (n : ℕ). n + breaks (b ∷ bs)) (guard_breaks (is_blank b)) ∙ no_more (breaks (b ∷ bs))
 
 external_breaks : (url inside : List ℕ) → breaks (external_link url inside) ≡ breaks url + breaks inside
 external_breaks url inside =
