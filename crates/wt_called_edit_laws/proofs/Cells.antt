@@ -2,6 +2,7 @@
 mod AnyCases
 mod CalledCases
 mod ClassCases
+mod LineCases
 pub mod AnyPages
 pub mod BodyPages
 pub mod OwnParagraphs

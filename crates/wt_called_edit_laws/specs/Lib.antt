@@ -40,3 +40,4 @@ pub mod PlacedBlocks
 pub mod PlacedSpots
 pub mod PlacedLines
 pub mod PlacedAmong
+pub mod LinedAmong

@@ -31,6 +31,13 @@ abbrev pub end_on : List OuterCall → List Item → List LinedBlock → List (L
 end_on calls es [] behind = text_from calls None (es ++ joined behind)
 end_on calls es (b ∷ bs) behind = end_on calls (ending (joined (b.first ∷ b.more))) bs behind
 
+-- of a page that is expanded
+abbrev pub spots_of_lines : Pages → List ℕ → List LinedBlock → List BlockSpot
+spots_of_lines pages page bs = spots_on (expanded_page pages page).outer [] bs
+
+abbrev pub end_of_lines : Pages → List ℕ → List LinedBlock → List (List Item) → List ℕ
+end_of_lines pages page bs behind = end_on (expanded_page pages page).outer [] bs behind
+
 -- ---- what is asked of their lines
 
 -- it is no function that is kept
@@ -71,8 +78,8 @@ pub record IsLinedAmong (pages : Pages) (page : List ℕ) (bs : List LinedBlock)
   pub are : full_lines (expanded_page pages page).items ≡ all_lines bs behind
   pub lined : AreLined bs behind
   pub own : AreOwnLines bs
-  pub closed : AllClosed (spots_on (expanded_page pages page).outer [] bs) (end_on (expanded_page pages page).outer [] bs behind)
-  pub free : AreFree (spots_on (expanded_page pages page).outer [] bs)
-  pub untouched : AreUntouched (expanded_page pages page).text_calls 0 (spots_on (expanded_page pages page).outer [] bs)
+  pub closed : AllClosed (spots_of_lines pages page bs) (end_of_lines pages page bs behind)
+  pub free : AreFree (spots_of_lines pages page bs)
+  pub untouched : AreUntouched (expanded_page pages page).text_calls 0 (spots_of_lines pages page bs)
   pub unrefused : refusal_of_page pages page ≡ None
-  pub in_no_group : AreInNoGroup 0 (spots_on (expanded_page pages page).outer [] bs) (called_tree pages page)
+  pub in_no_group : AreInNoGroup 0 (spots_of_lines pages page bs) (called_tree pages page)

@@ -93,6 +93,7 @@ pub use placed_blocks::{
     all_blocks_among_calls_may_be_edited, all_blocks_at_their_places_may_be_edited,
     blocks_at_their_places_may_be_edited,
     lines_of_a_page_are_blocks_of_it, lines_of_a_page_are_cut_at_its_blocks,
+    lines_of_an_expanded_page_are_cut_at_its_blocks,
 };
 
 /// A page with blocks among calls, and with calls in them, none of which goes over the end of a part, is expanded part by

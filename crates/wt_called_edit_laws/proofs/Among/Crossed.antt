@@ -6,7 +6,7 @@ use Rattle.std.proofs.lemmas.List.{reverse-append}
 use Rattle.wt_span.specs.declared.form.LexKind.{LexKind}
 use Rattle.wt_span.specs.declared.form.LexKind.TheVariants.{Chars, CommentLine, Comment, Raw, Include, Hidden, Entity, Opens, Closes, LinkOpen, LinkClose, Pipe, Equals}
 use Rattle.wt_span.specs.Lexemes.{Word}
-use Rattle.wt_span.specs.Braces.{Member, Members, lexeme, call, none, more, members, width, width_of_all, has_two, open_left, taken, left_over, rewritten, again, closed_by, with_word, reduced_onto, reduced}
+use Rattle.wt_span.specs.Braces.{Member, lexeme, call, members, width, width_of_all, has_two, open_left, taken, left_over, rewritten, again, closed_by, with_word, reduced_onto, reduced}
 use Rattle.wt_braces.proofs.Closings.{stuck_again}
 use Rattle.wt_braces.proofs.Shapes.{NoRun, Behind, nearest}
 use Rattle.wt_braces.proofs.Takings.{taking, rewritten_at, stuck_free, stuck_few}
@@ -341,14 +341,14 @@ onto_append before (w ∷ ws) vs = onto_append (with_word w before) ws vs
 
 side_by_side : (p : ℕ) (vs ws : List Word) → bytes_in (reduced_onto [] vs) ≡ p → (IsCrossed p (reduced_onto (reduced_onto [] vs) ws) → ⊥)
     → NoRun (reduced_onto [] vs) ⊎ Behind (reduced_onto [] vs) → AreApart vs ws
-side_by_side p vs ws e no (inl free) = inl (none_opens vs free)
-side_by_side p vs ws e no (inr b) =
+side_by_side p vs ws e free_of (inl free) = inl (none_opens vs free)
+side_by_side p vs ws e free_of (inr b) =
     let first : List Member = reduced_onto [] vs in
     let f : bytes_in first ≡ bytes_in b.inside + (b.braces + bytes_in b.rest) = ap bytes_in b.is ∙ bytes_append b.inside (lexeme (Opens, b.braces) ∷ b.rest) in
     let at : IsBehind p first = record { run = b; low = omega (arith, e, f); high = omega (arith, e) } in
     elim (meets p first at ws [] tt) [
       | inl short ↦ inr (none_closes ws short)
-      | inr crossed ↦ absurd (no crossed)
+      | inr crossed ↦ absurd (free_of crossed)
     ]
 
 -- where a run of characters of both goes over the border
@@ -375,30 +375,30 @@ run_behind p xs i j e b =
 
 over_run : (p : ℕ) (vs ws : List Word) (i j : ℕ) → i + bytes_in (reduced_onto [] vs) ≡ p → (IsCrossed p (reduced_onto (in_run vs (i + j)) ws) → ⊥)
     → NoRun (reduced_onto [] vs) ⊎ Behind (reduced_onto [] vs) → AreApart (vs ++ (Chars, i) ∷ []) ((Chars, j) ∷ ws)
-over_run p vs ws i j e no (inl free) =
+over_run p vs ws i j e free_of (inl free) =
     let free_so : NoRun (in_run vs i) = (refl, free) in
     inl (none_opens (vs ++ (Chars, i) ∷ []) (subst NoRun (sym (onto_append [] vs ((Chars, i) ∷ []))) free_so))
-over_run p vs ws i j e no (inr b) =
+over_run p vs ws i j e free_of (inr b) =
     elim (meets p (in_run vs (i + j)) (run_behind p (reduced_onto [] vs) i j e b) ws [] tt) [
       | inl short ↦
         let one : List Member = lexeme (Chars, j) ∷ [] in
         let all : reduced_onto one ws ≡ reduced_onto [] ws ++ one = onto_calm ws [] one (refl, tt) in
         let none : NoneCloses one = (omega arith, tt) in
         inr (none_closes ((Chars, j) ∷ ws) (subst NoneCloses (sym all) (closes_both (reduced_onto [] ws) one short none)))
-      | inr crossed ↦ absurd (no crossed)
+      | inr crossed ↦ absurd (free_of crossed)
     ]
 
 -- no call of both goes over this place, at which the first one ends
 pub apart_by_place : (p : ℕ) (vs ws us : List Word) → AreMet vs ws us → bytes_in (reduced_onto [] vs) ≡ p → (IsCrossed p (reduced_onto [] us) → ⊥) → AreApart vs ws
-apart_by_place p vs ws us (inl e) size no =
+apart_by_place p vs ws us (inl e) size free_of =
     let is : reduced_onto [] us ≡ reduced_onto (reduced_onto [] vs) ws = ap (reduced_onto []) e ∙ onto_append [] vs ws in
-    side_by_side p vs ws size (λ c. no (subst (IsCrossed p) (sym is) c)) (nearest (reduced_onto [] vs))
-apart_by_place p vs ws us (inr m) size no =
+    side_by_side p vs ws size (λ c. free_of (subst (IsCrossed p) (sym is) c)) (nearest (reduced_onto [] vs))
+apart_by_place p vs ws us (inr m) size free_of =
     let n : ℕ = m.first + m.second in
     let is : reduced_onto [] us ≡ reduced_onto (in_run m.before n) m.after = ap (reduced_onto []) m.both_are ∙ onto_append [] m.before ((Chars, n) ∷ m.after) in
     let front : reduced_onto [] vs ≡ in_run m.before m.first = ap (reduced_onto []) m.vs_are ∙ onto_append [] m.before ((Chars, m.first) ∷ []) in
     let at : m.first + bytes_in (reduced_onto [] m.before) ≡ p = sym (ap bytes_in front) ∙ size in
     let a : AreApart (m.before ++ (Chars, m.first) ∷ []) ((Chars, m.second) ∷ m.after) =
-    over_run p m.before m.after m.first m.second at (λ c. no (subst (IsCrossed p) (sym is) c)) (nearest (reduced_onto [] m.before)) in
+    over_run p m.before m.after m.first m.second at (λ c. free_of (subst (IsCrossed p) (sym is) c)) (nearest (reduced_onto [] m.before)) in
     let P : List Word → List Word → Type 0 = λ xs ys. AreApart xs ys in
     subst (λ xs. P xs ws) (sym m.vs_are) (subst (λ ys. P (m.before ++ (Chars, m.first) ∷ []) ys) (sym m.ws_are) a)

@@ -28,6 +28,10 @@ abbrev mutual
   flat_all none = []
   flat_all (more m ms) = flat m ++ flat_all ms
 
+-- a call's, with what is between its braces
+abbrev call_words : ℕ → List Word → List Word
+call_words k ws = (Opens, k) ∷ (ws ++ (Closes, k) ∷ [])
+
 abbrev flat_list : List Member → List Word
 flat_list xs = flat_all (members xs)
 
@@ -147,7 +151,7 @@ back_same c k le =
 -- of the run, what is in the call, and what is behind it
 inner_same : (o c k : ℕ) (inside after : List Word) → k ≤ o → k ≤ c
     → AreSame ((Opens, o) ∷ (inside ++ (Closes, c) ∷ after))
-    (flat_list (left_over Opens (o - k)) ++ ((Opens, k) ∷ (inside ++ (Closes, k) ∷ [])) ++ (flat_list (left_over Closes (c - k)) ++ after))
+    (flat_list (left_over Opens (o - k)) ++ (call_words k inside ++ (flat_list (left_over Closes (c - k)) ++ after)))
 inner_same o c k inside after opens closes =
     let first : List Word = flat_list (left_over Opens (o - k)) in
     let last : List Word = flat_list (left_over Closes (c - k)) in
@@ -158,13 +162,13 @@ inner_same o c k inside after opens closes =
     (same_behind ((Closes, c) ∷ []) ((Closes, k) ∷ last) after (back_same c k closes))) in
     let two : AreSame ((Opens, o) ∷ rest) ((first ++ (Opens, k) ∷ []) ++ rest) =
     same_behind ((Opens, o) ∷ []) (first ++ (Opens, k) ∷ []) rest (front_same o k opens) in
-    let is : (first ++ (Opens, k) ∷ []) ++ rest ≡ first ++ (((Opens, k) ∷ (inside ++ (Closes, k) ∷ [])) ++ (last ++ after)) =
+    let is : (first ++ (Opens, k) ∷ []) ++ rest ≡ first ++ (call_words k inside ++ (last ++ after)) =
     append_assoc first ((Opens, k) ∷ []) rest
     ∙ ap (λ us. first ++ (Opens, k) ∷ us) (sym (append_assoc inside ((Closes, k) ∷ []) (last ++ after))) in
     same_both ((Opens, o) ∷ (inside ++ (Closes, c) ∷ after)) ((first ++ (Opens, k) ∷ []) ++ rest)
-    (first ++ (((Opens, k) ∷ (inside ++ (Closes, k) ∷ [])) ++ (last ++ after)))
+    (first ++ (call_words k inside ++ (last ++ after)))
     (same_both ((Opens, o) ∷ (inside ++ (Closes, c) ∷ after)) ((Opens, o) ∷ rest) ((first ++ (Opens, k) ∷ []) ++ rest) one two)
-    (same_so ((first ++ (Opens, k) ∷ []) ++ rest) (first ++ (((Opens, k) ∷ (inside ++ (Closes, k) ∷ [])) ++ (last ++ after))) is)
+    (same_so ((first ++ (Opens, k) ∷ []) ++ rest) (first ++ (call_words k inside ++ (last ++ after))) is)
 
 from_flat : (before : List Member) (o : ℕ) (inside : List Member) (c : ℕ) (after : List Member)
     → flat_list ((before ++ lexeme (Opens, o) ∷ inside) ++ lexeme (Closes, c) ∷ after)
@@ -176,11 +180,11 @@ from_flat before o inside c after =
 
 to_flat : (before over : List Member) (k : ℕ) (inside rest after : List Member)
     → flat_list (before ++ (over ++ call k (members inside) ∷ (rest ++ after)))
-    ≡ flat_list before ++ (flat_list over ++ (((Opens, k) ∷ (flat_list inside ++ (Closes, k) ∷ [])) ++ (flat_list rest ++ flat_list after)))
+    ≡ flat_list before ++ (flat_list over ++ (call_words k (flat_list inside) ++ (flat_list rest ++ flat_list after)))
 to_flat before over k inside rest after =
     flat_append before (over ++ call k (members inside) ∷ (rest ++ after))
     ∙ ap (λ us. flat_list before ++ us) (flat_append over (call k (members inside) ∷ (rest ++ after)))
-    ∙ ap (λ us. flat_list before ++ (flat_list over ++ (((Opens, k) ∷ (flat_list inside ++ (Closes, k) ∷ [])) ++ us))) (flat_append rest after)
+    ∙ ap (λ us. flat_list before ++ (flat_list over ++ (call_words k (flat_list inside) ++ us))) (flat_append rest after)
 
 step_same : (from to : List Member) → IsStep from to → AreSame (flat_list from) (flat_list to)
 step_same from to s =
@@ -189,7 +193,7 @@ step_same from to s =
     let over : List Member = left_over Opens (s.opening - k) in
     let rest : List Member = left_over Closes (s.closing - k) in
     let was : List Word = (Opens, s.opening) ∷ (flat_list s.inside ++ (Closes, s.closing) ∷ flat_list s.after) in
-    let now : List Word = flat_list over ++ (((Opens, k) ∷ (flat_list s.inside ++ (Closes, k) ∷ [])) ++ (flat_list rest ++ flat_list s.after)) in
+    let now : List Word = flat_list over ++ (call_words k (flat_list s.inside) ++ (flat_list rest ++ flat_list s.after)) in
     let first : flat_list from ≡ flat_list s.before ++ was = ap flat_list s.from_is ∙ from_flat s.before s.opening s.inside s.closing s.after in
     let last : flat_list to ≡ flat_list s.before ++ now = ap flat_list s.to_is ∙ to_flat s.before over k s.inside rest s.after in
     same_both (flat_list from) (flat_list s.before ++ was) (flat_list to) (same_so (flat_list from) (flat_list s.before ++ was) first)

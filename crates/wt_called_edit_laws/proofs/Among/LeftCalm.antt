@@ -6,7 +6,8 @@ use Rattle.std.proofs.lemmas.List.{reverse-append}
 use Rattle.wt_span.specs.declared.form.LexKind.TheVariants.{Chars, CommentLine, Comment, Raw, Include, Hidden, Entity, Opens, Closes, LinkOpen, LinkClose, Pipe, Equals}
 use Rattle.wt_span.specs.Lexemes.{Word}
 use Rattle.wt_span.specs.Braces.{Member, lexeme, call, members, open_left, taken, left_over, rewritten, again, closed_by, with_word, reduced_onto, reduced}
-use Rattle.wt_braces.proofs.Closings.{lowered, fixed_by}
+use Rattle.wt_braces.proofs.Closings.{lowered}
+use Rattle.wt_braces.proofs.Reached.{fixed_by}
 use Rattle.wt_braces.proofs.Shapes.{NoRun, Behind, nearest}
 use Rattle.wt_braces.proofs.Takings.{taking, stuck_free, stuck_few}
 use Rattle.wt_part_laws.specs.Apart.{close_left, NoneOpens, NoneCloses, AreApart}
@@ -34,21 +35,21 @@ no_two n few = grind (arith, nat_tests)
 
 closes_left : (xs : List Member) → NoneCloses xs → NoneClose (left_in xs)
 closes_left [] h = tt
-closes_left (x ∷ xs) h = by (nat_le 2 (open_left (Some x))) (nat_le 2 (close_left x)) (no_two (close_left x) h.0)
+closes_left (x ∷ xs) h = by (nat_le 2 (open_left (Some x))) (nat_le 2 (close_left x)) (no_two (close_left x) h.0) (closes_left xs h.1)
   where
-    by : (o c : Bool) → c ≡ false → NoneClose (left_by o c (left_in xs))
-    by true c e = closes_left xs h.1
-    by false true e = absurd (cc)
-    by false false e = closes_left xs h.1
+    by : (o c : Bool) → c ≡ false → NoneClose (left_in xs) → NoneClose (left_by o c (left_in xs))
+    by true c e g = g
+    by false true e g = absurd (cc)
+    by false false e g = g
 
 opens_left : (xs : List Member) (bs : List Brace) → NoneOpens xs → NonePairs bs → NonePairs (left_in xs ++ bs)
 opens_left [] bs h g = g
-opens_left (x ∷ xs) bs h g = by (nat_le 2 (open_left (Some x))) (nat_le 2 (close_left x)) (no_two (open_left (Some x)) h.0)
+opens_left (x ∷ xs) bs h g = by (nat_le 2 (open_left (Some x))) (nat_le 2 (close_left x)) (no_two (open_left (Some x)) h.0) (opens_left xs bs h.1 g)
   where
-    by : (o c : Bool) → o ≡ false → NonePairs (left_by o c (left_in xs) ++ bs)
-    by true c e = absurd (cc)
-    by false true e = opens_left xs bs h.1 g
-    by false false e = opens_left xs bs h.1 g
+    by : (o c : Bool) → o ≡ false → NonePairs (left_in xs ++ bs) → NonePairs (left_by o c (left_in xs) ++ bs)
+    by true c e r = absurd (cc)
+    by false true e r = r
+    by false false e r = r
 
 -- two texts of which neither ends a call that begins in the other one
 pub apart_pairs : (vs ws : List Word) → AreApart vs ws → NonePairs (left_in (reduced vs)) → NonePairs (left_in (reduced ws))

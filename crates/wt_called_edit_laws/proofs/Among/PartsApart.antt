@@ -60,7 +60,7 @@ uncrossed p (x ∷ xs) h c =
     let e : 0 + width_of_all (members (reverse xs)) ≡ bytes_in xs = omega (arith, s) in
     elim c [
       | inl o ↦ one_uncrossed p (bytes_in xs) x (subst (λ (n : ℕ). IsClearOf p n x) e r.1.0) o
-      | inr more ↦ uncrossed p xs r.0 more
+      | inr d ↦ uncrossed p xs r.0 d
     ]
 
 clear_onto : (p : ℕ) (us : List Word) → IsClear p 0 (members (reduced us)) → IsClear p 0 (members (reverse (reduced_onto [] us)))

@@ -1,5 +1,5 @@
 -- A page with calls that is cut at paragraphs and headings which call nothing: its parts are read and expanded each by itself, and it may be edited.
-use Rattle.std.proofs.Common.{◌≡◌, inr, ℕ, Bool, List, [], ◌∷◌, refl, sym, ap, ◌∙◌, subst}
+use Rattle.std.proofs.Common.{◌≡◌, inr, ℕ, ◌+◌, Bool, List, [], ◌∷◌, refl, sym, ap, ◌∙◌, subst}
 use Rattle.std.specs.Str.{IsUtf8}
 use Rattle.wt_span.specs.Items.{Item}
 use Rattle.wt_expand.specs.PageItems.{page_items}
@@ -7,7 +7,7 @@ use Rattle.wt_expand.specs.Work.{Pages}
 use Rattle.wt_part_laws.specs.Expanded.{calls_in}
 use Rattle.wt_text_edit_laws.specs.BlockSpots.{BlockSpot, spots_source, EndBeforeBlocks, IsRead, AreReadAfter, AreContents}
 use Rattle.wt_text_edit_laws.specs.Contents.{IsContent}
-use Rattle.wt_text_edit_laws.specs.NoCalls.{CallsNothing}
+use Rattle.wt_text_edit_laws.specs.NoCalls.{NonePairs, CallsNothing}
 use Rattle.wt_text_edit_laws.specs.PageCuts.{EndsThere, AreFurtherCuts, AreCuts, AreFree}
 use Rattle.wt_text_edit_laws.specs.TextBlocks.{TextBlock, source_of}
 use Rattle.wt_text_edit_laws.proofs.Blocks.BlockReading.{read_spot, read_spots}
@@ -17,6 +17,7 @@ use Rattle.wt_called_edit_laws.specs.AnyBlocks.{open_behind_part, past_break}
 use Rattle.wt_called_edit_laws.specs.CalledBlocks.{CallNothing, AreAmongCalls, spots_among, items_behind}
 use Rattle.wt_called_edit_laws.specs.Covered.{IsEditablePage}
 use Rattle.wt_called_edit_laws.specs.ItemSpots.{ItemSpot, ArePlacedAfter, ArePlaced, AreContentsIn}
+use Rattle.wt_called_edit_laws.specs.Parts.{all_left, AreCalled}
 use Rattle.wt_called_edit_laws.specs.PlacedAmong.{AreCalm, StandAfter, Stand, IsPlacedAmong}
 use Rattle.wt_called_edit_laws.proofs.Cells.ContentItems.{content_items}
 use Rattle.wt_called_edit_laws.proofs.Parts.NoCallsCalled.{contents_after, calm_anywhere}
@@ -81,20 +82,25 @@ placed (s ∷ ss) behind c h = ((c.0, h.0, h.1), placed_after s.block (open_behi
 
 -- ---- the page
 
+-- where no call goes over the end of a part
+pub parts_called : (pages : Pages) (s : BlockSpot) (ss : List BlockSpot) (behind : List ℕ) → PartsRead s ss behind → AreCalm (s ∷ ss) → NonePairs (all_left (s ∷ ss) behind)
+    → AreCalled pages (s ∷ ss) behind
+parts_called pages s ss behind r c apart =
+    let contents : AreContents (s ∷ ss) = (r.first.block, contents_after ss behind r.rest) in (
+      read_spot s r.first,
+      read_spots ss behind r.rest,
+      record { end_before = r.ends; anywhere = calm_anywhere pages (s ∷ ss) contents (calm_blocks (s ∷ ss) contents c); apart = apart },
+    )
+
 pub placed_among : (pages : Pages) (ss : List BlockSpot) (behind : List ℕ) → IsPlacedAmong pages ss behind → AreAmongCalls pages ss behind
 placed_among pages [] behind h = absurd h.cuts
 placed_among pages (s ∷ ss) behind h =
     let r : PartsRead s ss behind = parts_read s ss behind h.utf8 h.cuts h.calm h.free in
     let contents : AreContents (s ∷ ss) = (r.first.block, contents_after ss behind r.rest) in
-    let calm : CallNothing (s ∷ ss) = calm_blocks (s ∷ ss) contents h.calm in
     record {
-      called = (
-        read_spot s r.first,
-        read_spots ss behind r.rest,
-        record { end_before = r.ends; anywhere = calm_anywhere pages (s ∷ ss) contents calm; apart = h.apart },
-      );
+      called = parts_called pages s ss behind r h.calm h.apart;
       contents = contents;
-      calm = calm;
+      calm = calm_blocks (s ∷ ss) contents h.calm;
       placed = placed (spots_among pages 0 (s ∷ ss)) (items_behind pages 0 (s ∷ ss) behind) (contents_in pages 0 (s ∷ ss) contents) h.stand;
     }
 

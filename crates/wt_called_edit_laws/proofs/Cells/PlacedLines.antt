@@ -34,12 +34,12 @@ use Rattle.wt_called_edit_laws.proofs.Cells.PlacedBlocks.{own_first, own_rest, o
 
 -- ---- one block
 
-rows_by : (bs : List Bool) (ls : List (List Item)) → full_lines (joined ls) ≡ ls → empty_end (joined ls) ≡ [] ∷ []
+pub rows_by : (bs : List Bool) (ls : List (List Item)) → full_lines (joined ls) ≡ ls → empty_end (joined ls) ≡ [] ∷ []
     → rows_of_part bs (joined ls) ≡ written_rows (length bs) ls
 rows_by bs ls are whole =
     ap (λ (xs : List Item). written_rows (length bs) (full_lines xs)) (no_marks_end (joined ls) whole) ∙ ap (written_rows (length bs)) are
 
-leads_by : (k : TextBlock) (bs : List Bool) (ls : List (List Item)) → full_lines (joined ls) ≡ ls → empty_end (joined ls) ≡ [] ∷ []
+pub leads_by : (k : TextBlock) (bs : List Bool) (ls : List (List Item)) → full_lines (joined ls) ≡ ls → empty_end (joined ls) ≡ [] ∷ []
     → AllTrue (open_after bs (written_rows (length bs) ls)) → EndsFor k (written_rows (length bs) ls) → LeadsInto k bs (joined ls)
 leads_by k bs ls are whole cells apart =
     let same : rows_of_part bs (joined ls) ≡ written_rows (length bs) ls = rows_by bs ls are whole in
@@ -49,7 +49,7 @@ leads_by k bs ls are whole cells apart =
       apart = subst (EndsFor k) (sym same) apart;
     }
 
-own_block : (k : TextBlock) (n : ℕ) (q : List ℕ) (ts : List (List Item)) (y : Item) (ys : List Item) → joined ts ≡ y ∷ ys → full_lines (joined ts) ≡ ts
+pub own_block : (k : TextBlock) (n : ℕ) (q : List ℕ) (ts : List (List Item)) (y : Item) (ys : List Item) → joined ts ≡ y ∷ ys → full_lines (joined ts) ≡ ts
     → OwnLined k n q ts → AreBlockItems k q (content (joined ts)) × StayText k n (content (joined ts))
 own_block a_paragraph n q ts y ys is e h =
     let told = own_lines n (joined ts) ts y ys is e h.0 in
@@ -58,15 +58,15 @@ own_block (a_heading s) n q ts y ys is e h = (h, tt)
 
 -- ---- line breaks
 
-past_end : (ys : List Item) → empty_end ys ≡ [] ∷ [] → empty_end (break ∷ ys) ≡ [] ∷ []
+pub past_end : (ys : List Item) → empty_end ys ≡ [] ∷ [] → empty_end (break ∷ ys) ≡ [] ∷ []
 past_end [] e = refl
 past_end (y ∷ ys) e = e
 
-some_lines : (us : List (List Item)) (m : List Item) (ms : List (List Item)) → (l : List Item) × (ls : List (List Item)) × (us ++ m ∷ ms ≡ l ∷ ls)
+pub some_lines : (us : List (List Item)) (m : List Item) (ms : List (List Item)) → (l : List Item) × (ls : List (List Item)) × (us ++ m ∷ ms ≡ l ∷ ls)
 some_lines [] m ms = (m, ms, refl)
 some_lines (u ∷ us) m ms = (u, us ++ m ∷ ms, refl)
 
-lines_end : (last : TextBlock) (n : ℕ) (es : List Item) (ls : List (List Item)) → IsEnding es → ((m : List Item) (ms : List (List Item)) → ls ≡ m ∷ ms → es ≡ break ∷ [])
+pub lines_end : (last : TextBlock) (n : ℕ) (es : List Item) (ls : List (List Item)) → IsEnding es → ((m : List Item) (ms : List (List Item)) → ls ≡ m ∷ ms → es ≡ break ∷ [])
     → full_lines (joined ls) ≡ ls → LinesApart last n ls → EndsThere (sources (es ++ joined ls)) × EndsAfter last n (es ++ joined ls)
 lines_end a_paragraph n [] [] i f are s = (tt, tt)
 lines_end a_paragraph n (x ∷ es) [] i f are s =
@@ -81,27 +81,29 @@ lines_end (a_heading t) n es (m ∷ ms) i f are s =
 
 -- ---- the parts round a block
 
-record Round (b : LinedBlock) (ts tail : List (List Item)) : Type 0 where
-  y : Item
-  ys : List Item
-  some : joined ts ≡ y ∷ ys
-  front_are : full_lines (joined b.before) ≡ b.before
-  front_whole : empty_end (joined b.before) ≡ [] ∷ []
-  own_are : full_lines (joined ts) ≡ ts
-  tail_runs : AreRuns goes_on tail (joined tail)
-  tail_breaks : OwnBreaks (joined tail)
-  front_breaks : OwnBreaks (joined b.before)
-  own_ending : IsEnding (ending (joined ts))
-  ends : (m : List Item) (ms : List (List Item)) → tail ≡ m ∷ ms → ending (joined ts) ≡ break ∷ []
-  items : joined (b.before ++ (ts ++ tail)) ≡ joined b.before ++ (content (joined ts) ++ (ending (joined ts) ++ joined tail))
+pub record Round (b : LinedBlock) (ts tail : List (List Item)) : Type 0 where
+  pub y : Item
+  pub ys : List Item
+  pub some : joined ts ≡ y ∷ ys
+  pub front_are : full_lines (joined b.before) ≡ b.before
+  pub front_whole : empty_end (joined b.before) ≡ [] ∷ []
+  pub own_are : full_lines (joined ts) ≡ ts
+  pub tail_runs : AreRuns goes_on tail (joined tail)
+  pub own_ending : IsEnding (ending (joined ts))
+  pub ends : (m : List Item) (ms : List (List Item)) → tail ≡ m ∷ ms → ending (joined ts) ≡ break ∷ []
+  pub items : joined (b.before ++ (ts ++ tail)) ≡ joined b.before ++ (content (joined ts) ++ (ending (joined ts) ++ joined tail))
 
-text_ending : (ps : List Item) (y : Item) (ys : List Item) → ps ≡ y ∷ ys → OwnBreaks ps → empty_end ps ≡ [] ∷ [] → ending ps ≡ break ∷ []
+pub text_ending : (ps : List Item) (y : Item) (ys : List Item) → ps ≡ y ∷ ys → OwnBreaks ps → empty_end ps ≡ [] ∷ [] → ending ps ≡ break ∷ []
 text_ending [] y ys is o e = cc
 text_ending (x ∷ ps) y ys is o e = ending_break x ps o e
 
-round : (b : LinedBlock) (tail : List (List Item)) (xs : List Item) → AreRuns goes_on (b.before ++ ((b.first ∷ b.more) ++ tail)) xs → OwnBreaks xs
-    → Round b (b.first ∷ b.more) tail
-round b tail xs runs breaks =
+parts_joined : (b : LinedBlock) (ts tail : List (List Item)) → joined (b.before ++ (ts ++ tail)) ≡ joined b.before ++ (joined ts ++ joined tail)
+parts_joined b ts tail = joined_both b.before (ts ++ tail) ∙ ap (λ (ys : List Item). joined b.before ++ ys) (joined_both ts tail)
+
+-- whose line breaks are the page's own
+pub round : (b : LinedBlock) (tail : List (List Item)) (xs : List Item) → AreRuns goes_on (b.before ++ ((b.first ∷ b.more) ++ tail)) xs
+    → OwnBreaks (joined (b.first ∷ b.more)) → Round b (b.first ∷ b.more) tail
+round b tail xs runs text_breaks =
     let ts : List (List Item) = b.first ∷ b.more in
     let text : List Item = joined ts in
     let front : List Item = joined b.before in
@@ -109,11 +111,6 @@ round b tail xs runs breaks =
     let later : AreRuns goes_on (ts ++ tail) (joined (ts ++ tail)) = runs_behind goes_on b.before (ts ++ tail) xs runs in
     let own_runs : AreRuns goes_on ts text = runs_before goes_on ts tail (joined (ts ++ tail)) later in
     let some = some_items [] b.first b.more text own_runs in
-    let all : joined (b.before ++ (ts ++ tail)) ≡ front ++ (text ++ last) =
-    joined_both b.before (ts ++ tail) ∙ ap (λ (ys : List Item). front ++ ys) (joined_both ts tail) in
-    let o : OwnBreaks (front ++ (text ++ last)) = subst OwnBreaks (joined_is goes_on (b.before ++ (ts ++ tail)) xs runs ∙ all) breaks in
-    let o2 : OwnBreaks (text ++ last) = own_rest front (text ++ last) o in
-    let text_breaks : OwnBreaks text = own_first text last o2 in
     record {
       y = some.0;
       ys = some.1;
@@ -122,13 +119,28 @@ round b tail xs runs breaks =
       front_whole = whole_before b.before b.first (b.more ++ tail) xs runs;
       own_are = lines_of ts own_runs;
       tail_runs = runs_behind goes_on ts tail (joined (ts ++ tail)) later;
-      tail_breaks = own_rest text last o2;
-      front_breaks = own_first front (text ++ last) o;
       own_ending = ending_own text text_breaks;
       ends = λ m ms e. text_ending text some.0 some.1 some.2 text_breaks
           (whole_before ts m ms (joined (ts ++ m ∷ ms)) (subst (λ (ls : List (List Item)). AreRuns goes_on (ts ++ ls) (joined (ts ++ ls))) e later));
-      items = all ∙ ap (λ (zs : List Item). front ++ (zs ++ last)) (sym (content_ending text))
+      items = parts_joined b ts tail ∙ ap (λ (zs : List Item). front ++ (zs ++ last)) (sym (content_ending text))
           ∙ ap (λ (zs : List Item). front ++ zs) (append_assoc (content text) (ending text) last);
+    }
+
+-- of a page that calls nothing each line break is its own
+record AllBreaks (b : LinedBlock) (ts tail : List (List Item)) : Type 0 where
+  front : OwnBreaks (joined b.before)
+  text : OwnBreaks (joined ts)
+  rest : OwnBreaks (joined tail)
+
+all_breaks : (b : LinedBlock) (ts tail : List (List Item)) (xs : List Item) → AreRuns goes_on (b.before ++ (ts ++ tail)) xs → OwnBreaks xs → AllBreaks b ts tail
+all_breaks b ts tail xs runs o =
+    let all : OwnBreaks (joined b.before ++ (joined ts ++ joined tail)) =
+    subst OwnBreaks (joined_is goes_on (b.before ++ (ts ++ tail)) xs runs ∙ parts_joined b ts tail) o in
+    let later : OwnBreaks (joined ts ++ joined tail) = own_rest (joined b.before) (joined ts ++ joined tail) all in
+    record {
+      front = own_first (joined b.before) (joined ts ++ joined tail) all;
+      text = own_first (joined ts) (joined tail) later;
+      rest = own_rest (joined ts) (joined tail) later;
     }
 
 -- ---- all blocks
@@ -144,7 +156,8 @@ further last bs (b ∷ ls) behind xs es runs o i f c h =
     let tail : List (List Item) = all_lines ls behind in
     let some = some_lines b.before b.first (b.more ++ tail) in
     let e : es ≡ break ∷ [] = f some.0 some.1 some.2 in
-    let r : Round b ts tail = round b tail xs runs o in
+    let breaks : AllBreaks b ts tail = all_breaks b ts tail xs runs o in
+    let r : Round b ts tail = round b tail xs runs breaks.text in
     let front : List Item = joined b.before in
     let own : List Item = content (joined ts) in
     let rest : List Item = ending (joined ts) ++ joined tail in
@@ -163,14 +176,14 @@ further last bs (b ∷ ls) behind xs es runs o i f c h =
         source = refl;
         block = block.0;
       },
-      ended_bytes (break ∷ front) ((λ t. refl), r.front_breaks) (past_end front r.front_whole),
+      ended_bytes (break ∷ front) ((λ t. refl), breaks.front) (past_end front r.front_whole),
       refl,
       d.0,
       (refl, subst (NextApart last b.block) (sym same) h.0),
       leads_by b.block bs b.before r.front_are r.front_whole h.1.0 h.1.1,
       subst (λ (rs : List Row). StayText b.block (length (open_after bs rs)) own) (sym same) block.1,
       subst (λ (rs : List Row). AreFurtherIn b.block (open_after bs rs) (spots_by (ending (joined ts)) ls) (end_by (ending (joined ts)) ls behind) rest) (sym same)
-          (further b.block (open_after bs rows) ls behind (joined tail) (ending (joined ts)) r.tail_runs r.tail_breaks r.own_ending r.ends d.1 h.2),
+          (further b.block (open_after bs rows) ls behind (joined tail) (ending (joined ts)) r.tail_runs breaks.rest r.own_ending r.ends d.1 h.2),
     )) c
 
 placed : (ls : List LinedBlock) (behind : List (List Item)) (xs : List Item) → page_items (spots_source (spots_by [] ls) (end_by [] ls behind)) ≡ xs
@@ -181,7 +194,8 @@ placed (b ∷ ls) behind xs e are o c h =
     let ts : List (List Item) = b.first ∷ b.more in
     let tail : List (List Item) = all_lines ls behind in
     let runs : AreRuns goes_on (b.before ++ (ts ++ tail)) xs = subst (λ (ks : List (List Item)). AreRuns goes_on ks xs) are (runs_are goes_on xs) in
-    let r : Round b ts tail = round b tail xs runs o in
+    let breaks : AllBreaks b ts tail = all_breaks b ts tail xs runs o in
+    let r : Round b ts tail = round b tail xs runs breaks.text in
     let front : List Item = joined b.before in
     let own : List Item = content (joined ts) in
     let rest : List Item = ending (joined ts) ++ joined tail in
@@ -196,17 +210,17 @@ placed (b ∷ ls) behind xs e are o c h =
         source = refl;
         block = block.0;
       },
-      ended_bytes front r.front_breaks r.front_whole,
+      ended_bytes front breaks.front r.front_whole,
       c.0,
       leads_by b.block [] b.before r.front_are r.front_whole h.0.0 h.0.1,
       subst (λ (rs : List Row). StayText b.block (length (open_after [] rs)) own) (sym same) block.1,
       subst (λ (rs : List Row). AreFurtherIn b.block (open_after [] rs) (spots_by (ending (joined ts)) ls) (end_by (ending (joined ts)) ls behind) rest) (sym same)
-          (further b.block (open_after [] rows) ls behind (joined tail) (ending (joined ts)) r.tail_runs r.tail_breaks r.own_ending r.ends c.1 h.1),
+          (further b.block (open_after [] rows) ls behind (joined tail) (ending (joined ts)) r.tail_runs breaks.rest r.own_ending r.ends c.1 h.1),
     )
 
 -- ---- they are the page
 
-own_source : (k : TextBlock) (n : ℕ) (q : List ℕ) (ts : List (List Item)) → OwnLined k n q ts → sources (content (joined ts)) ≡ source_of k q
+pub own_source : (k : TextBlock) (n : ℕ) (q : List ℕ) (ts : List (List Item)) → OwnLined k n q ts → sources (content (joined ts)) ≡ source_of k q
 own_source a_paragraph n q ts h = h.2
 own_source (a_heading s) n q ts h = block_source (a_heading s) q (content (joined ts)) h
 
