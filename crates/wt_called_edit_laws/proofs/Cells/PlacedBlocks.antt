@@ -1,9 +1,9 @@
 -- A paragraph or a heading of a page where it is in it: its content may be edited.
-use Rattle.std.proofs.Common.{◌≡◌, ℕ, Bool, true, false, List, [], ◌∷◌, ◌++◌, length, map, append-nil, All, refl, sym, ap, ◌∙◌, subst, append_assoc}
+use Rattle.std.proofs.Common.{◌≡◌, ℕ, ◌+◌, Bool, true, false, not, List, [], ◌∷◌, ◌++◌, length, map, append-nil, All, refl, sym, ap, ◌∙◌, subst, append_assoc, cond}
 use Rattle.std.proofs.lemmas.List.Elements.{All-nil, All-cons}
 use Rattle.std.specs.Str.{IsUtf8}
 use Rattle.std.proofs.lemmas.Grind.{flat_map-append}
-use Rattle.wt_span.specs.Items.{Item, source, sources}
+use Rattle.wt_span.specs.Items.{Item, char, whole, is_mark_form, source, sources}
 use Rattle.wt_span.specs.declared.form.Mode.TheVariants.{Page}
 use Rattle.wt_span.specs.Runs.{AreRuns}
 use Rattle.wt_span.proofs.RunLaws.{runs_are}
@@ -15,7 +15,7 @@ use Rattle.wt_lines.specs.Lines.{full_lines, lines, content, empty_end, goes_on}
 use Rattle.wt_page.specs.Lines.{ending}
 use Rattle.wt_page.proofs.Ends.{content_ending}
 use Rattle.wt_tables.specs.Parts.{joined}
-use Rattle.wt_page.specs.Rows.{rows_from}
+use Rattle.wt_page.specs.Rows.{marks_len, rows_from}
 use Rattle.wt_expand.specs.PageItems.{page_items}
 use Rattle.wt_expand.specs.Work.{Pages}
 use Rattle.wt_part_laws.specs.Slots.{AllTrue}
@@ -30,7 +30,7 @@ use Rattle.wt_text_edit_laws.specs.TextBlocks.{TextBlock, a_paragraph, a_heading
 use Rattle.wt_text_edit_laws.specs.TypedHeadings.{Sides, EndsLine}
 use Rattle.wt_text_edit_laws.proofs.Cuts.ItemCuts.{page_cut, cut_from, alone_after, front_alone, behind_alone}
 use Rattle.wt_text_edit_laws.proofs.Cuts.Unmarked.{unmarked_begins}
-use Rattle.wt_text_edit_laws.proofs.Cuts.TextLines.{runs_behind, runs_before, joined_is, joined_both, lines_of, whole_before, no_marks_end, ending_break, IsEnding, ending_own, some_items, content_lines, AllUnled, contents_unled, lines_unled, texts_are, ended_bytes}
+use Rattle.wt_text_edit_laws.proofs.Cuts.TextLines.{runs_behind, runs_before, joined_is, joined_both, lines_of, whole_before, no_marks_end, ending_break, IsEnding, ending_own, some_items, content_lines, texts_are, ended_bytes}
 use Rattle.wt_text_edit_laws.proofs.Cuts.RowLines.{AllText}
 use Rattle.wt_text_edit_laws.proofs.Paragraphs.LineBlocks.{OwnBreaks, page_breaks}
 use Rattle.wt_beside_laws.proofs.Derived.BlockContents.{block_source, there_begins}
@@ -197,15 +197,21 @@ heading_in page s q h =
 
 own_texts : (n : ℕ) (ls : List (List Item)) → AreLinesAt n ls → AllText 0 ls
 own_texts n [] h = tt
-own_texts n (l ∷ ls) h = (h.0, own_texts n ls h.3)
+own_texts n (l ∷ ls) h = (h.0, own_texts n ls h.2)
 
-own_unled : (n : ℕ) (ls : List (List Item)) → AreLinesAt n ls → AllUnled ls
-own_unled n [] h = tt
-own_unled n (l ∷ ls) h = (h.2, own_unled n ls h.3)
+-- where no mark is behind the blanks that begin some items, none begins them
+unmarked_unled : (xs : List Item) → begins_unmarked xs ≡ true → marks_len xs ≡ 0
+unmarked_unled [] e = refl
+unmarked_unled (char o b ∷ xs) e = refl
+unmarked_unled (whole f o bs ∷ xs) e = by (is_mark_form f) e
+  where
+    by : (v : Bool) → not v ≡ true → cond v (1 + marks_len xs) 0 ≡ 0
+    by true h = cc
+    by false h = refl
 
 texts_at : (n : ℕ) (ls : List (List Item)) → AreLinesAt n ls → All (λ (l : List Item). line_kind n l ≡ line.Text) (map content ls)
 texts_at n [] h = All-nil (λ (l : List Item). line_kind n l ≡ line.Text)
-texts_at n (l ∷ ls) h = All-cons (λ (l : List Item). line_kind n l ≡ line.Text) (content l) (map content ls) h.1 (texts_at n ls h.3)
+texts_at n (l ∷ ls) h = All-cons (λ (l : List Item). line_kind n l ≡ line.Text) (content l) (map content ls) h.1 (texts_at n ls h.2)
 
 pub record OwnLines (n : ℕ) (ps : List Item) : Type 0 where
   pub items : begins_unmarked (content ps) ≡ true → AreTextItems (sources (content ps)) (content ps)
@@ -219,7 +225,7 @@ own_lines n (x ∷ ps) ts y ys is e h =
       items = λ m. record {
         source = refl;
         are_lines = subst (λ (ls : List (List Item)). All IsTextLine ls) (sym own) (texts_are ts (own_texts n ts h));
-        unled = lines_unled (content (x ∷ ps)) (subst AllUnled (sym own) (contents_unled ts (own_unled n ts h)));
+        unled = unmarked_unled (content (x ∷ ps)) m;
         unmarked = m;
       };
       stays = subst (λ (ls : List (List Item)). All (λ (l : List Item). line_kind n l ≡ line.Text) ls) (sym own) (texts_at n ts h);
