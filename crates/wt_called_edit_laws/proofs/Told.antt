@@ -3,6 +3,7 @@ pub mod Signs
 pub mod HeadLevels
 pub mod HeadParts
 pub mod HeadItems
+pub mod RestEnds
 pub mod OwnReads
 pub mod FreeNodes
 pub mod ToldPages
