@@ -1,14 +1,12 @@
 -- A heading of a page by its line alone: it is of a heading's kind, begins with `=`, and something is between its delimiters.
-use Rattle.std.specs.Prelude.{◌≡◌, ◌≤◌, ◌+◌, ℕ, true, List, [], ◌∷◌, ◌++◌, length, take, drop, codes}
+use Rattle.std.specs.Prelude.{◌≡◌, ◌≤◌, ◌+◌, ℕ, true, List, length, take, drop, codes}
 use Rattle.wt_span.specs.Bytes.{blank_len, begins}
-use Rattle.wt_span.specs.Characters as byte
 use Rattle.wt_span.specs.Items.{Item, sources}
 use Rattle.wt_lines.specs.declared.kind.LineKind.TheVariants as line
 use Rattle.wt_lines.specs.Lines.{content}
 use Rattle.wt_blocks.specs.Headings.{level, opening, inside, closing}
 use Rattle.wt_page.specs.Lines.{kind_at}
 use Rattle.wt_page.specs.Rows.{signs}
-use Rattle.wt_text_edit_laws.specs.TextBetween.{HasEnds}
 use Rattle.wt_text_edit_laws.specs.TypedHeadings.{Sides}
 
 -- of the close delimiter, the blanks before its `=`
@@ -29,9 +27,8 @@ sides_of l = record {
 abbrev pub text_of : List Item → List ℕ
 text_of l = sources (inside l)
 
--- A line where so many tables are open. No mark is before its first `=`, and what begins behind its last `=` ends there.
+-- A line where so many tables are open. No mark is before its first `=`.
 pub record IsLinedHeading (n : ℕ) (l : List Item) : Type 0 where
   pub is_heading : kind_at n l ≡ line.Heading
   pub first : begins (codes "=") (signs l) ≡ true
   pub some : 1 ≤ length (inside (content l))
-  pub ends : HasEnds ((sides_of (content l)).rest ++ byte.line_break ∷ [])

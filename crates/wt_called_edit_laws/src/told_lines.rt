@@ -9,7 +9,7 @@ ghost use Rattle.wt_lines.specs.Lines.{content, full_lines};
 ghost use Rattle.wt_expand.specs.PageItems.{page_items};
 ghost use Rattle.wt_expand.specs.Work.{Pages};
 ghost use Rattle.wt_selser.specs.Edits.{is_tangled};
-ghost use Rattle.wt_text_edit_laws.specs.PageCuts.{AreBlockItems};
+ghost use Rattle.wt_text_edit_laws.specs.PageCuts.{AreBlockItems, EndsClosed};
 ghost use Rattle.wt_text_edit_laws.specs.TextBlocks.{TextBlock, a_heading, block_tree};
 ghost use Rattle.wt_called_edit_laws.specs.CalledPages.{IsCalledPage};
 ghost use Rattle.wt_called_edit_laws.specs.EditsAt.{IsStanding};
@@ -20,10 +20,10 @@ ghost use Rattle.wt_called_edit_laws.specs.ToldLines.{Told, lined, IsToldPage};
 
 /// A heading's line is told by itself. Where one of a page's lines, behind the marks that begin it, is of a heading's kind and
 /// begins with `=`, and something is between its delimiters (`IsLinedHeading`), it is the line of a heading with the sides and
-/// the text that these delimiters give it.
+/// the text that these delimiters give it. At the page's end no comment and no hidden part is open.
 pub fn headings_are_told_by_their_lines()
-    ensures { (page : List ℕ) (before : List (List Item)) (marks : List Item) (l : List Item) (behind : List (List Item)) (n : ℕ) → 1 ≤ length l
-        → full_lines (page_items page) ≡ before ++ (marks ++ l) ∷ behind → IsLinedHeading n l
+    ensures { (page : List ℕ) (before : List (List Item)) (marks : List Item) (l : List Item) (behind : List (List Item)) (n : ℕ) → EndsClosed page []
+        → 1 ≤ length l → full_lines (page_items page) ≡ before ++ (marks ++ l) ∷ behind → IsLinedHeading n l
         → AreBlockItems (a_heading (sides_of (content l))) (text_of (content l)) (content l) }
 {}
 

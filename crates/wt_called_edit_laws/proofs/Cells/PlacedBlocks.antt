@@ -1,9 +1,9 @@
 -- A paragraph or a heading of a page where it is in it: its content may be edited.
-use Rattle.std.proofs.Common.{◌≡◌, ℕ, ◌+◌, Bool, true, false, not, List, [], ◌∷◌, ◌++◌, length, map, append-nil, All, refl, sym, ap, ◌∙◌, subst, append_assoc, cond}
+use Rattle.std.proofs.Common.{◌≡◌, ℕ, Bool, true, false, List, [], ◌∷◌, ◌++◌, length, map, append-nil, All, refl, sym, ap, ◌∙◌, subst, append_assoc}
 use Rattle.std.proofs.lemmas.List.Elements.{All-nil, All-cons}
 use Rattle.std.specs.Str.{IsUtf8}
 use Rattle.std.proofs.lemmas.Grind.{flat_map-append}
-use Rattle.wt_span.specs.Items.{Item, char, whole, is_mark_form, source, sources}
+use Rattle.wt_span.specs.Items.{Item, source, sources}
 use Rattle.wt_span.specs.declared.form.Mode.TheVariants.{Page}
 use Rattle.wt_span.specs.Runs.{AreRuns}
 use Rattle.wt_span.proofs.RunLaws.{runs_are}
@@ -15,7 +15,7 @@ use Rattle.wt_lines.specs.Lines.{full_lines, lines, content, empty_end, goes_on}
 use Rattle.wt_page.specs.Lines.{ending}
 use Rattle.wt_page.proofs.Ends.{content_ending}
 use Rattle.wt_tables.specs.Parts.{joined}
-use Rattle.wt_page.specs.Rows.{marks_len, rows_from}
+use Rattle.wt_page.specs.Rows.{rows_from}
 use Rattle.wt_expand.specs.PageItems.{page_items}
 use Rattle.wt_expand.specs.Work.{Pages}
 use Rattle.wt_part_laws.specs.Slots.{AllTrue}
@@ -44,6 +44,7 @@ use Rattle.wt_called_edit_laws.specs.PlacedBlocks.{IsBlockIn, block_spot, IsFree
 use Rattle.wt_called_edit_laws.proofs.CalmPages.{calm_contents}
 use Rattle.wt_called_edit_laws.proofs.Cells.ContentItems.{content_items}
 use Rattle.wt_called_edit_laws.proofs.Cells.SpotSlots.{open_size}
+use Rattle.wt_called_edit_laws.proofs.Told.Unled.{unmarked_unled}
 
 -- ---- where it is
 
@@ -198,16 +199,6 @@ heading_in page s q h =
 own_texts : (n : ℕ) (ls : List (List Item)) → AreLinesAt n ls → AllText 0 ls
 own_texts n [] h = tt
 own_texts n (l ∷ ls) h = (h.0, own_texts n ls h.2)
-
--- where no mark is behind the blanks that begin some items, none begins them
-unmarked_unled : (xs : List Item) → begins_unmarked xs ≡ true → marks_len xs ≡ 0
-unmarked_unled [] e = refl
-unmarked_unled (char o b ∷ xs) e = refl
-unmarked_unled (whole f o bs ∷ xs) e = by (is_mark_form f) e
-  where
-    by : (v : Bool) → not v ≡ true → cond v (1 + marks_len xs) 0 ≡ 0
-    by true h = cc
-    by false h = refl
 
 texts_at : (n : ℕ) (ls : List (List Item)) → AreLinesAt n ls → All (λ (l : List Item). line_kind n l ≡ line.Text) (map content ls)
 texts_at n [] h = All-nil (λ (l : List Item). line_kind n l ≡ line.Text)

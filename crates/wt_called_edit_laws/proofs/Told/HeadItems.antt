@@ -6,12 +6,19 @@ use Rattle.std.proofs.lemmas.Bool.{eqb-true}
 use Rattle.std.proofs.lemmas.Bool.Decides.{nat_tests}
 use Rattle.std.proofs.lemmas.List.{map-append, length-map, length-take}
 use Rattle.std.proofs.lemmas.List.Elements.{All-head, All-tail}
-use Rattle.wt_span.specs.Bytes.{is_blank, blank_len, begins}
+use Rattle.std.proofs.lemmas.Grind.{flat_map-append}
+use Rattle.wt_span.specs.declared.form.Mode.TheVariants.{Page}
+use Rattle.wt_span.specs.Bytes.{is_blank, is_break, blank_len, begins}
 use Rattle.wt_span.specs.Items.{Item, char, whole, call_of, is_mark_form, sign, source, sources}
 use Rattle.wt_span.specs.declared.form.ItemForm.{ItemForm}
 use Rattle.wt_span.specs.Runs.{IsRun}
 use Rattle.wt_lex.proofs.Begins.{begins_get}
+use Rattle.wt_lines.specs.Kinds.{is_idle}
 use Rattle.wt_lines.specs.Lines.{is_break_item, goes_on, content}
+use Rattle.wt_expand.specs.PageItems.{page_items}
+use Rattle.wt_expand.proofs.PageLaws.{char_sources, page_sources}
+use Rattle.wt_part_laws.specs.Lexer.{lexer}
+use Rattle.wt_part_laws.specs.Scans.{after_all}
 use Rattle.wt_blocks.specs.Headings.{core, level_of, open_len, inside_len, level, opening, inside, closing}
 use Rattle.wt_page.specs.Lines.{ending}
 use Rattle.wt_page.specs.Rows.{signs}
@@ -20,9 +27,13 @@ use Rattle.wt_text_edit_laws.specs.LonePages.{page_chars}
 use Rattle.wt_text_edit_laws.specs.PageCuts.{AreHeadingItems}
 use Rattle.wt_text_edit_laws.specs.TextBetween.{HasEnds}
 use Rattle.wt_text_edit_laws.specs.TypedHeadings.{Sides, equals, opening as opening_of, AreBlanks, AreIdle, BeginsWithout, EndsWithout, NoBreaks, IsHeadingInside}
+use Rattle.wt_text_edit_laws.proofs.Between.Fronts.{items_from}
+use Rattle.wt_text_edit_laws.proofs.Cuts.ItemCuts.{cut_from, page_cut}
+use Rattle.wt_text_edit_laws.proofs.Paragraphs.LineBlocks.{OwnBreaks}
 use Rattle.wt_called_edit_laws.specs.LinedHeadings.{blanks_behind, sides_of, text_of, IsLinedHeading}
 use Rattle.wt_called_edit_laws.proofs.Told.HeadLevels.{core_cut}
 use Rattle.wt_called_edit_laws.proofs.Told.HeadParts.{LineCut, line_cut}
+use Rattle.wt_called_edit_laws.proofs.Told.RestEnds.{NoLess, rest_ends}
 use Rattle.wt_called_edit_laws.proofs.Told.Signs.{AllPass, pass_len, run_length}
 
 -- ---- items cut where their signs are
@@ -157,7 +168,7 @@ record ItemsCut (xs : List Item) : Type 0 where
   ends : EndsWithout is_blank (map sign own)
   some : 1 ≤ level xs
   most : level xs ≤ 6
-  open : open_len (core (map sign xs)) ≡ length front
+  opened : open_len (core (map sign xs)) ≡ length front
   size : inside_len (core (map sign xs)) ≡ length own
 
 size_of : (xs : List Item) (ss : List ℕ) → map sign xs ≡ ss → length xs ≡ length ss
@@ -188,7 +199,7 @@ items_cut xs c =
       ends = subst (EndsWithout is_blank) (sym second.first) c.ends;
       some = c.some;
       most = c.most;
-      open = c.open ∙ omega (arith, front_size, length-append (equals n) c.lead, run_length n);
+      opened = c.opened ∙ omega (arith, front_size, length-append (equals n) c.lead, run_length n);
       size = c.inside ∙ sym (size_of second.front c.own second.first);
     }
 
@@ -197,13 +208,13 @@ items_cut xs c =
 opening_so : (xs : List Item) (c : ItemsCut xs) → opening xs ≡ c.front
 unfolding opening
 opening_so xs c =
-    ap (λ (k : ℕ). take k xs) c.open ∙ ap (take (length c.front)) c.is ∙ take-append_seam c.front (c.own ++ (c.back ++ c.rest))
+    ap (λ (k : ℕ). take k xs) c.opened ∙ ap (take (length c.front)) c.is ∙ take-append_seam c.front (c.own ++ (c.back ++ c.rest))
 
 inside_so : (xs : List Item) (c : ItemsCut xs) → inside xs ≡ c.own
 unfolding inside
 inside_so xs c =
     ap (λ (k : ℕ). take k (drop (open_len (core (map sign xs))) xs)) c.size
-    ∙ ap (λ (k : ℕ). take (length c.own) (drop k xs)) c.open
+    ∙ ap (λ (k : ℕ). take (length c.own) (drop k xs)) c.opened
     ∙ ap (λ (ys : List Item). take (length c.own) (drop (length c.front) ys)) c.is
     ∙ ap (take (length c.own)) (drop-append_seam c.front (c.own ++ (c.back ++ c.rest)))
     ∙ take-append_seam c.own (c.back ++ c.rest)
@@ -212,7 +223,7 @@ closing_so : (xs : List Item) (c : ItemsCut xs) → closing xs ≡ c.back ++ c.r
 unfolding closing
 closing_so xs c =
     let size : length c.front + length c.own ≡ length (c.front ++ c.own) = omega (arith, length-append c.front c.own) in
-    ap (λ (k : ℕ). drop (k + inside_len (core (map sign xs))) xs) c.open
+    ap (λ (k : ℕ). drop (k + inside_len (core (map sign xs))) xs) c.opened
     ∙ ap (λ (k : ℕ). drop (length c.front + k) xs) c.size
     ∙ ap (λ (k : ℕ). drop k xs) size
     ∙ ap (drop (length (c.front ++ c.own))) (c.is ∙ sym (append_assoc c.front c.own (c.back ++ c.rest)))
@@ -267,24 +278,28 @@ sides_so xs c =
 
 -- ---- a line of the page
 
+chars_front : (xs : List Item) (c : ItemsCut xs) → AllOwn xs → c.front ≡ page_chars (equals (level xs) ++ c.lead)
+chars_front xs c own =
+    chars_are c.front (equals (level xs) ++ c.lead) c.front_signs
+    (bytes_both (equals (level xs)) c.lead (run_bytes (level xs)) (blank_bytes c.lead c.lead_blanks))
+    (own_front c.front (c.own ++ (c.back ++ c.rest)) (subst AllOwn c.is own))
+
+chars_back : (xs : List Item) (c : ItemsCut xs) → AllOwn xs → c.back ≡ page_chars (c.trail ++ equals (level xs))
+chars_back xs c own =
+    chars_are c.back (c.trail ++ equals (level xs)) c.back_signs
+    (bytes_both c.trail (equals (level xs)) (blank_bytes c.trail c.trail_blanks) (run_bytes (level xs)))
+    (own_front c.back c.rest (own_back c.own (c.back ++ c.rest) (own_back c.front (c.own ++ (c.back ++ c.rest)) (subst AllOwn c.is own))))
+
 heading_items : (xs : List Item) (c : ItemsCut xs) → AllOwn xs → NoBreaks xs → HasEnds (sources c.rest ++ 10 ∷ [])
     → AreHeadingItems (sides_by (level xs) c.lead c.trail (sources c.rest)) (sources c.own) xs
 heading_items xs c own unbroken ends =
     let n : ℕ = level xs in
-    let all : AllOwn (c.front ++ (c.own ++ (c.back ++ c.rest))) = subst AllOwn c.is own in
-    let front : c.front ≡ page_chars (equals n ++ c.lead) =
-    chars_are c.front (equals n ++ c.lead) c.front_signs (bytes_both (equals n) c.lead (run_bytes n) (blank_bytes c.lead c.lead_blanks))
-    (own_front c.front (c.own ++ (c.back ++ c.rest)) all) in
-    let behind : AllOwn (c.back ++ c.rest) = own_back c.own (c.back ++ c.rest) (own_back c.front (c.own ++ (c.back ++ c.rest)) all) in
-    let back : c.back ≡ page_chars (c.trail ++ equals n) =
-    chars_are c.back (c.trail ++ equals n) c.back_signs (bytes_both c.trail (equals n) (blank_bytes c.trail c.trail_blanks) (run_bytes n))
-    (own_front c.back c.rest behind) in
     let broken : NoBreaks (c.own ++ (c.back ++ c.rest)) = unbroken_back c.front (c.own ++ (c.back ++ c.rest)) (subst NoBreaks c.is unbroken) in
     record {
       own = c.own;
       rest = c.rest;
-      is = c.is ∙ ap (λ (ys : List Item). ys ++ (c.own ++ (c.back ++ c.rest))) front
-          ∙ ap (λ (ys : List Item). page_chars (equals n ++ c.lead) ++ (c.own ++ (ys ++ c.rest))) back;
+      is = c.is ∙ ap (λ (ys : List Item). ys ++ (c.own ++ (c.back ++ c.rest))) (chars_front xs c own)
+          ∙ ap (λ (ys : List Item). page_chars (equals n ++ c.lead) ++ (c.own ++ (ys ++ c.rest))) (chars_back xs c own);
       source = refl;
       rest_source = refl;
       some = c.some;
@@ -297,14 +312,90 @@ heading_items xs c own unbroken ends =
       of_level = refl;
     }
 
-told_items : (xs : List Item) → ItemsCut xs → AllOwn xs → NoBreaks xs → HasEnds ((sides_of xs).rest ++ 10 ∷ []) → AreHeadingItems (sides_of xs) (text_of xs) xs
+told_items : (xs : List Item) (c : ItemsCut xs) → AllOwn xs → NoBreaks xs → HasEnds (sources c.rest ++ 10 ∷ []) → AreHeadingItems (sides_of xs) (text_of xs) xs
 told_items xs c own unbroken ends =
     let sides : sides_of xs ≡ sides_by (level xs) c.lead c.trail (sources c.rest) = sides_so xs c in
     let text : text_of xs ≡ sources c.own = ap sources (inside_so xs c) in
-    let there : HasEnds (sources c.rest ++ 10 ∷ []) = subst (λ (s : Sides). HasEnds (s.rest ++ 10 ∷ [])) sides ends in
     subst (λ (s : Sides). AreHeadingItems s (text_of xs) xs) (sym sides)
     (subst (λ (q : List ℕ). AreHeadingItems (sides_by (level xs) c.lead c.trail (sources c.rest)) q xs) (sym text)
-    (heading_items xs c own unbroken there))
+    (heading_items xs c own unbroken ends))
+
+-- ---- behind its last `=`
+
+idle_less : (xs : List Item) → AreIdle (map sign xs) → NoLess xs
+idle_less [] h = tt
+idle_less (x ∷ xs) h = ((λ z. let y : true ≡ false = sym h.0 ∙ ap is_idle z in cc), idle_less xs h.1)
+
+after_joined : (bs cs : List ℕ) (a : Bool) → after_all (lexer Page) a (bs ++ cs) ≡ after_all (lexer Page) (after_all (lexer Page) a bs) cs
+after_joined [] cs a = refl
+after_joined (b ∷ bs) cs a = after_joined bs cs (is_break b)
+
+run_after : (n : ℕ) (a : Bool) → 1 ≤ n → after_all (lexer Page) a (equals n) ≡ false
+run_after zero a some = absurd (omega (arith, some))
+run_after (suc zero) a some = refl
+run_after (suc (suc n)) a some = run_after (suc n) false (omega arith)
+
+-- what is before it ends with a `=`
+back_after : (front : List ℕ) (n : ℕ) (trail : List ℕ) (back : List Item) → 1 ≤ n → back ≡ page_chars (trail ++ equals n)
+    → after_all (lexer Page) false (front ++ sources back) ≡ false
+back_after front n trail back some e =
+    ap (λ (ys : List Item). after_all (lexer Page) false (front ++ sources ys)) e
+    ∙ ap (λ (bs : List ℕ). after_all (lexer Page) false (front ++ bs)) (char_sources (trail ++ equals n))
+    ∙ ap (after_all (lexer Page) false) (sym (append_assoc front trail (equals n)))
+    ∙ after_joined (front ++ trail) (equals n) false
+    ∙ run_after n (after_all (lexer Page) false (front ++ trail)) some
+
+-- this is read behind it, before a line break
+rest_read : (page : List ℕ) (before rest more : List Item) → page_items page ≡ before ++ (rest ++ char None 10 ∷ more)
+    → after_all (lexer Page) false (sources before) ≡ false → items_from false 0 (sources rest ++ 10 ∷ []) ≡ rest ++ char None 10 ∷ []
+rest_read page before rest more e flag =
+    let break : List Item = char None 10 ∷ [] in
+    let there : List Item = rest ++ char None 10 ∷ more in
+    let whole : page ≡ sources before ++ sources there =
+    sym (page_sources page) ∙ ap sources e ∙ flat_map-append source before there in
+    let first = page_cut (sources before) (sources there) before there (ap page_items (sym whole) ∙ e) refl in
+    let behind : items_from false 0 (sources there) ≡ there = sym (ap (λ (v : Bool). items_from v 0 (sources there)) flag) ∙ first.behind in
+    let cut : there ≡ (rest ++ break) ++ more = sym (append_assoc rest break more) in
+    let bytes : sources there ≡ sources (rest ++ break) ++ sources more = ap sources cut ∙ flat_map-append source (rest ++ break) more in
+    let all : items_from false 0 (sources (rest ++ break) ++ sources more) ≡ (rest ++ break) ++ more =
+    ap (items_from false 0) (sym bytes) ∙ behind ∙ cut in
+    let second = cut_from false (sources (rest ++ break)) (sources more) (rest ++ break) more all refl in
+    ap (items_from false 0) (sym (flat_map-append source rest break)) ∙ second.front
+
+items_end : (page : List ℕ) (before xs more : List Item) (c : ItemsCut xs) → AllOwn xs → page_items page ≡ before ++ (xs ++ char None 10 ∷ more)
+    → HasEnds (sources c.rest ++ 10 ∷ [])
+items_end page before xs more c own e =
+    let tail : List Item = char None 10 ∷ more in
+    let front : List Item = before ++ (c.front ++ c.own) in
+    let there : page_items page ≡ (front ++ c.back) ++ (c.rest ++ tail) =
+    e ∙ ap (λ (ys : List Item). before ++ (ys ++ tail)) c.is
+    ∙ ap (λ (ys : List Item). before ++ ys) (append_assoc c.front (c.own ++ (c.back ++ c.rest)) tail
+    ∙ ap (λ (ys : List Item). c.front ++ ys) (append_assoc c.own (c.back ++ c.rest) tail ∙ ap (λ (ys : List Item). c.own ++ ys) (append_assoc c.back c.rest tail))
+    ∙ sym (append_assoc c.front c.own (c.back ++ (c.rest ++ tail))))
+    ∙ sym (append_assoc before (c.front ++ c.own) (c.back ++ (c.rest ++ tail)))
+    ∙ sym (append_assoc front c.back (c.rest ++ tail)) in
+    let flag : after_all (lexer Page) false (sources (front ++ c.back)) ≡ false =
+    ap (after_all (lexer Page) false) (flat_map-append source front c.back)
+    ∙ back_after (sources front) (level xs) c.trail c.back c.some (chars_back xs c own) in
+    rest_ends (sources c.rest) c.rest (rest_read page (front ++ c.back) c.rest more there flag) refl (idle_less c.rest c.rest_signs)
+
+-- ---- what ends the line
+
+true_by : (v : Bool) → not v ≡ false → v ≡ true
+true_by true e = refl
+true_by false e = cc
+
+-- where a line break is behind all lines, one is behind each
+pub line_ended : (l others : List Item) → IsRun goes_on l others → OwnBreaks l → (more : List Item) × (ending l ++ (others ++ char None 10 ∷ []) ≡ char None 10 ∷ more)
+line_ended [] others h o = absurd h
+line_ended (x ∷ []) others h o = by (is_break_item x) refl others h
+  where
+    by : (v : Bool) → is_break_item x ≡ v → (ys : List Item) → IsRun goes_on (x ∷ []) ys
+        → (more : List Item) × ((if v then x ∷ [] else []) ++ (ys ++ char None 10 ∷ []) ≡ char None 10 ∷ more)
+    by true e ys h = (ys ++ char None 10 ∷ [], ap (λ (z : Item). z ∷ (ys ++ char None 10 ∷ [])) (o.0 e))
+    by false e [] h = ([], refl)
+    by false e (y ∷ ys) h = let z : true ≡ false = sym (true_by (is_break_item x) h) ∙ e in absurd (cc)
+line_ended (x ∷ y ∷ l) others h o = line_ended (y ∷ l) others h.1 o.1
 
 inside_some : (xs : List Item) → 1 ≤ length (inside xs) → 1 ≤ inside_len (core (map sign xs))
 unfolding inside
@@ -329,10 +420,15 @@ begins_content (x ∷ []) e = by x e
             absurd (omega (arith, ten, equal))
 begins_content (x ∷ y ∷ l) e = e
 
-pub lined_heading : (n : ℕ) (l others : List Item) → IsRun goes_on l others → AllOwn l → IsLinedHeading n l
-    → AreHeadingItems (sides_of (content l)) (text_of (content l)) (content l)
-lined_heading n l others run own h =
+pub lined_heading : (n : ℕ) (page : List ℕ) (before l others : List Item) → page_items page ≡ before ++ (l ++ (others ++ char None 10 ∷ []))
+    → IsRun goes_on l others → AllOwn l → OwnBreaks l → IsLinedHeading n l → AreHeadingItems (sides_of (content l)) (text_of (content l)) (content l)
+lined_heading n page before l others e run own breaks h =
     let xs : List Item = content l in
     let core_is = core_cut n (map sign xs) (begins_content l h.first) h.is_heading in
-    let cut = line_cut (map sign xs) core_is (inside_some xs h.some) in
-    told_items xs (items_cut xs cut) (own_front xs (ending l) (subst AllOwn (sym (content_ending l)) own)) (line_unbroken l others run) h.ends
+    let c : ItemsCut xs = items_cut xs (line_cut (map sign xs) core_is (inside_some xs h.some)) in
+    let mine : AllOwn xs = own_front xs (ending l) (subst AllOwn (sym (content_ending l)) own) in
+    let last = line_ended l others run breaks in
+    let there : page_items page ≡ before ++ (xs ++ char None 10 ∷ last.0) =
+    e ∙ ap (λ (ys : List Item). before ++ (ys ++ (others ++ char None 10 ∷ []))) (sym (content_ending l))
+    ∙ ap (λ (ys : List Item). before ++ ys) (append_assoc xs (ending l) (others ++ char None 10 ∷ []) ∙ ap (λ (ys : List Item). xs ++ ys) last.1) in
+    told_items xs c mine (line_unbroken l others run) (items_end page before xs last.0 c mine there)

@@ -22,8 +22,8 @@ use Rattle.wt_called_edit_laws.proofs.Told.Signs.{AllPass, StopsLast, CutBack, c
 
 skip : (v : Bool) (k : LineKind) (rs : List (Bool × LineKind)) → (k ≡ line.Heading → ⊥) → unwrap_or (first_of ((v, k) ∷ rs)) line.Text ≡ line.Heading
     → unwrap_or (first_of rs) line.Text ≡ line.Heading
-skip true k rs no e = absurd (no e)
-skip false k rs no e = e
+skip true k rs other e = absurd (other e)
+skip false k rs other e = e
 
 open_no : (tables : ℕ) → open_kind tables ≡ line.Heading → ⊥
 open_no tables e = by (nat_lt tables MOST_TABLES) e

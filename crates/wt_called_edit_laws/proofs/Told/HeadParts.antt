@@ -37,14 +37,14 @@ none_taken n ss e = ap (λ (k : ℕ). trimmed_len (take k ss)) e ∙ zero_taken 
 
 none_inside : (l : ℕ) (c bs : List ℕ) → level_of c ≡ l → c ≡ equals l ++ (bs ++ equals l) → AllPass is_blank bs → inside_len c ≡ 0
 none_inside l c bs e is h =
-    let open : open_len c ≡ l + length bs =
+    let opened : open_len c ≡ l + length bs =
     ap (λ (k : ℕ). k + blank_len (drop k c)) e
     ∙ ap (λ (ts : List ℕ). l + blank_len (drop l ts)) is
     ∙ ap (λ (ts : List ℕ). l + blank_len ts) (drop_front (equals l) (bs ++ equals l) l (run_length l))
     ∙ ap (λ (k : ℕ). l + k) (pass_len is_blank bs (equals l) h (run_unblank l)) in
     let size : length c ≡ length (equals l ++ (bs ++ equals l)) = ap length is in
     none_taken (length c - level_of c - open_len c) (drop (open_len c) c)
-    (omega (arith, e, open, size, length-append (equals l) (bs ++ equals l), length-append bs (equals l), run_length l))
+    (omega (arith, e, opened, size, length-append (equals l) (bs ++ equals l), length-append bs (equals l), run_length l))
 
 -- ---- what is between them
 
@@ -105,7 +105,7 @@ pub record LineCut (ss : List ℕ) : Type 0 where
   pub ends : EndsWithout is_blank own
   pub some : 1 ≤ level_of (core ss)
   pub most : level_of (core ss) ≤ 6
-  pub open : open_len (core ss) ≡ level_of (core ss) + length lead
+  pub opened : open_len (core ss) ≡ level_of (core ss) + length lead
   pub inside : inside_len (core ss) ≡ length own
 
 parts_joined : (n : ℕ) (lead own trail idle : List ℕ)
@@ -137,7 +137,7 @@ line_by ss c some mid is one six m =
       ends = m.ends;
       some = one;
       most = six;
-      open = ap open_len own ∙ open_is n m.lead m.own m.trail same m.lead_blanks m.begins;
+      opened = ap open_len own ∙ open_is n m.lead m.own m.trail same m.lead_blanks m.begins;
       inside = ap inside_len own ∙ inside_is n m.lead m.own m.trail same m.lead_blanks m.trail_blanks m.begins m.ends;
     }
 
