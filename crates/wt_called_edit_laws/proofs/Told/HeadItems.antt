@@ -351,9 +351,9 @@ rest_read : (page : List ℕ) (before rest more : List Item) → page_items page
 rest_read page before rest more e flag =
     let break : List Item = char None 10 ∷ [] in
     let there : List Item = rest ++ char None 10 ∷ more in
-    let whole : page ≡ sources before ++ sources there =
+    let page_is : page ≡ sources before ++ sources there =
     sym (page_sources page) ∙ ap sources e ∙ flat_map-append source before there in
-    let first = page_cut (sources before) (sources there) before there (ap page_items (sym whole) ∙ e) refl in
+    let first = page_cut (sources before) (sources there) before there (ap page_items (sym page_is) ∙ e) refl in
     let behind : items_from false 0 (sources there) ≡ there = sym (ap (λ (v : Bool). items_from v 0 (sources there)) flag) ∙ first.behind in
     let cut : there ≡ (rest ++ break) ++ more = sym (append_assoc rest break more) in
     let bytes : sources there ≡ sources (rest ++ break) ++ sources more = ap sources cut ∙ flat_map-append source (rest ++ break) more in

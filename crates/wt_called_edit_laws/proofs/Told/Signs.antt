@@ -144,7 +144,7 @@ run_less m n le =
     let r = run_more m n le in (
       r.0,
       sym (run_back n) ∙ ap reverse r.1 ∙ reverse-append (equals m) (equals r.0)
-      ∙ ap (λ (ss : List ℕ). ss ++ reverse (equals m)) (run_back r.0) ∙ ap (λ (ss : List ℕ). equals r.0 ++ ss) (run_back m),
+          ∙ ap (λ (ss : List ℕ). ss ++ reverse (equals m)) (run_back r.0) ∙ ap (λ (ss : List ℕ). equals r.0 ++ ss) (run_back m),
     )
 
 abbrev is_equal : ℕ → Bool
