@@ -52,3 +52,4 @@ pub mod CallingApart
 pub mod CallingSent
 pub mod Cells
 pub mod Among
+pub mod Told

@@ -41,3 +41,5 @@ pub mod PlacedSpots
 pub mod PlacedLines
 pub mod PlacedAmong
 pub mod LinedAmong
+pub mod LinedHeadings
+pub mod ToldLines

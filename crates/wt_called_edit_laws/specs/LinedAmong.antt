@@ -11,21 +11,23 @@ use Rattle.wt_tables.specs.Parts.{joined}
 use Rattle.wt_expand.specs.PageCalls.{expanded_page}
 use Rattle.wt_expand.specs.Work.{Pages}
 use Rattle.wt_commands.specs.Answers.{refusal_of_page}
-use Rattle.wt_text_edit_laws.specs.BlockSpots.{BlockSpot}
+use Rattle.wt_text_edit_laws.specs.BlockSpots.{BlockSpot, spots_source}
 use Rattle.wt_text_edit_laws.specs.NoCalls.{CallsNothing}
-use Rattle.wt_text_edit_laws.specs.PageCuts.{AreFree}
+use Rattle.wt_text_edit_laws.specs.PageCuts.{EndsClosed, AreFree}
 use Rattle.wt_text_edit_laws.specs.TextBlocks.{source_of}
 use Rattle.wt_called_edit_laws.specs.Covered.{AreInNoGroup}
 use Rattle.wt_called_edit_laws.specs.Groups.{called_tree}
-use Rattle.wt_called_edit_laws.specs.PlacedLines.{LinedBlock, all_lines, AreLined, AllClosed}
+use Rattle.wt_called_edit_laws.specs.PlacedLines.{LinedBlock, all_lines, AreLined}
 
 -- ---- as parts of the page
 
--- What is on the page for the lines before a block, and for what is left of the line before these: of items that a call gives it is this call, once.
+-- What is on the page for the lines before a block and the marks that begin it, and for what is left of the line before these: of items that a call
+-- gives it is this call, once.
 abbrev pub spots_on : List OuterCall → List Item → List LinedBlock → List BlockSpot
 spots_on calls es [] = []
 spots_on calls es (b ∷ bs) =
-    record { before = text_from calls None (es ++ joined b.before); block = b.block; text = b.text } ∷ spots_on calls (ending (joined (b.first ∷ b.more))) bs
+    record { before = text_from calls None ((es ++ joined b.before) ++ b.marks); block = b.block; text = b.text }
+    ∷ spots_on calls (ending (joined (b.first ∷ b.more))) bs
 
 abbrev pub end_on : List OuterCall → List Item → List LinedBlock → List (List Item) → List ℕ
 end_on calls es [] behind = text_from calls None (es ++ joined behind)
@@ -50,24 +52,31 @@ abbrev pub AreOfPage : List Item → Type 0
 AreOfPage [] = Unit {0}
 AreOfPage (x ∷ xs) = (call_of x ≡ None) × IsNoFunction x × AreOfPage xs
 
--- The lines of each block come from no call, and neither does the line break before them; and no two braces that open in them come before two that
--- close.
+-- The lines of each block, and the marks that begin it, come from no call, and neither does the line break before them; and no two braces that open in
+-- the block come before two that close.
 abbrev pub AreOwnLines : List LinedBlock → Type 0
 AreOwnLines [] = Unit {0}
 AreOwnLines (b ∷ bs) =
-    (last_of None (joined b.before) ≡ None) × AreOfPage (joined (b.first ∷ b.more)) × CallsNothing (content (joined (b.first ∷ b.more))) × AreOwnLines bs
+    (last_of None (joined b.before) ≡ None) × AreOfPage (b.marks ++ joined (b.first ∷ b.more)) × CallsNothing (content (joined (b.first ∷ b.more)))
+    × AreOwnLines bs
 
 -- none of these calls has a byte between two places, nor goes over one of them
 abbrev pub AreBeside : ℕ → ℕ → List Span → Type 0
 AreBeside from to [] = Unit {0}
 AreBeside from to (s ∷ ss) = ((s.1 ≤ from) ⊎ (to ≤ s.0)) × AreBeside from to ss
 
--- so it is of each block, where so many bytes come before the first part
-abbrev pub AreUntouched : List Span → ℕ → List BlockSpot → Type 0
-AreUntouched calls at [] = Unit {0}
-AreUntouched calls at (s ∷ ss) =
-    AreBeside (at + length s.before) (at + length s.before + length (source_of s.block s.text)) calls
-    × AreUntouched calls (at + length s.before + length (source_of s.block s.text)) ss
+-- So it is of each block with the marks that begin it, where so many bytes come before the first part.
+abbrev pub AreUntouched : List OuterCall → List Span → ℕ → List Item → List LinedBlock → Type 0
+AreUntouched calls texts at es [] = Unit {0}
+AreUntouched calls texts at es (b ∷ bs) =
+    let line = at + length (text_from calls None (es ++ joined b.before)) in
+    let end = at + length (text_from calls None ((es ++ joined b.before) ++ b.marks)) + length (source_of b.block b.text) in
+    AreBeside line end texts × AreUntouched calls texts end (ending (joined (b.first ∷ b.more))) bs
+
+-- a block that ends the page holds no mark that nothing ends
+abbrev pub AllClosed : List BlockSpot → List ℕ → Type 0
+AllClosed [] behind = Unit {0}
+AllClosed (s ∷ ss) behind = EndsClosed (source_of s.block s.text) (spots_source ss behind) × AllClosed ss behind
 
 -- ---- the page
 
@@ -80,6 +89,6 @@ pub record IsLinedAmong (pages : Pages) (page : List ℕ) (bs : List LinedBlock)
   pub own : AreOwnLines bs
   pub closed : AllClosed (spots_of_lines pages page bs) (end_of_lines pages page bs behind)
   pub free : AreFree (spots_of_lines pages page bs)
-  pub untouched : AreUntouched (expanded_page pages page).text_calls 0 (spots_of_lines pages page bs)
+  pub untouched : AreUntouched (expanded_page pages page).outer (expanded_page pages page).text_calls 0 [] bs
   pub unrefused : refusal_of_page pages page ≡ None
   pub in_no_group : AreInNoGroup 0 (spots_of_lines pages page bs) (called_tree pages page)

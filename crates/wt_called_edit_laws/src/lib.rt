@@ -76,6 +76,7 @@ mod body_paragraphs;
 mod calling_pages;
 mod in_pieces;
 mod placed_blocks;
+mod told_lines;
 
 pub use body_paragraphs::{
     nodes_of_paragraphs_of_the_body_stay, paragraphs_of_the_body_are_edited,
@@ -94,6 +95,9 @@ pub use placed_blocks::{
     blocks_at_their_places_may_be_edited,
     lines_of_a_page_are_blocks_of_it, lines_of_a_page_are_cut_at_its_blocks,
     lines_of_an_expanded_page_are_cut_at_its_blocks,
+};
+pub use told_lines::{
+    blocks_are_told_by_their_lines, headings_are_told_by_their_lines, untangled_blocks_are_shut,
 };
 
 /// A page with blocks among calls, and with calls in them, none of which goes over the end of a part, is expanded part by

@@ -43,15 +43,15 @@ use Rattle.wt_called_edit_laws.specs.CalledBlocks.{spots_among, items_behind}
 use Rattle.wt_called_edit_laws.specs.CalledContents.{StayText}
 use Rattle.wt_called_edit_laws.specs.Covered.{AreInNoGroup, IsEditablePage}
 use Rattle.wt_called_edit_laws.specs.Groups.{called_tree}
-use Rattle.wt_called_edit_laws.specs.LinedAmong.{spots_on, end_on, AreOfPage, AreOwnLines, AreBeside, AreUntouched, IsLinedAmong}
+use Rattle.wt_called_edit_laws.specs.LinedAmong.{spots_on, end_on, AreOfPage, AreOwnLines, AreBeside, AreUntouched, AllClosed, IsLinedAmong}
 use Rattle.wt_called_edit_laws.specs.Parts.{calls_to, calls_past, called_items, called_outers, IsByParts}
 use Rattle.wt_called_edit_laws.specs.PlacedAmong.{AreCalm, StandAfter, IsPlacedAmong}
-use Rattle.wt_called_edit_laws.specs.PlacedLines.{LinedBlock, all_lines, IsLinedAt, AreLinedAfter, AllClosed}
-use Rattle.wt_called_edit_laws.proofs.Among.BlockAt.{calls_of, IsRest, IsBlockHere, block_from, block_to, block_here}
+use Rattle.wt_called_edit_laws.specs.PlacedLines.{LinedBlock, all_lines, IsLinedAt, AreLinedAfter}
+use Rattle.wt_called_edit_laws.proofs.Among.BlockAt.{calls_of, IsRest, IsBlockHere, text_to, block_to, block_here}
 use Rattle.wt_called_edit_laws.proofs.Among.OwnItems.{whole_rest}
-use Rattle.wt_called_edit_laws.proofs.Among.OwnSeams.{Rest, FirstLonger, FirstShorter, two_cuts, first_or, others, text_size, last_size, end_behind}
+use Rattle.wt_called_edit_laws.proofs.Among.OwnSeams.{Rest, FirstLonger, FirstShorter, two_cuts, first_or, others, text_size, end_behind}
 use Rattle.wt_called_edit_laws.proofs.Among.PartsApart.{members_of, AreClear, ArePartsApart, parts_apart}
-use Rattle.wt_called_edit_laws.proofs.Cells.PlacedLines.{Round, round, rows_by, leads_by, own_block, own_source, past_end, some_lines, lines_end}
+use Rattle.wt_called_edit_laws.proofs.Cells.PlacedLines.{own_items, Round, round, rows_by, leads_by, own_block, own_source, past_end, both_end, some_lines, lines_end}
 use Rattle.wt_called_edit_laws.proofs.Cells.PlacedAmong.{PartsRead, parts_read, parts_called, placed_editable}
 use Rattle.wt_called_edit_laws.proofs.Parts.NoCallsCalled.{calm_items, calm_count}
 use Rattle.wt_called_edit_laws.proofs.Parts.PartByPart.{items_of}
@@ -69,27 +69,31 @@ own_breaks : (xs : List Item) → AreOfPage xs → OwnBreaks xs
 own_breaks [] h = tt
 own_breaks (x ∷ xs) h = ((λ i. own_break x h.0 i), own_breaks xs h.2)
 
+of_behind : (xs ys : List Item) → AreOfPage (xs ++ ys) → AreOfPage ys
+of_behind [] ys h = h
+of_behind (x ∷ xs) ys h = of_behind xs ys h.2
+
 of_front : (xs ys : List Item) → AreOfPage (xs ++ ys) → AreOfPage xs
 of_front [] ys h = tt
 of_front (x ∷ xs) ys h = (h.0, h.1, of_front xs ys h.2)
 
-abbrev pub EndsOwn : List Item → Type 0
-EndsOwn xs = (xs ≡ []) ⊎ ((zs : List Item) × (xs ≡ zs ++ break ∷ []))
+abbrev EndsBreak : List Item → Type 0
+EndsBreak xs = (xs ≡ []) ⊎ ((zs : List Item) × (xs ≡ zs ++ break ∷ []))
 
 last_break : (v : Bool) → if◌then◌else◌ {A = List (List Item)} v ([] ∷ []) [] ≡ [] ∷ [] → v ≡ true
 last_break true e = refl
 last_break false e = cc
 
-own_end : (o : Option ℕ) (xs : List Item) → empty_end xs ≡ [] ∷ [] → last_of o xs ≡ None → EndsOwn xs
+own_end : (o : Option ℕ) (xs : List Item) → empty_end xs ≡ [] ∷ [] → last_of o xs ≡ None → EndsBreak xs
 own_end o [] e l = inl refl
 own_end o (x ∷ []) e l = inr ([], ap (λ (y : Item). y ∷ []) (own_break x l (last_break (is_break_item x) e)))
 own_end o (x ∷ y ∷ ys) e l = by (own_end (call_of x) (y ∷ ys) e l)
   where
-    by : EndsOwn (y ∷ ys) → EndsOwn (x ∷ y ∷ ys)
+    by : EndsBreak (y ∷ ys) → EndsBreak (x ∷ y ∷ ys)
     by (inl z) = absurd (cc)
     by (inr s) = inr (x ∷ s.0, ap (λ (us : List Item). x ∷ us) s.1)
 
-ended_text : (calls : List OuterCall) (xs : List Item) → EndsOwn xs → AreEnded (text_from calls None xs)
+ended_text : (calls : List OuterCall) (xs : List Item) → EndsBreak xs → AreEnded (text_from calls None xs)
 ended_text calls xs (inl e) = subst (λ (us : List Item). AreEnded (text_from calls None us)) (sym e) tt
 ended_text calls xs (inr s) =
     let one : text_from calls (last_of None s.0) (break ∷ []) ≡ 10 ∷ [] =
@@ -97,6 +101,46 @@ ended_text calls xs (inr s) =
     let is : text_from calls None xs ≡ text_from calls None s.0 ++ 10 ∷ [] =
     ap (text_from calls None) s.1 ∙ text_append_from calls None s.0 (break ∷ []) ∙ ap (λ (bs : List ℕ). text_from calls None s.0 ++ bs) one in
     subst AreEnded (sym is) (lines_ended (text_from calls None s.0 ++ 10 ∷ []) (one_line (text_from calls None s.0)))
+
+-- the last of them, if there is one, is an item of the page's own
+record IsLastOwn (xs : List Item) : Type 0 where
+  front : List Item
+  last : Item
+  is : xs ≡ front ++ last ∷ []
+  own : call_of last ≡ None
+  some : 1 ≤ length (source last)
+
+abbrev EndsOwn : List Item → Type 0
+EndsOwn xs = (xs ≡ []) ⊎ IsLastOwn xs
+
+last_own : (x : Item) (xs : List Item) → AreOfPage (x ∷ xs) → HaveBytes (x ∷ xs) → IsLastOwn (x ∷ xs)
+last_own x [] h b = record { front = []; last = x; is = refl; own = h.0; some = b.0 }
+last_own x (y ∷ ys) h b =
+    let r = last_own y ys h.2 b.1 in
+    record { front = x ∷ r.front; last = r.last; is = ap (λ (us : List Item). x ∷ us) r.is; own = r.own; some = r.some }
+
+own_behind : (xs ms : List Item) → EndsBreak xs → AreOfPage ms → HaveBytes ms → EndsOwn (xs ++ ms)
+own_behind xs [] (inl e) h b = inl (append-nil xs ∙ e)
+own_behind xs [] (inr s) h b =
+    let one : 1 ≤ length (source break) = omega arith in
+    inr (record { front = s.0; last = break; is = append-nil xs ∙ s.1; own = refl; some = one })
+own_behind xs (m ∷ ms) e h b =
+    let r = last_own m ms h b in
+    inr (record {
+      front = xs ++ r.front;
+      last = r.last;
+      is = ap (λ us. xs ++ us) r.is ∙ sym (append_assoc xs r.front (r.last ∷ []));
+      own = r.own;
+      some = r.some;
+    })
+
+own_text_size : (calls : List OuterCall) (o : Option ℕ) (xs : List Item) (y : Item) → call_of y ≡ None → 1 ≤ length (source y)
+    → 1 ≤ length (text_from calls o (xs ++ y ∷ []))
+own_text_size calls o xs y e some =
+    let a = text_size calls o xs (y ∷ []) in
+    let b = ap (λ (bs : List ℕ). length (bs ++ [])) (behind_page calls (last_of o xs) y e) in
+    let c = length-append (source y) [] in
+    omega (arith, a, b, c, some)
 
 -- what is left of a line, before others
 begins_break : (calls : List OuterCall) (es : List Item) (xs : List Item) → es ≡ break ∷ [] → EndsThere (text_from calls None (es ++ xs))
@@ -164,9 +208,9 @@ same_front calls xs o os gs bs e ends own some t = by (two_cuts xs (o ∷ os) gs
     longer : (u : Item) (us : List Item) → xs ≡ gs ++ u ∷ us → EndsOwn xs → ⊥
     longer u us is (inl z) = no_items gs u us (sym z ∙ is)
     longer u us is (inr s) =
-        let b = end_behind gs u us s.0 break (sym is ∙ s.1) in
+        let b = end_behind gs u us s.front s.last (sym is ∙ s.is) in
         let more : 1 ≤ length (text_from calls (last_of None gs) (u ∷ us)) =
-        subst (λ (zs : List Item). 1 ≤ length (text_from calls (last_of None gs) zs)) (sym b.1) (last_size calls (last_of None gs) b.0 10) in
+        subst (λ (zs : List Item). 1 ≤ length (text_from calls (last_of None gs) zs)) (sym b.1) (own_text_size calls (last_of None gs) b.0 s.last s.own s.some) in
         let all = ap (λ (zs : List Item). length (text_from calls None zs)) is ∙ text_size calls None gs (u ∷ us) in
         let same = ap length t in
         omega (arith, more, all, same)
@@ -202,67 +246,80 @@ left_whole : (es xs : List Item) → IsLeft es → empty_end xs ≡ [] ∷ [] �
 left_whole es xs (inl e) w = ap (λ (zs : List Item). empty_end (zs ++ xs)) e ∙ w
 left_whole es xs (inr e) w = ap (λ (zs : List Item). empty_end (zs ++ xs)) e ∙ past_end xs w
 
-abbrev own_lines : LinedBlock → List Item
-own_lines b = joined (b.first ∷ b.more)
-
 -- the tables that are open at a block
 abbrev open_at : List Bool → LinedBlock → List Bool
 open_at bs b = open_after bs (written_rows (length bs) b.before)
 
+-- what is before its line, and before the block
+abbrev line_front : List Item → LinedBlock → List Item
+line_front es b = es ++ joined b.before
+
+abbrev block_front : List Item → LinedBlock → List Item
+block_front es b = line_front es b ++ b.marks
+
 -- a block with its lines among those of the page
 record IsLinedHere (pages : Pages) (page : List ℕ) (open_tables : List Bool) (es : List Item) (b : LinedBlock) (tail : List (List Item)) (p : ℕ) (qs : List Item) : Type 0 where
-  around : Round b (b.first ∷ b.more) tail
-  items : es ++ joined (b.before ++ ((b.first ∷ b.more) ++ tail)) ≡ (es ++ joined b.before) ++ (content (own_lines b) ++ (ending (own_lines b) ++ joined tail))
-  ends : EndsOwn (es ++ joined b.before)
-  here : IsBlockHere pages page p (es ++ joined b.before) (content (own_lines b)) b.block b.text (ending (own_lines b) ++ joined tail) qs
-  block : AreBlockItems b.block b.text (content (own_lines b))
-  source_is : sources (content (own_lines b)) ≡ source_of b.block b.text
-  stays : StayText b.block (length (open_at open_tables b)) (content (own_lines b))
-  leads : LeadsInto b.block open_tables (joined b.before)
-  own : AreOfPage (content (own_lines b))
+  around : Round b tail
+  items : es ++ joined (b.before ++ (((b.marks ++ b.first) ∷ b.more) ++ tail)) ≡ block_front es b ++ (content (own_items b) ++ (ending (own_items b) ++ joined tail))
+  ends : EndsOwn (block_front es b)
+  ended : AreEnded (text_from (calls_of pages page) None (block_front es b))
+  here : IsBlockHere pages page p (line_front es b) b.marks (content (own_items b)) b.block b.text (ending (own_items b) ++ joined tail) qs
+  block : AreBlockItems b.block b.text (content (own_items b))
+  source_is : sources (content (own_items b)) ≡ source_of b.block b.text
+  stays : StayText b.block (length (open_at open_tables b)) (content (own_items b))
+  leads : LeadsInto b.block open_tables (joined b.before ++ b.marks)
+  own : AreOfPage (content (own_items b))
 
 lined_here : (pages : Pages) (page : List ℕ) (open_tables : List Bool) (es : List Item) (b : LinedBlock) (tail : List (List Item)) (p : ℕ) (qs xs : List Item)
-    → AreRuns goes_on (b.before ++ ((b.first ∷ b.more) ++ tail)) xs → IsLeft es
-    → IsRest pages page p (es ++ joined (b.before ++ ((b.first ∷ b.more) ++ tail))) qs → IsLinedAt open_tables b → last_of None (joined b.before) ≡ None
-    → AreOfPage (own_lines b)
-    → AreBeside (block_from pages page p (es ++ joined b.before)) (block_to pages page p (es ++ joined b.before) b.block b.text) (expanded_page pages page).text_calls
+    → AreRuns goes_on (b.before ++ (((b.marks ++ b.first) ∷ b.more) ++ tail)) xs → IsLeft es
+    → IsRest pages page p (es ++ joined (b.before ++ (((b.marks ++ b.first) ∷ b.more) ++ tail))) qs → IsLinedAt open_tables b → last_of None (joined b.before) ≡ None
+    → AreOfPage (b.marks ++ own_items b)
+    → AreBeside (text_to pages page p (line_front es b)) (block_to pages page p (line_front es b) b.marks b.block b.text) (expanded_page pages page).text_calls
     → IsLinedHere pages page open_tables es b tail p qs
 lined_here pages page open_tables es b tail p qs xs runs left rest h none own beside =
+    let calls : List OuterCall = calls_of pages page in
     let ts : List (List Item) = b.first ∷ b.more in
-    let text : List Item = own_lines b in
-    let front : List Item = joined b.before in
-    let r : Round b ts tail = round b tail xs runs (own_breaks text own) in
+    let text : List Item = own_items b in
+    let before : List Item = joined b.before in
+    let front : List Item = line_front es b in
+    let others : List Item = content text ++ (ending text ++ joined tail) in
+    let marks : AreOfPage b.marks = of_front b.marks text own in
+    let mine : AreOfPage text = of_behind b.marks text own in
+    let r : Round b tail = round b tail xs h.some runs (own_breaks text mine) in
     let n : ℕ = length (open_at open_tables b) in
-    let block = own_block b.block n b.text ts r.y r.ys r.some r.own_are h.2 in
-    let inside : AreOfPage (content text) = of_front (content text) (ending text) (subst AreOfPage (sym (content_ending text)) own) in
-    let ends_none : last_of None (es ++ front) ≡ None =
-    last_append None es front ∙ ap (λ (o : Option ℕ). last_of o front) (left_none es left) ∙ none in
-    let items : es ++ joined (b.before ++ (ts ++ tail)) ≡ (es ++ front) ++ (content text ++ (ending text ++ joined tail)) =
-    ap (λ zs. es ++ zs) r.items ∙ sym (append_assoc es front (content text ++ (ending text ++ joined tail))) in
-    let is_source : sources (content text) ≡ source_of b.block b.text = own_source b.block n b.text ts h.2 in
+    let block = own_block b.block n b.text ts r.y r.ys r.some r.own_are h.own in
+    let inside : AreOfPage (content text) = of_front (content text) (ending text) (subst AreOfPage (sym (content_ending text)) mine) in
+    let ends_none : last_of None front ≡ None =
+    last_append None es before ∙ ap (λ (o : Option ℕ). last_of o before) (left_none es left) ∙ none in
+    let items : es ++ joined (b.before ++ (((b.marks ++ b.first) ∷ b.more) ++ tail)) ≡ front ++ (b.marks ++ others) =
+    ap (λ zs. es ++ zs) (r.items ∙ append_assoc before b.marks others) ∙ sym (append_assoc es before (b.marks ++ others)) in
+    let is_source : sources (content text) ≡ source_of b.block b.text = own_source b.block n b.text ts h.own in
+    let ends : EndsBreak front = own_end None front (left_whole es before left r.front_whole) ends_none in
+    let here = block_here pages page p front b.marks (content text) b.block b.text (ending text ++ joined tail) qs
+    (subst (λ zs. IsRest pages page p zs qs) items rest) ends_none marks inside block.0 is_source beside in
     record {
       around = r;
-      items = items;
-      ends = own_end None (es ++ front) (left_whole es front left r.front_whole) ends_none;
-      here = block_here pages page p (es ++ front) (content text) b.block b.text (ending text ++ joined tail) qs
-          (subst (λ zs. IsRest pages page p zs qs) items rest) ends_none inside block.0 is_source beside;
+      items = items ∙ sym (append_assoc front b.marks others);
+      ends = own_behind front b.marks ends marks here.marks;
+      ended = subst AreEnded (sym here.marked) (both_end (text_from calls None front) (sources b.marks) (ended_text calls front ends) h.ended);
+      here = here;
       block = block.0;
       source_is = is_source;
       stays = block.1;
-      leads = leads_by b.block open_tables b.before r.front_are r.front_whole h.0 h.1;
+      leads = leads_by b.block open_tables b.before b.marks h.are_marks r.front_are r.front_whole h.in_cells h.apart;
       own = inside;
     }
 
 -- ---- as parts
 
 abbrev spot_of : Pages → List ℕ → List Item → LinedBlock → BlockSpot
-spot_of pages page es b = record { before = text_from (calls_of pages page) None (es ++ joined b.before); block = b.block; text = b.text }
+spot_of pages page es b = record { before = text_from (calls_of pages page) None (block_front es b); block = b.block; text = b.text }
 
 spot_source : (pages : Pages) (page : List ℕ) (open_tables : List Bool) (es : List Item) (b : LinedBlock) (tail : List (List Item)) (p : ℕ) (qs : List Item)
     (l : IsLinedHere pages page open_tables es b tail p qs) (ss : List BlockSpot) (end : List ℕ) → spots_source ss end ≡ sources l.here.behind
     → spots_source (spot_of pages page es b ∷ ss) end ≡ sources qs
 spot_source pages page open_tables es b tail p qs l ss end e =
-    let own : List Item = content (own_lines b) in
+    let own : List Item = content (own_items b) in
     ap₂ (λ (us vs : List ℕ). us ++ (vs ++ spots_source ss end)) (sym l.here.source) (sym l.source_is)
     ∙ ap (λ (vs : List ℕ). sources l.here.before ++ (sources own ++ vs)) e
     ∙ ap (λ (vs : List ℕ). sources l.here.before ++ vs) (sym (flat_map-append source own l.here.behind))
@@ -274,21 +331,21 @@ some_first (x ∷ xs) n = (x, xs, refl)
 
 -- what the part before it gives, and what is behind the block
 record ArePartsHere (pages : Pages) (page : List ℕ) (es : List Item) (b : LinedBlock) (tail : List (List Item)) (k : ℕ) (ss : List BlockSpot) (end : List ℕ) : Type 0 where
-  first : part_items pages k (spot_of pages page es b).before ≡ es ++ joined b.before
-  rest : ending (own_lines b) ++ joined tail ≡ called_items pages (calls_past pages k (spot_of pages page es b)) ss end
+  first : part_items pages k (spot_of pages page es b).before ≡ block_front es b
+  rest : ending (own_items b) ++ joined tail ≡ called_items pages (calls_past pages k (spot_of pages page es b)) ss end
   count : calls_past pages k (spot_of pages page es b) ≡ k + calls_in pages (spot_of pages page es b).before
 
 parts_here : (pages : Pages) (page : List ℕ) (open_tables : List Bool) (es : List Item) (b : LinedBlock) (tail : List (List Item)) (p : ℕ) (qs : List Item)
     → IsLinedHere pages page open_tables es b tail p qs → (k : ℕ) (ss : List BlockSpot) (end : List ℕ) → CallsNothing (page_items (source_of b.block b.text))
-    → es ++ joined (b.before ++ ((b.first ∷ b.more) ++ tail)) ≡ called_items pages k (spot_of pages page es b ∷ ss) end
+    → es ++ joined (b.before ++ (((b.marks ++ b.first) ∷ b.more) ++ tail)) ≡ called_items pages k (spot_of pages page es b ∷ ss) end
     → text_from (calls_of pages page) None (part_items pages k (spot_of pages page es b).before) ≡ (spot_of pages page es b).before
     → ArePartsHere pages page es b tail k ss end
 parts_here pages page open_tables es b tail p qs l k ss end calm e t =
     let s : BlockSpot = spot_of pages page es b in
     let line : List ℕ = source_of b.block b.text in
-    let front : List Item = es ++ joined b.before in
-    let own : List Item = content (own_lines b) in
-    let rest : List Item = ending (own_lines b) ++ joined tail in
+    let front : List Item = block_front es b in
+    let own : List Item = content (own_items b) in
+    let rest : List Item = ending (own_items b) ++ joined tail in
     let x1 : List Item = part_items pages k s.before in
     let x2 : List Item = part_items pages (calls_to pages k s) line in
     let x3 : List Item = called_items pages (calls_past pages k s) ss end in
@@ -323,7 +380,7 @@ further : (pages : Pages) (page : List ℕ) (last : TextBlock) (open_tables : Li
     (qs xs : List Item) → AreRuns goes_on (all_lines ls behind) xs → IsEnding es → ((m : List Item) (ms : List (List Item)) → all_lines ls behind ≡ m ∷ ms → es ≡ break ∷ [])
     → IsRest pages page p (es ++ joined (all_lines ls behind)) qs → AreLinedAfter last open_tables ls behind → AreOwnLines ls
     → AllClosed (spots_on (calls_of pages page) es ls) (end_on (calls_of pages page) es ls behind)
-    → AreUntouched (expanded_page pages page).text_calls p (spots_on (calls_of pages page) es ls)
+    → AreUntouched (calls_of pages page) (expanded_page pages page).text_calls p es ls
     → AreLinedCuts pages page last open_tables es ls behind p qs
 further pages page last open_tables es [] behind p qs xs runs i f r h own c u =
     let calls : List OuterCall = calls_of pages page in
@@ -338,26 +395,27 @@ further pages page last open_tables es [] behind p qs xs runs i f r h own c u =
 further pages page last open_tables es (b ∷ ls) behind p qs xs runs i f r h own c u =
     let calls : List OuterCall = calls_of pages page in
     let tail : List (List Item) = all_lines ls behind in
-    let front : List Item = joined b.before in
-    let some = some_lines b.before b.first (b.more ++ tail) in
+    let front : List Item = joined b.before ++ b.marks in
+    let some = some_lines b.before (b.marks ++ b.first) (b.more ++ tail) in
     let is_break : es ≡ break ∷ [] = f some.0 some.1 some.2 in
     let l : IsLinedHere pages page open_tables es b tail p qs =
     lined_here pages page open_tables es b tail p qs xs runs (inr is_break) r h.1 own.0 own.1 u.0 in
     let now : List Bool = open_at open_tables b in
-    let left : List Item = ending (own_lines b) in
+    let left : List Item = ending (own_items b) in
     let ss : List BlockSpot = spots_on calls left ls in
     let end : List ℕ = end_on calls left ls behind in
-    let d : AreLinedCuts pages page b.block now left ls behind (block_to pages page p (es ++ front) b.block b.text) l.here.behind =
-    further pages page b.block now left ls behind (block_to pages page p (es ++ front) b.block b.text) l.here.behind (joined tail) l.around.tail_runs l.around.own_ending
+    let end_at : ℕ = block_to pages page p (line_front es b) b.marks b.block b.text in
+    let d : AreLinedCuts pages page b.block now left ls behind end_at l.here.behind =
+    further pages page b.block now left ls behind end_at l.here.behind (joined tail) l.around.tail_runs l.around.own_ending
     l.around.ends l.here.next h.2 own.3 c.1 u.1 in
     let calm : CallsNothing (page_items (source_of b.block b.text)) = subst CallsNothing (sym l.here.alone) own.2 in
     let rows : List Row = written_rows (length open_tables) b.before in
-    let same : rows_of_part open_tables front ≡ rows = rows_by open_tables b.before l.around.front_are l.around.front_whole in
+    let same : rows_of_part open_tables front ≡ rows = rows_by open_tables b.before b.marks h.1.are_marks l.around.front_are l.around.front_whole in
     record {
       cuts = (
-        record { before = l.here.before; own = content (own_lines b); rest = l.here.behind; is = l.here.is; source = l.here.source; block = l.block },
-        ended_text calls (es ++ front) l.ends,
-        subst (λ (zs : List Item). BeginsBreak (text_from calls None (zs ++ front))) (sym is_break) refl,
+        record { before = l.here.before; own = content (own_items b); rest = l.here.behind; is = l.here.is; source = l.here.source; block = l.block },
+        l.ended,
+        subst (λ (zs : List Item). BeginsBreak (text_from calls None (block_front zs b))) (sym is_break) refl,
         c.0,
         d.cuts,
       );
@@ -372,7 +430,7 @@ further pages page last open_tables es (b ∷ ls) behind p qs xs runs i f r h ow
           let P : List Item → Type 0 = λ zs. BeginsAfter last b.block open_tables zs × LeadsInto b.block open_tables (past_break zs)
           × StayText b.block (length (open_behind_part open_tables (past_break zs))) (page_items b.text)
           × StandAfter b.block (open_behind_part open_tables (past_break zs)) (spots_among pages n ss) (items_behind pages n ss end) in
-          subst P (ap (λ (zs : List Item). zs ++ front) (sym is_break) ∙ sym parts.first) (
+          subst P (ap (λ (zs : List Item). block_front zs b) (sym is_break) ∙ sym parts.first) (
             (refl, subst (NextApart last b.block) (sym same) h.0),
             l.leads,
             subst (λ (rs : List Row). StayText b.block (length (open_after open_tables rs)) (page_items b.text)) (sym same)
@@ -405,8 +463,8 @@ lined_among pages page [] behind h = absurd h.lined
 lined_among pages page (b ∷ ls) behind h =
     let calls : List OuterCall = calls_of pages page in
     let tail : List (List Item) = all_lines ls behind in
-    let ts : List (List Item) = b.first ∷ b.more in
-    let front : List Item = joined b.before in
+    let ts : List (List Item) = (b.marks ++ b.first) ∷ b.more in
+    let front : List Item = joined b.before ++ b.marks in
     let xs : List Item = (expanded_page pages page).items in
     let runs : AreRuns goes_on (b.before ++ (ts ++ tail)) xs = subst (λ (ks : List (List Item)). AreRuns goes_on ks xs) h.are (runs_are goes_on xs) in
     let all : xs ≡ joined (b.before ++ (ts ++ tail)) = joined_is goes_on (b.before ++ (ts ++ tail)) xs runs in
@@ -414,19 +472,20 @@ lined_among pages page (b ∷ ls) behind h =
     let l : IsLinedHere pages page [] [] b tail 0 (page_items page) =
     lined_here pages page [] [] b tail 0 (page_items page) xs runs (inl refl) r h.lined.0 h.own.0 h.own.1 h.untouched.0 in
     let now : List Bool = open_at [] b in
-    let left : List Item = ending (own_lines b) in
+    let left : List Item = ending (own_items b) in
     let s : BlockSpot = spot_of pages page [] b in
     let ss : List BlockSpot = spots_on calls left ls in
     let end : List ℕ = end_on calls left ls behind in
-    let d : AreLinedCuts pages page b.block now left ls behind (block_to pages page 0 front b.block b.text) l.here.behind =
-    further pages page b.block now left ls behind (block_to pages page 0 front b.block b.text) l.here.behind (joined tail) l.around.tail_runs l.around.own_ending
+    let end_at : ℕ = block_to pages page 0 (joined b.before) b.marks b.block b.text in
+    let d : AreLinedCuts pages page b.block now left ls behind end_at l.here.behind =
+    further pages page b.block now left ls behind end_at l.here.behind (joined tail) l.around.tail_runs l.around.own_ending
     l.around.ends l.here.next h.lined.1 h.own.3 h.closed.1 h.untouched.1 in
     let calm : CallsNothing (page_items (source_of b.block b.text)) = subst CallsNothing (sym l.here.alone) h.own.2 in
     let same : spots_source (s ∷ ss) end ≡ page = spot_source pages page [] [] b tail 0 (page_items page) l ss end d.source ∙ page_sources page in
     let utf8 : IsUtf8 (spots_source (s ∷ ss) end) = subst IsUtf8 (sym same) h.utf8 in
     let cuts : AreCuts (s ∷ ss) end = (
-      record { before = l.here.before; own = content (own_lines b); rest = l.here.behind; is = ap page_items same ∙ l.here.is; source = l.here.source; block = l.block },
-      ended_text calls front l.ends,
+      record { before = l.here.before; own = content (own_items b); rest = l.here.behind; is = ap page_items same ∙ l.here.is; source = l.here.source; block = l.block },
+      l.ended,
       h.closed.0,
       d.cuts,
     ) in
@@ -449,7 +508,7 @@ lined_among pages page (b ∷ ls) behind h =
     let later = subst (λ (i : ℕ). StandAfter b.block now (spots_among pages i ss) (items_behind pages i ss end)) parts.count
     (d.stand (calls_past pages 0 s) parts.rest texts.1) in
     let rows : List Row = written_rows 0 b.before in
-    let rows_are : rows_of_part [] front ≡ rows = rows_by [] b.before l.around.front_are l.around.front_whole in
+    let rows_are : rows_of_part [] front ≡ rows = rows_by [] b.before b.marks h.lined.0.are_marks l.around.front_are l.around.front_whole in
     let P : List Item → Type 0 = λ zs. LeadsInto b.block [] zs × StayText b.block (length (open_behind_part [] zs)) (page_items b.text)
     × StandAfter b.block (open_behind_part [] zs) (spots_among pages n ss) (items_behind pages n ss end) in
     (

@@ -31,6 +31,7 @@ use Rattle.wt_called_edit_laws.proofs.Cells.ClassCases.{a_word, a_title, in_a_ce
 abbrev heading_lines : LinedBlock
 heading_lines = record {
   before = (char (Some 0) 98 ∷ char None 10 ∷ []) ∷ (char None 10 ∷ []) ∷ [];
+  marks = [];
   block = a_heading (spaced 2);
   text = codes "h";
   first = page_chars (codes "== h ==\n");
@@ -40,6 +41,7 @@ heading_lines = record {
 abbrev cell_lines : LinedBlock
 cell_lines = record {
   before = page_chars (codes "{|\n") ∷ page_chars (codes "|\n") ∷ [];
+  marks = [];
   block = a_paragraph;
   text = codes "x<br>y";
   first = page_chars (codes "x<br>y\n");
