@@ -65,15 +65,15 @@ own_break (char None b) e i = let z : b ≡ 10 = grind (arith, nat_tests, i) in 
 own_break (char (Some k) b) e i = absurd (cc)
 own_break (whole f o bs) e i = absurd (cc)
 
-own_breaks : (xs : List Item) → AreOfPage xs → OwnBreaks xs
+pub own_breaks : (xs : List Item) → AreOfPage xs → OwnBreaks xs
 own_breaks [] h = tt
 own_breaks (x ∷ xs) h = ((λ i. own_break x h.0 i), own_breaks xs h.2)
 
-of_behind : (xs ys : List Item) → AreOfPage (xs ++ ys) → AreOfPage ys
+pub of_behind : (xs ys : List Item) → AreOfPage (xs ++ ys) → AreOfPage ys
 of_behind [] ys h = h
 of_behind (x ∷ xs) ys h = of_behind xs ys h.2
 
-of_front : (xs ys : List Item) → AreOfPage (xs ++ ys) → AreOfPage xs
+pub of_front : (xs ys : List Item) → AreOfPage (xs ++ ys) → AreOfPage xs
 of_front [] ys h = tt
 of_front (x ∷ xs) ys h = (h.0, h.1, of_front xs ys h.2)
 
