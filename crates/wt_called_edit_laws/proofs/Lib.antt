@@ -51,3 +51,4 @@ pub mod CallingGaps
 pub mod CallingApart
 pub mod CallingSent
 pub mod Cells
+pub mod Told

@@ -39,3 +39,5 @@ pub mod SentAsIs
 pub mod PlacedBlocks
 pub mod PlacedSpots
 pub mod PlacedLines
+pub mod LinedHeadings
+pub mod ToldLines
