@@ -65,7 +65,7 @@ use Rattle.wt_called_edit_laws.proofs.Written.AllHeld.{calm_anywhere}
 -- ---- a block that calls nothing
 
 -- with any calls of the page it is what it is in a page without calls
-calm_block : (pages : Pages) (calls : List OuterCall) (i : ℕ) (k : TextBlock) (q : List ℕ) → IsContent k q → CallsNothing (block_items k q)
+pub calm_block : (pages : Pages) (calls : List OuterCall) (i : ℕ) (k : TextBlock) (q : List ℕ) → IsContent k q → CallsNothing (block_items k q)
     → cut_texts (block_in calls (tree_round k (part_items pages i q))) ≡ placeless (standing 0 [] (block_tree k q))
 calm_block pages calls i k q c calm =
     let t : ItemTree = block_tree k q in
@@ -74,7 +74,7 @@ calm_block pages calls i k q c calm =
     ∙ ap cut_texts (walk_own calls None 0 None [] t own.of_page own.has_items)
     ∙ block_is (λ n. t) 0
 
-calm_standing : (k : TextBlock) (q : List ℕ) (v t : Tree) → IsContent k q → v ≡ placeless (standing 0 [] (block_tree k q)) → IsSettledAt v t
+pub calm_standing : (k : TextBlock) (q : List ℕ) (v t : Tree) → IsContent k q → v ≡ placeless (standing 0 [] (block_tree k q)) → IsSettledAt v t
     → IsStanding (block_tree k q) t
 calm_standing k q v t c e h = record {
   number = h.number;

@@ -48,7 +48,7 @@ para_some : (q : List ℕ) → IsContent a_paragraph q → 0 < length q
 para_some [] h = absurd (paragraph_some [] h refl)
 para_some (b ∷ bs) h = omega arith
 
-signs_some : (n : ℕ) (lead rest : List ℕ) → 1 ≤ n → 0 < length ((equals n ++ lead) ++ rest)
+pub signs_some : (n : ℕ) (lead rest : List ℕ) → 1 ≤ n → 0 < length ((equals n ++ lead) ++ rest)
 signs_some zero lead rest h = absurd (omega (arith, h))
 signs_some (suc n) lead rest h = omega arith
 
