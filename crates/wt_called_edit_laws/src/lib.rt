@@ -83,8 +83,9 @@ pub use body_paragraphs::{
 };
 pub use calling_pages::{
     blocks_that_call_are_untangled, blocks_that_call_stay_where_nothing_is_written,
-    edits_of_blocks_that_call_are_apart, edits_of_blocks_that_call_make_the_page,
-    pages_whose_blocks_call_are_such_again,
+    contents_beside_calls_are_taken, edits_of_blocks_that_call_are_apart,
+    edits_of_blocks_that_call_make_the_page, pages_whose_blocks_call_are_such_again,
+    pages_whose_blocks_call_are_told_by_bytes,
 };
 pub use in_pieces::{
     paragraphs_in_pieces_may_be_written_anew, paragraphs_of_the_page_take_texts_beside_calls,
