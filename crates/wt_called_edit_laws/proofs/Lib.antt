@@ -50,4 +50,5 @@ pub mod CallingPages
 pub mod CallingGaps
 pub mod CallingApart
 pub mod CallingSent
+pub mod Beside
 pub mod Cells

@@ -31,6 +31,7 @@ pub mod CalledBlocks
 pub mod CallingBlocks
 pub mod CallingGroups
 pub mod CallingEdits
+pub mod CalledEdits
 pub mod InPieces
 pub mod PageThings
 pub mod Written

@@ -1,0 +1,6 @@
+-- What is sent for paragraphs with calls in them, and what it makes.
+pub mod Counts
+pub mod Found
+pub mod Sent
+pub mod StandIns
+pub mod Making
