@@ -4,3 +4,5 @@ pub mod Found
 pub mod Sent
 pub mod StandIns
 pub mod Making
+pub mod Given
+mod Cases
