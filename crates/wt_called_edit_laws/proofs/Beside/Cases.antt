@@ -220,7 +220,7 @@ edit_of = record {
 pub makes : MakesContentIn a_word a_paragraph source block a_label edit
 makes =
     let some : 0 < 1 = omega arith in
-    calls_make a_word a_paragraph source 1 0 0 (a_call ∷ []) block a_label edit some (ap block_by (sym items_are)) in_class edit_of
+    calls_make a_word a_paragraph source block a_label edit 1 0 0 (a_call ∷ []) some (ap block_by (sym items_are)) in_class edit_of
 
 -- `<nowiki/>` is put on both sides of the call
 written_is : new_content a_paragraph block a_label edit ≡ codes "zw<nowiki/>{{t}}<nowiki/>v"

@@ -209,10 +209,10 @@ paragraph_makes pages q block m ps i h e =
 
 -- ---- in other words
 
-pub calls_make : (pages : Pages) (k : TextBlock) (q : List ℕ) (n at i : ℕ) (calls : List OuterCall) (block : Tree) (m : Label) (ps : Pieces) → 0 < n
+pub calls_make : (pages : Pages) (k : TextBlock) (q : List ℕ) (block : Tree) (m : Label) (ps : Pieces) (n at i : ℕ) (calls : List OuterCall) → 0 < n
     → block ≡ settled n at (cut_texts (block_in calls (tree_round k (part_items pages i q)))) → IsBesideCalls pages k q block → IsCalledEditOf pages block ps
     → MakesContentIn pages k q block m ps
-calls_make pages k q n at i calls block m ps some is h e =
+calls_make pages k q block m ps n at i calls some is h e =
     let P : TextBlock → Type 0 = λ j. block ≡ settled n at (cut_texts (block_in calls (tree_round j (part_items pages i q)))) → IsBesideCalls pages j q block
         → MakesContentIn pages j q block m ps in
     subst P (sym h.paragraph)
