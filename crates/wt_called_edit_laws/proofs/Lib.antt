@@ -56,4 +56,5 @@ pub mod CallingTaken
 pub mod CallingOutside
 pub mod EditableBlocks
 pub mod SettledEdits
+pub mod Beside
 pub mod Cells

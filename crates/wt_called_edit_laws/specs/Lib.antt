@@ -33,6 +33,7 @@ pub mod CallingGroups
 pub mod CallingEdits
 pub mod CallingContents
 pub mod EditableBlocks
+pub mod CalledEdits
 pub mod InPieces
 pub mod PageThings
 pub mod Written
