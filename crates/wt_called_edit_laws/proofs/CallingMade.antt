@@ -47,7 +47,7 @@ use Rattle.wt_called_edit_laws.specs.SettledAt.{IsSettledAt}
 use Rattle.wt_called_edit_laws.specs.TreeEdits.{IsInline}
 use Rattle.wt_called_edit_laws.specs.WholeContents.{IsWholeIn, EachWhole}
 use Rattle.wt_called_edit_laws.specs.WrittenAnew.{HoldsAnywhere, EachHolds}
-use Rattle.wt_called_edit_laws.proofs.Beside.Makes.{calls_make}
+use Rattle.wt_called_edit_laws.proofs.Beside.Making.{calls_make}
 use Rattle.wt_called_edit_laws.proofs.BlocksMade.{IsMade, edited_made, none_edited, same_edit, frames_taken}
 use Rattle.wt_called_edit_laws.proofs.Cells.CallingFrames.{own_calm, content_in}
 use Rattle.wt_called_edit_laws.proofs.Cells.ContentItems.{tree_is, new_anywhere}

@@ -124,13 +124,11 @@ squashed_stand pages ss behind f = record {
   means = λ rs t. f.means rs t ∙ ap body_with (sym (trees_squashed (tree_with_calls pages 0 rs) f.frames));
 }
 
-texts_there : (pages : Pages) (ss : List BlockSpot) (behind : List ℕ) (f : CallingBlocksStand pages ss behind) → AreCallingBlocks pages ss behind
-    → EachHolds pages ss → first_refusal pages (spots_source ss behind) (page_work pages (spots_source ss behind)) ≡ None
-    → HaveTexts (expanded_page pages (spots_source ss behind)).outer (tree_with_calls pages 0 ss) (tree_by ss) (all_places f.frames)
+texts_there : (pages : Pages) (ss : List BlockSpot) (behind : List ℕ) → CallingBlocksStand pages ss behind → AreCallingBlocks pages ss behind → EachHolds pages ss
+    → first_refusal pages (spots_source ss behind) (page_work pages (spots_source ss behind)) ≡ None
+    → HaveTexts (expanded_page pages (spots_source ss behind)).outer (tree_with_calls pages 0 ss) (tree_by ss) (counted ss)
 texts_there pages ss behind f h o e =
-    let calls : List OuterCall = (expanded_page pages (spots_source ss behind)).outer in
-    subst (HaveTexts calls (tree_with_calls pages 0 ss) (tree_by ss)) (sym f.in_order)
-    (have_texts calls pages 0 ss (blocks_text pages ss behind h f e) (all_hold pages ss o))
+    have_texts (expanded_page pages (spots_source ss behind)).outer pages 0 ss (blocks_text pages ss behind h f e) (all_hold pages ss o)
 
 page_text : (pages : Pages) (ss rs : List BlockSpot) (behind : List ℕ) (h : AreCallingBlocks pages ss behind) (f : CallingBlocksStand pages ss behind)
     → first_refusal pages (spots_source ss behind) (page_work pages (spots_source ss behind)) ≡ None → AreEdited pages ss rs
@@ -156,14 +154,16 @@ fills_page pages ss behind h f hold free = λ rs t o.
     let was : ℕ → ItemTree = tree_with_calls pages 0 ss in
     let now : ℕ → ItemTree = tree_with_calls pages 0 rs in
     let again = expanded_again pages ss rs behind h.called (edited_anew pages ss rs t) in
+    let places : counted rs ≡ all_places f.frames = counted_same ss rs (edited_round pages ss rs t) ∙ sym f.in_order in
     let g : Gaps = text_gaps others now None f.frames (last_gap []) in
     ap (fill (own_sources rs))
     (gaps_same calls others (calls_kept pages ss rs behind h t) was now None f.frames (last_gap []) (last_gap [])
     (held_there pages ss ss behind f (edited_self pages ss) (all_hold pages ss hold)) (held_there pages ss rs behind f t (all_hold pages rs o)) refl)
     ∙ ap (λ (ts : List (List ℕ)). fill ts g)
-    (sym (ap (λ (is : List ℕ). sources_at (tree_by rs) is []) (f.in_order ∙ sym (counted_same ss rs (edited_round pages ss rs t))) ∙ sources_counted rs))
+    (sym (ap (λ (is : List ℕ). sources_at (tree_by rs) is []) (sym places) ∙ sources_counted rs))
     ∙ all_fill others now (tree_by rs) None f.frames (last_gap []) []
-    (texts_there pages rs behind (stand_again pages ss rs behind f t) (calling_again pages ss rs behind h t) o (again.unrefused free))
+    (subst (HaveTexts others now (tree_by rs)) places
+    (texts_there pages rs behind (stand_again pages ss rs behind f t) (calling_again pages ss rs behind h t) o (again.unrefused free)))
     ∙ append-nil (text_from others None (held now f.frames))
     ∙ page_text pages ss rs behind h f free t
 
@@ -186,7 +186,7 @@ blocks_outside pages ss behind h hold letters free g =
     let numbers : numbers_in gaps ≡ counted ss = all_numbers calls t None fs (last_gap []) ∙ append-nil (all_places fs) ∙ f.in_order in
     let same : AreSame gaps ss =
     gaps_by_letters pages gaps ss behind (many_by gaps ss (ap length numbers ∙ count_counted ss)) hold letters (fills_page pages ss behind h f hold free) in
-    let texts : HaveTexts calls t w (all_places fs) = texts_there pages ss behind f h hold free in
+    let texts : HaveTexts calls t w (all_places fs) = subst (HaveTexts calls t w) (sym f.in_order) (texts_there pages ss behind f h hold free) in
     let at = gap_places (λ b. NoGroupAt b u) calls t w None 0 [] fs (last_gap []) texts refl
     (block_places u w [] gaps ss 0 refl same (subst (λ (ns : List ℕ). AreThere w ns ss) (sym numbers) (all_there ss)) inside) in
     record {
