@@ -33,6 +33,7 @@ pub mod CallingGroups
 pub mod CallingEdits
 pub mod InPieces
 pub mod PageThings
+pub mod WholeContents
 pub mod Written
 pub mod WrittenAnew
 pub mod SentAsIs
