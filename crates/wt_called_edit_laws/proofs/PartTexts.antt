@@ -107,7 +107,7 @@ behind_new : (calls : List OuterCall) (o : Option ℕ) (k : ℕ) (x : Item) → 
 behind_new calls o k x f e =
     ap (λ p. if not (same_call o p) then text_by calls p (source x) else []) e ∙ ap (λ t. if not t then source_of_call (slice_get calls k) else []) f
 
-call_text : (calls : List OuterCall) (o : Option ℕ) (k : ℕ) (z : Item) (zs : List Item) → IsBelow k o → AllFrom (Some k) (z ∷ zs)
+pub call_text : (calls : List OuterCall) (o : Option ℕ) (k : ℕ) (z : Item) (zs : List Item) → IsBelow k o → AllFrom (Some k) (z ∷ zs)
     → text_from calls o (z ∷ zs) ≡ source_of_call (slice_get calls k)
 call_text calls o k z zs b h =
     ap₂ (λ us vs. us ++ vs) (behind_new calls o k z (below_other k o b) h.0) (same_text calls (call_of z) k zs h.0 h.1)

@@ -5,3 +5,4 @@ pub mod InSlice
 pub mod Opened
 pub mod Pieces
 pub mod Blocks
+pub mod Contents

@@ -83,7 +83,7 @@ above j k l = grind (arith, nat_tests)
 below : (j k : ℕ) → k < j → (k == j) ≡ false
 below j k l = grind (arith, nat_tests)
 
-of_before : (j k : ℕ) (ss : List Stretch) → OwnPage ss → j < k → of_call j (numbered k ss) ≡ []
+pub of_before : (j k : ℕ) (ss : List Stretch) → OwnPage ss → j < k → of_call j (numbered k ss) ≡ []
 of_before j k [] h l = refl
 of_before j k (own xs ∷ ss) h l = none_both j xs (numbered k ss) (of_own j xs h.0) (of_before j k ss h.1 l)
 of_before j k (outer c xs ∷ ss) h l =
