@@ -57,7 +57,8 @@ use Rattle.wt_called_edit_laws.proofs.CutFrames.{block_is}
 use Rattle.wt_called_edit_laws.proofs.Leads.{plain_so, edit_at}
 use Rattle.wt_called_edit_laws.proofs.Parts.NoCallsCalled.{calm_outers, calm_texts, calm_items}
 use Rattle.wt_called_edit_laws.proofs.Parts.Retyped.{firm_calm, part_anew}
-use Rattle.wt_called_edit_laws.proofs.SettledEdits.{AreOfBlocks, grouped_at, block_kind, kind_there}
+use Rattle.wt_called_edit_laws.proofs.SettledEdits.{AreOfBlocks, block_kind, kind_there}
+use Rattle.wt_called_edit_laws.proofs.SpotSources.{grouped_at}
 use Rattle.wt_called_edit_laws.proofs.StandingSettled.{some_items, standing_settled}
 use Rattle.wt_called_edit_laws.proofs.TextsMake.{flat_same}
 use Rattle.wt_called_edit_laws.proofs.Written.AllHeld.{calm_anywhere}

@@ -25,7 +25,8 @@ use Rattle.wt_called_edit_laws.proofs.CallingMade.{calm_block, calm_standing, ca
 use Rattle.wt_called_edit_laws.proofs.CallingOutside.{blocks_outside}
 use Rattle.wt_called_edit_laws.proofs.Cells.CallingFrames.{among_calling}
 use Rattle.wt_called_edit_laws.proofs.Parts.NoCallsCalled.{calm_texts}
-use Rattle.wt_called_edit_laws.proofs.SettledEdits.{settled_moved, grouped_at}
+use Rattle.wt_called_edit_laws.proofs.SettledEdits.{settled_moved}
+use Rattle.wt_called_edit_laws.proofs.SpotSources.{grouped_at}
 use Rattle.wt_called_edit_laws.proofs.Written.AllHeld.{calm_anywhere}
 
 -- ---- each content

@@ -17,7 +17,6 @@ use Rattle.wt_text_edit_laws.specs.TextBlocks.{TextBlock, a_paragraph, a_heading
 use Rattle.wt_called_edit_laws.specs.AnyBlocks.{LeadsTo, LeadsAmong, AllLead}
 use Rattle.wt_called_edit_laws.specs.CalledBlocks.{counted}
 use Rattle.wt_called_edit_laws.specs.CalledContents.{tree_round}
-use Rattle.wt_called_edit_laws.specs.CallingBlocks.{tree_with_calls}
 use Rattle.wt_called_edit_laws.specs.CallingContents.{IfSent}
 use Rattle.wt_called_edit_laws.specs.EditsAt.{edited_at, edited_among, edited_by}
 use Rattle.wt_called_edit_laws.specs.Parts.{calls_to, calls_past}
@@ -27,6 +26,7 @@ use Rattle.wt_called_edit_laws.specs.SettledAt.{IsSettledAt, SettledTo, SettledA
 use Rattle.wt_called_edit_laws.proofs.Cells.Nodes.{same_inside}
 use Rattle.wt_called_edit_laws.proofs.Cells.Equal.{same_first, same_rest}
 use Rattle.wt_called_edit_laws.proofs.Leads.{edit_at, there_moved}
+use Rattle.wt_called_edit_laws.proofs.SpotSources.{grouped_at}
 
 -- ---- the block whose content is edited
 
@@ -83,10 +83,6 @@ edited_there b (s ∷ ss) (p ∷ ps) es t h = (
 )
 
 -- ---- blocks are of their kinds
-
--- with these calls of the page, where so many of them come before
-abbrev pub grouped_at : List OuterCall → Pages → ℕ → List BlockSpot → ℕ → Tree
-grouped_at calls pages k ss n = cut_texts (block_in calls (tree_with_calls pages k ss n))
 
 pub block_kind : (calls : List OuterCall) (k : TextBlock) (xs : List Item) → (label (cut_texts (block_in calls (tree_round k xs)))).kind ≡ kind_of (block_of k)
 block_kind calls a_paragraph xs = refl
