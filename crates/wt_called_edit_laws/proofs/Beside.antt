@@ -5,4 +5,4 @@ pub mod Sent
 pub mod StandIns
 pub mod Making
 pub mod Given
-mod Cases
+pub mod Cases

@@ -223,7 +223,7 @@ makes =
     calls_make a_word a_paragraph source block a_label edit 1 0 0 (a_call ∷ []) some (ap block_by (sym items_are)) in_class edit_of
 
 -- `<nowiki/>` is put on both sides of the call
-written_is : new_content a_paragraph block a_label edit ≡ codes "zw<nowiki/>{{t}}<nowiki/>v"
+pub written_is : new_content a_paragraph block a_label edit ≡ codes "zw<nowiki/>{{t}}<nowiki/>v"
 unfolding inline_spelling kept_with label_at context_parts chunks segments loose_segments tiles shapes closes tile_at link_or_url link_at ext_link_at bare_url_at
     scheme_len tag_tile tag_at switch_at children place_at is_guarded is_between_guard is_start_guard is_end_guard is_blank_guard hazard line_start_hazard
     is_escaped chars encode
