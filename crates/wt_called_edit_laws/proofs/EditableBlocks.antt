@@ -6,13 +6,14 @@ use Rattle.wt_expand.specs.PageCalls.{expanded_page}
 use Rattle.wt_expand.specs.Work.{Pages}
 use Rattle.wt_inline.specs.ItemTree.{ItemTree}
 use Rattle.wt_typed_blocks.specs.Edited.{Edited, stays, edited, round, Edits}
-use Rattle.wt_text_edit_laws.specs.BlockSpots.{BlockSpot, AreContents}
+use Rattle.wt_text_edit_laws.specs.BlockSpots.{BlockSpot, spots_source, AreContents}
 use Rattle.wt_text_edit_laws.specs.Contents.{IsContent}
 use Rattle.wt_text_edit_laws.specs.NoCalls.{CallsNothing}
 use Rattle.wt_text_edit_laws.specs.TextBlocks.{TextBlock, source_of, block_items, block_tree}
 use Rattle.wt_called_edit_laws.specs.CalledBlocks.{CallNothing, counted}
 use Rattle.wt_called_edit_laws.specs.CallingContents.{FitsIn, IfSent, AreFittingIn, IsContentEditIn, IsUnmarkedContentEditIn}
 use Rattle.wt_called_edit_laws.specs.CallingEdits.{TakesLetters, AllTakeLetters, IsCallingPage}
+use Rattle.wt_called_edit_laws.specs.CallingGroups.{block_with_groups}
 use Rattle.wt_called_edit_laws.specs.Covered.{IsEditablePage}
 use Rattle.wt_called_edit_laws.specs.EditableBlocks.{IsEditableContent, AreEditableContents, IsEditableWithCalls}
 use Rattle.wt_called_edit_laws.specs.EditsAt.{IsStanding, StandsTo, StandsAmong, AllStand, Fits, FitsSpot, AreFitting, edited_by, IsContentEdit, IsUnmarkedContentEdit}
@@ -104,19 +105,23 @@ mutual
   stands_among u v zero is (more t ts) f h = stands_to u v is t f h
   stands_among u v (suc i) is (more t ts) f h = stands_among u v i is ts f h
 
--- they are at their paths as in a page without calls
-pub calm_stand : (pages : Pages) (calls : List OuterCall) (k : ℕ) (ss : List BlockSpot) (ps : List (List ℕ)) (t : Tree) → AreContents ss → CallNothing ss
+all_stand : (pages : Pages) (calls : List OuterCall) (k : ℕ) (ss : List BlockSpot) (ps : List (List ℕ)) (t : Tree) → AreContents ss → CallNothing ss
     → AllSettled (grouped_at calls pages k ss) (counted ss) ps t → AllStand ss ps t
-calm_stand pages calls k [] [] t c n h = tt
-calm_stand pages calls k [] (p ∷ ps) t c n h = absurd h
-calm_stand pages calls k (s ∷ ss) [] t c n h = absurd h
-calm_stand pages calls k (s ∷ ss) (p ∷ ps) t c n h =
+all_stand pages calls k [] [] t c n h = tt
+all_stand pages calls k [] (p ∷ ps) t c n h = absurd h
+all_stand pages calls k (s ∷ ss) [] t c n h = absurd h
+all_stand pages calls k (s ∷ ss) (p ∷ ps) t c n h =
     let q : List ℕ = s.text in
     let v : Tree = grouped_at calls pages k (s ∷ ss) 0 in (
       stands_to (block_tree s.block q) v p t
           (λ w x. calm_standing s.block q v w c.0 (calm_block pages calls (calls_to pages k s) s.block q c.0 n.0) x) h.0,
-      calm_stand pages calls (calls_past pages k s) ss ps t c.1 n.1 (settled_moved (grouped_at calls pages k (s ∷ ss)) (counted ss) ps t h.1),
+      all_stand pages calls (calls_past pages k s) ss ps t c.1 n.1 (settled_moved (grouped_at calls pages k (s ∷ ss)) (counted ss) ps t h.1),
     )
+
+-- they are at their paths as in a page without calls
+pub calm_stand : (pages : Pages) (ss : List BlockSpot) (behind : List ℕ) (ps : List (List ℕ)) (t : Tree) → AreContents ss → CallNothing ss
+    → AllSettled (block_with_groups pages ss behind) (counted ss) ps t → AllStand ss ps t
+calm_stand pages ss behind ps t c n h = all_stand pages (expanded_page pages (spots_source ss behind)).outer 0 ss ps t c n h
 
 -- and what may be sent for any block may be sent for them
 fits_calm : (pages : Pages) (k : TextBlock) (q : List ℕ) (e : Edited) → IsContent k q → CallsNothing (block_items k q) → Fits k q e → FitsIn pages k q e

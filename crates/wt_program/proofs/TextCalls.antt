@@ -12,7 +12,6 @@ use Rattle.wt_commands.specs.Statuses.{code, IsFaultOrNoMemory}
 use Rattle.wt_typed_blocks.specs.Sent.{Sents}
 use Rattle.wt_typed_blocks.proofs.AsEdits.{as_edits, sent_body_is, bare_body_is}
 use Rattle.wt_pagetool.specs.Promises.{Ends, EndsAsEdit}
-use Rattle.wt_expand.specs.PageCalls.{expanded_page}
 use Rattle.wt_text_edit_laws.specs.BlockSpots.{BlockSpot, spots_source, AreContents}
 use Rattle.wt_called_edit_laws.specs.AnyBlocks.{new_page}
 use Rattle.wt_called_edit_laws.specs.CalledBlocks.{CallNothing}
@@ -82,7 +81,7 @@ texts_so c ended takes = λ pages ss behind told h.
     let contents : AreContents ss = h.among.contents in
     let calm : CallNothing ss = h.among.calm in
     let stand : AllStand ss t.paths (spots_tree pages ss behind) =
-    calm_stand pages (expanded_page pages (spots_source ss behind)).outer 0 ss t.paths (spots_tree pages ss behind) contents calm t.stand in
+    calm_stand pages ss behind t.paths (spots_tree pages ss behind) contents calm t.stand in
     texts_there c ended pages ss behind t contents calm stand (same_page pages ss behind t.paths stand contents)
 
 pub calls_take_texts : (c : Call) (ended : ℕ) → Ends c ended → EndsAsEdit c ended → TakesTextsAmongCalls c ended
