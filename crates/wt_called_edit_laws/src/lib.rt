@@ -73,6 +73,7 @@ ghost use Rattle.wt_selser.specs.GroupFaults.{paragraph_face};
 ghost use Rattle.wt_called_edit_laws.specs.WrittenAnew.{node_sources, StayButForOthers, IsWrittenBeside, HoldsAnywhere, EachHolds};
 
 mod body_paragraphs;
+mod called_edits;
 mod calling_pages;
 mod in_pieces;
 mod placed_blocks;
@@ -81,10 +82,12 @@ pub use body_paragraphs::{
     nodes_of_paragraphs_of_the_body_stay, paragraphs_of_the_body_are_edited,
     paragraphs_of_the_body_may_be_edited,
 };
+pub use called_edits::contents_beside_calls_are_made;
 pub use calling_pages::{
     blocks_that_call_are_untangled, blocks_that_call_stay_where_nothing_is_written,
-    blocks_whose_calls_give_words_are_whole, edits_of_blocks_that_call_are_apart,
-    edits_of_blocks_that_call_make_the_page, pages_whose_blocks_call_are_such_again,
+    blocks_whose_calls_give_words_are_whole, contents_beside_calls_are_taken,
+    edits_of_blocks_that_call_are_apart, edits_of_blocks_that_call_make_the_page,
+    pages_whose_blocks_call_are_such_again, pages_whose_blocks_call_are_told_by_bytes,
 };
 pub use in_pieces::{
     letters_may_be_typed_before_calls, paragraphs_in_pieces_may_be_written_anew,
