@@ -91,7 +91,7 @@ guard_shut false = tt
 
 reference_shut : (c : ℕ) → is_escapable c ≡ true → ends_open (reference c) ≡ false
 unfolding reference digits
-reference_shut c e = each_escapable (λ k. ends_open (reference k) ≡ false) refl refl refl refl refl refl refl refl refl refl refl refl refl refl c e
+reference_shut c e = each_escapable (λ k. ends_open (reference k) ≡ false) refl refl refl refl refl refl refl refl refl refl refl refl refl c e
 
 letter_shut : (e : Bool) (c : ℕ) → (e ≡ true → is_escapable c ≡ true) → AreShutParts (parts Text (letter_items e c))
 unfolding label_at
