@@ -510,8 +510,7 @@ lined_among pages page (b ∷ ls) behind h =
     let rows : List Row = written_rows 0 b.before in
     let rows_are : rows_of_part [] front ≡ rows = rows_by [] b.before b.marks h.lined.0.are_marks l.around.front_are l.around.front_whole in
     let P : List Item → Type 0 = λ zs. LeadsInto b.block [] zs × StayText b.block (length (open_behind_part [] zs)) (page_items b.text)
-    × StandAfter b.block (open_behind_part [] zs) (spots_among pages n ss) (items_behind pages n ss end) in
-    (
+    × StandAfter b.block (open_behind_part [] zs) (spots_among pages n ss) (items_behind pages n ss end) in (
       same,
       record {
         utf8 = utf8;
