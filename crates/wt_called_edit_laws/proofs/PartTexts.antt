@@ -79,7 +79,7 @@ mutual
       own_append (stretches_of r at start bs m) (all_stretches r (at + width m) next (drop (width m) bs) ms)
       (own_one r at start bs m) (own_all r (at + width m) next (drop (width m) bs) ms)
 
-own_page : (pages : Pages) (bs : List ℕ) → OwnPage (page_stretches pages bs)
+pub own_page : (pages : Pages) (bs : List ℕ) → OwnPage (page_stretches pages bs)
 unfolding page_stretches
 own_page pages bs = own_all (page_reading pages) 0 true bs (text_members mode.Page bs)
 
@@ -89,7 +89,7 @@ pub own_text : (calls : List OuterCall) (o : Option ℕ) (xs : List Item) → Al
 own_text calls o [] h = refl
 own_text calls o (x ∷ xs) h = ap₂ (λ us vs. us ++ vs) (behind_page calls o x h.0) (own_text calls (call_of x) xs h.1)
 
-same_text : (calls : List OuterCall) (o : Option ℕ) (k : ℕ) (xs : List Item) → o ≡ Some k → AllFrom (Some k) xs → text_from calls o xs ≡ []
+pub same_text : (calls : List OuterCall) (o : Option ℕ) (k : ℕ) (xs : List Item) → o ≡ Some k → AllFrom (Some k) xs → text_from calls o xs ≡ []
 same_text calls o k [] e h = refl
 same_text calls o k (x ∷ xs) e h = ap₂ (λ us vs. us ++ vs) (behind_same calls o k x e h.0) (same_text calls (call_of x) k xs h.0 h.1)
 
@@ -107,7 +107,7 @@ behind_new : (calls : List OuterCall) (o : Option ℕ) (k : ℕ) (x : Item) → 
 behind_new calls o k x f e =
     ap (λ p. if not (same_call o p) then text_by calls p (source x) else []) e ∙ ap (λ t. if not t then source_of_call (slice_get calls k) else []) f
 
-call_text : (calls : List OuterCall) (o : Option ℕ) (k : ℕ) (z : Item) (zs : List Item) → IsBelow k o → AllFrom (Some k) (z ∷ zs)
+pub call_text : (calls : List OuterCall) (o : Option ℕ) (k : ℕ) (z : Item) (zs : List Item) → IsBelow k o → AllFrom (Some k) (z ∷ zs)
     → text_from calls o (z ∷ zs) ≡ source_of_call (slice_get calls k)
 call_text calls o k z zs b h =
     ap₂ (λ us vs. us ++ vs) (behind_new calls o k z (below_other k o b) h.0) (same_text calls (call_of z) k zs h.0 h.1)
@@ -118,7 +118,7 @@ called_from k [] = tt
 called_from k (char o b ∷ xs) = (refl, called_from k xs)
 called_from k (whole f o bs ∷ xs) = (refl, called_from k xs)
 
-outer_text : (calls : List OuterCall) (o : Option ℕ) (k : ℕ) (c : OuterCall) (xs : List Item) → IsBelow k o
+pub outer_text : (calls : List OuterCall) (o : Option ℕ) (k : ℕ) (c : OuterCall) (xs : List Item) → IsBelow k o
     → text_from calls o (outer_items k c xs) ≡ source_of_call (slice_get calls k)
 outer_text calls o k c [] b = call_text calls o k (whole form.EmptyCall (Some k) c.source) [] b (refl, tt)
 outer_text calls o k c (x ∷ xs) b = call_text calls o k (from_call k x) (map (from_call k) xs) b (called_from k (x ∷ xs))

@@ -31,8 +31,12 @@ pub mod CalledBlocks
 pub mod CallingBlocks
 pub mod CallingGroups
 pub mod CallingEdits
+pub mod CallingContents
+pub mod EditableBlocks
+pub mod CalledEdits
 pub mod InPieces
 pub mod PageThings
+pub mod WholeContents
 pub mod Written
 pub mod WrittenAnew
 pub mod SentAsIs

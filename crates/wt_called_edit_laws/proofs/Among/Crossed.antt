@@ -10,7 +10,7 @@ use Rattle.wt_span.specs.Braces.{Member, lexeme, call, members, width, width_of_
 use Rattle.wt_braces.proofs.Closings.{stuck_again}
 use Rattle.wt_braces.proofs.Shapes.{NoRun, Behind, nearest}
 use Rattle.wt_braces.proofs.Takings.{taking, rewritten_at, stuck_free, stuck_few}
-use Rattle.wt_part_laws.specs.Apart.{close_left, NoneOpens, NoneCloses, AreApart, AreMet}
+use Rattle.wt_part_laws.specs.Apart.{NoneOpens, NoneCloses, AreApart, AreMet}
 use Rattle.wt_part_laws.proofs.ApartCalls.{onto_calm}
 
 -- ---- how many bytes members take, listed from the nearest on
@@ -381,10 +381,10 @@ over_run p vs ws i j e free_of (inl free) =
 over_run p vs ws i j e free_of (inr b) =
     elim (meets p (in_run vs (i + j)) (run_behind p (reduced_onto [] vs) i j e b) ws [] tt) [
       | inl short ↦
-        let one : List Member = lexeme (Chars, j) ∷ [] in
-        let all : reduced_onto one ws ≡ reduced_onto [] ws ++ one = onto_calm ws [] one (refl, tt) in
-        let none : NoneCloses one = (omega arith, tt) in
-        inr (none_closes ((Chars, j) ∷ ws) (subst NoneCloses (sym all) (closes_both (reduced_onto [] ws) one short none)))
+          let one : List Member = lexeme (Chars, j) ∷ [] in
+          let all : reduced_onto one ws ≡ reduced_onto [] ws ++ one = onto_calm ws [] one (refl, tt) in
+          let none : NoneCloses one = (omega arith, tt) in
+          inr (none_closes ((Chars, j) ∷ ws) (subst NoneCloses (sym all) (closes_both (reduced_onto [] ws) one short none)))
       | inr crossed ↦ absurd (free_of crossed)
     ]
 
