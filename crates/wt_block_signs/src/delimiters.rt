@@ -4,7 +4,7 @@ use crate::kinds::is_cell;
 use std::alloc::Global;
 use wt_checks::original;
 use wt_difference::inside;
-use wt_known::{Known, joined};
+use wt_known::{Known, blanks_at_line_start, joined};
 use wt_span::{NoMemory, Str, Text};
 use wt_tree::{Kind, Node, same_attrs, same_kind};
 
@@ -77,9 +77,15 @@ pub fn begins_line(out: &Str) -> bool {
     }
 }
 
+/// Whether what is written so far ends where a cell may begin a line, or one that a template gives: blanks may be before it.
+fn begins_line_of_cell(out: &Str, kind: Kind) -> bool {
+    let is_of_table = is_cell(kind) || matches!(kind, Kind::Group);
+    is_of_table && blanks_at_line_start(out.as_str(), out.as_str().len()).is_some()
+}
+
 /// Appends a source that may be that of a cell: at the start of a line with one sign where it had two.
 pub fn push_begun(out: &mut Str, kind: Kind, source: &str) -> Result<(), NoMemory> {
-    if !is_doubled(source) || !begins_line(out) {
+    if !is_doubled(source) || !begins_line_of_cell(out, kind) {
         return out.push_str(source);
     }
     let (_, rest) = source.split_at_checked(2).unwrap_or((source, ""));
