@@ -33,6 +33,48 @@ fn joined_or(alloc: Global, texts: &[Text<'_>], sign: &str) -> Result<Str, NoMem
 
 // ---- tables
 
+/// The cell that a node was in the page, where it is one of the other kind now and has its attributes still.
+fn turned_of<'t, 'a>(known: &Known<'t, 'a>, node: &Node<'_>) -> Option<&'t Node<'a>> {
+    let old = of_number(known, node.id)?;
+    let are_cells = is_cell(old.kind) && is_cell(node.kind) && !same_kind(old.kind, node.kind);
+    if are_cells && same_attrs(old.attrs(), node.attrs()) {
+        Some(old)
+    } else {
+        None
+    }
+}
+
+/// What comes after the sign of a cell of the page that has attributes: these, and the bar after them.
+fn attributes_in(opening: &str) -> Option<&str> {
+    let count = if is_doubled(opening) { 2 } else { 1 };
+    let (_, rest) = opening.split_at_checked(count)?;
+    if rest.as_bytes().contains(&b'|') {
+        Some(rest)
+    } else {
+        None
+    }
+}
+
+/// Appends the opening delimiter of a cell that had another kind in the page, with the attributes that it has there; `sign`
+/// where it has none.
+fn push_turned(
+    alloc: Global,
+    out: &mut Str,
+    known: &Known<'_, '_>,
+    node: &Node<'_>,
+    sign: &str,
+) -> Result<(), NoMemory> {
+    let Some(old) = turned_of(known, node) else {
+        return out.push_str(sign);
+    };
+    let opening = joined(alloc, old.opening())?;
+    let Some(attributes) = attributes_in(opening.as_str()) else {
+        return out.push_str(sign);
+    };
+    out.push_str(if matches!(node.kind, Kind::Th) { "!" } else { "|" })?;
+    out.push_str(attributes)
+}
+
 /// Appends the opening delimiter of a table, a row or a cell; `sign` where it has none of its own.
 pub fn push_opening(
     alloc: Global,
@@ -42,7 +84,7 @@ pub fn push_opening(
     sign: &str,
 ) -> Result<(), NoMemory> {
     let Some(old) = standing_of(known, node) else {
-        return out.push_str(sign);
+        return push_turned(alloc, out, known, node, sign);
     };
     let opening = joined_or(alloc, old.opening(), sign)?;
     push_begun(out, node.kind, opening.as_str())
