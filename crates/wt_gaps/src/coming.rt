@@ -669,11 +669,11 @@ fn push_source(
 
 /// Appends what comes before the child after it: the sign of a row that has none, the line of an item, and so many line breaks,
 /// with the blanks of a line of the table, where the page has nothing before that one (`is_next`).
-fn push_up_to_next(
+fn push_up_to_next<'t, 'a>(
     alloc: Global,
     out: &mut Str,
-    known: &Known<'_, '_>,
-    gap: &Gap<'_, '_, '_>,
+    known: &Known<'t, 'a>,
+    gap: &Gap<'_, 't, 'a>,
     breaks: usize,
     is_next: bool,
 ) -> Result<(), NoMemory> {
