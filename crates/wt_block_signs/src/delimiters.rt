@@ -44,11 +44,24 @@ fn turned_of<'t, 'a>(known: &Known<'t, 'a>, node: &Node<'_>) -> Option<&'t Node<
     }
 }
 
-/// What comes after the sign of a cell of the page that has attributes: these, and the bar after them.
-fn attributes_in(opening: &str) -> Option<&str> {
+/// Whether a text has the signs with which a heading cell goes on in a line.
+fn has_heading_signs(text: &str) -> bool {
+    let bytes = text.as_bytes();
+    for at in 1..bytes.len() {
+        if bytes[at] == b'!' && bytes[at - 1] == b'!' {
+            return true;
+        }
+    }
+    false
+}
+
+/// What comes after the sign of a cell of the page that has attributes, and may come after one of this kind: these, and the
+/// bar after them.
+fn attributes_for(kind: Kind, opening: &str) -> Option<&str> {
     let count = if is_doubled(opening) { 2 } else { 1 };
     let (_, rest) = opening.split_at_checked(count)?;
-    if rest.as_bytes().contains(&b'|') {
+    let is_parted = matches!(kind, Kind::Th) && has_heading_signs(rest);
+    if rest.as_bytes().contains(&b'|') && !is_parted {
         Some(rest)
     } else {
         None
@@ -68,7 +81,7 @@ fn push_turned(
         return out.push_str(sign);
     };
     let opening = joined(alloc, old.opening())?;
-    let Some(attributes) = attributes_in(opening.as_str()) else {
+    let Some(attributes) = attributes_for(node.kind, opening.as_str()) else {
         return out.push_str(sign);
     };
     out.push_str(if matches!(node.kind, Kind::Th) { "!" } else { "|" })?;
