@@ -84,7 +84,11 @@ fn push_turned(
     let Some(attributes) = attributes_for(node.kind, opening.as_str()) else {
         return out.push_str(sign);
     };
-    out.push_str(if matches!(node.kind, Kind::Th) { "!" } else { "|" })?;
+    out.push_str(if matches!(node.kind, Kind::Th) {
+        "!"
+    } else {
+        "|"
+    })?;
     out.push_str(attributes)
 }
 

@@ -729,13 +729,7 @@ pub fn push_new<'t, 'a>(
     } else {
         None
     };
-    push_source(
-        &mut by,
-        coming,
-        sign,
-        before,
-        blanks_beside(known, gap),
-    )?;
+    push_source(&mut by, coming, sign, before, blanks_beside(known, gap))?;
     push_up_to_next(alloc, &mut by, known, gap, behind, end == to)?;
     let start = place.start;
     push_part_of(alloc, out, known, gap, Slot { start, end }, by)
