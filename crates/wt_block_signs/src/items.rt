@@ -19,38 +19,16 @@ pub fn sign_of(list: Kind, item: Kind) -> &'static str {
     }
 }
 
-/// The sign of an item of the page after so many others (`depth`). One without a line of its own has that which is on the line
-/// of the list in it: before that list `;` is one of a definition, too.
-fn sign_in_page(page: &str, list: Kind, item: &Node<'_>, depth: usize) -> &'static str {
-    let written = match item.ranges {
-        Some(ranges) if item.opening().is_empty() => {
-            let at = (ranges.start as usize).saturating_add(depth);
-            page.as_bytes().get(at).copied().unwrap_or(0)
-        }
-        _ => 0,
-    };
-    match written {
-        b';' => ";",
-        b':' => ":",
-        _ => sign_of(list, item.kind),
-    }
-}
-
 /// The signs with which an item of the page begins its line, by the lists in which it is; nothing of another
 /// node.
 pub fn signs_of(alloc: Global, known: &Known<'_, '_>, item: &Node<'_>) -> Result<Str, NoMemory> {
     let mut out = Str::new(alloc);
-    push_signs(&mut out, known.page, known.index, item.id)?;
+    push_signs(&mut out, known.index, item.id)?;
     Ok(out)
 }
 
 /// Appends the signs of the page's node of this number. What holds a node has a number below its own.
-fn push_signs(
-    out: &mut Str,
-    page: &str,
-    index: &[Visit<'_, '_>],
-    number: u32,
-) -> Result<(), NoMemory> {
+fn push_signs(out: &mut Str, index: &[Visit<'_, '_>], number: u32) -> Result<(), NoMemory> {
     let Some(item) = original(index, number) else {
         return Ok(());
     };
@@ -61,8 +39,7 @@ fn push_signs(
         return Ok(());
     };
     if list.parent < number {
-        push_signs(out, page, index, list.parent)?;
+        push_signs(out, index, list.parent)?;
     }
-    let depth = out.as_str().len();
-    out.push_str(sign_in_page(page, list.node.kind, item.node, depth))
+    out.push_str(sign_of(list.node.kind, item.node.kind))
 }

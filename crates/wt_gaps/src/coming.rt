@@ -15,7 +15,7 @@ use crate::nodes::{count_of, first_block, last_block};
 use crate::tags::{Tags, breaks_before_tag, breaks_behind_tag};
 use std::alloc::Global;
 use wt_block_signs::{
-    Style, is_cell, is_item, is_lined, is_list, is_row_without_sign, signs_of, style_of,
+    Style, is_cell, is_item, is_lined, is_list, is_part, is_row_without_sign, signs_of, style_of,
 };
 use wt_checks::{Visit, is_compared, original};
 use wt_difference::{Child, inside};
@@ -34,9 +34,21 @@ fn first_gone<'t, 'a>(gone: &[Child<'t, 'a>]) -> Option<&'t Node<'a>> {
     None
 }
 
-/// A child of the page that is beside those that come.
+/// A node, where it is a part of a list or a table itself.
+fn as_part<'t, 'a>(node: Option<&'t Node<'a>>) -> Option<&'t Node<'a>> {
+    match node {
+        Some(node) if is_part(node.kind) => Some(node),
+        _ => None,
+    }
+}
+
+/// A child of the page that is beside those that come: rather an item, a row or a cell than what a template gives.
 fn item_beside<'t, 'a>(gap: &Gap<'_, 't, 'a>) -> Option<&'t Node<'a>> {
-    gap.before.or(gap.behind).or(first_gone(gap.gone))
+    let gone = first_gone(gap.gone);
+    let part = as_part(gap.before)
+        .or(as_part(gap.behind))
+        .or(as_part(gone));
+    part.or(gap.before).or(gap.behind).or(gone)
 }
 
 /// All but the last byte of an item's signs, which are ASCII.
