@@ -11,7 +11,7 @@ use Rattle.wt_span.specs.Origins.{OuterCall, Span, Expanded}
 use Rattle.wt_span.specs.Runs.{AreRuns}
 use Rattle.wt_span.proofs.RunLaws.{runs_are}
 use Rattle.wt_span.specs.Tags.{Tag, opening_tag, is_nowiki}
-use Rattle.wt_annotated.specs.Seams.{last_of, text_from}
+use Rattle.wt_annotated.specs.Seams.{text_from}
 use Rattle.wt_lines.specs.Lines.{full_lines, content, goes_on}
 use Rattle.wt_page.specs.Lines.{ending}
 use Rattle.wt_page.proofs.Ends.{content_ending}
