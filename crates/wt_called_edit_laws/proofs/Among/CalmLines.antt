@@ -165,8 +165,7 @@ own_all front (b ∷ bs) behind xs runs h c s =
     let all : CallsNothing ((front ++ before) ++ (content own ++ rest)) =
     subst CallsNothing (ap (λ zs. front ++ zs) r.items ∙ sym (append_assoc front before (content own ++ rest))) c in
     let split : front ++ joined (b.before ++ (((b.marks ++ b.first) ∷ b.more) ++ tail)) ≡ ((front ++ before) ++ own) ++ joined tail =
-    ap (λ zs. front ++ zs) (lines_joined b tail) ∙ sym (append_assoc front before (own ++ joined tail)) ∙ sym (append_assoc (front ++ before) own (joined tail)) in
-    (
+    ap (λ zs. front ++ zs) (lines_joined b tail) ∙ sym (append_assoc front before (own ++ joined tail)) ∙ sym (append_assoc (front ++ before) own (joined tail)) in (
       own_last (joined b.before) (from_page (joined b.before) p.front),
       p.line,
       calm_between (front ++ before) (content own) rest (behind_unbraced tail (ending own) r.own_ending r.ends) all,
