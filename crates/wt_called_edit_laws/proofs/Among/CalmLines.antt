@@ -23,7 +23,7 @@ use Rattle.wt_commands.specs.Answers.{refusal_of_page}
 use Rattle.wt_text_edit_laws.specs.BlockSpots.{BlockSpot, spots_source}
 use Rattle.wt_text_edit_laws.specs.LonePages.{of_items}
 use Rattle.wt_text_edit_laws.specs.NoCalls.{CallsNothing}
-use Rattle.wt_text_edit_laws.specs.PageCuts.{AreFurtherCuts, AreCuts, AreFree}
+use Rattle.wt_text_edit_laws.specs.PageCuts.{AreFree}
 use Rattle.wt_text_edit_laws.specs.ParagraphBetween.{written_rows}
 use Rattle.wt_text_edit_laws.specs.ParagraphParts.{break}
 use Rattle.wt_text_edit_laws.specs.TextBlocks.{TextBlock, source_of}
@@ -34,7 +34,7 @@ use Rattle.wt_beside_laws.proofs.Derived.BlockContents.{calm_between}
 use Rattle.wt_called_edit_laws.specs.AnyBlocks.{open_after}
 use Rattle.wt_called_edit_laws.specs.Covered.{AreInNoGroup, IsEditablePage}
 use Rattle.wt_called_edit_laws.specs.Groups.{called_tree}
-use Rattle.wt_called_edit_laws.specs.LinedAmong.{spots_on, end_on, spots_of_lines, end_of_lines, AreOfPage, AreOwnLines, AreUntouched, AllClosed, IsLinedAmong}
+use Rattle.wt_called_edit_laws.specs.LinedAmong.{spots_on, end_on, spots_of_lines, end_of_lines, AreOfPage, AreOwnLines, AreUntouched, IsLinedAmong}
 use Rattle.wt_called_edit_laws.specs.PlacedLines.{LinedBlock, all_lines, spots_by, end_by, AreLinedAfter, AreLined, IsLinedPage}
 use Rattle.wt_called_edit_laws.proofs.Among.LinedParts.{of_behind, of_front, own_breaks}
 use Rattle.wt_called_edit_laws.proofs.Among.OwnItems.{from_page}
@@ -174,14 +174,6 @@ own_all front (b ∷ bs) behind xs runs h c s =
 
 -- ---- the page
 
-further_closed : (ss : List BlockSpot) (behind : List ℕ) (zs : List Item) → AreFurtherCuts ss behind zs → AllClosed ss behind
-further_closed [] behind zs h = tt
-further_closed (s ∷ ss) behind zs h = (h.3, further_closed ss behind h.0.rest h.4)
-
-cuts_closed : (ss : List BlockSpot) (behind : List ℕ) → AreCuts ss behind → AllClosed ss behind
-cuts_closed [] behind h = tt
-cuts_closed (s ∷ ss) behind h = (h.2, further_closed ss behind h.0.rest h.3)
-
 none_touched : (calls : List OuterCall) (at : ℕ) (es : List Item) (bs : List LinedBlock) → AreUntouched calls [] at es bs
 none_touched calls at es [] = tt
 none_touched calls at es (b ∷ bs) =
@@ -209,14 +201,13 @@ calm_lined pages page bs behind h =
     let same : spots_source ss end ≡ page = lined_whole page bs behind h.are h.lined in
     let f : AreCutFree ss end = spots_free ss end (lined_in page bs behind h) in
     let editable : IsEditablePage pages ss end = called_editable pages ss end (spots_called pages ss end (lined_in page bs behind h)) in
-    let closed : AllClosed ss (end_of_lines pages page bs behind) = subst (λ (us : List ℕ). AllClosed ss us) (sym parts.1) (cuts_closed ss end f.cuts) in
     let outside : AreInNoGroup 0 ss (called_tree pages page) = subst (λ (us : List ℕ). AreInNoGroup 0 ss (called_tree pages us)) same editable.in_no_group in
     record {
       utf8 = h.utf8;
+      closed = h.closed;
       are = ap (λ (x : Expanded). full_lines x.items) expanded ∙ h.are;
       lined = h.lined;
       own = own_all [] bs behind xs runs (subst AreOfPage all (page_of page)) (subst CallsNothing all h.calls_nothing) (some_all bs behind h.lined);
-      closed = subst (λ (rs : List BlockSpot). AllClosed rs (end_of_lines pages page bs behind)) (sym parts.0) closed;
       free = subst AreFree (sym parts.0) f.free;
       untouched = subst (λ (ts : List Span). AreUntouched (expanded_page pages page).outer ts 0 [] bs) (sym (ap (λ (x : Expanded). x.text_calls) expanded))
           (none_touched (expanded_page pages page).outer 0 [] bs);
