@@ -9,3 +9,4 @@ pub mod OwnItems
 pub mod BlockAt
 pub mod LinedParts
 pub mod CalmLines
+pub mod ToldAmong

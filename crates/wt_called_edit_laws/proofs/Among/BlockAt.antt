@@ -52,7 +52,7 @@ own_seam : (xs ys : List Item) → last_of None xs ≡ None → IsOwnSeam xs ys
 own_seam [] ys e = tt
 own_seam (x ∷ xs) ys e = inl e
 
-beside_first : (from to : ℕ) (spans : List Span) → from ≤ to → AreBeside from to spans → AreBeside from from spans
+pub beside_first : (from to : ℕ) (spans : List Span) → from ≤ to → AreBeside from to spans → AreBeside from from spans
 beside_first from to [] le h = tt
 beside_first from to (s ∷ spans) le h = (by h.0, beside_first from to spans le h.1)
   where
@@ -60,7 +60,7 @@ beside_first from to (s ∷ spans) le h = (by h.0, beside_first from to spans le
     by (inl l) = inl l
     by (inr r) = inr (omega (arith, r, le))
 
-beside_front : (from mid to : ℕ) (spans : List Span) → mid ≤ to → AreBeside from to spans → AreBeside from mid spans
+pub beside_front : (from mid to : ℕ) (spans : List Span) → mid ≤ to → AreBeside from to spans → AreBeside from mid spans
 beside_front from mid to [] le h = tt
 beside_front from mid to (s ∷ spans) le h = (by h.0, beside_front from mid to spans le h.1)
   where
@@ -87,15 +87,15 @@ text_to pages page p xs = p + length (text_from (calls_of pages page) None xs)
 
 -- ---- past items before a cut
 
-record IsPast (pages : Pages) (page : List ℕ) (p : ℕ) (xs ys qs : List Item) : Type 0 where
-  before : List Item
-  behind : List Item
-  is : qs ≡ before ++ behind
-  source : sources before ≡ text_from (calls_of pages page) None xs
-  clear : IsClear (text_to pages page p xs) 0 (members_of page)
-  next : IsRest pages page (text_to pages page p xs) ys behind
+pub record IsPast (pages : Pages) (page : List ℕ) (p : ℕ) (xs ys qs : List Item) : Type 0 where
+  pub before : List Item
+  pub behind : List Item
+  pub is : qs ≡ before ++ behind
+  pub source : sources before ≡ text_from (calls_of pages page) None xs
+  pub clear : IsClear (text_to pages page p xs) 0 (members_of page)
+  pub next : IsRest pages page (text_to pages page p xs) ys behind
 
-past_front : (pages : Pages) (page : List ℕ) (p : ℕ) (xs ys qs : List Item) → IsRest pages page p (xs ++ ys) qs → last_of None xs ≡ None
+pub past_front : (pages : Pages) (page : List ℕ) (p : ℕ) (xs ys qs : List Item) → IsRest pages page p (xs ++ ys) qs → last_of None xs ≡ None
     → AreBeside (text_to pages page p xs) (text_to pages page p xs) (expanded_page pages page).text_calls → IsPast pages page p xs ys qs
 past_front pages page p xs ys qs r ends beside =
     let calls : List OuterCall = calls_of pages page in
@@ -122,13 +122,13 @@ past_front pages page p xs ys qs r ends beside =
     }
 
 -- past items of the page's own
-record IsPastOwn (pages : Pages) (page : List ℕ) (p : ℕ) (os ys qs : List Item) : Type 0 where
-  behind : List Item
-  is : qs ≡ os ++ behind
-  clear : IsClear (p + length (sources os)) 0 (members_of page)
-  next : IsRest pages page (p + length (sources os)) ys behind
+pub record IsPastOwn (pages : Pages) (page : List ℕ) (p : ℕ) (os ys qs : List Item) : Type 0 where
+  pub behind : List Item
+  pub is : qs ≡ os ++ behind
+  pub clear : IsClear (p + length (sources os)) 0 (members_of page)
+  pub next : IsRest pages page (p + length (sources os)) ys behind
 
-past_own : (pages : Pages) (page : List ℕ) (p : ℕ) (os ys qs : List Item) → IsRest pages page p (os ++ ys) qs → AreOfPage os
+pub past_own : (pages : Pages) (page : List ℕ) (p : ℕ) (os ys qs : List Item) → IsRest pages page p (os ++ ys) qs → AreOfPage os
     → AreBeside p (p + length (sources os)) (expanded_page pages page).text_calls → IsPastOwn pages page p os ys qs
 past_own pages page p os ys qs r own beside =
     let calls : List OuterCall = calls_of pages page in
@@ -177,7 +177,7 @@ pub record IsBlockHere (pages : Pages) (page : List ℕ) (p : ℕ) (xs ms os : L
   pub last : IsClear (block_to pages page p xs ms k q) 0 (members_of page)
   pub next : IsRest pages page (block_to pages page p xs ms k q) ys behind
 
-beside_last : (from mid to : ℕ) (spans : List Span) → from ≤ mid → AreBeside from to spans → AreBeside mid to spans
+pub beside_last : (from mid to : ℕ) (spans : List Span) → from ≤ mid → AreBeside from to spans → AreBeside mid to spans
 beside_last from mid to [] le h = tt
 beside_last from mid to (s ∷ spans) le h = (by h.0, beside_last from mid to spans le h.1)
   where
@@ -185,7 +185,7 @@ beside_last from mid to (s ∷ spans) le h = (by h.0, beside_last from mid to sp
     by (inl l) = inl (omega (arith, l, le))
     by (inr r) = inr r
 
-no_bytes : (xs : List Item) → HaveBytes xs → sources xs ≡ [] → xs ≡ []
+pub no_bytes : (xs : List Item) → HaveBytes xs → sources xs ≡ [] → xs ≡ []
 no_bytes [] h e = refl
 no_bytes (x ∷ xs) h e =
     let a = length-append (source x) (sources xs) in
@@ -227,6 +227,13 @@ block_closed page k q front os behind whole block is_source some closed = closed
         let bytes : sources (os ++ break) ≡ source_of k q ++ 10 ∷ [] = flat_map-append source os break ∙ ap (λ (bs : List ℕ). bs ++ 10 ∷ []) is_source in
         sym (ap page_items bytes) ∙ line ∙ ap (λ zs. zs ++ break) (sym own ∙ ap page_items is_source)
 
+-- what is on the page for items and marks of the page's own behind them
+pub marked_text : (calls : List OuterCall) (xs ms : List Item) → last_of None xs ≡ None → AreOfPage ms
+    → text_from calls None (xs ++ ms) ≡ text_from calls None xs ++ sources ms
+marked_text calls xs ms ends marks =
+    text_append_from calls None xs ms ∙ ap (λ (o : Option ℕ). text_from calls None xs ++ text_from calls o ms) ends
+    ∙ ap (λ (bs : List ℕ). text_from calls None xs ++ bs) (own_text calls None ms (from_page ms marks))
+
 pub block_here : (pages : Pages) (page : List ℕ) (p : ℕ) (xs ms os : List Item) (k : TextBlock) (q : List ℕ) (ys qs : List Item)
     → IsRest pages page p (xs ++ (ms ++ (os ++ ys))) qs → last_of None xs ≡ None → AreOfPage ms → AreOfPage os → AreBlockItems k q os → sources os ≡ source_of k q
     → AreBeside (text_to pages page p xs) (block_to pages page p xs ms k q) (expanded_page pages page).text_calls → IsBlockHere pages page p xs ms os k q ys qs
@@ -236,9 +243,7 @@ block_here pages page p xs ms os k q ys qs r ends marks own block is_source besi
     let line : ℕ = text_to pages page p xs in
     let from : ℕ = block_from pages page p xs ms in
     let to : ℕ = block_to pages page p xs ms k q in
-    let marked : text_from calls None (xs ++ ms) ≡ text_from calls None xs ++ sources ms =
-    text_append_from calls None xs ms ∙ ap (λ (o : Option ℕ). text_from calls None xs ++ text_from calls o ms) ends
-    ∙ ap (λ (bs : List ℕ). text_from calls None xs ++ bs) (own_text calls None ms (from_page ms marks)) in
+    let marked : text_from calls None (xs ++ ms) ≡ text_from calls None xs ++ sources ms = marked_text calls xs ms ends marks in
     let sum = ap length marked in
     let two = length-append (text_from calls None xs) (sources ms) in
     let size : line + length (sources ms) ≡ from = omega (arith, sum, two) in

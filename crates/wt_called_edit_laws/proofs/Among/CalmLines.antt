@@ -26,7 +26,7 @@ use Rattle.wt_text_edit_laws.specs.NoCalls.{CallsNothing}
 use Rattle.wt_text_edit_laws.specs.PageCuts.{AreFree}
 use Rattle.wt_text_edit_laws.specs.ParagraphBetween.{written_rows}
 use Rattle.wt_text_edit_laws.specs.ParagraphParts.{break}
-use Rattle.wt_text_edit_laws.specs.TextBlocks.{TextBlock, source_of}
+use Rattle.wt_text_edit_laws.specs.TextBlocks.{TextBlock}
 use Rattle.wt_text_edit_laws.proofs.Between.LessBraces.{BeginsUnbraced}
 use Rattle.wt_text_edit_laws.proofs.Between.NoCalls.{calm_expanded}
 use Rattle.wt_text_edit_laws.proofs.Cuts.TextLines.{IsEnding, joined_is}
@@ -177,7 +177,10 @@ own_all front (b ∷ bs) behind xs runs h c s =
 none_touched : (calls : List OuterCall) (at : ℕ) (es : List Item) (bs : List LinedBlock) → AreUntouched calls [] at es bs
 none_touched calls at es [] = tt
 none_touched calls at es (b ∷ bs) =
-    (tt, none_touched calls (at + length (text_from calls None ((es ++ joined b.before) ++ b.marks)) + length (source_of b.block b.text)) (ending (own_items b)) bs)
+    (
+      tt,
+      none_touched calls (at + length (text_from calls None (es ++ joined b.before)) + length (sources (b.marks ++ content (own_items b)))) (ending (own_items b)) bs,
+    )
 
 page_runs : (page : List ℕ) (bs : List LinedBlock) (behind : List (List Item)) → full_lines (page_items page) ≡ all_lines bs behind
     → AreRuns goes_on (all_lines bs behind) (page_items page)
