@@ -190,22 +190,30 @@ has_call pages i source h = elim (cases_lt 0 (calls_in pages source)) [
       absurd (words_nonempty i shown h.begins (sym all ∙ none))
 ]
 
--- nothing, or the words of the first call that comes next
+-- It is the first call of this source, and gives words.
+pub record IsNextCall (pages : Pages) (i j : ℕ) (source : List ℕ) : Type 0 where
+  pub less : j < i + calls_in pages source
+  pub shown : List ℕ
+  pub words : AreWords shown (of_call j (part_items pages i source))
+
 pub thing_gives : (pages : Pages) (i j : ℕ) (t : Thing) → IsOfFolder t.role pages t
-    → (of_call j (part_items pages i t.source) ≡ []) ⊎ ((j < i + calls_in pages t.source) × ((shown : List ℕ) × AreWords shown (of_call j (part_items pages i t.source))))
+    → (of_call j (part_items pages i t.source) ≡ []) ⊎ IsNextCall pages i j t.source
 thing_gives pages i j t h = elim (node_case t.role pages t h) [
   | inl k ↦ inl (stays_none pages i j t k.0)
   | inr k ↦ by_number (i == j) refl k (has_call pages i t.source k)
 ]
   where
     by_number : (v : Bool) → (i == j) ≡ v → GivesWords pages t.source → 0 < calls_in pages t.source
-        → (of_call j (part_items pages i t.source) ≡ [])
-        ⊎ ((j < i + calls_in pages t.source) × ((shown : List ℕ) × AreWords shown (of_call j (part_items pages i t.source))))
+        → (of_call j (part_items pages i t.source) ≡ []) ⊎ IsNextCall pages i j t.source
     by_number true e k some =
         let words : List ℕ = sources (expanded_page pages t.source).items in
         let same : i ≡ j = (Decides-eqb i j).0 e in
         let less : j < i + calls_in pages t.source = omega (arith, same, some) in
-        inr (less, words, record { call = i; is = ap (of_call j) (k.items i) ∙ chars_here i j words e; words = k.words; begins = k.begins })
+        inr (record {
+          less = less;
+          shown = words;
+          words = record { call = i; is = ap (of_call j) (k.items i) ∙ chars_here i j words e; words = k.words; begins = k.begins };
+        })
     by_number false e k some = inl (ap (of_call j) (k.items i) ∙ chars_past i j (sources (expanded_page pages t.source).items) e)
 
 words_here : (pages : Pages) (i j : ℕ) (s : Setting) (before signs : List ContentSign) → AreOfFolder pages signs
@@ -228,10 +236,10 @@ words_here pages i j s before (thing t ∷ after) h =
     elim (thing_gives pages i j t h.0) [
       | inl k ↦ subst NoneOrWords (sym (both ∙ ap (λ (us : List Item). us ++ of_call j rest) k)) later
       | inr k ↦
-          let none : of_call j rest ≡ [] = all_before pages next j s (thing t ∷ before) after k.0 in
+          let none : of_call j rest ≡ [] = all_before pages next j s (thing t ∷ before) after k.less in
           let is : of_call j (guard_items u ++ (own ++ rest)) ≡ of_call j own =
           both ∙ ap (λ (us : List Item). of_call j own ++ us) none ∙ append-nil (of_call j own) in
-          inr (k.1, subst (AreWords k.1) (sym is) k.2)
+          inr (k.shown, subst (AreWords k.shown) (sym is) k.words)
     ]
 
 -- ---- the calls of a node

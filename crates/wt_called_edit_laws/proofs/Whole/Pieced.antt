@@ -76,13 +76,13 @@ pieces_words pages i j (b ∷ bs) (t ∷ ts) (inl h) g =
           past_piece pages i j b bs (ap (λ (q : List ℕ). of_call j (part_items pages i q)) h.0 ∙ k)
           (pieces_words pages (i + calls_in pages b) j bs ts h.1 g.2)
       | inr k ↦
-          let less : j < i + calls_in pages b = subst (λ (q : List ℕ). j < i + calls_in pages q) same k.0 in
-          let words : AreWords k.1 (of_call j (part_items pages i b)) = subst (λ (q : List ℕ). AreWords k.1 (of_call j (part_items pages i q))) same k.2 in
+          let less : j < i + calls_in pages b = subst (λ (q : List ℕ). j < i + calls_in pages q) same k.less in
+          let words : AreWords k.shown (of_call j (part_items pages i b)) = subst (λ (q : List ℕ). AreWords k.shown (of_call j (part_items pages i q))) same k.words in
           let is : of_call j (part_items pages i b ++ rest) ≡ of_call j (part_items pages i b) =
           of_append j (part_items pages i b) rest
           ∙ ap (λ (us : List Item). of_call j (part_items pages i b) ++ us) (pieces_before pages (i + calls_in pages b) j bs less)
           ∙ append-nil (of_call j (part_items pages i b)) in
-          inr (k.1, subst (AreWords k.1) (sym is) words)
+          inr (k.shown, subst (AreWords k.shown) (sym is) words)
     ]
 pieces_words pages i j (b ∷ bs) (t ∷ ts) (inr h) g =
     past_piece pages i j b bs (calm_none pages i j b h.0) (pieces_words pages (i + calls_in pages b) j bs (t ∷ ts) h.1 g)
