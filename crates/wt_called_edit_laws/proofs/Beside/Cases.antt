@@ -59,10 +59,12 @@ use Rattle.wt_beside_laws.proofs.Groups.Cases.{a_word, call, gives_b}
 use Rattle.wt_called_edit_laws.specs.CalledEdits.{page_things, ShowsAsGiven, AreChildrenBeside, IsBesideCalls, IsCalledEditOf, MakesContentIn}
 use Rattle.wt_called_edit_laws.specs.InPieces.{AreInPieces}
 use Rattle.wt_called_edit_laws.specs.PageThings.{ArePageThings, thing_sources}
+use Rattle.wt_called_edit_laws.specs.SentAsIs.{as_sent}
 use Rattle.wt_called_edit_laws.specs.Settled.{settled}
 use Rattle.wt_called_edit_laws.specs.WrittenAnew.{StayButForOthers}
 use Rattle.wt_called_edit_laws.proofs.Beside.Given.{words_given}
 use Rattle.wt_called_edit_laws.proofs.Beside.Making.{calls_make}
+use Rattle.wt_called_edit_laws.proofs.Cells.SentAsIs.{stands_as_sent}
 use Rattle.wt_called_edit_laws.proofs.Written.Cases.{call_part, call_read, call_sealed, call_shut, call_utf8}
 use Rattle.wt_called_edit_laws.proofs.Written.Joined.{calm_written}
 
@@ -189,11 +191,11 @@ in_class = record {
 
 -- ---- what is sent
 
--- `zw` before the call, and `v` behind it
+-- `zw` before the call, of which the elements are sent that are written for it, and `v` behind it
 abbrev edit : Pieces
 edit =
     gone (nth 0 (children_of block)) (written a_label (codes "zw")
-    (kept group group (gone (nth 2 (children_of block)) (written a_label (codes "v") no_pieces))))
+    (kept group (as_sent group) (gone (nth 2 (children_of block)) (written a_label (codes "v") no_pieces))))
 
 are_letters : IsUtf8 (codes "zw") × IsUtf8 (codes "v")
 unfolding encode
@@ -204,13 +206,7 @@ unfolding label_at context_parts chunks segments loose_segments tiles shapes clo
     switch_at children with_styles style_tree_of toggles_of toggle_at opens_tag closes_tag
 edit_of = record {
   old = refl;
-  stay = (
-    (
-      record { kind = refl; id = refl; attrs = refl; mw = refl; shown = λ e. refl; unmarked = refl },
-      record { numbered = λ e. cc; elements = refl; unnumbered = (refl, tt); unmarked = refl; unframed = refl },
-    ),
-    tt,
-  );
+  stay = (stands_as_sent group (record { numbered = λ e. cc; unnumbered = (refl, tt); unframed = refl }), tt);
   are = (are_letters.0, (tt, (are_letters.1, tt)));
   plain = tt;
   calm = ((λ n. absurd n), ((λ n. absurd n), tt));
