@@ -103,7 +103,7 @@ ended_text calls xs (inr s) =
     subst AreEnded (sym is) (lines_ended (text_from calls None s.0 ++ 10 ∷ []) (one_line (text_from calls None s.0)))
 
 -- the last of them, if there is one, is an item of the page's own
-record IsLastOwn (xs : List Item) : Type 0 where
+pub record IsLastOwn (xs : List Item) : Type 0 where
   front : List Item
   last : Item
   is : xs ≡ front ++ last ∷ []
