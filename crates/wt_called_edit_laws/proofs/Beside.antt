@@ -2,7 +2,6 @@
 pub mod Counts
 pub mod Found
 pub mod Sent
-pub mod StandIns
 pub mod Making
 pub mod Given
 mod Cases

@@ -28,6 +28,7 @@ pub mod CallsTake
 pub mod TextsTaken
 pub mod BareInsides
 mod SettledCases
+pub mod SettledNodes
 pub mod Settles
 pub mod SettledPages
 pub mod SpotSources
@@ -45,6 +46,7 @@ pub mod GroupsOfPage
 pub mod BlocksOutside
 pub mod Parts
 pub mod Written
+pub mod Whole
 pub mod CallingGroups
 pub mod CallingPages
 pub mod CallingGaps

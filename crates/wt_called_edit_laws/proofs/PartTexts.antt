@@ -31,7 +31,7 @@ use Rattle.wt_called_edit_laws.proofs.Parts.Retyped.{is_by_parts}
 
 -- ---- the page's own items come from no call
 
-abbrev OwnPage : List Stretch → Type 0
+abbrev pub OwnPage : List Stretch → Type 0
 OwnPage [] = Unit {0}
 OwnPage (own xs ∷ ss) = AllFrom None xs × OwnPage ss
 OwnPage (outer c xs ∷ ss) = OwnPage ss
@@ -79,22 +79,22 @@ mutual
       own_append (stretches_of r at start bs m) (all_stretches r (at + width m) next (drop (width m) bs) ms)
       (own_one r at start bs m) (own_all r (at + width m) next (drop (width m) bs) ms)
 
-own_page : (pages : Pages) (bs : List ℕ) → OwnPage (page_stretches pages bs)
+pub own_page : (pages : Pages) (bs : List ℕ) → OwnPage (page_stretches pages bs)
 unfolding page_stretches
 own_page pages bs = own_all (page_reading pages) 0 true bs (text_members mode.Page bs)
 
 -- ---- what is on the page for items of one origin
 
-own_text : (calls : List OuterCall) (o : Option ℕ) (xs : List Item) → AllFrom None xs → text_from calls o xs ≡ sources xs
+pub own_text : (calls : List OuterCall) (o : Option ℕ) (xs : List Item) → AllFrom None xs → text_from calls o xs ≡ sources xs
 own_text calls o [] h = refl
 own_text calls o (x ∷ xs) h = ap₂ (λ us vs. us ++ vs) (behind_page calls o x h.0) (own_text calls (call_of x) xs h.1)
 
-same_text : (calls : List OuterCall) (o : Option ℕ) (k : ℕ) (xs : List Item) → o ≡ Some k → AllFrom (Some k) xs → text_from calls o xs ≡ []
+pub same_text : (calls : List OuterCall) (o : Option ℕ) (k : ℕ) (xs : List Item) → o ≡ Some k → AllFrom (Some k) xs → text_from calls o xs ≡ []
 same_text calls o k [] e h = refl
 same_text calls o k (x ∷ xs) e h = ap₂ (λ us vs. us ++ vs) (behind_same calls o k x e h.0) (same_text calls (call_of x) k xs h.0 h.1)
 
 -- from the page, or from one of so many calls
-abbrev IsBelow : ℕ → Option ℕ → Type 0
+abbrev pub IsBelow : ℕ → Option ℕ → Type 0
 IsBelow k None = Unit {0}
 IsBelow k (Some j) = j < k
 
@@ -107,25 +107,25 @@ behind_new : (calls : List OuterCall) (o : Option ℕ) (k : ℕ) (x : Item) → 
 behind_new calls o k x f e =
     ap (λ p. if not (same_call o p) then text_by calls p (source x) else []) e ∙ ap (λ t. if not t then source_of_call (slice_get calls k) else []) f
 
-call_text : (calls : List OuterCall) (o : Option ℕ) (k : ℕ) (z : Item) (zs : List Item) → IsBelow k o → AllFrom (Some k) (z ∷ zs)
+pub call_text : (calls : List OuterCall) (o : Option ℕ) (k : ℕ) (z : Item) (zs : List Item) → IsBelow k o → AllFrom (Some k) (z ∷ zs)
     → text_from calls o (z ∷ zs) ≡ source_of_call (slice_get calls k)
 call_text calls o k z zs b h =
     ap₂ (λ us vs. us ++ vs) (behind_new calls o k z (below_other k o b) h.0) (same_text calls (call_of z) k zs h.0 h.1)
     ∙ append-nil (source_of_call (slice_get calls k))
 
-called_from : (k : ℕ) (xs : List Item) → AllFrom (Some k) (map (from_call k) xs)
+pub called_from : (k : ℕ) (xs : List Item) → AllFrom (Some k) (map (from_call k) xs)
 called_from k [] = tt
 called_from k (char o b ∷ xs) = (refl, called_from k xs)
 called_from k (whole f o bs ∷ xs) = (refl, called_from k xs)
 
-outer_text : (calls : List OuterCall) (o : Option ℕ) (k : ℕ) (c : OuterCall) (xs : List Item) → IsBelow k o
+pub outer_text : (calls : List OuterCall) (o : Option ℕ) (k : ℕ) (c : OuterCall) (xs : List Item) → IsBelow k o
     → text_from calls o (outer_items k c xs) ≡ source_of_call (slice_get calls k)
 outer_text calls o k c [] b = call_text calls o k (whole form.EmptyCall (Some k) c.source) [] b (refl, tt)
 outer_text calls o k c (x ∷ xs) b = call_text calls o k (from_call k x) (map (from_call k) xs) b (called_from k (x ∷ xs))
 
 -- ---- the last item
 
-below_own : (k : ℕ) (o : Option ℕ) (xs : List Item) → IsBelow k o → AllFrom None xs → IsBelow k (last_of o xs)
+pub below_own : (k : ℕ) (o : Option ℕ) (xs : List Item) → IsBelow k o → AllFrom None xs → IsBelow k (last_of o xs)
 below_own k o [] b h = b
 below_own k o (x ∷ xs) b h = below_own k (call_of x) xs (subst (IsBelow k) (sym h.0) tt) h.1
 
@@ -138,7 +138,7 @@ below_call k o z zs h =
     let it_is : k < suc k = omega arith in
     subst (IsBelow (suc k)) (sym (last_same k (call_of z) zs h.0 h.1)) it_is
 
-below_outer : (k : ℕ) (o : Option ℕ) (c : OuterCall) (xs : List Item) → IsBelow (suc k) (last_of o (outer_items k c xs))
+pub below_outer : (k : ℕ) (o : Option ℕ) (c : OuterCall) (xs : List Item) → IsBelow (suc k) (last_of o (outer_items k c xs))
 below_outer k o c [] = below_call k o (whole form.EmptyCall (Some k) c.source) [] (refl, tt)
 below_outer k o c (x ∷ xs) = below_call k o (from_call k x) (map (from_call k) xs) (called_from k (x ∷ xs))
 

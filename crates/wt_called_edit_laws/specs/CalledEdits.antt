@@ -33,6 +33,7 @@ use Rattle.wt_called_edit_laws.specs.CallingBlocks.{IsNewContentIn}
 use Rattle.wt_called_edit_laws.specs.CallingEdits.{TakesLetters}
 use Rattle.wt_called_edit_laws.specs.InPieces.{pieces_source, AreInPieces}
 use Rattle.wt_called_edit_laws.specs.PageThings.{ArePageThings, thing_sources}
+use Rattle.wt_called_edit_laws.specs.WholeContents.{IsWholeIn}
 use Rattle.wt_called_edit_laws.specs.WrittenAnew.{StayButForOthers, HoldsAnywhere}
 
 -- ---- the block
@@ -115,15 +116,16 @@ pub record IsCalledEditOf (pages : Pages) (block : Tree) (ps : Pieces) : Type 0 
 
 -- ---- what it makes
 
--- It is taken: nothing is wrong in it; what is written may stand in the place of the content q, holds its calls, of which none is text, and takes texts
--- again; the block is its delimiters and this between them, and shows what was sent, wherever it is in a page and whatever calls come before it; what
--- stays is inline.
+-- It is taken: nothing is wrong in it; what is written may stand in the place of the content q, holds its calls, of which none is text, takes texts
+-- again and can be read by itself; the block is its delimiters and this between them, and shows what was sent, wherever it is in a page and whatever
+-- calls come before it; what stays is inline.
 pub record MakesContentIn (pages : Pages) (k : TextBlock) (q : List ℕ) (block : Tree) (m : Label) (ps : Pieces) : Type 0 where
   pub taken : bad_content same_node (page_node (content_edit k block m ps)) (sent_node (content_edit k block m ps)) ≡ None
   pub new : IsNewContentIn pages k q (new_content k block m ps)
   pub holds : HoldsAnywhere pages k (new_content k block m ps)
   pub texts : (expanded_page pages (source_of k (new_content k block m ps))).text_calls ≡ []
   pub letters : TakesLetters pages k (new_content k block m ps)
+  pub whole : IsWholeIn pages k (new_content k block m ps)
   pub source : edited_source same_node (content_edit k block m ps) ≡ source_of k (new_content k block m ps)
   pub shows : (calls : List OuterCall) (i : ℕ) (rest : Plains) → edited_before (content_edit k block m ps) rest
       ≡ plain_before (cut_texts (block_in calls (tree_round k (part_items pages i (new_content k block m ps))))) rest

@@ -34,6 +34,7 @@ pub mod CallingEdits
 pub mod CalledEdits
 pub mod InPieces
 pub mod PageThings
+pub mod WholeContents
 pub mod Written
 pub mod WrittenAnew
 pub mod SentAsIs

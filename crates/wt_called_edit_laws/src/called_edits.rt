@@ -17,7 +17,7 @@ ghost use Rattle.wt_called_edit_laws.specs.Settled.{settled};
 /// any of its other nodes, and any texts between these, with text first and last (`IsCalledEditOf`). It is taken, what is written for it may stand in the
 /// place of the old content, and it makes the new block, with its groups (`MakesContentIn`).
 pub fn contents_beside_calls_are_made()
-    ensures { (pages : Pages) (k : TextBlock) (q : List ℕ) (n at i : ℕ) (calls : List OuterCall) (block : Tree) (m : Label) (ps : Pieces) → 0 < n
+    ensures { (pages : Pages) (k : TextBlock) (q : List ℕ) (block : Tree) (m : Label) (ps : Pieces) (n at i : ℕ) (calls : List OuterCall) → 0 < n
         → block ≡ settled n at (cut_texts (block_in calls (tree_round k (part_items pages i q)))) → IsBesideCalls pages k q block → IsCalledEditOf pages block ps
         → MakesContentIn pages k q block m ps }
 {}

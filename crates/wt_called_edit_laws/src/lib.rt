@@ -85,11 +85,13 @@ pub use body_paragraphs::{
 pub use called_edits::contents_beside_calls_are_made;
 pub use calling_pages::{
     blocks_that_call_are_untangled, blocks_that_call_stay_where_nothing_is_written,
-    edits_of_blocks_that_call_are_apart, edits_of_blocks_that_call_make_the_page,
-    pages_whose_blocks_call_are_such_again,
+    blocks_whose_calls_give_words_are_whole, edits_of_blocks_that_call_are_apart,
+    edits_of_blocks_that_call_make_the_page, pages_whose_blocks_call_are_such_again,
 };
 pub use in_pieces::{
-    paragraphs_in_pieces_may_be_written_anew, paragraphs_of_the_page_take_texts_beside_calls,
+    letters_may_be_typed_before_calls, paragraphs_in_pieces_may_be_written_anew,
+    paragraphs_of_the_page_take_texts_beside_calls,
+    texts_beside_calls_can_be_read_by_themselves,
 };
 pub use placed_blocks::{
     all_blocks_at_their_places_may_be_edited, blocks_at_their_places_may_be_edited,
@@ -281,7 +283,7 @@ pub fn text_calls_touch_no_block_that_calls()
         → AreFreeFrom (expanded_page pages (spots_source ss behind)).text_calls 0 ss }
 {}
 
-/// So none of these blocks is tangled, wherever it is in the page's tree: it can be read by itself.
+/// So none of these blocks is tangled where it is in the page's tree: it can be read by itself.
 #[tactic(auto, using(crate::proofs::Untangled::blocks_untangled))]
 pub fn blocks_among_calls_are_untangled()
     ensures { (pages : Pages) (ss : List BlockSpot) (behind : List ℕ) → AreAmongCalls pages ss behind

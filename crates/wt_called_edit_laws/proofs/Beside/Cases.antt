@@ -29,7 +29,7 @@ use Rattle.wt_expand.specs.Expansion.{text_members, most_templates, absent_text,
 use Rattle.wt_annotated.specs.CutTexts.{cut_texts}
 use Rattle.wt_lines.specs.Lines.{lines}
 use Rattle.wt_inline.specs.Parts.{children}
-use Rattle.wt_tiles.specs.Tags.{tag_at}
+use Rattle.wt_tiles.specs.Tags.{tag_at, opening_tag as opens_tag, closing_tag as closes_tag}
 use Rattle.wt_tiles.specs.Tiles.{form_at as tile_at, link_or_url, tag_tile, switch_at, shapes, closed as closes, tiles}
 use Rattle.wt_tiles.specs.Links.{link_at}
 use Rattle.wt_tiles.specs.Urls.{scheme_len, ext_link_at, bare_url_at}
@@ -37,11 +37,13 @@ use Rattle.wt_context.specs.Chunks.{chunks}
 use Rattle.wt_context.specs.Line.{context_parts}
 use Rattle.wt_context.specs.Nodes.{segments}
 use Rattle.wt_context.specs.Segments.{loose_segments}
+use Rattle.wt_context.specs.Styled.{with_styles}
 use Rattle.wt_annotated.specs.Labels.{label_at}
-use Rattle.wt_quotes.specs.Runs.{place_of as place_at}
+use Rattle.wt_quotes.specs.Styles.{style_tree_of}
+use Rattle.wt_quotes.specs.Toggles.{toggle_at, toggles_of}
 use Rattle.wt_link_spelling.specs.Spelling.{children_of, inline_spelling}
 use Rattle.wt_guards.specs.Content.{Thing}
-use Rattle.wt_guards.specs.Guards.{is_guarded, is_between_guard, is_start_guard, is_end_guard, is_blank_guard}
+use Rattle.wt_guards.specs.Guards.{nowiki, is_guarded, is_between_guard, is_start_guard, is_end_guard, is_blank_guard}
 use Rattle.wt_guards.specs.Letters.{is_escaped}
 use Rattle.wt_guards.specs.Table.{hazard, line_start_hazard}
 use Rattle.wt_part_laws.specs.Expanded.{part_items}
@@ -57,11 +59,13 @@ use Rattle.wt_beside_laws.proofs.Groups.Cases.{a_word, call, gives_b}
 use Rattle.wt_called_edit_laws.specs.CalledEdits.{page_things, ShowsAsGiven, AreChildrenBeside, IsBesideCalls, IsCalledEditOf, MakesContentIn}
 use Rattle.wt_called_edit_laws.specs.InPieces.{AreInPieces}
 use Rattle.wt_called_edit_laws.specs.PageThings.{ArePageThings, thing_sources}
+use Rattle.wt_called_edit_laws.specs.SentAsIs.{as_sent}
 use Rattle.wt_called_edit_laws.specs.Settled.{settled}
 use Rattle.wt_called_edit_laws.specs.WrittenAnew.{StayButForOthers}
 use Rattle.wt_called_edit_laws.proofs.Beside.Given.{words_given}
 use Rattle.wt_called_edit_laws.proofs.Beside.Making.{calls_make}
-use Rattle.wt_called_edit_laws.proofs.Written.Cases.{call_part, call_read, call_sealed, call_utf8}
+use Rattle.wt_called_edit_laws.proofs.Cells.SentAsIs.{stands_as_sent}
+use Rattle.wt_called_edit_laws.proofs.Written.Cases.{call_part, call_read, call_sealed, call_shut, call_utf8}
 use Rattle.wt_called_edit_laws.proofs.Written.Joined.{calm_written}
 
 abbrev source : List ℕ
@@ -106,7 +110,7 @@ group = nth 1 (children_of block)
 -- the call is a group, which is the block's one node
 things_are : page_things block ≡ call ∷ []
 unfolding kept_with label_at context_parts chunks segments loose_segments tiles shapes closes tile_at link_or_url link_at ext_link_at bare_url_at scheme_len
-    tag_tile tag_at switch_at children place_at
+    tag_tile tag_at switch_at children with_styles style_tree_of toggles_of toggle_at opens_tag closes_tag
 things_are = refl
 
 gives : sources (expanded_page a_word (codes "{{t}}")).items ≡ codes "b"
@@ -152,16 +156,16 @@ among =
     inr (no_calls (expanded_page a_word (codes "x")).outer first.calls_are, inl (refl, (no_calls (expanded_page a_word (codes "y")).outer last.calls_are, tt)))
 
 of_page : ArePageThings a_word (call ∷ [])
-of_page = (record { folder = gives_b; read = call_read; part = call_part; sealed = call_sealed; utf8 = call_utf8 }, tt, tt)
+of_page = (record { folder = gives_b; read = call_read; part = call_part; sealed = call_sealed; shut = call_shut; utf8 = call_utf8 }, tt, tt)
 
 group_shows : ShowsAsGiven a_word group
 unfolding label_at context_parts chunks segments loose_segments tiles shapes closes tile_at link_or_url link_at ext_link_at bare_url_at scheme_len tag_tile tag_at
-    switch_at children place_at
+    switch_at children with_styles style_tree_of toggles_of toggle_at opens_tag closes_tag
 group_shows = words_given a_word group gives_b (λ rest. ap (λ (bs : List ℕ). text_before bs rest) (sym gives))
 
 own_nodes : HaveOwn (children_of block) × AreChildrenBeside a_word (children_of block)
 unfolding label_at context_parts chunks segments loose_segments tiles shapes closes tile_at link_or_url link_at ext_link_at bare_url_at scheme_len tag_tile tag_at
-    switch_at children place_at
+    switch_at children with_styles style_tree_of toggles_of toggle_at opens_tag closes_tag
 own_nodes = (
   (tt, ((λ e. cc), (tt, tt))),
   (
@@ -187,11 +191,11 @@ in_class = record {
 
 -- ---- what is sent
 
--- `zw` before the call, and `v` behind it
+-- `zw` before the call, of which the elements are sent that are written for it, and `v` behind it
 abbrev edit : Pieces
 edit =
     gone (nth 0 (children_of block)) (written a_label (codes "zw")
-    (kept group group (gone (nth 2 (children_of block)) (written a_label (codes "v") no_pieces))))
+    (kept group (as_sent group) (gone (nth 2 (children_of block)) (written a_label (codes "v") no_pieces))))
 
 are_letters : IsUtf8 (codes "zw") × IsUtf8 (codes "v")
 unfolding encode
@@ -199,16 +203,10 @@ are_letters = ((codes "zw", (refl, refl)), (codes "v", (refl, refl)))
 
 pub edit_of : IsCalledEditOf a_word block edit
 unfolding label_at context_parts chunks segments loose_segments tiles shapes closes tile_at link_or_url link_at ext_link_at bare_url_at scheme_len tag_tile tag_at
-    switch_at children place_at
+    switch_at children with_styles style_tree_of toggles_of toggle_at opens_tag closes_tag
 edit_of = record {
   old = refl;
-  stay = (
-    (
-      record { kind = refl; id = refl; attrs = refl; mw = refl; shown = λ e. refl; unmarked = refl },
-      record { numbered = λ e. cc; elements = refl; unnumbered = (refl, tt); unmarked = refl; unframed = refl },
-    ),
-    tt,
-  );
+  stay = (stands_as_sent group (record { numbered = λ e. cc; unnumbered = (refl, tt); unframed = refl }), tt);
   are = (are_letters.0, (tt, (are_letters.1, tt)));
   plain = tt;
   calm = ((λ n. absurd n), ((λ n. absurd n), tt));
@@ -220,11 +218,11 @@ edit_of = record {
 pub makes : MakesContentIn a_word a_paragraph source block a_label edit
 makes =
     let some : 0 < 1 = omega arith in
-    calls_make a_word a_paragraph source 1 0 0 (a_call ∷ []) block a_label edit some (ap block_by (sym items_are)) in_class edit_of
+    calls_make a_word a_paragraph source block a_label edit 1 0 0 (a_call ∷ []) some (ap block_by (sym items_are)) in_class edit_of
 
 -- `<nowiki/>` is put on both sides of the call
-written_is : new_content a_paragraph block a_label edit ≡ codes "zw<nowiki/>{{t}}<nowiki/>v"
+pub written_is : new_content a_paragraph block a_label edit ≡ codes "zw<nowiki/>{{t}}<nowiki/>v"
 unfolding inline_spelling kept_with label_at context_parts chunks segments loose_segments tiles shapes closes tile_at link_or_url link_at ext_link_at bare_url_at
-    scheme_len tag_tile tag_at switch_at children place_at is_guarded is_between_guard is_start_guard is_end_guard is_blank_guard hazard line_start_hazard
+    scheme_len tag_tile tag_at switch_at children with_styles style_tree_of toggles_of toggle_at opens_tag closes_tag nowiki is_guarded is_between_guard is_start_guard is_end_guard is_blank_guard hazard line_start_hazard
     is_escaped chars encode
 written_is = refl

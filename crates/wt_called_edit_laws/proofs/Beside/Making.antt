@@ -45,16 +45,18 @@ use Rattle.wt_called_edit_laws.specs.CalledEdits.{page_things, AreChildrenBeside
 use Rattle.wt_called_edit_laws.specs.CallingBlocks.{IsNewContentIn}
 use Rattle.wt_called_edit_laws.specs.CallingEdits.{TakesLetters}
 use Rattle.wt_called_edit_laws.specs.InPieces.{pieces_source}
-use Rattle.wt_called_edit_laws.specs.PageThings.{ThingsStay}
+use Rattle.wt_called_edit_laws.specs.PageThings.{ArePageThings, ThingsStay}
 use Rattle.wt_called_edit_laws.specs.Settled.{settled}
+use Rattle.wt_called_edit_laws.specs.WholeContents.{IsWholeIn}
 use Rattle.wt_called_edit_laws.specs.WrittenAnew.{IsWrittenBeside, HoldsAnywhere}
 use Rattle.wt_called_edit_laws.proofs.Beside.Counts.{block_bare, settled_counts}
 use Rattle.wt_called_edit_laws.proofs.Beside.Found.{AreFound, nodes_found}
 use Rattle.wt_called_edit_laws.proofs.Beside.Sent.{sent_signs, pieces_sent, pieces_things, pieces_characters, pieces_begin, pieces_end, pieces_show, pieces_inline}
-use Rattle.wt_called_edit_laws.proofs.Beside.StandIns.{written_takes_letters}
+use Rattle.wt_called_edit_laws.proofs.Whole.Contents.{written_whole}
 use Rattle.wt_called_edit_laws.proofs.Written.AllHeld.{written_anywhere}
-use Rattle.wt_called_edit_laws.proofs.Written.FromPage.{beside_these, page_takes}
+use Rattle.wt_called_edit_laws.proofs.Written.FromPage.{things_stay, beside_these, page_takes}
 use Rattle.wt_called_edit_laws.proofs.Written.Held.{written_shows}
+use Rattle.wt_called_edit_laws.proofs.Written.Letters.{letters_again}
 use Rattle.wt_called_edit_laws.proofs.Written.Signs.{content_written}
 
 -- ---- the block
@@ -192,6 +194,7 @@ paragraph_makes pages q block m ps i h e =
     let b : IsWrittenBeside pages (setting block) (signs block ps) = written_so pages q block m ps h w in
     let now : List ℕ = spelled (setting block) (signs block ps) in
     let is : new_content a_paragraph block m ps ≡ now = content_is pages q block m ps w in
+    let own : ArePageThings pages (things (signs block ps)) = things_stay pages (page_things block) (things (signs block ps)) w.things_stay h.things in
     let parts = content_written pages (setting block) (signs block ps) refl b.read b.parts in
     let part = parts.part in
     record {
@@ -199,7 +202,8 @@ paragraph_makes pages q block m ps i h e =
       new = subst (IsNewContentIn pages a_paragraph q) (sym is) (new_so pages q block m ps h w);
       holds = subst (HoldsAnywhere pages a_paragraph) (sym is) (written_anywhere pages (setting block) (signs block ps) b);
       texts = ap (λ (bs : List ℕ). (expanded_page pages bs).text_calls) is ∙ part.texts;
-      letters = subst (TakesLetters pages a_paragraph) (sym is) (written_takes_letters pages (setting block) (signs block ps) b);
+      letters = subst (TakesLetters pages a_paragraph) (sym is) (letters_again pages (setting block) (signs block ps) b own);
+      whole = subst (IsWholeIn pages a_paragraph) (sym is) (written_whole pages (setting block) (signs block ps) b);
       source = source_so pages q block m ps i;
       shows = λ calls j rest.
           shows_so pages q block m ps calls j rest i w b
@@ -209,10 +213,10 @@ paragraph_makes pages q block m ps i h e =
 
 -- ---- in other words
 
-pub calls_make : (pages : Pages) (k : TextBlock) (q : List ℕ) (n at i : ℕ) (calls : List OuterCall) (block : Tree) (m : Label) (ps : Pieces) → 0 < n
+pub calls_make : (pages : Pages) (k : TextBlock) (q : List ℕ) (block : Tree) (m : Label) (ps : Pieces) (n at i : ℕ) (calls : List OuterCall) → 0 < n
     → block ≡ settled n at (cut_texts (block_in calls (tree_round k (part_items pages i q)))) → IsBesideCalls pages k q block → IsCalledEditOf pages block ps
     → MakesContentIn pages k q block m ps
-calls_make pages k q n at i calls block m ps some is h e =
+calls_make pages k q block m ps n at i calls some is h e =
     let P : TextBlock → Type 0 = λ j. block ≡ settled n at (cut_texts (block_in calls (tree_round j (part_items pages i q)))) → IsBesideCalls pages j q block
         → MakesContentIn pages j q block m ps in
     subst P (sym h.paragraph)
