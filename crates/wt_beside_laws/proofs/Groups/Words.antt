@@ -61,7 +61,7 @@ half_underscore b e = by (b == 39) (b == 95) (b == 58) e
     by : (u v w : Bool) → v ≡ true → (u || (v || w)) ≡ true
     by true v w i = refl
     by false true w i = refl
-    by false false w i = i
+    by false false w i = cc
 
 pub half_colon : (b : ℕ) → (b == 58) ≡ true → is_half_sign b ≡ true
 half_colon b e = by (b == 39) (b == 95) (b == 58) e
