@@ -52,5 +52,11 @@ pub mod CallingPages
 pub mod CallingGaps
 pub mod CallingApart
 pub mod CallingSent
+pub mod CallingMade
+pub mod CallingChosen
+pub mod CallingTaken
+pub mod CallingOutside
+pub mod EditableBlocks
+pub mod SettledEdits
 pub mod Beside
 pub mod Cells

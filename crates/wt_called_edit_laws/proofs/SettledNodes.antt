@@ -10,13 +10,16 @@ use Rattle.wt_part_laws.specs.Placeless.{placeless_label, placeless, all_placele
 use Rattle.wt_text_edit_laws.proofs.Blocks.Untangled.{open_same}
 use Rattle.wt_called_edit_laws.specs.Settled.{settled, all_settled}
 
+inside_gone : (g : Bool) (ts us : Trees) → all_placeless us ≡ all_placeless ts → all_placeless (if g then ts else us) ≡ all_placeless ts
+inside_gone true ts us e = refl
+inside_gone false ts us e = e
+
 mutual
   pub settled_gone : (n at : ℕ) (t : Tree) → placeless (settled n at t) ≡ placeless t
-  settled_gone n at (tree l ts) = ap (tree (placeless_label l)) (inside_gone (is_group l.kind) (next_after l.kind n) (at + length l.opening) ts)
-
-  inside_gone : (g : Bool) (n at : ℕ) (ts : Trees) → all_placeless (if g then ts else all_settled n at ts) ≡ all_placeless ts
-  inside_gone true n at ts = refl
-  inside_gone false n at ts = all_gone n at ts
+  settled_gone n at (tree l ts) =
+      let m : ℕ = next_after l.kind n in
+      let from : ℕ = at + length l.opening in
+      ap (tree (placeless_label l)) (inside_gone (is_group l.kind) ts (all_settled m from ts) (all_gone m from ts))
 
   all_gone : (n at : ℕ) (ts : Trees) → all_placeless (all_settled n at ts) ≡ all_placeless ts
   all_gone n at none = refl
@@ -43,13 +46,16 @@ mutual
   all_groupless none h = tt
   all_groupless (more t ts) h = (placeless_groupless t h.0, all_groupless ts h.1)
 
+inside_groupless : (g : Bool) (ts us : Trees) → NoneIsGroup ts → NoneIsGroup us → NoneIsGroup (if g then ts else us)
+inside_groupless true ts us h k = h
+inside_groupless false ts us h k = k
+
 mutual
   pub settled_groupless : (n at : ℕ) (t : Tree) → HasNoGroup t → HasNoGroup (settled n at t)
-  settled_groupless n at (tree l ts) h = (h.0, inside_groupless (is_group l.kind) (next_after l.kind n) (at + length l.opening) ts h.1)
-
-  inside_groupless : (g : Bool) (n at : ℕ) (ts : Trees) → NoneIsGroup ts → NoneIsGroup (if g then ts else all_settled n at ts)
-  inside_groupless true n at ts h = h
-  inside_groupless false n at ts h = all_settled_groupless n at ts h
+  settled_groupless n at (tree l ts) h =
+      let m : ℕ = next_after l.kind n in
+      let from : ℕ = at + length l.opening in
+      (h.0, inside_groupless (is_group l.kind) ts (all_settled m from ts) h.1 (all_settled_groupless m from ts h.1))
 
   all_settled_groupless : (n at : ℕ) (ts : Trees) → NoneIsGroup ts → NoneIsGroup (all_settled n at ts)
   all_settled_groupless n at none h = tt

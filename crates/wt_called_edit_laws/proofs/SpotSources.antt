@@ -160,27 +160,41 @@ ones_in_page pages ss behind h e =
 abbrev pub grouped_at : List OuterCall → Pages → ℕ → List BlockSpot → ℕ → Tree
 grouped_at calls pages k ss n = cut_texts (block_in calls (tree_with_calls pages k ss n))
 
-spots_have : (calls : List OuterCall) (pages : Pages) (k : ℕ) (ss : List BlockSpot) → AreContentsInFolder pages ss → AreBlockTexts pages calls k ss
-    → AllHold (tree_with_calls pages k ss) (counted ss) → OnesAt (tree_with_calls pages k ss) (counted ss) → SpotOnes pages k ss
-    → HaveOwnSources (grouped_at calls pages k ss) ss
-spots_have calls pages k [] c t h g o = tt
-spots_have calls pages k (s ∷ ss) c t h g o =
+-- what is on the page for each of them is the block
+abbrev pub AreItsTexts : List OuterCall → Pages → ℕ → List BlockSpot → Type 0
+AreItsTexts calls pages k [] = Unit {0}
+AreItsTexts calls pages k (s ∷ ss) =
+    (text_from calls None (tree_items (tree_round s.block (part_items pages (calls_to pages k s) s.text))) ≡ source_of s.block s.text)
+    × AreItsTexts calls pages (calls_past pages k s) ss
+
+spots_text : (calls : List OuterCall) (pages : Pages) (k : ℕ) (ss : List BlockSpot) → AreContentsInFolder pages ss → AreBlockTexts pages calls k ss
+    → OnesAt (tree_with_calls pages k ss) (counted ss) → SpotOnes pages k ss → AreItsTexts calls pages k ss
+spots_text calls pages k [] c t g o = tt
+spots_text calls pages k (s ∷ ss) c t g o =
     let i : ℕ = calls_to pages k s in
     let xs : List Item = part_items pages i s.text in
-    let own = c.0 in
-    let first : flat (grouped_at calls pages k (s ∷ ss) 0) ≡ source_of s.block s.text =
-    block_flat calls (tree_round s.block xs) h.0
-    ∙ text_so calls s.block xs (own.is i) g.0 (subst AreOnes (own.items i) o.0)
-    ∙ ap (text_from calls None) (sym (own.items i))
-    ∙ t.0 in (
-      first,
-      spots_have calls pages (calls_past pages k s) ss c.1 t.1 (hold_moved (tree_with_calls pages k (s ∷ ss)) (counted ss) h.1)
-          (ones_moved (tree_with_calls pages k (s ∷ ss)) (counted ss) g.1) o.1,
+    let own = c.0 in (
+      text_so calls s.block xs (own.is i) g.0 (subst AreOnes (own.items i) o.0) ∙ ap (text_from calls None) (sym (own.items i)) ∙ t.0,
+      spots_text calls pages (calls_past pages k s) ss c.1 t.1 (ones_moved (tree_with_calls pages k (s ∷ ss)) (counted ss) g.1) o.1,
     )
+
+spots_have : (calls : List OuterCall) (pages : Pages) (k : ℕ) (ss : List BlockSpot) → AreItsTexts calls pages k ss
+    → AllHold (tree_with_calls pages k ss) (counted ss) → HaveOwnSources (grouped_at calls pages k ss) ss
+spots_have calls pages k [] t h = tt
+spots_have calls pages k (s ∷ ss) t h = (
+  block_flat calls (tree_round s.block (part_items pages (calls_to pages k s) s.text)) h.0 ∙ t.0,
+  spots_have calls pages (calls_past pages k s) ss t.1 (hold_moved (tree_with_calls pages k (s ∷ ss)) (counted ss) h.1),
+)
+
+pub blocks_text : (pages : Pages) (ss : List BlockSpot) (behind : List ℕ) → AreCallingBlocks pages ss behind → CallingBlocksStand pages ss behind
+    → first_refusal pages (spots_source ss behind) (page_work pages (spots_source ss behind)) ≡ None
+    → AreItsTexts (expanded_page pages (spots_source ss behind)).outer pages 0 ss
+blocks_text pages ss behind h f e =
+    spots_text (expanded_page pages (spots_source ss behind)).outer pages 0 ss h.contents (block_texts pages ss behind h.called) (ones_in_tree pages ss behind h f e)
+    (ones_in_page pages ss behind h e)
 
 pub blocks_have : (pages : Pages) (ss : List BlockSpot) (behind : List ℕ) → AreCallingOutside pages ss behind
     → first_refusal pages (spots_source ss behind) (page_work pages (spots_source ss behind)) ≡ None
     → HaveOwnSources (block_with_groups pages ss behind) ss
 blocks_have pages ss behind h e =
-    spots_have (expanded_page pages (spots_source ss behind)).outer pages 0 ss h.blocks.contents (block_texts pages ss behind h.blocks.called) h.hold
-    (ones_in_tree pages ss behind h.blocks h.stand e) (ones_in_page pages ss behind h.blocks e)
+    spots_have (expanded_page pages (spots_source ss behind)).outer pages 0 ss (blocks_text pages ss behind h.blocks h.stand e) h.hold

@@ -31,6 +31,8 @@ pub mod CalledBlocks
 pub mod CallingBlocks
 pub mod CallingGroups
 pub mod CallingEdits
+pub mod CallingContents
+pub mod EditableBlocks
 pub mod CalledEdits
 pub mod InPieces
 pub mod PageThings

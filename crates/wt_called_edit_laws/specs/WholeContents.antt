@@ -4,6 +4,7 @@ use Rattle.wt_tree.specs.Tiling.{HasNoGroup}
 use Rattle.wt_guards.specs.Content.{ContentSign, Thing, letter, thing, is_group}
 use Rattle.wt_span.specs.Items.{Item, call_of}
 use Rattle.wt_span.specs.Origins.{OuterCall, same_call}
+use Rattle.wt_inline.specs.declared.loose.Loose.TheVariants.{Text, Sep}
 use Rattle.wt_inline.specs.Parts.{Part, loose, node}
 use Rattle.wt_context.specs.Line.{line_parts}
 use Rattle.wt_isolation.specs.OpenTags.{ends_open, node_ends_open}
@@ -32,10 +33,11 @@ NoneOrWords own = (own ≡ []) ⊎ ((shown : List ℕ) × AreWords shown own)
 
 -- ---- open tags
 
--- no node among these parts ends in one, and none is a group
+-- of characters of texts and nodes no node ends in one, and none is a group
 abbrev pub AreShutParts : List Part → Type 0
 AreShutParts [] = Unit {0}
-AreShutParts (loose k o b ∷ ps) = AreShutParts ps
+AreShutParts (loose Text o b ∷ ps) = AreShutParts ps
+AreShutParts (loose Sep o b ∷ ps) = ⊥
 AreShutParts (node t ∷ ps) = (node_ends_open (standing 0 [] t) ≡ false) × HasNoGroup (standing 0 [] t) × AreShutParts ps
 
 -- nor does a call

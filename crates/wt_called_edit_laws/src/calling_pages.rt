@@ -10,8 +10,11 @@ ghost use Rattle.wt_typed_blocks.specs.EditedPage.{LieAt, AreApart};
 ghost use Rattle.wt_text_edit_laws.specs.BlockSpots.{BlockSpot, spots_source};
 ghost use Rattle.wt_called_edit_laws.specs.CalledTexts.{spots_tree};
 ghost use Rattle.wt_called_edit_laws.specs.CallingBlocks.{AreEdited};
+ghost use Rattle.wt_called_edit_laws.specs.CallingContents.{TakesContentsIn};
 ghost use Rattle.wt_called_edit_laws.specs.CallingEdits.{AllTakeLetters, IsCallingPage, StaysAt, IsSentFor, MakesPage};
 ghost use Rattle.wt_called_edit_laws.specs.CallingGroups.{AreCallingOutside, block_with_groups, CallingNodesStay};
+ghost use Rattle.wt_called_edit_laws.specs.Covered.{IsEditablePage};
+ghost use Rattle.wt_called_edit_laws.specs.EditableBlocks.{IsEditableWithCalls};
 ghost use Rattle.wt_called_edit_laws.specs.FreeBlocks.{NoTextCalls};
 ghost use Rattle.wt_called_edit_laws.specs.Sends.{AllSend};
 ghost use Rattle.wt_called_edit_laws.specs.Untangled.{AreUntangledFrom, AreWhole};
@@ -63,4 +66,21 @@ pub fn edits_of_blocks_that_call_are_apart()
 pub fn edits_of_blocks_that_call_make_the_page()
     ensures { (pages : Pages) (ss rs : List BlockSpot) (behind : List ℕ) (f : CallingNodesStay pages ss behind) (o : ℕ → Option Edited) (es : Edits)
         → IsCallingPage pages ss behind → AreEdited pages ss rs → EachHolds pages rs → IsSentFor pages ss rs behind f o es → MakesPage pages rs behind es }
+{}
+
+/// The contents of any number of these blocks at once, of those that hold calls and of those that call nothing. Each is at a path of the page's tree with
+/// its groups. Where a block calls nothing, an edit may send for it what it may send in any such block; where it holds calls that give words, texts may be
+/// typed, changed and deleted beside these, and other nodes deleted, with text first and last (`FitsIn`). It is done: the new page has these contents, as
+/// they are spelled, and every other byte is what it was; unless it is longer than a page may be. Without marks, too, where each edited block shows
+/// something else. For any such contents there is such an edit. The new page is such a page again.
+#[tactic(auto, using(crate::proofs::CallingTaken::contents_taken))]
+pub fn contents_beside_calls_are_taken()
+    ensures { (pages : Pages) (ss : List BlockSpot) (behind : List ℕ) → IsCallingPage pages ss behind → TakesContentsIn pages ss behind }
+{}
+
+/// Such a page is told by its bytes: where no group of its tree has the first byte of one of its blocks, which call nothing or hold calls that give words, and
+/// the page isn't refused (`IsEditableWithCalls`), it is one. Each page of those whose blocks call nothing (`IsEditablePage`) is told so, too.
+pub fn pages_whose_blocks_call_are_told_by_bytes()
+    ensures calling { (pages : Pages) (ss : List BlockSpot) (behind : List ℕ) → IsEditableWithCalls pages ss behind → IsCallingPage pages ss behind }
+    ensures calm { (pages : Pages) (ss : List BlockSpot) (behind : List ℕ) → IsEditablePage pages ss behind → IsEditableWithCalls pages ss behind }
 {}

@@ -33,7 +33,6 @@ pub fn paragraphs_of_the_page_take_texts_beside_calls()
 {}
 
 /// What is written so can be read by itself, wherever it is in a page (`HoldsWords`): in its block no tag is open, and no group has a fault.
-#[tactic(auto, using(crate::proofs::Whole::Contents::written_words))]
 pub fn texts_beside_calls_can_be_read_by_themselves()
     ensures { (pages : Pages) (s : Setting) (signs : List ContentSign) → IsWrittenBeside pages s signs → HoldsWords pages a_paragraph (spelled s signs) }
 {}

@@ -85,8 +85,9 @@ pub use body_paragraphs::{
 pub use called_edits::contents_beside_calls_are_made;
 pub use calling_pages::{
     blocks_that_call_are_untangled, blocks_that_call_stay_where_nothing_is_written,
-    blocks_whose_calls_give_words_are_whole, edits_of_blocks_that_call_are_apart,
-    edits_of_blocks_that_call_make_the_page, pages_whose_blocks_call_are_such_again,
+    blocks_whose_calls_give_words_are_whole, contents_beside_calls_are_taken,
+    edits_of_blocks_that_call_are_apart, edits_of_blocks_that_call_make_the_page,
+    pages_whose_blocks_call_are_such_again, pages_whose_blocks_call_are_told_by_bytes,
 };
 pub use in_pieces::{
     letters_may_be_typed_before_calls, paragraphs_in_pieces_may_be_written_anew,

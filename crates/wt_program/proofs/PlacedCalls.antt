@@ -6,6 +6,7 @@ use Rattle.wt_called_edit_laws.specs.PlacedLines.{spots_by, end_by}
 use Rattle.wt_called_edit_laws.proofs.BlocksOutside.{called_editable}
 use Rattle.wt_called_edit_laws.proofs.Cells.PlacedLines.{lined_in}
 use Rattle.wt_called_edit_laws.proofs.Cells.PlacedSpots.{spots_called}
+use Rattle.wt_called_edit_laws.proofs.EditableBlocks.{editable_with_calls}
 use Rattle.wt_program.specs.CalledCalls.{TakesTextsAmongCalls}
 use Rattle.wt_program.specs.ContentCalls.{TakesContentsAmongCalls}
 use Rattle.wt_program.specs.PlacedCalls.{TakesContentsAtPlaces, TakesTextsAtPlaces, TakesContentsInLines, TakesTextsInLines}
@@ -13,7 +14,8 @@ use Rattle.wt_program.proofs.AmongCalls.{calls_take}
 use Rattle.wt_program.proofs.TextCalls.{texts_so}
 
 pub contents_at : (c : Call) (ended : ℕ) → TakesContentsAmongCalls c ended → TakesContentsAtPlaces c ended
-contents_at c ended t = λ pages ss behind told h. t pages ss behind told (called_editable pages ss behind (spots_called pages ss behind h))
+contents_at c ended t = λ pages ss behind told h.
+    t pages ss behind told (editable_with_calls pages ss behind (called_editable pages ss behind (spots_called pages ss behind h)))
 
 texts_by : (c : Call) (ended : ℕ) → TakesTextsAmongCalls c ended → TakesTextsAtPlaces c ended
 texts_by c ended t = λ pages ss behind told h. t pages ss behind told (called_editable pages ss behind (spots_called pages ss behind h))

@@ -12,15 +12,15 @@ ghost use Rattle.wt_program.specs.PlacedCalls.{TakesContentsAtPlaces, TakesTexts
 ghost use Rattle.wt_program.specs.ProseCalls.{TakesChangedProse};
 
 /// Every call that keeps what `run` of `wt_pagetool` promises (`Ends`, `EndsAsEdit`) takes edited contents of paragraphs
-/// and headings among calls (`IsEditablePage`): `edit` has written the new page and no line, and `selser` is done; or a
+/// and headings among calls, of those that hold calls, too (`IsEditableWithCalls`): `edit` has written the new page and no line, and `selser` is done; or a
 /// device failed, or memory ran out. Where no device failed, only want of memory may come in the place of the new page.
 #[tactic(auto, using(crate::proofs::AmongCalls::calls_take))]
 pub fn calls_take_contents_among_calls()
     ensures { (c : Call) (ended : ℕ) → Ends c ended → EndsAsEdit c ended → TakesContentsAmongCalls c ended }
 {}
 
-/// Where a call takes edited contents, it takes texts typed in the places of all that such blocks hold, told by what is
-/// sent for each node (`Sents`): these are such contents.
+/// Where a call takes edited contents, it takes texts typed in the places of all that blocks hold which call nothing
+/// (`IsEditablePage`), told by what is sent for each node (`Sents`): these are such contents.
 #[tactic(auto, using(crate::proofs::TextCalls::texts_so))]
 pub fn texts_among_calls_are_taken_so()
     ensures { (c : Call) (ended : ℕ) → TakesContentsAmongCalls c ended → TakesTextsAmongCalls c ended }

@@ -1,6 +1,7 @@
 -- What is written for texts beside calls that give words can be read by itself.
 use Rattle.std.proofs.Common.{arith, ◌≡◌, ◌⊎◌, inl, inr, ℕ, suc, ◌+◌, ◌<◌, ◌≤◌, ◌==◌, Bool, true, false, Option, None, Some, List, [], ◌∷◌, ◌++◌, length, map, refl, sym, ap, ap₂, ◌∙◌, subst, append-nil}
 use Rattle.std.specs.Prelude.{slice_get, encode_utf8}
+use Rattle.std.specs.Fmt.{digits}
 use Rattle.std.proofs.lemmas.Bool.{cases_lt}
 use Rattle.std.proofs.lemmas.Bool.Decides.{nat_tests, Decides-eqb}
 use Rattle.wt_tree.specs.declared.kind.Kind.TheVariants as kind
@@ -14,11 +15,12 @@ use Rattle.wt_guards.specs.declared.role.Role.TheVariants.{Link, External, Bare,
 use Rattle.wt_guards.specs.Content.{ContentSign, Thing, letter, thing, is_group}
 use Rattle.wt_guards.specs.Guards.{Setting, nowiki, is_guarded, spelled}
 use Rattle.wt_guards.specs.Letters.{is_escaped, reference}
+use Rattle.wt_guards.proofs.Escapes.{is_escapable, escapable, each_escapable}
 use Rattle.wt_expand.specs.PageCalls.{Stretch, own, outer, text_call, from_call, outer_items, numbered, outer_calls, page_stretches, expanded_page}
 use Rattle.wt_expand.specs.Work.{Pages}
 use Rattle.wt_expand.proofs.PiecePlaces.{AllFrom}
 use Rattle.wt_lines.specs.Lines.{lines}
-use Rattle.wt_inline.specs.declared.loose.Loose.TheVariants.{Text}
+use Rattle.wt_inline.specs.declared.loose.Loose.TheVariants.{Text, Sep}
 use Rattle.wt_inline.specs.ItemTree.{plain, ItemTree, inner, nothing}
 use Rattle.wt_inline.specs.Parts.{Part, loose, node, parts, nowiki as nowiki_tree}
 use Rattle.wt_context.specs.Line.{line_parts}
@@ -68,7 +70,8 @@ node_case Node pages t h = inl (h, refl)
 
 shut_both : (ps qs : List Part) → AreShutParts ps → AreShutParts qs → AreShutParts (ps ++ qs)
 shut_both [] qs h k = k
-shut_both (loose k o b ∷ ps) qs h g = shut_both ps qs h g
+shut_both (loose Text o b ∷ ps) qs h g = shut_both ps qs h g
+shut_both (loose Sep o b ∷ ps) qs h g = absurd h
 shut_both (node t ∷ ps) qs h k = (h.0, h.1, shut_both ps qs h.2 k)
 
 chars_shut : (o : Option ℕ) (bs : List ℕ) → AreShutParts (parts Text (map (char o) bs))
@@ -86,10 +89,14 @@ guard_shut : (u : Bool) → AreShutParts (parts Text (guard_items u))
 guard_shut true = let h : IsShutTree (nowiki_tree None nowiki) = subst IsShutTree (sym guard_tree) plain_guard in (h.0, h.1, tt)
 guard_shut false = tt
 
-letter_shut : (e : Bool) (c : ℕ) → AreShutParts (parts Text (letter_items e c))
+reference_shut : (c : ℕ) → is_escapable c ≡ true → ends_open (reference c) ≡ false
+unfolding reference digits
+reference_shut c e = each_escapable (λ k. ends_open (reference k) ≡ false) refl refl refl refl refl refl refl refl refl refl refl refl refl c e
+
+letter_shut : (e : Bool) (c : ℕ) → (e ≡ true → is_escapable c ≡ true) → AreShutParts (parts Text (letter_items e c))
 unfolding label_at
-letter_shut true c = (refl, (refl, tt), tt)
-letter_shut false c = chars_shut None (encode_utf8 c)
+letter_shut true c h = (ap ends_open (append-nil (reference c)) ∙ reference_shut c (h refl), (refl, tt), tt)
+letter_shut false c h = chars_shut None (encode_utf8 c)
 
 own_shut : (pages : Pages) (i : ℕ) (t : Thing) → IsOfFolder t.role pages t → IsShut t → AreShutParts (line_parts (numbered i (page_stretches pages t.source)))
 own_shut pages i t h s = elim (node_case t.role pages t h) [
@@ -109,7 +116,7 @@ parts_shut pages i s before (letter c ∷ after) h g =
     let u : Bool = is_guarded s before (letter c ∷ rest) in
     let more : List Part = parts_with s (letter c ∷ before) rest (owns_in pages i after) in
     shut_both (parts Text (guard_items u)) (parts Text (letter_items e c) ++ more) (guard_shut u)
-    (shut_both (parts Text (letter_items e c)) more (letter_shut e c) (parts_shut pages i s (letter c ∷ before) after h g))
+    (shut_both (parts Text (letter_items e c)) more (letter_shut e c (λ x. escapable s.within s.place before c rest x)) (parts_shut pages i s (letter c ∷ before) after h g))
 parts_shut pages i s before (thing t ∷ after) h g =
     let rest : List ContentSign = shown_signs pages after in
     let x : ContentSign = thing (shown_thing pages t) in

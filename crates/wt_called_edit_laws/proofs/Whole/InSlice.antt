@@ -159,13 +159,13 @@ after_slice calls j r p o (x ∷ xs) s l h g b =
 from_call : (calls : List OuterCall) (j : ℕ) (r : Ranges) (p : ℕ) (o : Option ℕ) (xs : List Item) → IsSliceOf calls j r → r.end ≡ p → o ≡ Some j → AtPlaces calls p o xs
     → AreOnes xs → IsBehind calls p o → items_in calls r p xs ≡ of_call j xs
 from_call calls j r p o [] s l i h g b = refl
-from_call calls j r p o (x ∷ xs) s l i h g b = by (same_call (call_of x) (Some j)) refl
+from_call calls j r p o (x ∷ xs) s l i h g b =
+    by (same_call (call_of x) (Some j)) refl (λ is at behind. from_call calls j r p (call_of x) xs s l is at g.1 behind)
   where
-    next : ℕ
-    next = p + length (text_step calls o x)
-
-    by : (v : Bool) → same_call (call_of x) (Some j) ≡ v → items_in calls r p (x ∷ xs) ≡ of_call j (x ∷ xs)
-    by true e =
+    by : (v : Bool) → same_call (call_of x) (Some j) ≡ v
+        → ((call_of x ≡ Some j) → AtPlaces calls p (call_of x) xs → IsBehind calls p (call_of x) → items_in calls r p xs ≡ of_call j xs)
+        → items_in calls r p (x ∷ xs) ≡ of_call j (x ∷ xs)
+    by true e rest =
         let t = item_step calls p o x xs h g b in
         let is : call_of x ≡ Some j = same_is (call_of x) j e in
         let at : span_at calls p x ≡ call_span calls j = ap (λ (c : Option ℕ). span_by calls p (length (source x)) c) is in
@@ -176,10 +176,9 @@ from_call calls j r p o (x ∷ xs) s l i h g b = by (same_call (call_of x) (Some
         in_here calls r p x xs lies
         ∙ ap (λ (zs : List Item). x ∷ zs)
         (ap (λ (k : ℕ). items_in calls r k xs) there
-        ∙ from_call calls j r p (call_of x) xs s l is (subst (λ (k : ℕ). AtPlaces calls k (call_of x) xs) same h.1) g.1
-        (subst (λ (k : ℕ). IsBehind calls k (call_of x)) same t.behind))
+        ∙ rest is (subst (λ (k : ℕ). AtPlaces calls k (call_of x) xs) same h.1) (subst (λ (k : ℕ). IsBehind calls k (call_of x)) same t.behind))
         ∙ sym (of_here j x xs e)
-    by false e =
+    by false e rest =
         let t = item_step calls p o x xs h g b in
         let ends : (span_at calls p x).1 ≡ p + length (text_step calls o x) = t.ends in
         let some : 0 < length (text_step calls o x) = elim t.begins [
@@ -188,31 +187,37 @@ from_call calls j r p o (x ∷ xs) s l i h g b = by (same_call (call_of x) (Some
         ] in
         let out : lies_in r (span_at calls p x) ≡ false = ends_after r (span_at calls p x) (omega (arith, l, ends, some)) in
         let past : r.end < p + length (text_step calls o x) = omega (arith, l, some) in
-        let rest = after_slice calls j r (p + length (text_step calls o x)) (call_of x) xs s past h.1 g.1 t.behind in
-        in_past calls r p x xs out ∙ ap (λ (k : ℕ). items_in calls r k xs) ends ∙ rest.0 ∙ sym (of_past j x xs e ∙ rest.1)
+        let later = after_slice calls j r (p + length (text_step calls o x)) (call_of x) xs s past h.1 g.1 t.behind in
+        in_past calls r p x xs out ∙ ap (λ (k : ℕ). items_in calls r k xs) ends ∙ later.0 ∙ sym (of_past j x xs e ∙ later.1)
 
 -- up to the first of its items
 pub begins_behind : (calls : List OuterCall) (j p : ℕ) (o : Option ℕ) (xs : List Item) (y : Item) (ys : List Item) → parted o (Some j) ≡ true → AtPlaces calls p o xs
     → of_call j xs ≡ y ∷ ys → p ≤ (call_span calls j).0
 begins_behind calls j p o [] y ys t h e = absurd (cc)
-begins_behind calls j p o (x ∷ xs) y ys t h e = by (same_call (call_of x) (Some j)) refl
+begins_behind calls j p o (x ∷ xs) y ys t h e =
+    by (same_call (call_of x) (Some j)) refl
+    (λ apart found. begins_behind calls j (p + length (text_step calls o x)) (call_of x) xs y ys apart h.1 found)
   where
-    by : (v : Bool) → same_call (call_of x) (Some j) ≡ v → p ≤ (call_span calls j).0
-    by true f =
+    by : (v : Bool) → same_call (call_of x) (Some j) ≡ v
+        → ((parted (call_of x) (Some j) ≡ true) → of_call j xs ≡ y ∷ ys → p + length (text_step calls o x) ≤ (call_span calls j).0) → p ≤ (call_span calls j).0
+    by true f rest =
         let own : IsAtPlace calls p o (Some j) = subst (λ (c : Option ℕ). IsAtPlace calls p o c) (same_is (call_of x) j f) h.0 in
         let at = own t in
         let there : (call_span calls j).0 ≡ p = at.0 in omega (arith, there)
-    by false f =
-        let rest = begins_behind calls j (p + length (text_step calls o x)) (call_of x) xs y ys (is_parted (call_of x) j f) h.1 (sym (of_past j x xs f) ∙ e) in
-        omega (arith, rest)
+    by false f rest = let later = rest (is_parted (call_of x) j f) (sym (of_past j x xs f) ∙ e) in omega (arith, later)
 
 pub in_slice : (calls : List OuterCall) (j : ℕ) (r : Ranges) (p : ℕ) (o : Option ℕ) (xs : List Item) (y : Item) (ys : List Item) → IsSliceOf calls j r
     → parted o (Some j) ≡ true → AtPlaces calls p o xs → AreOnes xs → IsBehind calls p o → of_call j xs ≡ y ∷ ys → items_in calls r p xs ≡ of_call j xs
 in_slice calls j r p o [] y ys s t h g b e = refl
-in_slice calls j r p o (x ∷ xs) y ys s t h g b e = by (same_call (call_of x) (Some j)) refl
+in_slice calls j r p o (x ∷ xs) y ys s t h g b e =
+    by (same_call (call_of x) (Some j)) refl
+    (λ apart behind found. in_slice calls j r (p + length (text_step calls o x)) (call_of x) xs y ys s apart h.1 g.1 behind found)
   where
-    by : (v : Bool) → same_call (call_of x) (Some j) ≡ v → items_in calls r p (x ∷ xs) ≡ of_call j (x ∷ xs)
-    by true f =
+    by : (v : Bool) → same_call (call_of x) (Some j) ≡ v
+        → ((parted (call_of x) (Some j) ≡ true) → IsBehind calls (p + length (text_step calls o x)) (call_of x) → of_call j xs ≡ y ∷ ys
+        → items_in calls r (p + length (text_step calls o x)) xs ≡ of_call j xs)
+        → items_in calls r p (x ∷ xs) ≡ of_call j (x ∷ xs)
+    by true f rest =
         let k = item_step calls p o x xs h g b in
         let is : call_of x ≡ Some j = same_is (call_of x) j f in
         let at : span_at calls p x ≡ call_span calls j = ap (λ (c : Option ℕ). span_by calls p (length (source x)) c) is in
@@ -223,7 +228,7 @@ in_slice calls j r p o (x ∷ xs) y ys s t h g b e = by (same_call (call_of x) (
         ∙ ap (λ (zs : List Item). x ∷ zs)
         (ap (λ (i : ℕ). items_in calls r i xs) ends ∙ from_call calls j r (p + length (text_step calls o x)) (call_of x) xs s there is h.1 g.1 k.behind)
         ∙ sym (of_here j x xs f)
-    by false f =
+    by false f rest =
         let k = item_step calls p o x xs h g b in
         let next : ℕ = p + length (text_step calls o x) in
         let ends : (span_at calls p x).1 ≡ p + length (text_step calls o x) = k.ends in
@@ -236,7 +241,7 @@ in_slice calls j r p o (x ∷ xs) y ys s t h g b e = by (same_call (call_of x) (
         ] in
         in_past calls r p x xs (begins_before r (span_at calls p x) early)
         ∙ ap (λ (i : ℕ). items_in calls r i xs) ends
-        ∙ in_slice calls j r next (call_of x) xs y ys s (is_parted (call_of x) j f) h.1 g.1 k.behind found
+        ∙ rest (is_parted (call_of x) j f) k.behind found
         ∙ sym (of_past j x xs f)
 
 -- ---- the page
@@ -251,13 +256,15 @@ call_items_in calls j r xs y ys e f h g o = in_slice calls j r 0 None xs y ys (e
 pub none_before : (calls : List OuterCall) (j p : ℕ) (o : Option ℕ) (xs : List Item) → parted o (Some j) ≡ true → AtPlaces calls p o xs
     → (call_span calls j).0 ≡ p + length (text_from calls o xs) → of_call j xs ≡ []
 none_before calls j p o [] t h e = refl
-none_before calls j p o (x ∷ xs) t h e = by (same_call (call_of x) (Some j)) refl
+none_before calls j p o (x ∷ xs) t h e =
+    by (same_call (call_of x) (Some j)) refl
+    (λ apart there. none_before calls j (p + length (text_step calls o x)) (call_of x) xs apart h.1 there)
   where
-    own : List ℕ
-    own = text_step calls o x
-
-    by : (v : Bool) → same_call (call_of x) (Some j) ≡ v → of_call j (x ∷ xs) ≡ []
-    by true f =
+    by : (v : Bool) → same_call (call_of x) (Some j) ≡ v
+        → ((parted (call_of x) (Some j) ≡ true)
+        → (call_span calls j).0 ≡ (p + length (text_step calls o x)) + length (text_from calls (call_of x) xs) → of_call j xs ≡ [])
+        → of_call j (x ∷ xs) ≡ []
+    by true f rest =
         let is : call_of x ≡ Some j = same_is (call_of x) j f in
         let at : IsAtPlace calls p o (Some j) = subst (λ (c : Option ℕ). IsAtPlace calls p o c) is h.0 in
         let r = at t in
@@ -269,23 +276,22 @@ none_before calls j p o (x ∷ xs) t h e = by (same_call (call_of x) (Some j)) r
         let both : length (text_step calls o x ++ text_from calls (call_of x) xs) ≡ length (text_step calls o x) + length (text_from calls (call_of x) xs) =
         length-append (text_step calls o x) (text_from calls (call_of x) xs) in
         absurd (omega (arith, e, start, some, size, both))
-    by false f =
+    by false f rest =
         let both : length (text_step calls o x ++ text_from calls (call_of x) xs) ≡ length (text_step calls o x) + length (text_from calls (call_of x) xs) =
         length-append (text_step calls o x) (text_from calls (call_of x) xs) in
-        let there : (call_span calls j).0 ≡ (p + length (text_step calls o x)) + length (text_from calls (call_of x) xs) = omega (arith, e, both) in
-        of_past j x xs f ∙ none_before calls j (p + length (text_step calls o x)) (call_of x) xs (is_parted (call_of x) j f) h.1 there
+        of_past j x xs f ∙ rest (is_parted (call_of x) j f) (omega (arith, e, both))
 
 -- nor behind it
 pub none_later : (calls : List OuterCall) (j p : ℕ) (o : Option ℕ) (xs : List Item) → parted o (Some j) ≡ true → AtPlaces calls p o xs
     → (call_span calls j).0 < p → of_call j xs ≡ []
 none_later calls j p o [] t h e = refl
-none_later calls j p o (x ∷ xs) t h e = by (same_call (call_of x) (Some j)) refl
+none_later calls j p o (x ∷ xs) t h e =
+    by (same_call (call_of x) (Some j)) refl
+    (λ apart. none_later calls j (p + length (text_step calls o x)) (call_of x) xs apart h.1 (omega (arith, e)))
   where
-    by : (v : Bool) → same_call (call_of x) (Some j) ≡ v → of_call j (x ∷ xs) ≡ []
-    by true f =
+    by : (v : Bool) → same_call (call_of x) (Some j) ≡ v → ((parted (call_of x) (Some j) ≡ true) → of_call j xs ≡ []) → of_call j (x ∷ xs) ≡ []
+    by true f rest =
         let at : IsAtPlace calls p o (Some j) = subst (λ (c : Option ℕ). IsAtPlace calls p o c) (same_is (call_of x) j f) h.0 in
         let r = at t in
         let start : (call_span calls j).0 ≡ p = r.0 in absurd (omega (arith, e, start))
-    by false f =
-        of_past j x xs f
-        ∙ none_later calls j (p + length (text_step calls o x)) (call_of x) xs (is_parted (call_of x) j f) h.1 (omega (arith, e))
+    by false f rest = of_past j x xs f ∙ rest (is_parted (call_of x) j f)

@@ -81,27 +81,27 @@ abbrev pub AreShutTrees : List ItemTree → Type 0
 AreShutTrees [] = Unit {0}
 AreShutTrees (t ∷ ts) = (node_ends_open (standing 0 [] t) ≡ false) × HasNoGroup (standing 0 [] t) × AreShutTrees ts
 
-leaf_shut : (k : Loose) (xs : List Item) → node_ends_open (standing 0 [] (loose_leaf k xs)) ≡ false
+leaf_shut : (xs : List Item) → node_ends_open (standing 0 [] (loose_leaf Text xs)) ≡ false
 unfolding label_at
-leaf_shut Text xs = refl
-leaf_shut Sep xs = refl
+leaf_shut xs = refl
 
-leaf_groupless : (k : Loose) (xs : List Item) → HasNoGroup (standing 0 [] (loose_leaf k xs))
+leaf_groupless : (xs : List Item) → HasNoGroup (standing 0 [] (loose_leaf Text xs))
 unfolding label_at
-leaf_groupless Text xs = (refl, tt)
-leaf_groupless Sep xs = (refl, tt)
+leaf_groupless xs = (refl, tt)
 
-past_run : (k : Loose) (o : Option ℕ) (b : ℕ) (r others : List Part) → IsRun one_leaf (loose k o b ∷ r) others → AreShutParts (r ++ others) → AreShutParts others
-past_run k o b [] others run h = h
-past_run k o b (loose j i c ∷ r) others run h = past_run j i c r others run.1 h
-past_run k o b (node x ∷ r) others run h = absurd (let no = run.0 in cc)
+past_run : (o : Option ℕ) (b : ℕ) (r others : List Part) → IsRun one_leaf (loose Text o b ∷ r) others → AreShutParts (r ++ others) → AreShutParts others
+past_run o b [] others run h = h
+past_run o b (loose Text i c ∷ r) others run h = past_run i c r others run.1 h
+past_run o b (loose Sep i c ∷ r) others run h = absurd h
+past_run o b (node x ∷ r) others run h = absurd (let no = run.0 in cc)
 
 runs_shut : (rs : List (List Part)) (ps : List Part) → AreRuns one_leaf rs ps → AreShutParts ps → AreShutTrees (map child rs)
 runs_shut [] ps a h = tt
 runs_shut ([] ∷ rs) ps a h = absurd a.2
-runs_shut ((loose k o b ∷ r) ∷ rs) ps a h =
+runs_shut ((loose Text o b ∷ r) ∷ rs) ps a h =
     let own : AreShutParts (r ++ a.0) = subst AreShutParts a.1 h in
-    (leaf_shut k (char o b ∷ held_parts r), leaf_groupless k (char o b ∷ held_parts r), runs_shut rs a.0 a.3 (past_run k o b r a.0 a.2 own))
+    (leaf_shut (char o b ∷ held_parts r), leaf_groupless (char o b ∷ held_parts r), runs_shut rs a.0 a.3 (past_run o b r a.0 a.2 own))
+runs_shut ((loose Sep o b ∷ r) ∷ rs) ps a h = absurd (subst AreShutParts a.1 h)
 runs_shut ((node u ∷ []) ∷ rs) ps a h =
     let own : AreShutParts (node u ∷ a.0) = subst AreShutParts a.1 h in
     (own.0, own.1, runs_shut rs a.0 a.3 own.2)
