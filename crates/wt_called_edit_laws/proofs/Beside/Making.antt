@@ -216,6 +216,6 @@ pub calls_make : (pages : Pages) (k : TextBlock) (q : List ℕ) (block : Tree) (
     → MakesContentIn pages k q block m ps
 calls_make pages k q block m ps n at i calls some is h e =
     let P : TextBlock → Type 0 = λ j. block ≡ settled n at (cut_texts (block_in calls (tree_round j (part_items pages i q)))) → IsBesideCalls pages j q block
-        → MakesContentIn pages j q block m ps in
+    → MakesContentIn pages j q block m ps in
     subst P (sym h.paragraph)
     (λ it b. paragraph_makes pages q block m ps (record { number = n; at = at; before = i; calls = calls; some = some; is = it }) b e) is h
