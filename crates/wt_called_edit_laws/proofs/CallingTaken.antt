@@ -151,10 +151,10 @@ well_sent pages ss behind f es h e =
       apart = calling_apart pages ss behind f (edit_at os) es h sends e.old lie;
       page = page_made pages ss rs behind f (edit_at os) es h edited held
           (record {
-          sends = sends;
-          old = old;
-          makes = all_make pages (expanded_page pages (spots_source rs behind)).outer 0 ss os made sources;
-          stay = all_stay pages ss os made;
+            sends = sends;
+            old = old;
+            makes = all_make pages (expanded_page pages (spots_source rs behind)).outer 0 ss os made sources;
+            stay = all_stay pages ss os made;
           });
     }
 

@@ -94,9 +94,9 @@ own_lengths : (calls : List OuterCall) (t : ℕ → ItemTree) (ns : List ℕ) �
 own_lengths calls t [] w h = tt
 own_lengths calls t (n ∷ ns) w h = (
   (λ o.
-  let some : 0 < length (sources (tree_items (t n))) = h.0 in
-  let same : size calls o (tree_items (t n)) ≡ length (sources (tree_items (t n))) = ap length (text_own calls o (tree_items (t n)) w.0.of_page) in
-  omega (arith, some, same)),
+      let some : 0 < length (sources (tree_items (t n))) = h.0 in
+      let same : size calls o (tree_items (t n)) ≡ length (sources (tree_items (t n))) = ap length (text_own calls o (tree_items (t n)) w.0.of_page) in
+      omega (arith, some, same)),
   own_lengths calls t ns w.1 h.1,
 )
 

@@ -60,3 +60,4 @@ pub mod EditableBlocks
 pub mod SettledEdits
 pub mod Beside
 pub mod Cells
+pub mod Told

@@ -43,3 +43,5 @@ pub mod SentAsIs
 pub mod PlacedBlocks
 pub mod PlacedSpots
 pub mod PlacedLines
+pub mod LinedHeadings
+pub mod ToldLines

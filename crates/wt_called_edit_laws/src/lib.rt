@@ -77,6 +77,7 @@ mod called_edits;
 mod calling_pages;
 mod in_pieces;
 mod placed_blocks;
+mod told_lines;
 
 pub use body_paragraphs::{
     nodes_of_paragraphs_of_the_body_stay, paragraphs_of_the_body_are_edited,
@@ -91,12 +92,14 @@ pub use calling_pages::{
 };
 pub use in_pieces::{
     letters_may_be_typed_before_calls, paragraphs_in_pieces_may_be_written_anew,
-    paragraphs_of_the_page_take_texts_beside_calls,
-    texts_beside_calls_can_be_read_by_themselves,
+    paragraphs_of_the_page_take_texts_beside_calls, texts_beside_calls_can_be_read_by_themselves,
 };
 pub use placed_blocks::{
     all_blocks_at_their_places_may_be_edited, blocks_at_their_places_may_be_edited,
     lines_of_a_page_are_blocks_of_it, lines_of_a_page_are_cut_at_its_blocks,
+};
+pub use told_lines::{
+    blocks_are_told_by_their_lines, headings_are_told_by_their_lines, untangled_blocks_are_shut,
 };
 
 /// A page with blocks among calls, and with calls in them, none of which goes over the end of a part, is expanded part by

@@ -120,9 +120,11 @@ still p = omega arith
 pub places_append : (calls : List OuterCall) (p : ℕ) (o : Option ℕ) (xs ys : List Item) → AtPlaces calls p o xs
     → AtPlaces calls (p + length (text_from calls o xs)) (last_of o xs) ys → AtPlaces calls p o (xs ++ ys)
 places_append calls p o [] ys h g = subst (λ (i : ℕ). AtPlaces calls i o ys) (still p) g
-places_append calls p o (x ∷ xs) ys h g =
-    (h.0, places_append calls (p + length (text_step calls o x)) (call_of x) xs ys h.1
-        (subst (λ (i : ℕ). AtPlaces calls i (last_of (call_of x) xs) ys) (sym (further p (text_step calls o x) (text_from calls (call_of x) xs))) g))
+places_append calls p o (x ∷ xs) ys h g = (
+  h.0,
+  places_append calls (p + length (text_step calls o x)) (call_of x) xs ys h.1
+      (subst (λ (i : ℕ). AtPlaces calls i (last_of (call_of x) xs) ys) (sym (further p (text_step calls o x) (text_from calls (call_of x) xs))) g),
+)
 
 pub places_split : (calls : List OuterCall) (p : ℕ) (o : Option ℕ) (xs ys : List Item) → AtPlaces calls p o (xs ++ ys)
     → AtPlaces calls p o xs × AtPlaces calls (p + length (text_from calls o xs)) (last_of o xs) ys

@@ -298,7 +298,6 @@ one_given k (outer c xs ∷ ss) h f =
   where
     apart : (k j : ℕ) → k < j → (k == j) ≡ false
     apart k j l = grind (arith, nat_tests)
-
 one_given k (text_call s ∷ ss) h f = one_given k ss h f
 
 chars_from : (i : ℕ) (bs : List ℕ) → AllFrom (Some i) (call_chars i bs)
