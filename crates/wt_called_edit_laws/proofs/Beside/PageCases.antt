@@ -1,6 +1,5 @@
 -- Worked case: the page `x{{t}}y`, where `Template:T` is a word, is one of those of which texts beside calls may be edited, by computing the whole of it.
-use Rattle.std.proofs.Common.{arith, ◌≡◌, ◌<◌, inl, inr, ℕ, Some, None, List, [], ◌∷◌, refl, sym, subst, All}
-use Rattle.std.specs.Prelude.{codes}
+use Rattle.std.proofs.Common.{arith, ◌≡◌, ◌<◌, inl, inr, ℕ, None, List, [], ◌∷◌, refl, sym, subst}
 use Rattle.std.specs.Str.{is_utf8, chars, IsUtf8}
 use Rattle.std.specs.Str.Lossy.{utf8_valid_len}
 use Rattle.std.proofs.lemmas.List.Elements.{All-nil, All-cons}
