@@ -67,7 +67,6 @@ use Rattle.wt_called_edit_laws.specs.Parts.{calls_to, calls_past, AreCalled}
 use Rattle.wt_called_edit_laws.specs.PiecedParagraphs.{BeginsOwn, EndsOwn, IsInPieces}
 use Rattle.wt_called_edit_laws.specs.WholeContents.{AreShutParts}
 use Rattle.wt_called_edit_laws.proofs.Beside.Cases.{source, given, items_are, pieces, in_pieces, among, of_page}
-use Rattle.wt_called_edit_laws.proofs.Cells.AnyCases.{a_spot}
 use Rattle.wt_called_edit_laws.proofs.Whole.Pieced.{pieced_content, pieced_holds}
 
 -- ---- the paragraph
@@ -128,8 +127,11 @@ here = record {
 
 -- ---- the page
 
+abbrev a_block : BlockSpot
+a_block = record { before = []; block = a_paragraph; text = source }
+
 abbrev blocks_here : List BlockSpot
-blocks_here = a_spot [] source ∷ []
+blocks_here = a_block ∷ []
 
 anywhere : GivesAnywhere a_word source
 unfolding words closed form_at comment_len comment_line_len raw_len opening_tag tag_after closing_tag with_inside is_extension include_at entity_at named_entity
@@ -156,8 +158,8 @@ stays_text i = All-cons (λ l. line_kind 0 l ≡ line.Text) (given i) [] refl (A
 placed_here : ArePlaced (spots_with_calls a_word 0 blocks_here) (items_past a_word 0 blocks_here [])
 placed_here =
     let P : List Item → List Item → List Item → Type 0 = λ before xs behind. ArePlaced (record { before = before; block = a_paragraph; content = xs } ∷ []) behind in
-    let n : ℕ = calls_past a_word 0 (a_spot [] source) in
-    let at : ℕ = calls_to a_word 0 (a_spot [] source) in
+    let n : ℕ = calls_past a_word 0 a_block in
+    let at : ℕ = calls_to a_word 0 a_block in
     let own : P [] (given at) [] = ((is_text at, record { whole = refl; in_cells = tt; apart = tt }, stays_text at), tt) in
     subst (λ before. P before (part_items a_word at source) (part_items a_word n [])) (sym (nothing 0))
     (subst (λ xs. P [] xs (part_items a_word n [])) (sym (items_are at)) (subst (λ behind. P [] (given at) behind) (sym (nothing n)) own))
