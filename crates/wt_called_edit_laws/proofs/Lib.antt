@@ -60,4 +60,5 @@ pub mod EditableBlocks
 pub mod SettledEdits
 pub mod Beside
 pub mod Cells
+pub mod Among
 pub mod Told

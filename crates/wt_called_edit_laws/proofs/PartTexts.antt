@@ -43,7 +43,7 @@ own_append (own xs ∷ ss) ts f g = (f.0, own_append ss ts f.1 g)
 own_append (outer c xs ∷ ss) ts f g = own_append ss ts f g
 own_append (text_call s ∷ ss) ts f g = own_append ss ts f g
 
-lexeme_own : (m : Mode) (kind : LexKind) (bs : List ℕ) → AllFrom None (lexeme_items m kind bs)
+pub lexeme_own : (m : Mode) (kind : LexKind) (bs : List ℕ) → AllFrom None (lexeme_items m kind bs)
 lexeme_own m kind bs = by (is_removed m kind)
   where
     by : (t : Bool) → AllFrom None (if t then [] else items_by (form_of kind bs) None bs)
@@ -63,7 +63,7 @@ own_call text r start at k source ms ps os inside h = (
 )
 
 mutual
-  own_one : (r : Reading) (at : ℕ) (start : Bool) (bs : List ℕ) (m : Member) → OwnPage (stretches_of r at start bs m)
+  pub own_one : (r : Reading) (at : ℕ) (start : Bool) (bs : List ℕ) (m : Member) → OwnPage (stretches_of r at start bs m)
   own_one r at start bs (lexeme (kind, n)) = (lexeme_own r.mode kind (take n bs), tt)
   own_one r at start bs (call k ms) =
       let os = outputs_of r false (drop k bs) ms in
@@ -72,7 +72,7 @@ mutual
       own_call (called k source (target_part ps).items) r start at k source ms ps os
       (all_stretches r (at + k) false (drop k bs) ms) (own_all r (at + k) false (drop k bs) ms)
 
-  own_all : (r : Reading) (at : ℕ) (start : Bool) (bs : List ℕ) (ms : Members) → OwnPage (all_stretches r at start bs ms)
+  pub own_all : (r : Reading) (at : ℕ) (start : Bool) (bs : List ℕ) (ms : Members) → OwnPage (all_stretches r at start bs ms)
   own_all r at start bs none = tt
   own_all r at start bs (more m ms) =
       let next = is_break (slice_index bs (width m - 1)) in
@@ -129,7 +129,7 @@ pub below_own : (k : ℕ) (o : Option ℕ) (xs : List Item) → IsBelow k o → 
 below_own k o [] b h = b
 below_own k o (x ∷ xs) b h = below_own k (call_of x) xs (subst (IsBelow k) (sym h.0) tt) h.1
 
-last_same : (k : ℕ) (o : Option ℕ) (xs : List Item) → o ≡ Some k → AllFrom (Some k) xs → last_of o xs ≡ Some k
+pub last_same : (k : ℕ) (o : Option ℕ) (xs : List Item) → o ≡ Some k → AllFrom (Some k) xs → last_of o xs ≡ Some k
 last_same k o [] e h = e
 last_same k o (x ∷ xs) e h = last_same k (call_of x) xs h.0 h.1
 
@@ -149,7 +149,7 @@ abbrev pub AreSourcesAt : List OuterCall → ℕ → List OuterCall → Type 0
 AreSourcesAt calls k [] = Unit {0}
 AreSourcesAt calls k (c ∷ cs) = (source_of_call (slice_get calls k) ≡ c.source) × AreSourcesAt calls (suc k) cs
 
-joined : (calls : List OuterCall) (o : Option ℕ) (k : ℕ) (ss : List Stretch) → IsBelow k o → OwnPage ss → AreSourcesAt calls k (outer_calls ss)
+pub joined : (calls : List OuterCall) (o : Option ℕ) (k : ℕ) (ss : List Stretch) → IsBelow k o → OwnPage ss → AreSourcesAt calls k (outer_calls ss)
     → text_from calls o (numbered k ss) ≡ page_bytes ss
 joined calls o k [] b h s = refl
 joined calls o k (own xs ∷ ss) b h s =
@@ -173,7 +173,7 @@ source_moved d [] k = refl
 source_moved d (c ∷ calls) zero = refl
 source_moved d (c ∷ calls) (suc k) = source_moved d calls k
 
-sources_moved : (d : ℕ) (calls : List OuterCall) (k : ℕ) (cs : List OuterCall) → AreSourcesAt calls k cs → AreSourcesAt (map (moved_call d) calls) k cs
+pub sources_moved : (d : ℕ) (calls : List OuterCall) (k : ℕ) (cs : List OuterCall) → AreSourcesAt calls k cs → AreSourcesAt (map (moved_call d) calls) k cs
 sources_moved d calls k [] h = tt
 sources_moved d calls k (c ∷ cs) h = (source_moved d calls k ∙ h.0, sources_moved d calls (suc k) cs h.1)
 
@@ -181,13 +181,13 @@ one_past : (f : OuterCall) (calls : List OuterCall) (k : ℕ) (cs : List OuterCa
 one_past f calls k [] h = tt
 one_past f calls k (c ∷ cs) h = (h.0, one_past f calls (suc k) cs h.1)
 
-sources_past : (front calls : List OuterCall) (k : ℕ) (cs : List OuterCall) → AreSourcesAt calls k cs → AreSourcesAt (front ++ calls) (length front + k) cs
+pub sources_past : (front calls : List OuterCall) (k : ℕ) (cs : List OuterCall) → AreSourcesAt calls k cs → AreSourcesAt (front ++ calls) (length front + k) cs
 sources_past [] calls k cs h = let e : k ≡ 0 + k = omega arith in subst (λ i. AreSourcesAt calls i cs) e h
 sources_past (f ∷ front) calls k cs h =
     let e : suc (length front + k) ≡ suc (length front) + k = omega arith in
     subst (λ i. AreSourcesAt (f ∷ front ++ calls) i cs) e (one_past f (front ++ calls) (length front + k) cs (sources_past front calls k cs h))
 
-sources_first : (cs calls : List OuterCall) → AreSourcesAt (cs ++ calls) 0 cs
+pub sources_first : (cs calls : List OuterCall) → AreSourcesAt (cs ++ calls) 0 cs
 sources_first [] calls = tt
 sources_first (c ∷ cs) calls = (refl, one_past c (cs ++ calls) 0 cs (sources_first cs calls))
 

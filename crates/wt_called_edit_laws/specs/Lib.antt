@@ -44,5 +44,7 @@ pub mod SentAsIs
 pub mod PlacedBlocks
 pub mod PlacedSpots
 pub mod PlacedLines
+pub mod PlacedAmong
+pub mod LinedAmong
 pub mod LinedHeadings
 pub mod ToldLines

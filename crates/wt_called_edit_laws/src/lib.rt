@@ -92,13 +92,13 @@ pub use calling_pages::{
 };
 pub use in_pieces::{
     letters_may_be_typed_before_calls, paragraphs_in_pieces_may_be_edited,
-    paragraphs_in_pieces_may_be_written_anew,
-    paragraphs_of_the_page_take_texts_beside_calls,
+    paragraphs_in_pieces_may_be_written_anew, paragraphs_of_the_page_take_texts_beside_calls,
     texts_beside_calls_can_be_read_by_themselves,
 };
 pub use placed_blocks::{
-    all_blocks_at_their_places_may_be_edited, blocks_at_their_places_may_be_edited,
-    lines_of_a_page_are_blocks_of_it, lines_of_a_page_are_cut_at_its_blocks,
+    all_blocks_among_calls_may_be_edited, all_blocks_at_their_places_may_be_edited,
+    blocks_at_their_places_may_be_edited, lines_of_a_page_are_blocks_of_it,
+    lines_of_a_page_are_cut_at_its_blocks, lines_of_an_expanded_page_are_cut_at_its_blocks,
 };
 pub use told_lines::{
     blocks_are_told_by_their_lines, headings_are_told_by_their_lines, untangled_blocks_are_shut,

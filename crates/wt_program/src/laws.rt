@@ -8,7 +8,7 @@ ghost use Rattle.wt_program.specs.CalledCalls.{TakesTextsAmongCalls};
 ghost use Rattle.wt_program.specs.Calls.{TakesTexts};
 ghost use Rattle.wt_program.specs.CellCalls.{TakesTextsInCells};
 ghost use Rattle.wt_program.specs.ContentCalls.{TakesContentsAmongCalls};
-ghost use Rattle.wt_program.specs.PlacedCalls.{TakesContentsAtPlaces, TakesTextsAtPlaces, TakesContentsInLines, TakesTextsInLines};
+ghost use Rattle.wt_program.specs.PlacedCalls.{TakesContentsAtPlaces, TakesTextsAtPlaces, TakesContentsInLines, TakesTextsInLines, TakesContentsInExpandedLines, TakesTextsInExpandedLines};
 ghost use Rattle.wt_program.specs.ProseCalls.{TakesChangedProse};
 
 /// Every call that keeps what `run` of `wt_pagetool` promises (`Ends`, `EndsAsEdit`) takes edited contents of paragraphs
@@ -78,6 +78,14 @@ pub fn contents_at_their_places_are_taken_so()
 pub fn calls_take_contents_in_lines()
     ensures contents { (c : Call) (ended : ℕ) → Ends c ended → EndsAsEdit c ended → TakesContentsInLines c ended }
     ensures texts { (c : Call) (ended : ℕ) → Ends c ended → EndsAsEdit c ended → TakesTextsInLines c ended }
+{}
+
+/// So it is of pages with calls, by the lines of the expanded page (`IsLinedAmong`): each such call takes contents and texts of
+/// paragraphs and headings whose lines come from no call, in the body, in cells and in captions, whatever calls are round
+/// them, where none is tangled and none is in a group.
+pub fn calls_take_contents_by_lines_among_calls()
+    ensures contents { (c : Call) (ended : ℕ) → Ends c ended → EndsAsEdit c ended → TakesContentsInExpandedLines c ended }
+    ensures texts { (c : Call) (ended : ℕ) → Ends c ended → EndsAsEdit c ended → TakesTextsInExpandedLines c ended }
 {}
 
 /// Every such call takes paragraphs that come into a page of typed paragraphs and go from it (`IsProseChange`): `edit` has

@@ -16,11 +16,11 @@ ghost use Rattle.wt_program.specs.ProseCalls.{TakesChangedProse};
 mod laws;
 
 pub use laws::{
-    calls_take_changed_prose, calls_take_contents_among_calls, calls_take_contents_in_lines,
-    calls_take_texts, calls_take_texts_among_calls, calls_take_texts_anywhere,
-    calls_take_texts_in_cells, contents_at_their_places_are_taken_so,
-    texts_among_calls_are_taken_so, texts_in_cells_are_taken_so,
-    texts_on_pages_without_calls_are_taken_so,
+    calls_take_changed_prose, calls_take_contents_among_calls,
+    calls_take_contents_by_lines_among_calls, calls_take_contents_in_lines, calls_take_texts,
+    calls_take_texts_among_calls, calls_take_texts_anywhere, calls_take_texts_in_cells,
+    contents_at_their_places_are_taken_so, texts_among_calls_are_taken_so,
+    texts_in_cells_are_taken_so, texts_on_pages_without_calls_are_taken_so,
 };
 use std::alloc::Global;
 use wt_devices::{Folder, Sink, Source};
