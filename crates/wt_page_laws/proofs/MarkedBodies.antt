@@ -34,7 +34,7 @@ no_section_chosen f name ps z e = ap (λ o. not (has (codes "about") ps) && is_c
     by_test false = z
 
 -- of the attributes that a section keeps none is an `about`
-no_about : (ps : List Pair) → value_of (codes "about") (filter is_mark_pair ps) ≡ None
+pub no_about : (ps : List Pair) → value_of (codes "about") (filter is_mark_pair ps) ≡ None
 no_about [] = refl
 no_about (p ∷ ps) = by_test (bytes_eq p.0 (codes "data-wt-edit")) refl (no_about ps)
   where

@@ -409,8 +409,8 @@ row_fits : (f : ℕ → Bool) (n : ℕ) (q : Kind) (v : Bool) (g : Option (List 
     → fit_row n (spot q v g) stands.Alone o ps c (λ k. fit_nodes (suc n) (within k false) c) ≡ Ok p
     → (fit_row n (spot q v g) stands.Alone o (pairs_marked (is_chosen_row f o ps) ps) (all_marked f c)
     (λ k. fit_nodes (suc n) (within k false) (all_marked f c)) ≡ Ok (option_map (piece_marked f) p)) × BeginsIfAny p
-row_fits f n q v g None ps c p z no ih h = absurd (cc h)
-row_fits f n q v g (Some k) ps c p z no ih h = by_place (has_place q v k || false) h
+row_fits f n q v g None ps c p z other ih h = absurd (cc h)
+row_fits f n q v g (Some k) ps c p z other ih h = by_place (has_place q v k || false) h
   where
     b : Bool
     b = f (id_for k ps)
@@ -419,7 +419,7 @@ row_fits f n q v g (Some k) ps c p z no ih h = by_place (has_place q v k || fals
         → ((if x then fit_told n false stands.Alone k (pairs_marked b ps) (data_of k (pairs_marked b ps)) (all_marked f c) (fit_nodes (suc n) (within k false) (all_marked f c))
         else Err (n, why.Place)) ≡ Ok (option_map (piece_marked f) p)) × BeginsIfAny p
     by_place true e =
-        let r = told_fits f n b k ps (data_of k ps) c p z refl (no k refl) (ih k) e in (
+        let r = told_fits f n b k ps (data_of k ps) c p z refl (other k refl) (ih k) e in (
           ap (λ o. fit_told n false stands.Alone k (pairs_marked b ps) o (all_marked f c) (fit_nodes (suc n) (within k false) (all_marked f c)))
           (data_marked f b k ps z refl) ∙ r.0,
           r.1,
@@ -433,7 +433,7 @@ none_groups (k ∷ ks) = not (is_group k) && none_groups ks
 
 found_kind : (p : Kind → Bool) (ks : List Kind) (k : Kind) → none_groups ks ≡ true → find p ks ≡ Some k → is_group k ≡ false
 found_kind p [] k h e = absurd (cc e)
-found_kind p (j ∷ js) k h e = by_test (p j) e
+found_kind p (j ∷ js) k h e = by_test (p j) (λ i. found_kind p js k parts.1 i) e
   where
     from_not : (b : Bool) → not b ≡ true → b ≡ false
     from_not true i = absurd (cc i)
@@ -442,9 +442,9 @@ found_kind p (j ∷ js) k h e = by_test (p j) e
     parts : (not (is_group j) ≡ true) × (none_groups js ≡ true)
     parts = and_parts (not (is_group j)) (none_groups js) h
 
-    by_test : (b : Bool) → (if b then Some j else find p js) ≡ Some k → is_group k ≡ false
-    by_test true i = let same : j ≡ k = cc i in ap is_group (sym same) ∙ from_not (is_group j) parts.0
-    by_test false i = found_kind p js k parts.1 i
+    by_test : (b : Bool) → (find p js ≡ Some k → is_group k ≡ false) → (if b then Some j else find p js) ≡ Some k → is_group k ≡ false
+    by_test true f i = let same : j ≡ k = cc i in ap is_group (sym same) ∙ from_not (is_group j) parts.0
+    by_test false f i = f i
 
 row_no_group : (name : List ℕ) (ps : List Pair) (k : Kind) → row name ps ≡ Some k → is_group k ≡ false
 row_no_group name ps k e = by_test (is_section_name name) e
@@ -521,7 +521,9 @@ mutual
 
   pub nodes_fit : (ts : Markups) (f : ℕ → Bool) (n : ℕ) (q : Kind) (v : Bool) (g : Option (List ℕ)) (xs : List Piece) → f 0 ≡ false
       → fit_nodes n (spot q v g) ts ≡ Ok xs → (fit_nodes n (spot q v g) (all_marked f ts) ≡ Ok (all_pieces f xs)) × BeginGroups xs
-  nodes_fit empty f n q v g xs z h = let is : [] ≡ xs = from_ok [] xs h in subst (λ (ys : List Piece). (Ok [] ≡ Ok (all_pieces f ys)) × BeginGroups ys) is (refl, tt)
+  nodes_fit empty f n q v g xs z h =
+      let P : List Piece → Type 0 = λ ys. Path (Result (List Piece) Misfit) (Ok []) (Ok (all_pieces f ys)) × BeginGroups ys in
+      subst P (from_ok [] xs h) (refl, tt)
   nodes_fit (more t ts) f n q v g xs z h =
       let x : Position = spot q v g in
       let y : Position = behind_it x t ts in

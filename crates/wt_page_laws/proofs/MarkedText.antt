@@ -121,14 +121,14 @@ abbrev edit_attribute : Attribute
 edit_attribute = record { gap = 32 ∷ []; name = codes "data-wt-edit"; left = []; right = []; quote = 34; value = map plain (codes "content") }
 
 abbrev with_attribute : Bool → List Attribute → List Attribute
-with_attribute true as = edit_attribute ∷ as
-with_attribute false as = as
+with_attribute true attrs = edit_attribute ∷ attrs
+with_attribute false attrs = attrs
 
 abbrev mutual
   element_marked : (ℕ → Bool) → Element → Element
-  element_marked f (element name as gap items end) =
-      element name (with_attribute (is_chosen f name (map pair_of as)) as) gap (if has (codes "about") (map pair_of as) then items else items_marked f items) end
-  element_marked f (void name as gap end) = void name (with_attribute (is_chosen f name (map pair_of as)) as) gap end
+  element_marked f (element name attrs gap items end) =
+      element name (with_attribute (is_chosen f name (map pair_of attrs)) attrs) gap (if has (codes "about") (map pair_of attrs) then items else items_marked f items) end
+  element_marked f (void name attrs gap end) = void name (with_attribute (is_chosen f name (map pair_of attrs)) attrs) gap end
 
   items_marked : (ℕ → Bool) → Items → Items
   items_marked f none = none
@@ -137,9 +137,9 @@ abbrev mutual
 
 abbrev mutual
   part_written : (ℕ → Bool) → Element → Element
-  part_written f (element name as gap items end) =
-      if is_section_name name then element name as gap (parts_written f items) end else element_marked f (element name as gap items end)
-  part_written f (void name as gap end) = if is_section_name name then void name as gap end else element_marked f (void name as gap end)
+  part_written f (element name attrs gap items end) =
+      if is_section_name name then element name attrs gap (parts_written f items) end else element_marked f (element name attrs gap items end)
+  part_written f (void name attrs gap end) = if is_section_name name then void name attrs gap end else element_marked f (void name attrs gap end)
 
   parts_written : (ℕ → Bool) → Items → Items
   parts_written f none = none
@@ -147,8 +147,8 @@ abbrev mutual
   parts_written f (child e items) = child (part_written f e) (parts_written f items)
 
 abbrev child_written : (ℕ → Bool) → Element → Element
-child_written f (element name as gap items end) = element name as gap (if bytes_eq name (codes "body") then parts_written f items else items) end
-child_written f (void name as gap end) = void name as gap end
+child_written f (element name attrs gap items end) = element name attrs gap (if bytes_eq name (codes "body") then parts_written f items else items) end
+child_written f (void name attrs gap end) = void name attrs gap end
 
 abbrev children_written : (ℕ → Bool) → Items → Items
 children_written f none = none
@@ -156,15 +156,15 @@ children_written f (sign p items) = sign p (children_written f items)
 children_written f (child e items) = child (child_written f e) (children_written f items)
 
 abbrev root_written : (ℕ → Bool) → Element → Element
-root_written f (element name as gap items end) = element name as gap (children_written f items) end
-root_written f (void name as gap end) = void name as gap end
+root_written f (element name attrs gap items end) = element name attrs gap (children_written f items) end
+root_written f (void name attrs gap end) = void name attrs gap end
 
 -- ---- it stands for the document with the mark
 
-pairs_are : (b : Bool) (as : List Attribute) → map pair_of (with_attribute b as) ≡ pairs_marked b (map pair_of as)
+pairs_are : (b : Bool) (attrs : List Attribute) → map pair_of (with_attribute b attrs) ≡ pairs_marked b (map pair_of attrs)
 unfolding encode
-pairs_are true as = refl
-pairs_are false as = refl
+pairs_are true attrs = refl
+pairs_are false attrs = refl
 
 flush_marked : (f : ℕ → Bool) (run : List ℕ) (ms : Markups) → all_marked f (flush run ms) ≡ flush run (all_marked f ms)
 flush_marked f [] ms = refl
@@ -172,15 +172,15 @@ flush_marked f (c ∷ cs) ms = refl
 
 mutual
   element_means : (e : Element) (f : ℕ → Bool) → meaning (element_marked f e) ≡ marked f (meaning e)
-  element_means (element name as gap items end) f =
-      ap₂ (node name) (pairs_are (is_chosen f name (map pair_of as)) as) (by_about (has (codes "about") (map pair_of as)) (items_mean items f []))
+  element_means (element name attrs gap items end) f =
+      ap₂ (node name) (pairs_are (is_chosen f name (map pair_of attrs)) attrs) (by_about (has (codes "about") (map pair_of attrs)) (items_mean items f []))
     where
       by_about : (a : Bool) → contents [] (items_marked f items) ≡ all_marked f (contents [] items)
           → contents [] (if a then items else items_marked f items) ≡ (if a then contents [] items else all_marked f (contents [] items))
       by_about true h = refl
       by_about false h = h
-  element_means (void name as gap end) f =
-      ap₂ (node name) (pairs_are (is_chosen f name (map pair_of as)) as) (by_about (has (codes "about") (map pair_of as)))
+  element_means (void name attrs gap end) f =
+      ap₂ (node name) (pairs_are (is_chosen f name (map pair_of attrs)) attrs) (by_about (has (codes "about") (map pair_of attrs)))
     where
       by_about : (a : Bool) → empty ≡ (if a then empty else empty)
       by_about true = refl
@@ -198,19 +198,19 @@ flush_parts f (c ∷ cs) ms = refl
 
 mutual
   part_means : (e : Element) (f : ℕ → Bool) → meaning (part_written f e) ≡ part_marked f (meaning e)
-  part_means (element name as gap items end) f = by_name (is_section_name name) (parts_mean items f [])
+  part_means (element name attrs gap items end) f = by_name (is_section_name name) (parts_mean items f [])
     where
       by_name : (b : Bool) → contents [] (parts_written f items) ≡ parts_marked f (contents [] items)
-          → meaning (if b then element name as gap (parts_written f items) end else element_marked f (element name as gap items end))
-          ≡ (if b then node name (map pair_of as) (parts_marked f (contents [] items)) else marked f (meaning (element name as gap items end)))
-      by_name true h = ap (node name (map pair_of as)) h
-      by_name false h = element_means (element name as gap items end) f
-  part_means (void name as gap end) f = by_name (is_section_name name)
+          → meaning (if b then element name attrs gap (parts_written f items) end else element_marked f (element name attrs gap items end))
+          ≡ (if b then node name (map pair_of attrs) (parts_marked f (contents [] items)) else marked f (meaning (element name attrs gap items end)))
+      by_name true h = ap (node name (map pair_of attrs)) h
+      by_name false h = element_means (element name attrs gap items end) f
+  part_means (void name attrs gap end) f = by_name (is_section_name name)
     where
-      by_name : (b : Bool) → meaning (if b then void name as gap end else element_marked f (void name as gap end))
-          ≡ (if b then node name (map pair_of as) empty else marked f (meaning (void name as gap end)))
+      by_name : (b : Bool) → meaning (if b then void name attrs gap end else element_marked f (void name attrs gap end))
+          ≡ (if b then node name (map pair_of attrs) empty else marked f (meaning (void name attrs gap end)))
       by_name true = refl
-      by_name false = element_means (void name as gap end) f
+      by_name false = element_means (void name attrs gap end) f
 
   parts_mean : (items : Items) (f : ℕ → Bool) (run : List ℕ) → contents run (parts_written f items) ≡ parts_marked f (contents run items)
   parts_mean none f run = sym (flush_parts f run empty)
@@ -219,12 +219,12 @@ mutual
       ap₂ (λ t ms. flush run (more t ms)) (part_means e f) (parts_mean items f []) ∙ sym (flush_parts f run (more (meaning e) (contents [] items)))
 
 child_means : (f : ℕ → Bool) (e : Element) → meaning (child_written f e) ≡ child_marked f (meaning e)
-child_means f (element name as gap items end) = ap (node name (map pair_of as)) (by_name (bytes_eq name (codes "body")))
+child_means f (element name attrs gap items end) = ap (node name (map pair_of attrs)) (by_name (bytes_eq name (codes "body")))
   where
     by_name : (b : Bool) → contents [] (if b then parts_written f items else items) ≡ (if b then parts_marked f (contents [] items) else contents [] items)
     by_name true = parts_mean items f []
     by_name false = refl
-child_means f (void name as gap end) = ap (node name (map pair_of as)) (by_name (bytes_eq name (codes "body")))
+child_means f (void name attrs gap end) = ap (node name (map pair_of attrs)) (by_name (bytes_eq name (codes "body")))
   where
     by_name : (b : Bool) → empty ≡ (if b then empty else empty)
     by_name true = refl
@@ -241,8 +241,8 @@ children_mean f (child e items) run =
     ap₂ (λ t ms. flush run (more t ms)) (child_means f e) (children_mean f items []) ∙ sym (flush_children f run (more (meaning e) (contents [] items)))
 
 root_means : (f : ℕ → Bool) (e : Element) → meaning (root_written f e) ≡ document_marked f (meaning e)
-root_means f (element name as gap items end) = ap (node name (map pair_of as)) (children_mean f items [])
-root_means f (void name as gap end) = refl
+root_means f (element name attrs gap items end) = ap (node name (map pair_of attrs)) (children_mean f items [])
+root_means f (void name attrs gap end) = refl
 
 -- ---- it is well-formed
 
@@ -261,20 +261,21 @@ or_false true b e f = cc
 or_false false b e f = f
 
 -- an attribute of another name before them
-names_past : (before : List (List ℕ)) (as : List Attribute) → AreAttributes before as → value_of edit_name (map pair_of as) ≡ None
-    → AreAttributes (edit_name ∷ before) as
+names_past : (before : List (List ℕ)) (attrs : List Attribute) → AreAttributes before attrs → value_of edit_name (map pair_of attrs) ≡ None
+    → AreAttributes (edit_name ∷ before) attrs
 names_past before [] h e = tt
-names_past before (a ∷ as) h e = by_test (bytes_eq a.name edit_name) refl e
+names_past before (a ∷ attrs) h e = by_test (bytes_eq a.name edit_name) refl (λ q. names_past (before ++ a.name ∷ []) attrs h.2 q) e
   where
-    by_test : (b : Bool) → bytes_eq a.name edit_name ≡ b → (if b then Some (pair_of a).1 else value_of edit_name (map pair_of as)) ≡ None
-        → AreAttributes (edit_name ∷ before) (a ∷ as)
-    by_test true i q = absurd (cc q)
-    by_test false i q = (h.0, or_false (bytes_eq a.name edit_name) (is_among a.name before) i h.1, names_past (before ++ a.name ∷ []) as h.2 q)
+    by_test : (b : Bool) → bytes_eq a.name edit_name ≡ b
+        → (value_of edit_name (map pair_of attrs) ≡ None → AreAttributes (edit_name ∷ (before ++ a.name ∷ [])) attrs)
+        → (if b then Some (pair_of a).1 else value_of edit_name (map pair_of attrs)) ≡ None → AreAttributes (edit_name ∷ before) (a ∷ attrs)
+    by_test true i ih q = absurd (cc q)
+    by_test false i ih q = (h.0, or_false (bytes_eq a.name edit_name) (is_among a.name before) i h.1, ih q)
 
-attributes_good : (b : Bool) (as : List Attribute) → AreAttributes [] as → (b ≡ true → value_of edit_name (map pair_of as) ≡ None)
-    → AreAttributes [] (with_attribute b as)
-attributes_good true as h e = (edit_good, refl, names_past [] as h (e refl))
-attributes_good false as h e = h
+attributes_good : (b : Bool) (attrs : List Attribute) → AreAttributes [] attrs → (b ≡ true → value_of edit_name (map pair_of attrs) ≡ None)
+    → AreAttributes [] (with_attribute b attrs)
+attributes_good true attrs h e = (edit_good, refl, names_past [] attrs h (e refl))
+attributes_good false attrs h e = h
 
 unflushed : (f : ℕ → Bool) (run : List ℕ) (ms : Markups) → AllMayMark f (flush run ms) → AllMayMark f ms
 unflushed f [] ms h = h
@@ -282,12 +283,12 @@ unflushed f (c ∷ cs) ms h = h.1
 
 mutual
   element_good : (e : Element) (f : ℕ → Bool) (k : ℕ) → IsElement k e → MayMark f (meaning e) → IsElement k (element_marked f e)
-  element_good (element name as gap items end) f k h u = (
+  element_good (element name attrs gap items end) f k h u = (
     h.0,
     h.1,
-    attributes_good (is_chosen f name (map pair_of as)) as h.2 u.0,
+    attributes_good (is_chosen f name (map pair_of attrs)) attrs h.2 u.0,
     h.3,
-    by_about (has (codes "about") (map pair_of as)) (λ v. items_good items f (suc k) [] h.4 v) u.1,
+    by_about (has (codes "about") (map pair_of attrs)) (λ v. items_good items f (suc k) [] h.4 v) u.1,
     h.5,
     h.6,
   )
@@ -296,7 +297,7 @@ mutual
           → AreItems (suc k) (if a then items else items_marked f items)
       by_about true i v = h.4
       by_about false i v = i v
-  element_good (void name as gap end) f k h u = (h.0, h.1, attributes_good (is_chosen f name (map pair_of as)) as h.2 u.0, h.3, h.4)
+  element_good (void name attrs gap end) f k h u = (h.0, h.1, attributes_good (is_chosen f name (map pair_of attrs)) attrs h.2 u.0, h.3, h.4)
 
   items_good : (items : Items) (f : ℕ → Bool) (k : ℕ) (run : List ℕ) → AreItems k items → AllMayMark f (contents run items) → AreItems k (items_marked f items)
   items_good none f k run h u = tt
@@ -311,19 +312,19 @@ parts_unflushed f (c ∷ cs) ms h = h.1
 
 mutual
   part_good : (e : Element) (f : ℕ → Bool) (k : ℕ) → IsElement k e → PartMayMark f (meaning e) → IsElement k (part_written f e)
-  part_good (element name as gap items end) f k h u = by_name (is_section_name name) (λ v. parts_good items f (suc k) [] h.4 v) u
+  part_good (element name attrs gap items end) f k h u = by_name (is_section_name name) (λ v. parts_good items f (suc k) [] h.4 v) u
     where
       by_name : (b : Bool) → (PartsMayMark f (contents [] items) → AreItems (suc k) (parts_written f items))
-          → BySection b (PartsMayMark f (contents [] items)) (MayMark f (meaning (element name as gap items end)))
-          → IsElement k (if b then element name as gap (parts_written f items) end else element_marked f (element name as gap items end))
+          → BySection b (PartsMayMark f (contents [] items)) (MayMark f (meaning (element name attrs gap items end)))
+          → IsElement k (if b then element name attrs gap (parts_written f items) end else element_marked f (element name attrs gap items end))
       by_name true i v = (h.0, h.1, h.2, h.3, i v, h.5, h.6)
-      by_name false i v = element_good (element name as gap items end) f k h v
-  part_good (void name as gap end) f k h u = by_name (is_section_name name) u
+      by_name false i v = element_good (element name attrs gap items end) f k h v
+  part_good (void name attrs gap end) f k h u = by_name (is_section_name name) u
     where
-      by_name : (b : Bool) → BySection b (PartsMayMark f empty) (MayMark f (meaning (void name as gap end)))
-          → IsElement k (if b then void name as gap end else element_marked f (void name as gap end))
+      by_name : (b : Bool) → BySection b (PartsMayMark f empty) (MayMark f (meaning (void name attrs gap end)))
+          → IsElement k (if b then void name attrs gap end else element_marked f (void name attrs gap end))
       by_name true v = h
-      by_name false v = element_good (void name as gap end) f k h v
+      by_name false v = element_good (void name attrs gap end) f k h v
 
   parts_good : (items : Items) (f : ℕ → Bool) (k : ℕ) (run : List ℕ) → AreItems k items → PartsMayMark f (contents run items) → AreItems k (parts_written f items)
   parts_good none f k run h u = tt
@@ -351,12 +352,12 @@ children_unflushed f [] ms h = h
 children_unflushed f (c ∷ cs) ms h = h.1
 
 child_good : (f : ℕ → Bool) (e : Element) (k : ℕ) → IsElement k e → ChildMayMark f (meaning e) → IsElement k (child_written f e)
-child_good f (element name as gap items end) k h u = (h.0, h.1, h.2, h.3, by_name (bytes_eq name (codes "body")) u, h.5, h.6)
+child_good f (element name attrs gap items end) k h u = (h.0, h.1, h.2, h.3, by_name (bytes_eq name (codes "body")) u, h.5, h.6)
   where
     by_name : (b : Bool) → IfBody b (PartsMayMark f (contents [] items)) → AreItems (suc k) (if b then parts_written f items else items)
     by_name true v = parts_good items f (suc k) [] h.4 v
     by_name false v = h.4
-child_good f (void name as gap end) k h u = h
+child_good f (void name attrs gap end) k h u = h
 
 children_good : (f : ℕ → Bool) (items : Items) (k : ℕ) (run : List ℕ) → AreItems k items → ChildrenMayMark f (contents run items)
     → AreItems k (children_written f items)
@@ -371,8 +372,8 @@ RootMayMark f (text bs) = Unit {0}
 RootMayMark f (node name ps c) = ChildrenMayMark f c
 
 root_good : (f : ℕ → Bool) (e : Element) → IsElement 0 e → RootMayMark f (meaning e) → IsElement 0 (root_written f e)
-root_good f (element name as gap items end) h u = (h.0, h.1, h.2, h.3, children_good f items 1 [] h.4 u, h.5, h.6)
-root_good f (void name as gap end) h u = h
+root_good f (element name attrs gap items end) h u = (h.0, h.1, h.2, h.3, children_good f items 1 [] h.4 u, h.5, h.6)
+root_good f (void name attrs gap end) h u = h
 
 -- ---- of a page whose elements have their sources
 
@@ -417,7 +418,7 @@ children_may f (more (node name ps c) empty) t z e u =
 children_may f (more (node name ps c) (more (text bs) ts)) t z e u = none_fits t e
 children_may f (more (node head hs hc) (more (node name ps c) empty)) t z e u =
     let r = second_may f (bytes_eq head (codes "head")) (bytes_eq name (codes "body")) (3 + elements_of_all hc) ps c t z e u in
-    (not_body (bytes_eq head (codes "body")) (PartsMayMark f hc) (head_other head r.0), r.1, tt)
+    (not_body (bytes_eq head (codes "body")) (PartsMayMark f hc) (head_other head r.0), (r.1, tt))
 children_may f (more (node head hs hc) (more (node name ps c) (more v vs))) t z e u = none_fits t e
 
 elements_may : (f : ℕ → Bool) (ts : Markups) → ChildrenMayMark f (elements_in ts) → ChildrenMayMark f ts

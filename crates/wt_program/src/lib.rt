@@ -13,6 +13,7 @@ ghost use Rattle.wt_program.specs.ContentCalls.{TakesContentsAmongCalls};
 ghost use Rattle.wt_program.specs.ProseCalls.{TakesChangedProse};
 
 mod laws;
+mod sent_html;
 
 pub use laws::{
     calls_take_changed_prose, calls_take_contents_among_calls, calls_take_contents_in_lines,
@@ -21,6 +22,7 @@ pub use laws::{
     texts_among_calls_are_taken_so, texts_in_cells_are_taken_so,
     texts_on_pages_without_calls_are_taken_so,
 };
+pub use sent_html::{edits_can_be_sent, edits_have_their_html};
 use std::alloc::Global;
 use wt_devices::{Folder, Sink, Source};
 pub use wt_pagetool::tell_no_memory;
