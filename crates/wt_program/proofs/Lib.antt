@@ -9,4 +9,5 @@ pub mod PlacedCalls
 pub mod SentTrees
 pub mod SentMarks
 pub mod SentPages
+pub mod ChosenHtml
 pub mod SentCalls

@@ -15,7 +15,8 @@ use Rattle.wt_tree.specs.Tiling.{is_group}
 use Rattle.wt_tree.specs.Tree.{Label, Tree, tree, Trees, none, more, label}
 use Rattle.wt_recut.specs.Cutting.{begins_with_text, begins_with_break, is_sep_at, IsWholeBy, IsWhole, IsFront, StandsBy, AreCut}
 use Rattle.wt_recut.specs.Recut.{is_blank, are_spaces, has_break, is_as_text, is_text, shows_block, any_shows_block, is_border, is_passed, leads_to_block, recut}
-use Rattle.wt_recut.specs.Recutting.{is_empty}
+use Rattle.wt_recut.proofs.CutIs.{recut_is}
+use Rattle.wt_recut.proofs.CutOnly.{cut_alone}
 use Rattle.wt_schema.specs.Html.{groups, groups_of_all, groups_by}
 use Rattle.wt_schema.specs.Rows.{holds_text}
 use Rattle.wt_schema.specs.GroupNodes.{elements_for, all_follow}
@@ -122,14 +123,15 @@ pieces_written : (ps : Pieces) (k : ℕ) (parent : Kind) → HoldsWords parent �
     → AllWrittenIn k parent (page_pieces ps) → AllWrittenIn k parent (own_pieces ps)
 pieces_written no_pieces k parent w s r a h = tt
 pieces_written (gone t ps) k parent w s r a h = pieces_written ps k parent w s r a h.2
-pieces_written (written x text ps) k parent w s r a h = by_text text r.1 a
+pieces_written (written x text ps) k parent w s r a h = by_text text r.1 a (λ b. pieces_written ps k parent w s r.2 b h)
   where
-    by_text : (bs : List ℕ) → IsUtf8 bs → AreApart (typed_text bs (own_pieces ps)) → AllWrittenIn k parent (typed_text bs (own_pieces ps))
-    by_text [] u b = pieces_written ps k parent w s r.2 b h
-    by_text (c ∷ cs) u b = (
+    by_text : (bs : List ℕ) → IsUtf8 bs → AreApart (typed_text bs (own_pieces ps)) → (AreApart (own_pieces ps) → AllWrittenIn k parent (own_pieces ps))
+        → AllWrittenIn k parent (typed_text bs (own_pieces ps))
+    by_text [] u b f = f b
+    by_text (c ∷ cs) u b f = (
       typed_written k parent c cs w u,
       joins_page (texts_of_kind parent) (is_text (text_leaf None (c ∷ cs)) && begins_with_text (own_pieces ps)) w.texts b.0,
-      pieces_written ps k parent w s r.2 b.1 h,
+      f b.1,
     )
 pieces_written (kept t u ps) k parent w s r a h = (
   h.0,
@@ -337,11 +339,12 @@ groups_inside l ts us e h =
 pieces_groups : (ps : Pieces) → PiecesStay ps → ArePiecesRead ps → groups_of_all (own_pieces ps) ≤ groups_of_all (page_pieces ps)
 pieces_groups no_pieces s r = omega arith
 pieces_groups (gone t ps) s r = let h : groups_of_all (own_pieces ps) ≤ groups_of_all (page_pieces ps) = pieces_groups ps s r in omega (arith, h)
-pieces_groups (written x text ps) s r = by_text text
+pieces_groups (written x text ps) s r = by_text text (pieces_groups ps s r.2)
   where
-    by_text : (bs : List ℕ) → groups_of_all (typed_text bs (own_pieces ps)) ≤ groups_of_all (page_pieces ps)
-    by_text [] = pieces_groups ps s r.2
-    by_text (c ∷ cs) = pieces_groups ps s r.2
+    by_text : (bs : List ℕ) → groups_of_all (own_pieces ps) ≤ groups_of_all (page_pieces ps)
+        → groups_of_all (typed_text bs (own_pieces ps)) ≤ groups_of_all (page_pieces ps)
+    by_text [] h = h
+    by_text (c ∷ cs) h = h
 pieces_groups (kept t u ps) s r = let h : groups_of_all (own_pieces ps) ≤ groups_of_all (page_pieces ps) = pieces_groups ps s.1 r.1 in omega (arith, h)
 pieces_groups (around l m is ps) s r =
     let a : groups (tree l (own_pieces is)) ≤ groups (tree l (page_pieces is)) =

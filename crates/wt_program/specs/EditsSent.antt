@@ -1,5 +1,5 @@
 -- Each edit of contents that can be written as HTML can be sent: there is HTML that is read as it.
-use Rattle.std.specs.Prelude.{◌≡◌, ◌≤◌, ℕ, Option, Some, None, List, length}
+use Rattle.std.specs.Prelude.{◌≡◌, ◌≤◌, ℕ, Option, Some, None, List, length, map}
 use Rattle.wt_span.specs.declared.limits.TheConstants.{HTML_BYTES, PAGE_BYTES}
 use Rattle.wt_devices.specs.Device.{Pages}
 use Rattle.wt_tree.specs.Tree.{Label, Tree, label}
@@ -9,12 +9,14 @@ use Rattle.wt_commands.specs.declared.command.Command.{Command}
 use Rattle.wt_commands.specs.declared.command.Command.TheVariants.{Edit, Selser}
 use Rattle.wt_commands.specs.Calls.{Call}
 use Rattle.wt_commands.specs.Words.{command_of}
+use Rattle.wt_checks.specs.Kept.{children}
 use Rattle.wt_typed_blocks.specs.Edited.{Edits}
 use Rattle.wt_text_edit_laws.specs.BlockSpots.{BlockSpot, spots_source}
 use Rattle.wt_called_edit_laws.specs.CalledTexts.{spots_tree}
-use Rattle.wt_called_edit_laws.specs.EditsAt.{edited_page, sent_contents, bare_contents}
+use Rattle.wt_called_edit_laws.specs.ChosenContents.{Choice, AreChosenIn, AllFitChosen, pieces_of}
+use Rattle.wt_called_edit_laws.specs.EditsAt.{AllStand, edited_by, edited_page, IsContentEdit, sent_contents, bare_contents}
 use Rattle.wt_program.specs.AnyCalls.{SendsFor}
-use Rattle.wt_program.specs.SentHtml.{edited_html}
+use Rattle.wt_program.specs.SentHtml.{edited_html, AreRead, AreChosenRead}
 
 -- the body's label, as it is read
 abbrev pub body_read : Tree → Label
@@ -46,3 +48,18 @@ pub record CanBeSent (pages : Pages) (ss : List BlockSpot) (behind : List ℕ) (
   pub selser : (c : Call) (title : List ℕ) → Gives c Selser title pages (spots_source ss behind) (edited_html (spots_tree pages ss behind) es)
       → length (spots_source ss behind) ≤ PAGE_BYTES → length (edited_page ss behind paths es) ≤ PAGE_BYTES
       → SendsFor c Selser (spots_source ss behind) (edited_page ss behind paths es) (bare_contents (spots_tree pages ss behind) es)
+
+-- Whatever such contents are chosen for these blocks, there is an edit with these, and it can be sent.
+pub record IsSentSo (pages : Pages) (ss : List BlockSpot) (behind : List ℕ) (paths : List (List ℕ)) (at : Choice) : Type 0 where
+  pub edits : Edits
+  pub edit : IsContentEdit (spots_tree pages ss behind) ss paths edits
+  pub are : map (λ p. pieces_of (edited_by edits p)) paths ≡ map at paths
+  pub read : AreRead edits
+  pub sent : CanBeSent pages ss behind paths edits
+
+-- The blocks of such a page are at these paths of its tree, and contents of them can be sent, whatever is chosen.
+pub record AnyCanBeSent (pages : Pages) (ss : List BlockSpot) (behind : List ℕ) : Type 0 where
+  pub paths : List (List ℕ)
+  pub stand : AllStand ss paths (spots_tree pages ss behind)
+  pub sent : (at : Choice) → AreChosenIn at (children (spots_tree pages ss behind)) → AllFitChosen at ss paths → AreChosenRead at paths
+      → IsSentSo pages ss behind paths at

@@ -1,5 +1,6 @@
 -- What an editor makes of a page's HTML: which tree its own HTML is written for, and what it sends.
-use Rattle.std.specs.Prelude.{◌≡◌, ℕ, ◌==◌, ◌&&◌, ◌||◌, Bool, true, false, None, List, [], ◌∷◌, ◌++◌}
+use Rattle.std.specs.Prelude.{◌≡◌, ℕ, ◌==◌, ◌&&◌, ◌||◌, Bool, true, false, Option, Some, None, List, [], ◌∷◌, ◌++◌}
+use Rattle.std.specs.List.{AllByRecursion}
 use Rattle.std.specs.Str.{IsUtf8}
 use Rattle.wt_tree.specs.declared.kind.Kind.TheVariants as kind
 use Rattle.wt_tree.specs.Leaves.{leaf_label, text_leaf}
@@ -12,6 +13,7 @@ use Rattle.wt_schema.specs.Written.{label_read, unranged}
 use Rattle.wt_sections.specs.Sections.{with_sections}
 use Rattle.wt_typed_blocks.specs.Sent.{kind_of}
 use Rattle.wt_typed_blocks.specs.Edited.{Pieces, no_pieces, gone, written, kept, around, new_style, as_new, Edited, stays, edited, round, Edits, no_edits, more_edits}
+use Rattle.wt_called_edit_laws.specs.ChosenContents.{Choice}
 
 -- ---- the page's tree with the edited contents in it
 
@@ -88,3 +90,13 @@ abbrev mutual
   pub numbers_edited : Edits → List ℕ
   numbers_edited no_edits = []
   numbers_edited (more_edits e es) = edited_numbers e ++ numbers_edited es
+
+-- ---- contents that are chosen
+
+-- such a content, where one is chosen
+abbrev pub IfRead : Option Pieces → Type 0
+IfRead None = Unit {0}
+IfRead (Some ps) = AreApart (own_pieces ps) × ArePiecesRead ps
+
+abbrev pub AreChosenRead : Choice → List (List ℕ) → Type 0
+AreChosenRead at paths = AllByRecursion (λ p. IfRead (at p)) paths

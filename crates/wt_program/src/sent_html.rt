@@ -13,7 +13,7 @@ ghost use Rattle.wt_called_edit_laws.specs.Covered.{IsEditablePage};
 ghost use Rattle.wt_called_edit_laws.specs.EditsAt.{IsContentEdit};
 ghost use Rattle.wt_called_edit_laws.specs.Groups.{called_tree};
 ghost use Rattle.wt_called_edit_laws.specs.TreeEdits.{IsNumberedBody};
-ghost use Rattle.wt_program.specs.EditsSent.{CanBeSent, HasHtml};
+ghost use Rattle.wt_program.specs.EditsSent.{AnyCanBeSent, CanBeSent, HasHtml};
 ghost use Rattle.wt_program.specs.SentHtml.{AreRead};
 
 /// An edit of contents of any page, in which what stays is sent as it is read of the page's HTML, in which no two texts are
@@ -34,4 +34,13 @@ pub fn edits_can_be_sent()
     ensures { (pages : Pages) (ss : List BlockSpot) (behind : List ℕ) (paths : List (List ℕ)) (es : Edits) → IsEditablePage pages ss behind
         → length (spots_source ss behind) ≤ PAGE_BYTES → IsContentEdit (spots_tree pages ss behind) ss paths es → AreRead es
         → CanBeSent pages ss behind paths es }
+{}
+
+/// The blocks of such a page are at paths of its tree, and whatever such contents are chosen for them (`AreChosenRead`), there
+/// is an edit with these, and it can be sent. What `edit` and `selser` answer then is said by `takes_contents_among_calls` of
+/// `run`.
+#[tactic(auto, using(crate::proofs::SentCalls::any_can_be_sent))]
+pub fn chosen_contents_can_be_sent()
+    ensures { (pages : Pages) (ss : List BlockSpot) (behind : List ℕ) → IsEditablePage pages ss behind
+        → length (spots_source ss behind) ≤ PAGE_BYTES → AnyCanBeSent pages ss behind }
 {}
