@@ -135,10 +135,13 @@ unfolding nowiki
 guard_breaks true = refl
 guard_breaks false = refl
 
+no_more : (n : ℕ) → 0 + n ≡ n
+no_more n = omega arith
+
 after_space_breaks : (inside : List ℕ) → breaks (after_space inside) ≡ breaks inside
 after_space_breaks [] = refl
 after_space_breaks (b ∷ bs) =
-    breaks_joined (nowiki_if (is_blank b)) (b ∷ bs) ∙ ap (λ (n : ℕ). n + breaks (b ∷ bs)) (guard_breaks (is_blank b))
+    breaks_joined (nowiki_if (is_blank b)) (b ∷ bs) ∙ ap (λ (n : ℕ). n + breaks (b ∷ bs)) (guard_breaks (is_blank b)) ∙ no_more (breaks (b ∷ bs))
 
 external_breaks : (url inside : List ℕ) → breaks (external_link url inside) ≡ breaks url + breaks inside
 external_breaks url inside =

@@ -23,7 +23,7 @@ fn loses_mark(alloc: Global, index: &[Visit<'_, '_>], node: &Node<'_>) -> Result
 }
 
 /// Whether one of these nodes, or of those in them, is such a one.
-pub fn lose_marks(
+fn lose_marks(
     alloc: Global,
     index: &[Visit<'_, '_>],
     nodes: &[Node<'_>],
@@ -36,4 +36,13 @@ pub fn lose_marks(
         }
     }
     Ok(false)
+}
+
+/// Whether an edited tree has such a node.
+pub fn loses_marks(
+    alloc: Global,
+    index: &[Visit<'_, '_>],
+    edited: &Node<'_>,
+) -> Result<bool, NoMemory> {
+    lose_marks(alloc, index, edited.children.as_slice())
 }

@@ -8,7 +8,7 @@ ghost use Rattle.wt_places.specs.Rewritten.{IsRewritten};
 
 use crate::along::{comments_along, marks_left};
 use crate::children::push_gap;
-use crate::lost::lose_marks;
+use crate::lost::loses_marks;
 use std::alloc::Global;
 use wt_block_signs::{
     Style, USUAL, ends_with_given_sign, is_bare_sign, is_cell, is_item, is_list,
@@ -738,7 +738,7 @@ pub fn proposal<'t, 'a>(
     requires { indexed index.now ≡ page_of (view tree.now) }
     ensures { IfOk result (λ o. IfSome o (λ new. IsRewritten page.now (view tree.now) (view edited.now) new)) }
 {
-    if lose_marks(alloc, index, edited.children.as_slice())? {
+    if loses_marks(alloc, index, edited)? {
         return Ok(None);
     }
     let changes = changes_of(alloc, page, index, tree, edited, keeping)?;

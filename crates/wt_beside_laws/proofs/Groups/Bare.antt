@@ -8,9 +8,9 @@ use Rattle.wt_tree.specs.declared.edit_shape.Place.{Place}
 use Rattle.wt_tree.specs.declared.edit_shape.Place.TheVariants as place
 use Rattle.wt_guards.specs.declared.role.Role.{Role}
 use Rattle.wt_guards.specs.Content.{Thing, ContentSign, letter, thing, nearest, ends_line, is_invisible, shows_blanks}
-use Rattle.wt_guards.specs.Guards.{Setting, end_of, is_reached, has_brace_last, is_line_start, is_empty_line, is_line_mark_next, is_line_begun, is_start_hazard, is_new_next, is_start_guard, is_end, is_line_end, is_new_at_end, is_unended, is_blank_last, is_group_last, is_brace_last, is_content_end_guard, is_end_guard, is_nearest, is_group_or_bare, is_past_node, past, reached, is_new_text_next, is_blank_guard, is_parted, is_between_guard, is_guarded}
+use Rattle.wt_guards.specs.Guards.{Setting, end_of, is_reached, has_brace_last, is_line_start, is_empty_line, is_line_mark_next, is_line_begun, is_start_hazard, is_new_next, is_start_guard, is_line_end, is_new_at_end, is_unended, is_blank_last, is_group_last, is_brace_last, is_content_end_guard, is_end_guard, is_nearest, is_group_or_bare, is_past_node, past, reached, is_new_text_next, is_blank_guard, is_parted, is_between_guard, is_guarded}
 use Rattle.wt_guards.specs.Content.{is_group}
-use Rattle.wt_guards.specs.Letters.{opens_tag, opens_entity, is_next, is_apostrophe_or_end, are_slashes, is_blank_to_end, is_clear, is_indented, is_escaped}
+use Rattle.wt_guards.specs.Letters.{opens_tag, opens_entity, is_next, is_end, is_apostrophe_or_end, are_slashes, is_blank_to_end, is_clear, is_indented, is_escaped}
 use Rattle.wt_beside_laws.specs.Called.{items_with}
 use Rattle.wt_beside_laws.specs.Content.{guard_items, letter_items}
 
@@ -182,6 +182,7 @@ escaped_bare within p xs c ys =
       blank_bare ys,
       one_bare (is_next byte.exclamation_mark) (λ t. refl) xs,
       one_bare (is_next byte.exclamation_mark) (λ t. refl) ys,
+      one_bare is_end (λ t. refl) ys,
       indented_bare xs,
     )
     refl
