@@ -1,5 +1,5 @@
 -- Each edit of contents of a page has its HTML.
-use Rattle.std.proofs.Common.{◌≡◌, ◌≢◌, ℕ, ◌+◌, ◌*◌, ◌<◌, ◌≤◌, ◌^◌, Bool, true, false, Option, Some, None, List, [], ◌∷◌, ◌++◌, length, IsUtf8, refl, sym, ap, ap₂, ◌∙◌, subst, arith, append-nil}
+use Rattle.std.proofs.Common.{◌≡◌, ◌≢◌, ℕ, suc, ◌+◌, ◌*◌, ◌<◌, ◌≤◌, ◌^◌, Bool, true, false, Option, Some, None, List, [], ◌∷◌, ◌++◌, length, IsUtf8, refl, sym, ap, ap₂, ◌∙◌, subst, arith, append-nil}
 use Rattle.std.specs.Prelude.{◌==◌, ◌||◌, ◌&&◌, Result, Ok, not, if◌then◌else◌}
 use Rattle.std.specs.List.{AllByRecursion}
 use Rattle.std.proofs.lemmas.Bool.Decides.{nat_tests}
@@ -89,7 +89,7 @@ node_no_section j k parent l b H G h = refl
 none_section : (ts : Trees) (k : ℕ) (parent : Kind) → AllWrittenIn k parent ts → NoneIsSection ts
 none_section none k parent h = tt
 none_section (more (tree l us) ts) k parent h = (
-  node_no_section l.kind k parent l (is_childless us) (IsCutIn (texts_of_kind l.kind) us × AllWrittenIn (1 + k) l.kind us) (IsWrittenGroup k parent l us) h.0,
+  node_no_section l.kind k parent l (is_childless us) (IsCutIn (texts_of_kind l.kind) us × AllWrittenIn (suc k) l.kind us) (IsWrittenGroup k parent l us) h.0,
   none_section ts k parent h.2,
 )
 

@@ -344,7 +344,7 @@ pieces_groups (written x text ps) s r = by_text text (pieces_groups ps s r.2)
     by_text : (bs : List ℕ) → groups_of_all (own_pieces ps) ≤ groups_of_all (page_pieces ps)
         → groups_of_all (typed_text bs (own_pieces ps)) ≤ groups_of_all (page_pieces ps)
     by_text [] h = h
-    by_text (c ∷ cs) h = h
+    by_text (c ∷ cs) h = omega (arith, h)
 pieces_groups (kept t u ps) s r = let h : groups_of_all (own_pieces ps) ≤ groups_of_all (page_pieces ps) = pieces_groups ps s.1 r.1 in omega (arith, h)
 pieces_groups (around l m is ps) s r =
     let a : groups (tree l (own_pieces is)) ≤ groups (tree l (page_pieces is)) =

@@ -20,7 +20,6 @@ ghost use Rattle.wt_program.specs.SentHtml.{AreRead};
 /// side by side and nothing is new but texts (`AreRead`), has its HTML. Without marks this is the HTML that `html` would
 /// write of the page with these contents in its blocks (`edited_html`), and with marks the same document with the mark on
 /// these blocks.
-#[tactic(auto, using(crate::proofs::SentPages::page_html))]
 pub fn edits_have_their_html()
     ensures { (pages : Pages) (page : List ℕ) (es : Edits) → IsUtf8 page → length page < 2 ^ 30
         → first_refusal pages page (page_work pages page) ≡ None → IsNumberedBody (called_tree pages page)
