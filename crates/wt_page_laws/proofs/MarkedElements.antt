@@ -341,7 +341,7 @@ unfolding attribute_name
 data_marked f true k ps z e =
     let n : is_section k ≡ false = no_section f k ps z e in
     let told : Option Data = both (sync_fits k (value_of (codes "data-parsoid") ps))
-        (mw_fits (is_extension_of k (value_of (attribute_name attr.Typeof) ps)) (value_of (codes "data-mw") ps)) in
+    (mw_fits (is_extension_of k (value_of (attribute_name attr.Typeof) ps)) (value_of (codes "data-mw") ps)) in
     ap (λ (s : Bool). if s && has (codes "data-wt-edit") (content_mark ∷ ps) then None else told) n
     ∙ sym (ap (λ (s : Bool). if s && has (codes "data-wt-edit") ps then None else told) n)
 data_marked f false k ps z e = refl
@@ -392,9 +392,9 @@ told_fits f n b k ps (Some d) c p z e g ih h = by_text (text_fits k c) refl h
         subst (λ (y : Option Piece). (fit_told n false stands.Alone k (pairs_marked b ps) (Some d) (all_marked f c) again
         ≡ Ok (option_map (piece_marked f) y)) × BeginsIfAny y) is (
           ap (λ (x : Bool). if x then one_piece stands.Alone (pairs_marked b ps) d (with_children false k (label_for k (pairs_marked b ps) d (texts_in (all_marked f c))) again)
-          else Err (n, why.Text)) (ap (λ (x : Bool). holds_text k || x) (blank_same f c) ∙ t)
-          ∙ ap (λ r. one_piece stands.Alone (pairs_marked b ps) d (with_children false k (label_for k (pairs_marked b ps) d (texts_in (all_marked f c))) r)) here.0
-          ∙ ap (λ u. Ok (Some (single u))) (alone_tree f b k ps d c xs z e g here.1),
+              else Err (n, why.Text)) (ap (λ (x : Bool). holds_text k || x) (blank_same f c) ∙ t)
+              ∙ ap (λ r. one_piece stands.Alone (pairs_marked b ps) d (with_children false k (label_for k (pairs_marked b ps) d (texts_in (all_marked f c))) r)) here.0
+              ∙ ap (λ u. Ok (Some (single u))) (alone_tree f b k ps d c xs z e g here.1),
           tt,
         )
     by_held (Err w) i t q = absurd (cc q)
@@ -421,7 +421,7 @@ row_fits f n q v g (Some k) ps c p z other ih h = by_place (has_place q v k || f
     by_place true e =
         let r = told_fits f n b k ps (data_of k ps) c p z refl (other k refl) (ih k) e in (
           ap (λ o. fit_told n false stands.Alone k (pairs_marked b ps) o (all_marked f c) (fit_nodes (suc n) (within k false) (all_marked f c)))
-          (data_marked f b k ps z refl) ∙ r.0,
+              (data_marked f b k ps z refl) ∙ r.0,
           r.1,
         )
     by_place false e = absurd (cc e)
@@ -503,7 +503,7 @@ mutual
           ≡ Ok (option_map (piece_marked f) p)) × BeginsIfAny p
       by_about true e ih =
           let s = row_stays f n x (standing g ps) (row_as (standing g ps) name ps) ps c
-              (λ k. fit_nodes (suc n) (within k (is_inside x (standing g ps))) c) p (not_alone g (value_of (codes "about") ps) (has (codes "data-mw") ps) e) h in
+          (λ k. fit_nodes (suc n) (within k (is_inside x (standing g ps))) c) p (not_alone g (value_of (codes "about") ps) (has (codes "data-mw") ps) e) h in
           (h ∙ ap Ok (sym s.0), s.1)
       by_about false e ih =
           let b : Bool = is_chosen_row f (row name ps) ps in
@@ -513,9 +513,9 @@ mutual
           sym (ap (λ (s : Standing). fit_row n x s (row_as s name ps) ps c (λ k. fit_nodes (suc n) (within k (is_inside x s)) c)) alone) ∙ h in
           let r = row_fits f n q v g (row name ps) ps c p z (λ k i. row_no_group name ps k i) (λ k. ih (suc n) k) was in (
             ap (λ (s : Standing). fit_row n x s (row_as s name d) d (all_marked f c) (λ k. fit_nodes (suc n) (within k (is_inside x s)) (all_marked f c)))
-            (standing_same b g ps ∙ alone)
-            ∙ ap (λ (o : Option Kind). fit_row n x stands.Alone o d (all_marked f c) (λ k. fit_nodes (suc n) (within k false) (all_marked f c))) (row_same b name ps)
-            ∙ r.0,
+                (standing_same b g ps ∙ alone)
+                ∙ ap (λ (o : Option Kind). fit_row n x stands.Alone o d (all_marked f c) (λ k. fit_nodes (suc n) (within k false) (all_marked f c))) (row_same b name ps)
+                ∙ r.0,
             r.1,
           )
 
@@ -531,7 +531,7 @@ mutual
       let here = node_fits t ts f n q v g r.0 z r.2 in
       let behind = nodes_fit ts f (n + elements t) q y.behind y.group r.1 z r.3 in (
         ap₂ onto_told here.0
-        (ap₂ (λ m w. fit_nodes (n + m) w (all_marked f ts)) (elements_same f t) (behind_same f x t ts) ∙ behind.0)
-        ∙ told_marked f r.0 r.1 ∙ ap (λ zs. Ok (all_pieces f zs)) (sym r.4),
+            (ap₂ (λ m w. fit_nodes (n + m) w (all_marked f ts)) (elements_same f t) (behind_same f x t ts) ∙ behind.0)
+            ∙ told_marked f r.0 r.1 ∙ ap (λ zs. Ok (all_pieces f zs)) (sym r.4),
         subst BeginGroups (sym r.4) (begin_all r.0 r.1 here.1 behind.1),
       )

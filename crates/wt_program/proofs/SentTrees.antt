@@ -140,11 +140,11 @@ pieces_written (kept t u ps) k parent w s r a h = (
 )
 pieces_written (around l m is ps) k parent w s r a h = (
   round_written (writing l.kind) k parent l (page_pieces is) (own_pieces is) (IsWrittenGroup k parent l (page_pieces is)) refl (style_writing l.kind s.0)
-  (style_leaf l.kind s.0)
-  (λ i. (
-    not_cut (texts_of_kind l.kind) (own_pieces is) (style_words l.kind s.0).texts,
-    pieces_written is (suc k) l.kind (style_words l.kind s.0) s.2 r.2 r.1 i.1,
-  )) h.0,
+      (style_leaf l.kind s.0)
+      (λ i. (
+        not_cut (texts_of_kind l.kind) (own_pieces is) (style_words l.kind s.0).texts,
+        pieces_written is (suc k) l.kind (style_words l.kind s.0) s.2 r.2 r.1 i.1,
+      )) h.0,
   joins_page (texts_of_kind parent) (is_text (tree l (own_pieces is)) && begins_with_text (own_pieces ps)) w.texts a.0,
   pieces_written ps k parent w s.3 r.3 a.1 h.2,
 )
@@ -245,7 +245,7 @@ cut_same : (es : Edits) (behind : Bool) (k : ℕ) (parent : Kind) → AreRead es
 cut_same no_edits behind k parent r w h = tt
 cut_same (more_edits e es) behind k parent r w h = (
   subst (λ (x : Bool). StandsBy x (begins_with_text (own_nodes es)) (IsWhole behind (leads_to_block (own_nodes es)) (own_node e)) (IsFront behind (own_node e) (own_nodes es)))
-  (sym (edited_text e)) (stands_same behind e es k parent (is_text (page_node e)) refl w.0 w.2 r.1 h.0),
+      (sym (edited_text e)) (stands_same behind e es k parent (is_text (page_node e)) refl w.0 w.2 r.1 h.0),
   subst (λ (b : Bool). AreCut (behind || b) (own_nodes es)) (sym (edited_border e r.0)) (cut_same es (behind || is_border (page_node e)) k parent r.1 w.2 h.1),
 )
 
