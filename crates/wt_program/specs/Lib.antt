@@ -7,3 +7,4 @@ pub mod ProseCalls
 pub mod PlacedCalls
 pub mod SentHtml
 pub mod EditsSent
+pub mod WorkedCall
