@@ -11,4 +11,3 @@ pub mod SentMarks
 pub mod SentPages
 pub mod ChosenHtml
 pub mod SentCalls
-pub mod WorkedCall

@@ -50,6 +50,7 @@ use Rattle.wt_typed_blocks.specs.EditedUnmarked.{bare_nodes}
 use Rattle.wt_called_edit_laws.specs.EditsAt.{sent_contents, bare_contents}
 use Rattle.wt_called_edit_laws.specs.Groups.{called_tree}
 use Rattle.wt_called_edit_laws.specs.TreeEdits.{IsNumberedBody}
+use Rattle.wt_called_edit_laws.proofs.PageBody.{page_body}
 use Rattle.wt_page_laws.specs.EditMarks.{document_marked, mark_by, label_marked, tree_marked, trees_marked}
 use Rattle.wt_page_laws.proofs.MarkedBodies.{document_fits}
 use Rattle.wt_page_laws.proofs.MarkedText.{marked_text}
@@ -207,7 +208,8 @@ has_html t es e s r w h few =
 -- ---- of a page
 
 pub page_html : (pages : Pages) (page : List ℕ) (es : Edits) → IsUtf8 page → length page < 2 ^ 30 → first_refusal pages page (page_work pages page) ≡ None
-    → IsNumberedBody (called_tree pages page) → page_nodes es ≡ children (called_tree pages page) → AreEdited es → AreRead es
-    → HasHtml (called_tree pages page) es
-page_html pages page es u room e h old s r =
+    → page_nodes es ≡ children (called_tree pages page) → AreEdited es → AreRead es → HasHtml (called_tree pages page) es
+page_html pages page es u room e old s r =
+    let b = page_body pages page u e in
+    let h : IsNumberedBody (called_tree pages page) = record { body = b.kind; numbered = b.numbered; alone = b.unframed } in
     has_html (called_tree pages page) es old s r (page_body_written pages page u room e) h (page_groups pages page u room e)

@@ -7,4 +7,3 @@ pub mod ProseCalls
 pub mod PlacedCalls
 pub mod SentHtml
 pub mod EditsSent
-pub mod WorkedCall

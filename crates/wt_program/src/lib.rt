@@ -23,9 +23,7 @@ pub use laws::{
     contents_at_their_places_are_taken_so, texts_among_calls_are_taken_so,
     texts_in_cells_are_taken_so, texts_on_pages_without_calls_are_taken_so,
 };
-pub use sent_html::{
-    chosen_contents_can_be_sent, edits_can_be_sent, edits_have_their_html, worked_edit_is_written,
-};
+pub use sent_html::{chosen_contents_can_be_sent, edits_can_be_sent, edits_have_their_html};
 use std::alloc::Global;
 use wt_devices::{Folder, Sink, Source};
 pub use wt_pagetool::tell_no_memory;
