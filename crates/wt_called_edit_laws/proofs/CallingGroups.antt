@@ -1,11 +1,10 @@
 -- Where contents are written in blocks that hold calls, beside these calls, the groups of the page and its other nodes stay.
-use Rattle.std.proofs.Common.{◌≡◌, ◌⊎◌, inl, inr, ℕ, zero, suc, None, List, [], ◌∷◌, ◌++◌, refl, sym, ap, ◌∙◌, subst}
+use Rattle.std.proofs.Common.{◌≡◌, ◌⊎◌, inl, inr, ℕ, zero, suc, None, List, [], ◌∷◌, refl, sym, ap, ◌∙◌, subst}
 use Rattle.wt_span.specs.Origins.{OuterCall}
-use Rattle.wt_expand.specs.Work.{Pages, Entry}
+use Rattle.wt_expand.specs.Work.{Pages}
 use Rattle.wt_expand.specs.PageCalls.{expanded_page}
 use Rattle.wt_annotated.specs.Annotated.{annotated}
 use Rattle.wt_annotated.specs.GroupData.{group_data}
-use Rattle.wt_inline.specs.ItemTree.{ItemTree}
 use Rattle.wt_span.specs.Items.{Item}
 use Rattle.wt_checks.specs.Kept.{children}
 use Rattle.wt_part_laws.specs.Expanded.{part_items}
@@ -26,7 +25,7 @@ use Rattle.wt_called_edit_laws.specs.CalledBlocks.{counted}
 use Rattle.wt_called_edit_laws.specs.CallingBlocks.{IsNewContentIn, AreEdited, AreCallingBlocks, tree_with_calls, CallingBlocksStand}
 use Rattle.wt_called_edit_laws.specs.CallingGroups.{AreCallingOutside, CallingGroupsStay, CallingNodesStay}
 use Rattle.wt_called_edit_laws.specs.Parts.{calls_to, calls_past, called_outers, work_in}
-use Rattle.wt_called_edit_laws.specs.Retyped.{AreSomeOf, IsPartAnew}
+use Rattle.wt_called_edit_laws.specs.Retyped.{IsPartAnew}
 use Rattle.wt_called_edit_laws.proofs.Cells.CallingFrames.{edited_anew, calling_again}
 use Rattle.wt_called_edit_laws.proofs.Cells.SpotTrees.{counted_same}
 use Rattle.wt_called_edit_laws.proofs.CleanAgain.{frames_clean}

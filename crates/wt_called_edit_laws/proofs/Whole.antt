@@ -6,3 +6,4 @@ pub mod Opened
 pub mod Pieces
 pub mod Blocks
 pub mod Contents
+pub mod Pieced

@@ -5,13 +5,15 @@ ghost use Rattle.wt_guards.specs.Content.{ContentSign, Thing};
 ghost use Rattle.wt_guards.specs.Guards.{Setting, spelled};
 ghost use Rattle.wt_expand.specs.Work.{Pages};
 ghost use Rattle.wt_text_edit_laws.specs.TextBlocks.{a_paragraph};
-ghost use Rattle.wt_called_edit_laws.specs.CallingBlocks.{IsNewContentIn};
+ghost use Rattle.wt_called_edit_laws.specs.CallingBlocks.{IsContentIn, IsNewContentIn};
 ghost use Rattle.wt_called_edit_laws.specs.CallingEdits.{TakesLetters};
+ghost use Rattle.wt_called_edit_laws.specs.EditableBlocks.{HoldsCalls};
 ghost use Rattle.wt_called_edit_laws.specs.InPieces.{pieces_source, AreInPieces};
 ghost use Rattle.wt_beside_laws.specs.Called.{BeginsWithText, EndsWithText};
 ghost use Rattle.wt_beside_laws.specs.Lines.{AreCharacters};
 ghost use Rattle.wt_beside_laws.specs.Stood.{things};
 ghost use Rattle.wt_called_edit_laws.specs.PageThings.{ArePageThings, ThingsStay, thing_sources};
+ghost use Rattle.wt_called_edit_laws.specs.PiecedParagraphs.{IsInPieces};
 ghost use Rattle.wt_called_edit_laws.specs.WholeContents.{HoldsWords};
 ghost use Rattle.wt_called_edit_laws.specs.WrittenAnew.{node_sources, StayButForOthers, IsWrittenBeside};
 
@@ -44,4 +46,11 @@ pub fn letters_may_be_typed_before_calls()
         → ArePageThings pages olds → TakesLetters pages a_paragraph (pieces_source bs) }
     ensures again { (pages : Pages) (s : Setting) (signs : List ContentSign) → IsWrittenBeside pages s signs → ArePageThings pages (things signs)
         → TakesLetters pages a_paragraph (spelled s signs) }
+{}
+
+/// So a paragraph of the page, whoever wrote it, is one of which texts may be typed beside its calls (`IsInPieces`): it is a content in this folder,
+/// and holds calls that give words.
+pub fn paragraphs_in_pieces_may_be_edited()
+    ensures content { (pages : Pages) (q : List ℕ) → IsInPieces pages q → IsContentIn pages a_paragraph q }
+    ensures calls { (pages : Pages) (q : List ℕ) → IsInPieces pages q → HoldsCalls pages a_paragraph q }
 {}
