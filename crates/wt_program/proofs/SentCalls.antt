@@ -80,8 +80,8 @@ edit_is_done : (pages : Pages) (ss : List BlockSpot) (behind : List ℕ) (f : Is
     → edit_to pages (spots_source ss behind) (sent_contents (spots_tree pages ss behind) es b) ≡ done (edited_page ss behind (paths_of f) es)
 edit_is_done pages ss behind f h =
     let P : List (List ℕ) → Type 0 = λ ps.
-        (b : Label) (es : Edits) → IsContentEdit (spots_tree pages ss behind) ss ps es → length (edited_page ss behind ps es) ≤ PAGE_BYTES
-        → edit_to pages (spots_source ss behind) (sent_contents (spots_tree pages ss behind) es b) ≡ done (edited_page ss behind ps es) in
+    (b : Label) (es : Edits) → IsContentEdit (spots_tree pages ss behind) ss ps es → length (edited_page ss behind ps es) ≤ PAGE_BYTES
+    → edit_to pages (spots_source ss behind) (sent_contents (spots_tree pages ss behind) es b) ≡ done (edited_page ss behind ps es) in
     subst P (contents_paths pages ss behind f h) (contents_by pages ss behind f h).takes
 
 sent_so : (pages : Pages) (ss : List BlockSpot) (behind : List ℕ) (at : Choice) → IsEditablePage pages ss behind → length (spots_source ss behind) ≤ PAGE_BYTES
