@@ -176,11 +176,10 @@ own_all front (b ∷ bs) behind xs runs h c s =
 
 none_touched : (calls : List OuterCall) (at : ℕ) (es : List Item) (bs : List LinedBlock) → AreUntouched calls [] at es bs
 none_touched calls at es [] = tt
-none_touched calls at es (b ∷ bs) =
-    (
-      tt,
-      none_touched calls (at + length (text_from calls None (es ++ joined b.before)) + length (sources (b.marks ++ content (own_items b)))) (ending (own_items b)) bs,
-    )
+none_touched calls at es (b ∷ bs) = (
+  tt,
+  none_touched calls (at + length (text_from calls None (es ++ joined b.before)) + length (sources (b.marks ++ content (own_items b)))) (ending (own_items b)) bs,
+)
 
 page_runs : (page : List ℕ) (bs : List LinedBlock) (behind : List (List Item)) → full_lines (page_items page) ≡ all_lines bs behind
     → AreRuns goes_on (all_lines bs behind) (page_items page)

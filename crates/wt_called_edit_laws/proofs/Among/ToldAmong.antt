@@ -141,8 +141,7 @@ told_after pages page last open_tables es (t ∷ ts) behind p qs xs runs f r h o
     let is_break : es ≡ break ∷ [] = f some.0 some.1 some.2 in
     let at : IsLinedAt open_tables b = told_at pages page open_tables t p es tail qs xs runs (inr is_break) r own.0 own.1 u.0 c h.1 in
     let l : IsLinedHere pages page open_tables es b tail p qs = lined_here pages page open_tables es b tail p qs xs runs (inr is_break) r at own.0 own.1 u.0 in
-    let left : List Item = ending (own_items b) in
-    (
+    let left : List Item = ending (own_items b) in (
       h.0,
       at,
       told_after pages page b.block (open_after open_tables (rows_before open_tables t)) left ts behind (block_to pages page p (line_front es b) b.marks b.block b.text)
@@ -161,8 +160,7 @@ all_told pages page (t ∷ ts) behind h =
     let at : IsLinedAt [] b = told_at pages page [] t 0 [] tail (page_items page) xs runs (inl refl) r h.own.0 h.own.1 h.untouched.0 h.closed h.told.0 in
     let l : IsLinedHere pages page [] [] b tail 0 (page_items page) =
     lined_here pages page [] [] b tail 0 (page_items page) xs runs (inl refl) r at h.own.0 h.own.1 h.untouched.0 in
-    let left : List Item = ending (own_items b) in
-    (
+    let left : List Item = ending (own_items b) in (
       at,
       told_after pages page b.block (open_after [] (rows_before [] t)) left ts behind (block_to pages page 0 (line_front [] b) b.marks b.block b.text)
           l.here.behind (joined tail) l.around.tail_runs l.around.ends l.here.next h.told.1
