@@ -1,12 +1,12 @@
 -- Lines of an expanded page that tell a paragraph or a heading are those of such a block.
-use Rattle.std.proofs.Common.{arith, ◌≡◌, inl, inr, ℕ, ◌+◌, ◌≤◌, Bool, None, List, [], ◌∷◌, ◌++◌, length, map, refl, sym, ap, ◌∙◌, subst, append_assoc, append-nil, length-append}
+use Rattle.std.proofs.Common.{arith, ◌≡◌, inl, inr, ℕ, ◌+◌, ◌≤◌, Bool, None, List, [], ◌∷◌, ◌++◌, length, map, refl, sym, ap, ◌∙◌, subst, append_assoc, append-nil}
 use Rattle.wt_span.specs.Items.{Item, char, sources}
 use Rattle.wt_span.specs.Origins.{Span}
 use Rattle.wt_span.specs.Runs.{IsRun, AreRuns}
 use Rattle.wt_span.proofs.RunLaws.{runs_are}
 use Rattle.wt_annotated.specs.Seams.{last_of, text_from}
 use Rattle.wt_annotated.proofs.Seams.{last_append}
-use Rattle.wt_lines.specs.Lines.{full_lines, goes_on, content}
+use Rattle.wt_lines.specs.Lines.{goes_on, content}
 use Rattle.wt_page.specs.Lines.{ending}
 use Rattle.wt_tables.specs.Parts.{joined}
 use Rattle.wt_expand.specs.PageCalls.{expanded_page}
@@ -21,7 +21,7 @@ use Rattle.wt_called_edit_laws.specs.LinedAmong.{AreOfPage, AreOwnLines, AreBesi
 use Rattle.wt_called_edit_laws.specs.LinedHeadings.{sides_of, text_of, IsLinedHeading}
 use Rattle.wt_called_edit_laws.specs.PlacedLines.{LinedBlock, all_lines, OwnLined, IsLinedAt, AreLinedAfter, AreLined}
 use Rattle.wt_called_edit_laws.specs.ToldAmong.{IsToldAmong}
-use Rattle.wt_called_edit_laws.specs.ToldLines.{Told, a_paragraph_of, a_heading_on, lined, OwnTold, rows_before, IsToldAt, AreToldAfter, AreTold}
+use Rattle.wt_called_edit_laws.specs.ToldLines.{Told, a_paragraph_of, a_heading_on, lined, OwnTold, rows_before, IsToldAt, AreToldAfter}
 use Rattle.wt_called_edit_laws.proofs.Among.BlockAt.{calls_of, IsRest, text_to, block_to, IsPast, IsPastOwn, past_front, past_own, no_bytes, beside_first, beside_front, beside_last}
 use Rattle.wt_called_edit_laws.proofs.Among.LinedParts.{IsLeft, left_none, line_front, IsLinedHere, lined_here, own_breaks, of_behind, of_front, page_rest}
 use Rattle.wt_called_edit_laws.proofs.Among.OwnItems.{from_page}
