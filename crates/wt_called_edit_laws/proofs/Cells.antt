@@ -30,7 +30,7 @@ pub mod Nodes
 pub mod OwnTexts
 pub mod SentAsIs
 mod SentCases
-mod PageCases
+pub mod PageCases
 pub mod PageSlots
 pub mod Equal
 pub mod PlaceGaps

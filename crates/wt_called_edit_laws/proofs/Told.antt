@@ -8,3 +8,4 @@ pub mod RestEnds
 pub mod OwnReads
 pub mod FreeNodes
 pub mod ToldPages
+mod ToldCases

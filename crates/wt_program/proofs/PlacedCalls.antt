@@ -40,7 +40,8 @@ calls_type_in_lines c ended ends as_edit = texts_in c ended (calls_take c ended 
 
 pub contents_expanded : (c : Call) (ended : ℕ) → TakesContentsAmongCalls c ended → TakesContentsInExpandedLines c ended
 contents_expanded c ended t = λ pages page bs behind told h.
-    t pages (spots_of_lines pages page bs) (end_of_lines pages page bs behind) told (lined_editable pages page bs behind h)
+    t pages (spots_of_lines pages page bs) (end_of_lines pages page bs behind) told
+    (editable_with_calls pages (spots_of_lines pages page bs) (end_of_lines pages page bs behind) (lined_editable pages page bs behind h))
 
 texts_expanded_by : (c : Call) (ended : ℕ) → TakesTextsAmongCalls c ended → TakesTextsInExpandedLines c ended
 texts_expanded_by c ended t = λ pages page bs behind told h.

@@ -10,7 +10,7 @@ use Rattle.wt_span.specs.Braces.{Member, lexeme, call, members, width, width_of_
 use Rattle.wt_braces.proofs.Closings.{stuck_again}
 use Rattle.wt_braces.proofs.Shapes.{NoRun, Behind, nearest}
 use Rattle.wt_braces.proofs.Takings.{taking, rewritten_at, stuck_free, stuck_few}
-use Rattle.wt_part_laws.specs.Apart.{close_left, NoneOpens, NoneCloses, AreApart, AreMet}
+use Rattle.wt_part_laws.specs.Apart.{NoneOpens, NoneCloses, AreApart, AreMet}
 use Rattle.wt_part_laws.proofs.ApartCalls.{onto_calm}
 
 -- ---- how many bytes members take, listed from the nearest on

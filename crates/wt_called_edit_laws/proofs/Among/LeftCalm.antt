@@ -1,11 +1,11 @@
 -- Of the braces that a text has left, no two that open are before two that close.
-use Rattle.std.proofs.Common.{arith, ◌≡◌, ◌⊎◌, inl, inr, ℕ, zero, suc, ◌-◌, ◌<◌, ◌≤◌, Bool, true, false, Some, List, [], ◌∷◌, ◌++◌, reverse, nat_le, refl, sym, ap, ◌∙◌, subst}
+use Rattle.std.proofs.Common.{arith, ◌≡◌, ◌⊎◌, inl, inr, ℕ, zero, suc, ◌-◌, ◌<◌, ◌≤◌, Bool, true, false, Some, List, [], ◌∷◌, ◌++◌, reverse, nat_le, sym, ap, ◌∙◌, subst}
 use Rattle.std.specs.Prelude.{◌==◌, if◌then◌else◌}
 use Rattle.std.proofs.lemmas.Bool.Decides.{nat_tests}
 use Rattle.std.proofs.lemmas.List.{reverse-append}
 use Rattle.wt_span.specs.declared.form.LexKind.TheVariants.{Chars, CommentLine, Comment, Raw, Include, Hidden, Entity, Opens, Closes, LinkOpen, LinkClose, Pipe, Equals}
 use Rattle.wt_span.specs.Lexemes.{Word}
-use Rattle.wt_span.specs.Braces.{Member, lexeme, call, members, open_left, taken, left_over, rewritten, again, closed_by, with_word, reduced_onto, reduced}
+use Rattle.wt_span.specs.Braces.{Member, lexeme, open_left, taken, left_over, rewritten, again, closed_by, with_word, reduced_onto, reduced}
 use Rattle.wt_braces.proofs.Closings.{lowered}
 use Rattle.wt_braces.proofs.Reached.{fixed_by}
 use Rattle.wt_braces.proofs.Shapes.{NoRun, Behind, nearest}

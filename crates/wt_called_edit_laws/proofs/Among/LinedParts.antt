@@ -1,5 +1,5 @@
 -- A page with calls, by the lines of the expanded page: it is cut at the blocks that these tell, and each is at such a place.
-use Rattle.std.proofs.Common.{arith, ◌≡◌, ◌≢◌, ◌⊎◌, inl, inr, ℕ, zero, suc, ◌+◌, ◌≤◌, Bool, true, false, Option, Some, None, List, [], ◌∷◌, ◌++◌, length, map, refl, sym, ap, ap₂, ◌∙◌, subst, append_assoc, append-nil, length-append, All}
+use Rattle.std.proofs.Common.{arith, ◌≡◌, ◌≢◌, ◌⊎◌, inl, inr, ℕ, zero, suc, ◌+◌, ◌≤◌, Bool, true, false, Option, Some, None, List, [], ◌∷◌, ◌++◌, length, map, refl, sym, ap, ap₂, ◌∙◌, subst, append_assoc, append-nil, length-append}
 use Rattle.std.specs.Prelude.{if◌then◌else◌}
 use Rattle.std.specs.Str.{IsUtf8}
 use Rattle.std.proofs.lemmas.Bool.Decides.{nat_tests}
@@ -10,7 +10,7 @@ use Rattle.wt_span.specs.Runs.{AreRuns}
 use Rattle.wt_span.proofs.RunLaws.{runs_are}
 use Rattle.wt_annotated.specs.Seams.{last_of, text_from}
 use Rattle.wt_annotated.proofs.Seams.{last_append, text_append_from}
-use Rattle.wt_lines.specs.Lines.{is_break_item, full_lines, content, empty_end, goes_on, lines}
+use Rattle.wt_lines.specs.Lines.{is_break_item, content, empty_end, goes_on}
 use Rattle.wt_page.specs.Lines.{ending}
 use Rattle.wt_page.proofs.Ends.{content_ending}
 use Rattle.wt_page.specs.Rows.{Row}

@@ -1,9 +1,8 @@
 -- Items of the page's own side by side in an expanded page are the same where calls are characters. And the rest of a page, cut again.
-use Rattle.std.proofs.Common.{arith, ◌≡◌, ◌≢◌, ◌⊎◌, inl, inr, ℕ, zero, suc, ◌+◌, ◌-◌, ◌≤◌, Bool, true, false, Option, Some, None, List, [], ◌∷◌, ◌++◌, length, take, drop, refl, sym, ap, ◌∙◌, subst, append_assoc, append-nil, length-append, length-take, length-drop}
+use Rattle.std.proofs.Common.{arith, ◌≡◌, ◌⊎◌, inl, inr, ℕ, suc, ◌+◌, ◌-◌, ◌≤◌, Bool, true, false, Option, None, List, [], ◌∷◌, ◌++◌, length, take, drop, refl, sym, ap, ◌∙◌, subst, append_assoc, append-nil, length-take}
 use Rattle.std.specs.Prelude.{slice_index}
 use Rattle.wt_span.specs.declared.form.Mode.TheVariants as mode
 use Rattle.wt_span.specs.declared.form.ItemForm.TheVariants as form
-use Rattle.wt_span.specs.declared.form.LexKind.{LexKind}
 use Rattle.wt_span.specs.Bytes.{is_break}
 use Rattle.wt_span.specs.Items.{Item, char, whole, source, sources, call_of}
 use Rattle.wt_span.specs.Lexemes.{words}
@@ -11,12 +10,12 @@ use Rattle.wt_span.specs.Origins.{OuterCall, Span}
 use Rattle.wt_span.specs.Braces.{Member, Members, lexeme, call, none, more, members, width, width_of_all, reduced}
 use Rattle.wt_annotated.specs.Seams.{last_of, text_from}
 use Rattle.wt_braces.specs.PartMembers.{part_members}
-use Rattle.wt_expand.specs.PageItems.{form_of, items_of_word, items_of_words, page_items}
+use Rattle.wt_expand.specs.PageItems.{items_of_word, items_of_words, page_items}
 use Rattle.wt_expand.specs.Targets.{Called, argument, choice, function, page, text, called}
 use Rattle.wt_expand.specs.Work.{Pages}
-use Rattle.wt_expand.specs.Expansion.{Output, chars, PartOutput, part_outputs, target_part, Reading, front_braces, back_braces, called_output, outputs_of, text_members, page_reading}
-use Rattle.wt_expand.specs.PageCalls.{Stretch, own, outer, text_call, outer_at, call_stretches, all_stretches, outer_items, numbered, outer_calls, text_spans, page_stretches, expanded_page}
-use Rattle.wt_expand.proofs.PiecePlaces.{AllFrom, form_from}
+use Rattle.wt_expand.specs.Expansion.{Output, chars, PartOutput, part_outputs, target_part, Reading, front_braces, called_output, outputs_of, text_members, page_reading}
+use Rattle.wt_expand.specs.PageCalls.{Stretch, own, outer, outer_at, call_stretches, all_stretches, outer_items, numbered, outer_calls, text_spans, page_stretches, expanded_page}
+use Rattle.wt_expand.proofs.PiecePlaces.{AllFrom}
 use Rattle.wt_transclusion.specs.Stretch.{AreFull, AllFull}
 use Rattle.wt_transclusion.proofs.Full.{full_text, text_bytes}
 use Rattle.wt_part_laws.proofs.ApartStretches.{numbered_both, spans_both}
@@ -25,7 +24,7 @@ use Rattle.wt_called_edit_laws.specs.PartTexts.{AreSourcesAt}
 use Rattle.wt_called_edit_laws.proofs.Among.Flattened.{flat_all, page_members}
 use Rattle.wt_called_edit_laws.proofs.Among.Members.{front_size, words_size}
 use Rattle.wt_called_edit_laws.proofs.Among.OwnSeams.{FirstLonger, FirstShorter, two_cuts, first_or, sources_size, from_front, from_rest, own_last, text_size, own_size, some_bytes, IsOwnSeam, seam_rest, stretches, given, member_stretches, AreAt, Rest, all_left, none_some, lexeme_rest, lexeme_chars, rest_more, at_lexeme, find}
-use Rattle.wt_called_edit_laws.proofs.Among.PartsApart.{IsClearOf, IsClear, members_of}
+use Rattle.wt_called_edit_laws.proofs.Among.PartsApart.{IsClear, members_of}
 use Rattle.wt_called_edit_laws.proofs.PartTexts.{sources_first}
 
 -- ---- the page's own

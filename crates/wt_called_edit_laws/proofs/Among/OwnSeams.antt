@@ -1,12 +1,11 @@
 -- The items of an expanded page, cut where the page's own items are on one side: there the page's items, where calls are characters, are cut, too, and
 -- no call goes over the place.
-use Rattle.std.proofs.Common.{arith, ◌≡◌, ◌⊎◌, inl, inr, ℕ, zero, suc, ◌+◌, ◌-◌, ◌≤◌, Bool, false, Option, Some, None, List, [], ◌∷◌, ◌++◌, length, map, take, drop, refl, sym, ap, ap₂, ◌∙◌, subst, append_assoc, append-nil, length-append, length-take, length-drop}
+use Rattle.std.proofs.Common.{arith, ◌≡◌, ◌⊎◌, inl, inr, ℕ, ◌+◌, ◌-◌, ◌≤◌, Bool, false, Option, Some, None, List, [], ◌∷◌, ◌++◌, length, take, drop, refl, sym, ap, ap₂, ◌∙◌, subst, append_assoc, append-nil, length-append, length-take, length-drop}
 use Rattle.std.specs.Prelude.{slice_index}
 use Rattle.wt_span.specs.declared.form.ItemForm.TheVariants as form
 use Rattle.wt_span.specs.declared.form.LexKind.{LexKind}
 use Rattle.wt_span.specs.Bytes.{is_break}
 use Rattle.wt_span.specs.Items.{Item, char, whole, source, sources, call_of}
-use Rattle.wt_span.specs.Lexemes.{Word}
 use Rattle.wt_span.specs.Origins.{OuterCall, Span}
 use Rattle.wt_span.specs.Braces.{Member, Members, lexeme, call, none, more, width, width_of_all}
 use Rattle.wt_annotated.specs.Seams.{last_of, first_of, text_from}
@@ -16,11 +15,11 @@ use Rattle.wt_expand.specs.PageItems.{form_of, items_of_word, items_of_words}
 use Rattle.wt_expand.specs.Targets.{Called, argument, choice, function, page, text, called}
 use Rattle.wt_expand.specs.Work.{Pages}
 use Rattle.wt_expand.specs.Expansion.{Output, chars, PartOutput, part_outputs, target_part, Reading, front_braces, back_braces, called_output, outputs_of, page_reading}
-use Rattle.wt_expand.specs.PageCalls.{Stretch, own, outer, text_call, outer_at, call_stretches, stretches_of, all_stretches, from_call, outer_items, numbered, outer_calls, text_spans}
+use Rattle.wt_expand.specs.PageCalls.{Stretch, own, outer_at, call_stretches, stretches_of, all_stretches, outer_items, numbered, outer_calls, text_spans}
 use Rattle.wt_expand.proofs.PiecePlaces.{AllFrom, form_from, behind_page}
 use Rattle.wt_transclusion.specs.Stretch.{AreFull}
 use Rattle.wt_part_laws.proofs.ApartStretches.{numbered_both, outers_both, spans_both}
-use Rattle.wt_called_edit_laws.specs.LinedAmong.{IsNoFunction, AreOfPage, AreBeside}
+use Rattle.wt_called_edit_laws.specs.LinedAmong.{AreBeside}
 use Rattle.wt_called_edit_laws.specs.PartTexts.{AreSourcesAt}
 use Rattle.wt_called_edit_laws.proofs.Among.Flattened.{flat, flat_all, items_append}
 use Rattle.wt_called_edit_laws.proofs.Among.Members.{front_size, back_size, member_text, below_all, named_both, flat_width, words_size}

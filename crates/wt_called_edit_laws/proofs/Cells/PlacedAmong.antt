@@ -1,5 +1,5 @@
 -- A page with calls that is cut at paragraphs and headings which call nothing: its parts are read and expanded each by itself, and it may be edited.
-use Rattle.std.proofs.Common.{◌≡◌, inr, ℕ, ◌+◌, Bool, List, [], ◌∷◌, refl, sym, ap, ◌∙◌, subst}
+use Rattle.std.proofs.Common.{◌≡◌, inr, ℕ, ◌+◌, Bool, List, [], ◌∷◌, refl, subst}
 use Rattle.std.specs.Str.{IsUtf8}
 use Rattle.wt_span.specs.Items.{Item}
 use Rattle.wt_expand.specs.PageItems.{page_items}
@@ -8,8 +8,8 @@ use Rattle.wt_part_laws.specs.Expanded.{calls_in}
 use Rattle.wt_text_edit_laws.specs.BlockSpots.{BlockSpot, spots_source, EndBeforeBlocks, IsRead, AreReadAfter, AreContents}
 use Rattle.wt_text_edit_laws.specs.Contents.{IsContent}
 use Rattle.wt_text_edit_laws.specs.NoCalls.{NonePairs, CallsNothing}
-use Rattle.wt_text_edit_laws.specs.PageCuts.{EndsThere, AreFurtherCuts, AreCuts, AreFree}
-use Rattle.wt_text_edit_laws.specs.TextBlocks.{TextBlock, source_of}
+use Rattle.wt_text_edit_laws.specs.PageCuts.{AreFurtherCuts, AreCuts, AreFree}
+use Rattle.wt_text_edit_laws.specs.TextBlocks.{TextBlock}
 use Rattle.wt_text_edit_laws.proofs.Blocks.BlockReading.{read_spot, read_spots}
 use Rattle.wt_beside_laws.proofs.Derived.BlockContents.{there_begins, block_content}
 use Rattle.wt_beside_laws.proofs.Derived.CutPages.{further_there, begins_line, ends_line, spot_read}

@@ -203,9 +203,10 @@ nodes_show pages calls i m a (b ∷ bs) h s =
           (text_child pages m a xs, nodes_show pages calls (i + calls_in pages b) (m + count (text_tree xs)) (a + length (flat (text_tree xs))) bs h.1 r.1)
       | inr w ↦
           let g : Tree = call_group calls i (loose_leaf Text (call_chars i (words_of pages b))) in
-          subst (λ (v : Tree). AreChildrenBeside pages (all_settled m a (more v us))) (sym (call_node pages calls i b w.words))
-          (group_child pages calls i m a b w.words (first_source pages calls i b w.words r.0),
-          nodes_show pages calls (i + calls_in pages b) (m + count g) (a + length (flat g)) bs h.1 r.1)
+          subst (λ (v : Tree). AreChildrenBeside pages (all_settled m a (more v us))) (sym (call_node pages calls i b w.words)) (
+            group_child pages calls i m a b w.words (first_source pages calls i b w.words r.0),
+            nodes_show pages calls (i + calls_in pages b) (m + count g) (a + length (flat g)) bs h.1 r.1,
+          )
     ]
 
 -- ---- as things
