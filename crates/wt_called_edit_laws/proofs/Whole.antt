@@ -7,3 +7,4 @@ pub mod Pieces
 pub mod Blocks
 pub mod Contents
 pub mod Pieced
+pub mod TextAndCalls

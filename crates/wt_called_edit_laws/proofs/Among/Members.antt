@@ -19,8 +19,9 @@ use Rattle.wt_expand.specs.Work.{Pages}
 use Rattle.wt_expand.specs.Expansion.{Output, chars, PartOutput, part_outputs, target_part, Reading, front_braces, back_braces, called_output, outputs_of, page_reading}
 use Rattle.wt_expand.specs.PageCalls.{Stretch, own, outer, text_call, call_stretches, stretches_of, all_stretches, outer_items, numbered, outer_calls}
 use Rattle.wt_expand.proofs.PageLaws.{form_sources, char_sources}
+use Rattle.wt_called_edit_laws.specs.PartTexts.{AreSourcesAt}
 use Rattle.wt_called_edit_laws.proofs.Among.Flattened.{flat, flat_all, width_append}
-use Rattle.wt_called_edit_laws.proofs.PartTexts.{OwnPage, own_one, IsBelow, below_own, below_outer, AreSourcesAt, joined}
+use Rattle.wt_called_edit_laws.proofs.PartTexts.{OwnPage, own_one, IsBelow, below_own, below_outer, joined}
 
 -- ---- their bytes
 

@@ -20,11 +20,12 @@ use Rattle.wt_transclusion.specs.Stretch.{AreFull, AllFull}
 use Rattle.wt_transclusion.proofs.Full.{full_text, text_bytes}
 use Rattle.wt_part_laws.proofs.ApartStretches.{numbered_both, spans_both}
 use Rattle.wt_called_edit_laws.specs.LinedAmong.{IsNoFunction, AreOfPage, AreBeside}
+use Rattle.wt_called_edit_laws.specs.PartTexts.{AreSourcesAt}
 use Rattle.wt_called_edit_laws.proofs.Among.Flattened.{flat_all, page_members}
 use Rattle.wt_called_edit_laws.proofs.Among.Members.{front_size, words_size}
 use Rattle.wt_called_edit_laws.proofs.Among.OwnSeams.{FirstLonger, FirstShorter, two_cuts, first_or, sources_size, from_front, from_rest, own_last, text_size, own_size, some_bytes, IsOwnSeam, seam_rest, stretches, given, member_stretches, AreAt, Rest, all_left, none_some, lexeme_rest, lexeme_chars, rest_more, at_lexeme, find}
 use Rattle.wt_called_edit_laws.proofs.Among.PartsApart.{IsClear, members_of}
-use Rattle.wt_called_edit_laws.proofs.PartTexts.{AreSourcesAt, sources_first}
+use Rattle.wt_called_edit_laws.proofs.PartTexts.{sources_first}
 
 -- ---- the page's own
 
