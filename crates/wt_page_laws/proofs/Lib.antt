@@ -73,3 +73,4 @@ pub mod OneAnswer
 pub mod OnePage
 pub mod Utf8Texts
 pub mod OneHead
+pub mod PlainTemplates
