@@ -22,9 +22,9 @@ use crate::list::lists;
 use crate::table::table;
 use crate::text::{paragraph, preformatted, rule_tree};
 use std::alloc::Global;
-use wt_page::heading;
 use wt_inline::{Children, Loose, PieceTree};
 use wt_lines::LineKind;
+use wt_page::heading;
 use wt_rows::{RowAt, StretchAt, between, unit_len, with_separators, with_stretches};
 use wt_span::{List, NoMemory, Piece, front_of, rest_of};
 

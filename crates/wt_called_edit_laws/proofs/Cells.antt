@@ -2,12 +2,14 @@
 mod AnyCases
 mod CalledCases
 mod ClassCases
+mod LineCases
 pub mod AnyPages
 pub mod BodyPages
 pub mod OwnParagraphs
 pub mod PlacedBlocks
 pub mod PlacedSpots
 pub mod PlacedLines
+pub mod PlacedAmong
 mod PlacedCases
 pub mod TakenParagraphs
 mod Cases
@@ -28,7 +30,7 @@ pub mod Nodes
 pub mod OwnTexts
 pub mod SentAsIs
 mod SentCases
-mod PageCases
+pub mod PageCases
 pub mod PageSlots
 pub mod Equal
 pub mod PlaceGaps

@@ -1,25 +1,29 @@
 -- Any number of paragraphs and headings of a page where they are in it, by the page's lines: in the body, in cells and in captions.
-use Rattle.std.specs.Prelude.{◌≡◌, ℕ, true, Bool, List, [], ◌∷◌, ◌++◌, length}
+use Rattle.std.specs.Prelude.{◌≡◌, ◌≤◌, ℕ, true, Bool, List, [], ◌∷◌, ◌++◌, length}
+use Rattle.std.specs.List.{list_all}
 use Rattle.std.specs.Str.{IsUtf8}
-use Rattle.wt_span.specs.Items.{Item, sources}
+use Rattle.wt_span.specs.Items.{Item, is_mark, sources}
 use Rattle.wt_expand.specs.PageItems.{page_items}
 use Rattle.wt_lines.specs.Lines.{content, full_lines}
 use Rattle.wt_page.specs.Lines.{ending}
 use Rattle.wt_tables.specs.Parts.{joined}
 use Rattle.wt_page.specs.Rows.{rows_from}
 use Rattle.wt_part_laws.specs.Slots.{AllTrue}
-use Rattle.wt_text_edit_laws.specs.BlockSpots.{BlockSpot, spots_source}
-use Rattle.wt_text_edit_laws.specs.PageCuts.{AreBlockItems, begins_unmarked, EndsClosed, AreFree}
+use Rattle.wt_text_edit_laws.specs.BlockSpots.{BlockSpot}
+use Rattle.wt_text_edit_laws.specs.PageCuts.{AreBlockItems, begins_unmarked, EndsClosed}
 use Rattle.wt_text_edit_laws.specs.NoCalls.{CallsNothing}
 use Rattle.wt_text_edit_laws.specs.Parts.{HasNoGroups}
 use Rattle.wt_text_edit_laws.specs.ParagraphBetween.{written_rows, BeginApart}
-use Rattle.wt_text_edit_laws.specs.TextBlocks.{TextBlock, a_paragraph, a_heading, source_of}
+use Rattle.wt_text_edit_laws.specs.TextBetween.{AreEnded}
+use Rattle.wt_text_edit_laws.specs.TextBlocks.{TextBlock, a_paragraph, a_heading}
 use Rattle.wt_called_edit_laws.specs.AnyBlocks.{open_after, EndsFor, NextApart}
 use Rattle.wt_called_edit_laws.specs.PlacedBlocks.{AreLinesAt}
+use Rattle.wt_called_edit_laws.specs.PlacedSpots.{AreShut}
 
--- a block with its lines, and those before it, behind the one before or at the page's start
+-- a block with its lines, and those before it, behind the one before or at the page's start; and the marks that begin its first line
 pub record LinedBlock : Type 0 where
   pub before : List (List Item)
+  pub marks : List Item
   pub block : TextBlock
   pub text : List ℕ
   pub first : List Item
@@ -27,13 +31,13 @@ pub record LinedBlock : Type 0 where
 
 abbrev pub all_lines : List LinedBlock → List (List Item) → List (List Item)
 all_lines [] behind = behind
-all_lines (b ∷ bs) behind = b.before ++ ((b.first ∷ b.more) ++ all_lines bs behind)
+all_lines (b ∷ bs) behind = b.before ++ (((b.marks ++ b.first) ∷ b.more) ++ all_lines bs behind)
 
 -- as parts of a page, where this is left of the line before
 abbrev pub spots_by : List Item → List LinedBlock → List BlockSpot
 spots_by es [] = []
 spots_by es (b ∷ bs) =
-    record { before = sources (es ++ joined b.before); block = b.block; text = b.text } ∷ spots_by (ending (joined (b.first ∷ b.more))) bs
+    record { before = sources (es ++ (joined b.before ++ b.marks)); block = b.block; text = b.text } ∷ spots_by (ending (joined (b.first ∷ b.more))) bs
 
 abbrev pub end_by : List Item → List LinedBlock → List (List Item) → List ℕ
 end_by es [] behind = sources (es ++ joined behind)
@@ -46,11 +50,14 @@ abbrev pub OwnLined : TextBlock → ℕ → List ℕ → List (List Item) → Ty
 OwnLined a_paragraph n q ls = AreLinesAt n ls × (begins_unmarked (content (joined ls)) ≡ true) × (sources (content (joined ls)) ≡ q)
 OwnLined (a_heading s) n q ls = AreBlockItems (a_heading s) q (content (joined ls))
 
--- in the body, in a cell or in a caption, and before a paragraph is no text
-abbrev pub IsLinedAt : List Bool → LinedBlock → Type 0
-IsLinedAt open_tables b =
-    AllTrue (open_after open_tables (written_rows (length open_tables) b.before)) × EndsFor b.block (written_rows (length open_tables) b.before)
-    × OwnLined b.block (length (open_after open_tables (written_rows (length open_tables) b.before))) b.text (b.first ∷ b.more)
+-- In the body, in a cell or in a caption, and before a paragraph is no text. Marks may begin its line, the last of which ends with a `>` or a line break.
+pub record IsLinedAt (open_tables : List Bool) (b : LinedBlock) : Type 0 where
+  pub are_marks : list_all is_mark b.marks ≡ true
+  pub ended : AreEnded (sources b.marks)
+  pub some : 1 ≤ length b.first
+  pub in_cells : AllTrue (open_after open_tables (written_rows (length open_tables) b.before))
+  pub apart : EndsFor b.block (written_rows (length open_tables) b.before)
+  pub own : OwnLined b.block (length (open_after open_tables (written_rows (length open_tables) b.before))) b.text (b.first ∷ b.more)
 
 -- behind a paragraph is no text
 abbrev pub LinesApart : TextBlock → ℕ → List (List Item) → Type 0
@@ -68,18 +75,13 @@ abbrev pub AreLined : List LinedBlock → List (List Item) → Type 0
 AreLined [] behind = ⊥
 AreLined (b ∷ bs) behind = IsLinedAt [] b × AreLinedAfter b.block (open_after [] (written_rows 0 b.before)) bs behind
 
--- one that ends the page holds no mark that nothing ends
-abbrev pub AllClosed : List BlockSpot → List ℕ → Type 0
-AllClosed [] behind = Unit {0}
-AllClosed (s ∷ ss) behind = EndsClosed (source_of s.block s.text) (spots_source ss behind) × AllClosed ss behind
-
--- The page calls nothing, and no node of it can only be kept as a whole. Its lines are those of these blocks, and those beside them; and no block is
--- tangled.
+-- The page calls nothing, and no node of it can only be kept as a whole; nor is a comment or a hidden part open at its end. Its lines are those of these
+-- blocks, and those beside them; and no tag is open in a block.
 pub record IsLinedPage (page : List ℕ) (bs : List LinedBlock) (behind : List (List Item)) : Type 0 where
   pub utf8 : IsUtf8 page
   pub calls_nothing : CallsNothing (page_items page)
   pub ungrouped : HasNoGroups page
+  pub closed : EndsClosed page []
   pub are : full_lines (page_items page) ≡ all_lines bs behind
   pub lined : AreLined bs behind
-  pub closed : AllClosed (spots_by [] bs) (end_by [] bs behind)
-  pub free : AreFree (spots_by [] bs)
+  pub shut : AreShut (spots_by [] bs)

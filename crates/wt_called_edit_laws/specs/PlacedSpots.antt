@@ -1,14 +1,17 @@
 -- Any number of paragraphs and headings of a page where they are in it, by the page's items: in the body, in cells and in captions.
-use Rattle.std.specs.Prelude.{ℕ, Bool, List, [], ◌∷◌, length}
+use Rattle.std.specs.Prelude.{◌≡◌, ℕ, false, Bool, List, [], ◌∷◌, length}
 use Rattle.std.specs.Str.{IsUtf8}
 use Rattle.wt_span.specs.Items.{Item}
+use Rattle.wt_checks.specs.Kept.{children as nodes_in}
 use Rattle.wt_expand.specs.PageItems.{page_items}
+use Rattle.wt_isolation.specs.OpenTags.{any_ends_open}
+use Rattle.wt_part_laws.specs.Standing.{standing}
 use Rattle.wt_text_edit_laws.specs.BlockSpots.{BlockSpot, spots_source}
 use Rattle.wt_text_edit_laws.specs.NoCalls.{CallsNothing}
-use Rattle.wt_text_edit_laws.specs.PageCuts.{IsSpotCut, BeginsBreak, EndsThere, EndsClosed, AreFree}
+use Rattle.wt_text_edit_laws.specs.PageCuts.{IsSpotCut, BeginsBreak, EndsThere, EndsClosed}
 use Rattle.wt_text_edit_laws.specs.Parts.{HasNoGroups}
 use Rattle.wt_text_edit_laws.specs.TextBetween.{AreEnded}
-use Rattle.wt_text_edit_laws.specs.TextBlocks.{TextBlock, source_of}
+use Rattle.wt_text_edit_laws.specs.TextBlocks.{TextBlock, block_tree}
 use Rattle.wt_called_edit_laws.specs.AnyBlocks.{open_behind_part, LeadsInto, past_break, BeginsAfter, EndsAfter}
 use Rattle.wt_called_edit_laws.specs.CalledContents.{StayText}
 
@@ -16,8 +19,7 @@ use Rattle.wt_called_edit_laws.specs.CalledContents.{StayText}
 abbrev pub AreFurtherIn : TextBlock → List Bool → List BlockSpot → List ℕ → List Item → Type 0
 AreFurtherIn last bs [] behind zs = EndsThere behind × EndsAfter last (length bs) zs
 AreFurtherIn last bs (s ∷ ss) behind zs =
-    (c : IsSpotCut s zs) × AreEnded s.before × BeginsBreak s.before × EndsClosed (source_of s.block s.text) (spots_source ss behind)
-    × BeginsAfter last s.block bs c.before × LeadsInto s.block bs (past_break c.before)
+    (c : IsSpotCut s zs) × AreEnded s.before × BeginsBreak s.before × BeginsAfter last s.block bs c.before × LeadsInto s.block bs (past_break c.before)
     × StayText s.block (length (open_behind_part bs (past_break c.before))) c.own
     × AreFurtherIn s.block (open_behind_part bs (past_break c.before)) ss behind c.rest
 
@@ -25,14 +27,25 @@ AreFurtherIn last bs (s ∷ ss) behind zs =
 abbrev pub AreBlocksIn : List BlockSpot → List ℕ → Type 0
 AreBlocksIn [] behind = ⊥
 AreBlocksIn (s ∷ ss) behind =
-    (c : IsSpotCut s (page_items (spots_source (s ∷ ss) behind))) × AreEnded s.before × EndsClosed (source_of s.block s.text) (spots_source ss behind)
-    × LeadsInto s.block [] c.before × StayText s.block (length (open_behind_part [] c.before)) c.own
+    (c : IsSpotCut s (page_items (spots_source (s ∷ ss) behind))) × AreEnded s.before × LeadsInto s.block [] c.before × StayText s.block (length (open_behind_part [] c.before)) c.own
     × AreFurtherIn s.block (open_behind_part [] c.before) ss behind c.rest
 
--- The page calls nothing, and no node of it can only be kept as a whole. Such blocks are at their places in it, and none is tangled.
+-- ---- which blocks are read by themselves
+
+-- no tag is open at the end of a node in it
+abbrev pub IsShut : TextBlock → List ℕ → Type 0
+IsShut k q = any_ends_open (nodes_in (standing 0 [] (block_tree k q))) ≡ false
+
+abbrev pub AreShut : List BlockSpot → Type 0
+AreShut [] = Unit {0}
+AreShut (s ∷ ss) = IsShut s.block s.text × AreShut ss
+
+-- The page calls nothing, and no node of it can only be kept as a whole; nor is a comment or a hidden part open at its end. Such blocks are at their
+-- places in it, and no tag is open in one.
 pub record IsPlacedPage (ss : List BlockSpot) (behind : List ℕ) : Type 0 where
   pub utf8 : IsUtf8 (spots_source ss behind)
   pub calls_nothing : CallsNothing (page_items (spots_source ss behind))
   pub ungrouped : HasNoGroups (spots_source ss behind)
+  pub closed : EndsClosed (spots_source ss behind) []
   pub blocks : AreBlocksIn ss behind
-  pub free : AreFree ss
+  pub shut : AreShut ss

@@ -74,3 +74,7 @@ pub mod OnePage
 pub mod Utf8Texts
 pub mod OneHead
 pub mod PlainTemplates
+pub mod MarkedTrees
+pub mod MarkedElements
+pub mod MarkedBodies
+pub mod MarkedText

@@ -34,3 +34,4 @@ pub mod Trimming
 pub mod Occurring
 pub mod Pieces
 pub mod PlainTemplates
+pub mod EditMarks

@@ -10,17 +10,20 @@ ghost use Rattle.wt_commands.specs.Devices.{read_from, fetched_from, written_to}
 ghost use Rattle.wt_pagetool.specs.Promises.{AsksFor, Ends, EndsAsEdit, GivesBack, ReadsAtMost, Waits, Wrote};
 ghost use Rattle.wt_commands.specs.Words.{command_of, Fetches, Reads};
 ghost use Rattle.wt_program.specs.ContentCalls.{TakesContentsAmongCalls};
+ghost use Rattle.wt_program.specs.PlacedCalls.{TakesContentsInLines};
 ghost use Rattle.wt_program.specs.ProseCalls.{TakesChangedProse};
 
 mod laws;
+mod sent_html;
 
 pub use laws::{
-    calls_take_changed_prose, calls_take_contents_among_calls, calls_take_contents_in_lines,
-    calls_take_texts, calls_take_texts_among_calls, calls_take_texts_anywhere,
-    calls_take_texts_in_cells, contents_at_their_places_are_taken_so,
-    texts_among_calls_are_taken_so, texts_in_cells_are_taken_so,
-    texts_on_pages_without_calls_are_taken_so,
+    calls_take_changed_prose, calls_take_contents_among_calls,
+    calls_take_contents_by_lines_among_calls, calls_take_contents_in_lines, calls_take_texts,
+    calls_take_texts_among_calls, calls_take_texts_anywhere, calls_take_texts_in_cells,
+    contents_at_their_places_are_taken_so, texts_among_calls_are_taken_so,
+    texts_in_cells_are_taken_so, texts_on_pages_without_calls_are_taken_so,
 };
+pub use sent_html::{chosen_contents_can_be_sent, edits_can_be_sent, edits_have_their_html};
 use std::alloc::Global;
 use wt_devices::{Folder, Sink, Source};
 pub use wt_pagetool::tell_no_memory;
@@ -28,9 +31,9 @@ use wt_span::{List, PAGE_BYTES, Str};
 
 /// Answers the words of a command line, without the program's name, and gives the number to end with
 /// (`Status::code` of `wt_pagetool`). This is `run` of `wt_pagetool`, which says what each command does, with all
-/// that it promises and two promises more, which follow from that and from the laws of edits
-/// (`takes_contents_among_calls`, `takes_changed_prose`).
-#[tactic(auto, using(crate::proofs::AmongCalls::calls_take, crate::proofs::ProseCalls::calls_take_changes))]
+/// that it promises and three promises more, which follow from that and from the laws of edits
+/// (`takes_contents_among_calls`, `takes_contents_in_lines`, `takes_changed_prose`).
+#[tactic(auto, using(crate::proofs::AmongCalls::calls_take, crate::proofs::PlacedCalls::calls_take_in_lines, crate::proofs::ProseCalls::calls_take_changes))]
 pub fn run<S: Source, F: Folder, W: Sink, E: Sink>(
     alloc: Global,
     words: &List<Str>,
@@ -41,10 +44,18 @@ pub fn run<S: Source, F: Folder, W: Sink, E: Sink>(
 ) -> u8
     // Edited contents of paragraphs and headings of a page with calls are taken, wherever these are outside the page's
     // groups, in the body, in cells and in captions, in any number of them at once: any text in the place of all that
-    // one holds, and where its content is read so any texts beside its nodes. Where a call sends such an edit of a page
-    // (`IsEditablePage` of `wt_called_edit_laws`), it is done, and with `edit` the page with these contents was written,
-    // and no line; or a device failed, or memory ran out.
+    // one holds, and where its content is read so any texts beside its nodes; and where a paragraph holds calls that give
+    // words, any texts beside these. Where a call sends such an edit of a page
+    // (`IsEditableWithCalls` of `wt_called_edit_laws`), it is done, and with `edit` the page with these contents was written,
+    // and no line; or a device failed, or memory ran out. Nothing but these blocks is another one in the new page.
     ensures takes_contents_among_calls { TakesContentsAmongCalls (call words.now (read_from S.Source input.old input.new)
+        (fetched_from F.Folder folder.old folder.new) (written_to W.Sink out.old out.new)
+        (written_to E.Sink err.old err.new)) result }
+
+    // On a page that calls nothing these blocks are told by the page's lines alone (`IsLinedPage`): any paragraphs and
+    // headings in the body, in cells and in captions that aren't tangled, where no node of the page can only be kept as a
+    // whole. Edited contents of any of them are taken so, too.
+    ensures takes_contents_in_lines { TakesContentsInLines (call words.now (read_from S.Source input.old input.new)
         (fetched_from F.Folder folder.old folder.new) (written_to W.Sink out.old out.new)
         (written_to E.Sink err.old err.new)) result }
 

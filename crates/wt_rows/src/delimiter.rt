@@ -20,8 +20,8 @@ use crate::row::{RowAt, between};
 use crate::stretch::{StretchAt, before};
 use std::alloc::Global;
 use wt_attributes::read_attributes;
-use wt_page::content_len;
 use wt_lines::{LineKind, Signs};
+use wt_page::content_len;
 use wt_span::{List, NoMemory, Piece};
 use wt_tree::Attr;
 

@@ -16,8 +16,8 @@ use crate::cuts::{cut, cut_front};
 use crate::front::Front;
 use crate::row::RowAt;
 use std::alloc::Global;
-use wt_page::content_len;
 use wt_lines::{LineKind, Signs, is_chars, kind_of_pieces, marks_len};
+use wt_page::content_len;
 use wt_span::{List, NoMemory, Piece, front_of, rest_of};
 
 /// The rows of a page, and its pieces, which are cut where rows and their leads end.

@@ -8,5 +8,5 @@ mod unmarked;
 pub use unmarked::selser;
 pub use wt_checks::TreeRefusal;
 pub use wt_content::ContentWhy;
-pub use wt_new_page::Memory;
 pub use wt_edit::{MOST_READINGS, Readings, SelserRefusal};
+pub use wt_new_page::Memory;

@@ -20,10 +20,10 @@ ghost use Rattle.wt_unmarked_edit.specs.Tried.{FirstFailed, HoldsTried, KnowsOf,
 
 use crate::reading_back::read_back;
 use wt_devices::Folder;
+use wt_edit::{MOST_READINGS, Readings, SelserRefusal};
 use wt_new_page::{EditedPage, Fault, ReadBack, Tried, marked, proposal_for};
 use wt_proposal::Keeping;
 use wt_selser::{EditRefusal, edit as edit_by_marks};
-use wt_edit::{MOST_READINGS, Readings, SelserRefusal};
 use wt_span::Str;
 use wt_template_stack::Expansion;
 

@@ -1,6 +1,5 @@
 -- A content that calls nothing, by its items.
 use Rattle.std.proofs.Common.{◌≡◌, ◌⊎◌, inl, inr, ℕ, List, refl, ap}
-use Rattle.wt_span.specs.Items.{Item}
 use Rattle.wt_expand.specs.PageItems.{page_items}
 use Rattle.wt_text_edit_laws.specs.Contents.{IsContentOf, IsContent, StaysAnywhere, IsNewContent}
 use Rattle.wt_text_edit_laws.specs.TextBlocks.{TextBlock, a_paragraph, a_heading, block_items, block_tree}
@@ -16,7 +15,7 @@ pub tree_is : (k : TextBlock) (q : List ℕ) → block_tree k q ≡ tree_round k
 tree_is a_paragraph q = refl
 tree_is (a_heading s) q = refl
 
-items_by : (k : TextBlock) (q : List ℕ) → IsContentOf k q → AreItemsOf k (page_items q)
+pub items_by : (k : TextBlock) (q : List ℕ) → IsContentOf k q → AreItemsOf k (page_items q)
 items_by a_paragraph q h = record { are_lines = h.are_lines; unled = h.unled; own_breaks = page_breaks q }
 items_by (a_heading s) q h = record { sides = h.frame.sides; inside = h.inside; of_level = h.of_level }
 

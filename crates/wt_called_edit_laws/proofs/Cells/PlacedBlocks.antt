@@ -30,7 +30,7 @@ use Rattle.wt_text_edit_laws.specs.TextBlocks.{TextBlock, a_paragraph, a_heading
 use Rattle.wt_text_edit_laws.specs.TypedHeadings.{Sides, EndsLine}
 use Rattle.wt_text_edit_laws.proofs.Cuts.ItemCuts.{page_cut, cut_from, alone_after, front_alone, behind_alone}
 use Rattle.wt_text_edit_laws.proofs.Cuts.Unmarked.{unmarked_begins}
-use Rattle.wt_text_edit_laws.proofs.Cuts.TextLines.{runs_behind, runs_before, joined_is, joined_both, lines_of, whole_before, no_marks_end, ending_break, IsEnding, ending_own, some_items, content_lines, AllUnled, contents_unled, lines_unled, texts_are, ended_bytes}
+use Rattle.wt_text_edit_laws.proofs.Cuts.TextLines.{runs_behind, runs_before, joined_is, joined_both, lines_of, whole_before, no_marks_end, ending_break, IsEnding, ending_own, some_items, content_lines, texts_are, ended_bytes}
 use Rattle.wt_text_edit_laws.proofs.Cuts.RowLines.{AllText}
 use Rattle.wt_text_edit_laws.proofs.Paragraphs.LineBlocks.{OwnBreaks, page_breaks}
 use Rattle.wt_beside_laws.proofs.Derived.BlockContents.{block_source, there_begins}
@@ -44,6 +44,7 @@ use Rattle.wt_called_edit_laws.specs.PlacedBlocks.{IsBlockIn, block_spot, IsFree
 use Rattle.wt_called_edit_laws.proofs.CalmPages.{calm_contents}
 use Rattle.wt_called_edit_laws.proofs.Cells.ContentItems.{content_items}
 use Rattle.wt_called_edit_laws.proofs.Cells.SpotSlots.{open_size}
+use Rattle.wt_called_edit_laws.proofs.Told.Unled.{unmarked_unled}
 
 -- ---- where it is
 
@@ -197,15 +198,11 @@ heading_in page s q h =
 
 own_texts : (n : ℕ) (ls : List (List Item)) → AreLinesAt n ls → AllText 0 ls
 own_texts n [] h = tt
-own_texts n (l ∷ ls) h = (h.0, own_texts n ls h.3)
-
-own_unled : (n : ℕ) (ls : List (List Item)) → AreLinesAt n ls → AllUnled ls
-own_unled n [] h = tt
-own_unled n (l ∷ ls) h = (h.2, own_unled n ls h.3)
+own_texts n (l ∷ ls) h = (h.0, own_texts n ls h.2)
 
 texts_at : (n : ℕ) (ls : List (List Item)) → AreLinesAt n ls → All (λ (l : List Item). line_kind n l ≡ line.Text) (map content ls)
 texts_at n [] h = All-nil (λ (l : List Item). line_kind n l ≡ line.Text)
-texts_at n (l ∷ ls) h = All-cons (λ (l : List Item). line_kind n l ≡ line.Text) (content l) (map content ls) h.1 (texts_at n ls h.3)
+texts_at n (l ∷ ls) h = All-cons (λ (l : List Item). line_kind n l ≡ line.Text) (content l) (map content ls) h.1 (texts_at n ls h.2)
 
 pub record OwnLines (n : ℕ) (ps : List Item) : Type 0 where
   pub items : begins_unmarked (content ps) ≡ true → AreTextItems (sources (content ps)) (content ps)
@@ -219,7 +216,7 @@ own_lines n (x ∷ ps) ts y ys is e h =
       items = λ m. record {
         source = refl;
         are_lines = subst (λ (ls : List (List Item)). All IsTextLine ls) (sym own) (texts_are ts (own_texts n ts h));
-        unled = lines_unled (content (x ∷ ps)) (subst AllUnled (sym own) (contents_unled ts (own_unled n ts h)));
+        unled = unmarked_unled (content (x ∷ ps)) m;
         unmarked = m;
       };
       stays = subst (λ (ls : List (List Item)). All (λ (l : List Item). line_kind n l ≡ line.Text) ls) (sym own) (texts_at n ts h);

@@ -1,9 +1,11 @@
 -- Any number of paragraphs and headings of a page by its lines: the page's items are cut at each.
-use Rattle.std.proofs.Common.{◌≡◌, ℕ, Bool, List, [], ◌∷◌, ◌++◌, length, refl, sym, ap, ◌∙◌, subst, append_assoc}
+use Rattle.std.proofs.Common.{arith, ◌≡◌, ◌≤◌, ℕ, Bool, true, List, [], ◌∷◌, ◌++◌, length, refl, sym, ap, ◌∙◌, subst, append-nil, append_assoc}
+use Rattle.std.specs.Prelude.{◌&&◌, if◌then◌else◌}
+use Rattle.std.specs.List.{list_all}
 use Rattle.std.specs.Str.{IsUtf8}
 use Rattle.std.proofs.lemmas.Grind.{flat_map-append}
-use Rattle.wt_span.specs.Items.{Item, source, sources}
-use Rattle.wt_span.specs.Runs.{AreRuns}
+use Rattle.wt_span.specs.Items.{Item, is_mark, source, sources}
+use Rattle.wt_span.specs.Runs.{IsRun, AreRuns}
 use Rattle.wt_span.proofs.RunLaws.{runs_are}
 use Rattle.wt_lines.specs.Lines.{full_lines, content, empty_end, goes_on}
 use Rattle.wt_page.specs.Lines.{ending}
@@ -17,9 +19,10 @@ use Rattle.wt_part_laws.specs.Slots.{AllTrue}
 use Rattle.wt_text_edit_laws.specs.BlockSpots.{spots_source}
 use Rattle.wt_text_edit_laws.specs.NoCalls.{CallsNothing}
 use Rattle.wt_text_edit_laws.specs.Parts.{HasNoGroups}
-use Rattle.wt_text_edit_laws.specs.PageCuts.{AreTextItems, AreBlockItems, EndsThere}
-use Rattle.wt_text_edit_laws.specs.ParagraphBetween.{written_rows, BeginApart}
+use Rattle.wt_text_edit_laws.specs.PageCuts.{AreTextItems, AreBlockItems, EndsThere, EndsClosed}
+use Rattle.wt_text_edit_laws.specs.ParagraphBetween.{written_rows, before_marks, BeginApart}
 use Rattle.wt_text_edit_laws.specs.ParagraphParts.{break}
+use Rattle.wt_text_edit_laws.specs.TextBetween.{AreEnded}
 use Rattle.wt_text_edit_laws.specs.TextBlocks.{TextBlock, a_paragraph, a_heading, source_of}
 use Rattle.wt_text_edit_laws.proofs.Cuts.TextLines.{runs_behind, runs_before, joined_is, joined_both, lines_of, whole_before, no_marks_end, ending_break, IsEnding, ending_own, some_items, ended_bytes}
 use Rattle.wt_text_edit_laws.proofs.Paragraphs.LineBlocks.{OwnBreaks, page_breaks}
@@ -27,29 +30,45 @@ use Rattle.wt_beside_laws.proofs.Derived.BlockContents.{block_source}
 use Rattle.wt_called_edit_laws.specs.AnyBlocks.{open_after, rows_of_part, EndsFor, NextApart, LeadsInto, EndsAfter}
 use Rattle.wt_called_edit_laws.specs.CalledContents.{StayText}
 use Rattle.wt_called_edit_laws.specs.CalledPages.{IsCalledPage}
-use Rattle.wt_called_edit_laws.specs.PlacedLines.{LinedBlock, all_lines, spots_by, end_by, OwnLined, LinesApart, AreLinedAfter, AreLined, AllClosed, IsLinedPage}
+use Rattle.wt_called_edit_laws.specs.PlacedLines.{LinedBlock, all_lines, spots_by, end_by, OwnLined, LinesApart, AreLinedAfter, AreLined, IsLinedPage}
 use Rattle.wt_called_edit_laws.specs.PlacedSpots.{AreFurtherIn, AreBlocksIn, IsPlacedPage}
 use Rattle.wt_called_edit_laws.proofs.Cells.PlacedSpots.{spots_called}
 use Rattle.wt_called_edit_laws.proofs.Cells.PlacedBlocks.{own_first, own_rest, own_lines, text_last}
 
 -- ---- one block
 
-rows_by : (bs : List Bool) (ls : List (List Item)) → full_lines (joined ls) ≡ ls → empty_end (joined ls) ≡ [] ∷ []
-    → rows_of_part bs (joined ls) ≡ written_rows (length bs) ls
-rows_by bs ls are whole =
-    ap (λ (xs : List Item). written_rows (length bs) (full_lines xs)) (no_marks_end (joined ls) whole) ∙ ap (written_rows (length bs)) are
+-- marks behind some items don't count as theirs
+all_off : (xs ms : List Item) → list_all is_mark ms ≡ true → list_all is_mark (xs ++ ms) ≡ list_all is_mark xs
+all_off [] ms e = e
+all_off (x ∷ xs) ms e = ap (λ (v : Bool). is_mark x && v) (all_off xs ms e)
 
-leads_by : (k : TextBlock) (bs : List Bool) (ls : List (List Item)) → full_lines (joined ls) ≡ ls → empty_end (joined ls) ≡ [] ∷ []
-    → AllTrue (open_after bs (written_rows (length bs) ls)) → EndsFor k (written_rows (length bs) ls) → LeadsInto k bs (joined ls)
-leads_by k bs ls are whole cells apart =
-    let same : rows_of_part bs (joined ls) ≡ written_rows (length bs) ls = rows_by bs ls are whole in
+marks_off : (xs ms : List Item) → list_all is_mark ms ≡ true → before_marks (xs ++ ms) ≡ before_marks xs
+marks_off [] [] e = refl
+marks_off [] (m ∷ ms) e = ap (λ (v : Bool). if v then [] else m ∷ before_marks ms) e
+marks_off (x ∷ xs) ms e =
+    ap (λ (v : Bool). if v then [] else x ∷ before_marks (xs ++ ms)) (all_off (x ∷ xs) ms e)
+    ∙ ap (λ (ys : List Item). if list_all is_mark (x ∷ xs) then [] else x ∷ ys) (marks_off xs ms e)
+
+front_off : (ls : List (List Item)) (ms : List Item) → list_all is_mark ms ≡ true → empty_end (joined ls) ≡ [] ∷ [] → before_marks (joined ls ++ ms) ≡ joined ls
+front_off ls ms all whole = marks_off (joined ls) ms all ∙ no_marks_end (joined ls) whole
+
+pub rows_by : (bs : List Bool) (ls : List (List Item)) (ms : List Item) → list_all is_mark ms ≡ true → full_lines (joined ls) ≡ ls
+    → empty_end (joined ls) ≡ [] ∷ [] → rows_of_part bs (joined ls ++ ms) ≡ written_rows (length bs) ls
+rows_by bs ls ms all are whole =
+    ap (λ (xs : List Item). written_rows (length bs) (full_lines xs)) (front_off ls ms all whole) ∙ ap (written_rows (length bs)) are
+
+pub leads_by : (k : TextBlock) (bs : List Bool) (ls : List (List Item)) (ms : List Item) → list_all is_mark ms ≡ true → full_lines (joined ls) ≡ ls
+    → empty_end (joined ls) ≡ [] ∷ [] → AllTrue (open_after bs (written_rows (length bs) ls)) → EndsFor k (written_rows (length bs) ls)
+    → LeadsInto k bs (joined ls ++ ms)
+leads_by k bs ls ms all are whole cells apart =
+    let same : rows_of_part bs (joined ls ++ ms) ≡ written_rows (length bs) ls = rows_by bs ls ms all are whole in
     record {
-      whole = subst (λ (xs : List Item). empty_end xs ≡ [] ∷ []) (sym (no_marks_end (joined ls) whole)) whole;
+      whole = subst (λ (xs : List Item). empty_end xs ≡ [] ∷ []) (sym (front_off ls ms all whole)) whole;
       in_cells = subst (λ (rs : List Row). AllTrue (open_after bs rs)) (sym same) cells;
       apart = subst (EndsFor k) (sym same) apart;
     }
 
-own_block : (k : TextBlock) (n : ℕ) (q : List ℕ) (ts : List (List Item)) (y : Item) (ys : List Item) → joined ts ≡ y ∷ ys → full_lines (joined ts) ≡ ts
+pub own_block : (k : TextBlock) (n : ℕ) (q : List ℕ) (ts : List (List Item)) (y : Item) (ys : List Item) → joined ts ≡ y ∷ ys → full_lines (joined ts) ≡ ts
     → OwnLined k n q ts → AreBlockItems k q (content (joined ts)) × StayText k n (content (joined ts))
 own_block a_paragraph n q ts y ys is e h =
     let told = own_lines n (joined ts) ts y ys is e h.0 in
@@ -58,15 +77,28 @@ own_block (a_heading s) n q ts y ys is e h = (h, tt)
 
 -- ---- line breaks
 
-past_end : (ys : List Item) → empty_end ys ≡ [] ∷ [] → empty_end (break ∷ ys) ≡ [] ∷ []
+pub past_end : (ys : List Item) → empty_end ys ≡ [] ∷ [] → empty_end (break ∷ ys) ≡ [] ∷ []
 past_end [] e = refl
 past_end (y ∷ ys) e = e
 
-some_lines : (us : List (List Item)) (m : List Item) (ms : List (List Item)) → (l : List Item) × (ls : List (List Item)) × (us ++ m ∷ ms ≡ l ∷ ls)
+pub some_lines : (us : List (List Item)) (m : List Item) (ms : List (List Item)) → (l : List Item) × (ls : List (List Item)) × (us ++ m ∷ ms ≡ l ∷ ls)
 some_lines [] m ms = (m, ms, refl)
 some_lines (u ∷ us) m ms = (u, us ++ m ∷ ms, refl)
 
-lines_end : (last : TextBlock) (n : ℕ) (es : List Item) (ls : List (List Item)) → IsEnding es → ((m : List Item) (ms : List (List Item)) → ls ≡ m ∷ ms → es ≡ break ∷ [])
+-- what ends so, and behind it what does
+ends_behind : (b : ℕ) (bs : List ℕ) (c : ℕ) (cs : List ℕ) → AreEnded (c ∷ cs) → AreEnded ((b ∷ bs) ++ c ∷ cs)
+ends_behind b [] c cs e = e
+ends_behind b (d ∷ bs) c cs e = ends_behind d bs c cs e
+
+pub both_end : (bs cs : List ℕ) → AreEnded bs → AreEnded cs → AreEnded (bs ++ cs)
+both_end [] cs h g = g
+both_end (b ∷ bs) [] h g = subst AreEnded (sym (append-nil (b ∷ bs))) h
+both_end (b ∷ bs) (c ∷ cs) h g = ends_behind b bs c cs g
+
+marks_ended : (xs ms : List Item) → OwnBreaks xs → empty_end xs ≡ [] ∷ [] → AreEnded (sources ms) → AreEnded (sources (xs ++ ms))
+marks_ended xs ms o e a = subst AreEnded (sym (flat_map-append source xs ms)) (both_end (sources xs) (sources ms) (ended_bytes xs o e) a)
+
+pub lines_end : (last : TextBlock) (n : ℕ) (es : List Item) (ls : List (List Item)) → IsEnding es → ((m : List Item) (ms : List (List Item)) → ls ≡ m ∷ ms → es ≡ break ∷ [])
     → full_lines (joined ls) ≡ ls → LinesApart last n ls → EndsThere (sources (es ++ joined ls)) × EndsAfter last n (es ++ joined ls)
 lines_end a_paragraph n [] [] i f are s = (tt, tt)
 lines_end a_paragraph n (x ∷ es) [] i f are s =
@@ -81,80 +113,119 @@ lines_end (a_heading t) n es (m ∷ ms) i f are s =
 
 -- ---- the parts round a block
 
-record Round (b : LinedBlock) (ts tail : List (List Item)) : Type 0 where
-  y : Item
-  ys : List Item
-  some : joined ts ≡ y ∷ ys
-  front_are : full_lines (joined b.before) ≡ b.before
-  front_whole : empty_end (joined b.before) ≡ [] ∷ []
-  own_are : full_lines (joined ts) ≡ ts
-  tail_runs : AreRuns goes_on tail (joined tail)
-  tail_breaks : OwnBreaks (joined tail)
-  front_breaks : OwnBreaks (joined b.before)
-  own_ending : IsEnding (ending (joined ts))
-  ends : (m : List Item) (ms : List (List Item)) → tail ≡ m ∷ ms → ending (joined ts) ≡ break ∷ []
-  items : joined (b.before ++ (ts ++ tail)) ≡ joined b.before ++ (content (joined ts) ++ (ending (joined ts) ++ joined tail))
+-- the items of its lines, behind the marks that begin the first
+abbrev pub own_items : LinedBlock → List Item
+own_items b = joined (b.first ∷ b.more)
 
-text_ending : (ps : List Item) (y : Item) (ys : List Item) → ps ≡ y ∷ ys → OwnBreaks ps → empty_end ps ≡ [] ∷ [] → ending ps ≡ break ∷ []
+pub record Round (b : LinedBlock) (tail : List (List Item)) : Type 0 where
+  pub y : Item
+  pub ys : List Item
+  pub some : own_items b ≡ y ∷ ys
+  pub front_are : full_lines (joined b.before) ≡ b.before
+  pub front_whole : empty_end (joined b.before) ≡ [] ∷ []
+  pub own_are : full_lines (own_items b) ≡ b.first ∷ b.more
+  pub tail_runs : AreRuns goes_on tail (joined tail)
+  pub own_ending : IsEnding (ending (own_items b))
+  pub ends : (m : List Item) (ms : List (List Item)) → tail ≡ m ∷ ms → ending (own_items b) ≡ break ∷ []
+  pub items : joined (b.before ++ (((b.marks ++ b.first) ∷ b.more) ++ tail))
+      ≡ (joined b.before ++ b.marks) ++ (content (own_items b) ++ (ending (own_items b) ++ joined tail))
+
+pub run_behind : (ms : List Item) (y : Item) (ys others : List Item) → IsRun goes_on (ms ++ y ∷ ys) others → IsRun goes_on (y ∷ ys) others
+run_behind [] y ys others h = h
+run_behind (m ∷ []) y ys others h = h.1
+run_behind (m ∷ n ∷ ms) y ys others h = run_behind (n ∷ ms) y ys others h.1
+
+-- the lines behind the marks that begin the first
+runs_unmarked : (ms l : List Item) (rs : List (List Item)) (xs : List Item) → 1 ≤ length l → AreRuns goes_on ((ms ++ l) ∷ rs) xs
+    → AreRuns goes_on (l ∷ rs) (joined (l ∷ rs))
+runs_unmarked ms [] rs xs some h = absurd (omega (arith, some))
+runs_unmarked ms (y ∷ ys) rs xs some h =
+    (h.0, ap (λ (zs : List Item). (y ∷ ys) ++ zs) (sym (joined_is goes_on rs h.0 h.3)), run_behind ms y ys h.0 h.2, h.3)
+
+lines_joined : (b : LinedBlock) (tail : List (List Item))
+    → joined (b.before ++ (((b.marks ++ b.first) ∷ b.more) ++ tail)) ≡ (joined b.before ++ b.marks) ++ (own_items b ++ joined tail)
+lines_joined b tail =
+    let ks : List (List Item) = (b.marks ++ b.first) ∷ b.more in
+    let front : List Item = joined b.before in
+    joined_both b.before (ks ++ tail)
+    ∙ ap (λ (ys : List Item). front ++ ys) (joined_both ks tail ∙ ap (λ (ys : List Item). ys ++ joined tail) (append_assoc b.marks b.first (joined b.more))
+    ∙ append_assoc b.marks (own_items b) (joined tail))
+    ∙ sym (append_assoc front b.marks (own_items b ++ joined tail))
+
+pub text_ending : (ps : List Item) (y : Item) (ys : List Item) → ps ≡ y ∷ ys → OwnBreaks ps → empty_end ps ≡ [] ∷ [] → ending ps ≡ break ∷ []
 text_ending [] y ys is o e = cc
 text_ending (x ∷ ps) y ys is o e = ending_break x ps o e
 
-round : (b : LinedBlock) (tail : List (List Item)) (xs : List Item) → AreRuns goes_on (b.before ++ ((b.first ∷ b.more) ++ tail)) xs → OwnBreaks xs
-    → Round b (b.first ∷ b.more) tail
-round b tail xs runs breaks =
+-- whose line breaks are the page's own
+pub round : (b : LinedBlock) (tail : List (List Item)) (xs : List Item) → 1 ≤ length b.first
+    → AreRuns goes_on (b.before ++ (((b.marks ++ b.first) ∷ b.more) ++ tail)) xs → OwnBreaks (own_items b) → Round b tail
+round b tail xs seen runs text_breaks =
     let ts : List (List Item) = b.first ∷ b.more in
-    let text : List Item = joined ts in
-    let front : List Item = joined b.before in
+    let ks : List (List Item) = (b.marks ++ b.first) ∷ b.more in
+    let text : List Item = own_items b in
+    let front : List Item = joined b.before ++ b.marks in
     let last : List Item = joined tail in
-    let later : AreRuns goes_on (ts ++ tail) (joined (ts ++ tail)) = runs_behind goes_on b.before (ts ++ tail) xs runs in
+    let later : AreRuns goes_on (ts ++ tail) (joined (ts ++ tail)) =
+    runs_unmarked b.marks b.first (b.more ++ tail) (joined (ks ++ tail)) seen (runs_behind goes_on b.before (ks ++ tail) xs runs) in
     let own_runs : AreRuns goes_on ts text = runs_before goes_on ts tail (joined (ts ++ tail)) later in
     let some = some_items [] b.first b.more text own_runs in
-    let all : joined (b.before ++ (ts ++ tail)) ≡ front ++ (text ++ last) =
-    joined_both b.before (ts ++ tail) ∙ ap (λ (ys : List Item). front ++ ys) (joined_both ts tail) in
-    let o : OwnBreaks (front ++ (text ++ last)) = subst OwnBreaks (joined_is goes_on (b.before ++ (ts ++ tail)) xs runs ∙ all) breaks in
-    let o2 : OwnBreaks (text ++ last) = own_rest front (text ++ last) o in
-    let text_breaks : OwnBreaks text = own_first text last o2 in
     record {
       y = some.0;
       ys = some.1;
       some = some.2;
-      front_are = lines_of b.before (runs_before goes_on b.before (ts ++ tail) xs runs);
-      front_whole = whole_before b.before b.first (b.more ++ tail) xs runs;
+      front_are = lines_of b.before (runs_before goes_on b.before (ks ++ tail) xs runs);
+      front_whole = whole_before b.before (b.marks ++ b.first) (b.more ++ tail) xs runs;
       own_are = lines_of ts own_runs;
       tail_runs = runs_behind goes_on ts tail (joined (ts ++ tail)) later;
-      tail_breaks = own_rest text last o2;
-      front_breaks = own_first front (text ++ last) o;
       own_ending = ending_own text text_breaks;
       ends = λ m ms e. text_ending text some.0 some.1 some.2 text_breaks
           (whole_before ts m ms (joined (ts ++ m ∷ ms)) (subst (λ (ls : List (List Item)). AreRuns goes_on (ts ++ ls) (joined (ts ++ ls))) e later));
-      items = all ∙ ap (λ (zs : List Item). front ++ (zs ++ last)) (sym (content_ending text))
+      items = lines_joined b tail ∙ ap (λ (zs : List Item). front ++ (zs ++ last)) (sym (content_ending text))
           ∙ ap (λ (zs : List Item). front ++ zs) (append_assoc (content text) (ending text) last);
+    }
+
+-- of a page that calls nothing each line break is its own
+record AllBreaks (b : LinedBlock) (tail : List (List Item)) : Type 0 where
+  front : OwnBreaks (joined b.before)
+  text : OwnBreaks (own_items b)
+  rest : OwnBreaks (joined tail)
+
+all_breaks : (b : LinedBlock) (tail : List (List Item)) (xs : List Item) → AreRuns goes_on (b.before ++ (((b.marks ++ b.first) ∷ b.more) ++ tail)) xs → OwnBreaks xs
+    → AllBreaks b tail
+all_breaks b tail xs runs o =
+    let front : List Item = joined b.before ++ b.marks in
+    let all : OwnBreaks (front ++ (own_items b ++ joined tail)) =
+    subst OwnBreaks (joined_is goes_on (b.before ++ (((b.marks ++ b.first) ∷ b.more) ++ tail)) xs runs ∙ lines_joined b tail) o in
+    let later : OwnBreaks (own_items b ++ joined tail) = own_rest front (own_items b ++ joined tail) all in
+    record {
+      front = own_first (joined b.before) b.marks (own_first front (own_items b ++ joined tail) all);
+      text = own_first (own_items b) (joined tail) later;
+      rest = own_rest (own_items b) (joined tail) later;
     }
 
 -- ---- all blocks
 
 further : (last : TextBlock) (bs : List Bool) (ls : List LinedBlock) (behind : List (List Item)) (xs es : List Item) → AreRuns goes_on (all_lines ls behind) xs
-    → OwnBreaks xs → IsEnding es → ((m : List Item) (ms : List (List Item)) → all_lines ls behind ≡ m ∷ ms → es ≡ break ∷ [])
-    → AllClosed (spots_by es ls) (end_by es ls behind) → AreLinedAfter last bs ls behind
+    → OwnBreaks xs → IsEnding es → ((m : List Item) (ms : List (List Item)) → all_lines ls behind ≡ m ∷ ms → es ≡ break ∷ []) → AreLinedAfter last bs ls behind
     → AreFurtherIn last bs (spots_by es ls) (end_by es ls behind) (es ++ joined (all_lines ls behind))
-further last bs [] behind xs es runs o i f c h =
+further last bs [] behind xs es runs o i f h =
     lines_end last (length bs) es behind i f (lines_of behind (subst (λ (ys : List Item). AreRuns goes_on behind ys) (joined_is goes_on behind xs runs) runs)) h
-further last bs (b ∷ ls) behind xs es runs o i f c h =
-    let ts : List (List Item) = b.first ∷ b.more in
+further last bs (b ∷ ls) behind xs es runs o i f h =
     let tail : List (List Item) = all_lines ls behind in
-    let some = some_lines b.before b.first (b.more ++ tail) in
-    let e : es ≡ break ∷ [] = f some.0 some.1 some.2 in
-    let r : Round b ts tail = round b tail xs runs o in
-    let front : List Item = joined b.before in
-    let own : List Item = content (joined ts) in
-    let rest : List Item = ending (joined ts) ++ joined tail in
+    let lines = some_lines b.before (b.marks ++ b.first) (b.more ++ tail) in
+    let e : es ≡ break ∷ [] = f lines.0 lines.1 lines.2 in
+    let breaks : AllBreaks b tail = all_breaks b tail xs runs o in
+    let r : Round b tail = round b tail xs h.1.some runs breaks.text in
+    let front : List Item = joined b.before ++ b.marks in
+    let own : List Item = content (own_items b) in
+    let rest : List Item = ending (own_items b) ++ joined tail in
     let rows : List Row = written_rows (length bs) b.before in
-    let same : rows_of_part bs front ≡ rows = rows_by bs b.before r.front_are r.front_whole in
+    let same : rows_of_part bs front ≡ rows = rows_by bs b.before b.marks h.1.are_marks r.front_are r.front_whole in
     let n : ℕ = length (open_after bs rows) in
-    let block = own_block b.block n b.text ts r.y r.ys r.some r.own_are h.1.2 in
-    let P : List Item → Type 0 = λ (zs : List Item). AllClosed (spots_by zs (b ∷ ls)) (end_by zs (b ∷ ls) behind)
-    → AreFurtherIn last bs (spots_by zs (b ∷ ls)) (end_by zs (b ∷ ls) behind) (zs ++ joined (all_lines (b ∷ ls) behind)) in
-    subst P (sym e) (λ d. (
+    let block = own_block b.block n b.text (b.first ∷ b.more) r.y r.ys r.some r.own_are h.1.own in
+    let P : List Item → Type 0 = λ (zs : List Item).
+    AreFurtherIn last bs (spots_by zs (b ∷ ls)) (end_by zs (b ∷ ls) behind) (zs ++ joined (all_lines (b ∷ ls) behind)) in
+    subst P (sym e) (
       record {
         before = break ∷ front;
         own = own;
@@ -163,65 +234,61 @@ further last bs (b ∷ ls) behind xs es runs o i f c h =
         source = refl;
         block = block.0;
       },
-      ended_bytes (break ∷ front) ((λ t. refl), r.front_breaks) (past_end front r.front_whole),
+      marks_ended (break ∷ joined b.before) b.marks ((λ t. refl), breaks.front) (past_end (joined b.before) r.front_whole) h.1.ended,
       refl,
-      d.0,
       (refl, subst (NextApart last b.block) (sym same) h.0),
-      leads_by b.block bs b.before r.front_are r.front_whole h.1.0 h.1.1,
+      leads_by b.block bs b.before b.marks h.1.are_marks r.front_are r.front_whole h.1.in_cells h.1.apart,
       subst (λ (rs : List Row). StayText b.block (length (open_after bs rs)) own) (sym same) block.1,
-      subst (λ (rs : List Row). AreFurtherIn b.block (open_after bs rs) (spots_by (ending (joined ts)) ls) (end_by (ending (joined ts)) ls behind) rest) (sym same)
-          (further b.block (open_after bs rows) ls behind (joined tail) (ending (joined ts)) r.tail_runs r.tail_breaks r.own_ending r.ends d.1 h.2),
-    )) c
+      subst (λ (rs : List Row). AreFurtherIn b.block (open_after bs rs) (spots_by (ending (own_items b)) ls) (end_by (ending (own_items b)) ls behind) rest) (sym same)
+          (further b.block (open_after bs rows) ls behind (joined tail) (ending (own_items b)) r.tail_runs breaks.rest r.own_ending r.ends h.2),
+    )
 
 placed : (ls : List LinedBlock) (behind : List (List Item)) (xs : List Item) → page_items (spots_source (spots_by [] ls) (end_by [] ls behind)) ≡ xs
-    → full_lines xs ≡ all_lines ls behind → OwnBreaks xs → AllClosed (spots_by [] ls) (end_by [] ls behind) → AreLined ls behind
-    → AreBlocksIn (spots_by [] ls) (end_by [] ls behind)
-placed [] behind xs e are o c h = absurd h
-placed (b ∷ ls) behind xs e are o c h =
-    let ts : List (List Item) = b.first ∷ b.more in
+    → full_lines xs ≡ all_lines ls behind → OwnBreaks xs → AreLined ls behind → AreBlocksIn (spots_by [] ls) (end_by [] ls behind)
+placed [] behind xs e are o h = absurd h
+placed (b ∷ ls) behind xs e are o h =
     let tail : List (List Item) = all_lines ls behind in
-    let runs : AreRuns goes_on (b.before ++ (ts ++ tail)) xs = subst (λ (ks : List (List Item)). AreRuns goes_on ks xs) are (runs_are goes_on xs) in
-    let r : Round b ts tail = round b tail xs runs o in
-    let front : List Item = joined b.before in
-    let own : List Item = content (joined ts) in
-    let rest : List Item = ending (joined ts) ++ joined tail in
+    let all : List (List Item) = b.before ++ (((b.marks ++ b.first) ∷ b.more) ++ tail) in
+    let runs : AreRuns goes_on all xs = subst (λ (ks : List (List Item)). AreRuns goes_on ks xs) are (runs_are goes_on xs) in
+    let breaks : AllBreaks b tail = all_breaks b tail xs runs o in
+    let r : Round b tail = round b tail xs h.0.some runs breaks.text in
+    let front : List Item = joined b.before ++ b.marks in
+    let own : List Item = content (own_items b) in
+    let rest : List Item = ending (own_items b) ++ joined tail in
     let rows : List Row = written_rows 0 b.before in
-    let same : rows_of_part [] front ≡ rows = rows_by [] b.before r.front_are r.front_whole in
-    let block = own_block b.block (length (open_after [] rows)) b.text ts r.y r.ys r.some r.own_are h.0.2 in (
+    let same : rows_of_part [] front ≡ rows = rows_by [] b.before b.marks h.0.are_marks r.front_are r.front_whole in
+    let block = own_block b.block (length (open_after [] rows)) b.text (b.first ∷ b.more) r.y r.ys r.some r.own_are h.0.own in (
       record {
         before = front;
         own = own;
         rest = rest;
-        is = e ∙ joined_is goes_on (b.before ++ (ts ++ tail)) xs runs ∙ r.items;
+        is = e ∙ joined_is goes_on all xs runs ∙ r.items;
         source = refl;
         block = block.0;
       },
-      ended_bytes front r.front_breaks r.front_whole,
-      c.0,
-      leads_by b.block [] b.before r.front_are r.front_whole h.0.0 h.0.1,
+      marks_ended (joined b.before) b.marks breaks.front r.front_whole h.0.ended,
+      leads_by b.block [] b.before b.marks h.0.are_marks r.front_are r.front_whole h.0.in_cells h.0.apart,
       subst (λ (rs : List Row). StayText b.block (length (open_after [] rs)) own) (sym same) block.1,
-      subst (λ (rs : List Row). AreFurtherIn b.block (open_after [] rs) (spots_by (ending (joined ts)) ls) (end_by (ending (joined ts)) ls behind) rest) (sym same)
-          (further b.block (open_after [] rows) ls behind (joined tail) (ending (joined ts)) r.tail_runs r.tail_breaks r.own_ending r.ends c.1 h.1),
+      subst (λ (rs : List Row). AreFurtherIn b.block (open_after [] rs) (spots_by (ending (own_items b)) ls) (end_by (ending (own_items b)) ls behind) rest) (sym same)
+          (further b.block (open_after [] rows) ls behind (joined tail) (ending (own_items b)) r.tail_runs breaks.rest r.own_ending r.ends h.1),
     )
 
 -- ---- they are the page
 
-own_source : (k : TextBlock) (n : ℕ) (q : List ℕ) (ts : List (List Item)) → OwnLined k n q ts → sources (content (joined ts)) ≡ source_of k q
+pub own_source : (k : TextBlock) (n : ℕ) (q : List ℕ) (ts : List (List Item)) → OwnLined k n q ts → sources (content (joined ts)) ≡ source_of k q
 own_source a_paragraph n q ts h = h.2
 own_source (a_heading s) n q ts h = block_source (a_heading s) q (content (joined ts)) h
 
-joined_source : (b : LinedBlock) (tail : List (List Item)) (es : List Item) (bytes : List ℕ)
-    → sources (content (joined (b.first ∷ b.more))) ≡ source_of b.block b.text
-    → bytes ≡ sources (ending (joined (b.first ∷ b.more)) ++ joined tail)
-    → sources (es ++ joined b.before) ++ (source_of b.block b.text ++ bytes) ≡ sources (es ++ joined (b.before ++ ((b.first ∷ b.more) ++ tail)))
+joined_source : (b : LinedBlock) (tail : List (List Item)) (es : List Item) (bytes : List ℕ) → sources (content (own_items b)) ≡ source_of b.block b.text
+    → bytes ≡ sources (ending (own_items b) ++ joined tail)
+    → sources (es ++ (joined b.before ++ b.marks)) ++ (source_of b.block b.text ++ bytes)
+    ≡ sources (es ++ joined (b.before ++ (((b.marks ++ b.first) ∷ b.more) ++ tail)))
 joined_source b tail es bytes own rest =
-    let ts : List (List Item) = b.first ∷ b.more in
-    let front : List Item = joined b.before in
-    let text : List Item = joined ts in
+    let front : List Item = joined b.before ++ b.marks in
+    let text : List Item = own_items b in
     let last : List Item = ending text ++ joined tail in
-    let all : joined (b.before ++ (ts ++ tail)) ≡ front ++ (content text ++ last) =
-    joined_both b.before (ts ++ tail) ∙ ap (λ (ys : List Item). front ++ ys) (joined_both ts tail)
-    ∙ ap (λ (zs : List Item). front ++ (zs ++ joined tail)) (sym (content_ending text))
+    let all : joined (b.before ++ (((b.marks ++ b.first) ∷ b.more) ++ tail)) ≡ front ++ (content text ++ last) =
+    lines_joined b tail ∙ ap (λ (zs : List Item). front ++ (zs ++ joined tail)) (sym (content_ending text))
     ∙ ap (λ (zs : List Item). front ++ zs) (append_assoc (content text) (ending text) (joined tail)) in
     ap (λ (bs : List ℕ). sources (es ++ front) ++ (bs ++ bytes)) (sym own)
     ∙ ap (λ (bs : List ℕ). sources (es ++ front) ++ (sources (content text) ++ bs)) rest
@@ -233,19 +300,19 @@ further_source : (last : TextBlock) (bs : List Bool) (ls : List LinedBlock) (beh
     → spots_source (spots_by es ls) (end_by es ls behind) ≡ sources (es ++ joined (all_lines ls behind))
 further_source last bs [] behind es h = refl
 further_source last bs (b ∷ ls) behind es h =
-    let ts : List (List Item) = b.first ∷ b.more in
     let now : List Bool = open_after bs (written_rows (length bs) b.before) in
-    joined_source b (all_lines ls behind) es (spots_source (spots_by (ending (joined ts)) ls) (end_by (ending (joined ts)) ls behind))
-    (own_source b.block (length now) b.text ts h.1.2) (further_source b.block now ls behind (ending (joined ts)) h.2)
+    let after : List Item = ending (own_items b) in
+    joined_source b (all_lines ls behind) es (spots_source (spots_by after ls) (end_by after ls behind))
+    (own_source b.block (length now) b.text (b.first ∷ b.more) h.1.own) (further_source b.block now ls behind after h.2)
 
 first_source : (ls : List LinedBlock) (behind : List (List Item)) → AreLined ls behind
     → spots_source (spots_by [] ls) (end_by [] ls behind) ≡ sources (joined (all_lines ls behind))
 first_source [] behind h = absurd h
 first_source (b ∷ ls) behind h =
-    let ts : List (List Item) = b.first ∷ b.more in
     let now : List Bool = open_after [] (written_rows 0 b.before) in
-    joined_source b (all_lines ls behind) [] (spots_source (spots_by (ending (joined ts)) ls) (end_by (ending (joined ts)) ls behind))
-    (own_source b.block (length now) b.text ts h.0.2) (further_source b.block now ls behind (ending (joined ts)) h.1)
+    let after : List Item = ending (own_items b) in
+    joined_source b (all_lines ls behind) [] (spots_source (spots_by after ls) (end_by after ls behind))
+    (own_source b.block (length now) b.text (b.first ∷ b.more) h.0.own) (further_source b.block now ls behind after h.1)
 
 pub lined_whole : (page : List ℕ) (ls : List LinedBlock) (behind : List (List Item)) → full_lines (page_items page) ≡ all_lines ls behind → AreLined ls behind
     → spots_source (spots_by [] ls) (end_by [] ls behind) ≡ page
@@ -262,8 +329,9 @@ lined_in page ls behind h =
       utf8 = subst IsUtf8 (sym same) h.utf8;
       calls_nothing = subst (λ (bs : List ℕ). CallsNothing (page_items bs)) (sym same) h.calls_nothing;
       ungrouped = subst HasNoGroups (sym same) h.ungrouped;
-      blocks = placed ls behind (page_items page) (ap page_items same) h.are (page_breaks page) h.closed h.lined;
-      free = h.free;
+      closed = subst (λ (bs : List ℕ). EndsClosed bs []) (sym same) h.closed;
+      blocks = placed ls behind (page_items page) (ap page_items same) h.are (page_breaks page) h.lined;
+      shut = h.shut;
     }
 
 pub lined_called : (pages : Pages) (page : List ℕ) (ls : List LinedBlock) (behind : List (List Item)) → IsLinedPage page ls behind

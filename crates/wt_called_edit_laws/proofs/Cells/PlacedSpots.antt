@@ -4,8 +4,8 @@ use Rattle.std.proofs.lemmas.Grind.{flat_map-append}
 use Rattle.wt_span.specs.Items.{Item, source, sources}
 use Rattle.wt_expand.specs.PageItems.{page_items}
 use Rattle.wt_expand.specs.Work.{Pages}
-use Rattle.wt_text_edit_laws.specs.BlockSpots.{BlockSpot, spots_source, AreReadAfter, AreRead}
-use Rattle.wt_text_edit_laws.specs.PageCuts.{AreCuts, AreFurtherCuts, IsSpotCut, BeginsBreak, EndsThere}
+use Rattle.wt_text_edit_laws.specs.BlockSpots.{BlockSpot, spots_source}
+use Rattle.wt_text_edit_laws.specs.PageCuts.{IsSpotCut, EndsThere, AreFree}
 use Rattle.wt_text_edit_laws.specs.TextBlocks.{TextBlock, source_of}
 use Rattle.wt_text_edit_laws.proofs.Cuts.ItemCuts.{front_alone, behind_alone}
 use Rattle.wt_beside_laws.proofs.Derived.BlockContents.{block_source, there_begins}
@@ -17,29 +17,10 @@ use Rattle.wt_called_edit_laws.specs.CalledPages.{IsCalledPage}
 use Rattle.wt_called_edit_laws.specs.ItemSpots.{items_of_spots, ArePlacedAfter, ArePlaced}
 use Rattle.wt_called_edit_laws.specs.PlacedSpots.{AreFurtherIn, AreBlocksIn, IsPlacedPage}
 use Rattle.wt_called_edit_laws.proofs.CalmPages.{calm_contents}
-use Rattle.wt_called_edit_laws.proofs.Cells.ContentItems.{content_items}
+use Rattle.wt_called_edit_laws.proofs.Cells.ContentItems.{items_by}
 use Rattle.wt_called_edit_laws.proofs.Cells.PlacedBlocks.{stays_so}
-
--- ---- they are cuts
-
-further_cuts : (last : TextBlock) (bs : List Bool) (ss : List BlockSpot) (behind : List ℕ) (zs : List Item) → AreFurtherIn last bs ss behind zs
-    → AreFurtherCuts ss behind zs
-further_cuts last bs [] behind zs h = h.0
-further_cuts last bs (s ∷ ss) behind zs h =
-    (h.0, h.1, h.2, h.3, further_cuts s.block (open_behind_part bs (past_break h.0.before)) ss behind h.0.rest h.7)
-
-are_cuts : (ss : List BlockSpot) (behind : List ℕ) → AreBlocksIn ss behind → AreCuts ss behind
-are_cuts [] behind h = h
-are_cuts (s ∷ ss) behind h = (h.0, h.1, h.2, further_cuts s.block (open_behind_part [] h.0.before) ss behind h.0.rest h.5)
-
-break_there : (bs rest : List ℕ) → BeginsBreak bs → EndsThere (bs ++ rest)
-break_there [] rest h = absurd h
-break_there (b ∷ bs) rest h = h
-
-further_there : (last : TextBlock) (bs : List Bool) (ss : List BlockSpot) (behind : List ℕ) (zs : List Item) → AreFurtherIn last bs ss behind zs
-    → EndsThere (spots_source ss behind)
-further_there last bs [] behind zs h = h.0
-further_there last bs (s ∷ ss) behind zs h = break_there s.before (source_of s.block s.text ++ spots_source ss behind) h.2
+use Rattle.wt_called_edit_laws.proofs.Told.FreeNodes.{page_free}
+use Rattle.wt_called_edit_laws.proofs.Told.OwnReads.{AllRead, further_there, page_read}
 
 -- ---- each part by itself
 
@@ -69,39 +50,45 @@ part_alone s ss behind zs c e there =
 
 -- ---- where they stand
 
-further_placed : (last : TextBlock) (bs : List Bool) (ss : List BlockSpot) (behind : List ℕ) (zs : List Item) → AreReadAfter ss behind
+further_placed : (last : TextBlock) (bs : List Bool) (ss : List BlockSpot) (behind : List ℕ) (zs : List Item) → AllRead ss
     → page_items (spots_source ss behind) ≡ zs → AreFurtherIn last bs ss behind zs → ArePlacedAfter last bs (items_of_spots ss) (page_items behind)
 further_placed last bs [] behind zs r e h = subst (EndsAfter last (length bs)) (sym e) h.1
 further_placed last bs (s ∷ ss) behind zs r e h =
     let c : IsSpotCut s zs = h.0 in
     let now : List Bool = open_behind_part bs (past_break c.before) in
-    let p = part_alone s ss behind zs c e (further_there s.block now ss behind c.rest h.7) in
+    let p = part_alone s ss behind zs c e (further_there s.block now ss behind c.rest h.6) in
     let P : List Item → Type 0 = λ (xs : List Item). BeginsAfter last s.block bs xs
     × (AreItemsOf s.block (page_items s.text) × LeadsInto s.block bs (past_break xs)
     × StayText s.block (length (open_behind_part bs (past_break xs))) (page_items s.text))
     × ArePlacedAfter s.block (open_behind_part bs (past_break xs)) (items_of_spots ss) (page_items behind) in
     subst P (sym p.front) (
-      h.4,
-      (content_items s.block s.text r.0.block, h.5, p.stays (length now) h.6),
-      further_placed s.block now ss behind c.rest r.2 p.last h.7,
+      h.3,
+      (items_by s.block s.text r.0.is, h.4, p.stays (length now) h.5),
+      further_placed s.block now ss behind c.rest r.1 p.last h.6,
     )
 
-placed : (ss : List BlockSpot) (behind : List ℕ) → AreRead ss behind → AreBlocksIn ss behind → ArePlaced (items_of_spots ss) (page_items behind)
+placed : (ss : List BlockSpot) (behind : List ℕ) → AllRead ss → AreBlocksIn ss behind → ArePlaced (items_of_spots ss) (page_items behind)
 placed [] behind r h = absurd h
 placed (s ∷ ss) behind r h =
     let zs : List Item = page_items (spots_source (s ∷ ss) behind) in
     let c : IsSpotCut s zs = h.0 in
     let now : List Bool = open_behind_part [] c.before in
-    let p = part_alone s ss behind zs c refl (further_there s.block now ss behind c.rest h.5) in
+    let p = part_alone s ss behind zs c refl (further_there s.block now ss behind c.rest h.4) in
     let P : List Item → Type 0 = λ (xs : List Item).
     (AreItemsOf s.block (page_items s.text) × LeadsInto s.block [] xs × StayText s.block (length (open_behind_part [] xs)) (page_items s.text))
     × ArePlacedAfter s.block (open_behind_part [] xs) (items_of_spots ss) (page_items behind) in
     subst P (sym p.front) (
-      (content_items s.block s.text r.0.block, h.3, p.stays (length now) h.4),
-      further_placed s.block now ss behind c.rest r.1 p.last h.5,
+      (items_by s.block s.text r.0.is, h.2, p.stays (length now) h.3),
+      further_placed s.block now ss behind c.rest r.1 p.last h.4,
     )
 
 pub spots_called : (pages : Pages) (ss : List BlockSpot) (behind : List ℕ) → IsPlacedPage ss behind → IsCalledPage pages ss behind
 spots_called pages ss behind h =
-    let read : AreRead ss behind = cut_read ss behind h.utf8 h.calls_nothing (are_cuts ss behind h.blocks) h.free in
-    calm_contents pages ss behind (record { read = read; placed = placed ss behind read h.blocks; ungrouped = h.ungrouped })
+    let p = page_read ss behind h.utf8 h.calls_nothing h.closed h.blocks in
+    let there : ArePlaced (items_of_spots ss) (page_items behind) = placed ss behind p.read h.blocks in
+    let free : AreFree ss = page_free ss behind p.read h.shut there p.items h.ungrouped in
+    calm_contents pages ss behind (record {
+      read = cut_read ss behind h.utf8 h.calls_nothing p.cuts free;
+      placed = there;
+      ungrouped = h.ungrouped;
+    })

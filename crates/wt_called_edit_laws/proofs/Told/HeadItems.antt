@@ -1,0 +1,434 @@
+-- The items of a heading's line of a page, cut at its delimiters.
+use Rattle.std.proofs.Common.{arith, ◌≡◌, ℕ, zero, suc, ◌+◌, ◌<◌, ◌≤◌, Bool, true, false, not, Option, Some, None, List, [], ◌∷◌, ◌++◌, length, take, drop, map, min, refl, sym, ap, ◌∙◌, subst, append-nil, append_assoc, length-append, All, codes}
+use Rattle.std.specs.Prelude.{if◌then◌else◌}
+use Rattle.std.proofs.Math.Seq.{take-append_seam, drop-append_seam}
+use Rattle.std.proofs.lemmas.Bool.{eqb-true}
+use Rattle.std.proofs.lemmas.Bool.Decides.{nat_tests}
+use Rattle.std.proofs.lemmas.List.{map-append, length-map, length-take}
+use Rattle.std.proofs.lemmas.List.Elements.{All-head, All-tail}
+use Rattle.std.proofs.lemmas.Grind.{flat_map-append}
+use Rattle.wt_span.specs.declared.form.Mode.TheVariants.{Page}
+use Rattle.wt_span.specs.Bytes.{is_blank, is_break, blank_len, begins}
+use Rattle.wt_span.specs.Items.{Item, char, whole, call_of, is_mark_form, sign, source, sources}
+use Rattle.wt_span.specs.declared.form.ItemForm.{ItemForm}
+use Rattle.wt_span.specs.Runs.{IsRun}
+use Rattle.wt_lex.proofs.Begins.{begins_get}
+use Rattle.wt_lines.specs.Kinds.{is_idle}
+use Rattle.wt_lines.specs.Lines.{is_break_item, goes_on, content}
+use Rattle.wt_expand.specs.PageItems.{page_items}
+use Rattle.wt_expand.proofs.PageLaws.{char_sources, page_sources}
+use Rattle.wt_part_laws.specs.Lexer.{lexer}
+use Rattle.wt_part_laws.specs.Scans.{after_all}
+use Rattle.wt_blocks.specs.Headings.{core, level_of, open_len, inside_len, level, opening, inside, closing}
+use Rattle.wt_page.specs.Lines.{ending}
+use Rattle.wt_page.specs.Rows.{signs}
+use Rattle.wt_page.proofs.Ends.{content_ending}
+use Rattle.wt_text_edit_laws.specs.LonePages.{page_chars}
+use Rattle.wt_text_edit_laws.specs.PageCuts.{AreHeadingItems}
+use Rattle.wt_text_edit_laws.specs.TextBetween.{HasEnds}
+use Rattle.wt_text_edit_laws.specs.TypedHeadings.{Sides, equals, opening as opening_of, AreBlanks, AreIdle, BeginsWithout, EndsWithout, NoBreaks, IsHeadingInside}
+use Rattle.wt_text_edit_laws.proofs.Between.Fronts.{items_from}
+use Rattle.wt_text_edit_laws.proofs.Cuts.ItemCuts.{cut_from, page_cut}
+use Rattle.wt_text_edit_laws.proofs.Paragraphs.LineBlocks.{OwnBreaks}
+use Rattle.wt_called_edit_laws.specs.LinedHeadings.{blanks_behind, sides_of, text_of, IsLinedHeading}
+use Rattle.wt_called_edit_laws.proofs.Told.HeadLevels.{core_cut}
+use Rattle.wt_called_edit_laws.proofs.Told.HeadParts.{LineCut, line_cut}
+use Rattle.wt_called_edit_laws.proofs.Told.RestEnds.{NoLess, rest_ends}
+use Rattle.wt_called_edit_laws.proofs.Told.Signs.{AllPass, pass_len, run_length}
+
+-- ---- items cut where their signs are
+
+abbrev first_or : ℕ → List ℕ → ℕ
+first_or s [] = s
+first_or s (t ∷ ts) = t
+
+abbrev others : List ℕ → List ℕ
+others [] = []
+others (t ∷ ts) = ts
+
+pub record SignsCut (xs : List Item) (ss ts : List ℕ) : Type 0 where
+  pub front : List Item
+  pub back : List Item
+  pub is : xs ≡ front ++ back
+  pub first : map sign front ≡ ss
+  pub last : map sign back ≡ ts
+
+pub signs_cut : (xs : List Item) (ss ts : List ℕ) → map sign xs ≡ ss ++ ts → SignsCut xs ss ts
+signs_cut xs [] ts e = record { front = []; back = xs; is = refl; first = refl; last = e }
+signs_cut [] (s ∷ ss) ts e = absurd (cc)
+signs_cut (x ∷ xs) (s ∷ ss) ts e =
+    let here : sign x ≡ s = ap (first_or s) e in
+    let rest : map sign xs ≡ ss ++ ts = ap others e in
+    let c = signs_cut xs ss ts rest in
+    record {
+      front = x ∷ c.front;
+      back = c.back;
+      is = ap (λ (ys : List Item). x ∷ ys) c.is;
+      first = ap (λ (t : ℕ). t ∷ map sign c.front) here ∙ ap (λ (us : List ℕ). s ∷ us) c.first;
+      last = c.last;
+    }
+
+-- ---- they are the page's own
+
+abbrev pub AllOwn : List Item → Type 0
+AllOwn [] = Unit {0}
+AllOwn (x ∷ xs) = (call_of x ≡ None) × AllOwn xs
+
+pub own_all : (xs : List Item) → All (λ x. call_of x ≡ None) xs → AllOwn xs
+own_all [] h = tt
+own_all (x ∷ xs) h = (All-head (λ x. call_of x ≡ None) x xs h, own_all xs (All-tail (λ x. call_of x ≡ None) x xs h))
+
+pub own_front : (xs ys : List Item) → AllOwn (xs ++ ys) → AllOwn xs
+own_front [] ys h = tt
+own_front (x ∷ xs) ys h = (h.0, own_front xs ys h.1)
+
+pub own_back : (xs ys : List Item) → AllOwn (xs ++ ys) → AllOwn ys
+own_back [] ys h = h
+own_back (x ∷ xs) ys h = own_back xs ys h.1
+
+-- ---- characters by their signs
+
+abbrev AreBytes : List ℕ → Type 0
+AreBytes [] = Unit {0}
+AreBytes (s ∷ ss) = (s < 256) × AreBytes ss
+
+bytes_both : (ss ts : List ℕ) → AreBytes ss → AreBytes ts → AreBytes (ss ++ ts)
+bytes_both [] ts h g = g
+bytes_both (s ∷ ss) ts h g = (h.0, bytes_both ss ts h.1 g)
+
+run_bytes : (n : ℕ) → AreBytes (equals n)
+run_bytes zero = tt
+run_bytes (suc n) = (omega arith, run_bytes n)
+
+blank_byte : (b : ℕ) → is_blank b ≡ true → b < 256
+blank_byte b e = grind (arith, nat_tests, e)
+
+blank_bytes : (bs : List ℕ) → AreBlanks bs → AreBytes bs
+blank_bytes [] h = tt
+blank_bytes (b ∷ bs) h = (blank_byte b h.0, blank_bytes bs h.1)
+
+form_sign : (v : Bool) → (if v then 257 else 256) < 256 → ⊥
+form_sign true lt = omega (arith, lt)
+form_sign false lt = omega (arith, lt)
+
+byte_char : (x : Item) (s : ℕ) → sign x ≡ s → s < 256 → call_of x ≡ None → x ≡ char None s
+byte_char (char None b) s e lt o = ap (char None) e
+byte_char (char (Some k) b) s e lt o = absurd (cc)
+byte_char (whole f o bs) s e lt c = absurd (form_sign (is_mark_form f) (subst (λ (t : ℕ). t < 256) (sym e) lt))
+
+pub chars_are : (xs : List Item) (ss : List ℕ) → map sign xs ≡ ss → AreBytes ss → AllOwn xs → xs ≡ page_chars ss
+chars_are [] [] e h o = refl
+chars_are [] (s ∷ ss) e h o = absurd (cc)
+chars_are (x ∷ xs) [] e h o = absurd (cc)
+chars_are (x ∷ xs) (s ∷ ss) e h o =
+    let here : sign x ≡ s = ap (first_or s) e in
+    let rest : map sign xs ≡ ss = ap others e in
+    ap (λ (y : Item). y ∷ xs) (byte_char x s here h.0 o.0) ∙ ap (λ (ys : List Item). char None s ∷ ys) (chars_are xs ss rest h.1 o.1)
+
+-- ---- a line has no line break but its last
+
+not_not : (v : Bool) → not v ≡ true → v ≡ false
+not_not true e = cc
+not_not false e = refl
+
+pub line_unbroken : (l others : List Item) → IsRun goes_on l others → NoBreaks (content l)
+line_unbroken [] others h = absurd h
+line_unbroken (x ∷ []) others h = by (is_break_item x) refl
+  where
+    by : (v : Bool) → is_break_item x ≡ v → NoBreaks (if v then [] else x ∷ [])
+    by true e = tt
+    by false e = (e, tt)
+line_unbroken (x ∷ y ∷ l) others h = (not_not (is_break_item x) h.0, line_unbroken (y ∷ l) others h.1)
+
+unbroken_front : (xs ys : List Item) → NoBreaks (xs ++ ys) → NoBreaks xs
+unbroken_front [] ys h = tt
+unbroken_front (x ∷ xs) ys h = (h.0, unbroken_front xs ys h.1)
+
+unbroken_back : (xs ys : List Item) → NoBreaks (xs ++ ys) → NoBreaks ys
+unbroken_back [] ys h = h
+unbroken_back (x ∷ xs) ys h = unbroken_back xs ys h.1
+
+-- ---- its parts
+
+-- by its items, where its delimiters end
+record ItemsCut (xs : List Item) : Type 0 where
+  front : List Item
+  own : List Item
+  back : List Item
+  rest : List Item
+  lead : List ℕ
+  trail : List ℕ
+  is : xs ≡ front ++ (own ++ (back ++ rest))
+  front_signs : map sign front ≡ equals (level xs) ++ lead
+  back_signs : map sign back ≡ trail ++ equals (level xs)
+  rest_signs : AreIdle (map sign rest)
+  lead_blanks : AreBlanks lead
+  trail_blanks : AreBlanks trail
+  begins : BeginsWithout is_blank (map sign own)
+  ends : EndsWithout is_blank (map sign own)
+  some : 1 ≤ level xs
+  most : level xs ≤ 6
+  opened : open_len (core (map sign xs)) ≡ length front
+  size : inside_len (core (map sign xs)) ≡ length own
+
+size_of : (xs : List Item) (ss : List ℕ) → map sign xs ≡ ss → length xs ≡ length ss
+size_of xs ss e = sym (length-map xs sign) ∙ ap length e
+
+items_cut : (xs : List Item) → LineCut (map sign xs) → ItemsCut xs
+unfolding level
+items_cut xs c =
+    let n : ℕ = level_of (core (map sign xs)) in
+    let first = signs_cut xs (equals n ++ c.lead) (c.own ++ ((c.trail ++ equals n) ++ c.idle)) c.is in
+    let second = signs_cut first.back c.own ((c.trail ++ equals n) ++ c.idle) first.last in
+    let third = signs_cut second.back (c.trail ++ equals n) c.idle second.last in
+    let front_size = size_of first.front (equals n ++ c.lead) first.first in
+    record {
+      front = first.front;
+      own = second.front;
+      back = third.front;
+      rest = third.back;
+      lead = c.lead;
+      trail = c.trail;
+      is = first.is ∙ ap (λ (ys : List Item). first.front ++ ys) (second.is ∙ ap (λ (ys : List Item). second.front ++ ys) third.is);
+      front_signs = first.first;
+      back_signs = third.first;
+      rest_signs = subst AreIdle (sym third.last) c.idle_signs;
+      lead_blanks = c.lead_blanks;
+      trail_blanks = c.trail_blanks;
+      begins = subst (BeginsWithout is_blank) (sym second.first) c.begins;
+      ends = subst (EndsWithout is_blank) (sym second.first) c.ends;
+      some = c.some;
+      most = c.most;
+      opened = c.opened ∙ omega (arith, front_size, length-append (equals n) c.lead, run_length n);
+      size = c.inside ∙ sym (size_of second.front c.own second.first);
+    }
+
+-- ---- the delimiters
+
+opening_so : (xs : List Item) (c : ItemsCut xs) → opening xs ≡ c.front
+unfolding opening
+opening_so xs c =
+    ap (λ (k : ℕ). take k xs) c.opened ∙ ap (take (length c.front)) c.is ∙ take-append_seam c.front (c.own ++ (c.back ++ c.rest))
+
+inside_so : (xs : List Item) (c : ItemsCut xs) → inside xs ≡ c.own
+unfolding inside
+inside_so xs c =
+    ap (λ (k : ℕ). take k (drop (open_len (core (map sign xs))) xs)) c.size
+    ∙ ap (λ (k : ℕ). take (length c.own) (drop k xs)) c.opened
+    ∙ ap (λ (ys : List Item). take (length c.own) (drop (length c.front) ys)) c.is
+    ∙ ap (take (length c.own)) (drop-append_seam c.front (c.own ++ (c.back ++ c.rest)))
+    ∙ take-append_seam c.own (c.back ++ c.rest)
+
+closing_so : (xs : List Item) (c : ItemsCut xs) → closing xs ≡ c.back ++ c.rest
+unfolding closing
+closing_so xs c =
+    let size : length c.front + length c.own ≡ length (c.front ++ c.own) = omega (arith, length-append c.front c.own) in
+    ap (λ (k : ℕ). drop (k + inside_len (core (map sign xs))) xs) c.opened
+    ∙ ap (λ (k : ℕ). drop (length c.front + k) xs) c.size
+    ∙ ap (λ (k : ℕ). drop k xs) size
+    ∙ ap (drop (length (c.front ++ c.own))) (c.is ∙ sym (append_assoc c.front c.own (c.back ++ c.rest)))
+    ∙ drop-append_seam (c.front ++ c.own) (c.back ++ c.rest)
+
+-- ---- its sides
+
+run_unblank : (n : ℕ) (ts : List ℕ) → 1 ≤ n → blank_len (equals n ++ ts) ≡ 0
+run_unblank zero ts le = absurd (omega (arith, le))
+run_unblank (suc n) ts le = refl
+
+blanks_pass : (bs : List ℕ) → AreBlanks bs → AllPass is_blank bs
+blanks_pass [] h = tt
+blanks_pass (b ∷ bs) h = (h.0, blanks_pass bs h.1)
+
+closing_signs : (xs : List Item) (c : ItemsCut xs) → signs (closing xs) ≡ c.trail ++ (equals (level xs) ++ map sign c.rest)
+closing_signs xs c =
+    ap signs (closing_so xs c) ∙ map-append sign c.back c.rest ∙ ap (λ (ts : List ℕ). ts ++ map sign c.rest) c.back_signs
+    ∙ append_assoc c.trail (equals (level xs)) (map sign c.rest)
+
+blanks_so : (xs : List Item) (c : ItemsCut xs) → blanks_behind xs ≡ length c.trail
+blanks_so xs c =
+    ap blank_len (closing_signs xs c)
+    ∙ pass_len is_blank c.trail (equals (level xs) ++ map sign c.rest) (blanks_pass c.trail c.trail_blanks) (run_unblank (level xs) (map sign c.rest) c.some)
+
+lead_so : (xs : List Item) (c : ItemsCut xs) → drop (level xs) (signs (opening xs)) ≡ c.lead
+lead_so xs c =
+    ap (λ (ys : List Item). drop (level xs) (signs ys)) (opening_so xs c) ∙ ap (drop (level xs)) c.front_signs
+    ∙ ap (λ (k : ℕ). drop k (equals (level xs) ++ c.lead)) (sym (run_length (level xs))) ∙ drop-append_seam (equals (level xs)) c.lead
+
+trail_so : (xs : List Item) (c : ItemsCut xs) → take (blanks_behind xs) (signs (closing xs)) ≡ c.trail
+trail_so xs c =
+    ap (λ (k : ℕ). take k (signs (closing xs))) (blanks_so xs c) ∙ ap (take (length c.trail)) (closing_signs xs c)
+    ∙ take-append_seam c.trail (equals (level xs) ++ map sign c.rest)
+
+rest_so : (xs : List Item) (c : ItemsCut xs) → drop (blanks_behind xs + level xs) (closing xs) ≡ c.rest
+rest_so xs c =
+    let blanks = blanks_so xs c in
+    let back_size = size_of c.back (c.trail ++ equals (level xs)) c.back_signs in
+    let size : blanks_behind xs + level xs ≡ length c.back =
+    omega (arith, blanks, back_size, length-append c.trail (equals (level xs)), run_length (level xs)) in
+    ap (λ (k : ℕ). drop k (closing xs)) size ∙ ap (drop (length c.back)) (closing_so xs c) ∙ drop-append_seam c.back c.rest
+
+abbrev sides_by : ℕ → List ℕ → List ℕ → List ℕ → Sides
+sides_by n bs ds cs = record { level = n; lead = bs; trail = ds; rest = cs }
+
+sides_so : (xs : List Item) (c : ItemsCut xs) → sides_of xs ≡ sides_by (level xs) c.lead c.trail (sources c.rest)
+sides_so xs c =
+    ap (λ (bs : List ℕ). sides_by (level xs) bs (take (blanks_behind xs) (signs (closing xs))) (sources (drop (blanks_behind xs + level xs) (closing xs)))) (lead_so xs c)
+    ∙ ap (λ (bs : List ℕ). sides_by (level xs) c.lead bs (sources (drop (blanks_behind xs + level xs) (closing xs)))) (trail_so xs c)
+    ∙ ap (λ (ys : List Item). sides_by (level xs) c.lead c.trail (sources ys)) (rest_so xs c)
+
+-- ---- a line of the page
+
+chars_front : (xs : List Item) (c : ItemsCut xs) → AllOwn xs → c.front ≡ page_chars (equals (level xs) ++ c.lead)
+chars_front xs c own =
+    chars_are c.front (equals (level xs) ++ c.lead) c.front_signs
+    (bytes_both (equals (level xs)) c.lead (run_bytes (level xs)) (blank_bytes c.lead c.lead_blanks))
+    (own_front c.front (c.own ++ (c.back ++ c.rest)) (subst AllOwn c.is own))
+
+chars_back : (xs : List Item) (c : ItemsCut xs) → AllOwn xs → c.back ≡ page_chars (c.trail ++ equals (level xs))
+chars_back xs c own =
+    chars_are c.back (c.trail ++ equals (level xs)) c.back_signs
+    (bytes_both c.trail (equals (level xs)) (blank_bytes c.trail c.trail_blanks) (run_bytes (level xs)))
+    (own_front c.back c.rest (own_back c.own (c.back ++ c.rest) (own_back c.front (c.own ++ (c.back ++ c.rest)) (subst AllOwn c.is own))))
+
+heading_items : (xs : List Item) (c : ItemsCut xs) → AllOwn xs → NoBreaks xs → HasEnds (sources c.rest ++ 10 ∷ [])
+    → AreHeadingItems (sides_by (level xs) c.lead c.trail (sources c.rest)) (sources c.own) xs
+heading_items xs c own unbroken ends =
+    let n : ℕ = level xs in
+    let broken : NoBreaks (c.own ++ (c.back ++ c.rest)) = unbroken_back c.front (c.own ++ (c.back ++ c.rest)) (subst NoBreaks c.is unbroken) in
+    record {
+      own = c.own;
+      rest = c.rest;
+      is = c.is ∙ ap (λ (ys : List Item). ys ++ (c.own ++ (c.back ++ c.rest))) (chars_front xs c own)
+          ∙ ap (λ (ys : List Item). page_chars (equals n ++ c.lead) ++ (c.own ++ (ys ++ c.rest))) (chars_back xs c own);
+      source = refl;
+      rest_source = refl;
+      some = c.some;
+      most = c.most;
+      lead = c.lead_blanks;
+      trail = c.trail_blanks;
+      idle = c.rest_signs;
+      ends = ends;
+      inside = record { unbroken = unbroken_front c.own (c.back ++ c.rest) broken; begins = c.begins; ends = c.ends };
+      of_level = refl;
+    }
+
+told_items : (xs : List Item) (c : ItemsCut xs) → AllOwn xs → NoBreaks xs → HasEnds (sources c.rest ++ 10 ∷ []) → AreHeadingItems (sides_of xs) (text_of xs) xs
+told_items xs c own unbroken ends =
+    let sides : sides_of xs ≡ sides_by (level xs) c.lead c.trail (sources c.rest) = sides_so xs c in
+    let text : text_of xs ≡ sources c.own = ap sources (inside_so xs c) in
+    subst (λ (s : Sides). AreHeadingItems s (text_of xs) xs) (sym sides)
+    (subst (λ (q : List ℕ). AreHeadingItems (sides_by (level xs) c.lead c.trail (sources c.rest)) q xs) (sym text)
+    (heading_items xs c own unbroken ends))
+
+-- ---- behind its last `=`
+
+idle_less : (xs : List Item) → AreIdle (map sign xs) → NoLess xs
+idle_less [] h = tt
+idle_less (x ∷ xs) h = ((λ z. let y : true ≡ false = sym h.0 ∙ ap is_idle z in cc), idle_less xs h.1)
+
+after_joined : (bs cs : List ℕ) (a : Bool) → after_all (lexer Page) a (bs ++ cs) ≡ after_all (lexer Page) (after_all (lexer Page) a bs) cs
+after_joined [] cs a = refl
+after_joined (b ∷ bs) cs a = after_joined bs cs (is_break b)
+
+run_after : (n : ℕ) (a : Bool) → 1 ≤ n → after_all (lexer Page) a (equals n) ≡ false
+run_after zero a some = absurd (omega (arith, some))
+run_after (suc zero) a some = refl
+run_after (suc (suc n)) a some = run_after (suc n) false (omega arith)
+
+-- what is before it ends with a `=`
+back_after : (front : List ℕ) (n : ℕ) (trail : List ℕ) (back : List Item) → 1 ≤ n → back ≡ page_chars (trail ++ equals n)
+    → after_all (lexer Page) false (front ++ sources back) ≡ false
+back_after front n trail back some e =
+    ap (λ (ys : List Item). after_all (lexer Page) false (front ++ sources ys)) e
+    ∙ ap (λ (bs : List ℕ). after_all (lexer Page) false (front ++ bs)) (char_sources (trail ++ equals n))
+    ∙ ap (after_all (lexer Page) false) (sym (append_assoc front trail (equals n)))
+    ∙ after_joined (front ++ trail) (equals n) false
+    ∙ run_after n (after_all (lexer Page) false (front ++ trail)) some
+
+-- this is read behind it, before a line break
+rest_read : (page : List ℕ) (before rest more : List Item) → page_items page ≡ before ++ (rest ++ char None 10 ∷ more)
+    → after_all (lexer Page) false (sources before) ≡ false → items_from false 0 (sources rest ++ 10 ∷ []) ≡ rest ++ char None 10 ∷ []
+rest_read page before rest more e flag =
+    let break : List Item = char None 10 ∷ [] in
+    let there : List Item = rest ++ char None 10 ∷ more in
+    let page_is : page ≡ sources before ++ sources there =
+    sym (page_sources page) ∙ ap sources e ∙ flat_map-append source before there in
+    let first = page_cut (sources before) (sources there) before there (ap page_items (sym page_is) ∙ e) refl in
+    let behind : items_from false 0 (sources there) ≡ there = sym (ap (λ (v : Bool). items_from v 0 (sources there)) flag) ∙ first.behind in
+    let cut : there ≡ (rest ++ break) ++ more = sym (append_assoc rest break more) in
+    let bytes : sources there ≡ sources (rest ++ break) ++ sources more = ap sources cut ∙ flat_map-append source (rest ++ break) more in
+    let all : items_from false 0 (sources (rest ++ break) ++ sources more) ≡ (rest ++ break) ++ more =
+    ap (items_from false 0) (sym bytes) ∙ behind ∙ cut in
+    let second = cut_from false (sources (rest ++ break)) (sources more) (rest ++ break) more all refl in
+    ap (items_from false 0) (sym (flat_map-append source rest break)) ∙ second.front
+
+items_end : (page : List ℕ) (before xs more : List Item) (c : ItemsCut xs) → AllOwn xs → page_items page ≡ before ++ (xs ++ char None 10 ∷ more)
+    → HasEnds (sources c.rest ++ 10 ∷ [])
+items_end page before xs more c own e =
+    let tail : List Item = char None 10 ∷ more in
+    let front : List Item = before ++ (c.front ++ c.own) in
+    let there : page_items page ≡ (front ++ c.back) ++ (c.rest ++ tail) =
+    e ∙ ap (λ (ys : List Item). before ++ (ys ++ tail)) c.is
+    ∙ ap (λ (ys : List Item). before ++ ys) (append_assoc c.front (c.own ++ (c.back ++ c.rest)) tail
+    ∙ ap (λ (ys : List Item). c.front ++ ys) (append_assoc c.own (c.back ++ c.rest) tail ∙ ap (λ (ys : List Item). c.own ++ ys) (append_assoc c.back c.rest tail))
+    ∙ sym (append_assoc c.front c.own (c.back ++ (c.rest ++ tail))))
+    ∙ sym (append_assoc before (c.front ++ c.own) (c.back ++ (c.rest ++ tail)))
+    ∙ sym (append_assoc front c.back (c.rest ++ tail)) in
+    let flag : after_all (lexer Page) false (sources (front ++ c.back)) ≡ false =
+    ap (after_all (lexer Page) false) (flat_map-append source front c.back)
+    ∙ back_after (sources front) (level xs) c.trail c.back c.some (chars_back xs c own) in
+    rest_ends (sources c.rest) c.rest (rest_read page (front ++ c.back) c.rest more there flag) refl (idle_less c.rest c.rest_signs)
+
+-- ---- what ends the line
+
+true_by : (v : Bool) → not v ≡ false → v ≡ true
+true_by true e = refl
+true_by false e = cc
+
+-- where a line break is behind all lines, one is behind each
+pub line_ended : (l others : List Item) → IsRun goes_on l others → OwnBreaks l → (more : List Item) × (ending l ++ (others ++ char None 10 ∷ []) ≡ char None 10 ∷ more)
+line_ended [] others h o = absurd h
+line_ended (x ∷ []) others h o = by (is_break_item x) refl others h
+  where
+    by : (v : Bool) → is_break_item x ≡ v → (ys : List Item) → IsRun goes_on (x ∷ []) ys
+        → (more : List Item) × ((if v then x ∷ [] else []) ++ (ys ++ char None 10 ∷ []) ≡ char None 10 ∷ more)
+    by true e ys h = (ys ++ char None 10 ∷ [], ap (λ (z : Item). z ∷ (ys ++ char None 10 ∷ [])) (o.0 e))
+    by false e [] h = ([], refl)
+    by false e (y ∷ ys) h = let z : true ≡ false = sym (true_by (is_break_item x) h) ∙ e in absurd (cc)
+line_ended (x ∷ y ∷ l) others h o = line_ended (y ∷ l) others h.1 o.1
+
+inside_some : (xs : List Item) → 1 ≤ length (inside xs) → 1 ≤ inside_len (core (map sign xs))
+unfolding inside
+inside_some xs le =
+    let c : List ℕ = core (map sign xs) in
+    omega (arith, le, length-take (inside_len c) (drop (open_len c) xs))
+
+-- the first sign is that of the content
+begins_content : (l : List Item) → begins (codes "=") (signs l) ≡ true → begins (codes "=") (signs (content l)) ≡ true
+begins_content [] e = e
+begins_content (x ∷ []) e = by x e
+  where
+    by : (y : Item) → begins (codes "=") (signs (y ∷ [])) ≡ true → begins (codes "=") (signs (if is_break_item y then [] else y ∷ [])) ≡ true
+    by (whole f o bs) h = h
+    by (char o b) h = kept (is_break_item (char o b)) refl
+      where
+        kept : (v : Bool) → is_break_item (char o b) ≡ v → begins (codes "=") (signs (if v then [] else char o b ∷ [])) ≡ true
+        kept false f = h
+        kept true f =
+            let ten : b ≡ 10 = eqb-true b 10 f in
+            let equal : b ≡ 61 = begins_get (codes "=") (b ∷ []) h 0 (omega arith) in
+            absurd (omega (arith, ten, equal))
+begins_content (x ∷ y ∷ l) e = e
+
+pub lined_heading : (n : ℕ) (page : List ℕ) (before l others : List Item) → page_items page ≡ before ++ (l ++ (others ++ char None 10 ∷ []))
+    → IsRun goes_on l others → AllOwn l → OwnBreaks l → IsLinedHeading n l → AreHeadingItems (sides_of (content l)) (text_of (content l)) (content l)
+lined_heading n page before l others e run own breaks h =
+    let xs : List Item = content l in
+    let core_is = core_cut n (map sign xs) (begins_content l h.first) h.is_heading in
+    let c : ItemsCut xs = items_cut xs (line_cut (map sign xs) core_is (inside_some xs h.some)) in
+    let mine : AllOwn xs = own_front xs (ending l) (subst AllOwn (sym (content_ending l)) own) in
+    let last = line_ended l others run breaks in
+    let there : page_items page ≡ before ++ (xs ++ char None 10 ∷ last.0) =
+    e ∙ ap (λ (ys : List Item). before ++ (ys ++ (others ++ char None 10 ∷ []))) (sym (content_ending l))
+    ∙ ap (λ (ys : List Item). before ++ ys) (append_assoc xs (ending l) (others ++ char None 10 ∷ []) ∙ ap (λ (ys : List Item). xs ++ ys) last.1) in
+    told_items xs c mine (line_unbroken l others run) (items_end page before xs last.0 c mine there)

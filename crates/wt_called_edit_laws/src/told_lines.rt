@@ -1,0 +1,42 @@
+//! Laws of paragraphs and headings that are told by nothing but the page's lines: what has to be known of each follows from
+//! the page.
+
+ghost use Rattle.std.specs.Prelude.{◌≡◌, ◌≤◌, false, List, [], ◌∷◌, ◌++◌, ℕ, length, map};
+ghost use Rattle.wt_span.specs.Items.{Item};
+ghost use Rattle.wt_span.specs.Origins.{Expanded};
+ghost use Rattle.wt_tree.specs.Tree.{Tree};
+ghost use Rattle.wt_lines.specs.Lines.{content, full_lines};
+ghost use Rattle.wt_expand.specs.PageItems.{page_items};
+ghost use Rattle.wt_expand.specs.Work.{Pages};
+ghost use Rattle.wt_selser.specs.Edits.{is_tangled};
+ghost use Rattle.wt_text_edit_laws.specs.PageCuts.{AreBlockItems, EndsClosed};
+ghost use Rattle.wt_text_edit_laws.specs.TextBlocks.{TextBlock, a_heading, block_tree};
+ghost use Rattle.wt_called_edit_laws.specs.CalledPages.{IsCalledPage};
+ghost use Rattle.wt_called_edit_laws.specs.EditsAt.{IsStanding};
+ghost use Rattle.wt_called_edit_laws.specs.LinedHeadings.{sides_of, text_of, IsLinedHeading};
+ghost use Rattle.wt_called_edit_laws.specs.PlacedLines.{spots_by, end_by, IsLinedPage};
+ghost use Rattle.wt_called_edit_laws.specs.PlacedSpots.{IsShut};
+ghost use Rattle.wt_called_edit_laws.specs.ToldLines.{Told, lined, IsToldPage};
+
+/// A heading's line is told by itself. Where one of a page's lines, behind the marks that begin it, is of a heading's kind and
+/// begins with `=`, and something is between its delimiters (`IsLinedHeading`), it is the line of a heading with the sides and
+/// the text that these delimiters give it. At the page's end no comment and no hidden part is open.
+pub fn headings_are_told_by_their_lines()
+    ensures { (page : List ℕ) (before : List (List Item)) (marks : List Item) (l : List Item) (behind : List (List Item)) (n : ℕ) → EndsClosed page []
+        → 1 ≤ length l → full_lines (page_items page) ≡ before ++ (marks ++ l) ∷ behind → IsLinedHeading n l
+        → AreBlockItems (a_heading (sides_of (content l))) (text_of (content l)) (content l) }
+{}
+
+/// So any number of paragraphs and headings of a page that calls nothing, and in which no node can only be kept as a whole, are
+/// told by nothing but their lines (`IsToldPage`): the page may be edited with all of them.
+pub fn blocks_are_told_by_their_lines()
+    ensures lined { (page : List ℕ) (ts : List Told) (behind : List (List Item)) → IsToldPage page ts behind → IsLinedPage page (map lined ts) behind }
+    ensures called { (pages : Pages) (page : List ℕ) (ts : List Told) (behind : List (List Item)) → IsToldPage page ts behind
+        → IsCalledPage pages (spots_by [] (map lined ts)) (end_by [] (map lined ts) behind) }
+{}
+
+/// Where a node of a page's tree is such a block and isn't tangled there, no tag is open at the end of a node in it (`IsShut`).
+pub fn untangled_blocks_are_shut()
+    ensures { (k : TextBlock) (q : List ℕ) (items : Expanded) (page : List ℕ) (t : Tree) → IsStanding (block_tree k q) t → is_tangled items page t ≡ false
+        → IsShut k q }
+{}
