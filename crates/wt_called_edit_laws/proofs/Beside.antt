@@ -5,3 +5,4 @@ pub mod Sent
 pub mod Making
 pub mod Given
 pub mod Cases
+mod PageCases
