@@ -8,3 +8,4 @@ pub mod Blocks
 pub mod Contents
 pub mod Pieced
 pub mod TextAndCalls
+pub mod Cases

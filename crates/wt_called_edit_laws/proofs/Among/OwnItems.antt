@@ -14,7 +14,7 @@ use Rattle.wt_expand.specs.PageItems.{items_of_word, items_of_words, page_items}
 use Rattle.wt_expand.specs.Targets.{Called, argument, choice, function, page, text, called}
 use Rattle.wt_expand.specs.Work.{Pages}
 use Rattle.wt_expand.specs.Expansion.{Output, chars, PartOutput, part_outputs, target_part, Reading, front_braces, called_output, outputs_of, text_members, page_reading}
-use Rattle.wt_expand.specs.PageCalls.{Stretch, own, outer, outer_at, call_stretches, all_stretches, outer_items, numbered, outer_calls, text_spans, page_stretches, expanded_page}
+use Rattle.wt_expand.specs.PageCalls.{Stretch, own, outer_at, call_stretches, all_stretches, outer_items, numbered, outer_calls, text_spans, page_stretches, expanded_page}
 use Rattle.wt_expand.proofs.PiecePlaces.{AllFrom}
 use Rattle.wt_transclusion.specs.Stretch.{AreFull, AllFull}
 use Rattle.wt_transclusion.proofs.Full.{full_text, text_bytes}

@@ -1,12 +1,12 @@
 -- A paragraph of texts and calls that give words: its nodes in the page's tree are these texts, and a group for each call.
-use Rattle.std.proofs.Common.{arith, ◌≡◌, ◌≢◌, ◌⊎◌, inl, inr, ℕ, suc, ◌+◌, ◌<◌, ◌≤◌, true, false, Option, None, Some, List, [], ◌∷◌, ◌++◌, length, refl, sym, ap, ap₂, ◌∙◌, subst, append-nil}
+use Rattle.std.proofs.Common.{arith, ◌≡◌, ◌≢◌, inl, inr, ℕ, suc, ◌+◌, ◌<◌, true, false, Option, None, Some, List, [], ◌∷◌, ◌++◌, length, refl, sym, ap, ◌∙◌, subst}
 use Rattle.std.specs.Prelude.{slice_get}
 use Rattle.std.specs.List.{flat_map}
 use Rattle.wt_tree.specs.declared.kind.Kind.TheVariants as kind
 use Rattle.wt_tree.specs.Kinds.{is_leaf}
 use Rattle.wt_tree.specs.Plain.{Plains, text_before, plain_before}
 use Rattle.wt_tree.specs.Source.{flat}
-use Rattle.wt_tree.specs.Tree.{Tree, tree, Trees, none, more, label}
+use Rattle.wt_tree.specs.Tree.{Tree, tree, Trees, more, label}
 use Rattle.wt_span.specs.Items.{Item, sources}
 use Rattle.wt_span.specs.Origins.{OuterCall}
 use Rattle.wt_span.specs.Cuts.{source_of_call}
@@ -16,8 +16,8 @@ use Rattle.wt_guards.specs.declared.role.Transclusion.{Transclusion}
 use Rattle.wt_guards.specs.Content.{Thing, ends_line, is_group}
 use Rattle.wt_inline.specs.declared.loose.Loose.TheVariants.{Text}
 use Rattle.wt_inline.specs.Carried.{shown_item}
-use Rattle.wt_inline.specs.ItemTree.{plain, ItemTree, tree_items}
-use Rattle.wt_inline.specs.Parts.{Part, loose_leaf, children}
+use Rattle.wt_inline.specs.ItemTree.{plain, ItemTree}
+use Rattle.wt_inline.specs.Parts.{Part, loose_leaf}
 use Rattle.wt_context.specs.Line.{line_parts}
 use Rattle.wt_tiles.specs.declared.glyph.Glyph.{Glyph}
 use Rattle.wt_checks.specs.Kept.{children as nodes_in}
@@ -34,7 +34,7 @@ use Rattle.wt_original.specs.Numbers.{counts_up}
 use Rattle.wt_link_spelling.specs.Spelling.{children_of}
 use Rattle.wt_part_laws.specs.CallTexts.{call_group, by_call, in_page, all_in_page}
 use Rattle.wt_part_laws.specs.Expanded.{part_items, calls_in}
-use Rattle.wt_part_laws.specs.HeldCalls.{block_in, HoldsItsCalls}
+use Rattle.wt_part_laws.specs.HeldCalls.{block_in}
 use Rattle.wt_part_laws.specs.MovedCalls.{IsMoved, AreMoved}
 use Rattle.wt_part_laws.specs.Placeless.{placeless}
 use Rattle.wt_part_laws.proofs.HeldBlocks.{block_is}
@@ -59,7 +59,7 @@ use Rattle.wt_called_edit_laws.specs.PartTexts.{AreSourcesAt}
 use Rattle.wt_called_edit_laws.proofs.Beside.Counts.{block_bare, settled_counts}
 use Rattle.wt_called_edit_laws.proofs.PartTexts.{OwnPage, own_page}
 use Rattle.wt_called_edit_laws.proofs.Whole.Blocks.{nodes_are}
-use Rattle.wt_called_edit_laws.proofs.Whole.Contents.{has_call, IsOneCall, words_source}
+use Rattle.wt_called_edit_laws.proofs.Whole.Contents.{words_source}
 use Rattle.wt_called_edit_laws.proofs.Whole.OfCall.{joined_from}
 use Rattle.wt_called_edit_laws.proofs.Whole.Pieced.{paragraph_round, as_written}
 use Rattle.wt_called_edit_laws.proofs.Written.NewContents.{calls_of}
