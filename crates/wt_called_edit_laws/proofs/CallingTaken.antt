@@ -42,6 +42,7 @@ use Rattle.wt_called_edit_laws.proofs.EditTaken.{IsExpandable, MakesFrom, edit_d
 use Rattle.wt_called_edit_laws.proofs.HoldersSent.{blocks_free}
 use Rattle.wt_called_edit_laws.proofs.Leads.{edit_at}
 use Rattle.wt_called_edit_laws.proofs.NodesTold.{found_apart}
+use Rattle.wt_called_edit_laws.proofs.OthersStay.{others_stay}
 use Rattle.wt_called_edit_laws.proofs.PageBody.{IsBodyOf, page_body}
 use Rattle.wt_called_edit_laws.proofs.PagesSettled.{called_settled}
 use Rattle.wt_called_edit_laws.proofs.Parts.Retyped.{expanded_again}
@@ -208,5 +209,6 @@ contents_taken pages ss behind h =
       unmarked = λ stands input b unsourced es e found short le small is.
           unmarked_done pages page (spots_source (new_blocks f es) behind) es b stands input unsourced (makes_from pages ss behind f es h e.edit)
           (told pages ss behind f es h e) found short le small is;
+      others = λ es e. let m = well_sent pages ss behind f es h e in others_stay pages ss (new_blocks f es) behind h m.edited m.held;
       again = λ es e. again pages ss behind f es h e;
     }

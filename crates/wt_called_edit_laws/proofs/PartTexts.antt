@@ -1,5 +1,5 @@
 -- What is on the page for the items of a part is the part, wherever its calls are counted among those of the page.
-use Rattle.std.proofs.Common.{◌≡◌, ℕ, zero, suc, ◌+◌, ◌-◌, ◌<◌, Bool, true, false, Option, Some, None, List, [], ◌∷◌, ◌++◌, length, map, take, drop, refl, sym, ap, ap₂, ◌∙◌, subst, arith, append_assoc, append-nil, length-append}
+use Rattle.std.proofs.Common.{◌≡◌, ℕ, zero, suc, ◌+◌, ◌-◌, ◌<◌, Bool, true, false, Option, Some, None, List, [], ◌∷◌, ◌++◌, length, map, take, drop, refl, sym, ap, ap₂, ◌∙◌, subst, arith, append-nil}
 use Rattle.std.specs.Prelude.{slice_get, slice_index, not, if◌then◌else◌}
 use Rattle.std.proofs.lemmas.Bool.Decides.{nat_tests}
 use Rattle.wt_span.specs.declared.form.ItemForm.TheVariants as form
@@ -22,7 +22,7 @@ use Rattle.wt_expand.specs.PageCalls.{Stretch, own, outer, text_call, call_stret
 use Rattle.wt_expand.specs.Stretches.{page_bytes}
 use Rattle.wt_expand.proofs.PiecePlaces.{text_behind, behind_page, behind_same, AllFrom, form_from, chars_from}
 use Rattle.wt_expand.proofs.Given.{stretches_join}
-use Rattle.wt_part_laws.specs.Expanded.{moved_call, part_items, calls_in}
+use Rattle.wt_part_laws.specs.Expanded.{moved_call, part_items}
 use Rattle.wt_text_edit_laws.specs.BlockSpots.{BlockSpot}
 use Rattle.wt_text_edit_laws.specs.TextBlocks.{source_of}
 use Rattle.wt_called_edit_laws.specs.PartTexts.{AreBlockTexts, AreTextsOfPage}

@@ -33,3 +33,4 @@ pub mod Told
 pub mod Trimming
 pub mod Occurring
 pub mod Pieces
+pub mod EditMarks

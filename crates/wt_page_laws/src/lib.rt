@@ -6,6 +6,7 @@
 mod asked;
 mod calls;
 mod data_mw;
+mod edit_marks;
 mod elements;
 mod faults;
 mod findings;
@@ -35,6 +36,7 @@ mod work;
 pub use asked::asked_names_stay;
 pub use calls::the_first_deep_call_is_told;
 pub use data_mw::{only_written_data_mw, only_written_data_parsoid};
+pub use edit_marks::marks_are_read;
 pub use elements::elements_show_the_same;
 pub use faults::counts_tell_faults;
 pub use findings::{

@@ -14,6 +14,7 @@ ghost use Rattle.wt_program.specs.PlacedCalls.{TakesContentsInLines};
 ghost use Rattle.wt_program.specs.ProseCalls.{TakesChangedProse};
 
 mod laws;
+mod sent_html;
 
 pub use laws::{
     calls_take_changed_prose, calls_take_contents_among_calls,
@@ -22,6 +23,7 @@ pub use laws::{
     contents_at_their_places_are_taken_so, texts_among_calls_are_taken_so,
     texts_in_cells_are_taken_so, texts_on_pages_without_calls_are_taken_so,
 };
+pub use sent_html::{chosen_contents_can_be_sent, edits_can_be_sent, edits_have_their_html};
 use std::alloc::Global;
 use wt_devices::{Folder, Sink, Source};
 pub use wt_pagetool::tell_no_memory;
@@ -45,7 +47,7 @@ pub fn run<S: Source, F: Folder, W: Sink, E: Sink>(
     // one holds, and where its content is read so any texts beside its nodes; and where a paragraph holds calls that give
     // words, any texts beside these. Where a call sends such an edit of a page
     // (`IsEditableWithCalls` of `wt_called_edit_laws`), it is done, and with `edit` the page with these contents was written,
-    // and no line; or a device failed, or memory ran out.
+    // and no line; or a device failed, or memory ran out. Nothing but these blocks is another one in the new page.
     ensures takes_contents_among_calls { TakesContentsAmongCalls (call words.now (read_from S.Source input.old input.new)
         (fetched_from F.Folder folder.old folder.new) (written_to W.Sink out.old out.new)
         (written_to E.Sink err.old err.new)) result }

@@ -1,5 +1,5 @@
 -- What is written for texts beside calls that give words can be read by itself.
-use Rattle.std.proofs.Common.{arith, ◌≡◌, ◌⊎◌, inl, inr, ℕ, suc, ◌+◌, ◌<◌, ◌≤◌, ◌==◌, Bool, true, false, Option, None, Some, List, [], ◌∷◌, ◌++◌, length, map, refl, sym, ap, ap₂, ◌∙◌, subst, append-nil}
+use Rattle.std.proofs.Common.{arith, ◌≡◌, ◌⊎◌, inl, inr, ℕ, suc, ◌+◌, ◌<◌, ◌==◌, Bool, true, false, Option, None, Some, List, [], ◌∷◌, ◌++◌, length, map, refl, sym, ap, ap₂, ◌∙◌, subst, append-nil}
 use Rattle.std.specs.Prelude.{slice_get, encode_utf8}
 use Rattle.std.specs.Fmt.{digits}
 use Rattle.std.proofs.lemmas.Bool.{cases_lt}
@@ -7,7 +7,7 @@ use Rattle.std.proofs.lemmas.Bool.Decides.{nat_tests, Decides-eqb}
 use Rattle.wt_tree.specs.declared.kind.Kind.TheVariants as kind
 use Rattle.wt_tree.specs.Tiling.{HasNoGroup}
 use Rattle.wt_span.specs.declared.form.ItemForm.TheVariants as form
-use Rattle.wt_span.specs.Items.{Item, char, whole, sources, call_of}
+use Rattle.wt_span.specs.Items.{Item, char, whole, sources}
 use Rattle.wt_span.specs.Cuts.{source_of_call}
 use Rattle.wt_span.specs.Origins.{OuterCall, same_call}
 use Rattle.wt_guards.specs.declared.role.Role.{Role}
@@ -28,15 +28,14 @@ use Rattle.wt_annotated.specs.Labels.{label_at}
 use Rattle.wt_annotated.specs.Seams.{text_from}
 use Rattle.wt_isolation.specs.OpenTags.{ends_open, node_ends_open}
 use Rattle.wt_part_laws.specs.CallTexts.{AreOwnOrTexts}
-use Rattle.wt_part_laws.specs.Expanded.{moved_call, part_items, calls_in}
+use Rattle.wt_part_laws.specs.Expanded.{part_items, calls_in}
 use Rattle.wt_part_laws.specs.MovedCalls.{IsMoved, AreMoved}
 use Rattle.wt_part_laws.specs.Standing.{standing}
 use Rattle.wt_text_edit_laws.specs.LonePages.{page_chars}
 use Rattle.wt_text_edit_laws.specs.ParagraphParts.{joined_parts}
 use Rattle.wt_text_edit_laws.specs.TextBlocks.{a_paragraph}
-use Rattle.wt_beside_laws.specs.Called.{items_with, owns_in, parts_with, AreWordBytes, BeginsWord, AreWords, shown_signs, GivesWords, StaysAsItIs, IsOfFolder, AreOfFolder, IsCalledIn}
+use Rattle.wt_beside_laws.specs.Called.{items_with, owns_in, parts_with, BeginsWord, AreWords, shown_signs, GivesWords, StaysAsItIs, IsOfFolder, AreOfFolder, IsCalledIn}
 use Rattle.wt_beside_laws.specs.Content.{guard_items, letter_items}
-use Rattle.wt_beside_laws.specs.NodeItems.{node_items}
 use Rattle.wt_beside_laws.proofs.LineShown.{guard_tree}
 use Rattle.wt_beside_laws.proofs.Groups.CalledBlocks.{parts_own}
 use Rattle.wt_beside_laws.proofs.Groups.CalledParagraphs.{called_parts}
@@ -47,7 +46,7 @@ use Rattle.wt_called_edit_laws.specs.PageThings.{shown_thing}
 use Rattle.wt_called_edit_laws.specs.WholeContents.{of_call, NoneOrWords, AreShutParts, AreShutCalls, IsShut, AreShut, HoldsWords, IsWholeIn}
 use Rattle.wt_called_edit_laws.specs.Written.{written_calls}
 use Rattle.wt_called_edit_laws.specs.WrittenAnew.{IsWrittenBeside}
-use Rattle.wt_called_edit_laws.proofs.PartTexts.{OwnPage, own_page, AreSourcesAt, called_from, call_text, part_text}
+use Rattle.wt_called_edit_laws.proofs.PartTexts.{OwnPage, own_page, AreSourcesAt, call_text, part_text}
 use Rattle.wt_called_edit_laws.proofs.Whole.OfCall.{is_same, of_before, of_here, of_past, of_append, of_own, before_part, behind_part}
 use Rattle.wt_called_edit_laws.proofs.Written.Held.{written_gives}
 use Rattle.wt_called_edit_laws.proofs.Written.Signs.{content_written}
