@@ -52,18 +52,20 @@ own_moved pages [] rs t = tt
 own_moved pages (s ∷ ss) [] t = tt
 own_moved pages (s ∷ ss) (r ∷ rs) t = (one_moved pages s r t.1 t.2, own_moved pages ss rs t.3)
 
-pub calls_kept : (pages : Pages) (ss rs : List BlockSpot) (behind : List ℕ) → AreCallingBlocks pages ss behind → AreEdited pages ss rs
-    → HaveSameData (expanded_page pages (spots_source ss behind)).outer (expanded_page pages (spots_source rs behind)).outer
-calls_kept pages ss rs behind h t =
-    let calls : List OuterCall = (expanded_page pages (spots_source ss behind)).outer in
+pub calls_moved : (pages : Pages) (ss rs : List BlockSpot) (behind : List ℕ) → AreCallingBlocks pages ss behind → AreEdited pages ss rs
+    → AreMoved (expanded_page pages (spots_source ss behind)).outer (expanded_page pages (spots_source rs behind)).outer
+calls_moved pages ss rs behind h t =
     let others : List OuterCall = (expanded_page pages (spots_source rs behind)).outer in
     let again = expanded_again pages ss rs behind h.called (edited_anew pages ss rs t) in
     let was = is_by_parts pages ss behind h.called in
     let now = is_by_parts pages rs behind again.called in
-    let moved : AreMoved calls others =
     subst (λ cs. AreMoved cs others) (sym was.outers)
-    (subst (AreMoved (called_outers pages ss behind)) (sym now.outers) (all_moved pages ss rs behind (edited_round pages ss rs t) (own_moved pages ss rs t))) in
-    moved_data calls others moved
+    (subst (AreMoved (called_outers pages ss behind)) (sym now.outers) (all_moved pages ss rs behind (edited_round pages ss rs t) (own_moved pages ss rs t)))
+
+pub calls_kept : (pages : Pages) (ss rs : List BlockSpot) (behind : List ℕ) → AreCallingBlocks pages ss behind → AreEdited pages ss rs
+    → HaveSameData (expanded_page pages (spots_source ss behind)).outer (expanded_page pages (spots_source rs behind)).outer
+calls_kept pages ss rs behind h t =
+    moved_data (expanded_page pages (spots_source ss behind)).outer (expanded_page pages (spots_source rs behind)).outer (calls_moved pages ss rs behind h t)
 
 pub held_there : (pages : Pages) (ss rs : List BlockSpot) (behind : List ℕ) (f : CallingBlocksStand pages ss behind) → AreEdited pages ss rs
     → AllHold (tree_with_calls pages 0 rs) (counted rs) → AllHold (tree_with_calls pages 0 rs) (all_places f.frames)

@@ -73,6 +73,7 @@ pub mod OneAnswer
 pub mod OnePage
 pub mod Utf8Texts
 pub mod OneHead
+pub mod PlainTemplates
 pub mod MarkedTrees
 pub mod MarkedElements
 pub mod MarkedBodies

@@ -27,6 +27,7 @@ mod sections;
 mod styles;
 mod switch;
 mod table;
+mod templates;
 mod texts;
 mod tiles;
 mod trim;
@@ -75,6 +76,7 @@ pub use styles::{
 };
 pub use switch::part_of_switch;
 pub use table::parts_of_tables;
+pub use templates::{first_values_are_given, plain_pages_give_their_text};
 pub use texts::texts_are_utf8_one_by_one;
 pub use tiles::{
     attributes_are_the_first_of_their_names, brackets_balance, keys_are_behind_the_first_pipe,

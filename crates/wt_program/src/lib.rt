@@ -47,7 +47,7 @@ pub fn run<S: Source, F: Folder, W: Sink, E: Sink>(
     // one holds, and where its content is read so any texts beside its nodes; and where a paragraph holds calls that give
     // words, any texts beside these. Where a call sends such an edit of a page
     // (`IsEditableWithCalls` of `wt_called_edit_laws`), it is done, and with `edit` the page with these contents was written,
-    // and no line; or a device failed, or memory ran out.
+    // and no line; or a device failed, or memory ran out. Nothing but these blocks is another one in the new page.
     ensures takes_contents_among_calls { TakesContentsAmongCalls (call words.now (read_from S.Source input.old input.new)
         (fetched_from F.Folder folder.old folder.new) (written_to W.Sink out.old out.new)
         (written_to E.Sink err.old err.new)) result }

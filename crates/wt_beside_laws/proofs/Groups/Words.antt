@@ -14,7 +14,7 @@ use Rattle.wt_tiles.specs.declared.glyph.Glyph.TheVariants as glyph
 use Rattle.wt_tiles.specs.Glyphs.{glyph_of, byte_glyphs}
 use Rattle.wt_lines.specs.Lines.{IsUnbroken}
 use Rattle.wt_text_edit_laws.specs.LonePages.{page_chars}
-use Rattle.wt_beside_laws.specs.Called.{is_word_byte, is_first_sign, AreWordBytes, AreWords, IsOwnNode, IsGivenAs}
+use Rattle.wt_beside_laws.specs.Called.{is_word_byte, is_first_sign, is_half_sign, PartsSigns, AreWordBytes, AreWords, IsOwnNode, IsGivenAs}
 use Rattle.wt_beside_laws.specs.Cuts.{own_glyphs}
 use Rattle.wt_beside_laws.specs.Kept.{is_firm, AreFirm}
 use Rattle.wt_beside_laws.proofs.Firm.{firm_read}
@@ -41,7 +41,7 @@ word_small b e = small_by b (and_first (nat_lt b 256) _ e)
     small_by : (b : ℕ) → nat_lt b 256 ≡ true → b < 256
     small_by b e = grind (arith, nat_tests, e)
 
-lower_colon : (b : ℕ) → (to_ascii_lowercase b == 58) ≡ true → (b == 58) ≡ true
+pub lower_colon : (b : ℕ) → (to_ascii_lowercase b == 58) ≡ true → (b == 58) ≡ true
 lower_colon b e = grind (arith, nat_tests, e)
 
 lower_slash : (b : ℕ) → (to_ascii_lowercase b == 47) ≡ true → (b == 47) ≡ true
@@ -51,8 +51,42 @@ contrary : (u v : Bool) → (u ≡ true → v ≡ true) → v ≡ false → u �
 contrary true v f e = sym (f refl) ∙ e
 contrary false v f e = refl
 
-pub word_colon : (b : ℕ) → is_word_byte b ≡ true → (to_ascii_lowercase b == 58) ≡ false
-word_colon b e = contrary (to_ascii_lowercase b == 58) (b == 58) (lower_colon b) (not_word 58 b refl e)
+-- an apostrophe, `_` or colon
+pub half_quote : (b : ℕ) → (b == 39) ≡ true → is_half_sign b ≡ true
+half_quote b e = ap (λ (v : Bool). v || (b == 95 || b == 58)) e
+
+pub half_underscore : (b : ℕ) → (b == 95) ≡ true → is_half_sign b ≡ true
+half_underscore b e = by (b == 39) (b == 95) (b == 58) e
+  where
+    by : (u v w : Bool) → v ≡ true → (u || (v || w)) ≡ true
+    by true v w i = refl
+    by false true w i = refl
+    by false false w i = cc
+
+pub half_colon : (b : ℕ) → (b == 58) ≡ true → is_half_sign b ≡ true
+half_colon b e = by (b == 39) (b == 95) (b == 58) e
+  where
+    by : (u v w : Bool) → w ≡ true → (u || (v || w)) ≡ true
+    by true v w i = refl
+    by false true w i = refl
+    by false false w i = i
+
+neither_first : (u v w x : Bool) → ((u || (v || w)) || x) ≡ false → (u ≡ false) × (v ≡ false) × (x ≡ false)
+neither_first true v w x e = cc
+neither_first false true w x e = cc
+neither_first false false true x e = cc
+neither_first false false false x e = (refl, refl, e)
+
+-- what is behind one of them
+pub behind_sign : (b : ℕ) (bs : List ℕ) → PartsSigns (b ∷ bs) → ((b == 39) ≡ false) × ((b == 95) ≡ false) × ((b == 47) ≡ false)
+behind_sign b bs h = neither_first (b == 39) (b == 95) (b == 58) (b == 47) h
+
+pub last_sign : (b : ℕ) → (is_half_sign b ≡ true → PartsSigns []) → is_half_sign b ≡ false
+last_sign b f = by (is_half_sign b) f
+  where
+    by : (v : Bool) → (v ≡ true → PartsSigns []) → v ≡ false
+    by true g = absurd (g refl)
+    by false g = refl
 
 -- the first one
 pub not_first : (k b : ℕ) → is_first_sign k ≡ true → is_first_sign b ≡ false → (b == k) ≡ false
@@ -71,19 +105,25 @@ or_first false w e = refl
 first_visible : (b : ℕ) → is_first_sign b ≡ false → is_blank b ≡ false
 first_visible b e = or_first (is_blank b) _ e
 
+pub first_colon : (b : ℕ) → is_first_sign b ≡ false → (to_ascii_lowercase b == 58) ≡ false
+first_colon b e = contrary (to_ascii_lowercase b == 58) (b == 58) (lower_colon b) (not_first 58 b refl e)
+
+pub no_slash : (b : ℕ) → (b == 47) ≡ false → (to_ascii_lowercase b == 47) ≡ false
+no_slash b e = contrary (to_ascii_lowercase b == 47) (b == 47) (lower_slash b) e
+
 pub word_slash : (b : ℕ) → is_first_sign b ≡ false → (to_ascii_lowercase b == 47) ≡ false
-word_slash b e = contrary (to_ascii_lowercase b == 47) (b == 47) (lower_slash b) (not_first 47 b refl e)
+word_slash b e = no_slash b (not_first 47 b refl e)
 
 -- it may begin a line
-hazard_none : (b : ℕ) → is_word_byte b ≡ true → is_first_sign b ≡ false → line_start_hazard b ≡ false
+hazard_none : (b : ℕ) → is_first_sign b ≡ false → line_start_hazard b ≡ false
 unfolding line_start_hazard
-hazard_none b e n =
+hazard_none b n =
     rw (
       first_visible b n,
       not_first 61 b refl n,
       not_first 42 b refl n,
       not_first 35 b refl n,
-      not_word 58 b refl e,
+      not_first 58 b refl n,
       not_first 59 b refl n,
       not_first 45 b refl n,
       not_first 33 b refl n,
@@ -94,7 +134,7 @@ pub word_opens : (b : ℕ) → is_word_byte b ≡ true → is_first_sign b ≡ f
 word_opens b e n =
     opens_text b (word_small b e)
     (rw (
-      hazard_none b e n,
+      hazard_none b n,
       not_word 10 b refl e,
       not_word 91 b refl e,
       not_first 93 b refl n,
@@ -123,7 +163,7 @@ firm_byte b e = rw (not_word 60 b refl e, not_word 38 b refl e, not_word 123 b r
 
 firm_bytes : (bs : List ℕ) → AreWordBytes bs → AreFirm bs
 firm_bytes [] h = tt
-firm_bytes (b ∷ bs) h = (firm_byte b h.0, firm_bytes bs h.1)
+firm_bytes (b ∷ bs) h = (firm_byte b h.0, firm_bytes bs h.2)
 
 pub shown_glyphs : (t : Thing) → AreWordBytes t.source → own_glyphs t ≡ byte_glyphs t.source
 shown_glyphs t h =
@@ -131,7 +171,7 @@ shown_glyphs t h =
 
 pub words_unbroken : (j : ℕ) (bs : List ℕ) → AreWordBytes bs → IsUnbroken (call_chars j bs)
 words_unbroken j [] h = tt
-words_unbroken j (b ∷ bs) h = (not_word 10 b refl h.0, words_unbroken j bs h.1)
+words_unbroken j (b ∷ bs) h = (not_word 10 b refl h.0, words_unbroken j bs h.2)
 
 -- ---- a node
 

@@ -1,5 +1,5 @@
 -- What is sent for a paragraph with calls in it: texts, and nodes as they are in the page, groups among them.
-use Rattle.std.proofs.Common.{◌≡◌, ◌⊎◌, inl, inr, ℕ, ◌+◌, Bool, true, false, Option, Some, None, List, [], ◌∷◌, ◌++◌, length, map, refl, sym, ap, ◌∙◌, subst}
+use Rattle.std.proofs.Common.{◌≡◌, inl, inr, ℕ, ◌+◌, Bool, true, false, Option, Some, List, [], ◌∷◌, ◌++◌, length, map, refl, sym, ap, ◌∙◌, subst}
 use Rattle.std.specs.Prelude.{◌||◌, if◌then◌else◌, encode_utf8}
 use Rattle.std.specs.List.{flat_map}
 use Rattle.std.specs.Str.{IsUtf8, chars}
@@ -9,8 +9,8 @@ use Rattle.wt_tree.specs.declared.kind.Kind.{Kind}
 use Rattle.wt_tree.specs.EditShapes.{edit_shape}
 use Rattle.wt_tree.specs.Plain.{Plains, text_before, plain_before}
 use Rattle.wt_tree.specs.Source.{flat}
-use Rattle.wt_tree.specs.Tiling.{is_group, HasNoGroup}
-use Rattle.wt_tree.specs.Tree.{Label, Tree, tree, Trees, none, more, label}
+use Rattle.wt_tree.specs.Tiling.{is_group}
+use Rattle.wt_tree.specs.Tree.{Label, Tree, tree, Trees, label}
 use Rattle.wt_tree.specs.declared.edit_shape.InlineForm.{InlineForm}
 use Rattle.wt_tree.specs.declared.edit_shape.InlineForm.TheVariants as inline
 use Rattle.wt_tree.specs.declared.edit_shape.Place.{Place}
@@ -39,7 +39,7 @@ use Rattle.wt_beside_laws.proofs.LineShown.{twice}
 use Rattle.wt_beside_laws.proofs.OwnSigns.{own_unchanged}
 use Rattle.wt_beside_laws.proofs.SentNodes.{things_append, no_things}
 use Rattle.wt_beside_laws.proofs.SentPieces.{stays_unchanged}
-use Rattle.wt_called_edit_laws.specs.CalledEdits.{IsGroupOrFree, ShowsAsGiven, IsChildBeside, AreChildrenBeside, AreGoneCalm, BeginTyped, ends_typed}
+use Rattle.wt_called_edit_laws.specs.CalledEdits.{IsGroupOrFree, AreChildrenBeside, AreGoneCalm, BeginTyped, ends_typed}
 use Rattle.wt_called_edit_laws.specs.PageThings.{ThingsStay}
 use Rattle.wt_called_edit_laws.proofs.Beside.Found.{IsFoundAs, FoundBy, AreFound}
 
