@@ -16,14 +16,16 @@ use wt_tree::{Kind, Node, flat, same_attrs, same_kind};
 
 /// What a block is written by beside what is known of the page: whether texts keep their bytes, the signs of the item
 /// in which it is (of an item its own), the page's text at its end, where the block is the second half of one that was
-/// there, and how it is written where it is a new item, cell or row. (What is known goes beside it: read from a structure
-/// behind a reference, it costs each function seconds of proof.)
+/// there, how it is written where it is a new item, cell or row, and the blanks with which the lines of the table begin in
+/// which it is a row or a cell. (What is known goes beside it: read from a structure behind a reference, it costs each
+/// function seconds of proof.)
 #[derive(Clone, Copy)]
 pub struct Surroundings<'w, 't, 'a> {
     pub keeps: bool,
     pub signs: &'w str,
     pub tail: Option<&'t Node<'a>>,
     pub style: Style,
+    pub blanks: &'w str,
 }
 
 impl<'w, 't, 'a> Surroundings<'w, 't, 'a> {
@@ -34,6 +36,7 @@ impl<'w, 't, 'a> Surroundings<'w, 't, 'a> {
             signs: self.signs,
             tail: None,
             style: USUAL,
+            blanks: "",
         }
     }
 
@@ -54,6 +57,7 @@ impl<'w, 't, 'a> Surroundings<'w, 't, 'a> {
             signs: "",
             tail: None,
             style: self.style,
+            blanks: self.blanks,
         }
     }
 
@@ -64,6 +68,15 @@ impl<'w, 't, 'a> Surroundings<'w, 't, 'a> {
             signs: self.signs,
             tail: None,
             style: if self.keeps { style } else { USUAL },
+            blanks: self.blanks,
+        }
+    }
+
+    /// The blanks with which the lines of what a node of this kind holds begin.
+    fn blanks_in(&self, kind: Kind) -> &'w str {
+        match kind {
+            Kind::Table | Kind::Tr => self.blanks,
+            _ => "",
         }
     }
 }
@@ -308,6 +321,7 @@ fn push_held<'t, 'a>(
         if is_written(child) {
             if !is_begun && !push_in_line(alloc, out, known, around, before, child)? {
                 push_break(out, node.kind, before, child.kind)?;
+                out.push_str(around.blanks_in(node.kind))?;
             }
             push_block(alloc, out, known, &around.within_kind(node.kind), child)?;
             before = Some(child);
@@ -453,6 +467,7 @@ fn push_item_of<'t, 'a>(
         signs: signs.as_str(),
         tail: None,
         style: around.style,
+        blanks: "",
     };
     match place.beginning {
         Beginning::OfList => push_first_item(alloc, out, known, &own, item),

@@ -4,7 +4,7 @@ use crate::kinds::is_cell;
 use std::alloc::Global;
 use wt_checks::original;
 use wt_difference::inside;
-use wt_known::{Known, joined};
+use wt_known::{Known, blanks_at_line_start, joined};
 use wt_span::{NoMemory, Str, Text};
 use wt_tree::{Kind, Node, same_attrs, same_kind};
 
@@ -33,6 +33,65 @@ fn joined_or(alloc: Global, texts: &[Text<'_>], sign: &str) -> Result<Str, NoMem
 
 // ---- tables
 
+/// The cell that a node was in the page, where it is one of the other kind now and has its attributes still.
+fn turned_of<'t, 'a>(known: &Known<'t, 'a>, node: &Node<'_>) -> Option<&'t Node<'a>> {
+    let old = of_number(known, node.id)?;
+    let are_cells = is_cell(old.kind) && is_cell(node.kind) && !same_kind(old.kind, node.kind);
+    if are_cells && same_attrs(old.attrs(), node.attrs()) {
+        Some(old)
+    } else {
+        None
+    }
+}
+
+/// Whether a text has the signs with which a heading cell goes on in a line.
+fn has_heading_signs(text: &str) -> bool {
+    let bytes = text.as_bytes();
+    for at in 1..bytes.len() {
+        if bytes[at] == b'!' && bytes[at - 1] == b'!' {
+            return true;
+        }
+    }
+    false
+}
+
+/// What comes after the sign of a cell of the page that has attributes, and may come after one of this kind: these, and the
+/// bar after them.
+fn attributes_for(kind: Kind, opening: &str) -> Option<&str> {
+    let count = if is_doubled(opening) { 2 } else { 1 };
+    let (_, rest) = opening.split_at_checked(count)?;
+    let is_parted = matches!(kind, Kind::Th) && has_heading_signs(rest);
+    if rest.as_bytes().contains(&b'|') && !is_parted {
+        Some(rest)
+    } else {
+        None
+    }
+}
+
+/// Appends the opening delimiter of a cell that had another kind in the page, with the attributes that it has there; `sign`
+/// where it has none.
+fn push_turned(
+    alloc: Global,
+    out: &mut Str,
+    known: &Known<'_, '_>,
+    node: &Node<'_>,
+    sign: &str,
+) -> Result<(), NoMemory> {
+    let Some(old) = turned_of(known, node) else {
+        return out.push_str(sign);
+    };
+    let opening = joined(alloc, old.opening())?;
+    let Some(attributes) = attributes_for(node.kind, opening.as_str()) else {
+        return out.push_str(sign);
+    };
+    out.push_str(if matches!(node.kind, Kind::Th) {
+        "!"
+    } else {
+        "|"
+    })?;
+    out.push_str(attributes)
+}
+
 /// Appends the opening delimiter of a table, a row or a cell; `sign` where it has none of its own.
 pub fn push_opening(
     alloc: Global,
@@ -42,7 +101,7 @@ pub fn push_opening(
     sign: &str,
 ) -> Result<(), NoMemory> {
     let Some(old) = standing_of(known, node) else {
-        return out.push_str(sign);
+        return push_turned(alloc, out, known, node, sign);
     };
     let opening = joined_or(alloc, old.opening(), sign)?;
     push_begun(out, node.kind, opening.as_str())
@@ -77,9 +136,15 @@ pub fn begins_line(out: &Str) -> bool {
     }
 }
 
+/// Whether what is written so far ends where a cell may begin a line, or one that a template gives: blanks may be before it.
+fn begins_line_of_cell(out: &Str, kind: Kind) -> bool {
+    let is_of_table = is_cell(kind) || matches!(kind, Kind::Group);
+    is_of_table && blanks_at_line_start(out.as_str(), out.as_str().len()).is_some()
+}
+
 /// Appends a source that may be that of a cell: at the start of a line with one sign where it had two.
 pub fn push_begun(out: &mut Str, kind: Kind, source: &str) -> Result<(), NoMemory> {
-    if !is_doubled(source) || !begins_line(out) {
+    if !is_doubled(source) || !begins_line_of_cell(out, kind) {
         return out.push_str(source);
     }
     let (_, rest) = source.split_at_checked(2).unwrap_or((source, ""));

@@ -52,7 +52,7 @@ mutual
 
 -- ---- nodes by their groups
 
-group_leaf : (k : Kind) → is_group k ≡ true → is_leaf k ≡ true
+pub group_leaf : (k : Kind) → is_group k ≡ true → is_leaf k ≡ true
 group_leaf kind.Group e = refl
 group_leaf k e = absurd (cc)
 
@@ -63,7 +63,7 @@ by_leaf true false ts f h = let no : false ≡ true = f refl in absurd (cc)
 by_leaf false false ts f h = (λ e. absurd (cc), h)
 
 mutual
-  placed_bare : (calls : List OuterCall) (carried : List Part → Option DataMw) (all : List Item) (g : Grouped) → IsBare (placed calls carried all g)
+  pub placed_bare : (calls : List OuterCall) (carried : List Part → Option DataMw) (all : List Item) (g : Grouped) → IsBare (placed calls carried all g)
   placed_bare calls carried all (kept h n o i c gs) =
       by_leaf (is_group h.kind) (is_leaf h.kind) (all_placed calls carried all gs) (group_leaf h.kind) (all_placed_bare calls carried all gs)
   placed_bare calls carried all (group n k ts) = all_unplaced_bare ts
@@ -142,7 +142,7 @@ cut_by true l ts us h f g = h
 cut_by false l ts us h f g = (λ e. g (h.0 e), f h.1)
 
 mutual
-  texts_bare : (t : Tree) → IsBare t → IsBare (cut_texts t)
+  pub texts_bare : (t : Tree) → IsBare t → IsBare (cut_texts t)
   texts_bare (tree l ts) h =
       let x : Texts = texts_of_kind l.kind in
       cut_by (is_group l.kind) l ts (cut_as x (all_cut_texts ts)) h (λ k. as_bare x (all_cut_texts ts) (all_texts_bare ts k))

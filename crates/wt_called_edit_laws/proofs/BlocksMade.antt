@@ -234,7 +234,7 @@ own_made k q l m ps c h (inl one) = as_made k q l m ps (text_made k q l m ps c h
 own_made k q l m ps c h (inr (f, e)) =
     as_made k q l m ps (styled_makes k q h.number h.before (page_node (edited (block_of k) l m ps)) m ps f h.some h.is e)
 
-edited_made : (k : TextBlock) (q : List ℕ) (j : Block) (l m : Label) (ps : Pieces) → IsContent k q → IsStanding (block_tree k q) (page_node (edited j l m ps))
+pub edited_made : (k : TextBlock) (q : List ℕ) (j : Block) (l m : Label) (ps : Pieces) → IsContent k q → IsStanding (block_tree k q) (page_node (edited j l m ps))
     → Fits k q (edited j l m ps) → IsMade k q (edited j l m ps)
 edited_made k q j l m ps c h f =
     let e : j ≡ block_of k = same_block j (block_of k) (standing_kind k q (page_node (edited j l m ps)) h) in
@@ -292,14 +292,14 @@ all_made (s ∷ ss) (p ∷ ps) t es c h e f = (made_by s p t es c.0 h.0 e f.0, a
 
 -- ---- of all blocks
 
-none_edited : (e : Edited) → None ≡ Some e → ⊥
+pub none_edited : (e : Edited) → None ≡ Some e → ⊥
 none_edited e h = cc
 
 edit_or : Edited → Option Edited → Edited
 edit_or e None = e
 edit_or e (Some d) = d
 
-same_edit : (e d : Edited) → Some e ≡ Some d → e ≡ d
+pub same_edit : (e d : Edited) → Some e ≡ Some d → e ≡ d
 unfolding edit_or
 same_edit e d h = ap (edit_or e) h
 
@@ -369,7 +369,7 @@ mutual
   one_taken o h (holder l fs) (edited k m n ps) p = absurd p
   one_taken o h (holder l fs) (round m n es) p = frames_taken o h fs es p
 
-  frames_taken : (o : ℕ → Option Edited) → ((n : ℕ) (e : Edited) → o n ≡ Some e → IsTaken same_node e) → (fs : TreeFrames) (es : Edits) → AllSend o fs es
+  pub frames_taken : (o : ℕ → Option Edited) → ((n : ℕ) (e : Edited) → o n ≡ Some e → IsTaken same_node e) → (fs : TreeFrames) (es : Edits) → AllSend o fs es
       → AreTaken same_node es
   frames_taken o h no_nodes no_edits p = tt
   frames_taken o h no_nodes (more_edits e es) p = absurd p

@@ -30,13 +30,13 @@ use Rattle.wt_called_edit_laws.proofs.Written.AllHeld.{all_hold}
 -- ---- by two contents of each
 
 -- the page with any new contents beside the calls has these gaps round them
-abbrev FillsEdited : Pages → Gaps → List BlockSpot → List ℕ → Type 0
+abbrev pub FillsEdited : Pages → Gaps → List BlockSpot → List ℕ → Type 0
 FillsEdited pages g ss behind = (rs : List BlockSpot) → AreEdited pages ss rs → EachHolds pages rs → fill (own_sources rs) g ≡ spots_source rs behind
 
 abbrev with_source : BlockSpot → List ℕ → BlockSpot
 with_source s q = record s { text = q }
 
-gaps_by_letters : (pages : Pages) (g : Gaps) (ss : List BlockSpot) (behind : List ℕ) → AreAsMany g ss → EachHolds pages ss → AllTakeLetters pages ss
+pub gaps_by_letters : (pages : Pages) (g : Gaps) (ss : List BlockSpot) (behind : List ℕ) → AreAsMany g ss → EachHolds pages ss → AllTakeLetters pages ss
     → FillsEdited pages g ss behind → AreSame g ss
 gaps_by_letters pages (last_gap xs) [] behind m o l f = tt
 gaps_by_letters pages (last_gap xs) (s ∷ ss) behind m o l f = absurd m

@@ -66,7 +66,7 @@ calls_kept pages ss rs behind h t =
     (subst (AreMoved (called_outers pages ss behind)) (sym now.outers) (all_moved pages ss rs behind (edited_round pages ss rs t) (own_moved pages ss rs t))) in
     moved_data calls others moved
 
-held_there : (pages : Pages) (ss rs : List BlockSpot) (behind : List ℕ) (f : CallingBlocksStand pages ss behind) → AreEdited pages ss rs
+pub held_there : (pages : Pages) (ss rs : List BlockSpot) (behind : List ℕ) (f : CallingBlocksStand pages ss behind) → AreEdited pages ss rs
     → AllHold (tree_with_calls pages 0 rs) (counted rs) → AllHold (tree_with_calls pages 0 rs) (all_places f.frames)
 held_there pages ss rs behind f t h =
     subst (AllHold (tree_with_calls pages 0 rs)) (counted_same ss rs (edited_round pages ss rs t) ∙ sym f.in_order) h
@@ -163,6 +163,16 @@ edited_after pages (s ∷ ss) (r ∷ rs) (q ∷ qs) h g = (
   text_after pages q.block s.text r.text q.text (subst (λ k. (r.text ≡ s.text) ⊎ IsNewContentIn pages k s.text r.text) (sym g.1) h.2) g.2,
   edited_after pages ss rs qs h.3 g.3,
 )
+
+-- with them the blocks are at the same places
+pub stand_again : (pages : Pages) (ss rs : List BlockSpot) (behind : List ℕ) → CallingBlocksStand pages ss behind → AreEdited pages ss rs
+    → CallingBlocksStand pages rs behind
+stand_again pages ss rs behind f t = record {
+  frames = f.frames;
+  of_cells = f.of_cells;
+  in_order = f.in_order ∙ sym (counted_same ss rs (edited_round pages ss rs t));
+  means = λ qs u. f.means qs (edited_after pages ss rs qs t u);
+}
 
 pub calling_outside : (pages : Pages) (ss rs : List BlockSpot) (behind : List ℕ) → AreCallingOutside pages ss behind → AreEdited pages ss rs
     → AllHold (tree_with_calls pages 0 rs) (counted rs) → AreCallingOutside pages rs behind

@@ -19,7 +19,7 @@ use Rattle.wt_called_edit_laws.specs.CallingEdits.{AllTakeLetters, IsCallingPage
 use Rattle.wt_called_edit_laws.specs.CallingGroups.{block_with_groups}
 use Rattle.wt_called_edit_laws.specs.FreeBlocks.{NoTextCalls}
 use Rattle.wt_called_edit_laws.specs.Parts.{calls_to, calls_past}
-use Rattle.wt_called_edit_laws.specs.Untangled.{AreWhole}
+use Rattle.wt_called_edit_laws.specs.WholeContents.{EachWhole}
 use Rattle.wt_called_edit_laws.specs.WrittenAnew.{EachHolds}
 use Rattle.wt_called_edit_laws.proofs.CallingGroups.{one_moved, calls_kept, calling_outside}
 use Rattle.wt_called_edit_laws.proofs.Cells.CallingFrames.{edited_anew}
@@ -29,8 +29,7 @@ use Rattle.wt_called_edit_laws.proofs.Written.AllHeld.{all_hold}
 -- ---- again
 
 pub calling_again : (pages : Pages) (ss rs : List BlockSpot) (behind : List ℕ) → IsCallingPage pages ss behind → AreEdited pages ss rs → EachHolds pages rs
-    → AllTakeLetters pages rs → NoTextCalls pages rs
-    → AreWhole (expanded_page pages (spots_source rs behind)) (block_with_groups pages rs behind) rs → IsCallingPage pages rs behind
+    → AllTakeLetters pages rs → NoTextCalls pages rs → EachWhole pages rs → IsCallingPage pages rs behind
 calling_again pages ss rs behind h t o l n w = record {
   outside = calling_outside pages ss rs behind h.outside t (all_hold pages rs o);
   hold = o;

@@ -3,7 +3,7 @@ use Rattle.std.proofs.Common.{◌≡◌, ℕ, List, map, refl}
 use Rattle.wt_devices.specs.Device.{Pages}
 use Rattle.wt_typed_blocks.specs.Edited.{Edits}
 use Rattle.wt_typed_blocks.specs.EditedUnmarked.{AreTold}
-use Rattle.wt_text_edit_laws.specs.BlockSpots.{BlockSpot}
+use Rattle.wt_text_edit_laws.specs.BlockSpots.{BlockSpot, spots_source}
 use Rattle.wt_called_edit_laws.specs.CalledBlocks.{tree_by}
 use Rattle.wt_called_edit_laws.specs.CalledPages.{IsCalledPage}
 use Rattle.wt_called_edit_laws.specs.CalledTexts.{spots_tree}
@@ -12,8 +12,8 @@ use Rattle.wt_called_edit_laws.specs.EditsAt.{edited_by, IsContentEdit, IsUnmark
 use Rattle.wt_called_edit_laws.specs.Nodes.{block_at}
 use Rattle.wt_called_edit_laws.specs.TreeEdits.{IsNumberedBody}
 use Rattle.wt_called_edit_laws.proofs.BlocksMade.{all_inline}
-use Rattle.wt_called_edit_laws.proofs.EditFacts.{IsFramedPage, framed_page, paths_of, new_spots, spots_body, spots_stand, well_sent}
-use Rattle.wt_called_edit_laws.proofs.EditTaken.{IsContentsEdit, edit_done, unmarked_done}
+use Rattle.wt_called_edit_laws.proofs.EditFacts.{IsFramedPage, framed_page, paths_of, new_spots, spots_utf8, spots_body, spots_stand, well_sent}
+use Rattle.wt_called_edit_laws.proofs.EditTaken.{IsExpandable, MakesFrom, edit_done, unmarked_done}
 use Rattle.wt_called_edit_laws.proofs.Leads.{edit_at}
 use Rattle.wt_called_edit_laws.proofs.NodesTold.{found_apart}
 use Rattle.wt_called_edit_laws.proofs.OwnContents.{own_contents}
@@ -21,9 +21,25 @@ use Rattle.wt_called_edit_laws.proofs.OwnContents.{own_contents}
 pub numbered_body : (pages : Pages) (ss : List BlockSpot) (behind : List ℕ) → IsCalledPage pages ss behind → IsNumberedBody (spots_tree pages ss behind)
 numbered_body pages ss behind h = let b = spots_body pages ss behind h in record { body = b.kind; numbered = b.numbered; alone = b.unframed }
 
-as_contents : (pages : Pages) (ss : List BlockSpot) (behind : List ℕ) (f : IsFramedPage pages ss behind) (es : Edits) → IsCalledPage pages ss behind
-    → IsContentEdit (spots_tree pages ss behind) ss (paths_of f) es → IsContentsEdit pages ss behind f es
-as_contents pages ss behind f es h e = record { page = h; edit = e; made = well_sent pages ss behind f es h e }
+expandable : (pages : Pages) (ss : List BlockSpot) (behind : List ℕ) → IsCalledPage pages ss behind → IsExpandable pages (spots_source ss behind)
+expandable pages ss behind h = record { utf8 = spots_utf8 pages ss behind h; unrefused = h.unrefused }
+
+makes_from : (pages : Pages) (ss : List BlockSpot) (behind : List ℕ) (f : IsFramedPage pages ss behind) (es : Edits) → IsCalledPage pages ss behind
+    → IsContentEdit (spots_tree pages ss behind) ss (paths_of f) es → MakesFrom pages (spots_source ss behind) (spots_source (new_spots f es) behind) es
+makes_from pages ss behind f es h e =
+    let m = well_sent pages ss behind f es h e in
+    record {
+      was = expandable pages ss behind h;
+      now = expandable pages (new_spots f es) behind (f.again (new_spots f es) m.retyped);
+      old = e.old;
+      sent = e.sent;
+      outside = m.outside;
+      taken = m.taken;
+      lie = m.lie;
+      apart = m.apart;
+      source = m.new;
+      shows = m.shows;
+    }
 
 told : (pages : Pages) (ss : List BlockSpot) (behind : List ℕ) (f : IsFramedPage pages ss behind) (es : Edits) → IsCalledPage pages ss behind
     → IsUnmarkedContentEdit (spots_tree pages ss behind) ss (paths_of f) es → AreTold es
@@ -37,9 +53,10 @@ contents_by pages ss behind f h = record {
   paths = paths_of f;
   stand = spots_stand pages ss behind f h;
   edits = own_contents (spots_tree pages ss behind) ss f.nodes (numbered_body pages ss behind h) (spots_stand pages ss behind f h);
-  takes = λ b es e le. edit_done pages ss behind f es b (as_contents pages ss behind f es h e) le;
+  takes = λ b es e le. edit_done pages (spots_source ss behind) (spots_source (new_spots f es) behind) es b (makes_from pages ss behind f es h e) le;
   unmarked = λ stands input b unsourced es e found short le small is.
-      unmarked_done pages ss behind f es b stands input unsourced (as_contents pages ss behind f es h e.edit) (told pages ss behind f es h e) found short le small is;
+      unmarked_done pages (spots_source ss behind) (spots_source (new_spots f es) behind) es b stands input unsourced (makes_from pages ss behind f es h e.edit)
+      (told pages ss behind f es h e) found short le small is;
   again = λ es e. let m = well_sent pages ss behind f es h e in f.again (new_spots f es) m.retyped;
 }
 

@@ -2,12 +2,14 @@
 mod AnyCases
 mod CalledCases
 mod ClassCases
+mod LineCases
 pub mod AnyPages
 pub mod BodyPages
 pub mod OwnParagraphs
 pub mod PlacedBlocks
 pub mod PlacedSpots
 pub mod PlacedLines
+pub mod PlacedAmong
 mod PlacedCases
 pub mod TakenParagraphs
 mod Cases

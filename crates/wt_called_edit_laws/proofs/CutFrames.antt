@@ -321,7 +321,7 @@ mutual
   all_filled_same b c e no_nodes = refl
   all_filled_same b c e (more_nodes f fs) = ap₂ more (filled_same b c e f) (all_filled_same b c e fs)
 
-block_is : (t : ℕ → ItemTree) (n : ℕ) → cut_texts (block_alone t n) ≡ block_at t n
+pub block_is : (t : ℕ → ItemTree) (n : ℕ) → cut_texts (block_alone t n) ≡ block_at t n
 block_is t n =
     sym (texts_same (with_numbers 0 (placed [] (t n))) ∙ ap cut_texts (numbers_gone 0 (placed [] (t n))))
 

@@ -6,12 +6,13 @@ use Rattle.wt_devices.specs.Device.{Pages}
 use Rattle.wt_tree.specs.Plain.{ended, plains_before}
 use Rattle.wt_tree.specs.Source.{flat_of_all}
 use Rattle.wt_tree.specs.Tiling.{TiledFrom}
-use Rattle.wt_tree.specs.Tree.{Tree, tree, Trees}
+use Rattle.wt_tree.specs.Tree.{Tree, tree, Trees, label}
 use Rattle.wt_span.specs.Origins.{OuterCall}
 use Rattle.wt_checks.specs.Kept.{children}
 use Rattle.wt_expand.specs.PageCalls.{expanded_page}
 use Rattle.wt_annotated.specs.Annotated.{annotated}
 use Rattle.wt_annotated.specs.GroupData.{group_data}
+use Rattle.wt_annotated.specs.Numbering.{next_after}
 use Rattle.wt_annotated.specs.Reached.{reached_in_all}
 use Rattle.wt_annotated.specs.Slices.{IsSlice}
 use Rattle.wt_part_laws.specs.Frames.{all_places, content}
@@ -49,7 +50,7 @@ use Rattle.wt_called_edit_laws.proofs.Leads.{all_stand, edit_at, edited_there}
 use Rattle.wt_called_edit_laws.proofs.NodeGaps.{AreThePage, have_sources, filled_page, gaps_so, numbers_so}
 use Rattle.wt_called_edit_laws.proofs.PageBody.{IsBodyOf, page_body}
 use Rattle.wt_called_edit_laws.proofs.PagesSettled.{called_settled}
-use Rattle.wt_called_edit_laws.proofs.TextsUntangled.{edit_untangled}
+use Rattle.wt_called_edit_laws.proofs.TextsUntangled.{edit_untangled, body_settled}
 
 -- ---- each block is a paragraph or a heading
 
@@ -192,9 +193,11 @@ well_sent pages ss behind f es h e =
       taken = all_taken ss os f.nodes es spots_made sends;
       lie = lie;
       apart =
-          edit_untangled (expanded_page pages page) page (edit_at os) (block_at (tree_by ss)) ss f.nodes es (have_sources (tree_by ss) (spots f.nodes)) f.inner_nodes
+          edit_untangled (expanded_page pages page) page (edit_at os) (block_at (tree_by ss)) ss content f.nodes es (next_after (label t).kind 1)
+          (have_sources (tree_by ss) (spots f.nodes)) f.inner_nodes f.holders
           (gaps_so ss behind f.nodes f.in_order contents (are_the_page pages ss behind f)) (numbers_so ss f.nodes f.in_order)
-          (blocks_untangled pages ss behind h.outside.among) sends old lie;
+          (blocks_untangled pages ss behind h.outside.among) sends old
+          (e.old ∙ body_settled t (all_filled (block_at (tree_by ss)) f.nodes) body.kind (called_settled pages page) (ap length body.opening) (f.stay ss (retyped_self ss))) lie;
       new = nodes_made.sources ∙ nodes_source pages ss rs behind f again;
       shows =
           let us : Trees = children (spots_tree pages rs behind) in

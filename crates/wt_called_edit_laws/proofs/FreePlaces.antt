@@ -14,7 +14,6 @@ use Rattle.wt_annotated.specs.WithoutCalls.{inside_by}
 use Rattle.wt_annotated.proofs.Seams.{text_append_from}
 use Rattle.wt_part_laws.specs.Frames.{Frame, place, whole, around, Frames, no_frames, more_frames, tree_at, trees_at, places_in, all_places, Part, content, IsFrame, AreFrames}
 use Rattle.wt_part_laws.specs.Rounded.{AreOwn, IsClean, AreClean, body_of}
-use Rattle.wt_part_laws.proofs.FrameEnds.{own_split}
 use Rattle.wt_part_laws.proofs.FramesWalked.{no_leaf}
 use Rattle.wt_part_laws.proofs.OwnWalks.{text_own}
 use Rattle.wt_called_edit_laws.proofs.CutFrames.{no_group_round}
@@ -76,30 +75,44 @@ mutual
 
 -- ---- each place is within the nodes
 
-bytes_split : (t : ℕ → ItemTree) (ms ns : List ℕ) → HaveBytes t (ms ++ ns) → HaveBytes t ms × HaveBytes t ns
-bytes_split t [] ns h = (tt, h)
-bytes_split t (m ∷ ms) ns h = let r = bytes_split t ms ns h.1 in ((h.0, r.0), r.1)
-
 abbrev size : List OuterCall → Option ℕ → List Item → ℕ
 size calls o xs = length (text_from calls o xs)
 
 size_both : (calls : List OuterCall) (o : Option ℕ) (xs ys : List Item) → size calls o (xs ++ ys) ≡ size calls o xs + size calls (last_of o xs) ys
 size_both calls o xs ys = ap length (text_append_from calls o xs ys) ∙ length-append (text_from calls o xs) (text_from calls (last_of o xs) ys)
 
+-- something is on the page for each of these blocks, whatever is before it
+abbrev pub HaveLengths : List OuterCall → (ℕ → ItemTree) → List ℕ → Type 0
+HaveLengths calls t [] = Unit {0}
+HaveLengths calls t (n ∷ ns) = ((o : Option ℕ) → 0 < length (text_from calls o (tree_items (t n)))) × HaveLengths calls t ns
+
+lengths_split : (calls : List OuterCall) (t : ℕ → ItemTree) (ms ns : List ℕ) → HaveLengths calls t (ms ++ ns) → HaveLengths calls t ms × HaveLengths calls t ns
+lengths_split calls t [] ns h = (tt, h)
+lengths_split calls t (m ∷ ms) ns h = let r = lengths_split calls t ms ns h.1 in ((h.0, r.0), r.1)
+
+own_lengths : (calls : List OuterCall) (t : ℕ → ItemTree) (ns : List ℕ) → AreOwn t ns → HaveBytes t ns → HaveLengths calls t ns
+own_lengths calls t [] w h = tt
+own_lengths calls t (n ∷ ns) w h = (
+  (λ o.
+      let some : 0 < length (sources (tree_items (t n))) = h.0 in
+      let same : size calls o (tree_items (t n)) ≡ length (sources (tree_items (t n))) = ap length (text_own calls o (tree_items (t n)) w.0.of_page) in
+      omega (arith, some, same)),
+  own_lengths calls t ns w.1 h.1,
+)
+
 abbrev IsWithin : ℕ → ℕ → ℕ → Type 0
 IsWithin from n b = (from ≤ b) × (b < from + n)
 
 mutual
-  place_within : (calls : List OuterCall) (t : ℕ → ItemTree) (o : Option ℕ) (at : ℕ) (f : Frame) → AreOwn t (places_in f) → HaveBytes t (places_in f)
+  place_within : (calls : List OuterCall) (t : ℕ → ItemTree) (o : Option ℕ) (at : ℕ) (f : Frame) → HaveLengths calls t (places_in f)
       → AtPlace (IsWithin at (size calls o (tree_items (tree_at t f)))) calls t o at f
-  place_within calls t o at (place n) w h =
-      let some : 0 < length (sources (tree_items (t n))) = h.0 in
-      let same : size calls o (tree_items (t n)) ≡ length (sources (tree_items (t n))) = ap length (text_own calls o (tree_items (t n)) w.0.of_page) in
+  place_within calls t o at (place n) h =
+      let some : 0 < size calls o (tree_items (t n)) = h.0 o in
       let low : at ≤ at = omega arith in
-      let high : at < at + size calls o (tree_items (t n)) = omega (arith, some, same) in
+      let high : at < at + size calls o (tree_items (t n)) = omega (arith, some) in
       (low, high)
-  place_within calls t o at (whole u) w h = tt
-  place_within calls t o at (around j q gs c) w h =
+  place_within calls t o at (whole u) h = tt
+  place_within calls t o at (around j q gs c) h =
       let inner_items : List Item = held_by_all (forest (trees_at t gs)) in
       let from : ℕ = at + size calls o q in
       let n : ℕ = size calls (last_of o q) inner_items in
@@ -110,25 +123,24 @@ mutual
       let low : at ≤ b = omega (arith, k.0) in
       let high : b < at + size calls o (q ++ (inner_items ++ c)) = omega (arith, k.1, one, two) in
       (low, high))
-      (places_within calls t (last_of o q) from gs w h)
+      (places_within calls t (last_of o q) from gs h)
 
-  places_within : (calls : List OuterCall) (t : ℕ → ItemTree) (o : Option ℕ) (at : ℕ) (fs : Frames) → AreOwn t (all_places fs) → HaveBytes t (all_places fs)
+  places_within : (calls : List OuterCall) (t : ℕ → ItemTree) (o : Option ℕ) (at : ℕ) (fs : Frames) → HaveLengths calls t (all_places fs)
       → AtPlaces (IsWithin at (size calls o (held_by_all (forest (trees_at t fs))))) calls t o at fs
-  places_within calls t o at no_frames w h = tt
-  places_within calls t o at (more_frames f fs) w h =
+  places_within calls t o at no_frames h = tt
+  places_within calls t o at (more_frames f fs) h =
       let own : List Item = tree_items (tree_at t f) in
       let rest : List Item = held_by_all (forest (trees_at t fs)) in
       let all : size calls o (own ++ rest) ≡ size calls o own + size calls (last_of o own) rest = size_both calls o own rest in
-      let v = own_split t (places_in f) (all_places fs) w in
-      let k = bytes_split t (places_in f) (all_places fs) h in (
+      let k = lengths_split calls t (places_in f) (all_places fs) h in (
         map_place (IsWithin at (size calls o own)) (IsWithin at (size calls o (own ++ rest))) calls t o at f
-            (λ b x. let high : b < at + size calls o (own ++ rest) = omega (arith, x.1, all) in (x.0, high)) (place_within calls t o at f v.0 k.0),
+            (λ b x. let high : b < at + size calls o (own ++ rest) = omega (arith, x.1, all) in (x.0, high)) (place_within calls t o at f k.0),
         map_places (IsWithin (at + size calls o own) (size calls (last_of o own) rest)) (IsWithin at (size calls o (own ++ rest))) calls t (last_of o own) (at + size calls o own) fs
             (λ b x.
             let low : at ≤ b = omega (arith, x.0) in
             let high : b < at + size calls o (own ++ rest) = omega (arith, x.1, all) in
             (low, high))
-            (places_within calls t (last_of o own) (at + size calls o own) fs v.1 k.1),
+            (places_within calls t (last_of o own) (at + size calls o own) fs k.1),
       )
 
 -- ---- clean nodes
@@ -162,10 +174,10 @@ inside_free calls b o at p k q c ts group leaf h =
 
 mutual
   frame_clean : (calls : List OuterCall) (t : ℕ → ItemTree) (o : Option ℕ) (at : ℕ) (f : Frame) (p : Option ℕ) (part : Part) → IsFrame f part → HoldsPlace f
-      → AreOwn t (places_in f) → HaveBytes t (places_in f) → AtPlace (λ b. IsFreeAt calls b (child calls t o at f p)) calls t o at f → IsClean t o f p
-  frame_clean calls t o at (place n) p part i a w h g = tt
-  frame_clean calls t o at (whole u) p part i a w h g = tt
-  frame_clean calls t o at (around k q gs c) p part i a w h g =
+      → HaveLengths calls t (places_in f) → AtPlace (λ b. IsFreeAt calls b (child calls t o at f p)) calls t o at f → IsClean t o f p
+  frame_clean calls t o at (place n) p part i a h g = tt
+  frame_clean calls t o at (whole u) p part i a h g = tt
+  frame_clean calls t o at (around k q gs c) p part i a h g =
       let u : ItemTree = tree_at t (around k q gs c) in
       let x : Option ℕ = last_of o q in
       let from : ℕ = at + size calls o q in
@@ -174,36 +186,40 @@ mutual
       let R : ℕ → Type 0 = λ b. (clean_at o p u ≡ true) × NoGroupAt b (walked calls (group_data calls) o at p u) in
       let all : AtPlaces R calls t x from gs =
       map_places (λ b. F b × N b) R calls t x from gs (λ b y. y.0 y.1)
-      (both_places F N calls t x from gs g (place_within calls t o at (around k q gs c) w h)) in (
+      (both_places F N calls t x from gs g (place_within calls t o at (around k q gs c) h)) in (
         some_place R (clean_at o p u ≡ true) calls t x from gs (λ b y. y.0) a.0 all,
-        frames_clean calls t x from gs (first_of c p) i.0 i.2 a.1 w h
+        frames_clean calls t x from gs (first_of c p) i.0 i.2 a.1 h
             (map_places R (λ b. AreFreeAt calls b (near calls (group_data calls) x from (first_of c p) (forest (trees_at t gs)))) calls t x from gs
             (λ b y. inside_free calls b o at p k q c (trees_at t gs) (no_group_round part i.0 k.kind i.1) (no_leaf part i.0 k.kind i.1) y.1) all),
       )
 
   frames_clean : (calls : List OuterCall) (t : ℕ → ItemTree) (o : Option ℕ) (at : ℕ) (fs : Frames) (p : Option ℕ) (part : Part) → AreFrames fs part → HoldPlaces fs
-      → AreOwn t (all_places fs) → HaveBytes t (all_places fs)
+      → HaveLengths calls t (all_places fs)
       → AtPlaces (λ b. AreFreeAt calls b (near calls (group_data calls) o at p (forest (trees_at t fs)))) calls t o at fs → AreClean t o fs p
-  frames_clean calls t o at no_frames p part i a w h g = tt
-  frames_clean calls t o at (more_frames f fs) p part i a w h g =
+  frames_clean calls t o at no_frames p part i a h g = tt
+  frames_clean calls t o at (more_frames f fs) p part i a h g =
       let own : List Item = tree_items (tree_at t f) in
       let next : Option ℕ = first_of (held_by_all (forest (trees_at t fs))) p in
       let A : ℕ → Type 0 = λ b. AreFreeAt calls b (near calls (group_data calls) o at p (forest (trees_at t (more_frames f fs)))) in
-      let v = own_split t (places_in f) (all_places fs) w in
-      let z = bytes_split t (places_in f) (all_places fs) h in (
-        frame_clean calls t o at f next part i.0 a.0 v.0 z.0 (map_place A (λ b. IsFreeAt calls b (child calls t o at f next)) calls t o at f (λ b y. y.0) g.0),
-        frames_clean calls t (last_of o own) (at + size calls o own) fs p part i.1 a.1 v.1 z.1
+      let z = lengths_split calls t (places_in f) (all_places fs) h in (
+        frame_clean calls t o at f next part i.0 a.0 z.0 (map_place A (λ b. IsFreeAt calls b (child calls t o at f next)) calls t o at f (λ b y. y.0) g.0),
+        frames_clean calls t (last_of o own) (at + size calls o own) fs p part i.1 a.1 z.1
             (map_places A (λ b. AreFreeAt calls b (near calls (group_data calls) (last_of o own) (at + size calls o own) p (forest (trees_at t fs)))) calls t
             (last_of o own) (at + size calls o own) fs (λ b y. y.1) g.1),
       )
 
 -- ---- the page
 
-pub clean_where_free : (calls : List OuterCall) (fs : Frames) (t : ℕ → ItemTree) → CleanWhereFree calls fs t
-clean_where_free calls fs t i a w h g =
+-- whatever blocks are at the places, if there is something of each on the page
+pub clean_round : (calls : List OuterCall) (fs : Frames) (t : ℕ → ItemTree) → AreFrames fs content → HoldPlaces fs → HaveLengths calls t (all_places fs)
+    → AtPlaces (λ b. NoGroupAt b (annotated calls (group_data calls) (body_of (trees_at t fs)))) calls t None 0 fs → AreClean t None fs None
+clean_round calls fs t i a h g =
     let body : ItemTree = body_of (trees_at t fs) in
     let G : ℕ → Type 0 = λ b. NoGroupAt b (annotated calls (group_data calls) body) in
     let A : ℕ → Type 0 = λ b. AreFreeAt calls b (near calls (group_data calls) None 0 None (forest (trees_at t fs))) in
-    frames_clean calls t None 0 fs None content i a w h
+    frames_clean calls t None 0 fs None content i a h
     (map_places G A calls t None 0 fs
     (λ b y. children_free calls (group_data calls) b None 0 None (forest (trees_at t fs)) (walk_free calls (group_data calls) body b y)) g)
+
+pub clean_where_free : (calls : List OuterCall) (fs : Frames) (t : ℕ → ItemTree) → CleanWhereFree calls fs t
+clean_where_free calls fs t i a w h g = clean_round calls fs t i a (own_lengths calls t (all_places fs) w h) g

@@ -26,6 +26,7 @@ use Rattle.wt_called_edit_laws.specs.Retyped.{AreRetyped}
 use Rattle.wt_called_edit_laws.proofs.Parts.Retyped.{typed_again}
 use Rattle.wt_part_laws.specs.Rounded.{AreOwn}
 use Rattle.wt_part_laws.proofs.FrameEnds.{held}
+use Rattle.wt_part_laws.proofs.HeldBlocks.{all_own_hold}
 use Rattle.wt_called_edit_laws.specs.CalledBlocks.{AreAmongCalls, StandAmongCalls, tree_by, counted}
 use Rattle.wt_called_edit_laws.proofs.Cells.CalledFrames.{among_contents, stand_among}
 use Rattle.wt_called_edit_laws.proofs.Cells.PlaceGaps.{Gaps, last_gap, then_gap, numbers_in, fill, source_at, sources_at, own_sources, FillsAll, AreSame, same_gaps, sources_counted, count_counted, many_by, self_round, AtPlaces as AtGaps}
@@ -37,7 +38,7 @@ use Rattle.wt_called_edit_laws.proofs.CalledUtf8.{called_utf8, retyped}
 use Rattle.wt_called_edit_laws.proofs.FreePlaces.{clean_where_free}
 use Rattle.wt_called_edit_laws.proofs.GroupsAmong.{calls_same, retyped_self}
 use Rattle.wt_called_edit_laws.proofs.OwnBlocks.{counted_own}
-use Rattle.wt_called_edit_laws.proofs.PlaceBytes.{text_gaps, all_numbers, all_fill, gaps_same, gap_places}
+use Rattle.wt_called_edit_laws.proofs.PlaceBytes.{text_gaps, all_numbers, own_texts, all_fill, gaps_same, gap_places}
 use Rattle.wt_called_edit_laws.proofs.Squashed.{all_squashed, trees_squashed, places_squashed, frames_squashed, squashed_hold}
 use Rattle.wt_called_edit_laws.proofs.TextsUntangled.{AreThere, all_there}
 
@@ -47,7 +48,7 @@ para_some : (q : List ℕ) → IsContent a_paragraph q → 0 < length q
 para_some [] h = absurd (paragraph_some [] h refl)
 para_some (b ∷ bs) h = omega arith
 
-signs_some : (n : ℕ) (lead rest : List ℕ) → 1 ≤ n → 0 < length ((equals n ++ lead) ++ rest)
+pub signs_some : (n : ℕ) (lead rest : List ℕ) → 1 ≤ n → 0 < length ((equals n ++ lead) ++ rest)
 signs_some zero lead rest h = absurd (omega (arith, h))
 signs_some (suc n) lead rest h = omega arith
 
@@ -104,15 +105,16 @@ fills_page pages ss behind h f free rs e b o =
     let was = own_places pages ss ss behind f (self_round ss) (among_contents pages ss behind h) in
     let now = own_places pages ss rs behind f e b in
     let g : Gaps = text_gaps others (tree_by rs) None f.frames (last_gap []) in
-    ap (fill (own_sources rs)) (gaps_same calls others (calls_same pages ss rs behind h t) (tree_by ss) (tree_by rs) None f.frames (last_gap []) (last_gap []) was now refl)
+    ap (fill (own_sources rs)) (gaps_same calls others (calls_same pages ss rs behind h t) (tree_by ss) (tree_by rs) None f.frames (last_gap []) (last_gap [])
+    (all_own_hold (tree_by ss) (all_places f.frames) was) (all_own_hold (tree_by rs) (all_places f.frames) now) refl)
     ∙ ap (λ (ts : List (List ℕ)). fill ts g) (sym (ap (λ (is : List ℕ). sources_at (tree_by rs) is []) (f.in_order ∙ sym (counted_same ss rs e)) ∙ sources_counted rs))
-    ∙ all_fill others (tree_by rs) None f.frames (last_gap []) [] now
+    ∙ all_fill others (tree_by rs) (tree_by rs) None f.frames (last_gap []) [] (own_texts others (tree_by rs) (all_places f.frames) now)
     ∙ append-nil (text_from others None (held (tree_by rs) f.frames))
     ∙ page_text pages ss rs behind h f free t
 
 -- ---- the blocks' first bytes
 
-block_places : (u : Tree) (t : ℕ → ItemTree) (front : List ℕ) (g : Gaps) (ss : List BlockSpot) (at : ℕ) → at ≡ length front → AreSame g ss
+pub block_places : (u : Tree) (t : ℕ → ItemTree) (front : List ℕ) (g : Gaps) (ss : List BlockSpot) (at : ℕ) → at ≡ length front → AreSame g ss
     → AreThere t (numbers_in g) ss → AreInNoGroup at ss u → AtGaps (λ bs n. NoGroupAt (length bs) u) t front g
 block_places u t front (last_gap xs) ss at i m a h = tt
 block_places u t front (then_gap xs n g) [] at i m a h = absurd m
@@ -149,7 +151,7 @@ page_outside pages ss behind h free g =
     let numbers : numbers_in gaps ≡ counted ss = all_numbers calls t None fs (last_gap []) ∙ append-nil (all_places fs) ∙ f.in_order in
     let same : AreSame gaps ss =
     same_gaps gaps ss behind (many_by gaps ss (ap length numbers ∙ count_counted ss)) blocks (fills_page pages ss behind h f free) in
-    let at = gap_places (λ b. NoGroupAt b u) calls t None 0 [] fs (last_gap []) own refl
+    let at = gap_places (λ b. NoGroupAt b u) calls t t None 0 [] fs (last_gap []) (own_texts calls t (all_places fs) own) refl
     (block_places u t [] gaps ss 0 refl same (subst (λ (ns : List ℕ). AreThere t ns ss) (sym numbers) (all_there ss)) inside) in
     record {
       outside = record {

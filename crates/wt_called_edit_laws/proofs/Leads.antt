@@ -110,7 +110,7 @@ mutual
   all_full nothing g = tt
   all_full (further t ts) g = let r = full_so t g.0 in (r.0, r.1, all_full ts g.1)
 
-plain_so : (t : ItemTree) → IsOwn t → ArePlain (t ∷ [])
+pub plain_so : (t : ItemTree) → IsOwn t → ArePlain (t ∷ [])
 plain_so t h =
     let r = full_so t h.has_items in
     record { of_page = both_of_page (tree_items t ++ []) [] (both_of_page (tree_items t) [] h.of_page refl) refl; none_empty = (r.0, r.1, tt) }
@@ -254,7 +254,7 @@ edit_at [] n = None
 edit_at (o ∷ os) zero = o
 edit_at (o ∷ os) (suc n) = edit_at os n
 
-there_moved : (o : ℕ → Option Edited) (es : Edits) (ns : List ℕ) (ps : List (List ℕ)) → AreEditedThere (λ n. o (suc n)) es ns ps → AreEditedThere o es (map suc ns) ps
+pub there_moved : (o : ℕ → Option Edited) (es : Edits) (ns : List ℕ) (ps : List (List ℕ)) → AreEditedThere (λ n. o (suc n)) es ns ps → AreEditedThere o es (map suc ns) ps
 there_moved o es [] ps h = tt
 there_moved o es (n ∷ ns) [] h = h
 there_moved o es (n ∷ ns) (p ∷ ps) h = (h.0, there_moved o es ns ps h.1)

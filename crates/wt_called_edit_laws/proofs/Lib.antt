@@ -28,6 +28,7 @@ pub mod CallsTake
 pub mod TextsTaken
 pub mod BareInsides
 mod SettledCases
+pub mod SettledNodes
 pub mod Settles
 pub mod SettledPages
 pub mod SpotSources
@@ -45,10 +46,19 @@ pub mod GroupsOfPage
 pub mod BlocksOutside
 pub mod Parts
 pub mod Written
+pub mod Whole
 pub mod CallingGroups
 pub mod CallingPages
 pub mod CallingGaps
 pub mod CallingApart
 pub mod CallingSent
+pub mod CallingMade
+pub mod CallingChosen
+pub mod CallingTaken
+pub mod CallingOutside
+pub mod EditableBlocks
+pub mod SettledEdits
+pub mod Beside
 pub mod Cells
+pub mod Among
 pub mod Told

@@ -53,7 +53,7 @@ places_still : (os : List (Option ℕ)) → os ≡ map (moved_place 0) os
 places_still [] = refl
 places_still (o ∷ os) = ap₂ (λ (x : Option ℕ) (xs : List (Option ℕ)). x ∷ xs) (place_still o) (places_still os)
 
-moved_still : (c : OuterCall) → c ≡ moved_call 0 c
+pub moved_still : (c : OuterCall) → c ≡ moved_call 0 c
 moved_still c =
     ap (λ (i : ℕ). placed_call c i c.parts c.equals) (nothing c.start)
     ∙ ap₂ (λ (ps : List Span) (os : List (Option ℕ)). placed_call c (0 + c.start) ps os) (spans_still c.parts) (places_still c.equals)

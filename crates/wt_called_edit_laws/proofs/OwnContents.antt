@@ -26,28 +26,28 @@ use Rattle.wt_called_edit_laws.proofs.TextContents.{as_contents}
 
 -- ---- other pieces in the place of those that were sent
 
-abbrev with_pieces : Option Pieces → Block → Label → Label → Pieces → Edited
+abbrev pub with_pieces : Option Pieces → Block → Label → Label → Pieces → Edited
 with_pieces None k l m ps = edited k l m ps
 with_pieces (Some qs) k l m ps = edited k l m qs
 
 abbrev mutual
-  changed : Choice → Edited → Edited
+  pub changed : Choice → Edited → Edited
   changed at (stays t u) = stays t u
   changed at (edited k l m ps) = with_pieces (at []) k l m ps
   changed at (round l m es) = round l m (all_changed at es)
 
-  all_changed : Choice → Edits → Edits
+  pub all_changed : Choice → Edits → Edits
   all_changed at no_edits = no_edits
   all_changed at (more_edits e es) = more_edits (changed (λ is. at (zero ∷ is)) e) (all_changed (λ p. at (past_first p)) es)
 
 -- ---- what is sent at a path
 
-abbrev with_one : Option Pieces → Edited → Edited
+abbrev pub with_one : Option Pieces → Edited → Edited
 with_one c (stays t u) = stays t u
 with_one c (edited k l m ps) = with_pieces c k l m ps
 with_one c (round l m es) = round l m es
 
-abbrev with_chosen : Option Pieces → Option Edited → Option Edited
+abbrev pub with_chosen : Option Pieces → Option Edited → Option Edited
 with_chosen c None = None
 with_chosen c (Some e) = Some (with_one c e)
 
@@ -72,7 +72,7 @@ mutual
   among_changed at zero is (more_edits e es) = at_changed (λ js. at (zero ∷ js)) is e
   among_changed at (suc i) is (more_edits e es) = among_changed (λ p. at (past_first p)) i is es
 
-by_changed : (at : Choice) (es : Edits) (p : List ℕ) → edited_by (all_changed at es) p ≡ with_chosen (at p) (edited_by es p)
+pub by_changed : (at : Choice) (es : Edits) (p : List ℕ) → edited_by (all_changed at es) p ≡ with_chosen (at p) (edited_by es p)
 by_changed at es [] = refl
 by_changed at es (i ∷ is) = among_changed at i is es
 
@@ -90,7 +90,7 @@ mutual
       pieces_page (at []) k l m ps ts (same_inside (record l { kind = kind_of k }) n (page_pieces ps) ts is) h.0
   same_one at (round l m es) (tree n ts) is h = ap (tree l) (same_all at es ts (same_inside l n (page_nodes es) ts is) h.1)
 
-  same_all : (at : Choice) (es : Edits) (ts : Trees) → page_nodes es ≡ ts → AreChosenIn at ts → page_nodes (all_changed at es) ≡ page_nodes es
+  pub same_all : (at : Choice) (es : Edits) (ts : Trees) → page_nodes es ≡ ts → AreChosenIn at ts → page_nodes (all_changed at es) ≡ page_nodes es
   same_all at no_edits ts is h = refl
   same_all at (more_edits e es) none is h = absurd (cc)
   same_all at (more_edits e es) (more t ts) is h =
@@ -110,7 +110,7 @@ mutual
   one_edited at (edited k l m ps) (tree n ts) is h g = pieces_edited (at []) k l m ps ts h.0 g
   one_edited at (round l m es) (tree n ts) is h g = (g.0, all_edited at es ts (same_inside l n (page_nodes es) ts is) h.1 g.1)
 
-  all_edited : (at : Choice) (es : Edits) (ts : Trees) → page_nodes es ≡ ts → AreChosenIn at ts → AreEdited es → AreEdited (all_changed at es)
+  pub all_edited : (at : Choice) (es : Edits) (ts : Trees) → page_nodes es ≡ ts → AreChosenIn at ts → AreEdited es → AreEdited (all_changed at es)
   all_edited at no_edits ts is h g = tt
   all_edited at (more_edits e es) none is h g = absurd (cc)
   all_edited at (more_edits e es) (more t ts) is h g = (
@@ -129,7 +129,7 @@ mutual
   one_only at (edited k l m ps) qs h = pieces_only (at []) k l m ps qs h
   one_only at (round l m es) qs h = (h.0, all_only at es qs h.1)
 
-  all_only : (at : Choice) (es : Edits) (qs : List (List ℕ)) → AllEditOnly qs es → AllEditOnly qs (all_changed at es)
+  pub all_only : (at : Choice) (es : Edits) (qs : List (List ℕ)) → AllEditOnly qs es → AllEditOnly qs (all_changed at es)
   all_only at no_edits qs h = tt
   all_only at (more_edits e es) qs h =
       (one_only (λ js. at (zero ∷ js)) e (first_paths qs) h.0, all_only (λ p. at (past_first p)) es (other_paths qs) h.1)
@@ -178,12 +178,12 @@ all_fit at (s ∷ ss) (p ∷ ps) t es h is f g = (
 -- ---- which are the chosen ones
 
 -- where others are chosen, nothing is typed first
-abbrev emptied : Option Pieces → Option (List ℕ)
+abbrev pub emptied : Option Pieces → Option (List ℕ)
 emptied None = None
 emptied (Some ps) = Some []
 
 -- a text is typed just where a content is edited
-abbrev Agree : Option (List ℕ) → Option Edited → Type 0
+abbrev pub Agree : Option (List ℕ) → Option Edited → Type 0
 Agree None None = Unit {0}
 Agree None (Some e) = ⊥
 Agree (Some text) None = ⊥
@@ -204,7 +204,7 @@ mutual
   agree_among zero is (more_sent s ss) = agree_to is s
   agree_among (suc i) is (more_sent s ss) = agree_among i is ss
 
-agree_by : (ss : Sents) (p : List ℕ) → Agree (typed_by ss p) (edited_by (as_edits ss) p)
+pub agree_by : (ss : Sents) (p : List ℕ) → Agree (typed_by ss p) (edited_by (as_edits ss) p)
 agree_by ss [] = tt
 agree_by ss (i ∷ is) = agree_among i is ss
 
@@ -218,7 +218,7 @@ chosen_is (Some ps) (Some text) (Some (stays t u)) a e = absurd a
 chosen_is (Some ps) (Some text) (Some (edited k l m qs)) a e = refl
 chosen_is (Some ps) (Some text) (Some (round l m es)) a e = absurd a
 
-all_chosen : (at : Choice) (ss : Sents) (ps : List (List ℕ)) → map (typed_by ss) ps ≡ map (λ p. emptied (at p)) ps
+pub all_chosen : (at : Choice) (ss : Sents) (ps : List (List ℕ)) → map (typed_by ss) ps ≡ map (λ p. emptied (at p)) ps
     → map (λ p. pieces_of (edited_by (all_changed at (as_edits ss)) p)) ps ≡ map at ps
 all_chosen at ss [] e = refl
 all_chosen at ss (p ∷ ps) e =
@@ -238,7 +238,7 @@ nothing_fits : (k : TextBlock) → Takes (block_of k) []
 nothing_fits a_paragraph = tt
 nothing_fits (a_heading s) = refl
 
-spot_typed : (k : TextBlock) (c : Option Pieces) → IsTypedSpot k (emptied c)
+pub spot_typed : (k : TextBlock) (c : Option Pieces) → IsTypedSpot k (emptied c)
 spot_typed k None = tt
 spot_typed k (Some ps) = (nothing_utf8, nothing_fits k)
 

@@ -31,7 +31,7 @@ use Rattle.wt_called_edit_laws.proofs.Parts.Retyped.{is_by_parts}
 
 -- ---- the page's own items come from no call
 
-abbrev OwnPage : List Stretch → Type 0
+abbrev pub OwnPage : List Stretch → Type 0
 OwnPage [] = Unit {0}
 OwnPage (own xs ∷ ss) = AllFrom None xs × OwnPage ss
 OwnPage (outer c xs ∷ ss) = OwnPage ss
@@ -43,7 +43,7 @@ own_append (own xs ∷ ss) ts f g = (f.0, own_append ss ts f.1 g)
 own_append (outer c xs ∷ ss) ts f g = own_append ss ts f g
 own_append (text_call s ∷ ss) ts f g = own_append ss ts f g
 
-lexeme_own : (m : Mode) (kind : LexKind) (bs : List ℕ) → AllFrom None (lexeme_items m kind bs)
+pub lexeme_own : (m : Mode) (kind : LexKind) (bs : List ℕ) → AllFrom None (lexeme_items m kind bs)
 lexeme_own m kind bs = by (is_removed m kind)
   where
     by : (t : Bool) → AllFrom None (if t then [] else items_by (form_of kind bs) None bs)
@@ -63,7 +63,7 @@ own_call text r start at k source ms ps os inside h = (
 )
 
 mutual
-  own_one : (r : Reading) (at : ℕ) (start : Bool) (bs : List ℕ) (m : Member) → OwnPage (stretches_of r at start bs m)
+  pub own_one : (r : Reading) (at : ℕ) (start : Bool) (bs : List ℕ) (m : Member) → OwnPage (stretches_of r at start bs m)
   own_one r at start bs (lexeme (kind, n)) = (lexeme_own r.mode kind (take n bs), tt)
   own_one r at start bs (call k ms) =
       let os = outputs_of r false (drop k bs) ms in
@@ -72,29 +72,29 @@ mutual
       own_call (called k source (target_part ps).items) r start at k source ms ps os
       (all_stretches r (at + k) false (drop k bs) ms) (own_all r (at + k) false (drop k bs) ms)
 
-  own_all : (r : Reading) (at : ℕ) (start : Bool) (bs : List ℕ) (ms : Members) → OwnPage (all_stretches r at start bs ms)
+  pub own_all : (r : Reading) (at : ℕ) (start : Bool) (bs : List ℕ) (ms : Members) → OwnPage (all_stretches r at start bs ms)
   own_all r at start bs none = tt
   own_all r at start bs (more m ms) =
       let next = is_break (slice_index bs (width m - 1)) in
       own_append (stretches_of r at start bs m) (all_stretches r (at + width m) next (drop (width m) bs) ms)
       (own_one r at start bs m) (own_all r (at + width m) next (drop (width m) bs) ms)
 
-own_page : (pages : Pages) (bs : List ℕ) → OwnPage (page_stretches pages bs)
+pub own_page : (pages : Pages) (bs : List ℕ) → OwnPage (page_stretches pages bs)
 unfolding page_stretches
 own_page pages bs = own_all (page_reading pages) 0 true bs (text_members mode.Page bs)
 
 -- ---- what is on the page for items of one origin
 
-own_text : (calls : List OuterCall) (o : Option ℕ) (xs : List Item) → AllFrom None xs → text_from calls o xs ≡ sources xs
+pub own_text : (calls : List OuterCall) (o : Option ℕ) (xs : List Item) → AllFrom None xs → text_from calls o xs ≡ sources xs
 own_text calls o [] h = refl
 own_text calls o (x ∷ xs) h = ap₂ (λ us vs. us ++ vs) (behind_page calls o x h.0) (own_text calls (call_of x) xs h.1)
 
-same_text : (calls : List OuterCall) (o : Option ℕ) (k : ℕ) (xs : List Item) → o ≡ Some k → AllFrom (Some k) xs → text_from calls o xs ≡ []
+pub same_text : (calls : List OuterCall) (o : Option ℕ) (k : ℕ) (xs : List Item) → o ≡ Some k → AllFrom (Some k) xs → text_from calls o xs ≡ []
 same_text calls o k [] e h = refl
 same_text calls o k (x ∷ xs) e h = ap₂ (λ us vs. us ++ vs) (behind_same calls o k x e h.0) (same_text calls (call_of x) k xs h.0 h.1)
 
 -- from the page, or from one of so many calls
-abbrev IsBelow : ℕ → Option ℕ → Type 0
+abbrev pub IsBelow : ℕ → Option ℕ → Type 0
 IsBelow k None = Unit {0}
 IsBelow k (Some j) = j < k
 
@@ -107,29 +107,29 @@ behind_new : (calls : List OuterCall) (o : Option ℕ) (k : ℕ) (x : Item) → 
 behind_new calls o k x f e =
     ap (λ p. if not (same_call o p) then text_by calls p (source x) else []) e ∙ ap (λ t. if not t then source_of_call (slice_get calls k) else []) f
 
-call_text : (calls : List OuterCall) (o : Option ℕ) (k : ℕ) (z : Item) (zs : List Item) → IsBelow k o → AllFrom (Some k) (z ∷ zs)
+pub call_text : (calls : List OuterCall) (o : Option ℕ) (k : ℕ) (z : Item) (zs : List Item) → IsBelow k o → AllFrom (Some k) (z ∷ zs)
     → text_from calls o (z ∷ zs) ≡ source_of_call (slice_get calls k)
 call_text calls o k z zs b h =
     ap₂ (λ us vs. us ++ vs) (behind_new calls o k z (below_other k o b) h.0) (same_text calls (call_of z) k zs h.0 h.1)
     ∙ append-nil (source_of_call (slice_get calls k))
 
-called_from : (k : ℕ) (xs : List Item) → AllFrom (Some k) (map (from_call k) xs)
+pub called_from : (k : ℕ) (xs : List Item) → AllFrom (Some k) (map (from_call k) xs)
 called_from k [] = tt
 called_from k (char o b ∷ xs) = (refl, called_from k xs)
 called_from k (whole f o bs ∷ xs) = (refl, called_from k xs)
 
-outer_text : (calls : List OuterCall) (o : Option ℕ) (k : ℕ) (c : OuterCall) (xs : List Item) → IsBelow k o
+pub outer_text : (calls : List OuterCall) (o : Option ℕ) (k : ℕ) (c : OuterCall) (xs : List Item) → IsBelow k o
     → text_from calls o (outer_items k c xs) ≡ source_of_call (slice_get calls k)
 outer_text calls o k c [] b = call_text calls o k (whole form.EmptyCall (Some k) c.source) [] b (refl, tt)
 outer_text calls o k c (x ∷ xs) b = call_text calls o k (from_call k x) (map (from_call k) xs) b (called_from k (x ∷ xs))
 
 -- ---- the last item
 
-below_own : (k : ℕ) (o : Option ℕ) (xs : List Item) → IsBelow k o → AllFrom None xs → IsBelow k (last_of o xs)
+pub below_own : (k : ℕ) (o : Option ℕ) (xs : List Item) → IsBelow k o → AllFrom None xs → IsBelow k (last_of o xs)
 below_own k o [] b h = b
 below_own k o (x ∷ xs) b h = below_own k (call_of x) xs (subst (IsBelow k) (sym h.0) tt) h.1
 
-last_same : (k : ℕ) (o : Option ℕ) (xs : List Item) → o ≡ Some k → AllFrom (Some k) xs → last_of o xs ≡ Some k
+pub last_same : (k : ℕ) (o : Option ℕ) (xs : List Item) → o ≡ Some k → AllFrom (Some k) xs → last_of o xs ≡ Some k
 last_same k o [] e h = e
 last_same k o (x ∷ xs) e h = last_same k (call_of x) xs h.0 h.1
 
@@ -138,7 +138,7 @@ below_call k o z zs h =
     let it_is : k < suc k = omega arith in
     subst (IsBelow (suc k)) (sym (last_same k (call_of z) zs h.0 h.1)) it_is
 
-below_outer : (k : ℕ) (o : Option ℕ) (c : OuterCall) (xs : List Item) → IsBelow (suc k) (last_of o (outer_items k c xs))
+pub below_outer : (k : ℕ) (o : Option ℕ) (c : OuterCall) (xs : List Item) → IsBelow (suc k) (last_of o (outer_items k c xs))
 below_outer k o c [] = below_call k o (whole form.EmptyCall (Some k) c.source) [] (refl, tt)
 below_outer k o c (x ∷ xs) = below_call k o (from_call k x) (map (from_call k) xs) (called_from k (x ∷ xs))
 
@@ -149,7 +149,7 @@ abbrev pub AreSourcesAt : List OuterCall → ℕ → List OuterCall → Type 0
 AreSourcesAt calls k [] = Unit {0}
 AreSourcesAt calls k (c ∷ cs) = (source_of_call (slice_get calls k) ≡ c.source) × AreSourcesAt calls (suc k) cs
 
-joined : (calls : List OuterCall) (o : Option ℕ) (k : ℕ) (ss : List Stretch) → IsBelow k o → OwnPage ss → AreSourcesAt calls k (outer_calls ss)
+pub joined : (calls : List OuterCall) (o : Option ℕ) (k : ℕ) (ss : List Stretch) → IsBelow k o → OwnPage ss → AreSourcesAt calls k (outer_calls ss)
     → text_from calls o (numbered k ss) ≡ page_bytes ss
 joined calls o k [] b h s = refl
 joined calls o k (own xs ∷ ss) b h s =
@@ -173,7 +173,7 @@ source_moved d [] k = refl
 source_moved d (c ∷ calls) zero = refl
 source_moved d (c ∷ calls) (suc k) = source_moved d calls k
 
-sources_moved : (d : ℕ) (calls : List OuterCall) (k : ℕ) (cs : List OuterCall) → AreSourcesAt calls k cs → AreSourcesAt (map (moved_call d) calls) k cs
+pub sources_moved : (d : ℕ) (calls : List OuterCall) (k : ℕ) (cs : List OuterCall) → AreSourcesAt calls k cs → AreSourcesAt (map (moved_call d) calls) k cs
 sources_moved d calls k [] h = tt
 sources_moved d calls k (c ∷ cs) h = (source_moved d calls k ∙ h.0, sources_moved d calls (suc k) cs h.1)
 
@@ -181,13 +181,13 @@ one_past : (f : OuterCall) (calls : List OuterCall) (k : ℕ) (cs : List OuterCa
 one_past f calls k [] h = tt
 one_past f calls k (c ∷ cs) h = (h.0, one_past f calls (suc k) cs h.1)
 
-sources_past : (front calls : List OuterCall) (k : ℕ) (cs : List OuterCall) → AreSourcesAt calls k cs → AreSourcesAt (front ++ calls) (length front + k) cs
+pub sources_past : (front calls : List OuterCall) (k : ℕ) (cs : List OuterCall) → AreSourcesAt calls k cs → AreSourcesAt (front ++ calls) (length front + k) cs
 sources_past [] calls k cs h = let e : k ≡ 0 + k = omega arith in subst (λ i. AreSourcesAt calls i cs) e h
 sources_past (f ∷ front) calls k cs h =
     let e : suc (length front + k) ≡ suc (length front) + k = omega arith in
     subst (λ i. AreSourcesAt (f ∷ front ++ calls) i cs) e (one_past f (front ++ calls) (length front + k) cs (sources_past front calls k cs h))
 
-sources_first : (cs calls : List OuterCall) → AreSourcesAt (cs ++ calls) 0 cs
+pub sources_first : (cs calls : List OuterCall) → AreSourcesAt (cs ++ calls) 0 cs
 sources_first [] calls = tt
 sources_first (c ∷ cs) calls = (refl, one_past c (cs ++ calls) 0 cs (sources_first cs calls))
 

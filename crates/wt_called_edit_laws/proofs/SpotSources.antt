@@ -1,6 +1,5 @@
 -- The source of each block of a page, whatever calls it holds: what is on the page for its items.
 use Rattle.std.proofs.Common.{◌≡◌, ℕ, suc, None, List, [], ◌∷◌, ◌++◌, map, refl, sym, ap, ◌∙◌, subst, append-nil}
-use Rattle.std.specs.Str.{IsUtf8}
 use Rattle.wt_tree.specs.Source.{flat}
 use Rattle.wt_tree.specs.Tree.{Tree}
 use Rattle.wt_span.specs.Items.{Item}
@@ -34,7 +33,7 @@ use Rattle.wt_text_edit_laws.specs.TypedHeadings.{opening, closing_items}
 use Rattle.wt_text_edit_laws.proofs.Paragraphs.LineBlocks.{OwnBreaks}
 use Rattle.wt_called_edit_laws.specs.CalledBlocks.{counted}
 use Rattle.wt_called_edit_laws.specs.CalledContents.{items_round, tree_round, AreItemsOf}
-use Rattle.wt_called_edit_laws.specs.CallingBlocks.{AreContentsInFolder, tree_with_calls}
+use Rattle.wt_called_edit_laws.specs.CallingBlocks.{AreContentsInFolder, AreCallingBlocks, tree_with_calls, CallingBlocksStand}
 use Rattle.wt_called_edit_laws.specs.CallingGroups.{AreCallingOutside, block_with_groups}
 use Rattle.wt_called_edit_laws.specs.Parts.{calls_to, calls_past, called_items}
 use Rattle.wt_called_edit_laws.specs.PartTexts.{AreBlockTexts, HaveOwnSources}
@@ -71,7 +70,7 @@ round_opened os xs ys cs e =
     ∙ ap (λ zs. opened_all os ++ zs) (opened_append xs cs ∙ ap (λ zs. zs ++ opened_all cs) e ∙ sym (opened_append ys cs))
     ∙ sym (opened_append os (ys ++ cs))
 
-tree_opened : (k : TextBlock) (xs : List Item) → AreItemsOf k xs → opened_all (tree_items (tree_round k xs)) ≡ opened_all (items_round k xs)
+pub tree_opened : (k : TextBlock) (xs : List Item) → AreItemsOf k xs → opened_all (tree_items (tree_round k xs)) ≡ opened_all (items_round k xs)
 tree_opened a_paragraph xs h =
     ap opened_all (append-nil (held_by_all (forest (children (joined_parts (lines xs))))) ∙ held_children (joined_parts (lines xs)))
     ∙ parts_opened (lines xs) xs (lines_are xs) h.own_breaks
@@ -86,7 +85,7 @@ ones_split [] ys h = (tt, h)
 ones_split (x ∷ xs) ys h = let r = ones_split xs ys h.1 in ((h.0, r.0), r.1)
 
 -- those of the nodes at these places
-abbrev OnesAt : (ℕ → ItemTree) → List ℕ → Type 0
+abbrev pub OnesAt : (ℕ → ItemTree) → List ℕ → Type 0
 OnesAt t [] = Unit {0}
 OnesAt t (n ∷ ns) = AreOnes (tree_items (t n)) × OnesAt t ns
 
@@ -113,7 +112,7 @@ body_ones : (t : ℕ → ItemTree) (fs : Frames) → AreOnes (tree_items (body_w
 body_ones t fs h = let r = ones_split (held_by_all (forest (trees_at t fs))) [] h in frames_ones t fs r.0
 
 -- those of the blocks' items
-abbrev SpotOnes : Pages → ℕ → List BlockSpot → Type 0
+abbrev pub SpotOnes : Pages → ℕ → List BlockSpot → Type 0
 SpotOnes pages k [] = Unit {0}
 SpotOnes pages k (s ∷ ss) = AreOnes (part_items pages (calls_to pages k s) (source_of s.block s.text)) × SpotOnes pages (calls_past pages k s) ss
 
@@ -134,46 +133,68 @@ text_so calls k xs h g o =
     ∙ ap (text_from calls None) (tree_opened k xs h)
     ∙ opened_text calls None (items_round k xs) o
 
-hold_moved : (t : ℕ → ItemTree) (ns : List ℕ) → AllHold t (map suc ns) → AllHold (λ n. t (suc n)) ns
+pub hold_moved : (t : ℕ → ItemTree) (ns : List ℕ) → AllHold t (map suc ns) → AllHold (λ n. t (suc n)) ns
 hold_moved t [] h = tt
 hold_moved t (n ∷ ns) h = (h.0, hold_moved t ns h.1)
 
-ones_moved : (t : ℕ → ItemTree) (ns : List ℕ) → OnesAt t (map suc ns) → OnesAt (λ n. t (suc n)) ns
+pub ones_moved : (t : ℕ → ItemTree) (ns : List ℕ) → OnesAt t (map suc ns) → OnesAt (λ n. t (suc n)) ns
 ones_moved t [] h = tt
 ones_moved t (n ∷ ns) h = (h.0, ones_moved t ns h.1)
 
+-- in the page's tree, and among its items
+pub ones_in_tree : (pages : Pages) (ss : List BlockSpot) (behind : List ℕ) → AreCallingBlocks pages ss behind → CallingBlocksStand pages ss behind
+    → first_refusal pages (spots_source ss behind) (page_work pages (spots_source ss behind)) ≡ None → OnesAt (tree_with_calls pages 0 ss) (counted ss)
+ones_in_tree pages ss behind h f e =
+    let page : List ℕ = spots_source ss behind in
+    let t : ℕ → ItemTree = tree_with_calls pages 0 ss in
+    subst (OnesAt t) f.in_order
+    (body_ones t f.frames (subst (λ u. AreOnes (tree_items u)) (f.means ss (edited_self pages ss)) (tree_ones pages page (called_utf8 pages ss behind h.called) e)))
+
+pub ones_in_page : (pages : Pages) (ss : List BlockSpot) (behind : List ℕ) → AreCallingBlocks pages ss behind
+    → first_refusal pages (spots_source ss behind) (page_work pages (spots_source ss behind)) ≡ None → SpotOnes pages 0 ss
+ones_in_page pages ss behind h e =
+    spot_ones pages 0 ss behind
+    (subst AreOnes (is_by_parts pages ss behind h.called).items (items_ones pages (spots_source ss behind) (called_utf8 pages ss behind h.called) e))
+
 -- with these calls of the page, where so many of them come before
-abbrev grouped_at : List OuterCall → Pages → ℕ → List BlockSpot → ℕ → Tree
+abbrev pub grouped_at : List OuterCall → Pages → ℕ → List BlockSpot → ℕ → Tree
 grouped_at calls pages k ss n = cut_texts (block_in calls (tree_with_calls pages k ss n))
 
-spots_have : (calls : List OuterCall) (pages : Pages) (k : ℕ) (ss : List BlockSpot) → AreContentsInFolder pages ss → AreBlockTexts pages calls k ss
-    → AllHold (tree_with_calls pages k ss) (counted ss) → OnesAt (tree_with_calls pages k ss) (counted ss) → SpotOnes pages k ss
-    → HaveOwnSources (grouped_at calls pages k ss) ss
-spots_have calls pages k [] c t h g o = tt
-spots_have calls pages k (s ∷ ss) c t h g o =
+-- what is on the page for each of them is the block
+abbrev pub AreItsTexts : List OuterCall → Pages → ℕ → List BlockSpot → Type 0
+AreItsTexts calls pages k [] = Unit {0}
+AreItsTexts calls pages k (s ∷ ss) =
+    (text_from calls None (tree_items (tree_round s.block (part_items pages (calls_to pages k s) s.text))) ≡ source_of s.block s.text)
+    × AreItsTexts calls pages (calls_past pages k s) ss
+
+spots_text : (calls : List OuterCall) (pages : Pages) (k : ℕ) (ss : List BlockSpot) → AreContentsInFolder pages ss → AreBlockTexts pages calls k ss
+    → OnesAt (tree_with_calls pages k ss) (counted ss) → SpotOnes pages k ss → AreItsTexts calls pages k ss
+spots_text calls pages k [] c t g o = tt
+spots_text calls pages k (s ∷ ss) c t g o =
     let i : ℕ = calls_to pages k s in
     let xs : List Item = part_items pages i s.text in
-    let own = c.0 in
-    let first : flat (grouped_at calls pages k (s ∷ ss) 0) ≡ source_of s.block s.text =
-    block_flat calls (tree_round s.block xs) h.0
-    ∙ text_so calls s.block xs (own.is i) g.0 (subst AreOnes (own.items i) o.0)
-    ∙ ap (text_from calls None) (sym (own.items i))
-    ∙ t.0 in (
-      first,
-      spots_have calls pages (calls_past pages k s) ss c.1 t.1 (hold_moved (tree_with_calls pages k (s ∷ ss)) (counted ss) h.1)
-          (ones_moved (tree_with_calls pages k (s ∷ ss)) (counted ss) g.1) o.1,
+    let own = c.0 in (
+      text_so calls s.block xs (own.is i) g.0 (subst AreOnes (own.items i) o.0) ∙ ap (text_from calls None) (sym (own.items i)) ∙ t.0,
+      spots_text calls pages (calls_past pages k s) ss c.1 t.1 (ones_moved (tree_with_calls pages k (s ∷ ss)) (counted ss) g.1) o.1,
     )
+
+spots_have : (calls : List OuterCall) (pages : Pages) (k : ℕ) (ss : List BlockSpot) → AreItsTexts calls pages k ss
+    → AllHold (tree_with_calls pages k ss) (counted ss) → HaveOwnSources (grouped_at calls pages k ss) ss
+spots_have calls pages k [] t h = tt
+spots_have calls pages k (s ∷ ss) t h = (
+  block_flat calls (tree_round s.block (part_items pages (calls_to pages k s) s.text)) h.0 ∙ t.0,
+  spots_have calls pages (calls_past pages k s) ss t.1 (hold_moved (tree_with_calls pages k (s ∷ ss)) (counted ss) h.1),
+)
+
+pub blocks_text : (pages : Pages) (ss : List BlockSpot) (behind : List ℕ) → AreCallingBlocks pages ss behind → CallingBlocksStand pages ss behind
+    → first_refusal pages (spots_source ss behind) (page_work pages (spots_source ss behind)) ≡ None
+    → AreItsTexts (expanded_page pages (spots_source ss behind)).outer pages 0 ss
+blocks_text pages ss behind h f e =
+    spots_text (expanded_page pages (spots_source ss behind)).outer pages 0 ss h.contents (block_texts pages ss behind h.called) (ones_in_tree pages ss behind h f e)
+    (ones_in_page pages ss behind h e)
 
 pub blocks_have : (pages : Pages) (ss : List BlockSpot) (behind : List ℕ) → AreCallingOutside pages ss behind
     → first_refusal pages (spots_source ss behind) (page_work pages (spots_source ss behind)) ≡ None
     → HaveOwnSources (block_with_groups pages ss behind) ss
 blocks_have pages ss behind h e =
-    let page : List ℕ = spots_source ss behind in
-    let t : ℕ → ItemTree = tree_with_calls pages 0 ss in
-    let utf8 : IsUtf8 page = called_utf8 pages ss behind h.blocks.called in
-    let in_tree : OnesAt t (counted ss) =
-    subst (OnesAt t) h.stand.in_order
-    (body_ones t h.stand.frames (subst (λ u. AreOnes (tree_items u)) (h.stand.means ss (edited_self pages ss)) (tree_ones pages page utf8 e))) in
-    let by_parts = is_by_parts pages ss behind h.blocks.called in
-    let in_page : SpotOnes pages 0 ss = spot_ones pages 0 ss behind (subst AreOnes by_parts.items (items_ones pages page utf8 e)) in
-    spots_have (expanded_page pages page).outer pages 0 ss h.blocks.contents (block_texts pages ss behind h.blocks.called) h.hold in_tree in_page
+    spots_have (expanded_page pages (spots_source ss behind)).outer pages 0 ss (blocks_text pages ss behind h.blocks h.stand e) h.hold

@@ -19,7 +19,7 @@ mutual
   one_only ps (typed k l ts m x text) h = h.0
   one_only ps (holds l m ss) h = (h.0, all_only ps ss h.1)
 
-  all_only : (ps : List (List ℕ)) (ss : Sents) → AllTypeOnly ps ss → AllEditOnly ps (as_edits ss)
+  pub all_only : (ps : List (List ℕ)) (ss : Sents) → AllTypeOnly ps ss → AllEditOnly ps (as_edits ss)
   all_only ps none_sent h = tt
   all_only ps (more_sent s ss) h = (one_only (first_paths ps) s h.0, all_only (other_paths ps) ss h.1)
 

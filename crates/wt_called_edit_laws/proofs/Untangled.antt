@@ -1,5 +1,5 @@
--- A block among calls isn't tangled: no call that is text touches it, no tag is open before it or in it, and no group is in it.
-use Rattle.std.proofs.Common.{arith, ◌≡◌, ℕ, suc, ◌+◌, Bool, true, false, Some, List, [], ◌∷◌, ◌++◌, length, take, refl, sym, ap, ap₂, ◌∙◌, append_assoc, length-append}
+-- A block among calls isn't tangled: no call that is text touches it, no tag is open before it or in it, and no group in it is faulty.
+use Rattle.std.proofs.Common.{arith, ◌≡◌, ℕ, suc, ◌+◌, Bool, true, false, Some, List, [], ◌∷◌, ◌++◌, length, take, refl, sym, ap, ap₂, ◌∙◌, subst, append_assoc, length-append}
 use Rattle.std.specs.Prelude.{◌||◌}
 use Rattle.std.proofs.Math.Seq.{take-append_seam}
 use Rattle.wt_span.specs.Origins.{Expanded}
@@ -15,7 +15,9 @@ use Rattle.wt_selser.specs.Edits.{is_tangled}
 use Rattle.wt_selser.specs.GroupFaults.{has_faulty_group}
 use Rattle.wt_text_edit_laws.specs.BlockSpots.{BlockSpot, spots_source, AreContents, AreReadSpots}
 use Rattle.wt_text_edit_laws.specs.TextBetween.{AreEnded}
-use Rattle.wt_text_edit_laws.specs.TextBlocks.{source_of, BeginsLine}
+use Rattle.wt_part_laws.specs.Placeless.{placeless}
+use Rattle.wt_part_laws.specs.Standing.{standing}
+use Rattle.wt_text_edit_laws.specs.TextBlocks.{source_of, block_tree, BeginsLine}
 use Rattle.wt_text_edit_laws.specs.Contents.{IsContent}
 use Rattle.wt_text_edit_laws.proofs.Blocks.BlocksAgain.{AreClear}
 use Rattle.wt_text_edit_laws.proofs.Blocks.BlockReading.{begins_here}
@@ -25,8 +27,10 @@ use Rattle.wt_called_edit_laws.specs.Nodes.{block_at}
 use Rattle.wt_called_edit_laws.specs.Parts.{AreCalled}
 use Rattle.wt_called_edit_laws.proofs.Cells.CalledFrames.{among_contents}
 use Rattle.wt_called_edit_laws.specs.FreeBlocks.{AreFreeFrom}
-use Rattle.wt_called_edit_laws.specs.Untangled.{AreUntangledFrom, AreWhole}
+use Rattle.wt_called_edit_laws.specs.Settled.{settled}
+use Rattle.wt_called_edit_laws.specs.Untangled.{AreUntangledFrom, IsWhole, AreWhole}
 use Rattle.wt_called_edit_laws.proofs.FreeBlocks.{blocks_free}
+use Rattle.wt_called_edit_laws.proofs.SettledNodes.{settled_gone, placeless_twice}
 
 -- ---- a block
 
@@ -64,7 +68,7 @@ called_clear pages (s ∷ ss) behind h = (clear_first s.before h.0.ended, furthe
 -- ---- the blocks of a page
 
 pub untangled_from : (items : Expanded) (page front : List ℕ) (b : ℕ → Tree) (ss : List BlockSpot) (behind : List ℕ) (at : ℕ) → page ≡ front ++ spots_source ss behind → at ≡ length front
-    → AreFreeFrom items.text_calls at ss → AreClear front ss → AreWhole items b ss → AreUntangledFrom items page b at ss
+    → AreFreeFrom items.text_calls at ss → AreClear front ss → AreWhole items b at ss → AreUntangledFrom items page b at ss
 untangled_from items page front b [] behind at e i f c w = tt
 untangled_from items page front b (s ∷ ss) behind at e i f c w =
     let line : List ℕ = source_of s.block s.text in
@@ -74,19 +78,25 @@ untangled_from items page front b (s ∷ ss) behind at e i f c w =
     let size : at + length s.before ≡ length all = let z = length-append front s.before in omega (arith, i, z) in
     let first : take (at + length s.before) page ≡ all = ap₂ (λ (n : ℕ) (bs : List ℕ). take n bs) size is ∙ take-append_seam all (line ++ rest) in
     let end : (at + length s.before) + length line ≡ length (all ++ line) = let z = length-append all line in omega (arith, size, z) in (
-      λ t first_w last_w same ranges.
+      λ t n first_w last_w same ranges.
           block_untangled items page all (record { start = at + length s.before; end = (at + length s.before) + length line; open_w = first_w; close_w = last_w }) t
-          (w.0 t same) (f.0 first_w last_w) first c.0 ranges,
+          (subst (IsWhole items) (sym same) (w.0 n)) (f.0 first_w last_w) first c.0 ranges,
       untangled_from items page (all ++ line) (λ n. b (suc n)) ss behind ((at + length s.before) + length line) (is ∙ sym (append_assoc all line rest)) end f.1 c.1 w.1,
     )
 
-contents_whole : (items : Expanded) (ss : List BlockSpot) → AreContents ss → AreWhole items (block_at (tree_by ss)) ss
-contents_whole items [] c = tt
-contents_whole items (s ∷ ss) c = let own = c.0 in (own.untangled items, contents_whole items ss c.1)
+contents_whole : (items : Expanded) (at : ℕ) (ss : List BlockSpot) → AreContents ss → AreWhole items (block_at (tree_by ss)) at ss
+contents_whole items at [] c = tt
+contents_whole items at (s ∷ ss) c =
+    let own = c.0 in
+    let start : ℕ = at + length s.before in
+    let u : Tree = standing 0 [] (block_tree s.block s.text) in (
+      λ n. own.untangled items (settled n start (placeless u)) (settled_gone n start (placeless u) ∙ placeless_twice u),
+      contents_whole items (start + length (source_of s.block s.text)) ss c.1,
+    )
 
 pub blocks_untangled : (pages : Pages) (ss : List BlockSpot) (behind : List ℕ) → AreAmongCalls pages ss behind
     → AreUntangledFrom (expanded_page pages (spots_source ss behind)) (spots_source ss behind) (block_at (tree_by ss)) 0 ss
 blocks_untangled pages ss behind h =
     untangled_from (expanded_page pages (spots_source ss behind)) (spots_source ss behind) [] (block_at (tree_by ss)) ss behind 0 refl refl (blocks_free pages ss behind h)
     (called_clear pages ss behind h.called)
-    (contents_whole (expanded_page pages (spots_source ss behind)) ss (among_contents pages ss behind h))
+    (contents_whole (expanded_page pages (spots_source ss behind)) 0 ss (among_contents pages ss behind h))

@@ -10,4 +10,5 @@ pub mod NewContents
 pub mod Cases
 pub mod InPieces
 pub mod FromPage
+pub mod Letters
 mod PieceCases

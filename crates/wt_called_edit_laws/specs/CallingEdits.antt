@@ -1,7 +1,6 @@
 -- Pages of which blocks that hold calls may be edited, beside these calls.
 use Rattle.std.specs.Prelude.{◌≡◌, ℕ, zero, suc, Option, Some, None, List, [], ◌∷◌}
 use Rattle.wt_expand.specs.Expansion.{page_work}
-use Rattle.wt_expand.specs.PageCalls.{expanded_page}
 use Rattle.wt_expand.specs.Work.{Pages, first_refusal}
 use Rattle.wt_part_laws.specs.Placeless.{all_placeless}
 use Rattle.wt_typed_blocks.specs.Edited.{Edited, Edits, page_nodes, edits_show}
@@ -16,7 +15,7 @@ use Rattle.wt_called_edit_laws.specs.CallingBlocks.{IsNewContentIn}
 use Rattle.wt_called_edit_laws.specs.CallingGroups.{AreCallingOutside, block_with_groups, CallingNodesStay}
 use Rattle.wt_called_edit_laws.specs.FreeBlocks.{NoTextCalls}
 use Rattle.wt_called_edit_laws.specs.Sends.{AllSend, MakesNode}
-use Rattle.wt_called_edit_laws.specs.Untangled.{AreWhole}
+use Rattle.wt_called_edit_laws.specs.WholeContents.{EachWhole}
 use Rattle.wt_called_edit_laws.specs.WrittenAnew.{HoldsAnywhere, EachHolds}
 
 -- ---- which blocks
@@ -42,7 +41,7 @@ pub record IsCallingPage (pages : Pages) (ss : List BlockSpot) (behind : List �
   pub hold : EachHolds pages ss
   pub letters : AllTakeLetters pages ss
   pub texts : NoTextCalls pages ss
-  pub whole : AreWhole (expanded_page pages (spots_source ss behind)) (block_with_groups pages ss behind) ss
+  pub whole : EachWhole pages ss
   pub unrefused : first_refusal pages (spots_source ss behind) (page_work pages (spots_source ss behind)) ≡ None
 
 -- at this block nothing else is written

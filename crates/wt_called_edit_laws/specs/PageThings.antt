@@ -9,15 +9,17 @@ use Rattle.wt_beside_laws.specs.Called.{shown_source, IsOfFolder}
 use Rattle.wt_beside_laws.specs.Cuts.{own_glyphs, ends_word}
 use Rattle.wt_beside_laws.specs.FlatBlocks.{IsSealed}
 use Rattle.wt_beside_laws.specs.Nodes.{MayFollow, MayLead}
+use Rattle.wt_called_edit_laws.specs.WholeContents.{IsShut}
 use Rattle.wt_called_edit_laws.specs.Written.{IsReadThing, IsOwnPart}
 
--- It gives words, or calls nothing and is a node on one line; it stays what it is beside text that is typed, is a part of the page by itself, and
--- closes no tag behind it.
+-- It gives words, or calls nothing and is a node on one line; it stays what it is beside text that is typed, is a part of the page by itself, closes
+-- no tag behind it, and ends in no open one.
 pub record IsPageThing (pages : Pages) (t : Thing) : Type 0 where
   pub folder : IsOfFolder t.role pages t
   pub read : IsReadThing t
   pub part : IsOwnPart pages t.source
   pub sealed : IsSealed t.source
+  pub shut : IsShut t
   pub utf8 : IsUtf8 t.source
 
 -- as it shows in the folder

@@ -12,6 +12,7 @@ use Rattle.wt_text_edit_laws.specs.TextBlocks.{TextBlock}
 use Rattle.wt_beside_laws.specs.Called.{IsCalledIn}
 use Rattle.wt_beside_laws.specs.FlatBlocks.{AreSealed}
 use Rattle.wt_called_edit_laws.specs.CalledContents.{tree_round}
+use Rattle.wt_called_edit_laws.specs.WholeContents.{AreShut}
 use Rattle.wt_called_edit_laws.specs.Written.{AreReadThings, AreOwnParts}
 
 -- the sources of the nodes
@@ -33,12 +34,13 @@ StayButForOthers pages (b ∷ bs) (d ∷ ds) =
     ((b ≡ d) × StayButForOthers pages bs ds) ⊎ (((expanded_page pages b).outer ≡ []) × StayButForOthers pages bs (d ∷ ds))
 
 -- The calls give words in this folder, and text is first and last. Each node stays what it is beside text that is typed, is a part of the page by
--- itself, and closes no tag behind it.
+-- itself, closes no tag behind it, and ends in no open one.
 pub record IsWrittenBeside (pages : Pages) (s : Setting) (signs : List ContentSign) : Type 0 where
   pub called : IsCalledIn pages s signs
   pub read : AreReadThings signs
   pub parts : AreOwnParts pages signs
   pub sealed : AreSealed signs
+  pub shut : AreShut signs
   pub utf8 : AreUtf8 (node_sources signs)
 
 -- ---- blocks that hold their calls

@@ -6,11 +6,13 @@ ghost use Rattle.wt_guards.specs.Guards.{Setting, spelled};
 ghost use Rattle.wt_expand.specs.Work.{Pages};
 ghost use Rattle.wt_text_edit_laws.specs.TextBlocks.{a_paragraph};
 ghost use Rattle.wt_called_edit_laws.specs.CallingBlocks.{IsNewContentIn};
+ghost use Rattle.wt_called_edit_laws.specs.CallingEdits.{TakesLetters};
 ghost use Rattle.wt_called_edit_laws.specs.InPieces.{pieces_source, AreInPieces};
 ghost use Rattle.wt_beside_laws.specs.Called.{BeginsWithText, EndsWithText};
 ghost use Rattle.wt_beside_laws.specs.Lines.{AreCharacters};
 ghost use Rattle.wt_beside_laws.specs.Stood.{things};
 ghost use Rattle.wt_called_edit_laws.specs.PageThings.{ArePageThings, ThingsStay, thing_sources};
+ghost use Rattle.wt_called_edit_laws.specs.WholeContents.{HoldsWords};
 ghost use Rattle.wt_called_edit_laws.specs.WrittenAnew.{node_sources, StayButForOthers, IsWrittenBeside};
 
 /// A paragraph of the page, whatever it is, may be cut in pieces (`AreInPieces`): texts, calls and other nodes, of which each gives what it gives by
@@ -28,4 +30,18 @@ pub fn paragraphs_of_the_page_take_texts_beside_calls()
     ensures anew { (pages : Pages) (bs : List (List ℕ)) (olds : List Thing) (s : Setting) (signs : List ContentSign) → AreInPieces pages bs
         → StayButForOthers pages bs (thing_sources olds) → ArePageThings pages olds → s.within ≡ false → AreCharacters signs → BeginsWithText signs → EndsWithText signs
         → ThingsStay pages olds (things signs) → IsNewContentIn pages a_paragraph (pieces_source bs) (spelled s signs) }
+{}
+
+/// What is written so can be read by itself, wherever it is in a page (`HoldsWords`): in its block no tag is open, and no group has a fault.
+pub fn texts_beside_calls_can_be_read_by_themselves()
+    ensures { (pages : Pages) (s : Setting) (signs : List ContentSign) → IsWrittenBeside pages s signs → HoldsWords pages a_paragraph (spelled s signs) }
+{}
+
+/// In the place of such a paragraph two contents may be written that are the same but for their first letter (`TakesLetters`); and so they may in the
+/// place of what was written for it.
+pub fn letters_may_be_typed_before_calls()
+    ensures page { (pages : Pages) (bs : List (List ℕ)) (olds : List Thing) → AreInPieces pages bs → StayButForOthers pages bs (thing_sources olds)
+        → ArePageThings pages olds → TakesLetters pages a_paragraph (pieces_source bs) }
+    ensures again { (pages : Pages) (s : Setting) (signs : List ContentSign) → IsWrittenBeside pages s signs → ArePageThings pages (things signs)
+        → TakesLetters pages a_paragraph (spelled s signs) }
 {}

@@ -73,6 +73,7 @@ ghost use Rattle.wt_selser.specs.GroupFaults.{paragraph_face};
 ghost use Rattle.wt_called_edit_laws.specs.WrittenAnew.{node_sources, StayButForOthers, IsWrittenBeside, HoldsAnywhere, EachHolds};
 
 mod body_paragraphs;
+mod called_edits;
 mod calling_pages;
 mod in_pieces;
 mod placed_blocks;
@@ -82,17 +83,21 @@ pub use body_paragraphs::{
     nodes_of_paragraphs_of_the_body_stay, paragraphs_of_the_body_are_edited,
     paragraphs_of_the_body_may_be_edited,
 };
+pub use called_edits::contents_beside_calls_are_made;
 pub use calling_pages::{
     blocks_that_call_are_untangled, blocks_that_call_stay_where_nothing_is_written,
+    blocks_whose_calls_give_words_are_whole, contents_beside_calls_are_taken,
     edits_of_blocks_that_call_are_apart, edits_of_blocks_that_call_make_the_page,
-    pages_whose_blocks_call_are_such_again,
+    pages_whose_blocks_call_are_such_again, pages_whose_blocks_call_are_told_by_bytes,
 };
 pub use in_pieces::{
-    paragraphs_in_pieces_may_be_written_anew, paragraphs_of_the_page_take_texts_beside_calls,
+    letters_may_be_typed_before_calls, paragraphs_in_pieces_may_be_written_anew,
+    paragraphs_of_the_page_take_texts_beside_calls, texts_beside_calls_can_be_read_by_themselves,
 };
 pub use placed_blocks::{
-    all_blocks_at_their_places_may_be_edited, blocks_at_their_places_may_be_edited,
-    lines_of_a_page_are_blocks_of_it, lines_of_a_page_are_cut_at_its_blocks,
+    all_blocks_among_calls_may_be_edited, all_blocks_at_their_places_may_be_edited,
+    blocks_at_their_places_may_be_edited, lines_of_a_page_are_blocks_of_it,
+    lines_of_a_page_are_cut_at_its_blocks, lines_of_an_expanded_page_are_cut_at_its_blocks,
 };
 pub use told_lines::{
     blocks_are_told_by_their_lines, headings_are_told_by_their_lines, untangled_blocks_are_shut,
@@ -283,7 +288,7 @@ pub fn text_calls_touch_no_block_that_calls()
         → AreFreeFrom (expanded_page pages (spots_source ss behind)).text_calls 0 ss }
 {}
 
-/// So none of these blocks is tangled, wherever it is in the page's tree: it can be read by itself.
+/// So none of these blocks is tangled where it is in the page's tree: it can be read by itself.
 #[tactic(auto, using(crate::proofs::Untangled::blocks_untangled))]
 pub fn blocks_among_calls_are_untangled()
     ensures { (pages : Pages) (ss : List BlockSpot) (behind : List ℕ) → AreAmongCalls pages ss behind

@@ -9,6 +9,9 @@ ghost use Rattle.wt_text_edit_laws.specs.BlockSpots.{BlockSpot, spots_source};
 ghost use Rattle.wt_text_edit_laws.specs.TextBlocks.{TextBlock, a_paragraph, a_heading};
 ghost use Rattle.wt_text_edit_laws.specs.TypedHeadings.{Sides};
 ghost use Rattle.wt_called_edit_laws.specs.CalledPages.{IsCalledPage};
+ghost use Rattle.wt_called_edit_laws.specs.Covered.{IsEditablePage};
+ghost use Rattle.wt_called_edit_laws.specs.LinedAmong.{spots_of_lines, end_of_lines, IsLinedAmong};
+ghost use Rattle.wt_called_edit_laws.specs.PlacedAmong.{IsPlacedAmong};
 ghost use Rattle.wt_called_edit_laws.specs.PlacedBlocks.{IsBlockIn, block_spot, IsFreeIn, IsHeadingOn, IsParagraphOn};
 ghost use Rattle.wt_called_edit_laws.specs.PlacedLines.{LinedBlock, all_lines, spots_by, end_by, AreLined, IsLinedPage};
 ghost use Rattle.wt_called_edit_laws.specs.PlacedSpots.{IsPlacedPage};
@@ -45,4 +48,23 @@ pub fn lines_of_a_page_are_cut_at_its_blocks()
         → IsPlacedPage (spots_by [] ls) (end_by [] ls behind) }
     ensures called { (pages : Pages) (page : List ℕ) (ls : List LinedBlock) (behind : List (List Item)) → IsLinedPage page ls behind
         → IsCalledPage pages (spots_by [] ls) (end_by [] ls behind) }
+{}
+
+/// So with calls: a page whose items, where calls are characters, are cut at each of any number of paragraphs and headings that
+/// call nothing, so that no call goes over the end of a part, may be edited with them, if by what the calls give each is at
+/// such a place, none is tangled, and none is in a group (`IsPlacedAmong`).
+pub fn all_blocks_among_calls_may_be_edited()
+    ensures { (pages : Pages) (ss : List BlockSpot) (behind : List ℕ) → IsPlacedAmong pages ss behind → IsEditablePage pages ss behind }
+{}
+
+/// And these may be told by the lines of the expanded page: those before each, its own, which come from no call, and those
+/// behind the last (`IsLinedAmong`). What is on the page for these lines are its parts: the page's items are cut at each block,
+/// no call goes over the end of one, and each part is expanded to its lines. So this page may be edited with all of them.
+pub fn lines_of_an_expanded_page_are_cut_at_its_blocks()
+    ensures whole { (pages : Pages) (page : List ℕ) (ls : List LinedBlock) (behind : List (List Item)) → IsLinedAmong pages page ls behind
+        → spots_source (spots_of_lines pages page ls) (end_of_lines pages page ls behind) ≡ page }
+    ensures blocks { (pages : Pages) (page : List ℕ) (ls : List LinedBlock) (behind : List (List Item)) → IsLinedAmong pages page ls behind
+        → IsPlacedAmong pages (spots_of_lines pages page ls) (end_of_lines pages page ls behind) }
+    ensures editable { (pages : Pages) (page : List ℕ) (ls : List LinedBlock) (behind : List (List Item)) → IsLinedAmong pages page ls behind
+        → IsEditablePage pages (spots_of_lines pages page ls) (end_of_lines pages page ls behind) }
 {}

@@ -357,6 +357,20 @@ fn new_source(alloc: Global, keeps: bool, node: &Node<'_>, inside: &str) -> Resu
     }
 }
 
+/// A link that has another target than in the page: the colon before its target stays, without which the link may be one
+/// to the page in another language, which isn't shown where it is.
+fn with_colon(alloc: Global, old: &Node<'_>, link: Str) -> Result<Str, NoMemory> {
+    let opening = joined(alloc, old.opening())?;
+    let is_kept = opening.as_str().starts_with("[[:") && !link.as_str().starts_with("[[:");
+    if !is_kept || !link.as_str().starts_with("[[") {
+        return Ok(link);
+    }
+    let (_, rest) = link.as_str().split_at_checked(2).unwrap_or(("", ""));
+    let mut out = Str::copy_of(alloc, "[[:")?;
+    out.push_str(rest)?;
+    Ok(out)
+}
+
 /// The source of a link or tag round what it holds now.
 fn source_round(
     alloc: Global,
@@ -374,7 +388,12 @@ fn source_round(
     if keeps && let Some(source) = link_round(alloc, old.node, node, inside)? {
         return Ok(source);
     }
-    new_source(alloc, keeps, node, inside)
+    let source = new_source(alloc, keeps, node, inside)?;
+    if keeps && matches!(node.kind, Kind::WikiLink) {
+        with_colon(alloc, old.node, source)
+    } else {
+        Ok(source)
+    }
 }
 
 /// Whether a changed node of this kind keeps its delimiters.

@@ -6,20 +6,20 @@ use crate::breaks::{
     push_breaks,
 };
 use crate::gap::{Gap, is_before_text};
-use crate::gone::{Slice, push_change, push_part_of};
+use crate::gone::{Slice, joins_empty_call, push_change, push_part_of};
 use crate::lines::{
-    first_sign, is_doubled, is_doubled_at, is_in_stack, next_in_page, push_in_line, range_of,
-    shares_line,
+    begins_line, blanks_of_line, first_sign, is_doubled, is_doubled_at, is_in_stack, next_in_page,
+    push_in_line, range_of, shares_line,
 };
 use crate::nodes::{count_of, first_block, last_block};
 use crate::tags::{Tags, breaks_before_tag, breaks_behind_tag};
 use std::alloc::Global;
 use wt_block_signs::{
-    Style, is_cell, is_item, is_lined, is_list, is_row_without_sign, signs_of, style_of,
+    Style, is_cell, is_item, is_lined, is_list, is_part, is_row_without_sign, signs_of, style_of,
 };
 use wt_checks::{Visit, is_compared, original};
 use wt_difference::{Child, inside};
-use wt_known::{Known, breaks_between, is_at_line_start};
+use wt_known::{Known, breaks_between};
 use wt_places::Slot;
 use wt_span::{NoMemory, Str};
 use wt_splice::Change;
@@ -34,9 +34,21 @@ fn first_gone<'t, 'a>(gone: &[Child<'t, 'a>]) -> Option<&'t Node<'a>> {
     None
 }
 
-/// A child of the page that is beside those that come.
+/// A node, where it is a part of a list or a table itself.
+fn as_part<'t, 'a>(node: Option<&'t Node<'a>>) -> Option<&'t Node<'a>> {
+    match node {
+        Some(node) if is_part(node.kind) => Some(node),
+        _ => None,
+    }
+}
+
+/// A child of the page that is beside those that come: rather an item, a row or a cell than what a template gives.
 fn item_beside<'t, 'a>(gap: &Gap<'_, 't, 'a>) -> Option<&'t Node<'a>> {
-    gap.before.or(gap.behind).or(first_gone(gap.gone))
+    let gone = first_gone(gap.gone);
+    let part = as_part(gap.before)
+        .or(as_part(gap.behind))
+        .or(as_part(gone));
+    part.or(gap.before).or(gap.behind).or(gone)
 }
 
 /// All but the last byte of an item's signs, which are ASCII.
@@ -102,6 +114,14 @@ pub fn style_beside(gap: &Gap<'_, '_, '_>) -> Style {
             style_of(Some(node))
         }
         _ => gap.style,
+    }
+}
+
+/// The blanks with which the lines of what comes begin: in a table those of the line beside it.
+pub fn blanks_beside<'t, 'a>(known: &Known<'t, 'a>, gap: &Gap<'_, 't, 'a>) -> &'t str {
+    match item_beside(gap) {
+        Some(node) => blanks_of_line(known, node),
+        None => "",
     }
 }
 
@@ -225,8 +245,9 @@ fn goes_on_in_stack(
 }
 
 /// The line breaks that what comes asks for at least after the child before.
-fn least_before(gap: &Gap<'_, '_, '_>, coming: &Coming) -> usize {
+fn least_before(page: &str, gap: &Gap<'_, '_, '_>, coming: &Coming) -> usize {
     match gap.before {
+        Some(before) if joins_empty_call(page, before, coming.first) => 0,
         Some(before) => least_between(gap.is_tight, kind_at_end(before), coming.start),
         None => 0,
     }
@@ -237,13 +258,14 @@ fn least_before(gap: &Gap<'_, '_, '_>, coming: &Coming) -> usize {
 fn breaks_after_tag(page: &str, gap: &Gap<'_, '_, '_>, coming: &Coming, tag: Slot) -> usize {
     let tag = Some(tag);
     let own = if gap.behind.is_none() { 1 } else { 0 };
-    let least = least_before(gap, coming).saturating_sub(breaks_before_tag(page, tag));
+    let least = least_before(page, gap, coming).saturating_sub(breaks_before_tag(page, tag));
     breaks_behind_tag(page, tag).max(own).max(least)
 }
 
 /// The line breaks before what comes, which takes no other's place.
 fn breaks_after_child(known: &Known<'_, '_>, gap: &Gap<'_, '_, '_>, coming: &Coming) -> usize {
     match gap.before {
+        Some(before) if joins_empty_call(known.page, before, coming.first) => 0,
         Some(before) => breaks_below(known, gap, before, coming),
         None if gap.behind.is_some() || gap.place.start == 0 => 0,
         None => 1,
@@ -274,12 +296,12 @@ fn breaks_before(
     let standing = most_breaks(page, gap.blanks, at);
     let wanted = match tags_beside(gap, slice).before {
         Some(tag) => breaks_after_tag(page, gap, coming, tag),
-        None if slice.is_some() => least_before(gap, coming),
+        None if slice.is_some() => least_before(page, gap, coming),
         None => breaks_after_child(known, gap, coming),
     };
     let missing = wanted.saturating_sub(standing);
     let is_lined = is_lined(first) && (gap.place.start < at || is_cell(first));
-    if missing == 0 && (coming.is_led || is_lined) && !is_at_line_start(page, at) {
+    if missing == 0 && (coming.is_led || is_lined) && !begins_line(page, at, first) {
         1
     } else {
         missing
@@ -557,7 +579,7 @@ fn comes_first_in_line(known: &Known<'_, '_>, gap: &Gap<'_, '_, '_>, coming: &Co
         && leads_sign(coming.source.as_str())
         && style_of(gap.behind).is_tight
         && !is_doubled(known.page, behind)
-        && is_at_line_start(known.page, range_of(behind).start)
+        && begins_line(known.page, range_of(behind).start, behind.kind)
         && next_sign(known, behind).is_some()
 }
 
@@ -635,21 +657,50 @@ fn takes_place_in_line(page: &str, gap: &Gap<'_, '_, '_>, coming: &Coming, at: u
         && count_of(gap.new) == 1
         && coming.is_of_line
         && is_doubled_at(page, at)
-        && !is_at_line_start(page, at)
+        && !begins_line(page, at, coming.first)
 }
 
-/// Appends what comes: in the line that is begun, with this sign doubled, or after so many line breaks.
+/// Appends what comes: in the line that is begun, with this sign doubled, or after so many line breaks, and the blanks of a
+/// line of the table.
 fn push_source(
     out: &mut Str,
     coming: &Coming,
     sign: Option<u8>,
     breaks: usize,
+    blanks: &str,
 ) -> Result<(), NoMemory> {
     if let Some(sign) = sign {
         return push_in_line(out, sign, coming.source.as_str());
     }
     push_breaks(out, breaks)?;
+    if breaks > 0 && !coming.is_led {
+        out.push_str(blanks)?;
+    }
     out.push_str(coming.source.as_str())
+}
+
+/// Appends what comes before the child after it: the sign of a row that has none, the line of an item, and so many line breaks,
+/// with the blanks of a line of the table, where the page has nothing before that one (`is_next`).
+fn push_up_to_next<'t, 'a>(
+    alloc: Global,
+    out: &mut Str,
+    known: &Known<'t, 'a>,
+    gap: &Gap<'_, 't, 'a>,
+    breaks: usize,
+    is_next: bool,
+) -> Result<(), NoMemory> {
+    let blanks = blanks_beside(known, gap);
+    if begins_without_sign(gap) {
+        out.push_str("\n")?;
+        out.push_str(blanks)?;
+        out.push_str("|-")?;
+    }
+    push_line_of_item(alloc, out, known, gap)?;
+    push_breaks(out, breaks)?;
+    if breaks > 0 && is_next && gap.behind.is_some() {
+        out.push_str(blanks)?;
+    }
+    Ok(())
 }
 
 /// Appends what comes, in the place of the first slice that goes.
@@ -690,12 +741,8 @@ pub fn push_new<'t, 'a>(
     } else {
         None
     };
-    push_source(&mut by, coming, sign, before)?;
-    if begins_without_sign(gap) {
-        by.push_str("\n|-")?;
-    }
-    push_line_of_item(alloc, &mut by, known, gap)?;
-    push_breaks(&mut by, behind)?;
+    push_source(&mut by, coming, sign, before, blanks_beside(known, gap))?;
+    push_up_to_next(alloc, &mut by, known, gap, behind, end == to)?;
     let start = place.start;
     push_part_of(alloc, out, known, gap, Slot { start, end }, by)
 }

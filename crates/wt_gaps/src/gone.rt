@@ -221,7 +221,7 @@ pub fn push_part_of(
     let mut end = place.end;
     if let Some(node) = gap.behind
         && place.end == range_of(node).start
-        && leaves_line_start(page, place.start, by.as_str())
+        && leaves_line_start(page, place.start, by.as_str(), node.kind)
     {
         if is_doubled(page, node) {
             end = end.saturating_add(2);
@@ -383,10 +383,10 @@ pub fn push_emptied_row(
     push_gone(alloc, out, known, gap, behind_first(slices), 0)
 }
 
-/// Whether an item comes in the line of a call that shows nothing, which was before another item in it. A line with nothing
-/// but the call would part the list.
-fn joins_empty_call(page: &str, before: &Node<'_>, behind: &Node<'_>) -> bool {
-    is_item(behind.kind)
+/// Whether a node of this kind is an item that comes in the line of a call that shows nothing, which was before another item
+/// in it. A line with nothing but the call would part the list.
+pub fn joins_empty_call(page: &str, before: &Node<'_>, kind: Kind) -> bool {
+    is_item(kind)
         && matches!(kind_at_end(before), Kind::Empty)
         && byte_at(page, range_of(before).end) != b'\n'
 }
@@ -399,7 +399,7 @@ pub fn wanted_between(page: &str, gap: &Gap<'_, '_, '_>) -> usize {
     if is_cell(behind.kind) && !is_doubled(page, behind) {
         return 1;
     }
-    if joins_empty_call(page, before, behind) {
+    if joins_empty_call(page, before, behind.kind) {
         return 0;
     }
     least_between(gap.is_tight, kind_at_end(before), kind_at_start(behind))

@@ -13,7 +13,7 @@ mod tags;
 
 pub use blanks::byte_at;
 pub use breaks::{kind_at_end, kind_at_start, push_breaks};
-pub use coming::{Coming, push_new, signs_in, style_beside};
+pub use coming::{Coming, blanks_beside, push_new, signs_in, style_beside};
 pub use gap::{Gap, Joined, Numbering, Passed};
 pub use gone::{
     Along, Slice, behind_first, comes_along, empties_row, push_change, push_emptied_row, push_gone,

@@ -2,9 +2,9 @@
 
 use crate::blanks::{byte_at, most_breaks, past_blanks};
 use crate::breaks::{between, is_box, kind_at_end, kind_at_start, least_between, push_breaks};
-use wt_block_signs::{is_cell, is_part};
+use wt_block_signs::{is_cell, is_item, is_part};
 use wt_checks::{Visit, is_compared, original};
-use wt_known::{Known, breaks_between, is_at_line_start};
+use wt_known::{Known, blanks_at_line_start, breaks_between, is_at_line_start};
 use wt_places::Slot;
 use wt_span::{NoMemory, Str};
 use wt_tree::{Kind, Node, same_kind};
@@ -259,11 +259,53 @@ pub fn sign_at_line_start(page: &str, cell: &Node<'_>, end: usize) -> &'static s
     }
 }
 
-/// Whether a line begins after what is written at a place of the page.
-pub fn leaves_line_start(page: &str, at: usize, by: &str) -> bool {
-    match by.as_bytes().last() {
-        Some(byte) => *byte == b'\n',
-        None => is_at_line_start(page, at),
+/// Whether a line begins after what is written at a place of the page, before a node of this kind.
+pub fn leaves_line_start(page: &str, at: usize, by: &str, next: Kind) -> bool {
+    if by.is_empty() {
+        begins_line(page, at, next)
+    } else {
+        begins_line(by, by.len(), next)
+    }
+}
+
+// ---- blanks before the lines of a table
+
+/// Whether a node of this kind begins with the sign of a line of a table, before which blanks may be.
+pub fn is_of_table(kind: Kind) -> bool {
+    is_part(kind) && !is_item(kind)
+}
+
+/// The blanks before a place of the page, where nothing else is before it on its line.
+fn blanks_before<'p>(page: &'p str, at: usize) -> Option<&'p str> {
+    let count = blanks_at_line_start(page, at)?;
+    let start = at.saturating_sub(count);
+    Some(slice_of(page, Slot { start, end: at }))
+}
+
+/// Whether a line begins at a place of a text, before a node of this kind: in a table blanks may be before it.
+pub fn begins_line(text: &str, at: usize, next: Kind) -> bool {
+    is_at_line_start(text, at) || (is_of_table(next) && blanks_at_line_start(text, at).is_some())
+}
+
+/// The page's node that holds this one.
+fn holder_of<'t, 'a>(known: &Known<'t, 'a>, node: &Node<'_>) -> Option<&'t Node<'a>> {
+    let visit = original(known.index, node.id)?;
+    let holder = original(known.index, visit.parent)?;
+    Some(holder.node)
+}
+
+/// The blanks before the signs of the line of a table in which this part of it begins, in the page; of a cell that goes on
+/// in a line those of its row.
+pub fn blanks_of_line<'t, 'a>(known: &Known<'t, 'a>, part: &Node<'_>) -> &'t str {
+    if !is_of_table(part.kind) {
+        return "";
+    }
+    if let Some(blanks) = blanks_before(known.page, range_of(part).start) {
+        return blanks;
+    }
+    match holder_of(known, part) {
+        Some(row) => blanks_before(known.page, range_of(row).start).unwrap_or(""),
+        None => "",
     }
 }
 

@@ -10,5 +10,5 @@ mod texts;
 pub use closeness::{Closeness, breaks_between};
 pub use insides::{text_of, text_of_staying};
 pub use known::{Block, Known, Sides, block_of, first_text, last_text, takes_from_elsewhere};
-pub use lines::is_at_line_start;
+pub use lines::{blanks_at_line_start, is_at_line_start};
 pub use texts::joined;

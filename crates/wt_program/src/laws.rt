@@ -8,19 +8,19 @@ ghost use Rattle.wt_program.specs.CalledCalls.{TakesTextsAmongCalls};
 ghost use Rattle.wt_program.specs.Calls.{TakesTexts};
 ghost use Rattle.wt_program.specs.CellCalls.{TakesTextsInCells};
 ghost use Rattle.wt_program.specs.ContentCalls.{TakesContentsAmongCalls};
-ghost use Rattle.wt_program.specs.PlacedCalls.{TakesContentsAtPlaces, TakesTextsAtPlaces, TakesContentsInLines, TakesTextsInLines};
+ghost use Rattle.wt_program.specs.PlacedCalls.{TakesContentsAtPlaces, TakesTextsAtPlaces, TakesContentsInLines, TakesTextsInLines, TakesContentsInExpandedLines, TakesTextsInExpandedLines};
 ghost use Rattle.wt_program.specs.ProseCalls.{TakesChangedProse};
 
 /// Every call that keeps what `run` of `wt_pagetool` promises (`Ends`, `EndsAsEdit`) takes edited contents of paragraphs
-/// and headings among calls (`IsEditablePage`): `edit` has written the new page and no line, and `selser` is done; or a
+/// and headings among calls, of those that hold calls, too (`IsEditableWithCalls`): `edit` has written the new page and no line, and `selser` is done; or a
 /// device failed, or memory ran out. Where no device failed, only want of memory may come in the place of the new page.
 #[tactic(auto, using(crate::proofs::AmongCalls::calls_take))]
 pub fn calls_take_contents_among_calls()
     ensures { (c : Call) (ended : ℕ) → Ends c ended → EndsAsEdit c ended → TakesContentsAmongCalls c ended }
 {}
 
-/// Where a call takes edited contents, it takes texts typed in the places of all that such blocks hold, told by what is
-/// sent for each node (`Sents`): these are such contents.
+/// Where a call takes edited contents, it takes texts typed in the places of all that blocks hold which call nothing
+/// (`IsEditablePage`), told by what is sent for each node (`Sents`): these are such contents.
 #[tactic(auto, using(crate::proofs::TextCalls::texts_so))]
 pub fn texts_among_calls_are_taken_so()
     ensures { (c : Call) (ended : ℕ) → TakesContentsAmongCalls c ended → TakesTextsAmongCalls c ended }
@@ -78,6 +78,14 @@ pub fn contents_at_their_places_are_taken_so()
 pub fn calls_take_contents_in_lines()
     ensures contents { (c : Call) (ended : ℕ) → Ends c ended → EndsAsEdit c ended → TakesContentsInLines c ended }
     ensures texts { (c : Call) (ended : ℕ) → Ends c ended → EndsAsEdit c ended → TakesTextsInLines c ended }
+{}
+
+/// So it is of pages with calls, by the lines of the expanded page (`IsLinedAmong`): each such call takes contents and texts of
+/// paragraphs and headings whose lines come from no call, in the body, in cells and in captions, whatever calls are round
+/// them, where none is tangled and none is in a group.
+pub fn calls_take_contents_by_lines_among_calls()
+    ensures contents { (c : Call) (ended : ℕ) → Ends c ended → EndsAsEdit c ended → TakesContentsInExpandedLines c ended }
+    ensures texts { (c : Call) (ended : ℕ) → Ends c ended → EndsAsEdit c ended → TakesTextsInExpandedLines c ended }
 {}
 
 /// Every such call takes paragraphs that come into a page of typed paragraphs and go from it (`IsProseChange`): `edit` has

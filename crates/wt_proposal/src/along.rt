@@ -24,6 +24,18 @@ fn is_loose(tags: &[bool], node: &Node<'_>) -> bool {
 
 // ---- in the page
 
+/// Whether a table ends directly before a place of the page.
+fn is_behind_table(page: &str, at: usize) -> bool {
+    byte_at(page, at.saturating_sub(1)) == b'}' && byte_at(page, at.saturating_sub(2)) == b'|'
+}
+
+/// Whether a mark of the page begins its line, or is a tag directly behind a table, as mostly the one before what only the
+/// page itself shows.
+fn begins_row(page: &str, mark: &Node<'_>) -> bool {
+    let at = range_of(mark).start;
+    is_at_line_start(page, at) || (is_tag(mark) && is_behind_table(page, at))
+}
+
 /// Whether a comment begins its line, and is one alone: several on a line of their own are one node.
 fn is_alone(page: &str, comment: &Node<'_>) -> bool {
     let place = range_of(comment);
@@ -33,7 +45,7 @@ fn is_alone(page: &str, comment: &Node<'_>) -> bool {
             return false;
         }
     }
-    is_at_line_start(page, place.start)
+    begins_row(page, comment)
 }
 
 /// Whether a mark of the page goes on in the line of the tag before it.

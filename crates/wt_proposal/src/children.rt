@@ -7,11 +7,11 @@ use wt_block_signs::{USUAL, ends_with_given_sign, goes_on_behind, is_item};
 use wt_checks::{is_compared, original};
 use wt_difference::inside;
 use wt_gaps::{
-    Along, Coming, Gap, Passed, behind_first, between_coming, comes_along, count_of, empties_row,
-    first_block, kind_at_end, kind_at_start, last_number, mark_at, nodes_between, place_behind,
-    push_between, push_breaks, push_comment, push_comment_line, push_emptied_row, push_gone,
-    push_new, push_up_to_comment, range_of, signs_in, slices_of, style_beside, wanted_between,
-    way_of,
+    Along, Coming, Gap, Passed, behind_first, between_coming, blanks_beside, comes_along, count_of,
+    empties_row, first_block, kind_at_end, kind_at_start, last_number, mark_at, nodes_between,
+    place_behind, push_between, push_breaks, push_comment, push_comment_line, push_emptied_row,
+    push_gone, push_new, push_up_to_comment, range_of, signs_in, slices_of, style_beside,
+    wanted_between, way_of,
 };
 use wt_known::{Known, is_at_line_start, last_text};
 use wt_span::{NoMemory, Str};
@@ -37,6 +37,7 @@ fn coming_of<'t, 'a>(
     gap: &Gap<'_, 't, 'a>,
 ) -> Result<Option<Coming>, NoMemory> {
     let mut coming: Option<Coming> = None;
+    let blanks = blanks_beside(known, gap);
     let mut left = count_of(gap.new);
     let mut block = gap.first;
     let mut before = None;
@@ -58,6 +59,7 @@ fn coming_of<'t, 'a>(
                 signs: signs.as_str(),
                 tail: tail_of(gap, left),
                 style: if keeps { gap.style } else { USUAL },
+                blanks,
             };
             coming = Some(match coming {
                 None => begun_with(alloc, known, &around, node)?,
@@ -252,6 +254,7 @@ fn followed<'t, 'a>(
             &mut source,
             between_coming(known, is_tight, last, before, node),
         )?;
+        source.push_str(around.blanks)?;
     }
     let from = source.as_str().len();
     push_behind(alloc, &mut source, known, around, goes_on, node)?;

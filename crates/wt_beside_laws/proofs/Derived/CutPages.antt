@@ -43,7 +43,7 @@ ends_plain [] e = tt
 ends_plain (b ∷ []) e = end_plain b e
 ends_plain (b ∷ c ∷ bs) e = ends_plain (c ∷ bs) e
 
-further_there : (ss : List BlockSpot) (behind : List ℕ) (zs : List Item) → AreFurtherCuts ss behind zs → EndsThere (spots_source ss behind)
+pub further_there : (ss : List BlockSpot) (behind : List ℕ) (zs : List Item) → AreFurtherCuts ss behind zs → EndsThere (spots_source ss behind)
 further_there [] behind zs h = h
 further_there (s ∷ ss) behind zs h = by s.before h.2
   where
@@ -51,13 +51,13 @@ further_there (s ∷ ss) behind zs h = by s.before h.2
     by [] e = absurd e
     by (b ∷ bs) e = e
 
-begins_line : (bs : List ℕ) → BeginsBreak bs → BeginsLine (page_items bs)
+pub begins_line : (bs : List ℕ) → BeginsBreak bs → BeginsLine (page_items bs)
 begins_line [] e = absurd e
 begins_line (b ∷ bs) e =
     let P : ℕ → Type 0 = λ (c : ℕ). BeginsLine (page_items (c ∷ bs)) in
     subst P (sym e) (let first = break_first bs (page_items (10 ∷ bs)) refl in subst BeginsLine (sym first.is) refl)
 
-ends_line : (bs : List ℕ) → EndsThere bs → EndsLine (page_items bs)
+pub ends_line : (bs : List ℕ) → EndsThere bs → EndsLine (page_items bs)
 ends_line [] e = subst EndsLine (sym (read_items [] [] reads_nothing)) tt
 ends_line (b ∷ bs) e =
     let P : ℕ → Type 0 = λ (c : ℕ). EndsLine (page_items (c ∷ bs)) in
@@ -102,14 +102,18 @@ line_ended line own (b ∷ r) zs is e all behind =
 
 -- ---- one block, with what is before it and what is behind it
 
-record SpotRead (s : BlockSpot) (rest : List ℕ) (zs : List Item) : Type 0 where
-  before_utf8 : IsUtf8 s.before
-  rest_utf8 : IsUtf8 rest
-  content : IsContent s.block s.text
-  ends : HasEndsBefore (source_of s.block s.text ++ rest) s.before
-  line : LineEnds (source_of s.block s.text) rest
-  rest_is : page_items rest ≡ zs
-  calm : CallsNothing zs
+pub record SpotRead (s : BlockSpot) (rest : List ℕ) (zs : List Item) : Type 0 where
+  pub before_utf8 : IsUtf8 s.before
+  pub rest_utf8 : IsUtf8 rest
+  pub content : IsContent s.block s.text
+  pub ends : HasEndsBefore (source_of s.block s.text ++ rest) s.before
+  pub line : LineEnds (source_of s.block s.text) rest
+  pub rest_is : page_items rest ≡ zs
+
+-- of a page that calls nothing no block calls anything, and neither does what is behind it
+own_calm : (s : BlockSpot) (rest : List ℕ) (zs : List Item) (c : IsSpotCut s zs) → EndsThere rest → CallsNothing zs → page_items rest ≡ c.rest → CallsNothing c.own
+own_calm s rest zs c there calm behind =
+    calm_between c.before c.own c.rest (first_unbraced rest c.rest there behind) (subst CallsNothing c.is calm)
 
 behind_calm : (xs own zs : List Item) → CallsNothing (xs ++ (own ++ zs)) → CallsNothing zs
 behind_calm xs own zs c =
@@ -120,11 +124,10 @@ behind_calm xs own zs c =
 some_before : (line rest : List ℕ) → 0 < length line → 0 < length (line ++ rest)
 some_before line rest h = omega (arith, h, length-append line rest)
 
-spot_read : (s : BlockSpot) (rest : List ℕ) (zs : List Item) (c : IsSpotCut s zs) → page_items (s.before ++ (source_of s.block s.text ++ rest)) ≡ zs
-    → IsUtf8 (s.before ++ (source_of s.block s.text ++ rest)) → CallsNothing zs → AreEnded s.before → EndsThere rest
-    → EndsClosed (source_of s.block s.text) rest
-    → (ReadAlone (source_of s.block s.text) c.own → BlockRead s.block s.text c.own → CallsNothing c.own → IsContent s.block s.text) → SpotRead s rest c.rest
-spot_read s rest zs c e u calm ended there closed make =
+pub spot_read : (s : BlockSpot) (rest : List ℕ) (zs : List Item) (c : IsSpotCut s zs) → page_items (s.before ++ (source_of s.block s.text ++ rest)) ≡ zs
+    → IsUtf8 (s.before ++ (source_of s.block s.text ++ rest)) → AreEnded s.before → EndsThere rest → EndsClosed (source_of s.block s.text) rest
+    → (page_items rest ≡ c.rest → ReadAlone (source_of s.block s.text) c.own → BlockRead s.block s.text c.own → IsContent s.block s.text) → SpotRead s rest c.rest
+spot_read s rest zs c e u ended there closed make =
     let line : List ℕ = source_of s.block s.text in
     let whole : page_items (s.before ++ (line ++ rest)) ≡ c.before ++ (c.own ++ c.rest) = e ∙ c.is in
     let first = page_cut s.before (line ++ rest) c.before (c.own ++ c.rest) whole c.source in
@@ -140,9 +143,7 @@ spot_read s rest zs c e u calm ended there closed make =
     let before_parts = ended_utf8 s.before (line ++ rest) ended u in
     let line_parts = there_utf8 line rest there before_parts.1 in
     let read = block_read s.block s.text c.own c.block line_parts.0 alone in
-    let calls : CallsNothing (c.before ++ (c.own ++ c.rest)) = subst CallsNothing c.is calm in
-    let own_calm : CallsNothing c.own = calm_between c.before c.own c.rest (first_unbraced rest c.rest there behind) calls in
-    let content : IsContent s.block s.text = make alone read own_calm in
+    let content : IsContent s.block s.text = make behind alone read in
     record {
       before_utf8 = before_parts.0;
       rest_utf8 = line_parts.1;
@@ -150,7 +151,6 @@ spot_read s rest zs c e u calm ended there closed make =
       ends = settled_ends s.before (line ++ rest) (some_before line rest (block_some s.block s.text content)) (first.settles (inl (ends_plain s.before ended)));
       line = line_ended line c.own rest c.rest own_source there all behind;
       rest_is = behind;
-      calm = behind_calm c.before c.own c.rest calls;
     }
 
 -- ---- all blocks
@@ -161,9 +161,10 @@ further_read [] behind zs e u calm h f =
     let begins = there_begins behind h in
     ((record { uncommented = begins.is }, u, ends_line behind h), tt)
 further_read (s ∷ ss) behind zs e u calm h f =
-    let r = spot_read s (spots_source ss behind) zs h.0 e u calm h.1 (further_there ss behind h.0.rest h.4) h.3
-    (λ a b c. block_content s.block s.text h.0.own a b c f.0) in
-    let more = further_read ss behind h.0.rest r.rest_is r.rest_utf8 r.calm h.4 f.1 in (
+    let there : EndsThere (spots_source ss behind) = further_there ss behind h.0.rest h.4 in
+    let r = spot_read s (spots_source ss behind) zs h.0 e u h.1 there h.3
+    (λ c a b. block_content s.block s.text h.0.own a b (own_calm s (spots_source ss behind) zs h.0 there calm c) f.0) in
+    let more = further_read ss behind h.0.rest r.rest_is r.rest_utf8 (behind_calm h.0.before h.0.own h.0.rest (subst CallsNothing h.0.is calm)) h.4 f.1 in (
       (record { ended = h.1; before_utf8 = r.before_utf8; block = r.content }, begins_line s.before h.2, more.0),
       (r.ends, inr r.line, more.1),
     )
@@ -173,9 +174,10 @@ pub cut_read : (ss : List BlockSpot) (behind : List ℕ) → IsUtf8 (spots_sourc
 cut_read [] behind u calm h f = absurd h
 cut_read (s ∷ ss) behind u calm h f =
     let page : List ℕ = spots_source (s ∷ ss) behind in
-    let r = spot_read s (spots_source ss behind) (page_items page) h.0 refl u calm h.1 (further_there ss behind h.0.rest h.3) h.2
-    (λ a b c. block_content s.block s.text h.0.own a b c f.0) in
-    let more = further_read ss behind h.0.rest r.rest_is r.rest_utf8 r.calm h.3 f.1 in (
+    let there : EndsThere (spots_source ss behind) = further_there ss behind h.0.rest h.3 in
+    let r = spot_read s (spots_source ss behind) (page_items page) h.0 refl u h.1 there h.2
+    (λ c a b. block_content s.block s.text h.0.own a b (own_calm s (spots_source ss behind) (page_items page) h.0 there calm c) f.0) in
+    let more = further_read ss behind h.0.rest r.rest_is r.rest_utf8 (behind_calm h.0.before h.0.own h.0.rest (subst CallsNothing h.0.is calm)) h.3 f.1 in (
       record { ended = h.1; before_utf8 = r.before_utf8; block = r.content },
       more.0,
       record { calls_nothing = calm; end_before = (r.ends, inr r.line, more.1) },
@@ -186,7 +188,8 @@ pub one_read : (s : BlockSpot) (behind : List ℕ) (c : IsSpotCut s (page_items 
     → CallsNothing (page_items (spots_source (s ∷ []) behind)) → AreEnded s.before → EndsThere behind → EndsClosed (source_of s.block s.text) behind
     → (ReadAlone (source_of s.block s.text) c.own → BlockRead s.block s.text c.own → CallsNothing c.own → IsContent s.block s.text) → AreRead (s ∷ []) behind
 one_read s behind c u calm ended there closed make =
-    let r = spot_read s behind (page_items (spots_source (s ∷ []) behind)) c refl u calm ended there closed make in
+    let zs : List Item = page_items (spots_source (s ∷ []) behind) in
+    let r = spot_read s behind zs c refl u ended there closed (λ e a b. make a b (own_calm s behind zs c there calm e)) in
     let begins = there_begins behind there in (
       record { ended = ended; before_utf8 = r.before_utf8; block = r.content },
       (record { uncommented = begins.is }, r.rest_utf8, ends_line behind there),

@@ -41,7 +41,7 @@ all_fit (more (tree l ts) us) = (fits_by (edit_shape l.kind).inline l, all_fit u
 
 -- ---- what is typed are characters
 
-both_characters : (xs ys : List ContentSign) → AreCharacters xs → AreCharacters ys → AreCharacters (xs ++ ys)
+pub both_characters : (xs ys : List ContentSign) → AreCharacters xs → AreCharacters ys → AreCharacters (xs ++ ys)
 both_characters [] ys h k = k
 both_characters (letter c ∷ xs) ys h k = (h.0, both_characters xs ys h.1 k)
 both_characters (thing t ∷ xs) ys h k = both_characters xs ys h k
@@ -50,7 +50,7 @@ letters_by : (cs : List ℕ) → scalars cs ≡ true → AreCharacters (map lett
 letters_by [] h = tt
 letters_by (c ∷ cs) h = (and_left (scalar c) (scalars cs) h, letters_by cs (and_right (scalar c) (scalars cs) h))
 
-text_characters : (text : List ℕ) → IsUtf8 text → AreCharacters (letters text)
+pub text_characters : (text : List ℕ) → IsUtf8 text → AreCharacters (letters text)
 text_characters text u = letters_by (chars text) (scalars-chars text u)
 
 thing_by : (p : Page) (l : Label) (ts : Trees) (new : List ContentSign) (u : IsUnchanged p l ts) → AreCharacters (unless_kept p (kept_with l.id p.kept) (tree l ts) new)

@@ -124,19 +124,19 @@ mutual
 -- ---- the page
 
 -- `Template:T` is a word, and no other page is there
-abbrev a_word : Pages
+abbrev pub a_word : Pages
 a_word full = if bytes_eq full (codes "Template:T") then Some (codes "b") else None
 
-abbrev a_title : BlockSpot
+abbrev pub a_title : BlockSpot
 a_title = record { before = codes "{{t}}\n\n"; block = a_heading (spaced 2); text = codes "h" }
 
-abbrev in_a_cell : BlockSpot
+abbrev pub in_a_cell : BlockSpot
 in_a_cell = a_spot (codes "\n{|\n|\n") (codes "x<br>y")
 
-abbrev behind : List ℕ
+abbrev pub behind : List ℕ
 behind = codes "\n|}"
 
-abbrev whole_page : List ℕ
+abbrev pub whole_page : List ℕ
 whole_page = codes "{{t}}\n\n== h ==\n{|\n|\nx<br>y\n|}"
 
 was : spots_source (a_title ∷ in_a_cell ∷ []) behind ≡ whole_page

@@ -164,11 +164,11 @@ heading_b s f = record {
   is = refl;
 }
 
-type_a : (k : TextBlock) → HasFrame k → IsTypedIn k (97 ∷ [])
+pub type_a : (k : TextBlock) → HasFrame k → IsTypedIn k (97 ∷ [])
 type_a a_paragraph f = letter_a
 type_a (a_heading s) f = heading_a s f
 
-type_b : (k : TextBlock) → HasFrame k → IsTypedIn k (98 ∷ [])
+pub type_b : (k : TextBlock) → HasFrame k → IsTypedIn k (98 ∷ [])
 type_b a_paragraph f = letter_b
 type_b (a_heading s) f = heading_b s f
 

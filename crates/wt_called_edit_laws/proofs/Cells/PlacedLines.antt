@@ -52,12 +52,12 @@ marks_off (x ∷ xs) ms e =
 front_off : (ls : List (List Item)) (ms : List Item) → list_all is_mark ms ≡ true → empty_end (joined ls) ≡ [] ∷ [] → before_marks (joined ls ++ ms) ≡ joined ls
 front_off ls ms all whole = marks_off (joined ls) ms all ∙ no_marks_end (joined ls) whole
 
-rows_by : (bs : List Bool) (ls : List (List Item)) (ms : List Item) → list_all is_mark ms ≡ true → full_lines (joined ls) ≡ ls
+pub rows_by : (bs : List Bool) (ls : List (List Item)) (ms : List Item) → list_all is_mark ms ≡ true → full_lines (joined ls) ≡ ls
     → empty_end (joined ls) ≡ [] ∷ [] → rows_of_part bs (joined ls ++ ms) ≡ written_rows (length bs) ls
 rows_by bs ls ms all are whole =
     ap (λ (xs : List Item). written_rows (length bs) (full_lines xs)) (front_off ls ms all whole) ∙ ap (written_rows (length bs)) are
 
-leads_by : (k : TextBlock) (bs : List Bool) (ls : List (List Item)) (ms : List Item) → list_all is_mark ms ≡ true → full_lines (joined ls) ≡ ls
+pub leads_by : (k : TextBlock) (bs : List Bool) (ls : List (List Item)) (ms : List Item) → list_all is_mark ms ≡ true → full_lines (joined ls) ≡ ls
     → empty_end (joined ls) ≡ [] ∷ [] → AllTrue (open_after bs (written_rows (length bs) ls)) → EndsFor k (written_rows (length bs) ls)
     → LeadsInto k bs (joined ls ++ ms)
 leads_by k bs ls ms all are whole cells apart =
@@ -68,7 +68,7 @@ leads_by k bs ls ms all are whole cells apart =
       apart = subst (EndsFor k) (sym same) apart;
     }
 
-own_block : (k : TextBlock) (n : ℕ) (q : List ℕ) (ts : List (List Item)) (y : Item) (ys : List Item) → joined ts ≡ y ∷ ys → full_lines (joined ts) ≡ ts
+pub own_block : (k : TextBlock) (n : ℕ) (q : List ℕ) (ts : List (List Item)) (y : Item) (ys : List Item) → joined ts ≡ y ∷ ys → full_lines (joined ts) ≡ ts
     → OwnLined k n q ts → AreBlockItems k q (content (joined ts)) × StayText k n (content (joined ts))
 own_block a_paragraph n q ts y ys is e h =
     let told = own_lines n (joined ts) ts y ys is e h.0 in
@@ -77,11 +77,11 @@ own_block (a_heading s) n q ts y ys is e h = (h, tt)
 
 -- ---- line breaks
 
-past_end : (ys : List Item) → empty_end ys ≡ [] ∷ [] → empty_end (break ∷ ys) ≡ [] ∷ []
+pub past_end : (ys : List Item) → empty_end ys ≡ [] ∷ [] → empty_end (break ∷ ys) ≡ [] ∷ []
 past_end [] e = refl
 past_end (y ∷ ys) e = e
 
-some_lines : (us : List (List Item)) (m : List Item) (ms : List (List Item)) → (l : List Item) × (ls : List (List Item)) × (us ++ m ∷ ms ≡ l ∷ ls)
+pub some_lines : (us : List (List Item)) (m : List Item) (ms : List (List Item)) → (l : List Item) × (ls : List (List Item)) × (us ++ m ∷ ms ≡ l ∷ ls)
 some_lines [] m ms = (m, ms, refl)
 some_lines (u ∷ us) m ms = (u, us ++ m ∷ ms, refl)
 
@@ -90,7 +90,7 @@ ends_behind : (b : ℕ) (bs : List ℕ) (c : ℕ) (cs : List ℕ) → AreEnded (
 ends_behind b [] c cs e = e
 ends_behind b (d ∷ bs) c cs e = ends_behind d bs c cs e
 
-both_end : (bs cs : List ℕ) → AreEnded bs → AreEnded cs → AreEnded (bs ++ cs)
+pub both_end : (bs cs : List ℕ) → AreEnded bs → AreEnded cs → AreEnded (bs ++ cs)
 both_end [] cs h g = g
 both_end (b ∷ bs) [] h g = subst AreEnded (sym (append-nil (b ∷ bs))) h
 both_end (b ∷ bs) (c ∷ cs) h g = ends_behind b bs c cs g
@@ -98,7 +98,7 @@ both_end (b ∷ bs) (c ∷ cs) h g = ends_behind b bs c cs g
 marks_ended : (xs ms : List Item) → OwnBreaks xs → empty_end xs ≡ [] ∷ [] → AreEnded (sources ms) → AreEnded (sources (xs ++ ms))
 marks_ended xs ms o e a = subst AreEnded (sym (flat_map-append source xs ms)) (both_end (sources xs) (sources ms) (ended_bytes xs o e) a)
 
-lines_end : (last : TextBlock) (n : ℕ) (es : List Item) (ls : List (List Item)) → IsEnding es → ((m : List Item) (ms : List (List Item)) → ls ≡ m ∷ ms → es ≡ break ∷ [])
+pub lines_end : (last : TextBlock) (n : ℕ) (es : List Item) (ls : List (List Item)) → IsEnding es → ((m : List Item) (ms : List (List Item)) → ls ≡ m ∷ ms → es ≡ break ∷ [])
     → full_lines (joined ls) ≡ ls → LinesApart last n ls → EndsThere (sources (es ++ joined ls)) × EndsAfter last n (es ++ joined ls)
 lines_end a_paragraph n [] [] i f are s = (tt, tt)
 lines_end a_paragraph n (x ∷ es) [] i f are s =
@@ -114,22 +114,20 @@ lines_end (a_heading t) n es (m ∷ ms) i f are s =
 -- ---- the parts round a block
 
 -- the items of its lines, behind the marks that begin the first
-abbrev own_items : LinedBlock → List Item
+abbrev pub own_items : LinedBlock → List Item
 own_items b = joined (b.first ∷ b.more)
 
-record Round (b : LinedBlock) (tail : List (List Item)) : Type 0 where
-  y : Item
-  ys : List Item
-  some : own_items b ≡ y ∷ ys
-  front_are : full_lines (joined b.before) ≡ b.before
-  front_whole : empty_end (joined b.before) ≡ [] ∷ []
-  own_are : full_lines (own_items b) ≡ b.first ∷ b.more
-  tail_runs : AreRuns goes_on tail (joined tail)
-  tail_breaks : OwnBreaks (joined tail)
-  front_breaks : OwnBreaks (joined b.before)
-  own_ending : IsEnding (ending (own_items b))
-  ends : (m : List Item) (ms : List (List Item)) → tail ≡ m ∷ ms → ending (own_items b) ≡ break ∷ []
-  items : joined (b.before ++ (((b.marks ++ b.first) ∷ b.more) ++ tail))
+pub record Round (b : LinedBlock) (tail : List (List Item)) : Type 0 where
+  pub y : Item
+  pub ys : List Item
+  pub some : own_items b ≡ y ∷ ys
+  pub front_are : full_lines (joined b.before) ≡ b.before
+  pub front_whole : empty_end (joined b.before) ≡ [] ∷ []
+  pub own_are : full_lines (own_items b) ≡ b.first ∷ b.more
+  pub tail_runs : AreRuns goes_on tail (joined tail)
+  pub own_ending : IsEnding (ending (own_items b))
+  pub ends : (m : List Item) (ms : List (List Item)) → tail ≡ m ∷ ms → ending (own_items b) ≡ break ∷ []
+  pub items : joined (b.before ++ (((b.marks ++ b.first) ∷ b.more) ++ tail))
       ≡ (joined b.before ++ b.marks) ++ (content (own_items b) ++ (ending (own_items b) ++ joined tail))
 
 pub run_behind : (ms : List Item) (y : Item) (ys others : List Item) → IsRun goes_on (ms ++ y ∷ ys) others → IsRun goes_on (y ∷ ys) others
@@ -154,26 +152,23 @@ lines_joined b tail =
     ∙ append_assoc b.marks (own_items b) (joined tail))
     ∙ sym (append_assoc front b.marks (own_items b ++ joined tail))
 
-text_ending : (ps : List Item) (y : Item) (ys : List Item) → ps ≡ y ∷ ys → OwnBreaks ps → empty_end ps ≡ [] ∷ [] → ending ps ≡ break ∷ []
+pub text_ending : (ps : List Item) (y : Item) (ys : List Item) → ps ≡ y ∷ ys → OwnBreaks ps → empty_end ps ≡ [] ∷ [] → ending ps ≡ break ∷ []
 text_ending [] y ys is o e = cc
 text_ending (x ∷ ps) y ys is o e = ending_break x ps o e
 
-round : (b : LinedBlock) (tail : List (List Item)) (xs : List Item) → 1 ≤ length b.first
-    → AreRuns goes_on (b.before ++ (((b.marks ++ b.first) ∷ b.more) ++ tail)) xs → OwnBreaks xs → Round b tail
-round b tail xs seen runs breaks =
+-- whose line breaks are the page's own
+pub round : (b : LinedBlock) (tail : List (List Item)) (xs : List Item) → 1 ≤ length b.first
+    → AreRuns goes_on (b.before ++ (((b.marks ++ b.first) ∷ b.more) ++ tail)) xs → OwnBreaks (own_items b) → Round b tail
+round b tail xs seen runs text_breaks =
     let ts : List (List Item) = b.first ∷ b.more in
     let ks : List (List Item) = (b.marks ++ b.first) ∷ b.more in
-    let text : List Item = joined ts in
+    let text : List Item = own_items b in
     let front : List Item = joined b.before ++ b.marks in
     let last : List Item = joined tail in
     let later : AreRuns goes_on (ts ++ tail) (joined (ts ++ tail)) =
     runs_unmarked b.marks b.first (b.more ++ tail) (joined (ks ++ tail)) seen (runs_behind goes_on b.before (ks ++ tail) xs runs) in
     let own_runs : AreRuns goes_on ts text = runs_before goes_on ts tail (joined (ts ++ tail)) later in
     let some = some_items [] b.first b.more text own_runs in
-    let all : joined (b.before ++ (ks ++ tail)) ≡ front ++ (text ++ last) = lines_joined b tail in
-    let o : OwnBreaks (front ++ (text ++ last)) = subst OwnBreaks (joined_is goes_on (b.before ++ (ks ++ tail)) xs runs ∙ all) breaks in
-    let o2 : OwnBreaks (text ++ last) = own_rest front (text ++ last) o in
-    let text_breaks : OwnBreaks text = own_first text last o2 in
     record {
       y = some.0;
       ys = some.1;
@@ -182,13 +177,30 @@ round b tail xs seen runs breaks =
       front_whole = whole_before b.before (b.marks ++ b.first) (b.more ++ tail) xs runs;
       own_are = lines_of ts own_runs;
       tail_runs = runs_behind goes_on ts tail (joined (ts ++ tail)) later;
-      tail_breaks = own_rest text last o2;
-      front_breaks = own_first (joined b.before) b.marks (own_first front (text ++ last) o);
       own_ending = ending_own text text_breaks;
       ends = λ m ms e. text_ending text some.0 some.1 some.2 text_breaks
           (whole_before ts m ms (joined (ts ++ m ∷ ms)) (subst (λ (ls : List (List Item)). AreRuns goes_on (ts ++ ls) (joined (ts ++ ls))) e later));
-      items = all ∙ ap (λ (zs : List Item). front ++ (zs ++ last)) (sym (content_ending text))
+      items = lines_joined b tail ∙ ap (λ (zs : List Item). front ++ (zs ++ last)) (sym (content_ending text))
           ∙ ap (λ (zs : List Item). front ++ zs) (append_assoc (content text) (ending text) last);
+    }
+
+-- of a page that calls nothing each line break is its own
+record AllBreaks (b : LinedBlock) (tail : List (List Item)) : Type 0 where
+  front : OwnBreaks (joined b.before)
+  text : OwnBreaks (own_items b)
+  rest : OwnBreaks (joined tail)
+
+all_breaks : (b : LinedBlock) (tail : List (List Item)) (xs : List Item) → AreRuns goes_on (b.before ++ (((b.marks ++ b.first) ∷ b.more) ++ tail)) xs → OwnBreaks xs
+    → AllBreaks b tail
+all_breaks b tail xs runs o =
+    let front : List Item = joined b.before ++ b.marks in
+    let all : OwnBreaks (front ++ (own_items b ++ joined tail)) =
+    subst OwnBreaks (joined_is goes_on (b.before ++ (((b.marks ++ b.first) ∷ b.more) ++ tail)) xs runs ∙ lines_joined b tail) o in
+    let later : OwnBreaks (own_items b ++ joined tail) = own_rest front (own_items b ++ joined tail) all in
+    record {
+      front = own_first (joined b.before) b.marks (own_first front (own_items b ++ joined tail) all);
+      text = own_first (own_items b) (joined tail) later;
+      rest = own_rest (own_items b) (joined tail) later;
     }
 
 -- ---- all blocks
@@ -202,7 +214,8 @@ further last bs (b ∷ ls) behind xs es runs o i f h =
     let tail : List (List Item) = all_lines ls behind in
     let lines = some_lines b.before (b.marks ++ b.first) (b.more ++ tail) in
     let e : es ≡ break ∷ [] = f lines.0 lines.1 lines.2 in
-    let r : Round b tail = round b tail xs h.1.some runs o in
+    let breaks : AllBreaks b tail = all_breaks b tail xs runs o in
+    let r : Round b tail = round b tail xs h.1.some runs breaks.text in
     let front : List Item = joined b.before ++ b.marks in
     let own : List Item = content (own_items b) in
     let rest : List Item = ending (own_items b) ++ joined tail in
@@ -221,13 +234,13 @@ further last bs (b ∷ ls) behind xs es runs o i f h =
         source = refl;
         block = block.0;
       },
-      marks_ended (break ∷ joined b.before) b.marks ((λ t. refl), r.front_breaks) (past_end (joined b.before) r.front_whole) h.1.ended,
+      marks_ended (break ∷ joined b.before) b.marks ((λ t. refl), breaks.front) (past_end (joined b.before) r.front_whole) h.1.ended,
       refl,
       (refl, subst (NextApart last b.block) (sym same) h.0),
       leads_by b.block bs b.before b.marks h.1.are_marks r.front_are r.front_whole h.1.in_cells h.1.apart,
       subst (λ (rs : List Row). StayText b.block (length (open_after bs rs)) own) (sym same) block.1,
       subst (λ (rs : List Row). AreFurtherIn b.block (open_after bs rs) (spots_by (ending (own_items b)) ls) (end_by (ending (own_items b)) ls behind) rest) (sym same)
-          (further b.block (open_after bs rows) ls behind (joined tail) (ending (own_items b)) r.tail_runs r.tail_breaks r.own_ending r.ends h.2),
+          (further b.block (open_after bs rows) ls behind (joined tail) (ending (own_items b)) r.tail_runs breaks.rest r.own_ending r.ends h.2),
     )
 
 placed : (ls : List LinedBlock) (behind : List (List Item)) (xs : List Item) → page_items (spots_source (spots_by [] ls) (end_by [] ls behind)) ≡ xs
@@ -237,7 +250,8 @@ placed (b ∷ ls) behind xs e are o h =
     let tail : List (List Item) = all_lines ls behind in
     let all : List (List Item) = b.before ++ (((b.marks ++ b.first) ∷ b.more) ++ tail) in
     let runs : AreRuns goes_on all xs = subst (λ (ks : List (List Item)). AreRuns goes_on ks xs) are (runs_are goes_on xs) in
-    let r : Round b tail = round b tail xs h.0.some runs o in
+    let breaks : AllBreaks b tail = all_breaks b tail xs runs o in
+    let r : Round b tail = round b tail xs h.0.some runs breaks.text in
     let front : List Item = joined b.before ++ b.marks in
     let own : List Item = content (own_items b) in
     let rest : List Item = ending (own_items b) ++ joined tail in
@@ -252,16 +266,16 @@ placed (b ∷ ls) behind xs e are o h =
         source = refl;
         block = block.0;
       },
-      marks_ended (joined b.before) b.marks r.front_breaks r.front_whole h.0.ended,
+      marks_ended (joined b.before) b.marks breaks.front r.front_whole h.0.ended,
       leads_by b.block [] b.before b.marks h.0.are_marks r.front_are r.front_whole h.0.in_cells h.0.apart,
       subst (λ (rs : List Row). StayText b.block (length (open_after [] rs)) own) (sym same) block.1,
       subst (λ (rs : List Row). AreFurtherIn b.block (open_after [] rs) (spots_by (ending (own_items b)) ls) (end_by (ending (own_items b)) ls behind) rest) (sym same)
-          (further b.block (open_after [] rows) ls behind (joined tail) (ending (own_items b)) r.tail_runs r.tail_breaks r.own_ending r.ends h.1),
+          (further b.block (open_after [] rows) ls behind (joined tail) (ending (own_items b)) r.tail_runs breaks.rest r.own_ending r.ends h.1),
     )
 
 -- ---- they are the page
 
-own_source : (k : TextBlock) (n : ℕ) (q : List ℕ) (ts : List (List Item)) → OwnLined k n q ts → sources (content (joined ts)) ≡ source_of k q
+pub own_source : (k : TextBlock) (n : ℕ) (q : List ℕ) (ts : List (List Item)) → OwnLined k n q ts → sources (content (joined ts)) ≡ source_of k q
 own_source a_paragraph n q ts h = h.2
 own_source (a_heading s) n q ts h = block_source (a_heading s) q (content (joined ts)) h
 

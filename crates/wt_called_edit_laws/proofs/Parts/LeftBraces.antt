@@ -99,7 +99,7 @@ apart_by vs ws h = elim (none_opens (reduced vs) (left_in (reduced ws)) h) [
 
 -- ---- those of two texts
 
-met_left : (vs ws us : List Word) → AreMet vs ws us → AreApart vs ws → left_in (reduced us) ≡ left_in (reduced vs) ++ left_in (reduced ws)
+pub met_left : (vs ws us : List Word) → AreMet vs ws us → AreApart vs ws → left_in (reduced us) ≡ left_in (reduced vs) ++ left_in (reduced ws)
 met_left vs ws us (inl e) a = ap (λ (xs : List Word). left_in (reduced xs)) e ∙ ap left_in (reduced_apart vs ws a) ∙ left_append (reduced vs) (reduced ws)
 met_left vs ws us (inr m) a =
     let r = run_cut vs ws us a m in

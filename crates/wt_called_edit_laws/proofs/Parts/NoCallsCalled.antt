@@ -82,7 +82,7 @@ pub parts_calm : (ss : List BlockSpot) (behind : List ℕ) → AreRead ss behind
 parts_calm [] behind h = absurd h
 parts_calm (s ∷ ss) behind h = let c = read_calm s ss behind h in c.parts
 
-contents_after : (ss : List BlockSpot) (behind : List ℕ) → AreReadAfter ss behind → AreContents ss
+pub contents_after : (ss : List BlockSpot) (behind : List ℕ) → AreReadAfter ss behind → AreContents ss
 contents_after [] behind h = tt
 contents_after (s ∷ ss) behind h = let r : IsRead s = h.0 in (r.block, contents_after ss behind h.2)
 

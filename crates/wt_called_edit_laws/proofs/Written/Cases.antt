@@ -34,6 +34,7 @@ use Rattle.wt_beside_laws.specs.Called.{IsCalledIn}
 use Rattle.wt_beside_laws.specs.FlatBlocks.{IsSealed}
 use Rattle.wt_beside_laws.proofs.Groups.Cases.{a_word, call, in_paragraph, typed, gives_b, in_class}
 use Rattle.wt_called_edit_laws.specs.CallingBlocks.{IsNewContentIn}
+use Rattle.wt_called_edit_laws.specs.WholeContents.{IsShut}
 use Rattle.wt_called_edit_laws.specs.Written.{IsReadThing, IsOwnPart}
 use Rattle.wt_called_edit_laws.specs.WrittenAnew.{IsWrittenBeside}
 use Rattle.wt_called_edit_laws.proofs.Written.NewContents.{written_anew}
@@ -70,6 +71,9 @@ call_part = record { left = refl; anywhere = call_anywhere; texts = refl; undeep
 pub call_sealed : IsSealed (codes "{{t}}")
 call_sealed = record { closes = λ name us vs o v. unclosed_untagged name (codes "{{t}}") vs refl v }
 
+pub call_shut : IsShut call
+call_shut = (refl, λ e. cc)
+
 pub call_utf8 : IsUtf8 (codes "{{t}}")
 unfolding encode
 call_utf8 = (codes "{{t}}", (refl, refl))
@@ -77,7 +81,7 @@ call_utf8 = (codes "{{t}}", (refl, refl))
 -- ---- a paragraph
 
 pub was : IsWrittenBeside a_word in_paragraph typed
-was = record { called = in_class; read = (call_read, tt); parts = (call_part, tt); sealed = (call_sealed, tt); utf8 = (call_utf8, tt) }
+was = record { called = in_class; read = (call_read, tt); parts = (call_part, tt); sealed = (call_sealed, tt); shut = (call_shut, tt); utf8 = (call_utf8, tt) }
 
 -- ---- and another one
 
@@ -96,7 +100,7 @@ other_class = record {
 }
 
 pub now : IsWrittenBeside a_word in_paragraph other
-now = record { called = other_class; read = (call_read, tt); parts = (call_part, tt); sealed = (call_sealed, tt); utf8 = (call_utf8, tt) }
+now = record { called = other_class; read = (call_read, tt); parts = (call_part, tt); sealed = (call_sealed, tt); shut = (call_shut, tt); utf8 = (call_utf8, tt) }
 
 pub anew : IsNewContentIn a_word a_paragraph (spelled in_paragraph typed) (spelled in_paragraph other)
 anew = written_anew a_word in_paragraph in_paragraph typed other was now (inl (refl, tt))

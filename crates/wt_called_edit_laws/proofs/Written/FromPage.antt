@@ -19,6 +19,7 @@ use Rattle.wt_beside_laws.proofs.PageNodes.{EachMeets}
 use Rattle.wt_called_edit_laws.specs.CallingBlocks.{IsNewContentIn}
 use Rattle.wt_called_edit_laws.specs.InPieces.{pieces_source, AreInPieces}
 use Rattle.wt_called_edit_laws.specs.PageThings.{IsPageThing, shown_thing, MeetThere, MeetLater, ArePageThings, ThingsStay, thing_sources}
+use Rattle.wt_called_edit_laws.specs.WholeContents.{AreShut}
 use Rattle.wt_called_edit_laws.specs.Written.{AreReadThings, AreOwnParts}
 use Rattle.wt_called_edit_laws.specs.WrittenAnew.{node_sources, AreUtf8, StayButForOthers, IsWrittenBeside}
 use Rattle.wt_called_edit_laws.proofs.Written.InPieces.{pieces_anew}
@@ -32,7 +33,7 @@ later_stay pages t (b ∷ bs) [] e h = tt
 later_stay pages t (b ∷ bs) (d ∷ ds) (inl e) h = (subst (MeetThere pages t) e.0 h.0, later_stay pages t bs ds e.1 h.1)
 later_stay pages t (b ∷ bs) (d ∷ ds) (inr e) h = later_stay pages t bs (d ∷ ds) e.1 h.1
 
-things_stay : (pages : Pages) (bs ds : List Thing) → ThingsStay pages bs ds → ArePageThings pages bs → ArePageThings pages ds
+pub things_stay : (pages : Pages) (bs ds : List Thing) → ThingsStay pages bs ds → ArePageThings pages bs → ArePageThings pages ds
 things_stay pages [] [] e h = tt
 things_stay pages [] (d ∷ ds) e h = absurd e
 things_stay pages (b ∷ bs) [] e h = tt
@@ -64,6 +65,11 @@ of_seals : (pages : Pages) (signs : List ContentSign) → ArePageThings pages (t
 of_seals pages [] h = tt
 of_seals pages (letter c ∷ after) h = of_seals pages after h
 of_seals pages (thing t ∷ after) h = (h.0.sealed, of_seals pages after h.2)
+
+of_shut : (pages : Pages) (signs : List ContentSign) → ArePageThings pages (things signs) → AreShut signs
+of_shut pages [] h = tt
+of_shut pages (letter c ∷ after) h = of_shut pages after h
+of_shut pages (thing t ∷ after) h = (h.0.shut, of_shut pages after h.2)
 
 of_utf8 : (pages : Pages) (signs : List ContentSign) → ArePageThings pages (things signs) → AreUtf8 (node_sources signs)
 of_utf8 pages [] h = tt
@@ -127,6 +133,7 @@ beside_these pages olds s signs w v b e h k =
       read = of_reading pages signs own;
       parts = of_parts pages signs own;
       sealed = of_seals pages signs own;
+      shut = of_shut pages signs own;
       utf8 = of_utf8 pages signs own;
     }
 

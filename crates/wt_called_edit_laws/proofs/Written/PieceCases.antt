@@ -22,7 +22,7 @@ use Rattle.wt_called_edit_laws.specs.CallingBlocks.{IsNewContentIn}
 use Rattle.wt_called_edit_laws.specs.InPieces.{AreInPieces, pieces_source}
 use Rattle.wt_called_edit_laws.specs.PageThings.{ArePageThings, ThingsStay}
 use Rattle.wt_called_edit_laws.specs.WrittenAnew.{StayButForOthers}
-use Rattle.wt_called_edit_laws.proofs.Written.Cases.{call_read, call_part, call_sealed, call_utf8, other, now}
+use Rattle.wt_called_edit_laws.proofs.Written.Cases.{call_read, call_part, call_sealed, call_shut, call_utf8, other, now}
 use Rattle.wt_called_edit_laws.proofs.Written.FromPage.{page_takes}
 use Rattle.wt_called_edit_laws.proofs.Written.InPieces.{pieces_anew}
 use Rattle.wt_called_edit_laws.proofs.Written.Joined.{calm_written}
@@ -64,7 +64,7 @@ anew_by_hand = pieces_anew a_word pieces in_paragraph other in_pieces now stay
 -- ---- whatever is typed beside the call
 
 of_page : ArePageThings a_word (call ∷ [])
-of_page = (record { folder = gives_b; read = call_read; part = call_part; sealed = call_sealed; utf8 = call_utf8 }, tt, tt)
+of_page = (record { folder = gives_b; read = call_read; part = call_part; sealed = call_sealed; shut = call_shut; utf8 = call_utf8 }, tt, tt)
 
 any_texts : (signs : List ContentSign) → AreCharacters signs → BeginsWithText signs → EndsWithText signs → things signs ≡ call ∷ []
     → IsNewContentIn a_word a_paragraph (pieces_source pieces) (spelled in_paragraph signs)

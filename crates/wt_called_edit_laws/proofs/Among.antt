@@ -1,0 +1,10 @@
+-- Pages with calls whose blocks are told by the lines of the expanded page.
+pub mod Crossed
+pub mod LeftCalm
+pub mod PartsApart
+pub mod Flattened
+pub mod Members
+pub mod OwnSeams
+pub mod OwnItems
+pub mod BlockAt
+pub mod LinedParts

@@ -1,0 +1,228 @@
+-- A block among the items of an expanded page: the page's items, where calls are characters, are cut at it, and so are the page's bytes.
+use Rattle.std.proofs.Common.{arith, ◌≡◌, ◌⊎◌, inl, inr, ℕ, ◌+◌, ◌≤◌, Option, None, List, [], ◌∷◌, ◌++◌, length, refl, sym, ap, ap₂, ◌∙◌, subst, append_assoc, length-append}
+use Rattle.std.proofs.lemmas.Grind.{flat_map-append}
+use Rattle.wt_span.specs.Items.{Item, source, sources}
+use Rattle.wt_span.specs.Origins.{OuterCall, Span}
+use Rattle.wt_annotated.specs.Seams.{last_of, text_from}
+use Rattle.wt_annotated.proofs.Seams.{text_append_from}
+use Rattle.wt_expand.specs.PageCalls.{expanded_page}
+use Rattle.wt_expand.specs.PageItems.{page_items}
+use Rattle.wt_expand.specs.Work.{Pages}
+use Rattle.wt_text_edit_laws.specs.PageCuts.{AreBlockItems}
+use Rattle.wt_text_edit_laws.specs.TextBlocks.{TextBlock, source_of}
+use Rattle.wt_text_edit_laws.proofs.Cuts.ItemCuts.{HaveBytes}
+use Rattle.wt_beside_laws.proofs.Derived.BlockContents.{block_unmarked}
+use Rattle.wt_beside_laws.proofs.Derived.BodyRead.{parts_are}
+use Rattle.wt_called_edit_laws.specs.CalledContents.{StayText}
+use Rattle.wt_called_edit_laws.specs.LinedAmong.{AreOfPage, AreBeside}
+use Rattle.wt_called_edit_laws.proofs.Among.OwnItems.{from_page, Skipped, skip, TakenOwn, take_own, rest_clear}
+use Rattle.wt_called_edit_laws.proofs.Among.OwnSeams.{own_last, IsOwnSeam, Rest}
+use Rattle.wt_called_edit_laws.proofs.Among.PartsApart.{IsClear, members_of}
+use Rattle.wt_called_edit_laws.proofs.Cells.PlacedBlocks.{own_alone, stays_so}
+use Rattle.wt_called_edit_laws.proofs.PartTexts.{own_text}
+
+-- ---- bytes that are cut
+
+abbrev first_byte : ℕ → List ℕ → ℕ
+first_byte b [] = b
+first_byte b (c ∷ cs) = c
+
+abbrev other_bytes : List ℕ → List ℕ
+other_bytes [] = []
+other_bytes (c ∷ cs) = cs
+
+bytes_cut : (gs bs cs ds : List ℕ) → gs ++ bs ≡ cs ++ ds → length gs ≡ length cs → (gs ≡ cs) × (bs ≡ ds)
+bytes_cut [] bs [] ds e n = (refl, e)
+bytes_cut [] bs (c ∷ cs) ds e n = absurd (omega (arith, n))
+bytes_cut (g ∷ gs) bs [] ds e n = absurd (omega (arith, n))
+bytes_cut (g ∷ gs) bs (c ∷ cs) ds e n =
+    let r = bytes_cut gs bs cs ds (ap other_bytes e) (omega (arith, n)) in
+    (ap₂ (λ (x : ℕ) (xs : List ℕ). x ∷ xs) (ap (first_byte g) e) r.0, r.1)
+
+have_front : (xs ys : List Item) → HaveBytes (xs ++ ys) → HaveBytes xs
+have_front [] ys h = tt
+have_front (x ∷ xs) ys h = (h.0, have_front xs ys h.1)
+
+have_behind : (xs ys : List Item) → HaveBytes (xs ++ ys) → HaveBytes ys
+have_behind [] ys h = h
+have_behind (x ∷ xs) ys h = have_behind xs ys h.1
+
+own_seam : (xs ys : List Item) → last_of None xs ≡ None → IsOwnSeam xs ys
+own_seam [] ys e = tt
+own_seam (x ∷ xs) ys e = inl e
+
+beside_first : (from to : ℕ) (spans : List Span) → from ≤ to → AreBeside from to spans → AreBeside from from spans
+beside_first from to [] le h = tt
+beside_first from to (s ∷ spans) le h = (by h.0, beside_first from to spans le h.1)
+  where
+    by : (s.1 ≤ from) ⊎ (to ≤ s.0) → (s.1 ≤ from) ⊎ (from ≤ s.0)
+    by (inl l) = inl l
+    by (inr r) = inr (omega (arith, r, le))
+
+beside_front : (from mid to : ℕ) (spans : List Span) → mid ≤ to → AreBeside from to spans → AreBeside from mid spans
+beside_front from mid to [] le h = tt
+beside_front from mid to (s ∷ spans) le h = (by h.0, beside_front from mid to spans le h.1)
+  where
+    by : (s.1 ≤ from) ⊎ (to ≤ s.0) → (s.1 ≤ from) ⊎ (mid ≤ s.0)
+    by (inl l) = inl l
+    by (inr r) = inr (omega (arith, r, le))
+
+-- ---- from a place of the page on
+
+abbrev pub calls_of : Pages → List ℕ → List OuterCall
+calls_of pages page = (expanded_page pages page).outer
+
+-- the items of the expanded page from there on, and those of the page, with calls gs characters
+pub record IsRest (pages : Pages) (page : List ℕ) (p : ℕ) (ys qs : List Item) : Type 0 where
+  pub rest : Rest pages (calls_of pages page) (expanded_page pages page).text_calls 0 (members_of page) p ys qs
+  pub same : text_from (calls_of pages page) None ys ≡ sources qs
+  pub front : List Item
+  pub whole : page_items page ≡ front ++ qs
+  pub some : HaveBytes qs
+
+-- where these end
+abbrev pub text_to : Pages → List ℕ → ℕ → List Item → ℕ
+text_to pages page p xs = p + length (text_from (calls_of pages page) None xs)
+
+-- ---- past items before a cut
+
+record IsPast (pages : Pages) (page : List ℕ) (p : ℕ) (xs ys qs : List Item) : Type 0 where
+  before : List Item
+  behind : List Item
+  is : qs ≡ before ++ behind
+  source : sources before ≡ text_from (calls_of pages page) None xs
+  clear : IsClear (text_to pages page p xs) 0 (members_of page)
+  next : IsRest pages page (text_to pages page p xs) ys behind
+
+past_front : (pages : Pages) (page : List ℕ) (p : ℕ) (xs ys qs : List Item) → IsRest pages page p (xs ++ ys) qs → last_of None xs ≡ None
+    → AreBeside (text_to pages page p xs) (text_to pages page p xs) (expanded_page pages page).text_calls → IsPast pages page p xs ys qs
+past_front pages page p xs ys qs r ends beside =
+    let calls : List OuterCall = calls_of pages page in
+    let spans : List Span = (expanded_page pages page).text_calls in
+    let k : Skipped pages calls spans 0 (members_of page) p xs ys qs =
+    skip pages calls spans 0 (members_of page) p xs ys qs r.rest (own_seam xs ys ends) beside in
+    let text_is : text_from calls None (xs ++ ys) ≡ text_from calls None xs ++ text_from calls None ys =
+    text_append_from calls None xs ys ∙ ap (λ (o : Option ℕ). text_from calls None xs ++ text_from calls o ys) ends in
+    let source_is : sources qs ≡ sources k.front ++ sources k.behind = ap sources k.chars ∙ flat_map-append source k.front k.behind in
+    let cut = bytes_cut (text_from calls None xs) (text_from calls None ys) (sources k.front) (sources k.behind) (sym text_is ∙ r.same ∙ source_is) (sym k.size) in
+    record {
+      before = k.front;
+      behind = k.behind;
+      is = k.chars;
+      source = sym cut.0;
+      clear = rest_clear pages calls spans 0 (members_of page) (text_to pages page p xs) ys k.behind k.rest;
+      next = record {
+        rest = k.rest;
+        same = cut.1;
+        front = r.front ++ k.front;
+        whole = r.whole ∙ ap (λ zs. r.front ++ zs) k.chars ∙ sym (append_assoc r.front k.front k.behind);
+        some = have_behind k.front k.behind (subst HaveBytes k.chars r.some);
+      };
+    }
+
+-- past items of the page's own
+record IsPastOwn (pages : Pages) (page : List ℕ) (p : ℕ) (os ys qs : List Item) : Type 0 where
+  behind : List Item
+  is : qs ≡ os ++ behind
+  clear : IsClear (p + length (sources os)) 0 (members_of page)
+  next : IsRest pages page (p + length (sources os)) ys behind
+
+past_own : (pages : Pages) (page : List ℕ) (p : ℕ) (os ys qs : List Item) → IsRest pages page p (os ++ ys) qs → AreOfPage os
+    → AreBeside p (p + length (sources os)) (expanded_page pages page).text_calls → IsPastOwn pages page p os ys qs
+past_own pages page p os ys qs r own beside =
+    let calls : List OuterCall = calls_of pages page in
+    let spans : List Span = (expanded_page pages page).text_calls in
+    let k : TakenOwn pages calls spans 0 (members_of page) p os ys qs = take_own pages calls spans 0 (members_of page) p os ys qs r.rest own beside in
+    let text_is : text_from calls None (os ++ ys) ≡ sources os ++ text_from calls None ys =
+    text_append_from calls None os ys
+    ∙ ap₂ (λ (bs : List ℕ) (o : Option ℕ). bs ++ text_from calls o ys) (own_text calls None os (from_page os own)) (own_last os (from_page os own)) in
+    let source_is : sources qs ≡ sources os ++ sources k.behind = ap sources k.chars ∙ flat_map-append source os k.behind in
+    let cut = bytes_cut (sources os) (text_from calls None ys) (sources os) (sources k.behind) (sym text_is ∙ r.same ∙ source_is) refl in
+    record {
+      behind = k.behind;
+      is = k.chars;
+      clear = rest_clear pages calls spans 0 (members_of page) (p + length (sources os)) ys k.behind k.rest;
+      next = record {
+        rest = k.rest;
+        same = cut.1;
+        front = r.front ++ os;
+        whole = r.whole ∙ ap (λ zs. r.front ++ zs) k.chars ∙ sym (append_assoc r.front os k.behind);
+        some = have_behind os k.behind (subst HaveBytes k.chars r.some);
+      };
+    }
+
+-- ---- a block
+
+-- where what is before the block ends, with the marks that begin it, and where the block ends
+abbrev pub block_from : Pages → List ℕ → ℕ → List Item → List Item → ℕ
+block_from pages page p xs ms = text_to pages page p (xs ++ ms)
+
+abbrev pub block_to : Pages → List ℕ → ℕ → List Item → List Item → TextBlock → List ℕ → ℕ
+block_to pages page p xs ms k q = block_from pages page p xs ms + length (source_of k q)
+
+-- a block of the page's own behind these items and these marks
+pub record IsBlockHere (pages : Pages) (page : List ℕ) (p : ℕ) (xs ms os : List Item) (k : TextBlock) (q : List ℕ) (ys qs : List Item) : Type 0 where
+  pub before : List Item
+  pub behind : List Item
+  pub is : qs ≡ before ++ (os ++ behind)
+  pub source : sources before ≡ text_from (calls_of pages page) None (xs ++ ms)
+  pub marked : text_from (calls_of pages page) None (xs ++ ms) ≡ text_from (calls_of pages page) None xs ++ sources ms
+  pub marks : HaveBytes ms
+  pub some : HaveBytes os
+  pub alone : page_items (source_of k q) ≡ os
+  pub stays : (n : ℕ) → StayText k n os → StayText k n (page_items q)
+  pub first : IsClear (block_from pages page p xs ms) 0 (members_of page)
+  pub last : IsClear (block_to pages page p xs ms k q) 0 (members_of page)
+  pub next : IsRest pages page (block_to pages page p xs ms k q) ys behind
+
+beside_last : (from mid to : ℕ) (spans : List Span) → from ≤ mid → AreBeside from to spans → AreBeside mid to spans
+beside_last from mid to [] le h = tt
+beside_last from mid to (s ∷ spans) le h = (by h.0, beside_last from mid to spans le h.1)
+  where
+    by : (s.1 ≤ from) ⊎ (to ≤ s.0) → (s.1 ≤ mid) ⊎ (to ≤ s.0)
+    by (inl l) = inl (omega (arith, l, le))
+    by (inr r) = inr r
+
+pub block_here : (pages : Pages) (page : List ℕ) (p : ℕ) (xs ms os : List Item) (k : TextBlock) (q : List ℕ) (ys qs : List Item)
+    → IsRest pages page p (xs ++ (ms ++ (os ++ ys))) qs → last_of None xs ≡ None → AreOfPage ms → AreOfPage os → AreBlockItems k q os → sources os ≡ source_of k q
+    → AreBeside (text_to pages page p xs) (block_to pages page p xs ms k q) (expanded_page pages page).text_calls → IsBlockHere pages page p xs ms os k q ys qs
+block_here pages page p xs ms os k q ys qs r ends marks own block is_source beside =
+    let calls : List OuterCall = calls_of pages page in
+    let spans : List Span = (expanded_page pages page).text_calls in
+    let line : ℕ = text_to pages page p xs in
+    let from : ℕ = block_from pages page p xs ms in
+    let to : ℕ = block_to pages page p xs ms k q in
+    let marked : text_from calls None (xs ++ ms) ≡ text_from calls None xs ++ sources ms =
+    text_append_from calls None xs ms ∙ ap (λ (o : Option ℕ). text_from calls None xs ++ text_from calls o ms) ends
+    ∙ ap (λ (bs : List ℕ). text_from calls None xs ++ bs) (own_text calls None ms (from_page ms marks)) in
+    let sum = ap length marked in
+    let two = length-append (text_from calls None xs) (sources ms) in
+    let size : line + length (sources ms) ≡ from = omega (arith, sum, two) in
+    let all_size : from + length (sources os) ≡ to = ap (λ (bs : List ℕ). from + length bs) is_source in
+    let first = past_front pages page p xs (ms ++ (os ++ ys)) qs r ends (beside_first line to spans (omega (arith, size)) beside) in
+    let second = past_own pages page line ms (os ++ ys) first.behind first.next marks
+    (subst (λ (n : ℕ). AreBeside line n spans) (sym size) (beside_front line from to spans (omega arith) beside)) in
+    let at_block : IsRest pages page from (os ++ ys) second.behind = subst (λ (n : ℕ). IsRest pages page n (os ++ ys) second.behind) size second.next in
+    let third = past_own pages page from os ys second.behind at_block own
+    (subst (λ (n : ℕ). AreBeside from n spans) (sym all_size) (beside_last line from to spans (omega (arith, size)) beside)) in
+    let before : List Item = first.before ++ ms in
+    let all : qs ≡ before ++ (os ++ third.behind) =
+    first.is ∙ ap (λ zs. first.before ++ zs) (second.is ∙ ap (λ zs. ms ++ zs) third.is) ∙ sym (append_assoc first.before ms (os ++ third.behind)) in
+    let front : List Item = at_block.front in
+    let whole : page_items page ≡ front ++ (os ++ third.behind) = at_block.whole ∙ ap (λ zs. front ++ zs) third.is in
+    let again : page_items (sources front ++ (sources os ++ sources third.behind)) ≡ front ++ (os ++ third.behind) =
+    ap page_items (parts_are page front os third.behind whole) ∙ whole in
+    record {
+      before = before;
+      behind = third.behind;
+      is = all;
+      source = flat_map-append source first.before ms ∙ ap (λ (bs : List ℕ). bs ++ sources ms) first.source ∙ sym marked;
+      marked = marked;
+      marks = have_front ms second.behind (subst HaveBytes second.is first.next.some);
+      some = have_front os third.behind (subst HaveBytes third.is at_block.some);
+      alone = ap page_items (sym is_source) ∙ own_alone front os third.behind again (block_unmarked k q os block);
+      stays = λ n h. stays_so k n q front os third.behind block again h;
+      first = subst (λ (n : ℕ). IsClear n 0 (members_of page)) size second.clear;
+      last = subst (λ (n : ℕ). IsClear n 0 (members_of page)) all_size third.clear;
+      next = subst (λ (n : ℕ). IsRest pages page n ys third.behind) all_size third.next;
+    }

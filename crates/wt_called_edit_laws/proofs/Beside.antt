@@ -1,0 +1,7 @@
+-- What is sent for paragraphs with calls in them, and what it makes.
+pub mod Counts
+pub mod Found
+pub mod Sent
+pub mod Making
+pub mod Given
+mod Cases

@@ -1,0 +1,401 @@
+-- What is sent for a paragraph with calls in it: texts, and nodes as they are in the page, groups among them.
+use Rattle.std.proofs.Common.{◌≡◌, ◌⊎◌, inl, inr, ℕ, ◌+◌, Bool, true, false, Option, Some, None, List, [], ◌∷◌, ◌++◌, length, map, refl, sym, ap, ◌∙◌, subst}
+use Rattle.std.specs.Prelude.{◌||◌, if◌then◌else◌, encode_utf8}
+use Rattle.std.specs.List.{flat_map}
+use Rattle.std.specs.Str.{IsUtf8, chars}
+use Rattle.std.proofs.Math.Utf8.{encodes}
+use Rattle.std.proofs.lemmas.Str.{encodes-chars}
+use Rattle.wt_tree.specs.declared.kind.Kind.{Kind}
+use Rattle.wt_tree.specs.EditShapes.{edit_shape}
+use Rattle.wt_tree.specs.Plain.{Plains, text_before, plain_before}
+use Rattle.wt_tree.specs.Source.{flat}
+use Rattle.wt_tree.specs.Tiling.{is_group, HasNoGroup}
+use Rattle.wt_tree.specs.Tree.{Label, Tree, tree, Trees, none, more, label}
+use Rattle.wt_tree.specs.declared.edit_shape.InlineForm.{InlineForm}
+use Rattle.wt_tree.specs.declared.edit_shape.InlineForm.TheVariants as inline
+use Rattle.wt_tree.specs.declared.edit_shape.Place.{Place}
+use Rattle.wt_guards.specs.Content.{ContentSign, Thing, letter, letters, thing}
+use Rattle.wt_original.specs.Kept.{Kept, kept_with, kept_nodes}
+use Rattle.wt_original.specs.Page.{page_of, TellsSame, restored, is_unchanged}
+use Rattle.wt_context.specs.Line.{line_parts}
+use Rattle.wt_difference.specs.Insides.{is_block_part}
+use Rattle.wt_link_spelling.specs.Spelling.{kept_thing, as_it_stood, unless_kept, anew_by, signs_by, signs_of, signs_of_all}
+use Rattle.wt_expand.specs.PageCalls.{expanded_page}
+use Rattle.wt_expand.specs.Work.{Pages}
+use Rattle.wt_part_laws.specs.Expanded.{part_items}
+use Rattle.wt_typed_blocks.specs.Sent.{StandsAsIs}
+use Rattle.wt_typed_blocks.specs.Edited.{Pieces, no_pieces, gone, written, kept, around, new_style, page_pieces, text_node, sent_pieces, PiecesStay, pieces_before}
+use Rattle.wt_typed_blocks.specs.EditedUnmarked.{AreInline}
+use Rattle.wt_beside_laws.specs.Called.{owns_in, shown_signs, called_shown, BeginsWithText, EndsWithText}
+use Rattle.wt_beside_laws.specs.FlatPages.{AreNodesAndTexts}
+use Rattle.wt_beside_laws.specs.Lines.{AreCharacters}
+use Rattle.wt_beside_laws.specs.SentNodes.{IsUnchanged, IsSentBy, AreSent}
+use Rattle.wt_beside_laws.specs.SentPieces.{IsNodeForm, HaveNoStyle}
+use Rattle.wt_beside_laws.specs.Shown.{parts_shown_at}
+use Rattle.wt_beside_laws.specs.Stood.{things}
+use Rattle.wt_beside_laws.specs.StyledBlocks.{numbers_by, all_numbers, thing_of, found_thing, things_with}
+use Rattle.wt_beside_laws.proofs.Edits.Pieces.{both_characters, text_characters}
+use Rattle.wt_beside_laws.proofs.LineShown.{twice}
+use Rattle.wt_beside_laws.proofs.OwnSigns.{own_unchanged}
+use Rattle.wt_beside_laws.proofs.SentNodes.{things_append, no_things}
+use Rattle.wt_beside_laws.proofs.SentPieces.{stays_unchanged}
+use Rattle.wt_called_edit_laws.specs.CalledEdits.{IsGroupOrFree, ShowsAsGiven, IsChildBeside, AreChildrenBeside, AreGoneCalm, BeginTyped, ends_typed}
+use Rattle.wt_called_edit_laws.specs.PageThings.{ThingsStay}
+use Rattle.wt_called_edit_laws.proofs.Beside.Found.{IsFoundAs, FoundBy, AreFound}
+
+-- ---- a node that stays is unchanged
+
+same_kept : (a b : Kept) → Some a ≡ Some b → a ≡ b
+same_kept a b e = cc
+
+kept_unchanged : (same : Tree → Tree → Bool) (block : Tree) (l m : Label) (ts us : Trees) → TellsSame same → StandsAsIs (tree l ts) (tree m us)
+    → IsGroupOrFree (tree l ts) → (f : IsFoundAs (kept_nodes block) l ts) → is_unchanged (page_of same block) f.kept (tree m us) ≡ true
+kept_unchanged same block l m ts us tells h (inl g) f =
+    let now : Tree = restored (kept_nodes block) (tree m us) in
+    ap (λ (t : Tree). is_group (label t).kind || same now t) f.node ∙ ap (λ (b : Bool). b || same now (tree l ts)) g
+kept_unchanged same block l m ts us tells h (inr free) f =
+    let ks : List Kept = kept_nodes block in
+    let was : Tree = restored ks (tree l ts) in
+    let own : is_unchanged (page_of same block) f.kept (tree l ts) ≡ true =
+    ap (λ (t : Tree). is_group (label t).kind || same was t) f.node ∙ own_unchanged same block (tree l ts) 0 0 tells free in
+    let first : IsUnchanged (page_of same block) l ts = record { kept = f.kept; found = f.found; same = own } in
+    let r : IsUnchanged (page_of same block) m us = stays_unchanged same block l m ts us tells h free first in
+    let it_is : r.kept ≡ f.kept = same_kept r.kept f.kept (sym r.found ∙ ap (λ (i : ℕ). kept_with i ks) h.0.id ∙ f.found) in
+    subst (λ (k : Kept). is_unchanged (page_of same block) k (tree m us) ≡ true) it_is r.same
+
+as_kept : (same : Tree → Tree → Bool) (block : Tree) (l m : Label) (ts us : Trees) → TellsSame same → StandsAsIs (tree l ts) (tree m us)
+    → IsGroupOrFree (tree l ts) → IsFoundAs (kept_nodes block) l ts → IsUnchanged (page_of same block) m us
+as_kept same block l m ts us tells h g f = record {
+  kept = f.kept;
+  found = ap (λ (i : ℕ). kept_with i (kept_nodes block)) h.0.id ∙ f.found;
+  same = kept_unchanged same block l m ts us tells h g f;
+}
+
+sent_by : (w : InlineForm) (same : Tree → Tree → Bool) (block : Tree) (l m : Label) (ts us : Trees) → TellsSame same → StandsAsIs (tree l ts) (tree m us)
+    → IsGroupOrFree (tree l ts) → FoundBy w (kept_nodes block) l ts → IsSentBy w (page_of same block) m us
+sent_by inline.Nothing same block l m ts us tells h g f = tt
+sent_by inline.Characters same block l m ts us tells h g f = tt
+sent_by inline.Bold same block l m ts us tells h g f = f
+sent_by inline.Italic same block l m ts us tells h g f = f
+sent_by inline.Shown same block l m ts us tells h g f = as_kept same block l m ts us tells h g f
+sent_by inline.PageLink same block l m ts us tells h g f = as_kept same block l m ts us tells h g f
+sent_by inline.ExternalLink same block l m ts us tells h g f = as_kept same block l m ts us tells h g f
+sent_by inline.Tag same block l m ts us tells h g f = as_kept same block l m ts us tells h g f
+sent_by inline.Break same block l m ts us tells h g f = as_kept same block l m ts us tells h g f
+sent_by inline.AsItStood same block l m ts us tells h g f = as_kept same block l m ts us tells h g f
+
+text_sent : (same : Tree → Tree → Bool) (block : Tree) (x : Label) (text : List ℕ) (us : Trees) → AreSent (page_of same block) us
+    → AreSent (page_of same block) (text_node x text us)
+text_sent same block x [] us h = h
+text_sent same block x (c ∷ cs) us h = (tt, h)
+
+pub pieces_sent : (pages : Pages) (same : Tree → Tree → Bool) (block : Tree) (ps : Pieces) → TellsSame same → AreFound (kept_nodes block) (page_pieces ps)
+    → AreChildrenBeside pages (page_pieces ps) → PiecesStay ps → HaveNoStyle ps → AreSent (page_of same block) (sent_pieces ps)
+pieces_sent pages same block no_pieces tells f g h n = tt
+pieces_sent pages same block (gone (tree l ts) ps) tells f g h n = pieces_sent pages same block ps tells f.1 g.1 h n
+pieces_sent pages same block (written x text ps) tells f g h n =
+    text_sent same block x text (sent_pieces ps) (pieces_sent pages same block ps tells f g h n)
+pieces_sent pages same block (kept (tree l ts) (tree m us) ps) tells f g h n = (
+  subst (λ (k : Kind). IsSentBy (edit_shape k).inline (page_of same block) m us) (sym h.0.0.kind)
+      (sent_by (edit_shape l.kind).inline same block l m ts us tells h.0 g.0.free f.0),
+  pieces_sent pages same block ps tells f.1 g.1 h.1 n,
+)
+pieces_sent pages same block (around l m is ps) tells f g h n = absurd n
+pieces_sent pages same block (new_style m is ps) tells f g h n = absurd n
+
+-- ---- its sign is that of the page's node
+
+-- these are the signs of the block's node with this number
+record IsSignOf (block : Tree) (l : Label) (ts : Trees) (signs : List ContentSign) : Type 0 where
+  kept : Kept
+  found : kept_with l.id (kept_nodes block) ≡ Some kept
+  node : kept.node ≡ tree l ts
+  is : signs ≡ kept_thing kept ∷ []
+
+unless_sign : (same : Tree → Tree → Bool) (block : Tree) (l m : Label) (ts us : Trees) (new : List ContentSign) → TellsSame same
+    → StandsAsIs (tree l ts) (tree m us) → IsGroupOrFree (tree l ts) → IsFoundAs (kept_nodes block) l ts
+    → IsSignOf block l ts (unless_kept (page_of same block) (kept_with m.id (kept_nodes block)) (tree m us) new)
+unless_sign same block l m ts us new tells h g f =
+    let u : IsUnchanged (page_of same block) m us = as_kept same block l m ts us tells h g f in
+    let now : kept_with m.id (kept_nodes block) ≡ Some f.kept = ap (λ (i : ℕ). kept_with i (kept_nodes block)) h.0.id ∙ f.found in
+    record {
+      kept = f.kept;
+      found = f.found;
+      node = f.node;
+      is = ap (λ (k : Option Kept). unless_kept (page_of same block) k (tree m us) new) now
+          ∙ ap (λ (b : Bool). if b then kept_thing f.kept ∷ [] else new) (kept_unchanged same block l m ts us tells h g f);
+    }
+
+stood_sign : (block : Tree) (l m : Label) (ts : Trees) → m.id ≡ l.id → IsFoundAs (kept_nodes block) l ts
+    → IsSignOf block l ts (as_it_stood (kept_with m.id (kept_nodes block)))
+stood_sign block l m ts e f = record {
+  kept = f.kept;
+  found = f.found;
+  node = f.node;
+  is = ap (λ (i : ℕ). as_it_stood (kept_with i (kept_nodes block))) e ∙ ap (λ (k : Option Kept). as_it_stood k) f.found;
+}
+
+sign_by : (w : InlineForm) (same : Tree → Tree → Bool) (block : Tree) (pl : Place) (l m : Label) (ts us : Trees) (inside : List ContentSign) → TellsSame same
+    → StandsAsIs (tree l ts) (tree m us) → IsGroupOrFree (tree l ts) → IsNodeForm w → FoundBy w (kept_nodes block) l ts
+    → IsSignOf block l ts (signs_by w (page_of same block) pl (kept_with m.id (kept_nodes block)) m us inside)
+sign_by inline.Nothing same block pl l m ts us inside tells h g n f = absurd n
+sign_by inline.Characters same block pl l m ts us inside tells h g n f = absurd n
+sign_by inline.Bold same block pl l m ts us inside tells h g n f = absurd f
+sign_by inline.Italic same block pl l m ts us inside tells h g n f = absurd f
+sign_by inline.Shown same block pl l m ts us inside tells h g n f =
+    unless_sign same block l m ts us (anew_by inline.Shown (page_of same block) pl (kept_with m.id (kept_nodes block)) m us inside) tells h g f
+sign_by inline.PageLink same block pl l m ts us inside tells h g n f =
+    unless_sign same block l m ts us (anew_by inline.PageLink (page_of same block) pl (kept_with m.id (kept_nodes block)) m us inside) tells h g f
+sign_by inline.ExternalLink same block pl l m ts us inside tells h g n f =
+    unless_sign same block l m ts us (anew_by inline.ExternalLink (page_of same block) pl (kept_with m.id (kept_nodes block)) m us inside) tells h g f
+sign_by inline.Tag same block pl l m ts us inside tells h g n f =
+    unless_sign same block l m ts us (anew_by inline.Tag (page_of same block) pl (kept_with m.id (kept_nodes block)) m us inside) tells h g f
+sign_by inline.Break same block pl l m ts us inside tells h g n f =
+    unless_sign same block l m ts us (anew_by inline.Break (page_of same block) pl (kept_with m.id (kept_nodes block)) m us inside) tells h g f
+sign_by inline.AsItStood same block pl l m ts us inside tells h g n f = stood_sign block l m ts h.0.id f
+
+node_sign : (same : Tree → Tree → Bool) (block : Tree) (pl : Place) (l m : Label) (ts us : Trees) → TellsSame same → StandsAsIs (tree l ts) (tree m us)
+    → IsGroupOrFree (tree l ts) → IsNodeForm (edit_shape l.kind).inline → FoundBy (edit_shape l.kind).inline (kept_nodes block) l ts
+    → IsSignOf block l ts (signs_of (page_of same block) pl (tree m us))
+node_sign same block pl l m ts us tells h g n f =
+    let inside : List ContentSign = signs_of_all (page_of same block) pl us in
+    subst (λ (k : Kind). IsSignOf block l ts (signs_by (edit_shape k).inline (page_of same block) pl (kept_with m.id (kept_nodes block)) m us inside))
+    (sym h.0.kind) (sign_by (edit_shape l.kind).inline same block pl l m ts us inside tells h g n f)
+
+-- ---- its nodes are those of the block, but for some that call nothing
+
+-- what is sent, as signs
+abbrev pub sent_signs : (Tree → Tree → Bool) → Tree → Place → Pieces → List ContentSign
+sent_signs same block pl ps = signs_of_all (page_of same block) pl (sent_pieces ps)
+
+one_gone : (pages : Pages) (b : Thing) (bs ds : List Thing) → (expanded_page pages b.source).outer ≡ [] → ThingsStay pages bs ds → ThingsStay pages (b ∷ bs) ds
+one_gone pages b bs [] e h = (e, h)
+one_gone pages b bs (d ∷ ds) e h = inr (e, h)
+
+node_gone : (pages : Pages) (ks : List Kept) (l : Label) (ts : Trees) (ns : List ℕ) (ds : List Thing) → (expanded_page pages (flat (tree l ts))).outer ≡ []
+    → IsFoundAs ks l ts → ThingsStay pages (things_with ks ns) ds → ThingsStay pages (things_with ks (l.id ∷ ns)) ds
+node_gone pages ks l ts ns ds e f h =
+    subst (λ (o : Option Kept). ThingsStay pages (found_thing o ++ things_with ks ns) ds) (sym f.found)
+    (one_gone pages (thing_of f.kept) (things_with ks ns) ds (ap (λ (t : Tree). (expanded_page pages (flat t)).outer) f.node ∙ e) h)
+
+gone_by : (w : InlineForm) (pages : Pages) (ks : List Kept) (l : Label) (ts : Trees) (inside ns : List ℕ) (ds : List Thing)
+    → (IsNodeForm w → (expanded_page pages (flat (tree l ts))).outer ≡ []) → FoundBy w ks l ts → ThingsStay pages (things_with ks ns) ds
+    → ThingsStay pages (things_with ks (numbers_by w l.id inside ++ ns)) ds
+gone_by inline.Nothing pages ks l ts inside ns ds e f h = h
+gone_by inline.Characters pages ks l ts inside ns ds e f h = h
+gone_by inline.Bold pages ks l ts inside ns ds e f h = absurd f
+gone_by inline.Italic pages ks l ts inside ns ds e f h = absurd f
+gone_by inline.Shown pages ks l ts inside ns ds e f h = node_gone pages ks l ts ns ds (e tt) f h
+gone_by inline.PageLink pages ks l ts inside ns ds e f h = node_gone pages ks l ts ns ds (e tt) f h
+gone_by inline.ExternalLink pages ks l ts inside ns ds e f h = node_gone pages ks l ts ns ds (e tt) f h
+gone_by inline.Tag pages ks l ts inside ns ds e f h = node_gone pages ks l ts ns ds (e tt) f h
+gone_by inline.Break pages ks l ts inside ns ds e f h = node_gone pages ks l ts ns ds (e tt) f h
+gone_by inline.AsItStood pages ks l ts inside ns ds e f h = node_gone pages ks l ts ns ds (e tt) f h
+
+own_number : (w : InlineForm) (ks : List Kept) (l : Label) (ts : Trees) (inside : List ℕ) → IsNodeForm w → FoundBy w ks l ts
+    → numbers_by w l.id inside ≡ l.id ∷ []
+own_number inline.Nothing ks l ts inside n f = absurd n
+own_number inline.Characters ks l ts inside n f = absurd n
+own_number inline.Bold ks l ts inside n f = absurd f
+own_number inline.Italic ks l ts inside n f = absurd f
+own_number inline.Shown ks l ts inside n f = refl
+own_number inline.PageLink ks l ts inside n f = refl
+own_number inline.ExternalLink ks l ts inside n f = refl
+own_number inline.Tag ks l ts inside n f = refl
+own_number inline.Break ks l ts inside n f = refl
+own_number inline.AsItStood ks l ts inside n f = refl
+
+node_stays : (pages : Pages) (block : Tree) (l : Label) (ts : Trees) (numbers ns : List ℕ) (own signs : List ContentSign) → IsSignOf block l ts own
+    → numbers ≡ l.id ∷ [] → ThingsStay pages (things_with (kept_nodes block) ns) (things signs)
+    → ThingsStay pages (things_with (kept_nodes block) (numbers ++ ns)) (things (own ++ signs))
+node_stays pages block l ts numbers ns own signs r e h =
+    let ks : List Kept = kept_nodes block in
+    let now : List Thing = thing_of r.kept ∷ things signs in
+    let page : things_with ks (numbers ++ ns) ≡ thing_of r.kept ∷ things_with ks ns =
+    ap (λ (ms : List ℕ). things_with ks (ms ++ ns)) e ∙ ap (λ (o : Option Kept). found_thing o ++ things_with ks ns) r.found in
+    let there : ThingsStay pages (thing_of r.kept ∷ things_with ks ns) now = inl (refl, h) in
+    subst (λ (ss : List ContentSign). ThingsStay pages (things_with ks (numbers ++ ns)) (things (ss ++ signs))) (sym r.is)
+    (subst (λ (os : List Thing). ThingsStay pages os now) (sym page) there)
+
+text_things : (same : Tree → Tree → Bool) (block : Tree) (pl : Place) (x : Label) (text : List ℕ) (us : Trees)
+    → things (signs_of_all (page_of same block) pl (text_node x text us)) ≡ things (signs_of_all (page_of same block) pl us)
+text_things same block pl x [] us = refl
+text_things same block pl x (c ∷ cs) us =
+    let rest : List ContentSign = signs_of_all (page_of same block) pl us in
+    things_append (letters (c ∷ cs)) rest ∙ ap (λ (os : List Thing). os ++ things rest) (no_things (chars (c ∷ cs)))
+
+pub pieces_things : (pages : Pages) (same : Tree → Tree → Bool) (block : Tree) (pl : Place) (ps : Pieces) → TellsSame same
+    → AreFound (kept_nodes block) (page_pieces ps) → AreChildrenBeside pages (page_pieces ps) → PiecesStay ps → AreNodesAndTexts ps → HaveNoStyle ps
+    → AreGoneCalm pages ps → ThingsStay pages (things_with (kept_nodes block) (all_numbers (page_pieces ps))) (things (sent_signs same block pl ps))
+pieces_things pages same block pl no_pieces tells f g h a n c = tt
+pieces_things pages same block pl (gone (tree l ts) ps) tells f g h a n c =
+    gone_by (edit_shape l.kind).inline pages (kept_nodes block) l ts (all_numbers ts) (all_numbers (page_pieces ps)) (things (sent_signs same block pl ps)) c.0 f.0
+    (pieces_things pages same block pl ps tells f.1 g.1 h a n c.1)
+pieces_things pages same block pl (written x text ps) tells f g h a n c =
+    subst (ThingsStay pages (things_with (kept_nodes block) (all_numbers (page_pieces ps)))) (sym (text_things same block pl x text (sent_pieces ps)))
+    (pieces_things pages same block pl ps tells f g h a.1 n c)
+pieces_things pages same block pl (kept (tree l ts) (tree m us) ps) tells f g h a n c =
+    let r : IsSignOf block l ts (signs_of (page_of same block) pl (tree m us)) =
+    node_sign same block pl l m ts us tells h.0 g.0.free a.0 f.0 in
+    node_stays pages block l ts (numbers_by (edit_shape l.kind).inline l.id (all_numbers ts)) (all_numbers (page_pieces ps))
+    (signs_of (page_of same block) pl (tree m us)) (sent_signs same block pl ps) r
+    (own_number (edit_shape l.kind).inline (kept_nodes block) l ts (all_numbers ts) a.0 f.0)
+    (pieces_things pages same block pl ps tells f.1 g.1 h.1 a.1 n c)
+pieces_things pages same block pl (around l m is ps) tells f g h a n c = absurd n
+pieces_things pages same block pl (new_style m is ps) tells f g h a n c = absurd n
+
+-- ---- its texts are characters, first and last
+
+text_are : (same : Tree → Tree → Bool) (block : Tree) (pl : Place) (x : Label) (text : List ℕ) (us : Trees) → IsUtf8 text
+    → AreCharacters (signs_of_all (page_of same block) pl us) → AreCharacters (signs_of_all (page_of same block) pl (text_node x text us))
+text_are same block pl x [] us u h = h
+text_are same block pl x (c ∷ cs) us u h =
+    both_characters (letters (c ∷ cs)) (signs_of_all (page_of same block) pl us) (text_characters (c ∷ cs) u) h
+
+pub pieces_characters : (pages : Pages) (same : Tree → Tree → Bool) (block : Tree) (pl : Place) (ps : Pieces) → TellsSame same
+    → AreFound (kept_nodes block) (page_pieces ps) → AreChildrenBeside pages (page_pieces ps) → PiecesStay ps → AreNodesAndTexts ps → HaveNoStyle ps
+    → AreCharacters (sent_signs same block pl ps)
+pieces_characters pages same block pl no_pieces tells f g h a n = tt
+pieces_characters pages same block pl (gone (tree l ts) ps) tells f g h a n = pieces_characters pages same block pl ps tells f.1 g.1 h a n
+pieces_characters pages same block pl (written x text ps) tells f g h a n =
+    text_are same block pl x text (sent_pieces ps) a.0 (pieces_characters pages same block pl ps tells f g h a.1 n)
+pieces_characters pages same block pl (kept (tree l ts) (tree m us) ps) tells f g h a n =
+    let r : IsSignOf block l ts (signs_of (page_of same block) pl (tree m us)) =
+    node_sign same block pl l m ts us tells h.0 g.0.free a.0 f.0 in
+    subst (λ (ss : List ContentSign). AreCharacters (ss ++ sent_signs same block pl ps)) (sym r.is)
+    (pieces_characters pages same block pl ps tells f.1 g.1 h.1 a.1 n)
+pieces_characters pages same block pl (around l m is ps) tells f g h a n = absurd n
+pieces_characters pages same block pl (new_style m is ps) tells f g h a n = absurd n
+
+none_empty : (b : ℕ) (bs : List ℕ) → [] ≡ b ∷ bs → ⊥
+none_empty b bs e = cc
+
+-- a text that isn't empty has a character
+abbrev HasSome : List ℕ → Type 0
+HasSome [] = ⊥
+HasSome (c ∷ cs) = Unit {0}
+
+some_chars : (b : ℕ) (bs : List ℕ) → IsUtf8 (b ∷ bs) → HasSome (chars (b ∷ bs))
+some_chars b bs u = by (chars (b ∷ bs)) (encodes-chars (b ∷ bs) u)
+  where
+    by : (cs : List ℕ) → encodes cs ≡ b ∷ bs → HasSome cs
+    by [] e = none_empty b bs e
+    by (c ∷ cs) e = tt
+
+text_begins : (cs : List ℕ) (signs : List ContentSign) → HasSome cs → BeginsWithText (map letter cs ++ signs)
+text_begins [] signs h = absurd h
+text_begins (c ∷ cs) signs h = tt
+
+pub pieces_begin : (same : Tree → Tree → Bool) (block : Tree) (pl : Place) (ps : Pieces) → AreNodesAndTexts ps → BeginTyped ps
+    → BeginsWithText (sent_signs same block pl ps)
+pieces_begin same block pl no_pieces a b = absurd b
+pieces_begin same block pl (gone t ps) a b = pieces_begin same block pl ps a b
+pieces_begin same block pl (written x [] ps) a b = pieces_begin same block pl ps a.1 b
+pieces_begin same block pl (written x (c ∷ cs) ps) a b =
+    text_begins (chars (c ∷ cs)) (sent_signs same block pl ps) (some_chars c cs a.0)
+pieces_begin same block pl (kept t u ps) a b = absurd b
+pieces_begin same block pl (around l m is ps) a b = absurd b
+pieces_begin same block pl (new_style m is ps) a b = absurd b
+
+-- text is last, or nothing is there and text is last before it
+abbrev EndAfter : Bool → List ContentSign → Type 0
+EndAfter last [] = last ≡ true
+EndAfter last (s ∷ ss) = EndsWithText (s ∷ ss)
+
+letter_ends : (last : Bool) (c : ℕ) (ss : List ContentSign) → EndAfter true ss → EndAfter last (letter c ∷ ss)
+letter_ends last c [] e = tt
+letter_ends last c (s ∷ ss) e = e
+
+thing_ends : (last : Bool) (t : Thing) (ss : List ContentSign) → EndAfter false ss → EndAfter last (thing t ∷ ss)
+thing_ends last t [] e = cc
+thing_ends last t (s ∷ ss) e = e
+
+more_end : (cs : List ℕ) (ss : List ContentSign) → EndAfter true ss → EndAfter true (map letter cs ++ ss)
+more_end [] ss e = e
+more_end (c ∷ cs) ss e = letter_ends true c (map letter cs ++ ss) (more_end cs ss e)
+
+text_ends : (last : Bool) (cs : List ℕ) (ss : List ContentSign) → HasSome cs → EndAfter true ss → EndAfter last (map letter cs ++ ss)
+text_ends last [] ss h e = absurd h
+text_ends last (c ∷ cs) ss h e = letter_ends last c (map letter cs ++ ss) (more_end cs ss e)
+
+ends_after : (pages : Pages) (same : Tree → Tree → Bool) (block : Tree) (pl : Place) (last : Bool) (ps : Pieces) → TellsSame same
+    → AreFound (kept_nodes block) (page_pieces ps) → AreChildrenBeside pages (page_pieces ps) → PiecesStay ps → AreNodesAndTexts ps → HaveNoStyle ps
+    → ends_typed last ps ≡ true → EndAfter last (sent_signs same block pl ps)
+ends_after pages same block pl last no_pieces tells f g h a n e = e
+ends_after pages same block pl last (gone (tree l ts) ps) tells f g h a n e = ends_after pages same block pl last ps tells f.1 g.1 h a n e
+ends_after pages same block pl last (written x [] ps) tells f g h a n e = ends_after pages same block pl last ps tells f g h a.1 n e
+ends_after pages same block pl last (written x (c ∷ cs) ps) tells f g h a n e =
+    text_ends last (chars (c ∷ cs)) (sent_signs same block pl ps) (some_chars c cs a.0) (ends_after pages same block pl true ps tells f g h a.1 n e)
+ends_after pages same block pl last (kept (tree l ts) (tree m us) ps) tells f g h a n e =
+    let r : IsSignOf block l ts (signs_of (page_of same block) pl (tree m us)) =
+    node_sign same block pl l m ts us tells h.0 g.0.free a.0 f.0 in
+    subst (λ (ss : List ContentSign). EndAfter last (ss ++ sent_signs same block pl ps)) (sym r.is)
+    (thing_ends last (thing_of r.kept) (sent_signs same block pl ps) (ends_after pages same block pl false ps tells f.1 g.1 h.1 a.1 n e))
+ends_after pages same block pl last (around l m is ps) tells f g h a n e = absurd n
+ends_after pages same block pl last (new_style m is ps) tells f g h a n e = absurd n
+
+ends_by : (ss : List ContentSign) → EndAfter false ss → EndsWithText ss
+ends_by [] e = cc
+ends_by (s ∷ ss) e = e
+
+pub pieces_end : (pages : Pages) (same : Tree → Tree → Bool) (block : Tree) (pl : Place) (ps : Pieces) → TellsSame same
+    → AreFound (kept_nodes block) (page_pieces ps) → AreChildrenBeside pages (page_pieces ps) → PiecesStay ps → AreNodesAndTexts ps → HaveNoStyle ps
+    → ends_typed false ps ≡ true → EndsWithText (sent_signs same block pl ps)
+pieces_end pages same block pl ps tells f g h a n e = ends_by (sent_signs same block pl ps) (ends_after pages same block pl false ps tells f g h a n e)
+
+-- ---- what is written shows what was sent
+
+all_encoded : (cs : List ℕ) → flat_map encode_utf8 cs ≡ encodes cs
+all_encoded [] = refl
+all_encoded (c ∷ cs) = ap (λ bs. encode_utf8 c ++ bs) (all_encoded cs)
+
+-- these signs show so, where so many calls come before them
+abbrev shown_in : Pages → ℕ → List ContentSign → Plains → Plains
+shown_in pages i signs rest = called_shown (shown_signs pages signs) (owns_in pages i signs) rest
+
+letters_show : (pages : Pages) (i : ℕ) (cs : List ℕ) (signs : List ContentSign) (rest : Plains)
+    → shown_in pages i (map letter cs ++ signs) rest ≡ text_before (flat_map encode_utf8 cs) (shown_in pages i signs rest)
+letters_show pages i [] signs rest = refl
+letters_show pages i (c ∷ cs) signs rest =
+    ap (text_before (encode_utf8 c)) (letters_show pages i cs signs rest)
+    ∙ twice (encode_utf8 c) (flat_map encode_utf8 cs) (shown_in pages i signs rest)
+
+text_shows : (pages : Pages) (i : ℕ) (same : Tree → Tree → Bool) (block : Tree) (pl : Place) (x : Label) (text : List ℕ) (us : Trees) (rest : Plains) → IsUtf8 text
+    → shown_in pages i (signs_of_all (page_of same block) pl (text_node x text us)) rest
+    ≡ text_before text (shown_in pages i (signs_of_all (page_of same block) pl us) rest)
+text_shows pages i same block pl x [] us rest u = refl
+text_shows pages i same block pl x (c ∷ cs) us rest u =
+    let signs : List ContentSign = signs_of_all (page_of same block) pl us in
+    letters_show pages i (chars (c ∷ cs)) signs rest
+    ∙ ap (λ (bs : List ℕ). text_before bs (shown_in pages i signs rest)) (all_encoded (chars (c ∷ cs)) ∙ encodes-chars (c ∷ cs) u)
+
+pub pieces_show : (pages : Pages) (i : ℕ) (same : Tree → Tree → Bool) (block : Tree) (pl : Place) (ps : Pieces) (rest : Plains) → TellsSame same
+    → AreFound (kept_nodes block) (page_pieces ps) → AreChildrenBeside pages (page_pieces ps) → PiecesStay ps → AreNodesAndTexts ps → HaveNoStyle ps
+    → called_shown (shown_signs pages (sent_signs same block pl ps)) (owns_in pages i (sent_signs same block pl ps)) rest ≡ pieces_before ps rest
+pieces_show pages i same block pl no_pieces rest tells f g h a n = refl
+pieces_show pages i same block pl (gone (tree l ts) ps) rest tells f g h a n = pieces_show pages i same block pl ps rest tells f.1 g.1 h a n
+pieces_show pages i same block pl (written x text ps) rest tells f g h a n =
+    text_shows pages i same block pl x text (sent_pieces ps) rest a.0
+    ∙ ap (text_before text) (pieces_show pages i same block pl ps rest tells f g h a.1 n)
+pieces_show pages i same block pl (kept (tree l ts) (tree m us) ps) rest tells f g h a n =
+    let r : IsSignOf block l ts (signs_of (page_of same block) pl (tree m us)) =
+    node_sign same block pl l m ts us tells h.0 g.0.free a.0 f.0 in
+    let signs : List ContentSign = sent_signs same block pl ps in
+    let j : ℕ = i + length (expanded_page pages (flat r.kept.node)).outer in
+    let later : Plains = shown_in pages j signs rest in
+    ap (λ (ss : List ContentSign). shown_in pages i (ss ++ signs) rest) r.is
+    ∙ ap (λ (t : Tree). parts_shown_at 0 [] (line_parts (part_items pages i (flat t))) later) r.node
+    ∙ g.0.shows a.0 i later
+    ∙ ap (λ (qs : Plains). plain_before (tree l ts) qs) (pieces_show pages j same block pl ps rest tells f.1 g.1 h.1 a.1 n)
+pieces_show pages i same block pl (around l m is ps) rest tells f g h a n = absurd n
+pieces_show pages i same block pl (new_style m is ps) rest tells f g h a n = absurd n
+
+-- ---- what stays is inline
+
+pub pieces_inline : (pages : Pages) (ps : Pieces) → AreChildrenBeside pages (page_pieces ps) → PiecesStay ps → HaveNoStyle ps → AreInline ps
+pieces_inline pages no_pieces g h n = tt
+pieces_inline pages (gone t ps) g h n = pieces_inline pages ps g.1 h n
+pieces_inline pages (written x text ps) g h n = pieces_inline pages ps g h n
+pieces_inline pages (kept (tree l ts) (tree m us) ps) g h n = (ap is_block_part h.0.0.kind ∙ g.0.inline, pieces_inline pages ps g.1 h.1 n)
+pieces_inline pages (around l m is ps) g h n = absurd n
+pieces_inline pages (new_style m is ps) g h n = absurd n

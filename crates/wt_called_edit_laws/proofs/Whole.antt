@@ -1,0 +1,8 @@
+-- Blocks whose calls give words can be read by themselves.
+pub mod CallPlaces
+pub mod OfCall
+pub mod InSlice
+pub mod Opened
+pub mod Pieces
+pub mod Blocks
+pub mod Contents

@@ -1,0 +1,132 @@
+-- A paragraph of the page with calls in it, for which one with other texts beside these calls is sent: what is written for it.
+use Rattle.std.specs.Prelude.{◌≡◌, ◌⊎◌, ℕ, Bool, true, false, None, List, [], ◌∷◌}
+use Rattle.wt_tree.specs.EditShapes.{edit_shape}
+use Rattle.wt_tree.specs.Plain.{Plains, plain_before}
+use Rattle.wt_tree.specs.Source.{flat}
+use Rattle.wt_tree.specs.Tiling.{is_group, HasNoGroup}
+use Rattle.wt_tree.specs.Tree.{Label, Tree, tree, Trees, none, more, label}
+use Rattle.wt_span.specs.Origins.{OuterCall}
+use Rattle.wt_guards.specs.Content.{Thing}
+use Rattle.wt_original.specs.Kept.{kept_nodes}
+use Rattle.wt_content.specs.Content.{bad_content}
+use Rattle.wt_context.specs.Line.{line_parts}
+use Rattle.wt_difference.specs.Insides.{is_block_part}
+use Rattle.wt_annotated.specs.CutTexts.{cut_texts}
+use Rattle.wt_link_spelling.specs.Spelling.{children_of}
+use Rattle.wt_visible.specs.SameNodes.{same_node}
+use Rattle.wt_expand.specs.PageCalls.{expanded_page}
+use Rattle.wt_expand.specs.Work.{Pages}
+use Rattle.wt_part_laws.specs.Expanded.{part_items}
+use Rattle.wt_part_laws.specs.HeldCalls.{block_in}
+use Rattle.wt_typed_blocks.specs.Edited.{Pieces, no_pieces, gone, written, kept, around, new_style, page_pieces, PiecesStay, page_node, sent_node, edited_before}
+use Rattle.wt_typed_blocks.specs.EditedPage.{edited_source}
+use Rattle.wt_typed_blocks.specs.EditedUnmarked.{AreInline}
+use Rattle.wt_text_edit_laws.specs.TextBlocks.{TextBlock, a_paragraph, source_of}
+use Rattle.wt_beside_laws.specs.ContentEdits.{content_edit, new_content}
+use Rattle.wt_beside_laws.specs.FlatPages.{AreNodesAndTexts}
+use Rattle.wt_beside_laws.specs.OwnSigns.{HaveOwn}
+use Rattle.wt_beside_laws.specs.SentPieces.{IsNodeForm, HaveNoStyle}
+use Rattle.wt_beside_laws.specs.Shown.{parts_shown_at}
+use Rattle.wt_beside_laws.specs.StyledBlocks.{all_numbers, things_with}
+use Rattle.wt_called_edit_laws.specs.CalledContents.{tree_round}
+use Rattle.wt_called_edit_laws.specs.CallingBlocks.{IsNewContentIn}
+use Rattle.wt_called_edit_laws.specs.CallingEdits.{TakesLetters}
+use Rattle.wt_called_edit_laws.specs.InPieces.{pieces_source, AreInPieces}
+use Rattle.wt_called_edit_laws.specs.PageThings.{ArePageThings, thing_sources}
+use Rattle.wt_called_edit_laws.specs.WholeContents.{IsWholeIn}
+use Rattle.wt_called_edit_laws.specs.WrittenAnew.{StayButForOthers, HoldsAnywhere}
+
+-- ---- the block
+
+-- its nodes, groups among them: each with its source, its place, and what it is to its neighbours
+abbrev pub page_things : Tree → List Thing
+page_things block = things_with (kept_nodes block) (all_numbers (children_of block))
+
+-- it is a group, or none is in it
+abbrev pub IsGroupOrFree : Tree → Type 0
+IsGroupOrFree (tree l ts) = (is_group l.kind ≡ true) ⊎ HasNoGroup (tree l ts)
+
+-- it shows what its source shows in this folder by itself, however many calls come before it
+abbrev pub ShowsAsGiven : Pages → Tree → Type 0
+ShowsAsGiven pages t = (i : ℕ) (rest : Plains) → parts_shown_at 0 [] (line_parts (part_items pages i (flat t))) rest ≡ plain_before t rest
+
+-- an inline node of such a block: a text, a group, or another node without groups
+pub record IsChildBeside (pages : Pages) (t : Tree) : Type 0 where
+  pub inline : is_block_part (label t).kind ≡ false
+  pub free : IsGroupOrFree t
+  pub shows : IsNodeForm (edit_shape (label t).kind).inline → ShowsAsGiven pages t
+
+abbrev pub AreChildrenBeside : Pages → Trees → Type 0
+AreChildrenBeside pages none = Unit {0}
+AreChildrenBeside pages (more t ts) = IsChildBeside pages t × AreChildrenBeside pages ts
+
+-- A paragraph of the page, whatever it is, in pieces: texts, calls that give words, and other nodes on one line. Its nodes are these calls and nodes,
+-- beside which texts are typed; none of them is bold or italic.
+pub record IsBesideCalls (pages : Pages) (k : TextBlock) (q : List ℕ) (block : Tree) : Type 0 where
+  pub paragraph : k ≡ a_paragraph
+  pub pieces : List (List ℕ)
+  pub is : pieces_source pieces ≡ q
+  pub parts : AreInPieces pages pieces
+  pub own : HaveOwn (children_of block)
+  pub children : AreChildrenBeside pages (children_of block)
+  pub things : ArePageThings pages (page_things block)
+  pub among : StayButForOthers pages pieces (thing_sources (page_things block))
+
+-- ---- what is sent for it
+
+-- a node that is gone calls nothing
+abbrev pub AreGoneCalm : Pages → Pieces → Type 0
+AreGoneCalm pages no_pieces = Unit {0}
+AreGoneCalm pages (gone t ps) =
+    (IsNodeForm (edit_shape (label t).kind).inline → (expanded_page pages (flat t)).outer ≡ []) × AreGoneCalm pages ps
+AreGoneCalm pages (written x text ps) = AreGoneCalm pages ps
+AreGoneCalm pages (kept t u ps) = AreGoneCalm pages ps
+AreGoneCalm pages (around l m is ps) = AreGoneCalm pages is × AreGoneCalm pages ps
+AreGoneCalm pages (new_style m is ps) = AreGoneCalm pages is × AreGoneCalm pages ps
+
+-- text is first
+abbrev pub BeginTyped : Pieces → Type 0
+BeginTyped no_pieces = ⊥
+BeginTyped (gone t ps) = BeginTyped ps
+BeginTyped (written x [] ps) = BeginTyped ps
+BeginTyped (written x (b ∷ bs) ps) = Unit {0}
+BeginTyped (kept t u ps) = ⊥
+BeginTyped (around l m is ps) = ⊥
+BeginTyped (new_style m is ps) = ⊥
+
+-- and last, where text is last before these or isn't
+abbrev pub ends_typed : Bool → Pieces → Bool
+ends_typed last no_pieces = last
+ends_typed last (gone t ps) = ends_typed last ps
+ends_typed last (written x [] ps) = ends_typed last ps
+ends_typed last (written x (b ∷ bs) ps) = ends_typed true ps
+ends_typed last (kept t u ps) = ends_typed false ps
+ends_typed last (around l m is ps) = ends_typed false ps
+ends_typed last (new_style m is ps) = ends_typed false ps
+
+-- All its calls stay, in their order, and any other node stays or goes; each is sent as it is. Any texts are between them, and text is first and last.
+pub record IsCalledEditOf (pages : Pages) (block : Tree) (ps : Pieces) : Type 0 where
+  pub old : page_pieces ps ≡ children_of block
+  pub stay : PiecesStay ps
+  pub are : AreNodesAndTexts ps
+  pub plain : HaveNoStyle ps
+  pub calm : AreGoneCalm pages ps
+  pub begins : BeginTyped ps
+  pub ends : ends_typed false ps ≡ true
+
+-- ---- what it makes
+
+-- It is taken: nothing is wrong in it; what is written may stand in the place of the content q, holds its calls, of which none is text, takes texts
+-- again and can be read by itself; the block is its delimiters and this between them, and shows what was sent, wherever it is in a page and whatever
+-- calls come before it; what stays is inline.
+pub record MakesContentIn (pages : Pages) (k : TextBlock) (q : List ℕ) (block : Tree) (m : Label) (ps : Pieces) : Type 0 where
+  pub taken : bad_content same_node (page_node (content_edit k block m ps)) (sent_node (content_edit k block m ps)) ≡ None
+  pub new : IsNewContentIn pages k q (new_content k block m ps)
+  pub holds : HoldsAnywhere pages k (new_content k block m ps)
+  pub texts : (expanded_page pages (source_of k (new_content k block m ps))).text_calls ≡ []
+  pub letters : TakesLetters pages k (new_content k block m ps)
+  pub whole : IsWholeIn pages k (new_content k block m ps)
+  pub source : edited_source same_node (content_edit k block m ps) ≡ source_of k (new_content k block m ps)
+  pub shows : (calls : List OuterCall) (i : ℕ) (rest : Plains) → edited_before (content_edit k block m ps) rest
+      ≡ plain_before (cut_texts (block_in calls (tree_round k (part_items pages i (new_content k block m ps))))) rest
+  pub inline : AreInline ps
