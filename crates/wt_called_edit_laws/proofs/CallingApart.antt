@@ -11,7 +11,7 @@ use Rattle.wt_typed_blocks.specs.Edited.{Edited, Edits, page_nodes}
 use Rattle.wt_typed_blocks.specs.EditedPage.{LieAt, AreApart}
 use Rattle.wt_part_laws.specs.TreeFrames.{all_filled, spots}
 use Rattle.wt_text_edit_laws.specs.BlockSpots.{BlockSpot, spots_source}
-use Rattle.wt_called_edit_laws.specs.CalledBlocks.{tree_by, counted}
+use Rattle.wt_called_edit_laws.specs.CalledBlocks.{tree_by}
 use Rattle.wt_called_edit_laws.specs.CalledTexts.{spots_tree}
 use Rattle.wt_called_edit_laws.specs.CallingEdits.{IsCallingPage}
 use Rattle.wt_called_edit_laws.specs.CallingGroups.{block_with_groups, CallingNodesStay}

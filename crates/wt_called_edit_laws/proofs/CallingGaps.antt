@@ -5,7 +5,6 @@ use Rattle.wt_tree.specs.Source.{flat_of_all}
 use Rattle.wt_checks.specs.Kept.{children}
 use Rattle.wt_expand.specs.Work.{Pages}
 use Rattle.wt_tree.specs.Tree.{Tree}
-use Rattle.wt_part_laws.specs.Placeless.{all_placeless}
 use Rattle.wt_part_laws.specs.TreeFrames.{all_filled, spots}
 use Rattle.wt_text_edit_laws.specs.BlockSpots.{BlockSpot, spots_source}
 use Rattle.wt_text_edit_laws.specs.TextBlocks.{TextBlock, source_of}

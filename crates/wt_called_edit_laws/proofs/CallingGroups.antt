@@ -1,11 +1,10 @@
 -- Where contents are written in blocks that hold calls, beside these calls, the groups of the page and its other nodes stay.
-use Rattle.std.proofs.Common.{◌≡◌, ◌⊎◌, inl, inr, ℕ, zero, suc, None, List, [], ◌∷◌, ◌++◌, refl, sym, ap, ◌∙◌, subst}
+use Rattle.std.proofs.Common.{◌≡◌, ◌⊎◌, inl, inr, ℕ, zero, suc, None, List, [], ◌∷◌, refl, sym, ap, ◌∙◌, subst}
 use Rattle.wt_span.specs.Origins.{OuterCall}
-use Rattle.wt_expand.specs.Work.{Pages, Entry}
+use Rattle.wt_expand.specs.Work.{Pages}
 use Rattle.wt_expand.specs.PageCalls.{expanded_page}
 use Rattle.wt_annotated.specs.Annotated.{annotated}
 use Rattle.wt_annotated.specs.GroupData.{group_data}
-use Rattle.wt_inline.specs.ItemTree.{ItemTree}
 use Rattle.wt_span.specs.Items.{Item}
 use Rattle.wt_checks.specs.Kept.{children}
 use Rattle.wt_part_laws.specs.Expanded.{part_items}
@@ -26,7 +25,7 @@ use Rattle.wt_called_edit_laws.specs.CalledBlocks.{counted}
 use Rattle.wt_called_edit_laws.specs.CallingBlocks.{IsNewContentIn, AreEdited, AreCallingBlocks, tree_with_calls, CallingBlocksStand}
 use Rattle.wt_called_edit_laws.specs.CallingGroups.{AreCallingOutside, CallingGroupsStay, CallingNodesStay}
 use Rattle.wt_called_edit_laws.specs.Parts.{calls_to, calls_past, called_outers, work_in}
-use Rattle.wt_called_edit_laws.specs.Retyped.{AreSomeOf, IsPartAnew}
+use Rattle.wt_called_edit_laws.specs.Retyped.{IsPartAnew}
 use Rattle.wt_called_edit_laws.proofs.Cells.CallingFrames.{edited_anew, calling_again}
 use Rattle.wt_called_edit_laws.proofs.Cells.SpotTrees.{counted_same}
 use Rattle.wt_called_edit_laws.proofs.CleanAgain.{frames_clean}
@@ -53,18 +52,20 @@ own_moved pages [] rs t = tt
 own_moved pages (s ∷ ss) [] t = tt
 own_moved pages (s ∷ ss) (r ∷ rs) t = (one_moved pages s r t.1 t.2, own_moved pages ss rs t.3)
 
-pub calls_kept : (pages : Pages) (ss rs : List BlockSpot) (behind : List ℕ) → AreCallingBlocks pages ss behind → AreEdited pages ss rs
-    → HaveSameData (expanded_page pages (spots_source ss behind)).outer (expanded_page pages (spots_source rs behind)).outer
-calls_kept pages ss rs behind h t =
-    let calls : List OuterCall = (expanded_page pages (spots_source ss behind)).outer in
+pub calls_moved : (pages : Pages) (ss rs : List BlockSpot) (behind : List ℕ) → AreCallingBlocks pages ss behind → AreEdited pages ss rs
+    → AreMoved (expanded_page pages (spots_source ss behind)).outer (expanded_page pages (spots_source rs behind)).outer
+calls_moved pages ss rs behind h t =
     let others : List OuterCall = (expanded_page pages (spots_source rs behind)).outer in
     let again = expanded_again pages ss rs behind h.called (edited_anew pages ss rs t) in
     let was = is_by_parts pages ss behind h.called in
     let now = is_by_parts pages rs behind again.called in
-    let moved : AreMoved calls others =
     subst (λ cs. AreMoved cs others) (sym was.outers)
-    (subst (AreMoved (called_outers pages ss behind)) (sym now.outers) (all_moved pages ss rs behind (edited_round pages ss rs t) (own_moved pages ss rs t))) in
-    moved_data calls others moved
+    (subst (AreMoved (called_outers pages ss behind)) (sym now.outers) (all_moved pages ss rs behind (edited_round pages ss rs t) (own_moved pages ss rs t)))
+
+pub calls_kept : (pages : Pages) (ss rs : List BlockSpot) (behind : List ℕ) → AreCallingBlocks pages ss behind → AreEdited pages ss rs
+    → HaveSameData (expanded_page pages (spots_source ss behind)).outer (expanded_page pages (spots_source rs behind)).outer
+calls_kept pages ss rs behind h t =
+    moved_data (expanded_page pages (spots_source ss behind)).outer (expanded_page pages (spots_source rs behind)).outer (calls_moved pages ss rs behind h t)
 
 pub held_there : (pages : Pages) (ss rs : List BlockSpot) (behind : List ℕ) (f : CallingBlocksStand pages ss behind) → AreEdited pages ss rs
     → AllHold (tree_with_calls pages 0 rs) (counted rs) → AllHold (tree_with_calls pages 0 rs) (all_places f.frames)

@@ -57,6 +57,7 @@ pub mod CallingChosen
 pub mod CallingTaken
 pub mod CallingOutside
 pub mod EditableBlocks
+pub mod OthersStay
 pub mod SettledEdits
 pub mod Beside
 pub mod Cells

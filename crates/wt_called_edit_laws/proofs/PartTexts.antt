@@ -1,5 +1,5 @@
 -- What is on the page for the items of a part is the part, wherever its calls are counted among those of the page.
-use Rattle.std.proofs.Common.{◌≡◌, ℕ, zero, suc, ◌+◌, ◌-◌, ◌<◌, Bool, true, false, Option, Some, None, List, [], ◌∷◌, ◌++◌, length, map, take, drop, refl, sym, ap, ap₂, ◌∙◌, subst, arith, append_assoc, append-nil, length-append}
+use Rattle.std.proofs.Common.{◌≡◌, ℕ, zero, suc, ◌+◌, ◌-◌, ◌<◌, Bool, true, false, Option, Some, None, List, [], ◌∷◌, ◌++◌, length, map, take, drop, refl, sym, ap, ap₂, ◌∙◌, subst, arith, append-nil}
 use Rattle.std.specs.Prelude.{slice_get, slice_index, not, if◌then◌else◌}
 use Rattle.std.proofs.lemmas.Bool.Decides.{nat_tests}
 use Rattle.wt_span.specs.declared.form.ItemForm.TheVariants as form
@@ -22,10 +22,10 @@ use Rattle.wt_expand.specs.PageCalls.{Stretch, own, outer, text_call, call_stret
 use Rattle.wt_expand.specs.Stretches.{page_bytes}
 use Rattle.wt_expand.proofs.PiecePlaces.{text_behind, behind_page, behind_same, AllFrom, form_from, chars_from}
 use Rattle.wt_expand.proofs.Given.{stretches_join}
-use Rattle.wt_part_laws.specs.Expanded.{moved_call, part_items, calls_in}
+use Rattle.wt_part_laws.specs.Expanded.{moved_call, part_items}
 use Rattle.wt_text_edit_laws.specs.BlockSpots.{BlockSpot}
 use Rattle.wt_text_edit_laws.specs.TextBlocks.{source_of}
-use Rattle.wt_called_edit_laws.specs.PartTexts.{AreBlockTexts, AreTextsOfPage}
+use Rattle.wt_called_edit_laws.specs.PartTexts.{AreSourcesAt, AreBlockTexts, AreTextsOfPage}
 use Rattle.wt_called_edit_laws.specs.Parts.{AreCalled, calls_to, calls_past, called_outers}
 use Rattle.wt_called_edit_laws.proofs.Parts.Retyped.{is_by_parts}
 
@@ -143,11 +143,6 @@ below_outer k o c [] = below_call k o (whole form.EmptyCall (Some k) c.source) [
 below_outer k o c (x ∷ xs) = below_call k o (from_call k x) (map (from_call k) xs) (called_from k (x ∷ xs))
 
 -- ---- stretch after stretch
-
--- from this number on, the calls of a page have the sources of these
-abbrev pub AreSourcesAt : List OuterCall → ℕ → List OuterCall → Type 0
-AreSourcesAt calls k [] = Unit {0}
-AreSourcesAt calls k (c ∷ cs) = (source_of_call (slice_get calls k) ≡ c.source) × AreSourcesAt calls (suc k) cs
 
 pub joined : (calls : List OuterCall) (o : Option ℕ) (k : ℕ) (ss : List Stretch) → IsBelow k o → OwnPage ss → AreSourcesAt calls k (outer_calls ss)
     → text_from calls o (numbered k ss) ≡ page_bytes ss

@@ -3,7 +3,7 @@ use Rattle.std.proofs.Common.{◌≡◌, ℕ, ◌+◌, Bool, true, false, length
 use Rattle.std.specs.Prelude.{if◌then◌else◌}
 use Rattle.wt_tree.specs.Source.{flat}
 use Rattle.wt_tree.specs.Tiling.{is_group, HasNoGroup, NoneIsGroup}
-use Rattle.wt_tree.specs.Tree.{Label, Tree, tree, Trees, none, more}
+use Rattle.wt_tree.specs.Tree.{Tree, tree, Trees, none, more}
 use Rattle.wt_annotated.specs.Numbering.{next_after, count}
 use Rattle.wt_isolation.specs.OpenTags.{node_ends_open}
 use Rattle.wt_part_laws.specs.Placeless.{placeless_label, placeless, all_placeless}

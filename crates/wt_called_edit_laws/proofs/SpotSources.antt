@@ -1,6 +1,5 @@
 -- The source of each block of a page, whatever calls it holds: what is on the page for its items.
-use Rattle.std.proofs.Common.{◌≡◌, ℕ, suc, None, List, [], ◌∷◌, ◌++◌, map, refl, sym, ap, ◌∙◌, subst, append-nil}
-use Rattle.wt_tree.specs.Source.{flat}
+use Rattle.std.proofs.Common.{◌≡◌, ℕ, suc, None, List, [], ◌∷◌, ◌++◌, map, sym, ap, ◌∙◌, subst, append-nil}
 use Rattle.wt_tree.specs.Tree.{Tree}
 use Rattle.wt_span.specs.Items.{Item}
 use Rattle.wt_span.specs.Origins.{OuterCall}
@@ -18,9 +17,8 @@ use Rattle.wt_expand.specs.PageCalls.{expanded_page}
 use Rattle.wt_expand.specs.Work.{Pages, first_refusal}
 use Rattle.wt_annotated.specs.CutTexts.{cut_texts}
 use Rattle.wt_annotated.specs.Seams.{text_from}
-use Rattle.wt_page.specs.Body.{meaning}
 use Rattle.wt_page_round_trip.proofs.HeldPages.{items_ones, tree_ones}
-use Rattle.wt_page_round_trip.proofs.OpenedPages.{IsOne, AreOnes, opened_text}
+use Rattle.wt_page_round_trip.proofs.OpenedPages.{AreOnes, opened_text}
 use Rattle.wt_part_laws.specs.Expanded.{part_items}
 use Rattle.wt_part_laws.specs.Frames.{Frame, place, whole, around, Frames, no_frames, more_frames, tree_at, trees_at, places_in, all_places}
 use Rattle.wt_part_laws.specs.HeldCalls.{AllHold, block_in}

@@ -18,7 +18,6 @@ use Rattle.wt_text_edit_laws.specs.TextBetween.{AreEnded}
 use Rattle.wt_part_laws.specs.Placeless.{placeless}
 use Rattle.wt_part_laws.specs.Standing.{standing}
 use Rattle.wt_text_edit_laws.specs.TextBlocks.{source_of, block_tree, BeginsLine}
-use Rattle.wt_text_edit_laws.specs.Contents.{IsContent}
 use Rattle.wt_text_edit_laws.proofs.Blocks.BlocksAgain.{AreClear}
 use Rattle.wt_text_edit_laws.proofs.Blocks.BlockReading.{begins_here}
 use Rattle.wt_text_edit_laws.proofs.Paragraphs.ClearLines.{clear_first, clear_line}

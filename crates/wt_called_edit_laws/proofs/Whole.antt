@@ -6,3 +6,6 @@ pub mod Opened
 pub mod Pieces
 pub mod Blocks
 pub mod Contents
+pub mod Pieced
+pub mod TextAndCalls
+pub mod Cases

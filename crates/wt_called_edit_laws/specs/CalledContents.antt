@@ -1,19 +1,13 @@
 -- The content of a paragraph or a heading by its items, which may come from calls; and such contents in a folder.
-use Rattle.std.specs.Prelude.{◌≡◌, ◌⊎◌, ℕ, ◌+◌, zero, suc, true, List, [], ◌∷◌, All}
+use Rattle.std.specs.Prelude.{◌≡◌, ℕ, true, List, All}
 use Rattle.std.specs.List.{AllByRecursion}
 use Rattle.wt_span.specs.Items.{Item}
 use Rattle.wt_lines.specs.Lines.{is_break_item, lines}
 use Rattle.wt_inline.specs.ItemTree.{ItemTree}
-use Rattle.wt_page.specs.Body.{meaning}
-use Rattle.wt_part_laws.specs.Frames.{Frames, trees_at, all_places, content, AreFrames}
-use Rattle.wt_expand.specs.Work.{Pages}
-use Rattle.wt_expand.specs.PageCalls.{expanded_page}
-use Rattle.wt_part_laws.specs.Expanded.{part_items, calls_in, GivesAnywhere}
 use Rattle.wt_page.specs.Rows.{marks_len}
-use Rattle.wt_text_edit_laws.specs.ParagraphBetween.{body_with}
 use Rattle.wt_text_edit_laws.specs.ParagraphParts.{break, joined_parts, para_with}
 use Rattle.wt_text_edit_laws.specs.Paragraphs.{IsTextLine}
-use Rattle.wt_text_edit_laws.specs.TextBlocks.{TextBlock, a_paragraph, a_heading, source_of, block_tree}
+use Rattle.wt_text_edit_laws.specs.TextBlocks.{TextBlock, a_paragraph, a_heading}
 use Rattle.wt_text_edit_laws.specs.TypedHeadings.{Sides, AreSides, heading_line, heading_round, IsHeadingInside, IsOfLevel}
 use Rattle.wt_called_edit_laws.specs.InCells.{AreTextLines}
 

@@ -20,6 +20,7 @@ use Rattle.wt_called_edit_laws.specs.CallingGroups.{block_with_groups}
 use Rattle.wt_called_edit_laws.specs.ChosenContents.{Choice, AreChosenIn, pieces_of}
 use Rattle.wt_called_edit_laws.specs.EditsAt.{edited_by, AllEditOnly, with_contents, edited_page, Fits, sent_contents, bare_contents, AreOwnEdits}
 use Rattle.wt_called_edit_laws.specs.SettledAt.{IsSettledAt, AllSettled}
+use Rattle.wt_called_edit_laws.specs.SettledPages.{OnlyTheseAreOthers}
 
 -- ---- which contents may be sent
 
@@ -86,7 +87,8 @@ HasContentEditsIn pages b t ss paths = (at : Choice) → AreChosenIn at (childre
 -- * whatever contents that may be sent are chosen, there is such an edit;
 -- * the edit is done, and the new page is the same with these contents in them, as they are spelled;
 -- * without marks, too, `edit` of the difference is done;
--- * the new page is such a page again.
+-- * nothing but these blocks is another one in the new page, and it has the same calls;
+-- * it is such a page again.
 pub record TakesContentsIn (pages : Pages) (ss : List BlockSpot) (behind : List ℕ) : Type 0 where
   pub paths : List (List ℕ)
   pub stand : AllSettled (block_with_groups pages ss behind) (counted ss) paths (spots_tree pages ss behind)
@@ -97,5 +99,7 @@ pub record TakesContentsIn (pages : Pages) (ss : List BlockSpot) (behind : List 
       → IsUnmarkedContentEditIn pages (spots_tree pages ss behind) ss paths es → stands ≡ Some (spots_source ss behind)
       → length (spots_source ss behind) ≤ PAGE_BYTES → length (edited_page ss behind paths es) ≤ PAGE_BYTES → length input ≤ HTML_BYTES
       → read input ≡ as_page (bare_contents (spots_tree pages ss behind) es b) unsourced → DoneByEdit pages stands input
+  pub others : (es : Edits) → IsContentEditIn pages (spots_tree pages ss behind) ss paths es
+      → OnlyTheseAreOthers pages ss (with_contents ss (map (edited_by es) paths)) behind
   pub again : (es : Edits) → IsContentEditIn pages (spots_tree pages ss behind) ss paths es
       → IsCallingPage pages (with_contents ss (map (edited_by es) paths)) behind

@@ -36,6 +36,7 @@ pub mod EditableBlocks
 pub mod CalledEdits
 pub mod InPieces
 pub mod PageThings
+pub mod PiecedParagraphs
 pub mod WholeContents
 pub mod Written
 pub mod WrittenAnew
@@ -47,3 +48,4 @@ pub mod PlacedAmong
 pub mod LinedAmong
 pub mod LinedHeadings
 pub mod ToldLines
+pub mod ToldAmong

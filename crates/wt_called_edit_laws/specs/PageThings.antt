@@ -1,5 +1,5 @@
 -- The nodes of a paragraph of the page, calls that give words among them, beside which texts are typed.
-use Rattle.std.specs.Prelude.{◌≡◌, ◌⊎◌, ℕ, Bool, true, false, List, [], ◌∷◌}
+use Rattle.std.specs.Prelude.{◌≡◌, ◌⊎◌, ℕ, true, false, List, [], ◌∷◌}
 use Rattle.std.specs.Str.{IsUtf8}
 use Rattle.wt_guards.specs.Content.{Thing}
 use Rattle.wt_guards.specs.Guards.{is_adjacent}

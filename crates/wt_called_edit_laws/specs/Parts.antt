@@ -11,7 +11,7 @@ use Rattle.wt_expand.specs.PageCalls.{expanded_page}
 use Rattle.wt_part_laws.specs.Apart.{close_left}
 use Rattle.wt_part_laws.specs.Expanded.{moved_call, moved_span, part_items, calls_in, GivesAnywhere}
 use Rattle.wt_text_edit_laws.specs.NoCalls.{Brace, opening, closing, NonePairs}
-use Rattle.wt_text_edit_laws.specs.TextBlocks.{TextBlock, source_of}
+use Rattle.wt_text_edit_laws.specs.TextBlocks.{source_of}
 use Rattle.wt_text_edit_laws.specs.BlockSpots.{BlockSpot, spots_source, EndBeforeBlocks, IsReadSpot, AreReadSpots}
 
 -- ---- braces that are left

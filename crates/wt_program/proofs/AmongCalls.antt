@@ -67,6 +67,7 @@ calls_take_there c ended pages ss behind ends as_edit told utf8 t =
           (answer_is c page (edited_page ss behind t.paths es) (sent_contents body es) utf8 s (edit_made c pages ss behind t es told e s)) ends sound;
       selser = λ es e s.
           selser_ends c ended page (edited_page ss behind t.paths es) (bare_contents body es) s (unmarked_made c pages ss behind t es told e s) as_edit;
+      others = t.others;
     }
 
 pub calls_take : (c : Call) (ended : ℕ) → Ends c ended → EndsAsEdit c ended → TakesContentsAmongCalls c ended

@@ -14,7 +14,7 @@ use Rattle.wt_text_edit_laws.specs.Contents.{IsContent}
 use Rattle.wt_text_edit_laws.specs.LonePages.{page_chars}
 use Rattle.wt_text_edit_laws.specs.NoCalls.{NonePairs, CallsNothing, AreUnbraced}
 use Rattle.wt_text_edit_laws.specs.TextBlocks.{TextBlock, a_paragraph, a_heading, source_of, block_items}
-use Rattle.wt_text_edit_laws.specs.TypedHeadings.{Sides, opening, closing_items}
+use Rattle.wt_text_edit_laws.specs.TypedHeadings.{opening, closing_items}
 use Rattle.wt_text_edit_laws.proofs.Blocks.BlockReading.{content_frame, content_read}
 use Rattle.wt_text_edit_laws.proofs.Blocks.TypedBraces.{line_unbraced}
 use Rattle.wt_text_edit_laws.proofs.Between.LessBraces.{BeginsUnbraced, braces_of, items_behind_end, items_before_start, none_unbraced, unbraced_ends}

@@ -1,15 +1,14 @@
 -- Each block of a page whose calls give words, or that calls nothing, can be read by itself where it is.
-use Rattle.std.proofs.Common.{arith, ◌≡◌, ◌⊎◌, inl, inr, ℕ, zero, suc, ◌+◌, ◌<◌, ◌≤◌, ◌==◌, Bool, true, false, Option, None, Some, List, [], ◌∷◌, ◌++◌, length, map, refl, sym, ap, ap₂, ◌∙◌, subst, append-nil}
+use Rattle.std.proofs.Common.{arith, ◌≡◌, inl, inr, ℕ, suc, ◌+◌, ◌<◌, ◌≤◌, Bool, true, false, Option, None, Some, List, [], ◌∷◌, ◌++◌, length, map, refl, sym, ap, ap₂, ◌∙◌, subst, append-nil}
 use Rattle.std.specs.Prelude.{slice_get, if◌then◌else◌}
 use Rattle.std.specs.List.{list_all}
-use Rattle.std.specs.Str.{IsUtf8}
 use Rattle.std.proofs.lemmas.Bool.{cases_lt}
 use Rattle.wt_tree.specs.declared.row.Texts.{Texts}
 use Rattle.wt_tree.specs.declared.row.Texts.TheVariants.{Page}
 use Rattle.wt_tree.specs.declared.kind.Kind.TheVariants as kind
 use Rattle.wt_tree.specs.Kinds.{texts_of_kind}
 use Rattle.wt_tree.specs.Tiling.{is_group}
-use Rattle.wt_tree.specs.Tree.{Label, Tree, tree, Trees, none, more}
+use Rattle.wt_tree.specs.Tree.{Tree, Trees}
 use Rattle.wt_span.specs.Items.{Item, char, sources}
 use Rattle.wt_span.specs.Origins.{OuterCall, Expanded, same_call}
 use Rattle.wt_span.specs.Cuts.{source_of_call}
@@ -21,7 +20,7 @@ use Rattle.wt_inline.proofs.HeldLaws.{held_children}
 use Rattle.wt_annotated.specs.Clean.{is_page}
 use Rattle.wt_annotated.specs.CutTexts.{cut_as, cut_texts, all_cut_texts}
 use Rattle.wt_annotated.specs.Numbering.{next_after, with_numbers}
-use Rattle.wt_annotated.specs.Seams.{last_of, first_of, text_from}
+use Rattle.wt_annotated.specs.Seams.{last_of, first_of}
 use Rattle.wt_annotated.specs.WithoutCalls.{placed}
 use Rattle.wt_checks.specs.Kept.{children as nodes_in}
 use Rattle.wt_isolation.specs.OpenTags.{ends_open, any_ends_open}
@@ -36,7 +35,7 @@ use Rattle.wt_page_round_trip.proofs.OpenedPages.{AreOnes}
 use Rattle.wt_part_laws.specs.CallTexts.{AreOwnOrTexts, all_in_page}
 use Rattle.wt_part_laws.specs.Expanded.{moved_call, part_items, calls_in}
 use Rattle.wt_part_laws.specs.HeldCalls.{block_in, HoldsItsCalls, AllHold, IsRoundTexts, block_of_texts}
-use Rattle.wt_part_laws.specs.Placeless.{placeless, all_placeless}
+use Rattle.wt_part_laws.specs.Placeless.{placeless}
 use Rattle.wt_part_laws.specs.Rounded.{IsOwn}
 use Rattle.wt_part_laws.specs.Standing.{standing}
 use Rattle.wt_part_laws.proofs.CallTexts.{children_pieces}
@@ -61,7 +60,7 @@ use Rattle.wt_called_edit_laws.specs.CallingGroups.{AreCallingOutside, block_wit
 use Rattle.wt_called_edit_laws.specs.Parts.{calls_to, calls_past, called_items}
 use Rattle.wt_called_edit_laws.specs.Settled.{settled, all_settled}
 use Rattle.wt_called_edit_laws.specs.Untangled.{IsWhole, AreWhole}
-use Rattle.wt_called_edit_laws.specs.WholeContents.{of_call, NoneOrWords, AreShutParts, AreShutCalls, HoldsWords, IsWholeIn, EachWhole}
+use Rattle.wt_called_edit_laws.specs.WholeContents.{of_call, NoneOrWords, AreShutParts, AreShutCalls, HoldsWords, EachWhole}
 use Rattle.wt_called_edit_laws.proofs.CalledUtf8.{called_utf8}
 use Rattle.wt_called_edit_laws.proofs.Cells.CallingFrames.{own_calm}
 use Rattle.wt_called_edit_laws.proofs.Cells.ContentItems.{tree_is}
@@ -71,9 +70,9 @@ use Rattle.wt_called_edit_laws.proofs.PartTexts.{own_text}
 use Rattle.wt_called_edit_laws.proofs.SettledNodes.{settled_gone, placeless_twice}
 use Rattle.wt_called_edit_laws.proofs.SpotSources.{OnesAt, SpotOnes, tree_opened, hold_moved, ones_moved, grouped_at, ones_in_tree, ones_in_page}
 use Rattle.wt_called_edit_laws.proofs.Whole.CallPlaces.{AtPlaces, AreCallsAt, AreBlockCalls, part_placed, block_calls, page_placed}
-use Rattle.wt_called_edit_laws.proofs.Whole.OfCall.{of_append, of_page, own_from, of_here, of_past, before_part, behind_part, of_opened, chars_opened}
+use Rattle.wt_called_edit_laws.proofs.Whole.OfCall.{of_append, of_page, own_from, before_part, behind_part, of_opened, chars_opened}
 use Rattle.wt_called_edit_laws.proofs.Whole.Opened.{to_opened, from_opened}
-use Rattle.wt_called_edit_laws.proofs.Whole.Pieces.{AreShutTrees, children_shut, IsGivenHere, AreGivenHere, IsAmong, pieces_fine, pieces_shut}
+use Rattle.wt_called_edit_laws.proofs.Whole.Pieces.{AreShutTrees, children_shut, AreGivenHere, IsAmong, pieces_fine, pieces_shut}
 
 -- ---- a block of texts of which calls give some, at its place
 
@@ -85,7 +84,7 @@ first_page : (xs : List Item) → AllFrom None xs → first_of xs None ≡ None
 first_page [] h = refl
 first_page (x ∷ xs) h = h.0
 
-nodes_are : (calls : List OuterCall) (n s : ℕ) (h : Head) (q : List Item) (ps : List Part) (c : List Item) → is_group h.kind ≡ false → texts_of_kind h.kind ≡ Page
+pub nodes_are : (calls : List OuterCall) (n s : ℕ) (h : Head) (q : List Item) (ps : List Part) (c : List Item) → is_group h.kind ≡ false → texts_of_kind h.kind ≡ Page
     → nodes_in (settled n s (cut_texts (block_of_texts calls h q ps c)))
     ≡ all_settled (next_after h.kind n) (s + length (sources q)) (all_cut_texts (all_in_page calls (children ps)))
 nodes_are calls n s h q ps c g t =

@@ -1,5 +1,5 @@
 -- What is written for texts beside calls that give words can be read by itself.
-use Rattle.std.proofs.Common.{arith, ◌≡◌, ◌⊎◌, inl, inr, ℕ, suc, ◌+◌, ◌<◌, ◌≤◌, ◌==◌, Bool, true, false, Option, None, Some, List, [], ◌∷◌, ◌++◌, length, map, refl, sym, ap, ap₂, ◌∙◌, subst, append-nil}
+use Rattle.std.proofs.Common.{arith, ◌≡◌, ◌⊎◌, inl, inr, ℕ, suc, ◌+◌, ◌<◌, ◌==◌, Bool, true, false, Option, None, Some, List, [], ◌∷◌, ◌++◌, length, map, refl, sym, ap, ap₂, ◌∙◌, subst, append-nil}
 use Rattle.std.specs.Prelude.{slice_get, encode_utf8}
 use Rattle.std.specs.Fmt.{digits}
 use Rattle.std.proofs.lemmas.Bool.{cases_lt}
@@ -7,7 +7,7 @@ use Rattle.std.proofs.lemmas.Bool.Decides.{nat_tests, Decides-eqb}
 use Rattle.wt_tree.specs.declared.kind.Kind.TheVariants as kind
 use Rattle.wt_tree.specs.Tiling.{HasNoGroup}
 use Rattle.wt_span.specs.declared.form.ItemForm.TheVariants as form
-use Rattle.wt_span.specs.Items.{Item, char, whole, sources, call_of}
+use Rattle.wt_span.specs.Items.{Item, char, whole, sources}
 use Rattle.wt_span.specs.Cuts.{source_of_call}
 use Rattle.wt_span.specs.Origins.{OuterCall, same_call}
 use Rattle.wt_guards.specs.declared.role.Role.{Role}
@@ -28,15 +28,14 @@ use Rattle.wt_annotated.specs.Labels.{label_at}
 use Rattle.wt_annotated.specs.Seams.{text_from}
 use Rattle.wt_isolation.specs.OpenTags.{ends_open, node_ends_open}
 use Rattle.wt_part_laws.specs.CallTexts.{AreOwnOrTexts}
-use Rattle.wt_part_laws.specs.Expanded.{moved_call, part_items, calls_in}
+use Rattle.wt_part_laws.specs.Expanded.{part_items, calls_in}
 use Rattle.wt_part_laws.specs.MovedCalls.{IsMoved, AreMoved}
 use Rattle.wt_part_laws.specs.Standing.{standing}
 use Rattle.wt_text_edit_laws.specs.LonePages.{page_chars}
 use Rattle.wt_text_edit_laws.specs.ParagraphParts.{joined_parts}
 use Rattle.wt_text_edit_laws.specs.TextBlocks.{a_paragraph}
-use Rattle.wt_beside_laws.specs.Called.{items_with, owns_in, parts_with, AreWordBytes, BeginsWord, AreWords, shown_signs, GivesWords, StaysAsItIs, IsOfFolder, AreOfFolder, IsCalledIn}
+use Rattle.wt_beside_laws.specs.Called.{items_with, owns_in, parts_with, BeginsWord, AreWords, shown_signs, GivesWords, StaysAsItIs, IsOfFolder, AreOfFolder, IsCalledIn}
 use Rattle.wt_beside_laws.specs.Content.{guard_items, letter_items}
-use Rattle.wt_beside_laws.specs.NodeItems.{node_items}
 use Rattle.wt_beside_laws.proofs.LineShown.{guard_tree}
 use Rattle.wt_beside_laws.proofs.Groups.CalledBlocks.{parts_own}
 use Rattle.wt_beside_laws.proofs.Groups.CalledParagraphs.{called_parts}
@@ -47,7 +46,8 @@ use Rattle.wt_called_edit_laws.specs.PageThings.{shown_thing}
 use Rattle.wt_called_edit_laws.specs.WholeContents.{of_call, NoneOrWords, AreShutParts, AreShutCalls, IsShut, AreShut, HoldsWords, IsWholeIn}
 use Rattle.wt_called_edit_laws.specs.Written.{written_calls}
 use Rattle.wt_called_edit_laws.specs.WrittenAnew.{IsWrittenBeside}
-use Rattle.wt_called_edit_laws.proofs.PartTexts.{OwnPage, own_page, AreSourcesAt, called_from, call_text, part_text}
+use Rattle.wt_called_edit_laws.specs.PartTexts.{AreSourcesAt}
+use Rattle.wt_called_edit_laws.proofs.PartTexts.{OwnPage, own_page, call_text, part_text}
 use Rattle.wt_called_edit_laws.proofs.Whole.OfCall.{is_same, of_before, of_here, of_past, of_append, of_own, before_part, behind_part}
 use Rattle.wt_called_edit_laws.proofs.Written.Held.{written_gives}
 use Rattle.wt_called_edit_laws.proofs.Written.Signs.{content_written}
@@ -179,7 +179,7 @@ words_nonempty i [] v e = v
 words_nonempty i (b ∷ bs) v e = cc
 
 -- a call that gives words is one call at least
-has_call : (pages : Pages) (i : ℕ) (source : List ℕ) → GivesWords pages source → 0 < calls_in pages source
+pub has_call : (pages : Pages) (i : ℕ) (source : List ℕ) → GivesWords pages source → 0 < calls_in pages source
 has_call pages i source h = elim (cases_lt 0 (calls_in pages source)) [
   | inl l ↦ l
   | inr l ↦
@@ -189,6 +189,32 @@ has_call pages i source h = elim (cases_lt 0 (calls_in pages source)) [
       let none : of_call i (part_items pages i source) ≡ [] = behind_part pages i i source (omega (arith, l)) in
       absurd (words_nonempty i shown h.begins (sym all ∙ none))
 ]
+
+-- It is the first call of this source, and gives words.
+pub record IsNextCall (pages : Pages) (i j : ℕ) (source : List ℕ) : Type 0 where
+  pub less : j < i + calls_in pages source
+  pub shown : List ℕ
+  pub words : AreWords shown (of_call j (part_items pages i source))
+
+pub thing_gives : (pages : Pages) (i j : ℕ) (t : Thing) → IsOfFolder t.role pages t
+    → (of_call j (part_items pages i t.source) ≡ []) ⊎ IsNextCall pages i j t.source
+thing_gives pages i j t h = elim (node_case t.role pages t h) [
+  | inl k ↦ inl (stays_none pages i j t k.0)
+  | inr k ↦ by_number (i == j) refl k (has_call pages i t.source k)
+]
+  where
+    by_number : (v : Bool) → (i == j) ≡ v → GivesWords pages t.source → 0 < calls_in pages t.source
+        → (of_call j (part_items pages i t.source) ≡ []) ⊎ IsNextCall pages i j t.source
+    by_number true e k some =
+        let words : List ℕ = sources (expanded_page pages t.source).items in
+        let same : i ≡ j = (Decides-eqb i j).0 e in
+        let less : j < i + calls_in pages t.source = omega (arith, same, some) in
+        inr (record {
+          less = less;
+          shown = words;
+          words = record { call = i; is = ap (of_call j) (k.items i) ∙ chars_here i j words e; words = k.words; begins = k.begins };
+        })
+    by_number false e k some = inl (ap (of_call j) (k.items i) ∙ chars_past i j (sources (expanded_page pages t.source).items) e)
 
 words_here : (pages : Pages) (i j : ℕ) (s : Setting) (before signs : List ContentSign) → AreOfFolder pages signs
     → NoneOrWords (of_call j (items_with s before signs (owns_in pages i signs)))
@@ -207,41 +233,14 @@ words_here pages i j s before (thing t ∷ after) h =
     let rest : List Item = items_with s (thing t ∷ before) after (owns_in pages next after) in
     let both : of_call j (guard_items u ++ (own ++ rest)) ≡ of_call j own ++ of_call j rest = past_both j (guard_items u) own rest (guard_none j u) in
     let later : NoneOrWords (of_call j rest) = words_here pages next j s (thing t ∷ before) after h.1 in
-    elim (node_case t.role pages t h.0) [
-      | inl k ↦ subst NoneOrWords (sym (both ∙ ap (λ (us : List Item). us ++ of_call j rest) (stays_none pages i j t k.0))) later
+    elim (thing_gives pages i j t h.0) [
+      | inl k ↦ subst NoneOrWords (sym (both ∙ ap (λ (us : List Item). us ++ of_call j rest) k)) later
       | inr k ↦
-          by_number pages i j t s before after (i == j) refl k (has_call pages i t.source k) both later
+          let none : of_call j rest ≡ [] = all_before pages next j s (thing t ∷ before) after k.less in
+          let is : of_call j (guard_items u ++ (own ++ rest)) ≡ of_call j own =
+          both ∙ ap (λ (us : List Item). of_call j own ++ us) none ∙ append-nil (of_call j own) in
+          inr (k.shown, subst (AreWords k.shown) (sym is) k.words)
     ]
-  where
-    by_number : (pages : Pages) (i j : ℕ) (t : Thing) (s : Setting) (before after : List ContentSign) (v : Bool) → (i == j) ≡ v
-        → GivesWords pages t.source → 0 < calls_in pages t.source
-        → of_call j (items_with s before (thing t ∷ after) (owns_in pages i (thing t ∷ after)))
-        ≡ of_call j (numbered i (page_stretches pages t.source))
-        ++ of_call j (items_with s (thing t ∷ before) after (owns_in pages (i + length (expanded_page pages t.source).outer) after))
-        → NoneOrWords (of_call j (items_with s (thing t ∷ before) after (owns_in pages (i + length (expanded_page pages t.source).outer) after)))
-        → NoneOrWords (of_call j (items_with s before (thing t ∷ after) (owns_in pages i (thing t ∷ after))))
-    by_number pages i j t s before after true e k some both later =
-        let words : List ℕ = sources (expanded_page pages t.source).items in
-        let next : ℕ = i + length (expanded_page pages t.source).outer in
-        let same : i ≡ j = (Decides-eqb i j).0 e in
-        let less : j < next = omega (arith, same, some) in
-        let all : of_call j (numbered i (page_stretches pages t.source)) ≡ call_chars i words =
-        ap (of_call j) (k.items i) ∙ chars_here i j words e in
-        inr (
-          words,
-          record {
-            call = i;
-            is = both ∙ ap₂ (λ (us vs : List Item). us ++ vs) all (all_before pages next j s (thing t ∷ before) after less) ∙ append-nil (call_chars i words);
-            words = k.words;
-            begins = k.begins;
-          },
-        )
-    by_number pages i j t s before after false e k some both later =
-        let words : List ℕ = sources (expanded_page pages t.source).items in
-        let none : of_call j (numbered i (page_stretches pages t.source)) ≡ [] = ap (of_call j) (k.items i) ∙ chars_past i j words e in
-        subst NoneOrWords
-        (sym (both ∙ ap (λ (us : List Item). us ++ of_call j (items_with s (thing t ∷ before) after (owns_in pages (i + length (expanded_page pages t.source).outer) after))) none))
-        later
 
 -- ---- the calls of a node
 
@@ -328,7 +327,30 @@ words_one pages source h =
     one_given 0 (page_stretches pages source) (own_page pages source)
     (subst (AllFrom (Some 0)) (sym (h.items 0)) (chars_from 0 (sources (expanded_page pages source).items)))
 
-thing_calls : (pages : Pages) (t : Thing) → IsOfFolder t.role pages t → ends_open t.source ≡ false → AreShutCalls (expanded_page pages t.source).outer
+-- a call that gives words is one, and it is this source
+pub record IsOneCall (calls : List OuterCall) (source : List ℕ) : Type 0 where
+  pub call : OuterCall
+  pub is : calls ≡ call ∷ []
+  pub of_source : call.source ≡ source
+
+one_call : (bs : List ℕ) (shown : List ℕ) (calls : List OuterCall) → BeginsWord shown → AreOne calls → 0 < length calls
+    → text_from calls None (call_chars 0 shown) ≡ bs → IsOneCall calls bs
+one_call bs shown [] v h n e = absurd (omega (arith, n))
+one_call bs [] (c ∷ []) v h n e = absurd v
+one_call bs (b ∷ shown) (c ∷ []) v h n e =
+    let text : text_from (c ∷ []) None (call_chars 0 (b ∷ shown)) ≡ c.source = call_text (c ∷ []) None 0 (char (Some 0) b) (call_chars 0 shown) tt (chars_from 0 (b ∷ shown)) in
+    record { call = c; is = refl; of_source = sym text ∙ e }
+one_call bs shown (c ∷ d ∷ cs) v h n e = absurd h
+
+pub words_source : (pages : Pages) (source : List ℕ) → GivesWords pages source → IsOneCall (expanded_page pages source).outer source
+words_source pages source h =
+    let calls : List OuterCall = (expanded_page pages source).outer in
+    let shown : List ℕ = sources (expanded_page pages source).items in
+    let one : AreOne calls = words_one pages source h in
+    one_call source shown calls h.begins one (has_call pages 0 source h)
+    (ap (text_from calls None) (sym (h.items 0)) ∙ part_text pages calls 0 source (own_sources calls calls refl one))
+
+pub thing_calls : (pages : Pages) (t : Thing) → IsOfFolder t.role pages t → ends_open t.source ≡ false → AreShutCalls (expanded_page pages t.source).outer
 thing_calls pages t h e = elim (node_case t.role pages t h) [
   | inl k ↦ subst AreShutCalls (sym (stays_calls pages t k.0)) tt
   | inr k ↦
@@ -340,7 +362,7 @@ thing_calls pages t h e = elim (node_case t.role pages t h) [
       one_source t.source shown calls k.begins one text e
 ]
 
-calls_both : (cs ds : List OuterCall) → AreShutCalls cs → AreShutCalls ds → AreShutCalls (cs ++ ds)
+pub calls_both : (cs ds : List OuterCall) → AreShutCalls cs → AreShutCalls ds → AreShutCalls (cs ++ ds)
 calls_both [] ds h k = k
 calls_both (c ∷ cs) ds h k = (h.0, calls_both cs ds h.1 k)
 
@@ -351,7 +373,7 @@ written_shut pages (thing t ∷ after) h g =
     let own = g.0 in
     calls_both (expanded_page pages t.source).outer (written_calls pages after) (thing_calls pages t h.0 own.0) (written_shut pages after h.1 g.1)
 
-moved_shut : (cs ds : List OuterCall) → AreMoved cs ds → AreShutCalls cs → AreShutCalls ds
+pub moved_shut : (cs ds : List OuterCall) → AreMoved cs ds → AreShutCalls cs → AreShutCalls ds
 moved_shut [] [] m h = tt
 moved_shut [] (d ∷ ds) m h = absurd m
 moved_shut (c ∷ cs) [] m h = absurd m

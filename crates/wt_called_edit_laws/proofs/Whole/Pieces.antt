@@ -7,21 +7,20 @@ use Rattle.wt_tree.specs.declared.edit_shape.InlineForm.TheVariants as inline
 use Rattle.wt_tree.specs.declared.kind.Ranges.{Ranges}
 use Rattle.wt_tree.specs.EditShapes.{edit_shape}
 use Rattle.wt_tree.specs.Source.{flat}
-use Rattle.wt_tree.specs.Tiling.{is_group, HasNoGroup, NoneIsGroup}
-use Rattle.wt_tree.specs.Tree.{Label, Tree, tree, Trees, none, more}
+use Rattle.wt_tree.specs.Tiling.{HasNoGroup, NoneIsGroup}
+use Rattle.wt_tree.specs.Tree.{Tree, tree, Trees, none, more}
 use Rattle.wt_span.specs.Items.{Item, char, source, call_of}
 use Rattle.wt_span.specs.Origins.{OuterCall, Expanded, same_call}
 use Rattle.wt_span.specs.Cuts.{source_of_call, text_by}
 use Rattle.wt_span.specs.Runs.{runs, IsRun, AreRuns}
 use Rattle.wt_span.proofs.RunLaws.{runs_are}
-use Rattle.wt_inline.specs.declared.loose.Loose.{Loose}
 use Rattle.wt_inline.specs.declared.loose.Loose.TheVariants.{Text, Sep}
 use Rattle.wt_inline.specs.ItemTree.{ItemTree, nothing, further, forest, tree_items, held_by_all}
 use Rattle.wt_inline.specs.Parts.{Part, loose, node, held_parts, one_leaf, loose_leaf, child, children}
 use Rattle.wt_annotated.specs.Annotated.{all_unplaced}
 use Rattle.wt_annotated.specs.CutTexts.{cut_texts, all_cut_texts}
 use Rattle.wt_annotated.specs.Labels.{label_at}
-use Rattle.wt_annotated.specs.Numbering.{next_after, count, with_numbers}
+use Rattle.wt_annotated.specs.Numbering.{count, with_numbers}
 use Rattle.wt_annotated.specs.Seams.{last_of, first_of, parted, text_step, text_from}
 use Rattle.wt_annotated.specs.WithoutCalls.{placed}
 use Rattle.wt_annotated.proofs.Seams.{first_append, last_append, text_append_from}

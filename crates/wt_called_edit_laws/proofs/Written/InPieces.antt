@@ -23,7 +23,7 @@ use Rattle.wt_called_edit_laws.proofs.Written.NewContents.{OpenAt, calls_of, wor
 
 -- ---- what they give
 
-abbrev pieces_items : Pages → ℕ → List (List ℕ) → List Item
+abbrev pub pieces_items : Pages → ℕ → List (List ℕ) → List Item
 pieces_items pages i [] = page_items []
 pieces_items pages i (b ∷ bs) = part_items pages i b ++ pieces_items pages (i + calls_in pages b) bs
 
@@ -33,7 +33,7 @@ nothing_read = read_items [] [] reads_nothing
 own_written : (pages : Pages) (bs : List ℕ) → IsOwnPart pages bs → IsWrittenAs pages bs (λ i. part_items pages i bs) (expanded_page pages bs).outer (work_in pages bs)
 own_written pages bs h = record { items_are = λ i. refl; calls_are = same_calls (expanded_page pages bs).outer; work_is = refl; part = h }
 
-pieces_written : (pages : Pages) (bs : List (List ℕ)) → AreInPieces pages bs
+pub pieces_written : (pages : Pages) (bs : List (List ℕ)) → AreInPieces pages bs
     → IsWrittenAs pages (pieces_source bs) (λ i. pieces_items pages i bs) (calls_of pages bs) (work_of pages bs)
 pieces_written pages [] h = calm_written pages [] (subst AreUnbraced (sym nothing_read) tt)
 pieces_written pages (b ∷ bs) h =

@@ -1,5 +1,5 @@
 -- Two texts side by side that are parts by themselves are one: it gives what both give.
-use Rattle.std.proofs.Common.{◌≡◌, ℕ, ◌+◌, None, List, [], ◌∷◌, ◌++◌, length, map, refl, sym, ap, ap₂, ◌∙◌, subst}
+use Rattle.std.proofs.Common.{◌≡◌, ℕ, ◌+◌, List, [], ◌∷◌, ◌++◌, length, map, refl, sym, ap, ap₂, ◌∙◌, subst}
 use Rattle.wt_span.specs.declared.form.Mode.TheVariants.{Page}
 use Rattle.wt_span.specs.Items.{Item}
 use Rattle.wt_span.specs.Lexemes.{words}
@@ -9,14 +9,14 @@ use Rattle.wt_expand.specs.PageItems.{page_items}
 use Rattle.wt_expand.specs.PageCalls.{expanded_page}
 use Rattle.wt_expand.specs.Work.{Pages, Entry}
 use Rattle.wt_part_laws.specs.Apart.{AreMet}
-use Rattle.wt_part_laws.specs.Expanded.{moved_call, moved_span, part_items, calls_in, AreParts}
+use Rattle.wt_part_laws.specs.Expanded.{moved_call, moved_span, calls_in, AreParts}
 use Rattle.wt_part_laws.proofs.ExpandedBoth.{plain_anywhere, both_anywhere}
 use Rattle.wt_part_laws.specs.MovedCalls.{AreMoved}
 use Rattle.wt_text_edit_laws.specs.NoCalls.{Brace, NonePairs, CallsNothing, AreUnbraced}
 use Rattle.wt_text_edit_laws.proofs.Between.LessBraces.{IsSome, none_unbraced}
 use Rattle.wt_text_edit_laws.proofs.Between.NoCalls.{calm_reduced}
 use Rattle.wt_text_edit_laws.proofs.Texts.TypedText.{AreLexemes}
-use Rattle.wt_called_edit_laws.specs.Parts.{left_of, work_in}
+use Rattle.wt_called_edit_laws.specs.Parts.{left_of}
 use Rattle.wt_called_edit_laws.specs.Written.{IsOwnPart, IsWrittenAs}
 use Rattle.wt_called_edit_laws.proofs.MovedOuters.{both_calls, later_calls}
 use Rattle.wt_called_edit_laws.proofs.Parts.CalmBraces.{calm_left}

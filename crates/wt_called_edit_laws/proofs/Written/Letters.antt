@@ -1,5 +1,5 @@
 -- Two contents beside the nodes of a paragraph, which are the same but for their first letter: what is typed is a letter, and a word of one letter beside each node.
-use Rattle.std.proofs.Common.{arith, ◌≡◌, inl, inr, ℕ, Bool, true, false, List, [], ◌∷◌, ◌++◌, refl, sym, ap, ◌∙◌, subst}
+use Rattle.std.proofs.Common.{arith, ◌≡◌, inl, ℕ, Bool, true, false, List, [], ◌∷◌, ◌++◌, refl, sym, ap, ◌∙◌, subst}
 use Rattle.std.specs.Prelude.{◌&&◌, not, encode_utf8}
 use Rattle.std.proofs.lemmas.Str.{encode_ascii}
 use Rattle.wt_tree.specs.declared.edit_shape.Place.TheVariants as place
@@ -9,7 +9,7 @@ use Rattle.wt_guards.specs.Letters.{is_escaped}
 use Rattle.wt_guards.specs.Table.{line_start_hazard}
 use Rattle.wt_expand.specs.Work.{Pages}
 use Rattle.wt_text_edit_laws.specs.TextBlocks.{a_paragraph}
-use Rattle.wt_beside_laws.specs.Called.{BeginsWithText, EndsWithText}
+use Rattle.wt_beside_laws.specs.Called.{EndsWithText}
 use Rattle.wt_beside_laws.specs.Lines.{AreCharacters}
 use Rattle.wt_beside_laws.specs.Stood.{things}
 use Rattle.wt_called_edit_laws.specs.CallingBlocks.{IsNewContentIn}

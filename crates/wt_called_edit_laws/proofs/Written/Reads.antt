@@ -1,5 +1,5 @@
 -- A content among whose nodes are calls is read as its signs, one after the other; calls are taken for characters.
-use Rattle.std.proofs.Common.{arith, ◌≡◌, ◌⊎◌, inl, inr, ℕ, ◌==◌, Bool, true, false, None, List, [], ◌∷◌, ◌++◌, refl, sym, ap, ◌∙◌, subst, append-nil}
+use Rattle.std.proofs.Common.{arith, ◌≡◌, inl, inr, ℕ, ◌==◌, Bool, true, false, List, [], ◌∷◌, ◌++◌, refl, sym, ap, ◌∙◌, subst, append-nil}
 use Rattle.wt_span.specs.Items.{Item}
 use Rattle.wt_guards.specs.Content.{ContentSign, Thing, letter, thing, nearest, ends_line}
 use Rattle.wt_guards.specs.Guards.{Setting, nowiki_if, is_guarded, is_line_start, is_line_begun, is_new_at_start, spelled_from, spelled}

@@ -1,0 +1,82 @@
+-- A paragraph of the page, whoever wrote it, that holds calls which give words: by its pieces, and by the lines of text that these give.
+use Rattle.std.specs.Prelude.{◌≡◌, ◌⊎◌, ℕ, ◌+◌, false, None, List, [], ◌∷◌}
+use Rattle.std.specs.Str.{IsUtf8}
+use Rattle.wt_guards.specs.Content.{Thing}
+use Rattle.wt_inline.specs.declared.loose.Loose.TheVariants.{Text}
+use Rattle.wt_inline.specs.ItemTree.{ItemTree}
+use Rattle.wt_inline.specs.Parts.{Part, loose, node, loose_leaf, children}
+use Rattle.wt_isolation.specs.OpenTags.{ends_open}
+use Rattle.wt_expand.specs.PageCalls.{expanded_page}
+use Rattle.wt_expand.specs.Work.{Pages}
+use Rattle.wt_part_laws.specs.CallTexts.{AreOwnOrTexts}
+use Rattle.wt_part_laws.specs.Expanded.{part_items, calls_in}
+use Rattle.wt_text_edit_laws.specs.Contents.{content_parts_of}
+use Rattle.wt_text_edit_laws.specs.ReadContents.{IsReadContent}
+use Rattle.wt_text_edit_laws.specs.TextBlocks.{a_paragraph}
+use Rattle.wt_beside_laws.specs.Called.{GivesWords}
+use Rattle.wt_beside_laws.specs.FlatBlocks.{IsSealed}
+use Rattle.wt_called_edit_laws.specs.CalledContents.{AreTextItems}
+use Rattle.wt_called_edit_laws.specs.InPieces.{pieces_source, AreInPieces}
+use Rattle.wt_called_edit_laws.specs.PageThings.{ArePageThings, thing_sources}
+use Rattle.wt_called_edit_laws.specs.WholeContents.{AreShutParts}
+use Rattle.wt_called_edit_laws.specs.Written.{IsCallSource, BeginsOutward, EndsOutward, IsOwnPart}
+use Rattle.wt_called_edit_laws.specs.WrittenAnew.{StayButForOthers}
+
+-- the first of these is a node, or a character of the page
+abbrev pub BeginsOwn : List Part → Type 0
+BeginsOwn [] = ⊥
+BeginsOwn (loose k o b ∷ ps) = o ≡ None
+BeginsOwn (node t ∷ ps) = Unit {0}
+
+-- and the last
+abbrev pub EndsOwn : List Part → Type 0
+EndsOwn [] = ⊥
+EndsOwn (loose k o b ∷ []) = o ≡ None
+EndsOwn (node t ∷ []) = Unit {0}
+EndsOwn (p ∷ q ∷ ps) = EndsOwn (q ∷ ps)
+
+-- It is cut in pieces, each of which is one of its nodes (calls among them) or calls nothing, and is read by itself. However many calls come before it,
+-- what its pieces give are lines of text: characters, each of the page or of a call, and nodes of the page, of which none ends in an open tag; the first
+-- and the last of these is the page's own.
+pub record IsInPieces (pages : Pages) (q : List ℕ) : Type 0 where
+  pub pieces : List (List ℕ)
+  pub is : pieces_source pieces ≡ q
+  pub parts : AreInPieces pages pieces
+  pub nodes : List Thing
+  pub things : ArePageThings pages nodes
+  pub among : StayButForOthers pages pieces (thing_sources nodes)
+  pub read : IsReadContent a_paragraph q
+  pub lines : (i : ℕ) → AreTextItems (part_items pages i q)
+  pub texts : (i : ℕ) → AreOwnOrTexts (content_parts_of a_paragraph (part_items pages i q))
+  pub shut : (i : ℕ) → AreShutParts (content_parts_of a_paragraph (part_items pages i q))
+  pub begins : (i : ℕ) → BeginsOwn (content_parts_of a_paragraph (part_items pages i q))
+  pub ends : (i : ℕ) → EndsOwn (content_parts_of a_paragraph (part_items pages i q))
+
+-- ---- texts and calls alone
+
+-- a call that gives words, stays what it is beside text, is a part of the page by itself, closes no tag behind it and ends in no open one
+pub record IsWordsCall (pages : Pages) (source : List ℕ) : Type 0 where
+  pub words : GivesWords pages source
+  pub call : IsCallSource source
+  pub begins : BeginsOutward source
+  pub ends : EndsOutward source
+  pub part : IsOwnPart pages source
+  pub sealed : IsSealed source
+  pub shut : ends_open source ≡ false
+  pub utf8 : IsUtf8 source
+
+-- each piece is such a call, or calls nothing
+abbrev pub AreTextsOrCalls : Pages → List (List ℕ) → Type 0
+AreTextsOrCalls pages [] = Unit {0}
+AreTextsOrCalls pages (b ∷ bs) = (((expanded_page pages b).outer ≡ []) ⊎ IsWordsCall pages b) × AreTextsOrCalls pages bs
+
+-- one text for each piece, where so many calls come before
+abbrev pub piece_leaves : Pages → ℕ → List (List ℕ) → List ItemTree
+piece_leaves pages i [] = []
+piece_leaves pages i (b ∷ bs) = loose_leaf Text (part_items pages i b) ∷ piece_leaves pages (i + calls_in pages b) bs
+
+-- A paragraph of texts and calls that give words, one after the other.
+pub record IsTextAndCalls (pages : Pages) (q : List ℕ) : Type 0 where
+  pub pieced : IsInPieces pages q
+  pub each : AreTextsOrCalls pages pieced.pieces
+  pub leaves : (i : ℕ) → children (content_parts_of a_paragraph (part_items pages i q)) ≡ piece_leaves pages i pieced.pieces
