@@ -16,7 +16,7 @@ ghost use Rattle.wt_called_edit_laws.specs.CalledEdits.{IsBesideCalls};
 ghost use Rattle.wt_called_edit_laws.specs.CallingBlocks.{IsContentIn, IsNewContentIn};
 ghost use Rattle.wt_called_edit_laws.specs.CallingEdits.{TakesLetters};
 ghost use Rattle.wt_called_edit_laws.specs.EditableBlocks.{HoldsCalls};
-ghost use Rattle.wt_called_edit_laws.specs.InPieces.{pieces_source, AreInPieces};
+ghost use Rattle.wt_called_edit_laws.specs.InPieces.{pieces_source, AreInPieces, AreReadApart};
 ghost use Rattle.wt_beside_laws.specs.Called.{BeginsWithText, EndsWithText};
 ghost use Rattle.wt_beside_laws.specs.Lines.{AreCharacters};
 ghost use Rattle.wt_beside_laws.specs.Stood.{things};
@@ -32,6 +32,11 @@ ghost use Rattle.wt_called_edit_laws.specs.WrittenAnew.{node_sources, StayButFor
 pub fn paragraphs_in_pieces_may_be_written_anew()
     ensures { (pages : Pages) (bs : List (List ℕ)) (s : Setting) (signs : List ContentSign) → AreInPieces pages bs → IsWrittenBeside pages s signs
         → StayButForOthers pages bs (node_sources signs) → IsNewContentIn pages a_paragraph (pieces_source bs) (spelled s signs) }
+{}
+
+/// A paragraph is cut so where it is read as its pieces are (`AreReadApart`): texts without braces, and calls that are parts of the page by themselves.
+pub fn pieces_are_read_by_themselves()
+    ensures { (pages : Pages) (bs : List (List ℕ)) → AreReadApart pages bs → AreInPieces pages bs }
 {}
 
 /// So any texts may be typed beside the calls and the other nodes of a paragraph of the page (`ArePageThings`): the calls give words, each node stays
