@@ -1,22 +1,25 @@
 -- Worked case: a page with a call, told by nothing but the lines of the expanded page: of a heading, and of a paragraph in a cell.
-use Rattle.std.proofs.Common.{arith, ◌≡◌, ℕ, true, None, Some, List, [], ◌∷◌, ◌++◌, map, refl, sym, ap, ◌∙◌, subst}
+use Rattle.std.proofs.Common.{arith, ◌≡◌, ℕ, ◌+◌, true, None, Some, List, [], ◌∷◌, ◌++◌, length, map, refl, sym, ap, ◌∙◌, subst}
 use Rattle.std.specs.Prelude.{codes}
 use Rattle.std.specs.Str.{is_utf8, chars, IsUtf8}
 use Rattle.std.specs.Str.Lossy.{utf8_valid_len}
 use lib.Utf8.{encode}
 use Rattle.wt_span.specs.Comments.{comment_len, comment_line_len}
 use Rattle.wt_span.specs.Entities.{entity_at, named_entity, decimal_entity, hex_entity, entity_names}
-use Rattle.wt_span.specs.Items.{Item, char}
+use Rattle.wt_span.specs.Items.{Item, char, sources}
 use Rattle.wt_span.specs.Origins.{OuterCall, Span}
 use Rattle.wt_span.specs.Tags.{raw_len, opening_tag, tag_after, closing_tag, with_inside, is_extension, include_at}
 use Rattle.wt_span.specs.Lexemes.{sign_word, form_at, closed, words}
 use Rattle.wt_span.specs.Braces.{rewritten, reduced, parts_of}
 use Rattle.wt_lines.specs.Kinds.{kind_of_signs}
-use Rattle.wt_lines.specs.Lines.{full_lines}
+use Rattle.wt_lines.specs.Lines.{full_lines, content}
 use Rattle.wt_names.specs.Good.{is_forbidden, is_allowed, has_signature, is_step, begins_with_step, holds_step, ends_with_step, is_good, read_text}
 use Rattle.wt_names.specs.Namespace.{name_of, image, is_called, namespace_named, prefix_of, full_name_of}
 use Rattle.wt_names.specs.Reading.{whole_in, cut_namespace, title_in}
 use Rattle.wt_names.specs.Written.{link_to}
+use Rattle.wt_tables.specs.Parts.{joined}
+use Rattle.wt_annotated.specs.Seams.{text_from}
+use Rattle.wt_page.specs.Lines.{ending}
 use Rattle.wt_blocks.specs.Headings.{level, opening, inside, closing}
 use Rattle.wt_inline.specs.Parts.{children}
 use Rattle.wt_tiles.specs.Links.{link_at}
@@ -103,9 +106,12 @@ unfolding words closed form_at comment_len comment_line_len raw_len opening_tag 
     utf8_valid_len is_utf8 chars encode link_to page_stretches expanded_page level opening inside closing
 spots_are = refl
 
-untouched_by_none : (calls : List OuterCall) (at : ℕ) (es : List Item) (bs : List LinedBlock) → AreUntouched calls [] at es bs
-untouched_by_none calls at es [] = tt
-untouched_by_none calls at es (b ∷ bs) = (tt, untouched_by_none calls _ _ bs)
+untouched_by_none : (calls : List OuterCall) (bs : List LinedBlock) (at : ℕ) (es : List Item) → AreUntouched calls [] at es bs
+untouched_by_none calls [] at es = tt
+untouched_by_none calls (b ∷ bs) at es =
+    let line : ℕ = at + length (text_from calls None (es ++ joined b.before)) in
+    let own : List Item = joined (b.first ∷ b.more) in
+    (tt, untouched_by_none calls bs (line + length (sources (b.marks ++ content own))) (ending own))
 
 -- ---- its lines
 
@@ -199,9 +205,9 @@ told_page = record {
   are = ap full_lines are_items ∙ lines_are;
   told = told_here;
   own = own_lines;
-  free = subst AreFree (sym spots_are) (free_title, free_cell, tt);
+  free = subst AreFree (sym spots_are) (free_title, (free_cell, tt));
   untouched = subst (λ (ss : List Span). AreUntouched (expanded_page a_word whole_page).outer ss 0 [] (map lined told)) (sym no_text_calls)
-      (untouched_by_none (expanded_page a_word whole_page).outer 0 [] (map lined told));
+      (untouched_by_none (expanded_page a_word whole_page).outer (map lined told) 0 []);
   unrefused = in_class.unrefused;
   in_no_group = subst (λ (ss : List BlockSpot). AreInNoGroup 0 ss (called_tree a_word whole_page)) (sym spots_are) in_class.in_no_group;
 }
