@@ -21,8 +21,7 @@ ghost use Rattle.wt_call_laws.specs.WorkedCall.{marked_html, plain_html, stored_
 
 /// An edit of contents of any page, in which what stays is sent as it is read of the page's HTML, in which no two texts are
 /// side by side and nothing is new but texts (`AreRead`), has its HTML. Without marks this is the HTML that `html` would
-/// write of the page with these contents in its blocks (`edited_html`), and with marks the same document with the mark on
-/// these blocks.
+/// write of the page with these contents in its blocks (`edited_html`), and some HTML is read as the edit with its marks.
 pub fn edits_have_their_html()
     ensures { (pages : Pages) (page : List ℕ) (es : Edits) → IsUtf8 page → length page < 2 ^ 30
         → first_refusal pages page (page_work pages page) ≡ None → page_nodes es ≡ children (called_tree pages page) → AreEdited es → AreRead es
