@@ -2,7 +2,6 @@
 mod AnyCases
 mod CalledCases
 mod ClassCases
-mod LineCases
 pub mod AnyPages
 pub mod BodyPages
 pub mod OwnParagraphs
