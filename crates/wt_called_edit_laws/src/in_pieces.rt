@@ -70,10 +70,11 @@ pub fn paragraphs_in_pieces_may_be_edited()
     ensures calls { (pages : Pages) (q : List ℕ) → IsInPieces pages q → HoldsCalls pages a_paragraph q }
 {}
 
-/// Where such a paragraph is texts and calls alone (`IsTextAndCalls`), its node in the page's tree is one of which texts are typed beside the calls
-/// (`IsBesideCalls`), wherever it is and whatever calls come before it: a text for each text, and a group for each call.
+/// Where a paragraph is texts and calls alone (`IsTextAndCalls`), it is such a one, and its node in the page's tree is one of which texts are typed beside
+/// the calls (`IsBesideCalls`), wherever it is and whatever calls come before it: a text for each text, and a group for each call.
 pub fn texts_and_calls_are_nodes_of_their_paragraph()
-    ensures { (pages : Pages) (q : List ℕ) (block : Tree) (n at i : ℕ) (calls : List OuterCall) → 0 < n
+    ensures pieces { (pages : Pages) (q : List ℕ) → IsTextAndCalls pages q → IsInPieces pages q }
+    ensures nodes { (pages : Pages) (q : List ℕ) (block : Tree) (n at i : ℕ) (calls : List OuterCall) → 0 < n
         → block ≡ settled n at (cut_texts (block_in calls (tree_round a_paragraph (part_items pages i q))))
         → AreSourcesAt calls i (expanded_page pages q).outer → IsTextAndCalls pages q → IsBesideCalls pages a_paragraph q block }
 {}
