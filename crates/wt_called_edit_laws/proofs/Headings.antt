@@ -5,3 +5,4 @@ pub mod NewContents
 pub mod Whole
 pub mod FromPage
 pub mod Letters
+mod Cases

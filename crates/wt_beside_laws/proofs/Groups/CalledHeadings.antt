@@ -162,7 +162,7 @@ some_behind (b ∷ bs) n xs some = refl
 some_behind [] zero xs some = absurd (omega (arith, some))
 some_behind [] (suc n) xs some = refl
 
-closing_page : (sides : Sides) → AllOfPage (closing_items sides)
+pub closing_page : (sides : Sides) → AllOfPage (closing_items sides)
 closing_page sides =
     both_of_page (page_chars (sides.trail ++ equals sides.level)) (page_items sides.rest) (chars_of_page (sides.trail ++ equals sides.level)) (items_of_page sides.rest)
 
