@@ -366,7 +366,7 @@ pub calls_both : (cs ds : List OuterCall) → AreShutCalls cs → AreShutCalls d
 calls_both [] ds h k = k
 calls_both (c ∷ cs) ds h k = (h.0, calls_both cs ds h.1 k)
 
-written_shut : (pages : Pages) (signs : List ContentSign) → AreOfFolder pages signs → AreShut signs → AreShutCalls (written_calls pages signs)
+pub written_shut : (pages : Pages) (signs : List ContentSign) → AreOfFolder pages signs → AreShut signs → AreShutCalls (written_calls pages signs)
 written_shut pages [] h g = tt
 written_shut pages (letter c ∷ after) h g = written_shut pages after h g
 written_shut pages (thing t ∷ after) h g =
