@@ -5,4 +5,5 @@ pub mod NewContents
 pub mod Whole
 pub mod FromPage
 pub mod Letters
+pub mod Pieced
 mod Cases

@@ -1,5 +1,5 @@
 -- What is sent for a paragraph or heading beside its calls is taken, and makes the new block with its groups.
-use Rattle.std.proofs.Common.{◌≡◌, ℕ, ◌<◌, Bool, true, false, None, List, [], ◌++◌, refl, sym, ap, ap₂, ◌∙◌, subst, append-nil, append_assoc}
+use Rattle.std.proofs.Common.{◌≡◌, ℕ, ◌<◌, Bool, true, false, None, List, [], ◌++◌, refl, sym, ap, ap₂, ◌∙◌, subst, append_assoc}
 use Rattle.wt_span.specs.Origins.{OuterCall}
 use Rattle.wt_tree.specs.declared.kind.Kind.{Kind}
 use Rattle.wt_tree.specs.declared.kind.Kind.TheVariants as kind

@@ -1,12 +1,9 @@
 -- Worked case: the heading `== x{{t}}y ==` of the page, where `Template:T` is a word, with another letter behind its call and none before it: what is sent
 -- for it, and what it makes.
-use Rattle.std.proofs.Common.{◌≡◌, ◌<◌, inl, inr, ℕ, zero, suc, false, Some, None, List, [], ◌∷◌, map, arith, refl, sym, ap, subst}
-use Rattle.wt_span.specs.Bytes.{is_blank}
-use Rattle.wt_span.specs.Items.{sign}
-use Rattle.wt_expand.specs.PageCalls.{numbered}
+use Rattle.std.proofs.Common.{◌≡◌, ◌<◌, inl, inr, ℕ, zero, suc, false, Some, None, List, [], ◌∷◌, arith, refl, sym, ap, subst}
 use Rattle.wt_text_edit_laws.specs.ReadContents.{IsReadContent}
 use Rattle.wt_text_edit_laws.specs.TextBlocks.{a_heading, IsFrame}
-use Rattle.wt_text_edit_laws.specs.TypedHeadings.{Sides, spaced, heading_round, EndsWithout, is_equals_sign}
+use Rattle.wt_text_edit_laws.specs.TypedHeadings.{Sides, spaced, heading_round}
 use Rattle.wt_beside_laws.specs.Called.{IsSeenIn, AllSeenIn}
 use Rattle.wt_beside_laws.proofs.Groups.Cases.{a_word, call, gives_b}
 use Rattle.wt_called_edit_laws.specs.CalledEdits.{page_things, ShowsAsGiven, AreChildrenBeside, IsBesideCalls, IsCalledEditOf, MakesContentIn}
@@ -21,7 +18,7 @@ use Rattle.wt_span.specs.Entities.{entity_at, named_entity, decimal_entity, hex_
 use Rattle.wt_span.specs.Tags.{raw_len, opening_tag, tag_after, closing_tag, with_inside, is_extension, include_at}
 use Rattle.wt_span.specs.Lexemes.{words, closed, sign_word, form_at}
 use Rattle.wt_span.specs.Braces.{rewritten, reduced, parts_of}
-use Rattle.wt_span.specs.Items.{Item, char, sources}
+use Rattle.wt_span.specs.Items.{Item, sources}
 use Rattle.wt_span.specs.Origins.{OuterCall}
 use Rattle.wt_names.specs.Good.{is_forbidden, is_allowed, has_signature, is_step, begins_with_step, holds_step, ends_with_step, is_good, read_text}
 use Rattle.wt_names.specs.Namespace.{name_of, image, is_called, namespace_named, prefix_of, full_name_of}
@@ -57,7 +54,6 @@ use Rattle.wt_guards.specs.Content.{Thing}
 use Rattle.wt_guards.specs.Guards.{nowiki, is_guarded, is_between_guard, is_start_guard, is_end_guard, is_blank_guard}
 use Rattle.wt_guards.specs.Letters.{is_escaped}
 use Rattle.wt_guards.specs.Table.{hazard, line_start_hazard}
-use Rattle.wt_part_laws.specs.Expanded.{part_items}
 use Rattle.wt_part_laws.specs.HeldCalls.{block_in}
 use Rattle.wt_typed_blocks.specs.Edited.{Pieces, no_pieces, gone, written, kept}
 use Rattle.wt_beside_laws.specs.ContentEdits.{new_content}
@@ -99,7 +95,7 @@ abbrev own_call : Thing
 own_call = record call { place = Some (record { start = 4; end = 9 }) }
 
 things_are : page_things block ≡ own_call ∷ []
-unfolding kept_with label_at context_parts chunks segments loose_segments tiles shapes closes tile_at link_or_url link_at ext_link_at bare_url_at scheme_len tag_tile tag_at
+unfolding kept_with page_items words closed label_at context_parts chunks segments loose_segments tiles shapes closes tile_at link_or_url link_at ext_link_at bare_url_at scheme_len tag_tile tag_at
     switch_at children with_styles style_tree_of toggles_of toggle_at opens_tag closes_tag
 things_are = refl
 
@@ -216,8 +212,8 @@ makes =
     let some : 0 < 1 = omega arith in
     calls_make a_word (a_heading two) source block a_label edit 1 0 0 (a_call ∷ []) some (ap block_by (sym (items_are 0))) in_class edit_of
 
--- `<nowiki/>` is put behind the call
-pub written_is : new_content (a_heading two) block a_label edit ≡ codes "{{t}}<nowiki/>v"
+-- `<nowiki/>` is put on both sides of the call
+pub written_is : new_content (a_heading two) block a_label edit ≡ codes "<nowiki/>{{t}}<nowiki/>v"
 unfolding inline_spelling kept_with label_at context_parts chunks segments loose_segments tiles shapes closes tile_at link_or_url link_at ext_link_at bare_url_at scheme_len tag_tile tag_at
     switch_at children with_styles style_tree_of toggles_of toggle_at opens_tag closes_tag nowiki is_guarded is_between_guard is_start_guard is_end_guard is_blank_guard
     hazard line_start_hazard is_escaped chars encode

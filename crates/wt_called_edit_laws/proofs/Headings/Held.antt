@@ -1,5 +1,5 @@
 -- What is written for texts beside calls that give words, as a heading, gives what these give, holds these calls, and shows what they show.
-use Rattle.std.proofs.Common.{◌≡◌, ℕ, List, [], ◌∷◌, sym, ap, ◌∙◌, subst}
+use Rattle.std.proofs.Common.{◌≡◌, ℕ, List, [], sym, ap, ◌∙◌, subst}
 use Rattle.wt_span.specs.Items.{Item}
 use Rattle.wt_span.specs.Origins.{OuterCall}
 use Rattle.wt_tree.specs.Plain.{Plains, ended, along, element, plain_before}

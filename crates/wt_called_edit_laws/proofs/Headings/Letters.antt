@@ -22,11 +22,11 @@ spread_line : (ts : List Thing) → AreOnOneLine (spread ts)
 spread_line [] = (refl, tt)
 spread_line (t ∷ ts) = (refl, spread_line ts)
 
-a_head : (pages : Pages) (s : Setting) (ts : List Thing) → s.within ≡ false → s.place ≡ place.Heading → ArePageThings pages ts → AllSeenIn pages ts
+pub a_head : (pages : Pages) (s : Setting) (ts : List Thing) → s.within ≡ false → s.place ≡ place.Heading → ArePageThings pages ts → AllSeenIn pages ts
     → IsWrittenInHeading pages s (begun 97 ts)
 a_head pages s ts w p h e = head_these pages ts s (begun 97 ts) w p (refl, spread_line ts) (refl, spread_characters ts) h e (stay_spread pages ts)
 
-b_head : (pages : Pages) (s : Setting) (ts : List Thing) → s.within ≡ false → s.place ≡ place.Heading → ArePageThings pages ts → AllSeenIn pages ts
+pub b_head : (pages : Pages) (s : Setting) (ts : List Thing) → s.within ≡ false → s.place ≡ place.Heading → ArePageThings pages ts → AllSeenIn pages ts
     → IsWrittenInHeading pages s (begun 98 ts)
 b_head pages s ts w p h e = head_these pages ts s (begun 98 ts) w p (refl, spread_line ts) (refl, spread_characters ts) h e (stay_spread pages ts)
 

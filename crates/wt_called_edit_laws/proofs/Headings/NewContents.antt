@@ -7,7 +7,6 @@ use Rattle.wt_guards.specs.Guards.{Setting, spelled}
 use Rattle.wt_expand.specs.PageItems.{page_items}
 use Rattle.wt_expand.specs.PageCalls.{expanded_page}
 use Rattle.wt_expand.specs.Work.{Pages, Entry}
-use Rattle.wt_part_laws.specs.Expanded.{part_items}
 use Rattle.wt_part_laws.specs.MovedCalls.{AreMoved}
 use Rattle.wt_text_edit_laws.specs.ReadContents.{IsReadContent, IsFirmlyRead}
 use Rattle.wt_text_edit_laws.specs.TextBlocks.{a_heading, source_of, IsFrame}
