@@ -24,3 +24,4 @@ pub mod SentMarks
 pub mod SentPages
 pub mod ChosenHtml
 pub mod SentCalls
+pub mod WorkedCall

@@ -6,3 +6,4 @@ pub mod Sent
 pub mod Untouched
 pub mod SentHtml
 pub mod EditsSent
+pub mod WorkedCall

@@ -34,7 +34,9 @@ pub use left_alone::{
     unedited_blocks_have_no_place, unedited_nodes_have_no_place, untouched_bytes_stay,
 };
 pub use refusals::late_refusals_are_of_edits;
-pub use sent_html::{chosen_contents_can_be_sent, edits_can_be_sent, edits_have_their_html};
+pub use sent_html::{
+    chosen_contents_can_be_sent, edits_can_be_sent, edits_have_their_html, worked_edit_is_written,
+};
 pub use statuses::statuses_are_told_by_numbers;
 pub use staying::{only_own_nodes_may_stay, own_nodes_may_stay, unmoved_blocks_stay};
 pub use unchanged::own_html_is_unchanged;

@@ -10,3 +10,4 @@ pub mod BlockAt
 pub mod LinedParts
 pub mod CalmLines
 pub mod ToldAmong
+pub mod ToldCases

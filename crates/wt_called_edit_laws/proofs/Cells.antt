@@ -1,8 +1,7 @@
 -- Paragraphs and headings anywhere in a page, in cells and captions of tables, too.
 mod AnyCases
 mod CalledCases
-mod ClassCases
-mod LineCases
+pub mod ClassCases
 pub mod AnyPages
 pub mod BodyPages
 pub mod OwnParagraphs

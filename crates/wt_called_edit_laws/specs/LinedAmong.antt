@@ -74,9 +74,9 @@ AreUntouched calls texts at es (b ∷ bs) =
 
 -- ---- the page
 
--- The lines of the expanded page are those of these blocks, and those beside them. The blocks call nothing, none is tangled, no call that is text has a
--- byte of their lines, and no group of the page's tree has the first byte of one. The page isn't refused, and at its end no
--- comment and no hidden part is open.
+-- The lines of the expanded page are those of these blocks, and those beside them. The blocks call nothing, none is tangled or holds a group, no call
+-- that is text has a byte of their lines, and no group of the page's tree has the first byte of one. The page isn't refused, and at its end no comment
+-- and no hidden part is open.
 pub record IsLinedAmong (pages : Pages) (page : List ℕ) (bs : List LinedBlock) (behind : List (List Item)) : Type 0 where
   pub utf8 : IsUtf8 page
   pub closed : EndsClosed page []

@@ -90,8 +90,16 @@ abbrev pub piece_leaves : Pages → ℕ → List (List ℕ) → List ItemTree
 piece_leaves pages i [] = []
 piece_leaves pages i (b ∷ bs) = loose_leaf Text (part_items pages i b) ∷ piece_leaves pages (i + calls_in pages b) bs
 
--- A paragraph of texts and calls that give words, one after the other.
+-- A paragraph of texts and calls that give words, one after the other: what its pieces give is as above, each text one node, and so is what each call gives.
 pub record IsTextAndCalls (pages : Pages) (q : List ℕ) : Type 0 where
-  pub pieced : IsInPieces pages q
-  pub each : AreTextsOrCalls pages pieced.pieces
-  pub leaves : (i : ℕ) → children (content_parts_of a_paragraph (part_items pages i q)) ≡ piece_leaves pages i pieced.pieces
+  pub pieces : List (List ℕ)
+  pub is : pieces_source pieces ≡ q
+  pub parts : AreInPieces pages pieces
+  pub each : AreTextsOrCalls pages pieces
+  pub read : IsReadContent a_paragraph q
+  pub lines : (i : ℕ) → AreTextItems (part_items pages i q)
+  pub texts : (i : ℕ) → AreOwnOrTexts (content_parts_of a_paragraph (part_items pages i q))
+  pub shut : (i : ℕ) → AreShutParts (content_parts_of a_paragraph (part_items pages i q))
+  pub begins : (i : ℕ) → BeginsOwn (content_parts_of a_paragraph (part_items pages i q))
+  pub ends : (i : ℕ) → EndsOwn (content_parts_of a_paragraph (part_items pages i q))
+  pub leaves : (i : ℕ) → children (content_parts_of a_paragraph (part_items pages i q)) ≡ piece_leaves pages i pieces

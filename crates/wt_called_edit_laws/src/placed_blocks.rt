@@ -52,7 +52,7 @@ pub fn lines_of_a_page_are_cut_at_its_blocks()
 
 /// So with calls: a page whose items, where calls are characters, are cut at each of any number of paragraphs and headings that
 /// call nothing, so that no call goes over the end of a part, may be edited with them, if by what the calls give each is at
-/// such a place, none is tangled, and none is in a group (`IsPlacedAmong`).
+/// such a place, none is tangled, and none holds a group or is in one (`IsPlacedAmong`).
 pub fn all_blocks_among_calls_may_be_edited()
     ensures { (pages : Pages) (ss : List BlockSpot) (behind : List ℕ) → IsPlacedAmong pages ss behind → IsEditablePage pages ss behind }
 {}

@@ -9,24 +9,27 @@ ghost use Rattle.wt_lines.specs.Lines.{content, full_lines};
 ghost use Rattle.wt_expand.specs.PageItems.{page_items};
 ghost use Rattle.wt_expand.specs.Work.{Pages};
 ghost use Rattle.wt_selser.specs.Edits.{is_tangled};
+ghost use Rattle.wt_text_edit_laws.specs.BlockSpots.{BlockSpot};
 ghost use Rattle.wt_text_edit_laws.specs.PageCuts.{AreBlockItems, EndsClosed};
 ghost use Rattle.wt_text_edit_laws.specs.TextBlocks.{TextBlock, a_heading, block_tree};
+ghost use Rattle.wt_text_edit_laws.specs.TypedHeadings.{Sides};
 ghost use Rattle.wt_called_edit_laws.specs.CalledPages.{IsCalledPage};
-ghost use Rattle.wt_called_edit_laws.specs.EditsAt.{IsStanding};
+ghost use Rattle.wt_called_edit_laws.specs.EditsAt.{IsStanding, AllStand};
 ghost use Rattle.wt_called_edit_laws.specs.LinedAmong.{IsLinedAmong};
 ghost use Rattle.wt_called_edit_laws.specs.LinedHeadings.{sides_of, text_of, IsLinedHeading};
 ghost use Rattle.wt_called_edit_laws.specs.PlacedLines.{spots_by, end_by, IsLinedPage};
-ghost use Rattle.wt_called_edit_laws.specs.PlacedSpots.{IsShut};
+ghost use Rattle.wt_called_edit_laws.specs.PlacedSpots.{IsShut, AreShut, AllUntangled};
 ghost use Rattle.wt_called_edit_laws.specs.ToldAmong.{IsToldAmong};
 ghost use Rattle.wt_called_edit_laws.specs.ToldLines.{Told, lined, IsToldPage};
 
 /// A heading's line is told by itself. Where one of a page's lines, behind the marks that begin it, is of a heading's kind and
 /// begins with `=`, and something is between its delimiters (`IsLinedHeading`), it is the line of a heading with the sides and
-/// the text that these delimiters give it. At the page's end no comment and no hidden part is open.
+/// the text that these delimiters give it, and no others are a line's. At the page's end no comment and no hidden part is open.
 pub fn headings_are_told_by_their_lines()
-    ensures { (page : List ℕ) (before : List (List Item)) (marks : List Item) (l : List Item) (behind : List (List Item)) (n : ℕ) → EndsClosed page []
+    ensures told { (page : List ℕ) (before : List (List Item)) (marks : List Item) (l : List Item) (behind : List (List Item)) (n : ℕ) → EndsClosed page []
         → 1 ≤ length l → full_lines (page_items page) ≡ before ++ (marks ++ l) ∷ behind → IsLinedHeading n l
         → AreBlockItems (a_heading (sides_of (content l))) (text_of (content l)) (content l) }
+    ensures only { (s : Sides) (q : List ℕ) (line : List Item) → AreBlockItems (a_heading s) q line → (sides_of line ≡ s) × (text_of line ≡ q) }
 {}
 
 /// So any number of paragraphs and headings of a page that calls nothing, and in which no node can only be kept as a whole, are
@@ -41,7 +44,10 @@ pub fn blocks_are_told_by_their_lines()
 {}
 
 /// Where a node of a page's tree is such a block and isn't tangled there, no tag is open at the end of a node in it (`IsShut`).
+/// So it is of all blocks at their paths.
 pub fn untangled_blocks_are_shut()
-    ensures { (k : TextBlock) (q : List ℕ) (items : Expanded) (page : List ℕ) (t : Tree) → IsStanding (block_tree k q) t → is_tangled items page t ≡ false
+    ensures node { (k : TextBlock) (q : List ℕ) (items : Expanded) (page : List ℕ) (t : Tree) → IsStanding (block_tree k q) t → is_tangled items page t ≡ false
         → IsShut k q }
+    ensures paths { (ss : List BlockSpot) (paths : List (List ℕ)) (items : Expanded) (page : List ℕ) (t : Tree) → AllStand ss paths t
+        → AllUntangled items page paths t → AreShut ss }
 {}

@@ -29,9 +29,10 @@ use Rattle.wt_text_edit_laws.specs.TypedHeadings.{Sides, equals, AreBlanks, AreI
 use Rattle.wt_text_edit_laws.proofs.Between.Fronts.{items_from}
 use Rattle.wt_text_edit_laws.proofs.Cuts.ItemCuts.{cut_from, page_cut}
 use Rattle.wt_text_edit_laws.proofs.Paragraphs.LineBlocks.{OwnBreaks}
+use Rattle.wt_text_edit_laws.proofs.Headings.HeadingSigns.{line_signs, body_signs, core_is, round, open_is, inside_is}
 use Rattle.wt_called_edit_laws.specs.LinedHeadings.{blanks_behind, sides_of, text_of, IsLinedHeading}
 use Rattle.wt_called_edit_laws.proofs.Told.HeadLevels.{core_cut}
-use Rattle.wt_called_edit_laws.proofs.Told.HeadParts.{LineCut, line_cut}
+use Rattle.wt_called_edit_laws.proofs.Told.HeadParts.{LineCut, line_cut, parts_joined}
 use Rattle.wt_called_edit_laws.proofs.Told.RestEnds.{NoLess, rest_ends}
 use Rattle.wt_called_edit_laws.proofs.Told.Signs.{AllPass, pass_len, run_length}
 
@@ -431,3 +432,75 @@ lined_heading n page before l others e run own breaks h =
     e ∙ ap (λ (ys : List Item). before ++ (ys ++ (others ++ char None 10 ∷ []))) (sym (content_ending l))
     ∙ ap (λ (ys : List Item). before ++ ys) (append_assoc xs (ending l) (others ++ char None 10 ∷ []) ∙ ap (λ (ys : List Item). xs ++ ys) last.1) in
     told_items xs c mine (line_unbroken l others run) (items_end page before xs last.0 c mine there)
+
+-- ---- no other sides are a line's
+
+chars_signs : (bs : List ℕ) → map sign (page_chars bs) ≡ bs
+chars_signs [] = refl
+chars_signs (b ∷ bs) = ap (λ (ss : List ℕ). b ∷ ss) (chars_signs bs)
+
+body_line : (n : ℕ) (ts cs : List ℕ) → body_signs n ts ++ cs ≡ line_signs n ts cs
+body_line n ts cs = append_assoc (equals n) (ts ++ equals n) cs ∙ ap (λ (us : List ℕ). equals n ++ us) (append_assoc ts (equals n) cs)
+
+abbrev line_of : ℕ → List ℕ → List ℕ → List Item → List Item → List Item
+line_of n lead trail own rest = page_chars (equals n ++ lead) ++ (own ++ (page_chars (trail ++ equals n) ++ rest))
+
+line_of_signs : (n : ℕ) (lead trail : List ℕ) (own rest : List Item)
+    → map sign (line_of n lead trail own rest) ≡ line_signs n (round lead (map sign own) trail) (map sign rest)
+line_of_signs n lead trail own rest =
+    let back : List Item = page_chars (trail ++ equals n) in
+    map-append sign (page_chars (equals n ++ lead)) (own ++ (back ++ rest))
+    ∙ ap (λ (ts : List ℕ). ts ++ map sign (own ++ (back ++ rest))) (chars_signs (equals n ++ lead))
+    ∙ ap (λ (ts : List ℕ). (equals n ++ lead) ++ ts) (map-append sign own (back ++ rest)
+    ∙ ap (λ (ts : List ℕ). map sign own ++ ts) (map-append sign back rest ∙ ap (λ (ts : List ℕ). ts ++ map sign rest) (chars_signs (trail ++ equals n))))
+    ∙ sym (parts_joined n lead (map sign own) trail (map sign rest))
+    ∙ body_line n (round lead (map sign own) trail) (map sign rest)
+
+cut_by : (n : ℕ) (lead trail : List ℕ) (own rest xs : List Item) → xs ≡ line_of n lead trail own rest → level xs ≡ n → 1 ≤ n → n ≤ 6
+    → AreBlanks lead → AreBlanks trail → AreIdle (map sign rest) → BeginsWithout is_blank (map sign own) → EndsWithout is_blank (map sign own) → ItemsCut xs
+unfolding level
+cut_by zero lead trail own rest xs is lv one six bl bt idle begins ends = absurd (omega (arith, one))
+cut_by (suc m) lead trail own rest xs is lv one six bl bt idle begins ends =
+    let n : ℕ = suc m in
+    let ss : List ℕ = map sign own in
+    let ts : List ℕ = round lead ss trail in
+    let body : core (map sign xs) ≡ body_signs n ts =
+    ap (λ (ys : List Item). core (map sign ys)) is ∙ ap core (line_of_signs n lead trail own rest) ∙ core_is m ts (map sign rest) idle in
+    let same : level_of (body_signs n ts) ≡ n = sym (ap level_of body) ∙ lv in
+    let size : n + length lead ≡ length (page_chars (equals n ++ lead)) =
+    omega (arith, length-map (equals n ++ lead) (char None), run_length n, length-append (equals n) lead) in
+    record {
+      front = page_chars (equals n ++ lead);
+      own = own;
+      back = page_chars (trail ++ equals n);
+      rest = rest;
+      lead = lead;
+      trail = trail;
+      is = is;
+      front_signs = chars_signs (equals n ++ lead) ∙ ap (λ (k : ℕ). equals k ++ lead) (sym lv);
+      back_signs = chars_signs (trail ++ equals n) ∙ ap (λ (k : ℕ). trail ++ equals k) (sym lv);
+      rest_signs = idle;
+      lead_blanks = bl;
+      trail_blanks = bt;
+      begins = begins;
+      ends = ends;
+      some = subst (λ (k : ℕ). 1 ≤ k) (sym lv) one;
+      most = subst (λ (k : ℕ). k ≤ 6) (sym lv) six;
+      opened = ap open_len body ∙ open_is n lead ss trail same bl begins ∙ size;
+      size = ap inside_len body ∙ inside_is n lead ss trail same bl bt begins ends ∙ length-map own sign;
+    }
+
+-- by its parts, of which the level is told
+told_by : (n : ℕ) (lead trail : List ℕ) (own rest xs : List Item) → xs ≡ line_of n lead trail own rest → level xs ≡ n → 1 ≤ n → n ≤ 6
+    → AreBlanks lead → AreBlanks trail → AreIdle (map sign rest) → BeginsWithout is_blank (map sign own) → EndsWithout is_blank (map sign own)
+    → (sides_of xs ≡ sides_by n lead trail (sources rest)) × (text_of xs ≡ sources own)
+unfolding cut_by
+told_by zero lead trail own rest xs is lv one six bl bt idle begins ends = absurd (omega (arith, one))
+told_by (suc m) lead trail own rest xs is lv one six bl bt idle begins ends =
+    let c : ItemsCut xs = cut_by (suc m) lead trail own rest xs is lv one six bl bt idle begins ends in
+    (sides_so xs c ∙ ap (λ (n : ℕ). sides_by n lead trail (sources rest)) lv, ap sources (inside_so xs c))
+
+pub told_only : (s : Sides) (q : List ℕ) (xs : List Item) → AreHeadingItems s q xs → (sides_of xs ≡ s) × (text_of xs ≡ q)
+told_only s q xs h =
+    let t = told_by s.level s.lead s.trail h.own h.rest xs h.is h.of_level h.some h.most h.lead h.trail h.idle h.inside.begins h.inside.ends in
+    (t.0 ∙ ap (λ (bs : List ℕ). sides_by s.level s.lead s.trail bs) h.rest_source, t.1 ∙ h.source)

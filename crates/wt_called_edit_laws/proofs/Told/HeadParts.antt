@@ -106,7 +106,7 @@ pub record LineCut (ss : List ℕ) : Type 0 where
   pub opened : open_len (core ss) ≡ level_of (core ss) + length lead
   pub inside : inside_len (core ss) ≡ length own
 
-parts_joined : (n : ℕ) (lead own trail idle : List ℕ)
+pub parts_joined : (n : ℕ) (lead own trail idle : List ℕ)
     → body_signs n (round lead own trail) ++ idle ≡ (equals n ++ lead) ++ (own ++ ((trail ++ equals n) ++ idle))
 parts_joined n lead own trail idle =
     let runs : List ℕ = equals n in

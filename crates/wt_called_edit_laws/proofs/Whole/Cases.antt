@@ -43,13 +43,13 @@ use Rattle.wt_text_edit_laws.specs.Contents.{content_parts_of}
 use Rattle.wt_text_edit_laws.specs.Paragraphs.{IsTextLine}
 use Rattle.wt_text_edit_laws.specs.ReadContents.{IsReadContent}
 use Rattle.wt_text_edit_laws.specs.TextBlocks.{a_paragraph}
-use Rattle.wt_beside_laws.proofs.Groups.Cases.{a_word, call, gives_b}
+use Rattle.wt_beside_laws.proofs.Groups.Cases.{a_word, gives_b}
 use Rattle.wt_called_edit_laws.specs.CalledContents.{AreTextItems}
 use Rattle.wt_called_edit_laws.specs.CalledEdits.{IsBesideCalls}
 use Rattle.wt_called_edit_laws.specs.PartTexts.{AreSourcesAt}
 use Rattle.wt_called_edit_laws.specs.PiecedParagraphs.{BeginsOwn, EndsOwn, IsWordsCall, piece_leaves, IsTextAndCalls}
 use Rattle.wt_called_edit_laws.specs.WholeContents.{AreShutParts}
-use Rattle.wt_called_edit_laws.proofs.Beside.Cases.{source, pieces, in_pieces, among, of_page, a_call, block_by}
+use Rattle.wt_called_edit_laws.proofs.Beside.Cases.{source, pieces, in_pieces, a_call, block_by}
 use Rattle.wt_called_edit_laws.proofs.Whole.TextAndCalls.{texts_beside}
 use Rattle.wt_called_edit_laws.proofs.Written.Cases.{call_part, call_settles, call_sealed, call_utf8}
 
@@ -137,21 +137,16 @@ calls_none = (refl, refl)
 
 pub text_and_calls : IsTextAndCalls a_word source
 text_and_calls = record {
-  pieced = record {
-    pieces = pieces;
-    is = refl;
-    parts = in_pieces;
-    nodes = call ∷ [];
-    things = of_page;
-    among = among;
-    read = is_read;
-    lines = λ i. subst AreTextItems (sym (items_are i)) (is_text i);
-    texts = λ i. subst AreOwnOrTexts (sym (parts_there i)) tt;
-    shut = λ i. subst AreShutParts (sym (parts_there i)) tt;
-    begins = λ i. subst BeginsOwn (sym (parts_there i)) refl;
-    ends = λ i. subst EndsOwn (sym (parts_there i)) refl;
-  };
+  pieces = pieces;
+  is = refl;
+  parts = in_pieces;
   each = (inl calls_none.0, (inr a_words_call, (inl calls_none.1, tt)));
+  read = is_read;
+  lines = λ i. subst AreTextItems (sym (items_are i)) (is_text i);
+  texts = λ i. subst AreOwnOrTexts (sym (parts_there i)) tt;
+  shut = λ i. subst AreShutParts (sym (parts_there i)) tt;
+  begins = λ i. subst BeginsOwn (sym (parts_there i)) refl;
+  ends = λ i. subst EndsOwn (sym (parts_there i)) refl;
   leaves = λ i. ap children (parts_there i) ∙ children_are i ∙ sym (leaves_are i);
 }
 

@@ -321,6 +321,56 @@ call_things : (pages : Pages) (ts : List Thing) → AreCallThings pages ts → A
 call_things pages [] h = tt
 call_things pages (t ∷ ts) h = (call_thing pages t h.0, meet_later pages t ts h.0 h.1, call_things pages ts h.1)
 
+-- ---- it is in pieces, of which the calls are its nodes
+
+-- a group, whatever it shows
+a_group : Transclusion
+a_group = record {
+  slashes = false;
+  is_invisible = false;
+  is_blank = false;
+  opens_with_apostrophe = false;
+  closes_with_apostrophe = false;
+  began_line = false;
+  ended_line = false;
+  ended_content = false;
+  between_equals = false;
+}
+
+record SomeThings (pages : Pages) (bs : List (List ℕ)) : Type 0 where
+  nodes : List Thing
+  are : ThingsOf pages bs nodes
+
+some_things : (pages : Pages) (bs : List (List ℕ)) → AreTextsOrCalls pages bs → SomeThings pages bs
+some_things pages [] h = record { nodes = []; are = (tt, tt) }
+some_things pages (b ∷ bs) h =
+    let r = some_things pages bs h.1 in
+    elim h.0 [
+      | inl z ↦ record { nodes = r.nodes; are = (stay_past pages b bs (thing_sources r.nodes) z r.are.0, r.are.1) }
+      | inr w ↦ record {
+        nodes = record { role = Group a_group; source = b; place = None } ∷ r.nodes;
+        are = (inl (refl, r.are.0), (record { group = a_group; role = refl; call = w }, r.are.1));
+      }
+    ]
+
+pub pieced : (pages : Pages) (q : List ℕ) → IsTextAndCalls pages q → IsInPieces pages q
+pieced pages q h =
+    let some = some_things pages h.pieces h.each in
+    record {
+      pieces = h.pieces;
+      is = h.is;
+      parts = h.parts;
+      nodes = some.nodes;
+      things = call_things pages some.nodes some.are.1;
+      among = some.are.0;
+      read = h.read;
+      lines = h.lines;
+      texts = h.texts;
+      shut = h.shut;
+      begins = h.begins;
+      ends = h.ends;
+    }
+
 -- ---- the block
 
 sources_before : (calls : List OuterCall) (k : ℕ) (cs ds : List OuterCall) → AreMoved cs ds → AreSourcesAt calls k ds → AreSourcesAt calls k cs
@@ -342,15 +392,16 @@ block_finds (tree l ts) n some counts leaf = inside_found (Finds (tree l ts)) 0 
 pub texts_beside : (pages : Pages) (q : List ℕ) (block : Tree) (n at i : ℕ) (calls : List OuterCall) → 0 < n
     → block ≡ settled n at (cut_texts (block_in calls (tree_round a_paragraph (part_items pages i q)))) → AreSourcesAt calls i (expanded_page pages q).outer
     → IsTextAndCalls pages q → IsBesideCalls pages a_paragraph q block
+unfolding pieced
 texts_beside pages q block n at i calls some is sources_are h =
-    let p : IsInPieces pages q = h.pieced in
-    let bs : List (List ℕ) = p.pieces in
+    let p : IsInPieces pages q = pieced pages q h in
+    let bs : List (List ℕ) = h.pieces in
     let ps : List Part = content_parts_of a_paragraph (part_items pages i q) in
     let m : ℕ = next_after kind.Para n in
     let a : ℕ = at + length (sources []) in
     let v : Tree = cut_texts (block_in calls (tree_round a_paragraph (part_items pages i q))) in
     let w = as_written pages q p in
-    let round = paragraph_round ps (p.texts i) (p.begins i) (p.ends i) in
+    let round = paragraph_round ps (h.texts i) (h.begins i) (h.ends i) in
     let nodes : children_of block ≡ nodes_from pages calls i m a bs =
     ap children_of is ∙ same_nodes (settled n at v)
     ∙ ap (λ (u : Tree). nodes_in (settled n at (cut_texts u))) (block_is calls (plain kind.Para) [] ps [] round)
@@ -369,8 +420,8 @@ texts_beside pages q block n at i calls some is sources_are h =
     subst (λ (us : Trees). ThingsOf pages bs (things_with (kept_nodes block) (all_numbers us))) (sym nodes) things in
     record {
       pieces = bs;
-      is = p.is;
-      parts = p.parts;
+      is = h.is;
+      parts = h.parts;
       own = subst HaveOwn (sym nodes) (nodes_own pages calls i m a bs more_than h.each);
       children = subst (AreChildrenBeside pages) (sym nodes) (nodes_show pages calls i m a bs h.each given);
       things = call_things pages (page_things block) there.1;
