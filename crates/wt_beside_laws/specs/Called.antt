@@ -26,6 +26,7 @@ use Rattle.wt_beside_laws.specs.Lines.{AreCharacters}
 use Rattle.wt_beside_laws.specs.NodeItems.{node_items}
 use Rattle.wt_beside_laws.specs.Nodes.{IsNode, AllMeet}
 use Rattle.wt_beside_laws.specs.Shown.{parts_shown_at}
+use Rattle.wt_beside_laws.specs.Stood.{things}
 
 -- ---- the items, where those of each node are given, in the order of the nodes
 
@@ -282,3 +283,24 @@ pub record IsCalledIn (pages : Pages) (s : Setting) (signs : List ContentSign) :
   pub meet : AllMeet s [] (shown_signs pages signs) []
   pub begins : BeginsWithText signs
   pub ends : EndsWithText signs
+
+-- ---- in a heading
+
+-- what is last in what each gives is no blank and no `=`
+abbrev pub IsSeenIn : Pages → Thing → Type 0
+IsSeenIn pages t =
+    (i : ℕ) → EndsWithout is_blank (map sign (numbered i (page_stretches pages t.source))) × EndsWithout is_equals_sign (map sign (numbered i (page_stretches pages t.source)))
+
+abbrev pub AllSeenIn : Pages → List Thing → Type 0
+AllSeenIn pages [] = Unit {0}
+AllSeenIn pages (t ∷ ts) = IsSeenIn pages t × AllSeenIn pages ts
+
+-- The same in a heading: it is on one line, and may begin and end with anything.
+pub record IsCalledInHeading (pages : Pages) (s : Setting) (signs : List ContentSign) : Type 0 where
+  pub of_block : s.within ≡ false
+  pub of_heading : s.place ≡ place.Heading
+  pub one_line : AreOnOneLine signs
+  pub characters : AreCharacters signs
+  pub given : AreOfFolder pages signs
+  pub meet : AllMeet s [] (shown_signs pages signs) []
+  pub end_seen : AllSeenIn pages (things signs)

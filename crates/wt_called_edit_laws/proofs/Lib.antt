@@ -47,6 +47,7 @@ pub mod BlocksOutside
 pub mod Parts
 pub mod Written
 pub mod Whole
+pub mod Headings
 pub mod CallingGroups
 pub mod CallingPages
 pub mod CallingGaps

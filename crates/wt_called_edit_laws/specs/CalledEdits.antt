@@ -1,4 +1,4 @@
--- A paragraph of the page with calls in it, for which one with other texts beside these calls is sent: what is written for it.
+-- A paragraph or heading of the page with calls in it, for which one with other texts beside these calls is sent: what is written for it.
 use Rattle.std.specs.Prelude.{◌≡◌, ◌⊎◌, ℕ, Bool, true, false, None, List, [], ◌∷◌}
 use Rattle.wt_tree.specs.EditShapes.{edit_shape}
 use Rattle.wt_tree.specs.Plain.{Plains, plain_before}
@@ -21,8 +21,11 @@ use Rattle.wt_part_laws.specs.HeldCalls.{block_in}
 use Rattle.wt_typed_blocks.specs.Edited.{Pieces, no_pieces, gone, written, kept, around, new_style, page_pieces, PiecesStay, page_node, sent_node, edited_before}
 use Rattle.wt_typed_blocks.specs.EditedPage.{edited_source}
 use Rattle.wt_typed_blocks.specs.EditedUnmarked.{AreInline}
-use Rattle.wt_text_edit_laws.specs.TextBlocks.{TextBlock, a_paragraph, source_of}
+use Rattle.wt_text_edit_laws.specs.ReadContents.{IsReadContent}
+use Rattle.wt_text_edit_laws.specs.TextBlocks.{TextBlock, a_paragraph, a_heading, source_of}
+use Rattle.wt_beside_laws.specs.Called.{AllSeenIn}
 use Rattle.wt_beside_laws.specs.ContentEdits.{content_edit, new_content}
+use Rattle.wt_beside_laws.specs.FlatBlocks.{AreOneLine}
 use Rattle.wt_beside_laws.specs.FlatPages.{AreNodesAndTexts}
 use Rattle.wt_beside_laws.specs.OwnSigns.{HaveOwn}
 use Rattle.wt_beside_laws.specs.SentPieces.{IsNodeForm, HaveNoStyle}
@@ -60,10 +63,14 @@ abbrev pub AreChildrenBeside : Pages → Trees → Type 0
 AreChildrenBeside pages none = Unit {0}
 AreChildrenBeside pages (more t ts) = IsChildBeside pages t × AreChildrenBeside pages ts
 
--- A paragraph of the page, whatever it is, in pieces: texts, calls that give words, and other nodes on one line. Its nodes are these calls and nodes,
--- beside which texts are typed; none of them is bold or italic.
+-- A heading is read so between its `=`, and what each of its nodes gives ends with no blank and no `=`.
+abbrev pub FitsRound : Pages → TextBlock → List ℕ → List Thing → Type 0
+FitsRound pages a_paragraph q ts = Unit {0}
+FitsRound pages (a_heading s) q ts = IsReadContent (a_heading s) q × AllSeenIn pages ts
+
+-- A paragraph or heading of the page, whatever it is, in pieces: texts, calls that give words, and other nodes on one line. Its nodes are these calls
+-- and nodes, beside which texts are typed; none of them is bold or italic.
 pub record IsBesideCalls (pages : Pages) (k : TextBlock) (q : List ℕ) (block : Tree) : Type 0 where
-  pub paragraph : k ≡ a_paragraph
   pub pieces : List (List ℕ)
   pub is : pieces_source pieces ≡ q
   pub parts : AreInPieces pages pieces
@@ -71,6 +78,7 @@ pub record IsBesideCalls (pages : Pages) (k : TextBlock) (q : List ℕ) (block :
   pub children : AreChildrenBeside pages (children_of block)
   pub things : ArePageThings pages (page_things block)
   pub among : StayButForOthers pages pieces (thing_sources (page_things block))
+  pub round : FitsRound pages k q (page_things block)
 
 -- ---- what is sent for it
 
@@ -104,15 +112,19 @@ ends_typed last (kept t u ps) = ends_typed false ps
 ends_typed last (around l m is ps) = ends_typed false ps
 ends_typed last (new_style m is ps) = ends_typed false ps
 
--- All its calls stay, in their order, and any other node stays or goes; each is sent as it is. Any texts are between them, and text is first and last.
-pub record IsCalledEditOf (pages : Pages) (block : Tree) (ps : Pieces) : Type 0 where
+-- In a paragraph text is first and last. In a heading no line break is typed.
+abbrev pub TextsFitAt : TextBlock → Pieces → Type 0
+TextsFitAt a_paragraph ps = BeginTyped ps × (ends_typed false ps ≡ true)
+TextsFitAt (a_heading s) ps = AreOneLine ps
+
+-- All its calls stay, in their order, and any other node stays or goes; each is sent as it is. Any texts are between them.
+pub record IsCalledEditOf (pages : Pages) (k : TextBlock) (block : Tree) (ps : Pieces) : Type 0 where
   pub old : page_pieces ps ≡ children_of block
   pub stay : PiecesStay ps
   pub are : AreNodesAndTexts ps
   pub plain : HaveNoStyle ps
   pub calm : AreGoneCalm pages ps
-  pub begins : BeginTyped ps
-  pub ends : ends_typed false ps ≡ true
+  pub fits : TextsFitAt k ps
 
 -- ---- what it makes
 

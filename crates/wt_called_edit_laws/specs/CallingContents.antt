@@ -25,12 +25,12 @@ use Rattle.wt_called_edit_laws.specs.SettledPages.{OnlyTheseAreOthers}
 -- ---- which contents may be sent
 
 -- Where a block calls nothing, what may be sent for any such block (`Fits`). Where it holds calls that give words, any texts beside these and beside
--- its other nodes: each call stays, and text is first and last.
+-- its other nodes: each call stays; in a paragraph text is first and last, and in a heading no line break is typed.
 abbrev pub FitsIn : Pages → TextBlock → List ℕ → Edited → Type 0
 FitsIn pages k q (stays t u) = ⊥
 FitsIn pages k q (edited j l m ps) =
     (IsContent k q × CallsNothing (block_items k q) × Fits k q (edited j l m ps))
-    ⊎ (IsBesideCalls pages k q (page_node (edited j l m ps)) × IsCalledEditOf pages (page_node (edited j l m ps)) ps)
+    ⊎ (IsBesideCalls pages k q (page_node (edited j l m ps)) × IsCalledEditOf pages k (page_node (edited j l m ps)) ps)
 FitsIn pages k q (round l m es) = ⊥
 
 -- what holds of a content, where one is sent

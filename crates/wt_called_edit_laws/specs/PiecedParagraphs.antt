@@ -1,4 +1,4 @@
--- A paragraph of the page, whoever wrote it, that holds calls which give words: by its pieces, and by the lines of text that these give.
+-- A paragraph or heading of the page, whoever wrote it, that holds calls which give words: by its pieces, and by the lines of text that these give.
 use Rattle.std.specs.Prelude.{◌≡◌, ◌⊎◌, ℕ, ◌+◌, false, None, List, [], ◌∷◌}
 use Rattle.std.specs.Str.{IsUtf8}
 use Rattle.wt_guards.specs.Content.{Thing}
@@ -12,10 +12,11 @@ use Rattle.wt_part_laws.specs.CallTexts.{AreOwnOrTexts}
 use Rattle.wt_part_laws.specs.Expanded.{part_items, calls_in}
 use Rattle.wt_text_edit_laws.specs.Contents.{content_parts_of}
 use Rattle.wt_text_edit_laws.specs.ReadContents.{IsReadContent}
-use Rattle.wt_text_edit_laws.specs.TextBlocks.{a_paragraph}
-use Rattle.wt_beside_laws.specs.Called.{GivesWords}
+use Rattle.wt_text_edit_laws.specs.TextBlocks.{a_paragraph, a_heading}
+use Rattle.wt_text_edit_laws.specs.TypedHeadings.{Sides}
+use Rattle.wt_beside_laws.specs.Called.{GivesWords, AllSeenIn}
 use Rattle.wt_beside_laws.specs.FlatBlocks.{IsSealed}
-use Rattle.wt_called_edit_laws.specs.CalledContents.{AreTextItems}
+use Rattle.wt_called_edit_laws.specs.CalledContents.{AreTextItems, AreHeadingItems}
 use Rattle.wt_called_edit_laws.specs.InPieces.{pieces_source, AreInPieces}
 use Rattle.wt_called_edit_laws.specs.PageThings.{ArePageThings, thing_sources}
 use Rattle.wt_called_edit_laws.specs.WholeContents.{AreShutParts}
@@ -51,6 +52,20 @@ pub record IsInPieces (pages : Pages) (q : List ℕ) : Type 0 where
   pub shut : (i : ℕ) → AreShutParts (content_parts_of a_paragraph (part_items pages i q))
   pub begins : (i : ℕ) → BeginsOwn (content_parts_of a_paragraph (part_items pages i q))
   pub ends : (i : ℕ) → EndsOwn (content_parts_of a_paragraph (part_items pages i q))
+
+-- So a heading: what its pieces give is on one line, keeps its level, and begins and ends with no blank; what each node gives ends with no blank and no `=`.
+pub record IsHeadingInPieces (pages : Pages) (s : Sides) (q : List ℕ) : Type 0 where
+  pub pieces : List (List ℕ)
+  pub is : pieces_source pieces ≡ q
+  pub parts : AreInPieces pages pieces
+  pub nodes : List Thing
+  pub things : ArePageThings pages nodes
+  pub among : StayButForOthers pages pieces (thing_sources nodes)
+  pub seen : AllSeenIn pages nodes
+  pub read : IsReadContent (a_heading s) q
+  pub line : (i : ℕ) → AreHeadingItems s (part_items pages i q)
+  pub texts : (i : ℕ) → AreOwnOrTexts (content_parts_of (a_heading s) (part_items pages i q))
+  pub shut : (i : ℕ) → AreShutParts (content_parts_of (a_heading s) (part_items pages i q))
 
 -- ---- texts and calls alone
 

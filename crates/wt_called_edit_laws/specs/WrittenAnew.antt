@@ -8,8 +8,8 @@ use Rattle.wt_expand.specs.Work.{Pages}
 use Rattle.wt_part_laws.specs.Expanded.{part_items}
 use Rattle.wt_part_laws.specs.HeldCalls.{HoldsItsCalls}
 use Rattle.wt_text_edit_laws.specs.BlockSpots.{BlockSpot}
-use Rattle.wt_text_edit_laws.specs.TextBlocks.{TextBlock}
-use Rattle.wt_beside_laws.specs.Called.{IsCalledIn}
+use Rattle.wt_text_edit_laws.specs.TextBlocks.{TextBlock, a_paragraph, a_heading}
+use Rattle.wt_beside_laws.specs.Called.{IsCalledIn, IsCalledInHeading}
 use Rattle.wt_beside_laws.specs.FlatBlocks.{AreSealed}
 use Rattle.wt_called_edit_laws.specs.CalledContents.{tree_round}
 use Rattle.wt_called_edit_laws.specs.WholeContents.{AreShut}
@@ -42,6 +42,19 @@ pub record IsWrittenBeside (pages : Pages) (s : Setting) (signs : List ContentSi
   pub sealed : AreSealed signs
   pub shut : AreShut signs
   pub utf8 : AreUtf8 (node_sources signs)
+
+-- The same in a heading, where it is on one line, and may begin and end with a call, too.
+pub record IsWrittenInHeading (pages : Pages) (s : Setting) (signs : List ContentSign) : Type 0 where
+  pub called : IsCalledInHeading pages s signs
+  pub read : AreReadThings signs
+  pub parts : AreOwnParts pages signs
+  pub sealed : AreSealed signs
+  pub shut : AreShut signs
+  pub utf8 : AreUtf8 (node_sources signs)
+
+abbrev pub IsWrittenIn : TextBlock → Pages → Setting → List ContentSign → Type 0
+IsWrittenIn a_paragraph pages s signs = IsWrittenBeside pages s signs
+IsWrittenIn (a_heading w) pages s signs = IsWrittenInHeading pages s signs
 
 -- ---- blocks that hold their calls
 

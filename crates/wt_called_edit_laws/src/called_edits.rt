@@ -1,4 +1,4 @@
-//! Laws of what is sent for paragraphs with calls in them, and what it makes.
+//! Laws of what is sent for paragraphs and headings with calls in them, and what it makes.
 
 ghost use Rattle.std.specs.Prelude.{◌≡◌, ◌<◌, ℕ, List};
 ghost use Rattle.wt_span.specs.Origins.{OuterCall};
@@ -13,11 +13,12 @@ ghost use Rattle.wt_called_edit_laws.specs.CalledContents.{tree_round};
 ghost use Rattle.wt_called_edit_laws.specs.CalledEdits.{IsBesideCalls, IsCalledEditOf, MakesContentIn};
 ghost use Rattle.wt_called_edit_laws.specs.Settled.{settled};
 
-/// What is sent for a paragraph of the page with calls in it (`IsBesideCalls`), wherever it is: its calls, each as it is in the page and in their order,
-/// any of its other nodes, and any texts between these, with text first and last (`IsCalledEditOf`). It is taken, what is written for it may stand in the
-/// place of the old content, and it makes the new block, with its groups (`MakesContentIn`).
+/// What is sent for a paragraph or heading of the page with calls in it (`IsBesideCalls`), wherever it is: its calls, each as it is in the page and in
+/// their order, any of its other nodes, and any texts between these, in a paragraph with text first and last, in a heading on one line
+/// (`IsCalledEditOf`). It is taken, what is written for it may stand in the place of the old content, and it makes the new block, with its groups
+/// (`MakesContentIn`).
 pub fn contents_beside_calls_are_made()
     ensures { (pages : Pages) (k : TextBlock) (q : List ℕ) (block : Tree) (m : Label) (ps : Pieces) (n at i : ℕ) (calls : List OuterCall) → 0 < n
-        → block ≡ settled n at (cut_texts (block_in calls (tree_round k (part_items pages i q)))) → IsBesideCalls pages k q block → IsCalledEditOf pages block ps
+        → block ≡ settled n at (cut_texts (block_in calls (tree_round k (part_items pages i q)))) → IsBesideCalls pages k q block → IsCalledEditOf pages k block ps
         → MakesContentIn pages k q block m ps }
 {}

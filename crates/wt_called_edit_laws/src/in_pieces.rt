@@ -1,4 +1,4 @@
-//! Laws of paragraphs of the page that hold calls, cut in pieces: other texts are written beside what stays.
+//! Laws of paragraphs and headings of the page that hold calls, cut in pieces: other texts are written beside what stays.
 
 ghost use Rattle.std.specs.Prelude.{◌≡◌, ◌<◌, ℕ, false, List};
 ghost use Rattle.wt_tree.specs.Tree.{Tree};
@@ -10,7 +10,8 @@ ghost use Rattle.wt_expand.specs.PageCalls.{expanded_page};
 ghost use Rattle.wt_expand.specs.Work.{Pages};
 ghost use Rattle.wt_part_laws.specs.Expanded.{part_items};
 ghost use Rattle.wt_part_laws.specs.HeldCalls.{block_in};
-ghost use Rattle.wt_text_edit_laws.specs.TextBlocks.{a_paragraph};
+ghost use Rattle.wt_text_edit_laws.specs.TextBlocks.{a_paragraph, a_heading};
+ghost use Rattle.wt_text_edit_laws.specs.TypedHeadings.{Sides};
 ghost use Rattle.wt_called_edit_laws.specs.CalledContents.{tree_round};
 ghost use Rattle.wt_called_edit_laws.specs.CalledEdits.{IsBesideCalls};
 ghost use Rattle.wt_called_edit_laws.specs.CallingBlocks.{IsContentIn, IsNewContentIn};
@@ -21,7 +22,7 @@ ghost use Rattle.wt_beside_laws.specs.Called.{BeginsWithText, EndsWithText};
 ghost use Rattle.wt_beside_laws.specs.Lines.{AreCharacters};
 ghost use Rattle.wt_beside_laws.specs.Stood.{things};
 ghost use Rattle.wt_called_edit_laws.specs.PageThings.{ArePageThings, ThingsStay, thing_sources};
-ghost use Rattle.wt_called_edit_laws.specs.PiecedParagraphs.{IsInPieces, IsTextAndCalls};
+ghost use Rattle.wt_called_edit_laws.specs.PiecedParagraphs.{IsInPieces, IsHeadingInPieces, IsTextAndCalls};
 ghost use Rattle.wt_called_edit_laws.specs.PartTexts.{AreSourcesAt};
 ghost use Rattle.wt_called_edit_laws.specs.Settled.{settled};
 ghost use Rattle.wt_called_edit_laws.specs.WholeContents.{HoldsWords};
@@ -68,6 +69,12 @@ pub fn letters_may_be_typed_before_calls()
 pub fn paragraphs_in_pieces_may_be_edited()
     ensures content { (pages : Pages) (q : List ℕ) → IsInPieces pages q → IsContentIn pages a_paragraph q }
     ensures calls { (pages : Pages) (q : List ℕ) → IsInPieces pages q → HoldsCalls pages a_paragraph q }
+{}
+
+/// And so is a heading of the page in pieces (`IsHeadingInPieces`).
+pub fn headings_in_pieces_may_be_edited()
+    ensures content { (pages : Pages) (s : Sides) (q : List ℕ) → IsHeadingInPieces pages s q → IsContentIn pages (a_heading s) q }
+    ensures calls { (pages : Pages) (s : Sides) (q : List ℕ) → IsHeadingInPieces pages s q → HoldsCalls pages (a_heading s) q }
 {}
 
 /// Where a paragraph is texts and calls alone (`IsTextAndCalls`), it is such a one, and its node in the page's tree is one of which texts are typed beside

@@ -19,6 +19,7 @@ use Rattle.wt_context.specs.Line.{line_parts}
 use Rattle.wt_annotated.specs.Clean.{is_page}
 use Rattle.wt_annotated.specs.Seams.{last_of, first_of}
 use Rattle.wt_annotated.proofs.Seams.{first_append, last_append}
+use Rattle.wt_part_laws.specs.CallTexts.{AreOwnOrTexts}
 use Rattle.wt_part_laws.specs.HeldCalls.{block_in, HoldsItsCalls, IsRoundTexts, block_of_texts}
 use Rattle.wt_part_laws.proofs.HeldBlocks.{texts_hold, block_is}
 use Rattle.wt_part_laws.proofs.OwnWalks.{last_own, first_own}
@@ -162,14 +163,14 @@ some_behind (b ∷ bs) n xs some = refl
 some_behind [] zero xs some = absurd (omega (arith, some))
 some_behind [] (suc n) xs some = refl
 
-closing_page : (sides : Sides) → AllOfPage (closing_items sides)
+pub closing_page : (sides : Sides) → AllOfPage (closing_items sides)
 closing_page sides =
     both_of_page (page_chars (sides.trail ++ equals sides.level)) (page_items sides.rest) (chars_of_page (sides.trail ++ equals sides.level)) (items_of_page sides.rest)
 
-heading_texts : (s : Setting) (signs : List ContentSign) (owns : List (List Item)) (sides : Sides) → IsCalledHeading s signs owns → AreSides sides
-    → IsRoundTexts (plain (kind.Heading sides.level)) (page_chars (opening sides)) (parts_with s [] signs owns) (closing_items sides)
-heading_texts s signs owns sides h a =
-    let ps : List Part = parts_with s [] signs owns in
+-- whatever texts and nodes are between them
+pub round_texts : (ps : List Part) (sides : Sides) → AreOwnOrTexts ps → AreSides sides
+    → IsRoundTexts (plain (kind.Heading sides.level)) (page_chars (opening sides)) ps (closing_items sides)
+round_texts ps sides h a =
     let i : List Item = held_by_all (forest (children ps)) in
     let q : List Item = page_chars (opening sides) in
     let c : List Item = closing_items sides in
@@ -177,13 +178,17 @@ heading_texts s signs owns sides h a =
       no_leaf = refl;
       own_opening = chars_of_page (opening sides);
       own_closing = closing_page sides;
-      parts = parts_own s [] signs owns h.own;
+      parts = h;
       begins = λ p.
           first_append q (i ++ c) p ∙ first_own q (first_of (i ++ c) p) (chars_of_page (opening sides)) (some_chars sides.level sides.lead a.some);
       ends = λ o.
           last_append o q (i ++ c) ∙ last_append (last_of o q) i c
           ∙ last_own (last_of (last_of o q) i) c (closing_page sides) (some_behind sides.trail sides.level (page_items sides.rest) a.some);
     }
+
+heading_texts : (s : Setting) (signs : List ContentSign) (owns : List (List Item)) (sides : Sides) → IsCalledHeading s signs owns → AreSides sides
+    → IsRoundTexts (plain (kind.Heading sides.level)) (page_chars (opening sides)) (parts_with s [] signs owns) (closing_items sides)
+heading_texts s signs owns sides h a = round_texts (parts_with s [] signs owns) sides (parts_own s [] signs owns h.own) a
 
 pub heading_holds : (s : Setting) (signs : List ContentSign) (owns : List (List Item)) (sides : Sides) → IsCalledHeading s signs owns → AreSides sides
     → HoldsItsCalls (heading_round sides (items_with s [] signs owns))

@@ -113,7 +113,7 @@ given_texts t own h = elim h [
       (subst AreTexts (sym (words_alone w.call t.source w.words w.begins)) (text_parts (call_chars w.call t.source)))
 ]
 
-parts_show : (s : Setting) (before signs : List ContentSign) (owns : List (List Item)) (rest : Plains) → AreGiven signs owns
+pub parts_show : (s : Setting) (before signs : List ContentSign) (owns : List (List Item)) (rest : Plains) → AreGiven signs owns
     → one_by_one (parts_with s before signs owns) rest ≡ called_shown signs owns rest
 parts_show s before [] owns rest h =
     ap (λ ps. one_by_one ps rest) (sym (append-nil (parts Text (guard_items (is_guarded s before []))))) ∙ guard_shows (is_guarded s before []) [] rest

@@ -11,8 +11,10 @@ use Rattle.wt_inline.specs.declared.loose.Loose.TheVariants.{Text}
 use Rattle.wt_inline.specs.Parts.{parts}
 use Rattle.wt_context.specs.Line.{line_parts}
 use Rattle.wt_part_laws.specs.CallTexts.{AreOwnOrTexts}
-use Rattle.wt_beside_laws.specs.Called.{items_with, owns_in, AreWords, IsOwnNode, IsGivenAs, AreGiven, AreOwnInside, BeginsWithText, EndsWithText, IsCalledContent, shown_source, shown_signs, GivesWords, StaysAsItIs, IsOfFolder, AreOfFolder, IsCalledIn}
+use Rattle.wt_beside_laws.specs.Called.{items_with, owns_in, AreWords, IsOwnNode, IsGivenAs, AreGiven, AreOwnInside, BeginsWithText, EndsWithText, IsCalledContent, shown_source, shown_signs, GivesWords, StaysAsItIs, IsOfFolder, AreOfFolder, IsCalledIn, AllEndSeen, IsCalledHeading, AllSeenIn, IsCalledInHeading}
+use Rattle.wt_beside_laws.specs.InHeadings.{AreOnOneLine}
 use Rattle.wt_beside_laws.specs.Lines.{AreCharacters}
+use Rattle.wt_beside_laws.specs.Stood.{things}
 use Rattle.wt_beside_laws.proofs.Groups.Bare.{brace_of, bare, items_same}
 use Rattle.wt_beside_laws.proofs.Groups.CalledParts.{words_alone}
 use Rattle.wt_beside_laws.proofs.Groups.Words.{call_chars}
@@ -135,6 +137,40 @@ called_in pages i s signs h = record {
   ends = ends_shown pages signs h.ends;
 }
 
+items_shown : (pages : Pages) (i : ℕ) (s : Setting) (signs : List ContentSign) → AreOfFolder pages signs
+    → items_with s [] signs (owns_in pages i signs) ≡ items_with s [] (shown_signs pages signs) (owns_in pages i signs)
+items_shown pages i s signs h = items_same s signs (shown_signs pages signs) (owns_in pages i signs) (sym (bare_shown pages signs h))
+
 pub items_in : (pages : Pages) (i : ℕ) (s : Setting) (signs : List ContentSign) → IsCalledIn pages s signs
     → items_with s [] signs (owns_in pages i signs) ≡ items_with s [] (shown_signs pages signs) (owns_in pages i signs)
-items_in pages i s signs h = items_same s signs (shown_signs pages signs) (owns_in pages i signs) (sym (bare_shown pages signs h.given))
+items_in pages i s signs h = items_shown pages i s signs h.given
+
+-- ---- in a heading
+
+one_line_shown : (pages : Pages) (signs : List ContentSign) → AreOnOneLine signs → AreOnOneLine (shown_signs pages signs)
+one_line_shown pages [] h = tt
+one_line_shown pages (letter c ∷ after) h = (h.0, one_line_shown pages after h.1)
+one_line_shown pages (thing t ∷ after) h = one_line_shown pages after h
+
+all_seen : (pages : Pages) (i : ℕ) (signs : List ContentSign) → AllSeenIn pages (things signs) → AllEndSeen (owns_in pages i signs)
+all_seen pages i [] h = tt
+all_seen pages i (letter c ∷ after) h = all_seen pages i after h
+all_seen pages i (thing t ∷ after) h =
+    let own = h.0 i in (own.0, own.1, all_seen pages (i + length (expanded_page pages t.source).outer) after h.1)
+
+pub heading_in : (pages : Pages) (i : ℕ) (s : Setting) (signs : List ContentSign) → IsCalledInHeading pages s signs
+    → IsCalledHeading s (shown_signs pages signs) (owns_in pages i signs)
+heading_in pages i s signs h = record {
+  of_block = h.of_block;
+  of_heading = h.of_heading;
+  one_line = one_line_shown pages signs h.one_line;
+  characters = characters_shown pages signs h.characters;
+  given = all_given pages i signs h.given;
+  own = all_inside pages i signs h.given;
+  meet = h.meet;
+  end_seen = all_seen pages i signs h.end_seen;
+}
+
+pub heading_items : (pages : Pages) (i : ℕ) (s : Setting) (signs : List ContentSign) → IsCalledInHeading pages s signs
+    → items_with s [] signs (owns_in pages i signs) ≡ items_with s [] (shown_signs pages signs) (owns_in pages i signs)
+heading_items pages i s signs h = items_shown pages i s signs h.given

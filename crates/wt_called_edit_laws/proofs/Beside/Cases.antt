@@ -179,7 +179,6 @@ own_nodes = (
 
 pub in_class : IsBesideCalls a_word a_paragraph source block
 in_class = record {
-  paragraph = refl;
   pieces = pieces;
   is = refl;
   parts = in_pieces;
@@ -187,6 +186,7 @@ in_class = record {
   children = own_nodes.1;
   things = subst (ArePageThings a_word) (sym things_are) of_page;
   among = subst (λ (ts : List Thing). StayButForOthers a_word pieces (thing_sources ts)) (sym things_are) among;
+  round = tt;
 }
 
 -- ---- what is sent
@@ -201,7 +201,7 @@ are_letters : IsUtf8 (codes "zw") × IsUtf8 (codes "v")
 unfolding encode
 are_letters = ((codes "zw", (refl, refl)), (codes "v", (refl, refl)))
 
-pub edit_of : IsCalledEditOf a_word block edit
+pub edit_of : IsCalledEditOf a_word a_paragraph block edit
 unfolding label_at context_parts chunks segments loose_segments tiles shapes closes tile_at link_or_url link_at ext_link_at bare_url_at scheme_len tag_tile tag_at
     switch_at children with_styles style_tree_of toggles_of toggle_at opens_tag closes_tag
 edit_of = record {
@@ -210,8 +210,7 @@ edit_of = record {
   are = (are_letters.0, (tt, (are_letters.1, tt)));
   plain = tt;
   calm = ((λ n. absurd n), ((λ n. absurd n), tt));
-  begins = tt;
-  ends = refl;
+  fits = (tt, refl);
 }
 
 -- So it is taken, and makes the new block with its group.

@@ -1,7 +1,7 @@
--- What is sent for a paragraph with calls in it: texts, and nodes as they are in the page, groups among them.
+-- What is sent for a paragraph or heading with calls in it: texts, and nodes as they are in the page, groups among them.
 use Rattle.std.proofs.Common.{◌≡◌, inl, inr, ℕ, ◌+◌, Bool, true, false, Option, Some, List, [], ◌∷◌, ◌++◌, length, map, refl, sym, ap, ◌∙◌, subst}
-use Rattle.std.specs.Prelude.{◌||◌, if◌then◌else◌, encode_utf8}
-use Rattle.std.specs.List.{flat_map}
+use Rattle.std.specs.Prelude.{◌||◌, ◌==◌, if◌then◌else◌, encode_utf8}
+use Rattle.std.specs.List.{flat_map, list_any}
 use Rattle.std.specs.Str.{IsUtf8, chars}
 use Rattle.std.proofs.Math.Utf8.{encodes}
 use Rattle.std.proofs.lemmas.Str.{encodes-chars}
@@ -27,7 +27,12 @@ use Rattle.wt_typed_blocks.specs.Sent.{StandsAsIs}
 use Rattle.wt_typed_blocks.specs.Edited.{Pieces, no_pieces, gone, written, kept, around, new_style, page_pieces, text_node, sent_pieces, PiecesStay, pieces_before}
 use Rattle.wt_typed_blocks.specs.EditedUnmarked.{AreInline}
 use Rattle.wt_beside_laws.specs.Called.{owns_in, shown_signs, called_shown, BeginsWithText, EndsWithText}
+use Rattle.wt_content.specs.Content.{has_break}
+use Rattle.wt_typed_blocks.proofs.TextReads.{or_parts}
+use Rattle.wt_beside_laws.specs.FlatBlocks.{AreOneLine}
 use Rattle.wt_beside_laws.specs.FlatPages.{AreNodesAndTexts}
+use Rattle.wt_beside_laws.specs.InHeadings.{AreOnOneLine}
+use Rattle.wt_beside_laws.proofs.Styled.SentFaults.{typed_line}
 use Rattle.wt_beside_laws.specs.Lines.{AreCharacters}
 use Rattle.wt_beside_laws.specs.SentNodes.{IsUnchanged, IsSentBy, AreSent}
 use Rattle.wt_beside_laws.specs.SentPieces.{IsNodeForm, HaveNoStyle}
@@ -240,7 +245,7 @@ pieces_things pages same block pl (kept (tree l ts) (tree m us) ps) tells f g h 
 pieces_things pages same block pl (around l m is ps) tells f g h a n c = absurd n
 pieces_things pages same block pl (new_style m is ps) tells f g h a n c = absurd n
 
--- ---- its texts are characters, first and last
+-- ---- its texts are characters
 
 text_are : (same : Tree → Tree → Bool) (block : Tree) (pl : Place) (x : Label) (text : List ℕ) (us : Trees) → IsUtf8 text
     → AreCharacters (signs_of_all (page_of same block) pl us) → AreCharacters (signs_of_all (page_of same block) pl (text_node x text us))
@@ -262,6 +267,35 @@ pieces_characters pages same block pl (kept (tree l ts) (tree m us) ps) tells f 
     (pieces_characters pages same block pl ps tells f.1 g.1 h.1 a.1 n)
 pieces_characters pages same block pl (around l m is ps) tells f g h a n = absurd n
 pieces_characters pages same block pl (new_style m is ps) tells f g h a n = absurd n
+
+-- ---- in a heading they are on one line
+
+letters_line : (cs : List ℕ) (ss : List ContentSign) → list_any (λ (d : ℕ). d == 10) cs ≡ false → AreOnOneLine ss → AreOnOneLine (map letter cs ++ ss)
+letters_line [] ss e h = h
+letters_line (c ∷ cs) ss e h = let r = or_parts (c == 10) (list_any (λ (d : ℕ). d == 10) cs) e in (r.0, letters_line cs ss r.1 h)
+
+text_line : (same : Tree → Tree → Bool) (block : Tree) (pl : Place) (x : Label) (text : List ℕ) (us : Trees) → IsUtf8 text → has_break text ≡ false
+    → AreOnOneLine (signs_of_all (page_of same block) pl us) → AreOnOneLine (signs_of_all (page_of same block) pl (text_node x text us))
+text_line same block pl x [] us u b h = h
+text_line same block pl x (c ∷ cs) us u b h =
+    letters_line (chars (c ∷ cs)) (signs_of_all (page_of same block) pl us) (typed_line (c ∷ cs) u b) h
+
+pub pieces_line : (pages : Pages) (same : Tree → Tree → Bool) (block : Tree) (pl : Place) (ps : Pieces) → TellsSame same
+    → AreFound (kept_nodes block) (page_pieces ps) → AreChildrenBeside pages (page_pieces ps) → PiecesStay ps → AreNodesAndTexts ps → HaveNoStyle ps
+    → AreOneLine ps → AreOnOneLine (sent_signs same block pl ps)
+pieces_line pages same block pl no_pieces tells f g h a n o = tt
+pieces_line pages same block pl (gone (tree l ts) ps) tells f g h a n o = pieces_line pages same block pl ps tells f.1 g.1 h a n o
+pieces_line pages same block pl (written x text ps) tells f g h a n o =
+    text_line same block pl x text (sent_pieces ps) a.0 o.0 (pieces_line pages same block pl ps tells f g h a.1 n o.1)
+pieces_line pages same block pl (kept (tree l ts) (tree m us) ps) tells f g h a n o =
+    let r : IsSignOf block l ts (signs_of (page_of same block) pl (tree m us)) =
+    node_sign same block pl l m ts us tells h.0 g.0.free a.0 f.0 in
+    subst (λ (ss : List ContentSign). AreOnOneLine (ss ++ sent_signs same block pl ps)) (sym r.is)
+    (pieces_line pages same block pl ps tells f.1 g.1 h.1 a.1 n o)
+pieces_line pages same block pl (around l m is ps) tells f g h a n o = absurd n
+pieces_line pages same block pl (new_style m is ps) tells f g h a n o = absurd n
+
+-- ---- text is first and last
 
 none_empty : (b : ℕ) (bs : List ℕ) → [] ≡ b ∷ bs → ⊥
 none_empty b bs e = cc

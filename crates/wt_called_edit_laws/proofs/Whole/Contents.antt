@@ -107,7 +107,7 @@ own_shut pages i t h s = elim (node_case t.role pages t h) [
       (subst AreShutParts (sym (words_alone i shown k.words k.begins)) (chars_shut (Some i) shown))
 ]
 
-parts_shut : (pages : Pages) (i : ℕ) (s : Setting) (before signs : List ContentSign) → AreOfFolder pages signs → AreShut signs
+pub parts_shut : (pages : Pages) (i : ℕ) (s : Setting) (before signs : List ContentSign) → AreOfFolder pages signs → AreShut signs
     → AreShutParts (parts_with s before (shown_signs pages signs) (owns_in pages i signs))
 parts_shut pages i s before [] h g = guard_shut (is_guarded s before [])
 parts_shut pages i s before (letter c ∷ after) h g =
@@ -216,7 +216,7 @@ thing_gives pages i j t h = elim (node_case t.role pages t h) [
         })
     by_number false e k some = inl (ap (of_call j) (k.items i) ∙ chars_past i j (sources (expanded_page pages t.source).items) e)
 
-words_here : (pages : Pages) (i j : ℕ) (s : Setting) (before signs : List ContentSign) → AreOfFolder pages signs
+pub words_here : (pages : Pages) (i j : ℕ) (s : Setting) (before signs : List ContentSign) → AreOfFolder pages signs
     → NoneOrWords (of_call j (items_with s before signs (owns_in pages i signs)))
 words_here pages i j s before [] h = inl (guard_none j (is_guarded s before []))
 words_here pages i j s before (letter c ∷ after) h =
@@ -366,7 +366,7 @@ pub calls_both : (cs ds : List OuterCall) → AreShutCalls cs → AreShutCalls d
 calls_both [] ds h k = k
 calls_both (c ∷ cs) ds h k = (h.0, calls_both cs ds h.1 k)
 
-written_shut : (pages : Pages) (signs : List ContentSign) → AreOfFolder pages signs → AreShut signs → AreShutCalls (written_calls pages signs)
+pub written_shut : (pages : Pages) (signs : List ContentSign) → AreOfFolder pages signs → AreShut signs → AreShutCalls (written_calls pages signs)
 written_shut pages [] h g = tt
 written_shut pages (letter c ∷ after) h g = written_shut pages after h g
 written_shut pages (thing t ∷ after) h g =

@@ -59,7 +59,7 @@ past_piece pages i j b bs e h =
     let rest : List Item = pieces_items pages (i + calls_in pages b) bs in
     subst NoneOrWords (sym (of_append j (part_items pages i b) rest ∙ ap (λ (us : List Item). us ++ of_call j rest) e)) h
 
-pieces_words : (pages : Pages) (i j : ℕ) (bs : List (List ℕ)) (ts : List Thing) → StayButForOthers pages bs (thing_sources ts) → ArePageThings pages ts
+pub pieces_words : (pages : Pages) (i j : ℕ) (bs : List (List ℕ)) (ts : List Thing) → StayButForOthers pages bs (thing_sources ts) → ArePageThings pages ts
     → NoneOrWords (of_call j (pieces_items pages i bs))
 pieces_words pages i j [] [] h g = inl (of_page j (page_items []) (items_of_page []))
 pieces_words pages i j [] (t ∷ ts) h g = absurd h
@@ -85,7 +85,7 @@ pieces_words pages i j (b ∷ bs) (t ∷ ts) (inl h) g =
 pieces_words pages i j (b ∷ bs) (t ∷ ts) (inr h) g =
     past_piece pages i j b bs (calm_none pages i j b h.0) (pieces_words pages (i + calls_in pages b) j bs (t ∷ ts) h.1 g)
 
-pieces_shut : (pages : Pages) (bs : List (List ℕ)) (ts : List Thing) → StayButForOthers pages bs (thing_sources ts) → ArePageThings pages ts
+pub pieces_shut : (pages : Pages) (bs : List (List ℕ)) (ts : List Thing) → StayButForOthers pages bs (thing_sources ts) → ArePageThings pages ts
     → AreShutCalls (calls_of pages bs)
 pieces_shut pages [] [] h g = tt
 pieces_shut pages [] (t ∷ ts) h g = absurd h

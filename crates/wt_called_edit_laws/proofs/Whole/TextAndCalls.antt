@@ -419,7 +419,6 @@ texts_beside pages q block n at i calls some is sources_are h =
     let there : ThingsOf pages bs (page_things block) =
     subst (λ (us : Trees). ThingsOf pages bs (things_with (kept_nodes block) (all_numbers us))) (sym nodes) things in
     record {
-      paragraph = refl;
       pieces = bs;
       is = h.is;
       parts = h.parts;
@@ -427,4 +426,5 @@ texts_beside pages q block n at i calls some is sources_are h =
       children = subst (AreChildrenBeside pages) (sym nodes) (nodes_show pages calls i m a bs h.each given);
       things = call_things pages (page_things block) there.1;
       among = there.0;
+      round = tt;
     }

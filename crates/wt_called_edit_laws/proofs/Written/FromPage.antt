@@ -46,32 +46,32 @@ things_stay pages (b ∷ bs) (d ∷ ds) (inr e) h = things_stay pages bs (d ∷ 
 
 -- ---- what holds of each
 
-of_folder : (pages : Pages) (signs : List ContentSign) → ArePageThings pages (things signs) → AreOfFolder pages signs
+pub of_folder : (pages : Pages) (signs : List ContentSign) → ArePageThings pages (things signs) → AreOfFolder pages signs
 of_folder pages [] h = tt
 of_folder pages (letter c ∷ after) h = of_folder pages after h
 of_folder pages (thing t ∷ after) h = (h.0.folder, of_folder pages after h.2)
 
-of_reading : (pages : Pages) (signs : List ContentSign) → ArePageThings pages (things signs) → AreReadThings signs
+pub of_reading : (pages : Pages) (signs : List ContentSign) → ArePageThings pages (things signs) → AreReadThings signs
 of_reading pages [] h = tt
 of_reading pages (letter c ∷ after) h = of_reading pages after h
 of_reading pages (thing t ∷ after) h = (h.0.read, of_reading pages after h.2)
 
-of_parts : (pages : Pages) (signs : List ContentSign) → ArePageThings pages (things signs) → AreOwnParts pages signs
+pub of_parts : (pages : Pages) (signs : List ContentSign) → ArePageThings pages (things signs) → AreOwnParts pages signs
 of_parts pages [] h = tt
 of_parts pages (letter c ∷ after) h = of_parts pages after h
 of_parts pages (thing t ∷ after) h = (h.0.part, of_parts pages after h.2)
 
-of_seals : (pages : Pages) (signs : List ContentSign) → ArePageThings pages (things signs) → AreSealed signs
+pub of_seals : (pages : Pages) (signs : List ContentSign) → ArePageThings pages (things signs) → AreSealed signs
 of_seals pages [] h = tt
 of_seals pages (letter c ∷ after) h = of_seals pages after h
 of_seals pages (thing t ∷ after) h = (h.0.sealed, of_seals pages after h.2)
 
-of_shut : (pages : Pages) (signs : List ContentSign) → ArePageThings pages (things signs) → AreShut signs
+pub of_shut : (pages : Pages) (signs : List ContentSign) → ArePageThings pages (things signs) → AreShut signs
 of_shut pages [] h = tt
 of_shut pages (letter c ∷ after) h = of_shut pages after h
 of_shut pages (thing t ∷ after) h = (h.0.shut, of_shut pages after h.2)
 
-of_utf8 : (pages : Pages) (signs : List ContentSign) → ArePageThings pages (things signs) → AreUtf8 (node_sources signs)
+pub of_utf8 : (pages : Pages) (signs : List ContentSign) → ArePageThings pages (things signs) → AreUtf8 (node_sources signs)
 of_utf8 pages [] h = tt
 of_utf8 pages (letter c ∷ after) h = of_utf8 pages after h
 of_utf8 pages (thing t ∷ after) h = (h.0.utf8, of_utf8 pages after h.2)
@@ -96,21 +96,21 @@ node_or_group pages t h = by (role_case t.role pages t h)
     by (inl k) = let own : IsNode t.role (own_glyphs t) = k.0.node in inl (subst (λ (q : List ℕ). IsNode t.role (own_glyphs (record t { source = q }))) (sym k.1) own)
     by (inr g) = inr g
 
-each_so : (pages : Pages) (signs : List ContentSign) → ArePageThings pages (things signs) → Each IsNodeOrGroup (things (shown_signs pages signs))
+pub each_so : (pages : Pages) (signs : List ContentSign) → ArePageThings pages (things signs) → Each IsNodeOrGroup (things (shown_signs pages signs))
 each_so pages [] h = tt
 each_so pages (letter c ∷ after) h = each_so pages after h
 each_so pages (thing t ∷ after) h = (node_or_group pages t h.0.folder, each_so pages after h.2)
 
-abbrev shown_things : Pages → List Thing → List Thing
+abbrev pub shown_things : Pages → List Thing → List Thing
 shown_things pages [] = []
 shown_things pages (t ∷ ts) = shown_thing pages t ∷ shown_things pages ts
 
-meets_so : (pages : Pages) (ts : List Thing) → ArePageThings pages ts → EachMeets (shown_things pages ts)
+pub meets_so : (pages : Pages) (ts : List Thing) → ArePageThings pages ts → EachMeets (shown_things pages ts)
 meets_so pages [] h = tt
 meets_so pages (t ∷ []) h = tt
 meets_so pages (t ∷ n ∷ ts) h = let first : MeetThere pages t n = h.1.0 in (first, meets_so pages (n ∷ ts) h.2)
 
-things_shown : (pages : Pages) (signs : List ContentSign) → shown_things pages (things signs) ≡ things (shown_signs pages signs)
+pub things_shown : (pages : Pages) (signs : List ContentSign) → shown_things pages (things signs) ≡ things (shown_signs pages signs)
 things_shown pages [] = refl
 things_shown pages (letter c ∷ after) = things_shown pages after
 things_shown pages (thing t ∷ after) = ap (λ (ts : List Thing). shown_thing pages t ∷ ts) (things_shown pages after)
@@ -139,7 +139,7 @@ beside_these pages olds s signs w v b e h k =
 
 -- ---- in the place of the page's
 
-stay_both : (pages : Pages) (bs cs ds : List (List ℕ)) → StayButForOthers pages bs cs → StayButForOthers pages cs ds → StayButForOthers pages bs ds
+pub stay_both : (pages : Pages) (bs cs ds : List (List ℕ)) → StayButForOthers pages bs cs → StayButForOthers pages cs ds → StayButForOthers pages bs ds
 stay_both pages [] [] ds h k = k
 stay_both pages [] (c ∷ cs) ds h k = absurd h
 stay_both pages (b ∷ bs) [] [] h k = h
@@ -152,14 +152,14 @@ stay_both pages (b ∷ bs) (c ∷ cs) (d ∷ ds) (inl h) (inr k) =
     inr (ap (λ (q : List ℕ). (expanded_page pages q).outer) h.0 ∙ k.0, stay_both pages bs cs (d ∷ ds) h.1 k.1)
 stay_both pages (b ∷ bs) (c ∷ cs) (d ∷ ds) (inr h) k = inr (h.0, stay_both pages bs (c ∷ cs) (d ∷ ds) h.1 k)
 
-by_sources : (pages : Pages) (bs ds : List Thing) → ThingsStay pages bs ds → StayButForOthers pages (thing_sources bs) (thing_sources ds)
+pub by_sources : (pages : Pages) (bs ds : List Thing) → ThingsStay pages bs ds → StayButForOthers pages (thing_sources bs) (thing_sources ds)
 by_sources pages [] [] h = tt
 by_sources pages [] (d ∷ ds) h = absurd h
 by_sources pages (b ∷ bs) [] h = (h.0, by_sources pages bs [] h.1)
 by_sources pages (b ∷ bs) (d ∷ ds) (inl h) = inl (ap (λ (t : Thing). t.source) h.0, by_sources pages bs ds h.1)
 by_sources pages (b ∷ bs) (d ∷ ds) (inr h) = inr (h.0, by_sources pages bs (d ∷ ds) h.1)
 
-sources_of : (signs : List ContentSign) → thing_sources (things signs) ≡ node_sources signs
+pub sources_of : (signs : List ContentSign) → thing_sources (things signs) ≡ node_sources signs
 sources_of [] = refl
 sources_of (letter c ∷ after) = sources_of after
 sources_of (thing t ∷ after) = ap (λ (bs : List (List ℕ)). t.source ∷ bs) (sources_of after)

@@ -25,7 +25,7 @@ use Rattle.wt_called_edit_laws.specs.CalledContents.{tree_round}
 use Rattle.wt_called_edit_laws.specs.Written.{AreReadThings, AreOwnParts, written_items}
 use Rattle.wt_called_edit_laws.proofs.Written.Signs.{content_written}
 
-written_with : (pages : Pages) (s : Setting) (i : ℕ) (before signs : List ContentSign) → written_items pages s i before signs ≡ items_with s before signs (owns_in pages i signs)
+pub written_with : (pages : Pages) (s : Setting) (i : ℕ) (before signs : List ContentSign) → written_items pages s i before signs ≡ items_with s before signs (owns_in pages i signs)
 written_with pages s i before [] = refl
 written_with pages s i before (letter c ∷ after) =
     ap (λ xs. guard_items (is_guarded s before (letter c ∷ after)) ++ (letter_items (is_escaped s.within s.place before c after) c ++ xs))

@@ -42,7 +42,7 @@ pieces_written pages (b ∷ bs) h =
 
 -- ---- tags that are open in them
 
-open_pieces : (name us : List ℕ) (bs : List (List ℕ)) → Unclosed name (pieces_source bs ++ us) → Each (OpenAt name) bs
+pub open_pieces : (name us : List ℕ) (bs : List (List ℕ)) → Unclosed name (pieces_source bs ++ us) → Each (OpenAt name) bs
 open_pieces name us [] h = tt
 open_pieces name us (b ∷ bs) h =
     let own : Unclosed name (b ++ (pieces_source bs ++ us)) = subst (Unclosed name) (append_assoc b (pieces_source bs) us) h in

@@ -75,15 +75,15 @@ as_b : (s : Setting) (ts : List Thing) → sign_written s [] (letter 98) (spread
 unfolding is_escaped
 as_b s ts = refl
 
-abbrev rest_of : Setting → List Thing → List ℕ
+abbrev pub rest_of : Setting → List Thing → List ℕ
 rest_of s ts = spelled_from s (letter 97 ∷ []) (spread ts)
 
-spelled_a : (s : Setting) (ts : List Thing) → spelled s (begun 97 ts) ≡ 97 ∷ rest_of s ts
+pub spelled_a : (s : Setting) (ts : List Thing) → spelled s (begun 97 ts) ≡ 97 ∷ rest_of s ts
 spelled_a s ts =
     ap (λ (v : Bool). nowiki_if v ++ (sign_written s [] (letter 97) (spread ts) ++ rest_of s ts)) (first_a s ts)
     ∙ ap (λ (bs : List ℕ). bs ++ rest_of s ts) (as_a s ts ∙ encode_ascii 97 (omega arith))
 
-spelled_b : (s : Setting) (ts : List Thing) → spelled s (begun 98 ts) ≡ 98 ∷ rest_of s ts
+pub spelled_b : (s : Setting) (ts : List Thing) → spelled s (begun 98 ts) ≡ 98 ∷ rest_of s ts
 spelled_b s ts =
     ap (λ (v : Bool). nowiki_if v ++ (sign_written s [] (letter 98) (spread ts) ++ spelled_from s (letter 98 ∷ []) (spread ts))) (first_b s ts)
     ∙ ap (λ (bs : List ℕ). bs ++ spelled_from s (letter 98 ∷ []) (spread ts)) (as_b s ts ∙ encode_ascii 98 (omega arith))
@@ -91,7 +91,7 @@ spelled_b s ts =
 
 -- ---- such a content
 
-spread_characters : (ts : List Thing) → AreCharacters (spread ts)
+pub spread_characters : (ts : List Thing) → AreCharacters (spread ts)
 spread_characters [] = (refl, tt)
 spread_characters (t ∷ ts) = (refl, spread_characters ts)
 
@@ -101,7 +101,7 @@ ends_spread (thing t) [] = tt
 ends_spread (letter c) (u ∷ ts) = ends_spread (thing u) ts
 ends_spread (thing t) (u ∷ ts) = ends_spread (thing u) ts
 
-things_spread : (ts : List Thing) → things (spread ts) ≡ ts
+pub things_spread : (ts : List Thing) → things (spread ts) ≡ ts
 things_spread [] = refl
 things_spread (t ∷ ts) = ap (λ (us : List Thing). t ∷ us) (things_spread ts)
 
@@ -109,7 +109,7 @@ all_stay : (pages : Pages) (ts : List Thing) → ThingsStay pages ts ts
 all_stay pages [] = tt
 all_stay pages (t ∷ ts) = inl (refl, all_stay pages ts)
 
-stay_spread : (pages : Pages) (ts : List Thing) → ThingsStay pages ts (things (spread ts))
+pub stay_spread : (pages : Pages) (ts : List Thing) → ThingsStay pages ts (things (spread ts))
 stay_spread pages ts = subst (ThingsStay pages ts) (sym (things_spread ts)) (all_stay pages ts)
 
 pub a_beside : (pages : Pages) (s : Setting) (ts : List Thing) → s.within ≡ false → ArePageThings pages ts → IsWrittenBeside pages s (begun 97 ts)
@@ -144,16 +144,16 @@ page_letters pages bs olds p q h =
     (page_takes pages bs olds in_paragraph (begun 98 olds) p q h refl (refl, spread_characters olds) tt (ends_spread (letter 98) olds) (stay_spread pages olds))
 
 -- again, where other texts were typed
-sources_spread : (ts : List Thing) → node_sources (spread ts) ≡ thing_sources ts
+pub sources_spread : (ts : List Thing) → node_sources (spread ts) ≡ thing_sources ts
 sources_spread [] = refl
 sources_spread (t ∷ ts) = ap (λ (bs : List (List ℕ)). t.source ∷ bs) (sources_spread ts)
 
-sources_things : (signs : List ContentSign) → node_sources signs ≡ thing_sources (things signs)
+pub sources_things : (signs : List ContentSign) → node_sources signs ≡ thing_sources (things signs)
 sources_things [] = refl
 sources_things (letter c ∷ after) = sources_things after
 sources_things (thing t ∷ after) = ap (λ (bs : List (List ℕ)). t.source ∷ bs) (sources_things after)
 
-same_stay : (pages : Pages) (bs : List (List ℕ)) → StayButForOthers pages bs bs
+pub same_stay : (pages : Pages) (bs : List (List ℕ)) → StayButForOthers pages bs bs
 same_stay pages [] = tt
 same_stay pages (b ∷ bs) = inl (refl, same_stay pages bs)
 

@@ -45,7 +45,7 @@ use Rattle.wt_called_edit_laws.proofs.Written.Signs.{content_written}
 
 -- ---- UTF-8
 
-from_utf8 : (s : Setting) (before signs : List ContentSign) → AreCharacters signs → AreUtf8 (node_sources signs) → IsUtf8 (spelled_from s before signs)
+pub from_utf8 : (s : Setting) (before signs : List ContentSign) → AreCharacters signs → AreUtf8 (node_sources signs) → IsUtf8 (spelled_from s before signs)
 from_utf8 s before [] v h = guard_utf8 (is_guarded s before [])
 from_utf8 s before (letter c ∷ after) v h =
     let e : Bool = is_escaped s.within s.place before c after in
@@ -84,13 +84,13 @@ text_first s (letter c ∷ after) w v b =
 
 -- ---- it is read by itself
 
-nothing_stands : StandsBehind []
+pub nothing_stands : StandsBehind []
 nothing_stands = let b = reads_nothing.begins in record { uncommented = b.is }
 
-break_read : Reads (10 ∷ []) (char None 10 ∷ [])
+pub break_read : Reads (10 ∷ []) (char None 10 ∷ [])
 break_read = read_break [] [] reads_nothing
 
-break_stands : StandsBehind (10 ∷ [])
+pub break_stands : StandsBehind (10 ∷ [])
 break_stands = let b = break_read.begins in record { uncommented = b.is }
 
 begins_so : (pages : Pages) (s : Setting) (signs : List ContentSign) → IsWrittenBeside pages s signs → BeginsParagraph (spelled s signs)
@@ -154,7 +154,7 @@ OpenAt name bs = (us : List ℕ) × Unclosed name (bs ++ us)
 three : (g w r rest : List ℕ) → (g ++ (w ++ r)) ++ rest ≡ g ++ (w ++ (r ++ rest))
 three g w r rest = append_assoc g (w ++ r) rest ∙ ap (λ (bs : List ℕ). g ++ bs) (append_assoc w r rest)
 
-open_nodes : (s : Setting) (before signs : List ContentSign) (name us : List ℕ) → Unclosed name (spelled_from s before signs ++ us)
+pub open_nodes : (s : Setting) (before signs : List ContentSign) (name us : List ℕ) → Unclosed name (spelled_from s before signs ++ us)
     → Each (OpenAt name) (node_sources signs)
 open_nodes s before [] name us h = tt
 open_nodes s before (letter c ∷ after) name us h =
@@ -169,12 +169,12 @@ open_nodes s before (thing t ∷ after) name us h =
     let own : Unclosed name (t.source ++ (more ++ us)) = unclosed_behind name g (t.source ++ (more ++ us)) (subst (Unclosed name) (three g t.source more us) h) in
     ((more ++ us, own), open_nodes s (thing t ∷ before) after name us (unclosed_behind name t.source (more ++ us) own))
 
-open_things : (name : List ℕ) (signs : List ContentSign) → Each (OpenAt name) (node_sources signs) → Each (OpenFor name) (things signs)
+pub open_things : (name : List ℕ) (signs : List ContentSign) → Each (OpenAt name) (node_sources signs) → Each (OpenFor name) (things signs)
 open_things name [] h = tt
 open_things name (letter c ∷ after) h = open_things name after h
 open_things name (thing t ∷ after) h = (h.0, open_things name after h.1)
 
-each_stays : (P : List ℕ → Type 0) (pages : Pages) (bs ds : List (List ℕ)) → StayButForOthers pages bs ds → Each P bs → Each P ds
+pub each_stays : (P : List ℕ → Type 0) (pages : Pages) (bs ds : List (List ℕ)) → StayButForOthers pages bs ds → Each P bs → Each P ds
 each_stays P pages [] [] e h = tt
 each_stays P pages [] (d ∷ ds) e h = absurd e
 each_stays P pages (b ∷ bs) [] e h = tt
@@ -196,12 +196,12 @@ abbrev pub work_of : Pages → List (List ℕ) → List Entry
 work_of pages [] = []
 work_of pages (bs ∷ more) = work_in pages bs ++ work_of pages more
 
-calls_by : (pages : Pages) (signs : List ContentSign) → written_calls pages signs ≡ calls_of pages (node_sources signs)
+pub calls_by : (pages : Pages) (signs : List ContentSign) → written_calls pages signs ≡ calls_of pages (node_sources signs)
 calls_by pages [] = refl
 calls_by pages (letter c ∷ after) = calls_by pages after
 calls_by pages (thing t ∷ after) = ap (λ (cs : List OuterCall). (expanded_page pages t.source).outer ++ cs) (calls_by pages after)
 
-work_by : (pages : Pages) (signs : List ContentSign) → written_work pages signs ≡ work_of pages (node_sources signs)
+pub work_by : (pages : Pages) (signs : List ContentSign) → written_work pages signs ≡ work_of pages (node_sources signs)
 work_by pages [] = refl
 work_by pages (letter c ∷ after) = work_by pages after
 work_by pages (thing t ∷ after) = ap (λ (es : List Entry). work_in pages t.source ++ es) (work_by pages after)
@@ -215,7 +215,7 @@ some_both : (es xs ys : List Entry) → AreSomeOf xs ys → AreSomeOf (es ++ xs)
 some_both [] xs ys h = h
 some_both (e ∷ es) xs ys h = inl (refl, some_both es xs ys h)
 
-calls_stay : (pages : Pages) (bs ds : List (List ℕ)) → StayButForOthers pages bs ds → calls_of pages bs ≡ calls_of pages ds
+pub calls_stay : (pages : Pages) (bs ds : List (List ℕ)) → StayButForOthers pages bs ds → calls_of pages bs ≡ calls_of pages ds
 calls_stay pages [] [] h = refl
 calls_stay pages [] (d ∷ ds) h = absurd h
 calls_stay pages (b ∷ bs) [] h = ap (λ (cs : List OuterCall). cs ++ calls_of pages bs) h.0 ∙ calls_stay pages bs [] h.1
@@ -223,7 +223,7 @@ calls_stay pages (b ∷ bs) (d ∷ ds) (inl h) =
     ap₂ (λ (cs es : List OuterCall). cs ++ es) (ap (λ (q : List ℕ). (expanded_page pages q).outer) h.0) (calls_stay pages bs ds h.1)
 calls_stay pages (b ∷ bs) (d ∷ ds) (inr h) = ap (λ (cs : List OuterCall). cs ++ calls_of pages bs) h.0 ∙ calls_stay pages bs (d ∷ ds) h.1
 
-work_stays : (pages : Pages) (bs ds : List (List ℕ)) → StayButForOthers pages bs ds → AreSomeOf (work_of pages ds) (work_of pages bs)
+pub work_stays : (pages : Pages) (bs ds : List (List ℕ)) → StayButForOthers pages bs ds → AreSomeOf (work_of pages ds) (work_of pages bs)
 work_stays pages [] [] h = tt
 work_stays pages [] (d ∷ ds) h = absurd h
 work_stays pages (b ∷ bs) [] h = tt
@@ -233,7 +233,7 @@ work_stays pages (b ∷ bs) (d ∷ ds) (inl h) =
 work_stays pages (b ∷ bs) (d ∷ ds) (inr h) =
     some_behind (work_in pages b) (work_of pages (d ∷ ds)) (work_of pages bs) (work_stays pages bs (d ∷ ds) h.1)
 
-turned : (cs ds : List OuterCall) → AreMoved cs ds → AreMoved ds cs
+pub turned : (cs ds : List OuterCall) → AreMoved cs ds → AreMoved ds cs
 turned [] [] m = tt
 turned [] (d ∷ ds) m = absurd m
 turned (c ∷ cs) [] m = absurd m

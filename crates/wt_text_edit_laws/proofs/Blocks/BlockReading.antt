@@ -83,7 +83,7 @@ read_space bs xs r = reads_byte 32 bs xs (other_byte Page 32 bs refl) (comment_o
 read_tab : (bs : List ℕ) (xs : List Item) → Reads bs xs → Reads (9 ∷ bs) (char None 9 ∷ xs)
 read_tab bs xs r = reads_byte 9 bs xs (other_byte Page 9 bs refl) (comment_other 9 bs (omega arith)) r
 
-read_quiet : (bs rest : List ℕ) (xs : List Item) → AreQuiet bs → Reads rest xs → Reads (bs ++ rest) (page_chars bs ++ xs)
+pub read_quiet : (bs rest : List ℕ) (xs : List Item) → AreQuiet bs → Reads rest xs → Reads (bs ++ rest) (page_chars bs ++ xs)
 read_quiet [] rest xs h r = r
 read_quiet (b ∷ bs) rest xs h r =
     let ends : List ℕ = bs ++ rest in
@@ -119,7 +119,7 @@ rest_reads s (b ∷ r) xs f e read =
     let P : ℕ → Type 0 = λ (c : ℕ). Reads (c ∷ r) xs → ReadsAfter false (s.rest ++ c ∷ r) (page_items s.rest ++ xs) in
     subst P (sym e) (λ k. line_reads s.rest r (page_items s.rest) xs (ends_before_any r (s.rest ++ 10 ∷ []) f.stands.has_ends) f.ended k) read
 
-closing_front : (s : Sides) (rest : List ℕ) (xs : List Item) → IsFrame s → EndsHere rest → Reads rest xs
+pub closing_front : (s : Sides) (rest : List ℕ) (xs : List Item) → IsFrame s → EndsHere rest → Reads rest xs
     → Reads (closing s ++ rest) (closing_items s ++ xs)
 closing_front s rest xs f e r =
     let run : List ℕ = equals s.level in
@@ -162,7 +162,7 @@ closing_unclosed s rest a =
     subst BeginsUnclosed (sym (append_assoc s.trail (equals s.level ++ s.rest) rest ∙ ap (λ (bs : List ℕ). s.trail ++ bs) (append_assoc (equals s.level) s.rest rest)))
     (signs_unclosed s.trail s.level (s.rest ++ rest) a.trail a.some)
 
-framed_front : (s : Sides) (q rest : List ℕ) (xs : List Item) → IsFrame s → IsBeforeUnclosed q → EndsHere rest → Reads rest xs
+pub framed_front : (s : Sides) (q rest : List ℕ) (xs : List Item) → IsFrame s → IsBeforeUnclosed q → EndsHere rest → Reads rest xs
     → Reads (source_of (a_heading s) q ++ rest) (heading_line s (page_items q) ++ xs)
 framed_front s q rest xs h f e r =
     let own : List Item = page_items q in
