@@ -20,36 +20,44 @@ fn note(marks: &mut [bool], nodes: &[Node<'_>]) {
     }
 }
 
-/// Takes out those of them that are written where they were sent: in a text that is written anew, or in a block that doesn't
-/// stay.
+/// How many of a node's children, which stays, are a text that is written anew.
+fn written_count(node: &Node<'_>) -> usize {
+    if is_content(node.mark()) {
+        inside_count(node)
+    } else {
+        0
+    }
+}
+
+/// Takes out those of these nodes that come along with a block.
+fn take_along(marks: &mut [bool], along: &[Along], nodes: &[Node<'_>]) {
+    for node in nodes {
+        let at = node.id as usize;
+        if at < marks.len() && comes_along(along, node) {
+            marks[at] = false;
+        }
+    }
+}
+
+/// Takes out those in a node that are written where they were sent: in a text that is written anew, in a block that doesn't
+/// stay, or with one that is moved.
 fn take_written(
     marks: &mut [bool],
     index: &[Visit<'_, '_>],
-    holder: u32,
     along: &[Along],
-    nodes: &[Node<'_>],
+    node: &Node<'_>,
+    stays: bool,
 ) {
-    for node in nodes {
-        let at = node.id as usize;
-        if node.kind.is_mark() && at < marks.len() && comes_along(along, node) {
-            marks[at] = false;
-        } else if is_block_part(node.kind) {
-            let inside = if !stays_in(index, holder, node) {
-                node.children.as_slice().len()
-            } else if is_content(node.mark()) {
-                inside_count(node)
-            } else {
-                0
-            };
-            let children = node.children.as_slice();
-            take_all(marks, nodes_between(children, 0, inside));
-            take_written(
-                marks,
-                index,
-                node.id,
-                along,
-                nodes_between(children, inside, children.len()),
-            );
+    let nodes = node.children.as_slice();
+    if !stays {
+        return take_all(marks, nodes);
+    }
+    take_all(marks, nodes_between(nodes, 0, written_count(node)));
+    take_along(marks, along, nodes);
+    for child in nodes {
+        if is_block_part(child.kind) {
+            let keeps = stays_in(index, node.id, child);
+            take_written(marks, index, along, child, keeps);
         }
     }
 }
@@ -75,13 +83,7 @@ pub fn marks_without_place(
 ) -> Result<Vec<bool>, NoMemory> {
     let mut marks = none_noted(alloc, index)?;
     note(marks.as_mut_slice(), edited.children.as_slice());
-    take_written(
-        marks.as_mut_slice(),
-        index,
-        0,
-        along,
-        edited.children.as_slice(),
-    );
+    take_written(marks.as_mut_slice(), index, along, edited, true);
     Ok(marks)
 }
 
