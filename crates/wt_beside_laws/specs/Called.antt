@@ -90,8 +90,7 @@ line_parts_with s before (thing t ∷ after) (own ∷ owns) =
 -- wherever it is it may begin or end a form or a line
 abbrev pub is_form_sign : ℕ → Bool
 is_form_sign b =
-    b == byte.line_break
-    || (b == byte.less_than || (b == byte.ampersand || (b == byte.opening_bracket || (b == byte.opening_brace || b == byte.closing_brace))))
+    b == byte.line_break || (b == byte.less_than || (b == byte.opening_bracket || (b == byte.opening_brace || b == byte.closing_brace)))
 
 abbrev pub is_word_byte : ℕ → Bool
 is_word_byte b = nat_lt b 256 && not (is_form_sign b)
@@ -105,10 +104,15 @@ abbrev pub PartsSigns : List ℕ → Type 0
 PartsSigns [] = ⊥
 PartsSigns (b ∷ bs) = (is_half_sign b || b == byte.slash) ≡ false
 
--- no sign of a form is among them, and each apostrophe, `_` and colon is before another character
+abbrev pub BeginsWithSpace : List ℕ → Type 0
+BeginsWithSpace [] = ⊥
+BeginsWithSpace (b ∷ bs) = b ≡ byte.space
+
+-- no sign of a form is among them, each apostrophe, `_` and colon is before another character, and each `&` before a space
 abbrev pub AreWordBytes : List ℕ → Type 0
 AreWordBytes [] = Unit {0}
-AreWordBytes (b ∷ bs) = (is_word_byte b ≡ true) × (is_half_sign b ≡ true → PartsSigns bs) × AreWordBytes bs
+AreWordBytes (b ∷ bs) =
+    (is_word_byte b ≡ true) × (is_half_sign b ≡ true → PartsSigns bs) × ((b == byte.ampersand) ≡ true → BeginsWithSpace bs) × AreWordBytes bs
 
 -- where it is first on a line it may begin a block, or a slash a URL with what is before it; and it is no apostrophe, `_` or colon
 abbrev pub is_first_sign : ℕ → Bool

@@ -4,3 +4,6 @@ pub mod Changed
 pub mod Choices
 pub mod Sent
 pub mod Untouched
+pub mod SentHtml
+pub mod EditsSent
+pub mod WorkedCall

@@ -11,4 +11,5 @@ pub mod Cases
 pub mod InPieces
 pub mod FromPage
 pub mod Letters
+pub mod ReadApart
 mod PieceCases

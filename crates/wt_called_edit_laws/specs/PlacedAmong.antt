@@ -39,8 +39,8 @@ Stand (s ∷ ss) behind =
 -- ---- the page
 
 -- The page's items, where calls are characters, are cut at each block (`AreCuts`), and no call goes over the end of a part. No block calls anything,
--- none is tangled, and no group of the page's tree has the first byte of one. By what the calls give each is in the body, in a cell or in a caption,
--- and no other text is beside a paragraph. The page isn't refused.
+-- none is tangled or holds a group, and no group of the page's tree has the first byte of one. By what the calls give each is in the body, in a cell
+-- or in a caption, and no other text is beside a paragraph. The page isn't refused.
 pub record IsPlacedAmong (pages : Pages) (ss : List BlockSpot) (behind : List ℕ) : Type 0 where
   pub utf8 : IsUtf8 (spots_source ss behind)
   pub cuts : AreCuts ss behind

@@ -1,11 +1,14 @@
 -- Any number of paragraphs and headings of a page where they are in it, by the page's items: in the body, in cells and in captions.
-use Rattle.std.specs.Prelude.{◌≡◌, ℕ, false, Bool, List, [], ◌∷◌, length}
+use Rattle.std.specs.Prelude.{◌≡◌, ℕ, zero, suc, false, Bool, List, [], ◌∷◌, length}
 use Rattle.std.specs.Str.{IsUtf8}
 use Rattle.wt_span.specs.Items.{Item}
+use Rattle.wt_span.specs.Origins.{Expanded}
+use Rattle.wt_tree.specs.Tree.{Tree, tree, Trees, none, more}
 use Rattle.wt_checks.specs.Kept.{children as nodes_in}
 use Rattle.wt_expand.specs.PageItems.{page_items}
 use Rattle.wt_isolation.specs.OpenTags.{any_ends_open}
 use Rattle.wt_part_laws.specs.Standing.{standing}
+use Rattle.wt_selser.specs.Edits.{is_tangled}
 use Rattle.wt_text_edit_laws.specs.BlockSpots.{BlockSpot, spots_source}
 use Rattle.wt_text_edit_laws.specs.NoCalls.{CallsNothing}
 use Rattle.wt_text_edit_laws.specs.PageCuts.{IsSpotCut, BeginsBreak, EndsThere, EndsClosed}
@@ -35,6 +38,22 @@ AreBlocksIn (s ∷ ss) behind =
 -- no tag is open at the end of a node in it
 abbrev pub IsShut : TextBlock → List ℕ → Type 0
 IsShut k q = any_ends_open (nodes_in (standing 0 [] (block_tree k q))) ≡ false
+
+-- at this path is a node that isn't tangled in this page
+abbrev mutual
+  pub UntangledTo : Expanded → List ℕ → List ℕ → Tree → Type 0
+  UntangledTo items page [] t = is_tangled items page t ≡ false
+  UntangledTo items page (i ∷ is) (tree l ts) = UntangledAmong items page i is ts
+
+  pub UntangledAmong : Expanded → List ℕ → ℕ → List ℕ → Trees → Type 0
+  UntangledAmong items page i is none = ⊥
+  UntangledAmong items page zero is (more t ts) = UntangledTo items page is t
+  UntangledAmong items page (suc i) is (more t ts) = UntangledAmong items page i is ts
+
+-- so at each of these
+abbrev pub AllUntangled : Expanded → List ℕ → List (List ℕ) → Tree → Type 0
+AllUntangled items page [] t = Unit {0}
+AllUntangled items page (p ∷ ps) t = UntangledTo items page p t × AllUntangled items page ps t
 
 abbrev pub AreShut : List BlockSpot → Type 0
 AreShut [] = Unit {0}

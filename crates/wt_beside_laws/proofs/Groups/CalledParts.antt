@@ -65,7 +65,7 @@ words_read j b (d ∷ bs) c xs next any ps h f r =
     let one : suc (n + c.0) ≡ suc n + c.0 = omega arith in
     let more : List Item = call_chars j (d ∷ bs) ++ xs in
     let qs : List Part = parts Text (call_chars j (d ∷ bs)) ++ ps in
-    let later : Read (add_chars n c) more (d == 39) qs = words_read j d bs c xs next (d == 39) ps h.2 (λ z. z) r in
+    let later : Read (add_chars n c) more (d == 39) qs = words_read j d bs c xs next (d == 39) ps h.3 (λ z. z) r in
     subst (λ (m : ℕ). Read (m, c.1) (char (Some j) b ∷ more) any (part Text (char (Some j) b) ∷ qs)) one
     (one_read (Some j) b (add_chars n c) more (d == 39) any qs (λ e. later.first (behind_sign d bs (h.1 (half_quote b e))).0) f later)
 

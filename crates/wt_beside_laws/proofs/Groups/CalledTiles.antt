@@ -57,8 +57,8 @@ words_cuts : (a : Bool) (b : ℕ) (bs : List ℕ) (more : List Glyph) (c : Cut) 
 words_cuts a b [] more c h e f = one_more in_line a b more 0 c (word_none a b [] more h e) (f ∙ none_more c)
 words_cuts a b (d ∷ bs) more c h e f =
     one_more in_line a b (byte_glyphs (d ∷ bs) ++ more) (length (byte_glyphs (d ∷ bs))) c
-    (word_none a b (d ∷ bs) more h (words_reach (d ∷ bs) more h.2 e))
-    (words_cuts (is_word b) d bs more c h.2 e f)
+    (word_none a b (d ∷ bs) more h (words_reach (d ∷ bs) more h.3 e))
+    (words_cuts (is_word b) d bs more c h.3 e f)
 
 pub words_follow : (word : Bool) (bs : List ℕ) (more : List Glyph) (c : Cut) → AreWordBytes bs → BeginsWord bs → reaches more ≡ false
     → Follows in_line (ends_word false (byte_glyphs bs)) more c → Follows in_line word (byte_glyphs bs ++ more) (add_chars (length (byte_glyphs bs)) c)
@@ -69,7 +69,7 @@ pub words_formless : (bs : List ℕ) → AreWordBytes bs → BeginsWord bs → o
 words_formless [] h v = absurd v
 words_formless (b ∷ bs) h v =
     subst (λ (gs : List Glyph). own_form in_line (glyph.Byte b ∷ gs) ≡ None) (append-nil (byte_glyphs bs))
-    (word_none false b bs [] h (words_reach bs [] h.2 refl))
+    (word_none false b bs [] h (words_reach bs [] h.3 refl))
 
 -- ---- what follows a node
 

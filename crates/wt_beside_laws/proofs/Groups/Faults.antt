@@ -176,12 +176,12 @@ words_line : (bs : List ℕ) → AreWordBytes bs → glyph_lines (byte_glyphs bs
 words_line [] h = refl
 words_line (b ∷ bs) h =
     ap (λ (v : Bool). if v then [] ∷ glyph_lines (byte_glyphs bs) else onto (glyph.Byte b) (glyph_lines (byte_glyphs bs))) (not_word 10 b refl h.0)
-    ∙ ap (onto (glyph.Byte b)) (words_line bs h.2)
+    ∙ ap (onto (glyph.Byte b)) (words_line bs h.3)
 
 words_quotes : (behind : Bool) (bs : List ℕ) → (behind ≡ true → PartsSigns bs) → AreWordBytes bs → SingleQuotes behind (byte_glyphs bs)
 words_quotes behind [] f h = tt
 words_quotes behind (b ∷ bs) f h =
-    (λ e. by behind (λ i. sym e ∙ (behind_sign b bs (f i)).0), words_quotes (b == 39) bs (λ e. h.1 (half_quote b e)) h.2)
+    (λ e. by behind (λ i. sym e ∙ (behind_sign b bs (f i)).0), words_quotes (b == 39) bs (λ e. h.1 (half_quote b e)) h.3)
   where
     by : (v : Bool) → (v ≡ true → true ≡ false) → v ≡ false
     by true g = g refl
@@ -207,7 +207,7 @@ shown_words j (b ∷ bs) = ap (λ cs. b ∷ cs) (shown_words j bs)
 words_closed : (bs : List ℕ) → AreWordBytes bs → holds_open bs ≡ false
 words_closed [] h = refl
 words_closed (b ∷ bs) h =
-    ap₂ (λ (u v : Bool). (u || (v && (begins_bracket bs || nat_lt 0 (scheme_len (byte_glyphs bs))))) || holds_open bs) (not_word 60 b refl h.0) (not_word 91 b refl h.0) ∙ words_closed bs h.2
+    ap₂ (λ (u v : Bool). (u || (v && (begins_bracket bs || nat_lt 0 (scheme_len (byte_glyphs bs))))) || holds_open bs) (not_word 60 b refl h.0) (not_word 91 b refl h.0) ∙ words_closed bs h.3
 
 leaf_closed : (j : ℕ) (bs : List ℕ) → AreWordBytes bs → has_open_text [] (all_unplaced (further (loose_leaf Text (call_chars j bs)) nothing)) ≡ false
 unfolding label_at

@@ -245,7 +245,7 @@ words_reach [] more h e = e
 words_reach (b ∷ bs) more h e =
     let gs : List Glyph = byte_glyphs bs ++ more in
     reach_by (to_ascii_lowercase b == 58) (is_more (glyph.Byte b)) (reaches gs) (begins_like (codes "//") gs)
-    (λ i. no_slashes bs more (h.1 (half_colon b (lower_colon b i)))) (words_reach bs more h.2 e)
+    (λ i. no_slashes bs more (h.1 (half_colon b (lower_colon b i)))) (words_reach bs more h.3 e)
 
 node_reaches : (own more : List Glyph) → AvoidsUrls own → reaches (own ++ more) ≡ false
 node_reaches [] more h = absurd h

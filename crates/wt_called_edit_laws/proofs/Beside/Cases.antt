@@ -84,13 +84,13 @@ unfolding words closed form_at comment_len comment_line_len raw_len opening_tag 
     utf8_valid_len is_utf8 chars encode link_to page_stretches
 items_are i = refl
 
-abbrev a_call : OuterCall
+abbrev pub a_call : OuterCall
 a_call = record { start = 1; source = codes "{{t}}"; argument = false; parts = (3, 4) ∷ []; equals = None ∷ []; href = None }
 
 -- ---- the page's block
 
 -- by its items
-abbrev block_by : List Item → Tree
+abbrev pub block_by : List Item → Tree
 block_by xs = settled 1 0 (cut_texts (block_in (a_call ∷ []) (para_with (joined_parts (lines xs)))))
 
 abbrev block : Tree

@@ -1,18 +1,15 @@
 -- In a page that calls nothing, and in which no node can only be kept as a whole, none is so in a block, where it is in the page.
 use Rattle.std.proofs.Common.{◌≡◌, inl, ℕ, zero, suc, Bool, true, false, Option, Some, None, List, [], ◌∷◌, ◌++◌, take, map, refl, sym, ap, ◌∙◌, subst}
 use Rattle.std.specs.Prelude.{◌||◌}
-use Rattle.std.specs.List.{list_all}
 use Rattle.wt_tree.specs.declared.kind.Ranges.{Ranges}
 use Rattle.wt_tree.specs.Tiling.{HasNoGroup}
-use Rattle.wt_tree.specs.Tree.{Tree, tree}
-use Rattle.wt_span.specs.Items.{Item}
+use Rattle.wt_tree.specs.Tree.{Tree, tree, Trees, none, more}
 use Rattle.wt_span.specs.Origins.{Expanded}
 use Rattle.wt_checks.specs.Kept.{children as nodes_in}
 use Rattle.wt_expand.specs.PageItems.{page_items}
-use Rattle.wt_inline.specs.ItemTree.{ItemTree, forest, tree_items, held_by_all}
+use Rattle.wt_inline.specs.ItemTree.{ItemTree, forest, tree_items}
 use Rattle.wt_page.specs.Body.{meaning}
 use Rattle.wt_annotated.specs.Annotated.{annotated}
-use Rattle.wt_annotated.specs.Clean.{is_page}
 use Rattle.wt_annotated.specs.GroupData.{group_data}
 use Rattle.wt_annotated.specs.WithoutCalls.{holds_page, InsideOf, NoneEmpty, AllNonEmpty, IsPlain}
 use Rattle.wt_annotated.proofs.Calls.{all_split}
@@ -41,9 +38,9 @@ use Rattle.wt_text_edit_laws.proofs.Paragraphs.PartTrees.{ArePlain, plain_tree}
 use Rattle.wt_text_edit_laws.proofs.Texts.TypedShown.{both_of_page}
 use Rattle.wt_beside_laws.proofs.Made.OldBlocks.{no_group}
 use Rattle.wt_beside_laws.proofs.Made.OwnPages.{content_means, content_ordinary}
-use Rattle.wt_called_edit_laws.specs.EditsAt.{IsStanding}
+use Rattle.wt_called_edit_laws.specs.EditsAt.{IsStanding, StandsTo, StandsAmong, AllStand}
 use Rattle.wt_called_edit_laws.specs.ItemSpots.{ItemSpot, items_of_spots, placed_items, ArePlaced, SameItems, AreNewIn}
-use Rattle.wt_called_edit_laws.specs.PlacedSpots.{IsShut, AreShut}
+use Rattle.wt_called_edit_laws.specs.PlacedSpots.{IsShut, AreShut, UntangledTo, UntangledAmong, AllUntangled}
 use Rattle.wt_called_edit_laws.proofs.Cells.ContentItems.{tree_is}
 use Rattle.wt_called_edit_laws.proofs.Cells.ItemFrames.{counted_in, items_framed}
 use Rattle.wt_called_edit_laws.proofs.Cells.SpotRows.{trees_by}
@@ -194,3 +191,23 @@ node_shut k q items page t s e = untangled_shut k q (record {
   before = s.before;
   untangled = subst (λ (u : Tree). is_tangled items page u ≡ false) s.is e;
 })
+
+-- ---- so at their paths
+
+mutual
+  path_shut : (k : TextBlock) (q : List ℕ) (items : Expanded) (page path : List ℕ) (t : Tree) → StandsTo (block_tree k q) path t → UntangledTo items page path t
+      → IsShut k q
+  path_shut k q items page [] t s e = node_shut k q items page t s e
+  path_shut k q items page (i ∷ is) (tree l ts) s e = among_shut k q items page i is ts s e
+
+  among_shut : (k : TextBlock) (q : List ℕ) (items : Expanded) (page : List ℕ) (i : ℕ) (is : List ℕ) (ts : Trees) → StandsAmong (block_tree k q) i is ts
+      → UntangledAmong items page i is ts → IsShut k q
+  among_shut k q items page i is none s e = absurd s
+  among_shut k q items page zero is (more t ts) s e = path_shut k q items page is t s e
+  among_shut k q items page (suc i) is (more t ts) s e = among_shut k q items page i is ts s e
+
+pub paths_shut : (ss : List BlockSpot) (paths : List (List ℕ)) (items : Expanded) (page : List ℕ) (t : Tree) → AllStand ss paths t
+    → AllUntangled items page paths t → AreShut ss
+paths_shut [] paths items page t s e = tt
+paths_shut (s ∷ ss) [] items page t h e = absurd h
+paths_shut (s ∷ ss) (p ∷ ps) items page t h e = (path_shut s.block s.text items page p t h.0 e.0, paths_shut ss ps items page t h.1 e.1)

@@ -19,12 +19,13 @@ use Rattle.wt_beside_laws.specs.Lines.{AreCharacters}
 use Rattle.wt_beside_laws.specs.Stood.{things}
 use Rattle.wt_beside_laws.proofs.Groups.Cases.{a_word, call, in_paragraph, gives_b}
 use Rattle.wt_called_edit_laws.specs.CallingBlocks.{IsNewContentIn}
-use Rattle.wt_called_edit_laws.specs.InPieces.{AreInPieces, pieces_source}
+use Rattle.wt_called_edit_laws.specs.InPieces.{AreInPieces, AreReadApart, pieces_source}
 use Rattle.wt_called_edit_laws.specs.PageThings.{ArePageThings, ThingsStay}
 use Rattle.wt_called_edit_laws.specs.WrittenAnew.{StayButForOthers}
 use Rattle.wt_called_edit_laws.proofs.Written.Cases.{call_read, call_part, call_sealed, call_shut, call_utf8, other, now}
 use Rattle.wt_called_edit_laws.proofs.Written.FromPage.{page_takes}
 use Rattle.wt_called_edit_laws.proofs.Written.InPieces.{pieces_anew}
+use Rattle.wt_called_edit_laws.proofs.Written.ReadApart.{apart_pieces}
 use Rattle.wt_called_edit_laws.proofs.Written.Joined.{calm_written}
 
 abbrev pieces : List (List ℕ)
@@ -40,13 +41,19 @@ unfolding page_items words closed form_at comment_len comment_line_len raw_len o
     decimal_entity hex_entity entity_names sign_word
 behind_calm = (refl, (refl, tt))
 
-in_pieces : AreInPieces a_word pieces
-unfolding words closed form_at comment_len comment_line_len raw_len opening_tag tag_after closing_tag with_inside include_at entity_at named_entity
+read_apart : AreReadApart a_word pieces
+unfolding page_items words closed form_at comment_len comment_line_len raw_len opening_tag tag_after closing_tag with_inside include_at entity_at named_entity
     decimal_entity hex_entity entity_names sign_word
-in_pieces =
-    let before = calm_written a_word (codes "a'") before_calm in
-    let behind = calm_written a_word (codes " b") behind_calm in
-    (before.part, inl refl, (call_part, inl refl, (behind.part, inl refl, tt)))
+read_apart = (
+  record { own = inl before_calm; ends = refl; begins = refl; read = refl },
+  (
+    record { own = inr call_part; ends = refl; begins = refl; read = refl },
+    (record { own = inl behind_calm; ends = refl; begins = tt; read = refl }, tt),
+  ),
+)
+
+in_pieces : AreInPieces a_word pieces
+in_pieces = apart_pieces a_word pieces read_apart
 
 no_calls : (os : List OuterCall) → AreMoved [] os → os ≡ []
 no_calls [] m = refl

@@ -123,7 +123,7 @@ letter_unbraced false c k = elim (cases_lt c 128) [
 
 -- ---- where two texts meet
 
-met_by : (p q : List ℕ) (zs : List Item) → AreCut p q → page_items (p ++ q) ≡ page_items p ++ zs
+pub met_by : (p q : List ℕ) (zs : List Item) → AreCut p q → page_items (p ++ q) ≡ page_items p ++ zs
     → cuts Page (after_all (lexer Page) false p) 0 q ≡ cuts Page false 0 q → AreMet (words Page p) (words Page q) (words Page (p ++ q))
 met_by p q zs c e f = words_meet Page p q (part_settles p q zs c e) f
 
