@@ -647,7 +647,7 @@ pub fn comments_along(
 }
 
 /// Of each node of the page, by its number: no.
-fn none_noted(alloc: Global, index: &[Visit<'_, '_>]) -> Result<Vec<bool>, NoMemory> {
+pub fn none_noted(alloc: Global, index: &[Visit<'_, '_>]) -> Result<Vec<bool>, NoMemory> {
     let mut out = Vec::new(alloc);
     for _ in 0..index.len() {
         out.push(false)?;

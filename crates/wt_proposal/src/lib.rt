@@ -4,6 +4,7 @@
 
 mod along;
 mod children;
+mod homeless;
 mod lost;
 mod pairs;
 mod proposing;

@@ -8,6 +8,7 @@ ghost use Rattle.wt_places.specs.Rewritten.{IsRewritten};
 
 use crate::along::{comments_along, marks_left};
 use crate::children::push_gap;
+use crate::homeless::{marks_without_place, push_marks};
 use crate::lost::loses_marks;
 use std::alloc::Global;
 use wt_block_signs::{
@@ -49,12 +50,13 @@ impl Keeping {
     }
 }
 
-/// What a proposal is made by, beside what is known of the page: where texts keep their bytes, and by the number of each
-/// comment whether it comes along with a block beside it.
+/// What a proposal is made by, beside what is known of the page: where texts keep their bytes, by the number of each
+/// comment whether it comes along with a block beside it, and which marks were sent where nothing is written anew.
 #[derive(Clone, Copy)]
 pub struct Plan<'w> {
     pub keeping: Keeping,
     pub along: &'w [Along],
+    pub homeless: &'w [bool],
 }
 
 impl<'w> Plan<'w> {
@@ -126,18 +128,27 @@ fn writing_in(keeps: bool, old: &Node<'_>) -> Writing {
     }
 }
 
-/// Appends the inside of a node of the page, spelled as it was edited; `keeps` says whether texts keep their bytes in it.
+/// How an inside is written: whether texts keep their bytes in it, and which marks of the page stay in it that were sent where
+/// nothing is written anew.
+#[derive(Clone, Copy)]
+struct InsideStyle<'w> {
+    keeps: bool,
+    homeless: &'w [bool],
+}
+
+/// Appends the inside of a node of the page, spelled as it was edited.
 fn push_inside<'t, 'a>(
     alloc: Global,
     out: &mut Vec<Change>,
     known: &Known<'t, 'a>,
-    keeps: bool,
+    style: InsideStyle<'_>,
     new: &'t Node<'a>,
     old: &'t Node<'a>,
 ) -> Result<(), NoMemory> {
     if same_inside(alloc, old, new)? {
         return Ok(());
     }
+    let keeps = style.keeps;
     let start = inside_start(old.ranges);
     let block = block_of(alloc, old)?;
     let mut by = Str::new(alloc);
@@ -160,6 +171,7 @@ fn push_inside<'t, 'a>(
         &edges_of(inside(old)),
     )?;
     by.push_str(source.as_str())?;
+    push_marks(alloc, &mut by, style.homeless, inside(old))?;
     let place = Slot {
         start,
         end: inside_end(old),
@@ -662,7 +674,11 @@ fn push_node<'t, 'a>(
     if gets_line(new, old) {
         push_own_line(alloc, out, known, keeps, new, old)?;
     } else {
-        push_inside(alloc, out, known, keeps, new, old)?;
+        let style = InsideStyle {
+            keeps,
+            homeless: plan.homeless,
+        };
+        push_inside(alloc, out, known, style, new, old)?;
     }
     let children = held(alloc, old)?;
     let signs = signs_of(alloc, known, old)?;
@@ -706,9 +722,11 @@ fn changes_of<'t, 'a>(
     let is_whole = takes_from_elsewhere(index, edited);
     let left = marks_left(alloc, index, tree, edited, along.as_slice(), is_whole)?;
     let known = Known::of(alloc, page, index, tree, is_whole, left)?;
+    let homeless = marks_without_place(alloc, index, edited, along.as_slice())?;
     let plan = Plan {
         keeping,
         along: along.as_slice(),
+        homeless: homeless.as_slice(),
     };
     let body = Numbering {
         number: 0,
