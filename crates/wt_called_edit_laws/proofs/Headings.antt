@@ -6,4 +6,5 @@ pub mod Whole
 pub mod FromPage
 pub mod Letters
 pub mod Pieced
+pub mod TextAndCalls
 mod Cases
