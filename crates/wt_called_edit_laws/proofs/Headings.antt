@@ -7,4 +7,5 @@ pub mod FromPage
 pub mod Letters
 pub mod Pieced
 pub mod TextAndCalls
-mod Cases
+pub mod Cases
+mod PageCases
