@@ -6,4 +6,6 @@ pub mod Whole
 pub mod FromPage
 pub mod Letters
 pub mod Pieced
-mod Cases
+pub mod TextAndCalls
+pub mod Cases
+mod PageCases

@@ -1,6 +1,8 @@
 -- A paragraph or heading of the page, whoever wrote it, that holds calls which give words: by its pieces, and by the lines of text that these give.
-use Rattle.std.specs.Prelude.{◌≡◌, ◌⊎◌, ℕ, ◌+◌, false, None, List, [], ◌∷◌}
+use Rattle.std.specs.Prelude.{◌≡◌, ◌⊎◌, ℕ, ◌+◌, false, None, List, [], ◌∷◌, map}
 use Rattle.std.specs.Str.{IsUtf8}
+use Rattle.wt_span.specs.Bytes.{is_blank}
+use Rattle.wt_span.specs.Items.{sign}
 use Rattle.wt_guards.specs.Content.{Thing}
 use Rattle.wt_inline.specs.declared.loose.Loose.TheVariants.{Text}
 use Rattle.wt_inline.specs.ItemTree.{ItemTree}
@@ -13,7 +15,7 @@ use Rattle.wt_part_laws.specs.Expanded.{part_items, calls_in}
 use Rattle.wt_text_edit_laws.specs.Contents.{content_parts_of}
 use Rattle.wt_text_edit_laws.specs.ReadContents.{IsReadContent}
 use Rattle.wt_text_edit_laws.specs.TextBlocks.{a_paragraph, a_heading}
-use Rattle.wt_text_edit_laws.specs.TypedHeadings.{Sides}
+use Rattle.wt_text_edit_laws.specs.TypedHeadings.{Sides, EndsWithout, is_equals_sign}
 use Rattle.wt_beside_laws.specs.Called.{GivesWords, AllSeenIn}
 use Rattle.wt_beside_laws.specs.FlatBlocks.{IsSealed}
 use Rattle.wt_called_edit_laws.specs.CalledContents.{AreTextItems, AreHeadingItems}
@@ -103,3 +105,25 @@ pub record IsTextAndCalls (pages : Pages) (q : List ℕ) : Type 0 where
   pub begins : (i : ℕ) → BeginsOwn (content_parts_of a_paragraph (part_items pages i q))
   pub ends : (i : ℕ) → EndsOwn (content_parts_of a_paragraph (part_items pages i q))
   pub leaves : (i : ℕ) → children (content_parts_of a_paragraph (part_items pages i q)) ≡ piece_leaves pages i pieces
+
+-- what is last in what a piece gives is no blank and no `=`
+abbrev pub IsSeenPiece : Pages → List ℕ → Type 0
+IsSeenPiece pages b = (i : ℕ) → EndsWithout is_blank (map sign (part_items pages i b)) × EndsWithout is_equals_sign (map sign (part_items pages i b))
+
+-- so it is of each that calls
+abbrev pub AreSeenPieces : Pages → List (List ℕ) → Type 0
+AreSeenPieces pages [] = Unit {0}
+AreSeenPieces pages (b ∷ bs) = (((expanded_page pages b).outer ≡ []) ⊎ IsSeenPiece pages b) × AreSeenPieces pages bs
+
+-- A heading of texts and such calls, one after the other.
+pub record IsHeadingOfCalls (pages : Pages) (s : Sides) (q : List ℕ) : Type 0 where
+  pub pieces : List (List ℕ)
+  pub is : pieces_source pieces ≡ q
+  pub parts : AreInPieces pages pieces
+  pub each : AreTextsOrCalls pages pieces
+  pub seen : AreSeenPieces pages pieces
+  pub read : IsReadContent (a_heading s) q
+  pub line : (i : ℕ) → AreHeadingItems s (part_items pages i q)
+  pub texts : (i : ℕ) → AreOwnOrTexts (content_parts_of (a_heading s) (part_items pages i q))
+  pub shut : (i : ℕ) → AreShutParts (content_parts_of (a_heading s) (part_items pages i q))
+  pub leaves : (i : ℕ) → children (content_parts_of (a_heading s) (part_items pages i q)) ≡ piece_leaves pages i pieces

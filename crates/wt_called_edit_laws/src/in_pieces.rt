@@ -10,7 +10,7 @@ ghost use Rattle.wt_expand.specs.PageCalls.{expanded_page};
 ghost use Rattle.wt_expand.specs.Work.{Pages};
 ghost use Rattle.wt_part_laws.specs.Expanded.{part_items};
 ghost use Rattle.wt_part_laws.specs.HeldCalls.{block_in};
-ghost use Rattle.wt_text_edit_laws.specs.TextBlocks.{a_paragraph, a_heading};
+ghost use Rattle.wt_text_edit_laws.specs.TextBlocks.{a_paragraph, a_heading, source_of};
 ghost use Rattle.wt_text_edit_laws.specs.TypedHeadings.{Sides};
 ghost use Rattle.wt_called_edit_laws.specs.CalledContents.{tree_round};
 ghost use Rattle.wt_called_edit_laws.specs.CalledEdits.{IsBesideCalls};
@@ -22,7 +22,7 @@ ghost use Rattle.wt_beside_laws.specs.Called.{BeginsWithText, EndsWithText};
 ghost use Rattle.wt_beside_laws.specs.Lines.{AreCharacters};
 ghost use Rattle.wt_beside_laws.specs.Stood.{things};
 ghost use Rattle.wt_called_edit_laws.specs.PageThings.{ArePageThings, ThingsStay, thing_sources};
-ghost use Rattle.wt_called_edit_laws.specs.PiecedParagraphs.{IsInPieces, IsHeadingInPieces, IsTextAndCalls};
+ghost use Rattle.wt_called_edit_laws.specs.PiecedParagraphs.{IsInPieces, IsHeadingInPieces, IsTextAndCalls, IsHeadingOfCalls};
 ghost use Rattle.wt_called_edit_laws.specs.PartTexts.{AreSourcesAt};
 ghost use Rattle.wt_called_edit_laws.specs.Settled.{settled};
 ghost use Rattle.wt_called_edit_laws.specs.WholeContents.{HoldsWords};
@@ -84,4 +84,12 @@ pub fn texts_and_calls_are_nodes_of_their_paragraph()
     ensures nodes { (pages : Pages) (q : List ℕ) (block : Tree) (n at i : ℕ) (calls : List OuterCall) → 0 < n
         → block ≡ settled n at (cut_texts (block_in calls (tree_round a_paragraph (part_items pages i q))))
         → AreSourcesAt calls i (expanded_page pages q).outer → IsTextAndCalls pages q → IsBesideCalls pages a_paragraph q block }
+{}
+
+/// And where a heading is texts and such calls (`IsHeadingOfCalls`), so is its node, by the calls of the whole heading.
+pub fn texts_and_calls_are_nodes_of_their_heading()
+    ensures pieces { (pages : Pages) (s : Sides) (q : List ℕ) → IsHeadingOfCalls pages s q → IsHeadingInPieces pages s q }
+    ensures nodes { (pages : Pages) (s : Sides) (q : List ℕ) (block : Tree) (n at i : ℕ) (calls : List OuterCall) → 0 < n
+        → block ≡ settled n at (cut_texts (block_in calls (tree_round (a_heading s) (part_items pages i q))))
+        → AreSourcesAt calls i (expanded_page pages (source_of (a_heading s) q)).outer → IsHeadingOfCalls pages s q → IsBesideCalls pages (a_heading s) q block }
 {}

@@ -66,7 +66,7 @@ use Rattle.wt_called_edit_laws.proofs.Beside.Making.{calls_make}
 use Rattle.wt_called_edit_laws.proofs.Cells.SentAsIs.{stands_as_sent}
 use Rattle.wt_called_edit_laws.proofs.Written.Cases.{call_part, call_read, call_sealed, call_shut, call_utf8}
 
-abbrev two : Sides
+abbrev pub two : Sides
 two = spaced 2
 
 abbrev a_call : OuterCall
@@ -91,7 +91,7 @@ nth (suc n) (more t us) = nth n us
 abbrev group : Tree
 group = nth 1 (children_of block)
 
-abbrev own_call : Thing
+abbrev pub own_call : Thing
 own_call = record call { place = Some (record { start = 4; end = 9 }) }
 
 things_are : page_things block ≡ own_call ∷ []
@@ -109,7 +109,7 @@ unfolding words closed form_at comment_len comment_line_len raw_len opening_tag 
 gives = refl
 
 -- what it gives is no blank and no `=`
-seen : IsSeenIn a_word own_call
+pub seen : IsSeenIn a_word own_call
 unfolding words closed form_at comment_len comment_line_len raw_len opening_tag tag_after closing_tag with_inside is_extension
     include_at entity_at named_entity decimal_entity hex_entity entity_names sign_word reduced rewritten parts_of text_members trimmed
     trimmed_items name_text called most_templates is_function title_of_target title_in_target read_text is_allowed is_forbidden
@@ -118,7 +118,7 @@ unfolding words closed form_at comment_len comment_line_len raw_len opening_tag 
     utf8_valid_len is_utf8 chars encode link_to page_stretches expanded_page
 seen = λ i. (refl, refl)
 
-of_page : ArePageThings a_word (own_call ∷ [])
+pub of_page : ArePageThings a_word (own_call ∷ [])
 of_page = (
   record {
     folder = gives_b;
@@ -153,7 +153,7 @@ own_nodes = (
 
 -- ---- it is read so between its `=`
 
-frame : IsFrame two
+pub frame : IsFrame two
 unfolding page_items words closed form_at comment_len comment_line_len raw_len opening_tag closing_tag include_at entity_at named_entity decimal_entity
     hex_entity entity_names sign_word encode
 frame = record {
@@ -167,7 +167,7 @@ source_utf8 : IsUtf8 source
 unfolding encode
 source_utf8 = (source, (refl, refl))
 
-read : IsReadContent (a_heading two) source
+pub read : IsReadContent (a_heading two) source
 unfolding page_items words closed form_at comment_len comment_line_len raw_len opening_tag tag_after closing_tag with_inside include_at entity_at named_entity
     decimal_entity hex_entity entity_names sign_word
 read = record { utf8 = source_utf8; ended = refl; unended = refl; begins = frame }

@@ -108,7 +108,7 @@ call_node pages calls i b h =
 
 -- ---- the nodes of all pieces
 
-abbrev nodes_from : Pages → List OuterCall → ℕ → ℕ → ℕ → List (List ℕ) → Trees
+abbrev pub nodes_from : Pages → List OuterCall → ℕ → ℕ → ℕ → List (List ℕ) → Trees
 nodes_from pages calls i m a bs = all_settled m a (all_cut_texts (all_in_page calls (piece_leaves pages i bs)))
 
 later : (m n : ℕ) → 0 < m → 0 < m + n
@@ -127,7 +127,7 @@ group_own : (calls : List OuterCall) (i m a : ℕ) (t : ItemTree) (us : Trees) �
     → HaveOwn (all_settled m a (more (call_group calls i t) us))
 group_own calls i m a t us n h = (not_zero m n, h)
 
-nodes_own : (pages : Pages) (calls : List OuterCall) (i m a : ℕ) (bs : List (List ℕ)) → 0 < m → AreTextsOrCalls pages bs → HaveOwn (nodes_from pages calls i m a bs)
+pub nodes_own : (pages : Pages) (calls : List OuterCall) (i m a : ℕ) (bs : List (List ℕ)) → 0 < m → AreTextsOrCalls pages bs → HaveOwn (nodes_from pages calls i m a bs)
 nodes_own pages calls i m a [] n h = tt
 nodes_own pages calls i m a (b ∷ bs) n h =
     let us : Trees = all_cut_texts (all_in_page calls (piece_leaves pages (i + calls_in pages b) bs)) in
@@ -190,7 +190,7 @@ first_source pages calls i b h s =
     let one = words_source pages b h in
     let r = subst (AreSourcesAt calls i) one.is s in r.0 ∙ one.of_source
 
-nodes_show : (pages : Pages) (calls : List OuterCall) (i m a : ℕ) (bs : List (List ℕ)) → AreTextsOrCalls pages bs → AreSourcesAt calls i (calls_of pages bs)
+pub nodes_show : (pages : Pages) (calls : List OuterCall) (i m a : ℕ) (bs : List (List ℕ)) → AreTextsOrCalls pages bs → AreSourcesAt calls i (calls_of pages bs)
     → AreChildrenBeside pages (nodes_from pages calls i m a bs)
 nodes_show pages calls i m a [] h s = tt
 nodes_show pages calls i m a (b ∷ bs) h s =
@@ -211,17 +211,17 @@ nodes_show pages calls i m a (b ∷ bs) h s =
 
 -- ---- as things
 
-record IsCallThing (pages : Pages) (t : Thing) : Type 0 where
-  group : Transclusion
-  role : t.role ≡ Group group
-  call : IsWordsCall pages t.source
+pub record IsCallThing (pages : Pages) (t : Thing) : Type 0 where
+  pub group : Transclusion
+  pub role : t.role ≡ Group group
+  pub call : IsWordsCall pages t.source
 
-abbrev AreCallThings : Pages → List Thing → Type 0
+abbrev pub AreCallThings : Pages → List Thing → Type 0
 AreCallThings pages [] = Unit {0}
 AreCallThings pages (t ∷ ts) = IsCallThing pages t × AreCallThings pages ts
 
 -- some of the pieces are these, in their order, and no other one calls
-abbrev ThingsOf : Pages → List (List ℕ) → List Thing → Type 0
+abbrev pub ThingsOf : Pages → List (List ℕ) → List Thing → Type 0
 ThingsOf pages bs ts = StayButForOthers pages bs (thing_sources ts) × AreCallThings pages ts
 
 stay_past : (pages : Pages) (b : List ℕ) (bs ds : List (List ℕ)) → (expanded_page pages b).outer ≡ [] → StayButForOthers pages bs ds → StayButForOthers pages (b ∷ bs) ds
@@ -259,7 +259,7 @@ group_things pages calls block i m a at from t us b bs n w is f e =
       (record { group = transclusion block k.extent g; role = refl; call = subst (IsWordsCall pages) (sym is) w }, r.1),
     )
 
-nodes_things : (pages : Pages) (calls : List OuterCall) (block : Tree) (i m a at from : ℕ) (bs : List (List ℕ)) → 0 < m → AreTextsOrCalls pages bs
+pub nodes_things : (pages : Pages) (calls : List OuterCall) (block : Tree) (i m a at from : ℕ) (bs : List (List ℕ)) → 0 < m → AreTextsOrCalls pages bs
     → AreSourcesAt calls i (calls_of pages bs) → Every (Finds block) (found_in at from (nodes_from pages calls i m a bs))
     → ThingsOf pages bs (things_with (kept_nodes block) (all_numbers (nodes_from pages calls i m a bs)))
 nodes_things pages calls block i m a at from [] n h s e = (tt, tt)
@@ -317,7 +317,7 @@ meet_later : (pages : Pages) (t : Thing) (ts : List Thing) → IsCallThing pages
 meet_later pages t [] h k = tt
 meet_later pages t (n ∷ ts) h k = (meet_there pages t n h k.0, meet_later pages t ts h k.1)
 
-call_things : (pages : Pages) (ts : List Thing) → AreCallThings pages ts → ArePageThings pages ts
+pub call_things : (pages : Pages) (ts : List Thing) → AreCallThings pages ts → ArePageThings pages ts
 call_things pages [] h = tt
 call_things pages (t ∷ ts) h = (call_thing pages t h.0, meet_later pages t ts h.0 h.1, call_things pages ts h.1)
 
@@ -337,11 +337,11 @@ a_group = record {
   between_equals = false;
 }
 
-record SomeThings (pages : Pages) (bs : List (List ℕ)) : Type 0 where
-  nodes : List Thing
-  are : ThingsOf pages bs nodes
+pub record SomeThings (pages : Pages) (bs : List (List ℕ)) : Type 0 where
+  pub nodes : List Thing
+  pub are : ThingsOf pages bs nodes
 
-some_things : (pages : Pages) (bs : List (List ℕ)) → AreTextsOrCalls pages bs → SomeThings pages bs
+pub some_things : (pages : Pages) (bs : List (List ℕ)) → AreTextsOrCalls pages bs → SomeThings pages bs
 some_things pages [] h = record { nodes = []; are = (tt, tt) }
 some_things pages (b ∷ bs) h =
     let r = some_things pages bs h.1 in
@@ -373,7 +373,7 @@ pieced pages q h =
 
 -- ---- the block
 
-sources_before : (calls : List OuterCall) (k : ℕ) (cs ds : List OuterCall) → AreMoved cs ds → AreSourcesAt calls k ds → AreSourcesAt calls k cs
+pub sources_before : (calls : List OuterCall) (k : ℕ) (cs ds : List OuterCall) → AreMoved cs ds → AreSourcesAt calls k ds → AreSourcesAt calls k cs
 sources_before calls k [] [] m h = tt
 sources_before calls k [] (d ∷ ds) m h = absurd m
 sources_before calls k (c ∷ cs) [] m h = absurd m
@@ -382,10 +382,10 @@ sources_before calls k (c ∷ cs) (d ∷ ds) m h =
     let same : d.source ≡ c.source = ap (λ (x : OuterCall). x.source) o.now ∙ sym (ap (λ (x : OuterCall). x.source) o.was) in
     (h.0 ∙ same, sources_before calls (suc k) cs ds m.1 h.1)
 
-same_nodes : (t : Tree) → children_of t ≡ nodes_in t
+pub same_nodes : (t : Tree) → children_of t ≡ nodes_in t
 same_nodes (tree l ts) = refl
 
-block_finds : (block : Tree) (n : ℕ) → 0 < n → counts_up n (kept_nodes block) ≡ true → is_leaf (label block).kind ≡ false
+pub block_finds : (block : Tree) (n : ℕ) → 0 < n → counts_up n (kept_nodes block) ≡ true → is_leaf (label block).kind ≡ false
     → Every (Finds block) (found_in (0 + length (label block).opening) (0 + length (label block).opening) (children_of block))
 block_finds (tree l ts) n some counts leaf = inside_found (Finds (tree l ts)) 0 0 l ts (held_if l.kind leaf) (all_found (tree l ts) n some counts)
 
