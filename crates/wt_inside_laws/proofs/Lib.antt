@@ -13,6 +13,7 @@ pub mod AnyEdits
 pub mod AnyInsides
 pub mod BodyReplaced
 pub mod Between
+pub mod RetypedPieces
 pub mod InsidesCases
 pub mod PageCases
 pub mod LocalCases
