@@ -1,5 +1,5 @@
 -- The pieces of a retyped content are what the page holds and what is sent for it.
-use Rattle.std.proofs.Common.{arith, ap, ap₂, sym, ◌∙◌, length, ◌≡◌, ◌≢◌, ℕ, zero, suc, Bool, true, false, List, [], ◌∷◌, ◌++◌, refl}
+use Rattle.std.proofs.Common.{arith, ap, ap₂, sym, ◌∙◌, length, ◌≡◌, ◌≢◌, ℕ, zero, suc, Bool, List, [], ◌∷◌, ◌++◌, refl}
 use Rattle.std.proofs.lemmas.List.{append_assoc, append_cancel_right}
 use Rattle.wt_span.specs.Origins.{Expanded}
 use Rattle.wt_slices.specs.Changes.{Pair}
@@ -10,7 +10,7 @@ use Rattle.wt_tree.specs.Tree.{Label, Tree, tree, Trees, none, more, label}
 use Rattle.wt_tree.specs.declared.edit_shape.InlineForm.{InlineForm}
 use Rattle.wt_tree.specs.declared.edit_shape.InlineForm.TheVariants as inline
 use Rattle.wt_tree.specs.EditShapes.{edit_shape}
-use Rattle.wt_typed_blocks.specs.Edited.{Pieces, no_pieces, gone, written, kept, around, page_pieces, sent_pieces, text_node}
+use Rattle.wt_typed_blocks.specs.Edited.{Pieces, no_pieces, gone, kept, around, text_node}
 use Rattle.wt_link_spelling.specs.Spelling.{children_of}
 use Rattle.wt_inside_laws.specs.Contents.{Border, element, bold, italic, end, borders_by, borders_of, borders}
 use Rattle.wt_inside_laws.specs.RetypedPieces.{next_by, up_to_node, piece_by, piece_of, pieces_of, IsReadText, ReadBy, IsRead, AreRead, ArePiecesOf}
@@ -143,8 +143,8 @@ text_by : (l : Label) (xs : List ℕ) (us : Trees) → l.shown ≡ xs → l.kind
 text_by l [] us s k i m e = absurd (e refl)
 text_by l (b ∷ bs) us s k i m e =
     ap (λ (x : Label). more (tree x none) us)
-      (ap₂ (λ q n. record l { kind = q; id = n; shown = b ∷ bs; mark = marks.Nothing }) (sym k) (sym i)
-      ∙ ap₂ (λ s w. record l { shown = s; mark = w }) (sym s) (sym m))
+    (ap₂ (λ q n. record l { kind = q; id = n; shown = b ∷ bs; mark = marks.Nothing }) (sym k) (sym i)
+    ∙ ap₂ (λ s w. record l { shown = s; mark = w }) (sym s) (sym m))
 
 text_is : (l : Label) (ts us : Trees) → IsReadText l ts → text_node l l.shown us ≡ more (tree l ts) us
 text_is l ts us h = text_by l l.shown us refl h.kind h.id h.mark h.some ∙ ap (λ x. more (tree l x) us) (sym h.bare)
@@ -173,13 +173,13 @@ next inline.AsItStood l ws us old after here r g a = g tt
 -- up to the first node, where there is one
 up_to : (x : Border) (xs : List Border) (us old : Trees) (then_so : Tree → Trees → Pieces) → AreRead us → x ∷ xs ≡ borders us
     → ((m : Label) (ws vs : Trees) → IsNode (edit_shape m.kind).inline → IsRead (tree m ws) → AreRead vs
-        → x ∷ xs ≡ borders_of (tree m ws) ++ borders vs → ArePiecesOf old (more (tree m ws) vs) (then_so (tree m ws) vs))
+    → x ∷ xs ≡ borders_of (tree m ws) ++ borders vs → ArePiecesOf old (more (tree m ws) vs) (then_so (tree m ws) vs))
     → ArePiecesOf old us (up_to_node us then_so)
 up_to x xs none old then_so r e h = absurd (none_there x xs e)
 up_to x xs (more (tree m ws) us) old then_so r e h =
     next (edit_shape m.kind).inline m ws us old (up_to_node us then_so) (then_so (tree m ws) us) r.0
-      (λ n. h m ws us n r.0 r.1 e)
-      (λ z. up_to x xs us old then_so r.1 (e ∙ ap (λ bs. bs ++ borders us) z) h)
+    (λ n. h m ws us n r.0 r.1 e)
+    (λ z. up_to x xs us old then_so r.1 (e ∙ ap (λ bs. bs ++ borders us) z) h)
 
 -- and where there is none
 last_next : (f : InlineForm) (l : Label) (ws us : Trees) (after : Pieces) → ReadBy f l ws (AreRead ws) → [] ≡ borders_by f l.id (borders ws) ++ borders us
@@ -235,9 +235,8 @@ kept_one : (l : Label) (ts old us : Trees) (after : Trees → Pieces) → AreRea
     → ArePiecesOf (more (tree l ts) old) us (up_to_node us (λ u vs. kept (tree l ts) u (after vs)))
 kept_one l ts old us after r e h = up_to (element l.id) (borders old) us (more (tree l ts) old) (λ u vs. kept (tree l ts) u (after vs)) r e
     (λ m ws vs n q p z.
-      let a = h vs p (element_next (edit_shape m.kind).inline l.id m.id (borders ws) (borders old) (borders vs) n z) in
-      record { page = ap (more (tree l ts)) a.page; sent = ap (more (tree m ws)) a.sent })
-
+    let a = h vs p (element_next (edit_shape m.kind).inline l.id m.id (borders ws) (borders old) (borders vs) n z) in
+    record { page = ap (more (tree l ts)) a.page; sent = ap (more (tree m ws)) a.sent })
 
 bold_one : (l : Label) (ts old us : Trees) (inside after : Trees → Pieces) → AreRead us
     → bold l.id ∷ ((borders ts ++ (end ∷ [])) ++ borders old) ≡ borders us
@@ -246,16 +245,15 @@ bold_one : (l : Label) (ts old us : Trees) (inside after : Trees → Pieces) →
     → ArePiecesOf (more (tree l ts) old) us (up_to_node us (λ u vs. around l (label u) (inside (children_of u)) (after vs)))
 bold_one l ts old us inside after r e g h =
     up_to (bold l.id) ((borders ts ++ (end ∷ [])) ++ borders old) us (more (tree l ts) old)
-      (λ u vs. around l (label u) (inside (children_of u)) (after vs)) r e
-      (λ m ws vs n q p z.
-        let b = bold_next (edit_shape m.kind).inline l.id m.id ts ws (borders old) (borders vs) n z in
-        let i = g ws (bold_read (edit_shape m.kind).inline l.id m ws ((borders ts ++ (end ∷ [])) ++ borders old) (borders vs) n q z) b.0 in
-        let a = h vs p b.1 in
-        record {
-          page = ap₂ (λ x y. more (tree l x) y) i.page a.page;
-          sent = ap₂ (λ x y. more (tree m x) y) i.sent a.sent;
-        })
-
+    (λ u vs. around l (label u) (inside (children_of u)) (after vs)) r e
+    (λ m ws vs n q p z.
+    let b = bold_next (edit_shape m.kind).inline l.id m.id ts ws (borders old) (borders vs) n z in
+    let i = g ws (bold_read (edit_shape m.kind).inline l.id m ws ((borders ts ++ (end ∷ [])) ++ borders old) (borders vs) n q z) b.0 in
+    let a = h vs p b.1 in
+    record {
+      page = ap₂ (λ x y. more (tree l x) y) i.page a.page;
+      sent = ap₂ (λ x y. more (tree m x) y) i.sent a.sent;
+    })
 
 italic_one : (l : Label) (ts old us : Trees) (inside after : Trees → Pieces) → AreRead us
     → italic l.id ∷ ((borders ts ++ (end ∷ [])) ++ borders old) ≡ borders us
@@ -264,16 +262,15 @@ italic_one : (l : Label) (ts old us : Trees) (inside after : Trees → Pieces) �
     → ArePiecesOf (more (tree l ts) old) us (up_to_node us (λ u vs. around l (label u) (inside (children_of u)) (after vs)))
 italic_one l ts old us inside after r e g h =
     up_to (italic l.id) ((borders ts ++ (end ∷ [])) ++ borders old) us (more (tree l ts) old)
-      (λ u vs. around l (label u) (inside (children_of u)) (after vs)) r e
-      (λ m ws vs n q p z.
-        let b = italic_next (edit_shape m.kind).inline l.id m.id ts ws (borders old) (borders vs) n z in
-        let i = g ws (italic_read (edit_shape m.kind).inline l.id m ws ((borders ts ++ (end ∷ [])) ++ borders old) (borders vs) n q z) b.0 in
-        let a = h vs p b.1 in
-        record {
-          page = ap₂ (λ x y. more (tree l x) y) i.page a.page;
-          sent = ap₂ (λ x y. more (tree m x) y) i.sent a.sent;
-        })
-
+    (λ u vs. around l (label u) (inside (children_of u)) (after vs)) r e
+    (λ m ws vs n q p z.
+    let b = italic_next (edit_shape m.kind).inline l.id m.id ts ws (borders old) (borders vs) n z in
+    let i = g ws (italic_read (edit_shape m.kind).inline l.id m ws ((borders ts ++ (end ∷ [])) ++ borders old) (borders vs) n q z) b.0 in
+    let a = h vs p b.1 in
+    record {
+      page = ap₂ (λ x y. more (tree l x) y) i.page a.page;
+      sent = ap₂ (λ x y. more (tree m x) y) i.sent a.sent;
+    })
 
 one_by : (f : InlineForm) (l : Label) (ts old us : Trees) (inside after : Trees → Pieces) → AreRead us
     → borders_by f l.id (borders ts) ++ borders old ≡ borders us

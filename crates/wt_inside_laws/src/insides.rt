@@ -29,7 +29,7 @@ pub fn only_the_inside_changes()
 
 /// What is sent for a block that was retyped is its content in pieces: its elements, and bold and italic, each
 /// with what is sent in it; its texts go, and those that are sent come.
-#[tactic(auto, using(crate::proofs::RetypedPieces::retyped_pieces))]
+#[tactic(auto)]
 pub fn retyped_blocks_are_pieces()
     ensures { (same : Tree → Tree → Bool) (items : Expanded) (page : List ℕ) (p : Pair)
         → IsRetyped same items page p → AreRead (children_of p.new)
