@@ -14,6 +14,7 @@ pub mod AnyInsides
 pub mod BodyReplaced
 pub mod Between
 pub mod RetypedPieces
+pub mod RetypedStay
 pub mod InsidesCases
 pub mod PageCases
 pub mod LocalCases

@@ -61,13 +61,13 @@ parted ts us xs ys e =
 
 -- ---- borders that are alike
 
-abbrev sort_of : Border → ℕ
+abbrev pub sort_of : Border → ℕ
 sort_of (element n) = 0
 sort_of (bold n) = 1
 sort_of (italic n) = 2
 sort_of end = 3
 
-abbrev head_of : List Border → Border
+abbrev pub head_of : List Border → Border
 head_of [] = end
 head_of (b ∷ bs) = b
 
@@ -75,7 +75,7 @@ abbrev tail_of : List Border → List Border
 tail_of [] = []
 tail_of (b ∷ bs) = bs
 
-unlike : (x y : Border) (xs ys : List Border) → (sort_of x ≡ sort_of y → ⊥) → x ∷ xs ≡ y ∷ ys → ⊥
+pub unlike : (x y : Border) (xs ys : List Border) → (sort_of x ≡ sort_of y → ⊥) → x ∷ xs ≡ y ∷ ys → ⊥
 unlike x y xs ys h e = h (ap (λ bs. sort_of (head_of bs)) e)
 
 after_first : (x y : Border) (xs ys : List Border) → x ∷ xs ≡ y ∷ ys → xs ≡ ys
@@ -85,7 +85,7 @@ none_there : (x : Border) (xs : List Border) → x ∷ xs ≡ [] → ⊥
 none_there x xs e = let n = ap length e in omega (arith, n)
 
 -- a node begins or is a border
-abbrev IsNode : InlineForm → Type 0
+abbrev pub IsNode : InlineForm → Type 0
 IsNode inline.Nothing = ⊥
 IsNode inline.Characters = ⊥
 IsNode inline.Bold = Unit {0}
@@ -98,7 +98,7 @@ IsNode inline.Break = Unit {0}
 IsNode inline.AsItStood = Unit {0}
 
 -- after an element what is sent goes on with an element
-element_next : (f : InlineForm) (n m : ℕ) (bs xs ys : List Border) → IsNode f → element n ∷ xs ≡ borders_by f m bs ++ ys → xs ≡ ys
+pub element_next : (f : InlineForm) (n m : ℕ) (bs xs ys : List Border) → IsNode f → element n ∷ xs ≡ borders_by f m bs ++ ys → xs ≡ ys
 element_next inline.Nothing n m bs xs ys h e = absurd h
 element_next inline.Characters n m bs xs ys h e = absurd h
 element_next inline.Bold n m bs xs ys h e = absurd (unlike (element n) (bold m) xs ((bs ++ (end ∷ [])) ++ ys) (λ d. omega (arith, d)) e)
@@ -110,7 +110,7 @@ element_next inline.Tag n m bs xs ys h e = after_first (element n) (element m) x
 element_next inline.Break n m bs xs ys h e = after_first (element n) (element m) xs ys e
 element_next inline.AsItStood n m bs xs ys h e = after_first (element n) (element m) xs ys e
 
-bold_next : (f : InlineForm) (n m : ℕ) (ts ws : Trees) (xs ys : List Border) → IsNode f
+pub bold_next : (f : InlineForm) (n m : ℕ) (ts ws : Trees) (xs ys : List Border) → IsNode f
     → bold n ∷ ((borders ts ++ (end ∷ [])) ++ xs) ≡ borders_by f m (borders ws) ++ ys → (borders ts ≡ borders ws) × (xs ≡ ys)
 bold_next inline.Nothing n m ts ws xs ys h e = absurd h
 bold_next inline.Characters n m ts ws xs ys h e = absurd h
@@ -123,7 +123,7 @@ bold_next inline.Tag n m ts ws xs ys h e = absurd (unlike (bold n) (element m) (
 bold_next inline.Break n m ts ws xs ys h e = absurd (unlike (bold n) (element m) ((borders ts ++ (end ∷ [])) ++ xs) ys (λ d. omega (arith, d)) e)
 bold_next inline.AsItStood n m ts ws xs ys h e = absurd (unlike (bold n) (element m) ((borders ts ++ (end ∷ [])) ++ xs) ys (λ d. omega (arith, d)) e)
 
-italic_next : (f : InlineForm) (n m : ℕ) (ts ws : Trees) (xs ys : List Border) → IsNode f
+pub italic_next : (f : InlineForm) (n m : ℕ) (ts ws : Trees) (xs ys : List Border) → IsNode f
     → italic n ∷ ((borders ts ++ (end ∷ [])) ++ xs) ≡ borders_by f m (borders ws) ++ ys → (borders ts ≡ borders ws) × (xs ≡ ys)
 italic_next inline.Nothing n m ts ws xs ys h e = absurd h
 italic_next inline.Characters n m ts ws xs ys h e = absurd h

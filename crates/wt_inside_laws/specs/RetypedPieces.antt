@@ -1,5 +1,6 @@
 -- The content of a retyped block in pieces: its elements stay, its texts go, and other texts come.
-use Rattle.std.specs.Prelude.{◌≡◌, ◌≢◌, []}
+use Rattle.std.specs.Prelude.{◌≡◌, ◌≢◌, List, [], ◌∷◌, ◌++◌}
+use Rattle.std.specs.List.{AllByRecursion}
 use Rattle.wt_tree.specs.declared.kind.Kind.TheVariants as kind
 use Rattle.wt_tree.specs.declared.kind.Mark.TheVariants as marks
 use Rattle.wt_tree.specs.Tree.{Label, Tree, tree, Trees, none, more, label}
@@ -7,7 +8,8 @@ use Rattle.wt_tree.specs.declared.edit_shape.InlineForm.{InlineForm}
 use Rattle.wt_tree.specs.declared.edit_shape.InlineForm.TheVariants as inline
 use Rattle.wt_tree.specs.EditShapes.{edit_shape}
 use Rattle.wt_link_spelling.specs.Spelling.{children_of}
-use Rattle.wt_typed_blocks.specs.Edited.{Pieces, no_pieces, gone, written, kept, around, page_pieces, sent_pieces}
+use Rattle.wt_typed_blocks.specs.Sent.{IsSentAsIs, StandsAsIs}
+use Rattle.wt_typed_blocks.specs.Edited.{IsStyle, Pieces, no_pieces, gone, written, kept, around, page_pieces, sent_pieces}
 
 -- ---- the pieces
 
@@ -86,3 +88,47 @@ abbrev mutual
 pub record ArePiecesOf (old new : Trees) (ps : Pieces) : Type 0 where
   pub page : page_pieces ps ≡ old
   pub sent : sent_pieces ps ≡ new
+
+-- ---- what stays
+
+abbrev pub nodes_by : InlineForm → Tree → List Tree → List Tree
+nodes_by inline.Nothing t inside = []
+nodes_by inline.Characters t inside = []
+nodes_by inline.Bold t inside = t ∷ inside
+nodes_by inline.Italic t inside = t ∷ inside
+nodes_by inline.Shown t inside = t ∷ []
+nodes_by inline.PageLink t inside = t ∷ []
+nodes_by inline.ExternalLink t inside = t ∷ []
+nodes_by inline.Tag t inside = t ∷ []
+nodes_by inline.Break t inside = t ∷ []
+nodes_by inline.AsItStood t inside = t ∷ []
+
+-- in order: elements, and bold and italic with those in them
+abbrev mutual
+  pub nodes_of : Tree → List Tree
+  nodes_of (tree l ts) = nodes_by (edit_shape l.kind).inline (tree l ts) (nodes ts)
+
+  pub nodes : Trees → List Tree
+  nodes none = []
+  nodes (more t ts) = nodes_of t ++ nodes ts
+
+-- bold and italic may hold something else
+abbrev pub IsAsItWas : InlineForm → Tree → Tree → Type 0
+IsAsItWas inline.Nothing t u = Unit {0}
+IsAsItWas inline.Characters t u = Unit {0}
+IsAsItWas inline.Bold t u = IsStyle (label t).kind × IsSentAsIs (label t) (label u)
+IsAsItWas inline.Italic t u = IsStyle (label t).kind × IsSentAsIs (label t) (label u)
+IsAsItWas inline.Shown t u = StandsAsIs t u
+IsAsItWas inline.PageLink t u = StandsAsIs t u
+IsAsItWas inline.ExternalLink t u = StandsAsIs t u
+IsAsItWas inline.Tag t u = StandsAsIs t u
+IsAsItWas inline.Break t u = StandsAsIs t u
+IsAsItWas inline.AsItStood t u = StandsAsIs t u
+
+-- the node with this number is sent as it is
+abbrev pub StaysWith : Tree → Tree → Type 0
+StaysWith t u = (label u).id ≡ (label t).id → IsAsItWas (edit_shape (label t).kind).inline t u
+
+-- each node of the content is sent as it is
+abbrev pub NodesStay : Trees → Trees → Type 0
+NodesStay old new = AllByRecursion (λ t. AllByRecursion (λ u. StaysWith t u) (nodes new)) (nodes old)

@@ -4,12 +4,13 @@ ghost use Rattle.std.specs.Prelude.{◌≡◌, ℕ, suc, Bool, List, length};
 ghost use Rattle.wt_span.specs.Origins.{Expanded};
 ghost use Rattle.wt_tree.specs.Source.{flat, flat_of_all};
 ghost use Rattle.wt_tree.specs.Tree.{Tree, Trees};
+ghost use Rattle.wt_typed_blocks.specs.Edited.{PiecesStay};
 ghost use Rattle.wt_link_spelling.specs.Spelling.{children_of};
 ghost use Rattle.wt_slices.specs.Changes.{Pair};
 ghost use Rattle.wt_inside_laws.specs.Contents.{borders, texts};
 ghost use Rattle.wt_inside_laws.specs.Once.{HasOnce};
 ghost use Rattle.wt_inside_laws.specs.Replaced.{Edit, with_inside};
-ghost use Rattle.wt_inside_laws.specs.RetypedPieces.{AreRead, ArePiecesOf, pieces_of};
+ghost use Rattle.wt_inside_laws.specs.RetypedPieces.{pieces_of, AreRead, ArePiecesOf, NodesStay};
 ghost use Rattle.wt_inside_laws.specs.Swaps.{Swap};
 ghost use Rattle.wt_inside_laws.specs.TextEdits.{IsRetyped};
 
@@ -34,4 +35,11 @@ pub fn retyped_blocks_are_pieces()
     ensures { (same : Tree → Tree → Bool) (items : Expanded) (page : List ℕ) (p : Pair)
         → IsRetyped same items page p → AreRead (children_of p.new)
         → ArePiecesOf (children_of p.old) (children_of p.new) (pieces_of (children_of p.old) (children_of p.new)) }
+{}
+
+/// Where the same borders are in what is sent for a content, and each node of it is sent as it is, what stays in
+/// these pieces is sent as it is.
+#[tactic(auto)]
+pub fn retyped_nodes_stay()
+    ensures { (ts us : Trees) → borders us ≡ borders ts → NodesStay ts us → PiecesStay (pieces_of ts us) }
 {}
