@@ -5,10 +5,13 @@ use Rattle.wt_span.specs.Items.{char, whole}
 use Rattle.wt_span.specs.declared.form.ItemForm.TheVariants as form
 use Rattle.wt_span.specs.Origins.{Expanded}
 use Rattle.wt_tree.specs.declared.kind.Kind.TheVariants as kind
-use Rattle.wt_tree.specs.Tree.{Tree}
+use Rattle.wt_tree.specs.Tree.{Tree, label}
 use Rattle.wt_tree.specs.EditShapes.{edit_shape}
 use Rattle.wt_original.specs.Kept.{kept_with}
 use Rattle.wt_slices.specs.Changes.{Pair}
+use Rattle.wt_typed_blocks.specs.Edited.{no_pieces, gone, written, kept, around}
+use Rattle.wt_link_spelling.specs.Spelling.{children_of}
+use Rattle.wt_inside_laws.specs.RetypedPieces.{pieces_of}
 use Rattle.wt_inside_laws.specs.TextEdits.{IsRetyped, holds_unclosed}
 use Rattle.wt_inside_laws.proofs.Sources.{untrue}
 use Rattle.wt_inside_laws.proofs.InsidesCases.{text, leaf, inner, para}
@@ -73,6 +76,15 @@ typed_in_style = record {
   );
   one_line = tt;
 }
+
+-- in pieces
+pub typed_pieces : pieces_of (children_of b_for_c.old) (children_of b_for_c.new)
+    ≡ gone (text (codes "a ")) (written (label (text (codes "a "))) (codes "a ")
+    (around (label (inner kind.Italic 2 (codes "''") (text (codes "b") ∷ []) (codes "''"))) (label (inner kind.Italic 2 [] (text (codes "c") ∷ []) []))
+    (gone (text (codes "b")) (written (label (text (codes "c"))) (codes "c") no_pieces))
+    (gone (text (codes " ")) (written (label (text (codes " "))) (codes " ")
+    (kept (leaf kind.Switch 3 (codes "__TOC__")) (leaf kind.Switch 3 []) no_pieces)))))
+typed_pieces = refl
 
 -- an unclosed comment: the block that goes up to the page's end holds it
 unclosed : holds_unclosed (char None 97 ∷ whole form.Comment None (codes "<!-- b") ∷ []) (codes "a<!-- b")

@@ -13,6 +13,8 @@ pub mod AnyEdits
 pub mod AnyInsides
 pub mod BodyReplaced
 pub mod Between
+pub mod RetypedPieces
+pub mod RetypedStay
 pub mod InsidesCases
 pub mod PageCases
 pub mod LocalCases

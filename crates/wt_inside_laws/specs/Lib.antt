@@ -2,6 +2,7 @@ pub mod TextsReplaced
 pub mod AnyReplaced
 pub mod Contents
 pub mod TextEdits
+pub mod RetypedPieces
 pub mod LocalBlocks
 pub mod Joints
 pub mod Edges
