@@ -5,3 +5,4 @@ pub mod Sent
 pub mod Making
 pub mod Given
 mod Cases
+mod PageCases

@@ -68,7 +68,7 @@ use Rattle.wt_called_edit_laws.proofs.Cells.SentAsIs.{stands_as_sent}
 use Rattle.wt_called_edit_laws.proofs.Written.Cases.{call_part, call_read, call_sealed, call_shut, call_utf8}
 use Rattle.wt_called_edit_laws.proofs.Written.Joined.{calm_written}
 
-abbrev source : List ℕ
+abbrev pub source : List ℕ
 source = codes "x{{t}}y"
 
 -- its items, of which `b` comes from the call
@@ -124,7 +124,7 @@ gives = refl
 
 -- ---- it is in pieces
 
-abbrev pieces : List (List ℕ)
+abbrev pub pieces : List (List ℕ)
 pieces = codes "x" ∷ codes "{{t}}" ∷ codes "y" ∷ []
 
 first_calm : AreUnbraced (page_items (codes "x"))
@@ -137,7 +137,7 @@ unfolding page_items words closed form_at comment_len comment_line_len raw_len o
     decimal_entity hex_entity entity_names sign_word
 last_calm = (refl, tt)
 
-in_pieces : AreInPieces a_word pieces
+pub in_pieces : AreInPieces a_word pieces
 unfolding words closed form_at comment_len comment_line_len raw_len opening_tag tag_after closing_tag with_inside include_at entity_at named_entity
     decimal_entity hex_entity entity_names sign_word
 in_pieces =
@@ -149,13 +149,13 @@ no_calls : (os : List OuterCall) → AreMoved [] os → os ≡ []
 no_calls [] m = refl
 no_calls (o ∷ os) m = absurd m
 
-among : StayButForOthers a_word pieces (codes "{{t}}" ∷ [])
+pub among : StayButForOthers a_word pieces (codes "{{t}}" ∷ [])
 among =
     let first = calm_written a_word (codes "x") first_calm in
     let last = calm_written a_word (codes "y") last_calm in
     inr (no_calls (expanded_page a_word (codes "x")).outer first.calls_are, inl (refl, (no_calls (expanded_page a_word (codes "y")).outer last.calls_are, tt)))
 
-of_page : ArePageThings a_word (call ∷ [])
+pub of_page : ArePageThings a_word (call ∷ [])
 of_page = (record { folder = gives_b; read = call_read; part = call_part; sealed = call_sealed; shut = call_shut; utf8 = call_utf8 }, tt, tt)
 
 group_shows : ShowsAsGiven a_word group
