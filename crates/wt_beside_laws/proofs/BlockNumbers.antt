@@ -34,7 +34,7 @@ mutual
 
 -- ---- one node before those in it
 
-one_counts : (v : Bool) (block : Tree) (n : ℕ) (f : KeptNode) (inside : List Kept) (r : Bool) → 0 < n → (label f.node).id ≡ (if v then n else 0)
+pub one_counts : (v : Bool) (block : Tree) (n : ℕ) (f : KeptNode) (inside : List Kept) (r : Bool) → 0 < n → (label f.node).id ≡ (if v then n else 0)
     → counts_up (if v then n + 1 else n) inside ≡ r → counts_up n (map (kept_of block) (found_if ((if v then n else 0) == 0) f) ++ inside) ≡ r
 one_counts true block n f inside r some i e =
     let off : (n == 0) ≡ false = grind (arith, nat_tests, some) in
@@ -59,7 +59,7 @@ held_counts false block l m at from us ts ks i e none_in f =
     ∙ ap (λ (vs : Trees). counts_up m (map (kept_of block) (found_in at from vs) ++ ks)) e
     ∙ f refl
 
-joined : (block : Tree) (fs gs : List KeptNode) (ks : List Kept) → map (kept_of block) (fs ++ gs) ++ ks ≡ map (kept_of block) fs ++ (map (kept_of block) gs ++ ks)
+pub joined : (block : Tree) (fs gs : List KeptNode) (ks : List Kept) → map (kept_of block) (fs ++ gs) ++ ks ≡ map (kept_of block) fs ++ (map (kept_of block) gs ++ ks)
 joined block fs gs ks =
     ap (λ (ys : List Kept). ys ++ ks) (map-append (kept_of block) fs gs) ∙ append_assoc (map (kept_of block) fs) (map (kept_of block) gs) ks
 
@@ -68,7 +68,7 @@ all_of true false n m e = omega arith
 all_of false false n m e = omega arith
 all_of v true n m e = cc
 
-next_some : (v : Bool) (n : ℕ) → 0 < n → 0 < (if v then n + 1 else n)
+pub next_some : (v : Bool) (n : ℕ) → 0 < n → 0 < (if v then n + 1 else n)
 next_some true n some = omega arith
 next_some false n some = some
 

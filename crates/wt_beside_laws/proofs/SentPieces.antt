@@ -117,7 +117,7 @@ no_style {A} p l ts h = of_style (λ k. IsSentBy (edit_shape k).inline p l ts �
 pub no_style_sent : {A : Type 0} (p : Page) (l m : Label) (us : Trees) → IsStyle l.kind → IsSentAsIs l m → IsSentBy (edit_shape m.kind).inline p m us → A
 no_style_sent p l m us h s e = no_style p m us (subst IsStyle (sym s.kind) h) e
 
-text_sent : (p : Page) (x : Label) (text : List ℕ) (us : Trees) → AreSent p us → AreSent p (text_node x text us)
+pub text_sent : (p : Page) (x : Label) (text : List ℕ) (us : Trees) → AreSent p us → AreSent p (text_node x text us)
 text_sent p x [] us h = h
 text_sent p x (c ∷ cs) us h = (tt, h)
 

@@ -32,7 +32,7 @@ characters_show [] signs rest = refl
 characters_show (c ∷ cs) signs rest =
     ap (text_before (encode_utf8 c)) (characters_show cs signs rest) ∙ twice (encode_utf8 c) (flat_map encode_utf8 cs) (content_shown signs rest)
 
-all_encoded : (cs : List ℕ) → flat_map encode_utf8 cs ≡ encodes cs
+pub all_encoded : (cs : List ℕ) → flat_map encode_utf8 cs ≡ encodes cs
 all_encoded [] = refl
 all_encoded (c ∷ cs) = ap (λ bs. encode_utf8 c ++ bs) (all_encoded cs)
 

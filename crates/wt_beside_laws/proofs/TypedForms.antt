@@ -156,7 +156,7 @@ pub switch_other : (b : ℕ) (gs : List Glyph) → (b == 95) ≡ false → switc
 unfolding switch_at
 switch_other b gs e = rw e refl
 
-one_underscore : (g : Glyph) (gs : List Glyph) → is_in (λ (b : ℕ). b == 95) g ≡ false → switch_at (glyph.Byte 95 ∷ g ∷ gs) ≡ None
+pub one_underscore : (g : Glyph) (gs : List Glyph) → is_in (λ (b : ℕ). b == 95) g ≡ false → switch_at (glyph.Byte 95 ∷ g ∷ gs) ≡ None
 unfolding switch_at
 one_underscore g gs e = rw e refl
 

@@ -87,23 +87,34 @@ line_parts_with s before (thing t ∷ after) (own ∷ owns) =
 
 -- ---- calls that give words
 
--- wherever it is it may begin or end a form, a style or a line
+-- wherever it is it may begin or end a form or a line
 abbrev pub is_form_sign : ℕ → Bool
 is_form_sign b =
-    b == byte.line_break
-    || (b == byte.apostrophe
-    || (b == byte.less_than
-    || (b == byte.ampersand
-    || (b == byte.opening_bracket || (b == byte.opening_brace || (b == byte.closing_brace || (b == byte.underscore || b == byte.colon)))))))
+    b == byte.line_break || (b == byte.less_than || (b == byte.opening_bracket || (b == byte.opening_brace || b == byte.closing_brace)))
 
 abbrev pub is_word_byte : ℕ → Bool
 is_word_byte b = nat_lt b 256 && not (is_form_sign b)
 
+-- beside another one, or before a slash, it may begin a style, a switch or a URL
+abbrev pub is_half_sign : ℕ → Bool
+is_half_sign b = b == byte.apostrophe || (b == byte.underscore || b == byte.colon)
+
+-- what may be behind such a sign: something, that is neither one of them nor a slash
+abbrev pub PartsSigns : List ℕ → Type 0
+PartsSigns [] = ⊥
+PartsSigns (b ∷ bs) = (is_half_sign b || b == byte.slash) ≡ false
+
+abbrev pub BeginsWithSpace : List ℕ → Type 0
+BeginsWithSpace [] = ⊥
+BeginsWithSpace (b ∷ bs) = b ≡ byte.space
+
+-- no sign of a form is among them, each apostrophe, `_` and colon is before another character, and each `&` before a space
 abbrev pub AreWordBytes : List ℕ → Type 0
 AreWordBytes [] = Unit {0}
-AreWordBytes (b ∷ bs) = (is_word_byte b ≡ true) × AreWordBytes bs
+AreWordBytes (b ∷ bs) =
+    (is_word_byte b ≡ true) × (is_half_sign b ≡ true → PartsSigns bs) × ((b == byte.ampersand) ≡ true → BeginsWithSpace bs) × AreWordBytes bs
 
--- where it is first on a line it may begin a block, or a slash a URL with what is before it
+-- where it is first on a line it may begin a block, or a slash a URL with what is before it; and it is no apostrophe, `_` or colon
 abbrev pub is_first_sign : ℕ → Bool
 is_first_sign b =
     is_blank b
@@ -112,7 +123,7 @@ is_first_sign b =
     || (b == byte.vertical_bar
     || (b == byte.slash
     || (b == byte.equals_sign
-    || (b == byte.asterisk || (b == byte.hash || (b == byte.semicolon || (b == byte.hyphen || b == byte.exclamation_mark)))))))))
+    || (b == byte.asterisk || (b == byte.hash || (b == byte.semicolon || (b == byte.hyphen || (b == byte.exclamation_mark || is_half_sign b))))))))))
 
 -- there is a first one, and it is none of these
 abbrev pub BeginsWord : List ℕ → Type 0

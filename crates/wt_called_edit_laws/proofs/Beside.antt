@@ -4,5 +4,5 @@ pub mod Found
 pub mod Sent
 pub mod Making
 pub mod Given
-mod Cases
+pub mod Cases
 mod PageCases

@@ -1,6 +1,6 @@
 -- Whatever contents are chosen for blocks that may hold calls, there is an edit that sends them, and every other node as it is.
 use Rattle.std.proofs.Common.{◌≡◌, ℕ, zero, suc, Option, Some, None, List, [], ◌∷◌, map, sym, ap, ◌∙◌, subst}
-use Rattle.wt_tree.specs.Tree.{Label, Tree, tree, Trees, none, more, label}
+use Rattle.wt_tree.specs.Tree.{Tree, tree, Trees, none, more, label}
 use Rattle.wt_checks.specs.Kept.{children}
 use Rattle.wt_expand.specs.Work.{Pages}
 use Rattle.wt_part_laws.specs.TreeFrames.{TreeFrames}

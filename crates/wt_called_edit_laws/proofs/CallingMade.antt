@@ -3,10 +3,8 @@ use Rattle.std.proofs.Common.{◌≡◌, ◌⊎◌, inl, inr, ℕ, zero, suc, Op
 use Rattle.wt_tree.specs.Plain.{Plains, plain_before}
 use Rattle.wt_tree.specs.Source.{flat}
 use Rattle.wt_tree.specs.Tree.{Label, Tree}
-use Rattle.wt_span.specs.Items.{Item}
 use Rattle.wt_span.specs.Origins.{OuterCall}
 use Rattle.wt_expand.specs.PageCalls.{expanded_page}
-use Rattle.wt_expand.specs.PageItems.{page_items}
 use Rattle.wt_expand.specs.Work.{Pages}
 use Rattle.wt_inline.specs.ItemTree.{ItemTree}
 use Rattle.wt_annotated.specs.CutTexts.{cut_texts}
@@ -32,13 +30,12 @@ use Rattle.wt_text_edit_laws.proofs.Blocks.Contents.{typed_new}
 use Rattle.wt_text_edit_laws.proofs.Blocks.Contents.{block_source as source_is}
 use Rattle.wt_text_edit_laws.proofs.Blocks.OwnContents.{content_own}
 use Rattle.wt_called_edit_laws.specs.CalledContents.{tree_round, StayText}
-use Rattle.wt_called_edit_laws.specs.CalledEdits.{IsBesideCalls, IsCalledEditOf, MakesContentIn}
+use Rattle.wt_called_edit_laws.specs.CalledEdits.{MakesContentIn}
 use Rattle.wt_called_edit_laws.specs.CallingBlocks.{IsNewContentIn, AreEdited}
 use Rattle.wt_called_edit_laws.specs.CallingContents.{FitsIn, IfSent, AreFittingIn}
 use Rattle.wt_called_edit_laws.specs.CallingEdits.{TakesLetters, AllTakeLetters, StaysAt}
-use Rattle.wt_called_edit_laws.specs.EditsAt.{IsStanding, content_of, with_content, with_contents, Fits}
+use Rattle.wt_called_edit_laws.specs.EditsAt.{IsStanding, content_of, with_content, with_contents}
 use Rattle.wt_called_edit_laws.specs.FreeBlocks.{NoTextCalls}
-use Rattle.wt_called_edit_laws.specs.Nodes.{block_at}
 use Rattle.wt_called_edit_laws.specs.Parts.{calls_to, calls_past}
 use Rattle.wt_called_edit_laws.specs.PartTexts.{HaveOwnSources}
 use Rattle.wt_called_edit_laws.specs.Sends.{AllSend, MakesNode}

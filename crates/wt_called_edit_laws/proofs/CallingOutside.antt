@@ -1,12 +1,11 @@
 -- Where no group of the page's tree has the first byte of one of the blocks, which may hold calls, no node round them is in a group.
-use Rattle.std.proofs.Common.{arith, ◌≡◌, ◌<◌, ℕ, suc, Bool, true, false, Option, Some, None, List, [], ◌∷◌, ◌++◌, map, length, refl, sym, ap, ◌∙◌, subst, append-nil}
+use Rattle.std.proofs.Common.{arith, ◌≡◌, ◌<◌, ℕ, suc, true, false, Option, Some, None, List, [], ◌∷◌, ◌++◌, map, length, refl, sym, ap, ◌∙◌, subst, append-nil}
 use Rattle.wt_tree.specs.Tree.{Tree}
 use Rattle.wt_span.specs.Items.{Item, call_of}
 use Rattle.wt_span.specs.Origins.{OuterCall}
 use Rattle.wt_inline.specs.ItemTree.{ItemTree, tree_items}
 use Rattle.wt_expand.specs.Expansion.{page_work}
 use Rattle.wt_expand.specs.PageCalls.{expanded_page}
-use Rattle.wt_expand.specs.PageItems.{page_items}
 use Rattle.wt_expand.specs.Work.{Pages, first_refusal}
 use Rattle.wt_expand.proofs.PiecePlaces.{behind_page}
 use Rattle.wt_page.specs.Body.{meaning}
@@ -25,13 +24,12 @@ use Rattle.wt_text_edit_laws.specs.TextBlocks.{TextBlock, a_paragraph, a_heading
 use Rattle.wt_text_edit_laws.proofs.Blocks.Contents.{block_source as source_is}
 use Rattle.wt_text_edit_laws.proofs.Prose.InFront.{reads_nothing, read_items}
 use Rattle.wt_called_edit_laws.specs.CalledBlocks.{tree_by, counted}
-use Rattle.wt_called_edit_laws.specs.CalledContents.{tree_round}
 use Rattle.wt_called_edit_laws.specs.CallingBlocks.{IsContentIn, AreContentsInFolder, AreEdited, AreCallingBlocks, tree_with_calls, CallingBlocksStand}
 use Rattle.wt_called_edit_laws.specs.CallingEdits.{AllTakeLetters}
 use Rattle.wt_called_edit_laws.specs.CallingGroups.{AreCallingOutside}
 use Rattle.wt_called_edit_laws.specs.Covered.{NoGroupAt, AreInNoGroup}
 use Rattle.wt_called_edit_laws.specs.Groups.{called_tree}
-use Rattle.wt_called_edit_laws.specs.Parts.{calls_to, calls_past}
+use Rattle.wt_called_edit_laws.specs.Parts.{calls_past}
 use Rattle.wt_called_edit_laws.specs.WrittenAnew.{EachHolds}
 use Rattle.wt_called_edit_laws.proofs.CalledUtf8.{called_utf8}
 use Rattle.wt_called_edit_laws.proofs.CallingGaps.{FillsEdited, gaps_by_letters}

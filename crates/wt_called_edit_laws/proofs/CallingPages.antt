@@ -1,10 +1,9 @@
 -- Pages of which blocks that hold calls may be edited: with other contents they are such pages again, and what is not edited is the same.
-use Rattle.std.proofs.Common.{◌≡◌, ◌⊎◌, inl, inr, ℕ, zero, suc, ◌+◌, None, List, [], ◌∷◌, length, refl, sym, ap, ap₂, ◌∙◌, subst}
+use Rattle.std.proofs.Common.{◌≡◌, ℕ, zero, suc, ◌+◌, None, List, [], ◌∷◌, length, refl, sym, ap, ap₂, ◌∙◌}
 use Rattle.wt_span.specs.Origins.{OuterCall}
 use Rattle.wt_expand.specs.PageCalls.{expanded_page}
 use Rattle.wt_expand.specs.Work.{Pages}
 use Rattle.wt_annotated.specs.CutTexts.{cut_texts}
-use Rattle.wt_tree.specs.Tree.{Tree}
 use Rattle.wt_inline.specs.ItemTree.{ItemTree}
 use Rattle.wt_part_laws.specs.Expanded.{part_items, calls_in}
 use Rattle.wt_part_laws.specs.HeldCalls.{block_in}

@@ -1,18 +1,14 @@
 -- What is sent for a page whose blocks hold calls makes the new page, where each content that is sent makes its block.
-use Rattle.std.proofs.Common.{◌≡◌, ℕ, Option, Some, None, List, refl, sym, ap, ◌∙◌}
+use Rattle.std.proofs.Common.{◌≡◌, ℕ, Option, List, refl, sym, ap, ◌∙◌}
 use Rattle.wt_tree.specs.Plain.{ended, plains_before}
-use Rattle.wt_tree.specs.Source.{flat_of_all}
 use Rattle.wt_tree.specs.Tree.{Tree, tree, Trees}
 use Rattle.wt_checks.specs.Kept.{children}
 use Rattle.wt_expand.specs.Work.{Pages}
-use Rattle.wt_part_laws.specs.Placeless.{all_placeless}
 use Rattle.wt_part_laws.proofs.Placeless.{all_shown_placeless}
-use Rattle.wt_typed_blocks.specs.Edited.{Edited, Edits, page_nodes, edits_show}
-use Rattle.wt_typed_blocks.specs.EditedPage.{edited_sources}
+use Rattle.wt_typed_blocks.specs.Edited.{Edited, Edits}
 use Rattle.wt_visible.specs.Children.{shown_children, listed}
-use Rattle.wt_visible.specs.SameNodes.{same_node}
 use Rattle.wt_part_laws.specs.TreeFrames.{all_filled}
-use Rattle.wt_text_edit_laws.specs.BlockSpots.{BlockSpot, spots_source}
+use Rattle.wt_text_edit_laws.specs.BlockSpots.{BlockSpot}
 use Rattle.wt_called_edit_laws.specs.CalledTexts.{spots_tree}
 use Rattle.wt_called_edit_laws.specs.CallingBlocks.{AreEdited}
 use Rattle.wt_called_edit_laws.specs.CallingEdits.{IsCallingPage, IsSentFor, MakesPage}

@@ -1,12 +1,10 @@
 -- Contents are edited in paragraphs and headings that may hold calls: by what is sent the new page has these, and shows what was sent.
 use Rattle.std.proofs.Common.{◌≡◌, ℕ, ◌-◌, None, Option, List, length, map, refl, sym, ap, ◌∙◌, subst}
 use Rattle.std.specs.List.{AllByRecursion}
-use Rattle.wt_tree.specs.declared.kind.Kind.TheVariants as kind
 use Rattle.wt_tree.specs.Tiling.{TiledFrom}
 use Rattle.wt_tree.specs.Tree.{Tree, tree, Trees, label}
 use Rattle.wt_annotated.specs.Reached.{reached_in_all}
 use Rattle.wt_annotated.specs.Slices.{IsSlice}
-use Rattle.wt_checks.specs.Kept.{children}
 use Rattle.wt_expand.specs.Expansion.{page_work}
 use Rattle.wt_expand.specs.PageCalls.{expanded_page}
 use Rattle.wt_expand.specs.Work.{Pages, first_refusal}
@@ -24,7 +22,6 @@ use Rattle.wt_called_edit_laws.specs.CallingContents.{IsContentEditIn, IsUnmarke
 use Rattle.wt_called_edit_laws.specs.CallingEdits.{IsCallingPage, MakesPage}
 use Rattle.wt_called_edit_laws.specs.CallingGroups.{AreCallingOutside, block_with_groups, CallingNodesStay}
 use Rattle.wt_called_edit_laws.specs.EditsAt.{edited_by, with_contents}
-use Rattle.wt_called_edit_laws.specs.Groups.{called_tree}
 use Rattle.wt_called_edit_laws.specs.PathsTo.{paths_to, AreEditedThere}
 use Rattle.wt_called_edit_laws.specs.Sends.{AllSend}
 use Rattle.wt_called_edit_laws.specs.SettledAt.{AllSettled}
@@ -48,7 +45,7 @@ use Rattle.wt_called_edit_laws.proofs.PagesSettled.{called_settled}
 use Rattle.wt_called_edit_laws.proofs.Parts.Retyped.{expanded_again}
 use Rattle.wt_called_edit_laws.proofs.PathsSend.{paths_send}
 use Rattle.wt_called_edit_laws.proofs.SettledAt.{tree_settles}
-use Rattle.wt_called_edit_laws.proofs.SettledEdits.{AreOfBlocks, all_there, edited_there, have_kinds, all_lead}
+use Rattle.wt_called_edit_laws.proofs.SettledEdits.{AreOfBlocks, all_there, edited_there, have_kinds}
 use Rattle.wt_called_edit_laws.proofs.SpotSources.{blocks_have}
 use Rattle.wt_called_edit_laws.proofs.TilesStand.{blocks_stand}
 use Rattle.wt_called_edit_laws.proofs.Written.AllHeld.{all_hold}

@@ -1,5 +1,5 @@
 -- The pages of which contents of blocks that may hold calls are edited: by bytes, and those whose blocks call nothing among them.
-use Rattle.std.proofs.Common.{◌≡◌, inl, inr, ℕ, zero, suc, None, Option, Some, List, [], ◌∷◌, map, subst}
+use Rattle.std.proofs.Common.{◌≡◌, inl, inr, ℕ, zero, suc, None, Option, Some, List, [], ◌∷◌, map}
 use Rattle.wt_tree.specs.Tree.{Tree, tree, Trees, none, more}
 use Rattle.wt_span.specs.Origins.{OuterCall}
 use Rattle.wt_expand.specs.PageCalls.{expanded_page}

@@ -25,7 +25,7 @@ use Rattle.wt_expand.proofs.Given.{stretches_join}
 use Rattle.wt_part_laws.specs.Expanded.{moved_call, part_items}
 use Rattle.wt_text_edit_laws.specs.BlockSpots.{BlockSpot}
 use Rattle.wt_text_edit_laws.specs.TextBlocks.{source_of}
-use Rattle.wt_called_edit_laws.specs.PartTexts.{AreBlockTexts, AreTextsOfPage}
+use Rattle.wt_called_edit_laws.specs.PartTexts.{AreSourcesAt, AreBlockTexts, AreTextsOfPage}
 use Rattle.wt_called_edit_laws.specs.Parts.{AreCalled, calls_to, calls_past, called_outers}
 use Rattle.wt_called_edit_laws.proofs.Parts.Retyped.{is_by_parts}
 
@@ -143,11 +143,6 @@ below_outer k o c [] = below_call k o (whole form.EmptyCall (Some k) c.source) [
 below_outer k o c (x ∷ xs) = below_call k o (from_call k x) (map (from_call k) xs) (called_from k (x ∷ xs))
 
 -- ---- stretch after stretch
-
--- from this number on, the calls of a page have the sources of these
-abbrev pub AreSourcesAt : List OuterCall → ℕ → List OuterCall → Type 0
-AreSourcesAt calls k [] = Unit {0}
-AreSourcesAt calls k (c ∷ cs) = (source_of_call (slice_get calls k) ≡ c.source) × AreSourcesAt calls (suc k) cs
 
 pub joined : (calls : List OuterCall) (o : Option ℕ) (k : ℕ) (ss : List Stretch) → IsBelow k o → OwnPage ss → AreSourcesAt calls k (outer_calls ss)
     → text_from calls o (numbered k ss) ≡ page_bytes ss

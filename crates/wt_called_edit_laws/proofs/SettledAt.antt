@@ -1,6 +1,5 @@
 -- At the paths of the places of a page's nodes are the blocks there, each with a number and at its place: whatever they are.
-use Rattle.std.proofs.Common.{arith, ◌≡◌, ◌<◌, ℕ, ◌+◌, false, List, [], ◌∷◌, ◌++◌, length, sym, ap, ◌∙◌, subst}
-use Rattle.wt_tree.specs.declared.kind.Kind.{Kind}
+use Rattle.std.proofs.Common.{arith, ◌≡◌, ◌<◌, ℕ, ◌+◌, false, List, [], ◌∷◌, ◌++◌, length, ap, ◌∙◌, subst}
 use Rattle.wt_tree.specs.declared.kind.Kind.TheVariants as kind
 use Rattle.wt_tree.specs.Source.{flat}
 use Rattle.wt_tree.specs.Tiling.{is_group}
@@ -12,13 +11,12 @@ use Rattle.wt_part_laws.specs.Frames.{Part, content}
 use Rattle.wt_part_laws.specs.Placeless.{placeless_label, placeless, all_placeless}
 use Rattle.wt_text_edit_laws.specs.BlockSpots.{BlockSpot, spots_source}
 use Rattle.wt_part_laws.specs.TreeFrames.{spot, kept, holder, TreeFrames, no_nodes, more_nodes, all_filled, spots}
-use Rattle.wt_called_edit_laws.specs.CalledBlocks.{counted}
 use Rattle.wt_called_edit_laws.specs.CallingGroups.{AreCallingOutside, block_with_groups, CallingNodesStay}
 use Rattle.wt_called_edit_laws.specs.Groups.{called_tree}
 use Rattle.wt_called_edit_laws.specs.Nodes.{AreHolders}
 use Rattle.wt_called_edit_laws.specs.PathsTo.{past_one, all_past, all_inside, paths_to}
 use Rattle.wt_called_edit_laws.specs.Settled.{settled, all_settled, IsSettled}
-use Rattle.wt_called_edit_laws.specs.SettledAt.{IsSettledAt, SettledTo, SettledAmong, AllSettled, BlocksAtPaths}
+use Rattle.wt_called_edit_laws.specs.SettledAt.{SettledTo, SettledAmong, AllSettled, BlocksAtPaths}
 use Rattle.wt_called_edit_laws.proofs.CallingGroups.{calling_groups, calling_nodes, edited_self}
 use Rattle.wt_called_edit_laws.proofs.Cells.Equal.{same_first, same_rest}
 use Rattle.wt_called_edit_laws.proofs.Cells.Nodes.{same_label, same_inside}

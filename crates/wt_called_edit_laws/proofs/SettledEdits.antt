@@ -1,7 +1,7 @@
 -- At the paths of a page's blocks, which may hold calls: what is edited there is edited in these blocks, and each path leads to one.
-use Rattle.std.proofs.Common.{arith, ◌≡◌, ◌≢◌, ◌<◌, ℕ, zero, suc, Option, Some, None, List, [], ◌∷◌, map, refl, sym, ap, ◌∙◌, subst}
+use Rattle.std.proofs.Common.{arith, ◌≡◌, ◌≢◌, ℕ, zero, suc, Option, List, [], ◌∷◌, map, refl, sym, ap, ◌∙◌, subst}
 use Rattle.wt_tree.specs.declared.kind.Kind.{Kind}
-use Rattle.wt_tree.specs.Tree.{Label, Tree, tree, Trees, none, more, label}
+use Rattle.wt_tree.specs.Tree.{Tree, tree, Trees, none, more, label}
 use Rattle.wt_span.specs.Items.{Item}
 use Rattle.wt_span.specs.Origins.{OuterCall}
 use Rattle.wt_expand.specs.Work.{Pages}
@@ -10,8 +10,8 @@ use Rattle.wt_annotated.specs.Numbering.{number_of}
 use Rattle.wt_checks.specs.Kept.{children}
 use Rattle.wt_part_laws.specs.Expanded.{part_items}
 use Rattle.wt_part_laws.specs.HeldCalls.{block_in}
-use Rattle.wt_typed_blocks.specs.Sent.{Block, kind_of}
-use Rattle.wt_typed_blocks.specs.Edited.{Pieces, Edited, stays, edited, round, Edits, no_edits, more_edits, page_node, page_nodes}
+use Rattle.wt_typed_blocks.specs.Sent.{kind_of}
+use Rattle.wt_typed_blocks.specs.Edited.{Edited, stays, edited, round, Edits, no_edits, more_edits, page_node, page_nodes}
 use Rattle.wt_text_edit_laws.specs.BlockSpots.{BlockSpot}
 use Rattle.wt_text_edit_laws.specs.TextBlocks.{TextBlock, a_paragraph, a_heading, block_of}
 use Rattle.wt_called_edit_laws.specs.AnyBlocks.{LeadsTo, LeadsAmong, AllLead}

@@ -7,3 +7,5 @@ pub mod Pieces
 pub mod Blocks
 pub mod Contents
 pub mod Pieced
+pub mod TextAndCalls
+pub mod Cases

@@ -1,5 +1,5 @@
 -- What is on the page for the items of a block: by its calls, each of which is there once.
-use Rattle.std.specs.Prelude.{◌≡◌, ℕ, zero, suc, None, List, [], ◌∷◌}
+use Rattle.std.specs.Prelude.{◌≡◌, ℕ, zero, suc, None, List, [], ◌∷◌, slice_get}
 use Rattle.wt_tree.specs.Source.{flat}
 use Rattle.wt_tree.specs.Tree.{Tree}
 use Rattle.wt_inline.specs.ItemTree.{ItemTree, tree_items}
@@ -8,11 +8,17 @@ use Rattle.wt_annotated.specs.Seams.{text_from}
 use Rattle.wt_part_laws.specs.HeldCalls.{HoldsItsCalls, block_in}
 use Rattle.wt_expand.specs.PageCalls.{expanded_page}
 use Rattle.wt_expand.specs.Work.{Pages}
+use Rattle.wt_span.specs.Cuts.{source_of_call}
 use Rattle.wt_span.specs.Origins.{OuterCall}
 use Rattle.wt_part_laws.specs.Expanded.{part_items}
 use Rattle.wt_text_edit_laws.specs.BlockSpots.{BlockSpot, spots_source}
 use Rattle.wt_text_edit_laws.specs.TextBlocks.{source_of}
 use Rattle.wt_called_edit_laws.specs.Parts.{calls_to, calls_past}
+
+-- from this number on, the calls of a page have the sources of these
+abbrev pub AreSourcesAt : List OuterCall → ℕ → List OuterCall → Type 0
+AreSourcesAt calls k [] = Unit {0}
+AreSourcesAt calls k (c ∷ cs) = (source_of_call (slice_get calls k) ≡ c.source) × AreSourcesAt calls (suc k) cs
 
 -- it is the block, where so many outermost calls come before
 abbrev pub AreBlockTexts : Pages → List OuterCall → ℕ → List BlockSpot → Type 0

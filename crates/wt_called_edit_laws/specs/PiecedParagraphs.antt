@@ -1,17 +1,25 @@
 -- A paragraph of the page, whoever wrote it, that holds calls which give words: by its pieces, and by the lines of text that these give.
-use Rattle.std.specs.Prelude.{◌≡◌, ℕ, None, List, [], ◌∷◌}
+use Rattle.std.specs.Prelude.{◌≡◌, ◌⊎◌, ℕ, ◌+◌, false, None, List, [], ◌∷◌}
+use Rattle.std.specs.Str.{IsUtf8}
 use Rattle.wt_guards.specs.Content.{Thing}
-use Rattle.wt_inline.specs.Parts.{Part, loose, node}
+use Rattle.wt_inline.specs.declared.loose.Loose.TheVariants.{Text}
+use Rattle.wt_inline.specs.ItemTree.{ItemTree}
+use Rattle.wt_inline.specs.Parts.{Part, loose, node, loose_leaf, children}
+use Rattle.wt_isolation.specs.OpenTags.{ends_open}
+use Rattle.wt_expand.specs.PageCalls.{expanded_page}
 use Rattle.wt_expand.specs.Work.{Pages}
 use Rattle.wt_part_laws.specs.CallTexts.{AreOwnOrTexts}
-use Rattle.wt_part_laws.specs.Expanded.{part_items}
+use Rattle.wt_part_laws.specs.Expanded.{part_items, calls_in}
 use Rattle.wt_text_edit_laws.specs.Contents.{content_parts_of}
 use Rattle.wt_text_edit_laws.specs.ReadContents.{IsReadContent}
 use Rattle.wt_text_edit_laws.specs.TextBlocks.{a_paragraph}
+use Rattle.wt_beside_laws.specs.Called.{GivesWords}
+use Rattle.wt_beside_laws.specs.FlatBlocks.{IsSealed}
 use Rattle.wt_called_edit_laws.specs.CalledContents.{AreTextItems}
 use Rattle.wt_called_edit_laws.specs.InPieces.{pieces_source, AreInPieces}
 use Rattle.wt_called_edit_laws.specs.PageThings.{ArePageThings, thing_sources}
 use Rattle.wt_called_edit_laws.specs.WholeContents.{AreShutParts}
+use Rattle.wt_called_edit_laws.specs.Written.{IsCallSource, BeginsOutward, EndsOutward, IsOwnPart}
 use Rattle.wt_called_edit_laws.specs.WrittenAnew.{StayButForOthers}
 
 -- the first of these is a node, or a character of the page
@@ -43,3 +51,32 @@ pub record IsInPieces (pages : Pages) (q : List ℕ) : Type 0 where
   pub shut : (i : ℕ) → AreShutParts (content_parts_of a_paragraph (part_items pages i q))
   pub begins : (i : ℕ) → BeginsOwn (content_parts_of a_paragraph (part_items pages i q))
   pub ends : (i : ℕ) → EndsOwn (content_parts_of a_paragraph (part_items pages i q))
+
+-- ---- texts and calls alone
+
+-- a call that gives words, stays what it is beside text, is a part of the page by itself, closes no tag behind it and ends in no open one
+pub record IsWordsCall (pages : Pages) (source : List ℕ) : Type 0 where
+  pub words : GivesWords pages source
+  pub call : IsCallSource source
+  pub begins : BeginsOutward source
+  pub ends : EndsOutward source
+  pub part : IsOwnPart pages source
+  pub sealed : IsSealed source
+  pub shut : ends_open source ≡ false
+  pub utf8 : IsUtf8 source
+
+-- each piece is such a call, or calls nothing
+abbrev pub AreTextsOrCalls : Pages → List (List ℕ) → Type 0
+AreTextsOrCalls pages [] = Unit {0}
+AreTextsOrCalls pages (b ∷ bs) = (((expanded_page pages b).outer ≡ []) ⊎ IsWordsCall pages b) × AreTextsOrCalls pages bs
+
+-- one text for each piece, where so many calls come before
+abbrev pub piece_leaves : Pages → ℕ → List (List ℕ) → List ItemTree
+piece_leaves pages i [] = []
+piece_leaves pages i (b ∷ bs) = loose_leaf Text (part_items pages i b) ∷ piece_leaves pages (i + calls_in pages b) bs
+
+-- A paragraph of texts and calls that give words, one after the other.
+pub record IsTextAndCalls (pages : Pages) (q : List ℕ) : Type 0 where
+  pub pieced : IsInPieces pages q
+  pub each : AreTextsOrCalls pages pieced.pieces
+  pub leaves : (i : ℕ) → children (content_parts_of a_paragraph (part_items pages i q)) ≡ piece_leaves pages i pieced.pieces

@@ -1,10 +1,18 @@
 //! Laws of paragraphs of the page that hold calls, cut in pieces: other texts are written beside what stays.
 
-ghost use Rattle.std.specs.Prelude.{◌≡◌, ℕ, false, List};
+ghost use Rattle.std.specs.Prelude.{◌≡◌, ◌<◌, ℕ, false, List};
+ghost use Rattle.wt_tree.specs.Tree.{Tree};
+ghost use Rattle.wt_span.specs.Origins.{OuterCall};
+ghost use Rattle.wt_annotated.specs.CutTexts.{cut_texts};
 ghost use Rattle.wt_guards.specs.Content.{ContentSign, Thing};
 ghost use Rattle.wt_guards.specs.Guards.{Setting, spelled};
+ghost use Rattle.wt_expand.specs.PageCalls.{expanded_page};
 ghost use Rattle.wt_expand.specs.Work.{Pages};
+ghost use Rattle.wt_part_laws.specs.Expanded.{part_items};
+ghost use Rattle.wt_part_laws.specs.HeldCalls.{block_in};
 ghost use Rattle.wt_text_edit_laws.specs.TextBlocks.{a_paragraph};
+ghost use Rattle.wt_called_edit_laws.specs.CalledContents.{tree_round};
+ghost use Rattle.wt_called_edit_laws.specs.CalledEdits.{IsBesideCalls};
 ghost use Rattle.wt_called_edit_laws.specs.CallingBlocks.{IsContentIn, IsNewContentIn};
 ghost use Rattle.wt_called_edit_laws.specs.CallingEdits.{TakesLetters};
 ghost use Rattle.wt_called_edit_laws.specs.EditableBlocks.{HoldsCalls};
@@ -13,7 +21,9 @@ ghost use Rattle.wt_beside_laws.specs.Called.{BeginsWithText, EndsWithText};
 ghost use Rattle.wt_beside_laws.specs.Lines.{AreCharacters};
 ghost use Rattle.wt_beside_laws.specs.Stood.{things};
 ghost use Rattle.wt_called_edit_laws.specs.PageThings.{ArePageThings, ThingsStay, thing_sources};
-ghost use Rattle.wt_called_edit_laws.specs.PiecedParagraphs.{IsInPieces};
+ghost use Rattle.wt_called_edit_laws.specs.PiecedParagraphs.{IsInPieces, IsTextAndCalls};
+ghost use Rattle.wt_called_edit_laws.specs.PartTexts.{AreSourcesAt};
+ghost use Rattle.wt_called_edit_laws.specs.Settled.{settled};
 ghost use Rattle.wt_called_edit_laws.specs.WholeContents.{HoldsWords};
 ghost use Rattle.wt_called_edit_laws.specs.WrittenAnew.{node_sources, StayButForOthers, IsWrittenBeside};
 
@@ -53,4 +63,12 @@ pub fn letters_may_be_typed_before_calls()
 pub fn paragraphs_in_pieces_may_be_edited()
     ensures content { (pages : Pages) (q : List ℕ) → IsInPieces pages q → IsContentIn pages a_paragraph q }
     ensures calls { (pages : Pages) (q : List ℕ) → IsInPieces pages q → HoldsCalls pages a_paragraph q }
+{}
+
+/// Where such a paragraph is texts and calls alone (`IsTextAndCalls`), its node in the page's tree is one of which texts are typed beside the calls
+/// (`IsBesideCalls`), wherever it is and whatever calls come before it: a text for each text, and a group for each call.
+pub fn texts_and_calls_are_nodes_of_their_paragraph()
+    ensures { (pages : Pages) (q : List ℕ) (block : Tree) (n at i : ℕ) (calls : List OuterCall) → 0 < n
+        → block ≡ settled n at (cut_texts (block_in calls (tree_round a_paragraph (part_items pages i q))))
+        → AreSourcesAt calls i (expanded_page pages q).outer → IsTextAndCalls pages q → IsBesideCalls pages a_paragraph q block }
 {}

@@ -93,7 +93,7 @@ pub use calling_pages::{
 pub use in_pieces::{
     letters_may_be_typed_before_calls, paragraphs_in_pieces_may_be_edited,
     paragraphs_in_pieces_may_be_written_anew, paragraphs_of_the_page_take_texts_beside_calls,
-    texts_beside_calls_can_be_read_by_themselves,
+    texts_and_calls_are_nodes_of_their_paragraph, texts_beside_calls_can_be_read_by_themselves,
 };
 pub use placed_blocks::{
     all_blocks_among_calls_may_be_edited, all_blocks_at_their_places_may_be_edited,

@@ -73,3 +73,8 @@ pub mod OneAnswer
 pub mod OnePage
 pub mod Utf8Texts
 pub mod OneHead
+pub mod PlainTemplates
+pub mod MarkedTrees
+pub mod MarkedElements
+pub mod MarkedBodies
+pub mod MarkedText

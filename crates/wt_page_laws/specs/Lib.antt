@@ -33,3 +33,5 @@ pub mod Told
 pub mod Trimming
 pub mod Occurring
 pub mod Pieces
+pub mod PlainTemplates
+pub mod EditMarks

@@ -6,6 +6,7 @@
 mod asked;
 mod calls;
 mod data_mw;
+mod edit_marks;
 mod elements;
 mod faults;
 mod findings;
@@ -26,6 +27,7 @@ mod sections;
 mod styles;
 mod switch;
 mod table;
+mod templates;
 mod texts;
 mod tiles;
 mod trim;
@@ -35,6 +37,7 @@ mod work;
 pub use asked::asked_names_stay;
 pub use calls::the_first_deep_call_is_told;
 pub use data_mw::{only_written_data_mw, only_written_data_parsoid};
+pub use edit_marks::marks_are_read;
 pub use elements::elements_show_the_same;
 pub use faults::counts_tell_faults;
 pub use findings::{
@@ -73,6 +76,7 @@ pub use styles::{
 };
 pub use switch::part_of_switch;
 pub use table::parts_of_tables;
+pub use templates::{first_values_are_given, plain_pages_give_their_text};
 pub use texts::texts_are_utf8_one_by_one;
 pub use tiles::{
     attributes_are_the_first_of_their_names, brackets_balance, keys_are_behind_the_first_pipe,

@@ -14,6 +14,7 @@ ghost use Rattle.wt_program.specs.PlacedCalls.{TakesContentsInLines};
 ghost use Rattle.wt_program.specs.ProseCalls.{TakesChangedProse};
 
 mod laws;
+mod sent_html;
 
 pub use laws::{
     calls_take_changed_prose, calls_take_contents_among_calls,
@@ -22,6 +23,7 @@ pub use laws::{
     contents_at_their_places_are_taken_so, texts_among_calls_are_taken_so,
     texts_in_cells_are_taken_so, texts_on_pages_without_calls_are_taken_so,
 };
+pub use sent_html::{chosen_contents_can_be_sent, edits_can_be_sent, edits_have_their_html};
 use std::alloc::Global;
 use wt_devices::{Folder, Sink, Source};
 pub use wt_pagetool::tell_no_memory;

@@ -1,6 +1,6 @@
 -- A line of a content whose nodes have given items, as the parts of a paragraph or a heading.
 use Rattle.std.proofs.Common.{arith, ◌≡◌, ◌⊎◌, inl, inr, ℕ, suc, ◌+◌, ◌==◌, Bool, true, false, Option, Some, List, [], ◌∷◌, ◌++◌, length, map, refl, sym, ap, ◌∙◌, subst, append-nil, append_assoc}
-use Rattle.std.specs.Prelude.{◌&&◌, if◌then◌else◌}
+use Rattle.std.specs.Prelude.{◌&&◌, ◌||◌, if◌then◌else◌}
 use Rattle.wt_span.specs.Items.{Item, char}
 use Rattle.wt_guards.specs.Content.{ContentSign, Thing, letter, thing, nearest}
 use Rattle.wt_guards.specs.Guards.{Setting, is_guarded}
@@ -15,7 +15,7 @@ use Rattle.wt_tiles.specs.Tiles.{Cut, cuts}
 use Rattle.wt_context.specs.Chunks.{begins_with_quote}
 use Rattle.wt_context.specs.Line.{context_parts, line_parts}
 use Rattle.wt_text_edit_laws.specs.ParagraphParts.{break, after_breaks, joined_parts}
-use Rattle.wt_beside_laws.specs.Called.{line_with, later_with, parts_with, line_parts_with, lines_with, AreWordBytes, BeginsWord, AreWords, IsOwnNode, AreGiven}
+use Rattle.wt_beside_laws.specs.Called.{line_with, later_with, parts_with, line_parts_with, lines_with, is_half_sign, PartsSigns, AreWordBytes, BeginsWord, AreWords, IsOwnNode, AreGiven}
 use Rattle.wt_beside_laws.specs.Content.{guard_items, letter_items}
 use Rattle.wt_beside_laws.specs.Cuts.{add_chars, own_glyphs, own_form, add_node, letter_cut}
 use Rattle.wt_beside_laws.specs.Nodes.{AllMeet}
@@ -25,33 +25,49 @@ use Rattle.wt_beside_laws.proofs.LineSegments.{cut_segments, read_line, IsRead, 
 use Rattle.wt_beside_laws.proofs.LineTiles.{line_cut}
 use Rattle.wt_beside_laws.proofs.Groups.CalledLines.{line_is}
 use Rattle.wt_beside_laws.proofs.Groups.CalledTiles.{words_follow, words_formless, line_cuts_are}
-use Rattle.wt_beside_laws.proofs.Groups.Words.{not_word, call_chars, call_glyphs, shown_glyphs, given_or}
+use Rattle.wt_beside_laws.proofs.Groups.Words.{half_quote, behind_sign, last_sign, not_first, call_chars, call_glyphs, shown_glyphs, given_or}
 
 abbrev Read : Cut → List Item → Bool → List Part → Type 0
 Read c xs next ps = IsRead (cut_segments context_parts in_line c xs) next ps
 
 -- ---- words
 
--- a character that is no apostrophe
-one_read : (o : Option ℕ) (d : ℕ) (c : Cut) (xs : List Item) (next any : Bool) (ps : List Part) → (d == 39) ≡ false → Read c xs next ps
+-- a character that is no apostrophe beside another one
+one_read : (o : Option ℕ) (d : ℕ) (c : Cut) (xs : List Item) (next any : Bool) (ps : List Part)
+    → ((d == 39) ≡ true → begins_with_quote (cut_segments context_parts in_line c xs) ≡ false) → (any ≡ false → (d == 39) ≡ false) → Read c xs next ps
     → Read (suc c.0, c.1) (char o d ∷ xs) any (part Text (char o d) ∷ ps)
-one_read o d c xs next any ps q r =
-    let k = char_read (char o d) c.0 c.1 xs r.apart (ap (λ (t : Bool). t && begins_with_quote (cut_segments context_parts in_line c xs)) q) in
-    record { shows = k.shows ∙ ap (λ qs. part Text (char o d) ∷ qs) r.shows; apart = k.apart; first = λ z. k.first ∙ q }
+one_read o d c xs next any ps q f r =
+    let k = char_read (char o d) c.0 c.1 xs r.apart (and_by (d == 39) (begins_with_quote (cut_segments context_parts in_line c xs)) q) in
+    record { shows = k.shows ∙ ap (λ qs. part Text (char o d) ∷ qs) r.shows; apart = k.apart; first = λ z. k.first ∙ f z }
+  where
+    and_by : (v w : Bool) → (v ≡ true → w ≡ false) → (v && w) ≡ false
+    and_by true w g = g refl
+    and_by false w g = refl
 
-pub words_read : (j b : ℕ) (bs : List ℕ) (c : Cut) (xs : List Item) (next any : Bool) (ps : List Part) → AreWordBytes (b ∷ bs) → Read c xs next ps
+-- the last one
+last_unquoted : (b : ℕ) → (is_half_sign b ≡ true → PartsSigns []) → (b == 39) ≡ false
+last_unquoted b f = by (b == 39) (b == 95 || b == 58) (last_sign b f)
+  where
+    by : (u v : Bool) → (u || v) ≡ false → u ≡ false
+    by true v e = e
+    by false v e = refl
+
+pub words_read : (j b : ℕ) (bs : List ℕ) (c : Cut) (xs : List Item) (next any : Bool) (ps : List Part) → AreWordBytes (b ∷ bs) → (any ≡ false → (b == 39) ≡ false)
+    → Read c xs next ps
     → Read (add_chars (length (byte_glyphs (b ∷ bs))) c) (call_chars j (b ∷ bs) ++ xs) any (parts Text (call_chars j (b ∷ bs)) ++ ps)
-words_read j b [] c xs next any ps h r =
+words_read j b [] c xs next any ps h f r =
     let one : suc c.0 ≡ length (byte_glyphs (b ∷ [])) + c.0 = omega arith in
+    let none : (b == 39) ≡ false = last_unquoted b h.1 in
     subst (λ (m : ℕ). Read (m, c.1) (char (Some j) b ∷ xs) any (part Text (char (Some j) b) ∷ ps)) one
-    (one_read (Some j) b c xs next any ps (not_word 39 b refl h.0) r)
-words_read j b (d ∷ bs) c xs next any ps h r =
+    (one_read (Some j) b c xs next any ps (λ e. let no : true ≡ false = sym e ∙ none in cc) (λ z. none) r)
+words_read j b (d ∷ bs) c xs next any ps h f r =
     let n : ℕ = length (byte_glyphs (d ∷ bs)) in
     let one : suc (n + c.0) ≡ suc n + c.0 = omega arith in
     let more : List Item = call_chars j (d ∷ bs) ++ xs in
     let qs : List Part = parts Text (call_chars j (d ∷ bs)) ++ ps in
+    let later : Read (add_chars n c) more (d == 39) qs = words_read j d bs c xs next (d == 39) ps h.3 (λ z. z) r in
     subst (λ (m : ℕ). Read (m, c.1) (char (Some j) b ∷ more) any (part Text (char (Some j) b) ∷ qs)) one
-    (one_read (Some j) b (add_chars n c) more next any qs (not_word 39 b refl h.0) (words_read j d bs c xs next next ps h.1 r))
+    (one_read (Some j) b (add_chars n c) more (d == 39) any qs (λ e. later.first (behind_sign d bs (h.1 (half_quote b e))).0) f later)
 
 -- on a line by themselves they are what they are anywhere
 pub words_alone : (j : ℕ) (bs : List ℕ) → AreWordBytes bs → BeginsWord bs → line_parts (call_chars j bs) ≡ parts Text (call_chars j bs)
@@ -63,7 +79,7 @@ words_alone j (b ∷ bs) h v =
     let all : cuts in_line false 0 (map glyph_of own) ≡ c =
     ap (cuts in_line false 0) (call_glyphs j (b ∷ bs) ∙ sym (append-nil gs)) ∙ words_follow false (b ∷ bs) [] (0, []) h v refl (λ a i. refl) false (λ z. z) in
     let r : Read c own true (parts Text own ++ []) =
-    subst (λ xs. Read c xs true (parts Text own ++ [])) (append-nil own) (words_read j b bs (0, []) [] true true [] h (none_read true)) in
+    subst (λ xs. Read c xs true (parts Text own ++ [])) (append-nil own) (words_read j b bs (0, []) [] true true [] h (λ z. cc) (none_read true)) in
     read_line c own (cut_segments context_parts in_line c own) all refl r.apart ∙ r.shows ∙ append-nil (parts Text own)
 
 words_given : (t : Thing) (own : List Item) (c : Cut) (xs : List Item) (next any : Bool) (ps : List Part) → AreWords t.source own → Read c xs next ps
@@ -80,7 +96,7 @@ words_given t own c xs next any ps w r =
     words_all : (j : ℕ) (bs : List ℕ) (c : Cut) (xs : List Item) (next any : Bool) (ps : List Part) → AreWordBytes bs → BeginsWord bs → Read c xs next ps
         → Read (add_chars (length (byte_glyphs bs)) c) (call_chars j bs ++ xs) any (parts Text (call_chars j bs) ++ ps)
     words_all j [] c xs next any ps h v r = absurd v
-    words_all j (b ∷ bs) c xs next any ps h v r = words_read j b bs c xs next any ps h r
+    words_all j (b ∷ bs) c xs next any ps h v r = words_read j b bs c xs next any ps h (λ z. not_first 39 b refl v) r
 
 given_read : (t : Thing) (own : List Item) (c : Cut) (xs : List Item) (next any : Bool) (ps : List Part) → IsOwnNode t own ⊎ AreWords t.source own → Read c xs next ps
     → Read (add_node (own_form in_line (own_glyphs t)) (length (own_glyphs t)) c) (own ++ xs) any (line_parts own ++ ps)

@@ -1,12 +1,13 @@
 -- The tiles of a line of texts, words of calls and nodes that stay.
 use Rattle.std.proofs.Common.{◌≡◌, ◌⊎◌, inl, inr, ℕ, ◌==◌, Bool, true, false, not, Option, None, List, [], ◌∷◌, ◌++◌, length, refl, sym, ◌∙◌, subst, append-nil}
 use Rattle.std.specs.Prelude.{◌&&◌, codes, if◌then◌else◌}
+use Rattle.std.proofs.lemmas.Bool.Decides.{Decides-eqb}
 use Rattle.wt_span.specs.Items.{Item}
 use Rattle.wt_guards.specs.declared.role.Role.{Role}
 use Rattle.wt_guards.specs.Content.{ContentSign, Thing, letter, thing}
 use Rattle.wt_guards.specs.Guards.{Setting, is_guarded}
 use Rattle.wt_guards.specs.Letters.{is_bracket, is_escaped}
-use Rattle.wt_typed_blocks.proofs.TextReads.{bracket_escaped, not_bracket, or_parts}
+use Rattle.wt_typed_blocks.proofs.TextReads.{bracket_escaped, not_bracket, equal_or, or_parts}
 use Rattle.wt_tiles.specs.declared.glyph.Glyph.{Glyph}
 use Rattle.wt_tiles.specs.declared.glyph.Glyph.TheVariants as glyph
 use Rattle.wt_tiles.specs.declared.shape.Shape.{Shape}
@@ -16,7 +17,7 @@ use Rattle.wt_tiles.specs.Tags.{tag_at}
 use Rattle.wt_tiles.specs.Tiles.{Cut, form_at, cuts, switch_at}
 use Rattle.wt_tiles.specs.Urls.{is_word}
 use Rattle.wt_beside_laws.specs.Beginnings.{AvoidsSwitches, AllAvoidSwitches}
-use Rattle.wt_beside_laws.specs.Called.{AreWordBytes, BeginsWord, AreWords, IsOwnNode, AreGiven}
+use Rattle.wt_beside_laws.specs.Called.{is_half_sign, PartsSigns, AreWordBytes, BeginsWord, AreWords, IsOwnNode, AreGiven}
 use Rattle.wt_beside_laws.specs.Cuts.{add_chars, own_glyphs, own_form, add_node, letter_cut, ends_word, is_word_last}
 use Rattle.wt_beside_laws.specs.Glyphs.{guard_glyphs, letter_glyphs}
 use Rattle.wt_beside_laws.specs.Nodes.{MayFollow, MeetAt, AllMeet}
@@ -25,24 +26,39 @@ use Rattle.wt_beside_laws.proofs.LineTiles.{tag_less, switch_less, line_glyphs, 
 use Rattle.wt_beside_laws.proofs.NodesBegin.{other_avoids, all_switches}
 use Rattle.wt_beside_laws.proofs.NodesMeet.{atom_may, begins_more, letter_behind, by_fits, letter_may, guard_may, leads_by}
 use Rattle.wt_beside_laws.proofs.NodesStand.{node_stands}
-use Rattle.wt_beside_laws.proofs.TypedForms.{tag_other, switch_other, link_none, external_none, bare_none, all_none, tag_none, switch_none}
+use Rattle.wt_beside_laws.proofs.TypedForms.{one_underscore, tag_other, switch_other, link_none, external_none, bare_none, all_none, tag_none, switch_none}
 use Rattle.wt_beside_laws.proofs.Groups.Schemes.{reaches, no_scheme, FirstNeither, given_neither, words_reach, line_reaches}
-use Rattle.wt_beside_laws.proofs.Groups.Words.{not_word, shown_glyphs, given_or}
+use Rattle.wt_beside_laws.proofs.Groups.Words.{not_word, half_underscore, behind_sign, not_first, shown_glyphs, given_or}
 
 -- ---- words
 
-word_none : (a : Bool) (b : ℕ) (bs : List ℕ) (more : List Glyph) → AreWordBytes (b ∷ bs) → reaches more ≡ false → form_at in_line a (glyph.Byte b ∷ more) ≡ None
+-- a `_`, behind which is no other one
+lone_underscore : (b : ℕ) (bs : List ℕ) (more : List Glyph) → b ≡ 95 → PartsSigns bs → switch_at (glyph.Byte b ∷ (byte_glyphs bs ++ more)) ≡ None
+lone_underscore b [] more i h = absurd h
+lone_underscore b (d ∷ bs) more i h =
+    let P : ℕ → Type 0 = λ k. switch_at (glyph.Byte k ∷ (byte_glyphs (d ∷ bs) ++ more)) ≡ None in
+    subst P (sym i) (one_underscore (glyph.Byte d) (byte_glyphs bs ++ more) (behind_sign d bs h).1)
+
+word_switch : (b : ℕ) (bs : List ℕ) (more : List Glyph) → (is_half_sign b ≡ true → PartsSigns bs) → switch_at (glyph.Byte b ∷ (byte_glyphs bs ++ more)) ≡ None
+word_switch b bs more h = elim (equal_or b 95) [
+  | inl i ↦ lone_underscore b bs more i (h (half_underscore b ((Decides-eqb b 95).1 i)))
+  | inr n ↦ switch_other b (byte_glyphs bs ++ more) n
+]
+
+word_none : (a : Bool) (b : ℕ) (bs : List ℕ) (more : List Glyph) → AreWordBytes (b ∷ bs) → reaches (byte_glyphs bs ++ more) ≡ false
+    → form_at in_line a (glyph.Byte b ∷ (byte_glyphs bs ++ more)) ≡ None
 word_none a b bs more h e =
-    all_none in_line a (glyph.Byte b ∷ more) (link_none b more (not_word 91 b refl h.0)) (external_none b more (not_word 91 b refl h.0))
-    (bare_none a (glyph.Byte b ∷ more) (no_scheme (glyph.Byte b) more e)) (tag_other b more (not_word 60 b refl h.0)) (switch_other b more (not_word 95 b refl h.0))
+    let gs : List Glyph = byte_glyphs bs ++ more in
+    all_none in_line a (glyph.Byte b ∷ gs) (link_none b gs (not_word 91 b refl h.0)) (external_none b gs (not_word 91 b refl h.0))
+    (bare_none a (glyph.Byte b ∷ gs) (no_scheme (glyph.Byte b) gs e)) (tag_other b gs (not_word 60 b refl h.0)) (word_switch b bs more h.1)
 
 words_cuts : (a : Bool) (b : ℕ) (bs : List ℕ) (more : List Glyph) (c : Cut) → AreWordBytes (b ∷ bs) → reaches more ≡ false
     → cuts in_line (ends_word false (byte_glyphs (b ∷ bs))) 0 more ≡ c → cuts in_line a 0 (byte_glyphs (b ∷ bs) ++ more) ≡ add_chars (length (byte_glyphs (b ∷ bs))) c
 words_cuts a b [] more c h e f = one_more in_line a b more 0 c (word_none a b [] more h e) (f ∙ none_more c)
 words_cuts a b (d ∷ bs) more c h e f =
     one_more in_line a b (byte_glyphs (d ∷ bs) ++ more) (length (byte_glyphs (d ∷ bs))) c
-    (word_none a b (d ∷ bs) (byte_glyphs (d ∷ bs) ++ more) h (words_reach (d ∷ bs) more h.1 e))
-    (words_cuts (is_word b) d bs more c h.1 e f)
+    (word_none a b (d ∷ bs) more h (words_reach (d ∷ bs) more h.3 e))
+    (words_cuts (is_word b) d bs more c h.3 e f)
 
 pub words_follow : (word : Bool) (bs : List ℕ) (more : List Glyph) (c : Cut) → AreWordBytes bs → BeginsWord bs → reaches more ≡ false
     → Follows in_line (ends_word false (byte_glyphs bs)) more c → Follows in_line word (byte_glyphs bs ++ more) (add_chars (length (byte_glyphs bs)) c)
@@ -52,8 +68,8 @@ words_follow word (b ∷ bs) more c h v e f = λ a i. words_cuts a b bs more c h
 pub words_formless : (bs : List ℕ) → AreWordBytes bs → BeginsWord bs → own_form in_line (byte_glyphs bs) ≡ None
 words_formless [] h v = absurd v
 words_formless (b ∷ bs) h v =
-    word_none false b bs (byte_glyphs bs) h
-    (subst (λ (gs : List Glyph). reaches gs ≡ false) (append-nil (byte_glyphs bs)) (words_reach bs [] h.1 refl))
+    subst (λ (gs : List Glyph). own_form in_line (glyph.Byte b ∷ gs) ≡ None) (append-nil (byte_glyphs bs))
+    (word_none false b bs [] h (words_reach bs [] h.3 refl))
 
 -- ---- what follows a node
 
@@ -107,7 +123,7 @@ letter_none a s before c after e switches r =
 
 words_switches : (bs : List ℕ) → AreWordBytes bs → BeginsWord bs → AvoidsSwitches (byte_glyphs bs)
 words_switches [] h v = absurd v
-words_switches (b ∷ bs) h v = other_avoids b (byte_glyphs bs) (not_word 95 b refl h.0)
+words_switches (b ∷ bs) h v = other_avoids b (byte_glyphs bs) (not_first 95 b refl v)
 
 given_switches : (t : Thing) (own : List Item) → IsOwnNode t own ⊎ AreWords t.source own → AvoidsSwitches (own_glyphs t)
 given_switches t own h = elim h [

@@ -1,5 +1,5 @@
 -- Worked cases: a paragraph with a call that gives a word, between two letters that are typed.
-use Rattle.std.proofs.Common.{◌≡◌, false, Some, None, List, [], ◌∷◌, refl}
+use Rattle.std.proofs.Common.{◌≡◌, true, false, Some, None, List, [], ◌∷◌, refl}
 use Rattle.std.specs.Prelude.{codes, if◌then◌else◌}
 use Rattle.std.specs.Str.{bytes_eq, is_utf8, chars}
 use Rattle.std.specs.Str.Lossy.{utf8_valid_len}
@@ -28,7 +28,7 @@ use Rattle.wt_expand.specs.Targets.{title_in_target, title_of_target, is_functio
 use Rattle.wt_expand.specs.Templates.{begins_only, ends_only, template_text}
 use Rattle.wt_expand.specs.Work.{Pages}
 use Rattle.wt_expand.specs.Expansion.{text_members, most_templates, absent_text, loop_text, depth_text}
-use Rattle.wt_beside_laws.specs.Called.{items_with, owns_in, GivesWords, IsCalledIn}
+use Rattle.wt_beside_laws.specs.Called.{AreWordBytes, items_with, owns_in, GivesWords, IsCalledIn}
 
 -- `Template:T` is a word, and no other page is there
 abbrev pub a_word : Pages
@@ -41,7 +41,7 @@ unfolding words closed form_at comment_len comment_line_len raw_len opening_tag 
     is_good has_signature is_step begins_with_step holds_step ends_with_step name_of image is_called namespace_named prefix_of
     full_name_of whole_in cut_namespace title_in template_text begins_only ends_only loop_text depth_text absent_text
     utf8_valid_len is_utf8 chars encode link_to page_stretches expanded_page
-gives_b = record { items = λ i. refl; words = (refl, tt); begins = refl; unbraced = refl; shown_unbraced = refl }
+gives_b = record { items = λ i. refl; words = (refl, (λ e. absurd (cc)), (λ e. absurd (cc)), tt); begins = refl; unbraced = refl; shown_unbraced = refl }
 
 -- the group that it is where letters are beside it
 abbrev pub beside_letters : Transclusion
@@ -97,3 +97,19 @@ pub unguarded : items_with in_paragraph [] beside_blanks ((char (Some 0) 98 ∷ 
     ≡ char None 120 ∷ char None 32 ∷ char (Some 0) 98 ∷ char None 32 ∷ char None 121 ∷ []
 unfolding is_guarded is_between_guard is_start_guard is_end_guard is_blank_guard hazard line_start_hazard is_escaped encode
 unguarded = refl
+
+-- apostrophes, colons and `_` may be in words, each before another character, and `&` before a space
+pub an_apostrophe : AreWordBytes (codes "it's")
+an_apostrophe =
+    (refl, (λ e. absurd (cc)), (λ e. absurd (cc)), (refl, (λ e. absurd (cc)), (λ e. absurd (cc)), (refl, (λ e. refl), (λ e. absurd (cc)),
+    (refl, (λ e. absurd (cc)), (λ e. absurd (cc)), tt))))
+
+pub an_ampersand : AreWordBytes (codes "& b")
+an_ampersand = (refl, (λ e. absurd (cc)), (λ e. refl), (refl, (λ e. absurd (cc)), (λ e. absurd (cc)), (refl, (λ e. absurd (cc)), (λ e. absurd (cc)), tt)))
+
+-- but no two side by side, nor a colon before a slash
+two_apostrophes : AreWordBytes (codes "a''b") → ⊥
+two_apostrophes h = let no : true ≡ false = h.3.1 refl in cc
+
+a_scheme : AreWordBytes (codes "p://") → ⊥
+a_scheme h = let no : true ≡ false = h.3.1 refl in cc

@@ -5,10 +5,8 @@ use Rattle.std.specs.List.{flat_map, list_any}
 use Rattle.std.proofs.lemmas.Bool.Decides.{Decides-eqb}
 use Rattle.std.proofs.lemmas.List.Elements.{All-nil, All-cons}
 use Rattle.std.proofs.lemmas.List.Sums.{sum_by-cons}
-use Rattle.wt_tree.specs.declared.kind.Kind.TheVariants as kind
 use Rattle.wt_tree.specs.Plain.{Plain, Plains, ended, element, plains_before}
 use Rattle.wt_tree.specs.Tree.{Trees}
-use Rattle.wt_span.specs.declared.form.ItemForm.TheVariants as form
 use Rattle.wt_span.specs.Items.{Item, char}
 use Rattle.wt_span.specs.Origins.{OuterCall, same_call}
 use Rattle.wt_span.specs.Runs.{IsRun, runs}
@@ -42,7 +40,7 @@ use Rattle.wt_visible.proofs.DifferingLaws.{same_none}
 use Rattle.wt_text_edit_laws.specs.ParagraphBetween.{body_with}
 use Rattle.wt_text_edit_laws.specs.ParagraphParts.{joined_parts, para_with}
 use Rattle.wt_text_edit_laws.proofs.Paragraphs.LineBlocks.{OwnBreaks}
-use Rattle.wt_beside_laws.specs.Called.{is_word_byte, is_first_sign, AreWordBytes, BeginsWord}
+use Rattle.wt_beside_laws.specs.Called.{is_word_byte, is_first_sign, PartsSigns, AreWordBytes, BeginsWord}
 use Rattle.wt_beside_laws.specs.Content.{guard_items}
 use Rattle.wt_beside_laws.specs.Cuts.{add_chars, guard_cut}
 use Rattle.wt_beside_laws.specs.Lines.{IsLineOfText}
@@ -57,16 +55,16 @@ use Rattle.wt_beside_laws.proofs.LineShown.{guard_tree}
 use Rattle.wt_beside_laws.proofs.Groups.CalledLines.{words_open}
 use Rattle.wt_beside_laws.proofs.Groups.CalledParts.{words_read}
 use Rattle.wt_beside_laws.proofs.Groups.CalledTiles.{words_follow}
-use Rattle.wt_beside_laws.proofs.Groups.Words.{not_word, not_first, call_chars, call_glyphs, words_unbroken}
+use Rattle.wt_beside_laws.proofs.Groups.Words.{not_word, half_quote, behind_sign, not_first, call_chars, call_glyphs, words_unbroken}
 
 -- ---- a call that gives words begins no block
 
-no_block_sign : (b : ℕ) → is_word_byte b ≡ true → is_first_sign b ≡ false → is_block_sign b ≡ false
-no_block_sign b e v = rw (not_first 42 b refl v, not_first 35 b refl v, not_word 58 b refl e, not_first 59 b refl v) refl
+no_block_sign : (b : ℕ) → is_first_sign b ≡ false → is_block_sign b ≡ false
+no_block_sign b v = rw (not_first 42 b refl v, not_first 35 b refl v, not_first 58 b refl v, not_first 59 b refl v) refl
 
 word_opens_none : (o : Option ℕ) (b : ℕ) (xs : List Item) → is_word_byte b ≡ true → is_first_sign b ≡ false → opens_block (char o b ∷ xs) ≡ false
 word_opens_none o b xs e v =
-    ap₂ (λ (u w : Bool). u || (w && begins_with_bar xs)) (no_block_sign b e v) (not_word 123 b refl e)
+    ap₂ (λ (u w : Bool). u || (w && begins_with_bar xs)) (no_block_sign b v) (not_word 123 b refl e)
 
 given_opens_none : (o : Option ℕ) (b : ℕ) (xs : List Item) (w : Bool) → is_word_byte b ≡ true → is_first_sign b ≡ false
     → opens_block (if w then char o b ∷ xs else []) ≡ false
@@ -90,83 +88,104 @@ words_anew calls j (b ∷ bs) h v = ap (λ xs. xs ++ call_chars j (b ∷ bs)) (n
 
 -- ---- its toggles
 
-abbrev NoQuotes : List Glyph → Type 0
-NoQuotes [] = Unit {0}
-NoQuotes (g ∷ gs) = (is_quote g ≡ false) × NoQuotes gs
+-- no two apostrophes are side by side, where one is before these or isn't
+abbrev SingleQuotes : Bool → List Glyph → Type 0
+SingleQuotes behind [] = Unit {0}
+SingleQuotes behind (g ∷ gs) = (is_quote g ≡ true → behind ≡ false) × SingleQuotes (is_quote g) gs
 
-abbrev AllZero : List ℕ → Type 0
-AllZero [] = Unit {0}
-AllZero (n ∷ ns) = (n ≡ 0) × AllZero ns
+-- none of these runs switches anything
+abbrev AllStill : (ℕ → Bool) → List ℕ → Type 0
+AllStill p [] = Unit {0}
+AllStill p (n ∷ ns) = (p n ≡ false) × AllStill p ns
 
-quotes_taken : (n : ℕ) (gs : List Glyph) → NoQuotes gs → NoQuotes (take n gs)
-quotes_taken zero gs h = tt
-quotes_taken (suc n) [] h = tt
-quotes_taken (suc n) (g ∷ gs) h = (h.0, quotes_taken n gs h.1)
+quotes_taken : (n : ℕ) (behind : Bool) (gs : List Glyph) → SingleQuotes behind gs → SingleQuotes behind (take n gs)
+quotes_taken zero behind gs h = tt
+quotes_taken (suc n) behind [] h = tt
+quotes_taken (suc n) behind (g ∷ gs) h = (h.0, quotes_taken n (is_quote g) gs h.1)
 
-quotes_dropped : (n : ℕ) (gs : List Glyph) → NoQuotes gs → NoQuotes (drop n gs)
-quotes_dropped zero gs h = h
-quotes_dropped (suc n) [] h = tt
-quotes_dropped (suc n) (g ∷ gs) h = quotes_dropped n gs h.1
+quotes_alone : (behind : Bool) (gs : List Glyph) → SingleQuotes behind gs → SingleQuotes false gs
+quotes_alone behind [] h = tt
+quotes_alone behind (g ∷ gs) h = (λ e. refl, h.1)
 
-zero_runs : (gs : List Glyph) → NoQuotes gs → AllZero (quote_runs 0 gs)
-zero_runs [] h = (refl, tt)
-zero_runs (g ∷ gs) h =
-    subst (λ (v : Bool). AllZero (if v then quote_runs 1 gs else 0 ∷ quote_runs 0 gs)) (sym h.0) (refl, zero_runs gs h.1)
+quotes_dropped : (n : ℕ) (behind : Bool) (gs : List Glyph) → SingleQuotes behind gs → SingleQuotes false (drop n gs)
+quotes_dropped zero behind gs h = quotes_alone behind gs h
+quotes_dropped (suc n) behind [] h = tt
+quotes_dropped (suc n) behind (g ∷ gs) h = quotes_dropped n (is_quote g) gs h.1
 
-zero_tile : (k : TileKind) (gs : List Glyph) → NoQuotes gs → AllZero (tile_runs k gs)
-zero_tile tile.Link gs h = tt
-zero_tile tile.Category gs h = tt
-zero_tile tile.Media gs h = tt
-zero_tile tile.ExtLink gs h = tt
-zero_tile tile.BareUrl gs h = tt
-zero_tile tile.Br gs h = tt
-zero_tile tile.Pair gs h = tt
-zero_tile tile.TagIsland gs h = tt
-zero_tile tile.Switch gs h = tt
-zero_tile tile.Atom gs h = tt
-zero_tile tile.Mark gs h = tt
-zero_tile tile.Chars gs h = zero_runs gs h
+still_run : (p : ℕ → Bool) (behind : Bool) → p 0 ≡ false → p 1 ≡ false → p (if behind then 1 else 0) ≡ false
+still_run p true e f = f
+still_run p false e f = e
 
-zero_both : (ms ns : List ℕ) → AllZero ms → AllZero ns → AllZero (ms ++ ns)
-zero_both [] ns h k = k
-zero_both (m ∷ ms) ns h k = (h.0, zero_both ms ns h.1 k)
+still_runs : (p : ℕ → Bool) (behind : Bool) (gs : List Glyph) → p 0 ≡ false → p 1 ≡ false → SingleQuotes behind gs
+    → AllStill p (quote_runs (if behind then 1 else 0) gs)
+still_runs p behind [] e f h = (still_run p behind e f, tt)
+still_runs p behind (g ∷ gs) e f h = by (is_quote g) behind h.0 (still_runs p (is_quote g) gs e f h.1)
+  where
+    by : (v w : Bool) → (v ≡ true → w ≡ false) → AllStill p (quote_runs (if v then 1 else 0) gs)
+        → AllStill p (if v then quote_runs (suc (if w then 1 else 0)) gs else (if w then 1 else 0) ∷ quote_runs 0 gs)
+    by true true k r = let no : true ≡ false = k refl in absurd (cc)
+    by true false k r = r
+    by false w k r = (still_run p w e f, r)
 
-zero_all : (ws : List Shape) (gs : List Glyph) → NoQuotes gs → AllZero (runs_of ws gs)
-zero_all [] gs h = tt
-zero_all (w ∷ ws) gs h =
-    zero_both (tile_runs w.kind (take (size w) gs)) (runs_of ws (drop (size w) gs)) (zero_tile w.kind (take (size w) gs) (quotes_taken (size w) gs h))
-    (zero_all ws (drop (size w) gs) (quotes_dropped (size w) gs h))
+still_tile : (p : ℕ → Bool) (k : TileKind) (gs : List Glyph) → p 0 ≡ false → p 1 ≡ false → SingleQuotes false gs → AllStill p (tile_runs k gs)
+still_tile p tile.Link gs e f h = tt
+still_tile p tile.Category gs e f h = tt
+still_tile p tile.Media gs e f h = tt
+still_tile p tile.ExtLink gs e f h = tt
+still_tile p tile.BareUrl gs e f h = tt
+still_tile p tile.Br gs e f h = tt
+still_tile p tile.Pair gs e f h = tt
+still_tile p tile.TagIsland gs e f h = tt
+still_tile p tile.Switch gs e f h = tt
+still_tile p tile.Atom gs e f h = tt
+still_tile p tile.Mark gs e f h = tt
+still_tile p tile.Chars gs e f h = still_runs p false gs e f h
 
-none_counted : (p : ℕ → Bool) (ns : List ℕ) → p 0 ≡ false → AllZero ns → count_by p ns ≡ 0
-none_counted p [] e h = refl
-none_counted p (n ∷ ns) e h =
+still_both : (p : ℕ → Bool) (ms ns : List ℕ) → AllStill p ms → AllStill p ns → AllStill p (ms ++ ns)
+still_both p [] ns h k = k
+still_both p (m ∷ ms) ns h k = (h.0, still_both p ms ns h.1 k)
+
+still_all : (p : ℕ → Bool) (ws : List Shape) (gs : List Glyph) → p 0 ≡ false → p 1 ≡ false → SingleQuotes false gs → AllStill p (runs_of ws gs)
+still_all p [] gs e f h = tt
+still_all p (w ∷ ws) gs e f h =
+    still_both p (tile_runs w.kind (take (size w) gs)) (runs_of ws (drop (size w) gs))
+    (still_tile p w.kind (take (size w) gs) e f (quotes_taken (size w) false gs h))
+    (still_all p ws (drop (size w) gs) e f (quotes_dropped (size w) false gs h))
+
+none_counted : (p : ℕ → Bool) (ns : List ℕ) → AllStill p ns → count_by p ns ≡ 0
+none_counted p [] h = refl
+none_counted p (n ∷ ns) h =
     sum_by-cons (λ m. if p m then 1 else 0) n ns
-    ∙ ap (λ (m : ℕ). (if p m then 1 else 0) + count_by p ns) h.0
-    ∙ ap (λ (v : Bool). (if v then 1 else 0) + count_by p ns) e
-    ∙ none_left (count_by p ns) (none_counted p ns e h.1)
+    ∙ ap (λ (v : Bool). (if v then 1 else 0) + count_by p ns) h.0
+    ∙ none_left (count_by p ns) (none_counted p ns h.1)
   where
     none_left : (m : ℕ) → m ≡ 0 → 0 + m ≡ 0
     none_left m i = omega (arith, i)
 
-even_zero : (p : ℕ → Bool) (ns : List ℕ) → p 0 ≡ false → AllZero ns → is_odd p ns ≡ false
-even_zero p ns e h = ap (λ (n : ℕ). n % 2 == 1) (none_counted p ns e h)
+even_still : (p : ℕ → Bool) (ns : List ℕ) → AllStill p ns → is_odd p ns ≡ false
+even_still p ns h = ap (λ (n : ℕ). n % 2 == 1) (none_counted p ns h)
 
-even_line : (gs : List Glyph) → NoQuotes gs → is_odd_line gs ≡ false
+even_line : (gs : List Glyph) → SingleQuotes false gs → is_odd_line gs ≡ false
 even_line gs h =
-    let ns : List ℕ = runs_of (shapes in_line gs) gs in
-    let zero : AllZero ns = zero_all (shapes in_line gs) gs h in
-    ap₂ (λ (u v : Bool). u || v) (even_zero switches_italic ns refl zero) (even_zero switches_bold ns refl zero)
+    let ws : List Shape = shapes in_line gs in
+    ap₂ (λ (u v : Bool). u || v) (even_still switches_italic (runs_of ws gs) (still_all switches_italic ws gs refl refl h))
+    (even_still switches_bold (runs_of ws gs) (still_all switches_bold ws gs refl refl h))
 
 -- one line
 words_line : (bs : List ℕ) → AreWordBytes bs → glyph_lines (byte_glyphs bs) ≡ byte_glyphs bs ∷ []
 words_line [] h = refl
 words_line (b ∷ bs) h =
     ap (λ (v : Bool). if v then [] ∷ glyph_lines (byte_glyphs bs) else onto (glyph.Byte b) (glyph_lines (byte_glyphs bs))) (not_word 10 b refl h.0)
-    ∙ ap (onto (glyph.Byte b)) (words_line bs h.1)
+    ∙ ap (onto (glyph.Byte b)) (words_line bs h.3)
 
-words_quotes : (bs : List ℕ) → AreWordBytes bs → NoQuotes (byte_glyphs bs)
-words_quotes [] h = tt
-words_quotes (b ∷ bs) h = (not_word 39 b refl h.0, words_quotes bs h.1)
+words_quotes : (behind : Bool) (bs : List ℕ) → (behind ≡ true → PartsSigns bs) → AreWordBytes bs → SingleQuotes behind (byte_glyphs bs)
+words_quotes behind [] f h = tt
+words_quotes behind (b ∷ bs) f h =
+    (λ e. by behind (λ i. sym e ∙ (behind_sign b bs (f i)).0), words_quotes (b == 39) bs (λ e. h.1 (half_quote b e)) h.3)
+  where
+    by : (v : Bool) → (v ≡ true → true ≡ false) → v ≡ false
+    by true g = g refl
+    by false g = refl
 
 alone_glyphs : (j : ℕ) (bs : List ℕ) → map glyph_of (empty_nowiki ∷ call_chars j bs) ≡ glyph.Atom ∷ byte_glyphs bs
 unfolding empty_nowiki
@@ -177,7 +196,7 @@ words_even j bs h =
     let gs : List Glyph = glyph.Atom ∷ byte_glyphs bs in
     ap (λ hs. list_any is_odd_line (glyph_lines hs)) (alone_glyphs j bs)
     ∙ ap (λ (ls : List (List Glyph)). list_any is_odd_line (onto glyph.Atom ls)) (words_line bs h)
-    ∙ ap (λ (v : Bool). v || false) (even_line gs (refl, words_quotes bs h))
+    ∙ ap (λ (v : Bool). v || false) (even_line gs (λ e. refl, words_quotes false bs (λ e. cc) h))
 
 -- ---- its texts
 
@@ -188,7 +207,7 @@ shown_words j (b ∷ bs) = ap (λ cs. b ∷ cs) (shown_words j bs)
 words_closed : (bs : List ℕ) → AreWordBytes bs → holds_open bs ≡ false
 words_closed [] h = refl
 words_closed (b ∷ bs) h =
-    ap₂ (λ (u v : Bool). (u || (v && (begins_bracket bs || nat_lt 0 (scheme_len (byte_glyphs bs))))) || holds_open bs) (not_word 60 b refl h.0) (not_word 91 b refl h.0) ∙ words_closed bs h.1
+    ap₂ (λ (u v : Bool). (u || (v && (begins_bracket bs || nat_lt 0 (scheme_len (byte_glyphs bs))))) || holds_open bs) (not_word 60 b refl h.0) (not_word 91 b refl h.0) ∙ words_closed bs h.3
 
 leaf_closed : (j : ℕ) (bs : List ℕ) → AreWordBytes bs → has_open_text [] (all_unplaced (further (loose_leaf Text (call_chars j bs)) nothing)) ≡ false
 unfolding label_at
@@ -211,7 +230,7 @@ alone_line j b bs h v =
     let all : cuts in_line false 0 (map glyph_of (guard_items true ++ own)) ≡ guard_cut true c =
     ap (λ hs. cuts in_line false 0 (glyph.Atom ∷ hs)) (call_glyphs j (b ∷ bs)) ∙ guard_follows in_line false true gs c f false (λ z. z) in
     let r : IsRead (cut_segments context_parts in_line c own) true (parts Text own ++ []) =
-    subst (λ xs. IsRead (cut_segments context_parts in_line c xs) true (parts Text own ++ [])) (append-nil own) (words_read j b bs (0, []) [] true true [] h (none_read true)) in
+    subst (λ xs. IsRead (cut_segments context_parts in_line c xs) true (parts Text own ++ [])) (append-nil own) (words_read j b bs (0, []) [] true true [] h (λ z. cc) (none_read true)) in
     let k = guard_read true c own true (parts Text own ++ []) r in
     read_line (guard_cut true c) (guard_items true ++ own) (cut_segments context_parts in_line (guard_cut true c) (guard_items true ++ own)) all refl k.apart
     ∙ k.shows

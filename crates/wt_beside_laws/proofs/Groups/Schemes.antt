@@ -15,12 +15,12 @@ use Rattle.wt_tiles.specs.declared.glyph.Glyph.{Glyph}
 use Rattle.wt_tiles.specs.declared.glyph.Glyph.TheVariants as glyph
 use Rattle.wt_tiles.specs.Glyphs.{is_in, byte_glyphs, like_byte, begins_like}
 use Rattle.wt_tiles.specs.Urls.{scheme_len}
-use Rattle.wt_beside_laws.specs.Called.{AreWordBytes, BeginsWord, AreWords, IsOwnNode, AreGiven}
+use Rattle.wt_beside_laws.specs.Called.{PartsSigns, AreWordBytes, BeginsWord, AreWords, IsOwnNode, AreGiven}
 use Rattle.wt_beside_laws.specs.Cuts.{own_glyphs}
 use Rattle.wt_beside_laws.specs.Glyphs.{guard_glyphs, letter_glyphs, is_url_start, AvoidsUrls}
 use Rattle.wt_beside_laws.proofs.LineTiles.{line_glyphs}
 use Rattle.wt_beside_laws.proofs.NodesBegin.{all_urls}
-use Rattle.wt_beside_laws.proofs.Groups.Words.{word_colon, word_slash, shown_glyphs, given_or}
+use Rattle.wt_beside_laws.proofs.Groups.Words.{lower_colon, half_colon, behind_sign, first_colon, no_slash, word_slash, shown_glyphs, given_or}
 
 -- ---- `://` behind letters of a scheme
 
@@ -129,7 +129,7 @@ avoids_neither (g ∷ gs) h = past_neither g h
 
 words_neither : (bs : List ℕ) → AreWordBytes bs → BeginsWord bs → FirstNeither (byte_glyphs bs)
 words_neither [] h b = absurd b
-words_neither (b ∷ bs) h v = (word_colon b h.0, word_slash b v)
+words_neither (b ∷ bs) h v = (first_colon b v, word_slash b v)
 
 pub node_avoids : (t : Thing) (own : List Item) → IsOwnNode t own → AvoidsUrls (own_glyphs t)
 node_avoids t own n = (all_urls (thing t ∷ []) (n.node, tt)).0
@@ -236,12 +236,16 @@ reach_by : (v m r b : Bool) → (v ≡ true → b ≡ false) → r ≡ false →
 reach_by true m r b f e = f refl
 reach_by false m r b f e = and_none m r e
 
+no_slashes : (bs : List ℕ) (more : List Glyph) → PartsSigns bs → begins_like (codes "//") (byte_glyphs bs ++ more) ≡ false
+no_slashes [] more h = absurd h
+no_slashes (b ∷ bs) more h = ap (λ (v : Bool). v && begins_like (codes "/") (byte_glyphs bs ++ more)) (no_slash b (behind_sign b bs h).2)
+
 pub words_reach : (bs : List ℕ) (more : List Glyph) → AreWordBytes bs → reaches more ≡ false → reaches (byte_glyphs bs ++ more) ≡ false
 words_reach [] more h e = e
 words_reach (b ∷ bs) more h e =
     let gs : List Glyph = byte_glyphs bs ++ more in
     reach_by (to_ascii_lowercase b == 58) (is_more (glyph.Byte b)) (reaches gs) (begins_like (codes "//") gs)
-    (λ i. let no : true ≡ false = sym i ∙ word_colon b h.0 in cc) (words_reach bs more h.1 e)
+    (λ i. no_slashes bs more (h.1 (half_colon b (lower_colon b i)))) (words_reach bs more h.3 e)
 
 node_reaches : (own more : List Glyph) → AvoidsUrls own → reaches (own ++ more) ≡ false
 node_reaches [] more h = absurd h

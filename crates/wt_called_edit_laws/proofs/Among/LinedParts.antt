@@ -47,6 +47,7 @@ use Rattle.wt_called_edit_laws.specs.LinedAmong.{spots_on, end_on, AreOfPage, Ar
 use Rattle.wt_called_edit_laws.specs.Parts.{calls_to, calls_past, called_items, called_outers, IsByParts}
 use Rattle.wt_called_edit_laws.specs.PlacedAmong.{AreCalm, StandAfter, IsPlacedAmong}
 use Rattle.wt_called_edit_laws.specs.PlacedLines.{LinedBlock, all_lines, IsLinedAt, AreLinedAfter}
+use Rattle.wt_called_edit_laws.specs.PartTexts.{AreSourcesAt}
 use Rattle.wt_called_edit_laws.proofs.Among.BlockAt.{calls_of, IsRest, IsBlockHere, text_to, block_to, block_here}
 use Rattle.wt_called_edit_laws.proofs.Among.OwnItems.{whole_rest}
 use Rattle.wt_called_edit_laws.proofs.Among.OwnSeams.{Rest, FirstLonger, FirstShorter, two_cuts, first_or, others, text_size, end_behind}
@@ -56,7 +57,7 @@ use Rattle.wt_called_edit_laws.proofs.Cells.PlacedAmong.{PartsRead, parts_read, 
 use Rattle.wt_called_edit_laws.proofs.Parts.NoCallsCalled.{calm_items, calm_count}
 use Rattle.wt_called_edit_laws.proofs.Parts.PartByPart.{items_of}
 use Rattle.wt_called_edit_laws.proofs.Parts.Retyped.{is_by_parts}
-use Rattle.wt_called_edit_laws.proofs.PartTexts.{AreSourcesAt, part_text, sources_first, sources_past, sources_moved}
+use Rattle.wt_called_edit_laws.proofs.PartTexts.{part_text, sources_first, sources_past, sources_moved}
 
 -- ---- a line break of the page's own
 

@@ -1,7 +1,6 @@
 -- What the members of a page give, and how many bytes of the page that is.
 use Rattle.std.proofs.Common.{arith, ◌≡◌, ℕ, suc, ◌+◌, ◌-◌, ◌≤◌, Bool, false, Option, List, [], ◌∷◌, ◌++◌, length, take, drop, refl, sym, ap, ◌∙◌, subst, append_assoc, append-nil, length-append, length-take, length-drop}
 use Rattle.std.specs.Prelude.{slice_index}
-use Rattle.wt_span.specs.declared.form.Mode.TheVariants as mode
 use Rattle.wt_span.specs.declared.form.LexKind.TheVariants.{Closes}
 use Rattle.wt_span.specs.Bytes.{is_break}
 use Rattle.wt_span.specs.Items.{Item, source, sources}
@@ -19,8 +18,9 @@ use Rattle.wt_expand.specs.Work.{Pages}
 use Rattle.wt_expand.specs.Expansion.{Output, chars, PartOutput, part_outputs, target_part, Reading, front_braces, back_braces, called_output, outputs_of, page_reading}
 use Rattle.wt_expand.specs.PageCalls.{Stretch, own, outer, text_call, call_stretches, stretches_of, all_stretches, outer_items, numbered, outer_calls}
 use Rattle.wt_expand.proofs.PageLaws.{form_sources, char_sources}
+use Rattle.wt_called_edit_laws.specs.PartTexts.{AreSourcesAt}
 use Rattle.wt_called_edit_laws.proofs.Among.Flattened.{flat, flat_all, width_append}
-use Rattle.wt_called_edit_laws.proofs.PartTexts.{OwnPage, own_one, IsBelow, below_own, below_outer, AreSourcesAt, joined}
+use Rattle.wt_called_edit_laws.proofs.PartTexts.{OwnPage, own_one, IsBelow, below_own, below_outer, joined}
 
 -- ---- their bytes
 

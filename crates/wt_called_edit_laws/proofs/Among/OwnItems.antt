@@ -14,17 +14,18 @@ use Rattle.wt_expand.specs.PageItems.{items_of_word, items_of_words, page_items}
 use Rattle.wt_expand.specs.Targets.{Called, argument, choice, function, page, text, called}
 use Rattle.wt_expand.specs.Work.{Pages}
 use Rattle.wt_expand.specs.Expansion.{Output, chars, PartOutput, part_outputs, target_part, Reading, front_braces, called_output, outputs_of, text_members, page_reading}
-use Rattle.wt_expand.specs.PageCalls.{Stretch, own, outer, outer_at, call_stretches, all_stretches, outer_items, numbered, outer_calls, text_spans, page_stretches, expanded_page}
+use Rattle.wt_expand.specs.PageCalls.{Stretch, own, outer_at, call_stretches, all_stretches, outer_items, numbered, outer_calls, text_spans, page_stretches, expanded_page}
 use Rattle.wt_expand.proofs.PiecePlaces.{AllFrom}
 use Rattle.wt_transclusion.specs.Stretch.{AreFull, AllFull}
 use Rattle.wt_transclusion.proofs.Full.{full_text, text_bytes}
 use Rattle.wt_part_laws.proofs.ApartStretches.{numbered_both, spans_both}
 use Rattle.wt_called_edit_laws.specs.LinedAmong.{IsNoFunction, AreOfPage, AreBeside}
+use Rattle.wt_called_edit_laws.specs.PartTexts.{AreSourcesAt}
 use Rattle.wt_called_edit_laws.proofs.Among.Flattened.{flat_all, page_members}
 use Rattle.wt_called_edit_laws.proofs.Among.Members.{front_size, words_size}
 use Rattle.wt_called_edit_laws.proofs.Among.OwnSeams.{FirstLonger, FirstShorter, two_cuts, first_or, sources_size, from_front, from_rest, own_last, text_size, own_size, some_bytes, IsOwnSeam, seam_rest, stretches, given, member_stretches, AreAt, Rest, all_left, none_some, lexeme_rest, lexeme_chars, rest_more, at_lexeme, find}
 use Rattle.wt_called_edit_laws.proofs.Among.PartsApart.{IsClear, members_of}
-use Rattle.wt_called_edit_laws.proofs.PartTexts.{AreSourcesAt, sources_first}
+use Rattle.wt_called_edit_laws.proofs.PartTexts.{sources_first}
 
 -- ---- the page's own
 

@@ -20,10 +20,11 @@ use Rattle.wt_expand.proofs.PiecePlaces.{AllFrom, form_from, behind_page}
 use Rattle.wt_transclusion.specs.Stretch.{AreFull}
 use Rattle.wt_part_laws.proofs.ApartStretches.{numbered_both, outers_both, spans_both}
 use Rattle.wt_called_edit_laws.specs.LinedAmong.{AreBeside}
+use Rattle.wt_called_edit_laws.specs.PartTexts.{AreSourcesAt}
 use Rattle.wt_called_edit_laws.proofs.Among.Flattened.{flat, flat_all, items_append}
 use Rattle.wt_called_edit_laws.proofs.Among.Members.{front_size, back_size, member_text, below_all, named_both, flat_width, words_size}
 use Rattle.wt_called_edit_laws.proofs.Among.PartsApart.{IsClear}
-use Rattle.wt_called_edit_laws.proofs.PartTexts.{own_one, own_text, IsBelow, below_own, last_same, called_from, AreSourcesAt}
+use Rattle.wt_called_edit_laws.proofs.PartTexts.{own_one, own_text, IsBelow, below_own, last_same, called_from}
 
 -- ---- two cuts of one list
 

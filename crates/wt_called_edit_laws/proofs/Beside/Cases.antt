@@ -71,30 +71,30 @@ use Rattle.wt_called_edit_laws.proofs.Written.Joined.{calm_written}
 abbrev pub source : List ℕ
 source = codes "x{{t}}y"
 
--- its items, of which `b` comes from the call
-abbrev given : List Item
-given = char None 120 ∷ char (Some 0) 98 ∷ char None 121 ∷ []
+-- its items, of which `b` comes from the call, where so many calls come before it
+abbrev pub given : ℕ → List Item
+given i = char None 120 ∷ char (Some i) 98 ∷ char None 121 ∷ []
 
-items_are : part_items a_word 0 source ≡ given
+pub items_are : (i : ℕ) → part_items a_word i source ≡ given i
 unfolding words closed form_at comment_len comment_line_len raw_len opening_tag tag_after closing_tag with_inside is_extension
     include_at entity_at named_entity decimal_entity hex_entity entity_names sign_word reduced rewritten parts_of text_members trimmed
     trimmed_items name_text called most_templates is_function title_of_target title_in_target read_text is_allowed is_forbidden
     is_good has_signature is_step begins_with_step holds_step ends_with_step name_of image is_called namespace_named prefix_of
     full_name_of whole_in cut_namespace title_in template_text begins_only ends_only loop_text depth_text absent_text
     utf8_valid_len is_utf8 chars encode link_to page_stretches
-items_are = refl
+items_are i = refl
 
-abbrev a_call : OuterCall
+abbrev pub a_call : OuterCall
 a_call = record { start = 1; source = codes "{{t}}"; argument = false; parts = (3, 4) ∷ []; equals = None ∷ []; href = None }
 
 -- ---- the page's block
 
 -- by its items
-abbrev block_by : List Item → Tree
+abbrev pub block_by : List Item → Tree
 block_by xs = settled 1 0 (cut_texts (block_in (a_call ∷ []) (para_with (joined_parts (lines xs)))))
 
 abbrev block : Tree
-block = block_by given
+block = block_by (given 0)
 
 abbrev a_label : Label
 a_label = record { id = 0; kind = kind.Text; attrs = []; mw = None; shown = []; mark = marks.Nothing; ranges = None; opening = []; closing = []; own = []; origin = None }
@@ -218,7 +218,7 @@ edit_of = record {
 pub makes : MakesContentIn a_word a_paragraph source block a_label edit
 makes =
     let some : 0 < 1 = omega arith in
-    calls_make a_word a_paragraph source block a_label edit 1 0 0 (a_call ∷ []) some (ap block_by (sym items_are)) in_class edit_of
+    calls_make a_word a_paragraph source block a_label edit 1 0 0 (a_call ∷ []) some (ap block_by (sym (items_are 0))) in_class edit_of
 
 -- `<nowiki/>` is put on both sides of the call
 pub written_is : new_content a_paragraph block a_label edit ≡ codes "zw<nowiki/>{{t}}<nowiki/>v"

@@ -1,13 +1,11 @@
 -- The numbers of the nodes of a block in the page's tree count up, where groups are in it, too.
-use Rattle.std.proofs.Common.{arith, ◌≡◌, ◌≢◌, ℕ, ◌+◌, ◌<◌, Bool, true, false, Option, Some, None, List, [], ◌∷◌, ◌++◌, length, map, refl, sym, ap, ◌∙◌, subst, append-nil, append_assoc}
+use Rattle.std.proofs.Common.{arith, ◌≡◌, ℕ, ◌+◌, ◌<◌, Bool, true, false, List, [], ◌++◌, length, map, refl, sym, ap, ◌∙◌, subst, append-nil}
 use Rattle.std.specs.Prelude.{◌&&◌, ◌==◌, not, if◌then◌else◌}
-use Rattle.std.proofs.lemmas.Bool.Decides.{nat_tests}
-use Rattle.std.proofs.lemmas.List.{map-append}
 use Rattle.wt_tree.specs.EditShapes.{edit_shape}
 use Rattle.wt_tree.specs.Kinds.{is_leaf, is_numbered}
 use Rattle.wt_tree.specs.Source.{flat}
 use Rattle.wt_tree.specs.Tiling.{is_group}
-use Rattle.wt_tree.specs.Tree.{Label, Tree, tree, Trees, none, more, label}
+use Rattle.wt_tree.specs.Tree.{Label, Tree, tree, Trees, none, more}
 use Rattle.wt_span.specs.Origins.{OuterCall}
 use Rattle.wt_inline.specs.ItemTree.{ItemTree, tree_items}
 use Rattle.wt_annotated.specs.Annotated.{placed}
@@ -22,6 +20,7 @@ use Rattle.wt_original.specs.Numbers.{counts_up}
 use Rattle.wt_part_laws.specs.HeldCalls.{block_in}
 use Rattle.wt_part_laws.specs.Placeless.{placeless, all_placeless}
 use Rattle.wt_typed_blocks.proofs.SentGroups.{as_group}
+use Rattle.wt_beside_laws.proofs.BlockNumbers.{one_counts, joined, next_some}
 use Rattle.wt_beside_laws.proofs.OwnSigns.{held_if}
 use Rattle.wt_called_edit_laws.specs.Settled.{settled_label, settled, all_settled}
 use Rattle.wt_called_edit_laws.proofs.BareInsides.{IsBare, AreBare, group_leaf, placed_bare, texts_bare}
@@ -45,30 +44,11 @@ block_bare calls t =
     (subst (λ (v : Tree). IsBare (placeless v)) (sym (walk_all calls (group_data calls) t))
     (placeless_bare u (placed_bare calls (group_data calls) (tree_items t) (grouped (tree_items t) 0 t))))
 
--- ---- one node before those in it
-
-one_counts : (v : Bool) (block : Tree) (n : ℕ) (f : KeptNode) (inside : List Kept) (r : Bool) → 0 < n → (label f.node).id ≡ (if v then n else 0)
-    → counts_up (if v then n + 1 else n) inside ≡ r → counts_up n (map (kept_of block) (found_if ((if v then n else 0) == 0) f) ++ inside) ≡ r
-one_counts true block n f inside r some i e =
-    let off : (n == 0) ≡ false = grind (arith, nat_tests, some) in
-    let own : ((label f.node).id == n) ≡ true = grind (arith, nat_tests, i) in
-    ap (λ (t : Bool). counts_up n (map (kept_of block) (found_if t f) ++ inside)) off
-    ∙ ap (λ (t : Bool). t && counts_up (n + 1) inside) own ∙ e
-one_counts false block n f inside r some i e = e
-
-joined : (block : Tree) (fs gs : List KeptNode) (ks : List Kept) → map (kept_of block) (fs ++ gs) ++ ks ≡ map (kept_of block) fs ++ (map (kept_of block) gs ++ ks)
-joined block fs gs ks =
-    ap (λ (ys : List Kept). ys ++ ks) (map-append (kept_of block) fs gs) ∙ append_assoc (map (kept_of block) fs) (map (kept_of block) gs) ks
-
-next_some : (v : Bool) (n : ℕ) → 0 < n → 0 < (if v then n + 1 else n)
-next_some true n some = omega arith
-next_some false n some = some
+-- ---- those in it
 
 sum_of : (v : Bool) (n c : ℕ) → (if v then n + 1 else n) + c ≡ n + ((if v then 1 else 0) + c)
 sum_of true n c = omega arith
 sum_of false n c = omega arith
-
--- ---- those in it
 
 leaf_counts : (g leaf : Bool) (ts : Trees) → GroupOr g (all_placeless ts ≡ ts) ((leaf ≡ true → ts ≡ none) × AreBare ts) → leaf ≡ true
     → (if g then 0 else count_all ts) ≡ 0

@@ -1,5 +1,5 @@
 -- A group of a call that gives words shows what its source gives by itself, where it shows these words.
-use Rattle.std.proofs.Common.{◌≡◌, ℕ, sym, ◌∙◌}
+use Rattle.std.proofs.Common.{◌≡◌, sym, ◌∙◌}
 use Rattle.wt_tree.specs.Plain.{Plains, text_before, plain_before}
 use Rattle.wt_tree.specs.Source.{flat}
 use Rattle.wt_tree.specs.Tree.{Tree}

@@ -1,6 +1,5 @@
 -- What is sent for a paragraph with calls in it is taken, its content is written, and it shows what was sent.
-use Rattle.std.proofs.Common.{◌≡◌, ℕ, ◌<◌, Bool, true, false, None, List, [], ◌∷◌, ◌++◌, refl, sym, ap, ◌∙◌, subst, append-nil}
-use Rattle.wt_span.specs.Items.{Item}
+use Rattle.std.proofs.Common.{◌≡◌, ℕ, ◌<◌, Bool, true, false, None, List, [], ◌++◌, refl, sym, ap, ◌∙◌, subst, append-nil}
 use Rattle.wt_span.specs.Origins.{OuterCall}
 use Rattle.wt_tree.specs.declared.kind.Kind.{Kind}
 use Rattle.wt_tree.specs.declared.kind.Kind.TheVariants as kind
@@ -11,7 +10,7 @@ use Rattle.wt_tree.specs.Kinds.{is_leaf}
 use Rattle.wt_tree.specs.Plain.{Face, face, Plains, ended, along, element, plain_before}
 use Rattle.wt_tree.specs.Source.{flat}
 use Rattle.wt_tree.specs.Tree.{Label, Tree, tree, Trees, label}
-use Rattle.wt_guards.specs.Content.{ContentSign, Thing}
+use Rattle.wt_guards.specs.Content.{ContentSign}
 use Rattle.wt_guards.specs.Guards.{Setting, spelled}
 use Rattle.wt_original.specs.Kept.{kept_nodes}
 use Rattle.wt_original.specs.Numbers.{counts_up}
@@ -20,17 +19,17 @@ use Rattle.wt_annotated.specs.CutTexts.{cut_texts}
 use Rattle.wt_content.specs.Content.{is_paragraph, bad_content}
 use Rattle.wt_expand.specs.PageCalls.{expanded_page}
 use Rattle.wt_expand.specs.Work.{Pages}
-use Rattle.wt_link_spelling.specs.Spelling.{signs_of_all, children_of, inline_spelling}
+use Rattle.wt_link_spelling.specs.Spelling.{children_of, inline_spelling}
 use Rattle.wt_selser.specs.GroupFaults.{paragraph_face}
 use Rattle.wt_visible.specs.SameNodes.{same_node}
 use Rattle.wt_visible.proofs.SameTells.{tells_same}
 use Rattle.wt_part_laws.specs.Expanded.{part_items}
 use Rattle.wt_part_laws.specs.HeldCalls.{block_in}
-use Rattle.wt_typed_blocks.specs.Sent.{paragraph, kind_of}
+use Rattle.wt_typed_blocks.specs.Sent.{paragraph}
 use Rattle.wt_typed_blocks.specs.Typed.{place_of}
 use Rattle.wt_typed_blocks.specs.Edited.{Pieces, page_pieces, sent_pieces, pieces_before, page_node, sent_node, edited_before}
 use Rattle.wt_typed_blocks.specs.EditedPage.{edited_source}
-use Rattle.wt_text_edit_laws.specs.TextBlocks.{TextBlock, a_paragraph, source_of}
+use Rattle.wt_text_edit_laws.specs.TextBlocks.{TextBlock, a_paragraph}
 use Rattle.wt_beside_laws.specs.Called.{owns_in, shown_signs, called_shown, BeginsWithText, EndsWithText}
 use Rattle.wt_beside_laws.specs.ContentEdits.{content_edit, new_content}
 use Rattle.wt_beside_laws.specs.Lines.{AreCharacters}
@@ -44,7 +43,6 @@ use Rattle.wt_called_edit_laws.specs.CalledContents.{tree_round}
 use Rattle.wt_called_edit_laws.specs.CalledEdits.{page_things, AreChildrenBeside, IsBesideCalls, IsCalledEditOf, MakesContentIn}
 use Rattle.wt_called_edit_laws.specs.CallingBlocks.{IsNewContentIn}
 use Rattle.wt_called_edit_laws.specs.CallingEdits.{TakesLetters}
-use Rattle.wt_called_edit_laws.specs.InPieces.{pieces_source}
 use Rattle.wt_called_edit_laws.specs.PageThings.{ArePageThings, ThingsStay}
 use Rattle.wt_called_edit_laws.specs.Settled.{settled}
 use Rattle.wt_called_edit_laws.specs.WholeContents.{IsWholeIn}

@@ -1,5 +1,5 @@
 -- What is sent for a paragraph with calls in it: texts, and nodes as they are in the page, groups among them.
-use Rattle.std.proofs.Common.{◌≡◌, ◌⊎◌, inl, inr, ℕ, ◌+◌, Bool, true, false, Option, Some, None, List, [], ◌∷◌, ◌++◌, length, map, refl, sym, ap, ◌∙◌, subst}
+use Rattle.std.proofs.Common.{◌≡◌, inl, inr, ℕ, ◌+◌, Bool, true, false, Option, Some, List, [], ◌∷◌, ◌++◌, length, map, refl, sym, ap, ◌∙◌, subst}
 use Rattle.std.specs.Prelude.{◌||◌, if◌then◌else◌, encode_utf8}
 use Rattle.std.specs.List.{flat_map}
 use Rattle.std.specs.Str.{IsUtf8, chars}
@@ -9,8 +9,8 @@ use Rattle.wt_tree.specs.declared.kind.Kind.{Kind}
 use Rattle.wt_tree.specs.EditShapes.{edit_shape}
 use Rattle.wt_tree.specs.Plain.{Plains, text_before, plain_before}
 use Rattle.wt_tree.specs.Source.{flat}
-use Rattle.wt_tree.specs.Tiling.{is_group, HasNoGroup}
-use Rattle.wt_tree.specs.Tree.{Label, Tree, tree, Trees, none, more, label}
+use Rattle.wt_tree.specs.Tiling.{is_group}
+use Rattle.wt_tree.specs.Tree.{Label, Tree, tree, Trees, label}
 use Rattle.wt_tree.specs.declared.edit_shape.InlineForm.{InlineForm}
 use Rattle.wt_tree.specs.declared.edit_shape.InlineForm.TheVariants as inline
 use Rattle.wt_tree.specs.declared.edit_shape.Place.{Place}
@@ -38,8 +38,9 @@ use Rattle.wt_beside_laws.proofs.Edits.Pieces.{both_characters, text_characters}
 use Rattle.wt_beside_laws.proofs.LineShown.{twice}
 use Rattle.wt_beside_laws.proofs.OwnSigns.{own_unchanged}
 use Rattle.wt_beside_laws.proofs.SentNodes.{things_append, no_things}
-use Rattle.wt_beside_laws.proofs.SentPieces.{stays_unchanged}
-use Rattle.wt_called_edit_laws.specs.CalledEdits.{IsGroupOrFree, ShowsAsGiven, IsChildBeside, AreChildrenBeside, AreGoneCalm, BeginTyped, ends_typed}
+use Rattle.wt_beside_laws.proofs.SentPieces.{stays_unchanged, text_sent}
+use Rattle.wt_beside_laws.proofs.SentShown.{all_encoded}
+use Rattle.wt_called_edit_laws.specs.CalledEdits.{IsGroupOrFree, AreChildrenBeside, AreGoneCalm, BeginTyped, ends_typed}
 use Rattle.wt_called_edit_laws.specs.PageThings.{ThingsStay}
 use Rattle.wt_called_edit_laws.proofs.Beside.Found.{IsFoundAs, FoundBy, AreFound}
 
@@ -84,17 +85,12 @@ sent_by inline.Tag same block l m ts us tells h g f = as_kept same block l m ts 
 sent_by inline.Break same block l m ts us tells h g f = as_kept same block l m ts us tells h g f
 sent_by inline.AsItStood same block l m ts us tells h g f = as_kept same block l m ts us tells h g f
 
-text_sent : (same : Tree → Tree → Bool) (block : Tree) (x : Label) (text : List ℕ) (us : Trees) → AreSent (page_of same block) us
-    → AreSent (page_of same block) (text_node x text us)
-text_sent same block x [] us h = h
-text_sent same block x (c ∷ cs) us h = (tt, h)
-
 pub pieces_sent : (pages : Pages) (same : Tree → Tree → Bool) (block : Tree) (ps : Pieces) → TellsSame same → AreFound (kept_nodes block) (page_pieces ps)
     → AreChildrenBeside pages (page_pieces ps) → PiecesStay ps → HaveNoStyle ps → AreSent (page_of same block) (sent_pieces ps)
 pieces_sent pages same block no_pieces tells f g h n = tt
 pieces_sent pages same block (gone (tree l ts) ps) tells f g h n = pieces_sent pages same block ps tells f.1 g.1 h n
 pieces_sent pages same block (written x text ps) tells f g h n =
-    text_sent same block x text (sent_pieces ps) (pieces_sent pages same block ps tells f g h n)
+    text_sent (page_of same block) x text (sent_pieces ps) (pieces_sent pages same block ps tells f g h n)
 pieces_sent pages same block (kept (tree l ts) (tree m us) ps) tells f g h n = (
   subst (λ (k : Kind). IsSentBy (edit_shape k).inline (page_of same block) m us) (sym h.0.0.kind)
       (sent_by (edit_shape l.kind).inline same block l m ts us tells h.0 g.0.free f.0),
@@ -344,10 +340,6 @@ pub pieces_end : (pages : Pages) (same : Tree → Tree → Bool) (block : Tree) 
 pieces_end pages same block pl ps tells f g h a n e = ends_by (sent_signs same block pl ps) (ends_after pages same block pl false ps tells f g h a n e)
 
 -- ---- what is written shows what was sent
-
-all_encoded : (cs : List ℕ) → flat_map encode_utf8 cs ≡ encodes cs
-all_encoded [] = refl
-all_encoded (c ∷ cs) = ap (λ bs. encode_utf8 c ++ bs) (all_encoded cs)
 
 -- these signs show so, where so many calls come before them
 abbrev shown_in : Pages → ℕ → List ContentSign → Plains → Plains

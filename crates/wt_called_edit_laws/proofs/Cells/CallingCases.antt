@@ -1,12 +1,11 @@
 -- A worked case of a paragraph that holds a call, by computing it: what it gives, that it is a content in its folder, and that it is a block of a page.
-use Rattle.std.proofs.Common.{◌≡◌, inl, inr, ℕ, Option, Some, None, List, [], ◌∷◌, ◌++◌, map, refl, sym, ap, ◌∙◌, subst, All}
+use Rattle.std.proofs.Common.{◌≡◌, inr, ℕ, Some, None, List, [], ◌∷◌, refl, sym, subst}
 use Rattle.std.specs.Prelude.{codes, if◌then◌else◌}
 use Rattle.std.specs.Str.{bytes_eq, is_utf8, chars, IsUtf8}
 use Rattle.std.specs.Str.Lossy.{utf8_valid_len}
 use Rattle.std.proofs.lemmas.List.Elements.{All-nil, All-cons}
 use Rattle.std.proofs.lemmas.Str.{IsUtf8-nil}
 use lib.Utf8.{encode}
-use Rattle.wt_span.specs.declared.form.Mode.TheVariants.{Page}
 use Rattle.wt_span.specs.Comments.{comment_len, comment_line_len}
 use Rattle.wt_span.specs.Entities.{entity_at, named_entity, decimal_entity, hex_entity, entity_names}
 use Rattle.wt_span.specs.Tags.{raw_len, opening_tag, tag_after, closing_tag, with_inside, is_extension, include_at}
@@ -25,7 +24,7 @@ use Rattle.wt_expand.specs.Targets.{title_in_target, title_of_target, is_functio
 use Rattle.wt_expand.specs.Templates.{begins_only, ends_only, template_text}
 use Rattle.wt_expand.specs.Work.{Pages}
 use Rattle.wt_expand.specs.Expansion.{text_members, most_templates, absent_text, loop_text, depth_text}
-use Rattle.wt_expand.specs.PageCalls.{page_stretches, expanded_page}
+use Rattle.wt_expand.specs.PageCalls.{page_stretches}
 use Rattle.wt_part_laws.specs.Expanded.{part_items, GivesAnywhere}
 use Rattle.wt_part_laws.proofs.ExpandedBoth.{plain_anywhere}
 use Rattle.wt_text_edit_laws.specs.BlockSpots.{BlockSpot}

@@ -1,18 +1,15 @@
 -- In a page that calls nothing, and in which no node can only be kept as a whole, none is so in a block, where it is in the page.
 use Rattle.std.proofs.Common.{◌≡◌, inl, ℕ, zero, suc, Bool, true, false, Option, Some, None, List, [], ◌∷◌, ◌++◌, take, map, refl, sym, ap, ◌∙◌, subst}
 use Rattle.std.specs.Prelude.{◌||◌}
-use Rattle.std.specs.List.{list_all}
 use Rattle.wt_tree.specs.declared.kind.Ranges.{Ranges}
 use Rattle.wt_tree.specs.Tiling.{HasNoGroup}
 use Rattle.wt_tree.specs.Tree.{Tree, tree}
-use Rattle.wt_span.specs.Items.{Item}
 use Rattle.wt_span.specs.Origins.{Expanded}
 use Rattle.wt_checks.specs.Kept.{children as nodes_in}
 use Rattle.wt_expand.specs.PageItems.{page_items}
-use Rattle.wt_inline.specs.ItemTree.{ItemTree, forest, tree_items, held_by_all}
+use Rattle.wt_inline.specs.ItemTree.{ItemTree, forest, tree_items}
 use Rattle.wt_page.specs.Body.{meaning}
 use Rattle.wt_annotated.specs.Annotated.{annotated}
-use Rattle.wt_annotated.specs.Clean.{is_page}
 use Rattle.wt_annotated.specs.GroupData.{group_data}
 use Rattle.wt_annotated.specs.WithoutCalls.{holds_page, InsideOf, NoneEmpty, AllNonEmpty, IsPlain}
 use Rattle.wt_annotated.proofs.Calls.{all_split}

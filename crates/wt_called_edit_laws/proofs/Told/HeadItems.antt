@@ -1,5 +1,5 @@
 -- The items of a heading's line of a page, cut at its delimiters.
-use Rattle.std.proofs.Common.{arith, ◌≡◌, ℕ, zero, suc, ◌+◌, ◌<◌, ◌≤◌, Bool, true, false, not, Option, Some, None, List, [], ◌∷◌, ◌++◌, length, take, drop, map, min, refl, sym, ap, ◌∙◌, subst, append-nil, append_assoc, length-append, All, codes}
+use Rattle.std.proofs.Common.{arith, ◌≡◌, ℕ, zero, suc, ◌+◌, ◌<◌, ◌≤◌, Bool, true, false, not, Some, None, List, [], ◌∷◌, ◌++◌, length, take, drop, map, refl, sym, ap, ◌∙◌, subst, append_assoc, length-append, All, codes}
 use Rattle.std.specs.Prelude.{if◌then◌else◌}
 use Rattle.std.proofs.Math.Seq.{take-append_seam, drop-append_seam}
 use Rattle.std.proofs.lemmas.Bool.{eqb-true}
@@ -10,7 +10,6 @@ use Rattle.std.proofs.lemmas.Grind.{flat_map-append}
 use Rattle.wt_span.specs.declared.form.Mode.TheVariants.{Page}
 use Rattle.wt_span.specs.Bytes.{is_blank, is_break, blank_len, begins}
 use Rattle.wt_span.specs.Items.{Item, char, whole, call_of, is_mark_form, sign, source, sources}
-use Rattle.wt_span.specs.declared.form.ItemForm.{ItemForm}
 use Rattle.wt_span.specs.Runs.{IsRun}
 use Rattle.wt_lex.proofs.Begins.{begins_get}
 use Rattle.wt_lines.specs.Kinds.{is_idle}
@@ -26,7 +25,7 @@ use Rattle.wt_page.proofs.Ends.{content_ending}
 use Rattle.wt_text_edit_laws.specs.LonePages.{page_chars}
 use Rattle.wt_text_edit_laws.specs.PageCuts.{AreHeadingItems}
 use Rattle.wt_text_edit_laws.specs.TextBetween.{HasEnds}
-use Rattle.wt_text_edit_laws.specs.TypedHeadings.{Sides, equals, opening as opening_of, AreBlanks, AreIdle, BeginsWithout, EndsWithout, NoBreaks, IsHeadingInside}
+use Rattle.wt_text_edit_laws.specs.TypedHeadings.{Sides, equals, AreBlanks, AreIdle, BeginsWithout, EndsWithout, NoBreaks}
 use Rattle.wt_text_edit_laws.proofs.Between.Fronts.{items_from}
 use Rattle.wt_text_edit_laws.proofs.Cuts.ItemCuts.{cut_from, page_cut}
 use Rattle.wt_text_edit_laws.proofs.Paragraphs.LineBlocks.{OwnBreaks}

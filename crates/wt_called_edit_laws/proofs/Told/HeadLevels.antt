@@ -1,13 +1,12 @@
 -- A heading's level, and the two runs of so many `=` round what is between them.
-use Rattle.std.proofs.Common.{arith, ◌≡◌, ℕ, zero, suc, ◌+◌, ◌-◌, ◌<◌, ◌≤◌, ◌==◌, Bool, true, false, not, List, [], ◌∷◌, ◌++◌, length, take, drop, refl, sym, ap, ◌∙◌, subst, append-nil, append_assoc, length-append, nat_lt, codes}
+use Rattle.std.proofs.Common.{arith, ◌≡◌, ℕ, zero, suc, ◌+◌, ◌-◌, ◌<◌, ◌≤◌, ◌==◌, Bool, true, false, not, List, [], ◌∷◌, ◌++◌, length, take, refl, sym, ap, ◌∙◌, subst, append-nil, append_assoc, length-append, nat_lt, codes}
 use Rattle.std.specs.Prelude.{◌/◌, ◌&&◌, ◌||◌, if◌then◌else◌, min, reverse}
 use Rattle.std.specs.Option.{unwrap_or}
 use Rattle.std.specs.List.{prefix_len}
 use Rattle.std.proofs.Math.Seq.{take-append_seam}
 use Rattle.std.proofs.lemmas.Bool.{eqb-true}
 use Rattle.std.proofs.lemmas.Bool.Decides.{nat_tests}
-use Rattle.std.proofs.lemmas.List.{length-reverse}
-use Rattle.wt_span.specs.Bytes.{is_blank, blank_len, begins}
+use Rattle.wt_span.specs.Bytes.{begins}
 use Rattle.wt_lex.proofs.Begins.{begins_get, begins_len, and_left, and_right}
 use Rattle.wt_lines.specs.declared.kind.LineKind.{LineKind}
 use Rattle.wt_lines.specs.declared.kind.LineKind.TheVariants as line
@@ -16,7 +15,7 @@ use Rattle.wt_lines.specs.Kinds.{is_mark_sign, is_idle, past, is_idle_all, is_al
 use Rattle.wt_blocks.specs.Headings.{equals as equals_len, core, level_of}
 use Rattle.wt_text_edit_laws.specs.TypedHeadings.{equals}
 use Rattle.wt_text_edit_laws.proofs.Headings.HeadingSigns.{body_signs}
-use Rattle.wt_called_edit_laws.proofs.Told.Signs.{AllPass, StopsLast, CutBack, cut_back, back_len, past_back, past_every, run_length, run_back, run_more, run_less, first_run, last_run, runs_apart}
+use Rattle.wt_called_edit_laws.proofs.Told.Signs.{AllPass, StopsLast, cut_back, back_len, past_back, past_every, run_length, run_back, run_more, run_less, first_run, last_run, runs_apart}
 
 -- ---- a line of this kind passes the test of a heading
 

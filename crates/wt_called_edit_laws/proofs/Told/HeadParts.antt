@@ -1,14 +1,12 @@
 -- The signs of a heading's line: its `=` and blanks, what is between them, blanks and `=`, and what is behind.
-use Rattle.std.proofs.Common.{arith, ◌≡◌, ℕ, zero, suc, ◌+◌, ◌-◌, ◌<◌, ◌≤◌, Bool, true, false, List, [], ◌∷◌, ◌++◌, length, take, drop, refl, sym, ap, ◌∙◌, subst, append-nil, append_assoc, length-append}
-use Rattle.std.specs.Prelude.{reverse}
-use Rattle.std.specs.List.{prefix_len}
-use Rattle.std.proofs.Math.Seq.{take-append_seam, drop-append_seam}
+use Rattle.std.proofs.Common.{arith, ◌≡◌, ℕ, zero, suc, ◌+◌, ◌-◌, ◌≤◌, true, false, List, [], ◌∷◌, ◌++◌, length, take, drop, refl, sym, ap, ◌∙◌, subst, append-nil, append_assoc, length-append}
+use Rattle.std.proofs.Math.Seq.{drop-append_seam}
 use Rattle.wt_span.specs.Bytes.{is_blank, blank_len}
 use Rattle.wt_lines.specs.Kinds.{is_idle}
 use Rattle.wt_blocks.specs.Headings.{core, level_of, open_len, trimmed_len, inside_len}
 use Rattle.wt_text_edit_laws.specs.TypedHeadings.{equals, AreBlanks, AreIdle, BeginsWithout, EndsWithout}
 use Rattle.wt_text_edit_laws.proofs.Headings.HeadingSigns.{body_signs, round, open_is, inside_is}
-use Rattle.wt_called_edit_laws.proofs.Told.Signs.{AllPass, pass_len, StopsLast, CutBack, cut_back, StopsFirst, CutFront, cut_front, run_length}
+use Rattle.wt_called_edit_laws.proofs.Told.Signs.{AllPass, pass_len, StopsLast, cut_back, StopsFirst, cut_front, run_length}
 use Rattle.wt_called_edit_laws.proofs.Told.HeadLevels.{LevelCut, CoreCut}
 
 pub blanks_are : (bs : List ℕ) → AllPass is_blank bs → AreBlanks bs

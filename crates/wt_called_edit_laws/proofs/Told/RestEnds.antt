@@ -1,18 +1,15 @@
 -- What is behind a heading's last `=` has no character `<`, so all that begins there ends there.
-use Rattle.std.proofs.Common.{arith, inr, ◌≡◌, ◌≢◌, ℕ, zero, suc, ◌-◌, Bool, true, false, Option, Some, None, List, [], ◌∷◌, ◌++◌, length, take, nat_lt, codes, refl, sym, ap, ◌∙◌, subst, append-nil}
-use Rattle.std.specs.Prelude.{◌&&◌, ◌||◌, not, is_some, if◌then◌else◌, slice_index}
-use Rattle.std.specs.Option.{option_or}
+use Rattle.std.proofs.Common.{arith, inr, ◌≡◌, ◌≢◌, ℕ, zero, suc, ◌-◌, Bool, true, false, Option, Some, None, List, [], ◌∷◌, ◌++◌, take, codes, refl, sym, ap, ◌∙◌, subst}
+use Rattle.std.specs.Prelude.{◌&&◌, ◌||◌, not, is_some, if◌then◌else◌}
 use Rattle.std.specs.Char.{is_ascii_alphabetic}
 use Rattle.std.specs.Str.{bytes_eq}
 use Rattle.std.proofs.lemmas.Slice.Eq.{bytes_eq-Decides}
 use Rattle.wt_span.specs.declared.form.Mode.TheVariants.{Page}
-use Rattle.wt_span.specs.declared.form.LexKind.TheVariants.{CommentLine, Comment, Raw}
-use Rattle.wt_span.specs.Bytes.{is_break, begins, name_len}
-use Rattle.wt_span.specs.Comments.{comment_len}
+use Rattle.wt_span.specs.Bytes.{is_break}
 use Rattle.wt_span.specs.Entities.{entity_at, named_entity, entity_names, decimal_entity, hex_entity}
 use Rattle.wt_span.specs.Items.{Item, char, sign, sources}
-use Rattle.wt_span.specs.Lexemes.{Word, as_word, entity_word, sign_word, form_at}
-use Rattle.wt_span.specs.Tags.{Tag, tag_after, opening_tag, closing_tag, with_inside, is_nowiki, is_extension, is_raw_name, is_noinclude, is_onlyinclude, hides, is_left_out, raw_len, include_at}
+use Rattle.wt_span.specs.Lexemes.{Word, sign_word, form_at}
+use Rattle.wt_span.specs.Tags.{Tag, opening_tag, closing_tag, with_inside, is_extension, is_raw_name, is_noinclude, is_onlyinclude, hides, is_left_out, raw_len, include_at}
 use Rattle.wt_lex.proofs.AllForms.{form_fits}
 use Rattle.wt_lex.proofs.Begins.{and_left, and_right}
 use Rattle.wt_lex.proofs.TagForms.{OptTag, opening_fits}
@@ -20,7 +17,7 @@ use Rattle.wt_expand.specs.PageItems.{items_of_word}
 use Rattle.wt_part_laws.specs.Lexer.{lexer}
 use Rattle.wt_part_laws.specs.Scans.{skipped_by, AtStarts}
 use Rattle.wt_typed_blocks.proofs.Forms.{begins_not, comment_not}
-use Rattle.wt_text_edit_laws.specs.TextBetween.{ends_comment, ends_tag, ends_tag_before, ends_before, ends_here, HasEnds, HasEndsBefore}
+use Rattle.wt_text_edit_laws.specs.TextBetween.{ends_comment, ends_tag, ends_tag_before, ends_before, ends_here, HasEnds}
 use Rattle.wt_text_edit_laws.proofs.Between.Fronts.{items_from, byte_from, form_from}
 use Rattle.wt_text_edit_laws.proofs.Cuts.ItemCuts.{cut_from}
 use Rattle.wt_text_edit_laws.proofs.Cuts.SettledEnds.{line_settled}

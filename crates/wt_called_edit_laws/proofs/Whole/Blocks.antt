@@ -84,7 +84,7 @@ first_page : (xs : List Item) → AllFrom None xs → first_of xs None ≡ None
 first_page [] h = refl
 first_page (x ∷ xs) h = h.0
 
-nodes_are : (calls : List OuterCall) (n s : ℕ) (h : Head) (q : List Item) (ps : List Part) (c : List Item) → is_group h.kind ≡ false → texts_of_kind h.kind ≡ Page
+pub nodes_are : (calls : List OuterCall) (n s : ℕ) (h : Head) (q : List Item) (ps : List Part) (c : List Item) → is_group h.kind ≡ false → texts_of_kind h.kind ≡ Page
     → nodes_in (settled n s (cut_texts (block_of_texts calls h q ps c)))
     ≡ all_settled (next_after h.kind n) (s + length (sources q)) (all_cut_texts (all_in_page calls (children ps)))
 nodes_are calls n s h q ps c g t =

@@ -46,7 +46,8 @@ use Rattle.wt_called_edit_laws.specs.PageThings.{shown_thing}
 use Rattle.wt_called_edit_laws.specs.WholeContents.{of_call, NoneOrWords, AreShutParts, AreShutCalls, IsShut, AreShut, HoldsWords, IsWholeIn}
 use Rattle.wt_called_edit_laws.specs.Written.{written_calls}
 use Rattle.wt_called_edit_laws.specs.WrittenAnew.{IsWrittenBeside}
-use Rattle.wt_called_edit_laws.proofs.PartTexts.{OwnPage, own_page, AreSourcesAt, call_text, part_text}
+use Rattle.wt_called_edit_laws.specs.PartTexts.{AreSourcesAt}
+use Rattle.wt_called_edit_laws.proofs.PartTexts.{OwnPage, own_page, call_text, part_text}
 use Rattle.wt_called_edit_laws.proofs.Whole.OfCall.{is_same, of_before, of_here, of_past, of_append, of_own, before_part, behind_part}
 use Rattle.wt_called_edit_laws.proofs.Written.Held.{written_gives}
 use Rattle.wt_called_edit_laws.proofs.Written.Signs.{content_written}
@@ -178,7 +179,7 @@ words_nonempty i [] v e = v
 words_nonempty i (b ∷ bs) v e = cc
 
 -- a call that gives words is one call at least
-has_call : (pages : Pages) (i : ℕ) (source : List ℕ) → GivesWords pages source → 0 < calls_in pages source
+pub has_call : (pages : Pages) (i : ℕ) (source : List ℕ) → GivesWords pages source → 0 < calls_in pages source
 has_call pages i source h = elim (cases_lt 0 (calls_in pages source)) [
   | inl l ↦ l
   | inr l ↦
@@ -325,6 +326,29 @@ unfolding expanded_page
 words_one pages source h =
     one_given 0 (page_stretches pages source) (own_page pages source)
     (subst (AllFrom (Some 0)) (sym (h.items 0)) (chars_from 0 (sources (expanded_page pages source).items)))
+
+-- a call that gives words is one, and it is this source
+pub record IsOneCall (calls : List OuterCall) (source : List ℕ) : Type 0 where
+  pub call : OuterCall
+  pub is : calls ≡ call ∷ []
+  pub of_source : call.source ≡ source
+
+one_call : (bs : List ℕ) (shown : List ℕ) (calls : List OuterCall) → BeginsWord shown → AreOne calls → 0 < length calls
+    → text_from calls None (call_chars 0 shown) ≡ bs → IsOneCall calls bs
+one_call bs shown [] v h n e = absurd (omega (arith, n))
+one_call bs [] (c ∷ []) v h n e = absurd v
+one_call bs (b ∷ shown) (c ∷ []) v h n e =
+    let text : text_from (c ∷ []) None (call_chars 0 (b ∷ shown)) ≡ c.source = call_text (c ∷ []) None 0 (char (Some 0) b) (call_chars 0 shown) tt (chars_from 0 (b ∷ shown)) in
+    record { call = c; is = refl; of_source = sym text ∙ e }
+one_call bs shown (c ∷ d ∷ cs) v h n e = absurd h
+
+pub words_source : (pages : Pages) (source : List ℕ) → GivesWords pages source → IsOneCall (expanded_page pages source).outer source
+words_source pages source h =
+    let calls : List OuterCall = (expanded_page pages source).outer in
+    let shown : List ℕ = sources (expanded_page pages source).items in
+    let one : AreOne calls = words_one pages source h in
+    one_call source shown calls h.begins one (has_call pages 0 source h)
+    (ap (text_from calls None) (sym (h.items 0)) ∙ part_text pages calls 0 source (own_sources calls calls refl one))
 
 pub thing_calls : (pages : Pages) (t : Thing) → IsOfFolder t.role pages t → ends_open t.source ≡ false → AreShutCalls (expanded_page pages t.source).outer
 thing_calls pages t h e = elim (node_case t.role pages t h) [

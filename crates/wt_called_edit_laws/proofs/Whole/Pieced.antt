@@ -15,7 +15,7 @@ use Rattle.wt_annotated.specs.Seams.{last_of, first_of}
 use Rattle.wt_annotated.proofs.Seams.{first_append, last_append}
 use Rattle.wt_part_laws.specs.CallTexts.{AreOwnOrTexts}
 use Rattle.wt_part_laws.specs.Expanded.{part_items, calls_in}
-use Rattle.wt_part_laws.specs.HeldCalls.{HoldsItsCalls}
+use Rattle.wt_part_laws.specs.HeldCalls.{HoldsItsCalls, IsRoundTexts}
 use Rattle.wt_part_laws.proofs.HeldBlocks.{texts_hold}
 use Rattle.wt_part_laws.proofs.OwnWalks.{first_own, last_own, has_page}
 use Rattle.wt_text_edit_laws.specs.Contents.{content_parts_of}
@@ -123,21 +123,22 @@ ends_so (node t ∷ q ∷ ps) o h b = last_append o (tree_items t) (held_parts (
 para_items : (ps : List Part) → tree_items (para_with ps) ≡ held_parts ps
 para_items ps = append-nil (held_by_all (forest (children ps))) ∙ held_children ps
 
+pub paragraph_round : (ps : List Part) → AreOwnOrTexts ps → BeginsOwn ps → EndsOwn ps → IsRoundTexts (plain kind.Para) [] ps []
+paragraph_round ps h b e = record {
+  no_leaf = refl;
+  own_opening = refl;
+  own_closing = refl;
+  parts = h;
+  begins = λ p. ap (λ (xs : List Item). first_of xs p) (para_items ps) ∙ begins_so ps p h b;
+  ends = λ o. ap (last_of o) (para_items ps) ∙ ends_so ps o h e;
+}
+
 holds_so : (ps : List Part) → AreOwnOrTexts ps → BeginsOwn ps → EndsOwn ps → HoldsItsCalls (para_with ps)
-holds_so ps h b e =
-    texts_hold (plain kind.Para) [] ps []
-    (record {
-      no_leaf = refl;
-      own_opening = refl;
-      own_closing = refl;
-      parts = h;
-      begins = λ p. ap (λ (xs : List Item). first_of xs p) (para_items ps) ∙ begins_so ps p h b;
-      ends = λ o. ap (last_of o) (para_items ps) ∙ ends_so ps o h e;
-    })
+holds_so ps h b e = texts_hold (plain kind.Para) [] ps [] (paragraph_round ps h b e)
 
 -- ---- the paragraph
 
-as_written : (pages : Pages) (q : List ℕ) (h : IsInPieces pages q)
+pub as_written : (pages : Pages) (q : List ℕ) (h : IsInPieces pages q)
     → IsWrittenAs pages q (λ i. pieces_items pages i h.pieces) (calls_of pages h.pieces) (work_of pages h.pieces)
 as_written pages q h =
     subst (λ (bs : List ℕ). IsWrittenAs pages bs (λ i. pieces_items pages i h.pieces) (calls_of pages h.pieces) (work_of pages h.pieces)) h.is

@@ -1,0 +1,379 @@
+-- A paragraph of texts and calls that give words: its nodes in the page's tree are these texts, and a group for each call.
+use Rattle.std.proofs.Common.{arith, ◌≡◌, ◌≢◌, inl, inr, ℕ, suc, ◌+◌, ◌<◌, true, false, Option, None, Some, List, [], ◌∷◌, ◌++◌, length, refl, sym, ap, ◌∙◌, subst}
+use Rattle.std.specs.Prelude.{slice_get}
+use Rattle.std.specs.List.{flat_map}
+use Rattle.wt_tree.specs.declared.kind.Kind.TheVariants as kind
+use Rattle.wt_tree.specs.Kinds.{is_leaf}
+use Rattle.wt_tree.specs.Plain.{Plains, text_before, plain_before}
+use Rattle.wt_tree.specs.Source.{flat}
+use Rattle.wt_tree.specs.Tree.{Tree, tree, Trees, more, label}
+use Rattle.wt_span.specs.Items.{Item, sources}
+use Rattle.wt_span.specs.Origins.{OuterCall}
+use Rattle.wt_span.specs.Cuts.{source_of_call}
+use Rattle.wt_guards.specs.declared.role.Role.{Role}
+use Rattle.wt_guards.specs.declared.role.Role.TheVariants.{Group}
+use Rattle.wt_guards.specs.declared.role.Transclusion.{Transclusion}
+use Rattle.wt_guards.specs.Content.{Thing, ends_line, is_group}
+use Rattle.wt_inline.specs.declared.loose.Loose.TheVariants.{Text}
+use Rattle.wt_inline.specs.Carried.{shown_item}
+use Rattle.wt_inline.specs.ItemTree.{plain, ItemTree}
+use Rattle.wt_inline.specs.Parts.{Part, loose_leaf}
+use Rattle.wt_context.specs.Line.{line_parts}
+use Rattle.wt_tiles.specs.declared.glyph.Glyph.{Glyph}
+use Rattle.wt_checks.specs.Kept.{children as nodes_in}
+use Rattle.wt_annotated.specs.CutTexts.{cut_texts, all_cut_texts}
+use Rattle.wt_annotated.specs.Labels.{label_at}
+use Rattle.wt_annotated.specs.Numbering.{next_after, count}
+use Rattle.wt_annotated.specs.Seams.{first_of}
+use Rattle.wt_annotated.specs.WithoutCalls.{placed}
+use Rattle.wt_expand.specs.PageCalls.{Stretch, own, outer, text_call, numbered, outer_calls, page_stretches, expanded_page}
+use Rattle.wt_expand.specs.Work.{Pages}
+use Rattle.wt_expand.proofs.PiecePlaces.{AllFrom}
+use Rattle.wt_original.specs.Kept.{Kept, KeptNode, transclusion, kept_of, kept_with, kept_nodes, items, visible, found_at, found_from, found_in}
+use Rattle.wt_original.specs.Numbers.{counts_up}
+use Rattle.wt_link_spelling.specs.Spelling.{children_of}
+use Rattle.wt_part_laws.specs.CallTexts.{call_group, by_call, in_page, all_in_page}
+use Rattle.wt_part_laws.specs.Expanded.{part_items, calls_in}
+use Rattle.wt_part_laws.specs.HeldCalls.{block_in}
+use Rattle.wt_part_laws.specs.MovedCalls.{IsMoved, AreMoved}
+use Rattle.wt_part_laws.specs.Placeless.{placeless}
+use Rattle.wt_part_laws.proofs.HeldBlocks.{block_is}
+use Rattle.wt_text_edit_laws.specs.Contents.{content_parts_of}
+use Rattle.wt_text_edit_laws.specs.TextBlocks.{a_paragraph}
+use Rattle.wt_beside_laws.specs.Called.{BeginsWord, AreWords, GivesWords, IsOfFolder}
+use Rattle.wt_beside_laws.specs.Cuts.{own_glyphs, ends_word}
+use Rattle.wt_beside_laws.specs.Nodes.{MayFollow, MayLead}
+use Rattle.wt_beside_laws.specs.OwnSigns.{HaveOwn}
+use Rattle.wt_beside_laws.specs.Shown.{parts_shown_at}
+use Rattle.wt_beside_laws.specs.StyledBlocks.{all_numbers, things_with, found_thing, thing_of}
+use Rattle.wt_beside_laws.proofs.Groups.CalledShown.{words_show}
+use Rattle.wt_beside_laws.proofs.Groups.Words.{call_chars}
+use Rattle.wt_beside_laws.proofs.OwnSigns.{Every, every_left, every_right, Finds, all_found, own_found, inside_found, held_if}
+use Rattle.wt_called_edit_laws.specs.CalledContents.{tree_round}
+use Rattle.wt_called_edit_laws.specs.CalledEdits.{page_things, AreChildrenBeside, IsChildBeside, IsBesideCalls}
+use Rattle.wt_called_edit_laws.specs.PageThings.{IsPageThing, shown_thing, MeetThere, MeetLater, ArePageThings, thing_sources}
+use Rattle.wt_called_edit_laws.specs.PiecedParagraphs.{IsInPieces, IsWordsCall, AreTextsOrCalls, piece_leaves, IsTextAndCalls}
+use Rattle.wt_called_edit_laws.specs.Settled.{settled, all_settled}
+use Rattle.wt_called_edit_laws.specs.WrittenAnew.{StayButForOthers}
+use Rattle.wt_called_edit_laws.specs.PartTexts.{AreSourcesAt}
+use Rattle.wt_called_edit_laws.proofs.Beside.Counts.{block_bare, settled_counts}
+use Rattle.wt_called_edit_laws.proofs.PartTexts.{OwnPage, own_page}
+use Rattle.wt_called_edit_laws.proofs.Whole.Blocks.{nodes_are}
+use Rattle.wt_called_edit_laws.proofs.Whole.Contents.{words_source}
+use Rattle.wt_called_edit_laws.proofs.Whole.OfCall.{joined_from}
+use Rattle.wt_called_edit_laws.proofs.Whole.Pieced.{paragraph_round, as_written}
+use Rattle.wt_called_edit_laws.proofs.Written.NewContents.{calls_of}
+
+-- ---- the node of a piece
+
+calm_from : (k : ℕ) (ss : List Stretch) → OwnPage ss → outer_calls ss ≡ [] → AllFrom None (numbered k ss)
+calm_from k [] h e = tt
+calm_from k (own xs ∷ ss) h e = joined_from None xs (numbered k ss) h.0 (calm_from k ss h.1 e)
+calm_from k (outer c xs ∷ ss) h e = absurd (cc)
+calm_from k (text_call s ∷ ss) h e = calm_from k ss h e
+
+calm_items : (pages : Pages) (i : ℕ) (b : List ℕ) → (expanded_page pages b).outer ≡ [] → AllFrom None (part_items pages i b)
+unfolding expanded_page
+calm_items pages i b e = calm_from i (page_stretches pages b) (own_page pages b) e
+
+first_none : (xs : List Item) → AllFrom None xs → first_of (xs ++ []) None ≡ None
+first_none [] h = refl
+first_none (x ∷ xs) h = h.0
+
+abbrev text_tree : List Item → Tree
+text_tree xs = cut_texts (placeless (placed [] (loose_leaf Text xs)))
+
+text_node : (calls : List OuterCall) (xs : List Item) → AllFrom None xs → cut_texts (in_page calls (loose_leaf Text xs)) ≡ text_tree xs
+text_node calls xs h = ap (λ (c : Option ℕ). cut_texts (by_call calls c (loose_leaf Text xs))) (first_none xs h)
+
+abbrev words_of : Pages → List ℕ → List ℕ
+words_of pages b = sources (expanded_page pages b).items
+
+words_node : (calls : List OuterCall) (i : ℕ) (shown : List ℕ) → (call_chars i shown ≡ [] → ⊥)
+    → cut_texts (in_page calls (loose_leaf Text (call_chars i shown))) ≡ call_group calls i (loose_leaf Text (call_chars i shown))
+words_node calls i [] h = absurd (h refl)
+words_node calls i (b ∷ shown) h = refl
+
+some_words : (i : ℕ) (pages : Pages) (b : List ℕ) → GivesWords pages b → call_chars i (words_of pages b) ≡ [] → ⊥
+some_words i pages b h = none (words_of pages b) h.begins
+  where
+    none : (shown : List ℕ) → BeginsWord shown → call_chars i shown ≡ [] → ⊥
+    none [] v e = v
+    none (x ∷ xs) v e = cc
+
+call_node : (pages : Pages) (calls : List OuterCall) (i : ℕ) (b : List ℕ) → GivesWords pages b
+    → cut_texts (in_page calls (loose_leaf Text (part_items pages i b))) ≡ call_group calls i (loose_leaf Text (call_chars i (words_of pages b)))
+call_node pages calls i b h =
+    ap (λ (xs : List Item). cut_texts (in_page calls (loose_leaf Text xs))) (h.items i) ∙ words_node calls i (words_of pages b) (some_words i pages b h)
+
+-- ---- the nodes of all pieces
+
+abbrev nodes_from : Pages → List OuterCall → ℕ → ℕ → ℕ → List (List ℕ) → Trees
+nodes_from pages calls i m a bs = all_settled m a (all_cut_texts (all_in_page calls (piece_leaves pages i bs)))
+
+later : (m n : ℕ) → 0 < m → 0 < m + n
+later m n h = omega (arith, h)
+
+not_zero : (m : ℕ) → 0 < m → m ≢ 0
+not_zero m h = λ e. absurd (omega (arith, h, e))
+
+text_own : (m a : ℕ) (xs : List Item) (us : Trees) → HaveOwn (all_settled (m + count (text_tree xs)) (a + length (flat (text_tree xs))) us)
+    → HaveOwn (all_settled m a (more (text_tree xs) us))
+unfolding label_at
+text_own m a xs us h = (tt, h)
+
+group_own : (calls : List OuterCall) (i m a : ℕ) (t : ItemTree) (us : Trees) → 0 < m
+    → HaveOwn (all_settled (m + count (call_group calls i t)) (a + length (flat (call_group calls i t))) us)
+    → HaveOwn (all_settled m a (more (call_group calls i t) us))
+group_own calls i m a t us n h = (not_zero m n, h)
+
+nodes_own : (pages : Pages) (calls : List OuterCall) (i m a : ℕ) (bs : List (List ℕ)) → 0 < m → AreTextsOrCalls pages bs → HaveOwn (nodes_from pages calls i m a bs)
+nodes_own pages calls i m a [] n h = tt
+nodes_own pages calls i m a (b ∷ bs) n h =
+    let us : Trees = all_cut_texts (all_in_page calls (piece_leaves pages (i + calls_in pages b) bs)) in
+    elim h.0 [
+      | inl e ↦
+          let xs : List Item = part_items pages i b in
+          subst (λ (v : Tree). HaveOwn (all_settled m a (more v us))) (sym (text_node calls xs (calm_items pages i b e)))
+          (text_own m a xs us
+          (nodes_own pages calls (i + calls_in pages b) (m + count (text_tree xs)) (a + length (flat (text_tree xs))) bs (later m (count (text_tree xs)) n) h.1))
+      | inr w ↦
+          let t : ItemTree = loose_leaf Text (call_chars i (words_of pages b)) in
+          let g : Tree = call_group calls i t in
+          subst (λ (v : Tree). HaveOwn (all_settled m a (more v us))) (sym (call_node pages calls i b w.words))
+          (group_own calls i m a t us n (nodes_own pages calls (i + calls_in pages b) (m + count g) (a + length (flat g)) bs (later m (count g) n) h.1))
+    ]
+
+-- ---- what they show
+
+shown_words : (j : ℕ) (bs : List ℕ) → flat_map shown_item (call_chars j bs) ≡ bs
+shown_words j [] = refl
+shown_words j (b ∷ bs) = ap (λ (cs : List ℕ). b ∷ cs) (shown_words j bs)
+
+text_child : (pages : Pages) (m a : ℕ) (xs : List Item) → IsChildBeside pages (settled m a (text_tree xs))
+unfolding label_at
+text_child pages m a xs = record { inline = refl; free = inr (refl, tt); shows = λ f. absurd f }
+
+group_shows : (calls : List OuterCall) (i m a : ℕ) (shown : List ℕ) (rest : Plains)
+    → plain_before (settled m a (call_group calls i (loose_leaf Text (call_chars i shown)))) rest ≡ text_before shown rest
+unfolding label_at
+group_shows calls i m a shown rest = ap (λ (bs : List ℕ). text_before bs rest) (shown_words i shown)
+
+words_given : (pages : Pages) (i : ℕ) (b : List ℕ) → GivesWords pages b → AreWords (words_of pages b) (part_items pages i b)
+words_given pages i b h = record { call = i; is = h.items i; words = h.words; begins = h.begins }
+
+group_child : (pages : Pages) (calls : List OuterCall) (i m a : ℕ) (b : List ℕ) → GivesWords pages b → source_of_call (slice_get calls i) ≡ b
+    → IsChildBeside pages (settled m a (call_group calls i (loose_leaf Text (call_chars i (words_of pages b)))))
+group_child pages calls i m a b h e = record {
+  inline = refl;
+  free = inl refl;
+  shows = λ f j rest.
+      ap (λ (q : List ℕ). parts_shown_at 0 [] (line_parts (part_items pages j q)) rest) e
+      ∙ words_show (words_of pages b) (part_items pages j b) rest (words_given pages j b h)
+      ∙ sym (group_shows calls i m a (words_of pages b) rest);
+}
+
+-- the calls of the pieces
+sources_split : (calls : List OuterCall) (k : ℕ) (cs ds : List OuterCall) → AreSourcesAt calls k (cs ++ ds) → AreSourcesAt calls k cs × AreSourcesAt calls (k + length cs) ds
+sources_split calls k [] ds h = let e : k ≡ k + 0 = omega arith in (tt, subst (λ (n : ℕ). AreSourcesAt calls n ds) e h)
+sources_split calls k (c ∷ cs) ds h =
+    let r = sources_split calls _ cs ds h.1 in
+    let n : ℕ = length cs in
+    let e = one_more k n in ((h.0, r.0), subst (λ (x : ℕ). AreSourcesAt calls x ds) e r.1)
+  where
+    one_more : (k n : ℕ) → suc k + n ≡ k + suc n
+    one_more k n = omega arith
+
+first_source : (pages : Pages) (calls : List OuterCall) (i : ℕ) (b : List ℕ) → GivesWords pages b → AreSourcesAt calls i (expanded_page pages b).outer
+    → source_of_call (slice_get calls i) ≡ b
+first_source pages calls i b h s =
+    let one = words_source pages b h in
+    let r = subst (AreSourcesAt calls i) one.is s in r.0 ∙ one.of_source
+
+nodes_show : (pages : Pages) (calls : List OuterCall) (i m a : ℕ) (bs : List (List ℕ)) → AreTextsOrCalls pages bs → AreSourcesAt calls i (calls_of pages bs)
+    → AreChildrenBeside pages (nodes_from pages calls i m a bs)
+nodes_show pages calls i m a [] h s = tt
+nodes_show pages calls i m a (b ∷ bs) h s =
+    let us : Trees = all_cut_texts (all_in_page calls (piece_leaves pages (i + calls_in pages b) bs)) in
+    let r = sources_split calls i (expanded_page pages b).outer (calls_of pages bs) s in
+    elim h.0 [
+      | inl e ↦
+          let xs : List Item = part_items pages i b in
+          subst (λ (v : Tree). AreChildrenBeside pages (all_settled m a (more v us))) (sym (text_node calls xs (calm_items pages i b e)))
+          (text_child pages m a xs, nodes_show pages calls (i + calls_in pages b) (m + count (text_tree xs)) (a + length (flat (text_tree xs))) bs h.1 r.1)
+      | inr w ↦
+          let g : Tree = call_group calls i (loose_leaf Text (call_chars i (words_of pages b))) in
+          subst (λ (v : Tree). AreChildrenBeside pages (all_settled m a (more v us))) (sym (call_node pages calls i b w.words)) (
+            group_child pages calls i m a b w.words (first_source pages calls i b w.words r.0),
+            nodes_show pages calls (i + calls_in pages b) (m + count g) (a + length (flat g)) bs h.1 r.1,
+          )
+    ]
+
+-- ---- as things
+
+record IsCallThing (pages : Pages) (t : Thing) : Type 0 where
+  group : Transclusion
+  role : t.role ≡ Group group
+  call : IsWordsCall pages t.source
+
+abbrev AreCallThings : Pages → List Thing → Type 0
+AreCallThings pages [] = Unit {0}
+AreCallThings pages (t ∷ ts) = IsCallThing pages t × AreCallThings pages ts
+
+-- some of the pieces are these, in their order, and no other one calls
+abbrev ThingsOf : Pages → List (List ℕ) → List Thing → Type 0
+ThingsOf pages bs ts = StayButForOthers pages bs (thing_sources ts) × AreCallThings pages ts
+
+stay_past : (pages : Pages) (b : List ℕ) (bs ds : List (List ℕ)) → (expanded_page pages b).outer ≡ [] → StayButForOthers pages bs ds → StayButForOthers pages (b ∷ bs) ds
+stay_past pages b bs [] e h = (e, h)
+stay_past pages b bs (d ∷ ds) e h = inr (e, h)
+
+text_things : (block : Tree) (m a at from : ℕ) (xs : List Item) (us : Trees) (X : List Thing → Type 0)
+    → (Every (Finds block) (found_in (at + length (flat (settled m a (text_tree xs)))) (from + length (visible (items (settled m a (text_tree xs))))) (all_settled (m + count (text_tree xs)) (a + length (flat (text_tree xs))) us))
+    → X (things_with (kept_nodes block) (all_numbers (all_settled (m + count (text_tree xs)) (a + length (flat (text_tree xs))) us))))
+    → Every (Finds block) (found_in at from (all_settled m a (more (text_tree xs) us)))
+    → X (things_with (kept_nodes block) (all_numbers (all_settled m a (more (text_tree xs) us))))
+unfolding label_at
+text_things block m a at from xs us X f e =
+    f (every_right (Finds block) (found_from at from (settled m a (text_tree xs))) _ e)
+
+found_first : (block : Tree) (m : ℕ) (ns : List ℕ) (k : Kept) → kept_with m (kept_nodes block) ≡ Some k
+    → things_with (kept_nodes block) (m ∷ ns) ≡ thing_of k ∷ things_with (kept_nodes block) ns
+found_first block m ns k e = ap (λ (o : Option Kept). found_thing o ++ things_with (kept_nodes block) ns) e
+
+group_things : (pages : Pages) (calls : List OuterCall) (block : Tree) (i m a at from : ℕ) (t : ItemTree) (us : Trees) (b : List ℕ) (bs : List (List ℕ)) → 0 < m
+    → IsWordsCall pages b → source_of_call (slice_get calls i) ≡ b
+    → (Every (Finds block) (found_in (at + length (flat (settled m a (call_group calls i t)))) (from + length (visible (items (settled m a (call_group calls i t))))) (all_settled (m + count (call_group calls i t)) (a + length (flat (call_group calls i t))) us))
+    → ThingsOf pages bs (things_with (kept_nodes block) (all_numbers (all_settled (m + count (call_group calls i t)) (a + length (flat (call_group calls i t))) us))))
+    → Every (Finds block) (found_in at from (all_settled m a (more (call_group calls i t) us)))
+    → ThingsOf pages (b ∷ bs) (things_with (kept_nodes block) (all_numbers (all_settled m a (more (call_group calls i t) us))))
+group_things pages calls block i m a at from t us b bs n w is f e =
+    let g : Tree = settled m a (call_group calls i t) in
+    let rest : Trees = all_settled (m + count (call_group calls i t)) (a + length (flat (call_group calls i t))) us in
+    let k : KeptNode = found_at at from g in
+    let found : kept_with m (kept_nodes block) ≡ Some (kept_of block k) =
+    own_found (Finds block) at from (label g) (children_of g) (not_zero m n) (every_left (Finds block) (found_from at from g) _ e) in
+    let r = f (every_right (Finds block) (found_from at from g) _ e) in
+    subst (ThingsOf pages (b ∷ bs)) (sym (found_first block m (all_numbers rest) (kept_of block k) found)) (
+      inl (sym is, r.0),
+      (record { group = transclusion block k.extent g; role = refl; call = subst (IsWordsCall pages) (sym is) w }, r.1),
+    )
+
+nodes_things : (pages : Pages) (calls : List OuterCall) (block : Tree) (i m a at from : ℕ) (bs : List (List ℕ)) → 0 < m → AreTextsOrCalls pages bs
+    → AreSourcesAt calls i (calls_of pages bs) → Every (Finds block) (found_in at from (nodes_from pages calls i m a bs))
+    → ThingsOf pages bs (things_with (kept_nodes block) (all_numbers (nodes_from pages calls i m a bs)))
+nodes_things pages calls block i m a at from [] n h s e = (tt, tt)
+nodes_things pages calls block i m a at from (b ∷ bs) n h s e =
+    let us : Trees = all_cut_texts (all_in_page calls (piece_leaves pages (i + calls_in pages b) bs)) in
+    let r = sources_split calls i (expanded_page pages b).outer (calls_of pages bs) s in
+    let P : Tree → Type 0 = λ (v : Tree). Every (Finds block) (found_in at from (all_settled m a (more v us)))
+    → ThingsOf pages (b ∷ bs) (things_with (kept_nodes block) (all_numbers (all_settled m a (more v us)))) in
+    elim h.0 [
+      | inl z ↦
+          let xs : List Item = part_items pages i b in
+          subst P (sym (text_node calls xs (calm_items pages i b z)))
+          (text_things block m a at from xs us (ThingsOf pages (b ∷ bs))
+          (λ x.
+          let y = nodes_things pages calls block (i + calls_in pages b) (m + count (text_tree xs)) (a + length (flat (text_tree xs)))
+          (at + length (flat (settled m a (text_tree xs)))) (from + length (visible (items (settled m a (text_tree xs))))) bs (later m (count (text_tree xs)) n) h.1 r.1 x in
+          (stay_past pages b bs _ z y.0, y.1))) e
+      | inr w ↦
+          let t : ItemTree = loose_leaf Text (call_chars i (words_of pages b)) in
+          let g : Tree = call_group calls i t in
+          subst P (sym (call_node pages calls i b w.words))
+          (group_things pages calls block i m a at from t us b bs n w (first_source pages calls i b w.words r.0)
+          (λ x. nodes_things pages calls block (i + calls_in pages b) (m + count g) (a + length (flat g)) (at + length (flat (settled m a g)))
+          (from + length (visible (items (settled m a g)))) bs (later m (count g) n) h.1 r.1 x)) e
+    ]
+
+-- ---- they are such as texts are typed beside
+
+call_thing : (pages : Pages) (t : Thing) → IsCallThing pages t → IsPageThing pages t
+call_thing pages t h =
+    let c = h.call in
+    let line : ends_line t.role ≡ false = ap ends_line h.role in
+    record {
+      folder = subst (λ (r : Role). IsOfFolder r pages t) (sym h.role) c.words;
+      read = record { source = inr (c.call, line); begins = c.begins; ends = c.ends };
+      part = c.part;
+      sealed = c.sealed;
+      shut = (c.shut, λ e. let no : true ≡ false = sym (ap is_group h.role) ∙ e in absurd (cc));
+      utf8 = c.utf8;
+    }
+
+may_follow : (g : Transclusion) (before behind : List Glyph) → MayFollow (Group g) before behind
+may_follow g before [] = tt
+may_follow g before (x ∷ xs) = inl tt
+
+meet_there : (pages : Pages) (t n : Thing) → IsCallThing pages t → IsCallThing pages n → MeetThere pages t n
+meet_there pages t n h k = λ e.
+    let left : List Glyph = own_glyphs (shown_thing pages t) in
+    let right : List Glyph = own_glyphs (shown_thing pages n) in (
+      subst (λ (r : Role). MayFollow r left right) (sym h.role) (may_follow h.group left right),
+      subst (λ (r : Role). MayLead r (ends_word false left)) (sym k.role) tt,
+    )
+
+meet_later : (pages : Pages) (t : Thing) (ts : List Thing) → IsCallThing pages t → AreCallThings pages ts → MeetLater pages t ts
+meet_later pages t [] h k = tt
+meet_later pages t (n ∷ ts) h k = (meet_there pages t n h k.0, meet_later pages t ts h k.1)
+
+call_things : (pages : Pages) (ts : List Thing) → AreCallThings pages ts → ArePageThings pages ts
+call_things pages [] h = tt
+call_things pages (t ∷ ts) h = (call_thing pages t h.0, meet_later pages t ts h.0 h.1, call_things pages ts h.1)
+
+-- ---- the block
+
+sources_before : (calls : List OuterCall) (k : ℕ) (cs ds : List OuterCall) → AreMoved cs ds → AreSourcesAt calls k ds → AreSourcesAt calls k cs
+sources_before calls k [] [] m h = tt
+sources_before calls k [] (d ∷ ds) m h = absurd m
+sources_before calls k (c ∷ cs) [] m h = absurd m
+sources_before calls k (c ∷ cs) (d ∷ ds) m h =
+    let o : IsMoved c d = m.0 in
+    let same : d.source ≡ c.source = ap (λ (x : OuterCall). x.source) o.now ∙ sym (ap (λ (x : OuterCall). x.source) o.was) in
+    (h.0 ∙ same, sources_before calls (suc k) cs ds m.1 h.1)
+
+same_nodes : (t : Tree) → children_of t ≡ nodes_in t
+same_nodes (tree l ts) = refl
+
+block_finds : (block : Tree) (n : ℕ) → 0 < n → counts_up n (kept_nodes block) ≡ true → is_leaf (label block).kind ≡ false
+    → Every (Finds block) (found_in (0 + length (label block).opening) (0 + length (label block).opening) (children_of block))
+block_finds (tree l ts) n some counts leaf = inside_found (Finds (tree l ts)) 0 0 l ts (held_if l.kind leaf) (all_found (tree l ts) n some counts)
+
+pub texts_beside : (pages : Pages) (q : List ℕ) (block : Tree) (n at i : ℕ) (calls : List OuterCall) → 0 < n
+    → block ≡ settled n at (cut_texts (block_in calls (tree_round a_paragraph (part_items pages i q)))) → AreSourcesAt calls i (expanded_page pages q).outer
+    → IsTextAndCalls pages q → IsBesideCalls pages a_paragraph q block
+texts_beside pages q block n at i calls some is sources_are h =
+    let p : IsInPieces pages q = h.pieced in
+    let bs : List (List ℕ) = p.pieces in
+    let ps : List Part = content_parts_of a_paragraph (part_items pages i q) in
+    let m : ℕ = next_after kind.Para n in
+    let a : ℕ = at + length (sources []) in
+    let v : Tree = cut_texts (block_in calls (tree_round a_paragraph (part_items pages i q))) in
+    let w = as_written pages q p in
+    let round = paragraph_round ps (p.texts i) (p.begins i) (p.ends i) in
+    let nodes : children_of block ≡ nodes_from pages calls i m a bs =
+    ap children_of is ∙ same_nodes (settled n at v)
+    ∙ ap (λ (u : Tree). nodes_in (settled n at (cut_texts u))) (block_is calls (plain kind.Para) [] ps [] round)
+    ∙ nodes_are calls n at (plain kind.Para) [] ps [] refl refl
+    ∙ ap (λ (ts : List ItemTree). all_settled m a (all_cut_texts (all_in_page calls ts))) (h.leaves i) in
+    let given : AreSourcesAt calls i (calls_of pages bs) = sources_before calls i (calls_of pages bs) (expanded_page pages q).outer w.calls_are sources_are in
+    let more_than : 0 < m = omega (arith, some) in
+    let counts : counts_up n (kept_nodes block) ≡ true =
+    subst (λ (t : Tree). counts_up n (kept_nodes t) ≡ true) (sym is) (settled_counts n at v some (block_bare calls (tree_round a_paragraph (part_items pages i q)))) in
+    let leaf : is_leaf (label block).kind ≡ false = ap (λ (t : Tree). is_leaf (label t).kind) is in
+    let x : ℕ = 0 + length (label block).opening in
+    let finds : Every (Finds block) (found_in x x (nodes_from pages calls i m a bs)) =
+    subst (λ (us : Trees). Every (Finds block) (found_in x x us)) nodes (block_finds block n some counts leaf) in
+    let things = nodes_things pages calls block i m a x x bs more_than h.each given finds in
+    let there : ThingsOf pages bs (page_things block) =
+    subst (λ (us : Trees). ThingsOf pages bs (things_with (kept_nodes block) (all_numbers us))) (sym nodes) things in
+    record {
+      paragraph = refl;
+      pieces = bs;
+      is = p.is;
+      parts = p.parts;
+      own = subst HaveOwn (sym nodes) (nodes_own pages calls i m a bs more_than h.each);
+      children = subst (AreChildrenBeside pages) (sym nodes) (nodes_show pages calls i m a bs h.each given);
+      things = call_things pages (page_things block) there.1;
+      among = there.0;
+    }
