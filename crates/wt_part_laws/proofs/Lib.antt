@@ -1,4 +1,5 @@
 pub mod SameWalks
+pub mod EndWalks
 pub mod RunCuts
 pub mod OwnWalks
 pub mod CallTexts
