@@ -19,3 +19,8 @@ pub mod Standing
 pub mod Touching
 pub mod TurnsUnedited
 pub mod Unmoved
+pub mod SentTrees
+pub mod SentMarks
+pub mod SentPages
+pub mod ChosenHtml
+pub mod SentCalls

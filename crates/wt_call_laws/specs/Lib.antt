@@ -4,3 +4,5 @@ pub mod Changed
 pub mod Choices
 pub mod Sent
 pub mod Untouched
+pub mod SentHtml
+pub mod EditsSent

@@ -8,3 +8,5 @@ pub mod OwnSeams
 pub mod OwnItems
 pub mod BlockAt
 pub mod LinedParts
+pub mod CalmLines
+pub mod ToldAmong

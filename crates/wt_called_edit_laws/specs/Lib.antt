@@ -48,3 +48,4 @@ pub mod PlacedAmong
 pub mod LinedAmong
 pub mod LinedHeadings
 pub mod ToldLines
+pub mod ToldAmong

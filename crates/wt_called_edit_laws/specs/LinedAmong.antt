@@ -2,7 +2,7 @@
 use Rattle.std.specs.Prelude.{◌≡◌, ◌≢◌, ◌⊎◌, ◌≤◌, ℕ, ◌+◌, None, List, [], ◌∷◌, ◌++◌, length}
 use Rattle.std.specs.Str.{IsUtf8}
 use Rattle.wt_span.specs.declared.form.ItemForm.TheVariants as form
-use Rattle.wt_span.specs.Items.{Item, char, whole, call_of}
+use Rattle.wt_span.specs.Items.{Item, char, whole, call_of, sources}
 use Rattle.wt_span.specs.Origins.{OuterCall, Span}
 use Rattle.wt_annotated.specs.Seams.{last_of, text_from}
 use Rattle.wt_lines.specs.Lines.{content, full_lines}
@@ -11,10 +11,9 @@ use Rattle.wt_tables.specs.Parts.{joined}
 use Rattle.wt_expand.specs.PageCalls.{expanded_page}
 use Rattle.wt_expand.specs.Work.{Pages}
 use Rattle.wt_commands.specs.Answers.{refusal_of_page}
-use Rattle.wt_text_edit_laws.specs.BlockSpots.{BlockSpot, spots_source}
+use Rattle.wt_text_edit_laws.specs.BlockSpots.{BlockSpot}
 use Rattle.wt_text_edit_laws.specs.NoCalls.{CallsNothing}
 use Rattle.wt_text_edit_laws.specs.PageCuts.{EndsClosed, AreFree}
-use Rattle.wt_text_edit_laws.specs.TextBlocks.{source_of}
 use Rattle.wt_called_edit_laws.specs.Covered.{AreInNoGroup}
 use Rattle.wt_called_edit_laws.specs.Groups.{called_tree}
 use Rattle.wt_called_edit_laws.specs.PlacedLines.{LinedBlock, all_lines, AreLined}
@@ -65,29 +64,25 @@ abbrev pub AreBeside : ℕ → ℕ → List Span → Type 0
 AreBeside from to [] = Unit {0}
 AreBeside from to (s ∷ ss) = ((s.1 ≤ from) ⊎ (to ≤ s.0)) × AreBeside from to ss
 
--- So it is of each block with the marks that begin it, where so many bytes come before the first part.
+-- So it is of the lines of each block, where so many bytes come before the first part.
 abbrev pub AreUntouched : List OuterCall → List Span → ℕ → List Item → List LinedBlock → Type 0
 AreUntouched calls texts at es [] = Unit {0}
 AreUntouched calls texts at es (b ∷ bs) =
     let line = at + length (text_from calls None (es ++ joined b.before)) in
-    let end = at + length (text_from calls None ((es ++ joined b.before) ++ b.marks)) + length (source_of b.block b.text) in
-    AreBeside line end texts × AreUntouched calls texts end (ending (joined (b.first ∷ b.more))) bs
-
--- a block that ends the page holds no mark that nothing ends
-abbrev pub AllClosed : List BlockSpot → List ℕ → Type 0
-AllClosed [] behind = Unit {0}
-AllClosed (s ∷ ss) behind = EndsClosed (source_of s.block s.text) (spots_source ss behind) × AllClosed ss behind
+    let own = joined (b.first ∷ b.more) in
+    AreBeside line (line + length (sources (b.marks ++ own))) texts × AreUntouched calls texts (line + length (sources (b.marks ++ content own))) (ending own) bs
 
 -- ---- the page
 
 -- The lines of the expanded page are those of these blocks, and those beside them. The blocks call nothing, none is tangled, no call that is text has a
--- byte of one, and no group of the page's tree has the first byte of one. The page isn't refused.
+-- byte of their lines, and no group of the page's tree has the first byte of one. The page isn't refused, and at its end no
+-- comment and no hidden part is open.
 pub record IsLinedAmong (pages : Pages) (page : List ℕ) (bs : List LinedBlock) (behind : List (List Item)) : Type 0 where
   pub utf8 : IsUtf8 page
+  pub closed : EndsClosed page []
   pub are : full_lines (expanded_page pages page).items ≡ all_lines bs behind
   pub lined : AreLined bs behind
   pub own : AreOwnLines bs
-  pub closed : AllClosed (spots_of_lines pages page bs) (end_of_lines pages page bs behind)
   pub free : AreFree (spots_of_lines pages page bs)
   pub untouched : AreUntouched (expanded_page pages page).outer (expanded_page pages page).text_calls 0 [] bs
   pub unrefused : refusal_of_page pages page ≡ None

@@ -58,8 +58,10 @@ pub fn all_blocks_among_calls_may_be_edited()
 {}
 
 /// And these may be told by the lines of the expanded page: those before each, its own, which come from no call, and those
-/// behind the last (`IsLinedAmong`). What is on the page for these lines are its parts: the page's items are cut at each block,
-/// no call goes over the end of one, and each part is expanded to its lines. So this page may be edited with all of them.
+/// behind the last (`IsLinedAmong`). What is on the page for these lines are its parts: the page's items are cut at each
+/// block, no call goes over the end of one, and each part is expanded to its lines. So this page may be edited with all of
+/// them. A page that calls nothing, told by its lines (`IsLinedPage`), is one of these, whatever the folder has, and its
+/// parts are the same.
 pub fn lines_of_an_expanded_page_are_cut_at_its_blocks()
     ensures whole { (pages : Pages) (page : List ℕ) (ls : List LinedBlock) (behind : List (List Item)) → IsLinedAmong pages page ls behind
         → spots_source (spots_of_lines pages page ls) (end_of_lines pages page ls behind) ≡ page }
@@ -67,4 +69,8 @@ pub fn lines_of_an_expanded_page_are_cut_at_its_blocks()
         → IsPlacedAmong pages (spots_of_lines pages page ls) (end_of_lines pages page ls behind) }
     ensures editable { (pages : Pages) (page : List ℕ) (ls : List LinedBlock) (behind : List (List Item)) → IsLinedAmong pages page ls behind
         → IsEditablePage pages (spots_of_lines pages page ls) (end_of_lines pages page ls behind) }
+    ensures calm { (pages : Pages) (page : List ℕ) (ls : List LinedBlock) (behind : List (List Item)) → IsLinedPage page ls behind
+        → IsLinedAmong pages page ls behind }
+    ensures parts { (pages : Pages) (page : List ℕ) (ls : List LinedBlock) (behind : List (List Item)) → full_lines (page_items page) ≡ all_lines ls behind
+        → (spots_of_lines pages page ls ≡ spots_by [] ls) × (end_of_lines pages page ls behind ≡ end_by [] ls behind) }
 {}

@@ -13,9 +13,11 @@ ghost use Rattle.wt_text_edit_laws.specs.PageCuts.{AreBlockItems, EndsClosed};
 ghost use Rattle.wt_text_edit_laws.specs.TextBlocks.{TextBlock, a_heading, block_tree};
 ghost use Rattle.wt_called_edit_laws.specs.CalledPages.{IsCalledPage};
 ghost use Rattle.wt_called_edit_laws.specs.EditsAt.{IsStanding};
+ghost use Rattle.wt_called_edit_laws.specs.LinedAmong.{IsLinedAmong};
 ghost use Rattle.wt_called_edit_laws.specs.LinedHeadings.{sides_of, text_of, IsLinedHeading};
 ghost use Rattle.wt_called_edit_laws.specs.PlacedLines.{spots_by, end_by, IsLinedPage};
 ghost use Rattle.wt_called_edit_laws.specs.PlacedSpots.{IsShut};
+ghost use Rattle.wt_called_edit_laws.specs.ToldAmong.{IsToldAmong};
 ghost use Rattle.wt_called_edit_laws.specs.ToldLines.{Told, lined, IsToldPage};
 
 /// A heading's line is told by itself. Where one of a page's lines, behind the marks that begin it, is of a heading's kind and
@@ -28,11 +30,14 @@ pub fn headings_are_told_by_their_lines()
 {}
 
 /// So any number of paragraphs and headings of a page that calls nothing, and in which no node can only be kept as a whole, are
-/// told by nothing but their lines (`IsToldPage`): the page may be edited with all of them.
+/// told by nothing but their lines (`IsToldPage`): the page may be edited with all of them. In a page that calls they are told
+/// by the lines of the expanded page (`IsToldAmong`).
 pub fn blocks_are_told_by_their_lines()
     ensures lined { (page : List ℕ) (ts : List Told) (behind : List (List Item)) → IsToldPage page ts behind → IsLinedPage page (map lined ts) behind }
     ensures called { (pages : Pages) (page : List ℕ) (ts : List Told) (behind : List (List Item)) → IsToldPage page ts behind
         → IsCalledPage pages (spots_by [] (map lined ts)) (end_by [] (map lined ts) behind) }
+    ensures among { (pages : Pages) (page : List ℕ) (ts : List Told) (behind : List (List Item)) → IsToldAmong pages page ts behind
+        → IsLinedAmong pages page (map lined ts) behind }
 {}
 
 /// Where a node of a page's tree is such a block and isn't tangled there, no tag is open at the end of a node in it (`IsShut`).

@@ -6,19 +6,19 @@ use Rattle.std.proofs.lemmas.Slice.Eq.{bytes_eq-Decides}
 use Rattle.wt_tree.specs.declared.kind.Kind.TheVariants as kind
 use Rattle.wt_tree.specs.Opened.{opened}
 use Rattle.wt_tree.specs.Tiling.{is_group}
-use Rattle.wt_tree.specs.Tree.{Label, Tree, tree, Trees}
+use Rattle.wt_tree.specs.Tree.{Label, Tree, tree}
 use Rattle.wt_html_grammar.specs.Markup.{Pair, Markup, Markups, text, node, empty, more}
 use Rattle.wt_html_grammar.proofs.Steps.{if_true}
 use Rattle.wt_schema.specs.declared.why.FitWhy.TheVariants as why
 use Rattle.wt_schema.specs.Attributes.{value_of, has}
-use Rattle.wt_schema.specs.Data.{Data, id_for}
+use Rattle.wt_schema.specs.Data.{Data}
 use Rattle.wt_schema.specs.Fit.{Misfit, label_for, elements_of_all, texts_in, are_blank, with_children, within, fit_nodes, elements_in, is_marked_root, BodyElement, body_in, fit_body_told, body_data, fit_body, fit}
 use Rattle.wt_schema.specs.Groups.{Piece, gathered}
-use Rattle.wt_schema.specs.Rows.{row, row_by}
+use Rattle.wt_schema.specs.Rows.{row}
 use Rattle.wt_schema.specs.Sections.{is_section_name, is_mark_pair, bared, all_bared, opened_if_fit}
-use Rattle.wt_page_laws.specs.EditMarks.{is_chosen_row, is_chosen, pairs_marked, marked, all_marked, part_marked, parts_marked, child_marked, children_marked, document_marked, mark_by, label_marked, tree_marked, trees_marked}
+use Rattle.wt_page_laws.specs.EditMarks.{is_chosen_row, is_chosen, pairs_marked, marked, all_marked, part_marked, parts_marked, child_marked, children_marked, document_marked, tree_marked}
 use Rattle.wt_page_laws.proofs.MarkedTrees.{opened_marked}
-use Rattle.wt_page_laws.proofs.MarkedElements.{all_pieces, BeginGroups, texts_same, blank_same, gathered_marked, other_marked, alone_label, from_ok, sync_kind, nodes_fit}
+use Rattle.wt_page_laws.proofs.MarkedElements.{texts_same, blank_same, gathered_marked, other_marked, alone_label, from_ok, sync_kind, nodes_fit}
 
 -- ---- sections
 

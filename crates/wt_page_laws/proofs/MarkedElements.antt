@@ -1,6 +1,6 @@
 -- A document in which elements have the mark of an edit fits as the same page, with this mark on their nodes.
 use Rattle.std.proofs.Common.{◌≡◌, ℕ, suc, ◌+◌, Bool, true, false, Option, Some, None, Result, Ok, Err, List, [], ◌∷◌, ◌++◌, map, refl, sym, ap, ap₂, ◌∙◌, subst, codes, option_map}
-use Rattle.std.specs.Prelude.{◌||◌, ◌&&◌, not, is_some, find, filter, if◌then◌else◌}
+use Rattle.std.specs.Prelude.{◌||◌, ◌&&◌, not, is_some, find, if◌then◌else◌}
 use Rattle.std.specs.Str.{bytes_eq}
 use Rattle.std.proofs.lemmas.Bool.{and_parts}
 use Rattle.wt_tree.specs.declared.kind.AttrName.{AttrName}
@@ -11,24 +11,24 @@ use Rattle.wt_tree.specs.declared.kind.Mark.{Mark}
 use Rattle.wt_tree.specs.declared.kind.Mark.TheVariants as mark
 use Rattle.wt_tree.specs.declared.node.DataMw.{DataMw}
 use Rattle.wt_tree.specs.declared.row.Own.{Own}
-use Rattle.wt_tree.specs.Kinds.{attribute_name, is_block, is_numbered, is_section, spelling, texts_of_kind}
+use Rattle.wt_tree.specs.Kinds.{attribute_name, is_section, spelling, texts_of_kind}
 use Rattle.wt_tree.specs.Leaves.{text_leaf, sep_leaf}
 use Rattle.wt_recut.specs.Recut.{is_blank}
 use Rattle.wt_tree.specs.Tiling.{is_group}
-use Rattle.wt_tree.specs.Tree.{Label, Tree, tree, Trees, none as no_trees, more as one_more}
+use Rattle.wt_tree.specs.Tree.{Label, Tree, tree, Trees, more as one_more}
 use Rattle.wt_datamw.specs.declared.sync.Sync.{Sync}
 use Rattle.wt_html_grammar.specs.Markup.{Pair, Markup, Markups, text, node, empty, more}
-use Rattle.wt_html_grammar.proofs.Steps.{if_true, if_false}
+use Rattle.wt_html_grammar.proofs.Steps.{if_false}
 use Rattle.wt_schema.specs.declared.why.FitWhy.TheVariants as why
 use Rattle.wt_schema.specs.declared.standing.Standing.{Standing}
 use Rattle.wt_schema.specs.declared.standing.Standing.TheVariants as stands
-use Rattle.wt_schema.specs.Attributes.{value_of, has, id_of, mark_of}
+use Rattle.wt_schema.specs.Attributes.{value_of, has, mark_of}
 use Rattle.wt_schema.specs.Data.{Data, both, data_of, data_for, id_for, sync_fits, mw_fits, is_extension_of}
-use Rattle.wt_schema.specs.Fit.{Misfit, Position, within, elements, elements_of_all, leaf_in, source_of, with_sync, held_as, texts_in, are_blank, label_for, group_label, label_as, piece_as, onto, onto_told, children_in, with_children, one_piece, text_fits, is_block_row, row_as, is_block_element, behind_it, has_place, fits_place, is_inside, fit_told, fit_row, fit_text, fit_node, fit_nodes}
-use Rattle.wt_schema.specs.Groups.{standing, standing_by, is_open, open_by, open_after, is_gap, is_further, is_grouped, goes_on, is_dropped, is_span, is_none, Piece, single, begun, further, furthers, gathered}
+use Rattle.wt_schema.specs.Fit.{Misfit, Position, within, elements, elements_of_all, leaf_in, with_sync, held_as, texts_in, are_blank, label_for, label_as, piece_as, onto_told, children_in, with_children, one_piece, text_fits, is_block_row, row_as, behind_it, has_place, fits_place, is_inside, fit_told, fit_row, fit_text, fit_node, fit_nodes}
+use Rattle.wt_schema.specs.Groups.{standing, standing_by, is_open, open_by, is_gap, is_further, goes_on, is_dropped, is_none, Piece, single, begun, further, furthers, gathered}
 use Rattle.wt_schema.specs.Rows.{read_kinds, is_row, row_by, row, own_told, own_of, attrs_for, holds_text, shows_text}
 use Rattle.wt_schema.specs.Sections.{is_section_name}
-use Rattle.wt_page_laws.specs.EditMarks.{content_mark, is_chosen_row, is_chosen, pairs_marked, marked, all_marked, mark_by, label_marked, tree_marked, trees_marked}
+use Rattle.wt_page_laws.specs.EditMarks.{content_mark, is_chosen_row, is_chosen, pairs_marked, marked, all_marked, mark_by, tree_marked, trees_marked}
 use Rattle.wt_page_laws.proofs.MarkedTrees.{text_marked, sep_marked, held_marked}
 
 -- ---- what the other attributes say stays

@@ -1,22 +1,19 @@
 -- A document in which elements have the mark of an edit has a text: that of the document, with this attribute in the tags of these
 -- elements.
-use Rattle.std.proofs.Common.{◌≡◌, ℕ, suc, ◌+◌, ◌*◌, Bool, true, false, Option, Some, None, Result, Ok, Err, List, [], ◌∷◌, ◌++◌, map, refl, sym, ap, ap₂, ◌∙◌, subst, codes, arith}
+use Rattle.std.proofs.Common.{◌≡◌, ℕ, suc, ◌+◌, Bool, true, false, Option, Some, None, Ok, List, [], ◌∷◌, ◌++◌, map, refl, sym, ap, ap₂, ◌∙◌, subst, codes}
 use Rattle.std.specs.Prelude.{◌&&◌, ◌||◌, not, filter, is_some, if◌then◌else◌}
 use Rattle.std.specs.Str.{bytes_eq}
 use Rattle.std.specs.Option.{option_or}
 use Rattle.std.proofs.lemmas.Bool.{or_parts}
 use Rattle.std.proofs.lemmas.Slice.Eq.{bytes_eq-Decides}
 use lib.Utf8.{encode}
-use Rattle.wt_tree.specs.declared.kind.Kind.{Kind}
 use Rattle.wt_tree.specs.Tree.{Tree}
 use Rattle.wt_html_grammar.specs.Signs.{is_among}
-use Rattle.wt_html_grammar.specs.Grammar.{plain, Attribute, IsAttribute, AreAttributes, Slash, Element, Items, element, void, none, sign, child, spell, IsElement, AreItems, Document, IsDocument, spell_document}
+use Rattle.wt_html_grammar.specs.Grammar.{plain, Attribute, IsAttribute, AreAttributes, Element, Items, element, void, none, sign, child, IsElement, AreItems, Document, spell_document}
 use Rattle.wt_html_grammar.specs.Markup.{Pair, pair_of, Markup, Markups, text, node, empty, more, unit_of, flush, meaning, contents, Stands}
-use Rattle.wt_schema.specs.declared.standing.Standing.{Standing}
-use Rattle.wt_schema.specs.declared.standing.Standing.TheVariants as stands
 use Rattle.wt_schema.specs.Attributes.{value_of, has}
-use Rattle.wt_schema.specs.Fit.{elements, elements_of_all, elements_in, is_marked_root, BodyElement, body_in, body_of, fit_body, fit}
-use Rattle.wt_schema.specs.Groups.{standing, standing_by, open_after}
+use Rattle.wt_schema.specs.Fit.{elements, elements_of_all, elements_in, is_marked_root, BodyElement, body_in, fit_body, fit}
+use Rattle.wt_schema.specs.Groups.{standing_by, open_after}
 use Rattle.wt_schema.specs.Rows.{row}
 use Rattle.wt_schema.specs.Sections.{is_section_name, is_mark_pair, bared, all_bared}
 use Rattle.wt_schema.specs.Unsourced.{is_marked, is_unsourced, lacks_source, unsourced_as, unsourced_node, unsourced_nodes, unsourced_body, unsourced}

@@ -1,6 +1,6 @@
 -- What marks on nodes leave as it is: how texts are cut anew, what is a block, and what sections hold.
-use Rattle.std.proofs.Common.{◌≡◌, ℕ, Bool, true, false, Option, Some, None, List, [], ◌∷◌, ◌++◌, length, map, refl, sym, ap, ap₂, ◌∙◌}
-use Rattle.std.specs.Prelude.{◌||◌, ◌&&◌, not, if◌then◌else◌}
+use Rattle.std.proofs.Common.{◌≡◌, ℕ, Bool, true, false, Option, List, [], ◌∷◌, ◌++◌, length, refl, sym, ap, ap₂, ◌∙◌}
+use Rattle.std.specs.Prelude.{◌||◌, ◌&&◌, if◌then◌else◌}
 use Rattle.wt_tree.specs.declared.kind.Kind.{Kind}
 use Rattle.wt_tree.specs.declared.kind.Kind.TheVariants as kind
 use Rattle.wt_tree.specs.declared.kind.Mark.TheVariants as mark
@@ -11,10 +11,10 @@ use Rattle.wt_tree.specs.Kinds.{writing, is_block, is_section}
 use Rattle.wt_tree.specs.Leaves.{leaf_label, text_leaf, sep_leaf}
 use Rattle.wt_tree.specs.Opened.{opened_before, all_opened_before, opened}
 use Rattle.wt_tree.specs.Tiling.{is_group}
-use Rattle.wt_tree.specs.Tree.{Label, Tree, tree, Trees, none, more, label}
-use Rattle.wt_recut.specs.Recut.{is_blank, has_break, is_as_text, is_text, shows_block, any_shows_block, is_border, is_passed, leads_to_block, front_ranges, rest_ranges, joined_ranges, text_onto, onto, joined_texts, from_start, front_of, rest_of, parts_before, text_before, cut_before, cut_from, recut}
+use Rattle.wt_tree.specs.Tree.{Tree, tree, Trees, none, more}
+use Rattle.wt_recut.specs.Recut.{is_blank, has_break, is_as_text, shows_block, any_shows_block, is_border, is_passed, leads_to_block, front_ranges, rest_ranges, joined_ranges, text_onto, onto, joined_texts, from_start, front_of, rest_of, parts_before, text_before, cut_before, cut_from, recut}
 use Rattle.wt_schema.specs.Fit.{held_as}
-use Rattle.wt_page_laws.specs.EditMarks.{mark_by, label_marked, tree_marked, trees_marked}
+use Rattle.wt_page_laws.specs.EditMarks.{mark_by, tree_marked, trees_marked}
 
 -- ---- leaves
 

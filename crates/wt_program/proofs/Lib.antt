@@ -6,8 +6,3 @@ pub mod CalmCalls
 pub mod TextCalls
 pub mod ProseCalls
 pub mod PlacedCalls
-pub mod SentTrees
-pub mod SentMarks
-pub mod SentPages
-pub mod ChosenHtml
-pub mod SentCalls

@@ -5,5 +5,3 @@ pub mod CalledCalls
 pub mod ContentCalls
 pub mod ProseCalls
 pub mod PlacedCalls
-pub mod SentHtml
-pub mod EditsSent

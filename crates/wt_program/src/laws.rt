@@ -8,7 +8,7 @@ ghost use Rattle.wt_program.specs.CalledCalls.{TakesTextsAmongCalls};
 ghost use Rattle.wt_program.specs.Calls.{TakesTexts};
 ghost use Rattle.wt_program.specs.CellCalls.{TakesTextsInCells};
 ghost use Rattle.wt_program.specs.ContentCalls.{TakesContentsAmongCalls};
-ghost use Rattle.wt_program.specs.PlacedCalls.{TakesContentsAtPlaces, TakesTextsAtPlaces, TakesContentsInLines, TakesTextsInLines, TakesContentsInExpandedLines, TakesTextsInExpandedLines};
+ghost use Rattle.wt_program.specs.PlacedCalls.{TakesContentsAtPlaces, TakesTextsAtPlaces, TakesContentsInLines, TakesTextsInLines};
 ghost use Rattle.wt_program.specs.ProseCalls.{TakesChangedProse};
 
 /// Every call that keeps what `run` of `wt_pagetool` promises (`Ends`, `EndsAsEdit`) takes edited contents of paragraphs
@@ -65,8 +65,8 @@ pub fn calls_take_texts_in_cells()
 
 /// Where a call takes contents on pages with calls, it takes those of paragraphs and headings that aren't tangled, at their
 /// places in a page that calls nothing and in which no node can only be kept as a whole (`IsPlacedPage`): whatever they
-/// hold and whatever is round them, in the body, in cells and in captions. So it takes texts. The same is said of such a
-/// page by its lines (`IsLinedPage`).
+/// hold and whatever is round them, in the body, in cells and in captions. So it takes texts. The same is said of any page,
+/// with calls and without, by the lines of the expanded page (`IsLinedAmong`), of those whose lines come from no call.
 pub fn contents_at_their_places_are_taken_so()
     ensures contents { (c : Call) (ended : ℕ) → TakesContentsAmongCalls c ended → TakesContentsAtPlaces c ended }
     ensures texts { (c : Call) (ended : ℕ) → TakesContentsAmongCalls c ended → TakesTextsAtPlaces c ended }
@@ -78,14 +78,6 @@ pub fn contents_at_their_places_are_taken_so()
 pub fn calls_take_contents_in_lines()
     ensures contents { (c : Call) (ended : ℕ) → Ends c ended → EndsAsEdit c ended → TakesContentsInLines c ended }
     ensures texts { (c : Call) (ended : ℕ) → Ends c ended → EndsAsEdit c ended → TakesTextsInLines c ended }
-{}
-
-/// So it is of pages with calls, by the lines of the expanded page (`IsLinedAmong`): each such call takes contents and texts of
-/// paragraphs and headings whose lines come from no call, in the body, in cells and in captions, whatever calls are round
-/// them, where none is tangled and none is in a group.
-pub fn calls_take_contents_by_lines_among_calls()
-    ensures contents { (c : Call) (ended : ℕ) → Ends c ended → EndsAsEdit c ended → TakesContentsInExpandedLines c ended }
-    ensures texts { (c : Call) (ended : ℕ) → Ends c ended → EndsAsEdit c ended → TakesTextsInExpandedLines c ended }
 {}
 
 /// Every such call takes paragraphs that come into a page of typed paragraphs and go from it (`IsProseChange`): `edit` has

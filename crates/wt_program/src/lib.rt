@@ -14,16 +14,14 @@ ghost use Rattle.wt_program.specs.PlacedCalls.{TakesContentsInLines};
 ghost use Rattle.wt_program.specs.ProseCalls.{TakesChangedProse};
 
 mod laws;
-mod sent_html;
 
 pub use laws::{
-    calls_take_changed_prose, calls_take_contents_among_calls,
-    calls_take_contents_by_lines_among_calls, calls_take_contents_in_lines, calls_take_texts,
-    calls_take_texts_among_calls, calls_take_texts_anywhere, calls_take_texts_in_cells,
-    contents_at_their_places_are_taken_so, texts_among_calls_are_taken_so,
-    texts_in_cells_are_taken_so, texts_on_pages_without_calls_are_taken_so,
+    calls_take_changed_prose, calls_take_contents_among_calls, calls_take_contents_in_lines,
+    calls_take_texts, calls_take_texts_among_calls, calls_take_texts_anywhere,
+    calls_take_texts_in_cells, contents_at_their_places_are_taken_so,
+    texts_among_calls_are_taken_so, texts_in_cells_are_taken_so,
+    texts_on_pages_without_calls_are_taken_so,
 };
-pub use sent_html::{chosen_contents_can_be_sent, edits_can_be_sent, edits_have_their_html};
 use std::alloc::Global;
 use wt_devices::{Folder, Sink, Source};
 pub use wt_pagetool::tell_no_memory;
@@ -52,9 +50,9 @@ pub fn run<S: Source, F: Folder, W: Sink, E: Sink>(
         (fetched_from F.Folder folder.old folder.new) (written_to W.Sink out.old out.new)
         (written_to E.Sink err.old err.new)) result }
 
-    // On a page that calls nothing these blocks are told by the page's lines alone (`IsLinedPage`): any paragraphs and
-    // headings in the body, in cells and in captions that aren't tangled, where no node of the page can only be kept as a
-    // whole. Edited contents of any of them are taken so, too.
+    // On any page that isn't refused, with calls or without, these blocks are told by the lines of the expanded page
+    // (`IsLinedAmong`): any paragraphs and headings in the body, in cells and in captions whose lines come from no call, that
+    // aren't tangled and in no group, whatever calls are before, between and behind them. Edited contents of any are taken so.
     ensures takes_contents_in_lines { TakesContentsInLines (call words.now (read_from S.Source input.old input.new)
         (fetched_from F.Folder folder.old folder.new) (written_to W.Sink out.old out.new)
         (written_to E.Sink err.old err.new)) result }

@@ -100,9 +100,22 @@ unguarded = refl
 
 -- apostrophes, colons and `_` may be in words, each before another character, and `&` before a space
 pub an_apostrophe : AreWordBytes (codes "it's")
-an_apostrophe =
-    (refl, (λ e. absurd (cc)), (λ e. absurd (cc)), (refl, (λ e. absurd (cc)), (λ e. absurd (cc)), (refl, (λ e. refl), (λ e. absurd (cc)),
-    (refl, (λ e. absurd (cc)), (λ e. absurd (cc)), tt))))
+an_apostrophe = (
+  refl,
+  (λ e. absurd (cc)),
+  (λ e. absurd (cc)),
+  (
+    refl,
+    (λ e. absurd (cc)),
+    (λ e. absurd (cc)),
+    (
+      refl,
+      (λ e. refl),
+      (λ e. absurd (cc)),
+      (refl, (λ e. absurd (cc)), (λ e. absurd (cc)), tt),
+    ),
+  ),
+)
 
 pub an_ampersand : AreWordBytes (codes "& b")
 an_ampersand = (refl, (λ e. absurd (cc)), (λ e. refl), (refl, (λ e. absurd (cc)), (λ e. absurd (cc)), (refl, (λ e. absurd (cc)), (λ e. absurd (cc)), tt)))

@@ -194,6 +194,7 @@ with_space b bs e s r f = by (b == 38) refl
         both_read (38 ∷ 32 ∷ []) ds (page_chars (38 ∷ 32 ∷ [])) (page_chars ds) ampersand_read (f d ds i) in
         let is : b ∷ bs ≡ 38 ∷ 32 ∷ ds = ap₂ (λ (x : ℕ) (xs : List ℕ). x ∷ xs) j (i ∙ ap (λ (x : ℕ). x ∷ ds) h) in
         subst (λ (q : List ℕ). ReadsAs q (page_chars q)) (sym is) whole_read
+
     by : (v : Bool) → (b == 38) ≡ v → ReadsAs (b ∷ bs) (page_chars (b ∷ bs))
     by true i = after bs refl (s i) ((Decides-eqb b 38).0 i)
     by false i = one_read b bs (firm_byte b e i) r

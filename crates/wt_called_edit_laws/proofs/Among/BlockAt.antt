@@ -1,16 +1,17 @@
 -- A block among the items of an expanded page: the page's items, where calls are characters, are cut at it, and so are the page's bytes.
-use Rattle.std.proofs.Common.{arith, ◌≡◌, ◌⊎◌, inl, inr, ℕ, ◌+◌, ◌≤◌, Option, None, List, [], ◌∷◌, ◌++◌, length, refl, sym, ap, ap₂, ◌∙◌, subst, append_assoc, length-append}
+use Rattle.std.proofs.Common.{arith, ◌≡◌, ◌⊎◌, inl, inr, ℕ, ◌+◌, ◌≤◌, Option, None, List, [], ◌∷◌, ◌++◌, length, refl, sym, ap, ap₂, ◌∙◌, subst, append_assoc, append-nil, length-append}
 use Rattle.std.proofs.lemmas.Grind.{flat_map-append}
-use Rattle.wt_span.specs.Items.{Item, source, sources}
+use Rattle.wt_span.specs.Items.{Item, char, source, sources}
 use Rattle.wt_span.specs.Origins.{OuterCall, Span}
 use Rattle.wt_annotated.specs.Seams.{last_of, text_from}
 use Rattle.wt_annotated.proofs.Seams.{text_append_from}
 use Rattle.wt_expand.specs.PageCalls.{expanded_page}
 use Rattle.wt_expand.specs.PageItems.{page_items}
 use Rattle.wt_expand.specs.Work.{Pages}
-use Rattle.wt_text_edit_laws.specs.PageCuts.{AreBlockItems}
+use Rattle.wt_text_edit_laws.specs.PageCuts.{AreBlockItems, EndsClosed}
 use Rattle.wt_text_edit_laws.specs.TextBlocks.{TextBlock, source_of}
 use Rattle.wt_text_edit_laws.proofs.Cuts.ItemCuts.{HaveBytes}
+use Rattle.wt_text_edit_laws.proofs.Cuts.Unmarked.{unmarked_before}
 use Rattle.wt_beside_laws.proofs.Derived.BlockContents.{block_unmarked}
 use Rattle.wt_beside_laws.proofs.Derived.BodyRead.{parts_are}
 use Rattle.wt_called_edit_laws.specs.CalledContents.{StayText}
@@ -51,7 +52,7 @@ own_seam : (xs ys : List Item) → last_of None xs ≡ None → IsOwnSeam xs ys
 own_seam [] ys e = tt
 own_seam (x ∷ xs) ys e = inl e
 
-beside_first : (from to : ℕ) (spans : List Span) → from ≤ to → AreBeside from to spans → AreBeside from from spans
+pub beside_first : (from to : ℕ) (spans : List Span) → from ≤ to → AreBeside from to spans → AreBeside from from spans
 beside_first from to [] le h = tt
 beside_first from to (s ∷ spans) le h = (by h.0, beside_first from to spans le h.1)
   where
@@ -59,7 +60,7 @@ beside_first from to (s ∷ spans) le h = (by h.0, beside_first from to spans le
     by (inl l) = inl l
     by (inr r) = inr (omega (arith, r, le))
 
-beside_front : (from mid to : ℕ) (spans : List Span) → mid ≤ to → AreBeside from to spans → AreBeside from mid spans
+pub beside_front : (from mid to : ℕ) (spans : List Span) → mid ≤ to → AreBeside from to spans → AreBeside from mid spans
 beside_front from mid to [] le h = tt
 beside_front from mid to (s ∷ spans) le h = (by h.0, beside_front from mid to spans le h.1)
   where
@@ -86,15 +87,15 @@ text_to pages page p xs = p + length (text_from (calls_of pages page) None xs)
 
 -- ---- past items before a cut
 
-record IsPast (pages : Pages) (page : List ℕ) (p : ℕ) (xs ys qs : List Item) : Type 0 where
-  before : List Item
-  behind : List Item
-  is : qs ≡ before ++ behind
-  source : sources before ≡ text_from (calls_of pages page) None xs
-  clear : IsClear (text_to pages page p xs) 0 (members_of page)
-  next : IsRest pages page (text_to pages page p xs) ys behind
+pub record IsPast (pages : Pages) (page : List ℕ) (p : ℕ) (xs ys qs : List Item) : Type 0 where
+  pub before : List Item
+  pub behind : List Item
+  pub is : qs ≡ before ++ behind
+  pub source : sources before ≡ text_from (calls_of pages page) None xs
+  pub clear : IsClear (text_to pages page p xs) 0 (members_of page)
+  pub next : IsRest pages page (text_to pages page p xs) ys behind
 
-past_front : (pages : Pages) (page : List ℕ) (p : ℕ) (xs ys qs : List Item) → IsRest pages page p (xs ++ ys) qs → last_of None xs ≡ None
+pub past_front : (pages : Pages) (page : List ℕ) (p : ℕ) (xs ys qs : List Item) → IsRest pages page p (xs ++ ys) qs → last_of None xs ≡ None
     → AreBeside (text_to pages page p xs) (text_to pages page p xs) (expanded_page pages page).text_calls → IsPast pages page p xs ys qs
 past_front pages page p xs ys qs r ends beside =
     let calls : List OuterCall = calls_of pages page in
@@ -121,13 +122,13 @@ past_front pages page p xs ys qs r ends beside =
     }
 
 -- past items of the page's own
-record IsPastOwn (pages : Pages) (page : List ℕ) (p : ℕ) (os ys qs : List Item) : Type 0 where
-  behind : List Item
-  is : qs ≡ os ++ behind
-  clear : IsClear (p + length (sources os)) 0 (members_of page)
-  next : IsRest pages page (p + length (sources os)) ys behind
+pub record IsPastOwn (pages : Pages) (page : List ℕ) (p : ℕ) (os ys qs : List Item) : Type 0 where
+  pub behind : List Item
+  pub is : qs ≡ os ++ behind
+  pub clear : IsClear (p + length (sources os)) 0 (members_of page)
+  pub next : IsRest pages page (p + length (sources os)) ys behind
 
-past_own : (pages : Pages) (page : List ℕ) (p : ℕ) (os ys qs : List Item) → IsRest pages page p (os ++ ys) qs → AreOfPage os
+pub past_own : (pages : Pages) (page : List ℕ) (p : ℕ) (os ys qs : List Item) → IsRest pages page p (os ++ ys) qs → AreOfPage os
     → AreBeside p (p + length (sources os)) (expanded_page pages page).text_calls → IsPastOwn pages page p os ys qs
 past_own pages page p os ys qs r own beside =
     let calls : List OuterCall = calls_of pages page in
@@ -171,17 +172,67 @@ pub record IsBlockHere (pages : Pages) (page : List ℕ) (p : ℕ) (xs ms os : L
   pub some : HaveBytes os
   pub alone : page_items (source_of k q) ≡ os
   pub stays : (n : ℕ) → StayText k n os → StayText k n (page_items q)
+  pub closed : EndsClosed page [] → EndsClosed (source_of k q) (sources behind)
   pub first : IsClear (block_from pages page p xs ms) 0 (members_of page)
   pub last : IsClear (block_to pages page p xs ms k q) 0 (members_of page)
   pub next : IsRest pages page (block_to pages page p xs ms k q) ys behind
 
-beside_last : (from mid to : ℕ) (spans : List Span) → from ≤ mid → AreBeside from to spans → AreBeside mid to spans
+pub beside_last : (from mid to : ℕ) (spans : List Span) → from ≤ mid → AreBeside from to spans → AreBeside mid to spans
 beside_last from mid to [] le h = tt
 beside_last from mid to (s ∷ spans) le h = (by h.0, beside_last from mid to spans le h.1)
   where
     by : (s.1 ≤ from) ⊎ (to ≤ s.0) → (s.1 ≤ mid) ⊎ (to ≤ s.0)
     by (inl l) = inl (omega (arith, l, le))
     by (inr r) = inr r
+
+pub no_bytes : (xs : List Item) → HaveBytes xs → sources xs ≡ [] → xs ≡ []
+no_bytes [] h e = refl
+no_bytes (x ∷ xs) h e =
+    let a = length-append (source x) (sources xs) in
+    let z = ap length e in
+    absurd (omega (arith, h.0, a, z))
+
+closed_by : (line bs : List ℕ) → (bs ≡ [] → EndsClosed line []) → EndsClosed line bs
+closed_by line [] f = f refl
+closed_by line (b ∷ bs) f = tt
+
+abbrev page_bytes_of : List Item → List Item → List ℕ
+page_bytes_of front os = sources front ++ (sources os ++ sources [])
+
+page_again : (page : List ℕ) (front os : List Item) → page_items page ≡ front ++ os → page_items (page_bytes_of front os) ≡ front ++ (os ++ [])
+page_again page front os e =
+    let all : page_items page ≡ front ++ (os ++ []) = e ∙ ap (λ zs. front ++ zs) (sym (append-nil os)) in
+    ap page_items (parts_are page front os [] all) ∙ all
+
+-- where nothing is open at the page's end, nothing is open at that of a block that ends it
+block_closed : (page : List ℕ) (k : TextBlock) (q : List ℕ) (front os behind : List Item) → page_items page ≡ front ++ (os ++ behind) → AreBlockItems k q os
+    → sources os ≡ source_of k q → HaveBytes behind → EndsClosed page [] → EndsClosed (source_of k q) (sources behind)
+block_closed page k q front os behind whole block is_source some closed = closed_by (source_of k q) (sources behind) last
+  where
+    break : List Item
+    break = char None 10 ∷ []
+
+    last : sources behind ≡ [] → EndsClosed (source_of k q) []
+    last e =
+        let none : behind ≡ [] = no_bytes behind some e in
+        let all : page_items page ≡ front ++ os = whole ∙ ap (λ zs. front ++ (os ++ zs)) none ∙ ap (λ zs. front ++ zs) (append-nil os) in
+        let more : page_items (page ++ 10 ∷ []) ≡ front ++ ((os ++ break) ++ []) =
+        closed ∙ ap (λ zs. zs ++ break) all ∙ append_assoc front os break ∙ ap (λ zs. front ++ zs) (sym (append-nil (os ++ break))) in
+        let again : page_items (sources front ++ (sources (os ++ break) ++ sources [])) ≡ front ++ ((os ++ break) ++ []) =
+        ap page_items (parts_are (page ++ 10 ∷ []) front (os ++ break) [] more) ∙ more in
+        let line : page_items (sources (os ++ break)) ≡ os ++ break =
+        own_alone front (os ++ break) [] again (unmarked_before os [] (block_unmarked k q os block)) in
+        let now : page_items (page_bytes_of front os) ≡ front ++ (os ++ []) = page_again page front os all in
+        let own : page_items (sources os) ≡ os = own_alone front os [] now (block_unmarked k q os block) in
+        let bytes : sources (os ++ break) ≡ source_of k q ++ 10 ∷ [] = flat_map-append source os break ∙ ap (λ (bs : List ℕ). bs ++ 10 ∷ []) is_source in
+        sym (ap page_items bytes) ∙ line ∙ ap (λ zs. zs ++ break) (sym own ∙ ap page_items is_source)
+
+-- what is on the page for items and marks of the page's own behind them
+pub marked_text : (calls : List OuterCall) (xs ms : List Item) → last_of None xs ≡ None → AreOfPage ms
+    → text_from calls None (xs ++ ms) ≡ text_from calls None xs ++ sources ms
+marked_text calls xs ms ends marks =
+    text_append_from calls None xs ms ∙ ap (λ (o : Option ℕ). text_from calls None xs ++ text_from calls o ms) ends
+    ∙ ap (λ (bs : List ℕ). text_from calls None xs ++ bs) (own_text calls None ms (from_page ms marks))
 
 pub block_here : (pages : Pages) (page : List ℕ) (p : ℕ) (xs ms os : List Item) (k : TextBlock) (q : List ℕ) (ys qs : List Item)
     → IsRest pages page p (xs ++ (ms ++ (os ++ ys))) qs → last_of None xs ≡ None → AreOfPage ms → AreOfPage os → AreBlockItems k q os → sources os ≡ source_of k q
@@ -192,9 +243,7 @@ block_here pages page p xs ms os k q ys qs r ends marks own block is_source besi
     let line : ℕ = text_to pages page p xs in
     let from : ℕ = block_from pages page p xs ms in
     let to : ℕ = block_to pages page p xs ms k q in
-    let marked : text_from calls None (xs ++ ms) ≡ text_from calls None xs ++ sources ms =
-    text_append_from calls None xs ms ∙ ap (λ (o : Option ℕ). text_from calls None xs ++ text_from calls o ms) ends
-    ∙ ap (λ (bs : List ℕ). text_from calls None xs ++ bs) (own_text calls None ms (from_page ms marks)) in
+    let marked : text_from calls None (xs ++ ms) ≡ text_from calls None xs ++ sources ms = marked_text calls xs ms ends marks in
     let sum = ap length marked in
     let two = length-append (text_from calls None xs) (sources ms) in
     let size : line + length (sources ms) ≡ from = omega (arith, sum, two) in
@@ -212,6 +261,7 @@ block_here pages page p xs ms os k q ys qs r ends marks own block is_source besi
     let whole : page_items page ≡ front ++ (os ++ third.behind) = at_block.whole ∙ ap (λ zs. front ++ zs) third.is in
     let again : page_items (sources front ++ (sources os ++ sources third.behind)) ≡ front ++ (os ++ third.behind) =
     ap page_items (parts_are page front os third.behind whole) ∙ whole in
+    let at_behind : HaveBytes third.behind = third.next.some in
     record {
       before = before;
       behind = third.behind;
@@ -222,6 +272,7 @@ block_here pages page p xs ms os k q ys qs r ends marks own block is_source besi
       some = have_front os third.behind (subst HaveBytes third.is at_block.some);
       alone = ap page_items (sym is_source) ∙ own_alone front os third.behind again (block_unmarked k q os block);
       stays = λ n h. stays_so k n q front os third.behind block again h;
+      closed = block_closed page k q front os third.behind whole block is_source at_behind;
       first = subst (λ (n : ℕ). IsClear n 0 (members_of page)) size second.clear;
       last = subst (λ (n : ℕ). IsClear n 0 (members_of page)) all_size third.clear;
       next = subst (λ (n : ℕ). IsRest pages page n ys third.behind) all_size third.next;

@@ -5,7 +5,7 @@ use Rattle.std.specs.Str.{IsUtf8}
 use Rattle.std.proofs.lemmas.Bool.Decides.{nat_tests}
 use Rattle.std.proofs.lemmas.Grind.{flat_map-append}
 use Rattle.wt_span.specs.Items.{Item, char, whole, source, sources, call_of}
-use Rattle.wt_span.specs.Origins.{OuterCall}
+use Rattle.wt_span.specs.Origins.{OuterCall, Span}
 use Rattle.wt_span.specs.Runs.{AreRuns}
 use Rattle.wt_span.proofs.RunLaws.{runs_are}
 use Rattle.wt_annotated.specs.Seams.{last_of, text_from}
@@ -25,7 +25,7 @@ use Rattle.wt_commands.specs.Answers.{refusal_of_page}
 use Rattle.wt_text_edit_laws.specs.BlockSpots.{BlockSpot, spots_source}
 use Rattle.wt_text_edit_laws.specs.LonePages.{page_chars}
 use Rattle.wt_text_edit_laws.specs.NoCalls.{CallsNothing}
-use Rattle.wt_text_edit_laws.specs.PageCuts.{AreBlockItems, BeginsBreak, EndsThere, AreFurtherCuts, AreCuts}
+use Rattle.wt_text_edit_laws.specs.PageCuts.{AreBlockItems, BeginsBreak, EndsThere, EndsClosed, AreFurtherCuts, AreCuts}
 use Rattle.wt_text_edit_laws.specs.ParagraphBetween.{written_rows}
 use Rattle.wt_text_edit_laws.specs.ParagraphParts.{break}
 use Rattle.wt_text_edit_laws.specs.TextBetween.{AreEnded}
@@ -43,14 +43,14 @@ use Rattle.wt_called_edit_laws.specs.CalledBlocks.{spots_among, items_behind}
 use Rattle.wt_called_edit_laws.specs.CalledContents.{StayText}
 use Rattle.wt_called_edit_laws.specs.Covered.{AreInNoGroup, IsEditablePage}
 use Rattle.wt_called_edit_laws.specs.Groups.{called_tree}
-use Rattle.wt_called_edit_laws.specs.LinedAmong.{spots_on, end_on, AreOfPage, AreOwnLines, AreBeside, AreUntouched, AllClosed, IsLinedAmong}
+use Rattle.wt_called_edit_laws.specs.LinedAmong.{spots_on, end_on, AreOfPage, AreOwnLines, AreBeside, AreUntouched, IsLinedAmong}
 use Rattle.wt_called_edit_laws.specs.Parts.{calls_to, calls_past, called_items, called_outers, IsByParts}
 use Rattle.wt_called_edit_laws.specs.PlacedAmong.{AreCalm, StandAfter, IsPlacedAmong}
 use Rattle.wt_called_edit_laws.specs.PlacedLines.{LinedBlock, all_lines, IsLinedAt, AreLinedAfter}
 use Rattle.wt_called_edit_laws.specs.PartTexts.{AreSourcesAt}
-use Rattle.wt_called_edit_laws.proofs.Among.BlockAt.{calls_of, IsRest, IsBlockHere, text_to, block_to, block_here}
+use Rattle.wt_called_edit_laws.proofs.Among.BlockAt.{calls_of, IsRest, IsBlockHere, text_to, block_to, block_here, beside_front, marked_text}
 use Rattle.wt_called_edit_laws.proofs.Among.OwnItems.{whole_rest}
-use Rattle.wt_called_edit_laws.proofs.Among.OwnSeams.{Rest, FirstLonger, FirstShorter, two_cuts, first_or, others, text_size, end_behind}
+use Rattle.wt_called_edit_laws.proofs.Among.OwnSeams.{Rest, FirstLonger, FirstShorter, two_cuts, first_or, others, sources_size, text_size, end_behind}
 use Rattle.wt_called_edit_laws.proofs.Among.PartsApart.{members_of, AreClear, ArePartsApart, parts_apart}
 use Rattle.wt_called_edit_laws.proofs.Cells.PlacedLines.{own_items, Round, round, rows_by, leads_by, own_block, own_source, past_end, both_end, some_lines, lines_end}
 use Rattle.wt_called_edit_laws.proofs.Cells.PlacedAmong.{PartsRead, parts_read, parts_called, placed_editable}
@@ -66,19 +66,19 @@ own_break (char None b) e i = let z : b ≡ 10 = grind (arith, nat_tests, i) in 
 own_break (char (Some k) b) e i = absurd (cc)
 own_break (whole f o bs) e i = absurd (cc)
 
-own_breaks : (xs : List Item) → AreOfPage xs → OwnBreaks xs
+pub own_breaks : (xs : List Item) → AreOfPage xs → OwnBreaks xs
 own_breaks [] h = tt
 own_breaks (x ∷ xs) h = ((λ i. own_break x h.0 i), own_breaks xs h.2)
 
-of_behind : (xs ys : List Item) → AreOfPage (xs ++ ys) → AreOfPage ys
+pub of_behind : (xs ys : List Item) → AreOfPage (xs ++ ys) → AreOfPage ys
 of_behind [] ys h = h
 of_behind (x ∷ xs) ys h = of_behind xs ys h.2
 
-of_front : (xs ys : List Item) → AreOfPage (xs ++ ys) → AreOfPage xs
+pub of_front : (xs ys : List Item) → AreOfPage (xs ++ ys) → AreOfPage xs
 of_front [] ys h = tt
 of_front (x ∷ xs) ys h = (h.0, h.1, of_front xs ys h.2)
 
-abbrev EndsBreak : List Item → Type 0
+abbrev pub EndsBreak : List Item → Type 0
 EndsBreak xs = (xs ≡ []) ⊎ ((zs : List Item) × (xs ≡ zs ++ break ∷ []))
 
 last_break : (v : Bool) → if◌then◌else◌ {A = List (List Item)} v ([] ∷ []) [] ≡ [] ∷ [] → v ≡ true
@@ -104,7 +104,7 @@ ended_text calls xs (inr s) =
     subst AreEnded (sym is) (lines_ended (text_from calls None s.0 ++ 10 ∷ []) (one_line (text_from calls None s.0)))
 
 -- the last of them, if there is one, is an item of the page's own
-record IsLastOwn (xs : List Item) : Type 0 where
+pub record IsLastOwn (xs : List Item) : Type 0 where
   front : List Item
   last : Item
   is : xs ≡ front ++ last ∷ []
@@ -236,10 +236,10 @@ same_front calls xs o os gs bs e ends own some t = by (two_cuts xs (o ∷ os) gs
 -- ---- one block
 
 -- nothing is left of the line before, or its line break
-abbrev IsLeft : List Item → Type 0
+abbrev pub IsLeft : List Item → Type 0
 IsLeft es = (es ≡ []) ⊎ (es ≡ break ∷ [])
 
-left_none : (es : List Item) → IsLeft es → last_of None es ≡ None
+pub left_none : (es : List Item) → IsLeft es → last_of None es ≡ None
 left_none es (inl e) = ap (last_of None) e
 left_none es (inr e) = ap (last_of None) e
 
@@ -248,34 +248,37 @@ left_whole es xs (inl e) w = ap (λ (zs : List Item). empty_end (zs ++ xs)) e �
 left_whole es xs (inr e) w = ap (λ (zs : List Item). empty_end (zs ++ xs)) e ∙ past_end xs w
 
 -- the tables that are open at a block
-abbrev open_at : List Bool → LinedBlock → List Bool
+abbrev pub open_at : List Bool → LinedBlock → List Bool
 open_at bs b = open_after bs (written_rows (length bs) b.before)
 
 -- what is before its line, and before the block
-abbrev line_front : List Item → LinedBlock → List Item
+abbrev pub line_front : List Item → LinedBlock → List Item
 line_front es b = es ++ joined b.before
 
-abbrev block_front : List Item → LinedBlock → List Item
+abbrev pub block_front : List Item → LinedBlock → List Item
 block_front es b = line_front es b ++ b.marks
 
 -- a block with its lines among those of the page
-record IsLinedHere (pages : Pages) (page : List ℕ) (open_tables : List Bool) (es : List Item) (b : LinedBlock) (tail : List (List Item)) (p : ℕ) (qs : List Item) : Type 0 where
-  around : Round b tail
-  items : es ++ joined (b.before ++ (((b.marks ++ b.first) ∷ b.more) ++ tail)) ≡ block_front es b ++ (content (own_items b) ++ (ending (own_items b) ++ joined tail))
-  ends : EndsOwn (block_front es b)
-  ended : AreEnded (text_from (calls_of pages page) None (block_front es b))
-  here : IsBlockHere pages page p (line_front es b) b.marks (content (own_items b)) b.block b.text (ending (own_items b) ++ joined tail) qs
-  block : AreBlockItems b.block b.text (content (own_items b))
-  source_is : sources (content (own_items b)) ≡ source_of b.block b.text
-  stays : StayText b.block (length (open_at open_tables b)) (content (own_items b))
-  leads : LeadsInto b.block open_tables (joined b.before ++ b.marks)
-  own : AreOfPage (content (own_items b))
+pub record IsLinedHere (pages : Pages) (page : List ℕ) (open_tables : List Bool) (es : List Item) (b : LinedBlock) (tail : List (List Item)) (p : ℕ) (qs : List Item) : Type 0 where
+  pub around : Round b tail
+  pub items : es ++ joined (b.before ++ (((b.marks ++ b.first) ∷ b.more) ++ tail)) ≡ block_front es b ++ (content (own_items b) ++ (ending (own_items b) ++ joined tail))
+  pub ends : EndsOwn (block_front es b)
+  pub ended : AreEnded (text_from (calls_of pages page) None (block_front es b))
+  pub here : IsBlockHere pages page p (line_front es b) b.marks (content (own_items b)) b.block b.text (ending (own_items b) ++ joined tail) qs
+  pub block : AreBlockItems b.block b.text (content (own_items b))
+  pub source_is : sources (content (own_items b)) ≡ source_of b.block b.text
+  pub stays : StayText b.block (length (open_at open_tables b)) (content (own_items b))
+  pub leads : LeadsInto b.block open_tables (joined b.before ++ b.marks)
+  pub own : AreOfPage (content (own_items b))
+  pub next_at : text_to pages page p (line_front es b) + length (sources (b.marks ++ content (own_items b)))
+      ≡ block_to pages page p (line_front es b) b.marks b.block b.text
 
-lined_here : (pages : Pages) (page : List ℕ) (open_tables : List Bool) (es : List Item) (b : LinedBlock) (tail : List (List Item)) (p : ℕ) (qs xs : List Item)
+pub lined_here : (pages : Pages) (page : List ℕ) (open_tables : List Bool) (es : List Item) (b : LinedBlock) (tail : List (List Item)) (p : ℕ) (qs xs : List Item)
     → AreRuns goes_on (b.before ++ (((b.marks ++ b.first) ∷ b.more) ++ tail)) xs → IsLeft es
     → IsRest pages page p (es ++ joined (b.before ++ (((b.marks ++ b.first) ∷ b.more) ++ tail))) qs → IsLinedAt open_tables b → last_of None (joined b.before) ≡ None
     → AreOfPage (b.marks ++ own_items b)
-    → AreBeside (text_to pages page p (line_front es b)) (block_to pages page p (line_front es b) b.marks b.block b.text) (expanded_page pages page).text_calls
+    → AreBeside (text_to pages page p (line_front es b)) (text_to pages page p (line_front es b) + length (sources (b.marks ++ own_items b)))
+    (expanded_page pages page).text_calls
     → IsLinedHere pages page open_tables es b tail p qs
 lined_here pages page open_tables es b tail p qs xs runs left rest h none own beside =
     let calls : List OuterCall = calls_of pages page in
@@ -295,9 +298,22 @@ lined_here pages page open_tables es b tail p qs xs runs left rest h none own be
     let items : es ++ joined (b.before ++ (((b.marks ++ b.first) ∷ b.more) ++ tail)) ≡ front ++ (b.marks ++ others) =
     ap (λ zs. es ++ zs) (r.items ∙ append_assoc before b.marks others) ∙ sym (append_assoc es before (b.marks ++ others)) in
     let is_source : sources (content text) ≡ source_of b.block b.text = own_source b.block n b.text ts h.own in
+    let line : ℕ = text_to pages page p front in
+    let to : ℕ = block_to pages page p front b.marks b.block b.text in
+    let spans : List Span = (expanded_page pages page).text_calls in
+    let e1 = ap length (marked_text calls front b.marks ends_none marks) in
+    let e2 = length-append (text_from calls None front) (sources b.marks) in
+    let e3 = ap length is_source in
+    let e4 = sources_size b.marks (content text) in
+    let e5 = sources_size b.marks text in
+    let e6 = sources_size (content text) (ending text) in
+    let e7 = ap (λ (zs : List Item). length (sources zs)) (content_ending text) in
+    let next_at : line + length (sources (b.marks ++ content text)) ≡ to = omega (arith, e1, e2, e3, e4) in
+    let within : to ≤ line + length (sources (b.marks ++ text)) = omega (arith, e1, e2, e3, e5, e6, e7) in
+    let beside_block : AreBeside line to spans = beside_front line to (line + length (sources (b.marks ++ text))) spans within beside in
     let ends : EndsBreak front = own_end None front (left_whole es before left r.front_whole) ends_none in
     let here = block_here pages page p front b.marks (content text) b.block b.text (ending text ++ joined tail) qs
-    (subst (λ zs. IsRest pages page p zs qs) items rest) ends_none marks inside block.0 is_source beside in
+    (subst (λ zs. IsRest pages page p zs qs) items rest) ends_none marks inside block.0 is_source beside_block in
     record {
       around = r;
       items = items ∙ sym (append_assoc front b.marks others);
@@ -309,6 +325,7 @@ lined_here pages page open_tables es b tail p qs xs runs left rest h none own be
       stays = block.1;
       leads = leads_by b.block open_tables b.before b.marks h.are_marks r.front_are r.front_whole h.in_cells h.apart;
       own = inside;
+      next_at = next_at;
     }
 
 -- ---- as parts
@@ -380,8 +397,7 @@ record AreLinedCuts (pages : Pages) (page : List ℕ) (last : TextBlock) (open_t
 further : (pages : Pages) (page : List ℕ) (last : TextBlock) (open_tables : List Bool) (es : List Item) (ls : List LinedBlock) (behind : List (List Item)) (p : ℕ)
     (qs xs : List Item) → AreRuns goes_on (all_lines ls behind) xs → IsEnding es → ((m : List Item) (ms : List (List Item)) → all_lines ls behind ≡ m ∷ ms → es ≡ break ∷ [])
     → IsRest pages page p (es ++ joined (all_lines ls behind)) qs → AreLinedAfter last open_tables ls behind → AreOwnLines ls
-    → AllClosed (spots_on (calls_of pages page) es ls) (end_on (calls_of pages page) es ls behind)
-    → AreUntouched (calls_of pages page) (expanded_page pages page).text_calls p es ls
+    → EndsClosed page [] → AreUntouched (calls_of pages page) (expanded_page pages page).text_calls p es ls
     → AreLinedCuts pages page last open_tables es ls behind p qs
 further pages page last open_tables es [] behind p qs xs runs i f r h own c u =
     let calls : List OuterCall = calls_of pages page in
@@ -408,7 +424,7 @@ further pages page last open_tables es (b ∷ ls) behind p qs xs runs i f r h ow
     let end_at : ℕ = block_to pages page p (line_front es b) b.marks b.block b.text in
     let d : AreLinedCuts pages page b.block now left ls behind end_at l.here.behind =
     further pages page b.block now left ls behind end_at l.here.behind (joined tail) l.around.tail_runs l.around.own_ending
-    l.around.ends l.here.next h.2 own.3 c.1 u.1 in
+    l.around.ends l.here.next h.2 own.3 c (subst (λ (n : ℕ). AreUntouched calls (expanded_page pages page).text_calls n left ls) l.next_at u.1) in
     let calm : CallsNothing (page_items (source_of b.block b.text)) = subst CallsNothing (sym l.here.alone) own.2 in
     let rows : List Row = written_rows (length open_tables) b.before in
     let same : rows_of_part open_tables front ≡ rows = rows_by open_tables b.before b.marks h.1.are_marks l.around.front_are l.around.front_whole in
@@ -417,7 +433,7 @@ further pages page last open_tables es (b ∷ ls) behind p qs xs runs i f r h ow
         record { before = l.here.before; own = content (own_items b); rest = l.here.behind; is = l.here.is; source = l.here.source; block = l.block },
         l.ended,
         subst (λ (zs : List Item). BeginsBreak (text_from calls None (block_front zs b))) (sym is_break) refl,
-        c.0,
+        subst (EndsClosed (source_of b.block b.text)) (sym d.source) (l.here.closed c),
         d.cuts,
       );
       clear = (l.here.first, l.here.last, d.clear);
@@ -448,7 +464,7 @@ page_text pages page =
     ap (text_from calls None) (sym (items_of pages page))
     ∙ part_text pages calls 0 page (subst (λ (cs : List OuterCall). AreSourcesAt cs 0 calls) (append-nil calls) (sources_first calls []))
 
-page_rest : (pages : Pages) (page : List ℕ) (ls : List (List Item)) → (expanded_page pages page).items ≡ joined ls → IsRest pages page 0 ([] ++ joined ls) (page_items page)
+pub page_rest : (pages : Pages) (page : List ℕ) (ls : List (List Item)) → (expanded_page pages page).items ≡ joined ls → IsRest pages page 0 ([] ++ joined ls) (page_items page)
 page_rest pages page ls e = record {
   rest = subst (λ zs. Rest pages (calls_of pages page) (expanded_page pages page).text_calls 0 (members_of page) 0 zs (page_items page)) e (whole_rest pages page);
   same = ap (text_from (calls_of pages page) None) (sym e) ∙ page_text pages page ∙ sym (page_sources page);
@@ -480,14 +496,15 @@ lined_among pages page (b ∷ ls) behind h =
     let end_at : ℕ = block_to pages page 0 (joined b.before) b.marks b.block b.text in
     let d : AreLinedCuts pages page b.block now left ls behind end_at l.here.behind =
     further pages page b.block now left ls behind end_at l.here.behind (joined tail) l.around.tail_runs l.around.own_ending
-    l.around.ends l.here.next h.lined.1 h.own.3 h.closed.1 h.untouched.1 in
+    l.around.ends l.here.next h.lined.1 h.own.3 h.closed
+    (subst (λ (n : ℕ). AreUntouched calls (expanded_page pages page).text_calls n left ls) l.next_at h.untouched.1) in
     let calm : CallsNothing (page_items (source_of b.block b.text)) = subst CallsNothing (sym l.here.alone) h.own.2 in
     let same : spots_source (s ∷ ss) end ≡ page = spot_source pages page [] [] b tail 0 (page_items page) l ss end d.source ∙ page_sources page in
     let utf8 : IsUtf8 (spots_source (s ∷ ss) end) = subst IsUtf8 (sym same) h.utf8 in
     let cuts : AreCuts (s ∷ ss) end = (
       record { before = l.here.before; own = content (own_items b); rest = l.here.behind; is = ap page_items same ∙ l.here.is; source = l.here.source; block = l.block },
       l.ended,
-      h.closed.0,
+      subst (EndsClosed (source_of b.block b.text)) (sym d.source) (l.here.closed h.closed),
       d.cuts,
     ) in
     let all_calm : AreCalm (s ∷ ss) = (calm, d.calm) in

@@ -142,7 +142,7 @@ runs_unmarked ms [] rs xs some h = absurd (omega (arith, some))
 runs_unmarked ms (y ∷ ys) rs xs some h =
     (h.0, ap (λ (zs : List Item). (y ∷ ys) ++ zs) (sym (joined_is goes_on rs h.0 h.3)), run_behind ms y ys h.0 h.2, h.3)
 
-lines_joined : (b : LinedBlock) (tail : List (List Item))
+pub lines_joined : (b : LinedBlock) (tail : List (List Item))
     → joined (b.before ++ (((b.marks ++ b.first) ∷ b.more) ++ tail)) ≡ (joined b.before ++ b.marks) ++ (own_items b ++ joined tail)
 lines_joined b tail =
     let ks : List (List Item) = (b.marks ++ b.first) ∷ b.more in
@@ -185,12 +185,12 @@ round b tail xs seen runs text_breaks =
     }
 
 -- of a page that calls nothing each line break is its own
-record AllBreaks (b : LinedBlock) (tail : List (List Item)) : Type 0 where
-  front : OwnBreaks (joined b.before)
-  text : OwnBreaks (own_items b)
-  rest : OwnBreaks (joined tail)
+pub record AllBreaks (b : LinedBlock) (tail : List (List Item)) : Type 0 where
+  pub front : OwnBreaks (joined b.before)
+  pub text : OwnBreaks (own_items b)
+  pub rest : OwnBreaks (joined tail)
 
-all_breaks : (b : LinedBlock) (tail : List (List Item)) (xs : List Item) → AreRuns goes_on (b.before ++ (((b.marks ++ b.first) ∷ b.more) ++ tail)) xs → OwnBreaks xs
+pub all_breaks : (b : LinedBlock) (tail : List (List Item)) (xs : List Item) → AreRuns goes_on (b.before ++ (((b.marks ++ b.first) ∷ b.more) ++ tail)) xs → OwnBreaks xs
     → AllBreaks b tail
 all_breaks b tail xs runs o =
     let front : List Item = joined b.before ++ b.marks in

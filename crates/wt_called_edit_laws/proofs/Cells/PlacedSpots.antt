@@ -5,7 +5,7 @@ use Rattle.wt_span.specs.Items.{Item, source, sources}
 use Rattle.wt_expand.specs.PageItems.{page_items}
 use Rattle.wt_expand.specs.Work.{Pages}
 use Rattle.wt_text_edit_laws.specs.BlockSpots.{BlockSpot, spots_source}
-use Rattle.wt_text_edit_laws.specs.PageCuts.{IsSpotCut, EndsThere, AreFree}
+use Rattle.wt_text_edit_laws.specs.PageCuts.{IsSpotCut, EndsThere, AreCuts, AreFree}
 use Rattle.wt_text_edit_laws.specs.TextBlocks.{TextBlock, source_of}
 use Rattle.wt_text_edit_laws.proofs.Cuts.ItemCuts.{front_alone, behind_alone}
 use Rattle.wt_beside_laws.proofs.Derived.BlockContents.{block_source, there_begins}
@@ -82,13 +82,23 @@ placed (s ∷ ss) behind r h =
       further_placed s.block now ss behind c.rest r.1 p.last h.4,
     )
 
-pub spots_called : (pages : Pages) (ss : List BlockSpot) (behind : List ℕ) → IsPlacedPage ss behind → IsCalledPage pages ss behind
-spots_called pages ss behind h =
+-- The page is cut at them, and no part of one can only be kept as a whole.
+pub record AreCutFree (ss : List BlockSpot) (behind : List ℕ) : Type 0 where
+  pub cuts : AreCuts ss behind
+  pub placed : ArePlaced (items_of_spots ss) (page_items behind)
+  pub free : AreFree ss
+
+pub spots_free : (ss : List BlockSpot) (behind : List ℕ) → IsPlacedPage ss behind → AreCutFree ss behind
+spots_free ss behind h =
     let p = page_read ss behind h.utf8 h.calls_nothing h.closed h.blocks in
     let there : ArePlaced (items_of_spots ss) (page_items behind) = placed ss behind p.read h.blocks in
-    let free : AreFree ss = page_free ss behind p.read h.shut there p.items h.ungrouped in
+    record { cuts = p.cuts; placed = there; free = page_free ss behind p.read h.shut there p.items h.ungrouped }
+
+pub spots_called : (pages : Pages) (ss : List BlockSpot) (behind : List ℕ) → IsPlacedPage ss behind → IsCalledPage pages ss behind
+spots_called pages ss behind h =
+    let f : AreCutFree ss behind = spots_free ss behind h in
     calm_contents pages ss behind (record {
-      read = cut_read ss behind h.utf8 h.calls_nothing p.cuts free;
-      placed = there;
+      read = cut_read ss behind h.utf8 h.calls_nothing f.cuts f.free;
+      placed = f.placed;
       ungrouped = h.ungrouped;
     })

@@ -1,8 +1,8 @@
 -- Worked case: the page's paragraph `x{{t}}y`, where `Template:T` is a word, is text and a call, and its node in the page's tree is one of which texts are
 -- typed beside the call.
-use Rattle.std.proofs.Common.{arith, ◌≡◌, ◌<◌, inl, inr, ℕ, Some, None, List, [], ◌∷◌, refl, sym, ap, ◌+◌, ◌∙◌, subst, All}
+use Rattle.std.proofs.Common.{arith, ◌≡◌, ◌<◌, inl, inr, ℕ, Some, None, List, [], ◌∷◌, refl, sym, ap, ◌+◌, ◌∙◌, subst}
 use Rattle.std.specs.Prelude.{codes}
-use Rattle.std.specs.Str.{is_utf8, chars, IsUtf8}
+use Rattle.std.specs.Str.{is_utf8, chars}
 use Rattle.std.specs.Str.Lossy.{utf8_valid_len}
 use Rattle.std.proofs.lemmas.List.Elements.{All-nil, All-cons}
 use lib.Utf8.{encode}
@@ -12,7 +12,6 @@ use Rattle.wt_span.specs.Tags.{raw_len, opening_tag, tag_after, closing_tag, wit
 use Rattle.wt_span.specs.Lexemes.{words, closed, sign_word, form_at}
 use Rattle.wt_span.specs.Braces.{rewritten, reduced, parts_of}
 use Rattle.wt_span.specs.Items.{Item, char}
-use Rattle.wt_span.specs.Origins.{OuterCall}
 use Rattle.wt_names.specs.Good.{is_forbidden, is_allowed, has_signature, is_step, begins_with_step, holds_step, ends_with_step, is_good, read_text}
 use Rattle.wt_names.specs.Namespace.{name_of, image, is_called, namespace_named, prefix_of, full_name_of}
 use Rattle.wt_names.specs.Reading.{whole_in, cut_namespace, title_in}
@@ -39,7 +38,7 @@ use Rattle.wt_context.specs.Styled.{with_styles}
 use Rattle.wt_quotes.specs.Styles.{style_tree_of}
 use Rattle.wt_quotes.specs.Toggles.{toggle_at, toggles_of}
 use Rattle.wt_part_laws.specs.CallTexts.{AreOwnOrTexts}
-use Rattle.wt_part_laws.specs.Expanded.{part_items, calls_in}
+use Rattle.wt_part_laws.specs.Expanded.{part_items}
 use Rattle.wt_text_edit_laws.specs.Contents.{content_parts_of}
 use Rattle.wt_text_edit_laws.specs.Paragraphs.{IsTextLine}
 use Rattle.wt_text_edit_laws.specs.ReadContents.{IsReadContent}
@@ -48,11 +47,11 @@ use Rattle.wt_beside_laws.proofs.Groups.Cases.{a_word, call, gives_b}
 use Rattle.wt_called_edit_laws.specs.CalledContents.{AreTextItems}
 use Rattle.wt_called_edit_laws.specs.CalledEdits.{IsBesideCalls}
 use Rattle.wt_called_edit_laws.specs.PartTexts.{AreSourcesAt}
-use Rattle.wt_called_edit_laws.specs.PiecedParagraphs.{BeginsOwn, EndsOwn, IsInPieces, IsWordsCall, AreTextsOrCalls, piece_leaves, IsTextAndCalls}
+use Rattle.wt_called_edit_laws.specs.PiecedParagraphs.{BeginsOwn, EndsOwn, IsWordsCall, piece_leaves, IsTextAndCalls}
 use Rattle.wt_called_edit_laws.specs.WholeContents.{AreShutParts}
 use Rattle.wt_called_edit_laws.proofs.Beside.Cases.{source, pieces, in_pieces, among, of_page, a_call, block_by}
 use Rattle.wt_called_edit_laws.proofs.Whole.TextAndCalls.{texts_beside}
-use Rattle.wt_called_edit_laws.proofs.Written.Cases.{call_part, call_read, call_settles, call_sealed, call_utf8}
+use Rattle.wt_called_edit_laws.proofs.Written.Cases.{call_part, call_settles, call_sealed, call_utf8}
 
 -- its items, of which `b` comes from the call, whatever its number is
 abbrev given : ℕ → List Item

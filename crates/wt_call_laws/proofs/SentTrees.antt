@@ -1,5 +1,5 @@
 -- The page's tree with edited contents in it may be written, and what is read of its HTML is what an editor sends.
-use Rattle.std.proofs.Common.{◌≡◌, ◌≢◌, ℕ, suc, ◌+◌, ◌<◌, ◌≤◌, ◌^◌, inl, inr, Bool, true, false, Option, Some, None, List, [], ◌∷◌, refl, sym, ap, ap₂, ◌∙◌, subst, arith}
+use Rattle.std.proofs.Common.{◌≡◌, ℕ, suc, ◌+◌, ◌≤◌, ◌^◌, inl, inr, Bool, true, false, None, List, [], ◌∷◌, refl, sym, ap, ap₂, ◌∙◌, subst, arith}
 use Rattle.std.specs.Prelude.{◌||◌, ◌&&◌, not, if◌then◌else◌}
 use Rattle.std.specs.Str.{IsUtf8}
 use Rattle.wt_tree.specs.declared.kind.Kind.{Kind}
@@ -10,26 +10,26 @@ use Rattle.wt_tree.specs.declared.row.Texts.TheVariants.{Separators, Page, Borde
 use Rattle.wt_tree.specs.declared.row.Writing.{Writing}
 use Rattle.wt_tree.specs.declared.row.Writing.TheVariants.{AsText, AsVoid, RoundCharacter, RoundChildren, AsSection, Unwritten}
 use Rattle.wt_tree.specs.Kinds.{writing, is_block, is_leaf, is_mark, texts_of_kind, may_follow, spelling}
-use Rattle.wt_tree.specs.Leaves.{leaf_label, text_leaf, sep_leaf}
+use Rattle.wt_tree.specs.Leaves.{leaf_label, text_leaf}
 use Rattle.wt_tree.specs.Tiling.{is_group}
 use Rattle.wt_tree.specs.Tree.{Label, Tree, tree, Trees, none, more, label}
-use Rattle.wt_recut.specs.Cutting.{begins_with_text, begins_with_break, is_sep_at, IsWholeBy, IsWhole, IsFront, StandsBy, AreCut}
-use Rattle.wt_recut.specs.Recut.{is_blank, are_spaces, has_break, is_as_text, is_text, shows_block, any_shows_block, is_border, is_passed, leads_to_block, recut}
+use Rattle.wt_recut.specs.Cutting.{begins_with_text, IsWhole, IsFront, StandsBy, AreCut}
+use Rattle.wt_recut.specs.Recut.{is_blank, are_spaces, has_break, is_as_text, is_text, shows_block, any_shows_block, is_border, is_passed, leads_to_block}
 use Rattle.wt_recut.proofs.CutIs.{recut_is}
 use Rattle.wt_recut.proofs.CutOnly.{cut_alone}
 use Rattle.wt_schema.specs.Html.{groups, groups_of_all, groups_by}
 use Rattle.wt_schema.specs.Rows.{holds_text}
 use Rattle.wt_schema.specs.GroupNodes.{elements_for, all_follow}
-use Rattle.wt_schema.specs.Written.{label_read, unranged, unranged_all, leaf_kind, HasLeafKind, IsTextIn, IsElementLabel, IsWrittenGroup, is_childless, NodeIsWritten, joins, goes_behind, are_ordered, IsCutIn, WrittenIn, AllWrittenIn}
+use Rattle.wt_schema.specs.Written.{label_read, unranged, unranged_all, leaf_kind, HasLeafKind, IsWrittenGroup, is_childless, NodeIsWritten, joins, goes_behind, are_ordered, IsCutIn, WrittenIn, AllWrittenIn}
 use Rattle.wt_schema.proofs.Bare.{others_read}
 use Rattle.wt_checks.specs.Kept.{children}
 use Rattle.wt_sections.specs.Gathering.{heading_count}
-use Rattle.wt_sections.specs.Sections.{level_of, opens}
+use Rattle.wt_sections.specs.Sections.{opens}
 use Rattle.wt_page_round_trip.proofs.Sectioned.{IsWrittenBody}
 use Rattle.wt_typed_blocks.specs.Sent.{Block, paragraph, heading, kind_of}
-use Rattle.wt_typed_blocks.specs.Edited.{Pieces, no_pieces, gone, written, kept, around, new_style, page_pieces, sent_pieces, text_node, IsStyle, PiecesStay, Edited, stays, edited, round, Edits, no_edits, more_edits, page_node, page_nodes, sent_node, sent_nodes, IsEdited, AreEdited}
+use Rattle.wt_typed_blocks.specs.Edited.{Pieces, no_pieces, gone, written, kept, around, new_style, page_pieces, sent_pieces, text_node, IsStyle, PiecesStay, Edited, stays, edited, round, Edits, no_edits, more_edits, page_node, page_nodes, IsEdited, AreEdited}
 use Rattle.wt_typed_blocks.specs.EditedUnmarked.{bare_node, bare_nodes}
-use Rattle.wt_program.specs.SentHtml.{typed_text, own_pieces, own_node, own_nodes, own_tree, AreApart, ArePiecesRead, IsRead, AreRead}
+use Rattle.wt_call_laws.specs.SentHtml.{typed_text, own_pieces, own_node, own_nodes, own_tree, AreApart, ArePiecesRead, IsRead, AreRead}
 
 -- ---- kinds whose texts are texts of the page
 

@@ -1,5 +1,6 @@
 -- Calls to which the HTML of an edit is given send it, and write the new page.
-use Rattle.std.proofs.Common.{◌≡◌, ◌≤◌, ℕ, None, List, length, subst, arith}
+use Rattle.std.proofs.Common.{◌≡◌, ◌≤◌, ℕ, Option, Some, None, List, length, sym, ap, ◌∙◌, subst, arith}
+use Rattle.std.specs.Prelude.{◌⊎◌}
 use Rattle.std.specs.Str.{IsUtf8}
 use Rattle.wt_span.specs.declared.limits.TheConstants.{PAGE_BYTES}
 use Rattle.wt_expand.specs.Expansion.{page_work}
@@ -9,6 +10,10 @@ use Rattle.wt_page_round_trip.proofs.Pages.{body_written}
 use Rattle.wt_page_round_trip.proofs.Sectioned.{IsWrittenBody}
 use Rattle.wt_checks.specs.Kept.{children}
 use Rattle.wt_commands.specs.Answers.{done, edit_to}
+use Rattle.wt_commands.specs.declared.command.Command.TheVariants.{Edit}
+use Rattle.wt_commands.specs.Calls.{Call}
+use Rattle.wt_commands.specs.Statuses.{IsFaultOrNoMemory}
+use Rattle.wt_pagetool.specs.Promises.{Ends}
 use Rattle.wt_typed_blocks.specs.Edited.{Edits, page_nodes, AreEdited, AreOutside}
 use Rattle.wt_text_edit_laws.specs.BlockSpots.{BlockSpot, spots_source}
 use Rattle.wt_called_edit_laws.specs.CalledPages.{IsCalledPage}
@@ -21,12 +26,14 @@ use Rattle.wt_called_edit_laws.proofs.BlocksOutside.{editable_called}
 use Rattle.wt_called_edit_laws.proofs.CallsTake.{numbered_body, contents_by, contents_paths}
 use Rattle.wt_called_edit_laws.proofs.EditFacts.{IsFramedPage, framed_page, paths_of, spots_utf8, spots_stand, well_sent}
 use Rattle.wt_called_edit_laws.proofs.OwnContents.{own_contents}
-use Rattle.wt_program.specs.EditsSent.{body_read, HasHtml, CanBeSent, IsSentSo, AnyCanBeSent}
-use Rattle.wt_program.specs.SentHtml.{edited_html, AreRead, AreChosenRead}
+use Rattle.wt_program.specs.AnyCalls.{SendsFor}
+use Rattle.wt_program.specs.Calls.{WroteNewPage}
+use Rattle.wt_call_laws.specs.EditsSent.{body_read, HasHtml, CanBeSent, IsSentSo, AnyCanBeSent}
+use Rattle.wt_call_laws.specs.SentHtml.{edited_html, AreRead, AreChosenRead}
 use Rattle.wt_program.proofs.AnyCalls.{answer_is}
 use Rattle.wt_program.proofs.BlocksCalls.{page_ends}
-use Rattle.wt_program.proofs.ChosenHtml.{html_edits, html_is_edit, html_is_read, html_sends}
-use Rattle.wt_program.proofs.SentPages.{page_html}
+use Rattle.wt_call_laws.proofs.ChosenHtml.{html_edits, html_is_edit, html_is_read, html_sends}
+use Rattle.wt_call_laws.proofs.SentPages.{page_html}
 
 pub can_be_sent : (pages : Pages) (page : List ℕ) (es : Edits) → IsUtf8 page → length page ≤ PAGE_BYTES
     → first_refusal pages page (page_work pages page) ≡ None → page_nodes es ≡ children (called_tree pages page) → AreEdited es → AreRead es
@@ -84,6 +91,22 @@ edit_is_done pages ss behind f h =
     → edit_to pages (spots_source ss behind) (sent_contents (spots_tree pages ss behind) es b) ≡ done (edited_page ss behind ps es) in
     subst P (contents_paths pages ss behind f h) (contents_by pages ss behind f h).takes
 
+-- of the pages that the folder tells
+pages_or : Pages → Option Pages → Pages
+pages_or pages None = pages
+pages_or pages (Some others) = others
+
+same_pages : (pages others : Pages) → Some pages ≡ Some others → pages ≡ others
+unfolding pages_or
+same_pages pages others e = ap (pages_or pages) e
+
+call_writes : (c : Call) (ended : ℕ) (pages : Pages) (page new : List ℕ) (sent : Label → Tree) → IsUtf8 page → Ends c ended → c.folder.pages_before ≡ Some pages
+    → SendsFor c Edit page new sent → ((b : Label) → edit_to pages page (sent b) ≡ done new) → WroteNewPage c ended new ⊎ IsFaultOrNoMemory ended
+call_writes c ended pages page new sent utf8 ends told s made =
+    page_ends c ended new
+    (answer_is c page new sent utf8 s
+    (subst (λ (ps : Pages). edit_to ps page (sent s.body) ≡ done new) (same_pages pages s.pages (sym told ∙ s.told)) (made s.body))) ends
+
 sent_so : (pages : Pages) (ss : List BlockSpot) (behind : List ℕ) (at : Choice) → IsEditablePage pages ss behind → length (spots_source ss behind) ≤ PAGE_BYTES
     → (f : IsFramedPage pages ss behind) → AreSentAt (spots_tree pages ss behind) ss (paths_of f) at → AreChosenRead at (paths_of f)
     → IsSentSo pages ss behind (paths_of f) at
@@ -105,9 +128,8 @@ sent_so pages ss behind at h room f s r =
       read = read;
       sent = sent;
       written = λ c ended title ends g now.
-          page_ends c ended (edited_page ss behind paths es)
-          (answer_is c page (edited_page ss behind paths es) (sent_contents body es) utf8 (sent.edit c title (edited_page ss behind paths es) g room now)
-          (edit_is_done pages ss behind f called (body_read body) es edit now)) ends;
+          call_writes c ended pages page (edited_page ss behind paths es) (sent_contents body es) utf8 ends g.told
+          (sent.edit c title (edited_page ss behind paths es) g room now) (λ b. edit_is_done pages ss behind f called b es edit now);
     }
 
 pub any_can_be_sent : (pages : Pages) (ss : List BlockSpot) (behind : List ℕ) → IsEditablePage pages ss behind → length (spots_source ss behind) ≤ PAGE_BYTES

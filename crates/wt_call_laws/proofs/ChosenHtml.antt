@@ -10,9 +10,9 @@ use Rattle.wt_tree.specs.declared.row.Writing.TheVariants.{AsText, AsVoid, Round
 use Rattle.wt_tree.specs.Kinds.{writing}
 use Rattle.wt_tree.specs.Plain.{Plain, text as characters, element as face_of, Plains, ended, along}
 use Rattle.wt_tree.specs.Tiling.{is_group, ids, ids_of_all}
-use Rattle.wt_tree.specs.Tree.{Label, Tree, tree, Trees, none, more, label}
+use Rattle.wt_tree.specs.Tree.{Label, Tree, tree, Trees, none, more}
 use Rattle.wt_schema.specs.GroupNodes.{elements_for, group_nodes, inner_node, inner_nodes, is_ended}
-use Rattle.wt_schema.specs.Written.{label_read, unranged, unranged_all, PlainIn, PlainsIn, TopsIn, IsNumber, IsWrittenGroup, is_childless, NodeIsWritten, WrittenIn, AllWrittenIn}
+use Rattle.wt_schema.specs.Written.{label_read, unranged, unranged_all, PlainIn, PlainsIn, TopsIn, IsWrittenGroup, is_childless, NodeIsWritten, WrittenIn, AllWrittenIn}
 use Rattle.wt_schema.proofs.Bare.{others_read}
 use Rattle.wt_schema.proofs.Faces.{held_somewhere}
 use Rattle.wt_schema.proofs.Rows.{held}
@@ -28,8 +28,8 @@ use Rattle.wt_typed_blocks.specs.Edited.{Pieces, Edited, stays, edited, round, E
 use Rattle.wt_text_edit_laws.specs.BlockSpots.{BlockSpot}
 use Rattle.wt_called_edit_laws.specs.AnyBlocks.{first_paths, other_paths, EndHere}
 use Rattle.wt_called_edit_laws.specs.ChosenContents.{Choice, pieces_of}
-use Rattle.wt_called_edit_laws.specs.EditsAt.{edited_at, edited_among, edited_by, EditsOnly, AllEditOnly, Fits, FitsSpot, AreFitting, IsContentEdit}
-use Rattle.wt_program.specs.SentHtml.{own_pieces, AreApart, ArePiecesRead, IsRead, AreRead, IfRead, AreChosenRead}
+use Rattle.wt_called_edit_laws.specs.EditsAt.{edited_at, edited_among, edited_by, EditsOnly, AllEditOnly, FitsSpot, AreFitting, IsContentEdit}
+use Rattle.wt_call_laws.specs.SentHtml.{own_pieces, AreApart, ArePiecesRead, IsRead, AreRead, IfRead, AreChosenRead}
 
 -- ---- what is read of a node of the page's HTML stands as it is
 

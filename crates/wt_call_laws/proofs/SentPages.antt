@@ -1,23 +1,21 @@
 -- Each edit of contents of a page has its HTML.
-use Rattle.std.proofs.Common.{◌≡◌, ◌≢◌, ℕ, suc, ◌+◌, ◌*◌, ◌<◌, ◌≤◌, ◌^◌, Bool, true, false, Option, Some, None, List, [], ◌∷◌, ◌++◌, length, IsUtf8, refl, sym, ap, ap₂, ◌∙◌, subst, arith, append-nil}
-use Rattle.std.specs.Prelude.{◌==◌, ◌||◌, ◌&&◌, Result, Ok, not, if◌then◌else◌}
-use Rattle.std.specs.List.{AllByRecursion}
+use Rattle.std.proofs.Common.{◌≡◌, ◌≢◌, ℕ, suc, ◌+◌, ◌*◌, ◌<◌, ◌≤◌, ◌^◌, Bool, true, false, None, List, [], ◌∷◌, ◌++◌, length, IsUtf8, refl, sym, ap, ap₂, ◌∙◌, subst, arith, append-nil}
+use Rattle.std.specs.Prelude.{◌==◌, ◌||◌, Ok, if◌then◌else◌}
 use Rattle.std.proofs.lemmas.Bool.Decides.{nat_tests}
 use Rattle.std.proofs.lemmas.List.Elements.{recursion_from_All}
 use Rattle.wt_span.specs.Items.{Item}
 use Rattle.wt_tree.specs.declared.kind.Kind.{Kind}
 use Rattle.wt_tree.specs.declared.kind.Kind.TheVariants as kind
-use Rattle.wt_tree.specs.declared.kind.Mark.TheVariants as mark
 use Rattle.wt_tree.specs.Kinds.{writing, is_numbered, is_section, texts_of_kind}
 use Rattle.wt_tree.specs.Opened.{without_sections}
-use Rattle.wt_tree.specs.Tiling.{is_group, numbers, numbers_of_all, ids_of_all, others, others_of_all, InPreorder}
-use Rattle.wt_tree.specs.Tree.{Label, Tree, tree, Trees, none, more, label}
-use Rattle.wt_html_grammar.specs.Markup.{Markup, Stands}
+use Rattle.wt_tree.specs.Tiling.{is_group, numbers, numbers_of_all, ids_of_all, others, others_of_all}
+use Rattle.wt_tree.specs.Tree.{Label, Tree, tree, Trees, none, more}
+use Rattle.wt_html_grammar.specs.Markup.{Markup}
 use Rattle.wt_schema.specs.Fit.{fit}
 use Rattle.wt_schema.specs.Html.{groups, html_text}
 use Rattle.wt_schema.specs.Read.{read, page as as_page}
 use Rattle.wt_schema.specs.Unsourced.{unsourced}
-use Rattle.wt_schema.specs.Written.{label_read, unranged, unranged_all, IsElementLabel, IsNumber, IsCutIn, IsWrittenGroup, is_childless, NodeIsWritten, AllWrittenIn}
+use Rattle.wt_schema.specs.Written.{label_read, unranged, IsElementLabel, IsNumber, IsCutIn, IsWrittenGroup, is_childless, NodeIsWritten, AllWrittenIn}
 use Rattle.wt_schema.proofs.Bare.{others_read}
 use Rattle.wt_schema.proofs.OneReading.{one_read}
 use Rattle.wt_schema.proofs.Whole.{written_stands, written_read}
@@ -28,9 +26,7 @@ use Rattle.wt_expand.proofs.ExpandedWidth.{expanded_short}
 use Rattle.wt_inline.specs.ItemTree.{ItemTrees, held_by_all}
 use Rattle.wt_page.specs.Body.{meaning}
 use Rattle.wt_page.proofs.HeldBody.{sources_meaning}
-use Rattle.wt_annotated.specs.Annotated.{annotated}
 use Rattle.wt_annotated.specs.Counted.{numbered_in_all}
-use Rattle.wt_annotated.specs.GroupData.{group_data}
 use Rattle.wt_annotated.specs.Labels.{width}
 use Rattle.wt_sections.specs.SectionLaws.{NoneIsSection}
 use Rattle.wt_sections.specs.Sections.{with_sections}
@@ -51,13 +47,13 @@ use Rattle.wt_called_edit_laws.specs.EditsAt.{sent_contents, bare_contents}
 use Rattle.wt_called_edit_laws.specs.Groups.{called_tree}
 use Rattle.wt_called_edit_laws.specs.TreeEdits.{IsNumberedBody}
 use Rattle.wt_called_edit_laws.proofs.PageBody.{page_body}
-use Rattle.wt_page_laws.specs.EditMarks.{document_marked, mark_by, label_marked, tree_marked, trees_marked}
+use Rattle.wt_page_laws.specs.EditMarks.{document_marked, mark_by, tree_marked, trees_marked}
 use Rattle.wt_page_laws.proofs.MarkedBodies.{document_fits}
 use Rattle.wt_page_laws.proofs.MarkedText.{marked_text}
-use Rattle.wt_program.specs.EditsSent.{body_read, HasHtml}
-use Rattle.wt_program.specs.SentHtml.{own_nodes, own_tree, edited_html, IsRead, AreRead, is_in, edited_numbers, numbers_edited}
-use Rattle.wt_program.proofs.SentMarks.{ChosenAre, nodes_marked}
-use Rattle.wt_program.proofs.SentTrees.{body_written, body_groups, nodes_read}
+use Rattle.wt_call_laws.specs.EditsSent.{body_read, HasHtml}
+use Rattle.wt_call_laws.specs.SentHtml.{own_nodes, own_tree, edited_html, AreRead, is_in, edited_numbers, numbers_edited}
+use Rattle.wt_call_laws.proofs.SentMarks.{ChosenAre, nodes_marked}
+use Rattle.wt_call_laws.proofs.SentTrees.{body_written, body_groups, nodes_read}
 
 -- ---- a page has fewer groups than there are numbers
 

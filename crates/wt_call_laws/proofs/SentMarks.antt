@@ -1,5 +1,5 @@
 -- The marks on the blocks whose contents were edited: by their numbers, which no other node of the page has.
-use Rattle.std.proofs.Common.{◌≡◌, ℕ, ◌<◌, inl, inr, Bool, true, false, Option, Some, None, List, [], ◌∷◌, ◌++◌, refl, sym, ap, ap₂, ◌∙◌, subst, arith}
+use Rattle.std.proofs.Common.{◌≡◌, ℕ, ◌<◌, inl, inr, Bool, true, false, List, [], ◌∷◌, ◌++◌, refl, sym, ap, ap₂, ◌∙◌, subst, arith}
 use Rattle.std.specs.Prelude.{◌==◌, ◌||◌, ◌&&◌, not, if◌then◌else◌}
 use Rattle.std.specs.List.{AllByRecursion}
 use Rattle.std.proofs.lemmas.Bool.Decides.{nat_tests}
@@ -7,7 +7,6 @@ use Rattle.wt_tree.specs.declared.kind.Kind.{Kind}
 use Rattle.wt_tree.specs.declared.kind.Kind.TheVariants as kind
 use Rattle.wt_tree.specs.declared.kind.Mark.TheVariants as mark
 use Rattle.wt_tree.specs.Kinds.{is_numbered}
-use Rattle.wt_tree.specs.Leaves.{leaf_label}
 use Rattle.wt_tree.specs.Tiling.{is_group, numbers, numbers_of_all, ids_of_all, others, others_of_all}
 use Rattle.wt_tree.specs.Tree.{Label, Tree, tree, Trees, none, more}
 use Rattle.wt_schema.specs.GroupNodes.{group_nodes}
@@ -18,7 +17,7 @@ use Rattle.wt_typed_blocks.specs.Sent.{Block, paragraph, heading, kind_of}
 use Rattle.wt_typed_blocks.specs.Edited.{Pieces, no_pieces, gone, written, kept, around, new_style, page_pieces, text_node, sent_pieces, IsStyle, PiecesStay, Edited, stays, edited, round, Edits, no_edits, more_edits, page_node, page_nodes, sent_node, sent_nodes, IsEdited, AreEdited}
 use Rattle.wt_typed_blocks.specs.EditedUnmarked.{bare_node, bare_nodes}
 use Rattle.wt_page_laws.specs.EditMarks.{mark_by, label_marked, tree_marked, trees_marked}
-use Rattle.wt_program.specs.SentHtml.{ArePiecesRead, IsRead, AreRead, edited_numbers, numbers_edited, is_in}
+use Rattle.wt_call_laws.specs.SentHtml.{ArePiecesRead, IsRead, AreRead, edited_numbers, numbers_edited, is_in}
 
 -- ---- a node without chosen numbers
 
