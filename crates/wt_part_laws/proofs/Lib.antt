@@ -1,4 +1,6 @@
 pub mod SameWalks
+pub mod EndWalks
+pub mod StartWalks
 pub mod RunCuts
 pub mod OwnWalks
 pub mod CallTexts
