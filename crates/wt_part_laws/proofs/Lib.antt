@@ -2,6 +2,7 @@ pub mod SameWalks
 pub mod RunCuts
 pub mod OwnWalks
 pub mod CallTexts
+pub mod CallPieces
 pub mod HeldBlocks
 pub mod FrameEnds
 pub mod FramesWalked
