@@ -3,6 +3,7 @@ pub mod RunCuts
 pub mod OwnWalks
 pub mod CallTexts
 pub mod CallPieces
+mod PieceCases
 pub mod HeldBlocks
 pub mod FrameEnds
 pub mod FramesWalked
