@@ -1,5 +1,5 @@
 -- What calls give among what is the page's own, whatever it is: what one call gives side by side is one group.
-use Rattle.std.specs.Prelude.{◌≡◌, ℕ, ◌==◌, false, Option, Some, None, List, [], ◌∷◌, if◌then◌else◌, slice_get}
+use Rattle.std.specs.Prelude.{◌≡◌, ◌⊎◌, ℕ, ◌==◌, false, Option, Some, None, List, [], ◌∷◌, if◌then◌else◌, slice_get}
 use Rattle.wt_tree.specs.Tree.{Tree, tree, Trees, none, more}
 use Rattle.wt_span.specs.Items.{Item, call_of}
 use Rattle.wt_span.specs.Origins.{OuterCall}
