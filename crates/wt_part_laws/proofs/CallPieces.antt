@@ -1,6 +1,6 @@
 -- A walk over nodes of calls and of the page makes one group of what one call gives side by side, and leaves all else as it is.
-use Rattle.std.proofs.Common.{◌≡◌, ◌⊎◌, ℕ, ◌+◌, ◌==◌, Bool, true, false, not, Option, None, Some, List, [], ◌∷◌, ◌++◌, length, map, refl, sym, ap, ap₂, ◌∙◌, subst, cond, inl, inr}
-use Rattle.std.specs.Prelude.{◌&&◌, ◌||◌, if◌then◌else◌, slice_get}
+use Rattle.std.proofs.Common.{◌≡◌, ℕ, ◌+◌, ◌==◌, Bool, true, false, not, Option, None, Some, List, [], ◌∷◌, ◌++◌, length, map, refl, sym, ap, ap₂, ◌∙◌, subst, cond, inl, inr}
+use Rattle.std.specs.Prelude.{◌&&◌, ◌||◌, slice_get}
 use Rattle.std.specs.List.{list_all, list_any}
 use Rattle.std.proofs.lemmas.Bool.Decides.{Decides-eqb}
 use Rattle.wt_tree.specs.Kinds.{is_leaf}
@@ -22,7 +22,7 @@ use Rattle.wt_annotated.specs.Seams.{last_of, first_of, parted, text_from}
 use Rattle.wt_annotated.specs.Walked.{free_places, clean_at, parts_from, Near, near_tied, near_nodes, near_group, near_run, near_runs, near}
 use Rattle.wt_part_laws.specs.Placeless.{placeless, all_placeless}
 use Rattle.wt_part_laws.specs.Rounded.{IsOwn, HasItems}
-use Rattle.wt_part_laws.specs.CallPieces.{AreItemsOf, IsNoBody, IsOfCall, AreOfCall, IsOwnOrGiven, AreOwnOrGiven, CallPiece, own, given, given_before, piece_before, call_pieces, group_of_call, piece_in_page, pieces_in_page}
+use Rattle.wt_part_laws.specs.CallPieces.{AreItemsOf, IsNoBody, IsOfCall, AreOfCall, IsOwnOrGiven, AreOwnOrGiven, CallPiece, own, given, given_before, piece_before, call_pieces, group_of_call, pieces_in_page}
 use Rattle.wt_part_laws.proofs.CallTexts.{itself, last_within, call_text, call_part, near_one, same_is, and_both}
 use Rattle.wt_part_laws.proofs.OwnWalks.{first_own, last_own, own_clean, walk_own, has_page}
 use Rattle.wt_part_laws.proofs.RunCuts.{FreeBefore, near_apart, near_alone}
