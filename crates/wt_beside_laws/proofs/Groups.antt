@@ -4,6 +4,8 @@ pub mod Schemes
 pub mod CalledTiles
 pub mod CalledLines
 pub mod CalledParts
+pub mod GivenTiles
+pub mod GivenParts
 pub mod CalledParagraphs
 pub mod CalledBlocks
 pub mod CalledHeadings

@@ -24,6 +24,7 @@ ghost use Rattle.wt_text_edit_laws.specs.ParagraphParts.{joined_parts, para_with
 ghost use Rattle.wt_text_edit_laws.specs.LonePages.{page_chars};
 ghost use Rattle.wt_text_edit_laws.specs.TypedHeadings.{Sides, AreSides, opening, closing_items, heading_round, IsHeadingInside, IsOfLevel};
 ghost use Rattle.wt_beside_laws.specs.Called.{items_with, owns_in, parts_with, AreWordBytes, BeginsWord, AreWords, IsCalledContent, IsCalledHeading, called_shown, shown_signs, IsCalledIn};
+ghost use Rattle.wt_beside_laws.specs.Given.{GivenSign, given_items, given_parts, AreGivenSigns};
 ghost use Rattle.wt_beside_laws.specs.Lines.{IsLineOfText};
 ghost use Rattle.wt_beside_laws.specs.Shown.{parts_shown_at};
 
@@ -90,4 +91,11 @@ pub fn texts_beside_calls_are_such_in_a_folder()
         → IsCalledContent s (shown_signs pages signs) (owns_in pages i signs) }
     ensures items { (pages : Pages) (i : ℕ) (s : Setting) (signs : List ContentSign) → IsCalledIn pages s signs
         → items_with s [] signs (owns_in pages i signs) ≡ items_with s [] (shown_signs pages signs) (owns_in pages i signs) }
+{}
+
+/// What a call gives, characters and forms in any order, such as links, URLs and references (`AreGivenSigns`), is on a line what each of these is by
+/// itself: a link beside words of the same call is the link that it is alone.
+#[tactic(auto, using(crate::proofs::Groups::GivenParts::given_line))]
+pub fn what_a_call_gives_is_each_by_itself()
+    ensures { (j : ℕ) (signs : List GivenSign) → AreGivenSigns false signs → line_parts (given_items j signs) ≡ given_parts j signs }
 {}
