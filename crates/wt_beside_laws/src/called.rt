@@ -95,7 +95,6 @@ pub fn texts_beside_calls_are_such_in_a_folder()
 
 /// What a call gives, characters and forms in any order, such as links, URLs and references (`AreGivenSigns`), is on a line what each of these is by
 /// itself: a link beside words of the same call is the link that it is alone.
-#[tactic(auto, using(crate::proofs::Groups::GivenParts::given_line))]
 pub fn what_a_call_gives_is_each_by_itself()
     ensures { (j : ℕ) (signs : List GivenSign) → AreGivenSigns false signs → line_parts (given_items j signs) ≡ given_parts j signs }
 {}

@@ -39,7 +39,7 @@ given_read j word (character b ∷ signs) c xs next ps h r =
     let one : suc k.0 ≡ 1 + k.0 = omega arith in
     subst (λ (m : ℕ). Read (m, k.1) (char (Some j) b ∷ more) (b == 39) (part Text (char (Some j) b) ∷ qs)) one
     (one_read (Some j) b k more (begins_quoted signs next) (b == 39) qs (λ e. later.first (unquoted signs next (h.1 (half_quote b e)))) (λ z. z) later)
-given_read j word (form r own ∷ signs) c xs next ps h r =
+given_read j word (form role own ∷ signs) c xs next ps h r =
     let k : Cut = given_cut signs c in
     let more : List Item = given_items j signs ++ xs in
     let qs : List Part = given_parts j signs ++ ps in
@@ -47,7 +47,7 @@ given_read j word (form r own ∷ signs) c xs next ps h r =
     let later : Read k more (begins_quoted signs next) qs = given_read j (ends_word false (map glyph_of own)) signs c xs next ps h.1 r in
     subst (λ (ys : List Item). Read all ys false ((line_parts own ++ given_parts j signs) ++ ps)) (sym (append_assoc own (given_items j signs) xs))
     (subst (λ us. Read all (own ++ more) false us) (sym (append_assoc (line_parts own) (given_parts j signs) ps))
-    (form_read r own k more (begins_quoted signs next) false qs h.0.flat h.0.node later))
+    (form_read role own k more (begins_quoted signs next) false qs h.0.flat h.0.node later))
 
 -- on a line by themselves
 pub given_line : (j : ℕ) (signs : List GivenSign) → AreGivenSigns false signs → line_parts (given_items j signs) ≡ given_parts j signs

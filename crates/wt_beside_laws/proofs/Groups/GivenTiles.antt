@@ -13,7 +13,7 @@ use Rattle.wt_tiles.specs.Contexts.{in_line}
 use Rattle.wt_tiles.specs.Glyphs.{glyph_of, is_in, like_byte, begins_like}
 use Rattle.wt_tiles.specs.Tiles.{Cut, form_at, cuts, switch_at}
 use Rattle.wt_tiles.specs.Urls.{is_word}
-use Rattle.wt_beside_laws.specs.Beginnings.{AvoidsUrls}
+use Rattle.wt_beside_laws.specs.Glyphs.{AvoidsUrls}
 use Rattle.wt_beside_laws.specs.Called.{is_half_sign}
 use Rattle.wt_beside_laws.specs.Cuts.{add_node, own_form, ends_word}
 use Rattle.wt_beside_laws.specs.Given.{GivenSign, character, form, given_items, given_glyphs, given_cut, is_given_byte, is_apart, BeginsApart, MayBeFirst, IsGivenForm, AreGivenSigns, given_last, LastMay}
