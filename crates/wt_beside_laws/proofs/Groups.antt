@@ -6,6 +6,7 @@ pub mod CalledLines
 pub mod CalledParts
 pub mod GivenTiles
 pub mod GivenParts
+pub mod GivenMeets
 mod GivenCases
 pub mod CalledParagraphs
 pub mod CalledBlocks

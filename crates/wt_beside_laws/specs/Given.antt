@@ -3,6 +3,7 @@ use Rattle.std.specs.Prelude.{◌≡◌, ℕ, ◌==◌, ◌||◌, Bool, true, fa
 use Rattle.wt_span.specs.Characters as byte
 use Rattle.wt_span.specs.Items.{Item, char}
 use Rattle.wt_guards.specs.declared.role.Role.{Role}
+use Rattle.wt_guards.specs.declared.role.Role.TheVariants.{Link, External, Bare, Switch, Toggle, Mark, Group, Function, Node}
 use Rattle.wt_inline.specs.declared.loose.Loose.TheVariants.{Text}
 use Rattle.wt_inline.specs.Parts.{Part, part}
 use Rattle.wt_tiles.specs.declared.glyph.Glyph.{Glyph}
@@ -99,6 +100,23 @@ LastMay [] more = Unit {0}
 LastMay (character b ∷ signs) more = LastMay signs more
 LastMay (form r own ∷ []) more = MayFollow r (map glyph_of own) more
 LastMay (form r own ∷ sign ∷ signs) more = LastMay (sign ∷ signs) more
+
+abbrev pub is_bare_url : Role → Bool
+is_bare_url Link = false
+is_bare_url External = false
+is_bare_url (Bare ends) = true
+is_bare_url Switch = false
+is_bare_url Toggle = false
+is_bare_url (Mark ends began) = false
+is_bare_url (Group g) = false
+is_bare_url Function = false
+is_bare_url Node = false
+
+abbrev pub ends_with_url : List GivenSign → Bool
+ends_with_url [] = false
+ends_with_url (character b ∷ signs) = ends_with_url signs
+ends_with_url (form r own ∷ []) = is_bare_url r
+ends_with_url (form r own ∷ sign ∷ signs) = ends_with_url (sign ∷ signs)
 
 -- ---- a group
 
