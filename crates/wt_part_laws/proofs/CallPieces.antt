@@ -153,9 +153,10 @@ AllTied (c ∷ cs) = (c.free ≡ false) × AllTied cs
 tied : (calls : List OuterCall) (o : Option ℕ) (at j : ℕ) (p : Option ℕ) (ts : List ItemTree) → o ≡ Some j → AreOfCall j ts
     → AllTied (near calls (group_data calls) o at p (forest ts))
 tied calls o at j p [] e h = tt
-tied calls o at j p (t ∷ ts) e h =
-    (ap₂ parted e (first_of_call j t (first_of (held_by_all (forest ts)) p) h.0) ∙ ap not (itself j),
-    tied calls (last_of o (tree_items t)) (at + length (text_from calls o (tree_items t))) j p ts (last_of_call j t o h.0) h.1)
+tied calls o at j p (t ∷ ts) e h = (
+  ap₂ parted e (first_of_call j t (first_of (held_by_all (forest ts)) p) h.0) ∙ ap not (itself j),
+  tied calls (last_of o (tree_items t)) (at + length (text_from calls o (tree_items t))) j p ts (last_of_call j t o h.0) h.1,
+)
 
 run_whole : (c : Near) (cs : List Near) → AllTied cs → runs near_tied (c ∷ cs) ≡ (c ∷ cs) ∷ []
 run_whole c [] h = refl

@@ -22,7 +22,6 @@ use Rattle.wt_beside_laws.specs.Nodes.{IsLinkNode, IsBareNode}
 abbrev of_call : List ℕ → List Item
 of_call bs = map (char (Some 0)) bs
 
-
 -- `[[b]]`
 pub a_link : IsLinkNode (byte_glyphs (codes "[[b]]"))
 unfolding link_at link_in target_of read_text is_allowed is_forbidden is_good has_signature is_step begins_with_step holds_step ends_with_step

@@ -1,9 +1,8 @@
 -- A group beside text: where `<nowiki/>` isn't put, neither is what would join a form in the group.
-use Rattle.std.proofs.Common.{arith, ◌≡◌, ℕ, ◌==◌, Bool, true, false, List, [], ◌∷◌, ◌++◌, map, refl, sym, ap, ◌∙◌, subst}
-use Rattle.std.specs.Prelude.{◌&&◌, ◌||◌, not}
+use Rattle.std.proofs.Common.{arith, ◌≡◌, ℕ, Bool, true, false, List, [], ◌∷◌, ◌++◌, map, refl, subst}
+use Rattle.std.specs.Prelude.{◌||◌, not}
 use Rattle.std.proofs.lemmas.Bool.Decides.{nat_tests}
 use Rattle.wt_span.specs.Bytes.{is_white}
-use Rattle.wt_span.specs.Items.{Item}
 use Rattle.wt_guards.specs.declared.role.Role.{Role}
 use Rattle.wt_guards.specs.declared.role.Role.TheVariants.{Link, External, Bare, Switch, Toggle, Mark, Group, Function, Node}
 use Rattle.wt_guards.specs.declared.role.Transclusion.{Transclusion}
@@ -15,9 +14,9 @@ use Rattle.wt_tiles.specs.declared.glyph.Glyph.{Glyph}
 use Rattle.wt_tiles.specs.Glyphs.{glyph_of}
 use Rattle.wt_tiles.specs.Urls.{is_word}
 use Rattle.wt_beside_laws.specs.Cuts.{ends_word}
-use Rattle.wt_beside_laws.specs.Given.{GivenSign, character, form, given_glyphs, IsGivenForm, AreGivenSigns, LastMay, is_bare_url, ends_with_url}
+use Rattle.wt_beside_laws.specs.Given.{GivenSign, character, form, AreGivenSigns, LastMay, is_bare_url, ends_with_url}
 use Rattle.wt_beside_laws.specs.Glyphs.{letter_glyphs}
-use Rattle.wt_beside_laws.specs.Nodes.{IsNode, MayFollow}
+use Rattle.wt_beside_laws.specs.Nodes.{IsNode}
 use Rattle.wt_beside_laws.proofs.NodesMeet.{by_fits, letter_may}
 
 -- ---- a letter behind it

@@ -3,7 +3,6 @@ use Rattle.std.proofs.Common.{arith, ◌≡◌, ℕ, suc, ◌+◌, ◌==◌, Boo
 use Rattle.wt_span.specs.Items.{Item, char}
 use Rattle.wt_inline.specs.declared.loose.Loose.TheVariants.{Text}
 use Rattle.wt_inline.specs.Parts.{Part, part}
-use Rattle.wt_tiles.specs.declared.glyph.Glyph.TheVariants as glyph
 use Rattle.wt_tiles.specs.Contexts.{in_line}
 use Rattle.wt_tiles.specs.Glyphs.{glyph_of}
 use Rattle.wt_tiles.specs.Tiles.{Cut, cuts}
@@ -12,7 +11,7 @@ use Rattle.wt_tiles.specs.Urls.{is_word}
 use Rattle.wt_beside_laws.specs.Cuts.{add_node, own_form, ends_word}
 use Rattle.wt_beside_laws.specs.Given.{GivenSign, character, form, given_items, given_glyphs, given_cut, given_parts, BeginsApart, AreGivenSigns}
 use Rattle.wt_beside_laws.proofs.LineParts.{form_read}
-use Rattle.wt_beside_laws.proofs.LineSegments.{cut_segments, read_line, IsRead, none_read}
+use Rattle.wt_beside_laws.proofs.LineSegments.{cut_segments, read_line, none_read}
 use Rattle.wt_beside_laws.proofs.Groups.CalledParts.{Read, one_read}
 use Rattle.wt_beside_laws.proofs.Groups.GivenTiles.{given_are, apart_sign, given_alone}
 use Rattle.wt_beside_laws.proofs.Groups.Words.{half_quote}

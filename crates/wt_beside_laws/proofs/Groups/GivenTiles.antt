@@ -16,7 +16,7 @@ use Rattle.wt_tiles.specs.Urls.{is_word}
 use Rattle.wt_beside_laws.specs.Glyphs.{AvoidsUrls}
 use Rattle.wt_beside_laws.specs.Called.{is_half_sign}
 use Rattle.wt_beside_laws.specs.Cuts.{add_node, own_form, ends_word}
-use Rattle.wt_beside_laws.specs.Given.{GivenSign, character, form, given_items, given_glyphs, given_cut, is_given_byte, is_apart, BeginsApart, MayBeFirst, IsGivenForm, AreGivenSigns, given_last, LastMay}
+use Rattle.wt_beside_laws.specs.Given.{GivenSign, character, form, given_items, given_glyphs, given_cut, is_given_byte, is_apart, BeginsApart, MayBeFirst, AreGivenSigns, given_last, LastMay}
 use Rattle.wt_beside_laws.specs.Nodes.{MayFollow}
 use Rattle.wt_beside_laws.proofs.ContentTiles.{one_more, none_more, Follows, node_follows}
 use Rattle.wt_beside_laws.proofs.NodesBegin.{node_urls}
