@@ -287,13 +287,13 @@ styled_read line s bold italic (styled kind opening closing inside t) before aft
     subst (λ (v : Bool). NestRead (kind || bold) (not kind || italic) v (cut_line (line_cut in_line s first held) (line_items s first held)) (mark_segments kind ++ nest_segments b.nest vs) ps)
     (after_delimiter s kind opening before held)
     (styled_read false s (kind || bold) (not kind || italic) inside first (delimiter kind closing ∷ signs) (mark_segments kind ++ nest_segments b.nest vs) n.1 k.1
-    (λ e. let no : true ≡ false = sym (within_style kind bold italic) ∙ e in cc) (inr (marks_first kind (nest_segments b.nest vs))) end) in
+    (λ e. let no : true ≡ false = sym (within_style kind bold italic) ∙ e in cc) (inr (marks_first None kind (nest_segments b.nest vs))) end) in
     guard_read bold italic true u
     (add_node (own_form in_line (map glyph_of (node_items (mark_source kind)))) (length (map glyph_of (node_items (mark_source kind)))) (line_cut in_line s first held))
     (node_items (mark_source kind) ++ line_items s first held) vs (node (style_tree kind ps) ∷ qs)
     (subst (λ us. NestRead bold italic true us vs (node (style_tree kind ps) ∷ qs))
     (sym (delimiter_added kind (line_cut in_line s first held) (line_items s first held)))
-    (enclosed_read bold italic kind (cut_line (line_cut in_line s first held) (line_items s first held)) (cut_line later_cut later_items) vs ps qs b k.0 a))
+    (enclosed_read None bold italic kind (cut_line (line_cut in_line s first held) (line_items s first held)) (cut_line later_cut later_items) vs ps qs b k.0 a))
 
 -- ---- the line by itself
 
