@@ -8,6 +8,7 @@ pub mod GivenTiles
 pub mod GivenParts
 pub mod GivenMeets
 mod GivenCases
+mod StyleCases
 pub mod CalledParagraphs
 pub mod CalledBlocks
 pub mod CalledHeadings
