@@ -7,6 +7,7 @@ pub mod CalledParts
 pub mod GivenTiles
 pub mod GivenParts
 pub mod GivenMeets
+pub mod GivenStyle
 mod GivenCases
 mod StyleCases
 pub mod CalledParagraphs

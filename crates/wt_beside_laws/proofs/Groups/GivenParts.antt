@@ -22,7 +22,7 @@ begins_quoted [] next = next
 begins_quoted (character b ∷ signs) next = b == 39
 begins_quoted (form r own ∷ signs) next = false
 
-unquoted : (signs : List GivenSign) (next : Bool) → BeginsApart (given_glyphs signs) → begins_quoted signs next ≡ false
+pub unquoted : (signs : List GivenSign) (next : Bool) → BeginsApart (given_glyphs signs) → begins_quoted signs next ≡ false
 unquoted [] next h = absurd h
 unquoted (character b ∷ signs) next h = (apart_sign b h).0
 unquoted (form r own ∷ signs) next h = refl
