@@ -1,8 +1,7 @@
 -- A style that a call gives, round characters and forms.
-use Rattle.std.proofs.Common.{arith, ◌≡◌, inl, inr, ℕ, suc, ◌+◌, ◌==◌, ◌||◌, Bool, true, false, not, Option, Some, None, List, [], ◌∷◌, ◌++◌, length, map, refl, sym, ap, ◌∙◌, subst, append-nil, append_assoc}
+use Rattle.std.proofs.Common.{arith, ◌≡◌, inl, inr, ℕ, suc, ◌+◌, ◌==◌, ◌||◌, Bool, true, false, not, Option, Some, List, [], ◌∷◌, ◌++◌, length, map, refl, sym, ap, ◌∙◌, subst, append-nil, append_assoc}
 use Rattle.std.proofs.lemmas.List.{map-append}
 use Rattle.wt_span.specs.Items.{Item, char}
-use Rattle.wt_quotes.specs.Styles.{width}
 use Rattle.wt_guards.specs.declared.role.Role.TheVariants.{Toggle}
 use Rattle.wt_inline.specs.declared.loose.Loose.TheVariants.{Text}
 use Rattle.wt_inline.specs.Parts.{Part, node, part}
@@ -13,7 +12,7 @@ use Rattle.wt_tiles.specs.Glyphs.{glyph_of, byte_glyphs}
 use Rattle.wt_tiles.specs.Tiles.{Cut, cuts}
 use Rattle.wt_tiles.specs.Urls.{is_word}
 use Rattle.wt_context.specs.Segments.{Segment, loose_segments}
-use Rattle.wt_context.specs.Line.{context_parts, line_parts}
+use Rattle.wt_context.specs.Line.{line_parts}
 use Rattle.wt_context.specs.Styled.{with_styles}
 use Rattle.wt_context.proofs.NestedContexts.{contexts_are}
 use Rattle.wt_beside_laws.specs.Cuts.{add_chars, add_node, own_form, ends_word}
