@@ -4,6 +4,12 @@ pub mod Schemes
 pub mod CalledTiles
 pub mod CalledLines
 pub mod CalledParts
+pub mod GivenTiles
+pub mod GivenParts
+pub mod GivenMeets
+pub mod GivenStyle
+mod GivenCases
+mod StyleCases
 pub mod CalledParagraphs
 pub mod CalledBlocks
 pub mod CalledHeadings

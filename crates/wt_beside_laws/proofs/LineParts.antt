@@ -253,16 +253,21 @@ apostrophe_next s before d after e i =
     behind (Some (letter c)) h = h
     behind (Some (thing t)) h = cc
 
-pub node_read : (t : Thing) (c : Cut) (xs : List Item) (next any : Bool) (ps : List Part) → IsFlat t.role → IsNode t.role (own_glyphs t) → Read c xs next ps
-    → Read (add_node (own_form in_line (own_glyphs t)) (length (own_glyphs t)) c) (node_items t.source ++ xs) any (line_parts (node_items t.source) ++ ps)
-node_read t c xs next any ps f n r =
-    let own : List Item = node_items t.source in
-    let h = has_form t.role (own_glyphs t) f n in
+-- a form is what its items are on a line by themselves
+pub form_read : (r : Role) (own : List Item) (c : Cut) (xs : List Item) (next any : Bool) (ps : List Part) → IsFlat r → IsNode r (map glyph_of own) → Read c xs next ps
+    → Read (add_node (own_form in_line (map glyph_of own)) (length (map glyph_of own)) c) (own ++ xs) any (line_parts own ++ ps)
+form_read role own c xs next any ps f n r =
+    let gs : List Glyph = map glyph_of own in
+    let h = has_form role gs f n in
     let long : size h.shape ≡ length own = h.whole ∙ glyphs_long own in
     let s = one_segment own h.shape h.alone long in
-    subst (λ o. Read (add_node o (length (own_glyphs t)) c) (own ++ xs) any (line_parts own ++ ps)) (sym h.alone)
+    subst (λ o. Read (add_node o (length gs) c) (own ++ xs) any (line_parts own ++ ps)) (sym h.alone)
     (subst (λ qs. Read (add_tile h.shape c) (own ++ xs) any (qs ++ ps)) (sym (node_alone own h.shape s h.whole h.before))
     (tile_read h.shape c own xs next any ps s long r))
+
+pub node_read : (t : Thing) (c : Cut) (xs : List Item) (next any : Bool) (ps : List Part) → IsFlat t.role → IsNode t.role (own_glyphs t) → Read c xs next ps
+    → Read (add_node (own_form in_line (own_glyphs t)) (length (own_glyphs t)) c) (node_items t.source ++ xs) any (line_parts (node_items t.source) ++ ps)
+node_read t c xs next any ps f n r = form_read t.role (node_items t.source) c xs next any ps f n r
 
 -- ---- the line
 

@@ -109,7 +109,7 @@ other_switches own n = elim n [
   ]
 ]
 
-node_urls : (r : Role) (own : List Glyph) → IsNode r own → AvoidsUrls own
+pub node_urls : (r : Role) (own : List Glyph) → IsNode r own → AvoidsUrls own
 node_urls Link own n = subst AvoidsUrls (sym n.is) refl
 node_urls External own n = subst AvoidsUrls (sym n.is) refl
 node_urls (Bare ends) own n = subst AvoidsUrls (sym n.is) (url_first n.first n.others n.shape n.url)

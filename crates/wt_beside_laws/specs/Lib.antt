@@ -33,3 +33,4 @@ pub mod StyledBlocks
 pub mod NewStyles
 pub mod StyledIn
 pub mod Called
+pub mod Given

@@ -1,17 +1,24 @@
 //! Laws of texts that are typed beside calls: what such a content is in the page's tree.
 
-ghost use Rattle.std.specs.Prelude.{◌≡◌, ℕ, false, Some, List, [], ◌∷◌, ◌++◌, map, All};
+ghost use Rattle.std.specs.Prelude.{◌≡◌, ℕ, Bool, true, false, Some, List, [], ◌∷◌, ◌++◌, map, All};
 ghost use Rattle.wt_tree.specs.declared.kind.Kind.TheVariants as kind;
 ghost use Rattle.wt_tree.specs.Plain.{Plains, ended, along, element, text_before, plain_before};
 ghost use Rattle.wt_span.specs.Items.{Item, char};
 ghost use Rattle.wt_span.specs.Origins.{OuterCall};
-ghost use Rattle.wt_guards.specs.Content.{ContentSign};
-ghost use Rattle.wt_guards.specs.Guards.{Setting};
+ghost use Rattle.wt_guards.specs.declared.role.Role.TheVariants.{Group};
+ghost use Rattle.wt_guards.specs.declared.role.Transclusion.{Transclusion};
+ghost use Rattle.wt_guards.specs.declared.side.Side.TheVariants as side;
+ghost use Rattle.wt_guards.specs.Content.{ContentSign, side_of};
+ghost use Rattle.wt_guards.specs.Guards.{Setting, left_side};
+ghost use Rattle.wt_guards.specs.Table.{hazard};
 ghost use Rattle.wt_expand.specs.Work.{Pages};
 ghost use Rattle.wt_lines.specs.Lines.{lines};
 ghost use Rattle.wt_inline.specs.declared.loose.Loose.TheVariants.{Text};
 ghost use Rattle.wt_inline.specs.ItemTree.{plain, nothing, further};
-ghost use Rattle.wt_inline.specs.Parts.{loose_leaf};
+ghost use Rattle.wt_inline.specs.Parts.{node, loose_leaf};
+ghost use Rattle.wt_tiles.specs.declared.glyph.Glyph.{Glyph};
+ghost use Rattle.wt_tiles.specs.Glyphs.{byte_glyphs};
+ghost use Rattle.wt_tiles.specs.Urls.{is_word};
 ghost use Rattle.wt_context.specs.Line.{line_parts};
 ghost use Rattle.wt_page.specs.Body.{meaning};
 ghost use Rattle.wt_annotated.specs.Annotated.{all_unplaced};
@@ -24,8 +31,12 @@ ghost use Rattle.wt_text_edit_laws.specs.ParagraphParts.{joined_parts, para_with
 ghost use Rattle.wt_text_edit_laws.specs.LonePages.{page_chars};
 ghost use Rattle.wt_text_edit_laws.specs.TypedHeadings.{Sides, AreSides, opening, closing_items, heading_round, IsHeadingInside, IsOfLevel};
 ghost use Rattle.wt_beside_laws.specs.Called.{items_with, owns_in, parts_with, AreWordBytes, BeginsWord, AreWords, IsCalledContent, IsCalledHeading, called_shown, shown_signs, IsCalledIn};
+ghost use Rattle.wt_beside_laws.specs.Given.{GivenSign, given_items, given_glyphs, given_parts, BeginsApart, AreGivenSigns, LastMay, ends_with_url};
+ghost use Rattle.wt_beside_laws.specs.Glyphs.{letter_glyphs};
 ghost use Rattle.wt_beside_laws.specs.Lines.{IsLineOfText};
+ghost use Rattle.wt_beside_laws.specs.Nests.{marks_of, style_of};
 ghost use Rattle.wt_beside_laws.specs.Shown.{parts_shown_at};
+ghost use Rattle.wt_beside_laws.specs.Styled.{mark_source};
 
 /// Texts beside calls that give words, and beside nodes that stay, are one paragraph, whatever is typed: each line is text wherever it is in
 /// tables, and what is in the paragraph is in the order of the signs (`parts_with`): the words of each call are characters of this call. Between
@@ -90,4 +101,25 @@ pub fn texts_beside_calls_are_such_in_a_folder()
         → IsCalledContent s (shown_signs pages signs) (owns_in pages i signs) }
     ensures items { (pages : Pages) (i : ℕ) (s : Setting) (signs : List ContentSign) → IsCalledIn pages s signs
         → items_with s [] signs (owns_in pages i signs) ≡ items_with s [] (shown_signs pages signs) (owns_in pages i signs) }
+{}
+
+/// What a call gives, characters and forms in any order, such as links, URLs and references (`AreGivenSigns`), is on a line what each of these is by
+/// itself: a link beside words of the same call is the link that it is alone.
+pub fn what_a_call_gives_is_each_by_itself()
+    ensures { (j : ℕ) (signs : List GivenSign) → AreGivenSigns false signs → line_parts (given_items j signs) ≡ given_parts j signs }
+{}
+
+/// A style that a call gives, between delimiters of its own, round such characters and forms, is on a line this style: so is `''{{{2}}}''` with words.
+pub fn a_style_that_a_call_gives_is_one()
+    ensures { (j : ℕ) (bold : Bool) (signs : List GivenSign) → AreGivenSigns false signs → BeginsApart (given_glyphs signs)
+        → LastMay signs (byte_glyphs (mark_source bold))
+        → line_parts (marks_of (Some j) bold ++ (given_items j signs ++ marks_of (Some j) bold)) ≡ node (style_of (Some j) bold (given_parts j signs)) ∷ [] }
+{}
+
+/// Where `<nowiki/>` isn't put between a group and text, nothing joins a form of the group: behind it is what may follow its last form, where the group
+/// of one that ends with a URL shows `//`, and before it is no letter, digit or `_`.
+pub fn nothing_that_is_typed_joins_a_group()
+    ensures behind { (g : Transclusion) (word : Bool) (signs : List GivenSign) (escaped : Bool) (c : ℕ) (more : List Glyph) → AreGivenSigns word signs
+        → (ends_with_url signs ≡ true → g.slashes ≡ true) → hazard (left_side (Group g)) (side.Text c) ≡ false → LastMay signs (letter_glyphs escaped c ++ more) }
+    ensures before { (g : Transclusion) (c : ℕ) → hazard (side.Text c) (side_of (Group g)) ≡ false → is_word c ≡ false }
 {}

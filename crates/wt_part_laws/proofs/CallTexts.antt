@@ -3,7 +3,6 @@ use Rattle.std.proofs.Common.{◌≡◌, ℕ, ◌+◌, ◌==◌, Bool, true, fal
 use Rattle.std.specs.Prelude.{◌&&◌, ◌||◌, slice_get, if◌then◌else◌}
 use Rattle.std.specs.List.{list_all, list_any}
 use Rattle.std.proofs.lemmas.Bool.Decides.{Decides-eqb}
-use Rattle.wt_tree.specs.declared.kind.Kind.TheVariants as kind
 use Rattle.wt_tree.specs.Tree.{tree, more, trees}
 use Rattle.wt_span.specs.Items.{Item, char, source, call_of}
 use Rattle.wt_span.specs.Origins.{OuterCall}
@@ -22,20 +21,17 @@ use Rattle.wt_annotated.specs.Walked.{free_places, clean_at, part_step, parts_fr
 use Rattle.wt_annotated.proofs.Seams.{first_append}
 use Rattle.wt_part_laws.specs.Placeless.{placeless, all_placeless}
 use Rattle.wt_part_laws.specs.Rounded.{IsOwn}
+use Rattle.wt_part_laws.specs.CallPieces.{AreItemsOf}
 use Rattle.wt_part_laws.specs.CallTexts.{AreOwnOrTexts, call_group, by_call, in_page, all_in_page}
 use Rattle.wt_part_laws.proofs.OwnWalks.{before_free, last_own, first_own, own_clean, walk_own, has_page}
 use Rattle.wt_part_laws.proofs.RunCuts.{FreeBefore, near_apart, near_alone}
 
 -- ---- items of one call
 
-abbrev pub AllOf : ℕ → List Item → Type 0
-AllOf j [] = Unit {0}
-AllOf j (x ∷ xs) = (call_of x ≡ Some j) × AllOf j xs
-
-itself : (j : ℕ) → (j == j) ≡ true
+pub itself : (j : ℕ) → (j == j) ≡ true
 itself j = (Decides-eqb j j).1 refl
 
-last_within : (j : ℕ) (o : Option ℕ) (xs : List Item) → AllOf j xs → o ≡ Some j → last_of o xs ≡ Some j
+pub last_within : (j : ℕ) (o : Option ℕ) (xs : List Item) → AreItemsOf j xs → o ≡ Some j → last_of o xs ≡ Some j
 last_within j o [] h e = e
 last_within j o (x ∷ xs) h e = last_within j (call_of x) xs h.1 h.0
 
@@ -44,7 +40,7 @@ step_within calls j x e =
     ap (λ (q : Option ℕ). cond (parted (Some j) q) (text_by calls q (source x)) []) e
     ∙ ap (λ (v : Bool). cond (not v) (text_by calls (Some j) (source x)) []) (itself j)
 
-text_within : (calls : List OuterCall) (j : ℕ) (xs : List Item) → AllOf j xs → text_from calls (Some j) xs ≡ []
+text_within : (calls : List OuterCall) (j : ℕ) (xs : List Item) → AreItemsOf j xs → text_from calls (Some j) xs ≡ []
 text_within calls j [] h = refl
 text_within calls j (x ∷ xs) h =
     ap (λ bs. bs ++ text_from calls (call_of x) xs) (step_within calls j x h.0)
@@ -52,7 +48,7 @@ text_within calls j (x ∷ xs) h =
     ∙ text_within calls j xs h.1
 
 -- what is on the page for them is the call
-call_text : (calls : List OuterCall) (o : Option ℕ) (j : ℕ) (x : Item) (xs : List Item) → AllOf j (x ∷ xs) → parted o (Some j) ≡ true
+pub call_text : (calls : List OuterCall) (o : Option ℕ) (j : ℕ) (x : Item) (xs : List Item) → AreItemsOf j (x ∷ xs) → parted o (Some j) ≡ true
     → text_from calls o (x ∷ xs) ≡ source_of_call (slice_get calls j)
 call_text calls o j x xs h e =
     ap (λ (q : Option ℕ). cond (parted o q) (text_by calls q (source x)) [] ++ text_from calls q xs) h.0
@@ -60,7 +56,7 @@ call_text calls o j x xs h e =
     ∙ ap (λ bs. source_of_call (slice_get calls j) ++ bs) (text_within calls j xs h.1)
     ∙ append-nil (source_of_call (slice_get calls j))
 
-parts_within : (j : ℕ) (xs : List Item) → AllOf j xs → parts_from (Some j) (Some []) xs ≡ []
+parts_within : (j : ℕ) (xs : List Item) → AreItemsOf j xs → parts_from (Some j) (Some []) xs ≡ []
 parts_within j [] h = refl
 parts_within j (x ∷ xs) h =
     ap (λ (q : Option ℕ). part_step (parted (Some j) q) q (source x) (Some []) (λ s. parts_from q s xs)) h.0
@@ -68,7 +64,7 @@ parts_within j (x ∷ xs) h =
     ∙ parts_within j xs h.1
 
 -- and it is the only part of their group
-call_part : (o : Option ℕ) (j : ℕ) (x : Item) (xs : List Item) → AllOf j (x ∷ xs) → parted o (Some j) ≡ true → parts_from o None (x ∷ xs) ≡ called j ∷ []
+pub call_part : (o : Option ℕ) (j : ℕ) (x : Item) (xs : List Item) → AreItemsOf j (x ∷ xs) → parted o (Some j) ≡ true → parts_from o None (x ∷ xs) ≡ called j ∷ []
 call_part o j x xs h e =
     ap (λ (q : Option ℕ). part_step (parted o q) q (source x) None (λ s. parts_from q s xs)) h.0
     ∙ ap (λ (v : Bool). part_step v (Some j) (source x) None (λ s. parts_from (Some j) s xs)) e
@@ -80,7 +76,7 @@ no_clean : (a v b c : Bool) → v ≡ false → (a && ((v && b) && c)) ≡ false
 no_clean true v b c e = ap (λ (w : Bool). (w && b) && c) e
 no_clean false v b c e = refl
 
-call_unclean : (o p : Option ℕ) (j : ℕ) (x : Item) (xs : List Item) → AllOf j (x ∷ xs) → clean_at o p (loose_leaf Text (x ∷ xs)) ≡ false
+call_unclean : (o p : Option ℕ) (j : ℕ) (x : Item) (xs : List Item) → AreItemsOf j (x ∷ xs) → clean_at o p (loose_leaf Text (x ∷ xs)) ≡ false
 call_unclean o p j x xs h =
     no_clean (free_places o (x ∷ xs) [] [] p) (is_page x) (list_all is_page (xs ++ [])) (list_any is_page (x ∷ (xs ++ []))) (ap is_no_call h.0)
 
@@ -90,7 +86,7 @@ leaf_items xs = append-nil xs
 held_leaf : (xs : List Item) → held_by_all (further (loose_leaf Text xs) nothing) ≡ xs
 held_leaf xs = append-nil (tree_items (loose_leaf Text xs)) ∙ leaf_items xs
 
-group_is : (calls : List OuterCall) (o : Option ℕ) (at j : ℕ) (x : Item) (xs : List Item) → AllOf j (x ∷ xs) → parted o (Some j) ≡ true
+group_is : (calls : List OuterCall) (o : Option ℕ) (at j : ℕ) (x : Item) (xs : List Item) → AreItemsOf j (x ∷ xs) → parted o (Some j) ≡ true
     → placeless (group_at calls (group_data calls) o at (further (loose_leaf Text (x ∷ xs)) nothing)) ≡ call_group calls j (loose_leaf Text (x ∷ xs))
 group_is calls o at j x xs h e =
     let t : ItemTrees = further (loose_leaf Text (x ∷ xs)) nothing in
@@ -105,7 +101,7 @@ pub record IsCallText (j : ℕ) (t : ItemTree) : Type 0 where
   pub first : Item
   pub others : List Item
   pub is : t ≡ loose_leaf Text (first ∷ others)
-  pub of_call : AllOf j (first ∷ others)
+  pub of_call : AreItemsOf j (first ∷ others)
 
 abbrev pub IsPiece : Option ℕ → ItemTree → Type 0
 IsPiece None t = IsOwn t
@@ -133,7 +129,7 @@ pieces_free calls c at p [] h = tt
 pieces_free calls c at p (t ∷ ts) h = ap (parted c) (piece_first h.0 t h.1 (first_of (held_by_all (forest ts)) p)) ∙ h.2
 
 -- one with what is round it
-abbrev near_one : List OuterCall → Option ℕ → ℕ → Option ℕ → ItemTree → Near
+abbrev pub near_one : List OuterCall → Option ℕ → ℕ → Option ℕ → ItemTree → Near
 near_one calls o at q t = record {
   tree = t;
   before = o;
@@ -157,7 +153,7 @@ piece_alone calls o at q (Some j) t ds h e f =
     let P : ItemTree → Type 0 = λ (u : ItemTree). all_placeless (trees (near_runs calls (group_data calls) (near_one calls o at q u ∷ ds))) ≡ more (in_page calls u) rest in
     subst P (sym h.is) (leaf_alone calls o at q j h.first h.others ds h.of_call e f)
   where
-    leaf_alone : (calls : List OuterCall) (o : Option ℕ) (at : ℕ) (q : Option ℕ) (j : ℕ) (x : Item) (xs : List Item) (ds : List Near) → AllOf j (x ∷ xs)
+    leaf_alone : (calls : List OuterCall) (o : Option ℕ) (at : ℕ) (q : Option ℕ) (j : ℕ) (x : Item) (xs : List Item) (ds : List Near) → AreItemsOf j (x ∷ xs)
         → parted o (Some j) ≡ true → FreeBefore ds
         → all_placeless (trees (near_runs calls (group_data calls) (near_one calls o at q (loose_leaf Text (x ∷ xs)) ∷ ds)))
         ≡ more (in_page calls (loose_leaf Text (x ∷ xs))) (all_placeless (trees (near_runs calls (group_data calls) ds)))
@@ -201,7 +197,7 @@ abbrev RunsOf : Option ℕ → List (List Part) → Type 0
 RunsOf o [] = Unit {0}
 RunsOf o (r ∷ rs) = (c : Option ℕ) × IsRunOf c r × (parted o c ≡ true) × RunsOf c rs
 
-same_is : (o q : Option ℕ) → same_origin o q ≡ true → o ≡ q
+pub same_is : (o q : Option ℕ) → same_origin o q ≡ true → o ≡ q
 same_is None None e = refl
 same_is None (Some k) e = cc
 same_is (Some j) None e = cc
@@ -243,13 +239,13 @@ runs_of (node t ∷ ps) h = node_put t (runs one_leaf ps) h.0 (runs_of ps h.1)
 
 -- ---- so its children are pieces
 
-call_items : (j : ℕ) (ps : List Part) → AllTexts (Some j) ps → AllOf j (held_parts ps)
+call_items : (j : ℕ) (ps : List Part) → AllTexts (Some j) ps → AreItemsOf j (held_parts ps)
 call_items j [] h = tt
 call_items j (loose Text p b ∷ ps) h = (h.0, call_items j ps h.1)
 call_items j (loose Sep p b ∷ ps) h = absurd h
 call_items j (node t ∷ ps) h = absurd h
 
-and_both : (v w : Bool) → v ≡ true → w ≡ true → (v && w) ≡ true
+pub and_both : (v w : Bool) → v ≡ true → w ≡ true → (v && w) ≡ true
 and_both true w e f = f
 and_both false w e f = e
 

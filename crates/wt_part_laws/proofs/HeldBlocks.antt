@@ -1,5 +1,5 @@
--- Blocks that hold their calls: those of the page alone, and those of texts of which calls give some.
-use Rattle.std.proofs.Common.{◌≡◌, ℕ, ◌+◌, Bool, true, false, Option, None, Some, List, [], ◌∷◌, ◌++◌, length, refl, sym, ap, ap₂, ◌∙◌}
+-- Blocks that hold their calls: those of the page alone, those in which calls give something, and those of texts of which calls give some.
+use Rattle.std.proofs.Common.{◌≡◌, ℕ, ◌+◌, Bool, true, false, Option, None, Some, List, [], ◌∷◌, ◌++◌, length, refl, sym, ap, ap₂, ◌∙◌, inl}
 use Rattle.std.specs.Prelude.{◌&&◌, ◌||◌}
 use Rattle.std.specs.List.{list_all, list_any}
 use Rattle.wt_tree.specs.Kinds.{is_leaf}
@@ -7,7 +7,8 @@ use Rattle.wt_tree.specs.Tree.{tree, Trees, trees}
 use Rattle.wt_span.specs.Items.{Item, sources}
 use Rattle.wt_span.specs.Origins.{OuterCall}
 use Rattle.wt_inline.specs.ItemTree.{Head, ItemTree, inner, forest, tree_items, held_by_all}
-use Rattle.wt_inline.specs.Parts.{Part, children}
+use Rattle.wt_inline.specs.declared.loose.Loose.TheVariants.{Text, Sep}
+use Rattle.wt_inline.specs.Parts.{Part, loose, node, children}
 use Rattle.wt_annotated.specs.Annotated.{kept_label}
 use Rattle.wt_annotated.specs.Clean.{is_no_call, is_page, is_body, own_by}
 use Rattle.wt_annotated.specs.GroupData.{group_data}
@@ -18,10 +19,13 @@ use Rattle.wt_annotated.proofs.Ends.{both}
 use Rattle.wt_annotated.proofs.Seams.{first_append, last_append}
 use Rattle.wt_part_laws.specs.Placeless.{placeless_label, placeless, all_placeless}
 use Rattle.wt_part_laws.specs.Rounded.{IsOwn, AreOwn}
-use Rattle.wt_part_laws.specs.HeldCalls.{block_in, HoldsItsCalls, AllHold, IsRoundTexts, block_of_texts}
+use Rattle.wt_part_laws.specs.HeldCalls.{block_in, HoldsItsCalls, AllHold, IsRoundTexts, block_of_texts, IsRoundGiven, block_of_pieces}
+use Rattle.wt_part_laws.specs.CallTexts.{AreOwnOrTexts, all_in_page}
+use Rattle.wt_part_laws.specs.CallPieces.{AreOwnOrGiven, call_pieces, pieces_in_page}
 use Rattle.wt_part_laws.proofs.SameWalks.{label_same}
 use Rattle.wt_part_laws.proofs.OwnWalks.{OfPage, behind_free, before_free, last_own, first_own, text_own, own_clean, walk_own, has_page}
 use Rattle.wt_part_laws.proofs.CallTexts.{children_are}
+use Rattle.wt_part_laws.proofs.CallPieces.{given_children_are}
 
 -- ---- of the page alone
 
@@ -38,7 +42,7 @@ pub all_own_hold : (t : ℕ → ItemTree) (ns : List ℕ) → AreOwn t ns → Al
 all_own_hold t [] h = tt
 all_own_hold t (n ∷ ns) h = (own_holds (t n) h.0, all_own_hold t ns h.1)
 
--- ---- of texts
+-- ---- of what calls give
 
 or_first : (v w : Bool) → v ≡ true → (v || w) ≡ true
 or_first true w e = refl
@@ -98,7 +102,7 @@ record AreFree (o p : Option ℕ) (q i c : List Item) : Type 0 where
   third : parted (last_of (last_of o q) i) (first_of c p) ≡ true
   fourth : parted (last_of (last_of (last_of o q) i) c) p ≡ true
 
-places_free : (h : Head) (q : List Item) (ps : List Part) (c : List Item) → IsRoundTexts h q ps c → (o p : Option ℕ)
+places_free : (h : Head) (q : List Item) (ps : List Part) (c : List Item) → IsRoundGiven h q ps c → (o p : Option ℕ)
     → AreFree o p q (held_by_all (forest (children ps))) c
 places_free h q ps c r o p =
     let i : List Item = held_by_all (forest (children ps)) in
@@ -117,9 +121,13 @@ inside_is true us e = let no : true ≡ false = e in absurd (cc)
 inside_is false us e = refl
 
 -- its nodes, wherever it is
-pub texts_walked : (h : Head) (q : List Item) (ps : List Part) (c : List Item) → IsRoundTexts h q ps c → (calls : List OuterCall) (o : Option ℕ) (at : ℕ) (p : Option ℕ)
-    → placeless (walked calls (group_data calls) o at p (inner h q (forest (children ps)) c)) ≡ block_of_texts calls h q ps c
-texts_walked h q ps c r calls o at p =
+walked_as : (h : Head) (q : List Item) (ps : List Part) (c : List Item) → IsRoundGiven h q ps c → (calls : List OuterCall) (us : Trees)
+    → ((o : Option ℕ) (at : ℕ) (p : Option ℕ) → parted o (first_of (held_by_all (forest (children ps))) None) ≡ true
+    → all_placeless (trees (near_runs calls (group_data calls) (near calls (group_data calls) o at p (forest (children ps))))) ≡ us)
+    → (o : Option ℕ) (at : ℕ) (p : Option ℕ)
+    → placeless (walked calls (group_data calls) o at p (inner h q (forest (children ps)) c))
+    ≡ tree (placeless_label (kept_label false h 0 [] (sources q) (sources c))) us
+walked_as h q ps c r calls us f o at p =
     let i : List Item = held_by_all (forest (children ps)) in
     let n : Option ℕ = last_of (last_of o q) i in
     let all : List ℕ = text_from calls o (q ++ (i ++ c)) in
@@ -130,11 +138,11 @@ texts_walked h q ps c r calls o at p =
     (text_own calls o q r.own_opening) (text_own calls n c r.own_closing)
     ∙ ap (λ (v : Bool). placeless_label (kept_label v h 0 all (sources q) (sources c))) r.no_leaf)
     (ap all_placeless (inside_is (is_leaf h.kind) inside r.no_leaf)
-    ∙ children_are calls (last_of o q) at2 (first_of c p) ps r.parts (first_any (last_of o q) i (first_of c p) (places_free h q ps c r o p).second))
+    ∙ f (last_of o q) at2 (first_of c p) (first_any (last_of o q) i (first_of c p) (places_free h q ps c r o p).second))
 
-texts_clean : (h : Head) (q : List Item) (ps : List Part) (c : List Item) → IsRoundTexts h q ps c → (o p : Option ℕ)
+given_clean : (h : Head) (q : List Item) (ps : List Part) (c : List Item) → IsRoundGiven h q ps c → (o p : Option ℕ)
     → clean_at o p (inner h q (forest (children ps)) c) ≡ true
-texts_clean h q ps c r o p =
+given_clean h q ps c r o p =
     let i : List Item = held_by_all (forest (children ps)) in
     let f = places_free h q ps c r o p in
     all_true (parted o (first_of q (first_of i (first_of c p)))) (parted (last_of o q) (first_of i (first_of c p)))
@@ -143,15 +151,46 @@ texts_clean h q ps c r o p =
     f.first f.second f.third f.fourth (own_joined (is_leaf h.kind) q i c r.no_leaf r.own_opening r.own_closing)
     (or_last (is_body h.kind) (list_any is_page (q ++ (i ++ c))) (has_first (q ++ (i ++ c)) r.begins))
 
-pub texts_hold : (h : Head) (q : List Item) (ps : List Part) (c : List Item) → IsRoundTexts h q ps c → HoldsItsCalls (inner h q (forest (children ps)) c)
-texts_hold h q ps c r = record {
+given_walked : (h : Head) (q : List Item) (ps : List Part) (c : List Item) → IsRoundGiven h q ps c → (calls : List OuterCall) (o : Option ℕ) (at : ℕ) (p : Option ℕ)
+    → placeless (walked calls (group_data calls) o at p (inner h q (forest (children ps)) c)) ≡ block_of_pieces calls h q ps c
+given_walked h q ps c r calls o at p =
+    walked_as h q ps c r calls (pieces_in_page calls (call_pieces (children ps))) (λ o at p e. given_children_are calls o at p ps r.parts e) o at p
+
+pub given_block_is : (calls : List OuterCall) (h : Head) (q : List Item) (ps : List Part) (c : List Item) → IsRoundGiven h q ps c
+    → block_in calls (inner h q (forest (children ps)) c) ≡ block_of_pieces calls h q ps c
+given_block_is calls h q ps c r = given_walked h q ps c r calls None 0 None
+
+pub given_hold : (h : Head) (q : List Item) (ps : List Part) (c : List Item) → IsRoundGiven h q ps c → HoldsItsCalls (inner h q (forest (children ps)) c)
+given_hold h q ps c r = record {
   begins = r.begins;
   ends = r.ends;
   some = has_first (tree_items (inner h q (forest (children ps)) c)) r.begins;
-  clean = texts_clean h q ps c r;
-  walks = λ calls o at p. texts_walked h q ps c r calls o at p ∙ sym (texts_walked h q ps c r calls None 0 None);
+  clean = given_clean h q ps c r;
+  walks = λ calls o at p. given_walked h q ps c r calls o at p ∙ sym (given_walked h q ps c r calls None 0 None);
 }
+
+-- ---- of texts
+
+given_parts : (ps : List Part) → AreOwnOrTexts ps → AreOwnOrGiven ps
+given_parts [] h = tt
+given_parts (loose Text o b ∷ ps) h = given_parts ps h
+given_parts (loose Sep o b ∷ ps) h = absurd h
+given_parts (node t ∷ ps) h = (inl h.0, given_parts ps h.1)
+
+round_given : (h : Head) (q : List Item) (ps : List Part) (c : List Item) → IsRoundTexts h q ps c → IsRoundGiven h q ps c
+round_given h q ps c r = record {
+  no_leaf = r.no_leaf;
+  own_opening = r.own_opening;
+  own_closing = r.own_closing;
+  parts = given_parts ps r.parts;
+  begins = r.begins;
+  ends = r.ends;
+}
+
+pub texts_hold : (h : Head) (q : List Item) (ps : List Part) (c : List Item) → IsRoundTexts h q ps c → HoldsItsCalls (inner h q (forest (children ps)) c)
+texts_hold h q ps c r = given_hold h q ps c (round_given h q ps c r)
 
 pub block_is : (calls : List OuterCall) (h : Head) (q : List Item) (ps : List Part) (c : List Item) → IsRoundTexts h q ps c
     → block_in calls (inner h q (forest (children ps)) c) ≡ block_of_texts calls h q ps c
-block_is calls h q ps c r = texts_walked h q ps c r calls None 0 None
+block_is calls h q ps c r =
+    walked_as h q ps c (round_given h q ps c r) calls (all_in_page calls (children ps)) (λ o at p e. children_are calls o at p ps r.parts e) None 0 None

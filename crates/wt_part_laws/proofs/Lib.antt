@@ -4,6 +4,8 @@ pub mod StartWalks
 pub mod RunCuts
 pub mod OwnWalks
 pub mod CallTexts
+pub mod CallPieces
+mod PieceCases
 pub mod HeldBlocks
 pub mod FrameEnds
 pub mod FramesWalked

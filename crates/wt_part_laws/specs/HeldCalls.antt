@@ -18,6 +18,7 @@ use Rattle.wt_part_laws.specs.Placeless.{placeless_label, placeless}
 use Rattle.wt_part_laws.specs.TreeFrames.{TreeFrames, all_filled, spots}
 use Rattle.wt_part_laws.specs.Rounded.{AreClean, HaveSameData, body_of, body_label}
 use Rattle.wt_part_laws.specs.CallTexts.{AreOwnOrTexts, all_in_page}
+use Rattle.wt_part_laws.specs.CallPieces.{AreOwnOrGiven, call_pieces, pieces_in_page}
 
 -- with these calls, without its number and place
 abbrev pub block_in : List OuterCall → ItemTree → Tree
@@ -54,6 +55,21 @@ pub record IsRoundTexts (h : Head) (opening : List Item) (ps : List Part) (closi
 abbrev pub block_of_texts : List OuterCall → Head → List Item → List Part → List Item → Tree
 block_of_texts calls h opening ps closing =
     tree (placeless_label (kept_label false h 0 [] (sources opening) (sources closing))) (all_in_page calls (children ps))
+
+-- ---- a block of what calls give, whatever it is, and of what is the page's own
+
+pub record IsRoundGiven (h : Head) (opening : List Item) (ps : List Part) (closing : List Item) : Type 0 where
+  pub no_leaf : is_leaf h.kind ≡ false
+  pub own_opening : list_all is_page opening ≡ true
+  pub own_closing : list_all is_page closing ≡ true
+  pub parts : AreOwnOrGiven ps
+  pub begins : (p : Option ℕ) → first_of (tree_items (inner h opening (forest (children ps)) closing)) p ≡ None
+  pub ends : (o : Option ℕ) → last_of o (tree_items (inner h opening (forest (children ps)) closing)) ≡ None
+
+-- its node: what each call gives side by side is a group in it
+abbrev pub block_of_pieces : List OuterCall → Head → List Item → List Part → List Item → Tree
+block_of_pieces calls h opening ps closing =
+    tree (placeless_label (kept_label false h 0 [] (sources opening) (sources closing))) (pieces_in_page calls (call_pieces (children ps)))
 
 -- ---- the page
 

@@ -2,6 +2,7 @@ pub mod TreeFrames
 pub mod Rounded
 pub mod MovedCalls
 pub mod CallTexts
+pub mod CallPieces
 pub mod HeldCalls
 pub mod Scans
 pub mod Lexer

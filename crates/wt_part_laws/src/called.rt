@@ -8,7 +8,7 @@ ghost use Rattle.wt_inline.specs.Parts.{Part, children};
 ghost use Rattle.wt_part_laws.specs.Frames.{Frames};
 ghost use Rattle.wt_part_laws.specs.MovedCalls.{AreMoved};
 ghost use Rattle.wt_part_laws.specs.Rounded.{GroupsStayIn, HaveSameData, IsOwn};
-ghost use Rattle.wt_part_laws.specs.HeldCalls.{block_in, HoldsItsCalls, IsRoundTexts, block_of_texts, GroupsStayRoundIn};
+ghost use Rattle.wt_part_laws.specs.HeldCalls.{block_in, HoldsItsCalls, IsRoundTexts, block_of_texts, IsRoundGiven, block_of_pieces, GroupsStayRoundIn};
 
 /// A page with calls, with places for blocks in its body and in the cells and captions of its tables. Where each node
 /// round a place is clean, the page's tree has the same groups and the same other nodes whatever blocks of the page are
@@ -40,4 +40,13 @@ pub fn blocks_of_texts_hold_their_calls()
     ensures block { (calls : List OuterCall) (h : Head) (opening : List Item) (ps : List Part) (closing : List Item) → IsRoundTexts h opening ps closing
         → block_in calls (inner h opening (forest (children ps)) closing) ≡ block_of_texts calls h opening ps closing }
     ensures own { (t : ItemTree) → IsOwn t → HoldsItsCalls t }
+{}
+
+/// So is a block of what calls give, whatever it is, and of what is the page's own (`IsRoundGiven`): what one call gives side by side, texts, links,
+/// styles with what is in them or nothing, is one group, and everything else is itself.
+pub fn blocks_of_what_calls_give_hold_these()
+    ensures holds { (h : Head) (opening : List Item) (ps : List Part) (closing : List Item) → IsRoundGiven h opening ps closing
+        → HoldsItsCalls (inner h opening (forest (children ps)) closing) }
+    ensures block { (calls : List OuterCall) (h : Head) (opening : List Item) (ps : List Part) (closing : List Item) → IsRoundGiven h opening ps closing
+        → block_in calls (inner h opening (forest (children ps)) closing) ≡ block_of_pieces calls h opening ps closing }
 {}

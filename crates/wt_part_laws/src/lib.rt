@@ -10,8 +10,8 @@ mod rows;
 mod scans;
 
 pub use called::{
-    blocks_of_texts_hold_their_calls, groups_stay_round_blocks,
-    groups_stay_round_blocks_with_calls, moved_calls_have_the_same_data,
+    blocks_of_texts_hold_their_calls, blocks_of_what_calls_give_hold_these,
+    groups_stay_round_blocks, groups_stay_round_blocks_with_calls, moved_calls_have_the_same_data,
 };
 pub use joined::{
     lexemes_of_parts_meet, parts_of_pages_expand_by_themselves, texts_give_the_same_anywhere,

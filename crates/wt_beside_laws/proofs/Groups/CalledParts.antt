@@ -27,13 +27,13 @@ use Rattle.wt_beside_laws.proofs.Groups.CalledLines.{line_is}
 use Rattle.wt_beside_laws.proofs.Groups.CalledTiles.{words_follow, words_formless, line_cuts_are}
 use Rattle.wt_beside_laws.proofs.Groups.Words.{half_quote, behind_sign, last_sign, not_first, call_chars, call_glyphs, shown_glyphs, given_or}
 
-abbrev Read : Cut → List Item → Bool → List Part → Type 0
+abbrev pub Read : Cut → List Item → Bool → List Part → Type 0
 Read c xs next ps = IsRead (cut_segments context_parts in_line c xs) next ps
 
 -- ---- words
 
 -- a character that is no apostrophe beside another one
-one_read : (o : Option ℕ) (d : ℕ) (c : Cut) (xs : List Item) (next any : Bool) (ps : List Part)
+pub one_read : (o : Option ℕ) (d : ℕ) (c : Cut) (xs : List Item) (next any : Bool) (ps : List Part)
     → ((d == 39) ≡ true → begins_with_quote (cut_segments context_parts in_line c xs) ≡ false) → (any ≡ false → (d == 39) ≡ false) → Read c xs next ps
     → Read (suc c.0, c.1) (char o d ∷ xs) any (part Text (char o d) ∷ ps)
 one_read o d c xs next any ps q f r =

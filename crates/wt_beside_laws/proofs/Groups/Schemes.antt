@@ -25,7 +25,7 @@ use Rattle.wt_beside_laws.proofs.Groups.Words.{lower_colon, half_colon, behind_s
 -- ---- `://` behind letters of a scheme
 
 -- `t`, `p` or `s`, in either case
-abbrev is_more : Glyph → Bool
+abbrev pub is_more : Glyph → Bool
 is_more g = is_in (λ b. let c : ℕ = to_ascii_lowercase b in c == 116 || (c == 112 || c == 115)) g
 
 abbrev pub reaches : List Glyph → Bool
@@ -232,7 +232,7 @@ end_reaches : (u : Bool) → reaches (guard_glyphs u) ≡ false
 end_reaches true = refl
 end_reaches false = refl
 
-reach_by : (v m r b : Bool) → (v ≡ true → b ≡ false) → r ≡ false → (if v then b else m && r) ≡ false
+pub reach_by : (v m r b : Bool) → (v ≡ true → b ≡ false) → r ≡ false → (if v then b else m && r) ≡ false
 reach_by true m r b f e = f refl
 reach_by false m r b f e = and_none m r e
 
@@ -247,7 +247,7 @@ words_reach (b ∷ bs) more h e =
     reach_by (to_ascii_lowercase b == 58) (is_more (glyph.Byte b)) (reaches gs) (begins_like (codes "//") gs)
     (λ i. no_slashes bs more (h.1 (half_colon b (lower_colon b i)))) (words_reach bs more h.3 e)
 
-node_reaches : (own more : List Glyph) → AvoidsUrls own → reaches (own ++ more) ≡ false
+pub node_reaches : (own more : List Glyph) → AvoidsUrls own → reaches (own ++ more) ≡ false
 node_reaches [] more h = absurd h
 node_reaches (g ∷ gs) more h =
     ap (λ (v : Bool). if v then begins_like (codes "//") (gs ++ more) else is_more g && reaches (gs ++ more)) (past_neither g h).0

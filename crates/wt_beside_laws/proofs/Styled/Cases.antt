@@ -46,10 +46,10 @@ bold_in_bold : AreNested false false (styled true None None (styled true None No
 bold_in_bold h = h.1.0
 
 -- `''a''` is such segments, and `''''` isn't: a run of two is no style without something inside
-italic_a : IsNest false false (enclosing [] false (stretch (loose_segment (char None 97 ∷ []) ∷ [])) (stretch [])) []
+italic_a : IsNest false false (enclosing None [] false (stretch (loose_segment (char None 97 ∷ []) ∷ [])) (stretch [])) []
 italic_a = (refl, refl, refl, refl, (refl, λ b. refl), refl, (refl, λ b. refl))
 
-italic_none : IsNest false false (enclosing [] false (stretch []) (stretch [])) [] → true ≡ false
+italic_none : IsNest false false (enclosing None [] false (stretch []) (stretch [])) [] → true ≡ false
 italic_none h = h.3
 
 -- a text and a line break in bold, and a line break behind it

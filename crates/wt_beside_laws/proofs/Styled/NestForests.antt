@@ -1,5 +1,5 @@
 -- Segments among which styles nest are read as these styles, each a node round what is inside it.
-use Rattle.std.proofs.Common.{arith, ◌≡◌, ℕ, ◌+◌, ◌-◌, ◌<◌, ◌≤◌, Bool, true, false, List, [], ◌∷◌, ◌++◌, length, take, drop, refl, sym, ap, ◌∙◌, subst, append_assoc, length-append, drop-drop}
+use Rattle.std.proofs.Common.{arith, ◌≡◌, ℕ, ◌+◌, ◌-◌, ◌<◌, ◌≤◌, Bool, true, false, List, [], ◌∷◌, ◌++◌, length, take, drop, refl, sym, ap, ◌∙◌, subst, append_assoc, length-append, drop-drop, Option}
 use Rattle.std.specs.Prelude.{if◌then◌else◌, nat_le}
 use Rattle.wt_span.specs.Items.{Item}
 use Rattle.wt_quotes.specs.declared.style.Style.{Style}
@@ -11,7 +11,7 @@ use Rattle.wt_inline.specs.Parts.{Part, node, children}
 use Rattle.wt_context.specs.Segments.{Segment, segment_items, segment_parts}
 use Rattle.wt_context.specs.Styled.{style_kind, between, styled, with_styles}
 use Rattle.wt_context.proofs.Quoting.{and_both}
-use Rattle.wt_beside_laws.specs.Nests.{Nest, stretch, enclosing, marks, mark_segments, nest_segments, nest_parts, IsNest}
+use Rattle.wt_beside_laws.specs.Nests.{Nest, stretch, enclosing, marks_of, segments_of, nest_segments, nest_parts, IsNest}
 use Rattle.wt_beside_laws.proofs.Styled.NestRuns.{nest_length, marks_long}
 use Rattle.wt_beside_laws.proofs.Styled.NestStyles.{style_at, nest_styles, nest_style_tree}
 
@@ -19,7 +19,7 @@ use Rattle.wt_beside_laws.proofs.Styled.NestStyles.{style_at, nest_styles, nest_
 
 abbrev nest_forest : ℕ → Nest → Forest → Forest
 nest_forest at (stretch us) g = g
-nest_forest at (enclosing us kind inside after) g =
+nest_forest at (enclosing origin us kind inside after) g =
     grown (style_at kind (at + length us) (nest_length inside)) (nest_forest (at + length us + width kind) inside bare)
     (nest_forest (at + length us + width kind + nest_length inside + width kind) after g)
 
@@ -34,7 +34,7 @@ ends_less a b (grown u f g) l e = omega (arith, l, e)
 
 ends_in : (n : Nest) (at : ℕ) (g : Forest) → EndsFrom (at + nest_length n) g → EndsFrom at (nest_forest at n g)
 ends_in (stretch us) at g e = ends_less at (at + length us) g (omega arith) e
-ends_in (enclosing us kind inside after) at g e = omega arith
+ends_in (enclosing origin us kind inside after) at g e = omega arith
 
 wide : (kind : Bool) → 0 < width kind
 wide true = omega arith
@@ -54,7 +54,7 @@ split s (stretch us) at (grown u f g) a b w e =
       inside = ap (λ (t : Bool). if t then grown u f (inside_of s g) else bare) no;
       behind = ap (λ (t : Bool). if t then past s g else grown u f g) no;
     }
-split s (enclosing us kind inside after) at g a b w e =
+split s (enclosing origin us kind inside after) at g a b w e =
     let p : ℕ = at + length us in
     let t : ℕ = p + width kind + nest_length inside + width kind in
     let u : Style = style_at kind p (nest_length inside) in
@@ -74,7 +74,7 @@ split s (enclosing us kind inside after) at g a b w e =
 
 nest_grown : (n : Nest) (at : ℕ) (ss : List Style) → EndsFrom (at + nest_length n) (forest_of ss) → forest_of (nest_styles at n ss) ≡ nest_forest at n (forest_of ss)
 nest_grown (stretch us) at ss e = refl
-nest_grown (enclosing us kind inside after) at ss e =
+nest_grown (enclosing origin us kind inside after) at ss e =
     let p : ℕ = at + length us in
     let q : ℕ = p + width kind in
     let r : ℕ = q + nest_length inside in
@@ -129,10 +129,10 @@ record HasFront (n : Nest) : Type 0 where
 
 nest_front : (n : Nest) → HasFront n
 nest_front (stretch us) = record { segments = us; long = refl; are = λ vs. refl }
-nest_front (enclosing us kind inside after) =
+nest_front (enclosing origin us kind inside after) =
     let i = nest_front inside in
     let a = nest_front after in
-    let m : List Segment = mark_segments kind in
+    let m : List Segment = segments_of origin kind in
     record {
       segments = us ++ (m ++ (i.segments ++ (m ++ a.segments)));
       long =
@@ -140,7 +140,7 @@ nest_front (enclosing us kind inside after) =
           let e2 = length-append m (i.segments ++ (m ++ a.segments)) in
           let e3 = length-append i.segments (m ++ a.segments) in
           let e4 = length-append m a.segments in
-          omega (arith, e1, e2, e3, e4, i.long, a.long, marks_long kind);
+          omega (arith, e1, e2, e3, e4, i.long, a.long, marks_long origin kind);
       are = λ vs.
           ap (λ ws. us ++ (m ++ nest_segments inside (m ++ ws))) (a.are vs)
           ∙ ap (λ ws. us ++ (m ++ ws)) (i.are (m ++ (a.segments ++ vs)))
@@ -158,23 +158,23 @@ drop_nest all n vs j k h e =
 
 -- ---- as nodes
 
-marks_items : (kind : Bool) → segment_items (mark_segments kind) ≡ marks kind
-marks_items true = refl
-marks_items false = refl
+marks_items : (origin : Option ℕ) (kind : Bool) → segment_items (segments_of origin kind) ≡ marks_of origin kind
+marks_items origin true = refl
+marks_items origin false = refl
 
 nest_styled : (all : List Segment) (n : Nest) (vs : List Segment) (low high : ℕ) → drop low all ≡ nest_segments n vs → high ≡ low + nest_length n
     → styled low high (nest_forest low n bare) all ≡ nest_parts n
 nest_styled all (stretch us) vs low high h e = ap segment_parts (between_is all us vs low high h e)
-nest_styled all (enclosing us kind inside after) vs low high h e =
+nest_styled all (enclosing origin us kind inside after) vs low high h e =
     let p : ℕ = low + length us in
     let q : ℕ = p + width kind in
     let r : ℕ = q + nest_length inside in
     let t : ℕ = r + width kind in
-    let m : List Segment = mark_segments kind in
+    let m : List Segment = segments_of origin kind in
     let later : List Segment = m ++ nest_segments after vs in
     let held : List Segment = nest_segments inside later in
-    let open_long : q ≡ p + length m = omega (arith, marks_long kind) in
-    let close_long : t ≡ r + length m = omega (arith, marks_long kind) in
+    let open_long : q ≡ p + length m = omega (arith, marks_long origin kind) in
+    let close_long : t ≡ r + length m = omega (arith, marks_long origin kind) in
     let back : t - width kind ≡ r = omega arith in
     let inner_end : t - width kind ≡ q + nest_length inside = back in
     let end : high ≡ t + nest_length after = omega (arith, e) in
@@ -185,15 +185,15 @@ nest_styled all (enclosing us kind inside after) vs low high h e =
     let own : List Part = styled q (t - width kind) (nest_forest q inside bare) all in
     let rest : List Part = styled t high (nest_forest t after bare) all in
     let before : between low p all ≡ us = between_is all us (m ++ held) low p h refl in
-    let opening : segment_items (between p q all) ≡ marks kind = ap segment_items (between_is all m held p q opens open_long) ∙ marks_items kind in
-    let closing : segment_items (between (t - width kind) t all) ≡ marks kind =
-    ap (λ (j : ℕ). segment_items (between j t all)) back ∙ ap segment_items (between_is all m (nest_segments after vs) r t closes close_long) ∙ marks_items kind in
+    let opening : segment_items (between p q all) ≡ marks_of origin kind = ap segment_items (between_is all m held p q opens open_long) ∙ marks_items origin kind in
+    let closing : segment_items (between (t - width kind) t all) ≡ marks_of origin kind =
+    ap (λ (j : ℕ). segment_items (between j t all)) back ∙ ap segment_items (between_is all m (nest_segments after vs) r t closes close_long) ∙ marks_items origin kind in
     ap (λ ws. segment_parts ws ++ (node (inner (plain (style_kind kind)) (segment_items (between p q all)) (forest (children own)) (segment_items (between (t - width kind) t all))) ∷ rest)) before
     ∙ ap (λ (xs : List Item). segment_parts us ++ (node (inner (plain (style_kind kind)) xs (forest (children own)) (segment_items (between (t - width kind) t all))) ∷ rest)) opening
-    ∙ ap (λ (xs : List Item). segment_parts us ++ (node (inner (plain (style_kind kind)) (marks kind) (forest (children own)) xs) ∷ rest)) closing
-    ∙ ap (λ (ps : List Part). segment_parts us ++ (node (inner (plain (style_kind kind)) (marks kind) (forest (children ps)) (marks kind)) ∷ rest))
+    ∙ ap (λ (xs : List Item). segment_parts us ++ (node (inner (plain (style_kind kind)) (marks_of origin kind) (forest (children own)) xs) ∷ rest)) closing
+    ∙ ap (λ (ps : List Part). segment_parts us ++ (node (inner (plain (style_kind kind)) (marks_of origin kind) (forest (children ps)) (marks_of origin kind)) ∷ rest))
     (nest_styled all inside later q (t - width kind) holds inner_end)
-    ∙ ap (λ (ps : List Part). segment_parts us ++ (node (inner (plain (style_kind kind)) (marks kind) (forest (children (nest_parts inside))) (marks kind)) ∷ ps))
+    ∙ ap (λ (ps : List Part). segment_parts us ++ (node (inner (plain (style_kind kind)) (marks_of origin kind) (forest (children (nest_parts inside))) (marks_of origin kind)) ∷ ps))
     (nest_styled all after vs t high follows end)
 
 pub nests_read : (n : Nest) → IsNest false false n [] → with_styles (nest_segments n []) ≡ nest_parts n

@@ -1,5 +1,5 @@
 -- Segments that are put before others among which styles nest.
-use Rattle.std.proofs.Common.{◌≡◌, ℕ, suc, Bool, true, false, not, List, [], ◌∷◌, ◌++◌, take, drop, map, refl, sym, ap, ◌∙◌, subst, append_assoc, append-nil, inl, inr, ◌⊎◌}
+use Rattle.std.proofs.Common.{◌≡◌, ℕ, suc, Bool, true, false, not, List, [], ◌∷◌, ◌++◌, take, drop, map, refl, sym, ap, ◌∙◌, subst, append_assoc, append-nil, inl, inr, ◌⊎◌, Option}
 use Rattle.std.specs.Prelude.{◌&&◌, ◌||◌, if◌then◌else◌}
 use Rattle.std.specs.List.{flat_map}
 use Rattle.wt_span.specs.Items.{Item}
@@ -14,7 +14,7 @@ use Rattle.wt_context.specs.Chunks.{begins_with_quote}
 use Rattle.wt_context.specs.Line.{context_parts}
 use Rattle.wt_context.specs.Nodes.{tile_segments}
 use Rattle.wt_context.specs.RunCuts.{ends_with_quote, has_run}
-use Rattle.wt_beside_laws.specs.Nests.{Nest, stretch, enclosing, mark_segments, nest_segments, style_tree, nest_parts, of_style, IsNest}
+use Rattle.wt_beside_laws.specs.Nests.{Nest, stretch, enclosing, segments_of, nest_segments, style_of, nest_parts, of_style, IsNest}
 use Rattle.wt_beside_laws.proofs.LineSegments.{cut_segments, run_first, run_with, HaveItems, runs_have}
 use Rattle.wt_beside_laws.proofs.Styled.NestRuns.{marks_first}
 
@@ -22,35 +22,35 @@ use Rattle.wt_beside_laws.proofs.Styled.NestRuns.{marks_first}
 
 abbrev first_of : Nest → List Segment
 first_of (stretch us) = us
-first_of (enclosing us kind inside after) = us
+first_of (enclosing origin us kind inside after) = us
 
 abbrev behind_first : Nest → List Segment → List Segment
 behind_first (stretch us) vs = vs
-behind_first (enclosing us kind inside after) vs = mark_segments kind ++ nest_segments inside (mark_segments kind ++ nest_segments after vs)
+behind_first (enclosing origin us kind inside after) vs = segments_of origin kind ++ nest_segments inside (segments_of origin kind ++ nest_segments after vs)
 
 abbrev parts_behind : Nest → List Part
 parts_behind (stretch us) = []
-parts_behind (enclosing us kind inside after) = node (style_tree kind (nest_parts inside)) ∷ nest_parts after
+parts_behind (enclosing origin us kind inside after) = node (style_of origin kind (nest_parts inside)) ∷ nest_parts after
 
 abbrev with_first : List Segment → Nest → Nest
 with_first ws (stretch us) = stretch ws
-with_first ws (enclosing us kind inside after) = enclosing ws kind inside after
+with_first ws (enclosing origin us kind inside after) = enclosing origin ws kind inside after
 
 segments_first : (n : Nest) (vs : List Segment) → nest_segments n vs ≡ first_of n ++ behind_first n vs
 segments_first (stretch us) vs = refl
-segments_first (enclosing us kind inside after) vs = refl
+segments_first (enclosing origin us kind inside after) vs = refl
 
 parts_first : (n : Nest) → nest_parts n ≡ segment_parts (first_of n) ++ parts_behind n
 parts_first (stretch us) = sym (append-nil (segment_parts us))
-parts_first (enclosing us kind inside after) = refl
+parts_first (enclosing origin us kind inside after) = refl
 
 with_segments : (ws : List Segment) (n : Nest) (vs : List Segment) → nest_segments (with_first ws n) vs ≡ ws ++ behind_first n vs
 with_segments ws (stretch us) vs = refl
-with_segments ws (enclosing us kind inside after) vs = refl
+with_segments ws (enclosing origin us kind inside after) vs = refl
 
 with_parts : (ws : List Segment) (n : Nest) → nest_parts (with_first ws n) ≡ segment_parts ws ++ parts_behind n
 with_parts ws (stretch us) = sym (append-nil (segment_parts ws))
-with_parts ws (enclosing us kind inside after) = refl
+with_parts ws (enclosing origin us kind inside after) = refl
 
 -- it may stand before what is behind it
 record IsFirst (us vs : List Segment) : Type 0 where
@@ -59,13 +59,13 @@ record IsFirst (us vs : List Segment) : Type 0 where
 
 first_is : (bold italic : Bool) (n : Nest) (vs : List Segment) → IsNest bold italic n vs → IsFirst (first_of n) (behind_first n vs)
 first_is bold italic (stretch us) vs h = record { alone = h.0; ends = h.1 }
-first_is bold italic (enclosing us kind inside after) vs h = record { alone = h.0; ends = λ b. h.1 }
+first_is bold italic (enclosing origin us kind inside after) vs h = record { alone = h.0; ends = λ b. h.1 }
 
 with_nested : (bold italic : Bool) (ws : List Segment) (n : Nest) (vs : List Segment) → IsNest bold italic n vs → IsFirst ws (behind_first n vs)
     → IsNest bold italic (with_first ws n) vs
 with_nested bold italic ws (stretch us) vs h f = (f.alone, f.ends)
-with_nested bold italic ws (enclosing us kind inside after) vs h f =
-    (f.alone, f.ends (marks_first kind (nest_segments inside (mark_segments kind ++ nest_segments after vs))), h.2, h.3, h.4, h.5, h.6)
+with_nested bold italic ws (enclosing origin us kind inside after) vs h f =
+    (f.alone, f.ends (marks_first origin kind (nest_segments inside (segments_of origin kind ++ nest_segments after vs))), h.2, h.3, h.4, h.5, h.6)
 
 -- nothing, or a delimiter
 abbrev pub IsTail : List Segment → Type 0
@@ -73,7 +73,7 @@ IsTail vs = (vs ≡ []) ⊎ (begins_with_quote vs ≡ true)
 
 behind_tail : (n : Nest) (vs : List Segment) → IsTail vs → IsTail (behind_first n vs)
 behind_tail (stretch us) vs t = t
-behind_tail (enclosing us kind inside after) vs t = inr (marks_first kind (nest_segments inside (mark_segments kind ++ nest_segments after vs)))
+behind_tail (enclosing origin us kind inside after) vs t = inr (marks_first origin kind (nest_segments inside (segments_of origin kind ++ nest_segments after vs)))
 
 -- ---- segments as a nest, before others; `next` says whether an apostrophe may be first
 
@@ -236,13 +236,13 @@ char_read bold italic next any x n ws xs vs ps t f g r = elim (char_added x n ws
 
 -- ---- a style in front
 
-pub enclosed_read : (bold italic kind : Bool) (us ws vs : List Segment) (ps qs : List Part) (b : NestRead bold italic false ws vs qs) → of_style kind bold italic ≡ false
-    → NestRead (kind || bold) (not kind || italic) false us (mark_segments kind ++ nest_segments b.nest vs) ps
-    → NestRead bold italic true (mark_segments kind ++ us) vs (node (style_tree kind ps) ∷ qs)
-enclosed_read bold italic kind us ws vs ps qs b free a = record {
-  nest = enclosing [] kind a.nest b.nest;
-  is = ap (λ xs. mark_segments kind ++ xs) a.is;
+pub enclosed_read : (origin : Option ℕ) (bold italic kind : Bool) (us ws vs : List Segment) (ps qs : List Part) (b : NestRead bold italic false ws vs qs) → of_style kind bold italic ≡ false
+    → NestRead (kind || bold) (not kind || italic) false us (segments_of origin kind ++ nest_segments b.nest vs) ps
+    → NestRead bold italic true (segments_of origin kind ++ us) vs (node (style_of origin kind ps) ∷ qs)
+enclosed_read origin bold italic kind us ws vs ps qs b free a = record {
+  nest = enclosing origin [] kind a.nest b.nest;
+  is = ap (λ xs. segments_of origin kind ++ xs) a.is;
   nested = (refl, refl, free, sym (ap begins_with_quote a.is) ∙ a.first refl, a.nested, sym (ap begins_with_quote b.is) ∙ b.first refl, b.nested);
-  shows = ap (λ (xs : List Part). node (style_tree kind xs) ∷ nest_parts b.nest) a.shows ∙ ap (λ xs. node (style_tree kind ps) ∷ xs) b.shows;
+  shows = ap (λ (xs : List Part). node (style_of origin kind xs) ∷ nest_parts b.nest) a.shows ∙ ap (λ xs. node (style_of origin kind ps) ∷ xs) b.shows;
   first = λ z. cc;
 }

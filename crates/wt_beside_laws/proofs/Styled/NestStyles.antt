@@ -1,5 +1,5 @@
 -- The styles of segments among which styles nest: each from its own delimiter to its own.
-use Rattle.std.proofs.Common.{arith, ◌≡◌, ℕ, ◌+◌, Bool, true, false, not, List, [], ◌∷◌, ◌++◌, length, refl, ap, ◌∙◌}
+use Rattle.std.proofs.Common.{arith, ◌≡◌, ℕ, ◌+◌, Bool, true, false, not, List, [], ◌∷◌, ◌++◌, length, refl, ap, ◌∙◌, Option}
 use Rattle.wt_quotes.specs.declared.chunk.Chunk.{Chunk}
 use Rattle.wt_quotes.specs.declared.turn.PlacedToggle.{PlacedToggle}
 use Rattle.wt_quotes.specs.declared.style.End.{End}
@@ -11,7 +11,7 @@ use Rattle.wt_quotes.proofs.SixStates.{Step, step, run}
 use Rattle.wt_quotes.proofs.Reading.{steps_of, styles_read}
 use Rattle.wt_context.specs.Segments.{Segment}
 use Rattle.wt_context.specs.Chunks.{chunks}
-use Rattle.wt_beside_laws.specs.Nests.{Nest, stretch, enclosing, mark_segments, nest_segments, IsNest}
+use Rattle.wt_beside_laws.specs.Nests.{Nest, stretch, enclosing, segments_of, nest_segments, IsNest}
 use Rattle.wt_beside_laws.proofs.Styled.NestRuns.{nest_length, delimiters}
 use Rattle.wt_beside_laws.proofs.Styled.NestToggles.{Matches, nest_steps}
 
@@ -22,7 +22,7 @@ style_at kind p m = record { bold = kind; from = p; open_w = width kind; to = p 
 -- the styles of a nest from a place on, before others
 abbrev pub nest_styles : ℕ → Nest → List Style → List Style
 nest_styles at (stretch us) ss = ss
-nest_styles at (enclosing us kind inside after) ss =
+nest_styles at (enclosing origin us kind inside after) ss =
     style_at kind (at + length us) (nest_length inside) ∷ nest_styles (at + length us + width kind) inside
     (nest_styles (at + length us + width kind + nest_length inside + width kind) after ss)
 
@@ -203,17 +203,17 @@ shut_by total st kind f q r inside ws rs (step s b a g ∷ rest) m i e =
       ends = λ k o. e k (f.kept k o) ∙ ap (λ x. ending k total (run_in (entered kind st) (x ∷ rest))) is ∙ f.back k o r g rest;
     }
 
-enclosed : (total : ℕ) (st : State) (kind : Bool) (f : Facts total st kind) (us : List Segment) (inside after : Nest) (at : ℕ) (ws : List (ℕ × Bool)) (rs : List Step)
-    → Matches (delimiters at (enclosing us kind inside after) ws) rs
+enclosed : (origin : Option ℕ) (total : ℕ) (st : State) (kind : Bool) (f : Facts total st kind) (us : List Segment) (inside after : Nest) (at : ℕ) (ws : List (ℕ × Bool)) (rs : List Step)
+    → Matches (delimiters at (enclosing origin us kind inside after) ws) rs
     → ((os : List Step) → Matches (delimiters (at + length us + width kind) inside ((at + length us + width kind + nest_length inside, kind)
     ∷ delimiters (at + length us + width kind + nest_length inside + width kind) after ws)) os
     → ReadNest total (entered kind st) (at + length us + width kind) inside ((at + length us + width kind + nest_length inside, kind)
     ∷ delimiters (at + length us + width kind + nest_length inside + width kind) after ws) os)
     → ((os : List Step) → Matches (delimiters (at + length us + width kind + nest_length inside + width kind) after ws) os
     → ReadNest total st (at + length us + width kind + nest_length inside + width kind) after ws os)
-    → ReadNest total st at (enclosing us kind inside after) ws rs
-enclosed total st kind f us inside after at ws [] m g h = absurd m
-enclosed total st kind f us inside after at ws (step s b i fl ∷ rs) m g h =
+    → ReadNest total st at (enclosing origin us kind inside after) ws rs
+enclosed origin total st kind f us inside after at ws [] m g h = absurd m
+enclosed origin total st kind f us inside after at ws (step s b i fl ∷ rs) m g h =
     let p : ℕ = at + length us in
     let q : ℕ = p + width kind in
     let r : ℕ = q + nest_length inside in
@@ -234,22 +234,22 @@ enclosed total st kind f us inside after at ws (step s b i fl ∷ rs) m g h =
 read_nest : (total : ℕ) (st : State) (n : Nest) (vs : List Segment) (at : ℕ) (ws : List (ℕ × Bool)) (rs : List Step)
     → IsNest (is_open true st) (is_open false st) n vs → Matches (delimiters at n ws) rs → ReadNest total st at n ws rs
 read_nest total st (stretch us) vs at ws rs h m = record { rest = rs; matches = m; styles = refl; ends = λ k o. refl }
-read_nest total unstyled (enclosing us true inside after) vs at ws rs h m =
-    enclosed total unstyled true (bold_first total) us inside after at ws rs m
-    (λ os k. read_nest total in_bold inside (mark_segments true ++ nest_segments after vs) _ _ os h.4 k) (λ os k. read_nest total unstyled after vs _ _ os h.6 k)
-read_nest total unstyled (enclosing us false inside after) vs at ws rs h m =
-    enclosed total unstyled false (italic_first total) us inside after at ws rs m
-    (λ os k. read_nest total in_italic inside (mark_segments false ++ nest_segments after vs) _ _ os h.4 k) (λ os k. read_nest total unstyled after vs _ _ os h.6 k)
-read_nest total in_bold (enclosing us true inside after) vs at ws rs h m = let no : true ≡ false = h.2 in cc
-read_nest total in_bold (enclosing us false inside after) vs at ws rs h m =
-    enclosed total in_bold false (italic_second total) us inside after at ws rs m
-    (λ os k. read_nest total (in_both true) inside (mark_segments false ++ nest_segments after vs) _ _ os h.4 k) (λ os k. read_nest total in_bold after vs _ _ os h.6 k)
-read_nest total in_italic (enclosing us true inside after) vs at ws rs h m =
-    enclosed total in_italic true (bold_second total) us inside after at ws rs m
-    (λ os k. read_nest total (in_both false) inside (mark_segments true ++ nest_segments after vs) _ _ os h.4 k) (λ os k. read_nest total in_italic after vs _ _ os h.6 k)
-read_nest total in_italic (enclosing us false inside after) vs at ws rs h m = let no : true ≡ false = h.2 in cc
-read_nest total (in_both o) (enclosing us true inside after) vs at ws rs h m = let no : true ≡ false = h.2 in cc
-read_nest total (in_both o) (enclosing us false inside after) vs at ws rs h m = let no : true ≡ false = h.2 in cc
+read_nest total unstyled (enclosing origin us true inside after) vs at ws rs h m =
+    enclosed origin total unstyled true (bold_first total) us inside after at ws rs m
+    (λ os k. read_nest total in_bold inside (segments_of origin true ++ nest_segments after vs) _ _ os h.4 k) (λ os k. read_nest total unstyled after vs _ _ os h.6 k)
+read_nest total unstyled (enclosing origin us false inside after) vs at ws rs h m =
+    enclosed origin total unstyled false (italic_first total) us inside after at ws rs m
+    (λ os k. read_nest total in_italic inside (segments_of origin false ++ nest_segments after vs) _ _ os h.4 k) (λ os k. read_nest total unstyled after vs _ _ os h.6 k)
+read_nest total in_bold (enclosing origin us true inside after) vs at ws rs h m = let no : true ≡ false = h.2 in cc
+read_nest total in_bold (enclosing origin us false inside after) vs at ws rs h m =
+    enclosed origin total in_bold false (italic_second total) us inside after at ws rs m
+    (λ os k. read_nest total (in_both true) inside (segments_of origin false ++ nest_segments after vs) _ _ os h.4 k) (λ os k. read_nest total in_bold after vs _ _ os h.6 k)
+read_nest total in_italic (enclosing origin us true inside after) vs at ws rs h m =
+    enclosed origin total in_italic true (bold_second total) us inside after at ws rs m
+    (λ os k. read_nest total (in_both false) inside (segments_of origin true ++ nest_segments after vs) _ _ os h.4 k) (λ os k. read_nest total in_italic after vs _ _ os h.6 k)
+read_nest total in_italic (enclosing origin us false inside after) vs at ws rs h m = let no : true ≡ false = h.2 in cc
+read_nest total (in_both o) (enclosing origin us true inside after) vs at ws rs h m = let no : true ≡ false = h.2 in cc
+read_nest total (in_both o) (enclosing origin us false inside after) vs at ws rs h m = let no : true ≡ false = h.2 in cc
 
 none_left : (total : ℕ) (rs : List Step) → Matches [] rs → styles_by total (run_in unstyled rs) ≡ []
 none_left total [] m = refl

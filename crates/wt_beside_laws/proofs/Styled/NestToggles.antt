@@ -140,7 +140,7 @@ record Doubled (x y : ℕ) : Type 0 where
 
 doubled : (b : Bool) (at : ℕ) (n : Nest) (ws : List (ℕ × Bool)) → Doubled (count_kind b (delimiters at n ws)) (count_kind b ws)
 doubled b at (stretch us) ws = record { half = 0; is = omega arith }
-doubled b at (enclosing us kind inside after) ws =
+doubled b at (enclosing origin us kind inside after) ws =
     let p : ℕ = at + length us in
     let q : ℕ = p + width kind in
     let r : ℕ = q + nest_length inside in

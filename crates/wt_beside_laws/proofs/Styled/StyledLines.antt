@@ -11,6 +11,7 @@ use Rattle.wt_names.proofs.Ascii.{IsWide, encode_wide, encode_some}
 use Rattle.wt_quotes.specs.Styles.{width}
 use Rattle.wt_quotes.specs.Toggles.{is_odd, toggles_of}
 use Rattle.wt_quotes.specs.Turns.{is_of}
+use Rattle.wt_guards.specs.declared.role.Role.{Role}
 use Rattle.wt_guards.specs.Content.{ContentSign, Thing, letter, thing}
 use Rattle.wt_guards.specs.Guards.{Setting, nowiki, is_guarded}
 use Rattle.wt_guards.specs.Letters.{is_escaped, reference}
@@ -36,7 +37,7 @@ use Rattle.wt_beside_laws.specs.Content.{guard_items, letter_items}
 use Rattle.wt_beside_laws.specs.Cuts.{add_chars, add_tile, own_glyphs, own_form, add_node, guard_cut, letter_cut}
 use Rattle.wt_beside_laws.specs.Flat.{IsFlat}
 use Rattle.wt_beside_laws.specs.Lines.{line_items}
-use Rattle.wt_beside_laws.specs.Nests.{quote, marks, mark_segments, nest_segments, style_tree}
+use Rattle.wt_beside_laws.specs.Nests.{quote_of, marks_of, segments_of, marks, mark_segments, nest_segments, style_tree}
 use Rattle.wt_beside_laws.specs.Nodes.{IsNode, AreNodes, AllMeet}
 use Rattle.wt_beside_laws.specs.Styled.{StyledContent, finished, sign, styled, mark_source, delimiter, signs_before, signs_past, AreNested, styled_parts}
 use Rattle.wt_beside_laws.proofs.Firm.{firm_read}
@@ -51,10 +52,10 @@ use Rattle.wt_beside_laws.proofs.Styled.NestToggles.{nest_even}
 use Rattle.wt_beside_laws.proofs.Styled.StyledSigns.{is_toggle, raw_next, quote_next, quote_behind, after_delimiter}
 use Rattle.wt_beside_laws.specs.NodeItems.{node_items}
 
-abbrev cut_line : Cut → List Item → List Segment
+abbrev pub cut_line : Cut → List Item → List Segment
 cut_line c xs = cut_segments context_parts in_line c xs
 
-abbrev Read : Bool → Bool → Bool → Cut → List Item → List Segment → List Part → Type 0
+abbrev pub Read : Bool → Bool → Bool → Cut → List Item → List Segment → List Part → Type 0
 Read bold italic next c xs vs ps = NestRead bold italic next (cut_line c xs) vs ps
 
 -- ---- what is put, and what is typed
@@ -133,20 +134,25 @@ ended_read bold italic next false false c xs vs ps f g r = r
 
 -- ---- a node that stays
 
-node_read : (bold italic next any : Bool) (t : Thing) (c : Cut) (xs : List Item) (vs : List Segment) (ps : List Part) → IsFlat t.role → IsNode t.role (own_glyphs t)
-    → Read bold italic next c xs vs ps
-    → Read bold italic any (add_node (own_form in_line (own_glyphs t)) (length (own_glyphs t)) c) (node_items t.source ++ xs) vs (line_parts (node_items t.source) ++ ps)
-node_read bold italic next any t c xs vs ps f n r =
-    let own : List Item = node_items t.source in
-    let h = has_form t.role (own_glyphs t) f n in
+pub form_read : (bold italic next any : Bool) (r : Role) (own : List Item) (c : Cut) (xs : List Item) (vs : List Segment) (ps : List Part) → IsFlat r
+    → IsNode r (map glyph_of own) → Read bold italic next c xs vs ps
+    → Read bold italic any (add_node (own_form in_line (map glyph_of own)) (length (map glyph_of own)) c) (own ++ xs) vs (line_parts own ++ ps)
+form_read bold italic next any role own c xs vs ps f n r =
+    let gs : List Glyph = map glyph_of own in
+    let h = has_form role gs f n in
     let long : size h.shape ≡ length own = h.whole ∙ glyphs_long own in
     let s = one_segment own h.shape h.alone long in
     let added : cut_line (add_tile h.shape c) (own ++ xs) ≡ s.segment ∷ cut_line c xs =
     tile_first context_parts in_line h.shape c own xs long ∙ ap (λ us. us ++ cut_line c xs) s.is in
-    subst (λ (o : Option Shape). Read bold italic any (add_node o (length (own_glyphs t)) c) (own ++ xs) vs (line_parts own ++ ps)) (sym h.alone)
+    subst (λ (o : Option Shape). Read bold italic any (add_node o (length gs) c) (own ++ xs) vs (line_parts own ++ ps)) (sym h.alone)
     (subst (λ qs. Read bold italic any (add_tile h.shape c) (own ++ xs) vs (qs ++ ps)) (sym (node_alone own h.shape s h.whole h.before))
     (subst (λ us. NestRead bold italic any us vs (s.segment.parts ++ ps)) (sym added)
     (pushed_read bold italic next any s.segment (cut_line c xs) vs ps (λ e. let no : true ≡ false = sym e ∙ s.other in cc) (λ z. s.other) r)))
+
+node_read : (bold italic next any : Bool) (t : Thing) (c : Cut) (xs : List Item) (vs : List Segment) (ps : List Part) → IsFlat t.role → IsNode t.role (own_glyphs t)
+    → Read bold italic next c xs vs ps
+    → Read bold italic any (add_node (own_form in_line (own_glyphs t)) (length (own_glyphs t)) c) (node_items t.source ++ xs) vs (line_parts (node_items t.source) ++ ps)
+node_read bold italic next any t c xs vs ps f n r = form_read bold italic next any t.role (node_items t.source) c xs vs ps f n r
 
 -- ---- a delimiter
 
@@ -167,20 +173,20 @@ pub mark_length : (kind : Bool) → length (byte_glyphs (mark_source kind)) ≡ 
 mark_length true = refl
 mark_length false = refl
 
-marks_added : (kind : Bool) (c : Cut) (xs : List Item) → cut_line (add_chars (width kind) c) (marks kind ++ xs) ≡ mark_segments kind ++ cut_line c xs
-marks_added true c xs =
+pub marks_added : (origin : Option ℕ) (kind : Bool) (c : Cut) (xs : List Item) → cut_line (add_chars (width kind) c) (marks_of origin kind ++ xs) ≡ segments_of origin kind ++ cut_line c xs
+marks_added origin true c xs =
     let z : 3 + c.0 ≡ suc (suc (suc c.0)) = omega arith in
-    let s : Segment = loose_segment (quote ∷ []) in
-    ap (λ (m : ℕ). cut_line (m, c.1) (quote ∷ quote ∷ quote ∷ xs)) z
-    ∙ quote_added quote (suc (suc c.0)) c.1 (quote ∷ quote ∷ xs) refl
-    ∙ ap (λ us. s ∷ us) (quote_added quote (suc c.0) c.1 (quote ∷ xs) refl)
-    ∙ ap (λ us. s ∷ s ∷ us) (quote_added quote c.0 c.1 xs refl)
-marks_added false c xs =
+    let s : Segment = loose_segment (quote_of origin ∷ []) in
+    ap (λ (m : ℕ). cut_line (m, c.1) (quote_of origin ∷ quote_of origin ∷ quote_of origin ∷ xs)) z
+    ∙ quote_added (quote_of origin) (suc (suc c.0)) c.1 (quote_of origin ∷ quote_of origin ∷ xs) refl
+    ∙ ap (λ us. s ∷ us) (quote_added (quote_of origin) (suc c.0) c.1 (quote_of origin ∷ xs) refl)
+    ∙ ap (λ us. s ∷ s ∷ us) (quote_added (quote_of origin) c.0 c.1 xs refl)
+marks_added origin false c xs =
     let z : 2 + c.0 ≡ suc (suc c.0) = omega arith in
-    let s : Segment = loose_segment (quote ∷ []) in
-    ap (λ (m : ℕ). cut_line (m, c.1) (quote ∷ quote ∷ xs)) z
-    ∙ quote_added quote (suc c.0) c.1 (quote ∷ xs) refl
-    ∙ ap (λ us. s ∷ us) (quote_added quote c.0 c.1 xs refl)
+    let s : Segment = loose_segment (quote_of origin ∷ []) in
+    ap (λ (m : ℕ). cut_line (m, c.1) (quote_of origin ∷ quote_of origin ∷ xs)) z
+    ∙ quote_added (quote_of origin) (suc c.0) c.1 (quote_of origin ∷ xs) refl
+    ∙ ap (λ us. s ∷ us) (quote_added (quote_of origin) c.0 c.1 xs refl)
 
 delimiter_added : (kind : Bool) (c : Cut) (xs : List Item)
     → cut_line (add_node (own_form in_line (map glyph_of (node_items (mark_source kind)))) (length (map glyph_of (node_items (mark_source kind)))) c) (node_items (mark_source kind) ++ xs)
@@ -190,7 +196,7 @@ delimiter_added kind c xs =
     ∙ ap (λ (o : Option Shape). cut_line (add_node o (length (byte_glyphs (mark_source kind))) c) (node_items (mark_source kind) ++ xs)) (no_form kind)
     ∙ ap (λ (m : ℕ). cut_line (add_chars m c) (node_items (mark_source kind) ++ xs)) (mark_length kind)
     ∙ ap (λ ys. cut_line (add_chars (width kind) c) (ys ++ xs)) (mark_items kind)
-    ∙ marks_added kind c xs
+    ∙ marks_added None kind c xs
 
 -- ---- the line, up to the signs `after`, of which the rest of the line is made behind what is put before them
 
@@ -287,13 +293,13 @@ styled_read line s bold italic (styled kind opening closing inside t) before aft
     subst (λ (v : Bool). NestRead (kind || bold) (not kind || italic) v (cut_line (line_cut in_line s first held) (line_items s first held)) (mark_segments kind ++ nest_segments b.nest vs) ps)
     (after_delimiter s kind opening before held)
     (styled_read false s (kind || bold) (not kind || italic) inside first (delimiter kind closing ∷ signs) (mark_segments kind ++ nest_segments b.nest vs) n.1 k.1
-    (λ e. let no : true ≡ false = sym (within_style kind bold italic) ∙ e in cc) (inr (marks_first kind (nest_segments b.nest vs))) end) in
+    (λ e. let no : true ≡ false = sym (within_style kind bold italic) ∙ e in cc) (inr (marks_first None kind (nest_segments b.nest vs))) end) in
     guard_read bold italic true u
     (add_node (own_form in_line (map glyph_of (node_items (mark_source kind)))) (length (map glyph_of (node_items (mark_source kind)))) (line_cut in_line s first held))
     (node_items (mark_source kind) ++ line_items s first held) vs (node (style_tree kind ps) ∷ qs)
     (subst (λ us. NestRead bold italic true us vs (node (style_tree kind ps) ∷ qs))
     (sym (delimiter_added kind (line_cut in_line s first held) (line_items s first held)))
-    (enclosed_read bold italic kind (cut_line (line_cut in_line s first held) (line_items s first held)) (cut_line later_cut later_items) vs ps qs b k.0 a))
+    (enclosed_read None bold italic kind (cut_line (line_cut in_line s first held) (line_items s first held)) (cut_line later_cut later_items) vs ps qs b k.0 a))
 
 -- ---- the line by itself
 

@@ -16,7 +16,7 @@ use Rattle.wt_expand.specs.Work.{Pages}
 use Rattle.wt_expand.specs.PageCalls.{Stretch, own, outer, text_call, from_call, outer_items, numbered, outer_calls, page_stretches, expanded_page}
 use Rattle.wt_expand.proofs.PiecePlaces.{AllFrom, chars_from}
 use Rattle.wt_part_laws.specs.Expanded.{part_items, calls_in}
-use Rattle.wt_part_laws.proofs.CallTexts.{AllOf}
+use Rattle.wt_part_laws.specs.CallPieces.{AreItemsOf as AllOf}
 use Rattle.wt_called_edit_laws.specs.WholeContents.{of_call}
 use Rattle.wt_called_edit_laws.proofs.PartTexts.{OwnPage, own_page, called_from}
 

@@ -34,7 +34,8 @@ use Rattle.wt_part_laws.specs.CallTexts.{call_group, by_call, in_page, all_in_pa
 use Rattle.wt_part_laws.specs.Placeless.{placeless, all_placeless}
 use Rattle.wt_part_laws.specs.Rounded.{IsOwn}
 use Rattle.wt_part_laws.specs.Standing.{standing}
-use Rattle.wt_part_laws.proofs.CallTexts.{AllOf, IsCallText, IsPiece, ArePieces}
+use Rattle.wt_part_laws.specs.CallPieces.{AreItemsOf as AllOf}
+use Rattle.wt_part_laws.proofs.CallTexts.{IsCallText, IsPiece, ArePieces}
 use Rattle.wt_part_laws.proofs.GroupsStay.{numbers_gone}
 use Rattle.wt_part_laws.proofs.OwnWalks.{first_own, last_own, text_own, has_page}
 use Rattle.wt_part_laws.proofs.Recuts.{texts_same}

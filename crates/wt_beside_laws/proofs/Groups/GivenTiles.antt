@@ -1,0 +1,152 @@
+-- The tiles of what a call gives: of each character and form by itself, whatever is read behind them.
+use Rattle.std.proofs.Common.{◌≡◌, inl, inr, ℕ, ◌==◌, Bool, true, false, not, None, List, [], ◌∷◌, ◌++◌, length, map, refl, sym, ap, ◌∙◌, subst, append_assoc}
+use Rattle.std.specs.Prelude.{◌&&◌, ◌||◌, codes}
+use Rattle.std.specs.Char.{to_ascii_lowercase}
+use Rattle.std.proofs.lemmas.Bool.Decides.{Decides-eqb}
+use Rattle.std.proofs.lemmas.List.{map-append}
+use Rattle.wt_span.specs.Items.{Item}
+use Rattle.wt_guards.specs.declared.role.Role.{Role}
+use Rattle.wt_typed_blocks.proofs.TextReads.{equal_or}
+use Rattle.wt_tiles.specs.declared.glyph.Glyph.{Glyph}
+use Rattle.wt_tiles.specs.declared.glyph.Glyph.TheVariants as glyph
+use Rattle.wt_tiles.specs.Contexts.{in_line}
+use Rattle.wt_tiles.specs.Glyphs.{glyph_of, is_in, like_byte, begins_like}
+use Rattle.wt_tiles.specs.Tiles.{Cut, form_at, cuts, switch_at}
+use Rattle.wt_tiles.specs.Urls.{is_word}
+use Rattle.wt_beside_laws.specs.Glyphs.{AvoidsUrls}
+use Rattle.wt_beside_laws.specs.Called.{is_half_sign}
+use Rattle.wt_beside_laws.specs.Cuts.{add_node, own_form, ends_word}
+use Rattle.wt_beside_laws.specs.Given.{GivenSign, character, form, given_items, given_glyphs, given_cut, is_given_byte, is_apart, BeginsApart, MayBeFirst, AreGivenSigns, given_last, LastMay}
+use Rattle.wt_beside_laws.specs.Nodes.{MayFollow}
+use Rattle.wt_beside_laws.proofs.ContentTiles.{one_more, none_more, Follows, node_follows}
+use Rattle.wt_beside_laws.proofs.NodesBegin.{node_urls}
+use Rattle.wt_beside_laws.proofs.NodesStand.{node_stands}
+use Rattle.wt_beside_laws.proofs.TypedForms.{one_underscore, tag_other, switch_other, link_none, external_none, bare_none, all_none}
+use Rattle.wt_beside_laws.proofs.Groups.Schemes.{is_more, reaches, no_scheme, reach_by, node_reaches}
+use Rattle.wt_beside_laws.proofs.Groups.Words.{lower_colon, no_slash, half_underscore, half_colon, behind_sign}
+
+pub given_are : (j : ℕ) (signs : List GivenSign) → map glyph_of (given_items j signs) ≡ given_glyphs signs
+given_are j [] = refl
+given_are j (character b ∷ signs) = ap (λ gs. glyph.Byte b ∷ gs) (given_are j signs)
+given_are j (form r own ∷ signs) = map-append glyph_of own (given_items j signs) ∙ ap (λ gs. map glyph_of own ++ gs) (given_are j signs)
+
+-- ---- bytes
+
+not_true : (v : Bool) → not v ≡ true → v ≡ false
+not_true true e = cc
+not_true false e = refl
+
+three_false : (u v w : Bool) → not (u || (v || w)) ≡ true → (u ≡ false) × (v ≡ false) × (w ≡ false)
+three_false true v w e = cc
+three_false false true w e = cc
+three_false false false true e = cc
+three_false false false false e = (refl, refl, refl)
+
+given_byte : (b : ℕ) → is_given_byte b ≡ true → ((b == 10) ≡ false) × ((b == 60) ≡ false) × ((b == 91) ≡ false)
+given_byte b e = three_false (b == 10) (b == 60) (b == 91) e
+
+pub apart_sign : (b : ℕ) → is_apart (glyph.Byte b) ≡ true → ((b == 39) ≡ false) × ((b == 95) ≡ false) × ((b == 47) ≡ false)
+apart_sign b e = behind_sign b [] (not_true (is_half_sign b || b == 47) e)
+
+apart_slash : (g : Glyph) → is_apart g ≡ true → like_byte 47 g ≡ false
+apart_slash (glyph.Byte b) e = no_slash b (apart_sign b e).2
+apart_slash (glyph.Entity c) e = refl
+apart_slash glyph.Atom e = refl
+apart_slash glyph.Mark e = refl
+
+apart_underscore : (g : Glyph) → is_apart g ≡ true → is_in (λ (b : ℕ). b == 95) g ≡ false
+apart_underscore (glyph.Byte b) e = (apart_sign b e).1
+apart_underscore (glyph.Entity c) e = refl
+apart_underscore glyph.Atom e = refl
+apart_underscore glyph.Mark e = refl
+
+-- ---- no URL goes on over them
+
+no_slashes : (gs more : List Glyph) → BeginsApart gs → begins_like (codes "//") (gs ++ more) ≡ false
+no_slashes [] more h = absurd h
+no_slashes (g ∷ gs) more h = ap (λ (v : Bool). v && begins_like (codes "/") (gs ++ more)) (apart_slash g h)
+
+pub given_reaches : (word : Bool) (signs : List GivenSign) (more : List Glyph) → AreGivenSigns word signs → reaches more ≡ false
+    → reaches (given_glyphs signs ++ more) ≡ false
+given_reaches word [] more h e = e
+given_reaches word (character b ∷ signs) more h e =
+    let gs : List Glyph = given_glyphs signs ++ more in
+    reach_by (to_ascii_lowercase b == 58) (is_more (glyph.Byte b)) (reaches gs) (begins_like (codes "//") gs)
+    (λ i. no_slashes (given_glyphs signs) more (h.1 (half_colon b (lower_colon b i)))) (given_reaches (is_word b) signs more h.2 e)
+given_reaches word (form r own ∷ signs) more h e =
+    ap reaches (append_assoc (map glyph_of own) (given_glyphs signs) more)
+    ∙ node_reaches (map glyph_of own) (given_glyphs signs ++ more) (node_urls r (map glyph_of own) h.0.node)
+
+-- ---- no form begins at a character
+
+byte_switch : (b : ℕ) (gs more : List Glyph) → (is_half_sign b ≡ true → BeginsApart gs) → switch_at (glyph.Byte b ∷ (gs ++ more)) ≡ None
+byte_switch b gs more h = elim (equal_or b 95) [
+  | inl i ↦ lone b gs i (h (half_underscore b ((Decides-eqb b 95).1 i)))
+  | inr n ↦ switch_other b (gs ++ more) n
+]
+  where
+    lone : (b : ℕ) (gs : List Glyph) → b ≡ 95 → BeginsApart gs → switch_at (glyph.Byte b ∷ (gs ++ more)) ≡ None
+    lone b [] i h = absurd h
+    lone b (g ∷ gs) i h =
+        let P : ℕ → Type 0 = λ k. switch_at (glyph.Byte k ∷ (g ∷ (gs ++ more))) ≡ None in
+        subst P (sym i) (one_underscore g (gs ++ more) (apart_underscore g h))
+
+byte_none : (a : Bool) (b : ℕ) (gs more : List Glyph) → is_given_byte b ≡ true → (is_half_sign b ≡ true → BeginsApart gs) → reaches (gs ++ more) ≡ false
+    → form_at in_line a (glyph.Byte b ∷ (gs ++ more)) ≡ None
+byte_none a b gs more g h e =
+    let all : List Glyph = gs ++ more in
+    let own = given_byte b g in
+    all_none in_line a (glyph.Byte b ∷ all) (link_none b all own.2) (external_none b all own.2)
+    (bare_none a (glyph.Byte b ∷ all) (no_scheme (glyph.Byte b) all e)) (tag_other b all own.1) (byte_switch b gs more h)
+
+-- ---- what follows a form
+
+some_glyph : (word : Bool) (sign : GivenSign) (signs : List GivenSign) → AreGivenSigns word (sign ∷ signs) → given_glyphs (sign ∷ signs) ≡ [] → ⊥
+some_glyph word (character b) signs h e = cc
+some_glyph word (form r own) signs h e = none (map glyph_of own) (node_urls r (map glyph_of own) h.0.node) e
+  where
+    none : (gs : List Glyph) → AvoidsUrls gs → gs ++ given_glyphs signs ≡ [] → ⊥
+    none [] k e = k
+    none (g ∷ gs) k e = cc
+
+by_first : (r : Role) (own gs more : List Glyph) → MayBeFirst r gs → (gs ≡ [] → MayFollow r own more) → MayFollow r own (gs ++ more)
+by_first r own [] more m f = f refl
+by_first r own (g ∷ gs) more m f = inl m
+
+form_may : (word : Bool) (r : Role) (own : List Item) (signs : List GivenSign) (more : List Glyph) → AreGivenSigns word signs
+    → MayBeFirst r (given_glyphs signs) → LastMay (form r own ∷ signs) more → MayFollow r (map glyph_of own) (given_glyphs signs ++ more)
+form_may word r own [] more h m l = l
+form_may word r own (sign ∷ signs) more h m l =
+    by_first r (map glyph_of own) (given_glyphs (sign ∷ signs)) more m (λ e. absurd (some_glyph word sign signs h e))
+
+later_may : (r : Role) (own : List Item) (signs : List GivenSign) (more : List Glyph) → LastMay (form r own ∷ signs) more → LastMay signs more
+later_may r own [] more l = tt
+later_may r own (sign ∷ signs) more l = l
+
+-- ---- all of them
+
+pub given_follow : (word : Bool) (signs : List GivenSign) (more : List Glyph) (c : Cut) → AreGivenSigns word signs → LastMay signs more → reaches more ≡ false
+    → Follows in_line (given_last word signs) more c → Follows in_line word (given_glyphs signs ++ more) (given_cut signs c)
+given_follow word [] more c h l e f = f
+given_follow word (character b ∷ signs) more c h l e f =
+    let later : Follows in_line (is_word b) (given_glyphs signs ++ more) (given_cut signs c) = given_follow (is_word b) signs more c h.2 l e f in
+    λ a i. one_more in_line a b (given_glyphs signs ++ more) 0 (given_cut signs c)
+    (byte_none a b (given_glyphs signs) more h.0 h.1 (given_reaches (is_word b) signs more h.2 e)) (later (is_word b) (λ z. z) ∙ none_more (given_cut signs c))
+given_follow word (form r own ∷ signs) more c h l e f =
+    let gs : List Glyph = map glyph_of own in
+    let behind : List Glyph = given_glyphs signs ++ more in
+    let after : Bool = ends_word false gs in
+    subst (λ hs. Follows in_line word hs (add_node (own_form in_line gs) (length gs) (given_cut signs c))) (sym (append_assoc gs (given_glyphs signs) more))
+    (node_follows in_line word (own_form in_line gs) gs behind (given_cut signs c)
+    (node_stands r word gs behind h.0.node (form_may after r own signs more h.1 h.0.follows l) h.0.leads)
+    (given_follow after signs more c h.1 (later_may r own signs more l) e f))
+
+-- with nothing behind them
+none_last : (signs : List GivenSign) → LastMay signs []
+none_last [] = tt
+none_last (character b ∷ signs) = none_last signs
+none_last (form r own ∷ []) = tt
+none_last (form r own ∷ sign ∷ signs) = none_last (sign ∷ signs)
+
+pub given_alone : (signs : List GivenSign) → AreGivenSigns false signs → cuts in_line false 0 (given_glyphs signs ++ []) ≡ given_cut signs (0, [])
+given_alone signs h = given_follow false signs [] (0, []) h (none_last signs) refl (λ a i. refl) false (λ z. z)

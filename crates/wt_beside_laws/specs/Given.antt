@@ -1,0 +1,129 @@
+-- What a call gives, in its order: characters, and forms, each as the nodes that stay in a content are.
+use Rattle.std.specs.Prelude.{◌≡◌, ℕ, ◌==◌, ◌||◌, Bool, true, false, not, Some, List, [], ◌∷◌, ◌++◌, length, map}
+use Rattle.wt_span.specs.Characters as byte
+use Rattle.wt_span.specs.Items.{Item, char}
+use Rattle.wt_guards.specs.declared.role.Role.{Role}
+use Rattle.wt_guards.specs.declared.role.Role.TheVariants.{Link, External, Bare, Switch, Toggle, Mark, Group, Function, Node}
+use Rattle.wt_inline.specs.declared.loose.Loose.TheVariants.{Text}
+use Rattle.wt_inline.specs.Parts.{Part, part}
+use Rattle.wt_tiles.specs.declared.glyph.Glyph.{Glyph}
+use Rattle.wt_tiles.specs.declared.glyph.Glyph.TheVariants as glyph
+use Rattle.wt_tiles.specs.Contexts.{in_line}
+use Rattle.wt_tiles.specs.Glyphs.{glyph_of}
+use Rattle.wt_tiles.specs.Tiles.{Cut}
+use Rattle.wt_tiles.specs.Urls.{is_word}
+use Rattle.wt_context.specs.Line.{line_parts}
+use Rattle.wt_part_laws.specs.CallPieces.{AreItemsOf}
+use Rattle.wt_beside_laws.specs.Called.{is_half_sign}
+use Rattle.wt_beside_laws.specs.Cuts.{add_chars, own_form, add_node, ends_word}
+use Rattle.wt_beside_laws.specs.Flat.{IsFlat}
+use Rattle.wt_beside_laws.specs.Nodes.{IsNode, MayBeBehind, MayFollow, MayLead}
+
+-- a byte of a character; or the items of a form, with what its node is to its neighbours
+pub data GivenSign : Type 0 where
+  character : ℕ → GivenSign
+  form : Role → List Item → GivenSign
+
+-- ---- what they are
+
+abbrev pub given_items : ℕ → List GivenSign → List Item
+given_items j [] = []
+given_items j (character b ∷ signs) = char (Some j) b ∷ given_items j signs
+given_items j (form r own ∷ signs) = own ++ given_items j signs
+
+-- as inline forms read them
+abbrev pub given_glyphs : List GivenSign → List Glyph
+given_glyphs [] = []
+given_glyphs (character b ∷ signs) = glyph.Byte b ∷ given_glyphs signs
+given_glyphs (form r own ∷ signs) = map glyph_of own ++ given_glyphs signs
+
+-- their tiles, before what follows
+abbrev pub given_cut : List GivenSign → Cut → Cut
+given_cut [] c = c
+given_cut (character b ∷ signs) c = add_chars 1 (given_cut signs c)
+given_cut (form r own ∷ signs) c = add_node (own_form in_line (map glyph_of own)) (length (map glyph_of own)) (given_cut signs c)
+
+-- in a paragraph or a heading: each form is what its items are on a line by themselves
+abbrev pub given_parts : ℕ → List GivenSign → List Part
+given_parts j [] = []
+given_parts j (character b ∷ signs) = part Text (char (Some j) b) ∷ given_parts j signs
+given_parts j (form r own ∷ signs) = line_parts own ++ given_parts j signs
+
+-- ---- what may be among them
+
+-- it begins no tag and no link, and ends no line
+abbrev pub is_given_byte : ℕ → Bool
+is_given_byte b = not (b == byte.line_break || (b == byte.less_than || b == byte.opening_bracket))
+
+-- no apostrophe, `_`, colon or slash
+abbrev pub is_apart : Glyph → Bool
+is_apart (glyph.Byte b) = not (is_half_sign b || b == byte.slash)
+is_apart (glyph.Entity c) = true
+is_apart glyph.Atom = true
+is_apart glyph.Mark = true
+
+-- there is a first one, and it is none of these
+abbrev pub BeginsApart : List Glyph → Type 0
+BeginsApart [] = ⊥
+BeginsApart (g ∷ gs) = is_apart g ≡ true
+
+-- what is first may be behind such a node
+abbrev pub MayBeFirst : Role → List Glyph → Type 0
+MayBeFirst r [] = Unit {0}
+MayBeFirst r (g ∷ gs) = MayBeBehind r g
+
+-- A node, but no style delimiter, as it may stand before these; `word` says whether a letter, digit or `_` may come before it.
+pub record IsGivenForm (word : Bool) (r : Role) (own : List Item) (behind : List Glyph) : Type 0 where
+  pub flat : IsFlat r
+  pub node : IsNode r (map glyph_of own)
+  pub leads : MayLead r word
+  pub follows : MayBeFirst r behind
+
+-- Each character begins no form: an apostrophe, `_` or colon is before something that is none of these and no slash. Each form is a node.
+abbrev pub AreGivenSigns : Bool → List GivenSign → Type 0
+AreGivenSigns word [] = Unit {0}
+AreGivenSigns word (character b ∷ signs) =
+    (is_given_byte b ≡ true) × (is_half_sign b ≡ true → BeginsApart (given_glyphs signs)) × AreGivenSigns (is_word b) signs
+AreGivenSigns word (form r own ∷ signs) = IsGivenForm word r own (given_glyphs signs) × AreGivenSigns (ends_word false (map glyph_of own)) signs
+
+-- ---- beside others
+
+-- whether a letter, digit or `_` is last
+abbrev pub given_last : Bool → List GivenSign → Bool
+given_last word [] = word
+given_last word (character b ∷ signs) = given_last (is_word b) signs
+given_last word (form r own ∷ signs) = given_last (ends_word false (map glyph_of own)) signs
+
+-- if a form is last, this may be read behind it
+abbrev pub LastMay : List GivenSign → List Glyph → Type 0
+LastMay [] more = Unit {0}
+LastMay (character b ∷ signs) more = LastMay signs more
+LastMay (form r own ∷ []) more = MayFollow r (map glyph_of own) more
+LastMay (form r own ∷ sign ∷ signs) more = LastMay (sign ∷ signs) more
+
+abbrev pub is_bare_url : Role → Bool
+is_bare_url Link = false
+is_bare_url External = false
+is_bare_url (Bare ends) = true
+is_bare_url Switch = false
+is_bare_url Toggle = false
+is_bare_url (Mark ends began) = false
+is_bare_url (Group g) = false
+is_bare_url Function = false
+is_bare_url Node = false
+
+abbrev pub ends_with_url : List GivenSign → Bool
+ends_with_url [] = false
+ends_with_url (character b ∷ signs) = ends_with_url signs
+ends_with_url (form r own ∷ []) = is_bare_url r
+ends_with_url (form r own ∷ sign ∷ signs) = ends_with_url (sign ∷ signs)
+
+-- ---- a group
+
+-- What this call gives: such characters and forms, at least one, of which the first is no apostrophe, `_`, colon or slash.
+pub record GivesSigns (j : ℕ) (own : List Item) : Type 0 where
+  pub signs : List GivenSign
+  pub is : own ≡ given_items j signs
+  pub of_call : AreItemsOf j own
+  pub are : AreGivenSigns false signs
+  pub begins : BeginsApart (given_glyphs signs)
