@@ -65,4 +65,5 @@ pub mod Groups
 pub mod Made
 pub mod Marks
 pub mod Styled
+pub mod StyledGroups
 pub mod Derived

@@ -19,7 +19,7 @@ use Rattle.wt_lines.specs.Lines.{IsUnbroken}
 use Rattle.wt_part_laws.specs.CallTexts.{AreOwnOrTexts}
 use Rattle.wt_beside_laws.specs.Content.{guard_items, letter_items}
 use Rattle.wt_beside_laws.specs.Cuts.{own_glyphs}
-use Rattle.wt_beside_laws.specs.Flat.{IsFlat}
+use Rattle.wt_beside_laws.specs.Flat.{IsFlat, AreFlat}
 use Rattle.wt_text_edit_laws.specs.TypedHeadings.{EndsWithout, is_equals_sign}
 use Rattle.wt_beside_laws.specs.InHeadings.{AreOnOneLine}
 use Rattle.wt_beside_laws.specs.Lines.{AreCharacters}
@@ -140,10 +140,9 @@ pub record AreWords (shown : List ℕ) (own : List Item) : Type 0 where
 
 -- ---- the nodes
 
--- one of the page, on one line, by its own source; a mark is within its line
+-- one of the page, on one line, by its own source, or a style delimiter; a mark is within its line
 pub record IsOwnNode (t : Thing) (own : List Item) : Type 0 where
   pub is : own ≡ node_items t.source
-  pub flat : IsFlat t.role
   pub node : IsNode t.role (own_glyphs t)
   pub inside : is_mark t.role ≡ true → is_new_at_start t.role ≡ true
   pub unbroken : IsUnbroken (node_items t.source)
@@ -190,6 +189,7 @@ EndsWithText (thing t ∷ sign ∷ after) = EndsWithText (sign ∷ after)
 pub record IsCalledContent (s : Setting) (signs : List ContentSign) (owns : List (List Item)) : Type 0 where
   pub of_block : s.within ≡ false
   pub characters : AreCharacters signs
+  pub flat : AreFlat signs
   pub given : AreGiven signs owns
   pub own : AreOwnInside owns
   pub meet : AllMeet s [] signs []
@@ -209,6 +209,7 @@ pub record IsCalledHeading (s : Setting) (signs : List ContentSign) (owns : List
   pub of_heading : s.place ≡ place.Heading
   pub one_line : AreOnOneLine signs
   pub characters : AreCharacters signs
+  pub flat : AreFlat signs
   pub given : AreGiven signs owns
   pub own : AreOwnInside owns
   pub meet : AllMeet s [] signs []

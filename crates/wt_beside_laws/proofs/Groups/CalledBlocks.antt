@@ -37,16 +37,16 @@ own_texts [] h = tt
 own_texts (char o b ∷ xs) h = own_texts xs h.1
 own_texts (whole f o bs ∷ xs) h = (record { of_page = h.0.1; has_items = h.0.0 }, own_texts xs h.1)
 
-texts_both : (ps qs : List Part) → AreOwnOrTexts ps → AreOwnOrTexts qs → AreOwnOrTexts (ps ++ qs)
+pub texts_both : (ps qs : List Part) → AreOwnOrTexts ps → AreOwnOrTexts qs → AreOwnOrTexts (ps ++ qs)
 texts_both [] qs h k = k
 texts_both (loose Text o b ∷ ps) qs h k = texts_both ps qs h k
 texts_both (loose Sep o b ∷ ps) qs h k = absurd h
 texts_both (node t ∷ ps) qs h k = (h.0, texts_both ps qs h.1 k)
 
-guard_own : (u : Bool) → AreOwnOrTexts (parts Text (guard_items u))
+pub guard_own : (u : Bool) → AreOwnOrTexts (parts Text (guard_items u))
 guard_own u = own_texts (guard_items u) (guard_has u)
 
-letter_own : (e : Bool) (c : ℕ) → AreOwnOrTexts (parts Text (letter_items e c))
+pub letter_own : (e : Bool) (c : ℕ) → AreOwnOrTexts (parts Text (letter_items e c))
 letter_own e c = own_texts (letter_items e c) (letter_has e c)
 
 pub parts_own : (s : Setting) (before signs : List ContentSign) (owns : List (List Item)) → AreOwnInside owns → AreOwnOrTexts (parts_with s before signs owns)
@@ -65,7 +65,7 @@ parts_own s before (thing t ∷ after) (own ∷ owns) h =
 
 -- ---- its first and its last item
 
-held_both : (ps qs : List Part) → held_parts (ps ++ qs) ≡ held_parts ps ++ held_parts qs
+pub held_both : (ps qs : List Part) → held_parts (ps ++ qs) ≡ held_parts ps ++ held_parts qs
 held_both [] qs = refl
 held_both (loose k o b ∷ ps) qs = ap (λ xs. char o b ∷ xs) (held_both ps qs)
 held_both (node t ∷ ps) qs = ap (λ xs. tree_items t ++ xs) (held_both ps qs) ∙ sym (append_to (tree_items t) (held_parts ps) (held_parts qs))
@@ -75,15 +75,15 @@ held_both (node t ∷ ps) qs = ap (λ xs. tree_items t ++ xs) (held_both ps qs) 
     append_to (x ∷ xs) ys zs = ap (λ us. x ∷ us) (append_to xs ys zs)
 
 -- items of the page, one at least
-record IsSome (xs : List Item) : Type 0 where
-  first : (p : Option ℕ) → first_of xs p ≡ None
-  last : (o : Option ℕ) → last_of o xs ≡ None
+pub record IsSome (xs : List Item) : Type 0 where
+  pub first : (p : Option ℕ) → first_of xs p ≡ None
+  pub last : (o : Option ℕ) → last_of o xs ≡ None
 
 page_call : (o : Option ℕ) → is_no_call o ≡ true → o ≡ None
 page_call None e = refl
 page_call (Some k) e = cc
 
-last_page : (o : Option ℕ) (xs : List Item) → AllOfPage xs → o ≡ None → last_of o xs ≡ None
+pub last_page : (o : Option ℕ) (xs : List Item) → AllOfPage xs → o ≡ None → last_of o xs ≡ None
 last_page o [] h e = e
 last_page o (x ∷ xs) h e =
     let r = both (is_page x) (list_all is_page xs) h in last_page (call_of x) xs r.1 (page_call (call_of x) r.0)
@@ -93,7 +93,7 @@ some_by x xs h =
     let r = both (is_page x) (list_all is_page xs) h in
     record { first = λ p. page_call (call_of x) r.0; last = λ o. last_page (call_of x) xs r.1 (page_call (call_of x) r.0) }
 
-parts_of_page : (ps : List Part) → PartsHave ps → AllOfPage (held_parts ps)
+pub parts_of_page : (ps : List Part) → PartsHave ps → AllOfPage (held_parts ps)
 parts_of_page [] h = refl
 parts_of_page (loose k o b ∷ ps) h = both_true (is_no_call o) (list_all is_page (held_parts ps)) (ap is_no_call h.0) (parts_of_page ps h.1)
   where
@@ -102,7 +102,7 @@ parts_of_page (loose k o b ∷ ps) h = both_true (is_no_call o) (list_all is_pag
     both_true false w e f = e
 parts_of_page (node t ∷ ps) h = both_of_page (tree_items t) (held_parts ps) h.0.1 (parts_of_page ps h.1)
 
-some_letter : (e : Bool) (c : ℕ) → IsSome (held_parts (parts Text (letter_items e c)))
+pub some_letter : (e : Bool) (c : ℕ) → IsSome (held_parts (parts Text (letter_items e c)))
 some_letter true c = record { first = λ p. refl; last = λ o. refl }
 some_letter false c = by (encode_utf8 c) (encode_some c) (parts_of_page (parts Text (letter_items false c)) (letter_has false c))
   where
@@ -110,11 +110,11 @@ some_letter false c = by (encode_utf8 c) (encode_some c) (parts_of_page (parts T
     by [] some h = absurd (omega (arith, some))
     by (b ∷ bs) some h = some_by (char None b) (held_parts (parts Text (page_chars bs))) h
 
-guard_page : (u : Bool) → AllOfPage (held_parts (parts Text (guard_items u)))
+pub guard_page : (u : Bool) → AllOfPage (held_parts (parts Text (guard_items u)))
 guard_page u = parts_of_page (parts Text (guard_items u)) (guard_has u)
 
 -- before what begins with an item of the page
-first_page : (xs ys : List Item) (p : Option ℕ) → AllOfPage xs → first_of ys p ≡ None → first_of (xs ++ ys) p ≡ None
+pub first_page : (xs ys : List Item) (p : Option ℕ) → AllOfPage xs → first_of ys p ≡ None → first_of (xs ++ ys) p ≡ None
 first_page [] ys p h e = e
 first_page (x ∷ xs) ys p h e = page_call (call_of x) (both (is_page x) (list_all is_page xs) h).0
 
@@ -132,10 +132,10 @@ first_with s (letter c ∷ after) owns p b =
     (ap (λ xs. first_of xs p) (held_both own more) ∙ first_append (held_parts own) (held_parts more) p
     ∙ (some_letter e c).first (first_of (held_parts more) p))
 
-last_both : (o : Option ℕ) (ps qs : List Part) → last_of o (held_parts (ps ++ qs)) ≡ last_of (last_of o (held_parts ps)) (held_parts qs)
+pub last_both : (o : Option ℕ) (ps qs : List Part) → last_of o (held_parts (ps ++ qs)) ≡ last_of (last_of o (held_parts ps)) (held_parts qs)
 last_both o ps qs = ap (last_of o) (held_both ps qs) ∙ last_append o (held_parts ps) (held_parts qs)
 
-last_three : (o : Option ℕ) (ps qs rs : List Part) → last_of o (held_parts (ps ++ (qs ++ rs))) ≡ last_of (last_of (last_of o (held_parts ps)) (held_parts qs)) (held_parts rs)
+pub last_three : (o : Option ℕ) (ps qs rs : List Part) → last_of o (held_parts (ps ++ (qs ++ rs))) ≡ last_of (last_of (last_of o (held_parts ps)) (held_parts qs)) (held_parts rs)
 last_three o ps qs rs = last_both o ps (qs ++ rs) ∙ last_both (last_of o (held_parts ps)) qs rs
 
 last_with : (s : Setting) (before signs : List ContentSign) (owns : List (List Item)) (o : Option ℕ) → AreGiven signs owns → EndsWithText signs
@@ -163,7 +163,7 @@ last_with s before (thing t ∷ sign ∷ after) (own ∷ owns) o g h =
 
 -- ---- the paragraph
 
-para_items : (ps : List Part) → tree_items (para_with ps) ≡ held_parts ps
+pub para_items : (ps : List Part) → tree_items (para_with ps) ≡ held_parts ps
 para_items ps = append-nil (held_by_all (forest (children ps))) ∙ held_children ps
 
 pub called_round : (s : Setting) (signs : List ContentSign) (owns : List (List Item)) → IsCalledContent s signs owns

@@ -150,7 +150,7 @@ heading_level s signs owns sides h a =
 pub heading_parts : (s : Setting) (signs : List ContentSign) (owns : List (List Item)) → IsCalledHeading s signs owns
     → line_parts (items_with s [] signs owns) ≡ parts_with s [] signs owns
 heading_parts s signs owns h =
-    ap line_parts (sym (same_items s [] signs owns h.one_line)) ∙ line_parts_are s [] signs owns h.given h.meet ∙ same_parts s [] signs owns h.one_line
+    ap line_parts (sym (same_items s [] signs owns h.one_line)) ∙ line_parts_are s [] signs owns h.flat h.given h.meet ∙ same_parts s [] signs owns h.one_line
 
 -- ---- its delimiters are the page's
 

@@ -18,6 +18,7 @@ use Rattle.wt_text_edit_laws.specs.ParagraphParts.{break, after_breaks, joined_p
 use Rattle.wt_beside_laws.specs.Called.{line_with, later_with, parts_with, line_parts_with, lines_with, is_half_sign, PartsSigns, AreWordBytes, BeginsWord, AreWords, IsOwnNode, AreGiven}
 use Rattle.wt_beside_laws.specs.Content.{guard_items, letter_items}
 use Rattle.wt_beside_laws.specs.Cuts.{add_chars, own_glyphs, own_form, add_node, letter_cut}
+use Rattle.wt_beside_laws.specs.Flat.{IsFlat, AreFlat}
 use Rattle.wt_beside_laws.specs.Nodes.{AllMeet}
 use Rattle.wt_beside_laws.proofs.LineParts.{guard_read, end_read, letter_read, letter_by, apostrophe_next, node_read}
 use Rattle.wt_beside_laws.proofs.LineRows.{later_by, both_by, break_parts}
@@ -45,7 +46,7 @@ one_read o d c xs next any ps q f r =
     and_by false w g = refl
 
 -- the last one
-last_unquoted : (b : ℕ) → (is_half_sign b ≡ true → PartsSigns []) → (b == 39) ≡ false
+pub last_unquoted : (b : ℕ) → (is_half_sign b ≡ true → PartsSigns []) → (b == 39) ≡ false
 last_unquoted b f = by (b == 39) (b == 95 || b == 58) (last_sign b f)
   where
     by : (u v : Bool) → (u || v) ≡ false → u ≡ false
@@ -98,21 +99,22 @@ words_given t own c xs next any ps w r =
     words_all j [] c xs next any ps h v r = absurd v
     words_all j (b ∷ bs) c xs next any ps h v r = words_read j b bs c xs next any ps h (λ z. not_first 39 b refl v) r
 
-given_read : (t : Thing) (own : List Item) (c : Cut) (xs : List Item) (next any : Bool) (ps : List Part) → IsOwnNode t own ⊎ AreWords t.source own → Read c xs next ps
+given_read : (t : Thing) (own : List Item) (c : Cut) (xs : List Item) (next any : Bool) (ps : List Part) → IsFlat t.role → IsOwnNode t own ⊎ AreWords t.source own
+    → Read c xs next ps
     → Read (add_node (own_form in_line (own_glyphs t)) (length (own_glyphs t)) c) (own ++ xs) any (line_parts own ++ ps)
-given_read t own c xs next any ps h r = elim h [
+given_read t own c xs next any ps f h r = elim h [
   | inl n ↦
       subst (λ (ys : List Item). Read (add_node (own_form in_line (own_glyphs t)) (length (own_glyphs t)) c) (ys ++ xs) any (line_parts ys ++ ps)) (sym n.is)
-      (node_read t c xs next any ps n.flat n.node r)
+      (node_read t c xs next any ps f n.node r)
   | inr w ↦ words_given t own c xs next any ps w r
 ]
 
 -- ---- the line
 
-line_read : (s : Setting) (before signs : List ContentSign) (owns : List (List Item)) → AreGiven signs owns
+line_read : (s : Setting) (before signs : List ContentSign) (owns : List (List Item)) → AreFlat signs → AreGiven signs owns
     → Read (line_cut in_line s before signs) (line_with s before signs owns) (is_next 39 (nearest signs)) (line_parts_with s before signs owns)
-line_read s before [] owns h = end_read (is_guarded s before []) false
-line_read s before (letter d ∷ after) owns h =
+line_read s before [] owns f h = end_read (is_guarded s before []) false
+line_read s before (letter d ∷ after) owns f h =
     let u = is_guarded s before (letter d ∷ after) in
     let e = is_escaped s.within s.place before d after in
     let c : Cut = line_cut in_line s (letter d ∷ before) after in
@@ -121,21 +123,21 @@ line_read s before (letter d ∷ after) owns h =
     guard_read u (if d == 10 then (0, []) else letter_cut e d c) (if d == 10 then [] else letter_items e d ++ xs) (d == 39)
     (if d == 10 then [] else parts Text (letter_items e d) ++ ps)
     (letter_by (d == 10) e d c xs ps
-    (letter_read e d c xs (is_next 39 (nearest after)) ps (apostrophe_next s before d after) (line_read s (letter d ∷ before) after owns h)))
-line_read s before (thing t ∷ after) [] h = absurd h
-line_read s before (thing t ∷ after) (own ∷ owns) h =
+    (letter_read e d c xs (is_next 39 (nearest after)) ps (apostrophe_next s before d after) (line_read s (letter d ∷ before) after owns f h)))
+line_read s before (thing t ∷ after) [] f h = absurd h
+line_read s before (thing t ∷ after) (own ∷ owns) f h =
     let c : Cut = line_cut in_line s (thing t ∷ before) after in
     let xs : List Item = line_with s (thing t ∷ before) after owns in
     let ps : List Part = line_parts_with s (thing t ∷ before) after owns in
     guard_read (is_guarded s before (thing t ∷ after)) (add_node (own_form in_line (own_glyphs t)) (length (own_glyphs t)) c) (own ++ xs) false (line_parts own ++ ps)
-    (given_read t own c xs (is_next 39 (nearest after)) false ps (given_or t.role t own h.0) (line_read s (thing t ∷ before) after owns h.1))
+    (given_read t own c xs (is_next 39 (nearest after)) false ps f.0 (given_or t.role t own h.0) (line_read s (thing t ∷ before) after owns f.1 h.1))
 
-pub line_parts_are : (s : Setting) (before signs : List ContentSign) (owns : List (List Item)) → AreGiven signs owns → AllMeet s before signs []
+pub line_parts_are : (s : Setting) (before signs : List ContentSign) (owns : List (List Item)) → AreFlat signs → AreGiven signs owns → AllMeet s before signs []
     → line_parts (line_with s before signs owns) ≡ line_parts_with s before signs owns
-line_parts_are s before signs owns h m =
+line_parts_are s before signs owns f h m =
     let c : Cut = line_cut in_line s before signs in
     let xs : List Item = line_with s before signs owns in
-    let r = line_read s before signs owns h in
+    let r = line_read s before signs owns f h in
     let all : cuts in_line false 0 (map glyph_of xs) ≡ c = ap (cuts in_line false 0) (line_is s before signs owns h) ∙ line_cuts_are s before signs owns h m in
     read_line c xs (cut_segments context_parts in_line c xs) all refl r.apart ∙ r.shows
 
@@ -149,14 +151,14 @@ later_parts s before (letter c ∷ after) owns =
 later_parts s before (thing t ∷ after) [] = []
 later_parts s before (thing t ∷ after) (own ∷ owns) = later_parts s (thing t ∷ before) after owns
 
-later_are : (s : Setting) (before signs : List ContentSign) (owns : List (List Item)) → AreGiven signs owns → AllMeet s before signs []
+later_are : (s : Setting) (before signs : List ContentSign) (owns : List (List Item)) → AreFlat signs → AreGiven signs owns → AllMeet s before signs []
     → after_breaks (later_with s before signs owns) ≡ later_parts s before signs owns
-later_are s before [] owns h m = refl
-later_are s before (letter c ∷ after) owns h m =
+later_are s before [] owns f h m = refl
+later_are s before (letter c ∷ after) owns f h m =
     later_by (c == 10) (line_with s (letter c ∷ before) after owns) (later_with s (letter c ∷ before) after owns) (line_parts_with s (letter c ∷ before) after owns)
-    (later_parts s (letter c ∷ before) after owns) (line_parts_are s (letter c ∷ before) after owns h m.1) (later_are s (letter c ∷ before) after owns h m.1)
-later_are s before (thing t ∷ after) [] h m = absurd h
-later_are s before (thing t ∷ after) (own ∷ owns) h m = later_are s (thing t ∷ before) after owns h.1 m.1
+    (later_parts s (letter c ∷ before) after owns) (line_parts_are s (letter c ∷ before) after owns f h m.1) (later_are s (letter c ∷ before) after owns f h m.1)
+later_are s before (thing t ∷ after) [] f h m = absurd h
+later_are s before (thing t ∷ after) (own ∷ owns) f h m = later_are s (thing t ∷ before) after owns f.1 h.1 m.1
 
 all_joined : (s : Setting) (before signs : List ContentSign) (owns : List (List Item)) → AreGiven signs owns
     → line_parts_with s before signs owns ++ later_parts s before signs owns ≡ parts_with s before signs owns
@@ -178,8 +180,8 @@ all_joined s before (thing t ∷ after) (own ∷ owns) h =
     append_assoc guard (own_parts ++ line) later
     ∙ ap (λ ps. guard ++ ps) (append_assoc own_parts line later ∙ ap (λ ps. own_parts ++ ps) (all_joined s (thing t ∷ before) after owns h.1))
 
-pub lines_joined : (s : Setting) (signs : List ContentSign) (owns : List (List Item)) → AreGiven signs owns → AllMeet s [] signs []
+pub lines_joined : (s : Setting) (signs : List ContentSign) (owns : List (List Item)) → AreFlat signs → AreGiven signs owns → AllMeet s [] signs []
     → joined_parts (lines_with s signs owns) ≡ parts_with s [] signs owns
-lines_joined s signs owns h m =
-    ap (λ ps. ps ++ after_breaks (later_with s [] signs owns)) (line_parts_are s [] signs owns h m)
-    ∙ ap (λ ps. line_parts_with s [] signs owns ++ ps) (later_are s [] signs owns h m) ∙ all_joined s [] signs owns h
+lines_joined s signs owns f h m =
+    ap (λ ps. ps ++ after_breaks (later_with s [] signs owns)) (line_parts_are s [] signs owns f h m)
+    ∙ ap (λ ps. line_parts_with s [] signs owns ++ ps) (later_are s [] signs owns f h m) ∙ all_joined s [] signs owns h

@@ -35,6 +35,7 @@ use Rattle.wt_part_laws.proofs.OwnWalks.{first_own, has_page}
 use Rattle.wt_text_edit_laws.specs.ParagraphParts.{joined_parts, para_with}
 use Rattle.wt_beside_laws.specs.Called.{items_with, parts_with, AreWords, IsOwnNode, AreGiven, called_shown, IsCalledContent}
 use Rattle.wt_beside_laws.specs.Content.{guard_items, letter_items}
+use Rattle.wt_beside_laws.specs.Flat.{IsFlat, AreFlat}
 use Rattle.wt_beside_laws.specs.Shown.{parts_shown_at}
 use Rattle.wt_beside_laws.proofs.LineParts.{node_texts}
 use Rattle.wt_beside_laws.proofs.LineShown.{one_by_one, shown_append, text_shows, children_show, guard_shows, letter_shows, twice}
@@ -105,31 +106,31 @@ children_in_page calls ps rest t = runs_in_page calls (runs one_leaf ps) ps rest
 
 -- ---- the signs
 
-given_texts : (t : Thing) (own : List Item) → IsOwnNode t own ⊎ AreWords t.source own → AreTexts (line_parts own)
-given_texts t own h = elim h [
-  | inl n ↦ subst (λ (ys : List Item). AreTexts (line_parts ys)) (sym n.is) (node_texts t n.flat n.node)
+pub given_texts : (t : Thing) (own : List Item) → IsFlat t.role → IsOwnNode t own ⊎ AreWords t.source own → AreTexts (line_parts own)
+given_texts t own f h = elim h [
+  | inl n ↦ subst (λ (ys : List Item). AreTexts (line_parts ys)) (sym n.is) (node_texts t f n.node)
   | inr w ↦
       subst (λ (ys : List Item). AreTexts (line_parts ys)) (sym w.is)
       (subst AreTexts (sym (words_alone w.call t.source w.words w.begins)) (text_parts (call_chars w.call t.source)))
 ]
 
-pub parts_show : (s : Setting) (before signs : List ContentSign) (owns : List (List Item)) (rest : Plains) → AreGiven signs owns
+pub parts_show : (s : Setting) (before signs : List ContentSign) (owns : List (List Item)) (rest : Plains) → AreFlat signs → AreGiven signs owns
     → one_by_one (parts_with s before signs owns) rest ≡ called_shown signs owns rest
-parts_show s before [] owns rest h =
+parts_show s before [] owns rest f h =
     ap (λ ps. one_by_one ps rest) (sym (append-nil (parts Text (guard_items (is_guarded s before []))))) ∙ guard_shows (is_guarded s before []) [] rest
-parts_show s before (letter c ∷ after) owns rest h =
+parts_show s before (letter c ∷ after) owns rest f h =
     let e = is_escaped s.within s.place before c after in
     let more : List Part = parts_with s (letter c ∷ before) after owns in
     guard_shows (is_guarded s before (letter c ∷ after)) (parts Text (letter_items e c) ++ more) rest
     ∙ letter_shows e c more rest
-    ∙ ap (text_before (encode_utf8 c)) (parts_show s (letter c ∷ before) after owns rest h)
-parts_show s before (thing t ∷ after) [] rest h = absurd h
-parts_show s before (thing t ∷ after) (own ∷ owns) rest h =
+    ∙ ap (text_before (encode_utf8 c)) (parts_show s (letter c ∷ before) after owns rest f h)
+parts_show s before (thing t ∷ after) [] rest f h = absurd h
+parts_show s before (thing t ∷ after) (own ∷ owns) rest f h =
     let more : List Part = parts_with s (thing t ∷ before) after owns in
     guard_shows (is_guarded s before (thing t ∷ after)) (line_parts own ++ more) rest
     ∙ shown_append (line_parts own) more rest
-    ∙ ap (one_by_one (line_parts own)) (parts_show s (thing t ∷ before) after owns rest h.1)
-    ∙ sym (children_show 0 [] (line_parts own) (called_shown after owns rest) (given_texts t own (given_or t.role t own h.0)))
+    ∙ ap (one_by_one (line_parts own)) (parts_show s (thing t ∷ before) after owns rest f.1 h.1)
+    ∙ sym (children_show 0 [] (line_parts own) (called_shown after owns rest) (given_texts t own f.0 (given_or t.role t own h.0)))
 
 -- ---- the paragraph
 
@@ -140,7 +141,7 @@ called_shows calls s signs owns rest h =
     let ps : List Part = parts_with s [] signs owns in
     ap (λ (t : Tree). plain_before (cut_texts t) rest) (called_block calls s signs owns h)
     ∙ ap (λ (qs : Plains). along (element paragraph_face qs) rest)
-    (children_in_page calls ps ended (parts_own s [] signs owns h.own) ∙ parts_show s [] signs owns ended h.given)
+    (children_in_page calls ps ended (parts_own s [] signs owns h.own) ∙ parts_show s [] signs owns ended h.flat h.given)
 
 -- ---- words
 

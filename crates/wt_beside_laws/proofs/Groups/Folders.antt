@@ -12,6 +12,7 @@ use Rattle.wt_inline.specs.Parts.{parts}
 use Rattle.wt_context.specs.Line.{line_parts}
 use Rattle.wt_part_laws.specs.CallTexts.{AreOwnOrTexts}
 use Rattle.wt_beside_laws.specs.Called.{items_with, owns_in, AreWords, IsOwnNode, IsGivenAs, AreGiven, AreOwnInside, BeginsWithText, EndsWithText, IsCalledContent, shown_source, shown_signs, GivesWords, StaysAsItIs, IsOfFolder, AreOfFolder, IsCalledIn, AllEndSeen, IsCalledHeading, AllSeenIn, IsCalledInHeading}
+use Rattle.wt_beside_laws.specs.Flat.{IsFlat, AreFlat}
 use Rattle.wt_beside_laws.specs.InHeadings.{AreOnOneLine}
 use Rattle.wt_beside_laws.specs.Lines.{AreCharacters}
 use Rattle.wt_beside_laws.specs.Stood.{things}
@@ -46,12 +47,12 @@ case_of Function pages t h = inl (h, refl, λ u own k. k)
 case_of Node pages t h = inl (h, refl, λ u own k. k)
 
 stays_given : (pages : Pages) (i : ℕ) (t : Thing) → StaysAsItIs pages t → IsOwnNode t (own_of pages i t)
-stays_given pages i t h = record { is = h.items i; flat = h.flat; node = h.node; inside = h.inside; unbroken = h.unbroken }
+stays_given pages i t h = record { is = h.items i; node = h.node; inside = h.inside; unbroken = h.unbroken }
 
 words_given : (pages : Pages) (i : ℕ) (t : Thing) → GivesWords pages t.source → AreWords (sources (expanded_page pages t.source).items) (own_of pages i t)
 words_given pages i t h = record { call = i; is = h.items i; words = h.words; begins = h.begins }
 
-given_in : (pages : Pages) (i : ℕ) (t : Thing) → IsOfFolder t.role pages t → IsGivenAs t.role (shown_thing pages t) (own_of pages i t)
+pub given_in : (pages : Pages) (i : ℕ) (t : Thing) → IsOfFolder t.role pages t → IsGivenAs t.role (shown_thing pages t) (own_of pages i t)
 given_in pages i t h = elim (case_of t.role pages t h) [
   | inl k ↦
       subst (λ (source : List ℕ). IsGivenAs t.role (record t { source = source }) (own_of pages i t)) (sym k.1)
@@ -73,13 +74,13 @@ words_inside own shown w =
     subst (λ (ys : List Item). AreOwnOrTexts (line_parts ys)) (sym w.is)
     (subst AreOwnOrTexts (sym (words_alone w.call shown w.words w.begins)) (texts_of (call_chars w.call shown) (w.call, shown, refl)))
 
-inside_in : (pages : Pages) (i : ℕ) (t : Thing) → IsOfFolder t.role pages t → AreOwnOrTexts (line_parts (own_of pages i t))
+pub inside_in : (pages : Pages) (i : ℕ) (t : Thing) → IsOfFolder t.role pages t → AreOwnOrTexts (line_parts (own_of pages i t))
 inside_in pages i t h = elim (case_of t.role pages t h) [
   | inl k ↦ subst (λ (ys : List Item). AreOwnOrTexts (line_parts ys)) (sym (k.0.items i)) k.0.own
   | inr k ↦ words_inside (own_of pages i t) (sources (expanded_page pages t.source).items) (words_given pages i t k.0)
 ]
 
-brace_same : (pages : Pages) (t : Thing) → IsOfFolder t.role pages t → has_brace_last (shown_source t.role pages t.source) ≡ has_brace_last t.source
+pub brace_same : (pages : Pages) (t : Thing) → IsOfFolder t.role pages t → has_brace_last (shown_source t.role pages t.source) ≡ has_brace_last t.source
 brace_same pages t h = elim (case_of t.role pages t h) [
   | inl k ↦ ap has_brace_last k.1
   | inr k ↦ ap has_brace_last k.1 ∙ k.0.shown_unbraced ∙ sym k.0.unbraced
@@ -97,7 +98,7 @@ all_inside pages i [] h = tt
 all_inside pages i (letter c ∷ after) h = all_inside pages i after h
 all_inside pages i (thing t ∷ after) h = (inside_in pages i t h.0, all_inside pages (i + length (expanded_page pages t.source).outer) after h.1)
 
-abbrev with_brace : Thing → Bool → Thing
+abbrev pub with_brace : Thing → Bool → Thing
 with_brace t v = record t { source = brace_of v }
 
 bare_shown : (pages : Pages) (signs : List ContentSign) → AreOfFolder pages signs → bare (shown_signs pages signs) ≡ bare signs
@@ -125,11 +126,35 @@ ends_shown pages (letter c ∷ thing u ∷ after) h = ends_shown pages (thing u 
 ends_shown pages (thing t ∷ letter d ∷ after) h = ends_shown pages (letter d ∷ after) h
 ends_shown pages (thing t ∷ thing u ∷ after) h = ends_shown pages (thing u ∷ after) h
 
+-- none is a style delimiter
+role_flat : (r : Role) (pages : Pages) (t : Thing) → IsOfFolder r pages t → StaysAsItIs pages t ⊎ IsFlat r
+role_flat Link pages t h = inl h
+role_flat External pages t h = inl h
+role_flat (Bare ends) pages t h = inl h
+role_flat Switch pages t h = inl h
+role_flat Toggle pages t h = inl h
+role_flat (Mark ends began) pages t h = inl h
+role_flat (Group g) pages t h = inr tt
+role_flat Function pages t h = inl h
+role_flat Node pages t h = inl h
+
+pub thing_flat : (pages : Pages) (t : Thing) → IsOfFolder t.role pages t → IsFlat t.role
+thing_flat pages t h = elim (role_flat t.role pages t h) [
+  | inl k ↦ k.flat
+  | inr f ↦ f
+]
+
+all_flat : (pages : Pages) (signs : List ContentSign) → AreOfFolder pages signs → AreFlat (shown_signs pages signs)
+all_flat pages [] h = tt
+all_flat pages (letter c ∷ after) h = all_flat pages after h
+all_flat pages (thing t ∷ after) h = (thing_flat pages t h.0, all_flat pages after h.1)
+
 pub called_in : (pages : Pages) (i : ℕ) (s : Setting) (signs : List ContentSign) → IsCalledIn pages s signs
     → IsCalledContent s (shown_signs pages signs) (owns_in pages i signs)
 called_in pages i s signs h = record {
   of_block = h.of_block;
   characters = characters_shown pages signs h.characters;
+  flat = all_flat pages signs h.given;
   given = all_given pages i signs h.given;
   own = all_inside pages i signs h.given;
   meet = h.meet;
@@ -165,6 +190,7 @@ heading_in pages i s signs h = record {
   of_heading = h.of_heading;
   one_line = one_line_shown pages signs h.one_line;
   characters = characters_shown pages signs h.characters;
+  flat = all_flat pages signs h.given;
   given = all_given pages i signs h.given;
   own = all_inside pages i signs h.given;
   meet = h.meet;

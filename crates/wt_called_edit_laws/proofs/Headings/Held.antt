@@ -48,4 +48,4 @@ head_shows pages calls i s signs w rest a h =
     ap (λ (xs : List Item). plain_before (cut_texts (block_in calls (heading_round w xs))) rest) (head_items pages i s signs h)
     ∙ ap (λ (t : Tree). plain_before (cut_texts t) rest) (heading_block calls s shown owns w c a)
     ∙ ap (λ (qs : Plains). along (element (face_of (a_heading w)) qs) rest)
-    (children_in_page calls ps ended (parts_own s [] shown owns c.own) ∙ parts_show s [] shown owns ended c.given)
+    (children_in_page calls ps ended (parts_own s [] shown owns c.own) ∙ parts_show s [] shown owns ended c.flat c.given)
