@@ -49,3 +49,4 @@ pub mod LinedAmong
 pub mod LinedHeadings
 pub mod ToldLines
 pub mod ToldAmong
+pub mod StyledCallEdits

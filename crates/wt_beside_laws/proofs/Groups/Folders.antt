@@ -107,7 +107,7 @@ bare_shown pages (letter c ∷ after) h = ap (λ xs. letter c ∷ xs) (bare_show
 bare_shown pages (thing t ∷ after) h =
     ap₂ (λ (v : Bool) (xs : List ContentSign). thing (with_brace t v) ∷ xs) (brace_same pages t h.0) (bare_shown pages after h.1)
 
-characters_shown : (pages : Pages) (signs : List ContentSign) → AreCharacters signs → AreCharacters (shown_signs pages signs)
+pub characters_shown : (pages : Pages) (signs : List ContentSign) → AreCharacters signs → AreCharacters (shown_signs pages signs)
 characters_shown pages [] h = tt
 characters_shown pages (letter c ∷ after) h = (h.0, characters_shown pages after h.1)
 characters_shown pages (thing t ∷ after) h = characters_shown pages after h

@@ -87,7 +87,7 @@ style_own false ps h =
     record { of_page = both_of_page (marks false) (held ++ marks false) refl (both_of_page held (marks false) r.1 refl); has_items = (refl, r.0) }
 
 -- where all in it is
-within_have : (s : Setting) (before : List ContentSign) (t : StyledContent) (after : List ContentSign) (owns : List (List Item)) → AreOwnAt true t owns
+pub within_have : (s : Setting) (before : List ContentSign) (t : StyledContent) (after : List ContentSign) (owns : List (List Item)) → AreOwnAt true t owns
     → PartsHave (styled_with false s before t after owns)
 within_have s before finished after owns h = guard_has (is_guarded s before after)
 within_have s before (sign (letter c) t) after owns h =

@@ -68,7 +68,7 @@ node_case Node pages t h = inl (h, refl)
 
 -- ---- no node ends in an open tag
 
-shut_both : (ps qs : List Part) → AreShutParts ps → AreShutParts qs → AreShutParts (ps ++ qs)
+pub shut_both : (ps qs : List Part) → AreShutParts ps → AreShutParts qs → AreShutParts (ps ++ qs)
 shut_both [] qs h k = k
 shut_both (loose Text o b ∷ ps) qs h g = shut_both ps qs h g
 shut_both (loose Sep o b ∷ ps) qs h g = absurd h
@@ -85,7 +85,7 @@ plain_guard : IsShutTree (inner (plain kind.Nowiki) (page_chars nowiki) nothing 
 unfolding label_at nowiki
 plain_guard = (refl, (refl, tt))
 
-guard_shut : (u : Bool) → AreShutParts (parts Text (guard_items u))
+pub guard_shut : (u : Bool) → AreShutParts (parts Text (guard_items u))
 guard_shut true = let h : IsShutTree (nowiki_tree None nowiki) = subst IsShutTree (sym guard_tree) plain_guard in (h.0, h.1, tt)
 guard_shut false = tt
 
@@ -93,12 +93,12 @@ reference_shut : (c : ℕ) → is_escapable c ≡ true → ends_open (reference 
 unfolding reference digits
 reference_shut c e = each_escapable (λ k. ends_open (reference k) ≡ false) refl refl refl refl refl refl refl refl refl refl refl refl refl c e
 
-letter_shut : (e : Bool) (c : ℕ) → (e ≡ true → is_escapable c ≡ true) → AreShutParts (parts Text (letter_items e c))
+pub letter_shut : (e : Bool) (c : ℕ) → (e ≡ true → is_escapable c ≡ true) → AreShutParts (parts Text (letter_items e c))
 unfolding label_at
 letter_shut true c h = (ap ends_open (append-nil (reference c)) ∙ reference_shut c (h refl), (refl, tt), tt)
 letter_shut false c h = chars_shut None (encode_utf8 c)
 
-own_shut : (pages : Pages) (i : ℕ) (t : Thing) → IsOfFolder t.role pages t → IsShut t → AreShutParts (line_parts (numbered i (page_stretches pages t.source)))
+pub own_shut : (pages : Pages) (i : ℕ) (t : Thing) → IsOfFolder t.role pages t → IsShut t → AreShutParts (line_parts (numbered i (page_stretches pages t.source)))
 own_shut pages i t h s = elim (node_case t.role pages t h) [
   | inl k ↦ let stays = k.0 in subst (λ (xs : List Item). AreShutParts (line_parts xs)) (sym (stays.items i)) (s.1 k.1)
   | inr k ↦
@@ -129,7 +129,7 @@ parts_shut pages i s before (thing t ∷ after) h g =
 
 -- ---- what each call gives
 
-guard_none : (j : ℕ) (u : Bool) → of_call j (guard_items u) ≡ []
+pub guard_none : (j : ℕ) (u : Bool) → of_call j (guard_items u) ≡ []
 guard_none j true = refl
 guard_none j false = refl
 
@@ -137,14 +137,14 @@ chars_none : (j : ℕ) (bs : List ℕ) → of_call j (page_chars bs) ≡ []
 chars_none j [] = refl
 chars_none j (b ∷ bs) = chars_none j bs
 
-letter_none : (j : ℕ) (e : Bool) (c : ℕ) → of_call j (letter_items e c) ≡ []
+pub letter_none : (j : ℕ) (e : Bool) (c : ℕ) → of_call j (letter_items e c) ≡ []
 letter_none j true c = refl
 letter_none j false c = chars_none j (encode_utf8 c)
 
-past_both : (j : ℕ) (xs ys zs : List Item) → of_call j xs ≡ [] → of_call j (xs ++ (ys ++ zs)) ≡ of_call j ys ++ of_call j zs
+pub past_both : (j : ℕ) (xs ys zs : List Item) → of_call j xs ≡ [] → of_call j (xs ++ (ys ++ zs)) ≡ of_call j ys ++ of_call j zs
 past_both j xs ys zs e = of_append j xs (ys ++ zs) ∙ ap (λ (us : List Item). us ++ of_call j (ys ++ zs)) e ∙ of_append j ys zs
 
-all_before : (pages : Pages) (i j : ℕ) (s : Setting) (before signs : List ContentSign) → j < i
+pub all_before : (pages : Pages) (i j : ℕ) (s : Setting) (before signs : List ContentSign) → j < i
     → of_call j (items_with s before signs (owns_in pages i signs)) ≡ []
 all_before pages i j s before [] l = guard_none j (is_guarded s before [])
 all_before pages i j s before (letter c ∷ after) l =

@@ -78,7 +78,7 @@ of_utf8 pages (thing t ∷ after) h = (h.0.utf8, of_utf8 pages after h.2)
 
 -- ---- side by side, as they show
 
-role_case : (r : Role) (pages : Pages) (t : Thing) → IsOfFolder r pages t → (StaysAsItIs pages t × (shown_source r pages t.source ≡ t.source)) ⊎ (is_group r ≡ true)
+pub role_case : (r : Role) (pages : Pages) (t : Thing) → IsOfFolder r pages t → (StaysAsItIs pages t × (shown_source r pages t.source ≡ t.source)) ⊎ (is_group r ≡ true)
 role_case Link pages t h = inl (h, refl)
 role_case External pages t h = inl (h, refl)
 role_case (Bare ends) pages t h = inl (h, refl)
@@ -89,7 +89,7 @@ role_case (Group g) pages t h = inr refl
 role_case Function pages t h = inl (h, refl)
 role_case Node pages t h = inl (h, refl)
 
-node_or_group : (pages : Pages) (t : Thing) → IsOfFolder t.role pages t → IsNodeOrGroup (shown_thing pages t)
+pub node_or_group : (pages : Pages) (t : Thing) → IsOfFolder t.role pages t → IsNodeOrGroup (shown_thing pages t)
 node_or_group pages t h = by (role_case t.role pages t h)
   where
     by : (StaysAsItIs pages t × (shown_source t.role pages t.source ≡ t.source)) ⊎ (is_group t.role ≡ true) → IsNodeOrGroup (shown_thing pages t)

@@ -64,7 +64,7 @@ shown_byte true v xs e f = cc
 shown_byte false true xs e f = cc
 shown_byte false false xs e f = refl
 
-opens_shown : (xs : List Item) → Opens xs → begins_shown xs ≡ true
+pub opens_shown : (xs : List Item) → Opens xs → begins_shown xs ≡ true
 opens_shown [] h = absurd h
 opens_shown (whole f o bs ∷ xs) h = refl
 opens_shown (char o b ∷ xs) h = shown_byte (is_blank b) (is_break b) xs (neither (b == 32) (b == 9) h.space h.tab) h.break
