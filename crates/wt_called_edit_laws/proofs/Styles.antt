@@ -10,3 +10,5 @@ pub mod Written
 pub mod Lined
 pub mod Whole
 pub mod Making
+pub mod Cases
+mod PageCases
