@@ -58,7 +58,7 @@ IsWrittenIn (a_heading w) pages s signs = IsWrittenInHeading pages s signs
 
 -- ---- blocks that hold their calls
 
--- wherever it is in the page, its calls are between items of the page
+-- wherever it is in the page, it is no part of what its calls give
 abbrev pub HoldsAnywhere : Pages → TextBlock → List ℕ → Type 0
 HoldsAnywhere pages k q = (i : ℕ) → HoldsItsCalls (tree_round k (part_items pages i q))
 

@@ -97,31 +97,44 @@ both_any : (xs ys us vs : List Item) → list_any is_page xs ≡ list_any is_pag
     → list_any is_page (xs ++ ys) ≡ list_any is_page (us ++ vs)
 both_any xs ys us vs e f = list_any-append is_page xs ys ∙ ap₂ (λ (a b : Bool). a || b) e f ∙ sym (list_any-append is_page us vs)
 
+-- each of these blocks has one
+abbrev pub AllHavePage : (ℕ → ItemTree) → List ℕ → Type 0
+AllHavePage t [] = Unit {0}
+AllHavePage t (n ∷ ns) = (list_any is_page (tree_items (t n)) ≡ true) × AllHavePage t ns
+
+pub page_split : (t : ℕ → ItemTree) (ms ns : List ℕ) → AllHavePage t (ms ++ ns) → AllHavePage t ms × AllHavePage t ns
+page_split t [] ns h = (tt, h)
+page_split t (m ∷ ms) ns h = let r = page_split t ms ns h.1 in ((h.0, r.0), r.1)
+
 mutual
-  any_held : (t w : ℕ → ItemTree) (f : Frame) → AllOwnEnds t (places_in f) → AllOwnEnds w (places_in f)
+  pub any_held : (t w : ℕ → ItemTree) (f : Frame) → AllHavePage t (places_in f) → AllHavePage w (places_in f)
       → list_any is_page (tree_items (tree_at t f)) ≡ list_any is_page (tree_items (tree_at w f))
-  any_held t w (place n) g h = g.0.some ∙ sym h.0.some
+  any_held t w (place n) g h = g.0 ∙ sym h.0
   any_held t w (whole u) g h = refl
   any_held t w (around k q gs c) g h =
       both_any q (held t gs ++ c) q (held w gs ++ c) refl (both_any (held t gs) c (held w gs) c (anys_held t w gs g h) refl)
 
-  anys_held : (t w : ℕ → ItemTree) (fs : Frames) → AllOwnEnds t (all_places fs) → AllOwnEnds w (all_places fs)
+  anys_held : (t w : ℕ → ItemTree) (fs : Frames) → AllHavePage t (all_places fs) → AllHavePage w (all_places fs)
       → list_any is_page (held t fs) ≡ list_any is_page (held w fs)
   anys_held t w no_frames g h = refl
   anys_held t w (more_frames f fs) g h =
-      let r = ends_split t (places_in f) (all_places fs) g in
-      let s = ends_split w (places_in f) (all_places fs) h in
+      let r = page_split t (places_in f) (all_places fs) g in
+      let s = page_split w (places_in f) (all_places fs) h in
       both_any (tree_items (tree_at t f)) (held t fs) (tree_items (tree_at w f)) (held w fs) (any_held t w f r.0 s.0) (anys_held t w fs r.1 s.1)
+
+some_own : (t : ℕ → ItemTree) (ns : List ℕ) → AllOwnEnds t ns → AllHavePage t ns
+some_own t [] h = tt
+some_own t (n ∷ ns) h = (h.0.some, some_own t ns h.1)
 
 -- ---- whether they are clean
 
 -- a node that is no leaf, by the calls at the ends of what it holds, and by whether it has an item of the page
-abbrev clean_so : Option ℕ → Option ℕ → Head → List Item → List Item → Option ℕ → Option ℕ → Bool → Bool
+abbrev pub clean_so : Option ℕ → Option ℕ → Head → List Item → List Item → Option ℕ → Option ℕ → Bool → Bool
 clean_so o p k q c first last any =
     (parted o (first_of q first) && (parted (last_of o q) first && (parted last (first_of c p) && parted (last_of last c) p)))
     && (list_all is_page (q ++ c) && (is_body k.kind || any))
 
-clean_is : (o p : Option ℕ) (k : Head) (q c : List Item) (ts : ItemTrees) → is_leaf k.kind ≡ false
+pub clean_is : (o p : Option ℕ) (k : Head) (q c : List Item) (ts : ItemTrees) → is_leaf k.kind ≡ false
     → clean_at o p (inner k q ts c)
     ≡ clean_so o p k q c (first_of (held_by_all ts) (first_of c p)) (last_of (last_of o q) (held_by_all ts)) (list_any is_page (q ++ (held_by_all ts ++ c)))
 clean_is o p k q c ts e =
@@ -140,7 +153,7 @@ clean_held t w o p k q c gs e g h =
     clean_is o p k q c (forest (trees_at t gs)) e
     ∙ ap (λ x. clean_so o p k q c x last any) (firsts_held t w gs g h (first_of c p))
     ∙ ap (λ x. clean_so o p k q c (first_of (held w gs) (first_of c p)) x any) (lasts_held t w gs g h (last_of o q))
-    ∙ ap (clean_so o p k q c (first_of (held w gs) (first_of c p)) (last_of (last_of o q) (held w gs))) (any_held t w (around k q gs c) g h)
+    ∙ ap (clean_so o p k q c (first_of (held w gs) (first_of c p)) (last_of (last_of o q) (held w gs))) (any_held t w (around k q gs c) (some_own t (all_places gs) g) (some_own w (all_places gs) h))
     ∙ sym (clean_is o p k q c (forest (trees_at w gs)) e)
 
 mutual

@@ -25,10 +25,12 @@ use Rattle.wt_part_laws.specs.TreeFrames.{TreeFrame, spot, kept, holder, TreeFra
 use Rattle.wt_part_laws.specs.Rounded.{AreClean, AreCleanThere, HaveSameData}
 use Rattle.wt_part_laws.specs.HeldCalls.{block_in, blocks_in}
 use Rattle.wt_part_laws.proofs.EndWalks.{BothFree, walk_end, siblings_end}
+use Rattle.wt_part_laws.proofs.EndWalks.{clean_same as clean_to_end}
 use Rattle.wt_part_laws.proofs.OwnWalks.{OfPage, behind_free, before_free, text_own}
 use Rattle.wt_part_laws.proofs.RunCuts.{FreeBefore, near_apart, near_alone}
 use Rattle.wt_part_laws.proofs.SameWalks.{label_same, same_data, walk_same, siblings_same}
 use Rattle.wt_part_laws.proofs.StartWalks.{FreeStarts, walk_start, siblings_start}
+use Rattle.wt_part_laws.proofs.StartWalks.{clean_same as clean_from_start}
 
 -- ---- siblings
 
@@ -104,9 +106,9 @@ last_free o p [] e = behind_free None p refl
 last_free o p (x ∷ xs) e = e
 
 -- the cuts before and behind some items
-record AreApart (o p : Option ℕ) (xs : List Item) : Type 0 where
-  first : parted o (first_of xs p) ≡ true
-  last : parted (last_of o xs) p ≡ true
+pub record AreApart (o p : Option ℕ) (xs : List Item) : Type 0 where
+  pub first : parted o (first_of xs p) ≡ true
+  pub last : parted (last_of o xs) p ≡ true
 
 start_free : (o p : Option ℕ) (xs : List Item) → AreApart o p xs → FreeStarts o None p xs
 start_free o p xs h = record { first = h.first; second = behind_free None (first_of xs p) refl }
@@ -120,6 +122,11 @@ stretch_is cs calls h o at p us e =
     siblings_same cs calls h o at 0 p (forest us)
     ∙ ap (λ (ts : List Tree). all_placeless (trees ts)) (siblings_start calls o None 0 p (forest us) (start_free o p (held_by_all (forest us)) e))
     ∙ ap (λ (ts : List Tree). all_placeless (trees ts)) (siblings_end calls None 0 p None (forest us) (end_free o p (held_by_all (forest us)) e))
+
+-- a node that is clean by itself is clean wherever it is apart
+pub clean_there : (o p : Option ℕ) (t : ItemTree) → clean_at None None t ≡ true → AreApart o p (tree_items t) → clean_at o p t ≡ true
+clean_there o p t e h =
+    clean_from_start o None p t (start_free o p (tree_items t) h) ∙ clean_to_end None p None t (end_free o p (tree_items t) h) ∙ e
 
 -- a block
 alone_is : (cs : List OuterCall) (o : Option ℕ) (at : ℕ) (p : Option ℕ) (t : ItemTree) → AreApart o p (tree_items t)
@@ -257,7 +264,7 @@ clean_ends o p k q us c leaf e =
     }
 
 -- so of any clean node
-clean_apart : (o p : Option ℕ) (t : ItemTree) → clean_at o p t ≡ true → AreApart o p (tree_items t)
+pub clean_apart : (o p : Option ℕ) (t : ItemTree) → clean_at o p t ≡ true → AreApart o p (tree_items t)
 clean_apart o p (inner k q ts c) e =
     let i : List Item = held_by_all ts in
     let f1 : Bool = parted o (first_of q (first_of i (first_of c p))) in
