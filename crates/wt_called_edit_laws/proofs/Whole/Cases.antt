@@ -118,7 +118,7 @@ is_text i = record {
   own_breaks = ((λ e. absurd (cc)), ((λ e. absurd (cc)), ((λ e. absurd (cc)), tt)));
 }
 
-a_words_call : IsWordsCall a_word (codes "{{t}}")
+pub a_words_call : IsWordsCall a_word (codes "{{t}}")
 a_words_call = record {
   words = gives_b;
   call = record { others = codes "{t}}"; is = refl; settles = call_settles };
