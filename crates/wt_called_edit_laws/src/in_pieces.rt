@@ -41,7 +41,7 @@ pub fn pieces_are_read_by_themselves()
 {}
 
 /// So any texts may be typed beside the calls and the other nodes of a paragraph of the page (`ArePageThings`): the calls give words, each node stays
-/// what it is beside text, and no two that the page has side by side join. Each that calls stays, any other may go, and text is first and last.
+/// what it is beside text, and no two that the page has side by side join. Each that calls stays, any other may go, and there is some text.
 pub fn paragraphs_of_the_page_take_texts_beside_calls()
     ensures beside { (pages : Pages) (olds : List Thing) (s : Setting) (signs : List ContentSign) → s.within ≡ false → AreCharacters signs → HasText signs
         → ArePageThings pages olds → ThingsStay pages olds (things signs) → IsWrittenBeside pages s signs }
