@@ -1,5 +1,5 @@
 -- A content with styles among whose signs are calls: what it is in the page, where the items of each sign that is no character are given.
-use Rattle.std.specs.Prelude.{◌≡◌, ◌⊎◌, ◌==◌, Bool, true, false, not, None, List, [], ◌∷◌, ◌++◌, encode_utf8, if◌then◌else◌, ◌&&◌}
+use Rattle.std.specs.Prelude.{◌≡◌, ◌⊎◌, ◌==◌, Bool, true, false, not, None, List, [], ◌∷◌, ◌++◌, encode_utf8, if◌then◌else◌, ◌&&◌, ◌||◌}
 use Rattle.wt_span.specs.Characters as byte
 use Rattle.wt_span.specs.Items.{Item}
 use Rattle.wt_tree.specs.Plain.{Plains, ended, text_before}
@@ -79,26 +79,18 @@ AreOwnAt within (sign (thing x) t) (own ∷ owns) = IsOwnAt within x own × AreO
 AreOwnAt within (styled bold opening closing inside t) owns =
     AreOwnAt true inside (owns_left owns) × AreOwnAt within t (owns_left (owns_past inside (owns_left owns)))
 
--- ---- its first and its last sign
+-- ---- it isn't calls alone
 
--- there is a first one, and it is no call
-abbrev pub begins_uncalled : StyledContent → Bool
-begins_uncalled finished = false
-begins_uncalled (sign (letter c) t) = true
-begins_uncalled (sign (thing x) t) = not (is_group x.role)
-begins_uncalled (styled bold opening closing inside t) = true
-
--- the last one is no call, or there is none and so it is before these
-abbrev pub ends_uncalled : Bool → StyledContent → Bool
-ends_uncalled last finished = last
-ends_uncalled last (sign (letter c) t) = ends_uncalled true t
-ends_uncalled last (sign (thing x) t) = ends_uncalled (not (is_group x.role)) t
-ends_uncalled last (styled bold opening closing inside t) = ends_uncalled true t
+abbrev pub has_uncalled : StyledContent → Bool
+has_uncalled finished = false
+has_uncalled (sign (letter c) t) = true
+has_uncalled (sign (thing x) t) = not (is_group x.role) || has_uncalled t
+has_uncalled (styled bold opening closing inside t) = true
 
 -- ---- the content
 
--- Texts that are typed beside calls that give words and nodes that stay, and bold and italic round texts and nodes, with no call in it; no call is first
--- or last.
+-- Texts that are typed beside calls that give words and nodes that stay, and bold and italic round texts and nodes, with no call in it; something else than
+-- calls is there.
 pub record IsStyledCalled (s : Setting) (t : StyledContent) (owns : List (List Item)) : Type 0 where
   pub of_block : s.within ≡ false
   pub characters : AreCharacters (signs_in t)
@@ -106,8 +98,7 @@ pub record IsStyledCalled (s : Setting) (t : StyledContent) (owns : List (List I
   pub own : AreOwnAt false t owns
   pub nested : AreNested false false t
   pub meet : AllMeet s [] (signs_in t) []
-  pub begins : begins_uncalled t ≡ true
-  pub ends : ends_uncalled false t ≡ true
+  pub some : has_uncalled t ≡ true
 
 -- ---- what it shows
 

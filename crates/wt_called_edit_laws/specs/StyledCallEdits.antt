@@ -20,7 +20,7 @@ use Rattle.wt_beside_laws.specs.FlatPages.{AreNodesAndTexts}
 use Rattle.wt_beside_laws.specs.NewStyles.{NewStylesNest}
 use Rattle.wt_beside_laws.specs.NodeItems.{node_items}
 use Rattle.wt_beside_laws.specs.SentStyled.{AllNest, style_face}
-use Rattle.wt_beside_laws.specs.StyledCalls.{AreSomeOfPage, begins_uncalled, ends_uncalled}
+use Rattle.wt_beside_laws.specs.StyledCalls.{AreSomeOfPage, has_uncalled}
 use Rattle.wt_beside_laws.specs.StyledNodes.{EndsUnquoted}
 use Rattle.wt_called_edit_laws.specs.CalledEdits.{IsChildBeside, page_things}
 use Rattle.wt_called_edit_laws.specs.InPieces.{AreInPieces, pieces_source}
@@ -136,7 +136,7 @@ NewStylesCallNone (around l m is ps) = NewStylesCallNone ps
 NewStylesCallNone (new_style m is ps) = NoneIsGroup (page_pieces is) × NewStylesCallNone ps
 
 -- All its calls stay, in their order, and any other node and style stays or goes; each is sent as it is, and in a style other texts may be. Any texts are
--- between them, and new styles, as they may nest, round texts and nodes that are no calls. No call is first or last.
+-- between them, and new styles, as they may nest, round texts and nodes that are no calls. Something else than calls is sent.
 pub record IsStyledCallEdit (pages : Pages) (block : Tree) (ps : Pieces) : Type 0 where
   pub old : page_pieces ps ≡ children_of block
   pub stay : PiecesStay ps
@@ -144,5 +144,4 @@ pub record IsStyledCallEdit (pages : Pages) (block : Tree) (ps : Pieces) : Type 
   pub calm : NoCallGoes pages ps
   pub new : NewStylesNest false false ps
   pub free : NewStylesCallNone ps
-  pub begins : begins_uncalled (sent_for block ps) ≡ true
-  pub ends : ends_uncalled false (sent_for block ps) ≡ true
+  pub some : has_uncalled (sent_for block ps) ≡ true

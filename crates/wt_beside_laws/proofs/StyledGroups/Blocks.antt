@@ -1,5 +1,5 @@
 -- A paragraph of a content with styles among whose signs are calls holds these: each is a group between items of the page.
-use Rattle.std.proofs.Common.{◌≡◌, inl, inr, ℕ, Bool, true, false, not, Option, None, List, [], ◌∷◌, ◌++◌, ap, append-nil, refl, subst, sym, ◌||◌, ◌∙◌}
+use Rattle.std.proofs.Common.{◌≡◌, inl, inr, ℕ, Bool, true, false, not, None, List, [], ◌∷◌, ◌++◌, ap, append-nil, refl, subst, sym, ◌||◌, ◌∙◌}
 use Rattle.std.specs.List.{list_any}
 use Rattle.wt_span.specs.Items.{Item}
 use Rattle.wt_span.specs.Origins.{OuterCall}
@@ -8,28 +8,26 @@ use Rattle.wt_guards.specs.Content.{ContentSign, Thing, is_group, letter, thing}
 use Rattle.wt_guards.specs.Guards.{Setting, is_guarded}
 use Rattle.wt_guards.specs.Letters.{is_escaped}
 use Rattle.wt_lines.specs.Lines.{lines}
-use Rattle.wt_inline.specs.ItemTree.{ItemTree, forest, held_by_all, plain, tree_items}
+use Rattle.wt_inline.specs.ItemTree.{forest, held_by_all, plain, tree_items}
 use Rattle.wt_inline.specs.Parts.{Part, children, held_parts, loose, node, parts}
 use Rattle.wt_inline.specs.declared.loose.Loose.TheVariants.{Sep, Text}
 use Rattle.wt_context.specs.Line.{line_parts}
-use Rattle.wt_annotated.proofs.Seams.{first_append}
 use Rattle.wt_annotated.specs.Clean.{is_no_call, is_page}
-use Rattle.wt_annotated.specs.Seams.{first_of, last_of}
 use Rattle.wt_part_laws.proofs.HeldBlocks.{block_is, texts_hold}
-use Rattle.wt_part_laws.proofs.OwnWalks.{first_own, has_page, last_own}
+use Rattle.wt_part_laws.proofs.OwnWalks.{has_page}
 use Rattle.wt_part_laws.specs.CallTexts.{AreOwnOrTexts}
 use Rattle.wt_part_laws.specs.HeldCalls.{HoldsItsCalls, IsRoundTexts, block_in, block_of_texts}
 use Rattle.wt_part_laws.specs.Rounded.{IsOwn}
 use Rattle.wt_text_edit_laws.proofs.Texts.TypedShown.{both_of_page}
 use Rattle.wt_text_edit_laws.specs.ParagraphParts.{joined_parts, para_with}
-use Rattle.wt_beside_laws.proofs.Groups.CalledBlocks.{first_page, guard_own, guard_page, held_both, last_page, last_three, letter_own, para_items, some_letter, texts_both}
-use Rattle.wt_beside_laws.proofs.Made.Items.{PartsHave, children_have, guard_has, have_both, held_of_page, letter_has}
+use Rattle.wt_beside_laws.proofs.Groups.CalledBlocks.{any_left, guard_own, held_left, held_right, letter_own, para_items, some_letter, texts_both}
+use Rattle.wt_beside_laws.proofs.Made.Items.{PartsHave, children_have, guard_has, have_both, letter_has}
 use Rattle.wt_beside_laws.proofs.StyledGroups.Paragraphs.{styled_called_parts}
 use Rattle.wt_beside_laws.specs.Called.{items_with}
 use Rattle.wt_beside_laws.specs.Content.{guard_items, letter_items}
 use Rattle.wt_beside_laws.specs.Nests.{marks, style_tree}
 use Rattle.wt_beside_laws.specs.Styled.{StyledContent, delimiter, finished, sign, signs_before, signs_in, signs_past, styled}
-use Rattle.wt_beside_laws.specs.StyledCalls.{AreOfPage, AreOwnAt, AreSomeOfPage, IsOwnAt, IsStyledCalled, begins_uncalled, ends_uncalled, owns_left, owns_past, styled_with}
+use Rattle.wt_beside_laws.specs.StyledCalls.{AreOfPage, AreOwnAt, AreSomeOfPage, IsOwnAt, IsStyledCalled, has_uncalled, owns_left, owns_past, styled_with}
 
 
 -- ---- what is of the page
@@ -54,25 +52,11 @@ or_first : (v w : Bool) → v ≡ true → (v || w) ≡ true
 or_first true w e = refl
 or_first false w e = cc
 
-any_of : (xs ys : List Item) → list_any is_page xs ≡ true → list_any is_page (xs ++ ys) ≡ true
-any_of [] ys e = cc
-any_of (x ∷ xs) ys e = by (is_page x) (λ h. any_of xs ys h) e
-  where
-    by : (v : Bool) → (list_any is_page xs ≡ true → list_any is_page (xs ++ ys) ≡ true) → (v || list_any is_page xs) ≡ true → (v || list_any is_page (xs ++ ys)) ≡ true
-    by true f i = refl
-    by false f i = f i
-
 some_page : (ps : List Part) → AreSomeOfPage ps → list_any is_page (held_parts ps) ≡ true
 some_page [] h = absurd h
 some_page (loose Text o b ∷ ps) h = or_first (is_no_call o) (list_any is_page (held_parts ps)) (ap is_no_call h.0)
 some_page (loose Sep o b ∷ ps) h = absurd h
-some_page (node t ∷ ps) h = let own = h.0 in any_of (tree_items t) (held_parts ps) (has_page t own.has_items)
-
-some_first : (ps : List Part) (p : Option ℕ) → AreSomeOfPage ps → first_of (held_parts ps) p ≡ None
-some_first ps p h = first_own (held_parts ps) p (held_of_page ps (page_have ps (some_of_page ps h))) (some_page ps h)
-
-some_last : (ps : List Part) (o : Option ℕ) → AreSomeOfPage ps → last_of o (held_parts ps) ≡ None
-some_last ps o h = last_own o (held_parts ps) (held_of_page ps (page_have ps (some_of_page ps h))) (some_page ps h)
+some_page (node t ∷ ps) h = let own = h.0 in any_left (tree_items t) (held_parts ps) (has_page t own.has_items)
 
 -- ---- a style is of the page
 
@@ -150,7 +134,7 @@ styled_own s before (styled kind opening closing inside t) after owns h =
     (guard_own (is_guarded s before (delimiter kind opening ∷ held)))
     (style_own kind ps (within_have s first inside closes inner h.0), styled_own s last t after outer h.1)
 
--- ---- its first and its last item
+-- ---- something of it is the page's own
 
 some_style : (kind : Bool) (ps : List Part) → list_any is_page (tree_items (style_tree kind ps)) ≡ true
 some_style true ps = refl
@@ -160,80 +144,40 @@ not_both : (b : Bool) → not b ≡ true → b ≡ true → ⊥
 not_both true e f = cc
 not_both false e f = cc
 
-own_first : (x : Thing) (own : List Item) (p : Option ℕ) → IsOwnAt false x own → not (is_group x.role) ≡ true → first_of (held_parts (line_parts own)) p ≡ None
-own_first x own p h b = elim h [
+own_some : (x : Thing) (own : List Item) → IsOwnAt false x own → not (is_group x.role) ≡ true → list_any is_page (held_parts (line_parts own)) ≡ true
+own_some x own h b = elim h [
   | inl g ↦ absurd (not_both (is_group x.role) b g.0)
-  | inr k ↦ some_first (line_parts own) p k
+  | inr k ↦ some_page (line_parts own) k
 ]
 
-own_last : (x : Thing) (own : List Item) (o : Option ℕ) → IsOwnAt false x own → not (is_group x.role) ≡ true → last_of o (held_parts (line_parts own)) ≡ None
-own_last x own o h b = elim h [
-  | inl g ↦ absurd (not_both (is_group x.role) b g.0)
-  | inr k ↦ some_last (line_parts own) o k
-]
-
--- behind what may be put
-first_behind : (u : Bool) (own more : List Part) (p : Option ℕ) → ((q : Option ℕ) → first_of (held_parts own) q ≡ None)
-    → first_of (held_parts (parts Text (guard_items u) ++ (own ++ more))) p ≡ None
-first_behind u own more p f =
-    ap (λ xs. first_of xs p) (held_both (parts Text (guard_items u)) (own ++ more))
-    ∙ first_page (held_parts (parts Text (guard_items u))) (held_parts (own ++ more)) p (guard_page u)
-    (ap (λ xs. first_of xs p) (held_both own more) ∙ first_append (held_parts own) (held_parts more) p ∙ f (first_of (held_parts more) p))
-
-styled_first : (s : Setting) (t : StyledContent) (owns : List (List Item)) (p : Option ℕ) → AreOwnAt false t owns → begins_uncalled t ≡ true
-    → first_of (held_parts (styled_with false s [] t [] owns)) p ≡ None
-styled_first s finished owns p h b = cc
-styled_first s (sign (letter c) t) owns p h b =
+styled_some : (s : Setting) (before : List ContentSign) (t : StyledContent) (owns : List (List Item)) → AreOwnAt false t owns → has_uncalled t ≡ true
+    → list_any is_page (held_parts (styled_with false s before t [] owns)) ≡ true
+styled_some s before finished owns h b = cc
+styled_some s before (sign (letter c) t) owns h b =
     let signs : List ContentSign = signs_before t [] in
-    let e : Bool = is_escaped s.within s.place [] c signs in
-    first_behind (is_guarded s [] (letter c ∷ signs)) (parts Text (letter_items e c)) (styled_with false s (letter c ∷ []) t [] owns) p (some_letter e c).first
-styled_first s (sign (thing x) t) [] p h b = absurd h
-styled_first s (sign (thing x) t) (own ∷ owns) p h b =
-    first_behind (is_guarded s [] (thing x ∷ signs_before t [])) (line_parts own) (styled_with false s (thing x ∷ []) t [] owns) p (λ q. own_first x own q h.0 b)
-styled_first s (styled kind opening closing inside t) owns p h b =
-    let first : List ContentSign = delimiter kind opening ∷ [] in
-    let closes : List ContentSign = delimiter kind closing ∷ signs_before t [] in
-    let held : List ContentSign = signs_before inside closes in
-    let inner : List (List Item) = owns_left owns in
-    let ps : List Part = styled_with false s first inside closes inner in
-    let u : ItemTree = style_tree kind ps in
-    let own = style_own kind ps (within_have s first inside closes inner h.0) in
-    first_behind (is_guarded s [] (delimiter kind opening ∷ held)) (node u ∷ [])
-    (styled_with false s (delimiter kind closing ∷ signs_past inside first) t [] (owns_left (owns_past inside inner))) p
-    (λ q. ap (λ xs. first_of xs q) (append-nil (tree_items u)) ∙ first_own (tree_items u) q own.of_page (some_style kind ps))
-
-styled_last : (s : Setting) (before : List ContentSign) (t : StyledContent) (owns : List (List Item)) (o : Option ℕ) (last : Bool) → AreOwnAt false t owns
-    → ends_uncalled last t ≡ true → (last ≡ true → o ≡ None) → last_of o (held_parts (styled_with false s before t [] owns)) ≡ None
-styled_last s before finished owns o last h e f =
-    last_page o (held_parts (parts Text (guard_items (is_guarded s before [])))) (guard_page (is_guarded s before [])) (f e)
-styled_last s before (sign (letter c) t) owns o last h e f =
-    let signs : List ContentSign = signs_before t [] in
-    let x : Bool = is_escaped s.within s.place before c signs in
-    let guard : List Part = parts Text (guard_items (is_guarded s before (letter c ∷ signs))) in
-    let own : List Part = parts Text (letter_items x c) in
-    last_three o guard own (styled_with false s (letter c ∷ before) t [] owns)
-    ∙ styled_last s (letter c ∷ before) t owns (last_of (last_of o (held_parts guard)) (held_parts own)) true h e (λ z. (some_letter x c).last (last_of o (held_parts guard)))
-styled_last s before (sign (thing x) t) [] o last h e f = absurd h
-styled_last s before (sign (thing x) t) (own ∷ owns) o last h e f =
-    let guard : List Part = parts Text (guard_items (is_guarded s before (thing x ∷ signs_before t []))) in
-    last_three o guard (line_parts own) (styled_with false s (thing x ∷ before) t [] owns)
-    ∙ styled_last s (thing x ∷ before) t owns (last_of (last_of o (held_parts guard)) (held_parts (line_parts own))) (not (is_group x.role)) h.1 e
-    (λ z. own_last x own (last_of o (held_parts guard)) h.0 z)
-styled_last s before (styled kind opening closing inside t) owns o last h e f =
+    let e : Bool = is_escaped s.within s.place before c signs in
+    let more : List Part = styled_with false s (letter c ∷ before) t [] owns in
+    held_right (parts Text (guard_items (is_guarded s before (letter c ∷ signs)))) (parts Text (letter_items e c) ++ more)
+    (held_left (parts Text (letter_items e c)) more (some_letter e c))
+styled_some s before (sign (thing x) t) [] h b = absurd h
+styled_some s before (sign (thing x) t) (own ∷ owns) h b =
+    let more : List Part = styled_with false s (thing x ∷ before) t [] owns in
+    held_right (parts Text (guard_items (is_guarded s before (thing x ∷ signs_before t [])))) (line_parts own ++ more) (by (not (is_group x.role)) refl b)
+  where
+    by : (v : Bool) → not (is_group x.role) ≡ v → (v || has_uncalled t) ≡ true
+        → list_any is_page (held_parts (line_parts own ++ styled_with false s (thing x ∷ before) t [] owns)) ≡ true
+    by true e f = held_left (line_parts own) (styled_with false s (thing x ∷ before) t [] owns) (own_some x own h.0 e)
+    by false e f = held_right (line_parts own) (styled_with false s (thing x ∷ before) t [] owns) (styled_some s (thing x ∷ before) t owns h.1 f)
+styled_some s before (styled kind opening closing inside t) owns h b =
     let first : List ContentSign = delimiter kind opening ∷ before in
     let closes : List ContentSign = delimiter kind closing ∷ signs_before t [] in
     let held : List ContentSign = signs_before inside closes in
     let inner : List (List Item) = owns_left owns in
-    let outer : List (List Item) = owns_left (owns_past inside inner) in
     let ps : List Part = styled_with false s first inside closes inner in
-    let u : ItemTree = style_tree kind ps in
-    let own = style_own kind ps (within_have s first inside closes inner h.0) in
-    let guard : List Part = parts Text (guard_items (is_guarded s before (delimiter kind opening ∷ held))) in
-    let past : List ContentSign = delimiter kind closing ∷ signs_past inside first in
-    let front : Option ℕ = last_of o (held_parts guard) in
-    last_three o guard (node u ∷ []) (styled_with false s past t [] outer)
-    ∙ styled_last s past t outer (last_of front (held_parts (node u ∷ []))) true h.1 e
-    (λ z. ap (last_of front) (append-nil (tree_items u)) ∙ last_own front (tree_items u) own.of_page (some_style kind ps))
+    let more : List Part = styled_with false s (delimiter kind closing ∷ signs_past inside first) t [] (owns_left (owns_past inside inner)) in
+    let own : List Part = node (style_tree kind ps) ∷ [] in
+    held_right (parts Text (guard_items (is_guarded s before (delimiter kind opening ∷ held)))) (node (style_tree kind ps) ∷ more)
+    (held_left own more (ap (list_any is_page) (append-nil (tree_items (style_tree kind ps))) ∙ some_style kind ps))
 
 -- ---- the paragraph
 
@@ -246,8 +190,7 @@ styled_round s t owns h =
       own_opening = refl;
       own_closing = refl;
       parts = styled_own s [] t [] owns h.own;
-      begins = λ p. ap (λ xs. first_of xs p) (para_items ps) ∙ styled_first s t owns p h.own h.begins;
-      ends = λ o. ap (last_of o) (para_items ps) ∙ styled_last s [] t owns o false h.own h.ends (λ e. absurd (cc));
+      some = ap (list_any is_page) (para_items ps) ∙ styled_some s [] t owns h.own h.some;
     }
 
 pub styled_called_holds : (s : Setting) (t : StyledContent) (owns : List (List Item)) → IsStyledCalled s t owns

@@ -1,13 +1,12 @@
 -- A paragraph beside calls and styles, as it is written, is a content in a folder, and a new one in the place of another one whose nodes it has; those that
 -- don't call may go.
-use Rattle.std.proofs.Common.{◌≡◌, inl, inr, ℕ, Bool, true, false, not, None, List, [], ◌∷◌, ◌++◌, ap, append-nil, refl, subst, sym, ◌∙◌}
+use Rattle.std.proofs.Common.{◌≡◌, inl, inr, ℕ, Bool, true, false, None, List, [], ◌∷◌, ◌++◌, ap, append-nil, refl, subst, sym, ◌∙◌}
 use Rattle.wt_span.specs.Items.{Item, char}
 use Rattle.wt_span.specs.Origins.{OuterCall}
-use Rattle.wt_guards.specs.Content.{ContentSign, Thing, is_group as is_call, letter, thing}
-use Rattle.wt_guards.specs.Guards.{Setting, is_guarded, is_mark, is_new_at_start, spelled}
+use Rattle.wt_guards.specs.Content.{ContentSign, Thing, letter, thing}
+use Rattle.wt_guards.specs.Guards.{Setting, is_guarded, spelled}
 use Rattle.wt_guards.specs.Letters.{is_escaped}
-use Rattle.wt_guards.specs.declared.role.Role.{Role}
-use Rattle.wt_guards.specs.declared.role.Role.TheVariants.{Bare, External, Function, Group, Link, Mark, Node, Switch, Toggle}
+use Rattle.wt_guards.specs.declared.role.Role.TheVariants.{Toggle}
 use Rattle.wt_expand.specs.PageCalls.{expanded_page}
 use Rattle.wt_expand.specs.PageItems.{page_items}
 use Rattle.wt_expand.specs.Work.{Entry, Pages}
@@ -21,28 +20,26 @@ use Rattle.wt_text_edit_laws.specs.TextBetween.{StandsBehind}
 use Rattle.wt_text_edit_laws.specs.TextBlocks.{a_paragraph}
 use Rattle.wt_beside_laws.proofs.Each.{Each}
 use Rattle.wt_beside_laws.proofs.Groups.CalledLines.{items_own}
-use Rattle.wt_beside_laws.proofs.LineKinds.{Opens, guard_opens, items_open, letter_opens, new_guarded, node_opens}
+use Rattle.wt_beside_laws.proofs.LineKinds.{guard_opens, letter_opens}
 use Rattle.wt_beside_laws.proofs.Made.Closes.{OpenFor, content_closes}
 use Rattle.wt_beside_laws.proofs.StyledGroups.Paragraphs.{given_lines, given_unled}
-use Rattle.wt_beside_laws.specs.Called.{AreGiven, IsOfFolder, owns_in}
+use Rattle.wt_beside_laws.specs.Called.{AreGiven, owns_in}
 use Rattle.wt_beside_laws.specs.Content.{content_items, guard_items, letter_items}
-use Rattle.wt_beside_laws.specs.Cuts.{own_glyphs}
 use Rattle.wt_beside_laws.specs.Lines.{AreCharacters}
 use Rattle.wt_beside_laws.specs.NodeItems.{node_items}
-use Rattle.wt_beside_laws.specs.Nodes.{IsNode}
 use Rattle.wt_beside_laws.specs.Stood.{things}
 use Rattle.wt_beside_laws.specs.Styled.{StyledContent, delimiter, finished, mark_source, sign, signs_before, signs_in, styled}
-use Rattle.wt_beside_laws.specs.StyledCalls.{begins_uncalled}
+use Rattle.wt_beside_laws.specs.StyledCalls.{has_uncalled}
 use Rattle.wt_beside_laws.specs.StyledNodes.{IsPut}
 use Rattle.wt_called_edit_laws.proofs.MovedOuters.{calls_after}
-use Rattle.wt_called_edit_laws.proofs.Styles.Put.{put_open, put_outer, put_own, put_source, put_work}
+use Rattle.wt_called_edit_laws.proofs.Styles.Put.{put_open, put_outer, put_source, put_work}
 use Rattle.wt_called_edit_laws.proofs.Styles.Shown.{shown_styled}
-use Rattle.wt_called_edit_laws.proofs.Styles.Things.{AreAmongPut, AreStyledThings, IsStyledThing}
+use Rattle.wt_called_edit_laws.proofs.Styles.Things.{AreAmongPut}
 use Rattle.wt_called_edit_laws.proofs.Styles.Written.{IsStyledWritten, all_parts, all_read, all_sealed, all_utf8, given_all, shown_characters, styled_gives}
 use Rattle.wt_called_edit_laws.proofs.Written.FromPage.{by_sources, stay_both}
 use Rattle.wt_called_edit_laws.proofs.Written.InPieces.{open_pieces, pieces_written}
 use Rattle.wt_called_edit_laws.proofs.Written.Letters.{a_beside, b_beside, begun, same_stay, sources_spread, sources_things, spread, takes}
-use Rattle.wt_called_edit_laws.proofs.Written.NewContents.{OpenAt, break_read, break_stands, calls_by, calls_of, calls_stay, each_stays, from_utf8, nothing_stands, open_nodes, opens_shown, turned, work_by, work_of, work_stays, written_over}
+use Rattle.wt_called_edit_laws.proofs.Written.NewContents.{OpenAt, break_read, break_stands, calls_by, calls_of, calls_stay, each_stays, from_utf8, nothing_stands, open_nodes, opens_shown, thing_shown, turned, work_by, work_of, work_stays, written_over}
 use Rattle.wt_called_edit_laws.proofs.Written.Reads.{called_alone, called_firm}
 use Rattle.wt_called_edit_laws.proofs.Written.Signs.{content_written}
 use Rattle.wt_called_edit_laws.specs.CalledContents.{AreTextItems}
@@ -53,61 +50,34 @@ use Rattle.wt_called_edit_laws.specs.InPieces.{AreInPieces, pieces_source}
 use Rattle.wt_called_edit_laws.specs.PageThings.{ArePageThings, ThingsStay, thing_sources}
 use Rattle.wt_called_edit_laws.specs.Parts.{work_in}
 use Rattle.wt_called_edit_laws.specs.Retyped.{AreSomeOf}
-use Rattle.wt_called_edit_laws.specs.Written.{IsWrittenAs, written_calls, written_items, written_work}
+use Rattle.wt_called_edit_laws.specs.Written.{AreReadThings, IsReadThing, IsWrittenAs, written_calls, written_items, written_work}
 use Rattle.wt_called_edit_laws.specs.WrittenAnew.{IsWrittenBeside, StayButForOthers, node_sources}
 
 
 -- ---- its first line isn't blank
 
--- where it may begin a line
-own_opens : (s : Setting) (x : Thing) (after : List ContentSign) (more : List Item) → s.within ≡ false → IsNode x.role (own_glyphs x)
-    → (is_mark x.role ≡ true → is_new_at_start x.role ≡ true) → is_guarded s [] (thing x ∷ after) ≡ false → Opens (node_items x.source ++ more)
-own_opens s x after more w n m g = items_open (node_items x.source) more (node_opens x.role (own_glyphs x) n (unmarked (is_mark x.role) refl))
+thing_first : (s : Setting) (x : Thing) (after : List ContentSign) → s.within ≡ false → IsReadThing x → begins_shown (content_items s [] (thing x ∷ after)) ≡ true
+thing_first s x after w r = by (is_guarded s [] (thing x ∷ after)) refl
   where
-    unmarked : (v : Bool) → is_mark x.role ≡ v → v ≡ false
-    unmarked true e = let no : true ≡ false = sym (new_guarded s [] x after w refl (m e)) ∙ g in cc
-    unmarked false e = refl
+    by : (u : Bool) → is_guarded s [] (thing x ∷ after) ≡ u → begins_shown (guard_items u ++ (node_items x.source ++ content_items s (thing x ∷ []) after)) ≡ true
+    by true g =
+        let more : List Item = node_items x.source ++ content_items s (thing x ∷ []) after in
+        opens_shown (guard_items true ++ more) (guard_opens true more (λ e. let no : true ≡ false = e in absurd (cc)))
+    by false g = thing_shown s x after (content_items s (thing x ∷ []) after) w g r
 
-stays_node : (r : Role) (pages : Pages) (x : Thing) → IsOfFolder r pages x → is_call r ≡ false
-    → IsNode x.role (own_glyphs x) × (is_mark x.role ≡ true → is_new_at_start x.role ≡ true)
-stays_node Link pages x h e = (h.node, h.inside)
-stays_node External pages x h e = (h.node, h.inside)
-stays_node (Bare ends) pages x h e = (h.node, h.inside)
-stays_node Switch pages x h e = (h.node, h.inside)
-stays_node Toggle pages x h e = (h.node, h.inside)
-stays_node (Mark ends began) pages x h e = (h.node, h.inside)
-stays_node (Group g) pages x h e = absurd (cc)
-stays_node Function pages x h e = (h.node, h.inside)
-stays_node Node pages x h e = (h.node, h.inside)
-
-not_false : (b : Bool) → not b ≡ true → b ≡ false
-not_false true e = cc
-not_false false e = refl
-
-thing_opens : (pages : Pages) (s : Setting) (x : Thing) (after : List ContentSign) (more : List Item) → s.within ≡ false → IsStyledThing pages x
-    → not (is_call x.role) ≡ true → Opens (guard_items (is_guarded s [] (thing x ∷ after)) ++ (node_items x.source ++ more))
-thing_opens pages s x after more w (inl k) e =
-    let own = k.0 in
-    let n = stays_node x.role pages x own.folder (not_false (is_call x.role) e) in
-    guard_opens (is_guarded s [] (thing x ∷ after)) (node_items x.source ++ more) (λ g. own_opens s x after more w n.0 n.1 g)
-thing_opens pages s x after more w (inr p) e =
-    let own = put_own x p in
-    guard_opens (is_guarded s [] (thing x ∷ after)) (node_items x.source ++ more) (λ g. own_opens s x after more w own.node own.inside g)
-
-first_shown : (pages : Pages) (s : Setting) (t : StyledContent) → s.within ≡ false → AreCharacters (signs_in t) → AreStyledThings pages (signs_in t)
-    → begins_uncalled t ≡ true → Opens (content_items s [] (signs_in t))
-first_shown pages s finished w v h b = absurd (cc)
-first_shown pages s (sign (letter c) t) w v h b =
+first_shown : (s : Setting) (t : StyledContent) → s.within ≡ false → AreCharacters (signs_in t) → AreReadThings (signs_in t) → has_uncalled t ≡ true
+    → begins_shown (content_items s [] (signs_in t)) ≡ true
+first_shown s finished w v r b = cc
+first_shown s (sign (letter c) t) w v r b =
     let after : List ContentSign = signs_in t in
     let e : Bool = is_escaped s.within s.place [] c after in
     let more : List Item = content_items s (letter c ∷ []) after in
-    guard_opens (is_guarded s [] (letter c ∷ after)) (letter_items e c ++ more)
-    (λ g. letter_opens s [] c after more e refl v.0 (unguarded_begins s [] c after w refl refl g))
-first_shown pages s (sign (thing x) t) w v h b = thing_opens pages s x (signs_in t) (content_items s (thing x ∷ []) (signs_in t)) w h.0 b
-first_shown pages s (styled kind opening closing inside t) w v h b =
-    let mark : Thing = record { role = Toggle; source = mark_source kind; place = opening } in
-    let held : List ContentSign = signs_before inside (delimiter kind closing ∷ signs_in t) in
-    thing_opens pages s mark held (content_items s (delimiter kind opening ∷ []) held) w h.0 refl
+    let u : Bool = is_guarded s [] (letter c ∷ after) in
+    opens_shown (guard_items u ++ (letter_items e c ++ more))
+    (guard_opens u (letter_items e c ++ more) (λ g. letter_opens s [] c after more e refl v.0 (unguarded_begins s [] c after w refl refl g)))
+first_shown s (sign (thing x) t) w v r b = thing_first s x (signs_in t) w r.0
+first_shown s (styled kind opening closing inside t) w v r b =
+    thing_first s (record { role = Toggle; source = mark_source kind; place = opening }) (signs_before inside (delimiter kind closing ∷ signs_in t)) w r.0
 
 -- ---- it is read by itself
 
@@ -119,7 +89,7 @@ begins_so pages s t h =
       alone = subst StandsBehind (append-nil (spelled s signs)) (f.uncommented [] nothing_stands tt);
       before_break = f.uncommented (10 ∷ []) break_stands refl;
       shown = subst (λ (xs : List Item). begins_shown xs ≡ true) (sym (called_alone s signs h.of_block (all_read pages signs h.each)))
-          (opens_shown (content_items s [] signs) (first_shown pages s t h.of_block h.characters h.each h.begins));
+          (first_shown s t h.of_block h.characters (all_read pages signs h.each) h.some);
     }
 
 styled_read : (pages : Pages) (s : Setting) (t : StyledContent) → IsStyledWritten pages s t → IsReadContent a_paragraph (spelled s (signs_in t))

@@ -127,8 +127,7 @@ sent_well pages q block ps i h e =
         free = pieces_free pages same_node block ps found beside e.stay e.free;
         meet = all_beside (setting a_paragraph block) [] (shown_signs pages ss)
             (nodes_so pages ss each, subst EachMeets (things_shown pages ss) (meet_styled pages left.nodes (things ss) left.put of_page own));
-        begins = e.begins;
-        ends = e.ends;
+        some = e.some;
       };
     }
 

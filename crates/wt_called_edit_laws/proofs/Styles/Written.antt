@@ -26,7 +26,7 @@ use Rattle.wt_beside_laws.specs.Lines.{AreCharacters}
 use Rattle.wt_beside_laws.specs.NodeItems.{node_items}
 use Rattle.wt_beside_laws.specs.Nodes.{AllMeet}
 use Rattle.wt_beside_laws.specs.Styled.{AreNested, StyledContent, delimiter, finished, mark_source, sign, signs_before, signs_in, styled}
-use Rattle.wt_beside_laws.specs.StyledCalls.{AreOwnAt, AreSomeOfPage, IsOwnAt, IsStyledCalled, begins_uncalled, ends_uncalled, owns_left}
+use Rattle.wt_beside_laws.specs.StyledCalls.{AreOwnAt, AreSomeOfPage, IsOwnAt, IsStyledCalled, has_uncalled, owns_left}
 use Rattle.wt_beside_laws.specs.StyledNodes.{IsPut}
 use Rattle.wt_called_edit_laws.proofs.Styles.Free.{NoCallWithin}
 use Rattle.wt_called_edit_laws.proofs.Styles.Put.{put_items, put_own, put_part, put_read, put_sealed, put_shown, put_source, put_utf8}
@@ -47,8 +47,7 @@ pub record IsStyledWritten (pages : Pages) (s : Setting) (t : StyledContent) : T
   pub nested : AreNested false false t
   pub free : NoCallWithin false t
   pub meet : AllMeet s [] (shown_signs pages (signs_in t)) []
-  pub begins : begins_uncalled t ≡ true
-  pub ends : ends_uncalled false t ≡ true
+  pub some : has_uncalled t ≡ true
 
 -- ---- what holds of each
 
@@ -233,17 +232,11 @@ nested_shown pages bold italic (sign (thing x) t) k = (k.0, nested_shown pages b
 nested_shown pages bold italic (styled kind opening closing inside t) k =
     (k.0, nested_shown pages (kind || bold) (not kind || italic) inside k.1, nested_shown pages bold italic t k.2)
 
-begins_shown_so : (pages : Pages) (t : StyledContent) → begins_uncalled (shown_styled pages t) ≡ begins_uncalled t
-begins_shown_so pages finished = refl
-begins_shown_so pages (sign (letter c) t) = refl
-begins_shown_so pages (sign (thing x) t) = refl
-begins_shown_so pages (styled kind opening closing inside t) = refl
-
-ends_shown_so : (pages : Pages) (last : Bool) (t : StyledContent) → ends_uncalled last (shown_styled pages t) ≡ ends_uncalled last t
-ends_shown_so pages last finished = refl
-ends_shown_so pages last (sign (letter c) t) = ends_shown_so pages true t
-ends_shown_so pages last (sign (thing x) t) = ends_shown_so pages (not (is_call x.role)) t
-ends_shown_so pages last (styled kind opening closing inside t) = ends_shown_so pages true t
+some_shown : (pages : Pages) (t : StyledContent) → has_uncalled (shown_styled pages t) ≡ has_uncalled t
+some_shown pages finished = refl
+some_shown pages (sign (letter c) t) = refl
+some_shown pages (sign (thing x) t) = ap (λ (b : Bool). not (is_call x.role) || b) (some_shown pages t)
+some_shown pages (styled kind opening closing inside t) = refl
 
 pub given_all : (pages : Pages) (i : ℕ) (s : Setting) (t : StyledContent) → IsStyledWritten pages s t
     → AreGiven (signs_in (shown_styled pages t)) (owns_in pages i (signs_in t))
@@ -261,6 +254,5 @@ styled_in pages i s t h = record {
   own = own_at pages i false false false t [] h.each h.nested h.free;
   nested = nested_shown pages false false t h.nested;
   meet = subst (λ xs. AllMeet s [] xs []) (shown_is pages t) h.meet;
-  begins = begins_shown_so pages t ∙ h.begins;
-  ends = ends_shown_so pages false t ∙ h.ends;
+  some = some_shown pages t ∙ h.some;
 }
