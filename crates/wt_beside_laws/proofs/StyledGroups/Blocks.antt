@@ -1,5 +1,5 @@
 -- A paragraph of a content with styles among whose signs are calls holds these: each is a group between items of the page.
-use Rattle.std.proofs.Common.{◌≡◌, inl, inr, ℕ, Bool, true, false, not, None, List, [], ◌∷◌, ◌++◌, ap, append-nil, refl, subst, sym, ◌||◌, ◌∙◌}
+use Rattle.std.proofs.Common.{◌≡◌, inl, inr, Bool, true, false, not, List, [], ◌∷◌, ◌++◌, ap, append-nil, refl, subst, sym, ◌||◌, ◌∙◌}
 use Rattle.std.specs.List.{list_any}
 use Rattle.wt_span.specs.Items.{Item}
 use Rattle.wt_span.specs.Origins.{OuterCall}
