@@ -150,6 +150,15 @@ own_some x own h b = elim h [
   | inr k ↦ some_page (line_parts own) k
 ]
 
+-- a node, or something behind it
+thing_some : (x : Thing) (own : List Item) (more : List Part) (rest : Bool) → IsOwnAt false x own → (not (is_group x.role) || rest) ≡ true
+    → (rest ≡ true → list_any is_page (held_parts more) ≡ true) → list_any is_page (held_parts (line_parts own ++ more)) ≡ true
+thing_some x own more rest h b f = by (not (is_group x.role)) refl b
+  where
+    by : (v : Bool) → not (is_group x.role) ≡ v → (v || rest) ≡ true → list_any is_page (held_parts (line_parts own ++ more)) ≡ true
+    by true e g = held_left (line_parts own) more (own_some x own h e)
+    by false e g = held_right (line_parts own) more (f g)
+
 styled_some : (s : Setting) (before : List ContentSign) (t : StyledContent) (owns : List (List Item)) → AreOwnAt false t owns → has_uncalled t ≡ true
     → list_any is_page (held_parts (styled_with false s before t [] owns)) ≡ true
 styled_some s before finished owns h b = cc
@@ -162,12 +171,8 @@ styled_some s before (sign (letter c) t) owns h b =
 styled_some s before (sign (thing x) t) [] h b = absurd h
 styled_some s before (sign (thing x) t) (own ∷ owns) h b =
     let more : List Part = styled_with false s (thing x ∷ before) t [] owns in
-    held_right (parts Text (guard_items (is_guarded s before (thing x ∷ signs_before t [])))) (line_parts own ++ more) (by (not (is_group x.role)) refl b)
-  where
-    by : (v : Bool) → not (is_group x.role) ≡ v → (v || has_uncalled t) ≡ true
-        → list_any is_page (held_parts (line_parts own ++ styled_with false s (thing x ∷ before) t [] owns)) ≡ true
-    by true e f = held_left (line_parts own) (styled_with false s (thing x ∷ before) t [] owns) (own_some x own h.0 e)
-    by false e f = held_right (line_parts own) (styled_with false s (thing x ∷ before) t [] owns) (styled_some s (thing x ∷ before) t owns h.1 f)
+    held_right (parts Text (guard_items (is_guarded s before (thing x ∷ signs_before t [])))) (line_parts own ++ more)
+    (thing_some x own more (has_uncalled t) h.0 b (λ e. styled_some s (thing x ∷ before) t owns h.1 e))
 styled_some s before (styled kind opening closing inside t) owns h b =
     let first : List ContentSign = delimiter kind opening ∷ before in
     let closes : List ContentSign = delimiter kind closing ∷ signs_before t [] in
