@@ -4,6 +4,7 @@ use Rattle.std.specs.Prelude.{◌≡◌, ℕ, true, false, List, [], ◌∷◌, 
 use Rattle.std.specs.Str.{IsUtf8}
 use Rattle.wt_tree.specs.EditShapes.{edit_shape}
 use Rattle.wt_tree.specs.Plain.{face}
+use Rattle.wt_tree.specs.Source.{flat}
 use Rattle.wt_tree.specs.Tiling.{NoneIsGroup}
 use Rattle.wt_tree.specs.Tree.{Label, Tree, Trees, more, none, tree}
 use Rattle.wt_tree.specs.declared.edit_shape.InlineForm.{InlineForm}

@@ -44,7 +44,7 @@ nowiki_page : page_items nowiki ≡ guard_items true
 nowiki_page = alone_as nowiki (guard_items true) nowiki_reads
 
 nowiki_line : IsHeldInLine nowiki
-nowiki_line = inl (nowiki_kept, subst HasNoBreak (sym nowiki_page) (refl, tt))
+nowiki_line = inl (nowiki_kept, subst HasNoBreak (sym nowiki_page) (tt, tt))
 
 abbrev pub IsPutSource : List ℕ → Type 0
 IsPutSource bs = ((kind : Bool) × (bs ≡ mark_source kind)) ⊎ (bs ≡ nowiki)

@@ -264,7 +264,7 @@ shown_styled pages (sign (letter c) t) = sign (letter c) (shown_styled pages t)
 shown_styled pages (sign (thing x) t) = sign (thing (shown_thing pages x)) (shown_styled pages t)
 shown_styled pages (styled kind opening closing inside t) = styled kind opening closing (shown_styled pages inside) (shown_styled pages t)
 
-past_as : (pages : Pages) (i : ℕ) (t : StyledContent) (after : List ContentSign)
+pub past_as : (pages : Pages) (i : ℕ) (t : StyledContent) (after : List ContentSign)
     → owns_past (shown_styled pages t) (owns_in pages i (signs_before t after)) ≡ owns_in pages (calls_behind pages i t) after
 past_as pages i finished after = refl
 past_as pages i (sign (letter c) t) after = past_as pages i t after

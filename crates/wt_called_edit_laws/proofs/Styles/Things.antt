@@ -91,8 +91,8 @@ left_put pages d bs ds p h = record { nodes = h.nodes; stay = h.stay; put = inl 
 left_one : (pages : Pages) (d : Thing) (bs ds : List Thing) → AreLeft pages bs ds → AreLeft pages (d ∷ bs) (d ∷ ds)
 left_one pages d bs ds h = record { nodes = d ∷ h.nodes; stay = inl (refl, h.stay); put = inr (h.nodes, refl, h.put) }
 
-left_calm : (pages : Pages) (as bs ds : List Thing) → ThingsStay pages as [] → AreLeft pages bs ds → AreLeft pages (as ++ bs) ds
-left_calm pages as bs ds h k = record { nodes = k.nodes; stay = stay_both pages as [] bs k.nodes h k.stay; put = k.put }
+left_calm : (pages : Pages) (cs bs ds : List Thing) → ThingsStay pages cs [] → AreLeft pages bs ds → AreLeft pages (cs ++ bs) ds
+left_calm pages cs bs ds h k = record { nodes = k.nodes; stay = stay_both pages cs [] bs k.nodes h k.stay; put = k.put }
 
 -- ---- a style
 

@@ -53,7 +53,7 @@ use Rattle.wt_beside_laws.specs.StyledCalls.{AreOwnAt, owns_left, owns_past, sty
 use Rattle.wt_called_edit_laws.proofs.SettledNodes.{placeless_groupless}
 use Rattle.wt_called_edit_laws.proofs.Styles.Lined.{own_calls}
 use Rattle.wt_called_edit_laws.proofs.Styles.Put.{IsPutSource, put_items, put_outer, put_source}
-use Rattle.wt_called_edit_laws.proofs.Styles.Shown.{calls_behind, folder_shown, shown_as, shown_styled}
+use Rattle.wt_called_edit_laws.proofs.Styles.Shown.{calls_behind, folder_shown, past_as, shown_as, shown_styled}
 use Rattle.wt_called_edit_laws.proofs.Styles.Things.{AreStyledThings, IsStyledThing}
 use Rattle.wt_called_edit_laws.proofs.Styles.Written.{IsStyledWritten, each_behind, flat_put, styled_gives, styled_in}
 use Rattle.wt_called_edit_laws.proofs.Whole.Contents.{IsNextCall, all_before, calls_both, guard_none, guard_shut, letter_none, letter_shut, moved_shut, own_shut, past_both, shut_both, thing_calls, thing_gives}

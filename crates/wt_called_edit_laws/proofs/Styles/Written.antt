@@ -30,7 +30,7 @@ use Rattle.wt_beside_laws.specs.StyledCalls.{AreOwnAt, AreSomeOfPage, IsOwnAt, I
 use Rattle.wt_beside_laws.specs.StyledNodes.{IsPut}
 use Rattle.wt_called_edit_laws.proofs.Styles.Free.{NoCallWithin}
 use Rattle.wt_called_edit_laws.proofs.Styles.Put.{put_items, put_own, put_part, put_read, put_sealed, put_shown, put_source, put_utf8}
-use Rattle.wt_called_edit_laws.proofs.Styles.Shown.{calls_behind, shown_styled}
+use Rattle.wt_called_edit_laws.proofs.Styles.Shown.{calls_behind, past_as, shown_styled}
 use Rattle.wt_called_edit_laws.proofs.Styles.Things.{AreStyledThings, IsStyledThing}
 use Rattle.wt_called_edit_laws.proofs.Written.Held.{written_with}
 use Rattle.wt_called_edit_laws.proofs.Written.Signs.{content_written}
