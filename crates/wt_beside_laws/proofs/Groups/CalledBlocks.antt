@@ -1,5 +1,5 @@
 -- A paragraph of texts beside calls holds these: each is a group between items of the page.
-use Rattle.std.proofs.Common.{arith, ◌≡◌, ℕ, ◌<◌, Bool, true, false, Option, None, Some, List, [], ◌∷◌, ◌++◌, length, refl, sym, ap, ◌∙◌, subst, append-nil}
+use Rattle.std.proofs.Common.{arith, ◌≡◌, ℕ, ◌<◌, Bool, true, false, Option, None, Some, List, [], ◌∷◌, ◌++◌, length, inl, refl, sym, ap, ◌∙◌, subst, append-nil}
 use Rattle.std.specs.Prelude.{◌&&◌, encode_utf8}
 use Rattle.std.specs.List.{list_all}
 use Rattle.wt_names.proofs.Ascii.{encode_some}
@@ -10,7 +10,7 @@ use Rattle.wt_guards.specs.Content.{ContentSign, letter, thing}
 use Rattle.wt_guards.specs.Guards.{Setting, is_guarded}
 use Rattle.wt_guards.specs.Letters.{is_escaped}
 use Rattle.wt_lines.specs.Lines.{lines}
-use Rattle.wt_inline.specs.declared.loose.Loose.TheVariants.{Text, Sep}
+use Rattle.wt_inline.specs.declared.loose.Loose.TheVariants.{Text}
 use Rattle.wt_inline.specs.ItemTree.{plain, forest, tree_items, held_by_all}
 use Rattle.wt_inline.specs.Parts.{Part, loose, node, held_parts, parts, children}
 use Rattle.wt_inline.proofs.HeldLaws.{held_children}
@@ -19,9 +19,9 @@ use Rattle.wt_annotated.specs.Clean.{is_no_call, is_page}
 use Rattle.wt_annotated.specs.Seams.{last_of, first_of}
 use Rattle.wt_annotated.proofs.Ends.{both}
 use Rattle.wt_annotated.proofs.Seams.{first_append, last_append}
-use Rattle.wt_part_laws.specs.CallTexts.{AreOwnOrTexts}
-use Rattle.wt_part_laws.specs.HeldCalls.{block_in, HoldsItsCalls, IsRoundTexts, block_of_texts}
-use Rattle.wt_part_laws.proofs.HeldBlocks.{texts_hold, block_is}
+use Rattle.wt_part_laws.specs.CallPieces.{AreOwnOrGiven}
+use Rattle.wt_part_laws.specs.HeldCalls.{block_in, HoldsItsCalls, IsRoundGiven, block_of_pieces}
+use Rattle.wt_part_laws.proofs.HeldBlocks.{given_hold, given_block_is}
 use Rattle.wt_text_edit_laws.specs.LonePages.{page_chars}
 use Rattle.wt_text_edit_laws.specs.ParagraphParts.{joined_parts, para_with}
 use Rattle.wt_text_edit_laws.proofs.Texts.TypedShown.{AllOfPage, both_of_page}
@@ -32,36 +32,35 @@ use Rattle.wt_beside_laws.proofs.Groups.CalledParagraphs.{called_parts}
 
 -- ---- its parts
 
-own_texts : (xs : List Item) → PartsHave (parts Text xs) → AreOwnOrTexts (parts Text xs)
-own_texts [] h = tt
-own_texts (char o b ∷ xs) h = own_texts xs h.1
-own_texts (whole f o bs ∷ xs) h = (record { of_page = h.0.1; has_items = h.0.0 }, own_texts xs h.1)
+own_items : (xs : List Item) → PartsHave (parts Text xs) → AreOwnOrGiven (parts Text xs)
+own_items [] h = tt
+own_items (char o b ∷ xs) h = own_items xs h.1
+own_items (whole f o bs ∷ xs) h = (inl (record { of_page = h.0.1; has_items = h.0.0 }), own_items xs h.1)
 
-texts_both : (ps qs : List Part) → AreOwnOrTexts ps → AreOwnOrTexts qs → AreOwnOrTexts (ps ++ qs)
-texts_both [] qs h k = k
-texts_both (loose Text o b ∷ ps) qs h k = texts_both ps qs h k
-texts_both (loose Sep o b ∷ ps) qs h k = absurd h
-texts_both (node t ∷ ps) qs h k = (h.0, texts_both ps qs h.1 k)
+pub given_both : (ps qs : List Part) → AreOwnOrGiven ps → AreOwnOrGiven qs → AreOwnOrGiven (ps ++ qs)
+given_both [] qs h k = k
+given_both (loose k o b ∷ ps) qs h g = given_both ps qs h g
+given_both (node t ∷ ps) qs h k = (h.0, given_both ps qs h.1 k)
 
-guard_own : (u : Bool) → AreOwnOrTexts (parts Text (guard_items u))
-guard_own u = own_texts (guard_items u) (guard_has u)
+guard_own : (u : Bool) → AreOwnOrGiven (parts Text (guard_items u))
+guard_own u = own_items (guard_items u) (guard_has u)
 
-letter_own : (e : Bool) (c : ℕ) → AreOwnOrTexts (parts Text (letter_items e c))
-letter_own e c = own_texts (letter_items e c) (letter_has e c)
+letter_own : (e : Bool) (c : ℕ) → AreOwnOrGiven (parts Text (letter_items e c))
+letter_own e c = own_items (letter_items e c) (letter_has e c)
 
-pub parts_own : (s : Setting) (before signs : List ContentSign) (owns : List (List Item)) → AreOwnInside owns → AreOwnOrTexts (parts_with s before signs owns)
+pub parts_own : (s : Setting) (before signs : List ContentSign) (owns : List (List Item)) → AreOwnInside owns → AreOwnOrGiven (parts_with s before signs owns)
 parts_own s before [] owns h = guard_own (is_guarded s before [])
 parts_own s before (letter c ∷ after) owns h =
     let e = is_escaped s.within s.place before c after in
     let more : List Part = parts_with s (letter c ∷ before) after owns in
-    texts_both (parts Text (guard_items (is_guarded s before (letter c ∷ after)))) (parts Text (letter_items e c) ++ more)
+    given_both (parts Text (guard_items (is_guarded s before (letter c ∷ after)))) (parts Text (letter_items e c) ++ more)
     (guard_own (is_guarded s before (letter c ∷ after)))
-    (texts_both (parts Text (letter_items e c)) more (letter_own e c) (parts_own s (letter c ∷ before) after owns h))
+    (given_both (parts Text (letter_items e c)) more (letter_own e c) (parts_own s (letter c ∷ before) after owns h))
 parts_own s before (thing t ∷ after) [] h = guard_own (is_guarded s before (thing t ∷ after))
 parts_own s before (thing t ∷ after) (own ∷ owns) h =
     let more : List Part = parts_with s (thing t ∷ before) after owns in
-    texts_both (parts Text (guard_items (is_guarded s before (thing t ∷ after)))) (line_parts own ++ more) (guard_own (is_guarded s before (thing t ∷ after)))
-    (texts_both (line_parts own) more h.0 (parts_own s (thing t ∷ before) after owns h.1))
+    given_both (parts Text (guard_items (is_guarded s before (thing t ∷ after)))) (line_parts own ++ more) (guard_own (is_guarded s before (thing t ∷ after)))
+    (given_both (line_parts own) more h.0 (parts_own s (thing t ∷ before) after owns h.1))
 
 -- ---- its first and its last item
 
@@ -167,7 +166,7 @@ para_items : (ps : List Part) → tree_items (para_with ps) ≡ held_parts ps
 para_items ps = append-nil (held_by_all (forest (children ps))) ∙ held_children ps
 
 pub called_round : (s : Setting) (signs : List ContentSign) (owns : List (List Item)) → IsCalledContent s signs owns
-    → IsRoundTexts (plain kind.Para) [] (parts_with s [] signs owns) []
+    → IsRoundGiven (plain kind.Para) [] (parts_with s [] signs owns) []
 called_round s signs owns h =
     let ps : List Part = parts_with s [] signs owns in
     record {
@@ -183,10 +182,10 @@ pub called_holds : (s : Setting) (signs : List ContentSign) (owns : List (List I
     → HoldsItsCalls (para_with (joined_parts (lines (items_with s [] signs owns))))
 called_holds s signs owns h =
     subst (λ (ps : List Part). HoldsItsCalls (para_with ps)) (sym (called_parts s signs owns h))
-    (texts_hold (plain kind.Para) [] (parts_with s [] signs owns) [] (called_round s signs owns h))
+    (given_hold (plain kind.Para) [] (parts_with s [] signs owns) [] (called_round s signs owns h))
 
 pub called_block : (calls : List OuterCall) (s : Setting) (signs : List ContentSign) (owns : List (List Item)) → IsCalledContent s signs owns
-    → block_in calls (para_with (joined_parts (lines (items_with s [] signs owns)))) ≡ block_of_texts calls (plain kind.Para) [] (parts_with s [] signs owns) []
+    → block_in calls (para_with (joined_parts (lines (items_with s [] signs owns)))) ≡ block_of_pieces calls (plain kind.Para) [] (parts_with s [] signs owns) []
 called_block calls s signs owns h =
     ap (λ (ps : List Part). block_in calls (para_with ps)) (called_parts s signs owns h)
-    ∙ block_is calls (plain kind.Para) [] (parts_with s [] signs owns) [] (called_round s signs owns h)
+    ∙ given_block_is calls (plain kind.Para) [] (parts_with s [] signs owns) [] (called_round s signs owns h)

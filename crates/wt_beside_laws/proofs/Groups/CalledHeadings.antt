@@ -19,9 +19,9 @@ use Rattle.wt_context.specs.Line.{line_parts}
 use Rattle.wt_annotated.specs.Clean.{is_page}
 use Rattle.wt_annotated.specs.Seams.{last_of, first_of}
 use Rattle.wt_annotated.proofs.Seams.{first_append, last_append}
-use Rattle.wt_part_laws.specs.CallTexts.{AreOwnOrTexts}
-use Rattle.wt_part_laws.specs.HeldCalls.{block_in, HoldsItsCalls, IsRoundTexts, block_of_texts}
-use Rattle.wt_part_laws.proofs.HeldBlocks.{texts_hold, block_is}
+use Rattle.wt_part_laws.specs.CallPieces.{AreOwnOrGiven}
+use Rattle.wt_part_laws.specs.HeldCalls.{block_in, HoldsItsCalls, IsRoundGiven, block_of_pieces}
+use Rattle.wt_part_laws.proofs.HeldBlocks.{given_hold, given_block_is}
 use Rattle.wt_part_laws.proofs.OwnWalks.{last_own, first_own}
 use Rattle.wt_text_edit_laws.specs.LonePages.{page_chars}
 use Rattle.wt_text_edit_laws.specs.TypedHeadings.{Sides, AreSides, equals, opening, closing_items, heading_round, NoBreaks, BeginsWithout, EndsWithout, is_equals_sign, IsHeadingInside, IsOfLevel}
@@ -35,9 +35,8 @@ use Rattle.wt_beside_laws.specs.InHeadings.{AreOnOneLine}
 use Rattle.wt_beside_laws.proofs.LineHeadings.{unbroken_both, none_by, guard_none, begins_seen, SeenLast, ends_behind, last_behind, letter_last, end_last, UnequalLast, letter_unequal, end_unequal, begins_unequal, unequal_end}
 use Rattle.wt_beside_laws.proofs.LineItems.{letter_unbroken}
 use Rattle.wt_beside_laws.proofs.Groups.CalledBlocks.{parts_own}
-use Rattle.wt_beside_laws.proofs.Groups.CalledLines.{line_opens}
+use Rattle.wt_beside_laws.proofs.Groups.CalledLines.{given_unbroken, line_opens}
 use Rattle.wt_beside_laws.proofs.Groups.CalledParts.{line_parts_are}
-use Rattle.wt_beside_laws.proofs.Groups.Words.{given_or, given_unbroken}
 
 -- ---- one line
 
@@ -75,7 +74,7 @@ unbroken s before (thing t ∷ after) [] o h = absurd h
 unbroken s before (thing t ∷ after) (own ∷ owns) o h =
     let more : List Item = items_with s (thing t ∷ before) after owns in
     unbroken_both (guard_items (is_guarded s before (thing t ∷ after))) (own ++ more) (guard_none (is_guarded s before (thing t ∷ after)))
-    (unbroken_both own more (none_by own (given_unbroken t own (given_or t.role t own h.0))) (unbroken s (thing t ∷ before) after owns o h.1))
+    (unbroken_both own more (none_by own (given_unbroken t own h.0)) (unbroken s (thing t ∷ before) after owns o h.1))
 
 -- ---- what is last
 
@@ -150,7 +149,7 @@ heading_level s signs owns sides h a =
 pub heading_parts : (s : Setting) (signs : List ContentSign) (owns : List (List Item)) → IsCalledHeading s signs owns
     → line_parts (items_with s [] signs owns) ≡ parts_with s [] signs owns
 heading_parts s signs owns h =
-    ap line_parts (sym (same_items s [] signs owns h.one_line)) ∙ line_parts_are s [] signs owns h.given h.meet ∙ same_parts s [] signs owns h.one_line
+    ap line_parts (sym (same_items s [] signs owns h.one_line)) ∙ line_parts_are s [] [] signs owns h.given h.flat h.meet ∙ same_parts s [] signs owns h.one_line
 
 -- ---- its delimiters are the page's
 
@@ -168,9 +167,9 @@ closing_page sides =
     both_of_page (page_chars (sides.trail ++ equals sides.level)) (page_items sides.rest) (chars_of_page (sides.trail ++ equals sides.level)) (items_of_page sides.rest)
 
 -- whatever texts and nodes are between them
-pub round_texts : (ps : List Part) (sides : Sides) → AreOwnOrTexts ps → AreSides sides
-    → IsRoundTexts (plain (kind.Heading sides.level)) (page_chars (opening sides)) ps (closing_items sides)
-round_texts ps sides h a =
+pub round_given : (ps : List Part) (sides : Sides) → AreOwnOrGiven ps → AreSides sides
+    → IsRoundGiven (plain (kind.Heading sides.level)) (page_chars (opening sides)) ps (closing_items sides)
+round_given ps sides h a =
     let i : List Item = held_by_all (forest (children ps)) in
     let q : List Item = page_chars (opening sides) in
     let c : List Item = closing_items sides in
@@ -186,21 +185,21 @@ round_texts ps sides h a =
           ∙ last_own (last_of (last_of o q) i) c (closing_page sides) (some_behind sides.trail sides.level (page_items sides.rest) a.some);
     }
 
-heading_texts : (s : Setting) (signs : List ContentSign) (owns : List (List Item)) (sides : Sides) → IsCalledHeading s signs owns → AreSides sides
-    → IsRoundTexts (plain (kind.Heading sides.level)) (page_chars (opening sides)) (parts_with s [] signs owns) (closing_items sides)
-heading_texts s signs owns sides h a = round_texts (parts_with s [] signs owns) sides (parts_own s [] signs owns h.own) a
+heading_given : (s : Setting) (signs : List ContentSign) (owns : List (List Item)) (sides : Sides) → IsCalledHeading s signs owns → AreSides sides
+    → IsRoundGiven (plain (kind.Heading sides.level)) (page_chars (opening sides)) (parts_with s [] signs owns) (closing_items sides)
+heading_given s signs owns sides h a = round_given (parts_with s [] signs owns) sides (parts_own s [] signs owns h.own) a
 
 pub heading_holds : (s : Setting) (signs : List ContentSign) (owns : List (List Item)) (sides : Sides) → IsCalledHeading s signs owns → AreSides sides
     → HoldsItsCalls (heading_round sides (items_with s [] signs owns))
 heading_holds s signs owns sides h a =
     subst (λ (ps : List Part). HoldsItsCalls (inner (plain (kind.Heading sides.level)) (page_chars (opening sides)) (forest (children ps)) (closing_items sides)))
     (sym (heading_parts s signs owns h))
-    (texts_hold (plain (kind.Heading sides.level)) (page_chars (opening sides)) (parts_with s [] signs owns) (closing_items sides) (heading_texts s signs owns sides h a))
+    (given_hold (plain (kind.Heading sides.level)) (page_chars (opening sides)) (parts_with s [] signs owns) (closing_items sides) (heading_given s signs owns sides h a))
 
 pub heading_block : (calls : List OuterCall) (s : Setting) (signs : List ContentSign) (owns : List (List Item)) (sides : Sides) → IsCalledHeading s signs owns → AreSides sides
     → block_in calls (heading_round sides (items_with s [] signs owns))
-    ≡ block_of_texts calls (plain (kind.Heading sides.level)) (page_chars (opening sides)) (parts_with s [] signs owns) (closing_items sides)
+    ≡ block_of_pieces calls (plain (kind.Heading sides.level)) (page_chars (opening sides)) (parts_with s [] signs owns) (closing_items sides)
 heading_block calls s signs owns sides h a =
     ap (λ (ps : List Part). block_in calls (inner (plain (kind.Heading sides.level)) (page_chars (opening sides)) (forest (children ps)) (closing_items sides)))
     (heading_parts s signs owns h)
-    ∙ block_is calls (plain (kind.Heading sides.level)) (page_chars (opening sides)) (parts_with s [] signs owns) (closing_items sides) (heading_texts s signs owns sides h a)
+    ∙ given_block_is calls (plain (kind.Heading sides.level)) (page_chars (opening sides)) (parts_with s [] signs owns) (closing_items sides) (heading_given s signs owns sides h a)
