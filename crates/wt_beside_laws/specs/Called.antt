@@ -13,8 +13,8 @@ use Rattle.wt_guards.specs.Guards.{Setting, is_guarded, is_mark, is_new_at_start
 use Rattle.wt_guards.specs.Letters.{is_escaped}
 use Rattle.wt_expand.specs.PageCalls.{numbered, page_stretches, expanded_page}
 use Rattle.wt_expand.specs.Work.{Pages}
-use Rattle.wt_inline.specs.declared.loose.Loose.TheVariants.{Text}
-use Rattle.wt_inline.specs.Parts.{Part, parts}
+use Rattle.wt_inline.specs.declared.loose.Loose.TheVariants.{Text, Sep}
+use Rattle.wt_inline.specs.Parts.{Part, loose, node, parts}
 use Rattle.wt_context.specs.Line.{line_parts}
 use Rattle.wt_lines.specs.Lines.{IsUnbroken}
 use Rattle.wt_tiles.specs.declared.glyph.Glyph.{Glyph}
@@ -22,7 +22,7 @@ use Rattle.wt_tiles.specs.declared.glyph.GlyphClass.TheVariants as class
 use Rattle.wt_tiles.specs.Glyphs.{glyph_of, in_class}
 use Rattle.wt_tiles.specs.Urls.{scheme_len, is_url_glyph}
 use Rattle.wt_part_laws.specs.CallPieces.{AreOwnOrGiven}
-use Rattle.wt_part_laws.specs.CallTexts.{AreOwnOrTexts}
+use Rattle.wt_part_laws.specs.Rounded.{IsOwn}
 use Rattle.wt_beside_laws.specs.Content.{guard_items, letter_items}
 use Rattle.wt_beside_laws.specs.Cuts.{own_glyphs, ends_word}
 use Rattle.wt_beside_laws.specs.Flat.{IsFlat, AreFlat}
@@ -238,6 +238,13 @@ called_shown (thing t ∷ after) (own ∷ owns) rest = parts_shown_at 0 [] (line
 abbrev pub GivesGroup : Pages → Transclusion → List ℕ → Type 0
 GivesGroup pages g source = (i : ℕ) → IsGroup g i (numbered i (page_stretches pages source))
 
+-- characters and nodes of the page, of which none is empty
+abbrev pub ArePageParts : List Part → Type 0
+ArePageParts [] = Unit {0}
+ArePageParts (loose Text o b ∷ ps) = (o ≡ None) × ArePageParts ps
+ArePageParts (loose Sep o b ∷ ps) = ⊥
+ArePageParts (node t ∷ ps) = IsOwn t × ArePageParts ps
+
 -- It calls nothing, and is a node of the page, on one line, in which no node is empty.
 pub record StaysAsItIs (pages : Pages) (t : Thing) : Type 0 where
   pub items : (i : ℕ) → numbered i (page_stretches pages t.source) ≡ node_items t.source
@@ -245,7 +252,7 @@ pub record StaysAsItIs (pages : Pages) (t : Thing) : Type 0 where
   pub node : IsNode t.role (own_glyphs t)
   pub inside : is_mark t.role ≡ true → is_new_at_start t.role ≡ true
   pub unbroken : IsUnbroken (node_items t.source)
-  pub own : AreOwnOrTexts (line_parts (node_items t.source))
+  pub own : ArePageParts (line_parts (node_items t.source))
 
 abbrev pub IsOfFolder : Role → Pages → Thing → Type 0
 IsOfFolder Link pages t = StaysAsItIs pages t

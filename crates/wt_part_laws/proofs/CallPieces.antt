@@ -73,7 +73,7 @@ abbrev pub ArePieces : List CallPiece → Type 0
 ArePieces [] = Unit {0}
 ArePieces (p ∷ ps) = IsPiece p × IsApart (piece_call p) ps × ArePieces ps
 
-apart_none : (ps : List CallPiece) → IsApart None ps
+pub apart_none : (ps : List CallPiece) → IsApart None ps
 apart_none [] = tt
 apart_none (own t ∷ ps) = refl
 apart_none (given j t ts ∷ ps) = refl

@@ -10,7 +10,7 @@ use Rattle.wt_guards.specs.Content.{ContentSign, letter, thing}
 use Rattle.wt_guards.specs.Guards.{Setting, is_guarded}
 use Rattle.wt_guards.specs.Letters.{is_escaped}
 use Rattle.wt_lines.specs.Lines.{lines}
-use Rattle.wt_inline.specs.declared.loose.Loose.TheVariants.{Text}
+use Rattle.wt_inline.specs.declared.loose.Loose.TheVariants.{Text, Sep}
 use Rattle.wt_inline.specs.ItemTree.{plain, forest, tree_items, held_by_all}
 use Rattle.wt_inline.specs.Parts.{Part, loose, node, held_parts, parts, children}
 use Rattle.wt_inline.proofs.HeldLaws.{held_children}
@@ -25,17 +25,29 @@ use Rattle.wt_part_laws.proofs.HeldBlocks.{given_hold, given_block_is}
 use Rattle.wt_text_edit_laws.specs.LonePages.{page_chars}
 use Rattle.wt_text_edit_laws.specs.ParagraphParts.{joined_parts, para_with}
 use Rattle.wt_text_edit_laws.proofs.Texts.TypedShown.{AllOfPage, both_of_page}
-use Rattle.wt_beside_laws.specs.Called.{items_with, parts_with, AreOwnInside, BeginsWithText, EndsWithText, AreGiven, IsCalledContent}
+use Rattle.wt_beside_laws.specs.Called.{items_with, parts_with, ArePageParts, AreOwnInside, BeginsWithText, EndsWithText, AreGiven, IsCalledContent}
 use Rattle.wt_beside_laws.specs.Content.{guard_items, letter_items}
 use Rattle.wt_beside_laws.proofs.Made.Items.{PartsHave, guard_has, letter_has}
 use Rattle.wt_beside_laws.proofs.Groups.CalledParagraphs.{called_parts}
 
 -- ---- its parts
 
-own_items : (xs : List Item) → PartsHave (parts Text xs) → AreOwnOrGiven (parts Text xs)
-own_items [] h = tt
-own_items (char o b ∷ xs) h = own_items xs h.1
-own_items (whole f o bs ∷ xs) h = (inl (record { of_page = h.0.1; has_items = h.0.0 }), own_items xs h.1)
+page_parts : (xs : List Item) → PartsHave (parts Text xs) → ArePageParts (parts Text xs)
+page_parts [] h = tt
+page_parts (char o b ∷ xs) h = (h.0, page_parts xs h.1)
+page_parts (whole f o bs ∷ xs) h = (record { of_page = h.0.1; has_items = h.0.0 }, page_parts xs h.1)
+
+pub guard_parts : (u : Bool) → ArePageParts (parts Text (guard_items u))
+guard_parts u = page_parts (guard_items u) (guard_has u)
+
+pub letter_parts : (e : Bool) (c : ℕ) → ArePageParts (parts Text (letter_items e c))
+letter_parts e c = page_parts (letter_items e c) (letter_has e c)
+
+pub page_given : (ps : List Part) → ArePageParts ps → AreOwnOrGiven ps
+page_given [] h = tt
+page_given (loose Text o b ∷ ps) h = page_given ps h.1
+page_given (loose Sep o b ∷ ps) h = absurd h
+page_given (node t ∷ ps) h = (inl h.0, page_given ps h.1)
 
 pub given_both : (ps qs : List Part) → AreOwnOrGiven ps → AreOwnOrGiven qs → AreOwnOrGiven (ps ++ qs)
 given_both [] qs h k = k
@@ -43,10 +55,10 @@ given_both (loose k o b ∷ ps) qs h g = given_both ps qs h g
 given_both (node t ∷ ps) qs h k = (h.0, given_both ps qs h.1 k)
 
 guard_own : (u : Bool) → AreOwnOrGiven (parts Text (guard_items u))
-guard_own u = own_items (guard_items u) (guard_has u)
+guard_own u = page_given (parts Text (guard_items u)) (guard_parts u)
 
 letter_own : (e : Bool) (c : ℕ) → AreOwnOrGiven (parts Text (letter_items e c))
-letter_own e c = own_items (letter_items e c) (letter_has e c)
+letter_own e c = page_given (parts Text (letter_items e c)) (letter_parts e c)
 
 pub parts_own : (s : Setting) (before signs : List ContentSign) (owns : List (List Item)) → AreOwnInside owns → AreOwnOrGiven (parts_with s before signs owns)
 parts_own s before [] owns h = guard_own (is_guarded s before [])
@@ -64,7 +76,7 @@ parts_own s before (thing t ∷ after) (own ∷ owns) h =
 
 -- ---- its first and its last item
 
-held_both : (ps qs : List Part) → held_parts (ps ++ qs) ≡ held_parts ps ++ held_parts qs
+pub held_both : (ps qs : List Part) → held_parts (ps ++ qs) ≡ held_parts ps ++ held_parts qs
 held_both [] qs = refl
 held_both (loose k o b ∷ ps) qs = ap (λ xs. char o b ∷ xs) (held_both ps qs)
 held_both (node t ∷ ps) qs = ap (λ xs. tree_items t ++ xs) (held_both ps qs) ∙ sym (append_to (tree_items t) (held_parts ps) (held_parts qs))

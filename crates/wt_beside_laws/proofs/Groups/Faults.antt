@@ -121,7 +121,7 @@ alone_means j own h =
 
 -- ---- its nodes
 
-node_first : (t : ItemTree) (qs : List Part) → children (node t ∷ qs) ≡ t ∷ children qs
+pub node_first : (t : ItemTree) (qs : List Part) → children (node t ∷ qs) ≡ t ∷ children qs
 unfolding children
 node_first t [] = ap (map child) (runs_cut one_leaf (node t ∷ []) [] tt)
 node_first t (loose k o b ∷ qs) = ap (map child) (runs_cut one_leaf (node t ∷ []) (loose k o b ∷ qs) refl)

@@ -1,10 +1,10 @@
 -- Texts beside calls in a folder: what these give there.
-use Rattle.std.proofs.Common.{◌≡◌, ◌⊎◌, inl, inr, ℕ, ◌+◌, List, [], ◌∷◌, length, refl, sym, ap, subst}
+use Rattle.std.proofs.Common.{◌≡◌, ◌⊎◌, inl, inr, ℕ, ◌+◌, false, List, [], ◌∷◌, length, refl, sym, subst}
 use Rattle.wt_span.specs.Items.{Item}
 use Rattle.wt_guards.specs.declared.role.Role.{Role}
 use Rattle.wt_guards.specs.declared.role.Role.TheVariants.{Link, External, Bare, Switch, Toggle, Mark, Group, Function, Node}
 use Rattle.wt_guards.specs.declared.role.Transclusion.{Transclusion}
-use Rattle.wt_guards.specs.Content.{ContentSign, Thing, letter, thing}
+use Rattle.wt_guards.specs.Content.{ContentSign, Thing, letter, thing, is_group}
 use Rattle.wt_guards.specs.Guards.{Setting}
 use Rattle.wt_expand.specs.PageCalls.{numbered, page_stretches, expanded_page}
 use Rattle.wt_expand.specs.Work.{Pages}
@@ -12,11 +12,12 @@ use Rattle.wt_inline.specs.declared.loose.Loose.TheVariants.{Text, Sep}
 use Rattle.wt_inline.specs.Parts.{Part, loose, node}
 use Rattle.wt_context.specs.Line.{line_parts}
 use Rattle.wt_part_laws.specs.CallPieces.{AreOwnOrGiven}
-use Rattle.wt_part_laws.specs.CallTexts.{AreOwnOrTexts}
 use Rattle.wt_beside_laws.specs.Called.{owns_in, IsOwnNode, IsGivenAs, AreGiven, AreOwnInside, IsCalledContent, GivesGroup, StaysAsItIs, IsOfFolder, AreOfFolder, IsCalledIn, AllEndSeen, IsCalledHeading, AllSeenIn, IsCalledInHeading}
 use Rattle.wt_beside_laws.specs.Flat.{IsFlat, AreFlat}
 use Rattle.wt_beside_laws.specs.Given.{AreGivenBy, GivesSigns, IsGroup}
+use Rattle.wt_beside_laws.specs.NodeItems.{node_items}
 use Rattle.wt_beside_laws.specs.Stood.{things}
+use Rattle.wt_beside_laws.proofs.Groups.CalledBlocks.{page_given}
 
 -- ---- a node
 
@@ -38,30 +39,25 @@ given_as Function pages i t h = stays_given pages i t h
 given_as Node pages i t h = stays_given pages i t h
 
 -- it stays as it is, or is a group
-pub folder_case : (r : Role) (pages : Pages) (t : Thing) → IsOfFolder r pages t → StaysAsItIs pages t ⊎ ((g : Transclusion) × (r ≡ Group g) × GivesGroup pages g t.source)
-folder_case Link pages t h = inl h
-folder_case External pages t h = inl h
-folder_case (Bare ends) pages t h = inl h
-folder_case Switch pages t h = inl h
-folder_case Toggle pages t h = inl h
-folder_case (Mark ends began) pages t h = inl h
+pub folder_case : (r : Role) (pages : Pages) (t : Thing) → IsOfFolder r pages t
+    → (StaysAsItIs pages t × (is_group r ≡ false)) ⊎ ((g : Transclusion) × (r ≡ Group g) × GivesGroup pages g t.source)
+folder_case Link pages t h = inl (h, refl)
+folder_case External pages t h = inl (h, refl)
+folder_case (Bare ends) pages t h = inl (h, refl)
+folder_case Switch pages t h = inl (h, refl)
+folder_case Toggle pages t h = inl (h, refl)
+folder_case (Mark ends began) pages t h = inl (h, refl)
 folder_case (Group g) pages t h = inr (g, refl, h)
-folder_case Function pages t h = inl h
-folder_case Node pages t h = inl h
+folder_case Function pages t h = inl (h, refl)
+folder_case Node pages t h = inl (h, refl)
 
 flat_in : (pages : Pages) (t : Thing) → IsOfFolder t.role pages t → IsFlat t.role
 flat_in pages t h = elim (folder_case t.role pages t h) [
-  | inl k ↦ k.flat
+  | inl k ↦ let stays : StaysAsItIs pages t = k.0 in stays.flat
   | inr k ↦ subst IsFlat (sym k.1) tt
 ]
 
 -- what it is on a line by itself
-texts_given : (ps : List Part) → AreOwnOrTexts ps → AreOwnOrGiven ps
-texts_given [] h = tt
-texts_given (loose Text o b ∷ ps) h = texts_given ps h
-texts_given (loose Sep o b ∷ ps) h = absurd h
-texts_given (node t ∷ ps) h = (inl h.0, texts_given ps h.1)
-
 pub given_by : (j : ℕ) (ps : List Part) → AreGivenBy j ps → AreOwnOrGiven ps
 given_by j [] h = tt
 given_by j (loose Text o b ∷ ps) h = given_by j ps h.1
@@ -70,7 +66,9 @@ given_by j (node t ∷ ps) h = (inr (j, h.0), given_by j ps h.1)
 
 inside_in : (pages : Pages) (i : ℕ) (t : Thing) → IsOfFolder t.role pages t → AreOwnOrGiven (line_parts (own_of pages i t))
 inside_in pages i t h = elim (folder_case t.role pages t h) [
-  | inl k ↦ subst (λ (xs : List Item). AreOwnOrGiven (line_parts xs)) (sym (k.items i)) (texts_given _ k.own)
+  | inl k ↦
+      let stays : StaysAsItIs pages t = k.0 in
+      subst (λ (xs : List Item). AreOwnOrGiven (line_parts xs)) (sym (stays.items i)) (page_given (line_parts (node_items t.source)) stays.own)
   | inr k ↦
       let group : IsGroup k.0 i (own_of pages i t) = k.2 i in
       let gives : GivesSigns i (own_of pages i t) = group.gives in
@@ -89,7 +87,7 @@ all_flat pages [] h = tt
 all_flat pages (letter c ∷ after) h = all_flat pages after h
 all_flat pages (thing t ∷ after) h = (flat_in pages t h.0, all_flat pages after h.1)
 
-all_inside : (pages : Pages) (i : ℕ) (signs : List ContentSign) → AreOfFolder pages signs → AreOwnInside (owns_in pages i signs)
+pub all_inside : (pages : Pages) (i : ℕ) (signs : List ContentSign) → AreOfFolder pages signs → AreOwnInside (owns_in pages i signs)
 all_inside pages i [] h = tt
 all_inside pages i (letter c ∷ after) h = all_inside pages i after h
 all_inside pages i (thing t ∷ after) h = (inside_in pages i t h.0, all_inside pages (i + length (expanded_page pages t.source).outer) after h.1)

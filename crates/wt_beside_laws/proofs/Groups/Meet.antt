@@ -164,13 +164,73 @@ apart_meet t n left right (inr g) k e z = behind_group t n left right g e z
 apart_meet t n left right (inl h) (inr g) e z = before_group t n left right h.0 g e z
 apart_meet t n left right (inl h) (inl k) e z = both_nodes t n left right h.0 h.1 k.0 k.1 e z
 
-beside_meet : (t n : Thing) (left right : List Glyph) → IsNodeOrGroup t left → IsNodeOrGroup n right → (is_adjacent t n ≡ true → MayMeet t left n right)
-    → is_parted t n ≡ false → MayMeet t left n right
-beside_meet t n left right h k page z = by (is_adjacent t n) refl
+-- two that are always parted are so where they are side by side, too
+always_by : (r q : Role) (brace : Bool) → is_always_parted r q ≡ true
+    → (if is_function q && brace then true else if is_mark r && is_mark q then not (ends_line r) && not true
+    else hazard (left_side r) (side_of q) && (is_always_parted r q || not true)) ≡ true
+unfolding hazard
+always_by Link q brace e = cc
+always_by External Link brace e = cc
+always_by External External brace e = cc
+always_by External (Bare ends) brace e = cc
+always_by External Switch brace e = cc
+always_by External Toggle brace e = cc
+always_by External (Mark ends began) brace e = cc
+always_by External (Group h) brace e = refl
+always_by External Function brace e = cc
+always_by External Node brace e = cc
+always_by (Bare ends) Link brace e = cc
+always_by (Bare ends) External brace e = cc
+always_by (Bare ends) (Bare more) brace e = cc
+always_by (Bare ends) Switch brace e = cc
+always_by (Bare ends) Toggle brace e = cc
+always_by (Bare ends) (Mark more began) brace e = cc
+always_by (Bare ends) (Group h) brace e = refl
+always_by (Bare ends) Function brace e = cc
+always_by (Bare ends) Node brace e = cc
+always_by Switch q brace e = cc
+always_by Toggle Link brace e = cc
+always_by Toggle External brace e = cc
+always_by Toggle (Bare ends) brace e = cc
+always_by Toggle Switch brace e = cc
+always_by Toggle Toggle brace e = refl
+always_by Toggle (Mark ends began) brace e = cc
+always_by Toggle (Group h) brace e = ap (λ (v : Bool). v || false) e
+always_by Toggle Function brace e = cc
+always_by Toggle Node brace e = cc
+always_by (Mark ends began) q brace e = cc
+always_by (Group g) Link brace e = cc
+always_by (Group g) External brace e = refl
+always_by (Group g) (Bare ends) brace e = refl
+always_by (Group g) Switch brace e = cc
+always_by (Group g) Toggle brace e = ap (λ (v : Bool). v || false) e
+always_by (Group g) (Mark ends began) brace e = cc
+always_by (Group g) (Group h) brace e = ap (λ (v : Bool). v || false) e
+always_by (Group g) Function brace e = cc
+always_by (Group g) Node brace e = cc
+always_by Function q brace e = cc
+always_by Node q brace e = cc
+
+always_parted : (t n : Thing) → is_adjacent t n ≡ true → is_always_parted t.role n.role ≡ true → is_parted t n ≡ true
+unfolding is_parted
+always_parted t n e h =
+    subst
+    (λ (v : Bool). (if is_function n.role && has_brace_last t.source then true else if is_mark t.role && is_mark n.role then not (ends_line t.role) && not v
+    else hazard (left_side t.role) (side_of n.role) && (is_always_parted t.role n.role || not v)) ≡ true)
+    (sym e) (always_by t.role n.role (has_brace_last t.source) h)
+
+-- as the page has them side by side, if they aren't always parted
+abbrev pub MeetThereAs : Thing → List Glyph → Thing → List Glyph → Type 0
+MeetThereAs t left n right = is_adjacent t n ≡ true → is_always_parted t.role n.role ≡ false → MayMeet t left n right
+
+beside_meet : (t n : Thing) (left right : List Glyph) → IsNodeOrGroup t left → IsNodeOrGroup n right → MeetThereAs t left n right → is_parted t n ≡ false
+    → MayMeet t left n right
+beside_meet t n left right h k page z = by (is_adjacent t n) (is_always_parted t.role n.role) refl refl
   where
-    by : (v : Bool) → is_adjacent t n ≡ v → MayMeet t left n right
-    by true e = page e
-    by false e = apart_meet t n left right h k e z
+    by : (v w : Bool) → is_adjacent t n ≡ v → is_always_parted t.role n.role ≡ w → MayMeet t left n right
+    by true false e f = page e f
+    by true true e f = let no : true ≡ false = sym (always_parted t n e f) ∙ z in absurd (cc)
+    by false w e f = apart_meet t n left right h k e z
 
 -- ---- all of a content
 
@@ -185,7 +245,7 @@ abbrev pub NextMeets : Thing → List Glyph → List ContentSign → List (List 
 NextMeets t left [] owns = Unit {0}
 NextMeets t left (letter c ∷ after) owns = NextMeets t left after owns
 NextMeets t left (thing n ∷ after) [] = Unit {0}
-NextMeets t left (thing n ∷ after) (own ∷ owns) = is_adjacent t n ≡ true → MayMeet t left n (map glyph_of own)
+NextMeets t left (thing n ∷ after) (own ∷ owns) = MeetThereAs t left n (map glyph_of own)
 
 abbrev pub EachNextMeets : List ContentSign → List (List Item) → Type 0
 EachNextMeets [] owns = Unit {0}
