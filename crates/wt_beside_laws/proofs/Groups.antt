@@ -6,7 +6,6 @@ pub mod GivenParts
 pub mod GivenMeets
 pub mod GivenNodes
 pub mod GivenStyle
-mod GivenCases
 mod StyleCases
 pub mod Gifts
 pub mod CalledTiles
@@ -19,4 +18,5 @@ pub mod CalledShown
 pub mod Folders
 pub mod Faults
 pub mod Cases
+pub mod GivenCases
 pub mod Meet

@@ -3,6 +3,5 @@ pub mod Counts
 pub mod Found
 pub mod Sent
 pub mod Making
-pub mod Given
 pub mod Cases
-mod PageCases
+pub mod PageCases

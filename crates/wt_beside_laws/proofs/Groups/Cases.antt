@@ -64,10 +64,10 @@ beside_letters = record {
 }
 
 -- one word of a call
-pub a_word_group : (j : ℕ) → IsGroup beside_letters j (char (Some j) 98 ∷ [])
+pub a_word_group : (g : Transclusion) (j : ℕ) → IsGroup g j (char (Some j) 98 ∷ [])
 unfolding context_parts chunks segments loose_segments tiles shapes closes tile_at link_or_url link_at ext_link_at bare_url_at scheme_len tag_tile tag_at
-    switch_at children with_styles style_tree_of toggles_of toggle_at opens_tag closes_tag empty_nowiki label_at
-a_word_group j = record {
+    switch_at children with_styles style_tree_of toggles_of toggle_at opens_tag closes_tag empty_nowiki label_at line_start_hazard
+a_word_group g j = record {
   gives = record {
     signs = character 98 ∷ [];
     is = refl;
@@ -81,12 +81,12 @@ a_word_group j = record {
     even = refl;
     closed = refl;
   };
-  urls = λ e. cc;
-  opens = λ e. cc;
+  urls = λ e. absurd (cc);
+  opens = λ e. refl;
 }
 
 -- which it gives, however many calls come before it
-gives_char : (i : ℕ) → numbered i (page_stretches a_word (codes "{{t}}")) ≡ char (Some i) 98 ∷ []
+pub gives_char : (i : ℕ) → numbered i (page_stretches a_word (codes "{{t}}")) ≡ char (Some i) 98 ∷ []
 unfolding words closed form_at comment_len comment_line_len raw_len opening_tag tag_after closing_tag with_inside is_extension
     include_at entity_at named_entity decimal_entity hex_entity entity_names sign_word reduced rewritten parts_of text_members trimmed
     trimmed_items name_text called most_templates is_function title_of_target title_in_target read_text is_allowed is_forbidden
@@ -95,8 +95,11 @@ unfolding words closed form_at comment_len comment_line_len raw_len opening_tag 
     utf8_valid_len is_utf8 chars encode link_to page_stretches expanded_page
 gives_char i = refl
 
+pub gives_word : (g : Transclusion) → GivesGroup a_word g (codes "{{t}}")
+gives_word g = λ i. subst (IsGroup g i) (sym (gives_char i)) (a_word_group g i)
+
 pub gives_b : GivesGroup a_word beside_letters (codes "{{t}}")
-gives_b = λ i. subst (IsGroup beside_letters i) (sym (gives_char i)) (a_word_group i)
+gives_b = gives_word beside_letters
 
 abbrev pub call : Thing
 call = record { role = Group beside_letters; source = codes "{{t}}"; place = Some (record { start = 1; end = 6 }) }

@@ -11,6 +11,7 @@ use Rattle.wt_names.specs.Namespace.{name_of, image, is_called, namespace_named,
 use Rattle.wt_names.specs.Reading.{whole_in, cut_namespace, title_in}
 use Rattle.wt_names.specs.Written.{link_to}
 use Rattle.wt_guards.specs.declared.role.Role.TheVariants.{Link, Bare, Mark, Node}
+use Rattle.wt_guards.specs.declared.role.Transclusion.{Transclusion}
 use Rattle.wt_guards.specs.Table.{line_start_hazard}
 use Rattle.wt_inline.specs.Parts.{children}
 use Rattle.wt_tiles.specs.declared.shape.Shape.{Shape}
@@ -52,13 +53,13 @@ a_link = record {
 }
 
 -- by itself
-pub one_link : (j : ℕ) → IsGroup beside_letters j (of_call j (codes "[[b]]"))
+pub one_link : (g : Transclusion) (j : ℕ) → IsGroup g j (of_call j (codes "[[b]]"))
 unfolding context_parts chunks segments loose_segments tiles shapes closed form_at link_or_url link_at ext_link_at bare_url_at scheme_len tag_tile tag_at
     switch_at children with_styles style_tree_of toggles_of toggle_at opening_tag closing_tag empty_nowiki label_at
     link_in target_of read_text is_allowed is_forbidden is_good has_signature is_step begins_with_step holds_step ends_with_step
     name_of image is_called namespace_named prefix_of full_name_of whole_in cut_namespace title_in utf8_valid_len is_utf8 chars encode link_to
     line_start_hazard
-one_link j = record {
+one_link g j = record {
   gives = record {
     signs = form Link (of_call j (codes "[[b]]")) ∷ [];
     is = refl;
@@ -79,21 +80,21 @@ one_link j = record {
     even = refl;
     closed = refl;
   };
-  urls = λ e. cc;
-  opens = λ e. cc;
+  urls = λ e. absurd (cc);
+  opens = λ e. refl;
 }
 
 -- `&nbsp;`
 abbrev space_item : ℕ → Item
 space_item j = whole (form_of.Entity 160) (Some j) (codes "&nbsp;")
 
-pub one_reference : (j : ℕ) → IsGroup beside_letters j (space_item j ∷ [])
+pub one_reference : (g : Transclusion) (j : ℕ) → IsGroup g j (space_item j ∷ [])
 unfolding context_parts chunks segments loose_segments tiles shapes closed form_at link_or_url link_at ext_link_at bare_url_at scheme_len tag_tile tag_at
     switch_at children with_styles style_tree_of toggles_of toggle_at opening_tag closing_tag empty_nowiki label_at
     link_in target_of read_text is_allowed is_forbidden is_good has_signature is_step begins_with_step holds_step ends_with_step
     name_of image is_called namespace_named prefix_of full_name_of whole_in cut_namespace title_in utf8_valid_len is_utf8 chars encode link_to
     line_start_hazard
-one_reference j = record {
+one_reference g j = record {
   gives = record {
     signs = form Node (space_item j ∷ []) ∷ [];
     is = refl;
@@ -107,11 +108,11 @@ one_reference j = record {
     even = refl;
     closed = refl;
   };
-  urls = λ e. cc;
-  opens = λ e. cc;
+  urls = λ e. absurd (cc);
+  opens = λ e. refl;
 }
 
--- nothing: a mark
+-- nothing: a mark, which doesn't begin a line
 abbrev pub nothing_item : ℕ → List ℕ → Item
 nothing_item j source = whole form_of.EmptyCall (Some j) source
 

@@ -60,7 +60,7 @@ use Rattle.wt_called_edit_laws.proofs.Written.NewContents.{calls_of}
 -- ---- the node of a piece
 
 -- a group, whatever it shows
-a_group : Transclusion
+pub a_group : Transclusion
 a_group = record {
   slashes = false;
   is_invisible = false;
