@@ -86,7 +86,6 @@ pub fn texts_beside_calls_are_shown()
 
 /// The group of what a call gives has no fault (`is_faulty`): read alone, behind a `<nowiki/>`, it shows the same, its line has even toggles, and no
 /// text in it could go on after it. So `edit` doesn't refuse to read a paragraph by itself that holds it.
-#[tactic(auto, using(crate::proofs::Groups::Faults::no_fault))]
 pub fn groups_of_what_calls_give_have_no_fault()
     ensures { (calls : List OuterCall) (j : ℕ) (own : List Item) → GivesSigns j own
         → is_faulty (empty_nowiki ∷ with_break_anew calls own) (all_unplaced (forest (children (line_parts own)))) ≡ false }
@@ -94,7 +93,6 @@ pub fn groups_of_what_calls_give_have_no_fault()
 
 /// In a folder where each call gives what may be in a group (`IsCalledIn`), and however many calls come before it in the page, the content is one,
 /// by what its calls give (`owns_in`).
-#[tactic(auto, using(crate::proofs::Groups::Folders::called_in))]
 pub fn texts_beside_calls_are_such_in_a_folder()
     ensures { (pages : Pages) (i : ℕ) (s : Setting) (signs : List ContentSign) → IsCalledIn pages s signs → IsCalledContent s signs (owns_in pages i signs) }
 {}
