@@ -5,3 +5,7 @@ pub mod Sent
 pub mod Making
 pub mod Cases
 pub mod PageCases
+pub mod EndCases
+mod FirstCases
+mod LastCases
+mod BothCases

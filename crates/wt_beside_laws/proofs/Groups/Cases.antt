@@ -117,8 +117,7 @@ in_class = record {
   characters = (refl, (refl, tt));
   given = (gives_b, tt);
   meet = λ i. ((λ e. tt), tt);
-  begins = tt;
-  ends = tt;
+  some = tt;
 }
 
 -- `x<nowiki/>b<nowiki/>y`, of which `b` comes from the call

@@ -100,8 +100,7 @@ called_in pages i s signs h = record {
   flat = all_flat pages signs h.given;
   own = all_inside pages i signs h.given;
   meet = h.meet i;
-  begins = h.begins;
-  ends = h.ends;
+  some = h.some;
 }
 
 -- ---- in a heading

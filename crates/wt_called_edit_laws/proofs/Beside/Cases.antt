@@ -29,7 +29,8 @@ use Rattle.wt_expand.specs.Templates.{begins_only, ends_only, template_text}
 use Rattle.wt_expand.specs.Expansion.{text_members, most_templates, absent_text, loop_text, depth_text}
 use Rattle.wt_annotated.specs.CutTexts.{cut_texts}
 use Rattle.wt_lines.specs.Lines.{lines}
-use Rattle.wt_inline.specs.Parts.{children}
+use Rattle.wt_inline.specs.declared.loose.Loose.TheVariants.{Text}
+use Rattle.wt_inline.specs.Parts.{loose_leaf, children}
 use Rattle.wt_tiles.specs.Tags.{tag_at, opening_tag as opens_tag, closing_tag as closes_tag}
 use Rattle.wt_tiles.specs.Tiles.{form_at as tile_at, link_or_url, tag_tile, switch_at, shapes, closed as closes, tiles}
 use Rattle.wt_tiles.specs.Links.{link_at}
@@ -55,17 +56,20 @@ use Rattle.wt_text_edit_laws.specs.NoCalls.{AreUnbraced}
 use Rattle.wt_text_edit_laws.specs.ParagraphParts.{joined_parts, para_with}
 use Rattle.wt_text_edit_laws.specs.TextBlocks.{a_paragraph}
 use Rattle.wt_beside_laws.specs.ContentEdits.{new_content}
+use Rattle.wt_beside_laws.specs.Given.{GivesSigns, IsGroup}
 use Rattle.wt_beside_laws.specs.OwnSigns.{HaveOwn}
 use Rattle.wt_beside_laws.specs.Shown.{parts_shown_at}
-use Rattle.wt_beside_laws.proofs.Groups.Cases.{a_word, call, gives_char, gives_b}
+use Rattle.wt_beside_laws.proofs.Groups.Cases.{a_word, call, gives_char, gives_b, beside_letters, a_word_group}
 use Rattle.wt_called_edit_laws.specs.CalledEdits.{page_things, ShowsAsGiven, AreChildrenBeside, IsBesideCalls, IsCalledEditOf, MakesContentIn}
 use Rattle.wt_called_edit_laws.specs.InPieces.{AreInPieces}
 use Rattle.wt_called_edit_laws.specs.PageThings.{ArePageThings, thing_sources}
 use Rattle.wt_called_edit_laws.specs.SentAsIs.{as_sent}
 use Rattle.wt_called_edit_laws.specs.Settled.{settled}
+use Rattle.wt_called_edit_laws.specs.WholeContents.{of_call}
 use Rattle.wt_called_edit_laws.specs.WrittenAnew.{StayButForOthers}
 use Rattle.wt_called_edit_laws.proofs.Beside.Making.{calls_make}
 use Rattle.wt_called_edit_laws.proofs.Cells.SentAsIs.{stands_as_sent}
+use Rattle.wt_called_edit_laws.proofs.Whole.OfCall.{is_same, of_here}
 use Rattle.wt_called_edit_laws.proofs.Written.Cases.{call_part, call_read, call_sealed, call_shut, call_utf8}
 use Rattle.wt_called_edit_laws.proofs.Written.Joined.{calm_written}
 
@@ -116,6 +120,19 @@ things_are = refl
 
 pub things_there : page_things (block_by (part_items a_word 0 source)) ≡ call ∷ []
 things_there = ap (λ (xs : List Item). page_things (block_by xs)) (items_are 0) ∙ things_are
+
+-- that word is a group by itself, wherever it is among others
+pub word_group : (i : ℕ) (xs : List Item) → of_call i xs ≡ char (Some i) 98 ∷ []
+    → GivesSigns i (of_call i xs) × (loose_leaf Text (char (Some i) 98 ∷ []) ∷ [] ≡ children (line_parts (of_call i xs)))
+unfolding context_parts chunks segments loose_segments tiles shapes closes tile_at link_or_url link_at ext_link_at bare_url_at scheme_len tag_tile tag_at switch_at
+    with_styles style_tree_of toggles_of toggle_at opens_tag closes_tag children
+word_group i xs e =
+    let w : IsGroup beside_letters i (char (Some i) 98 ∷ []) = a_word_group beside_letters i in
+    (subst (GivesSigns i) (sym e) w.gives, ap (λ (ys : List Item). children (line_parts ys)) (sym e))
+
+-- behind items of the page, and before such ones
+pub given_word : (i : ℕ) → of_call i (given i) ≡ char (Some i) 98 ∷ []
+given_word i = of_here i (char (Some i) 98) (char None 121 ∷ []) (is_same (Some i) i refl)
 
 -- ---- it is in pieces
 
@@ -218,7 +235,7 @@ edit_of = record {
   are = (are_letters.0, (tt, (are_letters.1, tt)));
   plain = tt;
   calm = ((λ n. absurd n), ((λ n. absurd n), tt));
-  fits = (tt, refl);
+  fits = tt;
 }
 
 -- So it is taken, and makes the new block with its group.

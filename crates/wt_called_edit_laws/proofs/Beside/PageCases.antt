@@ -1,5 +1,5 @@
 -- Worked case: the page `x{{t}}y`, where `Template:T` is a word, is one of those of which texts beside calls may be edited, by computing the whole of it.
-use Rattle.std.proofs.Common.{arith, ◌≡◌, ◌<◌, inl, inr, ℕ, Some, None, List, [], ◌∷◌, refl, sym, ap, subst}
+use Rattle.std.proofs.Common.{arith, ◌≡◌, ◌<◌, ◌≤◌, inl, inr, ℕ, None, List, [], ◌∷◌, length, refl, sym, subst}
 use Rattle.std.specs.Str.{is_utf8, chars, IsUtf8}
 use Rattle.std.specs.Str.Lossy.{utf8_valid_len}
 use Rattle.std.proofs.lemmas.List.Elements.{All-nil, All-cons}
@@ -8,7 +8,7 @@ use lib.Utf8.{encode}
 use Rattle.wt_span.specs.Comments.{comment_len, comment_line_len}
 use Rattle.wt_span.specs.Entities.{entity_at, named_entity, decimal_entity, hex_entity, entity_names}
 use Rattle.wt_span.specs.Tags.{raw_len, opening_tag, tag_after, closing_tag, with_inside, is_extension, include_at}
-use Rattle.wt_span.specs.Items.{Item, char}
+use Rattle.wt_span.specs.Items.{Item}
 use Rattle.wt_span.specs.Lexemes.{sign_word, form_at, closed, words}
 use Rattle.wt_span.specs.Braces.{rewritten, reduced, parts_of, calls, nesting}
 use Rattle.wt_lines.specs.declared.kind.LineKind.TheVariants as line
@@ -19,8 +19,7 @@ use Rattle.wt_names.specs.Namespace.{name_of, image, is_called, namespace_named,
 use Rattle.wt_names.specs.Reading.{whole_in, cut_namespace, title_in}
 use Rattle.wt_names.specs.Written.{link_to}
 use Rattle.wt_utf8.specs.Places.{not_utf8_place}
-use Rattle.wt_inline.specs.declared.loose.Loose.TheVariants.{Text}
-use Rattle.wt_inline.specs.Parts.{loose_leaf, children}
+use Rattle.wt_inline.specs.Parts.{children}
 use Rattle.wt_tiles.specs.Links.{link_at}
 use Rattle.wt_tiles.specs.Urls.{scheme_len, ext_link_at, bare_url_at}
 use Rattle.wt_tiles.specs.Tags.{tag_at, opening_tag as opens_tag, closing_tag as closes_tag}
@@ -31,7 +30,7 @@ use Rattle.wt_context.specs.Segments.{loose_segments}
 use Rattle.wt_context.specs.Chunks.{chunks}
 use Rattle.wt_context.specs.Styled.{with_styles}
 use Rattle.wt_context.specs.Nodes.{segments}
-use Rattle.wt_context.specs.Line.{context_parts, line_parts, line_trees}
+use Rattle.wt_context.specs.Line.{context_parts, line_trees}
 use Rattle.wt_page.specs.Rows.{rows}
 use Rattle.wt_page.specs.Texts.{para}
 use Rattle.wt_page.specs.Body.{blocks, meaning}
@@ -56,20 +55,18 @@ use Rattle.wt_text_edit_laws.specs.Contents.{content_parts_of}
 use Rattle.wt_text_edit_laws.specs.Paragraphs.{IsTextLine}
 use Rattle.wt_text_edit_laws.specs.ReadContents.{IsReadContent}
 use Rattle.wt_text_edit_laws.specs.TextBlocks.{a_paragraph}
-use Rattle.wt_beside_laws.specs.Given.{GivesSigns, IsGroup}
-use Rattle.wt_beside_laws.proofs.Groups.Cases.{a_word, call, beside_letters, a_word_group}
+use Rattle.wt_beside_laws.proofs.Groups.Cases.{a_word, call}
 use Rattle.wt_called_edit_laws.specs.CalledContents.{AreTextItems}
 use Rattle.wt_called_edit_laws.specs.CallingBlocks.{spots_with_calls, items_past}
-use Rattle.wt_called_edit_laws.specs.Covered.{NoGroupAt}
+use Rattle.wt_called_edit_laws.specs.Covered.{NoGroupAt, HasFreeByte}
 use Rattle.wt_called_edit_laws.specs.EditableBlocks.{IsEditableWithCalls}
 use Rattle.wt_called_edit_laws.specs.Groups.{called_tree}
 use Rattle.wt_called_edit_laws.specs.InCells.{AreTextLines}
 use Rattle.wt_called_edit_laws.specs.ItemSpots.{ArePlaced}
 use Rattle.wt_called_edit_laws.specs.Parts.{calls_to, calls_past, AreCalled}
-use Rattle.wt_called_edit_laws.specs.PiecedParagraphs.{BeginsOwn, EndsOwn, IsInPieces}
-use Rattle.wt_called_edit_laws.specs.WholeContents.{of_call, AreGroups, AreShutParts}
-use Rattle.wt_called_edit_laws.proofs.Beside.Cases.{source, given, items_are, pieces, in_pieces, among, of_page}
-use Rattle.wt_called_edit_laws.proofs.Whole.OfCall.{is_same, of_here}
+use Rattle.wt_called_edit_laws.specs.PiecedParagraphs.{HasOwn, IsInPieces}
+use Rattle.wt_called_edit_laws.specs.WholeContents.{AreGroups, AreShutParts}
+use Rattle.wt_called_edit_laws.proofs.Beside.Cases.{source, given, items_are, word_group, given_word, pieces, in_pieces, among, of_page}
 use Rattle.wt_called_edit_laws.proofs.Whole.Pieced.{pieced_content, pieced_holds}
 
 -- ---- the paragraph
@@ -102,27 +99,12 @@ pub record AreGivenParts (xs : List Item) : Type 0 where
   pub texts : AreOwnOrGiven (content_parts_of a_paragraph xs)
   pub groups : AreGroups xs (call_pieces (children (content_parts_of a_paragraph xs)))
   pub shut : AreShutParts (content_parts_of a_paragraph xs)
-  pub begins : BeginsOwn (content_parts_of a_paragraph xs)
-  pub ends : EndsOwn (content_parts_of a_paragraph xs)
-
--- the word is what the call gives, by itself
-pub given_word : (i : ℕ) → of_call i (given i) ≡ char (Some i) 98 ∷ []
-given_word i = of_here i (char (Some i) 98) (char None 121 ∷ []) (is_same (Some i) i refl)
-
-pub word_children : (i : ℕ) → loose_leaf Text (char (Some i) 98 ∷ []) ∷ [] ≡ children (line_parts (of_call i (given i)))
-unfolding context_parts chunks segments loose_segments tiles shapes closes tile_at link_or_url link_at ext_link_at bare_url_at scheme_len tag_tile tag_at switch_at
-    with_styles style_tree_of toggles_of toggle_at opens_tag closes_tag children
-word_children i = ap (λ (xs : List Item). children (line_parts xs)) (sym (given_word i))
-
-pub gives_there : (i : ℕ) → GivesSigns i (of_call i (given i))
-gives_there i =
-    let w : IsGroup beside_letters i (char (Some i) 98 ∷ []) = a_word_group beside_letters i in
-    subst (GivesSigns i) (sym (given_word i)) w.gives
+  pub some : HasOwn (content_parts_of a_paragraph xs)
 
 given_parts : (i : ℕ) → AreGivenParts (given i)
 unfolding context_parts chunks segments loose_segments tiles shapes closes tile_at link_or_url link_at ext_link_at bare_url_at scheme_len tag_tile tag_at switch_at
     with_styles style_tree_of toggles_of toggle_at opens_tag closes_tag children
-given_parts i = record { texts = tt; groups = (gives_there i, word_children i, tt); shut = tt; begins = refl; ends = refl }
+given_parts i = record { texts = tt; groups = (let w = word_group i (given i) (given_word i) in (w.0, w.1, tt)); shut = tt; some = tt }
 
 pub parts_here : (i : ℕ) → AreGivenParts (part_items a_word i source)
 parts_here i = subst AreGivenParts (sym (items_are i)) (given_parts i)
@@ -140,8 +122,7 @@ here = record {
   texts = λ i. let p = parts_here i in p.texts;
   groups = λ i. let p = parts_here i in p.groups;
   shut = λ i. let p = parts_here i in p.shut;
-  begins = λ i. let p = parts_here i in p.begins;
-  ends = λ i. let p = parts_here i in p.ends;
+  some = λ i. let p = parts_here i in p.some;
 }
 
 -- ---- the page
@@ -209,11 +190,18 @@ unfolding words closed form_at comment_len comment_line_len raw_len opening_tag 
     with_styles style_tree_of toggles_of toggle_at opens_tag closes_tag
 no_group_here = ((tt, (inl behind_first, (tt, tt))), tt)
 
+-- so the first byte of the block is free
+free_here : HasFreeByte (called_tree a_word source) 0 (length source)
+free_here =
+    let low : 0 ≤ 0 = omega arith in
+    let high : 0 < 7 = omega arith in
+    (0, low, high, no_group_here)
+
 -- So texts may be typed beside its call.
 pub in_class : IsEditableWithCalls a_word blocks_here []
 in_class = record {
   blocks = record { called = called_here; contents = (pieced_content a_word source here, tt); placed = placed_here };
   contents = (inr (pieced_holds a_word source here), tt);
   unrefused = unrefused_here;
-  in_no_group = (no_group_here, tt);
+  free = (free_here, tt);
 }

@@ -1,5 +1,5 @@
 -- Worked case: the page `== x{{t}}y ==`, where `Template:T` is a word, is one of those of which texts beside calls may be edited, by computing the whole of it.
-use Rattle.std.proofs.Common.{arith, ◌≡◌, ◌<◌, inl, inr, ℕ, None, List, [], ◌∷◌, refl, sym, subst}
+use Rattle.std.proofs.Common.{arith, ◌≡◌, ◌<◌, ◌≤◌, inl, inr, ℕ, None, List, [], ◌∷◌, length, refl, sym, subst}
 use Rattle.std.specs.Prelude.{codes}
 use Rattle.std.specs.Str.{is_utf8, chars}
 use Rattle.std.specs.Str.Lossy.{utf8_valid_len}
@@ -57,15 +57,14 @@ use Rattle.wt_text_edit_laws.specs.TextBlocks.{a_heading}
 use Rattle.wt_beside_laws.proofs.Groups.Cases.{a_word}
 use Rattle.wt_called_edit_laws.specs.CalledContents.{AreHeadingItems}
 use Rattle.wt_called_edit_laws.specs.CallingBlocks.{spots_with_calls, items_past}
-use Rattle.wt_called_edit_laws.specs.Covered.{NoGroupAt}
+use Rattle.wt_called_edit_laws.specs.Covered.{NoGroupAt, HasFreeByte}
 use Rattle.wt_called_edit_laws.specs.EditableBlocks.{IsEditableWithCalls}
 use Rattle.wt_called_edit_laws.specs.Groups.{called_tree}
 use Rattle.wt_called_edit_laws.specs.ItemSpots.{ArePlaced}
 use Rattle.wt_called_edit_laws.specs.Parts.{calls_to, calls_past, AreCalled}
 use Rattle.wt_called_edit_laws.specs.PiecedParagraphs.{IsHeadingInPieces}
 use Rattle.wt_called_edit_laws.specs.WholeContents.{AreGroups, AreShutParts}
-use Rattle.wt_called_edit_laws.proofs.Beside.PageCases.{gives_there, word_children}
-use Rattle.wt_called_edit_laws.proofs.Beside.Cases.{source, given, items_are, pieces, in_pieces, among}
+use Rattle.wt_called_edit_laws.proofs.Beside.Cases.{source, given, items_are, word_group, given_word, pieces, in_pieces, among}
 use Rattle.wt_called_edit_laws.proofs.Headings.Cases.{two, own_call, seen, of_page, frame, read}
 use Rattle.wt_called_edit_laws.proofs.Headings.Pieced.{pieced_heading, pieced_heading_holds}
 
@@ -80,7 +79,7 @@ record AreGivenParts (xs : List Item) : Type 0 where
 given_parts : (i : ℕ) → AreGivenParts (given i)
 unfolding context_parts chunks segments loose_segments tiles shapes closes tile_at link_or_url link_at ext_link_at bare_url_at scheme_len tag_tile tag_at switch_at
     with_styles style_tree_of toggles_of toggle_at opens_tag closes_tag children
-given_parts i = record { texts = tt; groups = (gives_there i, word_children i, tt); shut = tt }
+given_parts i = record { texts = tt; groups = (let w = word_group i (given i) (given_word i) in (w.0, w.1, tt)); shut = tt }
 
 parts_here : (i : ℕ) → AreGivenParts (part_items a_word i source)
 parts_here i = subst AreGivenParts (sym (items_are i)) (given_parts i)
@@ -170,11 +169,18 @@ unfolding words closed form_at comment_len comment_line_len raw_len opening_tag 
     with_styles style_tree_of toggles_of toggle_at opens_tag closes_tag
 no_group_here = ((tt, (inl behind_first, (tt, tt))), tt)
 
+-- so the first byte of the block is free
+free_here : HasFreeByte (called_tree a_word page) 0 (length page)
+free_here =
+    let low : 0 ≤ 0 = omega arith in
+    let high : 0 < 13 = omega arith in
+    (0, low, high, no_group_here)
+
 -- So texts may be typed beside its call.
 pub in_class : IsEditableWithCalls a_word blocks_here []
 in_class = record {
   blocks = record { called = called_here; contents = (pieced_heading a_word two source here, tt); placed = placed_here };
   contents = (inr (pieced_heading_holds a_word two source here), tt);
   unrefused = unrefused_here;
-  in_no_group = (no_group_here, tt);
+  free = (free_here, tt);
 }

@@ -50,7 +50,7 @@ use Rattle.wt_called_edit_laws.specs.CalledContents.{AreTextItems}
 use Rattle.wt_called_edit_laws.specs.CalledEdits.{page_things, IsBesideCalls}
 use Rattle.wt_called_edit_laws.specs.PartTexts.{AreSourcesAt}
 use Rattle.wt_called_edit_laws.specs.PageThings.{AllMeetLater}
-use Rattle.wt_called_edit_laws.specs.PiecedParagraphs.{BeginsOwn, EndsOwn, IsGroupCall, all_pieces, IsTextAndCalls}
+use Rattle.wt_called_edit_laws.specs.PiecedParagraphs.{HasOwn, IsGroupCall, all_pieces, IsTextAndCalls}
 use Rattle.wt_called_edit_laws.specs.WholeContents.{AreShutParts}
 use Rattle.wt_called_edit_laws.proofs.Beside.Cases.{source, pieces, in_pieces, a_call, block_by, shows_word, items_are, given as given_items, things_there}
 use Rattle.wt_called_edit_laws.proofs.Beside.PageCases.{parts_here}
@@ -122,7 +122,7 @@ same_word i j rest = shows_there i ∙ sym (shows_there j)
     shows_there : (k : ℕ) → parts_shown_at 0 [] (line_parts (part_items a_word k (codes "{{t}}"))) rest ≡ text_before (codes "b") rest
     shows_there k = ap (λ (xs : List Item). parts_shown_at 0 [] (line_parts xs) rest) (gives_char k) ∙ shows_word k rest
 
-a_group_call : IsGroupCall a_word (codes "{{t}}")
+pub a_group_call : IsGroupCall a_word (codes "{{t}}")
 a_group_call = record {
   gives = gives_word;
   nodes = λ i.
@@ -153,8 +153,7 @@ text_and_calls = record {
   texts = λ i. subst AreOwnOrGiven (sym (parts_there i)) tt;
   groups = λ i. let p = parts_here i in p.groups;
   shut = λ i. subst AreShutParts (sym (parts_there i)) tt;
-  begins = λ i. subst BeginsOwn (sym (parts_there i)) refl;
-  ends = λ i. subst EndsOwn (sym (parts_there i)) refl;
+  some = λ i. subst HasOwn (sym (parts_there i)) tt;
   nodes = λ i. ap (λ (ps : List Part). call_pieces (children ps)) (parts_there i) ∙ pieces_are i ∙ sym (nodes_are i);
 }
 

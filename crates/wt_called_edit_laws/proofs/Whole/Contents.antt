@@ -23,6 +23,7 @@ use Rattle.wt_lines.specs.Lines.{lines}
 use Rattle.wt_inline.specs.declared.loose.Loose.TheVariants.{Text, Sep}
 use Rattle.wt_inline.specs.ItemTree.{plain, ItemTree, inner, nothing, tree_items}
 use Rattle.wt_inline.specs.Parts.{Part, loose, node, held_parts, children, parts, nowiki as nowiki_tree}
+use Rattle.wt_inline.proofs.HeldLaws.{held_append}
 use Rattle.wt_context.specs.Line.{line_parts}
 use Rattle.wt_annotated.specs.Clean.{is_no_call, is_page}
 use Rattle.wt_annotated.specs.Labels.{label_at}
@@ -39,7 +40,7 @@ use Rattle.wt_beside_laws.specs.Called.{items_with, owns_in, parts_with, GivesGr
 use Rattle.wt_beside_laws.specs.Content.{guard_items, letter_items}
 use Rattle.wt_beside_laws.specs.Given.{AreGivenBy, GivesSigns}
 use Rattle.wt_beside_laws.proofs.LineShown.{guard_tree}
-use Rattle.wt_beside_laws.proofs.Groups.CalledBlocks.{guard_parts, letter_parts, parts_own, held_both}
+use Rattle.wt_beside_laws.proofs.Groups.CalledBlocks.{guard_parts, letter_parts, parts_own}
 use Rattle.wt_beside_laws.proofs.Groups.CalledParagraphs.{called_parts}
 use Rattle.wt_beside_laws.proofs.Groups.Folders.{folder_case, all_inside, called_in}
 use Rattle.wt_called_edit_laws.specs.WholeContents.{of_call, AreGroups, IsShutNode, AreShutParts, AreShutCalls, IsShut, AreShut, HoldsGroups, IsWholeIn}
@@ -220,9 +221,9 @@ thing_none pages i j t h l = elim (folder_case t.role pages t h) [
 three_none : (j : ℕ) (ps qs rs : List Part) → of_call j (held_parts ps) ≡ [] → of_call j (held_parts qs) ≡ [] → of_call j (held_parts rs) ≡ []
     → of_call j (held_parts (ps ++ (qs ++ rs))) ≡ []
 three_none j ps qs rs e f g =
-    ap (of_call j) (held_both ps (qs ++ rs)) ∙ of_append j (held_parts ps) (held_parts (qs ++ rs))
+    ap (of_call j) (held_append ps (qs ++ rs)) ∙ of_append j (held_parts ps) (held_parts (qs ++ rs))
     ∙ ap₂ (λ (us vs : List Item). us ++ vs) e
-    (ap (of_call j) (held_both qs rs) ∙ of_append j (held_parts qs) (held_parts rs) ∙ ap₂ (λ (us vs : List Item). us ++ vs) f g)
+    (ap (of_call j) (held_append qs rs) ∙ of_append j (held_parts qs) (held_parts rs) ∙ ap₂ (λ (us vs : List Item). us ++ vs) f g)
 
 later_none : (pages : Pages) (i j : ℕ) (s : Setting) (before signs : List ContentSign) → AreOfFolder pages signs → j < i
     → of_call j (held_parts (parts_with s before signs (owns_in pages i signs))) ≡ []

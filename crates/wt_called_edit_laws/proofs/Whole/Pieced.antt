@@ -1,6 +1,9 @@
 -- A paragraph in pieces, some of which are calls, holds these, and can be read by itself.
-use Rattle.std.proofs.Common.{arith, ◌≡◌, inl, inr, ℕ, ◌+◌, ◌<◌, Option, None, List, [], ◌∷◌, ◌++◌, length, refl, sym, ap, ap₂, ◌∙◌, subst, append-nil}
+use Rattle.std.proofs.Common.{arith, ◌≡◌, inl, inr, ℕ, ◌+◌, ◌<◌, true, Bool, Option, Some, None, List, [], ◌∷◌, ◌++◌, length, refl, sym, ap, ap₂, ◌∙◌, subst, append-nil}
+use Rattle.std.specs.Prelude.{◌||◌}
+use Rattle.std.specs.List.{list_any}
 use Rattle.std.proofs.lemmas.Bool.{cases_lt}
+use Rattle.std.proofs.lemmas.List.Folds.{list_any-append}
 use Rattle.wt_tree.specs.declared.kind.Kind.TheVariants as kind
 use Rattle.wt_span.specs.Items.{Item}
 use Rattle.wt_guards.specs.Content.{Thing}
@@ -11,13 +14,12 @@ use Rattle.wt_inline.proofs.HeldLaws.{held_children}
 use Rattle.wt_expand.specs.PageCalls.{expanded_page}
 use Rattle.wt_expand.specs.PageItems.{page_items}
 use Rattle.wt_expand.specs.Work.{Pages}
-use Rattle.wt_annotated.specs.Seams.{last_of, first_of}
-use Rattle.wt_annotated.proofs.Seams.{first_append, last_append}
+use Rattle.wt_annotated.specs.Clean.{is_page}
 use Rattle.wt_part_laws.specs.CallPieces.{AreOwnOrGiven}
 use Rattle.wt_part_laws.specs.Expanded.{part_items, calls_in}
 use Rattle.wt_part_laws.specs.HeldCalls.{HoldsItsCalls, IsRoundGiven}
 use Rattle.wt_part_laws.proofs.HeldBlocks.{given_hold}
-use Rattle.wt_part_laws.proofs.OwnWalks.{first_own, last_own, has_page}
+use Rattle.wt_part_laws.proofs.OwnWalks.{has_page}
 use Rattle.wt_text_edit_laws.specs.Contents.{content_parts_of}
 use Rattle.wt_text_edit_laws.specs.ParagraphParts.{para_with}
 use Rattle.wt_text_edit_laws.specs.TextBlocks.{a_paragraph}
@@ -26,7 +28,7 @@ use Rattle.wt_called_edit_laws.specs.CallingBlocks.{IsContentIn}
 use Rattle.wt_called_edit_laws.specs.CallingEdits.{TakesLetters}
 use Rattle.wt_called_edit_laws.specs.EditableBlocks.{HoldsCalls}
 use Rattle.wt_called_edit_laws.specs.PageThings.{ArePageThings, thing_sources}
-use Rattle.wt_called_edit_laws.specs.PiecedParagraphs.{BeginsOwn, EndsOwn, IsInPieces}
+use Rattle.wt_called_edit_laws.specs.PiecedParagraphs.{HasOwn, IsInPieces}
 use Rattle.wt_called_edit_laws.specs.WholeContents.{AreShutCalls}
 use Rattle.wt_called_edit_laws.specs.Written.{IsWrittenAs}
 use Rattle.wt_called_edit_laws.specs.WrittenAnew.{StayButForOthers}
@@ -51,36 +53,39 @@ pieces_shut pages (b ∷ bs) (t ∷ ts) (inl h) g =
 pieces_shut pages (b ∷ bs) (t ∷ ts) (inr h) g =
     calls_both (expanded_page pages b).outer (calls_of pages bs) (subst AreShutCalls (sym h.0) tt) (pieces_shut pages bs (t ∷ ts) h.1 g)
 
--- ---- its ends
+-- ---- it has something of the page
 
-begins_so : (ps : List Part) (p : Option ℕ) → BeginsOwn ps → first_of (held_parts ps) p ≡ None
-begins_so [] p b = absurd b
-begins_so (loose k o c ∷ ps) p b = b
-begins_so (node t ∷ ps) p b =
-    first_append (tree_items t) (held_parts ps) p ∙ first_own (tree_items t) (first_of (held_parts ps) p) b.of_page (has_page t b.has_items)
+any_left : (xs ys : List Item) → list_any is_page xs ≡ true → list_any is_page (xs ++ ys) ≡ true
+any_left xs ys e = list_any-append is_page xs ys ∙ ap (λ (v : Bool). v || list_any is_page ys) e
 
-ends_so : (ps : List Part) (o : Option ℕ) → EndsOwn ps → last_of o (held_parts ps) ≡ None
-ends_so [] o b = absurd b
-ends_so (loose k p c ∷ []) o b = b
-ends_so (node t ∷ []) o b = ap (last_of o) (append-nil (tree_items t)) ∙ last_own o (tree_items t) b.of_page (has_page t b.has_items)
-ends_so (loose k p c ∷ q ∷ ps) o b = ends_so (q ∷ ps) p b
-ends_so (node t ∷ q ∷ ps) o b = last_append o (tree_items t) (held_parts (q ∷ ps)) ∙ ends_so (q ∷ ps) (last_of o (tree_items t)) b
+any_right : (xs ys : List Item) → list_any is_page ys ≡ true → list_any is_page (xs ++ ys) ≡ true
+any_right xs ys e = list_any-append is_page xs ys ∙ ap (λ (v : Bool). list_any is_page xs || v) e ∙ or_true (list_any is_page xs)
+  where
+    or_true : (v : Bool) → (v || true) ≡ true
+    or_true true = refl
+    or_true false = refl
+
+pub some_own : (ps : List Part) → HasOwn ps → list_any is_page (held_parts ps) ≡ true
+some_own [] b = absurd b
+some_own (loose k None c ∷ ps) b = refl
+some_own (loose k (Some j) c ∷ ps) b = some_own ps b
+some_own (node t ∷ ps) (inl own) = any_left (tree_items t) (held_parts ps) (has_page t own.has_items)
+some_own (node t ∷ ps) (inr b) = any_right (tree_items t) (held_parts ps) (some_own ps b)
 
 para_items : (ps : List Part) → tree_items (para_with ps) ≡ held_parts ps
 para_items ps = append-nil (held_by_all (forest (children ps))) ∙ held_children ps
 
-pub paragraph_round : (ps : List Part) → AreOwnOrGiven ps → BeginsOwn ps → EndsOwn ps → IsRoundGiven (plain kind.Para) [] ps []
-paragraph_round ps h b e = record {
+pub paragraph_round : (ps : List Part) → AreOwnOrGiven ps → HasOwn ps → IsRoundGiven (plain kind.Para) [] ps []
+paragraph_round ps h b = record {
   no_leaf = refl;
   own_opening = refl;
   own_closing = refl;
   parts = h;
-  begins = λ p. ap (λ (xs : List Item). first_of xs p) (para_items ps) ∙ begins_so ps p b;
-  ends = λ o. ap (last_of o) (para_items ps) ∙ ends_so ps o e;
+  some = ap (list_any is_page) (para_items ps) ∙ some_own ps b;
 }
 
-holds_so : (ps : List Part) → AreOwnOrGiven ps → BeginsOwn ps → EndsOwn ps → HoldsItsCalls (para_with ps)
-holds_so ps h b e = given_hold (plain kind.Para) [] ps [] (paragraph_round ps h b e)
+holds_so : (ps : List Part) → AreOwnOrGiven ps → HasOwn ps → HoldsItsCalls (para_with ps)
+holds_so ps h b = given_hold (plain kind.Para) [] ps [] (paragraph_round ps h b)
 
 -- ---- the paragraph
 
@@ -101,7 +106,7 @@ pieced_holds pages q h =
     let w = as_written pages q h in
     let part = w.part in
     record {
-      holds = λ i. holds_so (content_parts_of a_paragraph (part_items pages i q)) (h.texts i) (h.begins i) (h.ends i);
+      holds = λ i. holds_so (content_parts_of a_paragraph (part_items pages i q)) (h.texts i) (h.some i);
       letters = subst (TakesLetters pages a_paragraph) h.is (page_letters pages h.pieces h.nodes h.parts h.among h.things);
       texts = part.texts;
       whole = record {
