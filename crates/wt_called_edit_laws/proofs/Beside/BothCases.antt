@@ -1,5 +1,5 @@
 -- Worked case: the page `{{t}} {{t}}`, where `Template:T` is a word, begins and ends with calls: it is of the class, and texts are typed between its calls.
-use Rattle.std.proofs.Common.{arith, ◌≡◌, ◌<◌, ◌≤◌, inl, inr, ℕ, None, List, [], ◌∷◌, length, refl, sym, subst, Some, ap, ◌+◌, ◌∙◌, suc}
+use Rattle.std.proofs.Common.{arith, ◌≡◌, ◌<◌, ◌≤◌, inl, inr, ℕ, None, List, [], ◌∷◌, length, refl, sym, subst, Some, ap, ◌+◌, ◌∙◌, suc, ◌==◌, false}
 use Rattle.std.specs.Str.{is_utf8, chars, IsUtf8}
 use Rattle.std.specs.Str.Lossy.{utf8_valid_len}
 use Rattle.std.proofs.lemmas.List.Elements.{All-nil, All-cons}
@@ -66,7 +66,7 @@ use Rattle.wt_called_edit_laws.specs.Parts.{calls_to, calls_past, AreCalled}
 use Rattle.wt_called_edit_laws.specs.PiecedParagraphs.{HasOwn, IsInPieces, all_pieces, IsTextAndCalls}
 use Rattle.wt_called_edit_laws.specs.WholeContents.{of_call, AreGroups, AreShutParts}
 use Rattle.wt_called_edit_laws.proofs.Whole.Pieced.{as_written, pieced_content, pieced_holds}
-use Rattle.std.specs.Prelude.{◌==◌, codes}
+use Rattle.std.specs.Prelude.{codes}
 use Rattle.std.proofs.lemmas.Bool.Decides.{nat_tests}
 use Rattle.wt_inline.specs.declared.loose.Loose.TheVariants.{Text}
 use Rattle.wt_called_edit_laws.specs.CalledEdits.{page_things, IsBesideCalls, IsCalledEditOf, MakesContentIn}

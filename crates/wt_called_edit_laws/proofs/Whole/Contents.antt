@@ -279,16 +279,16 @@ group_here pages all i s t g before after h k f later =
     (parts_own s (thing t ∷ before) after (owns_in pages next after) (all_inside pages next after k))
     (past_first i (held_parts more) (later_none pages next i s (thing t ∷ before) after k less)) later)
 
+no_groups : (xs : List Item) → AreGroups xs (call_pieces (children []))
+unfolding children
+no_groups xs = tt
+
 pub groups_from : (pages : Pages) (all : List Item) (i : ℕ) (s : Setting) (before signs : List ContentSign) → AreOfFolder pages signs
     → AreLastOf all i (items_with s before signs (owns_in pages i signs)) → AreGroups all (call_pieces (children (parts_with s before signs (owns_in pages i signs))))
 groups_from pages all i s before [] h f =
     let ps : List Part = parts Text (guard_items (is_guarded s before [])) in
     subst (λ (qs : List Part). AreGroups all (call_pieces (children qs))) (append-nil ps)
     (groups_page all ps [] (guard_parts (is_guarded s before [])) (no_groups all))
-  where
-    no_groups : (xs : List Item) → AreGroups xs (call_pieces (children []))
-    unfolding children
-    no_groups xs = tt
 groups_from pages all i s before (letter c ∷ after) h f =
     let e : Bool = is_escaped s.within s.place before c after in
     let u : Bool = is_guarded s before (letter c ∷ after) in
