@@ -1,4 +1,4 @@
--- A paragraph of texts beside calls that give words, as it is written, is a content in a folder, and a new one in the place of another one whose nodes it has; those that don't call may go.
+-- A paragraph of texts beside calls, as it is written, is a content in a folder, and a new one in the place of another one whose nodes it has; those that don't call may go.
 use Rattle.std.proofs.Common.{◌≡◌, inl, inr, ℕ, ◌==◌, Bool, true, false, None, List, [], ◌∷◌, ◌++◌, refl, sym, ap, ap₂, ◌∙◌, subst, append-nil, append_assoc}
 use Rattle.std.specs.Prelude.{◌||◌, not, if◌then◌else◌}
 use Rattle.std.specs.Str.{IsUtf8}
