@@ -9,3 +9,4 @@ pub mod EndCases
 mod FirstCases
 mod LastCases
 mod BothCases
+mod LinkCases

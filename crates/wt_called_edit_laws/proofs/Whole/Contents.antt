@@ -1,5 +1,5 @@
 -- What is written for texts beside calls can be read by itself.
-use Rattle.std.proofs.Common.{arith, ◌≡◌, ◌⊎◌, inl, inr, ℕ, suc, ◌+◌, ◌<◌, ◌==◌, Bool, true, false, Option, None, Some, List, [], ◌∷◌, ◌++◌, length, map, refl, sym, ap, ap₂, ◌∙◌, subst, append-nil}
+use Rattle.std.proofs.Common.{arith, ◌≡◌, ◌⊎◌, inl, inr, ℕ, suc, ◌+◌, ◌<◌, ◌≤◌, ◌==◌, Bool, true, false, Option, None, Some, List, [], ◌∷◌, ◌++◌, length, map, refl, sym, ap, ap₂, ◌∙◌, subst, append-nil}
 use Rattle.std.specs.Prelude.{◌&&◌, slice_get, encode_utf8}
 use Rattle.std.specs.List.{list_all}
 use Rattle.std.specs.Fmt.{digits}
@@ -56,7 +56,7 @@ use Rattle.wt_called_edit_laws.proofs.Written.Signs.{content_written}
 
 -- ---- no node ends in an open tag
 
-shut_both : (ps qs : List Part) → AreShutParts ps → AreShutParts qs → AreShutParts (ps ++ qs)
+pub shut_both : (ps qs : List Part) → AreShutParts ps → AreShutParts qs → AreShutParts (ps ++ qs)
 shut_both [] qs h k = k
 shut_both (loose Text o b ∷ ps) qs h g = shut_both ps qs h g
 shut_both (loose Sep o b ∷ ps) qs h g = absurd h
@@ -87,7 +87,7 @@ letter_shut true c h = ((λ e. (ap ends_open (append-nil (reference c)) ∙ refe
 letter_shut false c h = chars_shut None (encode_utf8 c)
 
 -- nodes of a call are none of the page
-call_shut_parts : (j : ℕ) (ps : List Part) → AreGivenBy j ps → AreShutParts ps
+pub call_shut_parts : (j : ℕ) (ps : List Part) → AreGivenBy j ps → AreShutParts ps
 call_shut_parts j [] h = tt
 call_shut_parts j (loose Text o b ∷ ps) h = call_shut_parts j ps h.1
 call_shut_parts j (loose Sep o b ∷ ps) h = absurd h
