@@ -10,3 +10,4 @@ mod FirstCases
 mod LastCases
 mod BothCases
 mod LinkCases
+mod EmptyCases

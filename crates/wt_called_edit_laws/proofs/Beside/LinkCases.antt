@@ -106,7 +106,7 @@ use Rattle.wt_called_edit_laws.proofs.Cells.SentAsIs.{stands_as_sent}
 use Rattle.wt_called_edit_laws.proofs.Written.Joined.{calm_written}
 use Rattle.wt_called_edit_laws.proofs.Whole.Contents.{shut_both, call_shut_parts}
 use Rattle.wt_called_edit_laws.proofs.Written.Cases.{call_settles, call_sealed, call_utf8}
-use Rattle.wt_called_edit_laws.proofs.Beside.EndCases.{nothing, called_at, a_label, nth, none_behind}
+use Rattle.wt_called_edit_laws.proofs.Beside.EndCases.{called_at, a_label, nth, none_behind}
 
 -- `Template:T` is `[[b]]`, and no other page is there
 abbrev pub a_linker : Pages
@@ -126,6 +126,10 @@ behind = char None 32 ∷ char None 105 ∷ char None 115 ∷ []
 
 abbrev given : ℕ → List Item
 given i = link i ++ behind
+
+nothing : (i : ℕ) → part_items a_linker i [] ≡ []
+unfolding words closed text_members page_stretches reduced
+nothing i = refl
 
 -- ---- the call
 
