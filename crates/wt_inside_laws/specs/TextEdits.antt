@@ -109,7 +109,7 @@ pub record IsUntouched (page : Page) (t : Tree) : Type 0 where
 pub record IsSameStyle (ks : List Kept) (t : Tree) : Type 0 where
   pub kept : Kept
   pub found : kept_with (label t).id ks ≡ Some kept
-  pub face : face (label t) ≡ face (label kept.node)
+  pub alike : face (label t) ≡ face (label kept.node)
 
 -- a comment without `-->`, and a part that pages don't show without its closing tag
 abbrev pub is_tag_unclosed : Option Tag → List ℕ → Bool
@@ -153,7 +153,7 @@ pub record IsRetyped (same : Tree → Tree → Bool) (items : Expanded) (page : 
   pub closed : holds_unclosed items.items page (label p.old).ranges ≡ false
   pub in_order : borders (children_of p.new) ≡ borders (children_of p.old)
   pub untouched : AllByRecursion (IsUntouched (page_of same p.old)) (elements (children_of p.new))
-  pub styles : AllByRecursion (IsSameStyle (kept_nodes p.old)) (styles (children_of p.new))
+  pub styled : AllByRecursion (IsSameStyle (kept_nodes p.old)) (styles (children_of p.new))
   pub texts : AllByRecursion (IsRetypedText (kept_nodes p.old)) (zip (slots (children_of p.old)) (slots (children_of p.new)))
   pub one_line : IsOneLine (edit_shape (label p.old).kind).form (slots (children_of p.new))
 
