@@ -15,6 +15,11 @@ pub mod BodyReplaced
 pub mod Between
 pub mod RetypedPieces
 pub mod RetypedStay
+pub mod MatchedNodes
+pub mod MatchedEdits
+pub mod MatchedPairs
+pub mod MatchedViews
+pub mod MatchedAlike
 pub mod InsidesCases
 pub mod PageCases
 pub mod LocalCases

@@ -138,7 +138,7 @@ each_of_flat P f (x ∷ xs) h = let s = each_split P (f x) (flat_map f xs) h in 
 
 -- ---- marks
 
-unmarked_by : (b : Bool) (m : Mark) → is_marked m ≡ b → (is_marked m ≡ true → ⊥) → m ≡ marks.Nothing
+pub unmarked_by : (b : Bool) (m : Mark) → is_marked m ≡ b → (is_marked m ≡ true → ⊥) → m ≡ marks.Nothing
 unmarked_by true m e f = absurd (f e)
 unmarked_by false m e f = mark_none m e
 
@@ -157,7 +157,7 @@ hidden_never kind.Empty e = refl
 hidden_never k e = absurd (cc)
 
 -- no other mark may be anywhere
-no_other : (w : Editing) (o : Option Place) → allows w marks.Other o ≡ true → ⊥
+pub no_other : (w : Editing) (o : Option Place) → allows w marks.Other o ≡ true → ⊥
 no_other Never o e = absurd (cc)
 no_other Content o e = absurd (cc)
 no_other InlineContent o e = absurd (cc)
@@ -187,17 +187,17 @@ seen_by : (P : Tree → Type 0) (b : Bool) (u : Tree) (us : Trees) → P u → A
 seen_by P true u us h r = (h, r)
 seen_by P false u us h r = r
 
-seen_given : (same : Tree → Tree → Bool) (page : Page) (j : ℕ) (us : Trees) → AllByRecursion (IsGiven same page) (all_placed j false us)
+pub seen_given : (same : Tree → Tree → Bool) (page : Page) (j : ℕ) (us : Trees) → AllByRecursion (IsGiven same page) (all_placed j false us)
     → AllByRecursion (λ u. AllByRecursion (IsGiven same page) (placed j false u)) (seen us)
 seen_given same page j none h = tt
 seen_given same page j (more u us) h =
     let s = each_split (IsGiven same page) (placed j false u) (all_placed j false us) h in
     seen_by (λ v. AllByRecursion (IsGiven same page) (placed j false v)) (is_compared (showing (label u).kind)) u us s.0 (seen_given same page j us s.1)
 
-abbrev IsSeen : Tree → Type 0
+abbrev pub IsSeen : Tree → Type 0
 IsSeen u = is_compared (showing (label u).kind) ≡ true
 
-are_seen : (us : Trees) → AllByRecursion IsSeen (seen us)
+pub are_seen : (us : Trees) → AllByRecursion IsSeen (seen us)
 are_seen none = tt
 are_seen (more u us) = by_test (is_compared (showing (label u).kind)) refl (are_seen us)
   where
@@ -206,10 +206,10 @@ are_seen (more u us) = by_test (is_compared (showing (label u).kind)) refl (are_
     by_test true e r = (e, r)
     by_test false e r = r
 
-abbrev entry_list : List Tree → List Entry
+abbrev pub entry_list : List Tree → List Entry
 entry_list us = map (λ u. entry (label u)) us
 
-entries_seen : (us : Trees) → entries us ≡ entry_list (seen us)
+pub entries_seen : (us : Trees) → entries us ≡ entry_list (seen us)
 entries_seen none = refl
 entries_seen (more u us) = by_test (is_compared (showing (label u).kind)) (entries us) (seen us) (entries_seen us)
   where
@@ -225,7 +225,7 @@ one_hidden same page j (tree m us) h e = record {
   bare = h.0.read.hidden e;
 }
 
-are_hidden : (same : Tree → Tree → Bool) (page : Page) (j : ℕ) (us : Trees) → AllByRecursion (IsGiven same page) (all_placed j false us) → AreHidden us
+pub are_hidden : (same : Tree → Tree → Bool) (page : Page) (j : ℕ) (us : Trees) → AllByRecursion (IsGiven same page) (all_placed j false us) → AreHidden us
 are_hidden same page j none h = tt
 are_hidden same page j (more u us) h =
     let s = each_split (IsGiven same page) (placed j false u) (all_placed j false us) h in
@@ -304,7 +304,7 @@ own_shown kind.Text s z v c e = absurd (cc)
 own_shown k s z v c e = absurd (cc)
 
 -- where no mark is on it, it holds the same
-held_same : (t u : Tree) → (is_marked (label u).mark ≡ true) ⊎ HoldsTheSame t u → is_marked (label u).mark ≡ false → HoldsTheSame t u
+pub held_same : (t u : Tree) → (is_marked (label u).mark ≡ true) ⊎ HoldsTheSame t u → is_marked (label u).mark ≡ false → HoldsTheSame t u
 held_same t u (inl e) f = absurd (cc)
 held_same t u (inr h) f = h
 
@@ -403,7 +403,7 @@ text_or false f g = g refl
 
 -- ---- all nodes
 
-group_open : (b : Bool) (ns : List ℕ) → b ≡ false → NoZero (if b then [] else ns) → NoZero ns
+pub group_open : (b : Bool) (ns : List ℕ) → b ≡ false → NoZero (if b then [] else ns) → NoZero ns
 group_open true ns e h = absurd (cc)
 group_open false ns e h = h
 

@@ -13,10 +13,11 @@ use Rattle.wt_tree.specs.EditShapes.{edit_shape}
 use Rattle.wt_tree.specs.Kinds.{showing, writing}
 use Rattle.wt_tree.specs.Opened.{without_sections}
 use Rattle.wt_tree.specs.Plain.{Plains, plains_before}
-use Rattle.wt_tree.specs.Tiling.{NoneIsGroup}
+use Rattle.wt_tree.specs.Tiling.{NoneIsGroup, InPreorder}
 use Rattle.wt_tree.specs.Tree.{Label, Tree, tree, Trees, none, more, label}
 use Rattle.wt_original.specs.Page.{page_of as block_page}
 use Rattle.wt_link_spelling.specs.Spelling.{children_of, signs_of_all}
+use Rattle.wt_checks.specs.BareSections.{HasBareSections}
 use Rattle.wt_checks.specs.Kept.{children}
 use Rattle.wt_checks.specs.Places.{Place, places, number, is_kept, Page, page_of}
 use Rattle.wt_checks.specs.PutBack.{IsOneBody, AreAsRead}
@@ -142,6 +143,14 @@ abbrev pub AreSomeOf : List (List ℕ) → List (List ℕ) → Type 0
 AreSomeOf ps qs = AllByRecursion (λ p. IsOneOf p qs) ps
 
 -- ---- what is asked of what is sent
+
+-- A page without groups, in its sections or without them: its numbers are in preorder, and the body is the only one.
+pub record IsPlainPage (t : Tree) : Type 0 where
+  pub sections : HasBareSections t
+  pub numbered : InPreorder t
+  pub one : IsOneBody (without_sections t)
+  pub in_order : InPreorder (without_sections t)
+  pub ungrouped : NoneIsGroup (children (without_sections t))
 
 -- where the page's node with its number has no data, it has none
 abbrev pub HasNoMore : Page → Place → Type 0

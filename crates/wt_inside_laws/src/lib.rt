@@ -2,10 +2,12 @@
 //! the old one with the insides of their blocks replaced.
 #![tactic(auto)]
 
+mod as_sent;
 mod edges;
 mod insides;
 mod replaced;
 
+pub use as_sent::edits_are_as_sent;
 pub use edges::blocks_meet_plainly;
 pub use insides::{only_the_inside_changes, texts_stand_between_borders};
 pub use replaced::{
