@@ -20,6 +20,10 @@ pub mod MatchedEdits
 pub mod MatchedPairs
 pub mod MatchedViews
 pub mod MatchedAlike
+pub mod PlainBefore
+pub mod AlikeContents
+pub mod MarkedBlocks
+pub mod PageAlike
 pub mod InsidesCases
 pub mod PageCases
 pub mod LocalCases

@@ -31,7 +31,11 @@ use Rattle.wt_visible.specs.Restored.{all_restored, restored_from}
 use Rattle.wt_selser.specs.Edits.{edit_answer}
 use Rattle.wt_typed_blocks.specs.Sent.{Block, paragraph, heading}
 use Rattle.wt_typed_blocks.specs.Edited.{Pieces, page_pieces, sent_pieces, PiecesStay, pieces_before, Edited, stays, edited, round, Edits, no_edits, more_edits, page_nodes, AreEdited, sent_body}
-use Rattle.wt_called_edit_laws.specs.EditsAt.{edited_by, AllEditOnly}
+use Rattle.wt_expand.specs.Work.{Pages}
+use Rattle.wt_page_round_trip.specs.PageTree.{page_tree}
+use Rattle.wt_commands.specs.Answers.{edit_to}
+use Rattle.wt_called_edit_laws.specs.EditsAt.{edited_by, AllEditOnly, sent_contents}
+use Rattle.wt_called_edit_laws.specs.Groups.{called_tree}
 use Rattle.wt_inside_laws.specs.RetypedPieces.{pieces_of, as_own}
 use Rattle.wt_inside_laws.specs.TextEdits.{takes_text}
 
@@ -188,3 +192,12 @@ pub record IsAsSent (same : Tree → Tree → Bool) (t new : Tree) (es : Edits) 
   pub answer : (items : Expanded) (page : List ℕ) (b : Label)
       → edit_answer same items page t new ≡ edit_answer same items page t (sent_body (label (without_sections t)) b es)
   pub shows : (b : Label) → shown_children (restored_from t new) ≡ shown_children (restored_from t (sent_body (label (without_sections t)) b es))
+
+-- So of a page, whatever a folder has: the edit is that of its own nodes.
+pub record IsSentOn (pages : Pages) (page : List ℕ) (new : Tree) (es : Edits) : Type 0 where
+  pub old : page_nodes es ≡ children (called_tree pages page)
+  pub stay : AreEdited es
+  pub at : map (λ path. node_at path (called_tree pages page)) (paths_of es) ≡ map (λ p. Some p.old) (marked (page_tree pages page) new)
+  pub each : map (edited_by es) (paths_of es) ≡ map (λ p. Some (edit_for p)) (marked (page_tree pages page) new)
+  pub only : (paths : List (List ℕ)) → AreSomeOf (paths_of es) paths → AllEditOnly paths es
+  pub alike : (b : Label) → edit_to pages page new ≡ edit_to pages page (sent_contents (called_tree pages page) es b)

@@ -7,7 +7,7 @@ mod edges;
 mod insides;
 mod replaced;
 
-pub use as_sent::edits_are_as_sent;
+pub use as_sent::{edits_are_as_sent, text_edits_are_sent_on_the_page};
 pub use edges::blocks_meet_plainly;
 pub use insides::{only_the_inside_changes, texts_stand_between_borders};
 pub use replaced::{
