@@ -15,6 +15,8 @@ pub mod BodyReplaced
 pub mod Between
 pub mod RetypedPieces
 pub mod RetypedStay
+pub mod SlotTexts
+pub mod OwnPieces
 pub mod InsidesCases
 pub mod PageCases
 pub mod LocalCases
