@@ -214,23 +214,23 @@ mutual
 abbrev pub Anything : ℕ → List ℕ → Type 0
 Anything d text = Unit {0}
 
+any_by : (f : InlineForm) (d : ℕ) (l : Label) (inside : Type 0) → inside → LeavesBy f Anything d l inside
+any_by inline.Nothing d l inside h = tt
+any_by inline.Characters d l inside h = tt
+any_by inline.Bold d l inside h = h
+any_by inline.Italic d l inside h = h
+any_by inline.Shown d l inside h = tt
+any_by inline.PageLink d l inside h = tt
+any_by inline.ExternalLink d l inside h = tt
+any_by inline.Tag d l inside h = tt
+any_by inline.Break d l inside h = tt
+any_by inline.AsItStood d l inside h = tt
+
 mutual
   any_leaf : (t : Tree) (d : ℕ) → LeavesOf Anything d t
-  any_leaf (tree l ts) d = by (edit_shape l.kind).inline
-    where
-      by : (f : InlineForm) → LeavesBy f Anything d l (AllLeaves Anything (suc d) ts)
-      by inline.Nothing = tt
-      by inline.Characters = tt
-      by inline.Bold = any_leaves ts (suc d)
-      by inline.Italic = any_leaves ts (suc d)
-      by inline.Shown = tt
-      by inline.PageLink = tt
-      by inline.ExternalLink = tt
-      by inline.Tag = tt
-      by inline.Break = tt
-      by inline.AsItStood = tt
+  any_leaf (tree l ts) d = any_by (edit_shape l.kind).inline d l (AllLeaves Anything (suc d) ts) (any_leaves ts (suc d))
 
-  any_leaves : (ts : Trees) (d : ℕ) → AllLeaves Anything d ts
+  pub any_leaves : (ts : Trees) (d : ℕ) → AllLeaves Anything d ts
   any_leaves none d = tt
   any_leaves (more t ts) d = (any_leaf t d, any_leaves ts d)
 
