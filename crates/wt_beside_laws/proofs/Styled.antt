@@ -28,6 +28,9 @@ pub mod OldStyled
 pub mod StyledTexts
 pub mod OwnStyled
 pub mod StyleKinds
+pub mod StyleStarts
+pub mod OwnLed
+pub mod LedLines
 pub mod OwnNests
 pub mod SentNests
 pub mod UrlEnds

@@ -24,6 +24,8 @@ pub mod PlainBefore
 pub mod AlikeContents
 pub mod MarkedBlocks
 pub mod PageAlike
+pub mod SlotTexts
+pub mod OwnPieces
 pub mod InsidesCases
 pub mod PageCases
 pub mod LocalCases
