@@ -24,6 +24,7 @@ pub mod PlainBefore
 pub mod AlikeContents
 pub mod MarkedBlocks
 pub mod PageAlike
+pub mod SentCases
 pub mod SlotTexts
 pub mod OwnPieces
 pub mod InsidesCases
