@@ -334,7 +334,7 @@ node_same same page i j v l m ts us it z n g h =
         kind = sym was.kind;
         id = n;
         attrs = sym was.attrs;
-        mw = same_data l.mw m.mw was.mw (at_some (λ r. (label r.node).mw ≡ None → m.mw ≡ None) (page m.id) q there (h.no_more kept));
+        mw = same_data l.mw m.mw was.mw (at_some (λ r. (label r.node).mw ≡ None → m.mw ≡ None) (page m.id) q there (h.no_more kept refl));
         numbered = z;
       };
       was = was;

@@ -156,9 +156,9 @@ pub record IsPlainPage (t : Tree) : Type 0 where
   pub in_order : InPreorder (without_sections t)
   pub ungrouped : NoneIsGroup (children (without_sections t))
 
--- where the page's node with its number has no data, it has none
+-- outside marked blocks: where the page's node with its number has no data, it has none
 abbrev pub HasNoMore : Page → Place → Type 0
-HasNoMore page p = is_kept p ≡ true → MatchOption (page (number p)) (Unit {0}) (λ q. (label q.node).mw ≡ None → (label p.node).mw ≡ None)
+HasNoMore page p = is_kept p ≡ true → p.in_content ≡ false → MatchOption (page (number p)) (Unit {0}) (λ q. (label q.node).mw ≡ None → (label p.node).mw ≡ None)
 
 -- What is sent for a page without groups, as it is read: one body without sections, whose texts, separators, marks and skips hold nothing; no group
 -- is in it, and no more data than in the page.
