@@ -10,7 +10,7 @@ use Rattle.wt_tree.specs.declared.kind.Mark.TheVariants as marks
 use Rattle.wt_tree.specs.Kinds.{is_numbered}
 use Rattle.wt_tree.specs.Opened.{opened, without_sections}
 use Rattle.wt_tree.specs.Plain.{ended, plains_before}
-use Rattle.wt_tree.specs.Tiling.{is_group, NoneIsGroup, InPreorder, numbers_of_all}
+use Rattle.wt_tree.specs.Tiling.{is_group, HasNoGroup, NoneIsGroup, InPreorder, numbers_of_all}
 use Rattle.wt_tree.specs.Tree.{Label, Tree, tree, Trees, label}
 use Rattle.wt_link_spelling.specs.Spelling.{children_of}
 use Rattle.wt_checks.specs.declared.refusal.TreeRefusal.{TreeRefusal}
@@ -25,7 +25,7 @@ use Rattle.wt_checks.specs.Unmarked.{entries}
 use Rattle.wt_checks.proofs.EditedIsPage.{body_is, edited_root}
 use Rattle.wt_checks.proofs.Found.{Itself, each_itself, found_root, body_no_group}
 use Rattle.wt_checks.proofs.Lookups.{NoZero, each_split, all_page_numbers}
-use Rattle.wt_checks.proofs.PutBack.{at_some, or_true}
+use Rattle.wt_checks.proofs.PutBack.{at_some}
 use Rattle.wt_checks.proofs.Sections.{AreAlike, are_alike, kept_found, no_difference}
 use Rattle.wt_checks.proofs.WhatIsKept.{kept, increasing}
 use Rattle.wt_content.specs.declared.children.Holder.TheVariants as holder
@@ -39,10 +39,10 @@ use Rattle.wt_selser.specs.Edits.{refused_pairs, if_short, unless_refused, pairs
 use Rattle.wt_selser.proofs.Sections.{answers_same}
 use Rattle.wt_visible.specs.Children.{shown_children, listed}
 use Rattle.wt_visible.specs.Restored.{held_by, all_restored, restored_from}
-use Rattle.wt_typed_blocks.specs.Edited.{Edited, Edits, page_node, page_nodes, sent_nodes, AreEdited, AreOutside, page_body, sent_body, edits_show}
+use Rattle.wt_typed_blocks.specs.Edited.{Edited, stays, edited, round, Edits, no_edits, more_edits, page_node, page_nodes, AreEdited, IsOutside, AreOutside, page_body, sent_body}
 use Rattle.wt_typed_blocks.proofs.EditedKept.{found, passes}
 use Rattle.wt_typed_blocks.proofs.EditedSections.{one_body}
-use Rattle.wt_typed_blocks.proofs.EditedShows.{body_shows, outside}
+use Rattle.wt_typed_blocks.proofs.EditedShows.{body_shows}
 use Rattle.wt_typed_blocks.proofs.EditedSlices.{Same, pairs_of, changes_of, marked_are}
 use Rattle.wt_typed_blocks.proofs.EditedSlices as edited_slices
 use Rattle.wt_called_edit_laws.specs.EditsAt.{edited_by}
@@ -53,6 +53,10 @@ use Rattle.wt_inside_laws.proofs.MatchedPairs.{pairs_below, all_pairs_are, slice
 use Rattle.wt_inside_laws.proofs.MatchedViews.{all_shown}
 
 -- ---- the root
+
+or_true : (a b : Bool) → b ≡ true → (a || b) ≡ true
+or_true true b h = refl
+or_true false b h = h
 
 body_unmarked : (m : Mark) (o : Option Place) → allows (editing kind.Body) m o ≡ true → is_children m ≡ false → ⊥
 body_unmarked m o e f = absurd (cc)
@@ -131,6 +135,16 @@ edits_are (p ∷ ps) = ap (λ xs. Some (edit_for p) ∷ xs) (edits_are ps)
 
 same_body : (l : Label) (ts us : Trees) → l.kind ≡ kind.Body → l.id ≡ 0 → us ≡ ts → tree l ts ≡ tree (record l { kind = kind.Body; id = 0 }) us
 same_body l ts us k n e = λ i. tree (record l { kind = k i; id = n i }) (sym e i)
+
+mutual
+  one_outside : (e : Edited) → HasNoGroup (page_node e) → IsOutside e
+  one_outside (stays t u) h = tt
+  one_outside (edited k l m ps) h = tt
+  one_outside (round l m es) h = (h.0, outside es h.1)
+
+  outside : (es : Edits) → NoneIsGroup (page_nodes es) → AreOutside es
+  outside no_edits h = tt
+  outside (more_edits e es) h = (one_outside e h.0, outside es h.1)
 
 -- ---- the answer
 
