@@ -17,6 +17,8 @@ pub mod RetypedPieces
 pub mod RetypedStay
 pub mod SlotTexts
 pub mod OwnPieces
+pub mod SlotsLed
+pub mod OwnEdits
 pub mod InsidesCases
 pub mod PageCases
 pub mod LocalCases

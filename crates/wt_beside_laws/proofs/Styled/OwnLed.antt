@@ -116,9 +116,9 @@ abbrev mutual
   NoLines block at none = Unit {0}
   NoLines block at (more t us) = NoLineIn block at t × NoLines block (at + length (flat t)) us
 
--- One after the other, where a line begins at this place or not. Of each text its source is what it shows.
+-- One after the other, where a line begins at this place or not. Of each text its source is what it shows; there are no separators.
 abbrev LedBy : InlineForm → Tree → ℕ → Bool → Label → Trees → (Bool → Type 0) → Type 0
-LedBy inline.Nothing block at s l ts rest = rest s
+LedBy inline.Nothing block at s l ts rest = ⊥
 LedBy inline.Characters block at s l ts rest = (flat (tree l ts) ≡ l.shown) × rest (settled l.shown s)
 LedBy inline.Bold block at s l ts rest = NoLines block (at + length l.opening) ts × rest false
 LedBy inline.Italic block at s l ts rest = NoLines block (at + length l.opening) ts × rest false
