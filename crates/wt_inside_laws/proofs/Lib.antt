@@ -18,6 +18,8 @@ pub mod RetypedStay
 pub mod SlotTexts
 pub mod OwnPieces
 pub mod SlotsLed
+pub mod Breaks
+pub mod SlotsFirst
 pub mod OwnEdits
 pub mod InsidesCases
 pub mod PageCases

@@ -11,6 +11,7 @@ use Rattle.wt_tree.specs.declared.edit_shape.InlineForm.{InlineForm}
 use Rattle.wt_tree.specs.declared.edit_shape.InlineForm.TheVariants as inline
 use Rattle.wt_tree.specs.declared.edit_shape.BlockForm.TheVariants as block
 use Rattle.wt_tree.specs.EditShapes.{edit_shape}
+use Rattle.wt_tree.specs.Kinds.{is_leaf}
 use Rattle.wt_tree.specs.Tiling.{HasNoGroup, NoneIsGroup}
 use Rattle.wt_tree.specs.Tree.{Label, Tree, tree, Trees, none, more, label}
 use Rattle.wt_checks.specs.WithoutMarks.{mark_off, unmarked}
@@ -20,6 +21,7 @@ use Rattle.wt_original.specs.Page.{Page, page_of}
 use Rattle.wt_slices.specs.Changes.{Pair}
 use Rattle.wt_link_spelling.specs.Spelling.{children_of}
 use Rattle.wt_visible.specs.SameNodes.{same_node}
+use Rattle.wt_typed_blocks.specs.Sent.{Block, paragraph, heading, kind_of}
 use Rattle.wt_typed_blocks.specs.Edited.{IsStyle, Pieces, no_pieces, gone, written, kept, around, new_style, page_pieces, sent_pieces, text_node}
 use Rattle.wt_text_edit_laws.specs.TextBlocks.{TextBlock, a_paragraph, a_heading, block_of, block_tree}
 use Rattle.wt_beside_laws.specs.FlatBlocks.{AreOneLine, TextsFitIn, sent_for}
@@ -32,6 +34,7 @@ use Rattle.wt_beside_laws.specs.Styled.{StyledContent, signs_in}
 use Rattle.wt_beside_laws.specs.StyledIn.{IsStyledIn, IsStyledEditOf}
 use Rattle.wt_beside_laws.proofs.Made.OldBlocks.{IsIn, block_kind, no_group}
 use Rattle.wt_beside_laws.proofs.Styled.LedLines.{own_led}
+use Rattle.wt_beside_laws.proofs.Styled.OwnFirst.{begin_marked, paragraph_begins}
 use Rattle.wt_beside_laws.proofs.Styled.OwnNests.{own_nests}
 use Rattle.wt_beside_laws.proofs.Styled.OwnStyled.{own_styled}
 use Rattle.wt_beside_laws.proofs.Styled.SentFaults.{text_unbroken, or_both}
@@ -41,9 +44,11 @@ use Rattle.wt_inside_laws.specs.Contents.{Border, borders, texts, Slot, slots_fr
 use Rattle.wt_inside_laws.specs.RetypedPieces.{pieces_of, as_own, AreRead, ArePiecesOf, Utf8By, HasUtf8, AreUtf8}
 use Rattle.wt_inside_laws.specs.TextEdits.{breaks_of, takes_text, IsTyped, IsRetypedText, IsOneLine, IsRetyped}
 use Rattle.wt_inside_laws.proofs.Between.{texts_between}
+use Rattle.wt_inside_laws.proofs.Breaks.{unbroken_count, count_unbroken}
 use Rattle.wt_inside_laws.proofs.OwnPieces.{own_page, IsElement, AreOfStyle, HoldIn, trees_in, Anything, any_leaves, own_pieces_stay}
 use Rattle.wt_inside_laws.proofs.RetypedPieces.{retyped_pieces}
 use Rattle.wt_inside_laws.proofs.SlotTexts.{LeavesBy, LeavesOf, AllLeaves, depth_after, TextsHold, leaves_hold, texts_hold}
+use Rattle.wt_inside_laws.proofs.SlotsFirst.{NewFirst, block_first, retyped_first, sent_first}
 use Rattle.wt_inside_laws.proofs.SlotsLed.{TextsLed, own_texts_led, retyped_led, sent_led}
 
 -- ---- texts that are UTF-8
@@ -134,25 +139,6 @@ own_nest d bold italic (kept t u ps) e h = own_nest d bold italic ps e h.1
 own_nest d bold italic (around l m is ps) e h =
     (own_nest (suc d) (is_bold (mark_off l) || bold) (not (is_bold (mark_off l)) || italic) is (λ z. omega arith) h.1, own_nest d bold italic ps e h.2)
 own_nest d bold italic (new_style m is ps) e h = absurd h
-
--- a text of which no line break is counted has none, and the other way round
-unbroken_count : (bs : List ℕ) → has_break bs ≡ false → breaks_of bs ≡ 0
-unbroken_count [] h = refl
-unbroken_count (b ∷ bs) h = by (b == 10) refl (or_both (b == 10) (has_break bs) h)
-  where
-    by : (v : Bool) → (b == 10) ≡ v → ((b == 10) ≡ false) × (has_break bs ≡ false) → breaks_of (b ∷ bs) ≡ 0
-    by true e a = absurd (let no = sym e ∙ a.0 in cc)
-    by false e a = ap (λ (v : Bool). if v then suc (breaks_of bs) else breaks_of bs) e ∙ unbroken_count bs a.1
-
-count_unbroken : (bs : List ℕ) → breaks_of bs ≡ 0 → has_break bs ≡ false
-count_unbroken [] h = refl
-count_unbroken (b ∷ bs) h = by (b == 10) refl
-  where
-    by : (v : Bool) → (b == 10) ≡ v → has_break (b ∷ bs) ≡ false
-    by true e = absurd (let no : suc (breaks_of bs) ≡ 0 = ap (λ (v : Bool). if v then suc (breaks_of bs) else breaks_of bs) (sym e) ∙ h in omega (arith, no))
-    by false e =
-        let rest : breaks_of bs ≡ 0 = ap (λ (v : Bool). if v then suc (breaks_of bs) else breaks_of bs) (sym e) ∙ h in
-        ap (λ (v : Bool). v || has_break bs) e ∙ count_unbroken bs rest
 
 retyped_unbroken : (ks : List Kept) (s t : Slot) (d : ℕ) → IsRetypedText ks (s, t) → UnbrokenIn d s.text → UnbrokenIn d t.text
 retyped_unbroken ks s t d (inl e) h = λ z. ap has_break e ∙ h z
@@ -303,9 +289,25 @@ new_texts_led k q items page p r h i =
     (retyped_led ks None (borders ts) (texts ts) (texts us) true (same_length ts us r.in_order) (paired ks ts us r.in_order r.texts)
     (own_texts_led p.old _ ts (own_led k q p.old h i)))
 
+-- no mark is first in a heading
+abbrev pub IsUnledIn : TextBlock → Tree → Type 0
+IsUnledIn a_paragraph t = Unit {0}
+IsUnledIn (a_heading s) t = begin_marked (children_of t) ≡ false
+
+begins_unmarked : (k : TextBlock) (q : List ℕ) (t : Tree) → IsStyledIn k q → IsIn k q t → IsUnledIn k t → begin_marked (children_of t) ≡ false
+begins_unmarked a_paragraph q t h i u = paragraph_begins q t h i
+begins_unmarked (a_heading s) q t h i u = u
+
+block_kinds : (b : Block) → is_leaf (kind_of b) ≡ false
+block_kinds paragraph = refl
+block_kinds (heading n) = refl
+
+no_leaf_in : (k : TextBlock) (q : List ℕ) (t : Tree) → IsIn k q t → is_leaf (label t).kind ≡ false
+no_leaf_in k q t i = ap is_leaf (block_kind k q t i) ∙ block_kinds (block_of k)
+
 pub own_edit : (k : TextBlock) (q : List ℕ) (items : Expanded) (page : List ℕ) (p : Pair) → IsRetyped same_node items page p → AreRead (children_of p.new)
-    → AreUtf8 (children_of p.new) → IsStyledIn k q → IsIn k q p.old → IsStyledEditOf k p.old (as_own (pieces_of (children_of p.old) (children_of p.new)))
-own_edit k q items page p r read utf8 h i =
+    → AreUtf8 (children_of p.new) → IsStyledIn k q → IsIn k q p.old → IsUnledIn k p.old → IsStyledEditOf k p.old (as_own (pieces_of (children_of p.old) (children_of p.new)))
+own_edit k q items page p r read utf8 h i begins =
     let ts : Trees = children_of p.old in
     let us : Trees = children_of p.new in
     let ks : List Kept = kept_nodes p.old in
@@ -323,6 +325,11 @@ own_edit k q items page p r read utf8 h i =
     (retyped_hold ks None (borders ts) (texts ts) (texts us) 0 (same_length ts us r.in_order) (paired ks ts us r.in_order r.texts) old_texts) in
     let unbroken : AllLeaves UnbrokenIn 0 us =
     leaves_hold UnbrokenIn (λ d x y a. ((λ z. (broken_cut x y (a z)).0), (λ z. (broken_cut x y (a z)).1))) us new_texts in
+    let led = own_led k q p.old h i in
+    let first : NewFirst ks (borders us) (texts us) =
+    subst (λ bs. NewFirst ks bs (texts us)) (sym r.in_order)
+    (retyped_first ks (borders ts) (texts ts) (texts us) (same_length ts us r.in_order) (paired ks ts us r.in_order r.texts)
+    (block_first p.old (no_leaf_in k q p.old i) (begins_unmarked k q p.old h i begins) led) (own_texts_led p.old _ ts led)) in
     let same : sent_for p.old (as_own ps) ≡ sent_content shown us =
     own_signs 0 shown ps
     (trees_in Anything SameSign SameStyled (λ l os m ws f g z a. element_sign l os m ws f g z) (λ l m s b z. style_sign l m b z) ts 0 us (any_leaves us 0)
@@ -338,7 +345,7 @@ own_edit k q items page p r read utf8 h i =
       new = own_nest 0 false false ps (λ z. absurd (cc))
           (trees_in UnbrokenIn AreNodes AnyStyle (λ l os m ws f g z a. node_form (edit_shape l.kind).inline f) (λ l m s b z. tt) ts 0 us unbroken (sym r.in_order) free);
       led = subst (λ (t : StyledContent). AreMarksLed (signs_in t)) (sym same) (record {
-            first = ?;
+            first = sent_first us shown utf8 first;
             others = sent_led shown us utf8 (new_texts_led k q items page p r h i);
           });
     }

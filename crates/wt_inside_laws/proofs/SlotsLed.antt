@@ -144,7 +144,7 @@ led_by : (f : InlineForm) (block : Tree) (at : ℕ) (s : Bool) (l : Label) (ts :
     → LedBy f block at s l ts rest → ((v : Bool) → rest v → TextsLed (kept_nodes block) v ys after)
     → TextsLed (kept_nodes block) s (borders_by f l.id (borders ts) ++ ys) (texts_by f l.shown (λ as. all_texts_before ts as) after)
 led_by inline.Nothing block at s l ts rest ys after i h g = absurd h
-led_by inline.Characters block at s l ts rest ys after i h g = first_led (kept_nodes block) s ys l.shown after i (g (settled l.shown s) h.1)
+led_by inline.Characters block at s l ts rest ys after i h g = first_led (kept_nodes block) s ys l.shown after i (g (settled l.shown s) h.2)
 led_by inline.Bold block at s l ts rest ys after i h g =
     (tt, style_no (kept_nodes block) (borders ts) ys (λ as. all_texts_before ts as) after (λ zs as j q v. no_all ts block (at + length l.opening) zs as j h.0 q v) (g false h.1))
 led_by inline.Italic block at s l ts rest ys after i h g =
@@ -178,7 +178,7 @@ ends_settled : (bs : List ℕ) (s : Bool) → ends_in_break bs ≡ true → sett
 ends_settled [] s e = absurd (let no : false ≡ true = e in cc)
 ends_settled (b ∷ bs) s e = settled_is (b ∷ bs) s (omega arith) ∙ e
 
-settled_ends : (b : ℕ) (bs : List ℕ) (s : Bool) → settled (b ∷ bs) s ≡ true → ends_in_break (b ∷ bs) ≡ true
+pub settled_ends : (b : ℕ) (bs : List ℕ) (s : Bool) → settled (b ∷ bs) s ≡ true → ends_in_break (b ∷ bs) ≡ true
 settled_ends b bs s e = sym (settled_is (b ∷ bs) s (omega arith)) ∙ e
 
 typed_settled : (ks : List Kept) (old new : Slot) (s : Bool) (n : List ℕ) → IsTyped ks old new → old.text ≡ n

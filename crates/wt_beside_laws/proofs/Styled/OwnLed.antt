@@ -116,10 +116,10 @@ abbrev mutual
   NoLines block at none = Unit {0}
   NoLines block at (more t us) = NoLineIn block at t × NoLines block (at + length (flat t)) us
 
--- One after the other, where a line begins at this place or not. Of each text its source is what it shows; there are no separators.
+-- One after the other, where a line begins at this place or not. Of each text its source is what it shows, and none is empty; there are no separators.
 abbrev LedBy : InlineForm → Tree → ℕ → Bool → Label → Trees → (Bool → Type 0) → Type 0
 LedBy inline.Nothing block at s l ts rest = ⊥
-LedBy inline.Characters block at s l ts rest = (flat (tree l ts) ≡ l.shown) × rest (settled l.shown s)
+LedBy inline.Characters block at s l ts rest = (flat (tree l ts) ≡ l.shown) × (0 < length l.shown) × rest (settled l.shown s)
 LedBy inline.Bold block at s l ts rest = NoLines block (at + length l.opening) ts × rest false
 LedBy inline.Italic block at s l ts rest = NoLines block (at + length l.opening) ts × rest false
 LedBy inline.Shown block at s l ts rest = FoundAt block at (tree l ts) × (is_line (tree l ts) ≡ true → s ≡ true) × rest (is_line (tree l ts))
@@ -253,12 +253,12 @@ past_no k o b (loose j i c ∷ r) others run h = past_no j i c r others run.1 h.
 past_no k o b (node x ∷ r) others run h = absurd (let no = run.0 in cc)
 
 leaf_led : (k : Loose) (own : List Item) (block : Tree) (at : ℕ) (s : Bool) (n : ℕ) (before : List Item) (us : Trees) → IsText k
-    → sources own ≡ flat_map shown_item own
+    → sources own ≡ flat_map shown_item own → 0 < length (flat_map shown_item own)
     → AreOwnLed block (at + length (flat (standing n before (loose_leaf k own)))) (settled (flat_map shown_item own) s) us
     → AreOwnLed block at s (more (standing n before (loose_leaf k own)) us)
 unfolding label_at
-leaf_led Text own block at s n before us i e h = (standing_source n before (loose_leaf Text own) ∙ leaf_source Text own ∙ e, h)
-leaf_led Sep own block at s n before us i e h = absurd i
+leaf_led Text own block at s n before us i e some h = (standing_source n before (loose_leaf Text own) ∙ leaf_source Text own ∙ e, some, h)
+leaf_led Sep own block at s n before us i e some h = absurd i
 
 leaf_no : (k : Loose) (own : List Item) (block : Tree) (at n : ℕ) (before : List Item) → IsText k → NoLineIn block at (standing n before (loose_leaf k own))
 unfolding label_at
@@ -286,7 +286,7 @@ runs_led ((loose k o b ∷ r) ∷ rs) ps s block at from n before some a h e =
     let m : ℕ = n + count (placed before u) in
     let us : Trees = nodes_of m (before ++ tree_items u) (forest (map child rs)) in
     let own : AllLed s (loose k o b ∷ (r ++ a.0)) = subst (AllLed s) a.1 h in
-    leaf_led k (held_parts run) block at s n before us own.0 (run_sources k o b r a.0 a.2)
+    leaf_led k (held_parts run) block at s n before us own.0 (run_sources k o b r a.0 a.2) (omega arith)
     (runs_led rs a.0 (settled (flat_map shown_item (held_parts run)) s) block (at + length (flat t)) (from + length (visible (items t))) m (before ++ tree_items u)
     (omega (arith, some)) a.3 (past_led s k o b r a.0 a.2 own) (every_right (Finds block) (found_from at from t) _ e))
 runs_led ((node u ∷ []) ∷ rs) ps s block at from n before some a h e =
