@@ -34,7 +34,8 @@ use Rattle.wt_beside_laws.specs.Styled.{StyledContent, signs_in}
 use Rattle.wt_beside_laws.specs.StyledIn.{IsStyledIn, IsStyledEditOf}
 use Rattle.wt_beside_laws.proofs.Made.OldBlocks.{IsIn, block_kind, no_group}
 use Rattle.wt_beside_laws.proofs.Styled.LedLines.{own_led}
-use Rattle.wt_beside_laws.proofs.Styled.OwnFirst.{begin_marked, paragraph_begins}
+use Rattle.wt_beside_laws.specs.OwnLed.{begin_marked}
+use Rattle.wt_beside_laws.proofs.Styled.OwnFirst.{paragraph_begins}
 use Rattle.wt_beside_laws.proofs.Styled.OwnNests.{own_nests}
 use Rattle.wt_beside_laws.proofs.Styled.OwnStyled.{own_styled}
 use Rattle.wt_beside_laws.proofs.Styled.SentFaults.{text_unbroken, or_both}

@@ -27,10 +27,9 @@ use Rattle.wt_beside_laws.specs.Led.{BeginsUnled}
 use Rattle.wt_beside_laws.specs.SentStyled.{text_then, found_then, or_nowiki, sent_by, sent_content}
 use Rattle.wt_beside_laws.specs.Styled.{StyledContent, signs_in}
 use Rattle.wt_beside_laws.proofs.Marks.Ends.{LastIs, last_of, ends_so}
-use Rattle.wt_beside_laws.proofs.Marks.LedItems.{settled}
 use Rattle.wt_beside_laws.proofs.Marks.Within.{began_so}
-use Rattle.wt_beside_laws.proofs.Styled.OwnFirst.{is_mark_node, begin_marked, role_mark}
-use Rattle.wt_beside_laws.proofs.Styled.OwnLed.{FoundAt, LedBy, AreOwnLed}
+use Rattle.wt_beside_laws.specs.OwnLed.{settled, is_mark_node, begin_marked, FoundAt, LedBy, AreOwnLed}
+use Rattle.wt_beside_laws.proofs.Styled.OwnFirst.{role_mark}
 use Rattle.wt_beside_laws.proofs.Styled.SentFaults.{or_both}
 use Rattle.wt_inside_laws.specs.Contents.{Border, element, bold, italic, end, borders_by, borders, onto_first, texts_by, all_texts_before, texts, Slot, slots_from}
 use Rattle.wt_inside_laws.specs.RetypedPieces.{Utf8By, HasUtf8, AreUtf8}

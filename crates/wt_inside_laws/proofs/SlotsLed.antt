@@ -24,8 +24,9 @@ use Rattle.wt_link_spelling.specs.Spelling.{kept_thing, opening_place, closing_p
 use Rattle.wt_beside_laws.specs.Led.{AreLed}
 use Rattle.wt_beside_laws.specs.SentStyled.{text_then, found_then, or_nowiki, sent_by, sent_content}
 use Rattle.wt_beside_laws.specs.Styled.{StyledContent, finished, sign, styled, signs_before, signs_in, delimiter}
-use Rattle.wt_beside_laws.proofs.Marks.LedItems.{settled, settled_append, settled_is}
-use Rattle.wt_beside_laws.proofs.Styled.OwnLed.{is_line, role_ends, FoundAt, NoLineBy, NoLines, LedBy, AreOwnLed}
+use Rattle.wt_beside_laws.specs.OwnLed.{settled, is_line, FoundAt, NoLineBy, NoLines, LedBy, AreOwnLed}
+use Rattle.wt_beside_laws.proofs.Marks.LedItems.{settled_append, settled_is}
+use Rattle.wt_beside_laws.proofs.Styled.OwnLed.{role_ends}
 use Rattle.wt_inside_laws.specs.Contents.{Border, element, bold, italic, end, borders_by, borders_of, borders, onto_first, texts_by, texts_before, all_texts_before, texts, Slot, slots_from}
 use Rattle.wt_inside_laws.specs.RetypedPieces.{Utf8By, AreUtf8}
 use Rattle.wt_inside_laws.specs.TextEdits.{is_line_mark, ends_in_break, IsTyped, IsRetypedText}

@@ -59,6 +59,7 @@ use Rattle.wt_text_edit_laws.specs.TextBlocks.{a_paragraph, block_of}
 use Rattle.wt_text_edit_laws.proofs.Blocks.BlockLeaves.{open_items, close_items}
 use Rattle.wt_beside_laws.specs.FlatBlocks.{lines_in}
 use Rattle.wt_beside_laws.specs.Nodes.{AreNodes}
+use Rattle.wt_beside_laws.specs.OwnLed.{is_mark_sort, is_mark_node, begin_marked}
 use Rattle.wt_beside_laws.specs.PageBlocks.{IsRoleAt}
 use Rattle.wt_beside_laws.specs.PageSigns.{ends_break, form_role, atom_role, tile_role, tile_signs, signs_of_tiles, line_signs, signs_of_lines, IsFlatTile, AreFlatTiles, AreFlatLines}
 use Rattle.wt_beside_laws.specs.Stood.{things}
@@ -73,23 +74,6 @@ use Rattle.wt_beside_laws.proofs.Styled.BlockNodes.{style_round}
 use Rattle.wt_beside_laws.proofs.Styled.BlockStyles.{parts_cut, line_fill, line_is}
 
 -- ---- a mark, by its kind
-
-abbrev pub is_mark_sort : Sort → Bool
-is_mark_sort sort.PageLink = false
-is_mark_sort sort.Url = false
-is_mark_sort sort.Switch = false
-is_mark_sort sort.Mark = true
-is_mark_sort sort.Group = false
-is_mark_sort sort.Island = false
-is_mark_sort sort.Other = false
-
-abbrev pub is_mark_node : Tree → Bool
-is_mark_node t = is_mark_sort (edit_shape (label t).kind).sort
-
--- the first of these is one
-abbrev pub begin_marked : Trees → Bool
-begin_marked none = false
-begin_marked (more t ts) = is_mark_node t
 
 url_unmarked : (opening text : List ℕ) → is_mark (url opening text) ≡ false
 url_unmarked [] text = refl

@@ -35,9 +35,9 @@ use Rattle.wt_annotated.specs.Numbering.{count}
 use Rattle.wt_annotated.specs.WithoutCalls.{placed}
 use Rattle.wt_part_laws.specs.Standing.{standing}
 use Rattle.wt_part_laws.proofs.Sources.{standing_source}
+use Rattle.wt_beside_laws.specs.OwnLed.{settled, line_by, is_line, FoundAt, NoLineBy, NoLineIn, NoLines, LedBy, AreOwnLed}
 use Rattle.wt_beside_laws.specs.PageSigns.{ends_break}
 use Rattle.wt_beside_laws.specs.SentPieces.{IsNodeForm}
-use Rattle.wt_beside_laws.proofs.Marks.LedItems.{settled}
 use Rattle.wt_beside_laws.proofs.OwnSigns.{Every, every_left, every_right, Finds}
 use Rattle.wt_beside_laws.proofs.PartThings.{IsThingForm, IsThing, tree_source, leaf_source, nodes_of, stands_kind, stands_form, node_number}
 use Rattle.wt_beside_laws.proofs.Styled.BlockNodes.{finds_own, style_round, style_children, style_holds, found_inside}
@@ -46,18 +46,6 @@ use Rattle.wt_beside_laws.proofs.Styled.StyleKinds.{EachIn}
 use Rattle.wt_beside_laws.proofs.Styled.StyleStarts.{IsBehindQuote}
 
 -- ---- a line of comments, by its source
-
-abbrev pub line_by : Sort → Tree → Bool
-line_by sort.PageLink t = false
-line_by sort.Url t = false
-line_by sort.Switch t = false
-line_by sort.Mark t = ends_with nat_eq (flat t) (10 ∷ [])
-line_by sort.Group t = false
-line_by sort.Island t = false
-line_by sort.Other t = false
-
-abbrev pub is_line : Tree → Bool
-is_line t = line_by (edit_shape (label t).kind).sort t
 
 url_within : (opening text : List ℕ) → ends_line (url opening text) ≡ false
 url_within [] text = refl
@@ -88,51 +76,6 @@ line_source sort.Mark t h = h
 line_source sort.Group t h = refl
 line_source sort.Island t h = refl
 line_source sort.Other t h = refl
-
--- ---- nodes in their block
-
--- found by its number, at this place
-abbrev pub FoundAt : Tree → ℕ → Tree → Type 0
-FoundAt block at t = (from : ℕ) × (kept_with (label t).id (kept_nodes block) ≡ Some (kept_of block (found_at at from t)))
-
--- with no line of comments among them, nor in bold and italic
-abbrev NoLineBy : InlineForm → Tree → ℕ → Label → Trees → Type 0 → Type 0
-NoLineBy inline.Nothing block at l ts inside = Unit {0}
-NoLineBy inline.Characters block at l ts inside = Unit {0}
-NoLineBy inline.Bold block at l ts inside = inside
-NoLineBy inline.Italic block at l ts inside = inside
-NoLineBy inline.Shown block at l ts inside = FoundAt block at (tree l ts) × (is_line (tree l ts) ≡ false)
-NoLineBy inline.PageLink block at l ts inside = FoundAt block at (tree l ts) × (is_line (tree l ts) ≡ false)
-NoLineBy inline.ExternalLink block at l ts inside = FoundAt block at (tree l ts) × (is_line (tree l ts) ≡ false)
-NoLineBy inline.Tag block at l ts inside = FoundAt block at (tree l ts) × (is_line (tree l ts) ≡ false)
-NoLineBy inline.Break block at l ts inside = FoundAt block at (tree l ts) × (is_line (tree l ts) ≡ false)
-NoLineBy inline.AsItStood block at l ts inside = FoundAt block at (tree l ts) × (is_line (tree l ts) ≡ false)
-
-abbrev mutual
-  pub NoLineIn : Tree → ℕ → Tree → Type 0
-  NoLineIn block at (tree l ts) = NoLineBy (edit_shape l.kind).inline block at l ts (NoLines block (at + length l.opening) ts)
-
-  pub NoLines : Tree → ℕ → Trees → Type 0
-  NoLines block at none = Unit {0}
-  NoLines block at (more t us) = NoLineIn block at t × NoLines block (at + length (flat t)) us
-
--- One after the other, where a line begins at this place or not. Of each text its source is what it shows, and none is empty; there are no separators.
-abbrev LedBy : InlineForm → Tree → ℕ → Bool → Label → Trees → (Bool → Type 0) → Type 0
-LedBy inline.Nothing block at s l ts rest = ⊥
-LedBy inline.Characters block at s l ts rest = (flat (tree l ts) ≡ l.shown) × (0 < length l.shown) × rest (settled l.shown s)
-LedBy inline.Bold block at s l ts rest = NoLines block (at + length l.opening) ts × rest false
-LedBy inline.Italic block at s l ts rest = NoLines block (at + length l.opening) ts × rest false
-LedBy inline.Shown block at s l ts rest = FoundAt block at (tree l ts) × (is_line (tree l ts) ≡ true → s ≡ true) × rest (is_line (tree l ts))
-LedBy inline.PageLink block at s l ts rest = FoundAt block at (tree l ts) × (is_line (tree l ts) ≡ true → s ≡ true) × rest (is_line (tree l ts))
-LedBy inline.ExternalLink block at s l ts rest = FoundAt block at (tree l ts) × (is_line (tree l ts) ≡ true → s ≡ true) × rest (is_line (tree l ts))
-LedBy inline.Tag block at s l ts rest = FoundAt block at (tree l ts) × (is_line (tree l ts) ≡ true → s ≡ true) × rest (is_line (tree l ts))
-LedBy inline.Break block at s l ts rest = FoundAt block at (tree l ts) × (is_line (tree l ts) ≡ true → s ≡ true) × rest (is_line (tree l ts))
-LedBy inline.AsItStood block at s l ts rest = FoundAt block at (tree l ts) × (is_line (tree l ts) ≡ true → s ≡ true) × rest (is_line (tree l ts))
-
-abbrev pub AreOwnLed : Tree → ℕ → Bool → Trees → Type 0
-AreOwnLed block at s none = Unit {0}
-AreOwnLed block at s (more (tree l ts) us) =
-    LedBy (edit_shape l.kind).inline block at s l ts (λ v. AreOwnLed block (at + length (flat (tree l ts))) v us)
 
 -- a node of a content that is no line of comments, and one that is
 record NoNode (block : Tree) (at : ℕ) (t : Tree) : Type 0 where
