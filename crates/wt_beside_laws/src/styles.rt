@@ -1,6 +1,6 @@
 //! Laws of texts that are typed beside and inside of bold and italic: how such a content is read.
 
-ghost use Rattle.std.specs.Prelude.{◌≡◌, ℕ, ◌<◌, Bool, true, false, List, [], ◌∷◌, ◌++◌, length};
+ghost use Rattle.std.specs.Prelude.{◌≡◌, ℕ, ◌+◌, ◌<◌, Bool, true, false, List, [], ◌∷◌, ◌++◌, length};
 ghost use Rattle.wt_span.specs.Items.{Item};
 ghost use Rattle.wt_tree.specs.declared.edit_shape.Place.{Place as Where};
 ghost use Rattle.wt_tree.specs.Plain.{Plains, plains_before};

@@ -42,7 +42,7 @@ use Rattle.wt_beside_laws.proofs.Styled.SentFaults.{text_unbroken, or_both}
 use Rattle.wt_visible.proofs.SameTells.{tells_same}
 use Rattle.wt_called_edit_laws.specs.EditsAt.{IsStanding}
 use Rattle.wt_inside_laws.specs.Contents.{Border, borders, texts, Slot, slots_from, slots}
-use Rattle.wt_inside_laws.specs.RetypedPieces.{pieces_of, as_own, AreRead, ArePiecesOf, Utf8By, HasUtf8, AreUtf8}
+use Rattle.wt_inside_laws.specs.RetypedPieces.{pieces_of, as_own, AreRead, ArePiecesOf, Utf8By, HasUtf8, AreUtf8, BeginsUnmarked}
 use Rattle.wt_inside_laws.specs.TextEdits.{breaks_of, takes_text, IsTyped, IsRetypedText, IsOneLine, IsRetyped}
 use Rattle.wt_inside_laws.proofs.Between.{texts_between}
 use Rattle.wt_inside_laws.proofs.Breaks.{unbroken_count, count_unbroken}
@@ -290,12 +290,7 @@ new_texts_led k q items page p r h i =
     (retyped_led ks None (borders ts) (texts ts) (texts us) true (same_length ts us r.in_order) (paired ks ts us r.in_order r.texts)
     (own_texts_led p.old _ ts (own_led k q p.old h i)))
 
--- no mark is first in a heading
-abbrev pub IsUnledIn : TextBlock → Tree → Type 0
-IsUnledIn a_paragraph t = Unit {0}
-IsUnledIn (a_heading s) t = begin_marked (children_of t) ≡ false
-
-begins_unmarked : (k : TextBlock) (q : List ℕ) (t : Tree) → IsStyledIn k q → IsIn k q t → IsUnledIn k t → begin_marked (children_of t) ≡ false
+begins_unmarked : (k : TextBlock) (q : List ℕ) (t : Tree) → IsStyledIn k q → IsIn k q t → BeginsUnmarked k t → begin_marked (children_of t) ≡ false
 begins_unmarked a_paragraph q t h i u = paragraph_begins q t h i
 begins_unmarked (a_heading s) q t h i u = u
 
@@ -307,7 +302,7 @@ no_leaf_in : (k : TextBlock) (q : List ℕ) (t : Tree) → IsIn k q t → is_lea
 no_leaf_in k q t i = ap is_leaf (block_kind k q t i) ∙ block_kinds (block_of k)
 
 pub own_edit : (k : TextBlock) (q : List ℕ) (items : Expanded) (page : List ℕ) (p : Pair) → IsRetyped same_node items page p → AreRead (children_of p.new)
-    → AreUtf8 (children_of p.new) → IsStyledIn k q → IsIn k q p.old → IsUnledIn k p.old → IsStyledEditOf k p.old (as_own (pieces_of (children_of p.old) (children_of p.new)))
+    → AreUtf8 (children_of p.new) → IsStyledIn k q → IsIn k q p.old → BeginsUnmarked k p.old → IsStyledEditOf k p.old (as_own (pieces_of (children_of p.old) (children_of p.new)))
 own_edit k q items page p r read utf8 h i begins =
     let ts : Trees = children_of p.old in
     let us : Trees = children_of p.new in
@@ -350,3 +345,9 @@ own_edit k q items page p r read utf8 h i begins =
             others = sent_led shown us utf8 (new_texts_led k q items page p r h i);
           });
     }
+
+pub standing_edit : (k : TextBlock) (q : List ℕ) (items : Expanded) (page : List ℕ) (p : Pair) → IsRetyped same_node items page p → AreRead (children_of p.new)
+    → AreUtf8 (children_of p.new) → IsStanding (block_tree k q) p.old → IsStyledIn k q → BeginsUnmarked k p.old
+    → IsStyledEditOf k p.old (as_own (pieces_of (children_of p.old) (children_of p.new)))
+standing_edit k q items page p r read utf8 s h b =
+    own_edit k q items page p r read utf8 h (record { number = s.number; before = s.before; some = s.some; is = s.is }) b

@@ -1,5 +1,5 @@
 -- A paragraph of the page begins with no mark: its first node, where no text is before it, is another one.
-use Rattle.std.proofs.Common.{arith, ◌≡◌, ℕ, zero, suc, ◌+◌, ◌<◌, ◌≤◌, Bool, true, false, Option, None, Some, List, [], ◌∷◌, ◌++◌, length, map, take, drop, refl, sym, ap, ◌∙◌, subst, append-nil}
+use Rattle.std.proofs.Common.{arith, ◌≡◌, ℕ, zero, suc, ◌+◌, ◌-◌, ◌<◌, ◌≤◌, Bool, true, false, Option, None, Some, List, [], ◌∷◌, ◌++◌, length, map, take, drop, refl, sym, ap, ◌∙◌, subst, append-nil}
 use Rattle.std.specs.Prelude.{if◌then◌else◌}
 use Rattle.std.specs.List.{flat_map, AllByRecursion}
 use Rattle.std.specs.Str.{chars}
@@ -313,7 +313,7 @@ begins_plain [] e = tt
 begins_plain (x ∷ xs) e = by (is_mark_item x) refl
   where
     by : (v : Bool) → is_mark_item x ≡ v → is_mark_item x ≡ false
-    by true i = absurd (let no : suc (marks_len xs) ≡ 0 = ap (λ (t : Bool). if t then suc (marks_len xs) else 0) (sym i) ∙ e in omega (arith, no))
+    by true i = absurd (let no : 1 + marks_len xs ≡ 0 = ap (λ (t : Bool). if t then 1 + marks_len xs else 0) (sym i) ∙ e in omega (arith, no))
     by false i = i
 
 pub paragraph_begins : (q : List ℕ) (block : Tree) → IsStyledIn a_paragraph q → IsIn a_paragraph q block → begin_marked (children_of block) ≡ false

@@ -1,5 +1,5 @@
 -- In a block of the page a line of comments stands only where a line begins: behind a line break, behind another such line, or at its start.
-use Rattle.std.proofs.Common.{arith, ◌≡◌, ◌≢◌, ◌⊎◌, ℕ, zero, suc, ◌+◌, ◌-◌, ◌<◌, ◌≤◌, Bool, true, false, Option, None, Some, List, [], ◌∷◌, ◌++◌, length, map, take, drop, refl, sym, ap, ◌∙◌, subst, append-nil, inl, inr}
+use Rattle.std.proofs.Common.{arith, ◌≡◌, ◌≢◌, ◌⊎◌, ℕ, zero, suc, ◌+◌, ◌-◌, ◌<◌, ◌≤◌, ◌==◌, Bool, true, false, Option, None, Some, List, [], ◌∷◌, ◌++◌, length, map, take, drop, refl, sym, ap, ◌∙◌, subst, append-nil, inl, inr}
 use Rattle.std.specs.Prelude.{nat_eq}
 use Rattle.std.specs.List.{ends_with, flat_map}
 use Rattle.wt_span.specs.Items.{Item, sources}
@@ -78,14 +78,14 @@ line_source sort.Island t h = refl
 line_source sort.Other t h = refl
 
 -- a node of a content that is no line of comments, and one that is
-record NoNode (block : Tree) (at : ℕ) (t : Tree) : Type 0 where
-  form : IsNodeForm (edit_shape (label t).kind).inline
-  none : NoLineIn block at t
+pub record NoNode (block : Tree) (at : ℕ) (t : Tree) : Type 0 where
+  pub form : IsNodeForm (edit_shape (label t).kind).inline
+  pub none : NoLineIn block at t
 
-record LineNode (block : Tree) (at : ℕ) (t : Tree) : Type 0 where
-  form : IsThingForm (edit_shape (label t).kind).inline
-  found : FoundAt block at t
-  line : is_line t ≡ true
+pub record LineNode (block : Tree) (at : ℕ) (t : Tree) : Type 0 where
+  pub form : IsThingForm (edit_shape (label t).kind).inline
+  pub found : FoundAt block at t
+  pub line : is_line t ≡ true
 
 no_by : (f : InlineForm) (block : Tree) (at : ℕ) (s : Bool) (l : Label) (ts : Trees) (inside : Type 0) (rest : Bool → Type 0) → IsNodeForm f
     → (inside → NoLines block (at + length l.opening) ts) → NoLineBy f block at l ts inside → rest false → LedBy f block at s l ts rest
