@@ -31,6 +31,7 @@ pub mod StyleKinds
 pub mod StyleStarts
 pub mod OwnLed
 pub mod LedLines
+pub mod OwnFirst
 pub mod OwnNests
 pub mod SentNests
 pub mod UrlEnds

@@ -27,6 +27,10 @@ pub mod PageAlike
 pub mod SentCases
 pub mod SlotTexts
 pub mod OwnPieces
+pub mod SlotsLed
+pub mod Breaks
+pub mod SlotsFirst
+pub mod OwnEdits
 pub mod InsidesCases
 pub mod PageCases
 pub mod LocalCases

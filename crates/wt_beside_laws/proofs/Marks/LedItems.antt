@@ -22,16 +22,12 @@ use Rattle.wt_expand.specs.PageItems.{raw_form_by, form_of, page_items}
 use Rattle.wt_text_edit_laws.specs.TextBlocks.{TextBlock, a_paragraph, a_heading}
 use Rattle.wt_text_edit_laws.proofs.Between.Fronts.{items_from, first_items, first_from, byte_from, form_from}
 use Rattle.wt_beside_laws.specs.FlatBlocks.{lines_in}
+use Rattle.wt_beside_laws.specs.OwnLed.{settled}
 use Rattle.wt_beside_laws.specs.PageSigns.{ends_break}
 use Rattle.wt_beside_laws.proofs.LinkTiles.{some_same}
 use Rattle.wt_beside_laws.proofs.Marks.Ends.{LastIs, ends_so}
 
 -- ---- where a line begins
-
--- whether a line begins behind these bytes, where one began before them or not
-abbrev pub settled : List ℕ → Bool → Bool
-settled [] s = s
-settled (b ∷ bs) s = settled bs (b == 10)
 
 pub settled_append : (xs ys : List ℕ) (s : Bool) → settled (xs ++ ys) s ≡ settled ys (settled xs s)
 settled_append [] ys s = refl

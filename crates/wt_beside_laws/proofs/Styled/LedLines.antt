@@ -49,6 +49,7 @@ use Rattle.wt_beside_laws.specs.Content.{AreKept}
 use Rattle.wt_beside_laws.specs.FlatBlocks.{lines_in, begins_at, signs_in}
 use Rattle.wt_beside_laws.specs.NodeItems.{node_items}
 use Rattle.wt_beside_laws.specs.Nodes.{AreNodes}
+use Rattle.wt_beside_laws.specs.OwnLed.{settled, line_by, is_line, AreOwnLed}
 use Rattle.wt_beside_laws.specs.PageSigns.{ends_break, tile_signs, signs_of_tiles, line_signs, signs_of_lines, IsFlatTile, AreFlatTiles, HasNoBreak, AreFlatLines}
 use Rattle.wt_beside_laws.specs.Stood.{things}
 use Rattle.wt_beside_laws.specs.StyledIn.{IsStyledIn}
@@ -58,7 +59,7 @@ use Rattle.wt_beside_laws.proofs.FormsAlone.{by_parts}
 use Rattle.wt_beside_laws.proofs.LineThings.{nodes_parts, tile_told}
 use Rattle.wt_beside_laws.proofs.Made.OldBlocks.{with_parts, parts_are, lines_are, IsIn, no_group}
 use Rattle.wt_beside_laws.proofs.Marks.Ends.{ends_so, kept_unended, comment_unended, remarked_unended}
-use Rattle.wt_beside_laws.proofs.Marks.LedItems.{settled, settled_is, LedItems, led_cut, EachLed, content_led}
+use Rattle.wt_beside_laws.proofs.Marks.LedItems.{settled_is, LedItems, led_cut, EachLed, content_led}
 use Rattle.wt_beside_laws.proofs.Marks.Shown.{line_node}
 use Rattle.wt_beside_laws.proofs.Marks.Within.{Goes, chars_go, chars_some, tile_goes, kept_front}
 use Rattle.wt_beside_laws.proofs.OwnSigns.{Every, Finds, all_found}
@@ -66,7 +67,7 @@ use Rattle.wt_beside_laws.proofs.PageSigns.{AreChars, are_chars, none_take, none
 use Rattle.wt_beside_laws.proofs.PartThings.{IsThing, tree_source, HaveThings, nodes_of, stands_kind}
 use Rattle.wt_beside_laws.proofs.SentNodes.{no_things}
 use Rattle.wt_beside_laws.proofs.Styled.BlockStyles.{line_fill, line_is}
-use Rattle.wt_beside_laws.proofs.Styled.OwnLed.{line_by, is_line, AllNo, AllLed, led_lines, AreOwnLed, children_led, thing_no, line_on, EachNo, each_no, SegmentsLed, segments_then, parts_led, styled_led}
+use Rattle.wt_beside_laws.proofs.Styled.OwnLed.{AllNo, AllLed, led_lines, children_led, thing_no, line_on, EachNo, each_no, SegmentsLed, segments_then, parts_led, styled_led}
 use Rattle.wt_beside_laws.proofs.Styled.StyleStarts.{styles_behind}
 use Rattle.wt_beside_laws.proofs.TileRoles.{mark_thing}
 

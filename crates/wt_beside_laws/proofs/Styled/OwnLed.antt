@@ -1,5 +1,5 @@
 -- In a block of the page a line of comments stands only where a line begins: behind a line break, behind another such line, or at its start.
-use Rattle.std.proofs.Common.{arith, ◌≡◌, ◌≢◌, ◌⊎◌, ℕ, zero, suc, ◌+◌, ◌-◌, ◌<◌, ◌≤◌, Bool, true, false, Option, None, Some, List, [], ◌∷◌, ◌++◌, length, map, take, drop, refl, sym, ap, ◌∙◌, subst, append-nil, inl, inr}
+use Rattle.std.proofs.Common.{arith, ◌≡◌, ◌≢◌, ◌⊎◌, ℕ, zero, suc, ◌+◌, ◌-◌, ◌<◌, ◌≤◌, ◌==◌, Bool, true, false, Option, None, Some, List, [], ◌∷◌, ◌++◌, length, map, take, drop, refl, sym, ap, ◌∙◌, subst, append-nil, inl, inr}
 use Rattle.std.specs.Prelude.{nat_eq}
 use Rattle.std.specs.List.{ends_with, flat_map}
 use Rattle.wt_span.specs.Items.{Item, sources}
@@ -35,9 +35,9 @@ use Rattle.wt_annotated.specs.Numbering.{count}
 use Rattle.wt_annotated.specs.WithoutCalls.{placed}
 use Rattle.wt_part_laws.specs.Standing.{standing}
 use Rattle.wt_part_laws.proofs.Sources.{standing_source}
+use Rattle.wt_beside_laws.specs.OwnLed.{settled, line_by, is_line, FoundAt, NoLineBy, NoLineIn, NoLines, LedBy, AreOwnLed}
 use Rattle.wt_beside_laws.specs.PageSigns.{ends_break}
 use Rattle.wt_beside_laws.specs.SentPieces.{IsNodeForm}
-use Rattle.wt_beside_laws.proofs.Marks.LedItems.{settled}
 use Rattle.wt_beside_laws.proofs.OwnSigns.{Every, every_left, every_right, Finds}
 use Rattle.wt_beside_laws.proofs.PartThings.{IsThingForm, IsThing, tree_source, leaf_source, nodes_of, stands_kind, stands_form, node_number}
 use Rattle.wt_beside_laws.proofs.Styled.BlockNodes.{finds_own, style_round, style_children, style_holds, found_inside}
@@ -46,18 +46,6 @@ use Rattle.wt_beside_laws.proofs.Styled.StyleKinds.{EachIn}
 use Rattle.wt_beside_laws.proofs.Styled.StyleStarts.{IsBehindQuote}
 
 -- ---- a line of comments, by its source
-
-abbrev pub line_by : Sort → Tree → Bool
-line_by sort.PageLink t = false
-line_by sort.Url t = false
-line_by sort.Switch t = false
-line_by sort.Mark t = ends_with nat_eq (flat t) (10 ∷ [])
-line_by sort.Group t = false
-line_by sort.Island t = false
-line_by sort.Other t = false
-
-abbrev pub is_line : Tree → Bool
-is_line t = line_by (edit_shape (label t).kind).sort t
 
 url_within : (opening text : List ℕ) → ends_line (url opening text) ≡ false
 url_within [] text = refl
@@ -89,60 +77,15 @@ line_source sort.Group t h = refl
 line_source sort.Island t h = refl
 line_source sort.Other t h = refl
 
--- ---- nodes in their block
-
--- found by its number, at this place
-abbrev pub FoundAt : Tree → ℕ → Tree → Type 0
-FoundAt block at t = (from : ℕ) × (kept_with (label t).id (kept_nodes block) ≡ Some (kept_of block (found_at at from t)))
-
--- with no line of comments among them, nor in bold and italic
-abbrev NoLineBy : InlineForm → Tree → ℕ → Label → Trees → Type 0 → Type 0
-NoLineBy inline.Nothing block at l ts inside = Unit {0}
-NoLineBy inline.Characters block at l ts inside = Unit {0}
-NoLineBy inline.Bold block at l ts inside = inside
-NoLineBy inline.Italic block at l ts inside = inside
-NoLineBy inline.Shown block at l ts inside = FoundAt block at (tree l ts) × (is_line (tree l ts) ≡ false)
-NoLineBy inline.PageLink block at l ts inside = FoundAt block at (tree l ts) × (is_line (tree l ts) ≡ false)
-NoLineBy inline.ExternalLink block at l ts inside = FoundAt block at (tree l ts) × (is_line (tree l ts) ≡ false)
-NoLineBy inline.Tag block at l ts inside = FoundAt block at (tree l ts) × (is_line (tree l ts) ≡ false)
-NoLineBy inline.Break block at l ts inside = FoundAt block at (tree l ts) × (is_line (tree l ts) ≡ false)
-NoLineBy inline.AsItStood block at l ts inside = FoundAt block at (tree l ts) × (is_line (tree l ts) ≡ false)
-
-abbrev mutual
-  pub NoLineIn : Tree → ℕ → Tree → Type 0
-  NoLineIn block at (tree l ts) = NoLineBy (edit_shape l.kind).inline block at l ts (NoLines block (at + length l.opening) ts)
-
-  pub NoLines : Tree → ℕ → Trees → Type 0
-  NoLines block at none = Unit {0}
-  NoLines block at (more t us) = NoLineIn block at t × NoLines block (at + length (flat t)) us
-
--- One after the other, where a line begins at this place or not. Of each text its source is what it shows.
-abbrev LedBy : InlineForm → Tree → ℕ → Bool → Label → Trees → (Bool → Type 0) → Type 0
-LedBy inline.Nothing block at s l ts rest = rest s
-LedBy inline.Characters block at s l ts rest = (flat (tree l ts) ≡ l.shown) × rest (settled l.shown s)
-LedBy inline.Bold block at s l ts rest = NoLines block (at + length l.opening) ts × rest false
-LedBy inline.Italic block at s l ts rest = NoLines block (at + length l.opening) ts × rest false
-LedBy inline.Shown block at s l ts rest = FoundAt block at (tree l ts) × (is_line (tree l ts) ≡ true → s ≡ true) × rest (is_line (tree l ts))
-LedBy inline.PageLink block at s l ts rest = FoundAt block at (tree l ts) × (is_line (tree l ts) ≡ true → s ≡ true) × rest (is_line (tree l ts))
-LedBy inline.ExternalLink block at s l ts rest = FoundAt block at (tree l ts) × (is_line (tree l ts) ≡ true → s ≡ true) × rest (is_line (tree l ts))
-LedBy inline.Tag block at s l ts rest = FoundAt block at (tree l ts) × (is_line (tree l ts) ≡ true → s ≡ true) × rest (is_line (tree l ts))
-LedBy inline.Break block at s l ts rest = FoundAt block at (tree l ts) × (is_line (tree l ts) ≡ true → s ≡ true) × rest (is_line (tree l ts))
-LedBy inline.AsItStood block at s l ts rest = FoundAt block at (tree l ts) × (is_line (tree l ts) ≡ true → s ≡ true) × rest (is_line (tree l ts))
-
-abbrev pub AreOwnLed : Tree → ℕ → Bool → Trees → Type 0
-AreOwnLed block at s none = Unit {0}
-AreOwnLed block at s (more (tree l ts) us) =
-    LedBy (edit_shape l.kind).inline block at s l ts (λ v. AreOwnLed block (at + length (flat (tree l ts))) v us)
-
 -- a node of a content that is no line of comments, and one that is
-record NoNode (block : Tree) (at : ℕ) (t : Tree) : Type 0 where
-  form : IsNodeForm (edit_shape (label t).kind).inline
-  none : NoLineIn block at t
+pub record NoNode (block : Tree) (at : ℕ) (t : Tree) : Type 0 where
+  pub form : IsNodeForm (edit_shape (label t).kind).inline
+  pub none : NoLineIn block at t
 
-record LineNode (block : Tree) (at : ℕ) (t : Tree) : Type 0 where
-  form : IsThingForm (edit_shape (label t).kind).inline
-  found : FoundAt block at t
-  line : is_line t ≡ true
+pub record LineNode (block : Tree) (at : ℕ) (t : Tree) : Type 0 where
+  pub form : IsThingForm (edit_shape (label t).kind).inline
+  pub found : FoundAt block at t
+  pub line : is_line t ≡ true
 
 no_by : (f : InlineForm) (block : Tree) (at : ℕ) (s : Bool) (l : Label) (ts : Trees) (inside : Type 0) (rest : Bool → Type 0) → IsNodeForm f
     → (inside → NoLines block (at + length l.opening) ts) → NoLineBy f block at l ts inside → rest false → LedBy f block at s l ts rest
@@ -253,12 +196,12 @@ past_no k o b (loose j i c ∷ r) others run h = past_no j i c r others run.1 h.
 past_no k o b (node x ∷ r) others run h = absurd (let no = run.0 in cc)
 
 leaf_led : (k : Loose) (own : List Item) (block : Tree) (at : ℕ) (s : Bool) (n : ℕ) (before : List Item) (us : Trees) → IsText k
-    → sources own ≡ flat_map shown_item own
+    → sources own ≡ flat_map shown_item own → 0 < length (flat_map shown_item own)
     → AreOwnLed block (at + length (flat (standing n before (loose_leaf k own)))) (settled (flat_map shown_item own) s) us
     → AreOwnLed block at s (more (standing n before (loose_leaf k own)) us)
 unfolding label_at
-leaf_led Text own block at s n before us i e h = (standing_source n before (loose_leaf Text own) ∙ leaf_source Text own ∙ e, h)
-leaf_led Sep own block at s n before us i e h = absurd i
+leaf_led Text own block at s n before us i e some h = (standing_source n before (loose_leaf Text own) ∙ leaf_source Text own ∙ e, some, h)
+leaf_led Sep own block at s n before us i e some h = absurd i
 
 leaf_no : (k : Loose) (own : List Item) (block : Tree) (at n : ℕ) (before : List Item) → IsText k → NoLineIn block at (standing n before (loose_leaf k own))
 unfolding label_at
@@ -286,7 +229,7 @@ runs_led ((loose k o b ∷ r) ∷ rs) ps s block at from n before some a h e =
     let m : ℕ = n + count (placed before u) in
     let us : Trees = nodes_of m (before ++ tree_items u) (forest (map child rs)) in
     let own : AllLed s (loose k o b ∷ (r ++ a.0)) = subst (AllLed s) a.1 h in
-    leaf_led k (held_parts run) block at s n before us own.0 (run_sources k o b r a.0 a.2)
+    leaf_led k (held_parts run) block at s n before us own.0 (run_sources k o b r a.0 a.2) (omega arith)
     (runs_led rs a.0 (settled (flat_map shown_item (held_parts run)) s) block (at + length (flat t)) (from + length (visible (items t))) m (before ++ tree_items u)
     (omega (arith, some)) a.3 (past_led s k o b r a.0 a.2 own) (every_right (Finds block) (found_from at from t) _ e))
 runs_led ((node u ∷ []) ∷ rs) ps s block at from n before some a h e =
