@@ -1,15 +1,12 @@
 -- What was sent in a retyped block is written, refused and shown as the page's own nodes are, with the texts that were sent beside them.
-use Rattle.std.proofs.Common.{◌≡◌, ◌≢◌, ◌⊎◌, ◌<◌, ℕ, zero, suc, ◌+◌, Bool, true, false, List, [], ◌∷◌, ◌++◌, length, refl, sym, ap, ap₂, ◌∙◌, subst, inl, inr}
-use Rattle.std.specs.Prelude.{◌==◌, ◌&&◌, ◌||◌, not, if◌then◌else◌, Option, Some, None}
+use Rattle.std.proofs.Common.{◌≡◌, ◌≢◌, ◌⊎◌, ℕ, suc, ◌+◌, Bool, true, false, List, [], ◌∷◌, ◌++◌, length, refl, sym, ap, ap₂, ◌∙◌, subst, inl, inr}
+use Rattle.std.specs.Prelude.{◌&&◌, ◌||◌, if◌then◌else◌, Option, Some, None}
 use Rattle.std.specs.List.{AllByRecursion}
 use Rattle.wt_span.specs.Origins.{Expanded}
-use Rattle.wt_tree.specs.declared.kind.AttrName.{AttrName}
 use Rattle.wt_tree.specs.declared.kind.Kind.{Kind}
 use Rattle.wt_tree.specs.declared.kind.Kind.TheVariants as kind
 use Rattle.wt_tree.specs.declared.kind.Mark.TheVariants as marks
-use Rattle.wt_tree.specs.declared.kind.Showing.{Showing}
-use Rattle.wt_tree.specs.declared.kind.Showing.TheVariants.{Characters, Inside, Nothing, Element}
-use Rattle.wt_tree.specs.declared.node.DataMw.{DataMw}
+use Rattle.wt_tree.specs.declared.kind.Showing.TheVariants.{Characters}
 use Rattle.wt_tree.specs.declared.edit_shape.InlineForm.{InlineForm}
 use Rattle.wt_tree.specs.declared.edit_shape.InlineForm.TheVariants as inline
 use Rattle.wt_tree.specs.declared.edit_shape.Place.{Place as Surround}
@@ -20,10 +17,9 @@ use Rattle.wt_tree.specs.Source.{flat}
 use Rattle.wt_tree.specs.Tiling.{is_group, HasNoGroup, NoneIsGroup}
 use Rattle.wt_tree.specs.Tree.{Label, Tree, tree, Trees, none, more, label}
 use Rattle.wt_guards.specs.Content.{ContentSign}
-use Rattle.wt_original.specs.Kept.{Kept, KeptNode, kept_with, kept_of, kept_nodes, found_at, found_from, found_in, items, visible, holds_kept}
-use Rattle.wt_original.specs.Numbers.{counts_up}
+use Rattle.wt_original.specs.Kept.{Kept, kept_with, kept_of, kept_nodes, found_at, found_from, found_in, items, visible, holds_kept}
 use Rattle.wt_original.specs.Page.{Page, TellsSame, page_of, node_or, restored, restored_all, is_unchanged}
-use Rattle.wt_link_spelling.specs.Spelling.{children_of, kept_thing, as_it_stood, unless_kept, anew_by, signs_by, signs_of, signs_of_all}
+use Rattle.wt_link_spelling.specs.Spelling.{children_of, kept_thing, anew_by, signs_by, signs_of, signs_of_all}
 use Rattle.wt_checks.specs.Places.{Page as Nodes}
 use Rattle.wt_checks.specs.WithoutMarks.{mark_off, unmarked, all_unmarked}
 use Rattle.wt_checks.proofs.Lookups.{each_split}
@@ -31,13 +27,12 @@ use Rattle.wt_content.specs.declared.content.Standing.{Standing}
 use Rattle.wt_content.specs.declared.content.Standing.TheVariants as stands
 use Rattle.wt_content.specs.declared.content.Surroundings.{Surroundings}
 use Rattle.wt_content.specs.declared.reason.ContentWhy.{ContentWhy}
-use Rattle.wt_content.specs.Content.{changed_from, standing, standing_of, if_replaced, nested_fault, own_faults, is_open, brings_link, below, faults_by, faults, all_faults, holds_link, is_link, outermost}
-use Rattle.wt_slices.specs.Changes.{Pair}
+use Rattle.wt_content.specs.Content.{changed_from, standing, standing_of, if_replaced, nested_fault, brings_link, below, faults_by, faults, all_faults, holds_link, is_link, outermost}
 use Rattle.wt_visible.specs.Restored.{held_by, restored as shown_again, all_restored}
-use Rattle.wt_typed_blocks.specs.Edited.{Pieces, no_pieces, gone, written, kept, around, new_style, page_pieces, text_node, sent_pieces, pieces_before, IsStyle, PiecesStay}
+use Rattle.wt_typed_blocks.specs.Edited.{Pieces, no_pieces, gone, written, kept, around, new_style, page_pieces, text_node, sent_pieces, pieces_before, IsStyle}
 use Rattle.wt_typed_blocks.proofs.EditedShows.{shown_same}
 use Rattle.wt_typed_blocks.proofs.SentGroups.{of_style}
-use Rattle.wt_beside_laws.proofs.OwnSigns.{Every, every_left, every_right, Finds, all_found, own_found, inside_found, held_if}
+use Rattle.wt_beside_laws.proofs.OwnSigns.{Every, every_left, every_right, Finds, own_found, inside_found, held_if}
 use Rattle.wt_inside_laws.specs.Contents.{elements_by, elements_of, elements, styles_by, styles_of, styles}
 use Rattle.wt_inside_laws.specs.RetypedPieces.{pieces_of, as_own, AreRead}
 use Rattle.wt_inside_laws.specs.TextEdits.{takes_text, IsUntouched, IsSameStyle, IsRetyped}

@@ -1,5 +1,5 @@
 -- Of the marked blocks of a page: the nodes in each are found by their numbers, and none is a group.
-use Rattle.std.proofs.Common.{arith, ◌≡◌, ◌≢◌, ◌<◌, ◌+◌, ℕ, Bool, true, false, List, [], ◌∷◌, ◌++◌, map, length, refl, sym, ap, ap₂, ◌∙◌, subst, inl, inr}
+use Rattle.std.proofs.Common.{arith, ◌≡◌, ◌≢◌, ◌<◌, ◌+◌, ℕ, Bool, true, false, List, [], ◌∷◌, ◌++◌, map, length, refl, sym, ap, ◌∙◌, subst, inl, inr}
 use Rattle.std.specs.Prelude.{◌==◌, ◌||◌, not, if◌then◌else◌, filter, Option, Some, None}
 use Rattle.std.specs.List.{AllByRecursion, flat_map}
 use Rattle.std.proofs.lemmas.Bool.Decides.{nat_tests}
@@ -10,15 +10,15 @@ use Rattle.wt_names.proofs.Cuts.{differs}
 use Rattle.wt_tree.specs.declared.kind.Kind.{Kind}
 use Rattle.wt_tree.specs.declared.kind.Kind.TheVariants as kind
 use Rattle.wt_tree.specs.Kinds.{is_section}
-use Rattle.wt_tree.specs.Opened.{opened, opened_before, all_opened_before, without_sections}
+use Rattle.wt_tree.specs.Opened.{opened_before, all_opened_before, without_sections}
 use Rattle.wt_tree.specs.Source.{flat}
-use Rattle.wt_tree.specs.Tiling.{is_group, HasNoGroup, NoneIsGroup, InPreorder}
-use Rattle.wt_tree.specs.Tree.{Label, Tree, tree, Trees, none, more, label}
+use Rattle.wt_tree.specs.Tiling.{is_group, HasNoGroup, NoneIsGroup}
+use Rattle.wt_tree.specs.Tree.{Tree, tree, Trees, none, more, label}
 use Rattle.wt_original.specs.Kept.{Kept, KeptNode, items, visible, kept_with, first_with, kept_of, kept_nodes, holds_kept, found_at, found_if, found_from, found_in}
 use Rattle.wt_original.specs.Page.{TellsSame}
 use Rattle.wt_original.proofs.Numbers.{pass, stop}
 use Rattle.wt_link_spelling.specs.Spelling.{children_of}
-use Rattle.wt_checks.specs.Kept.{IsSublist, children}
+use Rattle.wt_checks.specs.Kept.{IsSublist}
 use Rattle.wt_checks.specs.Places.{Place, placed, all_placed, places, number, is_kept, is_content, page_of, parent_below}
 use Rattle.wt_checks.proofs.EditedIsPage.{body_is}
 use Rattle.wt_checks.proofs.Found.{found_has, body_no_group}
@@ -27,7 +27,7 @@ use Rattle.wt_checks.proofs.Lookups.{each_split, each_join}
 use Rattle.wt_checks.proofs.WhatIsKept.{increasing}
 use Rattle.wt_slices.specs.Changes.{Pair, pair_with, is_edited, pair_at, marked}
 use Rattle.wt_typed_blocks.proofs.EditedKept.{more_sublist}
-use Rattle.wt_beside_laws.proofs.OwnSigns.{Every, every_weaker, Finds}
+use Rattle.wt_beside_laws.proofs.OwnSigns.{Every, Finds}
 use Rattle.wt_inside_laws.specs.AsSent.{IsPlainPage, IsReadFor, IsAlike}
 use Rattle.wt_inside_laws.specs.RetypedPieces.{AreRead}
 use Rattle.wt_inside_laws.specs.TextEdits.{IsRetyped}

@@ -1,7 +1,7 @@
 -- The edit of a page's nodes that was made of what was sent is answered as that is.
 use Rattle.std.proofs.Common.{◌≡◌, ◌≢◌, ℕ, Bool, true, false, List, [], ◌∷◌, ◌++◌, map, refl, sym, ap, ap₂, ◌∙◌, subst}
 use Rattle.std.specs.Prelude.{◌==◌, ◌||◌, not, if◌then◌else◌, Option, Some, None, option_map}
-use Rattle.std.specs.List.{AllByRecursion, flat_map}
+use Rattle.std.specs.List.{AllByRecursion}
 use Rattle.wt_span.specs.Origins.{Expanded}
 use Rattle.wt_tree.specs.declared.kind.Kind.{Kind}
 use Rattle.wt_tree.specs.declared.kind.Kind.TheVariants as kind
@@ -12,19 +12,16 @@ use Rattle.wt_tree.specs.Opened.{opened, without_sections}
 use Rattle.wt_tree.specs.Plain.{ended, plains_before}
 use Rattle.wt_tree.specs.Tiling.{is_group, HasNoGroup, NoneIsGroup, InPreorder, numbers_of_all}
 use Rattle.wt_tree.specs.Tree.{Label, Tree, tree, Trees, label}
-use Rattle.wt_link_spelling.specs.Spelling.{children_of}
 use Rattle.wt_checks.specs.declared.refusal.TreeRefusal.{TreeRefusal}
-use Rattle.wt_checks.specs.BareSections.{HasBareSections}
 use Rattle.wt_checks.specs.Checked.{checked}
 use Rattle.wt_checks.specs.Groups.{is_marked}
-use Rattle.wt_checks.specs.Kept.{Kept, HoldsTheSame, NodeAsItWas, children}
+use Rattle.wt_checks.specs.Kept.{Kept, HoldsTheSame, NodeAsItWas}
 use Rattle.wt_checks.specs.Marks.{editing, allows, is_children}
-use Rattle.wt_checks.specs.Places.{Place, placed, all_placed, places, number, kind_at, is_kept, is_body, is_content, Page, page_of, parent_below}
-use Rattle.wt_checks.specs.PutBack.{have_frame, IsOneBody}
-use Rattle.wt_checks.specs.Unmarked.{entries}
+use Rattle.wt_checks.specs.Places.{Place, all_placed, places, kind_at, is_body, is_content, Page, page_of, parent_below}
+use Rattle.wt_checks.specs.PutBack.{have_frame}
 use Rattle.wt_checks.proofs.EditedIsPage.{body_is, edited_root}
 use Rattle.wt_checks.proofs.Found.{Itself, each_itself, found_root, body_no_group}
-use Rattle.wt_checks.proofs.Lookups.{NoZero, each_split, all_page_numbers}
+use Rattle.wt_checks.proofs.Lookups.{each_split, all_page_numbers}
 use Rattle.wt_checks.proofs.PutBack.{at_some}
 use Rattle.wt_checks.proofs.Sections.{AreAlike, are_alike, kept_found, no_difference}
 use Rattle.wt_checks.proofs.WhatIsKept.{kept, increasing}
@@ -37,15 +34,14 @@ use Rattle.wt_selser.specs.declared.refusal.EditRefusal.{EditRefusal}
 use Rattle.wt_selser.specs.declared.refusal.EditRefusal.TheVariants as refusal
 use Rattle.wt_selser.specs.Edits.{refused_pairs, if_short, unless_refused, pairs_answer, edit_answer}
 use Rattle.wt_selser.proofs.Sections.{answers_same}
-use Rattle.wt_visible.specs.Children.{shown_children, listed}
-use Rattle.wt_visible.specs.Restored.{held_by, all_restored, restored_from}
+use Rattle.wt_visible.specs.Children.{listed}
+use Rattle.wt_visible.specs.Restored.{held_by, all_restored}
 use Rattle.wt_typed_blocks.specs.Edited.{Edited, stays, edited, round, Edits, no_edits, more_edits, page_node, page_nodes, AreEdited, IsOutside, AreOutside, page_body, sent_body}
 use Rattle.wt_typed_blocks.proofs.EditedKept.{found, passes}
 use Rattle.wt_typed_blocks.proofs.EditedSections.{one_body}
 use Rattle.wt_typed_blocks.proofs.EditedShows.{body_shows}
 use Rattle.wt_typed_blocks.proofs.EditedSlices.{Same, pairs_of, changes_of, marked_are}
 use Rattle.wt_typed_blocks.proofs.EditedSlices as edited_slices
-use Rattle.wt_called_edit_laws.specs.EditsAt.{edited_by}
 use Rattle.wt_inside_laws.specs.AsSent.{seen, edit_for, edits_among, edits_of, paths_of, node_at, IsPlainPage, IsReadFor, IsAlike, IsAsSent}
 use Rattle.wt_inside_laws.proofs.MatchedEdits.{pages_are, all_edited, all_edits_in, found_by_paths, nodes_found, all_hold_one, only_there}
 use Rattle.wt_inside_laws.proofs.MatchedNodes.{AreHidden, AllMatch, IsGiven, all_given, each_of_flat, unmarked_by, seen_given, are_seen, entries_seen, are_hidden, held_same, group_open, all_match}

@@ -1,9 +1,8 @@
 -- The edit of the nodes that are matched: its page is the page, and it is at its own paths.
-use Rattle.std.proofs.Common.{arith, ◌≡◌, ◌≢◌, ◌⊎◌, ℕ, zero, suc, Bool, true, false, List, [], ◌∷◌, ◌++◌, map, refl, sym, ap, ap₂, ◌∙◌, subst, inl, inr}
-use Rattle.std.specs.Prelude.{◌||◌, if◌then◌else◌, Option, Some, None}
+use Rattle.std.proofs.Common.{arith, ◌≡◌, ℕ, zero, suc, Bool, true, false, List, [], ◌∷◌, ◌++◌, map, refl, sym, ap, ap₂, ◌∙◌, inl, inr}
+use Rattle.std.specs.Prelude.{◌||◌, Option, Some, None}
 use Rattle.std.specs.List.{AllByRecursion}
 use Rattle.std.proofs.lemmas.List.{map-append}
-use Rattle.wt_tree.specs.declared.edit_shape.BlockForm.{BlockForm}
 use Rattle.wt_tree.specs.declared.kind.Kind.{Kind}
 use Rattle.wt_tree.specs.declared.kind.Kind.TheVariants as kind
 use Rattle.wt_tree.specs.declared.kind.Mark.{Mark}
@@ -16,17 +15,17 @@ use Rattle.wt_link_spelling.specs.Spelling.{children_of}
 use Rattle.wt_checks.specs.Places.{Page}
 use Rattle.wt_checks.specs.Tokens.{is_text}
 use Rattle.wt_checks.specs.Unmarked.{is_compared}
-use Rattle.wt_checks.specs.WithoutMarks.{mark_off, unmarked, all_unmarked}
-use Rattle.wt_checks.proofs.Lookups.{each_split, each_join}
+use Rattle.wt_checks.specs.WithoutMarks.{unmarked, all_unmarked}
+use Rattle.wt_checks.proofs.Lookups.{each_split}
 use Rattle.wt_slices.specs.Changes.{Pair}
-use Rattle.wt_typed_blocks.specs.Sent.{IsSentAsIs, StandsAsIs, AllStandAsIs, kind_of}
-use Rattle.wt_typed_blocks.specs.Edited.{PiecesStay, page_pieces, Edited, stays, edited, round, Edits, no_edits, more_edits, page_node, page_nodes, IsEdited, AreEdited}
+use Rattle.wt_typed_blocks.specs.Sent.{StandsAsIs, AllStandAsIs, kind_of}
+use Rattle.wt_typed_blocks.specs.Edited.{Edited, stays, edited, round, Edits, no_edits, more_edits, page_node, page_nodes, IsEdited, AreEdited}
 use Rattle.wt_typed_blocks.proofs.SentGroups.{no_group}
 use Rattle.wt_called_edit_laws.specs.AnyBlocks.{first_paths, other_paths, EndHere, GoOn}
-use Rattle.wt_called_edit_laws.specs.EditsAt.{edited_at, edited_among, edited_by, EditsOnly, AllEditOnly}
+use Rattle.wt_called_edit_laws.specs.EditsAt.{edited_at, edited_by, EditsOnly, AllEditOnly}
 use Rattle.wt_inside_laws.specs.TextEdits.{takes_text}
-use Rattle.wt_inside_laws.specs.AsSent.{seen, block_by, edit_for, as_it_is, holds_edit, hold_edits, round_if, edit_by, unless_text, first_edit, edit_of, edits_among, past_first, paths_in, paths_of, node_at, node_among, IsOneOf, AreSomeOf, IsAlike}
-use Rattle.wt_inside_laws.proofs.MatchedNodes.{IsLike, IsSameText, IsMarked, IsOpen, TextOr, MarkedBy, FirstMatches, Matches, AllMatch, by_text, by_mark}
+use Rattle.wt_inside_laws.specs.AsSent.{seen, block_by, edit_for, holds_edit, hold_edits, round_if, edit_by, unless_text, first_edit, edit_of, edits_among, past_first, paths_in, paths_of, node_at, node_among, IsOneOf, AreSomeOf, IsAlike}
+use Rattle.wt_inside_laws.proofs.MatchedNodes.{FirstMatches, Matches, AllMatch, by_text, by_mark}
 
 -- ---- the page
 

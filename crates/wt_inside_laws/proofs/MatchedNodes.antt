@@ -1,6 +1,6 @@
 -- Where the checks refuse nothing, each node of the page that is compared has its node in what is sent, in the page's order.
-use Rattle.std.proofs.Common.{◌≡◌, ◌≢◌, ◌⊎◌, ℕ, Bool, true, false, List, [], ◌∷◌, ◌++◌, map, refl, sym, ap, ◌∙◌, subst, inl, inr}
-use Rattle.std.specs.Prelude.{◌==◌, ◌||◌, not, if◌then◌else◌, Option, Some, None, MatchOption}
+use Rattle.std.proofs.Common.{◌≡◌, ◌≢◌, ◌⊎◌, ℕ, Bool, true, false, List, [], ◌∷◌, map, refl, sym, ap, ◌∙◌, subst, inl, inr}
+use Rattle.std.specs.Prelude.{◌==◌, ◌||◌, not, if◌then◌else◌, Option, Some, None}
 use Rattle.std.specs.List.{AllByRecursion, flat_map}
 use Rattle.wt_tree.specs.declared.kind.Kind.{Kind}
 use Rattle.wt_tree.specs.declared.kind.Kind.TheVariants as kind
@@ -17,7 +17,7 @@ use Rattle.wt_link_spelling.specs.Spelling.{children_of}
 use Rattle.wt_checks.specs.Groups.{is_marked, has_mark, have_mark}
 use Rattle.wt_checks.specs.Kept.{HoldsTheSame, NodeAsItWas, NodeKept, MarkKept}
 use Rattle.wt_checks.specs.Marks.{editing, allows, is_children}
-use Rattle.wt_checks.specs.Places.{Place, placed, all_placed, number, kind_at, is_kept, is_body, is_content, Page, parent_below}
+use Rattle.wt_checks.specs.Places.{Place, placed, all_placed, number, kind_at, is_body, is_content, Page, parent_below}
 use Rattle.wt_checks.specs.PutBack.{is_frame, has_frame, have_frame, IsAsRead}
 use Rattle.wt_checks.specs.Tokens.{is_text}
 use Rattle.wt_checks.specs.Unmarked.{Entry, text as entry_text, child as entry_child, is_compared, entry_by, entry, entries, own_character}
@@ -27,7 +27,7 @@ use Rattle.wt_checks.proofs.InOrder.{not_zero_kept}
 use Rattle.wt_checks.proofs.Lookups.{each_split, NoZero}
 use Rattle.wt_checks.proofs.PutBack.{at_some, numbered_kind}
 use Rattle.wt_checks.proofs.Repeated.{or_false}
-use Rattle.wt_slices.specs.Changes.{Pair, pair_with, is_edited, pair_at}
+use Rattle.wt_slices.specs.Changes.{pair_with, is_edited, pair_at}
 use Rattle.wt_typed_blocks.proofs.SentGroups.{mark_none}
 use Rattle.wt_inside_laws.specs.AsSent.{seen, HasNoMore, IsAlike}
 

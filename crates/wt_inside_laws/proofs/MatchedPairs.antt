@@ -1,21 +1,19 @@
 -- Where nodes are matched, the marked ones are those that are edited, in their order, and what is written for them is the same.
-use Rattle.std.proofs.Common.{◌≡◌, ◌≢◌, ◌⊎◌, ℕ, Bool, true, false, List, [], ◌∷◌, ◌++◌, map, refl, sym, ap, ap₂, ◌∙◌, subst}
+use Rattle.std.proofs.Common.{◌≡◌, ℕ, Bool, true, false, List, [], ◌∷◌, ◌++◌, map, refl, sym, ap, ap₂, ◌∙◌}
 use Rattle.std.specs.Prelude.{◌||◌, ◌&&◌, if◌then◌else◌, Option, Some, None, option_map}
 use Rattle.std.specs.List.{AllByRecursion, flat_map}
 use Rattle.std.proofs.lemmas.Grind.{flat_map-append}
 use Rattle.std.proofs.lemmas.List.{map-append}
 use Rattle.wt_span.specs.Origins.{Expanded}
-use Rattle.wt_tree.specs.declared.kind.Kind.{Kind}
 use Rattle.wt_tree.specs.declared.kind.Mark.{Mark}
 use Rattle.wt_tree.specs.declared.kind.Mark.TheVariants as marks
-use Rattle.wt_tree.specs.declared.kind.Ranges.{Ranges}
 use Rattle.wt_tree.specs.declared.edit_shape.Place.{Place as Surround}
 use Rattle.wt_tree.specs.Kinds.{showing, writing}
 use Rattle.wt_tree.specs.Tree.{Label, Tree, tree, Trees, none, more, label}
 use Rattle.wt_original.specs.Page.{page_of as block_page}
 use Rattle.wt_guards.specs.Content.{ContentSign}
 use Rattle.wt_guards.specs.Guards.{spelled}
-use Rattle.wt_link_spelling.specs.Spelling.{children_of, signs_of_all, inline_spelling}
+use Rattle.wt_link_spelling.specs.Spelling.{children_of, inline_spelling}
 use Rattle.wt_checks.specs.Groups.{has_mark, have_mark}
 use Rattle.wt_checks.specs.Marks.{is_children}
 use Rattle.wt_checks.specs.Places.{Place, placed, all_placed, places, Page, is_content, parent_below, page_of}
@@ -24,20 +22,18 @@ use Rattle.wt_checks.specs.Unmarked.{is_compared}
 use Rattle.wt_checks.proofs.Found.{found_has}
 use Rattle.wt_checks.proofs.Lookups.{each_split, each_join}
 use Rattle.wt_checks.proofs.Repeated.{or_false}
-use Rattle.wt_content.specs.declared.reason.ContentWhy.{ContentWhy}
 use Rattle.wt_content.specs.Children.{bad_children}
 use Rattle.wt_content.specs.Content.{outermost, all_faults, held, first_why, bad_content}
 use Rattle.wt_slices.specs.BodySlices.{list_at, child_slices, all_child_slices}
 use Rattle.wt_slices.specs.Changes.{Pair, pair_with, is_edited, pair_at, place_in, change_with, inside_of, insides, all_insides}
-use Rattle.wt_selser.specs.declared.refusal.EditRefusal.{EditRefusal}
 use Rattle.wt_selser.specs.declared.refusal.EditRefusal.TheVariants as refusal
-use Rattle.wt_selser.specs.Edits.{first_with, first_of, why_bad, bad_pair, is_tangled, tangled_pair, refused_pairs}
+use Rattle.wt_selser.specs.Edits.{first_with, first_of, bad_pair, is_tangled, tangled_pair, refused_pairs}
 use Rattle.wt_splice.specs.Splice.{Change}
-use Rattle.wt_typed_blocks.specs.Edited.{sent_pieces, Edited, stays, edited, round, Edits, no_edits, more_edits, page_node, sent_node}
-use Rattle.wt_typed_blocks.proofs.EditedSlices.{Same, pairs_in, pairs_of, content_of, change_of, changes_of, no_pairs, no_insides}
-use Rattle.wt_inside_laws.specs.AsSent.{seen, edit_for, pieces_for, as_it_is, hold_edits, holds_edit, round_if, edit_by, unless_text, first_edit, edit_of, edits_among, IsAlike}
-use Rattle.wt_inside_laws.proofs.MatchedEdits.{edit_page, edits_in, all_edits_in, none_held, round_edits}
-use Rattle.wt_inside_laws.proofs.MatchedNodes.{IsLike, IsSameText, IsHidden, AreHidden, IsMarked, IsOpen, TextOr, MarkedBy, FirstMatches, Matches, AllMatch, by_text, by_mark}
+use Rattle.wt_typed_blocks.specs.Edited.{Edited, stays, edited, round, Edits, no_edits, more_edits, page_node, sent_node}
+use Rattle.wt_typed_blocks.proofs.EditedSlices.{Same, pairs_in, pairs_of, change_of, changes_of, no_pairs}
+use Rattle.wt_inside_laws.specs.AsSent.{seen, edit_for, hold_edits, holds_edit, round_if, edit_by, unless_text, first_edit, edit_of, edits_among, IsAlike}
+use Rattle.wt_inside_laws.proofs.MatchedEdits.{edit_page, edits_in, all_edits_in, round_edits}
+use Rattle.wt_inside_laws.proofs.MatchedNodes.{IsSameText, IsHidden, AreHidden, FirstMatches, Matches, AllMatch, by_text, by_mark}
 
 -- ---- marked nodes
 

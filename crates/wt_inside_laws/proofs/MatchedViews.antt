@@ -1,11 +1,9 @@
 -- Where nodes are matched, what is sent shows what the edit of these nodes does.
-use Rattle.std.proofs.Common.{◌≡◌, ℕ, Bool, true, false, List, [], ◌∷◌, refl, sym, ap, ap₂, ◌∙◌, subst}
-use Rattle.std.specs.Prelude.{◌||◌, if◌then◌else◌, Option}
+use Rattle.std.proofs.Common.{◌≡◌, ℕ, Bool, true, false, List, [], ◌∷◌, refl, sym, ap, ◌∙◌}
+use Rattle.std.specs.Prelude.{if◌then◌else◌, Option}
 use Rattle.wt_tree.specs.declared.kind.AttrName.{AttrName}
 use Rattle.wt_tree.specs.declared.kind.Kind.{Kind}
 use Rattle.wt_tree.specs.declared.kind.Kind.TheVariants as kind
-use Rattle.wt_tree.specs.declared.kind.Mark.{Mark}
-use Rattle.wt_tree.specs.declared.kind.Mark.TheVariants as marks
 use Rattle.wt_tree.specs.declared.kind.Showing.{Showing}
 use Rattle.wt_tree.specs.declared.kind.Showing.TheVariants.{Characters, Inside, Nothing, Element}
 use Rattle.wt_tree.specs.declared.node.DataMw.{DataMw}
@@ -25,9 +23,9 @@ use Rattle.wt_typed_blocks.specs.Sent.{kind_of}
 use Rattle.wt_typed_blocks.specs.Edited.{pieces_before, Edited, stays, edited, round, Edits, no_edits, more_edits, page_node, page_nodes, edited_before, edits_before}
 use Rattle.wt_typed_blocks.proofs.EditedShows.{shown_same}
 use Rattle.wt_inside_laws.specs.TextEdits.{takes_text}
-use Rattle.wt_inside_laws.specs.AsSent.{seen, block_by, edit_for, pieces_for, as_it_is, hold_edits, holds_edit, round_if, edit_by, unless_text, first_edit, edit_of, edits_among, IsAlike}
+use Rattle.wt_inside_laws.specs.AsSent.{seen, block_by, edit_for, pieces_for, hold_edits, holds_edit, round_if, edit_by, unless_text, first_edit, edit_of, edits_among, IsAlike}
 use Rattle.wt_inside_laws.proofs.MatchedEdits.{pages_are}
-use Rattle.wt_inside_laws.proofs.MatchedNodes.{IsLike, IsSameText, IsHidden, AreHidden, IsMarked, IsOpen, TextOr, MarkedBy, FirstMatches, Matches, AllMatch, by_text, by_mark}
+use Rattle.wt_inside_laws.proofs.MatchedNodes.{IsLike, IsSameText, FirstMatches, Matches, AllMatch, by_text, by_mark}
 
 -- ---- those that are compared
 

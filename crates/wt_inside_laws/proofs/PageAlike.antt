@@ -1,11 +1,11 @@
 -- The edit of a page is answered as that of its own nodes.
-use Rattle.std.proofs.Common.{◌≡◌, ℕ, false, List, refl, sym, ap, ap₂, ◌∙◌, subst}
-use Rattle.std.specs.Prelude.{Option, Some, None, Result, Ok, Err, map}
+use Rattle.std.proofs.Common.{◌≡◌, ℕ, false, List, refl, sym, ap, ◌∙◌, subst}
+use Rattle.std.specs.Prelude.{Some, None, Result, Ok, Err, map}
 use Rattle.std.specs.List.{AllByRecursion}
 use Rattle.std.specs.Str.{IsUtf8}
 use Rattle.wt_tree.specs.Opened.{without_sections}
 use Rattle.wt_tree.specs.Tiling.{NoneIsGroup, InPreorder}
-use Rattle.wt_tree.specs.Tree.{Label, Tree, label}
+use Rattle.wt_tree.specs.Tree.{Tree}
 use Rattle.wt_link_spelling.specs.Spelling.{children_of}
 use Rattle.wt_checks.specs.Checked.{checked}
 use Rattle.wt_checks.specs.Kept.{children}

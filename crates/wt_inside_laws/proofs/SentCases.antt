@@ -1,16 +1,13 @@
 -- Worked cases of trees that are sent, by computing: what is sent outside the marked blocks besides the page's elements counts for nothing.
-use Rattle.std.proofs.Common.{◌≡◌, ℕ, Bool, true, false, None, Some, List, [], ◌∷◌, refl}
+use Rattle.std.proofs.Common.{◌≡◌, ℕ, Bool, true, Some, List, [], ◌∷◌, refl}
 use Rattle.std.specs.Prelude.{codes}
-use Rattle.wt_tree.specs.declared.kind.AttrName.TheVariants as attr
 use Rattle.wt_tree.specs.declared.kind.Kind.TheVariants as kind
 use Rattle.wt_tree.specs.declared.kind.Mark.TheVariants as marks
 use Rattle.wt_tree.specs.Opened.{without_sections}
-use Rattle.wt_tree.specs.Tree.{Label, Tree, tree, Trees, trees, label}
+use Rattle.wt_tree.specs.Tree.{Tree, tree, trees, label}
 use Rattle.wt_link_spelling.specs.Spelling.{children_of}
-use Rattle.wt_checks.specs.WithoutMarks.{unmarked, mark_off}
 use Rattle.wt_slices.specs.Changes.{Pair, marked}
-use Rattle.wt_slices.specs.BodySlices.{slices}
-use Rattle.wt_typed_blocks.specs.Edited.{no_edits, more_edits, round, Edits, sent_body}
+use Rattle.wt_typed_blocks.specs.Edited.{no_edits, more_edits, round, Edits}
 use Rattle.wt_inside_laws.specs.AsSent.{edit_for, as_it_is, edits_of, paths_of, node_at}
 use Rattle.wt_inside_laws.proofs.InsidesCases.{text, leaf, inner}
 

@@ -1,7 +1,7 @@
 -- The edited tree of a page as the laws of edits take it: outside the marked blocks each node of the page is sent as it is, and in these blocks its
 -- own nodes are, with the texts beside them that are sent. What else is sent counts for nothing: other separators, marks and skips, and how the
 -- nodes that stay are told.
-use Rattle.std.specs.Prelude.{◌≡◌, ◌⊎◌, ℕ, zero, suc, Bool, true, false, not, ◌==◌, ◌||◌, Option, Some, None, MatchOption, List, [], ◌∷◌, ◌++◌, map, if◌then◌else◌}
+use Rattle.std.specs.Prelude.{◌≡◌, ◌⊎◌, ℕ, zero, suc, Bool, true, false, ◌||◌, Option, Some, None, MatchOption, List, [], ◌∷◌, ◌++◌, map, if◌then◌else◌}
 use Rattle.std.specs.List.{AllByRecursion}
 use Rattle.wt_span.specs.Origins.{Expanded}
 use Rattle.wt_tree.specs.declared.edit_shape.BlockForm.{BlockForm}
