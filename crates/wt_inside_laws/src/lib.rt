@@ -8,7 +8,8 @@ mod replaced;
 
 pub use edges::blocks_meet_plainly;
 pub use insides::{
-    only_the_inside_changes, own_pieces_are_sent_as_they_are, retyped_blocks_are_edited, texts_stand_between_borders,
+    only_the_inside_changes, own_pieces_are_sent_as_they_are, retyped_blocks_are_edited,
+    texts_stand_between_borders,
 };
 pub use replaced::{
     only_that_text_is_another, only_these_texts_are_others, only_these_texts_are_others_anywhere,
