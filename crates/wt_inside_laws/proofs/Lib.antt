@@ -15,6 +15,16 @@ pub mod BodyReplaced
 pub mod Between
 pub mod RetypedPieces
 pub mod RetypedStay
+pub mod MatchedNodes
+pub mod MatchedEdits
+pub mod MatchedPairs
+pub mod MatchedViews
+pub mod MatchedAlike
+pub mod PlainBefore
+pub mod AlikeContents
+pub mod MarkedBlocks
+pub mod PageAlike
+pub mod SentCases
 pub mod SlotTexts
 pub mod OwnPieces
 pub mod SlotsLed
