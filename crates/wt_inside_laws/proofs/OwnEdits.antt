@@ -272,12 +272,12 @@ paired : (ks : List Kept) (ts us : Trees) → borders us ≡ borders ts → AllB
     → AllByRecursion (IsRetypedText ks) (zip (slots_from None (borders ts) (texts ts)) (slots_from None (borders ts) (texts us)))
 paired ks ts us e h = subst (λ bs. AllByRecursion (IsRetypedText ks) (zip (slots ts) (slots_from None bs (texts us)))) e h
 
-fits_in : (k : TextBlock) (q : List ℕ) (block : Tree) (us : Trees) (ps : Pieces) → IsIn k q block → IsOneLine (edit_shape (label block).kind).form (slots us)
+fits_in : (k : TextBlock) (q : List ℕ) (node : Tree) (us : Trees) (ps : Pieces) → IsIn k q node → IsOneLine (edit_shape (label node).kind).form (slots us)
     → (AllLeaves OnOneLine 0 us → HoldIn OnOneLine AreNodes AnyStyle 0 ps) → TextsFitIn k (as_own ps)
-fits_in a_paragraph q block us ps i h g = tt
-fits_in (a_heading s) q block us ps i h g =
+fits_in a_paragraph q node us ps i h g = tt
+fits_in (a_heading s) q node us ps i h g =
     let one : IsOneLine (block.Heading s.level) (slots us) =
-    subst (λ (j : Kind). IsOneLine (edit_shape j).form (slots us)) (block_kind (a_heading s) q block i) h in
+    subst (λ (j : Kind). IsOneLine (edit_shape j).form (slots us)) (block_kind (a_heading s) q node i) h in
     own_one_line 0 ps (g (leaves_hold OnOneLine (λ d x y z. broken_cut x y z) us (slots_hold None (borders us) (texts us) 0 one)))
 
 pub new_texts_led : (k : TextBlock) (q : List ℕ) (items : Expanded) (page : List ℕ) (p : Pair) → IsRetyped same_node items page p → IsStyledIn k q → IsIn k q p.old
@@ -341,9 +341,9 @@ own_edit k q items page p r read utf8 h i begins =
       new = own_nest 0 false false ps (λ z. absurd (cc))
           (trees_in UnbrokenIn AreNodes AnyStyle (λ l os m ws f g z a. node_form (edit_shape l.kind).inline f) (λ l m s b z. tt) ts 0 us unbroken (sym r.in_order) free);
       led = subst (λ (t : StyledContent). AreMarksLed (signs_in t)) (sym same) (record {
-            first = sent_first us shown utf8 first;
-            others = sent_led shown us utf8 (new_texts_led k q items page p r h i);
-          });
+        first = sent_first us shown utf8 first;
+        others = sent_led shown us utf8 (new_texts_led k q items page p r h i);
+      });
     }
 
 pub standing_edit : (k : TextBlock) (q : List ℕ) (items : Expanded) (page : List ℕ) (p : Pair) → IsRetyped same_node items page p → AreRead (children_of p.new)

@@ -55,14 +55,14 @@ first_cut P c d [] x (n ∷ ns) h = let r = c d x n h.0 in (r.0, (r.1, h.1))
 first_cut P c d (b ∷ ys) x (n ∷ ns) h = let r = c d x n h.0 in (r.0, (r.1, h.1))
 
 cut_style : (P : ℕ → List ℕ → Type 0) (d : ℕ) (bs ys : List Border) (before : List (List ℕ) → List (List ℕ)) (after : List (List ℕ)) (inside : Type 0)
-    → ((zs : List Border) (as : List (List ℕ)) → TextsHold P (suc d) (bs ++ zs) (before as) → inside × TextsHold P (suc d) zs as)
+    → ((zs : List Border) (os : List (List ℕ)) → TextsHold P (suc d) (bs ++ zs) (before os) → inside × TextsHold P (suc d) zs os)
     → TextsHold P (suc d) ((bs ++ (end ∷ [])) ++ ys) (before ([] ∷ after)) → inside × TextsHold P d ys after
 cut_style P d bs ys before after inside g h =
     let r = g (end ∷ ys) ([] ∷ after) (subst (λ zs. TextsHold P (suc d) zs (before ([] ∷ after))) (append_assoc bs (end ∷ []) ys) h) in (r.0, r.1.1)
 
 cut_by : (f : InlineForm) (P : ℕ → List ℕ → Type 0) → ((d : ℕ) (x y : List ℕ) → P d (x ++ y) → P d x × P d y) → (d : ℕ) (l : Label) (bs ys : List Border)
     (before : List (List ℕ) → List (List ℕ)) (after : List (List ℕ)) (inside : Type 0)
-    → ((zs : List Border) (as : List (List ℕ)) → TextsHold P (suc d) (bs ++ zs) (before as) → inside × TextsHold P (suc d) zs as)
+    → ((zs : List Border) (os : List (List ℕ)) → TextsHold P (suc d) (bs ++ zs) (before os) → inside × TextsHold P (suc d) zs os)
     → TextsHold P d (borders_by f l.id bs ++ ys) (texts_by f l.shown before after) → LeavesBy f P d l inside × TextsHold P d ys after
 cut_by inline.Nothing P c d l bs ys before after inside g h = (tt, h)
 cut_by inline.Characters P c d l bs ys before after inside g h = first_cut P c d ys l.shown after h
@@ -79,8 +79,8 @@ mutual
   cut_one : (P : ℕ → List ℕ → Type 0) → ((d : ℕ) (x y : List ℕ) → P d (x ++ y) → P d x × P d y) → (t : Tree) (d : ℕ) (ys : List Border) (after : List (List ℕ))
       → TextsHold P d (borders_of t ++ ys) (texts_before t after) → LeavesOf P d t × TextsHold P d ys after
   cut_one P c (tree l ts) d ys after h =
-      cut_by (edit_shape l.kind).inline P c d l (borders ts) ys (λ as. all_texts_before ts as) after (AllLeaves P (suc d) ts)
-      (λ zs as k. cut_all P c ts (suc d) zs as k) h
+      cut_by (edit_shape l.kind).inline P c d l (borders ts) ys (λ os. all_texts_before ts os) after (AllLeaves P (suc d) ts)
+      (λ zs os k. cut_all P c ts (suc d) zs os k) h
 
   cut_all : (P : ℕ → List ℕ → Type 0) → ((d : ℕ) (x y : List ℕ) → P d (x ++ y) → P d x × P d y) → (ts : Trees) (d : ℕ) (ys : List Border) (after : List (List ℕ))
       → TextsHold P d (borders ts ++ ys) (all_texts_before ts after) → AllLeaves P d ts × TextsHold P d ys after
@@ -100,14 +100,14 @@ first_joined P j d [] x (n ∷ ns) p h = (j d x n p h.0, h.1)
 first_joined P j d (b ∷ ys) x (n ∷ ns) p h = (j d x n p h.0, h.1)
 
 joined_style : (P : ℕ → List ℕ → Type 0) (d : ℕ) (bs ys : List Border) (before : List (List ℕ) → List (List ℕ)) (after : List (List ℕ)) → ((i : ℕ) → P i [])
-    → ((zs : List Border) (as : List (List ℕ)) → TextsHold P (suc d) zs as → TextsHold P (suc d) (bs ++ zs) (before as))
+    → ((zs : List Border) (os : List (List ℕ)) → TextsHold P (suc d) zs os → TextsHold P (suc d) (bs ++ zs) (before os))
     → TextsHold P d ys after → TextsHold P (suc d) ((bs ++ (end ∷ [])) ++ ys) (before ([] ∷ after))
 joined_style P d bs ys before after e g h =
     subst (λ zs. TextsHold P (suc d) zs (before ([] ∷ after))) (sym (append_assoc bs (end ∷ []) ys)) (g (end ∷ ys) ([] ∷ after) (e (suc d), h))
 
 joined_by : (f : InlineForm) (P : ℕ → List ℕ → Type 0) → ((d : ℕ) (x y : List ℕ) → P d x → P d y → P d (x ++ y)) → ((i : ℕ) → P i []) → (d : ℕ) (l : Label)
     (bs ys : List Border) (before : List (List ℕ) → List (List ℕ)) (after : List (List ℕ)) (inside : Type 0)
-    → (inside → (zs : List Border) (as : List (List ℕ)) → TextsHold P (suc d) zs as → TextsHold P (suc d) (bs ++ zs) (before as))
+    → (inside → (zs : List Border) (os : List (List ℕ)) → TextsHold P (suc d) zs os → TextsHold P (suc d) (bs ++ zs) (before os))
     → LeavesBy f P d l inside → TextsHold P d ys after → TextsHold P d (borders_by f l.id bs ++ ys) (texts_by f l.shown before after)
 joined_by inline.Nothing P j e d l bs ys before after inside g p h = h
 joined_by inline.Characters P j e d l bs ys before after inside g p h = first_joined P j d ys l.shown after p h
@@ -124,8 +124,8 @@ mutual
   joined_one : (P : ℕ → List ℕ → Type 0) → ((d : ℕ) (x y : List ℕ) → P d x → P d y → P d (x ++ y)) → ((i : ℕ) → P i []) → (t : Tree) (d : ℕ) (ys : List Border)
       (after : List (List ℕ)) → LeavesOf P d t → TextsHold P d ys after → TextsHold P d (borders_of t ++ ys) (texts_before t after)
   joined_one P j e (tree l ts) d ys after p h =
-      joined_by (edit_shape l.kind).inline P j e d l (borders ts) ys (λ as. all_texts_before ts as) after (AllLeaves P (suc d) ts)
-      (λ q zs as k. joined_all P j e ts (suc d) zs as q k) p h
+      joined_by (edit_shape l.kind).inline P j e d l (borders ts) ys (λ os. all_texts_before ts os) after (AllLeaves P (suc d) ts)
+      (λ q zs os k. joined_all P j e ts (suc d) zs os q k) p h
 
   joined_all : (P : ℕ → List ℕ → Type 0) → ((d : ℕ) (x y : List ℕ) → P d x → P d y → P d (x ++ y)) → ((i : ℕ) → P i []) → (ts : Trees) (d : ℕ) (ys : List Border)
       (after : List (List ℕ)) → AllLeaves P d ts → TextsHold P d ys after → TextsHold P d (borders ts ++ ys) (all_texts_before ts after)

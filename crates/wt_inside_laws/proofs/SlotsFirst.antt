@@ -69,7 +69,7 @@ OwnFirst ks pre (bold i ∷ bs) (n ∷ ns) = Unit {0}
 OwnFirst ks pre (italic i ∷ bs) (n ∷ ns) = Unit {0}
 OwnFirst ks pre (end ∷ bs) (n ∷ ns) = Unit {0}
 
-own_first : (ks : List Kept) (pre x : List ℕ) (bs : List Border) (as : List (List ℕ)) → (as ≡ [] → ⊥) → OwnFirst ks (pre ++ x) bs as → OwnFirst ks pre bs (onto_first x as)
+own_first : (ks : List Kept) (pre x : List ℕ) (bs : List Border) (os : List (List ℕ)) → (os ≡ [] → ⊥) → OwnFirst ks (pre ++ x) bs os → OwnFirst ks pre bs (onto_first x os)
 own_first ks pre x bs [] s h = absurd (s refl)
 own_first ks pre x [] (n ∷ ns) s h = tt
 own_first ks pre x (element i ∷ bs) (n ∷ ns) s h =
@@ -83,27 +83,27 @@ last_unbroken : (b : ℕ) (bs : List ℕ) → has_break (b ∷ bs) ≡ false →
 last_unbroken b [] h = (or_both (b == 10) false h).0
 last_unbroken b (c ∷ bs) h = last_unbroken c bs (or_both (b == 10) (has_break (c ∷ bs)) h).1
 
+url_unbegun : (opening text : List ℕ) → began_of (url opening text) ≡ false
+url_unbegun [] text = refl
+url_unbegun (b ∷ opening) text = refl
+
+island_unbegun : (v : Bool) → began_of (island v) ≡ false
+island_unbegun true = refl
+island_unbegun false = refl
+
 unbegun_by : (s : Sort) (block : Tree) (e : Extent) (t : Tree) → began_line block e ≡ false → began_of (role_by s block e t) ≡ false
 unbegun_by sort.PageLink block e t h = refl
-unbegun_by sort.Url block e t h = by (label t).opening
-  where
-    by : (o : List ℕ) → began_of (url o _) ≡ false
-    by [] = refl
-    by (b ∷ o) = refl
+unbegun_by sort.Url block e t h = url_unbegun (label t).opening _
 unbegun_by sort.Switch block e t h = refl
 unbegun_by sort.Mark block e t h = h
 unbegun_by sort.Group block e t h = refl
-unbegun_by sort.Island block e t h = by _
-  where
-    by : (v : Bool) → began_of (island v) ≡ false
-    by true = refl
-    by false = refl
+unbegun_by sort.Island block e t h = island_unbegun _
 unbegun_by sort.Other block e t h = refl
 
 first_by : (pre : List ℕ) (block : Tree) (from : ℕ) (t : Tree) (rest : List ℕ) → flat block ≡ (label block).opening ++ (pre ++ rest)
     → (pre ≡ [] → is_mark_node t ≡ false)
     → IsFirstOf (pre ++ []) (role_of block (found_at (length (label block).opening + length pre) from t).extent t)
-first_by [] block from t rest is h = role_mark block (found_at (length (label block).opening + length []) from t).extent t ∙ h refl
+first_by [] block from t rest is h = role_mark block _ t ∙ h refl
 first_by (b ∷ bs) block from t rest is h = λ e.
     let pre : List ℕ = b ∷ bs in
     let o : List ℕ = (label block).opening in
@@ -126,34 +126,34 @@ none_empty : (pre x : List ℕ) → pre ++ x ≡ [] → pre ≡ []
 none_empty [] x e = refl
 none_empty (b ∷ bs) x e = absurd (let no = ap length e in omega (arith, no))
 
-some_text : (x : List ℕ) (as : List (List ℕ)) → onto_first x as ≡ [] → ⊥
+some_text : (x : List ℕ) (os : List (List ℕ)) → onto_first x os ≡ [] → ⊥
 some_text x [] e = let no = ap length e in omega (arith, no)
 some_text x (n ∷ ns) e = let no = ap length e in omega (arith, no)
 
 cons_some : (n : List ℕ) (ns : List (List ℕ)) → n ∷ ns ≡ [] → ⊥
 cons_some n ns e = let no = ap length e in omega (arith, no)
 
-texts_some_by : (f : InlineForm) (x : List ℕ) (before : List (List ℕ) → List (List ℕ)) (as : List (List ℕ)) → (as ≡ [] → ⊥) → texts_by f x before as ≡ [] → ⊥
-texts_some_by inline.Nothing x before as s e = s e
-texts_some_by inline.Characters x before as s e = some_text x as e
-texts_some_by inline.Bold x before as s e = cons_some [] (before ([] ∷ as)) e
-texts_some_by inline.Italic x before as s e = cons_some [] (before ([] ∷ as)) e
-texts_some_by inline.Shown x before as s e = cons_some [] as e
-texts_some_by inline.PageLink x before as s e = cons_some [] as e
-texts_some_by inline.ExternalLink x before as s e = cons_some [] as e
-texts_some_by inline.Tag x before as s e = cons_some [] as e
-texts_some_by inline.Break x before as s e = cons_some [] as e
-texts_some_by inline.AsItStood x before as s e = cons_some [] as e
+texts_some_by : (f : InlineForm) (x : List ℕ) (before : List (List ℕ) → List (List ℕ)) (os : List (List ℕ)) → (os ≡ [] → ⊥) → texts_by f x before os ≡ [] → ⊥
+texts_some_by inline.Nothing x before os s e = s e
+texts_some_by inline.Characters x before os s e = some_text x os e
+texts_some_by inline.Bold x before os s e = cons_some [] (before ([] ∷ os)) e
+texts_some_by inline.Italic x before os s e = cons_some [] (before ([] ∷ os)) e
+texts_some_by inline.Shown x before os s e = cons_some [] os e
+texts_some_by inline.PageLink x before os s e = cons_some [] os e
+texts_some_by inline.ExternalLink x before os s e = cons_some [] os e
+texts_some_by inline.Tag x before os s e = cons_some [] os e
+texts_some_by inline.Break x before os s e = cons_some [] os e
+texts_some_by inline.AsItStood x before os s e = cons_some [] os e
 
 texts_some : (ts : Trees) → texts ts ≡ [] → ⊥
 texts_some none e = cons_some [] [] e
-texts_some (more (tree l ts) us) e = texts_some_by (edit_shape l.kind).inline l.shown (λ as. all_texts_before ts as) (texts us) (λ z. texts_some us z) e
+texts_some (more (tree l ts) us) e = texts_some_by (edit_shape l.kind).inline l.shown (λ os. all_texts_before ts os) (texts us) (λ z. texts_some us z) e
 
 first_node : (f : InlineForm) (block : Tree) (at : ℕ) (s : Bool) (l : Label) (ts us : Trees) (rest : Bool → Type 0) (pre more_bytes : List ℕ)
     → at ≡ length (label block).opening + length pre → flat block ≡ (label block).opening ++ (pre ++ (flat (tree l ts) ++ more_bytes))
     → (pre ≡ [] → is_mark_node (tree l ts) ≡ false) → LedBy f block at s l ts rest
     → ((v : Bool) → flat (tree l ts) ≡ l.shown → 0 < length l.shown → rest v → OwnFirst (kept_nodes block) (pre ++ l.shown) (borders us) (texts us))
-    → OwnFirst (kept_nodes block) pre (borders_by f l.id (borders ts) ++ borders us) (texts_by f l.shown (λ as. all_texts_before ts as) (texts us))
+    → OwnFirst (kept_nodes block) pre (borders_by f l.id (borders ts) ++ borders us) (texts_by f l.shown (λ os. all_texts_before ts os) (texts us))
 first_node inline.Nothing block at s l ts us rest pre bs e is h k g = absurd k
 first_node inline.Characters block at s l ts us rest pre bs e is h k g =
     own_first (kept_nodes block) pre l.shown (borders us) (texts us) (λ z. texts_some us z) (g (settled l.shown s) k.0 k.1 k.2)
@@ -186,7 +186,8 @@ nodes_first (more (tree l ts) us) block at s pre rest e is h k =
     (λ z. absurd (let no = ap length z in omega (arith, no, long, some))) q)
 
 leaf_source : (l : Label) (ts : Trees) → is_leaf l.kind ≡ false → flat (tree l ts) ≡ l.opening ++ (flat_of_all ts ++ l.closing)
-leaf_source l ts e = ap (λ (v : Bool). if v then l.own else l.opening ++ flat_of_all ts ++ l.closing) e
+leaf_source l ts e =
+    ap (λ (v : Bool). if v then l.own else (l.opening ++ flat_of_all ts ++ l.closing)) e ∙ append_assoc l.opening (flat_of_all ts) l.closing
 
 pub block_first : (block : Tree) → is_leaf (label block).kind ≡ false → begin_marked (children_of block) ≡ false
     → AreOwnLed block (0 + length (label block).opening) true (children_of block)
@@ -265,7 +266,7 @@ letters_first : (cs : List ℕ) (t : StyledContent) → (cs ≡ [] → BeginsUnl
 letters_first [] t h = h refl
 letters_first (c ∷ cs) t h = tt
 
-without_first : (ks : List Kept) (bs : List Border) (x : List ℕ) (as : List (List ℕ)) → x ≡ [] → NewFirst ks bs (onto_first x as) → NewFirst ks bs as
+without_first : (ks : List Kept) (bs : List Border) (x : List ℕ) (os : List (List ℕ)) → x ≡ [] → NewFirst ks bs (onto_first x os) → NewFirst ks bs os
 without_first ks bs x [] e h = tt
 without_first ks bs x (n ∷ ns) e h = subst (λ (cs : List ℕ). NewFirst ks bs ((cs ++ n) ∷ ns)) e h
 
@@ -290,5 +291,5 @@ sign_first inline.AsItStood p l bs ys before after inside t U u h k = known_firs
 pub sent_first : (us : Trees) (p : Page) → AreUtf8 us → NewFirst p.kept (borders us) (texts us) → BeginsUnled (signs_in (sent_content p us))
 sent_first none p u h = tt
 sent_first (more (tree l ts) us) p u h =
-    sign_first (edit_shape l.kind).inline p l (borders ts) (borders us) (λ as. all_texts_before ts as) (texts us) (sent_content p ts) (sent_content p us) (AreUtf8 ts) u.0 h
+    sign_first (edit_shape l.kind).inline p l (borders ts) (borders us) (λ os. all_texts_before ts os) (texts us) (sent_content p ts) (sent_content p us) (AreUtf8 ts) u.0 h
     (λ q. sent_first us p u.1 q)

@@ -76,7 +76,7 @@ some_by inline.Break shown before after h = tt
 some_by inline.AsItStood shown before after h = tt
 
 some_one : (t : Tree) (after : List (List ℕ)) → IsSome after → IsSome (texts_before t after)
-some_one (tree l ts) after h = some_by (edit_shape l.kind).inline l.shown (λ as. all_texts_before ts as) after h
+some_one (tree l ts) after h = some_by (edit_shape l.kind).inline l.shown (λ os. all_texts_before ts os) after h
 
 some_all : (ts : Trees) (after : List (List ℕ)) → IsSome after → IsSome (all_texts_before ts after)
 some_all none after h = h
@@ -110,15 +110,15 @@ element_led block at l ts s rest bs after h g =
 
 -- in a style there is none, wherever it is
 style_no : (ks : List Kept) (bs ys : List Border) (before : List (List ℕ) → List (List ℕ)) (after : List (List ℕ))
-    → ((zs : List Border) (as : List (List ℕ)) → IsSome as → ((v : Bool) → TextsLed ks v zs as) → (s : Bool) → TextsLed ks s (bs ++ zs) (before as))
+    → ((zs : List Border) (os : List (List ℕ)) → IsSome os → ((v : Bool) → TextsLed ks v zs os) → (s : Bool) → TextsLed ks s (bs ++ zs) (before os))
     → TextsLed ks false ys after → TextsLed ks false ((bs ++ (end ∷ [])) ++ ys) (before ([] ∷ after))
 style_no ks bs ys before after g h =
     subst (λ zs. TextsLed ks false zs (before ([] ∷ after))) (sym (append_assoc bs (end ∷ []) ys)) (g (end ∷ ys) ([] ∷ after) tt (λ v. (tt, h)) false)
 
 no_by : (f : InlineForm) (block : Tree) (at : ℕ) (l : Label) (ts : Trees) (bs ys : List Border) (before : List (List ℕ) → List (List ℕ)) (after : List (List ℕ))
     (inside : Type 0) → IsSome after
-    → (inside → (zs : List Border) (as : List (List ℕ)) → IsSome as → ((v : Bool) → TextsLed (kept_nodes block) v zs as) → (s : Bool)
-    → TextsLed (kept_nodes block) s (bs ++ zs) (before as))
+    → (inside → (zs : List Border) (os : List (List ℕ)) → IsSome os → ((v : Bool) → TextsLed (kept_nodes block) v zs os) → (s : Bool)
+    → TextsLed (kept_nodes block) s (bs ++ zs) (before os))
     → NoLineBy f block at l ts inside → ((v : Bool) → TextsLed (kept_nodes block) v ys after) → (s : Bool)
     → TextsLed (kept_nodes block) s (borders_by f l.id bs ++ ys) (texts_by f l.shown before after)
 no_by inline.Nothing block at l ts bs ys before after inside i g h k s = k s
@@ -137,19 +137,19 @@ no_all : (ts : Trees) (block : Tree) (at : ℕ) (ys : List Border) (after : List
 no_all none block at ys after i h k s = k s
 no_all (more (tree l ts) us) block at ys after i h k s =
     subst (λ zs. TextsLed (kept_nodes block) s zs (texts_before (tree l ts) (all_texts_before us after))) (sym (append_assoc (borders_of (tree l ts)) (borders us) ys))
-    (no_by (edit_shape l.kind).inline block at l ts (borders ts) (borders us ++ ys) (λ as. all_texts_before ts as) (all_texts_before us after)
-    (NoLines block (at + length l.opening) ts) (some_all us after i) (λ n zs as j q v. no_all ts block (at + length l.opening) zs as j n q v) h.0
+    (no_by (edit_shape l.kind).inline block at l ts (borders ts) (borders us ++ ys) (λ os. all_texts_before ts os) (all_texts_before us after)
+    (NoLines block (at + length l.opening) ts) (some_all us after i) (λ n zs os j q v. no_all ts block (at + length l.opening) zs os j n q v) h.0
     (λ v. no_all us block (at + length (flat (tree l ts))) ys after i h.1 k v) s)
 
 led_by : (f : InlineForm) (block : Tree) (at : ℕ) (s : Bool) (l : Label) (ts : Trees) (rest : Bool → Type 0) (ys : List Border) (after : List (List ℕ)) → IsSome after
     → LedBy f block at s l ts rest → ((v : Bool) → rest v → TextsLed (kept_nodes block) v ys after)
-    → TextsLed (kept_nodes block) s (borders_by f l.id (borders ts) ++ ys) (texts_by f l.shown (λ as. all_texts_before ts as) after)
+    → TextsLed (kept_nodes block) s (borders_by f l.id (borders ts) ++ ys) (texts_by f l.shown (λ os. all_texts_before ts os) after)
 led_by inline.Nothing block at s l ts rest ys after i h g = absurd h
 led_by inline.Characters block at s l ts rest ys after i h g = first_led (kept_nodes block) s ys l.shown after i (g (settled l.shown s) h.2)
 led_by inline.Bold block at s l ts rest ys after i h g =
-    (tt, style_no (kept_nodes block) (borders ts) ys (λ as. all_texts_before ts as) after (λ zs as j q v. no_all ts block (at + length l.opening) zs as j h.0 q v) (g false h.1))
+    (tt, style_no (kept_nodes block) (borders ts) ys (λ os. all_texts_before ts os) after (λ zs os j q v. no_all ts block (at + length l.opening) zs os j h.0 q v) (g false h.1))
 led_by inline.Italic block at s l ts rest ys after i h g =
-    (tt, style_no (kept_nodes block) (borders ts) ys (λ as. all_texts_before ts as) after (λ zs as j q v. no_all ts block (at + length l.opening) zs as j h.0 q v) (g false h.1))
+    (tt, style_no (kept_nodes block) (borders ts) ys (λ os. all_texts_before ts os) after (λ zs os j q v. no_all ts block (at + length l.opening) zs os j h.0 q v) (g false h.1))
 led_by inline.Shown block at s l ts rest ys after i h g = element_led block at l ts s rest ys after h g
 led_by inline.PageLink block at s l ts rest ys after i h g = element_led block at l ts s rest ys after h g
 led_by inline.ExternalLink block at s l ts rest ys after i h g = element_led block at l ts s rest ys after h g
@@ -254,11 +254,11 @@ found_led : (o : Option Kept) (ks : List Kept) (s : Bool) (ys : List Border) (af
 found_led None ks s ys after t tail before f h g k = k false before (λ e. absurd (cc)) g
 found_led (Some q) ks s ys after t tail before f h g k = ((λ e. f (h e)), k (ends_line q.role) (kept_thing q ∷ before) (λ e. e) g)
 
-or_led : (t : StyledContent) (bold : Bool) (place : Option Stretch) (before tail : List ContentSign) → AreLed before (signs_before t (delimiter bold place ∷ tail))
-    → AreLed before (signs_before (or_nowiki t) (delimiter bold place ∷ tail))
-or_led finished bold place before tail h = ((λ e. absurd (cc)), ((λ e. absurd (cc)), near_led tail (delimiter bold place ∷ before) _ refl h.1))
-or_led (sign c t) bold place before tail h = h
-or_led (styled k o c i t) bold place before tail h = h
+or_led : (t : StyledContent) (kind : Bool) (place : Option Stretch) (before tail : List ContentSign) → AreLed before (signs_before t (delimiter kind place ∷ tail))
+    → AreLed before (signs_before (or_nowiki t) (delimiter kind place ∷ tail))
+or_led finished kind place before tail h = ((λ e. absurd (cc)), ((λ e. absurd (cc)), near_led tail (delimiter kind place ∷ before) _ refl h.1))
+or_led (sign c t) kind place before tail h = h
+or_led (styled k o c i t) kind place before tail h = h
 
 first_cut : (ks : List Kept) (s : Bool) (bs : List Border) (x : List ℕ) (after : List (List ℕ)) → TextsLed ks s bs (onto_first x after) → TextsLed ks (settled x s) bs after
 first_cut ks s bs x [] h = tt
@@ -273,8 +273,8 @@ Behind ks ys after tail =
 -- so it is of what is in a style
 abbrev Within : List Kept → List Border → (List (List ℕ) → List (List ℕ)) → StyledContent → Type 0
 Within ks bs before inside =
-    (zs : List Border) (as : List (List ℕ)) (v : Bool) (bf tail : List ContentSign) → (v ≡ true → is_line_start (nearest bf) ≡ true)
-    → TextsLed ks v (bs ++ zs) (before as) → Behind ks zs as tail → AreLed bf (signs_before inside tail)
+    (zs : List Border) (os : List (List ℕ)) (v : Bool) (bf tail : List ContentSign) → (v ≡ true → is_line_start (nearest bf) ≡ true)
+    → TextsLed ks v (bs ++ zs) (before os) → Behind ks zs os tail → AreLed bf (signs_before inside tail)
 
 style_led : (ks : List Kept) (kind : Bool) (o c : Option Stretch) (inside t : StyledContent) (bs ys : List Border) (texts_in : List (List ℕ) → List (List ℕ))
     (after : List (List ℕ)) (before tail : List ContentSign) → Within ks bs texts_in inside
@@ -319,8 +319,8 @@ signs_led : (us : Trees) (p : Page) (ys : List Border) (after : List (List ℕ))
     → Behind p.kept ys after tail → AreLed before (signs_before (sent_content p us) tail)
 signs_led none p ys after s before tail f u h k = k s before f h
 signs_led (more (tree l ts) us) p ys after s before tail f u h k =
-    sign_led (edit_shape l.kind).inline p l (borders ts) (borders us ++ ys) (λ as. all_texts_before ts as) (all_texts_before us after) s (sent_content p ts)
-    (sent_content p us) before tail (AreUtf8 ts) f (λ q zs as v bf tl d t r. signs_led ts p zs as v bf tl d q t r) u.0
+    sign_led (edit_shape l.kind).inline p l (borders ts) (borders us ++ ys) (λ os. all_texts_before ts os) (all_texts_before us after) s (sent_content p ts)
+    (sent_content p us) before tail (AreUtf8 ts) f (λ q zs os v bf tl d t r. signs_led ts p zs os v bf tl d q t r) u.0
     (subst (λ zs. TextsLed p.kept s zs (texts_before (tree l ts) (all_texts_before us after))) (append_assoc (borders_of (tree l ts)) (borders us) ys) h)
     (λ v bf d q. signs_led us p ys after v bf tail d u.1 q k)
 

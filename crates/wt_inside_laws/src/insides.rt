@@ -50,7 +50,7 @@ pub fn retyped_nodes_stay()
 {}
 
 /// These pieces with the page's own nodes in the place of those that were sent (`as_own`) stay, where no group is in the content.
-#[tactic(auto, using(crate::proofs::OwnPieces::own_pieces_stay))]
+#[tactic(auto)]
 pub fn own_pieces_are_sent_as_they_are()
     ensures { (ts us : Trees) → NoneIsGroup ts → borders us ≡ borders ts → PiecesStay (as_own (pieces_of ts us)) }
 {}
@@ -59,7 +59,7 @@ pub fn own_pieces_are_sent_as_they_are()
 /// page's own nodes: its nodes and styles stay in their order, its texts go and others come, in a heading on one line, none in a style has a
 /// line break, and a line begins before each line of comments. Asked is that what was sent is as it is read, and of a heading that it
 /// begins with no mark.
-#[tactic(auto, using(crate::proofs::OwnEdits::standing_edit))]
+#[tactic(auto)]
 pub fn retyped_blocks_are_edited()
     ensures { (k : TextBlock) (q : List ℕ) (items : Expanded) (page : List ℕ) (p : Pair) → IsRetyped same_node items page p
         → AreRead (children_of p.new) → AreUtf8 (children_of p.new) → IsStanding (block_tree k q) p.old → IsStyledIn k q → BeginsUnmarked k p.old

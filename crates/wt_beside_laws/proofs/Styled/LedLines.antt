@@ -123,8 +123,17 @@ line_segment : (q : List ℕ) (s : Bool) (rest : List Segment) → ends_break q 
     → SegmentsLed s (tile_segments context_parts in_line (leaf kind.Mark 1, whole form.Comment None q ∷ []) ++ rest)
 unfolding loose_segments
 line_segment q s rest e b h =
-    inr (b, refl, (whole_tree form.Comment None q, refl, line_on (whole_tree form.Comment None q) (role.Mark true true)
-    (mark_thing true true form.Comment None q tt) (line_kind q e)), h)
+    inr (
+      b,
+      refl,
+      (
+        whole_tree form.Comment None q,
+        refl,
+        line_on (whole_tree form.Comment None q) (role.Mark true true)
+            (mark_thing true true form.Comment None q tt) (line_kind q e),
+      ),
+      h,
+    )
 
 same_shape : (v w : Shape) → Some v ≡ Some w → v ≡ w
 same_shape v w e = cc
