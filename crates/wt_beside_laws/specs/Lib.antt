@@ -34,3 +34,4 @@ pub mod NewStyles
 pub mod StyledIn
 pub mod Called
 pub mod Given
+pub mod OwnLed
