@@ -90,7 +90,10 @@ pub use styles::{
     texts_in_styles_are_shown, texts_in_styles_may_be_in_headings,
     texts_in_styles_stand_between_lines, texts_sent_in_styles_are_such,
 };
-pub use untangled::{untangled_blocks_are_contents, untangled_paragraphs_of_the_body_are_contents};
+pub use untangled::{
+    contents_read_by_themselves_take_styles, untangled_blocks_are_contents,
+    untangled_paragraphs_of_the_body_are_contents,
+};
 
 /// A content of text that is typed and of nodes that stay, as it is spelled, makes no lexeme over the border of a text and
 /// a node: its items are those of each node by itself, the characters and references of the text, and the nowikis that
