@@ -1,5 +1,5 @@
 -- A form of a line is read by itself as it is in its line, since no line of comments begins it: that would have a line break.
-use Rattle.std.proofs.Common.{arith, ◌≡◌, inl, inr, ℕ, zero, suc, ◌+◌, ◌-◌, ◌<◌, ◌≤◌, ◌==◌, Bool, true, false, Option, Some, None, List, [], ◌∷◌, ◌++◌, length, get_or, nat_lt, refl, sym, ap, ◌∙◌, subst, append_assoc}
+use Rattle.std.proofs.Common.{arith, ◌≡◌, inl, inr, ℕ, zero, suc, ◌+◌, ◌-◌, ◌<◌, ◌≤◌, ◌==◌, Bool, true, false, Option, Some, None, List, [], ◌∷◌, ◌++◌, length, get_or, nat_lt, refl, sym, ap, ◌∙◌, subst}
 use Rattle.std.specs.Prelude.{◌&&◌, ◌||◌, if◌then◌else◌, slice_index}
 use Rattle.std.proofs.lemmas.Bool.{cases_lt, eqb-true}
 use Rattle.std.proofs.lemmas.List.{get_or_past}
@@ -27,7 +27,6 @@ use Rattle.wt_beside_laws.specs.PageSigns.{HasNoBreak}
 use Rattle.wt_beside_laws.proofs.NodeItems.{are_from}
 use Rattle.wt_beside_laws.proofs.Own.Held.{same_items}
 use Rattle.wt_beside_laws.proofs.Own.Lines.{comment_ended}
-use Rattle.wt_beside_laws.proofs.Own.Reading.{no_breaks}
 use Rattle.wt_beside_laws.proofs.Own.Words.{comment_ends}
 
 -- ---- blanks and comments that begin a text, where it has no line break

@@ -19,20 +19,19 @@ use Rattle.wt_span.specs.Entities.{named_in, entity_names, named_entity, numbere
 use Rattle.wt_span.specs.Lexemes.{Word, as_word, entity_word, run_at, sign_at, sign_word, form_at}
 use Rattle.wt_span.specs.Tags.{Tag, is_tag_byte, is_tag_inside, closes_itself, tag_after, opening_tag, closing_tag, len_if_named, to_closing, with_inside, is_raw_name, raw_by, raw_len, hides, is_left_out, hidden_len, opening_include, closing_include, include_at}
 use Rattle.wt_lex.proofs.AllForms.{entity_none}
-use Rattle.wt_lex.proofs.Begins.{and_left, and_right, byte_is, begins_get, begins_len}
-use Rattle.wt_lex.proofs.Forms.{OptFits, comment_fits}
+use Rattle.wt_lex.proofs.Begins.{and_left, and_right, begins_get, begins_len}
+use Rattle.wt_lex.proofs.Forms.{OptFits}
 use Rattle.wt_lex.proofs.Fronts.{begins_front, begins_more}
-use Rattle.wt_lex.proofs.TagForms.{OptTag, TagFits, opening_fits, inside_fits}
+use Rattle.wt_lex.proofs.TagForms.{OptTag, opening_fits, inside_fits}
 use Rattle.wt_lex.proofs.WholeTags.{opening_front, closing_front, closing_more}
-use Rattle.wt_isolation.specs.OpenTags.{is_stop, ends_open, EndsOpen}
+use Rattle.wt_isolation.specs.OpenTags.{is_stop, ends_open}
 use Rattle.wt_isolation.proofs.OpenTags.{opens}
 use Rattle.wt_typed_blocks.specs.Reading.{stands}
-use Rattle.wt_typed_blocks.proofs.Forms.{comment_other}
 use Rattle.wt_typed_blocks.proofs.TextReads.{equal_or, apart}
 use Rattle.wt_text_edit_laws.specs.TextBetween.{ends_comment, ends_tag, ends_here}
 use Rattle.wt_text_edit_laws.proofs.Between.ClosingTags.{not_less}
 use Rattle.wt_text_edit_laws.proofs.Between.LineTags.{TagWithin, IsFound}
-use Rattle.wt_text_edit_laws.proofs.Between.LineWords.{lacks, word_before, Within, or_within, entity_word_within}
+use Rattle.wt_text_edit_laws.proofs.Between.LineWords.{word_before, Within, or_within, entity_word_within}
 use Rattle.wt_beside_laws.specs.EndedNodes.{is_reference_byte, ReferencesEnd}
 use Rattle.wt_beside_laws.proofs.Made.Sealed.{stops, closing_within}
 
@@ -101,9 +100,9 @@ shut_after front b (c ∷ cs) e i = λ letter. by letter (list_any is_stop (c �
     by letter true f = refl
     by letter false f =
         let less : b ≡ 60 = eqb-true b 60 i in
-        let open : ends_open (front ++ b ∷ c ∷ cs) ≡ true =
+        let opened : ends_open (front ++ b ∷ c ∷ cs) ≡ true =
         opens (front ++ b ∷ c ∷ cs) (record { front = front; letter = c; rest = cs; is = ap (λ (x : ℕ). front ++ x ∷ c ∷ cs) less; is_letter = letter; bare = f }) in
-        absurd (let no : true ≡ false = sym open ∙ e in cc)
+        absurd (let no : true ≡ false = sym opened ∙ e in cc)
 
 shut_from : (front bs : List ℕ) → ends_open (front ++ bs) ≡ false → TagsShut bs
 shut_from front [] e = tt

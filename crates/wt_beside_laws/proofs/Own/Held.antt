@@ -1,4 +1,4 @@
--- The source of a node of the page stands whatever is written behind it, where what begins in it ends in it and no tag is open at its end.
+-- The source of a node of the page stands whatever is written behind it, where what begins in it ends in it and no tag is shut at its end.
 use Rattle.std.proofs.Common.{arith, ◌≡◌, ◌⊎◌, inl, inr, ℕ, zero, suc, Bool, true, false, Option, Some, None, List, [], ◌∷◌, ◌++◌, map, take, refl, sym, ap, ◌∙◌, subst, append-nil}
 use Rattle.std.specs.Prelude.{if◌then◌else◌}
 use Rattle.std.specs.Option.{option_or}
@@ -30,7 +30,7 @@ use Rattle.wt_text_edit_laws.specs.TextBetween.{ends_comment, ends_tag, ends_her
 use Rattle.wt_text_edit_laws.proofs.Between.Fronts.{items_from, byte_from, form_from, first_from}
 use Rattle.wt_text_edit_laws.proofs.Cuts.ItemCuts.{page_from}
 use Rattle.wt_text_edit_laws.proofs.Texts.TypedItems.{items_cut}
-use Rattle.wt_beside_laws.specs.Commented.{LexemesEnd, IsNoComment, BeginsShown, IsReadInLine, IsHeld}
+use Rattle.wt_beside_laws.specs.Commented.{LexemesEnd, BeginsShown, IsReadInLine, IsHeld}
 use Rattle.wt_beside_laws.specs.EndedNodes.{IsEndedSource}
 use Rattle.wt_beside_laws.specs.NodeItems.{node_items}
 use Rattle.wt_beside_laws.specs.Nodes.{IsNode}
@@ -91,13 +91,13 @@ begun_none q h = by q (subst BeginsShown (are_from q) h) (comment_line_len q) re
 
 held_node : (r : Role) (q : List ℕ) → IsNode r (map glyph_of (node_items q)) → BeginsShown (node_items q) → ends_open q ≡ false → IsEndedSource q
     → HasNoBreak (node_items q) → IsReadInLine q
-held_node r q n s open e u =
+held_node r q n s shut e u =
     let is : node_items q ≡ page_items q = node_is q (begun_none q s) in
     let unbroken : HasNoBreak (page_items q) = subst HasNoBreak is u in
     let steps = source_steps q e.ends unbroken in
     let ends = subst LexemesEnd (sym (page_from q)) steps.ends in
     let stop = subst TagsStop (node_sources q) (node_stop r (node_items q) (subst LexemesEnd (sym is) ends) n) in
-    let settled : Settled q = record { stop = stop; shut = tags_shut q open; references = e.references } in
+    let settled : Settled q = record { stop = stop; shut = tags_shut q shut; references = e.references } in
     record {
       reads = source_reads q settled e.ends unbroken (subst (LastIs false) (page_sources q) (items_end (page_items q) unbroken ends));
       begins = subst BeginsShown is s;
@@ -193,18 +193,18 @@ mark_by b q (Some (kind, suc j)) e h m i =
 
 held_mark : (r : Role) (q : List ℕ) → IsNode r (map glyph_of (node_items q)) → IsOneMark (node_items q) → ends_open q ≡ false → IsEndedSource q
     → HasNoBreak (node_items q) → IsHeld q
-held_mark r [] n m open e u = let no : [] ≡ whole m.form m.origin m.bytes ∷ [] = sym (are_from []) ∙ m.is in absurd (cc)
-held_mark r (b ∷ q) n m open e u =
+held_mark r [] n m shut e u = let no : [] ≡ whole m.form m.origin m.bytes ∷ [] = sym (are_from []) ∙ m.is in absurd (cc)
+held_mark r (b ∷ q) n m shut e u =
     let bytes : m.bytes ≡ b ∷ q = sym (append-nil m.bytes) ∙ ap sources (sym m.is) ∙ node_sources (b ∷ q) in
     let one : IsOneMark (items_from true 0 (b ∷ q)) = record { form = m.form; origin = m.origin; bytes = m.bytes; is = sym (are_from (b ∷ q)) ∙ m.is; mark = m.mark } in
     elim (mark_by b q (form_at Page true (b ∷ q)) refl e.ends.0 one bytes) [
       | inl held ↦ held
-      | inr shown ↦ inr (inr (inr (held_node r (b ∷ q) n (subst BeginsShown (sym (are_from (b ∷ q))) shown) open e u)))
+      | inr shown ↦ inr (inr (inr (held_node r (b ∷ q) n (subst BeginsShown (sym (are_from (b ∷ q))) shown) shut e u)))
     ]
 
 pub node_held : (r : Role) (q : List ℕ) → IsNode r (map glyph_of (node_items q)) → ends_open q ≡ false → IsEndedSource q → HasNoBreak (node_items q) → IsHeld q
-node_held r q n open e u = by (is_mark_role r) refl
+node_held r q n shut e u = by (is_mark_role r) refl
   where
     by : (v : Bool) → is_mark_role r ≡ v → IsHeld q
-    by true i = held_mark r q n (one_mark (node_items q) (mark_is r (map glyph_of (node_items q)) n i)) open e u
-    by false i = inr (inr (inr (held_node r q n (opens_begins (node_items q) (node_opens r (map glyph_of (node_items q)) n i)) open e u)))
+    by true i = held_mark r q n (one_mark (node_items q) (mark_is r (map glyph_of (node_items q)) n i)) shut e u
+    by false i = inr (inr (inr (held_node r q n (opens_begins (node_items q) (node_opens r (map glyph_of (node_items q)) n i)) shut e u)))

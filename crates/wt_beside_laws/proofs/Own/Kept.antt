@@ -1,5 +1,5 @@
 -- The content of a paragraph or a heading of the page: its lines are flat, and the source of each node in it is UTF-8 and stands whatever is written behind it.
-use Rattle.std.proofs.Common.{arith, ◌≡◌, ℕ, zero, suc, ◌+◌, ◌<◌, ◌≤◌, ◌==◌, Bool, true, false, None, List, [], ◌∷◌, ◌++◌, length, map, refl, sym, ap, ◌∙◌, subst, append_assoc, append-nil}
+use Rattle.std.proofs.Common.{arith, ◌≡◌, ℕ, zero, suc, ◌+◌, ◌<◌, ◌≤◌, ◌==◌, Bool, true, List, [], ◌∷◌, ◌++◌, length, map, refl, sym, ap, ◌∙◌, subst, append_assoc, append-nil}
 use Rattle.std.specs.List.{AllByRecursion}
 use Rattle.std.specs.Str.{IsUtf8}
 use Rattle.std.proofs.lemmas.Bool.{eqb-true}
@@ -29,7 +29,6 @@ use Rattle.wt_text_edit_laws.proofs.Blocks.BlocksAgain.{framed_utf8}
 use Rattle.wt_text_edit_laws.proofs.Blocks.BlockReading.{AreQuiet, each_quiet, opening_quiet, quiet_joined, run_quiet, blanks_quiet}
 use Rattle.wt_beside_laws.specs.Calm.{AreCalm}
 use Rattle.wt_beside_laws.specs.Commented.{IsHeld}
-use Rattle.wt_beside_laws.specs.Content.{AreKept}
 use Rattle.wt_beside_laws.specs.EndedNodes.{OpenNoPair, LinesOpenNoPair, AreEndedNodes}
 use Rattle.wt_beside_laws.specs.FlatBlocks.{lines_in, begins_at, signs_in}
 use Rattle.wt_beside_laws.specs.NodeItems.{node_items}

@@ -18,7 +18,7 @@ use Rattle.wt_typed_blocks.proofs.Forms.{comment_other}
 use Rattle.wt_typed_blocks.proofs.TextReads.{equal_or, apart}
 use Rattle.wt_text_edit_laws.proofs.Between.LineComments.{lines_ended, remarks_same}
 use Rattle.wt_text_edit_laws.proofs.Between.LineWords.{either}
-use Rattle.wt_beside_laws.specs.Commented.{IsComment, IsCommentSource, IsCommentLine}
+use Rattle.wt_beside_laws.specs.Commented.{IsCommentSource, IsCommentLine}
 use Rattle.wt_beside_laws.specs.Kept.{is_lexeme_end}
 use Rattle.wt_beside_laws.proofs.Made.Sealed.{stops}
 use Rattle.wt_beside_laws.proofs.Own.Crossing.{TagsStop, get_front, LenWithin, comment_within}

@@ -1,5 +1,5 @@
 -- Behind each `<` in the source of a node comes a byte with which no tag that isn't ended, and no beginning of a comment, goes on.
-use Rattle.std.proofs.Common.{◌≡◌, ◌≢◌, ◌⊎◌, inl, inr, ℕ, ◌==◌, Bool, true, false, None, List, [], ◌∷◌, ◌++◌, map, refl, sym, ap, ◌∙◌, subst}
+use Rattle.std.proofs.Common.{◌≡◌, ◌≢◌, ◌⊎◌, inl, inr, ℕ, ◌==◌, Bool, true, false, List, [], ◌∷◌, ◌++◌, map, refl, sym, ap, ◌∙◌, subst}
 use Rattle.std.specs.Prelude.{◌||◌}
 use Rattle.std.specs.List.{list_any}
 use Rattle.std.proofs.lemmas.Bool.{eqb-true}
@@ -8,10 +8,9 @@ use Rattle.wt_guards.specs.declared.role.Role.{Role}
 use Rattle.wt_guards.specs.declared.role.Role.TheVariants.{Link, External, Bare, Switch, Toggle, Mark, Group, Function, Node}
 use Rattle.wt_tiles.specs.Glyphs.{glyph_of}
 use Rattle.wt_text_edit_laws.specs.TextBetween.{EndsBy, HasNoTag}
-use Rattle.wt_typed_blocks.proofs.TextReads.{equal_or}
 use Rattle.wt_beside_laws.specs.Commented.{LexemesEnd}
 use Rattle.wt_beside_laws.specs.Nodes.{IsTagNode, IsCategoryNode, IsMediaNode, IsOneLexeme, IsNode}
-use Rattle.wt_beside_laws.proofs.Made.NodesSealed.{IsTailed, IsSplit, split_at, AreOthers, link_tailed, category_tailed, media_tailed, external_tailed, tag_tailed, url_others, switch_others, delimiter_others, lexeme_others, mark_others, lexeme_stops}
+use Rattle.wt_beside_laws.proofs.Made.NodesSealed.{IsTailed, split_at, AreOthers, link_tailed, category_tailed, media_tailed, external_tailed, tag_tailed, url_others, switch_others, delimiter_others, lexeme_others, mark_others, lexeme_stops}
 use Rattle.wt_beside_laws.proofs.Made.Sealed.{stops, last_ends}
 use Rattle.wt_beside_laws.proofs.Own.Crossing.{TagsStop}
 
