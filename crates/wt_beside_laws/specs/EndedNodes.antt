@@ -9,8 +9,8 @@ use Rattle.wt_tiles.specs.declared.shape.Shape.{Shape}
 use Rattle.wt_tiles.specs.Contexts.{in_line}
 use Rattle.wt_tiles.specs.Glyphs.{glyph_of}
 use Rattle.wt_tiles.specs.Tiles.{tiles}
+use Rattle.wt_text_edit_laws.specs.NoCalls.{AreUnpaired}
 use Rattle.wt_text_edit_laws.specs.TextBetween.{HasEnds}
-use Rattle.wt_beside_laws.specs.Calm.{HaveNoBraces}
 use Rattle.wt_beside_laws.specs.NodeItems.{node_items}
 use Rattle.wt_beside_laws.specs.Stood.{OpensNoPair}
 
@@ -37,11 +37,11 @@ ReferencesEnd [] = Unit {0}
 ReferencesEnd (b ∷ bs) = ((b == byte.ampersand) ≡ true → list_all is_reference_byte bs ≡ false) × ReferencesEnd bs
 
 -- In its source each comment that begins ends, and so does each tag of an extension, `<nowiki>` and `<includeonly>`. A bare URL doesn't end with a `&` and
--- letters. No character is a brace.
+-- letters. No two braces are side by side.
 pub record IsEndedSource (source : List ℕ) : Type 0 where
   pub ends : HasEnds source
   pub references : ReferencesEnd source
-  pub unbraced : HaveNoBraces (node_items source)
+  pub unpaired : AreUnpaired (node_items source)
 
 -- so each node's source
 abbrev pub AreEndedNodes : List ContentSign → Type 0

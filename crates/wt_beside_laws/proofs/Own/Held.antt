@@ -1,4 +1,4 @@
--- The source of a node of the page stands whatever is written behind it, where what begins in it ends in it and no tag is shut at its end.
+-- The source of a node of the page stands whatever is written behind it, where what begins in it ends in it and no tag is open at its end.
 use Rattle.std.proofs.Common.{arith, ◌≡◌, ◌⊎◌, inl, inr, ℕ, zero, suc, Bool, true, false, Option, Some, None, List, [], ◌∷◌, ◌++◌, map, take, refl, sym, ap, ◌∙◌, subst, append-nil}
 use Rattle.std.specs.Prelude.{if◌then◌else◌}
 use Rattle.std.specs.Option.{option_or}

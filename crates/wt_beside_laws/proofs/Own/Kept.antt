@@ -194,7 +194,7 @@ each_held (thing t ∷ after) n s e u = (node_held t.role t.source n.0 s.0 e.0 (
 each_calm : (signs : List ContentSign) → EachSource IsUtf8 signs → AreEndedNodes signs → AreCalm signs
 each_calm [] u e = tt
 each_calm (letter c ∷ after) u e = each_calm after u e
-each_calm (thing t ∷ after) u e = (record { utf8 = u.0; unbraced = e.0.unbraced }, each_calm after u.1 e.1)
+each_calm (thing t ∷ after) u e = (record { utf8 = u.0; unpaired = e.0.unpaired }, each_calm after u.1 e.1)
 
 pub content_styled : (k : TextBlock) (q : List ℕ) → IsContent k q → CallsNothing (block_items k q) → LinesOpenNoPair (lines_in k q) → AreEndedNodes (signs_in k q)
     → IsStyledIn k q
