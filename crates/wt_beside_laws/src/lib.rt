@@ -316,7 +316,7 @@ pub fn what_is_sent_is_what_is_shown()
 {}
 
 /// Such a content is UTF-8, and as a page it calls nothing, whatever the folder has: nothing is expanded in it, and nothing refuses
-/// it. Asked is that the source of each node is UTF-8 and has no brace outside of its lexemes (`AreCalm`).
+/// it. Asked is that the source of each node is UTF-8, and that no two braces are side by side in it, outside of its lexemes (`AreCalm`).
 #[tactic(auto, using(crate::proofs::CalmContents::content_utf8, crate::proofs::CalmContents::content_expanded, crate::proofs::CalmContents::content_unrefused))]
 pub fn texts_beside_nodes_call_nothing()
     ensures utf8 { (s : Setting) (signs : List ContentSign) → AreCharacters signs → AreCalm signs → IsUtf8 (spelled s signs) }
