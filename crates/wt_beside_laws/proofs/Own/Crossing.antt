@@ -220,7 +220,7 @@ closing_ends b q rest s = elim (equal_or b 60) [
       let r = any_at stops q (s.0 (subst (λ (k : ℕ). (k == 60) ≡ true) (sym is) refl)) in
       let here : stops (get_or (b ∷ (q ++ rest)) (suc r.at) 0) ≡ true = ap stops (get_front q rest r.at r.within) ∙ r.passes in
       shorter (closing_tag (b ∷ (q ++ rest))) (suc r.at) (omega (arith, r.within)) (closing_within (suc r.at) (b ∷ (q ++ rest)) here)
-  | inr no ↦ subst (TagWithin (length q)) (sym (not_less b (q ++ rest) (apart b 60 no))) tt
+  | inr differs ↦ subst (TagWithin (length q)) (sym (not_less b (q ++ rest) (apart b 60 differs))) tt
 ]
   where
     shorter : (o : Option Tag) (k : ℕ) → k ≤ length q → TagWithin k o → TagWithin (length q) o
@@ -568,7 +568,7 @@ reference_within b q rest r = entity_word_within (length q) (entity_at (b ∷ (q
       let here : is_reference_byte (get_or (b ∷ (q ++ rest)) (suc s.at) 0) ≡ false =
       ap is_reference_byte (get_front q rest s.at s.within) ∙ unpassed (is_reference_byte (get_or q s.at 0)) s.passes in
       shorter (entity_at (b ∷ (q ++ rest))) (suc s.at) (omega (arith, s.within)) (entity_within (suc s.at) (b ∷ (q ++ rest)) (omega arith) here)
-  | inr no ↦ subst (EntityWithin (length q)) (sym (entity_none (b ∷ (q ++ rest)) (λ e. apart b 38 no e))) tt
+  | inr differs ↦ subst (EntityWithin (length q)) (sym (entity_none (b ∷ (q ++ rest)) (λ e. apart b 38 differs e))) tt
 ])
   where
     shorter : (o : Option (ℕ × ℕ)) (k : ℕ) → k ≤ length q → EntityWithin k o → EntityWithin (length q) o

@@ -41,7 +41,7 @@ comment_last b q h e =
 comment_less : (b : ℕ) (q : List ℕ) (n : ℕ) → comment_len (b ∷ q) ≡ Some n → b ≡ 60
 comment_less b q n e = elim (equal_or b 60) [
   | inl is ↦ is
-  | inr no ↦ let none : None ≡ Some n = sym (comment_other b q (apart b 60 no)) ∙ e in cc
+  | inr differs ↦ let none : None ≡ Some n = sym (comment_other b q (apart b 60 differs)) ∙ e in cc
 ]
 
 -- whatever is behind it
@@ -208,28 +208,29 @@ line_from (suc n) [] size last m = absurd (omega (arith, size))
 line_from (suc n) (b ∷ ys) size last m = inr (part_here b n ys m (line_from n ys (omega (arith, size)) (later b ys (remarks_len n ys) last) (mark_of b ys n m)))
 line_from zero (b ∷ ys) size last m = line_at b ys (comment_len (b ∷ ys)) refl size last (λ n. line_from n ys)
 
--- one of comments: at least one is there
+-- without a comment they are blanks
+blanks_by : (ys : List ℕ) (t : Bool) → remarks_len 0 ys ≤ blank_len ys → (if t then 1 + remarks_len 0 ys else 0) ≤ (if t then 1 + blank_len ys else 0)
+blanks_by ys true le = omega (arith, le)
+blanks_by ys false le = omega arith
+
+blanks_at : (b : ℕ) (ys : List ℕ) (o : Option ℕ) → comment_len (b ∷ ys) ≡ o → (b == 60) ≡ false → remarks_len 0 ys ≤ blank_len ys
+    → remarks_with o b (λ n. remarks_len n ys) ≤ blank_len (b ∷ ys)
+blanks_at b ys (Some c) e t le =
+    let i = comment_less b ys c e in
+    absurd (let wrong : (60 == 60) ≡ false = subst (λ (x : ℕ). (x == 60) ≡ false) i t in cc)
+blanks_at b ys None e t le = blanks_by ys (is_blank b) le
+
+only_blanks : (ys : List ℕ) → HasNoTag ys → remarks_len 0 ys ≤ blank_len ys
+only_blanks [] h = omega arith
+only_blanks (b ∷ ys) h = blanks_at b ys (comment_len (b ∷ ys)) refl h.0 (only_blanks ys h.1)
+
+-- at least one comment is there
+parted_by : (q : List ℕ) → blank_len q < remarks_len 0 q → Parts 0 q → IsParted q
+parted_by q more (inl h) = let le = only_blanks q h.1 in absurd (omega (arith, le, more))
+parted_by q more (inr p) = p
+
 parted : (q : List ℕ) → LineView q → IsParted q
-parted q v = by (line_from 0 q v.size v.last tt)
-  where
-    more : blank_len q < remarks_len 0 q
-    more = v.more
-
-    blanks : (ys : List ℕ) → HasNoTag ys → remarks_len 0 ys ≤ blank_len ys
-    blanks [] h = omega arith
-    blanks (b ∷ ys) h = one (comment_len (b ∷ ys)) refl
-      where
-        two : (t : Bool) → (if t then 1 + remarks_len 0 ys else 0) ≤ (if t then 1 + blank_len ys else 0)
-        two true = let le = blanks ys h.1 in omega (arith, le)
-        two false = omega arith
-
-        one : (o : Option ℕ) → comment_len (b ∷ ys) ≡ o → remarks_with o b (λ n. remarks_len n ys) ≤ blank_len (b ∷ ys)
-        one (Some c) e = let i = comment_less b ys c e in absurd (let no : (60 == 60) ≡ false = subst (λ (x : ℕ). (x == 60) ≡ false) i h.0 in cc)
-        one None e = two (is_blank b)
-
-    by : Parts 0 q → IsParted q
-    by (inl h) = let le = blanks q h.1 in absurd (omega (arith, le, more))
-    by (inr p) = p
+parted q v = parted_by q v.more (line_from 0 q v.size v.last tt)
 
 pub line_source : (b : ℕ) (q : List ℕ) → comment_line_len (b ∷ q) ≡ Some (suc (length q)) → IsCommentLine (b ∷ q)
 line_source b q e =
