@@ -1,11 +1,11 @@
 -- A heading of texts beside calls: it is on one line, keeps its level, and holds its calls.
-use Rattle.std.proofs.Common.{arith, ◌≡◌, ◌⊎◌, inl, inr, ℕ, zero, suc, ◌≤◌, ◌==◌, Bool, true, false, None, List, [], ◌∷◌, ◌++◌, map, refl, sym, ap, ◌∙◌, subst, append-nil}
-use Rattle.std.specs.Prelude.{◌||◌, if◌then◌else◌}
+use Rattle.std.proofs.Common.{arith, ◌≡◌, inr, ℕ, zero, suc, ◌≤◌, Bool, true, false, List, [], ◌∷◌, ◌++◌, map, refl, sym, ap, ◌∙◌, subst}
+use Rattle.std.specs.Prelude.{if◌then◌else◌}
 use Rattle.std.specs.List.{list_any}
 use Rattle.wt_tree.specs.declared.kind.Kind.TheVariants as kind
 use Rattle.wt_tree.specs.declared.edit_shape.Place.TheVariants as place
 use Rattle.wt_span.specs.Bytes.{is_blank}
-use Rattle.wt_span.specs.Items.{Item, char, sign}
+use Rattle.wt_span.specs.Items.{Item, sign}
 use Rattle.wt_span.specs.Origins.{OuterCall}
 use Rattle.wt_guards.specs.Content.{ContentSign, letter, thing}
 use Rattle.wt_guards.specs.Guards.{Setting, is_guarded}
@@ -13,7 +13,7 @@ use Rattle.wt_guards.specs.Letters.{is_escaped}
 use Rattle.wt_typed_blocks.proofs.Lines.{end_guarded}
 use Rattle.wt_expand.specs.PageItems.{page_items}
 use Rattle.wt_inline.specs.declared.loose.Loose.TheVariants.{Text}
-use Rattle.wt_inline.specs.ItemTree.{plain, inner, forest, tree_items, held_by_all}
+use Rattle.wt_inline.specs.ItemTree.{plain, inner, forest, held_by_all}
 use Rattle.wt_inline.specs.Parts.{Part, parts, children}
 use Rattle.wt_context.specs.Line.{line_parts}
 use Rattle.wt_annotated.specs.Clean.{is_page}
@@ -21,7 +21,7 @@ use Rattle.wt_part_laws.specs.CallPieces.{AreOwnOrGiven}
 use Rattle.wt_part_laws.specs.HeldCalls.{block_in, HoldsItsCalls, IsRoundGiven, block_of_pieces}
 use Rattle.wt_part_laws.proofs.HeldBlocks.{given_hold, given_block_is}
 use Rattle.wt_text_edit_laws.specs.LonePages.{page_chars}
-use Rattle.wt_text_edit_laws.specs.TypedHeadings.{Sides, AreSides, equals, opening, closing_items, heading_round, NoBreaks, BeginsWithout, EndsWithout, is_equals_sign, IsHeadingInside, IsOfLevel}
+use Rattle.wt_text_edit_laws.specs.TypedHeadings.{Sides, AreSides, equals, opening, closing_items, heading_round, NoBreaks, BeginsWithout, is_equals_sign, IsHeadingInside, IsOfLevel}
 use Rattle.wt_text_edit_laws.proofs.Blocks.BlockLeaves.{items_of_page}
 use Rattle.wt_text_edit_laws.proofs.Headings.HeadingRows.{apart_level}
 use Rattle.wt_text_edit_laws.proofs.Headings.TypedTexts.{end_by, no_equals, begins_other, begins_still, ends_behind as behind_other}

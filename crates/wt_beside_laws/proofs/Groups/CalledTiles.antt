@@ -1,5 +1,5 @@
 -- The tiles of a line of texts, of what calls give and of nodes that stay.
-use Rattle.std.proofs.Common.{◌≡◌, ◌⊎◌, inl, inr, ℕ, ◌==◌, Bool, true, false, not, None, List, [], ◌∷◌, ◌++◌, map, sym, ap, refl, ◌∙◌, subst}
+use Rattle.std.proofs.Common.{◌≡◌, inl, inr, ℕ, ◌==◌, Bool, true, false, not, None, List, [], ◌∷◌, ◌++◌, map, sym, ap, refl, ◌∙◌, subst}
 use Rattle.std.specs.Prelude.{◌&&◌, ◌||◌, codes, if◌then◌else◌}
 use Rattle.std.specs.Char.{is_ascii_alphabetic}
 use Rattle.wt_span.specs.Items.{Item}
@@ -17,7 +17,7 @@ use Rattle.wt_tiles.specs.Urls.{is_word}
 use Rattle.wt_beside_laws.specs.Beginnings.{is_lone_underscore}
 use Rattle.wt_beside_laws.specs.Called.{MeetsNearest, AllMeetWith}
 use Rattle.wt_beside_laws.specs.Cuts.{letter_cut, ends_word}
-use Rattle.wt_beside_laws.specs.Given.{GivenSign, given_glyphs, given_cut, given_last, AreGivenSigns, FirstMay, LastMay}
+use Rattle.wt_beside_laws.specs.Given.{given_cut, given_last, FirstMay, LastMay}
 use Rattle.wt_beside_laws.specs.Glyphs.{guard_glyphs, letter_glyphs}
 use Rattle.wt_beside_laws.proofs.ContentTiles.{Follows, guard_follows, letter_follows}
 use Rattle.wt_beside_laws.proofs.LineTiles.{end_follows, letter_by}

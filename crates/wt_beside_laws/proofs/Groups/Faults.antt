@@ -1,11 +1,11 @@
 -- A group of what a call gives has no fault: read alone it shows the same, its line has even toggles, and no text in it could go on after it.
-use Rattle.std.proofs.Common.{◌≡◌, ℕ, ◌==◌, Bool, true, false, Option, None, Some, List, [], ◌∷◌, ◌++◌, map, refl, sym, ap, ap₂, ◌∙◌, subst, append-nil, All}
+use Rattle.std.proofs.Common.{◌≡◌, ℕ, Bool, true, false, None, Some, List, [], ◌∷◌, ◌++◌, map, refl, sym, ap, ap₂, ◌∙◌, subst, append-nil, All}
 use Rattle.std.specs.Prelude.{◌&&◌, ◌||◌, if◌then◌else◌, is_some, slice_get}
 use Rattle.std.proofs.lemmas.Bool.Decides.{Decides-eqb}
 use Rattle.std.proofs.lemmas.List.Elements.{All-nil, All-cons}
 use Rattle.wt_tree.specs.Plain.{Plain, Plains, ended, element, plains_before}
 use Rattle.wt_tree.specs.Tree.{Trees}
-use Rattle.wt_span.specs.Items.{Item, char, call_of}
+use Rattle.wt_span.specs.Items.{Item, char}
 use Rattle.wt_span.specs.Origins.{OuterCall, same_call}
 use Rattle.wt_span.proofs.RunLaws.{runs_cut}
 use Rattle.wt_expand.specs.Expansion.{opens_block}

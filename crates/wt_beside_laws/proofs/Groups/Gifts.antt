@@ -1,5 +1,5 @@
 -- A node that stays, and what a call gives, as their neighbours on a line see them: forms and characters, of which each is what it is by itself.
-use Rattle.std.proofs.Common.{◌≡◌, ◌⊎◌, inl, inr, ℕ, ◌==◌, Bool, true, false, Option, None, Some, List, [], ◌∷◌, ◌++◌, map, refl, sym, ap, ◌∙◌, subst, append-nil}
+use Rattle.std.proofs.Common.{◌≡◌, ◌⊎◌, inl, inr, ℕ, ◌==◌, Bool, true, false, None, Some, List, [], ◌∷◌, ◌++◌, map, refl, sym, ap, ◌∙◌, subst, append-nil}
 use Rattle.std.specs.Prelude.{codes, if◌then◌else◌}
 use Rattle.wt_span.specs.Items.{Item}
 use Rattle.wt_guards.specs.declared.role.Role.{Role}
@@ -16,7 +16,6 @@ use Rattle.wt_tiles.specs.declared.glyph.Glyph.TheVariants as glyph
 use Rattle.wt_tiles.specs.Glyphs.{glyph_of}
 use Rattle.wt_tiles.specs.Tiles.{Cut}
 use Rattle.wt_tiles.specs.Urls.{scheme_len, bare_url_at, is_word}
-use Rattle.wt_tiles.specs.declared.shape.Shape.{Shape}
 use Rattle.wt_beside_laws.specs.Beginnings.{AvoidsSwitches}
 use Rattle.wt_beside_laws.specs.Called.{IsOwnNode, IsGivenAs, AreGiven, MayBeBehindGroup, MayFollowGroup, BehindMay, LeadMay}
 use Rattle.wt_beside_laws.specs.Cuts.{ends_word, guard_cut, letter_cut}

@@ -1,5 +1,5 @@
 -- Worked cases: what calls give beside words: a link, a URL, a reference, nothing; and what is none of it.
-use Rattle.std.proofs.Common.{◌≡◌, ℕ, true, false, Some, List, [], ◌∷◌, ◌++◌, map, refl, inl, inr}
+use Rattle.std.proofs.Common.{◌≡◌, ℕ, true, false, Some, List, [], ◌∷◌, map, refl, inl, inr}
 use Rattle.std.specs.Prelude.{codes}
 use Rattle.std.specs.Str.{is_utf8, chars}
 use Rattle.std.specs.Str.Lossy.{utf8_valid_len}
@@ -14,7 +14,6 @@ use Rattle.wt_guards.specs.declared.role.Role.TheVariants.{Link, Bare, Mark, Nod
 use Rattle.wt_guards.specs.declared.role.Transclusion.{Transclusion}
 use Rattle.wt_guards.specs.Table.{line_start_hazard}
 use Rattle.wt_inline.specs.Parts.{children}
-use Rattle.wt_tiles.specs.declared.shape.Shape.{Shape}
 use Rattle.wt_tiles.specs.declared.shape.TileKind.TheVariants as tile
 use Rattle.wt_tiles.specs.Glyphs.{byte_glyphs}
 use Rattle.wt_tiles.specs.Links.{target_of, link_in, link_at}
@@ -27,10 +26,10 @@ use Rattle.wt_context.specs.Segments.{loose_segments}
 use Rattle.wt_context.specs.Chunks.{chunks}
 use Rattle.wt_context.specs.Styled.{with_styles}
 use Rattle.wt_context.specs.Nodes.{segments}
-use Rattle.wt_context.specs.Line.{context_parts, line_parts}
+use Rattle.wt_context.specs.Line.{context_parts}
 use Rattle.wt_annotated.specs.Labels.{label_at}
 use Rattle.wt_isolation.specs.GroupItems.{empty_nowiki}
-use Rattle.wt_beside_laws.specs.Given.{GivenSign, character, form, AreGivenSigns, AreGivenBy, GivesSigns, IsGroup}
+use Rattle.wt_beside_laws.specs.Given.{GivenSign, character, form, AreGivenSigns, IsGroup}
 use Rattle.wt_beside_laws.specs.Nodes.{IsLinkNode, IsBareNode}
 use Rattle.wt_beside_laws.proofs.Groups.Cases.{beside_letters}
 
@@ -69,14 +68,17 @@ one_link g j = record {
     begins = refl;
     unopened = refl;
     unbroken = (refl, (refl, (refl, (refl, (refl, tt)))));
-    inside = (record {
-      first = char (Some j) 91;
-      others = of_call j (codes "[b]]");
-      is = refl;
-      of_call = (refl, (refl, (refl, (refl, (refl, tt)))));
-      no_body = refl;
-      uncut = (refl, ((refl, tt), tt));
-    }, tt);
+    inside = (
+      record {
+        first = char (Some j) 91;
+        others = of_call j (codes "[b]]");
+        is = refl;
+        of_call = (refl, (refl, (refl, (refl, (refl, tt)))));
+        no_body = refl;
+        uncut = (refl, ((refl, tt), tt));
+      },
+      tt,
+    );
     even = refl;
     closed = refl;
   };

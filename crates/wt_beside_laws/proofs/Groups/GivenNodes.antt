@@ -6,7 +6,7 @@ use Rattle.wt_tree.specs.declared.row.Texts.TheVariants.{Separators, Page, Borde
 use Rattle.wt_tree.specs.Kinds.{is_leaf, texts_of_kind}
 use Rattle.wt_tree.specs.Plain.{Plains, plain_before, plains_before}
 use Rattle.wt_tree.specs.Tiling.{is_group}
-use Rattle.wt_tree.specs.Tree.{Label, Tree, tree, Trees, none, more}
+use Rattle.wt_tree.specs.Tree.{Label, Tree, tree, Trees, more}
 use Rattle.wt_span.specs.Items.{Item, char}
 use Rattle.wt_span.specs.Origins.{OuterCall}
 use Rattle.wt_span.specs.Runs.{IsRun, AreRuns, runs}

@@ -10,12 +10,12 @@ use Rattle.wt_typed_blocks.proofs.TextReads.{equal_or}
 use Rattle.wt_tiles.specs.declared.glyph.Glyph.{Glyph}
 use Rattle.wt_tiles.specs.declared.glyph.Glyph.TheVariants as glyph
 use Rattle.wt_tiles.specs.Contexts.{in_line}
-use Rattle.wt_tiles.specs.Glyphs.{glyph_of, is_in, like_byte, begins_like}
+use Rattle.wt_tiles.specs.Glyphs.{glyph_of, is_in, begins_like}
 use Rattle.wt_tiles.specs.Tiles.{Cut, form_at, cuts, switch_at}
 use Rattle.wt_tiles.specs.Urls.{is_word}
 use Rattle.wt_beside_laws.specs.Glyphs.{AvoidsUrls}
 use Rattle.wt_beside_laws.specs.Cuts.{add_node, own_form, ends_word}
-use Rattle.wt_beside_laws.specs.Given.{is_half_sign, GivenSign, character, form, given_items, given_glyphs, given_cut, is_given_byte, is_apart, BeginsApart, MayBeFirst, AreGivenSigns, given_last, LastMay}
+use Rattle.wt_beside_laws.specs.Given.{is_half_sign, GivenSign, character, form, given_items, given_glyphs, given_cut, is_given_byte, BeginsApart, MayBeFirst, AreGivenSigns, given_last, LastMay}
 use Rattle.wt_beside_laws.specs.Nodes.{MayFollow}
 use Rattle.wt_beside_laws.proofs.ContentTiles.{one_more, none_more, Follows, node_follows}
 use Rattle.wt_beside_laws.proofs.NodesBegin.{node_urls}

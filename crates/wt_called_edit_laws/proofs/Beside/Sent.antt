@@ -14,7 +14,7 @@ use Rattle.wt_tree.specs.Tree.{Label, Tree, tree, Trees, label}
 use Rattle.wt_tree.specs.declared.edit_shape.InlineForm.{InlineForm}
 use Rattle.wt_tree.specs.declared.edit_shape.InlineForm.TheVariants as inline
 use Rattle.wt_tree.specs.declared.edit_shape.Place.{Place}
-use Rattle.wt_guards.specs.Content.{ContentSign, Thing, letter, letters, thing}
+use Rattle.wt_guards.specs.Content.{ContentSign, Thing, letter, letters}
 use Rattle.wt_original.specs.Kept.{Kept, kept_with, kept_nodes}
 use Rattle.wt_original.specs.Page.{page_of, TellsSame, restored, is_unchanged}
 use Rattle.wt_context.specs.Line.{line_parts}

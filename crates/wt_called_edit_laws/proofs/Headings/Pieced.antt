@@ -2,7 +2,6 @@
 use Rattle.std.proofs.Common.{ℕ, false, List, [], refl, sym, ap, ◌∙◌, subst}
 use Rattle.wt_tree.specs.declared.kind.Kind.TheVariants as kind
 use Rattle.wt_tree.specs.declared.edit_shape.Place.TheVariants as place
-use Rattle.wt_span.specs.Items.{Item}
 use Rattle.wt_guards.specs.Content.{Thing}
 use Rattle.wt_guards.specs.Guards.{Setting}
 use Rattle.wt_expand.specs.PageCalls.{expanded_page}

@@ -1,5 +1,5 @@
 -- Each block of a page whose calls give what may be a group, or that calls nothing, can be read by itself where it is.
-use Rattle.std.proofs.Common.{arith, ◌≡◌, inl, inr, ℕ, suc, ◌+◌, ◌<◌, ◌≤◌, Bool, true, false, Option, None, Some, List, [], ◌∷◌, ◌++◌, length, map, refl, sym, ap, ap₂, ◌∙◌, subst, append-nil}
+use Rattle.std.proofs.Common.{arith, ◌≡◌, inl, inr, ℕ, suc, ◌+◌, ◌<◌, ◌≤◌, Bool, true, false, Option, None, Some, List, [], ◌∷◌, ◌++◌, length, refl, sym, ap, ap₂, ◌∙◌, subst, append-nil}
 use Rattle.std.specs.Prelude.{slice_get, if◌then◌else◌}
 use Rattle.std.specs.List.{list_all}
 use Rattle.std.proofs.lemmas.Bool.{cases_lt}
@@ -9,19 +9,16 @@ use Rattle.wt_tree.specs.declared.kind.Kind.TheVariants as kind
 use Rattle.wt_tree.specs.Kinds.{texts_of_kind}
 use Rattle.wt_tree.specs.Tiling.{is_group}
 use Rattle.wt_tree.specs.Tree.{Tree, Trees}
-use Rattle.wt_span.specs.Items.{Item, char, sources}
-use Rattle.wt_span.specs.Origins.{OuterCall, Expanded, same_call}
+use Rattle.wt_span.specs.Items.{Item, sources}
+use Rattle.wt_span.specs.Origins.{OuterCall, Expanded}
 use Rattle.wt_span.specs.Cuts.{source_of_call}
-use Rattle.wt_inline.specs.declared.loose.Loose.TheVariants.{Text, Sep}
-use Rattle.wt_inline.specs.Inside.{opened_all}
 use Rattle.wt_inline.specs.ItemTree.{Head, plain, ItemTree, inner, forest, tree_items, held_by_all}
-use Rattle.wt_inline.specs.Parts.{Part, loose, node, held_parts, children}
-use Rattle.wt_inline.proofs.HeldLaws.{held_children}
+use Rattle.wt_inline.specs.Parts.{Part, children}
 use Rattle.wt_context.specs.Line.{line_parts}
 use Rattle.wt_annotated.specs.Clean.{is_page}
 use Rattle.wt_annotated.specs.CutTexts.{cut_as, cut_texts, all_cut_texts}
 use Rattle.wt_annotated.specs.Numbering.{next_after, with_numbers}
-use Rattle.wt_annotated.specs.Seams.{last_of, first_of}
+use Rattle.wt_annotated.specs.Seams.{last_of}
 use Rattle.wt_annotated.specs.WithoutCalls.{placed}
 use Rattle.wt_checks.specs.Kept.{children as nodes_in}
 use Rattle.wt_isolation.specs.OpenTags.{ends_open, any_ends_open}

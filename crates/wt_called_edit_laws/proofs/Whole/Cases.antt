@@ -47,7 +47,7 @@ use Rattle.wt_text_edit_laws.specs.TextBlocks.{a_paragraph}
 use Rattle.wt_beside_laws.proofs.Groups.Cases.{a_word, call, gives_char, gives_word}
 use Rattle.wt_beside_laws.specs.Shown.{parts_shown_at}
 use Rattle.wt_called_edit_laws.specs.CalledContents.{AreTextItems}
-use Rattle.wt_called_edit_laws.specs.CalledEdits.{page_things, IsBesideCalls}
+use Rattle.wt_called_edit_laws.specs.CalledEdits.{IsBesideCalls}
 use Rattle.wt_called_edit_laws.specs.PartTexts.{AreSourcesAt}
 use Rattle.wt_called_edit_laws.specs.PageThings.{AllMeetLater}
 use Rattle.wt_called_edit_laws.specs.PiecedParagraphs.{HasOwn, IsGroupCall, all_pieces, IsTextAndCalls}

@@ -1,5 +1,5 @@
 -- What is written for texts beside calls can be read by itself.
-use Rattle.std.proofs.Common.{arith, ◌≡◌, ◌⊎◌, inl, inr, ℕ, suc, ◌+◌, ◌<◌, ◌≤◌, ◌==◌, Bool, true, false, Option, None, Some, List, [], ◌∷◌, ◌++◌, length, map, refl, sym, ap, ap₂, ◌∙◌, subst, append-nil}
+use Rattle.std.proofs.Common.{arith, ◌≡◌, inl, inr, ℕ, suc, ◌+◌, ◌<◌, ◌≤◌, ◌==◌, Bool, true, false, Option, None, Some, List, [], ◌∷◌, ◌++◌, length, map, refl, sym, ap, ap₂, ◌∙◌, subst, append-nil}
 use Rattle.std.specs.Prelude.{◌&&◌, slice_get, encode_utf8}
 use Rattle.std.specs.List.{list_all}
 use Rattle.std.specs.Fmt.{digits}
@@ -8,7 +8,7 @@ use Rattle.std.proofs.lemmas.Bool.Decides.{nat_tests}
 use Rattle.wt_tree.specs.declared.kind.Kind.TheVariants as kind
 use Rattle.wt_tree.specs.Tiling.{HasNoGroup}
 use Rattle.wt_span.specs.declared.form.ItemForm.TheVariants as form
-use Rattle.wt_span.specs.Items.{Item, char, whole, call_of}
+use Rattle.wt_span.specs.Items.{Item, char, whole}
 use Rattle.wt_span.specs.Cuts.{source_of_call}
 use Rattle.wt_span.specs.Origins.{OuterCall, same_call}
 use Rattle.wt_guards.specs.declared.role.Transclusion.{Transclusion}

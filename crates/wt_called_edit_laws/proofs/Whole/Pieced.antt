@@ -1,29 +1,25 @@
 -- A paragraph in pieces, some of which are calls, holds these, and can be read by itself.
-use Rattle.std.proofs.Common.{arith, ◌≡◌, inl, inr, ℕ, ◌+◌, ◌<◌, true, false, Bool, Option, Some, None, List, [], ◌∷◌, ◌++◌, length, refl, sym, ap, ap₂, ◌∙◌, subst, append-nil}
+use Rattle.std.proofs.Common.{◌≡◌, inl, inr, ℕ, ◌+◌, true, false, Bool, Some, None, List, [], ◌∷◌, ◌++◌, refl, sym, ap, ◌∙◌, subst, append-nil}
 use Rattle.std.specs.Prelude.{◌||◌}
 use Rattle.std.specs.List.{list_any}
-use Rattle.std.proofs.lemmas.Bool.{cases_lt}
 use Rattle.std.proofs.lemmas.List.Folds.{list_any-append}
 use Rattle.wt_tree.specs.declared.kind.Kind.TheVariants as kind
 use Rattle.wt_span.specs.Items.{Item}
 use Rattle.wt_guards.specs.Content.{Thing}
-use Rattle.wt_inline.specs.declared.loose.Loose.TheVariants.{Text, Sep}
 use Rattle.wt_inline.specs.ItemTree.{plain, forest, tree_items, held_by_all}
 use Rattle.wt_inline.specs.Parts.{Part, loose, node, held_parts, children}
 use Rattle.wt_inline.proofs.HeldLaws.{held_children}
 use Rattle.wt_expand.specs.PageCalls.{expanded_page}
-use Rattle.wt_expand.specs.PageItems.{page_items}
 use Rattle.wt_expand.specs.Work.{Pages}
 use Rattle.wt_annotated.specs.Clean.{is_page}
 use Rattle.wt_part_laws.specs.CallPieces.{AreOwnOrGiven}
-use Rattle.wt_part_laws.specs.Expanded.{part_items, calls_in}
+use Rattle.wt_part_laws.specs.Expanded.{part_items}
 use Rattle.wt_part_laws.specs.HeldCalls.{HoldsItsCalls, IsRoundGiven}
 use Rattle.wt_part_laws.proofs.HeldBlocks.{given_hold}
 use Rattle.wt_part_laws.proofs.OwnWalks.{has_page}
 use Rattle.wt_text_edit_laws.specs.Contents.{content_parts_of}
 use Rattle.wt_text_edit_laws.specs.ParagraphParts.{para_with}
 use Rattle.wt_text_edit_laws.specs.TextBlocks.{a_paragraph}
-use Rattle.wt_text_edit_laws.proofs.Blocks.BlockLeaves.{items_of_page}
 use Rattle.wt_called_edit_laws.specs.CallingBlocks.{IsContentIn}
 use Rattle.wt_called_edit_laws.specs.CallingEdits.{TakesLetters}
 use Rattle.wt_called_edit_laws.specs.EditableBlocks.{HoldsCalls}

@@ -1,7 +1,6 @@
 -- Nodes of the page side by side with groups of what calls give, where they are in the page: no tag is open in them, and no group has a fault.
-use Rattle.std.proofs.Common.{arith, ◌≡◌, ℕ, ◌+◌, ◌<◌, Bool, true, false, Option, None, Some, List, [], ◌∷◌, ◌++◌, length, map, refl, sym, ap, ap₂, ◌∙◌, subst, append_assoc, append-nil, length-append}
+use Rattle.std.proofs.Common.{arith, ◌≡◌, ℕ, ◌+◌, Bool, true, false, Option, None, Some, List, [], ◌∷◌, ◌++◌, length, map, refl, sym, ap, ap₂, ◌∙◌, subst, append_assoc, append-nil, length-append}
 use Rattle.std.specs.Prelude.{slice_get, ◌||◌, if◌then◌else◌}
-use Rattle.std.specs.List.{list_all}
 use Rattle.wt_tree.specs.declared.edit_shape.InlineForm.{InlineForm}
 use Rattle.wt_tree.specs.declared.edit_shape.InlineForm.TheVariants as inline
 use Rattle.wt_tree.specs.declared.kind.Ranges.{Ranges}
@@ -15,7 +14,6 @@ use Rattle.wt_span.specs.Origins.{OuterCall, Expanded}
 use Rattle.wt_span.specs.Cuts.{source_of_call}
 use Rattle.wt_span.specs.Runs.{runs, IsRun, AreRuns}
 use Rattle.wt_span.proofs.RunLaws.{runs_are}
-use Rattle.wt_tiles.specs.declared.glyph.Glyph.{Glyph}
 use Rattle.wt_tiles.specs.Glyphs.{glyph_of}
 use Rattle.wt_inline.specs.declared.loose.Loose.TheVariants.{Text, Sep}
 use Rattle.wt_inline.specs.ItemTree.{Head, ItemTree, inner, ItemTrees, nothing, further, forest, tree_items, held_by_all}
@@ -25,7 +23,7 @@ use Rattle.wt_annotated.specs.Annotated.{no_place, unplaced, all_unplaced}
 use Rattle.wt_annotated.specs.CutTexts.{cut_texts, all_cut_texts}
 use Rattle.wt_annotated.specs.Labels.{label_at}
 use Rattle.wt_annotated.specs.Numbering.{count, with_numbers}
-use Rattle.wt_annotated.specs.Seams.{last_of, first_of, parted, text_from}
+use Rattle.wt_annotated.specs.Seams.{last_of, parted, text_from}
 use Rattle.wt_annotated.specs.WithoutCalls.{inside_by, placed}
 use Rattle.wt_annotated.proofs.Seams.{last_append, text_append_from}
 use Rattle.wt_isolation.specs.GroupItems.{with_break_anew, empty_nowiki, items_alone}
@@ -34,8 +32,7 @@ use Rattle.wt_isolation.specs.OpenTexts.{in_style}
 use Rattle.wt_selser.specs.GroupFaults.{is_faulty, faulty_at, is_faulty_node, has_faulty_group}
 use Rattle.wt_page_round_trip.proofs.OpenedPages.{AreOnes}
 use Rattle.wt_part_laws.specs.CallPieces.{AreItemsOf, IsOfCall, AreOfCall, CallPiece, own, given, group_of_call, piece_in_page, pieces_in_page}
-use Rattle.wt_part_laws.specs.Placeless.{placeless_label, placeless, all_placeless}
-use Rattle.wt_part_laws.specs.Rounded.{IsOwn}
+use Rattle.wt_part_laws.specs.Placeless.{placeless, all_placeless}
 use Rattle.wt_part_laws.specs.Standing.{standing}
 use Rattle.wt_part_laws.proofs.CallPieces.{piece_trees, trees_of, IsPiece, piece_call, IsApart, ArePieces, all_items}
 use Rattle.wt_part_laws.proofs.CallTexts.{last_within, call_text}

@@ -1,5 +1,5 @@
 -- Whatever texts are typed beside the nodes of a paragraph of the page, calls among them: it is a new content in its place.
-use Rattle.std.proofs.Common.{◌≡◌, ◌⊎◌, inl, inr, ℕ, ◌+◌, true, false, List, [], ◌∷◌, length, map, refl, sym, ap, ◌∙◌, subst}
+use Rattle.std.proofs.Common.{◌≡◌, inl, inr, ℕ, ◌+◌, false, List, [], ◌∷◌, length, map, refl, sym, ap, ◌∙◌, subst}
 use Rattle.wt_guards.specs.Content.{ContentSign, Thing, letter, thing, is_group}
 use Rattle.wt_guards.specs.Guards.{Setting, spelled}
 use Rattle.wt_expand.specs.PageCalls.{expanded_page}
