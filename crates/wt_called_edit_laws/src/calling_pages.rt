@@ -39,7 +39,7 @@ pub fn blocks_that_call_stay_where_nothing_is_written()
 /// Where each block calls nothing, or holds text and nodes of the page beside calls that give what may be groups, and no node of it ends in an open tag
 /// (`IsWholeIn`), each can be read by itself where it is in the page's tree: no tag is open in it, and no group in it has a fault (`AreWhole`).
 #[tactic(auto, using(crate::proofs::Whole::Blocks::blocks_whole))]
-pub fn blocks_whose_calls_give_words_are_whole()
+pub fn blocks_with_calls_are_whole()
     ensures { (pages : Pages) (ss : List BlockSpot) (behind : List ℕ) → AreCallingOutside pages ss behind
         → first_refusal pages (spots_source ss behind) (page_work pages (spots_source ss behind)) ≡ None → EachWhole pages ss
         → AreWhole (expanded_page pages (spots_source ss behind)) (block_with_groups pages ss behind) 0 ss }
