@@ -25,7 +25,8 @@ use Rattle.wt_quotes.specs.Styles.{style_tree_of}
 use Rattle.wt_context.specs.Segments.{loose_segments}
 use Rattle.wt_context.specs.Chunks.{chunks}
 use Rattle.wt_context.specs.Styled.{with_styles}
-use Rattle.wt_context.specs.Nodes.{segments}
+use Rattle.wt_context.specs.Heads.{link_head}
+use Rattle.wt_context.specs.Nodes.{nested_tree, segments}
 use Rattle.wt_context.specs.Line.{context_parts}
 use Rattle.wt_annotated.specs.Labels.{label_at}
 use Rattle.wt_isolation.specs.GroupItems.{empty_nowiki}
@@ -53,7 +54,7 @@ a_link = record {
 
 -- by itself
 pub one_link : (g : Transclusion) (j : ℕ) → IsGroup g j (of_call j (codes "[[b]]"))
-unfolding context_parts chunks segments loose_segments tiles shapes closed form_at link_or_url link_at ext_link_at bare_url_at scheme_len tag_tile tag_at
+unfolding nested_tree link_head context_parts chunks segments loose_segments tiles shapes closed form_at link_or_url link_at ext_link_at bare_url_at scheme_len tag_tile tag_at
     switch_at children with_styles style_tree_of toggles_of toggle_at opening_tag closing_tag empty_nowiki label_at
     link_in target_of read_text is_allowed is_forbidden is_good has_signature is_step begins_with_step holds_step ends_with_step
     name_of image is_called namespace_named prefix_of full_name_of whole_in cut_namespace title_in utf8_valid_len is_utf8 chars encode link_to

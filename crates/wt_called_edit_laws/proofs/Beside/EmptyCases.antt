@@ -76,7 +76,7 @@ use Rattle.wt_called_edit_laws.specs.InCells.{AreTextLines}
 use Rattle.wt_called_edit_laws.specs.ItemSpots.{ArePlaced}
 use Rattle.wt_called_edit_laws.specs.Parts.{calls_to, calls_past, AreCalled}
 use Rattle.wt_called_edit_laws.specs.PiecedParagraphs.{HasOwn, IsInPieces}
-use Rattle.wt_called_edit_laws.specs.WholeContents.{AreGroups, AreShutParts}
+use Rattle.wt_called_edit_laws.specs.WholeContents.{of_call, AreGroups, AreShutParts}
 use Rattle.wt_called_edit_laws.specs.InPieces.{AreInPieces}
 use Rattle.wt_called_edit_laws.specs.PageThings.{ArePageThings}
 use Rattle.wt_called_edit_laws.specs.Written.{IsOwnPart}

@@ -29,7 +29,8 @@ use Rattle.wt_quotes.specs.Styles.{style_tree_of}
 use Rattle.wt_context.specs.Segments.{loose_segments}
 use Rattle.wt_context.specs.Chunks.{chunks}
 use Rattle.wt_context.specs.Styled.{with_styles}
-use Rattle.wt_context.specs.Nodes.{segments}
+use Rattle.wt_context.specs.Heads.{link_head}
+use Rattle.wt_context.specs.Nodes.{nested_tree, segments}
 use Rattle.wt_context.specs.Line.{context_parts, line_parts, line_trees}
 use Rattle.wt_page.specs.Rows.{rows}
 use Rattle.wt_page.specs.Texts.{para}
@@ -174,14 +175,14 @@ some_first (t ∷ ts) n = (t, ts, refl)
 some_link : (i : ℕ) → children (line_parts (link i)) ≡ [] → ⊥
 unfolding context_parts chunks segments loose_segments tiles shapes closes tile_at link_or_url link_at ext_link_at bare_url_at scheme_len
     tag_tile tag_at switch_at with_styles style_tree_of toggles_of toggle_at opens_tag closes_tag children
-    link_in target_of read_text is_allowed is_forbidden is_good has_signature is_step begins_with_step holds_step ends_with_step
+    nested_tree link_head link_in target_of read_text is_allowed is_forbidden is_good has_signature is_step begins_with_step holds_step ends_with_step
     name_of image is_called namespace_named prefix_of full_name_of whole_in cut_namespace title_in utf8_valid_len is_utf8 chars encode link_to
 some_link i e = cc
 
 shows_same : (i j : ℕ) (rest : Plains) → parts_shown_at 0 [] (line_parts (link i)) rest ≡ parts_shown_at 0 [] (line_parts (link j)) rest
 unfolding label_at context_parts chunks segments loose_segments tiles shapes closes tile_at link_or_url link_at ext_link_at bare_url_at scheme_len
     tag_tile tag_at switch_at with_styles style_tree_of toggles_of toggle_at opens_tag closes_tag children
-    link_in target_of read_text is_allowed is_forbidden is_good has_signature is_step begins_with_step holds_step ends_with_step
+    nested_tree link_head link_in target_of read_text is_allowed is_forbidden is_good has_signature is_step begins_with_step holds_step ends_with_step
     name_of image is_called namespace_named prefix_of full_name_of whole_in cut_namespace title_in utf8_valid_len is_utf8 chars encode link_to
 shows_same i j rest = refl
 
@@ -233,7 +234,7 @@ parts i = line_parts (link i) ++ loose Text None 32 ∷ loose Text None 105 ∷ 
 parts_are : (i : ℕ) → content_parts_of a_paragraph (given i) ≡ parts i
 unfolding context_parts chunks segments loose_segments tiles shapes closes tile_at link_or_url link_at ext_link_at bare_url_at scheme_len
     tag_tile tag_at switch_at with_styles style_tree_of toggles_of toggle_at opens_tag closes_tag children
-    link_in target_of read_text is_allowed is_forbidden is_good has_signature is_step begins_with_step holds_step ends_with_step
+    nested_tree link_head link_in target_of read_text is_allowed is_forbidden is_good has_signature is_step begins_with_step holds_step ends_with_step
     name_of image is_called namespace_named prefix_of full_name_of whole_in cut_namespace title_in utf8_valid_len is_utf8 chars encode link_to
 parts_are i = refl
 
@@ -243,7 +244,7 @@ parts_there i = ap (content_parts_of a_paragraph) (items_are i) ∙ parts_are i
 pieces_are : (i : ℕ) → call_pieces (children (parts i)) ≡ nodes i
 unfolding context_parts chunks segments loose_segments tiles shapes closes tile_at link_or_url link_at ext_link_at bare_url_at scheme_len
     tag_tile tag_at switch_at with_styles style_tree_of toggles_of toggle_at opens_tag closes_tag children
-    link_in target_of read_text is_allowed is_forbidden is_good has_signature is_step begins_with_step holds_step ends_with_step
+    nested_tree link_head link_in target_of read_text is_allowed is_forbidden is_good has_signature is_step begins_with_step holds_step ends_with_step
     name_of image is_called namespace_named prefix_of full_name_of whole_in cut_namespace title_in utf8_valid_len is_utf8 chars encode link_to
 pieces_are i = refl
 
@@ -260,7 +261,7 @@ shut_here i =
 some_here : (i : ℕ) → HasOwn (parts i)
 unfolding context_parts chunks segments loose_segments tiles shapes closes tile_at link_or_url link_at ext_link_at bare_url_at scheme_len
     tag_tile tag_at switch_at with_styles style_tree_of toggles_of toggle_at opens_tag closes_tag children
-    link_in target_of read_text is_allowed is_forbidden is_good has_signature is_step begins_with_step holds_step ends_with_step
+    nested_tree link_head link_in target_of read_text is_allowed is_forbidden is_good has_signature is_step begins_with_step holds_step ends_with_step
     name_of image is_called namespace_named prefix_of full_name_of whole_in cut_namespace title_in utf8_valid_len is_utf8 chars encode link_to
 some_here i = inr tt
 
@@ -272,7 +273,7 @@ given_here i =
 groups_here : (i : ℕ) → AreGroups (given i) (nodes i)
 unfolding context_parts chunks segments loose_segments tiles shapes closes tile_at link_or_url link_at ext_link_at bare_url_at scheme_len
     tag_tile tag_at switch_at with_styles style_tree_of toggles_of toggle_at opens_tag closes_tag children
-    link_in target_of read_text is_allowed is_forbidden is_good has_signature is_step begins_with_step holds_step ends_with_step
+    nested_tree link_head link_in target_of read_text is_allowed is_forbidden is_good has_signature is_step begins_with_step holds_step ends_with_step
     name_of image is_called namespace_named prefix_of full_name_of whole_in cut_namespace title_in utf8_valid_len is_utf8 chars encode link_to
 groups_here i =
     (subst (GivesSigns i) (sym (given_here i)) (gives_here i), ap (λ (xs : List Item). children (line_parts xs)) (sym (given_here i)), tt)
@@ -380,7 +381,7 @@ unfolding words closed form_at comment_len comment_line_len raw_len opening_tag 
     utf8_valid_len is_utf8 chars encode link_to page_stretches expanded_page kind_of_signs
     annotated group_data call_part param_by trimmed_data label_at meaning rows blocks children para line_trees
     context_parts chunks segments loose_segments tiles shapes closes tile_at link_or_url link_at ext_link_at bare_url_at scheme_len
-    tag_tile tag_at switch_at with_styles style_tree_of toggles_of toggle_at opens_tag closes_tag link_in target_of
+    tag_tile tag_at switch_at with_styles style_tree_of toggles_of toggle_at opens_tag closes_tag nested_tree link_head link_in target_of
 no_group_here = ((inr none_behind, (tt, tt)), tt)
 
 -- its text is in no group
@@ -419,7 +420,7 @@ sources_are = (refl, tt)
 -- no call is beside another one
 meets : AllMeetLater a_linker (page_things (block_by (given 0)))
 unfolding kept_with label_at context_parts chunks segments loose_segments tiles shapes closes tile_at link_or_url link_at ext_link_at bare_url_at scheme_len
-    tag_tile tag_at switch_at children with_styles style_tree_of toggles_of toggle_at opens_tag closes_tag link_in target_of read_text is_allowed is_forbidden is_good has_signature is_step begins_with_step holds_step ends_with_step
+    tag_tile tag_at switch_at children with_styles style_tree_of toggles_of toggle_at opens_tag closes_tag nested_tree link_head link_in target_of read_text is_allowed is_forbidden is_good has_signature is_step begins_with_step holds_step ends_with_step
     name_of image is_called namespace_named prefix_of full_name_of whole_in cut_namespace title_in utf8_valid_len is_utf8 chars encode link_to
 meets = (tt, tt)
 
@@ -442,7 +443,7 @@ are_letters = (codes " was", (refl, refl))
 
 edit_of : IsCalledEditOf a_linker a_paragraph block edit
 unfolding label_at context_parts chunks segments loose_segments tiles shapes closes tile_at link_or_url link_at ext_link_at bare_url_at scheme_len tag_tile tag_at
-    switch_at children with_styles style_tree_of toggles_of toggle_at opens_tag closes_tag link_in target_of read_text is_allowed is_forbidden is_good has_signature is_step begins_with_step holds_step ends_with_step
+    switch_at children with_styles style_tree_of toggles_of toggle_at opens_tag closes_tag nested_tree link_head link_in target_of read_text is_allowed is_forbidden is_good has_signature is_step begins_with_step holds_step ends_with_step
     name_of image is_called namespace_named prefix_of full_name_of whole_in cut_namespace title_in utf8_valid_len is_utf8 chars encode link_to
 edit_of = record {
   old = refl;
@@ -461,6 +462,6 @@ makes =
 pub written_is : new_content a_paragraph block a_label edit ≡ codes "{{t}} was"
 unfolding inline_spelling kept_with label_at context_parts chunks segments loose_segments tiles shapes closes tile_at link_or_url link_at ext_link_at bare_url_at scheme_len tag_tile tag_at
     switch_at children with_styles style_tree_of toggles_of toggle_at opens_tag closes_tag nowiki is_guarded is_between_guard is_start_guard is_end_guard is_blank_guard hazard line_start_hazard
-    is_escaped link_in target_of read_text is_allowed is_forbidden is_good has_signature is_step begins_with_step holds_step ends_with_step
+    is_escaped nested_tree link_head link_in target_of read_text is_allowed is_forbidden is_good has_signature is_step begins_with_step holds_step ends_with_step
     name_of image is_called namespace_named prefix_of full_name_of whole_in cut_namespace title_in utf8_valid_len is_utf8 chars encode link_to
 written_is = refl
