@@ -67,3 +67,4 @@ pub mod Marks
 pub mod Styled
 pub mod StyledGroups
 pub mod Derived
+pub mod Own

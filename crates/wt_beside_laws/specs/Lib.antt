@@ -22,6 +22,7 @@ pub mod Calm
 pub mod FlatPages
 pub mod FlatBlocks
 pub mod HeldLines
+pub mod EndedNodes
 pub mod ContentEdits
 pub mod Nests
 pub mod Styled
@@ -35,3 +36,4 @@ pub mod StyledIn
 pub mod Called
 pub mod Given
 pub mod StyledCalls
+pub mod OwnLed

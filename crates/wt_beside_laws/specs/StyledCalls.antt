@@ -1,21 +1,19 @@
 -- A content with styles among whose signs are calls: what it is in the page, where the items of each sign that is no character are given.
-use Rattle.std.specs.Prelude.{◌≡◌, ◌⊎◌, ◌==◌, Bool, true, false, not, None, List, [], ◌∷◌, ◌++◌, encode_utf8, if◌then◌else◌, ◌&&◌, ◌||◌}
+use Rattle.std.specs.Prelude.{◌≡◌, ◌⊎◌, ◌==◌, Bool, true, false, not, List, [], ◌∷◌, ◌++◌, encode_utf8, if◌then◌else◌, ◌&&◌, ◌||◌}
 use Rattle.wt_span.specs.Characters as byte
 use Rattle.wt_span.specs.Items.{Item}
 use Rattle.wt_tree.specs.Plain.{Plains, ended, text_before}
 use Rattle.wt_guards.specs.Content.{ContentSign, Thing, is_group, letter, thing}
 use Rattle.wt_guards.specs.Guards.{Setting, is_guarded}
 use Rattle.wt_guards.specs.Letters.{is_escaped}
-use Rattle.wt_inline.specs.Parts.{Part, loose, node, parts}
-use Rattle.wt_inline.specs.declared.loose.Loose.TheVariants.{Sep, Text}
+use Rattle.wt_inline.specs.Parts.{Part, node, parts}
+use Rattle.wt_inline.specs.declared.loose.Loose.TheVariants.{Text}
 use Rattle.wt_context.specs.Line.{line_parts}
-use Rattle.wt_part_laws.specs.CallTexts.{AreOwnOrTexts}
-use Rattle.wt_part_laws.specs.Rounded.{IsOwn}
-use Rattle.wt_beside_laws.specs.Called.{AreGiven}
+use Rattle.wt_part_laws.specs.CallPieces.{AreOwnOrGiven}
+use Rattle.wt_beside_laws.specs.Called.{AllMeetWith, AreGiven, ArePageParts}
 use Rattle.wt_beside_laws.specs.Content.{guard_items, letter_items}
 use Rattle.wt_beside_laws.specs.Lines.{AreCharacters}
 use Rattle.wt_beside_laws.specs.Nests.{style_tree}
-use Rattle.wt_beside_laws.specs.Nodes.{AllMeet}
 use Rattle.wt_beside_laws.specs.Shown.{parts_shown_at}
 use Rattle.wt_beside_laws.specs.Styled.{AreNested, StyledContent, delimiter, finished, sign, signs_before, signs_in, signs_past, styled}
 use Rattle.wt_beside_laws.specs.StyledShown.{style_shown}
@@ -53,22 +51,15 @@ styled_with line s before (styled bold opening closing inside t) after owns =
 
 -- ---- the nodes
 
--- characters and nodes of the page, of which none is empty
-abbrev pub AreOfPage : List Part → Type 0
-AreOfPage [] = Unit {0}
-AreOfPage (loose Text o b ∷ ps) = (o ≡ None) × AreOfPage ps
-AreOfPage (loose Sep o b ∷ ps) = ⊥
-AreOfPage (node t ∷ ps) = IsOwn t × AreOfPage ps
-
 -- there are some
 abbrev pub AreSomeOfPage : List Part → Type 0
 AreSomeOfPage [] = ⊥
-AreSomeOfPage (p ∷ ps) = AreOfPage (p ∷ ps)
+AreSomeOfPage (p ∷ ps) = ArePageParts (p ∷ ps)
 
--- on a line by itself: characters of a call, or something of the page; in a style it is of the page
+-- on a line by itself: what a call gives, or something of the page; in a style it is of the page
 abbrev pub IsOwnAt : Bool → Thing → List Item → Type 0
 IsOwnAt true x own = AreSomeOfPage (line_parts own)
-IsOwnAt false x own = ((is_group x.role ≡ true) × AreOwnOrTexts (line_parts own)) ⊎ AreSomeOfPage (line_parts own)
+IsOwnAt false x own = ((is_group x.role ≡ true) × AreOwnOrGiven (line_parts own)) ⊎ AreSomeOfPage (line_parts own)
 
 -- of all nodes, delimiters apart; these are in a style, or else some may be
 abbrev pub AreOwnAt : Bool → StyledContent → List (List Item) → Type 0
@@ -89,7 +80,7 @@ has_uncalled (styled bold opening closing inside t) = true
 
 -- ---- the content
 
--- Texts that are typed beside calls that give words and nodes that stay, and bold and italic round texts and nodes, with no call in it; something else than
+-- Texts that are typed beside calls and nodes that stay, and bold and italic round texts and nodes, with no call in it; something else than
 -- calls is there.
 pub record IsStyledCalled (s : Setting) (t : StyledContent) (owns : List (List Item)) : Type 0 where
   pub of_block : s.within ≡ false
@@ -97,7 +88,7 @@ pub record IsStyledCalled (s : Setting) (t : StyledContent) (owns : List (List I
   pub given : AreGiven (signs_in t) owns
   pub own : AreOwnAt false t owns
   pub nested : AreNested false false t
-  pub meet : AllMeet s [] (signs_in t) []
+  pub meet : AllMeetWith s [] [] (signs_in t) owns
   pub some : has_uncalled t ≡ true
 
 -- ---- what it shows

@@ -13,38 +13,32 @@ use Rattle.wt_inline.specs.Parts.{Part, children, held_parts, loose, node, parts
 use Rattle.wt_inline.specs.declared.loose.Loose.TheVariants.{Sep, Text}
 use Rattle.wt_context.specs.Line.{line_parts}
 use Rattle.wt_annotated.specs.Clean.{is_no_call, is_page}
-use Rattle.wt_part_laws.proofs.HeldBlocks.{block_is, texts_hold}
+use Rattle.wt_part_laws.proofs.HeldBlocks.{given_block_is, given_hold}
 use Rattle.wt_part_laws.proofs.OwnWalks.{has_page}
-use Rattle.wt_part_laws.specs.CallTexts.{AreOwnOrTexts}
-use Rattle.wt_part_laws.specs.HeldCalls.{HoldsItsCalls, IsRoundTexts, block_in, block_of_texts}
+use Rattle.wt_part_laws.specs.CallPieces.{AreOwnOrGiven}
+use Rattle.wt_part_laws.specs.HeldCalls.{HoldsItsCalls, IsRoundGiven, block_in, block_of_pieces}
 use Rattle.wt_part_laws.specs.Rounded.{IsOwn}
 use Rattle.wt_text_edit_laws.proofs.Texts.TypedShown.{both_of_page}
 use Rattle.wt_text_edit_laws.specs.ParagraphParts.{joined_parts, para_with}
-use Rattle.wt_beside_laws.proofs.Groups.CalledBlocks.{any_left, guard_own, held_left, held_right, letter_own, para_items, some_letter, texts_both}
+use Rattle.wt_beside_laws.proofs.Groups.CalledBlocks.{any_left, given_both, guard_own, held_left, held_right, letter_own, page_given, para_items, some_letter}
 use Rattle.wt_beside_laws.proofs.Made.Items.{PartsHave, children_have, guard_has, have_both, letter_has}
 use Rattle.wt_beside_laws.proofs.StyledGroups.Paragraphs.{styled_called_parts}
-use Rattle.wt_beside_laws.specs.Called.{items_with}
+use Rattle.wt_beside_laws.specs.Called.{ArePageParts, items_with}
 use Rattle.wt_beside_laws.specs.Content.{guard_items, letter_items}
 use Rattle.wt_beside_laws.specs.Nests.{marks, style_tree}
 use Rattle.wt_beside_laws.specs.Styled.{StyledContent, delimiter, finished, sign, signs_before, signs_in, signs_past, styled}
-use Rattle.wt_beside_laws.specs.StyledCalls.{AreOfPage, AreOwnAt, AreSomeOfPage, IsOwnAt, IsStyledCalled, has_uncalled, owns_left, owns_past, styled_with}
+use Rattle.wt_beside_laws.specs.StyledCalls.{AreOwnAt, AreSomeOfPage, IsOwnAt, IsStyledCalled, has_uncalled, owns_left, owns_past, styled_with}
 
 
 -- ---- what is of the page
 
-page_have : (ps : List Part) → AreOfPage ps → PartsHave ps
+page_have : (ps : List Part) → ArePageParts ps → PartsHave ps
 page_have [] h = tt
 page_have (loose Text o b ∷ ps) h = (h.0, page_have ps h.1)
 page_have (loose Sep o b ∷ ps) h = absurd h
 page_have (node t ∷ ps) h = let own = h.0 in ((own.has_items, own.of_page), page_have ps h.1)
 
-page_texts : (ps : List Part) → AreOfPage ps → AreOwnOrTexts ps
-page_texts [] h = tt
-page_texts (loose Text o b ∷ ps) h = page_texts ps h.1
-page_texts (loose Sep o b ∷ ps) h = absurd h
-page_texts (node t ∷ ps) h = (h.0, page_texts ps h.1)
-
-some_of_page : (ps : List Part) → AreSomeOfPage ps → AreOfPage ps
+some_of_page : (ps : List Part) → AreSomeOfPage ps → ArePageParts ps
 some_of_page [] h = absurd h
 some_of_page (p ∷ ps) h = h
 
@@ -101,27 +95,27 @@ within_have s before (styled kind opening closing inside t) after owns h =
 
 -- ---- its parts
 
-own_texts : (x : Thing) (own : List Item) → IsOwnAt false x own → AreOwnOrTexts (line_parts own)
+own_texts : (x : Thing) (own : List Item) → IsOwnAt false x own → AreOwnOrGiven (line_parts own)
 own_texts x own h = elim h [
   | inl g ↦ g.1
-  | inr p ↦ page_texts (line_parts own) (some_of_page (line_parts own) p)
+  | inr p ↦ page_given (line_parts own) (some_of_page (line_parts own) p)
 ]
 
 pub styled_own : (s : Setting) (before : List ContentSign) (t : StyledContent) (after : List ContentSign) (owns : List (List Item)) → AreOwnAt false t owns
-    → AreOwnOrTexts (styled_with false s before t after owns)
+    → AreOwnOrGiven (styled_with false s before t after owns)
 styled_own s before finished after owns h = guard_own (is_guarded s before after)
 styled_own s before (sign (letter c) t) after owns h =
     let signs : List ContentSign = signs_before t after in
     let e : Bool = is_escaped s.within s.place before c signs in
     let more : List Part = styled_with false s (letter c ∷ before) t after owns in
-    texts_both (parts Text (guard_items (is_guarded s before (letter c ∷ signs)))) (parts Text (letter_items e c) ++ more) (guard_own (is_guarded s before (letter c ∷ signs)))
-    (texts_both (parts Text (letter_items e c)) more (letter_own e c) (styled_own s (letter c ∷ before) t after owns h))
+    given_both (parts Text (guard_items (is_guarded s before (letter c ∷ signs)))) (parts Text (letter_items e c) ++ more) (guard_own (is_guarded s before (letter c ∷ signs)))
+    (given_both (parts Text (letter_items e c)) more (letter_own e c) (styled_own s (letter c ∷ before) t after owns h))
 styled_own s before (sign (thing x) t) after [] h = absurd h
 styled_own s before (sign (thing x) t) after (own ∷ owns) h =
     let signs : List ContentSign = signs_before t after in
     let more : List Part = styled_with false s (thing x ∷ before) t after owns in
-    texts_both (parts Text (guard_items (is_guarded s before (thing x ∷ signs)))) (line_parts own ++ more) (guard_own (is_guarded s before (thing x ∷ signs)))
-    (texts_both (line_parts own) more (own_texts x own h.0) (styled_own s (thing x ∷ before) t after owns h.1))
+    given_both (parts Text (guard_items (is_guarded s before (thing x ∷ signs)))) (line_parts own ++ more) (guard_own (is_guarded s before (thing x ∷ signs)))
+    (given_both (line_parts own) more (own_texts x own h.0) (styled_own s (thing x ∷ before) t after owns h.1))
 styled_own s before (styled kind opening closing inside t) after owns h =
     let first : List ContentSign = delimiter kind opening ∷ before in
     let last : List ContentSign = delimiter kind closing ∷ signs_past inside first in
@@ -130,9 +124,9 @@ styled_own s before (styled kind opening closing inside t) after owns h =
     let inner : List (List Item) = owns_left owns in
     let outer : List (List Item) = owns_left (owns_past inside inner) in
     let ps : List Part = styled_with false s first inside closes inner in
-    texts_both (parts Text (guard_items (is_guarded s before (delimiter kind opening ∷ held)))) (node (style_tree kind ps) ∷ styled_with false s last t after outer)
+    given_both (parts Text (guard_items (is_guarded s before (delimiter kind opening ∷ held)))) (node (style_tree kind ps) ∷ styled_with false s last t after outer)
     (guard_own (is_guarded s before (delimiter kind opening ∷ held)))
-    (style_own kind ps (within_have s first inside closes inner h.0), styled_own s last t after outer h.1)
+    (inl (style_own kind ps (within_have s first inside closes inner h.0)), styled_own s last t after outer h.1)
 
 -- ---- something of it is the page's own
 
@@ -187,7 +181,7 @@ styled_some s before (styled kind opening closing inside t) owns h b =
 -- ---- the paragraph
 
 styled_round : (s : Setting) (t : StyledContent) (owns : List (List Item)) → IsStyledCalled s t owns
-    → IsRoundTexts (plain kind.Para) [] (styled_with false s [] t [] owns) []
+    → IsRoundGiven (plain kind.Para) [] (styled_with false s [] t [] owns) []
 styled_round s t owns h =
     let ps : List Part = styled_with false s [] t [] owns in
     record {
@@ -202,11 +196,11 @@ pub styled_called_holds : (s : Setting) (t : StyledContent) (owns : List (List I
     → HoldsItsCalls (para_with (joined_parts (lines (items_with s [] (signs_in t) owns))))
 styled_called_holds s t owns h =
     subst (λ (ps : List Part). HoldsItsCalls (para_with ps)) (sym (styled_called_parts s t owns h))
-    (texts_hold (plain kind.Para) [] (styled_with false s [] t [] owns) [] (styled_round s t owns h))
+    (given_hold (plain kind.Para) [] (styled_with false s [] t [] owns) [] (styled_round s t owns h))
 
 pub styled_called_block : (calls : List OuterCall) (s : Setting) (t : StyledContent) (owns : List (List Item)) → IsStyledCalled s t owns
     → block_in calls (para_with (joined_parts (lines (items_with s [] (signs_in t) owns))))
-    ≡ block_of_texts calls (plain kind.Para) [] (styled_with false s [] t [] owns) []
+    ≡ block_of_pieces calls (plain kind.Para) [] (styled_with false s [] t [] owns) []
 styled_called_block calls s t owns h =
     ap (λ (ps : List Part). block_in calls (para_with ps)) (styled_called_parts s t owns h)
-    ∙ block_is calls (plain kind.Para) [] (styled_with false s [] t [] owns) [] (styled_round s t owns h)
+    ∙ given_block_is calls (plain kind.Para) [] (styled_with false s [] t [] owns) [] (styled_round s t owns h)

@@ -16,13 +16,11 @@ use Rattle.wt_beside_laws.proofs.FlatLines.{lines_unled}
 use Rattle.wt_beside_laws.proofs.Groups.CalledLines.{are_lines_of_text, lines_are_text, lines_from}
 use Rattle.wt_beside_laws.proofs.LineRows.{both_by, break_parts, later_by}
 use Rattle.wt_beside_laws.proofs.Styled.StyledLines.{within_style}
-use Rattle.wt_beside_laws.proofs.Styled.StyledParagraphs.{meet_behind}
 use Rattle.wt_beside_laws.proofs.StyledGroups.Lines.{called_line, given_behind, past_mark}
-use Rattle.wt_beside_laws.specs.Called.{AreGiven, items_with, later_with, line_with, lines_with}
+use Rattle.wt_beside_laws.specs.Called.{AllMeetWith, AreGiven, items_with, later_with, line_with, lines_with}
 use Rattle.wt_beside_laws.specs.Content.{guard_items, letter_items}
 use Rattle.wt_beside_laws.specs.Lines.{AreCharacters, AreLinesOfText, IsLineOfText}
 use Rattle.wt_beside_laws.specs.Nests.{style_tree}
-use Rattle.wt_beside_laws.specs.Nodes.{AllMeet}
 use Rattle.wt_beside_laws.specs.Styled.{AreNested, StyledContent, delimiter, finished, sign, signs_before, signs_in, signs_past, styled}
 use Rattle.wt_beside_laws.specs.StyledCalls.{IsStyledCalled, owns_left, owns_past, styled_with}
 
@@ -69,16 +67,48 @@ none_later s bold italic (styled kind opening closing inside t) before after own
     ∙ mark_later s (signs_past inside first) kind closing signs behind given_end
     ∙ none_later s bold italic t (delimiter kind closing ∷ signs_past inside first) after (owns_left behind) (past_mark kind closing signs behind given_end) k.2 w
 
-later_are : (s : Setting) (before : List ContentSign) (t : StyledContent) (owns : List (List Item)) → AreGiven (signs_before t []) owns → AreNested false false t
-    → AllMeet s before (signs_before t []) [] → after_breaks (later_with s before (signs_before t []) owns) ≡ later_parts s before t owns
-later_are s before finished owns h k m = refl
-later_are s before (sign (letter c) t) owns h k m =
+-- what is behind a content meets, too, where its last node gives something
+record MeetsBehind (s : Setting) (before after : List ContentSign) (owns : List (List Item)) : Type 0 where
+  last : List Item
+  meet : AllMeetWith s before last after owns
+
+mark_meet : (s : Setting) (before : List ContentSign) (last : List Item) (kind : Bool) (place : Option Stretch) (signs : List ContentSign) (owns : List (List Item))
+    → AreGiven (delimiter kind place ∷ signs) owns → AllMeetWith s before last (delimiter kind place ∷ signs) owns
+    → MeetsBehind s (delimiter kind place ∷ before) signs (owns_left owns)
+mark_meet s before last kind place signs [] h m = absurd h
+mark_meet s before last kind place signs (own ∷ owns) h m = record { last = own; meet = m.1 }
+
+meet_behind : (s : Setting) (before : List ContentSign) (last : List Item) (t : StyledContent) (after : List ContentSign) (owns : List (List Item))
+    → AreGiven (signs_before t after) owns → AllMeetWith s before last (signs_before t after) owns → MeetsBehind s (signs_past t before) after (owns_past t owns)
+meet_behind s before last finished after owns h m = record { last = last; meet = m }
+meet_behind s before last (sign (letter c) t) after owns h m = meet_behind s (letter c ∷ before) [] t after owns h m
+meet_behind s before last (sign (thing x) t) after [] h m = absurd h
+meet_behind s before last (sign (thing x) t) after (own ∷ owns) h m = meet_behind s (thing x ∷ before) own t after owns h.1 m.1
+meet_behind s before last (styled kind opening closing inside t) after owns h m =
+    let first : List ContentSign = delimiter kind opening ∷ before in
+    let signs : List ContentSign = signs_before t after in
+    let closes : List ContentSign = delimiter kind closing ∷ signs in
+    let held : List ContentSign = signs_before inside closes in
+    let inner : List (List Item) = owns_left owns in
+    let behind : List (List Item) = owns_past inside inner in
+    let given_in : AreGiven held inner = past_mark kind opening held owns h in
+    let given_end : AreGiven closes behind = given_behind inside closes inner given_in in
+    let a : MeetsBehind s first held inner = mark_meet s before last kind opening held owns h m in
+    let b : MeetsBehind s (signs_past inside first) closes behind = meet_behind s first a.last inside closes inner given_in a.meet in
+    let c : MeetsBehind s (delimiter kind closing ∷ signs_past inside first) signs (owns_left behind) =
+    mark_meet s (signs_past inside first) b.last kind closing signs behind given_end b.meet in
+    meet_behind s (delimiter kind closing ∷ signs_past inside first) c.last t after (owns_left behind) (past_mark kind closing signs behind given_end) c.meet
+
+later_are : (s : Setting) (before : List ContentSign) (last : List Item) (t : StyledContent) (owns : List (List Item)) → AreGiven (signs_before t []) owns
+    → AreNested false false t → AllMeetWith s before last (signs_before t []) owns → after_breaks (later_with s before (signs_before t []) owns) ≡ later_parts s before t owns
+later_are s before last finished owns h k m = refl
+later_are s before last (sign (letter c) t) owns h k m =
     let signs : List ContentSign = signs_before t [] in
     later_by (c == 10) (line_with s (letter c ∷ before) signs owns) (later_with s (letter c ∷ before) signs owns) (styled_with true s (letter c ∷ before) t [] owns)
-    (later_parts s (letter c ∷ before) t owns) (called_line s (letter c ∷ before) t owns h k.1 m.1) (later_are s (letter c ∷ before) t owns h k.1 m.1)
-later_are s before (sign (thing x) t) [] h k m = absurd h
-later_are s before (sign (thing x) t) (own ∷ owns) h k m = later_are s (thing x ∷ before) t owns h.1 k.1 m.1
-later_are s before (styled kind opening closing inside t) owns h k m =
+    (later_parts s (letter c ∷ before) t owns) (called_line s (letter c ∷ before) [] t owns h k.1 m) (later_are s (letter c ∷ before) [] t owns h k.1 m)
+later_are s before last (sign (thing x) t) [] h k m = absurd h
+later_are s before last (sign (thing x) t) (own ∷ owns) h k m = later_are s (thing x ∷ before) own t owns h.1 k.1 m.1
+later_are s before last (styled kind opening closing inside t) owns h k m =
     let first : List ContentSign = delimiter kind opening ∷ before in
     let signs : List ContentSign = signs_before t [] in
     let closes : List ContentSign = delimiter kind closing ∷ signs in
@@ -87,12 +117,15 @@ later_are s before (styled kind opening closing inside t) owns h k m =
     let behind : List (List Item) = owns_past inside inner in
     let given_in : AreGiven held inner = past_mark kind opening held owns h in
     let given_end : AreGiven closes behind = given_behind inside closes inner given_in in
+    let a : MeetsBehind s first held inner = mark_meet s before last kind opening held owns h m in
+    let b : MeetsBehind s (signs_past inside first) closes behind = meet_behind s first a.last inside closes inner given_in a.meet in
+    let c : MeetsBehind s (delimiter kind closing ∷ signs_past inside first) signs (owns_left behind) =
+    mark_meet s (signs_past inside first) b.last kind closing signs behind given_end b.meet in
     ap after_breaks
     (mark_later s before kind opening held owns h
     ∙ none_later s (kind || false) (not kind || false) inside first closes inner given_in k.1 (within_style kind false false)
     ∙ mark_later s (signs_past inside first) kind closing signs behind given_end)
-    ∙ later_are s (delimiter kind closing ∷ signs_past inside first) t (owns_left behind) (past_mark kind closing signs behind given_end) k.2
-    (meet_behind s inside first closes m.1).1
+    ∙ later_are s (delimiter kind closing ∷ signs_past inside first) c.last t (owns_left behind) (past_mark kind closing signs behind given_end) k.2 c.meet
 
 -- ---- a line and the lines behind it
 
@@ -131,11 +164,12 @@ all_joined s before (styled kind opening closing inside t) owns h =
     append_assoc guard (own ∷ styled_with true s last t [] (owns_left behind)) (later_parts s last t (owns_left behind))
     ∙ ap (λ ps. guard ++ (own ∷ ps)) (all_joined s last t (owns_left behind) (past_mark kind closing signs behind given_end))
 
-pub lines_joined : (s : Setting) (t : StyledContent) (owns : List (List Item)) → AreGiven (signs_in t) owns → AreNested false false t → AllMeet s [] (signs_in t) []
+pub lines_joined : (s : Setting) (t : StyledContent) (owns : List (List Item)) → AreGiven (signs_in t) owns → AreNested false false t
+    → AllMeetWith s [] [] (signs_in t) owns
     → joined_parts (lines_with s (signs_in t) owns) ≡ styled_with false s [] t [] owns
 lines_joined s t owns h k m =
-    ap (λ ps. ps ++ after_breaks (later_with s [] (signs_in t) owns)) (called_line s [] t owns h k m)
-    ∙ ap (λ ps. styled_with true s [] t [] owns ++ ps) (later_are s [] t owns h k m) ∙ all_joined s [] t owns h
+    ap (λ ps. ps ++ after_breaks (later_with s [] (signs_in t) owns)) (called_line s [] [] t owns h k m)
+    ∙ ap (λ ps. styled_with true s [] t [] owns ++ ps) (later_are s [] [] t owns h k m) ∙ all_joined s [] t owns h
 
 -- ---- the content
 

@@ -1,4 +1,4 @@
--- What a content with styles beside calls shows: its texts as they were typed, each node and the words of each call as they are shown by themselves,
+-- What a content with styles beside calls shows: its texts as they were typed, each node and what each call gives as they are shown by themselves,
 -- and bold and italic round them.
 use Rattle.std.proofs.Common.{◌≡◌, Bool, false, not, List, [], ◌∷◌, ◌++◌, ap, append-nil, sym, ◌||◌, ◌∙◌}
 use Rattle.std.specs.Prelude.{encode_utf8}
@@ -18,8 +18,8 @@ use Rattle.wt_annotated.specs.CutTexts.{cut_texts}
 use Rattle.wt_selser.specs.GroupFaults.{paragraph_face}
 use Rattle.wt_part_laws.specs.HeldCalls.{block_in}
 use Rattle.wt_text_edit_laws.specs.ParagraphParts.{joined_parts, para_with}
-use Rattle.wt_beside_laws.proofs.Groups.CalledShown.{children_in_page, given_texts}
-use Rattle.wt_beside_laws.proofs.Groups.Words.{given_or}
+use Rattle.wt_beside_laws.proofs.Groups.CalledShown.{given_texts}
+use Rattle.wt_beside_laws.proofs.Groups.GivenNodes.{children_in_page}
 use Rattle.wt_beside_laws.proofs.LineShown.{children_show, guard_shows, guard_texts, letter_shows, one_by_one, shown_append}
 use Rattle.wt_beside_laws.proofs.Styled.StyledShown.{style_shows}
 use Rattle.wt_beside_laws.proofs.StyledGroups.Blocks.{styled_called_block, styled_own}
@@ -48,7 +48,7 @@ styled_texts s bold italic before (sign (thing x) t) after (own ∷ owns) h k =
     let signs : List ContentSign = signs_before t after in
     let more : List Part = styled_with false s (thing x ∷ before) t after owns in
     texts_both (parts Text (guard_items (is_guarded s before (thing x ∷ signs)))) (line_parts own ++ more) (guard_texts (is_guarded s before (thing x ∷ signs)))
-    (texts_both (line_parts own) more (given_texts x own k.0 (given_or x.role x own h.0)) (styled_texts s bold italic (thing x ∷ before) t after owns h.1 k.1))
+    (texts_both (line_parts own) more (given_texts x own h.0 k.0) (styled_texts s bold italic (thing x ∷ before) t after owns h.1 k.1))
 styled_texts s bold italic before (styled kind opening closing inside t) after owns h k =
     let first : List ContentSign = delimiter kind opening ∷ before in
     let last : List ContentSign = delimiter kind closing ∷ signs_past inside first in
@@ -84,7 +84,7 @@ styled_show s bold italic before (sign (thing x) t) after (own ∷ owns) rest h 
     guard_shows (is_guarded s before (thing x ∷ signs)) (line_parts own ++ more) rest
     ∙ shown_append (line_parts own) more rest
     ∙ ap (one_by_one (line_parts own)) (styled_show s bold italic (thing x ∷ before) t after owns rest h.1 k.1)
-    ∙ sym (children_show 0 [] (line_parts own) (styled_called_shown t owns rest) (given_texts x own k.0 (given_or x.role x own h.0)))
+    ∙ sym (children_show 0 [] (line_parts own) (styled_called_shown t owns rest) (given_texts x own h.0 k.0))
 styled_show s bold italic before (styled kind opening closing inside t) after owns rest h k =
     let first : List ContentSign = delimiter kind opening ∷ before in
     let last : List ContentSign = delimiter kind closing ∷ signs_past inside first in
@@ -112,4 +112,4 @@ styled_called_shows calls s t owns rest h =
     let ps : List Part = styled_with false s [] t [] owns in
     ap (λ (u : Tree). plain_before (cut_texts u) rest) (styled_called_block calls s t owns h)
     ∙ ap (λ (qs : Plains). along (element paragraph_face qs) rest)
-    (children_in_page calls ps ended (styled_own s [] t [] owns h.own) ∙ styled_show s false false [] t [] owns ended h.given h.nested)
+    (children_in_page calls ps ended (styled_own s [] t [] owns h.own) (styled_texts s false false [] t [] owns h.given h.nested) ∙ styled_show s false false [] t [] owns ended h.given h.nested)
