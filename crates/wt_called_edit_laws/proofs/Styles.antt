@@ -8,6 +8,7 @@ pub mod Free
 pub mod Shown
 pub mod Written
 pub mod Lined
+pub mod Groups
 pub mod Whole
 pub mod Making
 pub mod Cases

@@ -10,6 +10,8 @@ use Rattle.wt_tree.specs.Tree.{Label, Tree, Trees, more, none, tree}
 use Rattle.wt_tree.specs.declared.edit_shape.InlineForm.{InlineForm}
 use Rattle.wt_tree.specs.declared.edit_shape.InlineForm.TheVariants as inline
 use Rattle.wt_guards.specs.Content.{Thing, is_group}
+use Rattle.wt_guards.specs.declared.role.Role.{Role}
+use Rattle.wt_guards.specs.declared.role.Role.TheVariants.{Bare, External, Function, Group, Link, Mark, Node, Switch, Toggle}
 use Rattle.wt_context.specs.Line.{line_parts}
 use Rattle.wt_link_spelling.specs.Spelling.{children_of}
 use Rattle.wt_expand.specs.PageCalls.{expanded_page}
@@ -73,16 +75,30 @@ abbrev mutual
   AreNodesBeside pages none = Unit {0}
   AreNodesBeside pages (more t ts) = IsNodeBeside pages t × AreNodesBeside pages ts
 
--- A node that is no call is something of the page on a line by itself, and a bare URL doesn't end with an apostrophe: it would be a delimiter's.
+-- a call that doesn't end with a URL, or another node
+abbrev pub EndsUnslashed : Role → Type 0
+EndsUnslashed Link = Unit {0}
+EndsUnslashed External = Unit {0}
+EndsUnslashed (Bare ends) = Unit {0}
+EndsUnslashed Switch = Unit {0}
+EndsUnslashed Toggle = Unit {0}
+EndsUnslashed (Mark ends began) = Unit {0}
+EndsUnslashed (Group g) = g.slashes ≡ false
+EndsUnslashed Function = Unit {0}
+EndsUnslashed Node = Unit {0}
+
+-- A node that is no call is something of the page on a line by itself. Neither a call nor a bare URL ends with what a delimiter would go on: no call with
+-- a URL, and no bare URL with an apostrophe.
 pub record IsOwnThing (t : Thing) : Type 0 where
   pub some : is_group t.role ≡ false → AreSomeOfPage (line_parts (node_items t.source))
   pub unquoted : EndsUnquoted t.role (own_glyphs t)
+  pub unslashed : EndsUnslashed t.role
 
 abbrev pub AreOwnThings : List Thing → Type 0
 AreOwnThings [] = Unit {0}
 AreOwnThings (t ∷ ts) = IsOwnThing t × AreOwnThings ts
 
--- A paragraph of the page, whatever it is, in pieces: texts, calls that give words, other nodes on one line, and delimiters. Its nodes are these calls and
+-- A paragraph of the page, whatever it is, in pieces: texts, calls, other nodes on one line, and delimiters. Its nodes are these calls and
 -- nodes, with bold and italic round some that are no calls; its styles nest.
 pub record IsBesideStyles (pages : Pages) (q : List ℕ) (block : Tree) : Type 0 where
   pub pieces : List (List ℕ)

@@ -44,7 +44,7 @@ own_mark t kind e = ap (λ (bs : List ℕ). map glyph_of (node_items bs)) e ∙ 
 pub nowiki_items : node_items nowiki ≡ whole form.Nowiki None nowiki ∷ []
 nowiki_items = node_as nowiki (whole form.Nowiki None nowiki ∷ []) nowiki_reads
 
-own_nowiki : (t : Thing) → t.source ≡ nowiki → own_glyphs t ≡ glyph.Atom ∷ []
+pub own_nowiki : (t : Thing) → t.source ≡ nowiki → own_glyphs t ≡ glyph.Atom ∷ []
 own_nowiki t e = ap (λ (bs : List ℕ). map glyph_of (node_items bs)) e ∙ ap (map glyph_of) nowiki_items
 
 delimiter_of : (kind : Bool) → IsDelimiter (byte_glyphs (mark_source kind))
@@ -113,7 +113,7 @@ nodes_some (t ∷ ts) ps a h = elim a [
 
 -- ---- side by side
 
-lead_free : (r : Role) (w : Bool) → w ≡ false → MayLead r w
+pub lead_free : (r : Role) (w : Bool) → w ≡ false → MayLead r w
 lead_free Link w e = tt
 lead_free External w e = tt
 lead_free (Bare ends) w e = e
@@ -124,7 +124,7 @@ lead_free (Group g) w e = tt
 lead_free Function w e = tt
 lead_free Node w e = tt
 
-mark_last : (kind : Bool) → ends_word false (byte_glyphs (mark_source kind)) ≡ false
+pub mark_last : (kind : Bool) → ends_word false (byte_glyphs (mark_source kind)) ≡ false
 mark_last true = refl
 mark_last false = refl
 

@@ -38,7 +38,7 @@ page_have (loose Text o b ∷ ps) h = (h.0, page_have ps h.1)
 page_have (loose Sep o b ∷ ps) h = absurd h
 page_have (node t ∷ ps) h = let own = h.0 in ((own.has_items, own.of_page), page_have ps h.1)
 
-some_of_page : (ps : List Part) → AreSomeOfPage ps → ArePageParts ps
+pub some_of_page : (ps : List Part) → AreSomeOfPage ps → ArePageParts ps
 some_of_page [] h = absurd h
 some_of_page (p ∷ ps) h = h
 

@@ -19,7 +19,7 @@ use Rattle.wt_context.specs.Segments.{Segment, loose_segments}
 use Rattle.wt_context.specs.Styled.{with_styles}
 use Rattle.wt_beside_laws.proofs.Groups.CalledLines.{line_is}
 use Rattle.wt_beside_laws.proofs.Groups.CalledTiles.{line_cuts_are}
-use Rattle.wt_beside_laws.proofs.Groups.Gifts.{IsGift, all_gifts, gift_of, given_case, line_cut_with, own_gift}
+use Rattle.wt_beside_laws.proofs.Groups.Gifts.{IsGift, all_gifts, gift_of, line_cut_with, toggle_signs}
 use Rattle.wt_beside_laws.proofs.Groups.GivenParts.{begins_quoted, given_line, unquoted}
 use Rattle.wt_beside_laws.proofs.Groups.HalfSigns.{half_quote}
 use Rattle.wt_beside_laws.proofs.LineSegments.{segments_are}
@@ -82,12 +82,12 @@ mark_cut : (s : Setting) (before : List ContentSign) (kind : Bool) (place : Opti
     ≡ guard_cut (is_guarded s before (delimiter kind place ∷ signs))
     (add_node (own_form in_line (map glyph_of (node_items (mark_source kind)))) (length (map glyph_of (node_items (mark_source kind))))
     (line_cut_of s (delimiter kind place ∷ before) signs (owns_left owns) (past_mark kind place signs owns h)))
-unfolding all_gifts gift_of given_case own_gift
 mark_cut s before kind place signs [] h = absurd h
 mark_cut s before kind place signs (own ∷ owns) h =
     let u : Bool = is_guarded s before (delimiter kind place ∷ signs) in
     let rest : Cut = line_cut_of s (delimiter kind place ∷ before) signs owns h.1 in
-    ap (λ (xs : List Item). guard_cut u (add_node (own_form in_line (map glyph_of xs)) (length (map glyph_of xs)) rest)) h.0.is
+    ap (λ (gs : List GivenSign). guard_cut u (given_cut gs rest)) (toggle_signs (mark_source kind) place own h.0)
+    ∙ ap (λ (xs : List Item). guard_cut u (add_node (own_form in_line (map glyph_of xs)) (length (map glyph_of xs)) rest)) h.0.is
 
 -- ---- what a call gives, and a node that stays
 
@@ -153,7 +153,6 @@ styled_read : (line : Bool) (s : Setting) (bold italic : Bool) (t : StyledConten
     → RestRead s (signs_past t before) after (owns_past t owns) (given_behind t after owns h) vs
     → Read bold italic (quote_next s before (signs_before t after)) (line_cut_of s before (signs_before t after) owns h) (line_with s before (signs_before t after) owns) vs
     (styled_with line s before t after owns)
-unfolding all_gifts
 styled_read line s bold italic finished before after owns vs h k g tail rest = end_read bold italic s before after owns h vs rest
 styled_read line s bold italic (sign (letter d) t) before after owns vs h k g tail rest =
     let signs : List ContentSign = signs_before t after in
@@ -228,7 +227,7 @@ styled_read line s bold italic (styled kind opening closing inside t) before aft
 -- ---- the line by itself
 
 line_end : (s : Setting) (before : List ContentSign) (owns : List (List Item)) (h : AreGiven [] owns) → RestRead s before [] owns h []
-unfolding loose_segments all_gifts
+unfolding loose_segments
 line_end s before owns h = record {
   cut = (0, []);
   items = [];

@@ -33,9 +33,8 @@ use Rattle.wt_beside_laws.specs.StyledCalls.{has_uncalled}
 use Rattle.wt_beside_laws.specs.StyledNodes.{IsPut}
 use Rattle.wt_called_edit_laws.proofs.MovedOuters.{calls_after}
 use Rattle.wt_called_edit_laws.proofs.Styles.Put.{put_open, put_outer, put_source, put_work}
-use Rattle.wt_called_edit_laws.proofs.Styles.Shown.{shown_styled}
 use Rattle.wt_called_edit_laws.proofs.Styles.Things.{AreAmongPut}
-use Rattle.wt_called_edit_laws.proofs.Styles.Written.{IsStyledWritten, all_parts, all_read, all_sealed, all_utf8, given_all, shown_characters, styled_gives}
+use Rattle.wt_called_edit_laws.proofs.Styles.Written.{IsStyledWritten, all_given, all_parts, all_read, all_sealed, all_utf8, styled_gives}
 use Rattle.wt_called_edit_laws.proofs.Written.FromPage.{by_sources, stay_both}
 use Rattle.wt_called_edit_laws.proofs.Written.InPieces.{open_pieces, pieces_written}
 use Rattle.wt_called_edit_laws.proofs.Written.Letters.{a_beside, b_beside, begun, same_stay, sources_spread, sources_things, spread, takes}
@@ -111,10 +110,10 @@ own_calls pages s t h = content_written pages s (signs_in t) h.of_block (all_rea
 
 text_items : (pages : Pages) (i : ℕ) (s : Setting) (t : StyledContent) → IsStyledWritten pages s t → AreTextItems (part_items pages i (spelled s (signs_in t)))
 text_items pages i s t h =
-    let signs : List ContentSign = signs_in (shown_styled pages t) in
+    let signs : List ContentSign = signs_in t in
     let owns : List (List Item) = owns_in pages i (signs_in t) in
-    let v : AreCharacters signs = shown_characters pages s t h in
-    let g : AreGiven signs owns = given_all pages i s t h in
+    let v : AreCharacters signs = h.characters in
+    let g : AreGiven signs owns = all_given pages i (signs_in t) h.each in
     subst AreTextItems (sym (styled_gives pages i s t h))
     (record { are_lines = given_lines 0 s signs owns h.of_block v g; unled = given_unled s signs owns h.of_block v g; own_breaks = items_own s [] signs owns g })
 
@@ -126,9 +125,9 @@ styled_content pages s t h =
 
 stays_so : (pages : Pages) (i n : ℕ) (s : Setting) (t : StyledContent) → IsStyledWritten pages s t → AreTextLines n (part_items pages i (spelled s (signs_in t)))
 stays_so pages i n s t h =
-    let signs : List ContentSign = signs_in (shown_styled pages t) in
+    let signs : List ContentSign = signs_in t in
     let owns : List (List Item) = owns_in pages i (signs_in t) in
-    subst (AreTextLines n) (sym (styled_gives pages i s t h)) (given_lines n s signs owns h.of_block (shown_characters pages s t h) (given_all pages i s t h))
+    subst (AreTextLines n) (sym (styled_gives pages i s t h)) (given_lines n s signs owns h.of_block (h.characters) (all_given pages i (signs_in t) h.each))
 
 -- ---- the nodes of the page among what is put
 

@@ -30,12 +30,11 @@ use Rattle.wt_beside_laws.proofs.Groups.Meet.{all_beside}
 use Rattle.wt_beside_laws.proofs.Made.Letters.{pieces_fit}
 use Rattle.wt_beside_laws.proofs.Made.Making.{breaks_so, takes_breaks}
 use Rattle.wt_beside_laws.proofs.Made.OldBlocks.{face_of}
-use Rattle.wt_beside_laws.proofs.PageNodes.{EachMeets}
 use Rattle.wt_beside_laws.proofs.Styled.Delimiters.{no_delimiter}
 use Rattle.wt_beside_laws.proofs.Styled.SentFaults.{AreSound}
 use Rattle.wt_beside_laws.proofs.Styled.SentNests.{sent_nest}
 use Rattle.wt_beside_laws.proofs.Styled.SentStyles.{sent_nested, sent_signs}
-use Rattle.wt_beside_laws.specs.Called.{shown_signs}
+use Rattle.wt_beside_laws.specs.Called.{owns_in}
 use Rattle.wt_beside_laws.specs.ContentEdits.{content_edit, new_content}
 use Rattle.wt_beside_laws.specs.FlatBlocks.{sent_for}
 use Rattle.wt_beside_laws.specs.SentPieces.{TextsFit}
@@ -54,7 +53,7 @@ use Rattle.wt_called_edit_laws.proofs.Styles.Shown.{pieces_show}
 use Rattle.wt_called_edit_laws.proofs.Styles.Things.{AreLeft, AreStyledThings, each_styled, meet_styled, nodes_so, own_stay, pieces_left}
 use Rattle.wt_called_edit_laws.proofs.Styles.Whole.{styled_anywhere, styled_shows, styled_whole}
 use Rattle.wt_called_edit_laws.proofs.Styles.Written.{IsStyledWritten}
-use Rattle.wt_called_edit_laws.proofs.Written.FromPage.{things_shown, things_stay}
+use Rattle.wt_called_edit_laws.proofs.Written.FromPage.{things_stay}
 use Rattle.wt_called_edit_laws.specs.CalledContents.{tree_round}
 use Rattle.wt_called_edit_laws.specs.CalledEdits.{MakesContentIn, page_things}
 use Rattle.wt_called_edit_laws.specs.CallingBlocks.{IsNewContentIn}
@@ -125,8 +124,9 @@ sent_well pages q block ps i h e =
         each = each;
         nested = sent_nested p false false us (no_delimiter same_node block) nested;
         free = pieces_free pages same_node block ps found beside e.stay e.free;
-        meet = all_beside (setting a_paragraph block) [] (shown_signs pages ss)
-            (nodes_so pages ss each, subst EachMeets (things_shown pages ss) (meet_styled pages left.nodes (things ss) left.put of_page own));
+        meet = λ i.
+            all_beside (setting a_paragraph block) [] [] ss (owns_in pages i ss) tt (nodes_so pages i ss each)
+            (meet_styled pages i left.nodes ss left.put of_page own);
         some = e.some;
       };
     }

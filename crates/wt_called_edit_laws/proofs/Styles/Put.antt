@@ -4,8 +4,6 @@ use Rattle.std.specs.Str.{IsUtf8}
 use Rattle.wt_span.specs.Origins.{OuterCall}
 use Rattle.wt_guards.specs.Content.{Thing}
 use Rattle.wt_guards.specs.Guards.{is_mark, is_new_at_start, nowiki}
-use Rattle.wt_guards.specs.declared.role.Role.{Role}
-use Rattle.wt_guards.specs.declared.role.Role.TheVariants.{Node, Toggle}
 use Rattle.wt_expand.specs.PageCalls.{expanded_page}
 use Rattle.wt_expand.specs.PageItems.{page_items}
 use Rattle.wt_expand.specs.Work.{Pages}
@@ -21,7 +19,7 @@ use Rattle.wt_beside_laws.proofs.Made.Closes.{guard_closes}
 use Rattle.wt_beside_laws.proofs.Marks.Shown.{kept_node}
 use Rattle.wt_beside_laws.proofs.Styled.StyledAgain.{quotes_utf8}
 use Rattle.wt_beside_laws.proofs.Styled.StyledNodes.{mark_kept, mark_page, put_node, put_unbroken}
-use Rattle.wt_beside_laws.specs.Called.{IsOwnNode, shown_source}
+use Rattle.wt_beside_laws.specs.Called.{IsOwnNode}
 use Rattle.wt_beside_laws.specs.Content.{guard_items}
 use Rattle.wt_beside_laws.specs.FlatBlocks.{IsSealed}
 use Rattle.wt_beside_laws.specs.NodeItems.{node_items}
@@ -29,7 +27,6 @@ use Rattle.wt_beside_laws.specs.PageSigns.{HasNoBreak}
 use Rattle.wt_beside_laws.specs.Styled.{mark_source}
 use Rattle.wt_beside_laws.specs.StyledNodes.{IsPut}
 use Rattle.wt_called_edit_laws.proofs.Written.Joined.{calm_written}
-use Rattle.wt_called_edit_laws.specs.PageThings.{shown_thing}
 use Rattle.wt_called_edit_laws.specs.Parts.{work_in}
 use Rattle.wt_called_edit_laws.specs.Written.{BeginsOutward, EndsOutward, IsHeldInLine, IsOwnPart, IsReadThing, IsWrittenAs}
 
@@ -149,15 +146,3 @@ put_open name bs p = ([], by_source (λ q. Unclosed name (q ++ [])) (λ kind. ma
 
 pub put_utf8 : (bs : List ℕ) → IsPutSource bs → IsUtf8 bs
 put_utf8 bs p = by_source IsUtf8 quotes_utf8 (guard_utf8 true) bs p
-
--- ---- as it shows
-
-same_shown : (t : Thing) (r : Role) (pages : Pages) → t.role ≡ r → shown_source r pages t.source ≡ t.source → shown_thing pages t ≡ t
-same_shown t r pages e h =
-    ap (λ (bs : List ℕ). record t { source = bs }) (ap (λ (q : Role). shown_source q pages t.source) e ∙ h)
-
-pub put_shown : (pages : Pages) (t : Thing) → IsPut t → shown_thing pages t ≡ t
-put_shown pages t p = elim p [
-  | inl m ↦ same_shown t Toggle pages m.1 refl
-  | inr w ↦ same_shown t Node pages w.0 refl
-]

@@ -46,7 +46,6 @@ use Rattle.wt_called_edit_laws.proofs.Styles.Found.{AreFound, FoundBy, IsFound}
 use Rattle.wt_called_edit_laws.proofs.Styles.Put.{put_items}
 use Rattle.wt_called_edit_laws.proofs.Styles.Sent.{beside_both, found_both, style_beside, style_found}
 use Rattle.wt_called_edit_laws.specs.CalledEdits.{IsChildBeside}
-use Rattle.wt_called_edit_laws.specs.PageThings.{shown_thing}
 use Rattle.wt_called_edit_laws.specs.StyledCallEdits.{AreNodesBeside, IsBesideBy, IsNodeBeside}
 
 
@@ -257,25 +256,18 @@ pieces_show pages same block (new_style m is ps) f g h a i rest =
 
 -- ---- by its owns
 
--- as it shows in the folder
-abbrev pub shown_styled : Pages → StyledContent → StyledContent
-shown_styled pages finished = finished
-shown_styled pages (sign (letter c) t) = sign (letter c) (shown_styled pages t)
-shown_styled pages (sign (thing x) t) = sign (thing (shown_thing pages x)) (shown_styled pages t)
-shown_styled pages (styled kind opening closing inside t) = styled kind opening closing (shown_styled pages inside) (shown_styled pages t)
-
 pub past_as : (pages : Pages) (i : ℕ) (t : StyledContent) (after : List ContentSign)
-    → owns_past (shown_styled pages t) (owns_in pages i (signs_before t after)) ≡ owns_in pages (calls_behind pages i t) after
+    → owns_past t (owns_in pages i (signs_before t after)) ≡ owns_in pages (calls_behind pages i t) after
 past_as pages i finished after = refl
 past_as pages i (sign (letter c) t) after = past_as pages i t after
 past_as pages i (sign (thing x) t) after = past_as pages (i + length (expanded_page pages x.source).outer) t after
 past_as pages i (styled kind opening closing inside t) after =
     let signs : List ContentSign = signs_before t after in
-    ap (λ (os : List (List Item)). owns_past (shown_styled pages t) (owns_left os)) (past_as pages (after_mark pages kind i) inside (delimiter kind closing ∷ signs))
+    ap (λ (os : List (List Item)). owns_past t (owns_left os)) (past_as pages (after_mark pages kind i) inside (delimiter kind closing ∷ signs))
     ∙ past_as pages (after_mark pages kind (calls_behind pages (after_mark pages kind i) inside)) t after
 
 pub shown_as : (pages : Pages) (i : ℕ) (t : StyledContent) (after : List ContentSign) (rest : Plains)
-    → styled_called_shown (shown_styled pages t) (owns_in pages i (signs_before t after)) rest ≡ folder_shown pages i t rest
+    → styled_called_shown t (owns_in pages i (signs_before t after)) rest ≡ folder_shown pages i t rest
 shown_as pages i finished after rest = refl
 shown_as pages i (sign (letter c) t) after rest = ap (text_before (encode_utf8 c)) (shown_as pages i t after rest)
 shown_as pages i (sign (thing x) t) after rest =
@@ -286,7 +278,7 @@ shown_as pages i (styled kind opening closing inside t) after rest =
     let k : ℕ = after_mark pages kind (calls_behind pages j inside) in
     let owns : List (List Item) = owns_in pages j (signs_before inside closes) in
     ap
-    (λ (qs : Plains). style_shown kind qs (styled_called_shown (shown_styled pages t) (owns_left (owns_past (shown_styled pages inside) owns)) rest))
+    (λ (qs : Plains). style_shown kind qs (styled_called_shown t (owns_left (owns_past inside owns)) rest))
     (shown_as pages j inside closes ended)
     ∙ ap (style_shown kind (folder_shown pages j inside ended))
-    (ap (λ (os : List (List Item)). styled_called_shown (shown_styled pages t) (owns_left os) rest) (past_as pages j inside closes) ∙ shown_as pages k t after rest)
+    (ap (λ (os : List (List Item)). styled_called_shown t (owns_left os) rest) (past_as pages j inside closes) ∙ shown_as pages k t after rest)

@@ -1,5 +1,5 @@
 -- The nodes of what is sent with styles: those of the block that stay, in their order, with delimiters and nowikis that are put among them.
-use Rattle.std.proofs.Common.{◌≡◌, ◌⊎◌, inl, inr, ℕ, Bool, true, false, Option, Some, None, List, [], ◌∷◌, ◌++◌, map, ap, refl, subst, sym, ◌∙◌}
+use Rattle.std.proofs.Common.{◌≡◌, ◌⊎◌, inl, inr, ℕ, ◌+◌, Bool, true, false, Option, Some, None, List, [], ◌∷◌, ◌++◌, length, map, ap, refl, subst, sym, ◌∙◌}
 use Rattle.std.specs.Str.{chars}
 use Rattle.wt_tree.specs.EditShapes.{edit_shape}
 use Rattle.wt_tree.specs.Source.{flat}
@@ -8,44 +8,48 @@ use Rattle.wt_tree.specs.declared.edit_shape.InlineForm.{InlineForm}
 use Rattle.wt_tree.specs.declared.edit_shape.InlineForm.TheVariants as inline
 use Rattle.wt_tree.specs.declared.kind.Kind.{Kind}
 use Rattle.wt_guards.specs.Content.{ContentSign, Thing, letter, thing}
-use Rattle.wt_guards.specs.Guards.{nowiki}
+use Rattle.wt_guards.specs.Guards.{is_adjacent, nowiki}
 use Rattle.wt_guards.specs.declared.role.Role.{Role}
 use Rattle.wt_guards.specs.declared.role.Role.TheVariants.{Bare, External, Function, Group, Link, Mark, Node, Switch, Toggle}
 use Rattle.wt_guards.specs.declared.role.Stretch.{Stretch}
 use Rattle.wt_original.specs.Kept.{Kept, kept_nodes, kept_with}
 use Rattle.wt_original.specs.Page.{Page, page_of}
-use Rattle.wt_tiles.specs.Glyphs.{glyph_of}
+use Rattle.wt_tiles.specs.Glyphs.{byte_glyphs, glyph_of}
+use Rattle.wt_tiles.specs.declared.glyph.Glyph.{Glyph}
+use Rattle.wt_tiles.specs.declared.glyph.Glyph.TheVariants as glyph
 use Rattle.wt_link_spelling.specs.Spelling.{closing_place, opening_place}
 use Rattle.wt_expand.specs.PageCalls.{expanded_page}
 use Rattle.wt_expand.specs.Work.{Pages}
+use Rattle.wt_part_laws.specs.Expanded.{part_items}
 use Rattle.wt_typed_blocks.proofs.SentGroups.{of_style}
 use Rattle.wt_typed_blocks.specs.Edited.{IsStyle, Pieces, PiecesStay, around, as_new, gone, kept, new_style, no_pieces, page_pieces, sent_pieces, text_node, written}
 use Rattle.wt_typed_blocks.specs.Sent.{AllStandAsIs, StandsAsIs}
 use Rattle.wt_beside_laws.proofs.Each.{Each}
-use Rattle.wt_beside_laws.proofs.Groups.Meet.{IsNodeOrGroup}
-use Rattle.wt_beside_laws.proofs.PageNodes.{EachMeets, MeetInPage}
+use Rattle.wt_beside_laws.proofs.Groups.Folders.{folder_case}
+use Rattle.wt_beside_laws.proofs.Groups.Meet.{EachIsSuch, EachNextMeets, IsNodeOrGroup, NextMeets, follow_as}
+use Rattle.wt_beside_laws.proofs.PageNodes.{follows_none}
 use Rattle.wt_beside_laws.proofs.SentNodes.{things_append}
 use Rattle.wt_beside_laws.proofs.Styled.BlockNodes.{with_append}
 use Rattle.wt_beside_laws.proofs.Styled.SentAmong.{text_things}
 use Rattle.wt_beside_laws.proofs.Styled.SentNests.{IsStyleForm, style_stands}
 use Rattle.wt_beside_laws.proofs.Styled.SentStyles.{signs_joined}
 use Rattle.wt_beside_laws.proofs.Styled.SentWhole.{numbers_appended}
-use Rattle.wt_beside_laws.proofs.Styled.StyledNodes.{meets_put, put_meets, put_node}
-use Rattle.wt_beside_laws.specs.Called.{shown_signs, shown_source}
-use Rattle.wt_beside_laws.specs.Cuts.{own_glyphs}
-use Rattle.wt_beside_laws.specs.NodeItems.{node_items}
+use Rattle.wt_beside_laws.proofs.Styled.StyledNodes.{lead_free, mark_last, meets_put, own_mark, own_nowiki, put_node}
+use Rattle.wt_beside_laws.specs.Called.{BehindMay, IsOfFolder, LeadMay, MayFollowGroup, MayMeet, StaysAsItIs, owns_in}
+use Rattle.wt_beside_laws.specs.Cuts.{ends_word, own_glyphs}
+use Rattle.wt_beside_laws.specs.Nodes.{IsNode}
 use Rattle.wt_beside_laws.specs.SentStyled.{found_then, or_nowiki, sent_before, sent_by, sent_content}
 use Rattle.wt_beside_laws.specs.Stood.{things}
 use Rattle.wt_beside_laws.specs.Styled.{StyledContent, delimiter, finished, mark_source, sign, signs_before, signs_in, styled}
 use Rattle.wt_beside_laws.specs.StyledBlocks.{all_numbers, found_thing, numbers_by, numbers_of, thing_of, things_with}
-use Rattle.wt_beside_laws.specs.StyledNodes.{EndsUnquoted, IsPut}
+use Rattle.wt_beside_laws.specs.StyledNodes.{IsPut}
 use Rattle.wt_called_edit_laws.proofs.Beside.Found.{IsFoundAs}
 use Rattle.wt_called_edit_laws.proofs.Styles.Found.{AreFound, FoundBy, IsFound}
-use Rattle.wt_called_edit_laws.proofs.Styles.Put.{put_shown}
+use Rattle.wt_called_edit_laws.proofs.Styles.Put.{put_items, put_source}
 use Rattle.wt_called_edit_laws.proofs.Styles.Sent.{found_both, style_found}
-use Rattle.wt_called_edit_laws.proofs.Written.FromPage.{node_or_group, shown_things}
-use Rattle.wt_called_edit_laws.specs.PageThings.{ArePageThings, IsPageThing, MeetLater, ThingsStay, shown_thing}
-use Rattle.wt_called_edit_laws.specs.StyledCallEdits.{AreOwnThings, CallNone, CallsNone, CallsNoneBy, IsOwnThing, NoCallGoes}
+use Rattle.wt_called_edit_laws.proofs.Written.FromPage.{gives_so}
+use Rattle.wt_called_edit_laws.specs.PageThings.{ArePageThings, IsPageThing, MeetLater, ThingsStay}
+use Rattle.wt_called_edit_laws.specs.StyledCallEdits.{AreOwnThings, CallNone, CallsNone, CallsNoneBy, EndsUnslashed, IsOwnThing, NoCallGoes}
 
 
 -- ---- with others that are put among them
@@ -295,50 +299,112 @@ own_stay pages (b ∷ bs) [] e h = tt
 own_stay pages (b ∷ bs) (d ∷ ds) (inl e) h = (subst IsOwnThing e.0 h.0, own_stay pages bs ds e.1 h.1)
 own_stay pages (b ∷ bs) (d ∷ ds) (inr e) h = own_stay pages bs (d ∷ ds) e.1 h.1
 
--- ---- side by side, as they show
+-- ---- side by side, by what they give
 
-unquoted_as : (r : Role) (pages : Pages) (bs : List ℕ) → EndsUnquoted r (map glyph_of (node_items bs)) → EndsUnquoted r (map glyph_of (node_items (shown_source r pages bs)))
-unquoted_as Link pages bs h = tt
-unquoted_as External pages bs h = tt
-unquoted_as (Bare ends) pages bs h = h
-unquoted_as Switch pages bs h = tt
-unquoted_as Toggle pages bs h = tt
-unquoted_as (Mark ends began) pages bs h = tt
-unquoted_as (Group g) pages bs h = tt
-unquoted_as Function pages bs h = tt
-unquoted_as Node pages bs h = tt
+put_glyphs : (pages : Pages) (i : ℕ) (t : Thing) → IsPut t → map glyph_of (part_items pages i t.source) ≡ own_glyphs t
+put_glyphs pages i t p = ap (map glyph_of) (put_items pages i t.source (put_source t p))
 
--- behind a node of the page
-behind_page : (pages : Pages) (t n : Thing) (rest ds : List Thing) → AreAmongPut rest (n ∷ ds) → MeetLater pages t rest → EndsUnquoted t.role (own_glyphs t)
-    → MeetInPage (shown_thing pages t) (shown_thing pages n)
-behind_page pages t n rest ds a m u = elim a [
-  | inl p ↦ λ z.
-      meets_put (shown_thing pages t) (shown_thing pages n) (subst IsPut (sym (put_shown pages n p.0)) p.0) (λ r y. unquoted_as t.role pages t.source u) z
-  | inr q ↦ let later : MeetLater pages t (n ∷ q.0) = subst (MeetLater pages t) q.1 m in later.0
+lead_may : (r : Role) (own : List Glyph) (word : Bool) → word ≡ false → LeadMay r own word
+lead_may Link own word e = lead_free Link word e
+lead_may External own word e = lead_free External word e
+lead_may (Bare ends) own word e = lead_free (Bare ends) word e
+lead_may Switch own word e = lead_free Switch word e
+lead_may Toggle own word e = lead_free Toggle word e
+lead_may (Mark ends began) own word e = lead_free (Mark ends began) word e
+lead_may (Group g) own word e = inl e
+lead_may Function own word e = lead_free Function word e
+lead_may Node own word e = lead_free Node word e
+
+put_word : (t : Thing) → IsPut t → ends_word false (own_glyphs t) ≡ false
+put_word t p = elim p [
+  | inl m ↦ ap (ends_word false) (own_mark t m.0 m.2) ∙ mark_last m.0
+  | inr w ↦ ap (ends_word false) (own_nowiki t w.1)
 ]
 
-pub meet_styled : (pages : Pages) (fs news : List Thing) → AreAmongPut fs news → ArePageThings pages fs → AreOwnThings fs → EachMeets (shown_things pages news)
-meet_styled pages fs [] a h o = tt
-meet_styled pages fs (t ∷ []) a h o = tt
-meet_styled pages fs (t ∷ n ∷ ts) a h o = elim a [
-  | inl p ↦ (
-    λ z. put_meets (shown_thing pages t) (shown_thing pages n) (subst IsPut (sym (put_shown pages t p.0)) p.0),
-    meet_styled pages fs (n ∷ ts) p.1 h o,
-  )
+put_behind : (t : Thing) (own other : List Glyph) → IsPut t → BehindMay t.role own other
+put_behind t own other p = elim p [
+  | inl m ↦ subst (λ (r : Role). BehindMay r own other) (sym m.1) (follows_none own other Toggle (λ g. tt))
+  | inr w ↦ subst (λ (r : Role). BehindMay r own other) (sym w.0) (follows_none own other Node (λ g. tt))
+]
+
+put_led : (n : Thing) (own : List Glyph) (word : Bool) → IsPut n → LeadMay n.role own word
+put_led n own word p = elim p [
+  | inl m ↦ subst (λ (r : Role). LeadMay r own word) (sym m.1) tt
+  | inr w ↦ subst (λ (r : Role). LeadMay r own word) (sym w.0) tt
+]
+
+-- behind what is put
+put_may : (t n : Thing) (left right : List Glyph) → IsPut t → left ≡ own_glyphs t → MayMeet t left n right
+put_may t n left right p e = (put_behind t left right p, lead_may n.role right (ends_word false left) (ap (ends_word false) e ∙ put_word t p))
+
+-- a delimiter behind a group
+quotes_follow : (slashes kind : Bool) → slashes ≡ false → MayFollowGroup slashes (byte_glyphs (mark_source kind))
+quotes_follow true kind e = cc
+quotes_follow false true e = (refl, λ z. cc)
+quotes_follow false false e = (refl, λ z. cc)
+
+atom_follows : (slashes : Bool) → slashes ≡ false → MayFollowGroup slashes (glyph.Atom ∷ [])
+atom_follows true e = cc
+atom_follows false e = (refl, λ z. cc)
+
+group_follow : (slashes : Bool) (n : Thing) (right : List Glyph) → slashes ≡ false → IsPut n → right ≡ own_glyphs n → MayFollowGroup slashes right
+group_follow slashes n right e p is = elim p [
+  | inl m ↦ subst (MayFollowGroup slashes) (sym (is ∙ own_mark n m.0 m.2)) (quotes_follow slashes m.0 e)
+  | inr w ↦ subst (MayFollowGroup slashes) (sym (is ∙ own_nowiki n w.1)) (atom_follows slashes e)
+]
+
+-- before what is put
+page_may : (pages : Pages) (i : ℕ) (t n : Thing) (right : List Glyph) → IsOfFolder t.role pages t → IsOwnThing t → IsPut n → right ≡ own_glyphs n
+    → is_adjacent t n ≡ true → MayMeet t (map glyph_of (part_items pages i t.source)) n right
+page_may pages i t n right h o p is z = elim (folder_case t.role pages t h) [
+  | inl k ↦
+      let stays : StaysAsItIs pages t = k.0 in
+      let left : map glyph_of (part_items pages i t.source) ≡ own_glyphs t = ap (map glyph_of) (stays.items i) in
+      let both = meets_put t n p (λ r y. o.unquoted) z in
+      subst (λ (gs : List Glyph). MayMeet t gs n right) (sym left)
+      (subst (λ (gs : List Glyph). BehindMay t.role (own_glyphs t) gs) (sym is) (follow_as t.role (own_glyphs t) (own_glyphs n) stays.node both.0),
+      put_led n right (ends_word false (own_glyphs t)) p)
+  | inr k ↦
+      let slashes = subst EndsUnslashed k.1 o.unslashed in (
+        subst (λ (r : Role). BehindMay r (map glyph_of (part_items pages i t.source)) right) (sym k.1) (group_follow k.0.slashes n right slashes p is),
+        put_led n right (ends_word false (map glyph_of (part_items pages i t.source))) p,
+      )
+]
+
+next_put : (pages : Pages) (i j : ℕ) (t : Thing) (signs : List ContentSign) → IsPut t
+    → NextMeets t (map glyph_of (part_items pages i t.source)) signs (owns_in pages j signs)
+next_put pages i j t [] p = tt
+next_put pages i j t (letter c ∷ after) p = next_put pages i j t after p
+next_put pages i j t (thing n ∷ after) p = λ e f.
+    put_may t n (map glyph_of (part_items pages i t.source)) (map glyph_of (part_items pages j n.source)) p (put_glyphs pages i t p)
+
+next_page : (pages : Pages) (i j : ℕ) (t : Thing) (rest : List Thing) (signs : List ContentSign) → AreAmongPut rest (things signs) → MeetLater pages t rest
+    → IsOfFolder t.role pages t → IsOwnThing t → NextMeets t (map glyph_of (part_items pages i t.source)) signs (owns_in pages j signs)
+next_page pages i j t rest [] a m h o = tt
+next_page pages i j t rest (letter c ∷ after) a m h o = next_page pages i j t rest after a m h o
+next_page pages i j t rest (thing n ∷ after) a m h o = elim a [
+  | inl p ↦ λ e f. page_may pages i t n (map glyph_of (part_items pages j n.source)) h o p.0 (put_glyphs pages j n p.0) e
+  | inr q ↦ let later : MeetLater pages t (n ∷ q.0) = subst (MeetLater pages t) q.1 m in later.0 i j
+]
+
+pub meet_styled : (pages : Pages) (i : ℕ) (fs : List Thing) (signs : List ContentSign) → AreAmongPut fs (things signs) → ArePageThings pages fs → AreOwnThings fs
+    → EachNextMeets signs (owns_in pages i signs)
+meet_styled pages i fs [] a h o = tt
+meet_styled pages i fs (letter c ∷ after) a h o = meet_styled pages i fs after a h o
+meet_styled pages i fs (thing t ∷ after) a h o = elim a [
+  | inl p ↦ (next_put pages i (i + length (expanded_page pages t.source).outer) t after p.0, meet_styled pages (i + length (expanded_page pages t.source).outer) fs after p.1 h o)
   | inr q ↦
       let own : ArePageThings pages (t ∷ q.0) = subst (ArePageThings pages) q.1 h in
       let there = first_own t fs q.0 q.1 o in
-      let mine = there.0 in
-      (behind_page pages t n q.0 ts q.2 own.1 mine.unquoted, meet_styled pages q.0 (n ∷ ts) q.2 own.2 there.1)
+      (next_page pages i (i + length (expanded_page pages t.source).outer) t q.0 after q.2 own.1 own.0.folder there.0,
+      meet_styled pages (i + length (expanded_page pages t.source).outer) q.0 after q.2 own.2 there.1)
 ]
 
-node_so : (pages : Pages) (t : Thing) → IsStyledThing pages t → IsNodeOrGroup (shown_thing pages t)
-node_so pages t h = elim h [
-  | inl k ↦ let own = k.0 in node_or_group pages t own.folder
-  | inr p ↦ subst IsNodeOrGroup (sym (put_shown pages t p)) (inl (put_node t p))
-]
+node_so : (pages : Pages) (i : ℕ) (t : Thing) → IsStyledThing pages t → IsNodeOrGroup t (map glyph_of (part_items pages i t.source))
+node_so pages i t (inl k) = let own = k.0 in gives_so pages i t own.folder
+node_so pages i t (inr p) = inl (subst (IsNode t.role) (sym (put_glyphs pages i t p)) (put_node t p), put_glyphs pages i t p)
 
-pub nodes_so : (pages : Pages) (signs : List ContentSign) → AreStyledThings pages signs → Each IsNodeOrGroup (things (shown_signs pages signs))
-nodes_so pages [] h = tt
-nodes_so pages (letter c ∷ after) h = nodes_so pages after h
-nodes_so pages (thing t ∷ after) h = (node_so pages t h.0, nodes_so pages after h.1)
+pub nodes_so : (pages : Pages) (i : ℕ) (signs : List ContentSign) → AreStyledThings pages signs → EachIsSuch signs (owns_in pages i signs)
+nodes_so pages i [] h = tt
+nodes_so pages i (letter c ∷ after) h = nodes_so pages i after h
+nodes_so pages i (thing t ∷ after) h = (node_so pages i t h.0, nodes_so pages (i + length (expanded_page pages t.source).outer) after h.1)

@@ -1,5 +1,5 @@
 -- What is written beside calls and styles can be read by itself.
-use Rattle.std.proofs.Common.{arith, ◌≡◌, ◌⊎◌, inl, inr, ◌<◌, ℕ, suc, ◌+◌, Bool, true, false, not, Option, None, List, [], ◌∷◌, ◌++◌, length, map, ap, append-nil, refl, subst, sym, ◌||◌, ◌∙◌}
+use Rattle.std.proofs.Common.{◌≡◌, inl, inr, ℕ, ◌+◌, Bool, true, false, not, Option, None, List, [], ◌∷◌, ◌++◌, length, map, ap, refl, subst, sym, ◌||◌, ◌∙◌}
 use Rattle.wt_span.proofs.RunLaws.{runs_are}
 use Rattle.wt_span.specs.Items.{Item}
 use Rattle.wt_span.specs.Origins.{OuterCall}
@@ -27,7 +27,7 @@ use Rattle.wt_expand.specs.Work.{Pages}
 use Rattle.wt_part_laws.proofs.GroupsStay.{numbers_gone}
 use Rattle.wt_part_laws.proofs.OwnWalks.{walk_own}
 use Rattle.wt_part_laws.proofs.Recuts.{texts_same}
-use Rattle.wt_part_laws.specs.CallTexts.{AreOwnOrTexts}
+use Rattle.wt_part_laws.specs.CallPieces.{AreOwnOrGiven, call_pieces}
 use Rattle.wt_part_laws.specs.Expanded.{part_items}
 use Rattle.wt_part_laws.specs.HeldCalls.{HoldsItsCalls, block_in}
 use Rattle.wt_part_laws.specs.Placeless.{all_placeless, placeless}
@@ -43,7 +43,7 @@ use Rattle.wt_beside_laws.proofs.Styled.StyledNodes.{nowiki_items}
 use Rattle.wt_beside_laws.proofs.StyledGroups.Blocks.{styled_called_holds, styled_own, within_have}
 use Rattle.wt_beside_laws.proofs.StyledGroups.Paragraphs.{styled_called_parts}
 use Rattle.wt_beside_laws.proofs.StyledGroups.Shown.{styled_called_shows}
-use Rattle.wt_beside_laws.specs.Called.{AreWords, items_with, owns_in}
+use Rattle.wt_beside_laws.specs.Called.{items_with, owns_in}
 use Rattle.wt_beside_laws.specs.Content.{guard_items, letter_items}
 use Rattle.wt_beside_laws.specs.Flat.{IsFlat}
 use Rattle.wt_beside_laws.specs.Nests.{marks, style_tree}
@@ -52,16 +52,14 @@ use Rattle.wt_beside_laws.specs.Styled.{AreNested, StyledContent, delimiter, fin
 use Rattle.wt_beside_laws.specs.StyledCalls.{AreOwnAt, owns_left, owns_past, styled_with}
 use Rattle.wt_called_edit_laws.proofs.SettledNodes.{placeless_groupless}
 use Rattle.wt_called_edit_laws.proofs.Styles.Lined.{own_calls}
-use Rattle.wt_called_edit_laws.proofs.Styles.Put.{IsPutSource, put_items, put_outer, put_source}
-use Rattle.wt_called_edit_laws.proofs.Styles.Shown.{calls_behind, folder_shown, past_as, shown_as, shown_styled}
+use Rattle.wt_called_edit_laws.proofs.Styles.Put.{put_items, put_outer, put_source}
+use Rattle.wt_called_edit_laws.proofs.Styles.Shown.{calls_behind, folder_shown, past_as, shown_as}
 use Rattle.wt_called_edit_laws.proofs.Styles.Things.{AreStyledThings, IsStyledThing}
 use Rattle.wt_called_edit_laws.proofs.Styles.Written.{IsStyledWritten, each_behind, flat_put, styled_gives, styled_in}
-use Rattle.wt_called_edit_laws.proofs.Whole.Contents.{IsNextCall, all_before, calls_both, guard_none, guard_shut, letter_none, letter_shut, moved_shut, own_shut, past_both, shut_both, thing_calls, thing_gives}
-use Rattle.wt_called_edit_laws.proofs.Whole.OfCall.{before_part}
-use Rattle.wt_called_edit_laws.proofs.Written.Held.{written_with}
+use Rattle.wt_called_edit_laws.proofs.Styles.Groups.{groups_styled}
+use Rattle.wt_called_edit_laws.proofs.Whole.Contents.{calls_both, guard_shut, letter_shut, moved_shut, own_shut, shut_both, thing_calls}
 use Rattle.wt_called_edit_laws.specs.CalledContents.{tree_round}
-use Rattle.wt_called_edit_laws.specs.PageThings.{shown_thing}
-use Rattle.wt_called_edit_laws.specs.WholeContents.{AreShutCalls, AreShutParts, HoldsWords, IsWholeIn, NoneOrWords, of_call}
+use Rattle.wt_called_edit_laws.specs.WholeContents.{AreGroups, AreShutCalls, AreShutParts, HoldsGroups, IsWholeIn}
 use Rattle.wt_called_edit_laws.specs.Written.{written_calls}
 use Rattle.wt_called_edit_laws.specs.WrittenAnew.{HoldsAnywhere}
 
@@ -86,10 +84,10 @@ mutual
   all_back (more t ts) h = (groupless_back t h.0, all_back ts h.1)
 
 -- it doesn't end in an open tag and is no group, and it holds none
-abbrev IsShutNode : Tree → Type 0
-IsShutNode t = (node_ends_open t ≡ false) × HasNoGroup t
+abbrev IsShutHere : Tree → Type 0
+IsShutHere t = (node_ends_open t ≡ false) × HasNoGroup t
 
-moved_shut_node : (n : ℕ) (before : List Item) (u : ItemTree) → IsOwn u → IsShutNode (standing 0 [] u) → IsShutNode (standing n before u)
+moved_shut_node : (n : ℕ) (before : List Item) (u : ItemTree) → IsOwn u → IsShutHere (standing 0 [] u) → IsShutHere (standing n before u)
 moved_shut_node n before u h s = (
   sym (open_same (standing n before u)) ∙ ap node_ends_open (same_node n before u h) ∙ open_same (standing 0 [] u) ∙ s.0,
   groupless_back (standing n before u) (subst HasNoGroup (sym (same_node n before u h)) (placeless_groupless (standing 0 [] u) s.1)),
@@ -101,16 +99,16 @@ abbrev AllShut : List Part → Type 0
 AllShut [] = Unit {0}
 AllShut (loose Text o b ∷ ps) = AllShut ps
 AllShut (loose Sep o b ∷ ps) = ⊥
-AllShut (node u ∷ ps) = ((n : ℕ) (before : List Item) → IsShutNode (standing n before u)) × AllShut ps
+AllShut (node u ∷ ps) = ((n : ℕ) (before : List Item) → IsShutHere (standing n before u)) × AllShut ps
 
 all_shut : (ps : List Part) → PartsHave ps → AreShutParts ps → AllShut ps
 all_shut [] h s = tt
 all_shut (loose Text o b ∷ ps) h s = all_shut ps h.1 s
 all_shut (loose Sep o b ∷ ps) h s = absurd s
 all_shut (node u ∷ ps) h s =
-    ((λ n before. moved_shut_node n before u (record { of_page = h.0.1; has_items = h.0.0 }) (s.0, s.1)), all_shut ps h.1 s.2)
+    ((λ n before. moved_shut_node n before u (record { of_page = h.0.1; has_items = h.0.0 }) (s.0 h.0.1)), all_shut ps h.1 s.1)
 
-leaf_shut : (xs : List Item) (n : ℕ) (before : List Item) → IsShutNode (standing n before (loose_leaf Text xs))
+leaf_shut : (xs : List Item) (n : ℕ) (before : List Item) → IsShutHere (standing n before (loose_leaf Text xs))
 unfolding label_at
 leaf_shut xs n before = (refl, (refl, tt))
 
@@ -123,7 +121,7 @@ past_run o b (node x ∷ r) others run h = absurd (let no = run.0 in cc)
 abbrev AreShutNodes : Trees → Type 0
 AreShutNodes ts = (any_ends_open ts ≡ false) × NoneIsGroup ts
 
-both_shut : (t : Tree) (ts : Trees) → IsShutNode t → AreShutNodes ts → AreShutNodes (more t ts)
+both_shut : (t : Tree) (ts : Trees) → IsShutHere t → AreShutNodes ts → AreShutNodes (more t ts)
 both_shut t ts h k = (ap (λ (b : Bool). b || any_ends_open ts) h.0 ∙ k.0, (h.1, k.1))
 
 runs_shut : (rs : List (List Part)) (ps : List Part) (n : ℕ) (before : List Item) → AreRuns one_leaf rs ps → AllShut ps
@@ -150,7 +148,7 @@ children_shut ps n before h = runs_shut (runs one_leaf ps) ps n before (runs_are
 
 -- ---- a style
 
-style_shut : (kind : Bool) (ps : List Part) → AllShut ps → IsShutNode (standing 0 [] (style_tree kind ps))
+style_shut : (kind : Bool) (ps : List Part) → AllShut ps → IsShutHere (standing 0 [] (style_tree kind ps))
 unfolding label_at
 style_shut true ps h = let r = children_shut ps 1 (marks true) h in (r.0, (refl, r.1))
 style_shut false ps h = let r = children_shut ps 1 (marks false) h in (r.0, (refl, r.1))
@@ -167,86 +165,47 @@ one_shut pages i x (inr p) f =
     (subst (λ (bs : List ℕ). AreShutParts (line_parts (node_items bs))) (sym (flat_put x p f)) nowiki_shut)
 
 styled_shut : (pages : Pages) (i : ℕ) (s : Setting) (within bold italic : Bool) (before : List ContentSign) (t : StyledContent) (after others : List ContentSign)
-    → AreStyledThings pages (signs_before t after) → AreNested bold italic t → AreOwnAt within (shown_styled pages t) (owns_in pages i (signs_before t after))
-    → AreShutParts (styled_with false s before (shown_styled pages t) others (owns_in pages i (signs_before t after)))
+    → AreStyledThings pages (signs_before t after) → AreNested bold italic t → AreOwnAt within t (owns_in pages i (signs_before t after))
+    → AreShutParts (styled_with false s before t others (owns_in pages i (signs_before t after)))
 styled_shut pages i s within bold italic before finished after others h k o = guard_shut (is_guarded s before others)
 styled_shut pages i s within bold italic before (sign (letter c) t) after others h k o =
-    let rest : List ContentSign = signs_before (shown_styled pages t) others in
+    let rest : List ContentSign = signs_before t others in
     let e : Bool = is_escaped s.within s.place before c rest in
     let owns : List (List Item) = owns_in pages i (signs_before t after) in
-    let more_parts : List Part = styled_with false s (letter c ∷ before) (shown_styled pages t) others owns in
+    let more_parts : List Part = styled_with false s (letter c ∷ before) t others owns in
     shut_both (parts Text (guard_items (is_guarded s before (letter c ∷ rest)))) (parts Text (letter_items e c) ++ more_parts) (guard_shut (is_guarded s before (letter c ∷ rest)))
     (shut_both (parts Text (letter_items e c)) more_parts (letter_shut e c (λ z. escapable s.within s.place before c rest z))
     (styled_shut pages i s within bold italic (letter c ∷ before) t after others h k.1 o))
 styled_shut pages i s within bold italic before (sign (thing x) t) after others h k o =
-    let y : ContentSign = thing (shown_thing pages x) in
-    let rest : List ContentSign = signs_before (shown_styled pages t) others in
+    let y : ContentSign = thing x in
+    let rest : List ContentSign = signs_before t others in
     let own : List Item = part_items pages i x.source in
     let next : ℕ = i + length (expanded_page pages x.source).outer in
-    let more_parts : List Part = styled_with false s (y ∷ before) (shown_styled pages t) others (owns_in pages next (signs_before t after)) in
+    let more_parts : List Part = styled_with false s (y ∷ before) t others (owns_in pages next (signs_before t after)) in
     shut_both (parts Text (guard_items (is_guarded s before (y ∷ rest)))) (line_parts own ++ more_parts) (guard_shut (is_guarded s before (y ∷ rest)))
     (shut_both (line_parts own) more_parts (one_shut pages i x h.0 k.0) (styled_shut pages next s within bold italic (y ∷ before) t after others h.1 k.1 o.1))
 styled_shut pages i s within bold italic before (styled kind opening closing inside t) after others h k o =
-    let shown_in : StyledContent = shown_styled pages inside in
-    let shown_out : StyledContent = shown_styled pages t in
     let closes : List ContentSign = delimiter kind closing ∷ signs_before t after in
-    let shown_closes : List ContentSign = delimiter kind closing ∷ signs_before shown_out others in
+    let shown_closes : List ContentSign = delimiter kind closing ∷ signs_before t others in
     let first : List ContentSign = delimiter kind opening ∷ before in
-    let last : List ContentSign = delimiter kind closing ∷ signs_past shown_in first in
+    let last : List ContentSign = delimiter kind closing ∷ signs_past inside first in
     let j : ℕ = i + length (expanded_page pages (mark_source kind)).outer in
     let m : ℕ = calls_behind pages j inside + length (expanded_page pages (mark_source kind)).outer in
     let owns : List (List Item) = owns_in pages j (signs_before inside closes) in
-    let ps : List Part = styled_with false s first shown_in shown_closes owns in
-    let left : List (List Item) = owns_left (owns_past shown_in owns) in
-    let same : owns_past shown_in owns ≡ owns_in pages (calls_behind pages j inside) closes = past_as pages j inside closes in
-    let qs : List Part = styled_with false s last shown_out others left in
+    let ps : List Part = styled_with false s first inside shown_closes owns in
+    let left : List (List Item) = owns_left (owns_past inside owns) in
+    let same : owns_past inside owns ≡ owns_in pages (calls_behind pages j inside) closes = past_as pages j inside closes in
+    let qs : List Part = styled_with false s last t others left in
     let held : AreShutParts ps = styled_shut pages j s true (kind || bold) (not kind || italic) first inside closes shown_closes h.1 k.1 o.0 in
-    let out : AreOwnAt within shown_out (owns_in pages m (signs_before t after)) =
-    subst (λ (os : List (List Item)). AreOwnAt within shown_out (owns_left os)) same o.1 in
+    let out : AreOwnAt within t (owns_in pages m (signs_before t after)) =
+    subst (λ (os : List (List Item)). AreOwnAt within t (owns_left os)) same o.1 in
     let later : AreShutParts qs =
-    subst (λ (os : List (List Item)). AreShutParts (styled_with false s last shown_out others (owns_left os))) (sym same)
+    subst (λ (os : List (List Item)). AreShutParts (styled_with false s last t others (owns_left os))) (sym same)
     (styled_shut pages m s within bold italic last t after others (each_behind pages inside closes h.1).1 k.2 out) in
     let u : ItemTree = style_tree kind ps in
-    let own = style_shut kind ps (all_shut ps (within_have s first shown_in shown_closes owns o.0) held) in
-    shut_both (parts Text (guard_items (is_guarded s before (delimiter kind opening ∷ signs_before shown_in shown_closes)))) (node u ∷ qs)
-    (guard_shut (is_guarded s before (delimiter kind opening ∷ signs_before shown_in shown_closes))) (own.0, own.1, later)
-
--- ---- what each call gives
-
-put_none : (pages : Pages) (i j : ℕ) (bs : List ℕ) → IsPutSource bs → of_call j (part_items pages i bs) ≡ []
-put_none pages i j bs p =
-    let later : j < suc j = omega arith in
-    ap (of_call j) (put_items pages i bs p ∙ sym (put_items pages (suc j) bs p)) ∙ before_part pages j (suc j) bs later
-
-thing_next : (pages : Pages) (i j : ℕ) (x : Thing) → IsStyledThing pages x → (of_call j (part_items pages i x.source) ≡ []) ⊎ IsNextCall pages i j x.source
-thing_next pages i j x (inl k) = let own = k.0 in thing_gives pages i j x own.folder
-thing_next pages i j x (inr p) = inl (put_none pages i j x.source (put_source x p))
-
-words_so : (pages : Pages) (i j : ℕ) (s : Setting) (before signs : List ContentSign) → AreStyledThings pages signs
-    → NoneOrWords (of_call j (items_with s before signs (owns_in pages i signs)))
-words_so pages i j s before [] h = inl (guard_none j (is_guarded s before []))
-words_so pages i j s before (letter c ∷ after) h =
-    let e : Bool = is_escaped s.within s.place before c after in
-    let u : Bool = is_guarded s before (letter c ∷ after) in
-    let rest : List Item = items_with s (letter c ∷ before) after (owns_in pages i after) in
-    subst NoneOrWords
-    (sym (past_both j (guard_items u) (letter_items e c) rest (guard_none j u) ∙ ap (λ (us : List Item). us ++ of_call j rest) (letter_none j e c)))
-    (words_so pages i j s (letter c ∷ before) after h)
-words_so pages i j s before (thing x ∷ after) h =
-    let u : Bool = is_guarded s before (thing x ∷ after) in
-    let own : List Item = part_items pages i x.source in
-    let next : ℕ = i + length (expanded_page pages x.source).outer in
-    let rest : List Item = items_with s (thing x ∷ before) after (owns_in pages next after) in
-    let both : of_call j (guard_items u ++ (own ++ rest)) ≡ of_call j own ++ of_call j rest = past_both j (guard_items u) own rest (guard_none j u) in
-    let later : NoneOrWords (of_call j rest) = words_so pages next j s (thing x ∷ before) after h.1 in
-    elim (thing_next pages i j x h.0) [
-      | inl k ↦ subst NoneOrWords (sym (both ∙ ap (λ (us : List Item). us ++ of_call j rest) k)) later
-      | inr k ↦
-          let none_later : of_call j rest ≡ [] = all_before pages next j s (thing x ∷ before) after k.less in
-          let is : of_call j (guard_items u ++ (own ++ rest)) ≡ of_call j own =
-          both ∙ ap (λ (us : List Item). of_call j own ++ us) none_later ∙ append-nil (of_call j own) in
-          inr (k.shown, subst (AreWords k.shown) (sym is) k.words)
-    ]
+    let own = style_shut kind ps (all_shut ps (within_have s first inside shown_closes owns o.0) held) in
+    shut_both (parts Text (guard_items (is_guarded s before (delimiter kind opening ∷ signs_before inside shown_closes)))) (node u ∷ qs)
+    (guard_shut (is_guarded s before (delimiter kind opening ∷ signs_before inside shown_closes))) ((λ e. own), later)
 
 -- ---- the calls of a node
 
@@ -261,19 +220,21 @@ shut_things pages (thing x ∷ after) h = calls_both (expanded_page pages x.sour
 
 -- ---- the content
 
-styled_words : (pages : Pages) (s : Setting) (t : StyledContent) → IsStyledWritten pages s t → HoldsWords pages a_paragraph (spelled s (signs_in t))
-styled_words pages s t h =
+styled_groups : (pages : Pages) (s : Setting) (t : StyledContent) → IsStyledWritten pages s t → HoldsGroups pages a_paragraph (spelled s (signs_in t))
+styled_groups pages s t h =
     let signs : List ContentSign = signs_in t in
-    let shown : StyledContent = shown_styled pages t in
     let b = own_calls pages s t h in
-    let given : (i : ℕ) → joined_parts (lines (part_items pages i (spelled s signs))) ≡ styled_with false s [] shown [] (owns_in pages i signs) =
-    λ i.
-    ap (λ (xs : List Item). joined_parts (lines xs)) (styled_gives pages i s t h) ∙ styled_called_parts s shown (owns_in pages i signs) (styled_in pages i s t h) in
+    let given : (i : ℕ) → joined_parts (lines (part_items pages i (spelled s signs))) ≡ styled_with false s [] t [] (owns_in pages i signs) =
+    λ i. ap (λ (xs : List Item). joined_parts (lines xs)) (styled_gives pages i s t h) ∙ styled_called_parts s t (owns_in pages i signs) (styled_in pages i s t h) in
     record {
-      texts = λ i.
+      parts = λ i.
           let own = styled_in pages i s t h in
-          subst AreOwnOrTexts (sym (given i)) (styled_own s [] shown [] (owns_in pages i signs) own.own);
-      words = λ i j. subst (λ (xs : List Item). NoneOrWords (of_call j xs)) (sym (b.items_are i ∙ written_with pages s i [] signs)) (words_so pages i j s [] signs h.each);
+          subst AreOwnOrGiven (sym (given i)) (styled_own s [] t [] (owns_in pages i signs) own.own);
+      groups = λ i.
+          let own = styled_in pages i s t h in
+          subst (λ (ps : List Part). AreGroups (part_items pages i (spelled s signs)) (call_pieces (children ps))) (sym (given i))
+          (subst (λ (xs : List Item). AreGroups xs (call_pieces (children (styled_with false s [] t [] (owns_in pages i signs))))) (sym (styled_gives pages i s t h))
+          (groups_styled pages (items_with s [] signs (owns_in pages i signs)) i s [] t h.each h.nested own.own (λ j l. refl)));
       shut = λ i.
           let own = styled_in pages i s t h in
           subst AreShutParts (sym (given i)) (styled_shut pages i s false false false [] t [] [] h.each h.nested own.own);
@@ -281,19 +242,19 @@ styled_words pages s t h =
     }
 
 pub styled_whole : (pages : Pages) (s : Setting) (t : StyledContent) → IsStyledWritten pages s t → IsWholeIn pages a_paragraph (spelled s (signs_in t))
-styled_whole pages s t h = inr (styled_words pages s t h)
+styled_whole pages s t h = inr (styled_groups pages s t h)
 
 -- ---- and holds its calls, and shows what was sent
 
 pub styled_anywhere : (pages : Pages) (s : Setting) (t : StyledContent) → IsStyledWritten pages s t → HoldsAnywhere pages a_paragraph (spelled s (signs_in t))
 styled_anywhere pages s t h = λ i.
     subst (λ (xs : List Item). HoldsItsCalls (para_with (joined_parts (lines xs)))) (sym (styled_gives pages i s t h))
-    (styled_called_holds s (shown_styled pages t) (owns_in pages i (signs_in t)) (styled_in pages i s t h))
+    (styled_called_holds s t (owns_in pages i (signs_in t)) (styled_in pages i s t h))
 
 pub styled_shows : (pages : Pages) (calls : List OuterCall) (i : ℕ) (s : Setting) (t : StyledContent) (rest : Plains) → IsStyledWritten pages s t
     → plain_before (cut_texts (block_in calls (tree_round a_paragraph (part_items pages i (spelled s (signs_in t)))))) rest
     ≡ along (element paragraph_face (folder_shown pages i t ended)) rest
 styled_shows pages calls i s t rest h =
     ap (λ (xs : List Item). plain_before (cut_texts (block_in calls (para_with (joined_parts (lines xs))))) rest) (styled_gives pages i s t h)
-    ∙ styled_called_shows calls s (shown_styled pages t) (owns_in pages i (signs_in t)) rest (styled_in pages i s t h)
+    ∙ styled_called_shows calls s t (owns_in pages i (signs_in t)) rest (styled_in pages i s t h)
     ∙ ap (λ (qs : Plains). along (element paragraph_face qs) rest) (shown_as pages i t [] ended)

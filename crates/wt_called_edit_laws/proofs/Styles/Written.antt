@@ -1,9 +1,9 @@
 -- What is written beside calls and styles, sign by sign, and what it is by what its calls give.
-use Rattle.std.proofs.Common.{◌≡◌, ◌⊎◌, inl, inr, ℕ, ◌+◌, Bool, true, false, not, List, [], ◌∷◌, length, ap, ap₂, refl, subst, sym, ◌||◌, ◌∙◌}
+use Rattle.std.proofs.Common.{◌≡◌, ◌⊎◌, inl, inr, ℕ, ◌+◌, Bool, true, false, not, List, [], ◌∷◌, length, ap, refl, subst, sym, ◌||◌, ◌∙◌}
 use Rattle.std.specs.Str.{IsUtf8}
 use Rattle.wt_span.specs.Items.{Item}
 use Rattle.wt_guards.specs.Content.{ContentSign, Thing, is_group as is_call, letter, thing}
-use Rattle.wt_guards.specs.Guards.{Setting, has_brace_last, nowiki, spelled}
+use Rattle.wt_guards.specs.Guards.{Setting, nowiki, spelled}
 use Rattle.wt_guards.specs.declared.role.Role.{Role}
 use Rattle.wt_guards.specs.declared.role.Role.TheVariants.{Bare, External, Function, Group, Link, Mark, Node, Switch, Toggle}
 use Rattle.wt_inline.specs.Parts.{parts}
@@ -11,30 +11,27 @@ use Rattle.wt_inline.specs.declared.loose.Loose.TheVariants.{Text}
 use Rattle.wt_context.specs.Line.{line_parts}
 use Rattle.wt_expand.specs.PageCalls.{expanded_page}
 use Rattle.wt_expand.specs.Work.{Pages}
-use Rattle.wt_part_laws.specs.CallTexts.{AreOwnOrTexts}
+use Rattle.wt_part_laws.specs.CallPieces.{AreOwnOrGiven}
 use Rattle.wt_part_laws.specs.Expanded.{part_items}
-use Rattle.wt_beside_laws.proofs.Groups.Bare.{bare, items_same}
-use Rattle.wt_beside_laws.proofs.Groups.Folders.{brace_same, characters_shown, given_in, inside_in, with_brace}
+use Rattle.wt_beside_laws.proofs.Groups.Folders.{given_as, inside_in}
 use Rattle.wt_beside_laws.proofs.Made.Items.{PartsHave, guard_has}
 use Rattle.wt_beside_laws.proofs.Styled.SentStyles.{nowiki_alone}
 use Rattle.wt_beside_laws.proofs.Styled.StyledNodes.{nowiki_items}
-use Rattle.wt_beside_laws.specs.Called.{AreGiven, IsGivenAs, IsOfFolder, IsOwnNode, items_with, owns_in, shown_signs, shown_source}
+use Rattle.wt_beside_laws.specs.Called.{AllMeetWith, AreGiven, IsGivenAs, IsOfFolder, IsOwnNode, items_with, owns_in}
 use Rattle.wt_beside_laws.specs.Content.{guard_items}
 use Rattle.wt_beside_laws.specs.Flat.{IsFlat}
 use Rattle.wt_beside_laws.specs.FlatBlocks.{AreSealed, IsSealed}
 use Rattle.wt_beside_laws.specs.Lines.{AreCharacters}
 use Rattle.wt_beside_laws.specs.NodeItems.{node_items}
-use Rattle.wt_beside_laws.specs.Nodes.{AllMeet}
 use Rattle.wt_beside_laws.specs.Styled.{AreNested, StyledContent, delimiter, finished, mark_source, sign, signs_before, signs_in, styled}
 use Rattle.wt_beside_laws.specs.StyledCalls.{AreOwnAt, AreSomeOfPage, IsOwnAt, IsStyledCalled, has_uncalled, owns_left}
 use Rattle.wt_beside_laws.specs.StyledNodes.{IsPut}
 use Rattle.wt_called_edit_laws.proofs.Styles.Free.{NoCallWithin}
-use Rattle.wt_called_edit_laws.proofs.Styles.Put.{put_items, put_own, put_part, put_read, put_sealed, put_shown, put_source, put_utf8}
-use Rattle.wt_called_edit_laws.proofs.Styles.Shown.{calls_behind, past_as, shown_styled}
+use Rattle.wt_called_edit_laws.proofs.Styles.Put.{put_items, put_own, put_part, put_read, put_sealed, put_source, put_utf8}
+use Rattle.wt_called_edit_laws.proofs.Styles.Shown.{calls_behind, past_as}
 use Rattle.wt_called_edit_laws.proofs.Styles.Things.{AreStyledThings, IsStyledThing}
 use Rattle.wt_called_edit_laws.proofs.Written.Held.{written_with}
 use Rattle.wt_called_edit_laws.proofs.Written.Signs.{content_written}
-use Rattle.wt_called_edit_laws.specs.PageThings.{shown_thing}
 use Rattle.wt_called_edit_laws.specs.Written.{AreOwnParts, AreReadThings, IsOwnPart, IsReadThing}
 use Rattle.wt_called_edit_laws.specs.WrittenAnew.{AreUtf8, node_sources}
 
@@ -46,7 +43,7 @@ pub record IsStyledWritten (pages : Pages) (s : Setting) (t : StyledContent) : T
   pub each : AreStyledThings pages (signs_in t)
   pub nested : AreNested false false t
   pub free : NoCallWithin false t
-  pub meet : AllMeet s [] (shown_signs pages (signs_in t)) []
+  pub meet : (i : ℕ) → AllMeetWith s [] [] (signs_in t) (owns_in pages i (signs_in t))
   pub some : has_uncalled t ≡ true
 
 -- ---- what holds of each
@@ -103,54 +100,27 @@ role_given t u own p h = elim p [
   | inr w ↦ subst (λ (r : Role). IsGivenAs r u own) (sym w.0) h
 ]
 
-put_given : (pages : Pages) (i : ℕ) (x : Thing) → IsPut x → IsGivenAs x.role (shown_thing pages x) (part_items pages i x.source)
+put_given : (pages : Pages) (i : ℕ) (x : Thing) → IsPut x → IsGivenAs x.role x (part_items pages i x.source)
 put_given pages i x p =
-    subst (λ (xs : List Item). IsGivenAs x.role (shown_thing pages x) xs) (sym (put_items pages i x.source (put_source x p)))
-    (subst (λ (u : Thing). IsGivenAs x.role u (node_items x.source)) (sym (put_shown pages x p)) (role_given x x (node_items x.source) p (put_own x p)))
+    subst (λ (xs : List Item). IsGivenAs x.role x xs) (sym (put_items pages i x.source (put_source x p))) (role_given x x (node_items x.source) p (put_own x p))
 
-pub all_given : (pages : Pages) (i : ℕ) (signs : List ContentSign) → AreStyledThings pages signs → AreGiven (shown_signs pages signs) (owns_in pages i signs)
+pub all_given : (pages : Pages) (i : ℕ) (signs : List ContentSign) → AreStyledThings pages signs → AreGiven signs (owns_in pages i signs)
 all_given pages i [] h = tt
 all_given pages i (letter c ∷ after) h = all_given pages i after h
 all_given pages i (thing x ∷ after) h = (one_given h.0, all_given pages (i + length (expanded_page pages x.source).outer) after h.1)
   where
-    one_given : IsStyledThing pages x → IsGivenAs x.role (shown_thing pages x) (part_items pages i x.source)
-    one_given (inl k) = let own = k.0 in given_in pages i x own.folder
+    one_given : IsStyledThing pages x → IsGivenAs x.role x (part_items pages i x.source)
+    one_given (inl k) = let own = k.0 in given_as x.role pages i x own.folder
     one_given (inr p) = put_given pages i x p
-
-brace_so : (pages : Pages) (x : Thing) → IsStyledThing pages x → has_brace_last (shown_source x.role pages x.source) ≡ has_brace_last x.source
-brace_so pages x (inl k) = let own = k.0 in brace_same pages x own.folder
-brace_so pages x (inr p) = ap (λ (u : Thing). has_brace_last u.source) (put_shown pages x p)
-
-bare_so : (pages : Pages) (signs : List ContentSign) → AreStyledThings pages signs → bare (shown_signs pages signs) ≡ bare signs
-bare_so pages [] h = refl
-bare_so pages (letter c ∷ after) h = ap (λ xs. letter c ∷ xs) (bare_so pages after h)
-bare_so pages (thing x ∷ after) h =
-    ap₂ (λ (v : Bool) (xs : List ContentSign). thing (with_brace x v) ∷ xs) (brace_so pages x h.0) (bare_so pages after h.1)
-
--- the same signs, as they show
-pub shown_before_so : (pages : Pages) (t : StyledContent) (after : List ContentSign)
-    → shown_signs pages (signs_before t after) ≡ signs_before (shown_styled pages t) (shown_signs pages after)
-shown_before_so pages finished after = refl
-shown_before_so pages (sign (letter c) t) after = ap (λ xs. letter c ∷ xs) (shown_before_so pages t after)
-shown_before_so pages (sign (thing x) t) after = ap (λ xs. thing (shown_thing pages x) ∷ xs) (shown_before_so pages t after)
-shown_before_so pages (styled kind opening closing inside t) after =
-    ap (λ xs. delimiter kind opening ∷ xs)
-    (shown_before_so pages inside (delimiter kind closing ∷ signs_before t after)
-    ∙ ap (λ xs. signs_before (shown_styled pages inside) (delimiter kind closing ∷ xs)) (shown_before_so pages t after))
-
-pub shown_is : (pages : Pages) (t : StyledContent) → shown_signs pages (signs_in t) ≡ signs_in (shown_styled pages t)
-shown_is pages t = shown_before_so pages t []
 
 -- ---- its items
 
 pub styled_gives : (pages : Pages) (i : ℕ) (s : Setting) (t : StyledContent) → IsStyledWritten pages s t
-    → part_items pages i (spelled s (signs_in t)) ≡ items_with s [] (signs_in (shown_styled pages t)) (owns_in pages i (signs_in t))
+    → part_items pages i (spelled s (signs_in t)) ≡ items_with s [] (signs_in t) (owns_in pages i (signs_in t))
 styled_gives pages i s t h =
     let signs : List ContentSign = signs_in t in
     let w = content_written pages s signs h.of_block (all_read pages signs h.each) (all_parts pages signs h.each) in
     w.items_are i ∙ written_with pages s i [] signs
-    ∙ items_same s signs (shown_signs pages signs) (owns_in pages i signs) (sym (bare_so pages signs h.each))
-    ∙ ap (λ xs. items_with s [] xs (owns_in pages i signs)) (shown_is pages t)
 
 -- ---- of the page, or a call's
 
@@ -178,7 +148,7 @@ stays_items (Group g) pages i x h e = absurd (cc)
 stays_items Function pages i x h e = h.items i
 stays_items Node pages i x h e = h.items i
 
-own_some : (pages : Pages) (i : ℕ) (x : Thing) → IsStyledThing pages x → IsFlat x.role → is_call x.role ≡ false → AreSomeOfPage (line_parts (part_items pages i x.source))
+pub own_some : (pages : Pages) (i : ℕ) (x : Thing) → IsStyledThing pages x → IsFlat x.role → is_call x.role ≡ false → AreSomeOfPage (line_parts (part_items pages i x.source))
 own_some pages i x (inl k) f e =
     let own = k.0 in
     let mine = k.1 in
@@ -187,11 +157,11 @@ own_some pages i x (inr p) f e =
     subst (λ (xs : List Item). AreSomeOfPage (line_parts xs)) (sym (put_items pages i x.source (put_source x p)))
     (subst (λ (bs : List ℕ). AreSomeOfPage (line_parts (node_items bs))) (sym (flat_put x p f)) nowiki_some)
 
-call_or_not : (b : Bool) → (b ≡ true) ⊎ (b ≡ false)
+pub call_or_not : (b : Bool) → (b ≡ true) ⊎ (b ≡ false)
 call_or_not true = inl refl
 call_or_not false = inr refl
 
-own_call : (pages : Pages) (i : ℕ) (x : Thing) → IsStyledThing pages x → is_call x.role ≡ true → AreOwnOrTexts (line_parts (part_items pages i x.source))
+own_call : (pages : Pages) (i : ℕ) (x : Thing) → IsStyledThing pages x → is_call x.role ≡ true → AreOwnOrGiven (line_parts (part_items pages i x.source))
 own_call pages i x (inl k) e = let own = k.0 in inside_in pages i x own.folder
 own_call pages i x (inr p) e = absurd (no_call p)
   where
@@ -200,7 +170,7 @@ own_call pages i x (inr p) e = absurd (no_call p)
     no_call (inr w) = let no : false ≡ true = sym (ap is_call w.0) ∙ e in cc
 
 one_own : (pages : Pages) (i : ℕ) (within : Bool) (x : Thing) → IsStyledThing pages x → IsFlat x.role → (within ≡ true → is_call x.role ≡ false)
-    → IsOwnAt within (shown_thing pages x) (part_items pages i x.source)
+    → IsOwnAt within x (part_items pages i x.source)
 one_own pages i true x h f g = own_some pages i x h f (g refl)
 one_own pages i false x h f g = elim (call_or_not (is_call x.role)) [
   | inl e ↦ inl (e, own_call pages i x h e)
@@ -208,7 +178,7 @@ one_own pages i false x h f g = elim (call_or_not (is_call x.role)) [
 ]
 
 own_at : (pages : Pages) (i : ℕ) (within bold italic : Bool) (t : StyledContent) (after : List ContentSign) → AreStyledThings pages (signs_before t after)
-    → AreNested bold italic t → NoCallWithin within t → AreOwnAt within (shown_styled pages t) (owns_in pages i (signs_before t after))
+    → AreNested bold italic t → NoCallWithin within t → AreOwnAt within t (owns_in pages i (signs_before t after))
 own_at pages i within bold italic finished after h k f = tt
 own_at pages i within bold italic (sign (letter c) t) after h k f = own_at pages i within bold italic t after h k.1 f
 own_at pages i within bold italic (sign (thing x) t) after h k f =
@@ -219,40 +189,19 @@ own_at pages i within bold italic (styled kind opening closing inside t) after h
     let j : ℕ = i + length (expanded_page pages (mark_source kind)).outer in
     let m : ℕ = calls_behind pages j inside + length (expanded_page pages (mark_source kind)).outer in (
       own_at pages j true (kind || bold) (not kind || italic) inside closes h.1 k.1 f.0,
-      subst (λ (os : List (List Item)). AreOwnAt within (shown_styled pages t) (owns_left os)) (sym (past_as pages j inside closes))
+      subst (λ (os : List (List Item)). AreOwnAt within t (owns_left os)) (sym (past_as pages j inside closes))
           (own_at pages m within bold italic t after (each_behind pages inside closes h.1).1 k.2 f.1),
     )
 
 -- ---- so it is such a content
 
-nested_shown : (pages : Pages) (bold italic : Bool) (t : StyledContent) → AreNested bold italic t → AreNested bold italic (shown_styled pages t)
-nested_shown pages bold italic finished k = tt
-nested_shown pages bold italic (sign (letter c) t) k = (k.0, nested_shown pages bold italic t k.1)
-nested_shown pages bold italic (sign (thing x) t) k = (k.0, nested_shown pages bold italic t k.1)
-nested_shown pages bold italic (styled kind opening closing inside t) k =
-    (k.0, nested_shown pages (kind || bold) (not kind || italic) inside k.1, nested_shown pages bold italic t k.2)
-
-some_shown : (pages : Pages) (t : StyledContent) → has_uncalled (shown_styled pages t) ≡ has_uncalled t
-some_shown pages finished = refl
-some_shown pages (sign (letter c) t) = refl
-some_shown pages (sign (thing x) t) = ap (λ (b : Bool). not (is_call x.role) || b) (some_shown pages t)
-some_shown pages (styled kind opening closing inside t) = refl
-
-pub given_all : (pages : Pages) (i : ℕ) (s : Setting) (t : StyledContent) → IsStyledWritten pages s t
-    → AreGiven (signs_in (shown_styled pages t)) (owns_in pages i (signs_in t))
-given_all pages i s t h = subst (λ xs. AreGiven xs (owns_in pages i (signs_in t))) (shown_is pages t) (all_given pages i (signs_in t) h.each)
-
-pub shown_characters : (pages : Pages) (s : Setting) (t : StyledContent) → IsStyledWritten pages s t → AreCharacters (signs_in (shown_styled pages t))
-shown_characters pages s t h = subst AreCharacters (shown_is pages t) (characters_shown pages (signs_in t) h.characters)
-
-pub styled_in : (pages : Pages) (i : ℕ) (s : Setting) (t : StyledContent) → IsStyledWritten pages s t
-    → IsStyledCalled s (shown_styled pages t) (owns_in pages i (signs_in t))
+pub styled_in : (pages : Pages) (i : ℕ) (s : Setting) (t : StyledContent) → IsStyledWritten pages s t → IsStyledCalled s t (owns_in pages i (signs_in t))
 styled_in pages i s t h = record {
   of_block = h.of_block;
-  characters = shown_characters pages s t h;
-  given = given_all pages i s t h;
+  characters = h.characters;
+  given = all_given pages i (signs_in t) h.each;
   own = own_at pages i false false false t [] h.each h.nested h.free;
-  nested = nested_shown pages false false t h.nested;
-  meet = subst (λ xs. AllMeet s [] xs []) (shown_is pages t) h.meet;
-  some = some_shown pages t ∙ h.some;
+  nested = h.nested;
+  meet = h.meet i;
+  some = h.some;
 }
