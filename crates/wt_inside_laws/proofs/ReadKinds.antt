@@ -1,5 +1,5 @@
 -- Which kinds elements are read as: neither texts nor groups; and what shows nothing is an element without an end tag.
-use Rattle.std.proofs.Common.{arith, ◌≡◌, ℕ, Bool, true, false, Option, Some, None, List, [], ◌∷◌, ◌++◌, drop, length, refl, sym, ap, ◌∙◌, codes}
+use Rattle.std.proofs.Common.{arith, ◌≡◌, ℕ, Bool, true, false, Option, Some, List, [], ◌∷◌, ◌++◌, drop, length, refl, ap, ◌∙◌, codes}
 use Rattle.std.specs.Prelude.{◌&&◌, find, nat_eq, if◌then◌else◌, IfSome}
 use Rattle.std.specs.Bool.{Decides}
 use Rattle.std.specs.List.{starts_with}

@@ -5,7 +5,7 @@ use Rattle.std.specs.Str.{IsUtf8}
 use Rattle.std.proofs.lemmas.Str.{IsUtf8-append, IsUtf8-nil, IsUtf8-encode}
 use Rattle.wt_html_grammar.specs.declared.names.EscapeName.{EscapeName}
 use Rattle.wt_html_grammar.specs.declared.names.EscapeName.TheVariants.{Amp, Lt, Gt, Quot, Apos, Nbsp}
-use Rattle.wt_html_grammar.specs.Signs.{in_text, is_void, character_of}
+use Rattle.wt_html_grammar.specs.Signs.{in_text, is_void}
 use Rattle.wt_html_grammar.specs.Grammar.{Piece, plain, named, number, IsPiece, Element, Items, element, void, none, sign, child, IsElement, AreItems}
 use Rattle.wt_html_grammar.specs.Markup.{Markup, Markups, text, node, empty, more, unit_of, flush, meaning, contents, Stands}
 use Rattle.wt_schema.specs.Sections.{is_section_name, is_mark_pair, bared, all_bared}

@@ -14,32 +14,31 @@ use Rattle.wt_tree.specs.declared.row.Texts.TheVariants.{Separators, Page, Borde
 use Rattle.wt_tree.specs.declared.row.Values.TheVariants as value
 use Rattle.wt_tree.specs.Kinds.{own, order, spelling, attribute_name, fixed_attributes, showing, writing, is_section, texts_of_kind}
 use Rattle.wt_tree.specs.Leaves.{text_leaf, sep_leaf}
-use Rattle.wt_tree.specs.Opened.{opened_before, all_opened_before, opened, without_sections}
+use Rattle.wt_tree.specs.Opened.{opened_before, all_opened_before}
 use Rattle.wt_tree.specs.Tiling.{is_group}
 use Rattle.wt_tree.specs.Tree.{Label, Tree, tree, Trees, none, more, label}
 use Rattle.wt_datamw.specs.declared.refusal.DataWhy.{DataWhy}
 use Rattle.wt_datamw.specs.declared.sync.Sync.{Sync}
 use Rattle.wt_datamw.specs.MwRead.{mw_told}
 use Rattle.wt_html_grammar.specs.Markup.{Pair, Markup, Markups, text, node, empty, more as more_markup}
-use Rattle.wt_html_grammar.specs.Signs.{is_void}
 use Rattle.wt_schema.specs.declared.why.FitWhy.TheVariants as why
 use Rattle.wt_schema.specs.declared.standing.Standing.{Standing}
 use Rattle.wt_schema.specs.declared.standing.Standing.TheVariants as stands
-use Rattle.wt_schema.specs.Attributes.{value_of, has, is_typed}
-use Rattle.wt_schema.specs.Data.{Data, no_data, both, sync_fits, mw_for, mw_fits, mw_given, no_data_if_good, inner_data, has_own, data_of, data_for, is_tag_of, is_extension_of, id_for}
-use Rattle.wt_schema.specs.Fit.{Misfit, leaf_in, with_sync, label_for, group_label, label_as, piece_as, elements, elements_of_all, texts_in, onto, onto_told, held_as, children_in, with_children, one_piece, text_fits, Position, within, row_as, behind_it, fits_place, is_inside, fit_told, fit_as, fit_row, fit_text, fit_node, fit_nodes, is_marked_root, elements_in, body_in, body_of, fit_body_told, body_data, fit_body, fit}
-use Rattle.wt_schema.specs.Groups.{standing, is_dropped, own_pairs, pairs_for, Piece, single, begun, further, furthers, gathered}
+use Rattle.wt_schema.specs.Attributes.{value_of, has}
+use Rattle.wt_schema.specs.Data.{Data, no_data, both, sync_fits, mw_for, mw_fits, mw_given, no_data_if_good, inner_data, has_own, data_of, data_for, is_tag_of, is_extension_of}
+use Rattle.wt_schema.specs.Fit.{Misfit, leaf_in, label_for, label_as, piece_as, elements, elements_of_all, texts_in, onto, onto_told, held_as, children_in, with_children, one_piece, text_fits, Position, within, row_as, behind_it, fits_place, is_inside, fit_told, fit_as, fit_row, fit_text, fit_node, fit_nodes, is_marked_root, elements_in, body_in, fit_body_told, body_data, fit_body, fit}
+use Rattle.wt_schema.specs.Groups.{standing, is_dropped, pairs_for, Piece, single, begun, further, furthers, gathered}
 use Rattle.wt_schema.specs.Read.{page, read, IsRead}
-use Rattle.wt_schema.specs.Rows.{row, holds_page_text, holds_text, shows_text, own_told, attrs_for}
+use Rattle.wt_schema.specs.Rows.{holds_page_text, holds_text, shows_text, own_told, attrs_for}
 use Rattle.wt_schema.specs.Sections.{all_bared, opened_if_fit}
 use Rattle.wt_schema.specs.Written.{value_at, is_extension_label}
 use Rattle.wt_schema.proofs.OneReading.{reads}
 use Rattle.wt_checks.specs.Tokens.{is_text}
 use Rattle.wt_checks.specs.Unmarked.{is_compared}
 use Rattle.wt_link_spelling.specs.Spelling.{children_of}
-use Rattle.wt_inside_laws.proofs.ReadKinds.{is_element, IsReadAs, no_text, no_group, read_as}
+use Rattle.wt_inside_laws.proofs.ReadKinds.{IsReadAs, no_text, read_as}
 use Rattle.wt_inside_laws.proofs.ReadMarkup.{IsGood, AreGood, stands_good, all_bared_good, elements_good}
-use Rattle.wt_inside_laws.proofs.ReadRecuts.{IsReadLeaf, TextLeaf, AreTexts, IsReadNode, ReadTree, AllReadTrees, text_read, sep_read, recut_read}
+use Rattle.wt_inside_laws.proofs.ReadRecuts.{TextLeaf, AreTexts, IsReadNode, ReadTree, AllReadTrees, text_read, sep_read, recut_read}
 
 not_both : {A : Type 0} (b : Bool) → b ≡ true → b ≡ false → A
 not_both b e f = absurd (cc)
@@ -156,7 +155,7 @@ furthers_read j (further t ∷ xs) h = (h.0, furthers_read j xs h.1)
 
 group_node : (l : Label) (ts : Trees) → l.kind ≡ kind.Group → IsReadNode l ts
 group_node l ts e = record {
-  hidden = λ c. not_both true refl (sym c ∙ ap (λ (k : Kind). is_compared (showing k)) e);
+  hidden = λ c. not_both (is_compared (showing l.kind)) (ap (λ (k : Kind). is_compared (showing k)) e) c;
   text = λ c. not_both (is_text (writing l.kind)) c (ap (λ (k : Kind). is_text (writing k)) e);
   unnumbered = λ c. not_both (is_text (writing l.kind)) c (ap (λ (k : Kind). is_text (writing k)) e);
   texts = λ g p. not_both (is_group l.kind) (ap is_group e) g;
@@ -215,6 +214,10 @@ FitRead j r = IfOk r (λ o. IfSome o (PieceRead j))
 abbrev AllFitRead : Kind → Result (List Piece) Misfit → Type 0
 AllFitRead j r = IfOk r (PiecesRead j)
 
+abbrev held_list : Result (List Piece) Misfit → List Piece
+held_list (Ok xs) = xs
+held_list (Err e) = []
+
 one_read : (j : Kind) (x inside : Bool) (name : List ℕ) (s : Standing) (k : Kind) (ps : List Pair) (d : Data) (shown : List ℕ) (held : Result (List Piece) Misfit)
     → IsReadAs name k → data_for x s k ps ≡ Some d → (is_compared (showing k) ≡ false → held ≡ Ok []) → AllFitRead k held
     → FitRead j (one_piece s ps d (with_children inside k (label_as s k ps d shown) held))
@@ -225,7 +228,7 @@ one_read j x inside name s k ps d shown (Ok xs) r a n h =
     let no : is_text (writing l.kind) ≡ false = ap (λ (q : Kind). is_text (writing q)) is ∙ no_text k r.element in
     piece_read j s ps d (tree l (children_in inside k xs)) (
       record {
-        hidden = λ c. let z : xs ≡ [] = nothing_held xs (n (sym (ap (λ (q : Kind). is_compared (showing q)) is) ∙ c)) in children_none inside k xs z;
+        hidden = λ c. let z : xs ≡ [] = ap held_list (n (sym (ap (λ (q : Kind). is_compared (showing q)) is) ∙ c)) in children_none inside k xs z;
         text = λ c. not_both (is_text (writing l.kind)) c no;
         unnumbered = λ c. not_both (is_text (writing l.kind)) c no;
         texts = λ g p. children_texts inside k xs (sym (ap texts_of_kind is) ∙ p) h;
@@ -233,9 +236,6 @@ one_read j x inside name s k ps d shown (Ok xs) r a n h =
       },
       children_read inside k xs h,
     ) no
-  where
-    nothing_held : (ys : List Piece) → Ok ys ≡ Ok [] → ys ≡ []
-    nothing_held ys e = cc
 
 told_read : (j : Kind) (x inside : Bool) (name : List ℕ) (n : ℕ) (s : Standing) (k : Kind) (ps : List Pair) (o : Option Data) (c : Markups)
     (held : Result (List Piece) Misfit) → IsReadAs name k → data_for x s k ps ≡ o → (is_compared (showing k) ≡ false → held ≡ Ok []) → AllFitRead k held

@@ -5,8 +5,7 @@ use Rattle.std.specs.Str.{IsUtf8}
 use Rattle.wt_tree.specs.declared.kind.Kind.TheVariants as kind
 use Rattle.wt_tree.specs.declared.kind.Mark.TheVariants as marks
 use Rattle.wt_tree.specs.declared.kind.Ranges.{Ranges}
-use Rattle.wt_tree.specs.declared.row.Texts.{Texts}
-use Rattle.wt_tree.specs.declared.row.Texts.TheVariants.{Separators, Page, Bordered, OwnCharacter}
+use Rattle.wt_tree.specs.declared.row.Texts.TheVariants.{Page}
 use Rattle.wt_tree.specs.Kinds.{showing, writing, texts_of_kind}
 use Rattle.wt_tree.specs.Leaves.{text_leaf, sep_leaf}
 use Rattle.wt_tree.specs.Tiling.{is_group}

@@ -1,5 +1,5 @@
 -- What is read of HTML may be sent for a page: it holds no more than the laws of edits ask.
-use Rattle.std.proofs.Common.{arith, ◌≡◌, ◌≢◌, ◌≤◌, ◌<◌, ◌^◌, ℕ, suc, Bool, true, false, List, [], ◌∷◌, ◌++◌, length, refl, sym, ap, ap₂, ◌∙◌, subst, inl, inr}
+use Rattle.std.proofs.Common.{arith, ◌≡◌, ◌≤◌, ℕ, suc, Bool, true, false, List, [], ◌∷◌, ◌++◌, length, refl, sym, ap, ap₂, ◌∙◌, subst}
 use Rattle.std.specs.Prelude.{◌==◌, ◌||◌, not, if◌then◌else◌, Option, Some, None, MatchOption}
 use Rattle.std.specs.List.{AllByRecursion, flat_map}
 use Rattle.std.specs.Str.{IsUtf8}
@@ -16,8 +16,6 @@ use Rattle.wt_tree.specs.declared.row.Texts.TheVariants.{Page as PageText}
 use Rattle.wt_tree.specs.declared.row.Writing.{Writing}
 use Rattle.wt_tree.specs.declared.row.Writing.TheVariants.{AsText, AsVoid, RoundCharacter, RoundChildren, AsSection, Unwritten}
 use Rattle.wt_tree.specs.EditShapes.{edit_shape}
-use Rattle.wt_tree.specs.declared.edit_shape.InlineForm.{InlineForm}
-use Rattle.wt_tree.specs.declared.edit_shape.InlineForm.TheVariants as inline
 use Rattle.wt_tree.specs.Kinds.{order, fixed_attributes, showing, writing, texts_of_kind}
 use Rattle.wt_tree.specs.Opened.{without_sections}
 use Rattle.wt_tree.specs.Tiling.{is_group, HasNoGroup, NoneIsGroup}
@@ -29,8 +27,7 @@ use Rattle.wt_link_spelling.specs.Spelling.{children_of}
 use Rattle.wt_checks.specs.Checked.{checked}
 use Rattle.wt_checks.specs.Groups.{is_marked}
 use Rattle.wt_checks.specs.Kept.{Kept, NodeAsItWas, NodeKept, MarkKept, children}
-use Rattle.wt_checks.specs.Marks.{is_children}
-use Rattle.wt_checks.specs.Places.{Place, placed, all_placed, places, number, kind_at, is_kept, is_body, is_content, Page, page_of, parent_below}
+use Rattle.wt_checks.specs.Places.{Place, placed, all_placed, places, number, kind_at, is_body, is_content, page_of, parent_below}
 use Rattle.wt_checks.specs.PutBack.{IsAsRead, IsOneBody}
 use Rattle.wt_checks.specs.Tokens.{is_text}
 use Rattle.wt_checks.specs.Unmarked.{is_compared}
@@ -46,7 +43,7 @@ use Rattle.wt_slices.specs.Changes.{Pair, pair_with, is_edited, pair_at, marked}
 use Rattle.wt_commands.specs.Answers.{refusal_of_page}
 use Rattle.wt_called_edit_laws.specs.Groups.{called_tree}
 use Rattle.wt_inside_laws.specs.AsSent.{IsPlainPage, HasNoMore, IsReadFor}
-use Rattle.wt_inside_laws.specs.RetypedPieces.{IsReadText, ReadBy, IsRead, AreRead, Utf8By, HasUtf8, AreUtf8}
+use Rattle.wt_inside_laws.specs.RetypedPieces.{ReadBy, IsRead, AreRead, Utf8By, HasUtf8, AreUtf8}
 use Rattle.wt_inside_laws.specs.TextEdits.{takes_text, IsRetyped}
 use Rattle.wt_inside_laws.proofs.MarkedBlocks.{each_free, page_free}
 use Rattle.wt_inside_laws.proofs.PageAlike.{page_plain}
@@ -81,7 +78,7 @@ mutual
 
 body_node : (l : Label) (ts : Trees) → l.kind ≡ kind.Body → l.mw ≡ None → IsReadNode l ts
 body_node l ts e m = record {
-  hidden = λ c. not_both true refl (sym c ∙ ap (λ (k : Kind). is_compared (showing k)) e);
+  hidden = λ c. not_both (is_compared (showing l.kind)) (ap (λ (k : Kind). is_compared (showing k)) e) c;
   text = λ c. not_both (is_text (writing l.kind)) c (ap (λ (k : Kind). is_text (writing k)) e);
   unnumbered = λ c. not_both (is_text (writing l.kind)) c (ap (λ (k : Kind). is_text (writing k)) e);
   texts = λ g p. absurd (no_page (sym (ap texts_of_kind e) ∙ p));
