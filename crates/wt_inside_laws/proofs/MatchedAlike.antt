@@ -1,6 +1,6 @@
 -- The edit of a page's nodes that was made of what was sent is answered as that is.
 use Rattle.std.proofs.Common.{◌≡◌, ◌≢◌, ℕ, Bool, true, false, List, [], ◌∷◌, ◌++◌, map, refl, sym, ap, ap₂, ◌∙◌, subst}
-use Rattle.std.specs.Prelude.{◌==◌, ◌||◌, not, if◌then◌else◌, Option, Some, None, option_map}
+use Rattle.std.specs.Prelude.{◌==◌, ◌||◌, not, Option, Some, None, option_map, if◌then◌else◌}
 use Rattle.std.specs.List.{AllByRecursion}
 use Rattle.wt_span.specs.Origins.{Expanded}
 use Rattle.wt_tree.specs.declared.kind.Kind.{Kind}

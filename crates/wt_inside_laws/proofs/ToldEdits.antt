@@ -1,5 +1,5 @@
 -- A text edit of a page that calls nothing is done.
-use Rattle.std.proofs.Common.{arith, ◌≡◌, ◌⊎◌, ℕ, zero, suc, ◌≤◌, Bool, true, false, Option, Some, None, List, [], ◌∷◌, ◌++◌, length, map, refl, sym, ap, ◌∙◌, subst, inl, inr}
+use Rattle.std.proofs.Common.{arith, ◌≡◌, ℕ, zero, suc, ◌≤◌, Option, Some, None, List, [], ◌∷◌, ◌++◌, length, map, refl, sym, ap, ◌∙◌, subst, inl, inr}
 use Rattle.std.specs.List.{AllByRecursion}
 use Rattle.std.specs.Str.{IsUtf8}
 use Rattle.wt_span.specs.declared.limits.TheConstants.{PAGE_BYTES}
@@ -7,7 +7,7 @@ use Rattle.wt_span.specs.Items.{Item}
 use Rattle.wt_tree.specs.Tiling.{HasNoGroup, NoneIsGroup}
 use Rattle.wt_tree.specs.Tree.{Label, Tree, tree, Trees, none, more, label}
 use Rattle.wt_checks.specs.Kept.{children}
-use Rattle.wt_checks.specs.Places.{Page, page_of}
+use Rattle.wt_checks.specs.Places.{page_of}
 use Rattle.wt_expand.specs.PageCalls.{expanded_page}
 use Rattle.wt_expand.specs.Work.{Pages}
 use Rattle.wt_link_spelling.specs.Spelling.{children_of}
@@ -17,22 +17,22 @@ use Rattle.wt_slices.specs.Changes.{Pair, marked}
 use Rattle.wt_splice.specs.Splice.{spliced}
 use Rattle.wt_visible.specs.SameNodes.{same_node}
 use Rattle.wt_visible.proofs.SameTells.{tells_same}
-use Rattle.wt_commands.specs.Answers.{refusal_of_page, done, edit_to}
-use Rattle.wt_typed_blocks.specs.Edited.{Edited, stays, edited, round, Edits, no_edits, more_edits, page_node}
+use Rattle.wt_selser.specs.Edits.{most_bytes}
+use Rattle.wt_commands.specs.Answers.{done, edit_to}
+use Rattle.wt_typed_blocks.specs.Edited.{Edited, stays, edited, round, Edits, no_edits, more_edits}
 use Rattle.wt_text_edit_laws.specs.BlockSpots.{BlockSpot, spots_source, AreContents}
 use Rattle.wt_text_edit_laws.specs.Contents.{IsContent}
-use Rattle.wt_text_edit_laws.specs.Parts.{HasNoGroups}
 use Rattle.wt_text_edit_laws.specs.TextBlocks.{TextBlock, block_tree}
 use Rattle.wt_text_edit_laws.proofs.Between.NoCalls.{calm_expanded}
 use Rattle.wt_inline.specs.ItemTree.{ItemTree}
 use Rattle.wt_annotated.specs.Annotated.{annotated}
-use Rattle.wt_call_data.specs.Groups.{group_data}
+use Rattle.wt_annotated.specs.GroupData.{group_data}
 use Rattle.wt_page.specs.Body.{meaning}
 use Rattle.wt_beside_laws.specs.StyledIn.{IsStyledIn, IsStyledEditOf}
 use Rattle.wt_beside_laws.proofs.Own.Kept.{content_styled}
 use Rattle.wt_called_edit_laws.specs.CalledPages.{IsCalledPage}
 use Rattle.wt_called_edit_laws.specs.ContentsTaken.{TakesContents}
-use Rattle.wt_called_edit_laws.specs.EditsAt.{IsStanding, StandsTo, StandsAmong, AllStand, edited_at, edited_among, edited_by, AllEditOnly, edited_page, Fits, FitsSpot, AreFitting, IsContentEdit, sent_contents}
+use Rattle.wt_called_edit_laws.specs.EditsAt.{IsStanding, StandsTo, StandsAmong, AllStand, edited_at, edited_among, edited_by, edited_page, Fits, FitsSpot, AreFitting, IsContentEdit}
 use Rattle.wt_called_edit_laws.specs.Groups.{called_tree}
 use Rattle.wt_called_edit_laws.specs.PlacedLines.{spots_by, end_by}
 use Rattle.wt_called_edit_laws.specs.PlacedSpots.{IsPlacedPage}
@@ -41,9 +41,9 @@ use Rattle.wt_called_edit_laws.proofs.Cells.PlacedLines.{lined_whole, lined_in}
 use Rattle.wt_called_edit_laws.proofs.EditFacts.{spots_utf8, spots_contents}
 use Rattle.wt_called_edit_laws.proofs.Told.OwnReads.{OwnRead, AllRead, page_read}
 use Rattle.wt_called_edit_laws.proofs.Told.ToldPages.{told_lined, told_called}
-use Rattle.wt_inside_laws.specs.AsSent.{pieces_for, edit_for, edits_of, past_first, paths_in, paths_of, node_at, node_among, IsOneOf, AreSomeOf, IsPlainPage, IsReadFor, IsAlike, IsSentOn}
+use Rattle.wt_inside_laws.specs.AsSent.{pieces_for, edit_for, edits_of, past_first, paths_in, paths_of, node_at, node_among, IsOneOf, IsAlike, IsSentOn}
 use Rattle.wt_inside_laws.specs.RetypedPieces.{AreRead}
-use Rattle.wt_inside_laws.specs.TextEdits.{IsRetyped, IsTextEdit}
+use Rattle.wt_inside_laws.specs.TextEdits.{IsRetyped}
 use Rattle.wt_inside_laws.specs.ToldEdits.{IsReadBlock, HasEndedNodes, IsOrdinary, IsToldEdit}
 use Rattle.wt_inside_laws.proofs.MarkedBlocks.{all_alike}
 use Rattle.wt_inside_laws.proofs.MatchedPairs.{same_old}
@@ -151,8 +151,11 @@ pair_fits : (pages : Pages) (page : List ℕ) (k : TextBlock) (q : List ℕ) (p 
 pair_fits pages page k q p c r s h =
     let ended : HasEndedNodes k q p.old = h.ordinary k q s in
     let styled : IsStyledIn k q = content_styled k q c r.calm ended.paired ended.ended in
-    inr (styled, subst (λ (t : Tree). IsStyledEditOf k t (pieces_for p)) (sym (same_old same_node (page_of (page_tree pages page)) p h.alike))
-    (standing_edit k q (expanded_page pages page) page p h.retyped h.read.read h.read.utf8 s styled ended.unmarked))
+    inr (
+      styled,
+      subst (λ (t : Tree). IsStyledEditOf k t (pieces_for p)) (sym (same_old same_node (page_of (page_tree pages page)) p h.alike))
+          (standing_edit k q (expanded_page pages page) page p h.retyped h.read.read h.read.utf8 s styled ended.unmarked),
+    )
 
 -- what is known of the page and what was sent for it
 record SentKnown (pages : Pages) (page : List ℕ) (t : Tree) (es : Edits) (ms : List Pair) : Type 0 where
@@ -186,6 +189,7 @@ reads (p ∷ ps) h = (h.0.read, reads ps h.1)
 told_done : (pages : Pages) (ss : List BlockSpot) (behind : List ℕ) (new : Tree) (c : TakesContents pages ss behind) → IsCalledPage pages ss behind → AllRead ss
     → NoneIsGroup (children (called_tree pages (spots_source ss behind))) → IsToldEdit pages (spots_source ss behind) c.paths new
     → edit_to pages (spots_source ss behind) new ≡ done (spliced (spots_source ss behind) (slices same_node (page_tree pages (spots_source ss behind)) new))
+unfolding most_bytes
 told_done pages ss behind new c h r g e =
     let page : List ℕ = spots_source ss behind in
     let t : Tree = called_tree pages page in

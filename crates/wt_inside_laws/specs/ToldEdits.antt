@@ -1,7 +1,6 @@
 -- Text edits of a page that calls nothing, among paragraphs and headings that are told by its lines: what is asked of them.
-use Rattle.std.specs.Prelude.{◌≡◌, ℕ, List, [], map}
+use Rattle.std.specs.Prelude.{ℕ, List}
 use Rattle.std.specs.List.{AllByRecursion}
-use Rattle.wt_span.specs.Items.{Item}
 use Rattle.wt_tree.specs.Tree.{Tree}
 use Rattle.wt_link_spelling.specs.Spelling.{children_of}
 use Rattle.wt_expand.specs.PageCalls.{expanded_page}
@@ -14,7 +13,6 @@ use Rattle.wt_beside_laws.specs.EndedNodes.{LinesOpenNoPair, AreEndedNodes}
 use Rattle.wt_beside_laws.specs.FlatBlocks.{lines_in, signs_in}
 use Rattle.wt_called_edit_laws.specs.EditsAt.{IsStanding}
 use Rattle.wt_called_edit_laws.specs.Groups.{called_tree}
-use Rattle.wt_called_edit_laws.specs.ToldLines.{Told, IsToldPage}
 use Rattle.wt_inside_laws.specs.AsSent.{edits_of, paths_of, AreSomeOf, IsReadFor}
 use Rattle.wt_inside_laws.specs.RetypedPieces.{AreRead, AreUtf8, BeginsUnmarked}
 use Rattle.wt_inside_laws.specs.TextEdits.{IsTextEdit}
