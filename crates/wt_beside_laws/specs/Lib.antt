@@ -35,3 +35,4 @@ pub mod NewStyles
 pub mod StyledIn
 pub mod Called
 pub mod Given
+pub mod OwnLed

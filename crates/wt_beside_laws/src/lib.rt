@@ -85,10 +85,11 @@ pub use called::{
 pub use styles::{
     blocks_with_styles_have_their_nodes, contents_sent_with_styles_are_such,
     contents_with_styles_are_such_again, contents_with_styles_may_take_their_place,
-    lines_with_styles_have_even_toggles, nodes_of_the_page_stay_in_styles,
-    styled_contents_are_made, styles_that_nest_are_read, texts_in_styles_are_one_paragraph,
-    texts_in_styles_are_shown, texts_in_styles_may_be_in_headings,
-    texts_in_styles_stand_between_lines, texts_sent_in_styles_are_such,
+    lines_of_comments_begin_lines, lines_with_styles_have_even_toggles,
+    nodes_of_the_page_stay_in_styles, styled_contents_are_made, styles_that_nest_are_read,
+    texts_in_styles_are_one_paragraph, texts_in_styles_are_shown,
+    texts_in_styles_may_be_in_headings, texts_in_styles_stand_between_lines,
+    texts_sent_in_styles_are_such,
 };
 pub use untangled::{
     contents_read_by_themselves_take_styles, untangled_blocks_are_contents,
