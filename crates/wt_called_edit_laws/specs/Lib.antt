@@ -18,6 +18,7 @@ pub mod PartTexts
 pub mod Covered
 pub mod Parts
 pub mod Retyped
+pub mod AllTold
 pub mod AnyBlocks
 pub mod AnyTexts
 pub mod CellEdits
