@@ -5,3 +5,11 @@ pub mod FoundTables
 pub mod TableParts
 pub mod Opens
 pub mod FoundBlocks
+pub mod Starts
+pub mod TreeBlocks
+pub mod PlaceStarts
+pub mod LineKinds
+pub mod Scans
+pub mod Scanned
+pub mod RowBlocks
+pub mod Together

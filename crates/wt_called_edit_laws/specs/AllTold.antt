@@ -1,8 +1,6 @@
 -- Each paragraph and heading of the tree of a page that calls nothing, where its lines tell it; and those that lines don't tell.
 use Rattle.std.specs.Prelude.{◌≡◌, ◌≤◌, ◌<◌, ◌⊎◌, ℕ, zero, suc, ◌+◌, false, List, [], ◌∷◌, ◌++◌, length, take, drop, map}
 use Rattle.wt_span.specs.Items.{Item, sources}
-use Rattle.wt_tree.specs.declared.kind.Kind.{Kind}
-use Rattle.wt_tree.specs.declared.kind.Kind.TheVariants as kind
 use Rattle.wt_tree.specs.Source.{flat}
 use Rattle.wt_tree.specs.Tree.{Tree, tree, Trees, none, more, label}
 use Rattle.wt_expand.specs.PageCalls.{expanded_page}
@@ -20,23 +18,10 @@ use Rattle.wt_text_edit_laws.specs.ParagraphBetween.{tables_behind}
 use Rattle.wt_called_edit_laws.specs.ContentsTaken.{TakesContents}
 use Rattle.wt_called_edit_laws.specs.Groups.{called_tree}
 use Rattle.wt_called_edit_laws.specs.PlacedLines.{spots_by, end_by}
+use Rattle.wt_called_edit_laws.specs.RowBlocks.{IsTextBlock, IsAtPath}
 use Rattle.wt_called_edit_laws.specs.ToldLines.{Told, lined, IsToldPage}
 
 -- ---- nodes at paths
-
-abbrev pub IsTextBlock : Kind → Type 0
-IsTextBlock k = (k ≡ kind.Para) ⊎ ((n : ℕ) × (k ≡ kind.Heading n))
-
--- at this path is this node
-abbrev mutual
-  pub IsAtPath : List ℕ → Tree → Tree → Type 0
-  IsAtPath [] t u = t ≡ u
-  IsAtPath (i ∷ is) (tree l ts) u = IsAmong i is ts u
-
-  pub IsAmong : ℕ → List ℕ → Trees → Tree → Type 0
-  IsAmong i is none u = ⊥
-  IsAmong zero is (more t ts) u = IsAtPath is t u
-  IsAmong (suc i) is (more t ts) u = IsAmong i is ts u
 
 -- the byte at which the node at this path begins, where the tree begins at this one
 abbrev mutual

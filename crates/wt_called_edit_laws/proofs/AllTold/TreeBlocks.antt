@@ -46,7 +46,8 @@ use Rattle.wt_text_edit_laws.specs.NoCalls.{CallsNothing}
 use Rattle.wt_text_edit_laws.specs.ParagraphBetween.{blocks_in, body_with}
 use Rattle.wt_text_edit_laws.specs.Parts.{HasNoGroups, part_tree}
 use Rattle.wt_text_edit_laws.proofs.Between.NoCalls.{calm_expanded, calm_unrefused}
-use Rattle.wt_text_edit_laws.proofs.Paragraphs.PartTrees.{part_meaning, part_plain, plain_tree}
+use Rattle.wt_text_edit_laws.proofs.Paragraphs.PartTrees.{part_plain, plain_tree}
+use Rattle.wt_text_edit_laws.proofs.Paragraphs.Standing.{parts_in, body_is}
 use Rattle.wt_text_edit_laws.proofs.Prose.ProseTrees.{blocks_of}
 use Rattle.wt_called_edit_laws.specs.Groups.{called_tree}
 use Rattle.wt_called_edit_laws.proofs.AllTold.Found.{size, tree_size, size_both, Housing, a_block, a_shell, another, housing_of, ByHousing, FoundIn, FoundAll}
@@ -383,10 +384,13 @@ mutual
 page_of_items : (pages : Pages) (page : List ℕ) → CallsNothing (page_items page) → called_tree pages page ≡ part_tree page
 page_of_items pages page calm = ap (λ (e : Expanded). annotated e.outer (group_data e.outer) (meaning e.items)) (calm_expanded pages page calm)
 
+page_meaning : (page : List ℕ) → meaning (page_items page) ≡ body_with (blocks_in (page_items page))
+page_meaning page = body_is (page_items page) (parts_in (page_items page)) refl
+
 pub page_blocks : (pages : Pages) (page : List ℕ) → CallsNothing (page_items page) → HasNoGroups page
     → children (called_tree pages page) ≡ blocks_of 1 [] (blocks_in (page_items page))
 page_blocks pages page calm none =
-    ap children (page_of_items pages page calm ∙ ap (annotated [] (group_data [])) (part_meaning page)
+    ap children (page_of_items pages page calm ∙ ap (annotated [] (group_data [])) (page_meaning page)
     ∙ plain_tree (blocks_in (page_items page)) (part_plain page none))
 
 page_sound : (pages : Pages) (page : List ℕ) → IsUtf8 page → CallsNothing (page_items page) → ArePageItems (page_items page)
