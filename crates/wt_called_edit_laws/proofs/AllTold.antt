@@ -13,3 +13,4 @@ pub mod Scans
 pub mod Scanned
 pub mod RowBlocks
 pub mod Together
+pub mod LineBlocks

@@ -23,7 +23,7 @@ ghost use Rattle.wt_called_edit_laws.specs.LinedAmong.{IsLinedAmong};
 ghost use Rattle.wt_called_edit_laws.specs.LinedHeadings.{sides_of, text_of, IsLinedHeading};
 ghost use Rattle.wt_called_edit_laws.specs.PlacedLines.{spots_by, end_by, IsLinedPage};
 ghost use Rattle.wt_called_edit_laws.specs.PlacedSpots.{IsShut, AreShut, AllUntangled};
-ghost use Rattle.wt_called_edit_laws.specs.RowBlocks.{IsTextBlock, IsAtPath, StandsOnRows};
+ghost use Rattle.wt_called_edit_laws.specs.RowBlocks.{IsTextBlock, IsAtPath, StandsOnRows, StandsOnLines};
 ghost use Rattle.wt_called_edit_laws.specs.ToldAmong.{IsToldAmong};
 ghost use Rattle.wt_called_edit_laws.specs.ToldLines.{Told, lined, IsToldPage};
 ghost use Rattle.wt_called_edit_laws.specs.ToldTogether.{AreAllTold};
@@ -58,11 +58,14 @@ pub fn untangled_blocks_are_shut()
         → AllUntangled items page paths t → AreShut ss }
 {}
 
-/// Each paragraph and each heading of the tree of a page that calls nothing, wherever it is, is made of text or of a heading's
-/// line in the rows of this page, and it begins where these do.
-pub fn each_block_stands_on_rows()
-    ensures stands { (pages : Pages) (page p : List ℕ) (t : Tree) → IsUtf8 page → CallsNothing (page_items page) → HasNoGroups page
+/// Each paragraph and each heading of the tree of a page that calls nothing, and in which no node can only be kept as a whole,
+/// wherever it is, is made of the page's rows: of text with no other text beside it, or of a heading's; and it begins where these
+/// do. So it is made of whole lines, or it begins behind the sign of a table's end or a rule.
+pub fn each_block_stands_on_lines()
+    ensures rows { (pages : Pages) (page p : List ℕ) (t : Tree) → IsUtf8 page → CallsNothing (page_items page) → HasNoGroups page
         → IsAtPath p (called_tree pages page) t → IsTextBlock (label t).kind → StandsOnRows page t }
+    ensures lines { (pages : Pages) (page p : List ℕ) (t : Tree) → IsUtf8 page → CallsNothing (page_items page) → HasNoGroups page
+        → IsAtPath p (called_tree pages page) t → IsTextBlock (label t).kind → StandsOnLines page t }
 {}
 
 /// All paragraphs and headings that the lines of a page tell are told at once (`AreAllTold`): of a page that calls nothing, that

@@ -104,28 +104,23 @@ loose_run P k o b (loose j q c ∷ r) others at to h g =
     let m : ℕ = size (held_parts r) in
     let z : (at + 1) + m ≡ at + suc m = omega arith in
     parts_from P ((at + 1) + m) (at + suc m) to others z (loose_run P j q c r others (at + 1) to h.1 g)
-loose_run P k o b (node t ∷ r) others at to h g = let no : false ≡ true = h.0 in absurd (cc)
+loose_run P k o b (node t ∷ r) others at to h g = let nay : false ≡ true = h.0 in absurd (cc)
 
-mutual
-  runs_found : (P : ℕ → ItemTree → Type 0) (rs : List (List Part)) (at to : ℕ) (ps : List Part) → AreRuns one_leaf rs ps → FoundParts P at ps to
-      → FoundAll P at (forest (map child rs)) to
-  runs_found P [] at to ps h g = subst (λ (qs : List Part). FoundParts P at qs to) h g
-  runs_found P ([] ∷ rs) at to ps h g = absurd h.2
-  runs_found P ((loose k o b ∷ r) ∷ rs) at to ps h g =
-      let all : FoundParts P at ((loose k o b ∷ r) ++ h.0) to = subst (λ (qs : List Part). FoundParts P at qs to) h.1 g in
-      let own : List Item = char o b ∷ held_parts r in
-      let m : ℕ = size (held_parts r) in
-      let z : (at + 1) + m ≡ at + tree_size (loose_leaf k own) = omega (arith, leaf_size k own) in
-      (leaf_found P at k own, runs_found P rs (at + tree_size (loose_leaf k own)) to h.0 h.3
-          (parts_from P ((at + 1) + m) (at + tree_size (loose_leaf k own)) to h.0 z (loose_run P k o b r h.0 (at + 1) to h.2 all)))
-  runs_found P ((node t ∷ r) ∷ rs) at to ps h g = node_run P t r rs at to ps h g
-
-  node_run : (P : ℕ → ItemTree → Type 0) (t : ItemTree) (r : List Part) (rs : List (List Part)) (at to : ℕ) (ps : List Part) → AreRuns one_leaf ((node t ∷ r) ∷ rs) ps
-      → FoundParts P at ps to → FoundAll P at (forest (map child ((node t ∷ r) ∷ rs))) to
-  node_run P t [] rs at to ps h g =
-      let all : FoundParts P at (node t ∷ h.0) to = subst (λ (qs : List Part). FoundParts P at qs to) h.1 g in
-      (all.0, runs_found P rs (at + tree_size t) to h.0 h.3 all.1)
-  node_run P t (p ∷ r) rs at to ps h g = let no : false ≡ true = h.2.0 in absurd (cc)
+runs_found : (P : ℕ → ItemTree → Type 0) (rs : List (List Part)) (at to : ℕ) (ps : List Part) → AreRuns one_leaf rs ps → FoundParts P at ps to
+    → FoundAll P at (forest (map child rs)) to
+runs_found P [] at to ps h g = subst (λ (qs : List Part). FoundParts P at qs to) h g
+runs_found P ([] ∷ rs) at to ps h g = absurd h.2
+runs_found P ((loose k o b ∷ r) ∷ rs) at to ps h g =
+    let all : FoundParts P at ((loose k o b ∷ r) ++ h.0) to = subst (λ (qs : List Part). FoundParts P at qs to) h.1 g in
+    let own : List Item = char o b ∷ held_parts r in
+    let m : ℕ = size (held_parts r) in
+    let z : (at + 1) + m ≡ at + tree_size (loose_leaf k own) = omega (arith, leaf_size k own) in
+    (leaf_found P at k own, runs_found P rs (at + tree_size (loose_leaf k own)) to h.0 h.3
+        (parts_from P ((at + 1) + m) (at + tree_size (loose_leaf k own)) to h.0 z (loose_run P k o b r h.0 (at + 1) to h.2 all)))
+runs_found P ((node t ∷ []) ∷ rs) at to ps h g =
+    let all : FoundParts P at (node t ∷ h.0) to = subst (λ (qs : List Part). FoundParts P at qs to) h.1 g in
+    (all.0, runs_found P rs (at + tree_size t) to h.0 h.3 all.1)
+runs_found P ((node t ∷ p ∷ r) ∷ rs) at to ps h g = let nay : false ≡ true = h.2.0 in absurd (cc)
 
 pub children_found : (P : ℕ → ItemTree → Type 0) (at to : ℕ) (ps : List Part) → FoundParts P at ps to → FoundAll P at (forest (children ps)) to
 unfolding children

@@ -52,8 +52,8 @@ end_join k (x ∷ []) r rs h = h
 end_join k (x ∷ y ∷ xs) r rs h = end_join k (y ∷ xs) r rs h
 
 all_end : (j : LineKind) (r : Row) (rs : List Row) → (j ≡ line.Text → ⊥) → AllAre j (r ∷ rs) → EndOtherwise line.Text (r ∷ rs)
-all_end j r [] no h = λ e. no (sym h.0 ∙ e)
-all_end j r (s ∷ rs) no h = all_end j s rs no h.1
+all_end j r [] nay h = λ e. nay (sym h.0 ∙ e)
+all_end j r (s ∷ rs) nay h = all_end j s rs nay h.1
 
 first_row : Row → List Row → Row
 first_row r [] = r
@@ -123,7 +123,7 @@ BeginsApart pre rs = EndOtherwise line.Text pre ⊎ BeginOtherwise line.Text rs
 
 text_before : (pre : List Row) (r : Row) (rs : List Row) → r.kind ≡ line.Text → BeginsApart pre (r ∷ rs) → EndOtherwise line.Text pre
 text_before pre r rs e (inl h) = h
-text_before pre r rs e (inr no) = absurd (no e)
+text_before pre r rs e (inr nay) = absurd (nay e)
 
 both_apart : (others post : List Row) → BeginOtherwise line.Text others → BeginOtherwise line.Text post → BeginOtherwise line.Text (others ++ post)
 both_apart [] post h g = g
@@ -143,11 +143,11 @@ block_found P all read p f (table r rs last) others pre post h is c a o =
     let own : List Row = r ∷ (rs ++ last ∷ []) in
     let all_is : all ≡ pre ++ (table_lines t ++ (last ∷ more)) =
     is ∙ ap (λ (xs : List Row). pre ++ xs) (append_assoc (r ∷ rs) (last ∷ []) more ∙ ap (λ (xs : List Row). xs ++ (last ∷ more)) (sym lines)) in
-    let no : last.kind ≡ line.Text → ⊥ = λ e. let z : line.TableEnd ≡ line.Text = sym parts.ends ∙ e in absurd (cc) in
+    let nay : last.kind ≡ line.Text → ⊥ = λ e. let z : line.TableEnd ≡ line.Text = sym parts.ends ∙ e in absurd (cc) in
     let z : width (pre ++ table_lines t) + width (last ∷ []) ≡ width pre + width own =
     omega (arith, width_both pre (table_lines t), ap width lines, width_both (r ∷ rs) (last ∷ [])) in
     parts_to P (width pre) (width (pre ++ table_lines t) + width (last ∷ [])) (width pre + width own) (stretches_parts (block_parts read (table r rs last))) z
-    (table_found P all read f r t last pre more (table_is r rs parts.level) h.0 no c all_is)
+    (table_found P all read f r t last pre more (table_is r rs parts.level) h.0 nay c all_is)
 block_found P all read p f (heading r) others pre post h is c a o =
     let at : ℕ = width pre in
     let z : at + size (row_items r) ≡ at + width (r ∷ []) = omega (arith, one_width r) in
@@ -182,7 +182,7 @@ table_end pre r rs last e =
     (end_behind line.Text (pre ++ (r ∷ rs)) last (λ z. let n : line.TableEnd ≡ line.Text = sym e ∙ z in absurd (cc)))
 
 one_end : (pre : List Row) (r : Row) (k : LineKind) → (k ≡ line.Text → ⊥) → r.kind ≡ k → EndOtherwise line.Text (pre ++ r ∷ [])
-one_end pre r k no e = end_behind line.Text pre r (λ z. no (sym e ∙ z))
+one_end pre r k nay e = end_behind line.Text pre r (λ z. nay (sym e ∙ z))
 
 behind_apart : (pre : List Row) (b : Block) (others : List Row) → IsBlock b others → BeginsApart (pre ++ block_rows b) others
 behind_apart pre (blank r) others h = inl (one_end pre r line.Blank (λ z. absurd (cc)) h)

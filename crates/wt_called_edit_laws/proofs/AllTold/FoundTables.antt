@@ -158,6 +158,10 @@ cells_apart [] post h b = b
 cells_apart ([] ∷ gs) post h b = absurd h.0
 cells_apart ((r ∷ rs) ∷ gs) post h b = part_no_text r.kind h.0.0
 
+begin_both : (k : LineKind) (rs more : List Row) → BeginOtherwise k rs → BeginOtherwise k more → BeginOtherwise k (rs ++ more)
+begin_both k [] more h g = g
+begin_both k (r ∷ rs) more h g = h
+
 rows_apart : (rr : List (RowOf Row)) (post : List Row) → AllByRecursion IsRow rr → BeginOtherwise line.Text post → BeginOtherwise line.Text (flat_map row_lines rr ++ post)
 rows_apart [] post h b = b
 rows_apart (r ∷ rr) post h b =
@@ -166,11 +170,7 @@ rows_apart (r ∷ rr) post h b =
     let all : (r.opening ++ r.between) ++ (joined r.cells ++ more) ≡ flat_map row_lines (r ∷ rr) ++ post =
     sym (append_assoc (r.opening ++ r.between) (joined r.cells) more)
     ∙ ap (λ (xs : List Row). xs ++ more) (append_assoc r.opening r.between (joined r.cells)) ∙ sym (append_assoc (row_lines r) (flat_map row_lines rr) post) in
-    subst (BeginOtherwise line.Text) all (by (r.opening ++ r.between) h.0.0.0)
-  where
-    by : (os : List Row) → BeginOtherwise line.Text os → BeginOtherwise line.Text (os ++ (joined r.cells ++ (flat_map row_lines rr ++ post)))
-    by [] o = cells_apart r.cells (flat_map row_lines rr ++ post) h.0.1 (rows_apart rr post h.1 b)
-    by (s ∷ os) o = o
+    subst (BeginOtherwise line.Text) all (begin_both line.Text (r.opening ++ r.between) (joined r.cells ++ more) h.0.0.0 cells)
 
 -- ---- lines of cells
 
@@ -329,7 +329,7 @@ pub table_found : (P : ℕ → ItemTree → Type 0) (all : List Row) (read : Rea
     → IsTable first t → first.kind ≡ line.TableOpen → (last.kind ≡ line.Text → ⊥) → AllTrue (open_after [] pre) → all ≡ pre ++ (table_lines t ++ (last ∷ post))
     → FoundParts P (width pre) (stretches_parts (table_by read t last)) (width (pre ++ table_lines t) + width (last ∷ []))
 unfolding table_by
-table_found P all read f first t last pre post h e no cells is =
+table_found P all read f first t last pre post h e nay cells is =
     let os : List Row = t.opening ++ t.between in
     let ins : List Row = joined t.captions ++ flat_map row_lines t.rows in
     let next : List Row = pre ++ os in
@@ -337,8 +337,8 @@ table_found P all read f first t last pre post h e no cells is =
     let all_is : all ≡ next ++ (ins ++ (last ∷ post)) =
     is ∙ ap (λ (xs : List Row). pre ++ (xs ++ (last ∷ post))) (sym own) ∙ ap (λ (xs : List Row). pre ++ xs) (append_assoc os ins (last ∷ post))
     ∙ sym (append_assoc pre os (ins ++ (last ∷ post))) in
-    let open : OpenIn next = subst (λ (xs : List Row). OpenIn (pre ++ xs)) (sym h.opening) (table_open pre first h.rest cells e h.level) in
-    let inside = inside_found P all read f first t next (last ∷ post) h all_is open no in
+    let opens : OpenIn next = subst (λ (xs : List Row). OpenIn (pre ++ xs)) (sym h.opening) (table_open pre first h.rest cells e h.level) in
+    let inside = inside_found P all read f first t next (last ∷ post) h all_is opens nay in
     let a : ℕ = width pre + size (delimiter_lead os) in
     let b : ℕ = a + size (delimiter os) in
     let end : ℕ = width (pre ++ table_lines t) in

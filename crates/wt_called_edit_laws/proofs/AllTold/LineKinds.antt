@@ -36,13 +36,13 @@ led_whole l = take-append-drop (marks_len l) l
 
 pub led_marks : (l : List Item) → list_all is_mark (led_by l) ≡ true
 led_marks [] = refl
-led_marks (x ∷ xs) = by (is_mark x) refl
+led_marks (x ∷ xs) = by (is_mark x) refl (led_marks xs)
   where
-    by : (v : Bool) → is_mark x ≡ v → list_all is_mark (take (cond v (1 + marks_len xs) 0) (x ∷ xs)) ≡ true
-    by true e =
+    by : (v : Bool) → is_mark x ≡ v → list_all is_mark (led_by xs) ≡ true → list_all is_mark (take (cond v (1 + marks_len xs) 0) (x ∷ xs)) ≡ true
+    by true e h =
         let z : 1 + marks_len xs ≡ suc (marks_len xs) = omega arith in
-        ap (λ (n : ℕ). list_all is_mark (take n (x ∷ xs))) z ∙ ap (λ (b : Bool). b && list_all is_mark (led_by xs)) e ∙ led_marks xs
-    by false e = refl
+        ap (λ (n : ℕ). list_all is_mark (take n (x ∷ xs))) z ∙ ap (λ (b : Bool). b && list_all is_mark (led_by xs)) e ∙ h
+    by false e h = refl
 
 and_first : (a b : Bool) → (a && b) ≡ true → a ≡ true
 and_first true b e = refl
@@ -177,11 +177,11 @@ first_apart n l ls h e =
     let k : LineKind = kind_at n l in
     let s = some_row k l in
     let is : rows_from n (l ∷ ls) ≡ s.first ∷ (s.others ++ rows_from (behind n k) ls) = ap (λ (xs : List Row). xs ++ rows_from (behind n k) ls) s.are in
-    let no : is_text s.first.kind ≡ false = subst BeginApart is h in
+    let nay : is_text s.first.kind ≡ false = subst BeginApart is h in
     let yes : is_text s.first.kind ≡ true = ap is_text (s.kind_is ∙ e) in absurd (cc)
 
 pub begins_other : (n : ℕ) (l : List Item) (ls : Lines) → (kind_at n l ≡ line.Text → ⊥) → BeginApart (rows_from n (l ∷ ls))
-begins_other n l ls no =
+begins_other n l ls nay =
     let k : LineKind = kind_at n l in
     let s = some_row k l in
     let is : rows_from n (l ∷ ls) ≡ s.first ∷ (s.others ++ rows_from (behind n k) ls) = ap (λ (xs : List Row). xs ++ rows_from (behind n k) ls) s.are in
@@ -192,13 +192,13 @@ begins_other n l ls no =
     text_is k e = absurd (cc)
 
     by : (v : Bool) → is_text (some_row (kind_at n l) l).first.kind ≡ v → is_text (some_row (kind_at n l) l).first.kind ≡ false
-    by true e = absurd (no (sym (some_row (kind_at n l) l).kind_is ∙ text_is (some_row (kind_at n l) l).first.kind e))
+    by true e = absurd (nay (sym (some_row (kind_at n l) l).kind_is ∙ text_is (some_row (kind_at n l) l).first.kind e))
     by false e = e
 
 -- rows of text end with text
 pub texts_end : (n : ℕ) (l : List Item) (ls : Lines) → AllText n (l ∷ ls) → EndApart (written_rows n (l ∷ ls)) → ⊥
 texts_end n l [] h e =
-    let no : is_text line.Text ≡ false = subst (λ (k : LineKind). EndApart (line_rows k l ++ [])) h.0 e in absurd (cc)
+    let nay : is_text line.Text ≡ false = subst (λ (k : LineKind). EndApart (line_rows k l ++ [])) h.0 e in absurd (cc)
 texts_end n l (m ∷ ls) h e =
     let k : LineKind = kind_at n l in
     let later : EndApart (written_rows (behind n k) (m ∷ ls)) = end_suffix (line_rows k l) (written_rows (behind n k) (m ∷ ls)) e in

@@ -298,7 +298,7 @@ unfolding lists
 lists_found P at rs = bare_found P at (lists rs) (all_items rs) (lists_bare rs (list_forest (nested (prefixes rs)))) (of_lists rs)
 
 pub around_bare : (xs ys : List Item) (t : ItemTree) → IsOther t → AreBare (gap xs ∷ block (node t ∷ []) ∷ gap ys ∷ [])
-around_bare xs ys t e = (gap_bare xs, (e, tt), gap_bare ys, tt)
+around_bare xs ys t e = (gap_bare xs, ((e, tt), (gap_bare ys, tt)))
 
 pub pre_other : (rs : List Row) → IsOther (pre rs)
 unfolding pre

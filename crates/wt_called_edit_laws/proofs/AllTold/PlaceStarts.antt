@@ -91,7 +91,7 @@ flat_size : (l : Label) (ts : Trees) → is_leaf l.kind ≡ false → length l.o
 flat_size l ts e =
     let inside : List ℕ = l.opening ++ flat_of_all ts ++ l.closing in
     let all : length inside ≡ length (flat (tree l ts)) = ap length (flat_inner (is_leaf l.kind) l.own inside e) in
-    omega (arith, all, length-append l.opening (flat_of_all ts ++ l.closing), length-append (flat_of_all ts) l.closing)
+    omega (arith, all, length-append (l.opening ++ flat_of_all ts) l.closing, length-append l.opening (flat_of_all ts))
 
 all_start : (b : ℕ → Tree) (t : ℕ → ItemTree) (at : ℕ) (fs : TreeFrames) (z : Gaps) → HaveSources b t (spots fs) → NoneLeaves fs
     → starts_from at (all_filled b fs) (paths_to fs) ++ gap_starts t (at + length (flat_of_all (all_filled b fs))) z ≡ gap_starts t at (gaps_in fs z)

@@ -11,16 +11,13 @@ use Rattle.wt_blocks.specs.Headings.{inside}
 use Rattle.wt_blocks.specs.Paragraphs.{is_text}
 use Rattle.wt_tables.specs.Extents.{behind as tables_after}
 use Rattle.wt_tables.specs.Parts.{joined}
-use Rattle.wt_checks.specs.Kept.{children as nodes_in}
-use Rattle.wt_isolation.specs.OpenTags.{any_ends_open}
 use Rattle.wt_page.specs.Lines.{kind_at}
 use Rattle.wt_page.specs.Rows.{Row, marks_len, signs, line_rows, rows_from}
 use Rattle.wt_part_laws.specs.Slots.{AllTrue}
-use Rattle.wt_part_laws.specs.Standing.{standing}
 use Rattle.wt_text_edit_laws.specs.PageCuts.{begins_unmarked}
 use Rattle.wt_text_edit_laws.specs.ParagraphBetween.{written_rows, EndApart, BeginApart}
 use Rattle.wt_text_edit_laws.specs.TextBetween.{is_end, AreEnded}
-use Rattle.wt_text_edit_laws.specs.TextBlocks.{TextBlock, a_paragraph, a_heading, block_tree, FirstApart}
+use Rattle.wt_text_edit_laws.specs.TextBlocks.{TextBlock, a_paragraph, a_heading, FirstApart}
 use Rattle.wt_text_edit_laws.proofs.Cuts.RowLines.{AllText}
 use Rattle.wt_text_edit_laws.proofs.Cuts.TextLines.{joined_both}
 use Rattle.wt_text_edit_laws.specs.TypedHeadings.{Sides}
@@ -28,7 +25,6 @@ use Rattle.wt_called_edit_laws.specs.AnyBlocks.{open_after, EndsFor, NextApart}
 use Rattle.wt_called_edit_laws.specs.LinedHeadings.{IsLinedHeading}
 use Rattle.wt_called_edit_laws.specs.PlacedBlocks.{AreLinesAt}
 use Rattle.wt_called_edit_laws.specs.PlacedLines.{LinedBlock, all_lines, LinesApart}
-use Rattle.wt_called_edit_laws.specs.PlacedSpots.{IsShut}
 use Rattle.wt_called_edit_laws.specs.ToldLines.{Told, a_paragraph_of, a_heading_on, lined, OwnTold, rows_before, IsToldAt, AreToldAfter}
 use Rattle.wt_called_edit_laws.specs.ToldTogether.{start_of, told_starts}
 use Rattle.wt_called_edit_laws.proofs.AllTold.Found.{size, size_both}
@@ -53,7 +49,13 @@ both_decided A B (inl a) (inl b) = inl (a, b)
 both_decided A B (inl a) (inr f) = inr (λ h. f h.1)
 both_decided A B (inr f) b = inr (λ h. f h.0)
 
-bool_decided : (v w : Bool) → Decided (v ≡ w)
+three_decided : (A B C : Type 0) → Decided A → Decided B → Decided C → Decided (A × B × C)
+three_decided A B C (inl a) (inl b) (inl c) = inl (a, b, c)
+three_decided A B C (inr f) b c = inr (λ h. f h.0)
+three_decided A B C (inl a) (inr f) c = inr (λ h. f h.1)
+three_decided A B C (inl a) (inl b) (inr f) = inr (λ h. f h.2)
+
+pub bool_decided : (v w : Bool) → Decided (v ≡ w)
 bool_decided true true = inl refl
 bool_decided true false = inr (λ e. absurd (cc))
 bool_decided false true = inr (λ e. absurd (cc))
@@ -87,14 +89,14 @@ kind_decided k = by (is_text k) refl
   where
     by : (v : Bool) → is_text k ≡ v → Decided (k ≡ line.Text)
     by true e = inl (text_is k e)
-    by false e = inr (λ f. let no : true ≡ false = sym (ap is_text f) ∙ e in absurd (cc))
+    by false e = inr (λ f. let nay : true ≡ false = sym (ap is_text f) ∙ e in absurd (cc))
 
 pub heading_decided : (k : LineKind) → Decided (k ≡ line.Heading)
 heading_decided k = by (is_heading_line k) refl
   where
     by : (v : Bool) → is_heading_line k ≡ v → Decided (k ≡ line.Heading)
     by true e = inl (heading_is k e)
-    by false e = inr (λ f. let no : true ≡ false = sym (ap is_heading_line f) ∙ e in absurd (cc))
+    by false e = inr (λ f. let nay : true ≡ false = sym (ap is_heading_line f) ∙ e in absurd (cc))
 
 some_decided : {A : Type 0} (xs : List A) → Decided (1 ≤ length xs)
 some_decided [] = inr (λ h. absurd (omega (arith, h)))
@@ -112,19 +114,17 @@ ended_decided (b ∷ c ∷ cs) = ended_decided (c ∷ cs)
 lines_decided : (n : ℕ) (ls : Lines) → Decided (AreLinesAt n ls)
 lines_decided n [] = inl tt
 lines_decided n (l ∷ ls) =
-    both_decided (kind_at 0 l ≡ line.Text) ((kind_at n l ≡ line.Text) × AreLinesAt n ls) (kind_decided (kind_at 0 l))
-    (both_decided (kind_at n l ≡ line.Text) (AreLinesAt n ls) (kind_decided (kind_at n l)) (lines_decided n ls))
+    three_decided (kind_at 0 l ≡ line.Text) (kind_at n l ≡ line.Text) (AreLinesAt n ls) (kind_decided (kind_at 0 l)) (kind_decided (kind_at n l)) (lines_decided n ls)
 
 -- a line of a heading is one of these
 headed : (n : ℕ) (l : List Item) → Decided (IsLinedHeading n l)
-headed n l =
-    by (both_decided (kind_at n l ≡ line.Heading) ((begins (codes "=") (signs l) ≡ true) × (1 ≤ length (inside (content l)))) (heading_decided (kind_at n l))
-    (both_decided (begins (codes "=") (signs l) ≡ true) (1 ≤ length (inside (content l))) (bool_decided (begins (codes "=") (signs l)) true)
-    (some_decided (inside (content l)))))
+headed n l = by (heading_decided (kind_at n l)) (bool_decided (begins (codes "=") (signs l)) true) (some_decided (inside (content l)))
   where
-    by : Decided ((kind_at n l ≡ line.Heading) × (begins (codes "=") (signs l) ≡ true) × (1 ≤ length (inside (content l)))) → Decided (IsLinedHeading n l)
-    by (inl h) = inl (record { is_heading = h.0; first = h.1; some = h.2 })
-    by (inr f) = inr (λ h. f (h.is_heading, h.first, h.some))
+    by : Decided (kind_at n l ≡ line.Heading) → Decided (begins (codes "=") (signs l) ≡ true) → Decided (1 ≤ length (inside (content l))) → Decided (IsLinedHeading n l)
+    by (inl a) (inl b) (inl c) = inl (record { is_heading = a; first = b; some = c })
+    by (inr f) b c = inr (λ h. f h.is_heading)
+    by (inl a) (inr f) c = inr (λ h. f h.first)
+    by (inl a) (inl b) (inr f) = inr (λ h. f h.some)
 
 -- one with nothing before it
 abbrev pub Bare : Told → Type 0
@@ -132,37 +132,43 @@ Bare t = (list_all is_mark (lined t).marks ≡ true) × AreEnded (sources (lined
 
 bare_decided : (t : Told) → Decided (Bare t)
 bare_decided t =
-    both_decided (list_all is_mark (lined t).marks ≡ true) (AreEnded (sources (lined t).marks) × (1 ≤ length (lined t).first))
-    (bool_decided (list_all is_mark (lined t).marks) true)
-    (both_decided (AreEnded (sources (lined t).marks)) (1 ≤ length (lined t).first) (ended_decided (sources (lined t).marks)) (some_decided (lined t).first))
+    three_decided (list_all is_mark (lined t).marks ≡ true) (AreEnded (sources (lined t).marks)) (1 ≤ length (lined t).first)
+    (bool_decided (list_all is_mark (lined t).marks) true) (ended_decided (sources (lined t).marks)) (some_decided (lined t).first)
+
+-- something that is asked of blocks by what they are and their text
+abbrev pub Asked : Type 1
+Asked = TextBlock → List ℕ → Type 0
+
+abbrev pub Answered : Asked → Type 0
+Answered K = (k : TextBlock) (q : List ℕ) → Decided (K k q)
 
 -- where these tables are open
-pub record Fits (bs : List Bool) (t : Told) : Type 0 where
+pub record Fits (K : Asked) (bs : List Bool) (t : Told) : Type 0 where
   pub bare : Bare t
   pub cells : AllTrue bs
   pub own : OwnTold t (length bs)
-  pub shut : IsShut (lined t).block (lined t).text
+  pub asked : K (lined t).block (lined t).text
 
-fits_by : (bs : List Bool) (t : Told) → Decided (OwnTold t (length bs)) → Decided (Fits bs t)
-fits_by bs t own =
-    by (both_decided (Bare t) (AllTrue bs × (OwnTold t (length bs) × IsShut (lined t).block (lined t).text)) (bare_decided t)
-    (both_decided (AllTrue bs) (OwnTold t (length bs) × IsShut (lined t).block (lined t).text) (true_decided bs)
-    (both_decided (OwnTold t (length bs)) (IsShut (lined t).block (lined t).text) own
-    (bool_decided (any_ends_open (nodes_in (standing 0 [] (block_tree (lined t).block (lined t).text)))) false))))
+fits_by : (K : Asked) → Answered K → (bs : List Bool) (t : Told) → Decided (OwnTold t (length bs)) → Decided (Fits K bs t)
+fits_by K d bs t own =
+    by (bare_decided t) (true_decided bs) own (d (lined t).block (lined t).text)
   where
-    by : Decided (Bare t × (AllTrue bs × (OwnTold t (length bs) × IsShut (lined t).block (lined t).text))) → Decided (Fits bs t)
-    by (inl h) = inl (record { bare = h.0; cells = h.1.0; own = h.1.1.0; shut = h.1.1.1 })
-    by (inr f) = inr (λ h. f (h.bare, (h.cells, (h.own, h.shut))))
+    by : Decided (Bare t) → Decided (AllTrue bs) → Decided (OwnTold t (length bs)) → Decided (K (lined t).block (lined t).text) → Decided (Fits K bs t)
+    by (inl a) (inl b) (inl c) (inl e) = inl (record { bare = a; cells = b; own = c; asked = e })
+    by (inr nay) b c e = inr (λ h. nay h.bare)
+    by (inl a) (inr nay) c e = inr (λ h. nay h.cells)
+    by (inl a) (inl b) (inr nay) e = inr (λ h. nay h.own)
+    by (inl a) (inl b) (inl c) (inr nay) = inr (λ h. nay h.asked)
 
-pub text_fits : (bs : List Bool) (l : List Item) (more : Lines) → Decided (Fits bs (text_told [] l more))
-text_fits bs l more =
+pub text_fits : (K : Asked) → Answered K → (bs : List Bool) (l : List Item) (more : Lines) → Decided (Fits K bs (text_told [] l more))
+text_fits K d bs l more =
     let n : ℕ = length bs in
     let own : Lines = past_marks l ∷ more in
-    fits_by bs (text_told [] l more) (both_decided (AreLinesAt n own) (begins_unmarked (content (joined own)) ≡ true) (lines_decided n own)
+    fits_by K d bs (text_told [] l more) (both_decided (AreLinesAt n own) (begins_unmarked (content (joined own)) ≡ true) (lines_decided n own)
     (bool_decided (begins_unmarked (content (joined own))) true))
 
-pub heading_fits : (bs : List Bool) (l : List Item) → Decided (Fits bs (heading_told [] l))
-heading_fits bs l = fits_by bs (heading_told [] l) (headed (length bs) (past_marks l))
+pub heading_fits : (K : Asked) → Answered K → (bs : List Bool) (l : List Item) → Decided (Fits K bs (heading_told [] l))
+heading_fits K d bs l = fits_by K d bs (heading_told [] l) (headed (length bs) (past_marks l))
 
 -- ---- where those that are told begin
 
@@ -202,17 +208,6 @@ put_starts at xs (a_heading_on b m l ∷ ts) =
 -- the tables that are open where it is
 abbrev pub tables_at : List Bool → Told → List Bool
 tables_at bs t = open_after bs (rows_before bs t)
-
-record IsMoved (bs : List Bool) (xs : Lines) (t u : Told) : Type 0 where
-  before : (lined u).before ≡ xs ++ (lined t).before
-  marks : (lined u).marks ≡ (lined t).marks
-  first : (lined u).first ≡ (lined t).first
-  block : (lined u).block ≡ (lined t).block
-  own : (n : ℕ) → OwnTold u n ≡ OwnTold t n
-
-put_moved : (bs : List Bool) (xs : Lines) (t : Told) → IsMoved bs xs t (put_told xs t)
-put_moved bs xs (a_paragraph_of b m f r) = record { before = refl; marks = refl; first = refl; block = refl; own = λ n. refl }
-put_moved bs xs (a_heading_on b m l) = record { before = refl; marks = refl; first = refl; block = refl; own = λ n. refl }
 
 pub rows_put : (bs : List Bool) (xs : Lines) (t : Told) → rows_before bs (put_told xs t) ≡ written_rows (length bs) xs ++ rows_before (after bs xs) t
 rows_put bs xs (a_paragraph_of b m f r) = rows_behind bs xs b
@@ -283,7 +278,7 @@ put_first l xs (a_heading_on b m k ∷ ts) = tt
 -- lines before them, behind which a paragraph may be, or none is
 put_apart : (bs : List Bool) (xs : Lines) (t : Told) (ts : List Told) → IsToldAt (after bs xs) t → NoTextFirst (t ∷ ts) ⊎ EndApart (written_rows (length bs) xs)
     → EndsFor (lined t).block (rows_before bs (put_told xs t))
-put_apart bs xs (a_paragraph_of [] m f r) ts h (inl no) = absurd no
+put_apart bs xs (a_paragraph_of [] m f r) ts h (inl nay) = absurd nay
 put_apart bs xs (a_paragraph_of [] m f r) ts h (inr e) = subst EndApart (sym (rows_behind bs xs [] ∙ end_nil (written_rows (length bs) xs))) e
   where
     end_nil : (rs : List Row) → rs ++ [] ≡ rs
@@ -322,14 +317,14 @@ first_so k n x xs ys e =
   where
     first_of : (b : TextBlock) (r : Row) (rs : List Row) → is_text r.kind ≡ false → FirstApart b (r ∷ rs)
     first_of a_paragraph r rs h = h
-    first_of (a_heading s) r rs h = tt
+    first_of (a_heading s) r rs h = h
 
 pub behind_text : (bs : List Bool) (ts : List Told) (behind : Lines) → ToldFrom bs ts behind → NoTextFirst ts
     → BeginApart (rows_from (length bs) (all_lines (map lined ts) behind)) → AreToldAfter a_paragraph bs ts behind
-behind_text bs [] behind h no a = a
-behind_text bs (a_paragraph_of [] m f r ∷ ts) behind h no a = absurd no
-behind_text bs (a_paragraph_of (l ∷ b) m f r ∷ ts) behind h no a =
+behind_text bs [] behind h nay a = a
+behind_text bs (a_paragraph_of [] m f r ∷ ts) behind h nay a = absurd nay
+behind_text bs (a_paragraph_of (l ∷ b) m f r ∷ ts) behind h nay a =
     (first_so a_paragraph (length bs) l b (((m ++ f) ∷ r) ++ all_lines (map lined ts) behind) a, h.0, h.1)
-behind_text bs (a_heading_on [] m l ∷ ts) behind h no a = (tt, h.0, h.1)
-behind_text bs (a_heading_on (x ∷ b) m l ∷ ts) behind h no a =
-    (first_so a_paragraph (length bs) x b (((m ++ l) ∷ []) ++ all_lines (map lined ts) behind) a, h.0, h.1)
+behind_text bs (a_heading_on [] m l ∷ ts) behind h nay a = (tt, h.0, h.1)
+behind_text bs (a_heading_on (x ∷ b) m l ∷ ts) behind h nay a =
+    (first_so (lined (a_heading_on (x ∷ b) m l)).block (length bs) x b (((m ++ l) ∷ []) ++ all_lines (map lined ts) behind) a, h.0, h.1)

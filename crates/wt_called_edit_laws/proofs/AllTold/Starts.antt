@@ -40,29 +40,22 @@ abbrev mutual
   BlockIn zero is (more t ts) = BlockAt is t
   BlockIn (suc i) is (more t ts) = BlockIn i is ts
 
--- what is in a node, whatever it is
-inside_of : (Q : Tree → Type 0) (v : Housing) (t : Tree) (ts : Trees) → OfHousing v (Q t × EachBlockIn (λ (u : Tree). ⊥) ts) (EachBlockIn Q ts)
-    → (v ≡ a_block → ⊥) → EachBlockIn Q ts
-inside_of Q a_block t ts h no = absurd (no refl)
-inside_of Q a_shell t ts h no = h
-inside_of Q another t ts h no = h
-
 none_held : (Q : Tree → Type 0) (v : Housing) (t : Tree) (ts : Trees) → OfHousing v (Q t × EachBlockIn (λ (u : Tree). ⊥) ts) (EachBlockIn Q ts) → v ≡ a_block
     → Q t × EachBlockIn (λ (u : Tree). ⊥) ts
 none_held Q a_block t ts h e = h
 none_held Q a_shell t ts h e = absurd (cc)
 none_held Q another t ts h e = absurd (cc)
 
+some_inside : (v : Housing) (ts : Trees) → OfHousing v (⊥ × EachBlockIn (λ (u : Tree). ⊥) ts) (EachBlockIn (λ (u : Tree). ⊥) ts) → EachBlockIn (λ (u : Tree). ⊥) ts
+some_inside a_block ts h = absurd h.0
+some_inside a_shell ts h = h
+some_inside another ts h = h
+
 -- none is among nodes that hold none
 mutual
   no_block : (is : List ℕ) (t : Tree) → EachBlock (λ (u : Tree). ⊥) t → BlockAt is t → ⊥
   no_block [] (tree l ts) h b = (none_held (λ (u : Tree). ⊥) (housing_of l.kind) (tree l ts) ts h.1 b).0
-  no_block (i ∷ is) (tree l ts) h b = by (housing_of l.kind) h.1
-    where
-      by : (v : Housing) → OfHousing v (⊥ × EachBlockIn (λ u. ⊥) ts) (EachBlockIn (λ u. ⊥) ts) → ⊥
-      by a_block g = g.0
-      by a_shell g = no_blocks i is ts g b
-      by another g = no_blocks i is ts g b
+  no_block (i ∷ is) (tree l ts) h b = no_blocks i is ts (some_inside (housing_of l.kind) ts h.1) b
 
   no_blocks : (i : ℕ) (is : List ℕ) (ts : Trees) → EachBlockIn (λ (u : Tree). ⊥) ts → BlockIn i is ts → ⊥
   no_blocks i is none h b = b
@@ -79,7 +72,8 @@ inside_flat : (v : Bool) (own opening inside closing : List ℕ) → v ≡ false
     → length opening + length inside ≤ length (if v then own else opening ++ inside ++ closing)
 inside_flat true own opening inside closing e = absurd (cc)
 inside_flat false own opening inside closing e =
-    omega (arith, length-append opening (inside ++ closing), length-append inside closing)
+    let z : length (if false then own else opening ++ inside ++ closing) ≡ length (opening ++ inside) + length closing = length-append (opening ++ inside) closing in
+    omega (arith, z, length-append opening inside)
 
 leaf_or : (v : Bool) → (v ≡ true → ⊥) → v ≡ false
 leaf_or true h = absurd (h refl)

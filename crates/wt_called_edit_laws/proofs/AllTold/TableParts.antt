@@ -68,13 +68,13 @@ not_false false h = absurd cc
 -- the first ones pass
 first_pass : {A : Type 0} (p : A → Bool) (xs : List A) → AllByRecursion (λ (x : A). p x ≡ true) (take (prefix_len p xs) xs)
 first_pass p [] = tt
-first_pass p (x ∷ xs) = by (p x) refl
+first_pass p (x ∷ xs) = by (p x) refl (first_pass p xs)
   where
-    by : (v : Bool) → p x ≡ v → AllByRecursion (λ y. p y ≡ true) (take (cond v (1 + prefix_len p xs) 0) (x ∷ xs))
-    by true e =
+    by : (v : Bool) → p x ≡ v → AllByRecursion (λ y. p y ≡ true) (take (prefix_len p xs) xs) → AllByRecursion (λ y. p y ≡ true) (take (cond v (1 + prefix_len p xs) 0) (x ∷ xs))
+    by true e h =
         let z : 1 + prefix_len p xs ≡ suc (prefix_len p xs) = omega arith in
-        subst (λ (n : ℕ). AllByRecursion (λ y. p y ≡ true) (take n (x ∷ xs))) (sym z) (e, first_pass p xs)
-    by false e = tt
+        subst (λ (n : ℕ). AllByRecursion (λ y. p y ≡ true) (take n (x ∷ xs))) (sym z) (e, h)
+    by false e h = tt
 
 -- ---- units
 

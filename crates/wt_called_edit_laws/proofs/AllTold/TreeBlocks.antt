@@ -117,7 +117,7 @@ another_is another e = refl
 held_another : (q k : Kind) → is_inert (shape q).holding ≡ true → may_hold q k ≡ true → housing_of k ≡ another
 held_another q k i m =
     another_is (housing_of k) (true_or (is_another (housing_of k)) (λ e.
-    let no : false ≡ true = sym (none_admitted (shape q).holding (shape k).class i (home_of k e)) ∙ m in absurd (cc)))
+    let nay : false ≡ true = sym (none_admitted (shape q).holding (shape k).class i (home_of k e)) ∙ m in absurd (cc)))
 
 -- neither the body nor a section is in another node
 element_kind : (k : Kind) → is_somewhere (shape k).class ≡ true → is_frame k ≡ false
@@ -279,15 +279,16 @@ stood_leaf : (k : Kind) (n : ℕ) (before : List Item) (ts : ItemTrees) → is_g
 stood_leaf k n before ts g e =
     no_group_inside (is_group k) k n (inside_by (is_leaf k) (all_placed before ts)) g ∙ leaf_inside (is_leaf k) k n (all_placed before ts) e
 
+nothing_of : (Q : Tree → Type 0) (v : Housing) (t : Tree) (ts : Trees) → OfHousing v (⊥ × EachBlockIn (λ (u : Tree). ⊥) ts) (EachBlockIn (λ (u : Tree). ⊥) ts)
+    → (EachBlockIn (λ (u : Tree). ⊥) ts → EachBlockIn Q ts) → OfHousing v (Q t × EachBlockIn (λ (u : Tree). ⊥) ts) (EachBlockIn Q ts)
+nothing_of Q a_block t ts h f = absurd h.0
+nothing_of Q a_shell t ts h f = f h
+nothing_of Q another t ts h f = f h
+
 -- nothing holds of nothing
 mutual
   nothing_each : (Q : Tree → Type 0) (t : Tree) → EachBlock (λ (u : Tree). ⊥) t → EachBlock Q t
-  nothing_each Q (tree l ts) h = (h.0, by (housing_of l.kind) h.1)
-    where
-      by : (v : Housing) → OfHousing v (⊥ × EachBlockIn (λ u. ⊥) ts) (EachBlockIn (λ u. ⊥) ts) → OfHousing v (Q (tree l ts) × EachBlockIn (λ u. ⊥) ts) (EachBlockIn Q ts)
-      by a_block g = absurd g.0
-      by a_shell g = nothing_each_in Q ts g
-      by another g = nothing_each_in Q ts g
+  nothing_each Q (tree l ts) h = (h.0, nothing_of Q (housing_of l.kind) (tree l ts) ts h.1 (λ g. nothing_each_in Q ts g))
 
   nothing_each_in : (Q : Tree → Type 0) (ts : Trees) → EachBlockIn (λ (u : Tree). ⊥) ts → EachBlockIn Q ts
   nothing_each_in Q none h = tt
@@ -332,6 +333,30 @@ mutual
 abbrev Stood : (ℕ → ItemTree → Type 0) → (Tree → Type 0) → Type 0
 Stood P Q = (n : ℕ) (before : List Item) (u : ItemTree) → P (size before) u → Q (standing n before u)
 
+by_kind : (P : ℕ → ItemTree → Type 0) (Q : Tree → Type 0) (i : ℕ) (k : Kind) (n : ℕ) (before : List Item) (t : ItemTree) (o : List Item) (ts : ItemTrees)
+    → is_frame k ≡ false → is_group k ≡ false → (P (size before) t → Q (standing n before t)) → AreShownIn i k (inside_by (is_leaf k) (all_unplaced ts))
+    → ((to : ℕ) → FoundAll P (size (before ++ o)) ts to → AreShownIn i k (all_unplaced ts) → EachBlockIn Q (stands (next_after k n) (before ++ o) ts))
+    → (v : Housing) → housing_of k ≡ v → ByHousing v (P (size before) t) ((to : ℕ) × FoundAll P (size before + size o) ts to)
+    → OfHousing v (Q (standing n before t) × EachBlockIn (λ (u : Tree). ⊥) (inner_stands k n (before ++ o) ts)) (EachBlockIn Q (inner_stands k n (before ++ o) ts))
+by_kind P Q i k n before t o ts frame group own s go a_block e g = (
+  own g,
+  stood_inside (λ (u : Tree). ⊥) k n (before ++ o) ts (record {
+    no_group = group;
+    each = λ z. none_stand i k (next_after k n) (before ++ o) ts (block_inert k e) (not_leaf_shown (is_leaf k) i k (all_unplaced ts) z s);
+  }),
+)
+by_kind P Q i k n before t o ts frame group own s go a_shell e g =
+    let to : FoundAll P (size (before ++ o)) ts g.0 = subst (λ (m : ℕ). FoundAll P m ts g.0) (sym (size_both before o)) g.1 in
+    stood_inside Q k n (before ++ o) ts (record {
+      no_group = group;
+      each = λ z. go g.0 to (not_leaf_shown (is_leaf k) i k (all_unplaced ts) z s);
+    })
+by_kind P Q i k n before t o ts frame group own s go another e g =
+    nothing_each_in Q (inner_stands k n (before ++ o) ts) (stood_inside (λ (u : Tree). ⊥) k n (before ++ o) ts (record {
+      no_group = group;
+      each = λ z. none_stand i k (next_after k n) (before ++ o) ts (inert_kind k frame e) (not_leaf_shown (is_leaf k) i k (all_unplaced ts) z s);
+    }))
+
 mutual
   unfolding label_at
 
@@ -344,31 +369,8 @@ mutual
       let is : IsHeld q k = node_held (writing k) i q l (is_childless us) (IsOrdered (texts_of_kind k) us × AreShownIn (suc i) k us) refl s in
       let group : is_group k ≡ false = none_group i q l us s in
       let inside : AreShownIn (suc i) k us = shown_inside (writing k) i q l (suc i) k us (IsOrdered (texts_of_kind k) us) s in
-      (λ e. stood_leaf k n (before ++ o) ts group e, by_kind P Q f (suc i) k n before (inner h o ts c) o ts is.no_frame group (f n before (inner h o ts c)) inside
-          (housing_of k) refl g)
-
-  by_kind : (P : ℕ → ItemTree → Type 0) (Q : Tree → Type 0) → Stood P Q → (i : ℕ) (k : Kind) (n : ℕ) (before : List Item) (t : ItemTree) (o : List Item) (ts : ItemTrees)
-      → is_frame k ≡ false → is_group k ≡ false → (P (size before) t → Q (standing n before t)) → AreShownIn i k (inside_by (is_leaf k) (all_unplaced ts))
-      → (v : Housing) → housing_of k ≡ v → ByHousing v (P (size before) t) ((to : ℕ) × FoundAll P (size before + size o) ts to)
-      → OfHousing v (Q (standing n before t) × EachBlockIn (λ (u : Tree). ⊥) (inner_stands k n (before ++ o) ts)) (EachBlockIn Q (inner_stands k n (before ++ o) ts))
-  by_kind P Q f i k n before t o ts frame group own s a_block e g = (
-    own g,
-    stood_inside (λ (u : Tree). ⊥) k n (before ++ o) ts (record {
-      no_group = group;
-      each = λ z. none_stand i k (next_after k n) (before ++ o) ts (block_inert k e) (not_leaf_shown (is_leaf k) i k (all_unplaced ts) z s);
-    }),
-  )
-  by_kind P Q f i k n before t o ts frame group own s a_shell e g =
-      let to : FoundAll P (size (before ++ o)) ts g.0 = subst (λ (m : ℕ). FoundAll P m ts g.0) (sym (size_both before o)) g.1 in
-      stood_inside Q k n (before ++ o) ts (record {
-        no_group = group;
-        each = λ z. found_stand P Q f i k (next_after k n) (before ++ o) ts g.0 to (not_leaf_shown (is_leaf k) i k (all_unplaced ts) z s);
-      })
-  by_kind P Q f i k n before t o ts frame group own s another e g =
-      nothing_each_in Q (inner_stands k n (before ++ o) ts) (stood_inside (λ (u : Tree). ⊥) k n (before ++ o) ts (record {
-        no_group = group;
-        each = λ z. none_stand i k (next_after k n) (before ++ o) ts (inert_kind k frame e) (not_leaf_shown (is_leaf k) i k (all_unplaced ts) z s);
-      }))
+      (λ e. stood_leaf k n (before ++ o) ts group e, by_kind P Q (suc i) k n before (inner h o ts c) o ts is.no_frame group (f n before (inner h o ts c)) inside
+          (λ to a b. found_stand P Q f (suc i) k (next_after k n) (before ++ o) ts to a b) (housing_of k) refl g)
 
   found_stand : (P : ℕ → ItemTree → Type 0) (Q : Tree → Type 0) → Stood P Q → (i : ℕ) (q : Kind) (n : ℕ) (before : List Item) (ts : ItemTrees) (to : ℕ)
       → FoundAll P (size before) ts to → AreShownIn i q (all_unplaced ts) → EachBlockIn Q (stands n before ts)
@@ -389,9 +391,9 @@ page_meaning page = body_is (page_items page) (parts_in (page_items page)) refl
 
 pub page_blocks : (pages : Pages) (page : List ℕ) → CallsNothing (page_items page) → HasNoGroups page
     → children (called_tree pages page) ≡ blocks_of 1 [] (blocks_in (page_items page))
-page_blocks pages page calm none =
+page_blocks pages page calm whole =
     ap children (page_of_items pages page calm ∙ ap (annotated [] (group_data [])) (page_meaning page)
-    ∙ plain_tree (blocks_in (page_items page)) (part_plain page none))
+    ∙ plain_tree (blocks_in (page_items page)) (part_plain page whole))
 
 page_sound : (pages : Pages) (page : List ℕ) → IsUtf8 page → CallsNothing (page_items page) → ArePageItems (page_items page)
 page_sound pages page u calm =
@@ -399,6 +401,6 @@ page_sound pages page u calm =
 
 pub blocks_stand : (P : ℕ → ItemTree → Type 0) (Q : Tree → Type 0) (pages : Pages) (page : List ℕ) (to : ℕ) → IsUtf8 page → CallsNothing (page_items page)
     → HasNoGroups page → Stood P Q → FoundAll P 0 (forest (blocks_in (page_items page))) to → EachBlockIn Q (children (called_tree pages page))
-blocks_stand P Q pages page to u calm none f g =
-    subst (EachBlockIn Q) (sym (page_blocks pages page calm none))
+blocks_stand P Q pages page to u calm whole f g =
+    subst (EachBlockIn Q) (sym (page_blocks pages page calm whole))
     (found_stand P Q f 9 kind.Body 1 [] (forest (blocks_in (page_items page))) to g (page_shown (page_items page) (page_sound pages page u calm)).0)
