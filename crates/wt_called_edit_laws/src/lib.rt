@@ -433,8 +433,8 @@ pub fn blocks_that_call_have_their_sources()
         → HaveOwnSources (block_with_groups pages ss behind) ss }
 {}
 
-/// A page with calls, with places for blocks in its body and in the cells and captions of its tables. Where no group of
-/// its tree has the first byte of one of these blocks, each node round them is clean: so groups stay what they are,
+/// A page with calls, with places for blocks in its body and in the cells and captions of its tables. Where each of these
+/// blocks has a byte that no group of its tree has, each node round them is clean: so groups stay what they are,
 /// whatever the blocks are.
 #[tactic(auto, using(crate::proofs::FreePlaces::clean_where_free))]
 pub fn nodes_round_free_blocks_are_clean()
