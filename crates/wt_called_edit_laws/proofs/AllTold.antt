@@ -5,9 +5,8 @@ pub mod FoundTables
 pub mod TableParts
 pub mod Opens
 pub mod FoundBlocks
-pub mod Starts
+pub mod EachBlocks
 pub mod TreeBlocks
-pub mod PlaceStarts
 pub mod LineKinds
 pub mod Scans
 pub mod Scanned

@@ -73,8 +73,3 @@ pub fn each_block_stands_on_lines()
 pub fn told_blocks_are_told_together()
     ensures all { (page : List ℕ) → IsUtf8 page → CallsNothing (page_items page) → HasNoGroups page → EndsClosed page [] → AreAllTold page }
 {}
-
-/// For now.
-pub fn probe()
-    ensures some { ℕ }
-{}

@@ -1,6 +1,5 @@
 -- Paragraphs and headings that are found in trees over items, in tables and their cells, each with the byte at which it begins.
 use Rattle.std.proofs.Common.{arith, ◌≡◌, ℕ, suc, ◌+◌, true, false, Option, List, [], ◌∷◌, ◌++◌, length, take, drop, map, refl, sym, ap, ◌∙◌, subst, append-nil, length-append}
-use Rattle.std.specs.List.{flat_map}
 use Rattle.std.proofs.lemmas.List.{take-append-drop}
 use Rattle.std.proofs.lemmas.Grind.{flat_map-append}
 use Rattle.wt_tree.specs.declared.kind.Kind.{Kind}
@@ -12,7 +11,7 @@ use Rattle.wt_inline.specs.declared.loose.Loose.{Loose}
 use Rattle.wt_inline.specs.declared.loose.Loose.TheVariants.{Text, Sep}
 use Rattle.wt_inline.specs.ItemTree.{Head, ItemTree, inner, ItemTrees, nothing, further, forest, tree_items, held_by_all}
 use Rattle.wt_inline.specs.Parts.{Part, loose, node, held_parts, one_leaf, loose_leaf, child, children}
-use Rattle.wt_page.specs.Stretches.{Stretch, gap, stretch_parts, stretches_parts, front_len, front_gaps, past_front, block_len, before_end, end_gaps, tree_block, node_of, opened_by, enclosed}
+use Rattle.wt_page.specs.Stretches.{Stretch, stretch_parts, stretches_parts, front_len, front_gaps, past_front, block_len, before_end, end_gaps, node_of, opened_by, enclosed}
 
 -- ---- sizes in bytes
 
@@ -114,9 +113,11 @@ runs_found P ((loose k o b ∷ r) ∷ rs) at to ps h g =
     let all : FoundParts P at ((loose k o b ∷ r) ++ h.0) to = subst (λ (qs : List Part). FoundParts P at qs to) h.1 g in
     let own : List Item = char o b ∷ held_parts r in
     let m : ℕ = size (held_parts r) in
-    let z : (at + 1) + m ≡ at + tree_size (loose_leaf k own) = omega (arith, leaf_size k own) in
-    (leaf_found P at k own, runs_found P rs (at + tree_size (loose_leaf k own)) to h.0 h.3
-        (parts_from P ((at + 1) + m) (at + tree_size (loose_leaf k own)) to h.0 z (loose_run P k o b r h.0 (at + 1) to h.2 all)))
+    let z : (at + 1) + m ≡ at + tree_size (loose_leaf k own) = omega (arith, leaf_size k own) in (
+      leaf_found P at k own,
+      runs_found P rs (at + tree_size (loose_leaf k own)) to h.0 h.3
+          (parts_from P ((at + 1) + m) (at + tree_size (loose_leaf k own)) to h.0 z (loose_run P k o b r h.0 (at + 1) to h.2 all)),
+    )
 runs_found P ((node t ∷ []) ∷ rs) at to ps h g =
     let all : FoundParts P at (node t ∷ h.0) to = subst (λ (qs : List Part). FoundParts P at qs to) h.1 g in
     (all.0, runs_found P rs (at + tree_size t) to h.0 h.3 all.1)

@@ -1,19 +1,18 @@
 -- What is found in the body of a page: whatever holds of each run of rows of text that is in the body, in a cell or in a caption, and of each row
 -- of a heading there, holds of each paragraph and heading.
-use Rattle.std.proofs.Common.{arith, ◌≡◌, ◌⊎◌, inl, inr, ℕ, zero, suc, ◌+◌, Bool, true, false, List, [], ◌∷◌, ◌++◌, length, refl, sym, ap, ◌∙◌, subst, append-nil, append_assoc}
+use Rattle.std.proofs.Common.{arith, ◌≡◌, ◌⊎◌, inl, inr, ℕ, zero, suc, ◌+◌, true, false, List, [], ◌∷◌, ◌++◌, refl, sym, ap, ◌∙◌, subst, append-nil, append_assoc}
 use Rattle.std.specs.List.{flat_map}
 use Rattle.wt_span.specs.Items.{Item}
 use Rattle.wt_lines.specs.declared.kind.LineKind.{LineKind}
 use Rattle.wt_lines.specs.declared.kind.LineKind.TheVariants as line
 use Rattle.wt_lines.specs.declared.kind.TheConstants.{MOST_TABLES}
-use Rattle.wt_lines.specs.Lines.{full_lines}
 use Rattle.wt_tables.specs.Extents.{is_open}
 use Rattle.wt_tables.specs.Parts.{TableOf, table_lines, table_of}
 use Rattle.wt_inline.specs.Inside.{opened_all}
 use Rattle.wt_inline.specs.ItemTree.{ItemTree, forest, tree_items}
 use Rattle.wt_inline.specs.Parts.{children}
 use Rattle.wt_page.specs.Headings.{heading as heading_tree}
-use Rattle.wt_page.specs.Rows.{Row, kind_of, row_items, all_items, first_lead, last_ending, rows_from, rows}
+use Rattle.wt_page.specs.Rows.{Row, kind_of, row_items, all_items, first_lead, last_ending, rows_from}
 use Rattle.wt_page.specs.Stretches.{Stretch, gap, stretches_parts, tree_block}
 use Rattle.wt_page.specs.Tables.{Reading, gaps}
 use Rattle.wt_page.specs.Texts.{with_separators, para, pre as pre_tree, rule as rule_leaf}
@@ -24,16 +23,16 @@ use Rattle.wt_tables.proofs.PartLines.{table_joined}
 use Rattle.wt_part_laws.specs.Blocks.{Block, blank, table, heading, rule, lists, preformatted, paragraph, block_rows, AllAre, BeginOtherwise, IsBlock, AreBlocks, block_parts}
 use Rattle.wt_part_laws.specs.Rounds.{EndOtherwise}
 use Rattle.wt_part_laws.specs.Slots.{AllTrue}
-use Rattle.wt_part_laws.specs.Units.{IsUnit, Level}
+use Rattle.wt_part_laws.specs.Units.{Level}
 use Rattle.wt_part_laws.proofs.BlockCases.{read_by_cases}
 use Rattle.wt_part_laws.proofs.Falling.{IsPart, unit_is_part}
 use Rattle.wt_part_laws.proofs.PageBlocks.{page_blocked}
 use Rattle.wt_part_laws.proofs.UnitCuts.{inside_of}
 use Rattle.wt_called_edit_laws.specs.AnyBlocks.{open_after}
-use Rattle.wt_called_edit_laws.proofs.AllTold.Found.{size, tree_size, size_both, FoundIn, FoundAll, children_found, FoundParts, parts_from, parts_to, stretches_join}
+use Rattle.wt_called_edit_laws.proofs.AllTold.Found.{size, tree_size, size_both, FoundIn, FoundAll, children_found, FoundParts, parts_to, stretches_join}
 use Rattle.wt_called_edit_laws.proofs.AllTold.FoundTables.{width, width_both, gap_first, gaps_found, IsAmong, ReadsFound, end_behind, table_found}
 use Rattle.wt_called_edit_laws.proofs.AllTold.Opens.{open_both, block_open}
-use Rattle.wt_called_edit_laws.proofs.AllTold.OtherNodes.{IsOther, opened_size, bare_found, around_bare, lists_found, pre_other, rule_other}
+use Rattle.wt_called_edit_laws.proofs.AllTold.OtherNodes.{opened_size, bare_found, around_bare, lists_found, pre_other, rule_other}
 use Rattle.wt_called_edit_laws.proofs.AllTold.TableParts.{table_is}
 
 -- ---- what is asked of rows
@@ -102,8 +101,16 @@ around_found P at t rs xs h e =
     let a : ℕ = at + size lead in
     let end : ℕ = at + size xs in
     let z : (a + tree_size t) + size last ≡ end =
-    omega (arith, all, size_both (opened_all lead) (kept_tree t ++ opened_all last), size_both (kept_tree t) (opened_all last), opened_size lead,
-    opened_size (tree_items t), opened_size last, opened_size xs) in
+    omega (
+      arith,
+      all,
+      size_both (opened_all lead) (kept_tree t ++ opened_all last),
+      size_both (kept_tree t) (opened_all last),
+      opened_size lead,
+      opened_size (tree_items t),
+      opened_size last,
+      opened_size xs,
+    ) in
     gap_first P at a end lead (tree_block t ∷ gap last ∷ []) refl (h, gap_first P (a + tree_size t) end end last [] z refl)
 
 one_width : (r : Row) → size (row_items r) ≡ width (r ∷ [])

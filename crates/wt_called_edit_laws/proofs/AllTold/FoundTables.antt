@@ -1,22 +1,22 @@
 -- What is found in a table: in each of its cells and captions what is found in the rows of these.
-use Rattle.std.proofs.Common.{arith, ◌≡◌, ℕ, zero, suc, ◌+◌, Bool, true, false, List, [], ◌∷◌, ◌++◌, length, take, drop, refl, sym, ap, ◌∙◌, subst, append-nil, append_assoc}
+use Rattle.std.proofs.Common.{arith, ◌≡◌, ℕ, ◌+◌, Bool, true, false, List, [], ◌∷◌, ◌++◌, take, drop, refl, sym, ap, ◌∙◌, subst, append-nil, append_assoc}
 use Rattle.std.specs.List.{AllByRecursion, flat_map}
 use Rattle.std.proofs.lemmas.List.{take-append-drop}
 use Rattle.std.proofs.lemmas.Grind.{flat_map-append}
 use Rattle.wt_tree.specs.declared.kind.Kind.TheVariants as kind
-use Rattle.wt_span.specs.Items.{Item, source, sources}
+use Rattle.wt_span.specs.Items.{Item}
 use Rattle.wt_lines.specs.declared.kind.LineKind.{LineKind}
 use Rattle.wt_lines.specs.declared.kind.LineKind.TheVariants as line
 use Rattle.wt_lines.specs.Lines.{content}
 use Rattle.wt_tables.specs.Cells.{Cell, whole, cells_from, table_attributes, row_attributes}
-use Rattle.wt_tables.specs.Parts.{RowOf, TableOf, joined, begins_part, is_row, row_lines, table_lines, table_of}
+use Rattle.wt_tables.specs.Parts.{RowOf, TableOf, joined, begins_part, is_row, row_lines, table_lines}
 use Rattle.wt_inline.specs.declared.loose.Loose.TheVariants.{Sep}
 use Rattle.wt_inline.specs.ItemTree.{Head, plain, ItemTree}
 use Rattle.wt_inline.specs.Parts.{parts}
 use Rattle.wt_context.specs.Line.{line_parts}
 use Rattle.wt_page.specs.Lines.{ending}
-use Rattle.wt_page.specs.Rows.{Row, row_items, all_items, kind_of, first_lead}
-use Rattle.wt_page.specs.Stretches.{Stretch, gap, block, stretches_parts, tree_block, node_of, opened_by, enclosed}
+use Rattle.wt_page.specs.Rows.{Row, row_items, all_items, first_lead}
+use Rattle.wt_page.specs.Stretches.{Stretch, gap, block, stretches_parts, tree_block, node_of, opened_by}
 use Rattle.wt_page.specs.Tables.{Reading, gaps, with_attrs, cell_kind, cell_by, cells_by, cell_stretches, stray_len, from_sign, delimiter, behind_delimiter, delimiter_lead, first_items, row_by, row_stretches, rows_stretches, table_inside, table_by}
 use Rattle.wt_page.proofs.Ends.{content_ending}
 use Rattle.wt_page.proofs.HeldTables.{cells_joined, lead_sign}
@@ -24,12 +24,11 @@ use Rattle.wt_part_laws.specs.Blocks.{Block, BeginOtherwise, AreBlocks}
 use Rattle.wt_part_laws.specs.Rounds.{EndOtherwise}
 use Rattle.wt_part_laws.specs.Slots.{AllTrue, open_behind}
 use Rattle.wt_part_laws.specs.Units.{Level}
-use Rattle.wt_part_laws.proofs.PageBlocks.{Blocked}
 use Rattle.wt_called_edit_laws.specs.AnyBlocks.{open_after}
 use Rattle.wt_called_edit_laws.proofs.AllTold.Found.{size, tree_size, size_both, a_shell, housing_of, FoundParts, parts_join, parts_from, parts_to, Shell, shell_found, stretches_join, opened_found, enclosed_found}
 use Rattle.wt_called_edit_laws.proofs.AllTold.Opens.{open_both, level_open, blocks_open, cell_open}
 use Rattle.wt_called_edit_laws.proofs.AllTold.OtherNodes.{gap_found, line_found}
-use Rattle.wt_called_edit_laws.proofs.AllTold.TableParts.{AreCells, Opening, IsRow, IsTable}
+use Rattle.wt_called_edit_laws.proofs.AllTold.TableParts.{AreCells, IsRow, IsTable}
 
 -- ---- rows in bytes
 

@@ -1,5 +1,5 @@
 -- Each paragraph and each heading of a page's tree is of the page's lines, or it begins behind a sign on a line.
-use Rattle.std.proofs.Common.{arith, ◌≡◌, ◌⊎◌, inl, inr, ℕ, zero, suc, ◌+◌, Bool, true, false, List, [], ◌∷◌, ◌++◌, length, take, drop, map, refl, sym, ap, ap₂, ◌∙◌, subst, append_assoc}
+use Rattle.std.proofs.Common.{arith, ◌≡◌, ◌⊎◌, inl, inr, ℕ, zero, suc, Bool, true, false, List, [], ◌∷◌, ◌++◌, drop, map, refl, sym, ap, ap₂, ◌∙◌, subst, append_assoc}
 use Rattle.std.specs.Prelude.{replicate, if◌then◌else◌}
 use Rattle.std.specs.Str.{IsUtf8}
 use Rattle.wt_tree.specs.Tree.{Tree, label}
@@ -9,13 +9,13 @@ use Rattle.wt_expand.specs.PageItems.{page_items}
 use Rattle.wt_expand.specs.Work.{Pages}
 use Rattle.wt_lines.specs.declared.kind.LineKind.{LineKind}
 use Rattle.wt_lines.specs.declared.kind.LineKind.TheVariants as line
-use Rattle.wt_lines.specs.Lines.{content, full_lines}
+use Rattle.wt_lines.specs.Lines.{full_lines}
 use Rattle.wt_blocks.specs.Paragraphs.{is_text}
 use Rattle.wt_tables.specs.Extents.{behind}
 use Rattle.wt_tables.specs.Parts.{joined}
 use Rattle.wt_page.specs.Headings.{heading}
 use Rattle.wt_page.specs.Lines.{kind_at}
-use Rattle.wt_page.specs.Rows.{Row, all_items, marks_len, idle_len, dashes, is_unseen, behind_sign, sign_row, sign_rows, whole_row, line_rows, unwritten_end, rows_from}
+use Rattle.wt_page.specs.Rows.{Row, marks_len, idle_len, dashes, is_unseen, behind_sign, sign_row, whole_row, line_rows, unwritten_end, rows_from}
 use Rattle.wt_page.specs.Texts.{para}
 use Rattle.wt_page.proofs.HeldRows.{unwritten, from_lines}
 use Rattle.wt_part_laws.specs.Blocks.{AllAre, BeginOtherwise}
@@ -25,7 +25,7 @@ use Rattle.wt_text_edit_laws.specs.BodyParagraphs.{EndsIts, EndWhole}
 use Rattle.wt_text_edit_laws.specs.NoCalls.{CallsNothing}
 use Rattle.wt_text_edit_laws.specs.ParagraphBetween.{written_rows, tables_behind, EndApart, BeginApart}
 use Rattle.wt_text_edit_laws.specs.Parts.{HasNoGroups}
-use Rattle.wt_text_edit_laws.proofs.Cuts.RowLines.{AllText, whole_text, TextLine, text_line, TextLines, text_lines}
+use Rattle.wt_text_edit_laws.proofs.Cuts.RowLines.{AllText, TextLine, text_line, TextLines, text_lines}
 use Rattle.wt_called_edit_laws.specs.AnyBlocks.{open_after}
 use Rattle.wt_called_edit_laws.specs.Groups.{called_tree}
 use Rattle.wt_called_edit_laws.specs.RowBlocks.{IsTextBlock, IsAtPath, begins_behind, begins_at, text_row, AreOfText, IsOfRows, of_text, of_heading, StandsOnRows, IsOfLines, of_lines, of_line, behind_a_sign, StandsOnLines}

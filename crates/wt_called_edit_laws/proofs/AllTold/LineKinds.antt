@@ -1,5 +1,5 @@
 -- Kinds of lines and of their rows: with the marks that begin them and without these.
-use Rattle.std.proofs.Common.{arith, ◌≡◌, ◌≤◌, ◌⊎◌, inl, inr, ℕ, zero, suc, ◌+◌, Bool, true, false, List, [], ◌∷◌, ◌++◌, length, take, drop, map, refl, sym, ap, ◌∙◌, subst, cond, append-nil, append_assoc}
+use Rattle.std.proofs.Common.{arith, ◌≡◌, ◌≤◌, ℕ, suc, ◌+◌, Bool, true, false, List, [], ◌∷◌, ◌++◌, length, take, drop, map, refl, sym, ap, ◌∙◌, subst, cond, append_assoc}
 use Rattle.std.specs.Prelude.{◌&&◌, if◌then◌else◌}
 use Rattle.std.specs.List.{list_all}
 use Rattle.std.proofs.lemmas.List.{take-append-drop, map-append}
@@ -12,7 +12,6 @@ use Rattle.wt_blocks.specs.Paragraphs.{is_text}
 use Rattle.wt_tables.specs.Extents.{behind}
 use Rattle.wt_page.specs.Lines.{kind_at}
 use Rattle.wt_page.specs.Rows.{Row, marks_len, idle_len, dashes, is_unseen, behind_sign, sign_row, sign_rows, whole_row, line_rows, rows_from}
-use Rattle.wt_part_laws.specs.Slots.{open_behind}
 use Rattle.wt_text_edit_laws.specs.ParagraphBetween.{written_rows, tables_behind, EndApart, BeginApart}
 use Rattle.wt_text_edit_laws.proofs.Cuts.RowLines.{AllText}
 use Rattle.wt_text_edit_laws.proofs.Paragraphs.Marks.{mark_sign, AreMarkSigns, kind_marks}

@@ -1,5 +1,5 @@
 -- Which tables are open behind rows that are blocks, and behind parts of a table.
-use Rattle.std.proofs.Common.{arith, ◌≡◌, ◌<◌, ◌-◌, ℕ, zero, suc, Bool, true, false, List, [], ◌∷◌, ◌++◌, length, refl, sym, ap, ◌∙◌, subst, inl, inr}
+use Rattle.std.proofs.Common.{arith, ◌≡◌, ◌<◌, ℕ, Bool, true, false, List, [], ◌∷◌, ◌++◌, length, refl, sym, ap, ◌∙◌, subst, inl, inr}
 use Rattle.wt_lines.specs.declared.kind.LineKind.{LineKind}
 use Rattle.wt_lines.specs.declared.kind.LineKind.TheVariants as line
 use Rattle.wt_tables.specs.Extents.{is_open, behind}
@@ -7,7 +7,7 @@ use Rattle.wt_tables.specs.Parts.{begins_part, is_row}
 use Rattle.wt_page.specs.Rows.{Row}
 use Rattle.wt_part_laws.specs.Blocks.{Block, blank, table, heading, rule, lists, preformatted, paragraph, block_rows, AllAre, IsBlock, AreBlocks}
 use Rattle.wt_part_laws.specs.Slots.{open_behind}
-use Rattle.wt_part_laws.specs.Units.{IsUnit, Level}
+use Rattle.wt_part_laws.specs.Units.{Level}
 use Rattle.wt_part_laws.proofs.Falling.{IsPart, unit_is_part}
 use Rattle.wt_part_laws.proofs.UnitCuts.{level_rest, level_ends, inside_of}
 use Rattle.wt_called_edit_laws.specs.AnyBlocks.{open_after}

@@ -1,11 +1,11 @@
 -- Nodes on a line, lists, preformatted text and rules are neither paragraphs nor headings, nor tables or parts of one.
-use Rattle.std.proofs.Common.{arith, ◌≡◌, ℕ, zero, suc, ◌+◌, ◌-◌, Bool, true, false, Option, Some, None, List, [], ◌∷◌, ◌++◌, length, take, drop, map, refl, sym, ap, ◌∙◌, subst}
+use Rattle.std.proofs.Common.{arith, ◌≡◌, ℕ, zero, suc, ◌+◌, ◌-◌, Bool, true, false, Option, Some, None, List, [], ◌∷◌, ◌++◌, length, take, drop, map, refl, sym, ap, subst}
 use Rattle.std.specs.Prelude.{◌==◌, if◌then◌else◌}
 use Rattle.std.specs.List.{AllByRecursion, flat_map}
 use Rattle.wt_tree.specs.declared.kind.Kind.TheVariants as kind
 use Rattle.wt_span.specs.declared.form.ItemForm.{ItemForm}
 use Rattle.wt_span.specs.declared.form.ItemForm.TheVariants as form
-use Rattle.wt_span.specs.Items.{Item, char, whole, sources}
+use Rattle.wt_span.specs.Items.{Item, char, whole}
 use Rattle.wt_span.specs.Runs.{runs}
 use Rattle.wt_tiles.specs.declared.context.Context.{Context}
 use Rattle.wt_tiles.specs.declared.shape.Shape.{Shape}
@@ -34,13 +34,13 @@ use Rattle.wt_context.specs.Line.{within, context_parts, line_parts}
 use Rattle.wt_context.proofs.LineHolding.{line_source}
 use Rattle.wt_blocks.specs.ListTree.{ListTree, node as list_node, ListTrees, none, more, forest as list_forest}
 use Rattle.wt_blocks.specs.Nesting.{nested}
-use Rattle.wt_page.specs.Rows.{Row, all_items, row_items}
-use Rattle.wt_page.specs.Stretches.{Stretch, gap, block, stretch_parts, stretches_parts, front_len, front_gaps, past_front, block_len, end_gaps, opened_by, enclosed}
-use Rattle.wt_page.specs.Lists.{with_blanks, item_opening_len, term_len, item_kind, list_kind, term, item_by, line_item, begins_at, row_at, list_stretches, all_lists, prefixes, lists}
+use Rattle.wt_page.specs.Rows.{Row, all_items}
+use Rattle.wt_page.specs.Stretches.{Stretch, gap, block, stretch_parts, stretches_parts, front_len, front_gaps, past_front, block_len, opened_by, enclosed}
+use Rattle.wt_page.specs.Lists.{with_blanks, item_opening_len, term_len, item_kind, list_kind, item_by, line_item, begins_at, row_at, list_stretches, all_lists, prefixes, lists}
 use Rattle.wt_page.specs.Texts.{pre, rule}
 use Rattle.wt_page.proofs.Held.{kept}
 use Rattle.wt_page.proofs.HeldLists.{of_lists}
-use Rattle.wt_called_edit_laws.proofs.AllTold.Found.{size, tree_size, size_both, Housing, another, housing_of, ByHousing, FoundIn, FoundAll, FoundParts, parts_from, parts_to}
+use Rattle.wt_called_edit_laws.proofs.AllTold.Found.{size, tree_size, size_both, Housing, another, housing_of, ByHousing, FoundIn, FoundAll, FoundParts, parts_to}
 
 -- ---- lists
 

@@ -1,11 +1,10 @@
 -- Each paragraph and each heading of a page's tree is of the page's rows.
-use Rattle.std.proofs.Common.{◌≡◌, ◌⊎◌, inl, inr, ℕ, zero, suc, ◌+◌, List, [], ◌∷◌, ◌++◌, length, refl, sym, ap, ◌∙◌, subst}
+use Rattle.std.proofs.Common.{◌≡◌, inl, inr, ℕ, zero, suc, List, [], ◌∷◌, refl, sym, ap, subst}
 use Rattle.std.specs.Str.{IsUtf8}
 use Rattle.wt_tree.specs.declared.kind.Kind.{Kind}
 use Rattle.wt_tree.specs.declared.kind.Kind.TheVariants as kind
-use Rattle.wt_tree.specs.Tree.{Label, Tree, tree, Trees, none, more, label}
-use Rattle.wt_span.specs.Items.{Item}
-use Rattle.wt_inline.specs.ItemTree.{ItemTree, forest}
+use Rattle.wt_tree.specs.Tree.{Tree, tree, Trees, none, more, label}
+use Rattle.wt_inline.specs.ItemTree.{forest}
 use Rattle.wt_checks.specs.Kept.{children}
 use Rattle.wt_expand.specs.PageItems.{page_items}
 use Rattle.wt_expand.specs.Work.{Pages}
@@ -23,7 +22,7 @@ use Rattle.wt_called_edit_laws.proofs.PageBody.{page_body}
 use Rattle.wt_called_edit_laws.proofs.AllTold.Found.{Housing, a_block, a_shell, another, housing_of, FoundAll}
 use Rattle.wt_called_edit_laws.proofs.AllTold.FoundBlocks.{HoldsOfRows, body_found}
 use Rattle.wt_called_edit_laws.proofs.AllTold.FoundTables.{width}
-use Rattle.wt_called_edit_laws.proofs.AllTold.Starts.{OfHousing, EachBlock, EachBlockIn}
+use Rattle.wt_called_edit_laws.proofs.AllTold.EachBlocks.{OfHousing, EachBlock, EachBlockIn}
 use Rattle.wt_called_edit_laws.proofs.AllTold.TreeBlocks.{blocks_stand}
 
 -- ---- what holds of each holds of one
@@ -33,12 +32,13 @@ housed k (inl e) = ap housing_of e
 housed k (inr (n, e)) = ap housing_of e
 
 -- a block is no node of another housing
-own_of : (Q : Tree → Type 0) (v : Housing) (t : Tree) (ts : Trees) → v ≡ a_block → OfHousing v (Q t × EachBlockIn (λ (u : Tree). ⊥) ts) (EachBlockIn Q ts) → Q t
+own_of : (Q : Tree → Type 0) (v : Housing) (t : Tree) (ts : Trees) → v ≡ a_block → OfHousing v (Q t × EachBlockIn (λ (u : Tree). ⊥) ts) (EachBlockIn Q ts) (EachBlockIn (λ (u : Tree). ⊥) ts) → Q t
 own_of Q a_block t ts e h = h.0
 own_of Q a_shell t ts e h = absurd (cc)
 own_of Q another t ts e h = absurd (cc)
 
-none_inside : (v : Housing) (ts : Trees) → OfHousing v (⊥ × EachBlockIn (λ (u : Tree). ⊥) ts) (EachBlockIn (λ (u : Tree). ⊥) ts) → EachBlockIn (λ (u : Tree). ⊥) ts
+none_inside : (v : Housing) (ts : Trees) → OfHousing v (⊥ × EachBlockIn (λ (u : Tree). ⊥) ts) (EachBlockIn (λ (u : Tree). ⊥) ts) (EachBlockIn (λ (u : Tree). ⊥) ts)
+    → EachBlockIn (λ (u : Tree). ⊥) ts
 none_inside a_block ts h = absurd h.0
 none_inside a_shell ts h = h
 none_inside another ts h = h
@@ -56,10 +56,10 @@ mutual
 
 -- what is in a node is in no block, if a block is among it
 below_each : (Q : Tree → Type 0) (v : Housing) (i : ℕ) (is : List ℕ) (t : Tree) (ts : Trees) (u : Tree)
-    → OfHousing v (Q t × EachBlockIn (λ (x : Tree). ⊥) ts) (EachBlockIn Q ts) → IsAmong i is ts u → IsTextBlock (label u).kind → EachBlockIn Q ts
+    → OfHousing v (Q t × EachBlockIn (λ (x : Tree). ⊥) ts) (EachBlockIn Q ts) (EachBlockIn (λ (x : Tree). ⊥) ts) → IsAmong i is ts u → IsTextBlock (label u).kind → EachBlockIn Q ts
 below_each Q a_block i is t ts u h e b = absurd (none_among i is ts u h.1 e b)
 below_each Q a_shell i is t ts u h e b = h
-below_each Q another i is t ts u h e b = h
+below_each Q another i is t ts u h e b = absurd (none_among i is ts u h e b)
 
 mutual
   each_at : (Q : Tree → Type 0) (is : List ℕ) (t u : Tree) → EachBlock Q t → IsAtPath is t u → IsTextBlock (label u).kind → Q u

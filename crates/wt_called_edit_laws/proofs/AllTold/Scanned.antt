@@ -1,5 +1,5 @@
 -- The scan of a page's lines: all paragraphs and headings that are told by their lines, of which none is left out.
-use Rattle.std.proofs.Common.{arith, ◌≡◌, ◌≤◌, ◌⊎◌, inl, inr, ℕ, zero, suc, ◌+◌, Bool, true, false, List, [], ◌∷◌, ◌++◌, length, map, refl, sym, ap, ap₂, ◌∙◌, subst, append_assoc, append-nil, length-append}
+use Rattle.std.proofs.Common.{arith, ◌≡◌, ◌≤◌, ◌⊎◌, inl, inr, ℕ, zero, suc, ◌+◌, Bool, true, false, List, [], ◌∷◌, ◌++◌, length, map, refl, sym, ap, ap₂, ◌∙◌, subst, append-nil, length-append}
 use Rattle.wt_span.specs.Items.{Item}
 use Rattle.wt_lines.specs.declared.kind.LineKind.{LineKind}
 use Rattle.wt_lines.specs.declared.kind.LineKind.TheVariants as line
@@ -17,7 +17,7 @@ use Rattle.wt_called_edit_laws.specs.ToldLines.{Told, a_paragraph_of, a_heading_
 use Rattle.wt_called_edit_laws.specs.ToldTogether.{start_of, own_lines, told_starts, IsAmongNumbers}
 use Rattle.wt_called_edit_laws.proofs.AllTold.Found.{size}
 use Rattle.wt_called_edit_laws.proofs.AllTold.LineKinds.{Lines, led_by, past_marks, led_whole, kind_led, after, after_both, texts_after, last_text, apart_last, last_apart, first_apart, begins_other, texts_end}
-use Rattle.wt_called_edit_laws.proofs.AllTold.Scans.{Decided, Asked, Answered, kind_decided, heading_decided, Fits, text_fits, heading_fits, text_told, heading_told, joined_size, put_told, put_all, put_behind, put_lines, put_starts, tables_at, moved_at, ToldFrom, NoTextFirst, put_first, put_from, behind_heading, behind_text}
+use Rattle.wt_called_edit_laws.proofs.AllTold.Scans.{Decided, Asked, Answered, kind_decided, Fits, text_fits, heading_fits, text_told, heading_told, joined_size, put_told, put_all, put_behind, put_lines, put_starts, moved_at, ToldFrom, NoTextFirst, put_first, put_from, behind_heading, behind_text}
 
 -- ---- lists cut at two places
 
@@ -340,7 +340,7 @@ emit_heading K bs prev l ys e f r =
       first = λ p. tt;
       asked = (f.asked, r.asked);
       texts = texts_cut K bs prev false ls ys ms ns (subst (λ (cs : List Bool). TextsIn K cs false ys ms) same r.texts) g (λ a. refl)
-      (λ at us k more rest zs z c h a p s. absurd (no_text_on K bs prev l ys (not_both (length bs) l e) us k more rest zs z c h a p s));
+          (λ at us k more rest zs z c h a p s. absurd (no_text_on K bs prev l ys (not_both (length bs) l e) us k more rest zs z c h a p s));
       heads = heads_cut K bs ls ys ms ns (subst (λ (cs : List Bool). HeadsIn K cs ys ms) same r.heads) g among;
     }
   where

@@ -1,7 +1,6 @@
 -- All paragraphs and headings that lines tell, from the first line on, and what is left of the lines between them.
-use Rattle.std.proofs.Common.{arith, ◌≡◌, ◌≤◌, ◌⊎◌, inl, inr, ℕ, zero, suc, ◌+◌, Bool, true, false, List, [], ◌∷◌, ◌++◌, length, map, refl, sym, ap, ap₂, ◌∙◌, subst, append_assoc, length-append, codes}
+use Rattle.std.proofs.Common.{arith, ◌≡◌, ◌≤◌, ◌⊎◌, inl, inr, ℕ, ◌+◌, Bool, true, false, List, [], ◌∷◌, ◌++◌, length, map, refl, sym, ap, ◌∙◌, subst, append_assoc, codes}
 use Rattle.std.specs.List.{list_all}
-use Rattle.std.proofs.lemmas.List.{append_cancel_left}
 use Rattle.wt_span.specs.Bytes.{begins}
 use Rattle.wt_span.specs.Items.{Item, is_mark, sources}
 use Rattle.wt_lines.specs.declared.kind.LineKind.{LineKind}
@@ -12,23 +11,22 @@ use Rattle.wt_blocks.specs.Paragraphs.{is_text}
 use Rattle.wt_tables.specs.Extents.{behind as tables_after}
 use Rattle.wt_tables.specs.Parts.{joined}
 use Rattle.wt_page.specs.Lines.{kind_at}
-use Rattle.wt_page.specs.Rows.{Row, marks_len, signs, line_rows, rows_from}
+use Rattle.wt_page.specs.Rows.{Row, signs, rows_from}
 use Rattle.wt_part_laws.specs.Slots.{AllTrue}
 use Rattle.wt_text_edit_laws.specs.PageCuts.{begins_unmarked}
 use Rattle.wt_text_edit_laws.specs.ParagraphBetween.{written_rows, EndApart, BeginApart}
 use Rattle.wt_text_edit_laws.specs.TextBetween.{is_end, AreEnded}
 use Rattle.wt_text_edit_laws.specs.TextBlocks.{TextBlock, a_paragraph, a_heading, FirstApart}
-use Rattle.wt_text_edit_laws.proofs.Cuts.RowLines.{AllText}
 use Rattle.wt_text_edit_laws.proofs.Cuts.TextLines.{joined_both}
 use Rattle.wt_text_edit_laws.specs.TypedHeadings.{Sides}
-use Rattle.wt_called_edit_laws.specs.AnyBlocks.{open_after, EndsFor, NextApart}
+use Rattle.wt_called_edit_laws.specs.AnyBlocks.{open_after, EndsFor}
 use Rattle.wt_called_edit_laws.specs.LinedHeadings.{IsLinedHeading}
 use Rattle.wt_called_edit_laws.specs.PlacedBlocks.{AreLinesAt}
-use Rattle.wt_called_edit_laws.specs.PlacedLines.{LinedBlock, all_lines, LinesApart}
+use Rattle.wt_called_edit_laws.specs.PlacedLines.{all_lines}
 use Rattle.wt_called_edit_laws.specs.ToldLines.{Told, a_paragraph_of, a_heading_on, lined, OwnTold, rows_before, IsToldAt, AreToldAfter}
-use Rattle.wt_called_edit_laws.specs.ToldTogether.{start_of, told_starts}
+use Rattle.wt_called_edit_laws.specs.ToldTogether.{told_starts}
 use Rattle.wt_called_edit_laws.proofs.AllTold.Found.{size, size_both}
-use Rattle.wt_called_edit_laws.proofs.AllTold.LineKinds.{Lines, led_by, past_marks, led_whole, kind_led, after, rows_behind, after_both, texts_after, last_text, apart_last, last_apart, end_suffix, some_row, end_lines, first_apart, begins_other, texts_end}
+use Rattle.wt_called_edit_laws.proofs.AllTold.LineKinds.{Lines, led_by, past_marks, after, rows_behind, end_suffix, some_row, end_lines}
 use Rattle.wt_called_edit_laws.proofs.AllTold.Opens.{open_both}
 
 -- ---- told by their first line

@@ -1,12 +1,12 @@
 -- The parts of a table whose rows are whole units: what is in its cells and captions is blocks.
-use Rattle.std.proofs.Common.{arith, ◌≡◌, ℕ, zero, suc, ◌+◌, Bool, true, false, List, [], ◌∷◌, ◌++◌, take, drop, refl, sym, ap, ◌∙◌, subst, cond, inl, inr}
+use Rattle.std.proofs.Common.{arith, ◌≡◌, ℕ, zero, suc, ◌+◌, Bool, true, false, List, [], ◌∷◌, ◌++◌, take, drop, refl, sym, ap, subst, cond, inl, inr}
 use Rattle.std.specs.Prelude.{not, map}
 use Rattle.std.specs.List.{AllByRecursion, prefix_len}
 use Rattle.wt_span.specs.Runs.{runs, IsRun, AreRuns}
 use Rattle.wt_span.proofs.RunLaws.{runs_are}
 use Rattle.wt_lines.specs.declared.kind.LineKind.{LineKind}
 use Rattle.wt_lines.specs.declared.kind.LineKind.TheVariants as line
-use Rattle.wt_tables.specs.Parts.{RowOf, TableOf, joined, units, unit_kind, begins_part, begins_group, group_kind, groups, is_row, is_caption, row_by, row_of, rows_of, stray_len, plain_len, captions_len, table_of}
+use Rattle.wt_tables.specs.Parts.{RowOf, TableOf, joined, units, unit_kind, begins_part, begins_group, group_kind, groups, is_row, is_caption, row_by, row_of, stray_len, plain_len, captions_len, table_of}
 use Rattle.wt_page.specs.Rows.{Row, kind_of}
 use Rattle.wt_part_laws.specs.Blocks.{BeginOtherwise}
 use Rattle.wt_part_laws.specs.Units.{IsUnit, Level}

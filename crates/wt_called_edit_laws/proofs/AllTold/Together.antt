@@ -1,10 +1,10 @@
 -- All blocks that a page's lines tell are told at once.
-use Rattle.std.proofs.Common.{arith, ◌≡◌, ◌≤◌, inl, inr, ℕ, zero, suc, ◌+◌, Bool, true, false, List, [], ◌∷◌, ◌++◌, length, take, drop, map, refl, sym, ap, ap₂, ◌∙◌, subst, cond, codes}
+use Rattle.std.proofs.Common.{arith, ◌≡◌, ◌≤◌, ℕ, suc, ◌+◌, Bool, true, false, List, [], ◌∷◌, ◌++◌, length, take, drop, map, refl, sym, ap, ◌∙◌, subst, cond, codes}
 use Rattle.std.specs.Prelude.{◌&&◌, not}
 use Rattle.std.specs.Str.{IsUtf8}
 use Rattle.std.specs.List.{list_all}
 use Rattle.wt_span.specs.Bytes.{begins}
-use Rattle.wt_span.specs.Items.{Item, char, whole, is_mark, sign}
+use Rattle.wt_span.specs.Items.{Item, char, whole, is_mark}
 use Rattle.wt_expand.specs.PageItems.{page_items}
 use Rattle.wt_lines.specs.Lines.{content, full_lines}
 use Rattle.wt_tables.specs.Parts.{joined}
@@ -18,9 +18,9 @@ use Rattle.wt_text_edit_laws.specs.NoCalls.{CallsNothing}
 use Rattle.wt_text_edit_laws.specs.PageCuts.{begins_unmarked, EndsClosed}
 use Rattle.wt_text_edit_laws.specs.Parts.{HasNoGroups}
 use Rattle.wt_text_edit_laws.proofs.Paragraphs.Marks.{mark_sign}
-use Rattle.wt_called_edit_laws.specs.PlacedLines.{all_lines, spots_by}
+use Rattle.wt_called_edit_laws.specs.PlacedLines.{spots_by}
 use Rattle.wt_called_edit_laws.specs.PlacedSpots.{IsShut, AreShut}
-use Rattle.wt_called_edit_laws.specs.ToldLines.{Told, a_paragraph_of, a_heading_on, lined, OwnTold, IsToldAt, AreTold, IsToldPage}
+use Rattle.wt_called_edit_laws.specs.ToldLines.{Told, a_paragraph_of, a_heading_on, lined, IsToldAt, AreTold, IsToldPage}
 use Rattle.wt_called_edit_laws.specs.ToldTogether.{start_of, told_starts, IsAmongNumbers, AreSome, AreAllTold}
 use Rattle.wt_called_edit_laws.proofs.AllTold.LineKinds.{Lines, led_by, past_marks}
 use Rattle.wt_called_edit_laws.proofs.AllTold.Scans.{Answered, bool_decided, ToldFrom}
@@ -70,7 +70,7 @@ text_first x xs r h = unmarked (is_mark x) (λ e. mark_first x (xs ++ joined r) 
 
 sign_first : (x : Item) (xs : List Item) → begins (codes "=") (signs (x ∷ xs)) ≡ true → is_mark x ≡ false
 sign_first x xs h = unmarked (is_mark x) (λ e.
-  let nay : begins (codes "=") (257 ∷ signs xs) ≡ true = sym (ap (λ (n : ℕ). begins (codes "=") (n ∷ signs xs)) (mark_sign x e)) ∙ h in absurd (cc))
+    let nay : begins (codes "=") (257 ∷ signs xs) ≡ true = sym (ap (λ (n : ℕ). begins (codes "=") (n ∷ signs xs)) (mark_sign x e)) ∙ h in absurd (cc))
 
 parted_told : (m f : List Item) → list_all is_mark m ≡ true → 1 ≤ length f → ((x : Item) (xs : List Item) → f ≡ x ∷ xs → is_mark x ≡ false) → Parted m f
 parted_told m [] h some g = absurd (omega (arith, some))

@@ -1,5 +1,5 @@
 -- What is found among the nodes over items of a page is found in its tree: each paragraph and heading stands there, and in what is on a line none is.
-use Rattle.std.proofs.Common.{arith, ◌≡◌, ℕ, suc, ◌+◌, Bool, true, false, None, Option, List, [], ◌∷◌, ◌++◌, length, refl, sym, ap, ◌∙◌, subst, cond}
+use Rattle.std.proofs.Common.{◌≡◌, ℕ, suc, ◌+◌, Bool, true, false, Option, List, [], ◌∷◌, ◌++◌, length, refl, sym, ap, ◌∙◌, subst, cond}
 use Rattle.std.specs.Prelude.{◌||◌, if◌then◌else◌}
 use Rattle.std.specs.Str.{IsUtf8}
 use Rattle.wt_tree.specs.declared.kind.Kind.{Kind}
@@ -23,15 +23,14 @@ use Rattle.wt_span.specs.Origins.{Expanded}
 use Rattle.wt_inline.specs.ItemTree.{ItemTree, inner, ItemTrees, nothing, further, tree_items, forest}
 use Rattle.wt_checks.specs.Kept.{children}
 use Rattle.wt_checks.specs.PutBack.{is_frame}
-use Rattle.wt_expand.specs.PageCalls.{expanded_page}
 use Rattle.wt_expand.specs.PageItems.{page_items}
 use Rattle.wt_expand.specs.Work.{Pages}
 use Rattle.wt_page.specs.Body.{meaning}
 use Rattle.wt_annotated.specs.Annotated.{unplaced, all_unplaced, annotated}
-use Rattle.wt_annotated.specs.CutTexts.{cut_as, cut_texts, all_cut_texts}
+use Rattle.wt_annotated.specs.CutTexts.{cut_as, all_cut_texts}
 use Rattle.wt_annotated.specs.GroupData.{group_data}
 use Rattle.wt_annotated.specs.Labels.{label_at}
-use Rattle.wt_annotated.specs.Numbering.{next_after, count, with_numbers, all_with_numbers}
+use Rattle.wt_annotated.specs.Numbering.{next_after, count, all_with_numbers}
 use Rattle.wt_annotated.specs.WithoutCalls.{inside_by, placed, all_placed}
 use Rattle.wt_schema.specs.Written.{is_childless}
 use Rattle.wt_schema.proofs.Rows.{is_somewhere, held}
@@ -41,7 +40,6 @@ use Rattle.wt_page_round_trip.proofs.PageShown.{page_shown}
 use Rattle.wt_page_round_trip.proofs.Shown.{none_group}
 use Rattle.wt_page_round_trip.proofs.ShownNodes.{NodeIsShown, IsOrdered, IsShownIn, AreShownIn}
 use Rattle.wt_part_laws.specs.Standing.{standing}
-use Rattle.wt_text_edit_laws.specs.LonePages.{of_items}
 use Rattle.wt_text_edit_laws.specs.NoCalls.{CallsNothing}
 use Rattle.wt_text_edit_laws.specs.ParagraphBetween.{blocks_in, body_with}
 use Rattle.wt_text_edit_laws.specs.Parts.{HasNoGroups, part_tree}
@@ -50,8 +48,8 @@ use Rattle.wt_text_edit_laws.proofs.Paragraphs.PartTrees.{part_plain, plain_tree
 use Rattle.wt_text_edit_laws.proofs.Paragraphs.Standing.{parts_in, body_is}
 use Rattle.wt_text_edit_laws.proofs.Prose.ProseTrees.{blocks_of}
 use Rattle.wt_called_edit_laws.specs.Groups.{called_tree}
-use Rattle.wt_called_edit_laws.proofs.AllTold.Found.{size, tree_size, size_both, Housing, a_block, a_shell, another, housing_of, ByHousing, FoundIn, FoundAll}
-use Rattle.wt_called_edit_laws.proofs.AllTold.Starts.{OfHousing, EachBlock, EachBlockIn}
+use Rattle.wt_called_edit_laws.proofs.AllTold.Found.{size, size_both, Housing, a_block, a_shell, another, housing_of, ByHousing, FoundIn, FoundAll}
+use Rattle.wt_called_edit_laws.proofs.AllTold.EachBlocks.{OfHousing, EachBlock, EachBlockIn}
 
 -- ---- what may be in which
 
@@ -279,11 +277,12 @@ stood_leaf : (k : Kind) (n : ℕ) (before : List Item) (ts : ItemTrees) → is_g
 stood_leaf k n before ts g e =
     no_group_inside (is_group k) k n (inside_by (is_leaf k) (all_placed before ts)) g ∙ leaf_inside (is_leaf k) k n (all_placed before ts) e
 
-nothing_of : (Q : Tree → Type 0) (v : Housing) (t : Tree) (ts : Trees) → OfHousing v (⊥ × EachBlockIn (λ (u : Tree). ⊥) ts) (EachBlockIn (λ (u : Tree). ⊥) ts)
-    → (EachBlockIn (λ (u : Tree). ⊥) ts → EachBlockIn Q ts) → OfHousing v (Q t × EachBlockIn (λ (u : Tree). ⊥) ts) (EachBlockIn Q ts)
+nothing_of : (Q : Tree → Type 0) (v : Housing) (t : Tree) (ts : Trees)
+    → OfHousing v (⊥ × EachBlockIn (λ (u : Tree). ⊥) ts) (EachBlockIn (λ (u : Tree). ⊥) ts) (EachBlockIn (λ (u : Tree). ⊥) ts)
+    → (EachBlockIn (λ (u : Tree). ⊥) ts → EachBlockIn Q ts) → OfHousing v (Q t × EachBlockIn (λ (u : Tree). ⊥) ts) (EachBlockIn Q ts) (EachBlockIn (λ (u : Tree). ⊥) ts)
 nothing_of Q a_block t ts h f = absurd h.0
 nothing_of Q a_shell t ts h f = f h
-nothing_of Q another t ts h f = f h
+nothing_of Q another t ts h f = h
 
 -- nothing holds of nothing
 mutual
@@ -294,10 +293,10 @@ mutual
   nothing_each_in Q none h = tt
   nothing_each_in Q (more t ts) h = (nothing_each Q t h.0, nothing_each_in Q ts h.1)
 
-other_of : (v : Housing) (own all : Type 0) → v ≡ another → all → OfHousing v own all
-other_of a_block own all e h = absurd (cc)
-other_of a_shell own all e h = h
-other_of another own all e h = h
+other_of : (v : Housing) (own all neither : Type 0) → v ≡ another → neither → OfHousing v own all neither
+other_of a_block own all neither e h = absurd (cc)
+other_of a_shell own all neither e h = absurd (cc)
+other_of another own all neither e h = h
 
 -- in such a node no block stands
 mutual
@@ -319,8 +318,8 @@ mutual
         each = λ e. none_stand (suc i) k (next_after k n) (before ++ o) ts (inert_kind k is.no_frame other) (not_leaf_shown (is_leaf k) (suc i) k (all_unplaced ts) e inside);
       } in (
         λ e. stood_leaf k n (before ++ o) ts group e,
-        other_of (housing_of k) (⊥ × EachBlockIn (λ (u : Tree). ⊥) (inner_stands k n (before ++ o) ts)) (EachBlockIn (λ (u : Tree). ⊥) (inner_stands k n (before ++ o) ts)) other
-            (stood_inside (λ (u : Tree). ⊥) k n (before ++ o) ts each),
+        other_of (housing_of k) (⊥ × EachBlockIn (λ (u : Tree). ⊥) (inner_stands k n (before ++ o) ts)) (EachBlockIn (λ (u : Tree). ⊥) (inner_stands k n (before ++ o) ts))
+            (EachBlockIn (λ (u : Tree). ⊥) (inner_stands k n (before ++ o) ts)) other (stood_inside (λ (u : Tree). ⊥) k n (before ++ o) ts each),
       )
 
   none_stand : (i : ℕ) (q : Kind) (n : ℕ) (before : List Item) (ts : ItemTrees) → is_inert (shape q).holding ≡ true → AreShownIn i q (all_unplaced ts)
@@ -338,6 +337,7 @@ by_kind : (P : ℕ → ItemTree → Type 0) (Q : Tree → Type 0) (i : ℕ) (k :
     → ((to : ℕ) → FoundAll P (size (before ++ o)) ts to → AreShownIn i k (all_unplaced ts) → EachBlockIn Q (stands (next_after k n) (before ++ o) ts))
     → (v : Housing) → housing_of k ≡ v → ByHousing v (P (size before) t) ((to : ℕ) × FoundAll P (size before + size o) ts to)
     → OfHousing v (Q (standing n before t) × EachBlockIn (λ (u : Tree). ⊥) (inner_stands k n (before ++ o) ts)) (EachBlockIn Q (inner_stands k n (before ++ o) ts))
+    (EachBlockIn (λ (u : Tree). ⊥) (inner_stands k n (before ++ o) ts))
 by_kind P Q i k n before t o ts frame group own s go a_block e g = (
   own g,
   stood_inside (λ (u : Tree). ⊥) k n (before ++ o) ts (record {
@@ -352,10 +352,10 @@ by_kind P Q i k n before t o ts frame group own s go a_shell e g =
       each = λ z. go g.0 to (not_leaf_shown (is_leaf k) i k (all_unplaced ts) z s);
     })
 by_kind P Q i k n before t o ts frame group own s go another e g =
-    nothing_each_in Q (inner_stands k n (before ++ o) ts) (stood_inside (λ (u : Tree). ⊥) k n (before ++ o) ts (record {
+    stood_inside (λ (u : Tree). ⊥) k n (before ++ o) ts (record {
       no_group = group;
       each = λ z. none_stand i k (next_after k n) (before ++ o) ts (inert_kind k frame e) (not_leaf_shown (is_leaf k) i k (all_unplaced ts) z s);
-    }))
+    })
 
 mutual
   unfolding label_at
@@ -368,9 +368,11 @@ mutual
       let l : Label = label (unplaced (inner h o ts c)) in
       let is : IsHeld q k = node_held (writing k) i q l (is_childless us) (IsOrdered (texts_of_kind k) us × AreShownIn (suc i) k us) refl s in
       let group : is_group k ≡ false = none_group i q l us s in
-      let inside : AreShownIn (suc i) k us = shown_inside (writing k) i q l (suc i) k us (IsOrdered (texts_of_kind k) us) s in
-      (λ e. stood_leaf k n (before ++ o) ts group e, by_kind P Q (suc i) k n before (inner h o ts c) o ts is.no_frame group (f n before (inner h o ts c)) inside
-          (λ to a b. found_stand P Q f (suc i) k (next_after k n) (before ++ o) ts to a b) (housing_of k) refl g)
+      let inside : AreShownIn (suc i) k us = shown_inside (writing k) i q l (suc i) k us (IsOrdered (texts_of_kind k) us) s in (
+        λ e. stood_leaf k n (before ++ o) ts group e,
+        by_kind P Q (suc i) k n before (inner h o ts c) o ts is.no_frame group (f n before (inner h o ts c)) inside
+            (λ to a b. found_stand P Q f (suc i) k (next_after k n) (before ++ o) ts to a b) (housing_of k) refl g,
+      )
 
   found_stand : (P : ℕ → ItemTree → Type 0) (Q : Tree → Type 0) → Stood P Q → (i : ℕ) (q : Kind) (n : ℕ) (before : List Item) (ts : ItemTrees) (to : ℕ)
       → FoundAll P (size before) ts to → AreShownIn i q (all_unplaced ts) → EachBlockIn Q (stands n before ts)
