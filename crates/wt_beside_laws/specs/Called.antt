@@ -172,29 +172,22 @@ abbrev pub AreOwnInside : List (List Item) → Type 0
 AreOwnInside [] = Unit {0}
 AreOwnInside (own ∷ owns) = AreOwnOrTexts (line_parts own) × AreOwnInside owns
 
--- ---- a content that begins and ends with text
+-- ---- a content with text
 
-abbrev pub BeginsWithText : List ContentSign → Type 0
-BeginsWithText [] = ⊥
-BeginsWithText (letter c ∷ after) = Unit {0}
-BeginsWithText (thing t ∷ after) = ⊥
+-- a letter is among them
+abbrev pub HasText : List ContentSign → Type 0
+HasText [] = ⊥
+HasText (letter c ∷ after) = Unit {0}
+HasText (thing t ∷ after) = HasText after
 
-abbrev pub EndsWithText : List ContentSign → Type 0
-EndsWithText [] = ⊥
-EndsWithText (letter c ∷ []) = Unit {0}
-EndsWithText (thing t ∷ []) = ⊥
-EndsWithText (letter c ∷ sign ∷ after) = EndsWithText (sign ∷ after)
-EndsWithText (thing t ∷ sign ∷ after) = EndsWithText (sign ∷ after)
-
--- Texts that are typed beside calls that give words, and beside nodes that stay, with text first and last.
+-- Texts that are typed beside calls that give words, and beside nodes that stay. There is a letter: of calls alone a paragraph is a part of their group.
 pub record IsCalledContent (s : Setting) (signs : List ContentSign) (owns : List (List Item)) : Type 0 where
   pub of_block : s.within ≡ false
   pub characters : AreCharacters signs
   pub given : AreGiven signs owns
   pub own : AreOwnInside owns
   pub meet : AllMeet s [] signs []
-  pub begins : BeginsWithText signs
-  pub ends : EndsWithText signs
+  pub some : HasText signs
 
 -- ---- a heading
 
@@ -203,7 +196,7 @@ abbrev pub AllEndSeen : List (List Item) → Type 0
 AllEndSeen [] = Unit {0}
 AllEndSeen (own ∷ owns) = EndsWithout is_blank (map sign own) × EndsWithout is_equals_sign (map sign own) × AllEndSeen owns
 
--- The same in a heading: it is on one line, and may begin and end with anything.
+-- The same in a heading: it is on one line, and may have no letter, since its `=` are the page's.
 pub record IsCalledHeading (s : Setting) (signs : List ContentSign) (owns : List (List Item)) : Type 0 where
   pub of_block : s.within ≡ false
   pub of_heading : s.place ≡ place.Heading
@@ -281,8 +274,7 @@ pub record IsCalledIn (pages : Pages) (s : Setting) (signs : List ContentSign) :
   pub characters : AreCharacters signs
   pub given : AreOfFolder pages signs
   pub meet : AllMeet s [] (shown_signs pages signs) []
-  pub begins : BeginsWithText signs
-  pub ends : EndsWithText signs
+  pub some : HasText signs
 
 -- ---- in a heading
 
@@ -295,7 +287,7 @@ abbrev pub AllSeenIn : Pages → List Thing → Type 0
 AllSeenIn pages [] = Unit {0}
 AllSeenIn pages (t ∷ ts) = IsSeenIn pages t × AllSeenIn pages ts
 
--- The same in a heading: it is on one line, and may begin and end with anything.
+-- The same in a heading: it is on one line, and may have no letter.
 pub record IsCalledInHeading (pages : Pages) (s : Setting) (signs : List ContentSign) : Type 0 where
   pub of_block : s.within ≡ false
   pub of_heading : s.place ≡ place.Heading

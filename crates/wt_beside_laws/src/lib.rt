@@ -91,7 +91,10 @@ pub use styles::{
     texts_in_styles_may_be_in_headings, texts_in_styles_stand_between_lines,
     texts_sent_in_styles_are_such,
 };
-pub use untangled::{untangled_blocks_are_contents, untangled_paragraphs_of_the_body_are_contents};
+pub use untangled::{
+    contents_read_by_themselves_take_styles, untangled_blocks_are_contents,
+    untangled_paragraphs_of_the_body_are_contents,
+};
 
 /// A content of text that is typed and of nodes that stay, as it is spelled, makes no lexeme over the border of a text and
 /// a node: its items are those of each node by itself, the characters and references of the text, and the nowikis that
@@ -314,7 +317,7 @@ pub fn what_is_sent_is_what_is_shown()
 {}
 
 /// Such a content is UTF-8, and as a page it calls nothing, whatever the folder has: nothing is expanded in it, and nothing refuses
-/// it. Asked is that the source of each node is UTF-8 and has no brace outside of its lexemes (`AreCalm`).
+/// it. Asked is that the source of each node is UTF-8, and that no two braces are side by side in it, outside of its lexemes (`AreCalm`).
 #[tactic(auto, using(crate::proofs::CalmContents::content_utf8, crate::proofs::CalmContents::content_expanded, crate::proofs::CalmContents::content_unrefused))]
 pub fn texts_beside_nodes_call_nothing()
     ensures utf8 { (s : Setting) (signs : List ContentSign) → AreCharacters signs → AreCalm signs → IsUtf8 (spelled s signs) }

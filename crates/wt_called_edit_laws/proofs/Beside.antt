@@ -6,3 +6,7 @@ pub mod Making
 pub mod Given
 pub mod Cases
 mod PageCases
+pub mod EndCases
+mod FirstCases
+mod LastCases
+mod BothCases

@@ -93,5 +93,5 @@ block_flat calls t h =
     ∙ flat_same (walked calls (group_data calls) None 0 None t)
     ∙ ap flat (walk_all calls (group_data calls) t)
     ∙ sym (placed_flat calls t)
-    ∙ annotated_source calls (group_data calls) t (clean_alone t (h.clean None None))
+    ∙ annotated_source calls (group_data calls) t (clean_alone t h.clean)
     ∙ page_is calls (tree_items t)

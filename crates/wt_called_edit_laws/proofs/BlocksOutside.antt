@@ -30,7 +30,7 @@ use Rattle.wt_part_laws.specs.TreeFrames.{TreeFrame, spot, kept, holder, TreeFra
 use Rattle.wt_part_laws.proofs.FramesWalked.{no_leaf}
 use Rattle.wt_called_edit_laws.specs.CalledBlocks.{CallNothing, tree_by, counted}
 use Rattle.wt_called_edit_laws.specs.CalledPages.{IsCalledPage}
-use Rattle.wt_called_edit_laws.specs.Covered.{IsBeside, IfGroup, NoGroupAt, NoneGroupAt, HaveBytes, AreInNoGroup, IsEditablePage}
+use Rattle.wt_called_edit_laws.specs.Covered.{IsBeside, IfGroup, NoGroupAt, NoneGroupAt, AreInNoGroup, IsEditablePage}
 use Rattle.wt_called_edit_laws.specs.Groups.{called_tree}
 use Rattle.wt_called_edit_laws.specs.Nodes.{block_at, NoLeaves, NoneLeaves, IsHolder, AreHolders}
 use Rattle.wt_called_edit_laws.specs.Settled.{settled, all_settled, IsSettled}
@@ -40,7 +40,7 @@ use Rattle.wt_text_edit_laws.proofs.Blocks.Contents.{block_source as source_is}
 use Rattle.wt_called_edit_laws.proofs.CutFrames.{no_group_round}
 use Rattle.wt_called_edit_laws.proofs.EditFacts.{IsFramedPage, framed_page, spots_body, spots_contents, are_the_page}
 use Rattle.wt_called_edit_laws.proofs.GroupsAmong.{retyped_self}
-use Rattle.wt_called_edit_laws.proofs.GroupsOfPage.{have_bytes, page_outside}
+use Rattle.wt_called_edit_laws.proofs.GroupsOfPage.{HaveBytes, have_bytes, page_outside}
 use Rattle.wt_called_edit_laws.proofs.Leads.{inside_settled}
 use Rattle.wt_called_edit_laws.proofs.NodeGaps.{gap_of, gaps_in, page_gaps, gaps_so, numbers_so, spot_source}
 use Rattle.wt_called_edit_laws.proofs.PagesSettled.{called_settled}

@@ -28,7 +28,6 @@ use Rattle.wt_called_edit_laws.specs.Parts.{calls_to, calls_past, called_outers,
 use Rattle.wt_called_edit_laws.specs.Retyped.{IsPartAnew}
 use Rattle.wt_called_edit_laws.proofs.Cells.CallingFrames.{edited_anew, calling_again}
 use Rattle.wt_called_edit_laws.proofs.Cells.SpotTrees.{counted_same}
-use Rattle.wt_called_edit_laws.proofs.CleanAgain.{frames_clean}
 use Rattle.wt_called_edit_laws.proofs.MovedOuters.{same_calls, calls_after, OwnMoved, all_moved}
 use Rattle.wt_called_edit_laws.proofs.Parts.CalledAgain.{anew_round, some_after}
 use Rattle.wt_called_edit_laws.proofs.Parts.Retyped.{is_by_parts, expanded_again}
@@ -67,11 +66,6 @@ pub calls_kept : (pages : Pages) (ss rs : List BlockSpot) (behind : List ℕ) �
 calls_kept pages ss rs behind h t =
     moved_data (expanded_page pages (spots_source ss behind)).outer (expanded_page pages (spots_source rs behind)).outer (calls_moved pages ss rs behind h t)
 
-pub held_there : (pages : Pages) (ss rs : List BlockSpot) (behind : List ℕ) (f : CallingBlocksStand pages ss behind) → AreEdited pages ss rs
-    → AllHold (tree_with_calls pages 0 rs) (counted rs) → AllHold (tree_with_calls pages 0 rs) (all_places f.frames)
-held_there pages ss rs behind f t h =
-    subst (AllHold (tree_with_calls pages 0 rs)) (counted_same ss rs (edited_round pages ss rs t) ∙ sym f.in_order) h
-
 pub edited_self : (pages : Pages) (ss : List BlockSpot) → AreEdited pages ss ss
 edited_self pages [] = tt
 edited_self pages (s ∷ ss) = (refl, refl, inl refl, edited_self pages ss)
@@ -80,15 +74,15 @@ pub calling_groups : (pages : Pages) (ss : List BlockSpot) (behind : List ℕ) �
 calling_groups pages ss behind h =
     let fs : Frames = h.stand.frames in
     let calls : List OuterCall = (expanded_page pages (spots_source ss behind)).outer in
-    let g : GroupsStayRound calls fs =
-    groups_stay_round calls fs (tree_with_calls pages 0 ss) h.stand.of_cells (held_there pages ss ss behind h.stand (edited_self pages ss) h.hold) h.clean in
+    let g : GroupsStayRound calls fs = groups_stay_round calls fs h.stand.of_cells in
     record {
       nodes = g.nodes;
       in_order = g.in_order ∙ h.stand.in_order;
       stay = λ rs t o.
           let others : List OuterCall = (expanded_page pages (spots_source rs behind)).outer in
+          let clean = h.clean rs t o in
           ap (λ m. placeless (annotated others (group_data others) m)) (h.stand.means rs t)
-          ∙ g.stay others (tree_with_calls pages 0 rs) (calls_kept pages ss rs behind h.blocks t) (held_there pages ss rs behind h.stand t o);
+          ∙ g.stay others (tree_with_calls pages 0 rs) (calls_kept pages ss rs behind h.blocks t) clean.0 clean.1;
     }
 
 -- ---- its nodes
@@ -110,8 +104,7 @@ pub calling_nodes : (pages : Pages) (ss : List BlockSpot) (behind : List ℕ) �
 calling_nodes pages ss behind h =
     let fs : Frames = h.stand.frames in
     let calls : List OuterCall = (expanded_page pages (spots_source ss behind)).outer in
-    let n : NodesStayRound calls fs =
-    nodes_stay_round calls fs (tree_with_calls pages 0 ss) h.stand.of_cells (held_there pages ss ss behind h.stand (edited_self pages ss) h.hold) h.clean in
+    let n : NodesStayRound calls fs = nodes_stay_round calls fs h.stand.of_cells in
     record {
       nodes = n.nodes;
       in_order = n.in_order ∙ h.stand.in_order;
@@ -119,9 +112,9 @@ calling_nodes pages ss behind h =
       holders = n.holders;
       stay = λ rs t o.
           let others : List OuterCall = (expanded_page pages (spots_source rs behind)).outer in
+          let clean = h.clean rs t o in
           ap (λ m. all_placeless (children (annotated others (group_data others) m))) (h.stand.means rs t)
-          ∙ n.stay others (tree_with_calls pages 0 rs) (calls_kept pages ss rs behind h.blocks t) (held_there pages ss rs behind h.stand t o)
-          (all_blocks pages rs (all_places fs));
+          ∙ n.stay others (tree_with_calls pages 0 rs) (calls_kept pages ss rs behind h.blocks t) clean.0 clean.1 (all_blocks pages rs (all_places fs));
     }
 
 -- ---- contents that are written after others
@@ -189,6 +182,5 @@ calling_outside pages ss rs behind h t o =
         means = λ qs u. f.means qs (edited_after pages ss rs qs t u);
       };
       hold = o;
-      clean = frames_clean (tree_with_calls pages 0 ss) (tree_with_calls pages 0 rs) f.frames content None None f.of_cells
-          (held_there pages ss ss behind f (edited_self pages ss) h.hold) (held_there pages ss rs behind f t o) h.clean;
+      clean = λ qs u v. h.clean qs (edited_after pages ss rs qs t u) v;
     }

@@ -1,4 +1,4 @@
--- Where no group of the page's tree has the first byte of one of the blocks, which may hold calls, no node round them is in a group.
+-- Where each of the blocks, which may hold calls, has a byte that no group of the page's tree has, no node round them is in a group.
 use Rattle.std.proofs.Common.{arith, ◌≡◌, ◌<◌, ℕ, suc, true, false, Option, Some, None, List, [], ◌∷◌, ◌++◌, map, length, refl, sym, ap, ◌∙◌, subst, append-nil}
 use Rattle.wt_tree.specs.Tree.{Tree}
 use Rattle.wt_span.specs.Items.{Item, call_of}
@@ -14,103 +14,51 @@ use Rattle.wt_annotated.specs.GroupData.{group_data}
 use Rattle.wt_annotated.specs.Seams.{first_of, text_from}
 use Rattle.wt_annotated.proofs.Seams.{page_is}
 use Rattle.wt_page_round_trip.proofs.HeldPages.{its_page}
-use Rattle.wt_part_laws.specs.Frames.{Frames, trees_at, all_places}
-use Rattle.wt_part_laws.specs.HeldCalls.{HoldsItsCalls, AllHold}
+use Rattle.wt_part_laws.specs.Frames.{Frames, trees_at, all_places, content}
+use Rattle.wt_part_laws.specs.HeldCalls.{AllHold}
+use Rattle.wt_part_laws.specs.Rounded.{AreClean, AreCleanThere}
 use Rattle.wt_part_laws.proofs.FrameEnds.{held}
 use Rattle.wt_text_edit_laws.specs.BlockSpots.{BlockSpot, spots_source}
 use Rattle.wt_text_edit_laws.specs.ParagraphBetween.{body_with}
-use Rattle.wt_text_edit_laws.specs.ReadContents.{begins_shown, BeginsParagraph, IsReadContent}
-use Rattle.wt_text_edit_laws.specs.TextBlocks.{TextBlock, a_paragraph, a_heading, source_of, IsFrame}
 use Rattle.wt_text_edit_laws.proofs.Blocks.Contents.{block_source as source_is}
-use Rattle.wt_text_edit_laws.proofs.Prose.InFront.{reads_nothing, read_items}
 use Rattle.wt_called_edit_laws.specs.CalledBlocks.{tree_by, counted}
-use Rattle.wt_called_edit_laws.specs.CallingBlocks.{IsContentIn, AreContentsInFolder, AreEdited, AreCallingBlocks, tree_with_calls, CallingBlocksStand}
+use Rattle.wt_called_edit_laws.specs.CallingBlocks.{AreEdited, AreCallingBlocks, tree_with_calls, CallingBlocksStand}
 use Rattle.wt_called_edit_laws.specs.CallingEdits.{AllTakeLetters}
 use Rattle.wt_called_edit_laws.specs.CallingGroups.{AreCallingOutside}
-use Rattle.wt_called_edit_laws.specs.Covered.{NoGroupAt, AreInNoGroup}
+use Rattle.wt_called_edit_laws.specs.Covered.{HasFreeByte, HaveFreeBytes}
 use Rattle.wt_called_edit_laws.specs.Groups.{called_tree}
 use Rattle.wt_called_edit_laws.specs.Parts.{calls_past}
 use Rattle.wt_called_edit_laws.specs.WrittenAnew.{EachHolds}
 use Rattle.wt_called_edit_laws.proofs.CalledUtf8.{called_utf8}
 use Rattle.wt_called_edit_laws.proofs.CallingGaps.{FillsEdited, gaps_by_letters}
-use Rattle.wt_called_edit_laws.proofs.CallingGroups.{calls_kept, edited_self, edited_round, held_there, stand_again}
+use Rattle.wt_called_edit_laws.proofs.CallingGroups.{calls_kept, edited_self, edited_round, stand_again}
+use Rattle.wt_called_edit_laws.proofs.CallNumbers.{IsCallOf, by_numbers, blocks_there}
 use Rattle.wt_called_edit_laws.proofs.Cells.CallingFrames.{edited_anew, calling_stand, calling_again}
 use Rattle.wt_called_edit_laws.proofs.Cells.PlaceGaps.{Gaps, last_gap, numbers_in, fill, source_at, sources_at, own_sources, AreSame, sources_counted, count_counted, many_by}
 use Rattle.wt_called_edit_laws.proofs.Cells.SpotTrees.{counted_same}
-use Rattle.wt_called_edit_laws.proofs.FreePlaces.{HaveLengths, clean_round}
-use Rattle.wt_called_edit_laws.proofs.GroupsOfPage.{signs_some, block_places}
+use Rattle.wt_called_edit_laws.proofs.EndCuts.{blocks_clean, round_clean}
+use Rattle.wt_called_edit_laws.proofs.FreePlaces.{clean_where_free}
+use Rattle.wt_called_edit_laws.proofs.GroupsOfPage.{block_places}
 use Rattle.wt_called_edit_laws.proofs.Parts.Retyped.{expanded_again}
-use Rattle.wt_called_edit_laws.proofs.PlaceBytes.{text_gaps, all_numbers, HaveTexts, all_fill, gaps_same, gap_places}
+use Rattle.wt_called_edit_laws.proofs.PlaceBytes.{text_gaps, all_numbers, HaveTexts, page_fill, gaps_same, page_places}
 use Rattle.wt_called_edit_laws.proofs.SpotSources.{AreItsTexts, blocks_text}
 use Rattle.wt_called_edit_laws.proofs.Squashed.{all_squashed, trees_squashed, places_squashed, frames_squashed, squashed_hold}
 use Rattle.wt_called_edit_laws.proofs.TextsUntangled.{AreThere, all_there}
 use Rattle.wt_called_edit_laws.proofs.Written.AllHeld.{all_hold}
 
--- ---- what is on the page for a block, whatever is before it
-
-no_call : (k : ℕ) → Some k ≡ None → ⊥
-no_call k e = cc
-
--- the first item is the page's own
-text_any : (calls : List OuterCall) (o : Option ℕ) (xs : List Item) → ((p : Option ℕ) → first_of xs p ≡ None) → text_from calls o xs ≡ text_from calls None xs
-text_any calls o [] h = absurd (no_call 0 (h (Some 0)))
-text_any calls o (x ∷ xs) h =
-    ap (λ (bs : List ℕ). bs ++ text_from calls (call_of x) xs) (behind_page calls o x (h None) ∙ sym (behind_page calls None x (h None)))
+-- ---- what is on the page for a block
 
 texts_up : (calls : List OuterCall) (t w : ℕ → ItemTree) (ns : List ℕ) → HaveTexts calls (λ n. t (suc n)) (λ n. w (suc n)) ns → HaveTexts calls t w (map suc ns)
 texts_up calls t w [] h = tt
 texts_up calls t w (n ∷ ns) h = (h.0, texts_up calls t w ns h.1)
 
-hold_down : (t : ℕ → ItemTree) (ns : List ℕ) → AllHold t (map suc ns) → AllHold (λ n. t (suc n)) ns
-hold_down t [] h = tt
-hold_down t (n ∷ ns) h = (h.0, hold_down t ns h.1)
-
 have_texts : (calls : List OuterCall) (pages : Pages) (k : ℕ) (ss : List BlockSpot) → AreItsTexts calls pages k ss
-    → AllHold (tree_with_calls pages k ss) (counted ss) → HaveTexts calls (tree_with_calls pages k ss) (tree_by ss) (counted ss)
-have_texts calls pages k [] t h = tt
-have_texts calls pages k (s ∷ ss) t h =
-    let own : HoldsItsCalls (tree_with_calls pages k (s ∷ ss) 0) = h.0 in (
-      (λ o. text_any calls o (tree_items (tree_with_calls pages k (s ∷ ss) 0)) own.begins ∙ t.0 ∙ sym (source_is s.block s.text)),
-      texts_up calls (tree_with_calls pages k (s ∷ ss)) (tree_by (s ∷ ss)) (counted ss)
-          (have_texts calls pages (calls_past pages k s) ss t.1 (hold_down (tree_with_calls pages k (s ∷ ss)) (counted ss) h.1)),
-    )
-
--- ---- each block has a byte
-
-false_true : false ≡ true → ⊥
-false_true e = cc
-
-para_some : (q : List ℕ) → IsReadContent a_paragraph q → 0 < length q
-para_some [] h =
-    let begins : BeginsParagraph [] = h.begins in
-    absurd (false_true (subst (λ (xs : List Item). begins_shown xs ≡ true) (read_items [] [] reads_nothing) begins.shown))
-para_some (b ∷ bs) h = omega arith
-
-source_some : (k : TextBlock) (q : List ℕ) → IsReadContent k q → 0 < length (source_of k q)
-source_some a_paragraph q h = para_some q h
-source_some (a_heading s) q h = let f : IsFrame s = h.begins in signs_some s.level s.lead _ f.sides.some
-
--- so there is something on the page for it
-abbrev HaveBytes : (ℕ → ItemTree) → List ℕ → Type 0
-HaveBytes w [] = Unit {0}
-HaveBytes w (n ∷ ns) = (0 < length (source_at w n)) × HaveBytes w ns
-
-bytes_up : (w : ℕ → ItemTree) (ns : List ℕ) → HaveBytes (λ n. w (suc n)) ns → HaveBytes w (map suc ns)
-bytes_up w [] h = tt
-bytes_up w (n ∷ ns) h = (h.0, bytes_up w ns h.1)
-
-have_bytes : (pages : Pages) (ss : List BlockSpot) → AreContentsInFolder pages ss → HaveBytes (tree_by ss) (counted ss)
-have_bytes pages [] h = tt
-have_bytes pages (s ∷ ss) h =
-    let own : IsContentIn pages s.block s.text = h.0 in (
-      subst (λ (bs : List ℕ). 0 < length bs) (sym (source_is s.block s.text)) (source_some s.block s.text own.read),
-      bytes_up (tree_by (s ∷ ss)) (counted ss) (have_bytes pages ss h.1),
-    )
-
-have_lengths : (calls : List OuterCall) (t w : ℕ → ItemTree) (ns : List ℕ) → HaveTexts calls t w ns → HaveBytes w ns → HaveLengths calls t ns
-have_lengths calls t w [] h b = tt
-have_lengths calls t w (n ∷ ns) h b =
-    ((λ o. subst (λ (bs : List ℕ). 0 < length bs) (sym (h.0 o)) b.0), have_lengths calls t w ns h.1 b.1)
+    → HaveTexts calls (tree_with_calls pages k ss) (tree_by ss) (counted ss)
+have_texts calls pages k [] t = tt
+have_texts calls pages k (s ∷ ss) t = (
+  t.0 ∙ sym (source_is s.block s.text),
+  texts_up calls (tree_with_calls pages k (s ∷ ss)) (tree_by (s ∷ ss)) (counted ss) (have_texts calls pages (calls_past pages k s) ss t.1),
+)
 
 -- ---- the page between its places
 
@@ -122,11 +70,17 @@ squashed_stand pages ss behind f = record {
   means = λ rs t. f.means rs t ∙ ap body_with (sym (trees_squashed (tree_with_calls pages 0 rs) f.frames));
 }
 
-texts_there : (pages : Pages) (ss : List BlockSpot) (behind : List ℕ) → CallingBlocksStand pages ss behind → AreCallingBlocks pages ss behind → EachHolds pages ss
+texts_there : (pages : Pages) (ss : List BlockSpot) (behind : List ℕ) → CallingBlocksStand pages ss behind → AreCallingBlocks pages ss behind
     → first_refusal pages (spots_source ss behind) (page_work pages (spots_source ss behind)) ≡ None
     → HaveTexts (expanded_page pages (spots_source ss behind)).outer (tree_with_calls pages 0 ss) (tree_by ss) (counted ss)
-texts_there pages ss behind f h o e =
-    have_texts (expanded_page pages (spots_source ss behind)).outer pages 0 ss (blocks_text pages ss behind h f e) (all_hold pages ss o)
+texts_there pages ss behind f h e = have_texts (expanded_page pages (spots_source ss behind)).outer pages 0 ss (blocks_text pages ss behind h f e)
+
+-- with any contents beside their calls the blocks are clean where they are
+there_again : (pages : Pages) (ss rs : List BlockSpot) (behind : List ℕ) → AreCallingBlocks pages ss behind → (f : CallingBlocksStand pages ss behind)
+    → first_refusal pages (spots_source ss behind) (page_work pages (spots_source ss behind)) ≡ None → AreEdited pages ss rs
+    → AllHold (tree_with_calls pages 0 rs) (counted rs) → AreCleanThere (tree_with_calls pages 0 rs) None f.frames None
+there_again pages ss rs behind h f e t o =
+    blocks_clean (IsCallOf pages 0 ss) (tree_with_calls pages 0 rs) f.frames (length ss) (by_numbers pages ss behind h f e) (blocks_there pages ss rs behind h f e t o)
 
 page_text : (pages : Pages) (ss rs : List BlockSpot) (behind : List ℕ) (h : AreCallingBlocks pages ss behind) (f : CallingBlocksStand pages ss behind)
     → first_refusal pages (spots_source ss behind) (page_work pages (spots_source ss behind)) ≡ None → AreEdited pages ss rs
@@ -141,27 +95,25 @@ page_text pages ss rs behind h f free t =
     ∙ its_page pages page (called_utf8 pages rs behind again.called) (again.unrefused free)
 
 abbrev page_gaps : Pages → (ss : List BlockSpot) (behind : List ℕ) → Frames → Gaps
-page_gaps pages ss behind fs = text_gaps (expanded_page pages (spots_source ss behind)).outer (tree_with_calls pages 0 ss) None fs (last_gap [])
+page_gaps pages ss behind fs = text_gaps (expanded_page pages (spots_source ss behind)).outer None fs (last_gap [])
 
 fills_page : (pages : Pages) (ss : List BlockSpot) (behind : List ℕ) (h : AreCallingBlocks pages ss behind) (f : CallingBlocksStand pages ss behind)
-    → EachHolds pages ss → first_refusal pages (spots_source ss behind) (page_work pages (spots_source ss behind)) ≡ None
+    → first_refusal pages (spots_source ss behind) (page_work pages (spots_source ss behind)) ≡ None
     → FillsEdited pages (page_gaps pages ss behind f.frames) ss behind
-fills_page pages ss behind h f hold free = λ rs t o.
+fills_page pages ss behind h f free = λ rs t o.
     let calls : List OuterCall = (expanded_page pages (spots_source ss behind)).outer in
     let others : List OuterCall = (expanded_page pages (spots_source rs behind)).outer in
-    let was : ℕ → ItemTree = tree_with_calls pages 0 ss in
     let now : ℕ → ItemTree = tree_with_calls pages 0 rs in
     let again = expanded_again pages ss rs behind h.called (edited_anew pages ss rs t) in
     let places : counted rs ≡ all_places f.frames = counted_same ss rs (edited_round pages ss rs t) ∙ sym f.in_order in
-    let g : Gaps = text_gaps others now None f.frames (last_gap []) in
-    ap (fill (own_sources rs))
-    (gaps_same calls others (calls_kept pages ss rs behind h t) was now None f.frames (last_gap []) (last_gap [])
-    (held_there pages ss ss behind f (edited_self pages ss) (all_hold pages ss hold)) (held_there pages ss rs behind f t (all_hold pages rs o)) refl)
+    let g : Gaps = text_gaps others None f.frames (last_gap []) in
+    ap (fill (own_sources rs)) (gaps_same calls others (calls_kept pages ss rs behind h t) None f.frames (last_gap []) (last_gap []) refl)
     ∙ ap (λ (ts : List (List ℕ)). fill ts g)
     (sym (ap (λ (is : List ℕ). sources_at (tree_by rs) is []) (sym places) ∙ sources_counted rs))
-    ∙ all_fill others now (tree_by rs) None f.frames (last_gap []) []
+    ∙ page_fill others now (tree_by rs) f.frames (last_gap []) []
     (subst (HaveTexts others now (tree_by rs)) places
-    (texts_there pages rs behind (stand_again pages ss rs behind f t) (calling_again pages ss rs behind h t) o (again.unrefused free)))
+    (texts_there pages rs behind (stand_again pages ss rs behind f t) (calling_again pages ss rs behind h t) (again.unrefused free)))
+    (there_again pages ss rs behind h f free t (all_hold pages rs o))
     ∙ append-nil (text_from others None (held now f.frames))
     ∙ page_text pages ss rs behind h f free t
 
@@ -169,7 +121,7 @@ fills_page pages ss behind h f hold free = λ rs t o.
 
 pub blocks_outside : (pages : Pages) (ss : List BlockSpot) (behind : List ℕ) → AreCallingBlocks pages ss behind → EachHolds pages ss → AllTakeLetters pages ss
     → first_refusal pages (spots_source ss behind) (page_work pages (spots_source ss behind)) ≡ None
-    → AreInNoGroup 0 ss (called_tree pages (spots_source ss behind)) → AreCallingOutside pages ss behind
+    → HaveFreeBytes 0 ss (called_tree pages (spots_source ss behind)) → AreCallingOutside pages ss behind
 unfolding squashed_stand
 blocks_outside pages ss behind h hold letters free g =
     let page : List ℕ = spots_source ss behind in
@@ -179,19 +131,25 @@ blocks_outside pages ss behind h hold letters free g =
     let t : ℕ → ItemTree = tree_with_calls pages 0 ss in
     let w : ℕ → ItemTree = tree_by ss in
     let u : Tree = annotated calls (group_data calls) (body_with (trees_at t fs)) in
-    let inside : AreInNoGroup 0 ss u = subst (λ m. AreInNoGroup 0 ss (annotated calls (group_data calls) m)) (f.means ss (edited_self pages ss)) g in
+    let self : AreEdited pages ss ss = edited_self pages ss in
+    let held : AllHold t (counted ss) = all_hold pages ss hold in
+    let inside : HaveFreeBytes 0 ss u = subst (λ m. HaveFreeBytes 0 ss (annotated calls (group_data calls) m)) (f.means ss self) g in
     let gaps : Gaps = page_gaps pages ss behind fs in
-    let numbers : numbers_in gaps ≡ counted ss = all_numbers calls t None fs (last_gap []) ∙ append-nil (all_places fs) ∙ f.in_order in
+    let numbers : numbers_in gaps ≡ counted ss = all_numbers calls None fs (last_gap []) ∙ append-nil (all_places fs) ∙ f.in_order in
     let same : AreSame gaps ss =
-    gaps_by_letters pages gaps ss behind (many_by gaps ss (ap length numbers ∙ count_counted ss)) hold letters (fills_page pages ss behind h f hold free) in
-    let texts : HaveTexts calls t w (all_places fs) = subst (HaveTexts calls t w) (sym f.in_order) (texts_there pages ss behind f h hold free) in
-    let at = gap_places (λ b. NoGroupAt b u) calls t w None 0 [] fs (last_gap []) texts refl
+    gaps_by_letters pages gaps ss behind (many_by gaps ss (ap length numbers ∙ count_counted ss)) hold letters (fills_page pages ss behind h f free) in
+    let texts : HaveTexts calls t w (all_places fs) = subst (HaveTexts calls t w) (sym f.in_order) (texts_there pages ss behind f h free) in
+    let there : AreCleanThere t None fs None = there_again pages ss ss behind h f free self held in
+    let at = page_places (HasFreeByte u) calls t w fs (last_gap []) texts there
     (block_places u w [] gaps ss 0 refl same (subst (λ (ns : List ℕ). AreThere w ns ss) (sym numbers) (all_there ss)) inside) in
+    let round : AreClean t None fs None = clean_where_free calls fs t f.of_cells (squashed_hold (calling_stand pages ss behind h).frames) at in
     record {
       blocks = h;
       stand = f;
-      hold = all_hold pages ss hold;
-      clean =
-          clean_round calls fs t f.of_cells (squashed_hold (calling_stand pages ss behind h).frames)
-          (have_lengths calls t w (all_places fs) texts (subst (HaveBytes w) (sym f.in_order) (have_bytes pages ss h.contents))) at.0;
+      hold = held;
+      clean = λ rs e o. (
+        round_clean (IsCallOf pages 0 ss) t (tree_with_calls pages 0 rs) fs content (length ss) (by_numbers pages ss behind h f free) f.of_cells
+            (blocks_there pages ss ss behind h f free self held) (blocks_there pages ss rs behind h f free e o) round,
+        there_again pages ss rs behind h f free e o,
+      );
     }

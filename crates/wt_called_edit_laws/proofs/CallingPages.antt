@@ -21,6 +21,7 @@ use Rattle.wt_called_edit_laws.specs.Parts.{calls_to, calls_past}
 use Rattle.wt_called_edit_laws.specs.WholeContents.{EachWhole}
 use Rattle.wt_called_edit_laws.specs.WrittenAnew.{EachHolds}
 use Rattle.wt_called_edit_laws.proofs.CallingGroups.{one_moved, calls_kept, calling_outside}
+use Rattle.wt_called_edit_laws.proofs.CallNumbers.{to_same, past_same}
 use Rattle.wt_called_edit_laws.proofs.Cells.CallingFrames.{edited_anew}
 use Rattle.wt_called_edit_laws.proofs.Parts.Retyped.{expanded_again}
 use Rattle.wt_called_edit_laws.proofs.Written.AllHeld.{all_hold}
@@ -39,22 +40,6 @@ calling_again pages ss rs behind h t o l n w = record {
 }
 
 -- ---- a block in which nothing is written
-
-as_many : (cs ds : List OuterCall) → AreMoved cs ds → length cs ≡ length ds
-as_many [] [] h = refl
-as_many [] (d ∷ ds) h = absurd h
-as_many (c ∷ cs) [] h = absurd h
-as_many (c ∷ cs) (d ∷ ds) h = ap suc (as_many cs ds h.1)
-
-to_same : (pages : Pages) (k : ℕ) (s r : BlockSpot) → r.before ≡ s.before → calls_to pages k s ≡ calls_to pages k r
-to_same pages k s r e = ap (λ (bs : List ℕ). k + calls_in pages bs) (sym e)
-
-past_same : (pages : Pages) (k : ℕ) (s r : BlockSpot) → r.before ≡ s.before
-    → AreMoved (expanded_page pages (source_of s.block s.text)).outer (expanded_page pages (source_of r.block r.text)).outer
-    → calls_past pages k s ≡ calls_past pages k r
-past_same pages k s r e m =
-    ap₂ (λ (i j : ℕ). i + j) (to_same pages k s r e)
-    (as_many (expanded_page pages (source_of s.block s.text)).outer (expanded_page pages (source_of r.block r.text)).outer m)
 
 tree_same : (pages : Pages) (k : ℕ) (ss rs : List BlockSpot) (n : ℕ) → AreEdited pages ss rs → StaysAt ss rs n
     → tree_with_calls pages k ss n ≡ tree_with_calls pages k rs n

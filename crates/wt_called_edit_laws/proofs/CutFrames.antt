@@ -9,17 +9,16 @@ use Rattle.wt_recut.specs.Recut.{is_as_text, any_shows_block}
 use Rattle.wt_tree.specs.Tiling.{is_group}
 use Rattle.wt_tree.specs.Tree.{Label, Tree, tree, Trees, none, more}
 use Rattle.wt_span.specs.Origins.{OuterCall}
-use Rattle.wt_inline.specs.ItemTree.{ItemTree, inner, tree_items}
+use Rattle.wt_inline.specs.ItemTree.{ItemTree, inner}
 use Rattle.wt_checks.specs.Kept.{children}
 use Rattle.wt_annotated.specs.Annotated.{annotated}
 use Rattle.wt_annotated.specs.CutTexts.{cut_as, cut_texts, all_cut_texts}
 use Rattle.wt_annotated.specs.GroupData.{group_data}
 use Rattle.wt_annotated.specs.Labels.{label_at}
 use Rattle.wt_annotated.specs.Numbering.{with_numbers}
-use Rattle.wt_annotated.specs.Seams.{last_of, first_of}
 use Rattle.wt_annotated.specs.WithoutCalls.{placed}
 use Rattle.wt_part_laws.specs.Rounds.{IsCellKind}
-use Rattle.wt_part_laws.specs.Frames.{place, whole, around, Frames, no_frames, more_frames, tree_at, trees_at, all_places, Part, content, in_table, in_body, in_row, Holds, AreFrames}
+use Rattle.wt_part_laws.specs.Frames.{place, whole, around, Frames, no_frames, more_frames, trees_at, all_places, Part, content, in_table, in_body, in_row, Holds, AreFrames}
 use Rattle.wt_part_laws.specs.Placeless.{placeless, all_placeless}
 use Rattle.wt_part_laws.proofs.Recuts.{texts_same}
 use Rattle.wt_called_edit_laws.proofs.Cells.Cuts.{beside}
@@ -27,10 +26,9 @@ use Rattle.wt_called_edit_laws.proofs.Cells.Nodes.{AtBorder}
 use Rattle.wt_called_edit_laws.proofs.Cells.ManyNodes.{fore_at, cut_at, cut_at_round}
 use Rattle.wt_part_laws.specs.TreeFrames.{TreeFrame, spot, kept, holder, TreeFrames, no_nodes, more_nodes, filled, all_filled, spots}
 use Rattle.wt_part_laws.specs.Rounded.{AreOwn, AreClean, body_of, body_label, block_alone}
-use Rattle.wt_part_laws.proofs.FramesWalked.{kept_before, holder_label, no_leaf, call_after, stretch, nodes_of, spots_are}
-use Rattle.wt_part_laws.proofs.FrameEnds.{held}
+use Rattle.wt_part_laws.proofs.FramesWalked.{kept_before, holder_label, no_leaf, stretch, nodes_of, spots_are}
 use Rattle.wt_part_laws.proofs.GroupsStay.{numbers_gone, stays, held_stay}
-use Rattle.wt_part_laws.specs.HeldCalls.{block_in, blocks_in, AllHold}
+use Rattle.wt_part_laws.specs.HeldCalls.{block_in, blocks_in}
 use Rattle.wt_called_edit_laws.specs.Nodes.{IsBlock, AreBlocks, block_at, NoneLeaves, AreHolders, NodesStay, NodesStayRound}
 
 -- ---- cutting
@@ -216,25 +214,20 @@ all_border : (calls : List OuterCall) (t : ℕ → ItemTree) (ns : List ℕ) →
 all_border calls t [] h = tt
 all_border calls t (n ∷ ns) h = ((λ x. held_border calls x (t n) h.0), all_border calls t ns h.1)
 
-at_cuts : (calls : List OuterCall) (t : ℕ → ItemTree) (b : ℕ → Tree) (o : Option ℕ) (us : List ItemTree) (fs : Frames) (p : Option ℕ) (part : Part) (x : Texts)
-    → AreFrames fs part → Fits part x → AllBorder b (all_places fs) → AtCuts b x (nodes_of calls t o us fs p)
-at_cuts calls t b o us no_frames p part x h g k = cuts_before b x (stretch calls o p us) no_nodes tt
-at_cuts calls t b o us (more_frames (whole u) fs) p part x h g k = at_cuts calls t b o (us ++ u ∷ []) fs p part x h.1 g k
-at_cuts calls t b o us (more_frames (place n) fs) p part x h g k =
-    cuts_before b x (stretch calls o None us) (more_nodes (spot n) (nodes_of calls t None [] fs p))
-    (k.0 x, at_cuts calls t b None [] fs p part x h.1 g k.1)
-at_cuts calls t b o us (more_frames (around j q gs c) fs) p part x h g k =
+at_cuts : (calls : List OuterCall) (b : ℕ → Tree) (us : List ItemTree) (fs : Frames) (part : Part) (x : Texts)
+    → AreFrames fs part → Fits part x → AllBorder b (all_places fs) → AtCuts b x (nodes_of calls us fs)
+at_cuts calls b us no_frames part x h g k = cuts_before b x (stretch calls us) no_nodes tt
+at_cuts calls b us (more_frames (whole u) fs) part x h g k = at_cuts calls b (us ++ u ∷ []) fs part x h.1 g k
+at_cuts calls b us (more_frames (place n) fs) part x h g k =
+    cuts_before b x (stretch calls us) (more_nodes (spot n) (nodes_of calls [] fs)) (k.0 x, at_cuts calls b [] fs part x h.1 g k.1)
+at_cuts calls b us (more_frames (around j q gs c) fs) part x h g k =
     let r = border_split b (all_places gs) (all_places fs) k in
-    let a : Option ℕ = call_after o us in
-    let after : Option ℕ = first_of (held t fs) p in
-    let u : ItemTree = tree_at t (around j q gs c) in
     let s = is_round part h.0.0 x j.kind g h.0.1 in
-    cuts_before b x (stretch calls o (first_of (tree_items u) after) us)
-    (more_nodes (holder (holder_label j q c) (nodes_of calls t (last_of a q) [] gs (first_of c after))) (nodes_of calls t (last_of a (tree_items u)) [] fs p)) (
+    cuts_before b x (stretch calls us) (more_nodes (holder (holder_label j q c) (nodes_of calls [] gs)) (nodes_of calls [] fs)) (
       s.0,
       (λ ts. s.1 (holder_label j q c) ts refl),
-      at_cuts calls t b (last_of a q) [] gs (first_of c after) h.0.0 (texts_of_kind j.kind) h.0.2 (fits part h.0.0 j.kind h.0.1) r.0,
-      at_cuts calls t b (last_of a (tree_items u)) [] fs p part x h.1 g r.1,
+      at_cuts calls b [] gs h.0.0 (texts_of_kind j.kind) h.0.2 (fits part h.0.0 j.kind h.0.1) r.0,
+      at_cuts calls b [] fs part x h.1 g r.1,
     )
 
 -- ---- none round places is a leaf
@@ -243,21 +236,14 @@ leaves_before : (ts : Trees) (fs : TreeFrames) → NoneLeaves fs → NoneLeaves 
 leaves_before none fs h = h
 leaves_before (more t ts) fs h = (tt, leaves_before ts fs h)
 
-none_leaves : (calls : List OuterCall) (t : ℕ → ItemTree) (o : Option ℕ) (us : List ItemTree) (fs : Frames) (p : Option ℕ) (part : Part) → AreFrames fs part
-    → NoneLeaves (nodes_of calls t o us fs p)
-none_leaves calls t o us no_frames p part h = leaves_before (stretch calls o p us) no_nodes tt
-none_leaves calls t o us (more_frames (whole u) fs) p part h = none_leaves calls t o (us ++ u ∷ []) fs p part h.1
-none_leaves calls t o us (more_frames (place n) fs) p part h =
-    leaves_before (stretch calls o None us) (more_nodes (spot n) (nodes_of calls t None [] fs p)) (tt, none_leaves calls t None [] fs p part h.1)
-none_leaves calls t o us (more_frames (around j q gs c) fs) p part h =
-    let a : Option ℕ = call_after o us in
-    let after : Option ℕ = first_of (held t fs) p in
-    let u : ItemTree = tree_at t (around j q gs c) in
-    leaves_before (stretch calls o (first_of (tree_items u) after) us)
-    (more_nodes (holder (holder_label j q c) (nodes_of calls t (last_of a q) [] gs (first_of c after))) (nodes_of calls t (last_of a (tree_items u)) [] fs p)) (
-      (no_leaf part h.0.0 j.kind h.0.1, none_leaves calls t (last_of a q) [] gs (first_of c after) h.0.0 h.0.2),
-      none_leaves calls t (last_of a (tree_items u)) [] fs p part h.1,
-    )
+none_leaves : (calls : List OuterCall) (us : List ItemTree) (fs : Frames) (part : Part) → AreFrames fs part → NoneLeaves (nodes_of calls us fs)
+none_leaves calls us no_frames part h = leaves_before (stretch calls us) no_nodes tt
+none_leaves calls us (more_frames (whole u) fs) part h = none_leaves calls (us ++ u ∷ []) fs part h.1
+none_leaves calls us (more_frames (place n) fs) part h =
+    leaves_before (stretch calls us) (more_nodes (spot n) (nodes_of calls [] fs)) (tt, none_leaves calls [] fs part h.1)
+none_leaves calls us (more_frames (around j q gs c) fs) part h =
+    leaves_before (stretch calls us) (more_nodes (holder (holder_label j q c) (nodes_of calls [] gs)) (nodes_of calls [] fs))
+    ((no_leaf part h.0.0 j.kind h.0.1, none_leaves calls [] gs h.0.0 h.0.2), none_leaves calls [] fs part h.1)
 
 cut_leaves : (v : Bool) (x : Texts) (us : Trees) (fs : TreeFrames) → NoneLeaves fs → NoneLeaves (cut_nodes v x us fs)
 cut_leaves v x us no_nodes h = leaves_before (cut_at v x us) no_nodes tt
@@ -274,21 +260,14 @@ holders_before : (ts : Trees) (fs : TreeFrames) (p : Part) → AreHolders fs p �
 holders_before none fs p h = h
 holders_before (more t ts) fs p h = (tt, holders_before ts fs p h)
 
-are_holders : (calls : List OuterCall) (t : ℕ → ItemTree) (o : Option ℕ) (us : List ItemTree) (fs : Frames) (p : Option ℕ) (part : Part) → AreFrames fs part
-    → AreHolders (nodes_of calls t o us fs p) part
-are_holders calls t o us no_frames p part h = holders_before (stretch calls o p us) no_nodes part tt
-are_holders calls t o us (more_frames (whole u) fs) p part h = are_holders calls t o (us ++ u ∷ []) fs p part h.1
-are_holders calls t o us (more_frames (place n) fs) p part h =
-    holders_before (stretch calls o None us) (more_nodes (spot n) (nodes_of calls t None [] fs p)) part (tt, are_holders calls t None [] fs p part h.1)
-are_holders calls t o us (more_frames (around j q gs c) fs) p part h =
-    let a : Option ℕ = call_after o us in
-    let after : Option ℕ = first_of (held t fs) p in
-    let u : ItemTree = tree_at t (around j q gs c) in
-    holders_before (stretch calls o (first_of (tree_items u) after) us)
-    (more_nodes (holder (holder_label j q c) (nodes_of calls t (last_of a q) [] gs (first_of c after))) (nodes_of calls t (last_of a (tree_items u)) [] fs p)) part (
-      (h.0.0, h.0.1, are_holders calls t (last_of a q) [] gs (first_of c after) h.0.0 h.0.2),
-      are_holders calls t (last_of a (tree_items u)) [] fs p part h.1,
-    )
+are_holders : (calls : List OuterCall) (us : List ItemTree) (fs : Frames) (part : Part) → AreFrames fs part → AreHolders (nodes_of calls us fs) part
+are_holders calls us no_frames part h = holders_before (stretch calls us) no_nodes part tt
+are_holders calls us (more_frames (whole u) fs) part h = are_holders calls (us ++ u ∷ []) fs part h.1
+are_holders calls us (more_frames (place n) fs) part h =
+    holders_before (stretch calls us) (more_nodes (spot n) (nodes_of calls [] fs)) part (tt, are_holders calls [] fs part h.1)
+are_holders calls us (more_frames (around j q gs c) fs) part h =
+    holders_before (stretch calls us) (more_nodes (holder (holder_label j q c) (nodes_of calls [] gs)) (nodes_of calls [] fs)) part
+    ((h.0.0, h.0.1, are_holders calls [] gs h.0.0 h.0.2), are_holders calls [] fs part h.1)
 
 cut_holders : (v : Bool) (x : Texts) (us : Trees) (fs : TreeFrames) (p : Part) → AreHolders fs p → AreHolders (cut_nodes v x us fs) p
 cut_holders v x us no_nodes p h = holders_before (cut_at v x us) no_nodes p tt
@@ -334,34 +313,32 @@ body_cut ts = refl
 pub nodes_stay : (calls : List OuterCall) (fs : Frames) (t : ℕ → ItemTree) → AreFrames fs content → AreOwn t (all_places fs) → AreClean t None fs None
     → NodesStay calls fs
 nodes_stay calls fs t h g clean =
-    let nodes : TreeFrames = nodes_of calls t None [] fs None in
+    let nodes : TreeFrames = nodes_of calls [] fs in
     record {
       nodes = cut_nodes true Page none nodes;
-      in_order = cut_spots true Page none nodes ∙ spots_are calls t None [] fs None;
-      inner_nodes = cut_leaves true Page none nodes (none_leaves calls t None [] fs None content h);
-      holders = cut_holders true Page none nodes content (are_holders calls t None [] fs None content h);
+      in_order = cut_spots true Page none nodes ∙ spots_are calls [] fs;
+      inner_nodes = cut_leaves true Page none nodes (none_leaves calls [] fs content h);
+      holders = cut_holders true Page none nodes content (are_holders calls [] fs content h);
       stay = λ others w same own blocks.
           placeless_children (annotated others (group_data others) (body_of (trees_at w fs)))
           ∙ ap children (stays calls others fs t w same h g own clean)
           ∙ body_cut (all_filled (block_alone w) nodes)
-          ∙ cuts_are (block_alone w) true Page none nodes (at_cuts calls t (block_alone w) None [] fs None content Page h tt (own_border w (all_places fs) blocks))
+          ∙ cuts_are (block_alone w) true Page none nodes (at_cuts calls (block_alone w) [] fs content Page h tt (own_border w (all_places fs) blocks))
           ∙ all_filled_same (cut_block (block_alone w)) (block_at w) (block_is w) (cut_nodes true Page none nodes);
     }
 
 -- so it is round blocks that hold calls
-pub nodes_stay_round : (calls : List OuterCall) (fs : Frames) (t : ℕ → ItemTree) → AreFrames fs content → AllHold t (all_places fs) → AreClean t None fs None
-    → NodesStayRound calls fs
-nodes_stay_round calls fs t h g clean =
-    let nodes : TreeFrames = nodes_of calls t None [] fs None in
+pub nodes_stay_round : (calls : List OuterCall) (fs : Frames) → AreFrames fs content → NodesStayRound calls fs
+nodes_stay_round calls fs h =
+    let nodes : TreeFrames = nodes_of calls [] fs in
     record {
       nodes = cut_nodes true Page none nodes;
-      in_order = cut_spots true Page none nodes ∙ spots_are calls t None [] fs None;
-      inner_nodes = cut_leaves true Page none nodes (none_leaves calls t None [] fs None content h);
-      holders = cut_holders true Page none nodes content (are_holders calls t None [] fs None content h);
-      stay = λ others w same hold blocks.
+      in_order = cut_spots true Page none nodes ∙ spots_are calls [] fs;
+      inner_nodes = cut_leaves true Page none nodes (none_leaves calls [] fs content h);
+      holders = cut_holders true Page none nodes content (are_holders calls [] fs content h);
+      stay = λ others w same clean there blocks.
           placeless_children (annotated others (group_data others) (body_of (trees_at w fs)))
-          ∙ ap children (held_stay calls others fs t w same h g hold clean)
+          ∙ ap children (held_stay calls others fs w same h clean there)
           ∙ body_cut (all_filled (blocks_in others w) nodes)
-          ∙ cuts_are (blocks_in others w) true Page none nodes
-          (at_cuts calls t (blocks_in others w) None [] fs None content Page h tt (all_border others w (all_places fs) blocks));
+          ∙ cuts_are (blocks_in others w) true Page none nodes (at_cuts calls (blocks_in others w) [] fs content Page h tt (all_border others w (all_places fs) blocks));
     }

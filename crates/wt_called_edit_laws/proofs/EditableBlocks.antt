@@ -18,13 +18,16 @@ use Rattle.wt_called_edit_laws.specs.Covered.{IsEditablePage}
 use Rattle.wt_called_edit_laws.specs.EditableBlocks.{IsEditableContent, AreEditableContents, IsEditableWithCalls}
 use Rattle.wt_called_edit_laws.specs.EditsAt.{IsStanding, StandsTo, StandsAmong, AllStand, Fits, FitsSpot, AreFitting, edited_by, IsContentEdit, IsUnmarkedContentEdit}
 use Rattle.wt_called_edit_laws.specs.FreeBlocks.{NoTextCalls}
+use Rattle.wt_called_edit_laws.specs.Groups.{called_tree}
 use Rattle.wt_called_edit_laws.specs.Parts.{calls_to, calls_past}
 use Rattle.wt_called_edit_laws.specs.SettledAt.{IsSettledAt, SettledTo, SettledAmong, AllSettled}
 use Rattle.wt_called_edit_laws.specs.WholeContents.{IsWholeIn, EachWhole}
 use Rattle.wt_called_edit_laws.specs.WrittenAnew.{HoldsAnywhere, EachHolds}
 use Rattle.wt_called_edit_laws.proofs.CallingMade.{calm_block, calm_standing, calm_letters}
 use Rattle.wt_called_edit_laws.proofs.CallingOutside.{blocks_outside}
+use Rattle.wt_called_edit_laws.proofs.Cells.CalledFrames.{among_contents}
 use Rattle.wt_called_edit_laws.proofs.Cells.CallingFrames.{among_calling}
+use Rattle.wt_called_edit_laws.proofs.GroupsOfPage.{first_bytes}
 use Rattle.wt_called_edit_laws.proofs.Parts.NoCallsCalled.{calm_texts}
 use Rattle.wt_called_edit_laws.proofs.SettledEdits.{settled_moved}
 use Rattle.wt_called_edit_laws.proofs.SpotSources.{grouped_at}
@@ -71,7 +74,7 @@ editable_calling pages ss behind h =
     let hold : EachHolds pages ss = all_hold pages ss h.contents in
     let letters : AllTakeLetters pages ss = all_take pages ss h.contents in
     record {
-      outside = blocks_outside pages ss behind h.blocks hold letters h.unrefused h.in_no_group;
+      outside = blocks_outside pages ss behind h.blocks hold letters h.unrefused h.free;
       hold = hold;
       letters = letters;
       texts = no_texts pages ss h.contents;
@@ -89,7 +92,7 @@ editable_with_calls pages ss behind h = record {
   blocks = among_calling pages ss behind h.among;
   contents = calm_contents pages ss h.among.contents h.among.calm;
   unrefused = h.unrefused;
-  in_no_group = h.in_no_group;
+  free = first_bytes (called_tree pages (spots_source ss behind)) ss 0 (among_contents pages ss behind h.among) h.in_no_group;
 }
 
 -- ---- where its blocks call nothing

@@ -1,9 +1,9 @@
--- Where no group has the byte of a place, each node round the place is clean.
+-- Where no group has some byte of a place, each node round the place is clean.
 use Rattle.std.proofs.Common.{arith, ◌≡◌, ◌⊎◌, inl, inr, ◌≤◌, ◌<◌, ℕ, ◌+◌, Bool, true, false, Option, None, List, [], ◌∷◌, ◌++◌, length, ap, ◌∙◌, length-append}
 use Rattle.wt_tree.specs.Kinds.{is_leaf}
 use Rattle.wt_tree.specs.Tiling.{is_group}
-use Rattle.wt_tree.specs.Tree.{Trees, trees}
-use Rattle.wt_span.specs.Items.{Item, sources}
+use Rattle.wt_tree.specs.Tree.{Tree, Trees, trees}
+use Rattle.wt_span.specs.Items.{Item}
 use Rattle.wt_span.specs.Origins.{OuterCall}
 use Rattle.wt_inline.specs.ItemTree.{Head, ItemTree, inner, forest, tree_items, held_by_all}
 use Rattle.wt_annotated.specs.Annotated.{annotated}
@@ -13,24 +13,23 @@ use Rattle.wt_annotated.specs.Walked.{clean_at, Near, near_runs, walked, near}
 use Rattle.wt_annotated.specs.WithoutCalls.{inside_by}
 use Rattle.wt_annotated.proofs.Seams.{text_append_from}
 use Rattle.wt_part_laws.specs.Frames.{Frame, place, whole, around, Frames, no_frames, more_frames, tree_at, trees_at, places_in, all_places, Part, content, IsFrame, AreFrames}
-use Rattle.wt_part_laws.specs.Rounded.{AreOwn, IsClean, AreClean, body_of}
+use Rattle.wt_part_laws.specs.Rounded.{IsClean, AreClean, body_of}
 use Rattle.wt_part_laws.proofs.FramesWalked.{no_leaf}
-use Rattle.wt_part_laws.proofs.OwnWalks.{text_own}
 use Rattle.wt_called_edit_laws.proofs.CutFrames.{no_group_round}
-use Rattle.wt_called_edit_laws.specs.Covered.{NoGroupAt, NoneGroupAt, IfGroup, AtPlace, AtPlaces, HaveBytes, HasAny, HoldsPlace, HoldPlaces, CleanWhereFree}
+use Rattle.wt_called_edit_laws.specs.Covered.{NoGroupAt, NoneGroupAt, IfGroup, AtPlace, AtPlaces, SomeByte, HasFreeByte, HasAny, HoldsPlace, HoldPlaces, CleanWhereFree}
 use Rattle.wt_called_edit_laws.proofs.GroupsKept.{walk_free}
 use Rattle.wt_called_edit_laws.proofs.RunsFree.{IsFreeAt, AreFreeAt, children_free}
 
 -- ---- of each place
 
 mutual
-  map_place : (P Q : ℕ → Type 0) (calls : List OuterCall) (t : ℕ → ItemTree) (o : Option ℕ) (at : ℕ) (f : Frame) → ((b : ℕ) → P b → Q b)
+  map_place : (P Q : ℕ → ℕ → Type 0) (calls : List OuterCall) (t : ℕ → ItemTree) (o : Option ℕ) (at : ℕ) (f : Frame) → ((b e : ℕ) → P b e → Q b e)
       → AtPlace P calls t o at f → AtPlace Q calls t o at f
-  map_place P Q calls t o at (place n) k h = k at h
+  map_place P Q calls t o at (place n) k h = k at (at + length (text_from calls o (tree_items (t n)))) h
   map_place P Q calls t o at (whole u) k h = tt
   map_place P Q calls t o at (around j q gs c) k h = map_places P Q calls t (last_of o q) (at + length (text_from calls o q)) gs k h
 
-  map_places : (P Q : ℕ → Type 0) (calls : List OuterCall) (t : ℕ → ItemTree) (o : Option ℕ) (at : ℕ) (fs : Frames) → ((b : ℕ) → P b → Q b)
+  map_places : (P Q : ℕ → ℕ → Type 0) (calls : List OuterCall) (t : ℕ → ItemTree) (o : Option ℕ) (at : ℕ) (fs : Frames) → ((b e : ℕ) → P b e → Q b e)
       → AtPlaces P calls t o at fs → AtPlaces Q calls t o at fs
   map_places P Q calls t o at no_frames k h = tt
   map_places P Q calls t o at (more_frames f fs) k h = (
@@ -39,14 +38,14 @@ mutual
   )
 
 mutual
-  both_place : (P Q : ℕ → Type 0) (calls : List OuterCall) (t : ℕ → ItemTree) (o : Option ℕ) (at : ℕ) (f : Frame) → AtPlace P calls t o at f
-      → AtPlace Q calls t o at f → AtPlace (λ b. P b × Q b) calls t o at f
+  both_place : (P Q : ℕ → ℕ → Type 0) (calls : List OuterCall) (t : ℕ → ItemTree) (o : Option ℕ) (at : ℕ) (f : Frame) → AtPlace P calls t o at f
+      → AtPlace Q calls t o at f → AtPlace (λ b e. P b e × Q b e) calls t o at f
   both_place P Q calls t o at (place n) h g = (h, g)
   both_place P Q calls t o at (whole u) h g = tt
   both_place P Q calls t o at (around j q gs c) h g = both_places P Q calls t (last_of o q) (at + length (text_from calls o q)) gs h g
 
-  both_places : (P Q : ℕ → Type 0) (calls : List OuterCall) (t : ℕ → ItemTree) (o : Option ℕ) (at : ℕ) (fs : Frames) → AtPlaces P calls t o at fs
-      → AtPlaces Q calls t o at fs → AtPlaces (λ b. P b × Q b) calls t o at fs
+  both_places : (P Q : ℕ → ℕ → Type 0) (calls : List OuterCall) (t : ℕ → ItemTree) (o : Option ℕ) (at : ℕ) (fs : Frames) → AtPlaces P calls t o at fs
+      → AtPlaces Q calls t o at fs → AtPlaces (λ b e. P b e × Q b e) calls t o at fs
   both_places P Q calls t o at no_frames h g = tt
   both_places P Q calls t o at (more_frames f fs) h g = (
     both_place P Q calls t o at f h.0 g.0,
@@ -59,13 +58,13 @@ any_split [] ns h = inr h
 any_split (m ∷ ms) ns h = inl tt
 
 mutual
-  one_place : (P : ℕ → Type 0) (X : Type 0) (calls : List OuterCall) (t : ℕ → ItemTree) (o : Option ℕ) (at : ℕ) (f : Frame) → ((b : ℕ) → P b → X)
+  one_place : (P : ℕ → ℕ → Type 0) (X : Type 0) (calls : List OuterCall) (t : ℕ → ItemTree) (o : Option ℕ) (at : ℕ) (f : Frame) → ((b e : ℕ) → P b e → X)
       → HasAny (places_in f) → AtPlace P calls t o at f → X
-  one_place P X calls t o at (place n) k a h = k at h
+  one_place P X calls t o at (place n) k a h = k at (at + length (text_from calls o (tree_items (t n)))) h
   one_place P X calls t o at (whole u) k a h = absurd a
   one_place P X calls t o at (around j q gs c) k a h = some_place P X calls t (last_of o q) (at + length (text_from calls o q)) gs k a h
 
-  some_place : (P : ℕ → Type 0) (X : Type 0) (calls : List OuterCall) (t : ℕ → ItemTree) (o : Option ℕ) (at : ℕ) (fs : Frames) → ((b : ℕ) → P b → X)
+  some_place : (P : ℕ → ℕ → Type 0) (X : Type 0) (calls : List OuterCall) (t : ℕ → ItemTree) (o : Option ℕ) (at : ℕ) (fs : Frames) → ((b e : ℕ) → P b e → X)
       → HasAny (all_places fs) → AtPlaces P calls t o at fs → X
   some_place P X calls t o at no_frames k a h = absurd a
   some_place P X calls t o at (more_frames f fs) k a h = elim (any_split (places_in f) (all_places fs) a) [
@@ -81,66 +80,45 @@ size calls o xs = length (text_from calls o xs)
 size_both : (calls : List OuterCall) (o : Option ℕ) (xs ys : List Item) → size calls o (xs ++ ys) ≡ size calls o xs + size calls (last_of o xs) ys
 size_both calls o xs ys = ap length (text_append_from calls o xs ys) ∙ length-append (text_from calls o xs) (text_from calls (last_of o xs) ys)
 
--- something is on the page for each of these blocks, whatever is before it
-abbrev pub HaveLengths : List OuterCall → (ℕ → ItemTree) → List ℕ → Type 0
-HaveLengths calls t [] = Unit {0}
-HaveLengths calls t (n ∷ ns) = ((o : Option ℕ) → 0 < length (text_from calls o (tree_items (t n)))) × HaveLengths calls t ns
-
-lengths_split : (calls : List OuterCall) (t : ℕ → ItemTree) (ms ns : List ℕ) → HaveLengths calls t (ms ++ ns) → HaveLengths calls t ms × HaveLengths calls t ns
-lengths_split calls t [] ns h = (tt, h)
-lengths_split calls t (m ∷ ms) ns h = let r = lengths_split calls t ms ns h.1 in ((h.0, r.0), r.1)
-
-own_lengths : (calls : List OuterCall) (t : ℕ → ItemTree) (ns : List ℕ) → AreOwn t ns → HaveBytes t ns → HaveLengths calls t ns
-own_lengths calls t [] w h = tt
-own_lengths calls t (n ∷ ns) w h = (
-  (λ o.
-      let some : 0 < length (sources (tree_items (t n))) = h.0 in
-      let same : size calls o (tree_items (t n)) ≡ length (sources (tree_items (t n))) = ap length (text_own calls o (tree_items (t n)) w.0.of_page) in
-      omega (arith, some, same)),
-  own_lengths calls t ns w.1 h.1,
-)
-
-abbrev IsWithin : ℕ → ℕ → ℕ → Type 0
-IsWithin from n b = (from ≤ b) × (b < from + n)
+abbrev IsWithin : ℕ → ℕ → ℕ → ℕ → Type 0
+IsWithin from n b e = (from ≤ b) × (e ≤ from + n)
 
 mutual
-  place_within : (calls : List OuterCall) (t : ℕ → ItemTree) (o : Option ℕ) (at : ℕ) (f : Frame) → HaveLengths calls t (places_in f)
+  place_within : (calls : List OuterCall) (t : ℕ → ItemTree) (o : Option ℕ) (at : ℕ) (f : Frame)
       → AtPlace (IsWithin at (size calls o (tree_items (tree_at t f)))) calls t o at f
-  place_within calls t o at (place n) h =
-      let some : 0 < size calls o (tree_items (t n)) = h.0 o in
+  place_within calls t o at (place n) =
       let low : at ≤ at = omega arith in
-      let high : at < at + size calls o (tree_items (t n)) = omega (arith, some) in
+      let high : at + size calls o (tree_items (t n)) ≤ at + size calls o (tree_items (t n)) = omega arith in
       (low, high)
-  place_within calls t o at (whole u) h = tt
-  place_within calls t o at (around j q gs c) h =
+  place_within calls t o at (whole u) = tt
+  place_within calls t o at (around j q gs c) =
       let inner_items : List Item = held_by_all (forest (trees_at t gs)) in
       let from : ℕ = at + size calls o q in
       let n : ℕ = size calls (last_of o q) inner_items in
       let one : size calls o (q ++ (inner_items ++ c)) ≡ size calls o q + size calls (last_of o q) (inner_items ++ c) = size_both calls o q (inner_items ++ c) in
       let two : size calls (last_of o q) (inner_items ++ c) ≡ n + size calls (last_of (last_of o q) inner_items) c = size_both calls (last_of o q) inner_items c in
       map_places (IsWithin from n) (IsWithin at (size calls o (q ++ (inner_items ++ c)))) calls t (last_of o q) from gs
-      (λ b k.
+      (λ b e k.
       let low : at ≤ b = omega (arith, k.0) in
-      let high : b < at + size calls o (q ++ (inner_items ++ c)) = omega (arith, k.1, one, two) in
+      let high : e ≤ at + size calls o (q ++ (inner_items ++ c)) = omega (arith, k.1, one, two) in
       (low, high))
-      (places_within calls t (last_of o q) from gs h)
+      (places_within calls t (last_of o q) from gs)
 
-  places_within : (calls : List OuterCall) (t : ℕ → ItemTree) (o : Option ℕ) (at : ℕ) (fs : Frames) → HaveLengths calls t (all_places fs)
+  places_within : (calls : List OuterCall) (t : ℕ → ItemTree) (o : Option ℕ) (at : ℕ) (fs : Frames)
       → AtPlaces (IsWithin at (size calls o (held_by_all (forest (trees_at t fs))))) calls t o at fs
-  places_within calls t o at no_frames h = tt
-  places_within calls t o at (more_frames f fs) h =
+  places_within calls t o at no_frames = tt
+  places_within calls t o at (more_frames f fs) =
       let own : List Item = tree_items (tree_at t f) in
       let rest : List Item = held_by_all (forest (trees_at t fs)) in
-      let all : size calls o (own ++ rest) ≡ size calls o own + size calls (last_of o own) rest = size_both calls o own rest in
-      let k = lengths_split calls t (places_in f) (all_places fs) h in (
+      let all : size calls o (own ++ rest) ≡ size calls o own + size calls (last_of o own) rest = size_both calls o own rest in (
         map_place (IsWithin at (size calls o own)) (IsWithin at (size calls o (own ++ rest))) calls t o at f
-            (λ b x. let high : b < at + size calls o (own ++ rest) = omega (arith, x.1, all) in (x.0, high)) (place_within calls t o at f k.0),
+            (λ b e x. let high : e ≤ at + size calls o (own ++ rest) = omega (arith, x.1, all) in (x.0, high)) (place_within calls t o at f),
         map_places (IsWithin (at + size calls o own) (size calls (last_of o own) rest)) (IsWithin at (size calls o (own ++ rest))) calls t (last_of o own) (at + size calls o own) fs
-            (λ b x.
+            (λ b e x.
             let low : at ≤ b = omega (arith, x.0) in
-            let high : b < at + size calls o (own ++ rest) = omega (arith, x.1, all) in
+            let high : e ≤ at + size calls o (own ++ rest) = omega (arith, x.1, all) in
             (low, high))
-            (places_within calls t (last_of o own) (at + size calls o own) fs k.1),
+            (places_within calls t (last_of o own) (at + size calls o own) fs),
       )
 
 -- ---- clean nodes
@@ -172,54 +150,62 @@ inside_free calls b o at p k q c ts group leaf h =
     (not_leaf b (is_leaf k.kind) (trees (near_runs calls (group_data calls) (near calls (group_data calls) (last_of o q) (at + size calls o q) (first_of c p) (forest ts)))) leaf
     (no_group_in (is_group k.kind) _ _ group h))
 
+-- some byte is in no group, and so of others
+some_same : (P Q : ℕ → Type 0) (from to : ℕ) → ((b : ℕ) → P b → Q b) → SomeByte P from to → SomeByte Q from to
+some_same P Q from to f h = (h.0, h.1, h.2, f h.0 h.3)
+
+some_within : (P Q : ℕ → Type 0) (at n from to : ℕ) → ((b : ℕ) → at ≤ b → b < at + n → P b → Q b) → SomeByte P from to → IsWithin at n from to → SomeByte Q from to
+some_within P Q at n from to f h w =
+    let low : at ≤ h.0 = omega (arith, h.1, w.0) in
+    let high : h.0 < at + n = omega (arith, h.2, w.1) in
+    (h.0, h.1, h.2, f h.0 low high h.3)
+
 mutual
   frame_clean : (calls : List OuterCall) (t : ℕ → ItemTree) (o : Option ℕ) (at : ℕ) (f : Frame) (p : Option ℕ) (part : Part) → IsFrame f part → HoldsPlace f
-      → HaveLengths calls t (places_in f) → AtPlace (λ b. IsFreeAt calls b (child calls t o at f p)) calls t o at f → IsClean t o f p
-  frame_clean calls t o at (place n) p part i a h g = tt
-  frame_clean calls t o at (whole u) p part i a h g = tt
-  frame_clean calls t o at (around k q gs c) p part i a h g =
+      → AtPlace (SomeByte (λ b. IsFreeAt calls b (child calls t o at f p))) calls t o at f → IsClean t o f p
+  frame_clean calls t o at (place n) p part i a g = tt
+  frame_clean calls t o at (whole u) p part i a g = tt
+  frame_clean calls t o at (around k q gs c) p part i a g =
       let u : ItemTree = tree_at t (around k q gs c) in
       let x : Option ℕ = last_of o q in
       let from : ℕ = at + size calls o q in
-      let N : ℕ → Type 0 = IsWithin at (size calls o (tree_items u)) in
+      let n : ℕ = size calls o (tree_items u) in
       let F : ℕ → Type 0 = λ b. IsFreeAt calls b (child calls t o at (around k q gs c) p) in
-      let R : ℕ → Type 0 = λ b. (clean_at o p u ≡ true) × NoGroupAt b (walked calls (group_data calls) o at p u) in
-      let all : AtPlaces R calls t x from gs =
-      map_places (λ b. F b × N b) R calls t x from gs (λ b y. y.0 y.1)
-      (both_places F N calls t x from gs g (place_within calls t o at (around k q gs c) h)) in (
-        some_place R (clean_at o p u ≡ true) calls t x from gs (λ b y. y.0) a.0 all,
-        frames_clean calls t x from gs (first_of c p) i.0 i.2 a.1 h
-            (map_places R (λ b. AreFreeAt calls b (near calls (group_data calls) x from (first_of c p) (forest (trees_at t gs)))) calls t x from gs
-            (λ b y. inside_free calls b o at p k q c (trees_at t gs) (no_group_round part i.0 k.kind i.1) (no_leaf part i.0 k.kind i.1) y.1) all),
+      let G : ℕ → Type 0 = λ b. (clean_at o p u ≡ true) × NoGroupAt b (walked calls (group_data calls) o at p u) in
+      let N : ℕ → Type 0 = λ b. AreFreeAt calls b (near calls (group_data calls) x from (first_of c p) (forest (trees_at t gs))) in
+      let all : AtPlaces (SomeByte G) calls t x from gs =
+      map_places (λ b e. SomeByte F b e × IsWithin at n b e) (SomeByte G) calls t x from gs
+      (λ b e y. some_within F G at n b e (λ d low high h. h (low, high)) y.0 y.1)
+      (both_places (SomeByte F) (IsWithin at n) calls t x from gs g (place_within calls t o at (around k q gs c))) in (
+        some_place (SomeByte G) (clean_at o p u ≡ true) calls t x from gs (λ b e y. y.3.0) a.0 all,
+        frames_clean calls t x from gs (first_of c p) i.0 i.2 a.1
+            (map_places (SomeByte G) (SomeByte N) calls t x from gs
+            (λ b e y. some_same G N b e
+            (λ d h. inside_free calls d o at p k q c (trees_at t gs) (no_group_round part i.0 k.kind i.1) (no_leaf part i.0 k.kind i.1) h.1) y) all),
       )
 
   frames_clean : (calls : List OuterCall) (t : ℕ → ItemTree) (o : Option ℕ) (at : ℕ) (fs : Frames) (p : Option ℕ) (part : Part) → AreFrames fs part → HoldPlaces fs
-      → HaveLengths calls t (all_places fs)
-      → AtPlaces (λ b. AreFreeAt calls b (near calls (group_data calls) o at p (forest (trees_at t fs)))) calls t o at fs → AreClean t o fs p
-  frames_clean calls t o at no_frames p part i a h g = tt
-  frames_clean calls t o at (more_frames f fs) p part i a h g =
+      → AtPlaces (SomeByte (λ b. AreFreeAt calls b (near calls (group_data calls) o at p (forest (trees_at t fs))))) calls t o at fs → AreClean t o fs p
+  frames_clean calls t o at no_frames p part i a g = tt
+  frames_clean calls t o at (more_frames f fs) p part i a g =
       let own : List Item = tree_items (tree_at t f) in
       let next : Option ℕ = first_of (held_by_all (forest (trees_at t fs))) p in
       let A : ℕ → Type 0 = λ b. AreFreeAt calls b (near calls (group_data calls) o at p (forest (trees_at t (more_frames f fs)))) in
-      let z = lengths_split calls t (places_in f) (all_places fs) h in (
-        frame_clean calls t o at f next part i.0 a.0 z.0 (map_place A (λ b. IsFreeAt calls b (child calls t o at f next)) calls t o at f (λ b y. y.0) g.0),
-        frames_clean calls t (last_of o own) (at + size calls o own) fs p part i.1 a.1 z.1
-            (map_places A (λ b. AreFreeAt calls b (near calls (group_data calls) (last_of o own) (at + size calls o own) p (forest (trees_at t fs)))) calls t
-            (last_of o own) (at + size calls o own) fs (λ b y. y.1) g.1),
+      let F : ℕ → Type 0 = λ b. IsFreeAt calls b (child calls t o at f next) in
+      let B : ℕ → Type 0 = λ b. AreFreeAt calls b (near calls (group_data calls) (last_of o own) (at + size calls o own) p (forest (trees_at t fs))) in (
+        frame_clean calls t o at f next part i.0 a.0 (map_place (SomeByte A) (SomeByte F) calls t o at f (λ b e y. some_same A F b e (λ d h. h.0) y) g.0),
+        frames_clean calls t (last_of o own) (at + size calls o own) fs p part i.1 a.1
+            (map_places (SomeByte A) (SomeByte B) calls t (last_of o own) (at + size calls o own) fs (λ b e y. some_same A B b e (λ d h. h.1) y) g.1),
       )
 
 -- ---- the page
 
--- whatever blocks are at the places, if there is something of each on the page
-pub clean_round : (calls : List OuterCall) (fs : Frames) (t : ℕ → ItemTree) → AreFrames fs content → HoldPlaces fs → HaveLengths calls t (all_places fs)
-    → AtPlaces (λ b. NoGroupAt b (annotated calls (group_data calls) (body_of (trees_at t fs)))) calls t None 0 fs → AreClean t None fs None
-clean_round calls fs t i a h g =
-    let body : ItemTree = body_of (trees_at t fs) in
-    let G : ℕ → Type 0 = λ b. NoGroupAt b (annotated calls (group_data calls) body) in
-    let A : ℕ → Type 0 = λ b. AreFreeAt calls b (near calls (group_data calls) None 0 None (forest (trees_at t fs))) in
-    frames_clean calls t None 0 fs None content i a h
-    (map_places G A calls t None 0 fs
-    (λ b y. children_free calls (group_data calls) b None 0 None (forest (trees_at t fs)) (walk_free calls (group_data calls) body b y)) g)
-
 pub clean_where_free : (calls : List OuterCall) (fs : Frames) (t : ℕ → ItemTree) → CleanWhereFree calls fs t
-clean_where_free calls fs t i a w h g = clean_round calls fs t i a (own_lengths calls t (all_places fs) w h) g
+clean_where_free calls fs t i a g =
+    let body : ItemTree = body_of (trees_at t fs) in
+    let u : Tree = annotated calls (group_data calls) body in
+    let G : ℕ → Type 0 = λ b. NoGroupAt b u in
+    let A : ℕ → Type 0 = λ b. AreFreeAt calls b (near calls (group_data calls) None 0 None (forest (trees_at t fs))) in
+    frames_clean calls t None 0 fs None content i a
+    (map_places (HasFreeByte u) (SomeByte A) calls t None 0 fs
+    (λ b e y. some_same G A b e (λ d h. children_free calls (group_data calls) d None 0 None (forest (trees_at t fs)) (walk_free calls (group_data calls) body d h)) y) g)

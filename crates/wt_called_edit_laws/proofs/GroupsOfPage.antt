@@ -25,20 +25,19 @@ use Rattle.wt_text_edit_laws.proofs.Blocks.OwnContents.{paragraph_some}
 use Rattle.wt_called_edit_laws.specs.Retyped.{AreRetyped}
 use Rattle.wt_called_edit_laws.proofs.Parts.Retyped.{typed_again}
 use Rattle.wt_part_laws.specs.Rounded.{AreOwn}
-use Rattle.wt_part_laws.proofs.FrameEnds.{held}
-use Rattle.wt_part_laws.proofs.HeldBlocks.{all_own_hold}
+use Rattle.wt_part_laws.proofs.FrameEnds.{held, own_there}
 use Rattle.wt_called_edit_laws.specs.CalledBlocks.{AreAmongCalls, StandAmongCalls, tree_by, counted}
 use Rattle.wt_called_edit_laws.proofs.Cells.CalledFrames.{among_contents, stand_among}
 use Rattle.wt_called_edit_laws.proofs.Cells.PlaceGaps.{Gaps, last_gap, then_gap, numbers_in, fill, source_at, sources_at, own_sources, FillsAll, AreSame, same_gaps, sources_counted, count_counted, many_by, self_round, AtPlaces as AtGaps}
 use Rattle.wt_called_edit_laws.proofs.Cells.SpotTrees.{counted_same}
 use Rattle.wt_called_edit_laws.specs.CalledPages.{IsCalledPage}
-use Rattle.wt_called_edit_laws.specs.Covered.{NoGroupAt, HaveBytes, AreInNoGroup}
+use Rattle.wt_called_edit_laws.specs.Covered.{AreInNoGroup, HasFreeByte, HaveFreeBytes}
 use Rattle.wt_called_edit_laws.specs.Groups.{called_tree}
 use Rattle.wt_called_edit_laws.proofs.CalledUtf8.{called_utf8, retyped}
 use Rattle.wt_called_edit_laws.proofs.FreePlaces.{clean_where_free}
 use Rattle.wt_called_edit_laws.proofs.GroupsAmong.{calls_same, retyped_self}
 use Rattle.wt_called_edit_laws.proofs.OwnBlocks.{counted_own}
-use Rattle.wt_called_edit_laws.proofs.PlaceBytes.{text_gaps, all_numbers, own_texts, all_fill, gaps_same, gap_places}
+use Rattle.wt_called_edit_laws.proofs.PlaceBytes.{text_gaps, all_numbers, own_texts, page_fill, gaps_same, AtBytes, moved, page_places}
 use Rattle.wt_called_edit_laws.proofs.Squashed.{all_squashed, trees_squashed, places_squashed, frames_squashed, squashed_hold}
 use Rattle.wt_called_edit_laws.proofs.TextsUntangled.{AreThere, all_there}
 
@@ -58,6 +57,10 @@ source_some (a_heading s) q h = let f = content_frame (a_heading s) q h in signs
 
 block_some : (k : TextBlock) (q : List ℕ) → IsContent k q → 0 < length (sources (tree_items (block_tree k q)))
 block_some k q h = subst (λ (bs : List ℕ). 0 < length bs) (sym (block_source k q)) (source_some k q h)
+
+abbrev pub HaveBytes : (ℕ → ItemTree) → List ℕ → Type 0
+HaveBytes t [] = Unit {0}
+HaveBytes t (n ∷ ns) = (0 < length (sources (tree_items (t n)))) × HaveBytes t ns
 
 bytes_up : (s : BlockSpot) (ss : List BlockSpot) (ns : List ℕ) → HaveBytes (tree_by ss) ns → HaveBytes (tree_by (s ∷ ss)) (map suc ns)
 bytes_up s ss [] h = tt
@@ -94,7 +97,7 @@ page_text pages ss rs behind h f free t =
     ∙ its_page pages page (called_utf8 pages rs behind again.called) (again.unrefused free)
 
 abbrev page_gaps : Pages → (ss : List BlockSpot) (behind : List ℕ) → Frames → Gaps
-page_gaps pages ss behind fs = text_gaps (expanded_page pages (spots_source ss behind)).outer (tree_by ss) None fs (last_gap [])
+page_gaps pages ss behind fs = text_gaps (expanded_page pages (spots_source ss behind)).outer None fs (last_gap [])
 
 fills_page : (pages : Pages) (ss : List BlockSpot) (behind : List ℕ) (h : AreAmongCalls pages ss behind) (f : StandAmongCalls pages ss behind)
     → refusal_of_page pages (spots_source ss behind) ≡ None → FillsAll (page_gaps pages ss behind f.frames) ss behind
@@ -102,20 +105,30 @@ fills_page pages ss behind h f free rs e b o =
     let t : AreRetyped ss rs = retyped ss rs e o in
     let calls : List OuterCall = (expanded_page pages (spots_source ss behind)).outer in
     let others : List OuterCall = (expanded_page pages (spots_source rs behind)).outer in
-    let was = own_places pages ss ss behind f (self_round ss) (among_contents pages ss behind h) in
     let now = own_places pages ss rs behind f e b in
-    let g : Gaps = text_gaps others (tree_by rs) None f.frames (last_gap []) in
-    ap (fill (own_sources rs)) (gaps_same calls others (calls_same pages ss rs behind h t) (tree_by ss) (tree_by rs) None f.frames (last_gap []) (last_gap [])
-    (all_own_hold (tree_by ss) (all_places f.frames) was) (all_own_hold (tree_by rs) (all_places f.frames) now) refl)
+    let g : Gaps = text_gaps others None f.frames (last_gap []) in
+    ap (fill (own_sources rs)) (gaps_same calls others (calls_same pages ss rs behind h t) None f.frames (last_gap []) (last_gap []) refl)
     ∙ ap (λ (ts : List (List ℕ)). fill ts g) (sym (ap (λ (is : List ℕ). sources_at (tree_by rs) is []) (f.in_order ∙ sym (counted_same ss rs e)) ∙ sources_counted rs))
-    ∙ all_fill others (tree_by rs) (tree_by rs) None f.frames (last_gap []) [] (own_texts others (tree_by rs) (all_places f.frames) now)
+    ∙ page_fill others (tree_by rs) (tree_by rs) f.frames (last_gap []) [] (own_texts others (tree_by rs) (all_places f.frames) now)
+    (own_there (tree_by rs) f.frames None None now)
     ∙ append-nil (text_from others None (held (tree_by rs) f.frames))
     ∙ page_text pages ss rs behind h f free t
 
--- ---- the blocks' first bytes
+-- ---- the blocks' bytes
+
+-- the first of each is one
+pub first_bytes : (u : Tree) (ss : List BlockSpot) (at : ℕ) → AreContents ss → AreInNoGroup at ss u → HaveFreeBytes at ss u
+first_bytes u [] at c h = tt
+first_bytes u (s ∷ ss) at c h =
+    let start : ℕ = at + length s.before in
+    let end : ℕ = start + length (source_of s.block s.text) in
+    let some : 0 < length (source_of s.block s.text) = source_some s.block s.text c.0 in
+    let low : start ≤ start = omega arith in
+    let high : start < end = omega (arith, some) in
+    ((start, low, high, h.0), first_bytes u ss end c.1 h.1)
 
 pub block_places : (u : Tree) (t : ℕ → ItemTree) (front : List ℕ) (g : Gaps) (ss : List BlockSpot) (at : ℕ) → at ≡ length front → AreSame g ss
-    → AreThere t (numbers_in g) ss → AreInNoGroup at ss u → AtGaps (λ bs n. NoGroupAt (length bs) u) t front g
+    → AreThere t (numbers_in g) ss → HaveFreeBytes at ss u → AtGaps (AtBytes (HasFreeByte u) t) t front g
 block_places u t front (last_gap xs) ss at i m a h = tt
 block_places u t front (then_gap xs n g) [] at i m a h = absurd m
 block_places u t front (then_gap xs n g) (s ∷ ss) at i m a h =
@@ -128,7 +141,7 @@ block_places u t front (then_gap xs n g) (s ∷ ss) at i m a h =
     let two : length (here ++ own) ≡ length here + length own = length-append here own in
     let start : at + length s.before ≡ length here = omega (arith, i, first, one) in
     let behind : (at + length s.before) + length (source_of s.block s.text) ≡ length (here ++ own) = omega (arith, start, size, two) in (
-      subst (λ (k : ℕ). NoGroupAt k u) start h.0,
+      moved (HasFreeByte u) (at + length s.before) (length here) (length (source_of s.block s.text)) (length own) start size h.0,
       block_places u t (here ++ own) g ss ((at + length s.before) + length (source_of s.block s.text)) behind m.1 a.1 h.1,
     )
 
@@ -148,18 +161,16 @@ page_outside pages ss behind h free g =
     let u : Tree = annotated calls (group_data calls) (body_with (trees_at t fs)) in
     let inside : AreInNoGroup 0 ss u = subst (λ m. AreInNoGroup 0 ss (annotated calls (group_data calls) m)) (f.means ss (retyped_self ss)) g in
     let gaps : Gaps = page_gaps pages ss behind fs in
-    let numbers : numbers_in gaps ≡ counted ss = all_numbers calls t None fs (last_gap []) ∙ append-nil (all_places fs) ∙ f.in_order in
+    let numbers : numbers_in gaps ≡ counted ss = all_numbers calls None fs (last_gap []) ∙ append-nil (all_places fs) ∙ f.in_order in
     let same : AreSame gaps ss =
     same_gaps gaps ss behind (many_by gaps ss (ap length numbers ∙ count_counted ss)) blocks (fills_page pages ss behind h f free) in
-    let at = gap_places (λ b. NoGroupAt b u) calls t t None 0 [] fs (last_gap []) (own_texts calls t (all_places fs) own) refl
-    (block_places u t [] gaps ss 0 refl same (subst (λ (ns : List ℕ). AreThere t ns ss) (sym numbers) (all_there ss)) inside) in
+    let at = page_places (HasFreeByte u) calls t t fs (last_gap []) (own_texts calls t (all_places fs) own) (own_there t fs None None own)
+    (block_places u t [] gaps ss 0 refl same (subst (λ (ns : List ℕ). AreThere t ns ss) (sym numbers) (all_there ss)) (first_bytes u ss 0 blocks inside)) in
     record {
       outside = record {
         among = h;
         stand = f;
-        clean =
-            clean_where_free calls fs t f.of_cells (squashed_hold (stand_among pages ss behind h).frames) own
-            (subst (HaveBytes t) (sym f.in_order) (have_bytes ss blocks)) at.0;
+        clean = clean_where_free calls fs t f.of_cells (squashed_hold (stand_among pages ss behind h).frames) at;
       };
       unrefused = free;
     }

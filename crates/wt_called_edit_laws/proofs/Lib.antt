@@ -56,6 +56,8 @@ pub mod CallingSent
 pub mod CallingMade
 pub mod CallingChosen
 pub mod CallingTaken
+pub mod EndCuts
+pub mod CallNumbers
 pub mod CallingOutside
 pub mod EditableBlocks
 pub mod OthersStay
@@ -64,3 +66,4 @@ pub mod Beside
 pub mod Cells
 pub mod Among
 pub mod Told
+pub mod AllTold

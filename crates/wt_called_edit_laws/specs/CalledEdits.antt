@@ -1,5 +1,5 @@
 -- A paragraph or heading of the page with calls in it, for which one with other texts beside these calls is sent: what is written for it.
-use Rattle.std.specs.Prelude.{◌≡◌, ◌⊎◌, ℕ, Bool, true, false, None, List, [], ◌∷◌}
+use Rattle.std.specs.Prelude.{◌≡◌, ◌⊎◌, ℕ, true, false, None, List, [], ◌∷◌}
 use Rattle.wt_tree.specs.EditShapes.{edit_shape}
 use Rattle.wt_tree.specs.Plain.{Plains, plain_before}
 use Rattle.wt_tree.specs.Source.{flat}
@@ -92,32 +92,22 @@ AreGoneCalm pages (kept t u ps) = AreGoneCalm pages ps
 AreGoneCalm pages (around l m is ps) = AreGoneCalm pages is × AreGoneCalm pages ps
 AreGoneCalm pages (new_style m is ps) = AreGoneCalm pages is × AreGoneCalm pages ps
 
--- text is first
-abbrev pub BeginTyped : Pieces → Type 0
-BeginTyped no_pieces = ⊥
-BeginTyped (gone t ps) = BeginTyped ps
-BeginTyped (written x [] ps) = BeginTyped ps
-BeginTyped (written x (b ∷ bs) ps) = Unit {0}
-BeginTyped (kept t u ps) = ⊥
-BeginTyped (around l m is ps) = ⊥
-BeginTyped (new_style m is ps) = ⊥
+-- a text that isn't empty is among them
+abbrev pub SomeTyped : Pieces → Type 0
+SomeTyped no_pieces = ⊥
+SomeTyped (gone t ps) = SomeTyped ps
+SomeTyped (written x [] ps) = SomeTyped ps
+SomeTyped (written x (b ∷ bs) ps) = Unit {0}
+SomeTyped (kept t u ps) = SomeTyped ps
+SomeTyped (around l m is ps) = SomeTyped is ⊎ SomeTyped ps
+SomeTyped (new_style m is ps) = SomeTyped is ⊎ SomeTyped ps
 
--- and last, where text is last before these or isn't
-abbrev pub ends_typed : Bool → Pieces → Bool
-ends_typed last no_pieces = last
-ends_typed last (gone t ps) = ends_typed last ps
-ends_typed last (written x [] ps) = ends_typed last ps
-ends_typed last (written x (b ∷ bs) ps) = ends_typed true ps
-ends_typed last (kept t u ps) = ends_typed false ps
-ends_typed last (around l m is ps) = ends_typed false ps
-ends_typed last (new_style m is ps) = ends_typed false ps
-
--- In a paragraph text is first and last. In a heading no line break is typed.
+-- In a paragraph is some text: of calls alone it is a part of their group. In a heading no line break is typed.
 abbrev pub TextsFitAt : TextBlock → Pieces → Type 0
-TextsFitAt a_paragraph ps = BeginTyped ps × (ends_typed false ps ≡ true)
+TextsFitAt a_paragraph ps = SomeTyped ps
 TextsFitAt (a_heading s) ps = AreOneLine ps
 
--- All its calls stay, in their order, and any other node stays or goes; each is sent as it is. Any texts are between them.
+-- All its calls stay, in their order, and any other node stays or goes; each is sent as it is. Any texts are before, between and behind them.
 pub record IsCalledEditOf (pages : Pages) (k : TextBlock) (block : Tree) (ps : Pieces) : Type 0 where
   pub old : page_pieces ps ≡ children_of block
   pub stay : PiecesStay ps

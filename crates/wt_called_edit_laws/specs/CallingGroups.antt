@@ -9,19 +9,21 @@ use Rattle.wt_part_laws.specs.Placeless.{placeless, all_placeless}
 use Rattle.wt_part_laws.specs.Frames.{content}
 use Rattle.wt_text_edit_laws.specs.BlockSpots.{BlockSpot, spots_source}
 use Rattle.wt_part_laws.specs.HeldCalls.{AllHold, block_in, blocks_in}
-use Rattle.wt_part_laws.specs.Rounded.{AreClean, body_label}
+use Rattle.wt_part_laws.specs.Rounded.{AreClean, AreCleanThere, body_label}
 use Rattle.wt_part_laws.specs.TreeFrames.{TreeFrames, all_filled, spots}
 use Rattle.wt_called_edit_laws.specs.CalledBlocks.{counted}
 use Rattle.wt_called_edit_laws.specs.CallingBlocks.{AreEdited, AreCallingBlocks, tree_with_calls, CallingBlocksStand}
 use Rattle.wt_called_edit_laws.specs.Groups.{called_tree}
 use Rattle.wt_called_edit_laws.specs.Nodes.{NoneLeaves, AreHolders}
 
--- The blocks may be among calls and hold calls. No call goes over the end of one in the page's tree, and no node round one of them is in a group.
+-- The blocks may be among calls and hold calls. Whatever is written in them beside their calls, no call goes over the end of one in the page's tree, and no
+-- node round one of them is in a group.
 pub record AreCallingOutside (pages : Pages) (ss : List BlockSpot) (behind : List ℕ) : Type 0 where
   pub blocks : AreCallingBlocks pages ss behind
   pub stand : CallingBlocksStand pages ss behind
   pub hold : AllHold (tree_with_calls pages 0 ss) (counted ss)
-  pub clean : AreClean (tree_with_calls pages 0 ss) None stand.frames None
+  pub clean : (rs : List BlockSpot) → AreEdited pages ss rs → AllHold (tree_with_calls pages 0 rs) (counted rs)
+      → AreClean (tree_with_calls pages 0 rs) None stand.frames None × AreCleanThere (tree_with_calls pages 0 rs) None stand.frames None
 
 -- the block with this number in the page, with the groups in it, but for numbers and places
 abbrev pub block_with_groups : Pages → List BlockSpot → List ℕ → ℕ → Tree

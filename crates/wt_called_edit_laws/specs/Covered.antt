@@ -3,7 +3,6 @@ use Rattle.std.specs.Prelude.{◌≡◌, ◌⊎◌, ◌≤◌, ◌<◌, ℕ, ◌
 use Rattle.wt_tree.specs.declared.kind.Ranges.{Ranges}
 use Rattle.wt_tree.specs.Tiling.{is_group}
 use Rattle.wt_tree.specs.Tree.{Tree, tree, Trees, none, more}
-use Rattle.wt_span.specs.Items.{sources}
 use Rattle.wt_span.specs.Origins.{OuterCall}
 use Rattle.wt_inline.specs.ItemTree.{ItemTree, tree_items}
 use Rattle.wt_expand.specs.Work.{Pages}
@@ -14,7 +13,7 @@ use Rattle.wt_annotated.specs.Seams.{last_of, text_from}
 use Rattle.wt_part_laws.specs.Frames.{Frame, place, whole, around, Frames, no_frames, more_frames, tree_at, trees_at, all_places, content, AreFrames}
 use Rattle.wt_text_edit_laws.specs.BlockSpots.{BlockSpot, spots_source}
 use Rattle.wt_text_edit_laws.specs.TextBlocks.{source_of}
-use Rattle.wt_part_laws.specs.Rounded.{AreOwn, AreClean, body_of}
+use Rattle.wt_part_laws.specs.Rounded.{AreClean, body_of}
 use Rattle.wt_called_edit_laws.specs.CalledBlocks.{AreAmongCalls}
 use Rattle.wt_called_edit_laws.specs.Groups.{called_tree}
 
@@ -40,23 +39,26 @@ abbrev mutual
 
 -- ---- places
 
--- what holds of the byte at which each place is, where the first node begins at this byte, behind an item of this call
+-- what holds of the bytes at which each place is, from the first to where they end, where the first node begins at this byte, behind an item of this call
 abbrev mutual
-  pub AtPlace : (ℕ → Type 0) → List OuterCall → (ℕ → ItemTree) → Option ℕ → ℕ → Frame → Type 0
-  AtPlace P calls t o at (place n) = P at
+  pub AtPlace : (ℕ → ℕ → Type 0) → List OuterCall → (ℕ → ItemTree) → Option ℕ → ℕ → Frame → Type 0
+  AtPlace P calls t o at (place n) = P at (at + length (text_from calls o (tree_items (t n))))
   AtPlace P calls t o at (whole u) = Unit {0}
   AtPlace P calls t o at (around h q gs c) = AtPlaces P calls t (last_of o q) (at + length (text_from calls o q)) gs
 
-  pub AtPlaces : (ℕ → Type 0) → List OuterCall → (ℕ → ItemTree) → Option ℕ → ℕ → Frames → Type 0
+  pub AtPlaces : (ℕ → ℕ → Type 0) → List OuterCall → (ℕ → ItemTree) → Option ℕ → ℕ → Frames → Type 0
   AtPlaces P calls t o at no_frames = Unit {0}
   AtPlaces P calls t o at (more_frames f fs) =
       AtPlace P calls t o at f
       × AtPlaces P calls t (last_of o (tree_items (tree_at t f))) (at + length (text_from calls o (tree_items (tree_at t f)))) fs
 
--- at each of these places is something of the page
-abbrev pub HaveBytes : (ℕ → ItemTree) → List ℕ → Type 0
-HaveBytes t [] = Unit {0}
-HaveBytes t (n ∷ ns) = (0 < length (sources (tree_items (t n)))) × HaveBytes t ns
+-- one of these bytes is such
+abbrev pub SomeByte : (ℕ → Type 0) → ℕ → ℕ → Type 0
+SomeByte P from to = (b : ℕ) × (from ≤ b) × (b < to) × P b
+
+-- one of them no group of the tree has
+abbrev pub HasFreeByte : Tree → ℕ → ℕ → Type 0
+HasFreeByte t from to = SomeByte (λ b. NoGroupAt b t) from to
 
 abbrev pub HasAny : List ℕ → Type 0
 HasAny [] = ⊥
@@ -81,13 +83,19 @@ AreInNoGroup at [] t = Unit {0}
 AreInNoGroup at (s ∷ ss) t =
     let start = at + length s.before in NoGroupAt start t × AreInNoGroup (start + length (source_of s.block s.text)) ss t
 
+-- Where so many bytes come before the first part, each of these blocks has a byte that no group of the tree has.
+abbrev pub HaveFreeBytes : ℕ → List BlockSpot → Tree → Type 0
+HaveFreeBytes at [] t = Unit {0}
+HaveFreeBytes at (s ∷ ss) t =
+    let start = at + length s.before in let end = start + length (source_of s.block s.text) in HasFreeByte t start end × HaveFreeBytes end ss t
+
 -- ---- the page
 
--- Where no group of the page's tree has the first byte of a block, each node round the blocks is clean.
+-- Where each block has a byte that no group of the page's tree has, each node round the blocks is clean.
 abbrev pub CleanWhereFree : List OuterCall → Frames → (ℕ → ItemTree) → Type 0
 CleanWhereFree calls fs t =
-    AreFrames fs content → HoldPlaces fs → AreOwn t (all_places fs) → HaveBytes t (all_places fs)
-    → AtPlaces (λ b. NoGroupAt b (annotated calls (group_data calls) (body_of (trees_at t fs)))) calls t None 0 fs → AreClean t None fs None
+    AreFrames fs content → HoldPlaces fs
+    → AtPlaces (HasFreeByte (annotated calls (group_data calls) (body_of (trees_at t fs)))) calls t None 0 fs → AreClean t None fs None
 
 -- ---- which pages are edited
 

@@ -9,12 +9,12 @@ use Rattle.wt_text_edit_laws.specs.NoCalls.{CallsNothing}
 use Rattle.wt_text_edit_laws.specs.TextBlocks.{TextBlock, source_of, block_items}
 use Rattle.wt_called_edit_laws.specs.CallingBlocks.{AreCallingBlocks}
 use Rattle.wt_called_edit_laws.specs.CallingEdits.{TakesLetters}
-use Rattle.wt_called_edit_laws.specs.Covered.{AreInNoGroup}
+use Rattle.wt_called_edit_laws.specs.Covered.{HaveFreeBytes}
 use Rattle.wt_called_edit_laws.specs.Groups.{called_tree}
 use Rattle.wt_called_edit_laws.specs.WholeContents.{HoldsWords}
 use Rattle.wt_called_edit_laws.specs.WrittenAnew.{HoldsAnywhere}
 
--- A content with calls, each of which gives words in this folder: wherever it is in the page they are between items of the page, text may be typed before
+-- A content with calls, each of which gives words in this folder: wherever it is in the page it is no part of what they give, text may be typed before
 -- them, none of them is text itself, and no tag is left open.
 pub record HoldsCalls (pages : Pages) (k : TextBlock) (q : List ℕ) : Type 0 where
   pub holds : HoldsAnywhere pages k q
@@ -30,10 +30,10 @@ abbrev pub AreEditableContents : Pages → List BlockSpot → Type 0
 AreEditableContents pages [] = Unit {0}
 AreEditableContents pages (s ∷ ss) = IsEditableContent pages s.block s.text × AreEditableContents pages ss
 
--- No call goes over the end of a part of the page or of a block, and by what the calls give each block is a block of its own (`AreCallingBlocks`); no group
--- of the page's tree has the first byte of one of them; and the page isn't refused: with what the folder has it can be expanded.
+-- No call goes over the end of a part of the page or of a block, and by what the calls give each block is a block of its own (`AreCallingBlocks`); each of
+-- them has a byte that no group of the page's tree has; and the page isn't refused: with what the folder has it can be expanded.
 pub record IsEditableWithCalls (pages : Pages) (ss : List BlockSpot) (behind : List ℕ) : Type 0 where
   pub blocks : AreCallingBlocks pages ss behind
   pub contents : AreEditableContents pages ss
   pub unrefused : refusal_of_page pages (spots_source ss behind) ≡ None
-  pub in_no_group : AreInNoGroup 0 ss (called_tree pages (spots_source ss behind))
+  pub free : HaveFreeBytes 0 ss (called_tree pages (spots_source ss behind))

@@ -12,8 +12,8 @@ use Rattle.wt_part_laws.specs.Frames.{Frames, trees_at, all_places, Part, conten
 use Rattle.wt_part_laws.specs.Standing.{standing}
 use Rattle.wt_part_laws.specs.Placeless.{placeless, all_placeless}
 use Rattle.wt_part_laws.specs.TreeFrames.{TreeFrame, spot, kept, holder, TreeFrames, no_nodes, more_nodes, all_filled, spots}
-use Rattle.wt_part_laws.specs.Rounded.{AreOwn, AreClean, HaveSameData, body_of}
-use Rattle.wt_part_laws.specs.HeldCalls.{block_in, AllHold}
+use Rattle.wt_part_laws.specs.Rounded.{AreOwn, AreClean, AreCleanThere, HaveSameData, body_of}
+use Rattle.wt_part_laws.specs.HeldCalls.{block_in}
 use Rattle.wt_annotated.specs.CutTexts.{cut_texts}
 
 -- ---- the blocks
@@ -66,13 +66,15 @@ pub record NodesStay (calls : List OuterCall) (fs : Frames) : Type 0 where
   pub stay : (others : List OuterCall) (t : ℕ → ItemTree) → HaveSameData calls others → AreOwn t (all_places fs) → AreBlocks t (all_places fs)
       → all_placeless (children (annotated others (group_data others) (body_of (trees_at t fs)))) ≡ all_filled (block_at t) nodes
 
--- So it is round paragraphs and headings that hold calls: each is there with the groups in it, its texts cut between these.
+-- So it is round paragraphs and headings that hold calls, of which each is clean, and each node round them: each is there with the groups in it, its
+-- texts cut between these.
 pub record NodesStayRound (calls : List OuterCall) (fs : Frames) : Type 0 where
   pub nodes : TreeFrames
   pub in_order : spots nodes ≡ all_places fs
   pub inner_nodes : NoneLeaves nodes
   pub holders : AreHolders nodes content
-  pub stay : (others : List OuterCall) (t : ℕ → ItemTree) → HaveSameData calls others → AllHold t (all_places fs) → AreBlocks t (all_places fs)
+  pub stay : (others : List OuterCall) (t : ℕ → ItemTree) → HaveSameData calls others → AreClean t None fs None → AreCleanThere t None fs None
+      → AreBlocks t (all_places fs)
       → all_placeless (children (annotated others (group_data others) (body_of (trees_at t fs)))) ≡ all_filled (λ n. cut_texts (block_in others (t n))) nodes
 
 -- It is so of each page in which no node round a place is in a group.

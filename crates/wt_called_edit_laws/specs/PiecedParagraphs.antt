@@ -1,5 +1,5 @@
 -- A paragraph or heading of the page, whoever wrote it, that holds calls which give words: by its pieces, and by the lines of text that these give.
-use Rattle.std.specs.Prelude.{◌≡◌, ◌⊎◌, ℕ, ◌+◌, false, None, List, [], ◌∷◌, map}
+use Rattle.std.specs.Prelude.{◌≡◌, ◌⊎◌, ℕ, ◌+◌, false, Some, None, List, [], ◌∷◌, map}
 use Rattle.std.specs.Str.{IsUtf8}
 use Rattle.wt_span.specs.Bytes.{is_blank}
 use Rattle.wt_span.specs.Items.{sign}
@@ -25,22 +25,16 @@ use Rattle.wt_called_edit_laws.specs.WholeContents.{AreShutParts}
 use Rattle.wt_called_edit_laws.specs.Written.{IsCallSource, BeginsOutward, EndsOutward, IsOwnPart}
 use Rattle.wt_called_edit_laws.specs.WrittenAnew.{StayButForOthers}
 
--- the first of these is a node, or a character of the page
-abbrev pub BeginsOwn : List Part → Type 0
-BeginsOwn [] = ⊥
-BeginsOwn (loose k o b ∷ ps) = o ≡ None
-BeginsOwn (node t ∷ ps) = Unit {0}
-
--- and the last
-abbrev pub EndsOwn : List Part → Type 0
-EndsOwn [] = ⊥
-EndsOwn (loose k o b ∷ []) = o ≡ None
-EndsOwn (node t ∷ []) = Unit {0}
-EndsOwn (p ∷ q ∷ ps) = EndsOwn (q ∷ ps)
+-- one of these is a node, or a character of the page
+abbrev pub HasOwn : List Part → Type 0
+HasOwn [] = ⊥
+HasOwn (loose k None b ∷ ps) = Unit {0}
+HasOwn (loose k (Some j) b ∷ ps) = HasOwn ps
+HasOwn (node t ∷ ps) = Unit {0}
 
 -- It is cut in pieces, each of which is one of its nodes (calls among them) or calls nothing, and is read by itself. However many calls come before it,
--- what its pieces give are lines of text: characters, each of the page or of a call, and nodes of the page, of which none ends in an open tag; the first
--- and the last of these is the page's own.
+-- what its pieces give are lines of text: characters, each of the page or of a call, and nodes of the page, of which none ends in an open tag; one of
+-- these at least is the page's own.
 pub record IsInPieces (pages : Pages) (q : List ℕ) : Type 0 where
   pub pieces : List (List ℕ)
   pub is : pieces_source pieces ≡ q
@@ -52,8 +46,7 @@ pub record IsInPieces (pages : Pages) (q : List ℕ) : Type 0 where
   pub lines : (i : ℕ) → AreTextItems (part_items pages i q)
   pub texts : (i : ℕ) → AreOwnOrTexts (content_parts_of a_paragraph (part_items pages i q))
   pub shut : (i : ℕ) → AreShutParts (content_parts_of a_paragraph (part_items pages i q))
-  pub begins : (i : ℕ) → BeginsOwn (content_parts_of a_paragraph (part_items pages i q))
-  pub ends : (i : ℕ) → EndsOwn (content_parts_of a_paragraph (part_items pages i q))
+  pub some : (i : ℕ) → HasOwn (content_parts_of a_paragraph (part_items pages i q))
 
 -- So a heading: what its pieces give is on one line, keeps its level, and begins and ends with no blank; what each node gives ends with no blank and no `=`.
 pub record IsHeadingInPieces (pages : Pages) (s : Sides) (q : List ℕ) : Type 0 where
@@ -102,8 +95,7 @@ pub record IsTextAndCalls (pages : Pages) (q : List ℕ) : Type 0 where
   pub lines : (i : ℕ) → AreTextItems (part_items pages i q)
   pub texts : (i : ℕ) → AreOwnOrTexts (content_parts_of a_paragraph (part_items pages i q))
   pub shut : (i : ℕ) → AreShutParts (content_parts_of a_paragraph (part_items pages i q))
-  pub begins : (i : ℕ) → BeginsOwn (content_parts_of a_paragraph (part_items pages i q))
-  pub ends : (i : ℕ) → EndsOwn (content_parts_of a_paragraph (part_items pages i q))
+  pub some : (i : ℕ) → HasOwn (content_parts_of a_paragraph (part_items pages i q))
   pub leaves : (i : ℕ) → children (content_parts_of a_paragraph (part_items pages i q)) ≡ piece_leaves pages i pieces
 
 -- what is last in what a piece gives is no blank and no `=`

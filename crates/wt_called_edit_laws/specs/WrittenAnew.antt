@@ -33,7 +33,7 @@ StayButForOthers pages (b ∷ bs) [] = ((expanded_page pages b).outer ≡ []) ×
 StayButForOthers pages (b ∷ bs) (d ∷ ds) =
     ((b ≡ d) × StayButForOthers pages bs ds) ⊎ (((expanded_page pages b).outer ≡ []) × StayButForOthers pages bs (d ∷ ds))
 
--- The calls give words in this folder, and text is first and last. Each node stays what it is beside text that is typed, is a part of the page by
+-- The calls give words in this folder, and there is some text. Each node stays what it is beside text that is typed, is a part of the page by
 -- itself, closes no tag behind it, and ends in no open one.
 pub record IsWrittenBeside (pages : Pages) (s : Setting) (signs : List ContentSign) : Type 0 where
   pub called : IsCalledIn pages s signs
@@ -43,7 +43,7 @@ pub record IsWrittenBeside (pages : Pages) (s : Setting) (signs : List ContentSi
   pub shut : AreShut signs
   pub utf8 : AreUtf8 (node_sources signs)
 
--- The same in a heading, where it is on one line, and may begin and end with a call, too.
+-- The same in a heading, where it is on one line, and there may be no text.
 pub record IsWrittenInHeading (pages : Pages) (s : Setting) (signs : List ContentSign) : Type 0 where
   pub called : IsCalledInHeading pages s signs
   pub read : AreReadThings signs
@@ -58,7 +58,7 @@ IsWrittenIn (a_heading w) pages s signs = IsWrittenInHeading pages s signs
 
 -- ---- blocks that hold their calls
 
--- wherever it is in the page, its calls are between items of the page
+-- wherever it is in the page, it is no part of what its calls give
 abbrev pub HoldsAnywhere : Pages → TextBlock → List ℕ → Type 0
 HoldsAnywhere pages k q = (i : ℕ) → HoldsItsCalls (tree_round k (part_items pages i q))
 

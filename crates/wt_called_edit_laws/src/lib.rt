@@ -103,7 +103,8 @@ pub use placed_blocks::{
     lines_of_a_page_are_cut_at_its_blocks, lines_of_an_expanded_page_are_cut_at_its_blocks,
 };
 pub use told_lines::{
-    blocks_are_told_by_their_lines, headings_are_told_by_their_lines, untangled_blocks_are_shut,
+    blocks_are_told_by_their_lines, headings_are_told_by_their_lines, nodes_of_told_blocks_stay,
+    untangled_blocks_are_shut,
 };
 
 /// A page with blocks among calls, and with calls in them, none of which goes over the end of a part, is expanded part by
@@ -433,8 +434,8 @@ pub fn blocks_that_call_have_their_sources()
         → HaveOwnSources (block_with_groups pages ss behind) ss }
 {}
 
-/// A page with calls, with places for blocks in its body and in the cells and captions of its tables. Where no group of
-/// its tree has the first byte of one of these blocks, each node round them is clean: so groups stay what they are,
+/// A page with calls, with places for blocks in its body and in the cells and captions of its tables. Where each of these
+/// blocks has a byte that no group of its tree has, each node round them is clean: so groups stay what they are,
 /// whatever the blocks are.
 #[tactic(auto, using(crate::proofs::FreePlaces::clean_where_free))]
 pub fn nodes_round_free_blocks_are_clean()

@@ -10,7 +10,8 @@ use Rattle.wt_inline.specs.ItemTree.{plain, ItemTree, inner, leaf, forest}
 use Rattle.wt_annotated.specs.Walked.{clean_at}
 use Rattle.wt_part_laws.specs.Frames.{place, whole, around, Frames, no_frames, more_frames}
 use Rattle.wt_part_laws.specs.TreeFrames.{spot, kept, holder, TreeFrames, no_nodes, more_nodes}
-use Rattle.wt_part_laws.specs.Rounded.{IsOwn, AreClean}
+use Rattle.wt_part_laws.specs.Rounded.{IsOwn, AreClean, AreCleanThere}
+use Rattle.wt_part_laws.specs.HeldCalls.{HoldsItsCalls}
 use Rattle.wt_part_laws.specs.MovedCalls.{AreMoved}
 use Rattle.wt_part_laws.proofs.FramesWalked.{nodes_of}
 
@@ -54,9 +55,25 @@ kinds_of (more_nodes (spot n) fs) = None ∷ kinds_of fs
 kinds_of (more_nodes (kept t) fs) = Some ((label t).kind, (label t).own) ∷ kinds_of fs
 kinds_of (more_nodes (holder l gs) fs) = Some (l.kind, l.opening) ∷ kinds_of gs
 
-group_stays : kinds_of (nodes_of (a_call 3 (codes "{{x}}") ∷ []) old None [] beside_call None)
+group_stays : kinds_of (nodes_of (a_call 3 (codes "{{x}}") ∷ []) [] beside_call)
     ≡ None ∷ Some (kind.Sep, codes "\n\n") ∷ Some (kind.Group, codes "{{x}}") ∷ []
 group_stays = refl
+
+-- ---- a paragraph that begins with a call, behind a line break
+
+abbrev calling : ℕ → ItemTree
+calling n = node kind.Para [] (leaf (plain kind.Text) (given 0 (codes "b")) ∷ leaf (plain kind.Text) (page (codes "a")) ∷ []) []
+
+begins_with_call : HoldsItsCalls (calling 0) × AreCleanThere calling None (more_frames (whole (sep (page (codes "\n")))) (more_frames (place 0) no_frames)) None
+begins_with_call = (record { some = refl; clean = refl }, (tt, (refl, tt)))
+
+-- behind an item of the same call it is a part of a group
+reached_into : clean_at (Some 0) None (calling 0) ≡ false
+reached_into = refl
+
+-- and so it is where nothing in it is the page's
+call_alone : clean_at None None (para (given 0 (codes "b"))) ≡ false
+call_alone = refl
 
 -- ---- a table, with a place in its cell
 
@@ -74,7 +91,7 @@ in_cell = more_frames (whole (sep (page (codes "\n")))) (more_frames (place 0) n
 of_page : AreClean old None (table_from None in_cell) None
 of_page = ((refl, (tt, ((refl, ((refl, ((refl, (tt, (tt, tt))), tt)), tt)), tt))), tt)
 
-holders_stay : kinds_of (nodes_of [] old None [] (table_from None in_cell) None)
+holders_stay : kinds_of (nodes_of [] [] (table_from None in_cell))
     ≡ Some (kind.Table, codes "{|") ∷ Some (kind.Sep, codes "\n") ∷ Some (kind.Tbody, []) ∷ Some (kind.Tr, []) ∷ Some (kind.Td, codes "|") ∷ Some (kind.Sep, codes "\n") ∷ None ∷ []
 holders_stay = refl
 

@@ -49,7 +49,7 @@ four a b c d e f g h i j k l = ap₂ (λ (x y : Bool). x && y) i (ap₂ (λ (x y
 
 -- ---- clean nodes
 
-clean_same : (o p q : Option ℕ) (t : ItemTree) → BothFree o p q (tree_items t) → clean_at o p t ≡ clean_at o q t
+pub clean_same : (o p q : Option ℕ) (t : ItemTree) → BothFree o p q (tree_items t) → clean_at o p t ≡ clean_at o q t
 clean_same o p q (inner k x ts c) h =
     let i : List Item = held_by_all ts in
     let behind : BothFree (last_of o x) p q (i ++ c) = free_behind o p q x (i ++ c) h in

@@ -15,11 +15,11 @@ use Rattle.wt_part_laws.specs.Frames.{Frames, trees_at, all_places, content, Are
 use Rattle.wt_part_laws.specs.Placeless.{placeless_label, placeless, all_placeless}
 use Rattle.wt_part_laws.proofs.Recuts.{texts_same}
 use Rattle.wt_part_laws.specs.TreeFrames.{TreeFrame, spot, kept, holder, TreeFrames, no_nodes, more_nodes, filled, all_filled, spots_in, spots}
-use Rattle.wt_part_laws.specs.Rounded.{AreOwn, AreClean, HaveSameData, body_of, body_label, block_alone, GroupsStay}
-use Rattle.wt_part_laws.specs.HeldCalls.{AllHold, blocks_in, GroupsStayRound}
+use Rattle.wt_part_laws.specs.Rounded.{AreOwn, AreClean, AreCleanThere, HaveSameData, body_of, body_label, block_alone, GroupsStay}
+use Rattle.wt_part_laws.specs.HeldCalls.{blocks_in, GroupsStayRound}
 use Rattle.wt_part_laws.proofs.OwnWalks.{walk_own}
-use Rattle.wt_part_laws.proofs.HeldBlocks.{all_own_hold}
-use Rattle.wt_part_laws.proofs.FramesWalked.{nodes_of, nodes_are, spots_are}
+use Rattle.wt_part_laws.proofs.FrameEnds.{clean_same, own_there}
+use Rattle.wt_part_laws.proofs.FramesWalked.{nodes_of, page_nodes_are, spots_are}
 
 -- ---- the same trees at places
 
@@ -58,19 +58,18 @@ page_walked calls t =
 other_way : (calls cs : List OuterCall) → HaveSameData calls cs → HaveSameData cs calls
 other_way calls cs h = record { sources = λ k. sym (h.sources k); carried = λ ps. sym (h.carried ps) }
 
-pub held_stay : (calls cs : List OuterCall) (fs : Frames) (t w : ℕ → ItemTree) → HaveSameData calls cs → AreFrames fs content → AllHold t (all_places fs)
-    → AllHold w (all_places fs) → AreClean t None fs None
-    → placeless (annotated cs (group_data cs) (body_of (trees_at w fs))) ≡ cut_texts (tree body_label (all_filled (blocks_in cs w) (nodes_of calls t None [] fs None)))
-held_stay calls cs fs t w h of_cells g k clean =
+pub held_stay : (calls cs : List OuterCall) (fs : Frames) (w : ℕ → ItemTree) → HaveSameData calls cs → AreFrames fs content → AreClean w None fs None
+    → AreCleanThere w None fs None
+    → placeless (annotated cs (group_data cs) (body_of (trees_at w fs))) ≡ cut_texts (tree body_label (all_filled (blocks_in cs w) (nodes_of calls [] fs)))
+held_stay calls cs fs w h of_cells clean there =
     page_walked cs (body_of (trees_at w fs))
-    ∙ ap (λ ts. cut_texts (tree body_label ts)) (nodes_are cs calls (other_way calls cs h) t w None 0 [] fs None content of_cells g k clean)
+    ∙ ap (λ ts. cut_texts (tree body_label ts)) (page_nodes_are cs calls (other_way calls cs h) w fs content of_cells clean there)
 
-pub groups_stay_round : (calls : List OuterCall) (fs : Frames) (t : ℕ → ItemTree) → AreFrames fs content → AllHold t (all_places fs) → AreClean t None fs None
-    → GroupsStayRound calls fs
-groups_stay_round calls fs t of_cells g clean = record {
-  nodes = nodes_of calls t None [] fs None;
-  in_order = spots_are calls t None [] fs None;
-  stay = λ cs w h k. held_stay calls cs fs t w h of_cells g k clean;
+pub groups_stay_round : (calls : List OuterCall) (fs : Frames) → AreFrames fs content → GroupsStayRound calls fs
+groups_stay_round calls fs of_cells = record {
+  nodes = nodes_of calls [] fs;
+  in_order = spots_are calls [] fs;
+  stay = λ cs w h clean there. held_stay calls cs fs w h of_cells clean there;
 }
 
 -- ---- blocks of the page alone
@@ -92,18 +91,18 @@ alone_alike calls t (n ∷ ns) h = (walk_own calls None 0 None [] (t n) h.0.of_p
 
 pub stays : (calls cs : List OuterCall) (fs : Frames) (t w : ℕ → ItemTree) → HaveSameData calls cs → AreFrames fs content → AreOwn t (all_places fs)
     → AreOwn w (all_places fs) → AreClean t None fs None
-    → placeless (annotated cs (group_data cs) (body_of (trees_at w fs))) ≡ cut_texts (tree body_label (all_filled (block_alone w) (nodes_of calls t None [] fs None)))
+    → placeless (annotated cs (group_data cs) (body_of (trees_at w fs))) ≡ cut_texts (tree body_label (all_filled (block_alone w) (nodes_of calls [] fs)))
 stays calls cs fs t w h of_cells g k clean =
-    let nodes : TreeFrames = nodes_of calls t None [] fs None in
+    let nodes : TreeFrames = nodes_of calls [] fs in
     let alike : AllAlike (blocks_in cs w) (block_alone w) (spots nodes) =
-    subst (AllAlike (blocks_in cs w) (block_alone w)) (sym (spots_are calls t None [] fs None)) (alone_alike cs w (all_places fs) k) in
-    held_stay calls cs fs t w h of_cells (all_own_hold t (all_places fs) g) (all_own_hold w (all_places fs) k) clean
+    subst (AllAlike (blocks_in cs w) (block_alone w)) (sym (spots_are calls [] fs)) (alone_alike cs w (all_places fs) k) in
+    held_stay calls cs fs w h of_cells (clean_same t w fs content None None of_cells g k clean) (own_there w fs None None k)
     ∙ ap (λ ts. cut_texts (tree body_label ts)) (all_filled_same (blocks_in cs w) (block_alone w) nodes alike)
 
 pub groups_stay : (calls : List OuterCall) (fs : Frames) (t : ℕ → ItemTree) → AreFrames fs content → AreOwn t (all_places fs) → AreClean t None fs None
     → GroupsStay calls fs
 groups_stay calls fs t of_cells g clean = record {
-  nodes = nodes_of calls t None [] fs None;
-  in_order = spots_are calls t None [] fs None;
+  nodes = nodes_of calls [] fs;
+  in_order = spots_are calls [] fs;
   stay = λ cs w h k. stays calls cs fs t w h of_cells g k clean;
 }

@@ -52,6 +52,10 @@ text_start calls o a [] h = refl
 text_start calls o a (x ∷ xs) h =
     ap (λ (v : Bool). cond v (text_by calls (call_of x) (source x)) [] ++ text_from calls (call_of x) xs) (h.0 ∙ sym h.1)
 
+-- so for these items is the same on the page
+pub text_free : (calls : List OuterCall) (o a p : Option ℕ) (xs : List Item) → FreeStarts o a p xs → text_from calls o xs ≡ text_from calls a xs
+text_free calls o a p xs h = text_start calls o a xs (start_free o a p xs h)
+
 text_later : (calls : List OuterCall) (o a : Option ℕ) (xs ys : List Item) → StartFree o a (xs ++ ys) → text_from calls (last_of o xs) ys ≡ text_from calls (last_of a xs) ys
 text_later calls o a [] ys h = text_start calls o a ys h
 text_later calls o a (x ∷ xs) ys h = refl
@@ -73,7 +77,7 @@ four a b c d e f g h i j k l = ap₂ (λ (x y : Bool). x && y) i (ap₂ (λ (x y
 three_first : (xs ys zs : List Item) (p : Option ℕ) → first_of (xs ++ (ys ++ zs)) p ≡ first_of xs (first_of ys (first_of zs p))
 three_first xs ys zs p = first_append xs (ys ++ zs) p ∙ ap (first_of xs) (first_append ys zs p)
 
-clean_same : (o a p : Option ℕ) (t : ItemTree) → FreeStarts o a p (tree_items t) → clean_at o p t ≡ clean_at a p t
+pub clean_same : (o a p : Option ℕ) (t : ItemTree) → FreeStarts o a p (tree_items t) → clean_at o p t ≡ clean_at a p t
 clean_same o a p (inner k x ts c) h =
     let i : List Item = held_by_all ts in
     let e1 : first_of (x ++ (i ++ c)) p ≡ first_of x (first_of i (first_of c p)) = three_first x i c p in
@@ -197,7 +201,7 @@ abbrev walk_node : ℕ → Bool → ItemTree → List ℕ → List ℕ → List 
 walk_node at leaf (inner k x ts c) all opening closing us = tree (kept_label leaf k at all opening closing) (inside_by leaf (trees us))
 
 -- the items of the first of some trees
-own_free : (o a p : Option ℕ) (xs ys : List Item) → FreeStarts o a p (xs ++ ys) → FreeStarts o a (first_of ys p) xs
+pub own_free : (o a p : Option ℕ) (xs ys : List Item) → FreeStarts o a p (xs ++ ys) → FreeStarts o a (first_of ys p) xs
 own_free o a p xs ys h = record {
   first = ap (parted o) (sym (first_append xs ys p)) ∙ h.first;
   second = ap (parted a) (sym (first_append xs ys p)) ∙ h.second;

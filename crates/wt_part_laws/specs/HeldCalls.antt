@@ -1,5 +1,5 @@
 -- Blocks that hold calls, at places in a page: no call goes over the end of one.
-use Rattle.std.specs.Prelude.{◌≡◌, ℕ, true, false, Option, None, List, [], ◌∷◌}
+use Rattle.std.specs.Prelude.{◌≡◌, ℕ, true, false, None, List, [], ◌∷◌}
 use Rattle.std.specs.List.{list_all, list_any}
 use Rattle.wt_tree.specs.Kinds.{is_leaf}
 use Rattle.wt_tree.specs.Tree.{Tree, tree}
@@ -11,12 +11,11 @@ use Rattle.wt_annotated.specs.Clean.{is_page}
 use Rattle.wt_annotated.specs.Annotated.{kept_label, annotated}
 use Rattle.wt_annotated.specs.CutTexts.{cut_texts}
 use Rattle.wt_annotated.specs.GroupData.{group_data}
-use Rattle.wt_annotated.specs.Seams.{last_of, first_of}
 use Rattle.wt_annotated.specs.Walked.{clean_at, walked}
 use Rattle.wt_part_laws.specs.Frames.{Frames, trees_at, all_places, content, AreFrames}
 use Rattle.wt_part_laws.specs.Placeless.{placeless_label, placeless}
 use Rattle.wt_part_laws.specs.TreeFrames.{TreeFrames, all_filled, spots}
-use Rattle.wt_part_laws.specs.Rounded.{AreClean, HaveSameData, body_of, body_label}
+use Rattle.wt_part_laws.specs.Rounded.{AreClean, AreCleanThere, HaveSameData, body_of, body_label}
 use Rattle.wt_part_laws.specs.CallTexts.{AreOwnOrTexts, all_in_page}
 use Rattle.wt_part_laws.specs.CallPieces.{AreOwnOrGiven, call_pieces, pieces_in_page}
 
@@ -24,13 +23,10 @@ use Rattle.wt_part_laws.specs.CallPieces.{AreOwnOrGiven, call_pieces, pieces_in_
 abbrev pub block_in : List OuterCall → ItemTree → Tree
 block_in calls t = placeless (walked calls (group_data calls) None 0 None t)
 
--- The first and the last item of such a block are the page's own; it is clean, and has the same nodes and groups in it, whatever is round it.
+-- By itself it is clean, and something in it is the page's own: so it is no part of what a call gives. A call may be first in it, or last.
 pub record HoldsItsCalls (t : ItemTree) : Type 0 where
-  pub begins : (p : Option ℕ) → first_of (tree_items t) p ≡ None
-  pub ends : (o : Option ℕ) → last_of o (tree_items t) ≡ None
   pub some : list_any is_page (tree_items t) ≡ true
-  pub clean : (o p : Option ℕ) → clean_at o p t ≡ true
-  pub walks : (calls : List OuterCall) (o : Option ℕ) (at : ℕ) (p : Option ℕ) → placeless (walked calls (group_data calls) o at p t) ≡ block_in calls t
+  pub clean : clean_at None None t ≡ true
 
 -- the blocks as these calls have them
 abbrev pub blocks_in : List OuterCall → (ℕ → ItemTree) → ℕ → Tree
@@ -48,8 +44,7 @@ pub record IsRoundTexts (h : Head) (opening : List Item) (ps : List Part) (closi
   pub own_opening : list_all is_page opening ≡ true
   pub own_closing : list_all is_page closing ≡ true
   pub parts : AreOwnOrTexts ps
-  pub begins : (p : Option ℕ) → first_of (tree_items (inner h opening (forest (children ps)) closing)) p ≡ None
-  pub ends : (o : Option ℕ) → last_of o (tree_items (inner h opening (forest (children ps)) closing)) ≡ None
+  pub some : list_any is_page (tree_items (inner h opening (forest (children ps)) closing)) ≡ true
 
 -- its node: the characters of each call are a group in it, and everything else is itself
 abbrev pub block_of_texts : List OuterCall → Head → List Item → List Part → List Item → Tree
@@ -63,8 +58,7 @@ pub record IsRoundGiven (h : Head) (opening : List Item) (ps : List Part) (closi
   pub own_opening : list_all is_page opening ≡ true
   pub own_closing : list_all is_page closing ≡ true
   pub parts : AreOwnOrGiven ps
-  pub begins : (p : Option ℕ) → first_of (tree_items (inner h opening (forest (children ps)) closing)) p ≡ None
-  pub ends : (o : Option ℕ) → last_of o (tree_items (inner h opening (forest (children ps)) closing)) ≡ None
+  pub some : list_any is_page (tree_items (inner h opening (forest (children ps)) closing)) ≡ true
 
 -- its node: what each call gives side by side is a group in it
 abbrev pub block_of_pieces : List OuterCall → Head → List Item → List Part → List Item → Tree
@@ -73,13 +67,14 @@ block_of_pieces calls h opening ps closing =
 
 -- ---- the page
 
--- As `GroupsStay`, where calls may be in the blocks, each with the number that it has in the page.
+-- As `GroupsStay`, where calls may be in the blocks, each with the number that it has in the page: whatever blocks are at the places, of which each is
+-- clean where it is, and so is each node round them.
 pub record GroupsStayRound (calls : List OuterCall) (fs : Frames) : Type 0 where
   pub nodes : TreeFrames
   pub in_order : spots nodes ≡ all_places fs
-  pub stay : (others : List OuterCall) (t : ℕ → ItemTree) → HaveSameData calls others → AllHold t (all_places fs)
+  pub stay : (others : List OuterCall) (t : ℕ → ItemTree) → HaveSameData calls others → AreClean t None fs None → AreCleanThere t None fs None
       → placeless (annotated others (group_data others) (body_of (trees_at t fs)))
       ≡ cut_texts (tree body_label (all_filled (blocks_in others t) nodes))
 
-abbrev pub GroupsStayRoundIn : List OuterCall → Frames → (ℕ → ItemTree) → Type 0
-GroupsStayRoundIn calls fs t = AreFrames fs content → AllHold t (all_places fs) → AreClean t None fs None → GroupsStayRound calls fs
+abbrev pub GroupsStayRoundIn : List OuterCall → Frames → Type 0
+GroupsStayRoundIn calls fs = AreFrames fs content → GroupsStayRound calls fs

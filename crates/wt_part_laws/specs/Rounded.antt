@@ -57,6 +57,18 @@ abbrev mutual
   AreClean t o (more_frames f fs) p =
       IsClean t o f (first_of (held_by_all (forest (trees_at t fs))) p) × AreClean t (last_of o (tree_items (tree_at t f))) fs p
 
+-- Each block is clean where it is: no call reaches over one of its ends, and something in it is the page's own.
+abbrev mutual
+  pub IsCleanThere : (ℕ → ItemTree) → Option ℕ → Frame → Option ℕ → Type 0
+  IsCleanThere t o (place n) p = clean_at o p (t n) ≡ true
+  IsCleanThere t o (whole u) p = Unit {0}
+  IsCleanThere t o (around h opening fs closing) p = AreCleanThere t (last_of o opening) fs (first_of closing p)
+
+  pub AreCleanThere : (ℕ → ItemTree) → Option ℕ → Frames → Option ℕ → Type 0
+  AreCleanThere t o no_frames p = Unit {0}
+  AreCleanThere t o (more_frames f fs) p =
+      IsCleanThere t o f (first_of (held_by_all (forest (trees_at t fs))) p) × AreCleanThere t (last_of o (tree_items (tree_at t f))) fs p
+
 -- ---- the calls
 
 -- Two lists of calls that have the same sources, and of which groups carry the same: so are those of a page, and those of the page after

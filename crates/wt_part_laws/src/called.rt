@@ -24,16 +24,16 @@ pub fn moved_calls_have_the_same_data()
     ensures { (calls others : List OuterCall) → AreMoved calls others → HaveSameData calls others }
 {}
 
-/// The same of blocks in which calls are, each between items of the page and with the number that it has there
-/// (`HoldsItsCalls`): each block is what it is by itself, with the groups of its calls.
+/// The same of blocks in which calls are, each with the number that it has there: where each block is clean, and each node
+/// round one, each block is what it is by itself, with the groups of its calls, also where it begins or ends with one.
 #[tactic(auto, using(crate::proofs::GroupsStay::groups_stay_round))]
 pub fn groups_stay_round_blocks_with_calls()
-    ensures { (calls : List OuterCall) (fs : Frames) (t : ℕ → ItemTree) → GroupsStayRoundIn calls fs t }
+    ensures { (calls : List OuterCall) (fs : Frames) → GroupsStayRoundIn calls fs }
 {}
 
-/// A block of texts, of which calls give some, and of nodes of the page is such a block where its first and its last item
-/// are the page's (`IsRoundTexts`): the characters of each call are a group, and everything else is itself. So is each
-/// block of the page alone.
+/// A block of texts, of which calls give some, and of nodes of the page holds its calls (`HoldsItsCalls`) where something in
+/// it is the page's own (`IsRoundTexts`): the characters of each call are a group, and everything else is itself. So does
+/// each block of the page alone.
 pub fn blocks_of_texts_hold_their_calls()
     ensures holds { (h : Head) (opening : List Item) (ps : List Part) (closing : List Item) → IsRoundTexts h opening ps closing
         → HoldsItsCalls (inner h opening (forest (children ps)) closing) }

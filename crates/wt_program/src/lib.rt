@@ -41,11 +41,12 @@ pub fn run<S: Source, F: Folder, W: Sink, E: Sink>(
     err: &mut E,
 ) -> u8
     // Edited contents of paragraphs and headings of a page with calls are taken, wherever these are outside the page's
-    // groups, in the body, in cells and in captions, in any number of them at once: any text in the place of all that
-    // one holds, and where its content is read so any texts beside its nodes; and where it holds calls that give words,
-    // any texts beside these. Where a call sends such an edit of a page
-    // (`IsEditableWithCalls` of `wt_called_edit_laws`), it is done, and with `edit` the page with these contents was written,
-    // and no line; or a device failed, or memory ran out. Nothing but these blocks is another one in the new page.
+    // groups, in the body, in cells and in captions, in any number of them at once. In the place of all that one holds
+    // that calls nothing may be any text, and where its content is read so any texts beside its nodes. In one that holds
+    // calls that give words all of these stay, and any texts may be beside them, also where it begins or ends with one.
+    // Where a call sends such an edit of a page (`IsEditableWithCalls` of `wt_called_edit_laws`), it is done, and with
+    // `edit` the page with these contents was written, and no line; or a device failed, or memory ran out. Nothing but
+    // these blocks is another one in the new page.
     ensures takes_contents_among_calls { TakesContentsAmongCalls (call words.now (read_from S.Source input.old input.new)
         (fetched_from F.Folder folder.old folder.new) (written_to W.Sink out.old out.new)
         (written_to E.Sink err.old err.new)) result }

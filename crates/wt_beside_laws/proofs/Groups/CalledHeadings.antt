@@ -17,12 +17,9 @@ use Rattle.wt_inline.specs.ItemTree.{plain, inner, forest, tree_items, held_by_a
 use Rattle.wt_inline.specs.Parts.{Part, parts, children}
 use Rattle.wt_context.specs.Line.{line_parts}
 use Rattle.wt_annotated.specs.Clean.{is_page}
-use Rattle.wt_annotated.specs.Seams.{last_of, first_of}
-use Rattle.wt_annotated.proofs.Seams.{first_append, last_append}
 use Rattle.wt_part_laws.specs.CallTexts.{AreOwnOrTexts}
 use Rattle.wt_part_laws.specs.HeldCalls.{block_in, HoldsItsCalls, IsRoundTexts, block_of_texts}
 use Rattle.wt_part_laws.proofs.HeldBlocks.{texts_hold, block_is}
-use Rattle.wt_part_laws.proofs.OwnWalks.{last_own, first_own}
 use Rattle.wt_text_edit_laws.specs.LonePages.{page_chars}
 use Rattle.wt_text_edit_laws.specs.TypedHeadings.{Sides, AreSides, equals, opening, closing_items, heading_round, NoBreaks, BeginsWithout, EndsWithout, is_equals_sign, IsHeadingInside, IsOfLevel}
 use Rattle.wt_text_edit_laws.proofs.Blocks.BlockLeaves.{items_of_page}
@@ -154,14 +151,9 @@ heading_parts s signs owns h =
 
 -- ---- its delimiters are the page's
 
-some_chars : (n : ℕ) (bs : List ℕ) → 1 ≤ n → list_any is_page (page_chars (equals n ++ bs)) ≡ true
-some_chars zero bs some = absurd (omega (arith, some))
-some_chars (suc n) bs some = refl
-
-some_behind : (bs : List ℕ) (n : ℕ) (xs : List Item) → 1 ≤ n → list_any is_page (page_chars (bs ++ equals n) ++ xs) ≡ true
-some_behind (b ∷ bs) n xs some = refl
-some_behind [] zero xs some = absurd (omega (arith, some))
-some_behind [] (suc n) xs some = refl
+some_chars : (n : ℕ) (bs : List ℕ) (xs : List Item) → 1 ≤ n → list_any is_page (page_chars (equals n ++ bs) ++ xs) ≡ true
+some_chars zero bs xs some = absurd (omega (arith, some))
+some_chars (suc n) bs xs some = refl
 
 pub closing_page : (sides : Sides) → AllOfPage (closing_items sides)
 closing_page sides =
@@ -172,18 +164,13 @@ pub round_texts : (ps : List Part) (sides : Sides) → AreOwnOrTexts ps → AreS
     → IsRoundTexts (plain (kind.Heading sides.level)) (page_chars (opening sides)) ps (closing_items sides)
 round_texts ps sides h a =
     let i : List Item = held_by_all (forest (children ps)) in
-    let q : List Item = page_chars (opening sides) in
     let c : List Item = closing_items sides in
     record {
       no_leaf = refl;
       own_opening = chars_of_page (opening sides);
       own_closing = closing_page sides;
       parts = h;
-      begins = λ p.
-          first_append q (i ++ c) p ∙ first_own q (first_of (i ++ c) p) (chars_of_page (opening sides)) (some_chars sides.level sides.lead a.some);
-      ends = λ o.
-          last_append o q (i ++ c) ∙ last_append (last_of o q) i c
-          ∙ last_own (last_of (last_of o q) i) c (closing_page sides) (some_behind sides.trail sides.level (page_items sides.rest) a.some);
+      some = some_chars sides.level sides.lead (i ++ c) a.some;
     }
 
 heading_texts : (s : Setting) (signs : List ContentSign) (owns : List (List Item)) (sides : Sides) → IsCalledHeading s signs owns → AreSides sides

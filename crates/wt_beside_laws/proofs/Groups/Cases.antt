@@ -73,8 +73,7 @@ in_class = record {
   characters = (refl, (refl, tt));
   given = (gives_b, tt);
   meet = (tt, (tt, (tt, tt)));
-  begins = tt;
-  ends = tt;
+  some = tt;
 }
 
 -- `x<nowiki/>b<nowiki/>y`, of which `b` comes from the call

@@ -11,7 +11,7 @@ use Rattle.wt_inline.specs.declared.loose.Loose.TheVariants.{Text}
 use Rattle.wt_inline.specs.Parts.{parts}
 use Rattle.wt_context.specs.Line.{line_parts}
 use Rattle.wt_part_laws.specs.CallTexts.{AreOwnOrTexts}
-use Rattle.wt_beside_laws.specs.Called.{items_with, owns_in, AreWords, IsOwnNode, IsGivenAs, AreGiven, AreOwnInside, BeginsWithText, EndsWithText, IsCalledContent, shown_source, shown_signs, GivesWords, StaysAsItIs, IsOfFolder, AreOfFolder, IsCalledIn, AllEndSeen, IsCalledHeading, AllSeenIn, IsCalledInHeading}
+use Rattle.wt_beside_laws.specs.Called.{items_with, owns_in, AreWords, IsOwnNode, IsGivenAs, AreGiven, AreOwnInside, HasText, IsCalledContent, shown_source, shown_signs, GivesWords, StaysAsItIs, IsOfFolder, AreOfFolder, IsCalledIn, AllEndSeen, IsCalledHeading, AllSeenIn, IsCalledInHeading}
 use Rattle.wt_beside_laws.specs.InHeadings.{AreOnOneLine}
 use Rattle.wt_beside_laws.specs.Lines.{AreCharacters}
 use Rattle.wt_beside_laws.specs.Stood.{things}
@@ -111,19 +111,10 @@ characters_shown pages [] h = tt
 characters_shown pages (letter c ∷ after) h = (h.0, characters_shown pages after h.1)
 characters_shown pages (thing t ∷ after) h = characters_shown pages after h
 
-begins_shown : (pages : Pages) (signs : List ContentSign) → BeginsWithText signs → BeginsWithText (shown_signs pages signs)
-begins_shown pages [] h = absurd h
-begins_shown pages (letter c ∷ after) h = tt
-begins_shown pages (thing t ∷ after) h = absurd h
-
-ends_shown : (pages : Pages) (signs : List ContentSign) → EndsWithText signs → EndsWithText (shown_signs pages signs)
-ends_shown pages [] h = absurd h
-ends_shown pages (letter c ∷ []) h = tt
-ends_shown pages (thing t ∷ []) h = absurd h
-ends_shown pages (letter c ∷ letter d ∷ after) h = ends_shown pages (letter d ∷ after) h
-ends_shown pages (letter c ∷ thing u ∷ after) h = ends_shown pages (thing u ∷ after) h
-ends_shown pages (thing t ∷ letter d ∷ after) h = ends_shown pages (letter d ∷ after) h
-ends_shown pages (thing t ∷ thing u ∷ after) h = ends_shown pages (thing u ∷ after) h
+text_shown : (pages : Pages) (signs : List ContentSign) → HasText signs → HasText (shown_signs pages signs)
+text_shown pages [] h = absurd h
+text_shown pages (letter c ∷ after) h = tt
+text_shown pages (thing t ∷ after) h = text_shown pages after h
 
 pub called_in : (pages : Pages) (i : ℕ) (s : Setting) (signs : List ContentSign) → IsCalledIn pages s signs
     → IsCalledContent s (shown_signs pages signs) (owns_in pages i signs)
@@ -133,8 +124,7 @@ called_in pages i s signs h = record {
   given = all_given pages i signs h.given;
   own = all_inside pages i signs h.given;
   meet = h.meet;
-  begins = begins_shown pages signs h.begins;
-  ends = ends_shown pages signs h.ends;
+  some = text_shown pages signs h.some;
 }
 
 items_shown : (pages : Pages) (i : ℕ) (s : Setting) (signs : List ContentSign) → AreOfFolder pages signs

@@ -58,7 +58,7 @@ use Rattle.wt_beside_laws.proofs.BlockSigns.{block_by, its_children, no_leaf, in
 use Rattle.wt_beside_laws.proofs.FormsAlone.{by_parts}
 use Rattle.wt_beside_laws.proofs.LineThings.{nodes_parts, tile_told}
 use Rattle.wt_beside_laws.proofs.Made.OldBlocks.{with_parts, parts_are, lines_are, IsIn, no_group}
-use Rattle.wt_beside_laws.proofs.Marks.Ends.{ends_so, kept_unended, comment_unended, remarked_unended}
+use Rattle.wt_beside_laws.proofs.Marks.Ends.{ends_so, kept_unended, comment_unended, read_unended}
 use Rattle.wt_beside_laws.proofs.Marks.LedItems.{settled_is, LedItems, led_cut, EachLed, content_led}
 use Rattle.wt_beside_laws.proofs.Marks.Shown.{line_node}
 use Rattle.wt_beside_laws.proofs.Marks.Within.{Goes, chars_go, chars_some, tile_goes, kept_front}
@@ -77,7 +77,7 @@ line_of_held : (q : List ℕ) → IsHeld q → ends_break q ≡ true → IsComme
 line_of_held q (inl k) e = absurd (let no = sym (kept_unended q k.0 k.1) ∙ e in cc)
 line_of_held q (inr (inl c)) e = absurd (let no = sym (ap ends_break c.is ∙ comment_unended (60 ∷ c.others) c.comment.ends) ∙ e in cc)
 line_of_held q (inr (inr (inl l))) e = l
-line_of_held q (inr (inr (inr r))) e = absurd (let no = sym (remarked_unended q r) ∙ e in cc)
+line_of_held q (inr (inr (inr r))) e = absurd (let no = sym (read_unended q r) ∙ e in cc)
 
 -- ---- a tile that ends with one
 

@@ -210,7 +210,7 @@ edit_of = record {
   are = (are_letters.0, (tt, (are_letters.1, tt)));
   plain = tt;
   calm = ((λ n. absurd n), ((λ n. absurd n), tt));
-  fits = (tt, refl);
+  fits = tt;
 }
 
 -- So it is taken, and makes the new block with its group.

@@ -46,7 +46,7 @@ use Rattle.wt_called_edit_laws.specs.WholeContents.{IsWholeIn}
 use Rattle.wt_called_edit_laws.specs.WrittenAnew.{IsWrittenBeside, IsWrittenInHeading, IsWrittenIn, HoldsAnywhere}
 use Rattle.wt_called_edit_laws.proofs.Beside.Counts.{block_bare, settled_counts}
 use Rattle.wt_called_edit_laws.proofs.Beside.Found.{AreFound, nodes_found}
-use Rattle.wt_called_edit_laws.proofs.Beside.Sent.{sent_signs, pieces_sent, pieces_things, pieces_characters, pieces_line, pieces_begin, pieces_end, pieces_show, pieces_inline}
+use Rattle.wt_called_edit_laws.proofs.Beside.Sent.{sent_signs, pieces_sent, pieces_things, pieces_characters, pieces_line, pieces_text, pieces_show, pieces_inline}
 use Rattle.wt_called_edit_laws.proofs.Whole.Contents.{written_whole}
 use Rattle.wt_called_edit_laws.proofs.Written.AllHeld.{written_anywhere}
 use Rattle.wt_called_edit_laws.proofs.Written.FromPage.{things_stay, beside_these, page_takes}
@@ -153,8 +153,8 @@ written_so : (pages : Pages) (k : TextBlock) (q : List ℕ) (block : Tree) (ps :
 written_so pages a_paragraph q block ps h e found own stay =
     let pl : Place = place_of (block_of a_paragraph) in
     beside_these pages (page_things block) (setting a_paragraph block) (signs a_paragraph block ps) refl
-    (pieces_characters pages same_node block pl ps tells_same found own e.stay e.are e.plain) (pieces_begin same_node block pl ps e.are e.fits.0)
-    (pieces_end pages same_node block pl ps tells_same found own e.stay e.are e.plain e.fits.1) h.things stay
+    (pieces_characters pages same_node block pl ps tells_same found own e.stay e.are e.plain)
+    (pieces_text pages same_node block pl ps tells_same found own e.stay e.are e.plain e.fits) h.things stay
 written_so pages (a_heading w) q block ps h e found own stay =
     let pl : Place = place_of (block_of (a_heading w)) in
     head_these pages (page_things block) (setting (a_heading w) block) (signs (a_heading w) block ps) refl refl
@@ -235,7 +235,7 @@ made_of pages a_paragraph q block m ps h w =
     let part = parts.part in
     record {
       new = subst (λ (bs : List ℕ). IsNewContentIn pages a_paragraph bs (spelled s ss)) h.is
-          (page_takes pages h.pieces (page_things block) s ss h.parts h.among h.things refl c.characters c.begins c.ends w.things_stay);
+          (page_takes pages h.pieces (page_things block) s ss h.parts h.among h.things refl c.characters c.some w.things_stay);
       holds = written_anywhere pages s ss b;
       texts = part.texts;
       letters = letters_again pages s ss b own;

@@ -1,5 +1,5 @@
 -- Worked case: the page `x{{t}}y`, where `Template:T` is a word, is one of those of which texts beside calls may be edited, by computing the whole of it.
-use Rattle.std.proofs.Common.{arith, ◌≡◌, ◌<◌, inl, inr, ℕ, None, List, [], ◌∷◌, refl, sym, subst}
+use Rattle.std.proofs.Common.{arith, ◌≡◌, ◌<◌, ◌≤◌, inl, inr, ℕ, None, List, [], ◌∷◌, length, refl, sym, subst}
 use Rattle.std.specs.Str.{is_utf8, chars, IsUtf8}
 use Rattle.std.specs.Str.Lossy.{utf8_valid_len}
 use Rattle.std.proofs.lemmas.List.Elements.{All-nil, All-cons}
@@ -58,13 +58,13 @@ use Rattle.wt_text_edit_laws.specs.TextBlocks.{a_paragraph}
 use Rattle.wt_beside_laws.proofs.Groups.Cases.{a_word, call}
 use Rattle.wt_called_edit_laws.specs.CalledContents.{AreTextItems}
 use Rattle.wt_called_edit_laws.specs.CallingBlocks.{spots_with_calls, items_past}
-use Rattle.wt_called_edit_laws.specs.Covered.{NoGroupAt}
+use Rattle.wt_called_edit_laws.specs.Covered.{NoGroupAt, HasFreeByte}
 use Rattle.wt_called_edit_laws.specs.EditableBlocks.{IsEditableWithCalls}
 use Rattle.wt_called_edit_laws.specs.Groups.{called_tree}
 use Rattle.wt_called_edit_laws.specs.InCells.{AreTextLines}
 use Rattle.wt_called_edit_laws.specs.ItemSpots.{ArePlaced}
 use Rattle.wt_called_edit_laws.specs.Parts.{calls_to, calls_past, AreCalled}
-use Rattle.wt_called_edit_laws.specs.PiecedParagraphs.{BeginsOwn, EndsOwn, IsInPieces}
+use Rattle.wt_called_edit_laws.specs.PiecedParagraphs.{HasOwn, IsInPieces}
 use Rattle.wt_called_edit_laws.specs.WholeContents.{AreShutParts}
 use Rattle.wt_called_edit_laws.proofs.Beside.Cases.{source, given, items_are, pieces, in_pieces, among, of_page}
 use Rattle.wt_called_edit_laws.proofs.Whole.Pieced.{pieced_content, pieced_holds}
@@ -98,13 +98,12 @@ is_text i = record {
 record AreGivenParts (xs : List Item) : Type 0 where
   texts : AreOwnOrTexts (content_parts_of a_paragraph xs)
   shut : AreShutParts (content_parts_of a_paragraph xs)
-  begins : BeginsOwn (content_parts_of a_paragraph xs)
-  ends : EndsOwn (content_parts_of a_paragraph xs)
+  some : HasOwn (content_parts_of a_paragraph xs)
 
 given_parts : (i : ℕ) → AreGivenParts (given i)
 unfolding context_parts chunks segments loose_segments tiles shapes closes tile_at link_or_url link_at ext_link_at bare_url_at scheme_len tag_tile tag_at switch_at
     with_styles style_tree_of toggles_of toggle_at opens_tag closes_tag
-given_parts i = record { texts = tt; shut = tt; begins = refl; ends = refl }
+given_parts i = record { texts = tt; shut = tt; some = tt }
 
 parts_here : (i : ℕ) → AreGivenParts (part_items a_word i source)
 parts_here i = subst AreGivenParts (sym (items_are i)) (given_parts i)
@@ -121,8 +120,7 @@ here = record {
   lines = λ i. subst AreTextItems (sym (items_are i)) (is_text i);
   texts = λ i. let p = parts_here i in p.texts;
   shut = λ i. let p = parts_here i in p.shut;
-  begins = λ i. let p = parts_here i in p.begins;
-  ends = λ i. let p = parts_here i in p.ends;
+  some = λ i. let p = parts_here i in p.some;
 }
 
 -- ---- the page
@@ -190,11 +188,18 @@ unfolding words closed form_at comment_len comment_line_len raw_len opening_tag 
     with_styles style_tree_of toggles_of toggle_at opens_tag closes_tag
 no_group_here = ((tt, (inl behind_first, (tt, tt))), tt)
 
+-- so the first byte of the block is free
+free_here : HasFreeByte (called_tree a_word source) 0 (length source)
+free_here =
+    let low : 0 ≤ 0 = omega arith in
+    let high : 0 < 7 = omega arith in
+    (0, low, high, no_group_here)
+
 -- So texts may be typed beside its call.
 pub in_class : IsEditableWithCalls a_word blocks_here []
 in_class = record {
   blocks = record { called = called_here; contents = (pieced_content a_word source here, tt); placed = placed_here };
   contents = (inr (pieced_holds a_word source here), tt);
   unrefused = unrefused_here;
-  in_no_group = (no_group_here, tt);
+  free = (free_here, tt);
 }

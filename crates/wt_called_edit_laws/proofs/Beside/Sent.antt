@@ -26,7 +26,7 @@ use Rattle.wt_part_laws.specs.Expanded.{part_items}
 use Rattle.wt_typed_blocks.specs.Sent.{StandsAsIs}
 use Rattle.wt_typed_blocks.specs.Edited.{Pieces, no_pieces, gone, written, kept, around, new_style, page_pieces, text_node, sent_pieces, PiecesStay, pieces_before}
 use Rattle.wt_typed_blocks.specs.EditedUnmarked.{AreInline}
-use Rattle.wt_beside_laws.specs.Called.{owns_in, shown_signs, called_shown, BeginsWithText, EndsWithText}
+use Rattle.wt_beside_laws.specs.Called.{owns_in, shown_signs, called_shown, HasText}
 use Rattle.wt_content.specs.Content.{has_break}
 use Rattle.wt_typed_blocks.proofs.TextReads.{or_parts}
 use Rattle.wt_beside_laws.specs.FlatBlocks.{AreOneLine}
@@ -45,7 +45,7 @@ use Rattle.wt_beside_laws.proofs.OwnSigns.{own_unchanged}
 use Rattle.wt_beside_laws.proofs.SentNodes.{things_append, no_things}
 use Rattle.wt_beside_laws.proofs.SentPieces.{stays_unchanged, text_sent}
 use Rattle.wt_beside_laws.proofs.SentShown.{all_encoded}
-use Rattle.wt_called_edit_laws.specs.CalledEdits.{IsGroupOrFree, AreChildrenBeside, AreGoneCalm, BeginTyped, ends_typed}
+use Rattle.wt_called_edit_laws.specs.CalledEdits.{IsGroupOrFree, AreChildrenBeside, AreGoneCalm, SomeTyped}
 use Rattle.wt_called_edit_laws.specs.PageThings.{ThingsStay}
 use Rattle.wt_called_edit_laws.proofs.Beside.Found.{IsFoundAs, FoundBy, AreFound}
 
@@ -295,7 +295,7 @@ pieces_line pages same block pl (kept (tree l ts) (tree m us) ps) tells f g h a 
 pieces_line pages same block pl (around l m is ps) tells f g h a n o = absurd n
 pieces_line pages same block pl (new_style m is ps) tells f g h a n o = absurd n
 
--- ---- text is first and last
+-- ---- text is among them
 
 none_empty : (b : ℕ) (bs : List ℕ) → [] ≡ b ∷ bs → ⊥
 none_empty b bs e = cc
@@ -312,66 +312,24 @@ some_chars b bs u = by (chars (b ∷ bs)) (encodes-chars (b ∷ bs) u)
     by [] e = none_empty b bs e
     by (c ∷ cs) e = tt
 
-text_begins : (cs : List ℕ) (signs : List ContentSign) → HasSome cs → BeginsWithText (map letter cs ++ signs)
-text_begins [] signs h = absurd h
-text_begins (c ∷ cs) signs h = tt
+text_has : (cs : List ℕ) (signs : List ContentSign) → HasSome cs → HasText (map letter cs ++ signs)
+text_has [] signs h = absurd h
+text_has (c ∷ cs) signs h = tt
 
-pub pieces_begin : (same : Tree → Tree → Bool) (block : Tree) (pl : Place) (ps : Pieces) → AreNodesAndTexts ps → BeginTyped ps
-    → BeginsWithText (sent_signs same block pl ps)
-pieces_begin same block pl no_pieces a b = absurd b
-pieces_begin same block pl (gone t ps) a b = pieces_begin same block pl ps a b
-pieces_begin same block pl (written x [] ps) a b = pieces_begin same block pl ps a.1 b
-pieces_begin same block pl (written x (c ∷ cs) ps) a b =
-    text_begins (chars (c ∷ cs)) (sent_signs same block pl ps) (some_chars c cs a.0)
-pieces_begin same block pl (kept t u ps) a b = absurd b
-pieces_begin same block pl (around l m is ps) a b = absurd b
-pieces_begin same block pl (new_style m is ps) a b = absurd b
-
--- text is last, or nothing is there and text is last before it
-abbrev EndAfter : Bool → List ContentSign → Type 0
-EndAfter last [] = last ≡ true
-EndAfter last (s ∷ ss) = EndsWithText (s ∷ ss)
-
-letter_ends : (last : Bool) (c : ℕ) (ss : List ContentSign) → EndAfter true ss → EndAfter last (letter c ∷ ss)
-letter_ends last c [] e = tt
-letter_ends last c (s ∷ ss) e = e
-
-thing_ends : (last : Bool) (t : Thing) (ss : List ContentSign) → EndAfter false ss → EndAfter last (thing t ∷ ss)
-thing_ends last t [] e = cc
-thing_ends last t (s ∷ ss) e = e
-
-more_end : (cs : List ℕ) (ss : List ContentSign) → EndAfter true ss → EndAfter true (map letter cs ++ ss)
-more_end [] ss e = e
-more_end (c ∷ cs) ss e = letter_ends true c (map letter cs ++ ss) (more_end cs ss e)
-
-text_ends : (last : Bool) (cs : List ℕ) (ss : List ContentSign) → HasSome cs → EndAfter true ss → EndAfter last (map letter cs ++ ss)
-text_ends last [] ss h e = absurd h
-text_ends last (c ∷ cs) ss h e = letter_ends last c (map letter cs ++ ss) (more_end cs ss e)
-
-ends_after : (pages : Pages) (same : Tree → Tree → Bool) (block : Tree) (pl : Place) (last : Bool) (ps : Pieces) → TellsSame same
+pub pieces_text : (pages : Pages) (same : Tree → Tree → Bool) (block : Tree) (pl : Place) (ps : Pieces) → TellsSame same
     → AreFound (kept_nodes block) (page_pieces ps) → AreChildrenBeside pages (page_pieces ps) → PiecesStay ps → AreNodesAndTexts ps → HaveNoStyle ps
-    → ends_typed last ps ≡ true → EndAfter last (sent_signs same block pl ps)
-ends_after pages same block pl last no_pieces tells f g h a n e = e
-ends_after pages same block pl last (gone (tree l ts) ps) tells f g h a n e = ends_after pages same block pl last ps tells f.1 g.1 h a n e
-ends_after pages same block pl last (written x [] ps) tells f g h a n e = ends_after pages same block pl last ps tells f g h a.1 n e
-ends_after pages same block pl last (written x (c ∷ cs) ps) tells f g h a n e =
-    text_ends last (chars (c ∷ cs)) (sent_signs same block pl ps) (some_chars c cs a.0) (ends_after pages same block pl true ps tells f g h a.1 n e)
-ends_after pages same block pl last (kept (tree l ts) (tree m us) ps) tells f g h a n e =
+    → SomeTyped ps → HasText (sent_signs same block pl ps)
+pieces_text pages same block pl no_pieces tells f g h a n e = absurd e
+pieces_text pages same block pl (gone (tree l ts) ps) tells f g h a n e = pieces_text pages same block pl ps tells f.1 g.1 h a n e
+pieces_text pages same block pl (written x [] ps) tells f g h a n e = pieces_text pages same block pl ps tells f g h a.1 n e
+pieces_text pages same block pl (written x (c ∷ cs) ps) tells f g h a n e = text_has (chars (c ∷ cs)) (sent_signs same block pl ps) (some_chars c cs a.0)
+pieces_text pages same block pl (kept (tree l ts) (tree m us) ps) tells f g h a n e =
     let r : IsSignOf block l ts (signs_of (page_of same block) pl (tree m us)) =
     node_sign same block pl l m ts us tells h.0 g.0.free a.0 f.0 in
-    subst (λ (ss : List ContentSign). EndAfter last (ss ++ sent_signs same block pl ps)) (sym r.is)
-    (thing_ends last (thing_of r.kept) (sent_signs same block pl ps) (ends_after pages same block pl false ps tells f.1 g.1 h.1 a.1 n e))
-ends_after pages same block pl last (around l m is ps) tells f g h a n e = absurd n
-ends_after pages same block pl last (new_style m is ps) tells f g h a n e = absurd n
-
-ends_by : (ss : List ContentSign) → EndAfter false ss → EndsWithText ss
-ends_by [] e = cc
-ends_by (s ∷ ss) e = e
-
-pub pieces_end : (pages : Pages) (same : Tree → Tree → Bool) (block : Tree) (pl : Place) (ps : Pieces) → TellsSame same
-    → AreFound (kept_nodes block) (page_pieces ps) → AreChildrenBeside pages (page_pieces ps) → PiecesStay ps → AreNodesAndTexts ps → HaveNoStyle ps
-    → ends_typed false ps ≡ true → EndsWithText (sent_signs same block pl ps)
-pieces_end pages same block pl ps tells f g h a n e = ends_by (sent_signs same block pl ps) (ends_after pages same block pl false ps tells f g h a n e)
+    subst (λ (ss : List ContentSign). HasText (ss ++ sent_signs same block pl ps)) (sym r.is)
+    (pieces_text pages same block pl ps tells f.1 g.1 h.1 a.1 n e)
+pieces_text pages same block pl (around l m is ps) tells f g h a n e = absurd n
+pieces_text pages same block pl (new_style m is ps) tells f g h a n e = absurd n
 
 -- ---- what is written shows what was sent
 

@@ -1,5 +1,5 @@
 -- Worked case: the page `== x{{t}}y ==`, where `Template:T` is a word, is one of those of which texts beside calls may be edited, by computing the whole of it.
-use Rattle.std.proofs.Common.{arith, ◌≡◌, ◌<◌, inl, inr, ℕ, None, List, [], ◌∷◌, refl, sym, subst}
+use Rattle.std.proofs.Common.{arith, ◌≡◌, ◌<◌, ◌≤◌, inl, inr, ℕ, None, List, [], ◌∷◌, length, refl, sym, subst}
 use Rattle.std.specs.Prelude.{codes}
 use Rattle.std.specs.Str.{is_utf8, chars}
 use Rattle.std.specs.Str.Lossy.{utf8_valid_len}
@@ -57,7 +57,7 @@ use Rattle.wt_text_edit_laws.specs.TextBlocks.{a_heading}
 use Rattle.wt_beside_laws.proofs.Groups.Cases.{a_word}
 use Rattle.wt_called_edit_laws.specs.CalledContents.{AreHeadingItems}
 use Rattle.wt_called_edit_laws.specs.CallingBlocks.{spots_with_calls, items_past}
-use Rattle.wt_called_edit_laws.specs.Covered.{NoGroupAt}
+use Rattle.wt_called_edit_laws.specs.Covered.{NoGroupAt, HasFreeByte}
 use Rattle.wt_called_edit_laws.specs.EditableBlocks.{IsEditableWithCalls}
 use Rattle.wt_called_edit_laws.specs.Groups.{called_tree}
 use Rattle.wt_called_edit_laws.specs.ItemSpots.{ArePlaced}
@@ -167,11 +167,18 @@ unfolding words closed form_at comment_len comment_line_len raw_len opening_tag 
     with_styles style_tree_of toggles_of toggle_at opens_tag closes_tag
 no_group_here = ((tt, (inl behind_first, (tt, tt))), tt)
 
+-- so the first byte of the block is free
+free_here : HasFreeByte (called_tree a_word page) 0 (length page)
+free_here =
+    let low : 0 ≤ 0 = omega arith in
+    let high : 0 < 13 = omega arith in
+    (0, low, high, no_group_here)
+
 -- So texts may be typed beside its call.
 pub in_class : IsEditableWithCalls a_word blocks_here []
 in_class = record {
   blocks = record { called = called_here; contents = (pieced_heading a_word two source here, tt); placed = placed_here };
   contents = (inr (pieced_heading_holds a_word two source here), tt);
   unrefused = unrefused_here;
-  in_no_group = (no_group_here, tt);
+  free = (free_here, tt);
 }

@@ -128,7 +128,7 @@ tree_whole : (e : Expanded) (s n : ℕ) (k : TextBlock) (xs : List Item) → Hol
     → AtPlaces e.outer 0 None e.items → AreOnes e.items → IsWhole e (settled n s (cut_texts (block_in e.outer (tree_round k xs))))
 tree_whole e s n a_paragraph xs hold texts at given shut page ones =
     round_whole e s n (plain kind.Para) [] (content_parts_of a_paragraph xs) [] refl refl
-    (record { no_leaf = refl; own_opening = refl; own_closing = refl; parts = texts; begins = hold.begins; ends = hold.ends }) at given shut page ones
+    (record { no_leaf = refl; own_opening = refl; own_closing = refl; parts = texts; some = hold.some }) at given shut page ones
 tree_whole e s n (a_heading d) xs hold texts at given shut page ones =
     round_whole e s n (plain (kind.Heading d.level)) (page_chars (opening d)) (content_parts_of (a_heading d) xs) (closing_items d) refl refl
     (record {
@@ -136,8 +136,7 @@ tree_whole e s n (a_heading d) xs hold texts at given shut page ones =
       own_opening = chars_of_page (opening d);
       own_closing = closing_page d;
       parts = texts;
-      begins = hold.begins;
-      ends = hold.ends;
+      some = hold.some;
     }) at given shut page ones
 
 -- ---- what calls give among the items of its tree

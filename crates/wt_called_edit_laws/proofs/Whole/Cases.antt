@@ -47,7 +47,7 @@ use Rattle.wt_beside_laws.proofs.Groups.Cases.{a_word, gives_b}
 use Rattle.wt_called_edit_laws.specs.CalledContents.{AreTextItems}
 use Rattle.wt_called_edit_laws.specs.CalledEdits.{IsBesideCalls}
 use Rattle.wt_called_edit_laws.specs.PartTexts.{AreSourcesAt}
-use Rattle.wt_called_edit_laws.specs.PiecedParagraphs.{BeginsOwn, EndsOwn, IsWordsCall, piece_leaves, IsTextAndCalls}
+use Rattle.wt_called_edit_laws.specs.PiecedParagraphs.{HasOwn, IsWordsCall, piece_leaves, IsTextAndCalls}
 use Rattle.wt_called_edit_laws.specs.WholeContents.{AreShutParts}
 use Rattle.wt_called_edit_laws.proofs.Beside.Cases.{source, pieces, in_pieces, a_call, block_by}
 use Rattle.wt_called_edit_laws.proofs.Whole.TextAndCalls.{texts_beside}
@@ -118,7 +118,7 @@ is_text i = record {
   own_breaks = ((λ e. absurd (cc)), ((λ e. absurd (cc)), ((λ e. absurd (cc)), tt)));
 }
 
-a_words_call : IsWordsCall a_word (codes "{{t}}")
+pub a_words_call : IsWordsCall a_word (codes "{{t}}")
 a_words_call = record {
   words = gives_b;
   call = record { others = codes "{t}}"; is = refl; settles = call_settles };
@@ -145,8 +145,7 @@ text_and_calls = record {
   lines = λ i. subst AreTextItems (sym (items_are i)) (is_text i);
   texts = λ i. subst AreOwnOrTexts (sym (parts_there i)) tt;
   shut = λ i. subst AreShutParts (sym (parts_there i)) tt;
-  begins = λ i. subst BeginsOwn (sym (parts_there i)) refl;
-  ends = λ i. subst EndsOwn (sym (parts_there i)) refl;
+  some = λ i. subst HasOwn (sym (parts_there i)) tt;
   leaves = λ i. ap children (parts_there i) ∙ children_are i ∙ sym (leaves_are i);
 }
 

@@ -140,7 +140,7 @@ pub opened_from : (x : Item) → AllFrom (call_of x) (opened x)
 opened_from (char o b) = (refl, tt)
 opened_from (whole f o bs) = whole_from f o bs
 
-all_here : (j : ℕ) (o : Option ℕ) (xs : List Item) → same_call o (Some j) ≡ true → AllFrom o xs → of_call j xs ≡ xs
+pub all_here : (j : ℕ) (o : Option ℕ) (xs : List Item) → same_call o (Some j) ≡ true → AllFrom o xs → of_call j xs ≡ xs
 all_here j o [] e h = refl
 all_here j o (x ∷ xs) e h =
     of_here j x xs (ap (λ (q : Option ℕ). same_call q (Some j)) h.0 ∙ e) ∙ ap (λ (zs : List Item). x ∷ zs) (all_here j o xs e h.1)

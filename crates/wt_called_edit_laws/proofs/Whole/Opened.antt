@@ -42,7 +42,7 @@ sources_some : (xs : List Item) → 0 < length (sources xs) → 0 < length xs
 sources_some [] h = h
 sources_some (x ∷ xs) h = omega arith
 
-opened_some : (x : Item) → IsOne x → 0 < length (opened x)
+pub opened_some : (x : Item) → IsOne x → 0 < length (opened x)
 opened_some x h = sources_some (opened x) (subst (λ (bs : List ℕ). 0 < length bs) (sym (opened_source x)) (one_some x h))
 
 opened_step : (calls : List OuterCall) (o : Option ℕ) (x : Item) → IsOne x → text_from calls o (opened x) ≡ text_step calls o x

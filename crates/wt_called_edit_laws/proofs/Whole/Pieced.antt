@@ -1,6 +1,9 @@
 -- A paragraph in pieces, some of which are calls that give words, holds these, and can be read by itself.
-use Rattle.std.proofs.Common.{arith, ◌≡◌, inl, inr, ℕ, ◌+◌, ◌<◌, Option, None, List, [], ◌∷◌, ◌++◌, length, refl, sym, ap, ap₂, ◌∙◌, subst, append-nil}
+use Rattle.std.proofs.Common.{arith, ◌≡◌, inl, inr, ℕ, ◌+◌, ◌<◌, true, Bool, Option, Some, None, List, [], ◌∷◌, ◌++◌, length, refl, sym, ap, ap₂, ◌∙◌, subst, append-nil}
+use Rattle.std.specs.Prelude.{◌||◌}
+use Rattle.std.specs.List.{list_any}
 use Rattle.std.proofs.lemmas.Bool.{cases_lt}
+use Rattle.std.proofs.lemmas.List.Folds.{list_any-append}
 use Rattle.wt_tree.specs.declared.kind.Kind.TheVariants as kind
 use Rattle.wt_span.specs.Items.{Item}
 use Rattle.wt_guards.specs.Content.{Thing}
@@ -11,13 +14,12 @@ use Rattle.wt_inline.proofs.HeldLaws.{held_children}
 use Rattle.wt_expand.specs.PageCalls.{expanded_page}
 use Rattle.wt_expand.specs.PageItems.{page_items}
 use Rattle.wt_expand.specs.Work.{Pages}
-use Rattle.wt_annotated.specs.Seams.{last_of, first_of}
-use Rattle.wt_annotated.proofs.Seams.{first_append, last_append}
+use Rattle.wt_annotated.specs.Clean.{is_page}
 use Rattle.wt_part_laws.specs.CallTexts.{AreOwnOrTexts}
 use Rattle.wt_part_laws.specs.Expanded.{part_items, calls_in}
 use Rattle.wt_part_laws.specs.HeldCalls.{HoldsItsCalls, IsRoundTexts}
 use Rattle.wt_part_laws.proofs.HeldBlocks.{texts_hold}
-use Rattle.wt_part_laws.proofs.OwnWalks.{first_own, last_own, has_page}
+use Rattle.wt_part_laws.proofs.OwnWalks.{has_page}
 use Rattle.wt_text_edit_laws.specs.Contents.{content_parts_of}
 use Rattle.wt_text_edit_laws.specs.ParagraphParts.{para_with}
 use Rattle.wt_text_edit_laws.specs.TextBlocks.{a_paragraph}
@@ -27,7 +29,7 @@ use Rattle.wt_called_edit_laws.specs.CallingBlocks.{IsContentIn}
 use Rattle.wt_called_edit_laws.specs.CallingEdits.{TakesLetters}
 use Rattle.wt_called_edit_laws.specs.EditableBlocks.{HoldsCalls}
 use Rattle.wt_called_edit_laws.specs.PageThings.{ArePageThings, thing_sources}
-use Rattle.wt_called_edit_laws.specs.PiecedParagraphs.{BeginsOwn, EndsOwn, IsInPieces}
+use Rattle.wt_called_edit_laws.specs.PiecedParagraphs.{HasOwn, IsInPieces}
 use Rattle.wt_called_edit_laws.specs.WholeContents.{of_call, NoneOrWords, AreShutCalls}
 use Rattle.wt_called_edit_laws.specs.Written.{IsWrittenAs}
 use Rattle.wt_called_edit_laws.specs.WrittenAnew.{StayButForOthers}
@@ -99,42 +101,32 @@ pieces_shut pages (b ∷ bs) (t ∷ ts) (inl h) g =
 pieces_shut pages (b ∷ bs) (t ∷ ts) (inr h) g =
     calls_both (expanded_page pages b).outer (calls_of pages bs) (subst AreShutCalls (sym h.0) tt) (pieces_shut pages bs (t ∷ ts) h.1 g)
 
--- ---- its ends
+-- ---- it has something of the page
 
-begins_so : (ps : List Part) (p : Option ℕ) → AreOwnOrTexts ps → BeginsOwn ps → first_of (held_parts ps) p ≡ None
-begins_so [] p h b = absurd b
-begins_so (loose Text o c ∷ ps) p h b = b
-begins_so (loose Sep o c ∷ ps) p h b = absurd h
-begins_so (node t ∷ ps) p h b =
-    let own = h.0 in
-    first_append (tree_items t) (held_parts ps) p ∙ first_own (tree_items t) (first_of (held_parts ps) p) own.of_page (has_page t own.has_items)
+any_left : (xs ys : List Item) → list_any is_page xs ≡ true → list_any is_page (xs ++ ys) ≡ true
+any_left xs ys e = list_any-append is_page xs ys ∙ ap (λ (v : Bool). v || list_any is_page ys) e
 
-ends_so : (ps : List Part) (o : Option ℕ) → AreOwnOrTexts ps → EndsOwn ps → last_of o (held_parts ps) ≡ None
-ends_so [] o h b = absurd b
-ends_so (loose Text p c ∷ []) o h b = b
-ends_so (loose Sep p c ∷ []) o h b = absurd h
-ends_so (node t ∷ []) o h b =
-    let own = h.0 in
-    ap (last_of o) (append-nil (tree_items t)) ∙ last_own o (tree_items t) own.of_page (has_page t own.has_items)
-ends_so (loose Text p c ∷ q ∷ ps) o h b = ends_so (q ∷ ps) p h b
-ends_so (loose Sep p c ∷ q ∷ ps) o h b = absurd h
-ends_so (node t ∷ q ∷ ps) o h b = last_append o (tree_items t) (held_parts (q ∷ ps)) ∙ ends_so (q ∷ ps) (last_of o (tree_items t)) h.1 b
+pub some_own : (ps : List Part) → AreOwnOrTexts ps → HasOwn ps → list_any is_page (held_parts ps) ≡ true
+some_own [] h b = absurd b
+some_own (loose Text None c ∷ ps) h b = refl
+some_own (loose Text (Some j) c ∷ ps) h b = some_own ps h b
+some_own (loose Sep o c ∷ ps) h b = absurd h
+some_own (node t ∷ ps) h b = let own = h.0 in any_left (tree_items t) (held_parts ps) (has_page t own.has_items)
 
 para_items : (ps : List Part) → tree_items (para_with ps) ≡ held_parts ps
 para_items ps = append-nil (held_by_all (forest (children ps))) ∙ held_children ps
 
-pub paragraph_round : (ps : List Part) → AreOwnOrTexts ps → BeginsOwn ps → EndsOwn ps → IsRoundTexts (plain kind.Para) [] ps []
-paragraph_round ps h b e = record {
+pub paragraph_round : (ps : List Part) → AreOwnOrTexts ps → HasOwn ps → IsRoundTexts (plain kind.Para) [] ps []
+paragraph_round ps h b = record {
   no_leaf = refl;
   own_opening = refl;
   own_closing = refl;
   parts = h;
-  begins = λ p. ap (λ (xs : List Item). first_of xs p) (para_items ps) ∙ begins_so ps p h b;
-  ends = λ o. ap (last_of o) (para_items ps) ∙ ends_so ps o h e;
+  some = ap (list_any is_page) (para_items ps) ∙ some_own ps h b;
 }
 
-holds_so : (ps : List Part) → AreOwnOrTexts ps → BeginsOwn ps → EndsOwn ps → HoldsItsCalls (para_with ps)
-holds_so ps h b e = texts_hold (plain kind.Para) [] ps [] (paragraph_round ps h b e)
+holds_so : (ps : List Part) → AreOwnOrTexts ps → HasOwn ps → HoldsItsCalls (para_with ps)
+holds_so ps h b = texts_hold (plain kind.Para) [] ps [] (paragraph_round ps h b)
 
 -- ---- the paragraph
 
@@ -155,7 +147,7 @@ pieced_holds pages q h =
     let w = as_written pages q h in
     let part = w.part in
     record {
-      holds = λ i. holds_so (content_parts_of a_paragraph (part_items pages i q)) (h.texts i) (h.begins i) (h.ends i);
+      holds = λ i. holds_so (content_parts_of a_paragraph (part_items pages i q)) (h.texts i) (h.some i);
       letters = subst (TakesLetters pages a_paragraph) h.is (page_letters pages h.pieces h.nodes h.parts h.among h.things);
       texts = part.texts;
       words = record {

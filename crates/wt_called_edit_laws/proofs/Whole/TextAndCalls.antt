@@ -367,8 +367,7 @@ pieced pages q h =
       lines = h.lines;
       texts = h.texts;
       shut = h.shut;
-      begins = h.begins;
-      ends = h.ends;
+      some = h.some;
     }
 
 -- ---- the block
@@ -401,7 +400,7 @@ texts_beside pages q block n at i calls some is sources_are h =
     let a : ℕ = at + length (sources []) in
     let v : Tree = cut_texts (block_in calls (tree_round a_paragraph (part_items pages i q))) in
     let w = as_written pages q p in
-    let round = paragraph_round ps (h.texts i) (h.begins i) (h.ends i) in
+    let round = paragraph_round ps (h.texts i) (h.some i) in
     let nodes : children_of block ≡ nodes_from pages calls i m a bs =
     ap children_of is ∙ same_nodes (settled n at v)
     ∙ ap (λ (u : Tree). nodes_in (settled n at (cut_texts u))) (block_is calls (plain kind.Para) [] ps [] round)

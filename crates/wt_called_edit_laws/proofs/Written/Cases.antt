@@ -95,8 +95,7 @@ other_class = record {
   characters = (refl, (refl, (refl, tt)));
   given = (gives_b, tt);
   meet = (tt, (tt, (tt, (tt, tt))));
-  begins = tt;
-  ends = tt;
+  some = tt;
 }
 
 pub now : IsWrittenBeside a_word in_paragraph other

@@ -7,7 +7,7 @@ use Rattle.wt_guards.specs.Guards.{Setting, spelled}
 use Rattle.wt_expand.specs.PageCalls.{expanded_page}
 use Rattle.wt_expand.specs.Work.{Pages}
 use Rattle.wt_text_edit_laws.specs.TextBlocks.{a_paragraph}
-use Rattle.wt_beside_laws.specs.Called.{shown_source, shown_signs, StaysAsItIs, IsOfFolder, AreOfFolder, BeginsWithText, EndsWithText}
+use Rattle.wt_beside_laws.specs.Called.{shown_source, shown_signs, StaysAsItIs, IsOfFolder, AreOfFolder, HasText}
 use Rattle.wt_beside_laws.specs.Cuts.{own_glyphs}
 use Rattle.wt_beside_laws.specs.FlatBlocks.{AreSealed}
 use Rattle.wt_beside_laws.specs.Lines.{AreCharacters}
@@ -117,9 +117,9 @@ things_shown pages (thing t ∷ after) = ap (λ (ts : List Thing). shown_thing p
 
 -- ---- so it is such a paragraph
 
-pub beside_these : (pages : Pages) (olds : List Thing) (s : Setting) (signs : List ContentSign) → s.within ≡ false → AreCharacters signs → BeginsWithText signs
-    → EndsWithText signs → ArePageThings pages olds → ThingsStay pages olds (things signs) → IsWrittenBeside pages s signs
-beside_these pages olds s signs w v b e h k =
+pub beside_these : (pages : Pages) (olds : List Thing) (s : Setting) (signs : List ContentSign) → s.within ≡ false → AreCharacters signs → HasText signs
+    → ArePageThings pages olds → ThingsStay pages olds (things signs) → IsWrittenBeside pages s signs
+beside_these pages olds s signs w v b h k =
     let own : ArePageThings pages (things signs) = things_stay pages olds (things signs) k h in
     record {
       called = record {
@@ -127,8 +127,7 @@ beside_these pages olds s signs w v b e h k =
         characters = v;
         given = of_folder pages signs own;
         meet = all_beside s [] (shown_signs pages signs) (each_so pages signs own, subst EachMeets (things_shown pages signs) (meets_so pages (things signs) own));
-        begins = b;
-        ends = e;
+        some = b;
       };
       read = of_reading pages signs own;
       parts = of_parts pages signs own;
@@ -165,9 +164,9 @@ sources_of (letter c ∷ after) = sources_of after
 sources_of (thing t ∷ after) = ap (λ (bs : List (List ℕ)). t.source ∷ bs) (sources_of after)
 
 pub page_takes : (pages : Pages) (bs : List (List ℕ)) (olds : List Thing) (s : Setting) (signs : List ContentSign) → AreInPieces pages bs
-    → StayButForOthers pages bs (thing_sources olds) → ArePageThings pages olds → s.within ≡ false → AreCharacters signs → BeginsWithText signs → EndsWithText signs
+    → StayButForOthers pages bs (thing_sources olds) → ArePageThings pages olds → s.within ≡ false → AreCharacters signs → HasText signs
     → ThingsStay pages olds (things signs) → IsNewContentIn pages a_paragraph (pieces_source bs) (spelled s signs)
-page_takes pages bs olds s signs p q h w v b e k =
-    pieces_anew pages bs s signs p (beside_these pages olds s signs w v b e h k)
+page_takes pages bs olds s signs p q h w v b k =
+    pieces_anew pages bs s signs p (beside_these pages olds s signs w v b h k)
     (stay_both pages bs (thing_sources olds) (node_sources signs) q
     (subst (StayButForOthers pages (thing_sources olds)) (sources_of signs) (by_sources pages olds (things signs) k)))

@@ -9,7 +9,6 @@ use Rattle.wt_guards.specs.Letters.{is_escaped}
 use Rattle.wt_guards.specs.Table.{line_start_hazard}
 use Rattle.wt_expand.specs.Work.{Pages}
 use Rattle.wt_text_edit_laws.specs.TextBlocks.{a_paragraph}
-use Rattle.wt_beside_laws.specs.Called.{EndsWithText}
 use Rattle.wt_beside_laws.specs.Lines.{AreCharacters}
 use Rattle.wt_beside_laws.specs.Stood.{things}
 use Rattle.wt_called_edit_laws.specs.CallingBlocks.{IsNewContentIn}
@@ -95,12 +94,6 @@ pub spread_characters : (ts : List Thing) → AreCharacters (spread ts)
 spread_characters [] = (refl, tt)
 spread_characters (t ∷ ts) = (refl, spread_characters ts)
 
-ends_spread : (t : ContentSign) (ts : List Thing) → EndsWithText (t ∷ spread ts)
-ends_spread (letter c) [] = tt
-ends_spread (thing t) [] = tt
-ends_spread (letter c) (u ∷ ts) = ends_spread (thing u) ts
-ends_spread (thing t) (u ∷ ts) = ends_spread (thing u) ts
-
 pub things_spread : (ts : List Thing) → things (spread ts) ≡ ts
 things_spread [] = refl
 things_spread (t ∷ ts) = ap (λ (us : List Thing). t ∷ us) (things_spread ts)
@@ -114,11 +107,11 @@ stay_spread pages ts = subst (ThingsStay pages ts) (sym (things_spread ts)) (all
 
 pub a_beside : (pages : Pages) (s : Setting) (ts : List Thing) → s.within ≡ false → ArePageThings pages ts → IsWrittenBeside pages s (begun 97 ts)
 a_beside pages s ts w h =
-    beside_these pages ts s (begun 97 ts) w (refl, spread_characters ts) tt (ends_spread (letter 97) ts) h (stay_spread pages ts)
+    beside_these pages ts s (begun 97 ts) w (refl, spread_characters ts) tt h (stay_spread pages ts)
 
 pub b_beside : (pages : Pages) (s : Setting) (ts : List Thing) → s.within ≡ false → ArePageThings pages ts → IsWrittenBeside pages s (begun 98 ts)
 b_beside pages s ts w h =
-    beside_these pages ts s (begun 98 ts) w (refl, spread_characters ts) tt (ends_spread (letter 98) ts) h (stay_spread pages ts)
+    beside_these pages ts s (begun 98 ts) w (refl, spread_characters ts) tt h (stay_spread pages ts)
 
 -- ---- so letters may be typed
 
@@ -140,8 +133,8 @@ pub page_letters : (pages : Pages) (bs : List (List ℕ)) (olds : List Thing) �
     → ArePageThings pages olds → TakesLetters pages a_paragraph (pieces_source bs)
 page_letters pages bs olds p q h =
     takes pages (pieces_source bs) in_paragraph olds (a_beside pages in_paragraph olds refl h) (b_beside pages in_paragraph olds refl h)
-    (page_takes pages bs olds in_paragraph (begun 97 olds) p q h refl (refl, spread_characters olds) tt (ends_spread (letter 97) olds) (stay_spread pages olds))
-    (page_takes pages bs olds in_paragraph (begun 98 olds) p q h refl (refl, spread_characters olds) tt (ends_spread (letter 98) olds) (stay_spread pages olds))
+    (page_takes pages bs olds in_paragraph (begun 97 olds) p q h refl (refl, spread_characters olds) tt (stay_spread pages olds))
+    (page_takes pages bs olds in_paragraph (begun 98 olds) p q h refl (refl, spread_characters olds) tt (stay_spread pages olds))
 
 -- again, where other texts were typed
 pub sources_spread : (ts : List Thing) → node_sources (spread ts) ≡ thing_sources ts

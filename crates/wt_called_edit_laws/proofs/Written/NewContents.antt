@@ -4,14 +4,16 @@ use Rattle.std.specs.Prelude.{◌||◌, not, if◌then◌else◌}
 use Rattle.std.specs.Str.{IsUtf8}
 use Rattle.std.proofs.lemmas.Str.{IsUtf8-append}
 use Rattle.wt_span.specs.Bytes.{is_blank, is_break}
-use Rattle.wt_span.specs.Items.{Item, char, whole}
+use Rattle.wt_span.specs.Items.{Item, char, whole, sources}
 use Rattle.wt_span.specs.Origins.{OuterCall}
-use Rattle.wt_guards.specs.Content.{ContentSign, letter, thing}
+use Rattle.wt_guards.specs.Content.{ContentSign, Thing, letter, thing}
 use Rattle.wt_guards.specs.Guards.{Setting, nowiki_if, is_guarded, spelled_from, spelled}
 use Rattle.wt_guards.specs.Letters.{is_escaped, written_by}
 use Rattle.wt_expand.specs.PageItems.{page_items}
 use Rattle.wt_expand.specs.PageCalls.{expanded_page}
 use Rattle.wt_expand.specs.Work.{Pages, Entry}
+use Rattle.wt_expand.proofs.PageLaws.{page_sources}
+use Rattle.wt_inline.proofs.HeldLaws.{sources_append}
 use Rattle.wt_part_laws.specs.Expanded.{part_items}
 use Rattle.wt_typed_blocks.proofs.Lines.{unguarded_begins}
 use Rattle.wt_part_laws.specs.MovedCalls.{IsMoved, AreMoved}
@@ -20,13 +22,15 @@ use Rattle.wt_text_edit_laws.specs.TextBetween.{StandsBehind}
 use Rattle.wt_text_edit_laws.specs.TextBlocks.{a_paragraph}
 use Rattle.wt_text_edit_laws.proofs.Between.ClosingTags.{Unclosed, unclosed_behind}
 use Rattle.wt_text_edit_laws.proofs.Prose.InFront.{Reads, reads_nothing, read_break, read_items}
-use Rattle.wt_beside_laws.specs.Called.{items_with, owns_in, shown_signs, BeginsWithText, IsCalledIn, IsCalledContent}
-use Rattle.wt_beside_laws.specs.Content.{letter_items, content_items}
+use Rattle.wt_beside_laws.specs.Called.{items_with, owns_in, shown_signs, HasText, IsCalledIn, IsCalledContent}
+use Rattle.wt_beside_laws.specs.Content.{guard_items, letter_items, content_items}
+use Rattle.wt_beside_laws.specs.Cuts.{own_glyphs}
 use Rattle.wt_beside_laws.specs.Lines.{AreCharacters}
+use Rattle.wt_beside_laws.specs.NodeItems.{node_items}
 use Rattle.wt_beside_laws.specs.Stood.{things}
 use Rattle.wt_beside_laws.proofs.CalmContents.{guard_utf8, letter_utf8}
 use Rattle.wt_beside_laws.proofs.Each.{Each}
-use Rattle.wt_beside_laws.proofs.LineKinds.{Opens, guard_opens, letter_opens}
+use Rattle.wt_beside_laws.proofs.LineKinds.{Opens, guard_opens, letter_opens, items_open, node_opens}
 use Rattle.wt_beside_laws.proofs.Made.Closes.{OpenFor, content_closes}
 use Rattle.wt_beside_laws.proofs.Groups.CalledLines.{items_own}
 use Rattle.wt_beside_laws.proofs.Groups.CalledParagraphs.{called_lines, called_unled}
@@ -36,11 +40,12 @@ use Rattle.wt_called_edit_laws.specs.CallingBlocks.{IsContentIn, IsNewContentIn}
 use Rattle.wt_called_edit_laws.specs.InCells.{AreTextLines}
 use Rattle.wt_called_edit_laws.specs.Parts.{work_in}
 use Rattle.wt_called_edit_laws.specs.Retyped.{AreSomeOf}
-use Rattle.wt_called_edit_laws.specs.Written.{written_calls, written_work}
+use Rattle.wt_called_edit_laws.specs.Written.{IsCallSource, IsReadThing, AreReadThings, written_calls, written_work}
 use Rattle.wt_called_edit_laws.specs.WrittenAnew.{node_sources, AreUtf8, StayButForOthers, IsWrittenBeside}
 use Rattle.wt_called_edit_laws.proofs.MovedOuters.{calls_after}
 use Rattle.wt_called_edit_laws.proofs.Written.Held.{written_gives}
-use Rattle.wt_called_edit_laws.proofs.Written.Reads.{called_alone, called_firm}
+use Rattle.wt_called_edit_laws.proofs.Written.Levels.{unmarked}
+use Rattle.wt_called_edit_laws.proofs.Written.Reads.{call_same, unguarded_old, called_alone, called_firm}
 use Rattle.wt_called_edit_laws.proofs.Written.Signs.{content_written}
 
 -- ---- UTF-8
@@ -73,14 +78,52 @@ opens_shown (char o b ∷ xs) h = shown_byte (is_blank b) (is_break b) xs (neith
     neither true v e f = e
     neither false v e f = f
 
-text_first : (s : Setting) (signs : List ContentSign) → s.within ≡ false → AreCharacters signs → BeginsWithText signs → Opens (content_items s [] signs)
-text_first s [] w v b = absurd b
-text_first s (thing t ∷ after) w v b = absurd b
-text_first s (letter c ∷ after) w v b =
+-- by its first byte
+none_empty : (b : ℕ) (bs : List ℕ) → [] ≡ b ∷ bs → ⊥
+none_empty b bs e = cc
+
+shown_by_source : (xs : List Item) (b : ℕ) (bs : List ℕ) → sources xs ≡ b ∷ bs → is_blank b ≡ false → is_break b ≡ false → begins_shown xs ≡ true
+shown_by_source [] b bs e f g = absurd (none_empty b bs e)
+shown_by_source (whole k o cs ∷ xs) b bs e f g = refl
+shown_by_source (char o c ∷ xs) b bs e f g =
+    let is : c ≡ b = same_head c b (sources xs) bs e in shown_byte (is_blank c) (is_break c) xs (ap is_blank is ∙ f) (ap is_break is ∙ g)
+  where
+    same_head : (c b : ℕ) (cs bs : List ℕ) → c ∷ cs ≡ b ∷ bs → c ≡ b
+    same_head c b cs bs e = cc
+
+call_shown : (source : List ℕ) (more : List Item) → IsCallSource source → begins_shown (node_items source ++ more) ≡ true
+call_shown source more c =
+    ap (λ (xs : List Item). begins_shown (xs ++ more)) (call_same source c)
+    ∙ shown_by_source (page_items source ++ more) 123 (c.others ++ sources more)
+    (sources_append (page_items source) more ∙ ap (λ (bs : List ℕ). bs ++ sources more) (page_sources source ∙ c.is)) refl refl
+
+-- a node that begins it, where nothing is put before
+thing_shown : (s : Setting) (t : Thing) (after : List ContentSign) (more : List Item) → s.within ≡ false → is_guarded s [] (thing t ∷ after) ≡ false → IsReadThing t
+    → begins_shown (node_items t.source ++ more) ≡ true
+thing_shown s t after more w g h = elim h.source [
+  | inl k ↦
+      opens_shown (node_items t.source ++ more)
+      (items_open (node_items t.source) more (node_opens t.role (own_glyphs t) k.1 (unmarked t.role k.2 (unguarded_old s [] t after w refl g))))
+  | inr c ↦ call_shown t.source more c.0
+]
+
+signs_shown : (s : Setting) (signs : List ContentSign) → s.within ≡ false → AreCharacters signs → AreReadThings signs → HasText signs
+    → begins_shown (content_items s [] signs) ≡ true
+signs_shown s [] w v r b = absurd b
+signs_shown s (letter c ∷ after) w v r b =
     let e : Bool = is_escaped s.within s.place [] c after in
     let more : List Item = content_items s (letter c ∷ []) after in
-    guard_opens (is_guarded s [] (letter c ∷ after)) (letter_items e c ++ more)
-    (λ g. letter_opens s [] c after more e refl v.0 (unguarded_begins s [] c after w refl refl g))
+    let u : Bool = is_guarded s [] (letter c ∷ after) in
+    opens_shown (guard_items u ++ (letter_items e c ++ more))
+    (guard_opens u (letter_items e c ++ more) (λ g. letter_opens s [] c after more e refl v.0 (unguarded_begins s [] c after w refl refl g)))
+signs_shown s (thing t ∷ after) w v r b = by (is_guarded s [] (thing t ∷ after)) refl
+  where
+    by : (u : Bool) → is_guarded s [] (thing t ∷ after) ≡ u
+        → begins_shown (guard_items u ++ (node_items t.source ++ content_items s (thing t ∷ []) after)) ≡ true
+    by true g =
+        let more : List Item = node_items t.source ++ content_items s (thing t ∷ []) after in
+        opens_shown (guard_items true ++ more) (guard_opens true more (λ e. let no : true ≡ false = e in absurd (cc)))
+    by false g = thing_shown s t after (content_items s (thing t ∷ []) after) w g r.0
 
 -- ---- it is read by itself
 
@@ -101,7 +144,7 @@ begins_so pages s signs h =
       alone = subst StandsBehind (append-nil (spelled s signs)) (f.uncommented [] nothing_stands tt);
       before_break = f.uncommented (10 ∷ []) break_stands refl;
       shown = subst (λ (xs : List Item). begins_shown xs ≡ true) (sym (called_alone s signs c.of_block h.read))
-          (opens_shown (content_items s [] signs) (text_first s signs c.of_block c.characters c.begins));
+          (signs_shown s signs c.of_block c.characters h.read c.some);
     }
 
 read_so : (pages : Pages) (s : Setting) (signs : List ContentSign) → IsWrittenBeside pages s signs → IsReadContent a_paragraph (spelled s signs)

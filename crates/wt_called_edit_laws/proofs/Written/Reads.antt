@@ -30,7 +30,7 @@ call_begins source rest c =
     subst (λ bs. BeginsUncommented (bs ++ rest)) (sym c.is)
     (uncommented_other 123 (c.others ++ rest) refl (comment_other 123 (c.others ++ rest) (omega arith)))
 
-call_same : (source : List ℕ) → IsCallSource source → node_items source ≡ page_items source
+pub call_same : (source : List ℕ) → IsCallSource source → node_items source ≡ page_items source
 call_same source c = node_same source (subst BeginsUncommented (append-nil source) (call_begins source [] c))
 
 call_in : (source : List ℕ) → IsCallSource source → EndsOutward source → (rest : List ℕ) (xs : List Item) → BeginsUnclosed rest → InLine rest xs
@@ -52,7 +52,7 @@ thing_ends t h = elim h.source [
   | inr c ↦ c.1
 ]
 
-unguarded_old : (s : Setting) (before : List ContentSign) (t : Thing) (after : List ContentSign) → s.within ≡ false
+pub unguarded_old : (s : Setting) (before : List ContentSign) (t : Thing) (after : List ContentSign) → s.within ≡ false
     → is_line_start (nearest before) ≡ true → is_guarded s before (thing t ∷ after) ≡ false → is_new_at_start t.role ≡ false
 unguarded_old s before t after w l g = by (is_new_at_start t.role) refl
   where
