@@ -36,6 +36,7 @@ pub mod SlotsLed
 pub mod Breaks
 pub mod SlotsFirst
 pub mod OwnEdits
+pub mod ToldEdits
 pub mod InsidesCases
 pub mod PageCases
 pub mod LocalCases
