@@ -18,6 +18,7 @@ pub mod PartTexts
 pub mod Covered
 pub mod Parts
 pub mod Retyped
+pub mod RowBlocks
 pub mod AnyBlocks
 pub mod AnyTexts
 pub mod CellEdits
@@ -48,4 +49,5 @@ pub mod PlacedAmong
 pub mod LinedAmong
 pub mod LinedHeadings
 pub mod ToldLines
+pub mod ToldTogether
 pub mod ToldAmong
