@@ -67,3 +67,4 @@ pub mod Beside
 pub mod Cells
 pub mod Among
 pub mod Told
+pub mod AllTold

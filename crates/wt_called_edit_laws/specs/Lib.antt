@@ -18,6 +18,7 @@ pub mod PartTexts
 pub mod Covered
 pub mod Parts
 pub mod Retyped
+pub mod RowBlocks
 pub mod AnyBlocks
 pub mod AnyTexts
 pub mod CellEdits
@@ -48,5 +49,6 @@ pub mod PlacedAmong
 pub mod LinedAmong
 pub mod LinedHeadings
 pub mod ToldLines
+pub mod ToldTogether
 pub mod ToldAmong
 pub mod StyledCallEdits

@@ -103,7 +103,8 @@ pub use placed_blocks::{
     lines_of_a_page_are_cut_at_its_blocks, lines_of_an_expanded_page_are_cut_at_its_blocks,
 };
 pub use told_lines::{
-    blocks_are_told_by_their_lines, headings_are_told_by_their_lines, untangled_blocks_are_shut,
+    blocks_are_told_by_their_lines, headings_are_told_by_their_lines, nodes_of_told_blocks_stay,
+    untangled_blocks_are_shut,
 };
 
 /// A page with blocks among calls, and with calls in them, none of which goes over the end of a part, is expanded part by

@@ -447,7 +447,7 @@ unfolding label_at context_parts chunks segments loose_segments tiles shapes clo
     name_of image is_called namespace_named prefix_of full_name_of whole_in cut_namespace title_in utf8_valid_len is_utf8 chars encode link_to
 edit_of = record {
   old = refl;
-  stay = (stands_as_sent (nth 0 (children_of block)) (record { numbered = λ e. cc; unnumbered = (refl, tt); unframed = refl }), tt);
+  stay = (stands_as_sent (nth 0 (children_of block)) (record { numbered = λ e. cc; unnumbered = (refl, (refl, tt)); unframed = refl }), tt);
   are = (tt, (are_letters, tt));
   plain = tt;
   calm = ((λ n. absurd n), tt);

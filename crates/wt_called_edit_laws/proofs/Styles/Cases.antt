@@ -1,5 +1,5 @@
 -- Worked case: the page's paragraph `'''x'''{{t}}y`, where `Template:T` is a word: bold and italic beside its call, what is sent for it, and what it makes.
-use Rattle.std.proofs.Common.{◌≡◌, ◌<◌, inl, inr, ℕ, zero, suc, false, Some, None, List, [], ◌∷◌, arith, refl, sym, ap, subst}
+use Rattle.std.proofs.Common.{◌≡◌, ◌<◌, inl, inr, ℕ, zero, suc, false, Some, None, List, [], ◌∷◌, arith, refl, sym, ap, ◌∙◌, subst}
 use Rattle.std.specs.Prelude.{codes}
 use Rattle.std.specs.Str.{is_utf8, chars, IsUtf8}
 use Rattle.std.specs.Str.Lossy.{utf8_valid_len}
@@ -17,7 +17,8 @@ use Rattle.wt_names.specs.Reading.{whole_in, cut_namespace, title_in}
 use Rattle.wt_names.specs.Written.{link_to}
 use Rattle.wt_tree.specs.declared.kind.Kind.TheVariants as kind
 use Rattle.wt_tree.specs.declared.kind.Mark.TheVariants as marks
-use Rattle.wt_tree.specs.Plain.{text_before}
+use Rattle.wt_tree.specs.Plain.{Plains, plain_before, text_before}
+use Rattle.wt_tree.specs.Source.{flat}
 use Rattle.wt_tree.specs.Tree.{Label, Tree, Trees, label, more, none, tree}
 use Rattle.wt_original.specs.Kept.{kept_with}
 use Rattle.wt_expand.specs.PageItems.{page_items}
@@ -34,7 +35,7 @@ use Rattle.wt_tiles.specs.Tiles.{form_at as tile_at, link_or_url, tag_tile, swit
 use Rattle.wt_tiles.specs.Links.{link_at}
 use Rattle.wt_tiles.specs.Urls.{scheme_len, ext_link_at, bare_url_at}
 use Rattle.wt_context.specs.Chunks.{chunks}
-use Rattle.wt_context.specs.Line.{context_parts}
+use Rattle.wt_context.specs.Line.{context_parts, line_parts}
 use Rattle.wt_context.specs.Nodes.{segments}
 use Rattle.wt_context.specs.Segments.{loose_segments}
 use Rattle.wt_context.specs.Styled.{with_styles}
@@ -46,7 +47,7 @@ use Rattle.wt_quotes.specs.Turns.{since, next, bold_ends_later, effect_on, is_bo
 use Rattle.wt_link_spelling.specs.Spelling.{children_of, inline_spelling}
 use Rattle.wt_guards.specs.Content.{Thing}
 use Rattle.wt_guards.specs.declared.role.Role.TheVariants.{Group}
-use Rattle.wt_guards.specs.Guards.{nowiki, is_guarded, is_between_guard, is_start_guard, is_end_guard, is_blank_guard}
+use Rattle.wt_guards.specs.Guards.{nowiki, is_guarded, is_between_guard, is_start_guard, is_end_guard, is_blank_guard, is_parted}
 use Rattle.wt_guards.specs.Letters.{is_escaped}
 use Rattle.wt_guards.specs.Table.{hazard, line_start_hazard}
 use Rattle.wt_part_laws.specs.Expanded.{part_items}
@@ -57,7 +58,8 @@ use Rattle.wt_text_edit_laws.specs.NoCalls.{AreUnbraced}
 use Rattle.wt_text_edit_laws.specs.ParagraphParts.{joined_parts, para_with}
 use Rattle.wt_text_edit_laws.specs.TextBlocks.{a_paragraph}
 use Rattle.wt_beside_laws.specs.ContentEdits.{new_content}
-use Rattle.wt_beside_laws.proofs.Groups.Cases.{a_word, beside_letters, gives_b}
+use Rattle.wt_beside_laws.proofs.Groups.Cases.{a_word, beside_letters, gives_b, gives_char}
+use Rattle.wt_beside_laws.specs.Shown.{parts_shown_at}
 use Rattle.wt_called_edit_laws.specs.CalledEdits.{page_things, ShowsAsGiven, IsChildBeside, MakesContentIn}
 use Rattle.wt_called_edit_laws.specs.InPieces.{AreInPieces}
 use Rattle.wt_called_edit_laws.specs.PageThings.{ArePageThings, thing_sources}
@@ -65,7 +67,9 @@ use Rattle.wt_called_edit_laws.specs.SentAsIs.{as_sent}
 use Rattle.wt_called_edit_laws.specs.Settled.{settled}
 use Rattle.wt_called_edit_laws.specs.StyledCallEdits.{AreNodesBeside, AreOwnThings, IsBesideStyles, IsStyledCallEdit}
 use Rattle.wt_called_edit_laws.specs.WrittenAnew.{StayButForOthers}
-use Rattle.wt_called_edit_laws.proofs.Beside.Given.{words_given}
+use Rattle.wt_called_edit_laws.proofs.Beside.Cases.{shows_word}
+use Rattle.wt_called_edit_laws.proofs.Whole.OfCall.{is_same, of_here}
+use Rattle.wt_called_edit_laws.specs.WholeContents.{of_call}
 use Rattle.wt_called_edit_laws.proofs.Cells.SentAsIs.{stands_as_sent}
 use Rattle.wt_called_edit_laws.proofs.Written.Cases.{call_part, call_sealed, call_settles, call_utf8}
 use Rattle.wt_called_edit_laws.specs.Written.{IsReadThing}
@@ -126,15 +130,6 @@ unfolding kept_with label_at context_parts chunks segments loose_segments tiles 
     is_bold_outside_at turn_at
 things_are = refl
 
-gives : sources (expanded_page a_word (codes "{{t}}")).items ≡ codes "b"
-unfolding words closed form_at comment_len comment_line_len raw_len opening_tag tag_after closing_tag with_inside is_extension
-    include_at entity_at named_entity decimal_entity hex_entity entity_names sign_word reduced rewritten parts_of text_members trimmed
-    trimmed_items name_text called most_templates is_function title_of_target title_in_target read_text is_allowed is_forbidden
-    is_good has_signature is_step begins_with_step holds_step ends_with_step name_of image is_called namespace_named prefix_of
-    full_name_of whole_in cut_namespace title_in template_text begins_only ends_only loop_text depth_text absent_text
-    utf8_valid_len is_utf8 chars encode link_to page_stretches expanded_page
-gives = refl
-
 -- ---- it is in pieces
 
 abbrev pub pieces : List (List ℕ)
@@ -179,11 +174,23 @@ of_page = (
   tt,
 )
 
-group_shows : ShowsAsGiven a_word group
+-- what it shows is its word
+group_is : (flat group ≡ codes "{{t}}") × ((rest : Plains) → plain_before group rest ≡ text_before (codes "b") rest)
 unfolding label_at context_parts chunks segments loose_segments tiles shapes closes tile_at link_or_url link_at ext_link_at bare_url_at scheme_len
     tag_tile tag_at switch_at children with_styles style_tree_of toggles_of toggle_at opens_tag closes_tag place_of since next bold_ends_later effect_on
     is_bold_outside_at turn_at
-group_shows = words_given a_word group gives_b (λ rest. ap (λ (bs : List ℕ). text_before bs rest) (sym gives))
+group_is = (refl, λ rest. refl)
+
+group_shows : ShowsAsGiven a_word group
+group_shows = λ i rest.
+    ap (λ (q : List ℕ). parts_shown_at 0 [] (line_parts (part_items a_word i q)) rest) group_is.0
+    ∙ ap (λ (xs : List Item). parts_shown_at 0 [] (line_parts xs) rest) (gives_char i)
+    ∙ shows_word i rest
+    ∙ sym (group_is.1 rest)
+
+-- that word is a group by itself among these
+pub given_word : (i : ℕ) → of_call i (given i) ≡ char (Some i) 98 ∷ []
+given_word i = of_here i (char (Some i) 98) (char None 121 ∷ []) (is_same (Some i) i refl)
 
 are_nodes : AreNodesBeside a_word (children_of block)
 unfolding label_at context_parts chunks segments loose_segments tiles shapes closes tile_at link_or_url link_at ext_link_at bare_url_at scheme_len
@@ -213,7 +220,7 @@ in_class = record {
   children = are_nodes;
   nest = ((refl, ((λ e. refl), tt)), (tt, ((λ e. refl), tt)));
   things = subst (ArePageThings a_word) (sym things_are) of_page;
-  own = subst AreOwnThings (sym things_are) (record { some = λ e. absurd (cc); unquoted = tt }, tt);
+  own = subst AreOwnThings (sym things_are) (record { some = λ e. absurd (cc); unquoted = tt; unslashed = refl }, tt);
   among = subst (λ (ts : List Thing). StayButForOthers a_word pieces (thing_sources ts)) (sym things_are) among;
 }
 
@@ -259,9 +266,10 @@ makes =
     let some : 0 < 1 = omega arith in
     styles_make a_word source block a_label edit 1 0 0 (a_call ∷ []) some (ap block_by (sym (items_are 0))) in_class edit_of
 
-pub written_is : new_content a_paragraph block a_label edit ≡ codes "'''xz'''{{t}}''v''"
+-- `<nowiki/>` is put between the call and the new style
+pub written_is : new_content a_paragraph block a_label edit ≡ codes "'''xz'''{{t}}<nowiki/>''v''"
 unfolding inline_spelling kept_with label_at context_parts chunks segments loose_segments tiles shapes closes tile_at link_or_url link_at ext_link_at bare_url_at scheme_len
     tag_tile tag_at switch_at children with_styles style_tree_of toggles_of toggle_at opens_tag closes_tag place_of since next bold_ends_later effect_on
     is_bold_outside_at turn_at
-    nowiki is_guarded is_between_guard is_start_guard is_end_guard is_blank_guard hazard line_start_hazard is_escaped chars encode
+    nowiki is_guarded is_between_guard is_start_guard is_end_guard is_blank_guard is_parted hazard line_start_hazard is_escaped chars encode
 written_is = refl
