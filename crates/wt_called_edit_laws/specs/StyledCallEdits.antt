@@ -30,7 +30,6 @@ use Rattle.wt_called_edit_laws.specs.InPieces.{AreInPieces, pieces_source}
 use Rattle.wt_called_edit_laws.specs.PageThings.{ArePageThings, thing_sources}
 use Rattle.wt_called_edit_laws.specs.WrittenAnew.{StayButForOthers}
 
-
 -- ---- the block
 
 -- texts and separators, nodes with a number, and so what is in bold and italic

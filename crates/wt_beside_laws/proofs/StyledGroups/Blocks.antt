@@ -29,7 +29,6 @@ use Rattle.wt_beside_laws.specs.Nests.{marks, style_tree}
 use Rattle.wt_beside_laws.specs.Styled.{StyledContent, delimiter, finished, sign, signs_before, signs_in, signs_past, styled}
 use Rattle.wt_beside_laws.specs.StyledCalls.{AreOwnAt, AreSomeOfPage, IsOwnAt, IsStyledCalled, has_uncalled, owns_left, owns_past, styled_with}
 
-
 -- ---- what is of the page
 
 page_have : (ps : List Part) → ArePageParts ps → PartsHave ps

@@ -31,7 +31,6 @@ use Rattle.wt_beside_laws.specs.Styled.{AreNested, StyledContent, delimiter, fin
 use Rattle.wt_beside_laws.specs.StyledCalls.{IsStyledCalled, owns_left, owns_past, styled_called_shown, styled_with}
 use Rattle.wt_beside_laws.specs.StyledShown.{style_shown}
 
-
 -- ---- its parts are texts and nodes
 
 styled_texts : (s : Setting) (bold italic : Bool) (before : List ContentSign) (t : StyledContent) (after : List ContentSign) (owns : List (List Item))

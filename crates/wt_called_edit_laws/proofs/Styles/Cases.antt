@@ -161,8 +161,10 @@ pub among : StayButForOthers a_word pieces (codes "{{t}}" ∷ [])
 among =
     let first = calm_written a_word (codes "'''x'''") first_calm in
     let last = calm_written a_word (codes "y") last_calm in
-    inr (no_calls (expanded_page a_word (codes "'''x'''")).outer first.calls_are,
-    inl (refl, (no_calls (expanded_page a_word (codes "y")).outer last.calls_are, tt)))
+    inr (
+      no_calls (expanded_page a_word (codes "'''x'''")).outer first.calls_are,
+      inl (refl, (no_calls (expanded_page a_word (codes "y")).outer last.calls_are, tt)),
+    )
 
 call_read : IsReadThing call
 call_read = record { source = inr (record { others = codes "{t}}"; is = refl; settles = call_settles }, refl); begins = refl; ends = refl }

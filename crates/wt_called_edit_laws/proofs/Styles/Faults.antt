@@ -21,7 +21,6 @@ use Rattle.wt_beside_laws.specs.SentStyled.{AllNest, AreStyledSent, IsStyledBy, 
 use Rattle.wt_beside_laws.specs.Styled.{StyledContent, signs_in}
 use Rattle.wt_called_edit_laws.proofs.Styles.Sent.{HasUtf8, HaveUtf8, Utf8By}
 
-
 abbrev within : Bool → Surroundings
 within v = record { in_paragraph = v; in_link = false }
 

@@ -17,7 +17,6 @@ use Rattle.wt_beside_laws.proofs.Styled.SentNests.{IsStyleForm}
 use Rattle.wt_called_edit_laws.proofs.Beside.Found.{IsFoundAs, as_found}
 use Rattle.wt_called_edit_laws.specs.StyledCallEdits.{HasNumberBy, HasNumbers, HaveNumbers}
 
-
 -- by the inline form of its kind, with what is in a style
 abbrev pub FoundBy : InlineForm → List Kept → Label → Trees → Type 0 → Type 0
 FoundBy inline.Nothing ks l ts inside = Unit {0}

@@ -27,7 +27,6 @@ use Rattle.wt_called_edit_laws.proofs.Styles.Found.{AreFound, FoundBy, IsFound}
 use Rattle.wt_called_edit_laws.proofs.Styles.Sent.{beside_both, found_both, style_beside, style_found}
 use Rattle.wt_called_edit_laws.specs.StyledCallEdits.{AreNodesBeside, IsBesideBy, IsNodeBeside, NewStylesCallNone}
 
-
 -- ---- a node that is no group is none to its neighbours
 
 abbrev IsOtherSort : Sort → Type 0

@@ -52,7 +52,6 @@ use Rattle.wt_called_edit_laws.specs.Retyped.{AreSomeOf}
 use Rattle.wt_called_edit_laws.specs.Written.{AreReadThings, IsReadThing, IsWrittenAs, written_calls, written_items, written_work}
 use Rattle.wt_called_edit_laws.specs.WrittenAnew.{IsWrittenBeside, StayButForOthers, node_sources}
 
-
 -- ---- its first line isn't blank
 
 thing_first : (s : Setting) (x : Thing) (after : List ContentSign) → s.within ≡ false → IsReadThing x → begins_shown (content_items s [] (thing x ∷ after)) ≡ true

@@ -64,7 +64,6 @@ use Rattle.wt_called_edit_laws.specs.StyledCallEdits.{AreNodesBeside, AreOwnThin
 use Rattle.wt_called_edit_laws.specs.WholeContents.{IsWholeIn}
 use Rattle.wt_called_edit_laws.specs.WrittenAnew.{HoldsAnywhere}
 
-
 -- ---- what is sent
 
 abbrev known : Tree → Page

@@ -30,7 +30,6 @@ use Rattle.wt_called_edit_laws.proofs.Written.Joined.{calm_written}
 use Rattle.wt_called_edit_laws.specs.Parts.{work_in}
 use Rattle.wt_called_edit_laws.specs.Written.{BeginsOutward, EndsOutward, IsHeldInLine, IsOwnPart, IsReadThing, IsWrittenAs}
 
-
 -- ---- its source
 
 mark_line : (kind : Bool) → IsHeldInLine (mark_source kind)

@@ -28,7 +28,6 @@ use Rattle.wt_called_edit_laws.proofs.Beside.Sent.{as_kept}
 use Rattle.wt_called_edit_laws.proofs.Styles.Found.{AreFound, FoundBy, IsFound}
 use Rattle.wt_called_edit_laws.specs.StyledCallEdits.{AreNodesBeside, IsBesideBy, IsNodeBeside}
 
-
 -- ---- what is in a style of the page
 
 pub style_beside : (pages : Pages) (l : Label) (ts : Trees) → IsStyle l.kind → IsNodeBeside pages (tree l ts) → NoneIsGroup ts × AreNodesBeside pages ts

@@ -48,7 +48,6 @@ use Rattle.wt_called_edit_laws.proofs.Styles.Sent.{beside_both, found_both, styl
 use Rattle.wt_called_edit_laws.specs.CalledEdits.{IsChildBeside}
 use Rattle.wt_called_edit_laws.specs.StyledCallEdits.{AreNodesBeside, IsBesideBy, IsNodeBeside}
 
-
 -- ---- in a folder, where so many calls come before it
 
 abbrev after_mark : Pages → Bool → ℕ → ℕ

@@ -51,7 +51,6 @@ use Rattle.wt_called_edit_laws.proofs.Written.FromPage.{gives_so}
 use Rattle.wt_called_edit_laws.specs.PageThings.{ArePageThings, IsPageThing, MeetLater, ThingsStay}
 use Rattle.wt_called_edit_laws.specs.StyledCallEdits.{AreOwnThings, CallNone, CallsNone, CallsNoneBy, EndsUnslashed, IsOwnThing, NoCallGoes}
 
-
 -- ---- with others that are put among them
 
 abbrev pub AreAmongPut : List Thing → List Thing → Type 0
@@ -361,9 +360,10 @@ page_may pages i t n right h o p is z = elim (folder_case t.role pages t h) [
       let stays : StaysAsItIs pages t = k.0 in
       let left : map glyph_of (part_items pages i t.source) ≡ own_glyphs t = ap (map glyph_of) (stays.items i) in
       let both = meets_put t n p (λ r y. o.unquoted) z in
-      subst (λ (gs : List Glyph). MayMeet t gs n right) (sym left)
-      (subst (λ (gs : List Glyph). BehindMay t.role (own_glyphs t) gs) (sym is) (follow_as t.role (own_glyphs t) (own_glyphs n) stays.node both.0),
-      put_led n right (ends_word false (own_glyphs t)) p)
+      subst (λ (gs : List Glyph). MayMeet t gs n right) (sym left) (
+        subst (λ (gs : List Glyph). BehindMay t.role (own_glyphs t) gs) (sym is) (follow_as t.role (own_glyphs t) (own_glyphs n) stays.node both.0),
+        put_led n right (ends_word false (own_glyphs t)) p,
+      )
   | inr k ↦
       let slashes = subst EndsUnslashed k.1 o.unslashed in (
         subst (λ (r : Role). BehindMay r (map glyph_of (part_items pages i t.source)) right) (sym k.1) (group_follow k.0.slashes n right slashes p is),
@@ -395,9 +395,10 @@ meet_styled pages i fs (thing t ∷ after) a h o = elim a [
   | inl p ↦ (next_put pages i (i + length (expanded_page pages t.source).outer) t after p.0, meet_styled pages (i + length (expanded_page pages t.source).outer) fs after p.1 h o)
   | inr q ↦
       let own : ArePageThings pages (t ∷ q.0) = subst (ArePageThings pages) q.1 h in
-      let there = first_own t fs q.0 q.1 o in
-      (next_page pages i (i + length (expanded_page pages t.source).outer) t q.0 after q.2 own.1 own.0.folder there.0,
-      meet_styled pages (i + length (expanded_page pages t.source).outer) q.0 after q.2 own.2 there.1)
+      let there = first_own t fs q.0 q.1 o in (
+        next_page pages i (i + length (expanded_page pages t.source).outer) t q.0 after q.2 own.1 own.0.folder there.0,
+        meet_styled pages (i + length (expanded_page pages t.source).outer) q.0 after q.2 own.2 there.1,
+      )
 ]
 
 node_so : (pages : Pages) (i : ℕ) (t : Thing) → IsStyledThing pages t → IsNodeOrGroup t (map glyph_of (part_items pages i t.source))

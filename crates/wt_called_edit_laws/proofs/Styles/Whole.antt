@@ -63,7 +63,6 @@ use Rattle.wt_called_edit_laws.specs.WholeContents.{AreGroups, AreShutCalls, Are
 use Rattle.wt_called_edit_laws.specs.Written.{written_calls}
 use Rattle.wt_called_edit_laws.specs.WrittenAnew.{HoldsAnywhere}
 
-
 -- ---- a node of the page is the same node but for its number and place
 
 half : (n : ℕ) (before : List Item) (u : ItemTree) → IsOwn u → placeless (standing n before u) ≡ cut_texts (placeless (placed [] u))

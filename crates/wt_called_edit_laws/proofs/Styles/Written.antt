@@ -35,7 +35,6 @@ use Rattle.wt_called_edit_laws.proofs.Written.Signs.{content_written}
 use Rattle.wt_called_edit_laws.specs.Written.{AreOwnParts, AreReadThings, IsOwnPart, IsReadThing}
 use Rattle.wt_called_edit_laws.specs.WrittenAnew.{AreUtf8, node_sources}
 
-
 -- Each sign that is no character is a node of the page or is put; styles nest, and no call is in one; no call is first or last.
 pub record IsStyledWritten (pages : Pages) (s : Setting) (t : StyledContent) : Type 0 where
   pub of_block : s.within ≡ false
