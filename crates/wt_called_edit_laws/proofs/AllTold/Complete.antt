@@ -170,10 +170,12 @@ alone_told pages page i is t n a number before block is_it o rest are told tree_
     sym at ∙ sym (standing_begins number before block) ∙ ap (λ (u : Tree). first_byte (label u).ranges) (sym is_it)
     ∙ node_begins Q pages page i is t n.utf8 n.calm each n.there n.block in
     let bytes : 0 < length (source_of k q) = (told_bytes page (o ∷ []) rest are told (are_own (lined o ∷ []) rest (told_are_lined page (o ∷ []) rest n.closed are told))).0 in
-    let some : AreSome a.ts = some_told (start_of 0 o) a.ts among in
-    (some, at_told pages page a.ts a.behind (a.told some) Q i is t each n.there n.block
-        (subst (λ (bs : List ℕ). 0 < length bs) (sym (ap flat same ∙ standing_source k q number before)) bytes)
-        (subst (λ (m : ℕ). IsAmongNumbers m (told_starts 0 a.ts)) begins among))
+    let some : AreSome a.ts = some_told (start_of 0 o) a.ts among in (
+      some,
+      at_told pages page a.ts a.behind (a.told some) Q i is t each n.there n.block
+          (subst (λ (bs : List ℕ). 0 < length bs) (sym (ap flat same ∙ standing_source k q number before)) bytes)
+          (subst (λ (m : ℕ). IsAmongNumbers m (told_starts 0 a.ts)) begins among),
+    )
 
 -- ---- lines that begin with marks only are blank
 
