@@ -1,32 +1,41 @@
--- A content beside nodes that bring no calls is UTF-8, has no braces, and calls nothing.
-use Rattle.std.proofs.Common.{arith, ◌≡◌, ℕ, ◌≤◌, ◌==◌, Bool, true, false, None, List, [], ◌∷◌, ◌++◌, refl, sym, subst, inl, inr, All}
+-- A content beside nodes that bring no calls is UTF-8, has no two braces side by side, and calls nothing.
+use Rattle.std.proofs.Common.{arith, ◌≡◌, ◌⊎◌, ℕ, ◌≤◌, ◌==◌, Bool, true, false, Some, None, List, [], ◌∷◌, ◌++◌, map, refl, sym, ap, ◌∙◌, subst, inl, inr, All}
 use Rattle.std.specs.Prelude.{◌||◌, encode_utf8}
 use Rattle.std.specs.Char.{IsScalar}
 use Rattle.std.specs.Fmt.{digits}
 use Rattle.std.specs.Str.{IsUtf8}
-use Rattle.std.proofs.lemmas.Bool.{cases_lt}
+use Rattle.std.proofs.lemmas.Bool.{cases_lt, eqb-true}
 use Rattle.std.proofs.lemmas.Bool.Decides.{nat_tests}
 use Rattle.std.proofs.lemmas.List.Elements.{All-head, All-tail}
 use Rattle.std.proofs.lemmas.Str.{encode_ascii, IsUtf8-append, IsUtf8-nil, IsUtf8-encode}
 use Rattle.wt_span.specs.declared.form.ItemForm.TheVariants as form
-use Rattle.wt_span.specs.Items.{Item, char, whole}
+use Rattle.wt_span.specs.Items.{Item, char, whole, sign}
 use Rattle.wt_names.proofs.Ascii.{IsWide, encode_wide}
+use Rattle.wt_guards.specs.declared.role.Role.{Role}
+use Rattle.wt_guards.specs.declared.role.Role.TheVariants.{Link, External, Bare, Switch, Toggle, Mark, Group, Function, Node}
 use Rattle.wt_guards.specs.Content.{ContentSign, letter, thing}
 use Rattle.wt_guards.specs.Guards.{Setting, nowiki, nowiki_if, is_guarded, spelled_from, spelled}
 use Rattle.wt_guards.specs.Letters.{is_bracket, is_escaped, reference, written_by}
 use Rattle.wt_guards.proofs.Escapes.{is_escapable, escapable, each_escapable}
+use Rattle.wt_tiles.specs.declared.glyph.Glyph.{Glyph}
+use Rattle.wt_tiles.specs.declared.glyph.Glyph.TheVariants as glyph
+use Rattle.wt_tiles.specs.declared.shape.Shape.{Shape}
+use Rattle.wt_tiles.specs.Glyphs.{glyph_of}
+use Rattle.wt_tiles.specs.Urls.{bare_url_at}
 use Rattle.wt_typed_blocks.proofs.TextReads.{bracket_escaped, not_bracket}
 use Rattle.wt_expand.specs.PageItems.{page_items}
 use Rattle.wt_expand.specs.PageCalls.{expanded_page}
 use Rattle.wt_expand.specs.Work.{Pages, first_refusal}
 use Rattle.wt_expand.specs.Expansion.{page_work}
 use Rattle.wt_text_edit_laws.specs.LonePages.{page_chars, of_items}
-use Rattle.wt_text_edit_laws.specs.NoCalls.{NonePairs, CallsNothing, AreUnbraced}
-use Rattle.wt_text_edit_laws.proofs.Between.LessBraces.{none_unbraced}
+use Rattle.wt_text_edit_laws.specs.NoCalls.{Brace, NonePairs, CallsNothing, AreUnpaired, is_brace, AreUnbraced}
+use Rattle.wt_text_edit_laws.proofs.Between.LessBraces.{BeginsUnbraced, braces_of, items_before_start, whole_sign, none_unbraced, unbraced_begins}
 use Rattle.wt_text_edit_laws.proofs.Between.NoCalls.{calm_expanded, calm_unrefused}
-use Rattle.wt_beside_laws.specs.Calm.{is_brace, HaveNoBraces, IsCalm, AreCalm}
+use Rattle.wt_beside_laws.specs.Calm.{IsCalm, AreCalm}
 use Rattle.wt_beside_laws.specs.Content.{guard_items, letter_items, content_items}
 use Rattle.wt_beside_laws.specs.Lines.{AreCharacters}
+use Rattle.wt_beside_laws.specs.Nodes.{IsDelimiter, IsTagNode, IsCategoryNode, IsMediaNode, IsOneLexeme, IsNode, AreNodes}
+use Rattle.wt_beside_laws.proofs.NodesBegin.{no_url}
 use Rattle.wt_beside_laws.proofs.Contents.{nowiki_reads, reference_reads}
 use Rattle.wt_beside_laws.proofs.NodeItems.{node_as}
 use Rattle.wt_beside_laws.proofs.Marks.Commented.{content_alone}
@@ -69,14 +78,27 @@ content_utf8 s signs v h = from_utf8 s [] signs v h
 
 -- ---- braces
 
-both_have_none : (xs ys : List Item) → HaveNoBraces xs → HaveNoBraces ys → HaveNoBraces (xs ++ ys)
-both_have_none [] ys h k = k
-both_have_none (char o b ∷ xs) ys h k = (h.0, both_have_none xs ys h.1 k)
-both_have_none (whole f o bs ∷ xs) ys h k = both_have_none xs ys h k
+-- no two braces are side by side, and none is first
+record Unpaired (xs : List Item) : Type 0 where
+  none : AreUnpaired xs
+  begins : BeginsUnbraced (map sign xs)
 
-guard_none : (u : Bool) → HaveNoBraces (guard_items u)
-guard_none true = tt
-guard_none false = tt
+begins_both : (xs ys : List Item) → BeginsUnbraced (map sign xs) → BeginsUnbraced (map sign ys) → BeginsUnbraced (map sign (xs ++ ys))
+begins_both [] ys h k = k
+begins_both (x ∷ xs) ys h k = h
+
+both_unpaired : (xs ys : List Item) → Unpaired xs → Unpaired ys → Unpaired (xs ++ ys)
+both_unpaired xs ys h k = record {
+  none = items_before_start xs ys k.begins ∙ ap (λ (bs : List Brace). bs ++ braces_of ys) h.none ∙ k.none;
+  begins = begins_both xs ys h.begins k.begins;
+}
+
+unbraced_so : (xs : List Item) → AreUnbraced xs → Unpaired xs
+unbraced_so xs h = record { none = none_unbraced xs h; begins = unbraced_begins xs h }
+
+guard_none : (u : Bool) → Unpaired (guard_items u)
+guard_none true = unbraced_so (guard_items true) tt
+guard_none false = unbraced_so [] tt
 
 no_brace : (c : ℕ) → is_bracket c ≡ false → is_brace c ≡ false
 no_brace c h = parts (c == 91) (c == 93) (c == 123) (c == 125) (c == 124) (c == 62) h
@@ -91,44 +113,103 @@ no_brace c h = parts (c == 91) (c == 93) (c == 123) (c == 125) (c == 124) (c == 
 wide_brace : (b : ℕ) → 128 ≤ b → is_brace b ≡ false
 wide_brace b le = grind (arith, nat_tests)
 
-wide_none : (bs : List ℕ) → All IsWide bs → HaveNoBraces (page_chars bs)
+wide_none : (bs : List ℕ) → All IsWide bs → AreUnbraced (page_chars bs)
 wide_none [] h = tt
 wide_none (b ∷ bs) h = (wide_brace b (All-head IsWide b bs h), wide_none bs (All-tail IsWide b bs h))
 
-letter_none : (e : Bool) (c : ℕ) → (e ≡ false → is_bracket c ≡ false) → HaveNoBraces (letter_items e c)
-letter_none true c f = tt
-letter_none false c f = elim (cases_lt c 128) [
-  | inl small ↦ subst (λ bs. HaveNoBraces (page_chars bs)) (sym (encode_ascii c small)) (no_brace c (f refl), tt)
+letter_unbraced : (e : Bool) (c : ℕ) → (e ≡ false → is_bracket c ≡ false) → AreUnbraced (letter_items e c)
+letter_unbraced true c f = tt
+letter_unbraced false c f = elim (cases_lt c 128) [
+  | inl small ↦ subst (λ bs. AreUnbraced (page_chars bs)) (sym (encode_ascii c small)) (no_brace c (f refl), tt)
   | inr wide ↦ wide_none (encode_utf8 c) (encode_wide c wide)
 ]
 
-content_none : (s : Setting) (before signs : List ContentSign) → AreCalm signs → HaveNoBraces (content_items s before signs)
-content_none s before [] h = guard_none (is_guarded s before [])
-content_none s before (letter c ∷ after) h =
+letter_none : (e : Bool) (c : ℕ) → (e ≡ false → is_bracket c ≡ false) → Unpaired (letter_items e c)
+letter_none e c f = unbraced_so (letter_items e c) (letter_unbraced e c f)
+
+-- ---- no node begins with a brace
+
+abbrev FirstUnbraced : List Glyph → Type 0
+FirstUnbraced [] = Unit {0}
+FirstUnbraced (glyph.Byte b ∷ gs) = is_brace b ≡ false
+FirstUnbraced (glyph.Entity c ∷ gs) = Unit {0}
+FirstUnbraced (glyph.Atom ∷ gs) = Unit {0}
+FirstUnbraced (glyph.Mark ∷ gs) = Unit {0}
+
+first_begins : (xs : List Item) → FirstUnbraced (map glyph_of xs) → BeginsUnbraced (map sign xs)
+first_begins [] h = tt
+first_begins (char o b ∷ xs) h = h
+first_begins (whole f o bs ∷ xs) h = whole_sign f
+
+url_unbraced : (b : ℕ) (gs : List Glyph) (w : Shape) → bare_url_at false (glyph.Byte b ∷ gs) ≡ Some w → is_brace b ≡ false
+url_unbraced b gs w is = by (b == 123) (b == 125) refl refl
+  where
+    at : (c : ℕ) → (b == c) ≡ true → bare_url_at false (glyph.Byte c ∷ gs) ≡ Some w
+    at c e = subst (λ (k : ℕ). bare_url_at false (glyph.Byte k ∷ gs) ≡ Some w) (eqb-true b c e) is
+
+    by : (u v : Bool) → (b == 123) ≡ u → (b == 125) ≡ v → (u || v) ≡ false
+    by true v e f = let no : true ≡ false = no_url 123 gs w refl refl (at 123 e) in cc
+    by false true e f = let no : true ≡ false = no_url 125 gs w refl refl (at 125 f) in cc
+    by false false e f = refl
+
+lexeme_first : (own : List Glyph) → IsOneLexeme own → FirstUnbraced own
+lexeme_first own n = elim n [
+  | inl i ↦ subst FirstUnbraced (sym i) tt
+  | inr i ↦ subst FirstUnbraced (sym i.1) tt
+]
+
+delimiter_first : (own : List Glyph) → IsDelimiter own → FirstUnbraced own
+delimiter_first own n = elim n [
+  | inl i ↦ subst FirstUnbraced (sym i) refl
+  | inr i ↦ subst FirstUnbraced (sym i) refl
+]
+
+other_first : (own : List Glyph) → IsOneLexeme own ⊎ (IsTagNode own ⊎ (IsCategoryNode own ⊎ IsMediaNode own)) → FirstUnbraced own
+other_first own n = elim n [
+  | inl one ↦ lexeme_first own one
+  | inr other ↦ elim other [
+    | inl tag ↦ subst FirstUnbraced (sym tag.is) refl
+    | inr link ↦ elim link [
+      | inl category ↦ subst FirstUnbraced (sym category.is) refl
+      | inr media ↦ subst FirstUnbraced (sym media.is) refl
+    ]
+  ]
+]
+
+node_first : (r : Role) (own : List Glyph) → IsNode r own → FirstUnbraced own
+node_first Link own n = subst FirstUnbraced (sym n.is) refl
+node_first External own n = subst FirstUnbraced (sym n.is) refl
+node_first (Bare ends) own n = subst FirstUnbraced (sym n.is) (url_unbraced n.first n.others n.shape n.url)
+node_first Switch own n = subst FirstUnbraced (sym n.is) refl
+node_first Toggle own n = delimiter_first own n
+node_first (Mark ends began) own n = subst FirstUnbraced (sym n) tt
+node_first (Group g) own n = absurd n
+node_first Function own n = lexeme_first own n
+node_first Node own n = other_first own n
+
+-- ---- a content
+
+content_none : (s : Setting) (before signs : List ContentSign) → AreNodes signs → AreCalm signs → Unpaired (content_items s before signs)
+content_none s before [] n h = guard_none (is_guarded s before [])
+content_none s before (letter c ∷ after) n h =
     let e : Bool = is_escaped s.within s.place before c after in
     let own : List Item = letter_items e c in
     let more : List Item = content_items s (letter c ∷ before) after in
-    both_have_none (guard_items (is_guarded s before (letter c ∷ after))) (own ++ more) (guard_none (is_guarded s before (letter c ∷ after)))
-    (both_have_none own more (letter_none e c (λ f. not_bracket (is_bracket c) e (bracket_escaped s.within s.place before c after) f))
-    (content_none s (letter c ∷ before) after h))
-content_none s before (thing t ∷ after) h =
+    both_unpaired (guard_items (is_guarded s before (letter c ∷ after))) (own ++ more) (guard_none (is_guarded s before (letter c ∷ after)))
+    (both_unpaired own more (letter_none e c (λ f. not_bracket (is_bracket c) e (bracket_escaped s.within s.place before c after) f))
+    (content_none s (letter c ∷ before) after n h))
+content_none s before (thing t ∷ after) n h =
     let own : List Item = node_items t.source in
     let more : List Item = content_items s (thing t ∷ before) after in
-    both_have_none (guard_items (is_guarded s before (thing t ∷ after))) (own ++ more) (guard_none (is_guarded s before (thing t ∷ after)))
-    (both_have_none own more h.0.unbraced (content_none s (thing t ∷ before) after h.1))
+    let one : Unpaired own = record { none = h.0.unpaired; begins = first_begins own (node_first t.role (map glyph_of own) n.0) } in
+    both_unpaired (guard_items (is_guarded s before (thing t ∷ after))) (own ++ more) (guard_none (is_guarded s before (thing t ∷ after)))
+    (both_unpaired own more one (content_none s (thing t ∷ before) after n.1 h.1))
 
-unbraced_so : (xs : List Item) → HaveNoBraces xs → AreUnbraced xs
-unbraced_so [] h = tt
-unbraced_so (char o b ∷ xs) h = (h.0, unbraced_so xs h.1)
-unbraced_so (whole f o bs ∷ xs) h = unbraced_so xs h
-
-pub content_unbraced : (s : Setting) (signs : List ContentSign) → IsReadIn s signs → AreCalm signs → AreUnbraced (page_items (spelled s signs))
-content_unbraced s signs k h =
-    let xs : List Item = page_items (spelled s signs) in
-    unbraced_so xs (subst HaveNoBraces (sym (content_alone s signs k)) (content_none s [] signs h))
+pub content_unpaired : (s : Setting) (signs : List ContentSign) → IsReadIn s signs → AreCalm signs → AreUnpaired (page_items (spelled s signs))
+content_unpaired s signs k h = let own = content_none s [] signs k.nodes h in subst AreUnpaired (sym (content_alone s signs k)) own.none
 
 pub content_calm : (s : Setting) (signs : List ContentSign) → IsReadIn s signs → AreCalm signs → CallsNothing (page_items (spelled s signs))
-content_calm s signs k h = subst NonePairs (sym (none_unbraced (page_items (spelled s signs)) (content_unbraced s signs k h))) tt
+content_calm s signs k h = subst NonePairs (sym (content_unpaired s signs k h)) tt
 
 pub content_expanded : (pages : Pages) (s : Setting) (signs : List ContentSign) → IsReadIn s signs → AreCalm signs
     → expanded_page pages (spelled s signs) ≡ of_items (page_items (spelled s signs))
@@ -143,11 +224,11 @@ content_unrefused pages s signs k h = calm_unrefused pages (spelled s signs) (co
 pub nowiki_calm : IsCalm nowiki
 nowiki_calm = record {
   utf8 = guard_utf8 true;
-  unbraced = subst HaveNoBraces (sym (node_as nowiki (whole form.Nowiki None nowiki ∷ []) nowiki_reads)) tt;
+  unpaired = subst AreUnpaired (sym (node_as nowiki (whole form.Nowiki None nowiki ∷ []) nowiki_reads)) refl;
 }
 
 pub reference_calm : (c : ℕ) → is_escapable c ≡ true → IsCalm (reference c)
 reference_calm c e = record {
   utf8 = reference_utf8 c e;
-  unbraced = subst HaveNoBraces (sym (node_as (reference c) (whole (form.Entity c) None (reference c) ∷ []) (reference_reads c e))) tt;
+  unpaired = subst AreUnpaired (sym (node_as (reference c) (whole (form.Entity c) None (reference c) ∷ []) (reference_reads c e))) refl;
 }

@@ -198,7 +198,7 @@ letters_so : (Q : List ℕ → Type 0) (cs : List ℕ) → EachSource Q (map let
 letters_so Q [] = tt
 letters_so Q (c ∷ cs) = letters_so Q cs
 
-tile_so : (Q : List ℕ → Type 0) (k : TileKind) (began : Bool) (at : ℕ) (own : List Item) → Q (sources own) → EachSource Q (tile_signs k began at own)
+pub tile_so : (Q : List ℕ → Type 0) (k : TileKind) (began : Bool) (at : ℕ) (own : List Item) → Q (sources own) → EachSource Q (tile_signs k began at own)
 tile_so Q kind.Link began at own h = (h, tt)
 tile_so Q kind.Category began at own h = (h, tt)
 tile_so Q kind.Media began at own h = (h, tt)

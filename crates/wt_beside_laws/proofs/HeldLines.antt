@@ -22,9 +22,9 @@ use Rattle.wt_text_edit_laws.specs.Contents.{IsContentOf}
 use Rattle.wt_text_edit_laws.specs.TextBlocks.{TextBlock, a_paragraph, a_heading}
 use Rattle.wt_text_edit_laws.specs.TypedHeadings.{NoBreaks}
 use Rattle.wt_text_edit_laws.proofs.Between.Fronts.{items_from, first_from, reads_after}
-use Rattle.wt_text_edit_laws.proofs.Cuts.ItemCuts.{page_cut, cut_from}
+use Rattle.wt_text_edit_laws.proofs.Cuts.ItemCuts.{page_cut, cut_from, page_from}
 use Rattle.wt_text_edit_laws.proofs.Prose.InFront.{reads_nothing}
-use Rattle.wt_beside_laws.specs.Commented.{IsComment, IsCommentLine, IsRemarked, IsHeld}
+use Rattle.wt_beside_laws.specs.Commented.{IsComment, IsCommentLine, IsReadInLine, IsHeld}
 use Rattle.wt_beside_laws.specs.Content.{AreKept}
 use Rattle.wt_beside_laws.specs.FlatBlocks.{lines_in, signs_in}
 use Rattle.wt_beside_laws.specs.HeldLines.{IsHeldForm, IsHeldTile, AreHeldTiles, AreHeldLines}
@@ -33,8 +33,8 @@ use Rattle.wt_beside_laws.specs.NodeItems.{node_items}
 use Rattle.wt_beside_laws.specs.PageSigns.{ends_break, form_sign, tile_signs, signs_of_tiles, signs_of_lines, IsFlatForm, IsFlatTile, AreFlatTiles, HasNoBreak, AreFlatLines}
 use Rattle.wt_beside_laws.proofs.Firm.{kept_reads}
 use Rattle.wt_beside_laws.proofs.FlatAgain.{no_break}
-use Rattle.wt_beside_laws.proofs.Marks.InLine.{InLine, comment_in, remarks_items, remarked_in}
-use Rattle.wt_beside_laws.proofs.Marks.Shown.{comment_node, kept_node, remarked_node}
+use Rattle.wt_beside_laws.proofs.Marks.InLine.{InLine, comment_in}
+use Rattle.wt_beside_laws.proofs.Marks.Shown.{comment_node, kept_node, read_node}
 use Rattle.wt_beside_laws.proofs.NodeItems.{are_from}
 
 -- ---- a source by itself
@@ -51,12 +51,9 @@ comment_from false q h =
     let line : InLine ((60 ∷ q) ++ []) (own ++ []) = comment_in q h [] [] (reads_after false [] [] reads_nothing) in
     ap (items_from false 0) (sym (append-nil (60 ∷ q))) ∙ first_from false ((60 ∷ q) ++ []) ∙ line.items ∙ sym (comment_node q h)
 
-remarked_from : (a : Bool) (source : List ℕ) → IsRemarked source → items_from a 0 source ≡ node_items source
-remarked_from true source r = sym (are_from source)
-remarked_from false source r =
-    let own : List Item = page_items r.front ++ remarks_items r.remarks in
-    let line : InLine (source ++ []) (own ++ []) = remarked_in source r [] [] (reads_after false [] [] reads_nothing) in
-    ap (items_from false 0) (sym (append-nil source)) ∙ first_from false (source ++ []) ∙ line.items ∙ append-nil own ∙ sym (remarked_node source r)
+read_from : (a : Bool) (source : List ℕ) → IsReadInLine source → items_from a 0 source ≡ node_items source
+read_from true source r = sym (are_from source)
+read_from false source r = sym (page_from source) ∙ sym (read_node source r)
 
 -- wherever it is read as these items, a line of comments where a line begins
 held_from : (a : Bool) (source : List ℕ) (xs : List Item) → IsHeld source → (IsCommentLine source → node_items source ≡ xs) → items_from a 0 source ≡ xs
@@ -65,7 +62,7 @@ held_from a source xs (inl kept) led e = kept_node source kept.0 ∙ sym (kept_f
 held_from a source xs (inr (inl comment)) led e =
     ap node_items comment.is ∙ sym (comment_from a comment.others comment.comment) ∙ ap (items_from a 0) (sym comment.is) ∙ e
 held_from a source xs (inr (inr (inl line))) led e = led line
-held_from a source xs (inr (inr (inr r))) led e = sym (remarked_from a source r) ∙ e
+held_from a source xs (inr (inr (inr r))) led e = sym (read_from a source r) ∙ e
 
 -- ---- in the page
 
@@ -150,7 +147,7 @@ lines_flat q before (l ∷ m ∷ ls) xs at a e h kept =
 
 -- ---- a content
 
-heading_break : (xs : List Item) → NoBreaks xs → HasNoBreak xs
+pub heading_break : (xs : List Item) → NoBreaks xs → HasNoBreak xs
 heading_break [] h = tt
 heading_break (char o b ∷ xs) h = (h.0, heading_break xs h.1)
 heading_break (whole f o bs ∷ xs) h = (tt, heading_break xs h.1)

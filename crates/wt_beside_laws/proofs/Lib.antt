@@ -66,3 +66,4 @@ pub mod Made
 pub mod Marks
 pub mod Styled
 pub mod Derived
+pub mod Own

@@ -363,7 +363,7 @@ form_here k a began at w xs i flat f e some p n =
       stays = subst (λ us. IsNode (tile_role k began ys) (map glyph_of us)) f.alone n.0;
     })
 
-tile_told : (k : TileKind) (a began : Bool) (at : ℕ) (w : Shape) (xs : List Item) → w.kind ≡ k → IsFlatTile k (take (size w) xs) → StandsBy k in_line a w (map glyph_of xs)
+pub tile_told : (k : TileKind) (a began : Bool) (at : ℕ) (w : Shape) (xs : List Item) → w.kind ≡ k → IsFlatTile k (take (size w) xs) → StandsBy k in_line a w (map glyph_of xs)
     → 0 < size w → IsPlaced in_line (w, take (size w) xs) → AreNodes (tile_signs k began at (take (size w) xs))
     → Told at (tile_parts_of (tile_tree context_parts in_line k w (take (size w) xs)) (take (size w) xs)) (things (tile_signs k began at (take (size w) xs)))
     (length (sources (take (size w) xs)))

@@ -7,3 +7,4 @@ mod LinkCases
 pub mod Shown
 pub mod Tiles
 pub mod Within
+pub mod LedItems

@@ -28,6 +28,10 @@ pub mod OldStyled
 pub mod StyledTexts
 pub mod OwnStyled
 pub mod StyleKinds
+pub mod StyleStarts
+pub mod OwnLed
+pub mod LedLines
+pub mod OwnFirst
 pub mod OwnNests
 pub mod SentNests
 pub mod UrlEnds

@@ -1,23 +1,14 @@
 -- Nodes that stay and bring no calls.
-use Rattle.std.specs.Prelude.{◌≡◌, ℕ, ◌==◌, ◌||◌, Bool, false, List, [], ◌∷◌}
+use Rattle.std.specs.Prelude.{ℕ, List, [], ◌∷◌}
 use Rattle.std.specs.Str.{IsUtf8}
-use Rattle.wt_span.specs.Characters as byte
-use Rattle.wt_span.specs.Items.{Item, char, whole}
 use Rattle.wt_guards.specs.Content.{ContentSign, letter, thing}
+use Rattle.wt_text_edit_laws.specs.NoCalls.{AreUnpaired}
 use Rattle.wt_beside_laws.specs.NodeItems.{node_items}
 
-abbrev pub is_brace : ℕ → Bool
-is_brace b = b == byte.opening_brace || b == byte.closing_brace
-
--- no character is a brace; what is in a lexeme doesn't count
-abbrev pub HaveNoBraces : List Item → Type 0
-HaveNoBraces [] = Unit {0}
-HaveNoBraces (char o b ∷ xs) = (is_brace b ≡ false) × HaveNoBraces xs
-HaveNoBraces (whole f o bs ∷ xs) = HaveNoBraces xs
-
+-- no two braces are side by side in it; what is in a lexeme doesn't count
 pub record IsCalm (source : List ℕ) : Type 0 where
   pub utf8 : IsUtf8 source
-  pub unbraced : HaveNoBraces (node_items source)
+  pub unpaired : AreUnpaired (node_items source)
 
 -- so each node's source
 abbrev pub AreCalm : List ContentSign → Type 0

@@ -3,6 +3,8 @@ use Rattle.std.specs.Prelude.{◌≡◌, ◌⊎◌, ℕ, suc, false, Some, List,
 use Rattle.wt_span.specs.Bytes.{is_blank, is_break}
 use Rattle.wt_span.specs.Characters as byte
 use Rattle.wt_span.specs.Comments.{comment_len, comment_line_len}
+use Rattle.wt_span.specs.declared.form.ItemForm.{ItemForm}
+use Rattle.wt_span.specs.declared.form.ItemForm.TheVariants as form
 use Rattle.wt_span.specs.Items.{Item, char, whole}
 use Rattle.wt_expand.specs.PageItems.{page_items}
 use Rattle.wt_guards.specs.declared.role.Role.{Role}
@@ -34,34 +36,40 @@ pub record IsCommentLine (source : List ℕ) : Type 0 where
   pub closed : source ≡ before ++ (byte.greater_than ∷ behind)
   pub untagged : HasNoTag behind
 
--- comments, each with what is behind it in a node
-abbrev pub remarks_source : List (List ℕ × List ℕ) → List ℕ
-remarks_source [] = []
-remarks_source ((q, behind) ∷ rs) = (byte.less_than ∷ q) ++ (behind ++ remarks_source rs)
+-- each lexeme among these that is one item ends with its `>` or `;`
+abbrev pub LexemesEnd : List Item → Type 0
+LexemesEnd [] = Unit {0}
+LexemesEnd (char o b ∷ xs) = LexemesEnd xs
+LexemesEnd (whole f o bs ∷ xs) = EndsBy is_lexeme_end bs × LexemesEnd xs
 
-abbrev pub AreRemarks : List (List ℕ × List ℕ) → Type 0
-AreRemarks [] = Unit {0}
-AreRemarks ((q, behind) ∷ rs) = IsComment q × IsKept behind × HasNoBreak (page_items behind) × AreRemarks rs
+abbrev pub IsNoComment : ItemForm → Type 0
+IsNoComment form.Chars = Unit {0}
+IsNoComment (form.Entity c) = Unit {0}
+IsNoComment form.Nowiki = Unit {0}
+IsNoComment form.Extension = Unit {0}
+IsNoComment form.Function = Unit {0}
+IsNoComment form.Comment = ⊥
+IsNoComment form.Include = Unit {0}
+IsNoComment form.Hidden = Unit {0}
+IsNoComment form.EmptyCall = Unit {0}
 
--- no line could begin with them as with a blank
+-- no line could begin with them as with a blank or a comment
 abbrev pub BeginsShown : List Item → Type 0
 BeginsShown [] = ⊥
 BeginsShown (char o b ∷ xs) = (is_blank b ≡ false) × (is_break b ≡ false)
-BeginsShown (whole f o bs ∷ xs) = Unit {0}
+BeginsShown (whole f o bs ∷ xs) = IsNoComment f
 
--- A node on one line with comments in it, behind something of it.
-pub record IsRemarked (source : List ℕ) : Type 0 where
-  pub front : List ℕ
-  pub remarks : List (List ℕ × List ℕ)
-  pub is : source ≡ front ++ remarks_source remarks
-  pub kept : IsKept front
-  pub unbroken : HasNoBreak (page_items front)
-  pub begins : BeginsShown (page_items front)
-  pub are : AreRemarks remarks
+-- A node on one line that begins with no comment, though comments may be in it: whatever is read behind it, it is read as it is by itself, and so is
+-- what is behind it.
+pub record IsReadInLine (source : List ℕ) : Type 0 where
+  pub reads : (rest : List ℕ) → page_items (source ++ rest) ≡ page_items source ++ page_items rest
+  pub begins : BeginsShown (page_items source)
+  pub unbroken : HasNoBreak (page_items source)
+  pub ends : LexemesEnd (page_items source)
 
--- another node on one line that stands whatever is written behind it, a comment, a line of comments, or a node with comments in it
+-- another node on one line that stands whatever is written behind it, by its parts, a comment, a line of comments, or such a node
 abbrev pub IsHeld : List ℕ → Type 0
-IsHeld source = (IsKept source × HasNoBreak (page_items source)) ⊎ (IsCommentSource source ⊎ (IsCommentLine source ⊎ IsRemarked source))
+IsHeld source = (IsKept source × HasNoBreak (page_items source)) ⊎ (IsCommentSource source ⊎ (IsCommentLine source ⊎ IsReadInLine source))
 
 -- what a mark's role says of its end is so
 abbrev pub EndsAsSaid : Role → List ℕ → Type 0

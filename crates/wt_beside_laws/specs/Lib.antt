@@ -22,6 +22,7 @@ pub mod Calm
 pub mod FlatPages
 pub mod FlatBlocks
 pub mod HeldLines
+pub mod EndedNodes
 pub mod ContentEdits
 pub mod Nests
 pub mod Styled
@@ -34,3 +35,4 @@ pub mod NewStyles
 pub mod StyledIn
 pub mod Called
 pub mod Given
+pub mod OwnLed

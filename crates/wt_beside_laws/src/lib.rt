@@ -85,12 +85,16 @@ pub use called::{
 pub use styles::{
     blocks_with_styles_have_their_nodes, contents_sent_with_styles_are_such,
     contents_with_styles_are_such_again, contents_with_styles_may_take_their_place,
-    lines_with_styles_have_even_toggles, nodes_of_the_page_stay_in_styles,
-    styled_contents_are_made, styles_that_nest_are_read, texts_in_styles_are_one_paragraph,
-    texts_in_styles_are_shown, texts_in_styles_may_be_in_headings,
-    texts_in_styles_stand_between_lines, texts_sent_in_styles_are_such,
+    lines_of_comments_begin_lines, lines_with_styles_have_even_toggles,
+    nodes_of_the_page_stay_in_styles, styled_contents_are_made, styles_that_nest_are_read,
+    texts_in_styles_are_one_paragraph, texts_in_styles_are_shown,
+    texts_in_styles_may_be_in_headings, texts_in_styles_stand_between_lines,
+    texts_sent_in_styles_are_such,
 };
-pub use untangled::{untangled_blocks_are_contents, untangled_paragraphs_of_the_body_are_contents};
+pub use untangled::{
+    contents_read_by_themselves_take_styles, untangled_blocks_are_contents,
+    untangled_paragraphs_of_the_body_are_contents,
+};
 
 /// A content of text that is typed and of nodes that stay, as it is spelled, makes no lexeme over the border of a text and
 /// a node: its items are those of each node by itself, the characters and references of the text, and the nowikis that
@@ -313,7 +317,7 @@ pub fn what_is_sent_is_what_is_shown()
 {}
 
 /// Such a content is UTF-8, and as a page it calls nothing, whatever the folder has: nothing is expanded in it, and nothing refuses
-/// it. Asked is that the source of each node is UTF-8 and has no brace outside of its lexemes (`AreCalm`).
+/// it. Asked is that the source of each node is UTF-8, and that no two braces are side by side in it, outside of its lexemes (`AreCalm`).
 #[tactic(auto, using(crate::proofs::CalmContents::content_utf8, crate::proofs::CalmContents::content_expanded, crate::proofs::CalmContents::content_unrefused))]
 pub fn texts_beside_nodes_call_nothing()
     ensures utf8 { (s : Setting) (signs : List ContentSign) → AreCharacters signs → AreCalm signs → IsUtf8 (spelled s signs) }

@@ -1,6 +1,6 @@
 //! Laws of texts that are typed beside and inside of bold and italic: how such a content is read.
 
-ghost use Rattle.std.specs.Prelude.{◌≡◌, ℕ, ◌<◌, Bool, true, false, List, [], ◌∷◌, ◌++◌, length};
+ghost use Rattle.std.specs.Prelude.{◌≡◌, ℕ, ◌+◌, ◌<◌, Bool, true, false, List, [], ◌∷◌, ◌++◌, length};
 ghost use Rattle.wt_span.specs.Items.{Item};
 ghost use Rattle.wt_tree.specs.declared.edit_shape.Place.{Place as Where};
 ghost use Rattle.wt_tree.specs.Plain.{Plains, plains_before};
@@ -27,7 +27,7 @@ ghost use Rattle.wt_text_edit_laws.specs.Contents.{IsContent, IsNewContent};
 ghost use Rattle.wt_text_edit_laws.specs.NoCalls.{CallsNothing};
 ghost use Rattle.wt_text_edit_laws.specs.ParagraphBetween.{AreClosed, before_marks, EndsApart, EndsParagraph, blocks_in, body_with};
 ghost use Rattle.wt_text_edit_laws.specs.ParagraphParts.{para_with};
-ghost use Rattle.wt_text_edit_laws.specs.TextBlocks.{TextBlock, block_items, block_tree};
+ghost use Rattle.wt_text_edit_laws.specs.TextBlocks.{TextBlock, a_paragraph, block_items, block_tree};
 ghost use Rattle.wt_text_edit_laws.specs.TypedHeadings.{Sides, AreSides, heading_line, IsOfLevel, IsHeadingInside, EndsLine};
 ghost use Rattle.wt_beside_laws.specs.Calm.{AreCalm};
 ghost use Rattle.wt_beside_laws.specs.Content.{AreKept};
@@ -39,6 +39,7 @@ ghost use Rattle.wt_beside_laws.specs.Led.{AreMarksLed};
 ghost use Rattle.wt_beside_laws.specs.Lines.{AreCharacters, line_items, content_lines};
 ghost use Rattle.wt_beside_laws.specs.Nests.{Nest, nest_segments, nest_parts, IsNest};
 ghost use Rattle.wt_beside_laws.specs.Nodes.{AreNodes, AllMeet};
+ghost use Rattle.wt_beside_laws.specs.OwnLed.{AreOwnLed, begin_marked};
 ghost use Rattle.wt_beside_laws.specs.PageBlocks.{AreShut, IsBlockOfLines};
 ghost use Rattle.wt_beside_laws.specs.PageSigns.{signs_of_lines, AreFlatLines};
 ghost use Rattle.wt_beside_laws.specs.SentStyled.{sent_content, AreStyledSent, HasNoDelimiter, AllNest, AllShow};
@@ -187,4 +188,13 @@ pub fn styled_contents_are_made()
         → block ≡ standing n before (block_tree k q) → IsStyledEditOf k block ps → MakesContent k q block m ps }
     ensures again { (k : TextBlock) (q : List ℕ) (n : ℕ) (before : List Item) (block : Tree) (m : Label) (ps : Pieces) → IsStyledIn k q → 0 < n
         → block ≡ standing n before (block_tree k q) → IsStyledEditOf k block ps → IsStyledIn k (new_content k block m ps) }
+{}
+
+/// In such a paragraph or heading of the page a line of comments stands only where a line begins (`AreOwnLed`): behind a line break, behind
+/// another such line, or at its start, and in no bold or italic node. And a paragraph begins with no mark.
+pub fn lines_of_comments_begin_lines()
+    ensures led { (k : TextBlock) (q : List ℕ) (n : ℕ) (before : List Item) (block : Tree) → IsStyledIn k q → 0 < n
+        → block ≡ standing n before (block_tree k q) → AreOwnLed block (0 + length (label block).opening) true (children_of block) }
+    ensures unmarked { (q : List ℕ) (n : ℕ) (before : List Item) (block : Tree) → IsStyledIn a_paragraph q → 0 < n
+        → block ≡ standing n before (block_tree a_paragraph q) → begin_marked (children_of block) ≡ false }
 {}

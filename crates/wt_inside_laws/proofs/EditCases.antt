@@ -35,6 +35,7 @@ signs_typed = record {
   closed = refl;
   in_order = refl;
   untouched = tt;
+  styled = tt;
   texts = (
     inr (record {
       breaks = refl;
@@ -62,6 +63,7 @@ typed_in_style = record {
   closed = refl;
   in_order = refl;
   untouched = (record { kept = _; found = refl; unchanged = refl; inside = refl }, tt);
+  styled = (record { kept = _; found = refl; alike = refl }, tt);
   texts = (
     inl refl,
     (

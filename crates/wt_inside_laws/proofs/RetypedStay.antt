@@ -22,7 +22,7 @@ number_in (bold n) = n
 number_in (italic n) = n
 number_in end = 0
 
-same_number : (x y : Border) (xs ys : List Border) → x ∷ xs ≡ y ∷ ys → number_in x ≡ number_in y
+pub same_number : (x y : Border) (xs ys : List Border) → x ∷ xs ≡ y ∷ ys → number_in x ≡ number_in y
 same_number x y xs ys e = ap (λ bs. number_in (head_of bs)) e
 
 -- ---- up to the first node

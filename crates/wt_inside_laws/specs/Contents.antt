@@ -58,6 +58,27 @@ abbrev mutual
   elements none = []
   elements (more t ts) = elements_of t ++ elements ts
 
+abbrev pub styles_by : InlineForm → Tree → List Tree → List Tree
+styles_by inline.Nothing t inside = []
+styles_by inline.Characters t inside = []
+styles_by inline.Bold t inside = t ∷ inside
+styles_by inline.Italic t inside = t ∷ inside
+styles_by inline.Shown t inside = []
+styles_by inline.PageLink t inside = []
+styles_by inline.ExternalLink t inside = []
+styles_by inline.Tag t inside = []
+styles_by inline.Break t inside = []
+styles_by inline.AsItStood t inside = []
+
+-- bold and italic, with those in them
+abbrev mutual
+  pub styles_of : Tree → List Tree
+  styles_of (tree l ts) = styles_by (edit_shape l.kind).inline (tree l ts) (styles ts)
+
+  pub styles : Trees → List Tree
+  styles none = []
+  styles (more t ts) = styles_of t ++ styles ts
+
 -- ---- the texts
 
 -- characters before the first of texts

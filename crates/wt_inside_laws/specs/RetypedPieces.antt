@@ -1,15 +1,19 @@
 -- The content of a retyped block in pieces: its elements stay, its texts go, and other texts come.
-use Rattle.std.specs.Prelude.{◌≡◌, ◌≢◌, List, [], ◌∷◌, ◌++◌}
+use Rattle.std.specs.Prelude.{◌≡◌, ◌≢◌, false, List, [], ◌∷◌, ◌++◌}
 use Rattle.std.specs.List.{AllByRecursion}
+use Rattle.std.specs.Str.{IsUtf8}
 use Rattle.wt_tree.specs.declared.kind.Kind.TheVariants as kind
 use Rattle.wt_tree.specs.declared.kind.Mark.TheVariants as marks
 use Rattle.wt_tree.specs.Tree.{Label, Tree, tree, Trees, none, more, label}
 use Rattle.wt_tree.specs.declared.edit_shape.InlineForm.{InlineForm}
 use Rattle.wt_tree.specs.declared.edit_shape.InlineForm.TheVariants as inline
 use Rattle.wt_tree.specs.EditShapes.{edit_shape}
+use Rattle.wt_checks.specs.WithoutMarks.{mark_off, unmarked}
 use Rattle.wt_link_spelling.specs.Spelling.{children_of}
 use Rattle.wt_typed_blocks.specs.Sent.{IsSentAsIs, StandsAsIs}
-use Rattle.wt_typed_blocks.specs.Edited.{IsStyle, Pieces, no_pieces, gone, written, kept, around, page_pieces, sent_pieces}
+use Rattle.wt_text_edit_laws.specs.TextBlocks.{TextBlock, a_paragraph, a_heading}
+use Rattle.wt_beside_laws.specs.OwnLed.{begin_marked}
+use Rattle.wt_typed_blocks.specs.Edited.{IsStyle, Pieces, no_pieces, gone, written, kept, around, new_style, page_pieces, sent_pieces}
 
 -- ---- the pieces
 
@@ -53,6 +57,15 @@ abbrev mutual
   pieces_of none us = up_to_node us (λ u vs. no_pieces)
   pieces_of (more t ts) us = piece_of t (λ vs. pieces_of ts vs) us
 
+-- The same with the page's own nodes in the place of those that were sent, without marks.
+abbrev pub as_own : Pieces → Pieces
+as_own no_pieces = no_pieces
+as_own (gone t ps) = gone t (as_own ps)
+as_own (written x text ps) = written x text (as_own ps)
+as_own (kept t u ps) = kept t (unmarked t) (as_own ps)
+as_own (around l m is ps) = around l (mark_off l) (as_own is) (as_own ps)
+as_own (new_style m is ps) = new_style m (as_own is) (as_own ps)
+
 -- ---- what is sent
 
 -- a text as it is read: some characters, and nothing else
@@ -83,6 +96,27 @@ abbrev mutual
   pub AreRead : Trees → Type 0
   AreRead none = Unit {0}
   AreRead (more t ts) = IsRead t × AreRead ts
+
+abbrev pub Utf8By : InlineForm → Label → Type 0 → Type 0
+Utf8By inline.Nothing l inside = Unit {0}
+Utf8By inline.Characters l inside = IsUtf8 l.shown
+Utf8By inline.Bold l inside = inside
+Utf8By inline.Italic l inside = inside
+Utf8By inline.Shown l inside = Unit {0}
+Utf8By inline.PageLink l inside = Unit {0}
+Utf8By inline.ExternalLink l inside = Unit {0}
+Utf8By inline.Tag l inside = Unit {0}
+Utf8By inline.Break l inside = Unit {0}
+Utf8By inline.AsItStood l inside = Unit {0}
+
+-- each text is UTF-8, in bold and italic, too
+abbrev mutual
+  pub HasUtf8 : Tree → Type 0
+  HasUtf8 (tree l ts) = Utf8By (edit_shape l.kind).inline l (AreUtf8 ts)
+
+  pub AreUtf8 : Trees → Type 0
+  AreUtf8 none = Unit {0}
+  AreUtf8 (more t ts) = HasUtf8 t × AreUtf8 ts
 
 -- these pieces are this content of the page, and this is sent for it
 pub record ArePiecesOf (old new : Trees) (ps : Pieces) : Type 0 where
@@ -132,3 +166,8 @@ StaysWith t u = (label u).id ≡ (label t).id → IsAsItWas (edit_shape (label t
 -- each node of the content is sent as it is
 abbrev pub NodesStay : Trees → Trees → Type 0
 NodesStay old new = AllByRecursion (λ t. AllByRecursion (λ u. StaysWith t u) (nodes new)) (nodes old)
+
+-- no mark is first in a heading
+abbrev pub BeginsUnmarked : TextBlock → Tree → Type 0
+BeginsUnmarked a_paragraph t = Unit {0}
+BeginsUnmarked (a_heading s) t = begin_marked (children_of t) ≡ false

@@ -11,6 +11,7 @@ use Rattle.wt_span.specs.Characters as byte
 use Rattle.wt_names.specs.Good.{holds}
 use Rattle.wt_tree.specs.declared.kind.Ranges.{Ranges}
 use Rattle.wt_tree.specs.Tree.{Tree, label}
+use Rattle.wt_tree.specs.Plain.{face}
 use Rattle.wt_tree.specs.Tiling.{is_group, numbers}
 use Rattle.wt_guards.specs.declared.role.Role.{Role}
 use Rattle.wt_guards.specs.declared.role.Role.TheVariants as role
@@ -27,7 +28,7 @@ use Rattle.wt_slices.specs.Changes.{Pair, marked, AllStay}
 use Rattle.wt_slices.specs.BodySlices.{slices}
 use Rattle.wt_selser.specs.Edits.{is_tangled, most_bytes}
 use Rattle.wt_splice.specs.Splice.{spliced}
-use Rattle.wt_inside_laws.specs.Contents.{Border, element, bold, italic, end, borders, elements, Slot, slots}
+use Rattle.wt_inside_laws.specs.Contents.{Border, element, bold, italic, end, borders, elements, styles, Slot, slots}
 
 -- ---- a text
 
@@ -104,6 +105,12 @@ pub record IsUntouched (page : Page) (t : Tree) : Type 0 where
   pub unchanged : is_unchanged page kept t ≡ true
   pub inside : numbers t ≡ numbers kept.node
 
+-- the page's bold or italic node with its number: with its attributes and data, whatever is in it
+pub record IsSameStyle (ks : List Kept) (t : Tree) : Type 0 where
+  pub kept : Kept
+  pub found : kept_with (label t).id ks ≡ Some kept
+  pub alike : face (label t) ≡ face (label kept.node)
+
 -- a comment without `-->`, and a part that pages don't show without its closing tag
 abbrev pub is_tag_unclosed : Option Tag → List ℕ → Bool
 is_tag_unclosed None bs = false
@@ -139,13 +146,14 @@ abbrev pub holds_unclosed : List Item → List ℕ → Option Ranges → Bool
 holds_unclosed items page r = is_unclosed_item (last_of items) && reaches (length page) r
 
 -- A paragraph or heading of the page that isn't tangled and holds no unclosed mark, and what it was edited to: its elements are
--- untouched and in their order, and each text between them is the page's or was typed.
+-- untouched and in their order, bold and italic are the page's but for what is in them, and each text between them is the page's or was typed.
 pub record IsRetyped (same : Tree → Tree → Bool) (items : Expanded) (page : List ℕ) (p : Pair) : Type 0 where
   pub block : takes_text (edit_shape (label p.old).kind).form ≡ true
   pub untangled : is_tangled items page p.old ≡ false
   pub closed : holds_unclosed items.items page (label p.old).ranges ≡ false
   pub in_order : borders (children_of p.new) ≡ borders (children_of p.old)
   pub untouched : AllByRecursion (IsUntouched (page_of same p.old)) (elements (children_of p.new))
+  pub styled : AllByRecursion (IsSameStyle (kept_nodes p.old)) (styles (children_of p.new))
   pub texts : AllByRecursion (IsRetypedText (kept_nodes p.old)) (zip (slots (children_of p.old)) (slots (children_of p.new)))
   pub one_line : IsOneLine (edit_shape (label p.old).kind).form (slots (children_of p.new))
 

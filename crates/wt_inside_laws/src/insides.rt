@@ -3,14 +3,19 @@
 ghost use Rattle.std.specs.Prelude.{◌≡◌, ℕ, suc, Bool, List, length};
 ghost use Rattle.wt_span.specs.Origins.{Expanded};
 ghost use Rattle.wt_tree.specs.Source.{flat, flat_of_all};
+ghost use Rattle.wt_tree.specs.Tiling.{NoneIsGroup};
 ghost use Rattle.wt_tree.specs.Tree.{Tree, Trees};
+ghost use Rattle.wt_visible.specs.SameNodes.{same_node};
 ghost use Rattle.wt_typed_blocks.specs.Edited.{PiecesStay};
 ghost use Rattle.wt_link_spelling.specs.Spelling.{children_of};
 ghost use Rattle.wt_slices.specs.Changes.{Pair};
+ghost use Rattle.wt_text_edit_laws.specs.TextBlocks.{TextBlock, block_tree};
+ghost use Rattle.wt_beside_laws.specs.StyledIn.{IsStyledIn, IsStyledEditOf};
+ghost use Rattle.wt_called_edit_laws.specs.EditsAt.{IsStanding};
 ghost use Rattle.wt_inside_laws.specs.Contents.{borders, texts};
 ghost use Rattle.wt_inside_laws.specs.Once.{HasOnce};
 ghost use Rattle.wt_inside_laws.specs.Replaced.{Edit, with_inside};
-ghost use Rattle.wt_inside_laws.specs.RetypedPieces.{pieces_of, AreRead, ArePiecesOf, NodesStay};
+ghost use Rattle.wt_inside_laws.specs.RetypedPieces.{pieces_of, as_own, AreRead, AreUtf8, ArePiecesOf, NodesStay, BeginsUnmarked};
 ghost use Rattle.wt_inside_laws.specs.Swaps.{Swap};
 ghost use Rattle.wt_inside_laws.specs.TextEdits.{IsRetyped};
 
@@ -42,4 +47,21 @@ pub fn retyped_blocks_are_pieces()
 #[tactic(auto)]
 pub fn retyped_nodes_stay()
     ensures { (ts us : Trees) → borders us ≡ borders ts → NodesStay ts us → PiecesStay (pieces_of ts us) }
+{}
+
+/// These pieces with the page's own nodes in the place of those that were sent (`as_own`) stay, where no group is in the content.
+#[tactic(auto)]
+pub fn own_pieces_are_sent_as_they_are()
+    ensures { (ts us : Trees) → NoneIsGroup ts → borders us ≡ borders ts → PiecesStay (as_own (pieces_of ts us)) }
+{}
+
+/// So a retyped paragraph or heading of the page, whose content may be edited (`IsStyledIn`), is edited by what was sent for it, with the
+/// page's own nodes: its nodes and styles stay in their order, its texts go and others come, in a heading on one line, none in a style has a
+/// line break, and a line begins before each line of comments. Asked is that what was sent is as it is read, and of a heading that it
+/// begins with no mark.
+#[tactic(auto)]
+pub fn retyped_blocks_are_edited()
+    ensures { (k : TextBlock) (q : List ℕ) (items : Expanded) (page : List ℕ) (p : Pair) → IsRetyped same_node items page p
+        → AreRead (children_of p.new) → AreUtf8 (children_of p.new) → IsStanding (block_tree k q) p.old → IsStyledIn k q → BeginsUnmarked k p.old
+        → IsStyledEditOf k p.old (as_own (pieces_of (children_of p.old) (children_of p.new))) }
 {}

@@ -2,12 +2,17 @@
 //! the old one with the insides of their blocks replaced.
 #![tactic(auto)]
 
+mod as_sent;
 mod edges;
 mod insides;
 mod replaced;
 
+pub use as_sent::{edits_are_as_sent, text_edits_are_sent_on_the_page};
 pub use edges::blocks_meet_plainly;
-pub use insides::{only_the_inside_changes, texts_stand_between_borders};
+pub use insides::{
+    only_the_inside_changes, own_pieces_are_sent_as_they_are, retyped_blocks_are_edited,
+    texts_stand_between_borders,
+};
 pub use replaced::{
     only_that_text_is_another, only_these_texts_are_others, only_these_texts_are_others_anywhere,
 };

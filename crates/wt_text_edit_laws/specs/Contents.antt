@@ -22,7 +22,7 @@ use Rattle.wt_selser.specs.GroupFaults.{has_faulty_group}
 use Rattle.wt_part_laws.specs.Placeless.{placeless}
 use Rattle.wt_part_laws.specs.Standing.{standing}
 use Rattle.wt_part_laws.specs.Rounded.{AllHaveItems}
-use Rattle.wt_text_edit_laws.specs.NoCalls.{AreUnbraced}
+use Rattle.wt_text_edit_laws.specs.NoCalls.{AreUnpaired}
 use Rattle.wt_text_edit_laws.specs.ParagraphParts.{joined_parts}
 use Rattle.wt_text_edit_laws.specs.Paragraphs.{IsTextLine}
 use Rattle.wt_text_edit_laws.specs.ReadContents.{IsFirmlyRead}
@@ -76,14 +76,14 @@ abbrev pub StaysAnywhere : TextBlock → List ℕ → Type 0
 StaysAnywhere a_paragraph q = (n : ℕ) → All (λ l. line_kind n l ≡ line.Text) (lines (page_items q))
 StaysAnywhere (a_heading s) q = Unit {0}
 
--- It is read the same whatever stands behind it, nothing begins in it that goes on there, and it has no brace outside of its lexemes. So is a
--- text that was typed and spelled.
+-- It is read the same whatever stands behind it, nothing begins in it that goes on there, and no two braces are side by side in it, outside of its
+-- lexemes. So is a text that was typed and spelled.
 pub record IsFirmContent (k : TextBlock) (q : List ℕ) : Type 0 where
   pub content : IsContent k q
   pub firm : (rest : List ℕ) → StandsBehind rest → page_items (q ++ rest) ≡ page_items q ++ page_items rest
   pub uncommented : (rest : List ℕ) → StandsBehind rest → StandsBehind (q ++ rest)
   pub stays : StaysAnywhere k q
-  pub unbraced : AreUnbraced (page_items q)
+  pub unpaired : AreUnpaired (page_items q)
 
 -- In the place of an old content: it closes no tag that this didn't close.
 pub record IsNewContent (k : TextBlock) (was now : List ℕ) : Type 0 where

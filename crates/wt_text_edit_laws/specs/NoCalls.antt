@@ -28,6 +28,10 @@ NonePairs (closing ∷ bs) = NonePairs bs
 abbrev pub CallsNothing : List Item → Type 0
 CallsNothing xs = NonePairs (braces (map sign xs))
 
+-- no two braces are side by side
+abbrev pub AreUnpaired : List Item → Type 0
+AreUnpaired xs = braces (map sign xs) ≡ []
+
 -- ---- no brace at all
 
 abbrev pub is_brace : ℕ → Bool

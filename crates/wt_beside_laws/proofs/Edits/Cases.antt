@@ -26,11 +26,11 @@ use Rattle.wt_quotes.specs.Styles.{style_tree_of}
 use Rattle.wt_quotes.specs.Toggles.{toggle_at, toggles_of}
 use Rattle.wt_page.specs.Body.{meaning}
 use Rattle.wt_text_edit_laws.specs.LonePages.{page_chars}
-use Rattle.wt_text_edit_laws.specs.NoCalls.{CallsNothing}
+use Rattle.wt_text_edit_laws.specs.NoCalls.{CallsNothing, AreUnpaired}
 use Rattle.wt_text_edit_laws.specs.Parts.{HasNoGroups}
 use Rattle.wt_text_edit_laws.specs.ParagraphBetween.{body_with}
 use Rattle.wt_text_edit_laws.proofs.Between.NoCalls.{calm_expanded, calm_unrefused}
-use Rattle.wt_beside_laws.specs.Calm.{IsCalm, AreCalm, HaveNoBraces}
+use Rattle.wt_beside_laws.specs.Calm.{IsCalm, AreCalm}
 use Rattle.wt_beside_laws.specs.Content.{AreKept}
 use Rattle.wt_beside_laws.specs.Kept.{characters, sign, IsKept}
 use Rattle.wt_beside_laws.specs.Lines.{IsLineOfText, AreLinesOfText}
@@ -121,7 +121,7 @@ break_held = inl (break_kept, subst HasNoBreak (sym break_alone) (refl, (refl, (
 
 pub break_calm : IsCalm (codes "<br>")
 unfolding encode
-break_calm = record { utf8 = (codes "<br>", (refl, refl)); unbraced = subst HaveNoBraces (sym break_node) (refl, (refl, (refl, (refl, tt)))) }
+break_calm = record { utf8 = (codes "<br>", (refl, refl)); unpaired = subst AreUnpaired (sym break_node) refl }
 
 pub break_flat : AreFlat (codes "x<br>y") (page_chars (codes "x<br>y"))
 unfolding kind_of_signs context_parts with_styles style_tree_of toggles_of toggle_at chunks segments loose_segments tiles shapes closed form_at link_or_url link_at ext_link_at bare_url_at scheme_len tag_tile tag_at opening_tag closing_tag tag_after name_of live_name switch_at chars encode

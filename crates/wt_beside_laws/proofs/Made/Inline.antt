@@ -123,7 +123,7 @@ nodes_are : (xs : List Item) → nodes_in (meaning xs) ≡ body_nodes xs
 unfolding meaning
 nodes_are xs = refl
 
-page_items_of : (page : List ℕ) → IsUtf8 page → CallsNothing (page_items page) → ArePageItems (page_items page)
+pub page_items_of : (page : List ℕ) → IsUtf8 page → CallsNothing (page_items page) → ArePageItems (page_items page)
 page_items_of page u c =
     subst (λ x. ArePageItems x.items) (calm_expanded no_pages page c) (expanded_items no_pages page u (calm_unrefused no_pages page c))
 

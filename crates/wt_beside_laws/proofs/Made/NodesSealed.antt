@@ -46,11 +46,10 @@ use Rattle.wt_beside_laws.proofs.NodesEnd.{EndsWith, external_ends, ClosesAt, in
 use Rattle.wt_beside_laws.proofs.NodesStand.{EachIs, all_by}
 use Rattle.wt_beside_laws.proofs.PairTiles.{HasTag, partner_tag}
 use Rattle.wt_beside_laws.proofs.UrlFronts.{some_shape}
-use Rattle.wt_beside_laws.specs.Commented.{IsCommentLine, AreRemarks, IsHeld}
+use Rattle.wt_beside_laws.specs.Commented.{IsCommentLine, LexemesEnd, IsHeld}
 use Rattle.wt_typed_blocks.proofs.TextReads.{apart}
 use Rattle.wt_text_edit_laws.specs.TextBetween.{HasNoTag}
-use Rattle.wt_beside_laws.proofs.Marks.InLine.{remarks_items}
-use Rattle.wt_beside_laws.proofs.Marks.Shown.{comment_node, line_node, kept_node, remarked_node}
+use Rattle.wt_beside_laws.proofs.Marks.Shown.{comment_node, line_node, kept_node, read_node}
 use Rattle.wt_beside_laws.proofs.NodeItems.{node_sources}
 use Rattle.wt_beside_laws.specs.NodeItems.{node_items}
 
@@ -68,17 +67,17 @@ FormEnds form.Include bs = EndsBy stops bs
 FormEnds form.Hidden bs = EndsBy stops bs
 FormEnds form.EmptyCall bs = EndsBy stops bs
 
-abbrev LexemesEnd : List Item → Type 0
-LexemesEnd [] = Unit {0}
-LexemesEnd (char o b ∷ xs) = LexemesEnd xs
-LexemesEnd (whole f o bs ∷ xs) = FormEnds f bs × LexemesEnd xs
+abbrev FormsEnd : List Item → Type 0
+FormsEnd [] = Unit {0}
+FormsEnd (char o b ∷ xs) = FormsEnd xs
+FormsEnd (whole f o bs ∷ xs) = FormEnds f bs × FormsEnd xs
 
-both_end : (xs ys : List Item) → LexemesEnd xs → LexemesEnd ys → LexemesEnd (xs ++ ys)
+both_end : (xs ys : List Item) → FormsEnd xs → FormsEnd ys → FormsEnd (xs ++ ys)
 both_end [] ys h k = k
 both_end (char o b ∷ xs) ys h k = both_end xs ys h k
 both_end (whole f o bs ∷ xs) ys h k = (h.0, both_end xs ys h.1 k)
 
-chars_end : (bs : List ℕ) → LexemesEnd (page_chars bs)
+chars_end : (bs : List ℕ) → FormsEnd (page_chars bs)
 chars_end [] = tt
 chars_end (b ∷ bs) = chars_end bs
 
@@ -86,15 +85,15 @@ or_true : (a : Bool) {b : Bool} → b ≡ true → (a || b) ≡ true
 or_true true e = refl
 or_true false e = e
 
-raw_word : (o : Option RawTag) (bs : List ℕ) → EndsBy stops bs → LexemesEnd (items_by (raw_form_by o) None bs)
+raw_word : (o : Option RawTag) (bs : List ℕ) → EndsBy stops bs → FormsEnd (items_by (raw_form_by o) None bs)
 raw_word None bs l = (l, tt)
 raw_word (Some t) bs l = by (is_nowiki t.name)
   where
-    by : (v : Bool) → LexemesEnd (items_by (if v then form.Nowiki else form.Extension) None bs)
+    by : (v : Bool) → FormsEnd (items_by (if v then form.Nowiki else form.Extension) None bs)
     by true = (l, tt)
     by false = (l, tt)
 
-word_ends : (kind : LexKind) (bs : List ℕ) → EndsBy stops bs → LexemesEnd (items_of_word kind bs)
+word_ends : (kind : LexKind) (bs : List ℕ) → EndsBy stops bs → FormsEnd (items_of_word kind bs)
 word_ends lex.Chars bs w = chars_end bs
 word_ends lex.CommentLine bs w = (ends_sealed bs w, tt)
 word_ends lex.Comment bs w = (ends_sealed bs w, tt)
@@ -109,7 +108,7 @@ word_ends lex.LinkClose bs w = chars_end bs
 word_ends lex.Pipe bs w = chars_end bs
 word_ends lex.Equals bs w = chars_end bs
 
-lexeme_stops : (bs : List ℕ) → EndsBy is_lexeme_end bs → EndsBy stops bs
+pub lexeme_stops : (bs : List ℕ) → EndsBy is_lexeme_end bs → EndsBy stops bs
 lexeme_stops [] e = tt
 lexeme_stops (b ∷ []) e = stops_at (b == 62) (b == 59) e
   where
@@ -119,19 +118,19 @@ lexeme_stops (b ∷ []) e = stops_at (b == 62) (b == 59) e
     stops_at false false i = cc
 lexeme_stops (b ∷ c ∷ cs) e = lexeme_stops (c ∷ cs) e
 
-part_ends : (p : Part) → IsPart p → LexemesEnd (part_items p)
+part_ends : (p : Part) → IsPart p → FormsEnd (part_items p)
 part_ends (characters bs) h = chars_end bs
 part_ends (sign b q) h = chars_end (b ∷ q)
 part_ends (lexeme kind b q) h = word_ends kind (b ∷ q) (lexeme_stops (b ∷ q) h.ends)
 
-parts_end : (ps : List Part) → AreParts ps → LexemesEnd (parts_items ps)
+parts_end : (ps : List Part) → AreParts ps → FormsEnd (parts_items ps)
 parts_end [] h = tt
 parts_end (p ∷ ps) h = both_end (part_items p) (parts_items ps) (part_ends p h.0) (parts_end ps h.1)
 
-lexemes_end : (q : List ℕ) → IsKept q → LexemesEnd (page_items q)
+lexemes_end : (q : List ℕ) → IsKept q → FormsEnd (page_items q)
 lexemes_end q h =
     let own : ReadsAs q (parts_items h.parts) = subst (λ bs. ReadsAs bs (parts_items h.parts)) h.is (parts_read h.parts h.are) in
-    subst LexemesEnd (sym (alone_as q (parts_items h.parts) own)) (parts_end h.parts h.are)
+    subst FormsEnd (sym (alone_as q (parts_items h.parts) own)) (parts_end h.parts h.are)
 
 untagged_sealed : (bs : List ℕ) → HasNoTag bs → IsSealed bs
 untagged_sealed [] h = none_sealed
@@ -144,31 +143,39 @@ line_sealed q h =
     subst IsSealed (sym is)
     (both_sealed (h.before ++ 62 ∷ []) h.behind (ends_sealed (h.before ++ 62 ∷ []) (last_ends 62 h.before refl)) (untagged_sealed h.behind h.untagged))
 
-remarks_ends : (rs : List (List ℕ × List ℕ)) → AreRemarks rs → LexemesEnd (remarks_items rs)
-remarks_ends [] h = tt
-remarks_ends ((q, behind) ∷ rs) h = (
-  ends_sealed (60 ∷ q) (lexeme_stops (60 ∷ q) h.0.ends),
-  both_end (page_items behind) (remarks_items rs) (lexemes_end behind h.1) (remarks_ends rs h.3),
-)
+item_ends : (f : ItemForm) (bs : List ℕ) → EndsBy is_lexeme_end bs → FormEnds f bs
+item_ends form.Chars bs e = lexeme_stops bs e
+item_ends (form.Entity c) bs e = lexeme_stops bs e
+item_ends form.Nowiki bs e = lexeme_stops bs e
+item_ends form.Extension bs e = lexeme_stops bs e
+item_ends form.Function bs e = lexeme_stops bs e
+item_ends form.Comment bs e = ends_sealed bs (lexeme_stops bs e)
+item_ends form.Include bs e = lexeme_stops bs e
+item_ends form.Hidden bs e = lexeme_stops bs e
+item_ends form.EmptyCall bs e = lexeme_stops bs e
 
-held_ends : (q : List ℕ) → IsHeld q → LexemesEnd (node_items q)
-held_ends q (inl k) = subst LexemesEnd (sym (kept_node q k.0)) (lexemes_end q k.0)
+items_end : (xs : List Item) → LexemesEnd xs → FormsEnd xs
+items_end [] h = tt
+items_end (char o b ∷ xs) h = items_end xs h
+items_end (whole f o bs ∷ xs) h = (item_ends f bs h.0, items_end xs h.1)
+
+held_ends : (q : List ℕ) → IsHeld q → FormsEnd (node_items q)
+held_ends q (inl k) = subst FormsEnd (sym (kept_node q k.0)) (lexemes_end q k.0)
 held_ends q (inr (inl c)) =
-    subst (λ bs. LexemesEnd (node_items bs)) (sym c.is)
-    (subst LexemesEnd (sym (comment_node c.others c.comment)) (ends_sealed (60 ∷ c.others) (lexeme_stops (60 ∷ c.others) c.comment.ends), tt))
-held_ends q (inr (inr (inr r))) =
-    subst LexemesEnd (sym (remarked_node q r)) (both_end (page_items r.front) (remarks_items r.remarks) (lexemes_end r.front r.kept) (remarks_ends r.remarks r.are))
-held_ends q (inr (inr (inl l))) = subst LexemesEnd (sym (line_node q l)) (line_sealed q l, tt)
+    subst (λ bs. FormsEnd (node_items bs)) (sym c.is)
+    (subst FormsEnd (sym (comment_node c.others c.comment)) (ends_sealed (60 ∷ c.others) (lexeme_stops (60 ∷ c.others) c.comment.ends), tt))
+held_ends q (inr (inr (inr r))) = subst FormsEnd (sym (read_node q r)) (items_end (page_items q) r.ends)
+held_ends q (inr (inr (inl l))) = subst FormsEnd (sym (line_node q l)) (line_sealed q l, tt)
 
 -- ---- items without a `<` outside of lexemes
 
-abbrev IsOther : Glyph → Type 0
+abbrev pub IsOther : Glyph → Type 0
 IsOther (glyph.Byte b) = b ≢ 60
 IsOther (glyph.Entity c) = Unit {0}
 IsOther glyph.Atom = Unit {0}
 IsOther glyph.Mark = Unit {0}
 
-abbrev AreOthers : List Glyph → Type 0
+abbrev pub AreOthers : List Glyph → Type 0
 AreOthers [] = Unit {0}
 AreOthers (g ∷ gs) = IsOther g × AreOthers gs
 
@@ -183,29 +190,33 @@ form_sealed form.Include bs l = ends_sealed bs l
 form_sealed form.Hidden bs l = ends_sealed bs l
 form_sealed form.EmptyCall bs l = ends_sealed bs l
 
-others_sealed : (xs : List Item) → LexemesEnd xs → AreOthers (map glyph_of xs) → IsSealed (sources xs)
+others_sealed : (xs : List Item) → FormsEnd xs → AreOthers (map glyph_of xs) → IsSealed (sources xs)
 others_sealed [] l u = none_sealed
 others_sealed (char o b ∷ xs) l u = both_sealed (b ∷ []) (sources xs) (byte_sealed b u.0) (others_sealed xs l u.1)
 others_sealed (whole f o bs ∷ xs) l u = both_sealed bs (sources xs) (form_sealed f bs l.0) (others_sealed xs l.1 u.1)
 
 -- ---- items that end with a sign that stops tags, and letters that join a link
 
-record IsTailed (c : ℕ) (gs : List Glyph) : Type 0 where
-  at : ℕ
-  stop : first_is (class.Only c) (drop at gs) ≡ true
-  trail : run_len class.Trail (drop (suc at) gs) ≡ length (drop (suc at) gs)
+pub record IsTailed (c : ℕ) (gs : List Glyph) : Type 0 where
+  pub at : ℕ
+  pub stop : first_is (class.Only c) (drop at gs) ≡ true
+  pub trail : run_len class.Trail (drop (suc at) gs) ≡ length (drop (suc at) gs)
 
-record IsSplit (c : ℕ) (bs : List ℕ) : Type 0 where
-  before : List ℕ
-  behind : List ℕ
-  is : bs ≡ (before ++ c ∷ []) ++ behind
-  sealed : IsSealed behind
+pub record IsSplit (c : ℕ) (bs : List ℕ) : Type 0 where
+  pub before : List ℕ
+  pub behind : List ℕ
+  pub is : bs ≡ (before ++ c ∷ []) ++ behind
+  pub untagged : HasNoTag behind
 
-small_other : (b : ℕ) → is_small b ≡ true → b ≢ 60
-small_other b e = λ is. let f : is_small 60 ≡ true = subst (λ (k : ℕ). is_small k ≡ true) is e in absurd (cc)
+small_other : (b : ℕ) → is_small b ≡ true → (b == 60) ≡ false
+small_other b e = by (b == 60) refl
+  where
+    by : (v : Bool) → (b == 60) ≡ v → v ≡ false
+    by true i = let f : is_small 60 ≡ true = subst (λ (k : ℕ). is_small k ≡ true) (eqb-true b 60 i) e in absurd (cc)
+    by false i = refl
 
-letter_by : (x : Item) (xs : List Item) → in_class class.Trail (glyph_of x) ≡ true → IsSealed (sources xs) → IsSealed (sources (x ∷ xs))
-letter_by (char o b) xs e h = both_sealed (b ∷ []) (sources xs) (byte_sealed b (small_other b e)) h
+letter_by : (x : Item) (xs : List Item) → in_class class.Trail (glyph_of x) ≡ true → HasNoTag (sources xs) → HasNoTag (sources (x ∷ xs))
+letter_by (char o b) xs e h = (small_other b e, h)
 letter_by (whole form.Chars o bs) xs e h = absurd (cc)
 letter_by (whole (form.Entity c) o bs) xs e h = absurd (cc)
 letter_by (whole form.Nowiki o bs) xs e h = absurd (cc)
@@ -216,12 +227,12 @@ letter_by (whole form.Include o bs) xs e h = absurd (cc)
 letter_by (whole form.Hidden o bs) xs e h = absurd (cc)
 letter_by (whole form.EmptyCall o bs) xs e h = absurd (cc)
 
-letters_sealed : (xs : List Item) → run_len class.Trail (map glyph_of xs) ≡ length (map glyph_of xs) → IsSealed (sources xs)
-letters_sealed [] e = none_sealed
-letters_sealed (x ∷ xs) e = by (in_class class.Trail (glyph_of x)) refl e (λ f. letters_sealed xs f)
+letters_untagged : (xs : List Item) → run_len class.Trail (map glyph_of xs) ≡ length (map glyph_of xs) → HasNoTag (sources xs)
+letters_untagged [] e = tt
+letters_untagged (x ∷ xs) e = by (in_class class.Trail (glyph_of x)) refl e (λ f. letters_untagged xs f)
   where
     by : (t : Bool) → in_class class.Trail (glyph_of x) ≡ t → (if t then 1 + run_len class.Trail (map glyph_of xs) else 0) ≡ suc (length (map glyph_of xs))
-        → (run_len class.Trail (map glyph_of xs) ≡ length (map glyph_of xs) → IsSealed (sources xs)) → IsSealed (sources (x ∷ xs))
+        → (run_len class.Trail (map glyph_of xs) ≡ length (map glyph_of xs) → HasNoTag (sources xs)) → HasNoTag (sources (x ∷ xs))
     by true i f k = letter_by x xs i (k (omega (arith, f)))
     by false i f k = absurd (omega (arith, f))
 
@@ -237,14 +248,14 @@ only_is c (whole form.Include o bs) e = absurd (cc)
 only_is c (whole form.Hidden o bs) e = absurd (cc)
 only_is c (whole form.EmptyCall o bs) e = absurd (cc)
 
-split_at : (c k : ℕ) (xs : List Item) → first_is (class.Only c) (drop k (map glyph_of xs)) ≡ true
+pub split_at : (c k : ℕ) (xs : List Item) → first_is (class.Only c) (drop k (map glyph_of xs)) ≡ true
     → run_len class.Trail (drop (suc k) (map glyph_of xs)) ≡ length (drop (suc k) (map glyph_of xs)) → IsSplit c (sources xs)
 split_at c zero [] e f = absurd (cc)
 split_at c (suc k) [] e f = absurd (cc)
 split_at c zero (x ∷ []) e f =
-    record { before = []; behind = []; is = ap (λ (bs : List ℕ). bs ++ []) (only_is c x e); sealed = none_sealed }
+    record { before = []; behind = []; is = ap (λ (bs : List ℕ). bs ++ []) (only_is c x e); untagged = tt }
 split_at c zero (x ∷ y ∷ xs) e f =
-    record { before = []; behind = sources (y ∷ xs); is = ap (λ (bs : List ℕ). bs ++ sources (y ∷ xs)) (only_is c x e); sealed = letters_sealed (y ∷ xs) f }
+    record { before = []; behind = sources (y ∷ xs); is = ap (λ (bs : List ℕ). bs ++ sources (y ∷ xs)) (only_is c x e); untagged = letters_untagged (y ∷ xs) f }
 split_at c (suc k) (x ∷ xs) e f =
     let more = split_at c k xs e f in
     record {
@@ -252,13 +263,13 @@ split_at c (suc k) (x ∷ xs) e f =
       behind = more.behind;
       is = ap (λ (bs : List ℕ). source x ++ bs) more.is ∙ sym (append_assoc (source x) (more.before ++ c ∷ []) more.behind)
           ∙ ap (λ (bs : List ℕ). bs ++ more.behind) (sym (append_assoc (source x) more.before (c ∷ [])));
-      sealed = more.sealed;
+      untagged = more.untagged;
     }
 
 tailed_sealed : (c : ℕ) (xs : List Item) → stops c ≡ true → IsTailed c (map glyph_of xs) → IsSealed (sources xs)
 tailed_sealed c xs e t =
     let s = split_at c t.at xs t.stop t.trail in
-    subst IsSealed (sym s.is) (both_sealed (s.before ++ c ∷ []) s.behind (ends_sealed (s.before ++ c ∷ []) (last_ends c s.before e)) s.sealed)
+    subst IsSealed (sym s.is) (both_sealed (s.before ++ c ∷ []) s.behind (ends_sealed (s.before ++ c ∷ []) (last_ends c s.before e)) (untagged_sealed s.behind s.untagged))
 
 nothing_left : (k : ℕ) (gs : List Glyph) → k ≡ length gs → run_len class.Trail (drop k gs) ≡ length (drop k gs)
 nothing_left zero [] e = refl
@@ -321,20 +332,20 @@ in_tailed : (gs : List Glyph) (w : Shape) → AimsBy IsPlainKind (target_len gs)
 unfolding link_in
 in_tailed gs w h e full = by_tailed (target_len gs) gs w h e full
 
-link_tailed : (own : List Glyph) → IsLinkNode own → IsTailed 93 own
+pub link_tailed : (own : List Glyph) → IsLinkNode own → IsTailed 93 own
 link_tailed own n =
     let full : size n.shape ≡ 2 + length n.inside = n.whole ∙ ap length n.is ∙ omega arith in
     subst (IsTailed 93) (sym n.is)
     (tailed_drop 93 2 (glyph.Byte 91 ∷ glyph.Byte 91 ∷ n.inside) (in_tailed n.inside n.shape n.plain (inside_of n.inside n.shape n.link) full))
 
-category_tailed : (own : List Glyph) → IsCategoryNode own → IsTailed 93 own
+pub category_tailed : (own : List Glyph) → IsCategoryNode own → IsTailed 93 own
 category_tailed own n =
     let full : size n.shape ≡ 2 + length n.inside = n.whole ∙ ap length n.is ∙ omega arith in
     subst (IsTailed 93) (sym n.is)
     (ends_tailed 93 (glyph.Byte 91 ∷ glyph.Byte 91 ∷ n.inside)
     (other_ends n.inside n.shape (aims_other IsCategoryKind category_other (target_len n.inside) n.inside n.category) n.link full))
 
-media_tailed : (own : List Glyph) → IsMediaNode own → IsTailed 93 own
+pub media_tailed : (own : List Glyph) → IsMediaNode own → IsTailed 93 own
 media_tailed own n =
     let full : size n.shape ≡ 2 + length n.inside = n.whole ∙ ap length n.is ∙ omega arith in
     let aims : AimsBy IsMediaKind (target_len n.inside) n.inside =
@@ -343,7 +354,7 @@ media_tailed own n =
     (ends_tailed 93 (glyph.Byte 91 ∷ glyph.Byte 91 ∷ n.inside)
     (other_ends n.inside n.shape (aims_other IsMediaKind media_other (target_len n.inside) n.inside aims) n.link full))
 
-external_tailed : (own : List Glyph) → IsExternalNode own → IsTailed 93 own
+pub external_tailed : (own : List Glyph) → IsExternalNode own → IsTailed 93 own
 external_tailed own n =
     subst (IsTailed 93) (sym n.is)
     (ends_tailed 93 (glyph.Byte 91 ∷ n.inside) (external_ends (glyph.Byte 91) n.inside n.shape n.link (n.whole ∙ ap length n.is)))
@@ -364,7 +375,7 @@ pair_tailed t own n =
     let last : IsTailed 62 n.last = whole_tag n.last (partner_tag (number n.name) 0 (drop t.len own) n.last n.closing) n.ends in
     tailed_drop 62 t.len own (tailed_drop 62 r.0 (drop t.len own) (subst (IsTailed 62) (sym r.1) last))
 
-tag_tailed : (own : List Glyph) → IsTagNode own → IsTailed 62 own
+pub tag_tailed : (own : List Glyph) → IsTagNode own → IsTailed 62 own
 tag_tailed own n = subst (IsTailed 62) (sym n.is) (elim n.ends [
   | inl lone ↦ ends_tailed 62 (glyph.Byte 60 ∷ n.others) (tag_ends (glyph.Byte 60) n.others n.named n.tagged lone.1)
   | inr pair ↦ pair_tailed n.named (glyph.Byte 60 ∷ n.others) pair
@@ -458,7 +469,7 @@ bare_of : (gs : List Glyph) (w : Shape) → bare_url_at false gs ≡ Some w → 
 unfolding bare_url_at
 bare_of gs w e = e
 
-url_others : (own : List Glyph) → IsBareNode own → AreOthers own
+pub url_others : (own : List Glyph) → IsBareNode own → AreOthers own
 url_others own n =
     subst AreOthers (sym n.is)
     (bare_others (glyph.Byte n.first ∷ n.others) n.shape (bare_of (glyph.Byte n.first ∷ n.others) n.shape n.url) (n.whole ∙ ap length n.is))
@@ -489,30 +500,30 @@ each_switch : EachIs (λ word. less_free word ≡ true) switch_names
 unfolding switch_names less_free
 each_switch = (refl, (refl, (refl, (refl, (refl, (refl, (refl, (refl, (refl, tt)))))))))
 
-switch_others : (own : List Glyph) → IsSwitchNode own → AreOthers own
+pub switch_others : (own : List Glyph) → IsSwitchNode own → AreOthers own
 switch_others own n =
     let word : less_free n.word ≡ true =
     All-contains (λ word. less_free word ≡ true) switch_names n.word (all_by (λ word. less_free word ≡ true) switch_names each_switch) n.named in
     subst AreOthers (sym n.is) (bytes_other (95 ∷ 95 ∷ n.word) (refl, (refl, free_less n.word word)))
 
-delimiter_others : (own : List Glyph) → IsDelimiter own → AreOthers own
+pub delimiter_others : (own : List Glyph) → IsDelimiter own → AreOthers own
 delimiter_others own n = elim n [
   | inl i ↦ subst AreOthers (sym i) (bytes_other (codes "''") (refl, (refl, tt)))
   | inr i ↦ subst AreOthers (sym i) (bytes_other (codes "'''") (refl, (refl, (refl, tt))))
 ]
 
-lexeme_others : (own : List Glyph) → IsOneLexeme own → AreOthers own
+pub lexeme_others : (own : List Glyph) → IsOneLexeme own → AreOthers own
 lexeme_others own n = elim n [
   | inl i ↦ subst AreOthers (sym i) (tt, tt)
   | inr i ↦ subst AreOthers (sym i.1) (tt, tt)
 ]
 
-mark_others : (own : List Glyph) → own ≡ glyph.Mark ∷ [] → AreOthers own
+pub mark_others : (own : List Glyph) → own ≡ glyph.Mark ∷ [] → AreOthers own
 mark_others own i = subst AreOthers (sym i) (tt, tt)
 
 -- ---- all nodes
 
-other_sealed : (xs : List Item) → LexemesEnd xs → (let own = map glyph_of xs in IsOneLexeme own ⊎ (IsTagNode own ⊎ (IsCategoryNode own ⊎ IsMediaNode own)))
+other_sealed : (xs : List Item) → FormsEnd xs → (let own = map glyph_of xs in IsOneLexeme own ⊎ (IsTagNode own ⊎ (IsCategoryNode own ⊎ IsMediaNode own)))
     → IsSealed (sources xs)
 other_sealed xs l n = elim n [
   | inl one ↦ others_sealed xs l (lexeme_others (map glyph_of xs) one)
@@ -525,7 +536,7 @@ other_sealed xs l n = elim n [
   ]
 ]
 
-node_sealed : (r : Role) (xs : List Item) → LexemesEnd xs → IsNode r (map glyph_of xs) → IsSealed (sources xs)
+node_sealed : (r : Role) (xs : List Item) → FormsEnd xs → IsNode r (map glyph_of xs) → IsSealed (sources xs)
 node_sealed Link xs l n = tailed_sealed 93 xs refl (link_tailed (map glyph_of xs) n)
 node_sealed External xs l n = tailed_sealed 93 xs refl (external_tailed (map glyph_of xs) n)
 node_sealed (Bare ends) xs l n = others_sealed xs l (url_others (map glyph_of xs) n)

@@ -69,7 +69,7 @@ if_tag : (k : ℕ) (t : Bool) (o : Option Tag) → (t ≡ true → TagWithin k o
 if_tag k true o f = f refl
 if_tag k false o f = tt
 
-closing_within : (k : ℕ) (bs : List ℕ) → stops (get_or bs k 0) ≡ true → TagWithin k (closing_tag bs)
+pub closing_within : (k : ℕ) (bs : List ℕ) → stops (get_or bs k 0) ≡ true → TagWithin k (closing_tag bs)
 unfolding closing_tag
 closing_within k bs g =
     let n = name_len (drop 2 bs) in

@@ -10,13 +10,12 @@ use Rattle.wt_expand.specs.PageItems.{page_items}
 use Rattle.wt_lines.specs.declared.kind.LineKind.TheVariants as line
 use Rattle.wt_lines.specs.Kinds.{line_kind}
 use Rattle.wt_lines.specs.Lines.{lines, content}
-use Rattle.wt_text_edit_laws.specs.NoCalls.{NonePairs, AreUnbraced, CallsNothing}
+use Rattle.wt_text_edit_laws.specs.NoCalls.{NonePairs, AreUnpaired, CallsNothing}
 use Rattle.wt_text_edit_laws.specs.TextBetween.{StandsBehind}
 use Rattle.wt_text_edit_laws.specs.TextBlocks.{TextBlock, a_paragraph, a_heading, source_of, block_items}
 use Rattle.wt_text_edit_laws.proofs.Between.Fronts.{behind_reads}
-use Rattle.wt_text_edit_laws.proofs.Between.LessBraces.{none_unbraced}
 use Rattle.wt_text_edit_laws.proofs.Blocks.BlockReading.{IsBeforeAny, HasFrame, any_front}
-use Rattle.wt_text_edit_laws.proofs.Blocks.TypedBraces.{line_unbraced}
+use Rattle.wt_text_edit_laws.proofs.Blocks.TypedBraces.{line_unpaired}
 use Rattle.wt_text_edit_laws.proofs.Prose.InFront.{Reads, reads_nothing, read_break, read_items}
 use Rattle.wt_text_edit_laws.proofs.Prose.Uncommented.{BeginsUncommented}
 use Rattle.wt_beside_laws.specs.Calm.{IsCalm, AreCalm}
@@ -24,7 +23,7 @@ use Rattle.wt_beside_laws.specs.Flat.{IsReadIn}
 use Rattle.wt_beside_laws.specs.FlatBlocks.{lines_in}
 use Rattle.wt_beside_laws.specs.InHeadings.{AreOnOneLine}
 use Rattle.wt_beside_laws.specs.Lines.{AreLinesOfText, AreCharacters, AreUnbroken, line_items, later_lines, content_lines}
-use Rattle.wt_beside_laws.proofs.CalmContents.{content_unbraced, nowiki_calm, reference_calm}
+use Rattle.wt_beside_laws.proofs.CalmContents.{content_unpaired, nowiki_calm, reference_calm}
 use Rattle.wt_beside_laws.proofs.FlatAgain.{EachSource, HoldsOfPut}
 use Rattle.wt_beside_laws.proofs.LineHeadings.{same_items}
 use Rattle.wt_beside_laws.proofs.LineItems.{content_lines_are}
@@ -111,13 +110,12 @@ unled_by s signs k typed unbroken =
 
 -- ---- it calls nothing
 
-block_unbraced : (k : TextBlock) (s : Setting) (signs : List ContentSign) → HasFrame k → IsReadIn s signs → AreCalm signs → AreUnbraced (block_items k (spelled s signs))
-block_unbraced a_paragraph s signs f kept calm = content_unbraced s signs kept calm
-block_unbraced (a_heading h) s signs f kept calm = line_unbraced h (page_items (spelled s signs)) f (content_unbraced s signs kept calm)
+block_unpaired : (k : TextBlock) (s : Setting) (signs : List ContentSign) → HasFrame k → IsReadIn s signs → AreCalm signs → AreUnpaired (block_items k (spelled s signs))
+block_unpaired a_paragraph s signs f kept calm = content_unpaired s signs kept calm
+block_unpaired (a_heading h) s signs f kept calm = line_unpaired h (page_items (spelled s signs)) f (content_unpaired s signs kept calm)
 
 pub calls_none : (k : TextBlock) (s : Setting) (signs : List ContentSign) → HasFrame k → IsReadIn s signs → AreCalm signs → CallsNothing (block_items k (spelled s signs))
-calls_none k s signs f kept calm =
-    let xs : List Item = block_items k (spelled s signs) in subst NonePairs (sym (none_unbraced xs (block_unbraced k s signs f kept calm))) tt
+calls_none k s signs f kept calm = subst NonePairs (sym (block_unpaired k s signs f kept calm)) tt
 
 -- ---- what holds of its sources
 

@@ -31,7 +31,8 @@ use Rattle.wt_text_edit_laws.specs.TextBetween.{StandsBehind}
 use Rattle.wt_text_edit_laws.specs.TextBlocks.{a_paragraph, a_heading}
 use Rattle.wt_text_edit_laws.specs.TypedHeadings.{spaced}
 use Rattle.wt_blocks.specs.Headings.{level}
-use Rattle.wt_beside_laws.specs.Calm.{IsCalm, HaveNoBraces}
+use Rattle.wt_text_edit_laws.specs.NoCalls.{AreUnpaired}
+use Rattle.wt_beside_laws.specs.Calm.{IsCalm}
 use Rattle.wt_beside_laws.specs.Commented.{IsComment, IsHeld}
 use Rattle.wt_beside_laws.proofs.Marks.Shown.{comment_node}
 use Rattle.wt_beside_laws.proofs.NodeItems.{node_as}
@@ -84,7 +85,7 @@ tag_kept = record { parts = lexeme Include 60 (codes "noinclude>") ∷ []; are =
 
 tag_calm : IsCalm (codes "<noinclude>")
 unfolding encode
-tag_calm = record { utf8 = (codes "<noinclude>", (refl, refl)); unbraced = subst HaveNoBraces (sym tag_alone) tt }
+tag_calm = record { utf8 = (codes "<noinclude>", (refl, refl)); unpaired = subst AreUnpaired (sym tag_alone) refl }
 
 x_stands : (rest : List ℕ) → StandsBehind (120 ∷ rest)
 unfolding comment_len
@@ -143,7 +144,7 @@ comment_by_itself = comment_node (codes "!--c-->") comment
 
 comment_calm : IsCalm (codes "<!--c-->")
 unfolding encode
-comment_calm = record { utf8 = (codes "<!--c-->", (refl, refl)); unbraced = subst HaveNoBraces (sym comment_by_itself) tt }
+comment_calm = record { utf8 = (codes "<!--c-->", (refl, refl)); unpaired = subst AreUnpaired (sym comment_by_itself) refl }
 
 comment_flat : AreFlat remarked remarked_items
 unfolding kind_of_signs context_parts with_styles style_tree_of toggles_of toggle_at chunks segments loose_segments tiles shapes closed form_at link_or_url link_at ext_link_at bare_url_at scheme_len tag_tile tag_at opening_tag closing_tag tag_after name_of live_name switch_at chars encode children

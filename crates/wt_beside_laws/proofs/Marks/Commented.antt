@@ -21,7 +21,7 @@ use Rattle.wt_text_edit_laws.specs.TextBetween.{StandsBehind}
 use Rattle.wt_text_edit_laws.proofs.Between.Fronts.{ReadsAfter, behind_reads, reads_after, reads_either}
 use Rattle.wt_text_edit_laws.proofs.Prose.InFront.{Reads, read_items}
 use Rattle.wt_text_edit_laws.proofs.Prose.Uncommented.{BeginsUncommented}
-use Rattle.wt_beside_laws.specs.Commented.{IsCommentSource, IsRemarked, IsHeld}
+use Rattle.wt_beside_laws.specs.Commented.{IsCommentSource, IsReadInLine, IsHeld}
 use Rattle.wt_beside_laws.specs.Content.{AreKept, guard_items, letter_items, content_items}
 use Rattle.wt_beside_laws.specs.Cuts.{own_glyphs}
 use Rattle.wt_beside_laws.specs.Flat.{IsReadIn}
@@ -33,9 +33,9 @@ use Rattle.wt_beside_laws.specs.PageSigns.{ends_break, HasNoBreak}
 use Rattle.wt_beside_laws.proofs.Contents.{further, guard_reads}
 use Rattle.wt_beside_laws.proofs.Firm.{ReadsAs, alone_as}
 use Rattle.wt_beside_laws.proofs.LineKinds.{mark_begun, mark_unempty, new_guarded, empty_guarded, start_begun}
-use Rattle.wt_beside_laws.proofs.Marks.Ends.{kept_unended, remarked_unended, comment_unended, unended_role}
-use Rattle.wt_beside_laws.proofs.Marks.InLine.{InLine, InLineAs, comment_in, comment_line, break_after, kept_in, remarked_in, nowiki_in, letter_in, reference_ends}
-use Rattle.wt_beside_laws.proofs.Marks.Shown.{IsShownFirst, shown_begins, IsSeen, shown_seen, seen_read, seen_back, seen_from, seen_comment, comment_node, line_node, kept_node, remarked_node, remarked_shown, thing_shown, comment_mark, line_mark, line_ends, letter_shown, nowiki_shown, in_order}
+use Rattle.wt_beside_laws.proofs.Marks.Ends.{kept_unended, read_unended, comment_unended, unended_role}
+use Rattle.wt_beside_laws.proofs.Marks.InLine.{InLine, InLineAs, comment_in, comment_line, break_after, kept_in, read_in, nowiki_in, letter_in, reference_ends}
+use Rattle.wt_beside_laws.proofs.Marks.Shown.{IsShownFirst, shown_begins, IsSeen, shown_seen, seen_read, seen_back, seen_from, seen_comment, comment_node, line_node, kept_node, read_node, read_shown, thing_shown, comment_mark, line_mark, line_ends, letter_shown, nowiki_shown, in_order}
 
 -- ---- a node in its line
 
@@ -46,8 +46,8 @@ source_in source h =
 kept_line : (source : List ℕ) → IsKept source → HasNoBreak (page_items source) → InLineAs source (node_items source)
 kept_line source k n = subst (InLineAs source) (sym (kept_node source k)) (kept_in source k n)
 
-remarked_line : (source : List ℕ) → IsRemarked source → InLineAs source (node_items source)
-remarked_line source h = subst (InLineAs source) (sym (remarked_node source h)) (remarked_in source h)
+read_line : (source : List ℕ) → IsReadInLine source → InLineAs source (node_items source)
+read_line source h = subst (InLineAs source) (sym (read_node source h)) (read_in source h)
 
 -- ---- what is put, and what is typed
 
@@ -199,9 +199,9 @@ thing_level s before t after start rest ys w l h n d (inr (inl c)) go =
     (λ g z. comment_seen s before t after rest c w (l ∙ z) e g h n)
 thing_level s before t after start rest ys w l h n d (inr (inr (inr k))) go =
     let more : List ℕ = spelled_from s (thing t ∷ before) after ++ rest in
-    inline_level (is_guarded s before (thing t ∷ after)) start t more ys (remarked_line t.source k)
-    (go false (unended_role t.role t.source h.0.1 (remarked_unended t.source k)))
-    (λ g z. shown_seen (t.source ++ more) (remarked_shown t.source k more))
+    inline_level (is_guarded s before (thing t ∷ after)) start t more ys (read_line t.source k)
+    (go false (unended_role t.role t.source h.0.1 (read_unended t.source k)))
+    (λ g z. shown_seen (t.source ++ more) (read_shown t.source k more))
 thing_level s before t after start rest ys w l h n d (inr (inr (inl c))) go =
     let more : List ℕ = spelled_from s (thing t ∷ before) after ++ rest in
     let e : ends_line t.role ≡ true = line_ends t c n.0 h.0.1 in
@@ -248,7 +248,7 @@ guard_shown false q f = f refl
 held_shown : (t : Thing) (more : List ℕ) (v : Bool) → is_mark_role t.role ≡ v → v ≡ false → IsNode t.role (own_glyphs t) → IsHeld t.source → IsShownFirst (t.source ++ more)
 held_shown t more v e f n (inl k) = thing_shown t k.0 n more
 held_shown t more v e f n (inr (inl c)) = let no : true ≡ false = sym (comment_mark t c.others c.is c.comment n) ∙ e ∙ f in cc
-held_shown t more v e f n (inr (inr (inr k))) = remarked_shown t.source k more
+held_shown t more v e f n (inr (inr (inr k))) = read_shown t.source k more
 held_shown t more v e f n (inr (inr (inl c))) = let no : true ≡ false = sym (line_mark t c n) ∙ e ∙ f in cc
 
 content_shown : (s : Setting) (signs : List ContentSign) → s.within ≡ false → BeginsUnled signs → AreKept signs → AreNodes signs → (rest : List ℕ)

@@ -4,16 +4,17 @@ use Rattle.std.specs.Prelude.{◌||◌, nat_eq, slice_get}
 use Rattle.std.specs.Cmp.Lexicographic.{pointwise}
 use Rattle.std.proofs.lemmas.Bool.Decides.{nat_tests}
 use Rattle.wt_span.specs.Bytes.{is_break}
-use Rattle.wt_span.specs.Items.{Item}
+use Rattle.wt_span.specs.Items.{Item, char, whole, sources}
 use Rattle.wt_guards.specs.declared.role.Role.{Role}
 use Rattle.wt_guards.specs.declared.role.Role.TheVariants.{Link, External, Bare, Switch, Toggle, Mark, Group, Function, Node}
 use Rattle.wt_guards.specs.Content.{ends_line}
 use Rattle.wt_guards.specs.Guards.{is_mark as is_mark_role}
 use Rattle.wt_original.specs.Kept.{is_break_at}
 use Rattle.wt_expand.specs.PageItems.{page_items}
+use Rattle.wt_expand.proofs.PageLaws.{page_sources}
 use Rattle.wt_text_edit_laws.specs.LonePages.{page_chars}
 use Rattle.wt_text_edit_laws.specs.TextBetween.{EndsBy}
-use Rattle.wt_beside_laws.specs.Commented.{IsCommentLine, remarks_source, AreRemarks, IsRemarked, IsHeld, EndsAsSaid}
+use Rattle.wt_beside_laws.specs.Commented.{IsCommentLine, LexemesEnd, IsReadInLine, IsHeld, EndsAsSaid}
 use Rattle.wt_beside_laws.specs.Kept.{Part, characters, sign, lexeme, is_lexeme_end, IsPart, AreParts, part_source, parts_source, part_items, parts_items, IsKept}
 use Rattle.wt_beside_laws.specs.PageSigns.{ends_break, HasNoBreak}
 use Rattle.wt_beside_laws.proofs.Firm.{ReadsAs, alone_as, parts_read}
@@ -111,15 +112,13 @@ kept_end q h n =
     let own : ReadsAs q (parts_items h.parts) = subst (λ bs. ReadsAs bs (parts_items h.parts)) h.is (parts_read h.parts h.are) in
     subst (LastIs false) h.is (parts_end h.parts h.are (subst HasNoBreak (alone_as q (parts_items h.parts) own) n))
 
-remarks_end : (rs : List (List ℕ × List ℕ)) → AreRemarks rs → LastIs false (remarks_source rs)
-remarks_end [] h = tt
-remarks_end ((q, behind) ∷ rs) h =
-    both_end false (60 ∷ q) (behind ++ remarks_source rs) (lexeme_end (60 ∷ q) h.0.ends)
-    (both_end false behind (remarks_source rs) (kept_end behind h.1 h.2) (remarks_end rs h.3))
+pub items_end : (xs : List Item) → HasNoBreak xs → LexemesEnd xs → LastIs false (sources xs)
+items_end [] n h = tt
+items_end (char o b ∷ xs) n h = both_end false (b ∷ []) (sources xs) n.0 (items_end xs n.1 h)
+items_end (whole f o bs ∷ xs) n h = both_end false bs (sources xs) (lexeme_end bs h.0) (items_end xs n.1 h.1)
 
-remarked_end : (q : List ℕ) → IsRemarked q → LastIs false q
-remarked_end q h =
-    subst (LastIs false) (sym h.is) (both_end false h.front (remarks_source h.remarks) (kept_end h.front h.kept h.unbroken) (remarks_end h.remarks h.are))
+read_end : (q : List ℕ) → IsReadInLine q → LastIs false q
+read_end q h = subst (LastIs false) (page_sources q) (items_end (page_items q) h.unbroken h.ends)
 
 -- ---- a node
 
@@ -127,10 +126,10 @@ pub held_end : (q : List ℕ) → 0 < length q → IsHeld q → LastIs (ends_bre
 held_end q some (inl k) = as_ended false q some (kept_end q k.0 k.1)
 held_end q some (inr (inl c)) = as_ended false q some (subst (LastIs false) (sym c.is) (lexeme_end (60 ∷ c.others) c.comment.ends))
 held_end q some (inr (inr (inl l))) = as_ended true q some (subst (LastIs true) (sym l.is) (line_end (l.first ∷ l.others) l.ends))
-held_end q some (inr (inr (inr r))) = as_ended false q some (remarked_end q r)
+held_end q some (inr (inr (inr r))) = as_ended false q some (read_end q r)
 
-pub remarked_unended : (q : List ℕ) → IsRemarked q → ends_break q ≡ false
-remarked_unended q h = unended q (remarked_end q h)
+pub read_unended : (q : List ℕ) → IsReadInLine q → ends_break q ≡ false
+read_unended q h = unended q (read_end q h)
 
 pub kept_unended : (q : List ℕ) → IsKept q → HasNoBreak (page_items q) → ends_break q ≡ false
 kept_unended q k n = unended q (kept_end q k n)

@@ -25,9 +25,9 @@ use Rattle.wt_typed_blocks.proofs.Forms.{other_byte, equals_byte, IsTame, less_b
 use Rattle.wt_typed_blocks.proofs.TextReads.{bracket_escaped, not_bracket, equal_or}
 use Rattle.wt_text_edit_laws.specs.LonePages.{page_chars}
 use Rattle.wt_text_edit_laws.specs.TextBetween.{EndsBy}
-use Rattle.wt_text_edit_laws.proofs.Between.Fronts.{ReadsAfter, first_from, byte_from, form_from, items_from}
+use Rattle.wt_text_edit_laws.proofs.Between.Fronts.{ReadsAfter, first_from, byte_from, form_from, items_from, page_read, alone_reads}
 use Rattle.wt_text_edit_laws.proofs.Texts.TypedItems.{references, wide_form, wide_tame, tame_if, IsMild, wide_mild, mild_if, no_form_byte}
-use Rattle.wt_beside_laws.specs.Commented.{IsComment, IsCommentLine, remarks_source, AreRemarks, IsRemarked}
+use Rattle.wt_beside_laws.specs.Commented.{IsComment, IsCommentLine, IsReadInLine}
 use Rattle.wt_beside_laws.specs.Content.{guard_items, letter_items}
 use Rattle.wt_beside_laws.specs.Kept.{Part, characters, sign, lexeme, is_firm, AreFirm, is_lexeme_end, IsPart, AreParts, part_source, parts_source, part_items, parts_items, IsKept}
 use Rattle.wt_beside_laws.specs.PageSigns.{HasNoBreak}
@@ -82,7 +82,7 @@ end_flag b (c ∷ q) h = end_flag c q h
 
 -- ---- a line of comments, where a line begins
 
-line_word : (bs : List ℕ) (n : ℕ) → comment_line_len bs ≡ Some n → form_at Page true bs ≡ Some (CommentLine, n)
+pub line_word : (bs : List ℕ) (n : ℕ) → comment_line_len bs ≡ Some n → form_at Page true bs ≡ Some (CommentLine, n)
 unfolding form_at
 line_word bs n e = rw e refl
 
@@ -139,7 +139,7 @@ firm_byte_in b bs xs f n r =
       ]
     ]
 
-firm_in : (q : List ℕ) → AreFirm q → HasNoBreak (page_chars q) → InLineAs q (page_chars q)
+pub firm_in : (q : List ℕ) → AreFirm q → HasNoBreak (page_chars q) → InLineAs q (page_chars q)
 firm_in [] h n rest xs r = r
 firm_in (b ∷ q) h n rest xs r = firm_byte_in b (q ++ rest) (page_chars q ++ xs) h.0 n.0 (firm_in q h.1 n.1 rest xs r)
 
@@ -166,22 +166,15 @@ kept_in q h n =
     subst (λ xs. InLineAs q xs) (sym is)
     (subst (λ bs. InLineAs bs (parts_items h.parts)) h.is (parts_in h.parts h.are (subst HasNoBreak is n)))
 
--- ---- a node with comments in it
+-- ---- a node that is read so whatever is behind it
 
-abbrev pub remarks_items : List (List ℕ × List ℕ) → List Item
-remarks_items [] = []
-remarks_items ((q, behind) ∷ rs) = (whole form.Comment None (60 ∷ q) ∷ []) ++ (page_items behind ++ remarks_items rs)
+pub read_in : (q : List ℕ) → IsReadInLine q → InLineAs q (page_items q)
+read_in q h rest xs r =
+    subst (InLine (q ++ rest)) (h.reads rest ∙ ap (λ (ys : List Item). page_items q ++ ys) (page_read rest xs r)) (alone_reads (q ++ rest))
 
-pub remarks_in : (rs : List (List ℕ × List ℕ)) → AreRemarks rs → InLineAs (remarks_source rs) (remarks_items rs)
-remarks_in [] h = λ rest xs r. r
-remarks_in ((q, behind) ∷ rs) h =
-    both_in (60 ∷ q) (behind ++ remarks_source rs) (whole form.Comment None (60 ∷ q) ∷ []) (page_items behind ++ remarks_items rs) (comment_in q h.0)
-    (both_in behind (remarks_source rs) (page_items behind) (remarks_items rs) (kept_in behind h.1 h.2) (remarks_in rs h.3))
-
-pub remarked_in : (source : List ℕ) (h : IsRemarked source) → InLineAs source (page_items h.front ++ remarks_items h.remarks)
-remarked_in source h =
-    subst (λ bs. InLineAs bs (page_items h.front ++ remarks_items h.remarks)) (sym h.is)
-    (both_in h.front (remarks_source h.remarks) (page_items h.front) (remarks_items h.remarks) (kept_in h.front h.kept h.unbroken) (remarks_in h.remarks h.are))
+-- the other way round
+pub line_reads : (q : List ℕ) (own : List Item) → InLineAs q own → (rest : List ℕ) → page_items (q ++ rest) ≡ own ++ page_items rest
+line_reads q own f rest = page_read (q ++ rest) (own ++ page_items rest) (f rest (page_items rest) (alone_reads rest))
 
 -- ---- what is put, and what is typed
 

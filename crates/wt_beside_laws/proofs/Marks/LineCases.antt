@@ -37,7 +37,8 @@ use Rattle.wt_text_edit_laws.specs.ParagraphParts.{joined_parts, para_with}
 use Rattle.wt_text_edit_laws.specs.Paragraphs.{IsTextLine}
 use Rattle.wt_text_edit_laws.specs.TextBetween.{StandsBehind}
 use Rattle.wt_text_edit_laws.specs.TextBlocks.{a_paragraph, block_tree}
-use Rattle.wt_beside_laws.specs.Calm.{IsCalm, HaveNoBraces}
+use Rattle.wt_text_edit_laws.specs.NoCalls.{AreUnpaired}
+use Rattle.wt_beside_laws.specs.Calm.{IsCalm}
 use Rattle.wt_beside_laws.specs.Commented.{IsCommentLine}
 use Rattle.wt_beside_laws.specs.FlatBlocks.{IsFlatEditOf}
 use Rattle.wt_beside_laws.specs.Lines.{IsLineOfText}
@@ -79,7 +80,7 @@ remark_alone = refl
 
 remark_calm : IsCalm remark
 unfolding encode
-remark_calm = record { utf8 = (remark, (refl, refl)); unbraced = subst HaveNoBraces (sym remark_behind) tt }
+remark_calm = record { utf8 = (remark, (refl, refl)); unpaired = subst AreUnpaired (sym remark_behind) refl }
 
 -- ---- the paragraph
 

@@ -1,8 +1,8 @@
 -- What is first on a line: something that is shown, or marks behind which something is shown. So the line is no line of comments.
-use Rattle.std.proofs.Common.{arith, ◌≡◌, ℕ, suc, ◌+◌, ◌-◌, ◌<◌, ◌≤◌, ◌==◌, Bool, true, false, Option, Some, None, List, [], ◌∷◌, ◌++◌, length, map, refl, sym, ap, ◌∙◌, subst, inl, inr, append-nil, append_assoc, All}
+use Rattle.std.proofs.Common.{arith, ◌≡◌, ℕ, zero, suc, ◌+◌, ◌-◌, ◌<◌, ◌≤◌, ◌==◌, Bool, true, false, Option, Some, None, List, [], ◌∷◌, ◌++◌, length, map, refl, sym, ap, ◌∙◌, subst, inl, inr, append-nil, append_assoc, All}
 use Rattle.std.specs.Prelude.{◌&&◌, ◌||◌, codes, encode_utf8, nat_lt, slice_index, if◌then◌else◌}
 use Rattle.std.specs.Option.{option_or}
-use Rattle.std.proofs.lemmas.Bool.{cases_lt}
+use Rattle.std.proofs.lemmas.Bool.{cases_lt, eqb-true}
 use Rattle.std.proofs.lemmas.Bool.Decides.{nat_tests}
 use Rattle.std.proofs.lemmas.List.Elements.{All-head}
 use Rattle.std.proofs.lemmas.Str.{encode_ascii}
@@ -16,6 +16,7 @@ use Rattle.wt_span.specs.Tags.{raw_len, include_at}
 use Rattle.wt_span.specs.Entities.{entity_at}
 use Rattle.wt_span.specs.Items.{Item, char, whole}
 use Rattle.wt_span.specs.Lexemes.{as_word, entity_word, sign_word, form_at, cuts}
+use Rattle.wt_lex.proofs.AllForms.{form_fits}
 use Rattle.wt_lex.proofs.Cuts.{cuts_cons}
 use Rattle.wt_names.proofs.Ascii.{IsWide, encode_wide, encode_some}
 use Rattle.wt_guards.specs.declared.role.Role.{Role}
@@ -32,12 +33,13 @@ use Rattle.wt_typed_blocks.proofs.TextReads.{equal_or, apart}
 use Rattle.wt_tiles.specs.declared.glyph.Glyph.{Glyph}
 use Rattle.wt_tiles.specs.declared.glyph.Glyph.TheVariants as glyph
 use Rattle.wt_tiles.specs.Glyphs.{glyph_of}
-use Rattle.wt_text_edit_laws.proofs.Between.Fronts.{ReadsAfter, reads_after}
+use Rattle.wt_text_edit_laws.proofs.Between.Fronts.{ReadsAfter, reads_after, items_from, first_items, first_from, byte_from, form_from}
 use Rattle.wt_text_edit_laws.proofs.Between.LineForms.{get_behind}
-use Rattle.wt_text_edit_laws.proofs.Prose.InFront.{reads_nothing}
+use Rattle.wt_text_edit_laws.proofs.Between.LineRemarks.{blank_form, comment_form as comment_word}
+use Rattle.wt_text_edit_laws.proofs.Prose.InFront.{reads_nothing, read_items}
 use Rattle.wt_text_edit_laws.proofs.Prose.Uncommented.{BeginsUncommented, uncommented_other}
 use Rattle.wt_text_edit_laws.proofs.Texts.TypedItems.{items_cut, references, wide_tame, tame_if}
-use Rattle.wt_beside_laws.specs.Commented.{IsComment, IsCommentLine, remarks_source, BeginsShown, IsRemarked, IsHeld, EndsAsSaid}
+use Rattle.wt_beside_laws.specs.Commented.{IsComment, IsCommentLine, BeginsShown, IsReadInLine, IsHeld, EndsAsSaid}
 use Rattle.wt_beside_laws.specs.Content.{AreKept}
 use Rattle.wt_beside_laws.specs.Cuts.{own_glyphs}
 use Rattle.wt_beside_laws.specs.Kept.{Part, characters, sign, lexeme, IsLexeme, AreParts, parts_source, parts_items, IsKept}
@@ -46,9 +48,9 @@ use Rattle.wt_beside_laws.specs.Nodes.{IsNode, AreNodes}
 use Rattle.wt_beside_laws.proofs.Contents.{further, begin_letter}
 use Rattle.wt_beside_laws.proofs.Firm.{ReadsAs, alone_as, parts_read, less_firm}
 use Rattle.wt_beside_laws.proofs.LineKinds.{no_break, FirstOpens, node_opens, mark_is, mark_begun, mark_unempty, begun_free, both_free, or_none}
-use Rattle.wt_beside_laws.proofs.Marks.InLine.{InLine, comment_in, comment_line, remarks_items, remarked_in}
+use Rattle.wt_beside_laws.proofs.Marks.InLine.{InLine, comment_in, comment_line}
 use Rattle.wt_beside_laws.proofs.Marks.Ends.{line_ended, ended_role}
-use Rattle.wt_beside_laws.proofs.NodeItems.{node_read, node_as}
+use Rattle.wt_beside_laws.proofs.NodeItems.{node_read, node_as, node_same}
 
 -- ---- something that is shown is first
 
@@ -95,7 +97,7 @@ seen_comment q bs h s =
     ∙ ap is_break (get_behind (60 ∷ q) bs (remarks_len 0 bs)) ∙ s
 
 -- so no line of comments begins there
-and_none : (a b : Bool) → b ≡ false → (a && b) ≡ false
+pub and_none : (a b : Bool) → b ≡ false → (a && b) ≡ false
 and_none true b e = e
 and_none false b e = refl
 
@@ -142,7 +144,7 @@ kept_node source h =
 
 -- ---- a node
 
-abbrev FirstShown : List Glyph → Type 0
+abbrev pub FirstShown : List Glyph → Type 0
 FirstShown [] = ⊥
 FirstShown (glyph.Byte b ∷ gs) = (is_blank b ≡ false) × ((b == 10) ≡ false)
 FirstShown (glyph.Entity c ∷ gs) = Unit {0}
@@ -152,14 +154,14 @@ FirstShown (glyph.Mark ∷ gs) = Unit {0}
 not_blank : (b : ℕ) → OpensText b → is_blank b ≡ false
 not_blank b o = let s = o.space in let t = o.tab in rw (s, t) refl
 
-opens_shown : (gs : List Glyph) → FirstOpens gs → FirstShown gs
+pub opens_shown : (gs : List Glyph) → FirstOpens gs → FirstShown gs
 opens_shown [] h = h
 opens_shown (glyph.Byte b ∷ gs) h = (not_blank b h, h.break)
 opens_shown (glyph.Entity c ∷ gs) h = tt
 opens_shown (glyph.Atom ∷ gs) h = tt
 opens_shown (glyph.Mark ∷ gs) h = absurd h
 
-node_shown : (r : Role) (own : List Glyph) (v : Bool) → is_mark_role r ≡ v → IsNode r own → FirstShown own
+pub node_shown : (r : Role) (own : List Glyph) (v : Bool) → is_mark_role r ≡ v → IsNode r own → FirstShown own
 node_shown r own true e n = subst FirstShown (sym (mark_is r own n e)) tt
 node_shown r own false e n = opens_shown own (node_opens r own n e)
 
@@ -213,34 +215,58 @@ kept_shown source h o rest =
     let is : node_items source ≡ parts_items h.parts = node_as source (parts_items h.parts) read in
     subst (λ bs. IsShownFirst (bs ++ rest)) h.is (parts_shown h.parts h.are (subst (λ xs. FirstShown (map glyph_of xs)) is o) rest)
 
--- of a node with comments in it
-begins_shown : (xs : List Item) → BeginsShown xs → FirstShown (map glyph_of xs)
-begins_shown [] h = h
-begins_shown (char o b ∷ xs) h = h
-begins_shown (whole form.Chars o bs ∷ xs) h = tt
-begins_shown (whole (form.Entity c) o bs ∷ xs) h = tt
-begins_shown (whole form.Nowiki o bs ∷ xs) h = tt
-begins_shown (whole form.Extension o bs ∷ xs) h = tt
-begins_shown (whole form.Function o bs ∷ xs) h = tt
-begins_shown (whole form.Comment o bs ∷ xs) h = tt
-begins_shown (whole form.Include o bs ∷ xs) h = tt
-begins_shown (whole form.Hidden o bs ∷ xs) h = tt
-begins_shown (whole form.EmptyCall o bs ∷ xs) h = tt
+-- of a node that is read so whatever is behind it
+begins_more : (xs ys : List Item) → BeginsShown xs → BeginsShown (xs ++ ys)
+begins_more [] ys h = absurd h
+begins_more (char o b ∷ xs) ys h = h
+begins_more (whole f o bs ∷ xs) ys h = h
 
-pub remarked_shown : (source : List ℕ) → IsRemarked source → (rest : List ℕ) → IsShownFirst (source ++ rest)
-remarked_shown source h rest =
-    let first : FirstShown (map glyph_of (node_items h.front)) =
-    subst (λ xs. FirstShown (map glyph_of xs)) (sym (kept_node h.front h.kept)) (begins_shown (page_items h.front) h.begins) in
-    subst (λ bs. IsShownFirst (bs ++ rest)) (sym h.is)
-    (subst IsShownFirst (sym (append_assoc h.front (remarks_source h.remarks) rest)) (kept_shown h.front h.kept first (remarks_source h.remarks ++ rest)))
+pub nothing_read : page_items [] ≡ []
+nothing_read = read_items [] [] reads_nothing
 
-pub remarked_node : (source : List ℕ) (h : IsRemarked source) → node_items source ≡ page_items h.front ++ remarks_items h.remarks
-remarked_node source h =
-    let own : List Item = page_items h.front ++ remarks_items h.remarks in
-    let line : InLine (source ++ []) (own ++ []) = remarked_in source h [] [] (reads_after false [] [] reads_nothing) in
-    ap node_items (sym (append-nil source))
-    ∙ node_read (source ++ []) (own ++ []) (seen_read (source ++ []) (own ++ []) (shown_seen (source ++ []) (remarked_shown source h [])) line)
-    ∙ append-nil own
+unblank : (b : ℕ) (q : List ℕ) → BeginsShown (items_from false 0 (b ∷ q)) → is_blank b ≡ false
+unblank b q h = by (is_blank b) refl
+  where
+    by : (v : Bool) → is_blank b ≡ v → is_blank b ≡ false
+    by true e = (subst BeginsShown (byte_from false b q (blank_form b q e)) h).0
+    by false e = e
+
+no_line_break : (b : ℕ) (q : List ℕ) → BeginsShown (items_from false 0 (b ∷ q)) → (b == 10) ≡ false
+no_line_break b q h = by (b == 10) refl
+  where
+    by : (v : Bool) → (b == 10) ≡ v → (b == 10) ≡ false
+    by true e =
+        let P : ℕ → Type 0 = λ (k : ℕ). BeginsShown (items_from false 0 (k ∷ q)) in
+        let own : BeginsShown (items_from false 0 (10 ∷ q)) = subst P (eqb-true b 10 e) h in
+        absurd (let no = (subst BeginsShown (byte_from false 10 q (other_byte Page 10 q refl)) own).1 in cc)
+    by false e = e
+
+-- a comment is one item
+no_comment : (b : ℕ) (bs : List ℕ) → BeginsShown (items_from false 0 (b ∷ bs)) → comment_len (b ∷ bs) ≡ None
+no_comment b bs h = by (comment_len (b ∷ bs)) refl
+  where
+    by : (o : Option ℕ) → comment_len (b ∷ bs) ≡ o → o ≡ None
+    by None e = refl
+    by (Some zero) e = let fits = form_fits Page false (b ∷ bs) (Comment, zero) (comment_word b 0 bs e) in absurd (omega (arith, fits.some))
+    by (Some (suc j)) e = absurd (subst BeginsShown (form_from false b bs Comment j (comment_word b (suc j) bs e)) h)
+
+from_page : (bs : List ℕ) → page_items bs ≡ items_from false 0 bs
+from_page bs = first_items bs ∙ sym (first_from false bs)
+
+pub read_shown : (source : List ℕ) → IsReadInLine source → (rest : List ℕ) → IsShownFirst (source ++ rest)
+read_shown source h rest = by source refl
+  where
+    by : (bs : List ℕ) → source ≡ bs → IsShownFirst (bs ++ rest)
+    by [] e = absurd (subst BeginsShown (ap page_items e ∙ nothing_read) h.begins)
+    by (b ∷ q) e =
+        let own : BeginsShown (items_from false 0 (b ∷ q)) = subst BeginsShown (ap page_items e ∙ from_page (b ∷ q)) h.begins in
+        let all : page_items (b ∷ (q ++ rest)) ≡ page_items source ++ page_items rest = ap (λ (bs : List ℕ). page_items (bs ++ rest)) (sym e) ∙ h.reads rest in
+        let more : BeginsShown (items_from false 0 (b ∷ (q ++ rest))) =
+        subst BeginsShown (sym all ∙ from_page (b ∷ (q ++ rest))) (begins_more (page_items source) (page_items rest) h.begins) in
+        record { first = b; others = q ++ rest; is = refl; blank = unblank b q own; break = no_line_break b q own; none = no_comment b (q ++ rest) more }
+
+pub read_node : (source : List ℕ) → IsReadInLine source → node_items source ≡ page_items source
+read_node source h = node_same source (subst BeginsUncommented (append-nil source) (shown_begins (source ++ []) (read_shown source h [])))
 
 -- of a thing whose source isn't a comment
 pub thing_shown : (t : Thing) → IsKept t.source → IsNode t.role (own_glyphs t) → (rest : List ℕ) → IsShownFirst (t.source ++ rest)
@@ -339,7 +365,7 @@ held_seen t more (inr (inl c)) n e f g =
     subst (λ bs. IsSeen (bs ++ more)) (sym c.is) (seen_comment c.others more c.comment (g (comment_mark t c.others c.is c.comment n)))
 held_seen t more (inr (inr (inl l))) n e f g =
     let no : true ≡ false = sym (line_ends t l n e) ∙ f in cc
-held_seen t more (inr (inr (inr r))) n e f g = shown_seen (t.source ++ more) (remarked_shown t.source r more)
+held_seen t more (inr (inr (inr r))) n e f g = shown_seen (t.source ++ more) (read_shown t.source r more)
 
 pub seen_from : (s : Setting) (before signs : List ContentSign) → s.within ≡ false → is_line_begun before ≡ true → is_empty_line signs ≡ false
     → AreKept signs → AreNodes signs → (rest : List ℕ) → IsSeen (spelled_from s before signs ++ rest)

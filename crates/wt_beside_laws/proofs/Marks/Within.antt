@@ -47,7 +47,7 @@ or_true false = refl
 -- ---- what comes before a place of a block
 
 -- a line begins there or not
-abbrev BeganBy : ℕ → Bool → List ℕ → Type 0
+abbrev pub BeganBy : ℕ → Bool → List ℕ → Type 0
 BeganBy n true pre = (length pre ≡ n) ⊎ ((0 < length pre) × LastIs true pre)
 BeganBy n false pre = (n < length pre) × LastIs false pre
 
@@ -55,7 +55,7 @@ record Comes (block : Tree) (began : Bool) (pre : List ℕ) : Type 0 where
   le : length (label block).opening ≤ length pre
   so : BeganBy (length (label block).opening) began pre
 
-began_so : (block : Tree) (began : Bool) (pre more : List ℕ) (s : Extent) → flat block ≡ pre ++ more → BeganBy (length (label block).opening) began pre
+pub began_so : (block : Tree) (began : Bool) (pre more : List ℕ) (s : Extent) → flat block ≡ pre ++ more → BeganBy (length (label block).opening) began pre
     → s.start ≡ length pre → began_line block s ≡ began
 began_so block true pre more s is (inl i) e =
     let at : (s.start == length (label block).opening) ≡ true = grind (arith, nat_tests, e, i) in
@@ -100,25 +100,25 @@ read_some ys e some = by (sources ys) refl
     by (b ∷ bs) i = omega arith
 
 -- its bytes are some, and the last is a line break or not
-abbrev Goes : List Item → Type 0
+abbrev pub Goes : List Item → Type 0
 Goes ys = (0 < length (sources ys)) × LastIs (ends_break (sources ys)) (sources ys)
 
 form_goes : (k : TileKind) (ys : List Item) → IsFlatForm k ys → IsHeld (sources ys) → 0 < length ys → Goes ys
 form_goes k ys f h some = let all = read_some ys f.alone some in (all, held_end (sources ys) all h)
 
-chars_go : (ys : List Item) → AreChars ys → HasNoBreak ys → LastIs false (sources ys)
+pub chars_go : (ys : List Item) → AreChars ys → HasNoBreak ys → LastIs false (sources ys)
 chars_go [] c n = tt
 chars_go (char o b ∷ []) c n = n.0
 chars_go (char o b ∷ char i d ∷ ys) c n = chars_go (char i d ∷ ys) c n.1
 chars_go (char o b ∷ whole f i bs ∷ ys) c n = absurd c
 chars_go (whole f o bs ∷ ys) c n = absurd c
 
-chars_some : (ys : List Item) → AreChars ys → 0 < length ys → 0 < length (sources ys)
+pub chars_some : (ys : List Item) → AreChars ys → 0 < length ys → 0 < length (sources ys)
 chars_some [] c some = absurd (omega (arith, some))
 chars_some (char o b ∷ ys) c some = omega arith
 chars_some (whole f o bs ∷ ys) c some = absurd c
 
-tile_goes : (k : TileKind) (a began : Bool) (at : ℕ) (w : Shape) (xs : List Item) → IsFlatTile k (take (size w) xs) → StandsBy k in_line a w (map glyph_of xs)
+pub tile_goes : (k : TileKind) (a began : Bool) (at : ℕ) (w : Shape) (xs : List Item) → IsFlatTile k (take (size w) xs) → StandsBy k in_line a w (map glyph_of xs)
     → AreKept (tile_signs k began at (take (size w) xs)) → HasNoBreak (take (size w) xs) → 0 < length (take (size w) xs) → Goes (take (size w) xs)
 tile_goes kind.Link a began at w xs f s k n some = form_goes kind.Link (take (size w) xs) f k.0.0 some
 tile_goes kind.Category a began at w xs f s k n some = form_goes kind.Category (take (size w) xs) f k.0.0 some
@@ -166,7 +166,7 @@ tile_so kind.Chars block began at ys m = subst (AreSoIn block) (sym (no_things (
 
 -- ---- the tiles of a line
 
-kept_front : (xs ys : List ContentSign) → AreKept (xs ++ ys) → AreKept xs × AreKept ys
+pub kept_front : (xs ys : List ContentSign) → AreKept (xs ++ ys) → AreKept xs × AreKept ys
 kept_front [] ys h = (tt, h)
 kept_front (letter c ∷ xs) ys h = kept_front xs ys h
 kept_front (thing t ∷ xs) ys h = let r = kept_front xs ys h.1 in ((h.0, r.0), r.1)

@@ -219,7 +219,7 @@ inside_is (tree l ts) = refl
 nowhere : Expanded
 nowhere = record { items = []; outer = []; text_calls = [] }
 
-content_shut : (k : TextBlock) (q : List ℕ) → IsContent k q → AreFlatLines (lines_in k q) → AreShut (signs_in k q)
+pub content_shut : (k : TextBlock) (q : List ℕ) → IsContent k q → AreFlatLines (lines_in k q) → AreShut (signs_in k q)
 content_shut k q h f =
     let t : Tree = standing 0 [] (block_tree k q) in
     own_shut k q f (ap any_ends_open (sym (inside_is t)) ∙ (h.untangled nowhere t refl).0)

@@ -178,7 +178,7 @@ all_unbroken (c ∷ cs) e =
     let r = or_both (c == 10) (list_any (λ d. d == 10) cs) e in
     any_joined (encode_utf8 c) (encodes cs) (char_unbroken c r.0) (all_unbroken cs r.1)
 
-text_unbroken : (text : List ℕ) → IsUtf8 text → breaks_line text ≡ false → has_break text ≡ false
+pub text_unbroken : (text : List ℕ) → IsUtf8 text → breaks_line text ≡ false → has_break text ≡ false
 text_unbroken text u e = sym (ap has_break (encodes-chars text u)) ∙ all_unbroken (chars text) e
 
 -- ---- nothing is wrong in it

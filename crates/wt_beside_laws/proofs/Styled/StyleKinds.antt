@@ -27,7 +27,7 @@ all_when : (P : Style → Type 0) (b : Bool) (u : Style) → (b ≡ true → P u
 all_when P true u h = (h refl, tt)
 all_when P false u h = tt
 
-begun_when : (P : Style → Type 0) (total : ℕ) (t : PlacedToggle) (ts : List PlacedToggle)
+pub begun_when : (P : Style → Type 0) (total : ℕ) (t : PlacedToggle) (ts : List PlacedToggle)
     → ((k : Bool) → begins (effect_of k t) ≡ true → P (style_from k t (ending k total ts))) → Every P (styles_by total ts) → Every P (styles_by total (t ∷ ts))
 begun_when P total t ts h hs =
     every_both P (begun t.bold_outside total t ts ++ begun (not t.bold_outside) total t ts) (styles_by total ts)
@@ -224,11 +224,11 @@ kind_pairs total low hb hi o (step s b i flag ∷ rs) h =
 
 -- ---- in the forest
 
-abbrev EachIn : (Style → Type 0) → Forest → Type 0
+abbrev pub EachIn : (Style → Type 0) → Forest → Type 0
 EachIn P bare = Unit {0}
 EachIn P (grown u f g) = P u × EachIn P f × EachIn P g
 
-each_of : (P : Style → Type 0) (f : Forest) → Every P (preorder f) → EachIn P f
+pub each_of : (P : Style → Type 0) (f : Forest) → Every P (preorder f) → EachIn P f
 each_of P bare h = tt
 each_of P (grown u f g) h =
     (h.0, each_of P f (every_left P (preorder f) (preorder g) h.1), each_of P g (every_right P (preorder f) (preorder g) h.1))

@@ -15,7 +15,8 @@ use Rattle.wt_text_edit_laws.specs.TypedHeadings.{Sides}
 use Rattle.wt_text_edit_laws.proofs.Between.ClosingTags.{Unclosed, unclosed_untagged}
 use Rattle.wt_text_edit_laws.proofs.Blocks.BlockReading.{IsBeforeAny, HasFrame}
 use Rattle.wt_text_edit_laws.proofs.Texts.TypedShown.{AllOfPage}
-use Rattle.wt_beside_laws.specs.Calm.{HaveNoBraces, IsCalm, AreCalm}
+use Rattle.wt_text_edit_laws.specs.NoCalls.{AreUnpaired}
+use Rattle.wt_beside_laws.specs.Calm.{IsCalm, AreCalm}
 use Rattle.wt_beside_laws.specs.Content.{AreKept}
 use Rattle.wt_beside_laws.specs.FlatBlocks.{lines_in, begins_at, signs_in as signs_of}
 use Rattle.wt_beside_laws.specs.Lines.{content_lines}
@@ -27,7 +28,7 @@ use Rattle.wt_beside_laws.specs.StyledHeadings.{IsStyledHeading}
 use Rattle.wt_beside_laws.specs.StyledIn.{IsStyledIn, StaysIn, IsStyledFor}
 use Rattle.wt_beside_laws.specs.StyledNodes.{IsPut, AreSomeAndPut}
 use Rattle.wt_beside_laws.proofs.Each.{Each}
-use Rattle.wt_beside_laws.proofs.CalmContents.{content_utf8, content_unbraced, nowiki_calm}
+use Rattle.wt_beside_laws.proofs.CalmContents.{content_utf8, content_unpaired, nowiki_calm}
 use Rattle.wt_beside_laws.proofs.FlatAgain.{EachSource, IsShut, put_shut, from_shut, to_shut}
 use Rattle.wt_beside_laws.proofs.LineItems.{content_lines_are}
 use Rattle.wt_beside_laws.proofs.Made.Closes.{guard_closes, OpenFor, content_closes, block_open}
@@ -125,8 +126,8 @@ some_source Q olds news f g some h =
     each_source Q news (each_some (λ t. Q t.source) (put_source Q f g) (things news) (things olds) some (source_each Q olds h))
 
 mark_calm : (kind : Bool) → IsCalm (mark_source kind)
-mark_calm true = record { utf8 = quotes_utf8 true; unbraced = subst HaveNoBraces (sym (mark_items true)) (refl, (refl, (refl, tt))) }
-mark_calm false = record { utf8 = quotes_utf8 false; unbraced = subst HaveNoBraces (sym (mark_items false)) (refl, (refl, tt)) }
+mark_calm true = record { utf8 = quotes_utf8 true; unpaired = subst AreUnpaired (sym (mark_items true)) refl }
+mark_calm false = record { utf8 = quotes_utf8 false; unpaired = subst AreUnpaired (sym (mark_items false)) refl }
 
 mark_shut : (kind : Bool) → IsShut (mark_source kind)
 mark_shut true = refl
@@ -202,7 +203,7 @@ styled_new k q s t h w = record {
     firm = λ rest b. firm s (signs_in t) rest (read_styled s t w.content) b;
     uncommented = λ rest b. uncommented s (signs_in t) rest (read_styled s t w.content) b;
     stays = stays_so k s t w.content;
-    unbraced = content_unbraced s (signs_in t) (read_styled s t w.content) (calm_so k q s t h w);
+    unpaired = content_unpaired s (signs_in t) (read_styled s t w.content) (calm_so k q s t h w);
   };
   closes = λ name us vs o n. closes_so k q s t h w name us vs o n;
 }

@@ -10,12 +10,12 @@ use Rattle.wt_text_edit_laws.specs.NoCalls.{Brace, NonePairs, CallsNothing}
 use Rattle.wt_text_edit_laws.specs.TextBlocks.{TextBlock, source_of, block_items}
 use Rattle.wt_text_edit_laws.specs.Contents.{IsContent, IsFirmContent, IsNewContent}
 use Rattle.wt_text_edit_laws.specs.BlockSpots.{BlockSpot, spots_source, SameRound, AreContents}
-use Rattle.wt_text_edit_laws.proofs.Between.LessBraces.{IsSome, braces_of, none_unbraced}
+use Rattle.wt_text_edit_laws.proofs.Between.LessBraces.{IsSome, braces_of}
 use Rattle.wt_text_edit_laws.proofs.Between.NoCalls.{calm_reduced}
 use Rattle.wt_text_edit_laws.proofs.Texts.TypedText.{AreLexemes}
 use Rattle.wt_text_edit_laws.proofs.Blocks.BlockReading.{read_anew}
 use Rattle.wt_text_edit_laws.proofs.Blocks.Contents.{new_contents}
-use Rattle.wt_text_edit_laws.proofs.Blocks.TypedBraces.{AreNewOver, firm_unbraced}
+use Rattle.wt_text_edit_laws.proofs.Blocks.TypedBraces.{AreNewOver, firm_unpaired}
 use Rattle.wt_called_edit_laws.specs.Parts.{left_of, AreCalled, work_in, IsByParts}
 use Rattle.wt_called_edit_laws.specs.Retyped.{AreRetyped, AreSomeOf, IsPartAnew, AreWrittenAnew, IsExpandedAgain}
 use Rattle.wt_called_edit_laws.proofs.Parts.CalmBraces.{calm_left}
@@ -45,9 +45,9 @@ expanded_again pages ss rs behind h t =
 pub calm_lexemes : (k : TextBlock) (q : List ℕ) → IsContent k q → CallsNothing (block_items k q) → AreLexemes (reduced (words Page (source_of k q)))
 calm_lexemes k q h c = calm_reduced (source_of k q) (subst CallsNothing (sym h.unended) c)
 
--- one that was written has no braces
+-- in one that was written no two braces are side by side
 firm_braces : (k : TextBlock) (q : List ℕ) → IsFirmContent k q → braces_of (block_items k q) ≡ []
-firm_braces k q h = none_unbraced (block_items k q) (firm_unbraced k q h)
+firm_braces k q h = firm_unpaired k q h
 
 pub firm_calm : (k : TextBlock) (q : List ℕ) → IsFirmContent k q → CallsNothing (block_items k q)
 firm_calm k q h = subst NonePairs (sym (firm_braces k q h)) tt

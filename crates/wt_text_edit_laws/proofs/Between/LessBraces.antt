@@ -148,7 +148,7 @@ items_behind_end xs ys h = ap braces (map-append sign xs ys) ∙ braces_behind (
 pub items_before_start : (xs ys : List Item) → BeginsUnbraced (map sign ys) → braces_of (xs ++ ys) ≡ braces_of xs ++ braces_of ys
 items_before_start xs ys h = ap braces (map-append sign xs ys) ∙ braces_before (map sign xs) (map sign ys) h
 
-whole_sign : (f : ItemForm) → is_brace (if is_mark_form f then 257 else 256) ≡ false
+pub whole_sign : (f : ItemForm) → is_brace (if is_mark_form f then 257 else 256) ≡ false
 whole_sign f = by (is_mark_form f)
   where
     by : (v : Bool) → is_brace (if v then 257 else 256) ≡ false
@@ -172,6 +172,11 @@ unbraced_ends (char o b ∷ []) h = h.0
 unbraced_ends (whole f o bs ∷ []) h = whole_sign f
 unbraced_ends (char o b ∷ y ∷ ys) h = unbraced_ends (y ∷ ys) h.1
 unbraced_ends (whole f o bs ∷ y ∷ ys) h = unbraced_ends (y ∷ ys) h
+
+pub unbraced_begins : (xs : List Item) → AreUnbraced xs → BeginsUnbraced (map sign xs)
+unbraced_begins [] h = tt
+unbraced_begins (char o b ∷ xs) h = h.0
+unbraced_begins (whole f o bs ∷ xs) h = whole_sign f
 
 pub page_unbraced : (q : List ℕ) → IsTypedPage q → AreUnbraced (page_items q)
 page_unbraced q h = subst (λ (bs : List ℕ). AreUnbraced (page_items bs)) (sym h.is) (spelled_unbraced h.setting h.text)

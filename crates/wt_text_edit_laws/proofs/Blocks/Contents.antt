@@ -31,7 +31,7 @@ use Rattle.wt_text_edit_laws.proofs.Prose.InFront.{Reads, reads_nothing, spelled
 use Rattle.wt_text_edit_laws.proofs.Prose.ProseReading.{page_front}
 use Rattle.wt_text_edit_laws.proofs.Between.ClosingTags.{Unclosed}
 use Rattle.wt_text_edit_laws.proofs.Between.Fronts.{behind_reads}
-use Rattle.wt_text_edit_laws.proofs.Between.LessBraces.{page_unbraced}
+use Rattle.wt_text_edit_laws.proofs.Between.LessBraces.{none_unbraced, page_unbraced}
 use Rattle.wt_text_edit_laws.proofs.Paragraphs.LineBlocks.{page_breaks, all_unled, parts_source}
 use Rattle.wt_text_edit_laws.proofs.Paragraphs.Texts.{EndsHere, letters_joined, letters_stand, paragraph_lines, paragraph_utf8, paragraph_written}
 use Rattle.wt_text_edit_laws.proofs.Headings.HeadingRows.{text_inside}
@@ -183,7 +183,7 @@ typed_firm k q h = record {
       let r : Reads (q ++ rest) (page_items q ++ page_items rest) = page_front q rest (page_items rest) (typed_page k q h) (behind_reads rest b) in
       stands (q ++ rest) r.begins;
   stays = typed_stays k q h;
-  unbraced = page_unbraced q (typed_page k q h);
+  unpaired = none_unbraced (page_items q) (page_unbraced q (typed_page k q h));
 }
 
 pub typed_firmly : (k : TextBlock) (q : List ℕ) → IsTypedIn k q → IsFirmlyRead q

@@ -1,13 +1,14 @@
--- A content that is written has no braces, so where some are written in the place of others the page has fewer of them, and calls nothing either.
+-- In a content that is written no two braces are side by side, so where some are written in the place of others the page has fewer of these, and calls
+-- nothing either.
 use Rattle.std.proofs.Common.{◌≡◌, ◌⊎◌, inl, inr, ℕ, ◌==◌, Bool, true, false, List, [], ◌∷◌, ◌++◌, map, refl, sym, ap, ◌∙◌, subst}
 use Rattle.std.proofs.lemmas.Bool.{eqb-true}
 use Rattle.wt_span.specs.Items.{Item, char, whole, sign}
 use Rattle.wt_lines.specs.Kinds.{is_idle}
 use Rattle.wt_expand.specs.PageItems.{page_items}
 use Rattle.wt_text_edit_laws.specs.LonePages.{page_chars}
-use Rattle.wt_text_edit_laws.specs.NoCalls.{Brace, CallsNothing, is_brace, AreUnbraced}
+use Rattle.wt_text_edit_laws.specs.NoCalls.{Brace, CallsNothing, AreUnpaired, is_brace, AreUnbraced}
 use Rattle.wt_text_edit_laws.proofs.Between.LineWords.{either}
-use Rattle.wt_text_edit_laws.proofs.Between.LessBraces.{IsSome, all_some, some_both, pairs_some, BeginsUnbraced, braces_of, items_behind_end, items_before_start, none_unbraced, unbraced_joined, ended_unbraced}
+use Rattle.wt_text_edit_laws.proofs.Between.LessBraces.{IsSome, all_some, some_both, pairs_some, BeginsUnbraced, braces_of, items_behind_end, items_before_start, none_unbraced, unbraced_joined, unbraced_ends, unbraced_begins, ended_unbraced}
 use Rattle.wt_text_edit_laws.specs.TypedHeadings.{Sides, AreIdle, equals, opening, closing_items, EndsLine}
 use Rattle.wt_text_edit_laws.specs.TextBlocks.{TextBlock, a_paragraph, a_heading, block_items, IsFrame, IsTypedIn, BeginsLine}
 use Rattle.wt_text_edit_laws.specs.Contents.{IsFirmContent, IsNewContent}
@@ -32,18 +33,32 @@ idle_unbraced [] h = tt
 idle_unbraced (char o b ∷ xs) h = (idle_by b (is_brace b) refl h.0, idle_unbraced xs h.1)
 idle_unbraced (whole f o bs ∷ xs) h = idle_unbraced xs h.1
 
-pub line_unbraced : (s : Sides) (own : List Item) → IsFrame s → AreUnbraced own → AreUnbraced (page_chars (opening s) ++ (own ++ closing_items s))
-line_unbraced s own f u =
-    let ends : AreUnbraced (closing_items s) =
+closing_unbraced : (s : Sides) → IsFrame s → AreUnbraced (closing_items s)
+closing_unbraced s f =
     unbraced_joined (page_chars (s.trail ++ equals s.level)) (page_items s.rest)
     (quiet_unbraced (s.trail ++ equals s.level) (quiet_joined s.trail (equals s.level) (blanks_quiet s.trail f.sides.trail) (run_quiet s.level)))
-    (idle_unbraced (page_items s.rest) f.sides.rest) in
-    unbraced_joined (page_chars (opening s)) (own ++ closing_items s) (quiet_unbraced (opening s) (opening_quiet s f.sides))
-    (unbraced_joined own (closing_items s) u ends)
+    (idle_unbraced (page_items s.rest) f.sides.rest)
 
-pub firm_unbraced : (k : TextBlock) (q : List ℕ) → IsFirmContent k q → AreUnbraced (block_items k q)
-firm_unbraced a_paragraph q h = h.unbraced
-firm_unbraced (a_heading s) q h = line_unbraced s (page_items q) (content_frame (a_heading s) q h.content) h.unbraced
+opening_unbraced : (s : Sides) → IsFrame s → AreUnbraced (page_chars (opening s))
+opening_unbraced s f = quiet_unbraced (opening s) (opening_quiet s f.sides)
+
+pub line_unbraced : (s : Sides) (own : List Item) → IsFrame s → AreUnbraced own → AreUnbraced (page_chars (opening s) ++ (own ++ closing_items s))
+line_unbraced s own f u =
+    unbraced_joined (page_chars (opening s)) (own ++ closing_items s) (opening_unbraced s f) (unbraced_joined own (closing_items s) u (closing_unbraced s f))
+
+pub line_unpaired : (s : Sides) (own : List Item) → IsFrame s → AreUnpaired own → AreUnpaired (page_chars (opening s) ++ (own ++ closing_items s))
+line_unpaired s own f u =
+    let front : AreUnbraced (page_chars (opening s)) = opening_unbraced s f in
+    let back : AreUnbraced (closing_items s) = closing_unbraced s f in
+    items_behind_end (page_chars (opening s)) (own ++ closing_items s) (unbraced_ends (page_chars (opening s)) front)
+    ∙ ap (λ (bs : List Brace). bs ++ braces_of (own ++ closing_items s)) (none_unbraced (page_chars (opening s)) front)
+    ∙ items_before_start own (closing_items s) (unbraced_begins (closing_items s) back)
+    ∙ ap (λ (bs : List Brace). bs ++ braces_of (closing_items s)) u
+    ∙ none_unbraced (closing_items s) back
+
+pub firm_unpaired : (k : TextBlock) (q : List ℕ) → IsFirmContent k q → AreUnpaired (block_items k q)
+firm_unpaired a_paragraph q h = h.unpaired
+firm_unpaired (a_heading s) q h = line_unpaired s (page_items q) (content_frame (a_heading s) q h.content) h.unpaired
 
 -- ---- pages that are the same but for texts that were typed
 
@@ -62,7 +77,7 @@ block_fewer : (k : TextBlock) (was now : List ℕ) → (now ≡ was) ⊎ IsNewCo
 block_fewer k was now (inl e) =
     subst (λ q. IsSome (braces_of (block_items k q)) (braces_of (block_items k was))) (sym e) (all_some (braces_of (block_items k was)))
 block_fewer k was now (inr h) =
-    subst (λ (bs : List Brace). IsSome bs (braces_of (block_items k was))) (sym (none_unbraced (block_items k now) (firm_unbraced k now h.firm))) tt
+    subst (λ (bs : List Brace). IsSome bs (braces_of (block_items k was))) (sym (firm_unpaired k now h.firm)) tt
 
 -- behind a block the page ends, or a line break stands
 longer_line : (xs ys : List Item) → BeginsLine xs → EndsLine (xs ++ ys)

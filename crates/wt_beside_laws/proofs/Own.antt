@@ -1,0 +1,9 @@
+-- What the source of a node of the page is, whatever is written behind it: what is asked of it follows from the page.
+pub mod Words
+pub mod Crossing
+pub mod Reading
+pub mod Stops
+pub mod Lines
+pub mod Held
+pub mod Alone
+pub mod Kept

@@ -1,0 +1,46 @@
+//! Laws of edited trees: what was sent for a page is edited as the page's own nodes are, with the texts in its marked
+//! blocks that were sent.
+
+ghost use Rattle.std.specs.Prelude.{◌≡◌, ℕ, List, Bool, false, None};
+ghost use Rattle.std.specs.List.{AllByRecursion};
+ghost use Rattle.std.specs.Str.{IsUtf8};
+ghost use Rattle.wt_tree.specs.Opened.{without_sections};
+ghost use Rattle.wt_tree.specs.Tiling.{NoneIsGroup};
+ghost use Rattle.wt_tree.specs.Tree.{Tree};
+ghost use Rattle.wt_link_spelling.specs.Spelling.{children_of};
+ghost use Rattle.wt_checks.specs.Checked.{checked};
+ghost use Rattle.wt_checks.specs.Kept.{children};
+ghost use Rattle.wt_checks.specs.Places.{page_of};
+ghost use Rattle.wt_expand.specs.PageCalls.{expanded_page};
+ghost use Rattle.wt_expand.specs.Work.{Pages};
+ghost use Rattle.wt_page_round_trip.specs.PageTree.{page_tree};
+ghost use Rattle.wt_visible.specs.SameNodes.{same_node};
+ghost use Rattle.wt_slices.specs.Changes.{marked, AllStay};
+ghost use Rattle.wt_commands.specs.Answers.{refusal_of_page};
+ghost use Rattle.wt_called_edit_laws.specs.Groups.{called_tree};
+ghost use Rattle.wt_inside_laws.specs.AsSent.{edits_of, IsPlainPage, IsReadFor, IsAlike, IsAsSent, IsSentOn};
+ghost use Rattle.wt_inside_laws.specs.RetypedPieces.{AreRead};
+ghost use Rattle.wt_inside_laws.specs.TextEdits.{IsTextEdit};
+
+/// Where the checks refuse nothing and no blocks come or go, what was sent for a page without groups is edited as the
+/// page's own nodes are (`edits_of`): each outside the marked blocks as it is, and in these blocks those of the page,
+/// with the texts that were sent beside them. Other separators, marks and skips, and sections, make no difference.
+/// Asked is that what was sent is as it is read, and that each marked block is told by its pieces.
+#[tactic(auto)]
+pub fn edits_are_as_sent()
+    ensures { (same : Tree → Tree → Bool) (t new : Tree) → IsPlainPage t → checked false t new ≡ None → AllStay new
+        → IsReadFor t new → AllByRecursion (IsAlike same (page_of t)) (marked t new)
+        → IsAsSent same t new (edits_of (without_sections t) new) }
+{}
+
+/// So a text edit of a page in which no node is a group is answered as the edit of the page's own nodes, at the paths of
+/// the marked blocks. Asked is that what was sent is as it is read from HTML.
+#[tactic(auto)]
+pub fn text_edits_are_sent_on_the_page()
+    ensures { (pages : Pages) (page : List ℕ) (new : Tree) → IsUtf8 page → refusal_of_page pages page ≡ None
+        → NoneIsGroup (children (called_tree pages page))
+        → IsTextEdit same_node (expanded_page pages page) page (page_tree pages page) new
+        → IsReadFor (page_tree pages page) new
+        → AllByRecursion (λ p. AreRead (children_of p.new)) (marked (page_tree pages page) new)
+        → IsSentOn pages page new (edits_of (called_tree pages page) new) }
+{}
