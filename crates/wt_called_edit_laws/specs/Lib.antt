@@ -45,6 +45,7 @@ pub mod PlacedBlocks
 pub mod PlacedSpots
 pub mod PlacedLines
 pub mod PlacedAmong
+pub mod PlacedCalling
 pub mod LinedAmong
 pub mod LinedHeadings
 pub mod ToldLines

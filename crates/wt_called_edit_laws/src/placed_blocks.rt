@@ -10,8 +10,10 @@ ghost use Rattle.wt_text_edit_laws.specs.TextBlocks.{TextBlock, a_paragraph, a_h
 ghost use Rattle.wt_text_edit_laws.specs.TypedHeadings.{Sides};
 ghost use Rattle.wt_called_edit_laws.specs.CalledPages.{IsCalledPage};
 ghost use Rattle.wt_called_edit_laws.specs.Covered.{IsEditablePage};
+ghost use Rattle.wt_called_edit_laws.specs.EditableBlocks.{IsEditableWithCalls};
 ghost use Rattle.wt_called_edit_laws.specs.LinedAmong.{spots_of_lines, end_of_lines, IsLinedAmong};
 ghost use Rattle.wt_called_edit_laws.specs.PlacedAmong.{IsPlacedAmong};
+ghost use Rattle.wt_called_edit_laws.specs.PlacedCalling.{IsPlacedCalling};
 ghost use Rattle.wt_called_edit_laws.specs.PlacedBlocks.{IsBlockIn, block_spot, IsFreeIn, IsHeadingOn, IsParagraphOn};
 ghost use Rattle.wt_called_edit_laws.specs.PlacedLines.{LinedBlock, all_lines, spots_by, end_by, AreLined, IsLinedPage};
 ghost use Rattle.wt_called_edit_laws.specs.PlacedSpots.{IsPlacedPage};
@@ -55,6 +57,13 @@ pub fn lines_of_a_page_are_cut_at_its_blocks()
 /// such a place, none is tangled, and none holds a group or is in one (`IsPlacedAmong`).
 pub fn all_blocks_among_calls_may_be_edited()
     ensures { (pages : Pages) (ss : List BlockSpot) (behind : List ℕ) → IsPlacedAmong pages ss behind → IsEditablePage pages ss behind }
+{}
+
+/// So with paragraphs and headings that hold calls, which may begin or end with one: a page whose items, where calls are characters, are cut
+/// at each of them, may be edited with them, if each is a content in this folder, by what the calls give at such a place, and has a byte that no
+/// group has (`IsPlacedCalling`).
+pub fn all_blocks_that_call_may_be_edited()
+    ensures { (pages : Pages) (ss : List BlockSpot) (behind : List ℕ) → IsPlacedCalling pages ss behind → IsEditableWithCalls pages ss behind }
 {}
 
 /// And these may be told by the lines of the expanded page: those before each, its own, which come from no call, and those
