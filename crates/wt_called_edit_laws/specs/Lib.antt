@@ -47,6 +47,7 @@ pub mod PlacedLines
 pub mod PlacedAmong
 pub mod PlacedCalling
 pub mod LinedAmong
+pub mod LinedCalling
 pub mod LinedHeadings
 pub mod ToldLines
 pub mod ToldAmong

@@ -12,6 +12,7 @@ ghost use Rattle.wt_called_edit_laws.specs.CalledPages.{IsCalledPage};
 ghost use Rattle.wt_called_edit_laws.specs.Covered.{IsEditablePage};
 ghost use Rattle.wt_called_edit_laws.specs.EditableBlocks.{IsEditableWithCalls};
 ghost use Rattle.wt_called_edit_laws.specs.LinedAmong.{spots_of_lines, end_of_lines, IsLinedAmong};
+ghost use Rattle.wt_called_edit_laws.specs.LinedCalling.{IsLinedCalling};
 ghost use Rattle.wt_called_edit_laws.specs.PlacedAmong.{IsPlacedAmong};
 ghost use Rattle.wt_called_edit_laws.specs.PlacedCalling.{IsPlacedCalling};
 ghost use Rattle.wt_called_edit_laws.specs.PlacedBlocks.{IsBlockIn, block_spot, IsFreeIn, IsHeadingOn, IsParagraphOn};
@@ -82,4 +83,16 @@ pub fn lines_of_an_expanded_page_are_cut_at_its_blocks()
         → IsLinedAmong pages page ls behind }
     ensures parts { (pages : Pages) (page : List ℕ) (ls : List LinedBlock) (behind : List (List Item)) → full_lines (page_items page) ≡ all_lines ls behind
         → (spots_of_lines pages page ls ≡ spots_by [] ls) × (end_of_lines pages page ls behind ≡ end_by [] ls behind) }
+{}
+
+/// And so may be those that hold calls: of a block's lines, which may begin or end with what a call gives, is asked that they
+/// are what the block gives by itself, and that its source is what is on the page for them; the line breaks round them are
+/// the page's own (`IsLinedCalling`).
+pub fn lines_of_blocks_that_call_are_cut_at_these()
+    ensures whole { (pages : Pages) (page : List ℕ) (ls : List LinedBlock) (behind : List (List Item)) → IsLinedCalling pages page ls behind
+        → spots_source (spots_of_lines pages page ls) (end_of_lines pages page ls behind) ≡ page }
+    ensures blocks { (pages : Pages) (page : List ℕ) (ls : List LinedBlock) (behind : List (List Item)) → IsLinedCalling pages page ls behind
+        → IsPlacedCalling pages (spots_of_lines pages page ls) (end_of_lines pages page ls behind) }
+    ensures editable { (pages : Pages) (page : List ℕ) (ls : List LinedBlock) (behind : List (List Item)) → IsLinedCalling pages page ls behind
+        → IsEditableWithCalls pages (spots_of_lines pages page ls) (end_of_lines pages page ls behind) }
 {}

@@ -1,5 +1,5 @@
 -- A page that is cut at paragraphs and headings, which may hold calls: its parts are read and expanded each by itself, and it may be edited.
-use Rattle.std.proofs.Common.{arith, ◌≡◌, inl, inr, ℕ, ◌<◌, Bool, true, false, None, List, [], ◌∷◌, ◌++◌, length, refl, sym, ap, ◌∙◌, subst, append_assoc, append-nil, length-append}
+use Rattle.std.proofs.Common.{arith, ◌≡◌, inl, inr, ℕ, ◌<◌, Bool, true, false, None, List, [], ◌∷◌, ◌++◌, length, refl, sym, ap, ◌∙◌, subst, append_assoc, length-append}
 use Rattle.std.specs.Str.{IsUtf8}
 use Rattle.wt_span.specs.declared.form.Mode.TheVariants.{Page}
 use Rattle.wt_span.specs.Items.{Item, char, sources}
@@ -8,7 +8,8 @@ use Rattle.wt_expand.specs.Work.{Pages}
 use Rattle.wt_expand.proofs.PageLaws.{page_sources}
 use Rattle.wt_part_laws.specs.Lexer.{lexer}
 use Rattle.wt_part_laws.specs.Scans.{after_all}
-use Rattle.wt_text_edit_laws.specs.BlockSpots.{BlockSpot, spots_source, EndBeforeBlocks, AreReadSpots}
+use Rattle.wt_text_edit_laws.specs.BlockSpots.{BlockSpot, spots_source, EndBeforeBlocks, IsReadSpot, AreReadSpots}
+use Rattle.wt_text_edit_laws.specs.NoCalls.{NonePairs}
 use Rattle.wt_text_edit_laws.specs.PageCuts.{BeginsBreak, EndsThere}
 use Rattle.wt_text_edit_laws.specs.ReadContents.{begins_shown, IsReadContent}
 use Rattle.wt_text_edit_laws.specs.TextBetween.{AreEnded, HasEndsBefore, LineEnds}
@@ -27,8 +28,8 @@ use Rattle.wt_beside_laws.proofs.Derived.CutPages.{ends_plain, begins_line, ends
 use Rattle.wt_called_edit_laws.specs.CallingBlocks.{IsContentIn, AreContentsInFolder, spots_with_calls, items_past}
 use Rattle.wt_called_edit_laws.specs.EditableBlocks.{IsEditableWithCalls}
 use Rattle.wt_called_edit_laws.specs.ItemSpots.{AreContentsIn}
-use Rattle.wt_called_edit_laws.specs.Parts.{calls_to, calls_past, GiveAnywhere}
-use Rattle.wt_called_edit_laws.specs.PlacedCalling.{IsCutAt, AreFurtherCutsAt, IsPlacedCalling}
+use Rattle.wt_called_edit_laws.specs.Parts.{all_left, calls_to, calls_past, GiveAnywhere, AreCalled}
+use Rattle.wt_called_edit_laws.specs.PlacedCalling.{IsCutAt, AreFurtherCutsAt, AreCutsAt, IsPlacedCalling}
 use Rattle.wt_called_edit_laws.proofs.Cells.PlacedAmong.{placed}
 
 -- ---- a block that is read by itself
@@ -37,7 +38,7 @@ own_sources : (k : TextBlock) (q : List ℕ) → IsReadContent k q → sources (
 own_sources k q h = ap sources (sym h.unended) ∙ page_sources (source_of k q)
 
 -- no comment begins it
-block_begins : (k : TextBlock) (q rest : List ℕ) → IsReadContent k q → EndsThere rest → BeginsUncommented (source_of k q ++ rest)
+pub block_begins : (k : TextBlock) (q rest : List ℕ) → IsReadContent k q → EndsThere rest → BeginsUncommented (source_of k q ++ rest)
 block_begins k q [] h e = let r = block_front k q [] [] h (inr tt) tt reads_nothing in r.begins
 block_begins k q (b ∷ rest) h e =
     let line : List ℕ = source_of k q in
@@ -125,24 +126,39 @@ contents_in pages k [] c = tt
 contents_in pages k (s ∷ ss) c =
     let own : IsContentIn pages s.block s.text = c.0 in (own.is (calls_to pages k s), contents_in pages (calls_past pages k s) ss c.1)
 
+pub record PartsRead (s : BlockSpot) (ss : List BlockSpot) (behind : List ℕ) : Type 0 where
+  pub first : IsReadSpot s
+  pub rest : AreReadSpots ss behind
+  pub ends : EndBeforeBlocks (s ∷ ss) behind
+
+pub parts_read : (pages : Pages) (s : BlockSpot) (ss : List BlockSpot) (behind : List ℕ) → IsUtf8 (spots_source (s ∷ ss) behind) → AreCutsAt (s ∷ ss) behind
+    → AreContentsInFolder pages (s ∷ ss) → PartsRead s ss behind
+parts_read pages s ss behind u h c =
+    let page : List ℕ = spots_source (s ∷ ss) behind in
+    let own : IsContentIn pages s.block s.text = c.0 in
+    let r = part_read s (spots_source ss behind) (page_items page) h.0 refl u h.1 (further_there ss behind h.0.rest h.2) own.read in
+    let more = further_read pages ss behind h.0.rest r.rest_is r.rest_utf8 h.2 c.1 in
+    record {
+      first = record { ended = h.1; before_utf8 = r.before_utf8; block = own.read };
+      rest = more.0;
+      ends = (r.ends, inr r.line, more.1);
+    }
+
+-- where no call goes over the end of a part
+pub parts_called : (pages : Pages) (s : BlockSpot) (ss : List BlockSpot) (behind : List ℕ) → PartsRead s ss behind → AreContentsInFolder pages (s ∷ ss)
+    → NonePairs (all_left (s ∷ ss) behind) → AreCalled pages (s ∷ ss) behind
+parts_called pages s ss behind r c apart =
+    (r.first, r.rest, record { end_before = r.ends; anywhere = give_anywhere pages (s ∷ ss) c; apart = apart })
+
 pub calling_placed : (pages : Pages) (ss : List BlockSpot) (behind : List ℕ) → IsPlacedCalling pages ss behind → IsEditableWithCalls pages ss behind
 calling_placed pages [] behind h = absurd h.cuts
-calling_placed pages (s ∷ ss) behind h =
-    let page : List ℕ = spots_source (s ∷ ss) behind in
-    let own : IsContentIn pages s.block s.text = h.contents.0 in
-    let r = part_read s (spots_source ss behind) (page_items page) h.cuts.0 refl h.utf8 h.cuts.1 (further_there ss behind h.cuts.0.rest h.cuts.2) own.read in
-    let more = further_read pages ss behind h.cuts.0.rest r.rest_is r.rest_utf8 h.cuts.2 h.contents.1 in
-    record {
-      blocks = record {
-        called = (
-          record { ended = h.cuts.1; before_utf8 = r.before_utf8; block = own.read },
-          more.0,
-          record { end_before = (r.ends, inr r.line, more.1); anywhere = give_anywhere pages (s ∷ ss) h.contents; apart = h.apart },
-        );
-        contents = h.contents;
-        placed = placed (spots_with_calls pages 0 (s ∷ ss)) (items_past pages 0 (s ∷ ss) behind) (contents_in pages 0 (s ∷ ss) h.contents) h.stand;
-      };
-      contents = h.editable;
-      unrefused = h.unrefused;
-      free = h.free;
-    }
+calling_placed pages (s ∷ ss) behind h = record {
+  blocks = record {
+    called = parts_called pages s ss behind (parts_read pages s ss behind h.utf8 h.cuts h.contents) h.contents h.apart;
+    contents = h.contents;
+    placed = placed (spots_with_calls pages 0 (s ∷ ss)) (items_past pages 0 (s ∷ ss) behind) (contents_in pages 0 (s ∷ ss) h.contents) h.stand;
+  };
+  contents = h.editable;
+  unrefused = h.unrefused;
+  free = h.free;
+}
