@@ -122,10 +122,10 @@ pub items_open : (own xs : List Item) → FirstOpens (map glyph_of own) → Open
 items_open [] xs h = absurd h
 items_open (x ∷ own) xs h = item_opens x h
 
-opens_small : (b : ℕ) → b < 256 → (line_start_hazard b ≡ false) → (b == 10) ≡ false → is_bracket b ≡ false → OpensText b
+pub opens_small : (b : ℕ) → b < 256 → (line_start_hazard b ≡ false) → (b == 10) ≡ false → is_bracket b ≡ false → OpensText b
 opens_small b small h n k = opens_text b small (rw (h, n, k) refl)
 
-at_bracket : OpensText 91
+pub at_bracket : OpensText 91
 at_bracket = record {
   space = refl;
   tab = refl;

@@ -53,7 +53,7 @@ scheme_by false true w e = absurd (omega (arith, e))
 scheme_by false false true e = absurd (omega (arith, e))
 scheme_by false false false e = (refl, refl, refl)
 
-scheme_less : (gs more : List Glyph) → scheme_len (gs ++ more) ≡ 0 → scheme_len gs ≡ 0
+pub scheme_less : (gs more : List Glyph) → scheme_len (gs ++ more) ≡ 0 → scheme_len gs ≡ 0
 unfolding scheme_len
 scheme_less gs more e =
     let none = scheme_by (begins_like (codes "http://") (gs ++ more)) (begins_like (codes "https://") (gs ++ more)) (begins_like (codes "ftp://") (gs ++ more)) e in

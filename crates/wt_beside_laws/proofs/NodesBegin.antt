@@ -120,7 +120,7 @@ node_urls (Group g) own n = absurd n
 node_urls Function own n = lexeme_urls own n
 node_urls Node own n = other_urls own n
 
-node_switches : (r : Role) (own : List Glyph) → IsNode r own → AvoidsSwitches own
+pub node_switches : (r : Role) (own : List Glyph) → IsNode r own → AvoidsSwitches own
 node_switches Link own n = subst AvoidsSwitches (sym n.is) refl
 node_switches External own n = subst AvoidsSwitches (sym n.is) (other_avoids 91 n.inside refl)
 node_switches (Bare ends) own n = subst AvoidsSwitches (sym n.is) (other_avoids n.first n.others (url_no_underscore n.first n.others n.shape n.url))

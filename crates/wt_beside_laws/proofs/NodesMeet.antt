@@ -31,7 +31,7 @@ pub letter_behind : (s : Setting) (t : Thing) (before : List ContentSign) (d : �
 unfolding is_guarded is_between_guard
 letter_behind s t before d after e = (or_parts (hazard (left_side t.role) (side.Text d)) _ e).0
 
-letter_before : (s : Setting) (t : Thing) (before : List ContentSign) (d : ℕ) (after : List ContentSign)
+pub letter_before : (s : Setting) (t : Thing) (before : List ContentSign) (d : ℕ) (after : List ContentSign)
     → is_guarded s (letter d ∷ before) (thing t ∷ after) ≡ false → hazard (side.Text d) (side_of t.role) ≡ false
 unfolding is_guarded is_between_guard
 letter_before s t before d after e = (or_parts (hazard (side.Text d) (side_of t.role)) _ e).0
@@ -83,7 +83,7 @@ letter_may (Group g) t d more e = letter_fits (MayBeBehind (Group g)) t d more t
 letter_may Function t d more e = letter_fits (MayBeBehind Function) t d more tt (λ z. tt) (λ b le. tt)
 letter_may Node t d more e = letter_fits (MayBeBehind Node) t d more tt (λ z. tt) (λ b le. tt)
 
-word_before : (r : Role) (d : ℕ) → hazard (side.Text d) (side_of r) ≡ false → MayLead r (is_word d)
+pub word_before : (r : Role) (d : ℕ) → hazard (side.Text d) (side_of r) ≡ false → MayLead r (is_word d)
 unfolding hazard
 word_before Link d e = tt
 word_before External d e = tt

@@ -51,13 +51,13 @@ guard_fits P false more h f = f
 -- ---- tags
 
 -- no letter and no `/`
-abbrev IsNoName : Glyph → Type 0
+abbrev pub IsNoName : Glyph → Type 0
 IsNoName g = (in_class class.Letter g ≡ false) × (is_in (λ (b : ℕ). b == 47) g ≡ false)
 
-wide_no_name : (b : ℕ) → 128 ≤ b → IsNoName (glyph.Byte b)
+pub wide_no_name : (b : ℕ) → 128 ≤ b → IsNoName (glyph.Byte b)
 wide_no_name b le = (grind (arith, nat_tests), grind (arith, nat_tests))
 
-less_next : (s : Setting) (before after : List ContentSign) → is_escaped s.within s.place before 60 after ≡ false → opens_tag (nearest after) ≡ false
+pub less_next : (s : Setting) (before after : List ContentSign) → is_escaped s.within s.place before 60 after ≡ false → opens_tag (nearest after) ≡ false
 unfolding is_escaped
 less_next s before after e = e
 
@@ -73,7 +73,7 @@ less_fits s before (letter d ∷ after) rest e =
     guard_fits IsNoName (is_guarded s (letter 60 ∷ before) (letter d ∷ after)) (letter_glyphs t d ++ more) (refl, refl)
     (letter_fits IsNoName t d more (refl, refl) (λ z. (own.0, no.0)) wide_no_name)
 
-less_none : (gs : List Glyph) → FirstFits IsNoName gs → tag_at (glyph.Byte 60 ∷ gs) ≡ None
+pub less_none : (gs : List Glyph) → FirstFits IsNoName gs → tag_at (glyph.Byte 60 ∷ gs) ≡ None
 unfolding tag_at opening_tag closing_tag
 less_none [] h = refl
 less_none (g ∷ gs) h = rw (h.0, h.1) refl
@@ -94,13 +94,13 @@ tag_none s before c after rest e =
 
 -- ---- switches
 
-abbrev IsNoUnderscore : Glyph → Type 0
+abbrev pub IsNoUnderscore : Glyph → Type 0
 IsNoUnderscore g = is_in (λ (b : ℕ). b == 95) g ≡ false
 
-wide_no_underscore : (b : ℕ) → 128 ≤ b → IsNoUnderscore (glyph.Byte b)
+pub wide_no_underscore : (b : ℕ) → 128 ≤ b → IsNoUnderscore (glyph.Byte b)
 wide_no_underscore b le = grind (arith, nat_tests)
 
-fits_alone : (gs : List Glyph) → FirstFits IsNoUnderscore gs → is_lone_underscore gs ≡ false
+pub fits_alone : (gs : List Glyph) → FirstFits IsNoUnderscore gs → is_lone_underscore gs ≡ false
 fits_alone [] h = refl
 fits_alone (g ∷ gs) h = rw h refl
 
@@ -108,7 +108,7 @@ both_underscores : (s : Setting) (before after : List ContentSign) → is_escape
 unfolding is_escaped
 both_underscores s before after e = e
 
-second_underscore : (s : Setting) (before : List ContentSign) (d : ℕ) (after : List ContentSign)
+pub second_underscore : (s : Setting) (before : List ContentSign) (d : ℕ) (after : List ContentSign)
     → is_escaped s.within s.place (letter 95 ∷ before) d after ≡ false → (d == 95) ≡ false
 second_underscore s before d after e = elim (equal_or d 95) [
   | inl i ↦
@@ -124,12 +124,12 @@ one_first g more e = by (is_in (λ (b : ℕ). b == 95) g) refl
     by true f = let no : true ≡ false = sym (ap (λ (v : Bool). v && true) f) ∙ e in cc
     by false f = rw f refl
 
-thing_alone : (own more : List Glyph) → AvoidsSwitches own → is_lone_underscore (own ++ more) ≡ false
+pub thing_alone : (own more : List Glyph) → AvoidsSwitches own → is_lone_underscore (own ++ more) ≡ false
 thing_alone [] more h = absurd h
 thing_alone (g ∷ []) more h = one_first g more h
 thing_alone (g ∷ h ∷ gs) more e = e
 
-guard_alone : (u : Bool) (more : List Glyph) → is_lone_underscore more ≡ false → is_lone_underscore (guard_glyphs u ++ more) ≡ false
+pub guard_alone : (u : Bool) (more : List Glyph) → is_lone_underscore more ≡ false → is_lone_underscore (guard_glyphs u ++ more) ≡ false
 guard_alone true more h = refl
 guard_alone false more h = h
 
@@ -171,7 +171,7 @@ two_alone true true f e = refl
 two_alone true false f e = cc
 two_alone false v f e = cc
 
-underscore_none : (gs : List Glyph) → is_lone_underscore gs ≡ false → switch_at (glyph.Byte 95 ∷ gs) ≡ None
+pub underscore_none : (gs : List Glyph) → is_lone_underscore gs ≡ false → switch_at (glyph.Byte 95 ∷ gs) ≡ None
 unfolding switch_at
 underscore_none [] e = refl
 underscore_none (g ∷ []) e = by (is_in (λ (b : ℕ). b == 95) g) refl

@@ -1,30 +1,37 @@
 -- A content among whose nodes are calls: what each node is in the page, by the items that it has there.
-use Rattle.std.specs.Prelude.{◌≡◌, ℕ, ◌+◌, ◌==◌, ◌&&◌, ◌||◌, not, Bool, true, false, Some, List, [], ◌∷◌, ◌++◌, length, map, nat_lt, if◌then◌else◌, encode_utf8}
+use Rattle.std.specs.Prelude.{◌≡◌, ◌⊎◌, ℕ, ◌+◌, ◌==◌, Bool, true, false, Option, None, Some, List, [], ◌∷◌, ◌++◌, length, map, if◌then◌else◌, encode_utf8}
 use Rattle.wt_tree.specs.Plain.{Plains, text_before}
 use Rattle.wt_span.specs.Bytes.{is_blank}
 use Rattle.wt_span.specs.Characters as byte
-use Rattle.wt_span.specs.Items.{Item, char, sources, sign}
+use Rattle.wt_span.specs.Items.{Item, sign}
 use Rattle.wt_tree.specs.declared.edit_shape.Place.TheVariants as place
 use Rattle.wt_guards.specs.declared.role.Role.{Role}
 use Rattle.wt_guards.specs.declared.role.Role.TheVariants.{Link, External, Bare, Switch, Toggle, Mark, Group, Function, Node}
-use Rattle.wt_guards.specs.Content.{ContentSign, Thing, letter, thing}
-use Rattle.wt_guards.specs.Guards.{Setting, has_brace_last, is_guarded, is_mark, is_new_at_start}
+use Rattle.wt_guards.specs.declared.role.Transclusion.{Transclusion}
+use Rattle.wt_guards.specs.Content.{ContentSign, Thing, letter, thing, nearest}
+use Rattle.wt_guards.specs.Guards.{Setting, is_guarded, is_mark, is_new_at_start}
 use Rattle.wt_guards.specs.Letters.{is_escaped}
 use Rattle.wt_expand.specs.PageCalls.{numbered, page_stretches, expanded_page}
 use Rattle.wt_expand.specs.Work.{Pages}
-use Rattle.wt_inline.specs.declared.loose.Loose.TheVariants.{Text}
-use Rattle.wt_inline.specs.Parts.{Part, parts}
+use Rattle.wt_inline.specs.declared.loose.Loose.TheVariants.{Text, Sep}
+use Rattle.wt_inline.specs.Parts.{Part, loose, node, parts}
 use Rattle.wt_context.specs.Line.{line_parts}
 use Rattle.wt_lines.specs.Lines.{IsUnbroken}
-use Rattle.wt_part_laws.specs.CallTexts.{AreOwnOrTexts}
+use Rattle.wt_tiles.specs.declared.glyph.Glyph.{Glyph}
+use Rattle.wt_tiles.specs.declared.glyph.GlyphClass.TheVariants as class
+use Rattle.wt_tiles.specs.Glyphs.{glyph_of, in_class}
+use Rattle.wt_tiles.specs.Urls.{scheme_len, is_url_glyph}
+use Rattle.wt_part_laws.specs.CallPieces.{AreOwnOrGiven}
+use Rattle.wt_part_laws.specs.Rounded.{IsOwn}
 use Rattle.wt_beside_laws.specs.Content.{guard_items, letter_items}
-use Rattle.wt_beside_laws.specs.Cuts.{own_glyphs}
-use Rattle.wt_beside_laws.specs.Flat.{IsFlat}
+use Rattle.wt_beside_laws.specs.Cuts.{own_glyphs, ends_word}
+use Rattle.wt_beside_laws.specs.Flat.{IsFlat, AreFlat}
+use Rattle.wt_beside_laws.specs.Given.{IsGroup}
 use Rattle.wt_text_edit_laws.specs.TypedHeadings.{EndsWithout, is_equals_sign}
 use Rattle.wt_beside_laws.specs.InHeadings.{AreOnOneLine}
 use Rattle.wt_beside_laws.specs.Lines.{AreCharacters}
 use Rattle.wt_beside_laws.specs.NodeItems.{node_items}
-use Rattle.wt_beside_laws.specs.Nodes.{IsNode, AllMeet}
+use Rattle.wt_beside_laws.specs.Nodes.{IsNode, MayFollow, MayLead}
 use Rattle.wt_beside_laws.specs.Shown.{parts_shown_at}
 use Rattle.wt_beside_laws.specs.Stood.{things}
 
@@ -86,69 +93,16 @@ line_parts_with s before (thing t ∷ after) [] = parts Text (guard_items (is_gu
 line_parts_with s before (thing t ∷ after) (own ∷ owns) =
     parts Text (guard_items (is_guarded s before (thing t ∷ after))) ++ (line_parts own ++ line_parts_with s (thing t ∷ before) after owns)
 
--- ---- calls that give words
-
--- wherever it is it may begin or end a form or a line
-abbrev pub is_form_sign : ℕ → Bool
-is_form_sign b =
-    b == byte.line_break || (b == byte.less_than || (b == byte.opening_bracket || (b == byte.opening_brace || b == byte.closing_brace)))
-
-abbrev pub is_word_byte : ℕ → Bool
-is_word_byte b = nat_lt b 256 && not (is_form_sign b)
-
--- beside another one, or before a slash, it may begin a style, a switch or a URL
-abbrev pub is_half_sign : ℕ → Bool
-is_half_sign b = b == byte.apostrophe || (b == byte.underscore || b == byte.colon)
-
--- what may be behind such a sign: something, that is neither one of them nor a slash
-abbrev pub PartsSigns : List ℕ → Type 0
-PartsSigns [] = ⊥
-PartsSigns (b ∷ bs) = (is_half_sign b || b == byte.slash) ≡ false
-
-abbrev pub BeginsWithSpace : List ℕ → Type 0
-BeginsWithSpace [] = ⊥
-BeginsWithSpace (b ∷ bs) = b ≡ byte.space
-
--- no sign of a form is among them, each apostrophe, `_` and colon is before another character, and each `&` before a space
-abbrev pub AreWordBytes : List ℕ → Type 0
-AreWordBytes [] = Unit {0}
-AreWordBytes (b ∷ bs) =
-    (is_word_byte b ≡ true) × (is_half_sign b ≡ true → PartsSigns bs) × ((b == byte.ampersand) ≡ true → BeginsWithSpace bs) × AreWordBytes bs
-
--- where it is first on a line it may begin a block, or a slash a URL with what is before it; and it is no apostrophe, `_` or colon
-abbrev pub is_first_sign : ℕ → Bool
-is_first_sign b =
-    is_blank b
-    || (b == byte.greater_than
-    || (b == byte.closing_bracket
-    || (b == byte.vertical_bar
-    || (b == byte.slash
-    || (b == byte.equals_sign
-    || (b == byte.asterisk || (b == byte.hash || (b == byte.semicolon || (b == byte.hyphen || (b == byte.exclamation_mark || is_half_sign b))))))))))
-
--- there is a first one, and it is none of these
-abbrev pub BeginsWord : List ℕ → Type 0
-BeginsWord [] = ⊥
-BeginsWord (b ∷ bs) = is_first_sign b ≡ false
-
--- The items of one call are these characters.
-pub record AreWords (shown : List ℕ) (own : List Item) : Type 0 where
-  pub call : ℕ
-  pub is : own ≡ map (char (Some call)) shown
-  pub words : AreWordBytes shown
-  pub begins : BeginsWord shown
-
 -- ---- the nodes
 
 -- one of the page, on one line, by its own source; a mark is within its line
 pub record IsOwnNode (t : Thing) (own : List Item) : Type 0 where
   pub is : own ≡ node_items t.source
-  pub flat : IsFlat t.role
   pub node : IsNode t.role (own_glyphs t)
   pub inside : is_mark t.role ≡ true → is_new_at_start t.role ≡ true
   pub unbroken : IsUnbroken (node_items t.source)
 
--- Of a group, whose source stands here for what its call shows, the items are words; of any other node they are those of its source.
+-- The items of a group are what one call gives; those of any other node are those of its source.
 abbrev pub IsGivenAs : Role → Thing → List Item → Type 0
 IsGivenAs Link t own = IsOwnNode t own
 IsGivenAs External t own = IsOwnNode t own
@@ -156,7 +110,7 @@ IsGivenAs (Bare ends) t own = IsOwnNode t own
 IsGivenAs Switch t own = IsOwnNode t own
 IsGivenAs Toggle t own = IsOwnNode t own
 IsGivenAs (Mark ends began) t own = IsOwnNode t own
-IsGivenAs (Group g) t own = AreWords t.source own
+IsGivenAs (Group g) t own = (j : ℕ) × IsGroup g j own
 IsGivenAs Function t own = IsOwnNode t own
 IsGivenAs Node t own = IsOwnNode t own
 
@@ -167,10 +121,63 @@ AreGiven (letter c ∷ after) owns = AreGiven after owns
 AreGiven (thing t ∷ after) [] = ⊥
 AreGiven (thing t ∷ after) (own ∷ owns) = IsGivenAs t.role t own × AreGiven after owns
 
--- what each is on a line by itself is characters, and nodes of the page of which none is empty
+-- what each is on a line by itself is characters, and nodes of the page or of a call, of which none is empty
 abbrev pub AreOwnInside : List (List Item) → Type 0
 AreOwnInside [] = Unit {0}
-AreOwnInside (own ∷ owns) = AreOwnOrTexts (line_parts own) × AreOwnInside owns
+AreOwnInside (own ∷ owns) = AreOwnOrGiven (line_parts own) × AreOwnInside owns
+
+-- ---- two side by side, by what they give
+
+-- what may be first behind a group: no letter that joins a link, and nothing that goes on with a URL, if one may be last in it
+abbrev pub MayBeBehindGroup : Bool → Glyph → Type 0
+MayBeBehindGroup slashes g = (in_class class.Trail g ≡ false) × (slashes ≡ true → is_url_glyph g ≡ false)
+
+abbrev pub MayFollowGroup : Bool → List Glyph → Type 0
+MayFollowGroup slashes [] = Unit {0}
+MayFollowGroup slashes (g ∷ gs) = MayBeBehindGroup slashes g
+
+-- what may be read behind a node that gives these
+abbrev pub BehindMay : Role → List Glyph → List Glyph → Type 0
+BehindMay Link own more = MayFollow Link own more
+BehindMay External own more = MayFollow External own more
+BehindMay (Bare ends) own more = MayFollow (Bare ends) own more
+BehindMay Switch own more = MayFollow Switch own more
+BehindMay Toggle own more = MayFollow Toggle own more
+BehindMay (Mark ends began) own more = MayFollow (Mark ends began) own more
+BehindMay (Group g) own more = MayFollowGroup g.slashes more
+BehindMay Function own more = MayFollow Function own more
+BehindMay Node own more = MayFollow Node own more
+
+-- before a group that begins with a URL is no letter, digit or `_`, as before a URL
+abbrev pub LeadMay : Role → List Glyph → Bool → Type 0
+LeadMay Link own word = MayLead Link word
+LeadMay External own word = MayLead External word
+LeadMay (Bare ends) own word = MayLead (Bare ends) word
+LeadMay Switch own word = MayLead Switch word
+LeadMay Toggle own word = MayLead Toggle word
+LeadMay (Mark ends began) own word = MayLead (Mark ends began) word
+LeadMay (Group g) own word = (word ≡ false) ⊎ (scheme_len own ≡ 0)
+LeadMay Function own word = MayLead Function word
+LeadMay Node own word = MayLead Node word
+
+-- two nodes that give these, as they may stand in the page
+abbrev pub MayMeet : Thing → List Glyph → Thing → List Glyph → Type 0
+MayMeet t left n right = BehindMay t.role left right × LeadMay n.role right (ends_word false left)
+
+-- a node behind what is nearest before it, where that gives these
+abbrev pub MeetsNearest : Option ContentSign → List Glyph → Thing → List Glyph → Type 0
+MeetsNearest None left n right = Unit {0}
+MeetsNearest (Some (letter c)) left n right = Unit {0}
+MeetsNearest (Some (thing t)) left n right = MayMeet t left n right
+
+-- Two nodes between which nothing is put. The nearest one before gives these.
+abbrev pub AllMeetWith : Setting → List ContentSign → List Item → List ContentSign → List (List Item) → Type 0
+AllMeetWith s before last [] owns = Unit {0}
+AllMeetWith s before last (letter c ∷ after) owns = AllMeetWith s (letter c ∷ before) [] after owns
+AllMeetWith s before last (thing n ∷ after) [] = Unit {0}
+AllMeetWith s before last (thing n ∷ after) (own ∷ owns) =
+    (is_guarded s before (thing n ∷ after) ≡ false → MeetsNearest (nearest before) (map glyph_of last) n (map glyph_of own))
+    × AllMeetWith s (thing n ∷ before) own after owns
 
 -- ---- a content with text
 
@@ -180,13 +187,14 @@ HasText [] = ⊥
 HasText (letter c ∷ after) = Unit {0}
 HasText (thing t ∷ after) = HasText after
 
--- Texts that are typed beside calls that give words, and beside nodes that stay. There is a letter: of calls alone a paragraph is a part of their group.
+-- Texts that are typed beside calls, and beside nodes that stay. There is a letter: of calls alone a paragraph is a part of their group.
 pub record IsCalledContent (s : Setting) (signs : List ContentSign) (owns : List (List Item)) : Type 0 where
   pub of_block : s.within ≡ false
   pub characters : AreCharacters signs
   pub given : AreGiven signs owns
+  pub flat : AreFlat signs
   pub own : AreOwnInside owns
-  pub meet : AllMeet s [] signs []
+  pub meet : AllMeetWith s [] [] signs owns
   pub some : HasText signs
 
 -- ---- a heading
@@ -203,8 +211,9 @@ pub record IsCalledHeading (s : Setting) (signs : List ContentSign) (owns : List
   pub one_line : AreOnOneLine signs
   pub characters : AreCharacters signs
   pub given : AreGiven signs owns
+  pub flat : AreFlat signs
   pub own : AreOwnInside owns
-  pub meet : AllMeet s [] signs []
+  pub meet : AllMeetWith s [] [] signs owns
   pub end_seen : AllEndSeen owns
 
 -- ---- what it shows
@@ -218,30 +227,16 @@ called_shown (thing t ∷ after) (own ∷ owns) rest = parts_shown_at 0 [] (line
 
 -- ---- in a folder
 
--- the characters that a call gives, and any other node as it is
-abbrev pub shown_source : Role → Pages → List ℕ → List ℕ
-shown_source Link pages source = source
-shown_source External pages source = source
-shown_source (Bare ends) pages source = source
-shown_source Switch pages source = source
-shown_source Toggle pages source = source
-shown_source (Mark ends began) pages source = source
-shown_source (Group g) pages source = sources (expanded_page pages source).items
-shown_source Function pages source = source
-shown_source Node pages source = source
+-- It is one call, which gives what a group may give, however many calls come before it.
+abbrev pub GivesGroup : Pages → Transclusion → List ℕ → Type 0
+GivesGroup pages g source = (i : ℕ) → IsGroup g i (numbered i (page_stretches pages source))
 
-abbrev pub shown_signs : Pages → List ContentSign → List ContentSign
-shown_signs pages [] = []
-shown_signs pages (letter c ∷ after) = letter c ∷ shown_signs pages after
-shown_signs pages (thing t ∷ after) = thing (record t { source = shown_source t.role pages t.source }) ∷ shown_signs pages after
-
--- It is one call, which gives words.
-pub record GivesWords (pages : Pages) (source : List ℕ) : Type 0 where
-  pub items : (i : ℕ) → numbered i (page_stretches pages source) ≡ map (char (Some i)) (sources (expanded_page pages source).items)
-  pub words : AreWordBytes (sources (expanded_page pages source).items)
-  pub begins : BeginsWord (sources (expanded_page pages source).items)
-  pub unbraced : has_brace_last source ≡ false
-  pub shown_unbraced : has_brace_last (sources (expanded_page pages source).items) ≡ false
+-- characters and nodes of the page, of which none is empty
+abbrev pub ArePageParts : List Part → Type 0
+ArePageParts [] = Unit {0}
+ArePageParts (loose Text o b ∷ ps) = (o ≡ None) × ArePageParts ps
+ArePageParts (loose Sep o b ∷ ps) = ⊥
+ArePageParts (node t ∷ ps) = IsOwn t × ArePageParts ps
 
 -- It calls nothing, and is a node of the page, on one line, in which no node is empty.
 pub record StaysAsItIs (pages : Pages) (t : Thing) : Type 0 where
@@ -250,7 +245,7 @@ pub record StaysAsItIs (pages : Pages) (t : Thing) : Type 0 where
   pub node : IsNode t.role (own_glyphs t)
   pub inside : is_mark t.role ≡ true → is_new_at_start t.role ≡ true
   pub unbroken : IsUnbroken (node_items t.source)
-  pub own : AreOwnOrTexts (line_parts (node_items t.source))
+  pub own : ArePageParts (line_parts (node_items t.source))
 
 abbrev pub IsOfFolder : Role → Pages → Thing → Type 0
 IsOfFolder Link pages t = StaysAsItIs pages t
@@ -259,7 +254,7 @@ IsOfFolder (Bare ends) pages t = StaysAsItIs pages t
 IsOfFolder Switch pages t = StaysAsItIs pages t
 IsOfFolder Toggle pages t = StaysAsItIs pages t
 IsOfFolder (Mark ends began) pages t = StaysAsItIs pages t
-IsOfFolder (Group g) pages t = GivesWords pages t.source
+IsOfFolder (Group g) pages t = GivesGroup pages g t.source
 IsOfFolder Function pages t = StaysAsItIs pages t
 IsOfFolder Node pages t = StaysAsItIs pages t
 
@@ -273,7 +268,7 @@ pub record IsCalledIn (pages : Pages) (s : Setting) (signs : List ContentSign) :
   pub of_block : s.within ≡ false
   pub characters : AreCharacters signs
   pub given : AreOfFolder pages signs
-  pub meet : AllMeet s [] (shown_signs pages signs) []
+  pub meet : (i : ℕ) → AllMeetWith s [] [] signs (owns_in pages i signs)
   pub some : HasText signs
 
 -- ---- in a heading
@@ -294,5 +289,5 @@ pub record IsCalledInHeading (pages : Pages) (s : Setting) (signs : List Content
   pub one_line : AreOnOneLine signs
   pub characters : AreCharacters signs
   pub given : AreOfFolder pages signs
-  pub meet : AllMeet s [] (shown_signs pages signs) []
+  pub meet : (i : ℕ) → AllMeetWith s [] [] signs (owns_in pages i signs)
   pub end_seen : AllSeenIn pages (things signs)

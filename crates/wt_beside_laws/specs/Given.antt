@@ -1,11 +1,17 @@
 -- What a call gives, in its order: characters, and forms, each as the nodes that stay in a content are.
-use Rattle.std.specs.Prelude.{◌≡◌, ℕ, ◌==◌, ◌||◌, Bool, true, false, not, Some, List, [], ◌∷◌, ◌++◌, length, map}
+use Rattle.std.specs.Prelude.{◌≡◌, ℕ, ◌==◌, ◌&&◌, ◌||◌, Bool, true, false, not, Some, nat_lt, List, [], ◌∷◌, ◌++◌, length, map}
 use Rattle.wt_span.specs.Characters as byte
 use Rattle.wt_span.specs.Items.{Item, char}
 use Rattle.wt_guards.specs.declared.role.Role.{Role}
 use Rattle.wt_guards.specs.declared.role.Role.TheVariants.{Link, External, Bare, Switch, Toggle, Mark, Group, Function, Node}
-use Rattle.wt_inline.specs.declared.loose.Loose.TheVariants.{Text}
-use Rattle.wt_inline.specs.Parts.{Part, part}
+use Rattle.wt_guards.specs.declared.role.Transclusion.{Transclusion}
+use Rattle.wt_guards.specs.Letters.{is_bracket}
+use Rattle.wt_guards.specs.Table.{line_start_hazard}
+use Rattle.wt_expand.specs.Expansion.{opens_block}
+use Rattle.wt_lines.specs.Lines.{IsUnbroken}
+use Rattle.wt_inline.specs.declared.loose.Loose.TheVariants.{Text, Sep}
+use Rattle.wt_inline.specs.ItemTree.{forest}
+use Rattle.wt_inline.specs.Parts.{Part, loose, node, part, children}
 use Rattle.wt_tiles.specs.declared.glyph.Glyph.{Glyph}
 use Rattle.wt_tiles.specs.declared.glyph.Glyph.TheVariants as glyph
 use Rattle.wt_tiles.specs.Contexts.{in_line}
@@ -13,8 +19,11 @@ use Rattle.wt_tiles.specs.Glyphs.{glyph_of}
 use Rattle.wt_tiles.specs.Tiles.{Cut}
 use Rattle.wt_tiles.specs.Urls.{is_word}
 use Rattle.wt_context.specs.Line.{line_parts}
-use Rattle.wt_part_laws.specs.CallPieces.{AreItemsOf}
-use Rattle.wt_beside_laws.specs.Called.{is_half_sign}
+use Rattle.wt_annotated.specs.Annotated.{all_unplaced}
+use Rattle.wt_isolation.specs.GroupItems.{empty_nowiki}
+use Rattle.wt_isolation.specs.OpenTexts.{has_open_text}
+use Rattle.wt_isolation.specs.Toggles.{has_odd_line}
+use Rattle.wt_part_laws.specs.CallPieces.{AreItemsOf, IsOfCall}
 use Rattle.wt_beside_laws.specs.Cuts.{add_chars, own_form, add_node, ends_word}
 use Rattle.wt_beside_laws.specs.Flat.{IsFlat}
 use Rattle.wt_beside_laws.specs.Nodes.{IsNode, MayBeBehind, MayFollow, MayLead}
@@ -51,6 +60,10 @@ given_parts j (form r own ∷ signs) = line_parts own ++ given_parts j signs
 
 -- ---- what may be among them
 
+-- beside another one, or before a slash, it may begin a style, a switch or a URL
+abbrev pub is_half_sign : ℕ → Bool
+is_half_sign b = b == byte.apostrophe || (b == byte.underscore || b == byte.colon)
+
 -- it begins no tag and no link, and ends no line
 abbrev pub is_given_byte : ℕ → Bool
 is_given_byte b = not (b == byte.line_break || (b == byte.less_than || b == byte.opening_bracket))
@@ -72,9 +85,8 @@ abbrev pub MayBeFirst : Role → List Glyph → Type 0
 MayBeFirst r [] = Unit {0}
 MayBeFirst r (g ∷ gs) = MayBeBehind r g
 
--- A node, but no style delimiter, as it may stand before these; `word` says whether a letter, digit or `_` may come before it.
+-- A node, as it may stand before these; `word` says whether a letter, digit or `_` may come before it.
 pub record IsGivenForm (word : Bool) (r : Role) (own : List Item) (behind : List Glyph) : Type 0 where
-  pub flat : IsFlat r
   pub node : IsNode r (map glyph_of own)
   pub leads : MayLead r word
   pub follows : MayBeFirst r behind
@@ -85,6 +97,12 @@ AreGivenSigns word [] = Unit {0}
 AreGivenSigns word (character b ∷ signs) =
     (is_given_byte b ≡ true) × (is_half_sign b ≡ true → BeginsApart (given_glyphs signs)) × AreGivenSigns (is_word b) signs
 AreGivenSigns word (form r own ∷ signs) = IsGivenForm word r own (given_glyphs signs) × AreGivenSigns (ends_word false (map glyph_of own)) signs
+
+-- no form is a style delimiter
+abbrev pub AreFlatSigns : List GivenSign → Type 0
+AreFlatSigns [] = Unit {0}
+AreFlatSigns (character b ∷ signs) = AreFlatSigns signs
+AreFlatSigns (form r own ∷ signs) = IsFlat r × AreFlatSigns signs
 
 -- ---- beside others
 
@@ -100,6 +118,12 @@ LastMay [] more = Unit {0}
 LastMay (character b ∷ signs) more = LastMay signs more
 LastMay (form r own ∷ []) more = MayFollow r (map glyph_of own) more
 LastMay (form r own ∷ sign ∷ signs) more = LastMay (sign ∷ signs) more
+
+-- if a form is first, a letter, digit or `_` may come before it or doesn't
+abbrev pub FirstMay : List GivenSign → Bool → Type 0
+FirstMay [] word = Unit {0}
+FirstMay (character b ∷ signs) word = Unit {0}
+FirstMay (form r own ∷ signs) word = MayLead r word
 
 abbrev pub is_bare_url : Role → Bool
 is_bare_url Link = false
@@ -118,12 +142,46 @@ ends_with_url (character b ∷ signs) = ends_with_url signs
 ends_with_url (form r own ∷ []) = is_bare_url r
 ends_with_url (form r own ∷ sign ∷ signs) = ends_with_url (sign ∷ signs)
 
+-- ---- what is first on a line
+
+-- no block but a paragraph begins with it
+abbrev pub may_begin_line : Glyph → Bool
+may_begin_line (glyph.Byte b) =
+    b == byte.opening_bracket || (nat_lt b 256 && not (b == byte.line_break || (line_start_hazard b || is_bracket b)))
+may_begin_line (glyph.Entity c) = true
+may_begin_line glyph.Atom = true
+may_begin_line glyph.Mark = false
+
+abbrev pub BeginsLine : List Glyph → Type 0
+BeginsLine [] = ⊥
+BeginsLine (g ∷ gs) = may_begin_line g ≡ true
+
 -- ---- a group
 
--- What this call gives: such characters and forms, at least one, of which the first is no apostrophe, `_`, colon or slash.
+-- characters of this call, and nodes of which all items are of it
+abbrev pub AreGivenBy : ℕ → List Part → Type 0
+AreGivenBy j [] = Unit {0}
+AreGivenBy j (loose Text o b ∷ ps) = (o ≡ Some j) × AreGivenBy j ps
+AreGivenBy j (loose Sep o b ∷ ps) = ⊥
+AreGivenBy j (node t ∷ ps) = IsOfCall j t × AreGivenBy j ps
+
+-- What this call gives: such characters and forms on one line, of which none is a style delimiter. There is one at least; the first is no apostrophe, `_`,
+-- colon or slash, and opens no block. By itself, behind a `<nowiki/>`, it has even toggles, and no text in it could go on after its end.
 pub record GivesSigns (j : ℕ) (own : List Item) : Type 0 where
   pub signs : List GivenSign
   pub is : own ≡ given_items j signs
   pub of_call : AreItemsOf j own
   pub are : AreGivenSigns false signs
+  pub flat : AreFlatSigns signs
   pub begins : BeginsApart (given_glyphs signs)
+  pub unopened : opens_block own ≡ false
+  pub unbroken : IsUnbroken own
+  pub inside : AreGivenBy j (line_parts own)
+  pub even : has_odd_line (empty_nowiki ∷ own) ≡ false
+  pub closed : has_open_text [] (all_unplaced (forest (children (line_parts own)))) ≡ false
+
+-- So it is a group of the page: one that ends with a URL shows `//`, and one that began its line may do so.
+pub record IsGroup (g : Transclusion) (j : ℕ) (own : List Item) : Type 0 where
+  pub gives : GivesSigns j own
+  pub urls : ends_with_url gives.signs ≡ true → g.slashes ≡ true
+  pub opens : g.began_line ≡ true → BeginsLine (given_glyphs gives.signs)

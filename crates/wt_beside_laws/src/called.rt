@@ -1,9 +1,9 @@
 //! Laws of texts that are typed beside calls: what such a content is in the page's tree.
 
-ghost use Rattle.std.specs.Prelude.{◌≡◌, ℕ, Bool, true, false, Some, List, [], ◌∷◌, ◌++◌, map, All};
+ghost use Rattle.std.specs.Prelude.{◌≡◌, ℕ, Bool, true, false, Some, List, [], ◌∷◌, ◌++◌, All};
 ghost use Rattle.wt_tree.specs.declared.kind.Kind.TheVariants as kind;
-ghost use Rattle.wt_tree.specs.Plain.{Plains, ended, along, element, text_before, plain_before};
-ghost use Rattle.wt_span.specs.Items.{Item, char};
+ghost use Rattle.wt_tree.specs.Plain.{Plains, ended, along, element, plain_before};
+ghost use Rattle.wt_span.specs.Items.{Item};
 ghost use Rattle.wt_span.specs.Origins.{OuterCall};
 ghost use Rattle.wt_guards.specs.declared.role.Role.TheVariants.{Group};
 ghost use Rattle.wt_guards.specs.declared.role.Transclusion.{Transclusion};
@@ -13,9 +13,8 @@ ghost use Rattle.wt_guards.specs.Guards.{Setting, left_side};
 ghost use Rattle.wt_guards.specs.Table.{hazard};
 ghost use Rattle.wt_expand.specs.Work.{Pages};
 ghost use Rattle.wt_lines.specs.Lines.{lines};
-ghost use Rattle.wt_inline.specs.declared.loose.Loose.TheVariants.{Text};
-ghost use Rattle.wt_inline.specs.ItemTree.{plain, nothing, further};
-ghost use Rattle.wt_inline.specs.Parts.{node, loose_leaf};
+ghost use Rattle.wt_inline.specs.ItemTree.{plain, forest};
+ghost use Rattle.wt_inline.specs.Parts.{node, children};
 ghost use Rattle.wt_tiles.specs.declared.glyph.Glyph.{Glyph};
 ghost use Rattle.wt_tiles.specs.Glyphs.{byte_glyphs};
 ghost use Rattle.wt_tiles.specs.Urls.{is_word};
@@ -25,23 +24,23 @@ ghost use Rattle.wt_annotated.specs.Annotated.{all_unplaced};
 ghost use Rattle.wt_annotated.specs.CutTexts.{cut_texts};
 ghost use Rattle.wt_isolation.specs.GroupItems.{with_break_anew, empty_nowiki};
 ghost use Rattle.wt_selser.specs.GroupFaults.{paragraph_face, is_faulty};
-ghost use Rattle.wt_part_laws.specs.HeldCalls.{block_in, HoldsItsCalls, block_of_texts};
+ghost use Rattle.wt_part_laws.specs.HeldCalls.{block_in, HoldsItsCalls, block_of_pieces};
+ghost use Rattle.wt_part_laws.specs.CallPieces.{group_of_call};
 ghost use Rattle.wt_text_edit_laws.specs.ParagraphBetween.{EndsApart, EndsParagraph, blocks_in, body_with};
 ghost use Rattle.wt_text_edit_laws.specs.ParagraphParts.{joined_parts, para_with};
 ghost use Rattle.wt_text_edit_laws.specs.LonePages.{page_chars};
 ghost use Rattle.wt_text_edit_laws.specs.TypedHeadings.{Sides, AreSides, opening, closing_items, heading_round, IsHeadingInside, IsOfLevel};
-ghost use Rattle.wt_beside_laws.specs.Called.{items_with, owns_in, parts_with, AreWordBytes, BeginsWord, AreWords, IsCalledContent, IsCalledHeading, called_shown, shown_signs, IsCalledIn};
-ghost use Rattle.wt_beside_laws.specs.Given.{GivenSign, given_items, given_glyphs, given_parts, BeginsApart, AreGivenSigns, LastMay, ends_with_url};
+ghost use Rattle.wt_beside_laws.specs.Called.{items_with, owns_in, parts_with, IsCalledContent, IsCalledHeading, called_shown, IsCalledIn};
+ghost use Rattle.wt_beside_laws.specs.Given.{GivenSign, given_items, given_glyphs, given_parts, BeginsApart, AreGivenSigns, AreFlatSigns, LastMay, ends_with_url, GivesSigns, IsGroup};
 ghost use Rattle.wt_beside_laws.specs.Glyphs.{letter_glyphs};
 ghost use Rattle.wt_beside_laws.specs.Lines.{IsLineOfText};
 ghost use Rattle.wt_beside_laws.specs.Nests.{marks_of, style_of};
 ghost use Rattle.wt_beside_laws.specs.Shown.{parts_shown_at};
 ghost use Rattle.wt_beside_laws.specs.Styled.{mark_source};
 
-/// Texts beside calls that give words, and beside nodes that stay, are one paragraph, whatever is typed: each line is text wherever it is in
-/// tables, and what is in the paragraph is in the order of the signs (`parts_with`): the words of each call are characters of this call. Between
-/// other lines of a page it is a paragraph of the body, and the body's other children are those that what is before it and what is behind it make
-/// by themselves.
+/// Texts beside calls, and beside nodes that stay, are one paragraph, whatever is typed: each line is text wherever it is in tables, and what is in
+/// the paragraph is in the order of the signs (`parts_with`): what each call gives is what it is on a line by itself. Between other lines of a page
+/// it is a paragraph of the body, and the body's other children are those that what is before it and what is behind it make by themselves.
 pub fn texts_beside_calls_are_one_paragraph()
     ensures lines { (tables : ℕ) (s : Setting) (signs : List ContentSign) (owns : List (List Item)) → IsCalledContent s signs owns
         → All (IsLineOfText tables) (lines (items_with s [] signs owns)) }
@@ -52,13 +51,13 @@ pub fn texts_beside_calls_are_one_paragraph()
         → meaning (before ++ (items_with s [] signs owns ++ tail)) ≡ body_with (blocks_in before ++ para_with (parts_with s [] signs owns) ∷ blocks_in tail) }
 {}
 
-/// Such a paragraph holds its calls (`HoldsItsCalls`), wherever it is and whatever is typed in it: in the page's tree the words of each call are a
-/// group by themselves, and everything else is itself.
+/// Such a paragraph holds its calls (`HoldsItsCalls`), wherever it is and whatever is typed in it: in the page's tree what each call gives is a
+/// group by itself, and everything else is itself.
 pub fn texts_beside_calls_hold_these()
     ensures holds { (s : Setting) (signs : List ContentSign) (owns : List (List Item)) → IsCalledContent s signs owns
         → HoldsItsCalls (para_with (joined_parts (lines (items_with s [] signs owns)))) }
     ensures block { (calls : List OuterCall) (s : Setting) (signs : List ContentSign) (owns : List (List Item)) → IsCalledContent s signs owns
-        → block_in calls (para_with (joined_parts (lines (items_with s [] signs owns)))) ≡ block_of_texts calls (plain kind.Para) [] (parts_with s [] signs owns) [] }
+        → block_in calls (para_with (joined_parts (lines (items_with s [] signs owns)))) ≡ block_of_pieces calls (plain kind.Para) [] (parts_with s [] signs owns) [] }
 {}
 
 /// So in a heading, where texts are typed on one line, and which may begin and end with calls: it is on one line, begins and ends with no blank,
@@ -72,46 +71,42 @@ pub fn texts_beside_calls_may_be_in_headings()
         → HoldsItsCalls (heading_round sides (items_with s [] signs owns)) }
     ensures block { (calls : List OuterCall) (s : Setting) (signs : List ContentSign) (owns : List (List Item)) (sides : Sides) → IsCalledHeading s signs owns
         → AreSides sides → block_in calls (heading_round sides (items_with s [] signs owns))
-        ≡ block_of_texts calls (plain (kind.Heading sides.level)) (page_chars (opening sides)) (parts_with s [] signs owns) (closing_items sides) }
+        ≡ block_of_pieces calls (plain (kind.Heading sides.level)) (page_chars (opening sides)) (parts_with s [] signs owns) (closing_items sides) }
 {}
 
-/// It shows the texts that were typed, and between them each node as its items show by themselves (`called_shown`); a call shows its words.
+/// It shows the texts that were typed, and between them each node, and what each call gives, as its items show by themselves (`called_shown`). So does
+/// the group of a call.
 pub fn texts_beside_calls_are_shown()
     ensures shown { (calls : List OuterCall) (s : Setting) (signs : List ContentSign) (owns : List (List Item)) (rest : Plains) → IsCalledContent s signs owns
         → plain_before (cut_texts (block_in calls (para_with (joined_parts (lines (items_with s [] signs owns)))))) rest
         ≡ along (element paragraph_face (called_shown signs owns ended)) rest }
-    ensures words { (shown : List ℕ) (own : List Item) (rest : Plains) → AreWords shown own
-        → parts_shown_at 0 [] (line_parts own) rest ≡ text_before shown rest }
+    ensures group { (calls : List OuterCall) (g : Transclusion) (j : ℕ) (own : List Item) (rest : Plains) → IsGroup g j own
+        → plain_before (cut_texts (group_of_call calls j (forest (children (line_parts own))))) rest ≡ parts_shown_at 0 [] (line_parts own) rest }
 {}
 
-/// The group of a call that gives words has no fault (`is_faulty`): read alone, behind a `<nowiki/>`, it shows the same, its line has even toggles,
-/// and no text in it could go on after it. So `edit` doesn't refuse to read a paragraph by itself that holds it.
-#[tactic(auto, using(crate::proofs::Groups::Faults::no_fault))]
-pub fn groups_of_words_have_no_fault()
-    ensures { (calls : List OuterCall) (j : ℕ) (shown : List ℕ) → AreWordBytes shown → BeginsWord shown
-        → is_faulty (empty_nowiki ∷ with_break_anew calls (map (char (Some j)) shown)) (all_unplaced (further (loose_leaf Text (map (char (Some j)) shown)) nothing))
-        ≡ false }
+/// The group of what a call gives has no fault (`is_faulty`): read alone, behind a `<nowiki/>`, it shows the same, its line has even toggles, and no
+/// text in it could go on after it. So `edit` doesn't refuse to read a paragraph by itself that holds it.
+pub fn groups_of_what_calls_give_have_no_fault()
+    ensures { (calls : List OuterCall) (j : ℕ) (own : List Item) → GivesSigns j own
+        → is_faulty (empty_nowiki ∷ with_break_anew calls own) (all_unplaced (forest (children (line_parts own)))) ≡ false }
 {}
 
-/// In a folder where each call of such a content gives words (`IsCalledIn`), and however many calls come before it in the page, the content is one,
-/// by what its calls give (`owns_in`), where each group's source stands for the words that it shows: where `<nowiki/>` is put, and how characters are
-/// written, doesn't hang on it.
+/// In a folder where each call gives what may be in a group (`IsCalledIn`), and however many calls come before it in the page, the content is one,
+/// by what its calls give (`owns_in`).
 pub fn texts_beside_calls_are_such_in_a_folder()
-    ensures content { (pages : Pages) (i : ℕ) (s : Setting) (signs : List ContentSign) → IsCalledIn pages s signs
-        → IsCalledContent s (shown_signs pages signs) (owns_in pages i signs) }
-    ensures items { (pages : Pages) (i : ℕ) (s : Setting) (signs : List ContentSign) → IsCalledIn pages s signs
-        → items_with s [] signs (owns_in pages i signs) ≡ items_with s [] (shown_signs pages signs) (owns_in pages i signs) }
+    ensures { (pages : Pages) (i : ℕ) (s : Setting) (signs : List ContentSign) → IsCalledIn pages s signs → IsCalledContent s signs (owns_in pages i signs) }
 {}
 
 /// What a call gives, characters and forms in any order, such as links, URLs and references (`AreGivenSigns`), is on a line what each of these is by
 /// itself: a link beside words of the same call is the link that it is alone.
 pub fn what_a_call_gives_is_each_by_itself()
-    ensures { (j : ℕ) (signs : List GivenSign) → AreGivenSigns false signs → line_parts (given_items j signs) ≡ given_parts j signs }
+    ensures { (j : ℕ) (signs : List GivenSign) → AreGivenSigns false signs → AreFlatSigns signs
+        → line_parts (given_items j signs) ≡ given_parts j signs }
 {}
 
 /// A style that a call gives, between delimiters of its own, round such characters and forms, is on a line this style: so is `''{{{2}}}''` with words.
 pub fn a_style_that_a_call_gives_is_one()
-    ensures { (j : ℕ) (bold : Bool) (signs : List GivenSign) → AreGivenSigns false signs → BeginsApart (given_glyphs signs)
+    ensures { (j : ℕ) (bold : Bool) (signs : List GivenSign) → AreGivenSigns false signs → AreFlatSigns signs → BeginsApart (given_glyphs signs)
         → LastMay signs (byte_glyphs (mark_source bold))
         → line_parts (marks_of (Some j) bold ++ (given_items j signs ++ marks_of (Some j) bold)) ≡ node (style_of (Some j) bold (given_parts j signs)) ∷ [] }
 {}

@@ -3,10 +3,11 @@ pub mod Counts
 pub mod Found
 pub mod Sent
 pub mod Making
-pub mod Given
 pub mod Cases
-mod PageCases
+pub mod PageCases
 pub mod EndCases
 mod FirstCases
 mod LastCases
 mod BothCases
+mod LinkCases
+mod EmptyCases

@@ -49,7 +49,7 @@ no_text pages k q (inr h) = h.texts
 
 one_whole : (pages : Pages) (k : TextBlock) (q : List ℕ) → IsEditableContent pages k q → IsWholeIn pages k q
 one_whole pages k q (inl (c, n)) = inl (c, n)
-one_whole pages k q (inr h) = inr h.words
+one_whole pages k q (inr h) = inr h.whole
 
 all_hold : (pages : Pages) (ss : List BlockSpot) → AreEditableContents pages ss → EachHolds pages ss
 all_hold pages [] h = tt

@@ -66,3 +66,4 @@ pub mod Beside
 pub mod Cells
 pub mod Among
 pub mod Told
+pub mod AllTold

@@ -13,12 +13,12 @@ use Rattle.wt_called_edit_laws.specs.Sends.{BlockSent, NoneEdited, Sends, AllSen
 
 -- ---- none is empty
 
-abbrev NoneEmpty : List (List ℕ) → Type 0
+abbrev pub NoneEmpty : List (List ℕ) → Type 0
 NoneEmpty [] = Unit {0}
 NoneEmpty ([] ∷ ps) = ⊥
 NoneEmpty ((i ∷ is) ∷ ps) = NoneEmpty ps
 
-past_full : (ps : List (List ℕ)) → NoneEmpty ps → NoneEmpty (all_past ps)
+pub past_full : (ps : List (List ℕ)) → NoneEmpty ps → NoneEmpty (all_past ps)
 past_full [] h = tt
 past_full ([] ∷ ps) h = absurd h
 past_full ((i ∷ is) ∷ ps) h = past_full ps h
@@ -27,7 +27,7 @@ inside_full : (ps qs : List (List ℕ)) → NoneEmpty qs → NoneEmpty (all_insi
 inside_full [] qs h = h
 inside_full (p ∷ ps) qs h = inside_full ps qs h
 
-paths_full : (fs : TreeFrames) → NoneEmpty (paths_to fs)
+pub paths_full : (fs : TreeFrames) → NoneEmpty (paths_to fs)
 paths_full no_nodes = tt
 paths_full (more_nodes (spot n) fs) = past_full (paths_to fs) (paths_full fs)
 paths_full (more_nodes (kept t) fs) = past_full (paths_to fs) (paths_full fs)

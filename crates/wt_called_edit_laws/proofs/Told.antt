@@ -8,4 +8,5 @@ pub mod RestEnds
 pub mod OwnReads
 pub mod FreeNodes
 pub mod ToldPages
+pub mod ToldNodes
 mod ToldCases

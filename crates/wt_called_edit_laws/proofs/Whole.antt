@@ -1,10 +1,11 @@
--- Blocks whose calls give words can be read by themselves.
+-- Blocks with calls can be read by themselves.
 pub mod CallPlaces
 pub mod OfCall
 pub mod InSlice
 pub mod Opened
 pub mod Pieces
 pub mod Blocks
+pub mod GroupsAlone
 pub mod Contents
 pub mod Pieced
 pub mod TextAndCalls

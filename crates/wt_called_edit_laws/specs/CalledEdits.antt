@@ -68,7 +68,7 @@ abbrev pub FitsRound : Pages → TextBlock → List ℕ → List Thing → Type 
 FitsRound pages a_paragraph q ts = Unit {0}
 FitsRound pages (a_heading s) q ts = IsReadContent (a_heading s) q × AllSeenIn pages ts
 
--- A paragraph or heading of the page, whatever it is, in pieces: texts, calls that give words, and other nodes on one line. Its nodes are these calls
+-- A paragraph or heading of the page, whatever it is, in pieces: texts, calls that give what may be groups, and other nodes on one line. Its nodes are these calls
 -- and nodes, beside which texts are typed; none of them is bold or italic.
 pub record IsBesideCalls (pages : Pages) (k : TextBlock) (q : List ℕ) (block : Tree) : Type 0 where
   pub pieces : List (List ℕ)

@@ -24,7 +24,7 @@ use Rattle.wt_called_edit_laws.specs.SettledPages.{OnlyTheseAreOthers}
 
 -- ---- which contents may be sent
 
--- Where a block calls nothing, what may be sent for any such block (`Fits`). Where it holds calls that give words, any texts beside these and beside
+-- Where a block calls nothing, what may be sent for any such block (`Fits`). Where it holds calls, any texts beside these and beside
 -- its other nodes: each call stays; in a paragraph is some text, and in a heading no line break is typed.
 abbrev pub FitsIn : Pages → TextBlock → List ℕ → Edited → Type 0
 FitsIn pages k q (stays t u) = ⊥

@@ -11,16 +11,16 @@ use Rattle.wt_called_edit_laws.specs.CallingBlocks.{AreCallingBlocks}
 use Rattle.wt_called_edit_laws.specs.CallingEdits.{TakesLetters}
 use Rattle.wt_called_edit_laws.specs.Covered.{HaveFreeBytes}
 use Rattle.wt_called_edit_laws.specs.Groups.{called_tree}
-use Rattle.wt_called_edit_laws.specs.WholeContents.{HoldsWords}
+use Rattle.wt_called_edit_laws.specs.WholeContents.{HoldsGroups}
 use Rattle.wt_called_edit_laws.specs.WrittenAnew.{HoldsAnywhere}
 
--- A content with calls, each of which gives words in this folder: wherever it is in the page it is no part of what they give, text may be typed before
+-- A content with calls, each of which gives what may be a group in this folder: wherever it is in the page it is no part of what they give, text may be typed before
 -- them, none of them is text itself, and no tag is left open.
 pub record HoldsCalls (pages : Pages) (k : TextBlock) (q : List ℕ) : Type 0 where
   pub holds : HoldsAnywhere pages k q
   pub letters : TakesLetters pages k q
   pub texts : (expanded_page pages (source_of k q)).text_calls ≡ []
-  pub words : HoldsWords pages k q
+  pub whole : HoldsGroups pages k q
 
 -- it is read by itself and calls nothing, or is such a one
 abbrev pub IsEditableContent : Pages → TextBlock → List ℕ → Type 0

@@ -18,6 +18,7 @@ pub mod PartTexts
 pub mod Covered
 pub mod Parts
 pub mod Retyped
+pub mod RowBlocks
 pub mod AnyBlocks
 pub mod AnyTexts
 pub mod CellEdits
@@ -50,4 +51,5 @@ pub mod LinedAmong
 pub mod LinedCalling
 pub mod LinedHeadings
 pub mod ToldLines
+pub mod ToldTogether
 pub mod ToldAmong

@@ -1,18 +1,18 @@
--- The nodes of a paragraph of the page, calls that give words among them, beside which texts are typed.
-use Rattle.std.specs.Prelude.{◌≡◌, ◌⊎◌, ℕ, true, false, List, [], ◌∷◌}
+-- The nodes of a paragraph of the page, calls among them, beside which texts are typed.
+use Rattle.std.specs.Prelude.{◌≡◌, ◌⊎◌, ℕ, true, false, List, [], ◌∷◌, map}
 use Rattle.std.specs.Str.{IsUtf8}
 use Rattle.wt_guards.specs.Content.{Thing}
-use Rattle.wt_guards.specs.Guards.{is_adjacent}
+use Rattle.wt_guards.specs.Guards.{is_adjacent, is_always_parted}
 use Rattle.wt_expand.specs.PageCalls.{expanded_page}
 use Rattle.wt_expand.specs.Work.{Pages}
-use Rattle.wt_beside_laws.specs.Called.{shown_source, IsOfFolder}
-use Rattle.wt_beside_laws.specs.Cuts.{own_glyphs, ends_word}
+use Rattle.wt_tiles.specs.Glyphs.{glyph_of}
+use Rattle.wt_part_laws.specs.Expanded.{part_items}
+use Rattle.wt_beside_laws.specs.Called.{MayMeet, IsOfFolder}
 use Rattle.wt_beside_laws.specs.FlatBlocks.{IsSealed}
-use Rattle.wt_beside_laws.specs.Nodes.{MayFollow, MayLead}
 use Rattle.wt_called_edit_laws.specs.WholeContents.{IsShut}
 use Rattle.wt_called_edit_laws.specs.Written.{IsReadThing, IsOwnPart}
 
--- It gives words, or calls nothing and is a node on one line; it stays what it is beside text that is typed, is a part of the page by itself, closes
+-- It gives what may be a group, or calls nothing and is a node on one line; it stays what it is beside text that is typed, is a part of the page by itself, closes
 -- no tag behind it, and ends in no open one.
 pub record IsPageThing (pages : Pages) (t : Thing) : Type 0 where
   pub folder : IsOfFolder t.role pages t
@@ -22,19 +22,19 @@ pub record IsPageThing (pages : Pages) (t : Thing) : Type 0 where
   pub shut : IsShut t
   pub utf8 : IsUtf8 t.source
 
--- as it shows in the folder
-abbrev pub shown_thing : Pages → Thing → Thing
-shown_thing pages t = record t { source = shown_source t.role pages t.source }
-
--- where the page has them side by side nothing joins them
+-- where the page has them side by side, and they aren't always parted, nothing joins what they give
 abbrev pub MeetThere : Pages → Thing → Thing → Type 0
 MeetThere pages t n =
-    is_adjacent t n ≡ true
-    → MayFollow t.role (own_glyphs (shown_thing pages t)) (own_glyphs (shown_thing pages n)) × MayLead n.role (ends_word false (own_glyphs (shown_thing pages t)))
+    (i j : ℕ) → is_adjacent t n ≡ true → is_always_parted t.role n.role ≡ false
+    → MayMeet t (map glyph_of (part_items pages i t.source)) n (map glyph_of (part_items pages j n.source))
 
 abbrev pub MeetLater : Pages → Thing → List Thing → Type 0
 MeetLater pages t [] = Unit {0}
 MeetLater pages t (n ∷ ts) = MeetThere pages t n × MeetLater pages t ts
+
+abbrev pub AllMeetLater : Pages → List Thing → Type 0
+AllMeetLater pages [] = Unit {0}
+AllMeetLater pages (t ∷ ts) = MeetLater pages t ts × AllMeetLater pages ts
 
 abbrev pub ArePageThings : Pages → List Thing → Type 0
 ArePageThings pages [] = Unit {0}

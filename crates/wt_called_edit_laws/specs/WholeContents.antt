@@ -1,23 +1,26 @@
--- Contents that can be read by themselves, with the calls in them: these give words, and no node ends in an open tag.
-use Rattle.std.specs.Prelude.{◌≡◌, ◌⊎◌, ℕ, false, Some, List, [], ◌∷◌, if◌then◌else◌}
+-- Contents that can be read by themselves, with the calls in them: what these give may be a group, and no node ends in an open tag.
+use Rattle.std.specs.Prelude.{◌≡◌, ◌⊎◌, ℕ, true, false, Some, List, [], ◌∷◌, if◌then◌else◌}
+use Rattle.std.specs.List.{list_all}
 use Rattle.wt_tree.specs.Tiling.{HasNoGroup}
 use Rattle.wt_guards.specs.Content.{ContentSign, Thing, letter, thing, is_group}
 use Rattle.wt_span.specs.Items.{Item, call_of}
 use Rattle.wt_span.specs.Origins.{OuterCall, same_call}
 use Rattle.wt_inline.specs.declared.loose.Loose.TheVariants.{Text, Sep}
-use Rattle.wt_inline.specs.Parts.{Part, loose, node}
+use Rattle.wt_inline.specs.ItemTree.{ItemTree, tree_items}
+use Rattle.wt_inline.specs.Parts.{Part, loose, node, children}
 use Rattle.wt_context.specs.Line.{line_parts}
+use Rattle.wt_annotated.specs.Clean.{is_page}
 use Rattle.wt_isolation.specs.OpenTags.{ends_open, node_ends_open}
 use Rattle.wt_expand.specs.PageCalls.{expanded_page}
 use Rattle.wt_expand.specs.Work.{Pages}
-use Rattle.wt_part_laws.specs.CallTexts.{AreOwnOrTexts}
+use Rattle.wt_part_laws.specs.CallPieces.{AreOwnOrGiven, CallPiece, own, given, call_pieces}
 use Rattle.wt_part_laws.specs.Expanded.{part_items}
 use Rattle.wt_part_laws.specs.Standing.{standing}
 use Rattle.wt_text_edit_laws.specs.BlockSpots.{BlockSpot}
 use Rattle.wt_text_edit_laws.specs.Contents.{IsContent, content_parts_of}
 use Rattle.wt_text_edit_laws.specs.NoCalls.{CallsNothing}
 use Rattle.wt_text_edit_laws.specs.TextBlocks.{TextBlock, source_of, block_items}
-use Rattle.wt_beside_laws.specs.Called.{AreWords}
+use Rattle.wt_beside_laws.specs.Given.{GivesSigns}
 use Rattle.wt_beside_laws.specs.NodeItems.{node_items}
 
 -- ---- what a call gives
@@ -27,18 +30,24 @@ abbrev pub of_call : ℕ → List Item → List Item
 of_call j [] = []
 of_call j (x ∷ xs) = if same_call (call_of x) (Some j) then x ∷ of_call j xs else of_call j xs
 
--- none, or words
-abbrev pub NoneOrWords : List Item → Type 0
-NoneOrWords own = (own ≡ []) ⊎ ((shown : List ℕ) × AreWords shown own)
+-- what each call gives side by side may be a group, and is what its items are on a line by themselves
+abbrev pub AreGroups : List Item → List CallPiece → Type 0
+AreGroups xs [] = Unit {0}
+AreGroups xs (own t ∷ ps) = AreGroups xs ps
+AreGroups xs (given j t ts ∷ ps) = GivesSigns j (of_call j xs) × (t ∷ ts ≡ children (line_parts (of_call j xs))) × AreGroups xs ps
 
 -- ---- open tags
 
--- of characters of texts and nodes no node ends in one, and none is a group
+-- a node of the page doesn't end in one, and has no group
+abbrev pub IsShutNode : ItemTree → Type 0
+IsShutNode t = list_all is_page (tree_items t) ≡ true → (node_ends_open (standing 0 [] t) ≡ false) × HasNoGroup (standing 0 [] t)
+
+-- so of characters of texts and nodes
 abbrev pub AreShutParts : List Part → Type 0
 AreShutParts [] = Unit {0}
 AreShutParts (loose Text o b ∷ ps) = AreShutParts ps
 AreShutParts (loose Sep o b ∷ ps) = ⊥
-AreShutParts (node t ∷ ps) = (node_ends_open (standing 0 [] t) ≡ false) × HasNoGroup (standing 0 [] t) × AreShutParts ps
+AreShutParts (node t ∷ ps) = IsShutNode t × AreShutParts ps
 
 -- nor does a call
 abbrev pub AreShutCalls : List OuterCall → Type 0
@@ -56,16 +65,16 @@ AreShut (thing t ∷ after) = IsShut t × AreShut after
 
 -- ---- a content in a folder
 
--- Text and nodes of the page, side by side with calls that give words.
-pub record HoldsWords (pages : Pages) (k : TextBlock) (q : List ℕ) : Type 0 where
-  pub texts : (i : ℕ) → AreOwnOrTexts (content_parts_of k (part_items pages i q))
-  pub words : (i j : ℕ) → NoneOrWords (of_call j (part_items pages i q))
+-- Text and nodes of the page, side by side with calls that give what may be a group.
+pub record HoldsGroups (pages : Pages) (k : TextBlock) (q : List ℕ) : Type 0 where
+  pub parts : (i : ℕ) → AreOwnOrGiven (content_parts_of k (part_items pages i q))
+  pub groups : (i : ℕ) → AreGroups (part_items pages i q) (call_pieces (children (content_parts_of k (part_items pages i q))))
   pub shut : (i : ℕ) → AreShutParts (content_parts_of k (part_items pages i q))
   pub shut_calls : AreShutCalls (expanded_page pages (source_of k q)).outer
 
 -- so is one that calls nothing
 abbrev pub IsWholeIn : Pages → TextBlock → List ℕ → Type 0
-IsWholeIn pages k q = (IsContent k q × CallsNothing (block_items k q)) ⊎ HoldsWords pages k q
+IsWholeIn pages k q = (IsContent k q × CallsNothing (block_items k q)) ⊎ HoldsGroups pages k q
 
 abbrev pub EachWhole : Pages → List BlockSpot → Type 0
 EachWhole pages [] = Unit {0}

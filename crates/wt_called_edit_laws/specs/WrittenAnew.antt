@@ -1,4 +1,4 @@
--- Paragraphs of texts beside calls that give words, as they are written; and blocks that hold their calls, however many come before.
+-- Paragraphs of texts beside calls, as they are written; and blocks that hold their calls, however many come before.
 use Rattle.std.specs.Prelude.{◌≡◌, ◌⊎◌, ℕ, List, [], ◌∷◌}
 use Rattle.std.specs.Str.{IsUtf8}
 use Rattle.wt_guards.specs.Content.{ContentSign, letter, thing}
@@ -33,7 +33,7 @@ StayButForOthers pages (b ∷ bs) [] = ((expanded_page pages b).outer ≡ []) ×
 StayButForOthers pages (b ∷ bs) (d ∷ ds) =
     ((b ≡ d) × StayButForOthers pages bs ds) ⊎ (((expanded_page pages b).outer ≡ []) × StayButForOthers pages bs (d ∷ ds))
 
--- The calls give words in this folder, and there is some text. Each node stays what it is beside text that is typed, is a part of the page by
+-- The calls give what may be groups in this folder, and there is some text. Each node stays what it is beside text that is typed, is a part of the page by
 -- itself, closes no tag behind it, and ends in no open one.
 pub record IsWrittenBeside (pages : Pages) (s : Setting) (signs : List ContentSign) : Type 0 where
   pub called : IsCalledIn pages s signs

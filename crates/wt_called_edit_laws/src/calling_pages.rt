@@ -36,10 +36,10 @@ pub fn blocks_that_call_stay_where_nothing_is_written()
         → block_with_groups pages ss behind n ≡ block_with_groups pages rs behind n }
 {}
 
-/// Where each block calls nothing, or holds text and nodes of the page beside calls that give words, and no node of it ends in an open tag
+/// Where each block calls nothing, or holds text and nodes of the page beside calls that give what may be groups, and no node of it ends in an open tag
 /// (`IsWholeIn`), each can be read by itself where it is in the page's tree: no tag is open in it, and no group in it has a fault (`AreWhole`).
 #[tactic(auto, using(crate::proofs::Whole::Blocks::blocks_whole))]
-pub fn blocks_whose_calls_give_words_are_whole()
+pub fn blocks_with_calls_are_whole()
     ensures { (pages : Pages) (ss : List BlockSpot) (behind : List ℕ) → AreCallingOutside pages ss behind
         → first_refusal pages (spots_source ss behind) (page_work pages (spots_source ss behind)) ≡ None → EachWhole pages ss
         → AreWhole (expanded_page pages (spots_source ss behind)) (block_with_groups pages ss behind) 0 ss }
@@ -69,7 +69,7 @@ pub fn edits_of_blocks_that_call_make_the_page()
 {}
 
 /// The contents of any number of these blocks at once, of those that hold calls and of those that call nothing. Each is at a path of the page's tree with
-/// its groups. Where a block calls nothing, an edit may send for it what it may send in any such block; where it holds calls that give words, texts may be
+/// its groups. Where a block calls nothing, an edit may send for it what it may send in any such block; where it holds calls, texts may be
 /// typed, changed and deleted beside these, and other nodes deleted, in a paragraph with some text (`FitsIn`). It is done: the new page has these contents, as
 /// they are spelled, and every other byte is what it was; unless it is longer than a page may be. Without marks, too, where each edited block shows
 /// something else. For any such contents there is such an edit. The new page is such a page again.
@@ -78,7 +78,7 @@ pub fn contents_beside_calls_are_taken()
     ensures { (pages : Pages) (ss : List BlockSpot) (behind : List ℕ) → IsCallingPage pages ss behind → TakesContentsIn pages ss behind }
 {}
 
-/// Such a page is told by its bytes: where each of its blocks, which call nothing or hold calls that give words, has a byte that no group of its tree has, and
+/// Such a page is told by its bytes: where each of its blocks, which call nothing or hold calls that give what may be groups, has a byte that no group of its tree has, and
 /// the page isn't refused (`IsEditableWithCalls`), it is one. Each page of those whose blocks call nothing (`IsEditablePage`) is told so, too.
 pub fn pages_whose_blocks_call_are_told_by_bytes()
     ensures calling { (pages : Pages) (ss : List BlockSpot) (behind : List ℕ) → IsEditableWithCalls pages ss behind → IsCallingPage pages ss behind }

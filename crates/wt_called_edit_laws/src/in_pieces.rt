@@ -13,7 +13,7 @@ ghost use Rattle.wt_part_laws.specs.HeldCalls.{block_in};
 ghost use Rattle.wt_text_edit_laws.specs.TextBlocks.{a_paragraph, a_heading, source_of};
 ghost use Rattle.wt_text_edit_laws.specs.TypedHeadings.{Sides};
 ghost use Rattle.wt_called_edit_laws.specs.CalledContents.{tree_round};
-ghost use Rattle.wt_called_edit_laws.specs.CalledEdits.{IsBesideCalls};
+ghost use Rattle.wt_called_edit_laws.specs.CalledEdits.{page_things, IsBesideCalls};
 ghost use Rattle.wt_called_edit_laws.specs.CallingBlocks.{IsContentIn, IsNewContentIn};
 ghost use Rattle.wt_called_edit_laws.specs.CallingEdits.{TakesLetters};
 ghost use Rattle.wt_called_edit_laws.specs.EditableBlocks.{HoldsCalls};
@@ -21,11 +21,11 @@ ghost use Rattle.wt_called_edit_laws.specs.InPieces.{pieces_source, AreInPieces,
 ghost use Rattle.wt_beside_laws.specs.Called.{HasText};
 ghost use Rattle.wt_beside_laws.specs.Lines.{AreCharacters};
 ghost use Rattle.wt_beside_laws.specs.Stood.{things};
-ghost use Rattle.wt_called_edit_laws.specs.PageThings.{ArePageThings, ThingsStay, thing_sources};
+ghost use Rattle.wt_called_edit_laws.specs.PageThings.{AllMeetLater, ArePageThings, ThingsStay, thing_sources};
 ghost use Rattle.wt_called_edit_laws.specs.PiecedParagraphs.{IsInPieces, IsHeadingInPieces, IsTextAndCalls, IsHeadingOfCalls};
 ghost use Rattle.wt_called_edit_laws.specs.PartTexts.{AreSourcesAt};
 ghost use Rattle.wt_called_edit_laws.specs.Settled.{settled};
-ghost use Rattle.wt_called_edit_laws.specs.WholeContents.{HoldsWords};
+ghost use Rattle.wt_called_edit_laws.specs.WholeContents.{HoldsGroups};
 ghost use Rattle.wt_called_edit_laws.specs.WrittenAnew.{node_sources, StayButForOthers, IsWrittenBeside};
 
 /// A paragraph of the page, whatever it is, may be cut in pieces (`AreInPieces`): texts, calls and other nodes, of which each gives what it gives by
@@ -40,8 +40,8 @@ pub fn pieces_are_read_by_themselves()
     ensures { (pages : Pages) (bs : List (List ℕ)) → AreReadApart pages bs → AreInPieces pages bs }
 {}
 
-/// So any texts may be typed beside the calls and the other nodes of a paragraph of the page (`ArePageThings`): the calls give words, each node stays
-/// what it is beside text, and no two that the page has side by side join. Each that calls stays, any other may go, and there is some text.
+/// So any texts may be typed beside the calls and the other nodes of a paragraph of the page (`ArePageThings`): the calls give what may be a group, each node
+/// stays what it is beside text, and no two that the page has side by side join. Each that calls stays, any other may go, and there is some text.
 pub fn paragraphs_of_the_page_take_texts_beside_calls()
     ensures beside { (pages : Pages) (olds : List Thing) (s : Setting) (signs : List ContentSign) → s.within ≡ false → AreCharacters signs → HasText signs
         → ArePageThings pages olds → ThingsStay pages olds (things signs) → IsWrittenBeside pages s signs }
@@ -50,9 +50,9 @@ pub fn paragraphs_of_the_page_take_texts_beside_calls()
         → ThingsStay pages olds (things signs) → IsNewContentIn pages a_paragraph (pieces_source bs) (spelled s signs) }
 {}
 
-/// What is written so can be read by itself, wherever it is in a page (`HoldsWords`): in its block no tag is open, and no group has a fault.
+/// What is written so can be read by itself, wherever it is in a page (`HoldsGroups`): in its block no tag is open, and no group has a fault.
 pub fn texts_beside_calls_can_be_read_by_themselves()
-    ensures { (pages : Pages) (s : Setting) (signs : List ContentSign) → IsWrittenBeside pages s signs → HoldsWords pages a_paragraph (spelled s signs) }
+    ensures { (pages : Pages) (s : Setting) (signs : List ContentSign) → IsWrittenBeside pages s signs → HoldsGroups pages a_paragraph (spelled s signs) }
 {}
 
 /// In the place of such a paragraph two contents may be written that are the same but for their first letter (`TakesLetters`); and so they may in the
@@ -65,7 +65,7 @@ pub fn letters_may_be_typed_before_calls()
 {}
 
 /// So a paragraph of the page, whoever wrote it, is one of which texts may be typed beside its calls (`IsInPieces`): it is a content in this folder,
-/// and holds calls that give words.
+/// and holds its calls.
 pub fn paragraphs_in_pieces_may_be_edited()
     ensures content { (pages : Pages) (q : List ℕ) → IsInPieces pages q → IsContentIn pages a_paragraph q }
     ensures calls { (pages : Pages) (q : List ℕ) → IsInPieces pages q → HoldsCalls pages a_paragraph q }
@@ -78,12 +78,13 @@ pub fn headings_in_pieces_may_be_edited()
 {}
 
 /// Where a paragraph is texts and calls alone (`IsTextAndCalls`), it is such a one, and its node in the page's tree is one of which texts are typed beside
-/// the calls (`IsBesideCalls`), wherever it is and whatever calls come before it: a text for each text, and a group for each call.
+/// the calls (`IsBesideCalls`), wherever it is and whatever calls come before it: a text for each text, and a group for each call. Where two calls are side by side, what they give must be such as may meet (`AllMeetLater`).
 pub fn texts_and_calls_are_nodes_of_their_paragraph()
     ensures pieces { (pages : Pages) (q : List ℕ) → IsTextAndCalls pages q → IsInPieces pages q }
     ensures nodes { (pages : Pages) (q : List ℕ) (block : Tree) (n at i : ℕ) (calls : List OuterCall) → 0 < n
         → block ≡ settled n at (cut_texts (block_in calls (tree_round a_paragraph (part_items pages i q))))
-        → AreSourcesAt calls i (expanded_page pages q).outer → IsTextAndCalls pages q → IsBesideCalls pages a_paragraph q block }
+        → AreSourcesAt calls i (expanded_page pages q).outer → IsTextAndCalls pages q → AllMeetLater pages (page_things block)
+        → IsBesideCalls pages a_paragraph q block }
 {}
 
 /// And where a heading is texts and such calls (`IsHeadingOfCalls`), so is its node, by the calls of the whole heading.
@@ -91,5 +92,6 @@ pub fn texts_and_calls_are_nodes_of_their_heading()
     ensures pieces { (pages : Pages) (s : Sides) (q : List ℕ) → IsHeadingOfCalls pages s q → IsHeadingInPieces pages s q }
     ensures nodes { (pages : Pages) (s : Sides) (q : List ℕ) (block : Tree) (n at i : ℕ) (calls : List OuterCall) → 0 < n
         → block ≡ settled n at (cut_texts (block_in calls (tree_round (a_heading s) (part_items pages i q))))
-        → AreSourcesAt calls i (expanded_page pages (source_of (a_heading s) q)).outer → IsHeadingOfCalls pages s q → IsBesideCalls pages (a_heading s) q block }
+        → AreSourcesAt calls i (expanded_page pages (source_of (a_heading s) q)).outer → IsHeadingOfCalls pages s q
+        → AllMeetLater pages (page_things block) → IsBesideCalls pages (a_heading s) q block }
 {}

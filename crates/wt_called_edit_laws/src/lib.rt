@@ -55,7 +55,7 @@ ghost use Rattle.wt_called_edit_laws.specs.SettledPages.{OnlyTextsAreOthers, Onl
 ghost use Rattle.wt_called_edit_laws.specs.Covered.{CleanWhereFree, IsEditablePage};
 ghost use Rattle.wt_called_edit_laws.specs.CallingBlocks.{IsContentIn, IsNewContentIn, AreEdited, AreCallingBlocks, tree_with_calls, CallingBlocksStand};
 ghost use Rattle.wt_called_edit_laws.specs.CallingGroups.{AreCallingOutside, CallingGroupsStay, CallingNodesStay, block_with_groups};
-ghost use Rattle.wt_part_laws.specs.HeldCalls.{block_in, HoldsItsCalls, AllHold, block_of_texts};
+ghost use Rattle.wt_part_laws.specs.HeldCalls.{block_in, HoldsItsCalls, AllHold, block_of_pieces};
 ghost use Rattle.wt_text_edit_laws.specs.Contents.{IsContent};
 ghost use Rattle.wt_text_edit_laws.specs.NoCalls.{CallsNothing};
 ghost use Rattle.wt_called_edit_laws.specs.Written.{AreReadThings, AreOwnParts, written_items, written_calls, written_work, IsWrittenAs};
@@ -64,7 +64,7 @@ ghost use Rattle.wt_guards.specs.Guards.{Setting, spelled};
 ghost use Rattle.wt_text_edit_laws.specs.ReadContents.{IsFirmlyRead};
 ghost use Rattle.wt_beside_laws.specs.Content.{content_items};
 ghost use Rattle.wt_part_laws.specs.Expanded.{part_items};
-ghost use Rattle.wt_beside_laws.specs.Called.{items_with, owns_in, parts_with, shown_signs, called_shown, IsCalledIn};
+ghost use Rattle.wt_beside_laws.specs.Called.{items_with, owns_in, parts_with, called_shown, IsCalledIn};
 ghost use Rattle.wt_called_edit_laws.specs.CalledContents.{tree_round};
 ghost use Rattle.wt_tree.specs.declared.kind.Kind.TheVariants as kind;
 ghost use Rattle.wt_tree.specs.Plain.{Plains, ended, along, element, plain_before};
@@ -86,7 +86,7 @@ pub use body_paragraphs::{
 pub use called_edits::contents_beside_calls_are_made;
 pub use calling_pages::{
     blocks_that_call_are_untangled, blocks_that_call_stay_where_nothing_is_written,
-    blocks_whose_calls_give_words_are_whole, contents_beside_calls_are_taken,
+    blocks_with_calls_are_whole, contents_beside_calls_are_taken,
     edits_of_blocks_that_call_are_apart, edits_of_blocks_that_call_make_the_page,
     pages_whose_blocks_call_are_such_again, pages_whose_blocks_call_are_told_by_bytes,
 };
@@ -103,7 +103,8 @@ pub use placed_blocks::{
     lines_of_a_page_are_cut_at_its_blocks, lines_of_an_expanded_page_are_cut_at_its_blocks,
 };
 pub use told_lines::{
-    blocks_are_told_by_their_lines, headings_are_told_by_their_lines, untangled_blocks_are_shut,
+    blocks_are_told_by_their_lines, headings_are_told_by_their_lines, nodes_of_told_blocks_stay,
+    untangled_blocks_are_shut,
 };
 
 /// A page with blocks among calls, and with calls in them, none of which goes over the end of a part, is expanded part by
@@ -220,9 +221,9 @@ pub fn blocks_with_calls_stand_at_their_places()
     ensures calm { (pages : Pages) (ss : List BlockSpot) (behind : List ℕ) → AreAmongCalls pages ss behind → AreCallingBlocks pages ss behind }
 {}
 
-/// What is written for texts beside calls that give words (`IsCalledIn` of `wt_beside_laws`) gives the words of these calls, and between them the texts as
-/// they are spelled, and as a paragraph it holds its calls, however many calls come before it in the page. In the page's tree the words of each call are a
-/// group by themselves, and it shows the texts that were typed, and between them these words.
+/// What is written for texts beside calls (`IsCalledIn` of `wt_beside_laws`) gives what these calls give, and between them the texts as they are spelled,
+/// and as a paragraph it holds its calls, however many calls come before it in the page. In the page's tree what each call gives is a group by itself, and
+/// it shows the texts that were typed, and between them what each call shows by itself.
 pub fn written_paragraphs_hold_their_calls()
     ensures gives { (pages : Pages) (i : ℕ) (s : Setting) (signs : List ContentSign) → IsCalledIn pages s signs → AreReadThings signs → AreOwnParts pages signs
         → part_items pages i (spelled s signs) ≡ items_with s [] signs (owns_in pages i signs) }
@@ -230,10 +231,10 @@ pub fn written_paragraphs_hold_their_calls()
         → HoldsItsCalls (tree_round a_paragraph (part_items pages i (spelled s signs))) }
     ensures block { (pages : Pages) (calls : List OuterCall) (i : ℕ) (s : Setting) (signs : List ContentSign) → IsCalledIn pages s signs → AreReadThings signs
         → AreOwnParts pages signs → block_in calls (tree_round a_paragraph (part_items pages i (spelled s signs)))
-        ≡ block_of_texts calls (plain kind.Para) [] (parts_with s [] (shown_signs pages signs) (owns_in pages i signs)) [] }
+        ≡ block_of_pieces calls (plain kind.Para) [] (parts_with s [] signs (owns_in pages i signs)) [] }
     ensures shown { (pages : Pages) (calls : List OuterCall) (i : ℕ) (s : Setting) (signs : List ContentSign) (rest : Plains) → IsCalledIn pages s signs
         → AreReadThings signs → AreOwnParts pages signs → plain_before (cut_texts (block_in calls (tree_round a_paragraph (part_items pages i (spelled s signs))))) rest
-        ≡ along (element paragraph_face (called_shown (shown_signs pages signs) (owns_in pages i signs) ended)) rest }
+        ≡ along (element paragraph_face (called_shown signs (owns_in pages i signs) ended)) rest }
 {}
 
 /// Such a paragraph is a content in a folder, as it is written, and is a new one in the place of any other such paragraph whose nodes it has, in their order:

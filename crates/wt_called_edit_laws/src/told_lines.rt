@@ -2,25 +2,34 @@
 //! the page.
 
 ghost use Rattle.std.specs.Prelude.{◌≡◌, ◌≤◌, false, List, [], ◌∷◌, ◌++◌, ℕ, length, map};
+ghost use Rattle.std.specs.Str.{IsUtf8};
 ghost use Rattle.wt_span.specs.Items.{Item};
 ghost use Rattle.wt_span.specs.Origins.{Expanded};
-ghost use Rattle.wt_tree.specs.Tree.{Tree};
+ghost use Rattle.wt_tree.specs.Tree.{Tree, label};
 ghost use Rattle.wt_lines.specs.Lines.{content, full_lines};
 ghost use Rattle.wt_expand.specs.PageItems.{page_items};
 ghost use Rattle.wt_expand.specs.Work.{Pages};
 ghost use Rattle.wt_selser.specs.Edits.{is_tangled};
 ghost use Rattle.wt_text_edit_laws.specs.BlockSpots.{BlockSpot};
+ghost use Rattle.wt_text_edit_laws.specs.NoCalls.{CallsNothing};
 ghost use Rattle.wt_text_edit_laws.specs.PageCuts.{AreBlockItems, EndsClosed};
+ghost use Rattle.wt_text_edit_laws.specs.Parts.{HasNoGroups};
 ghost use Rattle.wt_text_edit_laws.specs.TextBlocks.{TextBlock, a_heading, block_tree};
 ghost use Rattle.wt_text_edit_laws.specs.TypedHeadings.{Sides};
+ghost use Rattle.wt_beside_laws.specs.EndedNodes.{LinesOpenNoPair, AreEndedNodes};
+ghost use Rattle.wt_beside_laws.specs.FlatBlocks.{lines_in, signs_in};
+ghost use Rattle.wt_beside_laws.specs.StyledIn.{IsStyledIn};
 ghost use Rattle.wt_called_edit_laws.specs.CalledPages.{IsCalledPage};
 ghost use Rattle.wt_called_edit_laws.specs.EditsAt.{IsStanding, AllStand};
+ghost use Rattle.wt_called_edit_laws.specs.Groups.{called_tree};
 ghost use Rattle.wt_called_edit_laws.specs.LinedAmong.{IsLinedAmong};
 ghost use Rattle.wt_called_edit_laws.specs.LinedHeadings.{sides_of, text_of, IsLinedHeading};
 ghost use Rattle.wt_called_edit_laws.specs.PlacedLines.{spots_by, end_by, IsLinedPage};
 ghost use Rattle.wt_called_edit_laws.specs.PlacedSpots.{IsShut, AreShut, AllUntangled};
+ghost use Rattle.wt_called_edit_laws.specs.RowBlocks.{IsTextBlock, IsAtPath, StandsOnRows, StandsOnLines};
 ghost use Rattle.wt_called_edit_laws.specs.ToldAmong.{IsToldAmong};
 ghost use Rattle.wt_called_edit_laws.specs.ToldLines.{Told, lined, IsToldPage};
+ghost use Rattle.wt_called_edit_laws.specs.ToldTogether.{AreAllTold};
 
 /// A heading's line is told by itself. Where one of a page's lines, behind the marks that begin it, is of a heading's kind and
 /// begins with `=`, and something is between its delimiters (`IsLinedHeading`), it is the line of a heading with the sides and
@@ -43,6 +52,17 @@ pub fn blocks_are_told_by_their_lines()
         → IsLinedAmong pages page (map lined ts) behind }
 {}
 
+/// The nodes of each of them may stay, in their order, with any texts between them, and so may its bold and italic (`IsStyledIn`):
+/// asked is only that no tag in it opens a pair without a closing tag on its line (`LinesOpenNoPair`), and that the source of each
+/// node ends what it begins (`AreEndedNodes`). So it is of each block among calls that calls nothing.
+pub fn nodes_of_told_blocks_stay()
+    ensures told { (page : List ℕ) (ts : List Told) (t : Told) (us : List Told) (behind : List (List Item)) → IsToldPage page (ts ++ t ∷ us) behind
+        → LinesOpenNoPair (lines_in (lined t).block (lined t).text) → AreEndedNodes (signs_in (lined t).block (lined t).text)
+        → IsStyledIn (lined t).block (lined t).text }
+    ensures called { (pages : Pages) (ss : List BlockSpot) (s : BlockSpot) (rs : List BlockSpot) (behind : List ℕ) → IsCalledPage pages (ss ++ s ∷ rs) behind
+        → LinesOpenNoPair (lines_in s.block s.text) → AreEndedNodes (signs_in s.block s.text) → IsStyledIn s.block s.text }
+{}
+
 /// Where a node of a page's tree is such a block and isn't tangled there, no tag is open at the end of a node in it (`IsShut`).
 /// So it is of all blocks at their paths.
 pub fn untangled_blocks_are_shut()
@@ -50,4 +70,20 @@ pub fn untangled_blocks_are_shut()
         → IsShut k q }
     ensures paths { (ss : List BlockSpot) (paths : List (List ℕ)) (items : Expanded) (page : List ℕ) (t : Tree) → AllStand ss paths t
         → AllUntangled items page paths t → AreShut ss }
+{}
+
+/// Each paragraph and each heading of the tree of a page that calls nothing, and in which no node can only be kept as a whole,
+/// wherever it is, is made of the page's rows: of text with no other text beside it, or of a heading's; and it begins where these
+/// do. So it is made of whole lines, or it begins behind the sign of a table's end or a rule.
+pub fn each_block_stands_on_lines()
+    ensures rows { (pages : Pages) (page p : List ℕ) (t : Tree) → IsUtf8 page → CallsNothing (page_items page) → HasNoGroups page
+        → IsAtPath p (called_tree pages page) t → IsTextBlock (label t).kind → StandsOnRows page t }
+    ensures lines { (pages : Pages) (page p : List ℕ) (t : Tree) → IsUtf8 page → CallsNothing (page_items page) → HasNoGroups page
+        → IsAtPath p (called_tree pages page) t → IsTextBlock (label t).kind → StandsOnLines page t }
+{}
+
+/// All paragraphs and headings that the lines of a page tell are told at once (`AreAllTold`): of a page that calls nothing, that
+/// has no node that can only be kept as a whole, and at whose end no comment and no hidden part is open.
+pub fn told_blocks_are_told_together()
+    ensures all { (page : List ℕ) → IsUtf8 page → CallsNothing (page_items page) → HasNoGroups page → EndsClosed page [] → AreAllTold page }
 {}

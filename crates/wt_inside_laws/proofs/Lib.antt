@@ -25,6 +25,11 @@ pub mod AlikeContents
 pub mod MarkedBlocks
 pub mod PageAlike
 pub mod SentCases
+pub mod ReadMarkup
+pub mod ReadKinds
+pub mod ReadRecuts
+pub mod ReadNodes
+pub mod ReadSent
 pub mod SlotTexts
 pub mod OwnPieces
 pub mod SlotsLed

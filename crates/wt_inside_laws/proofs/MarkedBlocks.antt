@@ -174,7 +174,7 @@ mutual
       each_join Counts (placed i v t) (all_placed i v ts) (each_counts i v t s.0) (all_count i v ts s.1)
 
 mutual
-  each_free : (i : ℕ) (v : Bool) (t : Tree) → HasNoGroup t → AllByRecursion (λ q. HasNoGroup q.node) (placed i v t)
+  pub each_free : (i : ℕ) (v : Bool) (t : Tree) → HasNoGroup t → AllByRecursion (λ q. HasNoGroup q.node) (placed i v t)
   each_free i v (tree l ts) h = (h, all_free (parent_below i l.id) (v || is_content l.mark) ts h.1)
 
   all_free : (i : ℕ) (v : Bool) (ts : Trees) → NoneIsGroup ts → AllByRecursion (λ q. HasNoGroup q.node) (all_placed i v ts)
@@ -203,7 +203,7 @@ mutual
       let r = all_free_before ts rest s.1 in
       ((s.0, r.0), r.1)
 
-page_free : (t : Tree) → IsPlainPage t → HasNoGroup t
+pub page_free : (t : Tree) → IsPlainPage t → HasNoGroup t
 page_free (tree l ts) h = (body_no_group l.kind h.one.root, (all_free_before ts none h.ungrouped).0)
 
 read_free : (t new : Tree) → IsReadFor t new → HasNoGroup new

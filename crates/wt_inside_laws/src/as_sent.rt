@@ -1,7 +1,9 @@
 //! Laws of edited trees: what was sent for a page is edited as the page's own nodes are, with the texts in its marked
 //! blocks that were sent.
 
-ghost use Rattle.std.specs.Prelude.{◌≡◌, ℕ, List, Bool, false, None};
+ghost use Rattle.std.specs.Prelude.{◌≡◌, ◌≤◌, ℕ, List, length, Bool, false, Option, None};
+ghost use Rattle.wt_span.specs.Origins.{Expanded};
+ghost use Rattle.wt_span.specs.declared.limits.TheConstants.{PAGE_BYTES};
 ghost use Rattle.std.specs.List.{AllByRecursion};
 ghost use Rattle.std.specs.Str.{IsUtf8};
 ghost use Rattle.wt_tree.specs.Opened.{without_sections};
@@ -14,13 +16,14 @@ ghost use Rattle.wt_checks.specs.Places.{page_of};
 ghost use Rattle.wt_expand.specs.PageCalls.{expanded_page};
 ghost use Rattle.wt_expand.specs.Work.{Pages};
 ghost use Rattle.wt_page_round_trip.specs.PageTree.{page_tree};
+ghost use Rattle.wt_schema.specs.Read.{page as as_page, read};
 ghost use Rattle.wt_visible.specs.SameNodes.{same_node};
 ghost use Rattle.wt_slices.specs.Changes.{marked, AllStay};
 ghost use Rattle.wt_commands.specs.Answers.{refusal_of_page};
 ghost use Rattle.wt_called_edit_laws.specs.Groups.{called_tree};
 ghost use Rattle.wt_inside_laws.specs.AsSent.{edits_of, IsPlainPage, IsReadFor, IsAlike, IsAsSent, IsSentOn};
-ghost use Rattle.wt_inside_laws.specs.RetypedPieces.{AreRead};
-ghost use Rattle.wt_inside_laws.specs.TextEdits.{IsTextEdit};
+ghost use Rattle.wt_inside_laws.specs.RetypedPieces.{AreRead, AreUtf8};
+ghost use Rattle.wt_inside_laws.specs.TextEdits.{IsRetyped, IsTextEdit};
 
 /// Where the checks refuse nothing and no blocks come or go, what was sent for a page without groups is edited as the
 /// page's own nodes are (`edits_of`): each outside the marked blocks as it is, and in these blocks those of the page,
@@ -43,4 +46,20 @@ pub fn text_edits_are_sent_on_the_page()
         → IsReadFor (page_tree pages page) new
         → AllByRecursion (λ p. AreRead (children_of p.new)) (marked (page_tree pages page) new)
         → IsSentOn pages page new (edits_of (called_tree pages page) new) }
+{}
+
+/// What HTML is read as is so, if no group is in it, the checks refuse nothing, and the page isn't longer than a page may
+/// be; and so is what is sent in each retyped block.
+#[tactic(auto)]
+pub fn what_is_read_may_be_sent()
+    ensures page { (pages : Pages) (page input : List ℕ) (new : Tree) (unsourced : Option ℕ) → IsUtf8 page
+        → length page ≤ PAGE_BYTES → refusal_of_page pages page ≡ None → NoneIsGroup (children (called_tree pages page))
+        → read input ≡ as_page new unsourced → checked false (page_tree pages page) new ≡ None
+        → NoneIsGroup (children new) → IsReadFor (page_tree pages page) new }
+    ensures blocks { (same : Tree → Tree → Bool) (items : Expanded) (bytes : List ℕ) (pages : Pages) (page input : List ℕ)
+        (new : Tree) (unsourced : Option ℕ) → IsUtf8 page → refusal_of_page pages page ≡ None
+        → NoneIsGroup (children (called_tree pages page)) → read input ≡ as_page new unsourced
+        → checked false (page_tree pages page) new ≡ None → NoneIsGroup (children new)
+        → AllByRecursion (IsRetyped same items bytes) (marked (page_tree pages page) new)
+        → AllByRecursion (λ p. AreRead (children_of p.new) × AreUtf8 (children_of p.new)) (marked (page_tree pages page) new) }
 {}

@@ -22,18 +22,18 @@ use Rattle.wt_annotated.specs.Seams.{last_of, first_of, parted, text_from}
 use Rattle.wt_annotated.specs.Walked.{free_places, clean_at, parts_from, Near, near_tied, near_nodes, near_group, near_run, near_runs, near}
 use Rattle.wt_part_laws.specs.Placeless.{placeless, all_placeless}
 use Rattle.wt_part_laws.specs.Rounded.{IsOwn, HasItems}
-use Rattle.wt_part_laws.specs.CallPieces.{AreItemsOf, IsNoBody, IsOfCall, AreOfCall, IsOwnOrGiven, AreOwnOrGiven, CallPiece, own, given, given_before, piece_before, call_pieces, group_of_call, pieces_in_page}
+use Rattle.wt_part_laws.specs.CallPieces.{AreItemsOf, IsNoBody, IsUncut, IsOfCall, AreOfCall, IsOwnOrGiven, AreOwnOrGiven, CallPiece, own, given, given_before, piece_before, call_pieces, group_of_call, pieces_in_page}
 use Rattle.wt_part_laws.proofs.CallTexts.{itself, last_within, call_text, call_part, near_one, same_is, and_both}
 use Rattle.wt_part_laws.proofs.OwnWalks.{first_own, last_own, own_clean, walk_own, has_page}
 use Rattle.wt_part_laws.proofs.RunCuts.{FreeBefore, near_apart, near_alone}
 
 -- ---- the trees of the pieces
 
-abbrev piece_trees : CallPiece → List ItemTree
+abbrev pub piece_trees : CallPiece → List ItemTree
 piece_trees (own t) = t ∷ []
 piece_trees (given j t ts) = t ∷ ts
 
-abbrev trees_of : List CallPiece → List ItemTree
+abbrev pub trees_of : List CallPiece → List ItemTree
 trees_of [] = []
 trees_of (p ∷ ps) = piece_trees p ++ trees_of ps
 
@@ -50,35 +50,35 @@ piece_with : (c : Option ℕ) (t : ItemTree) (ps : List CallPiece) → trees_of 
 piece_with None t ps = refl
 piece_with (Some j) t ps = before_trees j t ps
 
-all_trees : (ts : List ItemTree) → trees_of (call_pieces ts) ≡ ts
+pub all_trees : (ts : List ItemTree) → trees_of (call_pieces ts) ≡ ts
 all_trees [] = refl
 all_trees (t ∷ ts) = piece_with (first_of (tree_items t) None) t (call_pieces ts) ∙ ap (λ us. t ∷ us) (all_trees ts)
 
 -- ---- no two of one call are side by side
 
-abbrev IsPiece : CallPiece → Type 0
+abbrev pub IsPiece : CallPiece → Type 0
 IsPiece (own t) = IsOwn t
 IsPiece (given j t ts) = IsOfCall j t × AreOfCall j ts
 
-abbrev piece_call : CallPiece → Option ℕ
+abbrev pub piece_call : CallPiece → Option ℕ
 piece_call (own t) = None
 piece_call (given j t ts) = Some j
 
 -- behind an item of this call
-abbrev IsApart : Option ℕ → List CallPiece → Type 0
+abbrev pub IsApart : Option ℕ → List CallPiece → Type 0
 IsApart o [] = Unit {0}
 IsApart o (p ∷ ps) = parted o (piece_call p) ≡ true
 
-abbrev ArePieces : List CallPiece → Type 0
+abbrev pub ArePieces : List CallPiece → Type 0
 ArePieces [] = Unit {0}
 ArePieces (p ∷ ps) = IsPiece p × IsApart (piece_call p) ps × ArePieces ps
 
-apart_none : (ps : List CallPiece) → IsApart None ps
+pub apart_none : (ps : List CallPiece) → IsApart None ps
 apart_none [] = tt
 apart_none (own t ∷ ps) = refl
 apart_none (given j t ts ∷ ps) = refl
 
-before_pieces : (j : ℕ) (t : ItemTree) (ps : List CallPiece) → IsOfCall j t → ArePieces ps → ArePieces (given_before j t ps)
+pub before_pieces : (j : ℕ) (t : ItemTree) (ps : List CallPiece) → IsOfCall j t → ArePieces ps → ArePieces (given_before j t ps)
 before_pieces j t [] h k = ((h, tt), tt, tt)
 before_pieces j t (own u ∷ ps) h k = ((h, tt), refl, k)
 before_pieces j t (given i u us ∷ ps) h k = by (j == i) refl
@@ -99,33 +99,33 @@ pieces_by t ps h k = elim h [
     first_given : (j : ℕ) (t : ItemTree) (q : Option ℕ) → IsOfCall j t → first_of (tree_items t) q ≡ Some j
     first_given j t q h = ap (λ (xs : List Item). first_of xs q) h.is ∙ h.of_call.0
 
-abbrev AllOwnOrGiven : List ItemTree → Type 0
+abbrev pub AllOwnOrGiven : List ItemTree → Type 0
 AllOwnOrGiven [] = Unit {0}
 AllOwnOrGiven (t ∷ ts) = IsOwnOrGiven t × AllOwnOrGiven ts
 
-all_pieces : (ts : List ItemTree) → AllOwnOrGiven ts → ArePieces (call_pieces ts)
+pub all_pieces : (ts : List ItemTree) → AllOwnOrGiven ts → ArePieces (call_pieces ts)
 all_pieces [] h = tt
 all_pieces (t ∷ ts) h = pieces_by t (call_pieces ts) h.0 (all_pieces ts h.1)
 
 -- ---- nodes of one call
 
-first_in : (j : ℕ) (t : ItemTree) (xs : List Item) (q : Option ℕ) → IsOfCall j t → first_of (tree_items t ++ xs) q ≡ Some j
+pub first_in : (j : ℕ) (t : ItemTree) (xs : List Item) (q : Option ℕ) → IsOfCall j t → first_of (tree_items t ++ xs) q ≡ Some j
 first_in j t xs q h = ap (λ (ys : List Item). first_of (ys ++ xs) q) h.is ∙ h.of_call.0
 
-first_of_call : (j : ℕ) (t : ItemTree) (q : Option ℕ) → IsOfCall j t → first_of (tree_items t) q ≡ Some j
+pub first_of_call : (j : ℕ) (t : ItemTree) (q : Option ℕ) → IsOfCall j t → first_of (tree_items t) q ≡ Some j
 first_of_call j t q h = ap (λ (xs : List Item). first_of xs q) h.is ∙ h.of_call.0
 
-last_of_call : (j : ℕ) (t : ItemTree) (o : Option ℕ) → IsOfCall j t → last_of o (tree_items t) ≡ Some j
+pub last_of_call : (j : ℕ) (t : ItemTree) (o : Option ℕ) → IsOfCall j t → last_of o (tree_items t) ≡ Some j
 last_of_call j t o h = ap (last_of o) h.is ∙ last_within j (call_of h.first) h.others h.of_call.1 h.of_call.0
 
-items_both : (j : ℕ) (xs ys : List Item) → AreItemsOf j xs → AreItemsOf j ys → AreItemsOf j (xs ++ ys)
+pub items_both : (j : ℕ) (xs ys : List Item) → AreItemsOf j xs → AreItemsOf j ys → AreItemsOf j (xs ++ ys)
 items_both j [] ys h k = k
 items_both j (x ∷ xs) ys h k = (h.0, items_both j xs ys h.1 k)
 
-tree_of_call : (j : ℕ) (t : ItemTree) → IsOfCall j t → AreItemsOf j (tree_items t)
+pub tree_of_call : (j : ℕ) (t : ItemTree) → IsOfCall j t → AreItemsOf j (tree_items t)
 tree_of_call j t h = subst (AreItemsOf j) (sym h.is) h.of_call
 
-all_items : (j : ℕ) (ts : List ItemTree) → AreOfCall j ts → AreItemsOf j (held_by_all (forest ts))
+pub all_items : (j : ℕ) (ts : List ItemTree) → AreOfCall j ts → AreItemsOf j (held_by_all (forest ts))
 all_items j [] h = tt
 all_items j (t ∷ ts) h = items_both j (tree_items t) (held_by_all (forest ts)) (tree_of_call j t h.0) (all_items j ts h.1)
 
@@ -289,7 +289,7 @@ first_same t xs h = elim h [
     by [] e = absurd (cc)
     by (y ∷ ys) e = refl
 
-behind_call : (o : Option ℕ) (ts : List ItemTree) → AllOwnOrGiven ts → parted o (first_of (held_by_all (forest ts)) None) ≡ true → IsApart o (call_pieces ts)
+pub behind_call : (o : Option ℕ) (ts : List ItemTree) → AllOwnOrGiven ts → parted o (first_of (held_by_all (forest ts)) None) ≡ true → IsApart o (call_pieces ts)
 behind_call o [] h e = tt
 behind_call o (t ∷ ts) h e =
     head_call (first_of (tree_items t) None) t (call_pieces ts) o (sym (ap (parted o) (first_same t (held_by_all (forest ts)) h.0)) ∙ e)
@@ -368,8 +368,12 @@ leaf_given k None b ps h =
     some Text b xs = (refl, tt)
     some Sep b xs = (refl, tt)
 leaf_given k (Some j) b ps h =
-    inr (j, record { first = char (Some j) b; others = held_parts ps; is = leaf_items k (char (Some j) b ∷ held_parts ps); of_call = (refl, loose_call k j ps h); no_body = no_body k (held_parts ps) })
+    inr (j, record { first = char (Some j) b; others = held_parts ps; is = leaf_items k (char (Some j) b ∷ held_parts ps); of_call = (refl, loose_call k j ps h); no_body = no_body k (held_parts ps); uncut = uncut k (held_parts ps) })
   where
+    uncut : (k : Loose) (xs : List Item) → IsUncut (loose_leaf k (char (Some j) b ∷ xs))
+    uncut Text xs = (refl, tt)
+    uncut Sep xs = (refl, tt)
+
     no_body : (k : Loose) (xs : List Item) → IsNoBody (loose_leaf k (char (Some j) b ∷ xs))
     no_body Text xs = refl
     no_body Sep xs = refl
@@ -384,7 +388,7 @@ all_given : (rs : List (List Part)) → AreRunsGiven rs → AllOwnOrGiven (map c
 all_given [] h = tt
 all_given (r ∷ rs) h = (run_given r h.0, all_given rs h.1)
 
-children_given : (ps : List Part) → AreOwnOrGiven ps → AllOwnOrGiven (children ps)
+pub children_given : (ps : List Part) → AreOwnOrGiven ps → AllOwnOrGiven (children ps)
 unfolding children
 children_given ps h = all_given (runs one_leaf ps) (runs_given ps h)
 

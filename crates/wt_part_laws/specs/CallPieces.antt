@@ -1,10 +1,13 @@
 -- What calls give among what is the page's own, whatever it is: what one call gives side by side is one group.
-use Rattle.std.specs.Prelude.{◌≡◌, ◌⊎◌, ℕ, ◌==◌, false, Option, Some, None, List, [], ◌∷◌, if◌then◌else◌, slice_get}
+use Rattle.std.specs.Prelude.{◌≡◌, ◌⊎◌, ℕ, ◌==◌, Bool, true, false, Option, Some, None, List, [], ◌∷◌, if◌then◌else◌, slice_get}
+use Rattle.wt_tree.specs.declared.row.Texts.{Texts}
+use Rattle.wt_tree.specs.declared.row.Texts.TheVariants.{Separators, Page, Bordered, OwnCharacter}
+use Rattle.wt_tree.specs.Kinds.{texts_of_kind}
 use Rattle.wt_tree.specs.Tree.{Tree, tree, Trees, none, more}
 use Rattle.wt_span.specs.Items.{Item, call_of}
 use Rattle.wt_span.specs.Origins.{OuterCall}
 use Rattle.wt_span.specs.Cuts.{source_of_call}
-use Rattle.wt_inline.specs.ItemTree.{ItemTree, inner, ItemTrees, further, forest, tree_items}
+use Rattle.wt_inline.specs.ItemTree.{ItemTree, inner, ItemTrees, nothing, further, forest, tree_items}
 use Rattle.wt_inline.specs.Parts.{Part, loose, node}
 use Rattle.wt_annotated.specs.Annotated.{group_label, all_unplaced}
 use Rattle.wt_annotated.specs.Clean.{is_body}
@@ -24,6 +27,22 @@ AreItemsOf j (x ∷ xs) = (call_of x ≡ Some j) × AreItemsOf j xs
 abbrev pub IsNoBody : ItemTree → Type 0
 IsNoBody (inner h opening ts closing) = is_body h.kind ≡ false
 
+-- texts are cut anew in such a node: it is an item, a term, a cell or a caption
+abbrev pub is_cut_anew : Texts → Bool
+is_cut_anew Separators = false
+is_cut_anew Page = false
+is_cut_anew Bordered = true
+is_cut_anew OwnCharacter = false
+
+-- no text in it is
+abbrev mutual
+  pub IsUncut : ItemTree → Type 0
+  IsUncut (inner h opening ts closing) = (is_cut_anew (texts_of_kind h.kind) ≡ false) × AreUncut ts
+
+  pub AreUncut : ItemTrees → Type 0
+  AreUncut nothing = Unit {0}
+  AreUncut (further t ts) = IsUncut t × AreUncut ts
+
 -- It has items, all of this call: a text, a link, a style with what is in it, or the mark of a call that gives nothing.
 pub record IsOfCall (j : ℕ) (t : ItemTree) : Type 0 where
   pub first : Item
@@ -31,6 +50,7 @@ pub record IsOfCall (j : ℕ) (t : ItemTree) : Type 0 where
   pub is : tree_items t ≡ first ∷ others
   pub of_call : AreItemsOf j (first ∷ others)
   pub no_body : IsNoBody t
+  pub uncut : IsUncut t
 
 abbrev pub AreOfCall : ℕ → List ItemTree → Type 0
 AreOfCall j [] = Unit {0}

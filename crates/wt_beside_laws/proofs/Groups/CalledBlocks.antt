@@ -1,5 +1,5 @@
 -- A paragraph of texts beside calls holds these: each is a group in it, and the letters are the page's own.
-use Rattle.std.proofs.Common.{arith, ◌≡◌, ℕ, ◌<◌, Bool, true, false, List, [], ◌∷◌, ◌++◌, length, refl, sym, ap, ◌∙◌, subst, append-nil}
+use Rattle.std.proofs.Common.{arith, ◌≡◌, ℕ, ◌<◌, Bool, true, false, List, [], ◌∷◌, ◌++◌, length, inl, refl, sym, ap, ◌∙◌, subst, append-nil}
 use Rattle.std.specs.Prelude.{◌||◌, encode_utf8}
 use Rattle.std.specs.List.{list_any}
 use Rattle.std.proofs.lemmas.List.Folds.{list_any-append}
@@ -17,48 +17,59 @@ use Rattle.wt_inline.specs.Parts.{Part, loose, node, held_parts, parts, children
 use Rattle.wt_inline.proofs.HeldLaws.{held_children, held_append}
 use Rattle.wt_context.specs.Line.{line_parts}
 use Rattle.wt_annotated.specs.Clean.{is_page}
-use Rattle.wt_part_laws.specs.CallTexts.{AreOwnOrTexts}
-use Rattle.wt_part_laws.specs.HeldCalls.{block_in, HoldsItsCalls, IsRoundTexts, block_of_texts}
-use Rattle.wt_part_laws.proofs.HeldBlocks.{texts_hold, block_is}
+use Rattle.wt_part_laws.specs.CallPieces.{AreOwnOrGiven}
+use Rattle.wt_part_laws.specs.HeldCalls.{block_in, HoldsItsCalls, IsRoundGiven, block_of_pieces}
+use Rattle.wt_part_laws.proofs.HeldBlocks.{given_hold, given_block_is}
 use Rattle.wt_text_edit_laws.specs.LonePages.{page_chars}
 use Rattle.wt_text_edit_laws.specs.ParagraphParts.{joined_parts, para_with}
-use Rattle.wt_beside_laws.specs.Called.{items_with, parts_with, AreOwnInside, HasText, AreGiven, IsCalledContent}
+use Rattle.wt_beside_laws.specs.Called.{items_with, parts_with, ArePageParts, AreOwnInside, HasText, AreGiven, IsCalledContent}
 use Rattle.wt_beside_laws.specs.Content.{guard_items, letter_items}
 use Rattle.wt_beside_laws.proofs.Made.Items.{PartsHave, guard_has, letter_has}
 use Rattle.wt_beside_laws.proofs.Groups.CalledParagraphs.{called_parts}
 
 -- ---- its parts
 
-own_texts : (xs : List Item) → PartsHave (parts Text xs) → AreOwnOrTexts (parts Text xs)
-own_texts [] h = tt
-own_texts (char o b ∷ xs) h = own_texts xs h.1
-own_texts (whole f o bs ∷ xs) h = (record { of_page = h.0.1; has_items = h.0.0 }, own_texts xs h.1)
+page_parts : (xs : List Item) → PartsHave (parts Text xs) → ArePageParts (parts Text xs)
+page_parts [] h = tt
+page_parts (char o b ∷ xs) h = (h.0, page_parts xs h.1)
+page_parts (whole f o bs ∷ xs) h = (record { of_page = h.0.1; has_items = h.0.0 }, page_parts xs h.1)
 
-texts_both : (ps qs : List Part) → AreOwnOrTexts ps → AreOwnOrTexts qs → AreOwnOrTexts (ps ++ qs)
-texts_both [] qs h k = k
-texts_both (loose Text o b ∷ ps) qs h k = texts_both ps qs h k
-texts_both (loose Sep o b ∷ ps) qs h k = absurd h
-texts_both (node t ∷ ps) qs h k = (h.0, texts_both ps qs h.1 k)
+pub guard_parts : (u : Bool) → ArePageParts (parts Text (guard_items u))
+guard_parts u = page_parts (guard_items u) (guard_has u)
 
-guard_own : (u : Bool) → AreOwnOrTexts (parts Text (guard_items u))
-guard_own u = own_texts (guard_items u) (guard_has u)
+pub letter_parts : (e : Bool) (c : ℕ) → ArePageParts (parts Text (letter_items e c))
+letter_parts e c = page_parts (letter_items e c) (letter_has e c)
 
-letter_own : (e : Bool) (c : ℕ) → AreOwnOrTexts (parts Text (letter_items e c))
-letter_own e c = own_texts (letter_items e c) (letter_has e c)
+pub page_given : (ps : List Part) → ArePageParts ps → AreOwnOrGiven ps
+page_given [] h = tt
+page_given (loose Text o b ∷ ps) h = page_given ps h.1
+page_given (loose Sep o b ∷ ps) h = absurd h
+page_given (node t ∷ ps) h = (inl h.0, page_given ps h.1)
 
-pub parts_own : (s : Setting) (before signs : List ContentSign) (owns : List (List Item)) → AreOwnInside owns → AreOwnOrTexts (parts_with s before signs owns)
+pub given_both : (ps qs : List Part) → AreOwnOrGiven ps → AreOwnOrGiven qs → AreOwnOrGiven (ps ++ qs)
+given_both [] qs h k = k
+given_both (loose k o b ∷ ps) qs h g = given_both ps qs h g
+given_both (node t ∷ ps) qs h k = (h.0, given_both ps qs h.1 k)
+
+guard_own : (u : Bool) → AreOwnOrGiven (parts Text (guard_items u))
+guard_own u = page_given (parts Text (guard_items u)) (guard_parts u)
+
+letter_own : (e : Bool) (c : ℕ) → AreOwnOrGiven (parts Text (letter_items e c))
+letter_own e c = page_given (parts Text (letter_items e c)) (letter_parts e c)
+
+pub parts_own : (s : Setting) (before signs : List ContentSign) (owns : List (List Item)) → AreOwnInside owns → AreOwnOrGiven (parts_with s before signs owns)
 parts_own s before [] owns h = guard_own (is_guarded s before [])
 parts_own s before (letter c ∷ after) owns h =
     let e = is_escaped s.within s.place before c after in
     let more : List Part = parts_with s (letter c ∷ before) after owns in
-    texts_both (parts Text (guard_items (is_guarded s before (letter c ∷ after)))) (parts Text (letter_items e c) ++ more)
+    given_both (parts Text (guard_items (is_guarded s before (letter c ∷ after)))) (parts Text (letter_items e c) ++ more)
     (guard_own (is_guarded s before (letter c ∷ after)))
-    (texts_both (parts Text (letter_items e c)) more (letter_own e c) (parts_own s (letter c ∷ before) after owns h))
+    (given_both (parts Text (letter_items e c)) more (letter_own e c) (parts_own s (letter c ∷ before) after owns h))
 parts_own s before (thing t ∷ after) [] h = guard_own (is_guarded s before (thing t ∷ after))
 parts_own s before (thing t ∷ after) (own ∷ owns) h =
     let more : List Part = parts_with s (thing t ∷ before) after owns in
-    texts_both (parts Text (guard_items (is_guarded s before (thing t ∷ after)))) (line_parts own ++ more) (guard_own (is_guarded s before (thing t ∷ after)))
-    (texts_both (line_parts own) more h.0 (parts_own s (thing t ∷ before) after owns h.1))
+    given_both (parts Text (guard_items (is_guarded s before (thing t ∷ after)))) (line_parts own ++ more) (guard_own (is_guarded s before (thing t ∷ after)))
+    (given_both (line_parts own) more h.0 (parts_own s (thing t ∷ before) after owns h.1))
 
 -- ---- a letter is the page's own
 
@@ -106,7 +117,7 @@ para_items : (ps : List Part) → tree_items (para_with ps) ≡ held_parts ps
 para_items ps = append-nil (held_by_all (forest (children ps))) ∙ held_children ps
 
 pub called_round : (s : Setting) (signs : List ContentSign) (owns : List (List Item)) → IsCalledContent s signs owns
-    → IsRoundTexts (plain kind.Para) [] (parts_with s [] signs owns) []
+    → IsRoundGiven (plain kind.Para) [] (parts_with s [] signs owns) []
 called_round s signs owns h =
     let ps : List Part = parts_with s [] signs owns in
     record {
@@ -121,10 +132,10 @@ pub called_holds : (s : Setting) (signs : List ContentSign) (owns : List (List I
     → HoldsItsCalls (para_with (joined_parts (lines (items_with s [] signs owns))))
 called_holds s signs owns h =
     subst (λ (ps : List Part). HoldsItsCalls (para_with ps)) (sym (called_parts s signs owns h))
-    (texts_hold (plain kind.Para) [] (parts_with s [] signs owns) [] (called_round s signs owns h))
+    (given_hold (plain kind.Para) [] (parts_with s [] signs owns) [] (called_round s signs owns h))
 
 pub called_block : (calls : List OuterCall) (s : Setting) (signs : List ContentSign) (owns : List (List Item)) → IsCalledContent s signs owns
-    → block_in calls (para_with (joined_parts (lines (items_with s [] signs owns)))) ≡ block_of_texts calls (plain kind.Para) [] (parts_with s [] signs owns) []
+    → block_in calls (para_with (joined_parts (lines (items_with s [] signs owns)))) ≡ block_of_pieces calls (plain kind.Para) [] (parts_with s [] signs owns) []
 called_block calls s signs owns h =
     ap (λ (ps : List Part). block_in calls (para_with ps)) (called_parts s signs owns h)
-    ∙ block_is calls (plain kind.Para) [] (parts_with s [] signs owns) [] (called_round s signs owns h)
+    ∙ given_block_is calls (plain kind.Para) [] (parts_with s [] signs owns) [] (called_round s signs owns h)

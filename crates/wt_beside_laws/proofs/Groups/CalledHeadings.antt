@@ -1,11 +1,11 @@
 -- A heading of texts beside calls: it is on one line, keeps its level, and holds its calls.
-use Rattle.std.proofs.Common.{arith, ◌≡◌, ◌⊎◌, inl, inr, ℕ, zero, suc, ◌≤◌, ◌==◌, Bool, true, false, None, List, [], ◌∷◌, ◌++◌, map, refl, sym, ap, ◌∙◌, subst, append-nil}
-use Rattle.std.specs.Prelude.{◌||◌, if◌then◌else◌}
+use Rattle.std.proofs.Common.{arith, ◌≡◌, inr, ℕ, zero, suc, ◌≤◌, Bool, true, false, List, [], ◌∷◌, ◌++◌, map, refl, sym, ap, ◌∙◌, subst}
+use Rattle.std.specs.Prelude.{if◌then◌else◌}
 use Rattle.std.specs.List.{list_any}
 use Rattle.wt_tree.specs.declared.kind.Kind.TheVariants as kind
 use Rattle.wt_tree.specs.declared.edit_shape.Place.TheVariants as place
 use Rattle.wt_span.specs.Bytes.{is_blank}
-use Rattle.wt_span.specs.Items.{Item, char, sign}
+use Rattle.wt_span.specs.Items.{Item, sign}
 use Rattle.wt_span.specs.Origins.{OuterCall}
 use Rattle.wt_guards.specs.Content.{ContentSign, letter, thing}
 use Rattle.wt_guards.specs.Guards.{Setting, is_guarded}
@@ -13,15 +13,15 @@ use Rattle.wt_guards.specs.Letters.{is_escaped}
 use Rattle.wt_typed_blocks.proofs.Lines.{end_guarded}
 use Rattle.wt_expand.specs.PageItems.{page_items}
 use Rattle.wt_inline.specs.declared.loose.Loose.TheVariants.{Text}
-use Rattle.wt_inline.specs.ItemTree.{plain, inner, forest, tree_items, held_by_all}
+use Rattle.wt_inline.specs.ItemTree.{plain, inner, forest, held_by_all}
 use Rattle.wt_inline.specs.Parts.{Part, parts, children}
 use Rattle.wt_context.specs.Line.{line_parts}
 use Rattle.wt_annotated.specs.Clean.{is_page}
-use Rattle.wt_part_laws.specs.CallTexts.{AreOwnOrTexts}
-use Rattle.wt_part_laws.specs.HeldCalls.{block_in, HoldsItsCalls, IsRoundTexts, block_of_texts}
-use Rattle.wt_part_laws.proofs.HeldBlocks.{texts_hold, block_is}
+use Rattle.wt_part_laws.specs.CallPieces.{AreOwnOrGiven}
+use Rattle.wt_part_laws.specs.HeldCalls.{block_in, HoldsItsCalls, IsRoundGiven, block_of_pieces}
+use Rattle.wt_part_laws.proofs.HeldBlocks.{given_hold, given_block_is}
 use Rattle.wt_text_edit_laws.specs.LonePages.{page_chars}
-use Rattle.wt_text_edit_laws.specs.TypedHeadings.{Sides, AreSides, equals, opening, closing_items, heading_round, NoBreaks, BeginsWithout, EndsWithout, is_equals_sign, IsHeadingInside, IsOfLevel}
+use Rattle.wt_text_edit_laws.specs.TypedHeadings.{Sides, AreSides, equals, opening, closing_items, heading_round, NoBreaks, BeginsWithout, is_equals_sign, IsHeadingInside, IsOfLevel}
 use Rattle.wt_text_edit_laws.proofs.Blocks.BlockLeaves.{items_of_page}
 use Rattle.wt_text_edit_laws.proofs.Headings.HeadingRows.{apart_level}
 use Rattle.wt_text_edit_laws.proofs.Headings.TypedTexts.{end_by, no_equals, begins_other, begins_still, ends_behind as behind_other}
@@ -32,9 +32,8 @@ use Rattle.wt_beside_laws.specs.InHeadings.{AreOnOneLine}
 use Rattle.wt_beside_laws.proofs.LineHeadings.{unbroken_both, none_by, guard_none, begins_seen, SeenLast, ends_behind, last_behind, letter_last, end_last, UnequalLast, letter_unequal, end_unequal, begins_unequal, unequal_end}
 use Rattle.wt_beside_laws.proofs.LineItems.{letter_unbroken}
 use Rattle.wt_beside_laws.proofs.Groups.CalledBlocks.{parts_own}
-use Rattle.wt_beside_laws.proofs.Groups.CalledLines.{line_opens}
+use Rattle.wt_beside_laws.proofs.Groups.CalledLines.{given_unbroken, line_opens}
 use Rattle.wt_beside_laws.proofs.Groups.CalledParts.{line_parts_are}
-use Rattle.wt_beside_laws.proofs.Groups.Words.{given_or, given_unbroken}
 
 -- ---- one line
 
@@ -72,7 +71,7 @@ unbroken s before (thing t ∷ after) [] o h = absurd h
 unbroken s before (thing t ∷ after) (own ∷ owns) o h =
     let more : List Item = items_with s (thing t ∷ before) after owns in
     unbroken_both (guard_items (is_guarded s before (thing t ∷ after))) (own ++ more) (guard_none (is_guarded s before (thing t ∷ after)))
-    (unbroken_both own more (none_by own (given_unbroken t own (given_or t.role t own h.0))) (unbroken s (thing t ∷ before) after owns o h.1))
+    (unbroken_both own more (none_by own (given_unbroken t own h.0)) (unbroken s (thing t ∷ before) after owns o h.1))
 
 -- ---- what is last
 
@@ -147,7 +146,7 @@ heading_level s signs owns sides h a =
 pub heading_parts : (s : Setting) (signs : List ContentSign) (owns : List (List Item)) → IsCalledHeading s signs owns
     → line_parts (items_with s [] signs owns) ≡ parts_with s [] signs owns
 heading_parts s signs owns h =
-    ap line_parts (sym (same_items s [] signs owns h.one_line)) ∙ line_parts_are s [] signs owns h.given h.meet ∙ same_parts s [] signs owns h.one_line
+    ap line_parts (sym (same_items s [] signs owns h.one_line)) ∙ line_parts_are s [] [] signs owns h.given h.flat h.meet ∙ same_parts s [] signs owns h.one_line
 
 -- ---- its delimiters are the page's
 
@@ -160,9 +159,9 @@ closing_page sides =
     both_of_page (page_chars (sides.trail ++ equals sides.level)) (page_items sides.rest) (chars_of_page (sides.trail ++ equals sides.level)) (items_of_page sides.rest)
 
 -- whatever texts and nodes are between them
-pub round_texts : (ps : List Part) (sides : Sides) → AreOwnOrTexts ps → AreSides sides
-    → IsRoundTexts (plain (kind.Heading sides.level)) (page_chars (opening sides)) ps (closing_items sides)
-round_texts ps sides h a =
+pub round_given : (ps : List Part) (sides : Sides) → AreOwnOrGiven ps → AreSides sides
+    → IsRoundGiven (plain (kind.Heading sides.level)) (page_chars (opening sides)) ps (closing_items sides)
+round_given ps sides h a =
     let i : List Item = held_by_all (forest (children ps)) in
     let c : List Item = closing_items sides in
     record {
@@ -173,21 +172,21 @@ round_texts ps sides h a =
       some = some_chars sides.level sides.lead (i ++ c) a.some;
     }
 
-heading_texts : (s : Setting) (signs : List ContentSign) (owns : List (List Item)) (sides : Sides) → IsCalledHeading s signs owns → AreSides sides
-    → IsRoundTexts (plain (kind.Heading sides.level)) (page_chars (opening sides)) (parts_with s [] signs owns) (closing_items sides)
-heading_texts s signs owns sides h a = round_texts (parts_with s [] signs owns) sides (parts_own s [] signs owns h.own) a
+heading_given : (s : Setting) (signs : List ContentSign) (owns : List (List Item)) (sides : Sides) → IsCalledHeading s signs owns → AreSides sides
+    → IsRoundGiven (plain (kind.Heading sides.level)) (page_chars (opening sides)) (parts_with s [] signs owns) (closing_items sides)
+heading_given s signs owns sides h a = round_given (parts_with s [] signs owns) sides (parts_own s [] signs owns h.own) a
 
 pub heading_holds : (s : Setting) (signs : List ContentSign) (owns : List (List Item)) (sides : Sides) → IsCalledHeading s signs owns → AreSides sides
     → HoldsItsCalls (heading_round sides (items_with s [] signs owns))
 heading_holds s signs owns sides h a =
     subst (λ (ps : List Part). HoldsItsCalls (inner (plain (kind.Heading sides.level)) (page_chars (opening sides)) (forest (children ps)) (closing_items sides)))
     (sym (heading_parts s signs owns h))
-    (texts_hold (plain (kind.Heading sides.level)) (page_chars (opening sides)) (parts_with s [] signs owns) (closing_items sides) (heading_texts s signs owns sides h a))
+    (given_hold (plain (kind.Heading sides.level)) (page_chars (opening sides)) (parts_with s [] signs owns) (closing_items sides) (heading_given s signs owns sides h a))
 
 pub heading_block : (calls : List OuterCall) (s : Setting) (signs : List ContentSign) (owns : List (List Item)) (sides : Sides) → IsCalledHeading s signs owns → AreSides sides
     → block_in calls (heading_round sides (items_with s [] signs owns))
-    ≡ block_of_texts calls (plain (kind.Heading sides.level)) (page_chars (opening sides)) (parts_with s [] signs owns) (closing_items sides)
+    ≡ block_of_pieces calls (plain (kind.Heading sides.level)) (page_chars (opening sides)) (parts_with s [] signs owns) (closing_items sides)
 heading_block calls s signs owns sides h a =
     ap (λ (ps : List Part). block_in calls (inner (plain (kind.Heading sides.level)) (page_chars (opening sides)) (forest (children ps)) (closing_items sides)))
     (heading_parts s signs owns h)
-    ∙ block_is calls (plain (kind.Heading sides.level)) (page_chars (opening sides)) (parts_with s [] signs owns) (closing_items sides) (heading_texts s signs owns sides h a)
+    ∙ given_block_is calls (plain (kind.Heading sides.level)) (page_chars (opening sides)) (parts_with s [] signs owns) (closing_items sides) (heading_given s signs owns sides h a)

@@ -1,31 +1,36 @@
 -- The lines of a content whose nodes have given items: cut where a line break is typed, each of them text.
-use Rattle.std.proofs.Common.{arith, ◌≡◌, ◌⊎◌, inl, inr, ℕ, ◌==◌, Bool, true, false, List, [], ◌∷◌, ◌++◌, map, refl, sym, ap, ◌∙◌, subst, append-nil, All}
-use Rattle.std.specs.Prelude.{if◌then◌else◌}
-use Rattle.std.proofs.lemmas.Bool.Decides.{nat_tests}
+use Rattle.std.proofs.Common.{arith, ◌≡◌, ◌⊎◌, inl, inr, ℕ, ◌<◌, ◌==◌, Bool, true, false, List, [], ◌∷◌, ◌++◌, map, refl, sym, ap, ◌∙◌, subst, append-nil, All}
+use Rattle.std.specs.Prelude.{◌&&◌, ◌||◌, not, nat_lt, if◌then◌else◌}
+use Rattle.std.proofs.lemmas.Bool.Decides.{nat_tests, Decides-eqb}
 use Rattle.std.proofs.lemmas.List.{map-append}
 use Rattle.std.proofs.lemmas.List.Elements.{All-nil, All-cons}
 use Rattle.wt_span.specs.Items.{Item}
+use Rattle.wt_guards.specs.declared.role.Role.TheVariants.{Group}
+use Rattle.wt_guards.specs.declared.role.Transclusion.{Transclusion}
 use Rattle.wt_guards.specs.Content.{ContentSign, Thing, letter, thing, nearest}
-use Rattle.wt_guards.specs.Guards.{Setting, is_guarded, is_line_start, is_line_begun, is_mark as is_mark_role}
-use Rattle.wt_guards.specs.Letters.{is_escaped}
+use Rattle.wt_guards.specs.Guards.{Setting, is_guarded, is_line_start, is_line_begun, is_new_at_start, is_mark as is_mark_role}
+use Rattle.wt_guards.specs.Letters.{is_bracket, is_escaped}
+use Rattle.wt_guards.specs.Table.{line_start_hazard}
 use Rattle.wt_typed_blocks.proofs.Lines.{unguarded_begins, end_guarded}
-use Rattle.wt_typed_blocks.proofs.TextKinds.{atom_opens}
-use Rattle.wt_lines.specs.Lines.{lines}
+use Rattle.wt_typed_blocks.proofs.TextKinds.{OpensText, atom_opens}
+use Rattle.wt_lines.specs.Lines.{lines, IsUnbroken}
 use Rattle.wt_tiles.specs.declared.glyph.Glyph.{Glyph}
+use Rattle.wt_tiles.specs.declared.glyph.Glyph.TheVariants as glyph
 use Rattle.wt_tiles.specs.Glyphs.{glyph_of}
 use Rattle.wt_text_edit_laws.proofs.Paragraphs.LineBlocks.{OwnBreaks}
-use Rattle.wt_beside_laws.specs.Called.{items_with, line_with, later_with, lines_with, AreWordBytes, BeginsWord, AreWords, IsOwnNode, AreGiven}
+use Rattle.wt_beside_laws.specs.Called.{items_with, line_with, later_with, lines_with, IsOwnNode, IsGivenAs, AreGiven}
 use Rattle.wt_beside_laws.specs.Content.{guard_items, letter_items}
 use Rattle.wt_beside_laws.specs.Cuts.{own_glyphs}
+use Rattle.wt_beside_laws.specs.Given.{given_glyphs, may_begin_line, BeginsLine, GivesSigns, IsGroup}
 use Rattle.wt_beside_laws.specs.Glyphs.{guard_glyphs, letter_glyphs}
 use Rattle.wt_beside_laws.specs.Lines.{AreCharacters, IsLineOfText, AreLinesOfText}
 use Rattle.wt_beside_laws.specs.NodeItems.{node_items}
 use Rattle.wt_beside_laws.proofs.LineItems.{unbroken_before, guard_before, guard_alone, letter_unbroken, break_items}
-use Rattle.wt_beside_laws.proofs.LineKinds.{Opens, opens_line, opens_unmarked, guard_opens, letter_opens, no_break, items_open, node_opens, new_guarded, later_by}
+use Rattle.wt_beside_laws.proofs.LineKinds.{Opens, FirstOpens, opens_small, at_bracket, opens_line, opens_unmarked, guard_opens, letter_opens, no_break, items_open, node_opens, new_guarded, later_by}
 use Rattle.wt_beside_laws.proofs.LineParts.{guard_is, letter_is}
 use Rattle.wt_beside_laws.proofs.LineRows.{own_both, unbroken_own, guard_own, letter_own}
-use Rattle.wt_beside_laws.proofs.LineTiles.{line_glyphs}
-use Rattle.wt_beside_laws.proofs.Groups.Words.{word_opens, call_chars, given_or, given_glyphs, given_unbroken}
+use Rattle.wt_beside_laws.proofs.Groups.Gifts.{given_case, gift_of, line_glyphs_with}
+use Rattle.wt_beside_laws.proofs.Groups.GivenTiles.{given_are}
 
 -- ---- as inline forms read them
 
@@ -34,27 +39,29 @@ ended_is : (t e : Bool) (c : ℕ) (xs : List Item) (gs : List Glyph) → map gly
 ended_is true e c xs gs h = refl
 ended_is false e c xs gs h = letter_is e c xs ∙ ap (λ hs. letter_glyphs e c ++ hs) h
 
-pub line_is : (s : Setting) (before signs : List ContentSign) (owns : List (List Item)) → AreGiven signs owns
-    → map glyph_of (line_with s before signs owns) ≡ line_glyphs s before signs
-line_is s before [] owns h =
+pub line_is : (s : Setting) (before signs : List ContentSign) (owns : List (List Item))
+    → map glyph_of (line_with s before signs owns) ≡ line_glyphs_with s before signs owns
+line_is s before [] owns =
     ap (map glyph_of) (sym (append-nil (guard_items (is_guarded s before [])))) ∙ guard_is (is_guarded s before []) [] ∙ append-nil (guard_glyphs (is_guarded s before []))
-line_is s before (letter c ∷ after) owns h =
+line_is s before (letter c ∷ after) owns =
     let u = is_guarded s before (letter c ∷ after) in
     let e = is_escaped s.within s.place before c after in
     let more : List Item = line_with s (letter c ∷ before) after owns in
     guard_is u (if c == 10 then [] else letter_items e c ++ more)
-    ∙ ap (λ gs. guard_glyphs u ++ gs) (ended_is (c == 10) e c more (line_glyphs s (letter c ∷ before) after) (line_is s (letter c ∷ before) after owns h))
-line_is s before (thing t ∷ after) [] h = absurd h
-line_is s before (thing t ∷ after) (own ∷ owns) h =
+    ∙ ap (λ gs. guard_glyphs u ++ gs) (ended_is (c == 10) e c more (line_glyphs_with s (letter c ∷ before) after owns) (line_is s (letter c ∷ before) after owns))
+line_is s before (thing t ∷ after) [] =
+    let u = is_guarded s before (thing t ∷ after) in
+    ap (map glyph_of) (sym (append-nil (guard_items u))) ∙ guard_is u [] ∙ append-nil (guard_glyphs u)
+line_is s before (thing t ∷ after) (own ∷ owns) =
     let u = is_guarded s before (thing t ∷ after) in
     let more : List Item = line_with s (thing t ∷ before) after owns in
     guard_is u (own ++ more)
-    ∙ ap (λ gs. guard_glyphs u ++ gs)
-    (map-append glyph_of own more
-    ∙ ap (λ gs. gs ++ map glyph_of more) (given_glyphs t own (given_or t.role t own h.0))
-    ∙ ap (λ gs. own_glyphs t ++ gs) (line_is s (thing t ∷ before) after owns h.1))
+    ∙ ap (λ gs. guard_glyphs u ++ gs) (map-append glyph_of own more ∙ ap (λ gs. map glyph_of own ++ gs) (line_is s (thing t ∷ before) after owns))
 
 -- ---- where they are cut
+
+pub given_unbroken : (t : Thing) (own : List Item) → IsGivenAs t.role t own → IsUnbroken own
+given_unbroken t own h = let g = gift_of t own h in g.unbroken
 
 letter_lines : (s : Setting) (before : List ContentSign) (c : ℕ) (after : List ContentSign) (t : Bool) (xs l : List Item) (ls : List (List Item)) → (c == 10) ≡ t
     → lines xs ≡ l ∷ ls
@@ -80,7 +87,7 @@ lines_from s before (thing t ∷ after) (own ∷ owns) h =
     let xs : List Item = items_with s (thing t ∷ before) after owns in
     guard_before (is_guarded s before (thing t ∷ after)) (own ++ xs) _ _
     (unbroken_before own xs (line_with s (thing t ∷ before) after owns) (later_with s (thing t ∷ before) after owns)
-    (given_unbroken t own (given_or t.role t own h.0)) (lines_from s (thing t ∷ before) after owns h.1))
+    (given_unbroken t own h.0) (lines_from s (thing t ∷ before) after owns h.1))
 
 pub items_own : (s : Setting) (before signs : List ContentSign) (owns : List (List Item)) → AreGiven signs owns → OwnBreaks (items_with s before signs owns)
 items_own s before [] owns h = guard_own (is_guarded s before [])
@@ -93,21 +100,64 @@ items_own s before (thing t ∷ after) [] h = absurd h
 items_own s before (thing t ∷ after) (own ∷ owns) h =
     let more : List Item = items_with s (thing t ∷ before) after owns in
     own_both (guard_items (is_guarded s before (thing t ∷ after))) (own ++ more) (guard_own (is_guarded s before (thing t ∷ after)))
-    (own_both own more (unbroken_own own (given_unbroken t own (given_or t.role t own h.0))) (items_own s (thing t ∷ before) after owns h.1))
+    (own_both own more (unbroken_own own (given_unbroken t own h.0)) (items_own s (thing t ∷ before) after owns h.1))
 
 -- ---- each is text
 
-pub words_open : (j : ℕ) (bs : List ℕ) (xs : List Item) → AreWordBytes bs → BeginsWord bs → Opens (call_chars j bs ++ xs)
-words_open j [] xs h v = absurd v
-words_open j (b ∷ bs) xs h v = word_opens b h.0 v
+any_of : (u v : Bool) → (u || v) ≡ true → (u ≡ true) ⊎ (v ≡ true)
+any_of true v e = inl refl
+any_of false v e = inr e
+
+both_of : (u v : Bool) → (u && v) ≡ true → (u ≡ true) × (v ≡ true)
+both_of true true e = (refl, refl)
+both_of true false e = cc
+both_of false v e = cc
+
+none_of : (u v w : Bool) → not (u || (v || w)) ≡ true → (u ≡ false) × (v ≡ false) × (w ≡ false)
+none_of true v w e = cc
+none_of false true w e = cc
+none_of false false true e = cc
+none_of false false false e = (refl, refl, refl)
+
+less_than : (b : ℕ) → nat_lt b 256 ≡ true → b < 256
+less_than b e = grind (arith, nat_tests, e)
+
+byte_opens : (b : ℕ) → may_begin_line (glyph.Byte b) ≡ true → OpensText b
+byte_opens b e = elim (any_of (b == 91) (nat_lt b 256 && not (b == 10 || (line_start_hazard b || is_bracket b))) e) [
+  | inl i ↦ subst OpensText (sym ((Decides-eqb b 91).0 i)) at_bracket
+  | inr k ↦
+      let both = both_of (nat_lt b 256) (not (b == 10 || (line_start_hazard b || is_bracket b))) k in
+      let none = none_of (b == 10) (line_start_hazard b) (is_bracket b) both.1 in
+      opens_small b (less_than b both.0) none.1 none.0 none.2
+]
+
+pub line_begins : (gs : List Glyph) → BeginsLine gs → FirstOpens gs
+line_begins [] h = absurd h
+line_begins (glyph.Byte b ∷ gs) h = byte_opens b h
+line_begins (glyph.Entity c ∷ gs) h = tt
+line_begins (glyph.Atom ∷ gs) h = tt
+line_begins (glyph.Mark ∷ gs) h = cc
+
+group_opens : (g : Transclusion) (s : Setting) (before : List ContentSign) (t : Thing) (after : List ContentSign) (j : ℕ) (own more : List Item) → s.within ≡ false
+    → is_line_start (nearest before) ≡ true → t.role ≡ Group g → IsGroup g j own → is_guarded s before (thing t ∷ after) ≡ false → Opens (own ++ more)
+group_opens g s before t after j own more w l role h u = by g.began_line refl
+  where
+    by : (v : Bool) → g.began_line ≡ v → Opens (own ++ more)
+    by true e =
+        let k : GivesSigns j own = h.gives in
+        let glyphs : map glyph_of own ≡ given_glyphs k.signs = ap (map glyph_of) k.is ∙ given_are j k.signs in
+        items_open own more (subst FirstOpens (sym glyphs) (line_begins (given_glyphs k.signs) (h.opens e)))
+    by false e =
+        let new : is_new_at_start t.role ≡ true = ap is_new_at_start role ∙ ap not e in
+        let no : true ≡ false = sym (new_guarded s before t after w l new) ∙ u in cc
 
 given_opens : (s : Setting) (before : List ContentSign) (t : Thing) (after : List ContentSign) (own more : List Item) → s.within ≡ false
-    → is_line_start (nearest before) ≡ true → IsOwnNode t own ⊎ AreWords t.source own → is_guarded s before (thing t ∷ after) ≡ false → Opens (own ++ more)
-given_opens s before t after own more w l h g = elim h [
+    → is_line_start (nearest before) ≡ true → IsGivenAs t.role t own → is_guarded s before (thing t ∷ after) ≡ false → Opens (own ++ more)
+given_opens s before t after own more w l h g = elim (given_case t.role t own h) [
   | inl n ↦
       subst (λ xs. Opens (xs ++ more)) (sym n.is)
       (items_open (node_items t.source) more (node_opens t.role (own_glyphs t) n.node (unmarked n (is_mark_role t.role) refl)))
-  | inr x ↦ subst (λ xs. Opens (xs ++ more)) (sym x.is) (words_open x.call t.source more x.words x.begins)
+  | inr k ↦ group_opens k.0 s before t after k.2 own more w l k.1 k.3 g
 ]
   where
     unmarked : IsOwnNode t own → (v : Bool) → is_mark_role t.role ≡ v → v ≡ false
@@ -127,7 +177,7 @@ line_opens s before (thing t ∷ after) [] w l b v h = absurd h
 line_opens s before (thing t ∷ after) (own ∷ owns) w l b v h =
     let more : List Item = line_with s (thing t ∷ before) after owns in
     guard_opens (is_guarded s before (thing t ∷ after)) (own ++ more)
-    (λ g. given_opens s before t after own more w l (given_or t.role t own h.0) g)
+    (λ g. given_opens s before t after own more w l h.0 g)
 
 later_are : (tables : ℕ) (s : Setting) (before signs : List ContentSign) (owns : List (List Item)) → s.within ≡ false → AreCharacters signs → AreGiven signs owns
     → All (IsLineOfText tables) (later_with s before signs owns)

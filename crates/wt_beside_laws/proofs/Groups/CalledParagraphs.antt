@@ -29,7 +29,7 @@ called_lines tables s signs owns h =
 
 pub called_parts : (s : Setting) (signs : List ContentSign) (owns : List (List Item)) → IsCalledContent s signs owns
     → joined_parts (lines (items_with s [] signs owns)) ≡ parts_with s [] signs owns
-called_parts s signs owns h = ap joined_parts (lines_from s [] signs owns h.given) ∙ lines_joined s signs owns h.given h.meet
+called_parts s signs owns h = ap joined_parts (lines_from s [] signs owns h.given) ∙ lines_joined s signs owns h.given h.flat h.meet
 
 -- ---- its full lines
 
@@ -51,7 +51,7 @@ called_rows : (s : Setting) (signs : List ContentSign) (owns : List (List Item))
 called_rows s signs owns h =
     rows_parts (items_with s [] signs owns) (line_with s [] signs owns) (later_with s [] signs owns) (items_own s [] signs owns h.given) (called_closed s signs owns h)
     (lines_from s [] signs owns h.given)
-    ∙ lines_joined s signs owns h.given h.meet
+    ∙ lines_joined s signs owns h.given h.flat h.meet
 
 -- between other lines of a page
 pub called_stands : (before : List Item) (s : Setting) (signs : List ContentSign) (owns : List (List Item)) (tail : List Item) → EndsApart before

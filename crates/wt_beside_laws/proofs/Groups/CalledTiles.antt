@@ -1,192 +1,255 @@
--- The tiles of a line of texts, words of calls and nodes that stay.
-use Rattle.std.proofs.Common.{◌≡◌, ◌⊎◌, inl, inr, ℕ, ◌==◌, Bool, true, false, not, Option, None, List, [], ◌∷◌, ◌++◌, length, refl, sym, ◌∙◌, subst, append-nil}
-use Rattle.std.specs.Prelude.{◌&&◌, codes, if◌then◌else◌}
-use Rattle.std.proofs.lemmas.Bool.Decides.{Decides-eqb}
+-- The tiles of a line of texts, of what calls give and of nodes that stay.
+use Rattle.std.proofs.Common.{◌≡◌, inl, inr, ℕ, ◌==◌, Bool, true, false, not, None, List, [], ◌∷◌, ◌++◌, map, sym, ap, refl, ◌∙◌, subst}
+use Rattle.std.specs.Prelude.{◌&&◌, ◌||◌, codes, if◌then◌else◌}
+use Rattle.std.specs.Char.{is_ascii_alphabetic}
 use Rattle.wt_span.specs.Items.{Item}
-use Rattle.wt_guards.specs.declared.role.Role.{Role}
-use Rattle.wt_guards.specs.Content.{ContentSign, Thing, letter, thing}
+use Rattle.wt_guards.specs.Content.{ContentSign, Thing, letter, thing, nearest}
 use Rattle.wt_guards.specs.Guards.{Setting, is_guarded}
-use Rattle.wt_guards.specs.Letters.{is_bracket, is_escaped}
+use Rattle.wt_guards.specs.Letters.{is_bracket, is_next, are_slashes, opens_tag, is_escaped}
 use Rattle.wt_typed_blocks.proofs.TextReads.{bracket_escaped, not_bracket, equal_or, or_parts}
 use Rattle.wt_tiles.specs.declared.glyph.Glyph.{Glyph}
 use Rattle.wt_tiles.specs.declared.glyph.Glyph.TheVariants as glyph
-use Rattle.wt_tiles.specs.declared.shape.Shape.{Shape}
 use Rattle.wt_tiles.specs.Contexts.{in_line}
-use Rattle.wt_tiles.specs.Glyphs.{byte_glyphs}
+use Rattle.wt_tiles.specs.Glyphs.{glyph_of, begins_like}
 use Rattle.wt_tiles.specs.Tags.{tag_at}
 use Rattle.wt_tiles.specs.Tiles.{Cut, form_at, cuts, switch_at}
 use Rattle.wt_tiles.specs.Urls.{is_word}
-use Rattle.wt_beside_laws.specs.Beginnings.{AvoidsSwitches, AllAvoidSwitches}
-use Rattle.wt_beside_laws.specs.Called.{is_half_sign, PartsSigns, AreWordBytes, BeginsWord, AreWords, IsOwnNode, AreGiven}
-use Rattle.wt_beside_laws.specs.Cuts.{add_chars, own_glyphs, own_form, add_node, letter_cut, ends_word, is_word_last}
+use Rattle.wt_beside_laws.specs.Beginnings.{is_lone_underscore}
+use Rattle.wt_beside_laws.specs.Called.{MeetsNearest, AllMeetWith}
+use Rattle.wt_beside_laws.specs.Cuts.{letter_cut, ends_word}
+use Rattle.wt_beside_laws.specs.Given.{given_cut, given_last, FirstMay, LastMay}
 use Rattle.wt_beside_laws.specs.Glyphs.{guard_glyphs, letter_glyphs}
-use Rattle.wt_beside_laws.specs.Nodes.{MayFollow, MeetAt, AllMeet}
-use Rattle.wt_beside_laws.proofs.ContentTiles.{one_more, none_more, Follows, guard_follows, letter_follows, node_follows}
-use Rattle.wt_beside_laws.proofs.LineTiles.{tag_less, switch_less, line_glyphs, line_cut, line_front, end_follows, letter_by}
-use Rattle.wt_beside_laws.proofs.NodesBegin.{other_avoids, all_switches}
-use Rattle.wt_beside_laws.proofs.NodesMeet.{atom_may, begins_more, letter_behind, by_fits, letter_may, guard_may, leads_by}
-use Rattle.wt_beside_laws.proofs.NodesStand.{node_stands}
-use Rattle.wt_beside_laws.proofs.TypedForms.{one_underscore, tag_other, switch_other, link_none, external_none, bare_none, all_none, tag_none, switch_none}
-use Rattle.wt_beside_laws.proofs.Groups.Schemes.{reaches, no_scheme, FirstNeither, given_neither, words_reach, line_reaches}
-use Rattle.wt_beside_laws.proofs.Groups.Words.{not_word, half_underscore, behind_sign, not_first, shown_glyphs, given_or}
+use Rattle.wt_beside_laws.proofs.ContentTiles.{Follows, guard_follows, letter_follows}
+use Rattle.wt_beside_laws.proofs.LineTiles.{end_follows, letter_by}
+use Rattle.wt_beside_laws.proofs.NodesMeet.{letter_behind, letter_before}
+use Rattle.wt_beside_laws.proofs.TypedForms.{FirstFits, letter_fits, guard_fits, IsNoName, wide_no_name, less_next, less_none, tag_other, IsNoUnderscore, wide_no_underscore, fits_alone, second_underscore, thing_alone, guard_alone, underscore_none, switch_other, link_none, external_none, bare_none, all_none}
+use Rattle.wt_beside_laws.proofs.Groups.Gifts.{IsGift, gift_glyphs, AreGifts, atom_last, guard_last, ended_last, given_led, first_none, line_glyphs_with, line_cut_with}
+use Rattle.wt_beside_laws.proofs.Groups.GivenTiles.{given_reaches, none_last, last_is, given_follow}
+use Rattle.wt_beside_laws.proofs.Groups.Schemes.{reaches, no_scheme, FirstNeither, first_none as first_other, guard_none, slash_letter, ended_none, guard_reaches, end_reaches, letter_reaches, ended_reaches, colon_plain}
 
--- ---- words
+-- ---- a slash, or two
 
--- a `_`, behind which is no other one
-lone_underscore : (b : ℕ) (bs : List ℕ) (more : List Glyph) → b ≡ 95 → PartsSigns bs → switch_at (glyph.Byte b ∷ (byte_glyphs bs ++ more)) ≡ None
-lone_underscore b [] more i h = absurd h
-lone_underscore b (d ∷ bs) more i h =
-    let P : ℕ → Type 0 = λ k. switch_at (glyph.Byte k ∷ (byte_glyphs (d ∷ bs) ++ more)) ≡ None in
-    subst P (sym i) (one_underscore (glyph.Byte d) (byte_glyphs bs ++ more) (behind_sign d bs h).1)
+none_slash : (c : ℕ) → (c == 47) ≡ false → (c == 47) ≡ true → true ≡ false
+none_slash c e i = sym i ∙ e
 
-word_switch : (b : ℕ) (bs : List ℕ) (more : List Glyph) → (is_half_sign b ≡ true → PartsSigns bs) → switch_at (glyph.Byte b ∷ (byte_glyphs bs ++ more)) ≡ None
-word_switch b bs more h = elim (equal_or b 95) [
-  | inl i ↦ lone_underscore b bs more i (h (half_underscore b ((Decides-eqb b 95).1 i)))
-  | inr n ↦ switch_other b (byte_glyphs bs ++ more) n
-]
+one_slash : (s : Setting) (before after : List ContentSign) (owns : List (List Item)) → AreGifts after owns → is_next 47 (nearest after) ≡ false
+    → begins_like (47 ∷ []) (line_glyphs_with s before after owns) ≡ false
+one_slash s before [] owns h e = by (is_guarded s before [])
+  where
+    by : (u : Bool) → begins_like (47 ∷ []) (guard_glyphs u) ≡ false
+    by true = refl
+    by false = refl
+one_slash s before (letter c ∷ after) owns h e =
+    let x = is_escaped s.within s.place before c after in
+    let more : List Glyph = line_glyphs_with s (letter c ∷ before) after owns in
+    guard_none 47 [] (is_guarded s before (letter c ∷ after)) (if c == 10 then [] else letter_glyphs x c ++ more)
+    (ended_none [] (c == 10) (letter_glyphs x c ++ more)
+    (slash_letter [] x c more (λ i. let no : true ≡ false = none_slash c e i in cc)))
+one_slash s before (thing t ∷ after) [] h e = absurd h
+one_slash s before (thing t ∷ after) (own ∷ owns) h e =
+    let more : List Glyph = line_glyphs_with s (thing t ∷ before) after owns in
+    let g = h.0 in
+    guard_none 47 [] (is_guarded s before (thing t ∷ after)) (map glyph_of own ++ more) (first_other 47 [] (map glyph_of own) more g.neither refl)
 
-word_none : (a : Bool) (b : ℕ) (bs : List ℕ) (more : List Glyph) → AreWordBytes (b ∷ bs) → reaches (byte_glyphs bs ++ more) ≡ false
-    → form_at in_line a (glyph.Byte b ∷ (byte_glyphs bs ++ more)) ≡ None
-word_none a b bs more h e =
-    let gs : List Glyph = byte_glyphs bs ++ more in
-    all_none in_line a (glyph.Byte b ∷ gs) (link_none b gs (not_word 91 b refl h.0)) (external_none b gs (not_word 91 b refl h.0))
-    (bare_none a (glyph.Byte b ∷ gs) (no_scheme (glyph.Byte b) gs e)) (tag_other b gs (not_word 60 b refl h.0)) (word_switch b bs more h.1)
+and_left : (v w : Bool) → (v && w) ≡ false → v ≡ true → w ≡ false
+and_left true w e i = e
+and_left false w e i = let no : false ≡ true = i in cc
 
-words_cuts : (a : Bool) (b : ℕ) (bs : List ℕ) (more : List Glyph) (c : Cut) → AreWordBytes (b ∷ bs) → reaches more ≡ false
-    → cuts in_line (ends_word false (byte_glyphs (b ∷ bs))) 0 more ≡ c → cuts in_line a 0 (byte_glyphs (b ∷ bs) ++ more) ≡ add_chars (length (byte_glyphs (b ∷ bs))) c
-words_cuts a b [] more c h e f = one_more in_line a b more 0 c (word_none a b [] more h e) (f ∙ none_more c)
-words_cuts a b (d ∷ bs) more c h e f =
-    one_more in_line a b (byte_glyphs (d ∷ bs) ++ more) (length (byte_glyphs (d ∷ bs))) c
-    (word_none a b (d ∷ bs) more h (words_reach (d ∷ bs) more h.3 e))
-    (words_cuts (is_word b) d bs more c h.3 e f)
+two_slashes : (s : Setting) (before after : List ContentSign) (owns : List (List Item)) → AreGifts after owns → are_slashes after ≡ false
+    → begins_like (codes "//") (line_glyphs_with s before after owns) ≡ false
+two_slashes s before [] owns h e = by (is_guarded s before [])
+  where
+    by : (u : Bool) → begins_like (codes "//") (guard_glyphs u) ≡ false
+    by true = refl
+    by false = refl
+two_slashes s before (letter c ∷ after) owns h e =
+    let x = is_escaped s.within s.place before c after in
+    let more : List Glyph = line_glyphs_with s (letter c ∷ before) after owns in
+    guard_none 47 (47 ∷ []) (is_guarded s before (letter c ∷ after)) (if c == 10 then [] else letter_glyphs x c ++ more)
+    (ended_none (47 ∷ []) (c == 10) (letter_glyphs x c ++ more)
+    (slash_letter (47 ∷ []) x c more (λ i. one_slash s (letter c ∷ before) after owns h (and_left (c == 47) (is_next 47 (nearest after)) e i))))
+two_slashes s before (thing t ∷ after) [] h e = absurd h
+two_slashes s before (thing t ∷ after) (own ∷ owns) h e =
+    let more : List Glyph = line_glyphs_with s (thing t ∷ before) after owns in
+    let g = h.0 in
+    guard_none 47 (47 ∷ []) (is_guarded s before (thing t ∷ after)) (map glyph_of own ++ more) (first_other 47 (47 ∷ []) (map glyph_of own) more g.neither refl)
 
-pub words_follow : (word : Bool) (bs : List ℕ) (more : List Glyph) (c : Cut) → AreWordBytes bs → BeginsWord bs → reaches more ≡ false
-    → Follows in_line (ends_word false (byte_glyphs bs)) more c → Follows in_line word (byte_glyphs bs ++ more) (add_chars (length (byte_glyphs bs)) c)
-words_follow word [] more c h v e f = absurd v
-words_follow word (b ∷ bs) more c h v e f = λ a i. words_cuts a b bs more c h e (f (ends_word false (byte_glyphs (b ∷ bs))) (λ z. z))
+-- ---- no URL goes on over the signs
 
-pub words_formless : (bs : List ℕ) → AreWordBytes bs → BeginsWord bs → own_form in_line (byte_glyphs bs) ≡ None
-words_formless [] h v = absurd v
-words_formless (b ∷ bs) h v =
-    subst (λ (gs : List Glyph). own_form in_line (glyph.Byte b ∷ gs) ≡ None) (append-nil (byte_glyphs bs))
-    (word_none false b bs [] h (words_reach bs [] h.3 refl))
+gift_reaches : (t : Thing) (own : List Item) (more : List Glyph) → IsGift t own → reaches more ≡ false → reaches (map glyph_of own ++ more) ≡ false
+gift_reaches t own more g e =
+    subst (λ (gs : List Glyph). reaches (gs ++ more) ≡ false) (sym (gift_glyphs t own g)) (given_reaches false g.signs more g.are e)
 
--- ---- what follows a node
-
-end_may : (r : Role) (own : List Glyph) (u : Bool) → MayFollow r own (guard_glyphs u)
-end_may r own true = inl (atom_may r)
-end_may r own false = tt
-
-ended_may : (r : Role) (own : List Glyph) (t : Bool) (gs : List Glyph) → MayFollow r own gs → MayFollow r own (if t then [] else gs)
-ended_may r own true gs m = tt
-ended_may r own false gs m = m
-
-some_first : (r : Role) (own other more : List Glyph) → FirstNeither other → MayFollow r own other → MayFollow r own (other ++ more)
-some_first r own [] more h m = absurd h
-some_first r own (g ∷ gs) more h m = elim m [
-  | inl e ↦ inl e
-  | inr q ↦ inr (record { unquoted = q.unquoted; quotes = begins_more (codes "''") (g ∷ gs) more q.quotes })
-]
-
-line_may : (s : Setting) (t : Thing) (before after : List ContentSign) (owns : List (List Item)) → AreGiven after owns → AllMeet s (thing t ∷ before) after []
-    → MayFollow t.role (own_glyphs t) (line_glyphs s (thing t ∷ before) after)
-line_may s t before [] owns h m = end_may t.role (own_glyphs t) (is_guarded s (thing t ∷ before) [])
-line_may s t before (letter d ∷ after) owns h m =
-    let e = is_escaped s.within s.place (thing t ∷ before) d after in
-    let more : List Glyph = line_glyphs s (letter d ∷ thing t ∷ before) after in
-    let own : List Glyph = letter_glyphs e d ++ more in
-    guard_may t.role (own_glyphs t) (is_guarded s (thing t ∷ before) (letter d ∷ after)) (if d == 10 then [] else own)
-    (λ z. ended_may t.role (own_glyphs t) (d == 10) own (by_fits t.role (own_glyphs t) own (letter_may t.role e d more (letter_behind s t before d after z))))
-line_may s t before (thing n ∷ after) [] h m = absurd h
-line_may s t before (thing n ∷ after) (own ∷ owns) h m =
-    let more : List Glyph = line_glyphs s (thing n ∷ thing t ∷ before) after in
-    guard_may t.role (own_glyphs t) (is_guarded s (thing t ∷ before) (thing n ∷ after)) (own_glyphs n ++ more)
-    (λ z. some_first t.role (own_glyphs t) (own_glyphs n) more (given_neither n own (given_or n.role n own h.0))
-    (subst (λ u. MeetAt u (thing t ∷ before) (thing n ∷ after) []) z m.0).0)
+pub line_reaches : (s : Setting) (before signs : List ContentSign) (owns : List (List Item)) → AreGifts signs owns
+    → reaches (line_glyphs_with s before signs owns) ≡ false
+line_reaches s before [] owns h = end_reaches (is_guarded s before [])
+line_reaches s before (letter c ∷ after) owns h =
+    let x = is_escaped s.within s.place before c after in
+    let more : List Glyph = line_glyphs_with s (letter c ∷ before) after owns in
+    guard_reaches (is_guarded s before (letter c ∷ after)) (if c == 10 then [] else letter_glyphs x c ++ more)
+    (ended_reaches (c == 10) (letter_glyphs x c ++ more)
+    (letter_reaches x c more
+    (λ e i. two_slashes s (letter c ∷ before) after owns h
+    (colon_plain s before after (subst (λ (k : ℕ). is_escaped s.within s.place before k after ≡ false) i e)))
+    (line_reaches s (letter c ∷ before) after owns h)))
+line_reaches s before (thing t ∷ after) [] h = absurd h
+line_reaches s before (thing t ∷ after) (own ∷ owns) h =
+    let more : List Glyph = line_glyphs_with s (thing t ∷ before) after owns in
+    guard_reaches (is_guarded s before (thing t ∷ after)) (map glyph_of own ++ more)
+    (gift_reaches t own more h.0 (line_reaches s (thing t ∷ before) after owns h.1))
 
 -- ---- what is typed
 
-letter_none : (a : Bool) (s : Setting) (before : List ContentSign) (c : ℕ) (after : List ContentSign)
-    → is_escaped s.within s.place before c after ≡ false → AllAvoidSwitches after → reaches (line_glyphs s (letter c ∷ before) after) ≡ false
-    → form_at in_line a (glyph.Byte c ∷ line_glyphs s (letter c ∷ before) after) ≡ None
-letter_none a s before c after e switches r =
-    let gs : List Glyph = line_glyphs s (letter c ∷ before) after in
-    let front = line_front s (letter c ∷ before) after in
+-- behind a `<` that is typed
+less_fits : (s : Setting) (before after : List ContentSign) (owns : List (List Item)) → opens_tag (nearest after) ≡ false
+    → FirstFits IsNoName (line_glyphs_with s (letter 60 ∷ before) after owns)
+less_fits s before [] owns e = cc
+less_fits s before (thing t ∷ after) owns e = cc
+less_fits s before (letter d ∷ after) owns e =
+    let own = or_parts (is_ascii_alphabetic d) (d == 47 || d == 33) e in
+    let no = or_parts (d == 47) (d == 33) own.1 in
+    let t = is_escaped s.within s.place (letter 60 ∷ before) d after in
+    let more : List Glyph = line_glyphs_with s (letter d ∷ letter 60 ∷ before) after owns in
+    guard_fits IsNoName (is_guarded s (letter 60 ∷ before) (letter d ∷ after)) (if d == 10 then [] else letter_glyphs t d ++ more) (refl, refl)
+    (ended_fits IsNoName (d == 10) (letter_glyphs t d ++ more) (letter_fits IsNoName t d more (refl, refl) (λ z. (own.0, no.0)) wide_no_name))
+  where
+    ended_fits : (P : Glyph → Type 0) (v : Bool) (gs : List Glyph) → FirstFits P gs → FirstFits P (if v then [] else gs)
+    ended_fits P true gs f = tt
+    ended_fits P false gs f = f
+
+tag_none : (s : Setting) (before : List ContentSign) (c : ℕ) (after : List ContentSign) (owns : List (List Item)) → is_escaped s.within s.place before c after ≡ false
+    → tag_at (glyph.Byte c ∷ line_glyphs_with s (letter c ∷ before) after owns) ≡ None
+tag_none s before c after owns e =
+    let P : ℕ → Type 0 = λ (k : ℕ). is_escaped s.within s.place before k after ≡ false → tag_at (glyph.Byte k ∷ line_glyphs_with s (letter k ∷ before) after owns) ≡ None in
+    elim (equal_or c 60) [
+      | inl i ↦ subst P (sym i)
+          (λ h. less_none (line_glyphs_with s (letter 60 ∷ before) after owns) (less_fits s before after owns (less_next s before after h))) e
+      | inr n ↦ tag_other c (line_glyphs_with s (letter c ∷ before) after owns) n
+    ]
+
+-- behind a `_` that is typed
+behind_underscore : (s : Setting) (before after : List ContentSign) (owns : List (List Item)) → AreGifts after owns
+    → is_lone_underscore (line_glyphs_with s (letter 95 ∷ before) after owns) ≡ false
+behind_underscore s before [] owns h = by (is_guarded s (letter 95 ∷ before) [])
+  where
+    by : (u : Bool) → is_lone_underscore (guard_glyphs u) ≡ false
+    by true = refl
+    by false = refl
+behind_underscore s before (letter d ∷ after) owns h =
+    let t = is_escaped s.within s.place (letter 95 ∷ before) d after in
+    let more : List Glyph = line_glyphs_with s (letter d ∷ letter 95 ∷ before) after owns in
+    guard_alone (is_guarded s (letter 95 ∷ before) (letter d ∷ after)) (if d == 10 then [] else letter_glyphs t d ++ more)
+    (ended_alone (d == 10) (letter_glyphs t d ++ more)
+    (fits_alone (letter_glyphs t d ++ more) (letter_fits IsNoUnderscore t d more refl (λ z. second_underscore s before d after z) wide_no_underscore)))
+  where
+    ended_alone : (v : Bool) (gs : List Glyph) → is_lone_underscore gs ≡ false → is_lone_underscore (if v then [] else gs) ≡ false
+    ended_alone true gs e = refl
+    ended_alone false gs e = e
+behind_underscore s before (thing t ∷ after) [] h = absurd h
+behind_underscore s before (thing t ∷ after) (own ∷ owns) h =
+    let g = h.0 in
+    let more : List Glyph = line_glyphs_with s (thing t ∷ letter 95 ∷ before) after owns in
+    guard_alone (is_guarded s (letter 95 ∷ before) (thing t ∷ after)) (map glyph_of own ++ more) (thing_alone (map glyph_of own) more g.alone)
+
+switch_none : (s : Setting) (before : List ContentSign) (c : ℕ) (after : List ContentSign) (owns : List (List Item)) → AreGifts after owns
+    → switch_at (glyph.Byte c ∷ line_glyphs_with s (letter c ∷ before) after owns) ≡ None
+switch_none s before c after owns h =
+    let P : ℕ → Type 0 = λ (k : ℕ). switch_at (glyph.Byte k ∷ line_glyphs_with s (letter k ∷ before) after owns) ≡ None in
+    elim (equal_or c 95) [
+      | inl i ↦ subst P (sym i) (underscore_none (line_glyphs_with s (letter 95 ∷ before) after owns) (behind_underscore s before after owns h))
+      | inr n ↦ switch_other c (line_glyphs_with s (letter c ∷ before) after owns) n
+    ]
+
+letter_none : (a : Bool) (s : Setting) (before : List ContentSign) (c : ℕ) (after : List ContentSign) (owns : List (List Item))
+    → is_escaped s.within s.place before c after ≡ false → AreGifts after owns → form_at in_line a (glyph.Byte c ∷ line_glyphs_with s (letter c ∷ before) after owns) ≡ None
+letter_none a s before c after owns e h =
+    let gs : List Glyph = line_glyphs_with s (letter c ∷ before) after owns in
     let b = not_bracket (is_bracket c) (is_escaped s.within s.place before c after) (bracket_escaped s.within s.place before c after) e in
     let bracket = or_parts (c == 91) _ b in
     all_none in_line a (glyph.Byte c ∷ gs) (link_none c gs bracket.0) (external_none c gs bracket.0)
-    (bare_none a (glyph.Byte c ∷ gs) (no_scheme (glyph.Byte c) gs r))
-    (tag_less (glyph.Byte c ∷ gs) front.more (subst (λ ys. tag_at (glyph.Byte c ∷ ys) ≡ None) front.is (tag_none s before c after [] e)))
-    (switch_less (glyph.Byte c ∷ gs) front.more (subst (λ ys. switch_at (glyph.Byte c ∷ ys) ≡ None) front.is (switch_none s before c after [] switches refl)))
+    (bare_none a (glyph.Byte c ∷ gs) (no_scheme (glyph.Byte c) gs (line_reaches s (letter c ∷ before) after owns h)))
+    (tag_none s before c after owns e) (switch_none s before c after owns h)
 
--- ---- switches
+-- ---- what is beside a node or a group
 
-words_switches : (bs : List ℕ) → AreWordBytes bs → BeginsWord bs → AvoidsSwitches (byte_glyphs bs)
-words_switches [] h v = absurd v
-words_switches (b ∷ bs) h v = other_avoids b (byte_glyphs bs) (not_first 95 b refl v)
+-- behind it
+gift_last : (s : Setting) (t : Thing) (own : List Item) (before after : List ContentSign) (owns : List (List Item)) (g : IsGift t own) → AreGifts after owns
+    → AllMeetWith s (thing t ∷ before) own after owns → LastMay g.signs (line_glyphs_with s (thing t ∷ before) after owns)
+gift_last s t own before [] owns g h m =
+    end_last (is_guarded s (thing t ∷ before) [])
+  where
+    end_last : (u : Bool) → LastMay g.signs (guard_glyphs u)
+    end_last true = atom_last false g.signs [] g.are
+    end_last false = none_last g.signs
+gift_last s t own before (letter d ∷ after) owns g h m =
+    let e = is_escaped s.within s.place (thing t ∷ before) d after in
+    let more : List Glyph = line_glyphs_with s (letter d ∷ thing t ∷ before) after owns in
+    guard_last false (is_guarded s (thing t ∷ before) (letter d ∷ after)) g.signs (if d == 10 then [] else letter_glyphs e d ++ more) g.are
+    (λ z. ended_last (d == 10) g.signs (letter_glyphs e d ++ more) (g.behind e d more (letter_behind s t before d after z)))
+gift_last s t own before (thing n ∷ after) [] g h m = absurd h
+gift_last s t own before (thing n ∷ after) (next ∷ owns) g h m =
+    let more : List Glyph = line_glyphs_with s (thing n ∷ thing t ∷ before) after owns in
+    let k = h.0 in
+    guard_last false (is_guarded s (thing t ∷ before) (thing n ∷ after)) g.signs (map glyph_of next ++ more) g.are
+    (λ z. let both = m.0 z in g.beside (map glyph_of next) more k.neither both.0)
 
-given_switches : (t : Thing) (own : List Item) → IsOwnNode t own ⊎ AreWords t.source own → AvoidsSwitches (own_glyphs t)
-given_switches t own h = elim h [
-  | inl n ↦ (all_switches (thing t ∷ []) (n.node, tt)).0
-  | inr w ↦ subst AvoidsSwitches (sym (shown_glyphs t w.words)) (words_switches t.source w.words w.begins)
-]
+-- whether a letter, digit or `_` is last before a place, where the nearest node gives these
+abbrev pub is_word_before : List ContentSign → List Item → Bool
+is_word_before [] last = false
+is_word_before (letter c ∷ before) last = is_word c
+is_word_before (thing t ∷ before) last = ends_word false (map glyph_of last)
 
-all_given_switches : (signs : List ContentSign) (owns : List (List Item)) → AreGiven signs owns → AllAvoidSwitches signs
-all_given_switches [] owns h = tt
-all_given_switches (letter c ∷ after) owns h = all_given_switches after owns h
-all_given_switches (thing t ∷ after) [] h = absurd h
-all_given_switches (thing t ∷ after) (own ∷ owns) h = (given_switches t own (given_or t.role t own h.0), all_given_switches after owns h.1)
+-- before it
+gift_first : (s : Setting) (t : Thing) (own : List Item) (before : List ContentSign) (last : List Item) (after : List ContentSign) (u : Bool)
+    → is_guarded s before (thing t ∷ after) ≡ u → (g : IsGift t own)
+    → (is_guarded s before (thing t ∷ after) ≡ false → MeetsNearest (nearest before) (map glyph_of last) t (map glyph_of own))
+    → FirstMay g.signs (not u && is_word_before before last)
+gift_first s t own before last after true e g m = first_none g.signs
+gift_first s t own [] last after false e g m = first_none g.signs
+gift_first s t own (letter d ∷ before) last after false e g m = g.before d (letter_before s t before d after e)
+gift_first s t own (thing n ∷ before) last after false e g m = let both = m e in g.leads (ends_word false (map glyph_of last)) both.1
 
 -- ---- the line
 
-words_shown : (word : Bool) (t : Thing) (more : List Glyph) (c : Cut) → AreWordBytes t.source → BeginsWord t.source → reaches more ≡ false
-    → Follows in_line (ends_word false (own_glyphs t)) more c
-    → Follows in_line word (own_glyphs t ++ more) (add_node (own_form in_line (own_glyphs t)) (length (own_glyphs t)) c)
-words_shown word t more c h v e f =
-    let gs : List Glyph = byte_glyphs t.source in
-    let is : own_glyphs t ≡ gs = shown_glyphs t h in
-    subst (λ (hs : List Glyph). Follows in_line word (hs ++ more) (add_node (own_form in_line hs) (length hs) c)) (sym is)
-    (subst (λ (o : Option Shape). Follows in_line word (gs ++ more) (add_node o (length gs) c)) (sym (words_formless t.source h v))
-    (words_follow word t.source more c h v e (subst (λ (hs : List Glyph). Follows in_line (ends_word false hs) more c) is f)))
+gift_follows : (t : Thing) (own : List Item) (word : Bool) (more : List Glyph) (c : Cut) (g : IsGift t own) → FirstMay g.signs word → LastMay g.signs more
+    → reaches more ≡ false → Follows in_line (ends_word false (map glyph_of own)) more c → Follows in_line word (map glyph_of own ++ more) (given_cut g.signs c)
+gift_follows t own word more c g first last r f =
+    subst (λ (gs : List Glyph). Follows in_line word (gs ++ more) (given_cut g.signs c)) (sym (gift_glyphs t own g))
+    (given_follow word g.signs more c (given_led word g.signs g.are first) last r
+    (λ a i. f a (λ z. sym (last_same t own word g) ∙ i z)))
+  where
+    some_last : (gs : List Glyph) (a b : Bool) → FirstNeither gs → ends_word a gs ≡ ends_word b gs
+    some_last [] a b h = absurd h
+    some_last (x ∷ gs) a b h = refl
 
-given_follows : (s : Setting) (before : List ContentSign) (t : Thing) (after : List ContentSign) (own : List Item) (owns : List (List Item))
-    → IsOwnNode t own ⊎ AreWords t.source own → AreGiven after owns → MeetAt (is_guarded s before (thing t ∷ after)) before (thing t ∷ after) []
-    → AllMeet s (thing t ∷ before) after []
-    → Follows in_line (ends_word false (own_glyphs t)) (line_glyphs s (thing t ∷ before) after) (line_cut in_line s (thing t ∷ before) after)
-    → Follows in_line (not (is_guarded s before (thing t ∷ after)) && is_word_last before) (own_glyphs t ++ line_glyphs s (thing t ∷ before) after)
-    (add_node (own_form in_line (own_glyphs t)) (length (own_glyphs t)) (line_cut in_line s (thing t ∷ before) after))
-given_follows s before t after own owns h g m n f =
-    let u = is_guarded s before (thing t ∷ after) in
-    let word = not u && is_word_last before in
-    let gs : List Glyph = own_glyphs t in
-    let more : List Glyph = line_glyphs s (thing t ∷ before) after in
-    let c : Cut = line_cut in_line s (thing t ∷ before) after in
-    elim h [
-      | inl x ↦ node_follows in_line word (own_form in_line gs) gs more c
-          (node_stands t.role word gs more x.node (line_may s t before after owns g n) (leads_by s t before after [] u refl m)) f
-      | inr w ↦ words_shown word t more c w.words w.begins (line_reaches s (thing t ∷ before) after owns g) f
-    ]
+    last_same : (t : Thing) (own : List Item) (word : Bool) (g : IsGift t own) → given_last word g.signs ≡ ends_word false (map glyph_of own)
+    last_same t own word g =
+        last_is false word g.signs g.are ∙ sym (ap (ends_word word) (gift_glyphs t own g)) ∙ some_last (map glyph_of own) word false g.neither
 
-pub line_follows : (s : Setting) (before signs : List ContentSign) (owns : List (List Item)) → AreGiven signs owns → AllMeet s before signs []
-    → Follows in_line (is_word_last before) (line_glyphs s before signs) (line_cut in_line s before signs)
-line_follows s before [] owns h m = end_follows in_line (is_word_last before) (is_guarded s before [])
-line_follows s before (letter d ∷ after) owns h m =
+pub line_follows : (s : Setting) (before : List ContentSign) (last : List Item) (signs : List ContentSign) (owns : List (List Item)) (h : AreGifts signs owns)
+    → AllMeetWith s before last signs owns
+    → Follows in_line (is_word_before before last) (line_glyphs_with s before signs owns) (line_cut_with s before signs owns h)
+line_follows s before last [] owns h m = end_follows in_line (is_word_before before last) (is_guarded s before [])
+line_follows s before last (letter d ∷ after) owns h m =
     let u = is_guarded s before (letter d ∷ after) in
     let e = is_escaped s.within s.place before d after in
-    let more : List Glyph = line_glyphs s (letter d ∷ before) after in
-    let c : Cut = line_cut in_line s (letter d ∷ before) after in
-    guard_follows in_line (is_word_last before) u (if d == 10 then [] else letter_glyphs e d ++ more) (if d == 10 then (0, []) else letter_cut e d c)
-    (letter_by in_line (not u && is_word_last before) e (d == 10) d more c
-    (letter_follows in_line (not u && is_word_last before) e d more c
-    (λ z a. letter_none a s before d after z (all_given_switches after owns h) (line_reaches s (letter d ∷ before) after owns h))
-    (line_follows s (letter d ∷ before) after owns h m.1)))
-line_follows s before (thing t ∷ after) [] h m = absurd h
-line_follows s before (thing t ∷ after) (own ∷ owns) h m =
+    let word : Bool = is_word_before before last in
+    let more : List Glyph = line_glyphs_with s (letter d ∷ before) after owns in
+    let c : Cut = line_cut_with s (letter d ∷ before) after owns h in
+    guard_follows in_line word u (if d == 10 then [] else letter_glyphs e d ++ more) (if d == 10 then (0, []) else letter_cut e d c)
+    (letter_by in_line (not u && word) e (d == 10) d more c
+    (letter_follows in_line (not u && word) e d more c (λ z a. letter_none a s before d after owns z h) (line_follows s (letter d ∷ before) [] after owns h m)))
+line_follows s before last (thing t ∷ after) [] h m = absurd h
+line_follows s before last (thing t ∷ after) (own ∷ owns) h m =
     let u = is_guarded s before (thing t ∷ after) in
-    let more : List Glyph = line_glyphs s (thing t ∷ before) after in
-    guard_follows in_line (is_word_last before) u (own_glyphs t ++ more) (add_node (own_form in_line (own_glyphs t)) (length (own_glyphs t)) (line_cut in_line s (thing t ∷ before) after))
-    (given_follows s before t after own owns (given_or t.role t own h.0) h.1 m.0 m.1 (line_follows s (thing t ∷ before) after owns h.1 m.1))
+    let word : Bool = is_word_before before last in
+    let more : List Glyph = line_glyphs_with s (thing t ∷ before) after owns in
+    let c : Cut = line_cut_with s (thing t ∷ before) after owns h.1 in
+    let g : IsGift t own = h.0 in
+    guard_follows in_line word u (map glyph_of own ++ more) (given_cut g.signs c)
+    (gift_follows t own (not u && word) more c g (gift_first s t own before last after u refl g m.0) (gift_last s t own before after owns g h.1 m.1)
+    (line_reaches s (thing t ∷ before) after owns h.1) (line_follows s (thing t ∷ before) own after owns h.1 m.1))
 
-pub line_cuts_are : (s : Setting) (before signs : List ContentSign) (owns : List (List Item)) → AreGiven signs owns → AllMeet s before signs []
-    → cuts in_line false 0 (line_glyphs s before signs) ≡ line_cut in_line s before signs
-line_cuts_are s before signs owns h m = line_follows s before signs owns h m false (λ z. cc)
+pub line_cuts_are : (s : Setting) (before : List ContentSign) (last : List Item) (signs : List ContentSign) (owns : List (List Item)) (h : AreGifts signs owns)
+    → AllMeetWith s before last signs owns → cuts in_line false 0 (line_glyphs_with s before signs owns) ≡ line_cut_with s before signs owns h
+line_cuts_are s before last signs owns h m = line_follows s before last signs owns h m false (λ z. cc)

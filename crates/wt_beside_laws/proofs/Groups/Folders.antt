@@ -1,146 +1,109 @@
 -- Texts beside calls in a folder: what these give there.
-use Rattle.std.proofs.Common.{◌≡◌, ◌⊎◌, inl, inr, ℕ, ◌+◌, Bool, List, [], ◌∷◌, length, refl, sym, ap, ap₂, ◌∙◌, subst}
-use Rattle.wt_span.specs.Items.{Item, sources}
+use Rattle.std.proofs.Common.{◌≡◌, ◌⊎◌, inl, inr, ℕ, ◌+◌, false, List, [], ◌∷◌, length, refl, sym, subst}
+use Rattle.wt_span.specs.Items.{Item}
 use Rattle.wt_guards.specs.declared.role.Role.{Role}
 use Rattle.wt_guards.specs.declared.role.Role.TheVariants.{Link, External, Bare, Switch, Toggle, Mark, Group, Function, Node}
-use Rattle.wt_guards.specs.Content.{ContentSign, Thing, letter, thing}
-use Rattle.wt_guards.specs.Guards.{Setting, has_brace_last}
+use Rattle.wt_guards.specs.declared.role.Transclusion.{Transclusion}
+use Rattle.wt_guards.specs.Content.{ContentSign, Thing, letter, thing, is_group}
+use Rattle.wt_guards.specs.Guards.{Setting}
 use Rattle.wt_expand.specs.PageCalls.{numbered, page_stretches, expanded_page}
 use Rattle.wt_expand.specs.Work.{Pages}
-use Rattle.wt_inline.specs.declared.loose.Loose.TheVariants.{Text}
-use Rattle.wt_inline.specs.Parts.{parts}
+use Rattle.wt_inline.specs.declared.loose.Loose.TheVariants.{Text, Sep}
+use Rattle.wt_inline.specs.Parts.{Part, loose, node}
 use Rattle.wt_context.specs.Line.{line_parts}
-use Rattle.wt_part_laws.specs.CallTexts.{AreOwnOrTexts}
-use Rattle.wt_beside_laws.specs.Called.{items_with, owns_in, AreWords, IsOwnNode, IsGivenAs, AreGiven, AreOwnInside, HasText, IsCalledContent, shown_source, shown_signs, GivesWords, StaysAsItIs, IsOfFolder, AreOfFolder, IsCalledIn, AllEndSeen, IsCalledHeading, AllSeenIn, IsCalledInHeading}
-use Rattle.wt_beside_laws.specs.InHeadings.{AreOnOneLine}
-use Rattle.wt_beside_laws.specs.Lines.{AreCharacters}
+use Rattle.wt_part_laws.specs.CallPieces.{AreOwnOrGiven}
+use Rattle.wt_beside_laws.specs.Called.{owns_in, IsOwnNode, IsGivenAs, AreGiven, AreOwnInside, IsCalledContent, GivesGroup, StaysAsItIs, IsOfFolder, AreOfFolder, IsCalledIn, AllEndSeen, IsCalledHeading, AllSeenIn, IsCalledInHeading}
+use Rattle.wt_beside_laws.specs.Flat.{IsFlat, AreFlat}
+use Rattle.wt_beside_laws.specs.Given.{AreGivenBy, GivesSigns, IsGroup}
+use Rattle.wt_beside_laws.specs.NodeItems.{node_items}
 use Rattle.wt_beside_laws.specs.Stood.{things}
-use Rattle.wt_beside_laws.proofs.Groups.Bare.{brace_of, bare, items_same}
-use Rattle.wt_beside_laws.proofs.Groups.CalledParts.{words_alone}
-use Rattle.wt_beside_laws.proofs.Groups.Words.{call_chars}
+use Rattle.wt_beside_laws.proofs.Groups.CalledBlocks.{page_given}
 
 -- ---- a node
 
 abbrev own_of : Pages → ℕ → Thing → List Item
 own_of pages i t = numbered i (page_stretches pages t.source)
 
-abbrev shown_thing : Pages → Thing → Thing
-shown_thing pages t = record t { source = shown_source t.role pages t.source }
-
--- what is asked of it, where its source stays, and where a call gives words
-abbrev Case : Role → Pages → Thing → Type 0
-Case r pages t =
-    (StaysAsItIs pages t × (shown_source r pages t.source ≡ t.source) × ((u : Thing) (own : List Item) → IsOwnNode u own → IsGivenAs r u own))
-    ⊎ (GivesWords pages t.source × (shown_source r pages t.source ≡ sources (expanded_page pages t.source).items)
-    × ((u : Thing) (own : List Item) → AreWords u.source own → IsGivenAs r u own))
-
-case_of : (r : Role) (pages : Pages) (t : Thing) → IsOfFolder r pages t → Case r pages t
-case_of Link pages t h = inl (h, refl, λ u own k. k)
-case_of External pages t h = inl (h, refl, λ u own k. k)
-case_of (Bare ends) pages t h = inl (h, refl, λ u own k. k)
-case_of Switch pages t h = inl (h, refl, λ u own k. k)
-case_of Toggle pages t h = inl (h, refl, λ u own k. k)
-case_of (Mark ends began) pages t h = inl (h, refl, λ u own k. k)
-case_of (Group g) pages t h = inr (h, refl, λ u own k. k)
-case_of Function pages t h = inl (h, refl, λ u own k. k)
-case_of Node pages t h = inl (h, refl, λ u own k. k)
-
 stays_given : (pages : Pages) (i : ℕ) (t : Thing) → StaysAsItIs pages t → IsOwnNode t (own_of pages i t)
-stays_given pages i t h = record { is = h.items i; flat = h.flat; node = h.node; inside = h.inside; unbroken = h.unbroken }
+stays_given pages i t h = record { is = h.items i; node = h.node; inside = h.inside; unbroken = h.unbroken }
 
-words_given : (pages : Pages) (i : ℕ) (t : Thing) → GivesWords pages t.source → AreWords (sources (expanded_page pages t.source).items) (own_of pages i t)
-words_given pages i t h = record { call = i; is = h.items i; words = h.words; begins = h.begins }
+given_as : (r : Role) (pages : Pages) (i : ℕ) (t : Thing) → IsOfFolder r pages t → IsGivenAs r t (own_of pages i t)
+given_as Link pages i t h = stays_given pages i t h
+given_as External pages i t h = stays_given pages i t h
+given_as (Bare ends) pages i t h = stays_given pages i t h
+given_as Switch pages i t h = stays_given pages i t h
+given_as Toggle pages i t h = stays_given pages i t h
+given_as (Mark ends began) pages i t h = stays_given pages i t h
+given_as (Group g) pages i t h = (i, h i)
+given_as Function pages i t h = stays_given pages i t h
+given_as Node pages i t h = stays_given pages i t h
 
-given_in : (pages : Pages) (i : ℕ) (t : Thing) → IsOfFolder t.role pages t → IsGivenAs t.role (shown_thing pages t) (own_of pages i t)
-given_in pages i t h = elim (case_of t.role pages t h) [
+-- it stays as it is, or is a group
+pub folder_case : (r : Role) (pages : Pages) (t : Thing) → IsOfFolder r pages t
+    → (StaysAsItIs pages t × (is_group r ≡ false)) ⊎ ((g : Transclusion) × (r ≡ Group g) × GivesGroup pages g t.source)
+folder_case Link pages t h = inl (h, refl)
+folder_case External pages t h = inl (h, refl)
+folder_case (Bare ends) pages t h = inl (h, refl)
+folder_case Switch pages t h = inl (h, refl)
+folder_case Toggle pages t h = inl (h, refl)
+folder_case (Mark ends began) pages t h = inl (h, refl)
+folder_case (Group g) pages t h = inr (g, refl, h)
+folder_case Function pages t h = inl (h, refl)
+folder_case Node pages t h = inl (h, refl)
+
+flat_in : (pages : Pages) (t : Thing) → IsOfFolder t.role pages t → IsFlat t.role
+flat_in pages t h = elim (folder_case t.role pages t h) [
+  | inl k ↦ let stays : StaysAsItIs pages t = k.0 in stays.flat
+  | inr k ↦ subst IsFlat (sym k.1) tt
+]
+
+-- what it is on a line by itself
+pub given_by : (j : ℕ) (ps : List Part) → AreGivenBy j ps → AreOwnOrGiven ps
+given_by j [] h = tt
+given_by j (loose Text o b ∷ ps) h = given_by j ps h.1
+given_by j (loose Sep o b ∷ ps) h = absurd h
+given_by j (node t ∷ ps) h = (inr (j, h.0), given_by j ps h.1)
+
+inside_in : (pages : Pages) (i : ℕ) (t : Thing) → IsOfFolder t.role pages t → AreOwnOrGiven (line_parts (own_of pages i t))
+inside_in pages i t h = elim (folder_case t.role pages t h) [
   | inl k ↦
-      subst (λ (source : List ℕ). IsGivenAs t.role (record t { source = source }) (own_of pages i t)) (sym k.1)
-      (k.2 t (own_of pages i t) (stays_given pages i t k.0))
+      let stays : StaysAsItIs pages t = k.0 in
+      subst (λ (xs : List Item). AreOwnOrGiven (line_parts xs)) (sym (stays.items i)) (page_given (line_parts (node_items t.source)) stays.own)
   | inr k ↦
-      k.2 (shown_thing pages t) (own_of pages i t)
-      (subst (λ (source : List ℕ). AreWords source (own_of pages i t)) (sym k.1) (words_given pages i t k.0))
+      let group : IsGroup k.0 i (own_of pages i t) = k.2 i in
+      let gives : GivesSigns i (own_of pages i t) = group.gives in
+      given_by i (line_parts (own_of pages i t)) gives.inside
 ]
 
-texts_of : (xs : List Item) → ((j : ℕ) × (bs : List ℕ) × (xs ≡ call_chars j bs)) → AreOwnOrTexts (parts Text xs)
-texts_of xs h = subst (λ (ys : List Item). AreOwnOrTexts (parts Text ys)) (sym h.2) (chars_own h.0 h.1)
-  where
-    chars_own : (j : ℕ) (bs : List ℕ) → AreOwnOrTexts (parts Text (call_chars j bs))
-    chars_own j [] = tt
-    chars_own j (b ∷ bs) = chars_own j bs
+-- ---- a content
 
-words_inside : (own : List Item) (shown : List ℕ) → AreWords shown own → AreOwnOrTexts (line_parts own)
-words_inside own shown w =
-    subst (λ (ys : List Item). AreOwnOrTexts (line_parts ys)) (sym w.is)
-    (subst AreOwnOrTexts (sym (words_alone w.call shown w.words w.begins)) (texts_of (call_chars w.call shown) (w.call, shown, refl)))
-
-inside_in : (pages : Pages) (i : ℕ) (t : Thing) → IsOfFolder t.role pages t → AreOwnOrTexts (line_parts (own_of pages i t))
-inside_in pages i t h = elim (case_of t.role pages t h) [
-  | inl k ↦ subst (λ (ys : List Item). AreOwnOrTexts (line_parts ys)) (sym (k.0.items i)) k.0.own
-  | inr k ↦ words_inside (own_of pages i t) (sources (expanded_page pages t.source).items) (words_given pages i t k.0)
-]
-
-brace_same : (pages : Pages) (t : Thing) → IsOfFolder t.role pages t → has_brace_last (shown_source t.role pages t.source) ≡ has_brace_last t.source
-brace_same pages t h = elim (case_of t.role pages t h) [
-  | inl k ↦ ap has_brace_last k.1
-  | inr k ↦ ap has_brace_last k.1 ∙ k.0.shown_unbraced ∙ sym k.0.unbraced
-]
-
--- ---- all of them
-
-all_given : (pages : Pages) (i : ℕ) (signs : List ContentSign) → AreOfFolder pages signs → AreGiven (shown_signs pages signs) (owns_in pages i signs)
+all_given : (pages : Pages) (i : ℕ) (signs : List ContentSign) → AreOfFolder pages signs → AreGiven signs (owns_in pages i signs)
 all_given pages i [] h = tt
 all_given pages i (letter c ∷ after) h = all_given pages i after h
-all_given pages i (thing t ∷ after) h = (given_in pages i t h.0, all_given pages (i + length (expanded_page pages t.source).outer) after h.1)
+all_given pages i (thing t ∷ after) h = (given_as t.role pages i t h.0, all_given pages (i + length (expanded_page pages t.source).outer) after h.1)
 
-all_inside : (pages : Pages) (i : ℕ) (signs : List ContentSign) → AreOfFolder pages signs → AreOwnInside (owns_in pages i signs)
+all_flat : (pages : Pages) (signs : List ContentSign) → AreOfFolder pages signs → AreFlat signs
+all_flat pages [] h = tt
+all_flat pages (letter c ∷ after) h = all_flat pages after h
+all_flat pages (thing t ∷ after) h = (flat_in pages t h.0, all_flat pages after h.1)
+
+pub all_inside : (pages : Pages) (i : ℕ) (signs : List ContentSign) → AreOfFolder pages signs → AreOwnInside (owns_in pages i signs)
 all_inside pages i [] h = tt
 all_inside pages i (letter c ∷ after) h = all_inside pages i after h
 all_inside pages i (thing t ∷ after) h = (inside_in pages i t h.0, all_inside pages (i + length (expanded_page pages t.source).outer) after h.1)
 
-abbrev with_brace : Thing → Bool → Thing
-with_brace t v = record t { source = brace_of v }
-
-bare_shown : (pages : Pages) (signs : List ContentSign) → AreOfFolder pages signs → bare (shown_signs pages signs) ≡ bare signs
-bare_shown pages [] h = refl
-bare_shown pages (letter c ∷ after) h = ap (λ xs. letter c ∷ xs) (bare_shown pages after h)
-bare_shown pages (thing t ∷ after) h =
-    ap₂ (λ (v : Bool) (xs : List ContentSign). thing (with_brace t v) ∷ xs) (brace_same pages t h.0) (bare_shown pages after h.1)
-
-characters_shown : (pages : Pages) (signs : List ContentSign) → AreCharacters signs → AreCharacters (shown_signs pages signs)
-characters_shown pages [] h = tt
-characters_shown pages (letter c ∷ after) h = (h.0, characters_shown pages after h.1)
-characters_shown pages (thing t ∷ after) h = characters_shown pages after h
-
-text_shown : (pages : Pages) (signs : List ContentSign) → HasText signs → HasText (shown_signs pages signs)
-text_shown pages [] h = absurd h
-text_shown pages (letter c ∷ after) h = tt
-text_shown pages (thing t ∷ after) h = text_shown pages after h
-
-pub called_in : (pages : Pages) (i : ℕ) (s : Setting) (signs : List ContentSign) → IsCalledIn pages s signs
-    → IsCalledContent s (shown_signs pages signs) (owns_in pages i signs)
+pub called_in : (pages : Pages) (i : ℕ) (s : Setting) (signs : List ContentSign) → IsCalledIn pages s signs → IsCalledContent s signs (owns_in pages i signs)
 called_in pages i s signs h = record {
   of_block = h.of_block;
-  characters = characters_shown pages signs h.characters;
+  characters = h.characters;
   given = all_given pages i signs h.given;
+  flat = all_flat pages signs h.given;
   own = all_inside pages i signs h.given;
-  meet = h.meet;
-  some = text_shown pages signs h.some;
+  meet = h.meet i;
+  some = h.some;
 }
 
-items_shown : (pages : Pages) (i : ℕ) (s : Setting) (signs : List ContentSign) → AreOfFolder pages signs
-    → items_with s [] signs (owns_in pages i signs) ≡ items_with s [] (shown_signs pages signs) (owns_in pages i signs)
-items_shown pages i s signs h = items_same s signs (shown_signs pages signs) (owns_in pages i signs) (sym (bare_shown pages signs h))
-
-pub items_in : (pages : Pages) (i : ℕ) (s : Setting) (signs : List ContentSign) → IsCalledIn pages s signs
-    → items_with s [] signs (owns_in pages i signs) ≡ items_with s [] (shown_signs pages signs) (owns_in pages i signs)
-items_in pages i s signs h = items_shown pages i s signs h.given
-
 -- ---- in a heading
-
-one_line_shown : (pages : Pages) (signs : List ContentSign) → AreOnOneLine signs → AreOnOneLine (shown_signs pages signs)
-one_line_shown pages [] h = tt
-one_line_shown pages (letter c ∷ after) h = (h.0, one_line_shown pages after h.1)
-one_line_shown pages (thing t ∷ after) h = one_line_shown pages after h
 
 all_seen : (pages : Pages) (i : ℕ) (signs : List ContentSign) → AllSeenIn pages (things signs) → AllEndSeen (owns_in pages i signs)
 all_seen pages i [] h = tt
@@ -148,19 +111,15 @@ all_seen pages i (letter c ∷ after) h = all_seen pages i after h
 all_seen pages i (thing t ∷ after) h =
     let own = h.0 i in (own.0, own.1, all_seen pages (i + length (expanded_page pages t.source).outer) after h.1)
 
-pub heading_in : (pages : Pages) (i : ℕ) (s : Setting) (signs : List ContentSign) → IsCalledInHeading pages s signs
-    → IsCalledHeading s (shown_signs pages signs) (owns_in pages i signs)
+pub heading_in : (pages : Pages) (i : ℕ) (s : Setting) (signs : List ContentSign) → IsCalledInHeading pages s signs → IsCalledHeading s signs (owns_in pages i signs)
 heading_in pages i s signs h = record {
   of_block = h.of_block;
   of_heading = h.of_heading;
-  one_line = one_line_shown pages signs h.one_line;
-  characters = characters_shown pages signs h.characters;
+  one_line = h.one_line;
+  characters = h.characters;
   given = all_given pages i signs h.given;
+  flat = all_flat pages signs h.given;
   own = all_inside pages i signs h.given;
-  meet = h.meet;
+  meet = h.meet i;
   end_seen = all_seen pages i signs h.end_seen;
 }
-
-pub heading_items : (pages : Pages) (i : ℕ) (s : Setting) (signs : List ContentSign) → IsCalledInHeading pages s signs
-    → items_with s [] signs (owns_in pages i signs) ≡ items_with s [] (shown_signs pages signs) (owns_in pages i signs)
-heading_items pages i s signs h = items_shown pages i s signs h.given

@@ -1,5 +1,5 @@
 -- Worked cases: what calls give beside words: a link, a URL, a reference, nothing; and what is none of it.
-use Rattle.std.proofs.Common.{◌≡◌, ℕ, true, false, Some, List, [], ◌∷◌, ◌++◌, map, refl, inl, inr}
+use Rattle.std.proofs.Common.{◌≡◌, ℕ, true, false, Some, List, [], ◌∷◌, map, refl, inl, inr}
 use Rattle.std.specs.Prelude.{codes}
 use Rattle.std.specs.Str.{is_utf8, chars}
 use Rattle.std.specs.Str.Lossy.{utf8_valid_len}
@@ -11,16 +11,33 @@ use Rattle.wt_names.specs.Namespace.{name_of, image, is_called, namespace_named,
 use Rattle.wt_names.specs.Reading.{whole_in, cut_namespace, title_in}
 use Rattle.wt_names.specs.Written.{link_to}
 use Rattle.wt_guards.specs.declared.role.Role.TheVariants.{Link, Bare, Mark, Node}
-use Rattle.wt_tiles.specs.declared.shape.Shape.{Shape}
+use Rattle.wt_guards.specs.declared.role.Transclusion.{Transclusion}
+use Rattle.wt_guards.specs.Table.{line_start_hazard}
+use Rattle.wt_inline.specs.Parts.{children}
 use Rattle.wt_tiles.specs.declared.shape.TileKind.TheVariants as tile
 use Rattle.wt_tiles.specs.Glyphs.{byte_glyphs}
 use Rattle.wt_tiles.specs.Links.{target_of, link_in, link_at}
-use Rattle.wt_tiles.specs.Urls.{scheme_len, is_url_char, is_dropped, kept_len, bare_shape, bare_url_at}
-use Rattle.wt_beside_laws.specs.Given.{GivenSign, character, form, AreGivenSigns, GivesSigns}
+use Rattle.wt_tiles.specs.Tags.{tag_at, opening_tag, closing_tag}
+use Rattle.wt_tiles.specs.Tiles.{form_at, link_or_url, tag_tile, switch_at, shapes, closed, tiles}
+use Rattle.wt_tiles.specs.Urls.{scheme_len, is_url_char, is_dropped, kept_len, bare_shape, bare_url_at, ext_link_at}
+use Rattle.wt_quotes.specs.Toggles.{toggle_at, toggles_of}
+use Rattle.wt_quotes.specs.Styles.{style_tree_of}
+use Rattle.wt_context.specs.Segments.{loose_segments}
+use Rattle.wt_context.specs.Chunks.{chunks}
+use Rattle.wt_context.specs.Styled.{with_styles}
+use Rattle.wt_context.specs.Heads.{link_head}
+use Rattle.wt_context.specs.Nodes.{nested_tree, segments}
+use Rattle.wt_context.specs.Line.{context_parts}
+use Rattle.wt_annotated.specs.Labels.{label_at}
+use Rattle.wt_isolation.specs.GroupItems.{empty_nowiki}
+use Rattle.wt_beside_laws.specs.Given.{GivenSign, character, form, AreGivenSigns, IsGroup}
 use Rattle.wt_beside_laws.specs.Nodes.{IsLinkNode, IsBareNode}
+use Rattle.wt_beside_laws.proofs.Groups.Cases.{beside_letters}
 
-abbrev of_call : List ℕ → List Item
-of_call bs = map (char (Some 0)) bs
+-- ---- of any call
+
+abbrev pub of_call : ℕ → List ℕ → List Item
+of_call j bs = map (char (Some j)) bs
 
 -- `[[b]]`
 pub a_link : IsLinkNode (byte_glyphs (codes "[[b]]"))
@@ -36,61 +53,115 @@ a_link = record {
 }
 
 -- by itself
-pub one_link : GivesSigns 0 (of_call (codes "[[b]]"))
-one_link = record {
-  signs = form Link (of_call (codes "[[b]]")) ∷ [];
-  is = refl;
-  of_call = (refl, (refl, (refl, (refl, (refl, tt)))));
-  are = (record { flat = tt; node = a_link; leads = tt; follows = tt }, tt);
-  begins = refl;
+pub one_link : (g : Transclusion) (j : ℕ) → IsGroup g j (of_call j (codes "[[b]]"))
+unfolding nested_tree link_head context_parts chunks segments loose_segments tiles shapes closed form_at link_or_url link_at ext_link_at bare_url_at scheme_len tag_tile tag_at
+    switch_at children with_styles style_tree_of toggles_of toggle_at opening_tag closing_tag empty_nowiki label_at
+    link_in target_of read_text is_allowed is_forbidden is_good has_signature is_step begins_with_step holds_step ends_with_step
+    name_of image is_called namespace_named prefix_of full_name_of whole_in cut_namespace title_in utf8_valid_len is_utf8 chars encode link_to
+    line_start_hazard
+one_link g j = record {
+  gives = record {
+    signs = form Link (of_call j (codes "[[b]]")) ∷ [];
+    is = refl;
+    of_call = (refl, (refl, (refl, (refl, (refl, tt)))));
+    are = (record { node = a_link; leads = tt; follows = tt }, tt);
+    flat = (tt, tt);
+    begins = refl;
+    unopened = refl;
+    unbroken = (refl, (refl, (refl, (refl, (refl, tt)))));
+    inside = (
+      record {
+        first = char (Some j) 91;
+        others = of_call j (codes "[b]]");
+        is = refl;
+        of_call = (refl, (refl, (refl, (refl, (refl, tt)))));
+        no_body = refl;
+        uncut = (refl, ((refl, tt), tt));
+      },
+      tt,
+    );
+    even = refl;
+    closed = refl;
+  };
+  urls = λ e. absurd (cc);
+  opens = λ e. refl;
 }
 
--- and between words: `a [[b]].`
-pub link_among_words : GivesSigns 0 (of_call (codes "a [[b]]."))
-link_among_words = record {
-  signs = character 97 ∷ character 32 ∷ form Link (of_call (codes "[[b]]")) ∷ character 46 ∷ [];
-  is = refl;
-  of_call = (refl, (refl, (refl, (refl, (refl, (refl, (refl, (refl, tt))))))));
-  are = (refl, (λ e. absurd (cc)), (refl, (λ e. absurd (cc)), (record { flat = tt; node = a_link; leads = tt; follows = refl }, (refl, (λ e. absurd (cc)), tt))));
-  begins = refl;
+-- `&nbsp;`
+abbrev space_item : ℕ → Item
+space_item j = whole (form_of.Entity 160) (Some j) (codes "&nbsp;")
+
+pub one_reference : (g : Transclusion) (j : ℕ) → IsGroup g j (space_item j ∷ [])
+unfolding context_parts chunks segments loose_segments tiles shapes closed form_at link_or_url link_at ext_link_at bare_url_at scheme_len tag_tile tag_at
+    switch_at children with_styles style_tree_of toggles_of toggle_at opening_tag closing_tag empty_nowiki label_at
+    link_in target_of read_text is_allowed is_forbidden is_good has_signature is_step begins_with_step holds_step ends_with_step
+    name_of image is_called namespace_named prefix_of full_name_of whole_in cut_namespace title_in utf8_valid_len is_utf8 chars encode link_to
+    line_start_hazard
+one_reference g j = record {
+  gives = record {
+    signs = form Node (space_item j ∷ []) ∷ [];
+    is = refl;
+    of_call = (refl, tt);
+    are = (record { node = inl (inr (160, refl)); leads = tt; follows = tt }, tt);
+    flat = (tt, tt);
+    begins = refl;
+    unopened = refl;
+    unbroken = (refl, tt);
+    inside = (record { first = space_item j; others = []; is = refl; of_call = (refl, tt); no_body = refl; uncut = (refl, tt) }, tt);
+    even = refl;
+    closed = refl;
+  };
+  urls = λ e. absurd (cc);
+  opens = λ e. refl;
 }
+
+-- nothing: a mark, which doesn't begin a line
+abbrev pub nothing_item : ℕ → List ℕ → Item
+nothing_item j source = whole form_of.EmptyCall (Some j) source
+
+pub an_empty_call : (j : ℕ) → IsGroup beside_letters j (nothing_item j (codes "{{t}}") ∷ [])
+unfolding context_parts chunks segments loose_segments tiles shapes closed form_at link_or_url link_at ext_link_at bare_url_at scheme_len tag_tile tag_at
+    switch_at children with_styles style_tree_of toggles_of toggle_at opening_tag closing_tag empty_nowiki label_at
+    link_in target_of read_text is_allowed is_forbidden is_good has_signature is_step begins_with_step holds_step ends_with_step
+    name_of image is_called namespace_named prefix_of full_name_of whole_in cut_namespace title_in utf8_valid_len is_utf8 chars encode link_to
+    line_start_hazard
+an_empty_call j = record {
+  gives = record {
+    signs = form (Mark false false) (nothing_item j (codes "{{t}}") ∷ []) ∷ [];
+    is = refl;
+    of_call = (refl, tt);
+    are = (record { node = refl; leads = tt; follows = tt }, tt);
+    flat = (tt, tt);
+    begins = refl;
+    unopened = refl;
+    unbroken = (refl, tt);
+    inside = (record { first = nothing_item j (codes "{{t}}"); others = []; is = refl; of_call = (refl, tt); no_body = refl; uncut = (refl, tt) }, tt);
+    even = refl;
+    closed = refl;
+  };
+  urls = λ e. cc;
+  opens = λ e. cc;
+}
+
+-- ---- signs
+
+-- a link among words: `a [[b]].`
+abbrev among_words : List GivenSign
+among_words = character 97 ∷ character 32 ∷ form Link (of_call 0 (codes "[[b]]")) ∷ character 46 ∷ []
+
+pub link_among_words : AreGivenSigns false among_words
+link_among_words = (refl, (λ e. absurd (cc)), (refl, (λ e. absurd (cc)), (record { node = a_link; leads = tt; follows = refl }, (refl, (λ e. absurd (cc)), tt))))
 
 -- but no letter is behind a link
-joined_letter : AreGivenSigns false (form Link (of_call (codes "[[b]]")) ∷ character 115 ∷ []) → ⊥
+joined_letter : AreGivenSigns false (form Link (of_call 0 (codes "[[b]]")) ∷ character 115 ∷ []) → ⊥
 joined_letter h = let no : true ≡ false = h.0.follows in cc
 
 a_url : IsBareNode (byte_glyphs (codes "http://k"))
 unfolding bare_url_at scheme_len is_url_char is_dropped kept_len
 a_url = record { shape = bare_shape 8; first = 104; others = byte_glyphs (codes "ttp://k"); is = refl; unbracketed = refl; url = refl; whole = refl }
 
-pub one_url : GivesSigns 0 (of_call (codes "http://k"))
-one_url = record {
-  signs = form (Bare false) (of_call (codes "http://k")) ∷ [];
-  is = refl;
-  of_call = (refl, (refl, (refl, (refl, (refl, (refl, (refl, (refl, tt))))))));
-  are = (record { flat = tt; node = a_url; leads = refl; follows = tt }, tt);
-  begins = refl;
-}
-
--- `&nbsp;`
-pub one_reference : GivesSigns 0 (whole (form_of.Entity 160) (Some 0) (codes "&nbsp;") ∷ [])
-one_reference = record {
-  signs = form Node (whole (form_of.Entity 160) (Some 0) (codes "&nbsp;") ∷ []) ∷ [];
-  is = refl;
-  of_call = (refl, tt);
-  are = (record { flat = tt; node = inl (inr (160, refl)); leads = tt; follows = tt }, tt);
-  begins = refl;
-}
-
--- nothing: a mark
-pub an_empty_call : GivesSigns 0 (whole form_of.EmptyCall (Some 0) (codes "{{t}}") ∷ [])
-an_empty_call = record {
-  signs = form (Mark false false) (whole form_of.EmptyCall (Some 0) (codes "{{t}}") ∷ []) ∷ [];
-  is = refl;
-  of_call = (refl, tt);
-  are = (record { flat = tt; node = refl; leads = tt; follows = tt }, tt);
-  begins = refl;
-}
+pub one_url : AreGivenSigns false (form (Bare false) (of_call 0 (codes "http://k")) ∷ [])
+one_url = (record { node = a_url; leads = refl; follows = tt }, tt)
 
 -- braces and an `&` may be among characters, since nothing of them is read again
 pub braces : AreGivenSigns false (character 123 ∷ character 125 ∷ character 38 ∷ [])

@@ -16,7 +16,7 @@ use Rattle.wt_context.specs.Line.{line_parts}
 use Rattle.wt_context.specs.Styled.{with_styles}
 use Rattle.wt_context.proofs.NestedContexts.{contexts_are}
 use Rattle.wt_beside_laws.specs.Cuts.{add_chars, add_node, own_form, ends_word}
-use Rattle.wt_beside_laws.specs.Given.{GivenSign, character, form, given_items, given_glyphs, given_cut, given_parts, BeginsApart, AreGivenSigns, given_last, LastMay}
+use Rattle.wt_beside_laws.specs.Given.{GivenSign, character, form, given_items, given_glyphs, given_cut, given_parts, BeginsApart, AreGivenSigns, AreFlatSigns, given_last, LastMay}
 use Rattle.wt_beside_laws.specs.Nests.{stretch, marks_of, segments_of, of_style, style_of}
 use Rattle.wt_beside_laws.specs.Nodes.{IsDelimiter, MayFollow}
 use Rattle.wt_beside_laws.specs.Styled.{mark_source}
@@ -26,7 +26,7 @@ use Rattle.wt_beside_laws.proofs.NodesStand.{node_stands}
 use Rattle.wt_beside_laws.proofs.Groups.GivenTiles.{given_are, given_follow}
 use Rattle.wt_beside_laws.proofs.Groups.GivenParts.{begins_quoted, unquoted}
 use Rattle.wt_beside_laws.proofs.Groups.Schemes.{reaches}
-use Rattle.wt_beside_laws.proofs.Groups.Words.{half_quote}
+use Rattle.wt_beside_laws.proofs.Groups.HalfSigns.{half_quote}
 use Rattle.wt_beside_laws.proofs.Styled.NestForests.{nests_read}
 use Rattle.wt_beside_laws.proofs.Styled.NestReads.{IsTail, NestRead, nothing_read, char_read, enclosed_read}
 use Rattle.wt_beside_laws.proofs.Styled.NestRuns.{marks_first}
@@ -35,23 +35,23 @@ use Rattle.wt_beside_laws.proofs.Styled.StyledLines.{cut_line, Read, form_read, 
 -- ---- in a style
 
 nest_read : (j : ℕ) (bold italic word next : Bool) (signs : List GivenSign) (c : Cut) (xs : List Item) (vs : List Segment) (ps : List Part) → IsTail vs
-    → AreGivenSigns word signs → Read bold italic next c xs vs ps
+    → AreGivenSigns word signs → AreFlatSigns signs → Read bold italic next c xs vs ps
     → Read bold italic (begins_quoted signs next) (given_cut signs c) (given_items j signs ++ xs) vs (given_parts j signs ++ ps)
-nest_read j bold italic word next [] c xs vs ps t h r = r
-nest_read j bold italic word next (character b ∷ signs) c xs vs ps t h r =
+nest_read j bold italic word next [] c xs vs ps t h f r = r
+nest_read j bold italic word next (character b ∷ signs) c xs vs ps t h f r =
     let k : Cut = given_cut signs c in
-    let later = nest_read j bold italic (is_word b) next signs c xs vs ps t h.2 r in
+    let later = nest_read j bold italic (is_word b) next signs c xs vs ps t h.2 f r in
     let one : suc k.0 ≡ 1 + k.0 = omega arith in
     subst (λ (m : ℕ). Read bold italic (b == 39) (m, k.1) (char (Some j) b ∷ (given_items j signs ++ xs)) vs (part Text (char (Some j) b) ∷ (given_parts j signs ++ ps))) one
     (char_read bold italic (begins_quoted signs next) (b == 39) (char (Some j) b) k.0 k.1 (given_items j signs ++ xs) vs (given_parts j signs ++ ps) t
     (λ e. unquoted signs next (h.1 (half_quote b e))) (λ z. z) later)
-nest_read j bold italic word next (form role own ∷ signs) c xs vs ps t h r =
+nest_read j bold italic word next (form role own ∷ signs) c xs vs ps t h f r =
     let k : Cut = given_cut signs c in
     let all : Cut = add_node (own_form in_line (map glyph_of own)) (length (map glyph_of own)) k in
-    let later = nest_read j bold italic (ends_word false (map glyph_of own)) next signs c xs vs ps t h.1 r in
+    let later = nest_read j bold italic (ends_word false (map glyph_of own)) next signs c xs vs ps t h.1 f.1 r in
     subst (λ (ys : List Item). Read bold italic false all ys vs ((line_parts own ++ given_parts j signs) ++ ps)) (sym (append_assoc own (given_items j signs) xs))
     (subst (λ us. Read bold italic false all (own ++ (given_items j signs ++ xs)) vs us) (sym (append_assoc (line_parts own) (given_parts j signs) ps))
-    (form_read bold italic (begins_quoted signs next) false role own k (given_items j signs ++ xs) vs (given_parts j signs ++ ps) h.0.flat h.0.node later))
+    (form_read bold italic (begins_quoted signs next) false role own k (given_items j signs ++ xs) vs (given_parts j signs ++ ps) f.0 h.0.node later))
 
 -- ---- its delimiters
 
@@ -120,10 +120,10 @@ style_cuts j kind signs h l =
     ∙ ap (λ hs. given_glyphs signs ++ hs) (marks_glyphs (Some j) kind)) in
     ap (cuts in_line false 0) is ∙ all false (λ z. cc)
 
-style_nest : (j : ℕ) (kind : Bool) (signs : List GivenSign) → AreGivenSigns false signs → BeginsApart (given_glyphs signs)
+style_nest : (j : ℕ) (kind : Bool) (signs : List GivenSign) → AreGivenSigns false signs → AreFlatSigns signs → BeginsApart (given_glyphs signs)
     → Read false false true (mark_cut kind (given_cut signs (mark_cut kind (0, [])))) (style_items j kind signs) [] (node (style_of (Some j) kind (given_parts j signs)) ∷ [])
 unfolding loose_segments
-style_nest j kind signs h b =
+style_nest j kind signs h f b =
     let k : Cut = mark_cut kind (0, []) in
     let marks : List Item = marks_of (Some j) kind in
     let vs : List Segment = segments_of (Some j) kind ++ [] in
@@ -131,7 +131,7 @@ style_nest j kind signs h b =
     ap (cut_line k) (sym (append-nil marks)) ∙ mark_added (Some j) kind (0, []) [] in
     let end : Read (kind || false) (not kind || false) true k marks vs [] =
     subst (λ us. NestRead (kind || false) (not kind || false) true us vs []) (sym closing) (nothing_read (kind || false) (not kind || false) true vs (λ z. cc)) in
-    let inside = nest_read j (kind || false) (not kind || false) false true signs k marks vs [] (inr (marks_first (Some j) kind [])) h end in
+    let inside = nest_read j (kind || false) (not kind || false) false true signs k marks vs [] (inr (marks_first (Some j) kind [])) h f end in
     let front : NestRead (kind || false) (not kind || false) false (cut_line (given_cut signs k) (given_items j signs ++ marks)) vs (given_parts j signs) =
     subst (λ (ps : List Part). NestRead (kind || false) (not kind || false) false (cut_line (given_cut signs k) (given_items j signs ++ marks)) vs ps) (append-nil (given_parts j signs))
     (subst (λ (v : Bool). NestRead (kind || false) (not kind || false) v (cut_line (given_cut signs k) (given_items j signs ++ marks)) vs (given_parts j signs ++ [])) (unquoted signs true b) inside) in
@@ -139,10 +139,10 @@ style_nest j kind signs h b =
     (enclosed_read (Some j) false false kind (cut_line (given_cut signs k) (given_items j signs ++ marks)) [] [] (given_parts j signs) []
     (record { nest = stretch []; is = refl; nested = (refl, λ b. refl); shows = refl; first = λ z. refl }) (free_style kind) front)
 
-pub style_line : (j : ℕ) (kind : Bool) (signs : List GivenSign) → AreGivenSigns false signs → BeginsApart (given_glyphs signs)
+pub style_line : (j : ℕ) (kind : Bool) (signs : List GivenSign) → AreGivenSigns false signs → AreFlatSigns signs → BeginsApart (given_glyphs signs)
     → LastMay signs (byte_glyphs (mark_source kind)) → line_parts (style_items j kind signs) ≡ node (style_of (Some j) kind (given_parts j signs)) ∷ []
-style_line j kind signs h b l =
+style_line j kind signs h f b l =
     let own : List Item = style_items j kind signs in
     let c : Cut = mark_cut kind (given_cut signs (mark_cut kind (0, []))) in
-    let r = style_nest j kind signs h b in
+    let r = style_nest j kind signs h f b in
     contexts_are in_line own (omega arith) ∙ ap with_styles (segments_are c own (style_cuts j kind signs h l) ∙ r.is) ∙ nests_read r.nest r.nested ∙ r.shows

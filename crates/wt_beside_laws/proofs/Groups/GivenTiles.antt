@@ -10,20 +10,19 @@ use Rattle.wt_typed_blocks.proofs.TextReads.{equal_or}
 use Rattle.wt_tiles.specs.declared.glyph.Glyph.{Glyph}
 use Rattle.wt_tiles.specs.declared.glyph.Glyph.TheVariants as glyph
 use Rattle.wt_tiles.specs.Contexts.{in_line}
-use Rattle.wt_tiles.specs.Glyphs.{glyph_of, is_in, like_byte, begins_like}
+use Rattle.wt_tiles.specs.Glyphs.{glyph_of, is_in, begins_like}
 use Rattle.wt_tiles.specs.Tiles.{Cut, form_at, cuts, switch_at}
 use Rattle.wt_tiles.specs.Urls.{is_word}
 use Rattle.wt_beside_laws.specs.Glyphs.{AvoidsUrls}
-use Rattle.wt_beside_laws.specs.Called.{is_half_sign}
 use Rattle.wt_beside_laws.specs.Cuts.{add_node, own_form, ends_word}
-use Rattle.wt_beside_laws.specs.Given.{GivenSign, character, form, given_items, given_glyphs, given_cut, is_given_byte, is_apart, BeginsApart, MayBeFirst, AreGivenSigns, given_last, LastMay}
+use Rattle.wt_beside_laws.specs.Given.{is_half_sign, GivenSign, character, form, given_items, given_glyphs, given_cut, is_given_byte, BeginsApart, MayBeFirst, AreGivenSigns, given_last, LastMay}
 use Rattle.wt_beside_laws.specs.Nodes.{MayFollow}
 use Rattle.wt_beside_laws.proofs.ContentTiles.{one_more, none_more, Follows, node_follows}
 use Rattle.wt_beside_laws.proofs.NodesBegin.{node_urls}
 use Rattle.wt_beside_laws.proofs.NodesStand.{node_stands}
 use Rattle.wt_beside_laws.proofs.TypedForms.{one_underscore, tag_other, switch_other, link_none, external_none, bare_none, all_none}
 use Rattle.wt_beside_laws.proofs.Groups.Schemes.{is_more, reaches, no_scheme, reach_by, node_reaches}
-use Rattle.wt_beside_laws.proofs.Groups.Words.{lower_colon, no_slash, half_underscore, half_colon, behind_sign}
+use Rattle.wt_beside_laws.proofs.Groups.HalfSigns.{lower_colon, half_underscore, half_colon, apart_slash, apart_underscore}
 
 pub given_are : (j : ℕ) (signs : List GivenSign) → map glyph_of (given_items j signs) ≡ given_glyphs signs
 given_are j [] = refl
@@ -32,33 +31,14 @@ given_are j (form r own ∷ signs) = map-append glyph_of own (given_items j sign
 
 -- ---- bytes
 
-not_true : (v : Bool) → not v ≡ true → v ≡ false
-not_true true e = cc
-not_true false e = refl
-
 three_false : (u v w : Bool) → not (u || (v || w)) ≡ true → (u ≡ false) × (v ≡ false) × (w ≡ false)
 three_false true v w e = cc
 three_false false true w e = cc
 three_false false false true e = cc
 three_false false false false e = (refl, refl, refl)
 
-given_byte : (b : ℕ) → is_given_byte b ≡ true → ((b == 10) ≡ false) × ((b == 60) ≡ false) × ((b == 91) ≡ false)
+pub given_byte : (b : ℕ) → is_given_byte b ≡ true → ((b == 10) ≡ false) × ((b == 60) ≡ false) × ((b == 91) ≡ false)
 given_byte b e = three_false (b == 10) (b == 60) (b == 91) e
-
-pub apart_sign : (b : ℕ) → is_apart (glyph.Byte b) ≡ true → ((b == 39) ≡ false) × ((b == 95) ≡ false) × ((b == 47) ≡ false)
-apart_sign b e = behind_sign b [] (not_true (is_half_sign b || b == 47) e)
-
-apart_slash : (g : Glyph) → is_apart g ≡ true → like_byte 47 g ≡ false
-apart_slash (glyph.Byte b) e = no_slash b (apart_sign b e).2
-apart_slash (glyph.Entity c) e = refl
-apart_slash glyph.Atom e = refl
-apart_slash glyph.Mark e = refl
-
-apart_underscore : (g : Glyph) → is_apart g ≡ true → is_in (λ (b : ℕ). b == 95) g ≡ false
-apart_underscore (glyph.Byte b) e = (apart_sign b e).1
-apart_underscore (glyph.Entity c) e = refl
-apart_underscore glyph.Atom e = refl
-apart_underscore glyph.Mark e = refl
 
 -- ---- no URL goes on over them
 
@@ -123,6 +103,26 @@ later_may : (r : Role) (own : List Item) (signs : List GivenSign) (more : List G
 later_may r own [] more l = tt
 later_may r own (sign ∷ signs) more l = l
 
+-- ---- what is last
+
+ends_both : (word : Bool) (gs hs : List Glyph) → ends_word word (gs ++ hs) ≡ ends_word (ends_word word gs) hs
+ends_both word [] hs = refl
+ends_both word (g ∷ gs) hs = ends_both (is_in is_word g) gs hs
+
+ends_some : (word : Bool) (gs : List Glyph) → AvoidsUrls gs → ends_word false gs ≡ ends_word word gs
+ends_some word [] h = absurd h
+ends_some word (g ∷ gs) h = refl
+
+pub last_is : (before word : Bool) (signs : List GivenSign) → AreGivenSigns before signs → given_last word signs ≡ ends_word word (given_glyphs signs)
+last_is before word [] h = refl
+last_is before word (character b ∷ signs) h = last_is (is_word b) (is_word b) signs h.2
+last_is before word (form r own ∷ signs) h =
+    let gs : List Glyph = map glyph_of own in
+    let after : Bool = ends_word false gs in
+    last_is after after signs h.1
+    ∙ ap (λ (v : Bool). ends_word v (given_glyphs signs)) (ends_some word gs (node_urls r gs h.0.node))
+    ∙ sym (ends_both word gs (given_glyphs signs))
+
 -- ---- all of them
 
 pub given_follow : (word : Bool) (signs : List GivenSign) (more : List Glyph) (c : Cut) → AreGivenSigns word signs → LastMay signs more → reaches more ≡ false
@@ -142,7 +142,7 @@ given_follow word (form r own ∷ signs) more c h l e f =
     (given_follow after signs more c h.1 (later_may r own signs more l) e f))
 
 -- with nothing behind them
-none_last : (signs : List GivenSign) → LastMay signs []
+pub none_last : (signs : List GivenSign) → LastMay signs []
 none_last [] = tt
 none_last (character b ∷ signs) = none_last signs
 none_last (form r own ∷ []) = tt

@@ -1,5 +1,5 @@
--- In a line of texts, words of calls and nodes that stay nothing goes on with the beginning of a URL.
-use Rattle.std.proofs.Common.{arith, ◌≡◌, ◌⊎◌, inl, inr, ℕ, ◌<◌, ◌≤◌, ◌==◌, Bool, true, false, List, [], ◌∷◌, ◌++◌, length, refl, sym, ap, ◌∙◌, subst, All}
+-- The beginning of a URL in a line: what goes on with the letters of a scheme, and what doesn't.
+use Rattle.std.proofs.Common.{arith, ◌≡◌, inl, inr, ℕ, ◌<◌, ◌≤◌, ◌==◌, Bool, true, false, List, [], ◌∷◌, ◌++◌, length, refl, sym, ap, ◌∙◌, subst, All}
 use Rattle.std.specs.Prelude.{◌&&◌, ◌||◌, codes, encode_utf8, if◌then◌else◌}
 use Rattle.std.specs.Char.{to_ascii_lowercase}
 use Rattle.std.proofs.lemmas.Bool.{cases_lt}
@@ -7,20 +7,14 @@ use Rattle.std.proofs.lemmas.Bool.Decides.{nat_tests, Decides-eqb}
 use Rattle.std.proofs.lemmas.List.Elements.{All-head}
 use Rattle.std.proofs.lemmas.Str.{encode_ascii}
 use Rattle.wt_names.proofs.Ascii.{IsWide, encode_wide, encode_some}
-use Rattle.wt_span.specs.Items.{Item}
-use Rattle.wt_guards.specs.Content.{ContentSign, Thing, letter, thing, nearest}
-use Rattle.wt_guards.specs.Guards.{Setting, is_guarded}
-use Rattle.wt_guards.specs.Letters.{is_term, is_next, are_slashes, is_escaped}
+use Rattle.wt_guards.specs.Content.{ContentSign}
+use Rattle.wt_guards.specs.Guards.{Setting}
+use Rattle.wt_guards.specs.Letters.{is_term, are_slashes, is_escaped}
 use Rattle.wt_tiles.specs.declared.glyph.Glyph.{Glyph}
 use Rattle.wt_tiles.specs.declared.glyph.Glyph.TheVariants as glyph
 use Rattle.wt_tiles.specs.Glyphs.{is_in, byte_glyphs, like_byte, begins_like}
 use Rattle.wt_tiles.specs.Urls.{scheme_len}
-use Rattle.wt_beside_laws.specs.Called.{PartsSigns, AreWordBytes, BeginsWord, AreWords, IsOwnNode, AreGiven}
-use Rattle.wt_beside_laws.specs.Cuts.{own_glyphs}
 use Rattle.wt_beside_laws.specs.Glyphs.{guard_glyphs, letter_glyphs, is_url_start, AvoidsUrls}
-use Rattle.wt_beside_laws.proofs.LineTiles.{line_glyphs}
-use Rattle.wt_beside_laws.proofs.NodesBegin.{all_urls}
-use Rattle.wt_beside_laws.proofs.Groups.Words.{lower_colon, half_colon, behind_sign, first_colon, no_slash, word_slash, shown_glyphs, given_or}
 
 -- ---- `://` behind letters of a scheme
 
@@ -123,31 +117,18 @@ abbrev pub FirstNeither : List Glyph → Type 0
 FirstNeither [] = ⊥
 FirstNeither (g ∷ gs) = IsNeither g
 
-avoids_neither : (own : List Glyph) → AvoidsUrls own → FirstNeither own
+pub avoids_neither : (own : List Glyph) → AvoidsUrls own → FirstNeither own
 avoids_neither [] h = absurd h
 avoids_neither (g ∷ gs) h = past_neither g h
 
-words_neither : (bs : List ℕ) → AreWordBytes bs → BeginsWord bs → FirstNeither (byte_glyphs bs)
-words_neither [] h b = absurd b
-words_neither (b ∷ bs) h v = (first_colon b v, word_slash b v)
-
-pub node_avoids : (t : Thing) (own : List Item) → IsOwnNode t own → AvoidsUrls (own_glyphs t)
-node_avoids t own n = (all_urls (thing t ∷ []) (n.node, tt)).0
-
-pub given_neither : (t : Thing) (own : List Item) → IsOwnNode t own ⊎ AreWords t.source own → FirstNeither (own_glyphs t)
-given_neither t own h = elim h [
-  | inl n ↦ avoids_neither (own_glyphs t) (node_avoids t own n)
-  | inr w ↦ subst FirstNeither (sym (shown_glyphs t w.words)) (words_neither t.source w.words w.begins)
-]
-
 -- ---- a slash, or two
 
-first_none : (m : ℕ) (ws : List ℕ) (own more : List Glyph) → FirstNeither own → m ≡ 47 → begins_like (m ∷ ws) (own ++ more) ≡ false
+pub first_none : (m : ℕ) (ws : List ℕ) (own more : List Glyph) → FirstNeither own → m ≡ 47 → begins_like (m ∷ ws) (own ++ more) ≡ false
 first_none m ws [] more h i = absurd h
 first_none m ws (g ∷ gs) more h i =
     subst (λ (k : ℕ). begins_like (k ∷ ws) (g ∷ (gs ++ more)) ≡ false) (sym i) (ap (λ (v : Bool). v && begins_like ws (gs ++ more)) h.1)
 
-guard_none : (m : ℕ) (ws : List ℕ) (u : Bool) (more : List Glyph) → begins_like (m ∷ ws) more ≡ false → begins_like (m ∷ ws) (guard_glyphs u ++ more) ≡ false
+pub guard_none : (m : ℕ) (ws : List ℕ) (u : Bool) (more : List Glyph) → begins_like (m ∷ ws) more ≡ false → begins_like (m ∷ ws) (guard_glyphs u ++ more) ≡ false
 guard_none m ws true more h = refl
 guard_none m ws false more h = h
 
@@ -162,7 +143,7 @@ lower_slash : (b : ℕ) → (to_ascii_lowercase b == 47) ≡ true → (b == 47) 
 lower_slash b e = grind (arith, nat_tests, e)
 
 -- a letter, which is a slash only if what follows goes on with none
-slash_letter : (ws : List ℕ) (e : Bool) (c : ℕ) (more : List Glyph) → ((c == 47) ≡ true → begins_like ws more ≡ false)
+pub slash_letter : (ws : List ℕ) (e : Bool) (c : ℕ) (more : List Glyph) → ((c == 47) ≡ true → begins_like ws more ≡ false)
     → begins_like (47 ∷ ws) (letter_glyphs e c ++ more) ≡ false
 slash_letter ws true c more f = refl
 slash_letter ws false c more f = elim (cases_lt c 128) [
@@ -173,62 +154,17 @@ slash_letter ws false c more f = elim (cases_lt c 128) [
 ]
 
 -- up to the end of the line
-ended_none : (ws : List ℕ) (t : Bool) (gs : List Glyph) → begins_like (47 ∷ ws) gs ≡ false → begins_like (47 ∷ ws) (if t then [] else gs) ≡ false
+pub ended_none : (ws : List ℕ) (t : Bool) (gs : List Glyph) → begins_like (47 ∷ ws) gs ≡ false → begins_like (47 ∷ ws) (if t then [] else gs) ≡ false
 ended_none ws true gs h = refl
 ended_none ws false gs h = h
 
-next_slash : (c : ℕ) → (c == 47) ≡ false → (c == 47) ≡ true → true ≡ false
-next_slash c e i = sym i ∙ e
+-- ---- before what follows
 
-one_slash : (s : Setting) (before after : List ContentSign) (owns : List (List Item)) → AreGiven after owns → is_next 47 (nearest after) ≡ false
-    → begins_like (47 ∷ []) (line_glyphs s before after) ≡ false
-one_slash s before [] owns h e = by (is_guarded s before [])
-  where
-    by : (u : Bool) → begins_like (47 ∷ []) (guard_glyphs u) ≡ false
-    by true = refl
-    by false = refl
-one_slash s before (letter c ∷ after) owns h e =
-    let x = is_escaped s.within s.place before c after in
-    let more : List Glyph = line_glyphs s (letter c ∷ before) after in
-    guard_none 47 [] (is_guarded s before (letter c ∷ after)) (if c == 10 then [] else letter_glyphs x c ++ more)
-    (ended_none [] (c == 10) (letter_glyphs x c ++ more)
-    (slash_letter [] x c more (λ i. let no : true ≡ false = next_slash c e i in cc)))
-one_slash s before (thing t ∷ after) [] h e = absurd h
-one_slash s before (thing t ∷ after) (own ∷ owns) h e =
-    let more : List Glyph = line_glyphs s (thing t ∷ before) after in
-    guard_none 47 [] (is_guarded s before (thing t ∷ after)) (own_glyphs t ++ more)
-    (first_none 47 [] (own_glyphs t) more (given_neither t own (given_or t.role t own h.0)) refl)
-
-and_left : (v w : Bool) → (v && w) ≡ false → v ≡ true → w ≡ false
-and_left true w e i = e
-and_left false w e i = let no : false ≡ true = i in cc
-
-two_slashes : (s : Setting) (before after : List ContentSign) (owns : List (List Item)) → AreGiven after owns → are_slashes after ≡ false
-    → begins_like (codes "//") (line_glyphs s before after) ≡ false
-two_slashes s before [] owns h e = by (is_guarded s before [])
-  where
-    by : (u : Bool) → begins_like (codes "//") (guard_glyphs u) ≡ false
-    by true = refl
-    by false = refl
-two_slashes s before (letter c ∷ after) owns h e =
-    let x = is_escaped s.within s.place before c after in
-    let more : List Glyph = line_glyphs s (letter c ∷ before) after in
-    guard_none 47 (47 ∷ []) (is_guarded s before (letter c ∷ after)) (if c == 10 then [] else letter_glyphs x c ++ more)
-    (ended_none (47 ∷ []) (c == 10) (letter_glyphs x c ++ more)
-    (slash_letter (47 ∷ []) x c more (λ i. one_slash s (letter c ∷ before) after owns h (and_left (c == 47) (is_next 47 (nearest after)) e i))))
-two_slashes s before (thing t ∷ after) [] h e = absurd h
-two_slashes s before (thing t ∷ after) (own ∷ owns) h e =
-    let more : List Glyph = line_glyphs s (thing t ∷ before) after in
-    guard_none 47 (47 ∷ []) (is_guarded s before (thing t ∷ after)) (own_glyphs t ++ more)
-    (first_none 47 (47 ∷ []) (own_glyphs t) more (given_neither t own (given_or t.role t own h.0)) refl)
-
--- ---- the line
-
-guard_reaches : (u : Bool) (more : List Glyph) → reaches more ≡ false → reaches (guard_glyphs u ++ more) ≡ false
+pub guard_reaches : (u : Bool) (more : List Glyph) → reaches more ≡ false → reaches (guard_glyphs u ++ more) ≡ false
 guard_reaches true more h = refl
 guard_reaches false more h = h
 
-end_reaches : (u : Bool) → reaches (guard_glyphs u) ≡ false
+pub end_reaches : (u : Bool) → reaches (guard_glyphs u) ≡ false
 end_reaches true = refl
 end_reaches false = refl
 
@@ -236,29 +172,13 @@ pub reach_by : (v m r b : Bool) → (v ≡ true → b ≡ false) → r ≡ false
 reach_by true m r b f e = f refl
 reach_by false m r b f e = and_none m r e
 
-no_slashes : (bs : List ℕ) (more : List Glyph) → PartsSigns bs → begins_like (codes "//") (byte_glyphs bs ++ more) ≡ false
-no_slashes [] more h = absurd h
-no_slashes (b ∷ bs) more h = ap (λ (v : Bool). v && begins_like (codes "/") (byte_glyphs bs ++ more)) (no_slash b (behind_sign b bs h).2)
-
-pub words_reach : (bs : List ℕ) (more : List Glyph) → AreWordBytes bs → reaches more ≡ false → reaches (byte_glyphs bs ++ more) ≡ false
-words_reach [] more h e = e
-words_reach (b ∷ bs) more h e =
-    let gs : List Glyph = byte_glyphs bs ++ more in
-    reach_by (to_ascii_lowercase b == 58) (is_more (glyph.Byte b)) (reaches gs) (begins_like (codes "//") gs)
-    (λ i. no_slashes bs more (h.1 (half_colon b (lower_colon b i)))) (words_reach bs more h.3 e)
-
 pub node_reaches : (own more : List Glyph) → AvoidsUrls own → reaches (own ++ more) ≡ false
 node_reaches [] more h = absurd h
 node_reaches (g ∷ gs) more h =
     ap (λ (v : Bool). if v then begins_like (codes "//") (gs ++ more) else is_more g && reaches (gs ++ more)) (past_neither g h).0
     ∙ ap (λ (v : Bool). v && reaches (gs ++ more)) (past_more g h)
 
-given_reaches : (t : Thing) (own : List Item) (more : List Glyph) → IsOwnNode t own ⊎ AreWords t.source own → reaches more ≡ false
-    → reaches (own_glyphs t ++ more) ≡ false
-given_reaches t own more h e = elim h [
-  | inl n ↦ node_reaches (own_glyphs t) more (node_avoids t own n)
-  | inr w ↦ subst (λ gs. reaches (gs ++ more) ≡ false) (sym (shown_glyphs t w.words)) (words_reach t.source more w.words e)
-]
+-- ---- a letter that is typed
 
 lower_is : (b : ℕ) → (to_ascii_lowercase b == 58) ≡ true → b ≡ 58
 lower_is b e = grind (arith, nat_tests, e)
@@ -273,7 +193,7 @@ wide_reaches (b ∷ bs) more h some =
     ap (λ (v : Bool). if v then begins_like (codes "//") gs else is_more (glyph.Byte b) && reaches gs) (wide_like 58 b (All-head IsWide b bs h) (omega arith))
     ∙ ap (λ (v : Bool). v && reaches gs) (wide_more b (All-head IsWide b bs h))
 
-letter_reaches : (e : Bool) (c : ℕ) (more : List Glyph) → (e ≡ false → c ≡ 58 → begins_like (codes "//") more ≡ false) → reaches more ≡ false
+pub letter_reaches : (e : Bool) (c : ℕ) (more : List Glyph) → (e ≡ false → c ≡ 58 → begins_like (codes "//") more ≡ false) → reaches more ≡ false
     → reaches (letter_glyphs e c ++ more) ≡ false
 letter_reaches true c more f h = refl
 letter_reaches false c more f h = elim (cases_lt c 128) [
@@ -283,7 +203,7 @@ letter_reaches false c more f h = elim (cases_lt c 128) [
   | inr wide ↦ wide_reaches (encode_utf8 c) more (encode_wide c wide) (encode_some c)
 ]
 
-ended_reaches : (t : Bool) (gs : List Glyph) → reaches gs ≡ false → reaches (if t then [] else gs) ≡ false
+pub ended_reaches : (t : Bool) (gs : List Glyph) → reaches gs ≡ false → reaches (if t then [] else gs) ≡ false
 ended_reaches true gs h = refl
 ended_reaches false gs h = h
 
@@ -291,23 +211,6 @@ or_second : (v w : Bool) → (v || w) ≡ false → w ≡ false
 or_second true w e = cc
 or_second false w e = e
 
-colon_plain : (s : Setting) (before after : List ContentSign) → is_escaped s.within s.place before 58 after ≡ false → are_slashes after ≡ false
+pub colon_plain : (s : Setting) (before after : List ContentSign) → is_escaped s.within s.place before 58 after ≡ false → are_slashes after ≡ false
 unfolding is_escaped
 colon_plain s before after e = or_second (is_term s.place) (are_slashes after) e
-
-pub line_reaches : (s : Setting) (before signs : List ContentSign) (owns : List (List Item)) → AreGiven signs owns → reaches (line_glyphs s before signs) ≡ false
-line_reaches s before [] owns h = end_reaches (is_guarded s before [])
-line_reaches s before (letter c ∷ after) owns h =
-    let x = is_escaped s.within s.place before c after in
-    let more : List Glyph = line_glyphs s (letter c ∷ before) after in
-    guard_reaches (is_guarded s before (letter c ∷ after)) (if c == 10 then [] else letter_glyphs x c ++ more)
-    (ended_reaches (c == 10) (letter_glyphs x c ++ more)
-    (letter_reaches x c more
-    (λ e i. two_slashes s (letter c ∷ before) after owns h
-    (colon_plain s before after (subst (λ (k : ℕ). is_escaped s.within s.place before k after ≡ false) i e)))
-    (line_reaches s (letter c ∷ before) after owns h)))
-line_reaches s before (thing t ∷ after) [] h = absurd h
-line_reaches s before (thing t ∷ after) (own ∷ owns) h =
-    let more : List Glyph = line_glyphs s (thing t ∷ before) after in
-    guard_reaches (is_guarded s before (thing t ∷ after)) (own_glyphs t ++ more)
-    (given_reaches t own more (given_or t.role t own h.0) (line_reaches s (thing t ∷ before) after owns h.1))

@@ -5,7 +5,7 @@ use Rattle.wt_span.specs.Braces.{reduced}
 use Rattle.wt_expand.specs.Expansion.{text_members}
 use Rattle.wt_expand.specs.PageCalls.{page_stretches}
 use Rattle.wt_part_laws.specs.Expanded.{part_items}
-use Rattle.wt_beside_laws.proofs.Groups.Cases.{a_word, call}
+use Rattle.wt_beside_laws.proofs.Groups.Cases.{a_word}
 use Rattle.std.specs.Prelude.{codes}
 use Rattle.wt_span.specs.Origins.{OuterCall}
 use Rattle.wt_tree.specs.declared.kind.Kind.TheVariants as kind

@@ -47,7 +47,7 @@ use Rattle.wt_expand.specs.Expansion.{text_members, most_templates, absent_text,
 use Rattle.wt_expand.specs.Fronts.{allowed_work}
 use Rattle.wt_expand.specs.PageCalls.{page_stretches, expanded_page}
 use Rattle.wt_commands.specs.Answers.{refusal_of_page}
-use Rattle.wt_part_laws.specs.CallTexts.{AreOwnOrTexts}
+use Rattle.wt_part_laws.specs.CallPieces.{AreOwnOrGiven, CallPiece, own, given as given_by, call_pieces}
 use Rattle.wt_part_laws.specs.Expanded.{part_items, GivesAnywhere}
 use Rattle.wt_text_edit_laws.specs.BlockSpots.{BlockSpot}
 use Rattle.wt_text_edit_laws.specs.Contents.{content_parts_of}
@@ -63,14 +63,16 @@ use Rattle.wt_called_edit_laws.specs.Groups.{called_tree}
 use Rattle.wt_called_edit_laws.specs.InCells.{AreTextLines}
 use Rattle.wt_called_edit_laws.specs.ItemSpots.{ArePlaced}
 use Rattle.wt_called_edit_laws.specs.Parts.{calls_to, calls_past, AreCalled}
-use Rattle.wt_called_edit_laws.specs.PiecedParagraphs.{HasOwn, IsInPieces, piece_leaves, IsTextAndCalls}
-use Rattle.wt_called_edit_laws.specs.WholeContents.{AreShutParts}
+use Rattle.wt_called_edit_laws.specs.PiecedParagraphs.{HasOwn, IsInPieces, all_pieces, IsTextAndCalls}
+use Rattle.wt_called_edit_laws.specs.WholeContents.{of_call, AreGroups, AreShutParts}
 use Rattle.wt_called_edit_laws.proofs.Whole.Pieced.{as_written, pieced_content, pieced_holds}
 use Rattle.std.specs.Prelude.{codes}
 use Rattle.wt_inline.specs.declared.loose.Loose.TheVariants.{Text}
-use Rattle.wt_inline.specs.ItemTree.{ItemTree}
-use Rattle.wt_called_edit_laws.specs.CalledEdits.{IsBesideCalls, IsCalledEditOf, MakesContentIn}
+use Rattle.wt_called_edit_laws.specs.CalledEdits.{page_things, IsBesideCalls, IsCalledEditOf, MakesContentIn}
+use Rattle.wt_called_edit_laws.specs.PageThings.{AllMeetLater}
 use Rattle.wt_called_edit_laws.specs.PartTexts.{AreSourcesAt}
+use Rattle.wt_called_edit_laws.proofs.Beside.Cases.{word_group}
+use Rattle.wt_called_edit_laws.proofs.Whole.OfCall.{is_same, of_here}
 use Rattle.wt_called_edit_laws.proofs.Whole.TextAndCalls.{pieced, texts_beside}
 use Rattle.wt_span.specs.Origins.{OuterCall}
 use Rattle.wt_tree.specs.Tree.{Tree}
@@ -92,7 +94,7 @@ use Rattle.wt_called_edit_laws.specs.Settled.{settled}
 use Rattle.wt_called_edit_laws.proofs.Beside.Making.{calls_make}
 use Rattle.wt_called_edit_laws.proofs.Cells.SentAsIs.{stands_as_sent}
 use Rattle.wt_called_edit_laws.proofs.Written.Joined.{calm_written}
-use Rattle.wt_called_edit_laws.proofs.Whole.Cases.{a_words_call}
+use Rattle.wt_called_edit_laws.proofs.Whole.Cases.{a_group_call}
 use Rattle.wt_called_edit_laws.proofs.Written.Cases.{call_part as call_alone}
 use Rattle.wt_called_edit_laws.proofs.Beside.EndCases.{nothing, called_at, a_label, nth, first_before}
 
@@ -114,19 +116,19 @@ unfolding words closed form_at comment_len comment_line_len raw_len opening_tag 
     utf8_valid_len is_utf8 chars encode link_to page_stretches
 items_are i = refl
 
-abbrev leaves : ℕ → List ItemTree
-leaves i = loose_leaf Text (char None 97 ∷ char None 32 ∷ []) ∷ loose_leaf Text (char (Some i) 98 ∷ []) ∷ []
+abbrev nodes : ℕ → List CallPiece
+nodes i = own (loose_leaf Text (char None 97 ∷ char None 32 ∷ [])) ∷ given_by i (loose_leaf Text (char (Some i) 98 ∷ [])) [] ∷ []
 
-leaves_are : (i : ℕ) → piece_leaves a_word i pieces ≡ leaves i
+nodes_are : (i : ℕ) → all_pieces a_word i pieces ≡ nodes i
 unfolding words closed form_at comment_len comment_line_len raw_len opening_tag tag_after closing_tag with_inside is_extension
     include_at entity_at named_entity decimal_entity hex_entity entity_names sign_word reduced rewritten parts_of text_members trimmed
     trimmed_items name_text called most_templates is_function title_of_target title_in_target read_text is_allowed is_forbidden
     is_good has_signature is_step begins_with_step holds_step ends_with_step name_of image is_called namespace_named prefix_of
     full_name_of whole_in cut_namespace title_in template_text begins_only ends_only loop_text depth_text absent_text
     utf8_valid_len is_utf8 chars encode link_to page_stretches expanded_page
-leaves_are i =
-    let same : i + 0 ≡ i = omega arith in
-    ap (λ (j : ℕ). loose_leaf Text (char None 97 ∷ char None 32 ∷ []) ∷ loose_leaf Text (char (Some j) 98 ∷ []) ∷ []) same
+    context_parts chunks segments loose_segments tiles shapes closes tile_at link_or_url link_at ext_link_at bare_url_at scheme_len
+    tag_tile tag_at switch_at with_styles style_tree_of toggles_of toggle_at opens_tag closes_tag children
+nodes_are i = let same : i + 0 ≡ i = omega arith in ap nodes same
 
 abbrev parts : ℕ → List Part
 parts i = loose Text None 97 ∷ loose Text None 32 ∷ loose Text (Some i) 98 ∷ []
@@ -139,9 +141,20 @@ parts_are i = refl
 parts_there : (i : ℕ) → content_parts_of a_paragraph (part_items a_word i source) ≡ parts i
 parts_there i = ap (content_parts_of a_paragraph) (items_are i) ∙ parts_are i
 
-children_are : (i : ℕ) → children (parts i) ≡ leaves i
+pieces_are : (i : ℕ) → call_pieces (children (parts i)) ≡ nodes i
 unfolding children
-children_are i = refl
+pieces_are i = refl
+
+given_here : (i : ℕ) → of_call i (given i) ≡ char (Some i) 98 ∷ []
+given_here i = of_here i (char (Some i) 98) [] (is_same (Some i) i refl)
+
+groups_here : (i : ℕ) → AreGroups (given i) (nodes i)
+groups_here i = let w = word_group i (given i) (given_here i) in (w.0, w.1, tt)
+
+groups_there : (i : ℕ) → AreGroups (part_items a_word i source) (call_pieces (children (content_parts_of a_paragraph (part_items a_word i source))))
+groups_there i =
+    subst (λ (ps : List Part). AreGroups (part_items a_word i source) (call_pieces (children ps))) (sym (parts_there i))
+    (subst (AreGroups (part_items a_word i source)) (sym (pieces_are i)) (subst (λ (xs : List Item). AreGroups xs (nodes i)) (sym (items_are i)) (groups_here i)))
 
 is_read : IsReadContent a_paragraph source
 unfolding page_items words closed form_at comment_len comment_line_len raw_len opening_tag tag_after closing_tag with_inside include_at entity_at named_entity
@@ -181,13 +194,14 @@ text_and_calls = record {
   pieces = pieces;
   is = refl;
   parts = in_pieces;
-  each = (inl calls_none, (inr a_words_call, tt));
+  each = (inl calls_none, (inr a_group_call, tt));
   read = is_read;
   lines = λ i. subst AreTextItems (sym (items_are i)) (is_text i);
-  texts = λ i. subst AreOwnOrTexts (sym (parts_there i)) tt;
+  texts = λ i. subst AreOwnOrGiven (sym (parts_there i)) tt;
+  groups = groups_there;
   shut = λ i. subst AreShutParts (sym (parts_there i)) tt;
   some = λ i. subst HasOwn (sym (parts_there i)) tt;
-  leaves = λ i. ap children (parts_there i) ∙ children_are i ∙ sym (leaves_are i);
+  nodes = λ i. ap (λ (ps : List Part). call_pieces (children ps)) (parts_there i) ∙ pieces_are i ∙ sym (nodes_are i);
 }
 
 here : IsInPieces a_word source
@@ -276,11 +290,20 @@ unfolding words closed form_at comment_len comment_line_len raw_len opening_tag 
     utf8_valid_len is_utf8 chars encode link_to page_stretches expanded_page
 sources_are = (refl, tt)
 
+-- no call is beside another one
+meets : AllMeetLater a_word (page_things (block_by (given 0)))
+unfolding kept_with label_at context_parts chunks segments loose_segments tiles shapes closes tile_at link_or_url link_at ext_link_at bare_url_at scheme_len
+    tag_tile tag_at switch_at children with_styles style_tree_of toggles_of toggle_at opens_tag closes_tag
+meets = (tt, tt)
+
+meets_there : AllMeetLater a_word (page_things (block_by (part_items a_word 0 source)))
+meets_there = subst (λ (xs : List Item). AllMeetLater a_word (page_things (block_by xs))) (sym (items_are 0)) meets
+
 beside_call : IsBesideCalls a_word a_paragraph source block
 beside_call =
     let some : 0 < 1 = omega arith in
     subst (λ (xs : List Item). IsBesideCalls a_word a_paragraph source (block_by xs)) (items_are 0)
-    (texts_beside a_word source (block_by (part_items a_word 0 source)) 1 0 0 calls_here some refl sources_are text_and_calls)
+    (texts_beside a_word source (block_by (part_items a_word 0 source)) 1 0 0 calls_here some refl sources_are text_and_calls meets_there)
 
 -- `the ` in the place of `a `
 abbrev edit : Pieces

@@ -29,7 +29,7 @@ use Rattle.wt_typed_blocks.specs.Typed.{place_of}
 use Rattle.wt_typed_blocks.specs.Edited.{Pieces, page_pieces, sent_pieces, pieces_before, page_node, sent_node, edited_before}
 use Rattle.wt_typed_blocks.specs.EditedPage.{edited_source}
 use Rattle.wt_text_edit_laws.specs.TextBlocks.{TextBlock, a_paragraph, a_heading, block_of, source_of, IsFrame}
-use Rattle.wt_beside_laws.specs.Called.{owns_in, shown_signs, called_shown, IsCalledIn}
+use Rattle.wt_beside_laws.specs.Called.{owns_in, called_shown, IsCalledIn}
 use Rattle.wt_beside_laws.specs.ContentEdits.{content_edit, new_content}
 use Rattle.wt_beside_laws.specs.SentNodes.{AreSent}
 use Rattle.wt_beside_laws.specs.SentPieces.{TextsFit}
@@ -144,7 +144,7 @@ record IsSentBeside (pages : Pages) (k : TextBlock) (block : Tree) (m : Label) (
   sent : AreSent (page_of same_node block) (sent_pieces ps)
   things_stay : ThingsStay pages (page_things block) (things (signs k block ps))
   written : IsWrittenIn k pages (setting k block) (signs k block ps)
-  shows : (i : ℕ) (rest : Plains) → called_shown (shown_signs pages (signs k block ps)) (owns_in pages i (signs k block ps)) rest ≡ pieces_before ps rest
+  shows : (i : ℕ) (rest : Plains) → called_shown (signs k block ps) (owns_in pages i (signs k block ps)) rest ≡ pieces_before ps rest
 
 -- its signs are written so
 written_so : (pages : Pages) (k : TextBlock) (q : List ℕ) (block : Tree) (ps : Pieces) → IsBesideCalls pages k q block → IsCalledEditOf pages k block ps
@@ -221,7 +221,7 @@ record IsMadeOf (pages : Pages) (k : TextBlock) (q : List ℕ) (ss : List Conten
   whole : IsWholeIn pages k now
   shows : (calls : List OuterCall) (i : ℕ) (rest : Plains)
       → plain_before (cut_texts (block_in calls (tree_round k (part_items pages i now)))) rest
-      ≡ along (element (face_of k) (called_shown (shown_signs pages ss) (owns_in pages i ss) ended)) rest
+      ≡ along (element (face_of k) (called_shown ss (owns_in pages i ss) ended)) rest
 
 made_of : (pages : Pages) (k : TextBlock) (q : List ℕ) (block : Tree) (m : Label) (ps : Pieces) → IsBesideCalls pages k q block → IsSentBeside pages k block m ps
     → IsMadeOf pages k q (signs k block ps) (spelled (setting k block) (signs k block ps))

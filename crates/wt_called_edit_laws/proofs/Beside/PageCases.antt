@@ -47,7 +47,7 @@ use Rattle.wt_expand.specs.Expansion.{text_members, most_templates, absent_text,
 use Rattle.wt_expand.specs.Fronts.{allowed_work}
 use Rattle.wt_expand.specs.PageCalls.{page_stretches, expanded_page}
 use Rattle.wt_commands.specs.Answers.{refusal_of_page}
-use Rattle.wt_part_laws.specs.CallTexts.{AreOwnOrTexts}
+use Rattle.wt_part_laws.specs.CallPieces.{AreOwnOrGiven, call_pieces}
 use Rattle.wt_part_laws.specs.Expanded.{part_items, GivesAnywhere}
 use Rattle.wt_part_laws.proofs.ExpandedBoth.{plain_anywhere}
 use Rattle.wt_text_edit_laws.specs.BlockSpots.{BlockSpot}
@@ -65,8 +65,8 @@ use Rattle.wt_called_edit_laws.specs.InCells.{AreTextLines}
 use Rattle.wt_called_edit_laws.specs.ItemSpots.{ArePlaced}
 use Rattle.wt_called_edit_laws.specs.Parts.{calls_to, calls_past, AreCalled}
 use Rattle.wt_called_edit_laws.specs.PiecedParagraphs.{HasOwn, IsInPieces}
-use Rattle.wt_called_edit_laws.specs.WholeContents.{AreShutParts}
-use Rattle.wt_called_edit_laws.proofs.Beside.Cases.{source, given, items_are, pieces, in_pieces, among, of_page}
+use Rattle.wt_called_edit_laws.specs.WholeContents.{AreGroups, AreShutParts}
+use Rattle.wt_called_edit_laws.proofs.Beside.Cases.{source, given, items_are, word_group, given_word, pieces, in_pieces, among, of_page}
 use Rattle.wt_called_edit_laws.proofs.Whole.Pieced.{pieced_content, pieced_holds}
 
 -- ---- the paragraph
@@ -95,17 +95,18 @@ is_text i = record {
 }
 
 -- `x`, the word and `y` are characters
-record AreGivenParts (xs : List Item) : Type 0 where
-  texts : AreOwnOrTexts (content_parts_of a_paragraph xs)
-  shut : AreShutParts (content_parts_of a_paragraph xs)
-  some : HasOwn (content_parts_of a_paragraph xs)
+pub record AreGivenParts (xs : List Item) : Type 0 where
+  pub texts : AreOwnOrGiven (content_parts_of a_paragraph xs)
+  pub groups : AreGroups xs (call_pieces (children (content_parts_of a_paragraph xs)))
+  pub shut : AreShutParts (content_parts_of a_paragraph xs)
+  pub some : HasOwn (content_parts_of a_paragraph xs)
 
 given_parts : (i : ℕ) → AreGivenParts (given i)
 unfolding context_parts chunks segments loose_segments tiles shapes closes tile_at link_or_url link_at ext_link_at bare_url_at scheme_len tag_tile tag_at switch_at
-    with_styles style_tree_of toggles_of toggle_at opens_tag closes_tag
-given_parts i = record { texts = tt; shut = tt; some = tt }
+    with_styles style_tree_of toggles_of toggle_at opens_tag closes_tag children
+given_parts i = record { texts = tt; groups = (let w = word_group i (given i) (given_word i) in (w.0, w.1, tt)); shut = tt; some = tt }
 
-parts_here : (i : ℕ) → AreGivenParts (part_items a_word i source)
+pub parts_here : (i : ℕ) → AreGivenParts (part_items a_word i source)
 parts_here i = subst AreGivenParts (sym (items_are i)) (given_parts i)
 
 pub here : IsInPieces a_word source
@@ -119,6 +120,7 @@ here = record {
   read = is_read;
   lines = λ i. subst AreTextItems (sym (items_are i)) (is_text i);
   texts = λ i. let p = parts_here i in p.texts;
+  groups = λ i. let p = parts_here i in p.groups;
   shut = λ i. let p = parts_here i in p.shut;
   some = λ i. let p = parts_here i in p.some;
 }

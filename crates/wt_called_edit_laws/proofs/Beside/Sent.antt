@@ -14,7 +14,7 @@ use Rattle.wt_tree.specs.Tree.{Label, Tree, tree, Trees, label}
 use Rattle.wt_tree.specs.declared.edit_shape.InlineForm.{InlineForm}
 use Rattle.wt_tree.specs.declared.edit_shape.InlineForm.TheVariants as inline
 use Rattle.wt_tree.specs.declared.edit_shape.Place.{Place}
-use Rattle.wt_guards.specs.Content.{ContentSign, Thing, letter, letters, thing}
+use Rattle.wt_guards.specs.Content.{ContentSign, Thing, letter, letters}
 use Rattle.wt_original.specs.Kept.{Kept, kept_with, kept_nodes}
 use Rattle.wt_original.specs.Page.{page_of, TellsSame, restored, is_unchanged}
 use Rattle.wt_context.specs.Line.{line_parts}
@@ -26,7 +26,7 @@ use Rattle.wt_part_laws.specs.Expanded.{part_items}
 use Rattle.wt_typed_blocks.specs.Sent.{StandsAsIs}
 use Rattle.wt_typed_blocks.specs.Edited.{Pieces, no_pieces, gone, written, kept, around, new_style, page_pieces, text_node, sent_pieces, PiecesStay, pieces_before}
 use Rattle.wt_typed_blocks.specs.EditedUnmarked.{AreInline}
-use Rattle.wt_beside_laws.specs.Called.{owns_in, shown_signs, called_shown, HasText}
+use Rattle.wt_beside_laws.specs.Called.{owns_in, called_shown, HasText}
 use Rattle.wt_content.specs.Content.{has_break}
 use Rattle.wt_typed_blocks.proofs.TextReads.{or_parts}
 use Rattle.wt_beside_laws.specs.FlatBlocks.{AreOneLine}
@@ -335,7 +335,7 @@ pieces_text pages same block pl (new_style m is ps) tells f g h a n e = absurd n
 
 -- these signs show so, where so many calls come before them
 abbrev shown_in : Pages → ℕ → List ContentSign → Plains → Plains
-shown_in pages i signs rest = called_shown (shown_signs pages signs) (owns_in pages i signs) rest
+shown_in pages i signs rest = called_shown signs (owns_in pages i signs) rest
 
 letters_show : (pages : Pages) (i : ℕ) (cs : List ℕ) (signs : List ContentSign) (rest : Plains)
     → shown_in pages i (map letter cs ++ signs) rest ≡ text_before (flat_map encode_utf8 cs) (shown_in pages i signs rest)
@@ -355,7 +355,7 @@ text_shows pages i same block pl x (c ∷ cs) us rest u =
 
 pub pieces_show : (pages : Pages) (i : ℕ) (same : Tree → Tree → Bool) (block : Tree) (pl : Place) (ps : Pieces) (rest : Plains) → TellsSame same
     → AreFound (kept_nodes block) (page_pieces ps) → AreChildrenBeside pages (page_pieces ps) → PiecesStay ps → AreNodesAndTexts ps → HaveNoStyle ps
-    → called_shown (shown_signs pages (sent_signs same block pl ps)) (owns_in pages i (sent_signs same block pl ps)) rest ≡ pieces_before ps rest
+    → called_shown (sent_signs same block pl ps) (owns_in pages i (sent_signs same block pl ps)) rest ≡ pieces_before ps rest
 pieces_show pages i same block pl no_pieces rest tells f g h a n = refl
 pieces_show pages i same block pl (gone (tree l ts) ps) rest tells f g h a n = pieces_show pages i same block pl ps rest tells f.1 g.1 h a n
 pieces_show pages i same block pl (written x text ps) rest tells f g h a n =

@@ -1,14 +1,14 @@
 -- Worked case: the heading `== x{{t}}y ==` of the page, where `Template:T` is a word, with another letter behind its call and none before it: what is sent
 -- for it, and what it makes.
-use Rattle.std.proofs.Common.{◌≡◌, ◌<◌, inl, inr, ℕ, zero, suc, false, Some, None, List, [], ◌∷◌, arith, refl, sym, ap, subst}
+use Rattle.std.proofs.Common.{◌≡◌, ◌<◌, inl, inr, ℕ, zero, suc, false, Some, None, List, [], ◌∷◌, arith, refl, sym, ap, ◌∙◌, subst}
 use Rattle.wt_text_edit_laws.specs.ReadContents.{IsReadContent}
 use Rattle.wt_text_edit_laws.specs.TextBlocks.{a_heading, IsFrame}
 use Rattle.wt_text_edit_laws.specs.TypedHeadings.{Sides, spaced, heading_round}
 use Rattle.wt_beside_laws.specs.Called.{IsSeenIn, AllSeenIn}
-use Rattle.wt_beside_laws.proofs.Groups.Cases.{a_word, call, gives_b}
+use Rattle.wt_beside_laws.proofs.Groups.Cases.{a_word, call, gives_char, gives_b}
 use Rattle.wt_called_edit_laws.specs.CalledEdits.{page_things, ShowsAsGiven, AreChildrenBeside, IsBesideCalls, IsCalledEditOf, MakesContentIn}
 use Rattle.wt_called_edit_laws.specs.WrittenAnew.{StayButForOthers}
-use Rattle.wt_called_edit_laws.proofs.Beside.Cases.{source, given, items_are, pieces, in_pieces, among}
+use Rattle.wt_called_edit_laws.proofs.Beside.Cases.{source, given, shows_word, items_are, pieces, in_pieces, among}
 use Rattle.std.specs.Prelude.{codes}
 use Rattle.std.specs.Str.{is_utf8, chars, IsUtf8}
 use Rattle.std.specs.Str.Lossy.{utf8_valid_len}
@@ -18,7 +18,7 @@ use Rattle.wt_span.specs.Entities.{entity_at, named_entity, decimal_entity, hex_
 use Rattle.wt_span.specs.Tags.{raw_len, opening_tag, tag_after, closing_tag, with_inside, is_extension, include_at}
 use Rattle.wt_span.specs.Lexemes.{words, closed, sign_word, form_at}
 use Rattle.wt_span.specs.Braces.{rewritten, reduced, parts_of}
-use Rattle.wt_span.specs.Items.{Item, sources}
+use Rattle.wt_span.specs.Items.{Item}
 use Rattle.wt_span.specs.Origins.{OuterCall}
 use Rattle.wt_names.specs.Good.{is_forbidden, is_allowed, has_signature, is_step, begins_with_step, holds_step, ends_with_step, is_good, read_text}
 use Rattle.wt_names.specs.Namespace.{name_of, image, is_called, namespace_named, prefix_of, full_name_of}
@@ -26,7 +26,9 @@ use Rattle.wt_names.specs.Reading.{whole_in, cut_namespace, title_in}
 use Rattle.wt_names.specs.Written.{link_to}
 use Rattle.wt_tree.specs.declared.kind.Kind.TheVariants as kind
 use Rattle.wt_tree.specs.declared.kind.Mark.TheVariants as marks
-use Rattle.wt_tree.specs.Plain.{text_before}
+use Rattle.wt_tree.specs.Plain.{Plains, text_before, plain_before}
+use Rattle.wt_tree.specs.Source.{flat}
+use Rattle.wt_part_laws.specs.Expanded.{part_items}
 use Rattle.wt_tree.specs.Tree.{Label, Tree, tree, Trees, none, more}
 use Rattle.wt_original.specs.Kept.{kept_with}
 use Rattle.wt_expand.specs.PageItems.{page_items}
@@ -42,7 +44,7 @@ use Rattle.wt_tiles.specs.Tiles.{form_at as tile_at, link_or_url, tag_tile, swit
 use Rattle.wt_tiles.specs.Links.{link_at}
 use Rattle.wt_tiles.specs.Urls.{scheme_len, ext_link_at, bare_url_at}
 use Rattle.wt_context.specs.Chunks.{chunks}
-use Rattle.wt_context.specs.Line.{context_parts}
+use Rattle.wt_context.specs.Line.{context_parts, line_parts}
 use Rattle.wt_context.specs.Nodes.{segments}
 use Rattle.wt_context.specs.Segments.{loose_segments}
 use Rattle.wt_context.specs.Styled.{with_styles}
@@ -58,10 +60,10 @@ use Rattle.wt_part_laws.specs.HeldCalls.{block_in}
 use Rattle.wt_typed_blocks.specs.Edited.{Pieces, no_pieces, gone, written, kept}
 use Rattle.wt_beside_laws.specs.ContentEdits.{new_content}
 use Rattle.wt_beside_laws.specs.OwnSigns.{HaveOwn}
+use Rattle.wt_beside_laws.specs.Shown.{parts_shown_at}
 use Rattle.wt_called_edit_laws.specs.PageThings.{ArePageThings, thing_sources}
 use Rattle.wt_called_edit_laws.specs.SentAsIs.{as_sent}
 use Rattle.wt_called_edit_laws.specs.Settled.{settled}
-use Rattle.wt_called_edit_laws.proofs.Beside.Given.{words_given}
 use Rattle.wt_called_edit_laws.proofs.Beside.Making.{calls_make}
 use Rattle.wt_called_edit_laws.proofs.Cells.SentAsIs.{stands_as_sent}
 use Rattle.wt_called_edit_laws.proofs.Written.Cases.{call_part, call_read, call_sealed, call_shut, call_utf8}
@@ -99,15 +101,6 @@ unfolding kept_with page_items words closed label_at context_parts chunks segmen
     switch_at children with_styles style_tree_of toggles_of toggle_at opens_tag closes_tag
 things_are = refl
 
-gives : sources (expanded_page a_word (codes "{{t}}")).items ≡ codes "b"
-unfolding words closed form_at comment_len comment_line_len raw_len opening_tag tag_after closing_tag with_inside is_extension
-    include_at entity_at named_entity decimal_entity hex_entity entity_names sign_word reduced rewritten parts_of text_members trimmed
-    trimmed_items name_text called most_templates is_function title_of_target title_in_target read_text is_allowed is_forbidden
-    is_good has_signature is_step begins_with_step holds_step ends_with_step name_of image is_called namespace_named prefix_of
-    full_name_of whole_in cut_namespace title_in template_text begins_only ends_only loop_text depth_text absent_text
-    utf8_valid_len is_utf8 chars encode link_to page_stretches expanded_page
-gives = refl
-
 -- what it gives is no blank and no `=`
 pub seen : IsSeenIn a_word own_call
 unfolding words closed form_at comment_len comment_line_len raw_len opening_tag tag_after closing_tag with_inside is_extension
@@ -132,10 +125,17 @@ of_page = (
   tt,
 )
 
-group_shows : ShowsAsGiven a_word group
+group_is : (flat group ≡ codes "{{t}}") × ((rest : Plains) → plain_before group rest ≡ text_before (codes "b") rest)
 unfolding label_at context_parts chunks segments loose_segments tiles shapes closes tile_at link_or_url link_at ext_link_at bare_url_at scheme_len tag_tile tag_at
     switch_at children with_styles style_tree_of toggles_of toggle_at opens_tag closes_tag
-group_shows = words_given a_word group gives_b (λ rest. ap (λ (bs : List ℕ). text_before bs rest) (sym gives))
+group_is = (refl, λ rest. refl)
+
+group_shows : ShowsAsGiven a_word group
+group_shows = λ i rest.
+    ap (λ (q : List ℕ). parts_shown_at 0 [] (line_parts (part_items a_word i q)) rest) group_is.0
+    ∙ ap (λ (xs : List Item). parts_shown_at 0 [] (line_parts xs) rest) (gives_char i)
+    ∙ shows_word i rest
+    ∙ sym (group_is.1 rest)
 
 own_nodes : HaveOwn (children_of block) × AreChildrenBeside a_word (children_of block)
 unfolding label_at context_parts chunks segments loose_segments tiles shapes closes tile_at link_or_url link_at ext_link_at bare_url_at scheme_len tag_tile tag_at

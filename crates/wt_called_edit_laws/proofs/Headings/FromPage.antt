@@ -1,4 +1,4 @@
--- Whatever texts are typed beside the nodes of a heading of the page, calls that give words among them: it is a new content in its place.
+-- Whatever texts are typed beside the nodes of a heading of the page, calls among them: it is a new content in its place.
 use Rattle.std.proofs.Common.{◌≡◌, inl, inr, ℕ, false, List, [], ◌∷◌, subst}
 use Rattle.wt_tree.specs.declared.edit_shape.Place.TheVariants as place
 use Rattle.wt_guards.specs.Content.{ContentSign, Thing}
@@ -7,18 +7,16 @@ use Rattle.wt_expand.specs.Work.{Pages}
 use Rattle.wt_text_edit_laws.specs.ReadContents.{IsReadContent}
 use Rattle.wt_text_edit_laws.specs.TextBlocks.{a_heading}
 use Rattle.wt_text_edit_laws.specs.TypedHeadings.{Sides}
-use Rattle.wt_beside_laws.specs.Called.{shown_signs, IsSeenIn, AllSeenIn}
+use Rattle.wt_beside_laws.specs.Called.{IsSeenIn, AllSeenIn}
 use Rattle.wt_beside_laws.specs.InHeadings.{AreOnOneLine}
 use Rattle.wt_beside_laws.specs.Lines.{AreCharacters}
 use Rattle.wt_beside_laws.specs.Stood.{things}
-use Rattle.wt_beside_laws.proofs.Groups.Meet.{all_beside}
-use Rattle.wt_beside_laws.proofs.PageNodes.{EachMeets}
 use Rattle.wt_called_edit_laws.specs.CallingBlocks.{IsNewContentIn}
 use Rattle.wt_called_edit_laws.specs.InPieces.{pieces_source, AreInPieces}
 use Rattle.wt_called_edit_laws.specs.PageThings.{ArePageThings, ThingsStay, thing_sources}
 use Rattle.wt_called_edit_laws.specs.WrittenAnew.{StayButForOthers, node_sources, IsWrittenInHeading}
 use Rattle.wt_called_edit_laws.proofs.Headings.NewContents.{head_over}
-use Rattle.wt_called_edit_laws.proofs.Written.FromPage.{things_stay, of_folder, of_reading, of_parts, of_seals, of_shut, of_utf8, each_so, meets_so, things_shown, stay_both, by_sources, sources_of}
+use Rattle.wt_called_edit_laws.proofs.Written.FromPage.{things_stay, of_folder, of_reading, of_parts, of_seals, of_shut, of_utf8, all_meet_so, stay_both, by_sources, sources_of}
 use Rattle.wt_called_edit_laws.proofs.Written.InPieces.{pieces_items, pieces_written, open_pieces}
 
 -- what stays ends so, too
@@ -40,7 +38,7 @@ head_these pages olds s signs w p l v h e k =
         one_line = l;
         characters = v;
         given = of_folder pages signs own;
-        meet = all_beside s [] (shown_signs pages signs) (each_so pages signs own, subst EachMeets (things_shown pages signs) (meets_so pages (things signs) own));
+        meet = λ i. all_meet_so pages i s signs own;
         end_seen = seen_stay pages olds (things signs) k e;
       };
       read = of_reading pages signs own;

@@ -1,4 +1,4 @@
--- A heading of texts beside calls that give words, as it is written, is a content in a folder, and a new one in the place of another one whose nodes it has; those that don't call may go.
+-- A heading of texts beside calls, as it is written, is a content in a folder, and a new one in the place of another one whose nodes it has; those that don't call may go.
 use Rattle.std.proofs.Common.{◌≡◌, ℕ, List, [], ◌∷◌, ◌++◌, None, refl, sym, ap, ◌∙◌, subst, append-nil}
 use Rattle.wt_span.specs.Items.{Item, char}
 use Rattle.wt_span.specs.Origins.{OuterCall}
@@ -14,7 +14,7 @@ use Rattle.wt_text_edit_laws.specs.TypedHeadings.{Sides, heading_line}
 use Rattle.wt_text_edit_laws.proofs.Between.ClosingTags.{Unclosed}
 use Rattle.wt_text_edit_laws.proofs.Blocks.BlockReading.{framed_front, firm_before}
 use Rattle.wt_text_edit_laws.proofs.Prose.InFront.{reads_nothing, read_items}
-use Rattle.wt_beside_laws.specs.Called.{items_with, owns_in, shown_signs, IsCalledHeading, IsCalledInHeading}
+use Rattle.wt_beside_laws.specs.Called.{items_with, owns_in, IsCalledHeading, IsCalledInHeading}
 use Rattle.wt_beside_laws.proofs.Each.{Each}
 use Rattle.wt_beside_laws.proofs.Groups.CalledHeadings.{heading_inside, heading_level}
 use Rattle.wt_beside_laws.proofs.Groups.Folders.{heading_in}
@@ -81,7 +81,7 @@ head_content pages s signs w f h =
       anywhere = part.anywhere;
       items = λ i. all.items_are i ∙ ap (heading_line w) (sym (own.items_are i));
       is = λ i. subst (AreHeadingItems w) (sym (head_items pages i s signs h))
-          (head_is s (shown_signs pages signs) (owns_in pages i signs) w f (heading_in pages i s signs h.called));
+          (head_is s signs (owns_in pages i signs) w f (heading_in pages i s signs h.called));
     }
 
 -- ---- in the place of any content that has the calls and the work of nodes that it holds

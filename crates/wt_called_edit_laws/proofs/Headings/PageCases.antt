@@ -48,7 +48,7 @@ use Rattle.wt_expand.specs.Expansion.{text_members, most_templates, absent_text,
 use Rattle.wt_expand.specs.Fronts.{allowed_work}
 use Rattle.wt_expand.specs.PageCalls.{page_stretches, expanded_page}
 use Rattle.wt_commands.specs.Answers.{refusal_of_page}
-use Rattle.wt_part_laws.specs.CallTexts.{AreOwnOrTexts}
+use Rattle.wt_part_laws.specs.CallPieces.{AreOwnOrGiven, call_pieces}
 use Rattle.wt_part_laws.specs.Expanded.{part_items, GivesAnywhere}
 use Rattle.wt_part_laws.proofs.ExpandedBoth.{plain_anywhere}
 use Rattle.wt_text_edit_laws.specs.BlockSpots.{BlockSpot}
@@ -63,8 +63,8 @@ use Rattle.wt_called_edit_laws.specs.Groups.{called_tree}
 use Rattle.wt_called_edit_laws.specs.ItemSpots.{ArePlaced}
 use Rattle.wt_called_edit_laws.specs.Parts.{calls_to, calls_past, AreCalled}
 use Rattle.wt_called_edit_laws.specs.PiecedParagraphs.{IsHeadingInPieces}
-use Rattle.wt_called_edit_laws.specs.WholeContents.{AreShutParts}
-use Rattle.wt_called_edit_laws.proofs.Beside.Cases.{source, given, items_are, pieces, in_pieces, among}
+use Rattle.wt_called_edit_laws.specs.WholeContents.{AreGroups, AreShutParts}
+use Rattle.wt_called_edit_laws.proofs.Beside.Cases.{source, given, items_are, word_group, given_word, pieces, in_pieces, among}
 use Rattle.wt_called_edit_laws.proofs.Headings.Cases.{two, own_call, seen, of_page, frame, read}
 use Rattle.wt_called_edit_laws.proofs.Headings.Pieced.{pieced_heading, pieced_heading_holds}
 
@@ -72,13 +72,14 @@ use Rattle.wt_called_edit_laws.proofs.Headings.Pieced.{pieced_heading, pieced_he
 
 -- `x`, the word and `y` are characters on one line
 record AreGivenParts (xs : List Item) : Type 0 where
-  texts : AreOwnOrTexts (content_parts_of (a_heading two) xs)
+  texts : AreOwnOrGiven (content_parts_of (a_heading two) xs)
+  groups : AreGroups xs (call_pieces (children (content_parts_of (a_heading two) xs)))
   shut : AreShutParts (content_parts_of (a_heading two) xs)
 
 given_parts : (i : ℕ) → AreGivenParts (given i)
 unfolding context_parts chunks segments loose_segments tiles shapes closes tile_at link_or_url link_at ext_link_at bare_url_at scheme_len tag_tile tag_at switch_at
-    with_styles style_tree_of toggles_of toggle_at opens_tag closes_tag
-given_parts i = record { texts = tt; shut = tt }
+    with_styles style_tree_of toggles_of toggle_at opens_tag closes_tag children
+given_parts i = record { texts = tt; groups = (let w = word_group i (given i) (given_word i) in (w.0, w.1, tt)); shut = tt }
 
 parts_here : (i : ℕ) → AreGivenParts (part_items a_word i source)
 parts_here i = subst AreGivenParts (sym (items_are i)) (given_parts i)
@@ -100,6 +101,7 @@ here = record {
   read = read;
   line = λ i. subst (AreHeadingItems two) (sym (items_are i)) (is_line i);
   texts = λ i. let p = parts_here i in p.texts;
+  groups = λ i. let p = parts_here i in p.groups;
   shut = λ i. let p = parts_here i in p.shut;
 }
 

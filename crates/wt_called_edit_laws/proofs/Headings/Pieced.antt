@@ -1,8 +1,7 @@
--- A heading of the page in pieces, whoever wrote it: it is a content in a folder and holds calls that give words.
+-- A heading of the page in pieces, whoever wrote it: it is a content in a folder and holds its calls.
 use Rattle.std.proofs.Common.{ℕ, false, List, [], refl, sym, ap, ◌∙◌, subst}
 use Rattle.wt_tree.specs.declared.kind.Kind.TheVariants as kind
 use Rattle.wt_tree.specs.declared.edit_shape.Place.TheVariants as place
-use Rattle.wt_span.specs.Items.{Item}
 use Rattle.wt_guards.specs.Content.{Thing}
 use Rattle.wt_guards.specs.Guards.{Setting}
 use Rattle.wt_expand.specs.PageCalls.{expanded_page}
@@ -10,18 +9,17 @@ use Rattle.wt_expand.specs.Work.{Pages}
 use Rattle.wt_inline.specs.ItemTree.{plain}
 use Rattle.wt_context.specs.Line.{line_parts}
 use Rattle.wt_part_laws.specs.Expanded.{part_items}
-use Rattle.wt_part_laws.proofs.HeldBlocks.{texts_hold}
+use Rattle.wt_part_laws.proofs.HeldBlocks.{given_hold}
 use Rattle.wt_text_edit_laws.specs.LonePages.{page_chars}
 use Rattle.wt_text_edit_laws.specs.ReadContents.{IsReadContent}
 use Rattle.wt_text_edit_laws.specs.TextBlocks.{a_heading, source_of, IsFrame}
 use Rattle.wt_text_edit_laws.specs.TypedHeadings.{Sides, opening, closing_items, heading_line}
-use Rattle.wt_beside_laws.proofs.Groups.CalledHeadings.{round_texts}
+use Rattle.wt_beside_laws.proofs.Groups.CalledHeadings.{round_given}
 use Rattle.wt_called_edit_laws.specs.CallingBlocks.{IsContentIn, IsNewContentIn}
 use Rattle.wt_called_edit_laws.specs.CallingEdits.{TakesLetters}
 use Rattle.wt_called_edit_laws.specs.EditableBlocks.{HoldsCalls}
 use Rattle.wt_called_edit_laws.specs.InPieces.{pieces_source}
 use Rattle.wt_called_edit_laws.specs.PiecedParagraphs.{IsHeadingInPieces}
-use Rattle.wt_called_edit_laws.specs.WholeContents.{of_call, NoneOrWords}
 use Rattle.wt_called_edit_laws.specs.Written.{IsWrittenAs}
 use Rattle.wt_called_edit_laws.specs.WrittenAnew.{IsWrittenInHeading, HoldsAnywhere}
 use Rattle.wt_called_edit_laws.proofs.Headings.Framed.{framed_written}
@@ -29,7 +27,7 @@ use Rattle.wt_called_edit_laws.proofs.Headings.FromPage.{head_takes}
 use Rattle.wt_called_edit_laws.proofs.Headings.Held.{head_holds}
 use Rattle.wt_called_edit_laws.proofs.Headings.Letters.{a_head, b_head}
 use Rattle.wt_called_edit_laws.proofs.Whole.Contents.{moved_shut}
-use Rattle.wt_called_edit_laws.proofs.Whole.Pieced.{pieces_words, pieces_shut}
+use Rattle.wt_called_edit_laws.proofs.Whole.Pieced.{pieces_shut}
 use Rattle.wt_called_edit_laws.proofs.Written.InPieces.{pieces_items, pieces_written}
 use Rattle.wt_called_edit_laws.proofs.Written.Letters.{begun, rest_of, spelled_a, spelled_b, stay_spread}
 use Rattle.wt_called_edit_laws.proofs.Written.NewContents.{calls_of, work_of}
@@ -79,18 +77,17 @@ pub pieced_heading_holds : (pages : Pages) (s : Sides) (q : List ℕ) → IsHead
 pieced_heading_holds pages s q h =
     let r : IsReadContent (a_heading s) q = h.read in
     let f : IsFrame s = r.begins in
-    let own = own_written pages s q h in
     let all = all_written pages s q h in
     let part = all.part in
     record {
       holds = λ i.
-          texts_hold (plain (kind.Heading s.level)) (page_chars (opening s)) (line_parts (part_items pages i q)) (closing_items s)
-          (round_texts (line_parts (part_items pages i q)) s (h.texts i) f.sides);
+          given_hold (plain (kind.Heading s.level)) (page_chars (opening s)) (line_parts (part_items pages i q)) (closing_items s)
+          (round_given (line_parts (part_items pages i q)) s (h.texts i) f.sides);
       letters = page_letters pages s q h;
       texts = part.texts;
-      words = record {
-        texts = h.texts;
-        words = λ i j. subst (λ (xs : List Item). NoneOrWords (of_call j xs)) (sym (own.items_are i)) (pieces_words pages i j h.pieces h.nodes h.among h.things);
+      whole = record {
+        parts = h.texts;
+        groups = h.groups;
         shut = h.shut;
         shut_calls = moved_shut (calls_of pages h.pieces) (expanded_page pages (source_of (a_heading s) q)).outer all.calls_are
             (pieces_shut pages h.pieces h.nodes h.among h.things);

@@ -1,4 +1,4 @@
--- A heading of texts and calls that give words: its nodes in the page's tree are these texts, and a group for each call.
+-- A heading of texts and calls: its nodes in the page's tree are these texts, and a group for each call.
 use Rattle.std.proofs.Common.{arith, ◌≡◌, ◌⊎◌, inl, inr, ℕ, ◌+◌, ◌<◌, true, false, List, [], ◌∷◌, length, refl, sym, ap, ◌∙◌, subst}
 use Rattle.wt_tree.specs.declared.kind.Kind.TheVariants as kind
 use Rattle.wt_tree.specs.Kinds.{is_leaf}
@@ -6,7 +6,7 @@ use Rattle.wt_tree.specs.Tree.{Tree, Trees, label}
 use Rattle.wt_span.specs.Items.{Item, sources}
 use Rattle.wt_span.specs.Origins.{OuterCall}
 use Rattle.wt_guards.specs.Content.{Thing}
-use Rattle.wt_inline.specs.ItemTree.{plain, ItemTree}
+use Rattle.wt_inline.specs.ItemTree.{plain}
 use Rattle.wt_inline.specs.Parts.{Part}
 use Rattle.wt_checks.specs.Kept.{children as nodes_in}
 use Rattle.wt_annotated.specs.CutTexts.{cut_texts, all_cut_texts}
@@ -16,10 +16,10 @@ use Rattle.wt_expand.specs.Work.{Pages}
 use Rattle.wt_original.specs.Kept.{kept_nodes, found_in}
 use Rattle.wt_original.specs.Numbers.{counts_up}
 use Rattle.wt_link_spelling.specs.Spelling.{children_of}
-use Rattle.wt_part_laws.specs.CallTexts.{all_in_page}
+use Rattle.wt_part_laws.specs.CallPieces.{CallPiece, pieces_in_page}
 use Rattle.wt_part_laws.specs.Expanded.{part_items, calls_in}
 use Rattle.wt_part_laws.specs.HeldCalls.{block_in}
-use Rattle.wt_part_laws.proofs.HeldBlocks.{block_is}
+use Rattle.wt_part_laws.proofs.HeldBlocks.{given_block_is}
 use Rattle.wt_text_edit_laws.specs.Contents.{content_parts_of}
 use Rattle.wt_text_edit_laws.specs.LonePages.{page_chars}
 use Rattle.wt_text_edit_laws.specs.ReadContents.{IsReadContent}
@@ -28,13 +28,13 @@ use Rattle.wt_text_edit_laws.specs.TypedHeadings.{Sides, opening, closing_items}
 use Rattle.wt_beside_laws.specs.Called.{IsSeenIn, AllSeenIn}
 use Rattle.wt_beside_laws.specs.OwnSigns.{HaveOwn}
 use Rattle.wt_beside_laws.specs.StyledBlocks.{all_numbers, things_with}
-use Rattle.wt_beside_laws.proofs.Groups.CalledHeadings.{round_texts}
+use Rattle.wt_beside_laws.proofs.Groups.CalledHeadings.{round_given}
 use Rattle.wt_beside_laws.proofs.OwnSigns.{Every, Finds}
 use Rattle.wt_called_edit_laws.specs.CalledContents.{tree_round}
 use Rattle.wt_called_edit_laws.specs.CalledEdits.{page_things, AreChildrenBeside, IsBesideCalls}
-use Rattle.wt_called_edit_laws.specs.PageThings.{thing_sources}
+use Rattle.wt_called_edit_laws.specs.PageThings.{AllMeetLater, thing_sources}
 use Rattle.wt_called_edit_laws.specs.PartTexts.{AreSourcesAt}
-use Rattle.wt_called_edit_laws.specs.PiecedParagraphs.{IsHeadingInPieces, IsWordsCall, IsSeenPiece, AreSeenPieces, IsHeadingOfCalls}
+use Rattle.wt_called_edit_laws.specs.PiecedParagraphs.{IsHeadingInPieces, IsGroupCall, IsSeenPiece, AreSeenPieces, IsHeadingOfCalls}
 use Rattle.wt_called_edit_laws.specs.Settled.{settled, all_settled}
 use Rattle.wt_called_edit_laws.specs.Written.{IsWrittenAs}
 use Rattle.wt_called_edit_laws.specs.WrittenAnew.{StayButForOthers}
@@ -42,7 +42,7 @@ use Rattle.wt_called_edit_laws.proofs.Beside.Counts.{block_bare, settled_counts}
 use Rattle.wt_called_edit_laws.proofs.Headings.Framed.{framed_written}
 use Rattle.wt_called_edit_laws.proofs.Whole.Blocks.{nodes_are}
 use Rattle.wt_called_edit_laws.proofs.Whole.Contents.{has_call}
-use Rattle.wt_called_edit_laws.proofs.Whole.TextAndCalls.{nodes_from, nodes_own, nodes_show, IsCallThing, AreCallThings, ThingsOf, nodes_things, call_things, some_things, sources_before, same_nodes, block_finds}
+use Rattle.wt_called_edit_laws.proofs.Whole.TextAndCalls.{a_group, nodes_from, nodes_own, nodes_show, IsCallThing, AreCallThings, ThingsOf, nodes_things, call_things, some_things, all_meet_none, sources_before, same_nodes, block_finds}
 use Rattle.wt_called_edit_laws.proofs.Written.InPieces.{pieces_items, pieces_written}
 use Rattle.wt_called_edit_laws.proofs.Written.NewContents.{calls_of, work_of}
 
@@ -51,8 +51,8 @@ use Rattle.wt_called_edit_laws.proofs.Written.NewContents.{calls_of, work_of}
 own_seen : (pages : Pages) (b : List ℕ) (t : Thing) → b ≡ t.source → IsCallThing pages t → ((expanded_page pages b).outer ≡ []) ⊎ IsSeenPiece pages b
     → IsSeenIn pages t
 own_seen pages b t e c (inl z) =
-    let w : IsWordsCall pages t.source = c.call in
-    let some : 0 < calls_in pages t.source = has_call pages 0 t.source w.words in
+    let w : IsGroupCall pages t.source = c.call in
+    let some : 0 < calls_in pages t.source = has_call pages 0 a_group t.source (w.gives a_group) in
     let none : calls_in pages t.source ≡ 0 = ap length (subst (λ (q : List ℕ). (expanded_page pages q).outer ≡ []) e z) in
     absurd (omega (arith, some, none))
 own_seen pages b t e c (inr k) = subst (λ (q : List ℕ). IsSeenPiece pages q) e k
@@ -73,12 +73,13 @@ heading_pieced pages s q h =
       is = h.is;
       parts = h.parts;
       nodes = some.nodes;
-      things = call_things pages some.nodes some.are.1;
+      things = call_things pages some.nodes some.are.1 (all_meet_none pages some.nodes some.placeless);
       among = some.are.0;
       seen = things_seen pages h.pieces some.nodes some.are.0 some.are.1 h.seen;
       read = h.read;
       line = h.line;
       texts = h.texts;
+      groups = h.groups;
       shut = h.shut;
     }
 
@@ -86,8 +87,9 @@ heading_pieced pages s q h =
 
 pub heading_beside : (pages : Pages) (s : Sides) (q : List ℕ) (block : Tree) (n at i : ℕ) (calls : List OuterCall) → 0 < n
     → block ≡ settled n at (cut_texts (block_in calls (tree_round (a_heading s) (part_items pages i q))))
-    → AreSourcesAt calls i (expanded_page pages (source_of (a_heading s) q)).outer → IsHeadingOfCalls pages s q → IsBesideCalls pages (a_heading s) q block
-heading_beside pages s q block n at i calls some is sources_are h =
+    → AreSourcesAt calls i (expanded_page pages (source_of (a_heading s) q)).outer → IsHeadingOfCalls pages s q → AllMeetLater pages (page_things block)
+    → IsBesideCalls pages (a_heading s) q block
+heading_beside pages s q block n at i calls some is sources_are h meets =
     let bs : List (List ℕ) = h.pieces in
     let r : IsReadContent (a_heading s) q = h.read in
     let f : IsFrame s = r.begins in
@@ -100,12 +102,12 @@ heading_beside pages s q block n at i calls some is sources_are h =
     let own : IsWrittenAs pages q (λ j. pieces_items pages j bs) (calls_of pages bs) (work_of pages bs) =
     subst (λ (ys : List ℕ). IsWrittenAs pages ys (λ j. pieces_items pages j bs) (calls_of pages bs) (work_of pages bs)) h.is (pieces_written pages bs h.parts) in
     let w = framed_written pages s q (λ j. pieces_items pages j bs) (calls_of pages bs) (work_of pages bs) h.read own in
-    let round = round_texts ps s (h.texts i) f.sides in
+    let round = round_given ps s (h.texts i) f.sides in
     let nodes : children_of block ≡ nodes_from pages calls i m a bs =
     ap children_of is ∙ same_nodes (settled n at v)
-    ∙ ap (λ (u : Tree). nodes_in (settled n at (cut_texts u))) (block_is calls (plain (kind.Heading s.level)) o ps c round)
+    ∙ ap (λ (u : Tree). nodes_in (settled n at (cut_texts u))) (given_block_is calls (plain (kind.Heading s.level)) o ps c round)
     ∙ nodes_are calls n at (plain (kind.Heading s.level)) o ps c refl refl
-    ∙ ap (λ (ts : List ItemTree). all_settled m a (all_cut_texts (all_in_page calls ts))) (h.leaves i) in
+    ∙ ap (λ (us : List CallPiece). all_settled m a (all_cut_texts (pieces_in_page calls us))) (h.nodes i) in
     let given : AreSourcesAt calls i (calls_of pages bs) =
     sources_before calls i (calls_of pages bs) (expanded_page pages (source_of (a_heading s) q)).outer w.calls_are sources_are in
     let more_than : 0 < m = omega (arith, some) in
@@ -125,7 +127,7 @@ heading_beside pages s q block n at i calls some is sources_are h =
       parts = h.parts;
       own = subst HaveOwn (sym nodes) (nodes_own pages calls i m a bs more_than h.each);
       children = subst (AreChildrenBeside pages) (sym nodes) (nodes_show pages calls i m a bs h.each given);
-      things = call_things pages (page_things block) there.1;
+      things = call_things pages (page_things block) there.1 meets;
       among = there.0;
       round = (h.read, things_seen pages bs (page_things block) there.0 there.1 h.seen);
     }

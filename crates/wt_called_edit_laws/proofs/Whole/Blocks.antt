@@ -1,5 +1,5 @@
--- Each block of a page whose calls give words, or that calls nothing, can be read by itself where it is.
-use Rattle.std.proofs.Common.{arith, ◌≡◌, inl, inr, ℕ, suc, ◌+◌, ◌<◌, ◌≤◌, Bool, true, false, Option, None, Some, List, [], ◌∷◌, ◌++◌, length, map, refl, sym, ap, ap₂, ◌∙◌, subst, append-nil}
+-- Each block of a page whose calls give what may be a group, or that calls nothing, can be read by itself where it is.
+use Rattle.std.proofs.Common.{arith, ◌≡◌, inl, inr, ℕ, suc, ◌+◌, ◌<◌, ◌≤◌, Bool, true, false, Option, None, Some, List, [], ◌∷◌, ◌++◌, length, refl, sym, ap, ap₂, ◌∙◌, subst, append-nil}
 use Rattle.std.specs.Prelude.{slice_get, if◌then◌else◌}
 use Rattle.std.specs.List.{list_all}
 use Rattle.std.proofs.lemmas.Bool.{cases_lt}
@@ -9,18 +9,16 @@ use Rattle.wt_tree.specs.declared.kind.Kind.TheVariants as kind
 use Rattle.wt_tree.specs.Kinds.{texts_of_kind}
 use Rattle.wt_tree.specs.Tiling.{is_group}
 use Rattle.wt_tree.specs.Tree.{Tree, Trees}
-use Rattle.wt_span.specs.Items.{Item, char, sources}
-use Rattle.wt_span.specs.Origins.{OuterCall, Expanded, same_call}
+use Rattle.wt_span.specs.Items.{Item, sources}
+use Rattle.wt_span.specs.Origins.{OuterCall, Expanded}
 use Rattle.wt_span.specs.Cuts.{source_of_call}
-use Rattle.wt_inline.specs.declared.loose.Loose.TheVariants.{Text, Sep}
-use Rattle.wt_inline.specs.Inside.{opened_all}
 use Rattle.wt_inline.specs.ItemTree.{Head, plain, ItemTree, inner, forest, tree_items, held_by_all}
-use Rattle.wt_inline.specs.Parts.{Part, loose, node, held_parts, children}
-use Rattle.wt_inline.proofs.HeldLaws.{held_children}
+use Rattle.wt_inline.specs.Parts.{Part, children}
+use Rattle.wt_context.specs.Line.{line_parts}
 use Rattle.wt_annotated.specs.Clean.{is_page}
 use Rattle.wt_annotated.specs.CutTexts.{cut_as, cut_texts, all_cut_texts}
 use Rattle.wt_annotated.specs.Numbering.{next_after, with_numbers}
-use Rattle.wt_annotated.specs.Seams.{last_of, first_of}
+use Rattle.wt_annotated.specs.Seams.{last_of}
 use Rattle.wt_annotated.specs.WithoutCalls.{placed}
 use Rattle.wt_checks.specs.Kept.{children as nodes_in}
 use Rattle.wt_isolation.specs.OpenTags.{ends_open, any_ends_open}
@@ -32,15 +30,15 @@ use Rattle.wt_expand.specs.Work.{Pages, first_refusal}
 use Rattle.wt_expand.proofs.PiecePlaces.{AllFrom}
 use Rattle.wt_page_round_trip.proofs.HeldPages.{items_ones}
 use Rattle.wt_page_round_trip.proofs.OpenedPages.{AreOnes}
-use Rattle.wt_part_laws.specs.CallTexts.{AreOwnOrTexts, all_in_page}
+use Rattle.wt_part_laws.specs.CallPieces.{AreOwnOrGiven, CallPiece, own, given, call_pieces, pieces_in_page}
 use Rattle.wt_part_laws.specs.Expanded.{moved_call, part_items, calls_in}
-use Rattle.wt_part_laws.specs.HeldCalls.{block_in, HoldsItsCalls, AllHold, IsRoundTexts, block_of_texts}
+use Rattle.wt_part_laws.specs.HeldCalls.{block_in, HoldsItsCalls, AllHold, IsRoundGiven, block_of_pieces}
 use Rattle.wt_part_laws.specs.Placeless.{placeless}
 use Rattle.wt_part_laws.specs.Rounded.{IsOwn}
 use Rattle.wt_part_laws.specs.Standing.{standing}
-use Rattle.wt_part_laws.proofs.CallTexts.{children_pieces}
+use Rattle.wt_part_laws.proofs.CallPieces.{trees_of, all_trees, ArePieces, apart_none, all_pieces, children_given}
 use Rattle.wt_part_laws.proofs.GroupsStay.{numbers_gone}
-use Rattle.wt_part_laws.proofs.HeldBlocks.{block_is}
+use Rattle.wt_part_laws.proofs.HeldBlocks.{given_block_is}
 use Rattle.wt_part_laws.proofs.OwnWalks.{walk_own}
 use Rattle.wt_part_laws.proofs.Recuts.{texts_same}
 use Rattle.wt_text_edit_laws.specs.BlockSpots.{BlockSpot, spots_source}
@@ -52,7 +50,7 @@ use Rattle.wt_text_edit_laws.specs.TypedHeadings.{Sides, opening, closing_items,
 use Rattle.wt_text_edit_laws.proofs.Blocks.BlockLeaves.{items_of_page}
 use Rattle.wt_text_edit_laws.proofs.Blocks.OwnContents.{content_own}
 use Rattle.wt_text_edit_laws.proofs.Texts.TypedShown.{chars_of_page, both_of_page}
-use Rattle.wt_beside_laws.specs.Called.{AreWords}
+use Rattle.wt_beside_laws.specs.Given.{GivesSigns}
 use Rattle.wt_called_edit_laws.specs.CalledBlocks.{counted}
 use Rattle.wt_called_edit_laws.specs.CalledContents.{items_round, tree_round}
 use Rattle.wt_called_edit_laws.specs.CallingBlocks.{IsContentIn, AreContentsInFolder, tree_with_calls}
@@ -60,7 +58,7 @@ use Rattle.wt_called_edit_laws.specs.CallingGroups.{AreCallingOutside, block_wit
 use Rattle.wt_called_edit_laws.specs.Parts.{calls_to, calls_past, called_items}
 use Rattle.wt_called_edit_laws.specs.Settled.{settled, all_settled}
 use Rattle.wt_called_edit_laws.specs.Untangled.{IsWhole, AreWhole}
-use Rattle.wt_called_edit_laws.specs.WholeContents.{of_call, NoneOrWords, AreShutParts, AreShutCalls, HoldsWords, EachWhole}
+use Rattle.wt_called_edit_laws.specs.WholeContents.{of_call, AreGroups, AreShutParts, AreShutCalls, HoldsGroups, EachWhole}
 use Rattle.wt_called_edit_laws.proofs.CalledUtf8.{called_utf8}
 use Rattle.wt_called_edit_laws.proofs.Cells.CallingFrames.{own_calm}
 use Rattle.wt_called_edit_laws.proofs.Cells.ContentItems.{tree_is}
@@ -70,25 +68,21 @@ use Rattle.wt_called_edit_laws.proofs.PartTexts.{own_text}
 use Rattle.wt_called_edit_laws.proofs.SettledNodes.{settled_gone, placeless_twice}
 use Rattle.wt_called_edit_laws.proofs.SpotSources.{OnesAt, SpotOnes, tree_opened, hold_moved, ones_moved, grouped_at, ones_in_tree, ones_in_page}
 use Rattle.wt_called_edit_laws.proofs.Whole.CallPlaces.{AtPlaces, AreCallsAt, AreBlockCalls, part_placed, block_calls, page_placed}
-use Rattle.wt_called_edit_laws.proofs.Whole.OfCall.{of_append, of_page, own_from, before_part, behind_part, of_opened, chars_opened}
+use Rattle.wt_called_edit_laws.proofs.Whole.OfCall.{of_append, of_page, own_from, before_part, behind_part}
 use Rattle.wt_called_edit_laws.proofs.Whole.Opened.{to_opened, from_opened}
-use Rattle.wt_called_edit_laws.proofs.Whole.Pieces.{AreShutTrees, children_shut, AreGivenHere, IsAmong, pieces_fine, pieces_shut}
+use Rattle.wt_called_edit_laws.proofs.Whole.Pieces.{AreShutTrees, children_shut, some_items, AreGroupsHere, IsAmong, pieces_fine, pieces_shut}
 
--- ---- a block of texts of which calls give some, at its place
+-- ---- a block at its place
 
 last_page : (o : Option ℕ) (xs : List Item) → o ≡ None → AllFrom None xs → last_of o xs ≡ None
 last_page o [] e h = e
 last_page o (x ∷ xs) e h = last_page _ xs h.0 h.1
 
-first_page : (xs : List Item) → AllFrom None xs → first_of xs None ≡ None
-first_page [] h = refl
-first_page (x ∷ xs) h = h.0
-
 pub nodes_are : (calls : List OuterCall) (n s : ℕ) (h : Head) (q : List Item) (ps : List Part) (c : List Item) → is_group h.kind ≡ false → texts_of_kind h.kind ≡ Page
-    → nodes_in (settled n s (cut_texts (block_of_texts calls h q ps c)))
-    ≡ all_settled (next_after h.kind n) (s + length (sources q)) (all_cut_texts (all_in_page calls (children ps)))
+    → nodes_in (settled n s (cut_texts (block_of_pieces calls h q ps c)))
+    ≡ all_settled (next_after h.kind n) (s + length (sources q)) (all_cut_texts (pieces_in_page calls (call_pieces (children ps))))
 nodes_are calls n s h q ps c g t =
-    let us : Trees = all_in_page calls (children ps) in
+    let us : Trees = pieces_in_page calls (call_pieces (children ps)) in
     let m : ℕ = next_after h.kind n in
     let a : ℕ = s + length (sources q) in
     let cut : Trees = cut_as (texts_of_kind h.kind) (all_cut_texts us) in
@@ -96,53 +90,51 @@ nodes_are calls n s h q ps c g t =
     ∙ ap (λ (x : Texts). all_settled m a (cut_as x (all_cut_texts us))) t
 
 round_whole : (e : Expanded) (s n : ℕ) (h : Head) (q : List Item) (ps : List Part) (c : List Item) → is_group h.kind ≡ false → texts_of_kind h.kind ≡ Page
-    → IsRoundTexts h q ps c → AtPlaces e.outer s None (tree_items (inner h q (forest (children ps)) c))
-    → AreGivenHere e (tree_items (inner h q (forest (children ps)) c)) → AreShutParts ps → AtPlaces e.outer 0 None e.items → AreOnes e.items
+    → IsRoundGiven h q ps c → AtPlaces e.outer s None (tree_items (inner h q (forest (children ps)) c))
+    → AreGroupsHere e (call_pieces (children ps)) → AreShutParts ps → AtPlaces e.outer 0 None e.items → AreOnes e.items
     → IsWhole e (settled n s (cut_texts (block_in e.outer (inner h q (forest (children ps)) c))))
-round_whole e s n h q ps c g t r at given shut page ones =
+round_whole e s n h q ps c g t r at groups shut page ones =
     let calls : List OuterCall = e.outer in
     let ts : List ItemTree = children ps in
+    let us : List CallPiece = call_pieces ts in
     let all : List Item = tree_items (inner h q (forest ts) c) in
     let m : ℕ = next_after h.kind n in
     let a : ℕ = s + length (sources q) in
-    let own : AllFrom None q = own_from q r.own_opening in
-    let among : IsAmong calls s None a q all ts c = record {
-      is = refl;
+    let free : AllFrom None q = own_from q r.own_opening in
+    let are : ArePieces us = all_pieces ts (children_given ps r.parts) in
+    let among : IsAmong calls s None a q all us c = record {
+      is = ap (λ (xs : List ItemTree). q ++ (held_by_all (forest xs) ++ c)) (sym (all_trees ts));
       placed = at;
-      behind = last_page None q refl own;
-      at = ap (λ (bs : List ℕ). s + length bs) (sym (own_text calls None q own));
-      ends = first_page c (own_from c r.own_closing);
+      behind = last_page None q refl free;
+      at = ap (λ (bs : List ℕ). s + length bs) (sym (own_text calls None q free));
     } in
-    let trees : AreShutTrees ts = children_shut ps shut in
-    let nodes : nodes_in (settled n s (cut_texts (block_in calls (inner h q (forest ts) c)))) ≡ all_settled m a (all_cut_texts (all_in_page calls ts)) =
-    ap (λ (u : Tree). nodes_in (settled n s (cut_texts u))) (block_is calls h q ps c r) ∙ nodes_are calls n s h q ps c g t in (
-      ap any_ends_open nodes ∙ pieces_shut e s None a m q all ts c (children_pieces ps r.parts) among given trees,
-      ap (has_faulty_group e) nodes ∙ pieces_fine e s None a m q all ts c (children_pieces ps r.parts) among given trees page ones,
+    let trees : AreShutTrees (trees_of us) = subst AreShutTrees (sym (all_trees ts)) (children_shut ps shut) in
+    let nodes : nodes_in (settled n s (cut_texts (block_in calls (inner h q (forest ts) c)))) ≡ all_settled m a (all_cut_texts (pieces_in_page calls us)) =
+    ap (λ (u : Tree). nodes_in (settled n s (cut_texts u))) (given_block_is calls h q ps c r) ∙ nodes_are calls n s h q ps c g t in (
+      ap any_ends_open nodes ∙ pieces_shut e a m us are groups trees,
+      ap (has_faulty_group e) nodes ∙ pieces_fine e s None a m q all us c are (apart_none us) among groups trees page ones,
     )
 
 closing_page : (s : Sides) → list_all is_page (closing_items s) ≡ true
 closing_page s = both_of_page (page_chars (s.trail ++ equals s.level)) (page_items s.rest) (chars_of_page (s.trail ++ equals s.level)) (items_of_page s.rest)
 
-tree_whole : (e : Expanded) (s n : ℕ) (k : TextBlock) (xs : List Item) → HoldsItsCalls (tree_round k xs) → AreOwnOrTexts (content_parts_of k xs)
-    → AtPlaces e.outer s None (tree_items (tree_round k xs)) → AreGivenHere e (tree_items (tree_round k xs)) → AreShutParts (content_parts_of k xs)
+tree_whole : (e : Expanded) (s n : ℕ) (k : TextBlock) (xs : List Item) → HoldsItsCalls (tree_round k xs) → AreOwnOrGiven (content_parts_of k xs)
+    → AtPlaces e.outer s None (tree_items (tree_round k xs)) → AreGroupsHere e (call_pieces (children (content_parts_of k xs))) → AreShutParts (content_parts_of k xs)
     → AtPlaces e.outer 0 None e.items → AreOnes e.items → IsWhole e (settled n s (cut_texts (block_in e.outer (tree_round k xs))))
-tree_whole e s n a_paragraph xs hold texts at given shut page ones =
+tree_whole e s n a_paragraph xs hold parts at groups shut page ones =
     round_whole e s n (plain kind.Para) [] (content_parts_of a_paragraph xs) [] refl refl
-    (record { no_leaf = refl; own_opening = refl; own_closing = refl; parts = texts; some = hold.some }) at given shut page ones
-tree_whole e s n (a_heading d) xs hold texts at given shut page ones =
+    (record { no_leaf = refl; own_opening = refl; own_closing = refl; parts = parts; some = hold.some }) at groups shut page ones
+tree_whole e s n (a_heading d) xs hold parts at groups shut page ones =
     round_whole e s n (plain (kind.Heading d.level)) (page_chars (opening d)) (content_parts_of (a_heading d) xs) (closing_items d) refl refl
     (record {
       no_leaf = refl;
       own_opening = chars_of_page (opening d);
       own_closing = closing_page d;
-      parts = texts;
+      parts = parts;
       some = hold.some;
-    }) at given shut page ones
+    }) at groups shut page ones
 
--- ---- what calls give among the items of its tree
-
-para_items : (ps : List Part) → tree_items (inner (plain kind.Para) [] (forest (children ps)) []) ≡ held_parts ps
-para_items ps = append-nil (held_by_all (forest (children ps))) ∙ held_children ps
+-- ---- what calls give among the items of its block
 
 round_call : (j : ℕ) (q xs c : List Item) → list_all is_page q ≡ true → list_all is_page c ≡ true → of_call j (q ++ (xs ++ c)) ≡ of_call j xs
 round_call j q xs c e f =
@@ -150,53 +142,11 @@ round_call j q xs c e f =
     ∙ ap₂ (λ (us vs : List Item). us ++ vs) (of_page j q e) (of_append j xs c ∙ ap (λ (us : List Item). of_call j xs ++ us) (of_page j c f))
     ∙ append-nil (of_call j xs)
 
-tree_call : (j : ℕ) (k : TextBlock) (xs : List Item) → of_call j (tree_items (tree_round k xs)) ≡ of_call j (held_parts (content_parts_of k xs))
-tree_call j a_paragraph xs = ap (of_call j) (para_items (content_parts_of a_paragraph xs))
-tree_call j (a_heading s) xs =
-    let ps : List Part = content_parts_of (a_heading s) xs in
-    round_call j (page_chars (opening s)) (held_by_all (forest (children ps))) (closing_items s) (chars_of_page (opening s)) (closing_page s)
-    ∙ ap (of_call j) (held_children ps)
-
 items_call : (j : ℕ) (k : TextBlock) (xs : List Item) → of_call j (items_round k xs) ≡ of_call j xs
 items_call j a_paragraph xs = refl
 items_call j (a_heading s) xs = round_call j (page_chars (opening s)) xs (closing_items s) (chars_of_page (opening s)) (closing_page s)
 
-char_opened : (v : Bool) (o : Option ℕ) (b : ℕ) (zs : List Item) → opened_all zs ≡ zs → opened_all (if v then char o b ∷ zs else zs) ≡ (if v then char o b ∷ zs else zs)
-char_opened true o b zs e = ap (λ (ys : List Item). char o b ∷ ys) e
-char_opened false o b zs e = e
-
--- characters alone
-parts_opened : (j : ℕ) (ps : List Part) → AreOwnOrTexts ps → opened_all (of_call j (held_parts ps)) ≡ of_call j (held_parts ps)
-parts_opened j [] h = refl
-parts_opened j (loose Text o b ∷ ps) h = char_opened (same_call o (Some j)) o b (of_call j (held_parts ps)) (parts_opened j ps h)
-parts_opened j (loose Sep o b ∷ ps) h = absurd h
-parts_opened j (node t ∷ ps) h =
-    let own = h.0 in
-    let is : of_call j (tree_items t ++ held_parts ps) ≡ of_call j (held_parts ps) =
-    of_append j (tree_items t) (held_parts ps) ∙ ap (λ (us : List Item). us ++ of_call j (held_parts ps)) (of_page j (tree_items t) own.of_page) in
-    ap opened_all is ∙ parts_opened j ps h.1 ∙ sym is
-
-words_opened : (own : List Item) → NoneOrWords own → opened_all own ≡ own
-words_opened own (inl e) = ap opened_all e ∙ sym e
-words_opened own (inr w) = let h : AreWords w.0 own = w.1 in ap opened_all h.is ∙ chars_opened (Some h.call) w.0 ∙ sym h.is
-
-tree_gives : (j : ℕ) (k : TextBlock) (xs : List Item) → AreOwnOrTexts (content_parts_of k xs) → NoneOrWords (of_call j xs)
-    → opened_all (tree_items (tree_round k xs)) ≡ opened_all (items_round k xs) → of_call j (tree_items (tree_round k xs)) ≡ of_call j xs
-tree_gives j k xs texts words e =
-    tree_call j k xs
-    ∙ sym (parts_opened j (content_parts_of k xs) texts)
-    ∙ ap opened_all (sym (tree_call j k xs))
-    ∙ sym (of_opened j (tree_items (tree_round k xs)))
-    ∙ ap (of_call j) e
-    ∙ of_opened j (items_round k xs)
-    ∙ ap opened_all (items_call j k xs)
-    ∙ words_opened (of_call j xs) words
-
 -- ---- which calls they are
-
-words_some : (shown : List ℕ) (own : List Item) → AreWords shown own → own ≡ [] → ⊥
-words_some [] own w e = w.begins
-words_some (b ∷ shown) own w e = let no : char (Some w.call) b ∷ map (char (Some w.call)) shown ≡ [] = sym w.is ∙ e in cc
 
 call_shut : (calls : List OuterCall) (d i j : ℕ) (cs : List OuterCall) → AreCallsAt calls d i cs → AreShutCalls cs → i ≤ j → j < i + length cs
     → ends_open (source_of_call (slice_get calls j)) ≡ false
@@ -274,39 +224,52 @@ record IsBlockHere (e : Expanded) (pages : Pages) (k at : ℕ) (s : BlockSpot) (
 abbrev node_here : Expanded → Pages → ℕ → BlockSpot → Tree
 node_here e pages k s = cut_texts (block_in e.outer (tree_round s.block (part_items pages (calls_to pages k s) s.text)))
 
-given_here : (e : Expanded) (pages : Pages) (k at : ℕ) (s : BlockSpot) (ss : List BlockSpot) (behind : List ℕ) → IsBlockHere e pages k at s ss behind
-    → HoldsWords pages s.block s.text → AreGivenHere e (tree_items (tree_round s.block (part_items pages (calls_to pages k s) s.text)))
-given_here e pages k at s ss behind h w = λ j.
+groups_here : (e : Expanded) (xs : List Item) (ps : List CallPiece)
+    → ((j : ℕ) → GivesSigns j (of_call j xs) → (of_call j e.items ≡ of_call j xs) × (ends_open (source_of_call (slice_get e.outer j)) ≡ false)) → AreGroups xs ps
+    → AreGroupsHere e ps
+groups_here e xs [] f g = tt
+groups_here e xs (own t ∷ ps) f g = groups_here e xs ps f g
+groups_here e xs (given j t ts ∷ ps) f g =
+    let here = f j g.0 in (
+      record {
+        gives = subst (GivesSigns j) (sym here.0) g.0;
+        nodes = g.1 ∙ ap (λ (ys : List Item). children (line_parts ys)) (sym here.0);
+        shut = here.1;
+      },
+      groups_here e xs ps f g.2,
+    )
+
+block_groups : (e : Expanded) (pages : Pages) (k at : ℕ) (s : BlockSpot) (ss : List BlockSpot) (behind : List ℕ) → IsBlockHere e pages k at s ss behind
+    → HoldsGroups pages s.block s.text → AreGroupsHere e (call_pieces (children (content_parts_of s.block (part_items pages (calls_to pages k s) s.text))))
+block_groups e pages k at s ss behind h w =
     let i : ℕ = calls_to pages k s in
     let q : List ℕ = source_of s.block s.text in
     let xs : List Item = part_items pages i s.text in
     let content : IsContentIn pages s.block s.text = h.content in
-    let tree_is : of_call j (tree_items (tree_round s.block xs)) ≡ of_call j xs =
-    tree_gives j s.block xs (w.texts i) (w.words i j) (tree_opened s.block xs (content.is i)) in
+    groups_here e xs (call_pieces (children (content_parts_of s.block xs)))
+    (λ j g.
     let part_is : of_call j (part_items pages i q) ≡ of_call j xs = ap (of_call j) (content.items i) ∙ items_call j s.block xs in
-    elim (w.words i j) [
-      | inl z ↦ inl (tree_is ∙ z)
-      | inr v ↦
-          let some : of_call j xs ≡ [] → ⊥ = λ z. words_some v.0 (of_call j xs) v.1 z in
-          let low : i ≤ j = elim (cases_lt j i) [
-            | inl l ↦ absurd (some (sym part_is ∙ before_part pages j i q l))
-            | inr l ↦ l
-          ] in
-          let high : j < i + calls_in pages q = elim (cases_lt j (i + calls_in pages q)) [
-            | inl l ↦ l
-            | inr l ↦ absurd (some (sym part_is ∙ behind_part pages j i q l))
-          ] in
-          inr (record {
-            page = own_last e pages k j s ss behind h.last low high ∙ part_is ∙ sym tree_is;
-            shown = v.0;
-            words = subst (AreWords v.0) (sym tree_is) v.1;
-            shut = call_shut e.outer (at + length s.before) i j (expanded_page pages q).outer h.calls w.shut_calls low high;
-          })
-    ]
+    let some : of_call j xs ≡ [] → ⊥ = λ z. no_items j (of_call j xs) g z in
+    let low : i ≤ j = elim (cases_lt j i) [
+      | inl l ↦ absurd (some (sym part_is ∙ before_part pages j i q l))
+      | inr l ↦ l
+    ] in
+    let high : j < i + calls_in pages q = elim (cases_lt j (i + calls_in pages q)) [
+      | inl l ↦ l
+      | inr l ↦ absurd (some (sym part_is ∙ behind_part pages j i q l))
+    ] in (
+      own_last e pages k j s ss behind h.last low high ∙ part_is,
+      call_shut e.outer (at + length s.before) i j (expanded_page pages q).outer h.calls w.shut_calls low high,
+    )) (w.groups i)
+  where
+    no_items : (j : ℕ) (ys : List Item) → GivesSigns j ys → ys ≡ [] → ⊥
+    no_items j ys g z =
+        let first = some_items j ys g in
+        let no : first.0 ∷ first.1 ≡ [] = sym first.2 ∙ z in cc
 
-words_whole : (e : Expanded) (pages : Pages) (k at n : ℕ) (s : BlockSpot) (ss : List BlockSpot) (behind : List ℕ) → IsBlockHere e pages k at s ss behind
-    → HoldsWords pages s.block s.text → IsWhole e (settled n (at + length s.before) (node_here e pages k s))
-words_whole e pages k at n s ss behind h w =
+groups_whole : (e : Expanded) (pages : Pages) (k at n : ℕ) (s : BlockSpot) (ss : List BlockSpot) (behind : List ℕ) → IsBlockHere e pages k at s ss behind
+    → HoldsGroups pages s.block s.text → IsWhole e (settled n (at + length s.before) (node_here e pages k s))
+groups_whole e pages k at n s ss behind h w =
     let i : ℕ = calls_to pages k s in
     let start : ℕ = at + length s.before in
     let xs : List Item = part_items pages i s.text in
@@ -317,7 +280,7 @@ words_whole e pages k at n s ss behind h w =
     let placed : AtPlaces e.outer start None (tree_items (tree_round s.block xs)) =
     from_opened e.outer start None (tree_items (tree_round s.block xs)) h.tree_ones
     (subst (AtPlaces e.outer start None) (sym (tree_opened s.block xs (content.is i))) (to_opened e.outer start None (items_round s.block xs) ones part)) in
-    tree_whole e start n s.block xs h.holds (w.texts i) placed (given_here e pages k at s ss behind h w) (w.shut i) h.placed h.ones
+    tree_whole e start n s.block xs h.holds (w.parts i) placed (block_groups e pages k at s ss behind h w) (w.shut i) h.placed h.ones
 
 -- ---- one that calls nothing
 
@@ -363,7 +326,7 @@ whole_from e pages k at (s ∷ ss) behind c h g o b l p r w =
     } in (
       λ n. elim w.0 [
         | inl x ↦ calm_whole e pages k n (at + length s.before) s x.0 x.1
-        | inr x ↦ words_whole e pages k at n s ss behind own x
+        | inr x ↦ groups_whole e pages k at n s ss behind own x
       ],
       whole_from e pages (calls_past pages k s) ((at + length s.before) + length (source_of s.block s.text)) ss behind c.1
           (hold_moved (tree_with_calls pages k (s ∷ ss)) (counted ss) h.1) (ones_moved (tree_with_calls pages k (s ∷ ss)) (counted ss) g.1) o.1 b.1

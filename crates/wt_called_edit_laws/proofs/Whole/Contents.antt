@@ -1,18 +1,18 @@
--- What is written for texts beside calls that give words can be read by itself.
-use Rattle.std.proofs.Common.{arith, ◌≡◌, ◌⊎◌, inl, inr, ℕ, suc, ◌+◌, ◌<◌, ◌==◌, Bool, true, false, Option, None, Some, List, [], ◌∷◌, ◌++◌, length, map, refl, sym, ap, ap₂, ◌∙◌, subst, append-nil}
-use Rattle.std.specs.Prelude.{slice_get, encode_utf8}
+-- What is written for texts beside calls can be read by itself.
+use Rattle.std.proofs.Common.{arith, ◌≡◌, inl, inr, ℕ, suc, ◌+◌, ◌<◌, ◌≤◌, ◌==◌, Bool, true, false, Option, None, Some, List, [], ◌∷◌, ◌++◌, length, map, refl, sym, ap, ap₂, ◌∙◌, subst, append-nil}
+use Rattle.std.specs.Prelude.{◌&&◌, slice_get, encode_utf8}
+use Rattle.std.specs.List.{list_all}
 use Rattle.std.specs.Fmt.{digits}
 use Rattle.std.proofs.lemmas.Bool.{cases_lt}
-use Rattle.std.proofs.lemmas.Bool.Decides.{nat_tests, Decides-eqb}
+use Rattle.std.proofs.lemmas.Bool.Decides.{nat_tests}
 use Rattle.wt_tree.specs.declared.kind.Kind.TheVariants as kind
 use Rattle.wt_tree.specs.Tiling.{HasNoGroup}
 use Rattle.wt_span.specs.declared.form.ItemForm.TheVariants as form
-use Rattle.wt_span.specs.Items.{Item, char, whole, sources}
+use Rattle.wt_span.specs.Items.{Item, char, whole}
 use Rattle.wt_span.specs.Cuts.{source_of_call}
 use Rattle.wt_span.specs.Origins.{OuterCall, same_call}
-use Rattle.wt_guards.specs.declared.role.Role.{Role}
-use Rattle.wt_guards.specs.declared.role.Role.TheVariants.{Link, External, Bare, Switch, Toggle, Mark, Group, Function, Node}
-use Rattle.wt_guards.specs.Content.{ContentSign, Thing, letter, thing, is_group}
+use Rattle.wt_guards.specs.declared.role.Transclusion.{Transclusion}
+use Rattle.wt_guards.specs.Content.{ContentSign, Thing, letter, thing}
 use Rattle.wt_guards.specs.Guards.{Setting, nowiki, is_guarded, spelled}
 use Rattle.wt_guards.specs.Letters.{is_escaped, reference}
 use Rattle.wt_guards.proofs.Escapes.{is_escapable, escapable, each_escapable}
@@ -21,58 +21,46 @@ use Rattle.wt_expand.specs.Work.{Pages}
 use Rattle.wt_expand.proofs.PiecePlaces.{AllFrom}
 use Rattle.wt_lines.specs.Lines.{lines}
 use Rattle.wt_inline.specs.declared.loose.Loose.TheVariants.{Text, Sep}
-use Rattle.wt_inline.specs.ItemTree.{plain, ItemTree, inner, nothing}
-use Rattle.wt_inline.specs.Parts.{Part, loose, node, parts, nowiki as nowiki_tree}
+use Rattle.wt_inline.specs.ItemTree.{plain, ItemTree, inner, nothing, tree_items}
+use Rattle.wt_inline.specs.Parts.{Part, loose, node, held_parts, children, parts, nowiki as nowiki_tree}
+use Rattle.wt_inline.proofs.HeldLaws.{held_append}
 use Rattle.wt_context.specs.Line.{line_parts}
+use Rattle.wt_annotated.specs.Clean.{is_no_call, is_page}
 use Rattle.wt_annotated.specs.Labels.{label_at}
 use Rattle.wt_annotated.specs.Seams.{text_from}
 use Rattle.wt_isolation.specs.OpenTags.{ends_open, node_ends_open}
-use Rattle.wt_part_laws.specs.CallTexts.{AreOwnOrTexts}
+use Rattle.wt_part_laws.specs.CallPieces.{AreItemsOf, IsOfCall, AreOwnOrGiven, call_pieces}
 use Rattle.wt_part_laws.specs.Expanded.{part_items, calls_in}
 use Rattle.wt_part_laws.specs.MovedCalls.{IsMoved, AreMoved}
 use Rattle.wt_part_laws.specs.Standing.{standing}
 use Rattle.wt_text_edit_laws.specs.LonePages.{page_chars}
 use Rattle.wt_text_edit_laws.specs.ParagraphParts.{joined_parts}
 use Rattle.wt_text_edit_laws.specs.TextBlocks.{a_paragraph}
-use Rattle.wt_beside_laws.specs.Called.{items_with, owns_in, parts_with, BeginsWord, AreWords, shown_signs, GivesWords, StaysAsItIs, IsOfFolder, AreOfFolder, IsCalledIn}
+use Rattle.wt_beside_laws.specs.Called.{items_with, owns_in, parts_with, GivesGroup, ArePageParts, StaysAsItIs, IsOfFolder, AreOfFolder, IsCalledIn}
 use Rattle.wt_beside_laws.specs.Content.{guard_items, letter_items}
+use Rattle.wt_beside_laws.specs.Given.{AreGivenBy, GivesSigns}
 use Rattle.wt_beside_laws.proofs.LineShown.{guard_tree}
-use Rattle.wt_beside_laws.proofs.Groups.CalledBlocks.{parts_own}
+use Rattle.wt_beside_laws.proofs.Groups.CalledBlocks.{guard_parts, letter_parts, parts_own}
 use Rattle.wt_beside_laws.proofs.Groups.CalledParagraphs.{called_parts}
-use Rattle.wt_beside_laws.proofs.Groups.CalledParts.{words_alone}
-use Rattle.wt_beside_laws.proofs.Groups.Folders.{called_in, items_in}
-use Rattle.wt_beside_laws.proofs.Groups.Words.{call_chars}
-use Rattle.wt_called_edit_laws.specs.PageThings.{shown_thing}
-use Rattle.wt_called_edit_laws.specs.WholeContents.{of_call, NoneOrWords, AreShutParts, AreShutCalls, IsShut, AreShut, HoldsWords, IsWholeIn}
+use Rattle.wt_beside_laws.proofs.Groups.Folders.{folder_case, all_inside, called_in}
+use Rattle.wt_called_edit_laws.specs.WholeContents.{of_call, AreGroups, IsShutNode, AreShutParts, AreShutCalls, IsShut, AreShut, HoldsGroups, IsWholeIn}
 use Rattle.wt_called_edit_laws.specs.Written.{written_calls}
 use Rattle.wt_called_edit_laws.specs.WrittenAnew.{IsWrittenBeside}
 use Rattle.wt_called_edit_laws.specs.PartTexts.{AreSourcesAt}
 use Rattle.wt_called_edit_laws.proofs.PartTexts.{OwnPage, own_page, call_text, part_text}
-use Rattle.wt_called_edit_laws.proofs.Whole.OfCall.{is_same, of_before, of_here, of_past, of_append, of_own, before_part, behind_part}
+use Rattle.wt_called_edit_laws.proofs.Whole.GroupsAlone.{past_first, groups_call, groups_page}
+use Rattle.wt_called_edit_laws.proofs.Whole.OfCall.{is_same, of_before, of_here, of_past, of_append, of_own, of_page, of_same, before_part, behind_part}
+use Rattle.wt_called_edit_laws.proofs.Whole.Pieces.{some_items}
 use Rattle.wt_called_edit_laws.proofs.Written.Held.{written_gives}
 use Rattle.wt_called_edit_laws.proofs.Written.Signs.{content_written}
 
--- ---- a node of a content
-
--- It is what it is by itself, or gives words.
-node_case : (r : Role) (pages : Pages) (t : Thing) → IsOfFolder r pages t → (StaysAsItIs pages t × (is_group r ≡ false)) ⊎ GivesWords pages t.source
-node_case Link pages t h = inl (h, refl)
-node_case External pages t h = inl (h, refl)
-node_case (Bare ends) pages t h = inl (h, refl)
-node_case Switch pages t h = inl (h, refl)
-node_case Toggle pages t h = inl (h, refl)
-node_case (Mark ends began) pages t h = inl (h, refl)
-node_case (Group g) pages t h = inr h
-node_case Function pages t h = inl (h, refl)
-node_case Node pages t h = inl (h, refl)
-
 -- ---- no node ends in an open tag
 
-shut_both : (ps qs : List Part) → AreShutParts ps → AreShutParts qs → AreShutParts (ps ++ qs)
+pub shut_both : (ps qs : List Part) → AreShutParts ps → AreShutParts qs → AreShutParts (ps ++ qs)
 shut_both [] qs h k = k
 shut_both (loose Text o b ∷ ps) qs h g = shut_both ps qs h g
 shut_both (loose Sep o b ∷ ps) qs h g = absurd h
-shut_both (node t ∷ ps) qs h k = (h.0, h.1, shut_both ps qs h.2 k)
+shut_both (node t ∷ ps) qs h k = (h.0, shut_both ps qs h.1 k)
 
 chars_shut : (o : Option ℕ) (bs : List ℕ) → AreShutParts (parts Text (map (char o) bs))
 chars_shut o [] = tt
@@ -86,7 +74,7 @@ unfolding label_at nowiki
 plain_guard = (refl, (refl, tt))
 
 guard_shut : (u : Bool) → AreShutParts (parts Text (guard_items u))
-guard_shut true = let h : IsShutTree (nowiki_tree None nowiki) = subst IsShutTree (sym guard_tree) plain_guard in (h.0, h.1, tt)
+guard_shut true = let h : IsShutTree (nowiki_tree None nowiki) = subst IsShutTree (sym guard_tree) plain_guard in ((λ e. h), tt)
 guard_shut false = tt
 
 reference_shut : (c : ℕ) → is_escapable c ≡ true → ends_open (reference c) ≡ false
@@ -95,37 +83,47 @@ reference_shut c e = each_escapable (λ k. ends_open (reference k) ≡ false) re
 
 letter_shut : (e : Bool) (c : ℕ) → (e ≡ true → is_escapable c ≡ true) → AreShutParts (parts Text (letter_items e c))
 unfolding label_at
-letter_shut true c h = (ap ends_open (append-nil (reference c)) ∙ reference_shut c (h refl), (refl, tt), tt)
+letter_shut true c h = ((λ e. (ap ends_open (append-nil (reference c)) ∙ reference_shut c (h refl), (refl, tt))), tt)
 letter_shut false c h = chars_shut None (encode_utf8 c)
 
+-- nodes of a call are none of the page
+pub call_shut_parts : (j : ℕ) (ps : List Part) → AreGivenBy j ps → AreShutParts ps
+call_shut_parts j [] h = tt
+call_shut_parts j (loose Text o b ∷ ps) h = call_shut_parts j ps h.1
+call_shut_parts j (loose Sep o b ∷ ps) h = absurd h
+call_shut_parts j (node t ∷ ps) h = (not_page j t h.0, call_shut_parts j ps h.1)
+  where
+    not_page : (j : ℕ) (t : ItemTree) → IsOfCall j t → IsShutNode t
+    not_page j t k = λ e.
+        let of_page : list_all is_page (k.first ∷ k.others) ≡ true = ap (list_all is_page) (sym k.is) ∙ e in
+        let first : is_page k.first ≡ false = ap is_no_call k.of_call.0 in
+        let none : list_all is_page (k.first ∷ k.others) ≡ false = ap (λ (v : Bool). v && list_all is_page k.others) first in
+        let no : false ≡ true = sym none ∙ of_page in absurd (cc)
+
 own_shut : (pages : Pages) (i : ℕ) (t : Thing) → IsOfFolder t.role pages t → IsShut t → AreShutParts (line_parts (numbered i (page_stretches pages t.source)))
-own_shut pages i t h s = elim (node_case t.role pages t h) [
-  | inl k ↦ let stays = k.0 in subst (λ (xs : List Item). AreShutParts (line_parts xs)) (sym (stays.items i)) (s.1 k.1)
-  | inr k ↦
-      let shown : List ℕ = sources (expanded_page pages t.source).items in
-      subst (λ (xs : List Item). AreShutParts (line_parts xs)) (sym (k.items i))
-      (subst AreShutParts (sym (words_alone i shown k.words k.begins)) (chars_shut (Some i) shown))
+own_shut pages i t h s = elim (folder_case t.role pages t h) [
+  | inl k ↦
+      let stays : StaysAsItIs pages t = k.0 in
+      subst (λ (xs : List Item). AreShutParts (line_parts xs)) (sym (stays.items i)) (s.1 k.1)
+  | inr k ↦ let group = k.2 i in let gives = group.gives in call_shut_parts i (line_parts (numbered i (page_stretches pages t.source))) gives.inside
 ]
 
 pub parts_shut : (pages : Pages) (i : ℕ) (s : Setting) (before signs : List ContentSign) → AreOfFolder pages signs → AreShut signs
-    → AreShutParts (parts_with s before (shown_signs pages signs) (owns_in pages i signs))
+    → AreShutParts (parts_with s before signs (owns_in pages i signs))
 parts_shut pages i s before [] h g = guard_shut (is_guarded s before [])
 parts_shut pages i s before (letter c ∷ after) h g =
-    let rest : List ContentSign = shown_signs pages after in
-    let e : Bool = is_escaped s.within s.place before c rest in
-    let u : Bool = is_guarded s before (letter c ∷ rest) in
-    let more : List Part = parts_with s (letter c ∷ before) rest (owns_in pages i after) in
+    let e : Bool = is_escaped s.within s.place before c after in
+    let u : Bool = is_guarded s before (letter c ∷ after) in
+    let more : List Part = parts_with s (letter c ∷ before) after (owns_in pages i after) in
     shut_both (parts Text (guard_items u)) (parts Text (letter_items e c) ++ more) (guard_shut u)
-    (shut_both (parts Text (letter_items e c)) more (letter_shut e c (λ x. escapable s.within s.place before c rest x)) (parts_shut pages i s (letter c ∷ before) after h g))
+    (shut_both (parts Text (letter_items e c)) more (letter_shut e c (λ x. escapable s.within s.place before c after x)) (parts_shut pages i s (letter c ∷ before) after h g))
 parts_shut pages i s before (thing t ∷ after) h g =
-    let rest : List ContentSign = shown_signs pages after in
-    let x : ContentSign = thing (shown_thing pages t) in
-    let own : List Item = numbered i (page_stretches pages t.source) in
-    let u : Bool = is_guarded s before (x ∷ rest) in
+    let xs : List Item = numbered i (page_stretches pages t.source) in
+    let u : Bool = is_guarded s before (thing t ∷ after) in
     let next : ℕ = i + length (expanded_page pages t.source).outer in
-    let more : List Part = parts_with s (x ∷ before) rest (owns_in pages next after) in
-    shut_both (parts Text (guard_items u)) (line_parts own ++ more) (guard_shut u)
-    (shut_both (line_parts own) more (own_shut pages i t h.0 g.0) (parts_shut pages next s (x ∷ before) after h.1 g.1))
+    let more : List Part = parts_with s (thing t ∷ before) after (owns_in pages next after) in
+    shut_both (parts Text (guard_items u)) (line_parts xs ++ more) (guard_shut u)
+    (shut_both (line_parts xs) more (own_shut pages i t h.0 g.0) (parts_shut pages next s (thing t ∷ before) after h.1 g.1))
 
 -- ---- what each call gives
 
@@ -166,81 +164,155 @@ stays_none pages i j t h =
     let later : j < suc j = omega arith in
     ap (of_call j) (h.items i ∙ sym (h.items (suc j))) ∙ before_part pages j (suc j) t.source later
 
-chars_here : (i j : ℕ) (bs : List ℕ) → (i == j) ≡ true → of_call j (call_chars i bs) ≡ call_chars i bs
-chars_here i j [] e = refl
-chars_here i j (b ∷ bs) e = of_here j (char (Some i) b) (call_chars i bs) e ∙ ap (λ (zs : List Item). char (Some i) b ∷ zs) (chars_here i j bs e)
+-- what a call gives comes from no other one
+other_items : (i j : ℕ) (xs : List Item) → (i == j) ≡ false → AreItemsOf i xs → of_call j xs ≡ []
+other_items i j [] e h = refl
+other_items i j (x ∷ xs) e h = of_past j x xs (ap (λ (o : Option ℕ). same_call o (Some j)) h.0 ∙ e) ∙ other_items i j xs e h.1
 
-chars_past : (i j : ℕ) (bs : List ℕ) → (i == j) ≡ false → of_call j (call_chars i bs) ≡ []
-chars_past i j [] e = refl
-chars_past i j (b ∷ bs) e = of_past j (char (Some i) b) (call_chars i bs) e ∙ chars_past i j bs e
-
-words_nonempty : (i : ℕ) (shown : List ℕ) → BeginsWord shown → call_chars i shown ≡ [] → ⊥
-words_nonempty i [] v e = v
-words_nonempty i (b ∷ bs) v e = cc
-
--- a call that gives words is one call at least
-pub has_call : (pages : Pages) (i : ℕ) (source : List ℕ) → GivesWords pages source → 0 < calls_in pages source
-has_call pages i source h = elim (cases_lt 0 (calls_in pages source)) [
+-- a call that gives a group is one call at least
+pub has_call : (pages : Pages) (i : ℕ) (g : Transclusion) (source : List ℕ) → GivesGroup pages g source → 0 < calls_in pages source
+has_call pages i g source h = elim (cases_lt 0 (calls_in pages source)) [
   | inl l ↦ l
   | inr l ↦
-      let shown : List ℕ = sources (expanded_page pages source).items in
-      let all : of_call i (part_items pages i source) ≡ call_chars i shown =
-      ap (of_call i) (h.items i) ∙ chars_here i i shown ((Decides-eqb i i).1 refl) in
+      let group = h i in
+      let gives : GivesSigns i (part_items pages i source) = group.gives in
+      let some = some_items i (part_items pages i source) gives in
+      let all : of_call i (part_items pages i source) ≡ part_items pages i source = of_same i (part_items pages i source) gives.of_call in
       let none : of_call i (part_items pages i source) ≡ [] = behind_part pages i i source (omega (arith, l)) in
-      absurd (words_nonempty i shown h.begins (sym all ∙ none))
+      let no : some.0 ∷ some.1 ≡ [] = sym some.2 ∙ sym all ∙ none in absurd (cc)
 ]
 
--- It is the first call of this source, and gives words.
-pub record IsNextCall (pages : Pages) (i j : ℕ) (source : List ℕ) : Type 0 where
-  pub less : j < i + calls_in pages source
-  pub shown : List ℕ
-  pub words : AreWords shown (of_call j (part_items pages i source))
+-- ---- among the parts no other call comes before its own
 
-pub thing_gives : (pages : Pages) (i j : ℕ) (t : Thing) → IsOfFolder t.role pages t
-    → (of_call j (part_items pages i t.source) ≡ []) ⊎ IsNextCall pages i j t.source
-thing_gives pages i j t h = elim (node_case t.role pages t h) [
-  | inl k ↦ inl (stays_none pages i j t k.0)
-  | inr k ↦ by_number (i == j) refl k (has_call pages i t.source k)
+page_none : (j : ℕ) (ps : List Part) → ArePageParts ps → of_call j (held_parts ps) ≡ []
+page_none j [] h = refl
+page_none j (loose Text o b ∷ ps) h =
+    of_past j (char o b) (held_parts ps) (ap (λ (x : Option ℕ). same_call x (Some j)) h.0) ∙ page_none j ps h.1
+page_none j (loose Sep o b ∷ ps) h = absurd h
+page_none j (node t ∷ ps) h =
+    let first = h.0 in
+    of_append j (tree_items t) (held_parts ps)
+    ∙ ap₂ (λ (us vs : List Item). us ++ vs) (of_page j (tree_items t) first.of_page) (page_none j ps h.1)
+
+other_parts : (i j : ℕ) (ps : List Part) → (i == j) ≡ false → AreGivenBy i ps → of_call j (held_parts ps) ≡ []
+other_parts i j [] e h = refl
+other_parts i j (loose Text o b ∷ ps) e h =
+    of_past j (char o b) (held_parts ps) (ap (λ (x : Option ℕ). same_call x (Some j)) h.0 ∙ e) ∙ other_parts i j ps e h.1
+other_parts i j (loose Sep o b ∷ ps) e h = absurd h
+other_parts i j (node t ∷ ps) e h =
+    let first : IsOfCall i t = h.0 in
+    of_append j (tree_items t) (held_parts ps)
+    ∙ ap₂ (λ (us vs : List Item). us ++ vs) (ap (of_call j) first.is ∙ other_items i j (first.first ∷ first.others) e first.of_call) (other_parts i j ps e h.1)
+
+later_call : (i j : ℕ) → j < i → (i == j) ≡ false
+later_call i j l = grind (arith, nat_tests)
+
+thing_none : (pages : Pages) (i j : ℕ) (t : Thing) → IsOfFolder t.role pages t → j < i → of_call j (held_parts (line_parts (part_items pages i t.source))) ≡ []
+thing_none pages i j t h l = elim (folder_case t.role pages t h) [
+  | inl k ↦
+      let stays : StaysAsItIs pages t = k.0 in
+      page_none j (line_parts (part_items pages i t.source)) (subst (λ (xs : List Item). ArePageParts (line_parts xs)) (sym (stays.items i)) stays.own)
+  | inr k ↦
+      let group = k.2 i in
+      let gives : GivesSigns i (part_items pages i t.source) = group.gives in
+      other_parts i j (line_parts (part_items pages i t.source)) (later_call i j l) gives.inside
 ]
-  where
-    by_number : (v : Bool) → (i == j) ≡ v → GivesWords pages t.source → 0 < calls_in pages t.source
-        → (of_call j (part_items pages i t.source) ≡ []) ⊎ IsNextCall pages i j t.source
-    by_number true e k some =
-        let words : List ℕ = sources (expanded_page pages t.source).items in
-        let same : i ≡ j = (Decides-eqb i j).0 e in
-        let less : j < i + calls_in pages t.source = omega (arith, same, some) in
-        inr (record {
-          less = less;
-          shown = words;
-          words = record { call = i; is = ap (of_call j) (k.items i) ∙ chars_here i j words e; words = k.words; begins = k.begins };
-        })
-    by_number false e k some = inl (ap (of_call j) (k.items i) ∙ chars_past i j (sources (expanded_page pages t.source).items) e)
 
-pub words_here : (pages : Pages) (i j : ℕ) (s : Setting) (before signs : List ContentSign) → AreOfFolder pages signs
-    → NoneOrWords (of_call j (items_with s before signs (owns_in pages i signs)))
-words_here pages i j s before [] h = inl (guard_none j (is_guarded s before []))
-words_here pages i j s before (letter c ∷ after) h =
+three_none : (j : ℕ) (ps qs rs : List Part) → of_call j (held_parts ps) ≡ [] → of_call j (held_parts qs) ≡ [] → of_call j (held_parts rs) ≡ []
+    → of_call j (held_parts (ps ++ (qs ++ rs))) ≡ []
+three_none j ps qs rs e f g =
+    ap (of_call j) (held_append ps (qs ++ rs)) ∙ of_append j (held_parts ps) (held_parts (qs ++ rs))
+    ∙ ap₂ (λ (us vs : List Item). us ++ vs) e
+    (ap (of_call j) (held_append qs rs) ∙ of_append j (held_parts qs) (held_parts rs) ∙ ap₂ (λ (us vs : List Item). us ++ vs) f g)
+
+later_none : (pages : Pages) (i j : ℕ) (s : Setting) (before signs : List ContentSign) → AreOfFolder pages signs → j < i
+    → of_call j (held_parts (parts_with s before signs (owns_in pages i signs))) ≡ []
+later_none pages i j s before [] h l = page_none j (parts Text (guard_items (is_guarded s before []))) (guard_parts (is_guarded s before []))
+later_none pages i j s before (letter c ∷ after) h l =
     let e : Bool = is_escaped s.within s.place before c after in
     let u : Bool = is_guarded s before (letter c ∷ after) in
-    let rest : List Item = items_with s (letter c ∷ before) after (owns_in pages i after) in
-    subst NoneOrWords
-    (sym (past_both j (guard_items u) (letter_items e c) rest (guard_none j u) ∙ ap (λ (us : List Item). us ++ of_call j rest) (letter_none j e c)))
-    (words_here pages i j s (letter c ∷ before) after h)
-words_here pages i j s before (thing t ∷ after) h =
+    three_none j (parts Text (guard_items u)) (parts Text (letter_items e c)) (parts_with s (letter c ∷ before) after (owns_in pages i after))
+    (page_none j (parts Text (guard_items u)) (guard_parts u)) (page_none j (parts Text (letter_items e c)) (letter_parts e c))
+    (later_none pages i j s (letter c ∷ before) after h l)
+later_none pages i j s before (thing t ∷ after) h l =
     let u : Bool = is_guarded s before (thing t ∷ after) in
-    let own : List Item = numbered i (page_stretches pages t.source) in
     let next : ℕ = i + length (expanded_page pages t.source).outer in
+    three_none j (parts Text (guard_items u)) (line_parts (part_items pages i t.source)) (parts_with s (thing t ∷ before) after (owns_in pages next after))
+    (page_none j (parts Text (guard_items u)) (guard_parts u)) (thing_none pages i j t h.0 l)
+    (later_none pages next j s (thing t ∷ before) after h.1 (omega (arith, l)))
+
+-- ---- what each call gives is a group by itself
+
+-- from this call on, all items are those of these signs
+abbrev AreLastOf : List Item → ℕ → List Item → Type 0
+AreLastOf all i xs = (j : ℕ) → i ≤ j → of_call j all ≡ of_call j xs
+
+last_thing : (pages : Pages) (all : List Item) (i : ℕ) (t : Thing) (u : Bool) (rest : List Item) → AreLastOf all i (guard_items u ++ (part_items pages i t.source ++ rest))
+    → AreLastOf all (i + calls_in pages t.source) rest
+last_thing pages all i t u rest f = λ j l.
+    f j (omega (arith, l))
+    ∙ past_both j (guard_items u) (part_items pages i t.source) rest (guard_none j u)
+    ∙ ap (λ (us : List Item). us ++ of_call j rest) (behind_part pages j i t.source l)
+
+group_here : (pages : Pages) (all : List Item) (i : ℕ) (s : Setting) (t : Thing) (g : Transclusion) (before after : List ContentSign) → GivesGroup pages g t.source
+    → AreOfFolder pages after
+    → AreLastOf all i (guard_items (is_guarded s before (thing t ∷ after)) ++ (part_items pages i t.source ++ items_with s (thing t ∷ before) after (owns_in pages (i + calls_in pages t.source) after)))
+    → AreGroups all (call_pieces (children (parts_with s (thing t ∷ before) after (owns_in pages (i + calls_in pages t.source) after))))
+    → AreGroups all (call_pieces (children (line_parts (part_items pages i t.source) ++ parts_with s (thing t ∷ before) after (owns_in pages (i + calls_in pages t.source) after))))
+group_here pages all i s t g before after h k f later =
+    let xs : List Item = part_items pages i t.source in
+    let next : ℕ = i + calls_in pages t.source in
     let rest : List Item = items_with s (thing t ∷ before) after (owns_in pages next after) in
-    let both : of_call j (guard_items u ++ (own ++ rest)) ≡ of_call j own ++ of_call j rest = past_both j (guard_items u) own rest (guard_none j u) in
-    let later : NoneOrWords (of_call j rest) = words_here pages next j s (thing t ∷ before) after h.1 in
-    elim (thing_gives pages i j t h.0) [
-      | inl k ↦ subst NoneOrWords (sym (both ∙ ap (λ (us : List Item). us ++ of_call j rest) k)) later
-      | inr k ↦
-          let none : of_call j rest ≡ [] = all_before pages next j s (thing t ∷ before) after k.less in
-          let is : of_call j (guard_items u ++ (own ++ rest)) ≡ of_call j own =
-          both ∙ ap (λ (us : List Item). of_call j own ++ us) none ∙ append-nil (of_call j own) in
-          inr (k.shown, subst (AreWords k.shown) (sym is) k.words)
-    ]
+    let more : List Part = parts_with s (thing t ∷ before) after (owns_in pages next after) in
+    let u : Bool = is_guarded s before (thing t ∷ after) in
+    let group = h i in
+    let gives : GivesSigns i xs = group.gives in
+    let some : 0 < calls_in pages t.source = has_call pages i g t.source h in
+    let less : i < next = omega (arith, some) in
+    let is : of_call i all ≡ xs =
+    f i (omega arith)
+    ∙ past_both i (guard_items u) xs rest (guard_none i u)
+    ∙ ap₂ (λ (us vs : List Item). us ++ vs) (of_same i xs gives.of_call) (all_before pages next i s (thing t ∷ before) after less)
+    ∙ append-nil xs in
+    subst (λ (ys : List Item). AreGroups all (call_pieces (children (line_parts ys ++ more)))) is
+    (groups_call all i more (subst (λ (ys : List Item). AreGivenBy i (line_parts ys)) (sym is) gives.inside) (subst (GivesSigns i) (sym is) gives)
+    (parts_own s (thing t ∷ before) after (owns_in pages next after) (all_inside pages next after k))
+    (past_first i (held_parts more) (later_none pages next i s (thing t ∷ before) after k less)) later)
+
+no_groups : (xs : List Item) → AreGroups xs (call_pieces (children []))
+unfolding children
+no_groups xs = tt
+
+pub groups_from : (pages : Pages) (all : List Item) (i : ℕ) (s : Setting) (before signs : List ContentSign) → AreOfFolder pages signs
+    → AreLastOf all i (items_with s before signs (owns_in pages i signs)) → AreGroups all (call_pieces (children (parts_with s before signs (owns_in pages i signs))))
+groups_from pages all i s before [] h f =
+    let ps : List Part = parts Text (guard_items (is_guarded s before [])) in
+    subst (λ (qs : List Part). AreGroups all (call_pieces (children qs))) (append-nil ps)
+    (groups_page all ps [] (guard_parts (is_guarded s before [])) (no_groups all))
+groups_from pages all i s before (letter c ∷ after) h f =
+    let e : Bool = is_escaped s.within s.place before c after in
+    let u : Bool = is_guarded s before (letter c ∷ after) in
+    let more : List Part = parts_with s (letter c ∷ before) after (owns_in pages i after) in
+    let rest : List Item = items_with s (letter c ∷ before) after (owns_in pages i after) in
+    groups_page all (parts Text (guard_items u)) (parts Text (letter_items e c) ++ more) (guard_parts u)
+    (groups_page all (parts Text (letter_items e c)) more (letter_parts e c)
+    (groups_from pages all i s (letter c ∷ before) after h (λ j l.
+    f j l ∙ past_both j (guard_items u) (letter_items e c) rest (guard_none j u) ∙ ap (λ (us : List Item). us ++ of_call j rest) (letter_none j e c))))
+groups_from pages all i s before (thing t ∷ after) h f =
+    let u : Bool = is_guarded s before (thing t ∷ after) in
+    let next : ℕ = i + calls_in pages t.source in
+    let more : List Part = parts_with s (thing t ∷ before) after (owns_in pages next after) in
+    let rest : List Item = items_with s (thing t ∷ before) after (owns_in pages next after) in
+    let later : AreGroups all (call_pieces (children more)) =
+    groups_from pages all next s (thing t ∷ before) after h.1 (last_thing pages all i t u rest f) in
+    groups_page all (parts Text (guard_items u)) (line_parts (part_items pages i t.source) ++ more) (guard_parts u)
+    (elim (folder_case t.role pages t h.0) [
+      | inl k ↦
+          let stays : StaysAsItIs pages t = k.0 in
+          groups_page all (line_parts (part_items pages i t.source)) more
+          (subst (λ (xs : List Item). ArePageParts (line_parts xs)) (sym (stays.items i)) stays.own) later
+      | inr k ↦ group_here pages all i s t k.0 before after k.2 h.1 f later
+    ])
 
 -- ---- the calls of a node
 
@@ -299,67 +371,57 @@ one_given k (outer c xs ∷ ss) h f =
     apart k j l = grind (arith, nat_tests)
 one_given k (text_call s ∷ ss) h f = one_given k ss h f
 
-chars_from : (i : ℕ) (bs : List ℕ) → AllFrom (Some i) (call_chars i bs)
-chars_from i [] = tt
-chars_from i (b ∷ bs) = (refl, chars_from i bs)
+from_call_items : (k : ℕ) (xs : List Item) → AreItemsOf k xs → AllFrom (Some k) xs
+from_call_items k [] h = tt
+from_call_items k (x ∷ xs) h = (h.0, from_call_items k xs h.1)
 
 own_sources : (calls : List OuterCall) (cs : List OuterCall) → calls ≡ cs → AreOne cs → AreSourcesAt calls 0 cs
 own_sources calls [] e h = tt
 own_sources calls (c ∷ []) e h = (ap (λ (ds : List OuterCall). source_of_call (slice_get ds 0)) e, tt)
 own_sources calls (c ∷ d ∷ cs) e h = absurd h
 
-one_source : (bs : List ℕ) (shown : List ℕ) (calls : List OuterCall) → BeginsWord shown → AreOne calls → text_from calls None (call_chars 0 shown) ≡ bs
-    → ends_open bs ≡ false → AreShutCalls calls
-one_source bs shown [] v h e f = tt
-one_source bs [] (c ∷ []) v h e f = absurd v
-one_source bs (b ∷ shown) (c ∷ []) v h e f =
-    let text : text_from (c ∷ []) None (call_chars 0 (b ∷ shown)) ≡ c.source = call_text (c ∷ []) None 0 (char (Some 0) b) (call_chars 0 shown) tt (chars_from 0 (b ∷ shown)) in
-    (ap ends_open (sym text ∙ e) ∙ f, tt)
-one_source bs shown (c ∷ d ∷ cs) v h e f = absurd h
-
 stays_calls : (pages : Pages) (t : Thing) → StaysAsItIs pages t → (expanded_page pages t.source).outer ≡ []
 unfolding expanded_page
 stays_calls pages t h = none_given 0 (page_stretches pages t.source) (own_page pages t.source) (λ j. stays_none pages 0 j t h)
 
-words_one : (pages : Pages) (source : List ℕ) → GivesWords pages source → AreOne (expanded_page pages source).outer
+group_one : (pages : Pages) (g : Transclusion) (source : List ℕ) → GivesGroup pages g source → AreOne (expanded_page pages source).outer
 unfolding expanded_page
-words_one pages source h =
-    one_given 0 (page_stretches pages source) (own_page pages source)
-    (subst (AllFrom (Some 0)) (sym (h.items 0)) (chars_from 0 (sources (expanded_page pages source).items)))
+group_one pages g source h =
+    let group = h 0 in
+    let gives : GivesSigns 0 (part_items pages 0 source) = group.gives in
+    one_given 0 (page_stretches pages source) (own_page pages source) (from_call_items 0 (part_items pages 0 source) gives.of_call)
 
--- a call that gives words is one, and it is this source
+-- a call that gives a group is one, and it is this source
 pub record IsOneCall (calls : List OuterCall) (source : List ℕ) : Type 0 where
   pub call : OuterCall
   pub is : calls ≡ call ∷ []
   pub of_source : call.source ≡ source
 
-one_call : (bs : List ℕ) (shown : List ℕ) (calls : List OuterCall) → BeginsWord shown → AreOne calls → 0 < length calls
-    → text_from calls None (call_chars 0 shown) ≡ bs → IsOneCall calls bs
-one_call bs shown [] v h n e = absurd (omega (arith, n))
-one_call bs [] (c ∷ []) v h n e = absurd v
-one_call bs (b ∷ shown) (c ∷ []) v h n e =
-    let text : text_from (c ∷ []) None (call_chars 0 (b ∷ shown)) ≡ c.source = call_text (c ∷ []) None 0 (char (Some 0) b) (call_chars 0 shown) tt (chars_from 0 (b ∷ shown)) in
+one_call : (bs : List ℕ) (calls : List OuterCall) (x : Item) (xs : List Item) → AreOne calls → 0 < length calls → AreItemsOf 0 (x ∷ xs)
+    → text_from calls None (x ∷ xs) ≡ bs → IsOneCall calls bs
+one_call bs [] x xs h n k e = absurd (omega (arith, n))
+one_call bs (c ∷ []) x xs h n k e =
+    let text : text_from (c ∷ []) None (x ∷ xs) ≡ c.source = call_text (c ∷ []) None 0 x xs tt (from_call_items 0 (x ∷ xs) k) in
     record { call = c; is = refl; of_source = sym text ∙ e }
-one_call bs shown (c ∷ d ∷ cs) v h n e = absurd h
+one_call bs (c ∷ d ∷ cs) x xs h n k e = absurd h
 
-pub words_source : (pages : Pages) (source : List ℕ) → GivesWords pages source → IsOneCall (expanded_page pages source).outer source
-words_source pages source h =
+pub group_source : (pages : Pages) (g : Transclusion) (source : List ℕ) → GivesGroup pages g source → IsOneCall (expanded_page pages source).outer source
+group_source pages g source h =
     let calls : List OuterCall = (expanded_page pages source).outer in
-    let shown : List ℕ = sources (expanded_page pages source).items in
-    let one : AreOne calls = words_one pages source h in
-    one_call source shown calls h.begins one (has_call pages 0 source h)
-    (ap (text_from calls None) (sym (h.items 0)) ∙ part_text pages calls 0 source (own_sources calls calls refl one))
+    let xs : List Item = part_items pages 0 source in
+    let one : AreOne calls = group_one pages g source h in
+    let group = h 0 in
+    let gives : GivesSigns 0 xs = group.gives in
+    let some = some_items 0 xs gives in
+    one_call source calls some.0 some.1 one (has_call pages 0 g source h) (subst (AreItemsOf 0) some.2 gives.of_call)
+    (ap (text_from calls None) (sym some.2) ∙ part_text pages calls 0 source (own_sources calls calls refl one))
 
 pub thing_calls : (pages : Pages) (t : Thing) → IsOfFolder t.role pages t → ends_open t.source ≡ false → AreShutCalls (expanded_page pages t.source).outer
-thing_calls pages t h e = elim (node_case t.role pages t h) [
+thing_calls pages t h e = elim (folder_case t.role pages t h) [
   | inl k ↦ subst AreShutCalls (sym (stays_calls pages t k.0)) tt
   | inr k ↦
-      let calls : List OuterCall = (expanded_page pages t.source).outer in
-      let shown : List ℕ = sources (expanded_page pages t.source).items in
-      let one : AreOne calls = words_one pages t.source k in
-      let text : text_from calls None (call_chars 0 shown) ≡ t.source =
-      ap (text_from calls None) (sym (k.items 0)) ∙ part_text pages calls 0 t.source (own_sources calls calls refl one) in
-      one_source t.source shown calls k.begins one text e
+      let one = group_source pages k.0 t.source k.2 in
+      subst AreShutCalls (sym one.is) (ap ends_open one.of_source ∙ e, tt)
 ]
 
 pub calls_both : (cs ds : List OuterCall) → AreShutCalls cs → AreShutCalls ds → AreShutCalls (cs ++ ds)
@@ -384,23 +446,25 @@ moved_shut (c ∷ cs) (d ∷ ds) m h =
 
 -- ---- the content
 
-pub written_words : (pages : Pages) (s : Setting) (signs : List ContentSign) → IsWrittenBeside pages s signs → HoldsWords pages a_paragraph (spelled s signs)
-written_words pages s signs h =
+pub written_groups : (pages : Pages) (s : Setting) (signs : List ContentSign) → IsWrittenBeside pages s signs → HoldsGroups pages a_paragraph (spelled s signs)
+written_groups pages s signs h =
     let c : IsCalledIn pages s signs = h.called in
-    let shown : List ContentSign = shown_signs pages signs in
     let b = content_written pages s signs c.of_block h.read h.parts in
-    let given : (i : ℕ) → joined_parts (lines (part_items pages i (spelled s signs))) ≡ parts_with s [] shown (owns_in pages i signs) =
-    λ i.
-    ap (λ (xs : List Item). joined_parts (lines xs)) (written_gives pages i s signs c h.read h.parts ∙ items_in pages i s signs c)
-    ∙ called_parts s shown (owns_in pages i signs) (called_in pages i s signs c) in
+    let items : (i : ℕ) → part_items pages i (spelled s signs) ≡ items_with s [] signs (owns_in pages i signs) =
+    λ i. written_gives pages i s signs c h.read h.parts in
+    let given : (i : ℕ) → joined_parts (lines (part_items pages i (spelled s signs))) ≡ parts_with s [] signs (owns_in pages i signs) =
+    λ i. ap (λ (xs : List Item). joined_parts (lines xs)) (items i) ∙ called_parts s signs (owns_in pages i signs) (called_in pages i s signs c) in
     record {
-      texts = λ i.
+      parts = λ i.
           let own = called_in pages i s signs c in
-          subst AreOwnOrTexts (sym (given i)) (parts_own s [] shown (owns_in pages i signs) own.own);
-      words = λ i j. subst (λ (xs : List Item). NoneOrWords (of_call j xs)) (sym (written_gives pages i s signs c h.read h.parts)) (words_here pages i j s [] signs c.given);
+          subst AreOwnOrGiven (sym (given i)) (parts_own s [] signs (owns_in pages i signs) own.own);
+      groups = λ i.
+          subst (λ (ps : List Part). AreGroups (part_items pages i (spelled s signs)) (call_pieces (children ps))) (sym (given i))
+          (subst (λ (xs : List Item). AreGroups xs (call_pieces (children (parts_with s [] signs (owns_in pages i signs))))) (sym (items i))
+          (groups_from pages (items_with s [] signs (owns_in pages i signs)) i s [] signs c.given (λ j l. refl)));
       shut = λ i. subst AreShutParts (sym (given i)) (parts_shut pages i s [] signs c.given h.shut);
       shut_calls = moved_shut (written_calls pages signs) (expanded_page pages (spelled s signs)).outer b.calls_are (written_shut pages signs c.given h.shut);
     }
 
 pub written_whole : (pages : Pages) (s : Setting) (signs : List ContentSign) → IsWrittenBeside pages s signs → IsWholeIn pages a_paragraph (spelled s signs)
-written_whole pages s signs h = inr (written_words pages s signs h)
+written_whole pages s signs h = inr (written_groups pages s signs h)

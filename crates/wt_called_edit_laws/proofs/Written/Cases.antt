@@ -94,7 +94,7 @@ other_class = record {
   of_block = refl;
   characters = (refl, (refl, (refl, tt)));
   given = (gives_b, tt);
-  meet = (tt, (tt, (tt, (tt, tt))));
+  meet = λ i. ((λ e. tt), tt);
   some = tt;
 }
 

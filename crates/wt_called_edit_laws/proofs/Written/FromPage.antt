@@ -1,24 +1,23 @@
--- Whatever texts are typed beside the nodes of a paragraph of the page, calls that give words among them: it is a new content in its place.
-use Rattle.std.proofs.Common.{◌≡◌, ◌⊎◌, inl, inr, ℕ, true, false, List, [], ◌∷◌, refl, sym, ap, ◌∙◌, subst}
-use Rattle.wt_guards.specs.declared.role.Role.{Role}
-use Rattle.wt_guards.specs.declared.role.Role.TheVariants.{Link, External, Bare, Switch, Toggle, Mark, Group, Function, Node}
+-- Whatever texts are typed beside the nodes of a paragraph of the page, calls among them: it is a new content in its place.
+use Rattle.std.proofs.Common.{◌≡◌, inl, inr, ℕ, ◌+◌, false, List, [], ◌∷◌, length, map, refl, sym, ap, ◌∙◌, subst}
 use Rattle.wt_guards.specs.Content.{ContentSign, Thing, letter, thing, is_group}
 use Rattle.wt_guards.specs.Guards.{Setting, spelled}
 use Rattle.wt_expand.specs.PageCalls.{expanded_page}
 use Rattle.wt_expand.specs.Work.{Pages}
+use Rattle.wt_tiles.specs.Glyphs.{glyph_of}
+use Rattle.wt_part_laws.specs.Expanded.{part_items}
 use Rattle.wt_text_edit_laws.specs.TextBlocks.{a_paragraph}
-use Rattle.wt_beside_laws.specs.Called.{shown_source, shown_signs, StaysAsItIs, IsOfFolder, AreOfFolder, HasText}
+use Rattle.wt_beside_laws.specs.Called.{owns_in, AllMeetWith, StaysAsItIs, IsOfFolder, AreOfFolder, HasText}
 use Rattle.wt_beside_laws.specs.Cuts.{own_glyphs}
 use Rattle.wt_beside_laws.specs.FlatBlocks.{AreSealed}
 use Rattle.wt_beside_laws.specs.Lines.{AreCharacters}
 use Rattle.wt_beside_laws.specs.Nodes.{IsNode}
 use Rattle.wt_beside_laws.specs.Stood.{things}
-use Rattle.wt_beside_laws.proofs.Each.{Each}
-use Rattle.wt_beside_laws.proofs.Groups.Meet.{IsNodeOrGroup, all_beside}
-use Rattle.wt_beside_laws.proofs.PageNodes.{EachMeets}
+use Rattle.wt_beside_laws.proofs.Groups.Folders.{folder_case}
+use Rattle.wt_beside_laws.proofs.Groups.Meet.{IsNodeOrGroup, EachIsSuch, NextMeets, EachNextMeets, all_beside}
 use Rattle.wt_called_edit_laws.specs.CallingBlocks.{IsNewContentIn}
 use Rattle.wt_called_edit_laws.specs.InPieces.{pieces_source, AreInPieces}
-use Rattle.wt_called_edit_laws.specs.PageThings.{IsPageThing, shown_thing, MeetThere, MeetLater, ArePageThings, ThingsStay, thing_sources}
+use Rattle.wt_called_edit_laws.specs.PageThings.{IsPageThing, MeetThere, MeetLater, ArePageThings, ThingsStay, thing_sources}
 use Rattle.wt_called_edit_laws.specs.WholeContents.{AreShut}
 use Rattle.wt_called_edit_laws.specs.Written.{AreReadThings, AreOwnParts}
 use Rattle.wt_called_edit_laws.specs.WrittenAnew.{node_sources, AreUtf8, StayButForOthers, IsWrittenBeside}
@@ -76,44 +75,37 @@ of_utf8 pages [] h = tt
 of_utf8 pages (letter c ∷ after) h = of_utf8 pages after h
 of_utf8 pages (thing t ∷ after) h = (h.0.utf8, of_utf8 pages after h.2)
 
--- ---- side by side, as they show
+-- ---- side by side, by what they give
 
-role_case : (r : Role) (pages : Pages) (t : Thing) → IsOfFolder r pages t → (StaysAsItIs pages t × (shown_source r pages t.source ≡ t.source)) ⊎ (is_group r ≡ true)
-role_case Link pages t h = inl (h, refl)
-role_case External pages t h = inl (h, refl)
-role_case (Bare ends) pages t h = inl (h, refl)
-role_case Switch pages t h = inl (h, refl)
-role_case Toggle pages t h = inl (h, refl)
-role_case (Mark ends began) pages t h = inl (h, refl)
-role_case (Group g) pages t h = inr refl
-role_case Function pages t h = inl (h, refl)
-role_case Node pages t h = inl (h, refl)
+gives_so : (pages : Pages) (i : ℕ) (t : Thing) → IsOfFolder t.role pages t → IsNodeOrGroup t (map glyph_of (part_items pages i t.source))
+gives_so pages i t h = elim (folder_case t.role pages t h) [
+  | inl k ↦
+      let stays : StaysAsItIs pages t = k.0 in
+      let is : map glyph_of (part_items pages i t.source) ≡ own_glyphs t = ap (map glyph_of) (stays.items i) in
+      inl (subst (IsNode t.role) (sym is) stays.node, is)
+  | inr k ↦ inr (ap is_group k.1)
+]
 
-node_or_group : (pages : Pages) (t : Thing) → IsOfFolder t.role pages t → IsNodeOrGroup (shown_thing pages t)
-node_or_group pages t h = by (role_case t.role pages t h)
-  where
-    by : (StaysAsItIs pages t × (shown_source t.role pages t.source ≡ t.source)) ⊎ (is_group t.role ≡ true) → IsNodeOrGroup (shown_thing pages t)
-    by (inl k) = let own : IsNode t.role (own_glyphs t) = k.0.node in inl (subst (λ (q : List ℕ). IsNode t.role (own_glyphs (record t { source = q }))) (sym k.1) own)
-    by (inr g) = inr g
+each_so : (pages : Pages) (i : ℕ) (signs : List ContentSign) → ArePageThings pages (things signs) → EachIsSuch signs (owns_in pages i signs)
+each_so pages i [] h = tt
+each_so pages i (letter c ∷ after) h = each_so pages i after h
+each_so pages i (thing t ∷ after) h = (gives_so pages i t h.0.folder, each_so pages (i + length (expanded_page pages t.source).outer) after h.2)
 
-pub each_so : (pages : Pages) (signs : List ContentSign) → ArePageThings pages (things signs) → Each IsNodeOrGroup (things (shown_signs pages signs))
-each_so pages [] h = tt
-each_so pages (letter c ∷ after) h = each_so pages after h
-each_so pages (thing t ∷ after) h = (node_or_group pages t h.0.folder, each_so pages after h.2)
+next_so : (pages : Pages) (i j : ℕ) (t : Thing) (signs : List ContentSign) → MeetLater pages t (things signs)
+    → NextMeets t (map glyph_of (part_items pages i t.source)) signs (owns_in pages j signs)
+next_so pages i j t [] h = tt
+next_so pages i j t (letter c ∷ after) h = next_so pages i j t after h
+next_so pages i j t (thing n ∷ after) h = h.0 i j
 
-abbrev pub shown_things : Pages → List Thing → List Thing
-shown_things pages [] = []
-shown_things pages (t ∷ ts) = shown_thing pages t ∷ shown_things pages ts
+meets_so : (pages : Pages) (i : ℕ) (signs : List ContentSign) → ArePageThings pages (things signs) → EachNextMeets signs (owns_in pages i signs)
+meets_so pages i [] h = tt
+meets_so pages i (letter c ∷ after) h = meets_so pages i after h
+meets_so pages i (thing t ∷ after) h =
+    let next : ℕ = i + length (expanded_page pages t.source).outer in (next_so pages i next t after h.1, meets_so pages next after h.2)
 
-pub meets_so : (pages : Pages) (ts : List Thing) → ArePageThings pages ts → EachMeets (shown_things pages ts)
-meets_so pages [] h = tt
-meets_so pages (t ∷ []) h = tt
-meets_so pages (t ∷ n ∷ ts) h = let first : MeetThere pages t n = h.1.0 in (first, meets_so pages (n ∷ ts) h.2)
-
-pub things_shown : (pages : Pages) (signs : List ContentSign) → shown_things pages (things signs) ≡ things (shown_signs pages signs)
-things_shown pages [] = refl
-things_shown pages (letter c ∷ after) = things_shown pages after
-things_shown pages (thing t ∷ after) = ap (λ (ts : List Thing). shown_thing pages t ∷ ts) (things_shown pages after)
+pub all_meet_so : (pages : Pages) (i : ℕ) (s : Setting) (signs : List ContentSign) → ArePageThings pages (things signs)
+    → AllMeetWith s [] [] signs (owns_in pages i signs)
+all_meet_so pages i s signs h = all_beside s [] [] signs (owns_in pages i signs) tt (each_so pages i signs h) (meets_so pages i signs h)
 
 -- ---- so it is such a paragraph
 
@@ -126,7 +118,7 @@ beside_these pages olds s signs w v b h k =
         of_block = w;
         characters = v;
         given = of_folder pages signs own;
-        meet = all_beside s [] (shown_signs pages signs) (each_so pages signs own, subst EachMeets (things_shown pages signs) (meets_so pages (things signs) own));
+        meet = λ i. all_meet_so pages i s signs own;
         some = b;
       };
       read = of_reading pages signs own;

@@ -1,4 +1,4 @@
--- What is written for texts beside calls that give words, as a paragraph, holds these calls.
+-- What is written for texts beside calls, as a paragraph, holds these calls.
 use Rattle.std.proofs.Common.{◌≡◌, ℕ, ◌+◌, List, [], ◌∷◌, ◌++◌, refl, sym, ap, ◌∙◌, subst}
 use Rattle.wt_span.specs.Items.{Item}
 use Rattle.wt_span.specs.Origins.{OuterCall}
@@ -13,14 +13,14 @@ use Rattle.wt_guards.specs.Letters.{is_escaped}
 use Rattle.wt_expand.specs.Work.{Pages}
 use Rattle.wt_part_laws.specs.Expanded.{part_items, calls_in}
 use Rattle.wt_lines.specs.Lines.{lines}
-use Rattle.wt_part_laws.specs.HeldCalls.{block_in, HoldsItsCalls, block_of_texts}
+use Rattle.wt_part_laws.specs.HeldCalls.{block_in, HoldsItsCalls, block_of_pieces}
 use Rattle.wt_text_edit_laws.specs.ParagraphParts.{joined_parts, para_with}
 use Rattle.wt_text_edit_laws.specs.TextBlocks.{a_paragraph}
-use Rattle.wt_beside_laws.specs.Called.{items_with, owns_in, parts_with, shown_signs, called_shown, IsCalledIn}
+use Rattle.wt_beside_laws.specs.Called.{items_with, owns_in, parts_with, called_shown, IsCalledIn}
 use Rattle.wt_beside_laws.specs.Content.{guard_items, letter_items}
 use Rattle.wt_beside_laws.proofs.Groups.CalledBlocks.{called_holds, called_block}
 use Rattle.wt_beside_laws.proofs.Groups.CalledShown.{called_shows}
-use Rattle.wt_beside_laws.proofs.Groups.Folders.{called_in, items_in}
+use Rattle.wt_beside_laws.proofs.Groups.Folders.{called_in}
 use Rattle.wt_called_edit_laws.specs.CalledContents.{tree_round}
 use Rattle.wt_called_edit_laws.specs.Written.{AreReadThings, AreOwnParts, written_items}
 use Rattle.wt_called_edit_laws.proofs.Written.Signs.{content_written}
@@ -41,26 +41,22 @@ written_gives pages i s signs h r o = (content_written pages s signs h.of_block 
 pub written_holds : (pages : Pages) (i : ℕ) (s : Setting) (signs : List ContentSign) → IsCalledIn pages s signs → AreReadThings signs → AreOwnParts pages signs
     → HoldsItsCalls (tree_round a_paragraph (part_items pages i (spelled s signs)))
 written_holds pages i s signs h r o =
-    subst (λ (xs : List Item). HoldsItsCalls (para_with (joined_parts (lines xs)))) (sym (written_gives pages i s signs h r o ∙ items_in pages i s signs h))
-    (called_holds s (shown_signs pages signs) (owns_in pages i signs) (called_in pages i s signs h))
+    subst (λ (xs : List Item). HoldsItsCalls (para_with (joined_parts (lines xs)))) (sym (written_gives pages i s signs h r o))
+    (called_holds s signs (owns_in pages i signs) (called_in pages i s signs h))
 
 -- and what it is and shows in the page's tree
-given_so : (pages : Pages) (i : ℕ) (s : Setting) (signs : List ContentSign) → IsCalledIn pages s signs → AreReadThings signs → AreOwnParts pages signs
-    → part_items pages i (spelled s signs) ≡ items_with s [] (shown_signs pages signs) (owns_in pages i signs)
-given_so pages i s signs h r o = written_gives pages i s signs h r o ∙ items_in pages i s signs h
-
 pub written_block : (pages : Pages) (calls : List OuterCall) (i : ℕ) (s : Setting) (signs : List ContentSign) → IsCalledIn pages s signs → AreReadThings signs
     → AreOwnParts pages signs
     → block_in calls (tree_round a_paragraph (part_items pages i (spelled s signs)))
-    ≡ block_of_texts calls (plain kind.Para) [] (parts_with s [] (shown_signs pages signs) (owns_in pages i signs)) []
+    ≡ block_of_pieces calls (plain kind.Para) [] (parts_with s [] signs (owns_in pages i signs)) []
 written_block pages calls i s signs h r o =
-    ap (λ (xs : List Item). block_in calls (para_with (joined_parts (lines xs)))) (given_so pages i s signs h r o)
-    ∙ called_block calls s (shown_signs pages signs) (owns_in pages i signs) (called_in pages i s signs h)
+    ap (λ (xs : List Item). block_in calls (para_with (joined_parts (lines xs)))) (written_gives pages i s signs h r o)
+    ∙ called_block calls s signs (owns_in pages i signs) (called_in pages i s signs h)
 
 pub written_shows : (pages : Pages) (calls : List OuterCall) (i : ℕ) (s : Setting) (signs : List ContentSign) (rest : Plains) → IsCalledIn pages s signs → AreReadThings signs
     → AreOwnParts pages signs
     → plain_before (cut_texts (block_in calls (tree_round a_paragraph (part_items pages i (spelled s signs))))) rest
-    ≡ along (element paragraph_face (called_shown (shown_signs pages signs) (owns_in pages i signs) ended)) rest
+    ≡ along (element paragraph_face (called_shown signs (owns_in pages i signs) ended)) rest
 written_shows pages calls i s signs rest h r o =
-    ap (λ (xs : List Item). plain_before (cut_texts (block_in calls (para_with (joined_parts (lines xs))))) rest) (given_so pages i s signs h r o)
-    ∙ called_shows calls s (shown_signs pages signs) (owns_in pages i signs) rest (called_in pages i s signs h)
+    ap (λ (xs : List Item). plain_before (cut_texts (block_in calls (para_with (joined_parts (lines xs))))) rest) (written_gives pages i s signs h r o)
+    ∙ called_shows calls s signs (owns_in pages i signs) rest (called_in pages i s signs h)

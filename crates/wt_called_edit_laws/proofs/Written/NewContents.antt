@@ -1,4 +1,4 @@
--- A paragraph of texts beside calls that give words, as it is written, is a content in a folder, and a new one in the place of another one whose nodes it has; those that don't call may go.
+-- A paragraph of texts beside calls, as it is written, is a content in a folder, and a new one in the place of another one whose nodes it has; those that don't call may go.
 use Rattle.std.proofs.Common.{◌≡◌, inl, inr, ℕ, ◌==◌, Bool, true, false, None, List, [], ◌∷◌, ◌++◌, refl, sym, ap, ap₂, ◌∙◌, subst, append-nil, append_assoc}
 use Rattle.std.specs.Prelude.{◌||◌, not, if◌then◌else◌}
 use Rattle.std.specs.Str.{IsUtf8}
@@ -22,7 +22,7 @@ use Rattle.wt_text_edit_laws.specs.TextBetween.{StandsBehind}
 use Rattle.wt_text_edit_laws.specs.TextBlocks.{a_paragraph}
 use Rattle.wt_text_edit_laws.proofs.Between.ClosingTags.{Unclosed, unclosed_behind}
 use Rattle.wt_text_edit_laws.proofs.Prose.InFront.{Reads, reads_nothing, read_break, read_items}
-use Rattle.wt_beside_laws.specs.Called.{items_with, owns_in, shown_signs, HasText, IsCalledIn, IsCalledContent}
+use Rattle.wt_beside_laws.specs.Called.{items_with, owns_in, HasText, IsCalledIn, IsCalledContent}
 use Rattle.wt_beside_laws.specs.Content.{guard_items, letter_items, content_items}
 use Rattle.wt_beside_laws.specs.Cuts.{own_glyphs}
 use Rattle.wt_beside_laws.specs.Lines.{AreCharacters}
@@ -34,7 +34,7 @@ use Rattle.wt_beside_laws.proofs.LineKinds.{Opens, guard_opens, letter_opens, it
 use Rattle.wt_beside_laws.proofs.Made.Closes.{OpenFor, content_closes}
 use Rattle.wt_beside_laws.proofs.Groups.CalledLines.{items_own}
 use Rattle.wt_beside_laws.proofs.Groups.CalledParagraphs.{called_lines, called_unled}
-use Rattle.wt_beside_laws.proofs.Groups.Folders.{called_in, items_in}
+use Rattle.wt_beside_laws.proofs.Groups.Folders.{called_in}
 use Rattle.wt_called_edit_laws.specs.CalledContents.{AreTextItems}
 use Rattle.wt_called_edit_laws.specs.CallingBlocks.{IsContentIn, IsNewContentIn}
 use Rattle.wt_called_edit_laws.specs.InCells.{AreTextLines}
@@ -161,8 +161,8 @@ read_so pages s signs h =
 -- ---- and is lines of text, by what its calls give
 
 given_items : (pages : Pages) (i : ℕ) (s : Setting) (signs : List ContentSign) → IsWrittenBeside pages s signs
-    → part_items pages i (spelled s signs) ≡ items_with s [] (shown_signs pages signs) (owns_in pages i signs)
-given_items pages i s signs h = written_gives pages i s signs h.called h.read h.parts ∙ items_in pages i s signs h.called
+    → part_items pages i (spelled s signs) ≡ items_with s [] signs (owns_in pages i signs)
+given_items pages i s signs h = written_gives pages i s signs h.called h.read h.parts
 
 text_items : (s : Setting) (signs : List ContentSign) (owns : List (List Item)) → IsCalledContent s signs owns → AreTextItems (items_with s [] signs owns)
 text_items s signs owns h =
@@ -179,15 +179,14 @@ content_in pages s signs h =
       anywhere = part.anywhere;
       items = λ i. refl;
       is = λ i. subst AreTextItems (sym (given_items pages i s signs h))
-          (text_items s (shown_signs pages signs) (owns_in pages i signs) (called_in pages i s signs c));
+          (text_items s signs (owns_in pages i signs) (called_in pages i s signs c));
     }
 
 stays_so : (pages : Pages) (i n : ℕ) (s : Setting) (signs : List ContentSign) → IsWrittenBeside pages s signs → AreTextLines n (part_items pages i (spelled s signs))
 stays_so pages i n s signs h =
-    let shown : List ContentSign = shown_signs pages signs in
     let owns : List (List Item) = owns_in pages i signs in
     subst (AreTextLines n) (sym (given_items pages i s signs h))
-    (called_lines n s shown owns (called_in pages i s signs h.called))
+    (called_lines n s signs owns (called_in pages i s signs h.called))
 
 -- ---- it closes no tag that the other one didn't close
 

@@ -1,0 +1,191 @@
+-- What a call gives shows in its group what it would show as the page's own, and so do all nodes of a block, one by one.
+use Rattle.std.proofs.Common.{◌≡◌, ℕ, Bool, true, false, Option, List, [], ◌∷◌, ◌++◌, map, refl, sym, ap, ap₂, ◌∙◌, subst, append-nil}
+use Rattle.std.specs.Prelude.{if◌then◌else◌}
+use Rattle.wt_tree.specs.declared.row.Texts.{Texts}
+use Rattle.wt_tree.specs.declared.row.Texts.TheVariants.{Separators, Page, Bordered, OwnCharacter}
+use Rattle.wt_tree.specs.Kinds.{is_leaf, texts_of_kind}
+use Rattle.wt_tree.specs.Plain.{Plains, plain_before, plains_before}
+use Rattle.wt_tree.specs.Tiling.{is_group}
+use Rattle.wt_tree.specs.Tree.{Label, Tree, tree, Trees, more}
+use Rattle.wt_span.specs.Items.{Item, char}
+use Rattle.wt_span.specs.Origins.{OuterCall}
+use Rattle.wt_span.specs.Runs.{IsRun, AreRuns, runs}
+use Rattle.wt_span.proofs.RunLaws.{runs_are}
+use Rattle.wt_inline.specs.ItemTree.{Head, ItemTree, inner, ItemTrees, nothing, further, forest, tree_items, held_by_all}
+use Rattle.wt_inline.specs.declared.loose.Loose.TheVariants.{Text, Sep}
+use Rattle.wt_inline.specs.Parts.{Part, loose, node, held_parts, one_leaf, child, children}
+use Rattle.wt_context.proofs.PlainNodes.{AreTexts, texts_first, texts_rest}
+use Rattle.wt_annotated.specs.Annotated.{no_place, unplaced, all_unplaced}
+use Rattle.wt_annotated.specs.CutTexts.{cut_as, cut_texts, all_cut_texts}
+use Rattle.wt_annotated.specs.Labels.{label_at}
+use Rattle.wt_annotated.specs.Numbering.{with_numbers}
+use Rattle.wt_annotated.specs.WithoutCalls.{inside_by, placed, all_placed}
+use Rattle.wt_part_laws.specs.Placeless.{placeless_label, placeless, all_placeless}
+use Rattle.wt_part_laws.specs.Standing.{standing}
+use Rattle.wt_part_laws.specs.CallPieces.{AreItemsOf, is_cut_anew, IsUncut, AreUncut, IsOfCall, AreOfCall, AreOwnOrGiven, CallPiece, own, given, call_pieces, group_of_call, pieces_in_page}
+use Rattle.wt_part_laws.proofs.CallPieces.{trees_of, all_trees, ArePieces, all_pieces, children_given}
+use Rattle.wt_part_laws.proofs.GroupsStay.{numbers_gone}
+use Rattle.wt_part_laws.proofs.Placeless.{shown_placeless, all_shown_placeless}
+use Rattle.wt_part_laws.proofs.Recuts.{texts_same}
+use Rattle.wt_beside_laws.specs.Given.{AreGivenBy}
+use Rattle.wt_beside_laws.proofs.LineShown.{one_by_one, shown_append, run_shows}
+
+-- ---- a node in a group, and on a page: but for numbers and places it is the same
+
+abbrev own_label : Head → List Item → ItemTrees → List Item → Label
+own_label h o ts c = placeless_label (no_place (label_at 0 0 (is_leaf h.kind) h o (o ++ (held_by_all ts ++ c)) c))
+
+inside_same : (leaf : Bool) (us vs : Trees) → all_placeless us ≡ all_placeless vs → all_placeless (inside_by leaf us) ≡ all_placeless (inside_by leaf vs)
+inside_same true us vs e = refl
+inside_same false us vs e = e
+
+mutual
+  unfolding label_at
+
+  placeless_same : (before : List Item) (t : ItemTree) → placeless (placed before t) ≡ placeless (unplaced t)
+  placeless_same before (inner h o ts c) =
+      ap (tree (own_label h o ts c)) (inside_same (is_leaf h.kind) (all_placed (before ++ o) ts) (all_unplaced ts) (all_placeless_same (before ++ o) ts))
+
+  all_placeless_same : (before : List Item) (ts : ItemTrees) → all_placeless (all_placed before ts) ≡ all_placeless (all_unplaced ts)
+  all_placeless_same before nothing = refl
+  all_placeless_same before (further t ts) = ap₂ more (placeless_same before t) (all_placeless_same (before ++ tree_items t) ts)
+
+-- ---- no text in it is cut
+
+as_uncut : (x : Texts) (us : Trees) → is_cut_anew x ≡ false → cut_as x us ≡ us
+as_uncut Separators us e = refl
+as_uncut Page us e = refl
+as_uncut Bordered us e = let no : true ≡ false = e in cc
+as_uncut OwnCharacter us e = refl
+
+either_uncut : (g : Bool) (x : Texts) (us vs : Trees) → is_cut_anew x ≡ false → vs ≡ us → (if g then us else cut_as x vs) ≡ us
+either_uncut true x us vs e f = refl
+either_uncut false x us vs e f = as_uncut x vs e ∙ f
+
+inside_uncut : (leaf : Bool) (us : Trees) → all_cut_texts (all_placeless us) ≡ all_placeless us
+    → all_cut_texts (all_placeless (inside_by leaf us)) ≡ all_placeless (inside_by leaf us)
+inside_uncut true us e = refl
+inside_uncut false us e = e
+
+mutual
+  unfolding label_at
+
+  uncut : (t : ItemTree) → IsUncut t → cut_texts (placeless (unplaced t)) ≡ placeless (unplaced t)
+  uncut (inner h o ts c) u =
+      let us : Trees = all_placeless (inside_by (is_leaf h.kind) (all_unplaced ts)) in
+      ap (tree (own_label h o ts c))
+      (either_uncut (is_group h.kind) (texts_of_kind h.kind) us (all_cut_texts us) u.0 (inside_uncut (is_leaf h.kind) (all_unplaced ts) (all_uncut ts u.1)))
+
+  all_uncut : (ts : ItemTrees) → AreUncut ts → all_cut_texts (all_placeless (all_unplaced ts)) ≡ all_placeless (all_unplaced ts)
+  all_uncut nothing u = refl
+  all_uncut (further t ts) u = ap₂ more (uncut t u.0) (all_uncut ts u.1)
+
+-- ---- so it shows the same
+
+pub given_shows : (t : ItemTree) (rest : Plains) → IsUncut t → plain_before (unplaced t) rest ≡ plain_before (standing 0 [] t) rest
+given_shows t rest u =
+    let same : placeless (standing 0 [] t) ≡ placeless (unplaced t) =
+    texts_same (with_numbers 0 (placed [] t))
+    ∙ ap cut_texts (numbers_gone 0 (placed [] t) ∙ placeless_same [] t)
+    ∙ uncut t u in
+    sym (shown_placeless (unplaced t) rest) ∙ ap (λ (v : Tree). plain_before v rest) (sym same) ∙ shown_placeless (standing 0 [] t) rest
+
+-- nodes side by side
+abbrev pub trees_shown : List ItemTree → Plains → Plains
+trees_shown [] rest = rest
+trees_shown (t ∷ ts) rest = plain_before (standing 0 [] t) (trees_shown ts rest)
+
+pub trees_append : (ts us : List ItemTree) (rest : Plains) → trees_shown (ts ++ us) rest ≡ trees_shown ts (trees_shown us rest)
+trees_append [] us rest = refl
+trees_append (t ∷ ts) us rest = ap (plain_before (standing 0 [] t)) (trees_append ts us rest)
+
+pub all_given_show : (j : ℕ) (ts : List ItemTree) (rest : Plains) → AreOfCall j ts → plains_before (all_unplaced (forest ts)) rest ≡ trees_shown ts rest
+all_given_show j [] rest h = refl
+all_given_show j (t ∷ ts) rest h =
+    let first : IsOfCall j t = h.0 in
+    ap (plain_before (unplaced t)) (all_given_show j ts rest h.1) ∙ given_shows t (trees_shown ts rest) first.uncut
+
+-- and their group
+pub group_shows : (calls : List OuterCall) (j : ℕ) (ts : List ItemTree) (rest : Plains) → AreOfCall j ts
+    → plain_before (cut_texts (group_of_call calls j (forest ts))) rest ≡ trees_shown ts rest
+group_shows calls j ts rest h = all_shown_placeless (all_unplaced (forest ts)) rest ∙ all_given_show j ts rest h
+
+-- ---- its nodes in the page's tree
+
+-- a node of the page shows what it does on a page without calls
+own_shows : (t : ItemTree) (rest : Plains) → plain_before (cut_texts (placeless (placed [] t))) rest ≡ plain_before (standing 0 [] t) rest
+own_shows t rest =
+    ap (λ (u : Tree). plain_before (cut_texts u) rest) (sym (numbers_gone 0 (placed [] t)))
+    ∙ ap (λ (u : Tree). plain_before u rest) (sym (texts_same (with_numbers 0 (placed [] t))))
+    ∙ shown_placeless (standing 0 [] t) rest
+
+pieces_shown : (calls : List OuterCall) (ps : List CallPiece) (rest : Plains) → ArePieces ps
+    → plains_before (all_cut_texts (pieces_in_page calls ps)) rest ≡ trees_shown (trees_of ps) rest
+pieces_shown calls [] rest h = refl
+pieces_shown calls (own t ∷ ps) rest h =
+    ap (plain_before (cut_texts (placeless (placed [] t)))) (pieces_shown calls ps rest h.2) ∙ own_shows t (trees_shown (trees_of ps) rest)
+pieces_shown calls (given j t ts ∷ ps) rest h =
+    ap (plain_before (cut_texts (group_of_call calls j (further t (forest ts))))) (pieces_shown calls ps rest h.2)
+    ∙ group_shows calls j (t ∷ ts) (trees_shown (trees_of ps) rest) h.0
+    ∙ sym (trees_append (t ∷ ts) (trees_of ps) rest)
+
+-- ---- one by one
+
+runs_shown : (rs : List (List Part)) (ps : List Part) (rest : Plains) → AreRuns one_leaf rs ps → AreTexts ps → trees_shown (map child rs) rest ≡ one_by_one ps rest
+runs_shown [] ps rest h t = sym (ap (λ qs. one_by_one qs rest) h)
+runs_shown (r ∷ rs) ps rest h t =
+    let both : AreTexts (r ++ h.0) = subst AreTexts h.1 t in
+    ap (plain_before (standing 0 [] (child r))) (runs_shown rs h.0 rest h.3 (texts_rest r h.0 both))
+    ∙ run_shows 0 [] r h.0 (one_by_one h.0 rest) h.2 (texts_first r h.0 both)
+    ∙ sym (ap (λ qs. one_by_one qs rest) h.1 ∙ shown_append r h.0 rest)
+
+pub children_shown : (ps : List Part) (rest : Plains) → AreTexts ps → trees_shown (children ps) rest ≡ one_by_one ps rest
+unfolding children
+children_shown ps rest t = runs_shown (runs one_leaf ps) ps rest (runs_are one_leaf ps) t
+
+pub children_in_page : (calls : List OuterCall) (ps : List Part) (rest : Plains) → AreOwnOrGiven ps → AreTexts ps
+    → plains_before (all_cut_texts (pieces_in_page calls (call_pieces (children ps)))) rest ≡ one_by_one ps rest
+children_in_page calls ps rest h t =
+    let ts : List ItemTree = children ps in
+    pieces_shown calls (call_pieces ts) rest (all_pieces ts (children_given ps h))
+    ∙ ap (λ (us : List ItemTree). trees_shown us rest) (all_trees ts)
+    ∙ children_shown ps rest t
+
+-- ---- the nodes of characters and nodes of one call
+
+rest_by : (j : ℕ) (ps qs : List Part) → AreGivenBy j (ps ++ qs) → AreGivenBy j qs
+rest_by j [] qs h = h
+rest_by j (loose Text o b ∷ ps) qs h = rest_by j ps qs h.1
+rest_by j (loose Sep o b ∷ ps) qs h = absurd h
+rest_by j (node t ∷ ps) qs h = rest_by j ps qs h.1
+
+held_by_call : (j : ℕ) (o : Option ℕ) (b : ℕ) (r others : List Part) → IsRun one_leaf (loose Text o b ∷ r) others → AreGivenBy j (r ++ others)
+    → AreItemsOf j (held_parts r)
+held_by_call j o b [] others run h = tt
+held_by_call j o b (loose Text p c ∷ r) others run h = (h.0, held_by_call j p c r others run.1 h.1)
+held_by_call j o b (loose Sep p c ∷ r) others run h = absurd h
+held_by_call j o b (node x ∷ r) others run h = absurd (let no = run.0 in cc)
+
+run_by_call : (j : ℕ) (r others : List Part) → IsRun one_leaf r others → AreGivenBy j (r ++ others) → IsOfCall j (child r)
+run_by_call j [] others run h = absurd run
+run_by_call j (loose Text o b ∷ r) others run h = record {
+  first = char o b;
+  others = held_parts r;
+  is = append-nil (char o b ∷ held_parts r);
+  of_call = (h.0, held_by_call j o b r others run h.1);
+  no_body = refl;
+  uncut = (refl, tt);
+}
+run_by_call j (loose Sep o b ∷ r) others run h = absurd h
+run_by_call j (node x ∷ []) others run h = h.0
+run_by_call j (node x ∷ p ∷ r) others run h = absurd (let no = run.0 in cc)
+
+runs_by_call : (j : ℕ) (rs : List (List Part)) (ps : List Part) → AreRuns one_leaf rs ps → AreGivenBy j ps → AreOfCall j (map child rs)
+runs_by_call j [] ps a h = tt
+runs_by_call j (r ∷ rs) ps a h =
+    let both : AreGivenBy j (r ++ a.0) = subst (AreGivenBy j) a.1 h in
+    (run_by_call j r a.0 a.2 both, runs_by_call j rs a.0 a.3 (rest_by j r a.0 both))
+
+pub by_call_children : (j : ℕ) (ps : List Part) → AreGivenBy j ps → AreOfCall j (children ps)
+unfolding children
+by_call_children j ps h = runs_by_call j (runs one_leaf ps) ps (runs_are one_leaf ps) h

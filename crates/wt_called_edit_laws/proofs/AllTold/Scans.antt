@@ -1,0 +1,328 @@
+-- All paragraphs and headings that lines tell, from the first line on, and what is left of the lines between them.
+use Rattle.std.proofs.Common.{arith, ◌≡◌, ◌≤◌, ◌⊎◌, inl, inr, ℕ, ◌+◌, Bool, true, false, List, [], ◌∷◌, ◌++◌, length, map, refl, sym, ap, ◌∙◌, subst, append_assoc, codes}
+use Rattle.std.specs.List.{list_all}
+use Rattle.wt_span.specs.Bytes.{begins}
+use Rattle.wt_span.specs.Items.{Item, is_mark, sources}
+use Rattle.wt_lines.specs.declared.kind.LineKind.{LineKind}
+use Rattle.wt_lines.specs.declared.kind.LineKind.TheVariants as line
+use Rattle.wt_lines.specs.Lines.{content}
+use Rattle.wt_blocks.specs.Headings.{inside}
+use Rattle.wt_blocks.specs.Paragraphs.{is_text}
+use Rattle.wt_tables.specs.Extents.{behind as tables_after}
+use Rattle.wt_tables.specs.Parts.{joined}
+use Rattle.wt_page.specs.Lines.{kind_at}
+use Rattle.wt_page.specs.Rows.{Row, signs, rows_from}
+use Rattle.wt_part_laws.specs.Slots.{AllTrue}
+use Rattle.wt_text_edit_laws.specs.PageCuts.{begins_unmarked}
+use Rattle.wt_text_edit_laws.specs.ParagraphBetween.{written_rows, EndApart, BeginApart}
+use Rattle.wt_text_edit_laws.specs.TextBetween.{is_end, AreEnded}
+use Rattle.wt_text_edit_laws.specs.TextBlocks.{TextBlock, a_paragraph, a_heading, FirstApart}
+use Rattle.wt_text_edit_laws.proofs.Cuts.TextLines.{joined_both}
+use Rattle.wt_text_edit_laws.specs.TypedHeadings.{Sides}
+use Rattle.wt_called_edit_laws.specs.AnyBlocks.{open_after, EndsFor}
+use Rattle.wt_called_edit_laws.specs.LinedHeadings.{IsLinedHeading}
+use Rattle.wt_called_edit_laws.specs.PlacedBlocks.{AreLinesAt}
+use Rattle.wt_called_edit_laws.specs.PlacedLines.{all_lines}
+use Rattle.wt_called_edit_laws.specs.ToldLines.{Told, a_paragraph_of, a_heading_on, lined, OwnTold, rows_before, IsToldAt, AreToldAfter}
+use Rattle.wt_called_edit_laws.specs.ToldTogether.{told_starts}
+use Rattle.wt_called_edit_laws.proofs.AllTold.Found.{size, size_both}
+use Rattle.wt_called_edit_laws.proofs.AllTold.LineKinds.{Lines, led_by, past_marks, after, rows_behind, end_suffix, some_row, end_lines}
+use Rattle.wt_called_edit_laws.proofs.AllTold.Opens.{open_both}
+
+-- ---- told by their first line
+
+abbrev pub text_told : Lines → List Item → Lines → Told
+text_told before l more = a_paragraph_of before (led_by l) (past_marks l) more
+
+abbrev pub heading_told : Lines → List Item → Told
+heading_told before l = a_heading_on before (led_by l) (past_marks l)
+
+-- ---- what can be decided
+
+abbrev pub Decided : Type 0 → Type 0
+Decided A = A ⊎ (A → ⊥)
+
+both_decided : (A B : Type 0) → Decided A → Decided B → Decided (A × B)
+both_decided A B (inl a) (inl b) = inl (a, b)
+both_decided A B (inl a) (inr f) = inr (λ h. f h.1)
+both_decided A B (inr f) b = inr (λ h. f h.0)
+
+three_decided : (A B C : Type 0) → Decided A → Decided B → Decided C → Decided (A × B × C)
+three_decided A B C (inl a) (inl b) (inl c) = inl (a, b, c)
+three_decided A B C (inr f) b c = inr (λ h. f h.0)
+three_decided A B C (inl a) (inr f) c = inr (λ h. f h.1)
+three_decided A B C (inl a) (inl b) (inr f) = inr (λ h. f h.2)
+
+pub bool_decided : (v w : Bool) → Decided (v ≡ w)
+bool_decided true true = inl refl
+bool_decided true false = inr (λ e. absurd (cc))
+bool_decided false true = inr (λ e. absurd (cc))
+bool_decided false false = inl refl
+
+-- whether a line is of this kind
+abbrev is_heading_line : LineKind → Bool
+is_heading_line line.Blank = false
+is_heading_line line.TableOpen = false
+is_heading_line line.TableEnd = false
+is_heading_line line.Caption = false
+is_heading_line line.Row = false
+is_heading_line line.Cell = false
+is_heading_line line.Header = false
+is_heading_line line.Heading = true
+is_heading_line line.Rule = false
+is_heading_line line.List = false
+is_heading_line line.Pre = false
+is_heading_line line.Text = false
+
+heading_is : (k : LineKind) → is_heading_line k ≡ true → k ≡ line.Heading
+heading_is line.Heading e = refl
+heading_is k e = absurd (cc)
+
+text_is : (k : LineKind) → is_text k ≡ true → k ≡ line.Text
+text_is line.Text e = refl
+text_is k e = absurd (cc)
+
+pub kind_decided : (k : LineKind) → Decided (k ≡ line.Text)
+kind_decided k = by (is_text k) refl
+  where
+    by : (v : Bool) → is_text k ≡ v → Decided (k ≡ line.Text)
+    by true e = inl (text_is k e)
+    by false e = inr (λ f. let nay : true ≡ false = sym (ap is_text f) ∙ e in absurd (cc))
+
+pub heading_decided : (k : LineKind) → Decided (k ≡ line.Heading)
+heading_decided k = by (is_heading_line k) refl
+  where
+    by : (v : Bool) → is_heading_line k ≡ v → Decided (k ≡ line.Heading)
+    by true e = inl (heading_is k e)
+    by false e = inr (λ f. let nay : true ≡ false = sym (ap is_heading_line f) ∙ e in absurd (cc))
+
+some_decided : {A : Type 0} (xs : List A) → Decided (1 ≤ length xs)
+some_decided [] = inr (λ h. absurd (omega (arith, h)))
+some_decided (x ∷ xs) = inl (omega arith)
+
+true_decided : (bs : List Bool) → Decided (AllTrue bs)
+true_decided [] = inl tt
+true_decided (b ∷ bs) = both_decided (b ≡ true) (AllTrue bs) (bool_decided b true) (true_decided bs)
+
+pub ended_decided : (bs : List ℕ) → Decided (AreEnded bs)
+ended_decided [] = inl tt
+ended_decided (b ∷ []) = bool_decided (is_end b) true
+ended_decided (b ∷ c ∷ cs) = ended_decided (c ∷ cs)
+
+lines_decided : (n : ℕ) (ls : Lines) → Decided (AreLinesAt n ls)
+lines_decided n [] = inl tt
+lines_decided n (l ∷ ls) =
+    three_decided (kind_at 0 l ≡ line.Text) (kind_at n l ≡ line.Text) (AreLinesAt n ls) (kind_decided (kind_at 0 l)) (kind_decided (kind_at n l)) (lines_decided n ls)
+
+-- a line of a heading is one of these
+headed : (n : ℕ) (l : List Item) → Decided (IsLinedHeading n l)
+headed n l = by (heading_decided (kind_at n l)) (bool_decided (begins (codes "=") (signs l)) true) (some_decided (inside (content l)))
+  where
+    by : Decided (kind_at n l ≡ line.Heading) → Decided (begins (codes "=") (signs l) ≡ true) → Decided (1 ≤ length (inside (content l))) → Decided (IsLinedHeading n l)
+    by (inl a) (inl b) (inl c) = inl (record { is_heading = a; first = b; some = c })
+    by (inr f) b c = inr (λ h. f h.is_heading)
+    by (inl a) (inr f) c = inr (λ h. f h.first)
+    by (inl a) (inl b) (inr f) = inr (λ h. f h.some)
+
+-- one with nothing before it
+abbrev pub Bare : Told → Type 0
+Bare t = (list_all is_mark (lined t).marks ≡ true) × AreEnded (sources (lined t).marks) × (1 ≤ length (lined t).first)
+
+bare_decided : (t : Told) → Decided (Bare t)
+bare_decided t =
+    three_decided (list_all is_mark (lined t).marks ≡ true) (AreEnded (sources (lined t).marks)) (1 ≤ length (lined t).first)
+    (bool_decided (list_all is_mark (lined t).marks) true) (ended_decided (sources (lined t).marks)) (some_decided (lined t).first)
+
+-- something that is asked of blocks by what they are and their text
+abbrev pub Asked : Type 1
+Asked = TextBlock → List ℕ → Type 0
+
+abbrev pub Answered : Asked → Type 0
+Answered K = (k : TextBlock) (q : List ℕ) → Decided (K k q)
+
+-- where these tables are open
+pub record Fits (K : Asked) (bs : List Bool) (t : Told) : Type 0 where
+  pub bare : Bare t
+  pub cells : AllTrue bs
+  pub own : OwnTold t (length bs)
+  pub asked : K (lined t).block (lined t).text
+
+fits_by : (K : Asked) → Answered K → (bs : List Bool) (t : Told) → Decided (OwnTold t (length bs)) → Decided (Fits K bs t)
+fits_by K d bs t own =
+    by (bare_decided t) (true_decided bs) own (d (lined t).block (lined t).text)
+  where
+    by : Decided (Bare t) → Decided (AllTrue bs) → Decided (OwnTold t (length bs)) → Decided (K (lined t).block (lined t).text) → Decided (Fits K bs t)
+    by (inl a) (inl b) (inl c) (inl e) = inl (record { bare = a; cells = b; own = c; asked = e })
+    by (inr nay) b c e = inr (λ h. nay h.bare)
+    by (inl a) (inr nay) c e = inr (λ h. nay h.cells)
+    by (inl a) (inl b) (inr nay) e = inr (λ h. nay h.own)
+    by (inl a) (inl b) (inl c) (inr nay) = inr (λ h. nay h.asked)
+
+pub text_fits : (K : Asked) → Answered K → (bs : List Bool) (l : List Item) (more : Lines) → Decided (Fits K bs (text_told [] l more))
+text_fits K d bs l more =
+    let n : ℕ = length bs in
+    let own : Lines = past_marks l ∷ more in
+    fits_by K d bs (text_told [] l more) (both_decided (AreLinesAt n own) (begins_unmarked (content (joined own)) ≡ true) (lines_decided n own)
+    (bool_decided (begins_unmarked (content (joined own))) true))
+
+pub heading_fits : (K : Asked) → Answered K → (bs : List Bool) (l : List Item) → Decided (Fits K bs (heading_told [] l))
+heading_fits K d bs l = fits_by K d bs (heading_told [] l) (headed (length bs) (past_marks l))
+
+-- ---- where those that are told begin
+
+pub joined_size : (xs ys : Lines) → size (joined (xs ++ ys)) ≡ size (joined xs) + size (joined ys)
+joined_size xs ys = ap size (joined_both xs ys) ∙ size_both (joined xs) (joined ys)
+
+-- ---- more lines before them
+
+abbrev pub put_told : Lines → Told → Told
+put_told xs (a_paragraph_of b m f r) = a_paragraph_of (xs ++ b) m f r
+put_told xs (a_heading_on b m l) = a_heading_on (xs ++ b) m l
+
+abbrev pub put_all : Lines → List Told → List Told
+put_all xs [] = []
+put_all xs (t ∷ ts) = put_told xs t ∷ ts
+
+abbrev pub put_behind : Lines → List Told → Lines → Lines
+put_behind xs [] behind = xs ++ behind
+put_behind xs (t ∷ ts) behind = behind
+
+pub put_lines : (xs : Lines) (ts : List Told) (behind : Lines) → all_lines (map lined (put_all xs ts)) (put_behind xs ts behind) ≡ xs ++ all_lines (map lined ts) behind
+put_lines xs [] behind = refl
+put_lines xs (a_paragraph_of b m f r ∷ ts) behind = append_assoc xs b (((m ++ f) ∷ r) ++ all_lines (map lined ts) behind)
+put_lines xs (a_heading_on b m l ∷ ts) behind = append_assoc xs b (((m ++ l) ∷ []) ++ all_lines (map lined ts) behind)
+
+pub put_starts : (at : ℕ) (xs : Lines) (ts : List Told) → told_starts at (put_all xs ts) ≡ told_starts (at + size (joined xs)) ts
+put_starts at xs [] = refl
+put_starts at xs (a_paragraph_of b m f r ∷ ts) =
+    let z : at + size (joined (xs ++ b)) ≡ (at + size (joined xs)) + size (joined b) = omega (arith, joined_size xs b) in
+    ap (λ (n : ℕ). (n + size m) ∷ told_starts (n + size (joined ((m ++ f) ∷ r))) ts) z
+put_starts at xs (a_heading_on b m l ∷ ts) =
+    let z : at + size (joined (xs ++ b)) ≡ (at + size (joined xs)) + size (joined b) = omega (arith, joined_size xs b) in
+    ap (λ (n : ℕ). (n + size m) ∷ told_starts (n + size (joined ((m ++ l) ∷ []))) ts) z
+
+-- ---- what is asked of one behind these lines
+
+-- the tables that are open where it is
+abbrev pub tables_at : List Bool → Told → List Bool
+tables_at bs t = open_after bs (rows_before bs t)
+
+pub rows_put : (bs : List Bool) (xs : Lines) (t : Told) → rows_before bs (put_told xs t) ≡ written_rows (length bs) xs ++ rows_before (after bs xs) t
+rows_put bs xs (a_paragraph_of b m f r) = rows_behind bs xs b
+rows_put bs xs (a_heading_on b m l) = rows_behind bs xs b
+
+pub tables_put : (bs : List Bool) (xs : Lines) (t : Told) → tables_at bs (put_told xs t) ≡ tables_at (after bs xs) t
+tables_put bs xs t = ap (open_after bs) (rows_put bs xs t) ∙ open_both bs (written_rows (length bs) xs) (rows_before (after bs xs) t)
+
+put_at : (bs : List Bool) (xs : Lines) (t : Told) → IsToldAt (after bs xs) t → EndsFor (lined t).block (rows_before bs (put_told xs t)) → IsToldAt bs (put_told xs t)
+put_at bs xs (a_paragraph_of b m f r) h apart = record {
+  are_marks = h.are_marks;
+  ended = h.ended;
+  some = h.some;
+  in_cells = subst AllTrue (sym (tables_put bs xs (a_paragraph_of b m f r))) h.in_cells;
+  apart = apart;
+  own = subst (λ (cs : List Bool). OwnTold (a_paragraph_of b m f r) (length cs)) (sym (tables_put bs xs (a_paragraph_of b m f r))) h.own;
+}
+put_at bs xs (a_heading_on b m l) h apart = record {
+  are_marks = h.are_marks;
+  ended = h.ended;
+  some = h.some;
+  in_cells = subst AllTrue (sym (tables_put bs xs (a_heading_on b m l))) h.in_cells;
+  apart = apart;
+  own = subst (λ (cs : List Bool). OwnTold (a_heading_on b m l) (length cs)) (sym (tables_put bs xs (a_heading_on b m l))) h.own;
+}
+
+-- and without them
+pub moved_at : (bs : List Bool) (xs : Lines) (t : Told) → IsToldAt bs (put_told xs t) → IsToldAt (after bs xs) t
+moved_at bs xs (a_paragraph_of b m f r) h =
+    let t : Told = a_paragraph_of b m f r in
+    record {
+      are_marks = h.are_marks;
+      ended = h.ended;
+      some = h.some;
+      in_cells = subst AllTrue (tables_put bs xs t) h.in_cells;
+      apart = end_suffix (written_rows (length bs) xs) (rows_before (after bs xs) t) (subst EndApart (rows_put bs xs t) h.apart);
+      own = subst (λ (cs : List Bool). OwnTold t (length cs)) (tables_put bs xs t) h.own;
+    }
+moved_at bs xs (a_heading_on b m l) h =
+    let t : Told = a_heading_on b m l in
+    record {
+      are_marks = h.are_marks;
+      ended = h.ended;
+      some = h.some;
+      in_cells = subst AllTrue (tables_put bs xs t) h.in_cells;
+      apart = tt;
+      own = subst (λ (cs : List Bool). OwnTold t (length cs)) (tables_put bs xs t) h.own;
+    }
+
+-- ---- all that are told
+
+abbrev pub ToldFrom : List Bool → List Told → Lines → Type 0
+ToldFrom bs [] behind = Unit {0}
+ToldFrom bs (t ∷ ts) behind = IsToldAt bs t × AreToldAfter (lined t).block (tables_at bs t) ts behind
+
+-- no paragraph is first among the lines
+abbrev pub NoTextFirst : List Told → Type 0
+NoTextFirst [] = Unit {0}
+NoTextFirst (a_paragraph_of [] m f r ∷ ts) = ⊥
+NoTextFirst (a_paragraph_of (l ∷ b) m f r ∷ ts) = Unit {0}
+NoTextFirst (a_heading_on b m l ∷ ts) = Unit {0}
+
+pub put_first : (l : List Item) (xs : Lines) (ts : List Told) → NoTextFirst (put_all (l ∷ xs) ts)
+put_first l xs [] = tt
+put_first l xs (a_paragraph_of b m f r ∷ ts) = tt
+put_first l xs (a_heading_on b m k ∷ ts) = tt
+
+-- lines before them, behind which a paragraph may be, or none is
+put_apart : (bs : List Bool) (xs : Lines) (t : Told) (ts : List Told) → IsToldAt (after bs xs) t → NoTextFirst (t ∷ ts) ⊎ EndApart (written_rows (length bs) xs)
+    → EndsFor (lined t).block (rows_before bs (put_told xs t))
+put_apart bs xs (a_paragraph_of [] m f r) ts h (inl nay) = absurd nay
+put_apart bs xs (a_paragraph_of [] m f r) ts h (inr e) = subst EndApart (sym (rows_behind bs xs [] ∙ end_nil (written_rows (length bs) xs))) e
+  where
+    end_nil : (rs : List Row) → rs ++ [] ≡ rs
+    end_nil [] = refl
+    end_nil (r ∷ rs) = ap (λ ss. r ∷ ss) (end_nil rs)
+put_apart bs xs (a_paragraph_of (l ∷ b) m f r) ts h c =
+    subst EndApart (sym (rows_behind bs xs (l ∷ b))) (end_lines (length (after bs xs)) (written_rows (length bs) xs) l b h.apart)
+put_apart bs xs (a_heading_on b m l) ts h c = tt
+
+pub put_from : (bs : List Bool) (xs : Lines) (ts : List Told) (behind : Lines) → ToldFrom (after bs xs) ts behind
+    → NoTextFirst ts ⊎ EndApart (written_rows (length bs) xs) → ToldFrom bs (put_all xs ts) (put_behind xs ts behind)
+put_from bs xs [] behind h c = tt
+put_from bs xs (t ∷ ts) behind h c = (
+  put_at bs xs t h.0 (put_apart bs xs t ts h.0 c),
+  by t (subst (λ (cs : List Bool). AreToldAfter (lined t).block cs ts behind) (sym (tables_put bs xs t)) h.1),
+)
+  where
+    by : (u : Told) → AreToldAfter (lined u).block (tables_at bs (put_told xs u)) ts behind → AreToldAfter (lined (put_told xs u)).block (tables_at bs (put_told xs u)) ts behind
+    by (a_paragraph_of b m f r) g = g
+    by (a_heading_on b m l) g = g
+
+-- behind a block, at whose end these tables are open
+pub behind_heading : (s : Sides) (bs : List Bool) (ts : List Told) (behind : Lines) → ToldFrom bs ts behind → AreToldAfter (a_heading s) bs ts behind
+behind_heading s bs [] behind h = tt
+behind_heading s bs (t ∷ ts) behind h = (tt, h.0, h.1)
+
+-- the first line isn't text, so the first row of these lines isn't
+first_so : (k : TextBlock) (n : ℕ) (x : List Item) (xs ys : Lines) → BeginApart (rows_from n ((x ∷ xs) ++ ys)) → FirstApart k (written_rows n (x ∷ xs))
+first_so k n x xs ys e =
+    let j : LineKind = kind_at n x in
+    let s = some_row j x in
+    let later : ℕ = tables_after n j in
+    let all : rows_from n ((x ∷ xs) ++ ys) ≡ s.first ∷ (s.others ++ rows_from later (xs ++ ys)) = ap (λ (rs : List Row). rs ++ rows_from later (xs ++ ys)) s.are in
+    let own : written_rows n (x ∷ xs) ≡ s.first ∷ (s.others ++ written_rows later xs) = ap (λ (rs : List Row). rs ++ written_rows later xs) s.are in
+    subst (FirstApart k) (sym own) (first_of k s.first (s.others ++ written_rows later xs) (subst BeginApart all e))
+  where
+    first_of : (b : TextBlock) (r : Row) (rs : List Row) → is_text r.kind ≡ false → FirstApart b (r ∷ rs)
+    first_of a_paragraph r rs h = h
+    first_of (a_heading s) r rs h = h
+
+pub behind_text : (bs : List Bool) (ts : List Told) (behind : Lines) → ToldFrom bs ts behind → NoTextFirst ts
+    → BeginApart (rows_from (length bs) (all_lines (map lined ts) behind)) → AreToldAfter a_paragraph bs ts behind
+behind_text bs [] behind h nay a = a
+behind_text bs (a_paragraph_of [] m f r ∷ ts) behind h nay a = absurd nay
+behind_text bs (a_paragraph_of (l ∷ b) m f r ∷ ts) behind h nay a =
+    (first_so a_paragraph (length bs) l b (((m ++ f) ∷ r) ++ all_lines (map lined ts) behind) a, h.0, h.1)
+behind_text bs (a_heading_on [] m l ∷ ts) behind h nay a = (tt, h.0, h.1)
+behind_text bs (a_heading_on (x ∷ b) m l ∷ ts) behind h nay a =
+    (first_so (lined (a_heading_on (x ∷ b) m l)).block (length bs) x b (((m ++ l) ∷ []) ++ all_lines (map lined ts) behind) a, h.0, h.1)

@@ -1,0 +1,336 @@
+-- Worked case: the page `x{{t}}y`, where `Template:T` gives nothing, is one of those of which texts beside calls may be edited, by computing the whole of it.
+use Rattle.std.proofs.Common.{arith, ◌≡◌, ◌<◌, ◌≤◌, inl, inr, ℕ, Some, None, List, [], ◌∷◌, ◌++◌, length, refl, sym, ap, ◌∙◌, subst}
+use Rattle.std.specs.Prelude.{codes, if◌then◌else◌}
+use Rattle.std.specs.Str.{bytes_eq, is_utf8, chars, IsUtf8}
+use Rattle.std.specs.Str.Lossy.{utf8_valid_len}
+use Rattle.std.proofs.lemmas.List.Elements.{All-nil, All-cons}
+use Rattle.std.proofs.lemmas.Str.{IsUtf8-nil}
+use lib.Utf8.{encode}
+use Rattle.wt_span.specs.Comments.{comment_len, comment_line_len}
+use Rattle.wt_span.specs.Entities.{entity_at, named_entity, decimal_entity, hex_entity, entity_names}
+use Rattle.wt_span.specs.Tags.{raw_len, opening_tag, tag_after, closing_tag, with_inside, is_extension, include_at}
+use Rattle.wt_span.specs.Items.{Item, char}
+use Rattle.wt_span.specs.Lexemes.{sign_word, form_at, closed, words}
+use Rattle.wt_span.specs.Braces.{rewritten, reduced, parts_of, calls, nesting}
+use Rattle.wt_lines.specs.declared.kind.LineKind.TheVariants as line
+use Rattle.wt_lines.specs.Kinds.{kind_of_signs, line_kind}
+use Rattle.wt_braces.specs.Found.{too_deep}
+use Rattle.wt_names.specs.Good.{is_forbidden, is_allowed, has_signature, is_step, begins_with_step, holds_step, ends_with_step, is_good, read_text}
+use Rattle.wt_names.specs.Namespace.{name_of, image, is_called, namespace_named, prefix_of, full_name_of}
+use Rattle.wt_names.specs.Reading.{whole_in, cut_namespace, title_in}
+use Rattle.wt_names.specs.Written.{link_to}
+use Rattle.wt_utf8.specs.Places.{not_utf8_place}
+use Rattle.wt_inline.specs.declared.loose.Loose.TheVariants.{Text}
+use Rattle.wt_inline.specs.Parts.{Part, loose, children}
+use Rattle.wt_tiles.specs.Links.{link_at}
+use Rattle.wt_tiles.specs.Urls.{scheme_len, ext_link_at, bare_url_at}
+use Rattle.wt_tiles.specs.Tags.{tag_at, opening_tag as opens_tag, closing_tag as closes_tag}
+use Rattle.wt_tiles.specs.Tiles.{tag_tile, switch_at, link_or_url, form_at as tile_at, closed as closes, shapes, tiles}
+use Rattle.wt_quotes.specs.Toggles.{toggle_at, toggles_of}
+use Rattle.wt_quotes.specs.Styles.{style_tree_of}
+use Rattle.wt_context.specs.Segments.{loose_segments}
+use Rattle.wt_context.specs.Chunks.{chunks}
+use Rattle.wt_context.specs.Styled.{with_styles}
+use Rattle.wt_context.specs.Nodes.{segments}
+use Rattle.wt_context.specs.Line.{context_parts, line_parts, line_trees}
+use Rattle.wt_page.specs.Rows.{rows}
+use Rattle.wt_page.specs.Texts.{para}
+use Rattle.wt_page.specs.Body.{blocks, meaning}
+use Rattle.wt_call_data.specs.CallData.{call_part, param_by, trimmed as trimmed_data}
+use Rattle.wt_annotated.specs.Annotated.{annotated}
+use Rattle.wt_annotated.specs.GroupData.{group_data}
+use Rattle.wt_annotated.specs.Labels.{label_at}
+use Rattle.wt_expand.specs.PageItems.{page_items}
+use Rattle.wt_expand.specs.Texts.{trimmed, trimmed_items, name_text}
+use Rattle.wt_expand.specs.Targets.{title_in_target, title_of_target, is_function, called}
+use Rattle.wt_expand.specs.Templates.{begins_only, ends_only, template_text}
+use Rattle.wt_expand.specs.Work.{Pages, deep_place, template_refusal, most_bytes, most_cost, first_refusal}
+use Rattle.wt_expand.specs.Expansion.{text_members, most_templates, absent_text, loop_text, depth_text, page_work}
+use Rattle.wt_expand.specs.Fronts.{allowed_work}
+use Rattle.wt_expand.specs.PageCalls.{page_stretches, expanded_page}
+use Rattle.wt_commands.specs.Answers.{refusal_of_page}
+use Rattle.wt_part_laws.specs.CallPieces.{AreOwnOrGiven, call_pieces}
+use Rattle.wt_part_laws.specs.Expanded.{part_items, GivesAnywhere}
+use Rattle.wt_part_laws.proofs.ExpandedBoth.{plain_anywhere}
+use Rattle.wt_span.specs.Origins.{OuterCall}
+use Rattle.wt_part_laws.specs.MovedCalls.{AreMoved}
+use Rattle.wt_text_edit_laws.specs.NoCalls.{AreUnbraced}
+use Rattle.wt_called_edit_laws.proofs.Written.Joined.{calm_written}
+use Rattle.wt_text_edit_laws.specs.BlockSpots.{BlockSpot}
+use Rattle.wt_text_edit_laws.specs.Contents.{content_parts_of}
+use Rattle.wt_text_edit_laws.specs.Paragraphs.{IsTextLine}
+use Rattle.wt_text_edit_laws.specs.ReadContents.{IsReadContent}
+use Rattle.wt_text_edit_laws.specs.TextBlocks.{a_paragraph}
+use Rattle.wt_beside_laws.specs.Called.{GivesGroup}
+use Rattle.wt_beside_laws.specs.Given.{GivesSigns, IsGroup}
+use Rattle.wt_beside_laws.proofs.Groups.CalledBlocks.{given_both}
+use Rattle.wt_beside_laws.proofs.Groups.Cases.{call, beside_letters}
+use Rattle.wt_beside_laws.proofs.Groups.Folders.{given_by as of_call_parts}
+use Rattle.wt_beside_laws.proofs.Groups.GivenCases.{nothing_item, an_empty_call}
+use Rattle.wt_called_edit_laws.specs.CalledContents.{AreTextItems}
+use Rattle.wt_called_edit_laws.specs.CallingBlocks.{spots_with_calls, items_past}
+use Rattle.wt_called_edit_laws.specs.Covered.{NoGroupAt, HasFreeByte}
+use Rattle.wt_called_edit_laws.specs.EditableBlocks.{IsEditableWithCalls}
+use Rattle.wt_called_edit_laws.specs.Groups.{called_tree}
+use Rattle.wt_called_edit_laws.specs.InCells.{AreTextLines}
+use Rattle.wt_called_edit_laws.specs.ItemSpots.{ArePlaced}
+use Rattle.wt_called_edit_laws.specs.Parts.{calls_to, calls_past, AreCalled}
+use Rattle.wt_called_edit_laws.specs.PiecedParagraphs.{HasOwn, IsInPieces}
+use Rattle.wt_called_edit_laws.specs.WholeContents.{of_call, AreGroups, AreShutParts}
+use Rattle.wt_called_edit_laws.specs.InPieces.{AreInPieces}
+use Rattle.wt_called_edit_laws.specs.PageThings.{ArePageThings}
+use Rattle.wt_called_edit_laws.specs.Written.{IsOwnPart}
+use Rattle.wt_called_edit_laws.specs.WrittenAnew.{StayButForOthers}
+use Rattle.wt_called_edit_laws.proofs.Whole.Contents.{shut_both, call_shut_parts}
+use Rattle.wt_called_edit_laws.proofs.Whole.OfCall.{is_same, of_here}
+use Rattle.wt_called_edit_laws.proofs.Written.Cases.{call_read, call_sealed, call_shut, call_utf8}
+use Rattle.wt_called_edit_laws.proofs.Whole.Pieced.{pieced_content, pieced_holds}
+
+-- `Template:T` gives nothing, and no other page is there
+abbrev pub a_void : Pages
+a_void full = if bytes_eq full (codes "Template:T") then Some [] else None
+
+abbrev source : List ℕ
+source = codes "x{{t}}y"
+
+abbrev pieces : List (List ℕ)
+pieces = codes "x" ∷ codes "{{t}}" ∷ codes "y" ∷ []
+
+-- what the call gives, a mark
+abbrev mark : ℕ → List Item
+mark i = nothing_item i (codes "{{t}}") ∷ []
+
+abbrev given : ℕ → List Item
+given i = char None 120 ∷ nothing_item i (codes "{{t}}") ∷ char None 121 ∷ []
+
+-- ---- the call
+
+gives_mark : (i : ℕ) → part_items a_void i (codes "{{t}}") ≡ mark i
+unfolding words closed form_at comment_len comment_line_len raw_len opening_tag tag_after closing_tag with_inside is_extension
+    include_at entity_at named_entity decimal_entity hex_entity entity_names sign_word reduced rewritten parts_of text_members trimmed
+    trimmed_items name_text called most_templates is_function title_of_target title_in_target read_text is_allowed is_forbidden
+    is_good has_signature is_step begins_with_step holds_step ends_with_step name_of image is_called namespace_named prefix_of
+    full_name_of whole_in cut_namespace title_in template_text begins_only ends_only loop_text depth_text absent_text
+    utf8_valid_len is_utf8 chars encode link_to page_stretches
+gives_mark i = refl
+
+gives : GivesGroup a_void beside_letters (codes "{{t}}")
+gives = λ i. subst (IsGroup beside_letters i) (sym (gives_mark i)) (an_empty_call i)
+
+gives_here : (i : ℕ) → GivesSigns i (mark i)
+gives_here i = let k : IsGroup beside_letters i (mark i) = an_empty_call i in k.gives
+
+call_anywhere : GivesAnywhere a_void (codes "{{t}}")
+unfolding words closed form_at comment_len comment_line_len raw_len opening_tag tag_after closing_tag with_inside is_extension
+    include_at entity_at named_entity decimal_entity hex_entity entity_names sign_word reduced rewritten parts_of text_members trimmed
+    trimmed_items name_text called most_templates is_function title_of_target title_in_target read_text is_allowed is_forbidden
+    is_good has_signature is_step begins_with_step holds_step ends_with_step name_of image is_called namespace_named prefix_of
+    full_name_of whole_in cut_namespace title_in template_text begins_only ends_only loop_text depth_text absent_text
+    utf8_valid_len is_utf8 chars encode link_to page_stretches expanded_page
+call_anywhere = record { outputs = refl; alike = λ at. record { items = λ k. refl; outers = refl; texts = refl } }
+
+call_alone : IsOwnPart a_void (codes "{{t}}")
+unfolding words closed form_at comment_len comment_line_len raw_len opening_tag tag_after closing_tag with_inside is_extension
+    include_at entity_at named_entity decimal_entity hex_entity entity_names sign_word reduced rewritten parts_of text_members trimmed
+    trimmed_items name_text called most_templates is_function title_of_target title_in_target read_text is_allowed is_forbidden
+    is_good has_signature is_step begins_with_step holds_step ends_with_step name_of image is_called namespace_named prefix_of
+    full_name_of whole_in cut_namespace title_in template_text begins_only ends_only loop_text depth_text absent_text
+    utf8_valid_len is_utf8 chars encode link_to page_stretches expanded_page deep_place too_deep calls nesting
+call_alone = record { left = refl; anywhere = call_anywhere; texts = refl; undeep = refl }
+
+of_page : ArePageThings a_void (call ∷ [])
+of_page = (record { folder = gives; read = call_read; part = call_alone; sealed = call_sealed; shut = call_shut; utf8 = call_utf8 }, tt, tt)
+
+-- ---- its pieces
+
+first_calm : AreUnbraced (page_items (codes "x"))
+unfolding page_items words closed form_at comment_len comment_line_len raw_len opening_tag tag_after closing_tag with_inside include_at entity_at named_entity
+    decimal_entity hex_entity entity_names sign_word
+first_calm = (refl, tt)
+
+last_calm : AreUnbraced (page_items (codes "y"))
+unfolding page_items words closed form_at comment_len comment_line_len raw_len opening_tag tag_after closing_tag with_inside include_at entity_at named_entity
+    decimal_entity hex_entity entity_names sign_word
+last_calm = (refl, tt)
+
+in_pieces : AreInPieces a_void pieces
+unfolding words closed form_at comment_len comment_line_len raw_len opening_tag tag_after closing_tag with_inside include_at entity_at named_entity
+    decimal_entity hex_entity entity_names sign_word
+in_pieces =
+    let first = calm_written a_void (codes "x") first_calm in
+    let last = calm_written a_void (codes "y") last_calm in
+    (first.part, inl refl, (call_alone, inl refl, (last.part, inl refl, tt)))
+
+no_calls : (os : List OuterCall) → AreMoved [] os → os ≡ []
+no_calls [] m = refl
+no_calls (o ∷ os) m = absurd m
+
+among : StayButForOthers a_void pieces (codes "{{t}}" ∷ [])
+among =
+    let first = calm_written a_void (codes "x") first_calm in
+    let last = calm_written a_void (codes "y") last_calm in
+    inr (no_calls (expanded_page a_void (codes "x")).outer first.calls_are, inl (refl, (no_calls (expanded_page a_void (codes "y")).outer last.calls_are, tt)))
+
+items_are : (i : ℕ) → part_items a_void i source ≡ given i
+unfolding words closed form_at comment_len comment_line_len raw_len opening_tag tag_after closing_tag with_inside is_extension
+    include_at entity_at named_entity decimal_entity hex_entity entity_names sign_word reduced rewritten parts_of text_members trimmed
+    trimmed_items name_text called most_templates is_function title_of_target title_in_target read_text is_allowed is_forbidden
+    is_good has_signature is_step begins_with_step holds_step ends_with_step name_of image is_called namespace_named prefix_of
+    full_name_of whole_in cut_namespace title_in template_text begins_only ends_only loop_text depth_text absent_text
+    utf8_valid_len is_utf8 chars encode link_to page_stretches
+items_are i = refl
+
+-- ---- its parts
+
+abbrev parts : ℕ → List Part
+parts i = loose Text None 120 ∷ (line_parts (mark i) ++ loose Text None 121 ∷ [])
+
+parts_are : (i : ℕ) → content_parts_of a_paragraph (given i) ≡ parts i
+unfolding context_parts chunks segments loose_segments tiles shapes closes tile_at link_or_url link_at ext_link_at bare_url_at scheme_len tag_tile tag_at switch_at
+    with_styles style_tree_of toggles_of toggle_at opens_tag closes_tag children
+parts_are i = refl
+
+parts_there : (i : ℕ) → content_parts_of a_paragraph (part_items a_void i source) ≡ parts i
+parts_there i = ap (content_parts_of a_paragraph) (items_are i) ∙ parts_are i
+
+own_here : (i : ℕ) → AreOwnOrGiven (parts i)
+own_here i = let k = gives_here i in given_both (line_parts (mark i)) (loose Text None 121 ∷ []) (of_call_parts i (line_parts (mark i)) k.inside) tt
+
+shut_here : (i : ℕ) → AreShutParts (parts i)
+shut_here i = let k = gives_here i in shut_both (line_parts (mark i)) (loose Text None 121 ∷ []) (call_shut_parts i (line_parts (mark i)) k.inside) tt
+
+given_here : (i : ℕ) → of_call i (given i) ≡ mark i
+given_here i = of_here i (nothing_item i (codes "{{t}}")) (char None 121 ∷ []) (is_same (Some i) i refl)
+
+groups_here : (i : ℕ) → AreGroups (given i) (call_pieces (children (parts i)))
+unfolding context_parts chunks segments loose_segments tiles shapes closes tile_at link_or_url link_at ext_link_at bare_url_at scheme_len tag_tile tag_at switch_at
+    with_styles style_tree_of toggles_of toggle_at opens_tag closes_tag children
+groups_here i =
+    (subst (GivesSigns i) (sym (given_here i)) (gives_here i), ap (λ (xs : List Item). children (line_parts xs)) (sym (given_here i)), tt)
+
+groups_there : (i : ℕ) → AreGroups (part_items a_void i source) (call_pieces (children (content_parts_of a_paragraph (part_items a_void i source))))
+groups_there i =
+    subst (λ (ps : List Part). AreGroups (part_items a_void i source) (call_pieces (children ps))) (sym (parts_there i))
+    (subst (λ (xs : List Item). AreGroups xs (call_pieces (children (parts i)))) (sym (items_are i)) (groups_here i))
+
+-- ---- the paragraph
+
+source_utf8 : IsUtf8 source
+unfolding encode
+source_utf8 = (source, (refl, refl))
+
+-- the call is read as characters
+is_read : IsReadContent a_paragraph source
+unfolding page_items words closed form_at comment_len comment_line_len raw_len opening_tag tag_after closing_tag with_inside include_at entity_at named_entity
+    decimal_entity hex_entity entity_names sign_word
+is_read = record {
+  utf8 = source_utf8;
+  ended = refl;
+  unended = refl;
+  begins = record { alone = record { uncommented = refl }; before_break = record { uncommented = refl }; shown = refl };
+}
+
+is_text : (i : ℕ) → AreTextItems (given i)
+unfolding kind_of_signs
+is_text i = record {
+  are_lines = All-cons IsTextLine (given i) [] refl (All-nil IsTextLine);
+  unled = refl;
+  own_breaks = ((λ e. absurd (cc)), ((λ e. absurd (cc)), ((λ e. absurd (cc)), tt)));
+}
+
+pub here : IsInPieces a_void source
+here = record {
+  pieces = pieces;
+  is = refl;
+  parts = in_pieces;
+  nodes = call ∷ [];
+  things = of_page;
+  among = among;
+  read = is_read;
+  lines = λ i. subst AreTextItems (sym (items_are i)) (is_text i);
+  texts = λ i. subst AreOwnOrGiven (sym (parts_there i)) (own_here i);
+  groups = groups_there;
+  shut = λ i. subst AreShutParts (sym (parts_there i)) (shut_here i);
+  some = λ i. subst HasOwn (sym (parts_there i)) tt;
+}
+
+-- ---- the page
+
+abbrev a_block : BlockSpot
+a_block = record { before = []; block = a_paragraph; text = source }
+
+abbrev blocks_here : List BlockSpot
+blocks_here = a_block ∷ []
+
+anywhere : GivesAnywhere a_void source
+unfolding words closed form_at comment_len comment_line_len raw_len opening_tag tag_after closing_tag with_inside is_extension include_at entity_at named_entity
+    decimal_entity hex_entity entity_names sign_word reduced rewritten
+anywhere = plain_anywhere a_void source tt
+
+called_here : AreCalled a_void blocks_here []
+unfolding page_items words closed form_at comment_len comment_line_len raw_len opening_tag tag_after closing_tag with_inside is_extension include_at entity_at
+    named_entity decimal_entity hex_entity entity_names sign_word reduced rewritten
+called_here = (
+  record { ended = tt; before_utf8 = IsUtf8-nil; block = is_read },
+  (record { uncommented = refl }, IsUtf8-nil, tt),
+  record { end_before = (refl, inr tt, tt); anywhere = (anywhere, tt); apart = tt },
+)
+
+nothing : (i : ℕ) → part_items a_void i [] ≡ []
+unfolding words closed text_members page_stretches reduced
+nothing i = refl
+
+stays_text : (i : ℕ) → AreTextLines 0 (given i)
+unfolding kind_of_signs
+stays_text i = All-cons (λ l. line_kind 0 l ≡ line.Text) (given i) [] refl (All-nil (λ l. line_kind 0 l ≡ line.Text))
+
+placed_here : ArePlaced (spots_with_calls a_void 0 blocks_here) (items_past a_void 0 blocks_here [])
+placed_here =
+    let P : List Item → List Item → List Item → Type 0 = λ before xs behind. ArePlaced (record { before = before; block = a_paragraph; content = xs } ∷ []) behind in
+    let n : ℕ = calls_past a_void 0 a_block in
+    let at : ℕ = calls_to a_void 0 a_block in
+    let own : P [] (given at) [] = ((is_text at, record { whole = refl; in_cells = tt; apart = tt }, stays_text at), tt) in
+    subst (λ before. P before (part_items a_void at source) (part_items a_void n [])) (sym (nothing 0))
+    (subst (λ xs. P [] xs (part_items a_void n [])) (sym (items_are at)) (subst (λ behind. P [] (given at) behind) (sym (nothing n)) own))
+
+unrefused_here : refusal_of_page a_void source ≡ None
+unfolding words closed form_at comment_len comment_line_len raw_len opening_tag tag_after closing_tag with_inside is_extension
+    include_at entity_at named_entity decimal_entity hex_entity entity_names sign_word reduced rewritten text_members trimmed
+    trimmed_items name_text called most_templates is_function title_of_target title_in_target read_text is_allowed is_forbidden
+    is_good has_signature is_step begins_with_step holds_step ends_with_step name_of image is_called namespace_named prefix_of
+    full_name_of whole_in cut_namespace title_in template_text begins_only ends_only loop_text depth_text absent_text page_work
+    allowed_work deep_place too_deep calls nesting template_refusal most_bytes most_cost not_utf8_place utf8_valid_len
+    is_utf8 chars encode first_refusal
+unrefused_here = refl
+
+-- the group of the call is behind `x`
+behind_first : 0 < 1
+behind_first = omega arith
+
+no_group_here : NoGroupAt 0 (called_tree a_void source)
+unfolding words closed form_at comment_len comment_line_len raw_len opening_tag tag_after closing_tag with_inside is_extension
+    include_at entity_at named_entity decimal_entity hex_entity entity_names sign_word reduced rewritten parts_of text_members trimmed
+    trimmed_items name_text called most_templates is_function title_of_target title_in_target read_text is_allowed is_forbidden
+    is_good has_signature is_step begins_with_step holds_step ends_with_step name_of image is_called namespace_named prefix_of
+    full_name_of whole_in cut_namespace title_in template_text begins_only ends_only loop_text depth_text absent_text
+    utf8_valid_len is_utf8 chars encode link_to page_stretches expanded_page kind_of_signs
+    annotated group_data call_part param_by trimmed_data label_at meaning rows blocks children para line_trees
+    context_parts chunks segments loose_segments tiles shapes closes tile_at link_or_url link_at ext_link_at bare_url_at scheme_len tag_tile tag_at switch_at
+    with_styles style_tree_of toggles_of toggle_at opens_tag closes_tag
+no_group_here = ((tt, (inl behind_first, (tt, tt))), tt)
+
+-- so the first byte of the block is free
+free_here : HasFreeByte (called_tree a_void source) 0 (length source)
+free_here =
+    let low : 0 ≤ 0 = omega arith in
+    let high : 0 < 7 = omega arith in
+    (0, low, high, no_group_here)
+
+-- So texts may be typed beside its call.
+pub in_class : IsEditableWithCalls a_void blocks_here []
+in_class = record {
+  blocks = record { called = called_here; contents = (pieced_content a_void source here, tt); placed = placed_here };
+  contents = (inr (pieced_holds a_void source here), tt);
+  unrefused = unrefused_here;
+  free = (free_here, tt);
+}

@@ -1,0 +1,92 @@
+-- The paragraphs and headings of a page's tree by the page's rows: of which each is, and where it begins.
+use Rattle.std.specs.Prelude.{◌≡◌, ◌⊎◌, ℕ, zero, suc, ◌+◌, List, [], ◌∷◌, ◌++◌, length, take, drop, map}
+use Rattle.wt_span.specs.Items.{Item, sources}
+use Rattle.wt_tree.specs.declared.kind.Kind.{Kind}
+use Rattle.wt_tree.specs.declared.kind.Kind.TheVariants as kind
+use Rattle.wt_tree.specs.Tree.{Tree, tree, Trees, none, more}
+use Rattle.wt_inline.specs.ItemTree.{ItemTree}
+use Rattle.wt_expand.specs.PageItems.{page_items}
+use Rattle.wt_lines.specs.declared.kind.LineKind.TheVariants as line
+use Rattle.wt_lines.specs.Lines.{content, full_lines}
+use Rattle.wt_tables.specs.Parts.{joined}
+use Rattle.wt_page.specs.Headings.{heading}
+use Rattle.wt_page.specs.Lines.{kind_at}
+use Rattle.wt_page.specs.Rows.{Row, all_items, marks_len, whole_row, rows_from}
+use Rattle.wt_page.specs.Texts.{para}
+use Rattle.wt_part_laws.specs.Blocks.{AllAre, BeginOtherwise}
+use Rattle.wt_part_laws.specs.Rounds.{EndOtherwise}
+use Rattle.wt_part_laws.specs.Slots.{AllTrue}
+use Rattle.wt_part_laws.specs.Standing.{standing}
+use Rattle.wt_text_edit_laws.specs.BodyParagraphs.{EndWhole}
+use Rattle.wt_text_edit_laws.specs.ParagraphBetween.{written_rows, tables_behind, EndApart, BeginApart}
+use Rattle.wt_called_edit_laws.specs.AnyBlocks.{open_after}
+
+abbrev pub IsTextBlock : Kind → Type 0
+IsTextBlock k = (k ≡ kind.Para) ⊎ ((n : ℕ) × (k ≡ kind.Heading n))
+
+-- at this path is this node
+abbrev mutual
+  pub IsAtPath : List ℕ → Tree → Tree → Type 0
+  IsAtPath [] t u = t ≡ u
+  IsAtPath (i ∷ is) (tree l ts) u = IsAmong i is ts u
+
+  pub IsAmong : ℕ → List ℕ → Trees → Tree → Type 0
+  IsAmong i is none u = ⊥
+  IsAmong zero is (more t ts) u = IsAtPath is t u
+  IsAmong (suc i) is (more t ts) u = IsAmong i is ts u
+
+-- where this row begins, behind its marks, if these are the rows before it
+abbrev pub begins_behind : List Row → Row → ℕ
+begins_behind before r = length (sources (all_items before)) + length (sources r.lead)
+
+-- A block is made of rows of text, with no other text beside them, or of a heading's row, and begins at this byte. They are in the body, or in
+-- cells and captions.
+pub data IsOfRows (all : List Row) (at : ℕ) (block : ItemTree) : Type 0 where
+  of_text : (before : List Row) (first : Row) (others behind : List Row) → all ≡ before ++ ((first ∷ others) ++ behind) → AllTrue (open_after [] before)
+      → EndOtherwise line.Text before → AllAre line.Text (first ∷ others) → BeginOtherwise line.Text behind → at ≡ begins_behind before first
+      → block ≡ para (first ∷ others) → IsOfRows all at block
+  of_heading : (before : List Row) (row : Row) (behind : List Row) → all ≡ before ++ row ∷ behind → AllTrue (open_after [] before) → row.kind ≡ line.Heading
+      → at ≡ begins_behind before row → block ≡ heading row.items → IsOfRows all at block
+
+-- a node of a page's tree is such a block of the page's rows
+pub record StandsOnRows (page : List ℕ) (t : Tree) : Type 0 where
+  pub number : ℕ
+  pub before : List Item
+  pub block : ItemTree
+  pub is : t ≡ standing number before block
+  pub by_rows : IsOfRows (rows_from 0 (full_lines (page_items page))) (length (sources before)) block
+
+-- ---- by the page's lines
+
+-- where so many tables are open, each of these lines is of text
+abbrev pub AreOfText : ℕ → List (List Item) → Type 0
+AreOfText n [] = Unit {0}
+AreOfText n (l ∷ ls) = (kind_at n l ≡ line.Text) × AreOfText n ls
+
+abbrev pub text_row : List Item → Row
+text_row l = whole_row line.Text (marks_len l) l
+
+-- where this line begins, behind its marks, if these are the lines before it
+abbrev pub begins_at : List (List Item) → List Item → ℕ
+begins_at before l = length (sources (joined before)) + length (sources (take (marks_len l) l))
+
+-- A block is made of lines of text, with no other text beside them, or of a heading's line, and begins at this byte, behind the marks that begin its
+-- first line; or it begins on a line behind the `|}` of a table's end or the `-` of a rule, whose row isn't a line by itself.
+pub data IsOfLines (ls : List (List Item)) (at : ℕ) (block : ItemTree) : Type 0 where
+  of_lines : (before : List (List Item)) (first : List Item) (others behind : List (List Item)) → ls ≡ before ++ ((first ∷ others) ++ behind)
+      → AllTrue (open_after [] (written_rows 0 before)) → EndApart (written_rows 0 before) → AreOfText (tables_behind 0 before) (first ∷ others)
+      → BeginApart (rows_from (tables_behind 0 before) behind) → at ≡ begins_at before first → block ≡ para (map text_row (first ∷ others))
+      → IsOfLines ls at block
+  of_line : (before : List (List Item)) (own : List Item) (behind : List (List Item)) → ls ≡ before ++ own ∷ behind
+      → AllTrue (open_after [] (written_rows 0 before)) → kind_at (tables_behind 0 before) own ≡ line.Heading → at ≡ begins_at before own
+      → block ≡ heading (content (drop (marks_len own) own)) → IsOfLines ls at block
+  behind_a_sign : (before : List Row) (first : Row) (others behind : List Row) → rows_from 0 ls ≡ before ++ ((first ∷ others) ++ behind)
+      → (EndWhole before → ⊥) → at ≡ begins_behind before first → block ≡ para (first ∷ others) → IsOfLines ls at block
+
+-- a node of a page's tree is such a block of the page's lines
+pub record StandsOnLines (page : List ℕ) (t : Tree) : Type 0 where
+  pub number : ℕ
+  pub before : List Item
+  pub block : ItemTree
+  pub is : t ≡ standing number before block
+  pub by_lines : IsOfLines (full_lines (page_items page)) (length (sources before)) block
