@@ -13,7 +13,7 @@ use Rattle.wt_called_edit_laws.specs.Nodes.{block_at}
 use Rattle.wt_called_edit_laws.specs.TreeEdits.{IsNumberedBody}
 use Rattle.wt_called_edit_laws.proofs.BlocksMade.{all_inline}
 use Rattle.wt_called_edit_laws.proofs.EditFacts.{IsFramedPage, framed_page, paths_of, new_spots, spots_utf8, spots_body, spots_stand, well_sent}
-use Rattle.wt_called_edit_laws.proofs.EditTaken.{IsExpandable, MakesFrom, edit_done, unmarked_done}
+use Rattle.wt_called_edit_laws.proofs.EditTaken.{IsExpandable, MakesFrom, edit_done, edit_spliced, unmarked_done}
 use Rattle.wt_called_edit_laws.proofs.Leads.{edit_at}
 use Rattle.wt_called_edit_laws.proofs.NodesTold.{found_apart}
 use Rattle.wt_called_edit_laws.proofs.OwnContents.{own_contents}
@@ -54,6 +54,7 @@ contents_by pages ss behind f h = record {
   stand = spots_stand pages ss behind f h;
   edits = own_contents (spots_tree pages ss behind) ss f.nodes (numbered_body pages ss behind h) (spots_stand pages ss behind f h);
   takes = λ b es e le. edit_done pages (spots_source ss behind) (spots_source (new_spots f es) behind) es b (makes_from pages ss behind f es h e) le;
+  makes = λ b es e. edit_spliced pages (spots_source ss behind) (spots_source (new_spots f es) behind) es b (makes_from pages ss behind f es h e);
   unmarked = λ stands input b unsourced es e found short le small is.
       unmarked_done pages (spots_source ss behind) (spots_source (new_spots f es) behind) es b stands input unsourced (makes_from pages ss behind f es h e.edit)
       (told pages ss behind f es h e) found short le small is;

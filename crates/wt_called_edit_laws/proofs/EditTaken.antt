@@ -11,6 +11,9 @@ use Rattle.wt_tree.specs.Tree.{Label, Tree, tree, label}
 use Rattle.wt_utf8.specs.Places.{not_utf8_place}
 use Rattle.wt_utf8.proofs.PlaceLaws.{no_place}
 use Rattle.wt_checks.specs.Kept.{children}
+use Rattle.wt_checks.proofs.Sections.{no_difference}
+use Rattle.wt_checks.specs.Checked.{checked}
+use Rattle.wt_checks.specs.Places.{page_of, is_content}
 use Rattle.wt_checks.specs.PutBack.{have_frame}
 use Rattle.wt_expand.specs.PageCalls.{expanded_page}
 use Rattle.wt_schema.specs.Read.{page as as_page, read}
@@ -23,6 +26,9 @@ use Rattle.wt_visible.specs.SameNodes.{same_node}
 use Rattle.wt_visible.proofs.DifferingLaws.{same_none}
 use Rattle.wt_difference.specs.Remarked.{remarked}
 use Rattle.wt_selser.specs.Edits.{most_bytes, edit_answer}
+use Rattle.wt_selser.proofs.Sections.{slices_same}
+use Rattle.wt_slices.specs.BodySlices.{slices}
+use Rattle.wt_splice.specs.Splice.{spliced}
 use Rattle.wt_commands.specs.declared.refusal.Refusal.TheVariants.{TooLong}
 use Rattle.wt_commands.specs.Answers.{Answer, refusal_of_page, done, refused, text_answer, title_answer, expanded_by, unspelled_by, unspelled_answer, new_by, new_expanded, new_answer, edit_by, edit_from, edit_to, IsText}
 use Rattle.wt_commands.proofs.SectionEdits.{page_bare}
@@ -30,7 +36,10 @@ use Rattle.wt_commands.specs.UnmarkedEdits.{EditIsDone, DoneByEdit}
 use Rattle.wt_typed_blocks.specs.Edited.{Edits, page_nodes, page_body, sent_body, edits_show, AreEdited, AreOutside}
 use Rattle.wt_typed_blocks.specs.EditedPage.{edited_sources, AreTaken, LieAt, AreApart}
 use Rattle.wt_typed_blocks.specs.EditedUnmarked.{bare_body, AreTold}
-use Rattle.wt_typed_blocks.proofs.EditedSections.{answer_in_sections}
+use Rattle.wt_typed_blocks.proofs.EditedKept.{found, passes}
+use Rattle.wt_typed_blocks.proofs.EditedSections.{one_body, answer_in_sections}
+use Rattle.wt_typed_blocks.proofs.EditedSlices.{changes_of, slices_are}
+use Rattle.wt_typed_blocks.proofs.EditedSpliced.{spliced_is}
 use Rattle.wt_typed_blocks.proofs.EditedShows.{page_shows}
 use Rattle.wt_typed_blocks.proofs.EditedUnmarked.{told_by_difference}
 use Rattle.wt_text_edit_laws.proofs.Prose.ProseTakes.{as_edit, not_longer}
@@ -92,6 +101,33 @@ answer_so pages page new es b h le =
     h.sent h.outside h.taken h.apart
     (sym (ap flat_of_all h.old ∙ body.source)) h.lie short
     ∙ ap Ok h.source
+
+-- ---- what is spliced
+
+checks_pass : (pages : Pages) (page new : List ℕ) (es : Edits) (b : Label) → MakesFrom pages page new es
+    → checked false (page_tree pages page) (sent_body (label (called_tree pages page)) b es) ≡ None
+checks_pass pages page new es b h =
+    let l : Label = label (called_tree pages page) in
+    let u : Tree = sent_body l b es in
+    no_difference false (page_tree pages page) u (page_bare pages page h.was.utf8 h.was.unrefused)
+    ∙ ap (λ (o : Tree). checked false o u) (opened_is pages page new es h)
+    ∙ passes l b es (in_order pages page new es h) (none_frame pages page new es h) h.sent h.outside
+
+pub edit_spliced : (pages : Pages) (page new : List ℕ) (es : Edits) (b : Label) → MakesFrom pages page new es
+    → spliced page (slices same_node (page_tree pages page) (sent_body (label (called_tree pages page)) b es)) ≡ new
+edit_spliced pages page new es b h =
+    let l : Label = label (called_tree pages page) in
+    let u : Tree = sent_body l b es in
+    let pre : InPreorder (page_body l es) = in_order pages page new es h in
+    let bare = page_bare pages page h.was.utf8 h.was.unrefused in
+    let body = body_is pages page h.was in
+    let own : slices same_node (page_body l es) u ≡ changes_of same_node es =
+    slices_are same_node (page_of (page_body l es)) 0 (is_content l.mark) es h.sent (found l es pre) in
+    ap (spliced page) (slices_same same_node (page_tree pages page) u bare (one_body l b es h.sent (none_frame pages page new es h)) (checks_pass pages page new es b h))
+    ∙ ap (λ (o : Tree). spliced page (slices same_node o u)) (opened_is pages page new es h)
+    ∙ ap (spliced page) own
+    ∙ spliced_is same_node page es (sym (ap flat_of_all h.old ∙ body.source)) h.lie
+    ∙ h.source
 
 -- ---- the new page
 

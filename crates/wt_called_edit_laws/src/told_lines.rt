@@ -19,6 +19,7 @@ ghost use Rattle.wt_text_edit_laws.specs.TypedHeadings.{Sides};
 ghost use Rattle.wt_beside_laws.specs.EndedNodes.{LinesOpenNoPair, AreEndedNodes};
 ghost use Rattle.wt_beside_laws.specs.FlatBlocks.{lines_in, signs_in};
 ghost use Rattle.wt_beside_laws.specs.StyledIn.{IsStyledIn};
+ghost use Rattle.wt_called_edit_laws.specs.AllTold.{AllBlocksTold};
 ghost use Rattle.wt_called_edit_laws.specs.CalledPages.{IsCalledPage};
 ghost use Rattle.wt_called_edit_laws.specs.EditsAt.{IsStanding, AllStand};
 ghost use Rattle.wt_called_edit_laws.specs.Groups.{called_tree};
@@ -32,8 +33,8 @@ ghost use Rattle.wt_called_edit_laws.specs.ToldLines.{Told, lined, IsToldPage};
 ghost use Rattle.wt_called_edit_laws.specs.ToldTogether.{AreAllTold};
 
 /// A heading's line is told by itself. Where one of a page's lines, behind the marks that begin it, is of a heading's kind and
-/// begins with `=`, and something is between its delimiters (`IsLinedHeading`), it is the line of a heading with the sides and
-/// the text that these delimiters give it, and no others are a line's. At the page's end no comment and no hidden part is open.
+/// begins with `=` (`IsLinedHeading`), it is the line of a heading with the sides and the text that its delimiters give it, and no
+/// others are a line's; the text may be empty. At the page's end no comment and no hidden part is open.
 pub fn headings_are_told_by_their_lines()
     ensures told { (page : List ℕ) (before : List (List Item)) (marks : List Item) (l : List Item) (behind : List (List Item)) (n : ℕ) → EndsClosed page []
         → 1 ≤ length l → full_lines (page_items page) ≡ before ++ (marks ++ l) ∷ behind → IsLinedHeading n l
@@ -86,4 +87,12 @@ pub fn each_block_stands_on_lines()
 /// has no node that can only be kept as a whole, and at whose end no comment and no hidden part is open.
 pub fn told_blocks_are_told_together()
     ensures all { (page : List ℕ) → IsUtf8 page → CallsNothing (page_items page) → HasNoGroups page → EndsClosed page [] → AreAllTold page }
+{}
+
+/// So each paragraph and heading of such a page's tree that isn't tangled may be edited at its path, which is one of those of
+/// blocks that the lines tell; but for these: a heading with nothing between its `=`, text behind the sign of a table's end or a
+/// rule on its line, text that begins with a mark behind blanks, and the others of `IsExceptedAt`.
+pub fn each_block_is_told_or_excepted()
+    ensures all { (pages : Pages) (page : List ℕ) → IsUtf8 page → CallsNothing (page_items page) → HasNoGroups page → EndsClosed page []
+        → AllBlocksTold pages page }
 {}

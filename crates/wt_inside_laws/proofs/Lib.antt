@@ -36,6 +36,8 @@ pub mod SlotsLed
 pub mod Breaks
 pub mod SlotsFirst
 pub mod OwnEdits
+pub mod ToldEdits
+pub mod HtmlEdits
 pub mod InsidesCases
 pub mod PageCases
 pub mod LocalCases

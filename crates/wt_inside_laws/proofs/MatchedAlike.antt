@@ -1,6 +1,6 @@
 -- The edit of a page's nodes that was made of what was sent is answered as that is.
 use Rattle.std.proofs.Common.{◌≡◌, ◌≢◌, ℕ, Bool, true, false, List, [], ◌∷◌, ◌++◌, map, refl, sym, ap, ap₂, ◌∙◌, subst}
-use Rattle.std.specs.Prelude.{◌==◌, ◌||◌, not, if◌then◌else◌, Option, Some, None, option_map}
+use Rattle.std.specs.Prelude.{◌==◌, ◌||◌, not, Option, Some, None, option_map, if◌then◌else◌}
 use Rattle.std.specs.List.{AllByRecursion}
 use Rattle.wt_span.specs.Origins.{Expanded}
 use Rattle.wt_tree.specs.declared.kind.Kind.{Kind}
@@ -13,6 +13,7 @@ use Rattle.wt_tree.specs.Plain.{ended, plains_before}
 use Rattle.wt_tree.specs.Tiling.{is_group, HasNoGroup, NoneIsGroup, InPreorder, numbers_of_all}
 use Rattle.wt_tree.specs.Tree.{Label, Tree, tree, Trees, label}
 use Rattle.wt_checks.specs.declared.refusal.TreeRefusal.{TreeRefusal}
+use Rattle.wt_checks.specs.BareSections.{HasBareSections}
 use Rattle.wt_checks.specs.Checked.{checked}
 use Rattle.wt_checks.specs.Groups.{is_marked}
 use Rattle.wt_checks.specs.Kept.{Kept, HoldsTheSame, NodeAsItWas}
@@ -33,7 +34,7 @@ use Rattle.wt_splice.specs.Splice.{Change, spliced}
 use Rattle.wt_selser.specs.declared.refusal.EditRefusal.{EditRefusal}
 use Rattle.wt_selser.specs.declared.refusal.EditRefusal.TheVariants as refusal
 use Rattle.wt_selser.specs.Edits.{refused_pairs, if_short, unless_refused, pairs_answer, edit_answer}
-use Rattle.wt_selser.proofs.Sections.{answers_same}
+use Rattle.wt_selser.proofs.Sections.{answers_same, slices_same}
 use Rattle.wt_visible.specs.Children.{listed}
 use Rattle.wt_visible.specs.Restored.{held_by, all_restored}
 use Rattle.wt_typed_blocks.specs.Edited.{Edited, stays, edited, round, Edits, no_edits, more_edits, page_node, page_nodes, AreEdited, IsOutside, AreOutside, page_body, sent_body}
@@ -161,6 +162,16 @@ sent_answer same items bytes l b es pre f g h =
     (ap (refused_pairs same items bytes) (marked_are l b es h (found l es pre)))
     (edited_slices.slices_are same (page_of (page_body l es)) 0 (is_content l.mark) es h (found l es pre))
 
+sent_slices : (same : Same) (t : Tree) (l b : Label) (es : Edits) → HasBareSections t → without_sections t ≡ page_body l es → InPreorder (page_body l es)
+    → have_frame (page_nodes es) ≡ false → NoneIsGroup (page_nodes es) → AreEdited es → slices same t (sent_body l b es) ≡ changes_of same es
+sent_slices same t l b es bare is pre f g h =
+    let u : Tree = sent_body l b es in
+    let own : slices same (page_body l es) u ≡ changes_of same es =
+    edited_slices.slices_are same (page_of (page_body l es)) 0 (is_content l.mark) es h (found l es pre) in
+    slices_same same t u bare (one_body l b es h f)
+    (no_difference false t u bare ∙ ap (λ (o : Tree). checked false o u) is ∙ passes l b es pre f h (outside es g))
+    ∙ ap (λ (o : Tree). slices same o u) is ∙ own
+
 -- ---- all of it
 
 as_sent : (same : Same) (l m : Label) (ts us : Trees) → IsPlainPage (tree l ts) → checked false (tree l ts) (tree m us) ≡ None → AreMatched same l m ts us
@@ -200,6 +211,10 @@ as_sent same l m ts us h c a =
           ap (λ (v : Bool). listed (plains_before (held_by page v m.id us (all_restored page us)) ended)) a.group
           ∙ ap listed (all_shown same page (opened ts) us ended h.ungrouped a.matched)
           ∙ sym (body_shows t l b es stay groups);
+      changes = λ b.
+          (ap (λ (k : Mark). if is_children k then body_slices same page start (steps holder.Body (opened ts) us) else all_child_slices same page us) a.unmarked
+          ∙ slices_are same page (parent_below 0 m.id) (is_content m.mark) (opened ts) us a.stays a.hidden a.matched)
+          ∙ sym (sent_slices same t l b es h.sections is (subst InPreorder is h.in_order) frames groups stay);
     }
 
 pub edits_as_sent : (same : Same) (t new : Tree) → IsPlainPage t → checked false t new ≡ None → AllStay new → IsReadFor t new

@@ -1,7 +1,7 @@
 -- A retyped block of the page, with the page's own nodes, is an edit of its content: nodes and styles stay, and texts go and come.
-use Rattle.std.proofs.Common.{arith, ◌≡◌, ◌⊎◌, ℕ, zero, suc, ◌+◌, ◌<◌, ◌==◌, Bool, true, false, not, Option, Some, None, List, [], ◌∷◌, ◌++◌, length, refl, sym, ap, ap₂, ◌∙◌, subst, inl, inr}
-use Rattle.std.specs.Prelude.{◌||◌, zip, count_by}
-use Rattle.std.specs.List.{AllByRecursion, list_any}
+use Rattle.std.proofs.Common.{arith, ◌≡◌, ℕ, suc, ◌+◌, ◌<◌, ◌==◌, Bool, true, false, not, Option, Some, None, List, [], ◌∷◌, ◌++◌, length, refl, sym, ap, ap₂, ◌∙◌, subst, inl, inr}
+use Rattle.std.specs.Prelude.{◌||◌, zip}
+use Rattle.std.specs.List.{AllByRecursion}
 use Rattle.std.specs.Str.{IsUtf8}
 use Rattle.wt_span.specs.Origins.{Expanded}
 use Rattle.wt_tree.specs.declared.kind.Kind.{Kind}
@@ -22,14 +22,14 @@ use Rattle.wt_slices.specs.Changes.{Pair}
 use Rattle.wt_link_spelling.specs.Spelling.{children_of}
 use Rattle.wt_visible.specs.SameNodes.{same_node}
 use Rattle.wt_typed_blocks.specs.Sent.{Block, paragraph, heading, kind_of}
-use Rattle.wt_typed_blocks.specs.Edited.{IsStyle, Pieces, no_pieces, gone, written, kept, around, new_style, page_pieces, sent_pieces, text_node}
+use Rattle.wt_typed_blocks.specs.Edited.{Pieces, no_pieces, gone, written, kept, around, new_style, sent_pieces, text_node}
 use Rattle.wt_text_edit_laws.specs.TextBlocks.{TextBlock, a_paragraph, a_heading, block_of, block_tree}
 use Rattle.wt_beside_laws.specs.FlatBlocks.{AreOneLine, TextsFitIn, sent_for}
 use Rattle.wt_beside_laws.specs.FlatPages.{AreNodesAndTexts}
 use Rattle.wt_beside_laws.specs.Led.{AreMarksLed}
 use Rattle.wt_beside_laws.specs.NewStyles.{is_bold, NewStylesNest}
 use Rattle.wt_beside_laws.specs.SentPieces.{IsNodeForm}
-use Rattle.wt_beside_laws.specs.SentStyled.{found_then, sent_by, sent_before, sent_content, NestsBy, Nests, AllNest, ShowsBy, Shows, AllShow}
+use Rattle.wt_beside_laws.specs.SentStyled.{found_then, sent_by, sent_before, sent_content, NestsBy, AllNest, ShowsBy, AllShow}
 use Rattle.wt_beside_laws.specs.Styled.{StyledContent, signs_in}
 use Rattle.wt_beside_laws.specs.StyledIn.{IsStyledIn, IsStyledEditOf}
 use Rattle.wt_beside_laws.proofs.Made.OldBlocks.{IsIn, block_kind, no_group}
@@ -42,13 +42,13 @@ use Rattle.wt_beside_laws.proofs.Styled.SentFaults.{text_unbroken, or_both}
 use Rattle.wt_visible.proofs.SameTells.{tells_same}
 use Rattle.wt_called_edit_laws.specs.EditsAt.{IsStanding}
 use Rattle.wt_inside_laws.specs.Contents.{Border, borders, texts, Slot, slots_from, slots}
-use Rattle.wt_inside_laws.specs.RetypedPieces.{pieces_of, as_own, AreRead, ArePiecesOf, Utf8By, HasUtf8, AreUtf8, BeginsUnmarked}
-use Rattle.wt_inside_laws.specs.TextEdits.{breaks_of, takes_text, IsTyped, IsRetypedText, IsOneLine, IsRetyped}
+use Rattle.wt_inside_laws.specs.RetypedPieces.{pieces_of, as_own, AreRead, ArePiecesOf, Utf8By, AreUtf8, BeginsUnmarked}
+use Rattle.wt_inside_laws.specs.TextEdits.{IsRetypedText, IsOneLine, IsRetyped}
 use Rattle.wt_inside_laws.proofs.Between.{texts_between}
 use Rattle.wt_inside_laws.proofs.Breaks.{unbroken_count, count_unbroken}
 use Rattle.wt_inside_laws.proofs.OwnPieces.{own_page, IsElement, AreOfStyle, HoldIn, trees_in, Anything, any_leaves, own_pieces_stay}
 use Rattle.wt_inside_laws.proofs.RetypedPieces.{retyped_pieces}
-use Rattle.wt_inside_laws.proofs.SlotTexts.{LeavesBy, LeavesOf, AllLeaves, depth_after, TextsHold, leaves_hold, texts_hold}
+use Rattle.wt_inside_laws.proofs.SlotTexts.{LeavesBy, AllLeaves, depth_after, TextsHold, leaves_hold, texts_hold}
 use Rattle.wt_inside_laws.proofs.SlotsFirst.{NewFirst, block_first, retyped_first, sent_first}
 use Rattle.wt_inside_laws.proofs.SlotsLed.{TextsLed, own_texts_led, retyped_led, sent_led}
 

@@ -20,6 +20,7 @@ use Rattle.wt_visible.specs.Children.{shown_children, differing}
 use Rattle.wt_visible.specs.Restored.{restored_from}
 use Rattle.wt_visible.specs.SameNodes.{same_node}
 use Rattle.wt_visible.proofs.SameTells.{tells_same}
+use Rattle.wt_slices.specs.BodySlices.{slices}
 use Rattle.wt_slices.specs.Changes.{marked, AllStay}
 use Rattle.wt_selser.specs.declared.refusal.EditRefusal.{EditRefusal}
 use Rattle.wt_commands.specs.Answers.{Answer, refusal_of_page, title_answer, expanded_by, unspelled_by, new_by, edit_by, edit_to, answer_of_edit}
@@ -77,6 +78,7 @@ sent_on pages page new es is h =
       alike = λ b.
           answered_alike pages page new (sent_contents (without_sections (page_tree pages page)) es b) (h.answer (expanded_page pages page) page b) (h.shows b)
           ∙ ap (λ (t : Tree). edit_to pages page (sent_contents t es b)) is;
+      changes = λ b. h.changes b ∙ ap (λ (t : Tree). slices same_node (page_tree pages page) (sent_contents t es b)) is;
     }
 
 pub page_sent : (pages : Pages) (page : List ℕ) (new : Tree) → IsUtf8 page → refusal_of_page pages page ≡ None → NoneIsGroup (children (called_tree pages page))

@@ -1,6 +1,6 @@
 -- Marks at the start of a content: one that comes to be first, since the text before it was deleted, didn't begin its line in the page.
-use Rattle.std.proofs.Common.{arith, ◌≡◌, ◌≢◌, ◌⊎◌, ℕ, zero, suc, ◌+◌, ◌-◌, ◌<◌, ◌==◌, Bool, true, false, not, Option, Some, None, List, [], ◌∷◌, ◌++◌, length, refl, sym, ap, ap₂, ◌∙◌, subst, inl, inr, append-nil}
-use Rattle.std.specs.Prelude.{◌&&◌, if◌then◌else◌, zip}
+use Rattle.std.proofs.Common.{arith, ◌≡◌, ◌⊎◌, ℕ, ◌+◌, ◌-◌, ◌<◌, ◌==◌, Bool, true, false, not, Option, Some, None, List, [], ◌∷◌, ◌++◌, length, refl, sym, ap, ap₂, ◌∙◌, subst, inl, inr, append-nil}
+use Rattle.std.specs.Prelude.{◌&&◌, zip, if◌then◌else◌}
 use Rattle.std.specs.List.{AllByRecursion}
 use Rattle.std.specs.Str.{chars, IsUtf8}
 use Rattle.std.proofs.Math.Utf8.{encodes}
@@ -16,15 +16,15 @@ use Rattle.wt_tree.specs.declared.edit_shape.Sort.TheVariants as sort
 use Rattle.wt_tree.specs.EditShapes.{edit_shape}
 use Rattle.wt_guards.specs.declared.role.Role.{Role}
 use Rattle.wt_guards.specs.declared.role.Role.TheVariants.{Link, External, Bare, Switch, Toggle, Mark, Group, Function, Node}
-use Rattle.wt_guards.specs.Content.{ContentSign, letter, thing, ends_line}
+use Rattle.wt_guards.specs.Content.{ends_line}
 use Rattle.wt_guards.specs.Guards.{is_mark, is_new_at_start}
 use Rattle.wt_content.specs.Content.{has_break}
 use Rattle.wt_original.specs.declared.block.Extent.{Extent}
-use Rattle.wt_original.specs.Kept.{Kept, kept_of, kept_nodes, kept_with, found_at, began_line, url, island, role_by, role_of}
+use Rattle.wt_original.specs.Kept.{Kept, kept_nodes, kept_with, found_at, began_line, url, island, role_by, role_of}
 use Rattle.wt_original.specs.Page.{Page}
-use Rattle.wt_link_spelling.specs.Spelling.{children_of, opening_place, closing_place}
+use Rattle.wt_link_spelling.specs.Spelling.{children_of}
 use Rattle.wt_beside_laws.specs.Led.{BeginsUnled}
-use Rattle.wt_beside_laws.specs.SentStyled.{text_then, found_then, or_nowiki, sent_by, sent_content}
+use Rattle.wt_beside_laws.specs.SentStyled.{text_then, found_then, sent_by, sent_content}
 use Rattle.wt_beside_laws.specs.Styled.{StyledContent, signs_in}
 use Rattle.wt_beside_laws.proofs.Marks.Ends.{LastIs, last_of, ends_so}
 use Rattle.wt_beside_laws.proofs.Marks.Within.{began_so}
@@ -32,8 +32,8 @@ use Rattle.wt_beside_laws.specs.OwnLed.{settled, is_mark_node, begin_marked, Fou
 use Rattle.wt_beside_laws.proofs.Styled.OwnFirst.{role_mark}
 use Rattle.wt_beside_laws.proofs.Styled.SentFaults.{or_both}
 use Rattle.wt_inside_laws.specs.Contents.{Border, element, bold, italic, end, borders_by, borders, onto_first, texts_by, all_texts_before, texts, Slot, slots_from}
-use Rattle.wt_inside_laws.specs.RetypedPieces.{Utf8By, HasUtf8, AreUtf8}
-use Rattle.wt_inside_laws.specs.TextEdits.{is_line_mark, ends_in_break, breaks_of, IsTyped, IsRetypedText}
+use Rattle.wt_inside_laws.specs.RetypedPieces.{Utf8By, AreUtf8}
+use Rattle.wt_inside_laws.specs.TextEdits.{is_line_mark, ends_in_break, breaks_of, IsRetypedText}
 use Rattle.wt_inside_laws.proofs.Breaks.{count_unbroken}
 use Rattle.wt_inside_laws.proofs.SlotsLed.{LedAt, TextsLed, settled_ends}
 

@@ -1,5 +1,5 @@
 -- Lines of comments in a content, by the text before each: where a line begins in the page, one begins in what is sent.
-use Rattle.std.proofs.Common.{arith, ◌≡◌, ◌⊎◌, ℕ, zero, suc, ◌+◌, ◌<◌, ◌≤◌, ◌==◌, Bool, true, false, Option, Some, None, List, [], ◌∷◌, ◌++◌, length, refl, sym, ap, ◌∙◌, subst, inl, inr, All}
+use Rattle.std.proofs.Common.{arith, ◌≡◌, ℕ, ◌+◌, ◌<◌, ◌≤◌, ◌==◌, Bool, true, false, Option, Some, None, List, [], ◌∷◌, ◌++◌, length, refl, sym, ap, ◌∙◌, subst, inl, inr, All}
 use Rattle.std.specs.Prelude.{encode_utf8, zip}
 use Rattle.std.specs.List.{AllByRecursion}
 use Rattle.std.specs.Str.{chars, IsUtf8}
@@ -18,7 +18,7 @@ use Rattle.wt_tree.specs.EditShapes.{edit_shape}
 use Rattle.wt_guards.specs.Content.{ContentSign, letter, thing, nearest, ends_line}
 use Rattle.wt_guards.specs.Guards.{is_line_start}
 use Rattle.wt_guards.specs.declared.role.Stretch.{Stretch}
-use Rattle.wt_original.specs.Kept.{Kept, kept_of, kept_nodes, kept_with, found_at}
+use Rattle.wt_original.specs.Kept.{Kept, kept_nodes, kept_with, found_at}
 use Rattle.wt_original.specs.Page.{Page}
 use Rattle.wt_link_spelling.specs.Spelling.{kept_thing, opening_place, closing_place}
 use Rattle.wt_beside_laws.specs.Led.{AreLed}

@@ -27,7 +27,9 @@ use Rattle.wt_checks.specs.WithoutMarks.{mark_off, unmarked}
 use Rattle.wt_content.specs.Content.{outermost, all_faults}
 use Rattle.wt_slices.specs.Changes.{Pair, marked}
 use Rattle.wt_visible.specs.Children.{shown_children}
+use Rattle.wt_slices.specs.BodySlices.{slices}
 use Rattle.wt_visible.specs.Restored.{all_restored, restored_from}
+use Rattle.wt_visible.specs.SameNodes.{same_node}
 use Rattle.wt_selser.specs.Edits.{edit_answer}
 use Rattle.wt_typed_blocks.specs.Sent.{Block, paragraph, heading}
 use Rattle.wt_typed_blocks.specs.Edited.{Pieces, page_pieces, sent_pieces, PiecesStay, pieces_before, Edited, stays, edited, round, Edits, no_edits, more_edits, page_nodes, AreEdited, sent_body}
@@ -181,8 +183,8 @@ pub record IsAlike (same : Tree → Tree → Bool) (page : Page) (p : Pair) : Ty
 
 -- ---- the same edit
 
--- The edit of the page's nodes, of which the marked ones alone are edited: at their paths, in their order. It is answered as what was sent, and
--- shows what that shows.
+-- The edit of the page's nodes, of which the marked ones alone are edited: at their paths, in their order. It is answered as what was sent, shows
+-- what that shows, and replaces the same slices of the page.
 pub record IsAsSent (same : Tree → Tree → Bool) (t new : Tree) (es : Edits) : Type 0 where
   pub old : page_nodes es ≡ children (without_sections t)
   pub stay : AreEdited es
@@ -192,6 +194,7 @@ pub record IsAsSent (same : Tree → Tree → Bool) (t new : Tree) (es : Edits) 
   pub answer : (items : Expanded) (page : List ℕ) (b : Label)
       → edit_answer same items page t new ≡ edit_answer same items page t (sent_body (label (without_sections t)) b es)
   pub shows : (b : Label) → shown_children (restored_from t new) ≡ shown_children (restored_from t (sent_body (label (without_sections t)) b es))
+  pub changes : (b : Label) → slices same t new ≡ slices same t (sent_body (label (without_sections t)) b es)
 
 -- So of a page, whatever a folder has: the edit is that of its own nodes.
 pub record IsSentOn (pages : Pages) (page : List ℕ) (new : Tree) (es : Edits) : Type 0 where
@@ -201,3 +204,4 @@ pub record IsSentOn (pages : Pages) (page : List ℕ) (new : Tree) (es : Edits) 
   pub each : map (edited_by es) (paths_of es) ≡ map (λ p. Some (edit_for p)) (marked (page_tree pages page) new)
   pub only : (paths : List (List ℕ)) → AreSomeOf (paths_of es) paths → AllEditOnly paths es
   pub alike : (b : Label) → edit_to pages page new ≡ edit_to pages page (sent_contents (called_tree pages page) es b)
+  pub changes : (b : Label) → slices same_node (page_tree pages page) new ≡ slices same_node (page_tree pages page) (sent_contents (called_tree pages page) es b)

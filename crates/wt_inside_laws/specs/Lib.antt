@@ -11,3 +11,5 @@ pub mod Replaced
 pub mod Once
 pub mod Swaps
 pub mod SameBut
+pub mod ToldEdits
+pub mod HtmlEdits

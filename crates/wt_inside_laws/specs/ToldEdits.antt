@@ -1,0 +1,45 @@
+-- Text edits of a page that calls nothing, among paragraphs and headings that are told by its lines: what is asked of them.
+use Rattle.std.specs.Prelude.{ℕ, List}
+use Rattle.std.specs.List.{AllByRecursion}
+use Rattle.wt_tree.specs.Tree.{Tree}
+use Rattle.wt_link_spelling.specs.Spelling.{children_of}
+use Rattle.wt_expand.specs.PageCalls.{expanded_page}
+use Rattle.wt_expand.specs.Work.{Pages}
+use Rattle.wt_page_round_trip.specs.PageTree.{page_tree}
+use Rattle.wt_slices.specs.Changes.{Pair, marked}
+use Rattle.wt_visible.specs.SameNodes.{same_node}
+use Rattle.wt_text_edit_laws.specs.TextBlocks.{TextBlock, block_tree}
+use Rattle.wt_beside_laws.specs.EndedNodes.{LinesOpenNoPair, AreEndedNodes}
+use Rattle.wt_beside_laws.specs.FlatBlocks.{lines_in, signs_in}
+use Rattle.wt_called_edit_laws.specs.EditsAt.{IsStanding}
+use Rattle.wt_called_edit_laws.specs.Groups.{called_tree}
+use Rattle.wt_inside_laws.specs.AsSent.{edits_of, paths_of, AreSomeOf, IsReadFor}
+use Rattle.wt_inside_laws.specs.RetypedPieces.{AreRead, AreUtf8, BeginsUnmarked}
+use Rattle.wt_inside_laws.specs.TextEdits.{IsTextEdit}
+
+-- ---- a marked block
+
+-- what is sent for it, as it is read
+pub record IsReadBlock (p : Pair) : Type 0 where
+  pub read : AreRead (children_of p.new)
+  pub utf8 : AreUtf8 (children_of p.new)
+
+-- Of its nodes: no tag opens a pair without a closing tag on its line, what begins in a node ends in it, and no heading begins with a mark.
+pub record HasEndedNodes (k : TextBlock) (q : List ℕ) (t : Tree) : Type 0 where
+  pub paired : LinesOpenNoPair (lines_in k q)
+  pub ended : AreEndedNodes (signs_in k q)
+  pub unmarked : BeginsUnmarked k t
+
+-- whatever its source is
+abbrev pub IsOrdinary : Pair → Type 0
+IsOrdinary p = (k : TextBlock) (q : List ℕ) → IsStanding (block_tree k q) p.old → HasEndedNodes k q p.old
+
+-- ---- the edit
+
+-- A text edit, as it is read, of a page with these blocks at these paths: each marked one is at one of them, and ordinary.
+pub record IsToldEdit (pages : Pages) (page : List ℕ) (paths : List (List ℕ)) (new : Tree) : Type 0 where
+  pub edit : IsTextEdit same_node (expanded_page pages page) page (page_tree pages page) new
+  pub read : IsReadFor (page_tree pages page) new
+  pub blocks : AllByRecursion IsReadBlock (marked (page_tree pages page) new)
+  pub ordinary : AllByRecursion IsOrdinary (marked (page_tree pages page) new)
+  pub among : AreSomeOf (paths_of (edits_of (called_tree pages page) new)) paths
