@@ -214,7 +214,7 @@ told_done pages ss behind new c h r g e =
 
 -- ---- of a page that its lines tell
 
-ungrouped : (pages : Pages) (page : List ℕ) (ts : List Told) (rest : List (List Item)) → IsToldPage page ts rest → NoneIsGroup (children (called_tree pages page))
+pub ungrouped : (pages : Pages) (page : List ℕ) (ts : List Told) (rest : List (List Item)) → IsToldPage page ts rest → NoneIsGroup (children (called_tree pages page))
 ungrouped pages page ts rest h =
     none_in (called_tree pages page) (subst HasNoGroup (sym (ap (λ x. annotated x.outer (group_data x.outer) (meaning x.items)) (calm_expanded pages page h.calls_nothing))) h.ungrouped)
   where
