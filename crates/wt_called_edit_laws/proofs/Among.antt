@@ -8,6 +8,8 @@ pub mod OwnSeams
 pub mod OwnItems
 pub mod BlockAt
 pub mod LinedParts
+pub mod CallingLines
+mod CallingCases
 pub mod CalmLines
 pub mod ToldAmong
 pub mod ToldCases

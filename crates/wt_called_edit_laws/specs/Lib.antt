@@ -19,6 +19,7 @@ pub mod Covered
 pub mod Parts
 pub mod Retyped
 pub mod RowBlocks
+pub mod AllTold
 pub mod AnyBlocks
 pub mod AnyTexts
 pub mod CellEdits
@@ -46,7 +47,9 @@ pub mod PlacedBlocks
 pub mod PlacedSpots
 pub mod PlacedLines
 pub mod PlacedAmong
+pub mod PlacedCalling
 pub mod LinedAmong
+pub mod LinedCalling
 pub mod LinedHeadings
 pub mod ToldLines
 pub mod ToldTogether
