@@ -9,7 +9,7 @@ use Rattle.wt_span.specs.Entities.{entity_at, named_entity, decimal_entity, hex_
 use Rattle.wt_span.specs.Tags.{raw_len, opening_tag, tag_after, closing_tag, with_inside, is_extension, include_at}
 use Rattle.wt_span.specs.Lexemes.{words, closed, sign_word, form_at}
 use Rattle.wt_span.specs.Braces.{rewritten, reduced, parts_of}
-use Rattle.wt_span.specs.Items.{Item, char, sources}
+use Rattle.wt_span.specs.Items.{Item, char}
 use Rattle.wt_span.specs.Origins.{OuterCall}
 use Rattle.wt_names.specs.Good.{is_forbidden, is_allowed, has_signature, is_step, begins_with_step, holds_step, ends_with_step, is_good, read_text}
 use Rattle.wt_names.specs.Namespace.{name_of, image, is_called, namespace_named, prefix_of, full_name_of}
@@ -60,7 +60,7 @@ use Rattle.wt_text_edit_laws.specs.TextBlocks.{a_paragraph}
 use Rattle.wt_beside_laws.specs.ContentEdits.{new_content}
 use Rattle.wt_beside_laws.proofs.Groups.Cases.{a_word, beside_letters, gives_b, gives_char}
 use Rattle.wt_beside_laws.specs.Shown.{parts_shown_at}
-use Rattle.wt_called_edit_laws.specs.CalledEdits.{page_things, ShowsAsGiven, IsChildBeside, MakesContentIn}
+use Rattle.wt_called_edit_laws.specs.CalledEdits.{page_things, ShowsAsGiven, MakesContentIn}
 use Rattle.wt_called_edit_laws.specs.InPieces.{AreInPieces}
 use Rattle.wt_called_edit_laws.specs.PageThings.{ArePageThings, thing_sources}
 use Rattle.wt_called_edit_laws.specs.SentAsIs.{as_sent}
