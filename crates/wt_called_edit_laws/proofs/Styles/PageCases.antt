@@ -111,7 +111,7 @@ given_parts i = record {
   texts = (inl (record { of_page = refl; has_items = (refl, ((refl, tt), tt)) }), tt);
   groups = (let w = word_group i (given i) (given_word i) in (w.0, w.1, tt));
   shut = ((λ e. (refl, (refl, ((refl, tt), tt)))), tt);
-  some = tt;
+  some = inr tt;
 }
 
 parts_here : (i : ℕ) → AreGivenParts (part_items a_word i source)
