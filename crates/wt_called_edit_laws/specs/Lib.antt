@@ -19,6 +19,7 @@ pub mod Covered
 pub mod Parts
 pub mod Retyped
 pub mod RowBlocks
+pub mod AllTold
 pub mod AnyBlocks
 pub mod AnyTexts
 pub mod CellEdits

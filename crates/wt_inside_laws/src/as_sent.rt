@@ -23,6 +23,7 @@ ghost use Rattle.wt_slices.specs.BodySlices.{slices};
 ghost use Rattle.wt_slices.specs.Changes.{marked, AllStay};
 ghost use Rattle.wt_splice.specs.Splice.{spliced};
 ghost use Rattle.wt_commands.specs.Answers.{refusal_of_page, done, edit_to};
+ghost use Rattle.wt_called_edit_laws.specs.AllTold.{AllBlocksTold};
 ghost use Rattle.wt_called_edit_laws.specs.ContentsTaken.{TakesContents};
 ghost use Rattle.wt_called_edit_laws.specs.Groups.{called_tree};
 ghost use Rattle.wt_called_edit_laws.specs.PlacedLines.{spots_by, end_by};
@@ -30,7 +31,7 @@ ghost use Rattle.wt_called_edit_laws.specs.ToldLines.{Told, lined, IsToldPage};
 ghost use Rattle.wt_inside_laws.specs.AsSent.{edits_of, IsPlainPage, IsReadFor, IsAlike, IsAsSent, IsSentOn};
 ghost use Rattle.wt_inside_laws.specs.RetypedPieces.{AreRead, AreUtf8};
 ghost use Rattle.wt_inside_laws.specs.TextEdits.{IsRetyped, IsTextEdit};
-ghost use Rattle.wt_inside_laws.specs.ToldEdits.{IsToldEdit};
+ghost use Rattle.wt_inside_laws.specs.ToldEdits.{IsToldEdit, IsOrdinaryEdit};
 
 /// Where the checks refuse nothing and no blocks come or go, what was sent for a page without groups is edited as the
 /// page's own nodes are (`edits_of`): each outside the marked blocks as it is, and in these blocks those of the page,
@@ -79,5 +80,14 @@ pub fn what_is_read_may_be_sent()
 pub fn text_edits_of_told_blocks_are_done()
     ensures { (pages : Pages) (page : List ℕ) (ts : List Told) (rest : List (List Item)) (new : Tree) → IsToldPage page ts rest
         → (c : TakesContents pages (spots_by [] (map lined ts)) (end_by [] (map lined ts) rest)) → IsToldEdit pages page c.paths new
+        → edit_to pages page new ≡ done (spliced page (slices same_node (page_tree pages page) new)) }
+{}
+
+/// So each text edit is done of a page that calls nothing, where each marked block is ordinary and none of those that the
+/// lines of a page don't tell (`IsExcepted`).
+#[tactic(auto)]
+pub fn text_edits_are_done()
+    ensures { (pages : Pages) (page input : List ℕ) (new : Tree) (unsourced : Option ℕ) → AllBlocksTold pages page
+        → IsOrdinaryEdit pages page input new unsourced
         → edit_to pages page new ≡ done (spliced page (slices same_node (page_tree pages page) new)) }
 {}
