@@ -1,5 +1,5 @@
 -- What a call gives, in its order: characters, and forms, each as the nodes that stay in a content are.
-use Rattle.std.specs.Prelude.{◌≡◌, ℕ, ◌==◌, ◌&&◌, ◌||◌, Bool, true, false, not, Some, nat_lt, List, [], ◌∷◌, ◌++◌, length, map}
+use Rattle.std.specs.Prelude.{◌≡◌, ◌⊎◌, ℕ, ◌==◌, ◌&&◌, ◌||◌, Bool, true, false, not, Some, nat_lt, List, [], ◌∷◌, ◌++◌, length, map}
 use Rattle.wt_span.specs.Characters as byte
 use Rattle.wt_span.specs.Items.{Item, char}
 use Rattle.wt_guards.specs.declared.role.Role.{Role}
@@ -64,7 +64,7 @@ given_parts j (form r own ∷ signs) = line_parts own ++ given_parts j signs
 abbrev pub is_half_sign : ℕ → Bool
 is_half_sign b = b == byte.apostrophe || (b == byte.underscore || b == byte.colon)
 
--- it begins no tag and no link, and ends no line
+-- it begins no tag and no link, whatever is behind it, and ends no line
 abbrev pub is_given_byte : ℕ → Bool
 is_given_byte b = not (b == byte.line_break || (b == byte.less_than || b == byte.opening_bracket))
 
@@ -91,11 +91,22 @@ pub record IsGivenForm (word : Bool) (r : Role) (own : List Item) (behind : List
   pub leads : MayLead r word
   pub follows : MayBeFirst r behind
 
--- Each character begins no form: an apostrophe, `_` or colon is before something that is none of these and no slash. Each form is a node.
+-- what is behind a `[`: a character that is no other one
+abbrev pub BeginsUnbracketed : List GivenSign → Type 0
+BeginsUnbracketed [] = ⊥
+BeginsUnbracketed (character b ∷ signs) = (b == byte.opening_bracket) ≡ false
+BeginsUnbracketed (form r own ∷ signs) = ⊥
+
+-- no tag begins at it, and no link
+abbrev pub IsGivenByte : ℕ → List GivenSign → Type 0
+IsGivenByte b signs = (is_given_byte b ≡ true) ⊎ ((b ≡ byte.opening_bracket) × BeginsUnbracketed signs)
+
+-- Each character begins no form: a `[` is before another character that is none, and an apostrophe, `_` or colon before something that is none of these and no
+-- slash. Each form is a node.
 abbrev pub AreGivenSigns : Bool → List GivenSign → Type 0
 AreGivenSigns word [] = Unit {0}
 AreGivenSigns word (character b ∷ signs) =
-    (is_given_byte b ≡ true) × (is_half_sign b ≡ true → BeginsApart (given_glyphs signs)) × AreGivenSigns (is_word b) signs
+    IsGivenByte b signs × (is_half_sign b ≡ true → BeginsApart (given_glyphs signs)) × AreGivenSigns (is_word b) signs
 AreGivenSigns word (form r own ∷ signs) = IsGivenForm word r own (given_glyphs signs) × AreGivenSigns (ends_word false (map glyph_of own)) signs
 
 -- no form is a style delimiter

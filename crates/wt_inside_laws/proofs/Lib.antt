@@ -37,6 +37,7 @@ pub mod Breaks
 pub mod SlotsFirst
 pub mod OwnEdits
 pub mod ToldEdits
+pub mod HtmlEdits
 pub mod OrdinaryEdits
 pub mod InsidesCases
 pub mod PageCases

@@ -224,6 +224,9 @@ calm_ungrouped pages page c h =
     none_in : (t : Tree) → HasNoGroup t → NoneIsGroup (children t)
     none_in (tree l ts) h = h.1
 
+pub ungrouped : (pages : Pages) (page : List ℕ) (ts : List Told) (rest : List (List Item)) → IsToldPage page ts rest → NoneIsGroup (children (called_tree pages page))
+ungrouped pages page ts rest h = calm_ungrouped pages page h.calls_nothing h.ungrouped
+
 pub told_edit_done : (pages : Pages) (page : List ℕ) (ts : List Told) (rest : List (List Item)) (new : Tree) → IsToldPage page ts rest
     → (c : TakesContents pages (spots_by [] (map lined ts)) (end_by [] (map lined ts) rest)) → IsToldEdit pages page c.paths new
     → edit_to pages page new ≡ done (spliced page (slices same_node (page_tree pages page) new))
@@ -236,4 +239,4 @@ told_edit_done pages page ts rest new h c e =
     let whole : spots_source ss behind ≡ page = lined_whole page (map lined ts) rest lines.are lines.lined in
     subst (λ (bs : List ℕ). NoneIsGroup (children (called_tree pages bs)) → IsToldEdit pages bs c.paths new
     → edit_to pages bs new ≡ done (spliced bs (slices same_node (page_tree pages bs) new))) whole
-    (λ g k. told_done pages ss behind new c (told_called pages page ts rest h) reading.read g k) (calm_ungrouped pages page h.calls_nothing h.ungrouped) e
+    (λ g k. told_done pages ss behind new c (told_called pages page ts rest h) reading.read g k) (ungrouped pages page ts rest h) e

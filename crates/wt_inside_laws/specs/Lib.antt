@@ -12,3 +12,4 @@ pub mod Once
 pub mod Swaps
 pub mod SameBut
 pub mod ToldEdits
+pub mod HtmlEdits

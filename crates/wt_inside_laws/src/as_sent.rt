@@ -1,7 +1,7 @@
 //! Laws of edited trees: what was sent for a page is edited as the page's own nodes are, with the texts in its marked
 //! blocks that were sent.
 
-ghost use Rattle.std.specs.Prelude.{◌≡◌, ◌≤◌, ℕ, List, [], length, Bool, false, Option, None, map};
+ghost use Rattle.std.specs.Prelude.{◌≡◌, ◌≤◌, ℕ, List, [], length, Bool, false, Option, None, Some, map};
 ghost use Rattle.wt_span.specs.Origins.{Expanded};
 ghost use Rattle.wt_span.specs.declared.limits.TheConstants.{PAGE_BYTES};
 ghost use Rattle.std.specs.List.{AllByRecursion};
@@ -22,13 +22,14 @@ ghost use Rattle.wt_visible.specs.SameNodes.{same_node};
 ghost use Rattle.wt_slices.specs.BodySlices.{slices};
 ghost use Rattle.wt_slices.specs.Changes.{marked, AllStay};
 ghost use Rattle.wt_splice.specs.Splice.{spliced};
-ghost use Rattle.wt_commands.specs.Answers.{refusal_of_page, done, edit_to};
+ghost use Rattle.wt_commands.specs.Answers.{refusal_of_page, done, edit_of, edit_to};
 ghost use Rattle.wt_called_edit_laws.specs.AllTold.{AllBlocksTold};
 ghost use Rattle.wt_called_edit_laws.specs.ContentsTaken.{TakesContents};
 ghost use Rattle.wt_called_edit_laws.specs.Groups.{called_tree};
 ghost use Rattle.wt_called_edit_laws.specs.PlacedLines.{spots_by, end_by};
 ghost use Rattle.wt_called_edit_laws.specs.ToldLines.{Told, lined, IsToldPage};
 ghost use Rattle.wt_inside_laws.specs.AsSent.{edits_of, IsPlainPage, IsReadFor, IsAlike, IsAsSent, IsSentOn};
+ghost use Rattle.wt_inside_laws.specs.HtmlEdits.{IsHtmlEdit};
 ghost use Rattle.wt_inside_laws.specs.RetypedPieces.{AreRead, AreUtf8};
 ghost use Rattle.wt_inside_laws.specs.TextEdits.{IsRetyped, IsTextEdit};
 ghost use Rattle.wt_inside_laws.specs.ToldEdits.{IsToldEdit, IsOrdinaryEdit};
@@ -81,6 +82,15 @@ pub fn text_edits_of_told_blocks_are_done()
     ensures { (pages : Pages) (page : List ℕ) (ts : List Told) (rest : List (List Item)) (new : Tree) → IsToldPage page ts rest
         → (c : TakesContents pages (spots_by [] (map lined ts)) (end_by [] (map lined ts) rest)) → IsToldEdit pages page c.paths new
         → edit_to pages page new ≡ done (spliced page (slices same_node (page_tree pages page) new)) }
+{}
+
+/// So HTML that makes such an edit, and in which no group is, is answered by that page.
+#[tactic(auto)]
+pub fn text_edits_in_html_are_done()
+    ensures { (pages : Pages) (page input : List ℕ) (ts : List Told) (rest : List (List Item)) (new : Tree) (unsourced : Option ℕ)
+        → IsToldPage page ts rest → (c : TakesContents pages (spots_by [] (map lined ts)) (end_by [] (map lined ts) rest))
+        → IsHtmlEdit pages page input c.paths new unsourced
+        → edit_of pages (Some page) input ≡ done (spliced page (slices same_node (page_tree pages page) new)) }
 {}
 
 /// So each text edit is done of a page that calls nothing, where each marked block is ordinary and none of those that the

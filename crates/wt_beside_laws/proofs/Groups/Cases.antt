@@ -1,5 +1,5 @@
 -- Worked cases: a paragraph with a call that gives a word, between two letters that are typed.
-use Rattle.std.proofs.Common.{◌≡◌, ℕ, false, Some, None, List, [], ◌∷◌, map, refl, sym, subst}
+use Rattle.std.proofs.Common.{◌≡◌, inl, ℕ, false, Some, None, List, [], ◌∷◌, map, refl, sym, subst}
 use Rattle.std.specs.Prelude.{codes, if◌then◌else◌}
 use Rattle.std.specs.Str.{bytes_eq, is_utf8, chars}
 use Rattle.std.specs.Str.Lossy.{utf8_valid_len}
@@ -72,7 +72,7 @@ a_word_group g j = record {
     signs = character 98 ∷ [];
     is = refl;
     of_call = (refl, tt);
-    are = (refl, (λ e. absurd (cc)), tt);
+    are = (inl refl, (λ e. absurd (cc)), tt);
     flat = tt;
     begins = refl;
     unopened = refl;
@@ -144,11 +144,11 @@ unguarded = refl
 -- apostrophes, colons and `_` may be among characters that a call gives, each before another one
 pub an_apostrophe : AreGivenSigns false (map character (codes "it's"))
 an_apostrophe = (
-  refl,
+  inl refl,
   (λ e. absurd (cc)),
   (
-    refl,
+    inl refl,
     (λ e. absurd (cc)),
-    (refl, (λ e. refl), (refl, (λ e. absurd (cc)), tt)),
+    (inl refl, (λ e. refl), (inl refl, (λ e. absurd (cc)), tt)),
   ),
 )

@@ -1,5 +1,5 @@
 -- Worked cases: what calls give beside words: a link, a URL, a reference, nothing; and what is none of it.
-use Rattle.std.proofs.Common.{◌≡◌, ℕ, true, false, Some, List, [], ◌∷◌, map, refl, inl, inr}
+use Rattle.std.proofs.Common.{◌≡◌, ℕ, true, false, Some, List, [], ◌∷◌, map, refl, ap, ◌==◌, inl, inr}
 use Rattle.std.specs.Prelude.{codes}
 use Rattle.std.specs.Str.{is_utf8, chars}
 use Rattle.std.specs.Str.Lossy.{utf8_valid_len}
@@ -150,7 +150,7 @@ abbrev among_words : List GivenSign
 among_words = character 97 ∷ character 32 ∷ form Link (of_call 0 (codes "[[b]]")) ∷ character 46 ∷ []
 
 pub link_among_words : AreGivenSigns false among_words
-link_among_words = (refl, (λ e. absurd (cc)), (refl, (λ e. absurd (cc)), (record { node = a_link; leads = tt; follows = refl }, (refl, (λ e. absurd (cc)), tt))))
+link_among_words = (inl refl, (λ e. absurd (cc)), (inl refl, (λ e. absurd (cc)), (record { node = a_link; leads = tt; follows = refl }, (inl refl, (λ e. absurd (cc)), tt))))
 
 -- but no letter is behind a link
 joined_letter : AreGivenSigns false (form Link (of_call 0 (codes "[[b]]")) ∷ character 115 ∷ []) → ⊥
@@ -165,14 +165,30 @@ one_url = (record { node = a_url; leads = refl; follows = tt }, tt)
 
 -- braces and an `&` may be among characters, since nothing of them is read again
 pub braces : AreGivenSigns false (character 123 ∷ character 125 ∷ character 38 ∷ [])
-braces = (refl, (λ e. absurd (cc)), (refl, (λ e. absurd (cc)), (refl, (λ e. absurd (cc)), tt)))
+braces = (inl refl, (λ e. absurd (cc)), (inl refl, (λ e. absurd (cc)), (inl refl, (λ e. absurd (cc)), tt)))
 
--- a `<`, a `[`, two apostrophes and a scheme may not
+-- and a `[` before another character
+pub a_note : AreGivenSigns false (map character (codes "[1]"))
+a_note = (inr (refl, refl), (λ e. absurd (cc)), (inl refl, (λ e. absurd (cc)), (inl refl, (λ e. absurd (cc)), tt)))
+
+-- a `<`, a `[` that is last, two, two apostrophes and a scheme may not
 a_tag : AreGivenSigns false (character 60 ∷ character 98 ∷ []) → ⊥
-a_tag h = let no : false ≡ true = h.0 in cc
+a_tag h = elim h.0 [
+  | inl e ↦ let no : false ≡ true = e in cc
+  | inr k ↦ let no : false ≡ true = ap (λ (n : ℕ). n == 91) k.0 in cc
+]
 
 a_bracket : AreGivenSigns false (character 91 ∷ []) → ⊥
-a_bracket h = let no : false ≡ true = h.0 in cc
+a_bracket h = elim h.0 [
+  | inl e ↦ let no : false ≡ true = e in cc
+  | inr k ↦ k.1
+]
+
+two_brackets : AreGivenSigns false (character 91 ∷ character 91 ∷ []) → ⊥
+two_brackets h = elim h.0 [
+  | inl e ↦ let no : false ≡ true = e in cc
+  | inr k ↦ let no : true ≡ false = k.1 in cc
+]
 
 two_quotes : AreGivenSigns false (character 39 ∷ character 39 ∷ character 98 ∷ []) → ⊥
 two_quotes h = let no : false ≡ true = h.1 refl in cc

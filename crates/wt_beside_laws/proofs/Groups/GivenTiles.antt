@@ -12,10 +12,11 @@ use Rattle.wt_tiles.specs.declared.glyph.Glyph.TheVariants as glyph
 use Rattle.wt_tiles.specs.Contexts.{in_line}
 use Rattle.wt_tiles.specs.Glyphs.{glyph_of, is_in, begins_like}
 use Rattle.wt_tiles.specs.Tiles.{Cut, form_at, cuts, switch_at}
-use Rattle.wt_tiles.specs.Urls.{is_word}
+use Rattle.wt_tiles.specs.Links.{link_at}
+use Rattle.wt_tiles.specs.Urls.{scheme_len, url_items, ext_link_of, ext_link_at, is_word}
 use Rattle.wt_beside_laws.specs.Glyphs.{AvoidsUrls}
 use Rattle.wt_beside_laws.specs.Cuts.{add_node, own_form, ends_word}
-use Rattle.wt_beside_laws.specs.Given.{is_half_sign, GivenSign, character, form, given_items, given_glyphs, given_cut, is_given_byte, BeginsApart, MayBeFirst, AreGivenSigns, given_last, LastMay}
+use Rattle.wt_beside_laws.specs.Given.{is_half_sign, GivenSign, character, form, given_items, given_glyphs, given_cut, is_given_byte, BeginsUnbracketed, IsGivenByte, BeginsApart, MayBeFirst, AreGivenSigns, given_last, LastMay}
 use Rattle.wt_beside_laws.specs.Nodes.{MayFollow}
 use Rattle.wt_beside_laws.proofs.ContentTiles.{one_more, none_more, Follows, node_follows}
 use Rattle.wt_beside_laws.proofs.NodesBegin.{node_urls}
@@ -79,6 +80,34 @@ byte_none a b gs more g h e =
     all_none in_line a (glyph.Byte b ∷ all) (link_none b all own.2) (external_none b all own.2)
     (bare_none a (glyph.Byte b ∷ all) (no_scheme (glyph.Byte b) all e)) (tag_other b all own.1) (byte_switch b gs more h)
 
+-- a `[` before another character
+one_bracket : (c : ℕ) (gs : List Glyph) → (c == 91) ≡ false → link_at (glyph.Byte 91 ∷ glyph.Byte c ∷ gs) ≡ None
+unfolding link_at
+one_bracket c gs e = rw e refl
+
+text_bracket : (g : Glyph) (gs : List Glyph) → scheme_len (g ∷ gs) ≡ 0 → ext_link_at (glyph.Byte 91 ∷ g ∷ gs) ≡ None
+unfolding ext_link_at
+text_bracket g gs e = ap (λ (n : ℕ). ext_link_of n (length (url_items (g ∷ gs))) (glyph.Byte 91 ∷ g ∷ gs)) e
+
+bracket_none : (a : Bool) (b : ℕ) (word : Bool) (signs : List GivenSign) (more : List Glyph) → b ≡ 91 → BeginsUnbracketed signs → AreGivenSigns word signs
+    → reaches more ≡ false → form_at in_line a (glyph.Byte b ∷ (given_glyphs signs ++ more)) ≡ None
+bracket_none a b word [] more i k h e = absurd k
+bracket_none a b word (form r own ∷ signs) more i k h e = absurd k
+bracket_none a b word (character c ∷ signs) more i k h e =
+    let gs : List Glyph = given_glyphs signs ++ more in
+    let all : List Glyph = glyph.Byte 91 ∷ glyph.Byte c ∷ gs in
+    let P : ℕ → Type 0 = λ (x : ℕ). form_at in_line a (glyph.Byte x ∷ glyph.Byte c ∷ gs) ≡ None in
+    let later : reaches gs ≡ false = given_reaches (is_word c) signs more h.2 e in
+    let both : reaches (glyph.Byte c ∷ gs) ≡ false = given_reaches word (character c ∷ signs) more h e in
+    subst P (sym i)
+    (all_none in_line a all (one_bracket c gs k) (text_bracket (glyph.Byte c) gs (no_scheme (glyph.Byte c) gs later))
+    (bare_none a all (no_scheme (glyph.Byte 91) (glyph.Byte c ∷ gs) both)) (tag_other 91 (glyph.Byte c ∷ gs) refl) (switch_other 91 (glyph.Byte c ∷ gs) refl))
+
+given_none : (a : Bool) (b : ℕ) (signs : List GivenSign) (more : List Glyph) → IsGivenByte b signs → (is_half_sign b ≡ true → BeginsApart (given_glyphs signs))
+    → AreGivenSigns (is_word b) signs → reaches more ≡ false → form_at in_line a (glyph.Byte b ∷ (given_glyphs signs ++ more)) ≡ None
+given_none a b signs more (inl g) f h e = byte_none a b (given_glyphs signs) more g f (given_reaches (is_word b) signs more h e)
+given_none a b signs more (inr k) f h e = bracket_none a b (is_word b) signs more k.0 k.1 h e
+
 -- ---- what follows a form
 
 some_glyph : (word : Bool) (sign : GivenSign) (signs : List GivenSign) → AreGivenSigns word (sign ∷ signs) → given_glyphs (sign ∷ signs) ≡ [] → ⊥
@@ -131,7 +160,7 @@ given_follow word [] more c h l e f = f
 given_follow word (character b ∷ signs) more c h l e f =
     let later : Follows in_line (is_word b) (given_glyphs signs ++ more) (given_cut signs c) = given_follow (is_word b) signs more c h.2 l e f in
     λ a i. one_more in_line a b (given_glyphs signs ++ more) 0 (given_cut signs c)
-    (byte_none a b (given_glyphs signs) more h.0 h.1 (given_reaches (is_word b) signs more h.2 e)) (later (is_word b) (λ z. z) ∙ none_more (given_cut signs c))
+    (given_none a b signs more h.0 h.1 h.2 e) (later (is_word b) (λ z. z) ∙ none_more (given_cut signs c))
 given_follow word (form r own ∷ signs) more c h l e f =
     let gs : List Glyph = map glyph_of own in
     let behind : List Glyph = given_glyphs signs ++ more in
