@@ -13,3 +13,9 @@ pub mod Scanned
 pub mod RowBlocks
 pub mod Together
 pub mod LineBlocks
+pub mod Starts
+pub mod PlaceStarts
+pub mod NodePlaces
+pub mod OwnTrees
+pub mod ToldStarts
+pub mod Complete

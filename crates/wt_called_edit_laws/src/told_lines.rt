@@ -19,6 +19,7 @@ ghost use Rattle.wt_text_edit_laws.specs.TypedHeadings.{Sides};
 ghost use Rattle.wt_beside_laws.specs.EndedNodes.{LinesOpenNoPair, AreEndedNodes};
 ghost use Rattle.wt_beside_laws.specs.FlatBlocks.{lines_in, signs_in};
 ghost use Rattle.wt_beside_laws.specs.StyledIn.{IsStyledIn};
+ghost use Rattle.wt_called_edit_laws.specs.AllTold.{AllBlocksTold};
 ghost use Rattle.wt_called_edit_laws.specs.CalledPages.{IsCalledPage};
 ghost use Rattle.wt_called_edit_laws.specs.EditsAt.{IsStanding, AllStand};
 ghost use Rattle.wt_called_edit_laws.specs.Groups.{called_tree};
@@ -86,4 +87,12 @@ pub fn each_block_stands_on_lines()
 /// has no node that can only be kept as a whole, and at whose end no comment and no hidden part is open.
 pub fn told_blocks_are_told_together()
     ensures all { (page : List ℕ) → IsUtf8 page → CallsNothing (page_items page) → HasNoGroups page → EndsClosed page [] → AreAllTold page }
+{}
+
+/// So each paragraph and heading of such a page's tree that isn't tangled may be edited at its path, which is one of those of
+/// blocks that the lines tell; but for these: a heading with nothing between its `=`, text behind the sign of a table's end or a
+/// rule on its line, text that begins with a mark behind blanks, and the others of `IsExceptedAt`.
+pub fn each_block_is_told_or_excepted()
+    ensures all { (pages : Pages) (page : List ℕ) → IsUtf8 page → CallsNothing (page_items page) → HasNoGroups page → EndsClosed page []
+        → AllBlocksTold pages page }
 {}

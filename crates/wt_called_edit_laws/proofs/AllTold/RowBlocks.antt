@@ -27,7 +27,7 @@ use Rattle.wt_called_edit_laws.proofs.AllTold.TreeBlocks.{blocks_stand}
 
 -- ---- what holds of each holds of one
 
-housed : (k : Kind) → IsTextBlock k → housing_of k ≡ a_block
+pub housed : (k : Kind) → IsTextBlock k → housing_of k ≡ a_block
 housed k (inl e) = ap housing_of e
 housed k (inr (n, e)) = ap housing_of e
 
@@ -49,13 +49,13 @@ mutual
       own_of (λ (v : Tree). ⊥) (housing_of l.kind) (tree l ts) ts (housed l.kind (subst (λ (v : Tree). IsTextBlock (label v).kind) (sym e) b)) h.1
   none_at (i ∷ is) (tree l ts) u h e b = none_among i is ts u (none_inside (housing_of l.kind) ts h.1) e b
 
-  none_among : (i : ℕ) (is : List ℕ) (ts : Trees) (u : Tree) → EachBlockIn (λ (v : Tree). ⊥) ts → IsAmong i is ts u → IsTextBlock (label u).kind → ⊥
+  pub none_among : (i : ℕ) (is : List ℕ) (ts : Trees) (u : Tree) → EachBlockIn (λ (v : Tree). ⊥) ts → IsAmong i is ts u → IsTextBlock (label u).kind → ⊥
   none_among i is none u h e b = e
   none_among zero is (more t ts) u h e b = none_at is t u h.0 e b
   none_among (suc i) is (more t ts) u h e b = none_among i is ts u h.1 e b
 
 -- what is in a node is in no block, if a block is among it
-below_each : (Q : Tree → Type 0) (v : Housing) (i : ℕ) (is : List ℕ) (t : Tree) (ts : Trees) (u : Tree)
+pub below_each : (Q : Tree → Type 0) (v : Housing) (i : ℕ) (is : List ℕ) (t : Tree) (ts : Trees) (u : Tree)
     → OfHousing v (Q t × EachBlockIn (λ (x : Tree). ⊥) ts) (EachBlockIn Q ts) (EachBlockIn (λ (x : Tree). ⊥) ts) → IsAmong i is ts u → IsTextBlock (label u).kind → EachBlockIn Q ts
 below_each Q a_block i is t ts u h e b = absurd (none_among i is ts u h.1 e b)
 below_each Q a_shell i is t ts u h e b = h
@@ -71,9 +71,6 @@ mutual
   each_among Q i is none u h e b = absurd e
   each_among Q zero is (more t ts) u h e b = each_at Q is t u h.0 e b
   each_among Q (suc i) is (more t ts) u h e b = each_among Q i is ts u h.1 e b
-
-below : (i : ℕ) (is : List ℕ) (t u : Tree) → IsAtPath (i ∷ is) t u → IsAmong i is (children t) u
-below i is (tree l ts) u e = e
 
 not_body : IsTextBlock kind.Body → ⊥
 not_body (inl e) = absurd (cc)
@@ -93,14 +90,25 @@ page_found : (page : List ℕ) → FoundAll (IsOfRows (rows_from 0 (full_lines (
 unfolding rows
 page_found page = body_found (IsOfRows (rows_from 0 (full_lines (page_items page)))) (full_lines (page_items page)) (rows_hold (rows_from 0 (full_lines (page_items page))))
 
+pub page_stands : (pages : Pages) (page : List ℕ) → IsUtf8 page → CallsNothing (page_items page) → HasNoGroups page
+    → EachBlockIn (StandsOnRows page) (children (called_tree pages page))
+page_stands pages page u calm whole =
+    let all : List Row = rows_from 0 (full_lines (page_items page)) in
+    blocks_stand (IsOfRows all) (StandsOnRows page) pages page (width all) u calm whole
+    (λ n before v h. record { number = n; before = before; block = v; is = refl; by_rows = h }) (page_found page)
+
+-- the page itself is none
+pub body_none : (pages : Pages) (page : List ℕ) (t : Tree) → IsUtf8 page → CallsNothing (page_items page) → called_tree pages page ≡ t
+    → IsTextBlock (label t).kind → ⊥
+body_none pages page t u calm e b =
+    let k : (label (called_tree pages page)).kind ≡ kind.Body = (page_body pages page u (calm_unrefused pages page calm)).kind in
+    not_body (subst IsTextBlock k (subst (λ (v : Tree). IsTextBlock (label v).kind) (sym e) b))
+
+pub below : (i : ℕ) (is : List ℕ) (t u : Tree) → IsAtPath (i ∷ is) t u → IsAmong i is (children t) u
+below i is (tree l ts) u e = e
+
 pub block_on_rows : (pages : Pages) (page p : List ℕ) (t : Tree) → IsUtf8 page → CallsNothing (page_items page) → HasNoGroups page
     → IsAtPath p (called_tree pages page) t → IsTextBlock (label t).kind → StandsOnRows page t
-block_on_rows pages page [] t u calm whole e b =
-    let k : (label (called_tree pages page)).kind ≡ kind.Body = (page_body pages page u (calm_unrefused pages page calm)).kind in
-    absurd (not_body (subst IsTextBlock k (subst (λ (v : Tree). IsTextBlock (label v).kind) (sym e) b)))
+block_on_rows pages page [] t u calm whole e b = absurd (body_none pages page t u calm e b)
 block_on_rows pages page (i ∷ is) t u calm whole e b =
-    let all : List Row = rows_from 0 (full_lines (page_items page)) in
-    each_among (StandsOnRows page) i is (children (called_tree pages page)) t
-    (blocks_stand (IsOfRows all) (StandsOnRows page) pages page (width all) u calm whole
-    (λ n before v h. record { number = n; before = before; block = v; is = refl; by_rows = h }) (page_found page))
-    (below i is (called_tree pages page) t e) b
+    each_among (StandsOnRows page) i is (children (called_tree pages page)) t (page_stands pages page u calm whole) (below i is (called_tree pages page) t e) b

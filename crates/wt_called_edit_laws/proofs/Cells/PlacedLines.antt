@@ -243,7 +243,7 @@ further last bs (b ∷ ls) behind xs es runs o i f h =
           (further b.block (open_after bs rows) ls behind (joined tail) (ending (own_items b)) r.tail_runs breaks.rest r.own_ending r.ends h.2),
     )
 
-placed : (ls : List LinedBlock) (behind : List (List Item)) (xs : List Item) → page_items (spots_source (spots_by [] ls) (end_by [] ls behind)) ≡ xs
+pub placed : (ls : List LinedBlock) (behind : List (List Item)) (xs : List Item) → page_items (spots_source (spots_by [] ls) (end_by [] ls behind)) ≡ xs
     → full_lines xs ≡ all_lines ls behind → OwnBreaks xs → AreLined ls behind → AreBlocksIn (spots_by [] ls) (end_by [] ls behind)
 placed [] behind xs e are o h = absurd h
 placed (b ∷ ls) behind xs e are o h =
@@ -272,6 +272,19 @@ placed (b ∷ ls) behind xs e are o h =
       subst (λ (rs : List Row). AreFurtherIn b.block (open_after [] rs) (spots_by (ending (own_items b)) ls) (end_by (ending (own_items b)) ls behind) rest) (sym same)
           (further b.block (open_after [] rows) ls behind (joined tail) (ending (own_items b)) r.tail_runs breaks.rest r.own_ending r.ends h.1),
     )
+
+-- where the page is cut round the first
+pub record FirstCut (b : LinedBlock) (tail : List (List Item)) (before own rest : List Item) : Type 0 where
+  pub before_is : before ≡ joined b.before ++ b.marks
+  pub own_is : own ≡ content (own_items b)
+  pub rest_is : rest ≡ ending (own_items b) ++ joined tail
+
+pub first_cut : (b : LinedBlock) (ls : List LinedBlock) (behind : List (List Item)) (xs : List Item)
+    (e : page_items (spots_source (spots_by [] (b ∷ ls)) (end_by [] (b ∷ ls) behind)) ≡ xs) (are : full_lines xs ≡ all_lines (b ∷ ls) behind) (o : OwnBreaks xs)
+    (h : AreLined (b ∷ ls) behind)
+    → FirstCut b (all_lines ls behind) (placed (b ∷ ls) behind xs e are o h).0.before (placed (b ∷ ls) behind xs e are o h).0.own (placed (b ∷ ls) behind xs e are o h).0.rest
+unfolding placed
+first_cut b ls behind xs e are o h = record { before_is = refl; own_is = refl; rest_is = refl }
 
 -- ---- they are the page
 

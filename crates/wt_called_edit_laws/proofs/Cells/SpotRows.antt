@@ -63,7 +63,7 @@ heading_is n s own ms (y ∷ ys) a h p m e =
     rows_led n ms (heading_line s own ++ y ∷ ys) (heading_row (heading_line s own) (break ∷ [])) (rows_from n (full_lines ys)) m
     (ap (λ z. rows_from n (full_lines (heading_line s own ++ z ∷ ys))) e ∙ round_then n s own ys a h p) tt
 
-block_is : (n : ℕ) (k : TextBlock) (xs : List Item) (b : AreItemsOf k xs) (ms tail : List Item) → StayText k n xs → AreMarks ms → EndsLine tail
+pub block_is : (n : ℕ) (k : TextBlock) (xs : List Item) (b : AreItemsOf k xs) (ms tail : List Item) → StayText k n xs → AreMarks ms → EndsLine tail
     → rows_from n (full_lines (ms ++ (items_round k xs ++ tail))) ≡ block_rows k xs b ms tail ++ rows_from n (full_lines (past_break tail))
 block_is n a_paragraph xs b ms tail a m e = text_is n xs ms tail (text_block xs b) a m e
 block_is n (a_heading s) xs b ms tail a m e = heading_is n s xs ms tail b.sides b.inside b.of_level m e
@@ -75,7 +75,7 @@ led_texts ms end [] h = absurd h
 led_texts ms end (r ∷ []) h = (h.0, ap (λ xs. ms ++ xs) h.1 ∙ append-nil ms, h.2)
 led_texts ms end (r ∷ s ∷ rs) h = (h.0, ap (λ xs. ms ++ xs) h.1 ∙ append-nil ms, h.2)
 
-led_para : (ms : List Item) (rs : List Row) → para (led ms rs) ≡ para rs
+pub led_para : (ms : List Item) (rs : List Row) → para (led ms rs) ≡ para rs
 unfolding para
 led_para ms [] = refl
 led_para ms (r ∷ rs) = refl

@@ -54,15 +54,15 @@ pub record OwnRead (k : TextBlock) (q : List ℕ) : Type 0 where
   pub unended : page_items (source_of k q) ≡ block_items k q
   pub calm : CallsNothing (block_items k q)
 
-record SpotIs (s : BlockSpot) (rest : List ℕ) (before own zs : List Item) : Type 0 where
-  read : OwnRead s.block s.text
-  closed : EndsClosed (source_of s.block s.text) rest
-  before_is : page_items s.before ≡ before
-  own_is : block_items s.block s.text ≡ own
-  rest_is : page_items rest ≡ zs
-  rest_utf8 : IsUtf8 rest
-  rest_calm : CallsNothing zs
-  rest_closed : EndsClosed rest []
+pub record SpotIs (s : BlockSpot) (rest : List ℕ) (before own zs : List Item) : Type 0 where
+  pub read : OwnRead s.block s.text
+  pub closed : EndsClosed (source_of s.block s.text) rest
+  pub before_is : page_items s.before ≡ before
+  pub own_is : block_items s.block s.text ≡ own
+  pub rest_is : page_items rest ≡ zs
+  pub rest_utf8 : IsUtf8 rest
+  pub rest_calm : CallsNothing zs
+  pub rest_closed : EndsClosed rest []
 
 behind_calm : (xs own zs : List Item) → CallsNothing (xs ++ (own ++ zs)) → CallsNothing zs
 behind_calm xs own zs c =
@@ -70,7 +70,7 @@ behind_calm xs own zs c =
     map-append sign xs (own ++ zs) ∙ ap (λ (ss : List ℕ). map sign xs ++ ss) (map-append sign own zs) in
     pairs_behind (map sign own) (map sign zs) (pairs_behind (map sign xs) (map sign own ++ map sign zs) (subst (λ (ss : List ℕ). NonePairs (braces ss)) joined c))
 
-spot_is : (s : BlockSpot) (rest : List ℕ) (zs : List Item) (c : IsSpotCut s zs) → page_items (s.before ++ (source_of s.block s.text ++ rest)) ≡ zs
+pub spot_is : (s : BlockSpot) (rest : List ℕ) (zs : List Item) (c : IsSpotCut s zs) → page_items (s.before ++ (source_of s.block s.text ++ rest)) ≡ zs
     → IsUtf8 (s.before ++ (source_of s.block s.text ++ rest)) → CallsNothing zs → EndsClosed (s.before ++ (source_of s.block s.text ++ rest)) []
     → AreEnded s.before → EndsThere rest → SpotIs s rest c.before c.own c.rest
 spot_is s rest zs c e u calm closed ended there =

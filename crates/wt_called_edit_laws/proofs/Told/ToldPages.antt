@@ -128,6 +128,14 @@ page_there page closed = record {
   breaks = page_breaks page;
 }
 
+-- the lines of such a page tell them
+pub told_are_lined : (page : List ℕ) (ts : List Told) (rest : List (List Item)) → EndsClosed page [] → full_lines (page_items page) ≡ all_lines (map lined ts) rest
+    → AreTold ts rest → AreLined (map lined ts) rest
+told_are_lined page ts rest closed are h =
+    let xs : List Item = page_items page in
+    let runs : AreRuns goes_on (all_lines (map lined ts) rest) xs = subst (λ (ks : List (List Item)). AreRuns goes_on ks xs) are (runs_are goes_on xs) in
+    all_told (page ++ 10 ∷ []) ts rest xs runs (page_there page closed) h
+
 pub told_lined : (page : List ℕ) (ts : List Told) (rest : List (List Item)) → IsToldPage page ts rest → IsLinedPage page (map lined ts) rest
 told_lined page ts rest h =
     let xs : List Item = page_items page in
