@@ -1,6 +1,7 @@
 -- A text edit of ordinary blocks is done, of any page that calls nothing.
 use Rattle.std.proofs.Common.{arith, ◌≡◌, ◌⊎◌, ℕ, zero, suc, ◌≤◌, true, Option, Some, None, List, [], ◌∷◌, length, map, refl, ap, subst, inl, inr}
 use Rattle.std.specs.List.{AllByRecursion}
+use Rattle.wt_span.specs.declared.limits.TheConstants.{HTML_BYTES}
 use Rattle.wt_tree.specs.declared.kind.Kind.{Kind}
 use Rattle.wt_tree.specs.declared.kind.Kind.TheVariants as kind
 use Rattle.wt_tree.specs.EditShapes.{edit_shape}
@@ -15,7 +16,7 @@ use Rattle.wt_slices.specs.BodySlices.{slices}
 use Rattle.wt_slices.specs.Changes.{Pair, marked}
 use Rattle.wt_splice.specs.Splice.{spliced}
 use Rattle.wt_visible.specs.SameNodes.{same_node}
-use Rattle.wt_commands.specs.Answers.{refusal_of_page, done, edit_to}
+use Rattle.wt_commands.specs.Answers.{refusal_of_page, done, edit_of, edit_to}
 use Rattle.wt_typed_blocks.specs.Edited.{Edits}
 use Rattle.wt_text_edit_laws.proofs.Between.NoCalls.{calm_unrefused}
 use Rattle.wt_called_edit_laws.specs.AllTold.{AllBlocksTold, IsExcepted, IsOneOf as IsAnyOf}
@@ -23,10 +24,12 @@ use Rattle.wt_called_edit_laws.specs.Groups.{called_tree}
 use Rattle.wt_called_edit_laws.specs.RowBlocks.{IsTextBlock, IsAtPath, IsAmong}
 use Rattle.wt_called_edit_laws.specs.ToldLines.{Told}
 use Rattle.wt_called_edit_laws.specs.ToldTogether.{AreSome}
+use Rattle.wt_called_edit_laws.proofs.AllTold.Complete.{all_blocks}
 use Rattle.wt_inside_laws.specs.AsSent.{edits_of, paths_of, node_at, node_among, IsOneOf, AreSomeOf, IsReadFor, IsSentOn}
 use Rattle.wt_inside_laws.specs.RetypedPieces.{AreRead, AreUtf8}
 use Rattle.wt_inside_laws.specs.TextEdits.{takes_text, IsRetyped}
 use Rattle.wt_inside_laws.specs.ToldEdits.{IsReadBlock, IsOrdinary, IsOrdinaryOn, IsOrdinaryEdit}
+use Rattle.wt_inside_laws.proofs.HtmlEdits.{edit_is}
 use Rattle.wt_inside_laws.proofs.PageAlike.{text_edit_sent}
 use Rattle.wt_inside_laws.proofs.ReadSent.{read_for, read_blocks}
 use Rattle.wt_inside_laws.proofs.ToldEdits.{same_node_at, first_same, rest_same, calm_ungrouped, told_edit_done}
@@ -116,9 +119,10 @@ all_ordinary : (page : List ℕ) (ps : List Pair) → AllByRecursion (IsOrdinary
 all_ordinary page [] h = tt
 all_ordinary page (p ∷ ps) h = (h.0.0, all_ordinary page ps h.1)
 
-pub ordinary_done : (pages : Pages) (page input : List ℕ) (new : Tree) (u : Option ℕ) → AllBlocksTold pages page → IsOrdinaryEdit pages page input new u
+pub ordinary_done : (pages : Pages) (page input : List ℕ) (new : Tree) (u : Option ℕ) → IsOrdinaryEdit pages page input new u
     → edit_to pages page new ≡ done (spliced page (slices same_node (page_tree pages page) new))
-ordinary_done pages page input new u a h =
+ordinary_done pages page input new u h =
+    let a : AllBlocksTold pages page = all_blocks pages page h.utf8 h.calls_nothing h.ungrouped h.closed in
     let t : Tree = called_tree pages page in
     let ms : List Pair = marked (page_tree pages page) new in
     let es : Edits = edits_of t new in
@@ -135,3 +139,8 @@ ordinary_done pages page input new u a h =
       ordinary = all_ordinary page ms h.blocks;
       among = all_told pages page a s (paths_of es) ms sent.at h.edit.blocks h.blocks;
     })
+
+pub ordinary_written : (pages : Pages) (page input : List ℕ) (new : Tree) (u : Option ℕ) → IsOrdinaryEdit pages page input new u → length input ≤ HTML_BYTES
+    → edit_of pages (Some page) input ≡ done (spliced page (slices same_node (page_tree pages page) new))
+ordinary_written pages page input new u h le =
+    edit_is pages page (spliced page (slices same_node (page_tree pages page) new)) input new u h.utf8 h.short le h.sent (ordinary_done pages page input new u h)

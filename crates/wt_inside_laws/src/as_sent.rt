@@ -3,7 +3,7 @@
 
 ghost use Rattle.std.specs.Prelude.{◌≡◌, ◌≤◌, ℕ, List, [], length, Bool, false, Option, None, Some, map};
 ghost use Rattle.wt_span.specs.Origins.{Expanded};
-ghost use Rattle.wt_span.specs.declared.limits.TheConstants.{PAGE_BYTES};
+ghost use Rattle.wt_span.specs.declared.limits.TheConstants.{HTML_BYTES, PAGE_BYTES};
 ghost use Rattle.std.specs.List.{AllByRecursion};
 ghost use Rattle.std.specs.Str.{IsUtf8};
 ghost use Rattle.wt_span.specs.Items.{Item};
@@ -23,7 +23,6 @@ ghost use Rattle.wt_slices.specs.BodySlices.{slices};
 ghost use Rattle.wt_slices.specs.Changes.{marked, AllStay};
 ghost use Rattle.wt_splice.specs.Splice.{spliced};
 ghost use Rattle.wt_commands.specs.Answers.{refusal_of_page, done, edit_of, edit_to};
-ghost use Rattle.wt_called_edit_laws.specs.AllTold.{AllBlocksTold};
 ghost use Rattle.wt_called_edit_laws.specs.ContentsTaken.{TakesContents};
 ghost use Rattle.wt_called_edit_laws.specs.Groups.{called_tree};
 ghost use Rattle.wt_called_edit_laws.specs.PlacedLines.{spots_by, end_by};
@@ -97,7 +96,10 @@ pub fn text_edits_in_html_are_done()
 /// lines of a page don't tell (`IsExcepted`).
 #[tactic(auto)]
 pub fn text_edits_are_done()
-    ensures { (pages : Pages) (page input : List ℕ) (new : Tree) (unsourced : Option ℕ) → AllBlocksTold pages page
+    ensures tree { (pages : Pages) (page input : List ℕ) (new : Tree) (unsourced : Option ℕ)
         → IsOrdinaryEdit pages page input new unsourced
         → edit_to pages page new ≡ done (spliced page (slices same_node (page_tree pages page) new)) }
+    ensures html { (pages : Pages) (page input : List ℕ) (new : Tree) (unsourced : Option ℕ)
+        → IsOrdinaryEdit pages page input new unsourced → length input ≤ HTML_BYTES
+        → edit_of pages (Some page) input ≡ done (spliced page (slices same_node (page_tree pages page) new)) }
 {}

@@ -1,5 +1,8 @@
-use Rattle.wt_inside_laws.proofs.OrdinaryEdits.{ordinary_done}
+use Rattle.wt_inside_laws.proofs.OrdinaryEdits.{ordinary_done, ordinary_written}
 use Rattle.wt_inside_laws.proofs.as_sent.text_edits_are_done.Goals as goal
 
-pub returns : goal.returns
-returns c = ordinary_done
+pub returns-clause-tree : goal.returns-clause-tree
+returns-clause-tree c = ordinary_done
+
+pub returns-clause-html : goal.returns-clause-html
+returns-clause-html c = ordinary_written
