@@ -1,28 +1,25 @@
 -- Each paragraph and heading of a page's tree that isn't tangled is one of those that the page's lines tell, or one of the excepted.
-use Rattle.std.proofs.Common.{arith, ◌≡◌, ◌<◌, ◌≤◌, ◌⊎◌, inl, inr, ℕ, zero, suc, ◌+◌, Bool, true, false, List, [], ◌∷◌, ◌++◌, length, take, drop, map, refl, sym, ap, ap₂, ◌∙◌, subst, append-nil, codes}
+use Rattle.std.proofs.Common.{arith, ◌≡◌, ◌<◌, ◌≤◌, ◌⊎◌, inl, inr, ℕ, zero, suc, Bool, true, false, List, [], ◌∷◌, ◌++◌, length, map, refl, sym, ap, ◌∙◌, subst, append-nil, codes}
 use Rattle.std.specs.Prelude.{◌&&◌}
 use Rattle.std.specs.Str.{IsUtf8}
 use Rattle.std.specs.List.{list_all}
 use Rattle.wt_span.specs.Bytes.{begins}
 use Rattle.wt_span.specs.Items.{Item, char, whole, is_mark, sign, sources}
-use Rattle.wt_span.specs.Origins.{Expanded}
-use Rattle.wt_tree.specs.declared.kind.Kind.{Kind}
 use Rattle.wt_tree.specs.Source.{flat}
-use Rattle.wt_tree.specs.Tree.{Label, Tree, tree, Trees, none, more, label}
+use Rattle.wt_tree.specs.Tree.{Tree, tree, Trees, none, more, label}
 use Rattle.wt_inline.specs.ItemTree.{ItemTree}
 use Rattle.wt_checks.specs.Kept.{children}
 use Rattle.wt_expand.specs.PageCalls.{expanded_page}
 use Rattle.wt_expand.specs.PageItems.{page_items}
 use Rattle.wt_expand.specs.Work.{Pages}
-use Rattle.wt_lines.specs.declared.kind.LineKind.{LineKind}
 use Rattle.wt_lines.specs.declared.kind.LineKind.TheVariants as line
 use Rattle.wt_lines.specs.Kinds.{kind_of_signs}
-use Rattle.wt_lines.specs.Lines.{is_break_item, content, full_lines}
+use Rattle.wt_lines.specs.Lines.{content, full_lines}
 use Rattle.wt_blocks.specs.Headings.{inside}
 use Rattle.wt_tables.specs.Parts.{joined}
 use Rattle.wt_page.specs.Headings.{heading}
 use Rattle.wt_page.specs.Lines.{kind_at}
-use Rattle.wt_page.specs.Rows.{Row, marks_len, signs, rows_from}
+use Rattle.wt_page.specs.Rows.{signs, rows_from}
 use Rattle.wt_page.specs.Texts.{para}
 use Rattle.wt_part_laws.specs.Slots.{AllTrue}
 use Rattle.wt_part_laws.specs.Standing.{standing}
@@ -33,10 +30,10 @@ use Rattle.wt_text_edit_laws.specs.PageCuts.{begins_unmarked, EndsClosed, IsUnta
 use Rattle.wt_text_edit_laws.specs.ParagraphBetween.{written_rows, tables_behind, EndApart, BeginApart}
 use Rattle.wt_text_edit_laws.specs.Parts.{HasNoGroups}
 use Rattle.wt_text_edit_laws.specs.TextBetween.{AreEnded}
-use Rattle.wt_text_edit_laws.specs.TextBlocks.{TextBlock, a_paragraph, a_heading, source_of, block_tree}
+use Rattle.wt_text_edit_laws.specs.TextBlocks.{TextBlock, a_paragraph, source_of, block_tree}
 use Rattle.wt_text_edit_laws.proofs.Cuts.RowLines.{AllText}
 use Rattle.wt_text_edit_laws.proofs.Paragraphs.Marks.{mark_sign, AreMarkSigns, kind_marks}
-use Rattle.wt_called_edit_laws.specs.AllTold.{starts_in, IsExceptedAt, an_empty_heading, text_on_a_sign, marked_text, text_in_tables, unended_marks, other_heading, IsExcepted, IsOneOf, ToldAtPaths, AllBlocksTold}
+use Rattle.wt_called_edit_laws.specs.AllTold.{starts_in, IsExceptedAt, an_empty_heading, text_on_a_sign, marked_text, text_in_tables, unended_marks, other_heading, IsExcepted, IsOneOf, AllBlocksTold}
 use Rattle.wt_called_edit_laws.specs.AnyBlocks.{open_after}
 use Rattle.wt_called_edit_laws.specs.CalledPages.{IsCalledPage}
 use Rattle.wt_called_edit_laws.specs.CalledTexts.{spots_tree}
@@ -46,9 +43,8 @@ use Rattle.wt_called_edit_laws.specs.Groups.{called_tree}
 use Rattle.wt_called_edit_laws.specs.LinedHeadings.{IsLinedHeading}
 use Rattle.wt_called_edit_laws.specs.PlacedBlocks.{AreLinesAt}
 use Rattle.wt_called_edit_laws.specs.PlacedLines.{LinedBlock, all_lines, spots_by, end_by, IsLinedPage}
-use Rattle.wt_called_edit_laws.specs.PlacedSpots.{IsShut}
 use Rattle.wt_called_edit_laws.specs.RowBlocks.{IsTextBlock, IsAtPath, IsAmong, begins_at, text_row, AreOfText, IsOfLines, of_lines, of_line, behind_a_sign, StandsOnRows, StandsOnLines}
-use Rattle.wt_called_edit_laws.specs.ToldLines.{Told, a_paragraph_of, a_heading_on, lined, IsToldAt, AreTold, IsToldPage}
+use Rattle.wt_called_edit_laws.specs.ToldLines.{Told, lined, AreTold, IsToldPage}
 use Rattle.wt_called_edit_laws.specs.ToldTogether.{start_of, told_starts, IsAmongNumbers, AreSome, AreAllTold}
 use Rattle.wt_called_edit_laws.proofs.CallsTake.{contents_by, contents_paths}
 use Rattle.wt_called_edit_laws.proofs.Cells.SpotSlots.{open_size}
@@ -58,12 +54,12 @@ use Rattle.wt_called_edit_laws.proofs.PathsSend.{NoneEmpty, paths_full}
 use Rattle.wt_called_edit_laws.proofs.Told.FreeNodes.{untangled_shut}
 use Rattle.wt_called_edit_laws.proofs.Told.ToldPages.{told_lined, told_called, told_are_lined}
 use Rattle.wt_called_edit_laws.proofs.AllTold.EachBlocks.{EachBlockIn}
-use Rattle.wt_called_edit_laws.proofs.AllTold.Found.{size, a_block, housing_of}
+use Rattle.wt_called_edit_laws.proofs.AllTold.Found.{size}
 use Rattle.wt_called_edit_laws.proofs.AllTold.LineBlocks.{block_on_lines}
 use Rattle.wt_called_edit_laws.proofs.AllTold.LineKinds.{Lines, led_by, past_marks, led_whole, led_marks, kind_led}
 use Rattle.wt_called_edit_laws.proofs.AllTold.NodePlaces.{first_byte, node_begins, standing_begins}
 use Rattle.wt_called_edit_laws.proofs.AllTold.OwnTrees.{OwnRound, told_round, paragraph_is, heading_is}
-use Rattle.wt_called_edit_laws.proofs.AllTold.PlaceStarts.{spot_starts, starts_from, paths_start, standing_source, AllHaveBytes, LeadsThere, leads, leads_there}
+use Rattle.wt_called_edit_laws.proofs.AllTold.PlaceStarts.{starts_from, paths_start, standing_source, AllHaveBytes, LeadsThere, leads, leads_there}
 use Rattle.wt_called_edit_laws.proofs.AllTold.RowBlocks.{housed, page_stands, body_none, below}
 use Rattle.wt_called_edit_laws.proofs.AllTold.Scans.{Decided, bool_decided, kind_decided, ended_decided, text_told, heading_told}
 use Rattle.wt_called_edit_laws.proofs.AllTold.Starts.{HasByte, BlockAt, BlockIn, same_paths}

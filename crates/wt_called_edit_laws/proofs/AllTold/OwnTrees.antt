@@ -1,5 +1,5 @@
 -- The tree of a block that its lines tell is that of its rows.
-use Rattle.std.proofs.Common.{arith, ◌≡◌, ℕ, suc, ◌+◌, Bool, true, false, List, [], ◌∷◌, ◌++◌, length, map, refl, sym, ap, ◌∙◌, subst, append-nil, append_assoc, length-append}
+use Rattle.std.proofs.Common.{arith, ◌≡◌, ℕ, Bool, true, false, List, [], ◌∷◌, ◌++◌, length, map, refl, sym, ap, ◌∙◌, subst, append-nil, append_assoc, length-append}
 use Rattle.std.specs.Prelude.{◌&&◌}
 use Rattle.std.specs.Str.{IsUtf8}
 use Rattle.std.specs.List.{list_all}
@@ -8,12 +8,11 @@ use Rattle.wt_span.specs.Runs.{AreRuns}
 use Rattle.wt_span.proofs.RunLaws.{runs_are}
 use Rattle.wt_expand.specs.PageItems.{page_items}
 use Rattle.wt_lines.specs.declared.kind.LineKind.{LineKind}
-use Rattle.wt_lines.specs.declared.kind.LineKind.TheVariants as line
 use Rattle.wt_lines.specs.Lines.{goes_on, content, full_lines}
 use Rattle.wt_tables.specs.Extents.{behind}
 use Rattle.wt_tables.specs.Parts.{joined}
 use Rattle.wt_page.specs.Headings.{heading}
-use Rattle.wt_page.specs.Lines.{kind_at, ending}
+use Rattle.wt_page.specs.Lines.{ending}
 use Rattle.wt_page.specs.Rows.{Row, line_rows, rows_from}
 use Rattle.wt_page.specs.Texts.{para}
 use Rattle.wt_page.proofs.Ends.{content_ending}
@@ -22,7 +21,7 @@ use Rattle.wt_text_edit_laws.specs.NoCalls.{CallsNothing}
 use Rattle.wt_text_edit_laws.specs.ParagraphParts.{break}
 use Rattle.wt_text_edit_laws.specs.PageCuts.{IsSpotCut, EndsClosed}
 use Rattle.wt_text_edit_laws.specs.ParagraphBetween.{written_rows}
-use Rattle.wt_text_edit_laws.specs.TextBlocks.{TextBlock, a_paragraph, a_heading, source_of, block_tree}
+use Rattle.wt_text_edit_laws.specs.TextBlocks.{TextBlock, a_paragraph, a_heading, block_tree}
 use Rattle.wt_text_edit_laws.specs.TypedHeadings.{Sides, EndsLine}
 use Rattle.wt_text_edit_laws.proofs.Cuts.RowLines.{AllText}
 use Rattle.wt_text_edit_laws.proofs.Cuts.TextLines.{runs_behind, joined_both, lines_of, IsEnding}
@@ -32,7 +31,7 @@ use Rattle.wt_text_edit_laws.proofs.Paragraphs.Marks.{AreMarks}
 use Rattle.wt_called_edit_laws.specs.AnyBlocks.{open_after, open_behind_part, past_break}
 use Rattle.wt_called_edit_laws.specs.CalledContents.{items_round, AreItemsOf, StayText}
 use Rattle.wt_called_edit_laws.specs.LinedHeadings.{sides_of}
-use Rattle.wt_called_edit_laws.specs.PlacedLines.{LinedBlock, all_lines, spots_by, end_by, AreLined}
+use Rattle.wt_called_edit_laws.specs.PlacedLines.{LinedBlock, all_lines, end_by, AreLined}
 use Rattle.wt_called_edit_laws.specs.PlacedSpots.{AreBlocksIn}
 use Rattle.wt_called_edit_laws.specs.RowBlocks.{text_row}
 use Rattle.wt_called_edit_laws.specs.ToldLines.{Told, a_paragraph_of, a_heading_on, lined, AreTold}

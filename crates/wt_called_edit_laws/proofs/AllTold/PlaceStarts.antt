@@ -1,8 +1,8 @@
 -- The paths of a page's blocks lead to the bytes at which these begin, and no other paragraph or heading begins at one of them.
-use Rattle.std.proofs.Common.{arith, ◌≡◌, ◌⊎◌, inl, inr, ℕ, zero, suc, ◌<◌, ◌+◌, Bool, true, false, List, [], ◌∷◌, ◌++◌, length, map, refl, sym, ap, ap₂, ◌∙◌, subst, append-nil, append_assoc, length-append}
+use Rattle.std.proofs.Common.{arith, ◌≡◌, inl, inr, ℕ, zero, suc, ◌<◌, ◌+◌, false, List, [], ◌∷◌, ◌++◌, length, refl, sym, ap, ap₂, ◌∙◌, subst, append-nil, append_assoc, length-append}
 use Rattle.wt_tree.specs.Kinds.{is_leaf}
 use Rattle.wt_tree.specs.Source.{flat, flat_of_all}
-use Rattle.wt_tree.specs.Tree.{Label, Tree, tree, Trees, none, more, label}
+use Rattle.wt_tree.specs.Tree.{Label, Tree, tree, Trees, none, more}
 use Rattle.wt_span.specs.Items.{Item}
 use Rattle.wt_inline.specs.ItemTree.{ItemTree}
 use Rattle.wt_checks.specs.Kept.{children}
@@ -10,28 +10,27 @@ use Rattle.wt_expand.specs.Work.{Pages}
 use Rattle.wt_part_laws.specs.Placeless.{placeless, all_placeless}
 use Rattle.wt_part_laws.specs.Standing.{standing}
 use Rattle.wt_part_laws.proofs.Moved.{moved}
-use Rattle.wt_part_laws.specs.TreeFrames.{TreeFrame, spot, kept, holder, TreeFrames, no_nodes, more_nodes, filled, all_filled, spots_in, spots}
-use Rattle.wt_text_edit_laws.specs.BlockSpots.{BlockSpot, spots_source}
+use Rattle.wt_part_laws.specs.TreeFrames.{spot, kept, holder, TreeFrames, no_nodes, more_nodes, all_filled, spots}
+use Rattle.wt_text_edit_laws.specs.BlockSpots.{BlockSpot}
 use Rattle.wt_text_edit_laws.specs.TextBlocks.{TextBlock, a_paragraph, a_heading, source_of, block_tree}
 use Rattle.wt_text_edit_laws.proofs.Blocks.Contents.{block_source}
 use Rattle.wt_called_edit_laws.specs.AllTold.{starts_at, starts_in, IsOneOf}
-use Rattle.wt_called_edit_laws.specs.CalledBlocks.{tree_by, counted}
+use Rattle.wt_called_edit_laws.specs.CalledBlocks.{tree_by}
 use Rattle.wt_called_edit_laws.specs.CalledPages.{IsCalledPage}
 use Rattle.wt_called_edit_laws.specs.CalledTexts.{spots_tree}
-use Rattle.wt_called_edit_laws.specs.ContentsTaken.{TakesContents}
 use Rattle.wt_called_edit_laws.specs.EditsAt.{IsStanding, StandsTo, StandsAmong, AllStand}
 use Rattle.wt_called_edit_laws.specs.Nodes.{block_at, NoneLeaves}
 use Rattle.wt_called_edit_laws.specs.ToldTogether.{IsAmongNumbers}
-use Rattle.wt_called_edit_laws.specs.PathsTo.{past_one, all_past, all_inside, paths_to}
+use Rattle.wt_called_edit_laws.specs.PathsTo.{all_past, all_inside, paths_to}
 use Rattle.wt_called_edit_laws.proofs.Cells.PlaceGaps.{Gaps, last_gap, then_gap, put_before, numbers_in, source_at, AreSame}
-use Rattle.wt_called_edit_laws.proofs.EditFacts.{IsFramedPage, framed_page, spots_contents, are_the_page, paths_of, spots_stand, spots_body}
+use Rattle.wt_called_edit_laws.proofs.EditFacts.{IsFramedPage, spots_contents, are_the_page, paths_of}
 use Rattle.wt_called_edit_laws.proofs.GroupsAmong.{retyped_self}
 use Rattle.wt_called_edit_laws.proofs.Leads.{standing_kind}
-use Rattle.wt_called_edit_laws.proofs.NodeGaps.{gap_of, gaps_in, HaveSources, have_sources, both_have, page_gaps, gaps_so, numbers_so}
-use Rattle.wt_called_edit_laws.proofs.PathsSend.{NoneEmpty, past_full, paths_full}
+use Rattle.wt_called_edit_laws.proofs.NodeGaps.{gaps_in, HaveSources, have_sources, both_have, page_gaps, gaps_so, numbers_so}
+use Rattle.wt_called_edit_laws.proofs.PathsSend.{NoneEmpty, paths_full}
 use Rattle.wt_called_edit_laws.proofs.TextsMake.{flat_same, leaf_or as flat_inner}
 use Rattle.wt_called_edit_laws.proofs.TextsUntangled.{AreThere, all_there}
-use Rattle.wt_called_edit_laws.proofs.AllTold.Found.{a_block, housing_of}
+use Rattle.wt_called_edit_laws.proofs.AllTold.Found.{housing_of}
 use Rattle.wt_called_edit_laws.proofs.AllTold.Starts.{HasByte, IsBlockNode, BlockAt, BlockIn}
 
 -- ---- where blocks begin among bytes

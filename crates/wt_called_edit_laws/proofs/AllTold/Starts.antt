@@ -1,10 +1,9 @@
 -- Where the nodes of a tree begin, by what is before them: no two paragraphs and headings begin at one place.
-use Rattle.std.proofs.Common.{arith, ◌≡◌, ◌<◌, ◌≤◌, ℕ, zero, suc, ◌+◌, Bool, true, false, List, [], ◌∷◌, ◌++◌, length, refl, sym, ap, ◌∙◌, subst, length-append}
+use Rattle.std.proofs.Common.{arith, ◌≡◌, ◌<◌, ◌≤◌, ℕ, zero, suc, ◌+◌, Bool, true, false, List, [], ◌∷◌, ◌++◌, length, refl, ap, subst, length-append}
 use Rattle.std.specs.Prelude.{if◌then◌else◌}
-use Rattle.wt_tree.specs.declared.kind.Kind.{Kind}
 use Rattle.wt_tree.specs.Kinds.{is_leaf}
 use Rattle.wt_tree.specs.Source.{flat, flat_of_all}
-use Rattle.wt_tree.specs.Tree.{Label, Tree, tree, Trees, none, more, label}
+use Rattle.wt_tree.specs.Tree.{Tree, tree, Trees, none, more}
 use Rattle.wt_called_edit_laws.specs.AllTold.{starts_at, starts_in}
 use Rattle.wt_called_edit_laws.proofs.AllTold.EachBlocks.{OfHousing, EachBlock, EachBlockIn}
 use Rattle.wt_called_edit_laws.proofs.AllTold.Found.{Housing, a_block, a_shell, another, housing_of}

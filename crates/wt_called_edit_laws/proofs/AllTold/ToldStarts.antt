@@ -1,5 +1,5 @@
 -- Where the blocks that a page's lines tell begin, as parts of the page; each has a byte.
-use Rattle.std.proofs.Common.{arith, ◌≡◌, ◌<◌, ◌≤◌, ◌⊎◌, inl, inr, ℕ, suc, ◌+◌, Bool, true, false, List, [], ◌∷◌, ◌++◌, length, map, refl, sym, ap, ap₂, ◌∙◌, subst, length-append}
+use Rattle.std.proofs.Common.{arith, ◌≡◌, ◌<◌, ◌≤◌, ◌⊎◌, inl, inr, ℕ, ◌+◌, Bool, true, false, List, [], ◌∷◌, ◌++◌, length, map, refl, sym, ap, ap₂, ◌∙◌, subst, length-append}
 use Rattle.std.specs.Prelude.{if◌then◌else◌}
 use Rattle.wt_span.specs.Items.{Item, source, sources}
 use Rattle.wt_span.specs.Runs.{AreRuns}
@@ -12,7 +12,6 @@ use Rattle.wt_tables.specs.Parts.{joined}
 use Rattle.wt_page.specs.Lines.{kind_at, ending}
 use Rattle.wt_page.specs.Rows.{signs}
 use Rattle.wt_page.proofs.Ends.{content_ending}
-use Rattle.wt_text_edit_laws.specs.BlockSpots.{BlockSpot}
 use Rattle.wt_text_edit_laws.specs.ParagraphBetween.{written_rows}
 use Rattle.wt_text_edit_laws.specs.TextBlocks.{TextBlock, source_of}
 use Rattle.wt_text_edit_laws.proofs.Cuts.ItemCuts.{HaveBytes, page_from, from_has}
