@@ -23,6 +23,7 @@ use Rattle.wt_text_edit_laws.specs.TextBlocks.{TextBlock, a_paragraph, a_heading
 use Rattle.wt_text_edit_laws.specs.TypedHeadings.{NoBreaks}
 use Rattle.wt_text_edit_laws.proofs.Between.Fronts.{items_from, first_from, reads_after}
 use Rattle.wt_text_edit_laws.proofs.Cuts.ItemCuts.{page_cut, cut_from, page_from}
+use Rattle.wt_text_edit_laws.proofs.Headings.HeadingRows.{inside_unbroken}
 use Rattle.wt_text_edit_laws.proofs.Prose.InFront.{reads_nothing}
 use Rattle.wt_beside_laws.specs.Commented.{IsComment, IsCommentLine, IsReadInLine, IsHeld}
 use Rattle.wt_beside_laws.specs.Content.{AreKept}
@@ -156,4 +157,4 @@ pub content_flat : (k : TextBlock) (q : List ℕ) → IsContentOf k q → AreHel
 content_flat a_paragraph q i h kept = lines_flat q [] (lines (page_items q)) (page_items q) 0 (lines_are (page_items q)) refl h kept
 content_flat (a_heading s) q i h kept =
     let here : page_items q ≡ [] ++ (page_items q ++ []) = sym (append-nil (page_items q)) in
-    (heading_break (page_items q) i.inside.unbroken, line_flat q [] (page_items q) [] _ here h.0 kept, tt)
+    (heading_break (page_items q) (inside_unbroken s (page_items q) i.inside), line_flat q [] (page_items q) [] _ here h.0 kept, tt)

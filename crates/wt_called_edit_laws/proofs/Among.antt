@@ -8,6 +8,7 @@ pub mod OwnSeams
 pub mod OwnItems
 pub mod BlockAt
 pub mod LinedParts
+pub mod CallingLines
 pub mod CalmLines
 pub mod ToldAmong
 pub mod ToldCases

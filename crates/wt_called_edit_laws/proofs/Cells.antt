@@ -9,6 +9,7 @@ pub mod PlacedBlocks
 pub mod PlacedSpots
 pub mod PlacedLines
 pub mod PlacedAmong
+pub mod PlacedCalling
 mod PlacedCases
 pub mod TakenParagraphs
 mod Cases

@@ -8,7 +8,7 @@ use Rattle.wt_page.specs.Rows.{marks_len}
 use Rattle.wt_text_edit_laws.specs.ParagraphParts.{break, joined_parts, para_with}
 use Rattle.wt_text_edit_laws.specs.Paragraphs.{IsTextLine}
 use Rattle.wt_text_edit_laws.specs.TextBlocks.{TextBlock, a_paragraph, a_heading}
-use Rattle.wt_text_edit_laws.specs.TypedHeadings.{Sides, AreSides, heading_line, heading_round, IsHeadingInside, IsOfLevel}
+use Rattle.wt_text_edit_laws.specs.TypedHeadings.{Sides, AreSides, heading_line, heading_round, IsInside, IsOfLevel}
 use Rattle.wt_called_edit_laws.specs.InCells.{AreTextLines}
 
 -- ---- by its items
@@ -30,7 +30,7 @@ pub record AreTextItems (xs : List Item) : Type 0 where
 
 pub record AreHeadingItems (s : Sides) (xs : List Item) : Type 0 where
   pub sides : AreSides s
-  pub inside : IsHeadingInside xs
+  pub inside : IsInside s xs
   pub of_level : IsOfLevel s xs
 
 abbrev pub AreItemsOf : TextBlock → List Item → Type 0

@@ -47,7 +47,9 @@ pub mod PlacedBlocks
 pub mod PlacedSpots
 pub mod PlacedLines
 pub mod PlacedAmong
+pub mod PlacedCalling
 pub mod LinedAmong
+pub mod LinedCalling
 pub mod LinedHeadings
 pub mod ToldLines
 pub mod ToldTogether

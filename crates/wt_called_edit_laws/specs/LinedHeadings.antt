@@ -1,5 +1,5 @@
--- A heading of a page by its line alone: it is of a heading's kind, begins with `=`, and something is between its delimiters.
-use Rattle.std.specs.Prelude.{◌≡◌, ◌≤◌, ◌+◌, ℕ, true, List, length, take, drop, codes}
+-- A heading of a page by its line alone: it is of a heading's kind, and begins with `=`.
+use Rattle.std.specs.Prelude.{◌≡◌, ◌+◌, ℕ, true, List, take, drop, codes}
 use Rattle.wt_span.specs.Bytes.{blank_len, begins}
 use Rattle.wt_span.specs.Items.{Item, sources}
 use Rattle.wt_lines.specs.declared.kind.LineKind.TheVariants as line
@@ -31,4 +31,3 @@ text_of l = sources (inside l)
 pub record IsLinedHeading (n : ℕ) (l : List Item) : Type 0 where
   pub is_heading : kind_at n l ≡ line.Heading
   pub first : begins (codes "=") (signs l) ≡ true
-  pub some : 1 ≤ length (inside (content l))

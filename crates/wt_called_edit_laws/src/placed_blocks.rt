@@ -10,8 +10,11 @@ ghost use Rattle.wt_text_edit_laws.specs.TextBlocks.{TextBlock, a_paragraph, a_h
 ghost use Rattle.wt_text_edit_laws.specs.TypedHeadings.{Sides};
 ghost use Rattle.wt_called_edit_laws.specs.CalledPages.{IsCalledPage};
 ghost use Rattle.wt_called_edit_laws.specs.Covered.{IsEditablePage};
+ghost use Rattle.wt_called_edit_laws.specs.EditableBlocks.{IsEditableWithCalls};
 ghost use Rattle.wt_called_edit_laws.specs.LinedAmong.{spots_of_lines, end_of_lines, IsLinedAmong};
+ghost use Rattle.wt_called_edit_laws.specs.LinedCalling.{IsLinedCalling};
 ghost use Rattle.wt_called_edit_laws.specs.PlacedAmong.{IsPlacedAmong};
+ghost use Rattle.wt_called_edit_laws.specs.PlacedCalling.{IsPlacedCalling};
 ghost use Rattle.wt_called_edit_laws.specs.PlacedBlocks.{IsBlockIn, block_spot, IsFreeIn, IsHeadingOn, IsParagraphOn};
 ghost use Rattle.wt_called_edit_laws.specs.PlacedLines.{LinedBlock, all_lines, spots_by, end_by, AreLined, IsLinedPage};
 ghost use Rattle.wt_called_edit_laws.specs.PlacedSpots.{IsPlacedPage};
@@ -57,6 +60,13 @@ pub fn all_blocks_among_calls_may_be_edited()
     ensures { (pages : Pages) (ss : List BlockSpot) (behind : List ℕ) → IsPlacedAmong pages ss behind → IsEditablePage pages ss behind }
 {}
 
+/// So with paragraphs and headings that hold calls, which may begin or end with one: a page whose items, where calls are characters, are cut
+/// at each of them, may be edited with them, if each is a content in this folder, by what the calls give at such a place, and has a byte that no
+/// group has (`IsPlacedCalling`).
+pub fn all_blocks_that_call_may_be_edited()
+    ensures { (pages : Pages) (ss : List BlockSpot) (behind : List ℕ) → IsPlacedCalling pages ss behind → IsEditableWithCalls pages ss behind }
+{}
+
 /// And these may be told by the lines of the expanded page: those before each, its own, which come from no call, and those
 /// behind the last (`IsLinedAmong`). What is on the page for these lines are its parts: the page's items are cut at each
 /// block, no call goes over the end of one, and each part is expanded to its lines. So this page may be edited with all of
@@ -73,4 +83,16 @@ pub fn lines_of_an_expanded_page_are_cut_at_its_blocks()
         → IsLinedAmong pages page ls behind }
     ensures parts { (pages : Pages) (page : List ℕ) (ls : List LinedBlock) (behind : List (List Item)) → full_lines (page_items page) ≡ all_lines ls behind
         → (spots_of_lines pages page ls ≡ spots_by [] ls) × (end_of_lines pages page ls behind ≡ end_by [] ls behind) }
+{}
+
+/// And so may be those that hold calls: of a block's lines, which may begin or end with what a call gives, is asked that they
+/// are what the block gives by itself, and that its source is what is on the page for them; the line breaks round them are
+/// the page's own (`IsLinedCalling`).
+pub fn lines_of_blocks_that_call_are_cut_at_these()
+    ensures whole { (pages : Pages) (page : List ℕ) (ls : List LinedBlock) (behind : List (List Item)) → IsLinedCalling pages page ls behind
+        → spots_source (spots_of_lines pages page ls) (end_of_lines pages page ls behind) ≡ page }
+    ensures blocks { (pages : Pages) (page : List ℕ) (ls : List LinedBlock) (behind : List (List Item)) → IsLinedCalling pages page ls behind
+        → IsPlacedCalling pages (spots_of_lines pages page ls) (end_of_lines pages page ls behind) }
+    ensures editable { (pages : Pages) (page : List ℕ) (ls : List LinedBlock) (behind : List (List Item)) → IsLinedCalling pages page ls behind
+        → IsEditableWithCalls pages (spots_of_lines pages page ls) (end_of_lines pages page ls behind) }
 {}

@@ -33,8 +33,8 @@ ghost use Rattle.wt_called_edit_laws.specs.ToldLines.{Told, lined, IsToldPage};
 ghost use Rattle.wt_called_edit_laws.specs.ToldTogether.{AreAllTold};
 
 /// A heading's line is told by itself. Where one of a page's lines, behind the marks that begin it, is of a heading's kind and
-/// begins with `=`, and something is between its delimiters (`IsLinedHeading`), it is the line of a heading with the sides and
-/// the text that these delimiters give it, and no others are a line's. At the page's end no comment and no hidden part is open.
+/// begins with `=` (`IsLinedHeading`), it is the line of a heading with the sides and the text that its delimiters give it, and no
+/// others are a line's; the text may be empty. At the page's end no comment and no hidden part is open.
 pub fn headings_are_told_by_their_lines()
     ensures told { (page : List ℕ) (before : List (List Item)) (marks : List Item) (l : List Item) (behind : List (List Item)) (n : ℕ) → EndsClosed page []
         → 1 ≤ length l → full_lines (page_items page) ≡ before ++ (marks ++ l) ∷ behind → IsLinedHeading n l

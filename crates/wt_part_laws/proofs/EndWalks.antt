@@ -1,6 +1,6 @@
 -- What is behind the last item of some nodes is nothing to their walk, where the cut between is free.
 use Rattle.std.proofs.Common.{◌≡◌, ℕ, ◌+◌, Bool, true, false, Option, None, List, [], ◌∷◌, ◌++◌, length, map, refl, sym, ap, ap₂, ◌∙◌, cond}
-use Rattle.std.specs.Prelude.{not, ◌&&◌, ◌||◌}
+use Rattle.std.specs.Prelude.{◌&&◌, ◌||◌}
 use Rattle.std.specs.List.{list_all, list_any}
 use Rattle.wt_tree.specs.Kinds.{is_leaf}
 use Rattle.wt_tree.specs.Tree.{Tree, tree, Trees, trees}
@@ -12,7 +12,7 @@ use Rattle.wt_annotated.specs.Annotated.{kept_label}
 use Rattle.wt_annotated.specs.Clean.{is_page, is_body, own_by}
 use Rattle.wt_annotated.specs.GroupData.{group_data}
 use Rattle.wt_annotated.specs.Seams.{last_of, first_of, parted, text_from}
-use Rattle.wt_annotated.specs.Walked.{free_places, clean_at, Near, near_tied, near_nodes, group_at, near_run, near_runs, walked, near}
+use Rattle.wt_annotated.specs.Walked.{clean_at, Near, near_tied, near_nodes, group_at, near_run, near_runs, walked, near}
 use Rattle.wt_annotated.specs.WithoutCalls.{inside_by}
 use Rattle.wt_annotated.proofs.Seams.{first_append, last_append}
 

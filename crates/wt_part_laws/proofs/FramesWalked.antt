@@ -3,7 +3,6 @@ use Rattle.std.proofs.Common.{◌≡◌, ℕ, ◌+◌, Bool, true, false, Option
 use Rattle.std.specs.Prelude.{◌&&◌, ◌||◌}
 use Rattle.std.specs.List.{list_all, list_any}
 use Rattle.wt_tree.specs.declared.kind.Kind.{Kind}
-use Rattle.wt_tree.specs.declared.kind.Kind.TheVariants as kind
 use Rattle.wt_tree.specs.Kinds.{is_leaf}
 use Rattle.wt_tree.specs.Tree.{Label, Tree, tree, Trees, none, more, trees}
 use Rattle.wt_span.specs.Items.{Item, sources}
@@ -19,7 +18,7 @@ use Rattle.wt_annotated.proofs.Calls.{all_split}
 use Rattle.wt_annotated.proofs.Ends.{both}
 use Rattle.wt_annotated.proofs.Seams.{first_append, last_append}
 use Rattle.wt_part_laws.specs.Rounds.{IsCellKind}
-use Rattle.wt_part_laws.specs.Frames.{Frame, place, whole, around, Frames, no_frames, more_frames, tree_at, trees_at, all_places, Part, content, in_table, in_body, in_row, Holds, AreFrames}
+use Rattle.wt_part_laws.specs.Frames.{place, whole, around, Frames, no_frames, more_frames, tree_at, trees_at, all_places, Part, content, in_table, in_body, in_row, Holds, AreFrames}
 use Rattle.wt_part_laws.specs.Placeless.{placeless_label, placeless, all_placeless}
 use Rattle.wt_part_laws.specs.TreeFrames.{TreeFrame, spot, kept, holder, TreeFrames, no_nodes, more_nodes, filled, all_filled, spots}
 use Rattle.wt_part_laws.specs.Rounded.{AreClean, AreCleanThere, HaveSameData}

@@ -1,12 +1,12 @@
 -- Worked cases: what a call gives between texts of the page, and in which groups it is.
-use Rattle.std.proofs.Common.{◌≡◌, ℕ, ◌==◌, Option, None, Some, List, [], ◌∷◌, ◌++◌, map, refl}
+use Rattle.std.proofs.Common.{◌≡◌, ℕ, Option, None, Some, List, [], ◌∷◌, ◌++◌, map, refl}
 use Rattle.std.specs.Prelude.{codes}
 use Rattle.wt_tree.specs.declared.kind.Kind.TheVariants as kind
 use Rattle.wt_span.specs.declared.form.ItemForm.TheVariants as form
 use Rattle.wt_span.specs.Items.{Item, char, whole}
 use Rattle.wt_inline.specs.declared.loose.Loose.TheVariants.{Text}
-use Rattle.wt_inline.specs.ItemTree.{ItemTree, plain, inner, leaf, forest}
-use Rattle.wt_inline.specs.Parts.{Part, node, parts, loose_leaf, children, form_leaf}
+use Rattle.wt_inline.specs.ItemTree.{ItemTree, plain, inner, forest}
+use Rattle.wt_inline.specs.Parts.{node, parts, loose_leaf, children, form_leaf}
 use Rattle.wt_part_laws.specs.CallPieces.{own, given, call_pieces}
 
 -- items of this call, or of the page

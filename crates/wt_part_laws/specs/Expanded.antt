@@ -1,8 +1,7 @@
 -- A page of two parts, of which each is expanded as it is by itself.
 use Rattle.std.specs.Prelude.{◌≡◌, ℕ, ◌+◌, true, false, Option, Some, None, List, [], ◌∷◌, ◌++◌, length, map}
 use Rattle.wt_span.specs.declared.form.Mode.TheVariants.{Page}
-use Rattle.wt_span.specs.Lexemes.{words}
-use Rattle.wt_span.specs.Braces.{Member, lexeme, call, reduced}
+use Rattle.wt_span.specs.Braces.{Member, lexeme, call}
 use Rattle.wt_span.specs.Items.{Item}
 use Rattle.wt_span.specs.Origins.{OuterCall, Span}
 use Rattle.wt_expand.specs.Work.{Pages}

@@ -28,7 +28,7 @@ use Rattle.wt_text_edit_laws.specs.Paragraphs.{IsTextLine}
 use Rattle.wt_text_edit_laws.specs.ReadContents.{IsFirmlyRead}
 use Rattle.wt_text_edit_laws.specs.TextBetween.{StandsBehind, LineEnds}
 use Rattle.wt_text_edit_laws.specs.TextBlocks.{TextBlock, a_paragraph, a_heading, source_of, block_items, block_tree, IsFrame}
-use Rattle.wt_text_edit_laws.specs.TypedHeadings.{Sides, IsHeadingInside, IsOfLevel}
+use Rattle.wt_text_edit_laws.specs.TypedHeadings.{Sides, IsInside, IsOfLevel}
 
 -- ---- its lines
 
@@ -40,10 +40,11 @@ pub record AreParagraphLines (q : List ℕ) : Type 0 where
   pub alone : StandsBehind q
   pub before_break : StandsBehind (q ++ byte.line_break ∷ [])
 
--- What is between a heading's delimiters: it is on one line, begins and ends with no blank, and the line's level is that of the delimiters.
+-- What is between a heading's delimiters: it is on one line, begins and ends with no blank, or is nothing; and the line's level is that of the
+-- delimiters.
 pub record IsHeadingLine (s : Sides) (q : List ℕ) : Type 0 where
   pub frame : IsFrame s
-  pub inside : IsHeadingInside (page_items q)
+  pub inside : IsInside s (page_items q)
   pub of_level : IsOfLevel s (page_items q)
 
 abbrev pub IsContentOf : TextBlock → List ℕ → Type 0

@@ -17,7 +17,7 @@ use Rattle.wt_text_edit_laws.specs.Paragraphs.{IsTextLine}
 use Rattle.wt_text_edit_laws.specs.Parts.{HasNoGroups}
 use Rattle.wt_text_edit_laws.specs.TextBetween.{AreEnded, HasEnds}
 use Rattle.wt_text_edit_laws.specs.TextBlocks.{TextBlock, a_paragraph, a_heading, source_of, block_tree}
-use Rattle.wt_text_edit_laws.specs.TypedHeadings.{Sides, AreBlanks, AreIdle, equals, opening, IsHeadingInside}
+use Rattle.wt_text_edit_laws.specs.TypedHeadings.{Sides, AreBlanks, AreIdle, equals, opening, IsInside}
 
 -- ---- a block, by its items in the page
 
@@ -46,7 +46,7 @@ pub record AreHeadingItems (s : Sides) (q : List ℕ) (xs : List Item) : Type 0 
   pub trail : AreBlanks s.trail
   pub idle : AreIdle (map sign rest)
   pub ends : HasEnds (s.rest ++ byte.line_break ∷ [])
-  pub inside : IsHeadingInside own
+  pub inside : IsInside s own
   pub of_level : level xs ≡ s.level
 
 abbrev pub AreBlockItems : TextBlock → List ℕ → List Item → Type 0

@@ -1,6 +1,6 @@
 -- A heading with a text on a line by itself: so many `=`, the text, and as many `=`, and blanks or none beside the text; behind it all blanks,
 -- comments and include tags, or nothing.
-use Rattle.std.specs.Prelude.{◌≡◌, ◌≤◌, ◌==◌, ℕ, Bool, true, false, None, List, [], ◌∷◌, ◌++◌, map, replicate}
+use Rattle.std.specs.Prelude.{◌≡◌, ◌⊎◌, ◌≤◌, ◌==◌, ℕ, Bool, true, false, None, List, [], ◌∷◌, ◌++◌, map, replicate}
 use Rattle.wt_tree.specs.declared.kind.Kind.TheVariants as kind
 use Rattle.wt_span.specs.Bytes.{is_blank}
 use Rattle.wt_span.specs.Characters as byte
@@ -91,6 +91,10 @@ pub record IsHeadingInside (xs : List Item) : Type 0 where
   pub unbroken : NoBreaks xs
   pub begins : BeginsWithout is_blank (map sign xs)
   pub ends : EndsWithout is_blank (map sign xs)
+
+-- and so nothing, where all blanks of its line are behind its first `=`
+abbrev pub IsInside : Sides → List Item → Type 0
+IsInside s xs = IsHeadingInside xs ⊎ ((xs ≡ []) × (s.trail ≡ []))
 
 -- a heading with what this is on a line
 abbrev pub heading_round : Sides → List Item → ItemTree

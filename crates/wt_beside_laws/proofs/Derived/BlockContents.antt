@@ -29,7 +29,7 @@ use Rattle.wt_text_edit_laws.specs.PageCuts.{begins_unmarked, AreTextItems, AreH
 use Rattle.wt_text_edit_laws.specs.Paragraphs.{IsTextLine}
 use Rattle.wt_text_edit_laws.specs.TextBetween.{StandsBehind}
 use Rattle.wt_text_edit_laws.specs.TextBlocks.{TextBlock, a_paragraph, a_heading, source_of, block_items, block_tree}
-use Rattle.wt_text_edit_laws.specs.TypedHeadings.{Sides, AreIdle, equals, opening, heading_line, IsHeadingInside}
+use Rattle.wt_text_edit_laws.specs.TypedHeadings.{Sides, AreIdle, equals, opening, heading_line, IsInside}
 use Rattle.wt_text_edit_laws.proofs.Between.BraceWords.{pairs_behind}
 use Rattle.wt_text_edit_laws.proofs.Between.Fronts.{items_from, byte_from}
 use Rattle.wt_text_edit_laws.proofs.Between.LessBraces.{IsSome, all_some, some_both, pairs_some, BeginsUnbraced, braces_of, items_before_start}
@@ -150,7 +150,7 @@ heading_is s q xs h u r = record {
     stands = record { ends = lines_ended (s.rest ++ 10 ∷ []) (one_line s.rest); has_ends = h.ends };
     ended = r.ended ∙ ap (λ (ys : List Item). ys ++ char None 10 ∷ []) (sym r.rest);
   };
-  inside = subst IsHeadingInside (sym r.own) h.inside;
+  inside = subst (IsInside s) (sym r.own) h.inside;
   of_level = ap level (heading_items s q xs h r.own r.rest) ∙ h.of_level;
 }
 

@@ -38,7 +38,7 @@ end_plain b e = elim (either (b == 10) (b == 62) e) [
   | inr f ↦ ap is_plain (eqb-true b 62 f)
 ]
 
-ends_plain : (bs : List ℕ) → AreEnded bs → EndsBy is_plain bs
+pub ends_plain : (bs : List ℕ) → AreEnded bs → EndsBy is_plain bs
 ends_plain [] e = tt
 ends_plain (b ∷ []) e = end_plain b e
 ends_plain (b ∷ c ∷ bs) e = ends_plain (c ∷ bs) e
@@ -93,7 +93,7 @@ break_ended line own (d ∷ r) rest is e behind =
     let c = page_cut full (d ∷ r) (own ++ break) first.more all size in
     settled_ends full (d ∷ r) (omega arith) (c.settles (inl (ends_plain full (lines_ended full (one_line line)))))
 
-line_ended : (line : List ℕ) (own : List Item) (rest : List ℕ) (zs : List Item) → sources own ≡ line → EndsThere rest → page_items (line ++ rest) ≡ own ++ zs
+pub line_ended : (line : List ℕ) (own : List Item) (rest : List ℕ) (zs : List Item) → sources own ≡ line → EndsThere rest → page_items (line ++ rest) ≡ own ++ zs
     → page_items rest ≡ zs → LineEnds line rest
 line_ended line own [] zs is e all behind = tt
 line_ended line own (b ∷ r) zs is e all behind =

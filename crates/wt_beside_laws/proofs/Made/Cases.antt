@@ -1,5 +1,5 @@
 -- Worked cases: `x<br>y` is flat as a paragraph, and between `== ` and ` ==` as a heading.
-use Rattle.std.proofs.Common.{arith, ◌≡◌, ℕ, None, List, [], ◌∷◌, ◌++◌, refl, sym, ap, ◌∙◌, subst, All}
+use Rattle.std.proofs.Common.{arith, ◌≡◌, inl, ℕ, None, List, [], ◌∷◌, ◌++◌, refl, sym, ap, ◌∙◌, subst, All}
 use Rattle.std.specs.Prelude.{codes}
 use Rattle.std.specs.Str.{IsUtf8, chars}
 use Rattle.std.proofs.Math.Utf8.{encode}
@@ -146,7 +146,7 @@ heading_by q all xs alone before_break is utf8 given =
         utf8 = utf8;
         ended = before_break ∙ ap (λ (ys : List Item). ys ++ char None 10 ∷ []) (sym h.line);
         unended = alone ∙ sym h.line;
-        is = record { frame = frame; inside = h.inside; of_level = h.of_level };
+        is = record { frame = frame; inside = inl h.inside; of_level = h.of_level };
         calls_nothing = h.calls_nothing;
         has_items = h.has_items;
         flat = h.flat;

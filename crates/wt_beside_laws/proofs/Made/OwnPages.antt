@@ -18,7 +18,7 @@ use Rattle.wt_text_edit_laws.specs.Contents.{IsContentOf}
 use Rattle.wt_text_edit_laws.specs.NoCalls.{CallsNothing}
 use Rattle.wt_text_edit_laws.specs.ParagraphBetween.{AreClosed, blocks_in, body_with}
 use Rattle.wt_text_edit_laws.specs.TextBlocks.{TextBlock, a_paragraph, a_heading, source_of, block_items, block_tree}
-use Rattle.wt_text_edit_laws.specs.TypedHeadings.{Sides, AreSides, heading_line, heading_round, IsHeadingInside, IsOfLevel}
+use Rattle.wt_text_edit_laws.specs.TypedHeadings.{Sides, AreSides, heading_line, heading_round, IsInside, IsOfLevel}
 use Rattle.wt_text_edit_laws.proofs.Between.NoCalls.{calm_expanded, calm_unrefused}
 use Rattle.wt_text_edit_laws.proofs.Blocks.BlockReading.{HasFrame}
 use Rattle.wt_text_edit_laws.proofs.Blocks.BlocksAgain.{framed_utf8}
@@ -35,7 +35,7 @@ no_blocks = ap children no_parts
 nothing_closed : AreClosed []
 nothing_closed = record { whole = refl; closed = refl }
 
-heading_means : (s : Sides) (own : List Item) → AreSides s → IsHeadingInside own → IsOfLevel s own
+heading_means : (s : Sides) (own : List Item) → AreSides s → IsInside s own → IsOfLevel s own
     → meaning (heading_line s own) ≡ body_with (heading_round s own ∷ [])
 heading_means s own a h p =
     ap meaning (sym (append-nil (heading_line s own)))

@@ -27,6 +27,7 @@ use Rattle.wt_text_edit_laws.specs.TextBlocks.{TextBlock, a_paragraph, a_heading
 use Rattle.wt_text_edit_laws.specs.TypedHeadings.{equals, opening, closing_items}
 use Rattle.wt_text_edit_laws.proofs.Blocks.BlocksAgain.{framed_utf8}
 use Rattle.wt_text_edit_laws.proofs.Blocks.BlockReading.{AreQuiet, each_quiet, opening_quiet, quiet_joined, run_quiet, blanks_quiet}
+use Rattle.wt_text_edit_laws.proofs.Headings.HeadingRows.{inside_unbroken}
 use Rattle.wt_beside_laws.specs.Calm.{AreCalm}
 use Rattle.wt_beside_laws.specs.Commented.{IsHeld}
 use Rattle.wt_beside_laws.specs.EndedNodes.{OpenNoPair, LinesOpenNoPair, AreEndedNodes}
@@ -180,7 +181,7 @@ content_own : (k : TextBlock) (q : List ℕ) → IsContent k q → CallsNothing 
 content_own a_paragraph q h c l = lines_own q [] (lines (page_items q)) (page_items q) 0 (lines_are (page_items q)) refl l (own_items a_paragraph q h c)
 content_own (a_heading s) q h c l =
     let here : page_items q ≡ [] ++ (page_items q ++ []) = sym (append-nil (page_items q)) in
-    let one = heading_break (page_items q) h.is.inside.unbroken in
+    let one = heading_break (page_items q) (inside_unbroken s (page_items q) h.is.inside) in
     let own = line_own q [] (page_items q) [] (begins_at (a_heading s)) here one l.0 (own_items (a_heading s) q h c) in
     record { flat = (one, own.flat, tt); utf8 = own.utf8 }
 

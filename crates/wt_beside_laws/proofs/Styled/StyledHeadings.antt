@@ -1,5 +1,5 @@
 -- A content with styles in a heading.
-use Rattle.std.proofs.Common.{◌≡◌, Bool, true, false, List, [], ◌∷◌, ◌++◌, refl, sym, ap, ◌∙◌}
+use Rattle.std.proofs.Common.{◌≡◌, inl, Bool, true, false, List, [], ◌∷◌, ◌++◌, refl, sym, ap, ◌∙◌}
 use Rattle.std.specs.Prelude.{if◌then◌else◌}
 use Rattle.wt_span.specs.Items.{Item}
 use Rattle.wt_guards.specs.Content.{ContentSign, letter, thing}
@@ -68,12 +68,12 @@ inside_parts s t h =
 pub styled_heading : (s : Setting) (t : StyledContent) (sides : Sides) → IsStyledHeading s t → AreSides sides → IsOfLevel sides (page_items (spelled s (signs_in t)))
     → heading (heading_line sides (page_items (spelled s (signs_in t)))) ≡ heading_of sides (styled_parts false s [] t [])
 styled_heading s t sides h a p =
-    round_is sides (page_items (spelled s (signs_in t))) a (styled_inside s t h) p ∙ ap (heading_of sides) (inside_parts s t h)
+    round_is sides (page_items (spelled s (signs_in t))) a (inl (styled_inside s t h)) p ∙ ap (heading_of sides) (inside_parts s t h)
 
 pub styled_heading_stands : (before : List Item) (s : Setting) (t : StyledContent) (sides : Sides) (tail : List Item) → AreClosed (before_marks before)
     → AreSides sides → IsStyledHeading s t → IsOfLevel sides (page_items (spelled s (signs_in t))) → EndsLine tail
     → meaning (before ++ (heading_line sides (page_items (spelled s (signs_in t))) ++ tail))
     ≡ body_with (blocks_in before ++ heading_of sides (styled_parts false s [] t []) ∷ blocks_in tail)
 styled_heading_stands before s t sides tail c a h p e =
-    round_stands before sides (page_items (spelled s (signs_in t))) tail c a (styled_inside s t h) p e
+    round_stands before sides (page_items (spelled s (signs_in t))) tail c a (inl (styled_inside s t h)) p e
     ∙ ap (λ ps. body_with (blocks_in before ++ heading_of sides ps ∷ blocks_in tail)) (inside_parts s t h)

@@ -98,7 +98,7 @@ content_so (a_heading g) q s t f h w =
     (nodes_told (begins_at (a_heading g)) (lines_in (a_heading g) q) h.flat)) in
     record {
       frame = f;
-      inside = styled_inside s t (as_heading g s t c w.stays);
+      inside = inl (styled_inside s t (as_heading g s t c w.stays));
       of_level = level_told s (signs_in t) g c.of_block c.kept c.characters c.nodes c.led w.stays.1 told f.sides;
     }
 

@@ -6,7 +6,6 @@ use Rattle.wt_span.specs.Items.{Item, is_mark, sources}
 use Rattle.wt_lines.specs.declared.kind.LineKind.{LineKind}
 use Rattle.wt_lines.specs.declared.kind.LineKind.TheVariants as line
 use Rattle.wt_lines.specs.Lines.{content}
-use Rattle.wt_blocks.specs.Headings.{inside}
 use Rattle.wt_blocks.specs.Paragraphs.{is_text}
 use Rattle.wt_tables.specs.Extents.{behind as tables_after}
 use Rattle.wt_tables.specs.Parts.{joined}
@@ -116,13 +115,12 @@ lines_decided n (l ∷ ls) =
 
 -- a line of a heading is one of these
 headed : (n : ℕ) (l : List Item) → Decided (IsLinedHeading n l)
-headed n l = by (heading_decided (kind_at n l)) (bool_decided (begins (codes "=") (signs l)) true) (some_decided (inside (content l)))
+headed n l = by (heading_decided (kind_at n l)) (bool_decided (begins (codes "=") (signs l)) true)
   where
-    by : Decided (kind_at n l ≡ line.Heading) → Decided (begins (codes "=") (signs l) ≡ true) → Decided (1 ≤ length (inside (content l))) → Decided (IsLinedHeading n l)
-    by (inl a) (inl b) (inl c) = inl (record { is_heading = a; first = b; some = c })
-    by (inr f) b c = inr (λ h. f h.is_heading)
-    by (inl a) (inr f) c = inr (λ h. f h.first)
-    by (inl a) (inl b) (inr f) = inr (λ h. f h.some)
+    by : Decided (kind_at n l ≡ line.Heading) → Decided (begins (codes "=") (signs l) ≡ true) → Decided (IsLinedHeading n l)
+    by (inl a) (inl b) = inl (record { is_heading = a; first = b })
+    by (inr f) b = inr (λ h. f h.is_heading)
+    by (inl a) (inr f) = inr (λ h. f h.first)
 
 -- one with nothing before it
 abbrev pub Bare : Told → Type 0

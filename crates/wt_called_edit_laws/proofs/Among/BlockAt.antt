@@ -32,7 +32,7 @@ abbrev other_bytes : List ℕ → List ℕ
 other_bytes [] = []
 other_bytes (c ∷ cs) = cs
 
-bytes_cut : (gs bs cs ds : List ℕ) → gs ++ bs ≡ cs ++ ds → length gs ≡ length cs → (gs ≡ cs) × (bs ≡ ds)
+pub bytes_cut : (gs bs cs ds : List ℕ) → gs ++ bs ≡ cs ++ ds → length gs ≡ length cs → (gs ≡ cs) × (bs ≡ ds)
 bytes_cut [] bs [] ds e n = (refl, e)
 bytes_cut [] bs (c ∷ cs) ds e n = absurd (omega (arith, n))
 bytes_cut (g ∷ gs) bs [] ds e n = absurd (omega (arith, n))
@@ -40,15 +40,15 @@ bytes_cut (g ∷ gs) bs (c ∷ cs) ds e n =
     let r = bytes_cut gs bs cs ds (ap other_bytes e) (omega (arith, n)) in
     (ap₂ (λ (x : ℕ) (xs : List ℕ). x ∷ xs) (ap (first_byte g) e) r.0, r.1)
 
-have_front : (xs ys : List Item) → HaveBytes (xs ++ ys) → HaveBytes xs
+pub have_front : (xs ys : List Item) → HaveBytes (xs ++ ys) → HaveBytes xs
 have_front [] ys h = tt
 have_front (x ∷ xs) ys h = (h.0, have_front xs ys h.1)
 
-have_behind : (xs ys : List Item) → HaveBytes (xs ++ ys) → HaveBytes ys
+pub have_behind : (xs ys : List Item) → HaveBytes (xs ++ ys) → HaveBytes ys
 have_behind [] ys h = h
 have_behind (x ∷ xs) ys h = have_behind xs ys h.1
 
-own_seam : (xs ys : List Item) → last_of None xs ≡ None → IsOwnSeam xs ys
+pub own_seam : (xs ys : List Item) → last_of None xs ≡ None → IsOwnSeam xs ys
 own_seam [] ys e = tt
 own_seam (x ∷ xs) ys e = inl e
 

@@ -85,7 +85,7 @@ last_break : (v : Bool) → if◌then◌else◌ {A = List (List Item)} v ([] ∷
 last_break true e = refl
 last_break false e = cc
 
-own_end : (o : Option ℕ) (xs : List Item) → empty_end xs ≡ [] ∷ [] → last_of o xs ≡ None → EndsBreak xs
+pub own_end : (o : Option ℕ) (xs : List Item) → empty_end xs ≡ [] ∷ [] → last_of o xs ≡ None → EndsBreak xs
 own_end o [] e l = inl refl
 own_end o (x ∷ []) e l = inr ([], ap (λ (y : Item). y ∷ []) (own_break x l (last_break (is_break_item x) e)))
 own_end o (x ∷ y ∷ ys) e l = by (own_end (call_of x) (y ∷ ys) e l)
@@ -94,7 +94,7 @@ own_end o (x ∷ y ∷ ys) e l = by (own_end (call_of x) (y ∷ ys) e l)
     by (inl z) = absurd (cc)
     by (inr s) = inr (x ∷ s.0, ap (λ (us : List Item). x ∷ us) s.1)
 
-ended_text : (calls : List OuterCall) (xs : List Item) → EndsBreak xs → AreEnded (text_from calls None xs)
+pub ended_text : (calls : List OuterCall) (xs : List Item) → EndsBreak xs → AreEnded (text_from calls None xs)
 ended_text calls xs (inl e) = subst (λ (us : List Item). AreEnded (text_from calls None us)) (sym e) tt
 ended_text calls xs (inr s) =
     let one : text_from calls (last_of None s.0) (break ∷ []) ≡ 10 ∷ [] =
@@ -105,13 +105,13 @@ ended_text calls xs (inr s) =
 
 -- the last of them, if there is one, is an item of the page's own
 pub record IsLastOwn (xs : List Item) : Type 0 where
-  front : List Item
-  last : Item
-  is : xs ≡ front ++ last ∷ []
-  own : call_of last ≡ None
-  some : 1 ≤ length (source last)
+  pub front : List Item
+  pub last : Item
+  pub is : xs ≡ front ++ last ∷ []
+  pub own : call_of last ≡ None
+  pub some : 1 ≤ length (source last)
 
-abbrev EndsOwn : List Item → Type 0
+abbrev pub EndsOwn : List Item → Type 0
 EndsOwn xs = (xs ≡ []) ⊎ IsLastOwn xs
 
 last_own : (x : Item) (xs : List Item) → AreOfPage (x ∷ xs) → HaveBytes (x ∷ xs) → IsLastOwn (x ∷ xs)
@@ -120,7 +120,7 @@ last_own x (y ∷ ys) h b =
     let r = last_own y ys h.2 b.1 in
     record { front = x ∷ r.front; last = r.last; is = ap (λ (us : List Item). x ∷ us) r.is; own = r.own; some = r.some }
 
-own_behind : (xs ms : List Item) → EndsBreak xs → AreOfPage ms → HaveBytes ms → EndsOwn (xs ++ ms)
+pub own_behind : (xs ms : List Item) → EndsBreak xs → AreOfPage ms → HaveBytes ms → EndsOwn (xs ++ ms)
 own_behind xs [] (inl e) h b = inl (append-nil xs ∙ e)
 own_behind xs [] (inr s) h b =
     let one : 1 ≤ length (source break) = omega arith in
@@ -135,7 +135,7 @@ own_behind xs (m ∷ ms) e h b =
       some = r.some;
     })
 
-own_text_size : (calls : List OuterCall) (o : Option ℕ) (xs : List Item) (y : Item) → call_of y ≡ None → 1 ≤ length (source y)
+pub own_text_size : (calls : List OuterCall) (o : Option ℕ) (xs : List Item) (y : Item) → call_of y ≡ None → 1 ≤ length (source y)
     → 1 ≤ length (text_from calls o (xs ++ y ∷ []))
 own_text_size calls o xs y e some =
     let a = text_size calls o xs (y ∷ []) in
@@ -147,7 +147,7 @@ own_text_size calls o xs y e some =
 begins_break : (calls : List OuterCall) (es : List Item) (xs : List Item) → es ≡ break ∷ [] → EndsThere (text_from calls None (es ++ xs))
 begins_break calls es xs e = subst (λ (us : List Item). EndsThere (text_from calls None (us ++ xs))) (sym e) refl
 
-ends_text : (calls : List OuterCall) (es : List Item) (ls : List (List Item)) → IsEnding es
+pub ends_text : (calls : List OuterCall) (es : List Item) (ls : List (List Item)) → IsEnding es
     → ((m : List Item) (ms : List (List Item)) → ls ≡ m ∷ ms → es ≡ break ∷ []) → EndsThere (text_from calls None (es ++ joined ls))
 ends_text calls [] [] i f = tt
 ends_text calls (x ∷ es) [] i f = subst (λ (y : Item). EndsThere (text_from calls None ((y ∷ es) ++ []))) (sym i.0) refl
@@ -193,11 +193,11 @@ before_texts pages calls k (s ∷ ss) behind f =
           subst (λ (i : ℕ). AreSourcesAt calls i cs) to (f (length before + (length mine + j)) cs there)),
     )
 
-cancel : (xs ys zs : List Item) → xs ++ ys ≡ xs ++ zs → ys ≡ zs
+pub cancel : (xs ys zs : List Item) → xs ++ ys ≡ xs ++ zs → ys ≡ zs
 cancel [] ys zs e = e
 cancel (x ∷ xs) ys zs e = cancel xs ys zs (ap others e)
 
-no_items : (xs : List Item) (u : Item) (us : List Item) → [] ≡ xs ++ u ∷ us → ⊥
+pub no_items : (xs : List Item) (u : Item) (us : List Item) → [] ≡ xs ++ u ∷ us → ⊥
 no_items [] u us e = cc
 no_items (x ∷ xs) u us e = cc
 
@@ -243,7 +243,7 @@ pub left_none : (es : List Item) → IsLeft es → last_of None es ≡ None
 left_none es (inl e) = ap (last_of None) e
 left_none es (inr e) = ap (last_of None) e
 
-left_whole : (es xs : List Item) → IsLeft es → empty_end xs ≡ [] ∷ [] → empty_end (es ++ xs) ≡ [] ∷ []
+pub left_whole : (es xs : List Item) → IsLeft es → empty_end xs ≡ [] ∷ [] → empty_end (es ++ xs) ≡ [] ∷ []
 left_whole es xs (inl e) w = ap (λ (zs : List Item). empty_end (zs ++ xs)) e ∙ w
 left_whole es xs (inr e) w = ap (λ (zs : List Item). empty_end (zs ++ xs)) e ∙ past_end xs w
 
@@ -343,7 +343,7 @@ spot_source pages page open_tables es b tail p qs l ss end e =
     ∙ ap (λ (vs : List ℕ). sources l.here.before ++ vs) (sym (flat_map-append source own l.here.behind))
     ∙ sym (flat_map-append source l.here.before (own ++ l.here.behind)) ∙ ap sources (sym l.here.is)
 
-some_first : (xs : List Item) → xs ≢ [] → (o : Item) × (os : List Item) × (xs ≡ o ∷ os)
+pub some_first : (xs : List Item) → xs ≢ [] → (o : Item) × (os : List Item) × (xs ≡ o ∷ os)
 some_first [] n = absurd (n refl)
 some_first (x ∷ xs) n = (x, xs, refl)
 
@@ -458,7 +458,7 @@ further pages page last open_tables es (b ∷ ls) behind p qs xs runs i f r h ow
 
 -- ---- the page
 
-page_text : (pages : Pages) (page : List ℕ) → text_from (calls_of pages page) None (expanded_page pages page).items ≡ page
+pub page_text : (pages : Pages) (page : List ℕ) → text_from (calls_of pages page) None (expanded_page pages page).items ≡ page
 page_text pages page =
     let calls : List OuterCall = calls_of pages page in
     ap (text_from calls None) (sym (items_of pages page))

@@ -124,7 +124,7 @@ told_here = (
     some = omega arith;
     in_cells = tt;
     apart = tt;
-    own = record { is_heading = refl; first = refl; some = omega arith };
+    own = record { is_heading = refl; first = refl };
   },
   (
     tt,

@@ -76,7 +76,7 @@ placed_after last bs [] behind c h = h
 placed_after last bs (s ∷ ss) behind c h =
     (h.0, (c.0, h.1, h.2), placed_after s.block (open_behind_part bs (past_break s.before)) ss behind c.1 h.3)
 
-placed : (ss : List ItemSpot) (behind : List Item) → AreContentsIn ss → Stand ss behind → ArePlaced ss behind
+pub placed : (ss : List ItemSpot) (behind : List Item) → AreContentsIn ss → Stand ss behind → ArePlaced ss behind
 placed [] behind c h = h
 placed (s ∷ ss) behind c h = ((c.0, h.0, h.1), placed_after s.block (open_behind_part [] s.before) ss behind c.1 h.2)
 

@@ -11,7 +11,7 @@ use Rattle.wt_part_laws.proofs.Parsed.{rows_slots}
 use Rattle.wt_part_laws.proofs.Places.{rows_join as places_join, own_rows as placed_rows}
 use Rattle.wt_text_edit_laws.specs.ParagraphBetween.{before_marks}
 use Rattle.wt_text_edit_laws.specs.TextBlocks.{TextBlock, a_paragraph, a_heading, block_tree}
-use Rattle.wt_text_edit_laws.specs.TypedHeadings.{Sides, AreSides, heading_line, IsHeadingInside, IsOfLevel, EndsLine}
+use Rattle.wt_text_edit_laws.specs.TypedHeadings.{Sides, AreSides, heading_line, IsInside, IsOfLevel, EndsLine}
 use Rattle.wt_text_edit_laws.proofs.Texts.PlainRows.{text_row}
 use Rattle.wt_text_edit_laws.proofs.Prose.ProseReading.{break}
 use Rattle.wt_text_edit_laws.proofs.Prose.ProseLines.{first_ended, rest_ended}
@@ -53,7 +53,7 @@ text_is n own ms (y ∷ ys) b a m e =
     let rest : List Row = rows_from n (full_lines ys) in
     text_led n ms (own ++ y ∷ ys) (first_ended b.first b.others) (rest_ended b.first b.others) rest m (text_rows n own (y ∷ ys) b rest a (behind_is n (y ∷ ys) e))
 
-heading_is : (n : ℕ) (s : Sides) (own ms tail : List Item) → AreSides s → IsHeadingInside own → IsOfLevel s own → AreMarks ms → EndsLine tail
+heading_is : (n : ℕ) (s : Sides) (own ms tail : List Item) → AreSides s → IsInside s own → IsOfLevel s own → AreMarks ms → EndsLine tail
     → rows_from n (full_lines (ms ++ (heading_line s own ++ tail)))
     ≡ with_lead ms (heading_row (heading_line s own) (end_of tail)) ∷ rows_from n (full_lines (past_break tail))
 heading_is n s own ms [] a h p m e =

@@ -1,5 +1,5 @@
 -- A heading of texts beside calls, as it is written, is a content in a folder, and a new one in the place of another one whose nodes it has; those that don't call may go.
-use Rattle.std.proofs.Common.{◌≡◌, ℕ, List, [], ◌∷◌, ◌++◌, None, refl, sym, ap, ◌∙◌, subst, append-nil}
+use Rattle.std.proofs.Common.{◌≡◌, inl, ℕ, List, [], ◌∷◌, ◌++◌, None, refl, sym, ap, ◌∙◌, subst, append-nil}
 use Rattle.wt_span.specs.Items.{Item, char}
 use Rattle.wt_span.specs.Origins.{OuterCall}
 use Rattle.wt_guards.specs.Content.{ContentSign}
@@ -68,7 +68,7 @@ head_written pages s signs w f h =
 
 head_is : (s : Setting) (signs : List ContentSign) (owns : List (List Item)) (w : Sides) → IsFrame w → IsCalledHeading s signs owns
     → AreHeadingItems w (items_with s [] signs owns)
-head_is s signs owns w f h = record { sides = f.sides; inside = heading_inside s signs owns h; of_level = heading_level s signs owns w h f.sides }
+head_is s signs owns w f h = record { sides = f.sides; inside = inl (heading_inside s signs owns h); of_level = heading_level s signs owns w h f.sides }
 
 pub head_content : (pages : Pages) (s : Setting) (signs : List ContentSign) (w : Sides) → IsFrame w → IsWrittenInHeading pages s signs
     → IsContentIn pages (a_heading w) (spelled s signs)

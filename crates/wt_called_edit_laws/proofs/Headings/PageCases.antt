@@ -87,7 +87,7 @@ parts_here i = subst AreGivenParts (sym (items_are i)) (given_parts i)
 is_line : (i : ℕ) → AreHeadingItems two (given i)
 unfolding level page_items words closed form_at comment_len comment_line_len raw_len opening_tag tag_after closing_tag with_inside include_at entity_at
     named_entity decimal_entity hex_entity entity_names sign_word
-is_line i = record { sides = frame.sides; inside = record { unbroken = (refl, (refl, (refl, tt))); begins = refl; ends = refl }; of_level = refl }
+is_line i = record { sides = frame.sides; inside = inl (record { unbroken = (refl, (refl, (refl, tt))); begins = refl; ends = refl }); of_level = refl }
 
 pub here : IsHeadingInPieces a_word two source
 here = record {

@@ -1,10 +1,10 @@
 -- The items of a heading's line of a page, cut at its delimiters.
-use Rattle.std.proofs.Common.{arith, ◌≡◌, ℕ, zero, suc, ◌+◌, ◌<◌, ◌≤◌, Bool, true, false, not, Some, None, List, [], ◌∷◌, ◌++◌, length, take, drop, map, refl, sym, ap, ◌∙◌, subst, append_assoc, length-append, All, codes}
+use Rattle.std.proofs.Common.{arith, ◌≡◌, ◌⊎◌, inl, inr, ℕ, zero, suc, ◌+◌, ◌<◌, ◌≤◌, Bool, true, false, not, Some, None, List, [], ◌∷◌, ◌++◌, length, take, drop, map, refl, sym, ap, ◌∙◌, subst, append_assoc, length-append, All, codes}
 use Rattle.std.specs.Prelude.{if◌then◌else◌}
 use Rattle.std.proofs.Math.Seq.{take-append_seam, drop-append_seam}
 use Rattle.std.proofs.lemmas.Bool.{eqb-true}
 use Rattle.std.proofs.lemmas.Bool.Decides.{nat_tests}
-use Rattle.std.proofs.lemmas.List.{map-append, length-map, length-take}
+use Rattle.std.proofs.lemmas.List.{map-append, length-map}
 use Rattle.std.proofs.lemmas.List.Elements.{All-head, All-tail}
 use Rattle.std.proofs.lemmas.Grind.{flat_map-append}
 use Rattle.wt_span.specs.declared.form.Mode.TheVariants.{Page}
@@ -25,11 +25,12 @@ use Rattle.wt_page.proofs.Ends.{content_ending}
 use Rattle.wt_text_edit_laws.specs.LonePages.{page_chars}
 use Rattle.wt_text_edit_laws.specs.PageCuts.{AreHeadingItems}
 use Rattle.wt_text_edit_laws.specs.TextBetween.{HasEnds}
-use Rattle.wt_text_edit_laws.specs.TypedHeadings.{Sides, equals, AreBlanks, AreIdle, BeginsWithout, EndsWithout, NoBreaks}
+use Rattle.wt_text_edit_laws.specs.TypedHeadings.{Sides, equals, AreBlanks, AreIdle, NoBreaks, IsHeadingInside}
 use Rattle.wt_text_edit_laws.proofs.Between.Fronts.{items_from}
 use Rattle.wt_text_edit_laws.proofs.Cuts.ItemCuts.{cut_from, page_cut}
 use Rattle.wt_text_edit_laws.proofs.Paragraphs.LineBlocks.{OwnBreaks}
-use Rattle.wt_text_edit_laws.proofs.Headings.HeadingSigns.{line_signs, body_signs, core_is, round, open_is, inside_is}
+use Rattle.wt_text_edit_laws.proofs.Headings.HeadingRows.{inside_signs}
+use Rattle.wt_text_edit_laws.proofs.Headings.HeadingSigns.{line_signs, body_signs, core_is, round, AreSeen, open_seen, inside_seen}
 use Rattle.wt_called_edit_laws.specs.LinedHeadings.{blanks_behind, sides_of, text_of, IsLinedHeading}
 use Rattle.wt_called_edit_laws.proofs.Told.HeadLevels.{core_cut}
 use Rattle.wt_called_edit_laws.proofs.Told.HeadParts.{LineCut, line_cut, parts_joined}
@@ -164,8 +165,7 @@ record ItemsCut (xs : List Item) : Type 0 where
   rest_signs : AreIdle (map sign rest)
   lead_blanks : AreBlanks lead
   trail_blanks : AreBlanks trail
-  begins : BeginsWithout is_blank (map sign own)
-  ends : EndsWithout is_blank (map sign own)
+  seen : AreSeen (map sign own) trail
   some : 1 ≤ level xs
   most : level xs ≤ 6
   opened : open_len (core (map sign xs)) ≡ length front
@@ -195,8 +195,7 @@ items_cut xs c =
       rest_signs = subst AreIdle (sym third.last) c.idle_signs;
       lead_blanks = c.lead_blanks;
       trail_blanks = c.trail_blanks;
-      begins = subst (BeginsWithout is_blank) (sym second.first) c.begins;
-      ends = subst (EndsWithout is_blank) (sym second.first) c.ends;
+      seen = subst (λ (ss : List ℕ). AreSeen ss c.trail) (sym second.first) c.seen;
       some = c.some;
       most = c.most;
       opened = c.opened ∙ omega (arith, front_size, length-append (equals n) c.lead, run_length n);
@@ -290,6 +289,15 @@ chars_back xs c own =
     (bytes_both c.trail (equals (level xs)) (blank_bytes c.trail c.trail_blanks) (run_bytes (level xs)))
     (own_front c.back c.rest (own_back c.own (c.back ++ c.rest) (own_back c.front (c.own ++ (c.back ++ c.rest)) (subst AllOwn c.is own))))
 
+none_by : (xs : List Item) → map sign xs ≡ [] → xs ≡ []
+none_by [] e = refl
+none_by (x ∷ xs) e = cc
+
+-- where no blank is first or last, or nothing is there
+inside_by : (own : List Item) (trail : List ℕ) → NoBreaks own → AreSeen (map sign own) trail → IsHeadingInside own ⊎ ((own ≡ []) × (trail ≡ []))
+inside_by own trail u (inl h) = inl (record { unbroken = u; begins = h.0; ends = h.1 })
+inside_by own trail u (inr h) = inr (none_by own h.0, h.1)
+
 heading_items : (xs : List Item) (c : ItemsCut xs) → AllOwn xs → NoBreaks xs → HasEnds (sources c.rest ++ 10 ∷ [])
     → AreHeadingItems (sides_by (level xs) c.lead c.trail (sources c.rest)) (sources c.own) xs
 heading_items xs c own unbroken ends =
@@ -308,7 +316,7 @@ heading_items xs c own unbroken ends =
       trail = c.trail_blanks;
       idle = c.rest_signs;
       ends = ends;
-      inside = record { unbroken = unbroken_front c.own (c.back ++ c.rest) broken; begins = c.begins; ends = c.ends };
+      inside = inside_by c.own c.trail (unbroken_front c.own (c.back ++ c.rest) broken) c.seen;
       of_level = refl;
     }
 
@@ -397,12 +405,6 @@ line_ended (x ∷ []) others h o = by (is_break_item x) refl others h
     by false e (y ∷ ys) h = let z : true ≡ false = sym (true_by (is_break_item x) h) ∙ e in absurd (cc)
 line_ended (x ∷ y ∷ l) others h o = line_ended (y ∷ l) others h.1 o.1
 
-inside_some : (xs : List Item) → 1 ≤ length (inside xs) → 1 ≤ inside_len (core (map sign xs))
-unfolding inside
-inside_some xs le =
-    let c : List ℕ = core (map sign xs) in
-    omega (arith, le, length-take (inside_len c) (drop (open_len c) xs))
-
 -- the first sign is that of the content
 begins_content : (l : List Item) → begins (codes "=") (signs l) ≡ true → begins (codes "=") (signs (content l)) ≡ true
 begins_content [] e = e
@@ -425,7 +427,7 @@ pub lined_heading : (n : ℕ) (page : List ℕ) (before l others : List Item) �
 lined_heading n page before l others e run own breaks h =
     let xs : List Item = content l in
     let core_is = core_cut n (map sign xs) (begins_content l h.first) h.is_heading in
-    let c : ItemsCut xs = items_cut xs (line_cut (map sign xs) core_is (inside_some xs h.some)) in
+    let c : ItemsCut xs = items_cut xs (line_cut (map sign xs) core_is) in
     let mine : AllOwn xs = own_front xs (ending l) (subst AllOwn (sym (content_ending l)) own) in
     let last = line_ended l others run breaks in
     let there : page_items page ≡ before ++ (xs ++ char None 10 ∷ last.0) =
@@ -457,10 +459,10 @@ line_of_signs n lead trail own rest =
     ∙ body_line n (round lead (map sign own) trail) (map sign rest)
 
 cut_by : (n : ℕ) (lead trail : List ℕ) (own rest xs : List Item) → xs ≡ line_of n lead trail own rest → level xs ≡ n → 1 ≤ n → n ≤ 6
-    → AreBlanks lead → AreBlanks trail → AreIdle (map sign rest) → BeginsWithout is_blank (map sign own) → EndsWithout is_blank (map sign own) → ItemsCut xs
+    → AreBlanks lead → AreBlanks trail → AreIdle (map sign rest) → AreSeen (map sign own) trail → ItemsCut xs
 unfolding level
-cut_by zero lead trail own rest xs is lv one six bl bt idle begins ends = absurd (omega (arith, one))
-cut_by (suc m) lead trail own rest xs is lv one six bl bt idle begins ends =
+cut_by zero lead trail own rest xs is lv one six bl bt idle seen = absurd (omega (arith, one))
+cut_by (suc m) lead trail own rest xs is lv one six bl bt idle seen =
     let n : ℕ = suc m in
     let ss : List ℕ = map sign own in
     let ts : List ℕ = round lead ss trail in
@@ -482,25 +484,24 @@ cut_by (suc m) lead trail own rest xs is lv one six bl bt idle begins ends =
       rest_signs = idle;
       lead_blanks = bl;
       trail_blanks = bt;
-      begins = begins;
-      ends = ends;
+      seen = seen;
       some = subst (λ (k : ℕ). 1 ≤ k) (sym lv) one;
       most = subst (λ (k : ℕ). k ≤ 6) (sym lv) six;
-      opened = ap open_len body ∙ open_is n lead ss trail same bl begins ∙ size;
-      size = ap inside_len body ∙ inside_is n lead ss trail same bl bt begins ends ∙ length-map own sign;
+      opened = ap open_len body ∙ open_seen n lead ss trail same bl seen ∙ size;
+      size = ap inside_len body ∙ inside_seen n lead ss trail same bl bt seen ∙ length-map own sign;
     }
 
 -- by its parts, of which the level is told
 told_by : (n : ℕ) (lead trail : List ℕ) (own rest xs : List Item) → xs ≡ line_of n lead trail own rest → level xs ≡ n → 1 ≤ n → n ≤ 6
-    → AreBlanks lead → AreBlanks trail → AreIdle (map sign rest) → BeginsWithout is_blank (map sign own) → EndsWithout is_blank (map sign own)
+    → AreBlanks lead → AreBlanks trail → AreIdle (map sign rest) → AreSeen (map sign own) trail
     → (sides_of xs ≡ sides_by n lead trail (sources rest)) × (text_of xs ≡ sources own)
 unfolding cut_by
-told_by zero lead trail own rest xs is lv one six bl bt idle begins ends = absurd (omega (arith, one))
-told_by (suc m) lead trail own rest xs is lv one six bl bt idle begins ends =
-    let c : ItemsCut xs = cut_by (suc m) lead trail own rest xs is lv one six bl bt idle begins ends in
+told_by zero lead trail own rest xs is lv one six bl bt idle seen = absurd (omega (arith, one))
+told_by (suc m) lead trail own rest xs is lv one six bl bt idle seen =
+    let c : ItemsCut xs = cut_by (suc m) lead trail own rest xs is lv one six bl bt idle seen in
     (sides_so xs c ∙ ap (λ (n : ℕ). sides_by n lead trail (sources rest)) lv, ap sources (inside_so xs c))
 
 pub told_only : (s : Sides) (q : List ℕ) (xs : List Item) → AreHeadingItems s q xs → (sides_of xs ≡ s) × (text_of xs ≡ q)
 told_only s q xs h =
-    let t = told_by s.level s.lead s.trail h.own h.rest xs h.is h.of_level h.some h.most h.lead h.trail h.idle h.inside.begins h.inside.ends in
+    let t = told_by s.level s.lead s.trail h.own h.rest xs h.is h.of_level h.some h.most h.lead h.trail h.idle (inside_signs s h.own h.inside) in
     (t.0 ∙ ap (λ (bs : List ℕ). sides_by s.level s.lead s.trail bs) h.rest_source, t.1 ∙ h.source)

@@ -1,4 +1,5 @@
--- A worked case by computing: a whole page told by its lines, which are a heading's, two paragraphs, and one in a cell. The second is behind a comment.
+-- A worked case by computing: a whole page told by its lines, which are a heading's, one with nothing between its `=`, two paragraphs,
+-- and one in a cell. The second paragraph is behind a comment.
 use Rattle.std.proofs.Common.{arith, ◌≡◌, ℕ, true, None, List, [], ◌∷◌, ◌++◌, map, refl, sym, ap, ◌∙◌, subst}
 use Rattle.std.specs.Prelude.{codes}
 use Rattle.std.specs.Str.{IsUtf8}
@@ -44,7 +45,7 @@ use Rattle.wt_called_edit_laws.specs.ToldLines.{Told, a_paragraph_of, a_heading_
 use Rattle.wt_called_edit_laws.proofs.Cells.PageCases.{is_free, are_free, free_node}
 
 abbrev page : List ℕ
-page = codes "== a ==\nb\n\n<!--c-->d\n{|\n|\ne\n|}"
+page = codes "== a ==\n== ==\nb\n\n<!--c-->d\n{|\n|\ne\n|}"
 
 abbrev remark : Item
 remark = whole form.Comment None (codes "<!--c-->")
@@ -52,6 +53,7 @@ remark = whole form.Comment None (codes "<!--c-->")
 abbrev told : List Told
 told =
     a_heading_on [] [] (page_chars (codes "== a ==\n"))
+    ∷ a_heading_on [] [] (page_chars (codes "== ==\n"))
     ∷ a_paragraph_of [] [] (page_chars (codes "b\n")) []
     ∷ a_paragraph_of (page_chars (codes "\n") ∷ []) (remark ∷ []) (page_chars (codes "d\n")) []
     ∷ a_paragraph_of (page_chars (codes "{|\n") ∷ page_chars (codes "|\n") ∷ []) [] (page_chars (codes "e\n")) []
@@ -61,7 +63,7 @@ abbrev behind : List (List Item)
 behind = page_chars (codes "|}") ∷ []
 
 abbrev items : List Item
-items = page_chars (codes "== a ==\nb\n\n") ++ remark ∷ page_chars (codes "d\n{|\n|\ne\n|}")
+items = page_chars (codes "== a ==\n== ==\nb\n\n") ++ remark ∷ page_chars (codes "d\n{|\n|\ne\n|}")
 
 are_items : page_items page ≡ items
 unfolding page_items words closed form_at comment_len comment_line_len raw_len opening_tag tag_after closing_tag with_inside is_extension include_at entity_at
@@ -97,18 +99,22 @@ told_here = (
     some = omega arith;
     in_cells = tt;
     apart = tt;
-    own = record { is_heading = refl; first = refl; some = omega arith };
+    own = record { is_heading = refl; first = refl };
   },
   (
     tt,
-    record { are_marks = refl; ended = tt; some = omega arith; in_cells = tt; apart = tt; own = ((refl, refl, tt), refl) },
+    record { are_marks = refl; ended = tt; some = omega arith; in_cells = tt; apart = tt; own = record { is_heading = refl; first = refl } },
     (
-      refl,
-      record { are_marks = refl; ended = refl; some = omega arith; in_cells = tt; apart = refl; own = ((refl, refl, tt), refl) },
+      tt,
+      record { are_marks = refl; ended = tt; some = omega arith; in_cells = tt; apart = tt; own = ((refl, refl, tt), refl) },
       (
         refl,
-        record { are_marks = refl; ended = tt; some = omega arith; in_cells = (refl, tt); apart = refl; own = ((refl, refl, tt), refl) },
-        refl,
+        record { are_marks = refl; ended = refl; some = omega arith; in_cells = tt; apart = refl; own = ((refl, refl, tt), refl) },
+        (
+          refl,
+          record { are_marks = refl; ended = tt; some = omega arith; in_cells = (refl, tt); apart = refl; own = ((refl, refl, tt), refl) },
+          refl,
+        ),
       ),
     ),
   ),
@@ -119,7 +125,7 @@ unfolding page_items words closed form_at comment_len comment_line_len raw_len o
     entity_at named_entity decimal_entity hex_entity entity_names sign_word level opening inside closing label_at children
     context_parts segments tiles shapes tiles_closed tile_form_at link_or_url link_at ext_link_at bare_url_at scheme_len kept_len
     tag_tile tag_at tile_opening_tag tile_closing_tag switch_at loose_segments chunks with_styles style_tree_of toggles_of toggle_at
-none_open = (refl, (refl, (refl, (refl, tt))))
+none_open = (refl, (refl, (refl, (refl, (refl, tt)))))
 
 told_page : IsToldPage page told behind
 told_page = record {

@@ -1,5 +1,5 @@
 -- What a page with typed paragraphs and headings means: a body with what each of its parts makes by itself, and these blocks between.
-use Rattle.std.proofs.Common.{◌≡◌, ℕ, List, [], ◌∷◌, ◌++◌, refl, ap, ◌∙◌, subst, sym, append_assoc}
+use Rattle.std.proofs.Common.{◌≡◌, inl, ℕ, List, [], ◌∷◌, ◌++◌, refl, ap, ◌∙◌, subst, sym, append_assoc}
 use Rattle.wt_span.specs.Items.{Item}
 use Rattle.wt_inline.specs.ItemTree.{ItemTree}
 use Rattle.wt_inline.specs.Parts.{Part, node, children}
@@ -29,7 +29,7 @@ block_between a_paragraph xs q tail c h e =
     paragraph_between xs q tail c h e
     ∙ ap (λ t. parts_in xs ++ node t ∷ parts_in tail) (sym (text_tree (page_items q) (paragraph_written q h).0 (page_breaks q)))
 block_between (a_heading s) xs q tail c h e =
-    round_between xs s (page_items q) tail c (heading_sides s q h) (text_inside (page_items q) (heading_text s q h)) (heading_level s q h) e
+    round_between xs s (page_items q) tail c (heading_sides s q h) (inl (text_inside (page_items q) (heading_text s q h))) (heading_level s q h) e
 
 -- ---- what stands behind one
 

@@ -102,7 +102,7 @@ paragraph_content q h = record {
 content_of : (k : TextBlock) (q : List ℕ) → IsBlock k q → IsContentOf k q
 content_of a_paragraph q h = paragraph_content q h
 content_of (a_heading s) q h =
-    record { frame = heading_frame s q h; inside = text_inside (page_items q) (heading_text s q h); of_level = heading_level s q h }
+    record { frame = heading_frame s q h; inside = inl (text_inside (page_items q) (heading_text s q h)); of_level = heading_level s q h }
 
 -- ---- its items
 

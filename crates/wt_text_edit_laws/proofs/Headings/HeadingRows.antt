@@ -1,5 +1,5 @@
 -- A heading's line as a row and as a tree, before others and behind others.
-use Rattle.std.proofs.Common.{arith, ◌≡◌, ℕ, zero, suc, ◌+◌, true, false, not, None, List, [], ◌∷◌, ◌++◌, length, take, drop, map, refl, sym, ap, ◌∙◌, subst, append-nil, append_assoc, length-append}
+use Rattle.std.proofs.Common.{arith, ◌≡◌, inl, inr, ℕ, zero, suc, ◌+◌, true, false, not, None, List, [], ◌∷◌, ◌++◌, length, take, drop, map, refl, sym, ap, ◌∙◌, subst, append-nil, append_assoc, length-append}
 use Rattle.std.specs.Prelude.{replicate}
 use Rattle.std.specs.List.{flat_map}
 use Rattle.std.proofs.Math.Seq.{take-append_seam, drop-append_seam}
@@ -35,8 +35,8 @@ use Rattle.wt_text_edit_laws.proofs.Prose.ProseLines.{content_ended}
 use Rattle.wt_text_edit_laws.specs.ParagraphBetween.{AreClosed, before_marks, blocks_in, body_with}
 use Rattle.wt_text_edit_laws.proofs.Paragraphs.Marks.{with_lead, IsLed}
 use Rattle.wt_text_edit_laws.proofs.Paragraphs.Standing.{parts_in, row_beside, parts_above, round_node, body_is}
-use Rattle.wt_text_edit_laws.specs.TypedHeadings.{Sides, AreBlanks, AreIdle, AreSides, equals as run_of, opening as opening_of, closing_items, between, heading_line, heading_with, heading_round, NoBreaks, IsHeadingInside, IsHeadingText, IsOfLevel, StandsApart, EndsLine}
-use Rattle.wt_text_edit_laws.proofs.Headings.HeadingSigns.{line_signs, body_signs, core_is, level_is, open_is, inside_is, signs_between, kind_is}
+use Rattle.wt_text_edit_laws.specs.TypedHeadings.{Sides, AreBlanks, AreIdle, AreSides, equals as run_of, opening as opening_of, closing_items, between, heading_line, heading_with, heading_round, NoBreaks, IsHeadingInside, IsInside, IsHeadingText, IsOfLevel, StandsApart, EndsLine}
+use Rattle.wt_text_edit_laws.proofs.Headings.HeadingSigns.{line_signs, body_signs, core_is, level_is, AreSeen, open_seen, inside_seen, signs_seen, kind_is}
 
 -- ---- its signs
 
@@ -77,6 +77,16 @@ core_signs n bs ds cs own a =
     let s : Sides = sides n bs ds cs in
     ap core (signs_are s own) ∙ core_is n (between s own) (rest_signs s) a.rest
 
+-- ---- what is between them
+
+pub inside_unbroken : (s : Sides) (own : List Item) → IsInside s own → NoBreaks own
+inside_unbroken s own (inl h) = h.unbroken
+inside_unbroken s own (inr h) = subst NoBreaks (sym h.0) tt
+
+pub inside_signs : (s : Sides) (own : List Item) → IsInside s own → AreSeen (map sign own) s.trail
+inside_signs s own (inl h) = inl (h.begins, h.ends)
+inside_signs s own (inr h) = inr (ap (map sign) h.0, h.1)
+
 -- ---- its tree
 
 -- the level by its signs
@@ -93,23 +103,23 @@ apart_so n bs ds cs own a p =
 opening_length : (s : Sides) → s.level + length s.lead ≡ length (page_chars (opening_of s))
 opening_length s = omega (arith, length-map (opening_of s) (char None), length-replicate {A = ℕ} s.level 61, length-append (run_of s.level) s.lead)
 
-opening_len : (n : ℕ) (bs ds cs : List ℕ) (own : List Item) → AreSides (sides n bs ds cs) → IsHeadingInside own → IsOfLevel (sides n bs ds cs) own
+opening_len : (n : ℕ) (bs ds cs : List ℕ) (own : List Item) → AreSides (sides n bs ds cs) → IsInside (sides n bs ds cs) own → IsOfLevel (sides n bs ds cs) own
     → open_len (core (map sign (heading_line (sides n bs ds cs) own))) ≡ length (page_chars (opening_of (sides n bs ds cs)))
 opening_len n bs ds cs own a h p =
     let s : Sides = sides n bs ds cs in
     ap open_len (core_signs n bs ds cs own a)
-    ∙ open_is (suc n) bs (map sign own) ds (level_signs n bs ds cs own a p) a.lead h.begins
+    ∙ open_seen (suc n) bs (map sign own) ds (level_signs n bs ds cs own a p) a.lead (inside_signs (sides n bs ds cs) own h)
     ∙ opening_length s
 
-inside_length : (n : ℕ) (bs ds cs : List ℕ) (own : List Item) → AreSides (sides n bs ds cs) → IsHeadingInside own → IsOfLevel (sides n bs ds cs) own
+inside_length : (n : ℕ) (bs ds cs : List ℕ) (own : List Item) → AreSides (sides n bs ds cs) → IsInside (sides n bs ds cs) own → IsOfLevel (sides n bs ds cs) own
     → inside_len (core (map sign (heading_line (sides n bs ds cs) own))) ≡ length own
 inside_length n bs ds cs own a h p =
     let s : Sides = sides n bs ds cs in
     ap inside_len (core_signs n bs ds cs own a)
-    ∙ inside_is (suc n) bs (map sign own) ds (level_signs n bs ds cs own a p) a.lead a.trail h.begins h.ends
+    ∙ inside_seen (suc n) bs (map sign own) ds (level_signs n bs ds cs own a p) a.lead a.trail (inside_signs (sides n bs ds cs) own h)
     ∙ length-map own sign
 
-opening_so : (n : ℕ) (bs ds cs : List ℕ) (own : List Item) → AreSides (sides n bs ds cs) → IsHeadingInside own → IsOfLevel (sides n bs ds cs) own
+opening_so : (n : ℕ) (bs ds cs : List ℕ) (own : List Item) → AreSides (sides n bs ds cs) → IsInside (sides n bs ds cs) own → IsOfLevel (sides n bs ds cs) own
     → opening (heading_line (sides n bs ds cs) own) ≡ page_chars (opening_of (sides n bs ds cs))
 unfolding opening
 opening_so n bs ds cs own a h p =
@@ -117,7 +127,7 @@ opening_so n bs ds cs own a h p =
     ap (λ (k : ℕ). take k (heading_line s own)) (opening_len n bs ds cs own a h p)
     ∙ take-append_seam (page_chars (opening_of s)) (own ++ closing_items s)
 
-inside_so : (n : ℕ) (bs ds cs : List ℕ) (own : List Item) → AreSides (sides n bs ds cs) → IsHeadingInside own → IsOfLevel (sides n bs ds cs) own
+inside_so : (n : ℕ) (bs ds cs : List ℕ) (own : List Item) → AreSides (sides n bs ds cs) → IsInside (sides n bs ds cs) own → IsOfLevel (sides n bs ds cs) own
     → inside (heading_line (sides n bs ds cs) own) ≡ own
 unfolding inside
 inside_so n bs ds cs own a h p =
@@ -128,7 +138,7 @@ inside_so n bs ds cs own a h p =
     ∙ ap (take (length own)) (drop-append_seam (page_chars (opening_of s)) (own ++ closing_items s))
     ∙ take-append_seam own (closing_items s)
 
-closing_so : (n : ℕ) (bs ds cs : List ℕ) (own : List Item) → AreSides (sides n bs ds cs) → IsHeadingInside own → IsOfLevel (sides n bs ds cs) own
+closing_so : (n : ℕ) (bs ds cs : List ℕ) (own : List Item) → AreSides (sides n bs ds cs) → IsInside (sides n bs ds cs) own → IsOfLevel (sides n bs ds cs) own
     → closing (heading_line (sides n bs ds cs) own) ≡ closing_items (sides n bs ds cs)
 unfolding closing
 closing_so n bs ds cs own a h p =
@@ -142,7 +152,7 @@ closing_so n bs ds cs own a h p =
     ∙ ap (drop (length (o ++ own))) (sym (append_assoc o own (closing_items s)))
     ∙ drop-append_seam (o ++ own) (closing_items s)
 
-tree_so : (n : ℕ) (bs ds cs : List ℕ) (own : List Item) → AreSides (sides n bs ds cs) → IsHeadingInside own → IsOfLevel (sides n bs ds cs) own
+tree_so : (n : ℕ) (bs ds cs : List ℕ) (own : List Item) → AreSides (sides n bs ds cs) → IsInside (sides n bs ds cs) own → IsOfLevel (sides n bs ds cs) own
     → heading (heading_line (sides n bs ds cs) own) ≡ heading_round (sides n bs ds cs) own
 unfolding heading line_trees
 tree_so n bs ds cs own a h p =
@@ -224,26 +234,27 @@ row_by tables xs l end k e f c d =
     ∙ ap (λ (ys : List Item). record { kind = line.Heading; lead = []; items = ys; ending = ending (char None 61 ∷ xs) } ∷ []) c
     ∙ ap (λ (ys : List Item). heading_row l ys ∷ []) d
 
-kind_so : (tables n : ℕ) (bs ds cs : List ℕ) (own l : List Item) → AreSides (sides n bs ds cs) → IsHeadingInside own
-    → content l ≡ heading_line (sides n bs ds cs) own → kind_at tables l ≡ line.Heading
-kind_so tables n bs ds cs own l a h e =
+kind_so : (tables n : ℕ) (bs ds cs : List ℕ) (own l : List Item) → AreSides (sides n bs ds cs) → IsInside (sides n bs ds cs) own
+    → IsOfLevel (sides n bs ds cs) own → content l ≡ heading_line (sides n bs ds cs) own → kind_at tables l ≡ line.Heading
+kind_so tables n bs ds cs own l a h p e =
     let s : Sides = sides n bs ds cs in
-    ap (λ (xs : List Item). kind_of_signs tables (map sign xs)) e ∙ ap (kind_of_signs tables) (signs_are s own) ∙ kind_is tables n (between s own) (rest_signs s) a.rest (signs_between bs (map sign own) ds h.begins)
+    ap (λ (xs : List Item). kind_of_signs tables (map sign xs)) e ∙ ap (kind_of_signs tables) (signs_are s own) ∙ kind_is tables n (between s own) (rest_signs s) a.rest
+    (signs_seen (suc n) bs (map sign own) ds (level_signs n bs ds cs own a p) a.some a.most (inside_signs s own h))
 
 -- behind the first `=`
 abbrev others : ℕ → List ℕ → List ℕ → List ℕ → List Item → List Item
 others n bs ds cs own = page_chars (run_of n ++ bs) ++ (own ++ closing_items (sides n bs ds cs))
 
 -- where so many tables are open
-ended_from : (tables n : ℕ) (bs ds cs : List ℕ) (own zs : List Item) → AreSides (sides n bs ds cs) → IsHeadingInside own → IsOfLevel (sides n bs ds cs) own
+ended_from : (tables n : ℕ) (bs ds cs : List ℕ) (own zs : List Item) → AreSides (sides n bs ds cs) → IsInside (sides n bs ds cs) own → IsOfLevel (sides n bs ds cs) own
     → rows_from tables (full_lines (heading_line (sides n bs ds cs) own ++ char None 10 ∷ zs))
     ≡ heading_row (heading_line (sides n bs ds cs) own) (char None 10 ∷ []) ∷ rows_from tables (full_lines zs)
 ended_from tables n bs ds cs own zs a h p =
     let l : List Item = heading_line (sides n bs ds cs) own in
-    let u : NoBreaks l = line_unbroken (sides n bs ds cs) own a h.unbroken in
+    let u : NoBreaks l = line_unbroken (sides n bs ds cs) own a (inside_unbroken (sides n bs ds cs) own h) in
     let m : List Item = l ++ char None 10 ∷ [] in
     let c : content m ≡ l = content_ended l (none_ends l u) ∙ content_whole l u in
-    let k : kind_at tables m ≡ line.Heading = kind_so tables n bs ds cs own m a h c in
+    let k : kind_at tables m ≡ line.Heading = kind_so tables n bs ds cs own m a h p c in
     let rest : List Item = others n bs ds cs own in
     ap (λ ys. rows_from tables (full_lines ys)) (sym (append_assoc l (char None 10 ∷ []) zs))
     ∙ ap (rows_from tables) (runs_cut goes_on m zs (ended_run (char None 61) rest zs u))
@@ -251,26 +262,26 @@ ended_from tables n bs ds cs own zs a h p =
     ∙ ap (λ (rs : List Row). rs ++ rows_from tables (full_lines zs))
     (row_by tables (rest ++ char None 10 ∷ []) l (char None 10 ∷ []) line.Heading k refl c (ending_behind l (char None 10) []))
 
-last_from : (tables n : ℕ) (bs ds cs : List ℕ) (own : List Item) → AreSides (sides n bs ds cs) → IsHeadingInside own → IsOfLevel (sides n bs ds cs) own
+last_from : (tables n : ℕ) (bs ds cs : List ℕ) (own : List Item) → AreSides (sides n bs ds cs) → IsInside (sides n bs ds cs) own → IsOfLevel (sides n bs ds cs) own
     → rows_from tables (full_lines (heading_line (sides n bs ds cs) own))
     ≡ heading_row (heading_line (sides n bs ds cs) own) [] ∷ replicate tables unwritten_end
 last_from tables n bs ds cs own a h p =
     let l : List Item = heading_line (sides n bs ds cs) own in
-    let u : NoBreaks l = line_unbroken (sides n bs ds cs) own a h.unbroken in
+    let u : NoBreaks l = line_unbroken (sides n bs ds cs) own a (inside_unbroken (sides n bs ds cs) own h) in
     let c : content l ≡ l = content_whole l u in
-    let k : kind_at tables l ≡ line.Heading = kind_so tables n bs ds cs own l a h c in
+    let k : kind_at tables l ≡ line.Heading = kind_so tables n bs ds cs own l a h p c in
     let rest : List Item = others n bs ds cs own in
     ap (λ ys. rows_from tables (full_lines ys)) (sym (append-nil l))
     ∙ ap (rows_from tables) (runs_cut goes_on l [] (alone_run (char None 61) rest [] u))
     ∙ ap (λ (j : LineKind). line_rows j l ++ rows_from (behind tables j) []) k
     ∙ ap (λ (rs : List Row). rs ++ replicate tables unwritten_end) (row_by tables rest l [] line.Heading k refl c (none_ends l u))
 
-ended_rows : (n : ℕ) (bs ds cs : List ℕ) (own zs : List Item) → AreSides (sides n bs ds cs) → IsHeadingInside own → IsOfLevel (sides n bs ds cs) own
+ended_rows : (n : ℕ) (bs ds cs : List ℕ) (own zs : List Item) → AreSides (sides n bs ds cs) → IsInside (sides n bs ds cs) own → IsOfLevel (sides n bs ds cs) own
     → rows (heading_line (sides n bs ds cs) own ++ char None 10 ∷ zs) ≡ heading_row (heading_line (sides n bs ds cs) own) (char None 10 ∷ []) ∷ rows zs
 unfolding rows
 ended_rows n bs ds cs own zs a h p = ended_from 0 n bs ds cs own zs a h p
 
-last_rows : (n : ℕ) (bs ds cs : List ℕ) (own : List Item) → AreSides (sides n bs ds cs) → IsHeadingInside own → IsOfLevel (sides n bs ds cs) own
+last_rows : (n : ℕ) (bs ds cs : List ℕ) (own : List Item) → AreSides (sides n bs ds cs) → IsInside (sides n bs ds cs) own → IsOfLevel (sides n bs ds cs) own
     → rows (heading_line (sides n bs ds cs) own) ≡ heading_row (heading_line (sides n bs ds cs) own) [] ∷ []
 unfolding rows
 last_rows n bs ds cs own a h p = last_from 0 n bs ds cs own a h p
@@ -328,7 +339,7 @@ nothing_parts : body_parts [] ≡ []
 unfolding blocks
 nothing_parts = refl
 
-heading_parts : (n : ℕ) (bs ds cs : List ℕ) (own tail : List Item) → AreSides (sides n bs ds cs) → IsHeadingInside own → IsOfLevel (sides n bs ds cs) own
+heading_parts : (n : ℕ) (bs ds cs : List ℕ) (own tail : List Item) → AreSides (sides n bs ds cs) → IsInside (sides n bs ds cs) own → IsOfLevel (sides n bs ds cs) own
     → EndsLine tail → parts_in (heading_line (sides n bs ds cs) own ++ tail) ≡ node (heading_round (sides n bs ds cs) own) ∷ parts_in tail
 heading_parts n bs ds cs own [] a h p e =
     let s : Sides = sides n bs ds cs in
@@ -351,7 +362,7 @@ heading_parts n bs ds cs own (y ∷ ys) a h p e =
 abbrev IsFirstRow : List Item → List Item → Type 0
 IsFirstRow l tail = (end : List Item) × (rs : List Row) × (rows (l ++ tail) ≡ heading_row l end ∷ rs)
 
-row_first : (n : ℕ) (bs ds cs : List ℕ) (own tail : List Item) → AreSides (sides n bs ds cs) → IsHeadingInside own → IsOfLevel (sides n bs ds cs) own → EndsLine tail
+row_first : (n : ℕ) (bs ds cs : List ℕ) (own tail : List Item) → AreSides (sides n bs ds cs) → IsInside (sides n bs ds cs) own → IsOfLevel (sides n bs ds cs) own → EndsLine tail
     → IsFirstRow (heading_line (sides n bs ds cs) own) tail
 row_first n bs ds cs own [] a h p e =
     ([], [], ap rows (append-nil (heading_line (sides n bs ds cs) own)) ∙ last_rows n bs ds cs own a h p)
@@ -361,17 +372,17 @@ row_first n bs ds cs own (y ∷ ys) a h p e =
 abbrev level_sides : ℕ → List ℕ → List ℕ → List ℕ → Sides
 level_sides n bs ds cs = record { level = n; lead = bs; trail = ds; rest = cs }
 
-first_by : (n : ℕ) (bs ds cs : List ℕ) (own tail : List Item) → AreSides (level_sides n bs ds cs) → IsHeadingInside own → IsOfLevel (level_sides n bs ds cs) own
+first_by : (n : ℕ) (bs ds cs : List ℕ) (own tail : List Item) → AreSides (level_sides n bs ds cs) → IsInside (level_sides n bs ds cs) own → IsOfLevel (level_sides n bs ds cs) own
     → EndsLine tail → IsFirstRow (heading_line (level_sides n bs ds cs) own) tail
 first_by zero bs ds cs own tail a h p e = absurd (omega (arith, a.some))
 first_by (suc n) bs ds cs own tail a h p e = row_first n bs ds cs own tail a h p e
 
-pub round_first : (s : Sides) (own tail : List Item) → AreSides s → IsHeadingInside own → IsOfLevel s own → EndsLine tail
+pub round_first : (s : Sides) (own tail : List Item) → AreSides s → IsInside s own → IsOfLevel s own → EndsLine tail
     → (end : List Item) × (rs : List Row) × (rows (heading_line s own ++ tail) ≡ heading_row (heading_line s own) end ∷ rs)
 round_first s own tail a h p e = first_by s.level s.lead s.trail s.rest own tail
     (record { some = a.some; most = a.most; lead = a.lead; trail = a.trail; rest = a.rest }) h p e
 
-parts_by : (n : ℕ) (bs ds cs : List ℕ) (own tail : List Item) → AreSides (level_sides n bs ds cs) → IsHeadingInside own → IsOfLevel (level_sides n bs ds cs) own
+parts_by : (n : ℕ) (bs ds cs : List ℕ) (own tail : List Item) → AreSides (level_sides n bs ds cs) → IsInside (level_sides n bs ds cs) own → IsOfLevel (level_sides n bs ds cs) own
     → EndsLine tail → parts_in (heading_line (level_sides n bs ds cs) own ++ tail) ≡ node (heading_round (level_sides n bs ds cs) own) ∷ parts_in tail
 parts_by zero bs ds cs own tail a h p e = absurd (omega (arith, a.some))
 parts_by (suc n) bs ds cs own tail a h p e = heading_parts n bs ds cs own tail a h p e
@@ -386,7 +397,7 @@ apart_level s own a p = apart_by s.level s.lead s.trail s.rest own
     (record { some = a.some; most = a.most; lead = a.lead; trail = a.trail; rest = a.rest }) (record { first = p.first; last = p.last })
 
 -- with what stands before it
-pub round_between : (xs : List Item) (s : Sides) (own tail : List Item) → AreClosed (before_marks xs) → AreSides s → IsHeadingInside own → IsOfLevel s own → EndsLine tail
+pub round_between : (xs : List Item) (s : Sides) (own tail : List Item) → AreClosed (before_marks xs) → AreSides s → IsInside s own → IsOfLevel s own → EndsLine tail
     → parts_in (xs ++ (heading_line s own ++ tail)) ≡ parts_in xs ++ node (heading_round s own) ∷ parts_in tail
 round_between xs s own tail c a h p e =
     let f = round_first s own tail a h p e in
@@ -394,7 +405,7 @@ round_between xs s own tail c a h p e =
     ∙ ap (λ (ps : List Part). parts_in xs ++ ps) (parts_by s.level s.lead s.trail s.rest own tail
     (record { some = a.some; most = a.most; lead = a.lead; trail = a.trail; rest = a.rest }) h p e)
 
-pub round_stands : (xs : List Item) (s : Sides) (own tail : List Item) → AreClosed (before_marks xs) → AreSides s → IsHeadingInside own → IsOfLevel s own → EndsLine tail
+pub round_stands : (xs : List Item) (s : Sides) (own tail : List Item) → AreClosed (before_marks xs) → AreSides s → IsInside s own → IsOfLevel s own → EndsLine tail
     → meaning (xs ++ (heading_line s own ++ tail)) ≡ body_with (blocks_in xs ++ heading_round s own ∷ blocks_in tail)
 round_stands xs s own tail c a h p e =
     let t : ItemTree = heading_round s own in
@@ -409,33 +420,33 @@ by_level s = level_sides s.level s.lead s.trail s.rest
 sides_so : (s : Sides) → AreSides s → AreSides (by_level s)
 sides_so s a = record { some = a.some; most = a.most; lead = a.lead; trail = a.trail; rest = a.rest }
 
-then_by : (tables n : ℕ) (bs ds cs : List ℕ) (own zs : List Item) → AreSides (level_sides n bs ds cs) → IsHeadingInside own → IsOfLevel (level_sides n bs ds cs) own
+then_by : (tables n : ℕ) (bs ds cs : List ℕ) (own zs : List Item) → AreSides (level_sides n bs ds cs) → IsInside (level_sides n bs ds cs) own → IsOfLevel (level_sides n bs ds cs) own
     → rows_from tables (full_lines (heading_line (level_sides n bs ds cs) own ++ char None 10 ∷ zs))
     ≡ heading_row (heading_line (level_sides n bs ds cs) own) (char None 10 ∷ []) ∷ rows_from tables (full_lines zs)
 then_by tables zero bs ds cs own zs a h p = absurd (omega (arith, a.some))
 then_by tables (suc n) bs ds cs own zs a h p = ended_from tables n bs ds cs own zs a h p
 
-pub round_then : (tables : ℕ) (s : Sides) (own zs : List Item) → AreSides s → IsHeadingInside own → IsOfLevel s own
+pub round_then : (tables : ℕ) (s : Sides) (own zs : List Item) → AreSides s → IsInside s own → IsOfLevel s own
     → rows_from tables (full_lines (heading_line s own ++ char None 10 ∷ zs))
     ≡ heading_row (heading_line s own) (char None 10 ∷ []) ∷ rows_from tables (full_lines zs)
 round_then tables s own zs a h p = then_by tables s.level s.lead s.trail s.rest own zs (sides_so s a) h p
 
-last_by : (tables n : ℕ) (bs ds cs : List ℕ) (own : List Item) → AreSides (level_sides n bs ds cs) → IsHeadingInside own → IsOfLevel (level_sides n bs ds cs) own
+last_by : (tables n : ℕ) (bs ds cs : List ℕ) (own : List Item) → AreSides (level_sides n bs ds cs) → IsInside (level_sides n bs ds cs) own → IsOfLevel (level_sides n bs ds cs) own
     → rows_from tables (full_lines (heading_line (level_sides n bs ds cs) own))
     ≡ heading_row (heading_line (level_sides n bs ds cs) own) [] ∷ replicate tables unwritten_end
 last_by tables zero bs ds cs own a h p = absurd (omega (arith, a.some))
 last_by tables (suc n) bs ds cs own a h p = last_from tables n bs ds cs own a h p
 
-pub round_last : (tables : ℕ) (s : Sides) (own : List Item) → AreSides s → IsHeadingInside own → IsOfLevel s own
+pub round_last : (tables : ℕ) (s : Sides) (own : List Item) → AreSides s → IsInside s own → IsOfLevel s own
     → rows_from tables (full_lines (heading_line s own)) ≡ heading_row (heading_line s own) [] ∷ replicate tables unwritten_end
 round_last tables s own a h p = last_by tables s.level s.lead s.trail s.rest own (sides_so s a) h p
 
-tree_by : (n : ℕ) (bs ds cs : List ℕ) (own : List Item) → AreSides (level_sides n bs ds cs) → IsHeadingInside own → IsOfLevel (level_sides n bs ds cs) own
+tree_by : (n : ℕ) (bs ds cs : List ℕ) (own : List Item) → AreSides (level_sides n bs ds cs) → IsInside (level_sides n bs ds cs) own → IsOfLevel (level_sides n bs ds cs) own
     → heading (heading_line (level_sides n bs ds cs) own) ≡ heading_round (level_sides n bs ds cs) own
 tree_by zero bs ds cs own a h p = absurd (omega (arith, a.some))
 tree_by (suc n) bs ds cs own a h p = tree_so n bs ds cs own a h p
 
-pub round_is : (s : Sides) (own : List Item) → AreSides s → IsHeadingInside own → IsOfLevel s own → heading (heading_line s own) ≡ heading_round s own
+pub round_is : (s : Sides) (own : List Item) → AreSides s → IsInside s own → IsOfLevel s own → heading (heading_line s own) ≡ heading_round s own
 round_is s own a h p = tree_by s.level s.lead s.trail s.rest own (sides_so s a) h p
 
 -- ---- of one text
@@ -448,21 +459,21 @@ with_text s own h = ap (λ ps. inner (plain (kind.Heading s.level)) (page_chars 
 
 pub first_row : (s : Sides) (own tail : List Item) → AreSides s → IsHeadingText own → IsOfLevel s own → EndsLine tail
     → (end : List Item) × (rs : List Row) × (rows (heading_line s own ++ tail) ≡ heading_row (heading_line s own) end ∷ rs)
-first_row s own tail a h p e = round_first s own tail a (text_inside own h) p e
+first_row s own tail a h p e = round_first s own tail a (inl (text_inside own h)) p e
 
 pub heading_stands : (xs : List Item) (s : Sides) (own tail : List Item) → AreClosed (before_marks xs) → AreSides s → IsHeadingText own → IsOfLevel s own → EndsLine tail
     → meaning (xs ++ (heading_line s own ++ tail)) ≡ body_with (blocks_in xs ++ heading_with s own ∷ blocks_in tail)
 heading_stands xs s own tail c a h p e =
-    round_stands xs s own tail c a (text_inside own h) p e ∙ ap (λ (t : ItemTree). body_with (blocks_in xs ++ t ∷ blocks_in tail)) (with_text s own h)
+    round_stands xs s own tail c a (inl (text_inside own h)) p e ∙ ap (λ (t : ItemTree). body_with (blocks_in xs ++ t ∷ blocks_in tail)) (with_text s own h)
 
 pub rows_then : (tables : ℕ) (s : Sides) (own zs : List Item) → AreSides s → IsHeadingText own → IsOfLevel s own
     → rows_from tables (full_lines (heading_line s own ++ char None 10 ∷ zs))
     ≡ heading_row (heading_line s own) (char None 10 ∷ []) ∷ rows_from tables (full_lines zs)
-rows_then tables s own zs a h p = round_then tables s own zs a (text_inside own h) p
+rows_then tables s own zs a h p = round_then tables s own zs a (inl (text_inside own h)) p
 
 pub rows_last : (tables : ℕ) (s : Sides) (own : List Item) → AreSides s → IsHeadingText own → IsOfLevel s own
     → rows_from tables (full_lines (heading_line s own)) ≡ heading_row (heading_line s own) [] ∷ replicate tables unwritten_end
-rows_last tables s own a h p = round_last tables s own a (text_inside own h) p
+rows_last tables s own a h p = round_last tables s own a (inl (text_inside own h)) p
 
 pub tree_is : (s : Sides) (own : List Item) → AreSides s → IsHeadingText own → IsOfLevel s own → heading (heading_line s own) ≡ heading_with s own
-tree_is s own a h p = round_is s own a (text_inside own h) p ∙ with_text s own h
+tree_is s own a h p = round_is s own a (inl (text_inside own h)) p ∙ with_text s own h

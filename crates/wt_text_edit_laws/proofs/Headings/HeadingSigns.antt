@@ -1,5 +1,5 @@
 -- The signs of a heading's line: its kind, its level, and where its delimiters end.
-use Rattle.std.proofs.Common.{arith, ◌≡◌, ℕ, zero, suc, ◌+◌, ◌-◌, ◌<◌, ◌≤◌, Bool, true, false, not, List, [], ◌∷◌, ◌++◌, length, take, drop, refl, sym, ap, ◌∙◌, subst, append-nil, append_assoc, length-append}
+use Rattle.std.proofs.Common.{arith, ◌≡◌, ◌⊎◌, inl, inr, ℕ, zero, suc, ◌+◌, ◌-◌, ◌<◌, ◌≤◌, Bool, true, false, not, List, [], ◌∷◌, ◌++◌, length, take, drop, refl, sym, ap, ap₂, ◌∙◌, subst, append-nil, append_assoc, length-append}
 use Rattle.std.specs.Prelude.{◌/◌, ◌==◌, ◌&&◌, ◌||◌, if◌then◌else◌, min, reverse, codes, nat_lt, Some}
 use Rattle.std.specs.List.{prefix_len}
 use Rattle.std.specs.Option.{unwrap_or}
@@ -200,6 +200,49 @@ inside_is n bs ss ds e h g begins ends =
     ∙ ap trimmed_len (take-append_seam (ss ++ ds) (equals n))
     ∙ trimmed ss ds g ends
 
+-- neither first nor last is a blank, or nothing is there, nor is a blank behind it
+abbrev pub AreSeen : List ℕ → List ℕ → Type 0
+AreSeen ss ds = (BeginsWithout is_blank ss × EndsWithout is_blank ss) ⊎ ((ss ≡ []) × (ds ≡ []))
+
+run_unblank : (n : ℕ) → blank_len (equals n) ≡ 0
+run_unblank zero = refl
+run_unblank (suc n) = refl
+
+open_none : (n : ℕ) (bs : List ℕ) → level_of (body_signs n (round bs [] [])) ≡ n → AreBlanks bs → open_len (body_signs n (round bs [] [])) ≡ n + length bs
+open_none n bs e h =
+    let c : List ℕ = body_signs n (round bs [] []) in
+    ap (λ (k : ℕ). k + blank_len (drop k c)) e
+    ∙ ap (λ (ts : List ℕ). n + blank_len ts) (drop_run n (round bs [] [] ++ equals n) ∙ append_assoc bs [] (equals n))
+    ∙ ap (λ (k : ℕ). n + k) (blank_front bs (equals n) h (run_unblank n))
+
+zero_taken : (ts : List ℕ) → trimmed_len (take 0 ts) ≡ 0
+zero_taken [] = refl
+zero_taken (t ∷ ts) = refl
+
+inside_none : (n : ℕ) (bs : List ℕ) → level_of (body_signs n (round bs [] [])) ≡ n → AreBlanks bs → inside_len (body_signs n (round bs [] [])) ≡ 0
+inside_none n bs e h =
+    let c : List ℕ = body_signs n (round bs [] []) in
+    let nil : List ℕ = [] in
+    let m : length c - n - (n + length bs) ≡ 0 = omega (arith, body_length n (round bs [] []), length-append bs nil) in
+    ap (λ (k : ℕ). trimmed_len (take (length c - k - open_len c) (drop (open_len c) c))) e
+    ∙ ap (λ (k : ℕ). trimmed_len (take (length c - n - k) (drop k c))) (open_none n bs e h)
+    ∙ ap (λ (k : ℕ). trimmed_len (take k (drop (n + length bs) c))) m
+    ∙ zero_taken (drop (n + length bs) c)
+
+pub open_seen : (n : ℕ) (bs ss ds : List ℕ) → level_of (body_signs n (round bs ss ds)) ≡ n → AreBlanks bs → AreSeen ss ds
+    → open_len (body_signs n (round bs ss ds)) ≡ n + length bs
+open_seen n bs ss ds e h (inl g) = open_is n bs ss ds e h g.0
+open_seen n bs ss ds e h (inr g) =
+    let same : body_signs n (round bs ss ds) ≡ body_signs n (round bs [] []) = ap₂ (λ (xs ys : List ℕ). body_signs n (round bs xs ys)) g.0 g.1 in
+    ap open_len same ∙ open_none n bs (sym (ap level_of same) ∙ e) h
+
+pub inside_seen : (n : ℕ) (bs ss ds : List ℕ) → level_of (body_signs n (round bs ss ds)) ≡ n → AreBlanks bs → AreBlanks ds → AreSeen ss ds
+    → inside_len (body_signs n (round bs ss ds)) ≡ length ss
+inside_seen n bs ss ds e h b (inl g) = inside_is n bs ss ds e h b g.0 g.1
+inside_seen n bs ss ds e h b (inr g) =
+    let same : body_signs n (round bs ss ds) ≡ body_signs n (round bs [] []) = ap₂ (λ (xs ys : List ℕ). body_signs n (round bs xs ys)) g.0 g.1 in
+    ap inside_len same ∙ inside_none n bs (sym (ap level_of same) ∙ e) h ∙ sym (ap length g.0)
+
 -- ---- the kind
 
 some_length : (s : ℕ) (ss : List ℕ) → (length (s ∷ ss) == 0) ≡ false
@@ -229,6 +272,24 @@ some_sign (s ∷ ss) ts h = tt
 pub signs_between : (bs ss ds : List ℕ) → BeginsWithout is_blank ss → HasSign (round bs ss ds)
 signs_between [] ss ds h = some_sign ss ds h
 signs_between (b ∷ bs) ss ds h = tt
+
+-- `=` alone are of a lower level
+some_blank : (n : ℕ) → level_of (body_signs n []) ≡ n → 1 ≤ n → n ≤ 6 → ⊥
+some_blank zero e le six = omega (arith, le)
+some_blank (suc zero) e le six = let z : 0 ≡ 1 = e in omega (arith, z)
+some_blank (suc (suc zero)) e le six = let z : 1 ≡ 2 = e in omega (arith, z)
+some_blank (suc (suc (suc zero))) e le six = let z : 2 ≡ 3 = e in omega (arith, z)
+some_blank (suc (suc (suc (suc zero)))) e le six = let z : 3 ≡ 4 = e in omega (arith, z)
+some_blank (suc (suc (suc (suc (suc zero))))) e le six = let z : 4 ≡ 5 = e in omega (arith, z)
+some_blank (suc (suc (suc (suc (suc (suc zero)))))) e le six = let z : 5 ≡ 6 = e in omega (arith, z)
+some_blank (suc (suc (suc (suc (suc (suc (suc n))))))) e le six = omega (arith, six)
+
+pub signs_seen : (n : ℕ) (bs ss ds : List ℕ) → level_of (body_signs n (round bs ss ds)) ≡ n → 1 ≤ n → n ≤ 6 → AreSeen ss ds → HasSign (round bs ss ds)
+signs_seen n bs ss ds e le six (inl g) = signs_between bs ss ds g.0
+signs_seen n [] ss ds e le six (inr g) =
+    let same : round [] ss ds ≡ [] = ap₂ (λ (xs ys : List ℕ). round [] xs ys) g.0 g.1 in
+    absurd (some_blank n (sym (ap (λ (ts : List ℕ). level_of (body_signs n ts)) same) ∙ e) le six)
+signs_seen n (b ∷ bs) ss ds e le six (inr g) = tt
 
 rest_visible : (n : ℕ) (ts cs : List ℕ) → HasSign ts → is_idle_all (drop 2 (line_signs (suc n) ts cs)) ≡ false
 rest_visible zero [] cs h = absurd h

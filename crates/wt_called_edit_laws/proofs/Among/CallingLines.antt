@@ -1,0 +1,483 @@
+-- A page with paragraphs and headings that may hold calls, by the lines of the expanded page: it is cut at these, and each is at such a place.
+use Rattle.std.proofs.Common.{arith, ◌≡◌, ◌⊎◌, inl, inr, ℕ, ◌+◌, ◌≤◌, Bool, false, Option, None, List, [], ◌∷◌, ◌++◌, length, map, refl, sym, ap, ap₂, ◌∙◌, subst, append_assoc, append-nil, length-append}
+use Rattle.std.specs.Str.{IsUtf8}
+use Rattle.std.proofs.lemmas.Grind.{flat_map-append}
+use Rattle.wt_span.specs.declared.form.Mode.TheVariants.{Page}
+use Rattle.wt_span.specs.Items.{Item, source, sources, call_of}
+use Rattle.wt_span.specs.Origins.{OuterCall, Span}
+use Rattle.wt_span.specs.Runs.{AreRuns}
+use Rattle.wt_span.proofs.RunLaws.{runs_are}
+use Rattle.wt_annotated.specs.Seams.{last_of, first_of, text_from}
+use Rattle.wt_annotated.proofs.Seams.{last_append, text_append_from}
+use Rattle.wt_lines.specs.Lines.{content, full_lines, goes_on}
+use Rattle.wt_page.specs.Lines.{ending}
+use Rattle.wt_page.specs.Rows.{Row}
+use Rattle.wt_tables.specs.Parts.{joined}
+use Rattle.wt_expand.specs.PageCalls.{expanded_page}
+use Rattle.wt_expand.specs.PageItems.{page_items}
+use Rattle.wt_expand.specs.Work.{Pages}
+use Rattle.wt_expand.proofs.PageLaws.{page_sources}
+use Rattle.wt_expand.proofs.PiecePlaces.{behind_page}
+use Rattle.wt_part_laws.specs.Expanded.{part_items, calls_in}
+use Rattle.wt_part_laws.specs.Lexer.{lexer}
+use Rattle.wt_part_laws.specs.Scans.{after_all}
+use Rattle.wt_commands.specs.Answers.{refusal_of_page}
+use Rattle.wt_text_edit_laws.specs.BlockSpots.{BlockSpot, spots_source}
+use Rattle.wt_text_edit_laws.specs.PageCuts.{BeginsBreak}
+use Rattle.wt_text_edit_laws.specs.ParagraphBetween.{written_rows}
+use Rattle.wt_text_edit_laws.specs.ParagraphParts.{break}
+use Rattle.wt_text_edit_laws.specs.ReadContents.{IsReadContent}
+use Rattle.wt_text_edit_laws.specs.TextBetween.{AreEnded}
+use Rattle.wt_text_edit_laws.specs.TextBlocks.{TextBlock, a_paragraph, a_heading, source_of, block_items}
+use Rattle.wt_text_edit_laws.proofs.Cuts.ItemCuts.{HaveBytes, page_cut, cut_from, alone_after}
+use Rattle.wt_text_edit_laws.proofs.Cuts.TextLines.{IsEnding, joined_is, lines_of}
+use Rattle.wt_text_edit_laws.proofs.Prose.Uncommented.{BeginsUncommented}
+use Rattle.wt_beside_laws.proofs.Derived.BodyRead.{parts_are}
+use Rattle.wt_called_edit_laws.specs.AnyBlocks.{open_after, rows_of_part, open_behind_part, LeadsInto, past_break, BeginsAfter, NextApart, EndsAfter}
+use Rattle.wt_called_edit_laws.specs.CalledContents.{StayText}
+use Rattle.wt_called_edit_laws.specs.CallingBlocks.{IsContentIn, AreContentsInFolder, spots_with_calls, items_past}
+use Rattle.wt_called_edit_laws.specs.Covered.{HaveFreeBytes}
+use Rattle.wt_called_edit_laws.specs.EditableBlocks.{IsEditableWithCalls}
+use Rattle.wt_called_edit_laws.specs.Groups.{called_tree}
+use Rattle.wt_called_edit_laws.specs.InCells.{AreTextLines}
+use Rattle.wt_called_edit_laws.specs.LinedAmong.{spots_on, end_on, AreOfPage, AreBeside}
+use Rattle.wt_called_edit_laws.specs.LinedCalling.{LinesOf, IsCallingAt, AreCallingAfter, spot_on, BeginsThere, IsCallingHere, AreCallingHere, AreApartFrom, IsLinedCalling}
+use Rattle.wt_called_edit_laws.specs.Parts.{calls_to, calls_past, called_items, called_outers, IsByParts}
+use Rattle.wt_called_edit_laws.specs.PartTexts.{AreSourcesAt}
+use Rattle.wt_called_edit_laws.specs.PlacedAmong.{StandAfter}
+use Rattle.wt_called_edit_laws.specs.PlacedCalling.{AreFurtherCutsAt, AreCutsAt, IsPlacedCalling}
+use Rattle.wt_called_edit_laws.specs.PlacedLines.{LinedBlock, all_lines}
+use Rattle.wt_called_edit_laws.proofs.Among.BlockAt.{calls_of, IsRest, IsPast, IsPastOwn, text_to, block_from, block_to, past_front, past_own, marked_text, bytes_cut, have_front, have_behind, beside_first, beside_front, beside_last}
+use Rattle.wt_called_edit_laws.proofs.Among.LinedParts.{EndsBreak, EndsOwn, IsLastOwn, own_end, ended_text, own_behind, own_text_size, ends_text, AreBeforeTexts, before_texts, cancel, no_items, IsLeft, left_none, left_whole, open_at, line_front, block_front, some_first, page_rest}
+use Rattle.wt_called_edit_laws.proofs.Among.OwnItems.{Skipped, skip, rest_clear}
+use Rattle.wt_called_edit_laws.proofs.Among.OwnSeams.{FirstLonger, FirstShorter, two_cuts, first_or, IsOwnSeam, text_size, end_behind}
+use Rattle.wt_called_edit_laws.proofs.Among.PartsApart.{IsClear, members_of, AreClear, ArePartsApart, parts_apart}
+use Rattle.wt_called_edit_laws.proofs.Cells.PlacedBlocks.{own_lines}
+use Rattle.wt_called_edit_laws.proofs.Cells.PlacedCalling.{block_begins, PartsRead, parts_read, parts_called, calling_placed}
+use Rattle.wt_called_edit_laws.proofs.Cells.PlacedLines.{own_items, Round, round, rows_by, leads_by, both_end, some_lines, lines_end}
+use Rattle.wt_called_edit_laws.proofs.Parts.Retyped.{is_by_parts}
+
+-- ---- items before those of the page's own
+
+-- there is none, or the first is one of these
+abbrev BeginsOwn : List Item → Type 0
+BeginsOwn ys = (ys ≡ []) ⊎ ((z : Item) × (zs : List Item) × (ys ≡ z ∷ zs) × (call_of z ≡ None))
+
+rest_own : (es : List Item) (tail : List (List Item)) → IsEnding es → ((m : List Item) (ms : List (List Item)) → tail ≡ m ∷ ms → es ≡ break ∷ [])
+    → BeginsOwn (es ++ joined tail)
+rest_own [] [] i f = inl refl
+rest_own [] (m ∷ ms) i f = let none : [] ≡ break ∷ [] = f m ms refl in cc
+rest_own (x ∷ es) tail i f = inr (x, es ++ joined tail, refl, ap call_of i.0)
+
+own_same : (calls : List OuterCall) (o : Option ℕ) (ys : List Item) → BeginsOwn ys → text_from calls o ys ≡ text_from calls None ys
+own_same calls o ys (inl e) = ap (text_from calls o) e ∙ sym (ap (text_from calls None) e)
+own_same calls o ys (inr (z, zs, e, own)) =
+    let first : text_from calls o (z ∷ zs) ≡ source z ++ text_from calls (call_of z) zs =
+    ap (λ (bs : List ℕ). bs ++ text_from calls (call_of z) zs) (behind_page calls o z own) in
+    let again : text_from calls None (z ∷ zs) ≡ source z ++ text_from calls (call_of z) zs =
+    ap (λ (bs : List ℕ). bs ++ text_from calls (call_of z) zs) (behind_page calls None z own) in
+    ap (text_from calls o) e ∙ first ∙ sym again ∙ sym (ap (text_from calls None) e)
+
+first_none : (ys : List Item) → BeginsOwn ys → first_of ys None ≡ None
+first_none ys (inl e) = ap (λ (zs : List Item). first_of zs None) e
+first_none ys (inr (z, zs, e, own)) = ap (λ (us : List Item). first_of us None) e ∙ own
+
+seam_before : (xs ys : List Item) → BeginsOwn ys → IsOwnSeam xs ys
+seam_before [] ys h = tt
+seam_before (x ∷ xs) ys h = inr (first_none ys h)
+
+-- past items that may come from calls
+past_before : (pages : Pages) (page : List ℕ) (p : ℕ) (xs ys qs : List Item) → IsRest pages page p (xs ++ ys) qs → BeginsOwn ys
+    → AreBeside (text_to pages page p xs) (text_to pages page p xs) (expanded_page pages page).text_calls → IsPast pages page p xs ys qs
+past_before pages page p xs ys qs r own beside =
+    let calls : List OuterCall = calls_of pages page in
+    let spans : List Span = (expanded_page pages page).text_calls in
+    let k : Skipped pages calls spans 0 (members_of page) p xs ys qs =
+    skip pages calls spans 0 (members_of page) p xs ys qs r.rest (seam_before xs ys own) beside in
+    let text_is : text_from calls None (xs ++ ys) ≡ text_from calls None xs ++ text_from calls None ys =
+    text_append_from calls None xs ys ∙ ap (λ (bs : List ℕ). text_from calls None xs ++ bs) (own_same calls (last_of None xs) ys own) in
+    let source_is : sources qs ≡ sources k.front ++ sources k.behind = ap sources k.chars ∙ flat_map-append source k.front k.behind in
+    let cut = bytes_cut (text_from calls None xs) (text_from calls None ys) (sources k.front) (sources k.behind) (sym text_is ∙ r.same ∙ source_is) (sym k.size) in
+    record {
+      before = k.front;
+      behind = k.behind;
+      is = k.chars;
+      source = sym cut.0;
+      clear = rest_clear pages calls spans 0 (members_of page) (text_to pages page p xs) ys k.behind k.rest;
+      next = record {
+        rest = k.rest;
+        same = cut.1;
+        front = r.front ++ k.front;
+        whole = r.whole ∙ ap (λ zs. r.front ++ zs) k.chars ∙ sym (append_assoc r.front k.front k.behind);
+        some = have_behind k.front k.behind (subst HaveBytes k.chars r.some);
+      };
+    }
+
+-- ---- the page's items are cut at a block
+
+-- a block behind these items and these marks
+record IsCutHere (pages : Pages) (page : List ℕ) (p : ℕ) (xs ms : List Item) (k : TextBlock) (q : List ℕ) (ys qs : List Item) : Type 0 where
+  before : List Item
+  behind : List Item
+  is : qs ≡ before ++ (block_items k q ++ behind)
+  source : sources before ≡ text_from (calls_of pages page) None (xs ++ ms)
+  marked : text_from (calls_of pages page) None (xs ++ ms) ≡ text_from (calls_of pages page) None xs ++ sources ms
+  marks : HaveBytes ms
+  own_source : sources (block_items k q) ≡ source_of k q
+  first : IsClear (block_from pages page p xs ms) 0 (members_of page)
+  last : IsClear (block_to pages page p xs ms k q) 0 (members_of page)
+  next : IsRest pages page (block_to pages page p xs ms k q) ys behind
+
+-- what has its source is what it has by itself
+items_there : (page : List ℕ) (k : TextBlock) (q : List ℕ) (front own behind : List Item) → page_items page ≡ front ++ (own ++ behind) → sources own ≡ source_of k q
+    → IsReadContent k q → own ≡ block_items k q
+items_there page k q front own behind whole is h =
+    let line : List ℕ = sources own in
+    let all : page_items (sources front ++ (line ++ sources behind)) ≡ front ++ (own ++ behind) =
+    ap page_items (parts_are page front own behind whole) ∙ whole in
+    let first = page_cut (sources front) (line ++ sources behind) front (own ++ behind) all refl in
+    let after : Bool = after_all (lexer Page) false (sources front) in
+    let second = cut_from after line (sources behind) own behind first.behind refl in
+    let begins : BeginsUncommented line = subst BeginsUncommented (append-nil (source_of k q) ∙ sym is) (block_begins k q [] h tt) in
+    let alone : page_items line ≡ own = alone_after after line own begins second.front in
+    sym alone ∙ ap page_items is ∙ h.unended
+
+cut_here : (pages : Pages) (page : List ℕ) (p : ℕ) (xs ms os : List Item) (k : TextBlock) (q : List ℕ) (ys qs : List Item)
+    → IsRest pages page p (xs ++ (ms ++ (os ++ ys))) qs → last_of None xs ≡ None → AreOfPage ms → BeginsOwn ys → IsReadContent k q
+    → text_from (calls_of pages page) None os ≡ source_of k q
+    → AreBeside (text_to pages page p xs) (block_to pages page p xs ms k q) (expanded_page pages page).text_calls → IsCutHere pages page p xs ms k q ys qs
+cut_here pages page p xs ms os k q ys qs r ends marks own h is_source beside =
+    let calls : List OuterCall = calls_of pages page in
+    let spans : List Span = (expanded_page pages page).text_calls in
+    let line : ℕ = text_to pages page p xs in
+    let from : ℕ = block_from pages page p xs ms in
+    let to : ℕ = block_to pages page p xs ms k q in
+    let marked : text_from calls None (xs ++ ms) ≡ text_from calls None xs ++ sources ms = marked_text calls xs ms ends marks in
+    let sum = ap length marked in
+    let two = length-append (text_from calls None xs) (sources ms) in
+    let size : line + length (sources ms) ≡ from = omega (arith, sum, two) in
+    let all_size : text_to pages page from os ≡ to = ap (λ (bs : List ℕ). from + length bs) is_source in
+    let first = past_front pages page p xs (ms ++ (os ++ ys)) qs r ends (beside_first line to spans (omega (arith, size)) beside) in
+    let second = past_own pages page line ms (os ++ ys) first.behind first.next marks
+    (subst (λ (n : ℕ). AreBeside line n spans) (sym size) (beside_front line from to spans (omega arith) beside)) in
+    let at_block : IsRest pages page from (os ++ ys) second.behind = subst (λ (n : ℕ). IsRest pages page n (os ++ ys) second.behind) size second.next in
+    let at_end : AreBeside to to spans = beside_last line to to spans (omega (arith, size)) beside in
+    let third = past_before pages page from os ys second.behind at_block own (subst (λ (n : ℕ). AreBeside n n spans) (sym all_size) at_end) in
+    let before : List Item = first.before ++ ms in
+    let mine : List Item = third.before in
+    let whole : page_items page ≡ at_block.front ++ (mine ++ third.behind) = at_block.whole ∙ ap (λ zs. at_block.front ++ zs) third.is in
+    let mine_source : sources mine ≡ source_of k q = third.source ∙ is_source in
+    let mine_is : mine ≡ block_items k q = items_there page k q at_block.front mine third.behind whole mine_source h in
+    let all : qs ≡ before ++ (mine ++ third.behind) =
+    first.is ∙ ap (λ zs. first.before ++ zs) (second.is ∙ ap (λ zs. ms ++ zs) third.is) ∙ sym (append_assoc first.before ms (mine ++ third.behind)) in
+    record {
+      before = before;
+      behind = third.behind;
+      is = all ∙ ap (λ zs. before ++ (zs ++ third.behind)) mine_is;
+      source = flat_map-append source first.before ms ∙ ap (λ (bs : List ℕ). bs ++ sources ms) first.source ∙ sym marked;
+      marked = marked;
+      marks = have_front ms second.behind (subst HaveBytes second.is first.next.some);
+      own_source = sym (ap sources mine_is) ∙ mine_source;
+      first = subst (λ (n : ℕ). IsClear n 0 (members_of page)) size second.clear;
+      last = subst (λ (n : ℕ). IsClear n 0 (members_of page)) all_size third.clear;
+      next = subst (λ (n : ℕ). IsRest pages page n ys third.behind) all_size third.next;
+    }
+
+-- ---- the items before it
+
+ends_none : (xs : List Item) → EndsOwn xs → last_of None xs ≡ None
+ends_none xs (inl e) = ap (last_of None) e
+ends_none xs (inr s) = ap (last_of None) s.is ∙ last_append None s.front (s.last ∷ []) ∙ s.own
+
+-- the same bytes are before the block in both, so these are the same items
+same_front : (calls : List OuterCall) (xs : List Item) (o : Item) (os : List Item) (gs bs : List Item) → xs ++ o ∷ os ≡ gs ++ bs → EndsOwn xs
+    → 1 ≤ length (text_from calls None (o ∷ [])) → text_from calls None xs ≡ text_from calls None gs → (gs ≡ xs) × (bs ≡ o ∷ os)
+same_front calls xs o os gs bs e ends some t = by (two_cuts xs (o ∷ os) gs bs e)
+  where
+    longer : (u : Item) (us : List Item) → xs ≡ gs ++ u ∷ us → EndsOwn xs → ⊥
+    longer u us is (inl z) = no_items gs u us (sym z ∙ is)
+    longer u us is (inr s) =
+        let b = end_behind gs u us s.front s.last (sym is ∙ s.is) in
+        let more : 1 ≤ length (text_from calls (last_of None gs) (u ∷ us)) =
+        subst (λ (zs : List Item). 1 ≤ length (text_from calls (last_of None gs) zs)) (sym b.1) (own_text_size calls (last_of None gs) b.0 s.last s.own s.some) in
+        let all = ap (λ (zs : List Item). length (text_from calls None zs)) is ∙ text_size calls None gs (u ∷ us) in
+        let same = ap length t in
+        omega (arith, more, all, same)
+
+    from_longer : (us : List Item) → xs ≡ gs ++ us → bs ≡ us ++ o ∷ os → (gs ≡ xs) × (bs ≡ o ∷ os)
+    from_longer [] is rest = (sym (is ∙ append-nil gs), rest)
+    from_longer (u ∷ us) is rest = absurd (longer u us is ends)
+
+    by : FirstLonger xs (o ∷ os) gs bs ⊎ FirstShorter xs (o ∷ os) gs bs → (gs ≡ xs) × (bs ≡ o ∷ os)
+    by (inl l) = from_longer l.us l.xs_are l.bs_are
+    by (inr s) =
+        let same : s.v ≡ o = ap (λ (zs : List Item). first_or o zs) (sym s.ys_are) in
+        let n : length (text_from calls None (s.v ∷ [])) ≡ length (text_from calls None (o ∷ [])) =
+        ap (λ (x : Item). length (text_from calls None (x ∷ []))) same in
+        let first = text_size calls None (s.v ∷ []) s.vs in
+        let all = ap (λ (zs : List Item). length (text_from calls None zs)) s.gs_are ∙ text_size calls None xs (s.v ∷ s.vs)
+        ∙ ap (λ (l : Option ℕ). length (text_from calls None xs) + length (text_from calls l (s.v ∷ s.vs))) (ends_none xs ends) in
+        let eq = ap length t in
+        absurd (omega (arith, n, first, all, eq, some))
+
+-- ---- one block
+
+-- each line of a paragraph is text where so many tables are open
+lines_stay : (k : TextBlock) (n : ℕ) (ts : List (List Item)) (y : Item) (ys : List Item) → joined ts ≡ y ∷ ys → full_lines (joined ts) ≡ ts → LinesOf k n ts
+    → StayText k n (content (joined ts))
+lines_stay a_paragraph n ts y ys is e h = let told = own_lines n (joined ts) ts y ys is e h in told.stays
+lines_stay (a_heading s) n ts y ys is e h = tt
+
+-- so it is of its text by itself
+text_stays : (k : TextBlock) (n i : ℕ) (pages : Pages) (q : List ℕ) (own : List Item) → own ≡ part_items pages i (source_of k q) → StayText k n own
+    → StayText k n (part_items pages i q)
+text_stays a_paragraph n i pages q own e h = subst (AreTextLines n) e h
+text_stays (a_heading s) n i pages q own e h = tt
+
+-- a block with its lines among those of the page
+record IsHere (pages : Pages) (page : List ℕ) (open_tables : List Bool) (es : List Item) (b : LinedBlock) (tail : List (List Item)) (p : ℕ) (qs : List Item) : Type 0 where
+  around : Round b tail
+  items : es ++ joined (b.before ++ (((b.marks ++ b.first) ∷ b.more) ++ tail)) ≡ block_front es b ++ (content (own_items b) ++ (ending (own_items b) ++ joined tail))
+  ends : EndsOwn (block_front es b)
+  ended : AreEnded (text_from (calls_of pages page) None (block_front es b))
+  here : IsCutHere pages page p (line_front es b) b.marks b.block b.text (ending (own_items b) ++ joined tail) qs
+  stays : StayText b.block (length (open_at open_tables b)) (content (own_items b))
+  leads : LeadsInto b.block open_tables (joined b.before ++ b.marks)
+
+is_here : (pages : Pages) (page : List ℕ) (open_tables : List Bool) (es : List Item) (b : LinedBlock) (tail : List (List Item)) (p i : ℕ) (qs xs : List Item)
+    → AreRuns goes_on (b.before ++ (((b.marks ++ b.first) ∷ b.more) ++ tail)) xs → IsLeft es
+    → IsRest pages page p (es ++ joined (b.before ++ (((b.marks ++ b.first) ∷ b.more) ++ tail))) qs → IsCallingAt open_tables b
+    → IsCallingHere pages (calls_of pages page) i b → IsReadContent b.block b.text
+    → AreBeside (text_to pages page p (line_front es b)) (block_to pages page p (line_front es b) b.marks b.block b.text) (expanded_page pages page).text_calls
+    → IsHere pages page open_tables es b tail p qs
+is_here pages page open_tables es b tail p i qs xs runs left rest h own read beside =
+    let calls : List OuterCall = calls_of pages page in
+    let ts : List (List Item) = b.first ∷ b.more in
+    let text : List Item = own_items b in
+    let before : List Item = joined b.before in
+    let front : List Item = line_front es b in
+    let others : List Item = content text ++ (ending text ++ joined tail) in
+    let r : Round b tail = round b tail xs h.some runs own.breaks in
+    let n : ℕ = length (open_at open_tables b) in
+    let none : last_of None front ≡ None =
+    last_append None es before ∙ ap (λ (o : Option ℕ). last_of o before) (left_none es left) ∙ own.before in
+    let items : es ++ joined (b.before ++ (((b.marks ++ b.first) ∷ b.more) ++ tail)) ≡ front ++ (b.marks ++ others) =
+    ap (λ zs. es ++ zs) (r.items ∙ append_assoc before b.marks others) ∙ sym (append_assoc es before (b.marks ++ others)) in
+    let ends : EndsBreak front = own_end None front (left_whole es before left r.front_whole) none in
+    let here = cut_here pages page p front b.marks (content text) b.block b.text (ending text ++ joined tail) qs
+    (subst (λ zs. IsRest pages page p zs qs) items rest) none own.marks (rest_own (ending text) tail r.own_ending r.ends) read own.source beside in
+    record {
+      around = r;
+      items = items ∙ sym (append_assoc front b.marks others);
+      ends = own_behind front b.marks ends own.marks here.marks;
+      ended = subst AreEnded (sym here.marked) (both_end (text_from calls None front) (sources b.marks) (ended_text calls front ends) h.ended);
+      here = here;
+      stays = lines_stay b.block n ts r.y r.ys r.some r.own_are h.own;
+      leads = leads_by b.block open_tables b.before b.marks h.are_marks r.front_are r.front_whole h.in_cells h.apart;
+    }
+
+-- ---- as parts
+
+spot_source : (pages : Pages) (page : List ℕ) (open_tables : List Bool) (es : List Item) (b : LinedBlock) (tail : List (List Item)) (p : ℕ) (qs : List Item)
+    (l : IsHere pages page open_tables es b tail p qs) (ss : List BlockSpot) (end : List ℕ) → spots_source ss end ≡ sources l.here.behind
+    → spots_source (spot_on (calls_of pages page) es b ∷ ss) end ≡ sources qs
+spot_source pages page open_tables es b tail p qs l ss end e =
+    let own : List Item = block_items b.block b.text in
+    ap₂ (λ (us vs : List ℕ). us ++ (vs ++ spots_source ss end)) (sym l.here.source) (sym l.here.own_source)
+    ∙ ap (λ (vs : List ℕ). sources l.here.before ++ (sources own ++ vs)) e
+    ∙ ap (λ (vs : List ℕ). sources l.here.before ++ vs) (sym (flat_map-append source own l.here.behind))
+    ∙ sym (flat_map-append source l.here.before (own ++ l.here.behind)) ∙ ap sources (sym l.here.is)
+
+first_there : (calls : List OuterCall) (xs : List Item) → BeginsThere calls xs
+    → (o : Item) × (os : List Item) × (xs ≡ o ∷ os) × (1 ≤ length (text_from calls None (o ∷ [])))
+first_there calls [] h = absurd h
+first_there calls (x ∷ xs) h = (x, xs, refl, h)
+
+-- what the part before it gives, and what is behind the block
+record ArePartsHere (pages : Pages) (page : List ℕ) (es : List Item) (b : LinedBlock) (tail : List (List Item)) (k : ℕ) (ss : List BlockSpot) (end : List ℕ) : Type 0 where
+  first : part_items pages k (spot_on (calls_of pages page) es b).before ≡ block_front es b
+  rest : ending (own_items b) ++ joined tail ≡ called_items pages (calls_past pages k (spot_on (calls_of pages page) es b)) ss end
+
+parts_here : (pages : Pages) (page : List ℕ) (open_tables : List Bool) (es : List Item) (b : LinedBlock) (tail : List (List Item)) (p : ℕ) (qs : List Item)
+    → IsHere pages page open_tables es b tail p qs → (k : ℕ) (ss : List BlockSpot) (end : List ℕ)
+    → IsCallingHere pages (calls_of pages page) (calls_to pages k (spot_on (calls_of pages page) es b)) b
+    → es ++ joined (b.before ++ (((b.marks ++ b.first) ∷ b.more) ++ tail)) ≡ called_items pages k (spot_on (calls_of pages page) es b ∷ ss) end
+    → text_from (calls_of pages page) None (part_items pages k (spot_on (calls_of pages page) es b).before) ≡ (spot_on (calls_of pages page) es b).before
+    → ArePartsHere pages page es b tail k ss end
+parts_here pages page open_tables es b tail p qs l k ss end h e t =
+    let calls : List OuterCall = calls_of pages page in
+    let s : BlockSpot = spot_on calls es b in
+    let front : List Item = block_front es b in
+    let own : List Item = content (own_items b) in
+    let rest : List Item = ending (own_items b) ++ joined tail in
+    let x1 : List Item = part_items pages k s.before in
+    let x2 : List Item = part_items pages (calls_to pages k s) (source_of b.block b.text) in
+    let x3 : List Item = called_items pages (calls_past pages k s) ss end in
+    let some = first_there calls own h.begins in
+    let whole : front ++ some.0 ∷ (some.1 ++ rest) ≡ x1 ++ (x2 ++ x3) = ap (λ zs. front ++ (zs ++ rest)) (sym some.2) ∙ sym l.items ∙ e in
+    let same = same_front calls front some.0 (some.1 ++ rest) x1 (x2 ++ x3) whole l.ends some.3 (sym t) in
+    let second : x2 ≡ own = sym h.gives in
+    let both : own ++ rest ≡ own ++ x3 = ap (λ zs. zs ++ rest) some.2 ∙ sym same.1 ∙ ap (λ zs. zs ++ x3) second in
+    record { first = same.0; rest = cancel own rest x3 both }
+
+-- ---- all blocks
+
+-- the blocks behind one, and what is behind the last
+record AreHere (pages : Pages) (page : List ℕ) (last : TextBlock) (open_tables : List Bool) (es : List Item) (ls : List LinedBlock) (behind : List (List Item)) (p k : ℕ)
+    (qs : List Item) : Type 0 where
+  cuts : AreFurtherCutsAt (spots_on (calls_of pages page) es ls) (end_on (calls_of pages page) es ls behind) qs
+  clear : AreClear p (spots_on (calls_of pages page) es ls) (members_of page)
+  source : spots_source (spots_on (calls_of pages page) es ls) (end_on (calls_of pages page) es ls behind) ≡ sources qs
+  stand : es ++ joined (all_lines ls behind) ≡ called_items pages k (spots_on (calls_of pages page) es ls) (end_on (calls_of pages page) es ls behind)
+      → AreBeforeTexts pages (calls_of pages page) k (spots_on (calls_of pages page) es ls)
+      → StandAfter last open_tables (spots_with_calls pages k (spots_on (calls_of pages page) es ls))
+      (items_past pages k (spots_on (calls_of pages page) es ls) (end_on (calls_of pages page) es ls behind))
+
+further : (pages : Pages) (page : List ℕ) (last : TextBlock) (open_tables : List Bool) (es : List Item) (ls : List LinedBlock) (behind : List (List Item)) (p k : ℕ)
+    (qs xs : List Item) → AreRuns goes_on (all_lines ls behind) xs → IsEnding es → ((m : List Item) (ms : List (List Item)) → all_lines ls behind ≡ m ∷ ms → es ≡ break ∷ [])
+    → IsRest pages page p (es ++ joined (all_lines ls behind)) qs → AreCallingAfter last open_tables ls behind → AreCallingHere pages (calls_of pages page) k es ls
+    → AreContentsInFolder pages (spots_on (calls_of pages page) es ls)
+    → AreApartFrom (calls_of pages page) (expanded_page pages page).text_calls p es ls → AreHere pages page last open_tables es ls behind p k qs
+further pages page last open_tables es [] behind p k qs xs runs i f r h own c u =
+    let calls : List OuterCall = calls_of pages page in
+    let lined : AreRuns goes_on behind (joined behind) = subst (λ ys. AreRuns goes_on behind ys) (joined_is goes_on behind xs runs) runs in
+    record {
+      cuts = ends_text calls es behind i f;
+      clear = tt;
+      source = r.same;
+      stand = λ e t. subst (EndsAfter last (length open_tables)) e (lines_end last (length open_tables) es behind i f (lines_of behind lined) h).1;
+    }
+further pages page last open_tables es (b ∷ ls) behind p k qs xs runs i f r h own c u =
+    let calls : List OuterCall = calls_of pages page in
+    let tail : List (List Item) = all_lines ls behind in
+    let front : List Item = joined b.before ++ b.marks in
+    let some = some_lines b.before (b.marks ++ b.first) (b.more ++ tail) in
+    let is_break : es ≡ break ∷ [] = f some.0 some.1 some.2 in
+    let s : BlockSpot = spot_on calls es b in
+    let content_in : IsContentIn pages b.block b.text = c.0 in
+    let l : IsHere pages page open_tables es b tail p qs =
+    is_here pages page open_tables es b tail p (calls_to pages k s) qs xs runs (inr is_break) r h.1 own.0 content_in.read u.0 in
+    let now : List Bool = open_at open_tables b in
+    let left : List Item = ending (own_items b) in
+    let ss : List BlockSpot = spots_on calls left ls in
+    let end : List ℕ = end_on calls left ls behind in
+    let end_at : ℕ = block_to pages page p (line_front es b) b.marks b.block b.text in
+    let d : AreHere pages page b.block now left ls behind end_at (calls_past pages k s) l.here.behind =
+    further pages page b.block now left ls behind end_at (calls_past pages k s) l.here.behind (joined tail) l.around.tail_runs l.around.own_ending
+    l.around.ends l.here.next h.2 own.1 c.1 u.1 in
+    let rows : List Row = written_rows (length open_tables) b.before in
+    let same : rows_of_part open_tables front ≡ rows = rows_by open_tables b.before b.marks h.1.are_marks l.around.front_are l.around.front_whole in
+    record {
+      cuts = (
+        record { before = l.here.before; rest = l.here.behind; is = l.here.is; source = l.here.source },
+        l.ended,
+        subst (λ (zs : List Item). BeginsBreak (text_from calls None (block_front zs b))) (sym is_break) refl,
+        d.cuts,
+      );
+      clear = (l.here.first, l.here.last, d.clear);
+      source = spot_source pages page open_tables es b tail p qs l ss end d.source;
+      stand = λ e t.
+          let parts = parts_here pages page open_tables es b tail p qs l k ss end own.0 e t.0 in
+          let later = d.stand parts.rest t.1 in
+          let text : List Item = part_items pages (calls_to pages k s) b.text in
+          let stays : StayText b.block (length now) text =
+          text_stays b.block (length now) (calls_to pages k s) pages b.text (content (own_items b)) own.0.gives l.stays in
+          let others = spots_with_calls pages (calls_past pages k s) ss in
+          let past : List Item = items_past pages (calls_past pages k s) ss end in
+          let P : List Item → Type 0 = λ zs. BeginsAfter last b.block open_tables zs × LeadsInto b.block open_tables (past_break zs)
+          × StayText b.block (length (open_behind_part open_tables (past_break zs))) text
+          × StandAfter b.block (open_behind_part open_tables (past_break zs)) others past in
+          subst P (ap (λ (zs : List Item). block_front zs b) (sym is_break) ∙ sym parts.first) (
+            (refl, subst (NextApart last b.block) (sym same) h.0),
+            l.leads,
+            subst (λ (rs : List Row). StayText b.block (length (open_after open_tables rs)) text) (sym same) stays,
+            subst (λ (rs : List Row). StandAfter b.block (open_after open_tables rs) others past) (sym same) later,
+          );
+    }
+
+-- ---- the page
+
+calling_lined : (pages : Pages) (page : List ℕ) (ls : List LinedBlock) (behind : List (List Item)) → IsLinedCalling pages page ls behind
+    → (spots_source (spots_on (calls_of pages page) [] ls) (end_on (calls_of pages page) [] ls behind) ≡ page)
+    × IsPlacedCalling pages (spots_on (calls_of pages page) [] ls) (end_on (calls_of pages page) [] ls behind)
+calling_lined pages page [] behind h = absurd h.lined
+calling_lined pages page (b ∷ ls) behind h =
+    let calls : List OuterCall = calls_of pages page in
+    let tail : List (List Item) = all_lines ls behind in
+    let ts : List (List Item) = (b.marks ++ b.first) ∷ b.more in
+    let front : List Item = joined b.before ++ b.marks in
+    let xs : List Item = (expanded_page pages page).items in
+    let runs : AreRuns goes_on (b.before ++ (ts ++ tail)) xs = subst (λ (ks : List (List Item)). AreRuns goes_on ks xs) h.are (runs_are goes_on xs) in
+    let all : xs ≡ joined (b.before ++ (ts ++ tail)) = joined_is goes_on (b.before ++ (ts ++ tail)) xs runs in
+    let r : IsRest pages page 0 ([] ++ joined (b.before ++ (ts ++ tail))) (page_items page) = page_rest pages page (b.before ++ (ts ++ tail)) all in
+    let s : BlockSpot = spot_on calls [] b in
+    let content_in : IsContentIn pages b.block b.text = h.contents.0 in
+    let l : IsHere pages page [] [] b tail 0 (page_items page) =
+    is_here pages page [] [] b tail 0 (calls_to pages 0 s) (page_items page) xs runs (inl refl) r h.lined.0 h.here.0 content_in.read h.apart.0 in
+    let now : List Bool = open_at [] b in
+    let left : List Item = ending (own_items b) in
+    let ss : List BlockSpot = spots_on calls left ls in
+    let end : List ℕ = end_on calls left ls behind in
+    let end_at : ℕ = block_to pages page 0 (joined b.before) b.marks b.block b.text in
+    let d : AreHere pages page b.block now left ls behind end_at (calls_past pages 0 s) l.here.behind =
+    further pages page b.block now left ls behind end_at (calls_past pages 0 s) l.here.behind (joined tail) l.around.tail_runs l.around.own_ending
+    l.around.ends l.here.next h.lined.1 h.here.1 h.contents.1 h.apart.1 in
+    let same : spots_source (s ∷ ss) end ≡ page = spot_source pages page [] [] b tail 0 (page_items page) l ss end d.source ∙ page_sources page in
+    let utf8 : IsUtf8 (spots_source (s ∷ ss) end) = subst IsUtf8 (sym same) h.utf8 in
+    let cuts : AreCutsAt (s ∷ ss) end = (
+      record { before = l.here.before; rest = l.here.behind; is = ap page_items same ∙ l.here.is; source = l.here.source },
+      l.ended,
+      d.cuts,
+    ) in
+    let clear : AreClear 0 (s ∷ ss) (members_of page) = (l.here.first, l.here.last, d.clear) in
+    let read : PartsRead s ss end = parts_read pages s ss end utf8 cuts h.contents in
+    let apart : ArePartsApart (s ∷ ss) end =
+    parts_apart s ss end read.first read.rest read.ends (subst (λ (bs : List ℕ). AreClear 0 (s ∷ ss) (members_of bs)) (sym same) clear) in
+    let by_parts : IsByParts pages (s ∷ ss) end = is_by_parts pages (s ∷ ss) end (parts_called pages s ss end read h.contents apart.none) in
+    let items : [] ++ joined (b.before ++ (ts ++ tail)) ≡ called_items pages 0 (s ∷ ss) end =
+    sym all ∙ sym (ap (λ (bs : List ℕ). (expanded_page pages bs).items) same) ∙ by_parts.items in
+    let outers : calls ≡ called_outers pages (s ∷ ss) end = sym (ap (λ (bs : List ℕ). (expanded_page pages bs).outer) same) ∙ by_parts.outers in
+    let texts : AreBeforeTexts pages calls 0 (s ∷ ss) =
+    before_texts pages calls 0 (s ∷ ss) end (λ j cs g.
+    let z : j ≡ 0 + j = omega arith in
+    subst (λ (i : ℕ). AreSourcesAt calls i cs) z (subst (λ (os : List OuterCall). AreSourcesAt os j cs) (sym outers) g)) in
+    let parts = parts_here pages page [] [] b tail 0 (page_items page) l 0 ss end h.here.0 items texts.0 in
+    let later = d.stand parts.rest texts.1 in
+    let text : List Item = part_items pages (calls_to pages 0 s) b.text in
+    let stays : StayText b.block (length now) text =
+    text_stays b.block (length now) (calls_to pages 0 s) pages b.text (content (own_items b)) h.here.0.gives l.stays in
+    let rows : List Row = written_rows 0 b.before in
+    let rows_are : rows_of_part [] front ≡ rows = rows_by [] b.before b.marks h.lined.0.are_marks l.around.front_are l.around.front_whole in
+    let others = spots_with_calls pages (calls_past pages 0 s) ss in
+    let past : List Item = items_past pages (calls_past pages 0 s) ss end in
+    let P : List Item → Type 0 = λ zs. LeadsInto b.block [] zs × StayText b.block (length (open_behind_part [] zs)) text
+    × StandAfter b.block (open_behind_part [] zs) others past in (
+      same,
+      record {
+        utf8 = utf8;
+        cuts = cuts;
+        contents = h.contents;
+        editable = h.editable;
+        apart = apart.none;
+        stand = subst P (sym parts.first) (
+          l.leads,
+          subst (λ (rs : List Row). StayText b.block (length (open_after [] rs)) text) (sym rows_are) stays,
+          subst (λ (rs : List Row). StandAfter b.block (open_after [] rs) others past) (sym rows_are) later,
+        );
+        unrefused = subst (λ (bs : List ℕ). refusal_of_page pages bs ≡ None) (sym same) h.unrefused;
+        free = subst (λ (bs : List ℕ). HaveFreeBytes 0 (s ∷ ss) (called_tree pages bs)) (sym same) h.free;
+      },
+    )
+
+pub calling_whole : (pages : Pages) (page : List ℕ) (ls : List LinedBlock) (behind : List (List Item)) → IsLinedCalling pages page ls behind
+    → spots_source (spots_on (calls_of pages page) [] ls) (end_on (calls_of pages page) [] ls behind) ≡ page
+calling_whole pages page ls behind h = (calling_lined pages page ls behind h).0
+
+pub lined_calling : (pages : Pages) (page : List ℕ) (ls : List LinedBlock) (behind : List (List Item)) → IsLinedCalling pages page ls behind
+    → IsPlacedCalling pages (spots_on (calls_of pages page) [] ls) (end_on (calls_of pages page) [] ls behind)
+lined_calling pages page ls behind h = (calling_lined pages page ls behind h).1
+
+pub calling_editable : (pages : Pages) (page : List ℕ) (ls : List LinedBlock) (behind : List (List Item)) → IsLinedCalling pages page ls behind
+    → IsEditableWithCalls pages (spots_on (calls_of pages page) [] ls) (end_on (calls_of pages page) [] ls behind)
+calling_editable pages page ls behind h =
+    calling_placed pages (spots_on (calls_of pages page) [] ls) (end_on (calls_of pages page) [] ls behind) (lined_calling pages page ls behind h)

@@ -1,0 +1,107 @@
+-- Any number of paragraphs and headings of a page, which may hold calls, where they are in it, by the lines of the expanded page: in the body, in cells and in captions.
+use Rattle.std.specs.Prelude.{◌≡◌, ◌≤◌, ℕ, ◌+◌, true, Bool, None, List, [], ◌∷◌, ◌++◌, length}
+use Rattle.std.specs.List.{list_all, AllByRecursion}
+use Rattle.std.specs.Str.{IsUtf8}
+use Rattle.wt_span.specs.Items.{Item, is_mark, sources}
+use Rattle.wt_span.specs.Origins.{OuterCall, Span}
+use Rattle.wt_annotated.specs.Seams.{last_of, text_from}
+use Rattle.wt_lines.specs.Lines.{content, is_break_item, full_lines}
+use Rattle.wt_page.specs.Lines.{ending}
+use Rattle.wt_tables.specs.Parts.{joined}
+use Rattle.wt_expand.specs.PageCalls.{expanded_page}
+use Rattle.wt_expand.specs.Work.{Pages}
+use Rattle.wt_commands.specs.Answers.{refusal_of_page}
+use Rattle.wt_part_laws.specs.Expanded.{part_items}
+use Rattle.wt_part_laws.specs.Slots.{AllTrue}
+use Rattle.wt_text_edit_laws.specs.BlockSpots.{BlockSpot}
+use Rattle.wt_text_edit_laws.specs.ParagraphBetween.{written_rows}
+use Rattle.wt_text_edit_laws.specs.ParagraphParts.{break}
+use Rattle.wt_text_edit_laws.specs.TextBetween.{AreEnded}
+use Rattle.wt_text_edit_laws.specs.TextBlocks.{TextBlock, a_paragraph, a_heading, source_of}
+use Rattle.wt_called_edit_laws.specs.AnyBlocks.{open_after, EndsFor, NextApart}
+use Rattle.wt_called_edit_laws.specs.CallingBlocks.{AreContentsInFolder}
+use Rattle.wt_called_edit_laws.specs.Covered.{HaveFreeBytes}
+use Rattle.wt_called_edit_laws.specs.EditableBlocks.{AreEditableContents}
+use Rattle.wt_called_edit_laws.specs.Groups.{called_tree}
+use Rattle.wt_called_edit_laws.specs.LinedAmong.{spots_of_lines, AreOfPage, AreBeside}
+use Rattle.wt_called_edit_laws.specs.Parts.{calls_to, calls_past}
+use Rattle.wt_called_edit_laws.specs.PlacedBlocks.{AreLinesAt}
+use Rattle.wt_called_edit_laws.specs.PlacedLines.{LinedBlock, all_lines, LinesApart}
+
+-- ---- where they stand
+
+-- its own lines: each of a paragraph is text where so many tables are open
+abbrev pub LinesOf : TextBlock → ℕ → List (List Item) → Type 0
+LinesOf a_paragraph n ls = AreLinesAt n ls
+LinesOf (a_heading s) n ls = Unit {0}
+
+-- as `IsLinedAt`
+pub record IsCallingAt (open_tables : List Bool) (b : LinedBlock) : Type 0 where
+  pub are_marks : list_all is_mark b.marks ≡ true
+  pub ended : AreEnded (sources b.marks)
+  pub some : 1 ≤ length b.first
+  pub in_cells : AllTrue (open_after open_tables (written_rows (length open_tables) b.before))
+  pub apart : EndsFor b.block (written_rows (length open_tables) b.before)
+  pub own : LinesOf b.block (length (open_after open_tables (written_rows (length open_tables) b.before))) (b.first ∷ b.more)
+
+abbrev pub AreCallingAfter : TextBlock → List Bool → List LinedBlock → List (List Item) → Type 0
+AreCallingAfter last open_tables [] behind = LinesApart last (length open_tables) behind
+AreCallingAfter last open_tables (b ∷ bs) behind =
+    NextApart last b.block (written_rows (length open_tables) b.before) × IsCallingAt open_tables b
+    × AreCallingAfter b.block (open_after open_tables (written_rows (length open_tables) b.before)) bs behind
+
+-- there is one at least
+abbrev pub AreCallingLined : List LinedBlock → List (List Item) → Type 0
+AreCallingLined [] behind = ⊥
+AreCallingLined (b ∷ bs) behind = IsCallingAt [] b × AreCallingAfter b.block (open_after [] (written_rows 0 b.before)) bs behind
+
+-- ---- what they give
+
+-- as parts of the page, where this is left of the line before
+abbrev pub spot_on : List OuterCall → List Item → LinedBlock → BlockSpot
+spot_on calls es b = record { before = text_from calls None ((es ++ joined b.before) ++ b.marks); block = b.block; text = b.text }
+
+-- its first item, or the call that gives it, has a byte of the page
+abbrev pub BeginsThere : List OuterCall → List Item → Type 0
+BeginsThere calls [] = ⊥
+BeginsThere calls (x ∷ xs) = 1 ≤ length (text_from calls None (x ∷ []))
+
+-- The line break before its lines, the marks that begin them and each line break in them come from no call. What is on the page for them is the block's
+-- source, and they are what this gives by itself, where so many calls come before it. So the block may begin or end with a call.
+pub record IsCallingHere (pages : Pages) (calls : List OuterCall) (k : ℕ) (b : LinedBlock) : Type 0 where
+  pub before : last_of None (joined b.before) ≡ None
+  pub marks : AreOfPage b.marks
+  pub breaks : AllByRecursion (λ x. is_break_item x ≡ true → x ≡ break) (joined (b.first ∷ b.more))
+  pub source : text_from calls None (content (joined (b.first ∷ b.more))) ≡ source_of b.block b.text
+  pub gives : content (joined (b.first ∷ b.more)) ≡ part_items pages k (source_of b.block b.text)
+  pub begins : BeginsThere calls (content (joined (b.first ∷ b.more)))
+
+abbrev pub AreCallingHere : Pages → List OuterCall → ℕ → List Item → List LinedBlock → Type 0
+AreCallingHere pages calls k es [] = Unit {0}
+AreCallingHere pages calls k es (b ∷ bs) =
+    IsCallingHere pages calls (calls_to pages k (spot_on calls es b)) b
+    × AreCallingHere pages calls (calls_past pages k (spot_on calls es b)) (ending (joined (b.first ∷ b.more))) bs
+
+-- No call that is text has a byte of a block or of the marks that begin it, or goes over one of their ends, where so many bytes come before the first part.
+abbrev pub AreApartFrom : List OuterCall → List Span → ℕ → List Item → List LinedBlock → Type 0
+AreApartFrom calls texts at es [] = Unit {0}
+AreApartFrom calls texts at es (b ∷ bs) =
+    let line = at + length (text_from calls None (es ++ joined b.before)) in
+    let end = (at + length (text_from calls None ((es ++ joined b.before) ++ b.marks))) + length (source_of b.block b.text) in
+    AreBeside line end texts × AreApartFrom calls texts end (ending (joined (b.first ∷ b.more))) bs
+
+-- ---- the page
+
+-- The lines of the expanded page are those of these blocks, and those beside them. Each block is a content in this folder that may be edited, with its
+-- calls or without, and its lines are what it gives by itself; no call that is text touches one; and each has a byte that no group of the page's tree
+-- has. The page isn't refused.
+pub record IsLinedCalling (pages : Pages) (page : List ℕ) (bs : List LinedBlock) (behind : List (List Item)) : Type 0 where
+  pub utf8 : IsUtf8 page
+  pub are : full_lines (expanded_page pages page).items ≡ all_lines bs behind
+  pub lined : AreCallingLined bs behind
+  pub here : AreCallingHere pages (expanded_page pages page).outer 0 [] bs
+  pub contents : AreContentsInFolder pages (spots_of_lines pages page bs)
+  pub editable : AreEditableContents pages (spots_of_lines pages page bs)
+  pub apart : AreApartFrom (expanded_page pages page).outer (expanded_page pages page).text_calls 0 [] bs
+  pub unrefused : refusal_of_page pages page ≡ None
+  pub free : HaveFreeBytes 0 (spots_of_lines pages page bs) (called_tree pages page)
