@@ -40,12 +40,10 @@ abbrev mutual
 
 -- ---- what lines don't tell
 
--- At this byte one of these begins, behind the marks before it: a heading with nothing between its `=`; text behind the `|}` of a table's end or the `-`
--- of a rule, on the same line; text that begins with blanks and a mark behind them; text of which a line is text only where many tables are open, as
--- the `{|` of one that can't be opened; a block whose marks don't end with a `>` or a line break; and a heading that doesn't begin with `=`.
+-- At this byte one of these begins, behind the marks before it: text behind the `|}` of a table's end or the `-` of a rule, on the same line; text that
+-- begins with blanks and a mark behind them; text of which a line is text only where many tables are open, as the `{|` of one that can't be opened;
+-- and a block whose marks don't end with a `>` or a line break.
 pub data IsExceptedAt (ls : List (List Item)) (at : ℕ) : Type 0 where
-  an_empty_heading : (before : List (List Item)) (own : List Item) (behind : List (List Item)) → ls ≡ before ++ own ∷ behind → at ≡ begins_at before own
-      → kind_at (tables_behind 0 before) own ≡ line.Heading → inside (content (drop (marks_len own) own)) ≡ [] → IsExceptedAt ls at
   text_on_a_sign : (before : List Row) (first : Row) (others behind : List Row) → rows_from 0 ls ≡ before ++ ((first ∷ others) ++ behind)
       → (EndWhole before → ⊥) → at ≡ begins_behind before first → IsExceptedAt ls at
   marked_text : (before : List (List Item)) (first : List Item) (others behind : List (List Item)) → ls ≡ before ++ ((first ∷ others) ++ behind)
@@ -54,8 +52,6 @@ pub data IsExceptedAt (ls : List (List Item)) (at : ℕ) : Type 0 where
       → at ≡ begins_at before first → (AreOfText 0 (first ∷ others) → ⊥) → IsExceptedAt ls at
   unended_marks : (before : List (List Item)) (first : List Item) (behind : List (List Item)) → ls ≡ before ++ first ∷ behind
       → at ≡ begins_at before first → (AreEnded (sources (take (marks_len first) first)) → ⊥) → IsExceptedAt ls at
-  other_heading : (before : List (List Item)) (own : List Item) (behind : List (List Item)) → ls ≡ before ++ own ∷ behind → at ≡ begins_at before own
-      → kind_at (tables_behind 0 before) own ≡ line.Heading → begins (codes "=") (signs (drop (marks_len own) own)) ≡ false → IsExceptedAt ls at
 
 -- a node of a page's tree that begins so
 pub record IsExcepted (page : List ℕ) (t : Tree) : Type 0 where
