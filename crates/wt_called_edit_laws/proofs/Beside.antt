@@ -8,6 +8,6 @@ pub mod PageCases
 pub mod EndCases
 mod FirstCases
 mod LastCases
-mod BothCases
+pub mod BothCases
 mod LinkCases
 mod EmptyCases

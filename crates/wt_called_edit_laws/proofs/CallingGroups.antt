@@ -1,5 +1,5 @@
 -- Where contents are written in blocks that hold calls, beside these calls, the groups of the page and its other nodes stay.
-use Rattle.std.proofs.Common.{◌≡◌, ◌⊎◌, inl, inr, ℕ, zero, suc, None, List, [], ◌∷◌, refl, sym, ap, ◌∙◌, subst}
+use Rattle.std.proofs.Common.{◌≡◌, ◌⊎◌, inl, inr, ℕ, zero, suc, List, [], ◌∷◌, refl, sym, ap, ◌∙◌, subst}
 use Rattle.wt_span.specs.Origins.{OuterCall}
 use Rattle.wt_expand.specs.Work.{Pages}
 use Rattle.wt_expand.specs.PageCalls.{expanded_page}
@@ -12,7 +12,7 @@ use Rattle.wt_part_laws.specs.Placeless.{placeless, all_placeless}
 use Rattle.wt_called_edit_laws.specs.CalledContents.{tree_round}
 use Rattle.wt_called_edit_laws.specs.Nodes.{IsBlock, AreBlocks, NodesStayRound}
 use Rattle.wt_called_edit_laws.proofs.CutFrames.{nodes_stay_round}
-use Rattle.wt_part_laws.specs.Frames.{Frames, all_places, content}
+use Rattle.wt_part_laws.specs.Frames.{Frames, all_places}
 use Rattle.wt_text_edit_laws.specs.BlockSpots.{BlockSpot, spots_source, SameRound}
 use Rattle.wt_text_edit_laws.specs.ReadContents.{IsReadAnew}
 use Rattle.wt_text_edit_laws.specs.TextBlocks.{TextBlock, a_paragraph, a_heading, source_of}

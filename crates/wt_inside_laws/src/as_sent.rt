@@ -28,6 +28,9 @@ ghost use Rattle.wt_called_edit_laws.specs.Groups.{called_tree};
 ghost use Rattle.wt_called_edit_laws.specs.PlacedLines.{spots_by, end_by};
 ghost use Rattle.wt_called_edit_laws.specs.ToldLines.{Told, lined, IsToldPage};
 ghost use Rattle.wt_inside_laws.specs.AsSent.{edits_of, IsPlainPage, IsReadFor, IsAlike, IsAsSent, IsSentOn};
+ghost use Rattle.wt_commands.specs.Calls.{Call};
+ghost use Rattle.wt_pagetool.specs.Promises.{Ends};
+ghost use Rattle.wt_inside_laws.specs.EditCalls.{TakesTextEdits};
 ghost use Rattle.wt_inside_laws.specs.HtmlEdits.{IsHtmlEdit};
 ghost use Rattle.wt_inside_laws.specs.RetypedPieces.{AreRead, AreUtf8};
 ghost use Rattle.wt_inside_laws.specs.TextEdits.{IsRetyped, IsTextEdit};
@@ -90,4 +93,11 @@ pub fn text_edits_in_html_are_done()
         → IsToldPage page ts rest → (c : TakesContents pages (spots_by [] (map lined ts)) (end_by [] (map lined ts) rest))
         → IsHtmlEdit pages page input c.paths new unsourced
         → edit_of pages (Some page) input ≡ done (spliced page (slices same_node (page_tree pages page) new)) }
+{}
+
+/// So each call of the program that keeps what `run` promises takes such HTML: `edit` has written that page, or a device
+/// failed, or memory ran out. The told blocks are at paths of the page's tree, and any of them may be edited at once.
+#[tactic(auto)]
+pub fn calls_take_text_edits()
+    ensures { (c : Call) (ended : ℕ) → Ends c ended → TakesTextEdits c ended }
 {}

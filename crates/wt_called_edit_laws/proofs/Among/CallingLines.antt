@@ -1,5 +1,5 @@
 -- A page with paragraphs and headings that may hold calls, by the lines of the expanded page: it is cut at these, and each is at such a place.
-use Rattle.std.proofs.Common.{arith, ◌≡◌, ◌⊎◌, inl, inr, ℕ, ◌+◌, ◌≤◌, Bool, false, Option, None, List, [], ◌∷◌, ◌++◌, length, map, refl, sym, ap, ap₂, ◌∙◌, subst, append_assoc, append-nil, length-append}
+use Rattle.std.proofs.Common.{arith, ◌≡◌, ◌⊎◌, inl, inr, ℕ, ◌+◌, ◌≤◌, Bool, false, Option, None, List, [], ◌∷◌, ◌++◌, length, refl, sym, ap, ap₂, ◌∙◌, subst, append_assoc, append-nil, length-append}
 use Rattle.std.specs.Str.{IsUtf8}
 use Rattle.std.proofs.lemmas.Grind.{flat_map-append}
 use Rattle.wt_span.specs.declared.form.Mode.TheVariants.{Page}
@@ -18,7 +18,7 @@ use Rattle.wt_expand.specs.PageItems.{page_items}
 use Rattle.wt_expand.specs.Work.{Pages}
 use Rattle.wt_expand.proofs.PageLaws.{page_sources}
 use Rattle.wt_expand.proofs.PiecePlaces.{behind_page}
-use Rattle.wt_part_laws.specs.Expanded.{part_items, calls_in}
+use Rattle.wt_part_laws.specs.Expanded.{part_items}
 use Rattle.wt_part_laws.specs.Lexer.{lexer}
 use Rattle.wt_part_laws.specs.Scans.{after_all}
 use Rattle.wt_commands.specs.Answers.{refusal_of_page}
@@ -47,8 +47,8 @@ use Rattle.wt_called_edit_laws.specs.PartTexts.{AreSourcesAt}
 use Rattle.wt_called_edit_laws.specs.PlacedAmong.{StandAfter}
 use Rattle.wt_called_edit_laws.specs.PlacedCalling.{AreFurtherCutsAt, AreCutsAt, IsPlacedCalling}
 use Rattle.wt_called_edit_laws.specs.PlacedLines.{LinedBlock, all_lines}
-use Rattle.wt_called_edit_laws.proofs.Among.BlockAt.{calls_of, IsRest, IsPast, IsPastOwn, text_to, block_from, block_to, past_front, past_own, marked_text, bytes_cut, have_front, have_behind, beside_first, beside_front, beside_last}
-use Rattle.wt_called_edit_laws.proofs.Among.LinedParts.{EndsBreak, EndsOwn, IsLastOwn, own_end, ended_text, own_behind, own_text_size, ends_text, AreBeforeTexts, before_texts, cancel, no_items, IsLeft, left_none, left_whole, open_at, line_front, block_front, some_first, page_rest}
+use Rattle.wt_called_edit_laws.proofs.Among.BlockAt.{calls_of, IsRest, IsPast, text_to, block_from, block_to, past_front, past_own, marked_text, bytes_cut, have_front, have_behind, beside_first, beside_front, beside_last}
+use Rattle.wt_called_edit_laws.proofs.Among.LinedParts.{EndsBreak, EndsOwn, own_end, ended_text, own_behind, own_text_size, ends_text, AreBeforeTexts, before_texts, cancel, no_items, IsLeft, left_none, left_whole, open_at, line_front, block_front, page_rest}
 use Rattle.wt_called_edit_laws.proofs.Among.OwnItems.{Skipped, skip, rest_clear}
 use Rattle.wt_called_edit_laws.proofs.Among.OwnSeams.{FirstLonger, FirstShorter, two_cuts, first_or, IsOwnSeam, text_size, end_behind}
 use Rattle.wt_called_edit_laws.proofs.Among.PartsApart.{IsClear, members_of, AreClear, ArePartsApart, parts_apart}

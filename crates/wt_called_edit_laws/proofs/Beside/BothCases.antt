@@ -99,16 +99,16 @@ use Rattle.wt_called_edit_laws.proofs.Whole.Cases.{a_group_call}
 use Rattle.wt_called_edit_laws.proofs.Written.Cases.{call_part as call_alone}
 use Rattle.wt_called_edit_laws.proofs.Beside.EndCases.{nothing, called_at, a_label, nth, none_behind, next_before}
 
-abbrev source : List ℕ
+abbrev pub source : List ℕ
 source = codes "{{t}} {{t}}"
 
 abbrev pieces : List (List ℕ)
 pieces = codes "{{t}}" ∷ codes " " ∷ codes "{{t}}" ∷ []
 
-abbrev given : ℕ → List Item
+abbrev pub given : ℕ → List Item
 given i = char (Some i) 98 ∷ char None 32 ∷ char (Some (suc i)) 98 ∷ []
 
-items_are : (i : ℕ) → part_items a_word i source ≡ given i
+pub items_are : (i : ℕ) → part_items a_word i source ≡ given i
 unfolding words closed form_at comment_len comment_line_len raw_len opening_tag tag_after closing_tag with_inside is_extension
     include_at entity_at named_entity decimal_entity hex_entity entity_names sign_word reduced rewritten parts_of text_members trimmed
     trimmed_items name_text called most_templates is_function title_of_target title_in_target read_text is_allowed is_forbidden
@@ -171,7 +171,7 @@ groups_there i =
     subst (λ (ps : List Part). AreGroups (part_items a_word i source) (call_pieces (children ps))) (sym (parts_there i))
     (subst (AreGroups (part_items a_word i source)) (sym (pieces_are i)) (subst (λ (xs : List Item). AreGroups xs (nodes i)) (sym (items_are i)) (groups_here i)))
 
-is_read : IsReadContent a_paragraph source
+pub is_read : IsReadContent a_paragraph source
 unfolding page_items words closed form_at comment_len comment_line_len raw_len opening_tag tag_after closing_tag with_inside include_at entity_at named_entity
     decimal_entity hex_entity entity_names sign_word encode
 is_read = record {
@@ -181,7 +181,7 @@ is_read = record {
   begins = record { alone = record { uncommented = refl }; before_break = record { uncommented = refl }; shown = refl };
 }
 
-is_text : (i : ℕ) → AreTextItems (given i)
+pub is_text : (i : ℕ) → AreTextItems (given i)
 unfolding kind_of_signs
 is_text i = record {
   are_lines = All-cons IsTextLine (given i) [] refl (All-nil IsTextLine);
@@ -219,7 +219,7 @@ text_and_calls = record {
   nodes = λ i. ap (λ (ps : List Part). call_pieces (children ps)) (parts_there i) ∙ pieces_are i ∙ sym (nodes_are i);
 }
 
-here : IsInPieces a_word source
+pub here : IsInPieces a_word source
 here = pieced a_word source text_and_calls
 
 abbrev a_block : BlockSpot
@@ -250,7 +250,7 @@ placed_here =
     subst (λ before. P before (part_items a_word at source) (part_items a_word n [])) (sym (nothing 0))
     (subst (λ xs. P [] xs (part_items a_word n [])) (sym (items_are at)) (subst (λ behind. P [] (given at) behind) (sym (nothing n)) own))
 
-unrefused_here : refusal_of_page a_word source ≡ None
+pub unrefused_here : refusal_of_page a_word source ≡ None
 unfolding words closed form_at comment_len comment_line_len raw_len opening_tag tag_after closing_tag with_inside is_extension
     include_at entity_at named_entity decimal_entity hex_entity entity_names sign_word reduced rewritten text_members trimmed
     trimmed_items name_text called most_templates is_function title_of_target title_in_target read_text is_allowed is_forbidden
@@ -273,7 +273,7 @@ unfolding words closed form_at comment_len comment_line_len raw_len opening_tag 
 no_group_here = ((inr none_behind, (tt, (inl next_before, tt))), tt)
 
 -- its text is in no group
-free_here : HasFreeByte (called_tree a_word source) 0 (length source)
+pub free_here : HasFreeByte (called_tree a_word source) 0 (length source)
 free_here =
     let low : 0 ≤ 5 = omega arith in
     let high : 5 < 11 = omega arith in

@@ -44,7 +44,7 @@ use Rattle.wt_text_edit_laws.specs.Contents.{content_parts_of}
 use Rattle.wt_text_edit_laws.specs.Paragraphs.{IsTextLine}
 use Rattle.wt_text_edit_laws.specs.ReadContents.{IsReadContent}
 use Rattle.wt_text_edit_laws.specs.TextBlocks.{a_paragraph}
-use Rattle.wt_beside_laws.proofs.Groups.Cases.{a_word, call, gives_char, gives_word}
+use Rattle.wt_beside_laws.proofs.Groups.Cases.{a_word, gives_char, gives_word}
 use Rattle.wt_beside_laws.specs.Shown.{parts_shown_at}
 use Rattle.wt_called_edit_laws.specs.CalledContents.{AreTextItems}
 use Rattle.wt_called_edit_laws.specs.CalledEdits.{IsBesideCalls}
