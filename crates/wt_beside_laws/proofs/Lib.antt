@@ -65,5 +65,6 @@ pub mod Groups
 pub mod Made
 pub mod Marks
 pub mod Styled
+pub mod StyledGroups
 pub mod Derived
 pub mod Own

@@ -35,4 +35,5 @@ pub mod NewStyles
 pub mod StyledIn
 pub mod Called
 pub mod Given
+pub mod StyledCalls
 pub mod OwnLed

@@ -18,4 +18,5 @@ pub mod PlaceStarts
 pub mod NodePlaces
 pub mod OwnTrees
 pub mod ToldStarts
+pub mod HeadSigns
 pub mod Complete

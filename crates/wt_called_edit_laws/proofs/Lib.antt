@@ -48,6 +48,7 @@ pub mod Parts
 pub mod Written
 pub mod Whole
 pub mod Headings
+pub mod Styles
 pub mod CallingGroups
 pub mod CallingPages
 pub mod CallingGaps

@@ -54,3 +54,4 @@ pub mod LinedHeadings
 pub mod ToldLines
 pub mod ToldTogether
 pub mod ToldAmong
+pub mod StyledCallEdits

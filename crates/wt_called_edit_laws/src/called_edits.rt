@@ -8,10 +8,11 @@ ghost use Rattle.wt_expand.specs.Work.{Pages};
 ghost use Rattle.wt_part_laws.specs.Expanded.{part_items};
 ghost use Rattle.wt_part_laws.specs.HeldCalls.{block_in};
 ghost use Rattle.wt_typed_blocks.specs.Edited.{Pieces};
-ghost use Rattle.wt_text_edit_laws.specs.TextBlocks.{TextBlock};
+ghost use Rattle.wt_text_edit_laws.specs.TextBlocks.{TextBlock, a_paragraph};
 ghost use Rattle.wt_called_edit_laws.specs.CalledContents.{tree_round};
 ghost use Rattle.wt_called_edit_laws.specs.CalledEdits.{IsBesideCalls, IsCalledEditOf, MakesContentIn};
 ghost use Rattle.wt_called_edit_laws.specs.Settled.{settled};
+ghost use Rattle.wt_called_edit_laws.specs.StyledCallEdits.{IsBesideStyles, IsStyledCallEdit};
 
 /// What is sent for a paragraph or heading of the page with calls in it (`IsBesideCalls`), wherever it is: its calls, each as it is in the page and in
 /// their order, any of its other nodes, and any texts beside these, in a paragraph one at least, in a heading on one line
@@ -21,4 +22,12 @@ pub fn contents_beside_calls_are_made()
     ensures { (pages : Pages) (k : TextBlock) (q : List ℕ) (block : Tree) (m : Label) (ps : Pieces) (n at i : ℕ) (calls : List OuterCall) → 0 < n
         → block ≡ settled n at (cut_texts (block_in calls (tree_round k (part_items pages i q)))) → IsBesideCalls pages k q block → IsCalledEditOf pages k block ps
         → MakesContentIn pages k q block m ps }
+{}
+
+/// So for a paragraph with bold and italic in it, in which no call is (`IsBesideStyles`): all its calls are sent, any of its other nodes and styles, any texts
+/// between these and in the styles, and new bold and italic, as these may nest, round texts and nodes that are no calls (`IsStyledCallEdit`).
+pub fn styles_beside_calls_are_made()
+    ensures { (pages : Pages) (q : List ℕ) (block : Tree) (m : Label) (ps : Pieces) (n at i : ℕ) (calls : List OuterCall) → 0 < n
+        → block ≡ settled n at (cut_texts (block_in calls (tree_round a_paragraph (part_items pages i q)))) → IsBesideStyles pages q block
+        → IsStyledCallEdit pages block ps → MakesContentIn pages a_paragraph q block m ps }
 {}

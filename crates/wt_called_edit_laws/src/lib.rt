@@ -83,7 +83,7 @@ pub use body_paragraphs::{
     nodes_of_paragraphs_of_the_body_stay, paragraphs_of_the_body_are_edited,
     paragraphs_of_the_body_may_be_edited,
 };
-pub use called_edits::contents_beside_calls_are_made;
+pub use called_edits::{contents_beside_calls_are_made, styles_beside_calls_are_made};
 pub use calling_pages::{
     blocks_that_call_are_untangled, blocks_that_call_stay_where_nothing_is_written,
     blocks_with_calls_are_whole, contents_beside_calls_are_taken,

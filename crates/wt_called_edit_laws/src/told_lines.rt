@@ -90,8 +90,8 @@ pub fn told_blocks_are_told_together()
 {}
 
 /// So each paragraph and heading of such a page's tree that isn't tangled may be edited at its path, which is one of those of
-/// blocks that the lines tell; but for these: a heading with nothing between its `=`, text behind the sign of a table's end or a
-/// rule on its line, text that begins with a mark behind blanks, and the others of `IsExceptedAt`.
+/// blocks that the lines tell; but for these: text behind the sign of a table's end or a rule on its line, text that begins with a
+/// mark behind blanks, and the others of `IsExceptedAt`.
 pub fn each_block_is_told_or_excepted()
     ensures all { (pages : Pages) (page : List ℕ) → IsUtf8 page → CallsNothing (page_items page) → HasNoGroups page → EndsClosed page []
         → AllBlocksTold pages page }

@@ -19,7 +19,7 @@ use Rattle.wt_splice.specs.Splice.{spliced}
 use Rattle.wt_visible.specs.SameNodes.{same_node}
 use Rattle.wt_commands.specs.declared.refusal.Refusal.TheVariants.{TooLong, InputTooLong}
 use Rattle.wt_commands.specs.Answers.{Answer, refusal_of_page, done, refused, text_answer, title_answer, edited_answer, input_answer, edit_of, edit_to}
-use Rattle.wt_text_edit_laws.specs.BlockSpots.{BlockSpot, spots_source}
+use Rattle.wt_text_edit_laws.specs.BlockSpots.{spots_source}
 use Rattle.wt_text_edit_laws.proofs.Prose.ProseTakes.{not_longer}
 use Rattle.wt_called_edit_laws.specs.ContentsTaken.{TakesContents}
 use Rattle.wt_called_edit_laws.specs.PlacedLines.{spots_by, end_by}
@@ -33,7 +33,7 @@ use Rattle.wt_inside_laws.proofs.ReadSent.{read_for, read_blocks}
 use Rattle.wt_inside_laws.proofs.ToldEdits.{ungrouped, told_edit_done}
 
 -- of what is under a title, to an input
-edit_is : (pages : Pages) (page new input : List ℕ) (u : Tree) (unsourced : Option ℕ) → IsUtf8 page → length page ≤ PAGE_BYTES → length input ≤ HTML_BYTES
+pub edit_is : (pages : Pages) (page new input : List ℕ) (u : Tree) (unsourced : Option ℕ) → IsUtf8 page → length page ≤ PAGE_BYTES → length input ≤ HTML_BYTES
     → read input ≡ as_page u unsourced → edit_to pages page u ≡ done new → edit_of pages (Some page) input ≡ done new
 unfolding title_answer input_answer edited_answer
 edit_is pages page new input u unsourced utf8 short small is made =
@@ -55,13 +55,12 @@ blocks_read : (ps : List Pair) → AllByRecursion (λ p. AreRead (children_of p.
 blocks_read [] h = tt
 blocks_read (p ∷ ps) h = (record { read = h.0.0; utf8 = h.0.1 }, blocks_read ps h.1)
 
-pub html_edit_done : (pages : Pages) (page input : List ℕ) (ts : List Told) (rest : List (List Item)) (new : Tree) (unsourced : Option ℕ) → IsToldPage page ts rest
-    → (c : TakesContents pages (spots_by [] (map lined ts)) (end_by [] (map lined ts) rest)) → IsHtmlEdit pages page input c.paths new unsourced
-    → edit_of pages (Some page) input ≡ done (spliced page (slices same_node (page_tree pages page) new))
-html_edit_done pages page input ts rest new unsourced h c e =
+pub html_told : (pages : Pages) (page input : List ℕ) (ts : List Told) (rest : List (List Item)) (paths : List (List ℕ)) (new : Tree) (unsourced : Option ℕ)
+    → IsToldPage page ts rest → IsHtmlEdit pages page input paths new unsourced → IsToldEdit pages page paths new
+html_told pages page input ts rest paths new unsourced h e =
     let free = ungrouped pages page ts rest h in
     let unrefused : refusal_of_page pages page ≡ None = page_unrefused pages page ts rest h in
-    let told : IsToldEdit pages page c.paths new = record {
+    record {
       edit = e.edit;
       read = read_for pages page input new unsourced h.utf8 e.short unrefused free e.reads e.edit.checks e.ungrouped;
       blocks =
@@ -69,6 +68,11 @@ html_edit_done pages page input ts rest new unsourced h c e =
           (read_blocks same_node (expanded_page pages page) page pages page input new unsourced h.utf8 unrefused free e.reads e.edit.checks e.ungrouped e.edit.blocks);
       ordinary = e.ordinary;
       among = e.among;
-    } in
+    }
+
+pub html_edit_done : (pages : Pages) (page input : List ℕ) (ts : List Told) (rest : List (List Item)) (new : Tree) (unsourced : Option ℕ) → IsToldPage page ts rest
+    → (c : TakesContents pages (spots_by [] (map lined ts)) (end_by [] (map lined ts) rest)) → IsHtmlEdit pages page input c.paths new unsourced
+    → edit_of pages (Some page) input ≡ done (spliced page (slices same_node (page_tree pages page) new))
+html_edit_done pages page input ts rest new unsourced h c e =
     edit_is pages page (spliced page (slices same_node (page_tree pages page) new)) input new unsourced h.utf8 e.short e.within e.reads
-    (told_edit_done pages page ts rest new h c told)
+    (told_edit_done pages page ts rest new h c (html_told pages page input ts rest c.paths new unsourced h e))

@@ -51,10 +51,10 @@ given_both [] qs h k = k
 given_both (loose k o b ∷ ps) qs h g = given_both ps qs h g
 given_both (node t ∷ ps) qs h k = (h.0, given_both ps qs h.1 k)
 
-guard_own : (u : Bool) → AreOwnOrGiven (parts Text (guard_items u))
+pub guard_own : (u : Bool) → AreOwnOrGiven (parts Text (guard_items u))
 guard_own u = page_given (parts Text (guard_items u)) (guard_parts u)
 
-letter_own : (e : Bool) (c : ℕ) → AreOwnOrGiven (parts Text (letter_items e c))
+pub letter_own : (e : Bool) (c : ℕ) → AreOwnOrGiven (parts Text (letter_items e c))
 letter_own e c = page_given (parts Text (letter_items e c)) (letter_parts e c)
 
 pub parts_own : (s : Setting) (before signs : List ContentSign) (owns : List (List Item)) → AreOwnInside owns → AreOwnOrGiven (parts_with s before signs owns)
@@ -73,7 +73,7 @@ parts_own s before (thing t ∷ after) (own ∷ owns) h =
 
 -- ---- a letter is the page's own
 
-any_left : (xs ys : List Item) → list_any is_page xs ≡ true → list_any is_page (xs ++ ys) ≡ true
+pub any_left : (xs ys : List Item) → list_any is_page xs ≡ true → list_any is_page (xs ++ ys) ≡ true
 any_left xs ys e = list_any-append is_page xs ys ∙ ap (λ (v : Bool). v || list_any is_page ys) e
 
 any_right : (xs ys : List Item) → list_any is_page ys ≡ true → list_any is_page (xs ++ ys) ≡ true
@@ -83,13 +83,13 @@ any_right xs ys e = list_any-append is_page xs ys ∙ ap (λ (v : Bool). list_an
     or_true true = refl
     or_true false = refl
 
-held_left : (ps qs : List Part) → list_any is_page (held_parts ps) ≡ true → list_any is_page (held_parts (ps ++ qs)) ≡ true
+pub held_left : (ps qs : List Part) → list_any is_page (held_parts ps) ≡ true → list_any is_page (held_parts (ps ++ qs)) ≡ true
 held_left ps qs e = ap (list_any is_page) (held_append ps qs) ∙ any_left (held_parts ps) (held_parts qs) e
 
-held_right : (ps qs : List Part) → list_any is_page (held_parts qs) ≡ true → list_any is_page (held_parts (ps ++ qs)) ≡ true
+pub held_right : (ps qs : List Part) → list_any is_page (held_parts qs) ≡ true → list_any is_page (held_parts (ps ++ qs)) ≡ true
 held_right ps qs e = ap (list_any is_page) (held_append ps qs) ∙ any_right (held_parts ps) (held_parts qs) e
 
-some_letter : (e : Bool) (c : ℕ) → list_any is_page (held_parts (parts Text (letter_items e c))) ≡ true
+pub some_letter : (e : Bool) (c : ℕ) → list_any is_page (held_parts (parts Text (letter_items e c))) ≡ true
 some_letter true c = refl
 some_letter false c = by (encode_utf8 c) (encode_some c)
   where
@@ -113,7 +113,7 @@ some_with s before (thing t ∷ after) (own ∷ owns) g h =
 
 -- ---- the paragraph
 
-para_items : (ps : List Part) → tree_items (para_with ps) ≡ held_parts ps
+pub para_items : (ps : List Part) → tree_items (para_with ps) ≡ held_parts ps
 para_items ps = append-nil (held_by_all (forest (children ps))) ∙ held_children ps
 
 pub called_round : (s : Setting) (signs : List ContentSign) (owns : List (List Item)) → IsCalledContent s signs owns

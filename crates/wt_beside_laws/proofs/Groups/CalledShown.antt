@@ -42,7 +42,7 @@ by_call_texts j (node t ∷ ps) h = (tt, by_call_texts j ps h.1)
 pub group_texts : (g : Transclusion) (j : ℕ) (own : List Item) → IsGroup g j own → AreTexts (line_parts own)
 group_texts g j own h = let k : GivesSigns j own = h.gives in by_call_texts j (line_parts own) k.inside
 
-given_texts : (t : Thing) (own : List Item) → IsGivenAs t.role t own → IsFlat t.role → AreTexts (line_parts own)
+pub given_texts : (t : Thing) (own : List Item) → IsGivenAs t.role t own → IsFlat t.role → AreTexts (line_parts own)
 given_texts t own h f = elim (given_case t.role t own h) [
   | inl n ↦ subst (λ (ys : List Item). AreTexts (line_parts ys)) (sym n.is) (node_texts t f n.node)
   | inr k ↦ group_texts k.0 k.2 own k.3

@@ -27,7 +27,7 @@ own_of pages i t = numbered i (page_stretches pages t.source)
 stays_given : (pages : Pages) (i : ℕ) (t : Thing) → StaysAsItIs pages t → IsOwnNode t (own_of pages i t)
 stays_given pages i t h = record { is = h.items i; node = h.node; inside = h.inside; unbroken = h.unbroken }
 
-given_as : (r : Role) (pages : Pages) (i : ℕ) (t : Thing) → IsOfFolder r pages t → IsGivenAs r t (own_of pages i t)
+pub given_as : (r : Role) (pages : Pages) (i : ℕ) (t : Thing) → IsOfFolder r pages t → IsGivenAs r t (own_of pages i t)
 given_as Link pages i t h = stays_given pages i t h
 given_as External pages i t h = stays_given pages i t h
 given_as (Bare ends) pages i t h = stays_given pages i t h
@@ -64,7 +64,7 @@ given_by j (loose Text o b ∷ ps) h = given_by j ps h.1
 given_by j (loose Sep o b ∷ ps) h = absurd h
 given_by j (node t ∷ ps) h = (inr (j, h.0), given_by j ps h.1)
 
-inside_in : (pages : Pages) (i : ℕ) (t : Thing) → IsOfFolder t.role pages t → AreOwnOrGiven (line_parts (own_of pages i t))
+pub inside_in : (pages : Pages) (i : ℕ) (t : Thing) → IsOfFolder t.role pages t → AreOwnOrGiven (line_parts (own_of pages i t))
 inside_in pages i t h = elim (folder_case t.role pages t h) [
   | inl k ↦
       let stays : StaysAsItIs pages t = k.0 in

@@ -1,9 +1,10 @@
 -- A node that stays, and what a call gives, as their neighbours on a line see them: forms and characters, of which each is what it is by itself.
-use Rattle.std.proofs.Common.{◌≡◌, ◌⊎◌, inl, inr, ℕ, ◌==◌, Bool, true, false, None, Some, List, [], ◌∷◌, ◌++◌, map, refl, sym, ap, ◌∙◌, subst, append-nil}
+use Rattle.std.proofs.Common.{◌≡◌, ◌⊎◌, inl, inr, ℕ, ◌==◌, Bool, true, false, Option, None, Some, List, [], ◌∷◌, ◌++◌, map, refl, sym, ap, ◌∙◌, subst, append-nil}
 use Rattle.std.specs.Prelude.{codes, if◌then◌else◌}
 use Rattle.wt_span.specs.Items.{Item}
 use Rattle.wt_guards.specs.declared.role.Role.{Role}
 use Rattle.wt_guards.specs.declared.role.Role.TheVariants.{Link, External, Bare, Switch, Toggle, Mark, Group, Function, Node}
+use Rattle.wt_guards.specs.declared.role.Stretch.{Stretch}
 use Rattle.wt_guards.specs.declared.role.Transclusion.{Transclusion}
 use Rattle.wt_guards.specs.declared.side.Side.TheVariants as side
 use Rattle.wt_guards.specs.Content.{ContentSign, Thing, letter, thing, side_of}
@@ -253,7 +254,13 @@ gift_of t own h = elim (given_case t.role t own h) [
   | inr k ↦ group_gift k.0 t k.2 own k.1 k.3
 ]
 
-pub all_gifts : (signs : List ContentSign) (owns : List (List Item)) → AreGiven signs owns → AreGifts signs owns
+-- a style delimiter is one form
+pub toggle_signs : (source : List ℕ) (place : Option Stretch) (own : List Item) (h : IsOwnNode (record { role = Toggle; source = source; place = place }) own)
+    → (gift_of (record { role = Toggle; source = source; place = place }) own h).signs ≡ form Toggle own ∷ []
+unfolding gift_of given_case own_gift
+toggle_signs source place own h = refl
+
+abbrev pub all_gifts : (signs : List ContentSign) (owns : List (List Item)) → AreGiven signs owns → AreGifts signs owns
 all_gifts [] [] h = tt
 all_gifts [] (own ∷ owns) h = absurd h
 all_gifts (letter c ∷ after) owns h = all_gifts after owns h

@@ -126,7 +126,7 @@ before_group t n left right k g e z = by (ends_line t.role) refl
     by false i = let no : true ≡ false = sym (as_parted t n e (group_right t.role n.role (has_brace_last t.source) g i)) ∙ z in absurd (cc)
 
 -- two nodes of the page
-follow_as : (r : Role) (own gs : List Glyph) → IsNode r own → MayFollow r own gs → BehindMay r own gs
+pub follow_as : (r : Role) (own gs : List Glyph) → IsNode r own → MayFollow r own gs → BehindMay r own gs
 follow_as Link own gs n m = m
 follow_as External own gs n m = m
 follow_as (Bare ends) own gs n m = m

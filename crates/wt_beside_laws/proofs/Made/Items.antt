@@ -58,7 +58,7 @@ char_of_page : (o : Option ℕ) (b : ℕ) (xs : List Item) → o ≡ None → Al
 char_of_page None b xs e h = h
 char_of_page (Some k) b xs e h = absurd (cc)
 
-held_of_page : (ps : List Part) → PartsHave ps → AllOfPage (held_parts ps)
+pub held_of_page : (ps : List Part) → PartsHave ps → AllOfPage (held_parts ps)
 held_of_page [] h = refl
 held_of_page (loose j o b ∷ ps) h = char_of_page o b (held_parts ps) h.0 (held_of_page ps h.1)
 held_of_page (node u ∷ ps) h = both_of_page (tree_items u) (held_parts ps) h.0.1 (held_of_page ps h.1)

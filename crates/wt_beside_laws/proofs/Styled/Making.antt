@@ -101,7 +101,7 @@ sent_well k q block ps own h i e =
     let nodes : AreSomeAndPut (things (signs_in t)) (things (signs_of k q)) =
     some_of (things (signs_in t)) (things_with (kept_nodes block) (all_numbers us)) (things (signs_of k q)) (sent_some p us) among in
     let right : AreRight false false (children_of block) = own_nests k q block h i in
-    let nest : AllNest false false us = sent_nest ps none e.stay e.are (subst (AllNest false false) (sym e.old) right.0) e.new in
+    let nest : AllNest false false us = sent_nest ps e.stay e.are (subst (AllNest false false) (sym e.old) right.0) e.new in
     let apart : AreUrlsApart (things (signs_in t)) = urls_apart k q block ps h i right.1 e.old none e.stay (no_delimiter same_node block) nodes in
     let content : IsStyledContent (setting k block) t =
     sent_styles same_node (setting k block) ls block us refl h.flat b kept_so nest e.led some (sent_characters p us shown_so) apart in

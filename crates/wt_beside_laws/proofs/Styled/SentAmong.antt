@@ -80,7 +80,7 @@ things_among ks (m ∷ ms) ns h =
 
 -- ---- what is sent
 
-text_things : (cs : List ℕ) (t : StyledContent) → things (signs_in (text_then cs t)) ≡ things (signs_in t)
+pub text_things : (cs : List ℕ) (t : StyledContent) → things (signs_in (text_then cs t)) ≡ things (signs_in t)
 text_things [] t = refl
 text_things (c ∷ cs) t = text_things cs t
 

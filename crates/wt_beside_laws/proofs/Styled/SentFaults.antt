@@ -43,7 +43,7 @@ use Rattle.wt_beside_laws.proofs.Styled.OwnStyled.{IsOwnStyle, KnownBy, IsKnown,
 
 -- ---- nothing is wrong with bold and italic by itself
 
-abbrev SoundBy : InlineForm → Page → Label → Trees → Type 0 → Type 0
+abbrev pub SoundBy : InlineForm → Page → Label → Trees → Type 0 → Type 0
 SoundBy inline.Nothing p l ts inside = Unit {0}
 SoundBy inline.Characters p l ts inside = Unit {0}
 SoundBy inline.Bold p l ts inside = (if_replaced (standing p (tree l ts)) ≡ []) × inside
@@ -98,7 +98,7 @@ mutual
 style_changed : (k : Kind) → IsStyle k → if_replaced (changed_from (edit_shape k).inline) ≡ []
 style_changed k h = of_style (λ j. if_replaced (changed_from (edit_shape j).inline) ≡ []) k h refl refl
 
-not_replaced : (same : Bool) (k : Kind) → IsStyle k → if_replaced (if same then stands.Same else changed_from (edit_shape k).inline) ≡ []
+pub not_replaced : (same : Bool) (k : Kind) → IsStyle k → if_replaced (if same then stands.Same else changed_from (edit_shape k).inline) ≡ []
 not_replaced true k h = refl
 not_replaced false k h = style_changed k h
 
@@ -117,11 +117,11 @@ style_sound {A} {B} p l m ts us h s f e =
     subst (λ (k : Kind). SoundBy (edit_shape k).inline p m us B) (sym s.kind) same
 
 -- where it is new
-new_sound : (p : Page) (m : Label) (us : Trees) → if_replaced (standing p (tree (as_new m) us)) ≡ []
+pub new_sound : (p : Page) (m : Label) (us : Trees) → if_replaced (standing p (tree (as_new m) us)) ≡ []
 unfolding kept_with
 new_sound p m us = refl
 
-text_known : (p : Page) (x : Label) (text : List ℕ) (us : Trees) → AreSound p us → AreSound p (text_node x text us)
+pub text_known : (p : Page) (x : Label) (text : List ℕ) (us : Trees) → AreSound p us → AreSound p (text_node x text us)
 text_known p x [] us h = h
 text_known p x (c ∷ cs) us h = (tt, h)
 
@@ -259,10 +259,10 @@ no_style_fault same block m us h k n s f = ap first_why (all_fine (is_paragraph 
 
 -- ---- its texts are characters
 
-abbrev CharactersIn : StyledContent → Type 0
+abbrev pub CharactersIn : StyledContent → Type 0
 CharactersIn t = (after : List ContentSign) → AreCharacters after → AreCharacters (signs_before t after)
 
-text_characters : (cs : List ℕ) (t : StyledContent) → scalars cs ≡ true → CharactersIn t → CharactersIn (text_then cs t)
+pub text_characters : (cs : List ℕ) (t : StyledContent) → scalars cs ≡ true → CharactersIn t → CharactersIn (text_then cs t)
 text_characters [] t u h = h
 text_characters (c ∷ cs) t u h = λ after k. (and_left (scalar c) (scalars cs) u, text_characters cs t (and_right (scalar c) (scalars cs) u) h after k)
 
@@ -271,11 +271,11 @@ nowiki_characters finished h = λ after k. k
 nowiki_characters (sign c t) h = h
 nowiki_characters (styled kind opening closing inside t) h = h
 
-found_characters : (o : Option Kept) (t : StyledContent) → CharactersIn t → CharactersIn (found_then o t)
+pub found_characters : (o : Option Kept) (t : StyledContent) → CharactersIn t → CharactersIn (found_then o t)
 found_characters None t h = h
 found_characters (Some k) t h = λ after j. h after j
 
-style_characters : (kind : Bool) (o : Option Kept) (held t : StyledContent) → CharactersIn held → CharactersIn t
+pub style_characters : (kind : Bool) (o : Option Kept) (held t : StyledContent) → CharactersIn held → CharactersIn t
     → CharactersIn (styled kind (opening_place o) (closing_place o) (or_nowiki held) t)
 style_characters kind o held t h k =
     λ after j. nowiki_characters held h (delimiter kind (closing_place o) ∷ signs_before t after) (k after j)

@@ -166,7 +166,7 @@ pub nowiki_alone : line_parts (whole form.Nowiki None nowiki ∷ []) ≡ parts T
 unfolding loose_segments closed
 nowiki_alone = read_line (0, leaf tile.Atom 1 ∷ []) (whole form.Nowiki None nowiki ∷ []) (loose_segment (whole form.Nowiki None nowiki ∷ []) ∷ []) refl refl refl
 
-nowiki_shown : (rest : Plains) → parts_shown_at 0 [] (line_parts (node_items nowiki)) rest ≡ rest
+pub nowiki_shown : (rest : Plains) → parts_shown_at 0 [] (line_parts (node_items nowiki)) rest ≡ rest
 nowiki_shown rest =
     let own : List Item = whole form.Nowiki None nowiki ∷ [] in
     ap (λ xs. parts_shown_at 0 [] (line_parts xs) rest) (node_as nowiki own nowiki_reads)

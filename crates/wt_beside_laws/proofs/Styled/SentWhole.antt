@@ -234,7 +234,7 @@ some_both {A} (x ∷ xs) ys us vs h k = (
 style_numbers : (k : Kind) (n : ℕ) (ns : List ℕ) → IsStyle k → numbers_by (edit_shape k).inline n ns ≡ ns
 style_numbers k n ns h = of_style (λ j. numbers_by (edit_shape j).inline n ns ≡ ns) k h refl refl
 
-numbers_appended : (ts us : Trees) → all_numbers (appended ts us) ≡ all_numbers ts ++ all_numbers us
+pub numbers_appended : (ts us : Trees) → all_numbers (appended ts us) ≡ all_numbers ts ++ all_numbers us
 numbers_appended none us = refl
 numbers_appended (more t ts) us =
     ap (λ (ns : List ℕ). numbers_of t ++ ns) (numbers_appended ts us) ∙ sym (append_assoc (numbers_of t) (all_numbers ts) (all_numbers us))

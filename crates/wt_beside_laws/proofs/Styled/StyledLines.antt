@@ -70,7 +70,7 @@ atom_read bold italic next any x c xs vs ps q r =
     subst (λ us. NestRead bold italic any us vs (part Text x ∷ ps)) (sym (atom_added x c xs q))
     (pushed_read bold italic next any (loose_segment (x ∷ [])) (cut_line c xs) vs ps (λ e. let no : true ≡ false = sym e ∙ q in cc) (λ z. q) r)
 
-guard_read : (bold italic next : Bool) (u : Bool) (c : Cut) (xs : List Item) (vs : List Segment) (ps : List Part) → Read bold italic next c xs vs ps
+pub guard_read : (bold italic next : Bool) (u : Bool) (c : Cut) (xs : List Item) (vs : List Segment) (ps : List Part) → Read bold italic next c xs vs ps
     → Read bold italic (not u && next) (guard_cut u c) (guard_items u ++ xs) vs (parts Text (guard_items u) ++ ps)
 guard_read bold italic next true c xs vs ps r = atom_read bold italic next false (whole form.Nowiki None nowiki) c xs vs ps refl r
 guard_read bold italic next false c xs vs ps r = r
@@ -107,7 +107,7 @@ and_true : (b : Bool) → (b && true) ≡ false → b ≡ false
 and_true true e = e
 and_true false e = refl
 
-letter_read : (bold italic next : Bool) (e : Bool) (d : ℕ) (c : Cut) (xs : List Item) (vs : List Segment) (ps : List Part) → IsTail vs
+pub letter_read : (bold italic next : Bool) (e : Bool) (d : ℕ) (c : Cut) (xs : List Item) (vs : List Segment) (ps : List Part) → IsTail vs
     → (e ≡ false → (d == 39) ≡ true → next ≡ false) → Read bold italic next c xs vs ps
     → Read bold italic ((d == 39) && not e) (letter_cut e d c) (letter_items e d ++ xs) vs (parts Text (letter_items e d) ++ ps)
 letter_read bold italic next true d c xs vs ps t f r =
@@ -122,7 +122,7 @@ letter_read bold italic next false d c xs vs ps t f r = elim (cases_lt d 128) [
 ]
 
 -- where the line may end
-ended_read : (bold italic next line t : Bool) (c : Cut) (xs : List Item) (vs : List Segment) (ps : List Part) → (t ≡ true → line ≡ true) → (t ≡ true → vs ≡ [])
+pub ended_read : (bold italic next line t : Bool) (c : Cut) (xs : List Item) (vs : List Segment) (ps : List Part) → (t ≡ true → line ≡ true) → (t ≡ true → vs ≡ [])
     → Read bold italic next c xs vs ps
     → Read bold italic next (if t then (0, []) else c) (if t then [] else xs) vs (if line && t then [] else ps)
 unfolding loose_segments
@@ -188,7 +188,7 @@ marks_added origin false c xs =
     ∙ quote_added (quote_of origin) (suc c.0) c.1 (quote_of origin ∷ xs) refl
     ∙ ap (λ us. s ∷ us) (quote_added (quote_of origin) c.0 c.1 xs refl)
 
-delimiter_added : (kind : Bool) (c : Cut) (xs : List Item)
+pub delimiter_added : (kind : Bool) (c : Cut) (xs : List Item)
     → cut_line (add_node (own_form in_line (map glyph_of (node_items (mark_source kind)))) (length (map glyph_of (node_items (mark_source kind)))) c) (node_items (mark_source kind) ++ xs)
     ≡ mark_segments kind ++ cut_line c xs
 delimiter_added kind c xs =
@@ -231,10 +231,10 @@ within_style false true italic = refl
 within_style false false italic = refl
 
 -- in no style, the line may end
-abbrev MayEnd : Bool → Bool → List Segment → Type 0
+abbrev pub MayEnd : Bool → Bool → List Segment → Type 0
 MayEnd w line vs = w ≡ false → (line ≡ true) × (vs ≡ [])
 
-break_ends : (w t line : Bool) (vs : List Segment) → (w ≡ true → t ≡ false) → MayEnd w line vs → t ≡ true → (line ≡ true) × (vs ≡ [])
+pub break_ends : (w t line : Bool) (vs : List Segment) → (w ≡ true → t ≡ false) → MayEnd w line vs → t ≡ true → (line ≡ true) × (vs ≡ [])
 break_ends true t line vs f g e = let no : true ≡ false = sym e ∙ f refl in cc
 break_ends false t line vs f g e = g refl
 

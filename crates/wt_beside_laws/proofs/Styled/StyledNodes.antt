@@ -38,30 +38,30 @@ use Rattle.wt_beside_laws.specs.NodeItems.{node_items}
 
 -- ---- what is put
 
-own_mark : (t : Thing) (kind : Bool) → t.source ≡ mark_source kind → own_glyphs t ≡ byte_glyphs (mark_source kind)
+pub own_mark : (t : Thing) (kind : Bool) → t.source ≡ mark_source kind → own_glyphs t ≡ byte_glyphs (mark_source kind)
 own_mark t kind e = ap (λ (bs : List ℕ). map glyph_of (node_items bs)) e ∙ mark_glyphs kind
 
-nowiki_items : node_items nowiki ≡ whole form.Nowiki None nowiki ∷ []
+pub nowiki_items : node_items nowiki ≡ whole form.Nowiki None nowiki ∷ []
 nowiki_items = node_as nowiki (whole form.Nowiki None nowiki ∷ []) nowiki_reads
 
-own_nowiki : (t : Thing) → t.source ≡ nowiki → own_glyphs t ≡ glyph.Atom ∷ []
+pub own_nowiki : (t : Thing) → t.source ≡ nowiki → own_glyphs t ≡ glyph.Atom ∷ []
 own_nowiki t e = ap (λ (bs : List ℕ). map glyph_of (node_items bs)) e ∙ ap (map glyph_of) nowiki_items
 
 delimiter_of : (kind : Bool) → IsDelimiter (byte_glyphs (mark_source kind))
 delimiter_of true = inr refl
 delimiter_of false = inl refl
 
-put_node : (t : Thing) → IsPut t → IsNode t.role (own_glyphs t)
+pub put_node : (t : Thing) → IsPut t → IsNode t.role (own_glyphs t)
 put_node t p = elim p [
   | inl m ↦ subst (λ (r : Role). IsNode r (own_glyphs t)) (sym m.1) (subst IsDelimiter (sym (own_mark t m.0 m.2)) (delimiter_of m.0))
   | inr w ↦ subst (λ (r : Role). IsNode r (own_glyphs t)) (sym w.0) (inl (inl (own_nowiki t w.1)))
 ]
 
-mark_kept : (kind : Bool) → IsKept (mark_source kind)
+pub mark_kept : (kind : Bool) → IsKept (mark_source kind)
 mark_kept true = record { parts = characters (mark_source true) ∷ []; are = ((refl, (refl, (refl, tt))), tt); is = refl }
 mark_kept false = record { parts = characters (mark_source false) ∷ []; are = ((refl, (refl, tt)), tt); is = refl }
 
-mark_page : (kind : Bool) → page_items (mark_source kind) ≡ marks kind
+pub mark_page : (kind : Bool) → page_items (mark_source kind) ≡ marks kind
 mark_page kind = sym (kept_node (mark_source kind) (mark_kept kind)) ∙ mark_items kind
 
 mark_held : (kind : Bool) → IsHeld (mark_source kind)
@@ -71,7 +71,7 @@ mark_held false = inl (mark_kept false, subst HasNoBreak (sym (mark_page false))
 ends_so : (t : Thing) (r : Role) → t.role ≡ r → EndsAsSaid r t.source → EndsAsSaid t.role t.source
 ends_so t r e h = subst (λ (o : Role). EndsAsSaid o t.source) (sym e) h
 
-put_kept : (t : Thing) → IsPut t → Kept t
+pub put_kept : (t : Thing) → IsPut t → Kept t
 put_kept t p = elim p [
   | inl m ↦ (subst IsHeld (sym m.2) (mark_held m.0), ends_so t Toggle m.1 tt)
   | inr w ↦ (subst IsHeld (sym w.1) (held_put.of_nowiki), ends_so t Node w.0 tt)
@@ -81,7 +81,7 @@ marks_unbroken : (kind : Bool) → IsUnbroken (marks kind)
 marks_unbroken true = (refl, (refl, (refl, tt)))
 marks_unbroken false = (refl, (refl, tt))
 
-put_unbroken : (t : Thing) → IsPut t → Unbroken t
+pub put_unbroken : (t : Thing) → IsPut t → Unbroken t
 put_unbroken t p = elim p [
   | inl m ↦ subst (λ (bs : List ℕ). IsUnbroken (node_items bs)) (sym m.2) (subst IsUnbroken (sym (mark_items m.0)) (marks_unbroken m.0))
   | inr w ↦ subst (λ (bs : List ℕ). IsUnbroken (node_items bs)) (sym w.1) (subst IsUnbroken (sym nowiki_items) (refl, tt))
@@ -113,7 +113,7 @@ nodes_some (t ∷ ts) ps a h = elim a [
 
 -- ---- side by side
 
-lead_free : (r : Role) (w : Bool) → w ≡ false → MayLead r w
+pub lead_free : (r : Role) (w : Bool) → w ≡ false → MayLead r w
 lead_free Link w e = tt
 lead_free External w e = tt
 lead_free (Bare ends) w e = e
@@ -124,12 +124,12 @@ lead_free (Group g) w e = tt
 lead_free Function w e = tt
 lead_free Node w e = tt
 
-mark_last : (kind : Bool) → ends_word false (byte_glyphs (mark_source kind)) ≡ false
+pub mark_last : (kind : Bool) → ends_word false (byte_glyphs (mark_source kind)) ≡ false
 mark_last true = refl
 mark_last false = refl
 
 -- behind what is put
-put_meets : (t n : Thing) → IsPut t → Meet t n
+pub put_meets : (t n : Thing) → IsPut t → Meet t n
 put_meets t n p = elim p [
   | inl m ↦ (
     subst (λ (r : Role). MayFollow r (own_glyphs t) (own_glyphs n)) (sym m.1) (follows_none (own_glyphs t) (own_glyphs n) Toggle (λ g. tt)),
@@ -161,7 +161,7 @@ before_mark Function own other kind i u = follows_none own other Function (λ g.
 before_mark Node own other kind i u = follows_none own other Node (λ g. tt)
 
 -- before what is put
-meets_put : (t n : Thing) → IsPut n → IsUrlApart t n → is_adjacent t n ≡ true → Meet t n
+pub meets_put : (t n : Thing) → IsPut n → IsUrlApart t n → is_adjacent t n ≡ true → Meet t n
 meets_put t n p u z = elim p [
   | inl m ↦ (
     before_mark t.role (own_glyphs t) (own_glyphs n) m.0 (own_mark n m.0 m.2) (u m.1 z),

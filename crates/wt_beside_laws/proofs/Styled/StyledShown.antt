@@ -26,7 +26,7 @@ use Rattle.wt_beside_laws.specs.NodeItems.{node_items}
 
 -- ---- a style
 
-style_shows : (kind : Bool) (ps : List Part) (rest : Plains) → AreTexts ps → plain_before (standing 0 [] (style_tree kind ps)) rest ≡ style_shown kind (one_by_one ps ended) rest
+pub style_shows : (kind : Bool) (ps : List Part) (rest : Plains) → AreTexts ps → plain_before (standing 0 [] (style_tree kind ps)) rest ≡ style_shown kind (one_by_one ps ended) rest
 unfolding label_at
 style_shows true ps rest t =
     ap (λ (held : Plains). along (element (record { kind = style_kind true; attrs = []; mw = None }) held) rest) (children_show 1 (marks true) ps ended t)

@@ -1,9 +1,8 @@
 -- Each paragraph and heading of a page's tree that isn't tangled is one of those that the page's lines tell, or one of the excepted.
-use Rattle.std.proofs.Common.{arith, ◌≡◌, ◌<◌, ◌≤◌, ◌⊎◌, inl, inr, ℕ, zero, suc, Bool, true, false, List, [], ◌∷◌, ◌++◌, length, map, refl, sym, ap, ◌∙◌, subst, append-nil, codes}
+use Rattle.std.proofs.Common.{arith, ◌≡◌, ◌<◌, ◌≤◌, ◌⊎◌, inl, inr, ℕ, zero, suc, Bool, true, false, List, [], ◌∷◌, ◌++◌, length, map, refl, sym, ap, ◌∙◌, subst, append-nil}
 use Rattle.std.specs.Prelude.{◌&&◌}
 use Rattle.std.specs.Str.{IsUtf8}
 use Rattle.std.specs.List.{list_all}
-use Rattle.wt_span.specs.Bytes.{begins}
 use Rattle.wt_span.specs.Items.{Item, char, whole, is_mark, sign, sources}
 use Rattle.wt_tree.specs.Source.{flat}
 use Rattle.wt_tree.specs.Tree.{Tree, tree, Trees, none, more, label}
@@ -15,11 +14,10 @@ use Rattle.wt_expand.specs.Work.{Pages}
 use Rattle.wt_lines.specs.declared.kind.LineKind.TheVariants as line
 use Rattle.wt_lines.specs.Kinds.{kind_of_signs}
 use Rattle.wt_lines.specs.Lines.{content, full_lines}
-use Rattle.wt_blocks.specs.Headings.{inside}
 use Rattle.wt_tables.specs.Parts.{joined}
 use Rattle.wt_page.specs.Headings.{heading}
 use Rattle.wt_page.specs.Lines.{kind_at}
-use Rattle.wt_page.specs.Rows.{signs, rows_from}
+use Rattle.wt_page.specs.Rows.{rows_from}
 use Rattle.wt_page.specs.Texts.{para}
 use Rattle.wt_part_laws.specs.Slots.{AllTrue}
 use Rattle.wt_part_laws.specs.Standing.{standing}
@@ -33,7 +31,7 @@ use Rattle.wt_text_edit_laws.specs.TextBetween.{AreEnded}
 use Rattle.wt_text_edit_laws.specs.TextBlocks.{TextBlock, a_paragraph, source_of, block_tree}
 use Rattle.wt_text_edit_laws.proofs.Cuts.RowLines.{AllText}
 use Rattle.wt_text_edit_laws.proofs.Paragraphs.Marks.{mark_sign, AreMarkSigns, kind_marks}
-use Rattle.wt_called_edit_laws.specs.AllTold.{starts_in, IsExceptedAt, an_empty_heading, text_on_a_sign, marked_text, text_in_tables, unended_marks, other_heading, IsExcepted, IsOneOf, AllBlocksTold}
+use Rattle.wt_called_edit_laws.specs.AllTold.{starts_in, IsExceptedAt, text_on_a_sign, marked_text, text_in_tables, unended_marks, IsExcepted, IsOneOf, AllBlocksTold}
 use Rattle.wt_called_edit_laws.specs.AnyBlocks.{open_after}
 use Rattle.wt_called_edit_laws.specs.CalledPages.{IsCalledPage}
 use Rattle.wt_called_edit_laws.specs.CalledTexts.{spots_tree}
@@ -55,6 +53,7 @@ use Rattle.wt_called_edit_laws.proofs.Told.FreeNodes.{untangled_shut}
 use Rattle.wt_called_edit_laws.proofs.Told.ToldPages.{told_lined, told_called, told_are_lined}
 use Rattle.wt_called_edit_laws.proofs.AllTold.EachBlocks.{EachBlockIn}
 use Rattle.wt_called_edit_laws.proofs.AllTold.Found.{size}
+use Rattle.wt_called_edit_laws.proofs.AllTold.HeadSigns.{head_begins}
 use Rattle.wt_called_edit_laws.proofs.AllTold.LineBlocks.{block_on_lines}
 use Rattle.wt_called_edit_laws.proofs.AllTold.LineKinds.{Lines, led_by, past_marks, led_whole, led_marks, kind_led}
 use Rattle.wt_called_edit_laws.proofs.AllTold.NodePlaces.{first_byte, node_begins, standing_begins}
@@ -289,7 +288,7 @@ heading_case : (pages : Pages) (page : List ℕ) (i : ℕ) (is : List ℕ) (t : 
     → full_lines (page_items page) ≡ before ++ own ∷ behind → AllTrue (open_after [] (written_rows 0 before)) → kind_at (tables_behind 0 before) own ≡ line.Heading
     → size front ≡ begins_at before own → block ≡ heading (content (past_marks own)) → Answer pages page i is t a
 heading_case pages page i is t n a number front block is_it before own behind are cells kind_is at tree_is =
-    by (ended_decided (sources (led_by own))) (bool_decided (begins (codes "=") (signs (past_marks own))) true) (inside (content (past_marks own))) refl
+    by (ended_decided (sources (led_by own)))
   where
     m : ℕ
     m = length (open_after [] (written_rows 0 before))
@@ -300,22 +299,14 @@ heading_case pages page i is t n a number front block is_it before own behind ar
     except : IsExceptedAt (full_lines (page_items page)) (size front) → Answer pages page i is t a
     except x = inr (record { number = number; before = front; block = block; is = is_it; begins_so = x })
 
-    sign_false : (v : Bool) → (v ≡ true → ⊥) → v ≡ false
-    sign_false true h = absurd (h refl)
-    sign_false false h = refl
-
-    by : Decided (AreEnded (sources (led_by own))) → Decided (begins (codes "=") (signs (past_marks own)) ≡ true) → (xs : List Item)
-        → inside (content (past_marks own)) ≡ xs → Answer pages page i is t a
-    by (inr f) b xs w = except (unended_marks before own behind are at f)
-    by (inl e) (inr f) xs w = except (other_heading before own behind are at kind_is (sign_false (begins (codes "=") (signs (past_marks own))) f))
-    by (inl e) (inl b) [] w = except (an_empty_heading before own behind are at kind_is w)
-    by (inl e) (inl b) (x ∷ xs) w =
+    by : Decided (AreEnded (sources (led_by own))) → Answer pages page i is t a
+    by (inr f) = except (unended_marks before own behind are at f)
+    by (inl e) =
         let here : kind_at m own ≡ line.Heading = subst (λ (j : ℕ). kind_at j own ≡ line.Heading) (tables_same before) kind_is in
         let seen : 1 ≤ length (past_marks own) = some_past m own (λ v. let wrong : line.Blank ≡ line.Heading = sym v ∙ here in absurd (cc)) in
         let head : IsLinedHeading m (past_marks own) = record {
           is_heading = kind_led m own seen ∙ here;
-          first = b;
-          some = subst (λ (ys : List Item). 1 ≤ length ys) (sym w) (omega arith);
+          first = head_begins page before own behind n.utf8 are m here seen;
         } in
         let told : AreTold (o ∷ []) behind = (
           record { are_marks = led_marks own; ended = e; some = seen; in_cells = cells; apart = tt; own = head },

@@ -35,7 +35,7 @@ abbrev pub AreFound : List Kept → Trees → Type 0
 AreFound ks none = Unit {0}
 AreFound ks (more (tree l ts) us) = FoundBy (edit_shape l.kind).inline ks l ts × AreFound ks us
 
-as_found : (block : Tree) (at from : ℕ) (l : Label) (ts : Trees) → Finds block (found_at at from (tree l ts)) → IsFoundAs (kept_nodes block) l ts
+pub as_found : (block : Tree) (at from : ℕ) (l : Label) (ts : Trees) → Finds block (found_at at from (tree l ts)) → IsFoundAs (kept_nodes block) l ts
 as_found block at from l ts f = record { kept = kept_of block (found_at at from (tree l ts)); found = f; node = refl }
 
 one_found : (w : InlineForm) (block : Tree) (at from : ℕ) (l : Label) (ts : Trees) → HasOwnBy w l → Every (Finds block) (found_from at from (tree l ts))

@@ -87,11 +87,11 @@ pub record IsSettledIn (pages : Pages) (k : TextBlock) (q : List ℕ) (block : T
   pub some : 0 < number
   pub is : block ≡ settled number at (cut_texts (block_in calls (tree_round k (part_items pages before q))))
 
-block_kind : (pages : Pages) (k : TextBlock) (q : List ℕ) (block : Tree) → IsSettledIn pages k q block → (label block).kind ≡ kind_of (block_of k)
+pub block_kind : (pages : Pages) (k : TextBlock) (q : List ℕ) (block : Tree) → IsSettledIn pages k q block → (label block).kind ≡ kind_of (block_of k)
 block_kind pages a_paragraph q block i = ap (λ (t : Tree). (label t).kind) i.is
 block_kind pages (a_heading w) q block i = ap (λ (t : Tree). (label t).kind) i.is
 
-block_face : (pages : Pages) (k : TextBlock) (q : List ℕ) (block : Tree) → IsSettledIn pages k q block
+pub block_face : (pages : Pages) (k : TextBlock) (q : List ℕ) (block : Tree) → IsSettledIn pages k q block
     → face (record (label block) { kind = kind_of (block_of k) }) ≡ face_of k
 block_face pages a_paragraph q block i = ap (λ (t : Tree). face (record (label t) { kind = kind.Para })) i.is
 block_face pages (a_heading w) q block i = ap (λ (t : Tree). face (record (label t) { kind = kind.Heading w.level })) i.is
@@ -108,7 +108,7 @@ block_closing pages (a_heading w) q block i =
     ap (λ (t : Tree). (label t).closing) i.is
     ∙ text_own i.calls (last_of (last_of None (page_chars (opening w))) inside) (closing_items w) (closing_page w)
 
-no_leaf : (k : TextBlock) → is_leaf (kind_of (block_of k)) ≡ false
+pub no_leaf : (k : TextBlock) → is_leaf (kind_of (block_of k)) ≡ false
 no_leaf a_paragraph = refl
 no_leaf (a_heading w) = refl
 
@@ -122,18 +122,18 @@ block_found pages k q block i h =
     nodes_found block i.number i.some counts (ap is_leaf (block_kind pages k q block i) ∙ no_leaf k) h.own
 
 -- the node of the edit is the page's
-node_by : (k : Kind) (block : Tree) (ts : Trees) → (label block).kind ≡ k → ts ≡ children_of block → tree (record (label block) { kind = k }) ts ≡ block
+pub node_by : (k : Kind) (block : Tree) (ts : Trees) → (label block).kind ≡ k → ts ≡ children_of block → tree (record (label block) { kind = k }) ts ≡ block
 node_by k (tree l cs) ts e is = ap (λ (j : Kind). tree (record l { kind = j }) ts) (sym e) ∙ ap (tree l) is
 
 -- ---- what is written
 
-abbrev setting : TextBlock → Tree → Setting
+abbrev pub setting : TextBlock → Tree → Setting
 setting k block = record { within = false; place = place_of (block_of k); source = flat block }
 
-abbrev signs : TextBlock → Tree → Pieces → List ContentSign
+abbrev pub signs : TextBlock → Tree → Pieces → List ContentSign
 signs k block ps = sent_signs same_node block (place_of (block_of k)) ps
 
-spelled_by : (k : TextBlock) (old block : Tree) (m : Label) (ps : Pieces)
+pub spelled_by : (k : TextBlock) (old block : Tree) (m : Label) (ps : Pieces)
     → inline_spelling same_node old (sent_node (content_edit k block m ps)) (place_of (block_of k)) ≡ spelled (setting k old) (signs k old ps)
 unfolding inline_spelling
 spelled_by k old block m ps = refl
@@ -202,7 +202,7 @@ taken_so pages k q block m ps i w e =
     subst (λ (v : Bool). TextsFit v (sent_pieces ps)) (sym breaks) (pieces_fit (takes_breaks k) ps e.stay e.are (one_line_so k ps e.fits)) in
     ap (λ (t : Tree). bad_content same_node t new) w.node ∙ no_fault same_node block l (sent_pieces ps) w.sent fits
 
-source_so : (pages : Pages) (k : TextBlock) (q : List ℕ) (block : Tree) (m : Label) (ps : Pieces) → IsSettledIn pages k q block
+pub source_so : (pages : Pages) (k : TextBlock) (q : List ℕ) (block : Tree) (m : Label) (ps : Pieces) → IsSettledIn pages k q block
     → edited_source same_node (content_edit k block m ps) ≡ source_of k (new_content k block m ps)
 source_so pages k q block m ps i =
     let now : List ℕ = new_content k block m ps in

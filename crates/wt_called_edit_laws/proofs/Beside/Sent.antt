@@ -51,7 +51,7 @@ use Rattle.wt_called_edit_laws.proofs.Beside.Found.{IsFoundAs, FoundBy, AreFound
 
 -- ---- a node that stays is unchanged
 
-same_kept : (a b : Kept) → Some a ≡ Some b → a ≡ b
+pub same_kept : (a b : Kept) → Some a ≡ Some b → a ≡ b
 same_kept a b e = cc
 
 kept_unchanged : (same : Tree → Tree → Bool) (block : Tree) (l m : Label) (ts us : Trees) → TellsSame same → StandsAsIs (tree l ts) (tree m us)
@@ -69,7 +69,7 @@ kept_unchanged same block l m ts us tells h (inr free) f =
     let it_is : r.kept ≡ f.kept = same_kept r.kept f.kept (sym r.found ∙ ap (λ (i : ℕ). kept_with i ks) h.0.id ∙ f.found) in
     subst (λ (k : Kept). is_unchanged (page_of same block) k (tree m us) ≡ true) it_is r.same
 
-as_kept : (same : Tree → Tree → Bool) (block : Tree) (l m : Label) (ts us : Trees) → TellsSame same → StandsAsIs (tree l ts) (tree m us)
+pub as_kept : (same : Tree → Tree → Bool) (block : Tree) (l m : Label) (ts us : Trees) → TellsSame same → StandsAsIs (tree l ts) (tree m us)
     → IsGroupOrFree (tree l ts) → IsFoundAs (kept_nodes block) l ts → IsUnchanged (page_of same block) m us
 as_kept same block l m ts us tells h g f = record {
   kept = f.kept;

@@ -73,7 +73,7 @@ plain_guard : IsShutTree (inner (plain kind.Nowiki) (page_chars nowiki) nothing 
 unfolding label_at nowiki
 plain_guard = (refl, (refl, tt))
 
-guard_shut : (u : Bool) → AreShutParts (parts Text (guard_items u))
+pub guard_shut : (u : Bool) → AreShutParts (parts Text (guard_items u))
 guard_shut true = let h : IsShutTree (nowiki_tree None nowiki) = subst IsShutTree (sym guard_tree) plain_guard in ((λ e. h), tt)
 guard_shut false = tt
 
@@ -81,7 +81,7 @@ reference_shut : (c : ℕ) → is_escapable c ≡ true → ends_open (reference 
 unfolding reference digits
 reference_shut c e = each_escapable (λ k. ends_open (reference k) ≡ false) refl refl refl refl refl refl refl refl refl refl refl refl refl c e
 
-letter_shut : (e : Bool) (c : ℕ) → (e ≡ true → is_escapable c ≡ true) → AreShutParts (parts Text (letter_items e c))
+pub letter_shut : (e : Bool) (c : ℕ) → (e ≡ true → is_escapable c ≡ true) → AreShutParts (parts Text (letter_items e c))
 unfolding label_at
 letter_shut true c h = ((λ e. (ap ends_open (append-nil (reference c)) ∙ reference_shut c (h refl), (refl, tt))), tt)
 letter_shut false c h = chars_shut None (encode_utf8 c)
@@ -100,7 +100,7 @@ call_shut_parts j (node t ∷ ps) h = (not_page j t h.0, call_shut_parts j ps h.
         let none : list_all is_page (k.first ∷ k.others) ≡ false = ap (λ (v : Bool). v && list_all is_page k.others) first in
         let no : false ≡ true = sym none ∙ of_page in absurd (cc)
 
-own_shut : (pages : Pages) (i : ℕ) (t : Thing) → IsOfFolder t.role pages t → IsShut t → AreShutParts (line_parts (numbered i (page_stretches pages t.source)))
+pub own_shut : (pages : Pages) (i : ℕ) (t : Thing) → IsOfFolder t.role pages t → IsShut t → AreShutParts (line_parts (numbered i (page_stretches pages t.source)))
 own_shut pages i t h s = elim (folder_case t.role pages t h) [
   | inl k ↦
       let stays : StaysAsItIs pages t = k.0 in
@@ -127,7 +127,7 @@ parts_shut pages i s before (thing t ∷ after) h g =
 
 -- ---- what each call gives
 
-guard_none : (j : ℕ) (u : Bool) → of_call j (guard_items u) ≡ []
+pub guard_none : (j : ℕ) (u : Bool) → of_call j (guard_items u) ≡ []
 guard_none j true = refl
 guard_none j false = refl
 
@@ -135,14 +135,14 @@ chars_none : (j : ℕ) (bs : List ℕ) → of_call j (page_chars bs) ≡ []
 chars_none j [] = refl
 chars_none j (b ∷ bs) = chars_none j bs
 
-letter_none : (j : ℕ) (e : Bool) (c : ℕ) → of_call j (letter_items e c) ≡ []
+pub letter_none : (j : ℕ) (e : Bool) (c : ℕ) → of_call j (letter_items e c) ≡ []
 letter_none j true c = refl
 letter_none j false c = chars_none j (encode_utf8 c)
 
-past_both : (j : ℕ) (xs ys zs : List Item) → of_call j xs ≡ [] → of_call j (xs ++ (ys ++ zs)) ≡ of_call j ys ++ of_call j zs
+pub past_both : (j : ℕ) (xs ys zs : List Item) → of_call j xs ≡ [] → of_call j (xs ++ (ys ++ zs)) ≡ of_call j ys ++ of_call j zs
 past_both j xs ys zs e = of_append j xs (ys ++ zs) ∙ ap (λ (us : List Item). us ++ of_call j (ys ++ zs)) e ∙ of_append j ys zs
 
-all_before : (pages : Pages) (i j : ℕ) (s : Setting) (before signs : List ContentSign) → j < i
+pub all_before : (pages : Pages) (i j : ℕ) (s : Setting) (before signs : List ContentSign) → j < i
     → of_call j (items_with s before signs (owns_in pages i signs)) ≡ []
 all_before pages i j s before [] l = guard_none j (is_guarded s before [])
 all_before pages i j s before (letter c ∷ after) l =
@@ -184,7 +184,7 @@ has_call pages i g source h = elim (cases_lt 0 (calls_in pages source)) [
 
 -- ---- among the parts no other call comes before its own
 
-page_none : (j : ℕ) (ps : List Part) → ArePageParts ps → of_call j (held_parts ps) ≡ []
+pub page_none : (j : ℕ) (ps : List Part) → ArePageParts ps → of_call j (held_parts ps) ≡ []
 page_none j [] h = refl
 page_none j (loose Text o b ∷ ps) h =
     of_past j (char o b) (held_parts ps) (ap (λ (x : Option ℕ). same_call x (Some j)) h.0) ∙ page_none j ps h.1
@@ -207,7 +207,7 @@ other_parts i j (node t ∷ ps) e h =
 later_call : (i j : ℕ) → j < i → (i == j) ≡ false
 later_call i j l = grind (arith, nat_tests)
 
-thing_none : (pages : Pages) (i j : ℕ) (t : Thing) → IsOfFolder t.role pages t → j < i → of_call j (held_parts (line_parts (part_items pages i t.source))) ≡ []
+pub thing_none : (pages : Pages) (i j : ℕ) (t : Thing) → IsOfFolder t.role pages t → j < i → of_call j (held_parts (line_parts (part_items pages i t.source))) ≡ []
 thing_none pages i j t h l = elim (folder_case t.role pages t h) [
   | inl k ↦
       let stays : StaysAsItIs pages t = k.0 in
@@ -218,7 +218,7 @@ thing_none pages i j t h l = elim (folder_case t.role pages t h) [
       other_parts i j (line_parts (part_items pages i t.source)) (later_call i j l) gives.inside
 ]
 
-three_none : (j : ℕ) (ps qs rs : List Part) → of_call j (held_parts ps) ≡ [] → of_call j (held_parts qs) ≡ [] → of_call j (held_parts rs) ≡ []
+pub three_none : (j : ℕ) (ps qs rs : List Part) → of_call j (held_parts ps) ≡ [] → of_call j (held_parts qs) ≡ [] → of_call j (held_parts rs) ≡ []
     → of_call j (held_parts (ps ++ (qs ++ rs))) ≡ []
 three_none j ps qs rs e f g =
     ap (of_call j) (held_append ps (qs ++ rs)) ∙ of_append j (held_parts ps) (held_parts (qs ++ rs))
@@ -244,10 +244,10 @@ later_none pages i j s before (thing t ∷ after) h l =
 -- ---- what each call gives is a group by itself
 
 -- from this call on, all items are those of these signs
-abbrev AreLastOf : List Item → ℕ → List Item → Type 0
+abbrev pub AreLastOf : List Item → ℕ → List Item → Type 0
 AreLastOf all i xs = (j : ℕ) → i ≤ j → of_call j all ≡ of_call j xs
 
-last_thing : (pages : Pages) (all : List Item) (i : ℕ) (t : Thing) (u : Bool) (rest : List Item) → AreLastOf all i (guard_items u ++ (part_items pages i t.source ++ rest))
+pub last_thing : (pages : Pages) (all : List Item) (i : ℕ) (t : Thing) (u : Bool) (rest : List Item) → AreLastOf all i (guard_items u ++ (part_items pages i t.source ++ rest))
     → AreLastOf all (i + calls_in pages t.source) rest
 last_thing pages all i t u rest f = λ j l.
     f j (omega (arith, l))
@@ -279,7 +279,7 @@ group_here pages all i s t g before after h k f later =
     (parts_own s (thing t ∷ before) after (owns_in pages next after) (all_inside pages next after k))
     (past_first i (held_parts more) (later_none pages next i s (thing t ∷ before) after k less)) later)
 
-no_groups : (xs : List Item) → AreGroups xs (call_pieces (children []))
+pub no_groups : (xs : List Item) → AreGroups xs (call_pieces (children []))
 unfolding children
 no_groups xs = tt
 

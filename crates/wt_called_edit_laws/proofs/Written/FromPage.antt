@@ -77,7 +77,7 @@ of_utf8 pages (thing t ∷ after) h = (h.0.utf8, of_utf8 pages after h.2)
 
 -- ---- side by side, by what they give
 
-gives_so : (pages : Pages) (i : ℕ) (t : Thing) → IsOfFolder t.role pages t → IsNodeOrGroup t (map glyph_of (part_items pages i t.source))
+pub gives_so : (pages : Pages) (i : ℕ) (t : Thing) → IsOfFolder t.role pages t → IsNodeOrGroup t (map glyph_of (part_items pages i t.source))
 gives_so pages i t h = elim (folder_case t.role pages t h) [
   | inl k ↦
       let stays : StaysAsItIs pages t = k.0 in

@@ -115,7 +115,7 @@ b_beside pages s ts w h =
 
 -- ---- so letters may be typed
 
-takes : (pages : Pages) (q : List ℕ) (s : Setting) (ts : List Thing) → IsWrittenBeside pages s (begun 97 ts) → IsWrittenBeside pages s (begun 98 ts)
+pub takes : (pages : Pages) (q : List ℕ) (s : Setting) (ts : List Thing) → IsWrittenBeside pages s (begun 97 ts) → IsWrittenBeside pages s (begun 98 ts)
     → IsNewContentIn pages a_paragraph q (spelled s (begun 97 ts)) → IsNewContentIn pages a_paragraph q (spelled s (begun 98 ts))
     → TakesLetters pages a_paragraph q
 takes pages q s ts a b g h = record {

@@ -69,7 +69,7 @@ shown_byte true v xs e f = cc
 shown_byte false true xs e f = cc
 shown_byte false false xs e f = refl
 
-opens_shown : (xs : List Item) → Opens xs → begins_shown xs ≡ true
+pub opens_shown : (xs : List Item) → Opens xs → begins_shown xs ≡ true
 opens_shown [] h = absurd h
 opens_shown (whole f o bs ∷ xs) h = refl
 opens_shown (char o b ∷ xs) h = shown_byte (is_blank b) (is_break b) xs (neither (b == 32) (b == 9) h.space h.tab) h.break
@@ -98,7 +98,7 @@ call_shown source more c =
     (sources_append (page_items source) more ∙ ap (λ (bs : List ℕ). bs ++ sources more) (page_sources source ∙ c.is)) refl refl
 
 -- a node that begins it, where nothing is put before
-thing_shown : (s : Setting) (t : Thing) (after : List ContentSign) (more : List Item) → s.within ≡ false → is_guarded s [] (thing t ∷ after) ≡ false → IsReadThing t
+pub thing_shown : (s : Setting) (t : Thing) (after : List ContentSign) (more : List Item) → s.within ≡ false → is_guarded s [] (thing t ∷ after) ≡ false → IsReadThing t
     → begins_shown (node_items t.source ++ more) ≡ true
 thing_shown s t after more w g h = elim h.source [
   | inl k ↦

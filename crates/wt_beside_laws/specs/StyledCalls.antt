@@ -1,0 +1,103 @@
+-- A content with styles among whose signs are calls: what it is in the page, where the items of each sign that is no character are given.
+use Rattle.std.specs.Prelude.{◌≡◌, ◌⊎◌, ◌==◌, Bool, true, false, not, List, [], ◌∷◌, ◌++◌, encode_utf8, if◌then◌else◌, ◌&&◌, ◌||◌}
+use Rattle.wt_span.specs.Characters as byte
+use Rattle.wt_span.specs.Items.{Item}
+use Rattle.wt_tree.specs.Plain.{Plains, ended, text_before}
+use Rattle.wt_guards.specs.Content.{ContentSign, Thing, is_group, letter, thing}
+use Rattle.wt_guards.specs.Guards.{Setting, is_guarded}
+use Rattle.wt_guards.specs.Letters.{is_escaped}
+use Rattle.wt_inline.specs.Parts.{Part, node, parts}
+use Rattle.wt_inline.specs.declared.loose.Loose.TheVariants.{Text}
+use Rattle.wt_context.specs.Line.{line_parts}
+use Rattle.wt_part_laws.specs.CallPieces.{AreOwnOrGiven}
+use Rattle.wt_beside_laws.specs.Called.{AllMeetWith, AreGiven, ArePageParts}
+use Rattle.wt_beside_laws.specs.Content.{guard_items, letter_items}
+use Rattle.wt_beside_laws.specs.Lines.{AreCharacters}
+use Rattle.wt_beside_laws.specs.Nests.{style_tree}
+use Rattle.wt_beside_laws.specs.Shown.{parts_shown_at}
+use Rattle.wt_beside_laws.specs.Styled.{AreNested, StyledContent, delimiter, finished, sign, signs_before, signs_in, signs_past, styled}
+use Rattle.wt_beside_laws.specs.StyledShown.{style_shown}
+
+-- ---- the items that are given, in the order of the nodes and delimiters
+
+abbrev pub owns_left : List (List Item) → List (List Item)
+owns_left [] = []
+owns_left (own ∷ owns) = owns
+
+-- behind those of a content
+abbrev pub owns_past : StyledContent → List (List Item) → List (List Item)
+owns_past finished owns = owns
+owns_past (sign (letter c) t) owns = owns_past t owns
+owns_past (sign (thing x) t) owns = owns_past t (owns_left owns)
+owns_past (styled bold opening closing inside t) owns = owns_past t (owns_left (owns_past inside (owns_left owns)))
+
+-- ---- what it is
+
+-- Each style is a node round what is inside it, and each node is what its items are on a line by themselves. If so asked, this goes up to the end of
+-- the line.
+abbrev pub styled_with : Bool → Setting → List ContentSign → StyledContent → List ContentSign → List (List Item) → List Part
+styled_with line s before finished after owns = parts Text (guard_items (is_guarded s before after))
+styled_with line s before (sign (letter c) t) after owns =
+    parts Text (guard_items (is_guarded s before (letter c ∷ signs_before t after)))
+    ++ (if line && c == byte.line_break then [] else
+    parts Text (letter_items (is_escaped s.within s.place before c (signs_before t after)) c) ++ styled_with line s (letter c ∷ before) t after owns)
+styled_with line s before (sign (thing x) t) after [] = parts Text (guard_items (is_guarded s before (thing x ∷ signs_before t after)))
+styled_with line s before (sign (thing x) t) after (own ∷ owns) =
+    parts Text (guard_items (is_guarded s before (thing x ∷ signs_before t after))) ++ (line_parts own ++ styled_with line s (thing x ∷ before) t after owns)
+styled_with line s before (styled bold opening closing inside t) after owns =
+    parts Text (guard_items (is_guarded s before (delimiter bold opening ∷ signs_before inside (delimiter bold closing ∷ signs_before t after))))
+    ++ (node (style_tree bold (styled_with false s (delimiter bold opening ∷ before) inside (delimiter bold closing ∷ signs_before t after) (owns_left owns)))
+    ∷ styled_with line s (delimiter bold closing ∷ signs_past inside (delimiter bold opening ∷ before)) t after (owns_left (owns_past inside (owns_left owns))))
+
+-- ---- the nodes
+
+-- there are some
+abbrev pub AreSomeOfPage : List Part → Type 0
+AreSomeOfPage [] = ⊥
+AreSomeOfPage (p ∷ ps) = ArePageParts (p ∷ ps)
+
+-- on a line by itself: what a call gives, or something of the page; in a style it is of the page
+abbrev pub IsOwnAt : Bool → Thing → List Item → Type 0
+IsOwnAt true x own = AreSomeOfPage (line_parts own)
+IsOwnAt false x own = ((is_group x.role ≡ true) × AreOwnOrGiven (line_parts own)) ⊎ AreSomeOfPage (line_parts own)
+
+-- of all nodes, delimiters apart; these are in a style, or else some may be
+abbrev pub AreOwnAt : Bool → StyledContent → List (List Item) → Type 0
+AreOwnAt within finished owns = Unit {0}
+AreOwnAt within (sign (letter c) t) owns = AreOwnAt within t owns
+AreOwnAt within (sign (thing x) t) [] = ⊥
+AreOwnAt within (sign (thing x) t) (own ∷ owns) = IsOwnAt within x own × AreOwnAt within t owns
+AreOwnAt within (styled bold opening closing inside t) owns =
+    AreOwnAt true inside (owns_left owns) × AreOwnAt within t (owns_left (owns_past inside (owns_left owns)))
+
+-- ---- it isn't calls alone
+
+abbrev pub has_uncalled : StyledContent → Bool
+has_uncalled finished = false
+has_uncalled (sign (letter c) t) = true
+has_uncalled (sign (thing x) t) = not (is_group x.role) || has_uncalled t
+has_uncalled (styled bold opening closing inside t) = true
+
+-- ---- the content
+
+-- Texts that are typed beside calls and nodes that stay, and bold and italic round texts and nodes, with no call in it; something else than
+-- calls is there.
+pub record IsStyledCalled (s : Setting) (t : StyledContent) (owns : List (List Item)) : Type 0 where
+  pub of_block : s.within ≡ false
+  pub characters : AreCharacters (signs_in t)
+  pub given : AreGiven (signs_in t) owns
+  pub own : AreOwnAt false t owns
+  pub nested : AreNested false false t
+  pub meet : AllMeetWith s [] [] (signs_in t) owns
+  pub some : has_uncalled t ≡ true
+
+-- ---- what it shows
+
+-- the texts, each node as its items show by themselves, and bold and italic round them
+abbrev pub styled_called_shown : StyledContent → List (List Item) → Plains → Plains
+styled_called_shown finished owns rest = rest
+styled_called_shown (sign (letter c) t) owns rest = text_before (encode_utf8 c) (styled_called_shown t owns rest)
+styled_called_shown (sign (thing x) t) [] rest = rest
+styled_called_shown (sign (thing x) t) (own ∷ owns) rest = parts_shown_at 0 [] (line_parts own) (styled_called_shown t owns rest)
+styled_called_shown (styled bold opening closing inside t) owns rest =
+    style_shown bold (styled_called_shown inside (owns_left owns) ended) (styled_called_shown t (owns_left (owns_past inside (owns_left owns))) rest)

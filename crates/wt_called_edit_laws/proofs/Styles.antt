@@ -1,0 +1,15 @@
+-- Bold and italic beside calls: what is sent for a paragraph of the page is taken, and makes the new one.
+pub mod Found
+pub mod Sent
+pub mod Faults
+pub mod Put
+pub mod Things
+pub mod Free
+pub mod Shown
+pub mod Written
+pub mod Lined
+pub mod Groups
+pub mod Whole
+pub mod Making
+pub mod Cases
+mod PageCases

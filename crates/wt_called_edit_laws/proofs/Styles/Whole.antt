@@ -1,0 +1,259 @@
+-- What is written beside calls and styles can be read by itself.
+use Rattle.std.proofs.Common.{◌≡◌, inl, inr, ℕ, ◌+◌, Bool, true, false, not, Option, None, List, [], ◌∷◌, ◌++◌, length, map, ap, refl, subst, sym, ◌||◌, ◌∙◌}
+use Rattle.wt_span.proofs.RunLaws.{runs_are}
+use Rattle.wt_span.specs.Items.{Item}
+use Rattle.wt_span.specs.Origins.{OuterCall}
+use Rattle.wt_span.specs.Runs.{AreRuns, IsRun, runs}
+use Rattle.wt_tree.specs.Plain.{Plains, along, element, ended, plain_before}
+use Rattle.wt_tree.specs.Tiling.{HasNoGroup, NoneIsGroup}
+use Rattle.wt_tree.specs.Tree.{Tree, Trees, more, none, tree}
+use Rattle.wt_guards.proofs.Escapes.{escapable}
+use Rattle.wt_guards.specs.Content.{ContentSign, Thing, letter, thing}
+use Rattle.wt_guards.specs.Guards.{Setting, is_guarded, nowiki, spelled}
+use Rattle.wt_guards.specs.Letters.{is_escaped}
+use Rattle.wt_lines.specs.Lines.{lines}
+use Rattle.wt_inline.specs.ItemTree.{ItemTree, forest, tree_items}
+use Rattle.wt_inline.specs.Parts.{Part, child, children, held_parts, loose, loose_leaf, node, one_leaf, parts}
+use Rattle.wt_inline.specs.declared.loose.Loose.TheVariants.{Sep, Text}
+use Rattle.wt_context.specs.Line.{line_parts}
+use Rattle.wt_annotated.specs.CutTexts.{cut_texts}
+use Rattle.wt_annotated.specs.Labels.{label_at}
+use Rattle.wt_annotated.specs.Numbering.{count, with_numbers}
+use Rattle.wt_annotated.specs.WithoutCalls.{placed}
+use Rattle.wt_isolation.specs.OpenTags.{any_ends_open, node_ends_open}
+use Rattle.wt_selser.specs.GroupFaults.{paragraph_face}
+use Rattle.wt_expand.specs.PageCalls.{expanded_page}
+use Rattle.wt_expand.specs.Work.{Pages}
+use Rattle.wt_part_laws.proofs.GroupsStay.{numbers_gone}
+use Rattle.wt_part_laws.proofs.OwnWalks.{walk_own}
+use Rattle.wt_part_laws.proofs.Recuts.{texts_same}
+use Rattle.wt_part_laws.specs.CallPieces.{AreOwnOrGiven, call_pieces}
+use Rattle.wt_part_laws.specs.Expanded.{part_items}
+use Rattle.wt_part_laws.specs.HeldCalls.{HoldsItsCalls, block_in}
+use Rattle.wt_part_laws.specs.Placeless.{all_placeless, placeless}
+use Rattle.wt_part_laws.specs.Rounded.{IsOwn}
+use Rattle.wt_part_laws.specs.Standing.{standing}
+use Rattle.wt_text_edit_laws.proofs.Blocks.Untangled.{open_same}
+use Rattle.wt_text_edit_laws.specs.ParagraphParts.{joined_parts, para_with}
+use Rattle.wt_text_edit_laws.specs.TextBlocks.{a_paragraph}
+use Rattle.wt_beside_laws.proofs.Made.Items.{PartsHave}
+use Rattle.wt_beside_laws.proofs.PartThings.{nodes_of}
+use Rattle.wt_beside_laws.proofs.Styled.SentStyles.{nowiki_alone}
+use Rattle.wt_beside_laws.proofs.Styled.StyledNodes.{nowiki_items}
+use Rattle.wt_beside_laws.proofs.StyledGroups.Blocks.{styled_called_holds, styled_own, within_have}
+use Rattle.wt_beside_laws.proofs.StyledGroups.Paragraphs.{styled_called_parts}
+use Rattle.wt_beside_laws.proofs.StyledGroups.Shown.{styled_called_shows}
+use Rattle.wt_beside_laws.specs.Called.{items_with, owns_in}
+use Rattle.wt_beside_laws.specs.Content.{guard_items, letter_items}
+use Rattle.wt_beside_laws.specs.Flat.{IsFlat}
+use Rattle.wt_beside_laws.specs.Nests.{marks, style_tree}
+use Rattle.wt_beside_laws.specs.NodeItems.{node_items}
+use Rattle.wt_beside_laws.specs.Styled.{AreNested, StyledContent, delimiter, finished, mark_source, sign, signs_before, signs_in, signs_past, styled}
+use Rattle.wt_beside_laws.specs.StyledCalls.{AreOwnAt, owns_left, owns_past, styled_with}
+use Rattle.wt_called_edit_laws.proofs.SettledNodes.{placeless_groupless}
+use Rattle.wt_called_edit_laws.proofs.Styles.Lined.{own_calls}
+use Rattle.wt_called_edit_laws.proofs.Styles.Put.{put_items, put_outer, put_source}
+use Rattle.wt_called_edit_laws.proofs.Styles.Shown.{calls_behind, folder_shown, past_as, shown_as}
+use Rattle.wt_called_edit_laws.proofs.Styles.Things.{AreStyledThings, IsStyledThing}
+use Rattle.wt_called_edit_laws.proofs.Styles.Written.{IsStyledWritten, each_behind, flat_put, styled_gives, styled_in}
+use Rattle.wt_called_edit_laws.proofs.Styles.Groups.{groups_styled}
+use Rattle.wt_called_edit_laws.proofs.Whole.Contents.{calls_both, guard_shut, letter_shut, moved_shut, own_shut, shut_both, thing_calls}
+use Rattle.wt_called_edit_laws.specs.CalledContents.{tree_round}
+use Rattle.wt_called_edit_laws.specs.WholeContents.{AreGroups, AreShutCalls, AreShutParts, HoldsGroups, IsWholeIn}
+use Rattle.wt_called_edit_laws.specs.Written.{written_calls}
+use Rattle.wt_called_edit_laws.specs.WrittenAnew.{HoldsAnywhere}
+
+-- ---- a node of the page is the same node but for its number and place
+
+half : (n : ℕ) (before : List Item) (u : ItemTree) → IsOwn u → placeless (standing n before u) ≡ cut_texts (placeless (placed [] u))
+half n before u h =
+    texts_same (with_numbers n (placed before u))
+    ∙ ap cut_texts
+    (numbers_gone n (placed before u) ∙ sym (walk_own [] None 0 None before u h.of_page h.has_items) ∙ walk_own [] None 0 None [] u h.of_page h.has_items)
+
+same_node : (n : ℕ) (before : List Item) (u : ItemTree) → IsOwn u → placeless (standing n before u) ≡ placeless (standing 0 [] u)
+same_node n before u h = half n before u h ∙ sym (half 0 [] u h)
+
+mutual
+  groupless_back : (t : Tree) → HasNoGroup (placeless t) → HasNoGroup t
+  groupless_back (tree l ts) h = (h.0, all_back ts h.1)
+
+  all_back : (ts : Trees) → NoneIsGroup (all_placeless ts) → NoneIsGroup ts
+  all_back none h = tt
+  all_back (more t ts) h = (groupless_back t h.0, all_back ts h.1)
+
+-- it doesn't end in an open tag and is no group, and it holds none
+abbrev IsShutHere : Tree → Type 0
+IsShutHere t = (node_ends_open t ≡ false) × HasNoGroup t
+
+moved_shut_node : (n : ℕ) (before : List Item) (u : ItemTree) → IsOwn u → IsShutHere (standing 0 [] u) → IsShutHere (standing n before u)
+moved_shut_node n before u h s = (
+  sym (open_same (standing n before u)) ∙ ap node_ends_open (same_node n before u h) ∙ open_same (standing 0 [] u) ∙ s.0,
+  groupless_back (standing n before u) (subst HasNoGroup (sym (same_node n before u h)) (placeless_groupless (standing 0 [] u) s.1)),
+)
+
+-- ---- parts of the page
+
+abbrev AllShut : List Part → Type 0
+AllShut [] = Unit {0}
+AllShut (loose Text o b ∷ ps) = AllShut ps
+AllShut (loose Sep o b ∷ ps) = ⊥
+AllShut (node u ∷ ps) = ((n : ℕ) (before : List Item) → IsShutHere (standing n before u)) × AllShut ps
+
+all_shut : (ps : List Part) → PartsHave ps → AreShutParts ps → AllShut ps
+all_shut [] h s = tt
+all_shut (loose Text o b ∷ ps) h s = all_shut ps h.1 s
+all_shut (loose Sep o b ∷ ps) h s = absurd s
+all_shut (node u ∷ ps) h s =
+    ((λ n before. moved_shut_node n before u (record { of_page = h.0.1; has_items = h.0.0 }) (s.0 h.0.1)), all_shut ps h.1 s.1)
+
+leaf_shut : (xs : List Item) (n : ℕ) (before : List Item) → IsShutHere (standing n before (loose_leaf Text xs))
+unfolding label_at
+leaf_shut xs n before = (refl, (refl, tt))
+
+past_run : (o : Option ℕ) (b : ℕ) (r others : List Part) → IsRun one_leaf (loose Text o b ∷ r) others → AllShut (r ++ others) → AllShut others
+past_run o b [] others run h = h
+past_run o b (loose Text i c ∷ r) others run h = past_run i c r others run.1 h
+past_run o b (loose Sep i c ∷ r) others run h = absurd h
+past_run o b (node x ∷ r) others run h = absurd (let no = run.0 in cc)
+
+abbrev AreShutNodes : Trees → Type 0
+AreShutNodes ts = (any_ends_open ts ≡ false) × NoneIsGroup ts
+
+both_shut : (t : Tree) (ts : Trees) → IsShutHere t → AreShutNodes ts → AreShutNodes (more t ts)
+both_shut t ts h k = (ap (λ (b : Bool). b || any_ends_open ts) h.0 ∙ k.0, (h.1, k.1))
+
+runs_shut : (rs : List (List Part)) (ps : List Part) (n : ℕ) (before : List Item) → AreRuns one_leaf rs ps → AllShut ps
+    → AreShutNodes (nodes_of n before (forest (map child rs)))
+runs_shut [] ps n before a h = (refl, tt)
+runs_shut ([] ∷ rs) ps n before a h = absurd a.2
+runs_shut ((loose Text o b ∷ r) ∷ rs) ps n before a h =
+    let u : ItemTree = child (loose Text o b ∷ r) in
+    let m : ℕ = count (placed before u) in
+    let own : AllShut (r ++ a.0) = subst AllShut a.1 h in
+    both_shut (standing n before u) (nodes_of (n + m) (before ++ tree_items u) (forest (map child rs))) (leaf_shut (held_parts (loose Text o b ∷ r)) n before)
+    (runs_shut rs a.0 (n + m) (before ++ tree_items u) a.3 (past_run o b r a.0 a.2 own))
+runs_shut ((loose Sep o b ∷ r) ∷ rs) ps n before a h = absurd (subst AllShut a.1 h)
+runs_shut ((node u ∷ []) ∷ rs) ps n before a h =
+    let m : ℕ = count (placed before u) in
+    let own : AllShut (node u ∷ a.0) = subst AllShut a.1 h in
+    both_shut (standing n before u) (nodes_of (n + m) (before ++ tree_items u) (forest (map child rs))) (own.0 n before)
+    (runs_shut rs a.0 (n + m) (before ++ tree_items u) a.3 own.1)
+runs_shut ((node u ∷ p ∷ r) ∷ rs) ps n before a h = absurd (let no = a.2.0 in cc)
+
+children_shut : (ps : List Part) (n : ℕ) (before : List Item) → AllShut ps → AreShutNodes (nodes_of n before (forest (children ps)))
+unfolding children
+children_shut ps n before h = runs_shut (runs one_leaf ps) ps n before (runs_are one_leaf ps) h
+
+-- ---- a style
+
+style_shut : (kind : Bool) (ps : List Part) → AllShut ps → IsShutHere (standing 0 [] (style_tree kind ps))
+unfolding label_at
+style_shut true ps h = let r = children_shut ps 1 (marks true) h in (r.0, (refl, r.1))
+style_shut false ps h = let r = children_shut ps 1 (marks false) h in (r.0, (refl, r.1))
+
+-- ---- the content
+
+nowiki_shut : AreShutParts (line_parts (node_items nowiki))
+nowiki_shut = subst AreShutParts (sym (ap line_parts nowiki_items ∙ nowiki_alone)) (guard_shut true)
+
+one_shut : (pages : Pages) (i : ℕ) (x : Thing) → IsStyledThing pages x → IsFlat x.role → AreShutParts (line_parts (part_items pages i x.source))
+one_shut pages i x (inl k) f = let own = k.0 in own_shut pages i x own.folder own.shut
+one_shut pages i x (inr p) f =
+    subst (λ (xs : List Item). AreShutParts (line_parts xs)) (sym (put_items pages i x.source (put_source x p)))
+    (subst (λ (bs : List ℕ). AreShutParts (line_parts (node_items bs))) (sym (flat_put x p f)) nowiki_shut)
+
+styled_shut : (pages : Pages) (i : ℕ) (s : Setting) (within bold italic : Bool) (before : List ContentSign) (t : StyledContent) (after others : List ContentSign)
+    → AreStyledThings pages (signs_before t after) → AreNested bold italic t → AreOwnAt within t (owns_in pages i (signs_before t after))
+    → AreShutParts (styled_with false s before t others (owns_in pages i (signs_before t after)))
+styled_shut pages i s within bold italic before finished after others h k o = guard_shut (is_guarded s before others)
+styled_shut pages i s within bold italic before (sign (letter c) t) after others h k o =
+    let rest : List ContentSign = signs_before t others in
+    let e : Bool = is_escaped s.within s.place before c rest in
+    let owns : List (List Item) = owns_in pages i (signs_before t after) in
+    let more_parts : List Part = styled_with false s (letter c ∷ before) t others owns in
+    shut_both (parts Text (guard_items (is_guarded s before (letter c ∷ rest)))) (parts Text (letter_items e c) ++ more_parts) (guard_shut (is_guarded s before (letter c ∷ rest)))
+    (shut_both (parts Text (letter_items e c)) more_parts (letter_shut e c (λ z. escapable s.within s.place before c rest z))
+    (styled_shut pages i s within bold italic (letter c ∷ before) t after others h k.1 o))
+styled_shut pages i s within bold italic before (sign (thing x) t) after others h k o =
+    let y : ContentSign = thing x in
+    let rest : List ContentSign = signs_before t others in
+    let own : List Item = part_items pages i x.source in
+    let next : ℕ = i + length (expanded_page pages x.source).outer in
+    let more_parts : List Part = styled_with false s (y ∷ before) t others (owns_in pages next (signs_before t after)) in
+    shut_both (parts Text (guard_items (is_guarded s before (y ∷ rest)))) (line_parts own ++ more_parts) (guard_shut (is_guarded s before (y ∷ rest)))
+    (shut_both (line_parts own) more_parts (one_shut pages i x h.0 k.0) (styled_shut pages next s within bold italic (y ∷ before) t after others h.1 k.1 o.1))
+styled_shut pages i s within bold italic before (styled kind opening closing inside t) after others h k o =
+    let closes : List ContentSign = delimiter kind closing ∷ signs_before t after in
+    let shown_closes : List ContentSign = delimiter kind closing ∷ signs_before t others in
+    let first : List ContentSign = delimiter kind opening ∷ before in
+    let last : List ContentSign = delimiter kind closing ∷ signs_past inside first in
+    let j : ℕ = i + length (expanded_page pages (mark_source kind)).outer in
+    let m : ℕ = calls_behind pages j inside + length (expanded_page pages (mark_source kind)).outer in
+    let owns : List (List Item) = owns_in pages j (signs_before inside closes) in
+    let ps : List Part = styled_with false s first inside shown_closes owns in
+    let left : List (List Item) = owns_left (owns_past inside owns) in
+    let same : owns_past inside owns ≡ owns_in pages (calls_behind pages j inside) closes = past_as pages j inside closes in
+    let qs : List Part = styled_with false s last t others left in
+    let held : AreShutParts ps = styled_shut pages j s true (kind || bold) (not kind || italic) first inside closes shown_closes h.1 k.1 o.0 in
+    let out : AreOwnAt within t (owns_in pages m (signs_before t after)) =
+    subst (λ (os : List (List Item)). AreOwnAt within t (owns_left os)) same o.1 in
+    let later : AreShutParts qs =
+    subst (λ (os : List (List Item)). AreShutParts (styled_with false s last t others (owns_left os))) (sym same)
+    (styled_shut pages m s within bold italic last t after others (each_behind pages inside closes h.1).1 k.2 out) in
+    let u : ItemTree = style_tree kind ps in
+    let own = style_shut kind ps (all_shut ps (within_have s first inside shown_closes owns o.0) held) in
+    shut_both (parts Text (guard_items (is_guarded s before (delimiter kind opening ∷ signs_before inside shown_closes)))) (node u ∷ qs)
+    (guard_shut (is_guarded s before (delimiter kind opening ∷ signs_before inside shown_closes))) ((λ e. own), later)
+
+-- ---- the calls of a node
+
+shut_things : (pages : Pages) (signs : List ContentSign) → AreStyledThings pages signs → AreShutCalls (written_calls pages signs)
+shut_things pages [] h = tt
+shut_things pages (letter c ∷ after) h = shut_things pages after h
+shut_things pages (thing x ∷ after) h = calls_both (expanded_page pages x.source).outer (written_calls pages after) (one_calls h.0) (shut_things pages after h.1)
+  where
+    one_calls : IsStyledThing pages x → AreShutCalls (expanded_page pages x.source).outer
+    one_calls (inl k) = let own = k.0 in let s = own.shut in thing_calls pages x own.folder s.0
+    one_calls (inr p) = subst AreShutCalls (sym (put_outer pages x.source (put_source x p))) tt
+
+-- ---- the content
+
+styled_groups : (pages : Pages) (s : Setting) (t : StyledContent) → IsStyledWritten pages s t → HoldsGroups pages a_paragraph (spelled s (signs_in t))
+styled_groups pages s t h =
+    let signs : List ContentSign = signs_in t in
+    let b = own_calls pages s t h in
+    let given : (i : ℕ) → joined_parts (lines (part_items pages i (spelled s signs))) ≡ styled_with false s [] t [] (owns_in pages i signs) =
+    λ i. ap (λ (xs : List Item). joined_parts (lines xs)) (styled_gives pages i s t h) ∙ styled_called_parts s t (owns_in pages i signs) (styled_in pages i s t h) in
+    record {
+      parts = λ i.
+          let own = styled_in pages i s t h in
+          subst AreOwnOrGiven (sym (given i)) (styled_own s [] t [] (owns_in pages i signs) own.own);
+      groups = λ i.
+          let own = styled_in pages i s t h in
+          subst (λ (ps : List Part). AreGroups (part_items pages i (spelled s signs)) (call_pieces (children ps))) (sym (given i))
+          (subst (λ (xs : List Item). AreGroups xs (call_pieces (children (styled_with false s [] t [] (owns_in pages i signs))))) (sym (styled_gives pages i s t h))
+          (groups_styled pages (items_with s [] signs (owns_in pages i signs)) i s [] t h.each h.nested own.own (λ j l. refl)));
+      shut = λ i.
+          let own = styled_in pages i s t h in
+          subst AreShutParts (sym (given i)) (styled_shut pages i s false false false [] t [] [] h.each h.nested own.own);
+      shut_calls = moved_shut (written_calls pages signs) (expanded_page pages (spelled s signs)).outer b.calls_are (shut_things pages signs h.each);
+    }
+
+pub styled_whole : (pages : Pages) (s : Setting) (t : StyledContent) → IsStyledWritten pages s t → IsWholeIn pages a_paragraph (spelled s (signs_in t))
+styled_whole pages s t h = inr (styled_groups pages s t h)
+
+-- ---- and holds its calls, and shows what was sent
+
+pub styled_anywhere : (pages : Pages) (s : Setting) (t : StyledContent) → IsStyledWritten pages s t → HoldsAnywhere pages a_paragraph (spelled s (signs_in t))
+styled_anywhere pages s t h = λ i.
+    subst (λ (xs : List Item). HoldsItsCalls (para_with (joined_parts (lines xs)))) (sym (styled_gives pages i s t h))
+    (styled_called_holds s t (owns_in pages i (signs_in t)) (styled_in pages i s t h))
+
+pub styled_shows : (pages : Pages) (calls : List OuterCall) (i : ℕ) (s : Setting) (t : StyledContent) (rest : Plains) → IsStyledWritten pages s t
+    → plain_before (cut_texts (block_in calls (tree_round a_paragraph (part_items pages i (spelled s (signs_in t)))))) rest
+    ≡ along (element paragraph_face (folder_shown pages i t ended)) rest
+styled_shows pages calls i s t rest h =
+    ap (λ (xs : List Item). plain_before (cut_texts (block_in calls (para_with (joined_parts (lines xs))))) rest) (styled_gives pages i s t h)
+    ∙ styled_called_shows calls s t (owns_in pages i (signs_in t)) rest (styled_in pages i s t h)
+    ∙ ap (λ (qs : Plains). along (element paragraph_face qs) rest) (shown_as pages i t [] ended)

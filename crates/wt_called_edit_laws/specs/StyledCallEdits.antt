@@ -1,0 +1,163 @@
+-- A paragraph of the page with calls and with bold and italic in it, for which one with other texts beside these calls, and with other styles, is sent:
+-- what is written for it.
+use Rattle.std.specs.Prelude.{◌≡◌, ℕ, true, false, List, [], ◌∷◌, ◌≢◌}
+use Rattle.std.specs.Str.{IsUtf8}
+use Rattle.wt_tree.specs.EditShapes.{edit_shape}
+use Rattle.wt_tree.specs.Plain.{face}
+use Rattle.wt_tree.specs.Source.{flat}
+use Rattle.wt_tree.specs.Tiling.{NoneIsGroup}
+use Rattle.wt_tree.specs.Tree.{Label, Tree, Trees, more, none, tree}
+use Rattle.wt_tree.specs.declared.edit_shape.InlineForm.{InlineForm}
+use Rattle.wt_tree.specs.declared.edit_shape.InlineForm.TheVariants as inline
+use Rattle.wt_guards.specs.Content.{Thing, is_group}
+use Rattle.wt_guards.specs.declared.role.Role.{Role}
+use Rattle.wt_guards.specs.declared.role.Role.TheVariants.{Bare, External, Function, Group, Link, Mark, Node, Switch, Toggle}
+use Rattle.wt_context.specs.Line.{line_parts}
+use Rattle.wt_link_spelling.specs.Spelling.{children_of}
+use Rattle.wt_expand.specs.PageCalls.{expanded_page}
+use Rattle.wt_expand.specs.Work.{Pages}
+use Rattle.wt_typed_blocks.specs.Edited.{Pieces, PiecesStay, around, gone, kept, new_style, no_pieces, page_pieces, written}
+use Rattle.wt_beside_laws.specs.Cuts.{own_glyphs}
+use Rattle.wt_beside_laws.specs.FlatBlocks.{sent_for}
+use Rattle.wt_beside_laws.specs.FlatPages.{AreNodesAndTexts}
+use Rattle.wt_beside_laws.specs.NewStyles.{NewStylesNest}
+use Rattle.wt_beside_laws.specs.NodeItems.{node_items}
+use Rattle.wt_beside_laws.specs.SentStyled.{AllNest, style_face}
+use Rattle.wt_beside_laws.specs.StyledCalls.{AreSomeOfPage, has_uncalled}
+use Rattle.wt_beside_laws.specs.StyledNodes.{EndsUnquoted}
+use Rattle.wt_called_edit_laws.specs.CalledEdits.{IsChildBeside, page_things}
+use Rattle.wt_called_edit_laws.specs.InPieces.{AreInPieces, pieces_source}
+use Rattle.wt_called_edit_laws.specs.PageThings.{ArePageThings, thing_sources}
+use Rattle.wt_called_edit_laws.specs.WrittenAnew.{StayButForOthers}
+
+-- ---- the block
+
+-- texts and separators, nodes with a number, and so what is in bold and italic
+abbrev pub HasNumberBy : InlineForm → Label → Type 0 → Type 0
+HasNumberBy inline.Nothing l inside = Unit {0}
+HasNumberBy inline.Characters l inside = Unit {0}
+HasNumberBy inline.Bold l inside = (l.id ≢ 0) × inside
+HasNumberBy inline.Italic l inside = (l.id ≢ 0) × inside
+HasNumberBy inline.Shown l inside = l.id ≢ 0
+HasNumberBy inline.PageLink l inside = l.id ≢ 0
+HasNumberBy inline.ExternalLink l inside = l.id ≢ 0
+HasNumberBy inline.Tag l inside = l.id ≢ 0
+HasNumberBy inline.Break l inside = l.id ≢ 0
+HasNumberBy inline.AsItStood l inside = l.id ≢ 0
+
+abbrev mutual
+  pub HasNumbers : Tree → Type 0
+  HasNumbers (tree l ts) = HasNumberBy (edit_shape l.kind).inline l (HaveNumbers ts)
+
+  pub HaveNumbers : Trees → Type 0
+  HaveNumbers none = Unit {0}
+  HaveNumbers (more t ts) = HasNumbers t × HaveNumbers ts
+
+-- a text, whose characters are UTF-8; bold or italic without attributes, with no call in it; a group, or another node without groups
+abbrev pub IsBesideBy : InlineForm → Pages → Label → Trees → Type 0 → Type 0
+IsBesideBy inline.Nothing pages l ts inside = IsChildBeside pages (tree l ts)
+IsBesideBy inline.Characters pages l ts inside = IsUtf8 l.shown × IsChildBeside pages (tree l ts)
+IsBesideBy inline.Bold pages l ts inside = (face l ≡ style_face true) × NoneIsGroup ts × inside
+IsBesideBy inline.Italic pages l ts inside = (face l ≡ style_face false) × NoneIsGroup ts × inside
+IsBesideBy inline.Shown pages l ts inside = IsChildBeside pages (tree l ts)
+IsBesideBy inline.PageLink pages l ts inside = IsChildBeside pages (tree l ts)
+IsBesideBy inline.ExternalLink pages l ts inside = IsChildBeside pages (tree l ts)
+IsBesideBy inline.Tag pages l ts inside = IsChildBeside pages (tree l ts)
+IsBesideBy inline.Break pages l ts inside = IsChildBeside pages (tree l ts)
+IsBesideBy inline.AsItStood pages l ts inside = IsChildBeside pages (tree l ts)
+
+abbrev mutual
+  pub IsNodeBeside : Pages → Tree → Type 0
+  IsNodeBeside pages (tree l ts) = IsBesideBy (edit_shape l.kind).inline pages l ts (AreNodesBeside pages ts)
+
+  pub AreNodesBeside : Pages → Trees → Type 0
+  AreNodesBeside pages none = Unit {0}
+  AreNodesBeside pages (more t ts) = IsNodeBeside pages t × AreNodesBeside pages ts
+
+-- a call that doesn't end with a URL, or another node
+abbrev pub EndsUnslashed : Role → Type 0
+EndsUnslashed Link = Unit {0}
+EndsUnslashed External = Unit {0}
+EndsUnslashed (Bare ends) = Unit {0}
+EndsUnslashed Switch = Unit {0}
+EndsUnslashed Toggle = Unit {0}
+EndsUnslashed (Mark ends began) = Unit {0}
+EndsUnslashed (Group g) = g.slashes ≡ false
+EndsUnslashed Function = Unit {0}
+EndsUnslashed Node = Unit {0}
+
+-- A node that is no call is something of the page on a line by itself. Neither a call nor a bare URL ends with what a delimiter would go on: no call with
+-- a URL, and no bare URL with an apostrophe.
+pub record IsOwnThing (t : Thing) : Type 0 where
+  pub some : is_group t.role ≡ false → AreSomeOfPage (line_parts (node_items t.source))
+  pub unquoted : EndsUnquoted t.role (own_glyphs t)
+  pub unslashed : EndsUnslashed t.role
+
+abbrev pub AreOwnThings : List Thing → Type 0
+AreOwnThings [] = Unit {0}
+AreOwnThings (t ∷ ts) = IsOwnThing t × AreOwnThings ts
+
+-- A paragraph of the page, whatever it is, in pieces: texts, calls, other nodes on one line, and delimiters. Its nodes are these calls and
+-- nodes, with bold and italic round some that are no calls; its styles nest.
+pub record IsBesideStyles (pages : Pages) (q : List ℕ) (block : Tree) : Type 0 where
+  pub pieces : List (List ℕ)
+  pub is : pieces_source pieces ≡ q
+  pub parts : AreInPieces pages pieces
+  pub numbers : HaveNumbers (children_of block)
+  pub children : AreNodesBeside pages (children_of block)
+  pub nest : AllNest false false (children_of block)
+  pub things : ArePageThings pages (page_things block)
+  pub own : AreOwnThings (page_things block)
+  pub among : StayButForOthers pages pieces (thing_sources (page_things block))
+
+-- ---- what is sent for it
+
+-- it calls nothing, nor does what is in bold and italic
+abbrev pub CallsNoneBy : InlineForm → Pages → Label → Trees → Type 0 → Type 0
+CallsNoneBy inline.Nothing pages l ts inside = Unit {0}
+CallsNoneBy inline.Characters pages l ts inside = Unit {0}
+CallsNoneBy inline.Bold pages l ts inside = inside
+CallsNoneBy inline.Italic pages l ts inside = inside
+CallsNoneBy inline.Shown pages l ts inside = (expanded_page pages (flat (tree l ts))).outer ≡ []
+CallsNoneBy inline.PageLink pages l ts inside = (expanded_page pages (flat (tree l ts))).outer ≡ []
+CallsNoneBy inline.ExternalLink pages l ts inside = (expanded_page pages (flat (tree l ts))).outer ≡ []
+CallsNoneBy inline.Tag pages l ts inside = (expanded_page pages (flat (tree l ts))).outer ≡ []
+CallsNoneBy inline.Break pages l ts inside = (expanded_page pages (flat (tree l ts))).outer ≡ []
+CallsNoneBy inline.AsItStood pages l ts inside = (expanded_page pages (flat (tree l ts))).outer ≡ []
+
+abbrev mutual
+  pub CallsNone : Pages → Tree → Type 0
+  CallsNone pages (tree l ts) = CallsNoneBy (edit_shape l.kind).inline pages l ts (CallNone pages ts)
+
+  pub CallNone : Pages → Trees → Type 0
+  CallNone pages none = Unit {0}
+  CallNone pages (more t ts) = CallsNone pages t × CallNone pages ts
+
+-- so each that goes
+abbrev pub NoCallGoes : Pages → Pieces → Type 0
+NoCallGoes pages no_pieces = Unit {0}
+NoCallGoes pages (gone t ps) = CallsNone pages t × NoCallGoes pages ps
+NoCallGoes pages (written x text ps) = NoCallGoes pages ps
+NoCallGoes pages (kept t u ps) = NoCallGoes pages ps
+NoCallGoes pages (around l m is ps) = NoCallGoes pages is × NoCallGoes pages ps
+NoCallGoes pages (new_style m is ps) = NoCallGoes pages is × NoCallGoes pages ps
+
+-- no call is in a new style
+abbrev pub NewStylesCallNone : Pieces → Type 0
+NewStylesCallNone no_pieces = Unit {0}
+NewStylesCallNone (gone t ps) = NewStylesCallNone ps
+NewStylesCallNone (written x text ps) = NewStylesCallNone ps
+NewStylesCallNone (kept t u ps) = NewStylesCallNone ps
+NewStylesCallNone (around l m is ps) = NewStylesCallNone ps
+NewStylesCallNone (new_style m is ps) = NoneIsGroup (page_pieces is) × NewStylesCallNone ps
+
+-- All its calls stay, in their order, and any other node and style stays or goes; each is sent as it is, and in a style other texts may be. Any texts are
+-- between them, and new styles, as they may nest, round texts and nodes that are no calls. Something else than calls is sent.
+pub record IsStyledCallEdit (pages : Pages) (block : Tree) (ps : Pieces) : Type 0 where
+  pub old : page_pieces ps ≡ children_of block
+  pub stay : PiecesStay ps
+  pub are : AreNodesAndTexts ps
+  pub calm : NoCallGoes pages ps
+  pub new : NewStylesNest false false ps
+  pub free : NewStylesCallNone ps
+  pub some : has_uncalled (sent_for block ps) ≡ true

@@ -1,0 +1,50 @@
+-- Calls of the program that send a text edit of a page that calls nothing, and how they end.
+use Rattle.std.specs.Prelude.{◌≡◌, ◌⊎◌, ℕ, List, [], map, Some}
+use Rattle.wt_span.specs.Items.{Item}
+use Rattle.wt_devices.specs.Device.{Pages}
+use Rattle.wt_tree.specs.Tree.{Tree}
+use Rattle.wt_page_round_trip.specs.PageTree.{page_tree}
+use Rattle.wt_slices.specs.BodySlices.{slices}
+use Rattle.wt_splice.specs.Splice.{spliced}
+use Rattle.wt_visible.specs.SameNodes.{same_node}
+use Rattle.wt_commands.specs.declared.command.Command.TheVariants.{Edit}
+use Rattle.wt_commands.specs.declared.status.Status.TheVariants as status
+use Rattle.wt_commands.specs.Calls.{Call, NothingFailed}
+use Rattle.wt_commands.specs.Statuses.{code, IsFaultOrNoMemory}
+use Rattle.wt_called_edit_laws.specs.CalledTexts.{spots_tree}
+use Rattle.wt_called_edit_laws.specs.EditsAt.{AllStand}
+use Rattle.wt_called_edit_laws.specs.PlacedLines.{spots_by, end_by}
+use Rattle.wt_called_edit_laws.specs.ToldLines.{Told, lined, IsToldPage}
+use Rattle.wt_program.specs.AnyCalls.{SendsFor}
+use Rattle.wt_program.specs.Calls.{WroteNewPage}
+use Rattle.wt_inside_laws.specs.HtmlEdits.{IsHtmlEdit}
+use Rattle.wt_inside_laws.specs.ToldEdits.{IsOrdinaryEdit}
+
+-- the page with the insides of its marked blocks replaced by what was sent for them, as it is spelled
+abbrev pub retyped_page : Pages → List ℕ → Tree → List ℕ
+retyped_page pages page new = spliced page (slices same_node (page_tree pages page) new)
+
+-- The blocks that the page's lines tell are at paths of its tree. Where a call sends HTML that is a text edit of some of them,
+-- * `edit` has written the page with the insides of these replaced; or a device failed, or memory ran out;
+-- * where no device failed, only want of memory may come in its place.
+pub record TakesTextEditsThere (c : Call) (ended : ℕ) (pages : Pages) (page : List ℕ) (ts : List Told) (rest : List (List Item)) : Type 0 where
+  pub paths : List (List ℕ)
+  pub stand : AllStand (spots_by [] (map lined ts)) paths (spots_tree pages (spots_by [] (map lined ts)) (end_by [] (map lined ts) rest))
+  pub edit : (new : Tree) → (s : SendsFor c Edit page (retyped_page pages page new) (λ b. new)) → IsHtmlEdit pages page s.input paths new s.unsourced
+      → WroteNewPage c ended (retyped_page pages page new) ⊎ IsFaultOrNoMemory ended
+  pub complete : (new : Tree) → (s : SendsFor c Edit page (retyped_page pages page new) (λ b. new)) → IsHtmlEdit pages page s.input paths new s.unsourced
+      → NothingFailed c → WroteNewPage c ended (retyped_page pages page new) ⊎ (ended ≡ code status.NoMemory)
+
+-- over a folder of these pages, of each page that its lines tell so
+abbrev pub TakesTextEdits : Call → ℕ → Type 0
+TakesTextEdits c ended =
+    (pages : Pages) (page : List ℕ) (ts : List Told) (rest : List (List Item)) → c.folder.pages_before ≡ Some pages → IsToldPage page ts rest
+    → TakesTextEditsThere c ended pages page ts rest
+
+-- over a folder of these pages, of each page, where the marked blocks are ordinary
+abbrev pub TakesOrdinaryEdits : Call → ℕ → Type 0
+TakesOrdinaryEdits c ended =
+    (pages : Pages) (page : List ℕ) (new : Tree) → c.folder.pages_before ≡ Some pages
+    → (s : SendsFor c Edit page (retyped_page pages page new) (λ b. new)) → IsOrdinaryEdit pages page s.input new s.unsourced
+    → (WroteNewPage c ended (retyped_page pages page new) ⊎ IsFaultOrNoMemory ended)
+    × (NothingFailed c → WroteNewPage c ended (retyped_page pages page new) ⊎ (ended ≡ code status.NoMemory))
