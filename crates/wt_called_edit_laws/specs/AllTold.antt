@@ -1,6 +1,5 @@
 -- Each paragraph and heading of the tree of a page that calls nothing is told by the page's lines; and those that these don't tell.
-use Rattle.std.specs.Prelude.{◌≡◌, ◌⊎◌, ℕ, zero, suc, ◌+◌, false, List, [], ◌∷◌, ◌++◌, length, take, drop, map, codes}
-use Rattle.wt_span.specs.Bytes.{begins}
+use Rattle.std.specs.Prelude.{◌≡◌, ◌⊎◌, ℕ, zero, suc, ◌+◌, false, List, [], ◌∷◌, ◌++◌, length, take, drop, map}
 use Rattle.wt_span.specs.Items.{Item, sources}
 use Rattle.wt_tree.specs.Source.{flat}
 use Rattle.wt_tree.specs.Tree.{Tree, tree, Trees, none, more, label}
@@ -8,17 +7,13 @@ use Rattle.wt_inline.specs.ItemTree.{ItemTree}
 use Rattle.wt_expand.specs.PageCalls.{expanded_page}
 use Rattle.wt_expand.specs.PageItems.{page_items}
 use Rattle.wt_expand.specs.Work.{Pages}
-use Rattle.wt_lines.specs.declared.kind.LineKind.TheVariants as line
 use Rattle.wt_lines.specs.Lines.{content, full_lines}
-use Rattle.wt_blocks.specs.Headings.{inside}
 use Rattle.wt_tables.specs.Parts.{joined}
-use Rattle.wt_page.specs.Lines.{kind_at}
-use Rattle.wt_page.specs.Rows.{Row, marks_len, signs, rows_from}
+use Rattle.wt_page.specs.Rows.{Row, marks_len, rows_from}
 use Rattle.wt_part_laws.specs.Standing.{standing}
 use Rattle.wt_selser.specs.Edits.{is_tangled}
 use Rattle.wt_text_edit_laws.specs.BodyParagraphs.{EndWhole}
 use Rattle.wt_text_edit_laws.specs.PageCuts.{begins_unmarked}
-use Rattle.wt_text_edit_laws.specs.ParagraphBetween.{tables_behind}
 use Rattle.wt_text_edit_laws.specs.TextBetween.{AreEnded}
 use Rattle.wt_called_edit_laws.specs.ContentsTaken.{TakesContents}
 use Rattle.wt_called_edit_laws.specs.Groups.{called_tree}
@@ -40,9 +35,8 @@ abbrev mutual
 
 -- ---- what lines don't tell
 
--- At this byte one of these begins, behind the marks before it: text behind the `|}` of a table's end or the `-` of a rule, on the same line; text that
--- begins with blanks and a mark behind them; text of which a line is text only where many tables are open, as the `{|` of one that can't be opened;
--- and a block whose marks don't end with a `>` or a line break.
+-- At this byte one of these begins, behind the marks before it: text behind the `|}` of a table's end or the `-` of a rule, on the same line; text that begins with blanks and a mark behind them; text of which a line is text only where many tables are open, as
+-- the `{|` of one that can't be opened; and a block whose marks don't end with a `>` or a line break.
 pub data IsExceptedAt (ls : List (List Item)) (at : ℕ) : Type 0 where
   text_on_a_sign : (before : List Row) (first : Row) (others behind : List Row) → rows_from 0 ls ≡ before ++ ((first ∷ others) ++ behind)
       → (EndWhole before → ⊥) → at ≡ begins_behind before first → IsExceptedAt ls at

@@ -15,9 +15,11 @@ use Rattle.wt_called_edit_laws.proofs.Told.ToldPages.{told_called}
 use Rattle.wt_program.specs.AnyCalls.{SendsFor}
 use Rattle.wt_program.proofs.AnyCalls.{answer_is}
 use Rattle.wt_program.proofs.BlocksCalls.{page_ends, page_completes}
-use Rattle.wt_inside_laws.specs.EditCalls.{retyped_page, TakesTextEdits}
+use Rattle.wt_inside_laws.specs.EditCalls.{retyped_page, TakesTextEdits, TakesOrdinaryEdits}
 use Rattle.wt_inside_laws.specs.HtmlEdits.{IsHtmlEdit}
+use Rattle.wt_inside_laws.specs.ToldEdits.{IsOrdinaryEdit}
 use Rattle.wt_inside_laws.proofs.HtmlEdits.{html_told}
+use Rattle.wt_inside_laws.proofs.OrdinaryEdits.{ordinary_done}
 use Rattle.wt_inside_laws.proofs.ToldEdits.{told_edit_done}
 
 pages_or : Pages → Option Pages → Pages
@@ -47,3 +49,18 @@ calls_take_edits c ended ends = λ pages page ts rest told h.
       edit = λ new s e. page_ends c ended (retyped_page pages page new) (answered c pages page ts rest new told h t s e) ends;
       complete = λ new s e sound. page_completes c ended (retyped_page pages page new) (answered c pages page ts rest new told h t s e) ends sound;
     }
+
+-- ---- of any page that calls nothing
+
+ordinary_answered : (c : Call) (pages : Pages) (page : List ℕ) (new : Tree) → c.folder.pages_before ≡ Some pages
+    → (s : SendsFor c Edit page (retyped_page pages page new) (λ b. new)) → IsOrdinaryEdit pages page s.input new s.unsourced
+    → known_answer c ≡ Some (done (retyped_page pages page new))
+ordinary_answered c pages page new told s e =
+    answer_is c page (retyped_page pages page new) (λ b. new) e.utf8 s
+    (subst (λ (ps : Pages). edit_to ps page new ≡ done (retyped_page pages page new)) (same_pages pages s.pages (sym told ∙ s.told))
+    (ordinary_done pages page s.input new s.unsourced e))
+
+pub calls_take_ordinary : (c : Call) (ended : ℕ) → Ends c ended → TakesOrdinaryEdits c ended
+calls_take_ordinary c ended ends = λ pages page new told s e.
+    let known : known_answer c ≡ Some (done (retyped_page pages page new)) = ordinary_answered c pages page new told s e in
+    (page_ends c ended (retyped_page pages page new) known ends, λ sound. page_completes c ended (retyped_page pages page new) known ends sound)

@@ -33,7 +33,7 @@ use Rattle.wt_inside_laws.proofs.ReadSent.{read_for, read_blocks}
 use Rattle.wt_inside_laws.proofs.ToldEdits.{ungrouped, told_edit_done}
 
 -- of what is under a title, to an input
-edit_is : (pages : Pages) (page new input : List ℕ) (u : Tree) (unsourced : Option ℕ) → IsUtf8 page → length page ≤ PAGE_BYTES → length input ≤ HTML_BYTES
+pub edit_is : (pages : Pages) (page new input : List ℕ) (u : Tree) (unsourced : Option ℕ) → IsUtf8 page → length page ≤ PAGE_BYTES → length input ≤ HTML_BYTES
     → read input ≡ as_page u unsourced → edit_to pages page u ≡ done new → edit_of pages (Some page) input ≡ done new
 unfolding title_answer input_answer edited_answer
 edit_is pages page new input u unsourced utf8 short small is made =

@@ -39,6 +39,7 @@ pub mod OwnEdits
 pub mod ToldEdits
 pub mod HtmlEdits
 pub mod EditCalls
+pub mod OrdinaryEdits
 pub mod InsidesCases
 pub mod PageCases
 pub mod LocalCases

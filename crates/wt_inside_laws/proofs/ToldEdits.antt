@@ -8,6 +8,7 @@ use Rattle.wt_tree.specs.Tiling.{HasNoGroup, NoneIsGroup}
 use Rattle.wt_tree.specs.Tree.{Label, Tree, tree, Trees, none, more, label}
 use Rattle.wt_checks.specs.Kept.{children}
 use Rattle.wt_checks.specs.Places.{page_of}
+use Rattle.wt_expand.specs.PageItems.{page_items}
 use Rattle.wt_expand.specs.PageCalls.{expanded_page}
 use Rattle.wt_expand.specs.Work.{Pages}
 use Rattle.wt_link_spelling.specs.Spelling.{children_of}
@@ -22,6 +23,8 @@ use Rattle.wt_commands.specs.Answers.{done, edit_to}
 use Rattle.wt_typed_blocks.specs.Edited.{Edited, stays, edited, round, Edits, no_edits, more_edits}
 use Rattle.wt_text_edit_laws.specs.BlockSpots.{BlockSpot, spots_source, AreContents}
 use Rattle.wt_text_edit_laws.specs.Contents.{IsContent}
+use Rattle.wt_text_edit_laws.specs.NoCalls.{CallsNothing}
+use Rattle.wt_text_edit_laws.specs.Parts.{HasNoGroups}
 use Rattle.wt_text_edit_laws.specs.TextBlocks.{TextBlock, block_tree}
 use Rattle.wt_text_edit_laws.proofs.Between.NoCalls.{calm_expanded}
 use Rattle.wt_inline.specs.ItemTree.{ItemTree}
@@ -88,7 +91,7 @@ path_by es (i ∷ is) x h = path_among es i is x h
 
 -- ---- the block at a path
 
-same_node_at : (t v : Tree) → Some t ≡ Some v → t ≡ v
+pub same_node_at : (t v : Tree) → Some t ≡ Some v → t ≡ v
 same_node_at t v e = cc
 
 mutual
@@ -122,10 +125,10 @@ record PairAt (pages : Pages) (page : List ℕ) (t : Tree) (es : Edits) (p : Lis
   node : node_at p t ≡ Some pair.old
   found : edited_by es p ≡ Some (edit_for pair)
 
-first_same : {A : Type 0} (x y : A) (xs ys : List A) → x ∷ xs ≡ y ∷ ys → x ≡ y
+pub first_same : {A : Type 0} (x y : A) (xs ys : List A) → x ∷ xs ≡ y ∷ ys → x ≡ y
 first_same x y xs ys e = cc
 
-rest_same : {A : Type 0} (x y : A) (xs ys : List A) → x ∷ xs ≡ y ∷ ys → xs ≡ ys
+pub rest_same : {A : Type 0} (x y : A) (xs ys : List A) → x ∷ xs ≡ y ∷ ys → xs ≡ ys
 rest_same x y xs ys e = cc
 
 pair_at : (pages : Pages) (page : List ℕ) (t : Tree) (es : Edits) (p : List ℕ) (qs : List (List ℕ)) (ms : List Pair) → IsOneOf p qs
@@ -214,12 +217,15 @@ told_done pages ss behind new c h r g e =
 
 -- ---- of a page that its lines tell
 
-pub ungrouped : (pages : Pages) (page : List ℕ) (ts : List Told) (rest : List (List Item)) → IsToldPage page ts rest → NoneIsGroup (children (called_tree pages page))
-ungrouped pages page ts rest h =
-    none_in (called_tree pages page) (subst HasNoGroup (sym (ap (λ x. annotated x.outer (group_data x.outer) (meaning x.items)) (calm_expanded pages page h.calls_nothing))) h.ungrouped)
+pub calm_ungrouped : (pages : Pages) (page : List ℕ) → CallsNothing (page_items page) → HasNoGroups page → NoneIsGroup (children (called_tree pages page))
+calm_ungrouped pages page c h =
+    none_in (called_tree pages page) (subst HasNoGroup (sym (ap (λ x. annotated x.outer (group_data x.outer) (meaning x.items)) (calm_expanded pages page c))) h)
   where
     none_in : (t : Tree) → HasNoGroup t → NoneIsGroup (children t)
     none_in (tree l ts) h = h.1
+
+pub ungrouped : (pages : Pages) (page : List ℕ) (ts : List Told) (rest : List (List Item)) → IsToldPage page ts rest → NoneIsGroup (children (called_tree pages page))
+ungrouped pages page ts rest h = calm_ungrouped pages page h.calls_nothing h.ungrouped
 
 pub told_edit_done : (pages : Pages) (page : List ℕ) (ts : List Told) (rest : List (List Item)) (new : Tree) → IsToldPage page ts rest
     → (c : TakesContents pages (spots_by [] (map lined ts)) (end_by [] (map lined ts) rest)) → IsToldEdit pages page c.paths new

@@ -18,6 +18,7 @@ use Rattle.wt_called_edit_laws.specs.ToldLines.{Told, lined, IsToldPage}
 use Rattle.wt_program.specs.AnyCalls.{SendsFor}
 use Rattle.wt_program.specs.Calls.{WroteNewPage}
 use Rattle.wt_inside_laws.specs.HtmlEdits.{IsHtmlEdit}
+use Rattle.wt_inside_laws.specs.ToldEdits.{IsOrdinaryEdit}
 
 -- the page with the insides of its marked blocks replaced by what was sent for them, as it is spelled
 abbrev pub retyped_page : Pages → List ℕ → Tree → List ℕ
@@ -39,3 +40,11 @@ abbrev pub TakesTextEdits : Call → ℕ → Type 0
 TakesTextEdits c ended =
     (pages : Pages) (page : List ℕ) (ts : List Told) (rest : List (List Item)) → c.folder.pages_before ≡ Some pages → IsToldPage page ts rest
     → TakesTextEditsThere c ended pages page ts rest
+
+-- over a folder of these pages, of each page, where the marked blocks are ordinary
+abbrev pub TakesOrdinaryEdits : Call → ℕ → Type 0
+TakesOrdinaryEdits c ended =
+    (pages : Pages) (page : List ℕ) (new : Tree) → c.folder.pages_before ≡ Some pages
+    → (s : SendsFor c Edit page (retyped_page pages page new) (λ b. new)) → IsOrdinaryEdit pages page s.input new s.unsourced
+    → (WroteNewPage c ended (retyped_page pages page new) ⊎ IsFaultOrNoMemory ended)
+    × (NothingFailed c → WroteNewPage c ended (retyped_page pages page new) ⊎ (ended ≡ code status.NoMemory))

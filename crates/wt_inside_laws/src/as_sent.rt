@@ -3,7 +3,7 @@
 
 ghost use Rattle.std.specs.Prelude.{◌≡◌, ◌≤◌, ℕ, List, [], length, Bool, false, Option, None, Some, map};
 ghost use Rattle.wt_span.specs.Origins.{Expanded};
-ghost use Rattle.wt_span.specs.declared.limits.TheConstants.{PAGE_BYTES};
+ghost use Rattle.wt_span.specs.declared.limits.TheConstants.{HTML_BYTES, PAGE_BYTES};
 ghost use Rattle.std.specs.List.{AllByRecursion};
 ghost use Rattle.std.specs.Str.{IsUtf8};
 ghost use Rattle.wt_span.specs.Items.{Item};
@@ -30,11 +30,11 @@ ghost use Rattle.wt_called_edit_laws.specs.ToldLines.{Told, lined, IsToldPage};
 ghost use Rattle.wt_inside_laws.specs.AsSent.{edits_of, IsPlainPage, IsReadFor, IsAlike, IsAsSent, IsSentOn};
 ghost use Rattle.wt_commands.specs.Calls.{Call};
 ghost use Rattle.wt_pagetool.specs.Promises.{Ends};
-ghost use Rattle.wt_inside_laws.specs.EditCalls.{TakesTextEdits};
+ghost use Rattle.wt_inside_laws.specs.EditCalls.{TakesTextEdits, TakesOrdinaryEdits};
 ghost use Rattle.wt_inside_laws.specs.HtmlEdits.{IsHtmlEdit};
 ghost use Rattle.wt_inside_laws.specs.RetypedPieces.{AreRead, AreUtf8};
 ghost use Rattle.wt_inside_laws.specs.TextEdits.{IsRetyped, IsTextEdit};
-ghost use Rattle.wt_inside_laws.specs.ToldEdits.{IsToldEdit};
+ghost use Rattle.wt_inside_laws.specs.ToldEdits.{IsToldEdit, IsOrdinaryEdit};
 
 /// Where the checks refuse nothing and no blocks come or go, what was sent for a page without groups is edited as the
 /// page's own nodes are (`edits_of`): each outside the marked blocks as it is, and in these blocks those of the page,
@@ -100,4 +100,17 @@ pub fn text_edits_in_html_are_done()
 #[tactic(auto)]
 pub fn calls_take_text_edits()
     ensures { (c : Call) (ended : ℕ) → Ends c ended → TakesTextEdits c ended }
+{}
+
+/// So each text edit is done of a page that calls nothing, where each marked block is ordinary and none of those that the
+/// lines of a page don't tell (`IsExcepted`); and so each call of the program takes them that keeps what `run` promises.
+#[tactic(auto)]
+pub fn text_edits_are_done()
+    ensures tree { (pages : Pages) (page input : List ℕ) (new : Tree) (unsourced : Option ℕ)
+        → IsOrdinaryEdit pages page input new unsourced
+        → edit_to pages page new ≡ done (spliced page (slices same_node (page_tree pages page) new)) }
+    ensures html { (pages : Pages) (page input : List ℕ) (new : Tree) (unsourced : Option ℕ)
+        → IsOrdinaryEdit pages page input new unsourced → length input ≤ HTML_BYTES
+        → edit_of pages (Some page) input ≡ done (spliced page (slices same_node (page_tree pages page) new)) }
+    ensures calls { (c : Call) (ended : ℕ) → Ends c ended → TakesOrdinaryEdits c ended }
 {}

@@ -1,13 +1,12 @@
 -- A heading's line begins with `=`, behind the marks that begin it.
-use Rattle.std.proofs.Common.{arith, ◌≡◌, ◌<◌, ◌≤◌, ℕ, zero, suc, ◌+◌, Bool, true, false, Option, Some, None, nat_lt, unwrap_or, List, [], ◌∷◌, ◌++◌, length, take, drop, cond, All, reverse, refl, sym, ap, ◌∙◌, subst, append_assoc, codes}
-use Rattle.std.specs.Prelude.{◌&&◌, ◌==◌, not, if◌then◌else◌}
+use Rattle.std.proofs.Common.{arith, ◌≡◌, ◌<◌, ◌≤◌, ℕ, suc, ◌+◌, Bool, true, false, nat_lt, unwrap_or, List, [], ◌∷◌, ◌++◌, length, drop, cond, All, reverse, refl, sym, ap, ◌∙◌, subst, append_assoc, codes}
+use Rattle.std.specs.Prelude.{◌&&◌, ◌==◌, if◌then◌else◌}
 use Rattle.std.specs.Str.{IsUtf8}
 use Rattle.std.proofs.lemmas.Bool.{eqb-true}
 use Rattle.std.proofs.lemmas.Grind.{flat_map-append}
 use Rattle.std.proofs.lemmas.List.Elements.{All-head, All-tail}
 use Rattle.percent_encoding.proofs.PercentLemmas.{IsByte}
 use Rattle.wt_names.proofs.Utf8.{utf8_bytes}
-use Rattle.wt_span.specs.declared.form.ItemForm.{ItemForm}
 use Rattle.wt_span.specs.Bytes.{begins}
 use Rattle.wt_span.specs.Items.{Item, char, whole, is_mark, is_mark_form, sign, source, sources}
 use Rattle.wt_span.specs.Runs.{AreRuns}
@@ -17,7 +16,7 @@ use Rattle.wt_expand.proofs.PageLaws.{page_sources}
 use Rattle.wt_lines.specs.declared.kind.LineKind.{LineKind}
 use Rattle.wt_lines.specs.declared.kind.LineKind.TheVariants as line
 use Rattle.wt_lines.specs.declared.kind.TheConstants.{MOST_TABLES}
-use Rattle.wt_lines.specs.Kinds.{is_mark_sign, is_idle, past, is_alone, is_heading, is_list, first_of, open_kind, table_rows, text_rows, kind_of_signs}
+use Rattle.wt_lines.specs.Kinds.{is_mark_sign, is_idle, past, is_heading, is_list, first_of, open_kind, table_rows, text_rows, kind_of_signs}
 use Rattle.wt_lines.specs.Lines.{is_break_item, goes_on, content, full_lines}
 use Rattle.wt_tables.specs.Parts.{joined}
 use Rattle.wt_page.specs.Lines.{kind_at}
