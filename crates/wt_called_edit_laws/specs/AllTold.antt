@@ -14,6 +14,7 @@ use Rattle.wt_part_laws.specs.Standing.{standing}
 use Rattle.wt_selser.specs.Edits.{is_tangled}
 use Rattle.wt_text_edit_laws.specs.BodyParagraphs.{EndWhole}
 use Rattle.wt_text_edit_laws.specs.PageCuts.{begins_unmarked}
+use Rattle.wt_text_edit_laws.specs.ParagraphBetween.{tables_behind}
 use Rattle.wt_text_edit_laws.specs.TextBetween.{AreEnded}
 use Rattle.wt_called_edit_laws.specs.ContentsTaken.{TakesContents}
 use Rattle.wt_called_edit_laws.specs.Groups.{called_tree}
@@ -35,7 +36,7 @@ abbrev mutual
 
 -- ---- what lines don't tell
 
--- At this byte one of these begins, behind the marks before it: text behind the `|}` of a table's end or the `-` of a rule, on the same line; text that begins with blanks and a mark behind them; text of which a line is text only where many tables are open, as
+-- At this byte one of these begins, behind the marks before it: text behind the `|}` of a table's end or the `-` of a rule, on the same line; text that begins with blanks and a mark behind them; lines that are text with as many tables open as there are, and of which one is none where no table is open, as
 -- the `{|` of one that can't be opened; and a block whose marks don't end with a `>` or a line break.
 pub data IsExceptedAt (ls : List (List Item)) (at : ℕ) : Type 0 where
   text_on_a_sign : (before : List Row) (first : Row) (others behind : List Row) → rows_from 0 ls ≡ before ++ ((first ∷ others) ++ behind)
@@ -43,7 +44,7 @@ pub data IsExceptedAt (ls : List (List Item)) (at : ℕ) : Type 0 where
   marked_text : (before : List (List Item)) (first : List Item) (others behind : List (List Item)) → ls ≡ before ++ ((first ∷ others) ++ behind)
       → at ≡ begins_at before first → begins_unmarked (content (joined (drop (marks_len first) first ∷ others))) ≡ false → IsExceptedAt ls at
   text_in_tables : (before : List (List Item)) (first : List Item) (others behind : List (List Item)) → ls ≡ before ++ ((first ∷ others) ++ behind)
-      → at ≡ begins_at before first → (AreOfText 0 (first ∷ others) → ⊥) → IsExceptedAt ls at
+      → at ≡ begins_at before first → AreOfText (tables_behind 0 before) (first ∷ others) → (AreOfText 0 (first ∷ others) → ⊥) → IsExceptedAt ls at
   unended_marks : (before : List (List Item)) (first : List Item) (behind : List (List Item)) → ls ≡ before ++ first ∷ behind
       → at ≡ begins_at before first → (AreEnded (sources (take (marks_len first) first)) → ⊥) → IsExceptedAt ls at
 

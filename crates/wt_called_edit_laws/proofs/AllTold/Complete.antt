@@ -261,7 +261,7 @@ text_case pages page i is t n a number front block is_it before first others beh
     by : Decided (AreEnded (sources (led_by first))) → Decided (AreOfText 0 (first ∷ others))
         → Decided (begins_unmarked (content (joined (past_marks first ∷ others))) ≡ true) → Answer pages page i is t a
     by (inr f) b c = except (unended_marks before first (others ++ behind) are at f)
-    by (inl e) (inr f) c = except (text_in_tables before first others behind are at f)
+    by (inl e) (inr f) c = except (text_in_tables before first others behind are at texts f)
     by (inl e) (inl b) (inr f) =
         except (marked_text before first others behind are at (unmarked_false (begins_unmarked (content (joined (past_marks first ∷ others)))) f))
     by (inl e) (inl b) (inl c) =
