@@ -76,7 +76,7 @@ impl Later {
         ensures all { result.items ≡ self.old.all.items }
         ensures none { self.new.all.items ≡ [] }
     {
-        let Later { all, names: _ } = mem::replace(self, Later::new(alloc));
-        all
+        let old = mem::replace(self, Later::new(alloc));
+        old.all
     }
 }
