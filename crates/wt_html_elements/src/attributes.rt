@@ -67,12 +67,7 @@ impl Attributes {
     }
 
     /// Takes one more.
-    pub fn push(
-        &mut self,
-        alloc: Global,
-        name: Vec<u8>,
-        value: Vec<u8>,
-    ) -> Result<(), NoMemory>
+    pub fn push(&mut self, alloc: Global, name: Vec<u8>, value: Vec<u8>) -> Result<(), NoMemory>
         requires { is_among name.items (map (λ p. p.0) (pairs_in self.old)) ≡ false }
         ensures { OnOk result (pairs_in self.new ≡ pairs_in self.old ++ (name.items, value.items) ∷ []) }
     {
