@@ -12,7 +12,7 @@ use Rattle.wt_expand.specs.Expansion.{Reading, page_reading, page_work, text_giv
 use Rattle.wt_expand.specs.PageCalls.{all_stretches, expanded_page}
 use Rattle.wt_expand.specs.Work.{Entry, Pages, deep_place, entered, fetches, first_refusal, firsts_after, is_among, names_asked, refusal_from}
 use Rattle.wt_transclusion.specs.declared.refusal.ExpandRefusal.{ExpandRefusal}
-use Rattle.std.specs.HashMap.{get_by_text}
+use Rattle.std.specs.BTreeMap.{get_by_text}
 use Rattle.wt_transclusion.specs.declared.read.ReadText.{ReadText}
 use Rattle.wt_transclusion.specs.declared.store.Store.{Store}
 use Rattle.wt_transclusion.specs.Answers.{IsFetched, IsRefused}

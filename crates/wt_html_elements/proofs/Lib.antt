@@ -1,5 +1,6 @@
 pub mod Contents
 pub mod Among
+pub mod LaterNames
 pub mod Taking
 pub mod Scan
 pub mod Tokens

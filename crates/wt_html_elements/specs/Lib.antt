@@ -4,6 +4,7 @@ pub mod Answer
 pub mod Attributes
 pub mod Runs
 pub mod Kept
+pub mod Later
 pub mod Held
 pub mod Reads
 pub mod Fed

@@ -4,20 +4,20 @@ ghost use Rattle.wt_html_elements.specs.Attributes.{pairs_in, rest_pairs};
 ghost use Rattle.wt_html_elements.specs.Built.{pairs};
 
 use crate::content::Attribute;
-use indexmap::IndexMap;
+use crate::later::Later;
 use std::alloc::Global;
 use std::mem;
 use wt_span::NoMemory;
 
-/// So many attributes are looked through for a name. More names are found by their hashes.
+/// So many attributes are looked through for a name. The names of more are kept in order.
 const LOOKED_THROUGH: usize = 8;
 
 /// The whole attributes of a tag in their order, each name once: the first, as a tag has few, and the rest,
-/// found by hashes, so that a tag with many attributes is read as fast as others.
+/// found by their names in order, so that a tag with many attributes is read nearly as fast as others.
 #[derive(Drop)]
 pub struct Attributes {
     pub first: Vec<Attribute>,
-    pub rest: IndexMap<Vec<u8>, Vec<u8>>,
+    pub rest: Later,
 }
 
 /// Whether one of these has this name.
@@ -33,16 +33,12 @@ fn is_among(name: &[u8], attributes: &[Attribute]) -> bool
 }
 
 /// These and the rest after them.
-fn with_rest(
-    first: Vec<Attribute>,
-    rest: IndexMap<Vec<u8>, Vec<u8>>,
-) -> Result<Vec<Attribute>, NoMemory>
-    ensures { IfOk result (λ all. pairs all.items ≡ pairs first.items ++ map (λ e. (e.0.items, e.1.items)) rest.entries) }
+fn with_rest(first: Vec<Attribute>, rest: Vec<Attribute>) -> Result<Vec<Attribute>, NoMemory>
+    ensures { IfOk result (λ all. pairs all.items ≡ pairs first.items ++ pairs rest.items) }
 {
     let mut all = first;
-    for (name, value) in rest {
-        all.push(Attribute { name, value })?;
-    }
+    let mut rest = rest;
+    all.append(&mut rest)?;
     Ok(all)
 }
 
@@ -52,7 +48,7 @@ impl Attributes {
     {
         Attributes {
             first: Vec::new(alloc),
-            rest: IndexMap::new(alloc),
+            rest: Later::new(alloc),
         }
     }
 
@@ -63,32 +59,22 @@ impl Attributes {
         self.rest.clear();
     }
 
-    /// Whether one of the rest has this name.
-    fn is_in_rest(&self, name: &[u8]) -> bool
-        ensures { result ≡ is_among name.now (map (λ p. p.0) (rest_pairs self.now)) }
-    {
-        if self.rest.is_empty() {
-            return false;
-        }
-        self.rest.contains_key(name)
-    }
-
     /// Whether one of them has this name.
     pub fn contains(&self, name: &[u8]) -> bool
         ensures { result ≡ is_among name.now (map (λ p. p.0) (pairs_in self.now)) }
     {
-        is_among(name, self.first.as_slice()) || self.is_in_rest(name)
+        is_among(name, self.first.as_slice()) || self.rest.contains(name)
     }
 
     /// Takes one more.
-    pub fn push(&mut self, name: Vec<u8>, value: Vec<u8>) -> Result<(), NoMemory>
+    pub fn push(&mut self, alloc: Global, name: Vec<u8>, value: Vec<u8>) -> Result<(), NoMemory>
         requires { is_among name.items (map (λ p. p.0) (pairs_in self.old)) ≡ false }
         ensures { OnOk result (pairs_in self.new ≡ pairs_in self.old ++ (name.items, value.items) ∷ []) }
     {
         if self.rest.is_empty() && self.first.len() < LOOKED_THROUGH {
             self.first.push(Attribute { name, value })?;
         } else {
-            self.rest.insert(name, value)?;
+            self.rest.add(alloc, name, value)?;
         }
         Ok(())
     }
@@ -102,7 +88,7 @@ impl Attributes {
         if self.rest.is_empty() {
             return Ok(first);
         }
-        let rest = mem::replace(&mut self.rest, IndexMap::new(alloc));
+        let rest = self.rest.take_all(alloc);
         let all = with_rest(first, rest)?;
         Ok(all)
     }

@@ -7,6 +7,7 @@ mod builder;
 mod content;
 mod escape;
 mod fault;
+mod later;
 mod laws;
 mod machine;
 mod reader;

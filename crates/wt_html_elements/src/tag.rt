@@ -89,7 +89,7 @@ impl OpenTag {
     {
         let name = mem::replace(&mut self.key, Vec::new(alloc));
         let value = mem::replace(&mut self.value, Vec::new(alloc));
-        self.attributes.push(name, value)
+        self.attributes.push(alloc, name, value)
     }
 
     /// Moves its name and its attributes out. Nothing is left of it.

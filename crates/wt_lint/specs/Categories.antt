@@ -1,6 +1,9 @@
 -- Titles of categories.
-use Rattle.std.specs.Prelude.{ℕ, ◌==◌, not, Bool, List, [], ◌∷◌, ◌++◌, take, if◌then◌else◌}
+use Rattle.std.specs.Prelude.{ℕ, ◌==◌, not, Bool, List, [], ◌∷◌, take, if◌then◌else◌}
+use Rattle.std.specs.BTreeSet.{insert_key}
+use Rattle.std.specs.Cmp.Lexicographic.{slice_cmp}
 use Rattle.std.specs.List.{prefix_len, list_any}
+use Rattle.std.specs.Ordering.{nat_cmp}
 use Rattle.std.specs.Str.{bytes_eq}
 use Rattle.wt_span.specs.Characters as byte
 use Rattle.wt_tree.specs.declared.kind.AttrName.{AttrName}
@@ -27,6 +30,6 @@ title_of l = title_in (href_in l.attrs)
 abbrev pub is_among : List ℕ → List (List ℕ) → Bool
 is_among title titles = list_any (bytes_eq title) titles
 
--- the titles with this one, each once
+-- the titles with this one, in the order of their bytes, each once
 abbrev pub noted : List ℕ → List (List ℕ) → List (List ℕ)
-noted title titles = if is_among title titles then titles else titles ++ title ∷ []
+noted title titles = insert_key (slice_cmp nat_cmp) titles title

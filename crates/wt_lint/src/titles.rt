@@ -5,8 +5,8 @@ ghost use Rattle.wt_lint.specs.Categories.{is_among, noted};
 ghost use Rattle.wt_lint.specs.Titles.{names};
 
 use crate::met::Titles;
-use indexmap::IndexSet;
 use std::alloc::Global;
+use std::collections::BTreeSet;
 use wt_span::NoMemory;
 
 impl Titles {
@@ -14,7 +14,7 @@ impl Titles {
         ensures { names result ≡ [] }
     {
         Titles {
-            met: IndexSet::new(alloc),
+            met: BTreeSet::new(alloc),
         }
     }
 

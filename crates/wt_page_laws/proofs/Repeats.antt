@@ -1,7 +1,12 @@
 -- Which categories are found as repeated.
 use Rattle.std.proofs.Common.{◌≡◌, ◌⊎◌, ℕ, Bool, true, false, Some, None, List, [], ◌∷◌, ◌++◌, map, refl, sym, ap, ◌∙◌, subst, inl, inr, true≢false}
 use Rattle.std.specs.Prelude.{◌&&◌, ◌||◌, if◌then◌else◌, Option}
+use Rattle.std.specs.Cmp.Lexicographic.{slice_cmp}
+use Rattle.std.specs.Ordering.{is_eq, match_ordering, nat_cmp}
+use Rattle.std.specs.declared.cmp.Ordering.{Ordering}
+use Rattle.std.specs.declared.cmp.Ordering.TheVariants.{Less, Equal, Greater}
 use Rattle.std.specs.Str.{bytes_eq}
+use Rattle.std.proofs.lemmas.Map.Text.{is_eq-slice_cmp}
 use Rattle.std.proofs.lemmas.Slice.Eq.{bytes_eq-Decides}
 use Rattle.wt_tree.specs.declared.kind.Ranges.{Ranges}
 use Rattle.wt_tree.specs.Tree.{Label, Tree}
@@ -34,26 +39,36 @@ is_there title (x ∷ xs) (inr h) = by (bytes_eq title x) (is_there title xs h)
     by true e = refl
     by false e = e
 
+same_title : (x y : List ℕ) → slice_cmp nat_cmp x y ≡ Equal → x ≡ y
+same_title x y e = (bytes_eq-Decides x y).0 (sym (is_eq-slice_cmp x y) ∙ ap is_eq e)
+
 in_noted : (x y : List ℕ) (titles : List (List ℕ)) → (x ≡ y) ⊎ IsOneOf x titles → IsOneOf x (noted y titles)
-in_noted x y titles h = by (is_among y titles) refl h
+in_noted x y [] h = h
+in_noted x y (z ∷ zs) h = by (slice_cmp nat_cmp y z) refl h (in_noted x y zs)
   where
-    by : (b : Bool) → is_among y titles ≡ b → (x ≡ y) ⊎ IsOneOf x titles → IsOneOf x (if b then titles else titles ++ y ∷ [])
-    by true e (inl s) = subst (λ (z : List ℕ). IsOneOf z titles) (sym s) (among_is y titles e)
-    by true e (inr k) = k
-    by false e (inl s) = in_rest x titles (y ∷ []) (inl s)
-    by false e (inr k) = in_front x titles (y ∷ []) k
+    by : (o : Ordering) → slice_cmp nat_cmp y z ≡ o → (x ≡ y) ⊎ IsOneOf x (z ∷ zs) → ((x ≡ y) ⊎ IsOneOf x zs → IsOneOf x (noted y zs))
+        → IsOneOf x (match_ordering o (y ∷ z ∷ zs) (z ∷ zs) (z ∷ noted y zs))
+    by Less e k f = k
+    by Equal e (inl s) f = inl (s ∙ same_title y z e)
+    by Equal e (inr k) f = k
+    by Greater e (inl s) f = inr (f (inl s))
+    by Greater e (inr (inl s)) f = inl s
+    by Greater e (inr (inr k)) f = inr (f (inr k))
 
 of_noted : (x y : List ℕ) (titles : List (List ℕ)) → IsOneOf x (noted y titles) → (x ≡ y) ⊎ IsOneOf x titles
-of_noted x y titles h = by (is_among y titles) h
+of_noted x y [] h = h
+of_noted x y (z ∷ zs) h = by (slice_cmp nat_cmp y z) h (of_noted x y zs)
   where
-    last : IsOneOf x titles ⊎ IsOneOf x (y ∷ []) → (x ≡ y) ⊎ IsOneOf x titles
-    last (inl k) = inr k
-    last (inr (inl s)) = inl s
-    last (inr (inr k)) = absurd k
+    behind : (x ≡ y) ⊎ IsOneOf x zs → (x ≡ y) ⊎ IsOneOf x (z ∷ zs)
+    behind (inl s) = inl s
+    behind (inr k) = inr (inr k)
 
-    by : (b : Bool) → IsOneOf x (if b then titles else titles ++ y ∷ []) → (x ≡ y) ⊎ IsOneOf x titles
-    by true k = inr k
-    by false k = last (in_either x titles (y ∷ []) k)
+    by : (o : Ordering) → IsOneOf x (match_ordering o (y ∷ z ∷ zs) (z ∷ zs) (z ∷ noted y zs)) → (IsOneOf x (noted y zs) → (x ≡ y) ⊎ IsOneOf x zs)
+        → (x ≡ y) ⊎ IsOneOf x (z ∷ zs)
+    by Less k f = k
+    by Equal k f = inr k
+    by Greater (inl s) f = inr (inl s)
+    by Greater (inr k) f = behind (f k)
 
 -- ---- one node
 

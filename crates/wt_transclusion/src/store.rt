@@ -1,6 +1,6 @@
 //! The pages that were fetched, each once, by their full names.
 ghost use Rattle.std.specs.Prelude.{◌≡◌, ◌∷◌, ◌++◌, [], ℕ, List, Option, Some, false, IfOk, OnErr, OnOk, option_map};
-ghost use Rattle.std.specs.HashMap.{get_by_text};
+ghost use Rattle.std.specs.BTreeMap.{get_by_text};
 ghost use Rattle.wt_expand.specs.Work.{Pages, is_among};
 ghost use Rattle.wt_transclusion.specs.Answers.{AnswersTemplate, AnswersFetch, IsCounted, IsFetched};
 ghost use Rattle.wt_transclusion.specs.Asked.{Asks};
@@ -12,7 +12,7 @@ use crate::reading::read_in;
 use crate::refusal::ExpandRefusal;
 use bumpalo::Bump;
 use std::alloc::Global;
-use std::collections::HashMap;
+use std::collections::BTreeMap;
 use wt_braces::BraceRefusal;
 use wt_devices::{FetchRefusal, Fetched, Folder};
 use wt_span::{Mode, NoMemory, PAGE_BYTES, Str};
@@ -55,7 +55,7 @@ fn read_template<'a>(
 /// The pages that were fetched. None is an absent page.
 #[derive(Drop)]
 pub struct Store<'a> {
-    pages: HashMap<String, Option<ReadText<'a>>>,
+    pages: BTreeMap<String, Option<ReadText<'a>>>,
 }
 
 /// What the folder has under a title, as it is read; None for an absent page. One byte more than the
@@ -91,7 +91,7 @@ impl<'a> Store<'a> {
         ensures { (pages : Pages) → IsStore pages [] result }
     {
         Store {
-            pages: HashMap::new(alloc),
+            pages: BTreeMap::new(alloc),
         }
     }
 

@@ -1,6 +1,6 @@
 -- The values that a call hands over, by their names.
 use Rattle.std.specs.Prelude.{◌≡◌, ℕ, List, option_map}
-use Rattle.std.specs.HashMap.{get_by_text}
+use Rattle.std.specs.BTreeMap.{get_by_text}
 use Rattle.wt_span.specs.Items.{items}
 use Rattle.wt_expand.specs.Expansion.{Frame, value_of}
 use Rattle.wt_values.specs.declared.values.Values.{Values}

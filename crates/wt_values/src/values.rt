@@ -5,13 +5,13 @@ ghost use Rattle.wt_expand.specs.Expansion.{Frame, value_of};
 ghost use Rattle.wt_values.specs.Frames.{AreValues};
 
 use std::alloc::Global;
-use std::collections::HashMap;
+use std::collections::BTreeMap;
 use wt_span::{List, NoMemory, Piece};
 
 /// Values by their names.
 #[derive(Drop)]
 pub struct Values<'a> {
-    named: HashMap<String, List<Piece<'a>>>,
+    named: BTreeMap<String, List<Piece<'a>>>,
 }
 
 impl<'a> Values<'a> {
@@ -20,7 +20,7 @@ impl<'a> Values<'a> {
         ensures { AreValues result [] }
     {
         Values {
-            named: HashMap::new(alloc),
+            named: BTreeMap::new(alloc),
         }
     }
 

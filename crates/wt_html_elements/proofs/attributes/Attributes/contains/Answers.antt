@@ -17,5 +17,5 @@ pub returns-else-is_among : goal.returns-else-is_among
 returns-else-is_among c =
     let first = c.args.self.now.first.items in
     let seen = ap (λ (xs : List Attribute). is_among c.args.name.now (map (λ p. p.0) (pairs xs))) c.as_slice.ensures.value in
-    c.is_in_rest.ensures
+    c.contains.ensures
     ∙ sym (sought_behind c.args.name.now (pairs first) (rest_pairs c.args.self.now) (sym seen ∙ sym c.is_among.ensures ∙ c.if-is_among.false))
