@@ -6,7 +6,7 @@ use crate::breaks::{
     push_breaks,
 };
 use crate::gap::{Gap, is_before_text};
-use crate::gone::{Slice, joins_empty_call, push_change, push_part_of};
+use crate::gone::{Slice, joins_empty_call, push_change, push_part_of, signs_as_written};
 use crate::lines::{
     begins_line, blanks_of_line, first_sign, is_doubled, is_doubled_at, is_in_stack, next_in_page,
     push_in_line, range_of, shares_line,
@@ -87,7 +87,7 @@ pub fn signs_in(
     match item_beside(gap) {
         None => Str::copy_of(alloc, outer),
         Some(item) => {
-            let signs = signs_of(alloc, known, item)?;
+            let signs = signs_as_written(alloc, known, item)?;
             signs_like(alloc, signs.as_str(), kind)
         }
     }
@@ -369,6 +369,14 @@ fn is_second_half(gap: &Gap<'_, '_, '_>, before: &Node<'_>) -> bool {
     }
 }
 
+/// Whether what comes is the second half of the block before, and what is after the gap goes on in the line of that one.
+fn goes_on_in_line(gap: &Gap<'_, '_, '_>, slice: Option<Slice>) -> bool {
+    match gap.before {
+        Some(before) => slice.is_none() && !gap.is_tight && is_second_half(gap, before),
+        None => false,
+    }
+}
+
 /// Whether what comes after a paragraph ends with one, too: what is below is as close to this one, but a heading only
 /// where the paragraph was split.
 fn goes_on_as_paragraph(gap: &Gap<'_, '_, '_>, last: Kind, below: Kind) -> bool {
@@ -472,7 +480,9 @@ fn breaks_behind<'t, 'a>(
         return if ends_line { 1 } else { 0 };
     };
     let standing = most_breaks(page, after.start, after.end);
-    let wanted = if standing == 0 && coming.is_of_line && shares_line(page, last, behind) {
+    let goes_on = goes_on_in_line(gap, slice)
+        || (coming.is_of_line && shares_line(page, last, behind));
+    let wanted = if standing == 0 && goes_on {
         0
     } else if let Some(tag) = tags_beside(gap, slice).behind {
         breaks_up_to_tag(page, tag, last, behind)
