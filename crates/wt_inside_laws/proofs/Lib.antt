@@ -38,7 +38,6 @@ pub mod SlotsFirst
 pub mod OwnEdits
 pub mod ToldEdits
 pub mod HtmlEdits
-pub mod EditCalls
 pub mod OrdinaryEdits
 pub mod InsidesCases
 pub mod PageCases

@@ -13,4 +13,3 @@ pub mod Swaps
 pub mod SameBut
 pub mod ToldEdits
 pub mod HtmlEdits
-pub mod EditCalls

@@ -28,9 +28,6 @@ ghost use Rattle.wt_called_edit_laws.specs.Groups.{called_tree};
 ghost use Rattle.wt_called_edit_laws.specs.PlacedLines.{spots_by, end_by};
 ghost use Rattle.wt_called_edit_laws.specs.ToldLines.{Told, lined, IsToldPage};
 ghost use Rattle.wt_inside_laws.specs.AsSent.{edits_of, IsPlainPage, IsReadFor, IsAlike, IsAsSent, IsSentOn};
-ghost use Rattle.wt_commands.specs.Calls.{Call};
-ghost use Rattle.wt_pagetool.specs.Promises.{Ends};
-ghost use Rattle.wt_inside_laws.specs.EditCalls.{TakesTextEdits, TakesOrdinaryEdits};
 ghost use Rattle.wt_inside_laws.specs.HtmlEdits.{IsHtmlEdit};
 ghost use Rattle.wt_inside_laws.specs.RetypedPieces.{AreRead, AreUtf8};
 ghost use Rattle.wt_inside_laws.specs.TextEdits.{IsRetyped, IsTextEdit};
@@ -95,15 +92,8 @@ pub fn text_edits_in_html_are_done()
         → edit_of pages (Some page) input ≡ done (spliced page (slices same_node (page_tree pages page) new)) }
 {}
 
-/// So each call of the program that keeps what `run` promises takes such HTML: `edit` has written that page, or a device
-/// failed, or memory ran out. The told blocks are at paths of the page's tree, and any of them may be edited at once.
-#[tactic(auto)]
-pub fn calls_take_text_edits()
-    ensures { (c : Call) (ended : ℕ) → Ends c ended → TakesTextEdits c ended }
-{}
-
 /// So each text edit is done of a page that calls nothing, where each marked block is ordinary and none of those that the
-/// lines of a page don't tell (`IsExcepted`); and so each call of the program takes them that keeps what `run` promises.
+/// lines of a page don't tell (`IsExcepted`).
 #[tactic(auto)]
 pub fn text_edits_are_done()
     ensures tree { (pages : Pages) (page input : List ℕ) (new : Tree) (unsourced : Option ℕ)
@@ -112,5 +102,4 @@ pub fn text_edits_are_done()
     ensures html { (pages : Pages) (page input : List ℕ) (new : Tree) (unsourced : Option ℕ)
         → IsOrdinaryEdit pages page input new unsourced → length input ≤ HTML_BYTES
         → edit_of pages (Some page) input ≡ done (spliced page (slices same_node (page_tree pages page) new)) }
-    ensures calls { (c : Call) (ended : ℕ) → Ends c ended → TakesOrdinaryEdits c ended }
 {}

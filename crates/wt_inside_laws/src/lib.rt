@@ -8,7 +8,7 @@ mod insides;
 mod replaced;
 
 pub use as_sent::{
-    calls_take_text_edits, edits_are_as_sent, text_edits_are_done, text_edits_are_sent_on_the_page,
+    edits_are_as_sent, text_edits_are_done, text_edits_are_sent_on_the_page,
     text_edits_in_html_are_done, text_edits_of_told_blocks_are_done, what_is_read_may_be_sent,
 };
 pub use edges::blocks_meet_plainly;

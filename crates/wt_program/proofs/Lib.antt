@@ -6,3 +6,4 @@ pub mod CalmCalls
 pub mod TextCalls
 pub mod ProseCalls
 pub mod PlacedCalls
+pub mod EditCalls

@@ -5,3 +5,4 @@ pub mod CalledCalls
 pub mod ContentCalls
 pub mod ProseCalls
 pub mod PlacedCalls
+pub mod EditCalls

@@ -8,6 +8,7 @@ ghost use Rattle.wt_program.specs.CalledCalls.{TakesTextsAmongCalls};
 ghost use Rattle.wt_program.specs.Calls.{TakesTexts};
 ghost use Rattle.wt_program.specs.CellCalls.{TakesTextsInCells};
 ghost use Rattle.wt_program.specs.ContentCalls.{TakesContentsAmongCalls};
+ghost use Rattle.wt_program.specs.EditCalls.{TakesTextEdits, TakesToldEdits};
 ghost use Rattle.wt_program.specs.PlacedCalls.{TakesContentsAtPlaces, TakesTextsAtPlaces, TakesContentsInLines, TakesTextsInLines};
 ghost use Rattle.wt_program.specs.ProseCalls.{TakesChangedProse};
 
@@ -86,4 +87,19 @@ pub fn calls_take_contents_in_lines()
 #[tactic(auto, using(crate::proofs::ProseCalls::calls_take_changes))]
 pub fn calls_take_changed_prose()
     ensures { (c : Call) (ended : ℕ) → Ends c ended → EndsAsEdit c ended → TakesChangedProse c ended }
+{}
+
+/// Every such call takes HTML that is a text edit of a page that calls nothing, where the marked blocks are ordinary
+/// (`IsOrdinaryEdit` of `wt_inside_laws`): `edit` has written the page with their insides replaced by what was sent, as it is
+/// spelled, and no line; or a device failed, or memory ran out.
+#[tactic(auto, using(crate::proofs::EditCalls::calls_take_edits))]
+pub fn calls_take_text_edits()
+    ensures { (c : Call) (ended : ℕ) → Ends c ended → TakesTextEdits c ended }
+{}
+
+/// The same of blocks that the page's lines tell (`IsToldPage`), which are at paths of the page's tree, and any of which may be
+/// edited at once.
+#[tactic(auto, using(crate::proofs::EditCalls::calls_take_told))]
+pub fn calls_take_told_edits()
+    ensures { (c : Call) (ended : ℕ) → Ends c ended → TakesToldEdits c ended }
 {}

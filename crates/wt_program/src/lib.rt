@@ -1,4 +1,4 @@
-//! The program's call: `run` answers the words of a command line, and takes edits of contents and paragraphs that come and go; and the
+//! The program's call: `run` answers the words of a command line, and takes edits of contents and of texts, and paragraphs that come and go; and the
 //! laws by which it does.
 #![tactic(auto)]
 
@@ -10,6 +10,7 @@ ghost use Rattle.wt_commands.specs.Devices.{read_from, fetched_from, written_to}
 ghost use Rattle.wt_pagetool.specs.Promises.{AsksFor, Ends, EndsAsEdit, GivesBack, ReadsAtMost, Waits, Wrote};
 ghost use Rattle.wt_commands.specs.Words.{command_of, Fetches, Reads};
 ghost use Rattle.wt_program.specs.ContentCalls.{TakesContentsAmongCalls};
+ghost use Rattle.wt_program.specs.EditCalls.{TakesTextEdits};
 ghost use Rattle.wt_program.specs.PlacedCalls.{TakesContentsInLines};
 ghost use Rattle.wt_program.specs.ProseCalls.{TakesChangedProse};
 
@@ -17,10 +18,10 @@ mod laws;
 
 pub use laws::{
     calls_take_changed_prose, calls_take_contents_among_calls, calls_take_contents_in_lines,
-    calls_take_texts, calls_take_texts_among_calls, calls_take_texts_anywhere,
-    calls_take_texts_in_cells, contents_at_their_places_are_taken_so,
-    texts_among_calls_are_taken_so, texts_in_cells_are_taken_so,
-    texts_on_pages_without_calls_are_taken_so,
+    calls_take_text_edits, calls_take_texts, calls_take_texts_among_calls,
+    calls_take_texts_anywhere, calls_take_texts_in_cells, calls_take_told_edits,
+    contents_at_their_places_are_taken_so, texts_among_calls_are_taken_so,
+    texts_in_cells_are_taken_so, texts_on_pages_without_calls_are_taken_so,
 };
 use std::alloc::Global;
 use wt_devices::{Folder, Sink, Source};
@@ -29,9 +30,9 @@ use wt_span::{List, PAGE_BYTES, Str};
 
 /// Answers the words of a command line, without the program's name, and gives the number to end with
 /// (`Status::code` of `wt_pagetool`). This is `run` of `wt_pagetool`, which says what each command does, with all
-/// that it promises and three promises more, which follow from that and from the laws of edits
-/// (`takes_contents_among_calls`, `takes_contents_in_lines`, `takes_changed_prose`).
-#[tactic(auto, using(crate::proofs::AmongCalls::calls_take, crate::proofs::PlacedCalls::calls_take_in_lines, crate::proofs::ProseCalls::calls_take_changes))]
+/// that it promises and four promises more, which follow from that and from the laws of edits
+/// (`takes_contents_among_calls`, `takes_contents_in_lines`, `takes_text_edits`, `takes_changed_prose`).
+#[tactic(auto, using(crate::proofs::AmongCalls::calls_take, crate::proofs::PlacedCalls::calls_take_in_lines, crate::proofs::EditCalls::calls_take_edits, crate::proofs::ProseCalls::calls_take_changes))]
 pub fn run<S: Source, F: Folder, W: Sink, E: Sink>(
     alloc: Global,
     words: &List<Str>,
@@ -56,6 +57,14 @@ pub fn run<S: Source, F: Folder, W: Sink, E: Sink>(
     // and in captions whose lines come from no call, that aren't tangled, hold no group and are in none, whatever calls are
     // before, between and behind them. Edited contents of any are taken so.
     ensures takes_contents_in_lines { TakesContentsInLines (call words.now (read_from S.Source input.old input.new)
+        (fetched_from F.Folder folder.old folder.new) (written_to W.Sink out.old out.new)
+        (written_to E.Sink err.old err.new)) result }
+
+    // Each text edit of a page that calls nothing is taken, where nothing is a group and no comment and no hidden part is open
+    // at the page's end: where a call sends HTML in which texts of any paragraphs and headings were typed anew, and these are
+    // ordinary (`IsOrdinaryEdit` of `wt_inside_laws`), `edit` has written the page with the insides of these replaced by what
+    // was sent, as it is spelled, and no line; or a device failed, or memory ran out.
+    ensures takes_text_edits { TakesTextEdits (call words.now (read_from S.Source input.old input.new)
         (fetched_from F.Folder folder.old folder.new) (written_to W.Sink out.old out.new)
         (written_to E.Sink err.old err.new)) result }
 

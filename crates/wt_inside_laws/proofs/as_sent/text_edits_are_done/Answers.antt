@@ -1,4 +1,3 @@
-use Rattle.wt_inside_laws.proofs.EditCalls.{calls_take_ordinary}
 use Rattle.wt_inside_laws.proofs.OrdinaryEdits.{ordinary_done, ordinary_written}
 use Rattle.wt_inside_laws.proofs.as_sent.text_edits_are_done.Goals as goal
 
@@ -7,6 +6,3 @@ returns-clause-tree c = ordinary_done
 
 pub returns-clause-html : goal.returns-clause-html
 returns-clause-html c = ordinary_written
-
-pub returns-clause-calls : goal.returns-clause-calls
-returns-clause-calls c = calls_take_ordinary

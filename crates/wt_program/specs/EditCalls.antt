@@ -27,7 +27,7 @@ retyped_page pages page new = spliced page (slices same_node (page_tree pages pa
 -- The blocks that the page's lines tell are at paths of its tree. Where a call sends HTML that is a text edit of some of them,
 -- * `edit` has written the page with the insides of these replaced; or a device failed, or memory ran out;
 -- * where no device failed, only want of memory may come in its place.
-pub record TakesTextEditsThere (c : Call) (ended : ℕ) (pages : Pages) (page : List ℕ) (ts : List Told) (rest : List (List Item)) : Type 0 where
+pub record TakesToldEditsThere (c : Call) (ended : ℕ) (pages : Pages) (page : List ℕ) (ts : List Told) (rest : List (List Item)) : Type 0 where
   pub paths : List (List ℕ)
   pub stand : AllStand (spots_by [] (map lined ts)) paths (spots_tree pages (spots_by [] (map lined ts)) (end_by [] (map lined ts) rest))
   pub edit : (new : Tree) → (s : SendsFor c Edit page (retyped_page pages page new) (λ b. new)) → IsHtmlEdit pages page s.input paths new s.unsourced
@@ -36,15 +36,18 @@ pub record TakesTextEditsThere (c : Call) (ended : ℕ) (pages : Pages) (page : 
       → NothingFailed c → WroteNewPage c ended (retyped_page pages page new) ⊎ (ended ≡ code status.NoMemory)
 
 -- over a folder of these pages, of each page that its lines tell so
-abbrev pub TakesTextEdits : Call → ℕ → Type 0
-TakesTextEdits c ended =
+abbrev pub TakesToldEdits : Call → ℕ → Type 0
+TakesToldEdits c ended =
     (pages : Pages) (page : List ℕ) (ts : List Told) (rest : List (List Item)) → c.folder.pages_before ≡ Some pages → IsToldPage page ts rest
-    → TakesTextEditsThere c ended pages page ts rest
+    → TakesToldEditsThere c ended pages page ts rest
 
--- over a folder of these pages, of each page, where the marked blocks are ordinary
-abbrev pub TakesOrdinaryEdits : Call → ℕ → Type 0
-TakesOrdinaryEdits c ended =
-    (pages : Pages) (page : List ℕ) (new : Tree) → c.folder.pages_before ≡ Some pages
-    → (s : SendsFor c Edit page (retyped_page pages page new) (λ b. new)) → IsOrdinaryEdit pages page s.input new s.unsourced
-    → (WroteNewPage c ended (retyped_page pages page new) ⊎ IsFaultOrNoMemory ended)
-    × (NothingFailed c → WroteNewPage c ended (retyped_page pages page new) ⊎ (ended ≡ code status.NoMemory))
+-- Where a call sends HTML that is a text edit of a page, and the marked blocks are ordinary (`IsOrdinaryEdit`),
+-- * `edit` has written the page with the insides of these replaced; or a device failed, or memory ran out;
+-- * where no device failed, only want of memory may come in its place.
+pub record TakesTextEdits (c : Call) (ended : ℕ) : Type 0 where
+  pub edit : (pages : Pages) (page : List ℕ) (new : Tree) → c.folder.pages_before ≡ Some pages
+      → (s : SendsFor c Edit page (retyped_page pages page new) (λ b. new)) → IsOrdinaryEdit pages page s.input new s.unsourced
+      → WroteNewPage c ended (retyped_page pages page new) ⊎ IsFaultOrNoMemory ended
+  pub complete : (pages : Pages) (page : List ℕ) (new : Tree) → c.folder.pages_before ≡ Some pages
+      → (s : SendsFor c Edit page (retyped_page pages page new) (λ b. new)) → IsOrdinaryEdit pages page s.input new s.unsourced → NothingFailed c
+      → WroteNewPage c ended (retyped_page pages page new) ⊎ (ended ≡ code status.NoMemory)

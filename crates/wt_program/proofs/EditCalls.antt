@@ -15,7 +15,7 @@ use Rattle.wt_called_edit_laws.proofs.Told.ToldPages.{told_called}
 use Rattle.wt_program.specs.AnyCalls.{SendsFor}
 use Rattle.wt_program.proofs.AnyCalls.{answer_is}
 use Rattle.wt_program.proofs.BlocksCalls.{page_ends, page_completes}
-use Rattle.wt_inside_laws.specs.EditCalls.{retyped_page, TakesTextEdits, TakesOrdinaryEdits}
+use Rattle.wt_program.specs.EditCalls.{retyped_page, TakesToldEdits, TakesTextEdits}
 use Rattle.wt_inside_laws.specs.HtmlEdits.{IsHtmlEdit}
 use Rattle.wt_inside_laws.specs.ToldEdits.{IsOrdinaryEdit}
 use Rattle.wt_inside_laws.proofs.HtmlEdits.{html_told}
@@ -39,8 +39,8 @@ answered c pages page ts rest new told h t s e =
     (subst (λ (ps : Pages). edit_to ps page new ≡ done (retyped_page pages page new)) (same_pages pages s.pages (sym told ∙ s.told))
     (told_edit_done pages page ts rest new h t (html_told pages page s.input ts rest t.paths new s.unsourced h e)))
 
-pub calls_take_edits : (c : Call) (ended : ℕ) → Ends c ended → TakesTextEdits c ended
-calls_take_edits c ended ends = λ pages page ts rest told h.
+pub calls_take_told : (c : Call) (ended : ℕ) → Ends c ended → TakesToldEdits c ended
+calls_take_told c ended ends = λ pages page ts rest told h.
     let t : TakesContents pages (spots_by [] (map lined ts)) (end_by [] (map lined ts) rest) =
     contents_taken pages (spots_by [] (map lined ts)) (end_by [] (map lined ts) rest) (told_called pages page ts rest h) in
     record {
@@ -60,7 +60,9 @@ ordinary_answered c pages page new told s e =
     (subst (λ (ps : Pages). edit_to ps page new ≡ done (retyped_page pages page new)) (same_pages pages s.pages (sym told ∙ s.told))
     (ordinary_done pages page s.input new s.unsourced e))
 
-pub calls_take_ordinary : (c : Call) (ended : ℕ) → Ends c ended → TakesOrdinaryEdits c ended
-calls_take_ordinary c ended ends = λ pages page new told s e.
-    let known : known_answer c ≡ Some (done (retyped_page pages page new)) = ordinary_answered c pages page new told s e in
-    (page_ends c ended (retyped_page pages page new) known ends, λ sound. page_completes c ended (retyped_page pages page new) known ends sound)
+pub calls_take_edits : (c : Call) (ended : ℕ) → Ends c ended → TakesTextEdits c ended
+calls_take_edits c ended ends = record {
+  edit = λ pages page new told s e. page_ends c ended (retyped_page pages page new) (ordinary_answered c pages page new told s e) ends;
+  complete = λ pages page new told s e no.
+      page_completes c ended (retyped_page pages page new) (ordinary_answered c pages page new told s e) ends no;
+}
