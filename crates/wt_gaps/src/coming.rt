@@ -369,10 +369,21 @@ fn is_second_half(gap: &Gap<'_, '_, '_>, before: &Node<'_>) -> bool {
     }
 }
 
-/// Whether what comes is the second half of the block before, and what is after the gap goes on in the line of that one.
-fn goes_on_in_line(gap: &Gap<'_, '_, '_>, slice: Option<Slice>) -> bool {
+/// Whether what comes, which takes no other's place, is the second half of the block before, and the page has what is after
+/// the gap in the line with which that block ends.
+fn goes_on_in_line(
+    page: &str,
+    gap: &Gap<'_, '_, '_>,
+    slice: Option<Slice>,
+    behind: &Node<'_>,
+) -> bool {
     match gap.before {
-        Some(before) => slice.is_none() && !gap.is_tight && is_second_half(gap, before),
+        Some(before) => {
+            slice.is_none()
+                && !gap.is_tight
+                && most_breaks(page, range_of(before).end, range_of(behind).start) == 0
+                && is_second_half(gap, before)
+        }
         None => false,
     }
 }
@@ -480,9 +491,10 @@ fn breaks_behind<'t, 'a>(
         return if ends_line { 1 } else { 0 };
     };
     let standing = most_breaks(page, after.start, after.end);
-    let goes_on = goes_on_in_line(gap, slice)
-        || (coming.is_of_line && shares_line(page, last, behind));
-    let wanted = if standing == 0 && goes_on {
+    let goes_on = standing == 0
+        && ((coming.is_of_line && shares_line(page, last, behind))
+            || goes_on_in_line(page, gap, slice, behind));
+    let wanted = if goes_on {
         0
     } else if let Some(tag) = tags_beside(gap, slice).behind {
         breaks_up_to_tag(page, tag, last, behind)
