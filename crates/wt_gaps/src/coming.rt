@@ -272,6 +272,21 @@ fn breaks_after_child(known: &Known<'_, '_>, gap: &Gap<'_, '_, '_>, coming: &Com
     }
 }
 
+/// The line breaks before the first half of a paragraph of the page, where so many stand: it begins where the paragraph
+/// began, on the line of a table's end, too.
+fn breaks_before_half(
+    page: &str,
+    gap: &Gap<'_, '_, '_>,
+    coming: &Coming,
+    standing: usize,
+) -> usize {
+    if standing == 0 {
+        0
+    } else {
+        least_before(page, gap, coming)
+    }
+}
+
 /// The include tags beside what comes in the place of a slice, or in a gap.
 fn tags_beside(gap: &Gap<'_, '_, '_>, slice: Option<Slice>) -> Tags {
     if gap.is_tight {
@@ -297,6 +312,7 @@ fn breaks_before(
     let wanted = match tags_beside(gap, slice).before {
         Some(tag) => breaks_after_tag(page, gap, coming, tag),
         None if slice.is_some() => least_before(page, gap, coming),
+        None if is_first_half(gap) => breaks_before_half(page, gap, coming, standing),
         None => breaks_after_child(known, gap, coming),
     };
     let missing = wanted.saturating_sub(standing);
