@@ -446,6 +446,19 @@ fn goes_on_behind_joined(page: &str, gap: &Gap<'_, '_, '_>, behind: &Node<'_>) -
     }
 }
 
+/// Whether the first child that goes is in the line with which the child before ends, and its text went into the one after.
+fn goes_on_before_joined(page: &str, gap: &Gap<'_, '_, '_>, before: &Node<'_>) -> bool {
+    match gap.gone.first() {
+        Some(gone) => {
+            matches!(gap.joined, Joined::Behind)
+                && is_compared(gone.node.kind)
+                && !gap.is_tight
+                && most_breaks(page, range_of(before).end, range_of(gone.node).start) == 0
+        }
+        None => false,
+    }
+}
+
 /// The line breaks that are wanted between the two that stay: one before a cell that doesn't go on in a line.
 pub fn wanted_between(page: &str, gap: &Gap<'_, '_, '_>) -> usize {
     let (Some(before), Some(behind)) = (gap.before, gap.behind) else {
@@ -454,7 +467,10 @@ pub fn wanted_between(page: &str, gap: &Gap<'_, '_, '_>) -> usize {
     if is_cell(behind.kind) && !is_doubled(page, behind) {
         return 1;
     }
-    if joins_empty_call(page, before, behind.kind) || goes_on_behind_joined(page, gap, behind) {
+    if joins_empty_call(page, before, behind.kind)
+        || goes_on_behind_joined(page, gap, behind)
+        || goes_on_before_joined(page, gap, before)
+    {
         return 0;
     }
     least_between(gap.is_tight, kind_at_end(before), kind_at_start(behind))
