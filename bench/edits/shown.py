@@ -1,7 +1,8 @@
 """What a document shows, for comparing two: written from docs/profile.md, and independent of the program.
 
-Numbers, places, sections, comments, include tags and skips show nothing; entities and `nowiki` show their
-text; of white space between blocks nothing is shown. Islands are what they are in the source.
+Numbers, places, sections, comments, include tags and skips show nothing, nor does a call that gives nothing;
+entities, `nowiki` and the texts of a group show their text; of white space between blocks nothing is shown.
+Islands are what they are in the source.
 """
 from __future__ import annotations
 
@@ -65,7 +66,8 @@ def contents(part: Part) -> List[Shown]:
 
 
 def flat(part: Part) -> "List[Union[str, Part, None]]":
-    """Its texts and elements; sections, entities and `nowiki` are opened. None: what shows nothing."""
+    """Its texts and elements; sections, entities, `nowiki` and the texts of groups are opened.
+    None: what shows nothing."""
     out: "List[Union[str, Part, None]]" = []
     for child in part.children:
         kind = child.attributes.get("typeof", "")
@@ -75,11 +77,18 @@ def flat(part: Part) -> "List[Union[str, Part, None]]":
             out.append(None)
         elif child.name == "section":
             out += flat(child)
+        elif is_text_of_group(child):
+            out += flat(child) or [None]
         elif own_kind(kind) in TEXT_ALONE:
             out.append(child.shown_text())
         else:
             out.append(child)
     return out
+
+
+def is_text_of_group(part: Part) -> bool:
+    """Whether it is a `span` that a group has for itself: round a text, or for a call that gives nothing."""
+    return part.name == "span" and "about" in part.attributes and not attributes(part)
 
 
 def own_kind(kind: str) -> str:

@@ -27,6 +27,7 @@ def block(name: str, start: int, end: int, inside: str, number: int = 1) -> str:
 
 ENTITY = '<span typeof="mw:Entity" id="mw2">&amp;</span>'
 COMMENT = '<meta typeof="mw:Comment" id="mw3"/>'
+CALL = '<span about="#mwt1" typeof="mw:Transclusion" id="mw5">%s</span>'
 REFERENCE = "<span typeof=\"mw:Extension/ref\" id=\"mw4\" data-parsoid='{\"src\":\"%s\"}'></span>"
 
 
@@ -39,6 +40,9 @@ class Shown(unittest.TestCase):
             ("<ul><li>a</li><li>b</li></ul>", "<ul>\n<li>a\n</li>\n<li>b</li></ul>"),
             ("<ul><li>a <ul><li>b</li></ul></li></ul>", "<ul><li>a <ul>\n<li>b</li></ul> </li></ul>"),
             ('<p><i about="#mwt1" typeof="mw:Transclusion">t</i></p>', '<p><i about="#mwt4">t</i></p>'),
+            (f"<p>{CALL % 't'}</p>", '<p about="#mwt1" typeof="mw:Transclusion">t</p>'),
+            (f"<p>a</p>{CALL % ''}<p>b</p>", f"<p>a{CALL % ''}</p><p>b</p>"),
+            (f"<p>a{CALL % 't'}b</p>", "<p>atb</p>"),
         ]:
             with self.subTest(one=one):
                 self.assertIsNone(first_difference(document(one), document(other)))
@@ -55,6 +59,10 @@ class Shown(unittest.TestCase):
             ("<p><b>a</b><b>b</b></p>", "<p><b>ab</b></p>"),
             ("<ul><li>a</li><li>b</li></ul>", "<ul><li>a<ul><li>b</li></ul></li></ul>"),
             (f"<p>{REFERENCE % 'x'}</p>", f"<p>{REFERENCE % 'y'}</p>"),
+            (f"<p>a{CALL % 't'}</p>", f"<p>a{CALL % 'u'}</p>"),
+            (f"<p>a{CALL % ''}</p>", f"<p>a{CALL % 't'}</p>"),
+            ('<p><span class="k">t</span></p>', f"<p>{CALL % 't'}</p>"),
+            ('<p><span id="mw5">t</span></p>', f"<p>{CALL % 't'}</p>"),
             ('<p>a</p><meta property="mw:PageProp/notoc"/>', "<p>a</p>"),
         ]:
             with self.subTest(one=one):

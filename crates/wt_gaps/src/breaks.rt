@@ -75,6 +75,15 @@ fn is_apart(kind: Kind) -> bool {
     is_lined(kind) || matches!(kind, Kind::Empty)
 }
 
+/// Whether the first bytes of their lines alone tell two neighbours apart: a paragraph and preformatted text.
+fn are_told_by_lines(left: Kind, right: Kind) -> bool {
+    match left {
+        Kind::Para => matches!(right, Kind::Pre),
+        Kind::Pre => matches!(right, Kind::Para),
+        _ => false,
+    }
+}
+
 /// How many line breaks two neighbours ask for at least. No empty line is in an item, a list or a table.
 pub fn least_between(is_tight: bool, left: Kind, right: Kind) -> usize {
     if is_cell(left) && !matches!(right, Kind::Group | Kind::Empty) {
@@ -83,7 +92,8 @@ pub fn least_between(is_tight: bool, left: Kind, right: Kind) -> usize {
     if is_tight {
         return 1;
     }
-    if (is_apart(left) || is_apart(right)) && !(is_list(left) && same_kind(left, right)) {
+    let are_apart = is_apart(left) || is_apart(right) || are_told_by_lines(left, right);
+    if are_apart && !(is_list(left) && same_kind(left, right)) {
         1
     } else {
         2

@@ -6,7 +6,7 @@ use crate::breaks::{
     push_breaks,
 };
 use crate::gap::{Gap, is_before_text};
-use crate::gone::{Slice, joins_empty_call, push_change, push_part_of};
+use crate::gone::{Slice, joins_empty_call, push_change, push_part_of, signs_as_written};
 use crate::lines::{
     begins_line, blanks_of_line, first_sign, is_doubled, is_doubled_at, is_in_stack, next_in_page,
     push_in_line, range_of, shares_line,
@@ -87,7 +87,7 @@ pub fn signs_in(
     match item_beside(gap) {
         None => Str::copy_of(alloc, outer),
         Some(item) => {
-            let signs = signs_of(alloc, known, item)?;
+            let signs = signs_as_written(alloc, known, item)?;
             signs_like(alloc, signs.as_str(), kind)
         }
     }
@@ -272,6 +272,21 @@ fn breaks_after_child(known: &Known<'_, '_>, gap: &Gap<'_, '_, '_>, coming: &Com
     }
 }
 
+/// The line breaks before the first half of a paragraph of the page, where so many stand: it begins where the paragraph
+/// began, on the line of a table's end, too.
+fn breaks_before_half(
+    page: &str,
+    gap: &Gap<'_, '_, '_>,
+    coming: &Coming,
+    standing: usize,
+) -> usize {
+    if standing == 0 {
+        0
+    } else {
+        least_before(page, gap, coming)
+    }
+}
+
 /// The include tags beside what comes in the place of a slice, or in a gap.
 fn tags_beside(gap: &Gap<'_, '_, '_>, slice: Option<Slice>) -> Tags {
     if gap.is_tight {
@@ -297,6 +312,7 @@ fn breaks_before(
     let wanted = match tags_beside(gap, slice).before {
         Some(tag) => breaks_after_tag(page, gap, coming, tag),
         None if slice.is_some() => least_before(page, gap, coming),
+        None if is_first_half(gap) => breaks_before_half(page, gap, coming, standing),
         None => breaks_after_child(known, gap, coming),
     };
     let missing = wanted.saturating_sub(standing);
@@ -366,6 +382,25 @@ fn is_second_half(gap: &Gap<'_, '_, '_>, before: &Node<'_>) -> bool {
                 || (!last.shown().is_empty() && was.shown().ends_with(last.shown()))
         }
         _ => false,
+    }
+}
+
+/// Whether what comes, which takes no other's place, is the second half of the block before, and the page has what is after
+/// the gap in the line with which that block ends.
+fn goes_on_in_line(
+    page: &str,
+    gap: &Gap<'_, '_, '_>,
+    slice: Option<Slice>,
+    behind: &Node<'_>,
+) -> bool {
+    match gap.before {
+        Some(before) => {
+            slice.is_none()
+                && !gap.is_tight
+                && most_breaks(page, range_of(before).end, range_of(behind).start) == 0
+                && is_second_half(gap, before)
+        }
+        None => false,
     }
 }
 
@@ -472,7 +507,10 @@ fn breaks_behind<'t, 'a>(
         return if ends_line { 1 } else { 0 };
     };
     let standing = most_breaks(page, after.start, after.end);
-    let wanted = if standing == 0 && coming.is_of_line && shares_line(page, last, behind) {
+    let goes_on = standing == 0
+        && ((coming.is_of_line && shares_line(page, last, behind))
+            || goes_on_in_line(page, gap, slice, behind));
+    let wanted = if goes_on {
         0
     } else if let Some(tag) = tags_beside(gap, slice).behind {
         breaks_up_to_tag(page, tag, last, behind)

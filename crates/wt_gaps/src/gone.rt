@@ -181,6 +181,30 @@ pub fn push_change(out: &mut Vec<Change>, place: Slot, by: Str) -> Result<(), No
     Ok(())
 }
 
+/// How many signs of items a text begins with.
+fn signs_len(text: &str) -> usize {
+    text.as_bytes()
+        .iter()
+        .take_while(|byte| matches!(**byte, b'*' | b'#' | b':' | b';'))
+        .count()
+}
+
+/// The signs of an item of the page, as its line has them: `;#` below a term and a definition is read as `:#`. By the lists
+/// in which it is, where its line doesn't begin with it.
+pub fn signs_as_written(
+    alloc: Global,
+    known: &Known<'_, '_>,
+    item: &Node<'_>,
+) -> Result<Str, NoMemory> {
+    let signs = signs_of(alloc, known, item)?;
+    let opening = texts_joined(alloc, item.opening())?;
+    let opening = opening.as_str();
+    match opening.split_at_checked(signs_len(opening)) {
+        Some((own, _)) if own.len() == signs.as_str().len() => Str::copy_of(alloc, own),
+        _ => Ok(signs),
+    }
+}
+
 /// Appends the signs that an item hasn't which begins a line now: those before its own, where it went on in one.
 fn push_missing_signs(
     alloc: Global,
@@ -191,12 +215,7 @@ fn push_missing_signs(
     let signs = signs_of(alloc, known, item)?;
     let signs = signs.as_str();
     let opening = texts_joined(alloc, item.opening())?;
-    let own = opening
-        .as_str()
-        .as_bytes()
-        .iter()
-        .take_while(|byte| matches!(**byte, b'*' | b'#' | b':' | b';'))
-        .count();
+    let own = signs_len(opening.as_str());
     if own == 0 {
         return Ok(());
     }
@@ -242,11 +261,12 @@ pub fn push_part_of(
     )
 }
 
-/// What a slice that goes leaves: where what is written anew begins, how many line breaks are written there, and how
-/// many there are then between what was before and after it, also across an include tag.
+/// What a slice that goes leaves: where what is written anew begins and ends, how many line breaks are written there, and
+/// how many there are then between what was before and after it, also across an include tag.
 #[derive(Clone, Copy)]
 struct Left {
     start: usize,
+    end: usize,
     by: usize,
     standing: usize,
 }
@@ -303,12 +323,33 @@ fn across_tags(page: &str, gap: &Gap<'_, '_, '_>, tags: Tags) -> usize {
     breaks_before_tag(page, tags.before).saturating_add(breaks_behind_tag(page, tags.behind))
 }
 
+/// Whether the blanks and line breaks behind a slice stay as they are, and those before it go: its text was joined with
+/// what is above it, no tag or heading is beside it, and as many line breaks are left as there are behind it.
+fn keeps_behind(gap: &Gap<'_, '_, '_>, slice: Slice, behind: usize, left: usize) -> bool {
+    let tags = slice.tags;
+    matches!(gap.joined, Joined::Before)
+        && !gap.is_tight
+        && !is_below_heading(gap)
+        && tags.before.is_none()
+        && tags.behind.is_none()
+        && 0 < behind
+        && behind == left
+}
+
 /// What a slice leaves that goes with the blanks of `place`, where what is before `at` was looked at.
 fn left_of(page: &str, gap: &Gap<'_, '_, '_>, at: usize, slice: Slice, place: Slot) -> Left {
     let from = back_over_blanks(page, at, slice.place.start);
     let before = most_breaks(page, from, slice.place.start);
     let behind = most_breaks(page, slice.place.end, place.end);
     let left = breaks_left(gap, slice, before, behind);
+    if gap.place.start <= from && keeps_behind(gap, slice, behind, left) {
+        return Left {
+            start: from,
+            end: slice.place.end,
+            by: 0,
+            standing: most_breaks(page, at, from).saturating_add(left),
+        };
+    }
     let start = if left < before {
         from.max(gap.place.start)
     } else {
@@ -323,6 +364,7 @@ fn left_of(page: &str, gap: &Gap<'_, '_, '_>, at: usize, slice: Slice, place: Sl
     let standing = most_breaks(page, at, start).saturating_add(by);
     Left {
         start,
+        end: place.end,
         by,
         standing: standing.max(left.saturating_add(across)),
     }
@@ -347,7 +389,7 @@ pub fn push_gone(
         let place = with_blanks(page, gap, slice.place);
         let left = left_of(page, gap, at, *slice, place);
         standing = left.standing.max(standing);
-        at = place.end;
+        at = left.end;
         let missing = if count == 0 {
             wanted.saturating_sub(most_breaks(page, at, gap.place.end).max(standing))
         } else {
@@ -356,7 +398,7 @@ pub fn push_gone(
         let by = breaks(alloc, left.by.saturating_add(missing))?;
         let anew = Slot {
             start: left.start,
-            end: place.end,
+            end: left.end,
         };
         push_part_of(alloc, out, known, gap, anew, by)?;
     }
@@ -391,6 +433,32 @@ pub fn joins_empty_call(page: &str, before: &Node<'_>, kind: Kind) -> bool {
         && byte_at(page, range_of(before).end) != b'\n'
 }
 
+/// Whether the child after a gap goes on in the line of the last one that goes, whose text went into the child before.
+fn goes_on_behind_joined(page: &str, gap: &Gap<'_, '_, '_>, behind: &Node<'_>) -> bool {
+    match gap.gone.last() {
+        Some(gone) => {
+            matches!(gap.joined, Joined::Before)
+                && is_compared(gone.node.kind)
+                && !gap.is_tight
+                && most_breaks(page, range_of(gone.node).end, range_of(behind).start) == 0
+        }
+        None => false,
+    }
+}
+
+/// Whether the first child that goes is in the line with which the child before ends, and its text went into the one after.
+fn goes_on_before_joined(page: &str, gap: &Gap<'_, '_, '_>, before: &Node<'_>) -> bool {
+    match gap.gone.first() {
+        Some(gone) => {
+            matches!(gap.joined, Joined::Behind)
+                && is_compared(gone.node.kind)
+                && !gap.is_tight
+                && most_breaks(page, range_of(before).end, range_of(gone.node).start) == 0
+        }
+        None => false,
+    }
+}
+
 /// The line breaks that are wanted between the two that stay: one before a cell that doesn't go on in a line.
 pub fn wanted_between(page: &str, gap: &Gap<'_, '_, '_>) -> usize {
     let (Some(before), Some(behind)) = (gap.before, gap.behind) else {
@@ -399,7 +467,10 @@ pub fn wanted_between(page: &str, gap: &Gap<'_, '_, '_>) -> usize {
     if is_cell(behind.kind) && !is_doubled(page, behind) {
         return 1;
     }
-    if joins_empty_call(page, before, behind.kind) {
+    if joins_empty_call(page, before, behind.kind)
+        || goes_on_behind_joined(page, gap, behind)
+        || goes_on_before_joined(page, gap, before)
+    {
         return 0;
     }
     least_between(gap.is_tight, kind_at_end(before), kind_at_start(behind))

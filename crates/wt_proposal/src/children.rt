@@ -63,10 +63,7 @@ fn coming_of<'t, 'a>(
             };
             coming = Some(match coming {
                 None => begun_with(alloc, known, &around, node)?,
-                Some(coming) => {
-                    let is_tight = gap.is_tight;
-                    followed(alloc, known, is_tight, coming, &around, before, node)?
-                }
+                Some(coming) => followed(alloc, known, gap, coming, &around, before, node)?,
             });
             before = Some(node);
             block = block.next();
@@ -197,12 +194,47 @@ fn begins_line(known: &Known<'_, '_>, mark: &Node<'_>) -> bool {
 fn goes_on_in_line(known: &Known<'_, '_>, before: Option<&Node<'_>>, node: &Node<'_>) -> bool {
     match before {
         Some(before) => {
-            is_item(node.kind)
-                && inside(node).len() == node.children.as_slice().len()
-                && goes_on_behind(known, before, node)
+            is_item(node.kind) && is_inside_alone(node) && goes_on_behind(known, before, node)
         }
         None => false,
     }
+}
+
+/// Whether a node holds nothing but its inside.
+fn is_inside_alone(node: &Node<'_>) -> bool {
+    inside(node).len() == node.children.as_slice().len()
+}
+
+/// Whether a definition of the page is in the line of its term.
+fn is_in_line_of_term(known: &Known<'_, '_>, definition: &Node<'_>) -> bool {
+    matches!(definition.kind, Kind::Dd)
+        && !definition.opening().is_empty()
+        && !is_at_line_start(known.page, range_of(definition).start)
+}
+
+/// Whether a new definition goes on in the line of the new term before it, whose text ends with a blank: as the one before
+/// the gap does, which they come after.
+fn goes_on_as_in_page(
+    known: &Known<'_, '_>,
+    in_page: Option<&Node<'_>>,
+    before: Option<&Node<'_>>,
+    node: &Node<'_>,
+) -> bool {
+    let (Some(in_page), Some(term)) = (in_page, before) else {
+        return false;
+    };
+    let are_new = term.id == 0 && node.id == 0;
+    let is_pair = matches!(term.kind, Kind::Dt) && matches!(node.kind, Kind::Dd);
+    let ends_with_blank = match last_text(inside(term)) {
+        Some(text) => text.shown().ends_with(" "),
+        None => false,
+    };
+    are_new
+        && is_pair
+        && ends_with_blank
+        && is_inside_alone(term)
+        && is_inside_alone(node)
+        && is_in_line_of_term(known, in_page)
 }
 
 /// Appends a block that comes after another; of an item that goes on in its line the last sign alone.
@@ -229,7 +261,7 @@ fn push_behind<'t, 'a>(
 fn followed<'t, 'a>(
     alloc: Global,
     known: &Known<'t, 'a>,
-    is_tight: bool,
+    gap: &Gap<'_, 't, 'a>,
     coming: Coming,
     around: &Surroundings<'_, 't, 'a>,
     before: Option<&Node<'_>>,
@@ -244,7 +276,8 @@ fn followed<'t, 'a>(
         is_trailed: _,
         mut source,
     } = coming;
-    let goes_on = goes_on_in_line(known, before, node);
+    let goes_on = goes_on_in_line(known, before, node)
+        || goes_on_as_in_page(known, gap.before, before, node);
     let is_begun = before.is_none()
         || goes_on
         || push_if_in_line(alloc, &mut source, known, around, before, node)?
@@ -252,7 +285,7 @@ fn followed<'t, 'a>(
     if !is_begun {
         push_breaks(
             &mut source,
-            between_coming(known, is_tight, last, before, node),
+            between_coming(known, gap.is_tight, last, before, node),
         )?;
         source.push_str(around.blanks)?;
     }

@@ -88,7 +88,7 @@ pub fn marks_without_place(
 }
 
 /// Appends those of these nodes, and in them, that are such marks, as they are in the page.
-pub fn push_marks(
+fn push_marks(
     alloc: Global,
     out: &mut Str,
     marks: &[bool],
@@ -102,4 +102,28 @@ pub fn push_marks(
         push_marks(alloc, out, marks, node.children.as_slice())?;
     }
     Ok(())
+}
+
+/// A text without the blanks at its end, and these; all of it, where nothing but blanks is on its last line.
+fn parted_from_blanks(text: &str) -> (&str, &str) {
+    let front = text.trim_end_matches(' ');
+    if front.is_empty() || front.ends_with("\n") {
+        return (text, "");
+    }
+    text.split_at_checked(front.len()).unwrap_or((text, ""))
+}
+
+/// Appends an inside, given as it is written, and before the blanks at its end those of its nodes in the page that are such
+/// marks.
+pub fn push_with_marks(
+    alloc: Global,
+    out: &mut Str,
+    source: &str,
+    marks: &[bool],
+    nodes: &[Node<'_>],
+) -> Result<(), NoMemory> {
+    let (front, blanks) = parted_from_blanks(source);
+    out.push_str(front)?;
+    push_marks(alloc, out, marks, nodes)?;
+    out.push_str(blanks)
 }

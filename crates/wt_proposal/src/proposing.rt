@@ -8,7 +8,7 @@ ghost use Rattle.wt_places.specs.Rewritten.{IsRewritten};
 
 use crate::along::{comments_along, marks_left};
 use crate::children::push_gap;
-use crate::homeless::{marks_without_place, push_marks};
+use crate::homeless::{marks_without_place, push_with_marks};
 use crate::lost::loses_marks;
 use std::alloc::Global;
 use wt_block_signs::{
@@ -170,8 +170,7 @@ fn push_inside<'t, 'a>(
         text_of_staying(known.page, known.index, new),
         &edges_of(inside(old)),
     )?;
-    by.push_str(source.as_str())?;
-    push_marks(alloc, &mut by, style.homeless, inside(old))?;
+    push_with_marks(alloc, &mut by, source.as_str(), style.homeless, inside(old))?;
     let place = Slot {
         start,
         end: inside_end(old),
