@@ -152,12 +152,12 @@ pair_at pages page t es p (q ∷ qs) (m ∷ ms) (inr h) k e f =
 pair_fits : (pages : Pages) (page : List ℕ) (k : TextBlock) (q : List ℕ) (p : Pair) → IsContent k q → OwnRead k q → IsStanding (block_tree k q) p.old
     → IsKnownPair pages page p → Fits k q (edit_for p)
 pair_fits pages page k q p c r s h =
-    let ended : HasEndedNodes k q p.old = h.ordinary k q s in
-    let styled : IsStyledIn k q = content_styled k q c r.calm ended.paired ended.ended in
+    let ended : HasEndedNodes k q p = h.ordinary k q s in
+    let styled : IsStyledIn k q = content_styled k q c r.calm ended.ended in
     inr (
       styled,
       subst (λ (t : Tree). IsStyledEditOf k t (pieces_for p)) (sym (same_old same_node (page_of (page_tree pages page)) p h.alike))
-          (standing_edit k q (expanded_page pages page) page p h.retyped h.read.read h.read.utf8 s styled ended.unmarked),
+          (standing_edit k q (expanded_page pages page) page p h.retyped h.read.read h.read.utf8 s styled ended.unmarked ended.paired),
     )
 
 -- what is known of the page and what was sent for it

@@ -14,6 +14,7 @@ use Rattle.wt_guards.specs.declared.role.Role.TheVariants.{Link, Bare, Mark, Nod
 use Rattle.wt_guards.specs.declared.role.Transclusion.{Transclusion}
 use Rattle.wt_guards.specs.Table.{line_start_hazard}
 use Rattle.wt_inline.specs.Parts.{children}
+use Rattle.wt_tiles.specs.declared.glyph.Glyph.TheVariants as glyph
 use Rattle.wt_tiles.specs.declared.shape.TileKind.TheVariants as tile
 use Rattle.wt_tiles.specs.Glyphs.{byte_glyphs}
 use Rattle.wt_tiles.specs.Links.{target_of, link_in, link_at}
@@ -32,6 +33,7 @@ use Rattle.wt_annotated.specs.Labels.{label_at}
 use Rattle.wt_isolation.specs.GroupItems.{empty_nowiki}
 use Rattle.wt_beside_laws.specs.Given.{GivenSign, character, form, AreGivenSigns, IsGroup}
 use Rattle.wt_beside_laws.specs.Nodes.{IsLinkNode, IsBareNode}
+use Rattle.wt_beside_laws.proofs.OpenTags.{untagged_closed}
 use Rattle.wt_beside_laws.proofs.Groups.Cases.{beside_letters}
 
 -- ---- of any call
@@ -64,7 +66,7 @@ one_link g j = record {
     signs = form Link (of_call j (codes "[[b]]")) ∷ [];
     is = refl;
     of_call = (refl, (refl, (refl, (refl, (refl, tt)))));
-    are = (record { node = a_link; leads = tt; follows = tt }, tt);
+    are = (record { node = a_link; closed = untagged_closed (byte_glyphs (codes "[[b]]")) refl; leads = tt; follows = tt }, tt);
     flat = (tt, tt);
     begins = refl;
     unopened = refl;
@@ -102,7 +104,7 @@ one_reference g j = record {
     signs = form Node (space_item j ∷ []) ∷ [];
     is = refl;
     of_call = (refl, tt);
-    are = (record { node = inl (inr (160, refl)); leads = tt; follows = tt }, tt);
+    are = (record { node = inl (inr (160, refl)); closed = untagged_closed (glyph.Entity 160 ∷ []) refl; leads = tt; follows = tt }, tt);
     flat = (tt, tt);
     begins = refl;
     unopened = refl;
@@ -130,7 +132,7 @@ an_empty_call j = record {
     signs = form (Mark false false) (nothing_item j (codes "{{t}}") ∷ []) ∷ [];
     is = refl;
     of_call = (refl, tt);
-    are = (record { node = refl; leads = tt; follows = tt }, tt);
+    are = (record { node = refl; closed = untagged_closed (glyph.Mark ∷ []) refl; leads = tt; follows = tt }, tt);
     flat = (tt, tt);
     begins = refl;
     unopened = refl;
@@ -150,7 +152,7 @@ abbrev among_words : List GivenSign
 among_words = character 97 ∷ character 32 ∷ form Link (of_call 0 (codes "[[b]]")) ∷ character 46 ∷ []
 
 pub link_among_words : AreGivenSigns false among_words
-link_among_words = (inl refl, (λ e. absurd (cc)), (inl refl, (λ e. absurd (cc)), (record { node = a_link; leads = tt; follows = refl }, (inl refl, (λ e. absurd (cc)), tt))))
+link_among_words = (inl refl, (λ e. absurd (cc)), (inl refl, (λ e. absurd (cc)), (record { node = a_link; closed = untagged_closed (byte_glyphs (codes "[[b]]")) refl; leads = tt; follows = refl }, (inl refl, (λ e. absurd (cc)), tt))))
 
 -- but no letter is behind a link
 joined_letter : AreGivenSigns false (form Link (of_call 0 (codes "[[b]]")) ∷ character 115 ∷ []) → ⊥
@@ -161,7 +163,7 @@ unfolding bare_url_at scheme_len is_url_char is_dropped kept_len
 a_url = record { shape = bare_shape 8; first = 104; others = byte_glyphs (codes "ttp://k"); is = refl; unbracketed = refl; url = refl; whole = refl }
 
 pub one_url : AreGivenSigns false (form (Bare false) (of_call 0 (codes "http://k")) ∷ [])
-one_url = (record { node = a_url; leads = refl; follows = tt }, tt)
+one_url = (record { node = a_url; closed = untagged_closed (byte_glyphs (codes "http://k")) refl; leads = refl; follows = tt }, tt)
 
 -- braces and an `&` may be among characters, since nothing of them is read again
 pub braces : AreGivenSigns false (character 123 ∷ character 125 ∷ character 38 ∷ [])

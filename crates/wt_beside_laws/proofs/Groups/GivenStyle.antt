@@ -18,11 +18,12 @@ use Rattle.wt_context.proofs.NestedContexts.{contexts_are}
 use Rattle.wt_beside_laws.specs.Cuts.{add_chars, add_node, own_form, ends_word}
 use Rattle.wt_beside_laws.specs.Given.{GivenSign, character, form, given_items, given_glyphs, given_cut, given_parts, BeginsApart, AreGivenSigns, AreFlatSigns, given_last, LastMay}
 use Rattle.wt_beside_laws.specs.Nests.{stretch, marks_of, segments_of, of_style, style_of}
-use Rattle.wt_beside_laws.specs.Nodes.{IsDelimiter, MayFollow}
+use Rattle.wt_beside_laws.specs.Nodes.{IsDelimiter, IsOpenBefore, MayFollow}
 use Rattle.wt_beside_laws.specs.Styled.{mark_source}
 use Rattle.wt_beside_laws.proofs.ContentTiles.{Follows, node_follows}
 use Rattle.wt_beside_laws.proofs.LineSegments.{segments_are}
 use Rattle.wt_beside_laws.proofs.NodesStand.{node_stands}
+use Rattle.wt_beside_laws.proofs.OpenTags.{untagged_open}
 use Rattle.wt_beside_laws.proofs.Groups.GivenTiles.{given_are, given_follow}
 use Rattle.wt_beside_laws.proofs.Groups.GivenParts.{begins_quoted, unquoted}
 use Rattle.wt_beside_laws.proofs.Groups.Schemes.{reaches}
@@ -77,11 +78,15 @@ toggle_may : (own gs : List Glyph) → MayFollow Toggle own gs
 toggle_may own [] = tt
 toggle_may own (g ∷ gs) = inl tt
 
+mark_open : (kind : Bool) (more : List Glyph) → IsOpenBefore (byte_glyphs (mark_source kind)) more
+mark_open true more = untagged_open (byte_glyphs (mark_source true)) more refl
+mark_open false more = untagged_open (byte_glyphs (mark_source false)) more refl
+
 mark_follows : (word kind : Bool) (more : List Glyph) (c : Cut) → Follows in_line (ends_word false (byte_glyphs (mark_source kind))) more c
     → Follows in_line word (byte_glyphs (mark_source kind) ++ more) (mark_cut kind c)
 mark_follows word kind more c f =
     let gs : List Glyph = byte_glyphs (mark_source kind) in
-    node_follows in_line word (own_form in_line gs) gs more c (node_stands Toggle word gs more (delimiter_is kind) (toggle_may gs more) tt) f
+    node_follows in_line word (own_form in_line gs) gs more c (node_stands Toggle word gs more (delimiter_is kind) (toggle_may gs more) tt (mark_open kind more)) f
 
 no_reach : (kind : Bool) → reaches (byte_glyphs (mark_source kind)) ≡ false
 no_reach true = refl
