@@ -1,5 +1,5 @@
 -- Where a node is a tag that opens a pair, nothing behind it closes it: so of any other node, at the end of a line, and of a tag that is read as an island.
-use Rattle.std.proofs.Common.{arith, ◌≡◌, ℕ, suc, ◌<◌, Bool, true, false, Option, Some, None, List, [], ◌∷◌, ◌++◌, length, drop, refl, sym, ap, ◌∙◌, subst}
+use Rattle.std.proofs.Common.{arith, ◌≡◌, ℕ, ◌<◌, Bool, false, Option, Some, None, List, [], ◌∷◌, ◌++◌, length, drop, refl, sym, ap, ◌∙◌, subst}
 use Rattle.std.proofs.Math.Seq.{drop-append_seam}
 use Rattle.wt_span.specs.declared.tag_name.TagName.{TagName}
 use Rattle.wt_guards.specs.Content.{ContentSign, letter, thing}

@@ -15,7 +15,7 @@ use Rattle.wt_beside_laws.proofs.Own.Kept.{content_styled}
 use Rattle.wt_beside_laws.proofs.Derived.CutPages.{cut_read}
 use Rattle.wt_called_edit_laws.specs.CalledBlocks.{CallNothing}
 use Rattle.wt_called_edit_laws.specs.CalledPages.{IsCalledPage}
-use Rattle.wt_called_edit_laws.specs.PlacedLines.{spots_by, end_by, IsLinedPage}
+use Rattle.wt_called_edit_laws.specs.PlacedLines.{spots_by, end_by}
 use Rattle.wt_called_edit_laws.specs.PlacedSpots.{IsPlacedPage}
 use Rattle.wt_called_edit_laws.specs.ToldLines.{Told, lined, IsToldPage}
 use Rattle.wt_called_edit_laws.proofs.Cells.PlacedLines.{lined_in}
