@@ -132,7 +132,7 @@ lines_unbroken at (xs ∷ ys ∷ ls) h =
 
 pub flat_content : (s : Setting) (ls : List (List Item)) (at : ℕ) (signs : List ContentSign) → s.within ≡ false → AreFlatLines ls → AreKept (signs_of_lines at ls)
     → AreCharacters signs → AreMarksLed signs → things signs ≡ things (signs_of_lines at ls) → AllStayOpen s [] signs → IsFlatContent s signs
-flat_content s ls at signs block flat kept characters led same open = record {
+flat_content s ls at signs block flat kept characters led same unclosed = record {
   of_block = block;
   characters = characters;
   kept = each_kept signs (subst (Each Kept) (sym same) (kept_each (signs_of_lines at ls) kept));
@@ -140,5 +140,5 @@ flat_content s ls at signs block flat kept characters led same open = record {
   unbroken = each_unbroken signs (subst (Each Unbroken) (sym same) (lines_unbroken at ls flat));
   flat = each_flat signs (subst (Each Flat) (sym same) (flat_each false (signs_of_lines at ls) (lines_stood at ls flat)));
   led = led;
-  meet = flat_meet s ls at signs flat same open;
+  meet = flat_meet s ls at signs flat same unclosed;
 }

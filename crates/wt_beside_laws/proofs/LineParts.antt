@@ -33,7 +33,7 @@ use Rattle.wt_text_edit_laws.specs.LonePages.{page_chars}
 use Rattle.wt_beside_laws.specs.Content.{guard_items, letter_items}
 use Rattle.wt_beside_laws.specs.Cuts.{add_chars, add_tile, own_glyphs, own_form, add_node, guard_cut, letter_cut, form_before, StandsAs}
 use Rattle.wt_beside_laws.specs.Flat.{IsFlat, AreFlat, line_content}
-use Rattle.wt_beside_laws.specs.Glyphs.{guard_glyphs, letter_glyphs}
+use Rattle.wt_beside_laws.specs.Glyphs.{guard_glyphs, letter_glyphs, line_glyphs}
 use Rattle.wt_beside_laws.specs.Lines.{line_items}
 use Rattle.wt_beside_laws.specs.Nodes.{IsDelimiter, IsOneLexeme, IsTagNode, IsCategoryNode, IsMediaNode, IsNode, AreNodes, AllMeet}
 use Rattle.wt_beside_laws.proofs.ContentTiles.{form_follows}

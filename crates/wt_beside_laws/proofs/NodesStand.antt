@@ -352,10 +352,10 @@ pair_stands word t others behind tagged p =
     }
 
 tag_stands : (word : Bool) (own behind : List Glyph) → IsTagNode own → IsOpenBefore own behind → Holds word own behind
-tag_stands word own behind n open = subst (λ gs. Holds word gs behind) (sym n.is) (elim n.ends [
+tag_stands word own behind n unclosed = subst (λ gs. Holds word gs behind) (sym n.is) (elim n.ends [
   | inl whole ↦
       let less : List Glyph = glyph.Byte 60 ∷ n.others in
-      let all : IsOpenBy (tag_at less) (length less) behind = subst (λ gs. IsOpenBefore gs behind) n.is open in
+      let all : IsOpenBy (tag_at less) (length less) behind = subst (λ gs. IsOpenBefore gs behind) n.is unclosed in
       whole_stands word n.named n.others behind n.tagged whole (subst (λ (o : Option Tag). IsOpenBy o (length less) behind) n.tagged all whole)
   | inr pair ↦ pair_stands word n.named n.others behind n.tagged pair
 ])
@@ -388,10 +388,10 @@ media_stands word own behind n =
 
 other_stands : (word : Bool) (own behind : List Glyph) → IsOneLexeme own ⊎ (IsTagNode own ⊎ (IsCategoryNode own ⊎ IsMediaNode own)) → IsOpenBefore own behind
     → Holds word own behind
-other_stands word own behind n open = elim n [
+other_stands word own behind n unclosed = elim n [
   | inl one ↦ one_stands word own behind one
   | inr other ↦ elim other [
-    | inl tag ↦ tag_stands word own behind tag open
+    | inl tag ↦ tag_stands word own behind tag unclosed
     | inr link ↦ elim link [
       | inl category ↦ category_stands word own behind category
       | inr media ↦ media_stands word own behind media
@@ -412,12 +412,12 @@ delimiter_stands word own behind n = elim n [
 
 pub node_stands : (r : Role) (word : Bool) (own behind : List Glyph) → IsNode r own → MayFollow r own behind → MayLead r word → IsOpenBefore own behind
     → Stands in_line word own behind
-node_stands Link word own behind n f l open = holding word own behind (link_stands word own behind n f)
-node_stands External word own behind n f l open = holding word own behind (external_stands word own behind n)
-node_stands (Bare ends) word own behind n f l open = holding word own behind (bare_stands ends word own behind n f l)
-node_stands Switch word own behind n f l open = holding word own behind (switch_stands word own behind n)
-node_stands Toggle word own behind n f l open = delimiter_stands word own behind n
-node_stands (Mark ends began) word own behind n f l open = holding word own behind (mark_stands word own behind n)
-node_stands (Group g) word own behind n f l open = absurd n
-node_stands Function word own behind n f l open = holding word own behind (one_stands word own behind n)
-node_stands Node word own behind n f l open = holding word own behind (other_stands word own behind n open)
+node_stands Link word own behind n f l unclosed = holding word own behind (link_stands word own behind n f)
+node_stands External word own behind n f l unclosed = holding word own behind (external_stands word own behind n)
+node_stands (Bare ends) word own behind n f l unclosed = holding word own behind (bare_stands ends word own behind n f l)
+node_stands Switch word own behind n f l unclosed = holding word own behind (switch_stands word own behind n)
+node_stands Toggle word own behind n f l unclosed = delimiter_stands word own behind n
+node_stands (Mark ends began) word own behind n f l unclosed = holding word own behind (mark_stands word own behind n)
+node_stands (Group g) word own behind n f l unclosed = absurd n
+node_stands Function word own behind n f l unclosed = holding word own behind (one_stands word own behind n)
+node_stands Node word own behind n f l unclosed = holding word own behind (other_stands word own behind n unclosed)

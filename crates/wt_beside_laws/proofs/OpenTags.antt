@@ -20,7 +20,7 @@ use Rattle.wt_tiles.specs.Tags.{tag_at}
 use Rattle.wt_tiles.specs.Tiles.{size, len_of, pair_or_island, shape_of_tag, form_at}
 use Rattle.wt_tiles.proofs.TagInsides.{no_tag}
 use Rattle.wt_beside_laws.specs.Cuts.{own_glyphs, form_before}
-use Rattle.wt_beside_laws.specs.Nodes.{ClosesNone, IsOpenBy, IsOpenBefore, AllStayOpen, KeepsOpen, IsLone, IsClosedBy, IsClosedNode, AreClosed}
+use Rattle.wt_beside_laws.specs.Nodes.{ClosesNone, IsOpenBy, IsOpenBefore, AllStayOpen, KeepsOpen, IsLone, IsClosedBy, OpensNoPair, NoneOpensPair}
 use Rattle.wt_beside_laws.proofs.NodesStand.{nothing_closes, by_less}
 use Rattle.wt_beside_laws.proofs.PairTiles.{HasTag, partner_tag, less_begins}
 use Rattle.wt_beside_laws.proofs.TagFronts.{byte_is, tag_some}
@@ -32,7 +32,7 @@ use Rattle.wt_beside_laws.specs.Glyphs.{line_glyphs}
 pub untagged_open : (gs behind : List Glyph) → first_is (class.Only 60) gs ≡ false → IsOpenBefore gs behind
 untagged_open gs behind e = subst (λ (o : Option Tag). IsOpenBy o (length gs) behind) (sym (no_tag gs e)) tt
 
-pub untagged_closed : (gs : List Glyph) → first_is (class.Only 60) gs ≡ false → IsClosedNode gs
+pub untagged_closed : (gs : List Glyph) → first_is (class.Only 60) gs ≡ false → OpensNoPair gs
 untagged_closed gs e = subst (λ (o : Option Tag). IsClosedBy o (length gs)) (sym (no_tag gs e)) tt
 
 lone_closes : (m : Name) (h : TagShape) (behind : List Glyph) → IsLone m h → ClosesNone m h behind
@@ -46,17 +46,17 @@ closed_by : (o : Option Tag) (n : ℕ) (behind : List Glyph) → IsClosedBy o n 
 closed_by None n behind c = tt
 closed_by (Some t) n behind c = λ e. lone_closes t.name t.shape behind (c e)
 
-pub closed_open : (own behind : List Glyph) → IsClosedNode own → IsOpenBefore own behind
+pub closed_open : (own behind : List Glyph) → OpensNoPair own → IsOpenBefore own behind
 closed_open own behind c = closed_by (tag_at own) (length own) behind c
 
-all_closed : (s : Setting) (before signs : List ContentSign) → AreClosed signs → AllStayOpen s before signs
+all_closed : (s : Setting) (before signs : List ContentSign) → NoneOpensPair signs → AllStayOpen s before signs
 all_closed s before [] c = tt
 all_closed s before (letter d ∷ after) c = (tt, all_closed s (letter d ∷ before) after c)
 all_closed s before (thing t ∷ after) c =
     (closed_open (own_glyphs t) (line_glyphs s (thing t ∷ before) after) c.0, all_closed s (thing t ∷ before) after c.1)
 
 -- so a content without such tags
-pub closed_keeps : (signs : List ContentSign) → AreClosed signs → KeepsOpen signs
+pub closed_keeps : (signs : List ContentSign) → NoneOpensPair signs → KeepsOpen signs
 closed_keeps signs c = λ s. all_closed s [] signs c
 
 -- ---- at the end

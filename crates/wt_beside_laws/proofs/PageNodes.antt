@@ -435,6 +435,6 @@ nodes_stay olds signs h same = nodes_of signs (subst EachIsNode (sym same) (each
 
 pub nodes_meet : (s : Setting) (olds signs : List ContentSign) (at : ℕ) → AreStood false olds → AreAt at olds → things signs ≡ things olds
     → AllStayOpen s [] signs → AllMeet s [] signs []
-nodes_meet s olds signs at h places same open =
+nodes_meet s olds signs at h places same unclosed =
     all_meet s [] signs
-    (subst EachIsNode (sym same) (each_node false olds h), pairs_first (things signs) (subst PairsMeet (sym same) (all_pairs false at olds h places))) open
+    (subst EachIsNode (sym same) (each_node false olds h), pairs_first (things signs) (subst PairsMeet (sym same) (all_pairs false at olds h places))) unclosed

@@ -390,4 +390,4 @@ flat_nodes ls at signs h same = nodes_stay (signs_of_lines at ls) signs (lines_r
 
 pub flat_meet : (s : Setting) (ls : List (List Item)) (at : ℕ) (signs : List ContentSign) → AreFlatLines ls → things signs ≡ things (signs_of_lines at ls)
     → AllStayOpen s [] signs → AllMeet s [] signs []
-flat_meet s ls at signs h same open = let r = lines_read at ls h in nodes_meet s (signs_of_lines at ls) signs at r.stood r.places same open
+flat_meet s ls at signs h same unclosed = let r = lines_read at ls h in nodes_meet s (signs_of_lines at ls) signs at r.stood r.places same unclosed

@@ -31,7 +31,7 @@ use Rattle.wt_text_edit_laws.specs.TypedHeadings.{EndsWithout, is_equals_sign}
 use Rattle.wt_beside_laws.specs.InHeadings.{AreOnOneLine}
 use Rattle.wt_beside_laws.specs.Lines.{AreCharacters}
 use Rattle.wt_beside_laws.specs.NodeItems.{node_items}
-use Rattle.wt_beside_laws.specs.Nodes.{IsNode, IsClosedNode, MayFollow, MayLead}
+use Rattle.wt_beside_laws.specs.Nodes.{IsNode, OpensNoPair, MayFollow, MayLead}
 use Rattle.wt_beside_laws.specs.Shown.{parts_shown_at}
 use Rattle.wt_beside_laws.specs.Stood.{things}
 
@@ -99,7 +99,7 @@ line_parts_with s before (thing t ∷ after) (own ∷ owns) =
 pub record IsOwnNode (t : Thing) (own : List Item) : Type 0 where
   pub is : own ≡ node_items t.source
   pub node : IsNode t.role (own_glyphs t)
-  pub closed : IsClosedNode (own_glyphs t)
+  pub closed : OpensNoPair (own_glyphs t)
   pub inside : is_mark t.role ≡ true → is_new_at_start t.role ≡ true
   pub unbroken : IsUnbroken (node_items t.source)
 
@@ -244,7 +244,7 @@ pub record StaysAsItIs (pages : Pages) (t : Thing) : Type 0 where
   pub items : (i : ℕ) → numbered i (page_stretches pages t.source) ≡ node_items t.source
   pub flat : IsFlat t.role
   pub node : IsNode t.role (own_glyphs t)
-  pub closed : IsClosedNode (own_glyphs t)
+  pub closed : OpensNoPair (own_glyphs t)
   pub inside : is_mark t.role ≡ true → is_new_at_start t.role ≡ true
   pub unbroken : IsUnbroken (node_items t.source)
   pub own : ArePageParts (line_parts (node_items t.source))

@@ -80,4 +80,4 @@ pub record IsFlatEditOf (k : TextBlock) (block : Tree) (ps : Pieces) : Type 0 wh
   pub fit : TextsFitIn k ps
   pub plain : HaveNoStyle ps
   pub led : AreMarksLed (signs_of (sent_for block ps))
-  pub open : KeepsOpen (signs_of (sent_for block ps))
+  pub unclosed : KeepsOpen (signs_of (sent_for block ps))

@@ -26,7 +26,7 @@ use Rattle.wt_isolation.specs.Toggles.{has_odd_line}
 use Rattle.wt_part_laws.specs.CallPieces.{AreItemsOf, IsOfCall}
 use Rattle.wt_beside_laws.specs.Cuts.{add_chars, own_form, add_node, ends_word}
 use Rattle.wt_beside_laws.specs.Flat.{IsFlat}
-use Rattle.wt_beside_laws.specs.Nodes.{IsNode, IsClosedNode, MayBeBehind, MayFollow, MayLead}
+use Rattle.wt_beside_laws.specs.Nodes.{IsNode, OpensNoPair, MayBeBehind, MayFollow, MayLead}
 
 -- a byte of a character; or the items of a form, with what its node is to its neighbours
 pub data GivenSign : Type 0 where
@@ -89,7 +89,7 @@ MayBeFirst r (g ∷ gs) = MayBeBehind r g
 -- before it.
 pub record IsGivenForm (word : Bool) (r : Role) (own : List Item) (behind : List Glyph) : Type 0 where
   pub node : IsNode r (map glyph_of own)
-  pub closed : IsClosedNode (map glyph_of own)
+  pub closed : OpensNoPair (map glyph_of own)
   pub leads : MayLead r word
   pub follows : MayBeFirst r behind
 

@@ -176,13 +176,13 @@ IsClosedBy None n = Unit {0}
 IsClosedBy (Some t) n = t.len ≡ n → IsLone t.name t.shape
 
 -- a node that is no tag which opens a pair; a pair with what is in it is none
-abbrev pub IsClosedNode : List Glyph → Type 0
-IsClosedNode own = IsClosedBy (tag_at own) (length own)
+abbrev pub OpensNoPair : List Glyph → Type 0
+OpensNoPair own = IsClosedBy (tag_at own) (length own)
 
-abbrev pub AreClosed : List ContentSign → Type 0
-AreClosed [] = Unit {0}
-AreClosed (letter c ∷ after) = AreClosed after
-AreClosed (thing t ∷ after) = IsClosedNode (own_glyphs t) × AreClosed after
+abbrev pub NoneOpensPair : List ContentSign → Type 0
+NoneOpensPair [] = Unit {0}
+NoneOpensPair (letter c ∷ after) = NoneOpensPair after
+NoneOpensPair (thing t ∷ after) = OpensNoPair (own_glyphs t) × NoneOpensPair after
 
 -- ---- what may be beside it
 

@@ -24,7 +24,7 @@ use Rattle.wt_beside_laws.specs.Led.{AreMarksLed}
 use Rattle.wt_beside_laws.specs.PageBlocks.{AreUnstyled, AreShut}
 use Rattle.wt_beside_laws.specs.PageSigns.{AreFlatLines}
 use Rattle.wt_beside_laws.specs.NewStyles.{NewStylesNest}
-use Rattle.wt_beside_laws.specs.Nodes.{KeepsOpen, AreClosed}
+use Rattle.wt_beside_laws.specs.Nodes.{KeepsOpen, NoneOpensPair}
 use Rattle.wt_beside_laws.specs.Stood.{things}
 use Rattle.wt_beside_laws.specs.Styled.{StyledContent, signs_in, IsStyledContent}
 use Rattle.wt_beside_laws.specs.StyledNodes.{AreSomeAndPut}
@@ -73,8 +73,8 @@ pub record IsStyledEditOf (k : TextBlock) (block : Tree) (ps : Pieces) : Type 0 
   pub fit : TextsFitIn k ps
   pub new : NewStylesNest false false ps
   pub led : AreMarksLed (signs_in (sent_for block ps))
-  pub open : KeepsOpen (signs_in (sent_for block ps))
+  pub unclosed : KeepsOpen (signs_in (sent_for block ps))
 
 -- No node of the block is a tag that opens a pair without a closing tag; or nothing in what is sent closes one that is.
 abbrev pub StaysPaired : TextBlock → List ℕ → Tree → Pieces → Type 0
-StaysPaired k q block ps = AreClosed (signs_of k q) ⊎ KeepsOpen (signs_in (sent_for block ps))
+StaysPaired k q block ps = NoneOpensPair (signs_of k q) ⊎ KeepsOpen (signs_in (sent_for block ps))

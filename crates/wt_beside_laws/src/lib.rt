@@ -41,7 +41,7 @@ ghost use Rattle.wt_page.specs.Headings.{heading};
 ghost use Rattle.wt_text_edit_laws.specs.TypedHeadings.{Sides, AreSides, heading_line, IsOfLevel, IsHeadingInside, EndsLine};
 ghost use Rattle.wt_beside_laws.specs.Led.{BeginsUnled, AreMarksLed};
 ghost use Rattle.wt_beside_laws.specs.Lines.{AreCharacters, AreUnbroken, line_items, content_lines, AreLinesOfText};
-ghost use Rattle.wt_beside_laws.specs.Nodes.{AreNodes, AllStayOpen, AreClosed, AllMeet};
+ghost use Rattle.wt_beside_laws.specs.Nodes.{AreNodes, AllStayOpen, NoneOpensPair, AllMeet};
 ghost use Rattle.wt_beside_laws.specs.Shown.{parts_shown_at, content_shown};
 ghost use Rattle.wt_tree.specs.Plain.{Plains};
 ghost use Rattle.wt_beside_laws.specs.PageSigns.{signs_of_lines, AreFlatLines};
@@ -129,12 +129,12 @@ pub fn no_url_begins_in_typed_text()
 /// each reference and each nowiki that is put is one, and the characters between them are runs. So they are before what is
 /// behind the content, if that joins no node, begins neither what goes on with a URL nor a switch, and is read so whatever
 /// comes before it. Nodes between which nothing is put are to stand as they may stand in a page, and none is a tag that opens a
-/// pair without its closing tag (`AreClosed`): more would close it on its line alone.
+/// pair without its closing tag (`NoneOpensPair`): more would close it on its line alone.
 #[tactic(auto, using(crate::proofs::Marks::Tiles::tiles_alone, crate::proofs::NodesBegin::tiles_before))]
 pub fn texts_beside_nodes_make_no_tile()
-    ensures alone { (s : Setting) (signs : List ContentSign) → IsReadIn s signs → AreClosed signs → AllMeet s [] signs []
+    ensures alone { (s : Setting) (signs : List ContentSign) → IsReadIn s signs → NoneOpensPair signs → AllMeet s [] signs []
         → cuts in_line false 0 (map glyph_of (page_items (spelled s signs))) ≡ content_cut in_line s [] signs (0, []) }
-    ensures before { (s : Setting) (signs : List ContentSign) (rest : List Sign) → AreNodes signs → AreClosed signs → AllMeet s [] signs rest → IsApart rest
+    ensures before { (s : Setting) (signs : List ContentSign) (rest : List Sign) → AreNodes signs → NoneOpensPair signs → AllMeet s [] signs rest → IsApart rest
         → IsFree in_line rest → cuts in_line false 0 (content_glyphs s [] signs rest) ≡ content_cut in_line s [] signs (cuts in_line false 0 rest) }
 {}
 

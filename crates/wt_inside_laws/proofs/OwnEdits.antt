@@ -348,7 +348,7 @@ own_edit k q items page p r read utf8 h i begins paired_so =
         first = sent_first us shown utf8 first;
         others = sent_led shown us utf8 (new_texts_led k q items page p r h i);
       });
-      open = still_open k q p.old (as_own ps) h i (own_page ps ∙ are.page) stay paired_so;
+      unclosed = still_open k q p.old (as_own ps) h i (own_page ps ∙ are.page) stay paired_so;
     }
 
 pub standing_edit : (k : TextBlock) (q : List ℕ) (items : Expanded) (page : List ℕ) (p : Pair) → IsRetyped same_node items page p → AreRead (children_of p.new)

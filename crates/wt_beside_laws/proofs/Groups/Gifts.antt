@@ -23,7 +23,7 @@ use Rattle.wt_beside_laws.specs.Cuts.{ends_word, guard_cut, letter_cut}
 use Rattle.wt_beside_laws.specs.Given.{GivenSign, character, form, given_items, given_glyphs, given_cut, BeginsApart, AreGivenSigns, AreFlatSigns, FirstMay, LastMay, is_bare_url, ends_with_url, GivesSigns, IsGroup}
 use Rattle.wt_beside_laws.specs.Flat.{IsFlat}
 use Rattle.wt_beside_laws.specs.Glyphs.{guard_glyphs, letter_glyphs}
-use Rattle.wt_beside_laws.specs.Nodes.{IsBareNode, IsNode, IsClosedNode, MayBeBehind, MayFollow, MayLead}
+use Rattle.wt_beside_laws.specs.Nodes.{IsBareNode, IsNode, OpensNoPair, MayBeBehind, MayFollow, MayLead}
 use Rattle.wt_beside_laws.proofs.LineTiles.{scheme_less}
 use Rattle.wt_beside_laws.proofs.NodesBegin.{other_avoids, node_urls, node_switches}
 use Rattle.wt_beside_laws.proofs.NodesMeet.{atom_may, begins_more, by_fits, letter_may, none_before, word_before}
@@ -129,7 +129,7 @@ own_gift : (t : Thing) (own : List Item) → IsOwnNode t own → IsGift t own
 own_gift t own n =
     let gs : List Glyph = map glyph_of own in
     let node : IsNode t.role gs = subst (λ (xs : List Item). IsNode t.role (map glyph_of xs)) (sym n.is) n.node in
-    let closed : IsClosedNode gs = subst (λ (xs : List Item). IsClosedNode (map glyph_of xs)) (sym n.is) n.closed in
+    let closed : OpensNoPair gs = subst (λ (xs : List Item). OpensNoPair (map glyph_of xs)) (sym n.is) n.closed in
     record {
       call = 0;
       signs = form t.role own ∷ [];

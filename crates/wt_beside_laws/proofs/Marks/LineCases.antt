@@ -45,7 +45,7 @@ use Rattle.wt_beside_laws.specs.Commented.{IsCommentLine}
 use Rattle.wt_beside_laws.specs.FlatBlocks.{IsFlatEditOf, sent_for}
 use Rattle.wt_beside_laws.specs.Lines.{IsLineOfText}
 use Rattle.wt_beside_laws.specs.NodeItems.{node_items}
-use Rattle.wt_beside_laws.specs.Nodes.{IsClosedNode}
+use Rattle.wt_beside_laws.specs.Nodes.{OpensNoPair}
 use Rattle.wt_beside_laws.specs.Styled.{signs_in}
 use Rattle.wt_beside_laws.specs.StyledIn.{IsFlatIn}
 use Rattle.wt_beside_laws.proofs.Edits.Cases.{AreFlat}
@@ -83,8 +83,8 @@ remark_alone : page_items remark ≡ whole form.Comment None (codes "<!--c-->") 
 unfolding page_items words words_closed word_at comment_len comment_line_len raw_len include_at opening_word closing_word word_after with_inside is_extension entity_at named_entity entity_names decimal_entity hex_entity sign_word
 remark_alone = refl
 
-remark_closed : IsClosedNode (map glyph_of (node_items remark))
-remark_closed = subst (λ (xs : List Item). IsClosedNode (map glyph_of xs)) (sym remark_behind) (untagged_closed (glyph.Mark ∷ []) refl)
+remark_closed : OpensNoPair (map glyph_of (node_items remark))
+remark_closed = subst (λ (xs : List Item). OpensNoPair (map glyph_of xs)) (sym remark_behind) (untagged_closed (glyph.Mark ∷ []) refl)
 
 remark_calm : IsCalm remark
 unfolding encode
@@ -173,7 +173,7 @@ edit_of = record {
   fit = tt;
   plain = tt;
   led = record { first = tt; others = ((λ e. refl), tt) };
-  open = closed_keeps (signs_in (sent_for block edit)) (remark_closed, tt);
+  unclosed = closed_keeps (signs_in (sent_for block edit)) (remark_closed, tt);
 }
 
 typed_round_a_comment : IsFlatEditOf a_paragraph (standing 1 [] (block_tree a_paragraph own)) edit

@@ -33,7 +33,7 @@ use Rattle.wt_text_edit_laws.specs.ParagraphParts.{joined_parts, para_with}
 use Rattle.wt_text_edit_laws.specs.TextBlocks.{a_paragraph, block_tree}
 use Rattle.wt_beside_laws.specs.FlatBlocks.{sent_for}
 use Rattle.wt_beside_laws.specs.NodeItems.{node_items}
-use Rattle.wt_beside_laws.specs.Nodes.{IsClosedNode}
+use Rattle.wt_beside_laws.specs.Nodes.{OpensNoPair}
 use Rattle.wt_beside_laws.specs.Styled.{signs_in}
 use Rattle.wt_beside_laws.specs.StyledIn.{IsStyledEditOf}
 use Rattle.wt_beside_laws.proofs.Edits.Cases.{break_node}
@@ -72,12 +72,12 @@ unfolding encode
 are_letters = ((codes "a", (refl, refl)), (codes "y", (refl, refl)))
 
 -- no node is a tag that opens a pair
-break_closed : IsClosedNode (map glyph_of (node_items (codes "<br>")))
-break_closed = subst (λ (xs : List Item). IsClosedNode (map glyph_of xs)) (sym break_node) own_closed
-  where
-    own_closed : IsClosedNode (byte_glyphs (codes "<br>"))
-    unfolding tag_at opening_tag closing_tag tag_after name_of live_name
-    own_closed = λ e. tt
+own_closed : OpensNoPair (byte_glyphs (codes "<br>"))
+unfolding tag_at opening_tag closing_tag tag_after name_of live_name
+own_closed = λ e. tt
+
+break_closed : OpensNoPair (map glyph_of (node_items (codes "<br>")))
+break_closed = subst (λ (xs : List Item). OpensNoPair (map glyph_of xs)) (sym break_node) own_closed
 
 edit_of : IsStyledEditOf a_paragraph block edit
 unfolding kept_with label_at context_parts with_styles style_tree_of toggles_of toggle_at chunks segments loose_segments tiles shapes closed form_at link_or_url link_at ext_link_at bare_url_at scheme_len tag_tile tag_at opening_tag closing_tag tag_after name_of live_name switch_at chars encode children place_of since next bold_ends_later effect_on is_bold_outside_at turn_at
@@ -91,7 +91,7 @@ edit_of = record {
   );
   are = ((are_letters.0, tt), (tt, ((are_letters.1, tt), tt)));
   led = record { first = λ e. absurd (cc); others = ((λ e. absurd (cc)), ((λ e. absurd (cc)), ((λ e. absurd (cc)), ((λ e. absurd (cc)), ((λ e. absurd (cc)), tt))))) };
-  open = closed_keeps (signs_in (sent_for block edit)) (mark_closed false, (mark_closed false, (break_closed, (mark_closed true, (mark_closed true, tt)))));
+  unclosed = closed_keeps (signs_in (sent_for block edit)) (mark_closed false, (mark_closed false, (break_closed, (mark_closed true, (mark_closed true, tt)))));
   fit = tt;
   new = (((λ e. refl), tt), (refl, refl, ((λ e. refl), tt), tt));
 }

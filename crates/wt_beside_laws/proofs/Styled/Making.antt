@@ -98,7 +98,7 @@ sent_well k q block ps own h i e =
     let nest : AllNest false false us = sent_nest ps e.stay e.are (subst (AllNest false false) (sym e.old) right.0) e.new in
     let apart : AreUrlsApart (things (signs_in t)) = urls_apart k q block ps h i right.1 e.old none e.stay (no_delimiter same_node block) nodes in
     let content : IsStyledContent (setting k block) t =
-    sent_styles same_node (setting k block) ls block us refl h.flat b kept_so nest e.led some (sent_characters p us shown_so) apart (e.open (setting k block)) in
+    sent_styles same_node (setting k block) ls block us refl h.flat b kept_so nest e.led some (sent_characters p us shown_so) apart (e.unclosed (setting k block)) in
     record {
       free = none;
       sent = styled_so;

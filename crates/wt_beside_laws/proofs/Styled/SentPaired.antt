@@ -11,7 +11,7 @@ use Rattle.wt_typed_blocks.specs.Edited.{Pieces, page_pieces, sent_pieces, Piece
 use Rattle.wt_text_edit_laws.specs.TextBlocks.{TextBlock}
 use Rattle.wt_beside_laws.specs.Cuts.{own_glyphs}
 use Rattle.wt_beside_laws.specs.FlatBlocks.{lines_in, signs_in as signs_of, sent_for}
-use Rattle.wt_beside_laws.specs.Nodes.{KeepsOpen, IsClosedNode, AreClosed}
+use Rattle.wt_beside_laws.specs.Nodes.{KeepsOpen, OpensNoPair, NoneOpensPair}
 use Rattle.wt_beside_laws.specs.PageBlocks.{IsBlockOfLines}
 use Rattle.wt_beside_laws.specs.PageSigns.{signs_of_lines}
 use Rattle.wt_beside_laws.specs.Stood.{things}
@@ -51,14 +51,14 @@ nodes_among k q block ps h i old stay =
 -- ---- tags that open a pair
 
 abbrev Closed : Thing → Type 0
-Closed t = IsClosedNode (own_glyphs t)
+Closed t = OpensNoPair (own_glyphs t)
 
-closed_each : (signs : List ContentSign) → AreClosed signs → Each Closed (things signs)
+closed_each : (signs : List ContentSign) → NoneOpensPair signs → Each Closed (things signs)
 closed_each [] c = tt
 closed_each (letter d ∷ after) c = closed_each after c
 closed_each (thing t ∷ after) c = (c.0, closed_each after c.1)
 
-each_closed : (signs : List ContentSign) → Each Closed (things signs) → AreClosed signs
+each_closed : (signs : List ContentSign) → Each Closed (things signs) → NoneOpensPair signs
 each_closed [] c = tt
 each_closed (letter d ∷ after) c = each_closed after c
 each_closed (thing t ∷ after) c = (c.0, each_closed after c.1)
