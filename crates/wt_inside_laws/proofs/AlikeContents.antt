@@ -15,7 +15,7 @@ use Rattle.wt_tree.specs.Kinds.{showing, is_leaf}
 use Rattle.wt_tree.specs.Plain.{Face, face, Plains, ended, text_before, shown_before, plain_before, plains_before}
 use Rattle.wt_tree.specs.Source.{flat}
 use Rattle.wt_tree.specs.Tiling.{is_group}
-use Rattle.wt_tree.specs.Tree.{Label, Tree, tree, Trees, none, more, label}
+use Rattle.wt_tree.specs.Tree.{Label, Tree, tree, Trees, none, label}
 use Rattle.wt_guards.specs.Content.{ContentSign}
 use Rattle.wt_original.specs.Kept.{Kept, kept_with, kept_of, kept_nodes, found_at, found_from, found_in, items, visible, holds_kept}
 use Rattle.wt_original.specs.Page.{Page, TellsSame, page_of, node_or, restored, restored_all, is_unchanged}

@@ -37,7 +37,7 @@ use Rattle.wt_inside_laws.specs.AsSent.{IsPlainPage, IsAlike}
 use Rattle.wt_inside_laws.specs.RetypedPieces.{AreRead}
 use Rattle.wt_inside_laws.specs.TextEdits.{takes_text, IsRetyped}
 use Rattle.wt_inside_laws.proofs.AlikeContents.{retyped_alike}
-use Rattle.wt_inside_laws.proofs.Groups.{either_way, inner_numbered}
+use Rattle.wt_inside_laws.proofs.Groups.{either_way, inner_numbered, block_ungrouped}
 use Rattle.wt_inside_laws.proofs.OwnShown.{IsThere}
 
 -- ---- the numbers in a block are some of those at its places
@@ -340,10 +340,6 @@ no_body k e f = absurd (cc)
 
 children_numbered : (t : Tree) → takes_text (edit_shape (label t).kind).form ≡ true → HasNumberedGroups t → HaveNumberedGroups (children_of t)
 children_numbered (tree l ts) b h = inner_numbered l ts h (block_ungrouped l.kind b)
-  where
-    block_ungrouped : (k : Kind) → takes_text (edit_shape k).form ≡ true → is_group k ≡ false
-    block_ungrouped kind.Group e = absurd (cc)
-    block_ungrouped k e = refl
 
 children_leaves : (t : Tree) → LeavesHoldNoNumber t → AllLeavesHoldNoNumber (children_of t)
 children_leaves (tree l ts) h = h.1
