@@ -186,6 +186,7 @@ as_sent same l m ts us h c a =
     record {
       old = old;
       stay = stay;
+      outside = groups;
       at =
           ap (λ (vs : Trees). map (λ path. node_at path (tree l vs)) (paths_of es)) (sym old) ∙ nodes_found l es
           ∙ ap (map (λ (d : Edited). Some (page_node d))) (sym listed_as) ∙ olds_are same page (marked t new) a.blocks;

@@ -74,6 +74,7 @@ sent_on pages page new es is h =
     record {
       old = h.old ∙ ap children is;
       stay = h.stay;
+      outside = h.outside;
       at = ap (λ (t : Tree). map (λ path. node_at path t) (paths_of es)) (sym is) ∙ h.at;
       each = h.each;
       only = h.only;

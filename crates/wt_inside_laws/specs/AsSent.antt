@@ -33,7 +33,7 @@ use Rattle.wt_visible.specs.SameNodes.{same_node}
 use Rattle.wt_selser.specs.Edits.{edit_answer}
 use Rattle.wt_selser.specs.Leaves.{LeavesHoldNoNumber}
 use Rattle.wt_typed_blocks.specs.Sent.{Block, paragraph, heading}
-use Rattle.wt_typed_blocks.specs.Edited.{Pieces, page_pieces, sent_pieces, PiecesStay, pieces_before, Edited, stays, edited, round, Edits, no_edits, more_edits, page_nodes, AreEdited, sent_body}
+use Rattle.wt_typed_blocks.specs.Edited.{Pieces, page_pieces, sent_pieces, PiecesStay, pieces_before, Edited, stays, edited, round, Edits, no_edits, more_edits, page_nodes, AreEdited, AreOutside, sent_body}
 use Rattle.wt_expand.specs.Work.{Pages}
 use Rattle.wt_page_round_trip.specs.PageTree.{page_tree}
 use Rattle.wt_commands.specs.Answers.{edit_to}
@@ -186,11 +186,12 @@ pub record IsAlike (same : Tree → Tree → Bool) (page : Page) (p : Pair) : Ty
 
 -- ---- the same edit
 
--- The edit of the page's nodes, of which the marked ones alone are edited: at their paths, in their order. It is answered as what was sent, shows
--- what that shows, and replaces the same slices of the page.
+-- The edit of the page's nodes, of which the marked ones alone are edited: at their paths, in their order, and none of them in a group. It is answered
+-- as what was sent, shows what that shows, and replaces the same slices of the page.
 pub record IsAsSent (same : Tree → Tree → Bool) (t new : Tree) (es : Edits) : Type 0 where
   pub old : page_nodes es ≡ children (without_sections t)
   pub stay : AreEdited es
+  pub outside : AreOutside es
   pub at : map (λ path. node_at path (without_sections t)) (paths_of es) ≡ map (λ p. Some p.old) (marked t new)
   pub each : map (edited_by es) (paths_of es) ≡ map (λ p. Some (edit_for p)) (marked t new)
   pub only : (paths : List (List ℕ)) → AreSomeOf (paths_of es) paths → AllEditOnly paths es
@@ -203,6 +204,7 @@ pub record IsAsSent (same : Tree → Tree → Bool) (t new : Tree) (es : Edits) 
 pub record IsSentOn (pages : Pages) (page : List ℕ) (new : Tree) (es : Edits) : Type 0 where
   pub old : page_nodes es ≡ children (called_tree pages page)
   pub stay : AreEdited es
+  pub outside : AreOutside es
   pub at : map (λ path. node_at path (called_tree pages page)) (paths_of es) ≡ map (λ p. Some p.old) (marked (page_tree pages page) new)
   pub each : map (edited_by es) (paths_of es) ≡ map (λ p. Some (edit_for p)) (marked (page_tree pages page) new)
   pub only : (paths : List (List ℕ)) → AreSomeOf (paths_of es) paths → AllEditOnly paths es
