@@ -58,8 +58,8 @@ pub fn run<S: Source, F: Folder, W: Sink, E: Sink>(
 
     // On any page that isn't refused, and at whose end no comment and no hidden part is open, with calls or without, these
     // blocks are told by the lines of the expanded page (`IsLinedAmong`): any paragraphs and headings in the body, in cells
-    // and in captions whose lines come from no call, that aren't tangled, hold no group and are in none, whatever calls are
-    // before, between and behind them. Edited contents of any are taken so.
+    // and in captions whose lines come from no call and hold no function that is kept, that aren't tangled, hold no group
+    // and are in none, whatever calls are before, between and behind them. Edited contents of any are taken so.
     ensures takes_contents_in_lines { TakesContentsInLines (call words.now (read_from S.Source input.old input.new)
         (fetched_from F.Folder folder.old folder.new) (written_to W.Sink out.old out.new)
         (written_to E.Sink err.old err.new)) result }
