@@ -1,7 +1,7 @@
 -- Each block that is told alone by the lines of an expanded page is one of all that are.
 use Rattle.std.proofs.Common.{arith, ◌≡◌, ℕ, ◌+◌, None, List, [], ◌∷◌, ◌++◌, length, map, refl, sym, ap, ◌∙◌, subst}
 use Rattle.std.specs.Str.{IsUtf8}
-use Rattle.wt_span.specs.Items.{Item}
+use Rattle.wt_span.specs.Items.{Item, sources}
 use Rattle.wt_annotated.specs.Seams.{text_from}
 use Rattle.wt_expand.specs.PageCalls.{expanded_page}
 use Rattle.wt_expand.specs.Work.{Pages}
@@ -37,7 +37,8 @@ alone_of pages page t rest h =
         ends = h.own.0;
         own = h.own.1;
         calm = h.own.2;
-        beside = h.untouched.0;
+        beside = subst (λ (m : ℕ). AreBeside m (m + length (sources ((lined t).marks ++ joined ((lined t).first ∷ (lined t).more)))) (expanded_page pages page).text_calls) z
+            h.untouched.0;
       };
     }
 
@@ -47,10 +48,12 @@ chosen_of pages page t rest h =
     let q : List ℕ = (lined t).text in
     let alone : IsAloneTold pages page t rest = alone_of pages page t rest h in
     let here : IsAloneHere pages page t rest = alone_here pages page t rest alone in
+    let n : ℕ = length (text_from (expanded_page pages page).outer None (joined (lined t).before ++ (lined t).marks)) in
+    let z : 0 + n ≡ n = omega arith in
     let r : IsAloneRead pages page t = alone_read pages page t rest alone here (λ a e. h.free.0) in
     record {
       place = alone.place;
-      outside = h.in_no_group.0;
+      outside = subst (λ (m : ℕ). NoGroupAt m (called_tree pages page)) z h.in_no_group.0;
       free = (
         h.free.0.ungrouped,
         tree_untangled (standing 0 [] (block_tree k q)) (no_group k q 0 [] r.read.utf8 r.read.is r.read.unended r.read.calm) (untangled_shut k q h.free.0.untangled),

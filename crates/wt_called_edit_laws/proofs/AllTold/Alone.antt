@@ -108,7 +108,7 @@ abbrev pub FreeWhereRead : TextBlock → List ℕ → List Item → Type 0
 FreeWhereRead k q own = OwnRead k q → block_items k q ≡ own → IsFreeBlock k q
 
 pub record IsAloneRead (pages : Pages) (page : List ℕ) (o : Told) : Type 0 where
-  pub content : IsContent (lined o).block (lined o).text
+  pub is_content : IsContent (lined o).block (lined o).text
   pub read : OwnRead (lined o).block (lined o).text
   pub items : block_items (lined o).block (lined o).text ≡ content (own_items (lined o))
 
@@ -137,7 +137,7 @@ alone_read pages page o rest t h free =
     let k : IsContent b.block b.text = r.content in
     let items : block_items b.block b.text ≡ own = sym k.unended ∙ l.here.alone in
     record {
-      content = k;
+      is_content = k;
       read = record { utf8 = k.utf8; is = k.is; unended = k.unended; calm = subst CallsNothing (sym items) t.place.calm };
       items = items;
     }

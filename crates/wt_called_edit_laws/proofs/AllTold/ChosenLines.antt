@@ -252,7 +252,7 @@ among_mapped f n (m ∷ ms) (inl e) = inl (ap f e)
 among_mapped f n (m ∷ ms) (inr h) = inr (among_mapped f n ms h)
 
 -- the rest of all items behind a block
-rest_is : (all front : List Item) (t : Told) (tail : Lines) → all ≡ front ++ joined ((lined t).before ++ (own_lines t ++ tail))
+pub rest_is : (all front : List Item) (t : Told) (tail : Lines) → all ≡ front ++ joined ((lined t).before ++ (own_lines t ++ tail))
     → (all ≡ (behind_lines front (lined t).before ++ (lined t).marks) ++ (own_items (lined t) ++ joined tail))
     × (all ≡ behind_lines (behind_lines front (lined t).before) (own_lines t) ++ joined tail)
 rest_is all front t tail e =

@@ -116,7 +116,7 @@ byte_item pages page before own after u r are x xs e =
     let all : Lines = before ++ own ∷ after in
     let items : List Item = (expanded_page pages page).items in
     let runs : AreRuns goes_on all items = subst (λ (ks : Lines). AreRuns goes_on ks items) are (runs_are goes_on items) in
-    let parts : items ≡ (joined before ++ led_by own) ++ (x ∷ xs) ++ joined after =
+    let parts : items ≡ (joined before ++ led_by own) ++ ((x ∷ xs) ++ joined after) =
     joined_is goes_on all items runs ∙ joined_both before (own ∷ after)
     ∙ ap (λ (l : List Item). joined before ++ (l ++ joined after)) (sym (led_whole own) ∙ ap (λ (l : List Item). led_by own ++ l) e)
     ∙ ap (λ (l : List Item). joined before ++ l) (append_assoc (led_by own) (x ∷ xs) (joined after))

@@ -1,5 +1,5 @@
 -- A node of a page's tree, reached outside of groups, that holds none and isn't tangled, where the lines of the expanded page tell it: it is chosen.
-use Rattle.std.proofs.Common.{arith, ◌≡◌, ◌<◌, ℕ, zero, suc, ◌+◌, None, List, [], ◌∷◌, ◌++◌, length, map, refl, sym, ap, ◌∙◌, subst, append_assoc}
+use Rattle.std.proofs.Common.{arith, ◌≡◌, ◌<◌, ℕ, ◌+◌, true, false, None, List, [], ◌∷◌, ◌++◌, length, refl, sym, ap, ◌∙◌, subst}
 use Rattle.std.proofs.lemmas.Grind.{flat_map-append}
 use Rattle.std.specs.Str.{IsUtf8}
 use Rattle.wt_span.specs.Items.{Item}
@@ -149,7 +149,7 @@ known_node pages page i is t n s o rest h tree_so at =
     let here : IsAloneHere pages page o rest = alone_here pages page o rest h in
     let a : IsAloneRead pages page o =
     alone_read pages page o rest h here (λ r e. free_of k q (free_alone pages page i is t n s k q (tree_so (own_round pages page o rest here r.is e)) r).0) in
-    let known = free_alone pages page i is t n s k q (tree_so (own_round pages page o rest here a.content.is a.items)) a.read in
+    let known = free_alone pages page i is t n s k q (tree_so (own_round pages page o rest here a.is_content.is a.items)) a.read in
     let front : List Item = joined b.before ++ b.marks in
     let parts = rest_is items [] o rest (page_joined pages page (all_lines (b ∷ []) rest) h.are) in
     let more : List Item = own_items b ++ joined rest in
@@ -160,7 +160,7 @@ known_node pages page i is t n s o rest h tree_so at =
     ap length (sym text_is) ∙ sym (between_begins calls s.number s.before s.block s.behind) ∙ ap (λ (u : Tree). first_byte (label u).ranges) (sym s.is)
     ∙ node_begins pages page i is t n.utf8 n.unrefused n.there in
     let source : flat t ≡ source_of k q = sym (flat_same t) ∙ ap flat known.1 ∙ flat_same (standing 0 [] (block_tree k q)) ∙ standing_source k q 0 [] in
-    let byte : HasByte t = subst (λ (bs : List ℕ). 0 < length bs) (sym source) (content_some k q a.content) in
+    let byte : HasByte t = subst (λ (bs : List ℕ). 0 < length bs) (sym source) (content_some k q a.is_content) in
     record {
       here = record {
         place = h.place;
