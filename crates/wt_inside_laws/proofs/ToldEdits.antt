@@ -76,7 +76,7 @@ mutual
       one_right (suc i ∷ is) (map (λ p. zero ∷ p) (paths_in e)) (map past_first (paths_of es))
       (one_mapped past_first (i ∷ is) (paths_of es) (path_among es i is x h))
 
-path_by : (es : Edits) (p : List ℕ) (x : Edited) → edited_by es p ≡ Some x → IsOneOf p (paths_of es)
+pub path_by : (es : Edits) (p : List ℕ) (x : Edited) → edited_by es p ≡ Some x → IsOneOf p (paths_of es)
 path_by es [] x h = cc
 path_by es (i ∷ is) x h = path_among es i is x h
 
@@ -110,11 +110,12 @@ known : (pages : Pages) (page : List ℕ) (ps : List Pair) → AllByRecursion (I
 known pages page [] a b c d = tt
 known pages page (p ∷ ps) a b c d = (record { retyped = a.0; alike = b.0; read = c.0; ordinary = d.0 }, known pages page ps a.1 b.1 c.1 d.1)
 
-record PairAt (pages : Pages) (page : List ℕ) (t : Tree) (es : Edits) (p : List ℕ) : Type 0 where
-  pair : Pair
-  known : IsKnownPair pages page pair
-  node : node_at p t ≡ Some pair.old
-  found : edited_by es p ≡ Some (edit_for pair)
+-- one of the marked blocks at a path, with what is known of each of them
+pub record PairAt (K : Pair → Type 0) (t : Tree) (es : Edits) (p : List ℕ) : Type 0 where
+  pub pair : Pair
+  pub known : K pair
+  pub node : node_at p t ≡ Some pair.old
+  pub found : edited_by es p ≡ Some (edit_for pair)
 
 pub first_same : {A : Type 0} (x y : A) (xs ys : List A) → x ∷ xs ≡ y ∷ ys → x ≡ y
 first_same x y xs ys e = cc
@@ -122,34 +123,38 @@ first_same x y xs ys e = cc
 pub rest_same : {A : Type 0} (x y : A) (xs ys : List A) → x ∷ xs ≡ y ∷ ys → xs ≡ ys
 rest_same x y xs ys e = cc
 
-pair_at : (pages : Pages) (page : List ℕ) (t : Tree) (es : Edits) (p : List ℕ) (qs : List (List ℕ)) (ms : List Pair) → IsOneOf p qs
-    → AllByRecursion (IsKnownPair pages page) ms → map (λ path. node_at path t) qs ≡ map (λ m. Some m.old) ms
-    → map (edited_by es) qs ≡ map (λ m. Some (edit_for m)) ms → PairAt pages page t es p
-pair_at pages page t es p [] ms h k e f = absurd h
-pair_at pages page t es p (q ∷ qs) [] h k e f = absurd (let no = ap length e in omega (arith, no))
-pair_at pages page t es p (q ∷ qs) (m ∷ ms) (inl i) k e f = record {
+pub pair_at : (K : Pair → Type 0) (t : Tree) (es : Edits) (p : List ℕ) (qs : List (List ℕ)) (ms : List Pair) → IsOneOf p qs
+    → AllByRecursion K ms → map (λ path. node_at path t) qs ≡ map (λ m. Some m.old) ms
+    → map (edited_by es) qs ≡ map (λ m. Some (edit_for m)) ms → PairAt K t es p
+pair_at K t es p [] ms h k e f = absurd h
+pair_at K t es p (q ∷ qs) [] h k e f = absurd (let no = ap length e in omega (arith, no))
+pair_at K t es p (q ∷ qs) (m ∷ ms) (inl i) k e f = record {
   pair = m;
   known = k.0;
   node = ap (λ path. node_at path t) i ∙ first_same (node_at q t) (Some m.old) (map (λ path. node_at path t) qs) (map (λ m. Some m.old) ms) e;
   found = ap (edited_by es) i ∙ first_same (edited_by es q) (Some (edit_for m)) (map (edited_by es) qs) (map (λ m. Some (edit_for m)) ms) f;
 }
-pair_at pages page t es p (q ∷ qs) (m ∷ ms) (inr h) k e f =
-    pair_at pages page t es p qs ms h k.1
+pair_at K t es p (q ∷ qs) (m ∷ ms) (inr h) k e f =
+    pair_at K t es p qs ms h k.1
     (rest_same (node_at q t) (Some m.old) (map (λ path. node_at path t) qs) (map (λ m. Some m.old) ms) e)
     (rest_same (edited_by es q) (Some (edit_for m)) (map (edited_by es) qs) (map (λ m. Some (edit_for m)) ms) f)
 
 -- ---- what is sent fits
 
-pair_fits : (pages : Pages) (page : List ℕ) (k : TextBlock) (q : List ℕ) (p : Pair) → IsContent k q → CallsNothing (block_items k q)
-    → IsStanding (block_tree k q) p.old → IsKnownPair pages page p → Fits k q (edit_for p)
-pair_fits pages page k q p c r s h =
-    let ended : HasEndedNodes k q p.old = h.ordinary k q s in
+pub calm_fits : (pages : Pages) (page : List ℕ) (k : TextBlock) (q : List ℕ) (p : Pair) → IsContent k q → CallsNothing (block_items k q)
+    → IsStanding (block_tree k q) p.old → IsRetyped same_node (expanded_page pages page) page p → IsAlike same_node (page_of (page_tree pages page)) p
+    → IsReadBlock p → HasEndedNodes k q p.old → Fits k q (edit_for p)
+calm_fits pages page k q p c r s retyped alike read ended =
     let styled : IsStyledIn k q = content_styled k q c r ended.paired ended.ended in
     inr (
       styled,
-      subst (λ (t : Tree). IsStyledEditOf k t (pieces_for p)) (sym (same_old same_node (page_of (page_tree pages page)) p h.alike))
-          (standing_edit k q (expanded_page pages page) page p h.retyped h.read.read h.read.utf8 s styled ended.unmarked),
+      subst (λ (t : Tree). IsStyledEditOf k t (pieces_for p)) (sym (same_old same_node (page_of (page_tree pages page)) p alike))
+          (standing_edit k q (expanded_page pages page) page p retyped read.read read.utf8 s styled ended.unmarked),
     )
+
+pair_fits : (pages : Pages) (page : List ℕ) (k : TextBlock) (q : List ℕ) (p : Pair) → IsContent k q → CallsNothing (block_items k q)
+    → IsStanding (block_tree k q) p.old → IsKnownPair pages page p → Fits k q (edit_for p)
+pair_fits pages page k q p c r s h = calm_fits pages page k q p c r s h.retyped h.alike h.read (h.ordinary k q s)
 
 -- what is known of the page and what was sent for it
 record SentKnown (pages : Pages) (page : List ℕ) (t : Tree) (es : Edits) (ms : List Pair) : Type 0 where
@@ -161,7 +166,7 @@ spot_fits : (pages : Pages) (page : List ℕ) (t : Tree) (es : Edits) (ms : List
     → SentKnown pages page t es ms → IsContent s.block s.text → CallsNothing (block_items s.block s.text) → StandsTo (block_tree s.block s.text) p t → FitsSpot s o
 spot_fits pages page t es ms s p None e h c r st = tt
 spot_fits pages page t es ms s p (Some x) e h c r st =
-    let a : PairAt pages page t es p = pair_at pages page t es p (paths_of es) ms (path_by es p x e) h.pairs h.at h.each in
+    let a : PairAt (IsKnownPair pages page) t es p = pair_at (IsKnownPair pages page) t es p (paths_of es) ms (path_by es p x e) h.pairs h.at h.each in
     let fits : Fits s.block s.text (edit_for a.pair) =
     pair_fits pages page s.block s.text a.pair c r (stands_at (block_tree s.block s.text) p t a.pair.old st a.node) a.known in
     subst (FitsSpot s) (sym a.found ∙ e) fits
@@ -176,7 +181,7 @@ all_fit pages page t es ms (s ∷ ss) (p ∷ ps) h c r st =
 
 -- ---- the edit
 
-reads : (ps : List Pair) → AllByRecursion IsReadBlock ps → AllByRecursion (λ p. AreRead (children_of p.new)) ps
+pub reads : (ps : List Pair) → AllByRecursion IsReadBlock ps → AllByRecursion (λ p. AreRead (children_of p.new)) ps
 reads [] h = tt
 reads (p ∷ ps) h = (h.0.read, reads ps h.1)
 
