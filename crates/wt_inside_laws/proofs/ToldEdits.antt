@@ -185,12 +185,17 @@ pub reads : (ps : List Pair) → AllByRecursion IsReadBlock ps → AllByRecursio
 reads [] h = tt
 reads (p ∷ ps) h = (h.0.read, reads ps h.1)
 
--- of a page with these blocks, whatever is called beside them
-pub called_done : (pages : Pages) (ss : List BlockSpot) (behind : List ℕ) (new : Tree) (c : TakesContents pages ss behind) → IsCalledPage pages ss behind
-    → IsToldEdit pages (spots_source ss behind) c.paths new
-    → edit_to pages (spots_source ss behind) new ≡ done (spliced (spots_source ss behind) (slices same_node (page_tree pages (spots_source ss behind)) new))
-unfolding most_bytes
-called_done pages ss behind new c h e =
+-- Of a page with these blocks, whatever is called beside them: what was sent is an edit of their contents, as the laws of edits take it, and what it
+-- splices into the page is what these make of it.
+pub record CalledSent (pages : Pages) (ss : List BlockSpot) (behind : List ℕ) (paths : List (List ℕ)) (new : Tree) : Type 0 where
+  pub sent : IsSentOn pages (spots_source ss behind) new (edits_of (called_tree pages (spots_source ss behind)) new)
+  pub edit : IsContentEdit (called_tree pages (spots_source ss behind)) ss paths (edits_of (called_tree pages (spots_source ss behind)) new)
+  pub same : spliced (spots_source ss behind) (slices same_node (page_tree pages (spots_source ss behind)) new)
+      ≡ edited_page ss behind paths (edits_of (called_tree pages (spots_source ss behind)) new)
+
+pub called_sent : (pages : Pages) (ss : List BlockSpot) (behind : List ℕ) (new : Tree) (c : TakesContents pages ss behind) → IsCalledPage pages ss behind
+    → IsToldEdit pages (spots_source ss behind) c.paths new → CalledSent pages ss behind c.paths new
+called_sent pages ss behind new c h e =
     let page : List ℕ = spots_source ss behind in
     let t : Tree = called_tree pages page in
     let ms : List Pair = marked (page_tree pages page) new in
@@ -208,10 +213,17 @@ called_done pages ss behind new c h e =
       edits = sent.only c.paths e.among;
       fit = all_fit pages page t es ms ss c.paths pairs (spots_contents pages ss behind h) h.outside.among.calm c.stand;
     } in
-    let same : spliced page (slices same_node (page_tree pages page) new) ≡ edited_page ss behind c.paths es =
-    ap (spliced page) (sent.changes b) ∙ c.makes b es edit in
-    let room : length (edited_page ss behind c.paths es) ≤ PAGE_BYTES = subst (λ (bs : List ℕ). length bs ≤ PAGE_BYTES) same e.edit.room in
-    sent.alike b ∙ c.takes b es edit room ∙ ap done (sym same)
+    record { sent = sent; edit = edit; same = ap (spliced page) (sent.changes b) ∙ c.makes b es edit }
+
+pub called_done : (pages : Pages) (ss : List BlockSpot) (behind : List ℕ) (new : Tree) (c : TakesContents pages ss behind) → IsCalledPage pages ss behind
+    → IsToldEdit pages (spots_source ss behind) c.paths new
+    → edit_to pages (spots_source ss behind) new ≡ done (spliced (spots_source ss behind) (slices same_node (page_tree pages (spots_source ss behind)) new))
+unfolding most_bytes
+called_done pages ss behind new c h e =
+    let es : Edits = edits_of (called_tree pages (spots_source ss behind)) new in
+    let s : CalledSent pages ss behind c.paths new = called_sent pages ss behind new c h e in
+    let room : length (edited_page ss behind c.paths es) ≤ PAGE_BYTES = subst (λ (bs : List ℕ). length bs ≤ PAGE_BYTES) s.same e.edit.room in
+    s.sent.alike (label new) ∙ c.takes (label new) es s.edit room ∙ ap done (sym s.same)
 
 -- ---- of a page that its lines tell
 
