@@ -1,4 +1,4 @@
--- A text edit of a page that calls nothing is done.
+-- A text edit of a page is done, where the marked blocks call nothing.
 use Rattle.std.proofs.Common.{arith, ◌≡◌, ℕ, zero, suc, ◌≤◌, Option, Some, None, List, [], ◌∷◌, ◌++◌, length, map, refl, sym, ap, ◌∙◌, subst, inl, inr}
 use Rattle.std.specs.List.{AllByRecursion}
 use Rattle.std.specs.Str.{IsUtf8}
@@ -30,11 +30,11 @@ use Rattle.wt_called_edit_laws.specs.CalledPages.{IsCalledPage}
 use Rattle.wt_called_edit_laws.specs.ContentsTaken.{TakesContents}
 use Rattle.wt_called_edit_laws.specs.EditsAt.{IsStanding, StandsTo, StandsAmong, AllStand, edited_at, edited_among, edited_by, edited_page, Fits, FitsSpot, AreFitting, IsContentEdit}
 use Rattle.wt_called_edit_laws.specs.Groups.{called_tree}
-use Rattle.wt_called_edit_laws.specs.PlacedLines.{spots_by, end_by}
-use Rattle.wt_called_edit_laws.specs.ToldLines.{Told, lined, IsToldPage}
-use Rattle.wt_called_edit_laws.proofs.Cells.PlacedLines.{lined_whole}
+use Rattle.wt_called_edit_laws.specs.LinedAmong.{spots_of_lines, end_of_lines, IsLinedAmong}
+use Rattle.wt_called_edit_laws.specs.PlacedLines.{LinedBlock}
+use Rattle.wt_called_edit_laws.proofs.Among.LinedParts.{lined_whole, lined_editable}
 use Rattle.wt_called_edit_laws.proofs.EditFacts.{spots_utf8, spots_contents}
-use Rattle.wt_called_edit_laws.proofs.Told.ToldPages.{told_lined, told_called}
+use Rattle.wt_called_edit_laws.proofs.BlocksOutside.{editable_called}
 use Rattle.wt_inside_laws.specs.AsSent.{pieces_for, edit_for, edits_of, past_first, paths_in, paths_of, node_at, node_among, IsOneOf, IsAlike, IsSentOn}
 use Rattle.wt_inside_laws.specs.RetypedPieces.{AreRead}
 use Rattle.wt_inside_laws.specs.TextEdits.{IsRetyped}
@@ -227,13 +227,12 @@ called_done pages ss behind new c h e =
 
 -- ---- of a page that its lines tell
 
-pub told_edit_done : (pages : Pages) (page : List ℕ) (ts : List Told) (rest : List (List Item)) (new : Tree) → IsToldPage page ts rest
-    → (c : TakesContents pages (spots_by [] (map lined ts)) (end_by [] (map lined ts) rest)) → IsToldEdit pages page c.paths new
+pub lined_edit_done : (pages : Pages) (page : List ℕ) (bs : List LinedBlock) (rest : List (List Item)) (new : Tree) → IsLinedAmong pages page bs rest
+    → (c : TakesContents pages (spots_of_lines pages page bs) (end_of_lines pages page bs rest)) → IsToldEdit pages page c.paths new
     → edit_to pages page new ≡ done (spliced page (slices same_node (page_tree pages page) new))
-told_edit_done pages page ts rest new h c e =
-    let ss : List BlockSpot = spots_by [] (map lined ts) in
-    let behind : List ℕ = end_by [] (map lined ts) rest in
-    let lines = told_lined page ts rest h in
-    let whole : spots_source ss behind ≡ page = lined_whole page (map lined ts) rest lines.are lines.lined in
-    subst (λ (bs : List ℕ). IsToldEdit pages bs c.paths new → edit_to pages bs new ≡ done (spliced bs (slices same_node (page_tree pages bs) new))) whole
-    (λ k. called_done pages ss behind new c (told_called pages page ts rest h) k) e
+lined_edit_done pages page bs rest new h c e =
+    let ss : List BlockSpot = spots_of_lines pages page bs in
+    let behind : List ℕ = end_of_lines pages page bs rest in
+    let called : IsCalledPage pages ss behind = editable_called pages ss behind (lined_editable pages page bs rest h) in
+    subst (λ (q : List ℕ). IsToldEdit pages q c.paths new → edit_to pages q new ≡ done (spliced q (slices same_node (page_tree pages q) new)))
+    (lined_whole pages page bs rest h) (λ k. called_done pages ss behind new c called k) e
