@@ -62,7 +62,7 @@ typed_in_style = record {
   untangled = refl;
   closed = refl;
   in_order = refl;
-  untouched = (record { kept = _; found = refl; unchanged = refl; inside = refl }, tt);
+  untouched = (record { kept = _; found = refl; kind = refl; unchanged = refl; inside = refl; groups = tt }, tt);
   styled = (record { kept = _; found = refl; alike = refl }, tt);
   texts = (
     inl refl,
