@@ -98,11 +98,6 @@ some_letter false c = by (encode_utf8 c) (encode_some c)
     by [] some = absurd (omega (arith, some))
     by (b ∷ bs) some = refl
 
--- and so is `<nowiki/>`
-pub some_guard : (u : Bool) → u ≡ true → list_any is_page (held_parts (parts Text (guard_items u))) ≡ true
-some_guard true e = refl
-some_guard false e = absurd (cc)
-
 -- and so is what is of the page
 pub some_of_page : (ps : List Part) → AreSomeOfPage ps → ArePageParts ps
 some_of_page [] h = absurd h
@@ -117,6 +112,11 @@ some_page [] h = absurd h
 some_page (loose Text o b ∷ ps) h = or_first (is_no_call o) (list_any is_page (held_parts ps)) (ap is_no_call h.0)
 some_page (loose Sep o b ∷ ps) h = absurd h
 some_page (node t ∷ ps) h = let own = h.0 in any_left (tree_items t) (held_parts ps) (has_page t own.has_items)
+
+-- and so is `<nowiki/>`
+pub some_guard : (u : Bool) → u ≡ true → list_any is_page (held_parts (parts Text (guard_items u))) ≡ true
+some_guard true e = some_page (parts Text (guard_items true)) (guard_parts true)
+some_guard false e = absurd (cc)
 
 -- ---- the paragraph
 
