@@ -1,6 +1,6 @@
 //! Laws of paragraphs and headings of the page that hold calls, cut in pieces: other texts are written beside what stays.
 
-ghost use Rattle.std.specs.Prelude.{◌≡◌, ◌<◌, ℕ, false, List};
+ghost use Rattle.std.specs.Prelude.{◌≡◌, ◌<◌, ℕ, false, List, []};
 ghost use Rattle.wt_tree.specs.Tree.{Tree};
 ghost use Rattle.wt_span.specs.Origins.{OuterCall};
 ghost use Rattle.wt_annotated.specs.CutTexts.{cut_texts};

@@ -212,7 +212,7 @@ pub thing_none : (pages : Pages) (i j : ℕ) (t : Thing) → IsOfFolder t.role p
 thing_none pages i j t h l = elim (folder_case t.role pages t h) [
   | inl k ↦
       let stays : StaysAsItIs pages t = k.0 in
-      page_none j (line_parts (part_items pages i t.source)) (subst (λ (xs : List Item). ArePageParts (line_parts xs)) (sym (stays.items i)) stays.own)
+      page_none j (line_parts (part_items pages i t.source)) (subst (λ (xs : List Item). ArePageParts (line_parts xs)) (sym (stays.items i)) (some_of_page (line_parts (node_items t.source)) stays.own))
   | inr k ↦
       let group = k.2 i in
       let gives : GivesSigns i (part_items pages i t.source) = group.gives in
