@@ -202,7 +202,7 @@ own_there page true f q e n it = tt
 own_there page false f q e n it =
     let same : number q ≡ (label f.node).id = ap (λ (t : Tree). (label t).id) n in
     let kept : is_kept q ≡ true = ap (λ (i : ℕ). not (i == 0)) same ∙ ap not e in
-    ((q, (ap page (sym same) ∙ it kept, n)), tt)
+    ((q, ap page (sym same) ∙ it kept, n), tt)
 
 held_there : (page : Nodes) (b : Bool) (fs : List KeptNode) → Every (IsThere page) fs → Every (IsThere page) (if b then fs else [])
 held_there page true fs h = h

@@ -48,14 +48,14 @@ record IsFrom (page : Nodes) (block : Tree) (n : ℕ) (k : Kept) : Type 0 where
 kept_from : (page : Nodes) (block : Tree) (fs : List KeptNode) (n : ℕ) (k : Kept) → Every (IsThere page) fs
     → first_with n (map (kept_of block) fs) ≡ Some k → IsFrom page block n k
 kept_from page block [] n k h e = absurd (cc)
-kept_from page block (f ∷ fs) n k h e = by_test ((label f.node).id == n) refl e
+kept_from page block (f ∷ fs) n k h e = by_test ((label f.node).id == n) refl e (λ r. kept_from page block fs n k h.1 r)
   where
     by_test : (b : Bool) → ((label f.node).id == n) ≡ b → (if b then Some (kept_of block f) else first_with n (map (kept_of block) fs)) ≡ Some k
-        → IsFrom page block n k
-    by_test true t e =
+        → (first_with n (map (kept_of block) fs) ≡ Some k → IsFrom page block n k) → IsFrom page block n k
+    by_test true t e later =
         let same : kept_of block f ≡ k = cc in
         record { found = f; is = same; number = (Decides-eqb (label f.node).id n).0 t; there = h.0 }
-    by_test false t e = kept_from page block fs n k h.1 e
+    by_test false t e later = later e
 
 -- ---- what is sent, by the groups of the block and by those of the page
 

@@ -162,9 +162,10 @@ part_by AsText i v k parent l ts e h r f = f h
 part_by AsVoid i v k parent l ts e h r f = f h
 part_by RoundCharacter i v k parent l ts e h r f = f h
 part_by RoundChildren i v k parent l ts e h r f = f h
-part_by (AsSection n) i v k parent l ts e h r f =
-    ((λ c g m. section_plain l.kind n (value_at (order attr.Typeof) (fixed_attributes l.kind ++ l.attrs)) e),
-    r (written_ungrouped l.kind (AsSection n) e (λ x. absurd (cc))) h.2)
+part_by (AsSection n) i v k parent l ts e h r f = (
+  (λ c g m. section_plain l.kind n (value_at (order attr.Typeof) (fixed_attributes l.kind ++ l.attrs)) e),
+  r (written_ungrouped l.kind (AsSection n) e (λ x. absurd (cc))) h.2,
+)
 part_by Unwritten i v k parent l ts e h r f = f h
 
 mutual
