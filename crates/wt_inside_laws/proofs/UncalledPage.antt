@@ -131,9 +131,9 @@ last_here block (Some j) start pre l is s =
     let all = ap length is in
     let first = length-append start (pre ++ (label block).closing) in
     let last = length-append pre (label block).closing in
-    let open : (f.extent.end == length (flat block) - length (label block).closing) ≡ false = grind (arith, nat_tests, ends, some, all, first, last) in
+    let within : (f.extent.end == length (flat block) - length (label block).closing) ≡ false = grind (arith, nat_tests, ends, some, all, first, last) in
     subst (λ (i : Kept). is_group i.role ≡ true → is_new_last i.role ≡ true) (sym l.1)
-    (λ g. last_by (edit_shape (label f.node).kind).sort block f.extent f.node open g)
+    (λ g. last_by (edit_shape (label f.node).kind).sort block f.extent f.node within g)
 
 -- ---- the children
 
