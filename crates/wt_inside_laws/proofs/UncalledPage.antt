@@ -167,8 +167,7 @@ node_parted : (block : Tree) (left : Option Kept) (start pre rest : List ℕ) (l
 node_parted block left start pre rest l ts bs os il is f g =
     let ks : List Kept = kept_nodes block in
     let j : Kept = kept_of block (found_at (length start + length pre) f.0 (tree l ts)) in
-    subst (λ (o : Option Kept). IsThere o (λ k. (SomeBytes (pre ++ []) → has_break (pre ++ []) ≡ false → IsParted left k) × PageParted ks (Some k) bs os)) (sym f.1)
-    (
+    subst (λ (o : Option Kept). IsThere o (λ k. (SomeBytes (pre ++ []) → has_break (pre ++ []) ≡ false → IsParted left k) × PageParted ks (Some k) bs os)) (sym f.1) (
       (λ s u.
           parted_here block left start pre rest f.0 (tree l ts) il is (subst SomeBytes (append-nil pre) s)
           (subst (λ (cs : List ℕ). has_break cs ≡ false) (append-nil pre) u)),
