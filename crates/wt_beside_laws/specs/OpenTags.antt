@@ -48,11 +48,14 @@ depth_past k d (g ∷ gs) = depth_by (tag_turn k (g ∷ gs)) d (λ e. depth_past
 
 -- ---- the lines of a content
 
--- its nodes that hold a `<`, each `Some`, and where a line ends, `None`
+-- of a node that holds a `<`, `Some`; and where a line ends, `None`
+abbrev pub sign_on : ContentSign → List (Option Thing) → List (Option Thing)
+sign_on (letter c) more = if c == byte.line_break then None ∷ more else more
+sign_on (thing t) more = if is_tagged (own_glyphs t) then Some t ∷ more else more
+
 abbrev pub spine : List ContentSign → List (Option Thing)
 spine [] = []
-spine (letter c ∷ after) = if c == byte.line_break then None ∷ spine after else spine after
-spine (thing t ∷ after) = if is_tagged (own_glyphs t) then Some t ∷ spine after else spine after
+spine (sign ∷ after) = sign_on sign (spine after)
 
 abbrev pub GoesOn : Option ℕ → (ℕ → Type 0) → Type 0
 GoesOn None P = ⊥
