@@ -112,10 +112,10 @@ style_on ks kind o c inside t bs ys texts_in after tail g k =
     ∙ g (end ∷ ys) ([] ∷ after) (delimiter kind c ∷ rest) tt (mark_off kind c rest ∙ k)
     ∙ ap (λ (zs : List Border). spine_by ks zs (texts_in ([] ∷ after))) (sym (append_assoc bs (end ∷ []) ys))
 
-found_so : (o : Option Kept) (t : StyledContent) (tail : List ContentSign) (more : List (Option Thing)) → spine (signs_before t tail) ≡ more
-    → spine (signs_before (found_then o t) tail) ≡ found_on o more
-found_so None t tail more k = k
-found_so (Some q) t tail more k = ap (sign_on (kept_thing q)) k
+found_so : (o : Option Kept) (t : StyledContent) (tail : List ContentSign) (rest : List (Option Thing)) → spine (signs_before t tail) ≡ rest
+    → spine (signs_before (found_then o t) tail) ≡ found_on o rest
+found_so None t tail rest k = k
+found_so (Some q) t tail rest k = ap (sign_on (kept_thing q)) k
 
 sign_so : (f : InlineForm) (p : Page) (l : Label) (bs ys : List Border) (texts_in : List (List ℕ) → List (List ℕ)) (after : List (List ℕ))
     (inside t : StyledContent) (tail : List ContentSign) (U : Type 0) → IsSome after → (U → Within p.kept bs texts_in inside) → Utf8By f l U
@@ -148,11 +148,11 @@ sent_spine p us u = signs_so us p [] ([] ∷ []) [] tt u refl ∙ ap (λ (bs : L
 
 -- ---- what was typed: as many line breaks
 
-count : List ℕ → ℕ
+abbrev count : List ℕ → ℕ
 count [] = zero
 count (b ∷ bs) = if b == 10 then suc (count bs) else count bs
 
-ends : ℕ → List (Option Thing) → List (Option Thing)
+abbrev ends : ℕ → List (Option Thing) → List (Option Thing)
 ends zero rest = rest
 ends (suc n) rest = None ∷ ends n rest
 
@@ -166,11 +166,12 @@ breaks_are (b ∷ bs) rest = by (b == 10) (breaks_are bs rest)
 
 count_from : (bs : List ℕ) (a : ℕ) → fold (λ n b. n + cond (b == 10) 1 0) a bs ≡ a + count bs
 count_from [] a = omega arith
-count_from (b ∷ bs) a = by (b == 10)
+count_from (b ∷ bs) a = by (b == 10) (λ c. count_from bs c)
   where
-    by : (v : Bool) → fold (λ n b. n + cond (b == 10) 1 0) (a + cond v 1 0) bs ≡ a + (if v then suc (count bs) else count bs)
-    by true = count_from bs (a + 1) ∙ omega arith
-    by false = count_from bs (a + 0) ∙ omega arith
+    by : (v : Bool) → ((c : ℕ) → fold (λ n b. n + cond (b == 10) 1 0) c bs ≡ c + count bs)
+        → fold (λ n b. n + cond (b == 10) 1 0) (a + cond v 1 0) bs ≡ a + (if v then suc (count bs) else count bs)
+    by true f = f (a + 1) ∙ omega arith
+    by false f = f (a + 0) ∙ omega arith
 
 counted : (bs : List ℕ) → breaks_of bs ≡ count bs
 counted bs = count_from bs 0 ∙ omega arith
