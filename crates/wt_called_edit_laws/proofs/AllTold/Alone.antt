@@ -22,7 +22,6 @@ use Rattle.wt_text_edit_laws.specs.TextBlocks.{TextBlock, source_of, block_items
 use Rattle.wt_text_edit_laws.proofs.Cuts.TextLines.{joined_is, runs_behind}
 use Rattle.wt_beside_laws.proofs.Derived.BlockContents.{ReadAlone, BlockRead, block_content}
 use Rattle.wt_beside_laws.proofs.Derived.CutPages.{SpotRead, spot_read}
-use Rattle.wt_called_edit_laws.specs.AllTold.{IsOwnBehind}
 use Rattle.wt_called_edit_laws.specs.AnyBlocks.{open_after}
 use Rattle.wt_called_edit_laws.specs.LinedAmong.{AreBeside, AreOwnLines, AreUntouched}
 use Rattle.wt_called_edit_laws.specs.PlacedLines.{LinedBlock, all_lines, IsLinedAt}
@@ -33,6 +32,7 @@ use Rattle.wt_called_edit_laws.proofs.Among.ToldAmong.{told_at}
 use Rattle.wt_called_edit_laws.proofs.Cells.ContentItems.{round_is, items_by}
 use Rattle.wt_called_edit_laws.proofs.Cells.PlacedLines.{own_items}
 use Rattle.wt_called_edit_laws.proofs.Told.OwnReads.{OwnRead}
+use Rattle.wt_called_edit_laws.proofs.AllTold.Chosen.{IsOwnBehind}
 use Rattle.wt_called_edit_laws.proofs.AllTold.LineKinds.{Lines}
 use Rattle.wt_called_edit_laws.proofs.AllTold.OwnTrees.{OwnRound, stay_so}
 

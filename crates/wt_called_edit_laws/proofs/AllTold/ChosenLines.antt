@@ -17,7 +17,6 @@ use Rattle.wt_tables.specs.Parts.{joined}
 use Rattle.wt_text_edit_laws.specs.BlockSpots.{BlockSpot}
 use Rattle.wt_text_edit_laws.specs.PageCuts.{AreFree}
 use Rattle.wt_text_edit_laws.specs.TextBlocks.{source_of}
-use Rattle.wt_called_edit_laws.specs.AllTold.{IsOwnBehind}
 use Rattle.wt_called_edit_laws.specs.Covered.{NoGroupAt, AreInNoGroup}
 use Rattle.wt_called_edit_laws.specs.Groups.{called_tree}
 use Rattle.wt_called_edit_laws.specs.LinedAmong.{spots_on, AreOfPage, AreBeside, AreOwnLines, AreUntouched}
@@ -29,7 +28,7 @@ use Rattle.wt_called_edit_laws.proofs.Among.OwnItems.{from_page}
 use Rattle.wt_called_edit_laws.proofs.Among.OwnSeams.{own_last, sources_size}
 use Rattle.wt_called_edit_laws.proofs.Cells.PlacedLines.{own_items, lines_joined}
 use Rattle.wt_called_edit_laws.proofs.PartTexts.{own_text}
-use Rattle.wt_called_edit_laws.proofs.AllTold.Chosen.{IsFreeAlone, free_of, IsChosen, chosen}
+use Rattle.wt_called_edit_laws.proofs.AllTold.Chosen.{IsOwnBehind, IsFreeAlone, free_of, IsChosen, chosen}
 use Rattle.wt_called_edit_laws.proofs.AllTold.Found.{size, size_both}
 use Rattle.wt_called_edit_laws.proofs.AllTold.LineKinds.{Lines}
 use Rattle.wt_called_edit_laws.proofs.AllTold.PlaceStarts.{spot_starts}
@@ -229,6 +228,10 @@ in_no_group pages page ts h o = outside_from pages page [] [] [] 0 ts (page_star
 pub ones_front : (xs ys : List Item) → AreOnes (xs ++ ys) → AreOnes xs
 ones_front [] ys h = tt
 ones_front (x ∷ xs) ys h = (h.0, ones_front xs ys h.1)
+
+pub ones_behind : (xs ys : List Item) → AreOnes (xs ++ ys) → AreOnes ys
+ones_behind [] ys h = h
+ones_behind (x ∷ xs) ys h = ones_behind xs ys h.1
 
 take_front : (xs ys : List Item) → take (length xs) (xs ++ ys) ≡ xs
 take_front [] ys = refl

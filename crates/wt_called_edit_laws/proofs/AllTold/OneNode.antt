@@ -27,6 +27,7 @@ use Rattle.wt_tables.specs.Parts.{joined}
 use Rattle.wt_part_laws.specs.Placeless.{placeless}
 use Rattle.wt_part_laws.specs.Rounded.{HasItems}
 use Rattle.wt_part_laws.specs.Standing.{standing}
+use Rattle.wt_part_laws.proofs.OwnWalks.{OfPage}
 use Rattle.wt_selser.specs.Edits.{is_tangled}
 use Rattle.wt_text_edit_laws.specs.PageCuts.{EndsClosed}
 use Rattle.wt_text_edit_laws.specs.TextBlocks.{TextBlock, source_of, block_items, block_tree}
@@ -110,6 +111,11 @@ text_before pages page t s xs ys u r e n =
     sym (opened_text calls None s.before mine) ∙ ap (text_from calls None) same ∙ opened_text calls None xs its
 
 -- ---- the node
+
+-- all in it is the page's own
+pub own_tree : (pages : Pages) (page : List ℕ) (i : ℕ) (is : List ℕ) (t : Tree) → IsNodeAt pages page i is t → (s : StandsIn pages page t) → OfPage (tree_items s.block)
+own_tree pages page i is t n s =
+    (full_tree (expanded_page pages page).outer s.number s.before s.block s.behind s.clean (subst HasNoGroup s.is n.ungrouped)).of_page
 
 -- by itself it is free
 free_alone : (pages : Pages) (page : List ℕ) (i : ℕ) (is : List ℕ) (t : Tree) → IsNodeAt pages page i is t → (s : StandsIn pages page t) (k : TextBlock) (q : List ℕ)
