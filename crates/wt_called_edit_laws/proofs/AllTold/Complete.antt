@@ -1,16 +1,12 @@
 -- Each paragraph and heading of a page's tree, outside of groups, that holds no group and isn't tangled is one of those that the lines of the expanded page
 -- tell, or one of the excepted.
-use Rattle.std.proofs.Common.{arith, ◌≡◌, ◌<◌, ◌≤◌, ◌⊎◌, inl, inr, ℕ, zero, suc, ◌+◌, Bool, true, false, None, List, [], ◌∷◌, ◌++◌, length, map, refl, sym, ap, ◌∙◌, subst, append-nil}
+use Rattle.std.proofs.Common.{arith, ◌≡◌, ◌≤◌, ◌⊎◌, inl, inr, ℕ, zero, suc, Bool, true, false, None, List, [], ◌∷◌, ◌++◌, length, map, refl, sym, ap, ◌∙◌, subst, append-nil}
 use Rattle.std.specs.Prelude.{◌&&◌}
 use Rattle.std.specs.Str.{IsUtf8}
 use Rattle.std.specs.List.{list_all}
 use Rattle.wt_span.specs.Items.{Item, char, whole, is_mark, sign, sources}
-use Rattle.wt_span.specs.Origins.{OuterCall}
-use Rattle.wt_tree.specs.Source.{flat}
 use Rattle.wt_tree.specs.Tiling.{HasNoGroup}
 use Rattle.wt_tree.specs.Tree.{Tree, tree, Trees, none, more, label}
-use Rattle.wt_annotated.specs.Seams.{text_from}
-use Rattle.wt_inline.specs.ItemTree.{ItemTree}
 use Rattle.wt_checks.specs.Kept.{children}
 use Rattle.wt_expand.specs.PageCalls.{expanded_page}
 use Rattle.wt_expand.specs.Work.{Pages}
@@ -30,21 +26,19 @@ use Rattle.wt_part_laws.specs.Frames.{content as content_part}
 use Rattle.wt_part_laws.specs.Slots.{AllTrue}
 use Rattle.wt_selser.specs.Edits.{is_tangled}
 use Rattle.wt_text_edit_laws.specs.BlockSpots.{BlockSpot, spots_source}
-use Rattle.wt_text_edit_laws.specs.Contents.{IsContentOf}
 use Rattle.wt_text_edit_laws.specs.NoCalls.{CallsNothing}
 use Rattle.wt_text_edit_laws.specs.PageCuts.{begins_unmarked, EndsClosed}
 use Rattle.wt_text_edit_laws.specs.ParagraphBetween.{written_rows, tables_behind, EndApart, BeginApart}
 use Rattle.wt_text_edit_laws.specs.TextBetween.{AreEnded}
-use Rattle.wt_text_edit_laws.specs.TextBlocks.{TextBlock, a_paragraph, source_of, block_items, block_tree}
+use Rattle.wt_text_edit_laws.specs.TextBlocks.{block_tree}
 use Rattle.wt_text_edit_laws.proofs.Cuts.RowLines.{AllText}
 use Rattle.wt_text_edit_laws.proofs.Paragraphs.Marks.{mark_sign, AreMarkSigns, kind_marks}
-use Rattle.wt_called_edit_laws.specs.AllTold.{starts_in, IsBesideNoCall, AreNoFunctions, IsBesideTexts, IsExceptedAt, text_on_a_sign, marked_text, text_in_tables, unended_marks, IsExceptedIn, by_its_lines, beside_a_call, holds_a_function, beside_a_text, holds_a_pair, IsExcepted, IsOneOf, AllBlocksTold}
+use Rattle.wt_called_edit_laws.specs.AllTold.{starts_in, IsBesideNoCall, AreNoFunctions, IsBesideTexts, IsExceptedAt, text_on_a_sign, marked_text, text_in_tables, unended_marks, by_its_lines, beside_a_call, holds_a_function, beside_a_text, holds_a_pair, IsExcepted, IsOneOf, AllBlocksTold}
 use Rattle.wt_called_edit_laws.specs.AnyBlocks.{open_after}
 use Rattle.wt_called_edit_laws.specs.CalledBlocks.{tree_by}
 use Rattle.wt_called_edit_laws.specs.CalledPages.{IsCalledPage}
 use Rattle.wt_called_edit_laws.specs.CalledTexts.{spots_tree}
 use Rattle.wt_called_edit_laws.specs.ContentsTaken.{TakesContents}
-use Rattle.wt_called_edit_laws.specs.Covered.{NoGroupAt}
 use Rattle.wt_called_edit_laws.specs.EditsAt.{AllStand}
 use Rattle.wt_called_edit_laws.specs.Groups.{called_tree}
 use Rattle.wt_called_edit_laws.specs.LinedAmong.{spots_of_lines, end_of_lines, IsLinedAmong}
@@ -57,7 +51,7 @@ use Rattle.wt_called_edit_laws.specs.ToldAmong.{IsToldAmong}
 use Rattle.wt_called_edit_laws.specs.ToldLines.{Told, lined, AreTold}
 use Rattle.wt_called_edit_laws.specs.ToldTogether.{start_of, told_starts, IsAmongNumbers, AreSome}
 use Rattle.wt_called_edit_laws.proofs.Among.LinedParts.{lined_whole, lined_editable}
-use Rattle.wt_called_edit_laws.proofs.Among.ToldAmong.{all_told, told_among}
+use Rattle.wt_called_edit_laws.proofs.Among.ToldAmong.{told_among}
 use Rattle.wt_called_edit_laws.proofs.BlocksOutside.{editable_called}
 use Rattle.wt_called_edit_laws.proofs.CallsTake.{contents_by, contents_paths}
 use Rattle.wt_called_edit_laws.proofs.Cells.PlacedLines.{own_items, lines_joined}
@@ -65,8 +59,8 @@ use Rattle.wt_called_edit_laws.proofs.Cells.SpotSlots.{open_size}
 use Rattle.wt_called_edit_laws.proofs.EditFacts.{IsFramedPage, framed_page, paths_of, spots_stand, spots_contents}
 use Rattle.wt_called_edit_laws.proofs.GroupsAmong.{retyped_self}
 use Rattle.wt_called_edit_laws.proofs.PathsSend.{NoneEmpty, paths_full}
-use Rattle.wt_called_edit_laws.proofs.AllTold.Alone.{IsAloneTold, IsAloneHere, alone_here, alone_read, own_round}
-use Rattle.wt_called_edit_laws.proofs.AllTold.Chosen.{IsChosen, beside_call_decided, functions_decided, texts_decided, calm_decided, own_behind}
+use Rattle.wt_called_edit_laws.proofs.AllTold.Alone.{IsAloneTold}
+use Rattle.wt_called_edit_laws.proofs.AllTold.Chosen.{beside_call_decided, functions_decided, texts_decided, calm_decided, own_behind}
 use Rattle.wt_called_edit_laws.proofs.AllTold.ChosenLines.{byte_at, among_mapped, ones_front, ones_behind, starts_so}
 use Rattle.wt_called_edit_laws.proofs.AllTold.EachBlocks.{EachBlockIn}
 use Rattle.wt_called_edit_laws.proofs.AllTold.Found.{size}

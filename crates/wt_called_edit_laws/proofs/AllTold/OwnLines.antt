@@ -1,5 +1,5 @@
 -- What a paragraph or a heading of a page's tree holds that has no group comes from no call, so neither does what is on its lines.
-use Rattle.std.proofs.Common.{arith, ◌≡◌, ◌≤◌, ℕ, zero, suc, ◌-◌, ◌+◌, Bool, true, false, Option, Some, None, List, [], ◌∷◌, ◌++◌, length, take, drop, map, slice_get, refl, sym, ap, ap₂, ◌∙◌, subst, append-nil, append_assoc, length-append}
+use Rattle.std.proofs.Common.{arith, ◌≡◌, ◌≤◌, ℕ, zero, suc, ◌-◌, Bool, true, false, Option, Some, None, List, [], ◌∷◌, ◌++◌, length, map, slice_get, refl, sym, ap, ap₂, ◌∙◌, subst, append-nil, append_assoc, length-append}
 use Rattle.std.specs.Prelude.{◌&&◌}
 use Rattle.std.specs.List.{AllByRecursion}
 use Rattle.std.proofs.lemmas.Grind.{flat_map-append}
@@ -10,20 +10,19 @@ use Rattle.wt_span.specs.Entities.{entity_at}
 use Rattle.wt_span.specs.Items.{Item, char, whole, source, sources, call_of}
 use Rattle.wt_span.specs.Origins.{OuterCall}
 use Rattle.wt_annotated.specs.Clean.{is_no_call, is_page}
-use Rattle.wt_annotated.specs.Seams.{text_from}
 use Rattle.wt_annotated.proofs.Calls.{all_split}
 use Rattle.wt_expand.proofs.PiecePlaces.{AllFrom}
 use Rattle.wt_inline.specs.RawTag.{opening_of, inside_of, closing_of}
 use Rattle.wt_inline.specs.Inside.{read_with, inside_items, opened_whole, opened, opened_all}
 use Rattle.wt_inline.specs.ItemTree.{ItemTree, tree_items}
-use Rattle.wt_lines.specs.Lines.{content, is_break_item}
+use Rattle.wt_lines.specs.Lines.{content}
 use Rattle.wt_tables.specs.Parts.{joined}
 use Rattle.wt_page.specs.Headings.{heading}
 use Rattle.wt_page.specs.Lines.{ending}
-use Rattle.wt_page.specs.Rows.{Row, marks_len, row_items, all_items, last_ending}
-use Rattle.wt_page.specs.Texts.{with_separators, para}
+use Rattle.wt_page.specs.Rows.{Row, row_items, all_items, last_ending}
+use Rattle.wt_page.specs.Texts.{para}
 use Rattle.wt_page.proofs.Ends.{content_ending}
-use Rattle.wt_page.proofs.Held.{kept, kept_tree}
+use Rattle.wt_page.proofs.Held.{kept_tree}
 use Rattle.wt_page.proofs.HeldTexts.{of_around, of_para, of_heading}
 use Rattle.wt_page_round_trip.proofs.OpenedPages.{IsOne, AreOnes, opened_text}
 use Rattle.wt_part_laws.proofs.OwnWalks.{OfPage, text_own}
