@@ -54,45 +54,9 @@ pub record OwnRound (b : LinedBlock) (rest : Lines) : Type 0 where
   pub round : Round b rest
   pub runs : AreRuns goes_on (((b.marks ++ b.first) ∷ b.more) ++ rest) (joined (((b.marks ++ b.first) ∷ b.more) ++ rest))
 
-stay_so : (k : TextBlock) (n : ℕ) (xs ys : List Item) → items_round k xs ≡ ys → StayText k n ys → StayText k n xs
+pub stay_so : (k : TextBlock) (n : ℕ) (xs ys : List Item) → items_round k xs ≡ ys → StayText k n ys → StayText k n xs
 stay_so a_paragraph n xs ys e h = subst (StayText a_paragraph n) (sym e) h
 stay_so (a_heading s) n xs ys e h = tt
-
-own_round : (page : List ℕ) (b : LinedBlock) (rest : Lines) → IsUtf8 page → CallsNothing (page_items page) → EndsClosed page []
-    → full_lines (page_items page) ≡ all_lines (b ∷ []) rest → AreLined (b ∷ []) rest → OwnRound b rest
-own_round page b rest u calm closed are h =
-    let ls : List LinedBlock = b ∷ [] in
-    let xs : List Item = page_items page in
-    let end : List ℕ = end_by [] ls rest in
-    let s : BlockSpot = record { before = sources ([] ++ (joined b.before ++ b.marks)); block = b.block; text = b.text } in
-    let ss : List BlockSpot = s ∷ [] in
-    let same : spots_source ss end ≡ page = lined_whole page ls rest are h in
-    let ks : Lines = (b.marks ++ b.first) ∷ b.more in
-    let runs : AreRuns goes_on (b.before ++ (ks ++ rest)) xs = subst (λ (ms : Lines). AreRuns goes_on ms xs) are (runs_are goes_on xs) in
-    let o : OwnBreaks xs = page_breaks page in
-    let breaks : AllBreaks b rest = all_breaks b rest xs runs o in
-    let r : Round b rest = round b rest xs h.0.some runs breaks.text in
-    let blocks : AreBlocksIn ss end = placed ls rest xs (ap page_items same) are o h in
-    let c : IsSpotCut s (page_items (spots_source ss end)) = blocks.0 in
-    let cut : FirstCut b rest c.before c.own c.rest = first_cut b [] rest xs (ap page_items same) are o h in
-    let now : List Bool = open_behind_part [] c.before in
-    let si : SpotIs s end c.before c.own c.rest =
-    spot_is s end (page_items (spots_source ss end)) c refl (subst IsUtf8 (sym same) u) (subst (λ (bs : List ℕ). CallsNothing (page_items bs)) (sym same) calm)
-    (subst (λ (bs : List ℕ). EndsClosed bs []) (sym same) closed) blocks.1 (further_there s.block now [] end c.rest blocks.4) in
-    let n : ℕ = length (open_after [] (written_rows 0 b.before)) in
-    let items : items_round b.block (page_items b.text) ≡ content (own_items b) = sym (round_is b.block b.text) ∙ si.own_is ∙ cut.own_is in
-    record {
-      items = items;
-      are = items_by b.block b.text si.read.is;
-      stays = stay_so b.block n (page_items b.text) (content (own_items b)) items (own_block b.block n b.text (b.first ∷ b.more) r.y r.ys r.some r.own_are h.0.own).1;
-      round = r;
-      runs = runs_behind goes_on b.before (ks ++ rest) xs runs;
-    }
-
-pub told_round : (page : List ℕ) (t : Told) (rest : Lines) → IsUtf8 page → CallsNothing (page_items page) → EndsClosed page []
-    → full_lines (page_items page) ≡ all_lines (lined t ∷ []) rest → AreTold (t ∷ []) rest → OwnRound (lined t) rest
-told_round page t rest u calm closed are h =
-    own_round page (lined t) rest u calm closed are (told_are_lined page (t ∷ []) rest closed are h)
 
 -- ---- what is behind it
 
