@@ -1,20 +1,19 @@
--- Text edits of a page that calls nothing, among paragraphs and headings that are told by its lines: what is asked of them.
-use Rattle.std.specs.Prelude.{◌≡◌, ◌≤◌, ℕ, Option, List, [], length}
+-- Text edits of a page, whatever it calls, among paragraphs and headings that are told by its lines: what is asked of them.
+use Rattle.std.specs.Prelude.{◌≡◌, ◌≤◌, ℕ, Option, None, List, [], length}
 use Rattle.std.specs.List.{AllByRecursion}
 use Rattle.std.specs.Str.{IsUtf8}
 use Rattle.wt_span.specs.declared.limits.TheConstants.{PAGE_BYTES}
+use Rattle.wt_tree.specs.Tiling.{HasNoGroup}
 use Rattle.wt_tree.specs.Tree.{Tree}
 use Rattle.wt_link_spelling.specs.Spelling.{children_of}
-use Rattle.wt_expand.specs.PageItems.{page_items}
 use Rattle.wt_expand.specs.PageCalls.{expanded_page}
 use Rattle.wt_expand.specs.Work.{Pages}
 use Rattle.wt_page_round_trip.specs.PageTree.{page_tree}
 use Rattle.wt_schema.specs.Read.{page as as_page, read}
 use Rattle.wt_slices.specs.Changes.{Pair, marked}
 use Rattle.wt_visible.specs.SameNodes.{same_node}
-use Rattle.wt_text_edit_laws.specs.NoCalls.{CallsNothing}
+use Rattle.wt_commands.specs.Answers.{refusal_of_page}
 use Rattle.wt_text_edit_laws.specs.PageCuts.{EndsClosed}
-use Rattle.wt_text_edit_laws.specs.Parts.{HasNoGroups}
 use Rattle.wt_text_edit_laws.specs.TextBlocks.{TextBlock, block_tree}
 use Rattle.wt_beside_laws.specs.EndedNodes.{LinesOpenNoPair, AreEndedNodes}
 use Rattle.wt_beside_laws.specs.FlatBlocks.{lines_in, signs_in}
@@ -42,9 +41,11 @@ pub record HasEndedNodes (k : TextBlock) (q : List ℕ) (t : Tree) : Type 0 wher
 abbrev pub IsOrdinary : Pair → Type 0
 IsOrdinary p = (k : TextBlock) (q : List ℕ) → IsStanding (block_tree k q) p.old → HasEndedNodes k q p.old
 
--- so on this page, of whose lines these tell it
-abbrev pub IsOrdinaryOn : List ℕ → Pair → Type 0
-IsOrdinaryOn page p = IsOrdinary p × (IsExcepted page p.old → ⊥)
+-- So on this page: it holds no group, and the lines of the expanded page tell it.
+pub record IsOrdinaryOn (pages : Pages) (page : List ℕ) (p : Pair) : Type 0 where
+  pub ungrouped : HasNoGroup p.old
+  pub ordinary : IsOrdinary p
+  pub told : IsExcepted pages page p.old → ⊥
 
 -- ---- the edit
 
@@ -57,14 +58,13 @@ pub record IsToldEdit (pages : Pages) (page : List ℕ) (paths : List (List ℕ)
   pub ordinary : AllByRecursion IsOrdinary (marked (page_tree pages page) new)
   pub among : AreSomeOf (paths_of (edits_of (called_tree pages page) new)) paths
 
--- A text edit, as it is read of HTML, of a page that calls nothing and has no groups: it marks some blocks, each of which is ordinary.
+-- A text edit, as it is read of HTML, of a page that isn't refused: it marks some blocks, each of which is ordinary.
 pub record IsOrdinaryEdit (pages : Pages) (page input : List ℕ) (new : Tree) (unsourced : Option ℕ) : Type 0 where
   pub utf8 : IsUtf8 page
   pub short : length page ≤ PAGE_BYTES
-  pub calls_nothing : CallsNothing (page_items page)
-  pub ungrouped : HasNoGroups page
+  pub unrefused : refusal_of_page pages page ≡ None
   pub closed : EndsClosed page []
   pub sent : read input ≡ as_page new unsourced
   pub edit : IsTextEdit same_node (expanded_page pages page) page (page_tree pages page) new
   pub some : 1 ≤ length (marked (page_tree pages page) new)
-  pub blocks : AllByRecursion (IsOrdinaryOn page) (marked (page_tree pages page) new)
+  pub blocks : AllByRecursion (IsOrdinaryOn pages page) (marked (page_tree pages page) new)
