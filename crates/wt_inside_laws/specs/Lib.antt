@@ -13,3 +13,4 @@ pub mod Swaps
 pub mod SameBut
 pub mod ToldEdits
 pub mod HtmlEdits
+pub mod LocalTextEdits
