@@ -39,6 +39,11 @@ pub mod Breaks
 pub mod SlotsFirst
 pub mod OwnEdits
 pub mod Reached
+pub mod UncalledGuards
+pub mod UncalledSlots
+pub mod UncalledPage
+pub mod CallingPieces
+pub mod CallingEdits
 pub mod ToldEdits
 pub mod HtmlEdits
 pub mod OrdinaryEdits

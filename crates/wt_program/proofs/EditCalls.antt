@@ -1,5 +1,5 @@
 -- A call that keeps what `run` promises answers HTML that is a text edit with the new page, or a device failed, or memory ran out.
-use Rattle.std.proofs.Common.{◌≡◌, ℕ, Option, Some, None, List, [], map, sym, ap, ◌∙◌, subst}
+use Rattle.std.proofs.Common.{◌≡◌, ℕ, Option, Some, None, List, sym, ap, ◌∙◌, subst}
 use Rattle.wt_span.specs.Items.{Item}
 use Rattle.wt_devices.specs.Device.{Pages}
 use Rattle.wt_tree.specs.Tree.{Tree}

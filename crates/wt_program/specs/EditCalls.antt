@@ -1,5 +1,5 @@
 -- Calls of the program that send a text edit of a page, and how they end.
-use Rattle.std.specs.Prelude.{◌≡◌, ◌⊎◌, ℕ, List, [], map, Some}
+use Rattle.std.specs.Prelude.{◌≡◌, ◌⊎◌, ℕ, List, Some}
 use Rattle.wt_span.specs.Items.{Item}
 use Rattle.wt_devices.specs.Device.{Pages}
 use Rattle.wt_tree.specs.Tree.{Tree}
