@@ -56,7 +56,7 @@ use Rattle.wt_inside_laws.proofs.SlotsLed.{TextsLed, own_texts_led, retyped_led,
 
 -- ---- texts that are UTF-8
 
-abbrev AreText : ℕ → List ℕ → Type 0
+abbrev pub AreText : ℕ → List ℕ → Type 0
 AreText d text = IsUtf8 text
 
 utf8_by : (f : InlineForm) (d : ℕ) (l : Label) (U L : Type 0) → (U → L) → Utf8By f l U → LeavesBy f AreText d l L
@@ -71,12 +71,12 @@ utf8_by inline.Tag d l U L g h = tt
 utf8_by inline.Break d l U L g h = tt
 utf8_by inline.AsItStood d l U L g h = tt
 
-utf8_leaves : (ts : Trees) (d : ℕ) → AreUtf8 ts → AllLeaves AreText d ts
+pub utf8_leaves : (ts : Trees) (d : ℕ) → AreUtf8 ts → AllLeaves AreText d ts
 utf8_leaves none d h = tt
 utf8_leaves (more (tree l ts) us) d h =
     (utf8_by (edit_shape l.kind).inline d l (AreUtf8 ts) (AllLeaves AreText (suc d) ts) (λ u. utf8_leaves ts (suc d) u) h.0, utf8_leaves us d h.1)
 
-node_form : (f : InlineForm) → IsElement f → IsNodeForm f
+pub node_form : (f : InlineForm) → IsElement f → IsNodeForm f
 node_form inline.Nothing h = absurd h
 node_form inline.Characters h = absurd h
 node_form inline.Bold h = absurd h
@@ -89,13 +89,13 @@ node_form inline.Break h = tt
 node_form inline.AsItStood h = tt
 
 -- what is kept are nodes
-abbrev AreNodes : Tree → Tree → Type 0
+abbrev pub AreNodes : Tree → Tree → Type 0
 AreNodes t u = IsNodeForm (edit_shape (label t).kind).inline
 
-abbrev AnyStyle : Label → Label → Type 0
+abbrev pub AnyStyle : Label → Label → Type 0
 AnyStyle l m = Unit {0}
 
-own_texts : (d : ℕ) (ps : Pieces) → HoldIn AreText AreNodes AnyStyle d ps → AreNodesAndTexts (as_own ps)
+pub own_texts : (d : ℕ) (ps : Pieces) → HoldIn AreText AreNodes AnyStyle d ps → AreNodesAndTexts (as_own ps)
 own_texts d no_pieces h = tt
 own_texts d (gone t ps) h = own_texts d ps h
 own_texts d (written x text ps) h = (h.0, own_texts d ps h.1)
@@ -105,27 +105,27 @@ own_texts d (new_style m is ps) h = absurd h
 
 -- ---- texts without line breaks
 
-abbrev OnOneLine : ℕ → List ℕ → Type 0
+abbrev pub OnOneLine : ℕ → List ℕ → Type 0
 OnOneLine d text = has_break text ≡ false
 
 -- in a style
-abbrev UnbrokenIn : ℕ → List ℕ → Type 0
+abbrev pub UnbrokenIn : ℕ → List ℕ → Type 0
 UnbrokenIn d text = 0 < d → has_break text ≡ false
 
-broken_cut : (x y : List ℕ) → has_break (x ++ y) ≡ false → (has_break x ≡ false) × (has_break y ≡ false)
+pub broken_cut : (x y : List ℕ) → has_break (x ++ y) ≡ false → (has_break x ≡ false) × (has_break y ≡ false)
 broken_cut [] y h = (refl, h)
 broken_cut (b ∷ x) y h =
     let a = or_both (b == 10) (has_break (x ++ y)) h in
     let r = broken_cut x y a.1 in
     (ap (λ (v : Bool). v || has_break x) a.0 ∙ r.0, r.1)
 
-broken_joined : (x y : List ℕ) → has_break x ≡ false → has_break y ≡ false → has_break (x ++ y) ≡ false
+pub broken_joined : (x y : List ℕ) → has_break x ≡ false → has_break y ≡ false → has_break (x ++ y) ≡ false
 broken_joined [] y h k = k
 broken_joined (b ∷ x) y h k =
     let a = or_both (b == 10) (has_break x) h in
     ap (λ (v : Bool). v || has_break (x ++ y)) a.0 ∙ broken_joined x y a.1 k
 
-own_one_line : (d : ℕ) (ps : Pieces) → HoldIn OnOneLine AreNodes AnyStyle d ps → AreOneLine (as_own ps)
+pub own_one_line : (d : ℕ) (ps : Pieces) → HoldIn OnOneLine AreNodes AnyStyle d ps → AreOneLine (as_own ps)
 own_one_line d no_pieces h = tt
 own_one_line d (gone t ps) h = own_one_line d ps h
 own_one_line d (written x text ps) h = (h.0, own_one_line d ps h.1)
@@ -133,7 +133,7 @@ own_one_line d (kept t u ps) h = own_one_line d ps h.1
 own_one_line d (around l m is ps) h = own_one_line d ps h.2
 own_one_line d (new_style m is ps) h = absurd h
 
-own_nest : (d : ℕ) (bold italic : Bool) (ps : Pieces) → ((bold || italic) ≡ true → 0 < d) → HoldIn UnbrokenIn AreNodes AnyStyle d ps
+pub own_nest : (d : ℕ) (bold italic : Bool) (ps : Pieces) → ((bold || italic) ≡ true → 0 < d) → HoldIn UnbrokenIn AreNodes AnyStyle d ps
     → NewStylesNest bold italic (as_own ps)
 own_nest d bold italic no_pieces e h = tt
 own_nest d bold italic (gone t ps) e h = own_nest d bold italic ps e h
@@ -147,7 +147,7 @@ retyped_unbroken : (ks : List Kept) (s t : Slot) (d : ℕ) → IsRetypedText ks 
 retyped_unbroken ks s t d (inl e) h = λ z. ap has_break e ∙ h z
 retyped_unbroken ks s t d (inr r) h = λ z. count_unbroken t.text (r.breaks ∙ unbroken_count s.text (h z))
 
-retyped_hold : (ks : List Kept) (left : Option Border) (bs : List Border) (ns ms : List (List ℕ)) (d : ℕ) → length ns ≡ length ms
+pub retyped_hold : (ks : List Kept) (left : Option Border) (bs : List Border) (ns ms : List (List ℕ)) (d : ℕ) → length ns ≡ length ms
     → AllByRecursion (IsRetypedText ks) (zip (slots_from left bs ns) (slots_from left bs ms)) → TextsHold UnbrokenIn d bs ns → TextsHold UnbrokenIn d bs ms
 retyped_hold ks left bs [] [] d e t h = tt
 retyped_hold ks left bs [] (m ∷ ms) d e t h = absurd (omega (arith, e))
@@ -162,7 +162,7 @@ retyped_hold ks left (b ∷ bs) (n ∷ ns) (m ∷ ms) d e t h = (
 )
 
 -- one line, as the slots say it
-slots_hold : (left : Option Border) (bs : List Border) (ns : List (List ℕ)) (d : ℕ) → AllByRecursion (λ s. has_break s.text ≡ false) (slots_from left bs ns)
+pub slots_hold : (left : Option Border) (bs : List Border) (ns : List (List ℕ)) (d : ℕ) → AllByRecursion (λ s. has_break s.text ≡ false) (slots_from left bs ns)
     → TextsHold OnOneLine d bs ns
 slots_hold left bs [] d h = tt
 slots_hold left [] (n ∷ ns) d h = (h.0, slots_hold None [] ns d h.1)
@@ -214,20 +214,20 @@ kept_sent f g o l m i j t h k = element f l i h ∙ sym (element g m j k)
     element inline.Break l i h = refl
     element inline.AsItStood l i h = refl
 
-abbrev SameSign : Tree → Tree → Type 0
+abbrev pub SameSign : Tree → Tree → Type 0
 SameSign t u = (p : Page) (rest : StyledContent) → sent_before p (as_sent t) rest ≡ sent_before p u rest
 
-abbrev SameStyled : Label → Label → Type 0
+abbrev pub SameStyled : Label → Label → Type 0
 SameStyled l m = (p : Page) (i rest : StyledContent)
     → sent_by (edit_shape l.kind).inline (kept_with l.id p.kept) (mark_off l) i rest ≡ sent_by (edit_shape m.kind).inline (kept_with m.id p.kept) m i rest
 
-element_sign : (l : Label) (ts : Trees) (m : Label) (ws : Trees) → IsElement (edit_shape l.kind).inline → IsElement (edit_shape m.kind).inline → m.id ≡ l.id
+pub element_sign : (l : Label) (ts : Trees) (m : Label) (ws : Trees) → IsElement (edit_shape l.kind).inline → IsElement (edit_shape m.kind).inline → m.id ≡ l.id
     → SameSign (tree l ts) (tree m ws)
 element_sign l ts m ws f g e = λ p rest.
     kept_sent (edit_shape l.kind).inline (edit_shape m.kind).inline (kept_with l.id p.kept) (mark_off l) m _ (sent_content p ws) rest f g
     ∙ ap (λ (n : ℕ). sent_by (edit_shape m.kind).inline (kept_with n p.kept) m (sent_content p ws) rest) (sym e)
 
-style_sign : (l m : Label) → AreOfStyle (edit_shape l.kind).inline (edit_shape m.kind).inline → m.id ≡ l.id → SameStyled l m
+pub style_sign : (l m : Label) → AreOfStyle (edit_shape l.kind).inline (edit_shape m.kind).inline → m.id ≡ l.id → SameStyled l m
 style_sign l m (inl b) e = λ p i rest.
     ap (λ (f : InlineForm). sent_by f (kept_with l.id p.kept) (mark_off l) i rest) b.0
     ∙ ap (λ (n : ℕ). sent_by inline.Bold (kept_with n p.kept) m i rest) (sym e)
@@ -243,7 +243,7 @@ text_same p x [] us vs e = e
 text_same p x (b ∷ bs) us vs e =
     ap (λ (t : StyledContent). sent_before p (tree (record x { kind = kind.Text; id = 0; shown = b ∷ bs; mark = marks.Nothing }) none) t) e
 
-own_signs : (d : ℕ) (p : Page) (ps : Pieces) → HoldIn Anything SameSign SameStyled d ps → sent_content p (sent_pieces (as_own ps)) ≡ sent_content p (sent_pieces ps)
+pub own_signs : (d : ℕ) (p : Page) (ps : Pieces) → HoldIn Anything SameSign SameStyled d ps → sent_content p (sent_pieces (as_own ps)) ≡ sent_content p (sent_pieces ps)
 own_signs d p no_pieces h = refl
 own_signs d p (gone t ps) h = own_signs d p ps h
 own_signs d p (written x text ps) h = text_same p x text (sent_pieces (as_own ps)) (sent_pieces ps) (own_signs d p ps h.1)
@@ -262,7 +262,7 @@ pub block_ungrouped : (k : TextBlock) (q : List ℕ) (t : Tree) → IsStyledIn k
 block_ungrouped k q t h i = none_in t (subst HasNoGroup (sym i.is) (no_group k q i.number i.before h.utf8 h.is h.unended h.calls_nothing))
 
 -- both have one text more than borders
-same_length : (ts us : Trees) → borders us ≡ borders ts → length (texts ts) ≡ length (texts us)
+pub same_length : (ts us : Trees) → borders us ≡ borders ts → length (texts ts) ≡ length (texts us)
 same_length ts us e =
     let a = texts_between ts in
     let b = texts_between us in
@@ -270,7 +270,7 @@ same_length ts us e =
     omega (arith, a, b, c)
 
 -- the texts between them, one for one
-paired : (ks : List Kept) (ts us : Trees) → borders us ≡ borders ts → AllByRecursion (IsRetypedText ks) (zip (slots ts) (slots us))
+pub paired : (ks : List Kept) (ts us : Trees) → borders us ≡ borders ts → AllByRecursion (IsRetypedText ks) (zip (slots ts) (slots us))
     → AllByRecursion (IsRetypedText ks) (zip (slots_from None (borders ts) (texts ts)) (slots_from None (borders ts) (texts us)))
 paired ks ts us e h = subst (λ bs. AllByRecursion (IsRetypedText ks) (zip (slots ts) (slots_from None bs (texts us)))) e h
 

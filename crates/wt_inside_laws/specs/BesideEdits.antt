@@ -1,0 +1,54 @@
+-- Text edits of a page among paragraphs and headings that may hold calls: what is asked of them.
+use Rattle.std.specs.Prelude.{◌≤◌, ◌⊎◌, ℕ, List, length}
+use Rattle.std.specs.List.{AllByRecursion}
+use Rattle.wt_span.specs.declared.limits.TheConstants.{PAGE_BYTES}
+use Rattle.wt_span.specs.Origins.{OuterCall}
+use Rattle.wt_tree.specs.Tree.{Tree}
+use Rattle.wt_annotated.specs.CutTexts.{cut_texts}
+use Rattle.wt_expand.specs.PageCalls.{expanded_page}
+use Rattle.wt_expand.specs.Work.{Pages}
+use Rattle.wt_page_round_trip.specs.PageTree.{page_tree}
+use Rattle.wt_part_laws.specs.Expanded.{part_items}
+use Rattle.wt_part_laws.specs.HeldCalls.{block_in}
+use Rattle.wt_slices.specs.Changes.{Pair, marked}
+use Rattle.wt_visible.specs.SameNodes.{same_node}
+use Rattle.wt_text_edit_laws.specs.Contents.{IsContent}
+use Rattle.wt_text_edit_laws.specs.NoCalls.{CallsNothing}
+use Rattle.wt_text_edit_laws.specs.TextBlocks.{TextBlock, block_items}
+use Rattle.wt_called_edit_laws.specs.CalledContents.{tree_round}
+use Rattle.wt_called_edit_laws.specs.Groups.{called_tree}
+use Rattle.wt_called_edit_laws.specs.SettledAt.{IsSettledAt}
+use Rattle.wt_inside_laws.specs.AsSent.{edits_of, paths_of, AreSomeOf, IsReadFor}
+use Rattle.wt_inside_laws.specs.RetypedCalls.{HoldsUncalled, IsBeside}
+use Rattle.wt_inside_laws.specs.TextEdits.{IsTextEdit}
+use Rattle.wt_inside_laws.specs.ToldEdits.{IsReadBlock, HasEndedNodes}
+
+-- a node of the page is this paragraph or heading, with its groups, where so many calls come before it
+pub record IsBlockOf (pages : Pages) (k : TextBlock) (q : List ℕ) (t : Tree) : Type 0 where
+  pub before : ℕ
+  pub calls : List OuterCall
+  pub settled : IsSettledAt (cut_texts (block_in calls (tree_round k (part_items pages before q)))) t
+
+-- it calls nothing, and its nodes are as in any such block
+pub record IsCalmBlock (k : TextBlock) (q : List ℕ) (t : Tree) : Type 0 where
+  pub content : IsContent k q
+  pub calls_nothing : CallsNothing (block_items k q)
+  pub nodes : HasEndedNodes k q t
+
+-- it holds calls, texts may be typed beside these, and something in it is no call
+pub record IsCallingBlock (pages : Pages) (k : TextBlock) (q : List ℕ) (t : Tree) : Type 0 where
+  pub beside : IsBeside pages k q t
+  pub uncalled : HoldsUncalled k t
+
+-- a marked block is one of these, whatever its source is
+abbrev pub IsBesideBlock : Pages → Pair → Type 0
+IsBesideBlock pages p = (k : TextBlock) (q : List ℕ) → IsBlockOf pages k q p.old → IsCalmBlock k q p.old ⊎ IsCallingBlock pages k q p.old
+
+-- A text edit, as it is read, of a page with these blocks at these paths, which isn't too long: each marked one is at one of them, and is such a block.
+pub record IsBesideEdit (pages : Pages) (page : List ℕ) (paths : List (List ℕ)) (new : Tree) : Type 0 where
+  pub short : length page ≤ PAGE_BYTES
+  pub edit : IsTextEdit same_node (expanded_page pages page) page (page_tree pages page) new
+  pub read : IsReadFor (page_tree pages page) new
+  pub blocks : AllByRecursion IsReadBlock (marked (page_tree pages page) new)
+  pub beside : AllByRecursion (IsBesideBlock pages) (marked (page_tree pages page) new)
+  pub among : AreSomeOf (paths_of (edits_of (called_tree pages page) new)) paths
