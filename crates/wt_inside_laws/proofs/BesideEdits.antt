@@ -20,7 +20,7 @@ use Rattle.wt_splice.specs.Splice.{spliced}
 use Rattle.wt_visible.specs.SameNodes.{same_node}
 use Rattle.wt_visible.proofs.SameTells.{tells_same}
 use Rattle.wt_selser.specs.Edits.{most_bytes}
-use Rattle.wt_commands.specs.Answers.{refusal_of_page, done, edit_to}
+use Rattle.wt_commands.specs.Answers.{refusal_of_page, done, edit_of, edit_to}
 use Rattle.wt_typed_blocks.specs.Edited.{Edited, Edits, page_node}
 use Rattle.wt_text_edit_laws.specs.BlockSpots.{BlockSpot, spots_source}
 use Rattle.wt_text_edit_laws.specs.TextBlocks.{TextBlock, block_tree}
@@ -40,14 +40,16 @@ use Rattle.wt_called_edit_laws.proofs.CallingMade.{calm_block, calm_standing}
 use Rattle.wt_called_edit_laws.proofs.SettledEdits.{AreOfBlocks, all_there}
 use Rattle.wt_called_edit_laws.proofs.SpotSources.{grouped_at}
 use Rattle.wt_inside_laws.specs.AsSent.{edit_for, edits_of, paths_of, node_at, IsAlike, IsSentOn}
-use Rattle.wt_inside_laws.specs.BesideEdits.{IsBlockOf, IsCalmBlock, IsCallingBlock, IsBesideBlock, IsBesideEdit}
+use Rattle.wt_inside_laws.specs.BesideEdits.{IsBlockOf, IsCalmBlock, IsCallingBlock, IsBesideBlock, IsBesideEdit, IsBesideHtml}
 use Rattle.wt_inside_laws.specs.RetypedPieces.{AreRead}
 use Rattle.wt_inside_laws.specs.TextEdits.{IsRetyped}
 use Rattle.wt_inside_laws.specs.ToldEdits.{IsReadBlock}
 use Rattle.wt_inside_laws.proofs.CallingEdits.{retyped_fits}
+use Rattle.wt_inside_laws.proofs.HtmlEdits.{edit_is, blocks_read}
 use Rattle.wt_inside_laws.proofs.MarkedBlocks.{all_alike, all_numbered}
 use Rattle.wt_inside_laws.proofs.MatchedPairs.{same_old}
 use Rattle.wt_inside_laws.proofs.PageAlike.{page_plain, text_edit_sent}
+use Rattle.wt_inside_laws.proofs.ReadSent.{read_for, read_blocks}
 use Rattle.wt_inside_laws.proofs.ToldEdits.{PairAt, pair_at, path_by, calm_fits, reads}
 
 -- ---- a marked block
@@ -180,3 +182,24 @@ calling_edit_done pages page bs rest new h c e =
     subst (λ (q : List ℕ). IsUtf8 q → refusal_of_page pages q ≡ None → IsBesideEdit pages q c.paths new
     → edit_to pages q new ≡ done (spliced q (slices same_node (page_tree pages q) new)))
     (calling_whole pages page bs rest h) (λ u r k. beside_done pages ss behind new c u r k) h.utf8 h.unrefused e
+
+pub html_beside : (pages : Pages) (page input : List ℕ) (bs : List LinedBlock) (rest : List (List Item)) (paths : List (List ℕ)) (new : Tree) (unsourced : Option ℕ)
+    → IsLinedCalling pages page bs rest → IsBesideHtml pages page input paths new unsourced → IsBesideEdit pages page paths new
+html_beside pages page input bs rest paths new unsourced h e = record {
+  short = e.short;
+  edit = e.edit;
+  read = read_for pages page input new unsourced h.utf8 e.short h.unrefused e.reads e.edit.checks;
+  blocks =
+      blocks_read (marked (page_tree pages page) new)
+      (read_blocks same_node (expanded_page pages page) page pages page input new unsourced h.utf8 e.short h.unrefused e.reads e.edit.checks e.edit.blocks);
+  beside = e.beside;
+  among = e.among;
+}
+
+pub html_beside_done : (pages : Pages) (page input : List ℕ) (bs : List LinedBlock) (rest : List (List Item)) (new : Tree) (unsourced : Option ℕ)
+    → IsLinedCalling pages page bs rest → (c : TakesContentsIn pages (spots_of_lines pages page bs) (end_of_lines pages page bs rest))
+    → IsBesideHtml pages page input c.paths new unsourced
+    → edit_of pages (Some page) input ≡ done (spliced page (slices same_node (page_tree pages page) new))
+html_beside_done pages page input bs rest new unsourced h c e =
+    edit_is pages page (spliced page (slices same_node (page_tree pages page) new)) input new unsourced h.utf8 e.short e.within e.reads
+    (calling_edit_done pages page bs rest new h c (html_beside pages page input bs rest c.paths new unsourced h e))

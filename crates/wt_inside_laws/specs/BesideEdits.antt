@@ -1,7 +1,7 @@
 -- Text edits of a page among paragraphs and headings that may hold calls: what is asked of them.
-use Rattle.std.specs.Prelude.{◌≤◌, ◌⊎◌, ℕ, List, length}
+use Rattle.std.specs.Prelude.{◌≡◌, ◌≤◌, ◌⊎◌, ℕ, List, length, Option}
 use Rattle.std.specs.List.{AllByRecursion}
-use Rattle.wt_span.specs.declared.limits.TheConstants.{PAGE_BYTES}
+use Rattle.wt_span.specs.declared.limits.TheConstants.{HTML_BYTES, PAGE_BYTES}
 use Rattle.wt_span.specs.Origins.{OuterCall}
 use Rattle.wt_tree.specs.Tree.{Tree}
 use Rattle.wt_annotated.specs.CutTexts.{cut_texts}
@@ -10,6 +10,7 @@ use Rattle.wt_expand.specs.Work.{Pages}
 use Rattle.wt_page_round_trip.specs.PageTree.{page_tree}
 use Rattle.wt_part_laws.specs.Expanded.{part_items}
 use Rattle.wt_part_laws.specs.HeldCalls.{block_in}
+use Rattle.wt_schema.specs.Read.{page as as_page, read}
 use Rattle.wt_slices.specs.Changes.{Pair, marked}
 use Rattle.wt_visible.specs.SameNodes.{same_node}
 use Rattle.wt_text_edit_laws.specs.Contents.{IsContent}
@@ -52,3 +53,12 @@ pub record IsBesideEdit (pages : Pages) (page : List ℕ) (paths : List (List �
   pub blocks : AllByRecursion IsReadBlock (marked (page_tree pages page) new)
   pub beside : AllByRecursion (IsBesideBlock pages) (marked (page_tree pages page) new)
   pub among : AreSomeOf (paths_of (edits_of (called_tree pages page) new)) paths
+
+-- HTML that is read as such an edit. Neither the page nor the HTML is longer than it may be.
+pub record IsBesideHtml (pages : Pages) (page input : List ℕ) (paths : List (List ℕ)) (new : Tree) (unsourced : Option ℕ) : Type 0 where
+  pub reads : read input ≡ as_page new unsourced
+  pub edit : IsTextEdit same_node (expanded_page pages page) page (page_tree pages page) new
+  pub beside : AllByRecursion (IsBesideBlock pages) (marked (page_tree pages page) new)
+  pub among : AreSomeOf (paths_of (edits_of (called_tree pages page) new)) paths
+  pub short : length page ≤ PAGE_BYTES
+  pub within : length input ≤ HTML_BYTES

@@ -28,7 +28,7 @@ ghost use Rattle.wt_called_edit_laws.specs.LinedAmong.{spots_of_lines, end_of_li
 ghost use Rattle.wt_called_edit_laws.specs.LinedCalling.{IsLinedCalling};
 ghost use Rattle.wt_called_edit_laws.specs.PlacedLines.{LinedBlock};
 ghost use Rattle.wt_inside_laws.specs.AsSent.{edits_of, IsPlainPage, IsReadFor, IsAlike, IsAsSent, IsSentOn};
-ghost use Rattle.wt_inside_laws.specs.BesideEdits.{IsBesideEdit};
+ghost use Rattle.wt_inside_laws.specs.BesideEdits.{IsBesideEdit, IsBesideHtml};
 ghost use Rattle.wt_inside_laws.specs.HtmlEdits.{IsHtmlEdit};
 ghost use Rattle.wt_inside_laws.specs.RetypedPieces.{AreRead, AreUtf8};
 ghost use Rattle.wt_inside_laws.specs.TextEdits.{IsRetyped, IsTextEdit};
@@ -98,11 +98,16 @@ pub fn text_edits_in_html_are_done()
 /// calls nothing and is ordinary, or texts may be typed beside the calls in it (`IsBesideBlock`).
 #[tactic(auto)]
 pub fn text_edits_beside_calls_are_done()
-    ensures { (pages : Pages) (page : List ℕ) (bs : List LinedBlock) (rest : List (List Item)) (new : Tree)
+    ensures tree { (pages : Pages) (page : List ℕ) (bs : List LinedBlock) (rest : List (List Item)) (new : Tree)
         → IsLinedCalling pages page bs rest
         → (c : TakesContentsIn pages (spots_of_lines pages page bs) (end_of_lines pages page bs rest))
         → IsBesideEdit pages page c.paths new
         → edit_to pages page new ≡ done (spliced page (slices same_node (page_tree pages page) new)) }
+    ensures html { (pages : Pages) (page input : List ℕ) (bs : List LinedBlock) (rest : List (List Item)) (new : Tree)
+        (unsourced : Option ℕ) → IsLinedCalling pages page bs rest
+        → (c : TakesContentsIn pages (spots_of_lines pages page bs) (end_of_lines pages page bs rest))
+        → IsBesideHtml pages page input c.paths new unsourced
+        → edit_of pages (Some page) input ≡ done (spliced page (slices same_node (page_tree pages page) new)) }
 {}
 
 /// So each text edit is done of a page that isn't refused, where each marked block holds no call, is ordinary and none of
