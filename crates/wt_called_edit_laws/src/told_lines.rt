@@ -15,8 +15,8 @@ ghost use Rattle.wt_text_edit_laws.specs.BlockSpots.{BlockSpot};
 ghost use Rattle.wt_text_edit_laws.specs.PageCuts.{AreBlockItems, EndsClosed};
 ghost use Rattle.wt_text_edit_laws.specs.TextBlocks.{TextBlock, a_heading, block_tree};
 ghost use Rattle.wt_text_edit_laws.specs.TypedHeadings.{Sides};
-ghost use Rattle.wt_beside_laws.specs.EndedNodes.{LinesOpenNoPair, AreEndedNodes};
-ghost use Rattle.wt_beside_laws.specs.FlatBlocks.{lines_in, signs_in};
+ghost use Rattle.wt_beside_laws.specs.EndedNodes.{AreEndedNodes};
+ghost use Rattle.wt_beside_laws.specs.FlatBlocks.{signs_in};
 ghost use Rattle.wt_beside_laws.specs.StyledIn.{IsStyledIn};
 ghost use Rattle.wt_called_edit_laws.specs.AllTold.{AllBlocksTold};
 ghost use Rattle.wt_called_edit_laws.specs.CalledPages.{IsCalledPage};
@@ -53,14 +53,13 @@ pub fn blocks_are_told_by_their_lines()
 {}
 
 /// The nodes of each of them may stay, in their order, with any texts between them, and so may its bold and italic (`IsStyledIn`):
-/// asked is only that no tag in it opens a pair without a closing tag on its line (`LinesOpenNoPair`), and that the source of each
-/// node ends what it begins (`AreEndedNodes`). So it is of each block among calls that calls nothing.
+/// asked is only that the source of each node ends what it begins (`AreEndedNodes`). So it is of each block among calls that calls
+/// nothing.
 pub fn nodes_of_told_blocks_stay()
     ensures told { (page : List ℕ) (ts : List Told) (t : Told) (us : List Told) (behind : List (List Item)) → IsToldPage page (ts ++ t ∷ us) behind
-        → LinesOpenNoPair (lines_in (lined t).block (lined t).text) → AreEndedNodes (signs_in (lined t).block (lined t).text)
-        → IsStyledIn (lined t).block (lined t).text }
+        → AreEndedNodes (signs_in (lined t).block (lined t).text) → IsStyledIn (lined t).block (lined t).text }
     ensures called { (pages : Pages) (ss : List BlockSpot) (s : BlockSpot) (rs : List BlockSpot) (behind : List ℕ) → IsCalledPage pages (ss ++ s ∷ rs) behind
-        → LinesOpenNoPair (lines_in s.block s.text) → AreEndedNodes (signs_in s.block s.text) → IsStyledIn s.block s.text }
+        → AreEndedNodes (signs_in s.block s.text) → IsStyledIn s.block s.text }
 {}
 
 /// Where a node of a page's tree is such a block and isn't tangled there, no tag is open at the end of a node in it (`IsShut`).

@@ -38,6 +38,7 @@ pub mod SlotsLed
 pub mod Breaks
 pub mod SlotsFirst
 pub mod OwnEdits
+pub mod Reached
 pub mod OwnTexts
 pub mod UncalledGuards
 pub mod UncalledSlots

@@ -98,7 +98,7 @@ tag_flat = record {
   some = λ e. absurd (cc);
   calls_nothing = tt;
   text = (refl, All-cons (IsLineOfText 0) own_items [] refl (All-nil (IsLineOfText 0)));
-  flat = ((refl, (tt, (refl, tt))), ((120 ∷ [], (refl, refl)), (record { alone = tag_alone; lone = tt }, ((121 ∷ [], (refl, refl)), tt))), tt);
+  flat = ((refl, (tt, (refl, tt))), ((120 ∷ [], (refl, refl)), (record { alone = tag_alone }, ((121 ∷ [], (refl, refl)), tt))), tt);
   unstyled = (refl, tt);
   kept = ((inl (tag_kept, subst HasNoBreak (sym tag_page) (tt, tt)), refl), tt);
   calm = (tag_calm, tt);
@@ -153,7 +153,7 @@ comment_flat = record {
   some = λ e. absurd (cc);
   calls_nothing = tt;
   text = (refl, All-cons (IsLineOfText 0) remarked_items [] refl (All-nil (IsLineOfText 0)));
-  flat = ((refl, (tt, (refl, tt))), ((120 ∷ [], (refl, refl)), (record { alone = comment_by_itself; lone = tt }, ((121 ∷ [], (refl, refl)), tt))), tt);
+  flat = ((refl, (tt, (refl, tt))), ((120 ∷ [], (refl, refl)), (record { alone = comment_by_itself }, ((121 ∷ [], (refl, refl)), tt))), tt);
   unstyled = (refl, tt);
   kept = ((comment_held, refl), tt);
   calm = (comment_calm, tt);

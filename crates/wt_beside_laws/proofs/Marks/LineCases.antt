@@ -1,5 +1,5 @@
 -- Worked case: in the paragraph of the lines `x`, `<!--c-->` and `y` the comment is a line of comments, the paragraph is flat, and other letters are typed in both texts.
-use Rattle.std.proofs.Common.{◌≡◌, ℕ, zero, suc, true, None, List, [], ◌∷◌, ◌++◌, refl, sym, subst, inl, inr}
+use Rattle.std.proofs.Common.{◌≡◌, ℕ, zero, suc, None, List, [], ◌∷◌, ◌++◌, map, refl, sym, subst, inl, inr}
 use Rattle.std.specs.Prelude.{codes}
 use Rattle.std.specs.Str.{IsUtf8, chars}
 use Rattle.std.proofs.Math.Utf8.{encode}
@@ -18,6 +18,8 @@ use Rattle.wt_expand.specs.PageItems.{page_items}
 use Rattle.wt_lines.specs.Kinds.{kind_of_signs}
 use Rattle.wt_lines.specs.Lines.{lines}
 use Rattle.wt_inline.specs.Parts.{children}
+use Rattle.wt_tiles.specs.declared.glyph.Glyph.TheVariants as glyph
+use Rattle.wt_tiles.specs.Glyphs.{glyph_of}
 use Rattle.wt_tiles.specs.Tags.{tag_at, opening_tag, closing_tag, tag_after, name_of, live_name}
 use Rattle.wt_tiles.specs.Tiles.{form_at, link_or_url, tag_tile, switch_at, shapes, closed, tiles}
 use Rattle.wt_tiles.specs.Links.{link_at}
@@ -40,13 +42,16 @@ use Rattle.wt_text_edit_laws.specs.TextBlocks.{a_paragraph, block_tree}
 use Rattle.wt_text_edit_laws.specs.NoCalls.{AreUnpaired}
 use Rattle.wt_beside_laws.specs.Calm.{IsCalm}
 use Rattle.wt_beside_laws.specs.Commented.{IsCommentLine}
-use Rattle.wt_beside_laws.specs.FlatBlocks.{IsFlatEditOf}
+use Rattle.wt_beside_laws.specs.FlatBlocks.{IsFlatEditOf, sent_for}
 use Rattle.wt_beside_laws.specs.Lines.{IsLineOfText}
 use Rattle.wt_beside_laws.specs.NodeItems.{node_items}
+use Rattle.wt_beside_laws.specs.Nodes.{OpensNoPair}
+use Rattle.wt_beside_laws.specs.Styled.{signs_in}
 use Rattle.wt_beside_laws.specs.StyledIn.{IsFlatIn}
 use Rattle.wt_beside_laws.proofs.Edits.Cases.{AreFlat}
 use Rattle.wt_beside_laws.proofs.Made.Cases.{AreBlockItems, paragraph_by}
 use Rattle.wt_beside_laws.proofs.Marks.Shown.{line_node}
+use Rattle.wt_beside_laws.proofs.OpenTags.{untagged_closed, closed_keeps}
 
 -- ---- the line of comments
 
@@ -77,6 +82,9 @@ remark_behind = line_node remark remark_line
 remark_alone : page_items remark ≡ whole form.Comment None (codes "<!--c-->") ∷ char None 10 ∷ []
 unfolding page_items words words_closed word_at comment_len comment_line_len raw_len include_at opening_word closing_word word_after with_inside is_extension entity_at named_entity entity_names decimal_entity hex_entity sign_word
 remark_alone = refl
+
+remark_closed : OpensNoPair (map glyph_of (node_items remark))
+remark_closed = subst (λ (xs : List Item). OpensNoPair (map glyph_of xs)) (sym remark_behind) (untagged_closed (glyph.Mark ∷ []) refl)
 
 remark_calm : IsCalm remark
 unfolding encode
@@ -112,7 +120,7 @@ own_flat = record {
   some = λ e. absurd (cc);
   calls_nothing = tt;
   text = (refl, All-cons (IsLineOfText 0) (char None 120 ∷ []) (later_line ∷ []) refl (All-cons (IsLineOfText 0) later_line [] refl (All-nil (IsLineOfText 0))));
-  flat = ((refl, tt), ((120 ∷ [], (refl, refl)), tt), ((tt, (refl, tt)), (record { alone = remark_behind; lone = tt }, ((121 ∷ [], (refl, refl)), tt)), tt));
+  flat = ((refl, tt), ((120 ∷ [], (refl, refl)), tt), ((tt, (refl, tt)), (record { alone = remark_behind }, ((121 ∷ [], (refl, refl)), tt)), tt));
   unstyled = (refl, (refl, tt));
   kept = ((inr (inr (inl remark_line)), refl), tt);
   calm = (remark_calm, tt);
@@ -165,6 +173,7 @@ edit_of = record {
   fit = tt;
   plain = tt;
   led = record { first = tt; others = ((λ e. refl), tt) };
+  unclosed = closed_keeps (signs_in (sent_for block edit)) (remark_closed, tt);
 }
 
 typed_round_a_comment : IsFlatEditOf a_paragraph (standing 1 [] (block_tree a_paragraph own)) edit

@@ -86,7 +86,7 @@ own_items = record {
   has_items = ((refl, ((refl, tt), tt)), ((refl, tt), ((refl, tt), tt)));
   flat = (
     (refl, (refl, (refl, (refl, (refl, (refl, (refl, (refl, (refl, (refl, tt)))))))))),
-    ((codes "''x''", (refl, refl)), (record { alone = break_node; lone = tt }, ((121 ∷ [], (refl, refl)), tt))),
+    ((codes "''x''", (refl, refl)), (record { alone = break_node }, ((121 ∷ [], (refl, refl)), tt))),
     tt,
   );
   kept = ((break_held, tt), tt);

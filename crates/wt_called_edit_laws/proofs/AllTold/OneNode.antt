@@ -126,8 +126,7 @@ free_alone pages page i is t n s k q same r =
     ap placeless (s.is ∙ ap (λ (u : ItemTree). node_between calls s.number s.before u s.behind) same)
     ∙ between_own calls s.number s.before v s.behind clean full.of_page has in
     let shut : any_ends_open (nodes_in (standing 0 [] v)) ≡ false =
-    same_shut (standing 0 [] v) t (sym placed) (tree_shut (expanded_page pages page) page t n.untangled) in
-    (
+    same_shut (standing 0 [] v) t (sym placed) (tree_shut (expanded_page pages page) page t n.untangled) in (
       (block_ungrouped k q r full, tree_untangled (standing 0 [] v) (no_group k q 0 [] r.utf8 r.is r.unended r.calm) shut),
       placed,
     )
