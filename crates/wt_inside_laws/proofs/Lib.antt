@@ -39,6 +39,7 @@ pub mod Breaks
 pub mod SlotsFirst
 pub mod OwnEdits
 pub mod Reached
+pub mod OwnTexts
 pub mod UncalledGuards
 pub mod UncalledSlots
 pub mod UncalledPage
