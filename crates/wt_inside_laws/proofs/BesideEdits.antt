@@ -85,7 +85,7 @@ calling_fits pages page k q p b c h =
       uncalled = c.uncalled;
     }) c.beside
 
-calm_fits_in : (pages : Pages) (page : List ℕ) (k : TextBlock) (q : List ℕ) (p : Pair) → IsBlockOf pages k q p.old → IsCalmBlock k q p.old
+calm_fits_in : (pages : Pages) (page : List ℕ) (k : TextBlock) (q : List ℕ) (p : Pair) → IsBlockOf pages k q p.old → IsCalmBlock k q p
     → IsKnownBeside pages page p → FitsIn pages k q (edit_for p)
 calm_fits_in pages page k q p b c h =
     let v : Tree = cut_texts (block_in b.calls (tree_round k (part_items pages b.before q))) in

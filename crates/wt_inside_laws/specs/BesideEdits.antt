@@ -30,11 +30,11 @@ pub record IsBlockOf (pages : Pages) (k : TextBlock) (q : List ℕ) (t : Tree) :
   pub calls : List OuterCall
   pub settled : IsSettledAt (cut_texts (block_in calls (tree_round k (part_items pages before q)))) t
 
--- it calls nothing, and its nodes are as in any such block
-pub record IsCalmBlock (k : TextBlock) (q : List ℕ) (t : Tree) : Type 0 where
+-- a marked block calls nothing, and its nodes are as in any such block
+pub record IsCalmBlock (k : TextBlock) (q : List ℕ) (p : Pair) : Type 0 where
   pub content : IsContent k q
   pub calls_nothing : CallsNothing (block_items k q)
-  pub nodes : HasEndedNodes k q t
+  pub nodes : HasEndedNodes k q p
 
 -- it holds calls, texts may be typed beside these, and something in it is no call
 pub record IsCallingBlock (pages : Pages) (k : TextBlock) (q : List ℕ) (t : Tree) : Type 0 where
@@ -43,7 +43,7 @@ pub record IsCallingBlock (pages : Pages) (k : TextBlock) (q : List ℕ) (t : Tr
 
 -- a marked block is one of these, whatever its source is
 abbrev pub IsBesideBlock : Pages → Pair → Type 0
-IsBesideBlock pages p = (k : TextBlock) (q : List ℕ) → IsBlockOf pages k q p.old → IsCalmBlock k q p.old ⊎ IsCallingBlock pages k q p.old
+IsBesideBlock pages p = (k : TextBlock) (q : List ℕ) → IsBlockOf pages k q p.old → IsCalmBlock k q p ⊎ IsCallingBlock pages k q p.old
 
 -- A text edit, as it is read, of a page with these blocks at these paths, which isn't too long: each marked one is at one of them, and is such a block.
 pub record IsBesideEdit (pages : Pages) (page : List ℕ) (paths : List (List ℕ)) (new : Tree) : Type 0 where
