@@ -21,7 +21,7 @@ use Rattle.wt_called_edit_laws.specs.LinedAmong.{spots_of_lines, end_of_lines, A
 use Rattle.wt_called_edit_laws.specs.PlacedLines.{all_lines}
 use Rattle.wt_called_edit_laws.specs.RowBlocks.{IsTextBlock, IsReachedAt, StandsIn, opened_len, begins_behind, begins_at}
 use Rattle.wt_called_edit_laws.specs.ToldAmong.{IsToldAmong}
-use Rattle.wt_called_edit_laws.specs.ToldLines.{Told, lined}
+use Rattle.wt_called_edit_laws.specs.ToldLines.{Told, lined, AreTold}
 use Rattle.wt_called_edit_laws.specs.ToldTogether.{AreSome, start_of}
 
 -- the byte at which the node at this path begins, where the tree begins at this one
@@ -58,7 +58,7 @@ pub record IsOwnBehind (e : Expanded) (front : List Item) (t : Told) : Type 0 wh
 -- them, or nothing before or behind it on its line.
 pub data IsExceptedIn (e : Expanded) (at : ℕ) : Type 0 where
   by_its_lines : IsExceptedAt (full_lines e.items) at → IsExceptedIn e at
-  beside_a_call : (t : Told) (behind : List (List Item)) → full_lines e.items ≡ all_lines (lined t ∷ []) behind → at ≡ start_of 0 t
+  beside_a_call : (t : Told) (behind : List (List Item)) → full_lines e.items ≡ all_lines (lined t ∷ []) behind → AreTold (t ∷ []) behind → at ≡ start_of 0 t
       → (IsOwnBehind e (joined (lined t).before) t → ⊥) → IsExceptedIn e at
 
 -- a node of a page's tree that begins so

@@ -248,7 +248,7 @@ by_place : (pages : Pages) (page : List ℕ) (i : ℕ) (is : List ℕ) (t : Tree
     (rest : Lines) → full_lines (expanded_page pages page).items ≡ all_lines (lined o ∷ []) rest → AreTold (o ∷ []) rest
     → (OwnRound (lined o) rest → s.block ≡ block_tree (lined o).block (lined o).text) → size s.before ≡ start_of 0 o
     → Decided (IsOwnBehind (expanded_page pages page) (joined (lined o).before) o) → Answer pages page i is t a n.utf8 n.unrefused n.closed
-by_place pages page i is t n a s o rest are told tree_so at (inr f) = inr (record { stands = s; begins_so = beside_a_call o rest are at f })
+by_place pages page i is t n a s o rest are told tree_so at (inr f) = inr (record { stands = s; begins_so = beside_a_call o rest are told at f })
 by_place pages page i is t n a s o rest are told tree_so at (inl p) =
     inl (alone_told pages page i is t n a s o rest (record { utf8 = n.utf8; closed = n.closed; are = are; told = told; place = p }) tree_so at)
 
