@@ -40,14 +40,17 @@ pub mod Breaks
 pub mod SlotsFirst
 pub mod OwnEdits
 pub mod Reached
+pub mod OwnTexts
 pub mod UncalledGuards
 pub mod UncalledSlots
 pub mod UncalledPage
 pub mod CallingPieces
 pub mod CallingEdits
 pub mod ToldEdits
+pub mod BesideEdits
 pub mod HtmlEdits
 pub mod OrdinaryEdits
+pub mod LocalTextEdits
 pub mod InsidesCases
 pub mod PageCases
 pub mod LocalCases
