@@ -29,6 +29,7 @@ use Rattle.wt_tiles.specs.Urls.{is_word}
 use Rattle.wt_tiles.proofs.Readings.{shapes_are}
 use Rattle.wt_tiles.proofs.TagInsides.{no_tag}
 use Rattle.wt_beside_laws.specs.Cuts.{own_glyphs, ends_word, form_before}
+use Rattle.wt_beside_laws.specs.InHeadings.{AreOnOneLine}
 use Rattle.wt_beside_laws.specs.Nodes.{AreNodes, AllStayOpen, AllMeet}
 use Rattle.wt_beside_laws.specs.PageSigns.{ends_break, atom_role, tile_role, form_sign, tile_signs, signs_of_tiles, line_signs, signs_of_lines, IsFlatForm, IsFlatTile, AreFlatTiles, HasNoBreak, AreFlatLines}
 use Rattle.wt_beside_laws.specs.Stood.{IsTileOf, IsRead, line_glyphs, AreStood, AreAt, things}
@@ -445,6 +446,51 @@ lines_read at (xs ∷ ys ∷ ls) h =
 
 pub lines_stood : (at : ℕ) (ls : List (List Item)) → AreFlatLines ls → AreStood false (signs_of_lines at ls)
 lines_stood at ls h = (lines_read at ls h).stood
+
+-- ---- no character of a line ends it
+
+letters_one_line : (cs : List ℕ) → NoBreaks (encodes cs) → AreOnOneLine (map letter cs)
+letters_one_line [] h = tt
+letters_one_line (c ∷ cs) h = let r = none_parts (encode_utf8 c) (encodes cs) h in (char_none c r.0, letters_one_line cs r.1)
+
+both_one_line : (xs ys : List ContentSign) → AreOnOneLine xs → AreOnOneLine ys → AreOnOneLine (xs ++ ys)
+both_one_line [] ys h k = k
+both_one_line (letter c ∷ xs) ys h k = (h.0, both_one_line xs ys h.1 k)
+both_one_line (thing t ∷ xs) ys h k = both_one_line xs ys h k
+
+kind_one_line : (k : TileKind) (a began : Bool) (at : ℕ) (w : Shape) (xs : List Item) → IsFlatTile k (take (size w) xs) → StandsBy k in_line a w (map glyph_of xs)
+    → HasNoBreak xs → AreOnOneLine (tile_signs k began at (take (size w) xs))
+kind_one_line kind.Link a began at w xs f s n = tt
+kind_one_line kind.Category a began at w xs f s n = tt
+kind_one_line kind.Media a began at w xs f s n = tt
+kind_one_line kind.ExtLink a began at w xs f s n = tt
+kind_one_line kind.BareUrl a began at w xs f s n = tt
+kind_one_line kind.Br a began at w xs f s n = tt
+kind_one_line kind.Pair a began at w xs f s n = tt
+kind_one_line kind.TagIsland a began at w xs f s n = tt
+kind_one_line kind.Switch a began at w xs f s n = tt
+kind_one_line kind.Atom a began at w xs f s n = tt
+kind_one_line kind.Mark a began at w xs f s n = tt
+kind_one_line kind.Chars a began at w xs f s n =
+    let ys : List Item = take (size w) xs in
+    letters_one_line (chars (sources ys))
+    (subst NoBreaks (sym (encodes-chars (sources ys) f)) (chars_none ys (are_chars (size w) a xs s.1) (none_take (size w) xs n)))
+
+tiles_one_line : (ws : List Shape) (a began : Bool) (at : ℕ) (xs : List Item) → AreTiles in_line a ws (map glyph_of xs) → AreFlatTiles (parts ws xs)
+    → HasNoBreak xs → AreOnOneLine (signs_of_tiles began at (parts ws xs))
+tiles_one_line [] a began at xs t f n = tt
+tiles_one_line (w ∷ ws) a began at xs t f n =
+    let m : ℕ = size w in
+    let ys : List Item = take m xs in
+    let zs : List Item = drop m xs in
+    both_one_line (tile_signs w.kind began at ys) (signs_of_tiles (ends_break (sources ys)) (at + length (sources ys)) (parts ws zs))
+    (kind_one_line w.kind a began at w xs f.0 t.2 n)
+    (tiles_one_line ws (is_word_at (map glyph_of xs) (m - 1)) (ends_break (sources ys)) (at + length (sources ys)) zs
+    (subst (λ gs. AreTiles in_line (is_word_at (map glyph_of xs) (m - 1)) ws gs) (sym (map_drop m xs)) t.4) f.1 (none_drop m xs n))
+
+pub line_on_one : (at : ℕ) (xs : List Item) → HasNoBreak xs → AreFlatTiles (tiles in_line xs) → AreOnOneLine (line_signs at xs)
+unfolding tiles
+line_on_one at xs n f = tiles_one_line (shapes in_line (map glyph_of xs)) false true at xs (shapes_are in_line (map glyph_of xs)) f n
 
 pub lines_untagged : (at : ℕ) (ls : List (List Item)) → AreFlatLines ls → AreUntagged (signs_of_lines at ls)
 lines_untagged at ls h = (lines_read at ls h).untagged
