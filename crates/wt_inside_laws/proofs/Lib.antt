@@ -47,6 +47,7 @@ pub mod CallingEdits
 pub mod ToldEdits
 pub mod HtmlEdits
 pub mod OrdinaryEdits
+pub mod LocalTextEdits
 pub mod InsidesCases
 pub mod PageCases
 pub mod LocalCases
