@@ -49,6 +49,7 @@ pub mod ToldEdits
 pub mod BesideEdits
 pub mod HtmlEdits
 pub mod OrdinaryEdits
+pub mod LocalTextEdits
 pub mod InsidesCases
 pub mod PageCases
 pub mod LocalCases

@@ -15,3 +15,4 @@ pub mod SameBut
 pub mod ToldEdits
 pub mod HtmlEdits
 pub mod BesideEdits
+pub mod LocalTextEdits
