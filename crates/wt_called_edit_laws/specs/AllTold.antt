@@ -1,5 +1,5 @@
 -- Each paragraph and heading of a page's tree that holds no call is told by the lines of the expanded page; and those that these don't tell.
-use Rattle.std.specs.Prelude.{◌≡◌, ◌⊎◌, ℕ, zero, suc, ◌+◌, false, None, List, [], ◌∷◌, ◌++◌, length, take, drop, map}
+use Rattle.std.specs.Prelude.{◌≡◌, ◌⊎◌, ℕ, zero, suc, ◌+◌, false, None, List, [], ◌∷◌, ◌++◌, length, take, map}
 use Rattle.wt_span.specs.Items.{Item, sources}
 use Rattle.wt_span.specs.Origins.{Expanded}
 use Rattle.wt_tree.specs.Source.{flat}
@@ -14,14 +14,12 @@ use Rattle.wt_page.specs.Rows.{Row, marks_len, rows_from}
 use Rattle.wt_selser.specs.Edits.{is_tangled}
 use Rattle.wt_text_edit_laws.specs.BodyParagraphs.{EndWhole}
 use Rattle.wt_text_edit_laws.specs.NoCalls.{CallsNothing}
-use Rattle.wt_text_edit_laws.specs.PageCuts.{begins_unmarked}
-use Rattle.wt_text_edit_laws.specs.ParagraphBetween.{tables_behind}
 use Rattle.wt_text_edit_laws.specs.TextBetween.{AreEnded}
 use Rattle.wt_called_edit_laws.specs.ContentsTaken.{TakesContents}
 use Rattle.wt_called_edit_laws.specs.Groups.{called_tree}
 use Rattle.wt_called_edit_laws.specs.LinedAmong.{spots_of_lines, end_of_lines, AreOfPage, AreBeside}
 use Rattle.wt_called_edit_laws.specs.PlacedLines.{all_lines}
-use Rattle.wt_called_edit_laws.specs.RowBlocks.{IsTextBlock, IsReachedAt, StandsIn, opened_len, begins_behind, AreOfText, begins_at}
+use Rattle.wt_called_edit_laws.specs.RowBlocks.{IsTextBlock, IsReachedAt, StandsIn, opened_len, begins_behind, begins_at}
 use Rattle.wt_called_edit_laws.specs.ToldAmong.{IsToldAmong}
 use Rattle.wt_called_edit_laws.specs.ToldLines.{Told, lined}
 use Rattle.wt_called_edit_laws.specs.ToldTogether.{AreSome, start_of}
@@ -39,15 +37,11 @@ abbrev mutual
 
 -- ---- what lines don't tell
 
--- Behind so many items one of these begins, with the marks before it: text behind the `|}` of a table's end or the `-` of a rule, on the same line; text that begins with blanks and a mark behind them; lines that are text with as many tables open as there are, and of which one is none where no table is open, as
--- the `{|` of one that can't be opened; and a block whose marks don't end with a `>` or a line break.
+-- Behind so many items one of these begins, with the marks before it: text behind the `|}` of a table's end or the `-` of a rule, on the same line; and a
+-- block whose marks don't end with a `>` or a line break.
 pub data IsExceptedAt (ls : List (List Item)) (at : ℕ) : Type 0 where
   text_on_a_sign : (before : List Row) (first : Row) (others behind : List Row) → rows_from 0 ls ≡ before ++ ((first ∷ others) ++ behind)
       → (EndWhole before → ⊥) → at ≡ begins_behind before first → IsExceptedAt ls at
-  marked_text : (before : List (List Item)) (first : List Item) (others behind : List (List Item)) → ls ≡ before ++ ((first ∷ others) ++ behind)
-      → at ≡ begins_at before first → begins_unmarked (content (joined (drop (marks_len first) first ∷ others))) ≡ false → IsExceptedAt ls at
-  text_in_tables : (before : List (List Item)) (first : List Item) (others behind : List (List Item)) → ls ≡ before ++ ((first ∷ others) ++ behind)
-      → at ≡ begins_at before first → AreOfText (tables_behind 0 before) (first ∷ others) → (AreOfText 0 (first ∷ others) → ⊥) → IsExceptedAt ls at
   unended_marks : (before : List (List Item)) (first : List Item) (behind : List (List Item)) → ls ≡ before ++ first ∷ behind
       → at ≡ begins_at before first → (AreEnded (sources (take (marks_len first) first)) → ⊥) → IsExceptedAt ls at
 

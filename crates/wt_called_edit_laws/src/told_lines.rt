@@ -89,7 +89,7 @@ pub fn told_blocks_are_told_together()
 
 /// So each paragraph and heading of such a page's tree that is outside of groups, holds none and isn't tangled may be edited at
 /// its path, which is one of those of blocks that the lines tell; but for these: text behind the sign of a table's end or a rule
-/// on its line, text that begins with a mark behind blanks, and the others of `IsExceptedAt`; and a block whose line break before
+/// on its line, and the other of `IsExceptedAt`; and a block whose line break before
 /// or behind it comes from a call, or beside which one is on its line that gives nothing (`beside_a_call`).
 pub fn each_block_is_told_or_excepted()
     ensures all { (pages : Pages) (page : List ℕ) → IsUtf8 page → refusal_of_page pages page ≡ None → EndsClosed page [] → AllBlocksTold pages page }

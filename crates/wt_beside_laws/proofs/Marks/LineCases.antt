@@ -36,8 +36,7 @@ use Rattle.wt_link_spelling.specs.Spelling.{children_of}
 use Rattle.wt_part_laws.specs.Standing.{standing}
 use Rattle.wt_typed_blocks.specs.Edited.{Pieces, no_pieces, gone, written, kept}
 use Rattle.wt_text_edit_laws.specs.ParagraphParts.{joined_parts, para_with}
-use Rattle.wt_text_edit_laws.specs.Paragraphs.{IsTextLine}
-use Rattle.wt_text_edit_laws.specs.TextBetween.{StandsBehind}
+use Rattle.wt_text_edit_laws.specs.Paragraphs.{IsSeenLine}
 use Rattle.wt_text_edit_laws.specs.TextBlocks.{a_paragraph, block_tree}
 use Rattle.wt_text_edit_laws.specs.NoCalls.{AreUnpaired}
 use Rattle.wt_beside_laws.specs.Calm.{IsCalm}
@@ -109,10 +108,6 @@ before_break_are : page_items (own ++ 10 ∷ []) ≡ own_items ++ char None 10 �
 unfolding page_items words words_closed word_at comment_len comment_line_len raw_len include_at opening_word closing_word word_after with_inside is_extension entity_at named_entity entity_names decimal_entity hex_entity sign_word
 before_break_are = refl
 
-x_stands : (rest : List ℕ) → StandsBehind (120 ∷ rest)
-unfolding comment_len
-x_stands rest = record { uncommented = refl }
-
 own_flat : AreFlat own own_items
 unfolding kind_of_signs context_parts with_styles style_tree_of toggles_of toggle_at chunks segments loose_segments tiles shapes closed form_at link_or_url link_at ext_link_at bare_url_at scheme_len tag_tile tag_at opening_tag closing_tag tag_after name_of live_name switch_at chars encode children
 own_flat = record {
@@ -131,13 +126,13 @@ own_flat = record {
 own_block : AreBlockItems own_items
 unfolding kind_of_signs context_parts with_styles style_tree_of toggles_of toggle_at chunks segments loose_segments tiles shapes closed form_at link_or_url link_at ext_link_at bare_url_at scheme_len tag_tile tag_at opening_tag closing_tag tag_after name_of live_name switch_at chars encode children
 own_block = record {
-  are_lines = All-cons IsTextLine (char None 120 ∷ []) (later_line ∷ []) refl (All-cons IsTextLine later_line [] refl (All-nil IsTextLine));
+  seen = All-cons IsSeenLine (char None 120 ∷ []) (later_line ∷ []) refl (All-cons IsSeenLine later_line [] refl (All-nil IsSeenLine));
   unled = refl;
   has_items = ((refl, tt), ((refl, tt), ((refl, tt), tt)));
 }
 
 with_a_line_of_comments : IsFlatIn a_paragraph own
-with_a_line_of_comments = paragraph_by own own_items items_are before_break_are (x_stands (codes "\n<!--c-->\ny")) (x_stands (codes "\n<!--c-->\ny\n")) own_flat own_block
+with_a_line_of_comments = paragraph_by own own_items items_are before_break_are own_flat own_block
 
 -- ---- `a` and `b` are typed in the place of `x` and `y`
 

@@ -40,8 +40,7 @@ use Rattle.wt_beside_laws.proofs.FlatAgain.{EachSource, tile_so, so_both, no_bre
 use Rattle.wt_beside_laws.proofs.FlatContents.{each_unbroken, lines_unbroken}
 use Rattle.wt_beside_laws.specs.Lines.{AreUnbroken}
 use Rattle.wt_beside_laws.proofs.HeldLines.{heading_break}
-use Rattle.wt_beside_laws.proofs.Made.Inline.{page_items_of}
-use Rattle.wt_beside_laws.proofs.Made.OwnPages.{own_frame}
+use Rattle.wt_beside_laws.proofs.Made.OwnPages.{own_frame, page_items_of}
 use Rattle.wt_beside_laws.proofs.PageSigns.{flat_nodes}
 use Rattle.wt_beside_laws.proofs.Styled.OldShut.{content_shut}
 use Rattle.wt_beside_laws.proofs.Own.Alone.{alone}

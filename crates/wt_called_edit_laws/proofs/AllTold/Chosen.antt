@@ -8,16 +8,24 @@ use Rattle.wt_tree.specs.declared.kind.Ranges.{Ranges}
 use Rattle.wt_tree.specs.Tiling.{is_group, HasNoGroup, NoneIsGroup}
 use Rattle.wt_tree.specs.Tree.{Tree, tree, Trees, none, more}
 use Rattle.wt_annotated.specs.Seams.{last_of, text_from}
+use Rattle.std.specs.List.{list_any}
+use Rattle.wt_tree.specs.Kinds.{is_leaf}
+use Rattle.wt_inline.specs.ItemTree.{ItemTree, inner, ItemTrees, nothing, further, forest, held_by_all}
+use Rattle.wt_inline.specs.Parts.{children}
+use Rattle.wt_annotated.specs.Clean.{is_page}
+use Rattle.wt_annotated.specs.WithoutCalls.{InsideOf}
 use Rattle.wt_expand.specs.PageCalls.{expanded_page}
+use Rattle.wt_expand.specs.PageItems.{page_items}
 use Rattle.wt_expand.specs.Work.{Pages}
 use Rattle.wt_lines.specs.Lines.{content}
 use Rattle.wt_tables.specs.Parts.{joined}
+use Rattle.wt_part_laws.specs.Rounded.{HasItems, AllHaveItems}
 use Rattle.wt_part_laws.specs.Standing.{standing}
 use Rattle.wt_selser.specs.Edits.{is_tangled}
+use Rattle.wt_text_edit_laws.specs.Contents.{content_parts_of}
 use Rattle.wt_text_edit_laws.specs.LonePages.{of_items}
 use Rattle.wt_text_edit_laws.specs.NoCalls.{Brace, opening, closing, braces, NoneClose, NonePairs, CallsNothing}
 use Rattle.wt_text_edit_laws.specs.PageCuts.{IsFreeBlock}
-use Rattle.wt_text_edit_laws.specs.Parts.{HasNoGroups, part_tree}
 use Rattle.wt_text_edit_laws.specs.TextBlocks.{TextBlock, source_of, block_tree}
 use Rattle.wt_called_edit_laws.specs.AllTold.{IsOwnBehind}
 use Rattle.wt_called_edit_laws.specs.Covered.{IsBeside, IfGroup, NoGroupAt, NoneGroupAt}
@@ -28,13 +36,13 @@ use Rattle.wt_called_edit_laws.proofs.AllTold.Scans.{Decided, Asked, Answered, b
 
 -- ---- what is asked of each
 
--- by itself it has no group, and isn't tangled
+-- no node in it is empty, and by itself it isn't tangled
 abbrev pub IsFreeAlone : TextBlock → List ℕ → Type 0
-IsFreeAlone k q = HasNoGroups (source_of k q) × (is_tangled (of_items []) [] (standing 0 [] (block_tree k q)) ≡ false)
+IsFreeAlone k q = AllHaveItems (forest (children (content_parts_of k (page_items q)))) × (is_tangled (of_items []) [] (standing 0 [] (block_tree k q)) ≡ false)
 
 pub free_of : (k : TextBlock) (q : List ℕ) → IsFreeAlone k q → IsFreeBlock k q
 free_of k q h = record {
-  ungrouped = h.0;
+  full = h.0;
   untangled = record { items = of_items []; page = []; number = 0; before = []; untangled = h.1 };
 }
 
@@ -154,17 +162,24 @@ mutual
   among_decided b none = inl tt
   among_decided b (more t ts) = both_decided (NoGroupAt b t) (NoneGroupAt b ts) (at_decided b t) (among_decided b ts)
 
-mutual
-  group_decided : (t : Tree) → Decided (HasNoGroup t)
-  group_decided (tree l ts) = both_decided (is_group l.kind ≡ false) (NoneIsGroup ts) (bool_decided (is_group l.kind) false) (groups_decided ts)
+inside_decided : (v : Bool) (A : Type 0) → Decided A → Decided (InsideOf v A)
+inside_decided true A d = inl tt
+inside_decided false A d = d
 
-  groups_decided : (ts : Trees) → Decided (NoneIsGroup ts)
-  groups_decided none = inl tt
-  groups_decided (more t ts) = both_decided (HasNoGroup t) (NoneIsGroup ts) (group_decided t) (groups_decided ts)
+mutual
+  items_decided : (t : ItemTree) → Decided (HasItems t)
+  items_decided (inner h o ts c) =
+      both_decided (list_any is_page (o ++ (held_by_all ts ++ c)) ≡ true) (InsideOf (is_leaf h.kind) (AllHaveItems ts))
+      (bool_decided (list_any is_page (o ++ (held_by_all ts ++ c))) true) (inside_decided (is_leaf h.kind) (AllHaveItems ts) (all_items_decided ts))
+
+  all_items_decided : (ts : ItemTrees) → Decided (AllHaveItems ts)
+  all_items_decided nothing = inl tt
+  all_items_decided (further t ts) = both_decided (HasItems t) (AllHaveItems ts) (items_decided t) (all_items_decided ts)
 
 free_decided : (k : TextBlock) (q : List ℕ) → Decided (IsFreeAlone k q)
 free_decided k q =
-    both_decided (HasNoGroups (source_of k q)) (is_tangled (of_items []) [] (standing 0 [] (block_tree k q)) ≡ false) (group_decided (part_tree (source_of k q)))
+    let ts : ItemTrees = forest (children (content_parts_of k (page_items q))) in
+    both_decided (AllHaveItems ts) (is_tangled (of_items []) [] (standing 0 [] (block_tree k q)) ≡ false) (all_items_decided ts)
     (bool_decided (is_tangled (of_items []) [] (standing 0 [] (block_tree k q))) false)
 
 pub chosen_decided : (pages : Pages) (page : List ℕ) → Answered (chosen pages page)

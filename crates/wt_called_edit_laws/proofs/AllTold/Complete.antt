@@ -1,6 +1,6 @@
 -- Each paragraph and heading of a page's tree, outside of groups, that holds no group and isn't tangled is one of those that the lines of the expanded page
 -- tell, or one of the excepted.
-use Rattle.std.proofs.Common.{arith, ◌≡◌, ◌<◌, ◌≤◌, ◌⊎◌, inl, inr, ℕ, zero, suc, ◌+◌, Bool, true, false, None, List, [], ◌∷◌, ◌++◌, length, map, refl, sym, ap, ◌∙◌, subst, append-nil}
+use Rattle.std.proofs.Common.{arith, ◌≡◌, ◌<◌, ◌≤◌, ◌⊎◌, inl, inr, ℕ, zero, suc, ◌+◌, Bool, true, false, None, List, [], ◌∷◌, ◌++◌, length, drop, map, refl, sym, ap, ◌∙◌, subst, append-nil, cond}
 use Rattle.std.specs.Prelude.{◌&&◌}
 use Rattle.std.specs.Str.{IsUtf8}
 use Rattle.std.specs.List.{list_all}
@@ -21,20 +21,21 @@ use Rattle.wt_lines.specs.Lines.{content, full_lines}
 use Rattle.wt_tables.specs.Parts.{joined}
 use Rattle.wt_page.specs.Headings.{heading}
 use Rattle.wt_page.specs.Lines.{kind_at}
-use Rattle.wt_page.specs.Rows.{rows_from}
+use Rattle.wt_page.specs.Rows.{marks_len, rows_from}
 use Rattle.wt_page.specs.Texts.{para}
 use Rattle.wt_part_laws.specs.Frames.{content as content_part}
 use Rattle.wt_part_laws.specs.Slots.{AllTrue}
 use Rattle.wt_selser.specs.Edits.{is_tangled}
 use Rattle.wt_text_edit_laws.specs.BlockSpots.{BlockSpot, spots_source}
 use Rattle.wt_text_edit_laws.specs.Contents.{IsContentOf}
-use Rattle.wt_text_edit_laws.specs.PageCuts.{begins_unmarked, EndsClosed}
+use Rattle.wt_text_edit_laws.specs.PageCuts.{EndsClosed}
 use Rattle.wt_text_edit_laws.specs.ParagraphBetween.{written_rows, tables_behind, EndApart, BeginApart}
 use Rattle.wt_text_edit_laws.specs.TextBetween.{AreEnded}
 use Rattle.wt_text_edit_laws.specs.TextBlocks.{TextBlock, a_paragraph, source_of, block_items, block_tree}
 use Rattle.wt_text_edit_laws.proofs.Cuts.RowLines.{AllText}
 use Rattle.wt_text_edit_laws.proofs.Paragraphs.Marks.{mark_sign, AreMarkSigns, kind_marks}
-use Rattle.wt_called_edit_laws.specs.AllTold.{starts_in, IsOwnBehind, IsExceptedAt, text_on_a_sign, marked_text, text_in_tables, unended_marks, IsExceptedIn, by_its_lines, beside_a_call, IsExcepted, IsOneOf, AllBlocksTold}
+use Rattle.wt_text_edit_laws.proofs.Cuts.TextLines.{led_first, content_unled}
+use Rattle.wt_called_edit_laws.specs.AllTold.{starts_in, IsOwnBehind, IsExceptedAt, text_on_a_sign, unended_marks, IsExceptedIn, by_its_lines, beside_a_call, IsExcepted, IsOneOf, AllBlocksTold}
 use Rattle.wt_called_edit_laws.specs.AnyBlocks.{open_after}
 use Rattle.wt_called_edit_laws.specs.CalledBlocks.{tree_by}
 use Rattle.wt_called_edit_laws.specs.CalledPages.{IsCalledPage}
@@ -216,18 +217,28 @@ text_all : (n : ℕ) (ls : Lines) → AreOfText n ls → AllText n ls
 text_all n [] h = tt
 text_all n (l ∷ ls) h = (h.0, text_all n ls h.1)
 
-text_lines_at : (n : ℕ) (ls : Lines) → AreOfText 0 ls → AreOfText n ls → AreLinesAt n ls
-text_lines_at n [] h g = tt
-text_lines_at n (l ∷ ls) h g = (h.0, g.0, text_lines_at n ls h.1 g.1)
+text_lines_at : (n : ℕ) (ls : Lines) → AreOfText n ls → AreLinesAt n ls
+text_lines_at n [] g = tt
+text_lines_at n (l ∷ ls) g = (g.0, text_lines_at n ls g.1)
 
-text_decided : (n : ℕ) (ls : Lines) → Decided (AreOfText n ls)
-text_decided n [] = inl tt
-text_decided n (l ∷ ls) = by (kind_decided (kind_at n l)) (text_decided n ls)
+-- behind the marks that begin a line none is first
+past_unled : (l : List Item) → marks_len (past_marks l) ≡ 0
+past_unled [] = refl
+past_unled (y ∷ ys) = by (is_mark y) refl (past_unled ys)
   where
-    by : Decided (kind_at n l ≡ line.Text) → Decided (AreOfText n ls) → Decided (AreOfText n (l ∷ ls))
-    by (inl a) (inl b) = inl (a, b)
-    by (inr f) b = inr (λ h. f h.0)
-    by (inl a) (inr f) = inr (λ h. f h.1)
+    n : ℕ
+    n = marks_len ys
+
+    by : (v : Bool) → is_mark y ≡ v → marks_len (drop n ys) ≡ 0 → marks_len (drop (cond (is_mark y) (1 + n) 0) (y ∷ ys)) ≡ 0
+    by true e h =
+        let z : 1 + n ≡ suc n = omega arith in
+        ap (λ (v : Bool). marks_len (drop (cond v (1 + n) 0) (y ∷ ys))) e ∙ ap (λ (k : ℕ). marks_len (drop k (y ∷ ys))) z ∙ h
+    by false e h =
+        ap (λ (v : Bool). marks_len (drop (cond v (1 + n) 0) (y ∷ ys))) e ∙ ap (λ (v : Bool). cond v (1 + n) 0) e
+
+first_unled : (xs zs : List Item) → 1 ≤ length xs → marks_len xs ≡ 0 → marks_len (content (xs ++ zs)) ≡ 0
+first_unled [] zs some h = absurd (omega (arith, some))
+first_unled (x ∷ xs) zs some h = content_unled (x ∷ (xs ++ zs)) (led_first x xs (xs ++ zs) h)
 
 begins_so : (before : Lines) (l : List Item) (o : Told) → (lined o).before ≡ before → (lined o).marks ≡ led_by l → begins_at before l ≡ start_of 0 o
 begins_so before l o e f = omega (arith, ap (λ (ls : Lines). size (joined ls)) e, ap size f)
@@ -247,7 +258,7 @@ text_case : (pages : Pages) (page : List ℕ) (i : ℕ) (is : List ℕ) (t : Tre
     → AreOfText (tables_behind 0 before) (first ∷ others) → BeginApart (rows_from (tables_behind 0 before) behind) → size s.before ≡ begins_at before first
     → s.block ≡ para (map text_row (first ∷ others)) → Answer pages page i is t a n.utf8 n.unrefused n.closed
 text_case pages page i is t n a s before first others behind are cells apart texts stops at tree_is =
-    by (ended_decided (sources (led_by first))) (text_decided 0 (first ∷ others)) (bool_decided (begins_unmarked (content (joined (past_marks first ∷ others)))) true)
+    by (ended_decided (sources (led_by first)))
   where
     m : ℕ
     m = length (open_after [] (written_rows 0 before))
@@ -264,29 +275,22 @@ text_case pages page i is t n a s before first others behind are cells apart tex
     except : IsExceptedAt (full_lines (expanded_page pages page).items) (size s.before) → Answer pages page i is t a n.utf8 n.unrefused n.closed
     except x = inr (record { stands = s; begins_so = by_its_lines x })
 
-    unmarked_false : (v : Bool) → (v ≡ true → ⊥) → v ≡ false
-    unmarked_false true h = absurd (h refl)
-    unmarked_false false h = refl
-
     tree_so : OwnRound (lined o) behind → s.block ≡ block_tree (lined o).block (lined o).text
     tree_so round =
         tree_is ∙ ap (λ (l : List Item). para (map text_row (l ∷ others))) (sym line_is)
         ∙ paragraph_is before (led_by first) (past_marks first) others behind round (led_marks first)
         (subst (λ (l : List Item). AllText m (l ∷ others)) (sym line_is) (text_all m (first ∷ others) here))
 
-    by : Decided (AreEnded (sources (led_by first))) → Decided (AreOfText 0 (first ∷ others))
-        → Decided (begins_unmarked (content (joined (past_marks first ∷ others))) ≡ true) → Answer pages page i is t a n.utf8 n.unrefused n.closed
-    by (inr f) b c = except (unended_marks before first (others ++ behind) are at f)
-    by (inl e) (inr f) c = except (text_in_tables before first others behind are at texts f)
-    by (inl e) (inl b) (inr f) =
-        except (marked_text before first others behind are at (unmarked_false (begins_unmarked (content (joined (past_marks first ∷ others)))) f))
-    by (inl e) (inl b) (inl c) =
+    by : Decided (AreEnded (sources (led_by first))) → Answer pages page i is t a n.utf8 n.unrefused n.closed
+    by (inr f) = except (unended_marks before first (others ++ behind) are at f)
+    by (inl e) =
         let seen : 1 ≤ length (past_marks first) =
-        some_past 0 first (λ w. let wrong : line.Blank ≡ line.Text = sym w ∙ b.0 in absurd (cc)) in
-        let own : AreLinesAt m (past_marks first ∷ others) =
-        (kind_led 0 first seen ∙ b.0, kind_led m first seen ∙ here.0, text_lines_at m others b.1 here.1) in
+        some_past m first (λ w. let wrong : line.Blank ≡ line.Text = sym w ∙ here.0 in absurd (cc)) in
+        let own : AreLinesAt m (past_marks first ∷ others) = (kind_led m first seen ∙ here.0, text_lines_at m others here.1) in
+        let unled : marks_len (content (joined (past_marks first ∷ others))) ≡ 0 =
+        first_unled (past_marks first) (joined others) seen (past_unled first) in
         let told : AreTold (o ∷ []) behind = (
-          record { are_marks = led_marks first; ended = e; some = seen; in_cells = cells; apart = apart; own = (own, c) },
+          record { are_marks = led_marks first; ended = e; some = seen; in_cells = cells; apart = apart; own = (own, unled) },
           subst (λ (j : ℕ). BeginApart (rows_from j behind)) (tables_same before) stops,
         ) in
         let all : full_lines (expanded_page pages page).items ≡ all_lines (lined o ∷ []) behind =

@@ -32,6 +32,7 @@ use Rattle.wt_text_edit_laws.specs.PageCuts.{EndsClosed}
 use Rattle.wt_text_edit_laws.specs.TextBlocks.{TextBlock, source_of, block_items, block_tree}
 use Rattle.wt_text_edit_laws.proofs.Cuts.TextLines.{joined_is}
 use Rattle.wt_beside_laws.proofs.Made.OldBlocks.{no_group}
+use Rattle.wt_beside_laws.proofs.Derived.NodesHave.{full_nodes}
 use Rattle.wt_beside_laws.proofs.Made.OwnPages.{content_ordinary}
 use Rattle.wt_called_edit_laws.specs.AllTold.{starts_in}
 use Rattle.wt_called_edit_laws.specs.Covered.{NoGroupAt}
@@ -42,7 +43,7 @@ use Rattle.wt_called_edit_laws.specs.ToldLines.{Told, lined}
 use Rattle.wt_called_edit_laws.specs.ToldTogether.{start_of, own_lines}
 use Rattle.wt_called_edit_laws.proofs.Cells.PlacedLines.{own_items}
 use Rattle.wt_called_edit_laws.proofs.TextsMake.{flat_same}
-use Rattle.wt_called_edit_laws.proofs.Told.FreeNodes.{IsFullTree, block_ungrouped, tree_untangled, tree_shut, same_shut}
+use Rattle.wt_called_edit_laws.proofs.Told.FreeNodes.{IsFullTree, tree_untangled, tree_shut, same_shut}
 use Rattle.wt_called_edit_laws.proofs.Told.OwnReads.{OwnRead}
 use Rattle.wt_called_edit_laws.proofs.AllTold.Alone.{IsAloneTold, IsAloneHere, alone_here, own_round, IsAloneRead, alone_read}
 use Rattle.wt_called_edit_laws.proofs.AllTold.Chosen.{IsFreeAlone, free_of, IsChosen}
@@ -127,7 +128,7 @@ free_alone pages page i is t n s k q same r =
     ∙ between_own calls s.number s.before v s.behind clean full.of_page has in
     let shut : any_ends_open (nodes_in (standing 0 [] v)) ≡ false =
     same_shut (standing 0 [] v) t (sym placed) (tree_shut (expanded_page pages page) page t n.untangled) in (
-      (block_ungrouped k q r full, tree_untangled (standing 0 [] v) (no_group k q 0 [] r.utf8 r.is r.unended r.calm) shut),
+      (full_nodes k q r.utf8 r.is r.unended r.calm full.full, tree_untangled (standing 0 [] v) (no_group k q 0 [] r.utf8 r.is r.unended r.calm) shut),
       placed,
     )
 
