@@ -26,6 +26,7 @@ pub mod OwnShown
 pub mod AlikeContents
 pub mod MarkedBlocks
 pub mod PageAlike
+pub mod NothingMarked
 pub mod SentCases
 pub mod ReadMarkup
 pub mod ReadKinds
