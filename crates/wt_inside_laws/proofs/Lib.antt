@@ -50,6 +50,7 @@ pub mod ToldEdits
 pub mod BesideEdits
 pub mod HtmlEdits
 pub mod OrdinaryEdits
+pub mod NothingMoved
 pub mod LocalTextEdits
 pub mod InsidesCases
 pub mod PageCases

@@ -34,7 +34,7 @@ use Rattle.wt_inside_laws.specs.RetypedPieces.{AreRead, AreUtf8}
 use Rattle.wt_inside_laws.specs.TextEdits.{takes_text, IsRetyped}
 use Rattle.wt_inside_laws.specs.ToldEdits.{IsReadBlock, IsOrdinary, IsOrdinaryOn, IsToldEdit, IsOrdinaryEdit}
 use Rattle.wt_inside_laws.proofs.HtmlEdits.{edit_is}
-use Rattle.wt_inside_laws.proofs.NothingMarked.{ChangesNothing, nothing_done, nothing_spliced}
+use Rattle.wt_inside_laws.proofs.NothingMarked.{nothing_done, nothing_spliced}
 use Rattle.wt_inside_laws.proofs.PageAlike.{text_edit_sent}
 use Rattle.wt_inside_laws.proofs.Reached.{Reaches, edits_reach}
 use Rattle.wt_inside_laws.proofs.ReadSent.{read_for, read_blocks}
@@ -124,12 +124,12 @@ pub record OrdinaryTold (pages : Pages) (page : List ℕ) (new : Tree) : Type 0 
   pub edit : IsToldEdit pages page taken.paths new
 
 -- as it is read
-record OrdinarySent (pages : Pages) (page : List ℕ) (new : Tree) : Type 0 where
-  read : IsReadFor (page_tree pages page) new
-  blocks : AllByRecursion IsReadBlock (marked (page_tree pages page) new)
-  sent : IsSentOn pages page new (edits_of (called_tree pages page) new)
+pub record OrdinarySent (pages : Pages) (page : List ℕ) (new : Tree) : Type 0 where
+  pub read : IsReadFor (page_tree pages page) new
+  pub blocks : AllByRecursion IsReadBlock (marked (page_tree pages page) new)
+  pub sent : IsSentOn pages page new (edits_of (called_tree pages page) new)
 
-ordinary_sent : (pages : Pages) (page input : List ℕ) (new : Tree) (u : Option ℕ) → IsOrdinaryEdit pages page input new u → OrdinarySent pages page new
+pub ordinary_sent : (pages : Pages) (page input : List ℕ) (new : Tree) (u : Option ℕ) → IsOrdinaryEdit pages page input new u → OrdinarySent pages page new
 ordinary_sent pages page input new u h =
     let read : IsReadFor (page_tree pages page) new = read_for pages page input new u h.utf8 h.short h.unrefused h.sent h.edit.checks in
     let blocks =
@@ -164,13 +164,6 @@ ordinary_told pages page input new u h some =
       };
     }
 
--- where nothing is marked
-pub ordinary_nothing : (pages : Pages) (page input : List ℕ) (new : Tree) (u : Option ℕ) → IsOrdinaryEdit pages page input new u
-    → marked (page_tree pages page) new ≡ [] → ChangesNothing pages page new
-ordinary_nothing pages page input new u h none =
-    let e : OrdinarySent pages page new = ordinary_sent pages page input new u h in
-    nothing_done pages page new h.utf8 h.short h.unrefused e.sent none
-
 -- where something is marked, and where nothing is
 pub by_marked : {A : Type 0} (ps : List Pair) → (ps ≡ [] → A) → (1 ≤ length ps → A) → A
 by_marked [] f g = f refl
@@ -179,7 +172,10 @@ by_marked (p ∷ ps) f g = g (omega arith)
 pub ordinary_done : (pages : Pages) (page input : List ℕ) (new : Tree) (u : Option ℕ) → IsOrdinaryEdit pages page input new u
     → edit_to pages page new ≡ done (spliced page (slices same_node (page_tree pages page) new))
 ordinary_done pages page input new u h =
-    by_marked (marked (page_tree pages page) new) (λ none. nothing_spliced pages page new (ordinary_nothing pages page input new u h none))
+    by_marked (marked (page_tree pages page) new)
+    (λ none.
+    let e : OrdinarySent pages page new = ordinary_sent pages page input new u h in
+    nothing_spliced pages page new (nothing_done pages page new h.utf8 h.short h.unrefused e.sent none))
     (λ some.
     let o : OrdinaryTold pages page new = ordinary_told pages page input new u h some in
     lined_edit_done pages page o.bs o.rest new o.lined o.taken o.edit)
