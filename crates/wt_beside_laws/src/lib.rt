@@ -76,7 +76,7 @@ mod styles;
 mod untangled;
 
 pub use called::{
-    a_style_that_a_call_gives_is_one, groups_of_what_calls_give_have_no_fault,
+    groups_of_what_calls_give_have_no_fault,
     nothing_that_is_typed_joins_a_group, styles_beside_calls_are_one_paragraph,
     texts_beside_calls_are_one_paragraph, texts_beside_calls_are_shown,
     texts_beside_calls_are_such_in_a_folder, texts_beside_calls_hold_these,
