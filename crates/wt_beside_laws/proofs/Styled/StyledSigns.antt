@@ -1,6 +1,6 @@
 -- What is first behind a delimiter, or behind a group that ends with one: no apostrophe, and neither a delimiter nor a group that begins with one without
 -- `<nowiki/>` before it.
-use Rattle.std.proofs.Common.{arith, ◌≡◌, ℕ, ◌==◌, Bool, true, false, not, Option, List, [], ◌∷◌, refl, sym, ap, subst}
+use Rattle.std.proofs.Common.{arith, ◌≡◌, ℕ, ◌==◌, Bool, true, false, not, Option, List, [], ◌∷◌, refl, ap, subst}
 use Rattle.std.specs.Prelude.{◌&&◌, ◌||◌, if◌then◌else◌}
 use Rattle.std.proofs.lemmas.Bool.Decides.{nat_tests}
 use Rattle.wt_guards.specs.declared.role.Role.{Role}

@@ -1,5 +1,5 @@
 -- A line of a content with styles among whose signs are calls, as segments among which styles nest.
-use Rattle.std.proofs.Common.{arith, ◌≡◌, inl, inr, ℕ, suc, ◌+◌, ◌==◌, Bool, true, false, not, Option, Some, None, List, [], ◌∷◌, ◌++◌, length, map, ap, append-nil, append_assoc, refl, subst, sym, ◌||◌, ◌∙◌}
+use Rattle.std.proofs.Common.{arith, ◌≡◌, inl, inr, ℕ, ◌==◌, Bool, true, false, not, Option, Some, None, List, [], ◌∷◌, ◌++◌, length, map, ap, append-nil, refl, subst, sym, ◌||◌, ◌∙◌}
 use Rattle.std.specs.Prelude.{if◌then◌else◌, ◌&&◌}
 use Rattle.wt_span.specs.Items.{Item}
 use Rattle.wt_guards.specs.Content.{ContentSign, Thing, letter, thing}
@@ -30,7 +30,7 @@ use Rattle.wt_beside_laws.proofs.Styled.StyledLines.{MayEnd, Read, break_ends, c
 use Rattle.wt_beside_laws.proofs.Styled.StyledSigns.{after_delimiter, behind_quoted, is_quoted, is_quoted_last, quote_behind, quote_next, raw_next}
 use Rattle.wt_beside_laws.specs.Called.{AllMeetWith, AreGiven, ArePageParts, line_with}
 use Rattle.wt_beside_laws.specs.Content.{guard_items, letter_items}
-use Rattle.wt_beside_laws.specs.Cuts.{add_node, ends_word, guard_cut, letter_cut, own_form}
+use Rattle.wt_beside_laws.specs.Cuts.{add_node, guard_cut, letter_cut, own_form}
 use Rattle.wt_beside_laws.specs.Flat.{IsFlat}
 use Rattle.wt_beside_laws.specs.Given.{AreGivenSigns, AreNestedGiven, AreNestedSigns, GivenContent, GivenSign, character, form, given_cut, given_end, given_items, given_parts, given_sign, given_style, opens_quoted, signs_of}
 use Rattle.wt_beside_laws.specs.Nests.{mark_segments, nest_segments, style_of, style_tree}
