@@ -5,9 +5,7 @@ use Rattle.wt_span.specs.declared.limits.TheConstants.{HTML_BYTES}
 use Rattle.wt_tree.specs.declared.kind.Kind.{Kind}
 use Rattle.wt_tree.specs.declared.kind.Kind.TheVariants as kind
 use Rattle.wt_tree.specs.EditShapes.{edit_shape}
-use Rattle.wt_tree.specs.Tiling.{NoneIsGroup}
 use Rattle.wt_tree.specs.Tree.{Tree, tree, Trees, none, more, label}
-use Rattle.wt_checks.specs.Kept.{children}
 use Rattle.wt_expand.specs.PageCalls.{expanded_page}
 use Rattle.wt_expand.specs.Work.{Pages}
 use Rattle.wt_link_spelling.specs.Spelling.{children_of}
@@ -32,7 +30,7 @@ use Rattle.wt_inside_laws.specs.ToldEdits.{IsReadBlock, IsOrdinary, IsOrdinaryOn
 use Rattle.wt_inside_laws.proofs.HtmlEdits.{edit_is}
 use Rattle.wt_inside_laws.proofs.PageAlike.{text_edit_sent}
 use Rattle.wt_inside_laws.proofs.ReadSent.{read_for, read_blocks}
-use Rattle.wt_inside_laws.proofs.ToldEdits.{same_node_at, first_same, rest_same, calm_ungrouped, told_edit_done}
+use Rattle.wt_inside_laws.proofs.ToldEdits.{same_node_at, first_same, rest_same, told_edit_done}
 
 -- ---- paths
 
@@ -127,12 +125,13 @@ ordinary_done pages page input new u h =
     let ms : List Pair = marked (page_tree pages page) new in
     let es : Edits = edits_of t new in
     let unrefused : refusal_of_page pages page ≡ None = calm_unrefused pages page h.calls_nothing in
-    let g : NoneIsGroup (children t) = calm_ungrouped pages page h.calls_nothing h.ungrouped in
-    let for_page : IsReadFor (page_tree pages page) new = read_for pages page input new u h.utf8 h.short unrefused g h.sent h.edit.checks h.no_group in
-    let blocks = all_read ms (read_blocks same_node (expanded_page pages page) page pages page input new u h.utf8 unrefused g h.sent h.edit.checks h.no_group h.edit.blocks) in
-    let sent : IsSentOn pages page new es = text_edit_sent pages page new h.utf8 unrefused g h.edit for_page blocks.0 in
+    let for_page : IsReadFor (page_tree pages page) new = read_for pages page input new u h.utf8 h.short unrefused h.sent h.edit.checks in
+    let blocks =
+    all_read ms (read_blocks same_node (expanded_page pages page) page pages page input new u h.utf8 h.short unrefused h.sent h.edit.checks h.edit.blocks) in
+    let sent : IsSentOn pages page new es = text_edit_sent pages page new h.utf8 h.short unrefused h.edit for_page blocks.0 in
     let s : AreSome a.ts = some_told pages page a (paths_of es) ms sent.at h.edit.blocks h.blocks h.some in
     told_edit_done pages page a.ts a.behind new (a.told s).told (a.told s).taken (record {
+      short = h.short;
       edit = h.edit;
       read = for_page;
       blocks = blocks.1;
