@@ -1,5 +1,5 @@
 -- A walk over nodes of calls and of the page makes one group of what one call gives side by side, and leaves all else as it is.
-use Rattle.std.proofs.Common.{◌≡◌, ℕ, ◌+◌, ◌==◌, Bool, true, false, not, Option, None, Some, List, [], ◌∷◌, ◌++◌, length, map, refl, sym, ap, ap₂, ◌∙◌, subst, cond, inl, inr}
+use Rattle.std.proofs.Common.{◌≡◌, ◌⊎◌, ℕ, ◌+◌, ◌==◌, Bool, true, false, not, Option, None, Some, List, [], ◌∷◌, ◌++◌, length, map, refl, sym, ap, ap₂, ◌∙◌, subst, cond, inl, inr}
 use Rattle.std.specs.Prelude.{◌&&◌, ◌||◌, slice_get}
 use Rattle.std.specs.List.{list_all, list_any}
 use Rattle.std.proofs.lemmas.Bool.Decides.{Decides-eqb}
@@ -69,13 +69,13 @@ round_last (inner h q ts c) o r =
     let i : List Item = held_by_all ts in
     last_append o q (i ++ c) ∙ last_append (last_of o q) i c ∙ last_own (last_of (last_of o q) i) c r.3 r.4
 
+or_more : (u v w : Bool) → (v ≡ true → w ≡ true) → (u || v) ≡ true → (u || w) ≡ true
+or_more true v w f e = refl
+or_more false v w f e = f e
+
 some_left : (xs ys : List Item) → list_any is_page xs ≡ true → list_any is_page (xs ++ ys) ≡ true
 some_left [] ys e = cc
-some_left (x ∷ xs) ys e = by (is_page x) e
-  where
-    by : (v : Bool) → (v || list_any is_page xs) ≡ true → (v || list_any is_page (xs ++ ys)) ≡ true
-    by true f = refl
-    by false f = some_left xs ys f
+some_left (x ∷ xs) ys e = or_more (is_page x) (list_any is_page xs) (list_any is_page (xs ++ ys)) (λ f. some_left xs ys f) e
 
 page_both : (xs ys : List Item) → list_all is_page xs ≡ true → list_all is_page ys ≡ true → list_all is_page (xs ++ ys) ≡ true
 page_both [] ys e f = f

@@ -28,7 +28,7 @@ use Rattle.wt_beside_laws.proofs.Styled.NestReads.{IsTail, NestRead, enclosed_re
 use Rattle.wt_beside_laws.proofs.Styled.NestRuns.{marks_first}
 use Rattle.wt_beside_laws.proofs.Styled.StyledLines.{MayEnd, Read, break_ends, cut_line, delimiter_added, ended_read, guard_read, letter_read, within_style}
 use Rattle.wt_beside_laws.proofs.Styled.StyledSigns.{after_delimiter, behind_quoted, is_quoted, is_quoted_last, quote_behind, quote_next, raw_next}
-use Rattle.wt_beside_laws.specs.Called.{AllMeetWith, AreGiven, ArePageParts, line_with}
+use Rattle.wt_beside_laws.specs.Called.{AllMeetWith, AreGiven, ArePageParts, AreSomeOfPage, line_with}
 use Rattle.wt_beside_laws.specs.Content.{guard_items, letter_items}
 use Rattle.wt_beside_laws.specs.Cuts.{add_node, guard_cut, letter_cut, own_form}
 use Rattle.wt_beside_laws.specs.Flat.{IsFlat}
@@ -36,7 +36,7 @@ use Rattle.wt_beside_laws.specs.Given.{AreGivenSigns, AreNestedGiven, AreNestedS
 use Rattle.wt_beside_laws.specs.Nests.{mark_segments, nest_segments, style_of, style_tree}
 use Rattle.wt_beside_laws.specs.NodeItems.{node_items}
 use Rattle.wt_beside_laws.specs.Styled.{AreNested, StyledContent, delimiter, finished, mark_source, sign, signs_before, signs_past, styled}
-use Rattle.wt_beside_laws.specs.StyledCalls.{AreOwnAt, AreSomeOfPage, AreUnstyledParts, IsOwnAt, owns_left, owns_past, styled_with}
+use Rattle.wt_beside_laws.specs.StyledCalls.{AreOwnAt, AreUnstyledParts, IsOwnAt, owns_left, owns_past, styled_with}
 
 -- ---- what is given behind a content
 
