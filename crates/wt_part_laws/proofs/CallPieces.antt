@@ -111,7 +111,7 @@ round_clean o p (inner h q ts c) r =
     (own_delimiters (is_leaf h.kind) q i c r.0 r.1 r.3) (or_last (is_body h.kind) (list_any is_page (q ++ (i ++ c))) (some_left q (i ++ c) r.2))
 
 -- what is on the page for an item of it doesn't hang on what comes before
-step_same : (calls : List OuterCall) (o : Option ℕ) (x : Item) → call_of x ≡ None → text_step calls o x ≡ text_step calls None x
+pub step_same : (calls : List OuterCall) (o : Option ℕ) (x : Item) → call_of x ≡ None → text_step calls o x ≡ text_step calls None x
 step_same calls o x e =
     ap (λ (v : Bool). cond v (text_by calls (call_of x) (source x)) []) (before_free o (call_of x) e ∙ sym (before_free None (call_of x) e))
 
