@@ -159,9 +159,12 @@ some_in t (inr r) = round_some t r
 node_holds : (t : ItemTree) → IsOwn t ⊎ IsRoundNode t → HoldsItsCalls t
 node_holds t h = record { some = some_in t h; clean = piece_clean None None t h }
 
+none_some : (j : ℕ) → Some j ≡ None → ⊥
+none_some j e = cc
+
 -- what is on the page for it doesn't hang on what comes before it
 first_text : (calls : List OuterCall) (o : Option ℕ) (xs : List Item) → first_of xs (Some 0) ≡ None → text_from calls None xs ≡ text_from calls o xs
-first_text calls o [] e = let no : Some 0 ≡ None = e in absurd (cc)
+first_text calls o [] e = absurd (none_some 0 e)
 first_text calls o (x ∷ xs) e = ap (λ (bs : List ℕ). bs ++ text_from calls (call_of x) xs) (sym (step_same calls o x e))
 
 piece_flat : (calls : List OuterCall) (o : Option ℕ) (p : CallPiece) → IsPiece p → parted o (piece_call p) ≡ true
@@ -242,7 +245,7 @@ IsStyleHere (suc n) e t =
     (bold : Bool) × (ps : List Part) × (t ≡ style_tree bold ps) × EachNode (IsPartHere n e) ps × AreGroupsHere e (call_pieces (children ps)) × AreShutParts ps
 
 no_given : (t : ItemTree) → IsOwn t ⊎ IsRoundNode t → (j : ℕ) × IsOfCall j t → ⊥
-no_given t h g = let no : Some g.0 ≡ None = sym (first_of_call g.0 t None g.1) ∙ own_first t None h in cc
+no_given t h g = none_some g.0 (sym (first_of_call g.0 t None g.1) ∙ own_first t None h)
 
 own_case : (n : ℕ) (e : Expanded) (t : ItemTree) → IsOwn t ⊎ IsRoundNode t → IsPartHere n e t → IsOwn t ⊎ IsStyleHere n e t
 own_case zero e t h (inl o) = inl o
@@ -438,70 +441,90 @@ page_shut e a n t h shut =
 inside_shut : (qs : List Part) → AreShutParts qs → AreShutTrees (trees_of (call_pieces (children qs)))
 inside_shut qs h = subst AreShutTrees (sym (all_trees (children qs))) (children_shut qs h)
 
--- to this depth
-mutual
-  style_fine : (d : ℕ) (e : Expanded) (s : ℕ) (o : Option ℕ) (a n : ℕ) (before all : List Item) (t : ItemTree) (ps : List CallPiece) (last : List Item)
-      → IsAmong e.outer s o a before all (own t ∷ ps) last → IsStyleHere d e t → AtPlaces e.outer 0 None e.items → AreOnes e.items
-      → is_faulty_node e (settled n a (cut_texts (node_in e.outer t))) ≡ false
-  style_fine zero e s o a n before all t ps last h k page ones = absurd k
-  style_fine (suc d) e s o a n before all t ps last h k page ones =
-      let bold : Bool = k.0 in
-      let qs : List Part = k.1 in
-      let pieces : ArePieceNodes qs = here_pieces d e qs k.3 in
-      let are : ArePieces (call_pieces (children qs)) = all_pieces (children qs) (children_given qs pieces) in
-      ap (λ (u : ItemTree). is_faulty_node e (settled n a (cut_texts (node_in e.outer u)))) k.2
-      ∙ ap (λ (u : Tree). is_faulty_node e (settled n a (cut_texts u))) (style_is e.outer bold qs pieces)
-      ∙ style_faults e n a bold qs
-      ∙ pieces_fine d e s None (a + length (sources (marks bold))) (next_after (style_kind bold) n) (before ++ marks bold) all (call_pieces (children qs))
-      (marks bold ++ (held_by_all (forest (trees_of ps)) ++ last)) are (apart_none (call_pieces (children qs)))
-      (inside_among e.outer s o a before all bold qs t ps last k.2 h) k.4 (own_here d e qs k.3) (inside_shut qs k.5) page ones
+-- ---- all of them, where each style has none
 
-  one_fine : (d : ℕ) (e : Expanded) (s : ℕ) (o : Option ℕ) (a n : ℕ) (before all : List Item) (p : CallPiece) (ps : List CallPiece) (last : List Item)
-      → IsAmong e.outer s o a before all (p ∷ ps) last → IsPiece p → parted o (piece_call p) ≡ true → AreGroupsHere e (p ∷ ps) → AreOwnHere d e (p ∷ ps)
-      → AreShutTrees (trees_of (p ∷ ps)) → AtPlaces e.outer 0 None e.items → AreOnes e.items → is_faulty_node e (settled n a (cut_texts (piece_in_page e.outer p))) ≡ false
-  one_fine d e s o a n before all (own t) ps last h k r g w shut page ones = elim (own_case d e t k w.0) [
-    | inl own_node ↦ page_fine e a n t own_node shut.0
-    | inr style ↦ style_fine d e s o a n before all t ps last h style page ones
-  ]
-  one_fine d e s o a n before all (given j t ts) ps last h k r g w shut page ones =
-      group_fine e n a j (t ∷ ts) (call_found e.outer s o a j before all t ts ps last h k.0 r) page ones g.0
+abbrev StylesFine : ℕ → Expanded → ℕ → List Item → Type 0
+StylesFine d e s all =
+    (o : Option ℕ) (a n : ℕ) (before : List Item) (t : ItemTree) (ps : List CallPiece) (last : List Item)
+    → IsAmong e.outer s o a before all (own t ∷ ps) last → IsStyleHere d e t → is_faulty_node e (settled n a (cut_texts (node_in e.outer t))) ≡ false
 
-  pub pieces_fine : (d : ℕ) (e : Expanded) (s : ℕ) (o : Option ℕ) (a n : ℕ) (before all : List Item) (ps : List CallPiece) (last : List Item)
-      → ArePieces ps → IsApart o ps → IsAmong e.outer s o a before all ps last → AreGroupsHere e ps → AreOwnHere d e ps → AreShutTrees (trees_of ps)
-      → AtPlaces e.outer 0 None e.items → AreOnes e.items → has_faulty_group e (all_settled n a (all_cut_texts (pieces_in_page e.outer ps))) ≡ false
-  pieces_fine d e s o a n before all [] last k r h g w shut page ones = refl
-  pieces_fine d e s o a n before all (p ∷ ps) last k r h g w shut page ones =
-      let u : Tree = cut_texts (piece_in_page e.outer p) in
-      ap₂ (λ (v x : Bool). v || x) (one_fine d e s o a n before all p ps last h k.0 r g w shut page ones)
-      (pieces_fine d e s (piece_call p) (a + length (flat u)) (n + count u) (before ++ piece_items p) all ps last k.2 k.1
-      (among_next e.outer s o a before all p ps last h k.0 r) (groups_later e p ps g) (own_later d e p ps w) (shut_rest (piece_trees p) (trees_of ps) shut) page ones)
+one_fine : (d : ℕ) (e : Expanded) (s : ℕ) (o : Option ℕ) (a n : ℕ) (before all : List Item) (p : CallPiece) (ps : List CallPiece) (last : List Item)
+    → StylesFine d e s all → IsAmong e.outer s o a before all (p ∷ ps) last → IsPiece p → parted o (piece_call p) ≡ true → AreGroupsHere e (p ∷ ps)
+    → AreOwnHere d e (p ∷ ps) → AreShutTrees (trees_of (p ∷ ps)) → AtPlaces e.outer 0 None e.items → AreOnes e.items
+    → is_faulty_node e (settled n a (cut_texts (piece_in_page e.outer p))) ≡ false
+one_fine d e s o a n before all (own t) ps last f h k r g w shut page ones = elim (own_case d e t k w.0) [
+  | inl page_node ↦ page_fine e a n t page_node shut.0
+  | inr style ↦ f o a n before t ps last h style
+]
+one_fine d e s o a n before all (given j t ts) ps last f h k r g w shut page ones =
+    group_fine e n a j (t ∷ ts) (call_found e.outer s o a j before all t ts ps last h k.0 r) page ones g.0
 
-mutual
-  style_shut : (d : ℕ) (e : Expanded) (a n : ℕ) (t : ItemTree) → IsStyleHere d e t → node_ends_open (settled n a (cut_texts (node_in e.outer t))) ≡ false
-  style_shut zero e a n t k = absurd k
-  style_shut (suc d) e a n t k =
-      let bold : Bool = k.0 in
-      let qs : List Part = k.1 in
-      let pieces : ArePieceNodes qs = here_pieces d e qs k.3 in
-      ap (λ (u : ItemTree). node_ends_open (settled n a (cut_texts (node_in e.outer u)))) k.2
-      ∙ ap (λ (u : Tree). node_ends_open (settled n a (cut_texts u))) (style_is e.outer bold qs pieces)
-      ∙ style_opens e.outer n a bold qs
-      ∙ pieces_shut d e (a + length (sources (marks bold))) (next_after (style_kind bold) n) (call_pieces (children qs))
-      (all_pieces (children qs) (children_given qs pieces)) k.4 (own_here d e qs k.3) (inside_shut qs k.5)
+fine_by : (d : ℕ) (e : Expanded) (s : ℕ) (o : Option ℕ) (a n : ℕ) (before all : List Item) (ps : List CallPiece) (last : List Item)
+    → StylesFine d e s all → ArePieces ps → IsApart o ps → IsAmong e.outer s o a before all ps last → AreGroupsHere e ps → AreOwnHere d e ps
+    → AreShutTrees (trees_of ps) → AtPlaces e.outer 0 None e.items → AreOnes e.items
+    → has_faulty_group e (all_settled n a (all_cut_texts (pieces_in_page e.outer ps))) ≡ false
+fine_by d e s o a n before all [] last f k r h g w shut page ones = refl
+fine_by d e s o a n before all (p ∷ ps) last f k r h g w shut page ones =
+    let u : Tree = cut_texts (piece_in_page e.outer p) in
+    ap₂ (λ (v x : Bool). v || x) (one_fine d e s o a n before all p ps last f h k.0 r g w shut page ones)
+    (fine_by d e s (piece_call p) (a + length (flat u)) (n + count u) (before ++ piece_items p) all ps last f k.2 k.1
+    (among_next e.outer s o a before all p ps last h k.0 r) (groups_later e p ps g) (own_later d e p ps w) (shut_rest (piece_trees p) (trees_of ps) shut) page ones)
 
-  one_shut : (d : ℕ) (e : Expanded) (a n : ℕ) (p : CallPiece) (ps : List CallPiece) → IsPiece p → AreGroupsHere e (p ∷ ps) → AreOwnHere d e (p ∷ ps)
-      → AreShutTrees (trees_of (p ∷ ps)) → node_ends_open (settled n a (cut_texts (piece_in_page e.outer p))) ≡ false
-  one_shut d e a n (own t) ps k g w shut = elim (own_case d e t k w.0) [
-    | inl own_node ↦ page_shut e a n t own_node shut.0
-    | inr style ↦ style_shut d e a n t style
-  ]
-  one_shut d e a n (given j t ts) ps k g w shut =
-      let here = g.0 in settled_open n a (group_of_call e.outer j (further t (forest ts))) ∙ here.shut
+-- and each style has none, to this depth
+styles_fine : (d : ℕ) (e : Expanded) (s : ℕ) (all : List Item) → AtPlaces e.outer 0 None e.items → AreOnes e.items → StylesFine d e s all
+styles_fine zero e s all page ones = λ o a n before t ps last h k. absurd k
+styles_fine (suc d) e s all page ones = λ o a n before t ps last h k.
+    let bold : Bool = k.0 in
+    let qs : List Part = k.1 in
+    let pieces : ArePieceNodes qs = here_pieces d e qs k.3 in
+    let are : ArePieces (call_pieces (children qs)) = all_pieces (children qs) (children_given qs pieces) in
+    ap (λ (u : ItemTree). is_faulty_node e (settled n a (cut_texts (node_in e.outer u)))) k.2
+    ∙ ap (λ (u : Tree). is_faulty_node e (settled n a (cut_texts u))) (style_is e.outer bold qs pieces)
+    ∙ style_faults e n a bold qs
+    ∙ fine_by d e s None (a + length (sources (marks bold))) (next_after (style_kind bold) n) (before ++ marks bold) all (call_pieces (children qs))
+    (marks bold ++ (held_by_all (forest (trees_of ps)) ++ last)) (styles_fine d e s all page ones) are (apart_none (call_pieces (children qs)))
+    (inside_among e.outer s o a before all bold qs t ps last k.2 h) k.4 (own_here d e qs k.3) (inside_shut qs k.5) page ones
 
-  pub pieces_shut : (d : ℕ) (e : Expanded) (a n : ℕ) (ps : List CallPiece) → ArePieces ps → AreGroupsHere e ps → AreOwnHere d e ps → AreShutTrees (trees_of ps)
-      → any_ends_open (all_settled n a (all_cut_texts (pieces_in_page e.outer ps))) ≡ false
-  pieces_shut d e a n [] k g w shut = refl
-  pieces_shut d e a n (p ∷ ps) k g w shut =
-      let u : Tree = cut_texts (piece_in_page e.outer p) in
-      ap₂ (λ (v x : Bool). v || x) (one_shut d e a n p ps k.0 g w shut)
-      (pieces_shut d e (a + length (flat u)) (n + count u) ps k.2 (groups_later e p ps g) (own_later d e p ps w) (shut_rest (piece_trees p) (trees_of ps) shut))
+pub pieces_fine : (d : ℕ) (e : Expanded) (s : ℕ) (o : Option ℕ) (a n : ℕ) (before all : List Item) (ps : List CallPiece) (last : List Item)
+    → ArePieces ps → IsApart o ps → IsAmong e.outer s o a before all ps last → AreGroupsHere e ps → AreOwnHere d e ps → AreShutTrees (trees_of ps)
+    → AtPlaces e.outer 0 None e.items → AreOnes e.items → has_faulty_group e (all_settled n a (all_cut_texts (pieces_in_page e.outer ps))) ≡ false
+pieces_fine d e s o a n before all ps last k r h g w shut page ones =
+    fine_by d e s o a n before all ps last (styles_fine d e s all page ones) k r h g w shut page ones
+
+-- ---- none ends in an open tag
+
+abbrev StylesShut : ℕ → Expanded → Type 0
+StylesShut d e = (a n : ℕ) (t : ItemTree) → IsStyleHere d e t → node_ends_open (settled n a (cut_texts (node_in e.outer t))) ≡ false
+
+one_shut : (d : ℕ) (e : Expanded) (a n : ℕ) (p : CallPiece) (ps : List CallPiece) → StylesShut d e → IsPiece p → AreGroupsHere e (p ∷ ps) → AreOwnHere d e (p ∷ ps)
+    → AreShutTrees (trees_of (p ∷ ps)) → node_ends_open (settled n a (cut_texts (piece_in_page e.outer p))) ≡ false
+one_shut d e a n (own t) ps f k g w shut = elim (own_case d e t k w.0) [
+  | inl page_node ↦ page_shut e a n t page_node shut.0
+  | inr style ↦ f a n t style
+]
+one_shut d e a n (given j t ts) ps f k g w shut =
+    let here = g.0 in settled_open n a (group_of_call e.outer j (further t (forest ts))) ∙ here.shut
+
+shut_by : (d : ℕ) (e : Expanded) (a n : ℕ) (ps : List CallPiece) → StylesShut d e → ArePieces ps → AreGroupsHere e ps → AreOwnHere d e ps → AreShutTrees (trees_of ps)
+    → any_ends_open (all_settled n a (all_cut_texts (pieces_in_page e.outer ps))) ≡ false
+shut_by d e a n [] f k g w shut = refl
+shut_by d e a n (p ∷ ps) f k g w shut =
+    let u : Tree = cut_texts (piece_in_page e.outer p) in
+    ap₂ (λ (v x : Bool). v || x) (one_shut d e a n p ps f k.0 g w shut)
+    (shut_by d e (a + length (flat u)) (n + count u) ps f k.2 (groups_later e p ps g) (own_later d e p ps w) (shut_rest (piece_trees p) (trees_of ps) shut))
+
+styles_shut : (d : ℕ) (e : Expanded) → StylesShut d e
+styles_shut zero e = λ a n t k. absurd k
+styles_shut (suc d) e = λ a n t k.
+    let bold : Bool = k.0 in
+    let qs : List Part = k.1 in
+    let pieces : ArePieceNodes qs = here_pieces d e qs k.3 in
+    ap (λ (u : ItemTree). node_ends_open (settled n a (cut_texts (node_in e.outer u)))) k.2
+    ∙ ap (λ (u : Tree). node_ends_open (settled n a (cut_texts u))) (style_is e.outer bold qs pieces)
+    ∙ style_opens e.outer n a bold qs
+    ∙ shut_by d e (a + length (sources (marks bold))) (next_after (style_kind bold) n) (call_pieces (children qs)) (styles_shut d e)
+    (all_pieces (children qs) (children_given qs pieces)) k.4 (own_here d e qs k.3) (inside_shut qs k.5)
+
+pub pieces_shut : (d : ℕ) (e : Expanded) (a n : ℕ) (ps : List CallPiece) → ArePieces ps → AreGroupsHere e ps → AreOwnHere d e ps → AreShutTrees (trees_of ps)
+    → any_ends_open (all_settled n a (all_cut_texts (pieces_in_page e.outer ps))) ≡ false
+pieces_shut d e a n ps k g w shut = shut_by d e a n ps (styles_shut d e) k g w shut
