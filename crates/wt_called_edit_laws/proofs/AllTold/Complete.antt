@@ -1,86 +1,100 @@
--- Each paragraph and heading of a page's tree that isn't tangled is one of those that the page's lines tell, or one of the excepted.
-use Rattle.std.proofs.Common.{arith, ◌≡◌, ◌<◌, ◌≤◌, ◌⊎◌, inl, inr, ℕ, zero, suc, Bool, true, false, List, [], ◌∷◌, ◌++◌, length, map, refl, sym, ap, ◌∙◌, subst, append-nil}
+-- Each paragraph and heading of a page's tree, outside of groups, that holds no group and isn't tangled is one of those that the lines of the expanded page
+-- tell, or one of the excepted.
+use Rattle.std.proofs.Common.{arith, ◌≡◌, ◌<◌, ◌≤◌, ◌⊎◌, inl, inr, ℕ, zero, suc, ◌+◌, Bool, true, false, None, List, [], ◌∷◌, ◌++◌, length, drop, map, refl, sym, ap, ◌∙◌, subst, append-nil, cond}
 use Rattle.std.specs.Prelude.{◌&&◌}
 use Rattle.std.specs.Str.{IsUtf8}
 use Rattle.std.specs.List.{list_all}
 use Rattle.wt_span.specs.Items.{Item, char, whole, is_mark, sign, sources}
-use Rattle.wt_tree.specs.Source.{flat}
+use Rattle.wt_tree.specs.Tiling.{HasNoGroup}
 use Rattle.wt_tree.specs.Tree.{Tree, tree, Trees, none, more, label}
-use Rattle.wt_inline.specs.ItemTree.{ItemTree}
 use Rattle.wt_checks.specs.Kept.{children}
 use Rattle.wt_expand.specs.PageCalls.{expanded_page}
-use Rattle.wt_expand.specs.PageItems.{page_items}
 use Rattle.wt_expand.specs.Work.{Pages}
+use Rattle.wt_commands.specs.Answers.{refusal_of_page}
+use Rattle.wt_expand.proofs.PiecePlaces.{AllFrom}
 use Rattle.wt_lines.specs.declared.kind.LineKind.TheVariants as line
 use Rattle.wt_lines.specs.Kinds.{kind_of_signs}
 use Rattle.wt_lines.specs.Lines.{content, full_lines}
 use Rattle.wt_tables.specs.Parts.{joined}
 use Rattle.wt_page.specs.Headings.{heading}
-use Rattle.wt_page.specs.Lines.{kind_at}
-use Rattle.wt_page.specs.Rows.{rows_from}
+use Rattle.wt_page.specs.Lines.{kind_at, ending}
+use Rattle.wt_page.specs.Rows.{marks_len, rows_from}
 use Rattle.wt_page.specs.Texts.{para}
+use Rattle.wt_page.proofs.Ends.{content_ending}
+use Rattle.wt_page_round_trip.proofs.OpenedPages.{AreOnes}
+use Rattle.wt_part_laws.specs.Frames.{content as content_part}
 use Rattle.wt_part_laws.specs.Slots.{AllTrue}
-use Rattle.wt_part_laws.specs.Standing.{standing}
 use Rattle.wt_selser.specs.Edits.{is_tangled}
 use Rattle.wt_text_edit_laws.specs.BlockSpots.{BlockSpot, spots_source}
+use Rattle.wt_text_edit_laws.specs.Contents.{IsContentOf}
+use Rattle.wt_text_edit_laws.specs.PageCuts.{EndsClosed, begins_unmarked}
 use Rattle.wt_text_edit_laws.specs.NoCalls.{CallsNothing}
-use Rattle.wt_text_edit_laws.specs.PageCuts.{begins_unmarked, EndsClosed, IsUntangledAt}
 use Rattle.wt_text_edit_laws.specs.ParagraphBetween.{written_rows, tables_behind, EndApart, BeginApart}
-use Rattle.wt_text_edit_laws.specs.Parts.{HasNoGroups}
 use Rattle.wt_text_edit_laws.specs.TextBetween.{AreEnded}
-use Rattle.wt_text_edit_laws.specs.TextBlocks.{TextBlock, a_paragraph, source_of, block_tree}
+use Rattle.wt_text_edit_laws.specs.TextBlocks.{block_tree}
 use Rattle.wt_text_edit_laws.proofs.Cuts.RowLines.{AllText}
 use Rattle.wt_text_edit_laws.proofs.Paragraphs.Marks.{mark_sign, AreMarkSigns, kind_marks}
-use Rattle.wt_called_edit_laws.specs.AllTold.{starts_in, IsExceptedAt, text_on_a_sign, marked_text, text_in_tables, unended_marks, IsExcepted, IsOneOf, AllBlocksTold}
+use Rattle.wt_text_edit_laws.proofs.Cuts.TextLines.{led_first, content_unled}
+use Rattle.wt_called_edit_laws.specs.AllTold.{starts_in, IsExceptedAt, text_on_a_sign, unended_marks, IsExceptedIn, by_its_lines, beside_a_call, IsExcepted, IsOneOf, AllBlocksTold, IsBesideNoCall, AreNoFunctions, IsBesideTexts, holds_a_function, beside_a_text, holds_a_pair}
 use Rattle.wt_called_edit_laws.specs.AnyBlocks.{open_after}
+use Rattle.wt_called_edit_laws.specs.CalledBlocks.{tree_by}
 use Rattle.wt_called_edit_laws.specs.CalledPages.{IsCalledPage}
 use Rattle.wt_called_edit_laws.specs.CalledTexts.{spots_tree}
 use Rattle.wt_called_edit_laws.specs.ContentsTaken.{TakesContents}
 use Rattle.wt_called_edit_laws.specs.EditsAt.{AllStand}
 use Rattle.wt_called_edit_laws.specs.Groups.{called_tree}
+use Rattle.wt_called_edit_laws.specs.LinedAmong.{spots_of_lines, end_of_lines, IsLinedAmong}
 use Rattle.wt_called_edit_laws.specs.LinedHeadings.{IsLinedHeading}
+use Rattle.wt_called_edit_laws.specs.Nodes.{block_at}
 use Rattle.wt_called_edit_laws.specs.PlacedBlocks.{AreLinesAt}
-use Rattle.wt_called_edit_laws.specs.PlacedLines.{LinedBlock, all_lines, spots_by, end_by, IsLinedPage}
-use Rattle.wt_called_edit_laws.specs.RowBlocks.{IsTextBlock, IsAtPath, IsAmong, begins_at, text_row, AreOfText, IsOfLines, of_lines, of_line, behind_a_sign, StandsOnRows, StandsOnLines}
-use Rattle.wt_called_edit_laws.specs.ToldLines.{Told, lined, AreTold, IsToldPage}
-use Rattle.wt_called_edit_laws.specs.ToldTogether.{start_of, told_starts, IsAmongNumbers, AreSome, AreAllTold}
+use Rattle.wt_called_edit_laws.specs.PlacedLines.{LinedBlock, all_lines}
+use Rattle.wt_called_edit_laws.specs.RowBlocks.{IsTextBlock, IsReachedAt, IsReachedIn, StandsIn, begins_at, text_row, AreOfText, IsOfLines, of_lines, of_line, behind_a_sign, StandsOnRows, StandsOnLines}
+use Rattle.wt_called_edit_laws.specs.ToldAmong.{IsToldAmong}
+use Rattle.wt_called_edit_laws.specs.ToldLines.{Told, lined, AreTold}
+use Rattle.wt_called_edit_laws.specs.ToldTogether.{start_of, told_starts, IsAmongNumbers, AreSome}
+use Rattle.wt_called_edit_laws.proofs.Among.LinedParts.{lined_whole, lined_editable}
+use Rattle.wt_called_edit_laws.proofs.Among.ToldAmong.{told_among}
+use Rattle.wt_called_edit_laws.proofs.BlocksOutside.{editable_called}
 use Rattle.wt_called_edit_laws.proofs.CallsTake.{contents_by, contents_paths}
+use Rattle.wt_called_edit_laws.proofs.Cells.PlacedLines.{own_items, lines_joined}
 use Rattle.wt_called_edit_laws.proofs.Cells.SpotSlots.{open_size}
-use Rattle.wt_called_edit_laws.proofs.Cells.PlacedLines.{lined_whole}
-use Rattle.wt_called_edit_laws.proofs.EditFacts.{IsFramedPage, framed_page, paths_of, spots_stand}
+use Rattle.wt_called_edit_laws.proofs.EditFacts.{IsFramedPage, framed_page, paths_of, spots_stand, spots_contents}
+use Rattle.wt_called_edit_laws.proofs.GroupsAmong.{retyped_self}
 use Rattle.wt_called_edit_laws.proofs.PathsSend.{NoneEmpty, paths_full}
-use Rattle.wt_called_edit_laws.proofs.Told.FreeNodes.{untangled_shut}
-use Rattle.wt_called_edit_laws.proofs.Told.ToldPages.{told_lined, told_called, told_are_lined}
+use Rattle.wt_called_edit_laws.proofs.AllTold.Alone.{IsAloneTold}
+use Rattle.wt_called_edit_laws.proofs.AllTold.Chosen.{beside_call_decided, functions_decided, texts_decided, calm_decided, own_behind}
+use Rattle.wt_called_edit_laws.proofs.AllTold.ChosenLines.{byte_at, among_mapped, ones_front, ones_behind, starts_so}
 use Rattle.wt_called_edit_laws.proofs.AllTold.EachBlocks.{EachBlockIn}
 use Rattle.wt_called_edit_laws.proofs.AllTold.Found.{size}
 use Rattle.wt_called_edit_laws.proofs.AllTold.HeadSigns.{head_begins}
 use Rattle.wt_called_edit_laws.proofs.AllTold.LineBlocks.{block_on_lines}
 use Rattle.wt_called_edit_laws.proofs.AllTold.LineKinds.{Lines, led_by, past_marks, led_whole, led_marks, kind_led}
-use Rattle.wt_called_edit_laws.proofs.AllTold.NodePlaces.{first_byte, node_begins, standing_begins}
-use Rattle.wt_called_edit_laws.proofs.AllTold.OwnTrees.{OwnRound, told_round, paragraph_is, heading_is}
-use Rattle.wt_called_edit_laws.proofs.AllTold.PlaceStarts.{starts_from, paths_start, standing_source, AllHaveBytes, LeadsThere, leads, leads_there}
+use Rattle.wt_called_edit_laws.proofs.AllTold.OneNode.{IsNodeAt, own_tree, IsKnownNode, known_node, page_ones, page_joined}
+use Rattle.wt_called_edit_laws.proofs.AllTold.OwnLines.{AreSeen, text_own_lines, heading_own_lines}
+use Rattle.wt_called_edit_laws.proofs.AllTold.OwnTrees.{OwnRound, paragraph_is, heading_is}
+use Rattle.wt_called_edit_laws.proofs.AllTold.PlaceStarts.{starts_from, spot_starts, paths_start, AllClear, clear_paths, AllHaveBytes, contents_some, LeadsThere, leads, leads_there}
 use Rattle.wt_called_edit_laws.proofs.AllTold.RowBlocks.{housed, page_stands, body_none, below}
 use Rattle.wt_called_edit_laws.proofs.AllTold.Scans.{Decided, bool_decided, kind_decided, ended_decided, text_told, heading_told}
 use Rattle.wt_called_edit_laws.proofs.AllTold.Starts.{HasByte, BlockAt, BlockIn, same_paths}
-use Rattle.wt_called_edit_laws.proofs.AllTold.Together.{told_together}
-use Rattle.wt_called_edit_laws.proofs.AllTold.ToldStarts.{AreOwn, are_own, starts_so, told_bytes, blank_is}
+use Rattle.wt_called_edit_laws.proofs.AllTold.Together.{AreAllChosen, chosen_together, told_by_all}
+use Rattle.wt_called_edit_laws.proofs.AllTold.ToldStarts.{are_own, blank_is}
 
 -- ---- a node that begins where one that is told begins
 
 mutual
-  block_at : (is : List ℕ) (t u : Tree) → IsAtPath is t u → IsTextBlock (label u).kind → HasByte u → BlockAt is t
-  block_at [] (tree l ts) u e b h =
+  block_there : (is : List ℕ) (t u : Tree) → IsReachedAt is t u → IsTextBlock (label u).kind → HasByte u → BlockAt is t
+  block_there [] (tree l ts) u e b h =
       (housed l.kind (subst (λ (v : Tree). IsTextBlock (label v).kind) (sym e) b), subst HasByte (sym e) h)
-  block_at (i ∷ is) (tree l ts) u e b h = block_in i is ts u e b h
+  block_there (i ∷ is) (tree l ts) u e b h = (e.0, block_in i is ts u e.1 b h)
 
-  block_in : (i : ℕ) (is : List ℕ) (ts : Trees) (u : Tree) → IsAmong i is ts u → IsTextBlock (label u).kind → HasByte u → BlockIn i is ts
+  block_in : (i : ℕ) (is : List ℕ) (ts : Trees) (u : Tree) → IsReachedIn i is ts u → IsTextBlock (label u).kind → HasByte u → BlockIn i is ts
   block_in i is none u e b h = e
-  block_in zero is (more t ts) u e b h = block_at is t u e b h
+  block_in zero is (more t ts) u e b h = block_there is t u e b h
   block_in (suc i) is (more t ts) u e b h = block_in i is ts u e b h
 
-leads_in : (ss : List BlockSpot) (ps : List (List ℕ)) (t : Tree) (at : ℕ) → AllStand ss ps t → NoneEmpty ps → AllHaveBytes ss
+leads_in : (ss : List BlockSpot) (ps : List (List ℕ)) (t : Tree) (at : ℕ) → AllStand ss ps t → NoneEmpty ps → AllClear ps (children t) → AllHaveBytes ss
     → IsAmongNumbers at (starts_from 0 (children t) ps) → LeadsThere at (children t) ps
-leads_in ss ps (tree l ts) at s e w h = leads_there ss ps l ts at s e w h
+leads_in ss ps (tree l ts) at s e c w h = leads_there ss ps l ts at s e c w h
 
 some_told : (n : ℕ) (ts : List Told) → IsAmongNumbers n (told_starts 0 ts) → AreSome ts
 some_told n [] h = h
@@ -91,85 +105,70 @@ same_of : (ps : List (List ℕ)) (i : ℕ) (is : List ℕ) (us : Trees) (Q : Tre
 same_of ps i is us Q at each b z (leads j js o c e) =
     subst (λ (p : List ℕ). IsOneOf p ps) (sym (same_paths Q 0 i is j js us each b c (z ∙ sym e))) o
 
--- the paths at which they may be edited
-abbrev taken_at : (pages : Pages) (page : List ℕ) (ts : List Told) (behind : Lines) → IsToldPage page ts behind
-    → TakesContents pages (spots_by [] (map lined ts)) (end_by [] (map lined ts) behind)
-taken_at pages page ts behind h =
-    contents_by pages (spots_by [] (map lined ts)) (end_by [] (map lined ts) behind)
-    (framed_page pages (spots_by [] (map lined ts)) (end_by [] (map lined ts) behind) (told_called pages page ts behind h)) (told_called pages page ts behind h)
-
-at_told : (pages : Pages) (page : List ℕ) (ts : List Told) (behind : Lines) (h : IsToldPage page ts behind) (Q : Tree → Type 0) (i : ℕ) (is : List ℕ) (t : Tree)
-    → EachBlockIn Q (children (called_tree pages page)) → IsAmong i is (children (called_tree pages page)) t → IsTextBlock (label t).kind → HasByte t
-    → IsAmongNumbers (starts_in 0 i is (children (called_tree pages page))) (told_starts 0 ts) → IsOneOf (i ∷ is) (taken_at pages page ts behind h).paths
-at_told pages page ts behind h Q i is t each e b w among =
+-- the page is one that may be edited
+called_so : (pages : Pages) (page : List ℕ) (ts : List Told) (behind : Lines) → IsToldAmong pages page ts behind
+    → IsCalledPage pages (spots_of_lines pages page (map lined ts)) (end_of_lines pages page (map lined ts) behind)
+called_so pages page ts behind h =
     let ls : List LinedBlock = map lined ts in
-    let ss : List BlockSpot = spots_by [] ls in
-    let end : List ℕ = end_by [] ls behind in
-    let lp : IsLinedPage page ls behind = told_lined page ts behind h in
-    let calls : IsCalledPage pages ss end = told_called pages page ts behind h in
+    editable_called pages (spots_of_lines pages page ls) (end_of_lines pages page ls behind) (lined_editable pages page ls behind (told_among pages page ts behind h))
+
+-- the paths at which they may be edited
+abbrev taken_at : (pages : Pages) (page : List ℕ) (ts : List Told) (behind : Lines) → IsToldAmong pages page ts behind
+    → TakesContents pages (spots_of_lines pages page (map lined ts)) (end_of_lines pages page (map lined ts) behind)
+taken_at pages page ts behind h =
+    contents_by pages (spots_of_lines pages page (map lined ts)) (end_of_lines pages page (map lined ts) behind)
+    (framed_page pages (spots_of_lines pages page (map lined ts)) (end_of_lines pages page (map lined ts) behind) (called_so pages page ts behind h))
+    (called_so pages page ts behind h)
+
+at_told : (pages : Pages) (page : List ℕ) (a : AreAllChosen pages page) (h : IsToldAmong pages page a.ts a.behind) (i : ℕ) (is : List ℕ) (t : Tree)
+    → IsUtf8 page → IsReachedIn i is (children (called_tree pages page)) t → IsTextBlock (label t).kind → HasByte t
+    → IsAmongNumbers (starts_in 0 i is (children (called_tree pages page)))
+    (map (byte_at (expanded_page pages page).outer (expanded_page pages page).items) (told_starts 0 a.ts))
+    → IsOneOf (i ∷ is) (taken_at pages page a.ts a.behind h).paths
+at_told pages page a h i is t utf8 e b w among =
+    let ls : List LinedBlock = map lined a.ts in
+    let ss : List BlockSpot = spots_of_lines pages page ls in
+    let end : List ℕ = end_of_lines pages page ls a.behind in
+    let lp : IsLinedAmong pages page ls a.behind = told_among pages page a.ts a.behind h in
+    let calls : IsCalledPage pages ss end = called_so pages page a.ts a.behind h in
     let f : IsFramedPage pages ss end = framed_page pages ss end calls in
-    let own : AreOwn ls = are_own ls behind lp.lined in
-    let same : spots_source ss end ≡ page = lined_whole page ls behind h.are lp.lined in
+    let same : spots_source ss end ≡ page = lined_whole pages page ls a.behind lp in
     let u : Tree = called_tree pages page in
     let tree_is : u ≡ spots_tree pages ss end = ap (called_tree pages) (sym same) in
     let v : Tree = spots_tree pages ss end in
     let at : ℕ = starts_in 0 i is (children u) in
-    let starts : starts_from 0 (children v) (paths_of f) ≡ told_starts 0 ts = paths_start pages ss end f calls ∙ sym (starts_so 0 [] ts own) in
+    let begins : map (byte_at (expanded_page pages page).outer (expanded_page pages page).items) (told_starts 0 a.ts) ≡ spot_starts 0 ss =
+    starts_so pages page (expanded_page pages page).items a.ts a.behind a.meet (are_own ls a.behind lp.lined) (page_joined pages page (all_lines ls a.behind) a.are)
+    (page_ones pages page utf8 h.unrefused) in
+    let starts : starts_from 0 (children v) (paths_of f) ≡ spot_starts 0 ss = paths_start pages ss end f calls in
     let there : LeadsThere at (children v) (paths_of f) =
-    leads_in ss (paths_of f) v at (spots_stand pages ss end f calls) (paths_full f.nodes) (told_bytes page ts behind h.are h.told own)
-    (subst (IsAmongNumbers at) (sym starts) among) in
+    leads_in ss (paths_of f) v at (spots_stand pages ss end f calls) (paths_full f.nodes)
+    (clear_paths f.nodes content_part (block_at (tree_by ss)) (children v) f.holders (f.stay ss (retyped_self ss)))
+    (contents_some ss (spots_contents pages ss end calls)) (subst (IsAmongNumbers at) (begins ∙ sym starts) among) in
+    let each : EachBlockIn (StandsOnRows pages page) (children u) = page_stands pages page utf8 h.unrefused in
     subst (IsOneOf (i ∷ is)) (sym (contents_paths pages ss end f calls))
-    (same_of (paths_of f) i is (children v) Q at (subst (λ (x : Tree). EachBlockIn Q (children x)) tree_is each)
+    (same_of (paths_of f) i is (children v) (StandsOnRows pages page) at (subst (λ (x : Tree). EachBlockIn (StandsOnRows pages page) (children x)) tree_is each)
     (subst (λ (x : Tree). BlockIn i is (children x)) tree_is (block_in i is (children u) t e b w))
     (ap (λ (x : Tree). starts_in 0 i is (children x)) (sym tree_is)) there)
 
 -- ---- a node that is told alone
 
-record Node (pages : Pages) (page : List ℕ) (i : ℕ) (is : List ℕ) (t : Tree) : Type 0 where
-  utf8 : IsUtf8 page
-  calm : CallsNothing (page_items page)
-  ungrouped : HasNoGroups page
-  closed : EndsClosed page []
-  there : IsAmong i is (children (called_tree pages page)) t
-  block : IsTextBlock (label t).kind
-  untangled : is_tangled (expanded_page pages page) page t ≡ false
+abbrev Told_at : (pages : Pages) (page : List ℕ) (i : ℕ) (is : List ℕ) → AreAllChosen pages page → IsUtf8 page → refusal_of_page pages page ≡ None → EndsClosed page [] → Type 0
+Told_at pages page i is a u r c =
+    (s : AreSome a.ts) × IsOneOf (i ∷ is) (taken_at pages page a.ts a.behind (told_by_all pages page u r c a s)).paths
 
-alone_told : (pages : Pages) (page : List ℕ) (i : ℕ) (is : List ℕ) (t : Tree) → Node pages page i is t → (a : AreAllTold page) (number : ℕ) (before : List Item)
-    (block : ItemTree) → t ≡ standing number before block → (o : Told) (rest : Lines) → full_lines (page_items page) ≡ all_lines (lined o ∷ []) rest
-    → AreTold (o ∷ []) rest → block ≡ block_tree (lined o).block (lined o).text → size before ≡ start_of 0 o
-    → (s : AreSome a.ts) × IsOneOf (i ∷ is) (taken_at pages page a.ts a.behind (a.told s)).paths
-alone_told pages page i is t n a number before block is_it o rest are told tree_is at =
-    let k : TextBlock = (lined o).block in
-    let q : List ℕ = (lined o).text in
-    let same : t ≡ standing number before (block_tree k q) = is_it ∙ ap (standing number before) tree_is in
-    let free : IsUntangledAt (block_tree k q) = record {
-      items = expanded_page pages page;
-      page = page;
-      number = number;
-      before = before;
-      untangled = subst (λ (u : Tree). is_tangled (expanded_page pages page) page u ≡ false) same n.untangled;
-    } in
-    let single : IsToldPage page (o ∷ []) rest = record {
-      utf8 = n.utf8;
-      calls_nothing = n.calm;
-      ungrouped = n.ungrouped;
-      closed = n.closed;
-      are = are;
-      told = told;
-      shut = (untangled_shut k q free, tt);
-    } in
-    let Q : Tree → Type 0 = StandsOnRows page in
-    let each : EachBlockIn Q (children (called_tree pages page)) = page_stands pages page n.utf8 n.calm n.ungrouped in
-    let among : IsAmongNumbers (start_of 0 o) (told_starts 0 a.ts) = a.all o rest single in
-    let begins : start_of 0 o ≡ starts_in 0 i is (children (called_tree pages page)) =
-    sym at ∙ sym (standing_begins number before block) ∙ ap (λ (u : Tree). first_byte (label u).ranges) (sym is_it)
-    ∙ node_begins Q pages page i is t n.utf8 n.calm each n.there n.block in
-    let bytes : 0 < length (source_of k q) = (told_bytes page (o ∷ []) rest are told (are_own (lined o ∷ []) rest (told_are_lined page (o ∷ []) rest n.closed are told))).0 in
-    let some : AreSome a.ts = some_told (start_of 0 o) a.ts among in (
+alone_told : (pages : Pages) (page : List ℕ) (i : ℕ) (is : List ℕ) (t : Tree) (n : IsNodeAt pages page i is t) (a : AreAllChosen pages page) (s : StandsIn pages page t) (o : Told)
+    (rest : Lines) (h : IsAloneTold pages page o rest)
+    → (OwnRound (lined o) rest → s.block ≡ block_tree (lined o).block (lined o).text) → size s.before ≡ start_of 0 o
+    → Told_at pages page i is a n.utf8 n.unrefused n.closed
+alone_told pages page i is t n a s o rest h tree_so at =
+    let k : IsKnownNode pages page i is t o = known_node pages page i is t n s o rest h tree_so at in
+    let among : IsAmongNumbers (start_of 0 o) (told_starts 0 a.ts) = a.all o rest h.are h.told k.here in
+    let some : AreSome a.ts = some_told (start_of 0 o) a.ts among in
+    let f : ℕ → ℕ = byte_at (expanded_page pages page).outer (expanded_page pages page).items in (
       some,
-      at_told pages page a.ts a.behind (a.told some) Q i is t each n.there n.block
-          (subst (λ (bs : List ℕ). 0 < length bs) (sym (ap flat same ∙ standing_source k q number before)) bytes)
-          (subst (λ (m : ℕ). IsAmongNumbers m (told_starts 0 a.ts)) begins among),
+      at_told pages page a (told_by_all pages page n.utf8 n.unrefused n.closed a some) i is t n.utf8 n.there n.block k.byte
+          (subst (λ (m : ℕ). IsAmongNumbers m (map f (told_starts 0 a.ts))) k.begins (among_mapped f (start_of 0 o) (told_starts 0 a.ts) among)),
     )
 
 -- ---- lines that begin with marks only are blank
@@ -208,8 +207,9 @@ some_past n l k = by (past_marks l) refl
 
 -- ---- by its lines
 
-abbrev Answer : (pages : Pages) (page : List ℕ) (i : ℕ) (is : List ℕ) (t : Tree) → AreAllTold page → Type 0
-Answer pages page i is t a = ((s : AreSome a.ts) × IsOneOf (i ∷ is) (taken_at pages page a.ts a.behind (a.told s)).paths) ⊎ IsExcepted page t
+abbrev Answer : (pages : Pages) (page : List ℕ) (i : ℕ) (is : List ℕ) (t : Tree) → AreAllChosen pages page → IsUtf8 page → refusal_of_page pages page ≡ None
+    → EndsClosed page [] → Type 0
+Answer pages page i is t a u r c = Told_at pages page i is a u r c ⊎ IsExcepted pages page t
 
 tables_same : (before : Lines) → tables_behind 0 before ≡ length (open_after [] (written_rows 0 before))
 tables_same before = open_size [] 0 before refl
@@ -218,29 +218,81 @@ text_all : (n : ℕ) (ls : Lines) → AreOfText n ls → AllText n ls
 text_all n [] h = tt
 text_all n (l ∷ ls) h = (h.0, text_all n ls h.1)
 
-text_lines_at : (n : ℕ) (ls : Lines) → AreOfText 0 ls → AreOfText n ls → AreLinesAt n ls
-text_lines_at n [] h g = tt
-text_lines_at n (l ∷ ls) h g = (h.0, g.0, text_lines_at n ls h.1 g.1)
+text_lines_at : (n : ℕ) (ls : Lines) → AreOfText n ls → AreLinesAt n ls
+text_lines_at n [] g = tt
+text_lines_at n (l ∷ ls) g = (g.0, text_lines_at n ls g.1)
 
-text_decided : (n : ℕ) (ls : Lines) → Decided (AreOfText n ls)
-text_decided n [] = inl tt
-text_decided n (l ∷ ls) = by (kind_decided (kind_at n l)) (text_decided n ls)
+-- behind the marks that begin a line none is first
+past_unled : (l : List Item) → marks_len (past_marks l) ≡ 0
+past_unled [] = refl
+past_unled (y ∷ ys) = by (is_mark y) refl (past_unled ys)
   where
-    by : Decided (kind_at n l ≡ line.Text) → Decided (AreOfText n ls) → Decided (AreOfText n (l ∷ ls))
-    by (inl a) (inl b) = inl (a, b)
-    by (inr f) b = inr (λ h. f h.0)
-    by (inl a) (inr f) = inr (λ h. f h.1)
+    n : ℕ
+    n = marks_len ys
+
+    by : (v : Bool) → is_mark y ≡ v → marks_len (drop n ys) ≡ 0 → marks_len (drop (cond (is_mark y) (1 + n) 0) (y ∷ ys)) ≡ 0
+    by true e h =
+        let z : 1 + n ≡ suc n = omega arith in
+        ap (λ (v : Bool). marks_len (drop (cond v (1 + n) 0) (y ∷ ys))) e ∙ ap (λ (k : ℕ). marks_len (drop k (y ∷ ys))) z ∙ h
+    by false e h =
+        ap (λ (v : Bool). marks_len (drop (cond v (1 + n) 0) (y ∷ ys))) e ∙ ap (λ (v : Bool). cond v (1 + n) 0) e
+
+first_unled : (xs zs : List Item) → 1 ≤ length xs → marks_len xs ≡ 0 → marks_len (content (xs ++ zs)) ≡ 0
+first_unled [] zs some h = absurd (omega (arith, some))
+first_unled (x ∷ xs) zs some h = content_unled (x ∷ (xs ++ zs)) (led_first x xs (xs ++ zs) h)
 
 begins_so : (before : Lines) (l : List Item) (o : Told) → (lined o).before ≡ before → (lined o).marks ≡ led_by l → begins_at before l ≡ start_of 0 o
 begins_so before l o e f = omega (arith, ap (λ (ls : Lines). size (joined ls)) e, ap size f)
 
-text_case : (pages : Pages) (page : List ℕ) (i : ℕ) (is : List ℕ) (t : Tree) → Node pages page i is t → (a : AreAllTold page) (number : ℕ) (front : List Item)
-    (block : ItemTree) → t ≡ standing number front block → (before : Lines) (first : List Item) (others behind : Lines)
-    → full_lines (page_items page) ≡ before ++ ((first ∷ others) ++ behind) → AllTrue (open_after [] (written_rows 0 before)) → EndApart (written_rows 0 before)
-    → AreOfText (tables_behind 0 before) (first ∷ others) → BeginApart (rows_from (tables_behind 0 before) behind) → size front ≡ begins_at before first
-    → block ≡ para (map text_row (first ∷ others)) → Answer pages page i is t a
-text_case pages page i is t n a number front block is_it before first others behind are cells apart texts stops at tree_is =
-    by (ended_decided (sources (led_by first))) (text_decided 0 (first ∷ others)) (bool_decided (begins_unmarked (content (joined (past_marks first ∷ others)))) true)
+-- where its lines are the page's own, or not
+by_place : (pages : Pages) (page : List ℕ) (i : ℕ) (is : List ℕ) (t : Tree) (n : IsNodeAt pages page i is t) (a : AreAllChosen pages page) (s : StandsIn pages page t) (o : Told)
+    (rest : Lines) → full_lines (expanded_page pages page).items ≡ all_lines (lined o ∷ []) rest → AreTold (o ∷ []) rest
+    → (OwnRound (lined o) rest → s.block ≡ block_tree (lined o).block (lined o).text) → size s.before ≡ start_of 0 o
+    → AllFrom None (content (own_items (lined o))) → Answer pages page i is t a n.utf8 n.unrefused n.closed
+by_place pages page i is t n a s o rest are told tree_so at own =
+    by (beside_call_decided (joined (lined o).before) o) (functions_decided (content (own_items (lined o)))) (texts_decided (expanded_page pages page) (joined (lined o).before) o)
+    (calm_decided (content (own_items (lined o))))
+  where
+    by : Decided (IsBesideNoCall (joined (lined o).before) o) → Decided (AreNoFunctions (content (own_items (lined o))))
+        → Decided (IsBesideTexts (expanded_page pages page) (joined (lined o).before) o) → Decided (CallsNothing (content (own_items (lined o))))
+        → Answer pages page i is t a n.utf8 n.unrefused n.closed
+    by (inr f) b c d = inr (record { stands = s; begins_so = beside_a_call o rest are told at f })
+    by (inl x) (inr f) c d = inr (record { stands = s; begins_so = holds_a_function o rest are told at f })
+    by (inl x) (inl y) (inr f) d = inr (record { stands = s; begins_so = beside_a_text o rest are told at f })
+    by (inl x) (inl y) (inl z) (inr f) = inr (record { stands = s; begins_so = holds_a_pair o rest are told at f })
+    by (inl x) (inl y) (inl z) (inl w) =
+        inl (alone_told pages page i is t n a s o rest
+        (record {
+          utf8 = n.utf8;
+          closed = n.closed;
+          are = are;
+          told = told;
+          place = own_behind (expanded_page pages page) (joined (lined o).before) o own x y w z;
+        }) tree_so at)
+
+-- each line of text has something behind its marks
+texts_seen : (n : ℕ) (ls : Lines) → AreOfText n ls → AreSeen ls
+texts_seen n [] h = tt
+texts_seen n (l ∷ ls) h = (some_past n l (λ w. let wrong : line.Blank ≡ line.Text = sym w ∙ h.0 in absurd (cc)), texts_seen n ls h.1)
+
+-- the content of lines of the page
+content_ones : (pages : Pages) (page : List ℕ) (o : Told) (rest : Lines) → IsUtf8 page → refusal_of_page pages page ≡ None
+    → full_lines (expanded_page pages page).items ≡ all_lines (lined o ∷ []) rest → AreOnes (content (own_items (lined o)))
+content_ones pages page o rest u r are =
+    let own : List Item = own_items (lined o) in
+    let front : List Item = joined (lined o).before ++ (lined o).marks in
+    let all : (expanded_page pages page).items ≡ front ++ (own ++ joined rest) =
+    page_joined pages page (all_lines (lined o ∷ []) rest) are ∙ lines_joined (lined o) rest in
+    ones_front (content own) (ending own)
+    (subst AreOnes (sym (content_ending own)) (ones_front own (joined rest) (ones_behind front (own ++ joined rest) (subst AreOnes all (page_ones pages page u r)))))
+
+text_case : (pages : Pages) (page : List ℕ) (i : ℕ) (is : List ℕ) (t : Tree) (n : IsNodeAt pages page i is t) (a : AreAllChosen pages page) (s : StandsIn pages page t)
+    (before : Lines) (first : List Item) (others behind : Lines)
+    → full_lines (expanded_page pages page).items ≡ before ++ ((first ∷ others) ++ behind) → AllTrue (open_after [] (written_rows 0 before)) → EndApart (written_rows 0 before)
+    → AreOfText (tables_behind 0 before) (first ∷ others) → BeginApart (rows_from (tables_behind 0 before) behind) → size s.before ≡ begins_at before first
+    → s.block ≡ para (map text_row (first ∷ others)) → Answer pages page i is t a n.utf8 n.unrefused n.closed
+text_case pages page i is t n a s before first others behind are cells apart texts stops at tree_is =
+    by (ended_decided (sources (led_by first)))
   where
     m : ℕ
     m = length (open_after [] (written_rows 0 before))
@@ -251,43 +303,41 @@ text_case pages page i is t n a number front block is_it before first others beh
     here : AreOfText m (first ∷ others)
     here = subst (λ (j : ℕ). AreOfText j (first ∷ others)) (tables_same before) texts
 
-    except : IsExceptedAt (full_lines (page_items page)) (size front) → Answer pages page i is t a
-    except x = inr (record { number = number; before = front; block = block; is = is_it; begins_so = x })
+    line_is : led_by first ++ past_marks first ≡ first
+    line_is = led_whole first
 
-    unmarked_false : (v : Bool) → (v ≡ true → ⊥) → v ≡ false
-    unmarked_false true h = absurd (h refl)
-    unmarked_false false h = refl
+    except : IsExceptedAt (full_lines (expanded_page pages page).items) (size s.before) → Answer pages page i is t a n.utf8 n.unrefused n.closed
+    except x = inr (record { stands = s; begins_so = by_its_lines x })
 
-    by : Decided (AreEnded (sources (led_by first))) → Decided (AreOfText 0 (first ∷ others))
-        → Decided (begins_unmarked (content (joined (past_marks first ∷ others))) ≡ true) → Answer pages page i is t a
-    by (inr f) b c = except (unended_marks before first (others ++ behind) are at f)
-    by (inl e) (inr f) c = except (text_in_tables before first others behind are at texts f)
-    by (inl e) (inl b) (inr f) =
-        except (marked_text before first others behind are at (unmarked_false (begins_unmarked (content (joined (past_marks first ∷ others)))) f))
-    by (inl e) (inl b) (inl c) =
-        let seen : 1 ≤ length (past_marks first) =
-        some_past 0 first (λ w. let wrong : line.Blank ≡ line.Text = sym w ∙ b.0 in absurd (cc)) in
-        let own : AreLinesAt m (past_marks first ∷ others) =
-        (kind_led 0 first seen ∙ b.0, kind_led m first seen ∙ here.0, text_lines_at m others b.1 here.1) in
-        let told : AreTold (o ∷ []) behind = (
-          record { are_marks = led_marks first; ended = e; some = seen; in_cells = cells; apart = apart; own = (own, c) },
-          subst (λ (j : ℕ). BeginApart (rows_from j behind)) (tables_same before) stops,
-        ) in
-        let line_is : led_by first ++ past_marks first ≡ first = led_whole first in
-        let all : full_lines (page_items page) ≡ all_lines (lined o ∷ []) behind =
-        are ∙ ap (λ (l : List Item). before ++ ((l ∷ others) ++ behind)) (sym line_is) in
-        let round : OwnRound (lined o) behind = told_round page o behind n.utf8 n.calm n.closed all told in
-        let tree_so : block ≡ block_tree a_paragraph (lined o).text =
+    tree_so : OwnRound (lined o) behind → s.block ≡ block_tree (lined o).block (lined o).text
+    tree_so round =
         tree_is ∙ ap (λ (l : List Item). para (map text_row (l ∷ others))) (sym line_is)
         ∙ paragraph_is before (led_by first) (past_marks first) others behind round (led_marks first)
-        (subst (λ (l : List Item). AllText m (l ∷ others)) (sym line_is) (text_all m (first ∷ others) here)) in
-        inl (alone_told pages page i is t n a number front block is_it o behind all told tree_so (at ∙ begins_so before first o refl refl))
+        (subst (λ (l : List Item). AllText m (l ∷ others)) (sym line_is) (text_all m (first ∷ others) here))
 
-heading_case : (pages : Pages) (page : List ℕ) (i : ℕ) (is : List ℕ) (t : Tree) → Node pages page i is t → (a : AreAllTold page) (number : ℕ) (front : List Item)
-    (block : ItemTree) → t ≡ standing number front block → (before : Lines) (own : List Item) (behind : Lines)
-    → full_lines (page_items page) ≡ before ++ own ∷ behind → AllTrue (open_after [] (written_rows 0 before)) → kind_at (tables_behind 0 before) own ≡ line.Heading
-    → size front ≡ begins_at before own → block ≡ heading (content (past_marks own)) → Answer pages page i is t a
-heading_case pages page i is t n a number front block is_it before own behind are cells kind_is at tree_is =
+    by : Decided (AreEnded (sources (led_by first))) → Answer pages page i is t a n.utf8 n.unrefused n.closed
+    by (inr f) = except (unended_marks before first (others ++ behind) are at f)
+    by (inl e) =
+        let seen : 1 ≤ length (past_marks first) =
+        some_past m first (λ w. let wrong : line.Blank ≡ line.Text = sym w ∙ here.0 in absurd (cc)) in
+        let own : AreLinesAt m (past_marks first ∷ others) = (kind_led m first seen ∙ here.0, text_lines_at m others here.1) in
+        let unled : marks_len (content (joined (past_marks first ∷ others))) ≡ 0 =
+        first_unled (past_marks first) (joined others) seen (past_unled first) in
+        let told : AreTold (o ∷ []) behind = (
+          record { are_marks = led_marks first; ended = e; some = seen; in_cells = cells; apart = apart; own = (own, unled) },
+          subst (λ (j : ℕ). BeginApart (rows_from j behind)) (tables_same before) stops,
+        ) in
+        let all : full_lines (expanded_page pages page).items ≡ all_lines (lined o ∷ []) behind =
+        are ∙ ap (λ (l : List Item). before ++ ((l ∷ others) ++ behind)) (sym line_is) in
+        by_place pages page i is t n a s o behind all told tree_so (at ∙ begins_so before first o refl refl)
+        (text_own_lines first others s.block tree_is (own_tree pages page i is t n s) (texts_seen m (first ∷ others) here)
+        (content_ones pages page o behind n.utf8 n.unrefused all))
+
+heading_case : (pages : Pages) (page : List ℕ) (i : ℕ) (is : List ℕ) (t : Tree) (n : IsNodeAt pages page i is t) (a : AreAllChosen pages page) (s : StandsIn pages page t)
+    (before : Lines) (own : List Item) (behind : Lines)
+    → full_lines (expanded_page pages page).items ≡ before ++ own ∷ behind → AllTrue (open_after [] (written_rows 0 before)) → kind_at (tables_behind 0 before) own ≡ line.Heading
+    → size s.before ≡ begins_at before own → s.block ≡ heading (content (past_marks own)) → Answer pages page i is t a n.utf8 n.unrefused n.closed
+heading_case pages page i is t n a s before own behind are cells kind_is at tree_is =
     by (ended_decided (sources (led_by own)))
   where
     m : ℕ
@@ -296,60 +346,57 @@ heading_case pages page i is t n a number front block is_it before own behind ar
     o : Told
     o = heading_told before own
 
-    except : IsExceptedAt (full_lines (page_items page)) (size front) → Answer pages page i is t a
-    except x = inr (record { number = number; before = front; block = block; is = is_it; begins_so = x })
-
-    by : Decided (AreEnded (sources (led_by own))) → Answer pages page i is t a
-    by (inr f) = except (unended_marks before own behind are at f)
+    by : Decided (AreEnded (sources (led_by own))) → Answer pages page i is t a n.utf8 n.unrefused n.closed
+    by (inr f) = inr (record { stands = s; begins_so = by_its_lines (unended_marks before own behind are at f) })
     by (inl e) =
         let here : kind_at m own ≡ line.Heading = subst (λ (j : ℕ). kind_at j own ≡ line.Heading) (tables_same before) kind_is in
         let seen : 1 ≤ length (past_marks own) = some_past m own (λ v. let wrong : line.Blank ≡ line.Heading = sym v ∙ here in absurd (cc)) in
         let head : IsLinedHeading m (past_marks own) = record {
           is_heading = kind_led m own seen ∙ here;
-          first = head_begins page before own behind n.utf8 are m here seen;
+          first = head_begins pages page before own behind n.utf8 n.unrefused are m here seen;
         } in
         let told : AreTold (o ∷ []) behind = (
           record { are_marks = led_marks own; ended = e; some = seen; in_cells = cells; apart = tt; own = head },
           tt,
         ) in
-        let all : full_lines (page_items page) ≡ all_lines (lined o ∷ []) behind =
+        let all : full_lines (expanded_page pages page).items ≡ all_lines (lined o ∷ []) behind =
         are ∙ ap (λ (l : List Item). before ++ l ∷ behind) (sym (led_whole own)) in
-        let round : OwnRound (lined o) behind = told_round page o behind n.utf8 n.calm n.closed all told in
-        let tree_so : block ≡ block_tree (lined o).block (lined o).text = tree_is ∙ heading_is before (led_by own) (past_marks own) behind round in
-        inl (alone_told pages page i is t n a number front block is_it o behind all told tree_so (at ∙ begins_so before own o refl refl))
+        by_place pages page i is t n a s o behind all told (λ round. tree_is ∙ heading_is before (led_by own) (past_marks own) behind round)
+        (at ∙ begins_so before own o refl refl)
+        (heading_own_lines own s.block tree_is (own_tree pages page i is t n s) (content_ones pages page o behind n.utf8 n.unrefused all))
 
-by_lines : (pages : Pages) (page : List ℕ) (i : ℕ) (is : List ℕ) (t : Tree) → Node pages page i is t → (a : AreAllTold page) (number : ℕ) (front : List Item)
-    (block : ItemTree) → t ≡ standing number front block → IsOfLines (full_lines (page_items page)) (size front) block → Answer pages page i is t a
-by_lines pages page i is t n a number front block is_it (of_lines before first others behind are cells apart texts stops at tree_is) =
-    text_case pages page i is t n a number front block is_it before first others behind are cells apart texts stops at tree_is
-by_lines pages page i is t n a number front block is_it (of_line before own behind are cells kind_is at tree_is) =
-    heading_case pages page i is t n a number front block is_it before own behind are cells kind_is at tree_is
-by_lines pages page i is t n a number front block is_it (behind_a_sign before first others behind are unended at tree_is) =
-    inr (record { number = number; before = front; block = block; is = is_it; begins_so = text_on_a_sign before first others behind are unended at })
+by_lines : (pages : Pages) (page : List ℕ) (i : ℕ) (is : List ℕ) (t : Tree) (n : IsNodeAt pages page i is t) (a : AreAllChosen pages page) (s : StandsIn pages page t)
+    → IsOfLines (full_lines (expanded_page pages page).items) (size s.before) s.block → Answer pages page i is t a n.utf8 n.unrefused n.closed
+by_lines pages page i is t n a s (of_lines before first others behind are cells apart texts stops at tree_is) =
+    text_case pages page i is t n a s before first others behind are cells apart texts stops at tree_is
+by_lines pages page i is t n a s (of_line before own behind are cells kind_is at tree_is) =
+    heading_case pages page i is t n a s before own behind are cells kind_is at tree_is
+by_lines pages page i is t n a s (behind_a_sign before first others behind are unended at tree_is) =
+    inr (record { stands = s; begins_so = by_its_lines (text_on_a_sign before first others behind are unended at) })
 
-complete_at : (pages : Pages) (page : List ℕ) → IsUtf8 page → CallsNothing (page_items page) → HasNoGroups page → EndsClosed page [] → (a : AreAllTold page)
-    (p : List ℕ) (t : Tree) → IsAtPath p (called_tree pages page) t → IsTextBlock (label t).kind → is_tangled (expanded_page pages page) page t ≡ false
-    → ((s : AreSome a.ts) × IsOneOf p (taken_at pages page a.ts a.behind (a.told s)).paths) ⊎ IsExcepted page t
-complete_at pages page u calm groups closed a [] t e b f = absurd (body_none pages page t u calm e b)
-complete_at pages page u calm groups closed a (i ∷ is) t e b f =
-    let s : StandsOnLines page t = block_on_lines pages page (i ∷ is) t u calm groups e b in
-    let n : Node pages page i is t = record {
+complete_at : (pages : Pages) (page : List ℕ) (u : IsUtf8 page) (r : refusal_of_page pages page ≡ None) (c : EndsClosed page []) (a : AreAllChosen pages page)
+    (p : List ℕ) (t : Tree) → IsReachedAt p (called_tree pages page) t → IsTextBlock (label t).kind → HasNoGroup t → is_tangled (expanded_page pages page) page t ≡ false
+    → ((s : AreSome a.ts) × IsOneOf p (taken_at pages page a.ts a.behind (told_by_all pages page u r c a s)).paths) ⊎ IsExcepted pages page t
+complete_at pages page u r c a [] t e b g f = absurd (body_none pages page t u r e b)
+complete_at pages page u r c a (i ∷ is) t e b g f =
+    let s : StandsOnLines pages page t = block_on_lines pages page (i ∷ is) t u r e b in
+    let n : IsNodeAt pages page i is t = record {
       utf8 = u;
-      calm = calm;
-      ungrouped = groups;
-      closed = closed;
+      unrefused = r;
+      closed = c;
       there = below i is (called_tree pages page) t e;
       block = b;
+      ungrouped = g;
       untangled = f;
     } in
-    by_lines pages page i is t n a s.number s.before s.block s.is s.by_lines
+    by_lines pages page i is t n a s.stands s.by_lines
 
-pub all_blocks : (pages : Pages) (page : List ℕ) → IsUtf8 page → CallsNothing (page_items page) → HasNoGroups page → EndsClosed page [] → AllBlocksTold pages page
-all_blocks pages page u calm groups closed =
-    let a : AreAllTold page = told_together page u calm groups closed in
+pub all_blocks : (pages : Pages) (page : List ℕ) → IsUtf8 page → refusal_of_page pages page ≡ None → EndsClosed page [] → AllBlocksTold pages page
+all_blocks pages page u r c =
+    let a : AreAllChosen pages page = chosen_together pages page in
     record {
       ts = a.ts;
       behind = a.behind;
-      told = λ s. record { told = a.told s; taken = taken_at pages page a.ts a.behind (a.told s) };
-      complete = complete_at pages page u calm groups closed a;
+      told = λ s. let h : IsToldAmong pages page a.ts a.behind = told_by_all pages page u r c a s in record { told = h; taken = taken_at pages page a.ts a.behind h };
+      complete = complete_at pages page u r c a;
     }

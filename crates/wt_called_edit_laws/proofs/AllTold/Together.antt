@@ -1,30 +1,29 @@
--- All blocks that a page's lines tell are told at once.
-use Rattle.std.proofs.Common.{arith, ◌≡◌, ◌≤◌, ℕ, suc, ◌+◌, Bool, true, false, List, [], ◌∷◌, ◌++◌, length, take, drop, map, refl, sym, ap, ◌∙◌, subst, cond, codes}
-use Rattle.std.specs.Prelude.{◌&&◌, not}
+-- All blocks that the lines of an expanded page tell are told at once.
+use Rattle.std.proofs.Common.{arith, ◌≡◌, ◌≤◌, ℕ, suc, ◌+◌, Bool, true, false, None, List, [], ◌∷◌, ◌++◌, length, take, drop, map, refl, sym, ap, ◌∙◌, subst, cond, codes}
+use Rattle.std.specs.Prelude.{◌&&◌}
 use Rattle.std.specs.Str.{IsUtf8}
 use Rattle.std.specs.List.{list_all}
 use Rattle.wt_span.specs.Bytes.{begins}
 use Rattle.wt_span.specs.Items.{Item, char, whole, is_mark}
-use Rattle.wt_expand.specs.PageItems.{page_items}
+use Rattle.wt_expand.specs.PageCalls.{expanded_page}
+use Rattle.wt_expand.specs.Work.{Pages}
+use Rattle.wt_commands.specs.Answers.{refusal_of_page}
 use Rattle.wt_lines.specs.Lines.{content, full_lines}
 use Rattle.wt_tables.specs.Parts.{joined}
-use Rattle.wt_page.specs.Lines.{ending}
 use Rattle.wt_page.specs.Rows.{marks_len, signs}
-use Rattle.wt_checks.specs.Kept.{children as nodes_in}
-use Rattle.wt_isolation.specs.OpenTags.{any_ends_open}
-use Rattle.wt_part_laws.specs.Standing.{standing}
-use Rattle.wt_text_edit_laws.specs.TextBlocks.{block_tree}
-use Rattle.wt_text_edit_laws.specs.NoCalls.{CallsNothing}
-use Rattle.wt_text_edit_laws.specs.PageCuts.{begins_unmarked, EndsClosed}
-use Rattle.wt_text_edit_laws.specs.Parts.{HasNoGroups}
+use Rattle.wt_text_edit_laws.specs.PageCuts.{EndsClosed}
 use Rattle.wt_text_edit_laws.proofs.Paragraphs.Marks.{mark_sign}
-use Rattle.wt_called_edit_laws.specs.PlacedLines.{spots_by}
-use Rattle.wt_called_edit_laws.specs.PlacedSpots.{IsShut, AreShut}
-use Rattle.wt_called_edit_laws.specs.ToldLines.{Told, a_paragraph_of, a_heading_on, lined, IsToldAt, AreTold, IsToldPage}
-use Rattle.wt_called_edit_laws.specs.ToldTogether.{start_of, told_starts, IsAmongNumbers, AreSome, AreAllTold}
+use Rattle.wt_called_edit_laws.specs.PlacedLines.{all_lines, AreLined}
+use Rattle.wt_called_edit_laws.specs.ToldAmong.{IsToldAmong}
+use Rattle.wt_called_edit_laws.specs.ToldLines.{Told, a_paragraph_of, a_heading_on, lined, IsToldAt, AreTold}
+use Rattle.wt_called_edit_laws.specs.ToldTogether.{start_of, told_starts, IsAmongNumbers, AreSome}
+use Rattle.wt_called_edit_laws.proofs.Among.ToldAmong.{all_told}
+use Rattle.wt_called_edit_laws.proofs.AllTold.Chosen.{IsChosen, chosen, chosen_decided}
+use Rattle.wt_called_edit_laws.proofs.AllTold.ChosenLines.{meets_so, known_lines, in_no_group}
 use Rattle.wt_called_edit_laws.proofs.AllTold.LineKinds.{Lines, led_by, past_marks}
-use Rattle.wt_called_edit_laws.proofs.AllTold.Scans.{Answered, bool_decided, ToldFrom}
-use Rattle.wt_called_edit_laws.proofs.AllTold.Scanned.{Meets, AllMeet, Scan, scan}
+use Rattle.wt_called_edit_laws.proofs.AllTold.Scans.{ToldFrom}
+use Rattle.wt_called_edit_laws.proofs.AllTold.Scanned.{AllMeet, Scan, scan}
+use Rattle.wt_called_edit_laws.proofs.AllTold.ToldStarts.{are_own}
 
 -- ---- the marks that begin a line
 
@@ -56,16 +55,18 @@ parted (m ∷ ms) x xs h e =
       past = ap (λ (v : Bool). drop (cond v (1 + marks_len rest) 0) (m ∷ rest)) own ∙ ap (λ (n : ℕ). drop n (m ∷ rest)) z ∙ p.past;
     }
 
-mark_first : (x : Item) (xs : List Item) → is_mark x ≡ true → begins_unmarked (content (x ∷ xs)) ≡ true → ⊥
+mark_first : (x : Item) (xs : List Item) → is_mark x ≡ true → marks_len (content (x ∷ xs)) ≡ 0 → ⊥
 mark_first (char o b) xs e h = absurd (cc)
-mark_first (whole f o bs) [] e h = let nay : false ≡ true = sym (ap not e) ∙ h in absurd (cc)
-mark_first (whole f o bs) (y ∷ ys) e h = let nay : false ≡ true = sym (ap not e) ∙ h in absurd (cc)
+mark_first (whole f o bs) [] e h = let nay : 1 + 0 ≡ 0 = sym (ap (λ (v : Bool). cond v (1 + 0) 0) e) ∙ h in omega (arith, nay)
+mark_first (whole f o bs) (y ∷ ys) e h =
+    let n : ℕ = marks_len (content (y ∷ ys)) in
+    let nay : 1 + n ≡ 0 = sym (ap (λ (v : Bool). cond v (1 + n) 0) e) ∙ h in omega (arith, nay)
 
 unmarked : (v : Bool) → (v ≡ true → ⊥) → v ≡ false
 unmarked true h = absurd (h refl)
 unmarked false h = refl
 
-text_first : (x : Item) (xs : List Item) (r : Lines) → begins_unmarked (content (joined ((x ∷ xs) ∷ r))) ≡ true → is_mark x ≡ false
+text_first : (x : Item) (xs : List Item) (r : Lines) → marks_len (content (joined ((x ∷ xs) ∷ r))) ≡ 0 → is_mark x ≡ false
 text_first x xs r h = unmarked (is_mark x) (λ e. mark_first x (xs ++ joined r) e h)
 
 sign_first : (x : Item) (xs : List Item) → begins (codes "=") (signs (x ∷ xs)) ≡ true → is_mark x ≡ false
@@ -78,65 +79,89 @@ parted_told m (x ∷ xs) h some g = parted m x xs h (g x xs refl)
 
 -- ---- each that is told alone is among them
 
-alone_text : (page : List ℕ) (ls : Lines) (s : Scan IsShut [] false ls) → full_lines (page_items page) ≡ ls → (b : Lines) (m f : List Item) (r rest : Lines)
-    → IsToldPage page (a_paragraph_of b m f r ∷ []) rest → Parted m f → IsAmongNumbers (start_of 0 (a_paragraph_of b m f r)) (told_starts 0 s.ts)
-alone_text page ls s e b m f r rest h p =
+-- what a block that is told alone has
+record IsAlone (pages : Pages) (page : List ℕ) (t : Told) (rest : Lines) : Type 0 where
+  are : full_lines (expanded_page pages page).items ≡ all_lines (lined t ∷ []) rest
+  told : AreTold (t ∷ []) rest
+  here : IsChosen pages page (joined (lined t).before) t
+
+alone_text : (pages : Pages) (page : List ℕ) (s : Scan (chosen pages page) [] [] false (full_lines (expanded_page pages page).items)) (b : Lines) (m f : List Item)
+    (r rest : Lines) → IsAlone pages page (a_paragraph_of b m f r) rest → Parted m f → IsAmongNumbers (start_of 0 (a_paragraph_of b m f r)) (told_starts 0 s.ts)
+alone_text pages page s b m f r rest h p =
     let told : IsToldAt [] (a_paragraph_of b (led_by (m ++ f)) (past_marks (m ++ f)) r) =
     subst (λ (k : List Item). IsToldAt [] (a_paragraph_of b k (past_marks (m ++ f)) r)) (sym p.led)
     (subst (λ (k : List Item). IsToldAt [] (a_paragraph_of b m k r)) (sym p.past) h.told.0) in
-    let shut : Meets IsShut (a_paragraph_of b (led_by (m ++ f)) (past_marks (m ++ f)) r) =
-    subst (λ (k : List Item). Meets IsShut (a_paragraph_of b (led_by (m ++ f)) k r)) (sym p.past) h.shut.0 in
+    let here : IsChosen pages page (joined b) (a_paragraph_of b (led_by (m ++ f)) (past_marks (m ++ f)) r) =
+    subst (λ (k : List Item). IsChosen pages page (joined b) (a_paragraph_of b k (past_marks (m ++ f)) r)) (sym p.led)
+    (subst (λ (k : List Item). IsChosen pages page (joined b) (a_paragraph_of b m k r)) (sym p.past) h.here) in
     subst (λ (k : List Item). IsAmongNumbers (start_of 0 (a_paragraph_of b k f r)) (told_starts 0 s.ts)) p.led
-    (s.texts 0 b (m ++ f) r rest (sym e ∙ h.are) told h.told.1 (λ z. refl) shut)
+    (s.texts 0 b (m ++ f) r rest h.are told h.told.1 (λ z. refl) (meets_so pages page (a_paragraph_of b (led_by (m ++ f)) (past_marks (m ++ f)) r) here))
 
-alone_heading : (page : List ℕ) (ls : Lines) (s : Scan IsShut [] false ls) → full_lines (page_items page) ≡ ls → (b : Lines) (m l : List Item) (rest : Lines)
-    → IsToldPage page (a_heading_on b m l ∷ []) rest → Parted m l → IsAmongNumbers (start_of 0 (a_heading_on b m l)) (told_starts 0 s.ts)
-alone_heading page ls s e b m l rest h p =
+alone_heading : (pages : Pages) (page : List ℕ) (s : Scan (chosen pages page) [] [] false (full_lines (expanded_page pages page).items)) (b : Lines) (m l : List Item)
+    (rest : Lines) → IsAlone pages page (a_heading_on b m l) rest → Parted m l → IsAmongNumbers (start_of 0 (a_heading_on b m l)) (told_starts 0 s.ts)
+alone_heading pages page s b m l rest h p =
     let told : IsToldAt [] (a_heading_on b (led_by (m ++ l)) (past_marks (m ++ l))) =
     subst (λ (k : List Item). IsToldAt [] (a_heading_on b k (past_marks (m ++ l)))) (sym p.led)
     (subst (λ (k : List Item). IsToldAt [] (a_heading_on b m k)) (sym p.past) h.told.0) in
-    let shut : Meets IsShut (a_heading_on b (led_by (m ++ l)) (past_marks (m ++ l))) =
-    subst (λ (k : List Item). Meets IsShut (a_heading_on b (led_by (m ++ l)) k)) (sym p.past) h.shut.0 in
+    let here : IsChosen pages page (joined b) (a_heading_on b (led_by (m ++ l)) (past_marks (m ++ l))) =
+    subst (λ (k : List Item). IsChosen pages page (joined b) (a_heading_on b k (past_marks (m ++ l)))) (sym p.led)
+    (subst (λ (k : List Item). IsChosen pages page (joined b) (a_heading_on b m k)) (sym p.past) h.here) in
     subst (λ (k : List Item). IsAmongNumbers (start_of 0 (a_heading_on b k l)) (told_starts 0 s.ts)) p.led
-    (s.heads 0 b (m ++ l) rest (sym e ∙ h.are) told shut)
+    (s.heads 0 b (m ++ l) rest h.are told (meets_so pages page (a_heading_on b (led_by (m ++ l)) (past_marks (m ++ l))) here))
 
-alone : (page : List ℕ) (ls : Lines) (s : Scan IsShut [] false ls) → full_lines (page_items page) ≡ ls → (t : Told) (rest : Lines) → IsToldPage page (t ∷ []) rest
-    → IsAmongNumbers (start_of 0 t) (told_starts 0 s.ts)
-alone page ls s e (a_paragraph_of b m f r) rest h =
-    alone_text page ls s e b m f r rest h (parted_told m f h.told.0.are_marks h.told.0.some (λ x xs z. text_first x xs r
-    (subst (λ (k : List Item). begins_unmarked (content (joined (k ∷ r))) ≡ true) z h.told.0.own.1)))
-alone page ls s e (a_heading_on b m l) rest h =
-    alone_heading page ls s e b m l rest h (parted_told m l h.told.0.are_marks h.told.0.some (λ x xs z. sign_first x xs
+alone : (pages : Pages) (page : List ℕ) (s : Scan (chosen pages page) [] [] false (full_lines (expanded_page pages page).items)) (t : Told) (rest : Lines)
+    → IsAlone pages page t rest → IsAmongNumbers (start_of 0 t) (told_starts 0 s.ts)
+alone pages page s (a_paragraph_of b m f r) rest h =
+    alone_text pages page s b m f r rest h (parted_told m f h.told.0.are_marks h.told.0.some (λ x xs z. text_first x xs r
+    (subst (λ (k : List Item). marks_len (content (joined (k ∷ r))) ≡ 0) z h.told.0.own.1)))
+alone pages page s (a_heading_on b m l) rest h =
+    alone_heading pages page s b m l rest h (parted_told m l h.told.0.are_marks h.told.0.some (λ x xs z. sign_first x xs
     (subst (λ (k : List Item). begins (codes "=") (signs k) ≡ true) z h.told.0.own.first)))
 
 -- ---- all of them
+
+-- those that are chosen, and each that is chosen alone is among them
+pub record AreAllChosen (pages : Pages) (page : List ℕ) : Type 0 where
+  pub ts : List Told
+  pub behind : Lines
+  pub are : full_lines (expanded_page pages page).items ≡ all_lines (map lined ts) behind
+  pub meet : AllMeet (chosen pages page) [] ts
+  pub told : AreSome ts → AreTold ts behind
+  pub all : (t : Told) (rest : Lines) → full_lines (expanded_page pages page).items ≡ all_lines (lined t ∷ []) rest → AreTold (t ∷ []) rest
+      → IsChosen pages page (joined (lined t).before) t → IsAmongNumbers (start_of 0 t) (told_starts 0 ts)
 
 are_told : (ts : List Told) (behind : Lines) → AreSome ts → ToldFrom [] ts behind → AreTold ts behind
 are_told [] behind s h = absurd s
 are_told (t ∷ ts) behind s h = h
 
-all_shut : (es : List Item) (ts : List Told) → AllMeet IsShut ts → AreShut (spots_by es (map lined ts))
-all_shut es [] h = tt
-all_shut es (t ∷ ts) h = (h.0, all_shut (ending (joined ((lined t).first ∷ (lined t).more))) ts h.1)
-
-shut_answered : Answered IsShut
-shut_answered k q = bool_decided (any_ends_open (nodes_in (standing 0 [] (block_tree k q)))) false
-
-pub told_together : (page : List ℕ) → IsUtf8 page → CallsNothing (page_items page) → HasNoGroups page → EndsClosed page [] → AreAllTold page
-told_together page u calm apart closed =
-    let ls : Lines = full_lines (page_items page) in
-    let s : Scan IsShut [] false ls = scan IsShut shut_answered (length ls) [] false ls (omega arith) in
+pub chosen_together : (pages : Pages) (page : List ℕ) → AreAllChosen pages page
+chosen_together pages page =
+    let ls : Lines = full_lines (expanded_page pages page).items in
+    let s : Scan (chosen pages page) [] [] false ls = scan (chosen pages page) (chosen_decided pages page) (length ls) [] [] false ls (omega arith) in
     record {
       ts = s.ts;
       behind = s.behind;
-      told = λ some. record {
-        utf8 = u;
-        calls_nothing = calm;
-        ungrouped = apart;
-        closed = closed;
-        are = s.are;
-        told = are_told s.ts s.behind some s.told;
-        shut = all_shut [] s.ts s.asked;
-      };
-      all = alone page ls s refl;
+      are = s.are;
+      meet = s.asked;
+      told = λ some. are_told s.ts s.behind some s.told;
+      all = λ t rest are told here. alone pages page s t rest (record { are = are; told = told; here = here });
+    }
+
+-- so the page is told by them
+pub told_by_all : (pages : Pages) (page : List ℕ) → IsUtf8 page → refusal_of_page pages page ≡ None → EndsClosed page [] → (a : AreAllChosen pages page) → AreSome a.ts
+    → IsToldAmong pages page a.ts a.behind
+told_by_all pages page u r closed a some =
+    let known = known_lines pages page a.ts a.meet in
+    let lines : AreLined (map lined a.ts) a.behind =
+    all_told pages page a.ts a.behind (record { closed = closed; are = a.are; told = a.told some; own = known.0; untouched = known.1 }) in
+    record {
+      utf8 = u;
+      closed = closed;
+      are = a.are;
+      told = a.told some;
+      own = known.0;
+      free = known.2;
+      untouched = known.1;
+      unrefused = r;
+      in_no_group = in_no_group pages page a.ts a.meet (are_own (map lined a.ts) a.behind lines);
     }

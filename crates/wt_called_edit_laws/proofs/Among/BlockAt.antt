@@ -11,8 +11,7 @@ use Rattle.wt_expand.specs.Work.{Pages}
 use Rattle.wt_text_edit_laws.specs.PageCuts.{AreBlockItems, EndsClosed}
 use Rattle.wt_text_edit_laws.specs.TextBlocks.{TextBlock, source_of}
 use Rattle.wt_text_edit_laws.proofs.Cuts.ItemCuts.{HaveBytes}
-use Rattle.wt_text_edit_laws.proofs.Cuts.Unmarked.{unmarked_before}
-use Rattle.wt_beside_laws.proofs.Derived.BlockContents.{block_unmarked}
+use Rattle.wt_beside_laws.proofs.Derived.BlockContents.{block_seen, seen_with}
 use Rattle.wt_beside_laws.proofs.Derived.BodyRead.{parts_are}
 use Rattle.wt_called_edit_laws.specs.CalledContents.{StayText}
 use Rattle.wt_called_edit_laws.specs.LinedAmong.{AreOfPage, AreBeside}
@@ -221,9 +220,9 @@ block_closed page k q front os behind whole block is_source some closed = closed
         let again : page_items (sources front ++ (sources (os ++ break) ++ sources [])) ≡ front ++ ((os ++ break) ++ []) =
         ap page_items (parts_are (page ++ 10 ∷ []) front (os ++ break) [] more) ∙ more in
         let line : page_items (sources (os ++ break)) ≡ os ++ break =
-        own_alone front (os ++ break) [] again (unmarked_before os [] (block_unmarked k q os block)) in
+        own_alone front (os ++ break) [] again (seen_with os break (block_seen k q os block)) in
         let now : page_items (page_bytes_of front os) ≡ front ++ (os ++ []) = page_again page front os all in
-        let own : page_items (sources os) ≡ os = own_alone front os [] now (block_unmarked k q os block) in
+        let own : page_items (sources os) ≡ os = own_alone front os [] now (block_seen k q os block) in
         let bytes : sources (os ++ break) ≡ source_of k q ++ 10 ∷ [] = flat_map-append source os break ∙ ap (λ (bs : List ℕ). bs ++ 10 ∷ []) is_source in
         sym (ap page_items bytes) ∙ line ∙ ap (λ zs. zs ++ break) (sym own ∙ ap page_items is_source)
 
@@ -270,7 +269,7 @@ block_here pages page p xs ms os k q ys qs r ends marks own block is_source besi
       marked = marked;
       marks = have_front ms second.behind (subst HaveBytes second.is first.next.some);
       some = have_front os third.behind (subst HaveBytes third.is at_block.some);
-      alone = ap page_items (sym is_source) ∙ own_alone front os third.behind again (block_unmarked k q os block);
+      alone = ap page_items (sym is_source) ∙ own_alone front os third.behind again (block_seen k q os block);
       stays = λ n h. stays_so k n q front os third.behind block again h;
       closed = block_closed page k q front os third.behind whole block is_source at_behind;
       first = subst (λ (n : ℕ). IsClear n 0 (members_of page)) size second.clear;

@@ -6,7 +6,7 @@ use Rattle.wt_span.specs.Runs.{IsRun, AreRuns}
 use Rattle.wt_span.proofs.RunLaws.{runs_are}
 use Rattle.wt_annotated.specs.Seams.{last_of, text_from}
 use Rattle.wt_annotated.proofs.Seams.{last_append}
-use Rattle.wt_lines.specs.Lines.{goes_on, content}
+use Rattle.wt_lines.specs.Lines.{goes_on, content, full_lines}
 use Rattle.wt_page.specs.Lines.{ending}
 use Rattle.wt_tables.specs.Parts.{joined}
 use Rattle.wt_expand.specs.PageCalls.{expanded_page}
@@ -21,7 +21,7 @@ use Rattle.wt_called_edit_laws.specs.LinedAmong.{AreOfPage, AreOwnLines, AreBesi
 use Rattle.wt_called_edit_laws.specs.LinedHeadings.{sides_of, text_of, IsLinedHeading}
 use Rattle.wt_called_edit_laws.specs.PlacedLines.{LinedBlock, all_lines, OwnLined, IsLinedAt, AreLinedAfter, AreLined}
 use Rattle.wt_called_edit_laws.specs.ToldAmong.{IsToldAmong}
-use Rattle.wt_called_edit_laws.specs.ToldLines.{Told, a_paragraph_of, a_heading_on, lined, OwnTold, rows_before, IsToldAt, AreToldAfter}
+use Rattle.wt_called_edit_laws.specs.ToldLines.{Told, a_paragraph_of, a_heading_on, lined, OwnTold, rows_before, IsToldAt, AreToldAfter, AreTold}
 use Rattle.wt_called_edit_laws.proofs.Among.BlockAt.{calls_of, IsRest, text_to, block_to, IsPast, IsPastOwn, past_front, past_own, no_bytes, beside_first, beside_front, beside_last}
 use Rattle.wt_called_edit_laws.proofs.Among.LinedParts.{IsLeft, left_none, line_front, IsLinedHere, lined_here, own_breaks, of_behind, of_front, page_rest}
 use Rattle.wt_called_edit_laws.proofs.Among.OwnItems.{from_page}
@@ -105,7 +105,7 @@ own_told pages page (a_heading_on before marks l) n p es tail qs xs some runs r 
     heading_here pages page n p xs_before marks l (joined tail) qs there ends (of_front marks (l ++ []) own) mine near closed run h in
     subst (λ (ys : List Item). AreHeadingItems (sides_of (content l)) (text_of (content l)) (content ys)) (sym one) head
 
-told_at : (pages : Pages) (page : List ℕ) (open_tables : List Bool) (t : Told) (p : ℕ) (es : List Item) (tail : List (List Item)) (qs xs : List Item)
+pub told_at : (pages : Pages) (page : List ℕ) (open_tables : List Bool) (t : Told) (p : ℕ) (es : List Item) (tail : List (List Item)) (qs xs : List Item)
     → AreRuns goes_on ((lined t).before ++ ((((lined t).marks ++ (lined t).first) ∷ (lined t).more) ++ tail)) xs → IsLeft es
     → IsRest pages page p (es ++ joined ((lined t).before ++ ((((lined t).marks ++ (lined t).first) ∷ (lined t).more) ++ tail))) qs
     → last_of None (joined (lined t).before) ≡ None → AreOfPage ((lined t).marks ++ own_items (lined t))
@@ -148,7 +148,15 @@ told_after pages page last open_tables es (t ∷ ts) behind p qs xs runs f r h o
           l.here.behind (joined tail) l.around.tail_runs l.around.ends l.here.next h.2 own.3 c (subst (λ (n : ℕ). AreUntouched (calls_of pages page) (expanded_page pages page).text_calls n left (map lined ts)) l.next_at u.1),
     )
 
-all_told : (pages : Pages) (page : List ℕ) (ts : List Told) (behind : List (List Item)) → IsToldAmong pages page ts behind → AreLined (map lined ts) behind
+-- what tells the lines of blocks
+pub record AreToldLines (pages : Pages) (page : List ℕ) (ts : List Told) (behind : List (List Item)) : Type 0 where
+  pub closed : EndsClosed page []
+  pub are : full_lines (expanded_page pages page).items ≡ all_lines (map lined ts) behind
+  pub told : AreTold ts behind
+  pub own : AreOwnLines (map lined ts)
+  pub untouched : AreUntouched (expanded_page pages page).outer (expanded_page pages page).text_calls 0 [] (map lined ts)
+
+pub all_told : (pages : Pages) (page : List ℕ) (ts : List Told) (behind : List (List Item)) → AreToldLines pages page ts behind → AreLined (map lined ts) behind
 all_told pages page [] behind h = absurd h.told
 all_told pages page (t ∷ ts) behind h =
     let b : LinedBlock = lined t in
@@ -173,7 +181,7 @@ told_among pages page ts behind h = record {
   utf8 = h.utf8;
   closed = h.closed;
   are = h.are;
-  lined = all_told pages page ts behind h;
+  lined = all_told pages page ts behind (record { closed = h.closed; are = h.are; told = h.told; own = h.own; untouched = h.untouched });
   own = h.own;
   free = h.free;
   untouched = h.untouched;

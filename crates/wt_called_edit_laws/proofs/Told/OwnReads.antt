@@ -12,15 +12,14 @@ use Rattle.wt_part_laws.specs.Scans.{after_all}
 use Rattle.wt_text_edit_laws.specs.BlockSpots.{BlockSpot, spots_source}
 use Rattle.wt_text_edit_laws.specs.Contents.{IsContentOf}
 use Rattle.wt_text_edit_laws.specs.NoCalls.{braces, NonePairs, CallsNothing}
-use Rattle.wt_text_edit_laws.specs.PageCuts.{begins_unmarked, BeginsBreak, EndsThere, EndsClosed, IsSpotCut, AreFurtherCuts, AreCuts}
+use Rattle.wt_text_edit_laws.specs.PageCuts.{BeginsBreak, EndsThere, EndsClosed, IsSpotCut, AreFurtherCuts, AreCuts}
 use Rattle.wt_text_edit_laws.specs.TextBetween.{AreEnded}
 use Rattle.wt_text_edit_laws.specs.TextBlocks.{TextBlock, source_of, block_items}
 use Rattle.wt_text_edit_laws.proofs.Between.BraceWords.{pairs_behind}
+use Rattle.wt_text_edit_laws.proofs.Between.Fronts.{items_from}
 use Rattle.wt_text_edit_laws.proofs.Cuts.ItemCuts.{cut_from, page_cut, front_alone, alone_after}
-use Rattle.wt_text_edit_laws.proofs.Cuts.Unmarked.{unmarked_begins, unmarked_before}
 use Rattle.wt_text_edit_laws.proofs.Cuts.Utf8Cuts.{ended_utf8, there_utf8}
-use Rattle.wt_text_edit_laws.proofs.Prose.Uncommented.{BeginsUncommented}
-use Rattle.wt_beside_laws.proofs.Derived.BlockContents.{block_source, there_begins, read_alone, block_read, block_unmarked, unmarked_joined, first_unbraced, calm_between}
+use Rattle.wt_beside_laws.proofs.Derived.BlockContents.{block_source, there_begins, read_alone, block_read, BlockSeen, block_seen, seen_with, seen_alone, first_unbraced, calm_between}
 use Rattle.wt_called_edit_laws.specs.AnyBlocks.{open_behind_part, past_break}
 use Rattle.wt_called_edit_laws.specs.ItemSpots.{items_of_spots, placed_items}
 use Rattle.wt_called_edit_laws.specs.PlacedSpots.{AreFurtherIn, AreBlocksIn}
@@ -29,18 +28,20 @@ use Rattle.wt_called_edit_laws.proofs.Cells.ContentItems.{round_is}
 -- ---- nothing is open at the page's end, so nothing is at the end of what ends it
 
 part_closed : (front line : List ℕ) (before own : List Item) → page_items (front ++ line) ≡ before ++ own → sources before ≡ front → sources own ≡ line
-    → begins_unmarked own ≡ true → EndsClosed (front ++ line) [] → EndsClosed line []
-part_closed front line before own e is own_is unmarked closed =
+    → ((a : Bool) → items_from a 0 (line ++ 10 ∷ []) ≡ own ++ char None 10 ∷ [] → page_items (line ++ 10 ∷ []) ≡ own ++ char None 10 ∷ [])
+    → EndsClosed (front ++ line) [] → EndsClosed line []
+part_closed front line before own e is own_is alone closed =
     let break : List Item = char None 10 ∷ [] in
     let ended : List ℕ = line ++ 10 ∷ [] in
     let all : page_items (front ++ ended) ≡ before ++ (own ++ break) =
     ap page_items (sym (append_assoc front line (10 ∷ []))) ∙ closed ∙ ap (λ (xs : List Item). xs ++ break) e ∙ append_assoc before own break in
     let first = page_cut front ended before (own ++ break) all is in
-    let begins : BeginsUncommented ended =
-    unmarked_begins ended (after_all (lexer Page) false front)
-    (subst (λ (ys : List Item). begins_unmarked ys ≡ true) (sym first.behind) (unmarked_before own [] unmarked)) in
-    let read : page_items ended ≡ own ++ break = alone_after (after_all (lexer Page) false front) ended (own ++ break) begins first.behind in
+    let read : page_items ended ≡ own ++ break = alone (after_all (lexer Page) false front) first.behind in
     read ∙ ap (λ (xs : List Item). xs ++ break) (sym (front_alone line (10 ∷ []) own break read own_is))
+
+ended_there : (rest : List ℕ) → EndsThere rest → EndsThere (rest ++ 10 ∷ [])
+ended_there [] e = refl
+ended_there (b ∷ rest) e = e
 
 behind_closed : (line rest : List ℕ) → EndsClosed (line ++ rest) [] → EndsClosed line rest
 behind_closed line [] h = subst (λ (bs : List ℕ). EndsClosed bs []) (append-nil line) h
@@ -84,11 +85,10 @@ spot_is s rest zs c e u calm closed ended there =
     let rest_source : sources c.rest ≡ rest = sym (ap sources behind) ∙ page_sources rest in
     let both : sources (c.own ++ c.rest) ≡ line ++ rest =
     flat_map-append source c.own c.rest ∙ ap₂ (λ (bs : List ℕ) (cs : List ℕ). bs ++ cs) own_source rest_source in
-    let unmarked : begins_unmarked (c.own ++ c.rest) ≡ true = unmarked_joined c.own c.rest rest (block_unmarked s.block s.text c.own c.block) there behind in
-    let line_closed : EndsClosed (line ++ rest) [] = part_closed s.before (line ++ rest) c.before (c.own ++ c.rest) whole c.source both unmarked closed in
-    let begins : BeginsUncommented (line ++ rest) =
-    unmarked_begins (line ++ rest) a (subst (λ (ys : List Item). begins_unmarked ys ≡ true) (sym first.behind) unmarked) in
-    let all : page_items (line ++ rest) ≡ c.own ++ c.rest = alone_after a (line ++ rest) (c.own ++ c.rest) begins first.behind in
+    let seen : BlockSeen (c.own ++ c.rest) = seen_with c.own c.rest (block_seen s.block s.text c.own c.block) in
+    let line_closed : EndsClosed (line ++ rest) [] = part_closed s.before (line ++ rest) c.before (c.own ++ c.rest) whole c.source both
+    (λ v. seen_alone v ((line ++ rest) ++ 10 ∷ []) ((c.own ++ c.rest) ++ char None 10 ∷ []) (seen_with (c.own ++ c.rest) (char None 10 ∷ []) seen)) closed in
+    let all : page_items (line ++ rest) ≡ c.own ++ c.rest = seen_alone a (line ++ rest) (c.own ++ c.rest) seen first.behind in
     let alone = read_alone line c.own rest c.rest own_source there (behind_closed line rest line_closed) all behind in
     let before_parts = ended_utf8 s.before (line ++ rest) ended u in
     let line_parts = there_utf8 line rest there before_parts.1 in
@@ -108,7 +108,8 @@ spot_is s rest zs c e u calm closed ended there =
       rest_is = behind;
       rest_utf8 = line_parts.1;
       rest_calm = behind_calm c.before c.own c.rest calls;
-      rest_closed = part_closed line rest c.own c.rest all own_source rest_source (unmarked_joined [] c.rest rest refl there behind) line_closed;
+      rest_closed = part_closed line rest c.own c.rest all own_source rest_source
+          (λ v. alone_after v (rest ++ 10 ∷ []) (c.rest ++ char None 10 ∷ []) (there_begins (rest ++ 10 ∷ []) (ended_there rest there))) line_closed;
     }
 
 -- ---- all blocks
