@@ -3,10 +3,12 @@
 
 ghost use Rattle.std.specs.Prelude.{◌≡◌, ◌≤◌, false, List, [], ◌∷◌, ◌++◌, ℕ, length, map};
 ghost use Rattle.std.specs.Str.{IsUtf8};
-ghost use Rattle.wt_span.specs.Items.{Item};
+ghost use Rattle.wt_span.specs.Items.{Item, sources};
 ghost use Rattle.wt_span.specs.Origins.{Expanded};
 ghost use Rattle.wt_tree.specs.Tree.{Tree, label};
 ghost use Rattle.wt_lines.specs.Lines.{content, full_lines};
+ghost use Rattle.wt_page.specs.Lines.{ending};
+ghost use Rattle.wt_tables.specs.Parts.{joined};
 ghost use Rattle.wt_expand.specs.PageItems.{page_items};
 ghost use Rattle.wt_expand.specs.Work.{Pages};
 ghost use Rattle.wt_selser.specs.Edits.{is_tangled};
@@ -34,10 +36,11 @@ ghost use Rattle.wt_called_edit_laws.specs.ToldTogether.{AreAllTold};
 
 /// A heading's line is told by itself. Where one of a page's lines, behind the marks that begin it, is of a heading's kind and
 /// begins with `=` (`IsLinedHeading`), it is the line of a heading with the sides and the text that its delimiters give it, and no
-/// others are a line's; the text may be empty. At the page's end no comment and no hidden part is open.
+/// others are a line's; the text may be empty. Where the line ends the page, it holds no comment and no hidden part that nothing
+/// ends.
 pub fn headings_are_told_by_their_lines()
-    ensures told { (page : List ℕ) (before : List (List Item)) (marks : List Item) (l : List Item) (behind : List (List Item)) (n : ℕ) → EndsClosed page []
-        → 1 ≤ length l → full_lines (page_items page) ≡ before ++ (marks ++ l) ∷ behind → IsLinedHeading n l
+    ensures told { (page : List ℕ) (before : List (List Item)) (marks : List Item) (l : List Item) (behind : List (List Item)) (n : ℕ)
+        → EndsClosed (sources (content l)) (sources (ending l ++ joined behind)) → 1 ≤ length l → full_lines (page_items page) ≡ before ++ (marks ++ l) ∷ behind → IsLinedHeading n l
         → AreBlockItems (a_heading (sides_of (content l))) (text_of (content l)) (content l) }
     ensures only { (s : Sides) (q : List ℕ) (line : List Item) → AreBlockItems (a_heading s) q line → (sides_of line ≡ s) × (text_of line ≡ q) }
 {}

@@ -24,6 +24,7 @@ use Rattle.wt_text_edit_laws.specs.LonePages.{page_chars}
 use Rattle.wt_text_edit_laws.specs.TextBetween.{EndsBy, is_end, AreEnded, ends_comment}
 use Rattle.wt_text_edit_laws.proofs.Between.Fronts.{items_from, byte_from, form_from}
 use Rattle.wt_text_edit_laws.proofs.Cuts.ItemCuts.{page_from}
+use Rattle.wt_beside_laws.specs.OpenEnds.{MarksEnd}
 use Rattle.wt_beside_laws.proofs.Own.Words.{LexemeEnds, OptWordEnds, comment_ends, tag_end, inside_end, raw_end, reference_ends, reference_word, sign_ends, ends_taken}
 
 -- ---- a comment and a hidden part that go on to the text's end
@@ -205,12 +206,6 @@ pub any_ends : (a : Bool) (bs : List ℕ) (kind : LexKind) (n : ℕ) → form_at
 any_ends a bs kind n e = let P : Option Word → Type 0 = OptAnyEnds a bs in subst P e (form_any a bs)
 
 -- ---- the marks of a page: one behind which another item is ends with a `>` or a line break
-
--- each but the last
-abbrev pub MarksEnd : List Item → Type 0
-MarksEnd [] = Unit {0}
-MarksEnd (x ∷ []) = Unit {0}
-MarksEnd (x ∷ y ∷ ys) = (is_mark x ≡ true → AreEnded (source x)) × MarksEnd (y ∷ ys)
 
 mark_before : (x : Item) (rest : List Item) → ((y : Item) (ys : List Item) → rest ≡ y ∷ ys → is_mark x ≡ true → AreEnded (source x)) → MarksEnd rest → MarksEnd (x ∷ rest)
 mark_before x [] f h = tt

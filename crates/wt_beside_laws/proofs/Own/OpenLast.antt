@@ -45,6 +45,7 @@ use Rattle.wt_text_edit_laws.proofs.Between.LineWords.{either}
 use Rattle.wt_text_edit_laws.proofs.Cuts.ItemCuts.{page_from}
 use Rattle.wt_text_edit_laws.proofs.Cuts.SignBytes.{AreSigns, IsAnyWord, any_word}
 use Rattle.wt_text_edit_laws.proofs.Prose.Uncommented.{uncommented_other, either_flag}
+use Rattle.wt_beside_laws.specs.OpenEnds.{is_shown, ShownLast}
 use Rattle.wt_beside_laws.proofs.Derived.BlockContents.{there_begins}
 use Rattle.wt_beside_laws.proofs.Marks.LedItems.{remarks_all}
 use Rattle.wt_beside_laws.proofs.Own.OpenEnds.{OpenComment, OpenHidden, LineEnds, AnyEnds, any_ends, open_comment_len}
@@ -52,15 +53,6 @@ use Rattle.wt_beside_laws.proofs.Own.Words.{LexemeEnds}
 use Rattle.wt_beside_laws.proofs.Own.Reading.{Flag, flag_behind, lexeme_break, signs_break}
 
 -- ---- what a line shows
-
--- neither a mark, nor a blank or a line break
-abbrev pub is_shown : Item → Bool
-is_shown x = not (is_idle (sign x)) && not (is_break_item x)
-
--- something is shown, and no line break is behind it
-abbrev pub ShownLast : List Item → Type 0
-ShownLast [] = ⊥
-ShownLast (x ∷ xs) = ((is_shown x ≡ true) × NoBreaks xs) ⊎ ShownLast xs
 
 abbrev NoneShown : List Item → Type 0
 NoneShown [] = Unit {0}
@@ -387,7 +379,7 @@ tag_short b q n e h = two_ends (get_or (with_break b q) (n - 1) 0) (last_ten b q
 
 none_more : (name ys rest : List ℕ) → to_closing name (ys ++ rest) ≡ None → to_closing name ys ≡ None
 none_more name [] rest e = refl
-none_more name (b ∷ ys) rest e = by (len_if_named name (closing_tag bs)) (to_closing name (ys ++ rest)) refl refl e
+none_more name (b ∷ ys) rest e = by (len_if_named name (closing_tag bs)) (to_closing name (ys ++ rest)) refl refl e (λ f. none_more name ys rest f)
   where
     bs : List ℕ
     bs = (b ∷ ys) ++ rest
@@ -398,12 +390,13 @@ none_more name (b ∷ ys) rest e = by (len_if_named name (closing_tag bs)) (to_c
         let cut : closing_tag (take (suc (length ys)) bs) ≡ Some t = ap closing_tag (take-append_seam (b ∷ ys) rest) ∙ f in
         ap (len_if_named name) (sym (closing_more bs t (suc (length ys)) cut)) ∙ e
 
-    by : (o p : Option ℕ) → len_if_named name (closing_tag bs) ≡ o → to_closing name (ys ++ rest) ≡ p → option_or o (option_map (λ n. 1 + n) p) ≡ None → to_closing name (b ∷ ys) ≡ None
-    by None None f g e =
+    by : (o p : Option ℕ) → len_if_named name (closing_tag bs) ≡ o → to_closing name (ys ++ rest) ≡ p → option_or o (option_map (λ n. 1 + n) p) ≡ None
+        → (to_closing name (ys ++ rest) ≡ None → to_closing name ys ≡ None) → to_closing name (b ∷ ys) ≡ None
+    by None None f g e go =
         ap (λ (o : Option ℕ). option_or o (option_map (λ n. 1 + n) (to_closing name ys))) (own f (closing_tag (b ∷ ys)) refl)
-        ∙ ap (option_map (λ n. 1 + n)) (none_more name ys rest g)
-    by None (Some n) f g e = absurd (cc)
-    by (Some n) p f g e = absurd (cc)
+        ∙ ap (option_map (λ n. 1 + n)) (go g)
+    by None (Some n) f g e go = absurd (cc)
+    by (Some n) p f g e go = absurd (cc)
 
 inside_none : (t : Tag) (q rest : List ℕ) → t.len ≤ length q → with_inside t (q ++ rest) ≡ None → with_inside t q ≡ None
 unfolding with_inside
@@ -654,3 +647,6 @@ closed_end q s c =
     (reads_either (10 ∷ []) (char None 10 ∷ []) (there_begins (10 ∷ []) refl)
     (subst (λ (xs : List Item). ReadsAfter false (10 ∷ []) xs) break_alone (alone_reads (10 ∷ [])))) in
     page_read (q ++ 10 ∷ []) (page_items q ++ char None 10 ∷ []) (front_reads q (10 ∷ []) (char None 10 ∷ []) ends behind)
+
+pub closed_page : (page : List ℕ) → ShownLast (page_items page) → is_unclosed_item (last_of (page_items page)) ≡ false → EndsClosed page []
+closed_page page s e = closed_end page s (last_closed (page_items page) e)
