@@ -11,6 +11,7 @@ pub mod LineKinds
 pub mod Scans
 pub mod Scanned
 pub mod RowBlocks
+pub mod ClosedBlocks
 pub mod Together
 pub mod LineBlocks
 pub mod Starts

@@ -15,7 +15,7 @@ use Rattle.wt_selser.specs.Edits.{is_tangled}
 use Rattle.wt_text_edit_laws.specs.BodyParagraphs.{EndWhole}
 use Rattle.wt_text_edit_laws.specs.PageCuts.{begins_unmarked}
 use Rattle.wt_text_edit_laws.specs.ParagraphBetween.{tables_behind}
-use Rattle.wt_text_edit_laws.specs.TextBetween.{AreEnded}
+use Rattle.wt_text_edit_laws.specs.Unclosed.{holds_unclosed}
 use Rattle.wt_called_edit_laws.specs.ContentsTaken.{TakesContents}
 use Rattle.wt_called_edit_laws.specs.Groups.{called_tree}
 use Rattle.wt_called_edit_laws.specs.PlacedLines.{spots_by, end_by}
@@ -36,8 +36,9 @@ abbrev mutual
 
 -- ---- what lines don't tell
 
--- At this byte one of these begins, behind the marks before it: text behind the `|}` of a table's end or the `-` of a rule, on the same line; text that begins with blanks and a mark behind them; lines that are text with as many tables open as there are, and of which one is none where no table is open, as
--- the `{|` of one that can't be opened; and a block whose marks don't end with a `>` or a line break.
+-- At this byte one of these begins, behind the marks before it: text behind the `|}` of a table's end or the `-` of a rule, on the same line; text that
+-- begins with blanks and a mark behind them; and lines that are text with as many tables open as there are, and of which one is none where no table is
+-- open, as the `{|` of one that can't be opened.
 pub data IsExceptedAt (ls : List (List Item)) (at : ℕ) : Type 0 where
   text_on_a_sign : (before : List Row) (first : Row) (others behind : List Row) → rows_from 0 ls ≡ before ++ ((first ∷ others) ++ behind)
       → (EndWhole before → ⊥) → at ≡ begins_behind before first → IsExceptedAt ls at
@@ -45,8 +46,6 @@ pub data IsExceptedAt (ls : List (List Item)) (at : ℕ) : Type 0 where
       → at ≡ begins_at before first → begins_unmarked (content (joined (drop (marks_len first) first ∷ others))) ≡ false → IsExceptedAt ls at
   text_in_tables : (before : List (List Item)) (first : List Item) (others behind : List (List Item)) → ls ≡ before ++ ((first ∷ others) ++ behind)
       → at ≡ begins_at before first → AreOfText (tables_behind 0 before) (first ∷ others) → (AreOfText 0 (first ∷ others) → ⊥) → IsExceptedAt ls at
-  unended_marks : (before : List (List Item)) (first : List Item) (behind : List (List Item)) → ls ≡ before ++ first ∷ behind
-      → at ≡ begins_at before first → (AreEnded (sources (take (marks_len first) first)) → ⊥) → IsExceptedAt ls at
 
 -- a node of a page's tree that begins so
 pub record IsExcepted (page : List ℕ) (t : Tree) : Type 0 where
@@ -67,11 +66,12 @@ pub record ToldAtPaths (pages : Pages) (page : List ℕ) (ts : List Told) (behin
   pub told : IsToldPage page ts behind
   pub taken : TakesContents pages (spots_by [] (map lined ts)) (end_by [] (map lined ts) behind)
 
--- Some blocks are told by their lines, if there is one. Each paragraph and heading of the page's tree that isn't tangled is at the path of one of
--- these, or it is one of the excepted.
+-- Some blocks are told by their lines, if there is one. Each paragraph and heading of the page's tree that isn't tangled and holds no unclosed mark is at
+-- the path of one of these, or it is one of the excepted.
 pub record AllBlocksTold (pages : Pages) (page : List ℕ) : Type 0 where
   pub ts : List Told
   pub behind : List (List Item)
   pub told : AreSome ts → ToldAtPaths pages page ts behind
   pub complete : (p : List ℕ) (t : Tree) → IsAtPath p (called_tree pages page) t → IsTextBlock (label t).kind → is_tangled (expanded_page pages page) page t ≡ false
+      → holds_unclosed (expanded_page pages page).items page (label t).ranges ≡ false
       → ((s : AreSome ts) × IsOneOf p (told s).taken.paths) ⊎ IsExcepted page t

@@ -86,16 +86,16 @@ pub fn each_block_stands_on_lines()
         → IsAtPath p (called_tree pages page) t → IsTextBlock (label t).kind → StandsOnLines page t }
 {}
 
-/// All paragraphs and headings that the lines of a page tell are told at once (`AreAllTold`): of a page that calls nothing, that
-/// has no node that can only be kept as a whole, and at whose end no comment and no hidden part is open.
+/// All paragraphs and headings that the lines of a page tell are told at once (`AreAllTold`): of a page that calls nothing, and
+/// that has no node that can only be kept as a whole.
 pub fn told_blocks_are_told_together()
-    ensures all { (page : List ℕ) → IsUtf8 page → CallsNothing (page_items page) → HasNoGroups page → EndsClosed page [] → AreAllTold page }
+    ensures all { (page : List ℕ) → IsUtf8 page → CallsNothing (page_items page) → HasNoGroups page → AreAllTold page }
 {}
 
-/// So each paragraph and heading of such a page's tree that isn't tangled may be edited at its path, which is one of those of
-/// blocks that the lines tell; but for these: text behind the sign of a table's end or a rule on its line, text that begins with a
+/// So each paragraph and heading of such a page's tree that isn't tangled and holds no unclosed mark may be edited at its path,
+/// which is one of those of blocks that the lines tell; but for these: text behind the sign of a table's end or a rule on its line, text that begins with a
 /// mark behind blanks, and the others of `IsExceptedAt`.
 pub fn each_block_is_told_or_excepted()
-    ensures all { (pages : Pages) (page : List ℕ) → IsUtf8 page → CallsNothing (page_items page) → HasNoGroups page → EndsClosed page []
+    ensures all { (pages : Pages) (page : List ℕ) → IsUtf8 page → CallsNothing (page_items page) → HasNoGroups page
         → AllBlocksTold pages page }
 {}

@@ -4,12 +4,14 @@ use Rattle.std.specs.Prelude.{◌&&◌}
 use Rattle.std.specs.Str.{IsUtf8}
 use Rattle.std.specs.List.{list_all}
 use Rattle.wt_span.specs.Items.{Item, char, whole, is_mark, sign, sources}
+use Rattle.wt_span.specs.Origins.{Expanded}
 use Rattle.wt_tree.specs.Source.{flat}
 use Rattle.wt_tree.specs.Tree.{Tree, tree, Trees, none, more, label}
 use Rattle.wt_inline.specs.ItemTree.{ItemTree}
 use Rattle.wt_checks.specs.Kept.{children}
 use Rattle.wt_expand.specs.PageCalls.{expanded_page}
 use Rattle.wt_expand.specs.PageItems.{page_items}
+use Rattle.wt_expand.proofs.PageLaws.{page_has_no_calls}
 use Rattle.wt_expand.specs.Work.{Pages}
 use Rattle.wt_lines.specs.declared.kind.LineKind.TheVariants as line
 use Rattle.wt_lines.specs.Kinds.{kind_of_signs}
@@ -24,14 +26,15 @@ use Rattle.wt_part_laws.specs.Standing.{standing}
 use Rattle.wt_selser.specs.Edits.{is_tangled}
 use Rattle.wt_text_edit_laws.specs.BlockSpots.{BlockSpot, spots_source}
 use Rattle.wt_text_edit_laws.specs.NoCalls.{CallsNothing}
-use Rattle.wt_text_edit_laws.specs.PageCuts.{begins_unmarked, EndsClosed, IsUntangledAt}
+use Rattle.wt_text_edit_laws.specs.PageCuts.{begins_unmarked, EndClosed, IsUntangledAt}
 use Rattle.wt_text_edit_laws.specs.ParagraphBetween.{written_rows, tables_behind, EndApart, BeginApart}
 use Rattle.wt_text_edit_laws.specs.Parts.{HasNoGroups}
-use Rattle.wt_text_edit_laws.specs.TextBetween.{AreEnded}
 use Rattle.wt_text_edit_laws.specs.TextBlocks.{TextBlock, a_paragraph, source_of, block_tree}
+use Rattle.wt_text_edit_laws.specs.Unclosed.{is_unclosed_item, last_of, reaches, holds_unclosed}
+use Rattle.wt_text_edit_laws.proofs.Between.NoCalls.{calm_expanded}
 use Rattle.wt_text_edit_laws.proofs.Cuts.RowLines.{AllText}
 use Rattle.wt_text_edit_laws.proofs.Paragraphs.Marks.{mark_sign, AreMarkSigns, kind_marks}
-use Rattle.wt_called_edit_laws.specs.AllTold.{starts_in, IsExceptedAt, text_on_a_sign, marked_text, text_in_tables, unended_marks, IsExcepted, IsOneOf, AllBlocksTold}
+use Rattle.wt_called_edit_laws.specs.AllTold.{starts_in, IsExceptedAt, text_on_a_sign, marked_text, text_in_tables, IsExcepted, IsOneOf, AllBlocksTold}
 use Rattle.wt_called_edit_laws.specs.AnyBlocks.{open_after}
 use Rattle.wt_called_edit_laws.specs.CalledPages.{IsCalledPage}
 use Rattle.wt_called_edit_laws.specs.CalledTexts.{spots_tree}
@@ -51,6 +54,8 @@ use Rattle.wt_called_edit_laws.proofs.EditFacts.{IsFramedPage, framed_page, path
 use Rattle.wt_called_edit_laws.proofs.PathsSend.{NoneEmpty, paths_full}
 use Rattle.wt_called_edit_laws.proofs.Told.FreeNodes.{untangled_shut}
 use Rattle.wt_called_edit_laws.proofs.Told.ToldPages.{told_lined, told_called, told_are_lined}
+use Rattle.wt_called_edit_laws.proofs.Told.HeadItems.{AllOwn, own_all, own_front, own_back, begins_content, equals_unmarked, told_source}
+use Rattle.wt_called_edit_laws.proofs.AllTold.ClosedBlocks.{NoneBlank, AllPast, block_closed, unclosed_by, para_reaches, heading_reaches, line_there, led_ended}
 use Rattle.wt_called_edit_laws.proofs.AllTold.EachBlocks.{EachBlockIn}
 use Rattle.wt_called_edit_laws.proofs.AllTold.Found.{size}
 use Rattle.wt_called_edit_laws.proofs.AllTold.HeadSigns.{head_begins}
@@ -60,7 +65,7 @@ use Rattle.wt_called_edit_laws.proofs.AllTold.NodePlaces.{first_byte, node_begin
 use Rattle.wt_called_edit_laws.proofs.AllTold.OwnTrees.{OwnRound, told_round, paragraph_is, heading_is}
 use Rattle.wt_called_edit_laws.proofs.AllTold.PlaceStarts.{starts_from, paths_start, standing_source, AllHaveBytes, LeadsThere, leads, leads_there}
 use Rattle.wt_called_edit_laws.proofs.AllTold.RowBlocks.{housed, page_stands, body_none, below}
-use Rattle.wt_called_edit_laws.proofs.AllTold.Scans.{Decided, bool_decided, kind_decided, ended_decided, text_told, heading_told}
+use Rattle.wt_called_edit_laws.proofs.AllTold.Scans.{Decided, bool_decided, kind_decided, text_told, heading_told}
 use Rattle.wt_called_edit_laws.proofs.AllTold.Starts.{HasByte, BlockAt, BlockIn, same_paths}
 use Rattle.wt_called_edit_laws.proofs.AllTold.Together.{told_together}
 use Rattle.wt_called_edit_laws.proofs.AllTold.ToldStarts.{AreOwn, are_own, starts_so, told_bytes, blank_is}
@@ -129,16 +134,16 @@ record Node (pages : Pages) (page : List ℕ) (i : ℕ) (is : List ℕ) (t : Tre
   utf8 : IsUtf8 page
   calm : CallsNothing (page_items page)
   ungrouped : HasNoGroups page
-  closed : EndsClosed page []
+  unclosed : holds_unclosed (expanded_page pages page).items page (label t).ranges ≡ false
   there : IsAmong i is (children (called_tree pages page)) t
   block : IsTextBlock (label t).kind
   untangled : is_tangled (expanded_page pages page) page t ≡ false
 
 alone_told : (pages : Pages) (page : List ℕ) (i : ℕ) (is : List ℕ) (t : Tree) → Node pages page i is t → (a : AreAllTold page) (number : ℕ) (before : List Item)
     (block : ItemTree) → t ≡ standing number before block → (o : Told) (rest : Lines) → full_lines (page_items page) ≡ all_lines (lined o ∷ []) rest
-    → AreTold (o ∷ []) rest → block ≡ block_tree (lined o).block (lined o).text → size before ≡ start_of 0 o
+    → EndClosed (spots_by [] (lined o ∷ [])) (end_by [] (lined o ∷ []) rest) → AreTold (o ∷ []) rest → block ≡ block_tree (lined o).block (lined o).text → size before ≡ start_of 0 o
     → (s : AreSome a.ts) × IsOneOf (i ∷ is) (taken_at pages page a.ts a.behind (a.told s)).paths
-alone_told pages page i is t n a number before block is_it o rest are told tree_is at =
+alone_told pages page i is t n a number before block is_it o rest are closed told tree_is at =
     let k : TextBlock = (lined o).block in
     let q : List ℕ = (lined o).text in
     let same : t ≡ standing number before (block_tree k q) = is_it ∙ ap (standing number before) tree_is in
@@ -153,7 +158,7 @@ alone_told pages page i is t n a number before block is_it o rest are told tree_
       utf8 = n.utf8;
       calls_nothing = n.calm;
       ungrouped = n.ungrouped;
-      closed = n.closed;
+      closed = closed;
       are = are;
       told = told;
       shut = (untangled_shut k q free, tt);
@@ -164,7 +169,7 @@ alone_told pages page i is t n a number before block is_it o rest are told tree_
     let begins : start_of 0 o ≡ starts_in 0 i is (children (called_tree pages page)) =
     sym at ∙ sym (standing_begins number before block) ∙ ap (λ (u : Tree). first_byte (label u).ranges) (sym is_it)
     ∙ node_begins Q pages page i is t n.utf8 n.calm each n.there n.block in
-    let bytes : 0 < length (source_of k q) = (told_bytes page (o ∷ []) rest are told (are_own (lined o ∷ []) rest (told_are_lined page (o ∷ []) rest n.closed are told))).0 in
+    let bytes : 0 < length (source_of k q) = (told_bytes page (o ∷ []) rest are told (are_own (lined o ∷ []) rest (told_are_lined page (o ∷ []) rest closed are told))).0 in
     let some : AreSome a.ts = some_told (start_of 0 o) a.ts among in (
       some,
       at_told pages page a.ts a.behind (a.told some) Q i is t each n.there n.block
@@ -234,13 +239,29 @@ text_decided n (l ∷ ls) = by (kind_decided (kind_at n l)) (text_decided n ls)
 begins_so : (before : Lines) (l : List Item) (o : Told) → (lined o).before ≡ before → (lined o).marks ≡ led_by l → begins_at before l ≡ start_of 0 o
 begins_so before l o e f = omega (arith, ap (λ (ls : Lines). size (joined ls)) e, ap size f)
 
+-- each of text shows something
+all_past : (n : ℕ) (ls : Lines) → AreOfText n ls → AllPast ls
+all_past n [] h = tt
+all_past n (l ∷ ls) h = (some_past n l (λ w. let wrong : line.Blank ≡ line.Text = sym w ∙ h.0 in absurd (cc)), all_past n ls h.1)
+
+none_blank : (n : ℕ) (ls : Lines) → AreLinesAt n ls → NoneBlank n ls
+none_blank n [] h = tt
+none_blank n (l ∷ ls) h = ((λ e. let wrong : line.Blank ≡ line.Text = sym e ∙ h.1 in absurd (cc)), none_blank n ls h.2)
+
+-- where the node goes up to the page's end, the page's last item is no mark that nothing ends
+node_unclosed : (pages : Pages) (page : List ℕ) (i : ℕ) (is : List ℕ) (t : Tree) → Node pages page i is t → reaches (length page) (label t).ranges ≡ true
+    → is_unclosed_item (last_of (page_items page)) ≡ false
+node_unclosed pages page i is t n e =
+    unclosed_by (page_items page) page (label t).ranges
+    (sym (ap (λ (x : Expanded). holds_unclosed x.items page (label t).ranges) (calm_expanded pages page n.calm)) ∙ n.unclosed) e
+
 text_case : (pages : Pages) (page : List ℕ) (i : ℕ) (is : List ℕ) (t : Tree) → Node pages page i is t → (a : AreAllTold page) (number : ℕ) (front : List Item)
     (block : ItemTree) → t ≡ standing number front block → (before : Lines) (first : List Item) (others behind : Lines)
     → full_lines (page_items page) ≡ before ++ ((first ∷ others) ++ behind) → AllTrue (open_after [] (written_rows 0 before)) → EndApart (written_rows 0 before)
     → AreOfText (tables_behind 0 before) (first ∷ others) → BeginApart (rows_from (tables_behind 0 before) behind) → size front ≡ begins_at before first
     → block ≡ para (map text_row (first ∷ others)) → Answer pages page i is t a
 text_case pages page i is t n a number front block is_it before first others behind are cells apart texts stops at tree_is =
-    by (ended_decided (sources (led_by first))) (text_decided 0 (first ∷ others)) (bool_decided (begins_unmarked (content (joined (past_marks first ∷ others)))) true)
+    by (text_decided 0 (first ∷ others)) (bool_decided (begins_unmarked (content (joined (past_marks first ∷ others)))) true)
   where
     m : ℕ
     m = length (open_after [] (written_rows 0 before))
@@ -251,6 +272,9 @@ text_case pages page i is t n a number front block is_it before first others beh
     here : AreOfText m (first ∷ others)
     here = subst (λ (j : ℕ). AreOfText j (first ∷ others)) (tables_same before) texts
 
+    seen : AllPast (first ∷ others)
+    seen = all_past m (first ∷ others) here
+
     except : IsExceptedAt (full_lines (page_items page)) (size front) → Answer pages page i is t a
     except x = inr (record { number = number; before = front; block = block; is = is_it; begins_so = x })
 
@@ -258,65 +282,92 @@ text_case pages page i is t n a number front block is_it before first others beh
     unmarked_false true h = absurd (h refl)
     unmarked_false false h = refl
 
-    by : Decided (AreEnded (sources (led_by first))) → Decided (AreOfText 0 (first ∷ others))
-        → Decided (begins_unmarked (content (joined (past_marks first ∷ others))) ≡ true) → Answer pages page i is t a
-    by (inr f) b c = except (unended_marks before first (others ++ behind) are at f)
-    by (inl e) (inr f) c = except (text_in_tables before first others behind are at texts f)
-    by (inl e) (inl b) (inr f) =
+    line_is : led_by first ++ past_marks first ≡ first
+    line_is = led_whole first
+
+    all : full_lines (page_items page) ≡ all_lines (lined o ∷ []) behind
+    all = are ∙ ap (λ (l : List Item). before ++ ((l ∷ others) ++ behind)) (sym line_is)
+
+    by : Decided (AreOfText 0 (first ∷ others)) → Decided (begins_unmarked (content (joined (past_marks first ∷ others))) ≡ true) → Answer pages page i is t a
+    by (inr f) c = except (text_in_tables before first others behind are at texts f)
+    by (inl b) (inr f) =
         except (marked_text before first others behind are at (unmarked_false (begins_unmarked (content (joined (past_marks first ∷ others)))) f))
-    by (inl e) (inl b) (inl c) =
-        let seen : 1 ≤ length (past_marks first) =
-        some_past 0 first (λ w. let wrong : line.Blank ≡ line.Text = sym w ∙ b.0 in absurd (cc)) in
+    by (inl b) (inl c) =
         let own : AreLinesAt m (past_marks first ∷ others) =
-        (kind_led 0 first seen ∙ b.0, kind_led m first seen ∙ here.0, text_lines_at m others b.1 here.1) in
+        (kind_led 0 first seen.0 ∙ b.0, kind_led m first seen.0 ∙ here.0, text_lines_at m others b.1 here.1) in
         let told : AreTold (o ∷ []) behind = (
-          record { are_marks = led_marks first; ended = e; some = seen; in_cells = cells; apart = apart; own = (own, c) },
+          record { are_marks = led_marks first; ended = led_ended page before first (others ++ behind) are seen.0; some = seen.0; in_cells = cells; apart = apart; own = (own, c) },
           subst (λ (j : ℕ). BeginApart (rows_from j behind)) (tables_same before) stops,
         ) in
-        let line_is : led_by first ++ past_marks first ≡ first = led_whole first in
-        let all : full_lines (page_items page) ≡ all_lines (lined o ∷ []) behind =
-        are ∙ ap (λ (l : List Item). before ++ ((l ∷ others) ++ behind)) (sym line_is) in
-        let round : OwnRound (lined o) behind = told_round page o behind n.utf8 n.calm n.closed all told in
+        let closed : EndClosed (spots_by [] (lined o ∷ [])) (end_by [] (lined o ∷ []) behind) =
+        block_closed page (lined o) behind m all seen.0 c (none_blank m (past_marks first ∷ others) own) refl
+        (λ none. node_unclosed pages page i is t n
+        (subst (λ (u : Tree). reaches (length page) (label u).ranges ≡ true) (sym (is_it ∙ ap (standing number front) tree_is))
+        (para_reaches page number front first others behind (lined o) refl refl refl all seen at none))) in
+        let round : OwnRound (lined o) behind = told_round page o behind n.utf8 n.calm closed all told in
         let tree_so : block ≡ block_tree a_paragraph (lined o).text =
         tree_is ∙ ap (λ (l : List Item). para (map text_row (l ∷ others))) (sym line_is)
         ∙ paragraph_is before (led_by first) (past_marks first) others behind round (led_marks first)
         (subst (λ (l : List Item). AllText m (l ∷ others)) (sym line_is) (text_all m (first ∷ others) here)) in
-        inl (alone_told pages page i is t n a number front block is_it o behind all told tree_so (at ∙ begins_so before first o refl refl))
+        inl (alone_told pages page i is t n a number front block is_it o behind all closed told tree_so (at ∙ begins_so before first o refl refl))
 
 heading_case : (pages : Pages) (page : List ℕ) (i : ℕ) (is : List ℕ) (t : Tree) → Node pages page i is t → (a : AreAllTold page) (number : ℕ) (front : List Item)
     (block : ItemTree) → t ≡ standing number front block → (before : Lines) (own : List Item) (behind : Lines)
     → full_lines (page_items page) ≡ before ++ own ∷ behind → AllTrue (open_after [] (written_rows 0 before)) → kind_at (tables_behind 0 before) own ≡ line.Heading
     → size front ≡ begins_at before own → block ≡ heading (content (past_marks own)) → Answer pages page i is t a
 heading_case pages page i is t n a number front block is_it before own behind are cells kind_is at tree_is =
-    by (ended_decided (sources (led_by own)))
+    inl (alone_told pages page i is t n a number front block is_it o behind all closed told tree_so (at ∙ begins_so before own o refl refl))
   where
     m : ℕ
     m = length (open_after [] (written_rows 0 before))
 
+    l : List Item
+    l = past_marks own
+
     o : Told
     o = heading_told before own
 
-    except : IsExceptedAt (full_lines (page_items page)) (size front) → Answer pages page i is t a
-    except x = inr (record { number = number; before = front; block = block; is = is_it; begins_so = x })
+    here : kind_at m own ≡ line.Heading
+    here = subst (λ (j : ℕ). kind_at j own ≡ line.Heading) (tables_same before) kind_is
 
-    by : Decided (AreEnded (sources (led_by own))) → Answer pages page i is t a
-    by (inr f) = except (unended_marks before own behind are at f)
-    by (inl e) =
-        let here : kind_at m own ≡ line.Heading = subst (λ (j : ℕ). kind_at j own ≡ line.Heading) (tables_same before) kind_is in
-        let seen : 1 ≤ length (past_marks own) = some_past m own (λ v. let wrong : line.Blank ≡ line.Heading = sym v ∙ here in absurd (cc)) in
-        let head : IsLinedHeading m (past_marks own) = record {
-          is_heading = kind_led m own seen ∙ here;
-          first = head_begins page before own behind n.utf8 are m here seen;
-        } in
-        let told : AreTold (o ∷ []) behind = (
-          record { are_marks = led_marks own; ended = e; some = seen; in_cells = cells; apart = tt; own = head },
-          tt,
-        ) in
-        let all : full_lines (page_items page) ≡ all_lines (lined o ∷ []) behind =
-        are ∙ ap (λ (l : List Item). before ++ l ∷ behind) (sym (led_whole own)) in
-        let round : OwnRound (lined o) behind = told_round page o behind n.utf8 n.calm n.closed all told in
-        let tree_so : block ≡ block_tree (lined o).block (lined o).text = tree_is ∙ heading_is before (led_by own) (past_marks own) behind round in
-        inl (alone_told pages page i is t n a number front block is_it o behind all told tree_so (at ∙ begins_so before own o refl refl))
+    seen : 1 ≤ length l
+    seen = some_past m own (λ v. let wrong : line.Blank ≡ line.Heading = sym v ∙ here in absurd (cc))
+
+    head : IsLinedHeading m l
+    head = record { is_heading = kind_led m own seen ∙ here; first = head_begins page before own behind n.utf8 are m here seen }
+
+    told : AreTold (o ∷ []) behind
+    told = (
+      record { are_marks = led_marks own; ended = led_ended page before own behind are seen; some = seen; in_cells = cells; apart = tt; own = head },
+      tt,
+    )
+
+    all : full_lines (page_items page) ≡ all_lines (lined o ∷ []) behind
+    all = are ∙ ap (λ (k : List Item). before ++ k ∷ behind) (sym (led_whole own))
+
+    mine : AllOwn l
+    mine =
+        own_back (led_by own) l (subst AllOwn (sym (led_whole own)) (own_front own (joined behind) (own_back (joined before) (own ++ joined behind)
+        (subst AllOwn (line_there page before own behind are) (own_all (page_items page) (page_has_no_calls page))))))
+
+    one : l ++ [] ≡ l
+    one = append-nil l
+
+    closed : EndClosed (spots_by [] (lined o ∷ [])) (end_by [] (lined o ∷ []) behind)
+    closed =
+        block_closed page (lined o) behind m all seen
+        (subst (λ (ys : List Item). begins_unmarked (content ys) ≡ true) (sym one) (equals_unmarked (content l) (begins_content l head.first)))
+        ((λ e. let wrong : line.Blank ≡ line.Heading = sym e ∙ head.is_heading in absurd (cc)), tt)
+        (told_source m l head mine ∙ ap (λ (ys : List Item). sources (content ys)) (sym one))
+        (λ none. node_unclosed pages page i is t n
+        (subst (λ (u : Tree). reaches (length page) (label u).ranges ≡ true) (sym (is_it ∙ ap (standing number front) tree_is))
+        (heading_reaches page number front behind (lined o) refl all seen at none)))
+
+    round : OwnRound (lined o) behind
+    round = told_round page o behind n.utf8 n.calm closed all told
+
+    tree_so : block ≡ block_tree (lined o).block (lined o).text
+    tree_so = tree_is ∙ heading_is before (led_by own) l behind round
 
 by_lines : (pages : Pages) (page : List ℕ) (i : ℕ) (is : List ℕ) (t : Tree) → Node pages page i is t → (a : AreAllTold page) (number : ℕ) (front : List Item)
     (block : ItemTree) → t ≡ standing number front block → IsOfLines (full_lines (page_items page)) (size front) block → Answer pages page i is t a
@@ -327,29 +378,29 @@ by_lines pages page i is t n a number front block is_it (of_line before own behi
 by_lines pages page i is t n a number front block is_it (behind_a_sign before first others behind are unended at tree_is) =
     inr (record { number = number; before = front; block = block; is = is_it; begins_so = text_on_a_sign before first others behind are unended at })
 
-complete_at : (pages : Pages) (page : List ℕ) → IsUtf8 page → CallsNothing (page_items page) → HasNoGroups page → EndsClosed page [] → (a : AreAllTold page)
+complete_at : (pages : Pages) (page : List ℕ) → IsUtf8 page → CallsNothing (page_items page) → HasNoGroups page → (a : AreAllTold page)
     (p : List ℕ) (t : Tree) → IsAtPath p (called_tree pages page) t → IsTextBlock (label t).kind → is_tangled (expanded_page pages page) page t ≡ false
-    → ((s : AreSome a.ts) × IsOneOf p (taken_at pages page a.ts a.behind (a.told s)).paths) ⊎ IsExcepted page t
-complete_at pages page u calm groups closed a [] t e b f = absurd (body_none pages page t u calm e b)
-complete_at pages page u calm groups closed a (i ∷ is) t e b f =
+    → holds_unclosed (expanded_page pages page).items page (label t).ranges ≡ false → ((s : AreSome a.ts) × IsOneOf p (taken_at pages page a.ts a.behind (a.told s)).paths) ⊎ IsExcepted page t
+complete_at pages page u calm groups a [] t e b f g = absurd (body_none pages page t u calm e b)
+complete_at pages page u calm groups a (i ∷ is) t e b f g =
     let s : StandsOnLines page t = block_on_lines pages page (i ∷ is) t u calm groups e b in
     let n : Node pages page i is t = record {
       utf8 = u;
       calm = calm;
       ungrouped = groups;
-      closed = closed;
+      unclosed = g;
       there = below i is (called_tree pages page) t e;
       block = b;
       untangled = f;
     } in
     by_lines pages page i is t n a s.number s.before s.block s.is s.by_lines
 
-pub all_blocks : (pages : Pages) (page : List ℕ) → IsUtf8 page → CallsNothing (page_items page) → HasNoGroups page → EndsClosed page [] → AllBlocksTold pages page
-all_blocks pages page u calm groups closed =
-    let a : AreAllTold page = told_together page u calm groups closed in
+pub all_blocks : (pages : Pages) (page : List ℕ) → IsUtf8 page → CallsNothing (page_items page) → HasNoGroups page → AllBlocksTold pages page
+all_blocks pages page u calm groups =
+    let a : AreAllTold page = told_together page u calm groups in
     record {
       ts = a.ts;
       behind = a.behind;
       told = λ s. record { told = a.told s; taken = taken_at pages page a.ts a.behind (a.told s) };
-      complete = complete_at pages page u calm groups closed a;
+      complete = complete_at pages page u calm groups a;
     }

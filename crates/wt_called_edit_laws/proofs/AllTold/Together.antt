@@ -1,5 +1,5 @@
 -- All blocks that a page's lines tell are told at once.
-use Rattle.std.proofs.Common.{arith, ◌≡◌, ◌≤◌, ℕ, suc, ◌+◌, Bool, true, false, List, [], ◌∷◌, ◌++◌, length, take, drop, map, refl, sym, ap, ◌∙◌, subst, cond, codes}
+use Rattle.std.proofs.Common.{arith, ◌≡◌, ◌≤◌, inl, inr, ℕ, suc, ◌+◌, Bool, true, false, List, [], ◌∷◌, ◌++◌, length, take, drop, map, refl, sym, ap, ◌∙◌, subst, cond, codes}
 use Rattle.std.specs.Prelude.{◌&&◌, not}
 use Rattle.std.specs.Str.{IsUtf8}
 use Rattle.std.specs.List.{list_all}
@@ -13,17 +13,20 @@ use Rattle.wt_page.specs.Rows.{marks_len, signs}
 use Rattle.wt_checks.specs.Kept.{children as nodes_in}
 use Rattle.wt_isolation.specs.OpenTags.{any_ends_open}
 use Rattle.wt_part_laws.specs.Standing.{standing}
-use Rattle.wt_text_edit_laws.specs.TextBlocks.{block_tree}
+use Rattle.wt_text_edit_laws.specs.BlockSpots.{spots_source}
+use Rattle.wt_text_edit_laws.specs.TextBlocks.{source_of, block_tree}
 use Rattle.wt_text_edit_laws.specs.NoCalls.{CallsNothing}
-use Rattle.wt_text_edit_laws.specs.PageCuts.{begins_unmarked, EndsClosed}
+use Rattle.wt_text_edit_laws.specs.PageCuts.{begins_unmarked, EndsClosed, EndClosed}
 use Rattle.wt_text_edit_laws.specs.Parts.{HasNoGroups}
 use Rattle.wt_text_edit_laws.proofs.Paragraphs.Marks.{mark_sign}
-use Rattle.wt_called_edit_laws.specs.PlacedLines.{spots_by}
+use Rattle.wt_called_edit_laws.specs.PlacedLines.{spots_by, end_by}
 use Rattle.wt_called_edit_laws.specs.PlacedSpots.{IsShut, AreShut}
 use Rattle.wt_called_edit_laws.specs.ToldLines.{Told, a_paragraph_of, a_heading_on, lined, IsToldAt, AreTold, IsToldPage}
 use Rattle.wt_called_edit_laws.specs.ToldTogether.{start_of, told_starts, IsAmongNumbers, AreSome, AreAllTold}
+use Rattle.wt_called_edit_laws.proofs.AllTold.ClosedBlocks.{closed_decided, ends_any}
 use Rattle.wt_called_edit_laws.proofs.AllTold.LineKinds.{Lines, led_by, past_marks}
-use Rattle.wt_called_edit_laws.proofs.AllTold.Scans.{Answered, bool_decided, ToldFrom}
+use Rattle.wt_called_edit_laws.proofs.AllTold.OwnTrees.{told_round}
+use Rattle.wt_called_edit_laws.proofs.AllTold.Scans.{Decided, Asked, Answered, bool_decided, ToldFrom}
 use Rattle.wt_called_edit_laws.proofs.AllTold.Scanned.{Meets, AllMeet, Scan, scan}
 
 -- ---- the marks that begin a line
@@ -76,31 +79,40 @@ parted_told : (m f : List Item) → list_all is_mark m ≡ true → 1 ≤ length
 parted_told m [] h some g = absurd (omega (arith, some))
 parted_told m (x ∷ xs) h some g = parted m x xs h (g x xs refl)
 
+-- ---- what is asked of a block
+
+-- no tag is open at the end of a node in it, and a line break behind it is read as one
+abbrev IsMet : Asked
+IsMet k q = IsShut k q × EndsClosed (source_of k q) []
+
+met_alone : (page : List ℕ) (t : Told) (rest : Lines) → IsToldPage page (t ∷ []) rest → Meets IsMet t
+met_alone page t rest h = (h.shut.0, (told_round page t rest h.utf8 h.calls_nothing h.closed h.are h.told).ended)
+
 -- ---- each that is told alone is among them
 
-alone_text : (page : List ℕ) (ls : Lines) (s : Scan IsShut [] false ls) → full_lines (page_items page) ≡ ls → (b : Lines) (m f : List Item) (r rest : Lines)
+alone_text : (page : List ℕ) (ls : Lines) (s : Scan IsMet [] false ls) → full_lines (page_items page) ≡ ls → (b : Lines) (m f : List Item) (r rest : Lines)
     → IsToldPage page (a_paragraph_of b m f r ∷ []) rest → Parted m f → IsAmongNumbers (start_of 0 (a_paragraph_of b m f r)) (told_starts 0 s.ts)
 alone_text page ls s e b m f r rest h p =
     let told : IsToldAt [] (a_paragraph_of b (led_by (m ++ f)) (past_marks (m ++ f)) r) =
     subst (λ (k : List Item). IsToldAt [] (a_paragraph_of b k (past_marks (m ++ f)) r)) (sym p.led)
     (subst (λ (k : List Item). IsToldAt [] (a_paragraph_of b m k r)) (sym p.past) h.told.0) in
-    let shut : Meets IsShut (a_paragraph_of b (led_by (m ++ f)) (past_marks (m ++ f)) r) =
-    subst (λ (k : List Item). Meets IsShut (a_paragraph_of b (led_by (m ++ f)) k r)) (sym p.past) h.shut.0 in
+    let shut : Meets IsMet (a_paragraph_of b (led_by (m ++ f)) (past_marks (m ++ f)) r) =
+    subst (λ (k : List Item). Meets IsMet (a_paragraph_of b (led_by (m ++ f)) k r)) (sym p.past) (met_alone page (a_paragraph_of b m f r) rest h) in
     subst (λ (k : List Item). IsAmongNumbers (start_of 0 (a_paragraph_of b k f r)) (told_starts 0 s.ts)) p.led
     (s.texts 0 b (m ++ f) r rest (sym e ∙ h.are) told h.told.1 (λ z. refl) shut)
 
-alone_heading : (page : List ℕ) (ls : Lines) (s : Scan IsShut [] false ls) → full_lines (page_items page) ≡ ls → (b : Lines) (m l : List Item) (rest : Lines)
+alone_heading : (page : List ℕ) (ls : Lines) (s : Scan IsMet [] false ls) → full_lines (page_items page) ≡ ls → (b : Lines) (m l : List Item) (rest : Lines)
     → IsToldPage page (a_heading_on b m l ∷ []) rest → Parted m l → IsAmongNumbers (start_of 0 (a_heading_on b m l)) (told_starts 0 s.ts)
 alone_heading page ls s e b m l rest h p =
     let told : IsToldAt [] (a_heading_on b (led_by (m ++ l)) (past_marks (m ++ l))) =
     subst (λ (k : List Item). IsToldAt [] (a_heading_on b k (past_marks (m ++ l)))) (sym p.led)
     (subst (λ (k : List Item). IsToldAt [] (a_heading_on b m k)) (sym p.past) h.told.0) in
-    let shut : Meets IsShut (a_heading_on b (led_by (m ++ l)) (past_marks (m ++ l))) =
-    subst (λ (k : List Item). Meets IsShut (a_heading_on b (led_by (m ++ l)) k)) (sym p.past) h.shut.0 in
+    let shut : Meets IsMet (a_heading_on b (led_by (m ++ l)) (past_marks (m ++ l))) =
+    subst (λ (k : List Item). Meets IsMet (a_heading_on b (led_by (m ++ l)) k)) (sym p.past) (met_alone page (a_heading_on b m l) rest h) in
     subst (λ (k : List Item). IsAmongNumbers (start_of 0 (a_heading_on b k l)) (told_starts 0 s.ts)) p.led
     (s.heads 0 b (m ++ l) rest (sym e ∙ h.are) told shut)
 
-alone : (page : List ℕ) (ls : Lines) (s : Scan IsShut [] false ls) → full_lines (page_items page) ≡ ls → (t : Told) (rest : Lines) → IsToldPage page (t ∷ []) rest
+alone : (page : List ℕ) (ls : Lines) (s : Scan IsMet [] false ls) → full_lines (page_items page) ≡ ls → (t : Told) (rest : Lines) → IsToldPage page (t ∷ []) rest
     → IsAmongNumbers (start_of 0 t) (told_starts 0 s.ts)
 alone page ls s e (a_paragraph_of b m f r) rest h =
     alone_text page ls s e b m f r rest h (parted_told m f h.told.0.are_marks h.told.0.some (λ x xs z. text_first x xs r
@@ -115,17 +127,28 @@ are_told : (ts : List Told) (behind : Lines) → AreSome ts → ToldFrom [] ts b
 are_told [] behind s h = absurd s
 are_told (t ∷ ts) behind s h = h
 
-all_shut : (es : List Item) (ts : List Told) → AllMeet IsShut ts → AreShut (spots_by es (map lined ts))
+all_shut : (es : List Item) (ts : List Told) → AllMeet IsMet ts → AreShut (spots_by es (map lined ts))
 all_shut es [] h = tt
-all_shut es (t ∷ ts) h = (h.0, all_shut (ending (joined ((lined t).first ∷ (lined t).more))) ts h.1)
+all_shut es (t ∷ ts) h = (h.0.0, all_shut (ending (joined ((lined t).first ∷ (lined t).more))) ts h.1)
 
-shut_answered : Answered IsShut
-shut_answered k q = bool_decided (any_ends_open (nodes_in (standing 0 [] (block_tree k q)))) false
+all_closed : (es : List Item) (ts : List Told) (behind : Lines) → AllMeet IsMet ts → EndClosed (spots_by es (map lined ts)) (end_by es (map lined ts) behind)
+all_closed es [] behind h = tt
+all_closed es (t ∷ ts) behind h =
+    let left : List Item = ending (joined ((lined t).first ∷ (lined t).more)) in
+    (ends_any (source_of (lined t).block (lined t).text) (spots_source (spots_by left (map lined ts)) (end_by left (map lined ts) behind)) h.0.1, all_closed left ts behind h.1)
 
-pub told_together : (page : List ℕ) → IsUtf8 page → CallsNothing (page_items page) → HasNoGroups page → EndsClosed page [] → AreAllTold page
-told_together page u calm apart closed =
+met_answered : Answered IsMet
+met_answered k q = by (bool_decided (any_ends_open (nodes_in (standing 0 [] (block_tree k q)))) false) (closed_decided (source_of k q))
+  where
+    by : Decided (IsShut k q) → Decided (EndsClosed (source_of k q) []) → Decided (IsMet k q)
+    by (inl a) (inl b) = inl (a, b)
+    by (inr f) b = inr (λ h. f h.0)
+    by (inl a) (inr f) = inr (λ h. f h.1)
+
+pub told_together : (page : List ℕ) → IsUtf8 page → CallsNothing (page_items page) → HasNoGroups page → AreAllTold page
+told_together page u calm apart =
     let ls : Lines = full_lines (page_items page) in
-    let s : Scan IsShut [] false ls = scan IsShut shut_answered (length ls) [] false ls (omega arith) in
+    let s : Scan IsMet [] false ls = scan IsMet met_answered (length ls) [] false ls (omega arith) in
     record {
       ts = s.ts;
       behind = s.behind;
@@ -133,7 +156,7 @@ told_together page u calm apart closed =
         utf8 = u;
         calls_nothing = calm;
         ungrouped = apart;
-        closed = closed;
+        closed = all_closed [] s.ts s.behind s.asked;
         are = s.are;
         told = are_told s.ts s.behind some s.told;
         shut = all_shut [] s.ts s.asked;

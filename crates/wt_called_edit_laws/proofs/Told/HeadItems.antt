@@ -409,7 +409,7 @@ line_end (x ∷ []) others h o = by (is_break_item x) refl others h
 line_end (x ∷ y ∷ l) others h o = line_end (y ∷ l) others h.1 o.1
 
 -- the first sign is that of the content
-begins_content : (l : List Item) → begins (codes "=") (signs l) ≡ true → begins (codes "=") (signs (content l)) ≡ true
+pub begins_content : (l : List Item) → begins (codes "=") (signs l) ≡ true → begins (codes "=") (signs (content l)) ≡ true
 begins_content [] e = e
 begins_content (x ∷ []) e = by x e
   where
@@ -458,7 +458,7 @@ form_equals true e = omega (arith, e)
 form_equals false e = omega (arith, e)
 
 -- no mark is first
-equals_unmarked : (xs : List Item) → begins (codes "=") (signs xs) ≡ true → begins_unmarked xs ≡ true
+pub equals_unmarked : (xs : List Item) → begins (codes "=") (signs xs) ≡ true → begins_unmarked xs ≡ true
 equals_unmarked [] e = cc
 equals_unmarked (char o b ∷ xs) e =
     let equal : b ≡ 61 = begins_get (codes "=") (b ∷ signs xs) e 0 (omega arith) in
