@@ -453,7 +453,7 @@ told_source n l h own =
     ∙ ap (λ (bs : List ℕ). o ++ (q ++ bs)) (sym (append_assoc c.trail (equals k) r))
     ∙ sym cut
 
-form_equals : (v : Bool) → (if v then 257 else 256) ≡ 61 → ⊥
+form_equals : (v : Bool) → ◌≡◌ {A = ℕ} (if v then 257 else 256) 61 → ⊥
 form_equals true e = omega (arith, e)
 form_equals false e = omega (arith, e)
 
