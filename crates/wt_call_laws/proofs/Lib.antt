@@ -19,9 +19,3 @@ pub mod Standing
 pub mod Touching
 pub mod TurnsUnedited
 pub mod Unmoved
-pub mod SentTrees
-pub mod SentMarks
-pub mod SentPages
-pub mod ChosenHtml
-pub mod SentCalls
-pub mod WorkedCall

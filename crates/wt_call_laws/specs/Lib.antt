@@ -4,6 +4,3 @@ pub mod Changed
 pub mod Choices
 pub mod Sent
 pub mod Untouched
-pub mod SentHtml
-pub mod EditsSent
-pub mod WorkedCall

@@ -1,7 +1,7 @@
 //! Laws of calls of the program (`wt_pagetool`), in other words than the definitions that its contracts
 //! cite: what the number with which a call ends says, what calls of devices do together, and what a
 //! call that ended so can have written and kept. And laws of the places in which a page may be written
-//! anew (`wt_places`); and of the HTML that an editor sends for an edit.
+//! anew (`wt_places`).
 #![tactic(auto)]
 
 mod changed;
@@ -12,7 +12,6 @@ mod in_turn;
 mod kept;
 mod left_alone;
 mod refusals;
-mod sent_html;
 mod statuses;
 mod staying;
 mod unchanged;
@@ -34,9 +33,6 @@ pub use left_alone::{
     unedited_blocks_have_no_place, unedited_nodes_have_no_place, untouched_bytes_stay,
 };
 pub use refusals::late_refusals_are_of_edits;
-pub use sent_html::{
-    chosen_contents_can_be_sent, edits_can_be_sent, edits_have_their_html, worked_edit_is_written,
-};
 pub use statuses::statuses_are_told_by_numbers;
 pub use staying::{only_own_nodes_may_stay, own_nodes_may_stay, unmoved_blocks_stay};
 pub use unchanged::own_html_is_unchanged;

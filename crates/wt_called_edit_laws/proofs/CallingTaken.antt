@@ -35,7 +35,7 @@ use Rattle.wt_called_edit_laws.proofs.CallingMade.{AreMadeIn, all_made, all_edit
 use Rattle.wt_called_edit_laws.proofs.CallingPages.{calling_again}
 use Rattle.wt_called_edit_laws.proofs.CallingSent.{page_made}
 use Rattle.wt_called_edit_laws.proofs.Cells.CallingFrames.{edited_anew}
-use Rattle.wt_called_edit_laws.proofs.EditTaken.{IsExpandable, MakesFrom, edit_done, unmarked_done}
+use Rattle.wt_called_edit_laws.proofs.EditTaken.{IsExpandable, MakesFrom, edit_done, edit_spliced, unmarked_done}
 use Rattle.wt_called_edit_laws.proofs.HoldersSent.{blocks_free}
 use Rattle.wt_called_edit_laws.proofs.Leads.{edit_at}
 use Rattle.wt_called_edit_laws.proofs.NodesTold.{found_apart}
@@ -203,6 +203,7 @@ contents_taken pages ss behind h =
       edits = own_contents pages t ss f.nodes (block_with_groups pages ss behind) (numbered_body pages ss behind h)
           (have_kinds (expanded_page pages page).outer pages 0 ss) stand;
       takes = λ b es e le. edit_done pages page (spots_source (new_blocks f es) behind) es b (makes_from pages ss behind f es h e) le;
+      makes = λ b es e. edit_spliced pages page (spots_source (new_blocks f es) behind) es b (makes_from pages ss behind f es h e);
       unmarked = λ stands input b unsourced es e found short le small is.
           unmarked_done pages page (spots_source (new_blocks f es) behind) es b stands input unsourced (makes_from pages ss behind f es h e.edit)
           (told pages ss behind f es h e) found short le small is;

@@ -6,7 +6,11 @@ use Rattle.wt_checks.specs.Kept.{children}
 use Rattle.wt_commands.specs.Answers.{done, edit_to}
 use Rattle.wt_commands.specs.UnmarkedEdits.{DoneByEdit}
 use Rattle.wt_expand.specs.Work.{Pages}
+use Rattle.wt_page_round_trip.specs.PageTree.{page_tree}
 use Rattle.wt_schema.specs.Read.{page as as_page, read}
+use Rattle.wt_slices.specs.BodySlices.{slices}
+use Rattle.wt_splice.specs.Splice.{spliced}
+use Rattle.wt_visible.specs.SameNodes.{same_node}
 use Rattle.wt_typed_blocks.specs.Edited.{Pieces, Edited, stays, edited, round, Edits, page_node, page_nodes, AreEdited}
 use Rattle.wt_text_edit_laws.specs.BlockSpots.{BlockSpot, spots_source}
 use Rattle.wt_text_edit_laws.specs.Contents.{IsContent}
@@ -89,6 +93,7 @@ HasContentEditsIn pages b t ss paths = (at : Choice) → AreChosenIn at (childre
 -- The blocks are at paths of the page's tree, each with its groups, and their contents may be edited there, in any of them at once:
 -- * whatever contents that may be sent are chosen, there is such an edit;
 -- * the edit is done, and the new page is the same with these contents in them, as they are spelled;
+-- * this page is what the edit splices into the old one;
 -- * without marks, too, `edit` of the difference is done;
 -- * nothing but these blocks is another one in the new page, and it has the same calls;
 -- * it is such a page again.
@@ -98,6 +103,9 @@ pub record TakesContentsIn (pages : Pages) (ss : List BlockSpot) (behind : List 
   pub edits : HasContentEditsIn pages (block_with_groups pages ss behind) (spots_tree pages ss behind) ss paths
   pub takes : (b : Label) (es : Edits) → IsContentEditIn pages (spots_tree pages ss behind) ss paths es → length (edited_page ss behind paths es) ≤ PAGE_BYTES
       → edit_to pages (spots_source ss behind) (sent_contents (spots_tree pages ss behind) es b) ≡ done (edited_page ss behind paths es)
+  pub makes : (b : Label) (es : Edits) → IsContentEditIn pages (spots_tree pages ss behind) ss paths es
+      → spliced (spots_source ss behind) (slices same_node (page_tree pages (spots_source ss behind)) (sent_contents (spots_tree pages ss behind) es b))
+      ≡ edited_page ss behind paths es
   pub unmarked : (stands : Option (List ℕ)) (input : List ℕ) (b : Label) (unsourced : Option ℕ) (es : Edits)
       → IsUnmarkedContentEditIn pages (spots_tree pages ss behind) ss paths es → stands ≡ Some (spots_source ss behind)
       → length (spots_source ss behind) ≤ PAGE_BYTES → length (edited_page ss behind paths es) ≤ PAGE_BYTES → length input ≤ HTML_BYTES

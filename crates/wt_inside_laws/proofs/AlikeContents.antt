@@ -12,45 +12,49 @@ use Rattle.wt_tree.specs.declared.edit_shape.InlineForm.TheVariants as inline
 use Rattle.wt_tree.specs.declared.edit_shape.Place.{Place as Surround}
 use Rattle.wt_tree.specs.EditShapes.{edit_shape}
 use Rattle.wt_tree.specs.Kinds.{showing, is_leaf}
-use Rattle.wt_tree.specs.Plain.{Face, face, Plains, ended, text_before, shown_before, plain, plain_before, plains_before}
+use Rattle.wt_tree.specs.Plain.{Face, face, Plains, ended, text_before, shown_before, plain_before, plains_before}
 use Rattle.wt_tree.specs.Source.{flat}
-use Rattle.wt_tree.specs.Tiling.{is_group, HasNoGroup, NoneIsGroup}
-use Rattle.wt_tree.specs.Tree.{Label, Tree, tree, Trees, none, more, label}
+use Rattle.wt_tree.specs.Tiling.{is_group}
+use Rattle.wt_tree.specs.Tree.{Label, Tree, tree, Trees, none, label}
 use Rattle.wt_guards.specs.Content.{ContentSign}
 use Rattle.wt_original.specs.Kept.{Kept, kept_with, kept_of, kept_nodes, found_at, found_from, found_in, items, visible, holds_kept}
 use Rattle.wt_original.specs.Page.{Page, TellsSame, page_of, node_or, restored, restored_all, is_unchanged}
 use Rattle.wt_link_spelling.specs.Spelling.{children_of, kept_thing, anew_by, signs_by, signs_of, signs_of_all}
 use Rattle.wt_checks.specs.Places.{Page as Nodes}
-use Rattle.wt_checks.specs.WithoutMarks.{mark_off, unmarked, all_unmarked}
+use Rattle.wt_checks.specs.WithoutMarks.{mark_off}
 use Rattle.wt_checks.proofs.Lookups.{each_split}
 use Rattle.wt_content.specs.declared.content.Standing.{Standing}
 use Rattle.wt_content.specs.declared.content.Standing.TheVariants as stands
 use Rattle.wt_content.specs.declared.content.Surroundings.{Surroundings}
 use Rattle.wt_content.specs.declared.reason.ContentWhy.{ContentWhy}
 use Rattle.wt_content.specs.Content.{changed_from, standing, standing_of, if_replaced, nested_fault, brings_link, below, faults_by, faults, all_faults, holds_link, is_link, outermost}
+use Rattle.wt_selser.specs.Leaves.{LeavesHoldNoNumber, AllLeavesHoldNoNumber}
 use Rattle.wt_visible.specs.Restored.{held_by, restored as shown_again, all_restored}
 use Rattle.wt_typed_blocks.specs.Edited.{Pieces, no_pieces, gone, written, kept, around, new_style, page_pieces, text_node, sent_pieces, pieces_before, IsStyle}
 use Rattle.wt_typed_blocks.proofs.EditedShows.{shown_same}
-use Rattle.wt_typed_blocks.proofs.SentGroups.{of_style}
+use Rattle.wt_typed_blocks.proofs.SentGroups.{of_style, style_ungrouped}
 use Rattle.wt_beside_laws.proofs.OwnSigns.{Every, every_left, every_right, Finds, own_found, inside_found, held_if}
+use Rattle.wt_called_edit_laws.specs.SentAsIs.{as_sent, HasNumberedGroups, HaveNumberedGroups}
 use Rattle.wt_inside_laws.specs.Contents.{elements_by, elements_of, elements, styles_by, styles_of, styles}
 use Rattle.wt_inside_laws.specs.RetypedPieces.{pieces_of, as_own, AreRead}
 use Rattle.wt_inside_laws.specs.TextEdits.{takes_text, IsUntouched, IsSameStyle, IsRetyped}
 use Rattle.wt_inside_laws.specs.AsSent.{IsAlike}
+use Rattle.wt_inside_laws.proofs.Groups.{either_way, inner_numbered}
 use Rattle.wt_inside_laws.proofs.OwnPieces.{IsElement, AreOfStyle, HoldIn, Anything, own_page, own_pieces_stay, trees_in, any_leaves}
+use Rattle.wt_inside_laws.proofs.OwnShown.{IsThere, again_shows, restored_kind, own_shows}
 use Rattle.wt_inside_laws.proofs.PlainBefore.{same_before}
 use Rattle.wt_inside_laws.proofs.RetypedPieces.{retyped_pieces}
 
 -- ---- a node of the page and the one that was sent for it
 
 -- the page's node is found by its number, and what was sent shows what it does
-pub record IsKeptAlike (p : Page) (t u : Tree) : Type 0 where
+pub record IsKeptAlike (page : Nodes) (p : Page) (t u : Tree) : Type 0 where
   pub kept : Kept
   pub there : kept_with (label t).id p.kept ≡ Some kept
   pub sent : kept_with (label u).id p.kept ≡ Some kept
-  pub own : is_unchanged p kept (unmarked t) ≡ true
+  pub own : is_unchanged p kept (as_sent t) ≡ true
   pub same : is_unchanged p kept u ≡ true
-  pub shown : plain u ≡ plain t
+  pub shown : (rest : Plains) → plain_before (shown_again page u) rest ≡ plain_before t rest
   pub element : IsElement (edit_shape (label t).kind).inline
   pub sent_element : IsElement (edit_shape (label u).kind).inline
 
@@ -62,13 +66,13 @@ pub record IsStyleAlike (p : Page) (l m : Label) : Type 0 where
   pub id : m.id ≡ l.id
   pub alike : face m ≡ face l
 
-abbrev pub AlikeIn : Page → Pieces → Type 0
-AlikeIn p no_pieces = Unit {0}
-AlikeIn p (gone t ps) = AlikeIn p ps
-AlikeIn p (written x text ps) = AlikeIn p ps
-AlikeIn p (kept t u ps) = IsKeptAlike p t u × AlikeIn p ps
-AlikeIn p (around l m is ps) = IsStyleAlike p l m × AlikeIn p is × AlikeIn p ps
-AlikeIn p (new_style m is ps) = ⊥
+abbrev pub AlikeIn : Nodes → Page → Pieces → Type 0
+AlikeIn page p no_pieces = Unit {0}
+AlikeIn page p (gone t ps) = AlikeIn page p ps
+AlikeIn page p (written x text ps) = AlikeIn page p ps
+AlikeIn page p (kept t u ps) = IsKeptAlike page p t u × AlikeIn page p ps
+AlikeIn page p (around l m is ps) = IsStyleAlike p l m × AlikeIn page p is × AlikeIn page p ps
+AlikeIn page p (new_style m is ps) = ⊥
 
 -- ---- what is written
 
@@ -91,16 +95,16 @@ one_kept p pl k (tree l ts) f e h =
     ap (λ (o : Option Kept). signs_by (edit_shape l.kind).inline p pl o l ts (signs_of_all p pl ts)) f
     ∙ kept_signs (edit_shape l.kind).inline p pl k l ts (signs_of_all p pl ts) h e
 
-own_number : (t : Tree) → (label (unmarked t)).id ≡ (label t).id
+own_number : (t : Tree) → (label (as_sent t)).id ≡ (label t).id
 own_number (tree l ts) = refl
 
-own_kind : (t : Tree) → (label (unmarked t)).kind ≡ (label t).kind
+own_kind : (t : Tree) → (label (as_sent t)).kind ≡ (label t).kind
 own_kind (tree l ts) = refl
 
-kept_written : (p : Page) (pl : Surround) (t u : Tree) → IsKeptAlike p t u → signs_of p pl u ≡ signs_of p pl (unmarked t)
-kept_written p pl t u h =
+kept_written : (page : Nodes) (p : Page) (pl : Surround) (t u : Tree) → IsKeptAlike page p t u → signs_of p pl u ≡ signs_of p pl (as_sent t)
+kept_written page p pl t u h =
     one_kept p pl h.kept u h.sent h.same h.sent_element
-    ∙ sym (one_kept p pl h.kept (unmarked t) (ap (λ (n : ℕ). kept_with n p.kept) (own_number t) ∙ h.there) h.own
+    ∙ sym (one_kept p pl h.kept (as_sent t) (ap (λ (n : ℕ). kept_with n p.kept) (own_number t) ∙ h.there) h.own
     (subst (λ (k : Kind). IsElement (edit_shape k).inline) (sym (own_kind t)) h.element))
 
 style_signs : (p : Page) (pl : Surround) (l m : Label) (us vs : Trees) → IsStyle l.kind → m.kind ≡ l.kind → m.id ≡ l.id
@@ -120,16 +124,17 @@ text_signs p pl x (b ∷ bs) us vs e = ap (λ (ss : List ContentSign). signs_of 
 kind_alike : (l m : Label) → face m ≡ face l → m.kind ≡ l.kind
 kind_alike l m e = ap (λ (f : Face). f.kind) e
 
-written_same : (p : Page) (pl : Surround) (ps : Pieces) → AlikeIn p ps → signs_of_all p pl (sent_pieces ps) ≡ signs_of_all p pl (sent_pieces (as_own ps))
-written_same p pl no_pieces h = refl
-written_same p pl (gone t ps) h = written_same p pl ps h
-written_same p pl (written x text ps) h = text_signs p pl x text (sent_pieces ps) (sent_pieces (as_own ps)) (written_same p pl ps h)
-written_same p pl (kept t u ps) h = ap₂ (λ xs ys. xs ++ ys) (kept_written p pl t u h.0) (written_same p pl ps h.1)
-written_same p pl (around l m is ps) h =
+written_same : (page : Nodes) (p : Page) (pl : Surround) (ps : Pieces) → AlikeIn page p ps
+    → signs_of_all p pl (sent_pieces ps) ≡ signs_of_all p pl (sent_pieces (as_own ps))
+written_same page p pl no_pieces h = refl
+written_same page p pl (gone t ps) h = written_same page p pl ps h
+written_same page p pl (written x text ps) h = text_signs p pl x text (sent_pieces ps) (sent_pieces (as_own ps)) (written_same page p pl ps h)
+written_same page p pl (kept t u ps) h = ap₂ (λ xs ys. xs ++ ys) (kept_written page p pl t u h.0) (written_same page p pl ps h.1)
+written_same page p pl (around l m is ps) h =
     ap₂ (λ xs ys. xs ++ ys)
-    (style_signs p pl l m (sent_pieces is) (sent_pieces (as_own is)) h.0.style (kind_alike l m h.0.alike) h.0.id (written_same p pl is h.1))
-    (written_same p pl ps h.2)
-written_same p pl (new_style m is ps) h = absurd h
+    (style_signs p pl l m (sent_pieces is) (sent_pieces (as_own is)) h.0.style (kind_alike l m h.0.alike) h.0.id (written_same page p pl is h.1))
+    (written_same page p pl ps h.2)
+written_same page p pl (new_style m is ps) h = absurd h
 
 -- ---- what is wrong in it
 
@@ -154,10 +159,11 @@ no_fault p x k (tree l ts) f e h n =
     ∙ ap (λ (b : Bool). if b then stands.Same else changed_from (edit_shape (label k.node).kind).inline) e)
     ∙ kept_faults (edit_shape l.kind).inline x l (holds_link (tree l ts)) (all_faults p (below x (edit_shape l.kind).inline) ts) h n
 
-kept_refused : (p : Page) (x : Surroundings) (t u : Tree) → IsKeptAlike p t u → x.in_link ≡ false → faults p x u ≡ faults p x (unmarked t)
-kept_refused p x t u h n =
+kept_refused : (page : Nodes) (p : Page) (x : Surroundings) (t u : Tree) → IsKeptAlike page p t u → x.in_link ≡ false
+    → faults p x u ≡ faults p x (as_sent t)
+kept_refused page p x t u h n =
     no_fault p x h.kept u h.sent h.same h.sent_element n
-    ∙ sym (no_fault p x h.kept (unmarked t) (ap (λ (n : ℕ). kept_with n p.kept) (own_number t) ∙ h.there) h.own
+    ∙ sym (no_fault p x h.kept (as_sent t) (ap (λ (n : ℕ). kept_with n p.kept) (own_number t) ∙ h.there) h.own
     (subst (λ (k : Kind). IsElement (edit_shape k).inline) (sym (own_kind t)) h.element) n)
 
 -- a style may be changed
@@ -211,82 +217,50 @@ text_faults p x m [] us vs e = e
 text_faults p x m (b ∷ bs) us vs e =
     ap (λ (ws : List ContentWhy). faults p x (tree (record m { kind = kind.Text; id = 0; shown = b ∷ bs; mark = marks.Nothing }) none) ++ ws) e
 
-refused_same : (p : Page) (x : Surroundings) (ps : Pieces) → x.in_link ≡ false → AlikeIn p ps
+refused_same : (page : Nodes) (p : Page) (x : Surroundings) (ps : Pieces) → x.in_link ≡ false → AlikeIn page p ps
     → all_faults p x (sent_pieces ps) ≡ all_faults p x (sent_pieces (as_own ps))
-refused_same p x no_pieces n h = refl
-refused_same p x (gone t ps) n h = refused_same p x ps n h
-refused_same p x (written m text ps) n h = text_faults p x m text (sent_pieces ps) (sent_pieces (as_own ps)) (refused_same p x ps n h)
-refused_same p x (kept t u ps) n h = ap₂ (λ xs ys. xs ++ ys) (kept_refused p x t u h.0 n) (refused_same p x ps n h.1)
-refused_same p x (around l m is ps) n h =
+refused_same page p x no_pieces n h = refl
+refused_same page p x (gone t ps) n h = refused_same page p x ps n h
+refused_same page p x (written m text ps) n h = text_faults p x m text (sent_pieces ps) (sent_pieces (as_own ps)) (refused_same page p x ps n h)
+refused_same page p x (kept t u ps) n h = ap₂ (λ xs ys. xs ++ ys) (kept_refused page p x t u h.0 n) (refused_same page p x ps n h.1)
+refused_same page p x (around l m is ps) n h =
     let k : m.kind ≡ l.kind = kind_alike l m h.0.alike in
     let s : IsStyle m.kind = subst IsStyle (sym k) h.0.style in
     ap₂ (λ xs ys. xs ++ ys)
     (style_faults p x h.0.kept m (sent_pieces is) s h.0.of_page (ap (λ (i : ℕ). kept_with i p.kept) h.0.id ∙ h.0.found) n
     ∙ ap (λ (j : Kind). all_faults p (below x (edit_shape j).inline) (sent_pieces is)) k
-    ∙ refused_same p (below x (edit_shape l.kind).inline) is (below_style l.kind x h.0.style n) h.1
+    ∙ refused_same page p (below x (edit_shape l.kind).inline) is (below_style l.kind x h.0.style n) h.1
     ∙ sym (style_faults p x h.0.kept (mark_off l) (sent_pieces (as_own is)) h.0.style h.0.of_page h.0.found n))
-    (refused_same p x ps n h.2)
-refused_same p x (new_style m is ps) n h = absurd h
+    (refused_same page p x ps n h.2)
+refused_same page p x (new_style m is ps) n h = absurd h
 
 -- ---- what it shows
 
-text_shown : (x : Label) (text : List ℕ) (us : Trees) (rest : Plains) → plains_before (text_node x text us) rest ≡ text_before text (plains_before us rest)
-text_shown x [] us rest = refl
-text_shown x (b ∷ bs) us rest = refl
+text_shown : (page : Nodes) (x : Label) (text : List ℕ) (us : Trees) (rest : Plains)
+    → plains_before (all_restored page (text_node x text us)) rest ≡ text_before text (plains_before (all_restored page us) rest)
+text_shown page x [] us rest = refl
+text_shown page x (b ∷ bs) us rest = refl
 
 no_characters : (k : Kind) → IsStyle k → showing k ≡ Characters → ⊥
 no_characters k h = of_style (λ (j : Kind). showing j ≡ Characters → ⊥) k h (λ e. absurd (cc)) (λ e. absurd (cc))
 
-shows_same : (p : Page) (ps : Pieces) (rest : Plains) → AlikeIn p ps → plains_before (sent_pieces ps) rest ≡ pieces_before (as_own ps) rest
-shows_same p no_pieces rest h = refl
-shows_same p (gone t ps) rest h = shows_same p ps rest h
-shows_same p (written x text ps) rest h = text_shown x text (sent_pieces ps) rest ∙ ap (text_before text) (shows_same p ps rest h)
-shows_same p (kept t u ps) rest h =
-    ap (plain_before u) (shows_same p ps rest h.1) ∙ same_before t u (pieces_before (as_own ps) rest) h.0.shown
-shows_same p (around l m is ps) rest h =
-    ap (plain_before (tree m (sent_pieces is))) (shows_same p ps rest h.2)
-    ∙ ap (λ (k : Kind). shown_before (showing k) m (λ qs. plains_before (sent_pieces is) qs) (pieces_before (as_own ps) rest)) (kind_alike l m h.0.alike)
-    ∙ shown_same (showing l.kind) l m (λ qs. plains_before (sent_pieces is) qs) (λ qs. pieces_before (as_own is) qs) (pieces_before (as_own ps) rest)
-    (λ c. absurd (no_characters l.kind h.0.style c)) h.0.alike (λ qs. shows_same p is qs h.1)
-shows_same p (new_style m is ps) rest h = absurd h
-
--- ---- nodes without groups
-
-mutual
-  nothing_restored : (ks : List Kept) (t : Tree) → HasNoGroup t → restored ks t ≡ t
-  nothing_restored ks (tree l ts) h =
-      ap (λ (b : Bool). if b then node_or (tree l ts) (kept_with l.id ks) else tree l (restored_all ks ts)) h.0 ∙ ap (tree l) (none_restored ks ts h.1)
-
-  none_restored : (ks : List Kept) (ts : Trees) → NoneIsGroup ts → restored_all ks ts ≡ ts
-  none_restored ks none h = refl
-  none_restored ks (more t ts) h = ap₂ more (nothing_restored ks t h.0) (none_restored ks ts h.1)
-
-mutual
-  nothing_again : (page : Nodes) (t : Tree) → HasNoGroup t → shown_again page t ≡ t
-  nothing_again page (tree l ts) h =
-      ap (λ (b : Bool). tree l (held_by page b l.id ts (all_restored page ts))) h.0 ∙ ap (tree l) (none_again page ts h.1)
-
-  none_again : (page : Nodes) (ts : Trees) → NoneIsGroup ts → all_restored page ts ≡ ts
-  none_again page none h = refl
-  none_again page (more t ts) h = ap₂ more (nothing_again page t h.0) (none_again page ts h.1)
-
-mutual
-  unmarked_ungrouped : (t : Tree) → HasNoGroup t → HasNoGroup (unmarked t)
-  unmarked_ungrouped (tree l ts) h = (h.0, all_ungrouped ts h.1)
-
-  all_ungrouped : (ts : Trees) → NoneIsGroup ts → NoneIsGroup (all_unmarked ts)
-  all_ungrouped none h = tt
-  all_ungrouped (more t ts) h = (unmarked_ungrouped t h.0, all_ungrouped ts h.1)
-
-mutual
-  unmarked_shows : (t : Tree) (rest : Plains) → plain_before (unmarked t) rest ≡ plain_before t rest
-  unmarked_shows (tree l ts) rest =
-      shown_same (showing l.kind) l (mark_off l) (λ qs. plains_before (all_unmarked ts) qs) (λ qs. plains_before ts qs) rest (λ e. refl) refl
-      (λ qs. all_unmarked_show ts qs)
-
-  all_unmarked_show : (ts : Trees) (rest : Plains) → plains_before (all_unmarked ts) rest ≡ plains_before ts rest
-  all_unmarked_show none rest = refl
-  all_unmarked_show (more t ts) rest = ap (plain_before (unmarked t)) (all_unmarked_show ts rest) ∙ unmarked_shows t (plains_before ts rest)
+shows_same : (page : Nodes) (p : Page) (ps : Pieces) (rest : Plains) → AlikeIn page p ps
+    → plains_before (all_restored page (sent_pieces ps)) rest ≡ pieces_before (as_own ps) rest
+shows_same page p no_pieces rest h = refl
+shows_same page p (gone t ps) rest h = shows_same page p ps rest h
+shows_same page p (written x text ps) rest h = text_shown page x text (sent_pieces ps) rest ∙ ap (text_before text) (shows_same page p ps rest h)
+shows_same page p (kept t u ps) rest h =
+    ap (plain_before (shown_again page u)) (shows_same page p ps rest h.1) ∙ h.0.shown (pieces_before (as_own ps) rest)
+shows_same page p (around l m is ps) rest h =
+    let k : m.kind ≡ l.kind = kind_alike l m h.0.alike in
+    let after : Plains = pieces_before (as_own ps) rest in
+    ap (plain_before (shown_again page (tree m (sent_pieces is)))) (shows_same page p ps rest h.2)
+    ∙ ap (λ (b : Bool). plain_before (tree m (held_by page b m.id (sent_pieces is) (all_restored page (sent_pieces is)))) after)
+    (ap is_group k ∙ style_ungrouped l.kind h.0.style)
+    ∙ ap (λ (j : Kind). shown_before (showing j) m (λ qs. plains_before (all_restored page (sent_pieces is)) qs) after) k
+    ∙ shown_same (showing l.kind) l m (λ qs. plains_before (all_restored page (sent_pieces is)) qs) (λ qs. pieces_before (as_own is) qs) after
+    (λ c. absurd (no_characters l.kind h.0.style c)) h.0.alike (λ qs. shows_same page p is qs h.1)
+shows_same page p (new_style m is ps) rest h = absurd h
 
 -- ---- what was sent for a retyped block
 
@@ -332,10 +306,6 @@ style_styles : (v w : InlineForm) (t : Tree) (inside : List Tree) → AreOfStyle
 style_styles v w t inside (inl h) = ap (λ (f : InlineForm). styles_by f t inside) h.1
 style_styles v w t inside (inr h) = ap (λ (f : InlineForm). styles_by f t inside) h.1
 
-text_free : (x : Label) (text : List ℕ) (us : Trees) → NoneIsGroup (text_node x text us) → NoneIsGroup us
-text_free x [] us h = h
-text_free x (b ∷ bs) us h = h.1
-
 text_elements : (x : Label) (text : List ℕ) (us : Trees) → elements (text_node x text us) ≡ elements us
 text_elements x [] us = refl
 text_elements x (b ∷ bs) us = refl
@@ -353,10 +323,11 @@ or_true true b e = refl
 or_true false b e = e
 
 -- an element
-element_alike : (same : Tree → Tree → Bool) (block : Tree) (at from : ℕ) (l m : Label) (ts us : Trees) → TellsSame same
-    → Elements (tree l ts) (tree m us) → IsUntouched (page_of same block) (tree m us) → Every (Finds block) (found_from at from (tree l ts))
-    → HasNoGroup (tree l ts) → HasNoGroup (tree m us) → IsKeptAlike (page_of same block) (tree l ts) (tree m us)
-element_alike same block at from l m ts us tells h n f g k =
+element_alike : (same : Tree → Tree → Bool) (page : Nodes) (block : Tree) (at from : ℕ) (l m : Label) (ts us : Trees) → TellsSame same
+    → Every (IsThere page) (found_from 0 0 block) → Elements (tree l ts) (tree m us) → IsUntouched (page_of same block) (tree m us)
+    → Every (Finds block) (found_from at from (tree l ts)) → HasNumberedGroups (tree l ts) → LeavesHoldNoNumber (tree l ts)
+    → IsKeptAlike page (page_of same block) (tree l ts) (tree m us)
+element_alike same page block at from l m ts us tells d h n f g z =
     let p : Page = page_of same block in
     let ks : List Kept = kept_nodes block in
     let t : Tree = tree l ts in
@@ -368,17 +339,20 @@ element_alike same block at from l m ts us tells h n f g k =
     let both : Some n.kept ≡ Some own = sym n.found ∙ sent in
     let is : n.kept ≡ own = cc in
     let unchanged : is_unchanged p own u ≡ true = subst (λ (q : Kept). is_unchanged p q u ≡ true) is n.unchanged in
-    let told = (tells (restored ks u) t).0 (told_so (is_group l.kind) (same (restored ks u) t) unchanged g.0) in
-    let free : restored ks (unmarked t) ≡ unmarked t = nothing_restored ks (unmarked t) (unmarked_ungrouped t g) in
+    let kinds : m.kind ≡ l.kind = n.kind ∙ ap (λ (q : Kept). (label q.node).kind) is in
     record {
       kept = own;
       there = there;
       sent = sent;
-      own =
-          or_true (is_group l.kind) (same (restored ks (unmarked t)) t)
-          ((tells (restored ks (unmarked t)) t).1 (ap (λ (v : Tree). (label v).kind) free, ap plain free ∙ unmarked_shows t ended));
+      own = either_way (is_group l.kind) (λ e. ap (λ (b : Bool). b || same (restored ks (as_sent t)) t) e)
+          (λ e. or_true (is_group l.kind) (same (restored ks (as_sent t)) t)
+          ((tells (restored ks (as_sent t)) t).1 (restored_kind ks l ts e, own_shows block at from t ended f g z)));
       same = unchanged;
-      shown = sym (ap plain (nothing_restored ks u k)) ∙ told.1;
+      shown = λ rest. again_shows page block u rest d n.groups
+          ∙ either_way (is_group l.kind)
+          (λ e. ap (λ (b : Bool). plain_before (if b then node_or u (kept_with m.id ks) else tree m (restored_all ks us)) rest) (ap is_group kinds ∙ e)
+          ∙ ap (λ (o : Option Kept). plain_before (node_or u o) rest) sent)
+          (λ e. same_before t (restored ks u) rest ((tells (restored ks u) t).0 (told_so (is_group l.kind) (same (restored ks u) t) unchanged e)).1);
       element = h.0;
       sent_element = h.1;
     }
@@ -404,41 +378,42 @@ style_alike same block at from l m ts us h n f =
 style_holds : (l : Label) → IsStyle l.kind → holds_kept l ≡ true
 style_holds l h = held_if l.kind (of_style (λ (k : Kind). is_leaf k ≡ false) l.kind h refl refl)
 
-alike_in : (same : Tree → Tree → Bool) (block : Tree) (d at from : ℕ) (ps : Pieces) → TellsSame same → HoldIn Anything Elements Styles d ps
-    → AllByRecursion (IsUntouched (page_of same block)) (elements (sent_pieces ps)) → AllByRecursion (IsSameStyle (kept_nodes block)) (styles (sent_pieces ps))
-    → Every (Finds block) (found_in at from (page_pieces ps)) → NoneIsGroup (page_pieces ps) → NoneIsGroup (sent_pieces ps) → AlikeIn (page_of same block) ps
-alike_in same block d at from no_pieces tells h e s f g n = tt
-alike_in same block d at from (gone t ps) tells h e s f g n =
-    alike_in same block d (at + length (flat t)) (from + length (visible (items t))) ps tells h e s (every_right (Finds block) (found_from at from t) _ f) g.1 n
-alike_in same block d at from (written x text ps) tells h e s f g n =
-    alike_in same block d at from ps tells h.1
+alike_in : (same : Tree → Tree → Bool) (page : Nodes) (block : Tree) (d at from : ℕ) (ps : Pieces) → TellsSame same → Every (IsThere page) (found_from 0 0 block)
+    → HoldIn Anything Elements Styles d ps → AllByRecursion (IsUntouched (page_of same block)) (elements (sent_pieces ps))
+    → AllByRecursion (IsSameStyle (kept_nodes block)) (styles (sent_pieces ps)) → Every (Finds block) (found_in at from (page_pieces ps))
+    → HaveNumberedGroups (page_pieces ps) → AllLeavesHoldNoNumber (page_pieces ps) → AlikeIn page (page_of same block) ps
+alike_in same page block d at from no_pieces tells w h e s f g n = tt
+alike_in same page block d at from (gone t ps) tells w h e s f g n =
+    alike_in same page block d (at + length (flat t)) (from + length (visible (items t))) ps tells w h e s (every_right (Finds block) (found_from at from t) _ f) g.1 n.1
+alike_in same page block d at from (written x text ps) tells w h e s f g n =
+    alike_in same page block d at from ps tells w h.1
     (subst (AllByRecursion (IsUntouched (page_of same block))) (text_elements x text (sent_pieces ps)) e)
-    (subst (AllByRecursion (IsSameStyle (kept_nodes block))) (text_styles x text (sent_pieces ps)) s) f g (text_free x text (sent_pieces ps) n)
-alike_in same block d at from (kept (tree l ts) (tree m us) ps) tells h e s f g n =
+    (subst (AllByRecursion (IsSameStyle (kept_nodes block))) (text_styles x text (sent_pieces ps)) s) f g n
+alike_in same page block d at from (kept (tree l ts) (tree m us) ps) tells w h e s f g n =
     let x = each_split (IsUntouched (page_of same block)) (elements_of (tree m us)) (elements (sent_pieces ps)) e in
     let y = each_split (IsSameStyle (kept_nodes block)) (styles_of (tree m us)) (styles (sent_pieces ps)) s in
     let own = subst (AllByRecursion (IsUntouched (page_of same block))) (one_element (edit_shape m.kind).inline (tree m us) (elements us) h.0.1) x.0 in (
-      element_alike same block at from l m ts us tells h.0 own.0 (every_left (Finds block) (found_from at from (tree l ts)) _ f) g.0 n.0,
-      alike_in same block d (at + length (flat (tree l ts))) (from + length (visible (items (tree l ts)))) ps tells h.1 x.1 y.1
+      element_alike same page block at from l m ts us tells w h.0 own.0 (every_left (Finds block) (found_from at from (tree l ts)) _ f) g.0 n.0,
+      alike_in same page block d (at + length (flat (tree l ts))) (from + length (visible (items (tree l ts)))) ps tells w h.1 x.1 y.1
           (every_right (Finds block) (found_from at from (tree l ts)) _ f) g.1 n.1,
     )
-alike_in same block d at from (around l m is ps) tells h e s f g n =
+alike_in same page block d at from (around l m is ps) tells w h e s f g n =
     let ts : Trees = page_pieces is in
     let us : Trees = sent_pieces is in
     let x = each_split (IsUntouched (page_of same block)) (elements_of (tree m us)) (elements (sent_pieces ps)) e in
     let y = each_split (IsSameStyle (kept_nodes block)) (styles_of (tree m us)) (styles (sent_pieces ps)) s in
     let v = subst (AllByRecursion (IsUntouched (page_of same block)))
     (style_elements (edit_shape l.kind).inline (edit_shape m.kind).inline (tree m us) (elements us) h.0.1) x.0 in
-    let w = subst (AllByRecursion (IsSameStyle (kept_nodes block)))
+    let r = subst (AllByRecursion (IsSameStyle (kept_nodes block)))
     (style_styles (edit_shape l.kind).inline (edit_shape m.kind).inline (tree m us) (styles us) h.0.1) y.0 in
     let here = every_left (Finds block) (found_from at from (tree l ts)) _ f in (
-      style_alike same block at from l m ts us h.0 w.0 here,
-      alike_in same block (suc d) (at + length l.opening) (from + length l.opening) is tells h.1 v w.1
-          (inside_found (Finds block) at from l ts (style_holds l h.0.0) here) g.0.1 n.0.1,
-      alike_in same block d (at + length (flat (tree l ts))) (from + length (visible (items (tree l ts)))) ps tells h.2 x.1 y.1
+      style_alike same block at from l m ts us h.0 r.0 here,
+      alike_in same page block (suc d) (at + length l.opening) (from + length l.opening) is tells w h.1 v r.1
+          (inside_found (Finds block) at from l ts (style_holds l h.0.0) here) (inner_numbered l ts g.0 (style_ungrouped l.kind h.0.0)) n.0.1,
+      alike_in same page block d (at + length (flat (tree l ts))) (from + length (visible (items (tree l ts)))) ps tells w h.2 x.1 y.1
           (every_right (Finds block) (found_from at from (tree l ts)) _ f) g.1 n.1,
     )
-alike_in same block d at from (new_style m is ps) tells h e s f g n = absurd h
+alike_in same page block d at from (new_style m is ps) tells w h e s f g n = absurd h
 
 -- ---- a retyped block
 
@@ -449,9 +424,10 @@ block_open kind.Rule e = absurd (cc)
 block_open k e = absurd (cc)
 
 alike_by : (same : Tree → Tree → Bool) (items : Expanded) (bytes : List ℕ) (page : Nodes) (l : Label) (ts : Trees) (u : Tree) → TellsSame same
-    → IsRetyped same items bytes (record { old = tree l ts; new = u }) → AreRead (children_of u) → NoneIsGroup ts → NoneIsGroup (children_of u)
-    → Every (Finds (tree l ts)) (found_from 0 0 (tree l ts)) → IsAlike same page (record { old = tree l ts; new = u })
-alike_by same items bytes page l ts u tells r h g k c =
+    → IsRetyped same items bytes (record { old = tree l ts; new = u }) → AreRead (children_of u) → HaveNumberedGroups ts → AllLeavesHoldNoNumber ts
+    → Every (IsThere page) (found_from 0 0 (tree l ts)) → Every (Finds (tree l ts)) (found_from 0 0 (tree l ts))
+    → IsAlike same page (record { old = tree l ts; new = u })
+alike_by same items bytes page l ts u tells r h g n d c =
     let block : Tree = tree l ts in
     let us : Trees = children_of u in
     let p : Page = page_of same block in
@@ -460,24 +436,24 @@ alike_by same items bytes page l ts u tells r h g k c =
     let holds : HoldIn Anything Elements Styles 0 qs =
     trees_in Anything Elements Styles (λ l ts m ws f g i h. (f, g, i)) (λ l m s b i. (s, b, i)) ts 0 us (any_leaves us 0) (sym r.in_order) g in
     let found = inside_found (Finds block) 0 0 l ts (held_if l.kind (block_open l.kind r.block)) c in
-    let alike : AlikeIn p qs =
-    alike_in same block 0 (0 + length l.opening) (0 + length l.opening) qs tells holds
+    let alike : AlikeIn page p qs =
+    alike_in same page block 0 (0 + length l.opening) (0 + length l.opening) qs tells d holds
     (subst (λ (vs : Trees). AllByRecursion (IsUntouched p) (elements vs)) (sym a.sent) r.untouched)
     (subst (λ (vs : Trees). AllByRecursion (IsSameStyle (kept_nodes block)) (styles vs)) (sym a.sent) r.styled)
     (subst (λ (vs : Trees). Every (Finds block) (found_in (0 + length l.opening) (0 + length l.opening) vs)) (sym a.page) found)
-    (subst (λ (vs : Trees). NoneIsGroup vs) (sym a.page) g) (subst (λ (vs : Trees). NoneIsGroup vs) (sym a.sent) k) in
+    (subst (λ (vs : Trees). HaveNumberedGroups vs) (sym a.page) g) (subst (λ (vs : Trees). AllLeavesHoldNoNumber vs) (sym a.page) n) in
     record {
       block = r.block;
       are = own_page qs ∙ a.page;
       stay = own_pieces_stay ts us g r.in_order;
-      written = λ pl. ap (signs_of_all p pl) (sym a.sent) ∙ written_same p pl qs alike;
-      refused = ap (all_faults p (outermost block)) (sym a.sent) ∙ refused_same p (outermost block) qs refl alike;
-      shows = λ rest.
-          ap (λ (vs : Trees). plains_before vs rest) (none_again page us k) ∙ ap (λ (vs : Trees). plains_before vs rest) (sym a.sent)
-          ∙ shows_same p qs rest alike;
+      written = λ pl. ap (signs_of_all p pl) (sym a.sent) ∙ written_same page p pl qs alike;
+      refused = ap (all_faults p (outermost block)) (sym a.sent) ∙ refused_same page p (outermost block) qs refl alike;
+      shows = λ rest. ap (λ (vs : Trees). plains_before (all_restored page vs) rest) (sym a.sent) ∙ shows_same page p qs rest alike;
     }
 
+-- of a block of the page: its groups are numbered, and its leaves hold no number
 pub retyped_alike : (same : Tree → Tree → Bool) (items : Expanded) (bytes : List ℕ) (page : Nodes) (t u : Tree) → TellsSame same
-    → IsRetyped same items bytes (record { old = t; new = u }) → AreRead (children_of u) → HasNoGroup t → HasNoGroup u
-    → Every (Finds t) (found_from 0 0 t) → IsAlike same page (record { old = t; new = u })
-retyped_alike same items bytes page (tree l ts) (tree m us) tells r h g k c = alike_by same items bytes page l ts (tree m us) tells r h g.1 k.1 c
+    → IsRetyped same items bytes (record { old = t; new = u }) → AreRead (children_of u) → HaveNumberedGroups (children_of t)
+    → AllLeavesHoldNoNumber (children_of t) → Every (IsThere page) (found_from 0 0 t) → Every (Finds t) (found_from 0 0 t)
+    → IsAlike same page (record { old = t; new = u })
+retyped_alike same items bytes page (tree l ts) u tells r h g n d c = alike_by same items bytes page l ts u tells r h g n d c

@@ -1,21 +1,24 @@
 -- Worked cases of blocks that were retyped, by computing.
-use Rattle.std.proofs.Common.{◌≡◌, Bool, true, false, None, Some, [], ◌∷◌, refl, sym, inl, inr}
+use Rattle.std.proofs.Common.{◌≡◌, Bool, true, false, None, Some, [], ◌∷◌, refl, sym, ap, ◌∙◌, inl, inr}
 use Rattle.std.specs.Prelude.{codes}
+use Rattle.std.specs.List.{AllByRecursion}
 use Rattle.wt_span.specs.Items.{char, whole}
 use Rattle.wt_span.specs.declared.form.ItemForm.TheVariants as form
 use Rattle.wt_span.specs.Origins.{Expanded}
+use Rattle.wt_span.specs.declared.tag_name.TagName.TheVariants as tag
 use Rattle.wt_tree.specs.declared.kind.Kind.TheVariants as kind
 use Rattle.wt_tree.specs.Tree.{Tree, label}
-use Rattle.wt_tree.specs.EditShapes.{edit_shape}
-use Rattle.wt_original.specs.Kept.{kept_with}
+use Rattle.wt_original.specs.Kept.{Kept, kept_with}
+use Rattle.wt_original.specs.Page.{page_of}
 use Rattle.wt_slices.specs.Changes.{Pair}
 use Rattle.wt_typed_blocks.specs.Edited.{no_pieces, gone, written, kept, around}
 use Rattle.wt_link_spelling.specs.Spelling.{children_of}
+use Rattle.wt_inside_laws.specs.Contents.{elements}
 use Rattle.wt_inside_laws.specs.RetypedPieces.{pieces_of}
 use Rattle.wt_text_edit_laws.specs.Unclosed.{holds_unclosed}
-use Rattle.wt_inside_laws.specs.TextEdits.{IsRetyped}
+use Rattle.wt_inside_laws.specs.TextEdits.{IsUntouched, IsRetyped}
 use Rattle.wt_inside_laws.proofs.Sources.{untrue}
-use Rattle.wt_inside_laws.proofs.InsidesCases.{text, leaf, inner, para}
+use Rattle.wt_inside_laws.proofs.InsidesCases.{text, leaf, inner, group, para}
 
 abbrev same : Tree → Tree → Bool
 same t u = true
@@ -63,7 +66,7 @@ typed_in_style = record {
   untangled = refl;
   closed = refl;
   in_order = refl;
-  untouched = (record { kept = _; found = refl; unchanged = refl; inside = refl }, tt);
+  untouched = (record { kept = _; found = refl; kind = refl; unchanged = refl; inside = refl; groups = tt }, tt);
   styled = (record { kept = _; found = refl; alike = refl }, tt);
   texts = (
     inl refl,
@@ -79,6 +82,25 @@ typed_in_style = record {
   );
   one_line = tt;
 }
+
+-- `a {{t}}`, where the call gives `b`: `c ` typed in place of `a `, and the group sent as the page's is, with a span for what it shows
+abbrev c_before_a_call : Pair
+c_before_a_call = record {
+  old = para (text (codes "a ") ∷ group 2 (codes "{{t}}") (text (codes "b") ∷ []) ∷ []);
+  new = para (text (codes "c ") ∷ group 2 [] (inner (kind.Tag tag.Span) 0 [] (text (codes "b") ∷ []) [] ∷ []) ∷ []);
+}
+
+group_untouched : AllByRecursion (IsUntouched (page_of same c_before_a_call.old)) (elements (children_of c_before_a_call.new))
+unfolding kept_with
+group_untouched = (record { kept = _; found = refl; kind = refl; unchanged = refl; inside = refl; groups = refl }, tt)
+
+-- a group sent with the number of a switch isn't the page's element
+of_kind : (k j : Kept) → Some k ≡ Some j → kind.Group ≡ (label j.node).kind → kind.Group ≡ (label k.node).kind
+of_kind k j e h = let is : k ≡ j = cc in h ∙ sym (ap (λ (x : Kept). (label x.node).kind) is)
+
+no_switch : IsUntouched (page_of same b_for_c.old) (leaf kind.Group 3 []) → ⊥
+unfolding kept_with
+no_switch h = absurd (let no : kind.Group ≡ kind.Switch = of_kind _ h.kept h.found h.kind in cc)
 
 -- in pieces
 pub typed_pieces : pieces_of (children_of b_for_c.old) (children_of b_for_c.new)

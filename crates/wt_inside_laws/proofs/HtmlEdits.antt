@@ -30,7 +30,7 @@ use Rattle.wt_inside_laws.specs.HtmlEdits.{IsHtmlEdit}
 use Rattle.wt_inside_laws.specs.RetypedPieces.{AreRead, AreUtf8}
 use Rattle.wt_inside_laws.specs.ToldEdits.{IsReadBlock, IsToldEdit}
 use Rattle.wt_inside_laws.proofs.ReadSent.{read_for, read_blocks}
-use Rattle.wt_inside_laws.proofs.ToldEdits.{ungrouped, told_edit_done}
+use Rattle.wt_inside_laws.proofs.ToldEdits.{told_edit_done}
 
 -- of what is under a title, to an input
 pub edit_is : (pages : Pages) (page new input : List ℕ) (u : Tree) (unsourced : Option ℕ) → IsUtf8 page → length page ≤ PAGE_BYTES → length input ≤ HTML_BYTES
@@ -58,14 +58,14 @@ blocks_read (p ∷ ps) h = (record { read = h.0.0; utf8 = h.0.1 }, blocks_read p
 pub html_told : (pages : Pages) (page input : List ℕ) (ts : List Told) (rest : List (List Item)) (paths : List (List ℕ)) (new : Tree) (unsourced : Option ℕ)
     → IsToldPage page ts rest → IsHtmlEdit pages page input paths new unsourced → IsToldEdit pages page paths new
 html_told pages page input ts rest paths new unsourced h e =
-    let free = ungrouped pages page ts rest h in
     let unrefused : refusal_of_page pages page ≡ None = page_unrefused pages page ts rest h in
     record {
+      short = e.short;
       edit = e.edit;
-      read = read_for pages page input new unsourced h.utf8 e.short unrefused free e.reads e.edit.checks e.ungrouped;
+      read = read_for pages page input new unsourced h.utf8 e.short unrefused e.reads e.edit.checks;
       blocks =
           blocks_read (marked (page_tree pages page) new)
-          (read_blocks same_node (expanded_page pages page) page pages page input new unsourced h.utf8 unrefused free e.reads e.edit.checks e.ungrouped e.edit.blocks);
+          (read_blocks same_node (expanded_page pages page) page pages page input new unsourced h.utf8 e.short unrefused e.reads e.edit.checks e.edit.blocks);
       ordinary = e.ordinary;
       among = e.among;
     }

@@ -5,7 +5,6 @@ use Rattle.wt_tree.specs.declared.kind.Kind.{Kind}
 use Rattle.wt_tree.specs.declared.kind.Kind.TheVariants as kind
 use Rattle.wt_tree.specs.declared.kind.Mark.TheVariants as mark
 use Rattle.wt_tree.specs.Tree.{Label, Tree, tree, none, Trees, trees}
-use Rattle.wt_tree.specs.EditShapes.{edit_shape}
 use Rattle.wt_original.specs.Kept.{kept_nodes, kept_with}
 use Rattle.wt_inside_laws.specs.Contents.{element, italic, end, borders, texts}
 use Rattle.wt_inside_laws.specs.Replaced.{with_inside}

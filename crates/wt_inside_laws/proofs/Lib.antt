@@ -15,12 +15,14 @@ pub mod BodyReplaced
 pub mod Between
 pub mod RetypedPieces
 pub mod RetypedStay
+pub mod Groups
 pub mod MatchedNodes
 pub mod MatchedEdits
 pub mod MatchedPairs
 pub mod MatchedViews
 pub mod MatchedAlike
 pub mod PlainBefore
+pub mod OwnShown
 pub mod AlikeContents
 pub mod MarkedBlocks
 pub mod PageAlike

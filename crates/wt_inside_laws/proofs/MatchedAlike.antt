@@ -10,7 +10,7 @@ use Rattle.wt_tree.specs.declared.kind.Mark.TheVariants as marks
 use Rattle.wt_tree.specs.Kinds.{is_numbered}
 use Rattle.wt_tree.specs.Opened.{opened, without_sections}
 use Rattle.wt_tree.specs.Plain.{ended, plains_before}
-use Rattle.wt_tree.specs.Tiling.{is_group, HasNoGroup, NoneIsGroup, InPreorder, numbers_of_all}
+use Rattle.wt_tree.specs.Tiling.{is_group, InPreorder, numbers_of_all}
 use Rattle.wt_tree.specs.Tree.{Label, Tree, tree, Trees, label}
 use Rattle.wt_checks.specs.declared.refusal.TreeRefusal.{TreeRefusal}
 use Rattle.wt_checks.specs.BareSections.{HasBareSections}
@@ -37,14 +37,16 @@ use Rattle.wt_selser.specs.Edits.{refused_pairs, if_short, unless_refused, pairs
 use Rattle.wt_selser.proofs.Sections.{answers_same, slices_same}
 use Rattle.wt_visible.specs.Children.{listed}
 use Rattle.wt_visible.specs.Restored.{held_by, all_restored}
-use Rattle.wt_typed_blocks.specs.Edited.{Edited, stays, edited, round, Edits, no_edits, more_edits, page_node, page_nodes, AreEdited, IsOutside, AreOutside, page_body, sent_body}
+use Rattle.wt_typed_blocks.specs.Edited.{Edited, Edits, page_node, page_nodes, AreEdited, AreOutside, page_body, sent_body}
 use Rattle.wt_typed_blocks.proofs.EditedKept.{found, passes}
 use Rattle.wt_typed_blocks.proofs.EditedSections.{one_body}
-use Rattle.wt_typed_blocks.proofs.EditedShows.{body_shows}
+use Rattle.wt_typed_blocks.proofs.EditedShows.{page_shows}
 use Rattle.wt_typed_blocks.proofs.EditedSlices.{Same, pairs_of, changes_of, marked_are}
 use Rattle.wt_typed_blocks.proofs.EditedSlices as edited_slices
+use Rattle.wt_called_edit_laws.specs.SentAsIs.{HaveNumberedGroups}
+use Rattle.wt_called_edit_laws.proofs.Cells.SentAsIs.{page_numbered}
 use Rattle.wt_inside_laws.specs.AsSent.{seen, edit_for, edits_among, edits_of, paths_of, node_at, IsPlainPage, IsReadFor, IsAlike, IsAsSent}
-use Rattle.wt_inside_laws.proofs.MatchedEdits.{pages_are, all_edited, all_edits_in, found_by_paths, nodes_found, all_hold_one, only_there}
+use Rattle.wt_inside_laws.proofs.MatchedEdits.{pages_are, all_edited, all_outside, all_edits_in, found_by_paths, nodes_found, all_hold_one, only_there}
 use Rattle.wt_inside_laws.proofs.MatchedNodes.{AreHidden, AllMatch, IsGiven, all_given, each_of_flat, unmarked_by, seen_given, are_seen, entries_seen, are_hidden, held_same, group_open, all_match}
 use Rattle.wt_inside_laws.proofs.MatchedPairs.{pairs_below, all_pairs_are, slices_are, as_pair, pairs_listed, same_old, IsMarkedBlock, refused_alike, all_marked}
 use Rattle.wt_inside_laws.proofs.MatchedViews.{all_shown}
@@ -90,7 +92,7 @@ matched_all same l m ts us h c s r a =
     let numbers = all_page_numbers bare body h.in_order in
     let keeps : Kept false t new = kept false t new body h.numbered c in
     let given : AllByRecursion (IsGiven same page) (places new) =
-    all_given same page (places new) keeps.nodes keeps.marks r.read r.no_more s (each_of_flat (IsAlike same page) (pair_at page) (places new) a) in
+    all_given same page (places new) keeps.groups keeps.nodes keeps.marks r.read r.no_more s (each_of_flat (IsAlike same page) (pair_at page) (places new) a) in
     let free : m.mark ≡ marks.Nothing = root_unmarked same page m us r.one.root given.0 in
     let zero_root : m.id ≡ 0 = edited_root false bare new h.one h.in_order r.one.root (sym (no_difference false t new h.sections) ∙ c) in
     let there : page m.id ≡ Some (record { node = t; parent = 0; in_content = false }) = ap page zero_root ∙ found_root t h.sections.root in
@@ -109,7 +111,7 @@ matched_all same l m ts us h c s r a =
       group = body_no_group m.kind r.one.root;
       hidden = are_hidden same page (parent_below 0 m.id) us below;
       matched =
-          all_match same page (parent_below 0 l.id) (parent_below 0 m.id) (is_content l.mark) (opened ts) (seen us) itself h.one.alone h.ungrouped
+          all_match same page (parent_below 0 l.id) (parent_below 0 m.id) (is_content l.mark) (opened ts) (seen us) itself h.one.alone
           (group_open (is_group l.kind) (numbers_of_all (opened ts)) (body_no_group l.kind h.one.root) own.1)
           (held.held ∙ entries_seen us) (are_seen us) (seen_given same page (parent_below 0 m.id) us below);
       stays = s.1;
@@ -133,16 +135,6 @@ edits_are (p ∷ ps) = ap (λ xs. Some (edit_for p) ∷ xs) (edits_are ps)
 same_body : (l : Label) (ts us : Trees) → l.kind ≡ kind.Body → l.id ≡ 0 → us ≡ ts → tree l ts ≡ tree (record l { kind = kind.Body; id = 0 }) us
 same_body l ts us k n e = λ i. tree (record l { kind = k i; id = n i }) (sym e i)
 
-mutual
-  one_outside : (e : Edited) → HasNoGroup (page_node e) → IsOutside e
-  one_outside (stays t u) h = tt
-  one_outside (edited k l m ps) h = tt
-  one_outside (round l m es) h = (h.0, outside es h.1)
-
-  outside : (es : Edits) → NoneIsGroup (page_nodes es) → AreOutside es
-  outside no_edits h = tt
-  outside (more_edits e es) h = (one_outside e h.0, outside es h.1)
-
 -- ---- the answer
 
 short_answer : (same : Same) (items : Expanded) (bytes : List ℕ) (t new : Tree) (ps : List Pair) (cs : List Change) → checked false t new ≡ None
@@ -155,21 +147,21 @@ short_answer same items bytes t new ps cs c p s =
     ∙ ap (λ (ds : List Change). unless_refused (refused_pairs same items bytes ps) (if_short (spliced bytes ds))) s
 
 sent_answer : (same : Same) (items : Expanded) (bytes : List ℕ) (l b : Label) (es : Edits) → InPreorder (page_body l es) → have_frame (page_nodes es) ≡ false
-    → NoneIsGroup (page_nodes es) → AreEdited es
+    → AreOutside es → AreEdited es
     → edit_answer same items bytes (page_body l es) (sent_body l b es) ≡ pairs_answer same items bytes (pairs_of es) (changes_of same es)
 sent_answer same items bytes l b es pre f g h =
-    short_answer same items bytes (page_body l es) (sent_body l b es) (pairs_of es) (changes_of same es) (passes l b es pre f h (outside es g))
+    short_answer same items bytes (page_body l es) (sent_body l b es) (pairs_of es) (changes_of same es) (passes l b es pre f h g)
     (ap (refused_pairs same items bytes) (marked_are l b es h (found l es pre)))
     (edited_slices.slices_are same (page_of (page_body l es)) 0 (is_content l.mark) es h (found l es pre))
 
 sent_slices : (same : Same) (t : Tree) (l b : Label) (es : Edits) → HasBareSections t → without_sections t ≡ page_body l es → InPreorder (page_body l es)
-    → have_frame (page_nodes es) ≡ false → NoneIsGroup (page_nodes es) → AreEdited es → slices same t (sent_body l b es) ≡ changes_of same es
+    → have_frame (page_nodes es) ≡ false → AreOutside es → AreEdited es → slices same t (sent_body l b es) ≡ changes_of same es
 sent_slices same t l b es bare is pre f g h =
     let u : Tree = sent_body l b es in
     let own : slices same (page_body l es) u ≡ changes_of same es =
     edited_slices.slices_are same (page_of (page_body l es)) 0 (is_content l.mark) es h (found l es pre) in
     slices_same same t u bare (one_body l b es h f)
-    (no_difference false t u bare ∙ ap (λ (o : Tree). checked false o u) is ∙ passes l b es pre f h (outside es g))
+    (no_difference false t u bare ∙ ap (λ (o : Tree). checked false o u) is ∙ passes l b es pre f h g)
     ∙ ap (λ (o : Tree). slices same o u) is ∙ own
 
 -- ---- all of it
@@ -184,15 +176,17 @@ as_sent same l m ts us h c a =
     let es : Edits = edits_among (opened ts) (seen us) in
     let body : l.kind ≡ kind.Body = body_is l.kind h.one.root in
     let old : page_nodes es ≡ opened ts = pages_are same page (opened ts) (seen us) a.matched in
-    let stay : AreEdited es = all_edited same page (opened ts) (seen us) h.ungrouped a.matched in
+    let numbered : HaveNumberedGroups (opened ts) = page_numbered bare body h.in_order h.one.alone in
+    let stay : AreEdited es = all_edited same page (opened ts) (seen us) numbered a.matched in
     let is : bare ≡ page_body l es = same_body l (opened ts) (page_nodes es) body h.sections.root old in
-    let groups : NoneIsGroup (page_nodes es) = subst (λ (vs : Trees). NoneIsGroup vs) (sym old) h.ungrouped in
+    let groups : AreOutside es = all_outside same page (opened ts) (seen us) a.matched in
     let frames : have_frame (page_nodes es) ≡ false = ap have_frame old ∙ h.one.alone in
     let listed_as : map edit_for (marked t new) ≡ all_edits_in es =
     ap (map edit_for) a.pairs ∙ all_pairs_are same page (parent_below 0 m.id) (is_content m.mark) (opened ts) us a.hidden a.matched in
     record {
       old = old;
       stay = stay;
+      outside = groups;
       at =
           ap (λ (vs : Trees). map (λ path. node_at path (tree l vs)) (paths_of es)) (sym old) ∙ nodes_found l es
           ∙ ap (map (λ (d : Edited). Some (page_node d))) (sym listed_as) ∙ olds_are same page (marked t new) a.blocks;
@@ -209,8 +203,8 @@ as_sent same l m ts us h c a =
           ∙ sym (answers_same same items bytes t (sent_body l b es) h.sections (one_body l b es stay frames));
       shows = λ b.
           ap (λ (v : Bool). listed (plains_before (held_by page v m.id us (all_restored page us)) ended)) a.group
-          ∙ ap listed (all_shown same page (opened ts) us ended h.ungrouped a.matched)
-          ∙ sym (body_shows t l b es stay groups);
+          ∙ ap listed (all_shown same page (opened ts) us ended a.matched)
+          ∙ sym (page_shows t l b es h.sections is (subst InPreorder is h.in_order) stay groups);
       changes = λ b.
           (ap (λ (k : Mark). if is_children k then body_slices same page start (steps holder.Body (opened ts) us) else all_child_slices same page us) a.unmarked
           ∙ slices_are same page (parent_below 0 m.id) (is_content m.mark) (opened ts) us a.stays a.hidden a.matched)

@@ -9,23 +9,24 @@ use Rattle.wt_tree.specs.declared.kind.Mark.{Mark}
 use Rattle.wt_tree.specs.declared.kind.Mark.TheVariants as marks
 use Rattle.wt_tree.specs.EditShapes.{edit_shape}
 use Rattle.wt_tree.specs.Kinds.{showing, writing}
-use Rattle.wt_tree.specs.Tiling.{is_group, HasNoGroup, NoneIsGroup}
+use Rattle.wt_tree.specs.Tiling.{is_group}
 use Rattle.wt_tree.specs.Tree.{Label, Tree, tree, Trees, none, more, label}
 use Rattle.wt_link_spelling.specs.Spelling.{children_of}
 use Rattle.wt_checks.specs.Places.{Page}
 use Rattle.wt_checks.specs.Tokens.{is_text}
 use Rattle.wt_checks.specs.Unmarked.{is_compared}
-use Rattle.wt_checks.specs.WithoutMarks.{unmarked, all_unmarked}
 use Rattle.wt_checks.proofs.Lookups.{each_split}
 use Rattle.wt_slices.specs.Changes.{Pair}
-use Rattle.wt_typed_blocks.specs.Sent.{StandsAsIs, AllStandAsIs, kind_of}
-use Rattle.wt_typed_blocks.specs.Edited.{Edited, stays, edited, round, Edits, no_edits, more_edits, page_node, page_nodes, IsEdited, AreEdited}
-use Rattle.wt_typed_blocks.proofs.SentGroups.{no_group}
+use Rattle.wt_typed_blocks.specs.Sent.{kind_of}
+use Rattle.wt_typed_blocks.specs.Edited.{Edited, stays, edited, round, Edits, no_edits, more_edits, page_node, page_nodes, IsEdited, AreEdited, IsOutside, AreOutside}
 use Rattle.wt_called_edit_laws.specs.AnyBlocks.{first_paths, other_paths, EndHere, GoOn}
 use Rattle.wt_called_edit_laws.specs.EditsAt.{edited_at, edited_by, EditsOnly, AllEditOnly}
+use Rattle.wt_called_edit_laws.specs.SentAsIs.{HasNumberedGroups, HaveNumberedGroups}
+use Rattle.wt_called_edit_laws.proofs.Cells.SentAsIs.{stands_as_sent}
 use Rattle.wt_inside_laws.specs.TextEdits.{takes_text}
-use Rattle.wt_inside_laws.specs.AsSent.{seen, block_by, edit_for, holds_edit, hold_edits, round_if, edit_by, unless_text, first_edit, edit_of, edits_among, past_first, paths_in, paths_of, node_at, node_among, IsOneOf, AreSomeOf, IsAlike}
-use Rattle.wt_inside_laws.proofs.MatchedNodes.{FirstMatches, Matches, AllMatch, by_text, by_mark}
+use Rattle.wt_inside_laws.specs.AsSent.{seen, block_by, edit_for, holds_edit, hold_edits, round_if, edit_by, unless_whole, first_edit, edit_of, edits_among, past_first, paths_in, paths_of, node_at, node_among, IsOneOf, AreSomeOf, IsAlike}
+use Rattle.wt_inside_laws.proofs.Groups.{inner_numbered}
+use Rattle.wt_inside_laws.proofs.MatchedNodes.{FirstMatches, Matches, AllMatch, by_text, by_group, by_mark}
 
 -- ---- the page
 
@@ -56,10 +57,12 @@ mutual
   one_page same page (tree l ts) u h =
       let p : Pair = record { old = tree l ts; new = u } in
       let es : Edits = edits_among ts (seen (children_of u)) in
-      by_text (λ b. page_node (unless_text b (tree l ts) (edit_by (label u).mark p es)) ≡ tree l ts) (is_text (writing l.kind)) h (λ x. refl)
-      (λ x. by_mark (λ c. page_node (edit_by c p es) ≡ tree l ts) (label u).mark x.1
+      by_text (λ b. page_node (unless_whole b (tree l ts) (unless_whole (is_group l.kind) (tree l ts) (edit_by (label u).mark p es))) ≡ tree l ts)
+      (is_text (writing l.kind)) h (λ x. refl)
+      (λ x. by_group (λ b. page_node (unless_whole b (tree l ts) (edit_by (label u).mark p es)) ≡ tree l ts) (is_group l.kind) x.1 (λ g s. refl)
+      (λ g n. by_mark (λ c. page_node (edit_by c p es) ≡ tree l ts) (label u).mark n
       (λ o. round_page (hold_edits es) l ts es (pages_are same page ts (seen (children_of u)) o.inside))
-      (λ m. edit_page same page p m.alike))
+      (λ m. edit_page same page p m.alike)))
 
   pub pages_are : (same : Tree → Tree → Bool) (page : Page) (ts : Trees) (us : List Tree) → AllMatch same page ts us → page_nodes (edits_among ts us) ≡ ts
   pages_are same page none [] h = refl
@@ -70,44 +73,66 @@ mutual
 
 -- ---- what stays
 
-mutual
-  stands : (t : Tree) → HasNoGroup t → StandsAsIs t (unmarked t)
-  stands (tree l ts) g = (
-    record { kind = refl; id = refl; attrs = refl; mw = refl; shown = λ e. refl; unmarked = refl },
-    no_group _ (is_group l.kind) g.0 (all_stand ts g.1),
-  )
-
-  all_stand : (ts : Trees) → NoneIsGroup ts → AllStandAsIs ts (all_unmarked ts)
-  all_stand none g = tt
-  all_stand (more t ts) g = (stands t g.0, all_stand ts g.1)
-
-round_edited : (b : Bool) (l : Label) (ts : Trees) (es : Edits) → HasNoGroup (tree l ts) → AreEdited es → IsEdited (round_if b (tree l ts) es)
+round_edited : (b : Bool) (l : Label) (ts : Trees) (es : Edits) → HasNumberedGroups (tree l ts) → AreEdited es → IsEdited (round_if b (tree l ts) es)
 round_edited true l ts es g h = (record { kind = refl; id = refl; attrs = refl; mw = refl; shown = λ e. refl; unmarked = refl }, h)
-round_edited false l ts es g h = stands (tree l ts) g
+round_edited false l ts es g h = stands_as_sent (tree l ts) g
 
 first_edited : (b : Bool) (t : Tree) (here : Tree → Edited) (after : List Tree → Edits) (P : Tree → Type 0) (Q : List Tree → Type 0) (us : List Tree)
-    → HasNoGroup t → FirstMatches b P Q us → ((u : Tree) → P u → IsEdited (here u)) → ((vs : List Tree) → Q vs → AreEdited (after vs))
+    → HasNumberedGroups t → FirstMatches b P Q us → ((u : Tree) → P u → IsEdited (here u)) → ((vs : List Tree) → Q vs → AreEdited (after vs))
     → AreEdited (first_edit b t here after us)
-first_edited false t here after P Q us n h f g = (stands t n, g us h)
+first_edited false t here after P Q us n h f g = (stands_as_sent t n, g us h)
 first_edited true t here after P Q [] n h f g = absurd h
 first_edited true t here after P Q (u ∷ us) n h f g = (f u h.0, g us h.1)
 
 mutual
-  one_edited : (same : Tree → Tree → Bool) (page : Page) (t u : Tree) → HasNoGroup t → Matches same page t u → IsEdited (edit_of t u)
+  one_edited : (same : Tree → Tree → Bool) (page : Page) (t u : Tree) → HasNumberedGroups t → Matches same page t u → IsEdited (edit_of t u)
   one_edited same page (tree l ts) u g h =
       let p : Pair = record { old = tree l ts; new = u } in
       let es : Edits = edits_among ts (seen (children_of u)) in
-      by_text (λ b. IsEdited (unless_text b (tree l ts) (edit_by (label u).mark p es))) (is_text (writing l.kind)) h (λ x. stands (tree l ts) g)
-      (λ x. by_mark (λ c. IsEdited (edit_by c p es)) (label u).mark x.1
-      (λ o. round_edited (hold_edits es) l ts es g (all_edited same page ts (seen (children_of u)) g.1 o.inside))
-      (λ m. (x.0.numbered, m.alike.stay)))
+      by_text (λ b. IsEdited (unless_whole b (tree l ts) (unless_whole (is_group l.kind) (tree l ts) (edit_by (label u).mark p es))))
+      (is_text (writing l.kind)) h (λ x. stands_as_sent (tree l ts) g)
+      (λ x. by_group (λ b. IsEdited (unless_whole b (tree l ts) (edit_by (label u).mark p es))) (is_group l.kind) x.1
+      (λ e s. stands_as_sent (tree l ts) g)
+      (λ e n. by_mark (λ c. IsEdited (edit_by c p es)) (label u).mark n
+      (λ o. round_edited (hold_edits es) l ts es g (all_edited same page ts (seen (children_of u)) (inner_numbered l ts g e) o.inside))
+      (λ m. (x.0.numbered, m.alike.stay))))
 
-  pub all_edited : (same : Tree → Tree → Bool) (page : Page) (ts : Trees) (us : List Tree) → NoneIsGroup ts → AllMatch same page ts us
+  pub all_edited : (same : Tree → Tree → Bool) (page : Page) (ts : Trees) (us : List Tree) → HaveNumberedGroups ts → AllMatch same page ts us
       → AreEdited (edits_among ts us)
   all_edited same page none us g h = tt
   all_edited same page (more t ts) us g h =
       first_edited (is_compared (showing (label t).kind)) t (λ u. edit_of t u) (λ vs. edits_among ts vs) (λ u. Matches same page t u)
       (λ vs. AllMatch same page ts vs) us g.0 h (λ u m. one_edited same page t u g.0 m) (λ vs m. all_edited same page ts vs g.1 m)
+
+-- ---- none is edited in a group
+
+round_outside : (b : Bool) (l : Label) (ts : Trees) (es : Edits) → is_group l.kind ≡ false → AreOutside es → IsOutside (round_if b (tree l ts) es)
+round_outside true l ts es g h = (g, h)
+round_outside false l ts es g h = tt
+
+first_outside : (b : Bool) (t : Tree) (here : Tree → Edited) (after : List Tree → Edits) (P : Tree → Type 0) (Q : List Tree → Type 0) (us : List Tree)
+    → FirstMatches b P Q us → ((u : Tree) → P u → IsOutside (here u)) → ((vs : List Tree) → Q vs → AreOutside (after vs))
+    → AreOutside (first_edit b t here after us)
+first_outside false t here after P Q us h f g = (tt, g us h)
+first_outside true t here after P Q [] h f g = absurd h
+first_outside true t here after P Q (u ∷ us) h f g = (f u h.0, g us h.1)
+
+mutual
+  one_outside : (same : Tree → Tree → Bool) (page : Page) (t u : Tree) → Matches same page t u → IsOutside (edit_of t u)
+  one_outside same page (tree l ts) u h =
+      let p : Pair = record { old = tree l ts; new = u } in
+      let es : Edits = edits_among ts (seen (children_of u)) in
+      by_text (λ b. IsOutside (unless_whole b (tree l ts) (unless_whole (is_group l.kind) (tree l ts) (edit_by (label u).mark p es))))
+      (is_text (writing l.kind)) h (λ x. tt)
+      (λ x. by_group (λ b. IsOutside (unless_whole b (tree l ts) (edit_by (label u).mark p es))) (is_group l.kind) x.1 (λ e s. tt)
+      (λ e n. by_mark (λ c. IsOutside (edit_by c p es)) (label u).mark n
+      (λ o. round_outside (hold_edits es) l ts es e (all_outside same page ts (seen (children_of u)) o.inside)) (λ m. tt)))
+
+  pub all_outside : (same : Tree → Tree → Bool) (page : Page) (ts : Trees) (us : List Tree) → AllMatch same page ts us → AreOutside (edits_among ts us)
+  all_outside same page none us h = tt
+  all_outside same page (more t ts) us h =
+      first_outside (is_compared (showing (label t).kind)) t (λ u. edit_of t u) (λ vs. edits_among ts vs) (λ u. Matches same page t u)
+      (λ vs. AllMatch same page ts vs) us h (λ u m. one_outside same page t u m) (λ vs m. all_outside same page ts vs m)
 
 -- ---- the contents that are edited, in preorder
 
@@ -242,9 +267,9 @@ mark_holds marks.Content p es h = tt
 mark_holds marks.Children p es h = round_holds (hold_edits es) p.old es refl h
 mark_holds marks.Other p es h = round_holds (hold_edits es) p.old es refl h
 
-text_holds : (b : Bool) (t : Tree) (e : Edited) → HoldsOne e → HoldsOne (unless_text b t e)
-text_holds true t e h = tt
-text_holds false t e h = h
+whole_holds : (b : Bool) (t : Tree) (e : Edited) → HoldsOne e → HoldsOne (unless_whole b t e)
+whole_holds true t e h = tt
+whole_holds false t e h = h
 
 first_holds : (b : Bool) (t : Tree) (here : Tree → Edited) (after : List Tree → Edits) (us : List Tree) → ((u : Tree) → HoldsOne (here u))
     → ((vs : List Tree) → AllHoldOne (after vs)) → AllHoldOne (first_edit b t here after us)
@@ -257,7 +282,8 @@ mutual
   one_holds (tree l ts) u =
       let p : Pair = record { old = tree l ts; new = u } in
       let es : Edits = edits_among ts (seen (children_of u)) in
-      text_holds (is_text (writing l.kind)) (tree l ts) (edit_by (label u).mark p es) (mark_holds (label u).mark p es (all_hold_one ts (seen (children_of u))))
+      whole_holds (is_text (writing l.kind)) (tree l ts) (unless_whole (is_group l.kind) (tree l ts) (edit_by (label u).mark p es))
+      (whole_holds (is_group l.kind) (tree l ts) (edit_by (label u).mark p es) (mark_holds (label u).mark p es (all_hold_one ts (seen (children_of u)))))
 
   pub all_hold_one : (ts : Trees) (us : List Tree) → AllHoldOne (edits_among ts us)
   all_hold_one none us = tt

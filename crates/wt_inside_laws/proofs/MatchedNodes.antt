@@ -11,11 +11,11 @@ use Rattle.wt_tree.specs.declared.node.DataMw.{DataMw}
 use Rattle.wt_tree.specs.declared.edit_shape.Editing.{Editing}
 use Rattle.wt_tree.specs.declared.edit_shape.Editing.TheVariants.{Never, Content, InlineContent, Children, TopChildren}
 use Rattle.wt_tree.specs.Kinds.{showing, writing, is_numbered}
-use Rattle.wt_tree.specs.Tiling.{is_group, HasNoGroup, NoneIsGroup, numbers, numbers_of_all}
+use Rattle.wt_tree.specs.Tiling.{is_group, numbers, numbers_of_all}
 use Rattle.wt_tree.specs.Tree.{Label, Tree, tree, Trees, none, more, label}
 use Rattle.wt_link_spelling.specs.Spelling.{children_of}
 use Rattle.wt_checks.specs.Groups.{is_marked, has_mark, have_mark}
-use Rattle.wt_checks.specs.Kept.{HoldsTheSame, NodeAsItWas, NodeKept, MarkKept}
+use Rattle.wt_checks.specs.Kept.{GroupAsItWas, HoldsTheSame, NodeAsItWas, GroupKept, NodeKept, MarkKept}
 use Rattle.wt_checks.specs.Marks.{editing, allows, is_children}
 use Rattle.wt_checks.specs.Places.{Place, placed, all_placed, number, kind_at, is_body, is_content, Page, parent_below}
 use Rattle.wt_checks.specs.PutBack.{is_frame, has_frame, have_frame, IsAsRead}
@@ -30,6 +30,7 @@ use Rattle.wt_checks.proofs.Repeated.{or_false}
 use Rattle.wt_slices.specs.Changes.{pair_with, is_edited, pair_at}
 use Rattle.wt_typed_blocks.proofs.SentGroups.{mark_none}
 use Rattle.wt_inside_laws.specs.AsSent.{seen, HasNoMore, IsAlike}
+use Rattle.wt_inside_laws.proofs.Groups.{group_kind}
 
 -- ---- a node of the page, and what is sent for it
 
@@ -65,10 +66,17 @@ pub record IsMarked (same : Tree → Tree → Bool) (page : Page) (t u : Tree) :
   pub markless : have_mark (children_of u) ≡ false
   pub alike : IsAlike same page (record { old = t; new = u })
 
--- a text, or another node
-abbrev pub TextOr : Bool → Type 0 → Type 0 → Type 0
-TextOr true A B = A
-TextOr false A B = B
+-- a group of the page, and what is sent for it: no mark is on it or in it
+pub record IsSameGroup (page : Page) (t u : Tree) : Type 0 where
+  pub parent : ℕ
+  pub within : Bool
+  pub there : page (label u).id ≡ Some (record { node = t; parent = parent; in_content = within })
+  pub markless : has_mark u ≡ false
+
+-- a text, or a group, or another node
+abbrev pub WholeOr : Bool → Type 0 → Type 0 → Type 0
+WholeOr true A B = A
+WholeOr false A B = B
 
 -- no mark is on it, or `content`
 abbrev pub MarkedBy : Mark → Type 0 → Type 0 → Type 0
@@ -91,8 +99,9 @@ pub record IsOpen (l : Label) (u : Tree) (matched : Type 0) : Type 0 where
 abbrev mutual
   pub Matches : (Tree → Tree → Bool) → Page → Tree → Tree → Type 0
   Matches same page (tree l ts) u =
-      TextOr (is_text (writing l.kind)) (IsSameText l (label u) (children_of u))
-      (IsLike l (label u) × MarkedBy (label u).mark (IsOpen l u (AllMatch same page ts (seen (children_of u)))) (IsMarked same page (tree l ts) u))
+      WholeOr (is_text (writing l.kind)) (IsSameText l (label u) (children_of u))
+      (IsLike l (label u) × WholeOr (is_group l.kind) (IsSameGroup page (tree l ts) u)
+      (MarkedBy (label u).mark (IsOpen l u (AllMatch same page ts (seen (children_of u)))) (IsMarked same page (tree l ts) u)))
 
   pub AllMatch : (Tree → Tree → Bool) → Page → Trees → List Tree → Type 0
   AllMatch same page none [] = Unit {0}
@@ -101,9 +110,13 @@ abbrev mutual
       FirstMatches (is_compared (showing (label t).kind)) (λ u. Matches same page t u) (λ vs. AllMatch same page ts vs) us
 
 -- what follows in both cases
-pub by_text : {A B : Type 0} (P : Bool → Type 0) (b : Bool) → TextOr b A B → (A → P true) → (B → P false) → P b
+pub by_text : {A B : Type 0} (P : Bool → Type 0) (b : Bool) → WholeOr b A B → (A → P true) → (B → P false) → P b
 by_text P true h f g = f h
 by_text P false h f g = g h
+
+pub by_group : {A B : Type 0} (P : Bool → Type 0) (b : Bool) → WholeOr b A B → (b ≡ true → A → P true) → (b ≡ false → B → P false) → P b
+by_group P true h f g = f refl h
+by_group P false h f g = g refl h
 
 pub by_mark : {A B : Type 0} (P : Mark → Type 0) (m : Mark) → MarkedBy m A B → (A → P marks.Nothing) → (B → P marks.Content) → P m
 by_mark P marks.Nothing h f g = f h
@@ -114,6 +127,7 @@ by_mark P marks.Other h f g = absurd h
 -- ---- what is given of a place of what is sent
 
 pub record IsGiven (same : Tree → Tree → Bool) (page : Page) (p : Place) : Type 0 where
+  pub group : GroupKept false page p
   pub node : NodeKept page p
   pub mark : MarkKept page p
   pub read : IsAsRead p
@@ -121,13 +135,13 @@ pub record IsGiven (same : Tree → Tree → Bool) (page : Page) (p : Place) : T
   pub stays : is_children (label p.node).mark ≡ false
   pub alike : AllByRecursion (IsAlike same page) (pair_at page p)
 
-pub all_given : (same : Tree → Tree → Bool) (page : Page) (ps : List Place) → AllByRecursion (NodeKept page) ps → AllByRecursion (MarkKept page) ps
-    → AllByRecursion IsAsRead ps → AllByRecursion (HasNoMore page) ps → AllByRecursion (λ p. is_children (label p.node).mark ≡ false) ps
+pub all_given : (same : Tree → Tree → Bool) (page : Page) (ps : List Place) → AllByRecursion (GroupKept false page) ps
+    → AllByRecursion (NodeKept page) ps → AllByRecursion (MarkKept page) ps → AllByRecursion IsAsRead ps → AllByRecursion (HasNoMore page) ps → AllByRecursion (λ p. is_children (label p.node).mark ≡ false) ps
     → AllByRecursion (λ p. AllByRecursion (IsAlike same page) (pair_at page p)) ps → AllByRecursion (IsGiven same page) ps
-all_given same page [] n m r d s a = tt
-all_given same page (p ∷ ps) n m r d s a = (
-  record { node = n.0; mark = m.0; read = r.0; no_more = d.0; stays = s.0; alike = a.0 },
-  all_given same page ps n.1 m.1 r.1 d.1 s.1 a.1,
+all_given same page [] g n m r d s a = tt
+all_given same page (p ∷ ps) g n m r d s a = (
+  record { group = g.0; node = n.0; mark = m.0; read = r.0; no_more = d.0; stays = s.0; alike = a.0 },
+  all_given same page ps g.1 n.1 m.1 r.1 d.1 s.1 a.1,
 )
 
 -- what holds of all that some places give
@@ -342,6 +356,30 @@ node_same same page i j v l m ts us it z n g h =
       given = h;
     }
 
+-- and of a group, with what is sent for it
+own_data : (c d : Option DataMw) → (false ≡ true) ⊎ (c ≡ d) → d ≡ c
+own_data c d (inl e) = absurd (cc)
+own_data c d (inr e) = sym e
+
+group_same : (same : Tree → Tree → Bool) (page : Page) (i j : ℕ) (v : Bool) (l m : Label) (ts us : Trees)
+    → Itself page (record { node = tree l ts; parent = i; in_content = v }) → l.id ≢ 0 → m.id ≡ l.id → is_group l.kind ≡ true
+    → IsGiven same page (record { node = tree m us; parent = j; in_content = false }) → IsLike l m × IsSameGroup page (tree l ts) (tree m us)
+group_same same page i j v l m ts us it z n g h =
+    let q : Place = record { node = tree l ts; parent = i; in_content = v } in
+    let there : page m.id ≡ Some q = ap page n ∙ it (not_zero_kept l.id z) in
+    let was : GroupAsItWas false (tree l ts) (tree m us) =
+    at_some (λ r. is_group (kind_at r) ≡ true → GroupAsItWas false r.node (tree m us)) (page m.id) q there
+    (h.group (not_zero_kept m.id (λ e. z (sym n ∙ e)))) g in (
+      record {
+        kind = group_kind m.kind was.group ∙ sym (group_kind l.kind g);
+        id = n;
+        attrs = sym was.attrs;
+        mw = own_data l.mw m.mw was.mw;
+        numbered = z;
+      },
+      record { parent = i; within = v; there = there; markless = was.unmarked },
+    )
+
 -- its pair, where it is marked
 pair_there : (same : Tree → Tree → Bool) (page : Page) (t u : Tree) (q p : Place) → (label u).mark ≡ marks.Content → page (label u).id ≡ Some q → q.node ≡ t
     → AllByRecursion (IsAlike same page) (if is_edited (label u).mark then pair_with (page (label u).id) u else [])
@@ -385,21 +423,28 @@ marked_by same page i j v l m ts us marks.Other A e h w f g rest =
     absurd (no_other (editing m.kind) (page m.id)
     (sym (ap (λ (c : Mark). allows (editing m.kind) c (page m.id)) e) ∙ (h.given.mark (ap is_marked e)).allowed))
 
+both_or : {L A B : Type 0} (b : Bool) → (b ≡ true → L × A) → (b ≡ false → L × B) → L × WholeOr b A B
+both_or true f g = f refl
+both_or false f g = g refl
+
 node_matches : (same : Tree → Tree → Bool) (page : Page) (i j : ℕ) (v : Bool) (l m : Label) (ts us : Trees) (A : Type 0) → is_text (writing l.kind) ≡ false
     → is_compared (showing m.kind) ≡ true → entry l ≡ entry m → Itself page (record { node = tree l ts; parent = i; in_content = v })
-    → has_frame (tree l ts) ≡ false → is_group l.kind ≡ false → (is_numbered l.kind ≡ true → l.id ≢ 0)
+    → has_frame (tree l ts) ≡ false → (is_numbered l.kind ≡ true → l.id ≢ 0)
     → AllByRecursion (IsGiven same page) (placed j false (tree m us))
-    → (entries ts ≡ entries us → AllByRecursion (IsGiven same page) (all_placed (parent_below j m.id) false us) → A)
-    → IsLike l m × MarkedBy m.mark (IsOpen l (tree m us) A) (IsMarked same page (tree l ts) (tree m us))
-node_matches same page i j v l m ts us A w c e it f g z h rest =
+    → (is_group l.kind ≡ false → entries ts ≡ entries us → AllByRecursion (IsGiven same page) (all_placed (parent_below j m.id) false us) → A)
+    → IsLike l m × WholeOr (is_group l.kind) (IsSameGroup page (tree l ts) (tree m us))
+    (MarkedBy m.mark (IsOpen l (tree m us) A) (IsMarked same page (tree l ts) (tree m us)))
+node_matches same page i j v l m ts us A w c e it f z h rest =
     let d = or_false (is_frame l.kind) (have_frame ts) f in
     let number : m.id ≡ l.id = node_number (is_text (writing m.kind)) l m refl w c e in
-    let is = node_same same page i j v l m ts us it (z (numbered_kind l.kind d.0 w)) number g h.0 in
-    (is.like, marked_by same page i j v l m ts us m.mark A refl is w d.1 h.1 rest)
+    let some : l.id ≢ 0 = z (numbered_kind l.kind d.0 w) in
+    both_or (is_group l.kind) (λ g. group_same same page i j v l m ts us it some number g h.0)
+    (λ g. let is = node_same same page i j v l m ts us it some number g h.0 in
+    (is.like, marked_by same page i j v l m ts us m.mark A refl is w d.1 h.1 (rest g)))
 
-text_or : {A B : Type 0} (b : Bool) → (b ≡ true → A) → (b ≡ false → B) → TextOr b A B
-text_or true f g = f refl
-text_or false f g = g refl
+whole_or : {A B : Type 0} (b : Bool) → (b ≡ true → A) → (b ≡ false → B) → WholeOr b A B
+whole_or true f g = f refl
+whole_or false f g = g refl
 
 -- ---- all nodes
 
@@ -409,28 +454,28 @@ group_open false ns e h = h
 
 mutual
   one_matches : (same : Tree → Tree → Bool) (page : Page) (i j : ℕ) (v : Bool) (t u : Tree) → AllByRecursion (Itself page) (placed i v t)
-      → has_frame t ≡ false → HasNoGroup t → NoZero (numbers t) → IsSeen t → IsSeen u → entry (label t) ≡ entry (label u)
+      → has_frame t ≡ false → NoZero (numbers t) → IsSeen t → IsSeen u → entry (label t) ≡ entry (label u)
       → AllByRecursion (IsGiven same page) (placed j false u) → Matches same page t u
-  one_matches same page i j v (tree l ts) (tree m us) it f g z c d e h =
+  one_matches same page i j v (tree l ts) (tree m us) it f z c d e h =
       let own = each_split (λ n. n ≢ 0) (if is_numbered l.kind then l.id ∷ [] else []) (if is_group l.kind then [] else numbers_of_all ts) z in
-      text_or (is_text (writing l.kind)) (λ w. text_matches same page (is_text (writing m.kind)) j l m us refl w c d e h.0)
-      (λ w. node_matches same page i j v l m ts us (AllMatch same page ts (seen us)) w d e it.0 f g.0
+      whole_or (is_text (writing l.kind)) (λ w. text_matches same page (is_text (writing m.kind)) j l m us refl w c d e h.0)
+      (λ w. node_matches same page i j v l m ts us (AllMatch same page ts (seen us)) w d e it.0 f
       (own_by (is_numbered l.kind) l.id (if is_group l.kind then [] else numbers_of_all ts) z) h
-      (λ same_held given. all_match same page (parent_below i l.id) (parent_below j m.id) (v || is_content l.mark) ts (seen us) it.1
-      (or_false (is_frame l.kind) (have_frame ts) f).1 g.1 (group_open (is_group l.kind) (numbers_of_all ts) g.0 own.1)
+      (λ g same_held given. all_match same page (parent_below i l.id) (parent_below j m.id) (v || is_content l.mark) ts (seen us) it.1
+      (or_false (is_frame l.kind) (have_frame ts) f).1 (group_open (is_group l.kind) (numbers_of_all ts) g own.1)
       (same_held ∙ entries_seen us) (are_seen us) (seen_given same page (parent_below j m.id) us given)))
 
   pub all_match : (same : Tree → Tree → Bool) (page : Page) (i j : ℕ) (v : Bool) (ts : Trees) (us : List Tree)
-      → AllByRecursion (Itself page) (all_placed i v ts) → have_frame ts ≡ false → NoneIsGroup ts → NoZero (numbers_of_all ts)
+      → AllByRecursion (Itself page) (all_placed i v ts) → have_frame ts ≡ false → NoZero (numbers_of_all ts)
       → entries ts ≡ entry_list us → AllByRecursion IsSeen us → AllByRecursion (λ u. AllByRecursion (IsGiven same page) (placed j false u)) us
       → AllMatch same page ts us
-  all_match same page i j v none [] it f g z e s h = tt
-  all_match same page i j v none (u ∷ us) it f g z e s h = absurd (cc)
-  all_match same page i j v (more t ts) us it f g z e s h =
+  all_match same page i j v none [] it f z e s h = tt
+  all_match same page i j v none (u ∷ us) it f z e s h = absurd (cc)
+  all_match same page i j v (more t ts) us it f z e s h =
       let a = each_split (Itself page) (placed i v t) (all_placed i v ts) it in
       let d = or_false (has_frame t) (have_frame ts) f in
       let n = each_split (λ n. n ≢ 0) (numbers t) (numbers_of_all ts) z in
       first_matches (is_compared (showing (label t).kind)) t (entries ts) (λ u. Matches same page t u) (λ vs. AllMatch same page ts vs)
       (λ u. AllByRecursion (IsGiven same page) (placed j false u)) us refl e s h
-      (λ u x y k given. one_matches same page i j v t u a.0 d.0 g.0 n.0 x y k given)
-      (λ vs k r given. all_match same page i j v ts vs a.1 d.1 g.1 n.1 k r given)
+      (λ u x y k given. one_matches same page i j v t u a.0 d.0 n.0 x y k given)
+      (λ vs k r given. all_match same page i j v ts vs a.1 d.1 n.1 k r given)

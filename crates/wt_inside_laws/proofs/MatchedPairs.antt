@@ -9,6 +9,7 @@ use Rattle.wt_tree.specs.declared.kind.Mark.{Mark}
 use Rattle.wt_tree.specs.declared.kind.Mark.TheVariants as marks
 use Rattle.wt_tree.specs.declared.edit_shape.Place.{Place as Surround}
 use Rattle.wt_tree.specs.Kinds.{showing, writing}
+use Rattle.wt_tree.specs.Tiling.{is_group}
 use Rattle.wt_tree.specs.Tree.{Label, Tree, tree, Trees, none, more, label}
 use Rattle.wt_original.specs.Page.{page_of as block_page}
 use Rattle.wt_guards.specs.Content.{ContentSign}
@@ -30,10 +31,10 @@ use Rattle.wt_selser.specs.declared.refusal.EditRefusal.TheVariants as refusal
 use Rattle.wt_selser.specs.Edits.{first_with, first_of, bad_pair, is_tangled, tangled_pair, refused_pairs}
 use Rattle.wt_splice.specs.Splice.{Change}
 use Rattle.wt_typed_blocks.specs.Edited.{Edited, stays, edited, round, Edits, no_edits, more_edits, page_node, sent_node}
-use Rattle.wt_typed_blocks.proofs.EditedSlices.{Same, pairs_in, pairs_of, change_of, changes_of, no_pairs}
-use Rattle.wt_inside_laws.specs.AsSent.{seen, edit_for, hold_edits, holds_edit, round_if, edit_by, unless_text, first_edit, edit_of, edits_among, IsAlike}
+use Rattle.wt_typed_blocks.proofs.EditedSlices.{Same, pairs_in, pairs_of, change_of, changes_of, no_pairs, no_insides}
+use Rattle.wt_inside_laws.specs.AsSent.{seen, edit_for, hold_edits, holds_edit, round_if, edit_by, unless_whole, first_edit, edit_of, edits_among, IsAlike}
 use Rattle.wt_inside_laws.proofs.MatchedEdits.{edit_page, edits_in, all_edits_in, round_edits}
-use Rattle.wt_inside_laws.proofs.MatchedNodes.{IsSameText, IsHidden, AreHidden, FirstMatches, Matches, AllMatch, by_text, by_mark}
+use Rattle.wt_inside_laws.proofs.MatchedNodes.{IsSameText, IsHidden, AreHidden, FirstMatches, Matches, AllMatch, by_text, by_group, by_mark}
 
 -- ---- marked nodes
 
@@ -97,13 +98,16 @@ mutual
       let es : Edits = edits_among ts (seen (children_of u)) in
       let i : ℕ = parent_below j (label u).id in
       let v : Bool = w || is_content (label u).mark in
-      by_text (λ b. map edit_for (flat_map (pair_at page) (placed j w u)) ≡ edits_in (unless_text b (tree l ts) (edit_by (label u).mark p es)))
+      by_text (λ b. map edit_for (flat_map (pair_at page) (placed j w u))
+      ≡ edits_in (unless_whole b (tree l ts) (unless_whole (is_group l.kind) (tree l ts) (edit_by (label u).mark p es))))
       (is_text (writing l.kind)) h (λ x. ap (map edit_for) (pairs_of_text page j w l u x))
-      (λ x. ap (map edit_for) (pairs_split page j w u)
-      ∙ by_mark (λ c. map edit_for (pairs_by page j w u c) ≡ edits_in (edit_by c p es)) (label u).mark x.1
+      (λ x. by_group (λ b. map edit_for (flat_map (pair_at page) (placed j w u)) ≡ edits_in (unless_whole b (tree l ts) (edit_by (label u).mark p es)))
+      (is_group l.kind) x.1 (λ g s. ap (map edit_for) (no_pairs page j w u s.markless))
+      (λ g n. ap (map edit_for) (pairs_split page j w u)
+      ∙ by_mark (λ c. map edit_for (pairs_by page j w u c) ≡ edits_in (edit_by c p es)) (label u).mark n
       (λ o. ap (map edit_for) (pairs_seen page i v (children_of u) o.hidden) ∙ pairs_are same page i v ts (seen (children_of u)) o.inside
       ∙ sym (round_edits (hold_edits es) l ts es refl))
-      (λ m. ap₂ (λ o qs. map edit_for (pair_with o u ++ qs)) m.there (all_no_pairs page i v (children_of u) m.markless)))
+      (λ m. ap₂ (λ o qs. map edit_for (pair_with o u ++ qs)) m.there (all_no_pairs page i v (children_of u) m.markless))))
 
   pub pairs_are : (same : Same) (page : Page) (j : ℕ) (w : Bool) (ts : Trees) (us : List Tree) → AllMatch same page ts us
       → map edit_for (seen_pairs page j w us) ≡ all_edits_in (edits_among ts us)
@@ -194,13 +198,15 @@ mutual
   one_inside same page (tree l ts) u h =
       let p : Pair = record { old = tree l ts; new = u } in
       let es : Edits = edits_among ts (seen (children_of u)) in
-      by_text (λ b. insides same page u ≡ change_of same (unless_text b (tree l ts) (edit_by (label u).mark p es))) (is_text (writing l.kind)) h
-      (λ x. insides_of_text same page l u x)
-      (λ x. insides_split same page u
-      ∙ by_mark (λ c. insides_by same page u c ≡ change_of same (edit_by c p es)) (label u).mark x.1
+      by_text (λ b. insides same page u ≡ change_of same (unless_whole b (tree l ts) (unless_whole (is_group l.kind) (tree l ts) (edit_by (label u).mark p es))))
+      (is_text (writing l.kind)) h (λ x. insides_of_text same page l u x)
+      (λ x. by_group (λ b. insides same page u ≡ change_of same (unless_whole b (tree l ts) (edit_by (label u).mark p es))) (is_group l.kind) x.1
+      (λ g s. no_insides same page u s.markless)
+      (λ g n. insides_split same page u
+      ∙ by_mark (λ c. insides_by same page u c ≡ change_of same (edit_by c p es)) (label u).mark n
       (λ o. insides_seen same page (children_of u) o.hidden ∙ insides_are same page ts (seen (children_of u)) o.inside
       ∙ sym (round_changes same (hold_edits es) l ts es refl))
-      (λ m. ap (λ (o : Option Place). inside_of same o u) m.there ∙ change_alike same page p m.alike))
+      (λ m. ap (λ (o : Option Place). inside_of same o u) m.there ∙ change_alike same page p m.alike)))
 
   insides_are : (same : Same) (page : Page) (ts : Trees) (us : List Tree) → AllMatch same page ts us
       → seen_insides same page us ≡ changes_of same (edits_among ts us)

@@ -1,6 +1,7 @@
 -- Where nodes are matched, what is sent shows what the edit of these nodes does.
 use Rattle.std.proofs.Common.{◌≡◌, ℕ, Bool, true, false, List, [], ◌∷◌, refl, sym, ap, ◌∙◌}
 use Rattle.std.specs.Prelude.{if◌then◌else◌, Option}
+use Rattle.wt_names.proofs.Cuts.{differs}
 use Rattle.wt_tree.specs.declared.kind.AttrName.{AttrName}
 use Rattle.wt_tree.specs.declared.kind.Kind.{Kind}
 use Rattle.wt_tree.specs.declared.kind.Kind.TheVariants as kind
@@ -10,22 +11,23 @@ use Rattle.wt_tree.specs.declared.node.DataMw.{DataMw}
 use Rattle.wt_tree.specs.EditShapes.{edit_shape}
 use Rattle.wt_tree.specs.Kinds.{showing, writing}
 use Rattle.wt_tree.specs.Plain.{Face, face, Plains, ended, along, element, text_before, shown_before, plain_before, plains_before}
-use Rattle.wt_tree.specs.Tiling.{is_group, HasNoGroup, NoneIsGroup}
+use Rattle.wt_tree.specs.Tiling.{is_group}
 use Rattle.wt_tree.specs.Tree.{Label, Tree, tree, Trees, none, more, label}
 use Rattle.wt_link_spelling.specs.Spelling.{children_of}
-use Rattle.wt_checks.specs.Places.{Page}
+use Rattle.wt_checks.specs.Places.{Place, Page}
 use Rattle.wt_checks.specs.Tokens.{is_text}
 use Rattle.wt_checks.specs.Unmarked.{is_compared}
 use Rattle.wt_checks.proofs.Repeated.{or_false}
 use Rattle.wt_slices.specs.Changes.{Pair}
-use Rattle.wt_visible.specs.Restored.{held_by, restored, all_restored}
+use Rattle.wt_visible.specs.Restored.{held_there, held_by, restored, all_restored}
 use Rattle.wt_typed_blocks.specs.Sent.{kind_of}
 use Rattle.wt_typed_blocks.specs.Edited.{pieces_before, Edited, stays, edited, round, Edits, no_edits, more_edits, page_node, page_nodes, edited_before, edits_before}
 use Rattle.wt_typed_blocks.proofs.EditedShows.{shown_same}
 use Rattle.wt_inside_laws.specs.TextEdits.{takes_text}
-use Rattle.wt_inside_laws.specs.AsSent.{seen, block_by, edit_for, pieces_for, hold_edits, holds_edit, round_if, edit_by, unless_text, first_edit, edit_of, edits_among, IsAlike}
+use Rattle.wt_inside_laws.specs.AsSent.{seen, block_by, edit_for, pieces_for, hold_edits, holds_edit, round_if, edit_by, unless_whole, first_edit, edit_of, edits_among, IsAlike}
+use Rattle.wt_inside_laws.proofs.Groups.{group_plain}
 use Rattle.wt_inside_laws.proofs.MatchedEdits.{pages_are}
-use Rattle.wt_inside_laws.proofs.MatchedNodes.{IsLike, IsSameText, FirstMatches, Matches, AllMatch, by_text, by_mark}
+use Rattle.wt_inside_laws.proofs.MatchedNodes.{IsLike, IsSameText, IsSameGroup, FirstMatches, Matches, AllMatch, by_text, by_group, by_mark}
 
 -- ---- those that are compared
 
@@ -90,6 +92,15 @@ open_shows page l (tree m us) f rest g h s e =
     ∙ ap (λ (k : Kind). shown_before (showing k) m (λ ps. plains_before (all_restored page us) ps) rest) h.kind
     ∙ shown_same (showing l.kind) l m (λ ps. plains_before (all_restored page us) ps) f rest s (face_alike l m h) e
 
+-- a group shows what the page's does
+group_shows : (page : Page) (l : Label) (ts : Trees) (u : Tree) (rest : Plains) → is_group l.kind ≡ true → IsLike l (label u) → IsSameGroup page (tree l ts) u
+    → plain_before (restored page u) rest ≡ plain_before (tree l ts) rest
+group_shows page l ts (tree m us) rest g h s =
+    ap (λ (b : Bool). plain_before (tree m (held_by page b m.id us (all_restored page us))) rest) (ap is_group h.kind ∙ g)
+    ∙ ap (λ (b : Bool). plain_before (tree m (if b then us else held_there (page m.id) us)) rest) (differs m.id 0 (λ e. h.numbered (sym h.id ∙ e)))
+    ∙ ap (λ (o : Option Place). plain_before (tree m (held_there o us)) rest) s.there
+    ∙ group_plain m (tree l ts) rest (ap is_group h.kind ∙ g) g
+
 text_shows : (page : Page) (l : Label) (ts : Trees) (u : Tree) (rest : Plains) → IsSameText l (label u) (children_of u)
     → plain_before (restored page u) rest ≡ plain_before (tree l ts) rest
 text_shows page l ts (tree m us) rest h =
@@ -134,27 +145,30 @@ first_shows page true t here after P Q (u ∷ us) rest e h f g =
     ap (plain_before (restored page u)) (g us h.1) ∙ f u (edits_before (after us) rest) h.0
 
 mutual
-  one_shows : (same : Tree → Tree → Bool) (page : Page) (t u : Tree) (rest : Plains) → HasNoGroup t → Matches same page t u
+  one_shows : (same : Tree → Tree → Bool) (page : Page) (t u : Tree) (rest : Plains) → Matches same page t u
       → plain_before (restored page u) rest ≡ edited_before (edit_of t u) rest
-  one_shows same page (tree l ts) u rest n h =
+  one_shows same page (tree l ts) u rest h =
       let p : Pair = record { old = tree l ts; new = u } in
       let es : Edits = edits_among ts (seen (children_of u)) in
-      by_text (λ b. plain_before (restored page u) rest ≡ edited_before (unless_text b (tree l ts) (edit_by (label u).mark p es)) rest) (is_text (writing l.kind)) h
+      by_text (λ b. plain_before (restored page u) rest
+      ≡ edited_before (unless_whole b (tree l ts) (unless_whole (is_group l.kind) (tree l ts) (edit_by (label u).mark p es))) rest) (is_text (writing l.kind)) h
       (λ x. text_shows page l ts u rest x)
-      (λ x. by_mark (λ c. plain_before (restored page u) rest ≡ edited_before (edit_by c p es) rest) (label u).mark x.1
-      (λ o. open_shows page l u (λ ps. edits_before es ps) rest n.0 x.0 o.shown
-      (λ ps. seen_shows page (children_of u) ps ∙ views_are same page ts (seen (children_of u)) ps n.1 o.inside)
+      (λ x. by_group (λ b. plain_before (restored page u) rest ≡ edited_before (unless_whole b (tree l ts) (edit_by (label u).mark p es)) rest) (is_group l.kind) x.1
+      (λ g s. group_shows page l ts u rest g x.0 s)
+      (λ g n. by_mark (λ c. plain_before (restored page u) rest ≡ edited_before (edit_by c p es) rest) (label u).mark n
+      (λ o. open_shows page l u (λ ps. edits_before es ps) rest g x.0 o.shown
+      (λ ps. seen_shows page (children_of u) ps ∙ views_are same page ts (seen (children_of u)) ps o.inside)
       ∙ round_shows (hold_edits es) l ts es rest refl (pages_are same page ts (seen (children_of u)) o.inside))
-      (λ m. marked_shows same page l ts u rest n.0 x.0 m.alike))
+      (λ m. marked_shows same page l ts u rest g x.0 m.alike)))
 
-  views_are : (same : Tree → Tree → Bool) (page : Page) (ts : Trees) (us : List Tree) (rest : Plains) → NoneIsGroup ts → AllMatch same page ts us
+  views_are : (same : Tree → Tree → Bool) (page : Page) (ts : Trees) (us : List Tree) (rest : Plains) → AllMatch same page ts us
       → seen_before page us rest ≡ edits_before (edits_among ts us) rest
-  views_are same page none [] rest n h = refl
-  views_are same page none (u ∷ us) rest n h = absurd h
-  views_are same page (more t ts) us rest n h =
+  views_are same page none [] rest h = refl
+  views_are same page none (u ∷ us) rest h = absurd h
+  views_are same page (more t ts) us rest h =
       first_shows page (is_compared (showing (label t).kind)) t (λ u. edit_of t u) (λ vs. edits_among ts vs) (λ u. Matches same page t u)
-      (λ vs. AllMatch same page ts vs) us rest refl h (λ u ps m. one_shows same page t u ps n.0 m) (λ vs m. views_are same page ts vs rest n.1 m)
+      (λ vs. AllMatch same page ts vs) us rest refl h (λ u ps m. one_shows same page t u ps m) (λ vs m. views_are same page ts vs rest m)
 
-pub all_shown : (same : Tree → Tree → Bool) (page : Page) (ts us : Trees) (rest : Plains) → NoneIsGroup ts → AllMatch same page ts (seen us)
+pub all_shown : (same : Tree → Tree → Bool) (page : Page) (ts us : Trees) (rest : Plains) → AllMatch same page ts (seen us)
     → plains_before (all_restored page us) rest ≡ edits_before (edits_among ts (seen us)) rest
-all_shown same page ts us rest n h = seen_shows page us rest ∙ views_are same page ts (seen us) rest n h
+all_shown same page ts us rest h = seen_shows page us rest ∙ views_are same page ts (seen us) rest h

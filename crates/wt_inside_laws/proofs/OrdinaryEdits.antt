@@ -5,9 +5,7 @@ use Rattle.wt_span.specs.declared.limits.TheConstants.{HTML_BYTES}
 use Rattle.wt_tree.specs.declared.kind.Kind.{Kind}
 use Rattle.wt_tree.specs.declared.kind.Kind.TheVariants as kind
 use Rattle.wt_tree.specs.EditShapes.{edit_shape}
-use Rattle.wt_tree.specs.Tiling.{NoneIsGroup}
 use Rattle.wt_tree.specs.Tree.{Tree, tree, Trees, none, more, label}
-use Rattle.wt_checks.specs.Kept.{children}
 use Rattle.wt_expand.specs.PageCalls.{expanded_page}
 use Rattle.wt_expand.specs.Work.{Pages}
 use Rattle.wt_link_spelling.specs.Spelling.{children_of}
@@ -32,7 +30,7 @@ use Rattle.wt_inside_laws.specs.ToldEdits.{IsReadBlock, IsOrdinary, IsOrdinaryOn
 use Rattle.wt_inside_laws.proofs.HtmlEdits.{edit_is}
 use Rattle.wt_inside_laws.proofs.PageAlike.{text_edit_sent}
 use Rattle.wt_inside_laws.proofs.ReadSent.{read_for, read_blocks}
-use Rattle.wt_inside_laws.proofs.ToldEdits.{same_node_at, first_same, rest_same, calm_ungrouped, told_edit_done}
+use Rattle.wt_inside_laws.proofs.ToldEdits.{same_node_at, first_same, rest_same, told_edit_done}
 
 -- ---- paths
 
@@ -76,7 +74,7 @@ marked_told : (pages : Pages) (page : List ℕ) (a : AllBlocksTold pages page) (
     → IsRetyped same_node (expanded_page pages page) page m → IsOrdinaryOn page m → IsTold pages page a q
 marked_told pages page a q m e r o =
     told_of pages page a q m.old o.1
-    (a.complete q m.old (at_path q (called_tree pages page) m.old e) (block_kind (label m.old).kind r.block) r.untangled)
+    (a.complete q m.old (at_path q (called_tree pages page) m.old e) (block_kind (label m.old).kind r.block) r.untangled r.closed)
 
 -- one of them is
 some_told : (pages : Pages) (page : List ℕ) (a : AllBlocksTold pages page) (qs : List (List ℕ)) (ms : List Pair)
@@ -122,17 +120,18 @@ all_ordinary page (p ∷ ps) h = (h.0.0, all_ordinary page ps h.1)
 pub ordinary_done : (pages : Pages) (page input : List ℕ) (new : Tree) (u : Option ℕ) → IsOrdinaryEdit pages page input new u
     → edit_to pages page new ≡ done (spliced page (slices same_node (page_tree pages page) new))
 ordinary_done pages page input new u h =
-    let a : AllBlocksTold pages page = all_blocks pages page h.utf8 h.calls_nothing h.ungrouped h.closed in
+    let a : AllBlocksTold pages page = all_blocks pages page h.utf8 h.calls_nothing h.ungrouped in
     let t : Tree = called_tree pages page in
     let ms : List Pair = marked (page_tree pages page) new in
     let es : Edits = edits_of t new in
     let unrefused : refusal_of_page pages page ≡ None = calm_unrefused pages page h.calls_nothing in
-    let g : NoneIsGroup (children t) = calm_ungrouped pages page h.calls_nothing h.ungrouped in
-    let for_page : IsReadFor (page_tree pages page) new = read_for pages page input new u h.utf8 h.short unrefused g h.sent h.edit.checks h.no_group in
-    let blocks = all_read ms (read_blocks same_node (expanded_page pages page) page pages page input new u h.utf8 unrefused g h.sent h.edit.checks h.no_group h.edit.blocks) in
-    let sent : IsSentOn pages page new es = text_edit_sent pages page new h.utf8 unrefused g h.edit for_page blocks.0 in
+    let for_page : IsReadFor (page_tree pages page) new = read_for pages page input new u h.utf8 h.short unrefused h.sent h.edit.checks in
+    let blocks =
+    all_read ms (read_blocks same_node (expanded_page pages page) page pages page input new u h.utf8 h.short unrefused h.sent h.edit.checks h.edit.blocks) in
+    let sent : IsSentOn pages page new es = text_edit_sent pages page new h.utf8 h.short unrefused h.edit for_page blocks.0 in
     let s : AreSome a.ts = some_told pages page a (paths_of es) ms sent.at h.edit.blocks h.blocks h.some in
     told_edit_done pages page a.ts a.behind new (a.told s).told (a.told s).taken (record {
+      short = h.short;
       edit = h.edit;
       read = for_page;
       blocks = blocks.1;

@@ -14,7 +14,7 @@ use Rattle.wt_tree.specs.EditShapes.{edit_shape}
 use Rattle.wt_tree.specs.Kinds.{is_leaf}
 use Rattle.wt_tree.specs.Tiling.{HasNoGroup, NoneIsGroup}
 use Rattle.wt_tree.specs.Tree.{Label, Tree, tree, Trees, none, more, label}
-use Rattle.wt_checks.specs.WithoutMarks.{mark_off, unmarked}
+use Rattle.wt_checks.specs.WithoutMarks.{mark_off}
 use Rattle.wt_content.specs.Content.{has_break}
 use Rattle.wt_original.specs.Kept.{Kept, kept_nodes, kept_with}
 use Rattle.wt_original.specs.Page.{Page, page_of}
@@ -41,6 +41,8 @@ use Rattle.wt_beside_laws.proofs.Styled.OwnStyled.{own_styled}
 use Rattle.wt_beside_laws.proofs.Styled.SentFaults.{text_unbroken, or_both}
 use Rattle.wt_visible.proofs.SameTells.{tells_same}
 use Rattle.wt_called_edit_laws.specs.EditsAt.{IsStanding}
+use Rattle.wt_called_edit_laws.specs.SentAsIs.{as_sent, HaveNumberedGroups}
+use Rattle.wt_called_edit_laws.proofs.Cells.SentAsIs.{none_numbered}
 use Rattle.wt_inside_laws.specs.Contents.{Border, borders, texts, Slot, slots_from, slots}
 use Rattle.wt_inside_laws.specs.RetypedPieces.{pieces_of, as_own, AreRead, ArePiecesOf, Utf8By, AreUtf8, BeginsUnmarked}
 use Rattle.wt_inside_laws.specs.TextEdits.{IsRetypedText, IsOneLine, IsRetyped}
@@ -213,7 +215,7 @@ kept_sent f g o l m i j t h k = element f l i h ∙ sym (element g m j k)
     element inline.AsItStood l i h = refl
 
 abbrev SameSign : Tree → Tree → Type 0
-SameSign t u = (p : Page) (rest : StyledContent) → sent_before p (unmarked t) rest ≡ sent_before p u rest
+SameSign t u = (p : Page) (rest : StyledContent) → sent_before p (as_sent t) rest ≡ sent_before p u rest
 
 abbrev SameStyled : Label → Label → Type 0
 SameStyled l m = (p : Page) (i rest : StyledContent)
@@ -245,7 +247,7 @@ own_signs : (d : ℕ) (p : Page) (ps : Pieces) → HoldIn Anything SameSign Same
 own_signs d p no_pieces h = refl
 own_signs d p (gone t ps) h = own_signs d p ps h
 own_signs d p (written x text ps) h = text_same p x text (sent_pieces (as_own ps)) (sent_pieces ps) (own_signs d p ps h.1)
-own_signs d p (kept t u ps) h = ap (λ (r : StyledContent). sent_before p (unmarked t) r) (own_signs d p ps h.1) ∙ h.0 p (sent_content p (sent_pieces ps))
+own_signs d p (kept t u ps) h = ap (λ (r : StyledContent). sent_before p (as_sent t) r) (own_signs d p ps h.1) ∙ h.0 p (sent_content p (sent_pieces ps))
 own_signs d p (around l m is ps) h =
     ap₂ (λ (i r : StyledContent). sent_by (edit_shape l.kind).inline (kept_with l.id p.kept) (mark_off l) i r) (own_signs (suc d) p is h.1) (own_signs d p ps h.2)
     ∙ h.0 p (sent_content p (sent_pieces is)) (sent_content p (sent_pieces ps))
@@ -309,7 +311,7 @@ own_edit k q items page p r read utf8 h i begins =
     let ks : List Kept = kept_nodes p.old in
     let ps : Pieces = pieces_of ts us in
     let shown : Page = page_of same_node p.old in
-    let free : NoneIsGroup ts = block_ungrouped k q p.old h i in
+    let free : HaveNumberedGroups ts = none_numbered ts (block_ungrouped k q p.old h i) in
     let are : ArePiecesOf ts us ps = retyped_pieces same_node items page p r read in
     let nests = own_nests k q p.old h i in
     let own = own_styled same_node k q p.old tells_same h i in

@@ -1,18 +1,21 @@
 -- The pieces of a retyped content with the page's own nodes: what is in them.
-use Rattle.std.proofs.Common.{arith, ◌≡◌, ◌⊎◌, ℕ, suc, List, [], ◌∷◌, ◌++◌, refl, sym, ap, ap₂, ◌∙◌, subst, inl, inr}
+use Rattle.std.proofs.Common.{arith, ◌≡◌, ◌⊎◌, ℕ, suc, false, List, [], ◌∷◌, ◌++◌, refl, sym, ap, ap₂, ◌∙◌, subst, inl, inr}
 use Rattle.wt_tree.specs.declared.kind.Kind.{Kind}
 use Rattle.wt_tree.specs.declared.kind.Kind.TheVariants as kind
 use Rattle.wt_tree.specs.declared.edit_shape.InlineForm.{InlineForm}
 use Rattle.wt_tree.specs.declared.edit_shape.InlineForm.TheVariants as inline
 use Rattle.wt_tree.specs.EditShapes.{edit_shape}
-use Rattle.wt_tree.specs.Tiling.{HasNoGroup, NoneIsGroup}
+use Rattle.wt_tree.specs.Tiling.{is_group}
 use Rattle.wt_tree.specs.Tree.{Label, Tree, tree, Trees, none, more, label}
 use Rattle.wt_link_spelling.specs.Spelling.{children_of}
 use Rattle.wt_recut.specs.Recutting.{appended}
 use Rattle.wt_typed_blocks.specs.Edited.{IsStyle, Pieces, no_pieces, gone, written, kept, around, new_style, page_pieces, PiecesStay}
-use Rattle.wt_text_edit_laws.proofs.Blocks.OwnNodes.{stands_unmarked}
+use Rattle.wt_typed_blocks.proofs.SentGroups.{style_ungrouped}
+use Rattle.wt_called_edit_laws.specs.SentAsIs.{HasNumberedGroups, HaveNumberedGroups}
+use Rattle.wt_called_edit_laws.proofs.Cells.SentAsIs.{stands_as_sent}
 use Rattle.wt_inside_laws.specs.Contents.{Border, element, bold, italic, end, borders_by, borders_of, borders}
 use Rattle.wt_inside_laws.specs.RetypedPieces.{next_by, up_to_node, piece_by, piece_of, pieces_of, as_own}
+use Rattle.wt_inside_laws.proofs.Groups.{inner_numbered}
 use Rattle.wt_inside_laws.proofs.RetypedPieces.{IsNode, unlike, element_next, bold_next, italic_next}
 use Rattle.wt_inside_laws.proofs.RetypedStay.{same_number}
 use Rattle.wt_inside_laws.proofs.SlotTexts.{LeavesBy, LeavesOf, AllLeaves}
@@ -58,7 +61,7 @@ HoldIn W K A d (new_style m is ps) = ⊥
 -- what is known of an element of the page and the one that was sent for it, and of a style
 abbrev pub OfElements : (Tree → Tree → Type 0) → Type 0
 OfElements K = (l : Label) (ts : Trees) (m : Label) (ws : Trees) → IsElement (edit_shape l.kind).inline → IsElement (edit_shape m.kind).inline → m.id ≡ l.id
-    → HasNoGroup (tree l ts) → K (tree l ts) (tree m ws)
+    → HasNumberedGroups (tree l ts) → K (tree l ts) (tree m ws)
 
 abbrev pub OfStyles : (Label → Label → Type 0) → Type 0
 OfStyles A = (l m : Label) → IsStyle l.kind → AreOfStyle (edit_shape l.kind).inline (edit_shape m.kind).inline → m.id ≡ l.id → A l m
@@ -136,7 +139,7 @@ last_in W K A d (more (tree m ws) us) p =
 -- ---- a node of the page
 
 kept_in : (W : ℕ → List ℕ → Type 0) (K : Tree → Tree → Type 0) (A : Label → Label → Type 0) (d : ℕ) (l : Label) (ts old us : Trees) (after : Trees → Pieces)
-    → OfElements K → AllLeaves W d us → element l.id ∷ borders old ≡ borders us → IsElement (edit_shape l.kind).inline → HasNoGroup (tree l ts)
+    → OfElements K → AllLeaves W d us → element l.id ∷ borders old ≡ borders us → IsElement (edit_shape l.kind).inline → HasNumberedGroups (tree l ts)
     → ((vs : Trees) → AllLeaves W d vs → borders old ≡ borders vs → HoldIn W K A d (after vs))
     → HoldIn W K A d (up_to_node us (λ u vs. kept (tree l ts) u (after vs)))
 kept_in W K A d l ts old us after k p e i g h = up_in W K A d (element l.id) (borders old) us (λ u vs. kept (tree l ts) u (after vs)) p e
@@ -180,14 +183,16 @@ italic_kind k e = cc
 
 one_in : (W : ℕ → List ℕ → Type 0) (K : Tree → Tree → Type 0) (A : Label → Label → Type 0) (d : ℕ) (f : InlineForm) (l : Label) (ts old us : Trees)
     (inside after : Trees → Pieces) → OfElements K → OfStyles A → (edit_shape l.kind).inline ≡ f → AllLeaves W d us
-    → borders_by f l.id (borders ts) ++ borders old ≡ borders us → HasNoGroup (tree l ts)
-    → ((ws : Trees) → AllLeaves W (suc d) ws → borders ts ≡ borders ws → HoldIn W K A (suc d) (inside ws))
+    → borders_by f l.id (borders ts) ++ borders old ≡ borders us → HasNumberedGroups (tree l ts)
+    → (is_group l.kind ≡ false → (ws : Trees) → AllLeaves W (suc d) ws → borders ts ≡ borders ws → HoldIn W K A (suc d) (inside ws))
     → ((vs : Trees) → AllLeaves W d vs → borders old ≡ borders vs → HoldIn W K A d (after vs))
     → HoldIn W K A d (piece_by f l ts inside after us)
 one_in W K A d inline.Nothing l ts old us inside after k a i p e n g h = h us p e
 one_in W K A d inline.Characters l ts old us inside after k a i p e n g h = h us p e
-one_in W K A d inline.Bold l ts old us inside after k a i p e n g h = bold_in W K A d l ts old us inside after a p e i (bold_kind l.kind i) g h
-one_in W K A d inline.Italic l ts old us inside after k a i p e n g h = italic_in W K A d l ts old us inside after a p e i (italic_kind l.kind i) g h
+one_in W K A d inline.Bold l ts old us inside after k a i p e n g h =
+    let s : IsStyle l.kind = bold_kind l.kind i in bold_in W K A d l ts old us inside after a p e i s (g (style_ungrouped l.kind s)) h
+one_in W K A d inline.Italic l ts old us inside after k a i p e n g h =
+    let s : IsStyle l.kind = italic_kind l.kind i in italic_in W K A d l ts old us inside after a p e i s (g (style_ungrouped l.kind s)) h
 one_in W K A d inline.Shown l ts old us inside after k a i p e n g h = kept_in W K A d l ts old us after k p e (subst IsElement (sym i) tt) n h
 one_in W K A d inline.PageLink l ts old us inside after k a i p e n g h = kept_in W K A d l ts old us after k p e (subst IsElement (sym i) tt) n h
 one_in W K A d inline.ExternalLink l ts old us inside after k a i p e n g h = kept_in W K A d l ts old us after k p e (subst IsElement (sym i) tt) n h
@@ -197,14 +202,14 @@ one_in W K A d inline.AsItStood l ts old us inside after k a i p e n g h = kept_
 
 mutual
   tree_in : (W : ℕ → List ℕ → Type 0) (K : Tree → Tree → Type 0) (A : Label → Label → Type 0) → OfElements K → OfStyles A → (t : Tree) (d : ℕ) (old us : Trees)
-      (after : Trees → Pieces) → AllLeaves W d us → borders_of t ++ borders old ≡ borders us → HasNoGroup t
+      (after : Trees → Pieces) → AllLeaves W d us → borders_of t ++ borders old ≡ borders us → HasNumberedGroups t
       → ((vs : Trees) → AllLeaves W d vs → borders old ≡ borders vs → HoldIn W K A d (after vs)) → HoldIn W K A d (piece_of t after us)
   tree_in W K A k a (tree l ts) d old us after p e n h =
       one_in W K A d (edit_shape l.kind).inline l ts old us (λ ws. pieces_of ts ws) after k a refl p e n
-      (λ ws q z. trees_in W K A k a ts (suc d) ws q z n.1) h
+      (λ x ws q z. trees_in W K A k a ts (suc d) ws q z (inner_numbered l ts n x)) h
 
   pub trees_in : (W : ℕ → List ℕ → Type 0) (K : Tree → Tree → Type 0) (A : Label → Label → Type 0) → OfElements K → OfStyles A → (ts : Trees) (d : ℕ) (us : Trees)
-      → AllLeaves W d us → borders ts ≡ borders us → NoneIsGroup ts → HoldIn W K A d (pieces_of ts us)
+      → AllLeaves W d us → borders ts ≡ borders us → HaveNumberedGroups ts → HoldIn W K A d (pieces_of ts us)
   trees_in W K A k a none d us p e n = last_in W K A d us p
   trees_in W K A k a (more t ts) d us p e n = tree_in W K A k a t d ts us (λ vs. pieces_of ts vs) p e n.0 (λ vs q z. trees_in W K A k a ts d vs q z n.1)
 
@@ -233,16 +238,16 @@ mutual
   any_leaves none d = tt
   any_leaves (more t ts) d = (any_leaf t d, any_leaves ts d)
 
-stays_by : (d : ℕ) (ps : Pieces) → HoldIn Anything (λ t u. HasNoGroup t) (λ l m. IsStyle l.kind) d ps → PiecesStay (as_own ps)
+stays_by : (d : ℕ) (ps : Pieces) → HoldIn Anything (λ t u. HasNumberedGroups t) (λ l m. IsStyle l.kind) d ps → PiecesStay (as_own ps)
 stays_by d no_pieces h = tt
 stays_by d (gone t ps) h = stays_by d ps h
 stays_by d (written x text ps) h = stays_by d ps h.1
-stays_by d (kept t u ps) h = (stands_unmarked t h.0, stays_by d ps h.1)
+stays_by d (kept t u ps) h = (stands_as_sent t h.0, stays_by d ps h.1)
 stays_by d (around l m is ps) h =
     (h.0, record { kind = refl; id = refl; attrs = refl; mw = refl; shown = λ e. refl; unmarked = refl }, stays_by (suc d) is h.1, stays_by d ps h.2)
 stays_by d (new_style m is ps) h = absurd h
 
-pub own_pieces_stay : (ts us : Trees) → NoneIsGroup ts → borders us ≡ borders ts → PiecesStay (as_own (pieces_of ts us))
+pub own_pieces_stay : (ts us : Trees) → HaveNumberedGroups ts → borders us ≡ borders ts → PiecesStay (as_own (pieces_of ts us))
 own_pieces_stay ts us n e =
     stays_by 0 (pieces_of ts us)
-    (trees_in Anything (λ t u. HasNoGroup t) (λ l m. IsStyle l.kind) (λ l ts m ws f g i h. h) (λ l m s b i. s) ts 0 us (any_leaves us 0) (sym e) n)
+    (trees_in Anything (λ t u. HasNumberedGroups t) (λ l m. IsStyle l.kind) (λ l ts m ws f g i h. h) (λ l m s b i. s) ts 0 us (any_leaves us 0) (sym e) n)

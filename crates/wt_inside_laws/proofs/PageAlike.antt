@@ -1,10 +1,11 @@
 -- The edit of a page is answered as that of its own nodes.
-use Rattle.std.proofs.Common.{◌≡◌, ℕ, false, List, refl, sym, ap, ◌∙◌, subst}
+use Rattle.std.proofs.Common.{arith, ◌≡◌, ◌≤◌, ℕ, false, List, length, refl, sym, ap, ◌∙◌, subst}
 use Rattle.std.specs.Prelude.{Some, None, Result, Ok, Err, map}
 use Rattle.std.specs.List.{AllByRecursion}
 use Rattle.std.specs.Str.{IsUtf8}
+use Rattle.wt_span.specs.declared.limits.TheConstants.{PAGE_BYTES}
 use Rattle.wt_tree.specs.Opened.{without_sections}
-use Rattle.wt_tree.specs.Tiling.{NoneIsGroup, InPreorder}
+use Rattle.wt_tree.specs.Tiling.{InPreorder}
 use Rattle.wt_tree.specs.Tree.{Tree}
 use Rattle.wt_link_spelling.specs.Spelling.{children_of}
 use Rattle.wt_checks.specs.Checked.{checked}
@@ -24,6 +25,7 @@ use Rattle.wt_slices.specs.BodySlices.{slices}
 use Rattle.wt_slices.specs.Changes.{marked, AllStay}
 use Rattle.wt_selser.specs.declared.refusal.EditRefusal.{EditRefusal}
 use Rattle.wt_commands.specs.Answers.{Answer, refusal_of_page, title_answer, expanded_by, unspelled_by, new_by, edit_by, edit_to, answer_of_edit}
+use Rattle.wt_commands.proofs.LeavesLaws.{page_leaves}
 use Rattle.wt_commands.proofs.SectionEdits.{page_bare}
 use Rattle.wt_typed_blocks.specs.Edited.{Edits}
 use Rattle.wt_called_edit_laws.specs.EditsAt.{sent_contents}
@@ -37,9 +39,9 @@ use Rattle.wt_inside_laws.proofs.MatchedAlike.{edits_as_sent}
 
 -- ---- the page's tree
 
-pub page_plain : (pages : Pages) (page : List ℕ) → IsUtf8 page → refusal_of_page pages page ≡ None → NoneIsGroup (children (called_tree pages page))
+pub page_plain : (pages : Pages) (page : List ℕ) → IsUtf8 page → length page ≤ PAGE_BYTES → refusal_of_page pages page ≡ None
     → IsPlainPage (page_tree pages page)
-page_plain pages page u r g =
+page_plain pages page u le r =
     let b = page_body pages page u r in
     let one : IsOneBody (called_tree pages page) = record { root = ap is_body b.kind; alone = b.unframed } in
     let e : called_tree pages page ≡ without_sections (page_tree pages page) = sym (page_opened pages page u r) in
@@ -48,7 +50,7 @@ page_plain pages page u r g =
       numbered = page_numbered pages page;
       one = subst IsOneBody e one;
       in_order = subst InPreorder e b.numbered;
-      ungrouped = subst (λ (t : Tree). NoneIsGroup (children t)) e g;
+      leaves = page_leaves pages page u (omega (arith, le)) r;
     }
 
 -- ---- the answer
@@ -72,6 +74,7 @@ sent_on pages page new es is h =
     record {
       old = h.old ∙ ap children is;
       stay = h.stay;
+      outside = h.outside;
       at = ap (λ (t : Tree). map (λ path. node_at path t) (paths_of es)) (sym is) ∙ h.at;
       each = h.each;
       only = h.only;
@@ -81,20 +84,20 @@ sent_on pages page new es is h =
       changes = λ b. h.changes b ∙ ap (λ (t : Tree). slices same_node (page_tree pages page) (sent_contents t es b)) is;
     }
 
-pub page_sent : (pages : Pages) (page : List ℕ) (new : Tree) → IsUtf8 page → refusal_of_page pages page ≡ None → NoneIsGroup (children (called_tree pages page))
+pub page_sent : (pages : Pages) (page : List ℕ) (new : Tree) → IsUtf8 page → length page ≤ PAGE_BYTES → refusal_of_page pages page ≡ None
     → checked false (page_tree pages page) new ≡ None → AllStay new → IsReadFor (page_tree pages page) new
     → AllByRecursion (IsAlike same_node (page_of (page_tree pages page))) (marked (page_tree pages page) new)
     → IsSentOn pages page new (edits_of (called_tree pages page) new)
-page_sent pages page new u r g c s d a =
+page_sent pages page new u le r c s d a =
     let e : without_sections (page_tree pages page) ≡ called_tree pages page = page_opened pages page u r in
     subst (λ (t : Tree). IsSentOn pages page new (edits_of t new)) e
     (sent_on pages page new (edits_of (without_sections (page_tree pages page)) new) e
-    (edits_as_sent same_node (page_tree pages page) new (page_plain pages page u r g) c s d a))
+    (edits_as_sent same_node (page_tree pages page) new (page_plain pages page u le r) c s d a))
 
-pub text_edit_sent : (pages : Pages) (page : List ℕ) (new : Tree) → IsUtf8 page → refusal_of_page pages page ≡ None
-    → NoneIsGroup (children (called_tree pages page)) → IsTextEdit same_node (expanded_page pages page) page (page_tree pages page) new
+pub text_edit_sent : (pages : Pages) (page : List ℕ) (new : Tree) → IsUtf8 page → length page ≤ PAGE_BYTES → refusal_of_page pages page ≡ None
+    → IsTextEdit same_node (expanded_page pages page) page (page_tree pages page) new
     → IsReadFor (page_tree pages page) new → AllByRecursion (λ p. AreRead (children_of p.new)) (marked (page_tree pages page) new)
     → IsSentOn pages page new (edits_of (called_tree pages page) new)
-text_edit_sent pages page new u r g e d a =
-    page_sent pages page new u r g e.checks e.stays d
-    (all_alike same_node (expanded_page pages page) page (page_tree pages page) new tells_same (page_plain pages page u r g) d e.blocks a)
+text_edit_sent pages page new u le r e d a =
+    page_sent pages page new u le r e.checks e.stays d
+    (all_alike same_node (expanded_page pages page) page (page_tree pages page) new tells_same (page_plain pages page u le r) e.blocks a)

@@ -1,15 +1,19 @@
 -- Worked cases of trees that are sent, by computing: what is sent outside the marked blocks besides the page's elements counts for nothing.
-use Rattle.std.proofs.Common.{◌≡◌, ℕ, Bool, true, Some, List, [], ◌∷◌, refl}
+use Rattle.std.proofs.Common.{◌≡◌, ℕ, Bool, true, None, Some, List, [], ◌∷◌, refl}
 use Rattle.std.specs.Prelude.{codes}
+use Rattle.wt_span.specs.declared.tag_name.TagName.TheVariants as tag
 use Rattle.wt_tree.specs.declared.kind.Kind.TheVariants as kind
 use Rattle.wt_tree.specs.declared.kind.Mark.TheVariants as marks
 use Rattle.wt_tree.specs.Opened.{without_sections}
+use Rattle.wt_tree.specs.Plain.{text as shown, element, ended, along}
 use Rattle.wt_tree.specs.Tree.{Tree, tree, trees, label}
 use Rattle.wt_link_spelling.specs.Spelling.{children_of}
 use Rattle.wt_slices.specs.Changes.{Pair, marked}
-use Rattle.wt_typed_blocks.specs.Edited.{no_edits, more_edits, round, Edits}
+use Rattle.wt_typed_blocks.specs.Edited.{no_pieces, gone, written, kept, no_edits, more_edits, round, Edits}
+use Rattle.wt_called_edit_laws.specs.SentAsIs.{as_node, as_sent}
 use Rattle.wt_inside_laws.specs.AsSent.{edit_for, as_it_is, edits_of, paths_of, node_at}
-use Rattle.wt_inside_laws.proofs.InsidesCases.{text, leaf, inner}
+use Rattle.wt_inside_laws.specs.RetypedPieces.{pieces_of, as_own}
+use Rattle.wt_inside_laws.proofs.InsidesCases.{text, leaf, inner, group}
 
 abbrev same : Tree → Tree → Bool
 same t u = true
@@ -97,6 +101,36 @@ new_heading = with_mark (inner (kind.Heading 2) 1 [] (text (codes "g") ∷ []) [
 section_opened : edits_of (without_sections in_sections) (body (new_heading ∷ []))
     ≡ more_edits (edit_for (record { old = heading; new = new_heading })) (more_edits (as_it_is (separator (codes "\n"))) no_edits)
 section_opened = refl
+
+-- a page with a group alone, and one in a paragraph, in which something else is typed beside it
+abbrev table_given : Tree
+table_given = group 1 (codes "{{t}}") (inner kind.Table 0 [] (inner kind.Tr 0 [] [] [] ∷ []) [] ∷ [])
+
+abbrev word_given : Tree
+word_given = group 3 (codes "{{w}}") (text (codes "w") ∷ [])
+
+abbrev beside_it : Tree
+beside_it = inner kind.Para 2 [] (text (codes "a ") ∷ word_given ∷ []) []
+
+-- they are sent by the elements that are written for them
+abbrev table_sent : Tree
+table_sent = group 1 [] (inner kind.Table 0 [] (inner kind.Tr 0 [] [] [] ∷ []) [] ∷ [])
+
+abbrev typed_beside_it : Tree
+typed_beside_it = with_mark (inner kind.Para 2 [] (text (codes "b ") ∷ group 3 [] (inner (kind.Tag tag.Span) 0 [] (text (codes "w") ∷ []) [] ∷ []) ∷ []) [])
+
+groups_stay : edits_of (body (table_given ∷ separator (codes "\n") ∷ beside_it ∷ [])) (body (table_sent ∷ typed_beside_it ∷ []))
+    ≡ more_edits (as_it_is table_given)
+    (more_edits (as_it_is (separator (codes "\n"))) (more_edits (edit_for (record { old = beside_it; new = typed_beside_it })) no_edits))
+groups_stay = refl
+
+-- and so are the page's own
+word_stays : as_own (pieces_of (children_of beside_it) (children_of typed_beside_it))
+    ≡ gone (text (codes "a ")) (written (label (text (codes "b "))) (codes "b ") (kept word_given (as_sent word_given) no_pieces))
+word_stays = refl
+
+word_sent : children_of (as_sent word_given) ≡ trees (as_node (element (record { kind = kind.Tag tag.Span; attrs = []; mw = None }) (along (shown (codes "w")) ended)) ∷ [])
+word_sent = refl
 
 -- where nothing is marked, all stays
 nothing_marked : edits_of page (body (first ∷ table (cell (b_in_cell ∷ [])) ∷ []))

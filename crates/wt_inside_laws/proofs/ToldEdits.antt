@@ -4,11 +4,8 @@ use Rattle.std.specs.List.{AllByRecursion}
 use Rattle.std.specs.Str.{IsUtf8}
 use Rattle.wt_span.specs.declared.limits.TheConstants.{PAGE_BYTES}
 use Rattle.wt_span.specs.Items.{Item}
-use Rattle.wt_tree.specs.Tiling.{HasNoGroup, NoneIsGroup}
 use Rattle.wt_tree.specs.Tree.{Label, Tree, tree, Trees, none, more, label}
-use Rattle.wt_checks.specs.Kept.{children}
 use Rattle.wt_checks.specs.Places.{page_of}
-use Rattle.wt_expand.specs.PageItems.{page_items}
 use Rattle.wt_expand.specs.PageCalls.{expanded_page}
 use Rattle.wt_expand.specs.Work.{Pages}
 use Rattle.wt_link_spelling.specs.Spelling.{children_of}
@@ -24,25 +21,19 @@ use Rattle.wt_typed_blocks.specs.Edited.{Edited, stays, edited, round, Edits, no
 use Rattle.wt_text_edit_laws.specs.BlockSpots.{BlockSpot, spots_source, AreContents}
 use Rattle.wt_text_edit_laws.specs.Contents.{IsContent}
 use Rattle.wt_text_edit_laws.specs.NoCalls.{CallsNothing}
-use Rattle.wt_text_edit_laws.specs.Parts.{HasNoGroups}
-use Rattle.wt_text_edit_laws.specs.TextBlocks.{TextBlock, block_tree}
-use Rattle.wt_text_edit_laws.proofs.Between.NoCalls.{calm_expanded}
+use Rattle.wt_text_edit_laws.specs.TextBlocks.{TextBlock, block_items, block_tree}
 use Rattle.wt_inline.specs.ItemTree.{ItemTree}
-use Rattle.wt_annotated.specs.Annotated.{annotated}
-use Rattle.wt_annotated.specs.GroupData.{group_data}
-use Rattle.wt_page.specs.Body.{meaning}
 use Rattle.wt_beside_laws.specs.StyledIn.{IsStyledIn, IsStyledEditOf}
 use Rattle.wt_beside_laws.proofs.Own.Kept.{content_styled}
+use Rattle.wt_called_edit_laws.specs.CalledBlocks.{CallNothing}
 use Rattle.wt_called_edit_laws.specs.CalledPages.{IsCalledPage}
 use Rattle.wt_called_edit_laws.specs.ContentsTaken.{TakesContents}
 use Rattle.wt_called_edit_laws.specs.EditsAt.{IsStanding, StandsTo, StandsAmong, AllStand, edited_at, edited_among, edited_by, edited_page, Fits, FitsSpot, AreFitting, IsContentEdit}
 use Rattle.wt_called_edit_laws.specs.Groups.{called_tree}
 use Rattle.wt_called_edit_laws.specs.PlacedLines.{spots_by, end_by}
-use Rattle.wt_called_edit_laws.specs.PlacedSpots.{IsPlacedPage}
 use Rattle.wt_called_edit_laws.specs.ToldLines.{Told, lined, IsToldPage}
-use Rattle.wt_called_edit_laws.proofs.Cells.PlacedLines.{lined_whole, lined_in}
+use Rattle.wt_called_edit_laws.proofs.Cells.PlacedLines.{lined_whole}
 use Rattle.wt_called_edit_laws.proofs.EditFacts.{spots_utf8, spots_contents}
-use Rattle.wt_called_edit_laws.proofs.Told.OwnReads.{OwnRead, AllRead, page_read}
 use Rattle.wt_called_edit_laws.proofs.Told.ToldPages.{told_lined, told_called}
 use Rattle.wt_inside_laws.specs.AsSent.{pieces_for, edit_for, edits_of, past_first, paths_in, paths_of, node_at, node_among, IsOneOf, IsAlike, IsSentOn}
 use Rattle.wt_inside_laws.specs.RetypedPieces.{AreRead}
@@ -149,11 +140,11 @@ pair_at pages page t es p (q ∷ qs) (m ∷ ms) (inr h) k e f =
 
 -- ---- what is sent fits
 
-pair_fits : (pages : Pages) (page : List ℕ) (k : TextBlock) (q : List ℕ) (p : Pair) → IsContent k q → OwnRead k q → IsStanding (block_tree k q) p.old
-    → IsKnownPair pages page p → Fits k q (edit_for p)
+pair_fits : (pages : Pages) (page : List ℕ) (k : TextBlock) (q : List ℕ) (p : Pair) → IsContent k q → CallsNothing (block_items k q)
+    → IsStanding (block_tree k q) p.old → IsKnownPair pages page p → Fits k q (edit_for p)
 pair_fits pages page k q p c r s h =
     let ended : HasEndedNodes k q p.old = h.ordinary k q s in
-    let styled : IsStyledIn k q = content_styled k q c r.calm ended.paired ended.ended in
+    let styled : IsStyledIn k q = content_styled k q c r ended.paired ended.ended in
     inr (
       styled,
       subst (λ (t : Tree). IsStyledEditOf k t (pieces_for p)) (sym (same_old same_node (page_of (page_tree pages page)) p h.alike))
@@ -167,7 +158,7 @@ record SentKnown (pages : Pages) (page : List ℕ) (t : Tree) (es : Edits) (ms :
   each : map (edited_by es) (paths_of es) ≡ map (λ m. Some (edit_for m)) ms
 
 spot_fits : (pages : Pages) (page : List ℕ) (t : Tree) (es : Edits) (ms : List Pair) (s : BlockSpot) (p : List ℕ) (o : Option Edited) → edited_by es p ≡ o
-    → SentKnown pages page t es ms → IsContent s.block s.text → OwnRead s.block s.text → StandsTo (block_tree s.block s.text) p t → FitsSpot s o
+    → SentKnown pages page t es ms → IsContent s.block s.text → CallsNothing (block_items s.block s.text) → StandsTo (block_tree s.block s.text) p t → FitsSpot s o
 spot_fits pages page t es ms s p None e h c r st = tt
 spot_fits pages page t es ms s p (Some x) e h c r st =
     let a : PairAt pages page t es p = pair_at pages page t es p (paths_of es) ms (path_by es p x e) h.pairs h.at h.each in
@@ -176,7 +167,7 @@ spot_fits pages page t es ms s p (Some x) e h c r st =
     subst (FitsSpot s) (sym a.found ∙ e) fits
 
 all_fit : (pages : Pages) (page : List ℕ) (t : Tree) (es : Edits) (ms : List Pair) (ss : List BlockSpot) (ps : List (List ℕ)) → SentKnown pages page t es ms
-    → AreContents ss → AllRead ss → AllStand ss ps t → AreFitting ss (map (edited_by es) ps)
+    → AreContents ss → CallNothing ss → AllStand ss ps t → AreFitting ss (map (edited_by es) ps)
 all_fit pages page t es ms [] [] h c r st = tt
 all_fit pages page t es ms [] (p ∷ ps) h c r st = absurd st
 all_fit pages page t es ms (s ∷ ss) [] h c r st = absurd st
@@ -189,11 +180,12 @@ reads : (ps : List Pair) → AllByRecursion IsReadBlock ps → AllByRecursion (�
 reads [] h = tt
 reads (p ∷ ps) h = (h.0.read, reads ps h.1)
 
-told_done : (pages : Pages) (ss : List BlockSpot) (behind : List ℕ) (new : Tree) (c : TakesContents pages ss behind) → IsCalledPage pages ss behind → AllRead ss
-    → NoneIsGroup (children (called_tree pages (spots_source ss behind))) → IsToldEdit pages (spots_source ss behind) c.paths new
+-- of a page with these blocks, whatever is called beside them
+pub called_done : (pages : Pages) (ss : List BlockSpot) (behind : List ℕ) (new : Tree) (c : TakesContents pages ss behind) → IsCalledPage pages ss behind
+    → IsToldEdit pages (spots_source ss behind) c.paths new
     → edit_to pages (spots_source ss behind) new ≡ done (spliced (spots_source ss behind) (slices same_node (page_tree pages (spots_source ss behind)) new))
 unfolding most_bytes
-told_done pages ss behind new c h r g e =
+called_done pages ss behind new c h e =
     let page : List ℕ = spots_source ss behind in
     let t : Tree = called_tree pages page in
     let ms : List Pair = marked (page_tree pages page) new in
@@ -201,14 +193,15 @@ told_done pages ss behind new c h r g e =
     let b : Label = label new in
     let utf8 : IsUtf8 page = spots_utf8 pages ss behind h in
     let read : AllByRecursion (λ p. AreRead (children_of p.new)) ms = reads ms e.blocks in
-    let sent : IsSentOn pages page new es = text_edit_sent pages page new utf8 h.unrefused g e.edit e.read read in
-    let alike = all_alike same_node (expanded_page pages page) page (page_tree pages page) new tells_same (page_plain pages page utf8 h.unrefused g) e.read e.edit.blocks read in
+    let sent : IsSentOn pages page new es = text_edit_sent pages page new utf8 e.short h.unrefused e.edit e.read read in
+    let alike =
+    all_alike same_node (expanded_page pages page) page (page_tree pages page) new tells_same (page_plain pages page utf8 e.short h.unrefused) e.edit.blocks read in
     let pairs : SentKnown pages page t es ms = record { pairs = known pages page ms e.edit.blocks alike e.blocks e.ordinary; at = sent.at; each = sent.each } in
     let edit : IsContentEdit t ss c.paths es = record {
       old = sent.old;
       sent = sent.stay;
       edits = sent.only c.paths e.among;
-      fit = all_fit pages page t es ms ss c.paths pairs (spots_contents pages ss behind h) r c.stand;
+      fit = all_fit pages page t es ms ss c.paths pairs (spots_contents pages ss behind h) h.outside.among.calm c.stand;
     } in
     let same : spliced page (slices same_node (page_tree pages page) new) ≡ edited_page ss behind c.paths es =
     ap (spliced page) (sent.changes b) ∙ c.makes b es edit in
@@ -217,16 +210,6 @@ told_done pages ss behind new c h r g e =
 
 -- ---- of a page that its lines tell
 
-pub calm_ungrouped : (pages : Pages) (page : List ℕ) → CallsNothing (page_items page) → HasNoGroups page → NoneIsGroup (children (called_tree pages page))
-calm_ungrouped pages page c h =
-    none_in (called_tree pages page) (subst HasNoGroup (sym (ap (λ x. annotated x.outer (group_data x.outer) (meaning x.items)) (calm_expanded pages page c))) h)
-  where
-    none_in : (t : Tree) → HasNoGroup t → NoneIsGroup (children t)
-    none_in (tree l ts) h = h.1
-
-pub ungrouped : (pages : Pages) (page : List ℕ) (ts : List Told) (rest : List (List Item)) → IsToldPage page ts rest → NoneIsGroup (children (called_tree pages page))
-ungrouped pages page ts rest h = calm_ungrouped pages page h.calls_nothing h.ungrouped
-
 pub told_edit_done : (pages : Pages) (page : List ℕ) (ts : List Told) (rest : List (List Item)) (new : Tree) → IsToldPage page ts rest
     → (c : TakesContents pages (spots_by [] (map lined ts)) (end_by [] (map lined ts) rest)) → IsToldEdit pages page c.paths new
     → edit_to pages page new ≡ done (spliced page (slices same_node (page_tree pages page) new))
@@ -234,9 +217,6 @@ told_edit_done pages page ts rest new h c e =
     let ss : List BlockSpot = spots_by [] (map lined ts) in
     let behind : List ℕ = end_by [] (map lined ts) rest in
     let lines = told_lined page ts rest h in
-    let placed : IsPlacedPage ss behind = lined_in page (map lined ts) rest lines in
-    let reading = page_read ss behind placed.utf8 placed.calls_nothing placed.closed placed.blocks in
     let whole : spots_source ss behind ≡ page = lined_whole page (map lined ts) rest lines.are lines.lined in
-    subst (λ (bs : List ℕ). NoneIsGroup (children (called_tree pages bs)) → IsToldEdit pages bs c.paths new
-    → edit_to pages bs new ≡ done (spliced bs (slices same_node (page_tree pages bs) new))) whole
-    (λ g k. told_done pages ss behind new c (told_called pages page ts rest h) reading.read g k) (ungrouped pages page ts rest h) e
+    subst (λ (bs : List ℕ). IsToldEdit pages bs c.paths new → edit_to pages bs new ≡ done (spliced bs (slices same_node (page_tree pages bs) new))) whole
+    (λ k. called_done pages ss behind new c (told_called pages page ts rest h) k) e

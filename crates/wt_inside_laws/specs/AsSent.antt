@@ -13,7 +13,7 @@ use Rattle.wt_tree.specs.EditShapes.{edit_shape}
 use Rattle.wt_tree.specs.Kinds.{showing, writing}
 use Rattle.wt_tree.specs.Opened.{without_sections}
 use Rattle.wt_tree.specs.Plain.{Plains, plains_before}
-use Rattle.wt_tree.specs.Tiling.{NoneIsGroup, InPreorder}
+use Rattle.wt_tree.specs.Tiling.{is_group, InPreorder}
 use Rattle.wt_tree.specs.Tree.{Label, Tree, tree, Trees, none, more, label}
 use Rattle.wt_original.specs.Page.{page_of as block_page}
 use Rattle.wt_link_spelling.specs.Spelling.{children_of, signs_of_all}
@@ -23,7 +23,7 @@ use Rattle.wt_checks.specs.Places.{Place, places, number, is_kept, Page, page_of
 use Rattle.wt_checks.specs.PutBack.{IsOneBody, AreAsRead}
 use Rattle.wt_checks.specs.Tokens.{is_text}
 use Rattle.wt_checks.specs.Unmarked.{is_compared}
-use Rattle.wt_checks.specs.WithoutMarks.{mark_off, unmarked}
+use Rattle.wt_checks.specs.WithoutMarks.{mark_off}
 use Rattle.wt_content.specs.Content.{outermost, all_faults}
 use Rattle.wt_slices.specs.Changes.{Pair, marked}
 use Rattle.wt_visible.specs.Children.{shown_children}
@@ -31,13 +31,15 @@ use Rattle.wt_slices.specs.BodySlices.{slices}
 use Rattle.wt_visible.specs.Restored.{all_restored, restored_from}
 use Rattle.wt_visible.specs.SameNodes.{same_node}
 use Rattle.wt_selser.specs.Edits.{edit_answer}
+use Rattle.wt_selser.specs.Leaves.{LeavesHoldNoNumber}
 use Rattle.wt_typed_blocks.specs.Sent.{Block, paragraph, heading}
-use Rattle.wt_typed_blocks.specs.Edited.{Pieces, page_pieces, sent_pieces, PiecesStay, pieces_before, Edited, stays, edited, round, Edits, no_edits, more_edits, page_nodes, AreEdited, sent_body}
+use Rattle.wt_typed_blocks.specs.Edited.{Pieces, page_pieces, sent_pieces, PiecesStay, pieces_before, Edited, stays, edited, round, Edits, no_edits, more_edits, page_nodes, AreEdited, AreOutside, sent_body}
 use Rattle.wt_expand.specs.Work.{Pages}
 use Rattle.wt_page_round_trip.specs.PageTree.{page_tree}
 use Rattle.wt_commands.specs.Answers.{edit_to}
 use Rattle.wt_called_edit_laws.specs.EditsAt.{edited_by, AllEditOnly, sent_contents}
 use Rattle.wt_called_edit_laws.specs.Groups.{called_tree}
+use Rattle.wt_called_edit_laws.specs.SentAsIs.{as_sent}
 use Rattle.wt_inside_laws.specs.RetypedPieces.{pieces_of, as_own}
 use Rattle.wt_inside_laws.specs.TextEdits.{takes_text}
 
@@ -62,9 +64,9 @@ pieces_for p = as_own (pieces_of (children_of p.old) (children_of p.new))
 abbrev pub edit_for : Pair → Edited
 edit_for p = edited (block_by (edit_shape (label p.old).kind).form) (label p.old) (label p.new) (pieces_for p)
 
--- a node of the page that is sent as it is, without marks
+-- a node of the page that is sent as it is, without marks; of each group the elements that are written for it
 abbrev pub as_it_is : Tree → Edited
-as_it_is t = stays t (unmarked t)
+as_it_is t = stays t (as_sent t)
 
 -- a content is edited there
 abbrev mutual
@@ -88,9 +90,10 @@ edit_by marks.Content p es = edit_for p
 edit_by marks.Children p es = round_if (hold_edits es) p.old es
 edit_by marks.Other p es = round_if (hold_edits es) p.old es
 
-abbrev pub unless_text : Bool → Tree → Edited → Edited
-unless_text true t e = as_it_is t
-unless_text false t e = e
+-- a text, or a group, is sent as it is
+abbrev pub unless_whole : Bool → Tree → Edited → Edited
+unless_whole true t e = as_it_is t
+unless_whole false t e = e
 
 -- A node of the page that is compared is the next of those that are sent.
 abbrev pub first_edit : Bool → Tree → (Tree → Edited) → (List Tree → Edits) → List Tree → Edits
@@ -101,8 +104,9 @@ first_edit true t here after (u ∷ us) = more_edits (here u) (after us)
 abbrev mutual
   pub edit_of : Tree → Tree → Edited
   edit_of (tree l ts) u =
-      unless_text (is_text (writing l.kind)) (tree l ts)
-      (edit_by (label u).mark (record { old = tree l ts; new = u }) (edits_among ts (seen (children_of u))))
+      unless_whole (is_text (writing l.kind)) (tree l ts)
+      (unless_whole (is_group l.kind) (tree l ts)
+      (edit_by (label u).mark (record { old = tree l ts; new = u }) (edits_among ts (seen (children_of u)))))
 
   pub edits_among : Trees → List Tree → Edits
   edits_among none us = no_edits
@@ -150,24 +154,23 @@ AreSomeOf ps qs = AllByRecursion (λ p. IsOneOf p qs) ps
 
 -- ---- what is asked of what is sent
 
--- A page without groups, in its sections or without them: its numbers are in preorder, and the body is the only one.
+-- A page, in its sections or without them: its numbers are in preorder, and the body is the only one; no leaf holds a number.
 pub record IsPlainPage (t : Tree) : Type 0 where
   pub sections : HasBareSections t
   pub numbered : InPreorder t
   pub one : IsOneBody (without_sections t)
   pub in_order : InPreorder (without_sections t)
-  pub ungrouped : NoneIsGroup (children (without_sections t))
+  pub leaves : LeavesHoldNoNumber (without_sections t)
 
 -- outside marked blocks: where the page's node with its number has no data, it has none
 abbrev pub HasNoMore : Page → Place → Type 0
 HasNoMore page p = is_kept p ≡ true → p.in_content ≡ false → MatchOption (page (number p)) (Unit {0}) (λ q. (label q.node).mw ≡ None → (label p.node).mw ≡ None)
 
--- What is sent for a page without groups, as it is read: one body without sections, whose texts, separators, marks and skips hold nothing; no group
--- is in it, and no more data than in the page.
+-- What is sent for a page, as it is read: one body without sections, whose texts, separators, marks and skips hold nothing; no more data is in it than
+-- in the page.
 pub record IsReadFor (t new : Tree) : Type 0 where
   pub one : IsOneBody new
   pub read : AreAsRead new
-  pub ungrouped : NoneIsGroup (children new)
   pub no_more : AllByRecursion (HasNoMore (page_of t)) (places new)
 
 -- Of a marked paragraph or heading of the page these pieces are the content, and what is sent for it is written as they are, is refused where they
@@ -183,11 +186,12 @@ pub record IsAlike (same : Tree → Tree → Bool) (page : Page) (p : Pair) : Ty
 
 -- ---- the same edit
 
--- The edit of the page's nodes, of which the marked ones alone are edited: at their paths, in their order. It is answered as what was sent, shows
--- what that shows, and replaces the same slices of the page.
+-- The edit of the page's nodes, of which the marked ones alone are edited: at their paths, in their order, and none of them in a group. It is answered
+-- as what was sent, shows what that shows, and replaces the same slices of the page.
 pub record IsAsSent (same : Tree → Tree → Bool) (t new : Tree) (es : Edits) : Type 0 where
   pub old : page_nodes es ≡ children (without_sections t)
   pub stay : AreEdited es
+  pub outside : AreOutside es
   pub at : map (λ path. node_at path (without_sections t)) (paths_of es) ≡ map (λ p. Some p.old) (marked t new)
   pub each : map (edited_by es) (paths_of es) ≡ map (λ p. Some (edit_for p)) (marked t new)
   pub only : (paths : List (List ℕ)) → AreSomeOf (paths_of es) paths → AllEditOnly paths es
@@ -200,6 +204,7 @@ pub record IsAsSent (same : Tree → Tree → Bool) (t new : Tree) (es : Edits) 
 pub record IsSentOn (pages : Pages) (page : List ℕ) (new : Tree) (es : Edits) : Type 0 where
   pub old : page_nodes es ≡ children (called_tree pages page)
   pub stay : AreEdited es
+  pub outside : AreOutside es
   pub at : map (λ path. node_at path (called_tree pages page)) (paths_of es) ≡ map (λ p. Some p.old) (marked (page_tree pages page) new)
   pub each : map (edited_by es) (paths_of es) ≡ map (λ p. Some (edit_for p)) (marked (page_tree pages page) new)
   pub only : (paths : List (List ℕ)) → AreSomeOf (paths_of es) paths → AllEditOnly paths es

@@ -8,11 +8,12 @@ use Rattle.wt_tree.specs.Tree.{Label, Tree, tree, Trees, none, more, label}
 use Rattle.wt_tree.specs.declared.edit_shape.InlineForm.{InlineForm}
 use Rattle.wt_tree.specs.declared.edit_shape.InlineForm.TheVariants as inline
 use Rattle.wt_tree.specs.EditShapes.{edit_shape}
-use Rattle.wt_checks.specs.WithoutMarks.{mark_off, unmarked}
+use Rattle.wt_checks.specs.WithoutMarks.{mark_off}
 use Rattle.wt_link_spelling.specs.Spelling.{children_of}
 use Rattle.wt_typed_blocks.specs.Sent.{IsSentAsIs, StandsAsIs}
 use Rattle.wt_text_edit_laws.specs.TextBlocks.{TextBlock, a_paragraph, a_heading}
 use Rattle.wt_beside_laws.specs.OwnLed.{begin_marked}
+use Rattle.wt_called_edit_laws.specs.SentAsIs.{as_sent}
 use Rattle.wt_typed_blocks.specs.Edited.{IsStyle, Pieces, no_pieces, gone, written, kept, around, new_style, page_pieces, sent_pieces}
 
 -- ---- the pieces
@@ -57,12 +58,12 @@ abbrev mutual
   pieces_of none us = up_to_node us (λ u vs. no_pieces)
   pieces_of (more t ts) us = piece_of t (λ vs. pieces_of ts vs) us
 
--- The same with the page's own nodes in the place of those that were sent, without marks.
+-- The same with the page's own nodes in the place of those that were sent, without marks; of each group the elements that are written for it.
 abbrev pub as_own : Pieces → Pieces
 as_own no_pieces = no_pieces
 as_own (gone t ps) = gone t (as_own ps)
 as_own (written x text ps) = written x text (as_own ps)
-as_own (kept t u ps) = kept t (unmarked t) (as_own ps)
+as_own (kept t u ps) = kept t (as_sent t) (as_own ps)
 as_own (around l m is ps) = around l (mark_off l) (as_own is) (as_own ps)
 as_own (new_style m is ps) = new_style m (as_own is) (as_own ps)
 

@@ -3,7 +3,7 @@ use Rattle.std.specs.Prelude.{◌≡◌, ◌⊎◌, ◌≤◌, ◌==◌, ◌&&�
 use Rattle.std.specs.List.{AllByRecursion, ends_with}
 use Rattle.wt_span.specs.Origins.{Expanded}
 use Rattle.wt_span.specs.Characters as byte
-use Rattle.wt_tree.specs.Tree.{Tree, label}
+use Rattle.wt_tree.specs.Tree.{Tree, tree, Trees, none, more, label}
 use Rattle.wt_tree.specs.Plain.{face}
 use Rattle.wt_tree.specs.Tiling.{is_group, numbers}
 use Rattle.wt_guards.specs.declared.role.Role.{Role}
@@ -92,12 +92,33 @@ IsOneLine block.Rule ss = Unit {0}
 IsOneLine block.Item ss = Unit {0}
 IsOneLine block.NoBlock ss = Unit {0}
 
--- the page's element with its number: unchanged, and with the same elements in it
+-- a group of the block
+abbrev pub IsGroupThere : Option Kept → Type 0
+IsGroupThere None = ⊥
+IsGroupThere (Some k) = is_group (label k.node).kind ≡ true
+
+-- of a node, whether it is a group
+abbrev pub OwnBy : Bool → Option Kept → Type 0 → Type 0
+OwnBy true there inside = IsGroupThere there
+OwnBy false there inside = inside
+
+-- each group stands for the block's group with its number, and for no other node
+abbrev mutual
+  pub HasOwnGroups : List Kept → Tree → Type 0
+  HasOwnGroups ks (tree l ts) = OwnBy (is_group l.kind) (kept_with l.id ks) (HaveOwnGroups ks ts)
+
+  pub HaveOwnGroups : List Kept → Trees → Type 0
+  HaveOwnGroups ks none = Unit {0}
+  HaveOwnGroups ks (more t ts) = HasOwnGroups ks t × HaveOwnGroups ks ts
+
+-- The page's element with its number: of its kind, unchanged, and with the same elements in it. A group, it or one in it, is the page's.
 pub record IsUntouched (page : Page) (t : Tree) : Type 0 where
   pub kept : Kept
   pub found : kept_with (label t).id page.kept ≡ Some kept
+  pub kind : (label t).kind ≡ (label kept.node).kind
   pub unchanged : is_unchanged page kept t ≡ true
   pub inside : numbers t ≡ numbers kept.node
+  pub groups : HasOwnGroups page.kept t
 
 -- the page's bold or italic node with its number: with its attributes and data, whatever is in it
 pub record IsSameStyle (ks : List Kept) (t : Tree) : Type 0 where

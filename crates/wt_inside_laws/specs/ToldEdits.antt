@@ -3,10 +3,8 @@ use Rattle.std.specs.Prelude.{◌≡◌, ◌≤◌, ℕ, Option, List, [], lengt
 use Rattle.std.specs.List.{AllByRecursion}
 use Rattle.std.specs.Str.{IsUtf8}
 use Rattle.wt_span.specs.declared.limits.TheConstants.{PAGE_BYTES}
-use Rattle.wt_tree.specs.Tiling.{NoneIsGroup}
 use Rattle.wt_tree.specs.Tree.{Tree}
 use Rattle.wt_link_spelling.specs.Spelling.{children_of}
-use Rattle.wt_checks.specs.Kept.{children}
 use Rattle.wt_expand.specs.PageItems.{page_items}
 use Rattle.wt_expand.specs.PageCalls.{expanded_page}
 use Rattle.wt_expand.specs.Work.{Pages}
@@ -15,7 +13,6 @@ use Rattle.wt_schema.specs.Read.{page as as_page, read}
 use Rattle.wt_slices.specs.Changes.{Pair, marked}
 use Rattle.wt_visible.specs.SameNodes.{same_node}
 use Rattle.wt_text_edit_laws.specs.NoCalls.{CallsNothing}
-use Rattle.wt_text_edit_laws.specs.PageCuts.{EndsClosed}
 use Rattle.wt_text_edit_laws.specs.Parts.{HasNoGroups}
 use Rattle.wt_text_edit_laws.specs.TextBlocks.{TextBlock, block_tree}
 use Rattle.wt_beside_laws.specs.EndedNodes.{LinesOpenNoPair, AreEndedNodes}
@@ -50,23 +47,22 @@ IsOrdinaryOn page p = IsOrdinary p × (IsExcepted page p.old → ⊥)
 
 -- ---- the edit
 
--- A text edit, as it is read, of a page with these blocks at these paths: each marked one is at one of them, and ordinary.
+-- A text edit, as it is read, of a page with these blocks at these paths, which isn't too long: each marked one is at one of them, and ordinary.
 pub record IsToldEdit (pages : Pages) (page : List ℕ) (paths : List (List ℕ)) (new : Tree) : Type 0 where
+  pub short : length page ≤ PAGE_BYTES
   pub edit : IsTextEdit same_node (expanded_page pages page) page (page_tree pages page) new
   pub read : IsReadFor (page_tree pages page) new
   pub blocks : AllByRecursion IsReadBlock (marked (page_tree pages page) new)
   pub ordinary : AllByRecursion IsOrdinary (marked (page_tree pages page) new)
   pub among : AreSomeOf (paths_of (edits_of (called_tree pages page) new)) paths
 
--- A text edit, as it is read, of a page that calls nothing and has no groups: it marks some blocks, each of which is ordinary.
+-- A text edit, as it is read of HTML, of a page that calls nothing and has no groups: it marks some blocks, each of which is ordinary.
 pub record IsOrdinaryEdit (pages : Pages) (page input : List ℕ) (new : Tree) (unsourced : Option ℕ) : Type 0 where
   pub utf8 : IsUtf8 page
   pub short : length page ≤ PAGE_BYTES
   pub calls_nothing : CallsNothing (page_items page)
   pub ungrouped : HasNoGroups page
-  pub closed : EndsClosed page []
   pub sent : read input ≡ as_page new unsourced
-  pub no_group : NoneIsGroup (children new)
   pub edit : IsTextEdit same_node (expanded_page pages page) page (page_tree pages page) new
   pub some : 1 ≤ length (marked (page_tree pages page) new)
   pub blocks : AllByRecursion (IsOrdinaryOn page) (marked (page_tree pages page) new)

@@ -8,11 +8,9 @@ ghost use Rattle.std.specs.List.{AllByRecursion};
 ghost use Rattle.std.specs.Str.{IsUtf8};
 ghost use Rattle.wt_span.specs.Items.{Item};
 ghost use Rattle.wt_tree.specs.Opened.{without_sections};
-ghost use Rattle.wt_tree.specs.Tiling.{NoneIsGroup};
 ghost use Rattle.wt_tree.specs.Tree.{Tree};
 ghost use Rattle.wt_link_spelling.specs.Spelling.{children_of};
 ghost use Rattle.wt_checks.specs.Checked.{checked};
-ghost use Rattle.wt_checks.specs.Kept.{children};
 ghost use Rattle.wt_checks.specs.Places.{page_of};
 ghost use Rattle.wt_expand.specs.PageCalls.{expanded_page};
 ghost use Rattle.wt_expand.specs.Work.{Pages};
@@ -33,10 +31,11 @@ ghost use Rattle.wt_inside_laws.specs.RetypedPieces.{AreRead, AreUtf8};
 ghost use Rattle.wt_inside_laws.specs.TextEdits.{IsRetyped, IsTextEdit};
 ghost use Rattle.wt_inside_laws.specs.ToldEdits.{IsToldEdit, IsOrdinaryEdit};
 
-/// Where the checks refuse nothing and no blocks come or go, what was sent for a page without groups is edited as the
-/// page's own nodes are (`edits_of`): each outside the marked blocks as it is, and in these blocks those of the page,
-/// with the texts that were sent beside them. Other separators, marks and skips, and sections, make no difference.
-/// Asked is that what was sent is as it is read, and that each marked block is told by its pieces.
+/// Where the checks refuse nothing and no blocks come or go, what was sent for a page is edited as the page's own nodes
+/// are (`edits_of`): each outside the marked blocks as it is, of a group the elements that are written for it, and in
+/// these blocks those of the page, with the texts that were sent beside them. Other separators, marks and skips, and
+/// sections, make no difference. Asked is that what was sent is as it is read, and that each marked block is told by
+/// its pieces.
 #[tactic(auto)]
 pub fn edits_are_as_sent()
     ensures { (same : Tree → Tree → Bool) (t new : Tree) → IsPlainPage t → checked false t new ≡ None → AllStay new
@@ -44,30 +43,28 @@ pub fn edits_are_as_sent()
         → IsAsSent same t new (edits_of (without_sections t) new) }
 {}
 
-/// So a text edit of a page in which no node is a group is answered as the edit of the page's own nodes, at the paths of
-/// the marked blocks. Asked is that what was sent is as it is read from HTML.
+/// So a text edit of a page that isn't refused is answered as the edit of the page's own nodes, at the paths of the
+/// marked blocks, whatever groups are in it and in these. Asked is that what was sent is as it is read from HTML.
 #[tactic(auto)]
 pub fn text_edits_are_sent_on_the_page()
-    ensures { (pages : Pages) (page : List ℕ) (new : Tree) → IsUtf8 page → refusal_of_page pages page ≡ None
-        → NoneIsGroup (children (called_tree pages page))
+    ensures { (pages : Pages) (page : List ℕ) (new : Tree) → IsUtf8 page → length page ≤ PAGE_BYTES
+        → refusal_of_page pages page ≡ None
         → IsTextEdit same_node (expanded_page pages page) page (page_tree pages page) new
         → IsReadFor (page_tree pages page) new
         → AllByRecursion (λ p. AreRead (children_of p.new)) (marked (page_tree pages page) new)
         → IsSentOn pages page new (edits_of (called_tree pages page) new) }
 {}
 
-/// What HTML is read as is so, if no group is in it, the checks refuse nothing, and the page isn't longer than a page may
-/// be; and so is what is sent in each retyped block.
+/// What HTML is read as is so, if the checks refuse nothing, and the page isn't longer than a page may be; and so is what
+/// is sent in each retyped block.
 #[tactic(auto)]
 pub fn what_is_read_may_be_sent()
     ensures page { (pages : Pages) (page input : List ℕ) (new : Tree) (unsourced : Option ℕ) → IsUtf8 page
-        → length page ≤ PAGE_BYTES → refusal_of_page pages page ≡ None → NoneIsGroup (children (called_tree pages page))
-        → read input ≡ as_page new unsourced → checked false (page_tree pages page) new ≡ None
-        → NoneIsGroup (children new) → IsReadFor (page_tree pages page) new }
+        → length page ≤ PAGE_BYTES → refusal_of_page pages page ≡ None → read input ≡ as_page new unsourced
+        → checked false (page_tree pages page) new ≡ None → IsReadFor (page_tree pages page) new }
     ensures blocks { (same : Tree → Tree → Bool) (items : Expanded) (bytes : List ℕ) (pages : Pages) (page input : List ℕ)
-        (new : Tree) (unsourced : Option ℕ) → IsUtf8 page → refusal_of_page pages page ≡ None
-        → NoneIsGroup (children (called_tree pages page)) → read input ≡ as_page new unsourced
-        → checked false (page_tree pages page) new ≡ None → NoneIsGroup (children new)
+        (new : Tree) (unsourced : Option ℕ) → IsUtf8 page → length page ≤ PAGE_BYTES → refusal_of_page pages page ≡ None
+        → read input ≡ as_page new unsourced → checked false (page_tree pages page) new ≡ None
         → AllByRecursion (IsRetyped same items bytes) (marked (page_tree pages page) new)
         → AllByRecursion (λ p. AreRead (children_of p.new) × AreUtf8 (children_of p.new)) (marked (page_tree pages page) new) }
 {}
@@ -83,7 +80,7 @@ pub fn text_edits_of_told_blocks_are_done()
         → edit_to pages page new ≡ done (spliced page (slices same_node (page_tree pages page) new)) }
 {}
 
-/// So HTML that makes such an edit, and in which no group is, is answered by that page.
+/// So HTML that makes such an edit is answered by that page.
 #[tactic(auto)]
 pub fn text_edits_in_html_are_done()
     ensures { (pages : Pages) (page input : List ℕ) (ts : List Told) (rest : List (List Item)) (new : Tree) (unsourced : Option ℕ)

@@ -3,7 +3,6 @@
 ghost use Rattle.std.specs.Prelude.{◌≡◌, ℕ, suc, Bool, List, length};
 ghost use Rattle.wt_span.specs.Origins.{Expanded};
 ghost use Rattle.wt_tree.specs.Source.{flat, flat_of_all};
-ghost use Rattle.wt_tree.specs.Tiling.{NoneIsGroup};
 ghost use Rattle.wt_tree.specs.Tree.{Tree, Trees};
 ghost use Rattle.wt_visible.specs.SameNodes.{same_node};
 ghost use Rattle.wt_typed_blocks.specs.Edited.{PiecesStay};
@@ -12,6 +11,7 @@ ghost use Rattle.wt_slices.specs.Changes.{Pair};
 ghost use Rattle.wt_text_edit_laws.specs.TextBlocks.{TextBlock, block_tree};
 ghost use Rattle.wt_beside_laws.specs.StyledIn.{IsStyledIn, IsStyledEditOf};
 ghost use Rattle.wt_called_edit_laws.specs.EditsAt.{IsStanding};
+ghost use Rattle.wt_called_edit_laws.specs.SentAsIs.{HaveNumberedGroups};
 ghost use Rattle.wt_inside_laws.specs.Contents.{borders, texts};
 ghost use Rattle.wt_inside_laws.specs.Once.{HasOnce};
 ghost use Rattle.wt_inside_laws.specs.Replaced.{Edit, with_inside};
@@ -49,10 +49,11 @@ pub fn retyped_nodes_stay()
     ensures { (ts us : Trees) → borders us ≡ borders ts → NodesStay ts us → PiecesStay (pieces_of ts us) }
 {}
 
-/// These pieces with the page's own nodes in the place of those that were sent (`as_own`) stay, where no group is in the content.
+/// These pieces with the page's own nodes in the place of those that were sent (`as_own`) stay, where the groups of the content
+/// are numbered, as in each page: the elements that are written for a group are sent for it.
 #[tactic(auto)]
 pub fn own_pieces_are_sent_as_they_are()
-    ensures { (ts us : Trees) → NoneIsGroup ts → borders us ≡ borders ts → PiecesStay (as_own (pieces_of ts us)) }
+    ensures { (ts us : Trees) → HaveNumberedGroups ts → borders us ≡ borders ts → PiecesStay (as_own (pieces_of ts us)) }
 {}
 
 /// So a retyped paragraph or heading of the page, whose content may be edited (`IsStyledIn`), is edited by what was sent for it, with the

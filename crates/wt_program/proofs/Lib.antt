@@ -7,3 +7,9 @@ pub mod TextCalls
 pub mod ProseCalls
 pub mod PlacedCalls
 pub mod EditCalls
+pub mod SentTrees
+pub mod SentMarks
+pub mod SentPages
+pub mod ChosenHtml
+pub mod SentCalls
+pub mod WorkedCall

@@ -6,3 +6,6 @@ pub mod ContentCalls
 pub mod ProseCalls
 pub mod PlacedCalls
 pub mod EditCalls
+pub mod SentHtml
+pub mod EditsSent
+pub mod WorkedCall

@@ -1,5 +1,5 @@
 //! The program's call: `run` answers the words of a command line, and takes edits of contents and of texts, and paragraphs that come and go; and the
-//! laws by which it does.
+//! laws by which it does; and laws of the HTML that an editor sends for an edit.
 #![tactic(auto)]
 
 ghost use Rattle.std.specs.Prelude.{◌≡◌, ◌+◌};
@@ -15,6 +15,7 @@ ghost use Rattle.wt_program.specs.PlacedCalls.{TakesContentsInLines};
 ghost use Rattle.wt_program.specs.ProseCalls.{TakesChangedProse};
 
 mod laws;
+mod sent_html;
 
 pub use laws::{
     calls_take_changed_prose, calls_take_contents_among_calls, calls_take_contents_in_lines,
@@ -22,6 +23,9 @@ pub use laws::{
     calls_take_texts_anywhere, calls_take_texts_in_cells, calls_take_told_edits,
     contents_at_their_places_are_taken_so, texts_among_calls_are_taken_so,
     texts_in_cells_are_taken_so, texts_on_pages_without_calls_are_taken_so,
+};
+pub use sent_html::{
+    chosen_contents_can_be_sent, edits_can_be_sent, edits_have_their_html, worked_edit_is_written,
 };
 use std::alloc::Global;
 use wt_devices::{Folder, Sink, Source};
@@ -54,8 +58,8 @@ pub fn run<S: Source, F: Folder, W: Sink, E: Sink>(
 
     // On any page that isn't refused, and at whose end no comment and no hidden part is open, with calls or without, these
     // blocks are told by the lines of the expanded page (`IsLinedAmong`): any paragraphs and headings in the body, in cells
-    // and in captions whose lines come from no call, that aren't tangled, hold no group and are in none, whatever calls are
-    // before, between and behind them. Edited contents of any are taken so.
+    // and in captions whose lines come from no call and hold no function that is kept, that aren't tangled, hold no group
+    // and are in none, whatever calls are before, between and behind them. Edited contents of any are taken so.
     ensures takes_contents_in_lines { TakesContentsInLines (call words.now (read_from S.Source input.old input.new)
         (fetched_from F.Folder folder.old folder.new) (written_to W.Sink out.old out.new)
         (written_to E.Sink err.old err.new)) result }

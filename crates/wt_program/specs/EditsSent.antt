@@ -20,7 +20,7 @@ use Rattle.wt_called_edit_laws.specs.EditsAt.{AllStand, edited_by, edited_page, 
 use Rattle.wt_called_edit_laws.specs.Groups.{called_tree}
 use Rattle.wt_program.specs.AnyCalls.{SendsFor}
 use Rattle.wt_program.specs.Calls.{WroteNewPage}
-use Rattle.wt_call_laws.specs.SentHtml.{edited_html, AreRead, AreChosenRead}
+use Rattle.wt_program.specs.SentHtml.{edited_html, AreRead, AreChosenRead}
 
 -- the body's label, as it is read
 abbrev pub body_read : Tree → Label

@@ -29,7 +29,7 @@ use Rattle.wt_text_edit_laws.specs.BlockSpots.{BlockSpot}
 use Rattle.wt_called_edit_laws.specs.AnyBlocks.{first_paths, other_paths, EndHere}
 use Rattle.wt_called_edit_laws.specs.ChosenContents.{Choice, pieces_of}
 use Rattle.wt_called_edit_laws.specs.EditsAt.{edited_at, edited_among, edited_by, EditsOnly, AllEditOnly, FitsSpot, AreFitting, IsContentEdit}
-use Rattle.wt_call_laws.specs.SentHtml.{own_pieces, AreApart, ArePiecesRead, IsRead, AreRead, IfRead, AreChosenRead}
+use Rattle.wt_program.specs.SentHtml.{own_pieces, AreApart, ArePiecesRead, IsRead, AreRead, IfRead, AreChosenRead}
 
 -- ---- what is read of a node of the page's HTML stands as it is
 

@@ -50,10 +50,10 @@ use Rattle.wt_called_edit_laws.proofs.PageBody.{page_body}
 use Rattle.wt_page_laws.specs.EditMarks.{document_marked, mark_by, tree_marked, trees_marked}
 use Rattle.wt_page_laws.proofs.MarkedBodies.{document_fits}
 use Rattle.wt_page_laws.proofs.MarkedText.{marked_text}
-use Rattle.wt_call_laws.specs.EditsSent.{body_read, HasHtml}
-use Rattle.wt_call_laws.specs.SentHtml.{own_nodes, own_tree, edited_html, AreRead, is_in, edited_numbers, numbers_edited}
-use Rattle.wt_call_laws.proofs.SentMarks.{ChosenAre, nodes_marked}
-use Rattle.wt_call_laws.proofs.SentTrees.{body_written, body_groups, nodes_read}
+use Rattle.wt_program.specs.EditsSent.{body_read, HasHtml}
+use Rattle.wt_program.specs.SentHtml.{own_nodes, own_tree, edited_html, AreRead, is_in, edited_numbers, numbers_edited}
+use Rattle.wt_program.proofs.SentMarks.{ChosenAre, nodes_marked}
+use Rattle.wt_program.proofs.SentTrees.{body_written, body_groups, nodes_read}
 
 -- ---- a page has fewer groups than there are numbers
 

@@ -15,9 +15,9 @@ ghost use Rattle.wt_typed_blocks.specs.Edited.{Edits, page_nodes, AreEdited};
 ghost use Rattle.wt_text_edit_laws.specs.BlockSpots.{BlockSpot, spots_source};
 ghost use Rattle.wt_called_edit_laws.specs.Covered.{IsEditablePage};
 ghost use Rattle.wt_called_edit_laws.specs.Groups.{called_tree};
-ghost use Rattle.wt_call_laws.specs.EditsSent.{AnyCanBeSent, CanBeSent, HasHtml};
-ghost use Rattle.wt_call_laws.specs.SentHtml.{AreRead};
-ghost use Rattle.wt_call_laws.specs.WorkedCall.{marked_html, plain_html, stored_page, written_page};
+ghost use Rattle.wt_program.specs.EditsSent.{AnyCanBeSent, CanBeSent, HasHtml};
+ghost use Rattle.wt_program.specs.SentHtml.{AreRead};
+ghost use Rattle.wt_program.specs.WorkedCall.{marked_html, plain_html, stored_page, written_page};
 
 /// An edit of contents of any page, in which what stays is sent as it is read of the page's HTML, in which no two texts are
 /// side by side and nothing is new but texts (`AreRead`), has its HTML. Without marks this is the HTML that `html` would

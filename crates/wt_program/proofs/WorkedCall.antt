@@ -68,7 +68,7 @@ use Rattle.wt_text_edit_laws.specs.TypedPages.{IsTypedPage}
 use Rattle.wt_text_edit_laws.specs.UnmarkedBlocks.{unmarked_page, IsUnmarkedBlockEdit}
 use Rattle.wt_text_edit_laws.proofs.Blocks.Contents.{typed_firmly}
 use Rattle.wt_program.specs.Calls.{Sends, WroteNewPage}
-use Rattle.wt_call_laws.specs.WorkedCall.{stored_page, marked_html, plain_html, written_page}
+use Rattle.wt_program.specs.WorkedCall.{stored_page, marked_html, plain_html, written_page}
 use Rattle.wt_program.proofs.BlocksCalls.{takes}
 
 -- ---- what is sent

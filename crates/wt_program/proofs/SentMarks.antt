@@ -17,7 +17,7 @@ use Rattle.wt_typed_blocks.specs.Sent.{Block, paragraph, heading, kind_of}
 use Rattle.wt_typed_blocks.specs.Edited.{Pieces, no_pieces, gone, written, kept, around, new_style, page_pieces, text_node, sent_pieces, IsStyle, PiecesStay, Edited, stays, edited, round, Edits, no_edits, more_edits, page_node, page_nodes, sent_node, sent_nodes, IsEdited, AreEdited}
 use Rattle.wt_typed_blocks.specs.EditedUnmarked.{bare_node, bare_nodes}
 use Rattle.wt_page_laws.specs.EditMarks.{mark_by, label_marked, tree_marked, trees_marked}
-use Rattle.wt_call_laws.specs.SentHtml.{ArePiecesRead, IsRead, AreRead, edited_numbers, numbers_edited, is_in}
+use Rattle.wt_program.specs.SentHtml.{ArePiecesRead, IsRead, AreRead, edited_numbers, numbers_edited, is_in}
 
 -- ---- a node without chosen numbers
 

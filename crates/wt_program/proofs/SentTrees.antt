@@ -29,7 +29,7 @@ use Rattle.wt_page_round_trip.proofs.Sectioned.{IsWrittenBody}
 use Rattle.wt_typed_blocks.specs.Sent.{Block, paragraph, heading, kind_of}
 use Rattle.wt_typed_blocks.specs.Edited.{Pieces, no_pieces, gone, written, kept, around, new_style, page_pieces, sent_pieces, text_node, IsStyle, PiecesStay, Edited, stays, edited, round, Edits, no_edits, more_edits, page_node, page_nodes, IsEdited, AreEdited}
 use Rattle.wt_typed_blocks.specs.EditedUnmarked.{bare_node, bare_nodes}
-use Rattle.wt_call_laws.specs.SentHtml.{typed_text, own_pieces, own_node, own_nodes, own_tree, AreApart, ArePiecesRead, IsRead, AreRead}
+use Rattle.wt_program.specs.SentHtml.{typed_text, own_pieces, own_node, own_nodes, own_tree, AreApart, ArePiecesRead, IsRead, AreRead}
 
 -- ---- kinds whose texts are texts of the page
 

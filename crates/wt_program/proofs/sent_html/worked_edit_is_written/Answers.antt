@@ -1,5 +1,5 @@
-use Rattle.wt_call_laws.proofs.WorkedCall.{edit_writes, selser_writes}
-use Rattle.wt_call_laws.proofs.sent_html.worked_edit_is_written.Goals as goal
+use Rattle.wt_program.proofs.WorkedCall.{edit_writes, selser_writes}
+use Rattle.wt_program.proofs.sent_html.worked_edit_is_written.Goals as goal
 
 pub returns-clause-edit : goal.returns-clause-edit
 returns-clause-edit c = edit_writes

@@ -28,12 +28,12 @@ use Rattle.wt_called_edit_laws.proofs.EditFacts.{IsFramedPage, framed_page, path
 use Rattle.wt_called_edit_laws.proofs.OwnContents.{own_contents}
 use Rattle.wt_program.specs.AnyCalls.{SendsFor}
 use Rattle.wt_program.specs.Calls.{WroteNewPage}
-use Rattle.wt_call_laws.specs.EditsSent.{body_read, HasHtml, CanBeSent, IsSentSo, AnyCanBeSent}
-use Rattle.wt_call_laws.specs.SentHtml.{edited_html, AreRead, AreChosenRead}
+use Rattle.wt_program.specs.EditsSent.{body_read, HasHtml, CanBeSent, IsSentSo, AnyCanBeSent}
+use Rattle.wt_program.specs.SentHtml.{edited_html, AreRead, AreChosenRead}
 use Rattle.wt_program.proofs.AnyCalls.{answer_is}
 use Rattle.wt_program.proofs.BlocksCalls.{page_ends}
-use Rattle.wt_call_laws.proofs.ChosenHtml.{html_edits, html_is_edit, html_is_read, html_sends}
-use Rattle.wt_call_laws.proofs.SentPages.{page_html}
+use Rattle.wt_program.proofs.ChosenHtml.{html_edits, html_is_edit, html_is_read, html_sends}
+use Rattle.wt_program.proofs.SentPages.{page_html}
 
 pub can_be_sent : (pages : Pages) (page : List ℕ) (es : Edits) → IsUtf8 page → length page ≤ PAGE_BYTES
     → first_refusal pages page (page_work pages page) ≡ None → page_nodes es ≡ children (called_tree pages page) → AreEdited es → AreRead es

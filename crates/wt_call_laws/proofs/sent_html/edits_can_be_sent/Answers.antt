@@ -1,5 +1,0 @@
-use Rattle.wt_call_laws.proofs.SentCalls.{can_be_sent}
-use Rattle.wt_call_laws.proofs.sent_html.edits_can_be_sent.Goals as goal
-
-pub returns : goal.returns
-returns c = can_be_sent
