@@ -5,7 +5,6 @@ pub mod GivenTiles
 pub mod GivenParts
 pub mod GivenMeets
 pub mod GivenNodes
-pub mod GivenStyle
 mod StyleCases
 pub mod Gifts
 pub mod CalledTiles

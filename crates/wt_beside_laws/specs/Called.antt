@@ -1,5 +1,6 @@
 -- A content among whose nodes are calls: what each node is in the page, by the items that it has there.
 use Rattle.std.specs.Prelude.{◌≡◌, ◌⊎◌, ℕ, ◌+◌, ◌==◌, Bool, true, false, Option, None, Some, List, [], ◌∷◌, ◌++◌, length, map, if◌then◌else◌, encode_utf8}
+use Rattle.std.specs.List.{list_any}
 use Rattle.wt_tree.specs.Plain.{Plains, text_before}
 use Rattle.wt_span.specs.Bytes.{is_blank}
 use Rattle.wt_span.specs.Characters as byte
@@ -8,14 +9,15 @@ use Rattle.wt_tree.specs.declared.edit_shape.Place.TheVariants as place
 use Rattle.wt_guards.specs.declared.role.Role.{Role}
 use Rattle.wt_guards.specs.declared.role.Role.TheVariants.{Link, External, Bare, Switch, Toggle, Mark, Group, Function, Node}
 use Rattle.wt_guards.specs.declared.role.Transclusion.{Transclusion}
-use Rattle.wt_guards.specs.Content.{ContentSign, Thing, letter, thing, nearest}
+use Rattle.wt_guards.specs.Content.{ContentSign, Thing, letter, thing, nearest, is_group}
 use Rattle.wt_guards.specs.Guards.{Setting, is_guarded, is_mark, is_new_at_start}
 use Rattle.wt_guards.specs.Letters.{is_escaped}
 use Rattle.wt_expand.specs.PageCalls.{numbered, page_stretches, expanded_page}
 use Rattle.wt_expand.specs.Work.{Pages}
 use Rattle.wt_inline.specs.declared.loose.Loose.TheVariants.{Text, Sep}
-use Rattle.wt_inline.specs.Parts.{Part, loose, node, parts}
+use Rattle.wt_inline.specs.Parts.{Part, loose, node, parts, held_parts}
 use Rattle.wt_context.specs.Line.{line_parts}
+use Rattle.wt_annotated.specs.Clean.{is_page}
 use Rattle.wt_lines.specs.Lines.{IsUnbroken}
 use Rattle.wt_tiles.specs.declared.glyph.Glyph.{Glyph}
 use Rattle.wt_tiles.specs.declared.glyph.GlyphClass.TheVariants as class
@@ -179,15 +181,16 @@ AllMeetWith s before last (thing n ∷ after) (own ∷ owns) =
     (is_guarded s before (thing n ∷ after) ≡ false → MeetsNearest (nearest before) (map glyph_of last) n (map glyph_of own))
     × AllMeetWith s (thing n ∷ before) own after owns
 
--- ---- a content with text
+-- ---- a content with something of the page
 
--- a letter is among them
-abbrev pub HasText : List ContentSign → Type 0
-HasText [] = ⊥
-HasText (letter c ∷ after) = Unit {0}
-HasText (thing t ∷ after) = HasText after
+-- Behind some signs: a letter is among these, or a node that is no group, or `<nowiki/>` is put somewhere.
+abbrev pub HasUncalled : Setting → List ContentSign → List ContentSign → Type 0
+HasUncalled s before [] = is_guarded s before [] ≡ true
+HasUncalled s before (letter c ∷ after) = Unit {0}
+HasUncalled s before (thing t ∷ after) =
+    (is_guarded s before (thing t ∷ after) ≡ true) ⊎ ((is_group t.role ≡ false) ⊎ HasUncalled s (thing t ∷ before) after)
 
--- Texts that are typed beside calls, and beside nodes that stay. There is a letter: of calls alone a paragraph is a part of their group.
+-- Texts that are typed beside calls, and beside nodes that stay. Some item of it is the page's own: of calls alone a paragraph is a part of their group.
 pub record IsCalledContent (s : Setting) (signs : List ContentSign) (owns : List (List Item)) : Type 0 where
   pub of_block : s.within ≡ false
   pub characters : AreCharacters signs
@@ -195,7 +198,7 @@ pub record IsCalledContent (s : Setting) (signs : List ContentSign) (owns : List
   pub flat : AreFlat signs
   pub own : AreOwnInside owns
   pub meet : AllMeetWith s [] [] signs owns
-  pub some : HasText signs
+  pub some : list_any is_page (held_parts (parts_with s [] signs owns)) ≡ true
 
 -- ---- a heading
 
@@ -238,6 +241,11 @@ ArePageParts (loose Text o b ∷ ps) = (o ≡ None) × ArePageParts ps
 ArePageParts (loose Sep o b ∷ ps) = ⊥
 ArePageParts (node t ∷ ps) = IsOwn t × ArePageParts ps
 
+-- there are some
+abbrev pub AreSomeOfPage : List Part → Type 0
+AreSomeOfPage [] = ⊥
+AreSomeOfPage (p ∷ ps) = ArePageParts (p ∷ ps)
+
 -- It calls nothing, and is a node of the page, on one line, in which no node is empty.
 pub record StaysAsItIs (pages : Pages) (t : Thing) : Type 0 where
   pub items : (i : ℕ) → numbered i (page_stretches pages t.source) ≡ node_items t.source
@@ -245,7 +253,7 @@ pub record StaysAsItIs (pages : Pages) (t : Thing) : Type 0 where
   pub node : IsNode t.role (own_glyphs t)
   pub inside : is_mark t.role ≡ true → is_new_at_start t.role ≡ true
   pub unbroken : IsUnbroken (node_items t.source)
-  pub own : ArePageParts (line_parts (node_items t.source))
+  pub own : AreSomeOfPage (line_parts (node_items t.source))
 
 abbrev pub IsOfFolder : Role → Pages → Thing → Type 0
 IsOfFolder Link pages t = StaysAsItIs pages t
@@ -269,7 +277,7 @@ pub record IsCalledIn (pages : Pages) (s : Setting) (signs : List ContentSign) :
   pub characters : AreCharacters signs
   pub given : AreOfFolder pages signs
   pub meet : (i : ℕ) → AllMeetWith s [] [] signs (owns_in pages i signs)
-  pub some : HasText signs
+  pub some : HasUncalled s [] signs
 
 -- ---- in a heading
 

@@ -26,6 +26,7 @@ use Rattle.wt_isolation.specs.Toggles.{has_odd_line}
 use Rattle.wt_part_laws.specs.CallPieces.{AreItemsOf, IsOfCall}
 use Rattle.wt_beside_laws.specs.Cuts.{add_chars, own_form, add_node, ends_word}
 use Rattle.wt_beside_laws.specs.Flat.{IsFlat}
+use Rattle.wt_beside_laws.specs.Nests.{marks_of, of_style, style_of}
 use Rattle.wt_beside_laws.specs.Nodes.{IsNode, MayBeBehind, MayFollow, MayLead}
 
 -- a byte of a character; or the items of a form, with what its node is to its neighbours
@@ -51,12 +52,6 @@ abbrev pub given_cut : List GivenSign → Cut → Cut
 given_cut [] c = c
 given_cut (character b ∷ signs) c = add_chars 1 (given_cut signs c)
 given_cut (form r own ∷ signs) c = add_node (own_form in_line (map glyph_of own)) (length (map glyph_of own)) (given_cut signs c)
-
--- in a paragraph or a heading: each form is what its items are on a line by themselves
-abbrev pub given_parts : ℕ → List GivenSign → List Part
-given_parts j [] = []
-given_parts j (character b ∷ signs) = part Text (char (Some j) b) ∷ given_parts j signs
-given_parts j (form r own ∷ signs) = line_parts own ++ given_parts j signs
 
 -- ---- what may be among them
 
@@ -109,11 +104,62 @@ AreGivenSigns word (character b ∷ signs) =
     IsGivenByte b signs × (is_half_sign b ≡ true → BeginsApart (given_glyphs signs)) × AreGivenSigns (is_word b) signs
 AreGivenSigns word (form r own ∷ signs) = IsGivenForm word r own (given_glyphs signs) × AreGivenSigns (ends_word false (map glyph_of own)) signs
 
--- no form is a style delimiter
-abbrev pub AreFlatSigns : List GivenSign → Type 0
-AreFlatSigns [] = Unit {0}
-AreFlatSigns (character b ∷ signs) = AreFlatSigns signs
-AreFlatSigns (form r own ∷ signs) = IsFlat r × AreFlatSigns signs
+-- ---- bold and italic among them
+
+-- A sign, or a style (bold, or else italic) with what is inside it, before what follows.
+pub data GivenContent : Type 0 where
+  given_end : GivenContent
+  given_sign : GivenSign → GivenContent → GivenContent
+  given_style : Bool → GivenContent → GivenContent → GivenContent
+
+-- a delimiter of this call
+abbrev pub mark_sign : ℕ → Bool → GivenSign
+mark_sign j bold = form Toggle (marks_of (Some j) bold)
+
+-- its signs, before these
+abbrev pub signs_with : ℕ → GivenContent → List GivenSign → List GivenSign
+signs_with j given_end more = more
+signs_with j (given_sign x t) more = x ∷ signs_with j t more
+signs_with j (given_style bold inside t) more = mark_sign j bold ∷ signs_with j inside (mark_sign j bold ∷ signs_with j t more)
+
+abbrev pub signs_of : ℕ → GivenContent → List GivenSign
+signs_of j t = signs_with j t []
+
+-- In a paragraph or a heading: each form is what its items are on a line by themselves, and each style is a node round what is inside it.
+abbrev pub given_parts : ℕ → GivenContent → List Part
+given_parts j given_end = []
+given_parts j (given_sign (character b) t) = part Text (char (Some j) b) ∷ given_parts j t
+given_parts j (given_sign (form r own) t) = line_parts own ++ given_parts j t
+given_parts j (given_style bold inside t) = node (style_of (Some j) bold (given_parts j inside)) ∷ given_parts j t
+
+-- whether an apostrophe is first; `next` says it of what follows
+abbrev pub opens_quoted : GivenContent → Bool → Bool
+opens_quoted given_end next = next
+opens_quoted (given_sign (character b) t) next = b == byte.apostrophe
+opens_quoted (given_sign (form r own) t) next = false
+opens_quoted (given_style bold inside t) next = true
+
+-- whether a style is last; `last` says it of what comes before
+abbrev pub closes_quoted : Bool → GivenContent → Bool
+closes_quoted last given_end = last
+closes_quoted last (given_sign x t) = closes_quoted false t
+closes_quoted last (given_style bold inside t) = closes_quoted true t
+
+-- In bold or italic or in neither: no form is a delimiter by itself, and no style is in one of its kind. In each style is something, and no apostrophe is
+-- beside a delimiter, nor is another delimiter.
+abbrev pub AreNestedGiven : Bool → Bool → GivenContent → Type 0
+AreNestedGiven bold italic given_end = Unit {0}
+AreNestedGiven bold italic (given_sign (character b) t) = AreNestedGiven bold italic t
+AreNestedGiven bold italic (given_sign (form r own) t) = IsFlat r × AreNestedGiven bold italic t
+AreNestedGiven bold italic (given_style kind inside t) =
+    (of_style kind bold italic ≡ false) × (opens_quoted inside true ≡ false) × (closes_quoted false inside ≡ false)
+    × AreNestedGiven (kind || bold) (not kind || italic) inside × (opens_quoted t false ≡ false) × AreNestedGiven bold italic t
+
+-- These signs are such a content.
+pub record AreNestedSigns (j : ℕ) (signs : List GivenSign) : Type 0 where
+  pub content : GivenContent
+  pub is : signs ≡ signs_of j content
+  pub nested : AreNestedGiven false false content
 
 -- ---- beside others
 
@@ -176,23 +222,33 @@ AreGivenBy j (loose Text o b ∷ ps) = (o ≡ Some j) × AreGivenBy j ps
 AreGivenBy j (loose Sep o b ∷ ps) = ⊥
 AreGivenBy j (node t ∷ ps) = IsOfCall j t × AreGivenBy j ps
 
--- What this call gives: such characters and forms on one line, of which none is a style delimiter. There is one at least; the first is no apostrophe, `_`,
--- colon or slash, and opens no block. By itself, behind a `<nowiki/>`, it has even toggles, and no text in it could go on after its end.
+-- the first is a form, or a character that is no apostrophe, `_`, colon or slash
+abbrev pub BeginsGiven : List GivenSign → Type 0
+BeginsGiven [] = ⊥
+BeginsGiven (character b ∷ signs) = is_apart (glyph.Byte b) ≡ true
+BeginsGiven (form r own ∷ signs) = Unit {0}
+
+-- What this call gives: such characters and forms on one line, and bold and italic round some. There is one at least; the first is no apostrophe, `_`, colon
+-- or slash, but an apostrophe may begin a style; and it opens no block. By itself, behind a `<nowiki/>`, it has even toggles, and no text in it could go on
+-- after its end.
 pub record GivesSigns (j : ℕ) (own : List Item) : Type 0 where
   pub signs : List GivenSign
   pub is : own ≡ given_items j signs
   pub of_call : AreItemsOf j own
   pub are : AreGivenSigns false signs
-  pub flat : AreFlatSigns signs
-  pub begins : BeginsApart (given_glyphs signs)
+  pub nested : AreNestedSigns j signs
+  pub begins : BeginsGiven signs
   pub unopened : opens_block own ≡ false
   pub unbroken : IsUnbroken own
   pub inside : AreGivenBy j (line_parts own)
   pub even : has_odd_line (empty_nowiki ∷ own) ≡ false
   pub closed : has_open_text [] (all_unplaced (forest (children (line_parts own)))) ≡ false
 
--- So it is a group of the page: one that ends with a URL shows `//`, and one that began its line may do so.
+-- So it is a group of the page: one that ends with a URL shows `//`, and one that began its line may do so. One that begins or ends with a style has an
+-- apostrophe there, and so no `=`.
 pub record IsGroup (g : Transclusion) (j : ℕ) (own : List Item) : Type 0 where
   pub gives : GivesSigns j own
   pub urls : ends_with_url gives.signs ≡ true → g.slashes ≡ true
   pub opens : g.began_line ≡ true → BeginsLine (given_glyphs gives.signs)
+  pub opens_style : opens_quoted gives.nested.content false ≡ true → (g.opens_with_apostrophe && not g.between_equals) ≡ true
+  pub closes_style : closes_quoted false gives.nested.content ≡ true → g.closes_with_apostrophe ≡ true

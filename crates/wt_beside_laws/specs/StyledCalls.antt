@@ -1,5 +1,5 @@
 -- A content with styles among whose signs are calls: what it is in the page, where the items of each sign that is no character are given.
-use Rattle.std.specs.Prelude.{◌≡◌, ◌⊎◌, ◌==◌, Bool, true, false, not, List, [], ◌∷◌, ◌++◌, encode_utf8, if◌then◌else◌, ◌&&◌, ◌||◌}
+use Rattle.std.specs.Prelude.{◌≡◌, ◌⊎◌, ◌==◌, Bool, true, false, List, [], ◌∷◌, ◌++◌, encode_utf8, if◌then◌else◌, ◌&&◌}
 use Rattle.wt_span.specs.Characters as byte
 use Rattle.wt_span.specs.Items.{Item}
 use Rattle.wt_tree.specs.Plain.{Plains, ended, text_before}
@@ -10,7 +10,7 @@ use Rattle.wt_inline.specs.Parts.{Part, node, parts}
 use Rattle.wt_inline.specs.declared.loose.Loose.TheVariants.{Text}
 use Rattle.wt_context.specs.Line.{line_parts}
 use Rattle.wt_part_laws.specs.CallPieces.{AreOwnOrGiven}
-use Rattle.wt_beside_laws.specs.Called.{AllMeetWith, AreGiven, ArePageParts}
+use Rattle.wt_beside_laws.specs.Called.{AllMeetWith, AreGiven, AreSomeOfPage, HasUncalled}
 use Rattle.wt_beside_laws.specs.Content.{guard_items, letter_items}
 use Rattle.wt_beside_laws.specs.Lines.{AreCharacters}
 use Rattle.wt_beside_laws.specs.Nests.{style_tree}
@@ -51,11 +51,6 @@ styled_with line s before (styled bold opening closing inside t) after owns =
 
 -- ---- the nodes
 
--- there are some
-abbrev pub AreSomeOfPage : List Part → Type 0
-AreSomeOfPage [] = ⊥
-AreSomeOfPage (p ∷ ps) = ArePageParts (p ∷ ps)
-
 -- on a line by itself: what a call gives, or something of the page; in a style it is of the page
 abbrev pub IsOwnAt : Bool → Thing → List Item → Type 0
 IsOwnAt true x own = AreSomeOfPage (line_parts own)
@@ -70,14 +65,6 @@ AreOwnAt within (sign (thing x) t) (own ∷ owns) = IsOwnAt within x own × AreO
 AreOwnAt within (styled bold opening closing inside t) owns =
     AreOwnAt true inside (owns_left owns) × AreOwnAt within t (owns_left (owns_past inside (owns_left owns)))
 
--- ---- it isn't calls alone
-
-abbrev pub has_uncalled : StyledContent → Bool
-has_uncalled finished = false
-has_uncalled (sign (letter c) t) = true
-has_uncalled (sign (thing x) t) = not (is_group x.role) || has_uncalled t
-has_uncalled (styled bold opening closing inside t) = true
-
 -- ---- the content
 
 -- Texts that are typed beside calls and nodes that stay, and bold and italic round texts and nodes, with no call in it; something else than
@@ -89,7 +76,7 @@ pub record IsStyledCalled (s : Setting) (t : StyledContent) (owns : List (List I
   pub own : AreOwnAt false t owns
   pub nested : AreNested false false t
   pub meet : AllMeetWith s [] [] (signs_in t) owns
-  pub some : has_uncalled t ≡ true
+  pub some : HasUncalled s [] (signs_in t)
 
 -- ---- what it shows
 

@@ -14,9 +14,8 @@ ghost use Rattle.wt_guards.specs.Table.{hazard};
 ghost use Rattle.wt_expand.specs.Work.{Pages};
 ghost use Rattle.wt_lines.specs.Lines.{lines};
 ghost use Rattle.wt_inline.specs.ItemTree.{plain, forest};
-ghost use Rattle.wt_inline.specs.Parts.{node, children};
+ghost use Rattle.wt_inline.specs.Parts.{children};
 ghost use Rattle.wt_tiles.specs.declared.glyph.Glyph.{Glyph};
-ghost use Rattle.wt_tiles.specs.Glyphs.{byte_glyphs};
 ghost use Rattle.wt_tiles.specs.Urls.{is_word};
 ghost use Rattle.wt_context.specs.Line.{line_parts};
 ghost use Rattle.wt_page.specs.Body.{meaning};
@@ -31,12 +30,11 @@ ghost use Rattle.wt_text_edit_laws.specs.ParagraphParts.{joined_parts, para_with
 ghost use Rattle.wt_text_edit_laws.specs.LonePages.{page_chars};
 ghost use Rattle.wt_text_edit_laws.specs.TypedHeadings.{Sides, AreSides, opening, closing_items, heading_round, IsHeadingInside, IsOfLevel};
 ghost use Rattle.wt_beside_laws.specs.Called.{items_with, owns_in, parts_with, IsCalledContent, IsCalledHeading, called_shown, IsCalledIn};
-ghost use Rattle.wt_beside_laws.specs.Given.{GivenSign, given_items, given_glyphs, given_parts, BeginsApart, AreGivenSigns, AreFlatSigns, LastMay, ends_with_url, GivesSigns, IsGroup};
+ghost use Rattle.wt_beside_laws.specs.Given.{GivenSign, given_items, AreGivenSigns, LastMay, GivenContent, signs_of, given_parts, AreNestedGiven, ends_with_url, GivesSigns, IsGroup};
 ghost use Rattle.wt_beside_laws.specs.Glyphs.{letter_glyphs};
 ghost use Rattle.wt_beside_laws.specs.Lines.{IsLineOfText};
-ghost use Rattle.wt_beside_laws.specs.Nests.{marks_of, style_of};
 ghost use Rattle.wt_beside_laws.specs.Shown.{parts_shown_at};
-ghost use Rattle.wt_beside_laws.specs.Styled.{StyledContent, mark_source, signs_in};
+ghost use Rattle.wt_beside_laws.specs.Styled.{StyledContent, signs_in};
 ghost use Rattle.wt_beside_laws.specs.StyledCalls.{IsStyledCalled, styled_called_shown, styled_with};
 
 /// Texts beside calls, and beside nodes that stay, are one paragraph, whatever is typed: each line is text wherever it is in tables, and what is in
@@ -114,18 +112,12 @@ pub fn texts_beside_calls_are_such_in_a_folder()
     ensures { (pages : Pages) (i : ℕ) (s : Setting) (signs : List ContentSign) → IsCalledIn pages s signs → IsCalledContent s signs (owns_in pages i signs) }
 {}
 
-/// What a call gives, characters and forms in any order, such as links, URLs and references (`AreGivenSigns`), is on a line what each of these is by
-/// itself: a link beside words of the same call is the link that it is alone.
+/// What a call gives, characters and forms in any order, such as links, URLs and references (`AreGivenSigns`), and bold and italic round some
+/// (`AreNestedGiven`), is on a line what each of these is by itself: a link beside words of the same call is the link that it is alone, and what is between
+/// two delimiters of the call is in this style, as in `''{{{2}}}''` with words.
 pub fn what_a_call_gives_is_each_by_itself()
-    ensures { (j : ℕ) (signs : List GivenSign) → AreGivenSigns false signs → AreFlatSigns signs
-        → line_parts (given_items j signs) ≡ given_parts j signs }
-{}
-
-/// A style that a call gives, between delimiters of its own, round such characters and forms, is on a line this style: so is `''{{{2}}}''` with words.
-pub fn a_style_that_a_call_gives_is_one()
-    ensures { (j : ℕ) (bold : Bool) (signs : List GivenSign) → AreGivenSigns false signs → AreFlatSigns signs → BeginsApart (given_glyphs signs)
-        → LastMay signs (byte_glyphs (mark_source bold))
-        → line_parts (marks_of (Some j) bold ++ (given_items j signs ++ marks_of (Some j) bold)) ≡ node (style_of (Some j) bold (given_parts j signs)) ∷ [] }
+    ensures { (j : ℕ) (t : GivenContent) → AreGivenSigns false (signs_of j t) → AreNestedGiven false false t
+        → line_parts (given_items j (signs_of j t)) ≡ given_parts j t }
 {}
 
 /// Where `<nowiki/>` isn't put between a group and text, nothing joins a form of the group: behind it is what may follow its last form, where the group

@@ -1,4 +1,4 @@
--- Each paragraph and heading of the tree of a page that calls nothing is told by its lines.
+-- Each paragraph and heading of a page's tree that holds no call is told by the lines of the expanded page.
 pub mod Found
 pub mod OtherNodes
 pub mod FoundTables
@@ -10,14 +10,22 @@ pub mod TreeBlocks
 pub mod LineKinds
 pub mod Scans
 pub mod Scanned
-pub mod RowBlocks
-pub mod ClosedBlocks
-pub mod Together
-pub mod LineBlocks
 pub mod Starts
+pub mod RowBlocks
+pub mod LineBlocks
 pub mod PlaceStarts
-pub mod NodePlaces
-pub mod OwnTrees
 pub mod ToldStarts
+pub mod ClosedLines
+pub mod Chosen
+pub mod ChosenLines
+pub mod Together
+pub mod NodePlaces
+pub mod OwnNodes
+pub mod Outside
+pub mod OwnTrees
 pub mod HeadSigns
+pub mod Alone
+pub mod OneNode
+pub mod ClosedBlocks
 pub mod Complete
+pub mod AllAlone

@@ -2,6 +2,7 @@
 pub mod Counts
 pub mod Found
 pub mod Sent
+pub mod Uncalled
 pub mod Making
 pub mod Cases
 pub mod PageCases

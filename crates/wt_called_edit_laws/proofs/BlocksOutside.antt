@@ -81,11 +81,11 @@ mutual
       (λ e. ap all_placeless e)
       (λ b. ((λ e. none_placeless ts (b.0 e)), all_placeless_bare ts b.1))
 
-  all_placeless_bare : (ts : Trees) → AreBare ts → AreBare (all_placeless ts)
+  pub all_placeless_bare : (ts : Trees) → AreBare ts → AreBare (all_placeless ts)
   all_placeless_bare none h = tt
   all_placeless_bare (more t ts) h = (placeless_bare t h.0, all_placeless_bare ts h.1)
 
-called_bare : (pages : Pages) (page : List ℕ) → IsBare (called_tree pages page)
+pub called_bare : (pages : Pages) (page : List ℕ) → IsBare (called_tree pages page)
 unfolding annotated
 called_bare pages page =
     let e : Expanded = expanded_page pages page in
@@ -93,12 +93,12 @@ called_bare pages page =
     let u : Tree = cut_texts (placed e.outer (group_data e.outer) (tree_items m) (grouped (tree_items m) 0 m)) in
     numbered_bare 1 u (page_bare e.outer (group_data e.outer) (tree_items m) (grouped (tree_items m) 0 m))
 
-body_bare : (l : Label) (ts : Trees) → is_group l.kind ≡ false → IsBare (tree l ts) → AreBare ts
+pub body_bare : (l : Label) (ts : Trees) → is_group l.kind ≡ false → IsBare (tree l ts) → AreBare ts
 body_bare l ts e h = (subst (λ (g : Bool). GroupOr g (all_placeless ts ≡ ts) ((is_leaf l.kind ≡ true → ts ≡ none) × AreBare ts)) e h).1
 
 -- ---- a group beside a byte
 
-abbrev Beside : ℕ → ℕ → ℕ → Type 0
+abbrev pub Beside : ℕ → ℕ → ℕ → Type 0
 Beside b from to = (b < from) ⊎ (to ≤ b)
 
 group_or : (v : Bool) (P : Type 0) (b : ℕ) (xs us : Trees) → P → (v ≡ false → NoneGroupAt b us) → IfGroup v P (NoneGroupAt b (if v then xs else us))
@@ -118,7 +118,7 @@ rest_beside b at one rest both e (inl h) = inl (omega (arith, h))
 rest_beside b at one rest both e (inr h) = inr (omega (arith, h, e))
 
 -- what is in a node is in its source
-inside_size : (v : Bool) (own o inside c : List ℕ) → v ≡ false → length o + length inside ≤ length (if v then own else o ++ inside ++ c)
+pub inside_size : (v : Bool) (own o inside c : List ℕ) → v ≡ false → length o + length inside ≤ length (if v then own else o ++ inside ++ c)
 inside_size true own o inside c e = let no : true ≡ false = e in absurd (cc)
 inside_size false own o inside c e =
     let one = length-append (o ++ inside) c in let two = length-append o inside in omega (arith, one, two)
@@ -127,13 +127,13 @@ leaf_by : (v : Bool) (b n at : ℕ) (ts : Trees) → (v ≡ true → ts ≡ none
 leaf_by true b n at ts e f = subst (λ (us : Trees). NoneGroupAt b (all_settled n at us)) (sym (e refl)) tt
 leaf_by false b n at ts e f = f refl
 
-inner_bare : (g : Bool) (l : Label) (ts : Trees) → g ≡ false → GroupOr g (all_placeless ts ≡ ts) ((is_leaf l.kind ≡ true → ts ≡ none) × AreBare ts)
+pub inner_bare : (g : Bool) (l : Label) (ts : Trees) → g ≡ false → GroupOr g (all_placeless ts ≡ ts) ((is_leaf l.kind ≡ true → ts ≡ none) × AreBare ts)
     → (is_leaf l.kind ≡ true → ts ≡ none) × AreBare ts
 inner_bare true l ts e h = let no : true ≡ false = e in absurd (cc)
 inner_bare false l ts e h = h
 
 mutual
-  beside_one : (b n at : ℕ) (t : Tree) → IsBare t → Beside b at (at + length (flat t)) → NoGroupAt b (settled n at t)
+  pub beside_one : (b n at : ℕ) (t : Tree) → IsBare t → Beside b at (at + length (flat t)) → NoGroupAt b (settled n at t)
   beside_one b n at (tree l ts) h g =
       let from : ℕ = at + length l.opening in
       let m : ℕ = next_after l.kind n in
@@ -144,7 +144,7 @@ mutual
       (λ f. beside_all b m from ts r.1
       (into b at (length l.opening) (length (flat_of_all ts)) (length (flat (tree l ts))) (inside_size (is_leaf l.kind) l.own l.opening (flat_of_all ts) l.closing f) g)))
 
-  beside_all : (b n at : ℕ) (ts : Trees) → AreBare ts → Beside b at (at + length (flat_of_all ts)) → NoneGroupAt b (all_settled n at ts)
+  pub beside_all : (b n at : ℕ) (ts : Trees) → AreBare ts → Beside b at (at + length (flat_of_all ts)) → NoneGroupAt b (all_settled n at ts)
   beside_all b n at none h g = tt
   beside_all b n at (more t ts) h g =
       let both : length (flat t ++ flat_of_all ts) ≡ length (flat t) + length (flat_of_all ts) = length-append (flat t) (flat_of_all ts) in (

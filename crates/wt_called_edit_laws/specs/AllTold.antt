@@ -1,27 +1,31 @@
--- Each paragraph and heading of the tree of a page that calls nothing is told by the page's lines; and those that these don't tell.
-use Rattle.std.specs.Prelude.{◌≡◌, ◌⊎◌, ℕ, zero, suc, ◌+◌, false, List, [], ◌∷◌, ◌++◌, length, take, drop, map}
+-- Each paragraph and heading of a page's tree that holds no call is told by the lines of the expanded page; and those that these don't tell.
+use Rattle.std.specs.Prelude.{◌≡◌, ◌⊎◌, ℕ, zero, suc, ◌+◌, false, None, List, [], ◌∷◌, ◌++◌, length, take, drop, map}
 use Rattle.wt_span.specs.Items.{Item, sources}
+use Rattle.wt_span.specs.Origins.{Expanded}
 use Rattle.wt_tree.specs.Source.{flat}
+use Rattle.wt_tree.specs.Tiling.{HasNoGroup}
 use Rattle.wt_tree.specs.Tree.{Tree, tree, Trees, none, more, label}
-use Rattle.wt_inline.specs.ItemTree.{ItemTree}
+use Rattle.wt_annotated.specs.Seams.{last_of, text_from}
 use Rattle.wt_expand.specs.PageCalls.{expanded_page}
-use Rattle.wt_expand.specs.PageItems.{page_items}
 use Rattle.wt_expand.specs.Work.{Pages}
 use Rattle.wt_lines.specs.Lines.{content, full_lines}
 use Rattle.wt_tables.specs.Parts.{joined}
 use Rattle.wt_page.specs.Rows.{Row, marks_len, rows_from}
-use Rattle.wt_part_laws.specs.Standing.{standing}
 use Rattle.wt_selser.specs.Edits.{is_tangled}
 use Rattle.wt_text_edit_laws.specs.BodyParagraphs.{EndWhole}
+use Rattle.wt_text_edit_laws.specs.NoCalls.{CallsNothing}
 use Rattle.wt_text_edit_laws.specs.PageCuts.{begins_unmarked}
 use Rattle.wt_text_edit_laws.specs.ParagraphBetween.{tables_behind}
+use Rattle.wt_text_edit_laws.specs.TextBetween.{AreEnded}
 use Rattle.wt_text_edit_laws.specs.Unclosed.{holds_unclosed}
 use Rattle.wt_called_edit_laws.specs.ContentsTaken.{TakesContents}
 use Rattle.wt_called_edit_laws.specs.Groups.{called_tree}
-use Rattle.wt_called_edit_laws.specs.PlacedLines.{spots_by, end_by}
-use Rattle.wt_called_edit_laws.specs.RowBlocks.{IsTextBlock, IsAtPath, begins_behind, AreOfText, begins_at}
-use Rattle.wt_called_edit_laws.specs.ToldLines.{Told, lined, IsToldPage}
-use Rattle.wt_called_edit_laws.specs.ToldTogether.{AreSome}
+use Rattle.wt_called_edit_laws.specs.LinedAmong.{spots_of_lines, end_of_lines, AreOfPage, AreBeside}
+use Rattle.wt_called_edit_laws.specs.PlacedLines.{all_lines}
+use Rattle.wt_called_edit_laws.specs.RowBlocks.{IsTextBlock, IsReachedAt, StandsIn, opened_len, begins_behind, AreOfText, begins_at}
+use Rattle.wt_called_edit_laws.specs.ToldAmong.{IsToldAmong}
+use Rattle.wt_called_edit_laws.specs.ToldLines.{Told, lined, AreTold}
+use Rattle.wt_called_edit_laws.specs.ToldTogether.{AreSome, start_of}
 
 -- the byte at which the node at this path begins, where the tree begins at this one
 abbrev mutual
@@ -36,9 +40,8 @@ abbrev mutual
 
 -- ---- what lines don't tell
 
--- At this byte one of these begins, behind the marks before it: text behind the `|}` of a table's end or the `-` of a rule, on the same line; text that
--- begins with blanks and a mark behind them; and lines that are text with as many tables open as there are, and of which one is none where no table is
--- open, as the `{|` of one that can't be opened.
+-- Behind so many items one of these begins, with the marks before it: text behind the `|}` of a table's end or the `-` of a rule, on the same line; text that begins with blanks and a mark behind them; lines that are text with as many tables open as there are, and of which one is none where no table is open, as
+-- the `{|` of one that can't be opened.
 pub data IsExceptedAt (ls : List (List Item)) (at : ℕ) : Type 0 where
   text_on_a_sign : (before : List Row) (first : Row) (others behind : List Row) → rows_from 0 ls ≡ before ++ ((first ∷ others) ++ behind)
       → (EndWhole before → ⊥) → at ≡ begins_behind before first → IsExceptedAt ls at
@@ -47,13 +50,27 @@ pub data IsExceptedAt (ls : List (List Item)) (at : ℕ) : Type 0 where
   text_in_tables : (before : List (List Item)) (first : List Item) (others behind : List (List Item)) → ls ≡ before ++ ((first ∷ others) ++ behind)
       → at ≡ begins_at before first → AreOfText (tables_behind 0 before) (first ∷ others) → (AreOfText 0 (first ∷ others) → ⊥) → IsExceptedAt ls at
 
+-- Behind these items the lines of a block are the page's own: neither the line break before them, nor the marks that begin them, nor what is in them or
+-- ends them comes from a call; no call that is text has a byte of them, and no two braces that open come before two that close in them.
+pub record IsOwnBehind (e : Expanded) (front : List Item) (t : Told) : Type 0 where
+  pub ends : last_of None front ≡ None
+  pub own : AreOfPage ((lined t).marks ++ joined ((lined t).first ∷ (lined t).more))
+  pub calm : CallsNothing (content (joined ((lined t).first ∷ (lined t).more)))
+  pub beside : AreBeside (length (text_from e.outer None front))
+      (length (text_from e.outer None front) + length (sources ((lined t).marks ++ joined ((lined t).first ∷ (lined t).more)))) e.text_calls
+
+-- So of an expanded page: one of these by its lines; or a block whose lines aren't the page's own, since a call gives the line break before or behind
+-- them, or nothing before or behind it on its line. They tell the block, if the marks that begin it end with a `>` or a line break; those of the page do.
+pub data IsExceptedIn (e : Expanded) (at : ℕ) : Type 0 where
+  by_its_lines : IsExceptedAt (full_lines e.items) at → IsExceptedIn e at
+  beside_a_call : (t : Told) (behind : List (List Item)) → full_lines e.items ≡ all_lines (lined t ∷ []) behind
+      → (AreEnded (sources (lined t).marks) → AreTold (t ∷ []) behind) → at ≡ start_of 0 t
+      → (IsOwnBehind e (joined (lined t).before) t → ⊥) → IsExceptedIn e at
+
 -- a node of a page's tree that begins so
-pub record IsExcepted (page : List ℕ) (t : Tree) : Type 0 where
-  pub number : ℕ
-  pub before : List Item
-  pub block : ItemTree
-  pub is : t ≡ standing number before block
-  pub begins_so : IsExceptedAt (full_lines (page_items page)) (length (sources before))
+pub record IsExcepted (pages : Pages) (page : List ℕ) (t : Tree) : Type 0 where
+  pub stands : StandsIn pages page t
+  pub begins_so : IsExceptedIn (expanded_page pages page) (opened_len stands.before)
 
 -- ---- all that they tell
 
@@ -63,15 +80,15 @@ IsOneOf p (q ∷ qs) = (p ≡ q) ⊎ IsOneOf p qs
 
 -- The page is one that these tell, with the paths at which its blocks may be edited.
 pub record ToldAtPaths (pages : Pages) (page : List ℕ) (ts : List Told) (behind : List (List Item)) : Type 0 where
-  pub told : IsToldPage page ts behind
-  pub taken : TakesContents pages (spots_by [] (map lined ts)) (end_by [] (map lined ts) behind)
+  pub told : IsToldAmong pages page ts behind
+  pub taken : TakesContents pages (spots_of_lines pages page (map lined ts)) (end_of_lines pages page (map lined ts) behind)
 
--- Some blocks are told by their lines, if there is one. Each paragraph and heading of the page's tree that isn't tangled and holds no unclosed mark is at
--- the path of one of these, or it is one of the excepted.
+-- Some blocks are told by their lines, if there is one. Each paragraph and heading of the page's tree, outside of groups, that holds no group isn't
+-- tangled and holds no mark that nothing ends is at the path of one of these, or it is one of the excepted.
 pub record AllBlocksTold (pages : Pages) (page : List ℕ) : Type 0 where
   pub ts : List Told
   pub behind : List (List Item)
   pub told : AreSome ts → ToldAtPaths pages page ts behind
-  pub complete : (p : List ℕ) (t : Tree) → IsAtPath p (called_tree pages page) t → IsTextBlock (label t).kind → is_tangled (expanded_page pages page) page t ≡ false
-      → holds_unclosed (expanded_page pages page).items page (label t).ranges ≡ false
-      → ((s : AreSome ts) × IsOneOf p (told s).taken.paths) ⊎ IsExcepted page t
+  pub complete : (p : List ℕ) (t : Tree) → IsReachedAt p (called_tree pages page) t → IsTextBlock (label t).kind → HasNoGroup t
+      → is_tangled (expanded_page pages page) page t ≡ false → holds_unclosed (expanded_page pages page).items page (label t).ranges ≡ false
+      → ((s : AreSome ts) × IsOneOf p (told s).taken.paths) ⊎ IsExcepted pages page t

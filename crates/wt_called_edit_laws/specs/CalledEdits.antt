@@ -1,5 +1,6 @@
 -- A paragraph or heading of the page with calls in it, for which one with other texts beside these calls is sent: what is written for it.
 use Rattle.std.specs.Prelude.{◌≡◌, ◌⊎◌, ℕ, true, false, None, List, [], ◌∷◌}
+use Rattle.wt_tree.specs.declared.edit_shape.Place.TheVariants as place
 use Rattle.wt_tree.specs.EditShapes.{edit_shape}
 use Rattle.wt_tree.specs.Plain.{Plains, plain_before}
 use Rattle.wt_tree.specs.Source.{flat}
@@ -7,6 +8,7 @@ use Rattle.wt_tree.specs.Tiling.{is_group, HasNoGroup}
 use Rattle.wt_tree.specs.Tree.{Label, Tree, tree, Trees, none, more, label}
 use Rattle.wt_span.specs.Origins.{OuterCall}
 use Rattle.wt_guards.specs.Content.{Thing}
+use Rattle.wt_guards.specs.Guards.{Setting}
 use Rattle.wt_original.specs.Kept.{kept_nodes}
 use Rattle.wt_content.specs.Content.{bad_content}
 use Rattle.wt_context.specs.Line.{line_parts}
@@ -23,13 +25,14 @@ use Rattle.wt_typed_blocks.specs.EditedPage.{edited_source}
 use Rattle.wt_typed_blocks.specs.EditedUnmarked.{AreInline}
 use Rattle.wt_text_edit_laws.specs.ReadContents.{IsReadContent}
 use Rattle.wt_text_edit_laws.specs.TextBlocks.{TextBlock, a_paragraph, a_heading, source_of}
-use Rattle.wt_beside_laws.specs.Called.{AllSeenIn}
+use Rattle.wt_beside_laws.specs.Called.{AllSeenIn, HasUncalled}
 use Rattle.wt_beside_laws.specs.ContentEdits.{content_edit, new_content}
-use Rattle.wt_beside_laws.specs.FlatBlocks.{AreOneLine}
+use Rattle.wt_beside_laws.specs.FlatBlocks.{AreOneLine, sent_for}
 use Rattle.wt_beside_laws.specs.FlatPages.{AreNodesAndTexts}
 use Rattle.wt_beside_laws.specs.OwnSigns.{HaveOwn}
 use Rattle.wt_beside_laws.specs.SentPieces.{IsNodeForm, HaveNoStyle}
 use Rattle.wt_beside_laws.specs.Shown.{parts_shown_at}
+use Rattle.wt_beside_laws.specs.Styled.{signs_in}
 use Rattle.wt_beside_laws.specs.StyledBlocks.{all_numbers, things_with}
 use Rattle.wt_called_edit_laws.specs.CalledContents.{tree_round}
 use Rattle.wt_called_edit_laws.specs.CallingBlocks.{IsNewContentIn}
@@ -92,20 +95,18 @@ AreGoneCalm pages (kept t u ps) = AreGoneCalm pages ps
 AreGoneCalm pages (around l m is ps) = AreGoneCalm pages is × AreGoneCalm pages ps
 AreGoneCalm pages (new_style m is ps) = AreGoneCalm pages is × AreGoneCalm pages ps
 
--- a text that isn't empty is among them
-abbrev pub SomeTyped : Pieces → Type 0
-SomeTyped no_pieces = ⊥
-SomeTyped (gone t ps) = SomeTyped ps
-SomeTyped (written x [] ps) = SomeTyped ps
-SomeTyped (written x (b ∷ bs) ps) = Unit {0}
-SomeTyped (kept t u ps) = SomeTyped ps
-SomeTyped (around l m is ps) = SomeTyped is ⊎ SomeTyped ps
-SomeTyped (new_style m is ps) = SomeTyped is ⊎ SomeTyped ps
+-- in the paragraph that is this node
+abbrev pub written_in : Tree → Setting
+written_in block = record { within = false; place = place.Paragraph; source = flat block }
 
--- In a paragraph is some text: of calls alone it is a part of their group. In a heading no line break is typed.
-abbrev pub TextsFitAt : TextBlock → Pieces → Type 0
-TextsFitAt a_paragraph ps = SomeTyped ps
-TextsFitAt (a_heading s) ps = AreOneLine ps
+-- Of what is sent for it something is no call, or `<nowiki/>` is put: of calls alone a paragraph is a part of their group.
+abbrev pub SendsUncalled : Tree → Pieces → Type 0
+SendsUncalled block ps = HasUncalled (written_in block) [] (signs_in (sent_for block ps))
+
+-- In a heading no line break is typed.
+abbrev pub TextsFitAt : TextBlock → Tree → Pieces → Type 0
+TextsFitAt a_paragraph block ps = SendsUncalled block ps
+TextsFitAt (a_heading s) block ps = AreOneLine ps
 
 -- All its calls stay, in their order, and any other node stays or goes; each is sent as it is. Any texts are before, between and behind them.
 pub record IsCalledEditOf (pages : Pages) (k : TextBlock) (block : Tree) (ps : Pieces) : Type 0 where
@@ -114,7 +115,7 @@ pub record IsCalledEditOf (pages : Pages) (k : TextBlock) (block : Tree) (ps : P
   pub are : AreNodesAndTexts ps
   pub plain : HaveNoStyle ps
   pub calm : AreGoneCalm pages ps
-  pub fits : TextsFitAt k ps
+  pub fits : TextsFitAt k block ps
 
 -- ---- what it makes
 

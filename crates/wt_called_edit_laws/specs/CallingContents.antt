@@ -30,7 +30,7 @@ use Rattle.wt_called_edit_laws.specs.StyledCallEdits.{IsBesideStyles, IsStyledCa
 -- ---- which contents may be sent
 
 -- Where a block calls nothing, what may be sent for any such block (`Fits`). Where it holds calls, any texts beside these and beside
--- its other nodes: each call stays; in a paragraph is some text, and in a heading no line break is typed. In a paragraph bold and italic, too, may stay, go
+-- its other nodes: each call stays; a paragraph isn't calls alone, and in a heading no line break is typed. In a paragraph bold and italic, too, may stay, go
 -- and come, as they may nest, with any texts in them and no call.
 abbrev pub FitsIn : Pages → TextBlock → List ℕ → Edited → Type 0
 FitsIn pages k q (stays t u) = ⊥

@@ -17,15 +17,14 @@ use Rattle.wt_link_spelling.specs.Spelling.{children_of}
 use Rattle.wt_expand.specs.PageCalls.{expanded_page}
 use Rattle.wt_expand.specs.Work.{Pages}
 use Rattle.wt_typed_blocks.specs.Edited.{Pieces, PiecesStay, around, gone, kept, new_style, no_pieces, page_pieces, written}
+use Rattle.wt_beside_laws.specs.Called.{AreSomeOfPage}
 use Rattle.wt_beside_laws.specs.Cuts.{own_glyphs}
-use Rattle.wt_beside_laws.specs.FlatBlocks.{sent_for}
 use Rattle.wt_beside_laws.specs.FlatPages.{AreNodesAndTexts}
 use Rattle.wt_beside_laws.specs.NewStyles.{NewStylesNest}
 use Rattle.wt_beside_laws.specs.NodeItems.{node_items}
 use Rattle.wt_beside_laws.specs.SentStyled.{AllNest, style_face}
-use Rattle.wt_beside_laws.specs.StyledCalls.{AreSomeOfPage, has_uncalled}
 use Rattle.wt_beside_laws.specs.StyledNodes.{EndsUnquoted}
-use Rattle.wt_called_edit_laws.specs.CalledEdits.{IsChildBeside, page_things}
+use Rattle.wt_called_edit_laws.specs.CalledEdits.{IsChildBeside, SendsUncalled, page_things}
 use Rattle.wt_called_edit_laws.specs.InPieces.{AreInPieces, pieces_source}
 use Rattle.wt_called_edit_laws.specs.PageThings.{ArePageThings, thing_sources}
 use Rattle.wt_called_edit_laws.specs.WrittenAnew.{StayButForOthers}
@@ -152,7 +151,7 @@ NewStylesCallNone (around l m is ps) = NewStylesCallNone ps
 NewStylesCallNone (new_style m is ps) = NoneIsGroup (page_pieces is) × NewStylesCallNone ps
 
 -- All its calls stay, in their order, and any other node and style stays or goes; each is sent as it is, and in a style other texts may be. Any texts are
--- between them, and new styles, as they may nest, round texts and nodes that are no calls. Something else than calls is sent.
+-- between them, and new styles, as they may nest, round texts and nodes that are no calls. Something is sent or put that is no call.
 pub record IsStyledCallEdit (pages : Pages) (block : Tree) (ps : Pieces) : Type 0 where
   pub old : page_pieces ps ≡ children_of block
   pub stay : PiecesStay ps
@@ -160,4 +159,4 @@ pub record IsStyledCallEdit (pages : Pages) (block : Tree) (ps : Pieces) : Type 
   pub calm : NoCallGoes pages ps
   pub new : NewStylesNest false false ps
   pub free : NewStylesCallNone ps
-  pub some : has_uncalled (sent_for block ps) ≡ true
+  pub some : SendsUncalled block ps

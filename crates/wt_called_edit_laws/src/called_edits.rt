@@ -15,7 +15,7 @@ ghost use Rattle.wt_called_edit_laws.specs.Settled.{settled};
 ghost use Rattle.wt_called_edit_laws.specs.StyledCallEdits.{IsBesideStyles, IsStyledCallEdit};
 
 /// What is sent for a paragraph or heading of the page with calls in it (`IsBesideCalls`), wherever it is: its calls, each as it is in the page and in
-/// their order, any of its other nodes, and any texts beside these, in a paragraph one at least, in a heading on one line
+/// their order, any of its other nodes, and any texts beside these, in a heading on one line; a paragraph isn't calls alone
 /// (`IsCalledEditOf`). It is taken, what is written for it may stand in the place of the old content, and it makes the new block, with its groups
 /// (`MakesContentIn`).
 pub fn contents_beside_calls_are_made()

@@ -1,6 +1,6 @@
 //! Laws of paragraphs and headings of the page that hold calls, cut in pieces: other texts are written beside what stays.
 
-ghost use Rattle.std.specs.Prelude.{◌≡◌, ◌<◌, ℕ, false, List};
+ghost use Rattle.std.specs.Prelude.{◌≡◌, ◌<◌, ℕ, false, List, []};
 ghost use Rattle.wt_tree.specs.Tree.{Tree};
 ghost use Rattle.wt_span.specs.Origins.{OuterCall};
 ghost use Rattle.wt_annotated.specs.CutTexts.{cut_texts};
@@ -18,7 +18,7 @@ ghost use Rattle.wt_called_edit_laws.specs.CallingBlocks.{IsContentIn, IsNewCont
 ghost use Rattle.wt_called_edit_laws.specs.CallingEdits.{TakesLetters};
 ghost use Rattle.wt_called_edit_laws.specs.EditableBlocks.{HoldsCalls};
 ghost use Rattle.wt_called_edit_laws.specs.InPieces.{pieces_source, AreInPieces, AreReadApart};
-ghost use Rattle.wt_beside_laws.specs.Called.{HasText};
+ghost use Rattle.wt_beside_laws.specs.Called.{HasUncalled};
 ghost use Rattle.wt_beside_laws.specs.Lines.{AreCharacters};
 ghost use Rattle.wt_beside_laws.specs.Stood.{things};
 ghost use Rattle.wt_called_edit_laws.specs.PageThings.{AllMeetLater, ArePageThings, ThingsStay, thing_sources};
@@ -41,12 +41,12 @@ pub fn pieces_are_read_by_themselves()
 {}
 
 /// So any texts may be typed beside the calls and the other nodes of a paragraph of the page (`ArePageThings`): the calls give what may be a group, each node
-/// stays what it is beside text, and no two that the page has side by side join. Each that calls stays, any other may go, and there is some text.
+/// stays what it is beside text, and no two that the page has side by side join. Each that calls stays, any other may go, and something is written that is no call: a text, another node, or `<nowiki/>`.
 pub fn paragraphs_of_the_page_take_texts_beside_calls()
-    ensures beside { (pages : Pages) (olds : List Thing) (s : Setting) (signs : List ContentSign) → s.within ≡ false → AreCharacters signs → HasText signs
+    ensures beside { (pages : Pages) (olds : List Thing) (s : Setting) (signs : List ContentSign) → s.within ≡ false → AreCharacters signs → HasUncalled s [] signs
         → ArePageThings pages olds → ThingsStay pages olds (things signs) → IsWrittenBeside pages s signs }
     ensures anew { (pages : Pages) (bs : List (List ℕ)) (olds : List Thing) (s : Setting) (signs : List ContentSign) → AreInPieces pages bs
-        → StayButForOthers pages bs (thing_sources olds) → ArePageThings pages olds → s.within ≡ false → AreCharacters signs → HasText signs
+        → StayButForOthers pages bs (thing_sources olds) → ArePageThings pages olds → s.within ≡ false → AreCharacters signs → HasUncalled s [] signs
         → ThingsStay pages olds (things signs) → IsNewContentIn pages a_paragraph (pieces_source bs) (spelled s signs) }
 {}
 

@@ -1,7 +1,7 @@
 //! Laws of paragraphs and headings that are told by nothing but the page's lines: what has to be known of each follows from
 //! the page.
 
-ghost use Rattle.std.specs.Prelude.{◌≡◌, ◌≤◌, false, List, [], ◌∷◌, ◌++◌, ℕ, length, map};
+ghost use Rattle.std.specs.Prelude.{◌≡◌, ◌≤◌, false, None, List, [], ◌∷◌, ◌++◌, ℕ, length, map};
 ghost use Rattle.std.specs.Str.{IsUtf8};
 ghost use Rattle.wt_span.specs.Items.{Item, sources};
 ghost use Rattle.wt_span.specs.Origins.{Expanded};
@@ -9,13 +9,12 @@ ghost use Rattle.wt_tree.specs.Tree.{Tree, label};
 ghost use Rattle.wt_lines.specs.Lines.{content, full_lines};
 ghost use Rattle.wt_page.specs.Lines.{ending};
 ghost use Rattle.wt_tables.specs.Parts.{joined};
+ghost use Rattle.wt_commands.specs.Answers.{refusal_of_page};
 ghost use Rattle.wt_expand.specs.PageItems.{page_items};
 ghost use Rattle.wt_expand.specs.Work.{Pages};
 ghost use Rattle.wt_selser.specs.Edits.{is_tangled};
 ghost use Rattle.wt_text_edit_laws.specs.BlockSpots.{BlockSpot};
-ghost use Rattle.wt_text_edit_laws.specs.NoCalls.{CallsNothing};
 ghost use Rattle.wt_text_edit_laws.specs.PageCuts.{AreBlockItems, EndsClosed};
-ghost use Rattle.wt_text_edit_laws.specs.Parts.{HasNoGroups};
 ghost use Rattle.wt_text_edit_laws.specs.TextBlocks.{TextBlock, a_heading, block_tree};
 ghost use Rattle.wt_text_edit_laws.specs.TypedHeadings.{Sides};
 ghost use Rattle.wt_beside_laws.specs.EndedNodes.{LinesOpenNoPair, AreEndedNodes};
@@ -29,7 +28,7 @@ ghost use Rattle.wt_called_edit_laws.specs.LinedAmong.{IsLinedAmong};
 ghost use Rattle.wt_called_edit_laws.specs.LinedHeadings.{sides_of, text_of, IsLinedHeading};
 ghost use Rattle.wt_called_edit_laws.specs.PlacedLines.{spots_by, end_by, IsLinedPage};
 ghost use Rattle.wt_called_edit_laws.specs.PlacedSpots.{IsShut, AreShut, AllUntangled};
-ghost use Rattle.wt_called_edit_laws.specs.RowBlocks.{IsTextBlock, IsAtPath, StandsOnRows, StandsOnLines};
+ghost use Rattle.wt_called_edit_laws.specs.RowBlocks.{IsTextBlock, IsReachedAt, StandsOnRows, StandsOnLines};
 ghost use Rattle.wt_called_edit_laws.specs.ToldAmong.{IsToldAmong};
 ghost use Rattle.wt_called_edit_laws.specs.ToldLines.{Told, lined, IsToldPage};
 ghost use Rattle.wt_called_edit_laws.specs.ToldTogether.{AreAllTold};
@@ -76,26 +75,26 @@ pub fn untangled_blocks_are_shut()
         → AllUntangled items page paths t → AreShut ss }
 {}
 
-/// Each paragraph and each heading of the tree of a page that calls nothing, and in which no node can only be kept as a whole,
-/// wherever it is, is made of the page's rows: of text with no other text beside it, or of a heading's; and it begins where these
-/// do. So it is made of whole lines, or it begins behind the sign of a table's end or a rule.
+/// Each paragraph and each heading of a page's tree, wherever it is outside of groups, is made of the rows of the expanded page:
+/// of text with no other text beside it, or of a heading's; and it begins where these do. So it is made of whole lines, or it
+/// begins behind the sign of a table's end or a rule.
 pub fn each_block_stands_on_lines()
-    ensures rows { (pages : Pages) (page p : List ℕ) (t : Tree) → IsUtf8 page → CallsNothing (page_items page) → HasNoGroups page
-        → IsAtPath p (called_tree pages page) t → IsTextBlock (label t).kind → StandsOnRows page t }
-    ensures lines { (pages : Pages) (page p : List ℕ) (t : Tree) → IsUtf8 page → CallsNothing (page_items page) → HasNoGroups page
-        → IsAtPath p (called_tree pages page) t → IsTextBlock (label t).kind → StandsOnLines page t }
+    ensures rows { (pages : Pages) (page p : List ℕ) (t : Tree) → IsUtf8 page → refusal_of_page pages page ≡ None
+        → IsReachedAt p (called_tree pages page) t → IsTextBlock (label t).kind → StandsOnRows pages page t }
+    ensures lines { (pages : Pages) (page p : List ℕ) (t : Tree) → IsUtf8 page → refusal_of_page pages page ≡ None
+        → IsReachedAt p (called_tree pages page) t → IsTextBlock (label t).kind → StandsOnLines pages page t }
 {}
 
-/// All paragraphs and headings that the lines of a page tell are told at once (`AreAllTold`): of a page that calls nothing, and
-/// that has no node that can only be kept as a whole.
+/// All paragraphs and headings that the lines of an expanded page tell are told at once (`AreAllTold`).
 pub fn told_blocks_are_told_together()
-    ensures all { (page : List ℕ) → IsUtf8 page → CallsNothing (page_items page) → HasNoGroups page → AreAllTold page }
+    ensures all { (pages : Pages) (page : List ℕ) → IsUtf8 page → refusal_of_page pages page ≡ None → AreAllTold pages page }
 {}
 
-/// So each paragraph and heading of such a page's tree that isn't tangled and holds no unclosed mark may be edited at its path,
-/// which is one of those of blocks that the lines tell; but for these: text behind the sign of a table's end or a rule on its line, text that begins with a
-/// mark behind blanks, and the others of `IsExceptedAt`.
+/// So each paragraph and heading of such a page's tree that is outside of groups, holds none and isn't tangled, and holds no mark
+/// that nothing ends, may be edited at its path, which is one of those of blocks that the lines tell; but for these: text behind
+/// the sign of a table's end or a rule on its line, text that begins with a mark behind blanks, and the others of
+/// `IsExceptedAt`; and a block whose line break before or behind it comes from a call, or beside which one is on its line that
+/// gives nothing (`beside_a_call`).
 pub fn each_block_is_told_or_excepted()
-    ensures all { (pages : Pages) (page : List ℕ) → IsUtf8 page → CallsNothing (page_items page) → HasNoGroups page
-        → AllBlocksTold pages page }
+    ensures all { (pages : Pages) (page : List ℕ) → IsUtf8 page → refusal_of_page pages page ≡ None → AllBlocksTold pages page }
 {}

@@ -16,13 +16,14 @@ use Rattle.wt_inline.specs.ItemTree.{plain, forest, tree_items, held_by_all}
 use Rattle.wt_inline.specs.Parts.{Part, loose, node, held_parts, parts, children}
 use Rattle.wt_inline.proofs.HeldLaws.{held_children, held_append}
 use Rattle.wt_context.specs.Line.{line_parts}
-use Rattle.wt_annotated.specs.Clean.{is_page}
+use Rattle.wt_annotated.specs.Clean.{is_no_call, is_page}
 use Rattle.wt_part_laws.specs.CallPieces.{AreOwnOrGiven}
 use Rattle.wt_part_laws.specs.HeldCalls.{block_in, HoldsItsCalls, IsRoundGiven, block_of_pieces}
 use Rattle.wt_part_laws.proofs.HeldBlocks.{given_hold, given_block_is}
+use Rattle.wt_part_laws.proofs.OwnWalks.{has_page}
 use Rattle.wt_text_edit_laws.specs.LonePages.{page_chars}
 use Rattle.wt_text_edit_laws.specs.ParagraphParts.{joined_parts, para_with}
-use Rattle.wt_beside_laws.specs.Called.{items_with, parts_with, ArePageParts, AreOwnInside, HasText, AreGiven, IsCalledContent}
+use Rattle.wt_beside_laws.specs.Called.{items_with, parts_with, ArePageParts, AreSomeOfPage, AreOwnInside, IsCalledContent}
 use Rattle.wt_beside_laws.specs.Content.{guard_items, letter_items}
 use Rattle.wt_beside_laws.proofs.Made.Items.{PartsHave, guard_has, letter_has}
 use Rattle.wt_beside_laws.proofs.Groups.CalledParagraphs.{called_parts}
@@ -97,19 +98,25 @@ some_letter false c = by (encode_utf8 c) (encode_some c)
     by [] some = absurd (omega (arith, some))
     by (b ∷ bs) some = refl
 
-some_with : (s : Setting) (before signs : List ContentSign) (owns : List (List Item)) → AreGiven signs owns → HasText signs
-    → list_any is_page (held_parts (parts_with s before signs owns)) ≡ true
-some_with s before [] owns g h = absurd h
-some_with s before (letter c ∷ after) owns g h =
-    let e = is_escaped s.within s.place before c after in
-    let own : List Part = parts Text (letter_items e c) in
-    let more : List Part = parts_with s (letter c ∷ before) after owns in
-    held_right (parts Text (guard_items (is_guarded s before (letter c ∷ after)))) (own ++ more) (held_left own more (some_letter e c))
-some_with s before (thing t ∷ after) [] g h = absurd g
-some_with s before (thing t ∷ after) (own ∷ owns) g h =
-    let more : List Part = parts_with s (thing t ∷ before) after owns in
-    held_right (parts Text (guard_items (is_guarded s before (thing t ∷ after)))) (line_parts own ++ more)
-    (held_right (line_parts own) more (some_with s (thing t ∷ before) after owns g.1 h))
+-- and so is what is of the page
+pub some_of_page : (ps : List Part) → AreSomeOfPage ps → ArePageParts ps
+some_of_page [] h = absurd h
+some_of_page (p ∷ ps) h = h
+
+or_first : (v w : Bool) → v ≡ true → (v || w) ≡ true
+or_first true w e = refl
+or_first false w e = cc
+
+pub some_page : (ps : List Part) → AreSomeOfPage ps → list_any is_page (held_parts ps) ≡ true
+some_page [] h = absurd h
+some_page (loose Text o b ∷ ps) h = or_first (is_no_call o) (list_any is_page (held_parts ps)) (ap is_no_call h.0)
+some_page (loose Sep o b ∷ ps) h = absurd h
+some_page (node t ∷ ps) h = let own = h.0 in any_left (tree_items t) (held_parts ps) (has_page t own.has_items)
+
+-- and so is `<nowiki/>`
+pub some_guard : (u : Bool) → u ≡ true → list_any is_page (held_parts (parts Text (guard_items u))) ≡ true
+some_guard true e = some_page (parts Text (guard_items true)) (guard_parts true)
+some_guard false e = absurd (cc)
 
 -- ---- the paragraph
 
@@ -125,7 +132,7 @@ called_round s signs owns h =
       own_opening = refl;
       own_closing = refl;
       parts = parts_own s [] signs owns h.own;
-      some = ap (list_any is_page) (para_items ps) ∙ some_with s [] signs owns h.given h.some;
+      some = ap (list_any is_page) (para_items ps) ∙ h.some;
     }
 
 pub called_holds : (s : Setting) (signs : List ContentSign) (owns : List (List Item)) → IsCalledContent s signs owns

@@ -43,7 +43,7 @@ use Rattle.wt_expand.specs.Templates.{begins_only, ends_only, template_text}
 use Rattle.wt_expand.specs.Work.{Pages}
 use Rattle.wt_expand.specs.Expansion.{text_members, most_templates, absent_text, loop_text, depth_text}
 use Rattle.wt_beside_laws.specs.Called.{items_with, owns_in, GivesGroup, IsCalledIn}
-use Rattle.wt_beside_laws.specs.Given.{character, AreGivenSigns, IsGroup}
+use Rattle.wt_beside_laws.specs.Given.{character, given_end, given_sign, AreGivenSigns, IsGroup}
 
 -- `Template:T` is a word, and no other page is there
 abbrev pub a_word : Pages
@@ -73,7 +73,7 @@ a_word_group g j = record {
     is = refl;
     of_call = (refl, tt);
     are = (inl refl, (λ e. absurd (cc)), tt);
-    flat = tt;
+    nested = record { content = given_sign (character 98) given_end; is = refl; nested = tt };
     begins = refl;
     unopened = refl;
     unbroken = (refl, tt);
@@ -83,6 +83,8 @@ a_word_group g j = record {
   };
   urls = λ e. absurd (cc);
   opens = λ e. refl;
+  opens_style = λ e. absurd (cc);
+  closes_style = λ e. absurd (cc);
 }
 
 -- which it gives, however many calls come before it

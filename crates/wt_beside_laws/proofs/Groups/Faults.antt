@@ -1,5 +1,5 @@
 -- A group of what a call gives has no fault: read alone it shows the same, its line has even toggles, and no text in it could go on after it.
-use Rattle.std.proofs.Common.{◌≡◌, ℕ, Bool, true, false, None, Some, List, [], ◌∷◌, ◌++◌, map, refl, sym, ap, ap₂, ◌∙◌, subst, append-nil, All}
+use Rattle.std.proofs.Common.{arith, ◌≡◌, ℕ, Bool, true, false, None, Some, List, [], ◌∷◌, ◌++◌, map, refl, sym, ap, ap₂, ◌∙◌, subst, append-nil, All}
 use Rattle.std.specs.Prelude.{◌&&◌, ◌||◌, if◌then◌else◌, is_some, slice_get}
 use Rattle.std.proofs.lemmas.Bool.Decides.{Decides-eqb}
 use Rattle.std.proofs.lemmas.List.Elements.{All-nil, All-cons}
@@ -19,7 +19,9 @@ use Rattle.wt_tiles.specs.Tiles.{Cut, cuts}
 use Rattle.wt_inline.specs.declared.loose.Loose.TheVariants.{Text}
 use Rattle.wt_inline.specs.ItemTree.{ItemTree, ItemTrees, further, forest}
 use Rattle.wt_inline.specs.Parts.{Part, loose, node, one_leaf, child, children, parts, nowiki as nowiki_tree}
-use Rattle.wt_context.specs.Line.{context_parts, line_parts}
+use Rattle.wt_context.specs.Line.{line_parts}
+use Rattle.wt_context.specs.Styled.{with_styles}
+use Rattle.wt_context.proofs.NestedContexts.{contexts_are}
 use Rattle.wt_page.specs.Body.{meaning}
 use Rattle.wt_annotated.specs.Annotated.{all_unplaced}
 use Rattle.wt_annotated.specs.Labels.{label_at}
@@ -35,19 +37,20 @@ use Rattle.wt_text_edit_laws.specs.ParagraphParts.{joined_parts, para_with}
 use Rattle.wt_text_edit_laws.proofs.Paragraphs.LineBlocks.{OwnBreaks}
 use Rattle.wt_beside_laws.specs.Content.{guard_items}
 use Rattle.wt_beside_laws.specs.Cuts.{guard_cut}
-use Rattle.wt_beside_laws.specs.Given.{given_items, given_glyphs, given_cut, given_parts, GivesSigns}
+use Rattle.wt_beside_laws.specs.Given.{GivenSign, given_items, given_glyphs, given_cut, AreGivenSigns, GivenContent, signs_of, given_parts, opens_quoted, AreNestedSigns, GivesSigns}
 use Rattle.wt_beside_laws.specs.Lines.{IsLineOfText}
 use Rattle.wt_beside_laws.proofs.ContentTiles.{Follows, guard_follows}
 use Rattle.wt_beside_laws.proofs.FlatLines.{own_meaning}
 use Rattle.wt_beside_laws.proofs.LineItems.{unbroken_before}
 use Rattle.wt_beside_laws.proofs.LineKinds.{opens_line}
-use Rattle.wt_beside_laws.proofs.LineParts.{guard_read}
 use Rattle.wt_beside_laws.proofs.LineRows.{own_both, unbroken_own, guard_own}
-use Rattle.wt_beside_laws.proofs.LineSegments.{cut_segments, read_line, none_read}
+use Rattle.wt_beside_laws.proofs.LineSegments.{segments_are}
 use Rattle.wt_beside_laws.proofs.LineShown.{guard_tree}
 use Rattle.wt_typed_blocks.proofs.TextKinds.{atom_opens}
-use Rattle.wt_beside_laws.proofs.Groups.GivenParts.{Read, begins_quoted, given_read, given_line}
+use Rattle.wt_beside_laws.proofs.Groups.GivenParts.{alone_read, signs_line}
 use Rattle.wt_beside_laws.proofs.Groups.GivenTiles.{given_are, none_last, given_follow}
+use Rattle.wt_beside_laws.proofs.Styled.NestForests.{nests_read}
+use Rattle.wt_beside_laws.proofs.Styled.StyledLines.{Read, guard_read}
 
 -- ---- it begins no block, so no line break is put before it
 
@@ -85,22 +88,26 @@ alone_line : (j : ℕ) (own : List Item) → GivesSigns j own → line_parts (gu
 alone_line j own h =
     let gs : List Glyph = given_glyphs h.signs in
     let c : Cut = given_cut h.signs (0, []) in
-    let items : List Item = given_items j h.signs in
+    let n : AreNestedSigns j h.signs = h.nested in
+    let t : GivenContent = n.content in
+    let xs : List Item = guard_items true ++ own in
     let glyphs : map glyph_of own ≡ gs = ap (map glyph_of) h.is ∙ given_are j h.signs in
     let f : Follows in_line false gs c =
     subst (λ hs. Follows in_line false hs c) (append-nil gs) (given_follow false h.signs [] (0, []) h.are (none_last h.signs) refl (λ a i. refl)) in
-    let all : cuts in_line false 0 (map glyph_of (guard_items true ++ own)) ≡ guard_cut true c =
+    let all : cuts in_line false 0 (map glyph_of xs) ≡ guard_cut true c =
     ap (λ hs. cuts in_line false 0 (glyph.Atom ∷ hs)) glyphs ∙ guard_follows in_line false true gs c f false (λ z. z) in
-    let r : Read c items (begins_quoted h.signs true) (given_parts j h.signs ++ []) =
-    subst (λ xs. Read c xs (begins_quoted h.signs true) (given_parts j h.signs ++ [])) (append-nil items)
-    (given_read j false h.signs (0, []) [] true [] h.are h.flat (none_read true)) in
-    let q : Read c own (begins_quoted h.signs true) (given_parts j h.signs ++ []) =
-    subst (λ xs. Read c xs (begins_quoted h.signs true) (given_parts j h.signs ++ [])) (sym h.is) r in
-    let k = guard_read true c own (begins_quoted h.signs true) (given_parts j h.signs ++ []) q in
-    let line : line_parts own ≡ given_parts j h.signs = ap line_parts h.is ∙ given_line j h.signs h.are h.flat in
-    read_line (guard_cut true c) (guard_items true ++ own) (cut_segments context_parts in_line (guard_cut true c) (guard_items true ++ own)) all refl k.apart
+    let r : Read false false (opens_quoted t false) (given_cut (signs_of j t) (0, [])) (given_items j (signs_of j t)) [] (given_parts j t) =
+    alone_read j t (subst (AreGivenSigns false) n.is h.are) n.nested in
+    let q : Read false false (opens_quoted t false) c own [] (given_parts j t) =
+    subst (λ (ys : List Item). Read false false (opens_quoted t false) c ys [] (given_parts j t)) (sym h.is)
+    (subst (λ (ss : List GivenSign). Read false false (opens_quoted t false) (given_cut ss (0, [])) (given_items j ss) [] (given_parts j t)) (sym n.is) r) in
+    let k = guard_read false false (opens_quoted t false) true c own [] (given_parts j t) q in
+    let line : line_parts own ≡ given_parts j t = ap line_parts h.is ∙ signs_line j h.signs n h.are in
+    contexts_are in_line xs (omega arith)
+    ∙ ap with_styles (segments_are (guard_cut true c) xs all ∙ k.is)
+    ∙ nests_read k.nest k.nested
     ∙ k.shows
-    ∙ ap (λ ps. parts Text (guard_items true) ++ ps) (append-nil (given_parts j h.signs) ∙ sym line)
+    ∙ ap (λ ps. parts Text (guard_items true) ++ ps) (sym line)
 
 one_line : (xs : List Item) → lines (xs ++ []) ≡ (xs ++ []) ∷ [] → lines xs ≡ xs ∷ []
 one_line xs e = subst (λ ys. lines ys ≡ ys ∷ []) (append-nil xs) e

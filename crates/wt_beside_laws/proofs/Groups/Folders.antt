@@ -1,23 +1,27 @@
 -- Texts beside calls in a folder: what these give there.
-use Rattle.std.proofs.Common.{◌≡◌, ◌⊎◌, inl, inr, ℕ, ◌+◌, false, List, [], ◌∷◌, length, refl, sym, subst}
+use Rattle.std.proofs.Common.{◌≡◌, ◌⊎◌, inl, inr, ℕ, ◌+◌, Bool, true, false, List, [], ◌∷◌, ◌++◌, length, refl, sym, ap, ◌∙◌, subst}
+use Rattle.std.specs.List.{list_any}
 use Rattle.wt_span.specs.Items.{Item}
 use Rattle.wt_guards.specs.declared.role.Role.{Role}
 use Rattle.wt_guards.specs.declared.role.Role.TheVariants.{Link, External, Bare, Switch, Toggle, Mark, Group, Function, Node}
 use Rattle.wt_guards.specs.declared.role.Transclusion.{Transclusion}
 use Rattle.wt_guards.specs.Content.{ContentSign, Thing, letter, thing, is_group}
-use Rattle.wt_guards.specs.Guards.{Setting}
+use Rattle.wt_guards.specs.Guards.{Setting, is_guarded}
+use Rattle.wt_guards.specs.Letters.{is_escaped}
 use Rattle.wt_expand.specs.PageCalls.{numbered, page_stretches, expanded_page}
 use Rattle.wt_expand.specs.Work.{Pages}
 use Rattle.wt_inline.specs.declared.loose.Loose.TheVariants.{Text, Sep}
-use Rattle.wt_inline.specs.Parts.{Part, loose, node}
+use Rattle.wt_inline.specs.Parts.{Part, loose, node, held_parts, parts}
 use Rattle.wt_context.specs.Line.{line_parts}
+use Rattle.wt_annotated.specs.Clean.{is_page}
 use Rattle.wt_part_laws.specs.CallPieces.{AreOwnOrGiven}
-use Rattle.wt_beside_laws.specs.Called.{owns_in, IsOwnNode, IsGivenAs, AreGiven, AreOwnInside, IsCalledContent, GivesGroup, StaysAsItIs, IsOfFolder, AreOfFolder, IsCalledIn, AllEndSeen, IsCalledHeading, AllSeenIn, IsCalledInHeading}
+use Rattle.wt_beside_laws.specs.Called.{owns_in, parts_with, HasUncalled, IsOwnNode, IsGivenAs, AreGiven, AreOwnInside, IsCalledContent, GivesGroup, StaysAsItIs, IsOfFolder, AreOfFolder, IsCalledIn, AllEndSeen, IsCalledHeading, AllSeenIn, IsCalledInHeading}
+use Rattle.wt_beside_laws.specs.Content.{guard_items, letter_items}
 use Rattle.wt_beside_laws.specs.Flat.{IsFlat, AreFlat}
 use Rattle.wt_beside_laws.specs.Given.{AreGivenBy, GivesSigns, IsGroup}
 use Rattle.wt_beside_laws.specs.NodeItems.{node_items}
 use Rattle.wt_beside_laws.specs.Stood.{things}
-use Rattle.wt_beside_laws.proofs.Groups.CalledBlocks.{page_given}
+use Rattle.wt_beside_laws.proofs.Groups.CalledBlocks.{held_left, held_right, page_given, some_guard, some_letter, some_of_page, some_page}
 
 -- ---- a node
 
@@ -68,12 +72,46 @@ pub inside_in : (pages : Pages) (i : ℕ) (t : Thing) → IsOfFolder t.role page
 inside_in pages i t h = elim (folder_case t.role pages t h) [
   | inl k ↦
       let stays : StaysAsItIs pages t = k.0 in
-      subst (λ (xs : List Item). AreOwnOrGiven (line_parts xs)) (sym (stays.items i)) (page_given (line_parts (node_items t.source)) stays.own)
+      subst (λ (xs : List Item). AreOwnOrGiven (line_parts xs)) (sym (stays.items i)) (page_given (line_parts (node_items t.source)) (some_of_page (line_parts (node_items t.source)) stays.own))
   | inr k ↦
       let group : IsGroup k.0 i (own_of pages i t) = k.2 i in
       let gives : GivesSigns i (own_of pages i t) = group.gives in
       given_by i (line_parts (own_of pages i t)) gives.inside
 ]
+
+-- ---- something of it is the page's own
+
+node_some : (pages : Pages) (i : ℕ) (t : Thing) → IsOfFolder t.role pages t → is_group t.role ≡ false
+    → list_any is_page (held_parts (line_parts (own_of pages i t))) ≡ true
+node_some pages i t h e = elim (folder_case t.role pages t h) [
+  | inl k ↦
+      let stays : StaysAsItIs pages t = k.0 in
+      subst (λ (xs : List Item). list_any is_page (held_parts (line_parts xs)) ≡ true) (sym (stays.items i)) (some_page (line_parts (node_items t.source)) stays.own)
+  | inr k ↦ let no : true ≡ false = sym (ap is_group k.1) ∙ e in absurd (cc)
+]
+
+some_in : (pages : Pages) (i : ℕ) (s : Setting) (before signs : List ContentSign) → AreOfFolder pages signs → HasUncalled s before signs
+    → list_any is_page (held_parts (parts_with s before signs (owns_in pages i signs))) ≡ true
+some_in pages i s before [] g h = some_guard (is_guarded s before []) h
+some_in pages i s before (letter c ∷ after) g h =
+    let e : Bool = is_escaped s.within s.place before c after in
+    let own : List Part = parts Text (letter_items e c) in
+    let more : List Part = parts_with s (letter c ∷ before) after (owns_in pages i after) in
+    held_right (parts Text (guard_items (is_guarded s before (letter c ∷ after)))) (own ++ more) (held_left own more (some_letter e c))
+some_in pages i s before (thing t ∷ after) g h =
+    let next : ℕ = i + length (expanded_page pages t.source).outer in
+    let put : Bool = is_guarded s before (thing t ∷ after) in
+    let own : List Part = line_parts (own_of pages i t) in
+    let more : List Part = parts_with s (thing t ∷ before) after (owns_in pages next after) in
+    elim h [
+      | inl u ↦ held_left (parts Text (guard_items put)) (own ++ more) (some_guard put u)
+      | inr r ↦
+          held_right (parts Text (guard_items put)) (own ++ more)
+          (elim r [
+            | inl n ↦ held_left own more (node_some pages i t g.0 n)
+            | inr m ↦ held_right own more (some_in pages next s (thing t ∷ before) after g.1 m)
+          ])
+    ]
 
 -- ---- a content
 
@@ -100,7 +138,7 @@ called_in pages i s signs h = record {
   flat = all_flat pages signs h.given;
   own = all_inside pages i signs h.given;
   meet = h.meet i;
-  some = h.some;
+  some = some_in pages i s [] signs h.given h.some;
 }
 
 -- ---- in a heading

@@ -1,6 +1,6 @@
 -- A node that stays, and what a call gives, as their neighbours on a line see them: forms and characters, of which each is what it is by itself.
-use Rattle.std.proofs.Common.{◌≡◌, ◌⊎◌, inl, inr, ℕ, ◌==◌, Bool, true, false, Option, None, Some, List, [], ◌∷◌, ◌++◌, map, refl, sym, ap, ◌∙◌, subst, append-nil}
-use Rattle.std.specs.Prelude.{codes, if◌then◌else◌}
+use Rattle.std.proofs.Common.{◌≡◌, ◌⊎◌, inl, inr, ℕ, ◌==◌, Bool, true, false, not, Option, None, Some, List, [], ◌∷◌, ◌++◌, map, refl, sym, ap, ◌∙◌, subst, append-nil}
+use Rattle.std.specs.Prelude.{codes, ◌&&◌, if◌then◌else◌}
 use Rattle.wt_span.specs.Items.{Item}
 use Rattle.wt_guards.specs.declared.role.Role.{Role}
 use Rattle.wt_guards.specs.declared.role.Role.TheVariants.{Link, External, Bare, Switch, Toggle, Mark, Group, Function, Node}
@@ -20,16 +20,16 @@ use Rattle.wt_tiles.specs.Urls.{scheme_len, bare_url_at, is_word}
 use Rattle.wt_beside_laws.specs.Beginnings.{AvoidsSwitches}
 use Rattle.wt_beside_laws.specs.Called.{IsOwnNode, IsGivenAs, AreGiven, MayBeBehindGroup, MayFollowGroup, BehindMay, LeadMay}
 use Rattle.wt_beside_laws.specs.Cuts.{ends_word, guard_cut, letter_cut}
-use Rattle.wt_beside_laws.specs.Given.{GivenSign, character, form, given_items, given_glyphs, given_cut, BeginsApart, AreGivenSigns, AreFlatSigns, FirstMay, LastMay, is_bare_url, ends_with_url, GivesSigns, IsGroup}
+use Rattle.wt_beside_laws.specs.Given.{GivenSign, character, form, given_items, given_glyphs, given_cut, BeginsGiven, AreGivenSigns, GivenContent, given_end, given_sign, given_style, signs_of, opens_quoted, closes_quoted, AreNestedSigns, FirstMay, LastMay, is_bare_url, ends_with_url, GivesSigns, IsGroup}
 use Rattle.wt_beside_laws.specs.Flat.{IsFlat}
 use Rattle.wt_beside_laws.specs.Glyphs.{guard_glyphs, letter_glyphs}
 use Rattle.wt_beside_laws.specs.Nodes.{IsBareNode, IsNode, MayBeBehind, MayFollow, MayLead}
 use Rattle.wt_beside_laws.proofs.LineTiles.{scheme_less}
 use Rattle.wt_beside_laws.proofs.NodesBegin.{other_avoids, node_urls, node_switches}
 use Rattle.wt_beside_laws.proofs.NodesMeet.{atom_may, begins_more, by_fits, letter_may, none_before, word_before}
-use Rattle.wt_beside_laws.proofs.TypedForms.{bare_none}
+use Rattle.wt_beside_laws.proofs.Styled.StyledSigns.{is_quoted, is_quoted_last}
+use Rattle.wt_beside_laws.proofs.TypedForms.{bare_none, thing_alone}
 use Rattle.wt_beside_laws.proofs.Groups.GivenMeets.{behind_group, before_group}
-use Rattle.wt_beside_laws.proofs.Groups.GivenParts.{begins_quoted, unquoted}
 use Rattle.wt_beside_laws.proofs.Groups.GivenTiles.{given_are, none_last}
 use Rattle.wt_beside_laws.proofs.Groups.HalfSigns.{apart_slash, apart_colon, apart_sign}
 use Rattle.wt_beside_laws.proofs.Groups.Schemes.{FirstNeither, avoids_neither}
@@ -44,8 +44,9 @@ pub record IsGift (t : Thing) (own : List Item) : Type 0 where
   pub neither : FirstNeither (map glyph_of own)
   pub alone : AvoidsSwitches (map glyph_of own)
   pub unbroken : IsUnbroken own
-  pub flat : IsFlat t.role → AreFlatSigns signs
-  pub unquoted : (next : Bool) → begins_quoted signs next ≡ false
+  pub nested : IsFlat t.role → AreNestedSigns call signs
+  pub opens : (f : IsFlat t.role) (next : Bool) → is_quoted t.role ≡ false → opens_quoted (nested f).content next ≡ false
+  pub closes : (f : IsFlat t.role) → closes_quoted false (nested f).content ≡ true → is_quoted_last t.role ≡ true
   pub behind : (e : Bool) (d : ℕ) (more : List Glyph) → hazard (left_side t.role) (side.Text d) ≡ false → LastMay signs (letter_glyphs e d ++ more)
   pub beside : (gs more : List Glyph) → FirstNeither gs → BehindMay t.role (map glyph_of own) gs → LastMay signs (gs ++ more)
   pub before : (d : ℕ) → hazard (side.Text d) (side_of t.role) ≡ false → FirstMay signs (is_word d)
@@ -137,8 +138,9 @@ own_gift t own n =
       neither = avoids_neither gs (node_urls t.role gs node);
       alone = node_switches t.role gs node;
       unbroken = subst IsUnbroken (sym n.is) n.unbroken;
-      flat = λ f. (f, tt);
-      unquoted = λ next. refl;
+      nested = λ f. record { content = given_sign (form t.role own) given_end; is = refl; nested = (f, tt) };
+      opens = λ f next e. refl;
+      closes = λ f e. cc;
       behind = λ e d more h. by_fits t.role gs (letter_glyphs e d ++ more) (letter_may t.role e d more h);
       beside = λ hs more f m. some_first t.role gs hs more f (as_follow t.role gs hs node m);
       before = λ d h. word_before t.role d h;
@@ -147,19 +149,37 @@ own_gift t own n =
 
 -- ---- what a call gives
 
-apart_neither : (gs : List Glyph) → BeginsApart gs → FirstNeither gs
-apart_neither [] h = absurd h
-apart_neither (g ∷ gs) h = (apart_colon g h, apart_slash g h)
+neither_more : (gs more : List Glyph) → FirstNeither gs → FirstNeither (gs ++ more)
+neither_more [] more h = absurd h
+neither_more (g ∷ gs) more h = h
 
-apart_switches : (gs : List Glyph) → BeginsApart gs → AvoidsSwitches gs
-apart_switches [] h = absurd h
-apart_switches (glyph.Byte b ∷ gs) h = let a = apart_sign b h in other_avoids b gs a.1
-apart_switches (glyph.Entity c ∷ []) h = refl
-apart_switches (glyph.Entity c ∷ x ∷ gs) h = refl
-apart_switches (glyph.Atom ∷ []) h = refl
-apart_switches (glyph.Atom ∷ x ∷ gs) h = refl
-apart_switches (glyph.Mark ∷ []) h = refl
-apart_switches (glyph.Mark ∷ x ∷ gs) h = refl
+switches_more : (gs more : List Glyph) → AvoidsSwitches gs → AvoidsSwitches (gs ++ more)
+switches_more [] more h = absurd h
+switches_more (g ∷ []) [] h = h
+switches_more (g ∷ []) (x ∷ more) h = thing_alone (g ∷ []) (x ∷ more) h
+switches_more (g ∷ x ∷ gs) more h = h
+
+given_neither : (word : Bool) (signs : List GivenSign) → BeginsGiven signs → AreGivenSigns word signs → FirstNeither (given_glyphs signs)
+given_neither word [] b h = absurd b
+given_neither word (character c ∷ signs) b h = (apart_colon (glyph.Byte c) b, apart_slash (glyph.Byte c) b)
+given_neither word (form r own ∷ signs) b h =
+    let gs : List Glyph = map glyph_of own in neither_more gs (given_glyphs signs) (avoids_neither gs (node_urls r gs h.0.node))
+
+given_switches : (word : Bool) (signs : List GivenSign) → BeginsGiven signs → AreGivenSigns word signs → AvoidsSwitches (given_glyphs signs)
+given_switches word [] b h = absurd b
+given_switches word (character c ∷ signs) b h = let a = apart_sign c b in other_avoids c (given_glyphs signs) a.1
+given_switches word (form r own ∷ signs) b h = let gs : List Glyph = map glyph_of own in switches_more gs (given_glyphs signs) (node_switches r gs h.0.node)
+
+-- an apostrophe that is first begins a style
+unquoted_first : (j : ℕ) (t : GivenContent) (next : Bool) → BeginsGiven (signs_of j t) → opens_quoted t false ≡ false → opens_quoted t next ≡ false
+unquoted_first j given_end next b e = absurd b
+unquoted_first j (given_sign (character c) t) next b e = e
+unquoted_first j (given_sign (form r own) t) next b e = e
+unquoted_first j (given_style kind inside t) next b e = e
+
+not_true : (v : Bool) (A : Bool) → (v ≡ true → A ≡ true) → A ≡ false → v ≡ false
+not_true true A f e = sym (f refl) ∙ e
+not_true false A f e = refl
 
 form_behind : (r : Role) (own : List Glyph) (slashes : Bool) (x : Glyph) → IsNode r own → (is_bare_url r ≡ true → slashes ≡ true) → MayBeBehindGroup slashes x
     → MayBeBehind r x
@@ -219,11 +239,14 @@ group_gift g t j own role h =
       signs = k.signs;
       is = k.is;
       are = k.are;
-      neither = subst FirstNeither (sym glyphs) (apart_neither (given_glyphs k.signs) k.begins);
-      alone = subst AvoidsSwitches (sym glyphs) (apart_switches (given_glyphs k.signs) k.begins);
+      neither = subst FirstNeither (sym glyphs) (given_neither false k.signs k.begins k.are);
+      alone = subst AvoidsSwitches (sym glyphs) (given_switches false k.signs k.begins k.are);
       unbroken = k.unbroken;
-      flat = λ f. k.flat;
-      unquoted = λ next. unquoted k.signs next k.begins;
+      nested = λ f. k.nested;
+      opens = λ f next e.
+          unquoted_first j k.nested.content next (subst BeginsGiven k.nested.is k.begins)
+          (not_true (opens_quoted k.nested.content false) (g.opens_with_apostrophe && not g.between_equals) h.opens_style (sym (ap is_quoted role) ∙ e));
+      closes = λ f e. ap is_quoted_last role ∙ h.closes_style e;
       behind = λ e d more z.
           behind_group g false k.signs e d more k.are h.urls (subst (λ (r : Role). hazard (left_side r) (side.Text d) ≡ false) role z);
       beside = λ gs more f m.

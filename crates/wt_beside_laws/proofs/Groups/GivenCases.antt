@@ -1,5 +1,5 @@
 -- Worked cases: what calls give beside words: a link, a URL, a reference, nothing; and what is none of it.
-use Rattle.std.proofs.Common.{◌≡◌, ℕ, true, false, Some, List, [], ◌∷◌, map, refl, ap, ◌==◌, inl, inr}
+use Rattle.std.proofs.Common.{◌≡◌, ℕ, true, false, Some, List, [], ◌∷◌, map, refl, sym, ap, ◌∙◌, subst, ◌==◌, inl, inr}
 use Rattle.std.specs.Prelude.{codes}
 use Rattle.std.specs.Str.{is_utf8, chars}
 use Rattle.std.specs.Str.Lossy.{utf8_valid_len}
@@ -13,7 +13,8 @@ use Rattle.wt_names.specs.Written.{link_to}
 use Rattle.wt_guards.specs.declared.role.Role.TheVariants.{Link, Bare, Mark, Node}
 use Rattle.wt_guards.specs.declared.role.Transclusion.{Transclusion}
 use Rattle.wt_guards.specs.Table.{line_start_hazard}
-use Rattle.wt_inline.specs.Parts.{children}
+use Rattle.wt_inline.specs.ItemTree.{forest}
+use Rattle.wt_inline.specs.Parts.{Part, children}
 use Rattle.wt_tiles.specs.declared.shape.TileKind.TheVariants as tile
 use Rattle.wt_tiles.specs.Glyphs.{byte_glyphs}
 use Rattle.wt_tiles.specs.Links.{target_of, link_in, link_at}
@@ -27,12 +28,15 @@ use Rattle.wt_context.specs.Chunks.{chunks}
 use Rattle.wt_context.specs.Styled.{with_styles}
 use Rattle.wt_context.specs.Heads.{link_head}
 use Rattle.wt_context.specs.Nodes.{nested_tree, segments}
-use Rattle.wt_context.specs.Line.{context_parts}
+use Rattle.wt_context.specs.Line.{context_parts, line_parts}
+use Rattle.wt_annotated.specs.Annotated.{all_unplaced}
 use Rattle.wt_annotated.specs.Labels.{label_at}
 use Rattle.wt_isolation.specs.GroupItems.{empty_nowiki}
-use Rattle.wt_beside_laws.specs.Given.{GivenSign, character, form, AreGivenSigns, IsGroup}
+use Rattle.wt_isolation.specs.OpenTexts.{has_open_text}
+use Rattle.wt_beside_laws.specs.Given.{GivenContent, GivenSign, character, form, given_end, given_sign, given_style, signs_of, given_parts, AreNestedGiven, AreGivenSigns, AreGivenBy, IsGroup}
 use Rattle.wt_beside_laws.specs.Nodes.{IsLinkNode, IsBareNode}
 use Rattle.wt_beside_laws.proofs.Groups.Cases.{beside_letters}
+use Rattle.wt_beside_laws.proofs.Groups.GivenParts.{given_line}
 
 -- ---- of any call
 
@@ -65,8 +69,8 @@ one_link g j = record {
     is = refl;
     of_call = (refl, (refl, (refl, (refl, (refl, tt)))));
     are = (record { node = a_link; leads = tt; follows = tt }, tt);
-    flat = (tt, tt);
-    begins = refl;
+    nested = record { content = given_sign (form Link (of_call j (codes "[[b]]"))) given_end; is = refl; nested = (tt, tt) };
+    begins = tt;
     unopened = refl;
     unbroken = (refl, (refl, (refl, (refl, (refl, tt)))));
     inside = (
@@ -85,6 +89,76 @@ one_link g j = record {
   };
   urls = λ e. absurd (cc);
   opens = λ e. refl;
+  opens_style = λ e. absurd (cc);
+  closes_style = λ e. absurd (cc);
+}
+
+-- `''b''`, as a group that begins and ends with an apostrophe
+abbrev pub beside_styles : Transclusion
+beside_styles = record {
+  slashes = false;
+  is_invisible = false;
+  is_blank = false;
+  opens_with_apostrophe = true;
+  closes_with_apostrophe = true;
+  began_line = false;
+  ended_line = false;
+  ended_content = false;
+  between_equals = false;
+}
+
+abbrev a_style : GivenContent
+a_style = given_style false (given_sign (character 98) given_end) given_end
+
+style_signs : (j : ℕ) → AreGivenSigns false (signs_of j a_style)
+style_signs j =
+    (record { node = inl refl; leads = tt; follows = tt }, (inl refl, (λ e. absurd (cc)), (record { node = inl refl; leads = tt; follows = tt }, tt)))
+
+pub style_line : (j : ℕ) → line_parts (of_call j (codes "''b''")) ≡ given_parts j a_style
+style_line j = given_line j a_style (style_signs j) (refl, refl, refl, tt, refl, tt)
+
+style_inside : (j : ℕ) → AreGivenBy j (given_parts j a_style)
+unfolding children
+style_inside j = (
+  record {
+    first = char (Some j) 39;
+    others = of_call j (codes "'b''");
+    is = refl;
+    of_call = (refl, (refl, (refl, (refl, (refl, tt)))));
+    no_body = refl;
+    uncut = (refl, ((refl, tt), tt));
+  },
+  tt,
+)
+
+style_closed : (j : ℕ) → has_open_text [] (all_unplaced (forest (children (given_parts j a_style)))) ≡ false
+unfolding children label_at
+style_closed j = refl
+
+pub one_style : (j : ℕ) → IsGroup beside_styles j (of_call j (codes "''b''"))
+unfolding context_parts chunks segments loose_segments tiles shapes closed form_at link_or_url link_at ext_link_at bare_url_at scheme_len tag_tile tag_at
+    switch_at children with_styles style_tree_of toggles_of toggle_at opening_tag closing_tag empty_nowiki label_at
+    link_in target_of read_text is_allowed is_forbidden is_good has_signature is_step begins_with_step holds_step ends_with_step
+    name_of image is_called namespace_named prefix_of full_name_of whole_in cut_namespace title_in utf8_valid_len is_utf8 chars encode link_to
+    line_start_hazard
+one_style j = record {
+  gives = record {
+    signs = signs_of j a_style;
+    is = refl;
+    of_call = (refl, (refl, (refl, (refl, (refl, tt)))));
+    are = style_signs j;
+    nested = record { content = a_style; is = refl; nested = (refl, refl, refl, tt, refl, tt) };
+    begins = tt;
+    unopened = refl;
+    unbroken = (refl, (refl, (refl, (refl, (refl, tt)))));
+    inside = subst (AreGivenBy j) (sym (style_line j)) (style_inside j);
+    even = refl;
+    closed = ap (λ (ps : List Part). has_open_text [] (all_unplaced (forest (children ps)))) (style_line j) ∙ style_closed j;
+  };
+  urls = λ e. absurd (cc);
+  opens = λ e. refl;
+  opens_style = λ e. refl;
+  closes_style = λ e. refl;
 }
 
 -- `&nbsp;`
@@ -103,8 +177,8 @@ one_reference g j = record {
     is = refl;
     of_call = (refl, tt);
     are = (record { node = inl (inr (160, refl)); leads = tt; follows = tt }, tt);
-    flat = (tt, tt);
-    begins = refl;
+    nested = record { content = given_sign (form Node (space_item j ∷ [])) given_end; is = refl; nested = (tt, tt) };
+    begins = tt;
     unopened = refl;
     unbroken = (refl, tt);
     inside = (record { first = space_item j; others = []; is = refl; of_call = (refl, tt); no_body = refl; uncut = (refl, tt) }, tt);
@@ -113,6 +187,8 @@ one_reference g j = record {
   };
   urls = λ e. absurd (cc);
   opens = λ e. refl;
+  opens_style = λ e. absurd (cc);
+  closes_style = λ e. absurd (cc);
 }
 
 -- nothing: a mark, which doesn't begin a line
@@ -131,8 +207,8 @@ an_empty_call j = record {
     is = refl;
     of_call = (refl, tt);
     are = (record { node = refl; leads = tt; follows = tt }, tt);
-    flat = (tt, tt);
-    begins = refl;
+    nested = record { content = given_sign (form (Mark false false) (nothing_item j (codes "{{t}}") ∷ [])) given_end; is = refl; nested = (tt, tt) };
+    begins = tt;
     unopened = refl;
     unbroken = (refl, tt);
     inside = (record { first = nothing_item j (codes "{{t}}"); others = []; is = refl; of_call = (refl, tt); no_body = refl; uncut = (refl, tt) }, tt);
@@ -141,6 +217,8 @@ an_empty_call j = record {
   };
   urls = λ e. cc;
   opens = λ e. cc;
+  opens_style = λ e. cc;
+  closes_style = λ e. cc;
 }
 
 -- ---- signs
@@ -195,3 +273,20 @@ two_quotes h = let no : false ≡ true = h.1 refl in cc
 
 a_scheme : AreGivenSigns false (character 112 ∷ character 58 ∷ character 47 ∷ character 47 ∷ []) → ⊥
 a_scheme h = let no : false ≡ true = h.2.1 refl in cc
+
+-- bold in italic may be among them, each with its own delimiters
+abbrev bold_word : GivenContent
+bold_word = given_style true (given_sign (character 98) given_end) given_end
+
+pub nested_styles : AreNestedGiven false false (given_style false (given_sign (character 97) (given_style true (given_sign (character 98) given_end) (given_sign (character 99) given_end))) given_end)
+nested_styles = (refl, refl, refl, (refl, refl, refl, tt, refl, tt), refl, tt)
+
+-- but not side by side, as in `'''''b'''''`, nor one in another of its kind, nor without anything in it
+five_quotes : AreNestedGiven false false (given_style false bold_word given_end) → ⊥
+five_quotes h = let no : true ≡ false = h.1 in cc
+
+bold_in_bold : AreNestedGiven true false bold_word → ⊥
+bold_in_bold h = let no : true ≡ false = h.0 in cc
+
+nothing_in_it : AreNestedGiven false false (given_style true given_end given_end) → ⊥
+nothing_in_it h = let no : true ≡ false = h.1 in cc

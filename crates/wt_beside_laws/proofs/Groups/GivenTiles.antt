@@ -110,7 +110,7 @@ given_none a b signs more (inr k) f h e = bracket_none a b (is_word b) signs mor
 
 -- ---- what follows a form
 
-some_glyph : (word : Bool) (sign : GivenSign) (signs : List GivenSign) → AreGivenSigns word (sign ∷ signs) → given_glyphs (sign ∷ signs) ≡ [] → ⊥
+pub some_glyph : (word : Bool) (sign : GivenSign) (signs : List GivenSign) → AreGivenSigns word (sign ∷ signs) → given_glyphs (sign ∷ signs) ≡ [] → ⊥
 some_glyph word (character b) signs h e = cc
 some_glyph word (form r own) signs h e = none (map glyph_of own) (node_urls r (map glyph_of own) h.0.node) e
   where

@@ -49,7 +49,7 @@ use Rattle.wt_beside_laws.proofs.Styled.NestForests.{nests_read}
 use Rattle.wt_beside_laws.proofs.Styled.NestReads.{IsTail, NestRead, nothing_read, pushed_read, quote_added, char_read, enclosed_read}
 use Rattle.wt_beside_laws.proofs.Styled.NestRuns.{marks_first}
 use Rattle.wt_beside_laws.proofs.Styled.NestToggles.{nest_even}
-use Rattle.wt_beside_laws.proofs.Styled.StyledSigns.{is_toggle, raw_next, quote_next, quote_behind, after_delimiter}
+use Rattle.wt_beside_laws.proofs.Styled.StyledSigns.{is_quoted, raw_next, quote_next, quote_behind, after_delimiter}
 use Rattle.wt_beside_laws.specs.NodeItems.{node_items}
 
 abbrev pub cut_line : Cut → List Item → List Segment
@@ -263,9 +263,9 @@ styled_read line s bold italic (sign (thing x) t) before after vs n k g tail res
     let c : Cut = line_cut in_line s (thing x ∷ before) signs in
     let xs : List Item = line_items s (thing x ∷ before) signs in
     let ps : List Part = styled_parts line s (thing x ∷ before) t after in
-    guard_read bold italic (is_toggle x.role) (is_guarded s before (thing x ∷ signs)) (add_node (own_form in_line own) (length own) c) (node_items x.source ++ xs) vs
+    guard_read bold italic (is_quoted x.role) (is_guarded s before (thing x ∷ signs)) (add_node (own_form in_line own) (length own) c) (node_items x.source ++ xs) vs
     (line_parts (node_items x.source) ++ ps)
-    (node_read bold italic (quote_next s (thing x ∷ before) signs) (is_toggle x.role) x c xs vs ps k.0 n.0
+    (node_read bold italic (quote_next s (thing x ∷ before) signs) (is_quoted x.role) x c xs vs ps k.0 n.0
     (styled_read line s bold italic t (thing x ∷ before) after vs n.1 k.1 g tail rest))
 styled_read line s bold italic (styled kind opening closing inside t) before after vs n k g tail rest =
     let first : List ContentSign = delimiter kind opening ∷ before in

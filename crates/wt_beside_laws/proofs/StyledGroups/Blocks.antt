@@ -1,5 +1,5 @@
 -- A paragraph of a content with styles among whose signs are calls holds these: each is a group between items of the page.
-use Rattle.std.proofs.Common.{◌≡◌, inl, inr, Bool, true, false, not, List, [], ◌∷◌, ◌++◌, ap, append-nil, refl, subst, sym, ◌||◌, ◌∙◌}
+use Rattle.std.proofs.Common.{◌≡◌, inl, inr, Bool, true, false, List, [], ◌∷◌, ◌++◌, ap, append-nil, refl, subst, sym, ◌∙◌}
 use Rattle.std.specs.List.{list_any}
 use Rattle.wt_span.specs.Items.{Item}
 use Rattle.wt_span.specs.Origins.{OuterCall}
@@ -12,22 +12,21 @@ use Rattle.wt_inline.specs.ItemTree.{forest, held_by_all, plain, tree_items}
 use Rattle.wt_inline.specs.Parts.{Part, children, held_parts, loose, node, parts}
 use Rattle.wt_inline.specs.declared.loose.Loose.TheVariants.{Sep, Text}
 use Rattle.wt_context.specs.Line.{line_parts}
-use Rattle.wt_annotated.specs.Clean.{is_no_call, is_page}
+use Rattle.wt_annotated.specs.Clean.{is_page}
 use Rattle.wt_part_laws.proofs.HeldBlocks.{given_block_is, given_hold}
-use Rattle.wt_part_laws.proofs.OwnWalks.{has_page}
 use Rattle.wt_part_laws.specs.CallPieces.{AreOwnOrGiven}
 use Rattle.wt_part_laws.specs.HeldCalls.{HoldsItsCalls, IsRoundGiven, block_in, block_of_pieces}
 use Rattle.wt_part_laws.specs.Rounded.{IsOwn}
 use Rattle.wt_text_edit_laws.proofs.Texts.TypedShown.{both_of_page}
 use Rattle.wt_text_edit_laws.specs.ParagraphParts.{joined_parts, para_with}
-use Rattle.wt_beside_laws.proofs.Groups.CalledBlocks.{any_left, given_both, guard_own, held_left, held_right, letter_own, page_given, para_items, some_letter}
+use Rattle.wt_beside_laws.proofs.Groups.CalledBlocks.{given_both, guard_own, held_left, held_right, letter_own, page_given, para_items, some_guard, some_letter, some_of_page, some_page}
 use Rattle.wt_beside_laws.proofs.Made.Items.{PartsHave, children_have, guard_has, have_both, letter_has}
 use Rattle.wt_beside_laws.proofs.StyledGroups.Paragraphs.{styled_called_parts}
-use Rattle.wt_beside_laws.specs.Called.{ArePageParts, items_with}
+use Rattle.wt_beside_laws.specs.Called.{ArePageParts, HasUncalled, items_with}
 use Rattle.wt_beside_laws.specs.Content.{guard_items, letter_items}
 use Rattle.wt_beside_laws.specs.Nests.{marks, style_tree}
 use Rattle.wt_beside_laws.specs.Styled.{StyledContent, delimiter, finished, sign, signs_before, signs_in, signs_past, styled}
-use Rattle.wt_beside_laws.specs.StyledCalls.{AreOwnAt, AreSomeOfPage, IsOwnAt, IsStyledCalled, has_uncalled, owns_left, owns_past, styled_with}
+use Rattle.wt_beside_laws.specs.StyledCalls.{AreOwnAt, IsOwnAt, IsStyledCalled, owns_left, owns_past, styled_with}
 
 -- ---- what is of the page
 
@@ -36,20 +35,6 @@ page_have [] h = tt
 page_have (loose Text o b ∷ ps) h = (h.0, page_have ps h.1)
 page_have (loose Sep o b ∷ ps) h = absurd h
 page_have (node t ∷ ps) h = let own = h.0 in ((own.has_items, own.of_page), page_have ps h.1)
-
-pub some_of_page : (ps : List Part) → AreSomeOfPage ps → ArePageParts ps
-some_of_page [] h = absurd h
-some_of_page (p ∷ ps) h = h
-
-or_first : (v w : Bool) → v ≡ true → (v || w) ≡ true
-or_first true w e = refl
-or_first false w e = cc
-
-some_page : (ps : List Part) → AreSomeOfPage ps → list_any is_page (held_parts ps) ≡ true
-some_page [] h = absurd h
-some_page (loose Text o b ∷ ps) h = or_first (is_no_call o) (list_any is_page (held_parts ps)) (ap is_no_call h.0)
-some_page (loose Sep o b ∷ ps) h = absurd h
-some_page (node t ∷ ps) h = let own = h.0 in any_left (tree_items t) (held_parts ps) (has_page t own.has_items)
 
 -- ---- a style is of the page
 
@@ -133,28 +118,15 @@ some_style : (kind : Bool) (ps : List Part) → list_any is_page (tree_items (st
 some_style true ps = refl
 some_style false ps = refl
 
-not_both : (b : Bool) → not b ≡ true → b ≡ true → ⊥
-not_both true e f = cc
-not_both false e f = cc
-
-own_some : (x : Thing) (own : List Item) → IsOwnAt false x own → not (is_group x.role) ≡ true → list_any is_page (held_parts (line_parts own)) ≡ true
+own_some : (x : Thing) (own : List Item) → IsOwnAt false x own → is_group x.role ≡ false → list_any is_page (held_parts (line_parts own)) ≡ true
 own_some x own h b = elim h [
-  | inl g ↦ absurd (not_both (is_group x.role) b g.0)
+  | inl g ↦ let no : true ≡ false = sym g.0 ∙ b in absurd (cc)
   | inr k ↦ some_page (line_parts own) k
 ]
 
--- a node, or something behind it
-thing_some : (x : Thing) (own : List Item) (more : List Part) (rest : Bool) → IsOwnAt false x own → (not (is_group x.role) || rest) ≡ true
-    → (rest ≡ true → list_any is_page (held_parts more) ≡ true) → list_any is_page (held_parts (line_parts own ++ more)) ≡ true
-thing_some x own more rest h b f = by (not (is_group x.role)) refl b
-  where
-    by : (v : Bool) → not (is_group x.role) ≡ v → (v || rest) ≡ true → list_any is_page (held_parts (line_parts own ++ more)) ≡ true
-    by true e g = held_left (line_parts own) more (own_some x own h e)
-    by false e g = held_right (line_parts own) more (f g)
-
-styled_some : (s : Setting) (before : List ContentSign) (t : StyledContent) (owns : List (List Item)) → AreOwnAt false t owns → has_uncalled t ≡ true
+styled_some : (s : Setting) (before : List ContentSign) (t : StyledContent) (owns : List (List Item)) → AreOwnAt false t owns → HasUncalled s before (signs_in t)
     → list_any is_page (held_parts (styled_with false s before t [] owns)) ≡ true
-styled_some s before finished owns h b = cc
+styled_some s before finished owns h b = some_guard (is_guarded s before []) b
 styled_some s before (sign (letter c) t) owns h b =
     let signs : List ContentSign = signs_before t [] in
     let e : Bool = is_escaped s.within s.place before c signs in
@@ -164,8 +136,16 @@ styled_some s before (sign (letter c) t) owns h b =
 styled_some s before (sign (thing x) t) [] h b = absurd h
 styled_some s before (sign (thing x) t) (own ∷ owns) h b =
     let more : List Part = styled_with false s (thing x ∷ before) t [] owns in
-    held_right (parts Text (guard_items (is_guarded s before (thing x ∷ signs_before t [])))) (line_parts own ++ more)
-    (thing_some x own more (has_uncalled t) h.0 b (λ e. styled_some s (thing x ∷ before) t owns h.1 e))
+    let put : Bool = is_guarded s before (thing x ∷ signs_before t []) in
+    elim b [
+      | inl g ↦ held_left (parts Text (guard_items put)) (line_parts own ++ more) (some_guard put g)
+      | inr r ↦
+          held_right (parts Text (guard_items put)) (line_parts own ++ more)
+          (elim r [
+            | inl n ↦ held_left (line_parts own) more (own_some x own h.0 n)
+            | inr m ↦ held_right (line_parts own) more (styled_some s (thing x ∷ before) t owns h.1 m)
+          ])
+    ]
 styled_some s before (styled kind opening closing inside t) owns h b =
     let first : List ContentSign = delimiter kind opening ∷ before in
     let closes : List ContentSign = delimiter kind closing ∷ signs_before t [] in

@@ -1,7 +1,7 @@
 -- A line of a content with styles among whose signs are calls, as segments among which styles nest.
-use Rattle.std.proofs.Common.{arith, ◌≡◌, inl, inr, ℕ, suc, ◌+◌, ◌==◌, Bool, true, false, not, Option, Some, None, List, [], ◌∷◌, ◌++◌, length, map, ap, append-nil, append_assoc, refl, subst, sym, ◌||◌, ◌∙◌}
+use Rattle.std.proofs.Common.{arith, ◌≡◌, inl, inr, ℕ, ◌==◌, Bool, true, false, not, Option, Some, None, List, [], ◌∷◌, ◌++◌, length, map, ap, append-nil, refl, subst, sym, ◌||◌, ◌∙◌}
 use Rattle.std.specs.Prelude.{if◌then◌else◌, ◌&&◌}
-use Rattle.wt_span.specs.Items.{Item, char}
+use Rattle.wt_span.specs.Items.{Item}
 use Rattle.wt_guards.specs.Content.{ContentSign, Thing, letter, thing}
 use Rattle.wt_guards.specs.Guards.{Setting, is_guarded}
 use Rattle.wt_guards.specs.Letters.{is_escaped}
@@ -9,34 +9,33 @@ use Rattle.wt_guards.specs.declared.role.Stretch.{Stretch}
 use Rattle.wt_tiles.specs.Contexts.{in_line}
 use Rattle.wt_tiles.specs.Glyphs.{glyph_of}
 use Rattle.wt_tiles.specs.Tiles.{Cut, cuts}
-use Rattle.wt_tiles.specs.Urls.{is_word}
-use Rattle.wt_inline.specs.Parts.{Part, node, part, parts}
-use Rattle.wt_inline.specs.declared.loose.Loose.TheVariants.{Text}
+use Rattle.wt_inline.specs.Parts.{Part, loose, node, parts}
+use Rattle.wt_inline.specs.declared.loose.Loose.TheVariants.{Sep, Text}
 use Rattle.wt_context.proofs.NestedContexts.{contexts_are}
 use Rattle.wt_context.specs.Chunks.{begins_with_quote}
 use Rattle.wt_context.specs.Line.{line_parts}
 use Rattle.wt_context.specs.Segments.{Segment, loose_segments}
 use Rattle.wt_context.specs.Styled.{with_styles}
+use Rattle.wt_part_laws.specs.Rounded.{IsOwn}
 use Rattle.wt_beside_laws.proofs.Groups.CalledLines.{line_is}
 use Rattle.wt_beside_laws.proofs.Groups.CalledTiles.{line_cuts_are}
 use Rattle.wt_beside_laws.proofs.Groups.Gifts.{IsGift, all_gifts, gift_of, line_cut_with, toggle_signs}
-use Rattle.wt_beside_laws.proofs.Groups.GivenParts.{begins_quoted, given_line, unquoted}
-use Rattle.wt_beside_laws.proofs.Groups.HalfSigns.{half_quote}
+use Rattle.wt_beside_laws.proofs.Groups.GivenParts.{given_read, signs_line}
 use Rattle.wt_beside_laws.proofs.LineSegments.{segments_are}
 use Rattle.wt_beside_laws.proofs.Styled.NestForests.{nests_read}
-use Rattle.wt_beside_laws.proofs.Styled.NestReads.{IsTail, NestRead, char_read, enclosed_read, nothing_read}
+use Rattle.wt_beside_laws.proofs.Styled.NestReads.{IsTail, NestRead, enclosed_read, nothing_read}
 use Rattle.wt_beside_laws.proofs.Styled.NestRuns.{marks_first}
-use Rattle.wt_beside_laws.proofs.Styled.StyledLines.{MayEnd, Read, break_ends, cut_line, delimiter_added, ended_read, form_read, guard_read, letter_read, within_style}
-use Rattle.wt_beside_laws.proofs.Styled.StyledSigns.{after_delimiter, is_toggle, quote_behind, quote_next, raw_next}
-use Rattle.wt_beside_laws.specs.Called.{AllMeetWith, AreGiven, line_with}
+use Rattle.wt_beside_laws.proofs.Styled.StyledLines.{MayEnd, Read, break_ends, cut_line, delimiter_added, ended_read, guard_read, letter_read, within_style}
+use Rattle.wt_beside_laws.proofs.Styled.StyledSigns.{after_delimiter, behind_quoted, is_quoted, is_quoted_last, quote_behind, quote_next, raw_next}
+use Rattle.wt_beside_laws.specs.Called.{AllMeetWith, AreGiven, ArePageParts, AreSomeOfPage, line_with}
 use Rattle.wt_beside_laws.specs.Content.{guard_items, letter_items}
-use Rattle.wt_beside_laws.specs.Cuts.{add_node, ends_word, guard_cut, letter_cut, own_form}
+use Rattle.wt_beside_laws.specs.Cuts.{add_node, guard_cut, letter_cut, own_form}
 use Rattle.wt_beside_laws.specs.Flat.{IsFlat}
-use Rattle.wt_beside_laws.specs.Given.{AreFlatSigns, AreGivenSigns, GivenSign, character, form, given_cut, given_items, given_parts}
-use Rattle.wt_beside_laws.specs.Nests.{mark_segments, nest_segments, style_tree}
+use Rattle.wt_beside_laws.specs.Given.{AreGivenSigns, AreNestedGiven, AreNestedSigns, GivenContent, GivenSign, character, form, given_cut, given_end, given_items, given_parts, given_sign, given_style, opens_quoted, signs_of}
+use Rattle.wt_beside_laws.specs.Nests.{mark_segments, nest_segments, style_of, style_tree}
 use Rattle.wt_beside_laws.specs.NodeItems.{node_items}
 use Rattle.wt_beside_laws.specs.Styled.{AreNested, StyledContent, delimiter, finished, mark_source, sign, signs_before, signs_past, styled}
-use Rattle.wt_beside_laws.specs.StyledCalls.{owns_left, owns_past, styled_with}
+use Rattle.wt_beside_laws.specs.StyledCalls.{AreOwnAt, IsOwnAt, owns_left, owns_past, styled_with}
 
 -- ---- what is given behind a content
 
@@ -91,42 +90,85 @@ mark_cut s before kind place signs (own ∷ owns) h =
 
 -- ---- what a call gives, and a node that stays
 
-any_read : (bold italic next any : Bool) (us vs : List Segment) (ps : List Part) → next ≡ false → NestRead bold italic next us vs ps → NestRead bold italic any us vs ps
-any_read bold italic next any us vs ps e r = record { nest = r.nest; is = r.is; nested = r.nested; shows = r.shows; first = λ z. r.first e }
+-- in a style it is of the page
+abbrev pub IsIn : Bool → Thing → List Item → Type 0
+IsIn true x own = IsOwnAt true x own
+IsIn false x own = Unit {0}
 
-signs_read : (bold italic next : Bool) (j : ℕ) (word : Bool) (signs : List GivenSign) (c : Cut) (xs : List Item) (vs : List Segment) (ps : List Part) → IsTail vs
-    → AreGivenSigns word signs → AreFlatSigns signs → Read bold italic next c xs vs ps
-    → Read bold italic (begins_quoted signs next) (given_cut signs c) (given_items j signs ++ xs) vs (given_parts j signs ++ ps)
-signs_read bold italic next j word [] c xs vs ps t h f r = r
-signs_read bold italic next j word (character b ∷ signs) c xs vs ps t h f r =
-    let k : Cut = given_cut signs c in
-    let more : List Item = given_items j signs ++ xs in
-    let qs : List Part = given_parts j signs ++ ps in
-    let later : Read bold italic (begins_quoted signs next) k more vs qs = signs_read bold italic next j (is_word b) signs c xs vs ps t h.2 f r in
-    let one : suc k.0 ≡ 1 + k.0 = omega arith in
-    subst (λ (m : ℕ). Read bold italic (b == 39) (m, k.1) (char (Some j) b ∷ more) vs (part Text (char (Some j) b) ∷ qs)) one
-    (char_read bold italic (begins_quoted signs next) (b == 39) (char (Some j) b) k.0 k.1 more vs qs t (λ e. unquoted signs next (h.1 (half_quote b e))) (λ z. z) later)
-signs_read bold italic next j word (form role own ∷ signs) c xs vs ps t h f r =
-    let k : Cut = given_cut signs c in
-    let more : List Item = given_items j signs ++ xs in
-    let qs : List Part = given_parts j signs ++ ps in
-    let all : Cut = add_node (own_form in_line (map glyph_of own)) (length (map glyph_of own)) k in
-    let later : Read bold italic (begins_quoted signs next) k more vs qs =
-    signs_read bold italic next j (ends_word false (map glyph_of own)) signs c xs vs ps t h.1 f.1 r in
-    subst (λ (ys : List Item). Read bold italic false all ys vs ((line_parts own ++ given_parts j signs) ++ ps)) (sym (append_assoc own (given_items j signs) xs))
-    (subst (λ us. Read bold italic false all (own ++ more) vs us) (sym (append_assoc (line_parts own) (given_parts j signs) ps))
-    (form_read bold italic (begins_quoted signs next) false role own k more vs qs f.0 h.0.node later))
+-- so each, delimiters apart
+abbrev pub AreIn : Bool → StyledContent → List (List Item) → Type 0
+AreIn within finished owns = Unit {0}
+AreIn within (sign (letter c) t) owns = AreIn within t owns
+AreIn within (sign (thing x) t) [] = Unit {0}
+AreIn within (sign (thing x) t) (own ∷ owns) = IsIn within x own × AreIn within t owns
+AreIn within (styled bold opening closing inside t) owns = AreIn true inside (owns_left owns) × AreIn within t (owns_left (owns_past inside (owns_left owns)))
+
+one_in : (within : Bool) (x : Thing) (own : List Item) → IsOwnAt within x own → IsIn within x own
+one_in true x own h = h
+one_in false x own h = tt
+
+pub own_in : (within : Bool) (t : StyledContent) (owns : List (List Item)) → AreOwnAt within t owns → AreIn within t owns
+own_in within finished owns h = tt
+own_in within (sign (letter c) t) owns h = own_in within t owns h
+own_in within (sign (thing x) t) [] h = absurd h
+own_in within (sign (thing x) t) (own ∷ owns) h = (one_in within x own h.0, own_in within t owns h.1)
+own_in within (styled bold opening closing inside t) owns h =
+    (own_in true inside (owns_left owns) h.0, own_in within t (owns_left (owns_past inside (owns_left owns))) h.1)
+
+page_rest : (ps qs : List Part) → ArePageParts (ps ++ qs) → ArePageParts qs
+page_rest [] qs h = h
+page_rest (loose Text o b ∷ ps) qs h = page_rest ps qs h.1
+page_rest (loose Sep o b ∷ ps) qs h = absurd h
+page_rest (node t ∷ ps) qs h = page_rest ps qs h.1
+
+style_given : (j : ℕ) (kind : Bool) (ps : List Part) → IsOwn (style_of (Some j) kind ps) → ⊥
+style_given j true ps h = let no : false ≡ true = h.of_page in cc
+style_given j false ps h = let no : false ≡ true = h.of_page in cc
+
+-- what is of the page has no style of a call
+nested_within : (bold italic : Bool) (j : ℕ) (t : GivenContent) → AreNestedGiven false false t → ArePageParts (given_parts j t) → AreNestedGiven bold italic t
+nested_within bold italic j given_end k h = tt
+nested_within bold italic j (given_sign (character b) t) k h = nested_within bold italic j t k h.1
+nested_within bold italic j (given_sign (form r own) t) k h = (k.0, nested_within bold italic j t k.1 (page_rest (line_parts own) (given_parts j t) h))
+nested_within bold italic j (given_style kind inside t) k h = absurd (style_given j kind (given_parts j inside) h.0)
+
+some_page : (ps : List Part) → AreSomeOfPage ps → ArePageParts ps
+some_page [] h = absurd h
+some_page (p ∷ ps) h = h
+
+nested_in : (bold italic : Bool) (x : Thing) (own : List Item) (g : IsGift x own) (f : IsFlat x.role) → IsIn (bold || italic) x own
+    → AreNestedGiven bold italic (g.nested f).content
+nested_in bold italic x own g f h = by bold italic h
+  where
+    line : line_parts own ≡ given_parts g.call (g.nested f).content
+    line = ap line_parts g.is ∙ signs_line g.call g.signs (g.nested f) g.are
+
+    within : (b i : Bool) → IsOwnAt true x own → AreNestedGiven b i (g.nested f).content
+    within b i k = nested_within b i g.call (g.nested f).content (g.nested f).nested (subst ArePageParts line (some_page (line_parts own) k))
+
+    by : (b i : Bool) → IsIn (b || i) x own → AreNestedGiven b i (g.nested f).content
+    by false false k = (g.nested f).nested
+    by true i k = within true i k
+    by false true k = within false true k
+
+any_read : (bold italic next any : Bool) (us vs : List Segment) (ps : List Part) → (any ≡ false → next ≡ false) → NestRead bold italic next us vs ps
+    → NestRead bold italic any us vs ps
+any_read bold italic next any us vs ps e r = record { nest = r.nest; is = r.is; nested = r.nested; shows = r.shows; first = λ z. r.first (e z) }
 
 gift_read : (bold italic next any : Bool) (x : Thing) (own : List Item) (g : IsGift x own) (c : Cut) (xs : List Item) (vs : List Segment) (ps : List Part) → IsTail vs
-    → IsFlat x.role → Read bold italic next c xs vs ps → Read bold italic any (given_cut g.signs c) (own ++ xs) vs (line_parts own ++ ps)
-gift_read bold italic next any x own g c xs vs ps t f r =
-    let items : List Item = given_items g.call g.signs in
-    let flat : AreFlatSigns g.signs = g.flat f in
-    let all : Read bold italic any (given_cut g.signs c) (items ++ xs) vs (given_parts g.call g.signs ++ ps) =
-    any_read bold italic (begins_quoted g.signs next) any (cut_line (given_cut g.signs c) (items ++ xs)) vs (given_parts g.call g.signs ++ ps) (g.unquoted next)
-    (signs_read bold italic next g.call false g.signs c xs vs ps t g.are flat r) in
+    → (f : IsFlat x.role) → AreNestedGiven bold italic (g.nested f).content → (any ≡ false → is_quoted x.role ≡ false) → (is_quoted_last x.role ≡ true → next ≡ false)
+    → Read bold italic next c xs vs ps → Read bold italic any (given_cut g.signs c) (own ++ xs) vs (line_parts own ++ ps)
+gift_read bold italic next any x own g c xs vs ps tail f k a q r =
+    let n : AreNestedSigns g.call g.signs = g.nested f in
+    let t : GivenContent = n.content in
+    let h : AreGivenSigns false (signs_of g.call t) = subst (AreGivenSigns false) n.is g.are in
+    let all = given_read g.call bold italic false false next t [] c xs vs ps tail h k (λ z. absurd z) (λ e. q (g.closes f e)) r in
+    let some : Read bold italic any (given_cut (signs_of g.call t) c) (given_items g.call (signs_of g.call t) ++ xs) vs (given_parts g.call t ++ ps) =
+    any_read bold italic (opens_quoted t next) any (cut_line (given_cut (signs_of g.call t) c) (given_items g.call (signs_of g.call t) ++ xs)) vs (given_parts g.call t ++ ps)
+    (λ z. g.opens f next (a z)) all in
     subst (λ (ys : List Item). Read bold italic any (given_cut g.signs c) (ys ++ xs) vs (line_parts ys ++ ps)) (sym g.is)
-    (subst (λ (qs : List Part). Read bold italic any (given_cut g.signs c) (items ++ xs) vs (qs ++ ps)) (sym (given_line g.call g.signs g.are flat)) all)
+    (subst (λ (qs : List Part). Read bold italic any (given_cut g.signs c) (given_items g.call g.signs ++ xs) vs (qs ++ ps)) (sym (signs_line g.call g.signs n g.are))
+    (subst (λ (ss : List GivenSign). Read bold italic any (given_cut ss c) (given_items g.call ss ++ xs) vs (given_parts g.call t ++ ps)) (sym n.is) some))
 
 -- ---- the line, up to the signs `after`, of which the rest of the line is made behind what is put before them
 
@@ -149,12 +191,12 @@ end_read bold italic s before after owns h vs r =
     (subst (λ us. NestRead bold italic (raw_next s before after) us vs []) (sym r.are) (nothing_read bold italic (raw_next s before after) vs r.first)))))
 
 styled_read : (line : Bool) (s : Setting) (bold italic : Bool) (t : StyledContent) (before after : List ContentSign) (owns : List (List Item)) (vs : List Segment)
-    (h : AreGiven (signs_before t after) owns) → AreNested bold italic t → MayEnd (bold || italic) line vs → IsTail vs
+    (h : AreGiven (signs_before t after) owns) → AreNested bold italic t → AreIn (bold || italic) t owns → MayEnd (bold || italic) line vs → IsTail vs
     → RestRead s (signs_past t before) after (owns_past t owns) (given_behind t after owns h) vs
     → Read bold italic (quote_next s before (signs_before t after)) (line_cut_of s before (signs_before t after) owns h) (line_with s before (signs_before t after) owns) vs
     (styled_with line s before t after owns)
-styled_read line s bold italic finished before after owns vs h k g tail rest = end_read bold italic s before after owns h vs rest
-styled_read line s bold italic (sign (letter d) t) before after owns vs h k g tail rest =
+styled_read line s bold italic finished before after owns vs h k w g tail rest = end_read bold italic s before after owns h vs rest
+styled_read line s bold italic (sign (letter d) t) before after owns vs h k w g tail rest =
     let signs : List ContentSign = signs_before t after in
     let e = is_escaped s.within s.place before d signs in
     let c : Cut = line_cut_of s (letter d ∷ before) signs owns h in
@@ -167,18 +209,18 @@ styled_read line s bold italic (sign (letter d) t) before after owns vs h k g ta
     (if line && (d == 10) then [] else parts Text (letter_items e d) ++ ps)
     (ended_read bold italic raw line (d == 10) (letter_cut e d c) (letter_items e d ++ xs) vs (parts Text (letter_items e d) ++ ps) (λ i. (end i).0) (λ i. (end i).1)
     (letter_read bold italic next e d c xs vs ps tail (quote_behind s before d signs)
-    (styled_read line s bold italic t (letter d ∷ before) after owns vs h k.1 g tail rest)))
-styled_read line s bold italic (sign (thing x) t) before after [] vs h k g tail rest = absurd h
-styled_read line s bold italic (sign (thing x) t) before after (own ∷ owns) vs h k m tail rest =
+    (styled_read line s bold italic t (letter d ∷ before) after owns vs h k.1 w g tail rest)))
+styled_read line s bold italic (sign (thing x) t) before after [] vs h k w m tail rest = absurd h
+styled_read line s bold italic (sign (thing x) t) before after (own ∷ owns) vs h k w m tail rest =
     let signs : List ContentSign = signs_before t after in
     let g : IsGift x own = gift_of x own h.0 in
     let c : Cut = line_cut_of s (thing x ∷ before) signs owns h.1 in
     let xs : List Item = line_with s (thing x ∷ before) signs owns in
     let ps : List Part = styled_with line s (thing x ∷ before) t after owns in
-    guard_read bold italic (is_toggle x.role) (is_guarded s before (thing x ∷ signs)) (given_cut g.signs c) (own ++ xs) vs (line_parts own ++ ps)
-    (gift_read bold italic (quote_next s (thing x ∷ before) signs) (is_toggle x.role) x own g c xs vs ps tail k.0
-    (styled_read line s bold italic t (thing x ∷ before) after owns vs h.1 k.1 m tail rest))
-styled_read line s bold italic (styled kind opening closing inside t) before after owns vs h k g tail rest =
+    guard_read bold italic (is_quoted x.role) (is_guarded s before (thing x ∷ signs)) (given_cut g.signs c) (own ++ xs) vs (line_parts own ++ ps)
+    (gift_read bold italic (quote_next s (thing x ∷ before) signs) (is_quoted x.role) x own g c xs vs ps tail k.0 (nested_in bold italic x own g k.0 w.0) (λ z. z)
+    (λ e. behind_quoted s x before signs e) (styled_read line s bold italic t (thing x ∷ before) after owns vs h.1 k.1 w.1 m tail rest))
+styled_read line s bold italic (styled kind opening closing inside t) before after owns vs h k w g tail rest =
     let first : List ContentSign = delimiter kind opening ∷ before in
     let past : List ContentSign = signs_past inside first in
     let last : List ContentSign = delimiter kind closing ∷ past in
@@ -199,7 +241,7 @@ styled_read line s bold italic (styled kind opening closing inside t) before aft
     let ps : List Part = styled_with false s first inside closes inner in
     let b : NestRead bold italic false (cut_line later_cut later_items) vs qs =
     subst (λ (v : Bool). NestRead bold italic v (cut_line later_cut later_items) vs qs) (after_delimiter s kind closing past signs)
-    (styled_read line s bold italic t last after outer vs given_out k.2 g tail rest) in
+    (styled_read line s bold italic t last after outer vs given_out k.2 w.1 g tail rest) in
     let end : RestRead s past closes behind given_end (mark_segments kind ++ nest_segments b.nest vs) =
     record {
       cut = add_node (own_form in_line (map glyph_of (node_items (mark_source kind)))) (length (map glyph_of (node_items (mark_source kind)))) later_cut;
@@ -213,6 +255,7 @@ styled_read line s bold italic (styled kind opening closing inside t) before aft
     subst (λ (v : Bool). NestRead (kind || bold) (not kind || italic) v (cut_line first_cut (line_with s first held inner)) (mark_segments kind ++ nest_segments b.nest vs) ps)
     (after_delimiter s kind opening before held)
     (styled_read false s (kind || bold) (not kind || italic) inside first closes inner (mark_segments kind ++ nest_segments b.nest vs) given_in k.1
+    (subst (λ (v : Bool). AreIn v inside inner) (sym (within_style kind bold italic)) w.0)
     (λ e. let no : true ≡ false = sym (within_style kind bold italic) ∙ e in cc) (inr (marks_first None kind (nest_segments b.nest vs))) end) in
     let cut : Cut = add_node (own_form in_line (map glyph_of (node_items (mark_source kind)))) (length (map glyph_of (node_items (mark_source kind)))) first_cut in
     subst (λ (d : Cut). Read bold italic (quote_next s before (delimiter kind opening ∷ held)) d (line_with s before (delimiter kind opening ∷ held) owns) vs
@@ -237,18 +280,18 @@ line_end s before owns h = record {
   first = λ z. refl;
 }
 
-line_nest : (s : Setting) (before : List ContentSign) (t : StyledContent) (owns : List (List Item)) (h : AreGiven (signs_before t []) owns) → AreNested false false t
+line_nest : (s : Setting) (before : List ContentSign) (t : StyledContent) (owns : List (List Item)) (h : AreGiven (signs_before t []) owns) → AreNested false false t → AreIn false t owns
     → Read false false (quote_next s before (signs_before t [])) (line_cut_of s before (signs_before t []) owns h) (line_with s before (signs_before t []) owns) []
     (styled_with true s before t [] owns)
-line_nest s before t owns h k =
-    styled_read true s false false t before [] owns [] h k (λ z. (refl, refl)) (inl refl) (line_end s (signs_past t before) (owns_past t owns) (given_behind t [] owns h))
+line_nest s before t owns h k w =
+    styled_read true s false false t before [] owns [] h k w (λ z. (refl, refl)) (inl refl) (line_end s (signs_past t before) (owns_past t owns) (given_behind t [] owns h))
 
 pub called_line : (s : Setting) (before : List ContentSign) (last : List Item) (t : StyledContent) (owns : List (List Item)) → AreGiven (signs_before t []) owns
-    → AreNested false false t → AllMeetWith s before last (signs_before t []) owns → line_parts (line_with s before (signs_before t []) owns) ≡ styled_with true s before t [] owns
-called_line s before last t owns h k m =
+    → AreNested false false t → AreIn false t owns → AllMeetWith s before last (signs_before t []) owns → line_parts (line_with s before (signs_before t []) owns) ≡ styled_with true s before t [] owns
+called_line s before last t owns h k w m =
     let signs : List ContentSign = signs_before t [] in
     let c : Cut = line_cut_of s before signs owns h in
     let xs : List Item = line_with s before signs owns in
-    let r = line_nest s before t owns h k in
+    let r = line_nest s before t owns h k w in
     let all : cuts in_line false 0 (map glyph_of xs) ≡ c = ap (cuts in_line false 0) (line_is s before signs owns) ∙ line_cuts_are s before last signs owns (all_gifts signs owns h) m in
     contexts_are in_line xs (omega arith) ∙ ap with_styles (segments_are c xs all ∙ r.is) ∙ nests_read r.nest r.nested ∙ r.shows

@@ -16,7 +16,7 @@ use Rattle.wt_beside_laws.proofs.FlatLines.{lines_unled}
 use Rattle.wt_beside_laws.proofs.Groups.CalledLines.{are_lines_of_text, lines_are_text, lines_from}
 use Rattle.wt_beside_laws.proofs.LineRows.{both_by, break_parts, later_by}
 use Rattle.wt_beside_laws.proofs.Styled.StyledLines.{within_style}
-use Rattle.wt_beside_laws.proofs.StyledGroups.Lines.{called_line, given_behind, past_mark}
+use Rattle.wt_beside_laws.proofs.StyledGroups.Lines.{AreIn, called_line, given_behind, own_in, past_mark}
 use Rattle.wt_beside_laws.specs.Called.{AllMeetWith, AreGiven, items_with, later_with, line_with, lines_with}
 use Rattle.wt_beside_laws.specs.Content.{guard_items, letter_items}
 use Rattle.wt_beside_laws.specs.Lines.{AreCharacters, AreLinesOfText, IsLineOfText}
@@ -100,15 +100,15 @@ meet_behind s before last (styled kind opening closing inside t) after owns h m 
     meet_behind s (delimiter kind closing ∷ signs_past inside first) c.last t after (owns_left behind) (past_mark kind closing signs behind given_end) c.meet
 
 later_are : (s : Setting) (before : List ContentSign) (last : List Item) (t : StyledContent) (owns : List (List Item)) → AreGiven (signs_before t []) owns
-    → AreNested false false t → AllMeetWith s before last (signs_before t []) owns → after_breaks (later_with s before (signs_before t []) owns) ≡ later_parts s before t owns
-later_are s before last finished owns h k m = refl
-later_are s before last (sign (letter c) t) owns h k m =
+    → AreNested false false t → AreIn false t owns → AllMeetWith s before last (signs_before t []) owns → after_breaks (later_with s before (signs_before t []) owns) ≡ later_parts s before t owns
+later_are s before last finished owns h k w m = refl
+later_are s before last (sign (letter c) t) owns h k w m =
     let signs : List ContentSign = signs_before t [] in
     later_by (c == 10) (line_with s (letter c ∷ before) signs owns) (later_with s (letter c ∷ before) signs owns) (styled_with true s (letter c ∷ before) t [] owns)
-    (later_parts s (letter c ∷ before) t owns) (called_line s (letter c ∷ before) [] t owns h k.1 m) (later_are s (letter c ∷ before) [] t owns h k.1 m)
-later_are s before last (sign (thing x) t) [] h k m = absurd h
-later_are s before last (sign (thing x) t) (own ∷ owns) h k m = later_are s (thing x ∷ before) own t owns h.1 k.1 m.1
-later_are s before last (styled kind opening closing inside t) owns h k m =
+    (later_parts s (letter c ∷ before) t owns) (called_line s (letter c ∷ before) [] t owns h k.1 w m) (later_are s (letter c ∷ before) [] t owns h k.1 w m)
+later_are s before last (sign (thing x) t) [] h k w m = absurd h
+later_are s before last (sign (thing x) t) (own ∷ owns) h k w m = later_are s (thing x ∷ before) own t owns h.1 k.1 w.1 m.1
+later_are s before last (styled kind opening closing inside t) owns h k w m =
     let first : List ContentSign = delimiter kind opening ∷ before in
     let signs : List ContentSign = signs_before t [] in
     let closes : List ContentSign = delimiter kind closing ∷ signs in
@@ -125,7 +125,7 @@ later_are s before last (styled kind opening closing inside t) owns h k m =
     (mark_later s before kind opening held owns h
     ∙ none_later s (kind || false) (not kind || false) inside first closes inner given_in k.1 (within_style kind false false)
     ∙ mark_later s (signs_past inside first) kind closing signs behind given_end)
-    ∙ later_are s (delimiter kind closing ∷ signs_past inside first) c.last t (owns_left behind) (past_mark kind closing signs behind given_end) k.2 c.meet
+    ∙ later_are s (delimiter kind closing ∷ signs_past inside first) c.last t (owns_left behind) (past_mark kind closing signs behind given_end) k.2 w.1 c.meet
 
 -- ---- a line and the lines behind it
 
@@ -164,12 +164,12 @@ all_joined s before (styled kind opening closing inside t) owns h =
     append_assoc guard (own ∷ styled_with true s last t [] (owns_left behind)) (later_parts s last t (owns_left behind))
     ∙ ap (λ ps. guard ++ (own ∷ ps)) (all_joined s last t (owns_left behind) (past_mark kind closing signs behind given_end))
 
-pub lines_joined : (s : Setting) (t : StyledContent) (owns : List (List Item)) → AreGiven (signs_in t) owns → AreNested false false t
+pub lines_joined : (s : Setting) (t : StyledContent) (owns : List (List Item)) → AreGiven (signs_in t) owns → AreNested false false t → AreIn false t owns
     → AllMeetWith s [] [] (signs_in t) owns
     → joined_parts (lines_with s (signs_in t) owns) ≡ styled_with false s [] t [] owns
-lines_joined s t owns h k m =
-    ap (λ ps. ps ++ after_breaks (later_with s [] (signs_in t) owns)) (called_line s [] [] t owns h k m)
-    ∙ ap (λ ps. styled_with true s [] t [] owns ++ ps) (later_are s [] [] t owns h k m) ∙ all_joined s [] t owns h
+lines_joined s t owns h k w m =
+    ap (λ ps. ps ++ after_breaks (later_with s [] (signs_in t) owns)) (called_line s [] [] t owns h k w m)
+    ∙ ap (λ ps. styled_with true s [] t [] owns ++ ps) (later_are s [] [] t owns h k w m) ∙ all_joined s [] t owns h
 
 -- ---- the content
 
@@ -186,4 +186,4 @@ given_unled s signs owns w v h =
 
 pub styled_called_parts : (s : Setting) (t : StyledContent) (owns : List (List Item)) → IsStyledCalled s t owns
     → joined_parts (lines (items_with s [] (signs_in t) owns)) ≡ styled_with false s [] t [] owns
-styled_called_parts s t owns h = ap joined_parts (lines_from s [] (signs_in t) owns h.given) ∙ lines_joined s t owns h.given h.nested h.meet
+styled_called_parts s t owns h = ap joined_parts (lines_from s [] (signs_in t) owns h.given) ∙ lines_joined s t owns h.given h.nested (own_in false t owns h.own) h.meet

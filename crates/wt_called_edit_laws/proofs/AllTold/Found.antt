@@ -1,28 +1,30 @@
--- Paragraphs and headings that are found in trees over items, in tables and their cells, each with the byte at which it begins.
+-- Paragraphs and headings that are found in trees over items, in tables and their cells, each with how many items are before it.
 use Rattle.std.proofs.Common.{arith, ◌≡◌, ℕ, suc, ◌+◌, true, false, Option, List, [], ◌∷◌, ◌++◌, length, take, drop, map, refl, sym, ap, ◌∙◌, subst, append-nil, length-append}
 use Rattle.std.proofs.lemmas.List.{take-append-drop}
 use Rattle.std.proofs.lemmas.Grind.{flat_map-append}
 use Rattle.wt_tree.specs.declared.kind.Kind.{Kind}
 use Rattle.wt_tree.specs.declared.kind.Kind.TheVariants as kind
-use Rattle.wt_span.specs.Items.{Item, char, source, sources}
+use Rattle.wt_span.specs.Items.{Item, char}
 use Rattle.wt_span.specs.Runs.{runs, IsRun, AreRuns}
 use Rattle.wt_span.proofs.RunLaws.{runs_are}
 use Rattle.wt_inline.specs.declared.loose.Loose.{Loose}
 use Rattle.wt_inline.specs.declared.loose.Loose.TheVariants.{Text, Sep}
+use Rattle.wt_inline.specs.Inside.{opened, opened_all}
 use Rattle.wt_inline.specs.ItemTree.{Head, ItemTree, inner, ItemTrees, nothing, further, forest, tree_items, held_by_all}
 use Rattle.wt_inline.specs.Parts.{Part, loose, node, held_parts, one_leaf, loose_leaf, child, children}
+use Rattle.wt_called_edit_laws.specs.RowBlocks.{opened_len}
 use Rattle.wt_page.specs.Stretches.{Stretch, stretch_parts, stretches_parts, front_len, front_gaps, past_front, block_len, before_end, end_gaps, node_of, opened_by, enclosed}
 
--- ---- sizes in bytes
+-- ---- how many items they hold
 
 abbrev pub size : List Item → ℕ
-size xs = length (sources xs)
+size xs = opened_len xs
 
 abbrev pub tree_size : ItemTree → ℕ
 tree_size t = size (tree_items t)
 
 pub size_both : (xs ys : List Item) → size (xs ++ ys) ≡ size xs + size ys
-size_both xs ys = ap length (flat_map-append source xs ys) ∙ length-append (sources xs) (sources ys)
+size_both xs ys = ap length (flat_map-append opened xs ys) ∙ length-append (opened_all xs) (opened_all ys)
 
 -- ---- which nodes blocks may be in
 
@@ -48,7 +50,7 @@ ByHousing a_block own inside = own
 ByHousing a_shell own inside = inside
 ByHousing another own inside = Unit {0}
 
--- This holds of each block with the byte at which it begins, where the node begins at this one; nodes after each other end at the last.
+-- This holds of each block with how many items are before it, where so many are before the node; with nodes after each other there are so many at last.
 abbrev mutual
   pub FoundIn : (ℕ → ItemTree → Type 0) → ℕ → ItemTree → Type 0
   FoundIn P at (inner h o ts c) = ByHousing (housing_of h.kind) (P at (inner h o ts c)) ((to : ℕ) × FoundAll P (at + size o) ts to)

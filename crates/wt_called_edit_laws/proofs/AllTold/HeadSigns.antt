@@ -1,18 +1,18 @@
 -- A heading's line begins with `=`, behind the marks that begin it.
-use Rattle.std.proofs.Common.{arith, ◌≡◌, ◌<◌, ◌≤◌, ℕ, suc, ◌+◌, Bool, true, false, nat_lt, unwrap_or, List, [], ◌∷◌, ◌++◌, length, drop, cond, All, reverse, refl, sym, ap, ◌∙◌, subst, append_assoc, codes}
+use Rattle.std.proofs.Common.{arith, ◌≡◌, ◌<◌, ◌≤◌, ℕ, suc, ◌+◌, Bool, true, false, nat_lt, unwrap_or, None, List, [], ◌∷◌, ◌++◌, length, drop, cond, All, reverse, refl, sym, ap, ◌∙◌, subst, append_assoc, codes}
 use Rattle.std.specs.Prelude.{◌&&◌, ◌==◌, if◌then◌else◌}
 use Rattle.std.specs.Str.{IsUtf8}
 use Rattle.std.proofs.lemmas.Bool.{eqb-true}
-use Rattle.std.proofs.lemmas.Grind.{flat_map-append}
-use Rattle.std.proofs.lemmas.List.Elements.{All-head, All-tail}
+use Rattle.std.proofs.lemmas.List.Elements.{All-nil, All-cons, All-head, All-tail}
 use Rattle.percent_encoding.proofs.PercentLemmas.{IsByte}
 use Rattle.wt_names.proofs.Utf8.{utf8_bytes}
 use Rattle.wt_span.specs.Bytes.{begins}
-use Rattle.wt_span.specs.Items.{Item, char, whole, is_mark, is_mark_form, sign, source, sources}
+use Rattle.wt_span.specs.Items.{Item, char, whole, is_mark, is_mark_form, sign}
 use Rattle.wt_span.specs.Runs.{AreRuns}
 use Rattle.wt_span.proofs.RunLaws.{runs_are}
-use Rattle.wt_expand.specs.PageItems.{page_items}
-use Rattle.wt_expand.proofs.PageLaws.{page_sources}
+use Rattle.wt_expand.specs.PageCalls.{expanded_page}
+use Rattle.wt_expand.specs.Work.{Pages}
+use Rattle.wt_commands.specs.Answers.{refusal_of_page}
 use Rattle.wt_lines.specs.declared.kind.LineKind.{LineKind}
 use Rattle.wt_lines.specs.declared.kind.LineKind.TheVariants as line
 use Rattle.wt_lines.specs.declared.kind.TheConstants.{MOST_TABLES}
@@ -21,6 +21,8 @@ use Rattle.wt_lines.specs.Lines.{is_break_item, goes_on, content, full_lines}
 use Rattle.wt_tables.specs.Parts.{joined}
 use Rattle.wt_page.specs.Lines.{kind_at}
 use Rattle.wt_page.specs.Rows.{marks_len, signs}
+use Rattle.wt_page_round_trip.proofs.ExpandedItems.{expanded_items}
+use Rattle.wt_page_round_trip.proofs.TextItems.{AreTexts}
 use Rattle.wt_text_edit_laws.proofs.Cuts.TextLines.{joined_is, joined_both}
 use Rattle.wt_called_edit_laws.proofs.AllTold.LineKinds.{Lines, led_by, past_marks, led_whole, kind_led}
 
@@ -82,25 +84,45 @@ heading_begins n ss e =
 
 -- ---- signs of characters are bytes
 
-bytes_behind : (bs cs : List ℕ) → All IsByte (bs ++ cs) → All IsByte cs
-bytes_behind [] cs h = h
-bytes_behind (b ∷ bs) cs h = bytes_behind bs cs (All-tail IsByte b (bs ++ cs) h)
+front_bytes : (bs cs : List ℕ) → All IsByte (bs ++ cs) → All IsByte bs
+front_bytes [] cs h = All-nil IsByte
+front_bytes (b ∷ bs) cs h = All-cons IsByte b bs (All-head IsByte b (bs ++ cs) h) (front_bytes bs cs (All-tail IsByte b (bs ++ cs) h))
 
-pub own_bytes : (page : List ℕ) (before : Lines) (own : List Item) (after : Lines) → IsUtf8 page → full_lines (page_items page) ≡ before ++ own ∷ after
-    → All IsByte (sources (past_marks own ++ joined after))
-own_bytes page before own after u are =
-    let xs : List Item = page_items page in
+last_byte : (bs : List ℕ) (b : ℕ) → All IsByte (bs ++ b ∷ []) → IsByte b
+last_byte [] b h = All-head IsByte b [] h
+last_byte (c ∷ bs) b h = last_byte bs b (All-tail IsByte c (bs ++ b ∷ []) h)
+
+run_bytes : (run : List ℕ) (xs : List Item) → AreTexts run xs → All IsByte run
+run_bytes run [] h = utf8_bytes run h
+run_bytes run (char o b ∷ xs) h = front_bytes run (b ∷ []) (run_bytes (run ++ b ∷ []) xs h.1)
+run_bytes run (whole f o bs ∷ xs) h = utf8_bytes run h.0
+
+texts_behind : (run : List ℕ) (xs ys : List Item) → AreTexts run (xs ++ ys) → (later : List ℕ) × AreTexts later ys
+texts_behind run [] ys h = (run, h)
+texts_behind run (char o b ∷ xs) ys h = texts_behind (run ++ b ∷ []) xs ys h.1
+texts_behind run (whole f o bs ∷ xs) ys h = texts_behind [] xs ys h.1
+
+abbrev pub IsByteItem : Item → Type 0
+IsByteItem (char o b) = IsByte b
+IsByteItem (whole f o bs) = Unit {0}
+
+first_byte : (run : List ℕ) (x : Item) (xs : List Item) → AreTexts run (x ∷ xs) → IsByteItem x
+first_byte run (char o b) xs h = last_byte run b (run_bytes (run ++ b ∷ []) xs h.1)
+first_byte run (whole f o bs) xs h = tt
+
+byte_item : (pages : Pages) (page : List ℕ) (before : Lines) (own : List Item) (after : Lines) → IsUtf8 page → refusal_of_page pages page ≡ None
+    → full_lines (expanded_page pages page).items ≡ before ++ own ∷ after → (x : Item) (xs : List Item) → past_marks own ≡ x ∷ xs → IsByteItem x
+byte_item pages page before own after u r are x xs e =
     let all : Lines = before ++ own ∷ after in
-    let runs : AreRuns goes_on all xs = subst (λ (ks : Lines). AreRuns goes_on ks xs) are (runs_are goes_on xs) in
-    let rest : List Item = past_marks own ++ joined after in
-    let is : page ≡ sources (joined before) ++ (sources (led_by own) ++ sources rest) =
-    sym (page_sources page) ∙ ap sources (joined_is goes_on all xs runs ∙ joined_both before (own ∷ after))
-    ∙ flat_map-append source (joined before) (own ++ joined after)
-    ∙ ap (λ (l : List Item). sources (joined before) ++ sources (l ++ joined after)) (sym (led_whole own))
-    ∙ ap (λ (l : List Item). sources (joined before) ++ sources l) (append_assoc (led_by own) (past_marks own) (joined after))
-    ∙ ap (λ (bs : List ℕ). sources (joined before) ++ bs) (flat_map-append source (led_by own) rest) in
-    bytes_behind (sources (led_by own)) (sources rest)
-    (bytes_behind (sources (joined before)) (sources (led_by own) ++ sources rest) (subst (All IsByte) is (utf8_bytes page u)))
+    let items : List Item = (expanded_page pages page).items in
+    let runs : AreRuns goes_on all items = subst (λ (ks : Lines). AreRuns goes_on ks items) are (runs_are goes_on items) in
+    let parts : items ≡ (joined before ++ led_by own) ++ ((x ∷ xs) ++ joined after) =
+    joined_is goes_on all items runs ∙ joined_both before (own ∷ after)
+    ∙ ap (λ (l : List Item). joined before ++ (l ++ joined after)) (sym (led_whole own) ∙ ap (λ (l : List Item). led_by own ++ l) e)
+    ∙ ap (λ (l : List Item). joined before ++ l) (append_assoc (led_by own) (x ∷ xs) (joined after))
+    ∙ sym (append_assoc (joined before) (led_by own) ((x ∷ xs) ++ joined after)) in
+    let there = texts_behind [] (joined before ++ led_by own) ((x ∷ xs) ++ joined after) (subst (AreTexts []) parts (expanded_items pages page u r).texts) in
+    first_byte there.0 x (xs ++ joined after) there.1
 
 form_unmarked : (v : Bool) → v ≡ false → ((if v then 257 else 256) == 257) ≡ false
 form_unmarked true e = absurd (cc)
@@ -110,9 +132,9 @@ small_unmarked : (b : ℕ) → b < 256 → (v : Bool) → (b == 257) ≡ v → v
 small_unmarked b h true e = absurd (omega (arith, h, eqb-true b 257 e))
 small_unmarked b h false e = refl
 
-sign_unmarked : (x : Item) (xs : List Item) → is_mark x ≡ false → All IsByte (sources (x ∷ xs)) → is_mark_sign (sign x) ≡ false
-sign_unmarked (char o b) xs e h = small_unmarked b (All-head IsByte b (sources xs) h) (b == 257) refl
-sign_unmarked (whole f o bs) xs e h = form_unmarked (is_mark_form f) e
+sign_unmarked : (x : Item) → is_mark x ≡ false → IsByteItem x → is_mark_sign (sign x) ≡ false
+sign_unmarked (char o b) e h = small_unmarked b h (b == 257) refl
+sign_unmarked (whole f o bs) e h = form_unmarked (is_mark_form f) e
 
 first_same : (s : ℕ) (ss ts : List ℕ) → begins (codes "=") (s ∷ ss) ≡ true → begins (codes "=") (s ∷ ts) ≡ true
 first_same s ss ts h = h
@@ -130,9 +152,9 @@ content_begins n x [] u e = by (is_break_item x) (heading_begins n (signs (conte
     by true h = absurd (cc)
     by false h = subst (λ (ss : List ℕ). begins (codes "=") ss ≡ true) (past_one (sign x) [] u) h
 
-pub heading_signs : (n : ℕ) (x : Item) (xs ys : List Item) → is_mark x ≡ false → All IsByte (sources ((x ∷ xs) ++ ys)) → kind_at n (x ∷ xs) ≡ line.Heading
+pub heading_signs : (n : ℕ) (x : Item) (xs : List Item) → is_mark x ≡ false → IsByteItem x → kind_at n (x ∷ xs) ≡ line.Heading
     → begins (codes "=") (signs (x ∷ xs)) ≡ true
-heading_signs n x xs ys e h k = content_begins n x xs (sign_unmarked x (xs ++ ys) e h) k
+heading_signs n x xs e h k = content_begins n x xs (sign_unmarked x e h) k
 
 -- ---- behind its marks
 
@@ -151,13 +173,13 @@ past_first (y ∷ ys) x xs e = by (is_mark y) refl e (past_first ys x xs)
         go (sym (ap (λ (n : ℕ). drop n (y ∷ ys)) z) ∙ h)
     by false m h go = subst (λ (w : Item). is_mark w ≡ false) (ap (item_or y) h) m
 
-pub head_begins : (page : List ℕ) (before : Lines) (own : List Item) (after : Lines) → IsUtf8 page → full_lines (page_items page) ≡ before ++ own ∷ after → (n : ℕ)
-    → kind_at n own ≡ line.Heading → 1 ≤ length (past_marks own) → begins (codes "=") (signs (past_marks own)) ≡ true
-head_begins page before own after u are n k some = by (past_marks own) refl
+pub head_begins : (pages : Pages) (page : List ℕ) (before : Lines) (own : List Item) (after : Lines) → IsUtf8 page → refusal_of_page pages page ≡ None
+    → full_lines (expanded_page pages page).items ≡ before ++ own ∷ after → (n : ℕ) → kind_at n own ≡ line.Heading → 1 ≤ length (past_marks own)
+    → begins (codes "=") (signs (past_marks own)) ≡ true
+head_begins pages page before own after u r are n k some = by (past_marks own) refl
   where
     by : (ys : List Item) → past_marks own ≡ ys → begins (codes "=") (signs ys) ≡ true
     by [] e = absurd (omega (arith, some, ap length e))
     by (x ∷ xs) e =
-        heading_signs n x xs (joined after) (past_first own x xs e)
-        (subst (λ (zs : List Item). All IsByte (sources (zs ++ joined after))) e (own_bytes page before own after u are))
+        heading_signs n x xs (past_first own x xs e) (byte_item pages page before own after u r are x xs e)
         (subst (λ (zs : List Item). kind_at n zs ≡ line.Heading) e (kind_led n own some ∙ k))

@@ -1,12 +1,13 @@
--- Each paragraph and each heading of a page's tree is of the page's lines, or it begins behind a sign on a line.
-use Rattle.std.proofs.Common.{arith, ◌≡◌, ◌⊎◌, inl, inr, ℕ, zero, suc, Bool, true, false, List, [], ◌∷◌, ◌++◌, drop, map, refl, sym, ap, ap₂, ◌∙◌, subst, append_assoc}
+-- Each paragraph and each heading of a page's tree, outside of groups, is of the expanded page's lines, or it begins behind a sign on a line.
+use Rattle.std.proofs.Common.{arith, ◌≡◌, ◌⊎◌, inl, inr, ℕ, zero, suc, Bool, true, false, None, List, [], ◌∷◌, ◌++◌, drop, map, refl, sym, ap, ap₂, ◌∙◌, subst, append_assoc}
 use Rattle.std.specs.Prelude.{replicate, if◌then◌else◌}
 use Rattle.std.specs.Str.{IsUtf8}
 use Rattle.wt_tree.specs.Tree.{Tree, label}
 use Rattle.wt_span.specs.Items.{Item}
 use Rattle.wt_inline.specs.ItemTree.{ItemTree}
-use Rattle.wt_expand.specs.PageItems.{page_items}
+use Rattle.wt_expand.specs.PageCalls.{expanded_page}
 use Rattle.wt_expand.specs.Work.{Pages}
+use Rattle.wt_commands.specs.Answers.{refusal_of_page}
 use Rattle.wt_lines.specs.declared.kind.LineKind.{LineKind}
 use Rattle.wt_lines.specs.declared.kind.LineKind.TheVariants as line
 use Rattle.wt_lines.specs.Lines.{full_lines}
@@ -22,13 +23,11 @@ use Rattle.wt_part_laws.specs.Blocks.{AllAre, BeginOtherwise}
 use Rattle.wt_part_laws.specs.Rounds.{EndOtherwise}
 use Rattle.wt_part_laws.specs.Slots.{AllTrue}
 use Rattle.wt_text_edit_laws.specs.BodyParagraphs.{EndsIts, EndWhole}
-use Rattle.wt_text_edit_laws.specs.NoCalls.{CallsNothing}
 use Rattle.wt_text_edit_laws.specs.ParagraphBetween.{written_rows, tables_behind, EndApart, BeginApart}
-use Rattle.wt_text_edit_laws.specs.Parts.{HasNoGroups}
 use Rattle.wt_text_edit_laws.proofs.Cuts.RowLines.{AllText, TextLine, text_line, TextLines, text_lines}
 use Rattle.wt_called_edit_laws.specs.AnyBlocks.{open_after}
 use Rattle.wt_called_edit_laws.specs.Groups.{called_tree}
-use Rattle.wt_called_edit_laws.specs.RowBlocks.{IsTextBlock, IsAtPath, begins_behind, begins_at, text_row, AreOfText, IsOfRows, of_text, of_heading, StandsOnRows, IsOfLines, of_lines, of_line, behind_a_sign, StandsOnLines}
+use Rattle.wt_called_edit_laws.specs.RowBlocks.{IsTextBlock, IsReachedAt, begins_behind, begins_at, text_row, AreOfText, IsOfRows, of_text, of_heading, StandsOnRows, IsOfLines, of_lines, of_line, behind_a_sign, StandsOnLines}
 use Rattle.wt_called_edit_laws.proofs.AllTold.Found.{size}
 use Rattle.wt_called_edit_laws.proofs.AllTold.FoundTables.{width, width_both}
 use Rattle.wt_called_edit_laws.proofs.AllTold.LineKinds.{Lines}
@@ -240,14 +239,11 @@ rows_to_lines ls at u (of_text before first others after e c b a o begins is) = 
     by (inl w) = text_of_lines ls at u before first others after e c b a o begins is w
     by (inr nay) = behind_a_sign before first others after e nay begins is
 
-pub block_on_lines : (pages : Pages) (page p : List ℕ) (t : Tree) → IsUtf8 page → CallsNothing (page_items page) → HasNoGroups page
-    → IsAtPath p (called_tree pages page) t → IsTextBlock (label t).kind → StandsOnLines page t
-block_on_lines pages page p t u calm whole e b =
-    let s : StandsOnRows page t = block_on_rows pages page p t u calm whole e b in
+pub block_on_lines : (pages : Pages) (page p : List ℕ) (t : Tree) → IsUtf8 page → refusal_of_page pages page ≡ None
+    → IsReachedAt p (called_tree pages page) t → IsTextBlock (label t).kind → StandsOnLines pages page t
+block_on_lines pages page p t u r e b =
+    let s : StandsOnRows pages page t = block_on_rows pages page p t u r e b in
     record {
-      number = s.number;
-      before = s.before;
-      block = s.block;
-      is = s.is;
-      by_lines = rows_to_lines (full_lines (page_items page)) (size s.before) s.block s.by_rows;
+      stands = s.stands;
+      by_lines = rows_to_lines (full_lines (expanded_page pages page).items) (size s.stands.before) s.stands.block s.by_rows;
     }

@@ -24,14 +24,15 @@ use Rattle.wt_inline.specs.declared.loose.Loose.TheVariants.{Text, Sep}
 use Rattle.wt_inline.specs.Inside.{opened_all}
 use Rattle.wt_inline.specs.ItemTree.{Head, plain, ItemTree, inner, tree_items}
 use Rattle.wt_inline.specs.Parts.{Part, loose, node, held_parts, part, parts, whole_tree, nowiki}
-use Rattle.wt_inline.proofs.HeldLaws.{held_of_parts, sources_opened}
+use Rattle.wt_inline.proofs.HeldLaws.{held_of_parts}
 use Rattle.wt_context.specs.Heads.{glyphs, placeholder, link_head, category_head, ext_link_head, bare_url_head, pair_by_name, pair_by, pair_head, switch_head}
 use Rattle.wt_context.specs.Segments.{Segment, one_stretch, loose_segment, loose_segments, segment_parts}
 use Rattle.wt_context.specs.Chunks.{chunks}
 use Rattle.wt_context.specs.Styled.{style_kind, between, style_node, styled, with_styles}
 use Rattle.wt_context.specs.Nodes.{Reading, opening_of, inside_of, closing_of, trail_of, link_by, bare_url, nested_tree, tile_tree, segments_by, tile_segments, segments}
 use Rattle.wt_context.specs.Line.{within, context_parts, line_parts}
-use Rattle.wt_context.proofs.LineHolding.{line_source}
+use Rattle.wt_context.proofs.LineHolding.{line_holds}
+use Rattle.wt_context.proofs.Opening.{opened_twice}
 use Rattle.wt_blocks.specs.ListTree.{ListTree, node as list_node, ListTrees, none, more, forest as list_forest}
 use Rattle.wt_blocks.specs.Nesting.{nested}
 use Rattle.wt_page.specs.Rows.{Row, all_items}
@@ -115,7 +116,7 @@ items_other : (k : Loose) (xs : List Item) → AreOther (parts k xs)
 items_other k xs = all_mapped IsOtherPart (part k) (item_other k) xs
 
 pub opened_size : (xs : List Item) → size (opened_all xs) ≡ size xs
-opened_size xs = ap length (sources_opened xs)
+opened_size xs = ap length (opened_twice xs)
 
 -- separators
 pub gap_found : (P : ℕ → ItemTree → Type 0) (at : ℕ) (xs : List Item) → FoundParts P at (parts Sep xs) (at + size xs)
@@ -211,7 +212,7 @@ line_other xs = context_other 18 in_line xs
 
 pub line_found : (P : ℕ → ItemTree → Type 0) (at : ℕ) (xs : List Item) → FoundParts P at (line_parts xs) (at + size xs)
 line_found P at xs =
-    let z : at + size (held_parts (line_parts xs)) ≡ at + size xs = omega (arith, ap length (line_source xs)) in
+    let z : at + size (held_parts (line_parts xs)) ≡ at + size xs = omega (arith, ap length (line_holds xs)) in
     parts_to P at (at + size (held_parts (line_parts xs))) (at + size xs) (line_parts xs) z (other_found P at (line_parts xs) (line_other xs))
 
 -- ---- stretches

@@ -19,9 +19,9 @@ use Rattle.wt_page.proofs.Ends.{content_ending}
 use Rattle.wt_text_edit_laws.specs.BlockSpots.{BlockSpot, spots_source}
 use Rattle.wt_text_edit_laws.specs.NoCalls.{CallsNothing}
 use Rattle.wt_text_edit_laws.specs.ParagraphParts.{break}
-use Rattle.wt_text_edit_laws.specs.PageCuts.{IsSpotCut, EndsClosed, EndClosed}
+use Rattle.wt_text_edit_laws.specs.PageCuts.{IsSpotCut, EndsClosed}
 use Rattle.wt_text_edit_laws.specs.ParagraphBetween.{written_rows}
-use Rattle.wt_text_edit_laws.specs.TextBlocks.{TextBlock, a_paragraph, a_heading, source_of, block_tree}
+use Rattle.wt_text_edit_laws.specs.TextBlocks.{TextBlock, a_paragraph, a_heading, block_tree}
 use Rattle.wt_text_edit_laws.specs.TypedHeadings.{Sides, EndsLine}
 use Rattle.wt_text_edit_laws.proofs.Cuts.RowLines.{AllText}
 use Rattle.wt_text_edit_laws.proofs.Cuts.TextLines.{runs_behind, joined_both, lines_of, IsEnding}
@@ -31,7 +31,7 @@ use Rattle.wt_text_edit_laws.proofs.Paragraphs.Marks.{AreMarks}
 use Rattle.wt_called_edit_laws.specs.AnyBlocks.{open_after, open_behind_part, past_break}
 use Rattle.wt_called_edit_laws.specs.CalledContents.{items_round, AreItemsOf, StayText}
 use Rattle.wt_called_edit_laws.specs.LinedHeadings.{sides_of}
-use Rattle.wt_called_edit_laws.specs.PlacedLines.{LinedBlock, all_lines, spots_by, end_by, AreLined}
+use Rattle.wt_called_edit_laws.specs.PlacedLines.{LinedBlock, all_lines, end_by, AreLined}
 use Rattle.wt_called_edit_laws.specs.PlacedSpots.{AreBlocksIn}
 use Rattle.wt_called_edit_laws.specs.RowBlocks.{text_row}
 use Rattle.wt_called_edit_laws.specs.ToldLines.{Told, a_paragraph_of, a_heading_on, lined, AreTold}
@@ -51,52 +51,12 @@ pub record OwnRound (b : LinedBlock) (rest : Lines) : Type 0 where
   pub items : items_round b.block (page_items b.text) ≡ content (own_items b)
   pub are : AreItemsOf b.block (page_items b.text)
   pub stays : StayText b.block (length (open_after [] (written_rows 0 b.before))) (page_items b.text)
-  pub ended : EndsClosed (source_of b.block b.text) []
   pub round : Round b rest
   pub runs : AreRuns goes_on (((b.marks ++ b.first) ∷ b.more) ++ rest) (joined (((b.marks ++ b.first) ∷ b.more) ++ rest))
 
-stay_so : (k : TextBlock) (n : ℕ) (xs ys : List Item) → items_round k xs ≡ ys → StayText k n ys → StayText k n xs
+pub stay_so : (k : TextBlock) (n : ℕ) (xs ys : List Item) → items_round k xs ≡ ys → StayText k n ys → StayText k n xs
 stay_so a_paragraph n xs ys e h = subst (StayText a_paragraph n) (sym e) h
 stay_so (a_heading s) n xs ys e h = tt
-
-own_round : (page : List ℕ) (b : LinedBlock) (rest : Lines) → IsUtf8 page → CallsNothing (page_items page)
-    → EndClosed (spots_by [] (b ∷ [])) (end_by [] (b ∷ []) rest)
-    → full_lines (page_items page) ≡ all_lines (b ∷ []) rest → AreLined (b ∷ []) rest → OwnRound b rest
-own_round page b rest u calm closed are h =
-    let ls : List LinedBlock = b ∷ [] in
-    let xs : List Item = page_items page in
-    let end : List ℕ = end_by [] ls rest in
-    let s : BlockSpot = record { before = sources ([] ++ (joined b.before ++ b.marks)); block = b.block; text = b.text } in
-    let ss : List BlockSpot = s ∷ [] in
-    let same : spots_source ss end ≡ page = lined_whole page ls rest are h in
-    let ks : Lines = (b.marks ++ b.first) ∷ b.more in
-    let runs : AreRuns goes_on (b.before ++ (ks ++ rest)) xs = subst (λ (ms : Lines). AreRuns goes_on ms xs) are (runs_are goes_on xs) in
-    let o : OwnBreaks xs = page_breaks page in
-    let breaks : AllBreaks b rest = all_breaks b rest xs runs o in
-    let r : Round b rest = round b rest xs h.0.some runs breaks.text in
-    let blocks : AreBlocksIn ss end = placed ls rest xs (ap page_items same) are o h in
-    let c : IsSpotCut s (page_items (spots_source ss end)) = blocks.0 in
-    let cut : FirstCut b rest c.before c.own c.rest = first_cut b [] rest xs (ap page_items same) are o h in
-    let now : List Bool = open_behind_part [] c.before in
-    let si : SpotIs s end c.before c.own c.rest =
-    spot_is s end (page_items (spots_source ss end)) c refl (subst IsUtf8 (sym same) u) (subst (λ (bs : List ℕ). CallsNothing (page_items bs)) (sym same) calm)
-    closed.0 blocks.1 (further_there s.block now [] end c.rest blocks.4) in
-    let n : ℕ = length (open_after [] (written_rows 0 b.before)) in
-    let items : items_round b.block (page_items b.text) ≡ content (own_items b) = sym (round_is b.block b.text) ∙ si.own_is ∙ cut.own_is in
-    record {
-      items = items;
-      are = items_by b.block b.text si.read.is;
-      stays = stay_so b.block n (page_items b.text) (content (own_items b)) items (own_block b.block n b.text (b.first ∷ b.more) r.y r.ys r.some r.own_are h.0.own).1;
-      ended = si.ended;
-      round = r;
-      runs = runs_behind goes_on b.before (ks ++ rest) xs runs;
-    }
-
-pub told_round : (page : List ℕ) (t : Told) (rest : Lines) → IsUtf8 page → CallsNothing (page_items page)
-    → EndClosed (spots_by [] (lined t ∷ [])) (end_by [] (lined t ∷ []) rest)
-    → full_lines (page_items page) ≡ all_lines (lined t ∷ []) rest → AreTold (t ∷ []) rest → OwnRound (lined t) rest
-told_round page t rest u calm closed are h =
-    own_round page (lined t) rest u calm closed are (told_are_lined page (t ∷ []) rest closed are h)
 
 -- ---- what is behind it
 

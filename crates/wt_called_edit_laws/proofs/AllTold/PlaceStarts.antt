@@ -1,27 +1,36 @@
 -- The paths of a page's blocks lead to the bytes at which these begin, and no other paragraph or heading begins at one of them.
-use Rattle.std.proofs.Common.{arith, ◌≡◌, inl, inr, ℕ, zero, suc, ◌<◌, ◌+◌, false, List, [], ◌∷◌, ◌++◌, length, refl, sym, ap, ap₂, ◌∙◌, subst, append-nil, append_assoc, length-append}
+use Rattle.std.proofs.Common.{arith, ◌≡◌, ◌≢◌, inl, inr, ℕ, zero, suc, ◌<◌, ◌≤◌, ◌+◌, false, List, [], ◌∷◌, ◌++◌, length, refl, sym, ap, ap₂, ◌∙◌, subst, append-nil, append_assoc, length-append}
 use Rattle.wt_tree.specs.Kinds.{is_leaf}
 use Rattle.wt_tree.specs.Source.{flat, flat_of_all}
+use Rattle.wt_tree.specs.Tiling.{is_group}
 use Rattle.wt_tree.specs.Tree.{Label, Tree, tree, Trees, none, more}
 use Rattle.wt_span.specs.Items.{Item}
 use Rattle.wt_inline.specs.ItemTree.{ItemTree}
 use Rattle.wt_checks.specs.Kept.{children}
 use Rattle.wt_expand.specs.Work.{Pages}
-use Rattle.wt_part_laws.specs.Placeless.{placeless, all_placeless}
+use Rattle.wt_part_laws.specs.Frames.{Part, Holds}
+use Rattle.wt_part_laws.specs.Placeless.{placeless_label, placeless, all_placeless}
 use Rattle.wt_part_laws.specs.Standing.{standing}
 use Rattle.wt_part_laws.proofs.Moved.{moved}
 use Rattle.wt_part_laws.specs.TreeFrames.{spot, kept, holder, TreeFrames, no_nodes, more_nodes, all_filled, spots}
-use Rattle.wt_text_edit_laws.specs.BlockSpots.{BlockSpot}
+use Rattle.wt_text_edit_laws.specs.BlockSpots.{BlockSpot, AreContents}
+use Rattle.wt_text_edit_laws.specs.Contents.{IsHeadingLine, IsContent}
 use Rattle.wt_text_edit_laws.specs.TextBlocks.{TextBlock, a_paragraph, a_heading, source_of, block_tree}
+use Rattle.wt_text_edit_laws.specs.TypedHeadings.{equals, closing}
 use Rattle.wt_text_edit_laws.proofs.Blocks.Contents.{block_source}
+use Rattle.wt_text_edit_laws.proofs.Blocks.OwnContents.{paragraph_some}
 use Rattle.wt_called_edit_laws.specs.AllTold.{starts_at, starts_in, IsOneOf}
 use Rattle.wt_called_edit_laws.specs.CalledBlocks.{tree_by}
 use Rattle.wt_called_edit_laws.specs.CalledPages.{IsCalledPage}
 use Rattle.wt_called_edit_laws.specs.CalledTexts.{spots_tree}
 use Rattle.wt_called_edit_laws.specs.EditsAt.{IsStanding, StandsTo, StandsAmong, AllStand}
-use Rattle.wt_called_edit_laws.specs.Nodes.{block_at, NoneLeaves}
+use Rattle.wt_called_edit_laws.specs.Nodes.{block_at, NoneLeaves, AreHolders}
 use Rattle.wt_called_edit_laws.specs.ToldTogether.{IsAmongNumbers}
 use Rattle.wt_called_edit_laws.specs.PathsTo.{all_past, all_inside, paths_to}
+use Rattle.wt_called_edit_laws.proofs.Cells.Equal.{same_first, same_rest}
+use Rattle.wt_called_edit_laws.proofs.Cells.Nodes.{same_inside}
+use Rattle.wt_called_edit_laws.proofs.CutFrames.{no_group_round}
+use Rattle.wt_called_edit_laws.proofs.HoldersSent.{kind_held}
 use Rattle.wt_called_edit_laws.proofs.Cells.PlaceGaps.{Gaps, last_gap, then_gap, put_before, numbers_in, source_at, AreSame}
 use Rattle.wt_called_edit_laws.proofs.EditFacts.{IsFramedPage, spots_contents, are_the_page, paths_of}
 use Rattle.wt_called_edit_laws.proofs.GroupsAmong.{retyped_self}
@@ -185,19 +194,85 @@ block_byte : (k : TextBlock) (q : List ℕ) (t : Tree) → IsStanding (block_tre
 block_byte k q t s h =
     subst (λ (bs : List ℕ). 0 < length bs) (sym (ap flat s.is ∙ standing_source k q s.number s.before)) h
 
-mutual
-  stood_at : (k : TextBlock) (q : List ℕ) (is : List ℕ) (t : Tree) → StandsTo (block_tree k q) is t → 0 < length (source_of k q) → BlockAt is t
-  stood_at k q [] t s h = (block_housed k q t s, block_byte k q t s h)
-  stood_at k q (i ∷ is) (tree l ts) s h = stood_in k q i is ts s h
+-- no group is on the way there
+abbrev mutual
+  ClearAt : List ℕ → Tree → Type 0
+  ClearAt [] t = Unit {0}
+  ClearAt (i ∷ is) (tree l ts) = (is_group l.kind ≡ false) × ClearIn i is ts
 
-  stood_in : (k : TextBlock) (q : List ℕ) (i : ℕ) (is : List ℕ) (ts : Trees) → StandsAmong (block_tree k q) i is ts → 0 < length (source_of k q) → BlockIn i is ts
-  stood_in k q i is none s h = s
-  stood_in k q zero is (more t ts) s h = stood_at k q is t s h
-  stood_in k q (suc i) is (more t ts) s h = stood_in k q i is ts s h
+  ClearIn : ℕ → List ℕ → Trees → Type 0
+  ClearIn i is none = Unit {0}
+  ClearIn zero is (more t ts) = ClearAt is t
+  ClearIn (suc i) is (more t ts) = ClearIn i is ts
+
+abbrev pub AllClear : List (List ℕ) → Trees → Type 0
+AllClear [] ts = Unit {0}
+AllClear ([] ∷ ps) ts = AllClear ps ts
+AllClear ((i ∷ is) ∷ ps) ts = ClearIn i is ts × AllClear ps ts
+
+clear_past : (ps : List (List ℕ)) (t : Tree) (ts : Trees) → AllClear ps ts → AllClear (all_past ps) (more t ts)
+clear_past [] t ts h = tt
+clear_past ([] ∷ ps) t ts h = clear_past ps t ts h
+clear_past ((i ∷ is) ∷ ps) t ts h = (h.0, clear_past ps t ts h.1)
+
+clear_inside : (ps : List (List ℕ)) (l : Label) (us ts : Trees) → is_group l.kind ≡ false → NoneEmpty ps → AllClear ps us → AllClear (all_inside ps) (more (tree l us) ts)
+clear_inside [] l us ts e n h = tt
+clear_inside ([] ∷ ps) l us ts e n h = absurd n
+clear_inside ((i ∷ is) ∷ ps) l us ts e n h = ((e, h.0), clear_inside ps l us ts e n h.1)
+
+clear_both : (ps qs : List (List ℕ)) (ts : Trees) → AllClear ps ts → AllClear qs ts → AllClear (ps ++ qs) ts
+clear_both [] qs ts h g = g
+clear_both ([] ∷ ps) qs ts h g = clear_both ps qs ts h g
+clear_both ((i ∷ is) ∷ ps) qs ts h g = (h.0, clear_both ps qs ts h.1 g)
+
+pub clear_paths : (fs : TreeFrames) (p : Part) (b : ℕ → Tree) (ts : Trees) → AreHolders fs p → all_placeless ts ≡ all_filled b fs → AllClear (paths_to fs) ts
+clear_paths no_nodes p b ts h e = tt
+clear_paths (more_nodes f fs) p b none h e = cc
+clear_paths (more_nodes (spot n) fs) p b (more t ts) h e =
+    (tt, clear_past (paths_to fs) t ts (clear_paths fs p b ts h.1 (same_rest (placeless t) (b n) (all_placeless ts) (all_filled b fs) e)))
+clear_paths (more_nodes (kept u) fs) p b (more t ts) h e =
+    clear_past (paths_to fs) t ts (clear_paths fs p b ts h.1 (same_rest (placeless t) u (all_placeless ts) (all_filled b fs) e))
+clear_paths (more_nodes (holder k gs) fs) p b (more (tree l us) ts) h e =
+    let first : placeless (tree l us) ≡ tree k (all_filled b gs) = same_first (placeless (tree l us)) (tree k (all_filled b gs)) (all_placeless ts) (all_filled b fs) e in
+    let part : Holds p l.kind h.0.0 = subst (λ j. Holds p j h.0.0) (sym (kind_held l k (all_placeless us) (all_filled b gs) first)) h.0.1 in
+    clear_both (all_inside (paths_to gs)) (all_past (paths_to fs)) (more (tree l us) ts)
+    (clear_inside (paths_to gs) l us ts (no_group_round p h.0.0 l.kind part) (paths_full gs)
+    (clear_paths gs h.0.0 b us h.0.2 (same_inside (placeless_label l) k (all_placeless us) (all_filled b gs) first)))
+    (clear_past (paths_to fs) (tree l us) ts
+    (clear_paths fs p b ts h.1 (same_rest (placeless (tree l us)) (tree k (all_filled b gs)) (all_placeless ts) (all_filled b fs) e)))
+
+mutual
+  stood_at : (k : TextBlock) (q : List ℕ) (is : List ℕ) (t : Tree) → StandsTo (block_tree k q) is t → ClearAt is t → 0 < length (source_of k q) → BlockAt is t
+  stood_at k q [] t s c h = (block_housed k q t s, block_byte k q t s h)
+  stood_at k q (i ∷ is) (tree l ts) s c h = (c.0, stood_in k q i is ts s c.1 h)
+
+  stood_in : (k : TextBlock) (q : List ℕ) (i : ℕ) (is : List ℕ) (ts : Trees) → StandsAmong (block_tree k q) i is ts → ClearIn i is ts → 0 < length (source_of k q)
+      → BlockIn i is ts
+  stood_in k q i is none s c h = s
+  stood_in k q zero is (more t ts) s c h = stood_at k q is t s c h
+  stood_in k q (suc i) is (more t ts) s c h = stood_in k q i is ts s c h
 
 abbrev pub AllHaveBytes : List BlockSpot → Type 0
 AllHaveBytes [] = Unit {0}
 AllHaveBytes (s ∷ ss) = (0 < length (source_of s.block s.text)) × AllHaveBytes ss
+
+pub content_some : (k : TextBlock) (q : List ℕ) → IsContent k q → 0 < length (source_of k q)
+content_some a_paragraph q h = by q (paragraph_some q h)
+  where
+    by : (bs : List ℕ) → bs ≢ [] → 0 < length bs
+    by [] n = absurd (n refl)
+    by (b ∷ bs) n = omega arith
+content_some (a_heading s) q h =
+    let own : IsHeadingLine s q = h.is in
+    by s.level own.frame.sides.some
+  where
+    by : (n : ℕ) → 1 ≤ n → 0 < length ((equals n ++ s.lead) ++ (q ++ closing s))
+    by zero le = absurd (omega (arith, le))
+    by (suc n) le = omega arith
+
+pub contents_some : (ss : List BlockSpot) → AreContents ss → AllHaveBytes ss
+contents_some [] h = tt
+contents_some (s ∷ ss) h = (content_some s.block s.text h.0, contents_some ss h.1)
 
 -- one of these paths leads to a block that begins at this byte
 pub data LeadsThere (at : ℕ) (ts : Trees) (ps : List (List ℕ)) : Type 0 where
@@ -206,11 +281,11 @@ pub data LeadsThere (at : ℕ) (ts : Trees) (ps : List (List ℕ)) : Type 0 wher
 leads_later : (at : ℕ) (ts : Trees) (p : List ℕ) (ps : List (List ℕ)) → LeadsThere at ts ps → LeadsThere at ts (p ∷ ps)
 leads_later at ts p ps (leads i is o b e) = leads i is (inr o) b e
 
-pub leads_there : (ss : List BlockSpot) (ps : List (List ℕ)) (l : Label) (ts : Trees) (at : ℕ) → AllStand ss ps (tree l ts) → NoneEmpty ps → AllHaveBytes ss
-    → IsAmongNumbers at (starts_from 0 ts ps) → LeadsThere at ts ps
-leads_there [] [] l ts at s e w h = absurd h
-leads_there [] (p ∷ ps) l ts at s e w h = absurd s
-leads_there (b ∷ ss) [] l ts at s e w h = absurd s
-leads_there (b ∷ ss) ([] ∷ ps) l ts at s e w h = absurd e
-leads_there (b ∷ ss) ((i ∷ is) ∷ ps) l ts at s e w (inl z) = leads i is (inl refl) (stood_in b.block b.text i is ts s.0 w.0) (sym z)
-leads_there (b ∷ ss) ((i ∷ is) ∷ ps) l ts at s e w (inr h) = leads_later at ts (i ∷ is) ps (leads_there ss ps l ts at s.1 e w.1 h)
+pub leads_there : (ss : List BlockSpot) (ps : List (List ℕ)) (l : Label) (ts : Trees) (at : ℕ) → AllStand ss ps (tree l ts) → NoneEmpty ps → AllClear ps ts
+    → AllHaveBytes ss → IsAmongNumbers at (starts_from 0 ts ps) → LeadsThere at ts ps
+leads_there [] [] l ts at s e c w h = absurd h
+leads_there [] (p ∷ ps) l ts at s e c w h = absurd s
+leads_there (b ∷ ss) [] l ts at s e c w h = absurd s
+leads_there (b ∷ ss) ([] ∷ ps) l ts at s e c w h = absurd e
+leads_there (b ∷ ss) ((i ∷ is) ∷ ps) l ts at s e c w (inl z) = leads i is (inl refl) (stood_in b.block b.text i is ts s.0 c.0 w.0) (sym z)
+leads_there (b ∷ ss) ((i ∷ is) ∷ ps) l ts at s e c w (inr h) = leads_later at ts (i ∷ is) ps (leads_there ss ps l ts at s.1 e c.1 w.1 h)

@@ -1,28 +1,28 @@
--- Each paragraph and each heading of a page's tree is of the page's rows.
-use Rattle.std.proofs.Common.{◌≡◌, inl, inr, ℕ, zero, suc, List, [], ◌∷◌, refl, sym, ap, subst}
+-- Each paragraph and each heading of a page's tree, outside of groups, is of the rows of the expanded page.
+use Rattle.std.proofs.Common.{◌≡◌, inl, inr, ℕ, zero, suc, None, List, [], ◌∷◌, refl, sym, ap, subst}
 use Rattle.std.specs.Str.{IsUtf8}
 use Rattle.wt_tree.specs.declared.kind.Kind.{Kind}
 use Rattle.wt_tree.specs.declared.kind.Kind.TheVariants as kind
-use Rattle.wt_tree.specs.Tree.{Tree, tree, Trees, none, more, label}
+use Rattle.wt_tree.specs.Tree.{Label, Tree, tree, Trees, none, more, label}
+use Rattle.wt_span.specs.Items.{Item}
 use Rattle.wt_inline.specs.ItemTree.{forest}
 use Rattle.wt_checks.specs.Kept.{children}
-use Rattle.wt_expand.specs.PageItems.{page_items}
+use Rattle.wt_expand.specs.PageCalls.{expanded_page}
 use Rattle.wt_expand.specs.Work.{Pages}
+use Rattle.wt_commands.specs.Answers.{refusal_of_page}
 use Rattle.wt_lines.specs.Lines.{full_lines}
 use Rattle.wt_page.specs.Headings.{heading}
 use Rattle.wt_page.specs.Rows.{Row, rows, rows_from}
 use Rattle.wt_page.specs.Texts.{para}
-use Rattle.wt_text_edit_laws.specs.NoCalls.{CallsNothing}
 use Rattle.wt_text_edit_laws.specs.ParagraphBetween.{blocks_in}
-use Rattle.wt_text_edit_laws.specs.Parts.{HasNoGroups}
-use Rattle.wt_text_edit_laws.proofs.Between.NoCalls.{calm_unrefused}
 use Rattle.wt_called_edit_laws.specs.Groups.{called_tree}
-use Rattle.wt_called_edit_laws.specs.RowBlocks.{IsTextBlock, IsAtPath, IsAmong, IsOfRows, of_text, of_heading, StandsOnRows}
+use Rattle.wt_called_edit_laws.specs.RowBlocks.{IsTextBlock, IsReachedAt, IsReachedIn, IsOfRows, of_text, of_heading, StandsOnRows}
 use Rattle.wt_called_edit_laws.proofs.PageBody.{page_body}
 use Rattle.wt_called_edit_laws.proofs.AllTold.Found.{Housing, a_block, a_shell, another, housing_of, FoundAll}
 use Rattle.wt_called_edit_laws.proofs.AllTold.FoundBlocks.{HoldsOfRows, body_found}
 use Rattle.wt_called_edit_laws.proofs.AllTold.FoundTables.{width}
 use Rattle.wt_called_edit_laws.proofs.AllTold.EachBlocks.{OfHousing, EachBlock, EachBlockIn}
+use Rattle.wt_called_edit_laws.proofs.AllTold.Starts.{block_outside, held_at}
 use Rattle.wt_called_edit_laws.proofs.AllTold.TreeBlocks.{blocks_stand}
 
 -- ---- what holds of each holds of one
@@ -43,31 +43,37 @@ none_inside a_block ts h = absurd h.0
 none_inside a_shell ts h = h
 none_inside another ts h = h
 
-mutual
-  none_at : (is : List ℕ) (t u : Tree) → EachBlock (λ (v : Tree). ⊥) t → IsAtPath is t u → IsTextBlock (label u).kind → ⊥
-  none_at [] (tree l ts) u h e b =
-      own_of (λ (v : Tree). ⊥) (housing_of l.kind) (tree l ts) ts (housed l.kind (subst (λ (v : Tree). IsTextBlock (label v).kind) (sym e) b)) h.1
-  none_at (i ∷ is) (tree l ts) u h e b = none_among i is ts u (none_inside (housing_of l.kind) ts h.1) e b
+-- of the node itself
+own_at : (Q : Tree → Type 0) (l : Label) (ts : Trees) (u : Tree) → EachBlock Q (tree l ts) → tree l ts ≡ u → IsTextBlock (label u).kind → Q (tree l ts)
+own_at Q l ts u h e b =
+    let k : housing_of l.kind ≡ a_block = housed l.kind (subst (λ (v : Tree). IsTextBlock (label v).kind) (sym e) b) in
+    own_of Q (housing_of l.kind) (tree l ts) ts k (held_at Q l ts h (block_outside l.kind k)).1
 
-  pub none_among : (i : ℕ) (is : List ℕ) (ts : Trees) (u : Tree) → EachBlockIn (λ (v : Tree). ⊥) ts → IsAmong i is ts u → IsTextBlock (label u).kind → ⊥
+mutual
+  none_at : (is : List ℕ) (t u : Tree) → EachBlock (λ (v : Tree). ⊥) t → IsReachedAt is t u → IsTextBlock (label u).kind → ⊥
+  none_at [] (tree l ts) u h e b = own_at (λ (v : Tree). ⊥) l ts u h e b
+  none_at (i ∷ is) (tree l ts) u h e b = none_among i is ts u (none_inside (housing_of l.kind) ts (held_at (λ (v : Tree). ⊥) l ts h e.0).1) e.1 b
+
+  none_among : (i : ℕ) (is : List ℕ) (ts : Trees) (u : Tree) → EachBlockIn (λ (v : Tree). ⊥) ts → IsReachedIn i is ts u → IsTextBlock (label u).kind → ⊥
   none_among i is none u h e b = e
   none_among zero is (more t ts) u h e b = none_at is t u h.0 e b
   none_among (suc i) is (more t ts) u h e b = none_among i is ts u h.1 e b
 
 -- what is in a node is in no block, if a block is among it
-pub below_each : (Q : Tree → Type 0) (v : Housing) (i : ℕ) (is : List ℕ) (t : Tree) (ts : Trees) (u : Tree)
-    → OfHousing v (Q t × EachBlockIn (λ (x : Tree). ⊥) ts) (EachBlockIn Q ts) (EachBlockIn (λ (x : Tree). ⊥) ts) → IsAmong i is ts u → IsTextBlock (label u).kind → EachBlockIn Q ts
+below_each : (Q : Tree → Type 0) (v : Housing) (i : ℕ) (is : List ℕ) (t : Tree) (ts : Trees) (u : Tree)
+    → OfHousing v (Q t × EachBlockIn (λ (x : Tree). ⊥) ts) (EachBlockIn Q ts) (EachBlockIn (λ (x : Tree). ⊥) ts) → IsReachedIn i is ts u → IsTextBlock (label u).kind
+    → EachBlockIn Q ts
 below_each Q a_block i is t ts u h e b = absurd (none_among i is ts u h.1 e b)
 below_each Q a_shell i is t ts u h e b = h
 below_each Q another i is t ts u h e b = absurd (none_among i is ts u h e b)
 
 mutual
-  each_at : (Q : Tree → Type 0) (is : List ℕ) (t u : Tree) → EachBlock Q t → IsAtPath is t u → IsTextBlock (label u).kind → Q u
-  each_at Q [] (tree l ts) u h e b =
-      subst Q e (own_of Q (housing_of l.kind) (tree l ts) ts (housed l.kind (subst (λ (v : Tree). IsTextBlock (label v).kind) (sym e) b)) h.1)
-  each_at Q (i ∷ is) (tree l ts) u h e b = each_among Q i is ts u (below_each Q (housing_of l.kind) i is (tree l ts) ts u h.1 e b) e b
+  each_at : (Q : Tree → Type 0) (is : List ℕ) (t u : Tree) → EachBlock Q t → IsReachedAt is t u → IsTextBlock (label u).kind → Q u
+  each_at Q [] (tree l ts) u h e b = subst Q e (own_at Q l ts u h e b)
+  each_at Q (i ∷ is) (tree l ts) u h e b =
+      each_among Q i is ts u (below_each Q (housing_of l.kind) i is (tree l ts) ts u (held_at Q l ts h e.0).1 e.1 b) e.1 b
 
-  pub each_among : (Q : Tree → Type 0) (i : ℕ) (is : List ℕ) (ts : Trees) (u : Tree) → EachBlockIn Q ts → IsAmong i is ts u → IsTextBlock (label u).kind → Q u
+  pub each_among : (Q : Tree → Type 0) (i : ℕ) (is : List ℕ) (ts : Trees) (u : Tree) → EachBlockIn Q ts → IsReachedIn i is ts u → IsTextBlock (label u).kind → Q u
   each_among Q i is none u h e b = absurd e
   each_among Q zero is (more t ts) u h e b = each_at Q is t u h.0 e b
   each_among Q (suc i) is (more t ts) u h e b = each_among Q i is ts u h.1 e b
@@ -85,30 +91,32 @@ rows_hold all = record {
   headings = λ pre r post is c e. of_heading pre r post is c e refl refl;
 }
 
-page_found : (page : List ℕ) → FoundAll (IsOfRows (rows_from 0 (full_lines (page_items page)))) 0 (forest (blocks_in (page_items page)))
-    (width (rows_from 0 (full_lines (page_items page))))
+items_found : (xs : List Item) → FoundAll (IsOfRows (rows_from 0 (full_lines xs))) 0 (forest (blocks_in xs)) (width (rows_from 0 (full_lines xs)))
 unfolding rows
-page_found page = body_found (IsOfRows (rows_from 0 (full_lines (page_items page)))) (full_lines (page_items page)) (rows_hold (rows_from 0 (full_lines (page_items page))))
+items_found xs = body_found (IsOfRows (rows_from 0 (full_lines xs))) (full_lines xs) (rows_hold (rows_from 0 (full_lines xs)))
 
-pub page_stands : (pages : Pages) (page : List ℕ) → IsUtf8 page → CallsNothing (page_items page) → HasNoGroups page
-    → EachBlockIn (StandsOnRows page) (children (called_tree pages page))
-page_stands pages page u calm whole =
-    let all : List Row = rows_from 0 (full_lines (page_items page)) in
-    blocks_stand (IsOfRows all) (StandsOnRows page) pages page (width all) u calm whole
-    (λ n before v h. record { number = n; before = before; block = v; is = refl; by_rows = h }) (page_found page)
+pub page_stands : (pages : Pages) (page : List ℕ) → IsUtf8 page → refusal_of_page pages page ≡ None
+    → EachBlockIn (StandsOnRows pages page) (children (called_tree pages page))
+page_stands pages page u e =
+    let all : List Row = rows_from 0 (full_lines (expanded_page pages page).items) in
+    blocks_stand (IsOfRows all) (StandsOnRows pages page) pages page (width all) u e
+    (λ n before v behind whole clean h. record {
+      stands = record { number = n; before = before; block = v; behind = behind; whole = whole; is = refl; clean = clean };
+      by_rows = h;
+    }) (items_found (expanded_page pages page).items)
 
 -- the page itself is none
-pub body_none : (pages : Pages) (page : List ℕ) (t : Tree) → IsUtf8 page → CallsNothing (page_items page) → called_tree pages page ≡ t
+pub body_none : (pages : Pages) (page : List ℕ) (t : Tree) → IsUtf8 page → refusal_of_page pages page ≡ None → called_tree pages page ≡ t
     → IsTextBlock (label t).kind → ⊥
-body_none pages page t u calm e b =
-    let k : (label (called_tree pages page)).kind ≡ kind.Body = (page_body pages page u (calm_unrefused pages page calm)).kind in
+body_none pages page t u r e b =
+    let k : (label (called_tree pages page)).kind ≡ kind.Body = (page_body pages page u r).kind in
     not_body (subst IsTextBlock k (subst (λ (v : Tree). IsTextBlock (label v).kind) (sym e) b))
 
-pub below : (i : ℕ) (is : List ℕ) (t u : Tree) → IsAtPath (i ∷ is) t u → IsAmong i is (children t) u
-below i is (tree l ts) u e = e
+pub below : (i : ℕ) (is : List ℕ) (t u : Tree) → IsReachedAt (i ∷ is) t u → IsReachedIn i is (children t) u
+below i is (tree l ts) u e = e.1
 
-pub block_on_rows : (pages : Pages) (page p : List ℕ) (t : Tree) → IsUtf8 page → CallsNothing (page_items page) → HasNoGroups page
-    → IsAtPath p (called_tree pages page) t → IsTextBlock (label t).kind → StandsOnRows page t
-block_on_rows pages page [] t u calm whole e b = absurd (body_none pages page t u calm e b)
-block_on_rows pages page (i ∷ is) t u calm whole e b =
-    each_among (StandsOnRows page) i is (children (called_tree pages page)) t (page_stands pages page u calm whole) (below i is (called_tree pages page) t e) b
+pub block_on_rows : (pages : Pages) (page p : List ℕ) (t : Tree) → IsUtf8 page → refusal_of_page pages page ≡ None
+    → IsReachedAt p (called_tree pages page) t → IsTextBlock (label t).kind → StandsOnRows pages page t
+block_on_rows pages page [] t u r e b = absurd (body_none pages page t u r e b)
+block_on_rows pages page (i ∷ is) t u r e b =
+    each_among (StandsOnRows pages page) i is (children (called_tree pages page)) t (page_stands pages page u r) (below i is (called_tree pages page) t e) b

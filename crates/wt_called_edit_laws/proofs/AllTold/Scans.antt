@@ -1,5 +1,5 @@
 -- All paragraphs and headings that lines tell, from the first line on, and what is left of the lines between them.
-use Rattle.std.proofs.Common.{arith, ◌≡◌, ◌≤◌, ◌⊎◌, inl, inr, ℕ, ◌+◌, Bool, true, false, List, [], ◌∷◌, ◌++◌, length, map, refl, sym, ap, ◌∙◌, subst, append_assoc, codes}
+use Rattle.std.proofs.Common.{arith, ◌≡◌, ◌≤◌, ◌⊎◌, inl, inr, ℕ, ◌+◌, Bool, true, false, List, [], ◌∷◌, ◌++◌, length, map, refl, sym, ap, ◌∙◌, subst, append-nil, append_assoc, codes}
 use Rattle.std.specs.List.{list_all}
 use Rattle.wt_span.specs.Bytes.{begins}
 use Rattle.wt_span.specs.Items.{Item, is_mark, sources}
@@ -41,12 +41,12 @@ heading_told before l = a_heading_on before (led_by l) (past_marks l)
 abbrev pub Decided : Type 0 → Type 0
 Decided A = A ⊎ (A → ⊥)
 
-both_decided : (A B : Type 0) → Decided A → Decided B → Decided (A × B)
+pub both_decided : (A B : Type 0) → Decided A → Decided B → Decided (A × B)
 both_decided A B (inl a) (inl b) = inl (a, b)
 both_decided A B (inl a) (inr f) = inr (λ h. f h.1)
 both_decided A B (inr f) b = inr (λ h. f h.0)
 
-three_decided : (A B C : Type 0) → Decided A → Decided B → Decided C → Decided (A × B × C)
+pub three_decided : (A B C : Type 0) → Decided A → Decided B → Decided C → Decided (A × B × C)
 three_decided A B C (inl a) (inl b) (inl c) = inl (a, b, c)
 three_decided A B C (inr f) b c = inr (λ h. f h.0)
 three_decided A B C (inl a) (inr f) c = inr (λ h. f h.1)
@@ -131,40 +131,54 @@ bare_decided t =
     three_decided (list_all is_mark (lined t).marks ≡ true) (AreEnded (sources (lined t).marks)) (1 ≤ length (lined t).first)
     (bool_decided (list_all is_mark (lined t).marks) true) (ended_decided (sources (lined t).marks)) (some_decided (lined t).first)
 
--- something that is asked of blocks by what they are and their text
+-- something that is asked of blocks, each with nothing before it, by the items before them
 abbrev pub Asked : Type 1
-Asked = TextBlock → List ℕ → Type 0
+Asked = List Item → Told → Type 0
 
 abbrev pub Answered : Asked → Type 0
-Answered K = (k : TextBlock) (q : List ℕ) → Decided (K k q)
+Answered K = (front : List Item) (t : Told) → Decided (K front t)
 
--- where these tables are open
-pub record Fits (K : Asked) (bs : List Bool) (t : Told) : Type 0 where
+-- behind these items, where these tables are open
+pub record Fits (K : Asked) (front : List Item) (bs : List Bool) (t : Told) : Type 0 where
   pub bare : Bare t
   pub cells : AllTrue bs
   pub own : OwnTold t (length bs)
-  pub asked : K (lined t).block (lined t).text
+  pub asked : K front t
 
-fits_by : (K : Asked) → Answered K → (bs : List Bool) (t : Told) → Decided (OwnTold t (length bs)) → Decided (Fits K bs t)
-fits_by K d bs t own =
-    by (bare_decided t) (true_decided bs) own (d (lined t).block (lined t).text)
+fits_by : (K : Asked) → Answered K → (front : List Item) (bs : List Bool) (t : Told) → Decided (OwnTold t (length bs)) → Decided (Fits K front bs t)
+fits_by K d front bs t own =
+    by (bare_decided t) (true_decided bs) own (d front t)
   where
-    by : Decided (Bare t) → Decided (AllTrue bs) → Decided (OwnTold t (length bs)) → Decided (K (lined t).block (lined t).text) → Decided (Fits K bs t)
+    by : Decided (Bare t) → Decided (AllTrue bs) → Decided (OwnTold t (length bs)) → Decided (K front t) → Decided (Fits K front bs t)
     by (inl a) (inl b) (inl c) (inl e) = inl (record { bare = a; cells = b; own = c; asked = e })
     by (inr nay) b c e = inr (λ h. nay h.bare)
     by (inl a) (inr nay) c e = inr (λ h. nay h.cells)
     by (inl a) (inl b) (inr nay) e = inr (λ h. nay h.own)
     by (inl a) (inl b) (inl c) (inr nay) = inr (λ h. nay h.asked)
 
-pub text_fits : (K : Asked) → Answered K → (bs : List Bool) (l : List Item) (more : Lines) → Decided (Fits K bs (text_told [] l more))
-text_fits K d bs l more =
+pub text_fits : (K : Asked) → Answered K → (front : List Item) (bs : List Bool) (l : List Item) (more : Lines) → Decided (Fits K front bs (text_told [] l more))
+text_fits K d front bs l more =
     let n : ℕ = length bs in
     let own : Lines = past_marks l ∷ more in
-    fits_by K d bs (text_told [] l more) (both_decided (AreLinesAt n own) (begins_unmarked (content (joined own)) ≡ true) (lines_decided n own)
+    fits_by K d front bs (text_told [] l more) (both_decided (AreLinesAt n own) (begins_unmarked (content (joined own)) ≡ true) (lines_decided n own)
     (bool_decided (begins_unmarked (content (joined own))) true))
 
-pub heading_fits : (K : Asked) → Answered K → (bs : List Bool) (l : List Item) → Decided (Fits K bs (heading_told [] l))
-heading_fits K d bs l = fits_by K d bs (heading_told [] l) (headed (length bs) (past_marks l))
+pub heading_fits : (K : Asked) → Answered K → (front : List Item) (bs : List Bool) (l : List Item) → Decided (Fits K front bs (heading_told [] l))
+heading_fits K d front bs l = fits_by K d front bs (heading_told [] l) (headed (length bs) (past_marks l))
+
+-- ---- the items before them
+
+abbrev pub behind_lines : List Item → Lines → List Item
+behind_lines front [] = front
+behind_lines front (l ∷ ls) = behind_lines (front ++ l) ls
+
+pub behind_both : (front : List Item) (xs ys : Lines) → behind_lines front (xs ++ ys) ≡ behind_lines (behind_lines front xs) ys
+behind_both front [] ys = refl
+behind_both front (x ∷ xs) ys = behind_both (front ++ x) xs ys
+
+pub behind_joined : (front : List Item) (ls : Lines) → behind_lines front ls ≡ front ++ joined ls
+behind_joined front [] = sym (append-nil front)
+behind_joined front (l ∷ ls) = behind_joined (front ++ l) ls ∙ append_assoc front l (joined ls)
 
 -- ---- where those that are told begin
 

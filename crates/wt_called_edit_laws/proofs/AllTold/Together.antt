@@ -1,33 +1,29 @@
--- All blocks that a page's lines tell are told at once.
-use Rattle.std.proofs.Common.{arith, ◌≡◌, ◌≤◌, inl, inr, ℕ, suc, ◌+◌, Bool, true, false, List, [], ◌∷◌, ◌++◌, length, take, drop, map, refl, sym, ap, ◌∙◌, subst, cond, codes}
+-- All blocks that the lines of an expanded page tell are told at once.
+use Rattle.std.proofs.Common.{arith, ◌≡◌, ◌≤◌, ℕ, suc, ◌+◌, Bool, true, false, None, List, [], ◌∷◌, ◌++◌, length, take, drop, map, refl, sym, ap, ◌∙◌, subst, cond, codes}
 use Rattle.std.specs.Prelude.{◌&&◌, not}
 use Rattle.std.specs.Str.{IsUtf8}
 use Rattle.std.specs.List.{list_all}
 use Rattle.wt_span.specs.Bytes.{begins}
 use Rattle.wt_span.specs.Items.{Item, char, whole, is_mark}
-use Rattle.wt_expand.specs.PageItems.{page_items}
+use Rattle.wt_expand.specs.PageCalls.{expanded_page}
+use Rattle.wt_expand.specs.Work.{Pages}
+use Rattle.wt_commands.specs.Answers.{refusal_of_page}
 use Rattle.wt_lines.specs.Lines.{content, full_lines}
 use Rattle.wt_tables.specs.Parts.{joined}
-use Rattle.wt_page.specs.Lines.{ending}
 use Rattle.wt_page.specs.Rows.{marks_len, signs}
-use Rattle.wt_checks.specs.Kept.{children as nodes_in}
-use Rattle.wt_isolation.specs.OpenTags.{any_ends_open}
-use Rattle.wt_part_laws.specs.Standing.{standing}
-use Rattle.wt_text_edit_laws.specs.BlockSpots.{spots_source}
-use Rattle.wt_text_edit_laws.specs.TextBlocks.{source_of, block_tree}
-use Rattle.wt_text_edit_laws.specs.NoCalls.{CallsNothing}
-use Rattle.wt_text_edit_laws.specs.PageCuts.{begins_unmarked, EndsClosed, EndClosed}
-use Rattle.wt_text_edit_laws.specs.Parts.{HasNoGroups}
+use Rattle.wt_text_edit_laws.specs.PageCuts.{begins_unmarked}
 use Rattle.wt_text_edit_laws.proofs.Paragraphs.Marks.{mark_sign}
-use Rattle.wt_called_edit_laws.specs.PlacedLines.{spots_by, end_by}
-use Rattle.wt_called_edit_laws.specs.PlacedSpots.{IsShut, AreShut}
-use Rattle.wt_called_edit_laws.specs.ToldLines.{Told, a_paragraph_of, a_heading_on, lined, IsToldAt, AreTold, IsToldPage}
-use Rattle.wt_called_edit_laws.specs.ToldTogether.{start_of, told_starts, IsAmongNumbers, AreSome, AreAllTold}
-use Rattle.wt_called_edit_laws.proofs.AllTold.ClosedBlocks.{closed_decided, ends_any}
+use Rattle.wt_called_edit_laws.specs.PlacedLines.{all_lines, AreLined}
+use Rattle.wt_called_edit_laws.specs.ToldAmong.{IsToldAmong}
+use Rattle.wt_called_edit_laws.specs.ToldLines.{Told, a_paragraph_of, a_heading_on, lined, IsToldAt, AreTold}
+use Rattle.wt_called_edit_laws.specs.ToldTogether.{start_of, told_starts, IsAmongNumbers, AreSome}
+use Rattle.wt_called_edit_laws.proofs.Among.ToldAmong.{all_told}
+use Rattle.wt_called_edit_laws.proofs.AllTold.Chosen.{IsChosen, chosen, chosen_decided}
+use Rattle.wt_called_edit_laws.proofs.AllTold.ChosenLines.{meets_so, known_lines, known_closed, in_no_group}
 use Rattle.wt_called_edit_laws.proofs.AllTold.LineKinds.{Lines, led_by, past_marks}
-use Rattle.wt_called_edit_laws.proofs.AllTold.OwnTrees.{told_round}
-use Rattle.wt_called_edit_laws.proofs.AllTold.Scans.{Decided, Asked, Answered, bool_decided, ToldFrom}
-use Rattle.wt_called_edit_laws.proofs.AllTold.Scanned.{Meets, AllMeet, Scan, scan}
+use Rattle.wt_called_edit_laws.proofs.AllTold.Scans.{ToldFrom}
+use Rattle.wt_called_edit_laws.proofs.AllTold.Scanned.{AllMeet, Scan, scan}
+use Rattle.wt_called_edit_laws.proofs.AllTold.ToldStarts.{are_own}
 
 -- ---- the marks that begin a line
 
@@ -79,87 +75,92 @@ parted_told : (m f : List Item) → list_all is_mark m ≡ true → 1 ≤ length
 parted_told m [] h some g = absurd (omega (arith, some))
 parted_told m (x ∷ xs) h some g = parted m x xs h (g x xs refl)
 
--- ---- what is asked of a block
-
--- no tag is open at the end of a node in it, and a line break behind it is read as one
-abbrev IsMet : Asked
-IsMet k q = IsShut k q × EndsClosed (source_of k q) []
-
-met_alone : (page : List ℕ) (t : Told) (rest : Lines) → IsToldPage page (t ∷ []) rest → Meets IsMet t
-met_alone page t rest h = (h.shut.0, (told_round page t rest h.utf8 h.calls_nothing h.closed h.are h.told).ended)
-
 -- ---- each that is told alone is among them
 
-alone_text : (page : List ℕ) (ls : Lines) (s : Scan IsMet [] false ls) → full_lines (page_items page) ≡ ls → (b : Lines) (m f : List Item) (r rest : Lines)
-    → IsToldPage page (a_paragraph_of b m f r ∷ []) rest → Parted m f → IsAmongNumbers (start_of 0 (a_paragraph_of b m f r)) (told_starts 0 s.ts)
-alone_text page ls s e b m f r rest h p =
+-- what a block that is told alone has
+record IsAlone (pages : Pages) (page : List ℕ) (t : Told) (rest : Lines) : Type 0 where
+  are : full_lines (expanded_page pages page).items ≡ all_lines (lined t ∷ []) rest
+  told : AreTold (t ∷ []) rest
+  here : IsChosen pages page (joined (lined t).before) t
+
+alone_text : (pages : Pages) (page : List ℕ) (s : Scan (chosen pages page) [] [] false (full_lines (expanded_page pages page).items)) (b : Lines) (m f : List Item)
+    (r rest : Lines) → IsAlone pages page (a_paragraph_of b m f r) rest → Parted m f → IsAmongNumbers (start_of 0 (a_paragraph_of b m f r)) (told_starts 0 s.ts)
+alone_text pages page s b m f r rest h p =
     let told : IsToldAt [] (a_paragraph_of b (led_by (m ++ f)) (past_marks (m ++ f)) r) =
     subst (λ (k : List Item). IsToldAt [] (a_paragraph_of b k (past_marks (m ++ f)) r)) (sym p.led)
     (subst (λ (k : List Item). IsToldAt [] (a_paragraph_of b m k r)) (sym p.past) h.told.0) in
-    let shut : Meets IsMet (a_paragraph_of b (led_by (m ++ f)) (past_marks (m ++ f)) r) =
-    subst (λ (k : List Item). Meets IsMet (a_paragraph_of b (led_by (m ++ f)) k r)) (sym p.past) (met_alone page (a_paragraph_of b m f r) rest h) in
+    let here : IsChosen pages page (joined b) (a_paragraph_of b (led_by (m ++ f)) (past_marks (m ++ f)) r) =
+    subst (λ (k : List Item). IsChosen pages page (joined b) (a_paragraph_of b k (past_marks (m ++ f)) r)) (sym p.led)
+    (subst (λ (k : List Item). IsChosen pages page (joined b) (a_paragraph_of b m k r)) (sym p.past) h.here) in
     subst (λ (k : List Item). IsAmongNumbers (start_of 0 (a_paragraph_of b k f r)) (told_starts 0 s.ts)) p.led
-    (s.texts 0 b (m ++ f) r rest (sym e ∙ h.are) told h.told.1 (λ z. refl) shut)
+    (s.texts 0 b (m ++ f) r rest h.are told h.told.1 (λ z. refl) (meets_so pages page (a_paragraph_of b (led_by (m ++ f)) (past_marks (m ++ f)) r) here))
 
-alone_heading : (page : List ℕ) (ls : Lines) (s : Scan IsMet [] false ls) → full_lines (page_items page) ≡ ls → (b : Lines) (m l : List Item) (rest : Lines)
-    → IsToldPage page (a_heading_on b m l ∷ []) rest → Parted m l → IsAmongNumbers (start_of 0 (a_heading_on b m l)) (told_starts 0 s.ts)
-alone_heading page ls s e b m l rest h p =
+alone_heading : (pages : Pages) (page : List ℕ) (s : Scan (chosen pages page) [] [] false (full_lines (expanded_page pages page).items)) (b : Lines) (m l : List Item)
+    (rest : Lines) → IsAlone pages page (a_heading_on b m l) rest → Parted m l → IsAmongNumbers (start_of 0 (a_heading_on b m l)) (told_starts 0 s.ts)
+alone_heading pages page s b m l rest h p =
     let told : IsToldAt [] (a_heading_on b (led_by (m ++ l)) (past_marks (m ++ l))) =
     subst (λ (k : List Item). IsToldAt [] (a_heading_on b k (past_marks (m ++ l)))) (sym p.led)
     (subst (λ (k : List Item). IsToldAt [] (a_heading_on b m k)) (sym p.past) h.told.0) in
-    let shut : Meets IsMet (a_heading_on b (led_by (m ++ l)) (past_marks (m ++ l))) =
-    subst (λ (k : List Item). Meets IsMet (a_heading_on b (led_by (m ++ l)) k)) (sym p.past) (met_alone page (a_heading_on b m l) rest h) in
+    let here : IsChosen pages page (joined b) (a_heading_on b (led_by (m ++ l)) (past_marks (m ++ l))) =
+    subst (λ (k : List Item). IsChosen pages page (joined b) (a_heading_on b k (past_marks (m ++ l)))) (sym p.led)
+    (subst (λ (k : List Item). IsChosen pages page (joined b) (a_heading_on b m k)) (sym p.past) h.here) in
     subst (λ (k : List Item). IsAmongNumbers (start_of 0 (a_heading_on b k l)) (told_starts 0 s.ts)) p.led
-    (s.heads 0 b (m ++ l) rest (sym e ∙ h.are) told shut)
+    (s.heads 0 b (m ++ l) rest h.are told (meets_so pages page (a_heading_on b (led_by (m ++ l)) (past_marks (m ++ l))) here))
 
-alone : (page : List ℕ) (ls : Lines) (s : Scan IsMet [] false ls) → full_lines (page_items page) ≡ ls → (t : Told) (rest : Lines) → IsToldPage page (t ∷ []) rest
-    → IsAmongNumbers (start_of 0 t) (told_starts 0 s.ts)
-alone page ls s e (a_paragraph_of b m f r) rest h =
-    alone_text page ls s e b m f r rest h (parted_told m f h.told.0.are_marks h.told.0.some (λ x xs z. text_first x xs r
+alone : (pages : Pages) (page : List ℕ) (s : Scan (chosen pages page) [] [] false (full_lines (expanded_page pages page).items)) (t : Told) (rest : Lines)
+    → IsAlone pages page t rest → IsAmongNumbers (start_of 0 t) (told_starts 0 s.ts)
+alone pages page s (a_paragraph_of b m f r) rest h =
+    alone_text pages page s b m f r rest h (parted_told m f h.told.0.are_marks h.told.0.some (λ x xs z. text_first x xs r
     (subst (λ (k : List Item). begins_unmarked (content (joined (k ∷ r))) ≡ true) z h.told.0.own.1)))
-alone page ls s e (a_heading_on b m l) rest h =
-    alone_heading page ls s e b m l rest h (parted_told m l h.told.0.are_marks h.told.0.some (λ x xs z. sign_first x xs
+alone pages page s (a_heading_on b m l) rest h =
+    alone_heading pages page s b m l rest h (parted_told m l h.told.0.are_marks h.told.0.some (λ x xs z. sign_first x xs
     (subst (λ (k : List Item). begins (codes "=") (signs k) ≡ true) z h.told.0.own.first)))
 
 -- ---- all of them
+
+-- those that are chosen, and each that is chosen alone is among them
+pub record AreAllChosen (pages : Pages) (page : List ℕ) : Type 0 where
+  pub ts : List Told
+  pub behind : Lines
+  pub are : full_lines (expanded_page pages page).items ≡ all_lines (map lined ts) behind
+  pub meet : AllMeet (chosen pages page) [] ts
+  pub told : AreSome ts → AreTold ts behind
+  pub all : (t : Told) (rest : Lines) → full_lines (expanded_page pages page).items ≡ all_lines (lined t ∷ []) rest → AreTold (t ∷ []) rest
+      → IsChosen pages page (joined (lined t).before) t → IsAmongNumbers (start_of 0 t) (told_starts 0 ts)
 
 are_told : (ts : List Told) (behind : Lines) → AreSome ts → ToldFrom [] ts behind → AreTold ts behind
 are_told [] behind s h = absurd s
 are_told (t ∷ ts) behind s h = h
 
-all_shut : (es : List Item) (ts : List Told) → AllMeet IsMet ts → AreShut (spots_by es (map lined ts))
-all_shut es [] h = tt
-all_shut es (t ∷ ts) h = (h.0.0, all_shut (ending (joined ((lined t).first ∷ (lined t).more))) ts h.1)
-
-all_closed : (es : List Item) (ts : List Told) (behind : Lines) → AllMeet IsMet ts → EndClosed (spots_by es (map lined ts)) (end_by es (map lined ts) behind)
-all_closed es [] behind h = tt
-all_closed es (t ∷ ts) behind h =
-    let left : List Item = ending (joined ((lined t).first ∷ (lined t).more)) in
-    (ends_any (source_of (lined t).block (lined t).text) (spots_source (spots_by left (map lined ts)) (end_by left (map lined ts) behind)) h.0.1, all_closed left ts behind h.1)
-
-met_answered : Answered IsMet
-met_answered k q = by (bool_decided (any_ends_open (nodes_in (standing 0 [] (block_tree k q)))) false) (closed_decided (source_of k q))
-  where
-    by : Decided (IsShut k q) → Decided (EndsClosed (source_of k q) []) → Decided (IsMet k q)
-    by (inl a) (inl b) = inl (a, b)
-    by (inr f) b = inr (λ h. f h.0)
-    by (inl a) (inr f) = inr (λ h. f h.1)
-
-pub told_together : (page : List ℕ) → IsUtf8 page → CallsNothing (page_items page) → HasNoGroups page → AreAllTold page
-told_together page u calm apart =
-    let ls : Lines = full_lines (page_items page) in
-    let s : Scan IsMet [] false ls = scan IsMet met_answered (length ls) [] false ls (omega arith) in
+pub chosen_together : (pages : Pages) (page : List ℕ) → AreAllChosen pages page
+chosen_together pages page =
+    let ls : Lines = full_lines (expanded_page pages page).items in
+    let s : Scan (chosen pages page) [] [] false ls = scan (chosen pages page) (chosen_decided pages page) (length ls) [] [] false ls (omega arith) in
     record {
       ts = s.ts;
       behind = s.behind;
-      told = λ some. record {
-        utf8 = u;
-        calls_nothing = calm;
-        ungrouped = apart;
-        closed = all_closed [] s.ts s.behind s.asked;
-        are = s.are;
-        told = are_told s.ts s.behind some s.told;
-        shut = all_shut [] s.ts s.asked;
-      };
-      all = alone page ls s refl;
+      are = s.are;
+      meet = s.asked;
+      told = λ some. are_told s.ts s.behind some s.told;
+      all = λ t rest are told here. alone pages page s t rest (record { are = are; told = told; here = here });
+    }
+
+-- so the page is told by them
+pub told_by_all : (pages : Pages) (page : List ℕ) → IsUtf8 page → refusal_of_page pages page ≡ None → (a : AreAllChosen pages page) → AreSome a.ts
+    → IsToldAmong pages page a.ts a.behind
+told_by_all pages page u r a some =
+    let known = known_lines pages page a.ts a.meet in
+    let closed = known_closed pages page a.ts a.behind a.meet in
+    let lines : AreLined (map lined a.ts) a.behind =
+    all_told pages page a.ts a.behind (record { closed = closed; are = a.are; told = a.told some; own = known.0; untouched = known.1 }) in
+    record {
+      utf8 = u;
+      closed = closed;
+      are = a.are;
+      told = a.told some;
+      own = known.0;
+      free = known.2;
+      untouched = known.1;
+      unrefused = r;
+      in_no_group = in_no_group pages page a.ts a.meet (are_own (map lined a.ts) a.behind lines);
     }

@@ -1,6 +1,8 @@
--- What is found among the nodes over items of a page is found in its tree: each paragraph and heading stands there, and in what is on a line none is.
-use Rattle.std.proofs.Common.{◌≡◌, ℕ, suc, ◌+◌, Bool, true, false, Option, List, [], ◌∷◌, ◌++◌, length, refl, sym, ap, ◌∙◌, subst, cond}
+-- What is found among the nodes over items of a page is found in its tree, outside of groups: each paragraph and heading stands there, and in what is on
+-- a line none is.
+use Rattle.std.proofs.Common.{◌≡◌, ℕ, suc, ◌+◌, Bool, true, false, Option, None, List, [], ◌∷◌, ◌++◌, length, map, refl, sym, ap, ap₂, ◌∙◌, subst, cond, append_assoc, append-nil, length-append}
 use Rattle.std.specs.Prelude.{◌||◌, if◌then◌else◌}
+use Rattle.std.specs.List.{AllByRecursion, flat_map}
 use Rattle.std.specs.Str.{IsUtf8}
 use Rattle.wt_tree.specs.declared.kind.Kind.{Kind}
 use Rattle.wt_tree.specs.declared.kind.Kind.TheVariants as kind
@@ -16,22 +18,32 @@ use Rattle.wt_tree.specs.declared.row.Writing.TheVariants.{AsText, AsVoid, Round
 use Rattle.wt_tree.specs.Kinds.{shape, writing, is_leaf, texts_of_kind, is_anywhere, admits, may_hold}
 use Rattle.wt_tree.specs.Leaves.{text_leaf, sep_leaf}
 use Rattle.wt_tree.specs.Tiling.{is_group}
-use Rattle.wt_tree.specs.Tree.{Label, Tree, tree, Trees, none, more, label}
+use Rattle.wt_tree.specs.Tree.{Label, Tree, tree, Trees, none, more, label, trees}
 use Rattle.wt_recut.specs.Recut.{is_blank, is_text, is_border, leads_to_block, front_ranges, rest_ranges, joined_ranges, text_onto, joined_texts, from_start, front_of, rest_of, parts_before, text_before, cut_from}
 use Rattle.wt_span.specs.Items.{Item}
-use Rattle.wt_span.specs.Origins.{Expanded}
-use Rattle.wt_inline.specs.ItemTree.{ItemTree, inner, ItemTrees, nothing, further, tree_items, forest}
+use Rattle.wt_span.specs.Origins.{OuterCall, Expanded}
+use Rattle.wt_span.specs.Runs.{runs}
+use Rattle.wt_span.proofs.RunLaws.{runs_joined}
+use Rattle.wt_inline.specs.ItemTree.{ItemTree, inner, ItemTrees, nothing, further, tree_items, held_by_all, forest}
 use Rattle.wt_checks.specs.Kept.{children}
 use Rattle.wt_checks.specs.PutBack.{is_frame}
-use Rattle.wt_expand.specs.PageItems.{page_items}
+use Rattle.wt_expand.specs.PageCalls.{expanded_page}
 use Rattle.wt_expand.specs.Work.{Pages}
+use Rattle.wt_commands.specs.Answers.{refusal_of_page}
 use Rattle.wt_page.specs.Body.{meaning}
-use Rattle.wt_annotated.specs.Annotated.{unplaced, all_unplaced, annotated}
-use Rattle.wt_annotated.specs.CutTexts.{cut_as, all_cut_texts}
+use Rattle.wt_annotated.specs.Annotated.{unplaced, all_unplaced, placed, annotated}
+use Rattle.wt_annotated.specs.CutTexts.{cut_as, cut_texts, all_cut_texts}
 use Rattle.wt_annotated.specs.GroupData.{group_data}
+use Rattle.wt_annotated.specs.Grouped.{Grouped, grouped}
 use Rattle.wt_annotated.specs.Labels.{label_at}
-use Rattle.wt_annotated.specs.Numbering.{next_after, count, all_with_numbers}
-use Rattle.wt_annotated.specs.WithoutCalls.{inside_by, placed, all_placed}
+use Rattle.wt_annotated.specs.Numbering.{next_after, count, with_numbers, all_with_numbers}
+use Rattle.wt_annotated.specs.Seams.{last_of, first_of, text_from}
+use Rattle.wt_annotated.specs.Walked.{clean_at, Near, near_tied, near_group, near_run, near_runs, walked, near}
+use Rattle.wt_annotated.specs.WithoutCalls.{inside_by}
+use Rattle.wt_annotated.proofs.CutNumbered.{cut_numbered}
+use Rattle.wt_annotated.proofs.CutPlaced.{placed_bare}
+use Rattle.wt_annotated.proofs.Seams.{last_append, first_append, text_append_from}
+use Rattle.wt_annotated.proofs.Walks.{walk_all}
 use Rattle.wt_schema.specs.Written.{is_childless}
 use Rattle.wt_schema.proofs.Rows.{is_somewhere, held}
 use Rattle.wt_page_round_trip.proofs.ExpandedItems.{expanded_items}
@@ -39,17 +51,12 @@ use Rattle.wt_page_round_trip.proofs.OfPage.{ArePageItems}
 use Rattle.wt_page_round_trip.proofs.PageShown.{page_shown}
 use Rattle.wt_page_round_trip.proofs.Shown.{none_group}
 use Rattle.wt_page_round_trip.proofs.ShownNodes.{NodeIsShown, IsOrdered, IsShownIn, AreShownIn}
-use Rattle.wt_part_laws.specs.Standing.{standing}
-use Rattle.wt_text_edit_laws.specs.NoCalls.{CallsNothing}
 use Rattle.wt_text_edit_laws.specs.ParagraphBetween.{blocks_in, body_with}
-use Rattle.wt_text_edit_laws.specs.Parts.{HasNoGroups, part_tree}
-use Rattle.wt_text_edit_laws.proofs.Between.NoCalls.{calm_expanded, calm_unrefused}
-use Rattle.wt_text_edit_laws.proofs.Paragraphs.PartTrees.{part_plain, plain_tree}
 use Rattle.wt_text_edit_laws.proofs.Paragraphs.Standing.{parts_in, body_is}
-use Rattle.wt_text_edit_laws.proofs.Prose.ProseTrees.{blocks_of}
 use Rattle.wt_called_edit_laws.specs.Groups.{called_tree}
+use Rattle.wt_called_edit_laws.specs.RowBlocks.{node_between}
 use Rattle.wt_called_edit_laws.proofs.AllTold.Found.{size, size_both, Housing, a_block, a_shell, another, housing_of, ByHousing, FoundIn, FoundAll}
-use Rattle.wt_called_edit_laws.proofs.AllTold.EachBlocks.{OfHousing, EachBlock, EachBlockIn}
+use Rattle.wt_called_edit_laws.proofs.AllTold.EachBlocks.{OfHousing, EachBlock, EachBlockIn, unless_group}
 
 -- ---- what may be in which
 
@@ -231,178 +238,300 @@ none_cut Page = refl
 none_cut Bordered = refl
 none_cut OwnCharacter = refl
 
--- ---- nodes where they stand
+-- ---- nodes with numbers, and their texts cut
 
-abbrev stands : ℕ → List Item → ItemTrees → Trees
-stands n before ts = all_cut_texts (all_with_numbers n (all_placed before ts))
+abbrev finished : ℕ → Tree → Tree
+finished n t = cut_texts (with_numbers n t)
 
--- what is in a node, with its number and behind these items
-abbrev inner_stands : Kind → ℕ → List Item → ItemTrees → Trees
-inner_stands k n before ts =
-    let us = inside_by (is_leaf k) (all_placed before ts) in
+abbrev pub all_finished : ℕ → Trees → Trees
+all_finished n ts = all_cut_texts (all_with_numbers n ts)
+
+-- what is in a node of this kind then, of these nodes
+abbrev inner_finished : Kind → ℕ → Trees → Trees
+inner_finished k n us =
     let vs = cond (is_group k) us (all_with_numbers (next_after k n) us) in
     cond (is_group k) vs (cut_as (texts_of_kind k) (all_cut_texts vs))
 
 no_group_inside : (v : Bool) (k : Kind) (n : ℕ) (us : Trees) → v ≡ false
     → cond v (cond v us (all_with_numbers (next_after k n) us)) (cut_as (texts_of_kind k) (all_cut_texts (cond v us (all_with_numbers (next_after k n) us))))
-    ≡ cut_as (texts_of_kind k) (all_cut_texts (all_with_numbers (next_after k n) us))
+    ≡ cut_as (texts_of_kind k) (all_finished (next_after k n) us)
 no_group_inside true k n us e = absurd (cc)
 no_group_inside false k n us e = refl
 
-leaf_inside : (v : Bool) (k : Kind) (n : ℕ) (ts : Trees) → v ≡ true → cut_as (texts_of_kind k) (all_cut_texts (all_with_numbers (next_after k n) (inside_by v ts))) ≡ none
+leaf_inside : (v : Bool) (k : Kind) (n : ℕ) (ts : Trees) → v ≡ true → cut_as (texts_of_kind k) (all_finished (next_after k n) (inside_by v ts)) ≡ none
 leaf_inside true k n ts e = none_cut (texts_of_kind k)
 leaf_inside false k n ts e = absurd (cc)
 
-by_leaf : (Q : Tree → Type 0) (v : Bool) (n : ℕ) (before : List Item) (ts : ItemTrees) → (v ≡ false → EachBlockIn Q (stands n before ts))
-    → EachBlockIn Q (all_cut_texts (all_with_numbers n (inside_by v (all_placed before ts))))
-by_leaf Q true n before ts f = tt
-by_leaf Q false n before ts f = f refl
+by_leaf : (Q : Tree → Type 0) (v : Bool) (n : ℕ) (ts : Trees) → (v ≡ false → EachBlockIn Q (all_finished n ts)) → EachBlockIn Q (all_finished n (inside_by v ts))
+by_leaf Q true n ts f = tt
+by_leaf Q false n ts f = f refl
 
 not_leaf_shown : (v : Bool) (j : ℕ) (p : Kind) (ts : Trees) → v ≡ false → AreShownIn j p (inside_by v ts) → AreShownIn j p ts
 not_leaf_shown true j p ts e h = absurd (cc)
 not_leaf_shown false j p ts e h = h
 
--- the node has this label
-record IsStood (Q : Tree → Type 0) (k : Kind) (n : ℕ) (before : List Item) (ts : ItemTrees) : Type 0 where
+-- of what a node of this kind holds
+record IsStood (Q : Tree → Type 0) (k : Kind) (n : ℕ) (ts : Trees) : Type 0 where
   no_group : is_group k ≡ false
-  each : is_leaf k ≡ false → EachBlockIn Q (stands (next_after k n) before ts)
+  each : is_leaf k ≡ false → EachBlockIn Q (all_finished (next_after k n) ts)
 
-stood_inside : (Q : Tree → Type 0) (k : Kind) (n : ℕ) (before : List Item) (ts : ItemTrees) → IsStood Q k n before ts → EachBlockIn Q (inner_stands k n before ts)
-stood_inside Q k n before ts s =
-    let us : Trees = inside_by (is_leaf k) (all_placed before ts) in
+stood_inside : (Q : Tree → Type 0) (k : Kind) (n : ℕ) (ts : Trees) → IsStood Q k n ts → EachBlockIn Q (inner_finished k n (inside_by (is_leaf k) ts))
+stood_inside Q k n ts s =
+    let us : Trees = inside_by (is_leaf k) ts in
     subst (EachBlockIn Q) (sym (no_group_inside (is_group k) k n us s.no_group))
-    (as_each Q (texts_of_kind k) (all_cut_texts (all_with_numbers (next_after k n) us)) (by_leaf Q (is_leaf k) (next_after k n) before ts s.each))
+    (as_each Q (texts_of_kind k) (all_finished (next_after k n) us) (by_leaf Q (is_leaf k) (next_after k n) ts s.each))
 
-stood_leaf : (k : Kind) (n : ℕ) (before : List Item) (ts : ItemTrees) → is_group k ≡ false → is_leaf k ≡ true → inner_stands k n before ts ≡ none
-stood_leaf k n before ts g e =
-    no_group_inside (is_group k) k n (inside_by (is_leaf k) (all_placed before ts)) g ∙ leaf_inside (is_leaf k) k n (all_placed before ts) e
-
-nothing_of : (Q : Tree → Type 0) (v : Housing) (t : Tree) (ts : Trees)
-    → OfHousing v (⊥ × EachBlockIn (λ (u : Tree). ⊥) ts) (EachBlockIn (λ (u : Tree). ⊥) ts) (EachBlockIn (λ (u : Tree). ⊥) ts)
-    → (EachBlockIn (λ (u : Tree). ⊥) ts → EachBlockIn Q ts) → OfHousing v (Q t × EachBlockIn (λ (u : Tree). ⊥) ts) (EachBlockIn Q ts) (EachBlockIn (λ (u : Tree). ⊥) ts)
-nothing_of Q a_block t ts h f = absurd h.0
-nothing_of Q a_shell t ts h f = f h
-nothing_of Q another t ts h f = h
-
--- nothing holds of nothing
-mutual
-  nothing_each : (Q : Tree → Type 0) (t : Tree) → EachBlock (λ (u : Tree). ⊥) t → EachBlock Q t
-  nothing_each Q (tree l ts) h = (h.0, nothing_of Q (housing_of l.kind) (tree l ts) ts h.1 (λ g. nothing_each_in Q ts g))
-
-  nothing_each_in : (Q : Tree → Type 0) (ts : Trees) → EachBlockIn (λ (u : Tree). ⊥) ts → EachBlockIn Q ts
-  nothing_each_in Q none h = tt
-  nothing_each_in Q (more t ts) h = (nothing_each Q t h.0, nothing_each_in Q ts h.1)
+stood_leaf : (k : Kind) (n : ℕ) (ts : Trees) → is_group k ≡ false → is_leaf k ≡ true → inner_finished k n (inside_by (is_leaf k) ts) ≡ none
+stood_leaf k n ts g e = no_group_inside (is_group k) k n (inside_by (is_leaf k) ts) g ∙ leaf_inside (is_leaf k) k n ts e
 
 other_of : (v : Housing) (own all neither : Type 0) → v ≡ another → neither → OfHousing v own all neither
 other_of a_block own all neither e h = absurd (cc)
 other_of a_shell own all neither e h = absurd (cc)
 other_of another own all neither e h = h
 
--- in such a node no block stands
-mutual
-  unfolding label_at
+-- ---- children of a node, alone and in groups
 
-  none_stands : (i : ℕ) (q : Kind) (n : ℕ) (before : List Item) (t : ItemTree) → is_inert (shape q).holding ≡ true → IsShownIn i q (unplaced t)
-      → EachBlock (λ (u : Tree). ⊥) (standing n before t)
-  none_stands i q n before (inner h o ts c) inert s =
-      let k : Kind = h.kind in
-      let is : IsHeld q k = node_held (writing k) i q (label (unplaced (inner h o ts c))) (is_childless (inside_by (is_leaf k) (all_unplaced ts)))
-      (IsOrdered (texts_of_kind k) (inside_by (is_leaf k) (all_unplaced ts)) × AreShownIn (suc i) k (inside_by (is_leaf k) (all_unplaced ts))) refl s in
-      let other : housing_of k ≡ another = is.other inert in
-      let group : is_group k ≡ false = none_group i q (label (unplaced (inner h o ts c))) (inside_by (is_leaf k) (all_unplaced ts)) s in
-      let inside : AreShownIn (suc i) k (inside_by (is_leaf k) (all_unplaced ts)) =
-      shown_inside (writing k) i q (label (unplaced (inner h o ts c))) (suc i) k (inside_by (is_leaf k) (all_unplaced ts))
-      (IsOrdered (texts_of_kind k) (inside_by (is_leaf k) (all_unplaced ts))) s in
-      let each : IsStood (λ (u : Tree). ⊥) k n (before ++ o) ts = record {
-        no_group = group;
-        each = λ e. none_stand (suc i) k (next_after k n) (before ++ o) ts (inert_kind k is.no_frame other) (not_leaf_shown (is_leaf k) (suc i) k (all_unplaced ts) e inside);
-      } in (
-        λ e. stood_leaf k n (before ++ o) ts group e,
-        other_of (housing_of k) (⊥ × EachBlockIn (λ (u : Tree). ⊥) (inner_stands k n (before ++ o) ts)) (EachBlockIn (λ (u : Tree). ⊥) (inner_stands k n (before ++ o) ts))
-            (EachBlockIn (λ (u : Tree). ⊥) (inner_stands k n (before ++ o) ts)) other (stood_inside (λ (u : Tree). ⊥) k n (before ++ o) ts each),
-      )
+-- this holds of each child that is alone, whatever its number is
+abbrev IsEach : (Tree → Type 0) → Near → Type 0
+IsEach Q c = c.clean ≡ true → (n : ℕ) → EachBlock Q (finished n c.whole)
 
-  none_stand : (i : ℕ) (q : Kind) (n : ℕ) (before : List Item) (ts : ItemTrees) → is_inert (shape q).holding ≡ true → AreShownIn i q (all_unplaced ts)
-      → EachBlockIn (λ (u : Tree). ⊥) (stands n before ts)
-  none_stand i q n before nothing inert s = tt
-  none_stand i q n before (further t ts) inert s =
-      (none_stands i q n before t inert s.0, none_stand i q (n + count (placed before t)) (before ++ tree_items t) ts inert s.1)
+alone_each : (Q : Tree → Type 0) (calls : List OuterCall) (n : ℕ) (c : Near) (v : Bool) → c.clean ≡ v → IsEach Q c
+    → EachBlock Q (finished n (cond v c.whole (near_group calls (group_data calls) (c ∷ []))))
+alone_each Q calls n c true e h = h e n
+alone_each Q calls n c false e h = tt
 
--- this holds of a block that stands, if that holds of it
-abbrev Stood : (ℕ → ItemTree → Type 0) → (Tree → Type 0) → Type 0
-Stood P Q = (n : ℕ) (before : List Item) (u : ItemTree) → P (size before) u → Q (standing n before u)
+run_each : (Q : Tree → Type 0) (calls : List OuterCall) (n : ℕ) (rs : List (List Near)) → AllByRecursion (IsEach Q) (flat_map (λ (r : List Near). r) rs)
+    → EachBlockIn Q (all_finished n (trees (map (near_run calls (group_data calls)) rs)))
+run_each Q calls n [] h = tt
+run_each Q calls n ([] ∷ rs) h = (tt, run_each Q calls (n + count (near_run calls (group_data calls) [])) rs h)
+run_each Q calls n ((c ∷ []) ∷ rs) h =
+    (alone_each Q calls n c c.clean refl h.0, run_each Q calls (n + count (near_run calls (group_data calls) (c ∷ []))) rs h.1)
+run_each Q calls n ((c ∷ d ∷ ds) ∷ rs) h =
+    (tt, run_each Q calls (n + count (near_run calls (group_data calls) (c ∷ d ∷ ds))) rs (later ds h.1.1))
+  where
+    later : (es : List Near) → AllByRecursion (IsEach Q) (es ++ flat_map (λ (r : List Near). r) rs) → AllByRecursion (IsEach Q) (flat_map (λ (r : List Near). r) rs)
+    later [] g = g
+    later (e ∷ es) g = later es g.1
 
-by_kind : (P : ℕ → ItemTree → Type 0) (Q : Tree → Type 0) (i : ℕ) (k : Kind) (n : ℕ) (before : List Item) (t : ItemTree) (o : List Item) (ts : ItemTrees)
-    → is_frame k ≡ false → is_group k ≡ false → (P (size before) t → Q (standing n before t)) → AreShownIn i k (inside_by (is_leaf k) (all_unplaced ts))
-    → ((to : ℕ) → FoundAll P (size (before ++ o)) ts to → AreShownIn i k (all_unplaced ts) → EachBlockIn Q (stands (next_after k n) (before ++ o) ts))
-    → (v : Housing) → housing_of k ≡ v → ByHousing v (P (size before) t) ((to : ℕ) × FoundAll P (size before + size o) ts to)
-    → OfHousing v (Q (standing n before t) × EachBlockIn (λ (u : Tree). ⊥) (inner_stands k n (before ++ o) ts)) (EachBlockIn Q (inner_stands k n (before ++ o) ts))
-    (EachBlockIn (λ (u : Tree). ⊥) (inner_stands k n (before ++ o) ts))
-by_kind P Q i k n before t o ts frame group own s go a_block e g = (
-  own g,
-  stood_inside (λ (u : Tree). ⊥) k n (before ++ o) ts (record {
-    no_group = group;
-    each = λ z. none_stand i k (next_after k n) (before ++ o) ts (block_inert k e) (not_leaf_shown (is_leaf k) i k (all_unplaced ts) z s);
-  }),
-)
-by_kind P Q i k n before t o ts frame group own s go a_shell e g =
-    let to : FoundAll P (size (before ++ o)) ts g.0 = subst (λ (m : ℕ). FoundAll P m ts g.0) (sym (size_both before o)) g.1 in
-    stood_inside Q k n (before ++ o) ts (record {
-      no_group = group;
-      each = λ z. go g.0 to (not_leaf_shown (is_leaf k) i k (all_unplaced ts) z s);
-    })
-by_kind P Q i k n before t o ts frame group own s go another e g =
-    stood_inside (λ (u : Tree). ⊥) k n (before ++ o) ts (record {
-      no_group = group;
-      each = λ z. none_stand i k (next_after k n) (before ++ o) ts (inert_kind k frame e) (not_leaf_shown (is_leaf k) i k (all_unplaced ts) z s);
-    })
+runs_each : (Q : Tree → Type 0) (calls : List OuterCall) (n : ℕ) (cs : List Near) → AllByRecursion (IsEach Q) cs
+    → EachBlockIn Q (all_finished n (trees (near_runs calls (group_data calls) cs)))
+runs_each Q calls n cs h =
+    run_each Q calls n (runs near_tied cs) (subst (λ (ds : List Near). AllByRecursion (IsEach Q) ds) (sym (runs_joined near_tied cs)) h)
+
+abbrev inside_walked : List OuterCall → Option ℕ → ℕ → Option ℕ → List Item → ItemTrees → List Item → Trees
+inside_walked calls o at p q ts c =
+    trees (near_runs calls (group_data calls) (near calls (group_data calls) (last_of o q) (at + length (text_from calls o q)) (first_of c p) ts))
+
+-- ---- in such a node no block stands
 
 mutual
   unfolding label_at
 
-  found_stands : (P : ℕ → ItemTree → Type 0) (Q : Tree → Type 0) → Stood P Q → (i : ℕ) (q : Kind) (n : ℕ) (before : List Item) (t : ItemTree) → FoundIn P (size before) t
-      → IsShownIn i q (unplaced t) → EachBlock Q (standing n before t)
-  found_stands P Q f i q n before (inner h o ts c) g s =
+  none_stands : (calls : List OuterCall) (i : ℕ) (q : Kind) (o : Option ℕ) (at : ℕ) (p : Option ℕ) (n : ℕ) (t : ItemTree) → is_inert (shape q).holding ≡ true
+      → IsShownIn i q (unplaced t) → EachBlock (λ (u : Tree). ⊥) (finished n (walked calls (group_data calls) o at p t))
+  none_stands calls i q o at p n (inner h op ts cl) inert s =
       let k : Kind = h.kind in
       let us : Trees = inside_by (is_leaf k) (all_unplaced ts) in
-      let l : Label = label (unplaced (inner h o ts c)) in
+      let l : Label = label (unplaced (inner h op ts cl)) in
+      let is : IsHeld q k = node_held (writing k) i q l (is_childless us) (IsOrdered (texts_of_kind k) us × AreShownIn (suc i) k us) refl s in
+      let other : housing_of k ≡ another = is.other inert in
+      let group : is_group k ≡ false = none_group i q l us s in
+      let inside : AreShownIn (suc i) k us = shown_inside (writing k) i q l (suc i) k us (IsOrdered (texts_of_kind k) us) s in
+      let held_ts : Trees = inside_walked calls o at p op ts cl in
+      let each : IsStood (λ (u : Tree). ⊥) k n held_ts = record {
+        no_group = group;
+        each = λ e. runs_each (λ (u : Tree). ⊥) calls (next_after k n) (near calls (group_data calls) (last_of o op) (at + length (text_from calls o op)) (first_of cl p) ts)
+            (none_stand calls (suc i) k (last_of o op) (at + length (text_from calls o op)) (first_of cl p) ts (inert_kind k is.no_frame other)
+            (not_leaf_shown (is_leaf k) (suc i) k (all_unplaced ts) e inside));
+      } in
+      let own : Trees = inner_finished k n (inside_by (is_leaf k) held_ts) in
+      unless_group (is_group k) ((is_leaf k ≡ true → own ≡ none)
+      × OfHousing (housing_of k) (⊥ × EachBlockIn (λ (u : Tree). ⊥) own) (EachBlockIn (λ (u : Tree). ⊥) own) (EachBlockIn (λ (u : Tree). ⊥) own)) (λ g. (
+        λ e. stood_leaf k n held_ts group e,
+        other_of (housing_of k) (⊥ × EachBlockIn (λ (u : Tree). ⊥) own) (EachBlockIn (λ (u : Tree). ⊥) own) (EachBlockIn (λ (u : Tree). ⊥) own) other
+            (stood_inside (λ (u : Tree). ⊥) k n held_ts each),
+      ))
+
+  none_stand : (calls : List OuterCall) (i : ℕ) (q : Kind) (o : Option ℕ) (at : ℕ) (p : Option ℕ) (ts : ItemTrees) → is_inert (shape q).holding ≡ true
+      → AreShownIn i q (all_unplaced ts) → AllByRecursion (IsEach (λ (u : Tree). ⊥)) (near calls (group_data calls) o at p ts)
+  none_stand calls i q o at p nothing inert s = tt
+  none_stand calls i q o at p (further t ts) inert s = (
+    λ e n. none_stands calls i q o at (first_of (held_by_all ts) p) n t inert s.0,
+    none_stand calls i q (last_of o (tree_items t)) (at + length (text_from calls o (tree_items t))) p ts inert s.1,
+  )
+
+-- ---- where a node is among the items of all
+
+record IsHere (calls : List OuterCall) (all before own behind : List Item) (o : Option ℕ) (at : ℕ) (p : Option ℕ) : Type 0 where
+  whole : all ≡ before ++ (own ++ behind)
+  call_before : o ≡ last_of None before
+  byte : at ≡ length (text_from calls None before)
+  call_behind : p ≡ first_of behind None
+
+byte_more : (calls : List OuterCall) (o : Option ℕ) (at : ℕ) (before xs : List Item) → o ≡ last_of None before → at ≡ length (text_from calls None before)
+    → at + length (text_from calls o xs) ≡ length (text_from calls None (before ++ xs))
+byte_more calls o at before xs e f =
+    ap₂ (λ (n : ℕ) (j : Option ℕ). n + length (text_from calls j xs)) f e
+    ∙ sym (length-append (text_from calls None before) (text_from calls (last_of None before) xs))
+    ∙ sym (ap length (text_append_from calls None before xs))
+
+call_more : (o : Option ℕ) (before xs : List Item) → o ≡ last_of None before → last_of o xs ≡ last_of None (before ++ xs)
+call_more o before xs e = ap (λ (j : Option ℕ). last_of j xs) e ∙ sym (last_append None before xs)
+
+inside_here : (calls : List OuterCall) (all before op held cl behind : List Item) (o : Option ℕ) (at : ℕ) (p : Option ℕ)
+    → IsHere calls all before (op ++ (held ++ cl)) behind o at p
+    → IsHere calls all (before ++ op) held (cl ++ behind) (last_of o op) (at + length (text_from calls o op)) (first_of cl p)
+inside_here calls all before op held cl behind o at p h = record {
+  whole = h.whole ∙ ap (λ (xs : List Item). before ++ xs) (append_assoc op (held ++ cl) behind ∙ ap (λ (xs : List Item). op ++ xs) (append_assoc held cl behind))
+      ∙ sym (append_assoc before op (held ++ (cl ++ behind)));
+  call_before = call_more o before op h.call_before;
+  byte = byte_more calls o at before op h.call_before h.byte;
+  call_behind = ap (first_of cl) h.call_behind ∙ sym (first_append cl behind None);
+}
+
+first_here : (calls : List OuterCall) (all before own held behind : List Item) (o : Option ℕ) (at : ℕ) (p : Option ℕ)
+    → IsHere calls all before (own ++ held) behind o at p → IsHere calls all before own (held ++ behind) o at (first_of held p)
+first_here calls all before own held behind o at p h = record {
+  whole = h.whole ∙ ap (λ (xs : List Item). before ++ xs) (append_assoc own held behind);
+  call_before = h.call_before;
+  byte = h.byte;
+  call_behind = ap (first_of held) h.call_behind ∙ sym (first_append held behind None);
+}
+
+next_here : (calls : List OuterCall) (all before own held behind : List Item) (o : Option ℕ) (at : ℕ) (p : Option ℕ)
+    → IsHere calls all before (own ++ held) behind o at p
+    → IsHere calls all (before ++ own) held behind (last_of o own) (at + length (text_from calls o own)) p
+next_here calls all before own held behind o at p h = record {
+  whole = h.whole ∙ ap (λ (xs : List Item). before ++ xs) (append_assoc own held behind) ∙ sym (append_assoc before own (held ++ behind));
+  call_before = call_more o before own h.call_before;
+  byte = byte_more calls o at before own h.call_before h.byte;
+  call_behind = h.call_behind;
+}
+
+-- this holds of a block that stands, if that holds of it
+abbrev Stood : List OuterCall → List Item → (ℕ → ItemTree → Type 0) → (Tree → Type 0) → Type 0
+Stood calls all P Q =
+    (n : ℕ) (before : List Item) (u : ItemTree) (behind : List Item) → all ≡ before ++ (tree_items u ++ behind)
+    → clean_at (last_of None before) (first_of behind None) u ≡ true → P (size before) u → Q (node_between calls n before u behind)
+
+stood_here : (P : ℕ → ItemTree → Type 0) (Q : Tree → Type 0) (calls : List OuterCall) (all : List Item) → Stood calls all P Q → (n : ℕ) (before behind : List Item)
+    (o : Option ℕ) (at : ℕ) (p : Option ℕ) (t : ItemTree) → IsHere calls all before (tree_items t) behind o at p → clean_at o p t ≡ true → P (size before) t
+    → Q (finished n (walked calls (group_data calls) o at p t))
+stood_here P Q calls all f n before behind o at p t h e g =
+    let clean : clean_at (last_of None before) (first_of behind None) t ≡ true =
+    sym (ap₂ (λ (i j : Option ℕ). clean_at i j t) h.call_before h.call_behind) ∙ e in
+    let same : walked calls (group_data calls) o at p t
+    ≡ walked calls (group_data calls) (last_of None before) (length (text_from calls None before)) (first_of behind None) t =
+    ap₂ (λ (i j : Option ℕ). walked calls (group_data calls) i at j t) h.call_before h.call_behind
+    ∙ ap (λ (m : ℕ). walked calls (group_data calls) (last_of None before) m (first_of behind None) t) h.byte in
+    subst (λ (u : Tree). Q (finished n u)) (sym same) (f n before t behind h.whole clean g)
+
+-- ---- each block stands
+
+by_kind : (P : ℕ → ItemTree → Type 0) (Q : Tree → Type 0) (i : ℕ) (k : Kind) (n : ℕ) (own : Type 0) (inside : Type 0) (t : Tree) (held_ts : Trees) (shown : Trees)
+    → is_frame k ≡ false → is_group k ≡ false → (own → Q t) → AreShownIn i k (inside_by (is_leaf k) shown)
+    → (is_inert (shape k).holding ≡ true → AreShownIn i k shown → EachBlockIn (λ (u : Tree). ⊥) (all_finished (next_after k n) held_ts))
+    → (inside → AreShownIn i k shown → EachBlockIn Q (all_finished (next_after k n) held_ts))
+    → (v : Housing) → housing_of k ≡ v → ByHousing v own inside
+    → OfHousing v (Q t × EachBlockIn (λ (u : Tree). ⊥) (inner_finished k n (inside_by (is_leaf k) held_ts))) (EachBlockIn Q (inner_finished k n (inside_by (is_leaf k) held_ts)))
+    (EachBlockIn (λ (u : Tree). ⊥) (inner_finished k n (inside_by (is_leaf k) held_ts)))
+by_kind P Q i k n own inside t held_ts shown frame group mine s bare go a_block e g = (
+  mine g,
+  stood_inside (λ (u : Tree). ⊥) k n held_ts (record {
+    no_group = group;
+    each = λ z. bare (block_inert k e) (not_leaf_shown (is_leaf k) i k shown z s);
+  }),
+)
+by_kind P Q i k n own inside t held_ts shown frame group mine s bare go a_shell e g =
+    stood_inside Q k n held_ts (record {
+      no_group = group;
+      each = λ z. go g (not_leaf_shown (is_leaf k) i k shown z s);
+    })
+by_kind P Q i k n own inside t held_ts shown frame group mine s bare go another e g =
+    stood_inside (λ (u : Tree). ⊥) k n held_ts (record {
+      no_group = group;
+      each = λ z. bare (inert_kind k frame e) (not_leaf_shown (is_leaf k) i k shown z s);
+    })
+
+mutual
+  unfolding label_at
+
+  found_stands : (P : ℕ → ItemTree → Type 0) (Q : Tree → Type 0) (calls : List OuterCall) (all : List Item) → Stood calls all P Q → (i : ℕ) (q : Kind) (n : ℕ)
+      (before behind : List Item) (o : Option ℕ) (at : ℕ) (p : Option ℕ) (t : ItemTree) → FoundIn P (size before) t → IsShownIn i q (unplaced t)
+      → IsHere calls all before (tree_items t) behind o at p → clean_at o p t ≡ true → EachBlock Q (finished n (walked calls (group_data calls) o at p t))
+  found_stands P Q calls all f i q n before behind o at p (inner h op ts cl) g s here clean =
+      let k : Kind = h.kind in
+      let us : Trees = inside_by (is_leaf k) (all_unplaced ts) in
+      let l : Label = label (unplaced (inner h op ts cl)) in
       let is : IsHeld q k = node_held (writing k) i q l (is_childless us) (IsOrdered (texts_of_kind k) us × AreShownIn (suc i) k us) refl s in
       let group : is_group k ≡ false = none_group i q l us s in
-      let inside : AreShownIn (suc i) k us = shown_inside (writing k) i q l (suc i) k us (IsOrdered (texts_of_kind k) us) s in (
-        λ e. stood_leaf k n (before ++ o) ts group e,
-        by_kind P Q (suc i) k n before (inner h o ts c) o ts is.no_frame group (f n before (inner h o ts c)) inside
-            (λ to a b. found_stand P Q f (suc i) k (next_after k n) (before ++ o) ts to a b) (housing_of k) refl g,
-      )
+      let inside : AreShownIn (suc i) k us = shown_inside (writing k) i q l (suc i) k us (IsOrdered (texts_of_kind k) us) s in
+      let x : Option ℕ = last_of o op in
+      let from : ℕ = at + length (text_from calls o op) in
+      let y : Option ℕ = first_of cl p in
+      let cs : List Near = near calls (group_data calls) x from y ts in
+      let held_ts : Trees = inside_walked calls o at p op ts cl in
+      let own : Trees = inner_finished k n (inside_by (is_leaf k) held_ts) in
+      let node : Tree = finished n (walked calls (group_data calls) o at p (inner h op ts cl)) in
+      let within : IsHere calls all (before ++ op) (held_by_all ts) (cl ++ behind) x from y = inside_here calls all before op (held_by_all ts) cl behind o at p here in
+      unless_group (is_group k) ((is_leaf k ≡ true → own ≡ none)
+      × OfHousing (housing_of k) (Q node × EachBlockIn (λ (u : Tree). ⊥) own) (EachBlockIn Q own) (EachBlockIn (λ (u : Tree). ⊥) own)) (λ z. (
+        λ e. stood_leaf k n held_ts group e,
+        by_kind P Q (suc i) k n (P (size before) (inner h op ts cl)) ((to : ℕ) × FoundAll P (size before + size op) ts to) node held_ts (all_unplaced ts) is.no_frame group
+            (stood_here P Q calls all f n before behind o at p (inner h op ts cl) here clean) inside
+            (λ inert shown. runs_each (λ (u : Tree). ⊥) calls (next_after k n) cs (none_stand calls (suc i) k x from y ts inert shown))
+            (λ found shown. runs_each Q calls (next_after k n) cs
+            (found_stand P Q calls all f (suc i) k (before ++ op) (cl ++ behind) x from y ts found.0
+            (subst (λ (m : ℕ). FoundAll P m ts found.0) (sym (size_both before op)) found.1) shown within)) (housing_of k) refl g,
+      ))
 
-  found_stand : (P : ℕ → ItemTree → Type 0) (Q : Tree → Type 0) → Stood P Q → (i : ℕ) (q : Kind) (n : ℕ) (before : List Item) (ts : ItemTrees) (to : ℕ)
-      → FoundAll P (size before) ts to → AreShownIn i q (all_unplaced ts) → EachBlockIn Q (stands n before ts)
-  found_stand P Q f i q n before nothing to g s = tt
-  found_stand P Q f i q n before (further t ts) to g s =
-      let rest : FoundAll P (size (before ++ tree_items t)) ts to = subst (λ (m : ℕ). FoundAll P m ts to) (sym (size_both before (tree_items t))) g.1 in (
-        found_stands P Q f i q n before t g.0 s.0,
-        found_stand P Q f i q (n + count (placed before t)) (before ++ tree_items t) ts to rest s.1,
+  found_stand : (P : ℕ → ItemTree → Type 0) (Q : Tree → Type 0) (calls : List OuterCall) (all : List Item) → Stood calls all P Q → (i : ℕ) (q : Kind)
+      (before behind : List Item) (o : Option ℕ) (at : ℕ) (p : Option ℕ) (ts : ItemTrees) (to : ℕ) → FoundAll P (size before) ts to → AreShownIn i q (all_unplaced ts)
+      → IsHere calls all before (held_by_all ts) behind o at p → AllByRecursion (IsEach Q) (near calls (group_data calls) o at p ts)
+  found_stand P Q calls all f i q before behind o at p nothing to g s here = tt
+  found_stand P Q calls all f i q before behind o at p (further t ts) to g s here =
+      let own : List Item = tree_items t in
+      let held : List Item = held_by_all ts in (
+        λ e n. found_stands P Q calls all f i q n before (held ++ behind) o at (first_of held p) t g.0 s.0 (first_here calls all before own held behind o at p here) e,
+        found_stand P Q calls all f i q (before ++ own) behind (last_of o own) (at + length (text_from calls o own)) p ts to
+            (subst (λ (m : ℕ). FoundAll P m ts to) (sym (size_both before own)) g.1) s.1 (next_here calls all before own held behind o at p here),
       )
 
 -- ---- the page's tree
 
-page_of_items : (pages : Pages) (page : List ℕ) → CallsNothing (page_items page) → called_tree pages page ≡ part_tree page
-page_of_items pages page calm = ap (λ (e : Expanded). annotated e.outer (group_data e.outer) (meaning e.items)) (calm_expanded pages page calm)
+page_meaning : (xs : List Item) → meaning xs ≡ body_with (blocks_in xs)
+page_meaning xs = body_is xs (parts_in xs) refl
 
-page_meaning : (page : List ℕ) → meaning (page_items page) ≡ body_with (blocks_in (page_items page))
-page_meaning page = body_is (page_items page) (parts_in (page_items page)) refl
+pub page_walked : (calls : List OuterCall) (ts : List ItemTree)
+    → children (annotated calls (group_data calls) (body_with ts))
+    ≡ all_finished 1 (trees (near_runs calls (group_data calls) (near calls (group_data calls) None 0 None (forest ts))))
+unfolding annotated
+page_walked calls ts =
+    let t : ItemTree = body_with ts in
+    let g : Grouped = grouped (tree_items t) 0 t in
+    sym (ap children (ap (λ (u : Tree). cut_texts (with_numbers 1 u)) (walk_all calls (group_data calls) t)
+    ∙ cut_numbered 1 (placed calls (group_data calls) (tree_items t) g) (placed_bare calls (group_data calls) (tree_items t) g)))
 
-pub page_blocks : (pages : Pages) (page : List ℕ) → CallsNothing (page_items page) → HasNoGroups page
-    → children (called_tree pages page) ≡ blocks_of 1 [] (blocks_in (page_items page))
-page_blocks pages page calm whole =
-    ap children (page_of_items pages page calm ∙ ap (annotated [] (group_data [])) (page_meaning page)
-    ∙ plain_tree (blocks_in (page_items page)) (part_plain page whole))
+pub page_blocks : (pages : Pages) (page : List ℕ)
+    → children (called_tree pages page)
+    ≡ all_finished 1 (trees (near_runs (expanded_page pages page).outer (group_data (expanded_page pages page).outer)
+    (near (expanded_page pages page).outer (group_data (expanded_page pages page).outer) None 0 None (forest (blocks_in (expanded_page pages page).items)))))
+page_blocks pages page =
+    let e : Expanded = expanded_page pages page in
+    ap (λ (m : ItemTree). children (annotated e.outer (group_data e.outer) m)) (page_meaning e.items) ∙ page_walked e.outer (blocks_in e.items)
 
-page_sound : (pages : Pages) (page : List ℕ) → IsUtf8 page → CallsNothing (page_items page) → ArePageItems (page_items page)
-page_sound pages page u calm =
-    subst (λ (e : Expanded). ArePageItems e.items) (calm_expanded pages page calm) (expanded_items pages page u (calm_unrefused pages page calm))
+items_here : (xs : List Item) → tree_items (meaning xs) ≡ [] ++ (held_by_all (forest (blocks_in xs)) ++ [])
+items_here xs = ap tree_items (page_meaning xs)
 
-pub blocks_stand : (P : ℕ → ItemTree → Type 0) (Q : Tree → Type 0) (pages : Pages) (page : List ℕ) (to : ℕ) → IsUtf8 page → CallsNothing (page_items page)
-    → HasNoGroups page → Stood P Q → FoundAll P 0 (forest (blocks_in (page_items page))) to → EachBlockIn Q (children (called_tree pages page))
-blocks_stand P Q pages page to u calm whole f g =
-    subst (EachBlockIn Q) (sym (page_blocks pages page calm whole))
-    (found_stand P Q f 9 kind.Body 1 [] (forest (blocks_in (page_items page))) to g (page_shown (page_items page) (page_sound pages page u calm)).0)
+pub blocks_stand : (P : ℕ → ItemTree → Type 0) (Q : Tree → Type 0) (pages : Pages) (page : List ℕ) (to : ℕ) → IsUtf8 page → refusal_of_page pages page ≡ None
+    → Stood (expanded_page pages page).outer (tree_items (meaning (expanded_page pages page).items)) P Q
+    → FoundAll P 0 (forest (blocks_in (expanded_page pages page).items)) to → EachBlockIn Q (children (called_tree pages page))
+blocks_stand P Q pages page to u r f g =
+    let e : Expanded = expanded_page pages page in
+    let sound : ArePageItems e.items = expanded_items pages page u r in
+    let all : List Item = tree_items (meaning e.items) in
+    let ts : ItemTrees = forest (blocks_in e.items) in
+    subst (EachBlockIn Q) (sym (page_blocks pages page))
+    (runs_each Q e.outer 1 (near e.outer (group_data e.outer) None 0 None ts)
+    (found_stand P Q e.outer all f 9 kind.Body [] [] None 0 None ts to g (page_shown e.items sound).0
+    (record { whole = items_here e.items; call_before = refl; byte = refl; call_behind = refl })))

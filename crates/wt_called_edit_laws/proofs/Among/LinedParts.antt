@@ -330,10 +330,10 @@ lined_here pages page open_tables es b tail p qs xs runs left rest h none own be
 
 -- ---- as parts
 
-abbrev spot_of : Pages → List ℕ → List Item → LinedBlock → BlockSpot
+abbrev pub spot_of : Pages → List ℕ → List Item → LinedBlock → BlockSpot
 spot_of pages page es b = record { before = text_from (calls_of pages page) None (block_front es b); block = b.block; text = b.text }
 
-spot_source : (pages : Pages) (page : List ℕ) (open_tables : List Bool) (es : List Item) (b : LinedBlock) (tail : List (List Item)) (p : ℕ) (qs : List Item)
+pub spot_source : (pages : Pages) (page : List ℕ) (open_tables : List Bool) (es : List Item) (b : LinedBlock) (tail : List (List Item)) (p : ℕ) (qs : List Item)
     (l : IsLinedHere pages page open_tables es b tail p qs) (ss : List BlockSpot) (end : List ℕ) → spots_source ss end ≡ sources l.here.behind
     → spots_source (spot_of pages page es b ∷ ss) end ≡ sources qs
 spot_source pages page open_tables es b tail p qs l ss end e =

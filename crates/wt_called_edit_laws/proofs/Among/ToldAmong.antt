@@ -6,7 +6,7 @@ use Rattle.wt_span.specs.Runs.{IsRun, AreRuns}
 use Rattle.wt_span.proofs.RunLaws.{runs_are}
 use Rattle.wt_annotated.specs.Seams.{last_of, text_from}
 use Rattle.wt_annotated.proofs.Seams.{last_append}
-use Rattle.wt_lines.specs.Lines.{goes_on, content}
+use Rattle.wt_lines.specs.Lines.{goes_on, content, full_lines}
 use Rattle.wt_page.specs.Lines.{ending}
 use Rattle.wt_tables.specs.Parts.{joined}
 use Rattle.wt_expand.specs.PageCalls.{expanded_page}
@@ -22,7 +22,7 @@ use Rattle.wt_called_edit_laws.specs.LinedAmong.{spots_on, end_on, AreOfPage, Ar
 use Rattle.wt_called_edit_laws.specs.LinedHeadings.{sides_of, text_of, IsLinedHeading}
 use Rattle.wt_called_edit_laws.specs.PlacedLines.{LinedBlock, all_lines, OwnLined, IsLinedAt, AreLinedAfter, AreLined}
 use Rattle.wt_called_edit_laws.specs.ToldAmong.{IsToldAmong}
-use Rattle.wt_called_edit_laws.specs.ToldLines.{Told, a_paragraph_of, a_heading_on, lined, OwnTold, rows_before, IsToldAt, AreToldAfter}
+use Rattle.wt_called_edit_laws.specs.ToldLines.{Told, a_paragraph_of, a_heading_on, lined, OwnTold, rows_before, IsToldAt, AreToldAfter, AreTold}
 use Rattle.wt_called_edit_laws.proofs.Among.BlockAt.{calls_of, IsRest, text_to, block_to, IsPast, IsPastOwn, past_front, past_own, beside_first, beside_front, beside_last}
 use Rattle.wt_called_edit_laws.proofs.Among.LinedParts.{IsLeft, left_none, line_front, IsLinedHere, lined_here, own_breaks, of_behind, of_front, page_rest}
 use Rattle.wt_called_edit_laws.proofs.Among.OwnItems.{from_page}
@@ -37,11 +37,18 @@ run_unmarked : (ms l others : List Item) → 1 ≤ length l → IsRun goes_on (m
 run_unmarked ms [] others some h = absurd (omega (arith, some))
 run_unmarked ms (y ∷ ys) others some h = run_behind ms y ys others h
 
-heading_here : (pages : Pages) (page : List ℕ) (n p : ℕ) (xs ms l ys qs : List Item) → IsRest pages page p (xs ++ (ms ++ (l ++ ys))) qs → last_of None xs ≡ None
+-- items of the page's own, behind marks of its own, are among its items, with calls as characters
+pub record LineThere (pages : Pages) (page : List ℕ) (ms l ys : List Item) : Type 0 where
+  pub front : List Item
+  pub behind : List Item
+  pub is : page_items page ≡ front ++ (ms ++ (l ++ behind))
+  pub place : ℕ
+  pub rest : IsRest pages page place ys behind
+
+pub line_there : (pages : Pages) (page : List ℕ) (p : ℕ) (xs ms l ys qs : List Item) → IsRest pages page p (xs ++ (ms ++ (l ++ ys))) qs → last_of None xs ≡ None
     → AreOfPage ms → AreOfPage l
-    → AreBeside (text_to pages page p xs) (text_to pages page p xs + length (sources (ms ++ l))) (expanded_page pages page).text_calls
-    → (ending l ++ ys ≡ [] → EndsClosed (sources (content l)) []) → IsRun goes_on l ys → IsLinedHeading n l → AreHeadingItems (sides_of (content l)) (text_of (content l)) (content l)
-heading_here pages page n p xs ms l ys qs r ends marks own beside closed run h =
+    → AreBeside (text_to pages page p xs) (text_to pages page p xs + length (sources (ms ++ l))) (expanded_page pages page).text_calls → LineThere pages page ms l ys
+line_there pages page p xs ms l ys qs r ends marks own beside =
     let spans : List Span = (expanded_page pages page).text_calls in
     let line : ℕ = text_to pages page p xs in
     let from : ℕ = line + length (sources ms) in
@@ -56,13 +63,25 @@ heading_here pages page n p xs ms l ys qs r ends marks own beside closed run h =
     past_own pages page line ms (l ++ ys) first.behind first.next marks (beside_front line from to spans (omega arith) whole_line) in
     let third : IsPastOwn pages page from l ys second.behind =
     past_own pages page from l ys second.behind second.next own (beside_last line from to spans (omega arith) whole_line) in
-    let front : List Item = second.next.front in
-    let page_is : page_items page ≡ front ++ (l ++ third.behind) = second.next.whole ∙ ap (λ zs. front ++ zs) third.is in
-    lined_heading n page front l third.behind ys page_is run (from_page l own) (own_breaks l own) h closed
+    record {
+      front = first.next.front;
+      behind = third.behind;
+      is = first.next.whole ∙ ap (λ zs. first.next.front ++ zs) (second.is ∙ ap (λ zs. ms ++ zs) third.is);
+      place = to;
+      rest = third.next;
+    }
+
+heading_here : (pages : Pages) (page : List ℕ) (n p : ℕ) (xs ms l ys qs : List Item) → IsRest pages page p (xs ++ (ms ++ (l ++ ys))) qs → last_of None xs ≡ None
+    → AreOfPage ms → AreOfPage l
+    → AreBeside (text_to pages page p xs) (text_to pages page p xs + length (sources (ms ++ l))) (expanded_page pages page).text_calls
+    → (ending l ++ ys ≡ [] → EndsClosed (sources (content l)) []) → IsRun goes_on l ys → IsLinedHeading n l → AreHeadingItems (sides_of (content l)) (text_of (content l)) (content l)
+heading_here pages page n p xs ms l ys qs r ends marks own beside closed run h =
+    let t : LineThere pages page ms l ys = line_there pages page p xs ms l ys qs r ends marks own beside in
+    lined_heading n page (t.front ++ ms) l t.behind ys (t.is ∙ sym (append_assoc t.front ms (l ++ t.behind))) run (from_page l own) (own_breaks l own) h closed
 
 -- ---- one block
 
-line_items : (es : List Item) (b : LinedBlock) (tail : List (List Item))
+pub line_items : (es : List Item) (b : LinedBlock) (tail : List (List Item))
     → es ++ joined (b.before ++ (((b.marks ++ b.first) ∷ b.more) ++ tail)) ≡ line_front es b ++ (b.marks ++ (own_items b ++ joined tail))
 line_items es b tail =
     let rest : List Item = own_items b ++ joined tail in
@@ -92,7 +111,7 @@ own_told pages page (a_heading_on before marks l) n p es tail qs xs some runs r 
     (λ e. subst (λ (bs : List ℕ). EndsClosed bs []) (told_source n l h (from_page l mine)) (closed (ap (λ (ys : List Item). ending ys ++ joined tail) one ∙ e))) run h in
     subst (λ (ys : List Item). AreHeadingItems (sides_of (content l)) (text_of (content l)) (content ys)) (sym one) head
 
-told_at : (pages : Pages) (page : List ℕ) (open_tables : List Bool) (t : Told) (p : ℕ) (es : List Item) (tail : List (List Item)) (qs xs : List Item)
+pub told_at : (pages : Pages) (page : List ℕ) (open_tables : List Bool) (t : Told) (p : ℕ) (es : List Item) (tail : List (List Item)) (qs xs : List Item)
     → AreRuns goes_on ((lined t).before ++ ((((lined t).marks ++ (lined t).first) ∷ (lined t).more) ++ tail)) xs → IsLeft es
     → IsRest pages page p (es ++ joined ((lined t).before ++ ((((lined t).marks ++ (lined t).first) ∷ (lined t).more) ++ tail))) qs
     → last_of None (joined (lined t).before) ≡ None → AreOfPage ((lined t).marks ++ own_items (lined t))
@@ -122,7 +141,7 @@ none_on : (calls : List OuterCall) (last : TextBlock) (open_tables : List Bool) 
 none_on calls last open_tables es [] rest h e = ap (text_from calls None) e
 none_on calls last open_tables es (t ∷ ts) rest h e = absurd (told_item es (lined t) (all_lines (map lined ts) rest) h.1.some e)
 
-closed_here : (calls : List OuterCall) (t : Told) (open_tables : List Bool) (ts : List Told) (rest : List (List Item)) → AreToldAfter (lined t).block open_tables ts rest
+pub closed_here : (calls : List OuterCall) (t : Told) (open_tables : List Bool) (ts : List Told) (rest : List (List Item)) → AreToldAfter (lined t).block open_tables ts rest
     → EndsClosed (source_of (lined t).block (lined t).text)
     (spots_source (spots_on calls (ending (own_items (lined t))) (map lined ts)) (end_on calls (ending (own_items (lined t))) (map lined ts) rest))
     → IsClosed (lined t) (all_lines (map lined ts) rest)
@@ -151,7 +170,15 @@ told_after pages page last open_tables es (t ∷ ts) behind p qs xs runs f r h o
           (subst (λ (n : ℕ). AreUntouched (calls_of pages page) (expanded_page pages page).text_calls n left (map lined ts)) l.next_at u.1),
     )
 
-all_told : (pages : Pages) (page : List ℕ) (ts : List Told) (behind : List (List Item)) → IsToldAmong pages page ts behind → AreLined (map lined ts) behind
+-- what tells the lines of blocks
+pub record AreToldLines (pages : Pages) (page : List ℕ) (ts : List Told) (behind : List (List Item)) : Type 0 where
+  pub closed : EndClosed (spots_on (calls_of pages page) [] (map lined ts)) (end_on (calls_of pages page) [] (map lined ts) behind)
+  pub are : full_lines (expanded_page pages page).items ≡ all_lines (map lined ts) behind
+  pub told : AreTold ts behind
+  pub own : AreOwnLines (map lined ts)
+  pub untouched : AreUntouched (expanded_page pages page).outer (expanded_page pages page).text_calls 0 [] (map lined ts)
+
+pub all_told : (pages : Pages) (page : List ℕ) (ts : List Told) (behind : List (List Item)) → AreToldLines pages page ts behind → AreLined (map lined ts) behind
 all_told pages page [] behind h = absurd h.told
 all_told pages page (t ∷ ts) behind h =
     let b : LinedBlock = lined t in
@@ -177,7 +204,7 @@ told_among pages page ts behind h = record {
   utf8 = h.utf8;
   closed = h.closed;
   are = h.are;
-  lined = all_told pages page ts behind h;
+  lined = all_told pages page ts behind (record { closed = h.closed; are = h.are; told = h.told; own = h.own; untouched = h.untouched });
   own = h.own;
   free = h.free;
   untouched = h.untouched;

@@ -93,6 +93,7 @@ use Rattle.wt_called_edit_laws.specs.InPieces.{AreInPieces}
 use Rattle.wt_called_edit_laws.specs.SentAsIs.{as_sent}
 use Rattle.wt_called_edit_laws.specs.Settled.{settled}
 use Rattle.wt_called_edit_laws.proofs.Beside.Making.{calls_make}
+use Rattle.wt_called_edit_laws.proofs.Beside.Uncalled.{some_sent}
 use Rattle.wt_called_edit_laws.proofs.Cells.SentAsIs.{stands_as_sent}
 use Rattle.wt_called_edit_laws.proofs.Written.Joined.{calm_written}
 use Rattle.wt_called_edit_laws.proofs.Whole.Cases.{a_group_call}
@@ -337,7 +338,7 @@ edit_of = record {
   are = (tt, (are_letters, (tt, tt)));
   plain = tt;
   calm = ((λ n. absurd n), tt);
-  fits = tt;
+  fits = some_sent block edit (tt, (are_letters, (tt, tt))) tt;
 }
 
 pub makes : MakesContentIn a_word a_paragraph source block a_label edit

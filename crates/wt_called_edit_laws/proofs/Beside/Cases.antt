@@ -68,6 +68,7 @@ use Rattle.wt_called_edit_laws.specs.Settled.{settled}
 use Rattle.wt_called_edit_laws.specs.WholeContents.{of_call}
 use Rattle.wt_called_edit_laws.specs.WrittenAnew.{StayButForOthers}
 use Rattle.wt_called_edit_laws.proofs.Beside.Making.{calls_make}
+use Rattle.wt_called_edit_laws.proofs.Beside.Uncalled.{some_sent}
 use Rattle.wt_called_edit_laws.proofs.Cells.SentAsIs.{stands_as_sent}
 use Rattle.wt_called_edit_laws.proofs.Whole.OfCall.{is_same, of_here}
 use Rattle.wt_called_edit_laws.proofs.Written.Cases.{call_part, call_read, call_sealed, call_shut, call_utf8}
@@ -235,7 +236,7 @@ edit_of = record {
   are = (are_letters.0, (tt, (are_letters.1, tt)));
   plain = tt;
   calm = ((λ n. absurd n), ((λ n. absurd n), tt));
-  fits = tt;
+  fits = some_sent block edit (are_letters.0, (tt, (are_letters.1, tt))) tt;
 }
 
 -- So it is taken, and makes the new block with its group.

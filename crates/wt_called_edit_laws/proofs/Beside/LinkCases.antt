@@ -103,6 +103,7 @@ use Rattle.wt_called_edit_laws.specs.InPieces.{AreInPieces}
 use Rattle.wt_called_edit_laws.specs.SentAsIs.{as_sent}
 use Rattle.wt_called_edit_laws.specs.Settled.{settled}
 use Rattle.wt_called_edit_laws.proofs.Beside.Making.{calls_make}
+use Rattle.wt_called_edit_laws.proofs.Beside.Uncalled.{some_sent}
 use Rattle.wt_called_edit_laws.proofs.Cells.SentAsIs.{stands_as_sent}
 use Rattle.wt_called_edit_laws.proofs.Written.Joined.{calm_written}
 use Rattle.wt_called_edit_laws.proofs.Whole.Contents.{shut_both, call_shut_parts}
@@ -451,7 +452,7 @@ edit_of = record {
   are = (tt, (are_letters, tt));
   plain = tt;
   calm = ((λ n. absurd n), tt);
-  fits = tt;
+  fits = some_sent block edit (tt, (are_letters, tt)) tt;
 }
 
 pub makes : MakesContentIn a_linker a_paragraph source block a_label edit

@@ -14,7 +14,7 @@ use Rattle.wt_guards.specs.Content.{ContentSign}
 use Rattle.wt_guards.specs.Guards.{Setting, spelled}
 use Rattle.wt_original.specs.Kept.{kept_nodes}
 use Rattle.wt_original.specs.Numbers.{counts_up}
-use Rattle.wt_original.specs.Page.{page_of}
+use Rattle.wt_original.specs.Page.{Page, page_of}
 use Rattle.wt_annotated.specs.CutTexts.{cut_texts}
 use Rattle.wt_content.specs.Content.{is_paragraph, bad_content}
 use Rattle.wt_expand.specs.PageCalls.{expanded_page}
@@ -29,7 +29,7 @@ use Rattle.wt_typed_blocks.specs.Typed.{place_of}
 use Rattle.wt_typed_blocks.specs.Edited.{Pieces, page_pieces, sent_pieces, pieces_before, page_node, sent_node, edited_before}
 use Rattle.wt_typed_blocks.specs.EditedPage.{edited_source}
 use Rattle.wt_text_edit_laws.specs.TextBlocks.{TextBlock, a_paragraph, a_heading, block_of, source_of, IsFrame}
-use Rattle.wt_beside_laws.specs.Called.{owns_in, called_shown, IsCalledIn}
+use Rattle.wt_beside_laws.specs.Called.{owns_in, called_shown, HasUncalled, IsCalledIn}
 use Rattle.wt_beside_laws.specs.ContentEdits.{content_edit, new_content}
 use Rattle.wt_beside_laws.specs.SentNodes.{AreSent}
 use Rattle.wt_beside_laws.specs.SentPieces.{TextsFit}
@@ -46,7 +46,8 @@ use Rattle.wt_called_edit_laws.specs.WholeContents.{IsWholeIn}
 use Rattle.wt_called_edit_laws.specs.WrittenAnew.{IsWrittenBeside, IsWrittenInHeading, IsWrittenIn, HoldsAnywhere}
 use Rattle.wt_called_edit_laws.proofs.Beside.Counts.{block_bare, settled_counts}
 use Rattle.wt_called_edit_laws.proofs.Beside.Found.{AreFound, nodes_found}
-use Rattle.wt_called_edit_laws.proofs.Beside.Sent.{sent_signs, pieces_sent, pieces_things, pieces_characters, pieces_line, pieces_text, pieces_show, pieces_inline}
+use Rattle.wt_called_edit_laws.proofs.Beside.Sent.{sent_signs, pieces_sent, pieces_things, pieces_characters, pieces_line, pieces_show, pieces_inline}
+use Rattle.wt_called_edit_laws.proofs.Beside.Uncalled.{sent_styled}
 use Rattle.wt_called_edit_laws.proofs.Whole.Contents.{written_whole}
 use Rattle.wt_called_edit_laws.proofs.Written.AllHeld.{written_anywhere}
 use Rattle.wt_called_edit_laws.proofs.Written.FromPage.{things_stay, beside_these, page_takes}
@@ -70,6 +71,7 @@ use Rattle.wt_beside_laws.proofs.Groups.CalledHeadings.{closing_page}
 use Rattle.wt_beside_laws.proofs.Made.Letters.{pieces_fit}
 use Rattle.wt_beside_laws.proofs.Made.Making.{takes_breaks, breaks_so}
 use Rattle.wt_beside_laws.proofs.Made.OldBlocks.{face_of}
+use Rattle.wt_beside_laws.proofs.Styled.SentStyles.{sent_signs as styled_signs}
 use Rattle.wt_called_edit_laws.proofs.Headings.FromPage.{seen_stay, head_these, head_takes}
 use Rattle.wt_called_edit_laws.proofs.Headings.Held.{head_holds, head_shows}
 use Rattle.wt_called_edit_laws.proofs.Headings.Letters.{head_letters}
@@ -148,14 +150,15 @@ record IsSentBeside (pages : Pages) (k : TextBlock) (block : Tree) (m : Label) (
 
 -- its signs are written so
 written_so : (pages : Pages) (k : TextBlock) (q : List ℕ) (block : Tree) (ps : Pieces) → IsBesideCalls pages k q block → IsCalledEditOf pages k block ps
-    → AreFound (kept_nodes block) (page_pieces ps) → AreChildrenBeside pages (page_pieces ps) → ThingsStay pages (page_things block) (things (signs k block ps))
-    → IsWrittenIn k pages (setting k block) (signs k block ps)
-written_so pages a_paragraph q block ps h e found own stay =
+    → AreFound (kept_nodes block) (page_pieces ps) → AreChildrenBeside pages (page_pieces ps) → AreSent (page_of same_node block) (sent_pieces ps)
+    → ThingsStay pages (page_things block) (things (signs k block ps)) → IsWrittenIn k pages (setting k block) (signs k block ps)
+written_so pages a_paragraph q block ps h e found own sent stay =
     let pl : Place = place_of (block_of a_paragraph) in
+    let p : Page = page_of same_node block in
     beside_these pages (page_things block) (setting a_paragraph block) (signs a_paragraph block ps) refl
     (pieces_characters pages same_node block pl ps tells_same found own e.stay e.are e.plain)
-    (pieces_text pages same_node block pl ps tells_same found own e.stay e.are e.plain e.fits) h.things stay
-written_so pages (a_heading w) q block ps h e found own stay =
+    (subst (HasUncalled (setting a_paragraph block) []) (sym (styled_signs p pl (sent_pieces ps) (sent_styled p (sent_pieces ps) sent))) e.fits) h.things stay
+written_so pages (a_heading w) q block ps h e found own sent stay =
     let pl : Place = place_of (block_of (a_heading w)) in
     head_these pages (page_things block) (setting (a_heading w) block) (signs (a_heading w) block ps) refl refl
     (pieces_line pages same_node block pl ps tells_same found own e.stay e.are e.plain e.fits)
@@ -172,11 +175,12 @@ sent_beside pages k q block m ps i h e =
     pieces_things pages same_node block pl ps tells_same found own e.stay e.are e.plain e.calm in
     let stay : ThingsStay pages (page_things block) (things (signs k block ps)) =
     subst (λ (ts : Trees). ThingsStay pages (things_with (kept_nodes block) (all_numbers ts)) (things (signs k block ps))) e.old some in
+    let sent : AreSent (page_of same_node block) (sent_pieces ps) = pieces_sent pages same_node block ps tells_same found own e.stay e.plain in
     record {
       node = node_by (kind_of (block_of k)) block (page_pieces ps) (block_kind pages k q block i) e.old;
-      sent = pieces_sent pages same_node block ps tells_same found own e.stay e.plain;
+      sent = sent;
       things_stay = stay;
-      written = written_so pages k q block ps h e found own stay;
+      written = written_so pages k q block ps h e found own sent stay;
       shows = λ j rest. pieces_show pages j same_node block pl ps rest tells_same found own e.stay e.are e.plain;
     }
 
@@ -187,9 +191,9 @@ content_is pages k block m ps w =
 
 -- ---- it is taken
 
-one_line_so : (k : TextBlock) (ps : Pieces) → TextsFitAt k ps → takes_breaks k ≡ false → AreOneLine ps
-one_line_so a_paragraph ps f e = absurd (cc)
-one_line_so (a_heading w) ps f e = f
+one_line_so : (k : TextBlock) (block : Tree) (ps : Pieces) → TextsFitAt k block ps → takes_breaks k ≡ false → AreOneLine ps
+one_line_so a_paragraph block ps f e = absurd (cc)
+one_line_so (a_heading w) block ps f e = f
 
 taken_so : (pages : Pages) (k : TextBlock) (q : List ℕ) (block : Tree) (m : Label) (ps : Pieces) → IsSettledIn pages k q block → IsSentBeside pages k block m ps
     → IsCalledEditOf pages k block ps → bad_content same_node (page_node (content_edit k block m ps)) (sent_node (content_edit k block m ps)) ≡ None
@@ -199,7 +203,7 @@ taken_so pages k q block m ps i w e =
     let breaks : is_paragraph (edit_shape (label block).kind).form ≡ takes_breaks k =
     ap (λ (j : Kind). is_paragraph (edit_shape j).form) (block_kind pages k q block i) ∙ breaks_so k in
     let fits : TextsFit (is_paragraph (edit_shape (label block).kind).form) (sent_pieces ps) =
-    subst (λ (v : Bool). TextsFit v (sent_pieces ps)) (sym breaks) (pieces_fit (takes_breaks k) ps e.stay e.are (one_line_so k ps e.fits)) in
+    subst (λ (v : Bool). TextsFit v (sent_pieces ps)) (sym breaks) (pieces_fit (takes_breaks k) ps e.stay e.are (one_line_so k block ps e.fits)) in
     ap (λ (t : Tree). bad_content same_node t new) w.node ∙ no_fault same_node block l (sent_pieces ps) w.sent fits
 
 pub source_so : (pages : Pages) (k : TextBlock) (q : List ℕ) (block : Tree) (m : Label) (ps : Pieces) → IsSettledIn pages k q block

@@ -3,7 +3,6 @@ use Rattle.std.proofs.Common.{◌≡◌, inl, inr, ℕ, ◌+◌, Bool, true, fal
 use Rattle.std.specs.Prelude.{◌||◌, ◌==◌, if◌then◌else◌, encode_utf8}
 use Rattle.std.specs.List.{flat_map, list_any}
 use Rattle.std.specs.Str.{IsUtf8, chars}
-use Rattle.std.proofs.Math.Utf8.{encodes}
 use Rattle.std.proofs.lemmas.Str.{encodes-chars}
 use Rattle.wt_tree.specs.declared.kind.Kind.{Kind}
 use Rattle.wt_tree.specs.EditShapes.{edit_shape}
@@ -26,7 +25,7 @@ use Rattle.wt_part_laws.specs.Expanded.{part_items}
 use Rattle.wt_typed_blocks.specs.Sent.{StandsAsIs}
 use Rattle.wt_typed_blocks.specs.Edited.{Pieces, no_pieces, gone, written, kept, around, new_style, page_pieces, text_node, sent_pieces, PiecesStay, pieces_before}
 use Rattle.wt_typed_blocks.specs.EditedUnmarked.{AreInline}
-use Rattle.wt_beside_laws.specs.Called.{owns_in, called_shown, HasText}
+use Rattle.wt_beside_laws.specs.Called.{owns_in, called_shown}
 use Rattle.wt_content.specs.Content.{has_break}
 use Rattle.wt_typed_blocks.proofs.TextReads.{or_parts}
 use Rattle.wt_beside_laws.specs.FlatBlocks.{AreOneLine}
@@ -45,7 +44,7 @@ use Rattle.wt_beside_laws.proofs.OwnSigns.{own_unchanged}
 use Rattle.wt_beside_laws.proofs.SentNodes.{things_append, no_things}
 use Rattle.wt_beside_laws.proofs.SentPieces.{stays_unchanged, text_sent}
 use Rattle.wt_beside_laws.proofs.SentShown.{all_encoded}
-use Rattle.wt_called_edit_laws.specs.CalledEdits.{IsGroupOrFree, AreChildrenBeside, AreGoneCalm, SomeTyped}
+use Rattle.wt_called_edit_laws.specs.CalledEdits.{IsGroupOrFree, AreChildrenBeside, AreGoneCalm}
 use Rattle.wt_called_edit_laws.specs.PageThings.{ThingsStay}
 use Rattle.wt_called_edit_laws.proofs.Beside.Found.{IsFoundAs, FoundBy, AreFound}
 
@@ -294,42 +293,6 @@ pieces_line pages same block pl (kept (tree l ts) (tree m us) ps) tells f g h a 
     (pieces_line pages same block pl ps tells f.1 g.1 h.1 a.1 n o)
 pieces_line pages same block pl (around l m is ps) tells f g h a n o = absurd n
 pieces_line pages same block pl (new_style m is ps) tells f g h a n o = absurd n
-
--- ---- text is among them
-
-none_empty : (b : ℕ) (bs : List ℕ) → [] ≡ b ∷ bs → ⊥
-none_empty b bs e = cc
-
--- a text that isn't empty has a character
-abbrev HasSome : List ℕ → Type 0
-HasSome [] = ⊥
-HasSome (c ∷ cs) = Unit {0}
-
-some_chars : (b : ℕ) (bs : List ℕ) → IsUtf8 (b ∷ bs) → HasSome (chars (b ∷ bs))
-some_chars b bs u = by (chars (b ∷ bs)) (encodes-chars (b ∷ bs) u)
-  where
-    by : (cs : List ℕ) → encodes cs ≡ b ∷ bs → HasSome cs
-    by [] e = none_empty b bs e
-    by (c ∷ cs) e = tt
-
-text_has : (cs : List ℕ) (signs : List ContentSign) → HasSome cs → HasText (map letter cs ++ signs)
-text_has [] signs h = absurd h
-text_has (c ∷ cs) signs h = tt
-
-pub pieces_text : (pages : Pages) (same : Tree → Tree → Bool) (block : Tree) (pl : Place) (ps : Pieces) → TellsSame same
-    → AreFound (kept_nodes block) (page_pieces ps) → AreChildrenBeside pages (page_pieces ps) → PiecesStay ps → AreNodesAndTexts ps → HaveNoStyle ps
-    → SomeTyped ps → HasText (sent_signs same block pl ps)
-pieces_text pages same block pl no_pieces tells f g h a n e = absurd e
-pieces_text pages same block pl (gone (tree l ts) ps) tells f g h a n e = pieces_text pages same block pl ps tells f.1 g.1 h a n e
-pieces_text pages same block pl (written x [] ps) tells f g h a n e = pieces_text pages same block pl ps tells f g h a.1 n e
-pieces_text pages same block pl (written x (c ∷ cs) ps) tells f g h a n e = text_has (chars (c ∷ cs)) (sent_signs same block pl ps) (some_chars c cs a.0)
-pieces_text pages same block pl (kept (tree l ts) (tree m us) ps) tells f g h a n e =
-    let r : IsSignOf block l ts (signs_of (page_of same block) pl (tree m us)) =
-    node_sign same block pl l m ts us tells h.0 g.0.free a.0 f.0 in
-    subst (λ (ss : List ContentSign). HasText (ss ++ sent_signs same block pl ps)) (sym r.is)
-    (pieces_text pages same block pl ps tells f.1 g.1 h.1 a.1 n e)
-pieces_text pages same block pl (around l m is ps) tells f g h a n e = absurd n
-pieces_text pages same block pl (new_style m is ps) tells f g h a n e = absurd n
 
 -- ---- what is written shows what was sent
 

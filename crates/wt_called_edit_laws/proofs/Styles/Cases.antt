@@ -259,7 +259,7 @@ edit_of = record {
   calm = ((tt, tt), (tt, (tt, tt)));
   new = (((λ e. refl), tt), (refl, refl, ((λ e. refl), tt), tt));
   free = (tt, tt);
-  some = refl;
+  some = inr (inl refl);
 }
 
 -- So it is taken, and makes the new block with its group.

@@ -15,9 +15,9 @@ use Rattle.wt_expand.specs.Work.{Pages}
 use Rattle.wt_part_laws.specs.CallPieces.{AreOwnOrGiven, call_pieces}
 use Rattle.wt_part_laws.specs.Expanded.{calls_in, part_items}
 use Rattle.wt_part_laws.specs.Rounded.{IsOwn}
-use Rattle.wt_beside_laws.proofs.Groups.CalledBlocks.{guard_parts, letter_parts}
+use Rattle.wt_beside_laws.proofs.Groups.CalledBlocks.{guard_parts, letter_parts, some_of_page}
 use Rattle.wt_beside_laws.proofs.Groups.Folders.{folder_case}
-use Rattle.wt_beside_laws.proofs.StyledGroups.Blocks.{some_of_page, style_own, styled_own, within_have}
+use Rattle.wt_beside_laws.proofs.StyledGroups.Blocks.{style_own, styled_own, within_have}
 use Rattle.wt_beside_laws.specs.Called.{GivesGroup, items_with, owns_in}
 use Rattle.wt_beside_laws.specs.Content.{guard_items, letter_items}
 use Rattle.wt_beside_laws.specs.Flat.{IsFlat}

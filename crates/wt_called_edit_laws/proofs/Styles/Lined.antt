@@ -23,13 +23,12 @@ use Rattle.wt_beside_laws.proofs.Groups.CalledLines.{items_own}
 use Rattle.wt_beside_laws.proofs.LineKinds.{guard_opens, letter_opens}
 use Rattle.wt_beside_laws.proofs.Made.Closes.{OpenFor, content_closes}
 use Rattle.wt_beside_laws.proofs.StyledGroups.Paragraphs.{given_lines, given_unled}
-use Rattle.wt_beside_laws.specs.Called.{AreGiven, owns_in}
+use Rattle.wt_beside_laws.specs.Called.{AreGiven, HasUncalled, owns_in}
 use Rattle.wt_beside_laws.specs.Content.{content_items, guard_items, letter_items}
 use Rattle.wt_beside_laws.specs.Lines.{AreCharacters}
 use Rattle.wt_beside_laws.specs.NodeItems.{node_items}
 use Rattle.wt_beside_laws.specs.Stood.{things}
 use Rattle.wt_beside_laws.specs.Styled.{StyledContent, delimiter, finished, mark_source, sign, signs_before, signs_in, styled}
-use Rattle.wt_beside_laws.specs.StyledCalls.{has_uncalled}
 use Rattle.wt_beside_laws.specs.StyledNodes.{IsPut}
 use Rattle.wt_called_edit_laws.proofs.MovedOuters.{calls_after}
 use Rattle.wt_called_edit_laws.proofs.Styles.Put.{put_open, put_outer, put_source, put_work}
@@ -63,9 +62,9 @@ thing_first s x after w r = by (is_guarded s [] (thing x ∷ after)) refl
         opens_shown (guard_items true ++ more) (guard_opens true more (λ e. let no : true ≡ false = e in absurd (cc)))
     by false g = thing_shown s x after (content_items s (thing x ∷ []) after) w g r
 
-first_shown : (s : Setting) (t : StyledContent) → s.within ≡ false → AreCharacters (signs_in t) → AreReadThings (signs_in t) → has_uncalled t ≡ true
+first_shown : (s : Setting) (t : StyledContent) → s.within ≡ false → AreCharacters (signs_in t) → AreReadThings (signs_in t) → HasUncalled s [] (signs_in t)
     → begins_shown (content_items s [] (signs_in t)) ≡ true
-first_shown s finished w v r b = cc
+first_shown s finished w v r b = ap (λ (u : Bool). begins_shown (guard_items u)) b
 first_shown s (sign (letter c) t) w v r b =
     let after : List ContentSign = signs_in t in
     let e : Bool = is_escaped s.within s.place [] c after in

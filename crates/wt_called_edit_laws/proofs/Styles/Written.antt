@@ -17,14 +17,14 @@ use Rattle.wt_beside_laws.proofs.Groups.Folders.{given_as, inside_in}
 use Rattle.wt_beside_laws.proofs.Made.Items.{PartsHave, guard_has}
 use Rattle.wt_beside_laws.proofs.Styled.SentStyles.{nowiki_alone}
 use Rattle.wt_beside_laws.proofs.Styled.StyledNodes.{nowiki_items}
-use Rattle.wt_beside_laws.specs.Called.{AllMeetWith, AreGiven, IsGivenAs, IsOfFolder, IsOwnNode, items_with, owns_in}
+use Rattle.wt_beside_laws.specs.Called.{AllMeetWith, AreGiven, AreSomeOfPage, HasUncalled, IsGivenAs, IsOfFolder, IsOwnNode, items_with, owns_in}
 use Rattle.wt_beside_laws.specs.Content.{guard_items}
 use Rattle.wt_beside_laws.specs.Flat.{IsFlat}
 use Rattle.wt_beside_laws.specs.FlatBlocks.{AreSealed, IsSealed}
 use Rattle.wt_beside_laws.specs.Lines.{AreCharacters}
 use Rattle.wt_beside_laws.specs.NodeItems.{node_items}
 use Rattle.wt_beside_laws.specs.Styled.{AreNested, StyledContent, delimiter, finished, mark_source, sign, signs_before, signs_in, styled}
-use Rattle.wt_beside_laws.specs.StyledCalls.{AreOwnAt, AreSomeOfPage, IsOwnAt, IsStyledCalled, has_uncalled, owns_left}
+use Rattle.wt_beside_laws.specs.StyledCalls.{AreOwnAt, IsOwnAt, IsStyledCalled, owns_left}
 use Rattle.wt_beside_laws.specs.StyledNodes.{IsPut}
 use Rattle.wt_called_edit_laws.proofs.Styles.Free.{NoCallWithin}
 use Rattle.wt_called_edit_laws.proofs.Styles.Put.{put_items, put_own, put_part, put_read, put_sealed, put_source, put_utf8}
@@ -43,7 +43,7 @@ pub record IsStyledWritten (pages : Pages) (s : Setting) (t : StyledContent) : T
   pub nested : AreNested false false t
   pub free : NoCallWithin false t
   pub meet : (i : ℕ) → AllMeetWith s [] [] (signs_in t) (owns_in pages i (signs_in t))
-  pub some : has_uncalled t ≡ true
+  pub some : HasUncalled s [] (signs_in t)
 
 -- ---- what holds of each
 

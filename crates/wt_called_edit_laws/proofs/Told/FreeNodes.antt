@@ -86,7 +86,7 @@ alone_plain u h = record {
   none_empty = (h.holds, h.full, tt);
 }
 
-block_ungrouped : (k : TextBlock) (q : List ℕ) → OwnRead k q → IsFullTree (block_tree k q) → HasNoGroups (source_of k q)
+pub block_ungrouped : (k : TextBlock) (q : List ℕ) → OwnRead k q → IsFullTree (block_tree k q) → HasNoGroups (source_of k q)
 block_ungrouped k q r h =
     let means : meaning (page_items (source_of k q)) ≡ body_with (block_tree k q ∷ []) = content_means k q r.is r.unended in
     subst HasNoGroup (sym (ap (annotated [] (group_data [])) means ∙ plain_tree (block_tree k q ∷ []) (alone_plain (block_tree k q) h)))
@@ -106,7 +106,7 @@ nothing_open : (r : Option Ranges) → ends_open (before [] r) ≡ false
 nothing_open None = refl
 nothing_open (Some r) = ap ends_open (none_taken r.start)
 
-tree_untangled : (t : Tree) → HasNoGroup t → any_ends_open (nodes_in t) ≡ false → is_tangled (of_items []) [] t ≡ false
+pub tree_untangled : (t : Tree) → HasNoGroup t → any_ends_open (nodes_in t) ≡ false → is_tangled (of_items []) [] t ≡ false
 tree_untangled (tree l ts) g e =
     untangled (of_items []) [] l ts g.1 (no_text_call l.ranges) (ap (λ (v : Bool). v || any_ends_open ts) (nothing_open l.ranges) ∙ e)
 
@@ -167,12 +167,12 @@ or_right : (u v : Bool) → (u || v) ≡ false → v ≡ false
 or_right true v e = absurd (cc)
 or_right false v e = e
 
-tree_shut : (items : Expanded) (page : List ℕ) (t : Tree) → is_tangled items page t ≡ false → any_ends_open (nodes_in t) ≡ false
+pub tree_shut : (items : Expanded) (page : List ℕ) (t : Tree) → is_tangled items page t ≡ false → any_ends_open (nodes_in t) ≡ false
 tree_shut items page (tree l ts) e =
     let rest = or_right (touches_text_call items.text_calls l.ranges) ((ends_open (before page l.ranges) || any_ends_open ts) || has_faulty_group items ts) e in
     or_right (ends_open (before page l.ranges)) (any_ends_open ts) (or_left (ends_open (before page l.ranges) || any_ends_open ts) (has_faulty_group items ts) rest)
 
-same_shut : (t u : Tree) → placeless t ≡ placeless u → any_ends_open (nodes_in u) ≡ false → any_ends_open (nodes_in t) ≡ false
+pub same_shut : (t u : Tree) → placeless t ≡ placeless u → any_ends_open (nodes_in u) ≡ false → any_ends_open (nodes_in t) ≡ false
 same_shut (tree l ts) (tree m us) e h =
     let inside : all_placeless ts ≡ all_placeless us = ap nodes_in e in
     sym (opens_same ts) ∙ ap any_ends_open inside ∙ opens_same us ∙ h

@@ -36,11 +36,12 @@ use Rattle.wt_part_laws.specs.Standing.{standing}
 use Rattle.wt_text_edit_laws.specs.LonePages.{page_chars}
 use Rattle.wt_text_edit_laws.specs.ParagraphParts.{joined_parts}
 use Rattle.wt_text_edit_laws.specs.TextBlocks.{a_paragraph}
+use Rattle.wt_beside_laws.specs.NodeItems.{node_items}
 use Rattle.wt_beside_laws.specs.Called.{items_with, owns_in, parts_with, GivesGroup, ArePageParts, StaysAsItIs, IsOfFolder, AreOfFolder, IsCalledIn}
 use Rattle.wt_beside_laws.specs.Content.{guard_items, letter_items}
 use Rattle.wt_beside_laws.specs.Given.{AreGivenBy, GivesSigns}
 use Rattle.wt_beside_laws.proofs.LineShown.{guard_tree}
-use Rattle.wt_beside_laws.proofs.Groups.CalledBlocks.{guard_parts, letter_parts, parts_own}
+use Rattle.wt_beside_laws.proofs.Groups.CalledBlocks.{guard_parts, letter_parts, parts_own, some_of_page}
 use Rattle.wt_beside_laws.proofs.Groups.CalledParagraphs.{called_parts}
 use Rattle.wt_beside_laws.proofs.Groups.Folders.{folder_case, all_inside, called_in}
 use Rattle.wt_called_edit_laws.specs.WholeContents.{of_call, AreGroups, IsShutNode, AreShutParts, AreShutCalls, IsShut, AreShut, HoldsGroups, IsWholeIn}
@@ -211,7 +212,7 @@ pub thing_none : (pages : Pages) (i j : ℕ) (t : Thing) → IsOfFolder t.role p
 thing_none pages i j t h l = elim (folder_case t.role pages t h) [
   | inl k ↦
       let stays : StaysAsItIs pages t = k.0 in
-      page_none j (line_parts (part_items pages i t.source)) (subst (λ (xs : List Item). ArePageParts (line_parts xs)) (sym (stays.items i)) stays.own)
+      page_none j (line_parts (part_items pages i t.source)) (subst (λ (xs : List Item). ArePageParts (line_parts xs)) (sym (stays.items i)) (some_of_page (line_parts (node_items t.source)) stays.own))
   | inr k ↦
       let group = k.2 i in
       let gives : GivesSigns i (part_items pages i t.source) = group.gives in
@@ -310,7 +311,7 @@ groups_from pages all i s before (thing t ∷ after) h f =
       | inl k ↦
           let stays : StaysAsItIs pages t = k.0 in
           groups_page all (line_parts (part_items pages i t.source)) more
-          (subst (λ (xs : List Item). ArePageParts (line_parts xs)) (sym (stays.items i)) stays.own) later
+          (subst (λ (xs : List Item). ArePageParts (line_parts xs)) (sym (stays.items i)) (some_of_page (line_parts (node_items t.source)) stays.own)) later
       | inr k ↦ group_here pages all i s t k.0 before after k.2 h.1 f later
     ])
 

@@ -41,9 +41,9 @@ use Rattle.wt_part_laws.proofs.OwnWalks.{last_own, text_own, has_page}
 use Rattle.wt_part_laws.proofs.Recuts.{texts_same}
 use Rattle.wt_part_laws.proofs.Sources.{standing_source}
 use Rattle.wt_text_edit_laws.proofs.Blocks.Untangled.{flat_same, open_same}
-use Rattle.wt_beside_laws.specs.Given.{given_glyphs, BeginsApart, GivesSigns}
+use Rattle.wt_beside_laws.specs.Given.{GivenSign, given_glyphs, BeginsGiven, AreGivenSigns, GivesSigns}
 use Rattle.wt_beside_laws.proofs.Groups.Faults.{no_fault}
-use Rattle.wt_beside_laws.proofs.Groups.GivenTiles.{given_are}
+use Rattle.wt_beside_laws.proofs.Groups.GivenTiles.{given_are, some_glyph}
 use Rattle.wt_called_edit_laws.specs.Settled.{settled, all_settled}
 use Rattle.wt_called_edit_laws.specs.WholeContents.{of_call, IsShutNode, AreShutParts}
 use Rattle.wt_called_edit_laws.proofs.SettledNodes.{settled_open, placeless_groupless, settled_groupless}
@@ -237,10 +237,14 @@ group_faults : (e : Expanded) (n a j : ℕ) (ts : ItemTrees)
     ≡ is_faulty (items_alone e.outer e.items (range_of e.outer a j)) (all_placeless (all_unplaced ts))
 group_faults e n a j ts = refl
 
+some_signs : (word : Bool) (signs : List GivenSign) → BeginsGiven signs → AreGivenSigns word signs → given_glyphs signs ≡ [] → ⊥
+some_signs word [] b h e = b
+some_signs word (x ∷ signs) b h e = some_glyph word x signs h e
+
 pub some_items : (j : ℕ) (xs : List Item) → GivesSigns j xs → (y : Item) × (ys : List Item) × (xs ≡ y ∷ ys)
 some_items j [] h =
     let glyphs : [] ≡ given_glyphs h.signs = ap (map glyph_of) h.is ∙ given_are j h.signs in
-    absurd (subst BeginsApart (sym glyphs) h.begins)
+    absurd (some_signs false h.signs h.begins h.are (sym glyphs))
 some_items j (y ∷ ys) h = (y, ys, refl)
 
 group_fine : (e : Expanded) (n a j : ℕ) (ts : List ItemTree) → (call_span e.outer j).0 ≡ a → AtPlaces e.outer 0 None e.items → AreOnes e.items

@@ -7,7 +7,7 @@ use Rattle.wt_expand.specs.Work.{Pages}
 use Rattle.wt_tiles.specs.Glyphs.{glyph_of}
 use Rattle.wt_part_laws.specs.Expanded.{part_items}
 use Rattle.wt_text_edit_laws.specs.TextBlocks.{a_paragraph}
-use Rattle.wt_beside_laws.specs.Called.{owns_in, AllMeetWith, StaysAsItIs, IsOfFolder, AreOfFolder, HasText}
+use Rattle.wt_beside_laws.specs.Called.{owns_in, AllMeetWith, StaysAsItIs, IsOfFolder, AreOfFolder, HasUncalled}
 use Rattle.wt_beside_laws.specs.Cuts.{own_glyphs}
 use Rattle.wt_beside_laws.specs.FlatBlocks.{AreSealed}
 use Rattle.wt_beside_laws.specs.Lines.{AreCharacters}
@@ -109,7 +109,7 @@ all_meet_so pages i s signs h = all_beside s [] [] signs (owns_in pages i signs)
 
 -- ---- so it is such a paragraph
 
-pub beside_these : (pages : Pages) (olds : List Thing) (s : Setting) (signs : List ContentSign) → s.within ≡ false → AreCharacters signs → HasText signs
+pub beside_these : (pages : Pages) (olds : List Thing) (s : Setting) (signs : List ContentSign) → s.within ≡ false → AreCharacters signs → HasUncalled s [] signs
     → ArePageThings pages olds → ThingsStay pages olds (things signs) → IsWrittenBeside pages s signs
 beside_these pages olds s signs w v b h k =
     let own : ArePageThings pages (things signs) = things_stay pages olds (things signs) k h in
@@ -156,7 +156,7 @@ sources_of (letter c ∷ after) = sources_of after
 sources_of (thing t ∷ after) = ap (λ (bs : List (List ℕ)). t.source ∷ bs) (sources_of after)
 
 pub page_takes : (pages : Pages) (bs : List (List ℕ)) (olds : List Thing) (s : Setting) (signs : List ContentSign) → AreInPieces pages bs
-    → StayButForOthers pages bs (thing_sources olds) → ArePageThings pages olds → s.within ≡ false → AreCharacters signs → HasText signs
+    → StayButForOthers pages bs (thing_sources olds) → ArePageThings pages olds → s.within ≡ false → AreCharacters signs → HasUncalled s [] signs
     → ThingsStay pages olds (things signs) → IsNewContentIn pages a_paragraph (pieces_source bs) (spelled s signs)
 page_takes pages bs olds s signs p q h w v b k =
     pieces_anew pages bs s signs p (beside_these pages olds s signs w v b h k)

@@ -22,7 +22,7 @@ use Rattle.wt_text_edit_laws.specs.TextBetween.{StandsBehind}
 use Rattle.wt_text_edit_laws.specs.TextBlocks.{a_paragraph}
 use Rattle.wt_text_edit_laws.proofs.Between.ClosingTags.{Unclosed, unclosed_behind}
 use Rattle.wt_text_edit_laws.proofs.Prose.InFront.{Reads, reads_nothing, read_break, read_items}
-use Rattle.wt_beside_laws.specs.Called.{items_with, owns_in, HasText, IsCalledIn, IsCalledContent}
+use Rattle.wt_beside_laws.specs.Called.{items_with, owns_in, HasUncalled, IsCalledIn, IsCalledContent}
 use Rattle.wt_beside_laws.specs.Content.{guard_items, letter_items, content_items}
 use Rattle.wt_beside_laws.specs.Cuts.{own_glyphs}
 use Rattle.wt_beside_laws.specs.Lines.{AreCharacters}
@@ -107,9 +107,9 @@ thing_shown s t after more w g h = elim h.source [
   | inr c ↦ call_shown t.source more c.0
 ]
 
-signs_shown : (s : Setting) (signs : List ContentSign) → s.within ≡ false → AreCharacters signs → AreReadThings signs → HasText signs
+signs_shown : (s : Setting) (signs : List ContentSign) → s.within ≡ false → AreCharacters signs → AreReadThings signs → HasUncalled s [] signs
     → begins_shown (content_items s [] signs) ≡ true
-signs_shown s [] w v r b = absurd b
+signs_shown s [] w v r b = ap (λ (u : Bool). begins_shown (guard_items u)) b
 signs_shown s (letter c ∷ after) w v r b =
     let e : Bool = is_escaped s.within s.place [] c after in
     let more : List Item = content_items s (letter c ∷ []) after in

@@ -14,7 +14,7 @@ use Rattle.wt_expand.specs.PageCalls.{expanded_page}
 use Rattle.wt_part_laws.specs.MovedCalls.{AreMoved}
 use Rattle.wt_text_edit_laws.specs.NoCalls.{AreUnbraced}
 use Rattle.wt_text_edit_laws.specs.TextBlocks.{a_paragraph}
-use Rattle.wt_beside_laws.specs.Called.{HasText}
+use Rattle.wt_beside_laws.specs.Called.{HasUncalled}
 use Rattle.wt_beside_laws.specs.Lines.{AreCharacters}
 use Rattle.wt_beside_laws.specs.Stood.{things}
 use Rattle.wt_beside_laws.proofs.Groups.Cases.{a_word, call, in_paragraph, gives_b}
@@ -73,7 +73,7 @@ anew_by_hand = pieces_anew a_word pieces in_paragraph other in_pieces now stay
 of_page : ArePageThings a_word (call ∷ [])
 of_page = (record { folder = gives_b; read = call_read; part = call_part; sealed = call_sealed; shut = call_shut; utf8 = call_utf8 }, tt, tt)
 
-any_texts : (signs : List ContentSign) → AreCharacters signs → HasText signs → things signs ≡ call ∷ []
+any_texts : (signs : List ContentSign) → AreCharacters signs → HasUncalled in_paragraph [] signs → things signs ≡ call ∷ []
     → IsNewContentIn a_word a_paragraph (pieces_source pieces) (spelled in_paragraph signs)
 any_texts signs v b i =
     page_takes a_word pieces (call ∷ []) in_paragraph signs in_pieces stay of_page refl v b (subst (ThingsStay a_word (call ∷ [])) (sym i) (inl (refl, tt)))

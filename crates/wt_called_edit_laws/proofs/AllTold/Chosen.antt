@@ -1,0 +1,186 @@
+-- Which blocks of a page with calls are told by its lines: whether one is can be decided.
+use Rattle.std.proofs.Common.{arith, ◌≡◌, ◌<◌, ◌≤◌, ◌⊎◌, inl, inr, ℕ, zero, suc, ◌+◌, Bool, true, false, Option, Some, None, List, [], ◌∷◌, ◌++◌, length, map, refl, sym}
+use Rattle.wt_span.specs.declared.form.ItemForm.{ItemForm}
+use Rattle.wt_span.specs.declared.form.ItemForm.TheVariants as form
+use Rattle.wt_span.specs.Items.{Item, char, whole, call_of, sign, sources}
+use Rattle.wt_span.specs.Origins.{Span, Expanded}
+use Rattle.wt_tree.specs.declared.kind.Ranges.{Ranges}
+use Rattle.wt_tree.specs.Tiling.{is_group, HasNoGroup, NoneIsGroup}
+use Rattle.wt_tree.specs.Tree.{Tree, tree, Trees, none, more}
+use Rattle.wt_annotated.specs.Seams.{last_of, text_from}
+use Rattle.wt_expand.specs.PageCalls.{expanded_page}
+use Rattle.wt_expand.specs.Work.{Pages}
+use Rattle.wt_lines.specs.Lines.{content}
+use Rattle.wt_tables.specs.Parts.{joined}
+use Rattle.wt_part_laws.specs.Standing.{standing}
+use Rattle.wt_selser.specs.Edits.{is_tangled}
+use Rattle.wt_text_edit_laws.specs.LonePages.{of_items}
+use Rattle.wt_text_edit_laws.specs.NoCalls.{Brace, opening, closing, braces, NoneClose, NonePairs, CallsNothing}
+use Rattle.wt_text_edit_laws.specs.PageCuts.{EndsClosed, IsFreeBlock}
+use Rattle.wt_text_edit_laws.specs.Parts.{HasNoGroups, part_tree}
+use Rattle.wt_text_edit_laws.specs.TextBlocks.{TextBlock, source_of, block_tree}
+use Rattle.wt_called_edit_laws.specs.AllTold.{IsOwnBehind}
+use Rattle.wt_called_edit_laws.specs.Covered.{IsBeside, IfGroup, NoGroupAt, NoneGroupAt}
+use Rattle.wt_called_edit_laws.specs.Groups.{called_tree}
+use Rattle.wt_called_edit_laws.specs.LinedAmong.{IsNoFunction, AreOfPage, AreBeside}
+use Rattle.wt_called_edit_laws.specs.ToldLines.{Told, lined}
+use Rattle.wt_called_edit_laws.proofs.AllTold.ClosedLines.{closed_decided}
+use Rattle.wt_called_edit_laws.proofs.AllTold.Scans.{Decided, Asked, Answered, both_decided, three_decided, bool_decided}
+
+-- ---- what is asked of each
+
+-- by itself it has no group, and isn't tangled
+abbrev pub IsFreeAlone : TextBlock → List ℕ → Type 0
+IsFreeAlone k q = HasNoGroups (source_of k q) × (is_tangled (of_items []) [] (standing 0 [] (block_tree k q)) ≡ false)
+
+pub free_of : (k : TextBlock) (q : List ℕ) → IsFreeAlone k q → IsFreeBlock k q
+free_of k q h = record {
+  ungrouped = h.0;
+  untangled = record { items = of_items []; page = []; number = 0; before = []; untangled = h.1 };
+}
+
+-- Behind these items its lines are the page's own, no group has its first byte, and a line break behind it is read as one.
+pub record IsChosen (pages : Pages) (page : List ℕ) (front : List Item) (t : Told) : Type 0 where
+  pub place : IsOwnBehind (expanded_page pages page) front t
+  pub outside : NoGroupAt (length (text_from (expanded_page pages page).outer None (front ++ (lined t).marks))) (called_tree pages page)
+  pub free : IsFreeAlone (lined t).block (lined t).text
+  pub closed : EndsClosed (source_of (lined t).block (lined t).text) []
+
+abbrev pub chosen : Pages → List ℕ → Asked
+chosen pages page front t = IsChosen pages page front t
+
+-- ---- numbers and calls
+
+pub less_or : (m n : ℕ) → (m ≤ n) ⊎ (n < m)
+less_or zero n = inl (omega arith)
+less_or (suc m) zero = inr (omega arith)
+less_or (suc m) (suc n) = by (less_or m n)
+  where
+    by : (m ≤ n) ⊎ (n < m) → (suc m ≤ suc n) ⊎ (suc n < suc m)
+    by (inl h) = inl (omega (arith, h))
+    by (inr h) = inr (omega (arith, h))
+
+or_decided : (A B : Type 0) → Decided A → Decided B → Decided (A ⊎ B)
+or_decided A B (inl a) b = inl (inl a)
+or_decided A B (inr f) (inl b) = inl (inr b)
+or_decided A B (inr f) (inr g) = inr (by f g)
+  where
+    by : (A → ⊥) → (B → ⊥) → A ⊎ B → ⊥
+    by f g (inl a) = f a
+    by f g (inr b) = g b
+
+most_decided : (m n : ℕ) → Decided (m ≤ n)
+most_decided m n = by (less_or m n)
+  where
+    by : (m ≤ n) ⊎ (n < m) → Decided (m ≤ n)
+    by (inl h) = inl h
+    by (inr h) = inr (λ g. omega (arith, h, g))
+
+none_decided : (o : Option ℕ) → Decided (o ≡ None)
+none_decided None = inl refl
+none_decided (Some k) = inr (λ e. absurd (cc))
+
+-- ---- the page's own items
+
+form_decided : (f : ItemForm) (o : Option ℕ) (bs : List ℕ) → Decided (IsNoFunction (whole f o bs))
+form_decided form.Chars o bs = inl (λ e. cc)
+form_decided (form.Entity c) o bs = inl (λ e. cc)
+form_decided form.Nowiki o bs = inl (λ e. cc)
+form_decided form.Extension o bs = inl (λ e. cc)
+form_decided form.Function o bs = inr (λ n. n refl)
+form_decided form.Comment o bs = inl (λ e. cc)
+form_decided form.Include o bs = inl (λ e. cc)
+form_decided form.Hidden o bs = inl (λ e. cc)
+form_decided form.EmptyCall o bs = inl (λ e. cc)
+
+function_decided : (x : Item) → Decided (IsNoFunction x)
+function_decided (char o b) = inl tt
+function_decided (whole f o bs) = form_decided f o bs
+
+own_decided : (xs : List Item) → Decided (AreOfPage xs)
+own_decided [] = inl tt
+own_decided (x ∷ xs) = three_decided (call_of x ≡ None) (IsNoFunction x) (AreOfPage xs) (none_decided (call_of x)) (function_decided x) (own_decided xs)
+
+-- ---- braces
+
+close_decided : (bs : List Brace) → Decided (NoneClose bs)
+close_decided [] = inl tt
+close_decided (opening ∷ bs) = close_decided bs
+close_decided (closing ∷ bs) = inr (λ h. h)
+
+pairs_decided : (bs : List Brace) → Decided (NonePairs bs)
+pairs_decided [] = inl tt
+pairs_decided (opening ∷ bs) = close_decided bs
+pairs_decided (closing ∷ bs) = pairs_decided bs
+
+beside_decided : (from to : ℕ) (ss : List Span) → Decided (AreBeside from to ss)
+beside_decided from to [] = inl tt
+beside_decided from to (s ∷ ss) =
+    both_decided ((s.1 ≤ from) ⊎ (to ≤ s.0)) (AreBeside from to ss)
+    (or_decided (s.1 ≤ from) (to ≤ s.0) (most_decided s.1 from) (most_decided to s.0)) (beside_decided from to ss)
+
+pub place_decided : (e : Expanded) (front : List Item) (t : Told) → Decided (IsOwnBehind e front t)
+place_decided e front t =
+    let own : List Item = joined ((lined t).first ∷ (lined t).more) in
+    let all : List Item = (lined t).marks ++ own in
+    let from : ℕ = length (text_from e.outer None front) in
+    by (none_decided (last_of None front)) (own_decided all) (pairs_decided (braces (map sign (content own))))
+    (beside_decided from (from + length (sources all)) e.text_calls)
+  where
+    by : Decided (last_of None front ≡ None) → Decided (AreOfPage ((lined t).marks ++ joined ((lined t).first ∷ (lined t).more)))
+        → Decided (CallsNothing (content (joined ((lined t).first ∷ (lined t).more))))
+        → Decided (AreBeside (length (text_from e.outer None front))
+        (length (text_from e.outer None front) + length (sources ((lined t).marks ++ joined ((lined t).first ∷ (lined t).more)))) e.text_calls)
+        → Decided (IsOwnBehind e front t)
+    by (inl a) (inl b) (inl c) (inl d) = inl (record { ends = a; own = b; calm = c; beside = d })
+    by (inr f) b c d = inr (λ h. f h.ends)
+    by (inl a) (inr f) c d = inr (λ h. f h.own)
+    by (inl a) (inl b) (inr f) d = inr (λ h. f h.calm)
+    by (inl a) (inl b) (inl c) (inr f) = inr (λ h. f h.beside)
+
+-- ---- groups
+
+range_decided : (b : ℕ) (r : Option Ranges) → Decided (IsBeside b r)
+range_decided b None = inl tt
+range_decided b (Some r) = or_decided (b < r.start) (r.end ≤ b) (most_decided (suc b) r.start) (most_decided r.end b)
+
+if_decided : (v : Bool) (A B : Type 0) → Decided A → Decided B → Decided (IfGroup v A B)
+if_decided true A B a b = a
+if_decided false A B a b = b
+
+mutual
+  at_decided : (b : ℕ) (t : Tree) → Decided (NoGroupAt b t)
+  at_decided b (tree l ts) = if_decided (is_group l.kind) (IsBeside b l.ranges) (NoneGroupAt b ts) (range_decided b l.ranges) (among_decided b ts)
+
+  among_decided : (b : ℕ) (ts : Trees) → Decided (NoneGroupAt b ts)
+  among_decided b none = inl tt
+  among_decided b (more t ts) = both_decided (NoGroupAt b t) (NoneGroupAt b ts) (at_decided b t) (among_decided b ts)
+
+mutual
+  group_decided : (t : Tree) → Decided (HasNoGroup t)
+  group_decided (tree l ts) = both_decided (is_group l.kind ≡ false) (NoneIsGroup ts) (bool_decided (is_group l.kind) false) (groups_decided ts)
+
+  groups_decided : (ts : Trees) → Decided (NoneIsGroup ts)
+  groups_decided none = inl tt
+  groups_decided (more t ts) = both_decided (HasNoGroup t) (NoneIsGroup ts) (group_decided t) (groups_decided ts)
+
+free_decided : (k : TextBlock) (q : List ℕ) → Decided (IsFreeAlone k q)
+free_decided k q =
+    both_decided (HasNoGroups (source_of k q)) (is_tangled (of_items []) [] (standing 0 [] (block_tree k q)) ≡ false) (group_decided (part_tree (source_of k q)))
+    (bool_decided (is_tangled (of_items []) [] (standing 0 [] (block_tree k q))) false)
+
+pub chosen_decided : (pages : Pages) (page : List ℕ) → Answered (chosen pages page)
+chosen_decided pages page front t =
+    by (place_decided (expanded_page pages page) front t)
+    (at_decided (length (text_from (expanded_page pages page).outer None (front ++ (lined t).marks))) (called_tree pages page)) (free_decided (lined t).block (lined t).text)
+    (closed_decided (source_of (lined t).block (lined t).text))
+  where
+    by : Decided (IsOwnBehind (expanded_page pages page) front t)
+        → Decided (NoGroupAt (length (text_from (expanded_page pages page).outer None (front ++ (lined t).marks))) (called_tree pages page))
+        → Decided (IsFreeAlone (lined t).block (lined t).text) → Decided (EndsClosed (source_of (lined t).block (lined t).text) [])
+        → Decided (IsChosen pages page front t)
+    by (inl a) (inl b) (inl c) (inl d) = inl (record { place = a; outside = b; free = c; closed = d })
+    by (inr f) b c d = inr (λ h. f h.place)
+    by (inl a) (inr f) c d = inr (λ h. f h.outside)
+    by (inl a) (inl b) (inr f) d = inr (λ h. f h.free)
+    by (inl a) (inl b) (inl c) (inr f) = inr (λ h. f h.closed)
