@@ -1,5 +1,5 @@
 -- A block of the page by its lines has the nodes of these lines, and what is sent for it is a content that is read sign by sign.
-use Rattle.std.proofs.Common.{arith, ◌≡◌, ℕ, ◌+◌, ◌<◌, Bool, false, List, ◌++◌, length, refl, sym, ap, ◌∙◌, subst}
+use Rattle.std.proofs.Common.{arith, ◌≡◌, ℕ, ◌+◌, ◌<◌, Bool, false, List, [], ◌++◌, length, refl, sym, ap, ◌∙◌, subst}
 use Rattle.wt_span.specs.Items.{Item}
 use Rattle.wt_tree.specs.Kinds.{is_leaf}
 use Rattle.wt_tree.specs.Tiling.{HasNoGroup, NoneIsGroup}
@@ -20,6 +20,7 @@ use Rattle.wt_beside_laws.specs.Led.{AreMarksLed}
 use Rattle.wt_beside_laws.specs.Content.{AreKept}
 use Rattle.wt_beside_laws.specs.Flat.{IsFlatContent}
 use Rattle.wt_beside_laws.specs.Lines.{AreCharacters}
+use Rattle.wt_beside_laws.specs.Nodes.{AllStayOpen}
 use Rattle.wt_beside_laws.specs.OwnSigns.{own_signs, HaveOwn, IsFlatBlock}
 use Rattle.wt_beside_laws.specs.PageBlocks.{AreUnstyled, AreShut, ShowSources, AreSoIn, IsBlockOfLines}
 use Rattle.wt_text_edit_laws.specs.ParagraphParts.{joined_parts}
@@ -97,14 +98,14 @@ block_nodes ls block f u b =
 pub sent_content : (same : Tree → Tree → Bool) (s : Setting) (pl : Place) (ls : List (List Item)) (block : Tree) (news : Trees) → TellsSame same → s.within ≡ false
     → AreFlatLines ls → AreUnstyled ls → IsBlockOfLines ls block → AreKept (signs_of_lines (length (label block).opening) ls)
     → AreSent (page_of same block) news → numbers news ≡ numbers (children_of block) → AreCharacters (signs_of_all (page_of same block) pl news)
-    → AreMarksLed (signs_of_all (page_of same block) pl news)
+    → AreMarksLed (signs_of_all (page_of same block) pl news) → AllStayOpen s [] (signs_of_all (page_of same block) pl news)
     → IsFlatContent s (signs_of_all (page_of same block) pl news)
-sent_content same s pl ls block news tells within f u b kept sent counted characters led =
+sent_content same s pl ls block news tells within f u b kept sent counted characters led unclosed =
     let flat : IsFlatBlock block = flat_block ls block f u b in
     let nodes : things (signs_of_all (page_of same block) pl news) ≡ things (signs_of_lines (length (label block).opening) ls) =
     same_nodes (page_of same block) pl (children_of block) news (own_sent same block tells flat) sent counted
     ∙ ap things (own_content same block pl tells flat) ∙ block_nodes ls block f u b in
-    flat_content s ls (length (label block).opening) (signs_of_all (page_of same block) pl news) within f kept characters led nodes
+    flat_content s ls (length (label block).opening) (signs_of_all (page_of same block) pl news) within f kept characters led nodes unclosed
 
 -- ---- what its nodes show
 

@@ -1,5 +1,5 @@
 -- What is written of a content, sign by sign, is flat tiles again, and their sources hold what its sources hold.
-use Rattle.std.proofs.Common.{arith, ◌≡◌, ℕ, suc, ◌+◌, ◌==◌, Bool, true, false, Option, Some, None, List, [], ◌∷◌, ◌++◌, length, map, take, drop, refl, sym, ap, ◌∙◌, subst, inl, inr, append-nil}
+use Rattle.std.proofs.Common.{arith, ◌≡◌, ℕ, suc, ◌+◌, ◌==◌, Bool, true, false, Option, Some, None, List, [], ◌∷◌, ◌++◌, length, map, take, drop, refl, sym, ap, ◌∙◌, subst, inl, append-nil}
 use Rattle.std.specs.Prelude.{codes, encode_utf8, if◌then◌else◌}
 use Rattle.std.specs.Fmt.{digits}
 use Rattle.std.specs.Str.{chars, IsUtf8}
@@ -13,8 +13,6 @@ use Rattle.wt_span.specs.declared.form.ItemForm.TheVariants as form
 use Rattle.wt_span.specs.Comments.{comment_len}
 use Rattle.wt_span.specs.Items.{Item, char, whole, sources}
 use Rattle.wt_span.specs.Lexemes.{form_at as lexeme_at}
-use Rattle.wt_guards.specs.declared.role.Role.{Role}
-use Rattle.wt_guards.specs.declared.role.Role.TheVariants.{Link, External, Bare, Switch, Toggle, Mark, Group, Function, Node}
 use Rattle.wt_guards.specs.Content.{ContentSign, Thing, letter, thing}
 use Rattle.wt_guards.specs.Guards.{nowiki}
 use Rattle.wt_guards.specs.Letters.{reference}
@@ -29,14 +27,9 @@ use Rattle.wt_tiles.specs.declared.glyph.Glyph.TheVariants as glyph
 use Rattle.wt_tiles.specs.declared.shape.Shape.{Shape}
 use Rattle.wt_tiles.specs.declared.shape.TileKind.{TileKind}
 use Rattle.wt_tiles.specs.declared.shape.TileKind.TheVariants as kind
-use Rattle.wt_tiles.specs.declared.tag.Tag.{Tag}
 use Rattle.wt_tiles.specs.Contexts.{in_line}
-use Rattle.wt_tiles.specs.Glyphs.{byte_glyphs}
 use Rattle.wt_tiles.specs.Links.{leaf}
-use Rattle.wt_tiles.specs.Tags.{tag_at}
-use Rattle.wt_tiles.specs.Tiles.{size, Cut, chars as run, closed, pair_or_island, parts as tile_parts, tiles}
-use Rattle.wt_tiles.specs.Urls.{bare_url_at}
-use Rattle.wt_tiles.proofs.TagInsides.{no_tag}
+use Rattle.wt_tiles.specs.Tiles.{size, Cut, chars as run, closed, parts as tile_parts, tiles}
 use Rattle.wt_text_edit_laws.specs.LonePages.{page_chars}
 use Rattle.wt_text_edit_laws.specs.TextBetween.{EndsBy}
 use Rattle.wt_text_edit_laws.proofs.Texts.TypedItems.{references}
@@ -44,100 +37,22 @@ use Rattle.wt_beside_laws.specs.Content.{AreKept, guard_items, letter_items}
 use Rattle.wt_beside_laws.specs.Cuts.{add_chars, add_tile, own_glyphs, own_form, add_node, guard_cut, letter_cut}
 use Rattle.wt_beside_laws.specs.Flat.{IsFlat}
 use Rattle.wt_beside_laws.specs.Kept.{lexeme, is_lexeme_end, IsKept}
-use Rattle.wt_beside_laws.specs.Nodes.{IsPair, IsTagNode, IsOneLexeme, IsNode}
+use Rattle.wt_beside_laws.specs.Nodes.{IsNode}
 use Rattle.wt_beside_laws.specs.PageBlocks.{AreShut}
 use Rattle.wt_beside_laws.specs.PageSigns.{ends_break, atom_role, tile_signs, signs_of_tiles, line_signs, signs_of_lines, IsFlatForm, IsFlatTile, AreFlatTiles, HasNoBreak}
-use Rattle.wt_beside_laws.specs.Stood.{OpensNone, OpensNoPair}
 use Rattle.wt_beside_laws.proofs.Contents.{nowiki_reads, reference_reads}
 use Rattle.wt_beside_laws.proofs.Firm.{alone_as}
 use Rattle.wt_beside_laws.proofs.FormKinds.{IsNodeKind, form_is_node}
 use Rattle.wt_beside_laws.proofs.LineParts.{has_form, glyphs_long}
 use Rattle.wt_beside_laws.proofs.Marks.InLine.{reference_ends}
-use Rattle.wt_beside_laws.proofs.NodesBegin.{no_url}
-use Rattle.wt_beside_laws.proofs.NodesStand.{by_less, opened_shape}
 use Rattle.wt_beside_laws.proofs.PageSigns.{IsFlatKind}
 use Rattle.wt_beside_laws.specs.Commented.{IsHeld, EndsAsSaid}
 use Rattle.wt_beside_laws.specs.NodeItems.{node_items}
 
--- ---- a tag that opens a pair has its closing tag
-
-opens_none : (k : TileKind) (gs : List Glyph) → OpensNone (tag_at gs) → OpensNoPair k gs
-opens_none kind.Link gs h = tt
-opens_none kind.Category gs h = tt
-opens_none kind.Media gs h = tt
-opens_none kind.ExtLink gs h = tt
-opens_none kind.BareUrl gs h = tt
-opens_none kind.Br gs h = tt
-opens_none kind.Pair gs h = tt
-opens_none kind.TagIsland gs h = h
-opens_none kind.Switch gs h = tt
-opens_none kind.Atom gs h = tt
-opens_none kind.Mark gs h = tt
-opens_none kind.Chars gs h = tt
-
-no_opening : (k : TileKind) (gs : List Glyph) → tag_at gs ≡ None → OpensNoPair k gs
-no_opening k gs e = opens_none k gs (subst OpensNone (sym e) tt)
-
-other_first : (k : TileKind) (b : ℕ) (own gs : List Glyph) → own ≡ glyph.Byte b ∷ gs → (b == 60) ≡ false → OpensNoPair k own
-other_first k b own gs i e = subst (OpensNoPair k) (sym i) (no_opening k (glyph.Byte b ∷ gs) (no_tag (glyph.Byte b ∷ gs) e))
+-- ---- a form
 
 same_shape : (v w : Shape) → Some v ≡ Some w → v ≡ w
 same_shape v w e = cc
-
-url_first : (b : ℕ) (gs : List Glyph) (w : Shape) → bare_url_at false (glyph.Byte b ∷ gs) ≡ Some w → (b == 60) ≡ false
-url_first b gs w e = by (b == 60) refl
-  where
-    by : (v : Bool) → (b == 60) ≡ v → v ≡ false
-    by true i =
-        let is : b ≡ 60 = grind (arith, nat_tests, i) in
-        no_url 60 gs w refl refl (subst (λ (k : ℕ). bare_url_at false (glyph.Byte k ∷ gs) ≡ Some w) is e)
-    by false i = refl
-
-lexeme_lone : (k : TileKind) (own : List Glyph) → IsOneLexeme own → OpensNoPair k own
-lexeme_lone k own n = elim n [
-  | inl i ↦ subst (OpensNoPair k) (sym i) (no_opening k (glyph.Atom ∷ []) (no_tag (glyph.Atom ∷ []) refl))
-  | inr i ↦ subst (OpensNoPair k) (sym i.1) (no_opening k (glyph.Entity i.0 ∷ []) (no_tag (glyph.Entity i.0 ∷ []) refl))
-]
-
-pair_lone : (t : Tag) (others : List Glyph) (w : Shape) → tag_at (glyph.Byte 60 ∷ others) ≡ Some t → IsPair t (glyph.Byte 60 ∷ others)
-    → own_form in_line (glyph.Byte 60 ∷ others) ≡ Some w → OpensNoPair w.kind (glyph.Byte 60 ∷ others)
-pair_lone t others w tagged p e =
-    let less : List Glyph = glyph.Byte 60 ∷ others in
-    let is : pair_or_island t.len (Some p.last) less ≡ w =
-    same_shape (pair_or_island t.len (Some p.last) less) w
-    (ap (λ (v : Shape). Some v) (sym (opened_shape t p.name less p.last p.paired p.opens p.closing)) ∙ sym (by_less false others t tagged) ∙ e) in
-    subst (λ (v : Shape). OpensNoPair v.kind less) is tt
-
-tag_lone : (own : List Glyph) (w : Shape) → IsTagNode own → own_form in_line own ≡ Some w → OpensNoPair w.kind own
-tag_lone own w n e =
-    let less : List Glyph = glyph.Byte 60 ∷ n.others in
-    let form : own_form in_line less ≡ Some w = subst (λ (gs : List Glyph). own_form in_line gs ≡ Some w) n.is e in
-    subst (OpensNoPair w.kind) (sym n.is) (elim n.ends [
-      | inl lone ↦ opens_none w.kind less (subst OpensNone (sym n.tagged) lone.0)
-      | inr pair ↦ pair_lone n.named n.others w n.tagged pair form
-    ])
-
-node_lone : (r : Role) (own : List Glyph) (w : Shape) → IsFlat r → IsNode r own → own_form in_line own ≡ Some w → OpensNoPair w.kind own
-node_lone Link own w f n e = other_first w.kind 91 own (glyph.Byte 91 ∷ n.inside) n.is refl
-node_lone External own w f n e = other_first w.kind 91 own n.inside n.is refl
-node_lone (Bare ends) own w f n e = other_first w.kind n.first own n.others n.is (url_first n.first n.others n.shape n.url)
-node_lone Switch own w f n e = other_first w.kind 95 own (glyph.Byte 95 ∷ byte_glyphs n.word) n.is refl
-node_lone Toggle own w f n e = absurd f
-node_lone (Mark ends began) own w f n e = subst (OpensNoPair w.kind) (sym n) (no_opening w.kind (glyph.Mark ∷ []) (no_tag (glyph.Mark ∷ []) refl))
-node_lone (Group g) own w f n e = absurd n
-node_lone Function own w f n e = lexeme_lone w.kind own n
-node_lone Node own w f n e = elim n [
-  | inl one ↦ lexeme_lone w.kind own one
-  | inr other ↦ elim other [
-    | inl tag ↦ tag_lone own w tag e
-    | inr link ↦ elim link [
-      | inl category ↦ other_first w.kind 91 own (glyph.Byte 91 ∷ category.inside) category.is refl
-      | inr media ↦ other_first w.kind 91 own (glyph.Byte 91 ∷ media.inside) media.is refl
-    ]
-  ]
-]
-
--- ---- a form
 
 stays_kind : (k : TileKind) → IsNodeKind k → IsFlatKind k
 stays_kind kind.Link h = tt
@@ -166,7 +81,7 @@ form_flat (glyph.Entity c ∷ gs) w e = atom_flat w e
 form_flat (glyph.Atom ∷ gs) w e = atom_flat w e
 form_flat (glyph.Mark ∷ gs) w e = mark_flat w e
 
-flat_tile : (k : TileKind) (own : List Item) → IsFlatKind k → IsFlatForm k own → IsFlatTile k own
+flat_tile : (k : TileKind) (own : List Item) → IsFlatKind k → IsFlatForm own → IsFlatTile k own
 flat_tile kind.Link own h f = f
 flat_tile kind.Category own h f = f
 flat_tile kind.Media own h f = f
@@ -184,7 +99,7 @@ flat_tile kind.Chars own h f = absurd h
 node_tile : (t : Thing) (w : Shape) → IsFlat t.role → IsNode t.role (own_glyphs t) → own_form in_line (own_glyphs t) ≡ Some w → IsFlatTile w.kind (node_items t.source)
 node_tile t w f n e =
     flat_tile w.kind (node_items t.source) (form_flat (own_glyphs t) w e)
-    (record { alone = ap node_items (node_sources t.source); lone = node_lone t.role (own_glyphs t) w f n e })
+    (record { alone = ap node_items (node_sources t.source) })
 
 -- ---- sources
 
@@ -350,7 +265,7 @@ tile_flat Q w own c xs l t k f =
     record { text = IsUtf8-nil; tiles = g.tiles; kept = g.kept }
 
 atom_before : (Q : List ℕ → Type 0) (x : Item) (c : Cut) (xs : List Item) → IsAtom Q x → FlatCut Q c xs → FlatCut Q (add_tile (leaf kind.Atom 1) c) (x ∷ xs)
-atom_before Q x c xs a f = tile_flat Q (leaf kind.Atom 1) (x ∷ []) c xs refl (record { alone = a.alone; lone = tt }) a.so f
+atom_before Q x c xs a f = tile_flat Q (leaf kind.Atom 1) (x ∷ []) c xs refl (record { alone = a.alone }) a.so f
 
 -- characters before what follows them
 taken_more : (bs : List ℕ) (n : ℕ) (xs : List Item) → take (length bs + n) (page_chars bs ++ xs) ≡ page_chars bs ++ take n xs

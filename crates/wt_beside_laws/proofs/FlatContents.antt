@@ -19,6 +19,7 @@ use Rattle.wt_beside_laws.specs.Cuts.{own_glyphs, ends_word}
 use Rattle.wt_beside_laws.specs.Flat.{IsFlat, AreFlat, IsFlatContent}
 use Rattle.wt_beside_laws.specs.Commented.{IsHeld, EndsAsSaid}
 use Rattle.wt_beside_laws.specs.Lines.{AreCharacters, AreUnbroken}
+use Rattle.wt_beside_laws.specs.Nodes.{AllStayOpen}
 use Rattle.wt_beside_laws.specs.Led.{AreMarksLed}
 use Rattle.wt_beside_laws.specs.PageSigns.{ends_break, form_sign, tile_signs, signs_of_tiles, line_signs, signs_of_lines, IsFlatForm, IsFlatTile, AreFlatTiles, HasNoBreak, AreFlatLines}
 use Rattle.wt_beside_laws.specs.Stood.{IsTileOf, AreStood, things}
@@ -88,7 +89,7 @@ unbroken [] h = tt
 unbroken (char o b ∷ xs) h = (h.0, unbroken xs h.1)
 unbroken (whole f o bs ∷ xs) h = (refl, unbroken xs h.1)
 
-form_unbroken : (k : TileKind) (began : Bool) (at : ℕ) (xs : List Item) → IsFlatForm k xs → HasNoBreak xs → Each Unbroken (things (form_sign k began at xs))
+form_unbroken : (k : TileKind) (began : Bool) (at : ℕ) (xs : List Item) → IsFlatForm xs → HasNoBreak xs → Each Unbroken (things (form_sign k began at xs))
 form_unbroken k began at xs f h = (subst IsUnbroken (sym f.alone) (unbroken xs h), tt)
 
 tile_unbroken : (k : TileKind) (began : Bool) (at : ℕ) (xs : List Item) → IsFlatTile k xs → HasNoBreak xs → Each Unbroken (things (tile_signs k began at xs))
@@ -130,8 +131,8 @@ lines_unbroken at (xs ∷ ys ∷ ls) h =
 -- ---- the content
 
 pub flat_content : (s : Setting) (ls : List (List Item)) (at : ℕ) (signs : List ContentSign) → s.within ≡ false → AreFlatLines ls → AreKept (signs_of_lines at ls)
-    → AreCharacters signs → AreMarksLed signs → things signs ≡ things (signs_of_lines at ls) → IsFlatContent s signs
-flat_content s ls at signs block flat kept characters led same = record {
+    → AreCharacters signs → AreMarksLed signs → things signs ≡ things (signs_of_lines at ls) → AllStayOpen s [] signs → IsFlatContent s signs
+flat_content s ls at signs block flat kept characters led same unclosed = record {
   of_block = block;
   characters = characters;
   kept = each_kept signs (subst (Each Kept) (sym same) (kept_each (signs_of_lines at ls) kept));
@@ -139,5 +140,5 @@ flat_content s ls at signs block flat kept characters led same = record {
   unbroken = each_unbroken signs (subst (Each Unbroken) (sym same) (lines_unbroken at ls flat));
   flat = each_flat signs (subst (Each Flat) (sym same) (flat_each false (signs_of_lines at ls) (lines_stood at ls flat)));
   led = led;
-  meet = flat_meet s ls at signs flat same;
+  meet = flat_meet s ls at signs flat same unclosed;
 }

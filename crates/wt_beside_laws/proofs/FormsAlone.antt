@@ -27,12 +27,13 @@ use Rattle.wt_beside_laws.specs.Cuts.{own_form, form_before, StandsAs}
 use Rattle.wt_beside_laws.specs.Flat.{IsFlat}
 use Rattle.wt_beside_laws.specs.Nodes.{IsBareNode, MayBeBehind, MayFollow}
 use Rattle.wt_beside_laws.specs.PageSigns.{tile_role, IsFlatForm}
-use Rattle.wt_beside_laws.specs.Stood.{IsTileOf, OpensNoPair, IsRead, HasBehind}
+use Rattle.wt_beside_laws.specs.Stood.{IsTileOf, IsRead, HasBehind}
 use Rattle.wt_beside_laws.proofs.FlatContents.{flat_role}
 use Rattle.wt_beside_laws.proofs.FormOpenings.{OpensAs, opens_so}
 use Rattle.wt_beside_laws.proofs.LineParts.{has_form, node_alone}
 use Rattle.wt_beside_laws.proofs.LineSegments.{one_segment}
 use Rattle.wt_beside_laws.proofs.NodesStand.{as_bare, no_link, no_external, node_stands}
+use Rattle.wt_beside_laws.proofs.OpenTags.{read_open}
 use Rattle.wt_beside_laws.proofs.PageSigns.{IsFlatKind, before_is, role_fits}
 use Rattle.wt_beside_laws.proofs.Stood.{Stays, stood}
 use Rattle.wt_beside_laws.proofs.UrlFronts.{bare_tile}
@@ -71,11 +72,11 @@ no_trail own (g ∷ gs) h = inl h
 
 -- any other is the same before anything that may be behind it
 other_alone : (r : Role) (a : Bool) (own behind : List Glyph) (w : Shape) → IsFlat r → Stays a r own behind → MayFollow r own behind
-    → form_before in_line a own behind ≡ Some w → own_form in_line own ≡ Some w
-other_alone r a own behind w f st follow e =
+    → size w ≡ length own → form_before in_line a own behind ≡ Some w → own_form in_line own ≡ Some w
+other_alone r a own behind w f st follow l e =
     let h = has_form r own f st.node in
     let stands : StandsAs (Some h.shape) in_line a own behind =
-    subst (λ (o : Option Shape). StandsAs o in_line a own behind) h.alone (node_stands r a own behind st.node follow st.lead) in
+    subst (λ (o : Option Shape). StandsAs o in_line a own behind) h.alone (node_stands r a own behind st.node follow st.lead (read_open a own behind w e l)) in
     let same : h.shape ≡ w = same_shape h.shape w (sym (stands.1 a (λ z. z)) ∙ e) in
     h.alone ∙ ap (λ (u : Shape). Some u) same
 
@@ -85,18 +86,18 @@ free_behind r own (g ∷ gs) f = inl (f g)
 
 alone_by : (r : Role) (a : Bool) (own behind : List Glyph) (w : Shape) → IsFlat r → Stays a r own behind → IsTileOf r w.kind → OpensAs w.kind w
     → size w ≡ length own → form_before in_line a own behind ≡ Some w → own_form in_line own ≡ Some w
-alone_by Link a own behind w f st i o l e = other_alone Link a own behind w f st (no_trail own behind st.has) e
-alone_by External a own behind w f st i o l e = other_alone External a own behind w f st (free_behind External own behind (λ g. tt)) e
+alone_by Link a own behind w f st i o l e = other_alone Link a own behind w f st (no_trail own behind st.has) l e
+alone_by External a own behind w f st i o l e = other_alone External a own behind w f st (free_behind External own behind (λ g. tt)) l e
 alone_by (Bare ends) a own behind w f st i o l e = bare_alone ends own w st.node i o l
-alone_by Switch a own behind w f st i o l e = other_alone Switch a own behind w f st (free_behind Switch own behind (λ g. tt)) e
+alone_by Switch a own behind w f st i o l e = other_alone Switch a own behind w f st (free_behind Switch own behind (λ g. tt)) l e
 alone_by Toggle a own behind w f st i o l e = absurd f
 alone_by (Mark ends began) a own behind w f st i o l e =
-    other_alone (Mark ends began) a own behind w f st (free_behind (Mark ends began) own behind (λ g. tt)) e
+    other_alone (Mark ends began) a own behind w f st (free_behind (Mark ends began) own behind (λ g. tt)) l e
 alone_by (Group g) a own behind w f st i o l e = absurd i
-alone_by Function a own behind w f st i o l e = other_alone Function a own behind w f st (free_behind Function own behind (λ g. tt)) e
-alone_by Node a own behind w f st i o l e = other_alone Node a own behind w f st (free_behind Node own behind (λ g. tt)) e
+alone_by Function a own behind w f st i o l e = other_alone Function a own behind w f st (free_behind Function own behind (λ g. tt)) l e
+alone_by Node a own behind w f st i o l e = other_alone Node a own behind w f st (free_behind Node own behind (λ g. tt)) l e
 
-own_alone : (k : TileKind) (a : Bool) (w : Shape) (ys zs : List Item) → w.kind ≡ k → IsFlatKind k → IsFlatForm k ys → OpensAs w.kind w → size w ≡ length ys → 0 < length ys
+own_alone : (k : TileKind) (a : Bool) (w : Shape) (ys zs : List Item) → w.kind ≡ k → IsFlatKind k → IsFlatForm ys → OpensAs w.kind w → size w ≡ length ys → 0 < length ys
     → tile_at in_line a (map glyph_of (ys ++ zs)) ≡ Some w → own_form in_line (map glyph_of ys) ≡ Some w
 own_alone k a w ys zs i flat f opens fits some e =
     let r : Role = tile_role k true ys in
@@ -107,8 +108,7 @@ own_alone k a w ys zs i flat f opens fits some e =
     before_is a own behind (omega (arith, some, long)) ∙ ap (tile_at in_line a) (sym (map-append glyph_of ys zs)) ∙ e in
     let tile : IsTileOf r w.kind = subst (IsTileOf r) (sym i) (role_fits k true ys flat) in
     let whole : size w ≡ length own = fits ∙ sym long in
-    let lone : OpensNoPair w.kind own = subst (λ (j : TileKind). OpensNoPair j own) (sym i) f.lone in
-    let read : IsRead a r own behind = record { shape = w; form = form; whole = whole; tile = tile; lone = lone } in
+    let read : IsRead a r own behind = record { shape = w; form = form; whole = whole; tile = tile } in
     alone_by r a own behind w (flat_role r w.kind tile) (stood a r own behind read) tile opens whole form
 
 -- ---- its node
@@ -126,7 +126,7 @@ before_nothing : (own : List Glyph) (w : Shape) → own_form in_line own ≡ Som
 before_nothing [] w e = e
 before_nothing (g ∷ gs) w e = subst (λ (hs : List Glyph). tile_at in_line false (g ∷ hs) ≡ Some w) (sym (append-nil gs)) e
 
-pub form_alone : (k : TileKind) (a : Bool) (w : Shape) (ys zs : List Item) → w.kind ≡ k → IsFlatKind k → IsFlatForm k ys → OpensAs w.kind w → size w ≡ length ys → 0 < length ys
+pub form_alone : (k : TileKind) (a : Bool) (w : Shape) (ys zs : List Item) → w.kind ≡ k → IsFlatKind k → IsFlatForm ys → OpensAs w.kind w → size w ≡ length ys → 0 < length ys
     → tile_at in_line a (map glyph_of (ys ++ zs)) ≡ Some w → line_parts ys ≡ tile_parts (tile_tree context_parts in_line k w ys) ys
 form_alone k a w ys zs i flat f opens fits some e =
     let own : own_form in_line (map glyph_of ys) ≡ Some w = own_alone k a w ys zs i flat f opens fits some e in

@@ -90,9 +90,9 @@ kept_right [] us h = h
 kept_right (letter c ∷ ss) us h = kept_right ss us h
 kept_right (thing t ∷ ss) us h = kept_right ss us h.1
 
-form_flat : (q : List ℕ) (before xs behind : List Item) (k : TileKind) (began : Bool) (at : ℕ) → page_items q ≡ before ++ (xs ++ behind) → IsHeldForm k xs
-    → AreKept (form_sign k began at xs) → IsFlatForm k xs
-form_flat q before xs behind k began at e h kept = record { alone = held_alone q before xs behind e kept.0.0 h.led; lone = h.lone }
+form_flat : (q : List ℕ) (before xs behind : List Item) (k : TileKind) (began : Bool) (at : ℕ) → page_items q ≡ before ++ (xs ++ behind) → IsHeldForm xs
+    → AreKept (form_sign k began at xs) → IsFlatForm xs
+form_flat q before xs behind k began at e h kept = record { alone = held_alone q before xs behind e kept.0.0 h.led }
 
 tile_flat : (q : List ℕ) (before xs behind : List Item) (k : TileKind) (began : Bool) (at : ℕ) → page_items q ≡ before ++ (xs ++ behind) → IsHeldTile k xs
     → AreKept (tile_signs k began at xs) → IsFlatTile k xs

@@ -15,6 +15,7 @@ pub mod NodesBegin
 pub mod NodesEnd
 pub mod NodesMeet
 pub mod NodesStand
+pub mod OpenTags
 pub mod Each
 pub mod PageNodes
 pub mod PageSigns

@@ -1,10 +1,10 @@
 -- Worked cases: two lines, and a line with a URL in it.
-use Rattle.std.proofs.Common.{◌≡◌, false, None, [], ◌∷◌, ◌++◌, map, refl, sym, subst, inl}
+use Rattle.std.proofs.Common.{◌≡◌, false, None, List, [], ◌∷◌, ◌++◌, map, refl, sym, subst, inl}
 use Rattle.std.specs.Prelude.{codes}
 use Rattle.std.proofs.Math.Utf8.{encode}
 use Rattle.wt_tree.specs.Plain.{text, ended, along}
 use Rattle.wt_span.specs.declared.form.ItemForm.TheVariants as form
-use Rattle.wt_span.specs.Items.{char, whole}
+use Rattle.wt_span.specs.Items.{Item, char, whole}
 use Rattle.wt_tree.specs.declared.edit_shape.Place.TheVariants.{Paragraph}
 use Rattle.wt_guards.specs.declared.role.Role.TheVariants.{Bare}
 use Rattle.wt_guards.specs.Content.{Thing, letter, thing}
@@ -12,22 +12,26 @@ use Rattle.wt_guards.specs.Guards.{Setting, nowiki, is_guarded, is_between_guard
 use Rattle.wt_guards.specs.Letters.{is_escaped, reference}
 use Rattle.wt_guards.specs.Table.{hazard, line_start_hazard}
 use Rattle.wt_lines.specs.Lines.{IsUnbroken}
+use Rattle.wt_tiles.specs.declared.glyph.Glyph.{Glyph}
 use Rattle.wt_tiles.specs.Glyphs.{glyph_of, byte_glyphs}
 use Rattle.wt_tiles.specs.Urls.{scheme_len, is_url_char, is_dropped, kept_len, bare_shape, bare_url_at}
 use Rattle.wt_text_edit_laws.specs.LonePages.{page_chars}
 use Rattle.wt_inline.specs.declared.loose.Loose.TheVariants.{Text}
 use Rattle.wt_inline.specs.Parts.{loose}
 use Rattle.wt_context.specs.Line.{line_parts}
+use Rattle.wt_beside_laws.specs.Cuts.{own_glyphs}
 use Rattle.wt_beside_laws.specs.Flat.{IsFlatContent, content_parts, line_content}
+use Rattle.wt_beside_laws.specs.Glyphs.{line_glyphs}
 use Rattle.wt_beside_laws.specs.Kept.{AreFirm, characters}
 use Rattle.wt_beside_laws.specs.Lines.{content_lines}
-use Rattle.wt_beside_laws.specs.Nodes.{IsBareNode}
+use Rattle.wt_beside_laws.specs.Nodes.{IsBareNode, IsOpenBefore}
 use Rattle.wt_beside_laws.specs.Shown.{content_shown}
 use Rattle.wt_beside_laws.proofs.Firm.{alone_as, firm_read}
 use Rattle.wt_beside_laws.specs.PageSigns.{HasNoBreak}
 use Rattle.wt_beside_laws.specs.NodeItems.{node_items}
 use Rattle.wt_expand.specs.PageItems.{page_items}
 use Rattle.wt_beside_laws.proofs.NodeItems.{node_as}
+use Rattle.wt_beside_laws.proofs.OpenTags.{untagged_open}
 
 abbrev in_paragraph : Setting
 in_paragraph = record { within = false; place = Paragraph; source = [] }
@@ -71,6 +75,9 @@ scheme_firm = (refl, (refl, (refl, (refl, (refl, (refl, (refl, (refl, tt))))))))
 url_items : node_items (codes "http://k") ≡ page_chars (codes "http://k")
 url_items = node_as (codes "http://k") (page_chars (codes "http://k")) (firm_read (codes "http://k") scheme_firm)
 
+url_open : (behind : List Glyph) → IsOpenBefore (own_glyphs url) behind
+url_open behind = subst (λ (xs : List Item). IsOpenBefore (map glyph_of xs) behind) (sym url_items) (untagged_open (byte_glyphs (codes "http://k")) behind refl)
+
 url_page : page_items (codes "http://k") ≡ page_chars (codes "http://k")
 url_page = alone_as (codes "http://k") (page_chars (codes "http://k")) (firm_read (codes "http://k") scheme_firm)
 
@@ -88,5 +95,5 @@ flat_lines = record {
   unbroken = (subst IsUnbroken (sym url_items) (refl, (refl, (refl, (refl, (refl, (refl, (refl, (refl, tt)))))))), tt);
   flat = (tt, tt);
   led = record { first = tt; others = ((λ e. absurd (cc)), tt) };
-  meet = (tt, (tt, (tt, (tt, (tt, tt)))));
+  meet = (tt, tt, (tt, tt, (tt, url_open (line_glyphs in_paragraph (thing url ∷ letter 32 ∷ letter 120 ∷ []) (letter 10 ∷ letter 61 ∷ [])), (tt, tt, (tt, tt, tt)))));
 }

@@ -33,15 +33,16 @@ use Rattle.wt_text_edit_laws.specs.LonePages.{page_chars}
 use Rattle.wt_beside_laws.specs.Content.{guard_items, letter_items}
 use Rattle.wt_beside_laws.specs.Cuts.{add_chars, add_tile, own_glyphs, own_form, add_node, guard_cut, letter_cut, form_before, StandsAs}
 use Rattle.wt_beside_laws.specs.Flat.{IsFlat, AreFlat, line_content}
-use Rattle.wt_beside_laws.specs.Glyphs.{guard_glyphs, letter_glyphs}
+use Rattle.wt_beside_laws.specs.Glyphs.{guard_glyphs, letter_glyphs, line_glyphs}
 use Rattle.wt_beside_laws.specs.Lines.{line_items}
 use Rattle.wt_beside_laws.specs.Nodes.{IsDelimiter, IsOneLexeme, IsTagNode, IsCategoryNode, IsMediaNode, IsNode, AreNodes, AllMeet}
 use Rattle.wt_beside_laws.proofs.ContentTiles.{form_follows}
 use Rattle.wt_beside_laws.proofs.LineSegments.{cut_segments, segments_are, read_line, IsOneSegment, one_segment, IsRead, tile_read, atom_read, none_read, char_read}
-use Rattle.wt_beside_laws.proofs.LineTiles.{line_glyphs, line_cut, line_follows}
+use Rattle.wt_beside_laws.proofs.LineTiles.{line_cut, line_follows}
 use Rattle.wt_beside_laws.proofs.NodesBegin.{no_url, all_urls, all_switches}
 use Rattle.wt_beside_laws.proofs.NodesMeet.{none_before}
 use Rattle.wt_beside_laws.proofs.NodesStand.{node_stands}
+use Rattle.wt_beside_laws.proofs.OpenTags.{open_end}
 use Rattle.wt_beside_laws.specs.NodeItems.{node_items}
 
 -- ---- as glyphs
@@ -141,7 +142,7 @@ pub record HasForm (own : List Glyph) : Type 0 where
   pub before : form_before in_line false own [] ≡ Some shape
 
 pub has_form : (r : Role) (own : List Glyph) → IsFlat r → IsNode r own → HasForm own
-has_form r own f n = by (own_form in_line own) refl (node_stands r false own [] n tt (none_before r))
+has_form r own f n = by (own_form in_line own) refl (node_stands r false own [] n tt (none_before r) (open_end own))
   where
     by : (o : Option Shape) → own_form in_line own ≡ o → StandsAs o in_line false own [] → HasForm own
     by None e d = absurd (node_first r own f n (delimiter_first own d))

@@ -273,7 +273,7 @@ record IsFormOf (k : TileKind) (a began : Bool) (w : Shape) (ys zs : List Item) 
   some : 0 < length ys
   read : tile_at in_line a (map glyph_of (ys ++ zs)) ≡ Some w
   placed : IsPlaced in_line (w, ys)
-  form : IsFlatForm k ys
+  form : IsFlatForm ys
   stays : IsNode (tile_role k began ys) (map glyph_of ys)
 
 -- the node of such a form
@@ -345,7 +345,7 @@ nodes_parts (letter c ∷ xs) ys h = nodes_parts xs ys h
 nodes_parts (thing t ∷ xs) ys h = let r = nodes_parts xs ys h.1 in ((h.0, r.0), r.1)
 
 -- a form, by its kind, among the items of a line
-form_here : (k : TileKind) (a began : Bool) (at : ℕ) (w : Shape) (xs : List Item) → w.kind ≡ k → IsFlatKind k → IsFlatForm k (take (size w) xs)
+form_here : (k : TileKind) (a began : Bool) (at : ℕ) (w : Shape) (xs : List Item) → w.kind ≡ k → IsFlatKind k → IsFlatForm (take (size w) xs)
     → tile_at in_line a (map glyph_of xs) ≡ Some w → 0 < size w → IsPlaced in_line (w, take (size w) xs) → AreNodes (form_sign k began at (take (size w) xs))
     → Told at (tile_parts_of (tile_tree context_parts in_line k w (take (size w) xs)) (take (size w) xs)) (things (tile_signs k began at (take (size w) xs)))
     (length (sources (take (size w) xs)))

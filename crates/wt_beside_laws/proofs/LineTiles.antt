@@ -21,7 +21,7 @@ use Rattle.wt_tiles.specs.Tiles.{Cut, form_at, switch_names, switch_len, switch_
 use Rattle.wt_tiles.specs.Urls.{scheme_len}
 use Rattle.wt_beside_laws.specs.Beginnings.{AllAvoidSwitches}
 use Rattle.wt_beside_laws.specs.Cuts.{own_glyphs, own_form, add_node, guard_cut, letter_cut, is_word_last}
-use Rattle.wt_beside_laws.specs.Glyphs.{guard_glyphs, letter_glyphs, content_glyphs, AllAvoid}
+use Rattle.wt_beside_laws.specs.Glyphs.{guard_glyphs, letter_glyphs, content_glyphs, line_glyphs, AllAvoid}
 use Rattle.wt_beside_laws.specs.Nodes.{AreNodes, MayFollow, MeetAt, AllMeet}
 use Rattle.wt_beside_laws.proofs.ContentTiles.{Follows, guard_follows, letter_follows, node_follows}
 use Rattle.wt_beside_laws.proofs.NodesMeet.{letter_behind, by_fits, letter_may, atom_may, guard_may, node_first, leads_by}
@@ -96,13 +96,6 @@ switch_less (g ∷ h ∷ gs) more e =
     (len_less switch_names gs more)
 
 -- ---- a line of the content
-
-abbrev pub line_glyphs : Setting → List ContentSign → List ContentSign → List Glyph
-line_glyphs s before [] = guard_glyphs (is_guarded s before [])
-line_glyphs s before (letter c ∷ after) =
-    guard_glyphs (is_guarded s before (letter c ∷ after))
-    ++ (if c == 10 then [] else letter_glyphs (is_escaped s.within s.place before c after) c ++ line_glyphs s (letter c ∷ before) after)
-line_glyphs s before (thing t ∷ after) = guard_glyphs (is_guarded s before (thing t ∷ after)) ++ (own_glyphs t ++ line_glyphs s (thing t ∷ before) after)
 
 abbrev pub line_cut : Context → Setting → List ContentSign → List ContentSign → Cut
 line_cut cx s before [] = guard_cut (is_guarded s before []) (0, [])
@@ -201,7 +194,7 @@ line_follows s before (letter d ∷ after) n urls switches m =
     guard_follows in_line (is_word_last before) u (if d == 10 then [] else letter_glyphs e d ++ more) (if d == 10 then (0, []) else letter_cut e d c)
     (letter_by in_line (not u && is_word_last before) e (d == 10) d more c
     (letter_follows in_line (not u && is_word_last before) e d more c (λ z a. line_none in_line a s before d after z urls switches)
-    (line_follows s (letter d ∷ before) after n urls switches m.1)))
+    (line_follows s (letter d ∷ before) after n urls switches m.2)))
 line_follows s before (thing t ∷ after) n urls switches m =
     let u = is_guarded s before (thing t ∷ after) in
     let own : List Glyph = own_glyphs t in
@@ -209,5 +202,5 @@ line_follows s before (thing t ∷ after) n urls switches m =
     let word = not u && is_word_last before in
     guard_follows in_line (is_word_last before) u (own ++ more) (add_node (own_form in_line own) (length own) (line_cut in_line s (thing t ∷ before) after))
     (node_follows in_line word (own_form in_line own) own more (line_cut in_line s (thing t ∷ before) after)
-    (node_stands t.role word own more n.0 (line_may s t before after urls.1 m.1) (leads_by s t before after [] u refl m.0))
-    (line_follows s (thing t ∷ before) after n.1 urls.1 switches.1 m.1))
+    (node_stands t.role word own more n.0 (line_may s t before after urls.1 m.2) (leads_by s t before after [] u refl m.0) m.1)
+    (line_follows s (thing t ∷ before) after n.1 urls.1 switches.1 m.2))

@@ -1,4 +1,5 @@
 -- Contents of paragraphs and headings of a page that take texts beside nodes that stay.
+pub mod ShownLines
 pub mod OwnPages
 pub mod OldBlocks
 pub mod Levels

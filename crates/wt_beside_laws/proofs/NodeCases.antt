@@ -1,19 +1,28 @@
--- Worked cases: what nodes are to their neighbours, and a URL between two letters.
-use Rattle.std.proofs.Common.{arith, ◌≡◌, true, false, None, [], ◌∷◌, refl, inl, inr}
+-- Worked cases: what nodes are to their neighbours, a URL between two letters, and a tag that opens a pair.
+use Rattle.std.proofs.Common.{arith, ◌≡◌, true, false, Some, None, List, [], ◌∷◌, map, refl, sym, subst, inl, inr}
 use Rattle.std.specs.Prelude.{codes}
 use Rattle.wt_tree.specs.declared.edit_shape.Place.TheVariants.{Paragraph}
 use Rattle.wt_span.specs.declared.tag_name.TagName.TheVariants as name
+use Rattle.wt_span.specs.Items.{Item}
 use Rattle.wt_guards.specs.declared.role.Role.TheVariants.{Bare}
 use Rattle.wt_guards.specs.Content.{Thing, letter, thing}
 use Rattle.wt_guards.specs.Guards.{Setting, is_guarded, is_between_guard, is_start_guard, is_end_guard, is_blank_guard}
 use Rattle.wt_guards.specs.Table.{hazard, line_start_hazard}
 use Rattle.wt_tiles.specs.declared.tag.Name.TheVariants.{Paired, Break}
 use Rattle.wt_tiles.specs.declared.tag.TagShape.TheVariants.{Opening}
-use Rattle.wt_tiles.specs.Glyphs.{byte_glyphs}
+use Rattle.wt_tiles.specs.declared.glyph.Glyph.{Glyph}
+use Rattle.wt_tiles.specs.Glyphs.{glyph_of, byte_glyphs}
 use Rattle.wt_tiles.specs.Tags.{tag_at, opening_tag, closing_tag, tag_after, name_of, live_name}
 use Rattle.wt_tiles.specs.Tiles.{switch_names}
 use Rattle.wt_tiles.specs.Urls.{scheme_len, is_url_char, is_dropped, kept_len, bare_shape, ext_shape, ext_link_at, bare_url_at}
-use Rattle.wt_beside_laws.specs.Nodes.{IsExternalNode, IsBareNode, IsSwitchNode, IsDelimiter, IsTagNode, AllMeet}
+use Rattle.wt_text_edit_laws.specs.LonePages.{page_chars}
+use Rattle.wt_beside_laws.specs.Cuts.{own_glyphs}
+use Rattle.wt_beside_laws.specs.Glyphs.{line_glyphs}
+use Rattle.wt_beside_laws.specs.NodeItems.{node_items}
+use Rattle.wt_beside_laws.specs.Nodes.{IsExternalNode, IsBareNode, IsSwitchNode, IsDelimiter, IsTagNode, IsOpenBefore, AllMeet}
+use Rattle.wt_beside_laws.proofs.Firm.{firm_read}
+use Rattle.wt_beside_laws.proofs.NodeItems.{node_as}
+use Rattle.wt_beside_laws.proofs.OpenTags.{untagged_open}
 
 address : IsBareNode (byte_glyphs (codes "http://k"))
 unfolding bare_url_at scheme_len is_url_char is_dropped kept_len
@@ -32,7 +41,7 @@ bold_quotes = inr refl
 
 break_tag : IsTagNode (byte_glyphs (codes "<br>"))
 unfolding tag_at opening_tag closing_tag tag_after name_of live_name
-break_tag = record { named = record { name = Break; shape = Opening; len = 4 }; others = byte_glyphs (codes "br>"); is = refl; tagged = refl; ends = inl (tt, refl) }
+break_tag = record { named = record { name = Break; shape = Opening; len = 4 }; others = byte_glyphs (codes "br>"); is = refl; tagged = refl; ends = inl refl }
 
 small_pair : IsTagNode (byte_glyphs (codes "<sub>2</sub>"))
 unfolding tag_at opening_tag closing_tag tag_after name_of live_name
@@ -60,6 +69,27 @@ unparted : is_guarded in_paragraph (letter 32 ∷ letter 120 ∷ []) (thing url 
 unfolding is_guarded is_between_guard is_start_guard is_end_guard is_blank_guard hazard line_start_hazard
 unparted = refl
 
+its_items : node_items (codes "http://k") ≡ page_chars (codes "http://k")
+its_items = node_as (codes "http://k") (page_chars (codes "http://k")) (firm_read (codes "http://k") (refl, (refl, (refl, (refl, (refl, (refl, (refl, (refl, tt)))))))))
+
+no_tag : (behind : List Glyph) → IsOpenBefore (own_glyphs url) behind
+no_tag behind = subst (λ (xs : List Item). IsOpenBefore (map glyph_of xs) behind) (sym its_items) (untagged_open (byte_glyphs (codes "http://k")) behind refl)
+
 beside_url : AllMeet in_paragraph [] (letter 120 ∷ thing url ∷ letter 121 ∷ []) []
 unfolding is_guarded is_between_guard is_start_guard is_end_guard is_blank_guard hazard line_start_hazard
-beside_url = (tt, (tt, (tt, tt)))
+beside_url = (tt, tt, (tt, no_tag (line_glyphs in_paragraph (thing url ∷ letter 120 ∷ []) (letter 121 ∷ [])), (tt, tt, tt)))
+
+-- ---- a tag that opens a pair
+
+-- `<small>`: nothing behind it may close it
+small_tag : IsTagNode (byte_glyphs (codes "<small>"))
+unfolding tag_at opening_tag closing_tag tag_after name_of live_name
+small_tag = record { named = record { name = Paired name.Small; shape = Opening; len = 7 }; others = byte_glyphs (codes "small>"); is = refl; tagged = refl; ends = inl refl }
+
+before_letters : IsOpenBefore (byte_glyphs (codes "<small>")) (byte_glyphs (codes "a<br>"))
+unfolding tag_at opening_tag closing_tag tag_after name_of live_name
+before_letters = λ e. refl
+
+before_its_end : IsOpenBefore (byte_glyphs (codes "<small>")) (byte_glyphs (codes "a</small>")) → ⊥
+unfolding tag_at opening_tag closing_tag tag_after name_of live_name
+before_its_end h = let no : Some (byte_glyphs (codes "</small>")) ≡ None = h refl in cc

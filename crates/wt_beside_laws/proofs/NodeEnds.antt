@@ -256,7 +256,7 @@ pair_fails p t own f n =
 
 tag_fails : (p : ℕ → Bool) (own : List Glyph) → FailsAtEnds p → IsTagNode own → LastFails p own
 tag_fails p own f n = subst (LastFails p) (sym n.is) (elim n.ends [
-  | inl lone ↦ ends_so p 62 (glyph.Byte 60 ∷ n.others) f.greater (tag_ends (glyph.Byte 60) n.others n.named n.tagged lone.1)
+  | inl all ↦ ends_so p 62 (glyph.Byte 60 ∷ n.others) f.greater (tag_ends (glyph.Byte 60) n.others n.named n.tagged all)
   | inr pair ↦ pair_fails p n.named (glyph.Byte 60 ∷ n.others) f pair
 ])
 

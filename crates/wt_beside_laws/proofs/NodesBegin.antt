@@ -16,7 +16,7 @@ use Rattle.wt_tiles.specs.Urls.{scheme_len, bare_url_at}
 use Rattle.wt_beside_laws.specs.Beginnings.{AvoidsSwitches, AllAvoidSwitches, IsApart}
 use Rattle.wt_beside_laws.specs.Cuts.{content_cut, own_glyphs, IsFree}
 use Rattle.wt_beside_laws.specs.Glyphs.{content_glyphs, is_url_start, AvoidsUrls, AllAvoid}
-use Rattle.wt_beside_laws.specs.Nodes.{IsDelimiter, IsOneLexeme, IsTagNode, IsCategoryNode, IsMediaNode, IsNode, AreNodes, AllMeet}
+use Rattle.wt_beside_laws.specs.Nodes.{IsDelimiter, IsOneLexeme, IsTagNode, IsCategoryNode, IsMediaNode, IsNode, AreNodes, NoneOpensPair, AllMeet}
 use Rattle.wt_beside_laws.proofs.ContentTiles.{content_tiles}
 use Rattle.wt_beside_laws.proofs.NodesMeet.{nodes_stand}
 use Rattle.wt_beside_laws.proofs.TypedForms.{bare_none}
@@ -143,7 +143,7 @@ all_switches (thing t ∷ after) n = (node_switches t.role (own_glyphs t) n.0, a
 
 -- ---- the content's tiles
 
-pub tiles_before : (s : Setting) (signs : List ContentSign) (rest : List Glyph) → AreNodes signs → AllMeet s [] signs rest → IsApart rest → IsFree in_line rest
+pub tiles_before : (s : Setting) (signs : List ContentSign) (rest : List Glyph) → AreNodes signs → NoneOpensPair signs → AllMeet s [] signs rest → IsApart rest → IsFree in_line rest
     → cuts in_line false 0 (content_glyphs s [] signs rest) ≡ content_cut in_line s [] signs (cuts in_line false 0 rest)
-tiles_before s signs rest n m apart free =
-    content_tiles in_line s signs rest (all_urls signs n) (all_switches signs n) apart free (nodes_stand s [] signs rest n (all_urls signs n) m)
+tiles_before s signs rest n c m apart free =
+    content_tiles in_line s signs rest (all_urls signs n) (all_switches signs n) apart free (nodes_stand s [] signs rest n c (all_urls signs n) m)

@@ -281,7 +281,7 @@ pair_last a t own p =
 
 tag_last : (a : Bool) (own : List Glyph) → IsTagNode own → ends_word a own ≡ false
 tag_last a own n = subst (λ gs. ends_word a gs ≡ false) (sym n.is) (elim n.ends [
-  | inl lone ↦ ends_so 62 a (glyph.Byte 60 ∷ n.others) refl (tag_ends (glyph.Byte 60) n.others n.named n.tagged lone.1)
+  | inl all ↦ ends_so 62 a (glyph.Byte 60 ∷ n.others) refl (tag_ends (glyph.Byte 60) n.others n.named n.tagged all)
   | inr pair ↦ pair_last a n.named (glyph.Byte 60 ∷ n.others) pair
 ])
 

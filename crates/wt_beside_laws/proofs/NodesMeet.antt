@@ -20,8 +20,9 @@ use Rattle.wt_tiles.specs.Glyphs.{is_in, in_class, begins, byte_glyphs}
 use Rattle.wt_tiles.specs.Urls.{is_url_char, is_word}
 use Rattle.wt_beside_laws.specs.Cuts.{own_glyphs, is_word_last, AllStand}
 use Rattle.wt_beside_laws.specs.Glyphs.{guard_glyphs, letter_glyphs, content_glyphs, AvoidsUrls, AllAvoid}
-use Rattle.wt_beside_laws.specs.Nodes.{AreNodes, MayBeBehind, MayFollow, MayLead, MeetAt, AllMeet}
+use Rattle.wt_beside_laws.specs.Nodes.{AreNodes, NoneOpensPair, MayBeBehind, MayFollow, MayLead, MeetAt, AllMeet}
 use Rattle.wt_beside_laws.proofs.NodesStand.{node_stands}
+use Rattle.wt_beside_laws.proofs.OpenTags.{closed_open}
 use Rattle.wt_beside_laws.proofs.TypedForms.{letter_fits, FirstFits}
 
 -- ---- a node and a letter
@@ -163,13 +164,14 @@ leads_by s t [] after rest false e m = none_before t.role
 leads_by s t (letter d ∷ before) after rest false e m = word_before t.role d (letter_before s t before d after e)
 leads_by s t (thing n ∷ before) after rest false e m = m.1
 
-pub nodes_stand : (s : Setting) (before signs : List ContentSign) (rest : List Glyph) → AreNodes signs → AllAvoid signs → AllMeet s before signs rest
-    → AllStand in_line s before signs rest
-nodes_stand s before [] rest n h m = tt
-nodes_stand s before (letter d ∷ after) rest n h m = nodes_stand s (letter d ∷ before) after rest n h m.1
-nodes_stand s before (thing t ∷ after) rest n h m =
-    let u = is_guarded s before (thing t ∷ after) in (
-      node_stands t.role (not u && is_word_last before) (own_glyphs t) (content_glyphs s (thing t ∷ before) after rest) n.0
-          (follows s t before after rest h.1 m.1) (leads_by s t before after rest u refl m.0),
-      nodes_stand s (thing t ∷ before) after rest n.1 h.1 m.1,
+pub nodes_stand : (s : Setting) (before signs : List ContentSign) (rest : List Glyph) → AreNodes signs → NoneOpensPair signs → AllAvoid signs
+    → AllMeet s before signs rest → AllStand in_line s before signs rest
+nodes_stand s before [] rest n c h m = tt
+nodes_stand s before (letter d ∷ after) rest n c h m = nodes_stand s (letter d ∷ before) after rest n c h m.2
+nodes_stand s before (thing t ∷ after) rest n c h m =
+    let u = is_guarded s before (thing t ∷ after) in
+    let behind : List Glyph = content_glyphs s (thing t ∷ before) after rest in (
+      node_stands t.role (not u && is_word_last before) (own_glyphs t) behind n.0 (follows s t before after rest h.1 m.2)
+          (leads_by s t before after rest u refl m.0) (closed_open (own_glyphs t) behind c.0),
+      nodes_stand s (thing t ∷ before) after rest n.1 c.1 h.1 m.2,
     )

@@ -1,9 +1,10 @@
 -- Nodes that stay are the same tiles beside text that is typed and beside each other.
-use Rattle.std.proofs.Common.{arith, ◌≡◌, ℕ, suc, ◌+◌, ◌-◌, ◌≤◌, ◌==◌, Bool, true, false, Option, Some, None, List, [], ◌∷◌, ◌++◌, length, drop, refl, sym, ap, ap₂, ◌∙◌, subst, inl, inr, ◌⊎◌, All}
+use Rattle.std.proofs.Common.{arith, ◌≡◌, ℕ, ◌+◌, ◌-◌, ◌≤◌, ◌==◌, Bool, true, false, Option, Some, None, List, [], ◌∷◌, ◌++◌, length, drop, refl, sym, ap, ap₂, ◌∙◌, subst, inl, inr, ◌⊎◌, All}
 use Rattle.std.specs.Prelude.{◌&&◌, codes}
 use Rattle.std.proofs.lemmas.Bool.Decides.{nat_tests}
-use Rattle.std.proofs.lemmas.List.{drop-append-le, length-append, length-drop}
+use Rattle.std.proofs.lemmas.List.{drop_all, drop-append-le, length-append, length-drop}
 use Rattle.std.proofs.lemmas.List.Elements.{All-nil, All-cons, All-contains}
+use Rattle.std.proofs.Math.Seq.{drop-append_seam}
 use Rattle.wt_span.specs.declared.tag_name.TagName.{TagName}
 use Rattle.wt_guards.specs.declared.role.Role.{Role}
 use Rattle.wt_guards.specs.declared.role.Role.TheVariants.{Link, External, Bare, Switch, Toggle, Mark, Group, Function, Node}
@@ -25,7 +26,7 @@ use Rattle.wt_tiles.specs.Partners.{number, partner}
 use Rattle.wt_tiles.specs.Tiles.{size, len_of, pair_or_island, shape_of_tag, link_or_url, tag_tile, switch_names, switch_at, form_at}
 use Rattle.wt_tiles.specs.Urls.{scheme_len, ext_link_at, bare_url_at}
 use Rattle.wt_beside_laws.specs.Cuts.{own_form, form_before, StandsAs, Stands}
-use Rattle.wt_beside_laws.specs.Nodes.{IsLinkNode, IsExternalNode, IsBareNode, IsSwitchNode, IsDelimiter, IsOneLexeme, IsNode, MayFollow, MayLead, IsLone, IsPair, IsTagNode, IsCategoryNode, IsMediaNode}
+use Rattle.wt_beside_laws.specs.Nodes.{IsLinkNode, IsExternalNode, IsBareNode, IsSwitchNode, IsDelimiter, IsOneLexeme, IsNode, MayFollow, MayLead, ClosesNone, IsOpenBy, IsOpenBefore, IsLone, IsPair, IsTagNode, IsCategoryNode, IsMediaNode}
 use Rattle.wt_beside_laws.proofs.LinkTiles.{link_stays, category_stays}
 use Rattle.wt_beside_laws.proofs.MediaTiles.{media_stays}
 use Rattle.wt_beside_laws.proofs.PairTiles.{closing_stays, partner_short, partner_stays, partner_tag}
@@ -250,14 +251,36 @@ as_tag : (a : Bool) (gs : List Glyph) (t : Tag) → link_at gs ≡ None → ext_
 unfolding form_at link_or_url tag_tile
 as_tag a gs t l x b e = rw (l, x, b, e) refl
 
-lone_shape : (m : Name) (h : TagShape) (n : ℕ) (gs us : List Glyph) → IsLone m h → shape_of_tag 0 m h n gs ≡ shape_of_tag 0 m h n us
-lone_shape (Paired m) Opening n gs us l = absurd l
-lone_shape (Paired m) Alone n gs us l = refl
-lone_shape (Paired m) Closing n gs us l = refl
-lone_shape Break Opening n gs us l = refl
-lone_shape Break Alone n gs us l = refl
-lone_shape Break Closing n gs us l = refl
-lone_shape Island h n gs us l = refl
+-- by itself, or before what closes none
+abbrev tag_leaf : Name → TagShape → ℕ → Shape
+tag_leaf (Paired m) h n = leaf kind.TagIsland n
+tag_leaf Break Opening n = leaf kind.Br n
+tag_leaf Break Alone n = leaf kind.Br n
+tag_leaf Break Closing n = leaf kind.TagIsland n
+tag_leaf Island h n = leaf kind.TagIsland n
+
+leaf_size : (m : Name) (h : TagShape) (n : ℕ) → size (tag_leaf m h n) ≡ n
+leaf_size (Paired m) h n = omega arith
+leaf_size Break Opening n = omega arith
+leaf_size Break Alone n = omega arith
+leaf_size Break Closing n = omega arith
+leaf_size Island h n = omega arith
+
+leaf_shape : (m : Name) (h : TagShape) (n : ℕ) (gs behind : List Glyph) → drop n gs ≡ behind → ClosesNone m h behind → shape_of_tag 0 m h n gs ≡ tag_leaf m h n
+leaf_shape (Paired m) Opening n gs behind i c = ap (λ (o : Option (List Glyph)). pair_or_island n o gs) (ap (partner (number m) 0) i ∙ c)
+leaf_shape (Paired m) Alone n gs behind i c = refl
+leaf_shape (Paired m) Closing n gs behind i c = refl
+leaf_shape Break Opening n gs behind i c = refl
+leaf_shape Break Alone n gs behind i c = refl
+leaf_shape Break Closing n gs behind i c = refl
+leaf_shape Island h n gs behind i c = refl
+
+pub nothing_closes : (m : Name) (h : TagShape) → ClosesNone m h []
+nothing_closes (Paired m) Opening = refl
+nothing_closes (Paired m) Alone = tt
+nothing_closes (Paired m) Closing = tt
+nothing_closes Break h = tt
+nothing_closes Island h = tt
 
 pub lone_size : (m : Name) (h : TagShape) (n : ℕ) (gs : List Glyph) → IsLone m h → size (shape_of_tag 0 m h n gs) ≡ n
 lone_size (Paired m) Opening n gs l = absurd l
@@ -277,17 +300,20 @@ pub by_less : (a : Bool) (gs : List Glyph) (t : Tag) → tag_at (glyph.Byte 60 �
     → form_at in_line a (glyph.Byte 60 ∷ gs) ≡ Some (shape_of_tag 0 t.name t.shape t.len (glyph.Byte 60 ∷ gs))
 by_less a gs t e = as_tag a (glyph.Byte 60 ∷ gs) t (no_link 60 gs refl) (no_external 60 gs refl) (no_bare_tag a gs) e
 
-lone_stands : (word : Bool) (t : Tag) (others behind : List Glyph) → tag_at (glyph.Byte 60 ∷ others) ≡ Some t → IsLone t.name t.shape → t.len ≡ suc (length others)
-    → Holds word (glyph.Byte 60 ∷ others) behind
-lone_stands word t others behind tagged lone whole =
+whole_stands : (word : Bool) (t : Tag) (others behind : List Glyph) → tag_at (glyph.Byte 60 ∷ others) ≡ Some t → t.len ≡ length (glyph.Byte 60 ∷ others)
+    → ClosesNone t.name t.shape behind → Holds word (glyph.Byte 60 ∷ others) behind
+whole_stands word t others behind tagged whole closes =
     let less : List Glyph = glyph.Byte 60 ∷ others in
+    let none : drop t.len less ≡ [] = drop_all t.len less (omega (arith, whole)) in
+    let past : drop t.len (less ++ behind) ≡ behind = ap (λ (n : ℕ). drop n (less ++ behind)) whole ∙ drop-append_seam less behind in
     record {
-      shape = shape_of_tag 0 t.name t.shape t.len less;
-      alone = by_less false others t tagged;
-      whole = lone_size t.name t.shape t.len less lone ∙ whole;
+      shape = tag_leaf t.name t.shape t.len;
+      alone = by_less false others t tagged
+          ∙ ap (λ (w : Shape). Some w) (leaf_shape t.name t.shape t.len less [] none (nothing_closes t.name t.shape));
+      whole = leaf_size t.name t.shape t.len ∙ whole;
       before = λ a h.
           by_less a (others ++ behind) t (tag_stays less behind t tagged)
-          ∙ ap (λ (w : Shape). Some w) (lone_shape t.name t.shape t.len (less ++ behind) less lone);
+          ∙ ap (λ (w : Shape). Some w) (leaf_shape t.name t.shape t.len (less ++ behind) behind past closes);
     }
 
 -- the shape of a pair, by what is found of its closing tag
@@ -325,9 +351,12 @@ pair_stands word t others behind tagged p =
           ∙ ap₂ (λ (n m : ℕ). Some (record { kind = kind.Pair; opening = t.len; inside = n; closing = m; trail = 0 })) size_of (ap len_of tag);
     }
 
-tag_stands : (word : Bool) (own behind : List Glyph) → IsTagNode own → Holds word own behind
-tag_stands word own behind n = subst (λ gs. Holds word gs behind) (sym n.is) (elim n.ends [
-  | inl lone ↦ lone_stands word n.named n.others behind n.tagged lone.0 (lone.1 ∙ omega arith)
+tag_stands : (word : Bool) (own behind : List Glyph) → IsTagNode own → IsOpenBefore own behind → Holds word own behind
+tag_stands word own behind n unclosed = subst (λ gs. Holds word gs behind) (sym n.is) (elim n.ends [
+  | inl whole ↦
+      let less : List Glyph = glyph.Byte 60 ∷ n.others in
+      let all : IsOpenBy (tag_at less) (length less) behind = subst (λ gs. IsOpenBefore gs behind) n.is unclosed in
+      whole_stands word n.named n.others behind n.tagged whole (subst (λ (o : Option Tag). IsOpenBy o (length less) behind) n.tagged all whole)
   | inr pair ↦ pair_stands word n.named n.others behind n.tagged pair
 ])
 
@@ -357,11 +386,12 @@ media_stands word own behind n =
           (media_stays (glyph.Byte 91) (glyph.Byte 91) n.name_len n.inside behind n.shape n.media (two_fit n.shape own n.inside n.is n.whole) n.link);
     })
 
-other_stands : (word : Bool) (own behind : List Glyph) → IsOneLexeme own ⊎ (IsTagNode own ⊎ (IsCategoryNode own ⊎ IsMediaNode own)) → Holds word own behind
-other_stands word own behind n = elim n [
+other_stands : (word : Bool) (own behind : List Glyph) → IsOneLexeme own ⊎ (IsTagNode own ⊎ (IsCategoryNode own ⊎ IsMediaNode own)) → IsOpenBefore own behind
+    → Holds word own behind
+other_stands word own behind n unclosed = elim n [
   | inl one ↦ one_stands word own behind one
   | inr other ↦ elim other [
-    | inl tag ↦ tag_stands word own behind tag
+    | inl tag ↦ tag_stands word own behind tag unclosed
     | inr link ↦ elim link [
       | inl category ↦ category_stands word own behind category
       | inr media ↦ media_stands word own behind media
@@ -380,13 +410,14 @@ delimiter_stands word own behind n = elim n [
   | inr i ↦ subst (λ o. StandsAs o in_line word own behind) (sym (ap (own_form in_line) i ∙ apostrophe (glyph.Byte 39 ∷ glyph.Byte 39 ∷ []))) (inr i)
 ]
 
-pub node_stands : (r : Role) (word : Bool) (own behind : List Glyph) → IsNode r own → MayFollow r own behind → MayLead r word → Stands in_line word own behind
-node_stands Link word own behind n f l = holding word own behind (link_stands word own behind n f)
-node_stands External word own behind n f l = holding word own behind (external_stands word own behind n)
-node_stands (Bare ends) word own behind n f l = holding word own behind (bare_stands ends word own behind n f l)
-node_stands Switch word own behind n f l = holding word own behind (switch_stands word own behind n)
-node_stands Toggle word own behind n f l = delimiter_stands word own behind n
-node_stands (Mark ends began) word own behind n f l = holding word own behind (mark_stands word own behind n)
-node_stands (Group g) word own behind n f l = absurd n
-node_stands Function word own behind n f l = holding word own behind (one_stands word own behind n)
-node_stands Node word own behind n f l = holding word own behind (other_stands word own behind n)
+pub node_stands : (r : Role) (word : Bool) (own behind : List Glyph) → IsNode r own → MayFollow r own behind → MayLead r word → IsOpenBefore own behind
+    → Stands in_line word own behind
+node_stands Link word own behind n f l unclosed = holding word own behind (link_stands word own behind n f)
+node_stands External word own behind n f l unclosed = holding word own behind (external_stands word own behind n)
+node_stands (Bare ends) word own behind n f l unclosed = holding word own behind (bare_stands ends word own behind n f l)
+node_stands Switch word own behind n f l unclosed = holding word own behind (switch_stands word own behind n)
+node_stands Toggle word own behind n f l unclosed = delimiter_stands word own behind n
+node_stands (Mark ends began) word own behind n f l unclosed = holding word own behind (mark_stands word own behind n)
+node_stands (Group g) word own behind n f l unclosed = absurd n
+node_stands Function word own behind n f l unclosed = holding word own behind (one_stands word own behind n)
+node_stands Node word own behind n f l unclosed = holding word own behind (other_stands word own behind n unclosed)

@@ -23,7 +23,7 @@ use Rattle.wt_tiles.specs.Contexts.{in_line}
 use Rattle.wt_tiles.specs.Glyphs.{glyph_of, is_in, first_is}
 use Rattle.wt_tiles.specs.Urls.{is_dropped, is_word, bare_url_at}
 use Rattle.wt_beside_laws.specs.Cuts.{own_glyphs, ends_word, form_before}
-use Rattle.wt_beside_laws.specs.Nodes.{IsNode, IsDelimiter, IsOneLexeme, IsTagNode, IsCategoryNode, IsMediaNode, AreNodes, MayBeBehind, MayFollow, MayLead, MeetAt, AllMeet}
+use Rattle.wt_beside_laws.specs.Nodes.{IsNode, IsDelimiter, IsOneLexeme, IsTagNode, IsCategoryNode, IsMediaNode, AreNodes, MayBeBehind, MayFollow, MayLead, MeetAt, AllStayOpen, AllMeet}
 use Rattle.wt_beside_laws.specs.Stood.{is_url_end, EndsUrl, IsTileOf, IsRead, HasBehind, line_glyphs, AreStood, AreAt, things}
 use Rattle.wt_beside_laws.proofs.NodesBegin.{no_url}
 use Rattle.wt_beside_laws.proofs.NodesEnd.{external_last, lexeme_last, other_last}
@@ -257,12 +257,18 @@ thing_meets s false [] n after e h = tt
 thing_meets s false (letter d ∷ before) n after e h = tt
 thing_meets s false (thing t ∷ before) n after e h = meet t n h.0.0 h.0.1.0 h.1.0 (unparted s t n before after e)
 
-pub all_meet : (s : Setting) (before signs : List ContentSign) → Come before signs → AllMeet s before signs []
-all_meet s before [] h = end_meets (is_guarded s before []) before
-all_meet s before (letter c ∷ after) h =
-    (letter_meets (is_guarded s before (letter c ∷ after)) before c after, all_meet s (letter c ∷ before) after (letter_comes before (things after) h))
-all_meet s before (thing n ∷ after) h =
-    (thing_meets s (is_guarded s before (thing n ∷ after)) before n after refl h, all_meet s (thing n ∷ before) after (letter_comes before (n ∷ things after) h))
+pub all_meet : (s : Setting) (before signs : List ContentSign) → Come before signs → AllStayOpen s before signs → AllMeet s before signs []
+all_meet s before [] h o = end_meets (is_guarded s before []) before
+all_meet s before (letter c ∷ after) h o = (
+  letter_meets (is_guarded s before (letter c ∷ after)) before c after,
+  o.0,
+  all_meet s (letter c ∷ before) after (letter_comes before (things after) h) o.1,
+)
+all_meet s before (thing n ∷ after) h o = (
+  thing_meets s (is_guarded s before (thing n ∷ after)) before n after refl h,
+  o.0,
+  all_meet s (thing n ∷ before) after (letter_comes before (n ∷ things after) h) o.1,
+)
 
 -- ---- of the page
 
@@ -427,7 +433,8 @@ all_pairs a at (thing t ∷ after) h places = (
 pub nodes_stay : (olds signs : List ContentSign) → AreStood false olds → things signs ≡ things olds → AreNodes signs
 nodes_stay olds signs h same = nodes_of signs (subst EachIsNode (sym same) (each_node false olds h))
 
-pub nodes_meet : (s : Setting) (olds signs : List ContentSign) (at : ℕ) → AreStood false olds → AreAt at olds → things signs ≡ things olds → AllMeet s [] signs []
-nodes_meet s olds signs at h places same =
+pub nodes_meet : (s : Setting) (olds signs : List ContentSign) (at : ℕ) → AreStood false olds → AreAt at olds → things signs ≡ things olds
+    → AllStayOpen s [] signs → AllMeet s [] signs []
+nodes_meet s olds signs at h places same unclosed =
     all_meet s [] signs
-    (subst EachIsNode (sym same) (each_node false olds h), pairs_first (things signs) (subst PairsMeet (sym same) (all_pairs false at olds h places)))
+    (subst EachIsNode (sym same) (each_node false olds h), pairs_first (things signs) (subst PairsMeet (sym same) (all_pairs false at olds h places))) unclosed

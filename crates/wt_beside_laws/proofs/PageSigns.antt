@@ -27,9 +27,9 @@ use Rattle.wt_tiles.specs.Tiles.{size, shapes, parts, tiles}
 use Rattle.wt_tiles.specs.Urls.{is_word}
 use Rattle.wt_tiles.proofs.Readings.{shapes_are}
 use Rattle.wt_beside_laws.specs.Cuts.{own_glyphs, ends_word, form_before}
-use Rattle.wt_beside_laws.specs.Nodes.{AreNodes, AllMeet}
+use Rattle.wt_beside_laws.specs.Nodes.{AreNodes, AllStayOpen, AllMeet}
 use Rattle.wt_beside_laws.specs.PageSigns.{ends_break, atom_role, tile_role, form_sign, tile_signs, signs_of_tiles, line_signs, signs_of_lines, IsFlatForm, IsFlatTile, AreFlatTiles, HasNoBreak, AreFlatLines}
-use Rattle.wt_beside_laws.specs.Stood.{IsTileOf, OpensNoPair, IsRead, line_glyphs, AreStood, AreAt, things}
+use Rattle.wt_beside_laws.specs.Stood.{IsTileOf, IsRead, line_glyphs, AreStood, AreAt, things}
 use Rattle.wt_beside_laws.proofs.PageNodes.{nodes_stay, nodes_meet}
 
 -- ---- letters
@@ -261,7 +261,7 @@ pub before_is : (a : Bool) (own behind : List Glyph) → 0 < length own → form
 before_is a [] behind some = absurd (omega (arith, some))
 before_is a (g ∷ gs) behind some = refl
 
-form_read : (a began : Bool) (at : ℕ) (w : Shape) (k : TileKind) (ys zs : List Item) (more : List ContentSign) → w.kind ≡ k → IsFlatKind k → IsFlatForm k ys → size w ≡ length ys
+form_read : (a began : Bool) (at : ℕ) (w : Shape) (k : TileKind) (ys zs : List Item) (more : List ContentSign) → w.kind ≡ k → IsFlatKind k → IsFlatForm ys → size w ≡ length ys
     → 0 < length ys → tile_at in_line a (map glyph_of (ys ++ zs)) ≡ Some w → Read (ends_word a (map glyph_of ys)) (at + length (sources ys)) zs more
     → Read a at (ys ++ zs) (form_sign k began at ys ++ more)
 form_read a began at w k ys zs more kind_is flat f fits some e r =
@@ -273,7 +273,7 @@ form_read a began at w k ys zs more kind_is flat f fits some e r =
     ∙ before_is a (map glyph_of ys) (map glyph_of zs) (omega (arith, some, long))
     ∙ ap (tile_at in_line a) (sym (map-append glyph_of ys zs)) ∙ e in
     let read : IsRead a t.role (map glyph_of ys) (line_glyphs more) =
-    record { shape = w; form = form; whole = fits ∙ sym long; tile = subst (IsTileOf (tile_role k began ys)) (sym kind_is) (role_fits k began ys flat); lone = subst (λ (j : TileKind). OpensNoPair j (map glyph_of ys)) (sym kind_is) f.lone } in
+    record { shape = w; form = form; whole = fits ∙ sym long; tile = subst (IsTileOf (tile_role k began ys)) (sym kind_is) (role_fits k began ys flat) } in
     record {
       stood = (
         subst (λ (gs : List Glyph). IsRead a t.role gs (line_glyphs more)) (sym own) read,
@@ -286,7 +286,7 @@ form_read a began at w k ys zs more kind_is flat f fits some e r =
           ∙ sym (map-append glyph_of ys zs);
     }
 
-form_tile : (k : TileKind) (a began : Bool) (at : ℕ) (w : Shape) (xs : List Item) (more : List ContentSign) → w.kind ≡ k → IsFlatKind k → IsFlatForm k (take (size w) xs)
+form_tile : (k : TileKind) (a began : Bool) (at : ℕ) (w : Shape) (xs : List Item) (more : List ContentSign) → w.kind ≡ k → IsFlatKind k → IsFlatForm (take (size w) xs)
     → tile_at in_line a (map glyph_of xs) ≡ Some w → 0 < size w → size w ≤ length xs
     → Read (ends_word a (map glyph_of (take (size w) xs))) (at + length (sources (take (size w) xs))) (drop (size w) xs) more
     → Read a at (take (size w) xs ++ drop (size w) xs) (form_sign k began at (take (size w) xs) ++ more)
@@ -389,5 +389,5 @@ pub flat_nodes : (ls : List (List Item)) (at : ℕ) (signs : List ContentSign) �
 flat_nodes ls at signs h same = nodes_stay (signs_of_lines at ls) signs (lines_read at ls h).stood same
 
 pub flat_meet : (s : Setting) (ls : List (List Item)) (at : ℕ) (signs : List ContentSign) → AreFlatLines ls → things signs ≡ things (signs_of_lines at ls)
-    → AllMeet s [] signs []
-flat_meet s ls at signs h same = let r = lines_read at ls h in nodes_meet s (signs_of_lines at ls) signs at r.stood r.places same
+    → AllStayOpen s [] signs → AllMeet s [] signs []
+flat_meet s ls at signs h same unclosed = let r = lines_read at ls h in nodes_meet s (signs_of_lines at ls) signs at r.stood r.places same unclosed

@@ -177,7 +177,7 @@ or_left true b e = refl
 or_left false b e = cc
 
 -- a tag begins with `<`
-less_begins : (g : Glyph) (gs : List Glyph) (t : Tag) → tag_at (g ∷ gs) ≡ Some t → in_class (class.Only 60) g ≡ true
+pub less_begins : (g : Glyph) (gs : List Glyph) (t : Tag) → tag_at (g ∷ gs) ≡ Some t → in_class (class.Only 60) g ≡ true
 less_begins g gs t e = begins_by (in_class (class.Only 60) g) refl
   where
     begins_by : (v : Bool) → in_class (class.Only 60) g ≡ v → in_class (class.Only 60) g ≡ true

@@ -31,7 +31,7 @@ use Rattle.wt_tiles.specs.Urls.{scheme_len, ext_link_at, bare_url_at}
 use Rattle.wt_tiles.proofs.TagInsides.{no_tag}
 use Rattle.wt_beside_laws.specs.Cuts.{form_before}
 use Rattle.wt_beside_laws.specs.Nodes.{is_quote_last, IsLinkNode, IsCategoryNode, IsMediaNode, IsExternalNode, IsBareNode, IsSwitchNode, IsOneLexeme, IsTagNode, IsAllOf, IsLone, IsNode, MayLead}
-use Rattle.wt_beside_laws.specs.Stood.{EndsUrl, IsTileOf, OpensNone, OpensNoPair, IsRead, HasBehind}
+use Rattle.wt_beside_laws.specs.Stood.{EndsUrl, IsTileOf, IsRead, HasBehind}
 use Rattle.wt_beside_laws.specs.StyledNodes.{EndsUnquoted}
 use Rattle.wt_beside_laws.specs.Tiles.{IsPlainKind, IsCategoryKind, IsMediaKind, LeadsBy, AimsBy, IsPlainLink, IsCategoryLink}
 use Rattle.wt_beside_laws.proofs.LinkFronts.{link_tile, JoinsNone, LinkFront, in_front}
@@ -370,13 +370,6 @@ opened_by t (Paired k) Closing gs e f o = absurd o
 opened_by t Break h gs e f o = absurd o
 opened_by t Island h gs e f o = absurd o
 
-both_opens : (m : Name) (h : TagShape) → IsLone m h → Opens m h → ⊥
-both_opens (Paired m) Opening l o = l
-both_opens (Paired m) Alone l o = o
-both_opens (Paired m) Closing l o = o
-both_opens Break h l o = o
-both_opens Island h l o = o
-
 less_first : (b : ℕ) (gs : List Glyph) (t : Tag) → tag_at (glyph.Byte b ∷ gs) ≡ Some t → b ≡ 60
 less_first b gs t e = by (b == 60) refl
   where
@@ -394,9 +387,6 @@ tag_node b gs t e all =
       tagged = ap (λ (c : ℕ). tag_at (glyph.Byte c ∷ gs)) (sym is) ∙ e;
       ends = subst (λ (c : ℕ). IsAllOf t (glyph.Byte c ∷ gs)) is all;
     }
-
-lone_is : (o : Option Tag) (t : Tag) → OpensNone o → o ≡ Some t → IsLone t.name t.shape
-lone_is o t l e = subst OpensNone e l
 
 -- a tag that ends in the front is one of the front
 tag_within : (own behind : List Glyph) (t : Tag) → tag_at (own ++ behind) ≡ Some t → t.len ≤ length own → tag_at own ≡ Some t
@@ -443,16 +433,14 @@ for_partner m n gs us e = e
 
 -- the tag that opens a pair takes all of the items, or is an island
 opened_stays : (a : Bool) (r : Role) (b : ℕ) (gs behind : List Glyph) (t : Tag) (w : Shape) (o : Option (List Glyph)) → tag_at (glyph.Byte b ∷ (gs ++ behind)) ≡ Some t
-    → (p : IsOpened t (glyph.Byte b ∷ (gs ++ behind))) → Opens t.name t.shape → closing_for 0 p.name t.len (glyph.Byte b ∷ (gs ++ behind)) ≡ o
-    → pair_or_island t.len o (glyph.Byte b ∷ (gs ++ behind)) ≡ w → size w ≡ suc (length gs) → IsTileOf r w.kind → OpensNoPair w.kind (glyph.Byte b ∷ gs)
-    → Stays a r (glyph.Byte b ∷ gs) behind
-opened_stays a r b gs behind t w None e p opens c is whole tile lone =
+    → (p : IsOpened t (glyph.Byte b ∷ (gs ++ behind))) → closing_for 0 p.name t.len (glyph.Byte b ∷ (gs ++ behind)) ≡ o
+    → pair_or_island t.len o (glyph.Byte b ∷ (gs ++ behind)) ≡ w → size w ≡ suc (length gs) → IsTileOf r w.kind → Stays a r (glyph.Byte b ∷ gs) behind
+opened_stays a r b gs behind t w None e p c is whole tile =
     let own : List Glyph = glyph.Byte b ∷ gs in
     let large : size (leaf kind.TagIsland t.len) ≡ size w = ap size is in
     let len : t.len ≡ length own = omega (arith, large, whole) in
-    let kept : OpensNone (tag_at own) = subst (λ (u : Shape). OpensNoPair u.kind own) (sym is) lone in
-    absurd (both_opens t.name t.shape (lone_is (tag_at own) t kept (tag_front own behind t len e)) opens)
-opened_stays a r b gs behind t w (Some us) e p opens c is whole tile lone =
+    tag_kinds a r own behind w.kind (tag_node b gs t (tag_front own behind t len e) (inl len)) (subst (λ (u : Shape). IsTagTile u.kind) is tt) tile
+opened_stays a r b gs behind t w (Some us) e p c is whole tile =
     let own : List Glyph = glyph.Byte b ∷ gs in
     let all : List Glyph = glyph.Byte b ∷ (gs ++ behind) in
     let large : size (pair_or_island t.len (Some us) all) ≡ size w = ap size is in
@@ -465,20 +453,19 @@ opened_stays a r b gs behind t w (Some us) e p opens c is whole tile lone =
     (subst (λ (u : Shape). IsTagTile u.kind) is tt) tile
 
 tag_stays_so : (a : Bool) (r : Role) (b : ℕ) (gs behind : List Glyph) (t : Tag) (w : Shape) → tag_at (glyph.Byte b ∷ (gs ++ behind)) ≡ Some t
-    → shape_of_tag 0 t.name t.shape t.len (glyph.Byte b ∷ (gs ++ behind)) ≡ w → size w ≡ suc (length gs) → IsTileOf r w.kind → OpensNoPair w.kind (glyph.Byte b ∷ gs)
-    → Stays a r (glyph.Byte b ∷ gs) behind
-tag_stays_so a r b gs behind t w e is whole tile lone =
+    → shape_of_tag 0 t.name t.shape t.len (glyph.Byte b ∷ (gs ++ behind)) ≡ w → size w ≡ suc (length gs) → IsTileOf r w.kind → Stays a r (glyph.Byte b ∷ gs) behind
+tag_stays_so a r b gs behind t w e is whole tile =
     let own : List Glyph = glyph.Byte b ∷ gs in
     let all : List Glyph = glyph.Byte b ∷ (gs ++ behind) in
     elim (lone_or_opens t.name t.shape) [
       | inl l ↦ (
           let len : t.len ≡ length own = sym (lone_size t.name t.shape t.len all l) ∙ ap size is ∙ whole in
-          tag_kinds a r own behind w.kind (tag_node b gs t (tag_front own behind t len e) (inl (l, len)))
+          tag_kinds a r own behind w.kind (tag_node b gs t (tag_front own behind t len e) (inl len))
           (subst (λ (u : Shape). IsTagTile u.kind) is (lone_tile t.name t.shape t.len all l)) tile
           )
       | inr o ↦ (
           let p : IsOpened t all = opened_by t t.name t.shape all refl refl o in
-          opened_stays a r b gs behind t w (closing_for 0 p.name t.len all) e p o refl (sym (p.shape (closing_for 0 p.name t.len all) refl) ∙ is) whole tile lone
+          opened_stays a r b gs behind t w (closing_for 0 p.name t.len all) e p refl (sym (p.shape (closing_for 0 p.name t.len all) refl) ∙ is) whole tile
           )
     ]
 
@@ -532,28 +519,28 @@ one_item k g (h ∷ gs) w e whole = let one : size (leaf k 1) ≡ size w = ap si
 -- ---- all of them
 
 by_form : (a : Bool) (r : Role) (b : ℕ) (gs behind : List Glyph) (w : Shape) → FormOf a (glyph.Byte b ∷ (gs ++ behind)) w → size w ≡ suc (length gs) → IsTileOf r w.kind
-    → OpensNoPair w.kind (glyph.Byte b ∷ gs) → Stays a r (glyph.Byte b ∷ gs) behind
-by_form a r b gs behind w (of_link e) whole tile lone = link_stays a r (glyph.Byte b ∷ gs) behind w e whole (omega arith) tile
-by_form a r b gs behind w (of_external e) whole tile lone = external_stays a r (glyph.Byte b ∷ gs) behind w e whole (omega arith) tile
-by_form a r b gs behind w (of_bare e) whole tile lone = bare_stays a r b gs behind w e whole tile
-by_form a r b gs behind w (of_tag t e is) whole tile lone = tag_stays_so a r b gs behind t w e is whole tile lone
-by_form a r b gs behind w (of_switch e) whole tile lone = switch_stays a r (glyph.Byte b ∷ gs) behind w e whole tile
+    → Stays a r (glyph.Byte b ∷ gs) behind
+by_form a r b gs behind w (of_link e) whole tile = link_stays a r (glyph.Byte b ∷ gs) behind w e whole (omega arith) tile
+by_form a r b gs behind w (of_external e) whole tile = external_stays a r (glyph.Byte b ∷ gs) behind w e whole (omega arith) tile
+by_form a r b gs behind w (of_bare e) whole tile = bare_stays a r b gs behind w e whole tile
+by_form a r b gs behind w (of_tag t e is) whole tile = tag_stays_so a r b gs behind t w e is whole tile
+by_form a r b gs behind w (of_switch e) whole tile = switch_stays a r (glyph.Byte b ∷ gs) behind w e whole tile
 
 read_so : (a : Bool) (r : Role) (own behind : List Glyph) (w : Shape) → form_before in_line a own behind ≡ Some w → size w ≡ length own → IsTileOf r w.kind
-    → OpensNoPair w.kind own → Stays a r own behind
-read_so a r [] behind w e whole tile lone = cc
-read_so a r (glyph.Byte b ∷ gs) behind w e whole tile lone = by_form a r b gs behind w (form_of a (glyph.Byte b ∷ (gs ++ behind)) w e) whole tile lone
-read_so a r (glyph.Entity c ∷ gs) behind w e whole tile lone =
+    → Stays a r own behind
+read_so a r [] behind w e whole tile = cc
+read_so a r (glyph.Byte b ∷ gs) behind w e whole tile = by_form a r b gs behind w (form_of a (glyph.Byte b ∷ (gs ++ behind)) w e) whole tile
+read_so a r (glyph.Entity c ∷ gs) behind w e whole tile =
     let is : leaf kind.Atom 1 ≡ w = same_shape (leaf kind.Atom 1) w e in
     atom_kinds a r (glyph.Entity c ∷ gs) behind (inr (c, one_item kind.Atom (glyph.Entity c) gs w is whole))
     (subst (λ (u : Shape). IsTileOf r u.kind) (sym is) tile)
-read_so a r (glyph.Atom ∷ gs) behind w e whole tile lone =
+read_so a r (glyph.Atom ∷ gs) behind w e whole tile =
     let is : leaf kind.Atom 1 ≡ w = same_shape (leaf kind.Atom 1) w e in
     atom_kinds a r (glyph.Atom ∷ gs) behind (inl (one_item kind.Atom glyph.Atom gs w is whole))
     (subst (λ (u : Shape). IsTileOf r u.kind) (sym is) tile)
-read_so a r (glyph.Mark ∷ gs) behind w e whole tile lone =
+read_so a r (glyph.Mark ∷ gs) behind w e whole tile =
     let is : leaf kind.Mark 1 ≡ w = same_shape (leaf kind.Mark 1) w e in
     mark_kinds a r (glyph.Mark ∷ gs) behind (one_item kind.Mark glyph.Mark gs w is whole) (subst (λ (u : Shape). IsTileOf r u.kind) (sym is) tile)
 
 pub stood : (a : Bool) (r : Role) (own behind : List Glyph) → IsRead a r own behind → Stays a r own behind
-stood a r own behind h = read_so a r own behind h.shape h.form h.whole h.tile h.lone
+stood a r own behind h = read_so a r own behind h.shape h.form h.whole h.tile

@@ -34,6 +34,7 @@ pub mod LedLines
 pub mod OwnFirst
 pub mod OwnNests
 pub mod SentNests
+pub mod SentPaired
 pub mod UrlEnds
 pub mod UrlsApart
 mod Cases

@@ -33,7 +33,7 @@ use Rattle.wt_text_edit_laws.specs.TypedHeadings.{EndsWithout, is_equals_sign}
 use Rattle.wt_beside_laws.specs.InHeadings.{AreOnOneLine}
 use Rattle.wt_beside_laws.specs.Lines.{AreCharacters}
 use Rattle.wt_beside_laws.specs.NodeItems.{node_items}
-use Rattle.wt_beside_laws.specs.Nodes.{IsNode, MayFollow, MayLead}
+use Rattle.wt_beside_laws.specs.Nodes.{IsNode, OpensNoPair, MayFollow, MayLead}
 use Rattle.wt_beside_laws.specs.Shown.{parts_shown_at}
 use Rattle.wt_beside_laws.specs.Stood.{things}
 
@@ -97,10 +97,11 @@ line_parts_with s before (thing t ∷ after) (own ∷ owns) =
 
 -- ---- the nodes
 
--- one of the page, on one line, by its own source; a mark is within its line
+-- one of the page, on one line, by its own source; a mark is within its line, and it is no tag that opens a pair without a closing tag
 pub record IsOwnNode (t : Thing) (own : List Item) : Type 0 where
   pub is : own ≡ node_items t.source
   pub node : IsNode t.role (own_glyphs t)
+  pub closed : OpensNoPair (own_glyphs t)
   pub inside : is_mark t.role ≡ true → is_new_at_start t.role ≡ true
   pub unbroken : IsUnbroken (node_items t.source)
 
@@ -246,11 +247,12 @@ abbrev pub AreSomeOfPage : List Part → Type 0
 AreSomeOfPage [] = ⊥
 AreSomeOfPage (p ∷ ps) = ArePageParts (p ∷ ps)
 
--- It calls nothing, and is a node of the page, on one line, in which no node is empty.
+-- It calls nothing, and is a node of the page, on one line, in which no node is empty, and no tag that opens a pair without a closing tag.
 pub record StaysAsItIs (pages : Pages) (t : Thing) : Type 0 where
   pub items : (i : ℕ) → numbered i (page_stretches pages t.source) ≡ node_items t.source
   pub flat : IsFlat t.role
   pub node : IsNode t.role (own_glyphs t)
+  pub closed : OpensNoPair (own_glyphs t)
   pub inside : is_mark t.role ≡ true → is_new_at_start t.role ≡ true
   pub unbroken : IsUnbroken (node_items t.source)
   pub own : AreSomeOfPage (line_parts (node_items t.source))

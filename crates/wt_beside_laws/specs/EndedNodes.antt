@@ -1,31 +1,12 @@
 -- What is asked of the nodes of a paragraph or a heading beside what its page says of it.
-use Rattle.std.specs.Prelude.{◌≡◌, ℕ, ◌==◌, ◌||◌, Bool, true, false, List, [], ◌∷◌, map}
+use Rattle.std.specs.Prelude.{◌≡◌, ℕ, ◌==◌, ◌||◌, Bool, true, false, List, [], ◌∷◌}
 use Rattle.std.specs.Char.{is_ascii_alphanumeric}
 use Rattle.std.specs.List.{list_all}
 use Rattle.wt_span.specs.Characters as byte
-use Rattle.wt_span.specs.Items.{Item}
 use Rattle.wt_guards.specs.Content.{ContentSign, letter, thing}
-use Rattle.wt_tiles.specs.declared.shape.Shape.{Shape}
-use Rattle.wt_tiles.specs.Contexts.{in_line}
-use Rattle.wt_tiles.specs.Glyphs.{glyph_of}
-use Rattle.wt_tiles.specs.Tiles.{tiles}
 use Rattle.wt_text_edit_laws.specs.NoCalls.{AreUnpaired}
 use Rattle.wt_text_edit_laws.specs.TextBetween.{HasEnds}
 use Rattle.wt_beside_laws.specs.NodeItems.{node_items}
-use Rattle.wt_beside_laws.specs.Stood.{OpensNoPair}
-
--- ---- its lines
-
--- no tag opens a pair without a closing tag on its line
-abbrev pub OpenNoPair : List (Shape × List Item) → Type 0
-OpenNoPair [] = Unit {0}
-OpenNoPair ((w, xs) ∷ ps) = OpensNoPair w.kind (map glyph_of xs) × OpenNoPair ps
-
-abbrev pub LinesOpenNoPair : List (List Item) → Type 0
-LinesOpenNoPair [] = Unit {0}
-LinesOpenNoPair (xs ∷ ls) = OpenNoPair (tiles in_line xs) × LinesOpenNoPair ls
-
--- ---- its nodes
 
 -- a letter, a digit or a `#`: of a reference, between its `&` and its `;`
 abbrev pub is_reference_byte : ℕ → Bool

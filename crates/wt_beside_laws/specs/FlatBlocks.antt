@@ -16,6 +16,7 @@ use Rattle.wt_text_edit_laws.specs.TypedHeadings.{opening}
 use Rattle.wt_visible.specs.SameNodes.{same_node}
 use Rattle.wt_beside_laws.specs.FlatPages.{AreNodesAndTexts}
 use Rattle.wt_beside_laws.specs.Led.{AreMarksLed}
+use Rattle.wt_beside_laws.specs.Nodes.{KeepsOpen}
 use Rattle.wt_beside_laws.specs.PageSigns.{signs_of_lines}
 use Rattle.wt_beside_laws.specs.SentPieces.{HaveNoStyle}
 use Rattle.wt_beside_laws.specs.SentStyled.{sent_content}
@@ -71,7 +72,7 @@ abbrev pub sent_for : Tree → Pieces → StyledContent
 sent_for block ps = sent_content (page_of same_node block) (sent_pieces ps)
 
 -- Nodes of this block stay, in their order, and each is sent as it is; any texts are between them, in a heading on one line. What else it held is gone.
--- Before each line of comments a line ends.
+-- Before each line of comments a line ends, and nothing on its line closes a tag that opens a pair.
 pub record IsFlatEditOf (k : TextBlock) (block : Tree) (ps : Pieces) : Type 0 where
   pub old : page_pieces ps ≡ children_of block
   pub stay : PiecesStay ps
@@ -79,3 +80,4 @@ pub record IsFlatEditOf (k : TextBlock) (block : Tree) (ps : Pieces) : Type 0 wh
   pub fit : TextsFitIn k ps
   pub plain : HaveNoStyle ps
   pub led : AreMarksLed (signs_of (sent_for block ps))
+  pub unclosed : KeepsOpen (signs_of (sent_for block ps))

@@ -26,6 +26,7 @@ use Rattle.wt_beside_laws.specs.Content.{AreKept}
 use Rattle.wt_text_edit_laws.specs.ParagraphParts.{para_with, joined_parts}
 use Rattle.wt_beside_laws.specs.Led.{AreMarksLed}
 use Rattle.wt_beside_laws.specs.Lines.{AreLinesOfText}
+use Rattle.wt_beside_laws.specs.Nodes.{KeepsOpen}
 use Rattle.wt_beside_laws.specs.PageBlocks.{AreUnstyled, AreShut}
 use Rattle.wt_beside_laws.specs.PageSigns.{signs_of_lines, AreFlatLines}
 use Rattle.wt_beside_laws.specs.SentPieces.{IsNodeForm, OnlyTextsGo}
@@ -81,13 +82,15 @@ new_signs q ps = signs_of_all (page_of same_node (block_of q)) place.Paragraph (
 abbrev pub new_flat : List ℕ → Pieces → List ℕ
 new_flat q ps = spelled (record { within = false; place = place.Paragraph; source = flat (block_of q) }) (new_signs q ps)
 
--- All nodes of the paragraph stay, each is sent as it is, and any texts are between them. Before each line of comments a line ends.
+-- All nodes of the paragraph stay, each is sent as it is, and any texts are between them. Before each line of comments a line ends, and nothing on its
+-- line closes a tag that opens a pair.
 pub record IsFlatEdit (q : List ℕ) (ps : Pieces) : Type 0 where
   pub old : page_pieces ps ≡ children_of (block_of q)
   pub stay : PiecesStay ps
   pub go : OnlyTextsGo ps
   pub are : AreNodesAndTexts ps
   pub led : AreMarksLed (new_signs q ps)
+  pub unclosed : KeepsOpen (new_signs q ps)
 
 -- ---- without marks
 

@@ -27,7 +27,7 @@ use Rattle.wt_part_laws.specs.CallPieces.{AreItemsOf, IsOfCall}
 use Rattle.wt_beside_laws.specs.Cuts.{add_chars, own_form, add_node, ends_word}
 use Rattle.wt_beside_laws.specs.Flat.{IsFlat}
 use Rattle.wt_beside_laws.specs.Nests.{marks_of, of_style, style_of}
-use Rattle.wt_beside_laws.specs.Nodes.{IsNode, MayBeBehind, MayFollow, MayLead}
+use Rattle.wt_beside_laws.specs.Nodes.{IsNode, OpensNoPair, MayBeBehind, MayFollow, MayLead}
 
 -- a byte of a character; or the items of a form, with what its node is to its neighbours
 pub data GivenSign : Type 0 where
@@ -80,9 +80,11 @@ abbrev pub MayBeFirst : Role → List Glyph → Type 0
 MayBeFirst r [] = Unit {0}
 MayBeFirst r (g ∷ gs) = MayBeBehind r g
 
--- A node, as it may stand before these; `word` says whether a letter, digit or `_` may come before it.
+-- A node, as it may stand before these, and no tag that opens a pair without a closing tag; `word` says whether a letter, digit or `_` may come
+-- before it.
 pub record IsGivenForm (word : Bool) (r : Role) (own : List Item) (behind : List Glyph) : Type 0 where
   pub node : IsNode r (map glyph_of own)
+  pub closed : OpensNoPair (map glyph_of own)
   pub leads : MayLead r word
   pub follows : MayBeFirst r behind
 

@@ -1,6 +1,7 @@
 -- The items of such a content as inline forms read them, and what a node that stays begins with.
-use Rattle.std.specs.Prelude.{◌≡◌, ℕ, ◌==◌, ◌||◌, Bool, true, false, List, [], ◌∷◌, ◌++◌, map, encode_utf8}
+use Rattle.std.specs.Prelude.{◌≡◌, ℕ, ◌==◌, ◌||◌, Bool, true, false, List, [], ◌∷◌, ◌++◌, map, encode_utf8, if◌then◌else◌}
 use Rattle.std.specs.Char.{to_ascii_lowercase}
+use Rattle.wt_span.specs.Characters as byte
 use Rattle.wt_guards.specs.Content.{ContentSign, letter, thing}
 use Rattle.wt_guards.specs.Guards.{Setting, is_guarded}
 use Rattle.wt_guards.specs.Letters.{is_escaped}
@@ -24,6 +25,15 @@ content_glyphs s before (letter c ∷ after) rest =
     guard_glyphs (is_guarded s before (letter c ∷ after)) ++ (letter_glyphs (is_escaped s.within s.place before c after) c ++ content_glyphs s (letter c ∷ before) after rest)
 content_glyphs s before (thing t ∷ after) rest =
     guard_glyphs (is_guarded s before (thing t ∷ after)) ++ (map glyph_of (node_items t.source) ++ content_glyphs s (thing t ∷ before) after rest)
+
+-- up to the end of the line
+abbrev pub line_glyphs : Setting → List ContentSign → List ContentSign → List Glyph
+line_glyphs s before [] = guard_glyphs (is_guarded s before [])
+line_glyphs s before (letter c ∷ after) =
+    guard_glyphs (is_guarded s before (letter c ∷ after))
+    ++ (if c == byte.line_break then [] else letter_glyphs (is_escaped s.within s.place before c after) c ++ line_glyphs s (letter c ∷ before) after)
+line_glyphs s before (thing t ∷ after) =
+    guard_glyphs (is_guarded s before (thing t ∷ after)) ++ (map glyph_of (node_items t.source) ++ line_glyphs s (thing t ∷ before) after)
 
 -- `t`, `p`, `s`, `:` or `/`, with which the beginning of a URL goes on
 abbrev pub is_url_start : Glyph → Bool

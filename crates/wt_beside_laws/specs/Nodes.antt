@@ -1,5 +1,5 @@
 -- Nodes that stay, by what their neighbours see of them: what each is by itself, and what may stand beside it.
-use Rattle.std.specs.Prelude.{◌≡◌, ◌⊎◌, ◌≤◌, ℕ, ◌==◌, Bool, true, false, Some, List, [], ◌∷◌, length, drop, codes}
+use Rattle.std.specs.Prelude.{◌≡◌, ◌⊎◌, ◌≤◌, ℕ, ◌==◌, Bool, true, false, Option, Some, None, List, [], ◌∷◌, length, drop, codes}
 use Rattle.std.specs.List.{Contains}
 use Rattle.wt_span.specs.Characters as byte
 use Rattle.wt_guards.specs.declared.role.Role.{Role}
@@ -23,6 +23,7 @@ use Rattle.wt_tiles.specs.Tags.{tag_at}
 use Rattle.wt_tiles.specs.Tiles.{size, len_of, switch_names}
 use Rattle.wt_tiles.specs.Urls.{is_url_glyph, ext_link_at, bare_url_at}
 use Rattle.wt_beside_laws.specs.Cuts.{own_glyphs, ends_word}
+use Rattle.wt_beside_laws.specs.Glyphs.{line_glyphs}
 use Rattle.wt_beside_laws.specs.Tiles.{IsPlainLink, IsCategoryLink, IsMediaLink}
 
 -- ---- what each is
@@ -92,14 +93,6 @@ IsOneLexeme own = (own ≡ glyph.Atom ∷ []) ⊎ ((c : ℕ) × (own ≡ glyph.E
 abbrev pub IsMarkNode : List Glyph → Type 0
 IsMarkNode own = own ≡ glyph.Mark ∷ []
 
--- it isn't the opening tag of a pair
-abbrev pub IsLone : Name → TagShape → Type 0
-IsLone (Paired m) Opening = ⊥
-IsLone (Paired m) Alone = Unit {0}
-IsLone (Paired m) Closing = Unit {0}
-IsLone Break shape = Unit {0}
-IsLone Island shape = Unit {0}
-
 -- the opening tag of a pair, with what is in the pair and its closing tag
 pub record IsPair (t : Tag) (own : List Glyph) : Type 0 where
   pub name : TagName
@@ -112,9 +105,9 @@ pub record IsPair (t : Tag) (own : List Glyph) : Type 0 where
 
 -- it is all of the items, or all of them are the pair that it opens
 abbrev pub IsAllOf : Tag → List Glyph → Type 0
-IsAllOf t own = (IsLone t.name t.shape × (t.len ≡ length own)) ⊎ IsPair t own
+IsAllOf t own = (t.len ≡ length own) ⊎ IsPair t own
 
--- a tag of a line break, one that is kept as an island, a closing tag without an opening one, or a pair of tags with what is in it
+-- a tag of a line break, one that is kept as an island, one of a pair without the other one, or a pair of tags with what is in it
 pub record IsTagNode (own : List Glyph) : Type 0 where
   pub named : Tag
   pub others : List Glyph
@@ -137,6 +130,59 @@ abbrev pub AreNodes : List ContentSign → Type 0
 AreNodes [] = Unit {0}
 AreNodes (letter c ∷ after) = AreNodes after
 AreNodes (thing t ∷ after) = IsNode t.role (own_glyphs t) × AreNodes after
+
+-- ---- a tag that opens a pair
+
+-- where a tag of this name opens a pair, none in these items closes it
+abbrev pub ClosesNone : Name → TagShape → List Glyph → Type 0
+ClosesNone (Paired m) Opening behind = partner (number m) 0 behind ≡ None
+ClosesNone (Paired m) Alone behind = Unit {0}
+ClosesNone (Paired m) Closing behind = Unit {0}
+ClosesNone Break shape behind = Unit {0}
+ClosesNone Island shape behind = Unit {0}
+
+-- of a tag that begins a node of so many items: it may be all of it
+abbrev pub IsOpenBy : Option Tag → ℕ → List Glyph → Type 0
+IsOpenBy None n behind = Unit {0}
+IsOpenBy (Some t) n behind = t.len ≡ n → ClosesNone t.name t.shape behind
+
+-- Where a node is a tag that opens a pair, none in what is behind it closes it: so it stays an island.
+abbrev pub IsOpenBefore : List Glyph → List Glyph → Type 0
+IsOpenBefore own behind = IsOpenBy (tag_at own) (length own) behind
+
+abbrev pub StaysOpen : ContentSign → List Glyph → Type 0
+StaysOpen (letter c) behind = Unit {0}
+StaysOpen (thing t) behind = IsOpenBefore (own_glyphs t) behind
+
+-- so each of a content that is one, by what is written behind it on its line
+abbrev pub AllStayOpen : Setting → List ContentSign → List ContentSign → Type 0
+AllStayOpen s before [] = Unit {0}
+AllStayOpen s before (sign ∷ after) = StaysOpen sign (line_glyphs s (sign ∷ before) after) × AllStayOpen s (sign ∷ before) after
+
+-- in whatever block it is written
+abbrev pub KeepsOpen : List ContentSign → Type 0
+KeepsOpen signs = (s : Setting) → AllStayOpen s [] signs
+
+-- it isn't the opening tag of a pair
+abbrev pub IsLone : Name → TagShape → Type 0
+IsLone (Paired m) Opening = ⊥
+IsLone (Paired m) Alone = Unit {0}
+IsLone (Paired m) Closing = Unit {0}
+IsLone Break shape = Unit {0}
+IsLone Island shape = Unit {0}
+
+abbrev pub IsClosedBy : Option Tag → ℕ → Type 0
+IsClosedBy None n = Unit {0}
+IsClosedBy (Some t) n = t.len ≡ n → IsLone t.name t.shape
+
+-- a node that is no tag which opens a pair; a pair with what is in it is none
+abbrev pub OpensNoPair : List Glyph → Type 0
+OpensNoPair own = IsClosedBy (tag_at own) (length own)
+
+abbrev pub NoneOpensPair : List ContentSign → Type 0
+NoneOpensPair [] = Unit {0}
+NoneOpensPair (letter c ∷ after) = NoneOpensPair after
+NoneOpensPair (thing t ∷ after) = OpensNoPair (own_glyphs t) × NoneOpensPair after
 
 -- ---- what may be beside it
 
@@ -180,7 +226,8 @@ MayLead (Group h) word = Unit {0}
 MayLead Function word = Unit {0}
 MayLead Node word = Unit {0}
 
--- Two nodes between which nothing is put, as they may stand in the page; and a node before what is behind the content.
+-- Two nodes between which nothing is put, as they may stand in the page; and a node before what is behind the content. A tag that opens a pair is
+-- closed by nothing on its line.
 abbrev pub MeetAt : Bool → List ContentSign → List ContentSign → List Glyph → Type 0
 MeetAt true before after rest = Unit {0}
 MeetAt false [] after rest = Unit {0}
@@ -191,4 +238,6 @@ MeetAt false (thing t ∷ before) (thing n ∷ after) rest = MayFollow t.role (o
 
 abbrev pub AllMeet : Setting → List ContentSign → List ContentSign → List Glyph → Type 0
 AllMeet s before [] rest = MeetAt (is_guarded s before []) before [] rest
-AllMeet s before (sign ∷ after) rest = MeetAt (is_guarded s before (sign ∷ after)) before (sign ∷ after) rest × AllMeet s (sign ∷ before) after rest
+AllMeet s before (sign ∷ after) rest =
+    MeetAt (is_guarded s before (sign ∷ after)) before (sign ∷ after) rest × StaysOpen sign (line_glyphs s (sign ∷ before) after)
+    × AllMeet s (sign ∷ before) after rest

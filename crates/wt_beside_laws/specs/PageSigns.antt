@@ -17,7 +17,6 @@ use Rattle.wt_tiles.specs.Glyphs.{glyph_of}
 use Rattle.wt_tiles.specs.Links.{text_of}
 use Rattle.wt_tiles.specs.Tiles.{tiles}
 use Rattle.wt_beside_laws.specs.NodeItems.{node_items}
-use Rattle.wt_beside_laws.specs.Stood.{OpensNoPair}
 
 -- ---- what a form is to its neighbours
 
@@ -94,23 +93,22 @@ signs_of_lines at (xs ∷ ys ∷ ls) = line_signs at xs ++ (letter byte.line_bre
 
 -- ---- lines in which each form is a node that stays
 
--- its source by itself is read as its items, and it is no tag that opens a pair without a closing tag
-pub record IsFlatForm (k : TileKind) (xs : List Item) : Type 0 where
+-- its source by itself is read as its items
+pub record IsFlatForm (xs : List Item) : Type 0 where
   pub alone : node_items (sources xs) ≡ xs
-  pub lone : OpensNoPair k (map glyph_of xs)
 
 abbrev pub IsFlatTile : TileKind → List Item → Type 0
-IsFlatTile kind.Link xs = IsFlatForm kind.Link xs
-IsFlatTile kind.Category xs = IsFlatForm kind.Category xs
-IsFlatTile kind.Media xs = IsFlatForm kind.Media xs
-IsFlatTile kind.ExtLink xs = IsFlatForm kind.ExtLink xs
-IsFlatTile kind.BareUrl xs = IsFlatForm kind.BareUrl xs
-IsFlatTile kind.Br xs = IsFlatForm kind.Br xs
-IsFlatTile kind.Pair xs = IsFlatForm kind.Pair xs
-IsFlatTile kind.TagIsland xs = IsFlatForm kind.TagIsland xs
-IsFlatTile kind.Switch xs = IsFlatForm kind.Switch xs
-IsFlatTile kind.Atom xs = IsFlatForm kind.Atom xs
-IsFlatTile kind.Mark xs = IsFlatForm kind.Mark xs
+IsFlatTile kind.Link xs = IsFlatForm xs
+IsFlatTile kind.Category xs = IsFlatForm xs
+IsFlatTile kind.Media xs = IsFlatForm xs
+IsFlatTile kind.ExtLink xs = IsFlatForm xs
+IsFlatTile kind.BareUrl xs = IsFlatForm xs
+IsFlatTile kind.Br xs = IsFlatForm xs
+IsFlatTile kind.Pair xs = IsFlatForm xs
+IsFlatTile kind.TagIsland xs = IsFlatForm xs
+IsFlatTile kind.Switch xs = IsFlatForm xs
+IsFlatTile kind.Atom xs = IsFlatForm xs
+IsFlatTile kind.Mark xs = IsFlatForm xs
 IsFlatTile kind.Chars xs = IsUtf8 (sources xs)
 
 abbrev pub AreFlatTiles : List (Shape × List Item) → Type 0

@@ -1,5 +1,5 @@
 -- Nodes as they stand in the page: each is read there as a form that takes all of its items.
-use Rattle.std.specs.Prelude.{◌≡◌, ◌⊎◌, ℕ, ◌+◌, ◌||◌, ◌==◌, Bool, true, false, Option, Some, None, List, [], ◌∷◌, ◌++◌, length, encode_utf8, if◌then◌else◌}
+use Rattle.std.specs.Prelude.{◌≡◌, ◌⊎◌, ℕ, ◌+◌, ◌||◌, ◌==◌, Bool, true, false, Some, List, [], ◌∷◌, ◌++◌, length, encode_utf8, if◌then◌else◌}
 use Rattle.wt_span.specs.Characters as byte
 use Rattle.wt_guards.specs.declared.role.Role.{Role}
 use Rattle.wt_guards.specs.declared.role.Role.TheVariants.{Link, External, Bare, Switch, Toggle, Mark, Group, Function, Node}
@@ -9,14 +9,11 @@ use Rattle.wt_tiles.specs.declared.shape.Shape.{Shape}
 use Rattle.wt_tiles.specs.declared.shape.TileKind.{TileKind}
 use Rattle.wt_tiles.specs.declared.shape.TileKind.TheVariants as kind
 use Rattle.wt_tiles.specs.declared.glyph.GlyphClass.TheVariants as class
-use Rattle.wt_tiles.specs.declared.tag.Tag.{Tag}
 use Rattle.wt_tiles.specs.Contexts.{in_line}
 use Rattle.wt_tiles.specs.Glyphs.{is_in, first_is, byte_glyphs}
-use Rattle.wt_tiles.specs.Tags.{tag_at}
 use Rattle.wt_tiles.specs.Tiles.{size}
 use Rattle.wt_tiles.specs.Urls.{is_url_glyph, is_dropped, is_word}
 use Rattle.wt_beside_laws.specs.Cuts.{own_glyphs, ends_word, form_before}
-use Rattle.wt_beside_laws.specs.Nodes.{IsLone}
 
 -- ---- a node
 
@@ -56,26 +53,6 @@ IsTileOf (Group g) k = ⊥
 IsTileOf Function k = k ≡ kind.Atom
 IsTileOf Node k = IsOtherTile k
 
--- no tag, or one that opens no pair
-abbrev pub OpensNone : Option Tag → Type 0
-OpensNone None = Unit {0}
-OpensNone (Some t) = IsLone t.name t.shape
-
--- of a tag that is kept as an island: it opens no pair
-abbrev pub OpensNoPair : TileKind → List Glyph → Type 0
-OpensNoPair kind.Chars own = Unit {0}
-OpensNoPair kind.Mark own = Unit {0}
-OpensNoPair kind.Atom own = Unit {0}
-OpensNoPair kind.Link own = Unit {0}
-OpensNoPair kind.Category own = Unit {0}
-OpensNoPair kind.Media own = Unit {0}
-OpensNoPair kind.ExtLink own = Unit {0}
-OpensNoPair kind.BareUrl own = Unit {0}
-OpensNoPair kind.Br own = Unit {0}
-OpensNoPair kind.Pair own = Unit {0}
-OpensNoPair kind.TagIsland own = OpensNone (tag_at own)
-OpensNoPair kind.Switch own = Unit {0}
-
 -- It is read before what its line has behind it, as a form of its kind, and takes all of its items; `after` says whether a letter,
 -- digit or `_` comes before it.
 pub record IsRead (after : Bool) (r : Role) (own behind : List Glyph) : Type 0 where
@@ -83,7 +60,6 @@ pub record IsRead (after : Bool) (r : Role) (own behind : List Glyph) : Type 0 w
   pub form : form_before in_line after own behind ≡ Some shape
   pub whole : size shape ≡ length own
   pub tile : IsTileOf r shape.kind
-  pub lone : OpensNoPair shape.kind own
 
 -- what such a node has behind it
 abbrev pub HasBehind : Role → List Glyph → Type 0

@@ -41,7 +41,7 @@ ghost use Rattle.wt_page.specs.Headings.{heading};
 ghost use Rattle.wt_text_edit_laws.specs.TypedHeadings.{Sides, AreSides, heading_line, IsOfLevel, IsHeadingInside, EndsLine};
 ghost use Rattle.wt_beside_laws.specs.Led.{BeginsUnled, AreMarksLed};
 ghost use Rattle.wt_beside_laws.specs.Lines.{AreCharacters, AreUnbroken, line_items, content_lines, AreLinesOfText};
-ghost use Rattle.wt_beside_laws.specs.Nodes.{AreNodes, AllMeet};
+ghost use Rattle.wt_beside_laws.specs.Nodes.{AreNodes, AllStayOpen, NoneOpensPair, AllMeet};
 ghost use Rattle.wt_beside_laws.specs.Shown.{parts_shown_at, content_shown};
 ghost use Rattle.wt_tree.specs.Plain.{Plains};
 ghost use Rattle.wt_beside_laws.specs.PageSigns.{signs_of_lines, AreFlatLines};
@@ -128,35 +128,36 @@ pub fn no_url_begins_in_typed_text()
 /// The tiles of such a content in a line are those of its signs, one after the other: each node that stays is its own tile,
 /// each reference and each nowiki that is put is one, and the characters between them are runs. So they are before what is
 /// behind the content, if that joins no node, begins neither what goes on with a URL nor a switch, and is read so whatever
-/// comes before it. Nodes between which nothing is put are to stand as they may stand in a page.
+/// comes before it. Nodes between which nothing is put are to stand as they may stand in a page, and none is a tag that opens a
+/// pair without its closing tag (`NoneOpensPair`): more would close it on its line alone.
 #[tactic(auto, using(crate::proofs::Marks::Tiles::tiles_alone, crate::proofs::NodesBegin::tiles_before))]
 pub fn texts_beside_nodes_make_no_tile()
-    ensures alone { (s : Setting) (signs : List ContentSign) → IsReadIn s signs → AllMeet s [] signs []
+    ensures alone { (s : Setting) (signs : List ContentSign) → IsReadIn s signs → NoneOpensPair signs → AllMeet s [] signs []
         → cuts in_line false 0 (map glyph_of (page_items (spelled s signs))) ≡ content_cut in_line s [] signs (0, []) }
-    ensures before { (s : Setting) (signs : List ContentSign) (rest : List Sign) → AreNodes signs → AllMeet s [] signs rest → IsApart rest → IsFree in_line rest
-        → cuts in_line false 0 (content_glyphs s [] signs rest) ≡ content_cut in_line s [] signs (cuts in_line false 0 rest) }
+    ensures before { (s : Setting) (signs : List ContentSign) (rest : List Sign) → AreNodes signs → NoneOpensPair signs → AllMeet s [] signs rest → IsApart rest
+        → IsFree in_line rest → cuts in_line false 0 (content_glyphs s [] signs rest) ≡ content_cut in_line s [] signs (cuts in_line false 0 rest) }
 {}
 
 /// The nodes that a content has of a page stay, and meet as they may: where each is read in the page as a form that takes all
 /// of its items (`AreStood`) and has its place there (`AreAt`), whatever is typed between them, each is what its role says
 /// (`AreNodes`), and between two of which one is not parted from the other nothing joins them (`AllMeet`): they stood so in
-/// the page, or the table of signs that may not be next to each other has no pair for them.
+/// the page, or the table of signs that may not be next to each other has no pair for them. Where a node is a tag that opens a
+/// pair, none in what is behind it on its line is to close it (`AllStayOpen`).
 #[tactic(auto, using(crate::proofs::PageNodes::nodes_stay, crate::proofs::PageNodes::nodes_meet))]
 pub fn nodes_of_the_page_stay()
     ensures nodes { (olds signs : List ContentSign) → AreStood false olds → things signs ≡ things olds → AreNodes signs }
     ensures meet { (s : Setting) (olds signs : List ContentSign) (at : ℕ) → AreStood false olds → AreAt at olds → things signs ≡ things olds
-        → AllMeet s [] signs [] }
+        → AllStayOpen s [] signs → AllMeet s [] signs [] }
 {}
 
-/// So the nodes of lines of a page stay, by the tiles of these lines (`signs_of_lines`), whatever is typed between them: no tile is
-/// a mark or a tag that opens a pair without a closing tag, and the source of each form is read by itself as the items that it has
-/// there (`AreFlatLines`).
+/// So the nodes of lines of a page stay, by the tiles of these lines (`signs_of_lines`), whatever is typed between them: the source of
+/// each form is read by itself as the items that it has there (`AreFlatLines`).
 #[tactic(auto, using(crate::proofs::PageSigns::flat_nodes, crate::proofs::PageSigns::flat_meet))]
 pub fn nodes_of_flat_lines_stay()
     ensures nodes { (ls : List (List Item)) (at : ℕ) (signs : List ContentSign) → AreFlatLines ls → things signs ≡ things (signs_of_lines at ls)
         → AreNodes signs }
     ensures meet { (s : Setting) (ls : List (List Item)) (at : ℕ) (signs : List ContentSign) → AreFlatLines ls
-        → things signs ≡ things (signs_of_lines at ls) → AllMeet s [] signs [] }
+        → things signs ≡ things (signs_of_lines at ls) → AllStayOpen s [] signs → AllMeet s [] signs [] }
 {}
 
 /// A block of the page without groups and styles (`IsFlatBlock`) has, as it is sent back, the signs that it has there: the characters
@@ -179,11 +180,12 @@ pub fn nodes_sent_are_those_of_the_page()
 
 /// A content of the nodes of flat lines of a page (`AreFlatLines`), with any texts between them, is one that is read sign by sign
 /// (`IsFlatContent`), if the source of each node stands whatever is written behind it, and a line begins where a line of comments stands
-/// (`AreMarksLed`).
+/// (`AreMarksLed`), and none on its line closes a tag that opens a pair (`AllStayOpen`).
 #[tactic(auto, using(crate::proofs::FlatContents::flat_content))]
 pub fn texts_beside_nodes_of_the_page_are_flat()
     ensures { (s : Setting) (ls : List (List Item)) (at : ℕ) (signs : List ContentSign) → s.within ≡ false → AreFlatLines ls
-        → AreKept (signs_of_lines at ls) → AreCharacters signs → AreMarksLed signs → things signs ≡ things (signs_of_lines at ls) → IsFlatContent s signs }
+        → AreKept (signs_of_lines at ls) → AreCharacters signs → AreMarksLed signs → things signs ≡ things (signs_of_lines at ls) → AllStayOpen s [] signs
+        → IsFlatContent s signs }
 {}
 
 /// A paragraph or a heading of the page that its lines make (`IsBlockOfLines`), none of which has a style (`AreUnstyled`) or a form that
@@ -219,12 +221,12 @@ pub fn nodes_of_flat_lines_show_their_sources()
 /// What is sent for such a block, with its nodes as they are and any texts between them, is a content that is read sign by sign
 /// (`IsFlatContent`): each node has the number of the page's, in the page's order, and is of the same kind and plain view (`AreSent`).
 /// Asked of the page is that the source of each node stands whatever is written behind it (`AreKept`), and of what is sent that a line begins
-/// where a line of comments stands (`AreMarksLed`).
+/// where a line of comments stands (`AreMarksLed`), and none on its line closes a tag that opens a pair (`AllStayOpen`).
 pub fn texts_sent_beside_nodes_are_flat()
     ensures { (same : Block → Block → Bool) (s : Setting) (pl : Where) (ls : List (List Item)) (block : Block) (news : Trees) → TellsSame same → s.within ≡ false
         → AreFlatLines ls → AreUnstyled ls → IsBlockOfLines ls block → AreKept (signs_of_lines (length (label block).opening) ls)
         → AreSent (page_of same block) news → numbers news ≡ numbers (children_of block) → AreCharacters (signs_of_all (page_of same block) pl news)
-        → AreMarksLed (signs_of_all (page_of same block) pl news) → IsFlatContent s (signs_of_all (page_of same block) pl news) }
+        → AreMarksLed (signs_of_all (page_of same block) pl news) → AllStayOpen s [] (signs_of_all (page_of same block) pl news) → IsFlatContent s (signs_of_all (page_of same block) pl news) }
 {}
 
 /// What is written for such a content is again lines of a page of which the content may be: its lines are flat (`AreFlatLines`), no

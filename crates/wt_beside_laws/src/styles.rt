@@ -38,7 +38,7 @@ ghost use Rattle.wt_beside_laws.specs.InHeadings.{KeepsLevel, heading_of};
 ghost use Rattle.wt_beside_laws.specs.Led.{AreMarksLed};
 ghost use Rattle.wt_beside_laws.specs.Lines.{AreCharacters, line_items, content_lines};
 ghost use Rattle.wt_beside_laws.specs.Nests.{Nest, nest_segments, nest_parts, IsNest};
-ghost use Rattle.wt_beside_laws.specs.Nodes.{AreNodes, AllMeet};
+ghost use Rattle.wt_beside_laws.specs.Nodes.{AreNodes, AllStayOpen, AllMeet};
 ghost use Rattle.wt_beside_laws.specs.OwnLed.{AreOwnLed, begin_marked};
 ghost use Rattle.wt_beside_laws.specs.PageBlocks.{AreShut, IsBlockOfLines};
 ghost use Rattle.wt_beside_laws.specs.PageSigns.{signs_of_lines, AreFlatLines};
@@ -118,11 +118,11 @@ pub fn texts_in_styles_may_be_in_headings()
 /// A content with styles of nodes of flat lines of a page (`AreFlatLines`), any of them in their order, with any texts between them and styles
 /// round them, is one that is read sign by sign, if the source of each node stands whatever is written behind it. The delimiters, and the nowikis of
 /// empty styles, may be anywhere among these nodes (`AreSomeAndPut`). A bare URL that is directly before a delimiter in the page ends with no apostrophe,
-/// and where a line of comments stands a line begins (`AreMarksLed`).
+/// where a line of comments stands a line begins (`AreMarksLed`), and none on its line closes a tag that opens a pair (`AllStayOpen`).
 pub fn nodes_of_the_page_stay_in_styles()
     ensures { (s : Setting) (ls : List (List Item)) (at : ℕ) (t : StyledContent) → s.within ≡ false → AreFlatLines ls → AreKept (signs_of_lines at ls)
         → AreCharacters (signs_in t) → AreNested false false t → AreMarksLed (signs_in t) → AreSomeAndPut (things (signs_in t)) (things (signs_of_lines at ls))
-        → AreUrlsApart (things (signs_in t)) → IsStyledContent s t }
+        → AreUrlsApart (things (signs_in t)) → AllStayOpen s [] (signs_in t) → IsStyledContent s t }
 {}
 
 /// What an editor sends of such a paragraph, with its nodes as they are in the page, any texts beside them and inside of bold and italic,
@@ -153,12 +153,14 @@ pub fn blocks_with_styles_have_their_nodes()
 
 /// What an editor sends of such a block is such a content, whatever is typed: nodes with numbers of the block's own, any of them in their order,
 /// directly in it or in bold and italic, which may be others than the block's, and which nest (`AllNest`). It is asked that the source of each node
-/// of the block stands, and that no bare URL that is directly before a delimiter in the page ends with an apostrophe.
+/// of the block stands, that no bare URL that is directly before a delimiter in the page ends with an apostrophe, and that none on its line closes
+/// a tag that opens a pair (`AllStayOpen`).
 pub fn texts_sent_in_styles_are_such()
     ensures { (same : Tree → Tree → Bool) (s : Setting) (ls : List (List Item)) (block : Tree) (us : Trees) → s.within ≡ false → AreFlatLines ls
         → IsBlockOfLines ls block → AreKept (signs_of_lines (length (label block).opening) ls) → AllNest false false us
         → AreMarksLed (signs_in (sent_content (page_of same block) us)) → AreSomeOf (all_numbers us) (all_numbers (children_of block)) → AreCharacters (signs_in (sent_content (page_of same block) us))
-        → AreUrlsApart (things (signs_in (sent_content (page_of same block) us))) → IsStyledContent s (sent_content (page_of same block) us) }
+        → AreUrlsApart (things (signs_in (sent_content (page_of same block) us))) → AllStayOpen s [] (signs_in (sent_content (page_of same block) us))
+        → IsStyledContent s (sent_content (page_of same block) us) }
 {}
 
 /// A content that is read by itself (`IsContent`) and calls nothing is such a one with bold and italic or without (`IsStyledIn`) where the source of

@@ -11,10 +11,10 @@ ghost use Rattle.wt_text_edit_laws.specs.Contents.{IsContent};
 ghost use Rattle.wt_text_edit_laws.specs.NoCalls.{CallsNothing};
 ghost use Rattle.wt_text_edit_laws.specs.PageCuts.{AreCuts, AreFree, EndsClosed};
 ghost use Rattle.wt_text_edit_laws.specs.TextBlocks.{TextBlock, block_items};
-ghost use Rattle.wt_text_edit_laws.specs.Unclosed.{is_unclosed_item, last_of};
 ghost use Rattle.wt_beside_laws.specs.EndedNodes.{LinesOpenNoPair, AreEndedNodes};
 ghost use Rattle.wt_beside_laws.specs.FlatBlocks.{lines_in, signs_in};
 ghost use Rattle.wt_beside_laws.specs.OpenEnds.{MarksEnd, ShownLast};
+ghost use Rattle.wt_text_edit_laws.specs.Unclosed.{is_unclosed_item, last_of};
 ghost use Rattle.wt_beside_laws.specs.StyledIn.{IsStyledIn};
 
 /// Of a page that calls nothing, any paragraphs and headings that aren't tangled and hold nothing that can only be kept as
@@ -37,13 +37,12 @@ pub fn untangled_paragraphs_of_the_body_are_contents()
 
 /// A content that is read by itself and calls nothing, as each of these is (`untangled_blocks_are_contents`), takes texts beside its
 /// nodes, bold and italic (`IsStyledIn`): its lines are flat, the source of each node is UTF-8 and stands whatever is written behind
-/// it, and none ends in an open tag. Asked is that no tag opens a pair without a closing tag on its line (`LinesOpenNoPair`); and of
-/// each node, that each tag of an extension and `<nowiki>` in its source has its closing tag there, that a bare URL doesn't end with a
-/// `&` and letters, and that no two braces are side by side in it (`AreEndedNodes`).
+/// it, and none ends in an open tag. Asked is of each node that each tag of an extension and `<nowiki>` in its source has its closing
+/// tag there, that a bare URL doesn't end with a `&` and letters, and that no two braces are side by side in it (`AreEndedNodes`).
 #[tactic(auto, using(crate::proofs::Own::Kept::content_styled))]
 pub fn contents_read_by_themselves_take_styles()
-    ensures { (k : TextBlock) (q : List ℕ) → IsContent k q → CallsNothing (block_items k q) → LinesOpenNoPair (lines_in k q)
-        → AreEndedNodes (signs_in k q) → IsStyledIn k q }
+    ensures { (k : TextBlock) (q : List ℕ) → IsContent k q → CallsNothing (block_items k q) → AreEndedNodes (signs_in k q)
+        → IsStyledIn k q }
 {}
 
 /// A comment, an include tag and a hidden part of a page end with a `>`, and a line of comments with its line break; but one that

@@ -1,6 +1,5 @@
 -- Paragraphs and headings of a page that calls nothing, told by its lines: what has to be known of each follows from the page.
 pub mod Signs
-pub mod Unled
 pub mod HeadLevels
 pub mod HeadParts
 pub mod HeadItems

@@ -6,7 +6,7 @@ use Rattle.wt_lines.specs.Lines.{is_break_item, lines}
 use Rattle.wt_inline.specs.ItemTree.{ItemTree}
 use Rattle.wt_page.specs.Rows.{marks_len}
 use Rattle.wt_text_edit_laws.specs.ParagraphParts.{break, joined_parts, para_with}
-use Rattle.wt_text_edit_laws.specs.Paragraphs.{IsTextLine}
+use Rattle.wt_text_edit_laws.specs.Paragraphs.{IsSeenLine}
 use Rattle.wt_text_edit_laws.specs.TextBlocks.{TextBlock, a_paragraph, a_heading}
 use Rattle.wt_text_edit_laws.specs.TypedHeadings.{Sides, AreSides, heading_line, heading_round, IsInside, IsOfLevel}
 use Rattle.wt_called_edit_laws.specs.InCells.{AreTextLines}
@@ -22,9 +22,9 @@ abbrev pub tree_round : TextBlock → List Item → ItemTree
 tree_round a_paragraph xs = para_with (joined_parts (lines xs))
 tree_round (a_heading s) xs = heading_round s xs
 
--- Lines of text. No mark stands before the first, and each line break is the page's own.
+-- Lines, in each of which something is neither a blank nor a mark. No mark stands before the first, and each line break is the page's own.
 pub record AreTextItems (xs : List Item) : Type 0 where
-  pub are_lines : All IsTextLine (lines xs)
+  pub seen : All IsSeenLine (lines xs)
   pub unled : marks_len xs ≡ 0
   pub own_breaks : AllByRecursion (λ x. is_break_item x ≡ true → x ≡ break) xs
 

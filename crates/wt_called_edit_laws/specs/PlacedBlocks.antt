@@ -6,12 +6,12 @@ use Rattle.wt_lines.specs.declared.kind.LineKind.TheVariants as line
 use Rattle.wt_lines.specs.Lines.{full_lines, content}
 use Rattle.wt_page.specs.Lines.{kind_at}
 use Rattle.wt_tables.specs.Parts.{joined}
-use Rattle.wt_page.specs.Rows.{rows_from}
+use Rattle.wt_page.specs.Rows.{marks_len, rows_from}
 use Rattle.wt_expand.specs.PageItems.{page_items}
 use Rattle.wt_part_laws.specs.Slots.{AllTrue}
 use Rattle.wt_text_edit_laws.specs.BlockSpots.{BlockSpot}
 use Rattle.wt_text_edit_laws.specs.NoCalls.{CallsNothing}
-use Rattle.wt_text_edit_laws.specs.PageCuts.{AreBlockItems, begins_unmarked, EndsClosed, EndsThere, IsFreeBlock}
+use Rattle.wt_text_edit_laws.specs.PageCuts.{AreBlockItems, EndsClosed, EndsThere, IsFreeBlock}
 use Rattle.wt_text_edit_laws.specs.ParagraphBetween.{written_rows, tables_behind, EndApart, BeginApart}
 use Rattle.wt_text_edit_laws.specs.Parts.{HasNoGroups}
 use Rattle.wt_text_edit_laws.specs.TextBetween.{AreEnded}
@@ -60,13 +60,13 @@ pub record IsHeadingOn (xs : List Item) (s : Sides) (q : List ℕ) : Type 0 wher
   pub in_cells : AllTrue (open_after [] (written_rows 0 before))
   pub heading : AreBlockItems (a_heading s) q (content line)
 
--- each is text, where so many tables are open, too
+-- each is text where so many tables are open
 abbrev pub AreLinesAt : ℕ → List (List Item) → Type 0
 AreLinesAt n [] = Unit {0}
-AreLinesAt n (l ∷ ls) = (kind_at 0 l ≡ line.Text) × (kind_at n l ≡ line.Text) × AreLinesAt n ls
+AreLinesAt n (l ∷ ls) = (kind_at n l ≡ line.Text) × AreLinesAt n ls
 
--- Some of these lines are a paragraph: text, in the body, in a cell or in a caption, with no other text beside it. No mark begins it, nor is one behind
--- the blanks that do; before a later line marks may be.
+-- Some of these lines are a paragraph: text, in the body, in a cell or in a caption, with no other text beside it. No mark begins it; before a later
+-- line marks may be.
 pub record IsParagraphOn (xs : List Item) (own : List Item) : Type 0 where
   pub before : List (List Item)
   pub first : List Item
@@ -78,4 +78,4 @@ pub record IsParagraphOn (xs : List Item) (own : List Item) : Type 0 where
   pub texts : AreLinesAt (tables_behind 0 before) (first ∷ more)
   pub apart : EndApart (written_rows 0 before)
   pub stops : BeginApart (rows_from (tables_behind 0 before) behind)
-  pub unmarked : begins_unmarked own ≡ true
+  pub unled : marks_len own ≡ 0

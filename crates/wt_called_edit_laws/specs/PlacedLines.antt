@@ -7,10 +7,10 @@ use Rattle.wt_expand.specs.PageItems.{page_items}
 use Rattle.wt_lines.specs.Lines.{content, full_lines}
 use Rattle.wt_page.specs.Lines.{ending}
 use Rattle.wt_tables.specs.Parts.{joined}
-use Rattle.wt_page.specs.Rows.{rows_from}
+use Rattle.wt_page.specs.Rows.{marks_len, rows_from}
 use Rattle.wt_part_laws.specs.Slots.{AllTrue}
 use Rattle.wt_text_edit_laws.specs.BlockSpots.{BlockSpot}
-use Rattle.wt_text_edit_laws.specs.PageCuts.{AreBlockItems, begins_unmarked, EndClosed}
+use Rattle.wt_text_edit_laws.specs.PageCuts.{AreBlockItems, begins_unmarked, EndClosed, EndsClosed}
 use Rattle.wt_text_edit_laws.specs.NoCalls.{CallsNothing}
 use Rattle.wt_text_edit_laws.specs.Parts.{HasNoGroups}
 use Rattle.wt_text_edit_laws.specs.ParagraphBetween.{written_rows, BeginApart}
@@ -47,7 +47,7 @@ end_by es (b ∷ bs) behind = end_by (ending (joined (b.first ∷ b.more))) bs b
 
 -- its own lines, where so many tables are open
 abbrev pub OwnLined : TextBlock → ℕ → List ℕ → List (List Item) → Type 0
-OwnLined a_paragraph n q ls = AreLinesAt n ls × (begins_unmarked (content (joined ls)) ≡ true) × (sources (content (joined ls)) ≡ q)
+OwnLined a_paragraph n q ls = AreLinesAt n ls × (marks_len (content (joined ls)) ≡ 0) × (sources (content (joined ls)) ≡ q)
 OwnLined (a_heading s) n q ls = AreBlockItems (a_heading s) q (content (joined ls))
 
 -- In the body, in a cell or in a caption, and before a paragraph is no text. Marks may begin its line, the last of which ends with a `>` or a line break.

@@ -6,11 +6,11 @@ use Rattle.std.specs.Str.{IsUtf8}
 use Rattle.wt_span.specs.Items.{Item, is_mark, sources}
 use Rattle.wt_expand.specs.PageItems.{page_items}
 use Rattle.wt_lines.specs.Lines.{content, full_lines}
-use Rattle.wt_page.specs.Rows.{Row}
+use Rattle.wt_page.specs.Rows.{Row, marks_len}
 use Rattle.wt_part_laws.specs.Slots.{AllTrue}
 use Rattle.wt_tables.specs.Parts.{joined}
 use Rattle.wt_text_edit_laws.specs.NoCalls.{CallsNothing}
-use Rattle.wt_text_edit_laws.specs.PageCuts.{begins_unmarked, EndClosed}
+use Rattle.wt_text_edit_laws.specs.PageCuts.{begins_unmarked, EndClosed, EndsClosed}
 use Rattle.wt_text_edit_laws.specs.ParagraphBetween.{written_rows}
 use Rattle.wt_text_edit_laws.specs.Parts.{HasNoGroups}
 use Rattle.wt_text_edit_laws.specs.TextBetween.{AreEnded}
@@ -35,7 +35,7 @@ lined (a_heading_on before marks l) =
 
 -- where so many tables are open
 abbrev pub OwnTold : Told → ℕ → Type 0
-OwnTold (a_paragraph_of before marks first more) n = AreLinesAt n (first ∷ more) × (begins_unmarked (content (joined (first ∷ more))) ≡ true)
+OwnTold (a_paragraph_of before marks first more) n = AreLinesAt n (first ∷ more) × (marks_len (content (joined (first ∷ more))) ≡ 0)
 OwnTold (a_heading_on before marks l) n = IsLinedHeading n l
 
 abbrev pub rows_before : List Bool → Told → List Row

@@ -17,8 +17,8 @@ ghost use Rattle.wt_text_edit_laws.specs.BlockSpots.{BlockSpot};
 ghost use Rattle.wt_text_edit_laws.specs.PageCuts.{AreBlockItems, EndsClosed};
 ghost use Rattle.wt_text_edit_laws.specs.TextBlocks.{TextBlock, a_heading, block_tree};
 ghost use Rattle.wt_text_edit_laws.specs.TypedHeadings.{Sides};
-ghost use Rattle.wt_beside_laws.specs.EndedNodes.{LinesOpenNoPair, AreEndedNodes};
-ghost use Rattle.wt_beside_laws.specs.FlatBlocks.{lines_in, signs_in};
+ghost use Rattle.wt_beside_laws.specs.EndedNodes.{AreEndedNodes};
+ghost use Rattle.wt_beside_laws.specs.FlatBlocks.{signs_in};
 ghost use Rattle.wt_beside_laws.specs.StyledIn.{IsStyledIn};
 ghost use Rattle.wt_called_edit_laws.specs.AllTold.{AllBlocksTold};
 ghost use Rattle.wt_called_edit_laws.specs.CalledPages.{IsCalledPage};
@@ -56,14 +56,13 @@ pub fn blocks_are_told_by_their_lines()
 {}
 
 /// The nodes of each of them may stay, in their order, with any texts between them, and so may its bold and italic (`IsStyledIn`):
-/// asked is only that no tag in it opens a pair without a closing tag on its line (`LinesOpenNoPair`), and that the source of each
-/// node ends what it begins (`AreEndedNodes`). So it is of each block among calls that calls nothing.
+/// asked is only that the source of each node ends what it begins (`AreEndedNodes`). So it is of each block among calls that calls
+/// nothing.
 pub fn nodes_of_told_blocks_stay()
     ensures told { (page : List ℕ) (ts : List Told) (t : Told) (us : List Told) (behind : List (List Item)) → IsToldPage page (ts ++ t ∷ us) behind
-        → LinesOpenNoPair (lines_in (lined t).block (lined t).text) → AreEndedNodes (signs_in (lined t).block (lined t).text)
-        → IsStyledIn (lined t).block (lined t).text }
+        → AreEndedNodes (signs_in (lined t).block (lined t).text) → IsStyledIn (lined t).block (lined t).text }
     ensures called { (pages : Pages) (ss : List BlockSpot) (s : BlockSpot) (rs : List BlockSpot) (behind : List ℕ) → IsCalledPage pages (ss ++ s ∷ rs) behind
-        → LinesOpenNoPair (lines_in s.block s.text) → AreEndedNodes (signs_in s.block s.text) → IsStyledIn s.block s.text }
+        → AreEndedNodes (signs_in s.block s.text) → IsStyledIn s.block s.text }
 {}
 
 /// Where a node of a page's tree is such a block and isn't tangled there, no tag is open at the end of a node in it (`IsShut`).
@@ -92,9 +91,9 @@ pub fn told_blocks_are_told_together()
 
 /// So each paragraph and heading of such a page's tree that is outside of groups, holds none and isn't tangled, and holds no mark
 /// that nothing ends, may be edited at its path, which is one of those of blocks that the lines tell; but for these: text behind
-/// the sign of a table's end or a rule on its line, text that begins with a mark behind blanks, and the others of
-/// `IsExceptedAt`; and a block whose line break before or behind it comes from a call, or beside which one is on its line that
-/// gives nothing (`beside_a_call`).
+/// the sign of a table's end or a rule on its line; a block for which a call gives the line break before or behind it, or which
+/// has one before it on its line that gives nothing (`beside_a_call`); one in which a function is kept (`holds_a_function`); and the
+/// others of `IsExceptedIn`.
 pub fn each_block_is_told_or_excepted()
     ensures all { (pages : Pages) (page : List ℕ) → IsUtf8 page → refusal_of_page pages page ≡ None → AllBlocksTold pages page }
 {}

@@ -1,5 +1,5 @@
--- HTML that makes a text edit of a page that calls nothing is answered by the new page.
-use Rattle.std.proofs.Common.{◌≡◌, ℕ, ◌≤◌, Bool, Option, Some, None, List, [], ◌∷◌, length, map, ap, ◌∙◌, subst}
+-- HTML that makes a text edit of a page is answered by the new page.
+use Rattle.std.proofs.Common.{◌≡◌, ℕ, ◌≤◌, Bool, Option, Some, List, [], ◌∷◌, length, ap, ◌∙◌}
 use Rattle.std.specs.Prelude.{if◌then◌else◌}
 use Rattle.std.specs.List.{AllByRecursion}
 use Rattle.std.specs.Str.{IsUtf8}
@@ -18,19 +18,16 @@ use Rattle.wt_slices.specs.Changes.{Pair, marked}
 use Rattle.wt_splice.specs.Splice.{spliced}
 use Rattle.wt_visible.specs.SameNodes.{same_node}
 use Rattle.wt_commands.specs.declared.refusal.Refusal.TheVariants.{TooLong, InputTooLong}
-use Rattle.wt_commands.specs.Answers.{Answer, refusal_of_page, done, refused, text_answer, title_answer, edited_answer, input_answer, edit_of, edit_to}
-use Rattle.wt_text_edit_laws.specs.BlockSpots.{spots_source}
+use Rattle.wt_commands.specs.Answers.{Answer, done, refused, text_answer, title_answer, edited_answer, input_answer, edit_of, edit_to}
 use Rattle.wt_text_edit_laws.proofs.Prose.ProseTakes.{not_longer}
 use Rattle.wt_called_edit_laws.specs.ContentsTaken.{TakesContents}
-use Rattle.wt_called_edit_laws.specs.PlacedLines.{spots_by, end_by}
-use Rattle.wt_called_edit_laws.specs.ToldLines.{Told, lined, IsToldPage}
-use Rattle.wt_called_edit_laws.proofs.Cells.PlacedLines.{lined_whole}
-use Rattle.wt_called_edit_laws.proofs.Told.ToldPages.{told_lined, told_called}
+use Rattle.wt_called_edit_laws.specs.LinedAmong.{spots_of_lines, end_of_lines, IsLinedAmong}
+use Rattle.wt_called_edit_laws.specs.PlacedLines.{LinedBlock}
 use Rattle.wt_inside_laws.specs.HtmlEdits.{IsHtmlEdit}
 use Rattle.wt_inside_laws.specs.RetypedPieces.{AreRead, AreUtf8}
 use Rattle.wt_inside_laws.specs.ToldEdits.{IsReadBlock, IsToldEdit}
 use Rattle.wt_inside_laws.proofs.ReadSent.{read_for, read_blocks}
-use Rattle.wt_inside_laws.proofs.ToldEdits.{told_edit_done}
+use Rattle.wt_inside_laws.proofs.ToldEdits.{lined_edit_done}
 
 -- of what is under a title, to an input
 pub edit_is : (pages : Pages) (page new input : List ℕ) (u : Tree) (unsourced : Option ℕ) → IsUtf8 page → length page ≤ PAGE_BYTES → length input ≤ HTML_BYTES
@@ -44,35 +41,27 @@ edit_is pages page new input u unsourced utf8 short small is made =
     ∙ ap (edited_answer pages page) is
     ∙ made
 
-page_unrefused : (pages : Pages) (page : List ℕ) (ts : List Told) (rest : List (List Item)) → IsToldPage page ts rest → refusal_of_page pages page ≡ None
-page_unrefused pages page ts rest h =
-    let lines = told_lined page ts rest h in
-    let whole : spots_source (spots_by [] (map lined ts)) (end_by [] (map lined ts) rest) ≡ page = lined_whole page (map lined ts) rest lines.are lines.lined in
-    let called = told_called pages page ts rest h in
-    subst (λ (bs : List ℕ). refusal_of_page pages bs ≡ None) whole called.unrefused
-
 blocks_read : (ps : List Pair) → AllByRecursion (λ p. AreRead (children_of p.new) × AreUtf8 (children_of p.new)) ps → AllByRecursion IsReadBlock ps
 blocks_read [] h = tt
 blocks_read (p ∷ ps) h = (record { read = h.0.0; utf8 = h.0.1 }, blocks_read ps h.1)
 
-pub html_told : (pages : Pages) (page input : List ℕ) (ts : List Told) (rest : List (List Item)) (paths : List (List ℕ)) (new : Tree) (unsourced : Option ℕ)
-    → IsToldPage page ts rest → IsHtmlEdit pages page input paths new unsourced → IsToldEdit pages page paths new
-html_told pages page input ts rest paths new unsourced h e =
-    let unrefused : refusal_of_page pages page ≡ None = page_unrefused pages page ts rest h in
-    record {
-      short = e.short;
-      edit = e.edit;
-      read = read_for pages page input new unsourced h.utf8 e.short unrefused e.reads e.edit.checks;
-      blocks =
-          blocks_read (marked (page_tree pages page) new)
-          (read_blocks same_node (expanded_page pages page) page pages page input new unsourced h.utf8 e.short unrefused e.reads e.edit.checks e.edit.blocks);
-      ordinary = e.ordinary;
-      among = e.among;
-    }
+pub html_lined : (pages : Pages) (page input : List ℕ) (bs : List LinedBlock) (rest : List (List Item)) (paths : List (List ℕ)) (new : Tree) (unsourced : Option ℕ)
+    → IsLinedAmong pages page bs rest → IsHtmlEdit pages page input paths new unsourced → IsToldEdit pages page paths new
+html_lined pages page input bs rest paths new unsourced h e = record {
+  short = e.short;
+  edit = e.edit;
+  read = read_for pages page input new unsourced h.utf8 e.short h.unrefused e.reads e.edit.checks;
+  blocks =
+      blocks_read (marked (page_tree pages page) new)
+      (read_blocks same_node (expanded_page pages page) page pages page input new unsourced h.utf8 e.short h.unrefused e.reads e.edit.checks e.edit.blocks);
+  ordinary = e.ordinary;
+  among = e.among;
+}
 
-pub html_edit_done : (pages : Pages) (page input : List ℕ) (ts : List Told) (rest : List (List Item)) (new : Tree) (unsourced : Option ℕ) → IsToldPage page ts rest
-    → (c : TakesContents pages (spots_by [] (map lined ts)) (end_by [] (map lined ts) rest)) → IsHtmlEdit pages page input c.paths new unsourced
+pub html_edit_done : (pages : Pages) (page input : List ℕ) (bs : List LinedBlock) (rest : List (List Item)) (new : Tree) (unsourced : Option ℕ)
+    → IsLinedAmong pages page bs rest → (c : TakesContents pages (spots_of_lines pages page bs) (end_of_lines pages page bs rest))
+    → IsHtmlEdit pages page input c.paths new unsourced
     → edit_of pages (Some page) input ≡ done (spliced page (slices same_node (page_tree pages page) new))
-html_edit_done pages page input ts rest new unsourced h c e =
+html_edit_done pages page input bs rest new unsourced h c e =
     edit_is pages page (spliced page (slices same_node (page_tree pages page) new)) input new unsourced h.utf8 e.short e.within e.reads
-    (told_edit_done pages page ts rest new h c (html_told pages page input ts rest c.paths new unsourced h e))
+    (lined_edit_done pages page bs rest new h c (html_lined pages page input bs rest c.paths new unsourced h e))

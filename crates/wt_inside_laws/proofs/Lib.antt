@@ -38,9 +38,16 @@ pub mod SlotsLed
 pub mod Breaks
 pub mod SlotsFirst
 pub mod OwnEdits
+pub mod Reached
+pub mod UncalledGuards
+pub mod UncalledSlots
+pub mod UncalledPage
+pub mod CallingPieces
+pub mod CallingEdits
 pub mod ToldEdits
 pub mod HtmlEdits
 pub mod OrdinaryEdits
+pub mod LocalTextEdits
 pub mod InsidesCases
 pub mod PageCases
 pub mod LocalCases

@@ -422,3 +422,11 @@ pub all_alike : (same : Tree → Tree → Bool) (items : Expanded) (bytes : List
     → AllByRecursion (IsAlike same (page_of t)) (marked t new)
 all_alike same items bytes t new tells h r e =
     each_alike same items bytes t (marked t new) tells (good_at same items bytes t (places new) (known_places t h) r) r e
+
+numbered_blocks : (t : Tree) (ps : List Pair) → AllByRecursion (IsGoodBlock t) ps → AllByRecursion (λ p. HaveNumberedGroups (children_of p.old)) ps
+numbered_blocks t [] g = tt
+numbered_blocks t (p ∷ ps) g = (g.0.numbered, numbered_blocks t ps g.1)
+
+pub all_numbered : (same : Tree → Tree → Bool) (items : Expanded) (bytes : List ℕ) (t new : Tree) → IsPlainPage t
+    → AllByRecursion (IsRetyped same items bytes) (marked t new) → AllByRecursion (λ p. HaveNumberedGroups (children_of p.old)) (marked t new)
+all_numbered same items bytes t new h r = numbered_blocks t (marked t new) (good_at same items bytes t (places new) (known_places t h) r)

@@ -1,11 +1,13 @@
--- A text edit of ordinary blocks is done, of any page that calls nothing.
-use Rattle.std.proofs.Common.{arith, ◌≡◌, ◌⊎◌, ℕ, zero, suc, ◌≤◌, true, Option, Some, None, List, [], ◌∷◌, length, map, refl, ap, subst, inl, inr}
+-- A text edit of ordinary blocks is done, of any page that isn't refused.
+use Rattle.std.proofs.Common.{arith, ◌≡◌, ◌⊎◌, ℕ, ◌≤◌, true, Option, Some, List, [], ◌∷◌, length, map, refl, ap, subst, inl, inr}
 use Rattle.std.specs.List.{AllByRecursion}
+use Rattle.wt_span.specs.Items.{Item}
 use Rattle.wt_span.specs.declared.limits.TheConstants.{HTML_BYTES}
 use Rattle.wt_tree.specs.declared.kind.Kind.{Kind}
 use Rattle.wt_tree.specs.declared.kind.Kind.TheVariants as kind
 use Rattle.wt_tree.specs.EditShapes.{edit_shape}
-use Rattle.wt_tree.specs.Tree.{Tree, tree, Trees, none, more, label}
+use Rattle.wt_tree.specs.Tiling.{is_group}
+use Rattle.wt_tree.specs.Tree.{Tree, label}
 use Rattle.wt_expand.specs.PageCalls.{expanded_page}
 use Rattle.wt_expand.specs.Work.{Pages}
 use Rattle.wt_link_spelling.specs.Spelling.{children_of}
@@ -14,23 +16,28 @@ use Rattle.wt_slices.specs.BodySlices.{slices}
 use Rattle.wt_slices.specs.Changes.{Pair, marked}
 use Rattle.wt_splice.specs.Splice.{spliced}
 use Rattle.wt_visible.specs.SameNodes.{same_node}
-use Rattle.wt_commands.specs.Answers.{refusal_of_page, done, edit_of, edit_to}
+use Rattle.wt_commands.specs.Answers.{done, edit_of, edit_to}
 use Rattle.wt_typed_blocks.specs.Edited.{Edits}
-use Rattle.wt_text_edit_laws.proofs.Between.NoCalls.{calm_unrefused}
 use Rattle.wt_called_edit_laws.specs.AllTold.{AllBlocksTold, IsExcepted, IsOneOf as IsAnyOf}
+use Rattle.wt_called_edit_laws.specs.ContentsTaken.{TakesContents}
 use Rattle.wt_called_edit_laws.specs.Groups.{called_tree}
-use Rattle.wt_called_edit_laws.specs.RowBlocks.{IsTextBlock, IsAtPath, IsAmong}
-use Rattle.wt_called_edit_laws.specs.ToldLines.{Told}
+use Rattle.wt_called_edit_laws.specs.LinedAmong.{spots_of_lines, end_of_lines, IsLinedAmong}
+use Rattle.wt_called_edit_laws.specs.PlacedLines.{LinedBlock}
+use Rattle.wt_called_edit_laws.specs.RowBlocks.{IsTextBlock}
+use Rattle.wt_called_edit_laws.specs.ToldLines.{Told, lined}
 use Rattle.wt_called_edit_laws.specs.ToldTogether.{AreSome}
 use Rattle.wt_called_edit_laws.proofs.AllTold.Complete.{all_blocks}
-use Rattle.wt_inside_laws.specs.AsSent.{edits_of, paths_of, node_at, node_among, IsOneOf, AreSomeOf, IsReadFor, IsSentOn}
+use Rattle.wt_called_edit_laws.proofs.Among.ToldAmong.{told_among}
+use Rattle.wt_called_edit_laws.proofs.PageBody.{page_body}
+use Rattle.wt_inside_laws.specs.AsSent.{edits_of, paths_of, node_at, IsOneOf, AreSomeOf, IsReadFor, IsSentOn}
 use Rattle.wt_inside_laws.specs.RetypedPieces.{AreRead, AreUtf8}
 use Rattle.wt_inside_laws.specs.TextEdits.{takes_text, IsRetyped}
-use Rattle.wt_inside_laws.specs.ToldEdits.{IsReadBlock, IsOrdinary, IsOrdinaryOn, IsOrdinaryEdit}
+use Rattle.wt_inside_laws.specs.ToldEdits.{IsReadBlock, IsOrdinary, IsOrdinaryOn, IsToldEdit, IsOrdinaryEdit}
 use Rattle.wt_inside_laws.proofs.HtmlEdits.{edit_is}
 use Rattle.wt_inside_laws.proofs.PageAlike.{text_edit_sent}
+use Rattle.wt_inside_laws.proofs.Reached.{Reaches, edits_reach}
 use Rattle.wt_inside_laws.proofs.ReadSent.{read_for, read_blocks}
-use Rattle.wt_inside_laws.proofs.ToldEdits.{same_node_at, first_same, rest_same, told_edit_done}
+use Rattle.wt_inside_laws.proofs.ToldEdits.{first_same, rest_same, lined_edit_done}
 
 -- ---- paths
 
@@ -38,16 +45,6 @@ one_same : (p : List ℕ) (qs : List (List ℕ)) → IsAnyOf p qs → IsOneOf p 
 one_same p [] h = absurd h
 one_same p (q ∷ qs) (inl e) = inl e
 one_same p (q ∷ qs) (inr h) = inr (one_same p qs h)
-
-mutual
-  at_path : (p : List ℕ) (t u : Tree) → node_at p t ≡ Some u → IsAtPath p t u
-  at_path [] t u e = same_node_at t u e
-  at_path (i ∷ is) (tree l ts) u e = among_at i is ts u e
-
-  among_at : (i : ℕ) (is : List ℕ) (ts : Trees) (u : Tree) → node_among i is ts ≡ Some u → IsAmong i is ts u
-  among_at i is none u e = cc
-  among_at zero is (more t ts) u e = at_path is t u e
-  among_at (suc i) is (more t ts) u e = among_at i is ts u e
 
 -- ---- a marked block is told
 
@@ -65,45 +62,45 @@ record IsTold (pages : Pages) (page : List ℕ) (a : AllBlocksTold pages page) (
   some : AreSome a.ts
   one : IsOneOf q (a.told some).taken.paths
 
-told_of : (pages : Pages) (page : List ℕ) (a : AllBlocksTold pages page) (q : List ℕ) (t : Tree) → (IsExcepted page t → ⊥)
-    → ((s : AreSome a.ts) × IsAnyOf q (a.told s).taken.paths) ⊎ IsExcepted page t → IsTold pages page a q
+told_of : (pages : Pages) (page : List ℕ) (a : AllBlocksTold pages page) (q : List ℕ) (t : Tree) → (IsExcepted pages page t → ⊥)
+    → ((s : AreSome a.ts) × IsAnyOf q (a.told s).taken.paths) ⊎ IsExcepted pages page t → IsTold pages page a q
 told_of pages page a q t n (inl h) = record { some = h.0; one = one_same q (a.told h.0).taken.paths h.1 }
 told_of pages page a q t n (inr h) = absurd (n h)
 
-marked_told : (pages : Pages) (page : List ℕ) (a : AllBlocksTold pages page) (q : List ℕ) (m : Pair) → node_at q (called_tree pages page) ≡ Some m.old
-    → IsRetyped same_node (expanded_page pages page) page m → IsOrdinaryOn page m → IsTold pages page a q
-marked_told pages page a q m e r o =
-    told_of pages page a q m.old o.1
-    (a.complete q m.old (at_path q (called_tree pages page) m.old e) (block_kind (label m.old).kind r.block) r.untangled r.closed)
+marked_told : (pages : Pages) (page : List ℕ) (a : AllBlocksTold pages page) (q : List ℕ) (m : Pair) → Reaches (called_tree pages page) q
+    → node_at q (called_tree pages page) ≡ Some m.old → IsRetyped same_node (expanded_page pages page) page m → IsOrdinaryOn pages page m
+    → IsTold pages page a q
+marked_told pages page a q m w e r o =
+    told_of pages page a q m.old o.told (a.complete q m.old (w m.old e) (block_kind (label m.old).kind r.block) o.ungrouped r.untangled r.closed)
+
+abbrev nodes_at : Tree → List (List ℕ) → List (Option Tree)
+nodes_at t qs = map (λ q. node_at q t) qs
+
+abbrev olds : List Pair → List (Option Tree)
+olds ms = map (λ m. Some m.old) ms
 
 -- one of them is
 some_told : (pages : Pages) (page : List ℕ) (a : AllBlocksTold pages page) (qs : List (List ℕ)) (ms : List Pair)
-    → map (λ q. node_at q (called_tree pages page)) qs ≡ map (λ m. Some m.old) ms
-    → AllByRecursion (IsRetyped same_node (expanded_page pages page) page) ms → AllByRecursion (IsOrdinaryOn page) ms → 1 ≤ length ms → AreSome a.ts
-some_told pages page a qs [] e r o le = absurd (omega (arith, le))
-some_told pages page a [] (m ∷ ms) e r o le = absurd (let no = ap length e in omega (arith, no))
-some_told pages page a (q ∷ qs) (m ∷ ms) e r o le =
-    let t : IsTold pages page a q =
-    marked_told pages page a q m
-    (first_same (node_at q (called_tree pages page)) (Some m.old) (map (λ q. node_at q (called_tree pages page)) qs) (map (λ m. Some m.old) ms) e)
-    r.0 o.0 in
-    t.some
+    → AllByRecursion (Reaches (called_tree pages page)) qs → nodes_at (called_tree pages page) qs ≡ olds ms
+    → AllByRecursion (IsRetyped same_node (expanded_page pages page) page) ms → AllByRecursion (IsOrdinaryOn pages page) ms → 1 ≤ length ms → AreSome a.ts
+some_told pages page a qs [] w e r o le = absurd (omega (arith, le))
+some_told pages page a [] (m ∷ ms) w e r o le = absurd (let no = ap length e in omega (arith, no))
+some_told pages page a (q ∷ qs) (m ∷ ms) w e r o le =
+    let t : Tree = called_tree pages page in
+    let told : IsTold pages page a q = marked_told pages page a q m w.0 (first_same (node_at q t) (Some m.old) (nodes_at t qs) (olds ms) e) r.0 o.0 in
+    told.some
 
 all_told : (pages : Pages) (page : List ℕ) (a : AllBlocksTold pages page) (s : AreSome a.ts) (qs : List (List ℕ)) (ms : List Pair)
-    → map (λ q. node_at q (called_tree pages page)) qs ≡ map (λ m. Some m.old) ms
-    → AllByRecursion (IsRetyped same_node (expanded_page pages page) page) ms → AllByRecursion (IsOrdinaryOn page) ms
+    → AllByRecursion (Reaches (called_tree pages page)) qs → nodes_at (called_tree pages page) qs ≡ olds ms
+    → AllByRecursion (IsRetyped same_node (expanded_page pages page) page) ms → AllByRecursion (IsOrdinaryOn pages page) ms
     → AreSomeOf qs (a.told s).taken.paths
-all_told pages page a s [] ms e r o = tt
-all_told pages page a s (q ∷ qs) [] e r o = absurd (let no = ap length e in omega (arith, no))
-all_told pages page a s (q ∷ qs) (m ∷ ms) e r o =
-    let t : IsTold pages page a q =
-    marked_told pages page a q m
-    (first_same (node_at q (called_tree pages page)) (Some m.old) (map (λ q. node_at q (called_tree pages page)) qs) (map (λ m. Some m.old) ms) e)
-    r.0 o.0 in (
-      subst (λ (x : AreSome a.ts). IsOneOf q (a.told x).taken.paths) (only_one a.ts t.some s) t.one,
-      all_told pages page a s qs ms
-          (rest_same (node_at q (called_tree pages page)) (Some m.old) (map (λ q. node_at q (called_tree pages page)) qs) (map (λ m. Some m.old) ms) e)
-          r.1 o.1,
+all_told pages page a s [] ms w e r o = tt
+all_told pages page a s (q ∷ qs) [] w e r o = absurd (let no = ap length e in omega (arith, no))
+all_told pages page a s (q ∷ qs) (m ∷ ms) w e r o =
+    let t : Tree = called_tree pages page in
+    let told : IsTold pages page a q = marked_told pages page a q m w.0 (first_same (node_at q t) (Some m.old) (nodes_at t qs) (olds ms) e) r.0 o.0 in (
+      subst (λ (x : AreSome a.ts). IsOneOf q (a.told x).taken.paths) (only_one a.ts told.some s) told.one,
+      all_told pages page a s qs ms w.1 (rest_same (node_at q t) (Some m.old) (nodes_at t qs) (olds ms) e) r.1 o.1,
     )
 
 -- ---- the edit
@@ -113,31 +110,51 @@ all_read : (ps : List Pair) → AllByRecursion (λ p. AreRead (children_of p.new
 all_read [] h = (tt, tt)
 all_read (p ∷ ps) h = let r = all_read ps h.1 in ((h.0.0, r.0), (record { read = h.0.0; utf8 = h.0.1 }, r.1))
 
-all_ordinary : (page : List ℕ) (ps : List Pair) → AllByRecursion (IsOrdinaryOn page) ps → AllByRecursion IsOrdinary ps
-all_ordinary page [] h = tt
-all_ordinary page (p ∷ ps) h = (h.0.0, all_ordinary page ps h.1)
+all_ordinary : (pages : Pages) (page : List ℕ) (ps : List Pair) → AllByRecursion (IsOrdinaryOn pages page) ps → AllByRecursion IsOrdinary ps
+all_ordinary pages page [] h = tt
+all_ordinary pages page (p ∷ ps) h = (h.0.ordinary, all_ordinary pages page ps h.1)
+
+-- It is a text edit of blocks that the lines of the expanded page tell.
+pub record OrdinaryTold (pages : Pages) (page : List ℕ) (new : Tree) : Type 0 where
+  pub bs : List LinedBlock
+  pub rest : List (List Item)
+  pub lined : IsLinedAmong pages page bs rest
+  pub taken : TakesContents pages (spots_of_lines pages page bs) (end_of_lines pages page bs rest)
+  pub edit : IsToldEdit pages page taken.paths new
+
+pub ordinary_told : (pages : Pages) (page input : List ℕ) (new : Tree) (u : Option ℕ) → IsOrdinaryEdit pages page input new u → OrdinaryTold pages page new
+ordinary_told pages page input new u h =
+    let a : AllBlocksTold pages page = all_blocks pages page h.utf8 h.unrefused in
+    let t : Tree = called_tree pages page in
+    let ms : List Pair = marked (page_tree pages page) new in
+    let es : Edits = edits_of t new in
+    let for_page : IsReadFor (page_tree pages page) new = read_for pages page input new u h.utf8 h.short h.unrefused h.sent h.edit.checks in
+    let blocks =
+    all_read ms (read_blocks same_node (expanded_page pages page) page pages page input new u h.utf8 h.short h.unrefused h.sent h.edit.checks h.edit.blocks) in
+    let sent : IsSentOn pages page new es = text_edit_sent pages page new h.utf8 h.short h.unrefused h.edit for_page blocks.0 in
+    let body = page_body pages page h.utf8 h.unrefused in
+    let reach : AllByRecursion (Reaches t) (paths_of es) = edits_reach t es (ap is_group body.kind) sent.old sent.outside in
+    let s : AreSome a.ts = some_told pages page a (paths_of es) ms reach sent.at h.edit.blocks h.blocks h.some in
+    record {
+      bs = map lined a.ts;
+      rest = a.behind;
+      lined = told_among pages page a.ts a.behind (a.told s).told;
+      taken = (a.told s).taken;
+      edit = record {
+        short = h.short;
+        edit = h.edit;
+        read = for_page;
+        blocks = blocks.1;
+        ordinary = all_ordinary pages page ms h.blocks;
+        among = all_told pages page a s (paths_of es) ms reach sent.at h.edit.blocks h.blocks;
+      };
+    }
 
 pub ordinary_done : (pages : Pages) (page input : List ℕ) (new : Tree) (u : Option ℕ) → IsOrdinaryEdit pages page input new u
     → edit_to pages page new ≡ done (spliced page (slices same_node (page_tree pages page) new))
 ordinary_done pages page input new u h =
-    let a : AllBlocksTold pages page = all_blocks pages page h.utf8 h.calls_nothing h.ungrouped in
-    let t : Tree = called_tree pages page in
-    let ms : List Pair = marked (page_tree pages page) new in
-    let es : Edits = edits_of t new in
-    let unrefused : refusal_of_page pages page ≡ None = calm_unrefused pages page h.calls_nothing in
-    let for_page : IsReadFor (page_tree pages page) new = read_for pages page input new u h.utf8 h.short unrefused h.sent h.edit.checks in
-    let blocks =
-    all_read ms (read_blocks same_node (expanded_page pages page) page pages page input new u h.utf8 h.short unrefused h.sent h.edit.checks h.edit.blocks) in
-    let sent : IsSentOn pages page new es = text_edit_sent pages page new h.utf8 h.short unrefused h.edit for_page blocks.0 in
-    let s : AreSome a.ts = some_told pages page a (paths_of es) ms sent.at h.edit.blocks h.blocks h.some in
-    told_edit_done pages page a.ts a.behind new (a.told s).told (a.told s).taken (record {
-      short = h.short;
-      edit = h.edit;
-      read = for_page;
-      blocks = blocks.1;
-      ordinary = all_ordinary page ms h.blocks;
-      among = all_told pages page a s (paths_of es) ms sent.at h.edit.blocks h.blocks;
-    })
+    let o : OrdinaryTold pages page new = ordinary_told pages page input new u h in
+    lined_edit_done pages page o.bs o.rest new o.lined o.taken o.edit
 
 pub ordinary_written : (pages : Pages) (page input : List ℕ) (new : Tree) (u : Option ℕ) → IsOrdinaryEdit pages page input new u → length input ≤ HTML_BYTES
     → edit_of pages (Some page) input ≡ done (spliced page (slices same_node (page_tree pages page) new))

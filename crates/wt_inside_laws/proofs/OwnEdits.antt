@@ -22,7 +22,7 @@ use Rattle.wt_slices.specs.Changes.{Pair}
 use Rattle.wt_link_spelling.specs.Spelling.{children_of}
 use Rattle.wt_visible.specs.SameNodes.{same_node}
 use Rattle.wt_typed_blocks.specs.Sent.{Block, paragraph, heading, kind_of}
-use Rattle.wt_typed_blocks.specs.Edited.{Pieces, no_pieces, gone, written, kept, around, new_style, sent_pieces, text_node}
+use Rattle.wt_typed_blocks.specs.Edited.{Pieces, no_pieces, gone, written, kept, around, new_style, sent_pieces, PiecesStay, text_node}
 use Rattle.wt_text_edit_laws.specs.TextBlocks.{TextBlock, a_paragraph, a_heading, block_of, block_tree}
 use Rattle.wt_beside_laws.specs.FlatBlocks.{AreOneLine, TextsFitIn, sent_for}
 use Rattle.wt_beside_laws.specs.FlatPages.{AreNodesAndTexts}
@@ -31,7 +31,7 @@ use Rattle.wt_beside_laws.specs.NewStyles.{is_bold, NewStylesNest}
 use Rattle.wt_beside_laws.specs.SentPieces.{IsNodeForm}
 use Rattle.wt_beside_laws.specs.SentStyled.{found_then, sent_by, sent_before, sent_content, NestsBy, AllNest, ShowsBy, AllShow}
 use Rattle.wt_beside_laws.specs.Styled.{StyledContent, signs_in}
-use Rattle.wt_beside_laws.specs.StyledIn.{IsStyledIn, IsStyledEditOf}
+use Rattle.wt_beside_laws.specs.StyledIn.{IsStyledIn, IsStyledEditOf, StaysPaired}
 use Rattle.wt_beside_laws.proofs.Made.OldBlocks.{IsIn, block_kind, no_group}
 use Rattle.wt_beside_laws.proofs.Styled.LedLines.{own_led}
 use Rattle.wt_beside_laws.specs.OwnLed.{begin_marked}
@@ -39,6 +39,7 @@ use Rattle.wt_beside_laws.proofs.Styled.OwnFirst.{paragraph_begins}
 use Rattle.wt_beside_laws.proofs.Styled.OwnNests.{own_nests}
 use Rattle.wt_beside_laws.proofs.Styled.OwnStyled.{own_styled}
 use Rattle.wt_beside_laws.proofs.Styled.SentFaults.{text_unbroken, or_both}
+use Rattle.wt_beside_laws.proofs.Styled.SentPaired.{still_open}
 use Rattle.wt_visible.proofs.SameTells.{tells_same}
 use Rattle.wt_called_edit_laws.specs.EditsAt.{IsStanding}
 use Rattle.wt_called_edit_laws.specs.SentAsIs.{as_sent, HaveNumberedGroups}
@@ -56,7 +57,7 @@ use Rattle.wt_inside_laws.proofs.SlotsLed.{TextsLed, own_texts_led, retyped_led,
 
 -- ---- texts that are UTF-8
 
-abbrev AreText : ℕ → List ℕ → Type 0
+abbrev pub AreText : ℕ → List ℕ → Type 0
 AreText d text = IsUtf8 text
 
 utf8_by : (f : InlineForm) (d : ℕ) (l : Label) (U L : Type 0) → (U → L) → Utf8By f l U → LeavesBy f AreText d l L
@@ -71,12 +72,12 @@ utf8_by inline.Tag d l U L g h = tt
 utf8_by inline.Break d l U L g h = tt
 utf8_by inline.AsItStood d l U L g h = tt
 
-utf8_leaves : (ts : Trees) (d : ℕ) → AreUtf8 ts → AllLeaves AreText d ts
+pub utf8_leaves : (ts : Trees) (d : ℕ) → AreUtf8 ts → AllLeaves AreText d ts
 utf8_leaves none d h = tt
 utf8_leaves (more (tree l ts) us) d h =
     (utf8_by (edit_shape l.kind).inline d l (AreUtf8 ts) (AllLeaves AreText (suc d) ts) (λ u. utf8_leaves ts (suc d) u) h.0, utf8_leaves us d h.1)
 
-node_form : (f : InlineForm) → IsElement f → IsNodeForm f
+pub node_form : (f : InlineForm) → IsElement f → IsNodeForm f
 node_form inline.Nothing h = absurd h
 node_form inline.Characters h = absurd h
 node_form inline.Bold h = absurd h
@@ -89,13 +90,13 @@ node_form inline.Break h = tt
 node_form inline.AsItStood h = tt
 
 -- what is kept are nodes
-abbrev AreNodes : Tree → Tree → Type 0
+abbrev pub AreNodes : Tree → Tree → Type 0
 AreNodes t u = IsNodeForm (edit_shape (label t).kind).inline
 
-abbrev AnyStyle : Label → Label → Type 0
+abbrev pub AnyStyle : Label → Label → Type 0
 AnyStyle l m = Unit {0}
 
-own_texts : (d : ℕ) (ps : Pieces) → HoldIn AreText AreNodes AnyStyle d ps → AreNodesAndTexts (as_own ps)
+pub own_texts : (d : ℕ) (ps : Pieces) → HoldIn AreText AreNodes AnyStyle d ps → AreNodesAndTexts (as_own ps)
 own_texts d no_pieces h = tt
 own_texts d (gone t ps) h = own_texts d ps h
 own_texts d (written x text ps) h = (h.0, own_texts d ps h.1)
@@ -105,27 +106,27 @@ own_texts d (new_style m is ps) h = absurd h
 
 -- ---- texts without line breaks
 
-abbrev OnOneLine : ℕ → List ℕ → Type 0
+abbrev pub OnOneLine : ℕ → List ℕ → Type 0
 OnOneLine d text = has_break text ≡ false
 
 -- in a style
-abbrev UnbrokenIn : ℕ → List ℕ → Type 0
+abbrev pub UnbrokenIn : ℕ → List ℕ → Type 0
 UnbrokenIn d text = 0 < d → has_break text ≡ false
 
-broken_cut : (x y : List ℕ) → has_break (x ++ y) ≡ false → (has_break x ≡ false) × (has_break y ≡ false)
+pub broken_cut : (x y : List ℕ) → has_break (x ++ y) ≡ false → (has_break x ≡ false) × (has_break y ≡ false)
 broken_cut [] y h = (refl, h)
 broken_cut (b ∷ x) y h =
     let a = or_both (b == 10) (has_break (x ++ y)) h in
     let r = broken_cut x y a.1 in
     (ap (λ (v : Bool). v || has_break x) a.0 ∙ r.0, r.1)
 
-broken_joined : (x y : List ℕ) → has_break x ≡ false → has_break y ≡ false → has_break (x ++ y) ≡ false
+pub broken_joined : (x y : List ℕ) → has_break x ≡ false → has_break y ≡ false → has_break (x ++ y) ≡ false
 broken_joined [] y h k = k
 broken_joined (b ∷ x) y h k =
     let a = or_both (b == 10) (has_break x) h in
     ap (λ (v : Bool). v || has_break (x ++ y)) a.0 ∙ broken_joined x y a.1 k
 
-own_one_line : (d : ℕ) (ps : Pieces) → HoldIn OnOneLine AreNodes AnyStyle d ps → AreOneLine (as_own ps)
+pub own_one_line : (d : ℕ) (ps : Pieces) → HoldIn OnOneLine AreNodes AnyStyle d ps → AreOneLine (as_own ps)
 own_one_line d no_pieces h = tt
 own_one_line d (gone t ps) h = own_one_line d ps h
 own_one_line d (written x text ps) h = (h.0, own_one_line d ps h.1)
@@ -133,7 +134,7 @@ own_one_line d (kept t u ps) h = own_one_line d ps h.1
 own_one_line d (around l m is ps) h = own_one_line d ps h.2
 own_one_line d (new_style m is ps) h = absurd h
 
-own_nest : (d : ℕ) (bold italic : Bool) (ps : Pieces) → ((bold || italic) ≡ true → 0 < d) → HoldIn UnbrokenIn AreNodes AnyStyle d ps
+pub own_nest : (d : ℕ) (bold italic : Bool) (ps : Pieces) → ((bold || italic) ≡ true → 0 < d) → HoldIn UnbrokenIn AreNodes AnyStyle d ps
     → NewStylesNest bold italic (as_own ps)
 own_nest d bold italic no_pieces e h = tt
 own_nest d bold italic (gone t ps) e h = own_nest d bold italic ps e h
@@ -147,7 +148,7 @@ retyped_unbroken : (ks : List Kept) (s t : Slot) (d : ℕ) → IsRetypedText ks 
 retyped_unbroken ks s t d (inl e) h = λ z. ap has_break e ∙ h z
 retyped_unbroken ks s t d (inr r) h = λ z. count_unbroken t.text (r.breaks ∙ unbroken_count s.text (h z))
 
-retyped_hold : (ks : List Kept) (left : Option Border) (bs : List Border) (ns ms : List (List ℕ)) (d : ℕ) → length ns ≡ length ms
+pub retyped_hold : (ks : List Kept) (left : Option Border) (bs : List Border) (ns ms : List (List ℕ)) (d : ℕ) → length ns ≡ length ms
     → AllByRecursion (IsRetypedText ks) (zip (slots_from left bs ns) (slots_from left bs ms)) → TextsHold UnbrokenIn d bs ns → TextsHold UnbrokenIn d bs ms
 retyped_hold ks left bs [] [] d e t h = tt
 retyped_hold ks left bs [] (m ∷ ms) d e t h = absurd (omega (arith, e))
@@ -162,7 +163,7 @@ retyped_hold ks left (b ∷ bs) (n ∷ ns) (m ∷ ms) d e t h = (
 )
 
 -- one line, as the slots say it
-slots_hold : (left : Option Border) (bs : List Border) (ns : List (List ℕ)) (d : ℕ) → AllByRecursion (λ s. has_break s.text ≡ false) (slots_from left bs ns)
+pub slots_hold : (left : Option Border) (bs : List Border) (ns : List (List ℕ)) (d : ℕ) → AllByRecursion (λ s. has_break s.text ≡ false) (slots_from left bs ns)
     → TextsHold OnOneLine d bs ns
 slots_hold left bs [] d h = tt
 slots_hold left [] (n ∷ ns) d h = (h.0, slots_hold None [] ns d h.1)
@@ -214,20 +215,20 @@ kept_sent f g o l m i j t h k = element f l i h ∙ sym (element g m j k)
     element inline.Break l i h = refl
     element inline.AsItStood l i h = refl
 
-abbrev SameSign : Tree → Tree → Type 0
+abbrev pub SameSign : Tree → Tree → Type 0
 SameSign t u = (p : Page) (rest : StyledContent) → sent_before p (as_sent t) rest ≡ sent_before p u rest
 
-abbrev SameStyled : Label → Label → Type 0
+abbrev pub SameStyled : Label → Label → Type 0
 SameStyled l m = (p : Page) (i rest : StyledContent)
     → sent_by (edit_shape l.kind).inline (kept_with l.id p.kept) (mark_off l) i rest ≡ sent_by (edit_shape m.kind).inline (kept_with m.id p.kept) m i rest
 
-element_sign : (l : Label) (ts : Trees) (m : Label) (ws : Trees) → IsElement (edit_shape l.kind).inline → IsElement (edit_shape m.kind).inline → m.id ≡ l.id
+pub element_sign : (l : Label) (ts : Trees) (m : Label) (ws : Trees) → IsElement (edit_shape l.kind).inline → IsElement (edit_shape m.kind).inline → m.id ≡ l.id
     → SameSign (tree l ts) (tree m ws)
 element_sign l ts m ws f g e = λ p rest.
     kept_sent (edit_shape l.kind).inline (edit_shape m.kind).inline (kept_with l.id p.kept) (mark_off l) m _ (sent_content p ws) rest f g
     ∙ ap (λ (n : ℕ). sent_by (edit_shape m.kind).inline (kept_with n p.kept) m (sent_content p ws) rest) (sym e)
 
-style_sign : (l m : Label) → AreOfStyle (edit_shape l.kind).inline (edit_shape m.kind).inline → m.id ≡ l.id → SameStyled l m
+pub style_sign : (l m : Label) → AreOfStyle (edit_shape l.kind).inline (edit_shape m.kind).inline → m.id ≡ l.id → SameStyled l m
 style_sign l m (inl b) e = λ p i rest.
     ap (λ (f : InlineForm). sent_by f (kept_with l.id p.kept) (mark_off l) i rest) b.0
     ∙ ap (λ (n : ℕ). sent_by inline.Bold (kept_with n p.kept) m i rest) (sym e)
@@ -243,7 +244,7 @@ text_same p x [] us vs e = e
 text_same p x (b ∷ bs) us vs e =
     ap (λ (t : StyledContent). sent_before p (tree (record x { kind = kind.Text; id = 0; shown = b ∷ bs; mark = marks.Nothing }) none) t) e
 
-own_signs : (d : ℕ) (p : Page) (ps : Pieces) → HoldIn Anything SameSign SameStyled d ps → sent_content p (sent_pieces (as_own ps)) ≡ sent_content p (sent_pieces ps)
+pub own_signs : (d : ℕ) (p : Page) (ps : Pieces) → HoldIn Anything SameSign SameStyled d ps → sent_content p (sent_pieces (as_own ps)) ≡ sent_content p (sent_pieces ps)
 own_signs d p no_pieces h = refl
 own_signs d p (gone t ps) h = own_signs d p ps h
 own_signs d p (written x text ps) h = text_same p x text (sent_pieces (as_own ps)) (sent_pieces ps) (own_signs d p ps h.1)
@@ -262,7 +263,7 @@ pub block_ungrouped : (k : TextBlock) (q : List ℕ) (t : Tree) → IsStyledIn k
 block_ungrouped k q t h i = none_in t (subst HasNoGroup (sym i.is) (no_group k q i.number i.before h.utf8 h.is h.unended h.calls_nothing))
 
 -- both have one text more than borders
-same_length : (ts us : Trees) → borders us ≡ borders ts → length (texts ts) ≡ length (texts us)
+pub same_length : (ts us : Trees) → borders us ≡ borders ts → length (texts ts) ≡ length (texts us)
 same_length ts us e =
     let a = texts_between ts in
     let b = texts_between us in
@@ -270,7 +271,7 @@ same_length ts us e =
     omega (arith, a, b, c)
 
 -- the texts between them, one for one
-paired : (ks : List Kept) (ts us : Trees) → borders us ≡ borders ts → AllByRecursion (IsRetypedText ks) (zip (slots ts) (slots us))
+pub paired : (ks : List Kept) (ts us : Trees) → borders us ≡ borders ts → AllByRecursion (IsRetypedText ks) (zip (slots ts) (slots us))
     → AllByRecursion (IsRetypedText ks) (zip (slots_from None (borders ts) (texts ts)) (slots_from None (borders ts) (texts us)))
 paired ks ts us e h = subst (λ bs. AllByRecursion (IsRetypedText ks) (zip (slots ts) (slots_from None bs (texts us)))) e h
 
@@ -304,8 +305,10 @@ no_leaf_in : (k : TextBlock) (q : List ℕ) (t : Tree) → IsIn k q t → is_lea
 no_leaf_in k q t i = ap is_leaf (block_kind k q t i) ∙ block_kinds (block_of k)
 
 pub own_edit : (k : TextBlock) (q : List ℕ) (items : Expanded) (page : List ℕ) (p : Pair) → IsRetyped same_node items page p → AreRead (children_of p.new)
-    → AreUtf8 (children_of p.new) → IsStyledIn k q → IsIn k q p.old → BeginsUnmarked k p.old → IsStyledEditOf k p.old (as_own (pieces_of (children_of p.old) (children_of p.new)))
-own_edit k q items page p r read utf8 h i begins =
+    → AreUtf8 (children_of p.new) → IsStyledIn k q → IsIn k q p.old → BeginsUnmarked k p.old
+    → StaysPaired k q p.old (as_own (pieces_of (children_of p.old) (children_of p.new)))
+    → IsStyledEditOf k p.old (as_own (pieces_of (children_of p.old) (children_of p.new)))
+own_edit k q items page p r read utf8 h i begins paired_so =
     let ts : Trees = children_of p.old in
     let us : Trees = children_of p.new in
     let ks : List Kept = kept_nodes p.old in
@@ -333,9 +336,10 @@ own_edit k q items page p r read utf8 h i begins =
     (trees_in Anything SameSign SameStyled (λ l os m ws f g z a. element_sign l os m ws f g z) (λ l m s b z. style_sign l m b z) ts 0 us (any_leaves us 0)
     (sym r.in_order) free)
     ∙ ap (sent_content shown) are.sent in
+    let stay : PiecesStay (as_own ps) = own_pieces_stay ts us free r.in_order in
     record {
       old = own_page ps ∙ are.page;
-      stay = own_pieces_stay ts us free r.in_order;
+      stay = stay;
       are = own_texts 0 ps
           (trees_in AreText AreNodes AnyStyle (λ l os m ws f g z a. node_form (edit_shape l.kind).inline f) (λ l m s b z. tt) ts 0 us (utf8_leaves us 0 utf8) (sym r.in_order) free);
       fit = fits_in k q p.old us ps i r.one_line
@@ -346,10 +350,12 @@ own_edit k q items page p r read utf8 h i begins =
         first = sent_first us shown utf8 first;
         others = sent_led shown us utf8 (new_texts_led k q items page p r h i);
       });
+      unclosed = still_open k q p.old (as_own ps) h i (own_page ps ∙ are.page) stay paired_so;
     }
 
 pub standing_edit : (k : TextBlock) (q : List ℕ) (items : Expanded) (page : List ℕ) (p : Pair) → IsRetyped same_node items page p → AreRead (children_of p.new)
     → AreUtf8 (children_of p.new) → IsStanding (block_tree k q) p.old → IsStyledIn k q → BeginsUnmarked k p.old
+    → StaysPaired k q p.old (as_own (pieces_of (children_of p.old) (children_of p.new)))
     → IsStyledEditOf k p.old (as_own (pieces_of (children_of p.old) (children_of p.new)))
-standing_edit k q items page p r read utf8 s h b =
-    own_edit k q items page p r read utf8 h (record { number = s.number; before = s.before; some = s.some; is = s.is }) b
+standing_edit k q items page p r read utf8 s h b c =
+    own_edit k q items page p r read utf8 h (record { number = s.number; before = s.before; some = s.some; is = s.is }) b c

@@ -79,7 +79,7 @@ own_first ks pre x (italic i ∷ bs) (n ∷ ns) s h = tt
 own_first ks pre x (end ∷ bs) (n ∷ ns) s h = tt
 
 -- the last of some bytes without a line break is none
-last_unbroken : (b : ℕ) (bs : List ℕ) → has_break (b ∷ bs) ≡ false → LastIs false (b ∷ bs)
+pub last_unbroken : (b : ℕ) (bs : List ℕ) → has_break (b ∷ bs) ≡ false → LastIs false (b ∷ bs)
 last_unbroken b [] h = (or_both (b == 10) false h).0
 last_unbroken b (c ∷ bs) h = last_unbroken c bs (or_both (b == 10) (has_break (c ∷ bs)) h).1
 
@@ -145,7 +145,7 @@ texts_some_by inline.Tag x before os s e = cons_some [] os e
 texts_some_by inline.Break x before os s e = cons_some [] os e
 texts_some_by inline.AsItStood x before os s e = cons_some [] os e
 
-texts_some : (ts : Trees) → texts ts ≡ [] → ⊥
+pub texts_some : (ts : Trees) → texts ts ≡ [] → ⊥
 texts_some none e = cons_some [] [] e
 texts_some (more (tree l ts) us) e = texts_some_by (edit_shape l.kind).inline l.shown (λ os. all_texts_before ts os) (texts us) (λ z. texts_some us z) e
 
@@ -185,7 +185,7 @@ nodes_first (more (tree l ts) us) block at s pre rest e is h k =
     nodes_first us block (at + length own) v (pre ++ l.shown) rest (omega (arith, e, long, wide)) there
     (λ z. absurd (let no = ap length z in omega (arith, no, long, some))) q)
 
-leaf_source : (l : Label) (ts : Trees) → is_leaf l.kind ≡ false → flat (tree l ts) ≡ l.opening ++ (flat_of_all ts ++ l.closing)
+pub leaf_source : (l : Label) (ts : Trees) → is_leaf l.kind ≡ false → flat (tree l ts) ≡ l.opening ++ (flat_of_all ts ++ l.closing)
 leaf_source l ts e =
     ap (λ (v : Bool). if v then l.own else (l.opening ++ flat_of_all ts ++ l.closing)) e ∙ append_assoc l.opening (flat_of_all ts) l.closing
 

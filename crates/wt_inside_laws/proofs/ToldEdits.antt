@@ -1,4 +1,4 @@
--- A text edit of a page that calls nothing is done.
+-- A text edit of a page is done, where the marked blocks call nothing.
 use Rattle.std.proofs.Common.{arith, ◌≡◌, ℕ, zero, suc, ◌≤◌, Option, Some, None, List, [], ◌∷◌, ◌++◌, length, map, refl, sym, ap, ◌∙◌, subst, inl, inr}
 use Rattle.std.specs.List.{AllByRecursion}
 use Rattle.std.specs.Str.{IsUtf8}
@@ -30,11 +30,11 @@ use Rattle.wt_called_edit_laws.specs.CalledPages.{IsCalledPage}
 use Rattle.wt_called_edit_laws.specs.ContentsTaken.{TakesContents}
 use Rattle.wt_called_edit_laws.specs.EditsAt.{IsStanding, StandsTo, StandsAmong, AllStand, edited_at, edited_among, edited_by, edited_page, Fits, FitsSpot, AreFitting, IsContentEdit}
 use Rattle.wt_called_edit_laws.specs.Groups.{called_tree}
-use Rattle.wt_called_edit_laws.specs.PlacedLines.{spots_by, end_by}
-use Rattle.wt_called_edit_laws.specs.ToldLines.{Told, lined, IsToldPage}
-use Rattle.wt_called_edit_laws.proofs.Cells.PlacedLines.{lined_whole}
+use Rattle.wt_called_edit_laws.specs.LinedAmong.{spots_of_lines, end_of_lines, IsLinedAmong}
+use Rattle.wt_called_edit_laws.specs.PlacedLines.{LinedBlock}
+use Rattle.wt_called_edit_laws.proofs.Among.LinedParts.{lined_whole, lined_editable}
 use Rattle.wt_called_edit_laws.proofs.EditFacts.{spots_utf8, spots_contents}
-use Rattle.wt_called_edit_laws.proofs.Told.ToldPages.{told_lined, told_called}
+use Rattle.wt_called_edit_laws.proofs.BlocksOutside.{editable_called}
 use Rattle.wt_inside_laws.specs.AsSent.{pieces_for, edit_for, edits_of, past_first, paths_in, paths_of, node_at, node_among, IsOneOf, IsAlike, IsSentOn}
 use Rattle.wt_inside_laws.specs.RetypedPieces.{AreRead}
 use Rattle.wt_inside_laws.specs.TextEdits.{IsRetyped}
@@ -76,7 +76,7 @@ mutual
       one_right (suc i ∷ is) (map (λ p. zero ∷ p) (paths_in e)) (map past_first (paths_of es))
       (one_mapped past_first (i ∷ is) (paths_of es) (path_among es i is x h))
 
-path_by : (es : Edits) (p : List ℕ) (x : Edited) → edited_by es p ≡ Some x → IsOneOf p (paths_of es)
+pub path_by : (es : Edits) (p : List ℕ) (x : Edited) → edited_by es p ≡ Some x → IsOneOf p (paths_of es)
 path_by es [] x h = cc
 path_by es (i ∷ is) x h = path_among es i is x h
 
@@ -110,11 +110,12 @@ known : (pages : Pages) (page : List ℕ) (ps : List Pair) → AllByRecursion (I
 known pages page [] a b c d = tt
 known pages page (p ∷ ps) a b c d = (record { retyped = a.0; alike = b.0; read = c.0; ordinary = d.0 }, known pages page ps a.1 b.1 c.1 d.1)
 
-record PairAt (pages : Pages) (page : List ℕ) (t : Tree) (es : Edits) (p : List ℕ) : Type 0 where
-  pair : Pair
-  known : IsKnownPair pages page pair
-  node : node_at p t ≡ Some pair.old
-  found : edited_by es p ≡ Some (edit_for pair)
+-- one of the marked blocks at a path, with what is known of each of them
+pub record PairAt (K : Pair → Type 0) (t : Tree) (es : Edits) (p : List ℕ) : Type 0 where
+  pub pair : Pair
+  pub known : K pair
+  pub node : node_at p t ≡ Some pair.old
+  pub found : edited_by es p ≡ Some (edit_for pair)
 
 pub first_same : {A : Type 0} (x y : A) (xs ys : List A) → x ∷ xs ≡ y ∷ ys → x ≡ y
 first_same x y xs ys e = cc
@@ -122,34 +123,38 @@ first_same x y xs ys e = cc
 pub rest_same : {A : Type 0} (x y : A) (xs ys : List A) → x ∷ xs ≡ y ∷ ys → xs ≡ ys
 rest_same x y xs ys e = cc
 
-pair_at : (pages : Pages) (page : List ℕ) (t : Tree) (es : Edits) (p : List ℕ) (qs : List (List ℕ)) (ms : List Pair) → IsOneOf p qs
-    → AllByRecursion (IsKnownPair pages page) ms → map (λ path. node_at path t) qs ≡ map (λ m. Some m.old) ms
-    → map (edited_by es) qs ≡ map (λ m. Some (edit_for m)) ms → PairAt pages page t es p
-pair_at pages page t es p [] ms h k e f = absurd h
-pair_at pages page t es p (q ∷ qs) [] h k e f = absurd (let no = ap length e in omega (arith, no))
-pair_at pages page t es p (q ∷ qs) (m ∷ ms) (inl i) k e f = record {
+pub pair_at : (K : Pair → Type 0) (t : Tree) (es : Edits) (p : List ℕ) (qs : List (List ℕ)) (ms : List Pair) → IsOneOf p qs
+    → AllByRecursion K ms → map (λ path. node_at path t) qs ≡ map (λ m. Some m.old) ms
+    → map (edited_by es) qs ≡ map (λ m. Some (edit_for m)) ms → PairAt K t es p
+pair_at K t es p [] ms h k e f = absurd h
+pair_at K t es p (q ∷ qs) [] h k e f = absurd (let no = ap length e in omega (arith, no))
+pair_at K t es p (q ∷ qs) (m ∷ ms) (inl i) k e f = record {
   pair = m;
   known = k.0;
   node = ap (λ path. node_at path t) i ∙ first_same (node_at q t) (Some m.old) (map (λ path. node_at path t) qs) (map (λ m. Some m.old) ms) e;
   found = ap (edited_by es) i ∙ first_same (edited_by es q) (Some (edit_for m)) (map (edited_by es) qs) (map (λ m. Some (edit_for m)) ms) f;
 }
-pair_at pages page t es p (q ∷ qs) (m ∷ ms) (inr h) k e f =
-    pair_at pages page t es p qs ms h k.1
+pair_at K t es p (q ∷ qs) (m ∷ ms) (inr h) k e f =
+    pair_at K t es p qs ms h k.1
     (rest_same (node_at q t) (Some m.old) (map (λ path. node_at path t) qs) (map (λ m. Some m.old) ms) e)
     (rest_same (edited_by es q) (Some (edit_for m)) (map (edited_by es) qs) (map (λ m. Some (edit_for m)) ms) f)
 
 -- ---- what is sent fits
 
-pair_fits : (pages : Pages) (page : List ℕ) (k : TextBlock) (q : List ℕ) (p : Pair) → IsContent k q → CallsNothing (block_items k q)
-    → IsStanding (block_tree k q) p.old → IsKnownPair pages page p → Fits k q (edit_for p)
-pair_fits pages page k q p c r s h =
-    let ended : HasEndedNodes k q p.old = h.ordinary k q s in
-    let styled : IsStyledIn k q = content_styled k q c r ended.paired ended.ended in
+pub calm_fits : (pages : Pages) (page : List ℕ) (k : TextBlock) (q : List ℕ) (p : Pair) → IsContent k q → CallsNothing (block_items k q)
+    → IsStanding (block_tree k q) p.old → IsRetyped same_node (expanded_page pages page) page p → IsAlike same_node (page_of (page_tree pages page)) p
+    → IsReadBlock p → HasEndedNodes k q p → Fits k q (edit_for p)
+calm_fits pages page k q p c r s retyped alike read ended =
+    let styled : IsStyledIn k q = content_styled k q c r ended.ended in
     inr (
       styled,
-      subst (λ (t : Tree). IsStyledEditOf k t (pieces_for p)) (sym (same_old same_node (page_of (page_tree pages page)) p h.alike))
-          (standing_edit k q (expanded_page pages page) page p h.retyped h.read.read h.read.utf8 s styled ended.unmarked),
+      subst (λ (t : Tree). IsStyledEditOf k t (pieces_for p)) (sym (same_old same_node (page_of (page_tree pages page)) p alike))
+          (standing_edit k q (expanded_page pages page) page p retyped read.read read.utf8 s styled ended.unmarked ended.paired),
     )
+
+pair_fits : (pages : Pages) (page : List ℕ) (k : TextBlock) (q : List ℕ) (p : Pair) → IsContent k q → CallsNothing (block_items k q)
+    → IsStanding (block_tree k q) p.old → IsKnownPair pages page p → Fits k q (edit_for p)
+pair_fits pages page k q p c r s h = calm_fits pages page k q p c r s h.retyped h.alike h.read (h.ordinary k q s)
 
 -- what is known of the page and what was sent for it
 record SentKnown (pages : Pages) (page : List ℕ) (t : Tree) (es : Edits) (ms : List Pair) : Type 0 where
@@ -161,7 +166,7 @@ spot_fits : (pages : Pages) (page : List ℕ) (t : Tree) (es : Edits) (ms : List
     → SentKnown pages page t es ms → IsContent s.block s.text → CallsNothing (block_items s.block s.text) → StandsTo (block_tree s.block s.text) p t → FitsSpot s o
 spot_fits pages page t es ms s p None e h c r st = tt
 spot_fits pages page t es ms s p (Some x) e h c r st =
-    let a : PairAt pages page t es p = pair_at pages page t es p (paths_of es) ms (path_by es p x e) h.pairs h.at h.each in
+    let a : PairAt (IsKnownPair pages page) t es p = pair_at (IsKnownPair pages page) t es p (paths_of es) ms (path_by es p x e) h.pairs h.at h.each in
     let fits : Fits s.block s.text (edit_for a.pair) =
     pair_fits pages page s.block s.text a.pair c r (stands_at (block_tree s.block s.text) p t a.pair.old st a.node) a.known in
     subst (FitsSpot s) (sym a.found ∙ e) fits
@@ -176,16 +181,21 @@ all_fit pages page t es ms (s ∷ ss) (p ∷ ps) h c r st =
 
 -- ---- the edit
 
-reads : (ps : List Pair) → AllByRecursion IsReadBlock ps → AllByRecursion (λ p. AreRead (children_of p.new)) ps
+pub reads : (ps : List Pair) → AllByRecursion IsReadBlock ps → AllByRecursion (λ p. AreRead (children_of p.new)) ps
 reads [] h = tt
 reads (p ∷ ps) h = (h.0.read, reads ps h.1)
 
--- of a page with these blocks, whatever is called beside them
-pub called_done : (pages : Pages) (ss : List BlockSpot) (behind : List ℕ) (new : Tree) (c : TakesContents pages ss behind) → IsCalledPage pages ss behind
-    → IsToldEdit pages (spots_source ss behind) c.paths new
-    → edit_to pages (spots_source ss behind) new ≡ done (spliced (spots_source ss behind) (slices same_node (page_tree pages (spots_source ss behind)) new))
-unfolding most_bytes
-called_done pages ss behind new c h e =
+-- Of a page with these blocks, whatever is called beside them: what was sent is an edit of their contents, as the laws of edits take it, and what it
+-- splices into the page is what these make of it.
+pub record CalledSent (pages : Pages) (ss : List BlockSpot) (behind : List ℕ) (paths : List (List ℕ)) (new : Tree) : Type 0 where
+  pub sent : IsSentOn pages (spots_source ss behind) new (edits_of (called_tree pages (spots_source ss behind)) new)
+  pub edit : IsContentEdit (called_tree pages (spots_source ss behind)) ss paths (edits_of (called_tree pages (spots_source ss behind)) new)
+  pub same : spliced (spots_source ss behind) (slices same_node (page_tree pages (spots_source ss behind)) new)
+      ≡ edited_page ss behind paths (edits_of (called_tree pages (spots_source ss behind)) new)
+
+pub called_sent : (pages : Pages) (ss : List BlockSpot) (behind : List ℕ) (new : Tree) (c : TakesContents pages ss behind) → IsCalledPage pages ss behind
+    → IsToldEdit pages (spots_source ss behind) c.paths new → CalledSent pages ss behind c.paths new
+called_sent pages ss behind new c h e =
     let page : List ℕ = spots_source ss behind in
     let t : Tree = called_tree pages page in
     let ms : List Pair = marked (page_tree pages page) new in
@@ -203,20 +213,26 @@ called_done pages ss behind new c h e =
       edits = sent.only c.paths e.among;
       fit = all_fit pages page t es ms ss c.paths pairs (spots_contents pages ss behind h) h.outside.among.calm c.stand;
     } in
-    let same : spliced page (slices same_node (page_tree pages page) new) ≡ edited_page ss behind c.paths es =
-    ap (spliced page) (sent.changes b) ∙ c.makes b es edit in
-    let room : length (edited_page ss behind c.paths es) ≤ PAGE_BYTES = subst (λ (bs : List ℕ). length bs ≤ PAGE_BYTES) same e.edit.room in
-    sent.alike b ∙ c.takes b es edit room ∙ ap done (sym same)
+    record { sent = sent; edit = edit; same = ap (spliced page) (sent.changes b) ∙ c.makes b es edit }
+
+pub called_done : (pages : Pages) (ss : List BlockSpot) (behind : List ℕ) (new : Tree) (c : TakesContents pages ss behind) → IsCalledPage pages ss behind
+    → IsToldEdit pages (spots_source ss behind) c.paths new
+    → edit_to pages (spots_source ss behind) new ≡ done (spliced (spots_source ss behind) (slices same_node (page_tree pages (spots_source ss behind)) new))
+unfolding most_bytes
+called_done pages ss behind new c h e =
+    let es : Edits = edits_of (called_tree pages (spots_source ss behind)) new in
+    let s : CalledSent pages ss behind c.paths new = called_sent pages ss behind new c h e in
+    let room : length (edited_page ss behind c.paths es) ≤ PAGE_BYTES = subst (λ (bs : List ℕ). length bs ≤ PAGE_BYTES) s.same e.edit.room in
+    s.sent.alike (label new) ∙ c.takes (label new) es s.edit room ∙ ap done (sym s.same)
 
 -- ---- of a page that its lines tell
 
-pub told_edit_done : (pages : Pages) (page : List ℕ) (ts : List Told) (rest : List (List Item)) (new : Tree) → IsToldPage page ts rest
-    → (c : TakesContents pages (spots_by [] (map lined ts)) (end_by [] (map lined ts) rest)) → IsToldEdit pages page c.paths new
+pub lined_edit_done : (pages : Pages) (page : List ℕ) (bs : List LinedBlock) (rest : List (List Item)) (new : Tree) → IsLinedAmong pages page bs rest
+    → (c : TakesContents pages (spots_of_lines pages page bs) (end_of_lines pages page bs rest)) → IsToldEdit pages page c.paths new
     → edit_to pages page new ≡ done (spliced page (slices same_node (page_tree pages page) new))
-told_edit_done pages page ts rest new h c e =
-    let ss : List BlockSpot = spots_by [] (map lined ts) in
-    let behind : List ℕ = end_by [] (map lined ts) rest in
-    let lines = told_lined page ts rest h in
-    let whole : spots_source ss behind ≡ page = lined_whole page (map lined ts) rest lines.are lines.lined in
-    subst (λ (bs : List ℕ). IsToldEdit pages bs c.paths new → edit_to pages bs new ≡ done (spliced bs (slices same_node (page_tree pages bs) new))) whole
-    (λ k. called_done pages ss behind new c (told_called pages page ts rest h) k) e
+lined_edit_done pages page bs rest new h c e =
+    let ss : List BlockSpot = spots_of_lines pages page bs in
+    let behind : List ℕ = end_of_lines pages page bs rest in
+    let called : IsCalledPage pages ss behind = editable_called pages ss behind (lined_editable pages page bs rest h) in
+    subst (λ (q : List ℕ). IsToldEdit pages q c.paths new → edit_to pages q new ≡ done (spliced q (slices same_node (page_tree pages q) new)))
+    (lined_whole pages page bs rest h) (λ k. called_done pages ss behind new c called k) e

@@ -1,4 +1,4 @@
--- HTML that makes a text edit of a page that calls nothing: what is asked of it.
+-- HTML that makes a text edit of a page: what is asked of it.
 use Rattle.std.specs.Prelude.{◌≡◌, ℕ, ◌≤◌, List, length, Option}
 use Rattle.std.specs.List.{AllByRecursion}
 use Rattle.wt_span.specs.declared.limits.TheConstants.{HTML_BYTES, PAGE_BYTES}

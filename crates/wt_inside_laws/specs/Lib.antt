@@ -3,6 +3,7 @@ pub mod AnyReplaced
 pub mod Contents
 pub mod TextEdits
 pub mod RetypedPieces
+pub mod RetypedCalls
 pub mod AsSent
 pub mod LocalBlocks
 pub mod Joints
@@ -13,3 +14,4 @@ pub mod Swaps
 pub mod SameBut
 pub mod ToldEdits
 pub mod HtmlEdits
+pub mod LocalTextEdits

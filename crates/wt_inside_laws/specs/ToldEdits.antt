@@ -1,26 +1,28 @@
--- Text edits of a page that calls nothing, among paragraphs and headings that are told by its lines: what is asked of them.
-use Rattle.std.specs.Prelude.{◌≡◌, ◌≤◌, ℕ, Option, List, [], length}
+-- Text edits of a page, whatever it calls, among paragraphs and headings that are told by its lines: what is asked of them.
+use Rattle.std.specs.Prelude.{◌≡◌, ◌≤◌, ℕ, Option, None, List, [], length}
 use Rattle.std.specs.List.{AllByRecursion}
 use Rattle.std.specs.Str.{IsUtf8}
 use Rattle.wt_span.specs.declared.limits.TheConstants.{PAGE_BYTES}
+use Rattle.wt_tree.specs.Tiling.{HasNoGroup}
 use Rattle.wt_tree.specs.Tree.{Tree}
 use Rattle.wt_link_spelling.specs.Spelling.{children_of}
-use Rattle.wt_expand.specs.PageItems.{page_items}
 use Rattle.wt_expand.specs.PageCalls.{expanded_page}
 use Rattle.wt_expand.specs.Work.{Pages}
 use Rattle.wt_page_round_trip.specs.PageTree.{page_tree}
 use Rattle.wt_schema.specs.Read.{page as as_page, read}
 use Rattle.wt_slices.specs.Changes.{Pair, marked}
 use Rattle.wt_visible.specs.SameNodes.{same_node}
+use Rattle.wt_commands.specs.Answers.{refusal_of_page}
 use Rattle.wt_text_edit_laws.specs.NoCalls.{CallsNothing}
 use Rattle.wt_text_edit_laws.specs.Parts.{HasNoGroups}
 use Rattle.wt_text_edit_laws.specs.TextBlocks.{TextBlock, block_tree}
-use Rattle.wt_beside_laws.specs.EndedNodes.{LinesOpenNoPair, AreEndedNodes}
-use Rattle.wt_beside_laws.specs.FlatBlocks.{lines_in, signs_in}
+use Rattle.wt_beside_laws.specs.EndedNodes.{AreEndedNodes}
+use Rattle.wt_beside_laws.specs.FlatBlocks.{signs_in}
+use Rattle.wt_beside_laws.specs.StyledIn.{StaysPaired}
 use Rattle.wt_called_edit_laws.specs.AllTold.{IsExcepted}
 use Rattle.wt_called_edit_laws.specs.EditsAt.{IsStanding}
 use Rattle.wt_called_edit_laws.specs.Groups.{called_tree}
-use Rattle.wt_inside_laws.specs.AsSent.{edits_of, paths_of, AreSomeOf, IsReadFor}
+use Rattle.wt_inside_laws.specs.AsSent.{pieces_for, edits_of, paths_of, AreSomeOf, IsReadFor}
 use Rattle.wt_inside_laws.specs.RetypedPieces.{AreRead, AreUtf8, BeginsUnmarked}
 use Rattle.wt_inside_laws.specs.TextEdits.{IsTextEdit}
 
@@ -31,19 +33,22 @@ pub record IsReadBlock (p : Pair) : Type 0 where
   pub read : AreRead (children_of p.new)
   pub utf8 : AreUtf8 (children_of p.new)
 
--- Of its nodes: no tag opens a pair without a closing tag on its line, what begins in a node ends in it, and no heading begins with a mark.
-pub record HasEndedNodes (k : TextBlock) (q : List ℕ) (t : Tree) : Type 0 where
-  pub paired : LinesOpenNoPair (lines_in k q)
+-- Of its nodes: none is a tag that opens a pair without a closing tag on its line, or nothing that is sent closes it; what begins in a node ends in
+-- it; and no heading begins with a mark.
+pub record HasEndedNodes (k : TextBlock) (q : List ℕ) (p : Pair) : Type 0 where
+  pub paired : StaysPaired k q p.old (pieces_for p)
   pub ended : AreEndedNodes (signs_in k q)
-  pub unmarked : BeginsUnmarked k t
+  pub unmarked : BeginsUnmarked k p.old
 
 -- whatever its source is
 abbrev pub IsOrdinary : Pair → Type 0
-IsOrdinary p = (k : TextBlock) (q : List ℕ) → IsStanding (block_tree k q) p.old → HasEndedNodes k q p.old
+IsOrdinary p = (k : TextBlock) (q : List ℕ) → IsStanding (block_tree k q) p.old → HasEndedNodes k q p
 
--- so on this page, of whose lines these tell it
-abbrev pub IsOrdinaryOn : List ℕ → Pair → Type 0
-IsOrdinaryOn page p = IsOrdinary p × (IsExcepted page p.old → ⊥)
+-- So on this page: it holds no group, and the lines of the expanded page tell it.
+pub record IsOrdinaryOn (pages : Pages) (page : List ℕ) (p : Pair) : Type 0 where
+  pub ungrouped : HasNoGroup p.old
+  pub ordinary : IsOrdinary p
+  pub told : IsExcepted pages page p.old → ⊥
 
 -- ---- the edit
 
@@ -56,13 +61,12 @@ pub record IsToldEdit (pages : Pages) (page : List ℕ) (paths : List (List ℕ)
   pub ordinary : AllByRecursion IsOrdinary (marked (page_tree pages page) new)
   pub among : AreSomeOf (paths_of (edits_of (called_tree pages page) new)) paths
 
--- A text edit, as it is read of HTML, of a page that calls nothing and has no groups: it marks some blocks, each of which is ordinary.
+-- A text edit, as it is read of HTML, of a page that isn't refused: it marks some blocks, each of which is ordinary.
 pub record IsOrdinaryEdit (pages : Pages) (page input : List ℕ) (new : Tree) (unsourced : Option ℕ) : Type 0 where
   pub utf8 : IsUtf8 page
   pub short : length page ≤ PAGE_BYTES
-  pub calls_nothing : CallsNothing (page_items page)
-  pub ungrouped : HasNoGroups page
+  pub unrefused : refusal_of_page pages page ≡ None
   pub sent : read input ≡ as_page new unsourced
   pub edit : IsTextEdit same_node (expanded_page pages page) page (page_tree pages page) new
   pub some : 1 ≤ length (marked (page_tree pages page) new)
-  pub blocks : AllByRecursion (IsOrdinaryOn page) (marked (page_tree pages page) new)
+  pub blocks : AllByRecursion (IsOrdinaryOn pages page) (marked (page_tree pages page) new)

@@ -1,7 +1,7 @@
 //! Laws of edited trees: what was sent for a page is edited as the page's own nodes are, with the texts in its marked
 //! blocks that were sent.
 
-ghost use Rattle.std.specs.Prelude.{◌≡◌, ◌≤◌, ℕ, List, [], length, Bool, false, Option, None, Some, map};
+ghost use Rattle.std.specs.Prelude.{◌≡◌, ◌≤◌, ℕ, List, length, Bool, false, Option, None, Some};
 ghost use Rattle.wt_span.specs.Origins.{Expanded};
 ghost use Rattle.wt_span.specs.declared.limits.TheConstants.{HTML_BYTES, PAGE_BYTES};
 ghost use Rattle.std.specs.List.{AllByRecursion};
@@ -23,8 +23,8 @@ ghost use Rattle.wt_splice.specs.Splice.{spliced};
 ghost use Rattle.wt_commands.specs.Answers.{refusal_of_page, done, edit_of, edit_to};
 ghost use Rattle.wt_called_edit_laws.specs.ContentsTaken.{TakesContents};
 ghost use Rattle.wt_called_edit_laws.specs.Groups.{called_tree};
-ghost use Rattle.wt_called_edit_laws.specs.PlacedLines.{spots_by, end_by};
-ghost use Rattle.wt_called_edit_laws.specs.ToldLines.{Told, lined, IsToldPage};
+ghost use Rattle.wt_called_edit_laws.specs.LinedAmong.{spots_of_lines, end_of_lines, IsLinedAmong};
+ghost use Rattle.wt_called_edit_laws.specs.PlacedLines.{LinedBlock};
 ghost use Rattle.wt_inside_laws.specs.AsSent.{edits_of, IsPlainPage, IsReadFor, IsAlike, IsAsSent, IsSentOn};
 ghost use Rattle.wt_inside_laws.specs.HtmlEdits.{IsHtmlEdit};
 ghost use Rattle.wt_inside_laws.specs.RetypedPieces.{AreRead, AreUtf8};
@@ -69,28 +69,30 @@ pub fn what_is_read_may_be_sent()
         → AllByRecursion (λ p. AreRead (children_of p.new) × AreUtf8 (children_of p.new)) (marked (page_tree pages page) new) }
 {}
 
-/// So a text edit is done, of a page that calls nothing, and the new page is the old one with the insides of the marked
-/// blocks replaced by what was sent for them, as it is spelled. Asked is that the lines of the page tell the marked
-/// paragraphs and headings (`IsToldPage`), that each is ordinary (`IsOrdinary`), and that what was sent is as it is
-/// read from HTML.
+/// So a text edit is done, and the new page is the old one with the insides of the marked blocks replaced by what was sent
+/// for them, as it is spelled. Asked is that the lines of the expanded page tell the marked paragraphs and headings, which
+/// call nothing (`IsLinedAmong`), that each is ordinary (`IsOrdinary`), and that what was sent is as it is read from HTML.
 #[tactic(auto)]
 pub fn text_edits_of_told_blocks_are_done()
-    ensures { (pages : Pages) (page : List ℕ) (ts : List Told) (rest : List (List Item)) (new : Tree) → IsToldPage page ts rest
-        → (c : TakesContents pages (spots_by [] (map lined ts)) (end_by [] (map lined ts) rest)) → IsToldEdit pages page c.paths new
+    ensures { (pages : Pages) (page : List ℕ) (bs : List LinedBlock) (rest : List (List Item)) (new : Tree)
+        → IsLinedAmong pages page bs rest
+        → (c : TakesContents pages (spots_of_lines pages page bs) (end_of_lines pages page bs rest))
+        → IsToldEdit pages page c.paths new
         → edit_to pages page new ≡ done (spliced page (slices same_node (page_tree pages page) new)) }
 {}
 
 /// So HTML that makes such an edit is answered by that page.
 #[tactic(auto)]
 pub fn text_edits_in_html_are_done()
-    ensures { (pages : Pages) (page input : List ℕ) (ts : List Told) (rest : List (List Item)) (new : Tree) (unsourced : Option ℕ)
-        → IsToldPage page ts rest → (c : TakesContents pages (spots_by [] (map lined ts)) (end_by [] (map lined ts) rest))
+    ensures { (pages : Pages) (page input : List ℕ) (bs : List LinedBlock) (rest : List (List Item)) (new : Tree)
+        (unsourced : Option ℕ) → IsLinedAmong pages page bs rest
+        → (c : TakesContents pages (spots_of_lines pages page bs) (end_of_lines pages page bs rest))
         → IsHtmlEdit pages page input c.paths new unsourced
         → edit_of pages (Some page) input ≡ done (spliced page (slices same_node (page_tree pages page) new)) }
 {}
 
-/// So each text edit is done of a page that calls nothing, where each marked block is ordinary and none of those that the
-/// lines of a page don't tell (`IsExcepted`).
+/// So each text edit is done of a page that isn't refused, where each marked block holds no call, is ordinary and none of
+/// those that the lines of the expanded page don't tell (`IsExcepted`).
 #[tactic(auto)]
 pub fn text_edits_are_done()
     ensures tree { (pages : Pages) (page input : List ℕ) (new : Tree) (unsourced : Option ℕ)

@@ -1,5 +1,5 @@
 -- A call that keeps what `run` promises answers HTML that is a text edit with the new page, or a device failed, or memory ran out.
-use Rattle.std.proofs.Common.{◌≡◌, ℕ, Option, Some, None, List, [], map, sym, ap, ◌∙◌, subst}
+use Rattle.std.proofs.Common.{◌≡◌, ℕ, Option, Some, None, List, sym, ap, ◌∙◌, subst}
 use Rattle.wt_span.specs.Items.{Item}
 use Rattle.wt_devices.specs.Device.{Pages}
 use Rattle.wt_tree.specs.Tree.{Tree}
@@ -8,19 +8,20 @@ use Rattle.wt_commands.specs.Calls.{Call, known_answer}
 use Rattle.wt_commands.specs.declared.command.Command.TheVariants.{Edit}
 use Rattle.wt_pagetool.specs.Promises.{Ends}
 use Rattle.wt_called_edit_laws.specs.ContentsTaken.{TakesContents}
-use Rattle.wt_called_edit_laws.specs.PlacedLines.{spots_by, end_by}
-use Rattle.wt_called_edit_laws.specs.ToldLines.{Told, lined, IsToldPage}
+use Rattle.wt_called_edit_laws.specs.LinedAmong.{spots_of_lines, end_of_lines, IsLinedAmong}
+use Rattle.wt_called_edit_laws.specs.PlacedLines.{LinedBlock}
+use Rattle.wt_called_edit_laws.proofs.Among.LinedParts.{lined_editable}
+use Rattle.wt_called_edit_laws.proofs.BlocksOutside.{editable_called}
 use Rattle.wt_called_edit_laws.proofs.CallsTake.{contents_taken}
-use Rattle.wt_called_edit_laws.proofs.Told.ToldPages.{told_called}
 use Rattle.wt_program.specs.AnyCalls.{SendsFor}
 use Rattle.wt_program.proofs.AnyCalls.{answer_is}
 use Rattle.wt_program.proofs.BlocksCalls.{page_ends, page_completes}
 use Rattle.wt_program.specs.EditCalls.{retyped_page, TakesToldEdits, TakesTextEdits}
 use Rattle.wt_inside_laws.specs.HtmlEdits.{IsHtmlEdit}
 use Rattle.wt_inside_laws.specs.ToldEdits.{IsOrdinaryEdit}
-use Rattle.wt_inside_laws.proofs.HtmlEdits.{html_told}
+use Rattle.wt_inside_laws.proofs.HtmlEdits.{html_lined}
 use Rattle.wt_inside_laws.proofs.OrdinaryEdits.{ordinary_done}
-use Rattle.wt_inside_laws.proofs.ToldEdits.{told_edit_done}
+use Rattle.wt_inside_laws.proofs.ToldEdits.{lined_edit_done}
 
 pages_or : Pages → Option Pages → Pages
 pages_or pages None = pages
@@ -30,27 +31,28 @@ same_pages : (pages others : Pages) → Some pages ≡ Some others → pages ≡
 unfolding pages_or
 same_pages pages others e = ap (pages_or pages) e
 
-answered : (c : Call) (pages : Pages) (page : List ℕ) (ts : List Told) (rest : List (List Item)) (new : Tree) → c.folder.pages_before ≡ Some pages
-    → IsToldPage page ts rest → (t : TakesContents pages (spots_by [] (map lined ts)) (end_by [] (map lined ts) rest))
+answered : (c : Call) (pages : Pages) (page : List ℕ) (bs : List LinedBlock) (rest : List (List Item)) (new : Tree) → c.folder.pages_before ≡ Some pages
+    → IsLinedAmong pages page bs rest → (t : TakesContents pages (spots_of_lines pages page bs) (end_of_lines pages page bs rest))
     → (s : SendsFor c Edit page (retyped_page pages page new) (λ b. new)) → IsHtmlEdit pages page s.input t.paths new s.unsourced
     → known_answer c ≡ Some (done (retyped_page pages page new))
-answered c pages page ts rest new told h t s e =
+answered c pages page bs rest new told h t s e =
     answer_is c page (retyped_page pages page new) (λ b. new) h.utf8 s
     (subst (λ (ps : Pages). edit_to ps page new ≡ done (retyped_page pages page new)) (same_pages pages s.pages (sym told ∙ s.told))
-    (told_edit_done pages page ts rest new h t (html_told pages page s.input ts rest t.paths new s.unsourced h e)))
+    (lined_edit_done pages page bs rest new h t (html_lined pages page s.input bs rest t.paths new s.unsourced h e)))
 
 pub calls_take_told : (c : Call) (ended : ℕ) → Ends c ended → TakesToldEdits c ended
-calls_take_told c ended ends = λ pages page ts rest told h.
-    let t : TakesContents pages (spots_by [] (map lined ts)) (end_by [] (map lined ts) rest) =
-    contents_taken pages (spots_by [] (map lined ts)) (end_by [] (map lined ts) rest) (told_called pages page ts rest h) in
+calls_take_told c ended ends = λ pages page bs rest told h.
+    let t : TakesContents pages (spots_of_lines pages page bs) (end_of_lines pages page bs rest) =
+    contents_taken pages (spots_of_lines pages page bs) (end_of_lines pages page bs rest)
+    (editable_called pages (spots_of_lines pages page bs) (end_of_lines pages page bs rest) (lined_editable pages page bs rest h)) in
     record {
       paths = t.paths;
       stand = t.stand;
-      edit = λ new s e. page_ends c ended (retyped_page pages page new) (answered c pages page ts rest new told h t s e) ends;
-      complete = λ new s e sound. page_completes c ended (retyped_page pages page new) (answered c pages page ts rest new told h t s e) ends sound;
+      edit = λ new s e. page_ends c ended (retyped_page pages page new) (answered c pages page bs rest new told h t s e) ends;
+      complete = λ new s e sound. page_completes c ended (retyped_page pages page new) (answered c pages page bs rest new told h t s e) ends sound;
     }
 
--- ---- of any page that calls nothing
+-- ---- of any page that isn't refused
 
 ordinary_answered : (c : Call) (pages : Pages) (page : List ℕ) (new : Tree) → c.folder.pages_before ≡ Some pages
     → (s : SendsFor c Edit page (retyped_page pages page new) (λ b. new)) → IsOrdinaryEdit pages page s.input new s.unsourced

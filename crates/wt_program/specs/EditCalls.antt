@@ -1,5 +1,5 @@
--- Calls of the program that send a text edit of a page that calls nothing, and how they end.
-use Rattle.std.specs.Prelude.{◌≡◌, ◌⊎◌, ℕ, List, [], map, Some}
+-- Calls of the program that send a text edit of a page, and how they end.
+use Rattle.std.specs.Prelude.{◌≡◌, ◌⊎◌, ℕ, List, Some}
 use Rattle.wt_span.specs.Items.{Item}
 use Rattle.wt_devices.specs.Device.{Pages}
 use Rattle.wt_tree.specs.Tree.{Tree}
@@ -13,8 +13,8 @@ use Rattle.wt_commands.specs.Calls.{Call, NothingFailed}
 use Rattle.wt_commands.specs.Statuses.{code, IsFaultOrNoMemory}
 use Rattle.wt_called_edit_laws.specs.CalledTexts.{spots_tree}
 use Rattle.wt_called_edit_laws.specs.EditsAt.{AllStand}
-use Rattle.wt_called_edit_laws.specs.PlacedLines.{spots_by, end_by}
-use Rattle.wt_called_edit_laws.specs.ToldLines.{Told, lined, IsToldPage}
+use Rattle.wt_called_edit_laws.specs.LinedAmong.{spots_of_lines, end_of_lines, IsLinedAmong}
+use Rattle.wt_called_edit_laws.specs.PlacedLines.{LinedBlock}
 use Rattle.wt_program.specs.AnyCalls.{SendsFor}
 use Rattle.wt_program.specs.Calls.{WroteNewPage}
 use Rattle.wt_inside_laws.specs.HtmlEdits.{IsHtmlEdit}
@@ -24,22 +24,22 @@ use Rattle.wt_inside_laws.specs.ToldEdits.{IsOrdinaryEdit}
 abbrev pub retyped_page : Pages → List ℕ → Tree → List ℕ
 retyped_page pages page new = spliced page (slices same_node (page_tree pages page) new)
 
--- The blocks that the page's lines tell are at paths of its tree. Where a call sends HTML that is a text edit of some of them,
+-- The blocks that the lines of the expanded page tell are at paths of its tree. Where a call sends HTML that is a text edit of some of them,
 -- * `edit` has written the page with the insides of these replaced; or a device failed, or memory ran out;
 -- * where no device failed, only want of memory may come in its place.
-pub record TakesToldEditsThere (c : Call) (ended : ℕ) (pages : Pages) (page : List ℕ) (ts : List Told) (rest : List (List Item)) : Type 0 where
+pub record TakesToldEditsThere (c : Call) (ended : ℕ) (pages : Pages) (page : List ℕ) (bs : List LinedBlock) (rest : List (List Item)) : Type 0 where
   pub paths : List (List ℕ)
-  pub stand : AllStand (spots_by [] (map lined ts)) paths (spots_tree pages (spots_by [] (map lined ts)) (end_by [] (map lined ts) rest))
+  pub stand : AllStand (spots_of_lines pages page bs) paths (spots_tree pages (spots_of_lines pages page bs) (end_of_lines pages page bs rest))
   pub edit : (new : Tree) → (s : SendsFor c Edit page (retyped_page pages page new) (λ b. new)) → IsHtmlEdit pages page s.input paths new s.unsourced
       → WroteNewPage c ended (retyped_page pages page new) ⊎ IsFaultOrNoMemory ended
   pub complete : (new : Tree) → (s : SendsFor c Edit page (retyped_page pages page new) (λ b. new)) → IsHtmlEdit pages page s.input paths new s.unsourced
       → NothingFailed c → WroteNewPage c ended (retyped_page pages page new) ⊎ (ended ≡ code status.NoMemory)
 
--- over a folder of these pages, of each page that its lines tell so
+-- over a folder of these pages, of each page whose lines tell them so
 abbrev pub TakesToldEdits : Call → ℕ → Type 0
 TakesToldEdits c ended =
-    (pages : Pages) (page : List ℕ) (ts : List Told) (rest : List (List Item)) → c.folder.pages_before ≡ Some pages → IsToldPage page ts rest
-    → TakesToldEditsThere c ended pages page ts rest
+    (pages : Pages) (page : List ℕ) (bs : List LinedBlock) (rest : List (List Item)) → c.folder.pages_before ≡ Some pages → IsLinedAmong pages page bs rest
+    → TakesToldEditsThere c ended pages page bs rest
 
 -- Where a call sends HTML that is a text edit of a page, and the marked blocks are ordinary (`IsOrdinaryEdit`),
 -- * `edit` has written the page with the insides of these replaced; or a device failed, or memory ran out;

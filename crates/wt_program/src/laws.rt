@@ -97,8 +97,8 @@ pub fn calls_take_text_edits()
     ensures { (c : Call) (ended : ℕ) → Ends c ended → TakesTextEdits c ended }
 {}
 
-/// The same of blocks that the page's lines tell (`IsToldPage`), which are at paths of the page's tree, and any of which may be
-/// edited at once.
+/// The same of blocks that call nothing and that the lines of the expanded page tell (`IsLinedAmong`), which are at paths of
+/// the page's tree, and any of which may be edited at once.
 #[tactic(auto, using(crate::proofs::EditCalls::calls_take_told))]
 pub fn calls_take_told_edits()
     ensures { (c : Call) (ended : ℕ) → Ends c ended → TakesToldEdits c ended }

@@ -64,10 +64,11 @@ pub fn run<S: Source, F: Folder, W: Sink, E: Sink>(
         (fetched_from F.Folder folder.old folder.new) (written_to W.Sink out.old out.new)
         (written_to E.Sink err.old err.new)) result }
 
-    // Each text edit of a page that calls nothing is taken, where nothing is a group and no comment and no hidden part is open
-    // at the page's end: where a call sends HTML in which texts of any paragraphs and headings were typed anew, and these are
-    // ordinary (`IsOrdinaryEdit` of `wt_inside_laws`), `edit` has written the page with the insides of these replaced by what
-    // was sent, as it is spelled, and no line; or a device failed, or memory ran out.
+    // Each text edit of blocks that call nothing is taken, on any page that isn't refused, and at whose end no comment and no
+    // hidden part is open, with calls or without: where a call sends HTML in which texts of any paragraphs and headings were
+    // typed anew, and these hold no group, are ordinary and told by the lines of the expanded page (`IsOrdinaryEdit` of
+    // `wt_inside_laws`), `edit` has written the page with the insides of these replaced by what was sent, as it is spelled,
+    // and no line; or a device failed, or memory ran out.
     ensures takes_text_edits { TakesTextEdits (call words.now (read_from S.Source input.old input.new)
         (fetched_from F.Folder folder.old folder.new) (written_to W.Sink out.old out.new)
         (written_to E.Sink err.old err.new)) result }

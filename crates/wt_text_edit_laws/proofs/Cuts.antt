@@ -3,6 +3,7 @@ pub mod SignBytes
 pub mod ItemCuts
 pub mod SettledEnds
 pub mod Unmarked
+pub mod Seen
 pub mod HeadingCuts
 pub mod Utf8Cuts
 pub mod RowLines

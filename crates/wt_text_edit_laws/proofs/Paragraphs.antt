@@ -8,4 +8,5 @@ pub mod Paragraphs
 pub mod PartTrees
 pub mod ClearLines
 pub mod LineBlocks
+pub mod SeenLines
 mod Cases

@@ -1,5 +1,5 @@
 -- Paragraphs of the body of a page, by the blocks that the page's rows are cut into; and where each is in the page.
-use Rattle.std.specs.Prelude.{◌≡◌, ◌≢◌, ℕ, true, List, [], ◌∷◌, ◌++◌}
+use Rattle.std.specs.Prelude.{◌≡◌, ◌≢◌, ℕ, List, [], ◌∷◌, ◌++◌, All}
 use Rattle.std.specs.Str.{IsUtf8}
 use Rattle.wt_span.specs.Items.{Item, sources}
 use Rattle.wt_inline.specs.ItemTree.{ItemTree}
@@ -13,9 +13,10 @@ use Rattle.wt_page.specs.Texts.{para}
 use Rattle.wt_part_laws.specs.Blocks.{Block, paragraph, block_rows, AreBlocks}
 use Rattle.wt_text_edit_laws.specs.BlockSpots.{BlockSpot}
 use Rattle.wt_text_edit_laws.specs.NoCalls.{CallsNothing}
-use Rattle.wt_text_edit_laws.specs.PageCuts.{AreTextItems, begins_unmarked, EndsClosed, IsUntangledAt}
+use Rattle.wt_text_edit_laws.specs.PageCuts.{AreTextItems, EndsClosed, IsUntangledAt}
 use Rattle.wt_text_edit_laws.specs.ParagraphBetween.{EndsApart, EndsParagraph, body_with}
 use Rattle.wt_text_edit_laws.specs.ParagraphParts.{joined_parts, para_with}
+use Rattle.wt_text_edit_laws.specs.Paragraphs.{IsTextLine}
 use Rattle.wt_text_edit_laws.specs.Parts.{HasNoGroups}
 use Rattle.wt_text_edit_laws.specs.TextBetween.{AreEnded}
 use Rattle.wt_text_edit_laws.specs.TextBlocks.{a_paragraph}
@@ -80,7 +81,8 @@ pub record IsParagraphAt (xs : List Item) (r : Row) (rs : List Row) : Type 0 whe
   pub own : List Item
   pub rest : List Item
   pub is : xs ≡ before ++ (own ++ rest)
-  pub text : begins_unmarked own ≡ true → AreTextItems (sources own) own
+  pub text : AreTextItems (sources own) own
+  pub lines_are : All IsTextLine (lines own)
   pub tree : para (r ∷ rs) ≡ para_with (joined_parts (lines own))
   pub child : IsBodyChild xs (para (r ∷ rs))
   pub ended : AreEnded (sources before)
@@ -93,12 +95,11 @@ spot_at before own = record { before = sources before; block = a_paragraph; text
 
 -- ---- where its content may be edited
 
--- The page calls nothing, and no node of it can only be kept as a whole. The paragraph isn't tangled; no mark is behind the blanks that begin it; and
--- where it ends the page, it holds no comment and no hidden part that nothing ends.
+-- The page calls nothing, and no node of it can only be kept as a whole. The paragraph isn't tangled; and where it ends the
+-- page, it holds no comment and no hidden part that nothing ends.
 pub record IsFreeParagraph (page : List ℕ) (own rest : List Item) : Type 0 where
   pub utf8 : IsUtf8 page
   pub calls_nothing : CallsNothing (page_items page)
   pub ungrouped : HasNoGroups page
   pub untangled : IsUntangledAt (para_with (joined_parts (lines own)))
-  pub unmarked : begins_unmarked own ≡ true
   pub closed : EndsClosed (sources own) (sources rest)

@@ -24,7 +24,7 @@ use Rattle.wt_part_laws.specs.Standing.{standing}
 use Rattle.wt_part_laws.specs.Rounded.{AllHaveItems}
 use Rattle.wt_text_edit_laws.specs.NoCalls.{AreUnpaired}
 use Rattle.wt_text_edit_laws.specs.ParagraphParts.{joined_parts}
-use Rattle.wt_text_edit_laws.specs.Paragraphs.{IsTextLine}
+use Rattle.wt_text_edit_laws.specs.Paragraphs.{IsSeenLine}
 use Rattle.wt_text_edit_laws.specs.ReadContents.{IsFirmlyRead}
 use Rattle.wt_text_edit_laws.specs.TextBetween.{StandsBehind, LineEnds}
 use Rattle.wt_text_edit_laws.specs.TextBlocks.{TextBlock, a_paragraph, a_heading, source_of, block_items, block_tree, IsFrame}
@@ -32,13 +32,11 @@ use Rattle.wt_text_edit_laws.specs.TypedHeadings.{Sides, IsInside, IsOfLevel}
 
 -- ---- its lines
 
--- Lines of text, and no mark is before the first: it would stand before the paragraph. Before another line one may be, such as a line of comments. No
--- comment begins them, nor follows the blanks that begin them, where the page ends with them, and where a line break follows.
+-- Lines, in each of which something is neither a blank nor a mark, and no mark is before the first: it would stand before the paragraph. Before another
+-- line one may be, such as a line of comments. Whether they are text hangs on where they stand.
 pub record AreParagraphLines (q : List ℕ) : Type 0 where
-  pub are_lines : All IsTextLine (lines (page_items q))
+  pub seen : All IsSeenLine (lines (page_items q))
   pub unled : marks_len (page_items q) ≡ 0
-  pub alone : StandsBehind q
-  pub before_break : StandsBehind (q ++ byte.line_break ∷ [])
 
 -- What is between a heading's delimiters: it is on one line, begins and ends with no blank, or is nothing; and the line's level is that of the
 -- delimiters.

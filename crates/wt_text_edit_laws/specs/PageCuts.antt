@@ -4,17 +4,19 @@ use Rattle.wt_span.specs.Bytes.{is_blank}
 use Rattle.wt_span.specs.Characters as byte
 use Rattle.wt_span.specs.Items.{Item, char, is_char_in, is_mark, sign, sources}
 use Rattle.wt_span.specs.Origins.{Expanded}
-use Rattle.wt_inline.specs.ItemTree.{ItemTree}
+use Rattle.wt_inline.specs.ItemTree.{ItemTree, forest}
+use Rattle.wt_inline.specs.Parts.{children}
 use Rattle.wt_lines.specs.Lines.{lines}
 use Rattle.wt_blocks.specs.Headings.{level}
 use Rattle.wt_expand.specs.PageItems.{page_items}
 use Rattle.wt_page.specs.Rows.{marks_len}
 use Rattle.wt_selser.specs.Edits.{is_tangled}
+use Rattle.wt_part_laws.specs.Rounded.{AllHaveItems}
 use Rattle.wt_part_laws.specs.Standing.{standing}
 use Rattle.wt_text_edit_laws.specs.BlockSpots.{BlockSpot, spots_source}
+use Rattle.wt_text_edit_laws.specs.Contents.{content_parts_of}
 use Rattle.wt_text_edit_laws.specs.LonePages.{page_chars}
-use Rattle.wt_text_edit_laws.specs.Paragraphs.{IsTextLine}
-use Rattle.wt_text_edit_laws.specs.Parts.{HasNoGroups}
+use Rattle.wt_text_edit_laws.specs.Paragraphs.{IsSeenLine}
 use Rattle.wt_text_edit_laws.specs.TextBetween.{AreEnded, HasEnds}
 use Rattle.wt_text_edit_laws.specs.TextBlocks.{TextBlock, a_paragraph, a_heading, source_of, block_tree}
 use Rattle.wt_text_edit_laws.specs.TypedHeadings.{Sides, AreBlanks, AreIdle, equals, opening, IsInside}
@@ -26,12 +28,11 @@ abbrev pub begins_unmarked : List Item → Bool
 begins_unmarked [] = true
 begins_unmarked (x ∷ xs) = if is_char_in is_blank x then begins_unmarked xs else not (is_mark x)
 
--- Lines of text. No mark stands before the first, nor behind the blanks that begin it.
+-- Lines, in each of which something is neither a blank nor a mark. No mark stands before the first.
 pub record AreTextItems (q : List ℕ) (xs : List Item) : Type 0 where
   pub source : sources xs ≡ q
-  pub are_lines : All IsTextLine (lines xs)
+  pub seen : All IsSeenLine (lines xs)
   pub unled : marks_len xs ≡ 0
-  pub unmarked : begins_unmarked xs ≡ true
 
 -- A heading's line: its first `=` and blanks, what it holds, blanks and its last `=`, and what is behind these, where what begins ends.
 pub record AreHeadingItems (s : Sides) (q : List ℕ) (xs : List Item) : Type 0 where
@@ -63,9 +64,9 @@ pub record IsUntangledAt (u : ItemTree) : Type 0 where
   pub before : List Item
   pub untangled : is_tangled items page (standing number before u) ≡ false
 
--- no part of it can only be kept as a whole
+-- no node in it is empty
 pub record IsFreeBlock (k : TextBlock) (q : List ℕ) : Type 0 where
-  pub ungrouped : HasNoGroups (source_of k q)
+  pub full : AllHaveItems (forest (children (content_parts_of k (page_items q))))
   pub untangled : IsUntangledAt (block_tree k q)
 
 -- ---- the page

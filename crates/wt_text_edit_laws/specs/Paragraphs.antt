@@ -1,12 +1,12 @@
 -- A paragraph whose content is one text, whoever wrote it.
-use Rattle.std.specs.Prelude.{◌≡◌, ◌⊎◌, ℕ, Some, None, List, [], ◌∷◌, ◌++◌, All}
+use Rattle.std.specs.Prelude.{◌≡◌, ◌⊎◌, ℕ, false, Some, None, List, [], ◌∷◌, ◌++◌, All, map}
 use Rattle.std.specs.Str.{IsUtf8}
 use Rattle.wt_span.specs.declared.form.ItemForm.{ItemForm}
 use Rattle.wt_span.specs.declared.form.ItemForm.TheVariants as form
 use Rattle.wt_span.specs.Characters as byte
-use Rattle.wt_span.specs.Items.{Item, char, whole}
+use Rattle.wt_span.specs.Items.{Item, char, whole, sign}
 use Rattle.wt_lines.specs.declared.kind.LineKind.TheVariants as line
-use Rattle.wt_lines.specs.Kinds.{line_kind}
+use Rattle.wt_lines.specs.Kinds.{is_idle_all, line_kind}
 use Rattle.wt_lines.specs.Lines.{lines, full_lines, content}
 use Rattle.wt_inline.specs.declared.loose.Loose.TheVariants.{Text}
 use Rattle.wt_inline.specs.Parts.{parts}
@@ -41,6 +41,10 @@ AreLetters (whole f (Some k) bs ∷ xs) = ⊥
 
 abbrev pub IsTextLine : List Item → Type 0
 IsTextLine l = line_kind 0 l ≡ line.Text
+
+-- something is in it that is neither a blank nor a mark
+abbrev pub IsSeenLine : List Item → Type 0
+IsSeenLine l = is_idle_all (map sign l) ≡ false
 
 -- Lines before which no mark stands, and each of which is one text: no link, style, switch or address begins in it.
 abbrev pub AreOneText : List (List Item) → Type 0

@@ -1,13 +1,13 @@
 -- The content of a paragraph or a heading, whatever it calls: how its lexemes are read, by itself and before what follows.
-use Rattle.std.specs.Prelude.{◌≡◌, ◌==◌, ℕ, not, Bool, true, false, None, List, [], ◌∷◌, ◌++◌, if◌then◌else◌}
+use Rattle.std.specs.Prelude.{◌≡◌, ◌==◌, ◌||◌, ℕ, not, Bool, true, false, None, List, [], ◌∷◌, ◌++◌, if◌then◌else◌}
 use Rattle.std.specs.Str.{IsUtf8}
 use Rattle.wt_span.specs.Bytes.{is_blank}
 use Rattle.wt_span.specs.Characters as byte
-use Rattle.wt_span.specs.Items.{Item, char, is_char_in}
+use Rattle.wt_span.specs.Items.{Item, char, is_char_in, is_mark}
 use Rattle.wt_span.specs.Tags.{to_closing}
 use Rattle.wt_lines.specs.Lines.{is_break_item}
 use Rattle.wt_expand.specs.PageItems.{page_items}
-use Rattle.wt_text_edit_laws.specs.TextBetween.{StandsBehind}
+use Rattle.wt_text_edit_laws.specs.TextBetween.{BeginsSeen, StandsBehind}
 use Rattle.wt_text_edit_laws.specs.TextBlocks.{TextBlock, a_paragraph, a_heading, source_of, block_items, IsFrame}
 
 -- ---- by itself
@@ -17,11 +17,15 @@ abbrev pub begins_shown : List Item → Bool
 begins_shown [] = false
 begins_shown (x ∷ xs) = if is_char_in is_blank x then begins_shown xs else not (is_break_item x)
 
--- No comment begins it, nor follows the blanks that begin it, where the page ends with it, and where a line break follows. Its first line isn't
--- blank.
+-- in the first line of these items something is neither a blank nor a mark
+abbrev pub begins_seen : List Item → Bool
+begins_seen [] = false
+begins_seen (x ∷ xs) = if is_char_in is_blank x || is_mark x then begins_seen xs else not (is_break_item x)
+
+-- No line of comments begins it, where the page ends with it, and where a line break follows; and its first line isn't blank.
 pub record BeginsParagraph (q : List ℕ) : Type 0 where
-  pub alone : StandsBehind q
-  pub before_break : StandsBehind (q ++ byte.line_break ∷ [])
+  pub alone : BeginsSeen q
+  pub before_break : BeginsSeen (q ++ byte.line_break ∷ [])
   pub shown : begins_shown (page_items q) ≡ true
 
 abbrev pub BeginsBlock : TextBlock → List ℕ → Type 0

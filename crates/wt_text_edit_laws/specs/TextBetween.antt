@@ -1,5 +1,5 @@
 -- What comes before and after a text of a page.
-use Rattle.std.specs.Prelude.{◌≡◌, ℕ, ◌==◌, ◌&&◌, ◌||◌, not, Bool, true, false, Option, Some, None, List, [], ◌∷◌, ◌++◌, drop, codes, is_some, if◌then◌else◌, slice_index}
+use Rattle.std.specs.Prelude.{◌≡◌, ◌<◌, ℕ, ◌==◌, ◌&&◌, ◌||◌, not, Bool, true, false, Option, Some, None, List, [], ◌∷◌, ◌++◌, length, drop, codes, is_some, if◌then◌else◌, slice_index}
 use Rattle.wt_span.specs.declared.form.Mode.TheVariants.{Page}
 use Rattle.wt_span.specs.Bytes.{is_break, begins, blank_len}
 use Rattle.wt_span.specs.Comments.{remarks_len}
@@ -37,6 +37,11 @@ AreEnded bs = EndsBy is_end bs
 -- no line of comments and blanks begins these bytes, nor goes on in them
 abbrev pub BeginsShown : List ℕ → Type 0
 BeginsShown bs = is_break (slice_index bs (remarks_len 0 bs)) ≡ false
+
+-- behind the comments and blanks that begin them is a byte, and it is no line break
+pub record BeginsSeen (bs : List ℕ) : Type 0 where
+  pub short : remarks_len 0 bs < length bs
+  pub shown : BeginsShown bs
 
 -- ---- what begins in a part and ends in it
 

@@ -1,11 +1,11 @@
 -- A paragraph or a heading of a page, by its items there: it is read so by itself, and is a content that may be edited, where it isn't tangled.
-use Rattle.std.proofs.Common.{arith, ◌≡◌, ◌≤◌, ℕ, zero, suc, Bool, true, false, None, List, [], ◌∷◌, ◌++◌, map, refl, sym, ap, ◌∙◌, subst, append-nil, append_assoc}
+use Rattle.std.proofs.Common.{arith, ◌≡◌, ◌≤◌, ℕ, zero, suc, Bool, true, false, None, List, [], ◌∷◌, ◌++◌, map, refl, sym, ap, ◌∙◌, subst, append-nil, append_assoc, cond, ◌+◌}
 use Rattle.std.specs.Prelude.{All, ◌||◌}
 use Rattle.std.specs.Str.{IsUtf8}
 use Rattle.std.proofs.lemmas.Grind.{flat_map-append}
 use Rattle.wt_span.specs.declared.form.Mode.TheVariants.{Page}
 use Rattle.wt_span.specs.Bytes.{is_break}
-use Rattle.wt_span.specs.Items.{Item, char, sign, source, sources}
+use Rattle.wt_span.specs.Items.{Item, char, is_mark, sign, source, sources}
 use Rattle.wt_span.specs.Origins.{Expanded}
 use Rattle.wt_tree.specs.Tiling.{HasNoGroup, NoneIsGroup}
 use Rattle.wt_tree.specs.Tree.{Label, Tree, tree, Trees, none, more}
@@ -25,9 +25,10 @@ use Rattle.wt_typed_blocks.proofs.Forms.{other_byte}
 use Rattle.wt_text_edit_laws.specs.Contents.{AreParagraphLines, IsHeadingLine, IsContentOf, IsContent}
 use Rattle.wt_text_edit_laws.specs.LonePages.{page_chars}
 use Rattle.wt_text_edit_laws.specs.NoCalls.{Brace, braces, NonePairs, CallsNothing}
-use Rattle.wt_text_edit_laws.specs.PageCuts.{begins_unmarked, AreTextItems, AreHeadingItems, AreBlockItems, IsUntangledAt, IsFreeBlock, EndsThere, EndsClosed}
-use Rattle.wt_text_edit_laws.specs.Paragraphs.{IsTextLine}
-use Rattle.wt_text_edit_laws.specs.TextBetween.{StandsBehind}
+use Rattle.wt_text_edit_laws.specs.PageCuts.{AreTextItems, AreHeadingItems, AreBlockItems, IsUntangledAt, IsFreeBlock, EndsThere, EndsClosed}
+use Rattle.wt_text_edit_laws.specs.Paragraphs.{IsSeenLine}
+use Rattle.wt_text_edit_laws.specs.ReadContents.{begins_seen}
+use Rattle.wt_text_edit_laws.specs.TextBetween.{BeginsSeen}
 use Rattle.wt_text_edit_laws.specs.TextBlocks.{TextBlock, a_paragraph, a_heading, source_of, block_items, block_tree}
 use Rattle.wt_text_edit_laws.specs.TypedHeadings.{Sides, AreIdle, equals, opening, heading_line, IsInside}
 use Rattle.wt_text_edit_laws.proofs.Between.BraceWords.{pairs_behind}
@@ -37,14 +38,16 @@ use Rattle.wt_text_edit_laws.proofs.Between.LineComments.{lines_ended}
 use Rattle.wt_text_edit_laws.proofs.Blocks.Untangled.{opens_same}
 use Rattle.wt_text_edit_laws.proofs.Cuts.HeadingCuts.{heading_cut, heading_source}
 use Rattle.wt_text_edit_laws.proofs.Cuts.ItemCuts.{front_alone, page_from}
-use Rattle.wt_text_edit_laws.proofs.Cuts.Unmarked.{unmarked_begins, unmarked_before}
+use Rattle.wt_text_edit_laws.proofs.Cuts.Seen.{shown_alone, seen_either}
 use Rattle.wt_text_edit_laws.proofs.Cuts.Utf8Cuts.{heading_utf8}
+use Rattle.wt_text_edit_laws.proofs.Paragraphs.SeenLines.{lines_seen, seen_before}
 use Rattle.wt_text_edit_laws.proofs.Paragraphs.Texts.{here_begins, one_line}
 use Rattle.wt_text_edit_laws.proofs.Prose.InFront.{reads_nothing, read_items}
 use Rattle.wt_text_edit_laws.proofs.Prose.Uncommented.{BeginsUncommented}
 use Rattle.wt_selser.proofs.NoGroups.{untangled}
-use Rattle.wt_beside_laws.proofs.Derived.NodesHave.{NodesHave, nodes_have}
+use Rattle.wt_beside_laws.proofs.Derived.NodesHave.{NodesHave}
 use Rattle.wt_beside_laws.proofs.Made.OldBlocks.{no_group}
+use Rattle.wt_beside_laws.proofs.OwnItems.{content_own}
 
 -- ---- its source, and what is behind it
 
@@ -97,17 +100,10 @@ read_alone line own (b ∷ r) zs is e c all behind =
 
 -- ---- a paragraph
 
-unmarked_alone : (bs : List ℕ) (xs : List Item) → page_items bs ≡ xs → begins_unmarked xs ≡ true → StandsBehind bs
-unmarked_alone bs xs e h =
-    let u = unmarked_begins bs false (subst (λ (ys : List Item). begins_unmarked ys ≡ true) (sym e ∙ page_from bs) h) in
-    record { uncommented = u.is }
-
 paragraph_lines : (q : List ℕ) (xs : List Item) → AreTextItems q xs → ReadAlone q xs → AreParagraphLines q
 paragraph_lines q xs h r = record {
-  are_lines = subst (λ (ys : List Item). All IsTextLine (lines ys)) (sym r.unended) h.are_lines;
+  seen = subst (λ (ys : List Item). All IsSeenLine (lines ys)) (sym r.unended) h.seen;
   unled = subst (λ (ys : List Item). marks_len ys ≡ 0) (sym r.unended) h.unled;
-  alone = unmarked_alone q xs r.unended h.unmarked;
-  before_break = unmarked_alone (q ++ 10 ∷ []) (xs ++ char None 10 ∷ []) r.ended (unmarked_before xs [] h.unmarked);
 }
 
 -- ---- a heading
@@ -168,25 +164,38 @@ block_read (a_heading s) q xs h u r =
     let parts = heading_utf8 s q h.lead h.trail h.some u in
     record { is = heading_is s q xs h parts.1 inside; items = heading_items s q xs h inside.own inside.rest; utf8 = parts.0 }
 
--- no mark begins it
-pub block_unmarked : (k : TextBlock) (q : List ℕ) (xs : List Item) → AreBlockItems k q xs → begins_unmarked xs ≡ true
-block_unmarked a_paragraph q xs h = h.unmarked
-block_unmarked (a_heading s) q xs h =
-    ap begins_unmarked h.is ∙ signs s.level s.lead (h.own ++ (page_chars (s.trail ++ equals s.level) ++ h.rest)) h.some
-  where
-    signs : (n : ℕ) (bs : List ℕ) (ys : List Item) → 1 ≤ n → begins_unmarked (page_chars (equals n ++ bs) ++ ys) ≡ true
-    signs zero bs ys le = absurd (omega (arith, le))
-    signs (suc n) bs ys le = refl
+-- something in its first line is neither a blank nor a mark, and no mark begins it
+pub record BlockSeen (xs : List Item) : Type 0 where
+  pub seen : begins_seen xs ≡ true
+  pub unled : marks_len xs ≡ 0
 
-pub unmarked_joined : (xs zs : List Item) (rest : List ℕ) → begins_unmarked xs ≡ true → EndsThere rest → page_items rest ≡ zs
-    → begins_unmarked (xs ++ zs) ≡ true
-unmarked_joined xs zs [] h e is =
-    let none : zs ≡ [] = sym is ∙ read_items [] [] reads_nothing in
-    ap begins_unmarked (ap (λ (ys : List Item). xs ++ ys) none ∙ append-nil xs) ∙ h
-unmarked_joined xs zs (b ∷ rest) h e is =
-    let P : ℕ → Type 0 = λ (c : ℕ). page_items (c ∷ rest) ≡ zs → begins_unmarked (xs ++ zs) ≡ true in
-    subst P (sym e) (λ f. let first = break_first rest zs f in
-    ap (λ (ys : List Item). begins_unmarked (xs ++ ys)) first.is ∙ unmarked_before xs first.more h) is
+signs_seen : (n : ℕ) (bs : List ℕ) (ys : List Item) → 1 ≤ n → BlockSeen (page_chars (equals n ++ bs) ++ ys)
+signs_seen zero bs ys le = absurd (omega (arith, le))
+signs_seen (suc n) bs ys le = record { seen = refl; unled = refl }
+
+pub block_seen : (k : TextBlock) (q : List ℕ) (xs : List Item) → AreBlockItems k q xs → BlockSeen xs
+block_seen a_paragraph q xs h = record { seen = lines_seen xs h.seen; unled = h.unled }
+block_seen (a_heading s) q xs h =
+    subst BlockSeen (sym h.is) (signs_seen s.level s.lead (h.own ++ (page_chars (s.trail ++ equals s.level) ++ h.rest)) h.some)
+
+first_unled : (x : Item) (n m : ℕ) → cond (is_mark x) (1 + n) 0 ≡ 0 → cond (is_mark x) (1 + m) 0 ≡ 0
+first_unled x n m e = by (is_mark x) e
+  where
+    by : (v : Bool) → cond v (1 + n) 0 ≡ 0 → cond v (1 + m) 0 ≡ 0
+    by true f = absurd (omega (arith, f))
+    by false f = refl
+
+-- whatever is behind it
+pub seen_with : (xs zs : List Item) → BlockSeen xs → BlockSeen (xs ++ zs)
+seen_with [] zs h = let no : false ≡ true = h.seen in absurd (cc)
+seen_with (x ∷ xs) zs h =
+    record { seen = seen_before (x ∷ xs) zs h.seen; unled = first_unled x (marks_len xs) (marks_len (xs ++ zs)) h.unled }
+
+-- so it is read behind anything
+pub seen_alone : (a : Bool) (bs : List ℕ) (xs : List Item) → BlockSeen xs → items_from a 0 bs ≡ xs → page_items bs ≡ xs
+seen_alone a bs xs h e =
+    let seen : BeginsSeen bs = seen_either a bs (ap marks_len e ∙ h.unled) (ap begins_seen e ∙ h.seen) in
+    shown_alone a bs xs seen.shown e
 
 -- ---- it calls nothing
 
@@ -280,7 +289,4 @@ content_of k q xs alone read calm nodes untangled =
 
 pub block_content : (k : TextBlock) (q : List ℕ) (xs : List Item) → ReadAlone (source_of k q) xs → BlockRead k q xs → CallsNothing xs → IsFreeBlock k q
     → IsContent k q
-block_content k q xs alone read calm free =
-    let unended : page_items (source_of k q) ≡ block_items k q = alone.unended ∙ sym read.items in
-    let calls : CallsNothing (block_items k q) = subst CallsNothing (sym read.items) calm in
-    content_of k q xs alone read calm (nodes_have k q read.utf8 read.is unended calls free.ungrouped) free.untangled
+block_content k q xs alone read calm free = content_of k q xs alone read calm (record { of_page = content_own k q; has_items = free.full }) free.untangled

@@ -52,6 +52,6 @@ pub body_read : (page : List ℕ) (r : Row) (rs : List Row) (p : IsParagraphAt (
 body_read page r rs p f =
     let same : sources p.before ++ (sources p.own ++ sources p.rest) ≡ page = parts_are page p.before p.own p.rest p.is in
     let c : IsSpotCut (spot_at p.before p.own) (page_items (sources p.before ++ (sources p.own ++ sources p.rest))) =
-    record { before = p.before; own = p.own; rest = p.rest; is = ap page_items same ∙ p.is; source = refl; block = p.text f.unmarked } in
+    record { before = p.before; own = p.own; rest = p.rest; is = ap page_items same ∙ p.is; source = refl; block = p.text } in
     one_read (spot_at p.before p.own) (sources p.rest) c (subst IsUtf8 (sym same) f.utf8) (subst CallsNothing (ap page_items (sym same)) f.calls_nothing)
     p.ended (there_so p.rest p.ends) f.closed (λ a b calm. own_content page r rs p f a b calm)

@@ -12,7 +12,7 @@ use Rattle.wt_lines.specs.Kinds.{kind_of_signs}
 use Rattle.wt_text_edit_laws.specs.BlockSpots.{BlockSpot}
 use Rattle.wt_text_edit_laws.specs.LonePages.{page_chars}
 use Rattle.wt_text_edit_laws.specs.PageCuts.{AreTextItems, IsSpotCut, AreCuts}
-use Rattle.wt_text_edit_laws.specs.Paragraphs.{IsTextLine}
+use Rattle.wt_text_edit_laws.specs.Paragraphs.{IsSeenLine}
 use Rattle.wt_text_edit_laws.specs.TextBlocks.{a_paragraph}
 use Rattle.wt_beside_laws.specs.Kept.{characters, sign}
 use Rattle.wt_beside_laws.proofs.Firm.{alone_as, parts_read}
@@ -45,9 +45,8 @@ text : AreTextItems (codes "x<br>y") (page_chars (codes "x<br>y"))
 unfolding kind_of_signs
 text = record {
   source = refl;
-  are_lines = All-cons IsTextLine (page_chars (codes "x<br>y")) [] refl (All-nil IsTextLine);
+  seen = All-cons IsSeenLine (page_chars (codes "x<br>y")) [] refl (All-nil IsSeenLine);
   unled = refl;
-  unmarked = refl;
 }
 
 is_cut : IsSpotCut second (page_items (codes "z\n\nx<br>y"))

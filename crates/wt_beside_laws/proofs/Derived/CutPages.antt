@@ -13,7 +13,7 @@ use Rattle.wt_part_laws.specs.Scans.{after_all}
 use Rattle.wt_text_edit_laws.specs.BlockSpots.{BlockSpot, spots_source, EndBeforeBlocks, AreReadAfter, AreRead}
 use Rattle.wt_text_edit_laws.specs.Contents.{IsHeadingLine, IsContent}
 use Rattle.wt_text_edit_laws.specs.NoCalls.{braces, NonePairs, CallsNothing}
-use Rattle.wt_text_edit_laws.specs.PageCuts.{begins_unmarked, BeginsBreak, EndsThere, EndsClosed, IsSpotCut, AreFurtherCuts, AreCuts, AreFree}
+use Rattle.wt_text_edit_laws.specs.PageCuts.{BeginsBreak, EndsThere, EndsClosed, IsSpotCut, AreFurtherCuts, AreCuts, AreFree}
 use Rattle.wt_text_edit_laws.specs.TextBetween.{EndsBy, is_end, AreEnded, HasEndsBefore, LineEnds}
 use Rattle.wt_text_edit_laws.specs.TextBlocks.{TextBlock, a_paragraph, a_heading, source_of, BeginsLine}
 use Rattle.wt_text_edit_laws.specs.TypedHeadings.{equals, closing, EndsLine}
@@ -23,12 +23,10 @@ use Rattle.wt_text_edit_laws.proofs.Between.LineWords.{either}
 use Rattle.wt_text_edit_laws.proofs.Blocks.OwnContents.{paragraph_some}
 use Rattle.wt_text_edit_laws.proofs.Cuts.ItemCuts.{is_plain, cut_from, page_cut, alone_after}
 use Rattle.wt_text_edit_laws.proofs.Cuts.SettledEnds.{settled_ends, line_settled}
-use Rattle.wt_text_edit_laws.proofs.Cuts.Unmarked.{unmarked_begins}
 use Rattle.wt_text_edit_laws.proofs.Cuts.Utf8Cuts.{ended_utf8, there_utf8}
 use Rattle.wt_text_edit_laws.proofs.Paragraphs.Texts.{one_line}
 use Rattle.wt_text_edit_laws.proofs.Prose.InFront.{reads_nothing, read_items}
-use Rattle.wt_text_edit_laws.proofs.Prose.Uncommented.{BeginsUncommented}
-use Rattle.wt_beside_laws.proofs.Derived.BlockContents.{block_source, there_begins, break_first, ReadAlone, read_alone, BlockRead, block_read, block_unmarked, unmarked_joined, first_unbraced, calm_between, block_content}
+use Rattle.wt_beside_laws.proofs.Derived.BlockContents.{block_source, there_begins, break_first, ReadAlone, read_alone, BlockRead, block_read, BlockSeen, block_seen, seen_with, seen_alone, first_unbraced, calm_between, block_content}
 
 -- ---- edges of parts
 
@@ -135,10 +133,8 @@ spot_read s rest zs c e u ended there closed make =
     let own_source : sources c.own ≡ line = block_source s.block s.text c.own c.block in
     let second = cut_from a line rest c.own c.rest first.behind own_source in
     let behind : page_items rest ≡ c.rest = alone_after (after_all (lexer Page) a line) rest c.rest (there_begins rest there) second.behind in
-    let unmarked : begins_unmarked (c.own ++ c.rest) ≡ true = unmarked_joined c.own c.rest rest (block_unmarked s.block s.text c.own c.block) there behind in
-    let begins : BeginsUncommented (line ++ rest) =
-    unmarked_begins (line ++ rest) a (subst (λ (ys : List Item). begins_unmarked ys ≡ true) (sym first.behind) unmarked) in
-    let all : page_items (line ++ rest) ≡ c.own ++ c.rest = alone_after a (line ++ rest) (c.own ++ c.rest) begins first.behind in
+    let seen : BlockSeen (c.own ++ c.rest) = seen_with c.own c.rest (block_seen s.block s.text c.own c.block) in
+    let all : page_items (line ++ rest) ≡ c.own ++ c.rest = seen_alone a (line ++ rest) (c.own ++ c.rest) seen first.behind in
     let alone = read_alone line c.own rest c.rest own_source there closed all behind in
     let before_parts = ended_utf8 s.before (line ++ rest) ended u in
     let line_parts = there_utf8 line rest there before_parts.1 in

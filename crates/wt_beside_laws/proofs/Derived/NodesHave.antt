@@ -1,4 +1,4 @@
--- A block that by itself has no node that can only be kept as a whole: all in it is the page's own, and each node in it has an item.
+-- In a page in which no node can only be kept as a whole, all in a block is the page's own, and each node in it has an item.
 use Rattle.std.proofs.Common.{◌≡◌, ℕ, Bool, true, false, List, [], ◌∷◌, ◌++◌, refl, sym, ap, ◌∙◌, subst, append_assoc}
 use Rattle.std.specs.Prelude.{◌||◌}
 use Rattle.std.specs.Str.{IsUtf8}
@@ -27,7 +27,7 @@ use Rattle.wt_text_edit_laws.specs.TextBlocks.{TextBlock, a_paragraph, a_heading
 use Rattle.wt_text_edit_laws.specs.LonePages.{page_chars}
 use Rattle.wt_text_edit_laws.specs.TypedHeadings.{opening, closing_items}
 use Rattle.wt_text_edit_laws.proofs.Blocks.PageItems.{all_of}
-use Rattle.wt_beside_laws.proofs.Made.OwnPages.{content_means, content_ordinary}
+use Rattle.wt_beside_laws.proofs.Made.OwnPages.{content_ordinary}
 
 -- ---- a node that is no body, and holds something of the page
 
@@ -66,11 +66,6 @@ pub record NodesHave (k : TextBlock) (q : List ℕ) : Type 0 where
 abbrev inside_of : TextBlock → List ℕ → ItemTrees
 inside_of k q = forest (children (content_parts_of k (page_items q)))
 
-body_plain : (k : TextBlock) (q : List ℕ) → IsContentOf k q → page_items (source_of k q) ≡ block_items k q → HasNoGroups (source_of k q)
-    → IsPlain (body_with (block_tree k q ∷ []))
-body_plain k q h e g =
-    only_plain [] (group_data []) (forest (block_tree k q ∷ [])) (subst (λ (t : ItemTree). HasNoGroup (annotated [] (group_data []) t)) (content_means k q h e) g)
-
 inside_page : (k : TextBlock) (q : List ℕ) → list_all is_page (tree_items (block_tree k q)) ≡ true → list_all is_page (held_by_all (inside_of k q)) ≡ true
 inside_page a_paragraph q e = (all_of (held_by_all (inside_of a_paragraph q)) [] e).0
 inside_page (a_heading s) q e =
@@ -86,16 +81,10 @@ unfolding label_at
 inside_ordinary a_paragraph q n = n.2
 inside_ordinary (a_heading s) q n = n.2
 
-pub nodes_have : (k : TextBlock) (q : List ℕ) → IsUtf8 q → IsContentOf k q → page_items (source_of k q) ≡ block_items k q → CallsNothing (block_items k q)
-    → HasNoGroups (source_of k q) → NodesHave k q
-nodes_have k q u h e c g =
-    let plain = body_plain k q h e g in
-    let block : List Item = tree_items (block_tree k q) in
-    let own : list_all is_page (block ++ []) ≡ true = (all_of (block ++ []) [] plain.of_page).0 in
-    record {
-      of_page = inside_page k q (all_of block [] own).0;
-      has_items = all_have (inside_of k q) (inside_ordinary k q (content_ordinary k q u h e c)) (inside_full k q plain.none_empty.1);
-    }
+-- where it isn't empty, nor is a node in it
+pub full_nodes : (k : TextBlock) (q : List ℕ) → IsUtf8 q → IsContentOf k q → page_items (source_of k q) ≡ block_items k q → CallsNothing (block_items k q)
+    → NoneEmpty (block_tree k q) → AllHaveItems (inside_of k q)
+full_nodes k q u h e c n = all_have (inside_of k q) (inside_ordinary k q (content_ordinary k q u h e c)) (inside_full k q n)
 
 -- ---- as a child of the body of a page
 
@@ -121,5 +110,5 @@ child_nodes_have k q page us vs u h e c g is =
     let rest = (all_of (held_by_all (forest us)) (tree_items t ++ held_by_all (forest vs)) (sym (ap (list_all is_page) (held_joined us t vs)) ∙ held)).1 in
     record {
       of_page = inside_page k q (all_of (tree_items t) (held_by_all (forest vs)) rest).0;
-      has_items = all_have (inside_of k q) (inside_ordinary k q (content_ordinary k q u h e c)) (inside_full k q (full_at us t vs plain.none_empty));
+      has_items = full_nodes k q u h e c (full_at us t vs plain.none_empty);
     }

@@ -132,7 +132,7 @@ break_flat = record {
   text = (refl, All-cons (IsLineOfText 0) (page_chars (codes "x<br>y")) [] refl (All-nil (IsLineOfText 0)));
   flat = (
     (refl, (refl, (refl, (refl, (refl, (refl, tt)))))),
-    ((120 ∷ [], (refl, refl)), (record { alone = break_node; lone = tt }, ((121 ∷ [], (refl, refl)), tt))),
+    ((120 ∷ [], (refl, refl)), (record { alone = break_node }, ((121 ∷ [], (refl, refl)), tt))),
     tt,
   );
   unstyled = (refl, tt);

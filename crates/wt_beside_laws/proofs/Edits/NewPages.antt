@@ -94,7 +94,7 @@ new_content q ps h e =
     subst (λ (n : ℕ). AreKept (signs_of_lines n (lines_of q))) (sym (opening_none q)) h.kept in
     sent_content same_node (setting q) place.Paragraph (lines_of q) (block_of q) (sent_pieces ps) tells_same refl h.flat h.unstyled (of_lines q h) kept_so
     (are_sent q ps h e) (same_numbers (block_of q) ps e.old e.stay e.go)
-    (pieces_characters (known q) place.Paragraph ps e.stay (are_sent q ps h e) e.are) e.led
+    (pieces_characters (known q) place.Paragraph ps e.stay (are_sent q ps h e) e.are) e.led (e.unclosed (setting q))
 
 -- ---- it calls nothing
 

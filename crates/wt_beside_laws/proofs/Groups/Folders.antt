@@ -29,7 +29,7 @@ abbrev own_of : Pages → ℕ → Thing → List Item
 own_of pages i t = numbered i (page_stretches pages t.source)
 
 stays_given : (pages : Pages) (i : ℕ) (t : Thing) → StaysAsItIs pages t → IsOwnNode t (own_of pages i t)
-stays_given pages i t h = record { is = h.items i; node = h.node; inside = h.inside; unbroken = h.unbroken }
+stays_given pages i t h = record { is = h.items i; node = h.node; closed = h.closed; inside = h.inside; unbroken = h.unbroken }
 
 pub given_as : (r : Role) (pages : Pages) (i : ℕ) (t : Thing) → IsOfFolder r pages t → IsGivenAs r t (own_of pages i t)
 given_as Link pages i t h = stays_given pages i t h

@@ -23,7 +23,7 @@ use Rattle.wt_beside_laws.specs.Cuts.{ends_word, guard_cut, letter_cut}
 use Rattle.wt_beside_laws.specs.Given.{GivenSign, character, form, given_items, given_glyphs, given_cut, BeginsGiven, AreGivenSigns, GivenContent, given_end, given_sign, given_style, signs_of, opens_quoted, closes_quoted, AreNestedSigns, FirstMay, LastMay, is_bare_url, ends_with_url, GivesSigns, IsGroup}
 use Rattle.wt_beside_laws.specs.Flat.{IsFlat}
 use Rattle.wt_beside_laws.specs.Glyphs.{guard_glyphs, letter_glyphs}
-use Rattle.wt_beside_laws.specs.Nodes.{IsBareNode, IsNode, MayBeBehind, MayFollow, MayLead}
+use Rattle.wt_beside_laws.specs.Nodes.{IsBareNode, IsNode, OpensNoPair, MayBeBehind, MayFollow, MayLead}
 use Rattle.wt_beside_laws.proofs.LineTiles.{scheme_less}
 use Rattle.wt_beside_laws.proofs.NodesBegin.{other_avoids, node_urls, node_switches}
 use Rattle.wt_beside_laws.proofs.NodesMeet.{atom_may, begins_more, by_fits, letter_may, none_before, word_before}
@@ -93,7 +93,7 @@ first_none (form r own ∷ signs) = none_before r
 pub given_led : (word : Bool) (signs : List GivenSign) → AreGivenSigns false signs → FirstMay signs word → AreGivenSigns word signs
 given_led word [] h f = tt
 given_led word (character b ∷ signs) h f = h
-given_led word (form r own ∷ signs) h f = (record { node = h.0.node; leads = f; follows = h.0.follows }, h.1)
+given_led word (form r own ∷ signs) h f = (record { node = h.0.node; closed = h.0.closed; leads = f; follows = h.0.follows }, h.1)
 
 -- ---- a node of the page
 
@@ -130,11 +130,12 @@ own_gift : (t : Thing) (own : List Item) → IsOwnNode t own → IsGift t own
 own_gift t own n =
     let gs : List Glyph = map glyph_of own in
     let node : IsNode t.role gs = subst (λ (xs : List Item). IsNode t.role (map glyph_of xs)) (sym n.is) n.node in
+    let closed : OpensNoPair gs = subst (λ (xs : List Item). OpensNoPair (map glyph_of xs)) (sym n.is) n.closed in
     record {
       call = 0;
       signs = form t.role own ∷ [];
       is = sym (append-nil own);
-      are = (record { node = node; leads = none_before t.role; follows = tt }, tt);
+      are = (record { node = node; closed = closed; leads = none_before t.role; follows = tt }, tt);
       neither = avoids_neither gs (node_urls t.role gs node);
       alone = node_switches t.role gs node;
       unbroken = subst IsUnbroken (sym n.is) n.unbroken;

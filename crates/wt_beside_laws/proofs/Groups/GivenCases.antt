@@ -15,6 +15,7 @@ use Rattle.wt_guards.specs.declared.role.Transclusion.{Transclusion}
 use Rattle.wt_guards.specs.Table.{line_start_hazard}
 use Rattle.wt_inline.specs.ItemTree.{forest}
 use Rattle.wt_inline.specs.Parts.{Part, children}
+use Rattle.wt_tiles.specs.declared.glyph.Glyph.TheVariants as glyph
 use Rattle.wt_tiles.specs.declared.shape.TileKind.TheVariants as tile
 use Rattle.wt_tiles.specs.Glyphs.{byte_glyphs}
 use Rattle.wt_tiles.specs.Links.{target_of, link_in, link_at}
@@ -35,6 +36,7 @@ use Rattle.wt_isolation.specs.GroupItems.{empty_nowiki}
 use Rattle.wt_isolation.specs.OpenTexts.{has_open_text}
 use Rattle.wt_beside_laws.specs.Given.{GivenContent, GivenSign, character, form, given_end, given_sign, given_style, signs_of, given_parts, AreNestedGiven, AreGivenSigns, AreGivenBy, IsGroup}
 use Rattle.wt_beside_laws.specs.Nodes.{IsLinkNode, IsBareNode}
+use Rattle.wt_beside_laws.proofs.OpenTags.{untagged_closed}
 use Rattle.wt_beside_laws.proofs.Groups.Cases.{beside_letters}
 use Rattle.wt_beside_laws.proofs.Groups.GivenParts.{given_line}
 
@@ -68,7 +70,7 @@ one_link g j = record {
     signs = form Link (of_call j (codes "[[b]]")) ∷ [];
     is = refl;
     of_call = (refl, (refl, (refl, (refl, (refl, tt)))));
-    are = (record { node = a_link; leads = tt; follows = tt }, tt);
+    are = (record { node = a_link; closed = untagged_closed (byte_glyphs (codes "[[b]]")) refl; leads = tt; follows = tt }, tt);
     nested = record { content = given_sign (form Link (of_call j (codes "[[b]]"))) given_end; is = refl; nested = (tt, tt) };
     begins = tt;
     unopened = refl;
@@ -112,7 +114,7 @@ a_style = given_style false (given_sign (character 98) given_end) given_end
 
 style_signs : (j : ℕ) → AreGivenSigns false (signs_of j a_style)
 style_signs j =
-    (record { node = inl refl; leads = tt; follows = tt }, (inl refl, (λ e. absurd (cc)), (record { node = inl refl; leads = tt; follows = tt }, tt)))
+    (record { node = inl refl; closed = untagged_closed (byte_glyphs (codes "''")) refl; leads = tt; follows = tt }, (inl refl, (λ e. absurd (cc)), (record { node = inl refl; closed = untagged_closed (byte_glyphs (codes "''")) refl; leads = tt; follows = tt }, tt)))
 
 pub style_line : (j : ℕ) → line_parts (of_call j (codes "''b''")) ≡ given_parts j a_style
 style_line j = given_line j a_style (style_signs j) (refl, refl, refl, tt, refl, tt)
@@ -176,7 +178,7 @@ one_reference g j = record {
     signs = form Node (space_item j ∷ []) ∷ [];
     is = refl;
     of_call = (refl, tt);
-    are = (record { node = inl (inr (160, refl)); leads = tt; follows = tt }, tt);
+    are = (record { node = inl (inr (160, refl)); closed = untagged_closed (glyph.Entity 160 ∷ []) refl; leads = tt; follows = tt }, tt);
     nested = record { content = given_sign (form Node (space_item j ∷ [])) given_end; is = refl; nested = (tt, tt) };
     begins = tt;
     unopened = refl;
@@ -206,7 +208,7 @@ an_empty_call j = record {
     signs = form (Mark false false) (nothing_item j (codes "{{t}}") ∷ []) ∷ [];
     is = refl;
     of_call = (refl, tt);
-    are = (record { node = refl; leads = tt; follows = tt }, tt);
+    are = (record { node = refl; closed = untagged_closed (glyph.Mark ∷ []) refl; leads = tt; follows = tt }, tt);
     nested = record { content = given_sign (form (Mark false false) (nothing_item j (codes "{{t}}") ∷ [])) given_end; is = refl; nested = (tt, tt) };
     begins = tt;
     unopened = refl;
@@ -228,7 +230,7 @@ abbrev among_words : List GivenSign
 among_words = character 97 ∷ character 32 ∷ form Link (of_call 0 (codes "[[b]]")) ∷ character 46 ∷ []
 
 pub link_among_words : AreGivenSigns false among_words
-link_among_words = (inl refl, (λ e. absurd (cc)), (inl refl, (λ e. absurd (cc)), (record { node = a_link; leads = tt; follows = refl }, (inl refl, (λ e. absurd (cc)), tt))))
+link_among_words = (inl refl, (λ e. absurd (cc)), (inl refl, (λ e. absurd (cc)), (record { node = a_link; closed = untagged_closed (byte_glyphs (codes "[[b]]")) refl; leads = tt; follows = refl }, (inl refl, (λ e. absurd (cc)), tt))))
 
 -- but no letter is behind a link
 joined_letter : AreGivenSigns false (form Link (of_call 0 (codes "[[b]]")) ∷ character 115 ∷ []) → ⊥
@@ -239,7 +241,7 @@ unfolding bare_url_at scheme_len is_url_char is_dropped kept_len
 a_url = record { shape = bare_shape 8; first = 104; others = byte_glyphs (codes "ttp://k"); is = refl; unbracketed = refl; url = refl; whole = refl }
 
 pub one_url : AreGivenSigns false (form (Bare false) (of_call 0 (codes "http://k")) ∷ [])
-one_url = (record { node = a_url; leads = refl; follows = tt }, tt)
+one_url = (record { node = a_url; closed = untagged_closed (byte_glyphs (codes "http://k")) refl; leads = refl; follows = tt }, tt)
 
 -- braces and an `&` may be among characters, since nothing of them is read again
 pub braces : AreGivenSigns false (character 123 ∷ character 125 ∷ character 38 ∷ [])

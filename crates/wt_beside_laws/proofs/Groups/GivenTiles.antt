@@ -21,6 +21,7 @@ use Rattle.wt_beside_laws.specs.Nodes.{MayFollow}
 use Rattle.wt_beside_laws.proofs.ContentTiles.{one_more, none_more, Follows, node_follows}
 use Rattle.wt_beside_laws.proofs.NodesBegin.{node_urls}
 use Rattle.wt_beside_laws.proofs.NodesStand.{node_stands}
+use Rattle.wt_beside_laws.proofs.OpenTags.{closed_open}
 use Rattle.wt_beside_laws.proofs.TypedForms.{one_underscore, tag_other, switch_other, link_none, external_none, bare_none, all_none}
 use Rattle.wt_beside_laws.proofs.Groups.Schemes.{is_more, reaches, no_scheme, reach_by, node_reaches}
 use Rattle.wt_beside_laws.proofs.Groups.HalfSigns.{lower_colon, half_underscore, half_colon, apart_slash, apart_underscore}
@@ -167,7 +168,7 @@ given_follow word (form r own ∷ signs) more c h l e f =
     let after : Bool = ends_word false gs in
     subst (λ hs. Follows in_line word hs (add_node (own_form in_line gs) (length gs) (given_cut signs c))) (sym (append_assoc gs (given_glyphs signs) more))
     (node_follows in_line word (own_form in_line gs) gs behind (given_cut signs c)
-    (node_stands r word gs behind h.0.node (form_may after r own signs more h.1 h.0.follows l) h.0.leads)
+    (node_stands r word gs behind h.0.node (form_may after r own signs more h.1 h.0.follows l) h.0.leads (closed_open gs behind h.0.closed))
     (given_follow after signs more c h.1 (later_may r own signs more l) e f))
 
 -- with nothing behind them

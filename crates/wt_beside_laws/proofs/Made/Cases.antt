@@ -30,8 +30,7 @@ use Rattle.wt_part_laws.specs.Rounded.{AllHaveItems}
 use Rattle.wt_text_edit_laws.specs.LonePages.{page_chars}
 use Rattle.wt_text_edit_laws.specs.NoCalls.{CallsNothing}
 use Rattle.wt_text_edit_laws.specs.ParagraphParts.{joined_parts}
-use Rattle.wt_text_edit_laws.specs.Paragraphs.{IsTextLine}
-use Rattle.wt_text_edit_laws.specs.TextBetween.{StandsBehind}
+use Rattle.wt_text_edit_laws.specs.Paragraphs.{IsSeenLine}
 use Rattle.wt_text_edit_laws.specs.TextBlocks.{a_paragraph, a_heading, source_of, IsFrame}
 use Rattle.wt_text_edit_laws.specs.TypedHeadings.{spaced, heading_line, IsHeadingInside, IsOfLevel}
 use Rattle.wt_beside_laws.specs.Calm.{AreCalm}
@@ -48,13 +47,13 @@ use Rattle.wt_page.specs.Rows.{marks_len}
 
 -- what else its items have to be
 pub record AreBlockItems (xs : List Item) : Type 0 where
-  pub are_lines : All IsTextLine (lines xs)
+  pub seen : All IsSeenLine (lines xs)
   pub unled : marks_len xs ≡ 0
   pub has_items : AllHaveItems (forest (children (joined_parts (lines xs))))
 
 pub paragraph_by : (q : List ℕ) (xs : List Item) → page_items q ≡ xs → page_items (q ++ 10 ∷ []) ≡ xs ++ char None 10 ∷ []
-    → StandsBehind q → StandsBehind (q ++ 10 ∷ []) → AreFlat q xs → AreBlockItems xs → IsFlatIn a_paragraph q
-paragraph_by q xs is ended alone before_break given more =
+    → AreFlat q xs → AreBlockItems xs → IsFlatIn a_paragraph q
+paragraph_by q xs is ended given more =
     let h : AreFlat q (page_items q) = subst (AreFlat q) (sym is) given in
     let b : AreBlockItems (page_items q) = subst AreBlockItems (sym is) more in
     record {
@@ -62,7 +61,7 @@ paragraph_by q xs is ended alone before_break given more =
         utf8 = h.utf8;
         ended = ended ∙ ap (λ (ys : List Item). ys ++ char None 10 ∷ []) (sym is);
         unended = refl;
-        is = record { are_lines = b.are_lines; unled = b.unled; alone = alone; before_break = before_break };
+        is = record { seen = b.seen; unled = b.unled };
         calls_nothing = h.calls_nothing;
         has_items = b.has_items;
         flat = h.flat;
@@ -80,20 +79,16 @@ before_break_are =
     (parts_read (characters (codes "x") ∷ sign 60 (codes "br>y\n") ∷ [])
     ((refl, tt), ((record { none = λ rest. refl; uncommented = λ rest. refl }, (refl, (refl, (refl, (refl, (refl, tt)))))), tt)))
 
-x_stands : (rest : List ℕ) → StandsBehind (120 ∷ rest)
-unfolding comment_len
-x_stands rest = record { uncommented = refl }
-
 break_items : AreBlockItems (page_chars (codes "x<br>y"))
 unfolding kind_of_signs context_parts with_styles style_tree_of toggles_of toggle_at chunks segments loose_segments tiles shapes closed form_at link_or_url link_at ext_link_at bare_url_at scheme_len tag_tile tag_at opening_tag closing_tag tag_after name_of live_name switch_at chars children
 break_items = record {
-  are_lines = All-cons IsTextLine (page_chars (codes "x<br>y")) [] refl (All-nil IsTextLine);
+  seen = All-cons IsSeenLine (page_chars (codes "x<br>y")) [] refl (All-nil IsSeenLine);
   unled = refl;
   has_items = ((refl, tt), ((refl, tt), ((refl, tt), tt)));
 }
 
 pub as_paragraph : IsFlatIn a_paragraph (codes "x<br>y")
-as_paragraph = paragraph_by (codes "x<br>y") (page_chars (codes "x<br>y")) items_are before_break_are (x_stands (codes "<br>y")) (x_stands (codes "<br>y\n")) break_flat break_items
+as_paragraph = paragraph_by (codes "x<br>y") (page_chars (codes "x<br>y")) items_are before_break_are break_flat break_items
 
 -- ---- as a heading
 

@@ -15,15 +15,11 @@ use Rattle.wt_tree.specs.Tree.{Label, Tree, tree, Trees, none, more, label}
 use Rattle.wt_span.specs.Items.{Item}
 use Rattle.wt_inline.specs.ItemTree.{ItemTree, inner, ItemTrees, nothing, further, forest, tree_items}
 use Rattle.wt_inline.specs.Parts.{Part, children}
-use Rattle.wt_page.specs.Body.{meaning}
 use Rattle.wt_annotated.specs.Annotated.{unplaced, all_unplaced}
 use Rattle.wt_annotated.specs.Labels.{label_at}
 use Rattle.wt_annotated.specs.Numbering.{count}
 use Rattle.wt_annotated.specs.WithoutCalls.{placed}
 use Rattle.wt_schema.specs.Written.{is_childless}
-use Rattle.wt_page_round_trip.proofs.ExpandedItems.{expanded_items}
-use Rattle.wt_page_round_trip.proofs.OfPage.{ArePageItems}
-use Rattle.wt_page_round_trip.proofs.PageShown.{body_nodes, page_shown}
 use Rattle.wt_page_round_trip.proofs.ShownNodes.{NodeIsShown, IsOrdered, IsShownIn, AreShownIn}
 use Rattle.wt_difference.specs.Insides.{is_built_of, is_block_part}
 use Rattle.wt_expand.specs.PageItems.{page_items}
@@ -36,12 +32,10 @@ use Rattle.wt_typed_blocks.specs.EditedUnmarked.{AreInline}
 use Rattle.wt_text_edit_laws.specs.Contents.{IsContentOf, content_parts_of}
 use Rattle.wt_text_edit_laws.specs.NoCalls.{CallsNothing}
 use Rattle.wt_text_edit_laws.specs.TextBlocks.{TextBlock, a_paragraph, a_heading, block_of, source_of, block_items, block_tree}
-use Rattle.wt_text_edit_laws.proofs.Between.NoCalls.{calm_expanded, calm_unrefused}
 use Rattle.wt_text_edit_laws.proofs.Blocks.BlockLeaves.{open_items, close_items}
-use Rattle.wt_text_edit_laws.proofs.Blocks.BlocksAgain.{framed_utf8}
 use Rattle.wt_beside_laws.proofs.BlockSigns.{its_children}
 use Rattle.wt_beside_laws.proofs.Made.OldBlocks.{with_parts, parts_are, IsIn}
-use Rattle.wt_beside_laws.proofs.Made.OwnPages.{no_pages, own_frame, content_means}
+use Rattle.wt_beside_laws.proofs.Made.OwnPages.{block_shown}
 use Rattle.wt_beside_laws.proofs.PartThings.{nodes_of}
 
 -- ---- by the tables of kinds
@@ -115,26 +109,6 @@ inside_shown (a_heading s) ps h = inside_tree 9 kind.Body (unplaced (with_parts 
 holds_inlines : (k : TextBlock) → (shape (kind_of (block_of k))).holding ≡ holding.Inlines
 holds_inlines a_paragraph = refl
 holds_inlines (a_heading s) = refl
-
-abbrev nodes_in : ItemTree → ItemTrees
-nodes_in (inner h o ts c) = ts
-
-nodes_are : (xs : List Item) → nodes_in (meaning xs) ≡ body_nodes xs
-unfolding meaning
-nodes_are xs = refl
-
-pub page_items_of : (page : List ℕ) → IsUtf8 page → CallsNothing (page_items page) → ArePageItems (page_items page)
-page_items_of page u c =
-    subst (λ x. ArePageItems x.items) (calm_expanded no_pages page c) (expanded_items no_pages page u (calm_unrefused no_pages page c))
-
-block_shown : (k : TextBlock) (q : List ℕ) → IsUtf8 q → IsContentOf k q → page_items (source_of k q) ≡ block_items k q → CallsNothing (block_items k q)
-    → IsShownIn 9 kind.Body (unplaced (block_tree k q))
-block_shown k q u h e c =
-    let page : List ℕ = source_of k q in
-    let xs : List Item = page_items page in
-    let items : ArePageItems xs = page_items_of page (framed_utf8 k q (own_frame k q h) u) (subst CallsNothing (sym e) c) in
-    let is : body_nodes xs ≡ forest (block_tree k q ∷ []) = sym (nodes_are xs) ∙ ap nodes_in (content_means k q h e) in
-    (subst (λ (us : ItemTrees). AreShownIn 9 kind.Body (all_unplaced us)) is (page_shown xs items).0).0
 
 block_inline : (k : TextBlock) (q : List ℕ) (n : ℕ) (b : List Item) → IsUtf8 q → IsContentOf k q → page_items (source_of k q) ≡ block_items k q
     → CallsNothing (block_items k q) → AllInline (children_of (standing n b (block_tree k q)))

@@ -115,7 +115,7 @@ bare_by : (v : Bool) (xs : List Item) → ends_with nat_eq (flat_map text_of (ma
 bare_by true xs e h = tt
 bare_by false xs e h = told_from [] xs h e
 
-bare_told : (xs : List Item) → IsFlatForm kind.BareUrl xs → EndsWithout is_blank (map sign (node_items (sources xs)))
+bare_told : (xs : List Item) → IsFlatForm xs → EndsWithout is_blank (map sign (node_items (sources xs)))
     → BareTold (Bare (ends_with nat_eq (flat_map text_of (map glyph_of xs)) (61 ∷ []))) (map sign (node_items (sources xs)))
 bare_told xs f h =
     let v : Bool = ends_with nat_eq (flat_map text_of (map glyph_of xs)) (61 ∷ []) in

@@ -377,7 +377,7 @@ pair_tailed t own n =
 
 pub tag_tailed : (own : List Glyph) → IsTagNode own → IsTailed 62 own
 tag_tailed own n = subst (IsTailed 62) (sym n.is) (elim n.ends [
-  | inl lone ↦ ends_tailed 62 (glyph.Byte 60 ∷ n.others) (tag_ends (glyph.Byte 60) n.others n.named n.tagged lone.1)
+  | inl all ↦ ends_tailed 62 (glyph.Byte 60 ∷ n.others) (tag_ends (glyph.Byte 60) n.others n.named n.tagged all)
   | inr pair ↦ pair_tailed n.named (glyph.Byte 60 ∷ n.others) pair
 ])
 

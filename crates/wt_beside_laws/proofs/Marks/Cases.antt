@@ -26,8 +26,7 @@ use Rattle.wt_context.specs.Segments.{loose_segments}
 use Rattle.wt_context.specs.Styled.{with_styles}
 use Rattle.wt_quotes.specs.Styles.{style_tree_of}
 use Rattle.wt_quotes.specs.Toggles.{toggle_at, toggles_of}
-use Rattle.wt_text_edit_laws.specs.Paragraphs.{IsTextLine}
-use Rattle.wt_text_edit_laws.specs.TextBetween.{StandsBehind}
+use Rattle.wt_text_edit_laws.specs.Paragraphs.{IsSeenLine}
 use Rattle.wt_text_edit_laws.specs.TextBlocks.{a_paragraph, a_heading}
 use Rattle.wt_text_edit_laws.specs.TypedHeadings.{spaced}
 use Rattle.wt_blocks.specs.Headings.{level}
@@ -87,10 +86,6 @@ tag_calm : IsCalm (codes "<noinclude>")
 unfolding encode
 tag_calm = record { utf8 = (codes "<noinclude>", (refl, refl)); unpaired = subst AreUnpaired (sym tag_alone) refl }
 
-x_stands : (rest : List ℕ) → StandsBehind (120 ∷ rest)
-unfolding comment_len
-x_stands rest = record { uncommented = refl }
-
 tag_flat : AreFlat own own_items
 unfolding kind_of_signs context_parts with_styles style_tree_of toggles_of toggle_at chunks segments loose_segments tiles shapes closed form_at link_or_url link_at ext_link_at bare_url_at scheme_len tag_tile tag_at opening_tag closing_tag tag_after name_of live_name switch_at chars encode children
 tag_flat = record {
@@ -98,7 +93,7 @@ tag_flat = record {
   some = λ e. absurd (cc);
   calls_nothing = tt;
   text = (refl, All-cons (IsLineOfText 0) own_items [] refl (All-nil (IsLineOfText 0)));
-  flat = ((refl, (tt, (refl, tt))), ((120 ∷ [], (refl, refl)), (record { alone = tag_alone; lone = tt }, ((121 ∷ [], (refl, refl)), tt))), tt);
+  flat = ((refl, (tt, (refl, tt))), ((120 ∷ [], (refl, refl)), (record { alone = tag_alone }, ((121 ∷ [], (refl, refl)), tt))), tt);
   unstyled = (refl, tt);
   kept = ((inl (tag_kept, subst HasNoBreak (sym tag_page) (tt, tt)), refl), tt);
   calm = (tag_calm, tt);
@@ -109,13 +104,13 @@ tag_flat = record {
 tag_items : AreBlockItems own_items
 unfolding kind_of_signs context_parts with_styles style_tree_of toggles_of toggle_at chunks segments loose_segments tiles shapes closed form_at link_or_url link_at ext_link_at bare_url_at scheme_len tag_tile tag_at opening_tag closing_tag tag_after name_of live_name switch_at chars encode children
 tag_items = record {
-  are_lines = All-cons IsTextLine own_items [] refl (All-nil IsTextLine);
+  seen = All-cons IsSeenLine own_items [] refl (All-nil IsSeenLine);
   unled = refl;
   has_items = ((refl, tt), ((refl, tt), ((refl, tt), tt)));
 }
 
 with_a_tag : IsFlatIn a_paragraph own
-with_a_tag = paragraph_by own own_items items_are before_break_are (x_stands (codes "<noinclude>y")) (x_stands (codes "<noinclude>y\n")) tag_flat tag_items
+with_a_tag = paragraph_by own own_items items_are before_break_are tag_flat tag_items
 
 -- ---- a comment
 
@@ -153,7 +148,7 @@ comment_flat = record {
   some = λ e. absurd (cc);
   calls_nothing = tt;
   text = (refl, All-cons (IsLineOfText 0) remarked_items [] refl (All-nil (IsLineOfText 0)));
-  flat = ((refl, (tt, (refl, tt))), ((120 ∷ [], (refl, refl)), (record { alone = comment_by_itself; lone = tt }, ((121 ∷ [], (refl, refl)), tt))), tt);
+  flat = ((refl, (tt, (refl, tt))), ((120 ∷ [], (refl, refl)), (record { alone = comment_by_itself }, ((121 ∷ [], (refl, refl)), tt))), tt);
   unstyled = (refl, tt);
   kept = ((comment_held, refl), tt);
   calm = (comment_calm, tt);
@@ -164,14 +159,14 @@ comment_flat = record {
 comment_items : AreBlockItems remarked_items
 unfolding kind_of_signs context_parts with_styles style_tree_of toggles_of toggle_at chunks segments loose_segments tiles shapes closed form_at link_or_url link_at ext_link_at bare_url_at scheme_len tag_tile tag_at opening_tag closing_tag tag_after name_of live_name switch_at chars encode children
 comment_items = record {
-  are_lines = All-cons IsTextLine remarked_items [] refl (All-nil IsTextLine);
+  seen = All-cons IsSeenLine remarked_items [] refl (All-nil IsSeenLine);
   unled = refl;
   has_items = ((refl, tt), ((refl, tt), ((refl, tt), tt)));
 }
 
 with_a_comment : IsFlatIn a_paragraph remarked
 with_a_comment =
-    paragraph_by remarked remarked_items remarked_are remarked_before (x_stands (codes "<!--c-->y")) (x_stands (codes "<!--c-->y\n")) comment_flat comment_items
+    paragraph_by remarked remarked_items remarked_are remarked_before comment_flat comment_items
 
 -- ---- in a heading
 

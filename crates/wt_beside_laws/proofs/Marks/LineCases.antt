@@ -1,5 +1,5 @@
 -- Worked case: in the paragraph of the lines `x`, `<!--c-->` and `y` the comment is a line of comments, the paragraph is flat, and other letters are typed in both texts.
-use Rattle.std.proofs.Common.{◌≡◌, ℕ, zero, suc, true, None, List, [], ◌∷◌, ◌++◌, refl, sym, subst, inl, inr}
+use Rattle.std.proofs.Common.{◌≡◌, ℕ, zero, suc, None, List, [], ◌∷◌, ◌++◌, map, refl, sym, subst, inl, inr}
 use Rattle.std.specs.Prelude.{codes}
 use Rattle.std.specs.Str.{IsUtf8, chars}
 use Rattle.std.proofs.Math.Utf8.{encode}
@@ -18,6 +18,8 @@ use Rattle.wt_expand.specs.PageItems.{page_items}
 use Rattle.wt_lines.specs.Kinds.{kind_of_signs}
 use Rattle.wt_lines.specs.Lines.{lines}
 use Rattle.wt_inline.specs.Parts.{children}
+use Rattle.wt_tiles.specs.declared.glyph.Glyph.TheVariants as glyph
+use Rattle.wt_tiles.specs.Glyphs.{glyph_of}
 use Rattle.wt_tiles.specs.Tags.{tag_at, opening_tag, closing_tag, tag_after, name_of, live_name}
 use Rattle.wt_tiles.specs.Tiles.{form_at, link_or_url, tag_tile, switch_at, shapes, closed, tiles}
 use Rattle.wt_tiles.specs.Links.{link_at}
@@ -34,19 +36,21 @@ use Rattle.wt_link_spelling.specs.Spelling.{children_of}
 use Rattle.wt_part_laws.specs.Standing.{standing}
 use Rattle.wt_typed_blocks.specs.Edited.{Pieces, no_pieces, gone, written, kept}
 use Rattle.wt_text_edit_laws.specs.ParagraphParts.{joined_parts, para_with}
-use Rattle.wt_text_edit_laws.specs.Paragraphs.{IsTextLine}
-use Rattle.wt_text_edit_laws.specs.TextBetween.{StandsBehind}
+use Rattle.wt_text_edit_laws.specs.Paragraphs.{IsSeenLine}
 use Rattle.wt_text_edit_laws.specs.TextBlocks.{a_paragraph, block_tree}
 use Rattle.wt_text_edit_laws.specs.NoCalls.{AreUnpaired}
 use Rattle.wt_beside_laws.specs.Calm.{IsCalm}
 use Rattle.wt_beside_laws.specs.Commented.{IsCommentLine}
-use Rattle.wt_beside_laws.specs.FlatBlocks.{IsFlatEditOf}
+use Rattle.wt_beside_laws.specs.FlatBlocks.{IsFlatEditOf, sent_for}
 use Rattle.wt_beside_laws.specs.Lines.{IsLineOfText}
 use Rattle.wt_beside_laws.specs.NodeItems.{node_items}
+use Rattle.wt_beside_laws.specs.Nodes.{OpensNoPair}
+use Rattle.wt_beside_laws.specs.Styled.{signs_in}
 use Rattle.wt_beside_laws.specs.StyledIn.{IsFlatIn}
 use Rattle.wt_beside_laws.proofs.Edits.Cases.{AreFlat}
 use Rattle.wt_beside_laws.proofs.Made.Cases.{AreBlockItems, paragraph_by}
 use Rattle.wt_beside_laws.proofs.Marks.Shown.{line_node}
+use Rattle.wt_beside_laws.proofs.OpenTags.{untagged_closed, closed_keeps}
 
 -- ---- the line of comments
 
@@ -78,6 +82,9 @@ remark_alone : page_items remark ≡ whole form.Comment None (codes "<!--c-->") 
 unfolding page_items words words_closed word_at comment_len comment_line_len raw_len include_at opening_word closing_word word_after with_inside is_extension entity_at named_entity entity_names decimal_entity hex_entity sign_word
 remark_alone = refl
 
+remark_closed : OpensNoPair (map glyph_of (node_items remark))
+remark_closed = subst (λ (xs : List Item). OpensNoPair (map glyph_of xs)) (sym remark_behind) (untagged_closed (glyph.Mark ∷ []) refl)
+
 remark_calm : IsCalm remark
 unfolding encode
 remark_calm = record { utf8 = (remark, (refl, refl)); unpaired = subst AreUnpaired (sym remark_behind) refl }
@@ -101,10 +108,6 @@ before_break_are : page_items (own ++ 10 ∷ []) ≡ own_items ++ char None 10 �
 unfolding page_items words words_closed word_at comment_len comment_line_len raw_len include_at opening_word closing_word word_after with_inside is_extension entity_at named_entity entity_names decimal_entity hex_entity sign_word
 before_break_are = refl
 
-x_stands : (rest : List ℕ) → StandsBehind (120 ∷ rest)
-unfolding comment_len
-x_stands rest = record { uncommented = refl }
-
 own_flat : AreFlat own own_items
 unfolding kind_of_signs context_parts with_styles style_tree_of toggles_of toggle_at chunks segments loose_segments tiles shapes closed form_at link_or_url link_at ext_link_at bare_url_at scheme_len tag_tile tag_at opening_tag closing_tag tag_after name_of live_name switch_at chars encode children
 own_flat = record {
@@ -112,7 +115,7 @@ own_flat = record {
   some = λ e. absurd (cc);
   calls_nothing = tt;
   text = (refl, All-cons (IsLineOfText 0) (char None 120 ∷ []) (later_line ∷ []) refl (All-cons (IsLineOfText 0) later_line [] refl (All-nil (IsLineOfText 0))));
-  flat = ((refl, tt), ((120 ∷ [], (refl, refl)), tt), ((tt, (refl, tt)), (record { alone = remark_behind; lone = tt }, ((121 ∷ [], (refl, refl)), tt)), tt));
+  flat = ((refl, tt), ((120 ∷ [], (refl, refl)), tt), ((tt, (refl, tt)), (record { alone = remark_behind }, ((121 ∷ [], (refl, refl)), tt)), tt));
   unstyled = (refl, (refl, tt));
   kept = ((inr (inr (inl remark_line)), refl), tt);
   calm = (remark_calm, tt);
@@ -123,13 +126,13 @@ own_flat = record {
 own_block : AreBlockItems own_items
 unfolding kind_of_signs context_parts with_styles style_tree_of toggles_of toggle_at chunks segments loose_segments tiles shapes closed form_at link_or_url link_at ext_link_at bare_url_at scheme_len tag_tile tag_at opening_tag closing_tag tag_after name_of live_name switch_at chars encode children
 own_block = record {
-  are_lines = All-cons IsTextLine (char None 120 ∷ []) (later_line ∷ []) refl (All-cons IsTextLine later_line [] refl (All-nil IsTextLine));
+  seen = All-cons IsSeenLine (char None 120 ∷ []) (later_line ∷ []) refl (All-cons IsSeenLine later_line [] refl (All-nil IsSeenLine));
   unled = refl;
   has_items = ((refl, tt), ((refl, tt), ((refl, tt), tt)));
 }
 
 with_a_line_of_comments : IsFlatIn a_paragraph own
-with_a_line_of_comments = paragraph_by own own_items items_are before_break_are (x_stands (codes "\n<!--c-->\ny")) (x_stands (codes "\n<!--c-->\ny\n")) own_flat own_block
+with_a_line_of_comments = paragraph_by own own_items items_are before_break_are own_flat own_block
 
 -- ---- `a` and `b` are typed in the place of `x` and `y`
 
@@ -165,6 +168,7 @@ edit_of = record {
   fit = tt;
   plain = tt;
   led = record { first = tt; others = ((λ e. refl), tt) };
+  unclosed = closed_keeps (signs_in (sent_for block edit)) (remark_closed, tt);
 }
 
 typed_round_a_comment : IsFlatEditOf a_paragraph (standing 1 [] (block_tree a_paragraph own)) edit

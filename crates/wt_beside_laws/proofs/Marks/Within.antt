@@ -1,5 +1,5 @@
 -- Marks of a block by its lines: each began its line if a line break or the opening delimiter comes directly before it.
-use Rattle.std.proofs.Common.{arith, ◌≡◌, ℕ, zero, suc, ◌+◌, ◌-◌, ◌<◌, ◌≤◌, ◌==◌, Bool, true, false, Option, Some, List, [], ◌∷◌, ◌++◌, length, map, take, drop, refl, sym, ap, ap₂, ◌∙◌, subst, append_assoc, inl, inr, ◌⊎◌}
+use Rattle.std.proofs.Common.{arith, ◌≡◌, ℕ, zero, suc, ◌+◌, ◌-◌, ◌<◌, ◌≤◌, ◌==◌, Bool, true, false, List, [], ◌∷◌, ◌++◌, length, map, take, drop, refl, sym, ap, ap₂, ◌∙◌, subst, append_assoc, inl, inr, ◌⊎◌}
 use Rattle.std.specs.Prelude.{◌&&◌, ◌||◌, nat_lt, slice_get}
 use Rattle.std.specs.Str.{chars}
 use Rattle.std.proofs.lemmas.Bool.Decides.{nat_tests}
@@ -103,7 +103,7 @@ read_some ys e some = by (sources ys) refl
 abbrev pub Goes : List Item → Type 0
 Goes ys = (0 < length (sources ys)) × LastIs (ends_break (sources ys)) (sources ys)
 
-form_goes : (k : TileKind) (ys : List Item) → IsFlatForm k ys → IsHeld (sources ys) → 0 < length ys → Goes ys
+form_goes : (k : TileKind) (ys : List Item) → IsFlatForm ys → IsHeld (sources ys) → 0 < length ys → Goes ys
 form_goes k ys f h some = let all = read_some ys f.alone some in (all, held_end (sources ys) all h)
 
 pub chars_go : (ys : List Item) → AreChars ys → HasNoBreak ys → LastIs false (sources ys)

@@ -1,5 +1,5 @@
 -- The content of a paragraph or a heading of the page: its lines are flat, and the source of each node in it is UTF-8 and stands whatever is written behind it.
-use Rattle.std.proofs.Common.{arith, ◌≡◌, ℕ, zero, suc, ◌+◌, ◌<◌, ◌≤◌, ◌==◌, Bool, true, List, [], ◌∷◌, ◌++◌, length, map, refl, sym, ap, ◌∙◌, subst, append_assoc, append-nil}
+use Rattle.std.proofs.Common.{arith, ◌≡◌, ℕ, zero, suc, ◌+◌, ◌<◌, ◌≤◌, Bool, true, List, [], ◌∷◌, ◌++◌, length, refl, sym, ap, ◌∙◌, subst, append_assoc, append-nil}
 use Rattle.std.specs.List.{AllByRecursion}
 use Rattle.std.specs.Str.{IsUtf8}
 use Rattle.std.proofs.lemmas.Bool.{eqb-true}
@@ -17,7 +17,6 @@ use Rattle.wt_tiles.specs.declared.shape.TileKind.{TileKind}
 use Rattle.wt_tiles.specs.declared.shape.TileKind.TheVariants as kind
 use Rattle.wt_tiles.specs.Contexts.{in_line}
 use Rattle.wt_tiles.specs.Cutting.{joined}
-use Rattle.wt_tiles.specs.Glyphs.{glyph_of}
 use Rattle.wt_tiles.specs.Tiles.{tiles}
 use Rattle.wt_tiles.proofs.Joining.{tiles_join}
 use Rattle.wt_text_edit_laws.specs.Contents.{IsContent}
@@ -30,20 +29,18 @@ use Rattle.wt_text_edit_laws.proofs.Blocks.BlockReading.{AreQuiet, each_quiet, o
 use Rattle.wt_text_edit_laws.proofs.Headings.HeadingRows.{inside_unbroken}
 use Rattle.wt_beside_laws.specs.Calm.{AreCalm}
 use Rattle.wt_beside_laws.specs.Commented.{IsHeld}
-use Rattle.wt_beside_laws.specs.EndedNodes.{OpenNoPair, LinesOpenNoPair, AreEndedNodes}
+use Rattle.wt_beside_laws.specs.EndedNodes.{AreEndedNodes}
 use Rattle.wt_beside_laws.specs.FlatBlocks.{lines_in, begins_at, signs_in}
 use Rattle.wt_beside_laws.specs.NodeItems.{node_items}
 use Rattle.wt_beside_laws.specs.Nodes.{AreNodes}
 use Rattle.wt_beside_laws.specs.PageBlocks.{AreShut}
 use Rattle.wt_beside_laws.specs.PageSigns.{ends_break, tile_signs, signs_of_tiles, signs_of_lines, line_signs, IsFlatTile, AreFlatTiles, HasNoBreak, AreFlatLines}
-use Rattle.wt_beside_laws.specs.Stood.{OpensNoPair}
 use Rattle.wt_beside_laws.specs.StyledIn.{IsStyledIn}
 use Rattle.wt_beside_laws.proofs.FlatAgain.{EachSource, tile_so, so_both, no_break, to_kept, lines_tied}
 use Rattle.wt_beside_laws.proofs.FlatContents.{each_unbroken, lines_unbroken}
 use Rattle.wt_beside_laws.specs.Lines.{AreUnbroken}
 use Rattle.wt_beside_laws.proofs.HeldLines.{heading_break}
-use Rattle.wt_beside_laws.proofs.Made.Inline.{page_items_of}
-use Rattle.wt_beside_laws.proofs.Made.OwnPages.{own_frame}
+use Rattle.wt_beside_laws.proofs.Made.OwnPages.{own_frame, page_items_of}
 use Rattle.wt_beside_laws.proofs.PageSigns.{flat_nodes}
 use Rattle.wt_beside_laws.proofs.Styled.OldShut.{content_shut}
 use Rattle.wt_beside_laws.proofs.Own.Alone.{alone}
@@ -52,29 +49,29 @@ use Rattle.wt_beside_laws.proofs.Own.Reading.{no_breaks}
 
 -- ---- a tile
 
-tile_flat : (k : TileKind) (xs : List Item) → node_items (sources xs) ≡ xs → OpensNoPair k (map glyph_of xs) → IsUtf8 (sources xs) → IsFlatTile k xs
-tile_flat kind.Link xs a l u = record { alone = a; lone = l }
-tile_flat kind.Category xs a l u = record { alone = a; lone = l }
-tile_flat kind.Media xs a l u = record { alone = a; lone = l }
-tile_flat kind.ExtLink xs a l u = record { alone = a; lone = l }
-tile_flat kind.BareUrl xs a l u = record { alone = a; lone = l }
-tile_flat kind.Br xs a l u = record { alone = a; lone = l }
-tile_flat kind.Pair xs a l u = record { alone = a; lone = l }
-tile_flat kind.TagIsland xs a l u = record { alone = a; lone = l }
-tile_flat kind.Switch xs a l u = record { alone = a; lone = l }
-tile_flat kind.Atom xs a l u = record { alone = a; lone = l }
-tile_flat kind.Mark xs a l u = record { alone = a; lone = l }
-tile_flat kind.Chars xs a l u = u
+tile_flat : (k : TileKind) (xs : List Item) → node_items (sources xs) ≡ xs → IsUtf8 (sources xs) → IsFlatTile k xs
+tile_flat kind.Link xs a u = record { alone = a }
+tile_flat kind.Category xs a u = record { alone = a }
+tile_flat kind.Media xs a u = record { alone = a }
+tile_flat kind.ExtLink xs a u = record { alone = a }
+tile_flat kind.BareUrl xs a u = record { alone = a }
+tile_flat kind.Br xs a u = record { alone = a }
+tile_flat kind.Pair xs a u = record { alone = a }
+tile_flat kind.TagIsland xs a u = record { alone = a }
+tile_flat kind.Switch xs a u = record { alone = a }
+tile_flat kind.Atom xs a u = record { alone = a }
+tile_flat kind.Mark xs a u = record { alone = a }
+tile_flat kind.Chars xs a u = u
 
 tiles_flat : (q : List ℕ) (before behind : List Item) (ps : List (Shape × List Item)) → page_items q ≡ before ++ (joined ps ++ behind) → HasNoBreak (joined ps)
-    → OpenNoPair ps → AllByRecursion (IsPageTile in_line) ps → AreFlatTiles ps
-tiles_flat q before behind [] e n l u = tt
-tiles_flat q before behind ((w, xs) ∷ ps) e n l u =
+    → AllByRecursion (IsPageTile in_line) ps → AreFlatTiles ps
+tiles_flat q before behind [] e n u = tt
+tiles_flat q before behind ((w, xs) ∷ ps) e n u =
     let here : page_items q ≡ before ++ (xs ++ (joined ps ++ behind)) = e ∙ ap (λ (ys : List Item). before ++ ys) (append_assoc xs (joined ps) behind) in
     let there : page_items q ≡ (before ++ xs) ++ (joined ps ++ behind) = here ∙ sym (append_assoc before xs (joined ps ++ behind)) in
     let cut = no_breaks xs (joined ps) n in (
-      tile_flat w.kind xs (alone q before xs (joined ps ++ behind) here cut.0) l.0 (page_utf8 xs u.0.items),
-      tiles_flat q (before ++ xs) behind ps there cut.1 l.1 u.1,
+      tile_flat w.kind xs (alone q before xs (joined ps ++ behind) here cut.0) (page_utf8 xs u.0.items),
+      tiles_flat q (before ++ xs) behind ps there cut.1 u.1,
     )
 
 tiles_utf8 : (began : Bool) (at : ℕ) (ps : List (Shape × List Item)) → AllByRecursion (IsPageTile in_line) ps → EachSource IsUtf8 (signs_of_tiles began at ps)
@@ -90,13 +87,12 @@ record LineOwn (at : ℕ) (xs : List Item) : Type 0 where
   flat : AreFlatTiles (tiles in_line xs)
   utf8 : EachSource IsUtf8 (line_signs at xs)
 
-line_own : (q : List ℕ) (before xs behind : List Item) (at : ℕ) → page_items q ≡ before ++ (xs ++ behind) → HasNoBreak xs → OpenNoPair (tiles in_line xs)
-    → ArePageItems xs → LineOwn at xs
-line_own q before xs behind at e n l p =
+line_own : (q : List ℕ) (before xs behind : List Item) (at : ℕ) → page_items q ≡ before ++ (xs ++ behind) → HasNoBreak xs → ArePageItems xs → LineOwn at xs
+line_own q before xs behind at e n p =
     let good : AllByRecursion (IsPageTile in_line) (tiles in_line xs) = tiles_good in_line xs p in
     let is : joined (tiles in_line xs) ≡ xs = tiles_join in_line xs in
     record {
-      flat = tiles_flat q before behind (tiles in_line xs) (e ∙ ap (λ (ys : List Item). before ++ (ys ++ behind)) (sym is)) (subst HasNoBreak (sym is) n) l good;
+      flat = tiles_flat q before behind (tiles in_line xs) (e ∙ ap (λ (ys : List Item). before ++ (ys ++ behind)) (sym is)) (subst HasNoBreak (sym is) n) good;
       utf8 = tiles_utf8 true at (tiles in_line xs) good;
     }
 
@@ -125,20 +121,20 @@ record LinesOwn (at : ℕ) (ls : List (List Item)) : Type 0 where
   utf8 : EachSource IsUtf8 (signs_of_lines at ls)
 
 lines_own : (q : List ℕ) (before : List Item) (ls : List (List Item)) (xs : List Item) (at : ℕ) → AreLines ls xs → page_items q ≡ before ++ xs
-    → LinesOpenNoPair ls → ArePageItems xs → LinesOwn at ls
-lines_own q before [] xs at a e l p = absurd a
-lines_own q before (x ∷ []) xs at a e l p =
+    → ArePageItems xs → LinesOwn at ls
+lines_own q before [] xs at a e p = absurd a
+lines_own q before (x ∷ []) xs at a e p =
     let here : page_items q ≡ before ++ (x ++ []) = e ∙ ap (λ (ys : List Item). before ++ ys) (a.1 ∙ sym (append-nil x)) in
-    let own = line_own q before x [] at here (no_break x a.0) l.0 (subst ArePageItems a.1 p) in
+    let own = line_own q before x [] at here (no_break x a.0) (subst ArePageItems a.1 p) in
     record { flat = (no_break x a.0, own.flat, tt); utf8 = own.utf8 }
-lines_own q before (x ∷ m ∷ ls) xs at a e l p =
+lines_own q before (x ∷ m ∷ ls) xs at a e p =
     let next : ℕ = at + length (sources x) + 1 in
     let here : page_items q ≡ before ++ (x ++ (a.1 ∷ a.2)) = e ∙ ap (λ (ys : List Item). before ++ ys) a.4 in
     let there : page_items q ≡ (before ++ (x ++ (a.1 ∷ []))) ++ a.2 =
     here ∙ ap (λ (ys : List Item). before ++ ys) (sym (append_assoc x (a.1 ∷ []) a.2)) ∙ sym (append_assoc before (x ++ (a.1 ∷ [])) a.2) in
     let cut = cut_line x a.1 a.2 a.3 (subst ArePageItems a.4 p) in
-    let own = line_own q before x (a.1 ∷ a.2) at here (no_break x a.0) l.0 cut.0 in
-    let more = lines_own q (before ++ (x ++ (a.1 ∷ []))) (m ∷ ls) a.2 next a.5 there l.1 cut.1 in
+    let own = line_own q before x (a.1 ∷ a.2) at here (no_break x a.0) cut.0 in
+    let more = lines_own q (before ++ (x ++ (a.1 ∷ []))) (m ∷ ls) a.2 next a.5 there cut.1 in
     record {
       flat = (no_break x a.0, own.flat, more.flat);
       utf8 = so_both IsUtf8 (line_signs at x) (letter 10 ∷ signs_of_lines next (m ∷ ls)) own.utf8 more.utf8;
@@ -177,12 +173,12 @@ own_items (a_heading s) q h c =
     let back = cut_items_before [] own (closing_items s) (first_low signs (page_items s.rest) (some_signs s.trail s.level sides.some) quiet) front.1 in
     record { texts = back.0; page = all_left IsPageItem own (closing_items s) (all_right IsPageItem (page_chars (opening s)) (own ++ closing_items s) all.page) }
 
-content_own : (k : TextBlock) (q : List ℕ) → IsContent k q → CallsNothing (block_items k q) → LinesOpenNoPair (lines_in k q) → LinesOwn (begins_at k) (lines_in k q)
-content_own a_paragraph q h c l = lines_own q [] (lines (page_items q)) (page_items q) 0 (lines_are (page_items q)) refl l (own_items a_paragraph q h c)
-content_own (a_heading s) q h c l =
+content_own : (k : TextBlock) (q : List ℕ) → IsContent k q → CallsNothing (block_items k q) → LinesOwn (begins_at k) (lines_in k q)
+content_own a_paragraph q h c = lines_own q [] (lines (page_items q)) (page_items q) 0 (lines_are (page_items q)) refl (own_items a_paragraph q h c)
+content_own (a_heading s) q h c =
     let here : page_items q ≡ [] ++ (page_items q ++ []) = sym (append-nil (page_items q)) in
     let one = heading_break (page_items q) (inside_unbroken s (page_items q) h.is.inside) in
-    let own = line_own q [] (page_items q) [] (begins_at (a_heading s)) here one l.0 (own_items (a_heading s) q h c) in
+    let own = line_own q [] (page_items q) [] (begins_at (a_heading s)) here one (own_items (a_heading s) q h c) in
     record { flat = (one, own.flat, tt); utf8 = own.utf8 }
 
 -- ---- its nodes
@@ -197,10 +193,9 @@ each_calm [] u e = tt
 each_calm (letter c ∷ after) u e = each_calm after u e
 each_calm (thing t ∷ after) u e = (record { utf8 = u.0; unpaired = e.0.unpaired }, each_calm after u.1 e.1)
 
-pub content_styled : (k : TextBlock) (q : List ℕ) → IsContent k q → CallsNothing (block_items k q) → LinesOpenNoPair (lines_in k q) → AreEndedNodes (signs_in k q)
-    → IsStyledIn k q
-content_styled k q h c l e =
-    let own = content_own k q h c l in
+pub content_styled : (k : TextBlock) (q : List ℕ) → IsContent k q → CallsNothing (block_items k q) → AreEndedNodes (signs_in k q) → IsStyledIn k q
+content_styled k q h c e =
+    let own = content_own k q h c in
     let signs : List ContentSign = signs_in k q in
     let nodes : AreNodes signs = flat_nodes (lines_in k q) (begins_at k) signs own.flat refl in
     let shut : AreShut signs = content_shut k q h own.flat in

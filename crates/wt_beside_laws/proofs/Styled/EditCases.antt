@@ -1,5 +1,5 @@
 -- Worked case: in the paragraph `''x''<br>y` other letters are typed in the italic node, which stays, as the line break does, and `y` is made bold.
-use Rattle.std.proofs.Common.{ℕ, zero, suc, List, [], refl, sym, subst, inl, inr}
+use Rattle.std.proofs.Common.{ℕ, zero, suc, true, false, List, [], map, refl, sym, subst, inl, inr}
 use Rattle.std.specs.Prelude.{None, codes}
 use Rattle.std.specs.Str.{IsUtf8, chars}
 use Rattle.std.proofs.Math.Utf8.{encode}
@@ -10,6 +10,7 @@ use Rattle.wt_tree.specs.Tree.{Label, Tree, tree, Trees, none, more, label}
 use Rattle.wt_original.specs.Kept.{kept_with}
 use Rattle.wt_lines.specs.Lines.{lines}
 use Rattle.wt_inline.specs.Parts.{children}
+use Rattle.wt_tiles.specs.Glyphs.{glyph_of, byte_glyphs}
 use Rattle.wt_tiles.specs.Tags.{tag_at, opening_tag, closing_tag, tag_after, name_of, live_name}
 use Rattle.wt_tiles.specs.Tiles.{form_at, link_or_url, tag_tile, switch_at, shapes, closed, tiles}
 use Rattle.wt_tiles.specs.Links.{link_at}
@@ -30,7 +31,14 @@ use Rattle.wt_typed_blocks.specs.Edited.{Pieces, no_pieces, gone, written, kept,
 use Rattle.wt_text_edit_laws.specs.LonePages.{page_chars}
 use Rattle.wt_text_edit_laws.specs.ParagraphParts.{joined_parts, para_with}
 use Rattle.wt_text_edit_laws.specs.TextBlocks.{a_paragraph, block_tree}
+use Rattle.wt_beside_laws.specs.FlatBlocks.{sent_for}
+use Rattle.wt_beside_laws.specs.NodeItems.{node_items}
+use Rattle.wt_beside_laws.specs.Nodes.{OpensNoPair}
+use Rattle.wt_beside_laws.specs.Styled.{signs_in}
 use Rattle.wt_beside_laws.specs.StyledIn.{IsStyledEditOf}
+use Rattle.wt_beside_laws.proofs.Edits.Cases.{break_node}
+use Rattle.wt_beside_laws.proofs.OpenTags.{closed_keeps}
+use Rattle.wt_beside_laws.proofs.Styled.StyledNodes.{mark_closed}
 use Rattle.wt_beside_laws.proofs.Styled.InCases.{own, items_are}
 
 -- the block, by the items of its lines
@@ -63,6 +71,14 @@ are_letters : IsUtf8 (codes "a") × IsUtf8 (codes "y")
 unfolding encode
 are_letters = ((codes "a", (refl, refl)), (codes "y", (refl, refl)))
 
+-- no node is a tag that opens a pair
+own_closed : OpensNoPair (byte_glyphs (codes "<br>"))
+unfolding tag_at opening_tag closing_tag tag_after name_of live_name
+own_closed = λ e. tt
+
+break_closed : OpensNoPair (map glyph_of (node_items (codes "<br>")))
+break_closed = subst (λ (xs : List Item). OpensNoPair (map glyph_of xs)) (sym break_node) own_closed
+
 edit_of : IsStyledEditOf a_paragraph block edit
 unfolding kept_with label_at context_parts with_styles style_tree_of toggles_of toggle_at chunks segments loose_segments tiles shapes closed form_at link_or_url link_at ext_link_at bare_url_at scheme_len tag_tile tag_at opening_tag closing_tag tag_after name_of live_name switch_at chars encode children place_of since next bold_ends_later effect_on is_bold_outside_at turn_at
 edit_of = record {
@@ -75,6 +91,7 @@ edit_of = record {
   );
   are = ((are_letters.0, tt), (tt, ((are_letters.1, tt), tt)));
   led = record { first = λ e. absurd (cc); others = ((λ e. absurd (cc)), ((λ e. absurd (cc)), ((λ e. absurd (cc)), ((λ e. absurd (cc)), ((λ e. absurd (cc)), tt))))) };
+  unclosed = closed_keeps (signs_in (sent_for block edit)) (mark_closed false, (mark_closed false, (break_closed, (mark_closed true, (mark_closed true, tt)))));
   fit = tt;
   new = (((λ e. refl), tt), (refl, refl, ((λ e. refl), tt), tt));
 }

@@ -32,8 +32,7 @@ use Rattle.wt_part_laws.specs.Rounded.{AllHaveItems}
 use Rattle.wt_text_edit_laws.specs.LonePages.{page_chars}
 use Rattle.wt_text_edit_laws.specs.NoCalls.{CallsNothing}
 use Rattle.wt_text_edit_laws.specs.ParagraphParts.{joined_parts}
-use Rattle.wt_text_edit_laws.specs.Paragraphs.{IsTextLine}
-use Rattle.wt_text_edit_laws.specs.TextBetween.{StandsBehind}
+use Rattle.wt_text_edit_laws.specs.Paragraphs.{IsSeenLine}
 use Rattle.wt_text_edit_laws.specs.TextBlocks.{a_paragraph}
 use Rattle.wt_beside_laws.specs.Calm.{AreCalm}
 use Rattle.wt_beside_laws.specs.Content.{AreKept}
@@ -61,13 +60,9 @@ before_break_are =
     (parts_read (characters (codes "''x''") ∷ sign 60 (codes "br>y\n") ∷ [])
     ((refl, (refl, (refl, (refl, (refl, tt))))), ((record { none = λ rest. refl; uncommented = λ rest. refl }, (refl, (refl, (refl, (refl, (refl, tt)))))), tt)))
 
-quote_stands : (rest : List ℕ) → StandsBehind (39 ∷ rest)
-unfolding comment_len
-quote_stands rest = record { uncommented = refl }
-
 -- what its items have to be
 record AreStyledItems (xs : List Item) : Type 0 where
-  pub are_lines : All IsTextLine (lines xs)
+  pub seen : All IsSeenLine (lines xs)
   pub unled : marks_len xs ≡ 0
   pub calls_nothing : CallsNothing xs
   pub has_items : AllHaveItems (forest (children (joined_parts (lines xs))))
@@ -80,13 +75,13 @@ record AreStyledItems (xs : List Item) : Type 0 where
 own_items : AreStyledItems (page_chars own)
 unfolding kind_of_signs context_parts with_styles style_tree_of toggles_of toggle_at chunks segments loose_segments tiles shapes closed form_at link_or_url link_at ext_link_at bare_url_at scheme_len tag_tile tag_at opening_tag closing_tag tag_after name_of live_name switch_at chars encode children place_of since next bold_ends_later effect_on is_bold_outside_at turn_at
 own_items = record {
-  are_lines = All-cons IsTextLine (page_chars own) [] refl (All-nil IsTextLine);
+  seen = All-cons IsSeenLine (page_chars own) [] refl (All-nil IsSeenLine);
   unled = refl;
   calls_nothing = tt;
   has_items = ((refl, ((refl, tt), tt)), ((refl, tt), ((refl, tt), tt)));
   flat = (
     (refl, (refl, (refl, (refl, (refl, (refl, (refl, (refl, (refl, (refl, tt)))))))))),
-    ((codes "''x''", (refl, refl)), (record { alone = break_node; lone = tt }, ((121 ∷ [], (refl, refl)), tt))),
+    ((codes "''x''", (refl, refl)), (record { alone = break_node }, ((121 ∷ [], (refl, refl)), tt))),
     tt,
   );
   kept = ((break_held, tt), tt);
@@ -105,7 +100,7 @@ italic_and_break =
       utf8 = own_utf8;
       ended = before_break_are ∙ ap (λ (ys : List Item). ys ++ char None 10 ∷ []) (sym items_are);
       unended = refl;
-      is = record { are_lines = h.are_lines; unled = h.unled; alone = quote_stands (codes "'x''<br>y"); before_break = quote_stands (codes "'x''<br>y\n") };
+      is = record { seen = h.seen; unled = h.unled };
       calls_nothing = h.calls_nothing;
       has_items = h.has_items;
       flat = h.flat;

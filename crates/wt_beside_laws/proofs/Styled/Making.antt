@@ -9,7 +9,6 @@ use Rattle.wt_tree.specs.Plain.{Face, Plains, ended, along, element, plain_befor
 use Rattle.wt_tree.specs.Tiling.{HasNoGroup, NoneIsGroup}
 use Rattle.wt_tree.specs.Tree.{Label, Tree, tree, Trees, label}
 use Rattle.wt_guards.specs.Guards.{spelled}
-use Rattle.wt_original.specs.Kept.{kept_nodes}
 use Rattle.wt_original.specs.Page.{Page}
 use Rattle.wt_content.specs.Content.{is_paragraph, bad_content}
 use Rattle.wt_inline.specs.ItemTree.{ItemTree}
@@ -34,21 +33,21 @@ use Rattle.wt_beside_laws.specs.SentStyled.{AreStyledSent, AllNest, AllShow}
 use Rattle.wt_beside_laws.specs.Shown.{parts_shown_at}
 use Rattle.wt_beside_laws.specs.Stood.{things}
 use Rattle.wt_beside_laws.specs.Styled.{StyledContent, signs_in, styled_parts, IsStyledContent}
-use Rattle.wt_beside_laws.specs.StyledBlocks.{all_numbers, things_with, AreSomeOf}
+use Rattle.wt_beside_laws.specs.StyledBlocks.{all_numbers, AreSomeOf}
 use Rattle.wt_beside_laws.specs.StyledIn.{IsStyledIn, StaysIn, IsStyledFor, IsStyledEditOf}
 use Rattle.wt_beside_laws.specs.StyledNodes.{AreSomeAndPut, AreUrlsApart}
 use Rattle.wt_beside_laws.proofs.Made.Inline.{stays_inline}
 use Rattle.wt_beside_laws.proofs.Made.Letters.{pieces_fit}
 use Rattle.wt_beside_laws.proofs.Made.Making.{known, setting, new_is, takes_breaks, breaks_so, one_line_so, source_is, parts_show, in_page}
 use Rattle.wt_beside_laws.proofs.Made.OldBlocks.{with_parts, parts_are, face_of, IsIn, block_kind, block_face, block_begins, node_is}
-use Rattle.wt_beside_laws.proofs.Styled.BlockStyles.{styled_nodes}
 use Rattle.wt_beside_laws.proofs.Styled.Delimiters.{no_delimiter}
 use Rattle.wt_beside_laws.proofs.Styled.OwnNests.{AreRight, own_nests}
 use Rattle.wt_beside_laws.proofs.Styled.SentNests.{sent_nest}
+use Rattle.wt_beside_laws.proofs.Styled.SentPaired.{nodes_among}
 use Rattle.wt_beside_laws.proofs.Styled.UrlsApart.{urls_apart}
 use Rattle.wt_beside_laws.proofs.Styled.OldStyled.{styled_of_lines}
 use Rattle.wt_beside_laws.proofs.Styled.OwnStyled.{AreKnown, own_styled}
-use Rattle.wt_beside_laws.proofs.Styled.SentAmong.{some_of, things_among, sent_some, sent_styles}
+use Rattle.wt_beside_laws.proofs.Styled.SentAmong.{sent_styles}
 use Rattle.wt_beside_laws.proofs.Styled.SentFaults.{AreSound, pieces_known, no_style_fault, sent_characters, sent_on_one_line}
 use Rattle.wt_beside_laws.proofs.Styled.SentStyles.{sent_signs, sent_shown}
 use Rattle.wt_beside_laws.proofs.Styled.SentWhole.{pieces_plain, pieces_styled, pieces_show, some_numbers}
@@ -94,17 +93,12 @@ sent_well k q block ps own h i e =
     subst (λ (ts : Trees). AreSomeOf (all_numbers us) (all_numbers ts)) e.old (some_numbers ps none e.stay) in
     let kept_so : AreKept (signs_of_lines (length (label block).opening) ls) =
     subst (λ (n : ℕ). AreKept (signs_of_lines n ls)) (sym (block_begins k q block i)) h.kept in
-    let page : things_with (kept_nodes block) (all_numbers (children_of block)) ≡ things (signs_of k q) =
-    styled_nodes ls block h.flat b ∙ ap (λ (n : ℕ). things (signs_of_lines n ls)) (block_begins k q block i) in
-    let among : AreSomeOf (things_with (kept_nodes block) (all_numbers us)) (things (signs_of k q)) =
-    subst (AreSomeOf (things_with (kept_nodes block) (all_numbers us))) page (things_among (kept_nodes block) (all_numbers us) (all_numbers (children_of block)) some) in
-    let nodes : AreSomeAndPut (things (signs_in t)) (things (signs_of k q)) =
-    some_of (things (signs_in t)) (things_with (kept_nodes block) (all_numbers us)) (things (signs_of k q)) (sent_some p us) among in
+    let nodes : AreSomeAndPut (things (signs_in t)) (things (signs_of k q)) = nodes_among k q block ps h i e.old e.stay in
     let right : AreRight false false (children_of block) = own_nests k q block h i in
     let nest : AllNest false false us = sent_nest ps e.stay e.are (subst (AllNest false false) (sym e.old) right.0) e.new in
     let apart : AreUrlsApart (things (signs_in t)) = urls_apart k q block ps h i right.1 e.old none e.stay (no_delimiter same_node block) nodes in
     let content : IsStyledContent (setting k block) t =
-    sent_styles same_node (setting k block) ls block us refl h.flat b kept_so nest e.led some (sent_characters p us shown_so) apart in
+    sent_styles same_node (setting k block) ls block us refl h.flat b kept_so nest e.led some (sent_characters p us shown_so) apart (e.unclosed (setting k block)) in
     record {
       free = none;
       sent = styled_so;

@@ -193,9 +193,9 @@ by_break false l ls h k = k
 later_unstyled : (s : Setting) (before signs : List ContentSign) → AreNodes signs → AreFlat signs → AllMeet s before signs [] → AreUnstyled (later_lines s before signs)
 later_unstyled s before [] n f m = tt
 later_unstyled s before (letter c ∷ after) n f m =
-    by_break (c == 10) (line_items s (letter c ∷ before) after) (later_lines s (letter c ∷ before) after) (line_unstyled s (letter c ∷ before) after n f m.1)
-    (later_unstyled s (letter c ∷ before) after n f m.1)
-later_unstyled s before (thing t ∷ after) n f m = later_unstyled s (thing t ∷ before) after n.1 f.1 m.1
+    by_break (c == 10) (line_items s (letter c ∷ before) after) (later_lines s (letter c ∷ before) after) (line_unstyled s (letter c ∷ before) after n f m.2)
+    (later_unstyled s (letter c ∷ before) after n f m.2)
+later_unstyled s before (thing t ∷ after) n f m = later_unstyled s (thing t ∷ before) after n.1 f.1 m.2
 
 pub again_unstyled : (s : Setting) (signs : List ContentSign) → IsFlatContent s signs → AreUnstyled (content_lines s signs)
 again_unstyled s signs h = (line_unstyled s [] signs h.nodes h.flat h.meet, later_unstyled s [] signs h.nodes h.flat h.meet)

@@ -16,6 +16,7 @@ use Rattle.wt_link_spelling.specs.Spelling.{children_of, opening_place, closing_
 use Rattle.wt_beside_laws.specs.Led.{AreMarksLed}
 use Rattle.wt_beside_laws.specs.Content.{AreKept}
 use Rattle.wt_beside_laws.specs.Lines.{AreCharacters}
+use Rattle.wt_beside_laws.specs.Nodes.{AllStayOpen}
 use Rattle.wt_beside_laws.specs.PageBlocks.{IsBlockOfLines}
 use Rattle.wt_beside_laws.specs.PageSigns.{signs_of_lines, AreFlatLines}
 use Rattle.wt_beside_laws.specs.SentStyled.{text_then, found_then, or_nowiki, sent_by, sent_before, sent_content, AllNest}
@@ -147,8 +148,9 @@ pub sent_styles : (same : Tree → Tree → Bool) (s : Setting) (ls : List (List
     → IsBlockOfLines ls block → AreKept (signs_of_lines (length (label block).opening) ls) → AllNest false false us
     → AreMarksLed (signs_in (sent_content (page_of same block) us))
     → AreSomeOf (all_numbers us) (all_numbers (children_of block)) → AreCharacters (signs_in (sent_content (page_of same block) us))
-    → AreUrlsApart (things (signs_in (sent_content (page_of same block) us))) → IsStyledContent s (sent_content (page_of same block) us)
-sent_styles same s ls block us within flat b kept nest led some typed apart =
+    → AreUrlsApart (things (signs_in (sent_content (page_of same block) us))) → AllStayOpen s [] (signs_in (sent_content (page_of same block) us))
+    → IsStyledContent s (sent_content (page_of same block) us)
+sent_styles same s ls block us within flat b kept nest led some typed apart unclosed =
     let p : Page = page_of same block in
     let at : ℕ = length (label block).opening in
     let t : StyledContent = sent_content p us in
@@ -157,4 +159,4 @@ sent_styles same s ls block us within flat b kept nest led some typed apart =
     let all : AreSomeAndPut (things (signs_in t)) (things (signs_of_lines at ls)) =
     some_of (things (signs_in t)) (things_with (kept_nodes block) (all_numbers us)) (things (signs_of_lines at ls)) (sent_some p us)
     (subst (AreSomeOf (things_with (kept_nodes block) (all_numbers us))) (styled_nodes ls block flat b) own) in
-    styled_content s ls at t within flat kept typed (sent_nested p false false us (no_delimiter same block) nest) led all apart
+    styled_content s ls at t within flat kept typed (sent_nested p false false us (no_delimiter same block) nest) led all apart unclosed

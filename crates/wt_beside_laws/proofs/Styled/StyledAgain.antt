@@ -162,11 +162,11 @@ later_flat : (Q : List ℕ → Type 0) (p : HoldsOfPut Q) (s : Setting) (before 
 later_flat Q p s before finished k = tt
 later_flat Q p s before (sign (letter d) t) k =
     let more : IsKnown Q s (letter d ∷ before) t =
-    record { typed = k.typed.1; source = k.source; nodes = k.nodes; nested = k.nested.1; meet = k.meet.1 } in
+    record { typed = k.typed.1; source = k.source; nodes = k.nodes; nested = k.nested.1; meet = k.meet.2 } in
     later_line Q (d == 10) (line_items s (letter d ∷ before) (signs_before t [])) (later_lines s (letter d ∷ before) (signs_before t []))
     (one_line Q p s (letter d ∷ before) t more) (later_flat Q p s (letter d ∷ before) t more)
 later_flat Q p s before (sign (thing x) t) k =
-    later_flat Q p s (thing x ∷ before) t (record { typed = k.typed; source = k.source.1; nodes = k.nodes.1; nested = k.nested.1; meet = k.meet.1 })
+    later_flat Q p s (thing x ∷ before) t (record { typed = k.typed; source = k.source.1; nodes = k.nodes.1; nested = k.nested.1; meet = k.meet.2 })
 later_flat Q p s before (styled kind opening closing inside t) k =
     let first : List ContentSign = delimiter kind opening ∷ before in
     let tail : List ContentSign = delimiter kind closing ∷ signs_before t [] in
@@ -177,7 +177,7 @@ later_flat Q p s before (styled kind opening closing inside t) k =
       source = (source_behind Q inside tail k.source.1).1;
       nodes = (nodes_behind inside tail k.nodes.1).1;
       nested = k.nested.2;
-      meet = (meet_behind s inside first tail k.meet.1).1;
+      meet = (meet_behind s inside first tail k.meet.2).2;
     }))
 
 all_styled : (Q : List ℕ → Type 0) (p : HoldsOfPut Q) (s : Setting) (t : StyledContent) → IsStyledContent s t → EachSource Q (signs_in t)

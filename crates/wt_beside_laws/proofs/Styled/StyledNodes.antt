@@ -17,7 +17,7 @@ use Rattle.wt_beside_laws.specs.Cuts.{own_glyphs, ends_word}
 use Rattle.wt_beside_laws.specs.Kept.{IsKept, characters}
 use Rattle.wt_beside_laws.specs.Lines.{AreCharacters}
 use Rattle.wt_beside_laws.specs.Nests.{marks}
-use Rattle.wt_beside_laws.specs.Nodes.{is_quote_last, IsDelimiter, IsNode, MayFollow, MayLead}
+use Rattle.wt_beside_laws.specs.Nodes.{is_quote_last, IsDelimiter, IsNode, AllStayOpen, OpensNoPair, MayFollow, MayLead}
 use Rattle.wt_beside_laws.specs.PageSigns.{signs_of_lines, AreFlatLines, HasNoBreak}
 use Rattle.wt_beside_laws.specs.Stood.{things}
 use Rattle.wt_beside_laws.specs.Styled.{StyledContent, mark_source, signs_in, AreNested, IsStyledContent}
@@ -29,6 +29,7 @@ use Rattle.wt_beside_laws.proofs.NodeItems.{node_as}
 use Rattle.wt_beside_laws.proofs.Each.{Each}
 use Rattle.wt_beside_laws.proofs.FlatContents.{Kept, kept_each, each_kept, Unbroken, each_unbroken, lines_unbroken}
 use Rattle.wt_beside_laws.proofs.NodesMeet.{atom_may}
+use Rattle.wt_beside_laws.proofs.OpenTags.{untagged_closed}
 use Rattle.wt_beside_laws.proofs.PageNodes.{follows_none, Meet, MeetInPage, EachIsNode, EachMeets, MeetsEach, PairsMeet, nodes_of, all_meet, each_node, all_pairs}
 use Rattle.wt_beside_laws.proofs.PageSigns.{lines_stood, lines_at}
 use Rattle.wt_beside_laws.proofs.Styled.StyledLines.{mark_items, mark_glyphs}
@@ -55,6 +56,19 @@ pub put_node : (t : Thing) → IsPut t → IsNode t.role (own_glyphs t)
 put_node t p = elim p [
   | inl m ↦ subst (λ (r : Role). IsNode r (own_glyphs t)) (sym m.1) (subst IsDelimiter (sym (own_mark t m.0 m.2)) (delimiter_of m.0))
   | inr w ↦ subst (λ (r : Role). IsNode r (own_glyphs t)) (sym w.0) (inl (inl (own_nowiki t w.1)))
+]
+
+pub mark_closed : (kind : Bool) → OpensNoPair (map glyph_of (node_items (mark_source kind)))
+mark_closed kind = subst OpensNoPair (sym (mark_glyphs kind)) (by kind)
+  where
+    by : (b : Bool) → OpensNoPair (byte_glyphs (mark_source b))
+    by true = untagged_closed (byte_glyphs (mark_source true)) refl
+    by false = untagged_closed (byte_glyphs (mark_source false)) refl
+
+pub put_closed : (t : Thing) → IsPut t → OpensNoPair (own_glyphs t)
+put_closed t p = elim p [
+  | inl m ↦ subst (λ (bs : List ℕ). OpensNoPair (map glyph_of (node_items bs))) (sym m.2) (mark_closed m.0)
+  | inr w ↦ subst OpensNoPair (sym (own_nowiki t w.1)) (untagged_closed (glyph.Atom ∷ []) refl)
 ]
 
 pub mark_kept : (kind : Bool) → IsKept (mark_source kind)
@@ -202,8 +216,8 @@ meet_some (t ∷ n ∷ ts) ps a u m = elim a [
 
 pub styled_content : (s : Setting) (ls : List (List Item)) (at : ℕ) (t : StyledContent) → s.within ≡ false → AreFlatLines ls → AreKept (signs_of_lines at ls)
     → AreCharacters (signs_in t) → AreNested false false t → AreMarksLed (signs_in t) → AreSomeAndPut (things (signs_in t)) (things (signs_of_lines at ls)) → AreUrlsApart (things (signs_in t))
-    → IsStyledContent s t
-styled_content s ls at t block flat kept typed nested led some apart =
+    → AllStayOpen s [] (signs_in t) → IsStyledContent s t
+styled_content s ls at t block flat kept typed nested led some apart unclosed =
     let olds : List ContentSign = signs_of_lines at ls in
     let signs : List ContentSign = signs_in t in
     let nodes : EachIsNode (things signs) = nodes_some (things signs) (things olds) some (each_node false olds (lines_stood at ls flat)) in
@@ -216,5 +230,5 @@ styled_content s ls at t block flat kept typed nested led some apart =
       unbroken = each_unbroken signs (each_some Unbroken put_unbroken (things signs) (things olds) some (lines_unbroken at ls flat));
       nested = nested;
       led = led;
-      meet = all_meet s [] signs (nodes, meets);
+      meet = all_meet s [] signs (nodes, meets) unclosed;
     }

@@ -61,11 +61,11 @@ none_later s bold italic (styled kind opening closing inside t) before after k w
 
 pub meet_behind : (s : Setting) (t : StyledContent) (before after : List ContentSign) → AllMeet s before (signs_before t after) [] → AllMeet s (signs_past t before) after []
 meet_behind s finished before after m = m
-meet_behind s (sign c t) before after m = meet_behind s t (c ∷ before) after m.1
+meet_behind s (sign c t) before after m = meet_behind s t (c ∷ before) after m.2
 meet_behind s (styled kind opening closing inside t) before after m =
     let first : List ContentSign = delimiter kind opening ∷ before in
     meet_behind s t (delimiter kind closing ∷ signs_past inside first) after
-    (meet_behind s inside first (delimiter kind closing ∷ signs_before t after) m.1).1
+    (meet_behind s inside first (delimiter kind closing ∷ signs_before t after) m.2).2
 
 later_are : (s : Setting) (before : List ContentSign) (t : StyledContent) → AreNodes (signs_before t []) → AreNested false false t
     → AllMeet s before (signs_before t []) [] → after_breaks (later_lines s before (signs_before t [])) ≡ later_parts s before t
@@ -73,14 +73,14 @@ later_are s before finished n k m = refl
 later_are s before (sign (letter c) t) n k m =
     let signs : List ContentSign = signs_before t [] in
     later_by (c == 10) (line_items s (letter c ∷ before) signs) (later_lines s (letter c ∷ before) signs) (styled_parts true s (letter c ∷ before) t [])
-    (later_parts s (letter c ∷ before) t) (styled_line s (letter c ∷ before) t n k.1 m.1) (later_are s (letter c ∷ before) t n k.1 m.1)
-later_are s before (sign (thing x) t) n k m = later_are s (thing x ∷ before) t n.1 k.1 m.1
+    (later_parts s (letter c ∷ before) t) (styled_line s (letter c ∷ before) t n k.1 m.2) (later_are s (letter c ∷ before) t n k.1 m.2)
+later_are s before (sign (thing x) t) n k m = later_are s (thing x ∷ before) t n.1 k.1 m.2
 later_are s before (styled kind opening closing inside t) n k m =
     let first : List ContentSign = delimiter kind opening ∷ before in
     let signs : List ContentSign = signs_before t [] in
     ap after_breaks (none_later s (kind || false) (not kind || false) inside first (delimiter kind closing ∷ signs) k.1 (within_style kind false false))
     ∙ later_are s (delimiter kind closing ∷ signs_past inside first) t (nodes_behind inside (delimiter kind closing ∷ signs) n.1).1 k.2
-    (meet_behind s inside first (delimiter kind closing ∷ signs) m.1).1
+    (meet_behind s inside first (delimiter kind closing ∷ signs) m.2).2
 
 -- ---- a line and the lines behind it
 

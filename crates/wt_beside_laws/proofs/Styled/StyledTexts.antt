@@ -1,4 +1,4 @@
--- The texts of a block with styles show UTF-8, those in its styles, too: the block is a page of its own.
+-- The texts of a block with styles show UTF-8, those in its styles, too.
 use Rattle.std.proofs.Common.{◌≡◌, ℕ, suc, ◌+◌, Bool, true, false, List, [], ◌∷◌, ◌++◌, refl, sym, ap, ◌∙◌, subst}
 use Rattle.std.specs.Prelude.{if◌then◌else◌}
 use Rattle.std.specs.Str.{IsUtf8}
@@ -11,24 +11,18 @@ use Rattle.wt_tree.specs.Tree.{Label, Tree, tree, Trees, none, more}
 use Rattle.wt_inline.specs.ItemTree.{ItemTree, inner, ItemTrees, nothing, further, forest, tree_items}
 use Rattle.wt_inline.specs.Parts.{children}
 use Rattle.wt_expand.specs.PageItems.{page_items}
-use Rattle.wt_page.specs.Body.{meaning}
 use Rattle.wt_annotated.specs.Annotated.{unplaced, all_unplaced}
 use Rattle.wt_annotated.specs.CutTexts.{cut_as, cut_texts, all_cut_texts}
 use Rattle.wt_annotated.specs.Labels.{label_at}
 use Rattle.wt_annotated.specs.Numbering.{number_of, with_id, count, next_after, with_numbers, all_with_numbers}
 use Rattle.wt_annotated.specs.WithoutCalls.{inside_by, placed, all_placed}
 use Rattle.wt_schema.specs.Written.{is_childless}
-use Rattle.wt_page_round_trip.proofs.ExpandedItems.{expanded_items}
-use Rattle.wt_page_round_trip.proofs.OfPage.{ArePageItems}
-use Rattle.wt_page_round_trip.proofs.PageShown.{body_nodes, page_shown}
 use Rattle.wt_page_round_trip.proofs.Shown.{text_shown}
 use Rattle.wt_page_round_trip.proofs.ShownNodes.{NodeIsShown, IsOrdered, IsShownIn, AreShownIn}
 use Rattle.wt_text_edit_laws.specs.Contents.{IsContentOf, content_parts_of}
 use Rattle.wt_text_edit_laws.specs.NoCalls.{CallsNothing}
 use Rattle.wt_text_edit_laws.specs.TextBlocks.{TextBlock, a_paragraph, a_heading, source_of, block_items, block_tree}
-use Rattle.wt_text_edit_laws.proofs.Between.NoCalls.{calm_expanded, calm_unrefused}
-use Rattle.wt_text_edit_laws.proofs.Blocks.BlocksAgain.{framed_utf8}
-use Rattle.wt_beside_laws.proofs.Made.OwnPages.{content_means, no_pages, own_frame}
+use Rattle.wt_beside_laws.proofs.Made.OwnPages.{block_shown}
 use Rattle.wt_beside_laws.proofs.PartThings.{nodes_of}
 
 -- ---- texts that are UTF-8, in styles, too
@@ -126,13 +120,6 @@ nodes_have n before ts h =
 
 -- ---- of a block
 
-abbrev nodes_in : ItemTree → ItemTrees
-nodes_in (inner h o ts c) = ts
-
-nodes_are : (xs : List Item) → nodes_in (meaning xs) ≡ body_nodes xs
-unfolding meaning
-nodes_are xs = refl
-
 inside_shown : (k : TextBlock) (q : List ℕ) → IsShownIn 9 kind.Body (unplaced (block_tree k q)) → HaveTexts (all_unplaced (forest (children (content_parts_of k (page_items q)))))
 unfolding label_at
 inside_shown a_paragraph q h = all_shown_texts 10 kind.Para (all_unplaced (forest (children (content_parts_of a_paragraph (page_items q))))) h.4.1
@@ -140,15 +127,7 @@ inside_shown (a_heading s) q h = all_shown_texts 10 (kind.Heading s.level) (all_
 
 own_texts : (k : TextBlock) (q : List ℕ) → IsUtf8 q → IsContentOf k q → page_items (source_of k q) ≡ block_items k q → CallsNothing (block_items k q)
     → HaveTexts (all_unplaced (forest (children (content_parts_of k (page_items q)))))
-own_texts k q u h e c =
-    let page : List ℕ = source_of k q in
-    let xs : List Item = page_items page in
-    let calm : CallsNothing xs = subst CallsNothing (sym e) c in
-    let items : ArePageItems xs =
-    subst (λ x. ArePageItems x.items) (calm_expanded no_pages page calm)
-    (expanded_items no_pages page (framed_utf8 k q (own_frame k q h) u) (calm_unrefused no_pages page calm)) in
-    let is : body_nodes xs ≡ forest (block_tree k q ∷ []) = sym (nodes_are xs) ∙ ap nodes_in (content_means k q h e) in
-    inside_shown k q (subst (λ ts. AreShownIn 9 kind.Body (all_unplaced ts)) is (page_shown xs items).0).0
+own_texts k q u h e c = inside_shown k q (block_shown k q u h e c)
 
 pub block_texts : (k : TextBlock) (q : List ℕ) (n : ℕ) (before : List Item) → IsUtf8 q → IsContentOf k q → page_items (source_of k q) ≡ block_items k q
     → CallsNothing (block_items k q) → HaveTexts (nodes_of n before (forest (children (content_parts_of k (page_items q)))))

@@ -4,6 +4,7 @@ use Rattle.wt_span.specs.Items.{Item, sign as sign_of}
 use Rattle.wt_guards.specs.declared.role.Role.{Role}
 use Rattle.wt_guards.specs.Content.{ContentSign, Thing, letter, thing}
 use Rattle.wt_guards.specs.Guards.{Setting, nowiki, spelled}
+use Rattle.wt_lines.specs.Lines.{lines}
 use Rattle.wt_expand.specs.PageItems.{page_items}
 use Rattle.wt_inline.specs.ItemTree.{forest, held_by_all}
 use Rattle.wt_inline.specs.Parts.{Part, children}
@@ -16,6 +17,7 @@ use Rattle.wt_text_edit_laws.proofs.Between.ClosingTags.{Unclosed, unclosed_unta
 use Rattle.wt_text_edit_laws.proofs.Blocks.BlockReading.{IsBeforeAny, HasFrame}
 use Rattle.wt_text_edit_laws.proofs.Texts.TypedShown.{AllOfPage}
 use Rattle.wt_text_edit_laws.specs.NoCalls.{AreUnpaired}
+use Rattle.wt_text_edit_laws.proofs.Paragraphs.SeenLines.{texts_seen}
 use Rattle.wt_beside_laws.specs.Calm.{IsCalm, AreCalm}
 use Rattle.wt_beside_laws.specs.Content.{AreKept}
 use Rattle.wt_beside_laws.specs.FlatBlocks.{lines_in, begins_at, signs_in as signs_of}
@@ -37,7 +39,7 @@ use Rattle.wt_beside_laws.proofs.Made.Levels.{BareTold, Told, AllTold, told_each
 use Rattle.wt_beside_laws.proofs.Made.NodesSealed.{nodes_sealed}
 use Rattle.wt_beside_laws.proofs.Made.OldBlocks.{lines_are}
 use Rattle.wt_beside_laws.proofs.Made.OwnPages.{own_frame}
-use Rattle.wt_beside_laws.proofs.Made.Written.{FitsIn, lines_by, before_any, uncommented, firm, alone, before_break, ended_so, unended_so, texts_by, unled_by, calls_none, from_calm, to_calm, put_calm}
+use Rattle.wt_beside_laws.proofs.Made.Written.{FitsIn, lines_by, before_any, uncommented, firm, ended_so, unended_so, texts_by, unled_by, calls_none, from_calm, to_calm, put_calm}
 use Rattle.wt_beside_laws.proofs.OwnItems.{content_own}
 use Rattle.wt_beside_laws.proofs.Styled.HeldStyles.{styled_have_items}
 use Rattle.wt_beside_laws.proofs.Styled.OldStyled.{styled_in_content}
@@ -76,10 +78,8 @@ stays_so (a_heading w) s t c = tt
 
 lines_of_text : (s : Setting) (t : StyledContent) → IsStyledContent s t → AreParagraphLines (spelled s (signs_in t))
 lines_of_text s t c = record {
-  are_lines = texts_by 0 s (signs_in t) (read_styled s t c) c.characters c.unbroken;
+  seen = texts_seen 0 (lines (page_items (spelled s (signs_in t)))) (texts_by 0 s (signs_in t) (read_styled s t c) c.characters c.unbroken);
   unled = unled_by s (signs_in t) (read_styled s t c) c.characters c.unbroken;
-  alone = alone s (signs_in t) (read_styled s t c);
-  before_break = before_break s (signs_in t) (read_styled s t c);
 }
 
 -- a delimiter and a nowiki are no URL

@@ -112,7 +112,7 @@ are_own k q block t ps h i same e =
     pieces_own ps (subst HaveOwn (sym (e.old ∙ same)) own) e.stay e.plain
 
 edit_styled : (k : TextBlock) (t : Tree) (ps : Pieces) → IsFlatEditOf k t ps → IsStyledEditOf k t ps
-edit_styled k t ps e = record { old = e.old; stay = e.stay; are = e.are; led = e.led; fit = e.fit; new = no_new ps e.plain }
+edit_styled k t ps e = record { old = e.old; stay = e.stay; are = e.are; led = e.led; fit = e.fit; new = no_new ps e.plain; unclosed = e.unclosed }
 
 -- ---- and no style begins in the new content
 

@@ -54,7 +54,7 @@ chosen_of pages page t rest h =
       place = alone.place;
       outside = subst (λ (m : ℕ). NoGroupAt m (called_tree pages page)) z h.in_no_group.0;
       free = (
-        h.free.0.ungrouped,
+        h.free.0.full,
         tree_untangled (standing 0 [] (block_tree k q)) (no_group k q 0 [] r.read.utf8 r.read.is r.read.unended r.read.calm) (untangled_shut k q h.free.0.untangled),
       );
       closed = content_closed k q r.is_content;

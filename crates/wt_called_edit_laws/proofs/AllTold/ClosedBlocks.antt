@@ -24,17 +24,18 @@ use Rattle.wt_transclusion.specs.Stretch.{AreFull}
 use Rattle.wt_page.specs.Body.{meaning}
 use Rattle.wt_page.specs.Lines.{ending}
 use Rattle.wt_page.proofs.Ends.{content_ending}
-use Rattle.wt_text_edit_laws.specs.PageCuts.{begins_unmarked, EndsClosed, EndClosed}
+use Rattle.wt_text_edit_laws.specs.PageCuts.{EndsClosed, EndClosed}
 use Rattle.wt_text_edit_laws.specs.TextBetween.{AreEnded}
 use Rattle.wt_text_edit_laws.specs.TextBlocks.{source_of}
 use Rattle.wt_text_edit_laws.specs.Unclosed.{is_unclosed_item, last_of as last_item, reaches}
 use Rattle.wt_text_edit_laws.proofs.Cuts.ItemCuts.{HaveBytes, page_from, from_has}
 use Rattle.wt_text_edit_laws.proofs.Cuts.TextLines.{joined_is}
 use Rattle.wt_beside_laws.specs.OpenEnds.{MarksEnd, ShownLast}
+use Rattle.wt_beside_laws.proofs.Derived.BlockContents.{BlockSeen}
 use Rattle.wt_beside_laws.proofs.Derived.BodyRead.{parts_are}
 use Rattle.wt_beside_laws.proofs.Own.OpenEnds.{page_marks, marks_behind, marks_ended}
 use Rattle.wt_beside_laws.proofs.Own.OpenLast.{ClosedLast, closed_behind, last_closed, closed_end}
-use Rattle.wt_called_edit_laws.specs.AllTold.{IsOwnBehind}
+use Rattle.wt_called_edit_laws.specs.AllTold.{IsBesideTexts}
 use Rattle.wt_called_edit_laws.specs.LinedAmong.{spots_of_lines, end_of_lines, AreOfPage, AreBeside}
 use Rattle.wt_called_edit_laws.specs.PlacedLines.{LinedBlock, all_lines}
 use Rattle.wt_called_edit_laws.specs.RowBlocks.{StandsIn, node_between}
@@ -50,6 +51,7 @@ use Rattle.wt_called_edit_laws.proofs.Among.ToldAmong.{LineThere, line_there, li
 use Rattle.wt_called_edit_laws.proofs.Cells.PlacedBlocks.{own_alone}
 use Rattle.wt_called_edit_laws.proofs.Cells.PlacedLines.{own_items, Round, round}
 use Rattle.wt_called_edit_laws.proofs.PartTexts.{own_text}
+use Rattle.wt_called_edit_laws.proofs.AllTold.Chosen.{IsOwnBehind}
 use Rattle.wt_called_edit_laws.proofs.AllTold.ClosedLines.{NoneBlank, lines_shown, no_bytes, closed_by, same_number}
 use Rattle.wt_called_edit_laws.proofs.AllTold.Found.{size, tree_size, size_both}
 use Rattle.wt_called_edit_laws.proofs.AllTold.LineKinds.{Lines}
@@ -85,8 +87,9 @@ nothing_left pages page p ys h =
 -- ---- the lines in the page
 
 own_there : (pages : Pages) (page : List ℕ) (o : Told) (rest : Lines) → full_lines (expanded_page pages page).items ≡ all_lines (lined o ∷ []) rest
-    → IsOwnBehind (expanded_page pages page) (joined (lined o).before) o → LineThere pages page (lined o).marks (own_items (lined o)) (joined rest)
-own_there pages page o rest are p =
+    → last_of None (joined (lined o).before) ≡ None → AreOfPage ((lined o).marks ++ own_items (lined o))
+    → IsBesideTexts (expanded_page pages page) (joined (lined o).before) o → LineThere pages page (lined o).marks (own_items (lined o)) (joined rest)
+own_there pages page o rest are ends own beside =
     let b : LinedBlock = lined o in
     let ls : Lines = all_lines (b ∷ []) rest in
     let r : IsRest pages page 0 ([] ++ joined ls) (page_items page) = page_rest pages page ls (page_joined pages page ls are) in
@@ -94,18 +97,19 @@ own_there pages page o rest are p =
     subst (λ (zs : List Item). IsRest pages page 0 zs (page_items page)) (line_items [] b rest) r in
     let n : ℕ = length (text_from (calls_of pages page) None (joined b.before)) in
     let z : n ≡ 0 + n = omega arith in
-    line_there pages page 0 (line_front [] b) b.marks (own_items b) (joined rest) (page_items page) there p.ends (of_front b.marks (own_items b) p.own)
-    (of_behind b.marks (own_items b) p.own)
-    (subst (λ (m : ℕ). AreBeside m (m + length (sources (b.marks ++ own_items b))) (expanded_page pages page).text_calls) z p.beside)
+    line_there pages page 0 (line_front [] b) b.marks (own_items b) (joined rest) (page_items page) there ends (of_front b.marks (own_items b) own)
+    (of_behind b.marks (own_items b) own)
+    (subst (λ (m : ℕ). AreBeside m (m + length (sources (b.marks ++ own_items b))) (expanded_page pages page).text_calls) z beside)
 
 -- the marks before it
 pub own_marks_ended : (pages : Pages) (page : List ℕ) (o : Told) (rest : Lines) → full_lines (expanded_page pages page).items ≡ all_lines (lined o ∷ []) rest
-    → IsOwnBehind (expanded_page pages page) (joined (lined o).before) o → 1 ≤ length (lined o).first → list_all is_mark (lined o).marks ≡ true
+    → last_of None (joined (lined o).before) ≡ None → AreOfPage ((lined o).marks ++ own_items (lined o))
+    → IsBesideTexts (expanded_page pages page) (joined (lined o).before) o → 1 ≤ length (lined o).first → list_all is_mark (lined o).marks ≡ true
     → AreEnded (sources (lined o).marks)
-own_marks_ended pages page o rest are p some all = by (own_items (lined o)) refl
+own_marks_ended pages page o rest are ends own beside some all = by (own_items (lined o)) refl
   where
     t : LineThere pages page (lined o).marks (own_items (lined o)) (joined rest)
-    t = own_there pages page o rest are p
+    t = own_there pages page o rest are ends own beside
 
     by : (xs : List Item) → own_items (lined o) ≡ xs → AreEnded (sources (lined o).marks)
     by [] e = absurd (omega (arith, some, ap length e, length-append (lined o).first (joined (lined o).more)))
@@ -139,7 +143,7 @@ last_own pages page o rest are p e =
     let b : LinedBlock = lined o in
     let own : List Item = own_items b in
     let end : List Item = ending own in
-    let t : LineThere pages page b.marks own (joined rest) = own_there pages page o rest are p in
+    let t : LineThere pages page b.marks own (joined rest) = own_there pages page o rest are p.ends p.own p.beside in
     let mine : AreOfPage own = of_behind b.marks own p.own in
     let its : AreOfPage end = of_behind (content own) end (subst AreOfPage (sym (content_ending own)) mine) in
     let text : text_from calls None (end ++ joined rest) ≡ sources end ++ text_from calls None (joined rest) =
@@ -165,11 +169,11 @@ last_own pages page o rest are p e =
     }
 
 pub own_closed : (pages : Pages) (page : List ℕ) (o : Told) (rest : Lines) (n : ℕ) → full_lines (expanded_page pages page).items ≡ all_lines (lined o ∷ []) rest
-    → IsOwnBehind (expanded_page pages page) (joined (lined o).before) o → 1 ≤ length (lined o).first → begins_unmarked (content (own_items (lined o))) ≡ true
+    → IsOwnBehind (expanded_page pages page) (joined (lined o).before) o → 1 ≤ length (lined o).first → (Round (lined o) rest → BlockSeen (content (own_items (lined o))))
     → NoneBlank n ((lined o).first ∷ (lined o).more) → source_of (lined o).block (lined o).text ≡ sources (content (own_items (lined o)))
     → (text_from (calls_of pages page) None (ending (own_items (lined o)) ++ joined rest) ≡ [] → is_unclosed_item (last_item (expanded_page pages page).items) ≡ false)
     → EndClosed (spots_of_lines pages page (map lined (o ∷ []))) (end_of_lines pages page (map lined (o ∷ [])) rest)
-own_closed pages page o rest n are p some u k is_source c = (
+own_closed pages page o rest n are p some seen k is_source c = (
   subst (λ (bs : List ℕ). EndsClosed bs behind) (sym is_source) (closed_by (sources own) behind last),
   tt,
 )
@@ -186,11 +190,11 @@ own_closed pages page o rest n are p some u k is_source c = (
         let i : IsLastOwn pages page o rest = last_own pages page o rest are p e in
         let xs : List Item = (expanded_page pages page).items in
         let all : page_items page ≡ i.front ++ (own ++ []) = i.is ∙ ap (λ (zs : List Item). i.front ++ zs) (sym (append-nil own)) in
-        let alone : page_items (sources own) ≡ own = own_alone i.front own [] (ap page_items (parts_are page i.front own [] all) ∙ all) u in
         let closed : ClosedLast own = closed_behind (joined b.before ++ b.marks) own (subst ClosedLast i.ends (last_closed xs (c e))) in
         let lines : Lines = all_lines (b ∷ []) rest in
         let runs : AreRuns goes_on lines xs = subst (λ (ms : Lines). AreRuns goes_on ms xs) are (runs_are goes_on xs) in
         let r : Round b rest = round b rest xs some runs (own_breaks (own_items b) (of_behind b.marks (own_items b) p.own)) in
+        let alone : page_items (sources own) ≡ own = own_alone i.front own [] (ap page_items (parts_are page i.front own [] all) ∙ all) (seen r) in
         let own_runs : AreRuns goes_on (b.first ∷ b.more) (own_items b) =
         subst (λ (ms : Lines). AreRuns goes_on ms (own_items b)) r.own_are (runs_are goes_on (own_items b)) in
         let shown : ShownLast own = lines_shown n b.first b.more (own_items b) own_runs k in

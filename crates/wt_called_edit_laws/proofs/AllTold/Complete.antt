@@ -1,48 +1,50 @@
 -- Each paragraph and heading of a page's tree, outside of groups, that holds no group and isn't tangled is one of those that the lines of the expanded page
 -- tell, or one of the excepted.
-use Rattle.std.proofs.Common.{arith, ◌≡◌, ◌<◌, ◌≤◌, ◌⊎◌, inl, inr, ℕ, zero, suc, ◌+◌, Bool, true, false, None, List, [], ◌∷◌, ◌++◌, length, map, refl, sym, ap, ◌∙◌, subst, append-nil}
+use Rattle.std.proofs.Common.{arith, ◌≡◌, ◌<◌, ◌≤◌, ◌⊎◌, inl, inr, ℕ, zero, suc, ◌+◌, Bool, true, false, None, List, [], ◌∷◌, ◌++◌, length, drop, map, refl, sym, ap, ◌∙◌, subst, append-nil, cond}
 use Rattle.std.specs.Prelude.{◌&&◌}
 use Rattle.std.specs.Str.{IsUtf8}
 use Rattle.std.specs.List.{list_all}
 use Rattle.wt_span.specs.Items.{Item, char, whole, is_mark, sign, sources}
-use Rattle.wt_span.specs.Origins.{OuterCall}
-use Rattle.wt_tree.specs.Source.{flat}
+use Rattle.wt_span.specs.Origins.{Expanded}
+use Rattle.wt_inline.specs.ItemTree.{ItemTree}
 use Rattle.wt_tree.specs.Tiling.{HasNoGroup}
 use Rattle.wt_tree.specs.Tree.{Tree, tree, Trees, none, more, label}
-use Rattle.wt_annotated.specs.Seams.{text_from}
-use Rattle.wt_inline.specs.ItemTree.{ItemTree}
 use Rattle.wt_checks.specs.Kept.{children}
 use Rattle.wt_expand.specs.PageCalls.{expanded_page}
 use Rattle.wt_expand.specs.Work.{Pages}
 use Rattle.wt_commands.specs.Answers.{refusal_of_page}
+use Rattle.wt_expand.proofs.PiecePlaces.{AllFrom}
 use Rattle.wt_lines.specs.declared.kind.LineKind.TheVariants as line
 use Rattle.wt_lines.specs.Kinds.{kind_of_signs}
 use Rattle.wt_lines.specs.Lines.{content, full_lines}
 use Rattle.wt_tables.specs.Parts.{joined}
 use Rattle.wt_page.specs.Headings.{heading}
 use Rattle.wt_page.specs.Lines.{kind_at, ending}
-use Rattle.wt_page.specs.Rows.{rows_from}
-use Rattle.wt_page.specs.Texts.{para}
 use Rattle.wt_page.proofs.Ends.{content_ending}
+use Rattle.wt_page.specs.Rows.{rows_from, marks_len}
+use Rattle.wt_page.specs.Texts.{para}
+use Rattle.wt_page_round_trip.proofs.OpenedPages.{AreOnes}
 use Rattle.wt_part_laws.specs.Frames.{content as content_part}
 use Rattle.wt_part_laws.specs.Slots.{AllTrue}
 use Rattle.wt_selser.specs.Edits.{is_tangled}
 use Rattle.wt_text_edit_laws.specs.BlockSpots.{BlockSpot, spots_source}
 use Rattle.wt_text_edit_laws.specs.Contents.{IsContentOf}
-use Rattle.wt_text_edit_laws.specs.PageCuts.{begins_unmarked, EndClosed}
+use Rattle.wt_called_edit_laws.specs.AllTold.{starts_in, text_on_a_sign, IsExceptedIn, by_its_lines, beside_a_call, IsExcepted, IsOneOf, AllBlocksTold, IsBesideNoCall, AreNoFunctions, IsBesideTexts, unended_marks, holds_a_function, beside_a_text, holds_a_pair}
+use Rattle.wt_text_edit_laws.proofs.Cuts.RowLines.{AllText}
+use Rattle.wt_text_edit_laws.proofs.Cuts.TextLines.{led_first, content_unled}
+use Rattle.wt_text_edit_laws.proofs.Paragraphs.Marks.{mark_sign, AreMarkSigns, kind_marks}
+use Rattle.wt_text_edit_laws.specs.NoCalls.{CallsNothing}
+use Rattle.wt_text_edit_laws.specs.PageCuts.{EndClosed}
 use Rattle.wt_text_edit_laws.specs.ParagraphBetween.{written_rows, tables_behind, EndApart, BeginApart}
 use Rattle.wt_text_edit_laws.specs.TextBetween.{AreEnded}
-use Rattle.wt_text_edit_laws.specs.Unclosed.{holds_unclosed}
 use Rattle.wt_text_edit_laws.specs.TextBlocks.{TextBlock, a_paragraph, source_of, block_items, block_tree}
-use Rattle.wt_text_edit_laws.proofs.Cuts.RowLines.{AllText}
-use Rattle.wt_text_edit_laws.proofs.Paragraphs.Marks.{mark_sign, AreMarkSigns, kind_marks}
-use Rattle.wt_called_edit_laws.specs.AllTold.{starts_in, IsOwnBehind, IsExceptedAt, text_on_a_sign, marked_text, text_in_tables, IsExceptedIn, by_its_lines, beside_a_call, IsExcepted, IsOneOf, AllBlocksTold}
+use Rattle.wt_text_edit_laws.specs.Unclosed.{holds_unclosed}
+use Rattle.wt_beside_laws.proofs.Derived.BlockContents.{BlockSeen, block_seen}
 use Rattle.wt_called_edit_laws.specs.AnyBlocks.{open_after}
 use Rattle.wt_called_edit_laws.specs.CalledBlocks.{tree_by}
 use Rattle.wt_called_edit_laws.specs.CalledPages.{IsCalledPage}
 use Rattle.wt_called_edit_laws.specs.CalledTexts.{spots_tree}
 use Rattle.wt_called_edit_laws.specs.ContentsTaken.{TakesContents}
-use Rattle.wt_called_edit_laws.specs.Covered.{NoGroupAt}
 use Rattle.wt_called_edit_laws.specs.EditsAt.{AllStand}
 use Rattle.wt_called_edit_laws.specs.Groups.{called_tree}
 use Rattle.wt_called_edit_laws.specs.LinedAmong.{spots_of_lines, end_of_lines, AreOfPage, IsLinedAmong}
@@ -59,27 +61,28 @@ use Rattle.wt_called_edit_laws.proofs.Among.OwnItems.{from_page}
 use Rattle.wt_called_edit_laws.proofs.Among.ToldAmong.{all_told, told_among}
 use Rattle.wt_called_edit_laws.proofs.BlocksOutside.{editable_called}
 use Rattle.wt_called_edit_laws.proofs.CallsTake.{contents_by, contents_paths}
-use Rattle.wt_called_edit_laws.proofs.Cells.PlacedLines.{own_items}
+use Rattle.wt_called_edit_laws.proofs.Cells.PlacedLines.{own_items, own_block, Round, lines_joined}
 use Rattle.wt_called_edit_laws.proofs.Cells.SpotSlots.{open_size}
 use Rattle.wt_called_edit_laws.proofs.EditFacts.{IsFramedPage, framed_page, paths_of, spots_stand, spots_contents}
 use Rattle.wt_called_edit_laws.proofs.GroupsAmong.{retyped_self}
 use Rattle.wt_called_edit_laws.proofs.PathsSend.{NoneEmpty, paths_full}
-use Rattle.wt_called_edit_laws.proofs.Told.HeadItems.{told_source, equals_unmarked, begins_content}
 use Rattle.wt_called_edit_laws.proofs.AllTold.Alone.{IsAloneTold, IsAloneHere, alone_here, alone_read, own_round}
-use Rattle.wt_called_edit_laws.proofs.AllTold.Chosen.{IsChosen, place_decided}
-use Rattle.wt_called_edit_laws.proofs.AllTold.ChosenLines.{byte_at, among_mapped, starts_so}
+use Rattle.wt_called_edit_laws.proofs.AllTold.Chosen.{IsOwnBehind, IsChosen, beside_call_decided, functions_decided, texts_decided, calm_decided, own_behind}
+use Rattle.wt_called_edit_laws.proofs.AllTold.ChosenLines.{byte_at, among_mapped, starts_so, ones_front, ones_behind}
 use Rattle.wt_called_edit_laws.proofs.AllTold.ClosedBlocks.{own_marks_ended, own_closed, own_reaches}
 use Rattle.wt_called_edit_laws.proofs.AllTold.ClosedLines.{NoneBlank, unclosed_by, AllPast, heading_size, para_size}
+use Rattle.wt_called_edit_laws.proofs.Told.HeadItems.{told_source, equals_seen, begins_content}
 use Rattle.wt_called_edit_laws.proofs.AllTold.EachBlocks.{EachBlockIn}
 use Rattle.wt_called_edit_laws.proofs.AllTold.Found.{size, tree_size, size_both}
 use Rattle.wt_called_edit_laws.proofs.AllTold.HeadSigns.{head_begins}
 use Rattle.wt_called_edit_laws.proofs.AllTold.LineBlocks.{block_on_lines}
 use Rattle.wt_called_edit_laws.proofs.AllTold.LineKinds.{Lines, led_by, past_marks, led_whole, led_marks, kind_led}
-use Rattle.wt_called_edit_laws.proofs.AllTold.OneNode.{IsNodeAt, IsKnownNode, known_node, page_ones, page_joined}
+use Rattle.wt_called_edit_laws.proofs.AllTold.OneNode.{IsNodeAt, own_tree, IsKnownNode, known_node, page_ones, page_joined}
+use Rattle.wt_called_edit_laws.proofs.AllTold.OwnLines.{AreSeen, text_own_lines, heading_own_lines}
 use Rattle.wt_called_edit_laws.proofs.AllTold.OwnTrees.{OwnRound, paragraph_is, heading_is}
 use Rattle.wt_called_edit_laws.proofs.AllTold.PlaceStarts.{starts_from, spot_starts, paths_start, AllClear, clear_paths, AllHaveBytes, contents_some, LeadsThere, leads, leads_there}
 use Rattle.wt_called_edit_laws.proofs.AllTold.RowBlocks.{housed, page_stands, body_none, below}
-use Rattle.wt_called_edit_laws.proofs.AllTold.Scans.{Decided, bool_decided, kind_decided, text_told, heading_told}
+use Rattle.wt_called_edit_laws.proofs.AllTold.Scans.{Decided, ended_decided, text_told, heading_told}
 use Rattle.wt_called_edit_laws.proofs.AllTold.Starts.{HasByte, BlockAt, BlockIn, same_paths}
 use Rattle.wt_called_edit_laws.proofs.AllTold.Together.{AreAllChosen, chosen_together, told_by_all}
 use Rattle.wt_called_edit_laws.proofs.AllTold.ToldStarts.{are_own, blank_is}
@@ -223,18 +226,28 @@ text_all : (n : ℕ) (ls : Lines) → AreOfText n ls → AllText n ls
 text_all n [] h = tt
 text_all n (l ∷ ls) h = (h.0, text_all n ls h.1)
 
-text_lines_at : (n : ℕ) (ls : Lines) → AreOfText 0 ls → AreOfText n ls → AreLinesAt n ls
-text_lines_at n [] h g = tt
-text_lines_at n (l ∷ ls) h g = (h.0, g.0, text_lines_at n ls h.1 g.1)
+text_lines_at : (n : ℕ) (ls : Lines) → AreOfText n ls → AreLinesAt n ls
+text_lines_at n [] g = tt
+text_lines_at n (l ∷ ls) g = (g.0, text_lines_at n ls g.1)
 
-text_decided : (n : ℕ) (ls : Lines) → Decided (AreOfText n ls)
-text_decided n [] = inl tt
-text_decided n (l ∷ ls) = by (kind_decided (kind_at n l)) (text_decided n ls)
+-- behind the marks that begin a line none is first
+past_unled : (l : List Item) → marks_len (past_marks l) ≡ 0
+past_unled [] = refl
+past_unled (y ∷ ys) = by (is_mark y) refl (past_unled ys)
   where
-    by : Decided (kind_at n l ≡ line.Text) → Decided (AreOfText n ls) → Decided (AreOfText n (l ∷ ls))
-    by (inl a) (inl b) = inl (a, b)
-    by (inr f) b = inr (λ h. f h.0)
-    by (inl a) (inr f) = inr (λ h. f h.1)
+    n : ℕ
+    n = marks_len ys
+
+    by : (v : Bool) → is_mark y ≡ v → marks_len (drop n ys) ≡ 0 → marks_len (drop (cond (is_mark y) (1 + n) 0) (y ∷ ys)) ≡ 0
+    by true e h =
+        let z : 1 + n ≡ suc n = omega arith in
+        ap (λ (v : Bool). marks_len (drop (cond v (1 + n) 0) (y ∷ ys))) e ∙ ap (λ (k : ℕ). marks_len (drop k (y ∷ ys))) z ∙ h
+    by false e h =
+        ap (λ (v : Bool). marks_len (drop (cond v (1 + n) 0) (y ∷ ys))) e ∙ ap (λ (v : Bool). cond v (1 + n) 0) e
+
+first_unled : (xs zs : List Item) → 1 ≤ length xs → marks_len xs ≡ 0 → marks_len (content (xs ++ zs)) ≡ 0
+first_unled [] zs some h = absurd (omega (arith, some))
+first_unled (x ∷ xs) zs some h = content_unled (x ∷ (xs ++ zs)) (led_first x xs (xs ++ zs) h)
 
 begins_so : (before : Lines) (l : List Item) (o : Told) → (lined o).before ≡ before → (lined o).marks ≡ led_by l → begins_at before l ≡ start_of 0 o
 begins_so before l o e f = omega (arith, ap (λ (ls : Lines). size (joined ls)) e, ap size f)
@@ -246,13 +259,13 @@ all_past n (l ∷ ls) h = (some_past n l (λ w. let wrong : line.Blank ≡ line.
 
 none_blank : (n : ℕ) (ls : Lines) → AreLinesAt n ls → NoneBlank n ls
 none_blank n [] h = tt
-none_blank n (l ∷ ls) h = ((λ e. let wrong : line.Blank ≡ line.Text = sym e ∙ h.1 in absurd (cc)), none_blank n ls h.2)
+none_blank n (l ∷ ls) h = ((λ e. let wrong : line.Blank ≡ line.Text = sym e ∙ h.0 in absurd (cc)), none_blank n ls h.1)
 
 -- what is known of a block with this tree by its lines, and so of it where they are the page's own
 record IsOnLines (b : LinedBlock) (rest : Lines) (u : ItemTree) : Type 0 where
   some : 1 ≤ length b.first
   are_marks : list_all is_mark b.marks ≡ true
-  unmarked : begins_unmarked (content (own_items b)) ≡ true
+  seen : Round b rest → BlockSeen (content (own_items b))
   number : ℕ
   shown : NoneBlank number (b.first ∷ b.more)
   source : AreOfPage (own_items b) → source_of b.block b.text ≡ sources (content (own_items b))
@@ -262,16 +275,54 @@ record IsOnLines (b : LinedBlock) (rest : Lines) (u : ItemTree) : Type 0 where
 -- where its lines are the page's own, or not
 by_place : (pages : Pages) (page : List ℕ) (i : ℕ) (is : List ℕ) (t : Tree) (n : IsNodeAt pages page i is t) (a : AreAllChosen pages page) (s : StandsIn pages page t) (o : Told)
     (rest : Lines) → full_lines (expanded_page pages page).items ≡ all_lines (lined o ∷ []) rest → (AreEnded (sources (lined o).marks) → AreTold (o ∷ []) rest)
-    → IsOnLines (lined o) rest s.block → size s.before ≡ start_of 0 o
-    → Decided (IsOwnBehind (expanded_page pages page) (joined (lined o).before) o) → Answer pages page i is t a n.utf8 n.unrefused
-by_place pages page i is t n a s o rest are told l at (inr f) = inr (record { stands = s; begins_so = beside_a_call o rest are told at f })
-by_place pages page i is t n a s o rest are told l at (inl p) =
-    let items : List Item = (expanded_page pages page).items in
-    let ended : AreEnded (sources (lined o).marks) = own_marks_ended pages page o rest are p l.some l.are_marks in
-    let closed : EndClosed (spots_of_lines pages page (map lined (o ∷ []))) (end_of_lines pages page (map lined (o ∷ [])) rest) =
-    own_closed pages page o rest l.number are p l.some l.unmarked l.shown (l.source (of_behind (lined o).marks (own_items (lined o)) p.own))
-    (λ none. unclosed_by items page (label t).ranges n.unclosed (own_reaches pages page t s o rest n.utf8 n.unrefused are p at l.size_is none)) in
-    inl (alone_told pages page i is t n a s o rest (record { utf8 = n.utf8; closed = closed; are = are; told = told ended; place = p }) l.tree_so at)
+    → IsOnLines (lined o) rest s.block → size s.before ≡ start_of 0 o → AllFrom None (content (own_items (lined o))) → Answer pages page i is t a n.utf8 n.unrefused
+by_place pages page i is t n a s o rest are told_so l at own = ended (ended_decided (sources (lined o).marks))
+  where
+    e : Expanded
+    e = expanded_page pages page
+
+    front : List Item
+    front = joined (lined o).before
+
+    line : List Item
+    line = content (own_items (lined o))
+
+    by : AreTold (o ∷ []) rest → Decided (IsBesideNoCall front o) → Decided (AreNoFunctions line) → Decided (IsBesideTexts e front o) → Decided (CallsNothing line)
+        → Answer pages page i is t a n.utf8 n.unrefused
+    by told (inr f) b c d = inr (record { stands = s; begins_so = beside_a_call o rest are told at f })
+    by told (inl x) (inr f) c d = inr (record { stands = s; begins_so = holds_a_function o rest are told at f })
+    by told (inl x) (inl y) (inr f) d = inr (record { stands = s; begins_so = beside_a_text o rest are told at f })
+    by told (inl x) (inl y) (inl z) (inr f) = inr (record { stands = s; begins_so = holds_a_pair o rest are told at f })
+    by told (inl x) (inl y) (inl z) (inl w) =
+        let p : IsOwnBehind e front o = own_behind e front o own x y w z in
+        let closed : EndClosed (spots_of_lines pages page (map lined (o ∷ []))) (end_of_lines pages page (map lined (o ∷ [])) rest) =
+        own_closed pages page o rest l.number are p l.some l.seen l.shown (l.source (of_behind (lined o).marks (own_items (lined o)) p.own))
+        (λ none. unclosed_by e.items page (label t).ranges n.unclosed (own_reaches pages page t s o rest n.utf8 n.unrefused are p at l.size_is none)) in
+        inl (alone_told pages page i is t n a s o rest (record { utf8 = n.utf8; closed = closed; are = are; told = told; place = p }) l.tree_so at)
+
+    ended : Decided (AreEnded (sources (lined o).marks)) → Answer pages page i is t a n.utf8 n.unrefused
+    ended (inr f) =
+        inr (record {
+          stands = s;
+          begins_so = unended_marks o rest are l.are_marks at f (λ ends mine beside. f (own_marks_ended pages page o rest are ends mine beside l.some l.are_marks));
+        })
+    ended (inl h) = by (told_so h) (beside_call_decided front o) (functions_decided line) (texts_decided e front o) (calm_decided line)
+
+-- each line of text has something behind its marks
+texts_seen : (n : ℕ) (ls : Lines) → AreOfText n ls → AreSeen ls
+texts_seen n [] h = tt
+texts_seen n (l ∷ ls) h = (some_past n l (λ w. let wrong : line.Blank ≡ line.Text = sym w ∙ h.0 in absurd (cc)), texts_seen n ls h.1)
+
+-- the content of lines of the page
+content_ones : (pages : Pages) (page : List ℕ) (o : Told) (rest : Lines) → IsUtf8 page → refusal_of_page pages page ≡ None
+    → full_lines (expanded_page pages page).items ≡ all_lines (lined o ∷ []) rest → AreOnes (content (own_items (lined o)))
+content_ones pages page o rest u r are =
+    let own : List Item = own_items (lined o) in
+    let front : List Item = joined (lined o).before ++ (lined o).marks in
+    let all : (expanded_page pages page).items ≡ front ++ (own ++ joined rest) =
+    page_joined pages page (all_lines (lined o ∷ []) rest) are ∙ lines_joined (lined o) rest in
+    ones_front (content own) (ending own)
+    (subst AreOnes (sym (content_ending own)) (ones_front own (joined rest) (ones_behind front (own ++ joined rest) (subst AreOnes all (page_ones pages page u r)))))
 
 text_case : (pages : Pages) (page : List ℕ) (i : ℕ) (is : List ℕ) (t : Tree) (n : IsNodeAt pages page i is t) (a : AreAllChosen pages page) (s : StandsIn pages page t)
     (before : Lines) (first : List Item) (others behind : Lines)
@@ -279,7 +330,9 @@ text_case : (pages : Pages) (page : List ℕ) (i : ℕ) (is : List ℕ) (t : Tre
     → AreOfText (tables_behind 0 before) (first ∷ others) → BeginApart (rows_from (tables_behind 0 before) behind) → size s.before ≡ begins_at before first
     → s.block ≡ para (map text_row (first ∷ others)) → Answer pages page i is t a n.utf8 n.unrefused
 text_case pages page i is t n a s before first others behind are cells apart texts stops at tree_is =
-    by (text_decided 0 (first ∷ others)) (bool_decided (begins_unmarked (content (joined (past_marks first ∷ others)))) true)
+    by_place pages page i is t n a s o behind all told on (at ∙ begins_so before first o refl refl)
+    (text_own_lines first others s.block tree_is (own_tree pages page i is t n s) (texts_seen m (first ∷ others) here)
+    (content_ones pages page o behind n.utf8 n.unrefused all))
   where
     m : ℕ
     m = length (open_after [] (written_rows 0 before))
@@ -296,51 +349,47 @@ text_case pages page i is t n a s before first others behind are cells apart tex
     line_is : led_by first ++ past_marks first ≡ first
     line_is = led_whole first
 
-    except : IsExceptedAt (full_lines (expanded_page pages page).items) (size s.before) → Answer pages page i is t a n.utf8 n.unrefused
-    except x = inr (record { stands = s; begins_so = by_its_lines x })
-
-    unmarked_false : (v : Bool) → (v ≡ true → ⊥) → v ≡ false
-    unmarked_false true h = absurd (h refl)
-    unmarked_false false h = refl
-
     tree_so : OwnRound (lined o) behind → s.block ≡ block_tree (lined o).block (lined o).text
     tree_so round =
         tree_is ∙ ap (λ (l : List Item). para (map text_row (l ∷ others))) (sym line_is)
         ∙ paragraph_is before (led_by first) (past_marks first) others behind round (led_marks first)
         (subst (λ (l : List Item). AllText m (l ∷ others)) (sym line_is) (text_all m (first ∷ others) here))
 
-    by : Decided (AreOfText 0 (first ∷ others)) → Decided (begins_unmarked (content (joined (past_marks first ∷ others))) ≡ true)
-        → Answer pages page i is t a n.utf8 n.unrefused
-    by (inr f) c = except (text_in_tables before first others behind are at texts f)
-    by (inl b) (inr f) =
-        except (marked_text before first others behind are at (unmarked_false (begins_unmarked (content (joined (past_marks first ∷ others)))) f))
-    by (inl b) (inl c) =
-        let own : AreLinesAt m (past_marks first ∷ others) =
-        (kind_led 0 first seen.0 ∙ b.0, kind_led m first seen.0 ∙ here.0, text_lines_at m others b.1 here.1) in
-        let told : AreEnded (sources (led_by first)) → AreTold (o ∷ []) behind = λ e. (
-          record { are_marks = led_marks first; ended = e; some = seen.0; in_cells = cells; apart = apart; own = (own, c) },
-          subst (λ (j : ℕ). BeginApart (rows_from j behind)) (tables_same before) stops,
-        ) in
-        let all : full_lines (expanded_page pages page).items ≡ all_lines (lined o ∷ []) behind =
-        are ∙ ap (λ (l : List Item). before ++ ((l ∷ others) ++ behind)) (sym line_is) in
-        let on : IsOnLines (lined o) behind s.block = record {
-          some = seen.0;
-          are_marks = led_marks first;
-          unmarked = c;
-          number = m;
-          shown = none_blank m (past_marks first ∷ others) own;
-          source = λ mine. refl;
-          size_is = ap (λ (u : ItemTree). tree_size u + size (ending (own_items (lined o)))) tree_is ∙ para_size first others seen;
-          tree_so = tree_so;
-        } in
-        by_place pages page i is t n a s o behind all told on (at ∙ begins_so before first o refl refl) (place_decided (expanded_page pages page) (joined before) o)
+    own : AreLinesAt m (past_marks first ∷ others)
+    own = (kind_led m first seen.0 ∙ here.0, text_lines_at m others here.1)
+
+    unled : marks_len (content (joined (past_marks first ∷ others))) ≡ 0
+    unled = first_unled (past_marks first) (joined others) seen.0 (past_unled first)
+
+    told : AreEnded (sources (led_by first)) → AreTold (o ∷ []) behind
+    told e = (
+      record { are_marks = led_marks first; ended = e; some = seen.0; in_cells = cells; apart = apart; own = (own, unled) },
+      subst (λ (j : ℕ). BeginApart (rows_from j behind)) (tables_same before) stops,
+    )
+
+    all : full_lines (expanded_page pages page).items ≡ all_lines (lined o ∷ []) behind
+    all = are ∙ ap (λ (l : List Item). before ++ ((l ∷ others) ++ behind)) (sym line_is)
+
+    on : IsOnLines (lined o) behind s.block
+    on = record {
+      some = seen.0;
+      are_marks = led_marks first;
+      seen = λ r. block_seen a_paragraph (lined o).text (content (own_items (lined o)))
+          (own_block a_paragraph m (lined o).text (past_marks first ∷ others) r.y r.ys r.some r.own_are (own, unled, refl)).0;
+      number = m;
+      shown = none_blank m (past_marks first ∷ others) own;
+      source = λ mine. refl;
+      size_is = ap (λ (u : ItemTree). tree_size u + size (ending (own_items (lined o)))) tree_is ∙ para_size first others seen;
+      tree_so = tree_so;
+    }
 
 heading_case : (pages : Pages) (page : List ℕ) (i : ℕ) (is : List ℕ) (t : Tree) (n : IsNodeAt pages page i is t) (a : AreAllChosen pages page) (s : StandsIn pages page t)
     (before : Lines) (own : List Item) (behind : Lines)
     → full_lines (expanded_page pages page).items ≡ before ++ own ∷ behind → AllTrue (open_after [] (written_rows 0 before)) → kind_at (tables_behind 0 before) own ≡ line.Heading
     → size s.before ≡ begins_at before own → s.block ≡ heading (content (past_marks own)) → Answer pages page i is t a n.utf8 n.unrefused
 heading_case pages page i is t n a s before own behind are cells kind_is at tree_is =
-    by_place pages page i is t n a s o behind all told on (at ∙ begins_so before own o refl refl) (place_decided (expanded_page pages page) (joined before) o)
+    by_place pages page i is t n a s o behind all told on (at ∙ begins_so before own o refl refl)
+    (heading_own_lines own s.block tree_is (own_tree pages page i is t n s) (content_ones pages page o behind n.utf8 n.unrefused all))
   where
     m : ℕ
     m = length (open_after [] (written_rows 0 before))
@@ -379,7 +428,7 @@ heading_case pages page i is t n a s before own behind are cells kind_is at tree
     on = record {
       some = seen;
       are_marks = led_marks own;
-      unmarked = subst (λ (ys : List Item). begins_unmarked (content ys) ≡ true) (sym one) (equals_unmarked (content l) (begins_content l head.first));
+      seen = λ r. subst (λ (ys : List Item). BlockSeen (content ys)) (sym one) (equals_seen (content l) (begins_content l head.first));
       number = m;
       shown = ((λ e. let wrong : line.Blank ≡ line.Heading = sym e ∙ head.is_heading in absurd (cc)), tt);
       source = λ mine. told_source m l head (from_page l (subst AreOfPage one mine)) ∙ ap (λ (ys : List Item). sources (content ys)) (sym one);

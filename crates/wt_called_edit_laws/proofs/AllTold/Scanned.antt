@@ -98,7 +98,7 @@ texts_at n (x ∷ xs) y ys h = texts_at n xs y ys h.1
 
 told_all : (n : ℕ) (ls : Lines) → AreLinesAt n ls → AllText n ls
 told_all n [] h = tt
-told_all n (l ∷ ls) h = (h.1, told_all n ls h.2)
+told_all n (l ∷ ls) h = (h.0, told_all n ls h.1)
 
 -- those of a paragraph that is told
 told_texts : (bs : List Bool) (before : Lines) (l : List Item) (more : Lines) → IsToldAt bs (text_told before l more) → AllText (length (after bs before)) (l ∷ more)

@@ -1,5 +1,5 @@
 -- All paragraphs and headings that lines tell, from the first line on, and what is left of the lines between them.
-use Rattle.std.proofs.Common.{arith, ◌≡◌, ◌≤◌, ◌⊎◌, inl, inr, ℕ, ◌+◌, Bool, true, false, List, [], ◌∷◌, ◌++◌, length, map, refl, sym, ap, ◌∙◌, subst, append-nil, append_assoc, codes}
+use Rattle.std.proofs.Common.{arith, ◌≡◌, ◌≤◌, ◌⊎◌, inl, inr, ℕ, zero, suc, ◌+◌, Bool, true, false, List, [], ◌∷◌, ◌++◌, length, map, refl, sym, ap, ◌∙◌, subst, append-nil, append_assoc, codes}
 use Rattle.std.specs.List.{list_all}
 use Rattle.wt_span.specs.Bytes.{begins}
 use Rattle.wt_span.specs.Items.{Item, is_mark, sources}
@@ -10,9 +10,8 @@ use Rattle.wt_blocks.specs.Paragraphs.{is_text}
 use Rattle.wt_tables.specs.Extents.{behind as tables_after}
 use Rattle.wt_tables.specs.Parts.{joined}
 use Rattle.wt_page.specs.Lines.{kind_at}
-use Rattle.wt_page.specs.Rows.{Row, signs, rows_from}
+use Rattle.wt_page.specs.Rows.{Row, marks_len, signs, rows_from}
 use Rattle.wt_part_laws.specs.Slots.{AllTrue}
-use Rattle.wt_text_edit_laws.specs.PageCuts.{begins_unmarked}
 use Rattle.wt_text_edit_laws.specs.ParagraphBetween.{written_rows, EndApart, BeginApart}
 use Rattle.wt_text_edit_laws.specs.TextBetween.{is_end, AreEnded}
 use Rattle.wt_text_edit_laws.specs.TextBlocks.{TextBlock, a_paragraph, a_heading, FirstApart}
@@ -110,8 +109,11 @@ ended_decided (b ∷ c ∷ cs) = ended_decided (c ∷ cs)
 
 lines_decided : (n : ℕ) (ls : Lines) → Decided (AreLinesAt n ls)
 lines_decided n [] = inl tt
-lines_decided n (l ∷ ls) =
-    three_decided (kind_at 0 l ≡ line.Text) (kind_at n l ≡ line.Text) (AreLinesAt n ls) (kind_decided (kind_at 0 l)) (kind_decided (kind_at n l)) (lines_decided n ls)
+lines_decided n (l ∷ ls) = both_decided (kind_at n l ≡ line.Text) (AreLinesAt n ls) (kind_decided (kind_at n l)) (lines_decided n ls)
+
+none_decided : (n : ℕ) → Decided (n ≡ 0)
+none_decided zero = inl refl
+none_decided (suc n) = inr (λ e. omega (arith, e))
 
 -- a line of a heading is one of these
 headed : (n : ℕ) (l : List Item) → Decided (IsLinedHeading n l)
@@ -160,8 +162,8 @@ pub text_fits : (K : Asked) → Answered K → (front : List Item) (bs : List Bo
 text_fits K d front bs l more =
     let n : ℕ = length bs in
     let own : Lines = past_marks l ∷ more in
-    fits_by K d front bs (text_told [] l more) (both_decided (AreLinesAt n own) (begins_unmarked (content (joined own)) ≡ true) (lines_decided n own)
-    (bool_decided (begins_unmarked (content (joined own))) true))
+    fits_by K d front bs (text_told [] l more) (both_decided (AreLinesAt n own) (marks_len (content (joined own)) ≡ 0) (lines_decided n own)
+    (none_decided (marks_len (content (joined own)))))
 
 pub heading_fits : (K : Asked) → Answered K → (front : List Item) (bs : List Bool) (l : List Item) → Decided (Fits K front bs (heading_told [] l))
 heading_fits K d front bs l = fits_by K d front bs (heading_told [] l) (headed (length bs) (past_marks l))

@@ -1,6 +1,6 @@
 -- All blocks that the lines of an expanded page tell are told at once.
 use Rattle.std.proofs.Common.{arith, ◌≡◌, ◌≤◌, ℕ, suc, ◌+◌, Bool, true, false, None, List, [], ◌∷◌, ◌++◌, length, take, drop, map, refl, sym, ap, ◌∙◌, subst, cond, codes}
-use Rattle.std.specs.Prelude.{◌&&◌, not}
+use Rattle.std.specs.Prelude.{◌&&◌}
 use Rattle.std.specs.Str.{IsUtf8}
 use Rattle.std.specs.List.{list_all}
 use Rattle.wt_span.specs.Bytes.{begins}
@@ -11,7 +11,7 @@ use Rattle.wt_commands.specs.Answers.{refusal_of_page}
 use Rattle.wt_lines.specs.Lines.{content, full_lines}
 use Rattle.wt_tables.specs.Parts.{joined}
 use Rattle.wt_page.specs.Rows.{marks_len, signs}
-use Rattle.wt_text_edit_laws.specs.PageCuts.{begins_unmarked}
+use Rattle.wt_text_edit_laws.specs.PageCuts.{begins_unmarked, EndsClosed}
 use Rattle.wt_text_edit_laws.proofs.Paragraphs.Marks.{mark_sign}
 use Rattle.wt_called_edit_laws.specs.PlacedLines.{all_lines, AreLined}
 use Rattle.wt_called_edit_laws.specs.ToldAmong.{IsToldAmong}
@@ -55,16 +55,18 @@ parted (m ∷ ms) x xs h e =
       past = ap (λ (v : Bool). drop (cond v (1 + marks_len rest) 0) (m ∷ rest)) own ∙ ap (λ (n : ℕ). drop n (m ∷ rest)) z ∙ p.past;
     }
 
-mark_first : (x : Item) (xs : List Item) → is_mark x ≡ true → begins_unmarked (content (x ∷ xs)) ≡ true → ⊥
+mark_first : (x : Item) (xs : List Item) → is_mark x ≡ true → marks_len (content (x ∷ xs)) ≡ 0 → ⊥
 mark_first (char o b) xs e h = absurd (cc)
-mark_first (whole f o bs) [] e h = let nay : false ≡ true = sym (ap not e) ∙ h in absurd (cc)
-mark_first (whole f o bs) (y ∷ ys) e h = let nay : false ≡ true = sym (ap not e) ∙ h in absurd (cc)
+mark_first (whole f o bs) [] e h = let nay : 1 + 0 ≡ 0 = sym (ap (λ (v : Bool). cond v (1 + 0) 0) e) ∙ h in omega (arith, nay)
+mark_first (whole f o bs) (y ∷ ys) e h =
+    let n : ℕ = marks_len (content (y ∷ ys)) in
+    let nay : 1 + n ≡ 0 = sym (ap (λ (v : Bool). cond v (1 + n) 0) e) ∙ h in omega (arith, nay)
 
 unmarked : (v : Bool) → (v ≡ true → ⊥) → v ≡ false
 unmarked true h = absurd (h refl)
 unmarked false h = refl
 
-text_first : (x : Item) (xs : List Item) (r : Lines) → begins_unmarked (content (joined ((x ∷ xs) ∷ r))) ≡ true → is_mark x ≡ false
+text_first : (x : Item) (xs : List Item) (r : Lines) → marks_len (content (joined ((x ∷ xs) ∷ r))) ≡ 0 → is_mark x ≡ false
 text_first x xs r h = unmarked (is_mark x) (λ e. mark_first x (xs ++ joined r) e h)
 
 sign_first : (x : Item) (xs : List Item) → begins (codes "=") (signs (x ∷ xs)) ≡ true → is_mark x ≡ false
@@ -111,7 +113,7 @@ alone : (pages : Pages) (page : List ℕ) (s : Scan (chosen pages page) [] [] fa
     → IsAlone pages page t rest → IsAmongNumbers (start_of 0 t) (told_starts 0 s.ts)
 alone pages page s (a_paragraph_of b m f r) rest h =
     alone_text pages page s b m f r rest h (parted_told m f h.told.0.are_marks h.told.0.some (λ x xs z. text_first x xs r
-    (subst (λ (k : List Item). begins_unmarked (content (joined (k ∷ r))) ≡ true) z h.told.0.own.1)))
+    (subst (λ (k : List Item). marks_len (content (joined (k ∷ r))) ≡ 0) z h.told.0.own.1)))
 alone pages page s (a_heading_on b m l) rest h =
     alone_heading pages page s b m l rest h (parted_told m l h.told.0.are_marks h.told.0.some (λ x xs z. sign_first x xs
     (subst (λ (k : List Item). begins (codes "=") (signs k) ≡ true) z h.told.0.own.first)))

@@ -11,7 +11,7 @@ use Rattle.wt_expand.specs.Work.{Pages}
 use Rattle.wt_text_edit_laws.specs.PageCuts.{AreBlockItems}
 use Rattle.wt_text_edit_laws.specs.TextBlocks.{TextBlock, source_of}
 use Rattle.wt_text_edit_laws.proofs.Cuts.ItemCuts.{HaveBytes}
-use Rattle.wt_beside_laws.proofs.Derived.BlockContents.{block_unmarked}
+use Rattle.wt_beside_laws.proofs.Derived.BlockContents.{block_seen, seen_with}
 use Rattle.wt_beside_laws.proofs.Derived.BodyRead.{parts_are}
 use Rattle.wt_called_edit_laws.specs.CalledContents.{StayText}
 use Rattle.wt_called_edit_laws.specs.LinedAmong.{AreOfPage, AreBeside}
@@ -225,7 +225,7 @@ block_here pages page p xs ms os k q ys qs r ends marks own block is_source besi
       marked = marked;
       marks = have_front ms second.behind (subst HaveBytes second.is first.next.some);
       some = have_front os third.behind (subst HaveBytes third.is at_block.some);
-      alone = ap page_items (sym is_source) ∙ own_alone front os third.behind again (block_unmarked k q os block);
+      alone = ap page_items (sym is_source) ∙ own_alone front os third.behind again (block_seen k q os block);
       stays = λ n h. stays_so k n q front os third.behind block again h;
       first = subst (λ (n : ℕ). IsClear n 0 (members_of page)) size second.clear;
       last = subst (λ (n : ℕ). IsClear n 0 (members_of page)) all_size third.clear;

@@ -27,11 +27,11 @@ use Rattle.wt_text_edit_laws.specs.PageCuts.{BeginsBreak}
 use Rattle.wt_text_edit_laws.specs.ParagraphBetween.{written_rows}
 use Rattle.wt_text_edit_laws.specs.ParagraphParts.{break}
 use Rattle.wt_text_edit_laws.specs.ReadContents.{IsReadContent}
-use Rattle.wt_text_edit_laws.specs.TextBetween.{AreEnded}
+use Rattle.wt_text_edit_laws.specs.TextBetween.{AreEnded, BeginsShown}
 use Rattle.wt_text_edit_laws.specs.TextBlocks.{TextBlock, a_paragraph, a_heading, source_of, block_items}
-use Rattle.wt_text_edit_laws.proofs.Cuts.ItemCuts.{HaveBytes, page_cut, cut_from, alone_after}
+use Rattle.wt_text_edit_laws.proofs.Cuts.ItemCuts.{HaveBytes, page_cut, cut_from}
+use Rattle.wt_text_edit_laws.proofs.Cuts.Seen.{shown_alone}
 use Rattle.wt_text_edit_laws.proofs.Cuts.TextLines.{IsEnding, joined_is, lines_of}
-use Rattle.wt_text_edit_laws.proofs.Prose.Uncommented.{BeginsUncommented}
 use Rattle.wt_beside_laws.proofs.Derived.BodyRead.{parts_are}
 use Rattle.wt_called_edit_laws.specs.AnyBlocks.{open_after, rows_of_part, open_behind_part, LeadsInto, past_break, BeginsAfter, NextApart, EndsAfter}
 use Rattle.wt_called_edit_laws.specs.CalledContents.{StayText}
@@ -138,8 +138,8 @@ items_there page k q front own behind whole is h =
     let first = page_cut (sources front) (line ++ sources behind) front (own ++ behind) all refl in
     let after : Bool = after_all (lexer Page) false (sources front) in
     let second = cut_from after line (sources behind) own behind first.behind refl in
-    let begins : BeginsUncommented line = subst BeginsUncommented (append-nil (source_of k q) ∙ sym is) (block_begins k q [] h tt) in
-    let alone : page_items line ≡ own = alone_after after line own begins second.front in
+    let begins : BeginsShown line = subst BeginsShown (append-nil (source_of k q) ∙ sym is) (block_begins k q [] h tt) in
+    let alone : page_items line ≡ own = shown_alone after line own begins second.front in
     sym alone ∙ ap page_items is ∙ h.unended
 
 cut_here : (pages : Pages) (page : List ℕ) (p : ℕ) (xs ms os : List Item) (k : TextBlock) (q : List ℕ) (ys qs : List Item)

@@ -37,7 +37,7 @@ use Rattle.wt_text_edit_laws.proofs.Cuts.ItemCuts.{HaveBytes, page_from, from_ha
 use Rattle.wt_text_edit_laws.proofs.Cuts.TextLines.{IsEnding, joined_is, lines_of}
 use Rattle.wt_text_edit_laws.proofs.Paragraphs.LineBlocks.{OwnBreaks}
 use Rattle.wt_text_edit_laws.proofs.Paragraphs.Texts.{one_line}
-use Rattle.wt_text_edit_laws.proofs.Prose.ProseLines.{some_item}
+use Rattle.wt_text_edit_laws.proofs.Paragraphs.SeenLines.{seen_some}
 use Rattle.wt_called_edit_laws.specs.AnyBlocks.{open_after, rows_of_part, open_behind_part, LeadsInto, past_break, BeginsAfter, NextApart, EndsAfter}
 use Rattle.wt_called_edit_laws.specs.CalledBlocks.{spots_among, items_behind}
 use Rattle.wt_called_edit_laws.specs.CalledContents.{StayText}
@@ -156,7 +156,7 @@ ends_text calls es (m ∷ ms) i f = begins_break calls es (joined (m ∷ ms)) (f
 -- ---- a block has an item
 
 block_some : (k : TextBlock) (q : List ℕ) (xs : List Item) → AreBlockItems k q xs → xs ≢ []
-block_some a_paragraph q xs h e = some_item xs h.are_lines e
+block_some a_paragraph q xs h e = seen_some xs h.seen e
 block_some (a_heading s) q xs h e = by s.level h.some (sym h.is ∙ e)
   where
     by : (n : ℕ) → 1 ≤ n → page_chars (equals n ++ s.lead) ++ (h.own ++ (page_chars (s.trail ++ equals s.level) ++ h.rest)) ≢ []

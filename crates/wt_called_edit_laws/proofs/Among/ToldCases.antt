@@ -59,7 +59,6 @@ use Rattle.wt_called_edit_laws.specs.PlacedLines.{LinedBlock, all_lines}
 use Rattle.wt_called_edit_laws.specs.ToldAmong.{IsToldAmong}
 use Rattle.wt_called_edit_laws.specs.ToldLines.{Told, a_paragraph_of, a_heading_on, lined, AreTold}
 use Rattle.wt_called_edit_laws.proofs.Cells.ClassCases.{a_word, a_title, in_a_cell, whole_page, in_class}
-use Rattle.wt_called_edit_laws.proofs.Cells.PageCases.{is_free, are_free, free_node}
 
 -- the call gives a word, which is a line with the line break behind it
 abbrev told : List Told
@@ -128,7 +127,7 @@ told_here = (
   },
   (
     tt,
-    record { are_marks = refl; ended = tt; some = omega arith; in_cells = (refl, tt); apart = refl; own = ((refl, refl, tt), refl) },
+    record { are_marks = refl; ended = tt; some = omega arith; in_cells = (refl, tt); apart = refl; own = ((refl, tt), refl) },
     refl,
   ),
 )
@@ -142,24 +141,6 @@ own_lines = (refl, own_chars (codes "== h ==\n"), tt, (refl, own_chars (codes "x
 
 -- ---- its blocks
 
-title_alone : is_free (part_tree (codes "== h ==")) ≡ true
-unfolding is_free are_free page_items words closed form_at comment_len comment_line_len raw_len opening_tag tag_after closing_tag with_inside is_extension include_at
-    entity_at named_entity decimal_entity hex_entity entity_names sign_word kind_of_signs annotated group_data meaning rows blocks para
-    heading level opening inside closing line_trees label_at children
-    context_parts segments tiles shapes tiles_closed tile_form_at link_or_url link_at ext_link_at bare_url_at scheme_len kept_len
-    tag_tile tag_at tile_opening_tag tile_closing_tag tile_tag_after tag_name_of live_name switch_at loose_segments chunks with_styles style_tree_of
-    toggles_of toggle_at
-title_alone = refl
-
-cell_alone : is_free (part_tree (codes "x<br>y")) ≡ true
-unfolding is_free are_free page_items words closed form_at comment_len comment_line_len raw_len opening_tag tag_after closing_tag with_inside is_extension include_at
-    entity_at named_entity decimal_entity hex_entity entity_names sign_word kind_of_signs annotated group_data meaning rows blocks para
-    heading level opening inside closing line_trees label_at children
-    context_parts segments tiles shapes tiles_closed tile_form_at link_or_url link_at ext_link_at bare_url_at scheme_len kept_len
-    tag_tile tag_at tile_opening_tag tile_closing_tag tile_tag_after tag_name_of live_name switch_at loose_segments chunks with_styles style_tree_of
-    toggles_of toggle_at
-cell_alone = refl
-
 free_title : IsFreeBlock (a_heading (spaced 2)) (codes "h")
 unfolding page_items words closed form_at comment_len comment_line_len raw_len opening_tag tag_after closing_tag with_inside is_extension include_at
     entity_at named_entity decimal_entity hex_entity entity_names sign_word level opening inside closing label_at children
@@ -167,7 +148,7 @@ unfolding page_items words closed form_at comment_len comment_line_len raw_len o
     tag_tile tag_at tile_opening_tag tile_closing_tag tile_tag_after tag_name_of live_name switch_at loose_segments chunks with_styles style_tree_of
     toggles_of toggle_at
 free_title = record {
-  ungrouped = free_node (part_tree (codes "== h ==")) title_alone;
+  full = ((refl, tt), tt);
   untangled = record { items = of_items []; page = []; number = 0; before = []; untangled = refl };
 }
 
@@ -178,7 +159,7 @@ unfolding page_items words closed form_at comment_len comment_line_len raw_len o
     tag_tile tag_at tile_opening_tag tile_closing_tag tile_tag_after tag_name_of live_name switch_at loose_segments chunks with_styles style_tree_of
     toggles_of toggle_at
 free_cell = record {
-  ungrouped = free_node (part_tree (codes "x<br>y")) cell_alone;
+  full = ((refl, tt), ((refl, tt), ((refl, tt), tt)));
   untangled = record { items = of_items []; page = []; number = 0; before = []; untangled = refl };
 }
 

@@ -52,7 +52,7 @@ use Rattle.wt_part_laws.specs.CallPieces.{AreOwnOrGiven, CallPiece, own, call_pi
 use Rattle.wt_part_laws.specs.Expanded.{part_items, GivesAnywhere}
 use Rattle.wt_text_edit_laws.specs.BlockSpots.{BlockSpot}
 use Rattle.wt_text_edit_laws.specs.Contents.{content_parts_of}
-use Rattle.wt_text_edit_laws.specs.Paragraphs.{IsTextLine}
+use Rattle.wt_text_edit_laws.specs.Paragraphs.{IsSeenLine}
 use Rattle.wt_text_edit_laws.specs.ReadContents.{IsReadContent}
 use Rattle.wt_text_edit_laws.specs.TextBlocks.{a_paragraph}
 use Rattle.wt_tiles.specs.Links.{link_in, target_of}
@@ -66,6 +66,7 @@ use Rattle.wt_beside_laws.proofs.Groups.CalledBlocks.{given_both}
 use Rattle.wt_beside_laws.proofs.Groups.Cases.{beside_letters}
 use Rattle.wt_beside_laws.proofs.Groups.Folders.{given_by as of_call_parts}
 use Rattle.wt_beside_laws.proofs.Groups.GivenCases.{of_call as chars_of, one_link}
+use Rattle.wt_text_edit_laws.proofs.Cuts.Seen.{stands_begins}
 use Rattle.wt_called_edit_laws.specs.CalledContents.{AreTextItems}
 use Rattle.wt_called_edit_laws.specs.CallingBlocks.{spots_with_calls, items_past}
 use Rattle.wt_called_edit_laws.specs.Covered.{NoGroupAt, HasFreeByte}
@@ -291,13 +292,13 @@ is_read = record {
   utf8 = (source, (refl, refl));
   ended = refl;
   unended = refl;
-  begins = record { alone = record { uncommented = refl }; before_break = record { uncommented = refl }; shown = refl };
+  begins = stands_begins source (record { uncommented = refl }) (record { uncommented = refl }) refl refl;
 }
 
 is_text : (i : ℕ) → AreTextItems (given i)
 unfolding kind_of_signs
 is_text i = record {
-  are_lines = All-cons IsTextLine (given i) [] refl (All-nil IsTextLine);
+  seen = All-cons IsSeenLine (given i) [] refl (All-nil IsSeenLine);
   unled = refl;
   own_breaks = ((λ e. absurd (cc)), ((λ e. absurd (cc)), ((λ e. absurd (cc)), ((λ e. absurd (cc)), ((λ e. absurd (cc)), ((λ e. absurd (cc)), ((λ e. absurd (cc)), ((λ e. absurd (cc)), tt))))))));
 }

@@ -28,9 +28,10 @@ use Rattle.wt_expand.specs.PageCalls.{page_stretches}
 use Rattle.wt_part_laws.specs.Expanded.{part_items, GivesAnywhere}
 use Rattle.wt_part_laws.proofs.ExpandedBoth.{plain_anywhere}
 use Rattle.wt_text_edit_laws.specs.BlockSpots.{BlockSpot}
-use Rattle.wt_text_edit_laws.specs.Paragraphs.{IsTextLine}
+use Rattle.wt_text_edit_laws.specs.Paragraphs.{IsSeenLine}
 use Rattle.wt_text_edit_laws.specs.ReadContents.{IsReadContent}
 use Rattle.wt_text_edit_laws.specs.TextBlocks.{a_paragraph}
+use Rattle.wt_text_edit_laws.proofs.Cuts.Seen.{stands_begins}
 use Rattle.wt_called_edit_laws.specs.CalledContents.{AreTextItems}
 use Rattle.wt_called_edit_laws.specs.CallingBlocks.{IsContentIn, spots_with_calls, items_past, AreCallingBlocks}
 use Rattle.wt_called_edit_laws.specs.InCells.{AreTextLines}
@@ -70,7 +71,7 @@ is_read = record {
   utf8 = written_utf8;
   ended = refl;
   unended = refl;
-  begins = record { alone = record { uncommented = refl }; before_break = record { uncommented = refl }; shown = refl };
+  begins = stands_begins written (record { uncommented = refl }) (record { uncommented = refl }) refl refl;
 }
 
 anywhere : GivesAnywhere a_word written
@@ -81,7 +82,7 @@ anywhere = plain_anywhere a_word written tt
 is_text : (i : ℕ) → AreTextItems (given i)
 unfolding kind_of_signs
 is_text i = record {
-  are_lines = All-cons IsTextLine (given i) [] refl (All-nil IsTextLine);
+  seen = All-cons IsSeenLine (given i) [] refl (All-nil IsSeenLine);
   unled = refl;
   own_breaks = ((λ e. absurd (cc)), ((λ e. absurd (cc)), ((λ e. absurd (cc)), ((λ e. absurd (cc)), tt))));
 }

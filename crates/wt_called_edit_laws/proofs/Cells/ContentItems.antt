@@ -16,7 +16,7 @@ tree_is a_paragraph q = refl
 tree_is (a_heading s) q = refl
 
 pub items_by : (k : TextBlock) (q : List ℕ) → IsContentOf k q → AreItemsOf k (page_items q)
-items_by a_paragraph q h = record { are_lines = h.are_lines; unled = h.unled; own_breaks = page_breaks q }
+items_by a_paragraph q h = record { seen = h.seen; unled = h.unled; own_breaks = page_breaks q }
 items_by (a_heading s) q h = record { sides = h.frame.sides; inside = h.inside; of_level = h.of_level }
 
 pub content_items : (k : TextBlock) (q : List ℕ) → IsContent k q → AreItemsOf k (page_items q)

@@ -15,25 +15,23 @@ use Rattle.wt_lines.specs.Lines.{full_lines, lines, content, empty_end, goes_on}
 use Rattle.wt_page.specs.Lines.{ending}
 use Rattle.wt_page.proofs.Ends.{content_ending}
 use Rattle.wt_tables.specs.Parts.{joined}
-use Rattle.wt_page.specs.Rows.{rows_from}
+use Rattle.wt_page.specs.Rows.{marks_len, rows_from}
 use Rattle.wt_expand.specs.PageItems.{page_items}
 use Rattle.wt_expand.specs.Work.{Pages}
 use Rattle.wt_part_laws.specs.Slots.{AllTrue}
 use Rattle.wt_text_edit_laws.specs.BlockSpots.{spots_source, AreRead}
 use Rattle.wt_text_edit_laws.specs.NoCalls.{CallsNothing}
-use Rattle.wt_text_edit_laws.specs.PageCuts.{AreTextItems, AreBlockItems, begins_unmarked, AreCuts, EndsThere}
+use Rattle.wt_text_edit_laws.specs.PageCuts.{AreTextItems, AreBlockItems, AreCuts, EndsThere}
 use Rattle.wt_text_edit_laws.specs.ParagraphBetween.{written_rows, tables_behind, before_marks, EndApart, BeginApart}
 use Rattle.wt_text_edit_laws.specs.ParagraphParts.{break}
-use Rattle.wt_text_edit_laws.specs.Paragraphs.{IsTextLine}
 use Rattle.wt_text_edit_laws.specs.Parts.{HasNoGroups}
 use Rattle.wt_text_edit_laws.specs.TextBlocks.{TextBlock, a_paragraph, a_heading, source_of}
 use Rattle.wt_text_edit_laws.specs.TypedHeadings.{Sides, EndsLine}
-use Rattle.wt_text_edit_laws.proofs.Cuts.ItemCuts.{page_cut, cut_from, alone_after, front_alone, behind_alone}
-use Rattle.wt_text_edit_laws.proofs.Cuts.Unmarked.{unmarked_begins}
-use Rattle.wt_text_edit_laws.proofs.Cuts.TextLines.{runs_behind, runs_before, joined_is, joined_both, lines_of, whole_before, no_marks_end, ending_break, IsEnding, ending_own, some_items, content_lines, texts_are, ended_bytes}
-use Rattle.wt_text_edit_laws.proofs.Cuts.RowLines.{AllText}
+use Rattle.wt_text_edit_laws.proofs.Cuts.ItemCuts.{page_cut, cut_from, front_alone, behind_alone}
+use Rattle.wt_text_edit_laws.proofs.Cuts.TextLines.{runs_behind, runs_before, joined_is, joined_both, lines_of, whole_before, no_marks_end, ending_break, IsEnding, ending_own, some_items, content_lines, ended_bytes}
 use Rattle.wt_text_edit_laws.proofs.Paragraphs.LineBlocks.{OwnBreaks, page_breaks}
-use Rattle.wt_beside_laws.proofs.Derived.BlockContents.{block_source, there_begins}
+use Rattle.wt_text_edit_laws.proofs.Paragraphs.SeenLines.{texts_seen}
+use Rattle.wt_beside_laws.proofs.Derived.BlockContents.{block_source, there_begins, BlockSeen, block_seen, seen_alone}
 use Rattle.wt_beside_laws.proofs.Derived.BodyRead.{parts_are}
 use Rattle.wt_beside_laws.proofs.Derived.CutPages.{cut_read}
 use Rattle.wt_called_edit_laws.specs.AnyBlocks.{open_after, open_behind_part, LeadsInto, EndsAfter}
@@ -44,7 +42,6 @@ use Rattle.wt_called_edit_laws.specs.PlacedBlocks.{IsBlockIn, block_spot, IsFree
 use Rattle.wt_called_edit_laws.proofs.CalmPages.{calm_contents}
 use Rattle.wt_called_edit_laws.proofs.Cells.ContentItems.{content_items}
 use Rattle.wt_called_edit_laws.proofs.Cells.SpotSlots.{open_size}
-use Rattle.wt_called_edit_laws.proofs.Told.Unled.{unmarked_unled}
 
 -- ---- where it is
 
@@ -65,21 +62,21 @@ block_cut page k q b f =
       b.there,
     )
 
--- the items of its own source, where no mark is first
+-- the items of its own source
 pub own_alone : (before own rest : List Item) → page_items (sources before ++ (sources own ++ sources rest)) ≡ before ++ (own ++ rest)
-    → begins_unmarked own ≡ true → page_items (sources own) ≡ own
+    → BlockSeen own → page_items (sources own) ≡ own
 own_alone before own rest e u =
     let so : List ℕ = sources own in
     let sr : List ℕ = sources rest in
     let first = page_cut (sources before) (so ++ sr) before (own ++ rest) e refl in
     let a : Bool = after_all (lexer Page) false (sources before) in
     let second = cut_from a so sr own rest first.behind refl in
-    alone_after a so own (unmarked_begins so a (subst (λ (ys : List Item). begins_unmarked ys ≡ true) (sym second.front) u)) second.front
+    seen_alone a so own u second.front
 
 pub stays_so : (k : TextBlock) (n : ℕ) (q : List ℕ) (before own rest : List Item) → AreBlockItems k q own
     → page_items (sources before ++ (sources own ++ sources rest)) ≡ before ++ (own ++ rest) → StayText k n own → StayText k n (page_items q)
 stays_so a_paragraph n q before own rest h e s =
-    let alone : page_items q ≡ own = ap page_items (sym h.source) ∙ own_alone before own rest e h.unmarked in
+    let alone : page_items q ≡ own = ap page_items (sym h.source) ∙ own_alone before own rest e (block_seen a_paragraph q own h) in
     subst (λ (xs : List Item). StayText a_paragraph n xs) (sym alone) s
 stays_so (a_heading t) n q before own rest h e s = tt
 
@@ -196,30 +193,23 @@ heading_in page s q h =
 
 -- ---- a paragraph by lines
 
-own_texts : (n : ℕ) (ls : List (List Item)) → AreLinesAt n ls → AllText 0 ls
-own_texts n [] h = tt
-own_texts n (l ∷ ls) h = (h.0, own_texts n ls h.2)
-
 texts_at : (n : ℕ) (ls : List (List Item)) → AreLinesAt n ls → All (λ (l : List Item). line_kind n l ≡ line.Text) (map content ls)
 texts_at n [] h = All-nil (λ (l : List Item). line_kind n l ≡ line.Text)
-texts_at n (l ∷ ls) h = All-cons (λ (l : List Item). line_kind n l ≡ line.Text) (content l) (map content ls) h.1 (texts_at n ls h.2)
+texts_at n (l ∷ ls) h = All-cons (λ (l : List Item). line_kind n l ≡ line.Text) (content l) (map content ls) h.0 (texts_at n ls h.1)
 
 pub record OwnLines (n : ℕ) (ps : List Item) : Type 0 where
-  pub items : begins_unmarked (content ps) ≡ true → AreTextItems (sources (content ps)) (content ps)
+  pub items : marks_len (content ps) ≡ 0 → AreTextItems (sources (content ps)) (content ps)
   pub stays : StayText a_paragraph n (content ps)
 
 pub own_lines : (n : ℕ) (ps : List Item) (ts : List (List Item)) (y : Item) (ys : List Item) → ps ≡ y ∷ ys → full_lines ps ≡ ts → AreLinesAt n ts → OwnLines n ps
 own_lines n [] ts y ys is e h = cc
 own_lines n (x ∷ ps) ts y ys is e h =
     let own : lines (content (x ∷ ps)) ≡ map content ts = content_lines x ps ∙ ap (map content) e in
+    let texts : All (λ (l : List Item). line_kind n l ≡ line.Text) (lines (content (x ∷ ps))) =
+    subst (λ (ls : List (List Item)). All (λ (l : List Item). line_kind n l ≡ line.Text) ls) (sym own) (texts_at n ts h) in
     record {
-      items = λ m. record {
-        source = refl;
-        are_lines = subst (λ (ls : List (List Item)). All IsTextLine ls) (sym own) (texts_are ts (own_texts n ts h));
-        unled = unmarked_unled (content (x ∷ ps)) m;
-        unmarked = m;
-      };
-      stays = subst (λ (ls : List (List Item)). All (λ (l : List Item). line_kind n l ≡ line.Text) ls) (sym own) (texts_at n ts h);
+      items = λ m. record { source = refl; seen = texts_seen n (lines (content (x ∷ ps))) texts; unled = m };
+      stays = texts;
     }
 
 paragraph_leads : (ls : List (List Item)) → full_lines (joined ls) ≡ ls → empty_end (joined ls) ≡ [] ∷ [] → AllTrue (open_after [] (written_rows 0 ls))
@@ -276,7 +266,7 @@ placed_own page all h =
       own = own;
       rest = ending text ++ last;
       is = items ∙ ap (λ (ys : List Item). front ++ (ys ++ last)) (sym (content_ending text)) ∙ ap (λ (ys : List Item). front ++ ys) (append_assoc own (ending text) last);
-      items = told.items (ap begins_unmarked h.is ∙ h.unmarked);
+      items = told.items (ap marks_len h.is ∙ h.unled);
       ended = ended_bytes front (own_first front (text ++ last) breaks) whole;
       leads = paragraph_leads h.before are whole h.in_cells h.apart;
       stays = subst (λ (m : ℕ). StayText a_paragraph m own) (sym size) told.stays;

@@ -12,17 +12,14 @@ use Rattle.wt_text_edit_laws.specs.BlockSpots.{BlockSpot, spots_source, EndBefor
 use Rattle.wt_text_edit_laws.specs.NoCalls.{NonePairs}
 use Rattle.wt_text_edit_laws.specs.PageCuts.{BeginsBreak, EndsThere}
 use Rattle.wt_text_edit_laws.specs.ReadContents.{begins_shown, IsReadContent}
-use Rattle.wt_text_edit_laws.specs.TextBetween.{AreEnded, HasEndsBefore, LineEnds}
+use Rattle.wt_text_edit_laws.specs.TextBetween.{AreEnded, HasEndsBefore, BeginsShown, LineEnds}
 use Rattle.wt_text_edit_laws.specs.TextBlocks.{TextBlock, source_of, block_items}
-use Rattle.wt_text_edit_laws.proofs.Between.Fronts.{reads_either, alone_reads}
-use Rattle.wt_text_edit_laws.proofs.Between.LineComments.{lines_ended}
-use Rattle.wt_text_edit_laws.proofs.Blocks.BlockReading.{block_front, block_shown}
+use Rattle.wt_text_edit_laws.proofs.Blocks.BlockReading.{content_begins, block_shown}
 use Rattle.wt_text_edit_laws.proofs.Cuts.ItemCuts.{page_cut, cut_from, alone_after}
-use Rattle.wt_text_edit_laws.proofs.Cuts.SettledEnds.{settled_ends, line_settled}
+use Rattle.wt_text_edit_laws.proofs.Cuts.SettledEnds.{settled_ends}
+use Rattle.wt_text_edit_laws.proofs.Cuts.Seen.{shown_alone}
 use Rattle.wt_text_edit_laws.proofs.Cuts.Utf8Cuts.{ended_utf8, there_utf8}
-use Rattle.wt_text_edit_laws.proofs.Paragraphs.Texts.{begins_before, here_begins, one_line}
 use Rattle.wt_text_edit_laws.proofs.Prose.InFront.{reads_nothing, read_items}
-use Rattle.wt_text_edit_laws.proofs.Prose.Uncommented.{BeginsUncommented}
 use Rattle.wt_beside_laws.proofs.Derived.BlockContents.{there_begins}
 use Rattle.wt_beside_laws.proofs.Derived.CutPages.{ends_plain, begins_line, ends_line, line_ended}
 use Rattle.wt_called_edit_laws.specs.CallingBlocks.{IsContentIn, AreContentsInFolder, spots_with_calls, items_past}
@@ -37,19 +34,10 @@ use Rattle.wt_called_edit_laws.proofs.Cells.PlacedAmong.{placed}
 own_sources : (k : TextBlock) (q : List ℕ) → IsReadContent k q → sources (block_items k q) ≡ source_of k q
 own_sources k q h = ap sources (sym h.unended) ∙ page_sources (source_of k q)
 
--- no comment begins it
-pub block_begins : (k : TextBlock) (q rest : List ℕ) → IsReadContent k q → EndsThere rest → BeginsUncommented (source_of k q ++ rest)
-block_begins k q [] h e = let r = block_front k q [] [] h (inr tt) tt reads_nothing in r.begins
-block_begins k q (b ∷ rest) h e =
-    let line : List ℕ = source_of k q in
-    let break : List ℕ = 10 ∷ [] in
-    let cut = page_cut line break (block_items k q) (char None 10 ∷ []) h.ended (own_sources k q h) in
-    let ends : HasEndsBefore [] (line ++ break) = line_settled line (cut.settles (inr refl)) in
-    let one = block_front k q break (page_items break) h (inr ends) refl (reads_either break (page_items break) (here_begins break refl) (alone_reads break)) in
-    let begins : BeginsUncommented (line ++ break) = one.begins in
-    let P : ℕ → Type 0 = λ (c : ℕ). BeginsUncommented (line ++ c ∷ rest) in
-    subst P (sym e) (subst BeginsUncommented (append_assoc line break rest)
-    (begins_before line rest (lines_ended (line ++ break) (one_line line)) (record { uncommented = begins.is })))
+-- no line of comments begins it
+pub block_begins : (k : TextBlock) (q rest : List ℕ) → IsReadContent k q → EndsThere rest → BeginsShown (source_of k q ++ rest)
+block_begins k q [] h e = content_begins k q [] h tt
+block_begins k q (b ∷ rest) h e = content_begins k q (b ∷ rest) h e
 
 some_bytes : (bs : List ℕ) (xs : List Item) → page_items bs ≡ xs → begins_shown xs ≡ true → 0 < length bs
 some_bytes [] xs e s =
@@ -80,7 +68,7 @@ part_read s rest zs c e u ended there h =
     let second = cut_from after line rest own c.rest first.behind own_source in
     let behind : page_items rest ≡ c.rest = alone_after (after_all (lexer Page) after line) rest c.rest (there_begins rest there) second.behind in
     let all : page_items (line ++ rest) ≡ own ++ c.rest =
-    alone_after after (line ++ rest) (own ++ c.rest) (block_begins s.block s.text rest h there) first.behind in
+    shown_alone after (line ++ rest) (own ++ c.rest) (block_begins s.block s.text rest h there) first.behind in
     let before_parts = ended_utf8 s.before (line ++ rest) ended u in
     let line_parts = there_utf8 line rest there before_parts.1 in
     let some : 0 < length line = some_bytes line own h.unended (block_shown s.block s.text h) in

@@ -15,8 +15,8 @@ in_cell = record {
   are = refl;
   is = refl;
   in_cells = (refl, tt);
-  texts = (refl, refl, tt);
+  texts = (refl, tt);
   apart = refl;
   stops = refl;
-  unmarked = refl;
+  unled = refl;
 }

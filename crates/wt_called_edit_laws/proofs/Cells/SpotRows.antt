@@ -15,7 +15,8 @@ use Rattle.wt_text_edit_laws.specs.TypedHeadings.{Sides, AreSides, heading_line,
 use Rattle.wt_text_edit_laws.proofs.Texts.PlainRows.{text_row}
 use Rattle.wt_text_edit_laws.proofs.Prose.ProseReading.{break}
 use Rattle.wt_text_edit_laws.proofs.Prose.ProseLines.{first_ended, rest_ended}
-use Rattle.wt_text_edit_laws.proofs.Paragraphs.LineBlocks.{later_row, paragraph_rows, IsLineBlock, line_block}
+use Rattle.wt_text_edit_laws.proofs.Paragraphs.LineBlocks.{later_row, paragraph_rows, IsLineBlock}
+use Rattle.wt_text_edit_laws.proofs.Paragraphs.SeenLines.{seen_block}
 use Rattle.wt_text_edit_laws.proofs.Headings.HeadingRows.{heading_row, round_then, round_last, round_is}
 use Rattle.wt_text_edit_laws.proofs.Paragraphs.Joining.{lines_join, rows_join}
 use Rattle.wt_text_edit_laws.proofs.Paragraphs.Marks.{AreMarks, EndsInMarks, marks_end, with_lead, led, rows_led}
@@ -30,7 +31,7 @@ use Rattle.wt_called_edit_laws.proofs.Cells.SpotSlots.{marks_of, slot_of, end_be
 -- ---- a block's own rows
 
 pub text_block : (xs : List Item) → AreTextItems xs → IsLineBlock xs
-text_block xs h = line_block xs h.unled h.are_lines
+text_block xs h = seen_block xs h.unled h.seen
 
 abbrev pub block_rows : (k : TextBlock) (xs : List Item) → AreItemsOf k xs → List Item → List Item → List Row
 block_rows a_paragraph xs h ms tail = led ms (own_rows xs (text_block xs h) tail)

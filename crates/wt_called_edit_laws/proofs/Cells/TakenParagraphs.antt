@@ -9,8 +9,8 @@ use Rattle.wt_page.specs.Rows.{Row}
 use Rattle.wt_text_edit_laws.specs.BlockSpots.{spots_source, AreRead}
 use Rattle.wt_text_edit_laws.specs.BodyParagraphs.{IsParagraphAt, spot_at, IsFreeParagraph}
 use Rattle.wt_text_edit_laws.specs.NoCalls.{CallsNothing}
-use Rattle.wt_text_edit_laws.specs.PageCuts.{begins_unmarked}
 use Rattle.wt_text_edit_laws.specs.TextBlocks.{a_paragraph}
+use Rattle.wt_text_edit_laws.proofs.Paragraphs.SeenLines.{lines_seen}
 use Rattle.wt_text_edit_laws.proofs.Cuts.ItemCuts.{behind_alone}
 use Rattle.wt_beside_laws.specs.Calm.{AreCalm}
 use Rattle.wt_beside_laws.specs.Content.{AreKept}
@@ -48,8 +48,8 @@ record OwnItems (own rest : List Item) : Type 0 where
   alone : page_items (sources own) ≡ own
   behind : page_items (sources rest) ≡ rest
 
-own_items : (page : List ℕ) (r : Row) (rs : List Row) (p : IsParagraphAt (page_items page) r rs) → begins_unmarked p.own ≡ true → OwnItems p.own p.rest
-own_items page r rs p u =
+own_items : (page : List ℕ) (r : Row) (rs : List Row) (p : IsParagraphAt (page_items page) r rs) → OwnItems p.own p.rest
+own_items page r rs p =
     let sb : List ℕ = sources p.before in
     let so : List ℕ = sources p.own in
     let sr : List ℕ = sources p.rest in
@@ -57,7 +57,7 @@ own_items page r rs p u =
     let joined : page_items ((sb ++ so) ++ sr) ≡ (p.before ++ p.own) ++ p.rest =
     ap page_items (append_assoc sb so sr) ∙ all ∙ sym (append_assoc p.before p.own p.rest) in
     record {
-      alone = own_alone p.before p.own p.rest all u;
+      alone = own_alone p.before p.own p.rest all (record { seen = lines_seen p.own p.text.seen; unled = p.text.unled });
       behind = behind_alone (sb ++ so) sr (p.before ++ p.own) p.rest (there_begins sr (there_so p.rest p.ends)) joined (flat_map-append source p.before p.own);
     }
 
@@ -66,7 +66,7 @@ pub body_styled : (page : List ℕ) (r : Row) (rs : List Row) (p : IsParagraphAt
 body_styled page r rs p f held kept calm =
     let so : List ℕ = sources p.own in
     let read : AreRead (spot_at p.before p.own ∷ []) (sources p.rest) = body_read page r rs p f in
-    let items : OwnItems p.own p.rest = own_items page r rs p f.unmarked in
+    let items : OwnItems p.own p.rest = own_items page r rs p in
     let whole : CallsNothing (p.before ++ (p.own ++ p.rest)) = subst CallsNothing p.is f.calls_nothing in
     let own : CallsNothing p.own =
     calm_between p.before p.own p.rest (first_unbraced (sources p.rest) p.rest (there_so p.rest p.ends) items.behind) whole in

@@ -13,16 +13,14 @@ use Rattle.wt_part_laws.specs.Lexer.{lexer}
 use Rattle.wt_part_laws.specs.Scans.{after_all}
 use Rattle.wt_part_laws.specs.Apart.{AreMet}
 use Rattle.wt_part_laws.proofs.MetWords.{words_meet}
-use Rattle.wt_text_edit_laws.specs.TextBetween.{BeginsShown}
 use Rattle.wt_text_edit_laws.specs.TextBlocks.{TextBlock, source_of, block_items}
 use Rattle.wt_text_edit_laws.specs.ReadContents.{IsReadContent}
 use Rattle.wt_text_edit_laws.specs.BlockSpots.{BlockSpot, spots_source, EndBeforeBlocks, IsReadSpot, AreReadSpots}
 use Rattle.wt_text_edit_laws.proofs.Prose.Uncommented.{BeginsUncommented, either_flag}
-use Rattle.wt_text_edit_laws.proofs.Prose.InFront.{Reads, read_items}
 use Rattle.wt_text_edit_laws.proofs.Between.LineForms.{marks_settle}
-use Rattle.wt_text_edit_laws.proofs.Between.Shown.{shown_before, shown_reads}
 use Rattle.wt_text_edit_laws.proofs.Paragraphs.Texts.{EndsHere, here_begins}
-use Rattle.wt_text_edit_laws.proofs.Blocks.BlockReading.{spots_items, block_front, block_shown, further_ends, further_reads}
+use Rattle.wt_text_edit_laws.proofs.Blocks.BlockReading.{ReadsShown, shown_items, spots_items, block_front, further_ends, further_reads}
+use Rattle.wt_text_edit_laws.proofs.Cuts.Seen.{shown_cuts}
 use Rattle.wt_called_edit_laws.proofs.Parts.Uncrossed.{break_cut, part_settles}
 
 -- ---- a text before one that begins with no comment
@@ -48,7 +46,7 @@ line_met q (b ∷ r) xs e is =
 -- ---- the parts of a page
 
 pub block_reads : (s : BlockSpot) (ss : List BlockSpot) (behind : List ℕ) → IsReadSpot s → AreReadSpots ss behind → EndBeforeBlocks (s ∷ ss) behind
-    → Reads (source_of s.block s.text ++ spots_source ss behind) (block_items s.block s.text ++ spots_items ss behind)
+    → ReadsShown (source_of s.block s.text ++ spots_source ss behind) (block_items s.block s.text ++ spots_items ss behind)
 block_reads s ss behind h f b =
     block_front s.block s.text (spots_source ss behind) (spots_items ss behind) h.block b.1 (further_ends ss behind f) (further_reads ss behind f b.2)
 
@@ -62,7 +60,7 @@ block_met s ss behind h f b =
     let own : List ℕ = source_of s.block s.text in
     let rest : List ℕ = spots_source ss behind in
     let items : page_items (own ++ rest) ≡ page_items own ++ spots_items ss behind =
-    read_items (own ++ rest) (block_items s.block s.text ++ spots_items ss behind) (block_reads s ss behind h f b)
+    shown_items (own ++ rest) (block_items s.block s.text ++ spots_items ss behind) (block_reads s ss behind h f b)
     ∙ sym (ap (λ (xs : List Item). xs ++ spots_items ss behind) (block_alone s.block s.text h.block)) in
     line_met own rest (spots_items ss behind) (further_ends ss behind f) items
 
@@ -70,11 +68,8 @@ pub before_met : (s : BlockSpot) (ss : List BlockSpot) (behind : List ℕ) → I
     → AreMet (words Page s.before) (words Page (source_of s.block s.text ++ spots_source ss behind)) (words Page (spots_source (s ∷ ss) behind))
 before_met s ss behind h f b =
     let rest : List ℕ = source_of s.block s.text ++ spots_source ss behind in
-    let items : List Item = block_items s.block s.text ++ spots_items ss behind in
-    let r : Reads rest items = block_reads s ss behind h f b in
-    let shown : BeginsShown rest =
-    shown_reads rest items r (shown_before (block_items s.block s.text) (spots_items ss behind) (block_shown s.block s.text h.block)) in
-    words_meet Page s.before rest (marks_settle rest false 0 s.before shown h.ended b.0) (begins_same (after_all (lexer Page) false s.before) rest r.begins)
+    let r = block_reads s ss behind h f b in
+    words_meet Page s.before rest (marks_settle rest false 0 s.before r.shown h.ended b.0) (shown_cuts (after_all (lexer Page) false s.before) rest r.shown)
 
 -- ---- a text that is empty, or begins with a line break, begins with characters
 

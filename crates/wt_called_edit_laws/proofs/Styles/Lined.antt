@@ -13,6 +13,9 @@ use Rattle.wt_expand.specs.Work.{Entry, Pages}
 use Rattle.wt_part_laws.specs.Expanded.{part_items}
 use Rattle.wt_part_laws.specs.MovedCalls.{AreMoved}
 use Rattle.wt_typed_blocks.proofs.Lines.{unguarded_begins}
+use Rattle.wt_lines.specs.Lines.{lines}
+use Rattle.wt_text_edit_laws.proofs.Cuts.Seen.{stands_begins}
+use Rattle.wt_text_edit_laws.proofs.Paragraphs.SeenLines.{texts_seen}
 use Rattle.wt_text_edit_laws.proofs.Between.ClosingTags.{Unclosed}
 use Rattle.wt_text_edit_laws.proofs.Prose.InFront.{read_items}
 use Rattle.wt_text_edit_laws.specs.ReadContents.{BeginsParagraph, IsFirmlyRead, IsReadContent, begins_shown}
@@ -23,7 +26,7 @@ use Rattle.wt_beside_laws.proofs.Groups.CalledLines.{items_own}
 use Rattle.wt_beside_laws.proofs.LineKinds.{guard_opens, letter_opens}
 use Rattle.wt_beside_laws.proofs.Made.Closes.{OpenFor, content_closes}
 use Rattle.wt_beside_laws.proofs.StyledGroups.Paragraphs.{given_lines, given_unled}
-use Rattle.wt_beside_laws.specs.Called.{AreGiven, HasUncalled, owns_in}
+use Rattle.wt_beside_laws.specs.Called.{AreGiven, HasUncalled, items_with, owns_in}
 use Rattle.wt_beside_laws.specs.Content.{content_items, guard_items, letter_items}
 use Rattle.wt_beside_laws.specs.Lines.{AreCharacters}
 use Rattle.wt_beside_laws.specs.NodeItems.{node_items}
@@ -78,24 +81,28 @@ first_shown s (styled kind opening closing inside t) w v r b =
 
 -- ---- it is read by itself
 
+ended_so : (pages : Pages) (s : Setting) (t : StyledContent) → IsStyledWritten pages s t
+    → page_items (spelled s (signs_in t) ++ 10 ∷ []) ≡ page_items (spelled s (signs_in t)) ++ char None 10 ∷ []
+ended_so pages s t h =
+    let signs : List ContentSign = signs_in t in
+    let f : IsFirmlyRead (spelled s signs) = called_firm s signs h.of_block (all_read pages signs h.each) in
+    f.firm (10 ∷ []) break_stands refl ∙ ap (λ (xs : List Item). page_items (spelled s signs) ++ xs) (read_items (10 ∷ []) (char None 10 ∷ []) break_read)
+
 begins_so : (pages : Pages) (s : Setting) (t : StyledContent) → IsStyledWritten pages s t → BeginsParagraph (spelled s (signs_in t))
 begins_so pages s t h =
     let signs : List ContentSign = signs_in t in
     let f : IsFirmlyRead (spelled s signs) = called_firm s signs h.of_block (all_read pages signs h.each) in
-    record {
-      alone = subst StandsBehind (append-nil (spelled s signs)) (f.uncommented [] nothing_stands tt);
-      before_break = f.uncommented (10 ∷ []) break_stands refl;
-      shown = subst (λ (xs : List Item). begins_shown xs ≡ true) (sym (called_alone s signs h.of_block (all_read pages signs h.each)))
-          (first_shown s t h.of_block h.characters (all_read pages signs h.each) h.some);
-    }
+    stands_begins (spelled s signs) (subst StandsBehind (append-nil (spelled s signs)) (f.uncommented [] nothing_stands tt))
+    (f.uncommented (10 ∷ []) break_stands refl) (ended_so pages s t h)
+    (subst (λ (xs : List Item). begins_shown xs ≡ true) (sym (called_alone s signs h.of_block (all_read pages signs h.each)))
+    (first_shown s t h.of_block h.characters (all_read pages signs h.each) h.some))
 
 styled_read : (pages : Pages) (s : Setting) (t : StyledContent) → IsStyledWritten pages s t → IsReadContent a_paragraph (spelled s (signs_in t))
 styled_read pages s t h =
     let signs : List ContentSign = signs_in t in
-    let f : IsFirmlyRead (spelled s signs) = called_firm s signs h.of_block (all_read pages signs h.each) in
     record {
       utf8 = from_utf8 s [] signs h.characters (all_utf8 pages signs h.each);
-      ended = f.firm (10 ∷ []) break_stands refl ∙ ap (λ (xs : List Item). page_items (spelled s signs) ++ xs) (read_items (10 ∷ []) (char None 10 ∷ []) break_read);
+      ended = ended_so pages s t h;
       unended = refl;
       begins = begins_so pages s t h;
     }
@@ -113,7 +120,7 @@ text_items pages i s t h =
     let v : AreCharacters signs = h.characters in
     let g : AreGiven signs owns = all_given pages i (signs_in t) h.each in
     subst AreTextItems (sym (styled_gives pages i s t h))
-    (record { are_lines = given_lines 0 s signs owns h.of_block v g; unled = given_unled s signs owns h.of_block v g; own_breaks = items_own s [] signs owns g })
+    (record { seen = texts_seen 0 (lines (items_with s [] signs owns)) (given_lines 0 s signs owns h.of_block v g); unled = given_unled s signs owns h.of_block v g; own_breaks = items_own s [] signs owns g })
 
 styled_content : (pages : Pages) (s : Setting) (t : StyledContent) → IsStyledWritten pages s t → IsContentIn pages a_paragraph (spelled s (signs_in t))
 styled_content pages s t h =

@@ -18,7 +18,7 @@ use Rattle.wt_beside_laws.proofs.FlatAgain.{nowiki_kept}
 use Rattle.wt_beside_laws.proofs.Made.Closes.{guard_closes}
 use Rattle.wt_beside_laws.proofs.Marks.Shown.{kept_node}
 use Rattle.wt_beside_laws.proofs.Styled.StyledAgain.{quotes_utf8}
-use Rattle.wt_beside_laws.proofs.Styled.StyledNodes.{mark_kept, mark_page, put_node, put_unbroken}
+use Rattle.wt_beside_laws.proofs.Styled.StyledNodes.{mark_kept, mark_page, put_node, put_closed, put_unbroken}
 use Rattle.wt_beside_laws.specs.Called.{IsOwnNode}
 use Rattle.wt_beside_laws.specs.Content.{guard_items}
 use Rattle.wt_beside_laws.specs.FlatBlocks.{IsSealed}
@@ -99,7 +99,7 @@ put_read t p =
     }
 
 pub put_own : (t : Thing) → IsPut t → IsOwnNode t (node_items t.source)
-put_own t p = record { is = refl; node = put_node t p; inside = no_mark t p; unbroken = put_unbroken t p }
+put_own t p = record { is = refl; node = put_node t p; closed = put_closed t p; inside = no_mark t p; unbroken = put_unbroken t p }
 
 -- ---- it is a part of the page by itself, and calls nothing
 

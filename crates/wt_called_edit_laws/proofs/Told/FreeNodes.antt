@@ -37,7 +37,7 @@ use Rattle.wt_text_edit_laws.proofs.Blocks.Untangled.{opens_same}
 use Rattle.wt_text_edit_laws.proofs.Paragraphs.PartTrees.{ArePlain, plain_tree}
 use Rattle.wt_text_edit_laws.proofs.Texts.TypedShown.{both_of_page}
 use Rattle.wt_beside_laws.proofs.Made.OldBlocks.{no_group}
-use Rattle.wt_beside_laws.proofs.Made.OwnPages.{content_means, content_ordinary}
+use Rattle.wt_beside_laws.proofs.Derived.NodesHave.{full_nodes}
 use Rattle.wt_called_edit_laws.specs.EditsAt.{IsStanding, StandsTo, StandsAmong, AllStand}
 use Rattle.wt_called_edit_laws.specs.ItemSpots.{ItemSpot, items_of_spots, placed_items, ArePlaced, SameItems, AreNewIn}
 use Rattle.wt_called_edit_laws.specs.PlacedSpots.{IsShut, AreShut, UntangledTo, UntangledAmong, AllUntangled}
@@ -78,20 +78,6 @@ mutual
       let r = all_split (tree_items (tree_at t f)) (held t fs) e in
       full_both t (places_in f) (all_places fs) (frame_full t f part i.0 r.0 full.0 full.1) (frames_full t fs part i.1 r.1 full.2)
 
--- ---- by itself it has no group
-
-alone_plain : (u : ItemTree) → IsFullTree u → ArePlain (u ∷ [])
-alone_plain u h = record {
-  of_page = both_of_page (tree_items u ++ []) [] (both_of_page (tree_items u) [] h.of_page refl) refl;
-  none_empty = (h.holds, h.full, tt);
-}
-
-pub block_ungrouped : (k : TextBlock) (q : List ℕ) → OwnRead k q → IsFullTree (block_tree k q) → HasNoGroups (source_of k q)
-block_ungrouped k q r h =
-    let means : meaning (page_items (source_of k q)) ≡ body_with (block_tree k q ∷ []) = content_means k q r.is r.unended in
-    subst HasNoGroup (sym (ap (annotated [] (group_data [])) means ∙ plain_tree (block_tree k q ∷ []) (alone_plain (block_tree k q) h)))
-    (refl, blocks_ungrouped 1 [] (block_tree k q ∷ []) (content_ordinary k q r.utf8 r.is r.unended r.calm, tt))
-
 -- ---- nothing open is in it, so it isn't tangled
 
 no_text_call : (r : Option Ranges) → touches_text_call [] r ≡ false
@@ -120,7 +106,7 @@ block_untangled k q r e = record {
 }
 
 block_free : (k : TextBlock) (q : List ℕ) → OwnRead k q → IsFullTree (block_tree k q) → IsShut k q → IsFreeBlock k q
-block_free k q r h e = record { ungrouped = block_ungrouped k q r h; untangled = block_untangled k q r e }
+block_free k q r h e = record { full = full_nodes k q r.utf8 r.is r.unended r.calm h.full; untangled = block_untangled k q r e }
 
 -- ---- so of all blocks of the page
 

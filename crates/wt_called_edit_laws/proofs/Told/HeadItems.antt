@@ -23,7 +23,7 @@ use Rattle.wt_page.specs.Lines.{ending}
 use Rattle.wt_page.specs.Rows.{signs}
 use Rattle.wt_page.proofs.Ends.{content_ending}
 use Rattle.wt_text_edit_laws.specs.LonePages.{page_chars}
-use Rattle.wt_text_edit_laws.specs.PageCuts.{AreHeadingItems, begins_unmarked, EndsClosed}
+use Rattle.wt_text_edit_laws.specs.PageCuts.{AreHeadingItems, EndsClosed}
 use Rattle.wt_text_edit_laws.specs.TextBetween.{HasEnds}
 use Rattle.wt_text_edit_laws.specs.TextBlocks.{a_heading, source_of}
 use Rattle.wt_text_edit_laws.specs.TypedHeadings.{Sides, equals, AreBlanks, AreIdle, NoBreaks, IsHeadingInside}
@@ -34,6 +34,7 @@ use Rattle.wt_text_edit_laws.proofs.Headings.HeadingRows.{inside_signs}
 use Rattle.wt_text_edit_laws.proofs.Headings.HeadingSigns.{line_signs, body_signs, core_is, round, AreSeen, open_seen, inside_seen}
 use Rattle.wt_beside_laws.proofs.Derived.BodyRead.{parts_are}
 use Rattle.wt_called_edit_laws.specs.LinedHeadings.{blanks_behind, sides_of, text_of, IsLinedHeading}
+use Rattle.wt_beside_laws.proofs.Derived.BlockContents.{BlockSeen}
 use Rattle.wt_called_edit_laws.proofs.Cells.PlacedBlocks.{own_alone}
 use Rattle.wt_called_edit_laws.proofs.Told.HeadLevels.{core_cut}
 use Rattle.wt_called_edit_laws.proofs.Told.HeadParts.{LineCut, line_cut, parts_joined}
@@ -457,13 +458,13 @@ form_equals : (v : Bool) → ◌≡◌ {A = ℕ} (if v then 257 else 256) 61 →
 form_equals true e = omega (arith, e)
 form_equals false e = omega (arith, e)
 
--- no mark is first
-pub equals_unmarked : (xs : List Item) → begins (codes "=") (signs xs) ≡ true → begins_unmarked xs ≡ true
-equals_unmarked [] e = cc
-equals_unmarked (char o b ∷ xs) e =
+-- something is shown first
+pub equals_seen : (xs : List Item) → begins (codes "=") (signs xs) ≡ true → BlockSeen xs
+equals_seen [] e = absurd (cc)
+equals_seen (char o b ∷ xs) e =
     let equal : b ≡ 61 = begins_get (codes "=") (b ∷ signs xs) e 0 (omega arith) in
-    subst (λ (c : ℕ). begins_unmarked (char o c ∷ xs) ≡ true) (sym equal) refl
-equals_unmarked (whole f o bs ∷ xs) e = absurd (form_equals (is_mark_form f) (begins_get (codes "=") (sign (whole f o bs) ∷ signs xs) e 0 (omega arith)))
+    subst (λ (c : ℕ). BlockSeen (char o c ∷ xs)) (sym equal) (record { seen = refl; unled = refl })
+equals_seen (whole f o bs ∷ xs) e = absurd (form_equals (is_mark_form f) (begins_get (codes "=") (sign (whole f o bs) ∷ signs xs) e 0 (omega arith)))
 
 -- A line of a page, before these items of it: where none is behind the line, it holds no mark that nothing ends.
 pub lined_heading : (n : ℕ) (page : List ℕ) (before l behind others : List Item) → page_items page ≡ before ++ (l ++ behind) → IsRun goes_on l others → AllOwn l
@@ -491,7 +492,7 @@ lined_heading n page before l behind others e run own breaks h closed = by (line
     alone : page_items (sources xs) ≡ xs
     alone =
         own_alone before xs (ending l ++ behind) (ap page_items (parts_are page before xs (ending l ++ behind) there) ∙ there)
-        (equals_unmarked xs (begins_content l h.first))
+        (equals_seen xs (begins_content l h.first))
 
     by : (ending l ≡ char None 10 ∷ []) ⊎ (ending l ++ others ≡ []) → AreHeadingItems (sides_of xs) (text_of xs) xs
     by (inl f) = told (items_end page before xs behind c mine (there ∙ ap (λ (ys : List Item). before ++ (xs ++ (ys ++ behind))) f))

@@ -14,11 +14,11 @@ use Rattle.wt_text_edit_laws.specs.PageCuts.{begins_unmarked, BeginsBreak, EndsT
 use Rattle.wt_text_edit_laws.specs.TextBetween.{AreEnded}
 use Rattle.wt_text_edit_laws.specs.TextBlocks.{TextBlock, source_of, block_items}
 use Rattle.wt_text_edit_laws.proofs.Between.BraceWords.{pairs_behind}
+use Rattle.wt_text_edit_laws.proofs.Between.Fronts.{items_from}
 use Rattle.wt_text_edit_laws.proofs.Cuts.ItemCuts.{cut_from, page_cut, front_alone, alone_after}
 use Rattle.wt_text_edit_laws.proofs.Cuts.Unmarked.{unmarked_begins}
 use Rattle.wt_text_edit_laws.proofs.Cuts.Utf8Cuts.{ended_utf8, there_utf8}
-use Rattle.wt_text_edit_laws.proofs.Prose.Uncommented.{BeginsUncommented}
-use Rattle.wt_beside_laws.proofs.Derived.BlockContents.{block_source, there_begins, read_alone, block_read, block_unmarked, unmarked_joined, first_unbraced, calm_between}
+use Rattle.wt_beside_laws.proofs.Derived.BlockContents.{block_source, there_begins, read_alone, block_read, BlockSeen, block_seen, seen_with, seen_alone, first_unbraced, calm_between}
 use Rattle.wt_called_edit_laws.specs.AnyBlocks.{open_behind_part, past_break}
 use Rattle.wt_called_edit_laws.specs.ItemSpots.{items_of_spots, placed_items}
 use Rattle.wt_called_edit_laws.specs.PlacedSpots.{AreFurtherIn, AreBlocksIn}
@@ -58,10 +58,8 @@ spot_is s rest zs c e u calm closed ended there =
     let own_source : sources c.own ≡ line = block_source s.block s.text c.own c.block in
     let second = cut_from a line rest c.own c.rest first.behind own_source in
     let behind : page_items rest ≡ c.rest = alone_after (after_all (lexer Page) a line) rest c.rest (there_begins rest there) second.behind in
-    let unmarked : begins_unmarked (c.own ++ c.rest) ≡ true = unmarked_joined c.own c.rest rest (block_unmarked s.block s.text c.own c.block) there behind in
-    let begins : BeginsUncommented (line ++ rest) =
-    unmarked_begins (line ++ rest) a (subst (λ (ys : List Item). begins_unmarked ys ≡ true) (sym first.behind) unmarked) in
-    let all : page_items (line ++ rest) ≡ c.own ++ c.rest = alone_after a (line ++ rest) (c.own ++ c.rest) begins first.behind in
+    let seen : BlockSeen (c.own ++ c.rest) = seen_with c.own c.rest (block_seen s.block s.text c.own c.block) in
+    let all : page_items (line ++ rest) ≡ c.own ++ c.rest = seen_alone a (line ++ rest) (c.own ++ c.rest) seen first.behind in
     let alone = read_alone line c.own rest c.rest own_source there closed all behind in
     let before_parts = ended_utf8 s.before (line ++ rest) ended u in
     let line_parts = there_utf8 line rest there before_parts.1 in

@@ -101,13 +101,13 @@ told_here = (
     record { are_marks = refl; ended = tt; some = omega arith; in_cells = tt; apart = tt; own = record { is_heading = refl; first = refl } },
     (
       tt,
-      record { are_marks = refl; ended = tt; some = omega arith; in_cells = tt; apart = tt; own = ((refl, refl, tt), refl) },
+      record { are_marks = refl; ended = tt; some = omega arith; in_cells = tt; apart = tt; own = ((refl, tt), refl) },
       (
         refl,
-        record { are_marks = refl; ended = refl; some = omega arith; in_cells = tt; apart = refl; own = ((refl, refl, tt), refl) },
+        record { are_marks = refl; ended = refl; some = omega arith; in_cells = tt; apart = refl; own = ((refl, tt), refl) },
         (
           refl,
-          record { are_marks = refl; ended = tt; some = omega arith; in_cells = (refl, tt); apart = refl; own = ((refl, refl, tt), refl) },
+          record { are_marks = refl; ended = tt; some = omega arith; in_cells = (refl, tt); apart = refl; own = ((refl, tt), refl) },
           refl,
         ),
       ),

@@ -8,14 +8,14 @@ use Rattle.wt_text_edit_laws.specs.BlockSpots.{BlockSpot, AreContents, AreRead}
 use Rattle.wt_text_edit_laws.specs.Contents.{IsContent}
 use Rattle.wt_text_edit_laws.specs.NoCalls.{CallsNothing}
 use Rattle.wt_text_edit_laws.specs.TextBlocks.{TextBlock, block_items}
-use Rattle.wt_beside_laws.specs.EndedNodes.{LinesOpenNoPair, AreEndedNodes}
-use Rattle.wt_beside_laws.specs.FlatBlocks.{lines_in, signs_in}
+use Rattle.wt_beside_laws.specs.EndedNodes.{AreEndedNodes}
+use Rattle.wt_beside_laws.specs.FlatBlocks.{signs_in}
 use Rattle.wt_beside_laws.specs.StyledIn.{IsStyledIn}
 use Rattle.wt_beside_laws.proofs.Own.Kept.{content_styled}
 use Rattle.wt_beside_laws.proofs.Derived.CutPages.{cut_read}
 use Rattle.wt_called_edit_laws.specs.CalledBlocks.{CallNothing}
 use Rattle.wt_called_edit_laws.specs.CalledPages.{IsCalledPage}
-use Rattle.wt_called_edit_laws.specs.PlacedLines.{spots_by, end_by, IsLinedPage}
+use Rattle.wt_called_edit_laws.specs.PlacedLines.{spots_by, end_by}
 use Rattle.wt_called_edit_laws.specs.PlacedSpots.{IsPlacedPage}
 use Rattle.wt_called_edit_laws.specs.ToldLines.{Told, lined, IsToldPage}
 use Rattle.wt_called_edit_laws.proofs.Cells.PlacedLines.{lined_in}
@@ -37,16 +37,15 @@ told_calm : (es : List Item) (ts : List Told) (t : Told) (us : List Told) → Ar
 told_calm es [] t us h c = record { is = h.0; calls_nothing = c.0 }
 told_calm es (r ∷ ts) t us h c = told_calm (ending (joined ((lined r).first ∷ (lined r).more))) ts t us h.1 c.1
 
-styled_by : (k : TextBlock) (q : List ℕ) → IsCalmContent k q → LinesOpenNoPair (lines_in k q) → AreEndedNodes (signs_in k q) → IsStyledIn k q
-styled_by k q h shut ended = content_styled k q h.is h.calls_nothing shut ended
+styled_by : (k : TextBlock) (q : List ℕ) → IsCalmContent k q → AreEndedNodes (signs_in k q) → IsStyledIn k q
+styled_by k q h ended = content_styled k q h.is h.calls_nothing ended
 
 pub spot_styled : (pages : Pages) (ss : List BlockSpot) (s : BlockSpot) (rs : List BlockSpot) (behind : List ℕ) → IsCalledPage pages (ss ++ s ∷ rs) behind
-    → LinesOpenNoPair (lines_in s.block s.text) → AreEndedNodes (signs_in s.block s.text) → IsStyledIn s.block s.text
+    → AreEndedNodes (signs_in s.block s.text) → IsStyledIn s.block s.text
 spot_styled pages ss s rs behind h = styled_by s.block s.text (spot_calm ss s rs h.outside.among.contents h.outside.among.calm)
 
 pub told_styled : (page : List ℕ) (ts : List Told) (t : Told) (us : List Told) (rest : List (List Item)) → IsToldPage page (ts ++ t ∷ us) rest
-    → LinesOpenNoPair (lines_in (lined t).block (lined t).text) → AreEndedNodes (signs_in (lined t).block (lined t).text)
-    → IsStyledIn (lined t).block (lined t).text
+    → AreEndedNodes (signs_in (lined t).block (lined t).text) → IsStyledIn (lined t).block (lined t).text
 told_styled page ts t us rest h =
     let all : List Told = ts ++ t ∷ us in
     let ss : List BlockSpot = spots_by [] (map lined all) in

@@ -41,11 +41,12 @@ use Rattle.wt_quotes.specs.Toggles.{toggle_at, toggles_of}
 use Rattle.wt_part_laws.specs.CallPieces.{AreOwnOrGiven, CallPiece, own, given, call_pieces}
 use Rattle.wt_part_laws.specs.Expanded.{part_items}
 use Rattle.wt_text_edit_laws.specs.Contents.{content_parts_of}
-use Rattle.wt_text_edit_laws.specs.Paragraphs.{IsTextLine}
+use Rattle.wt_text_edit_laws.specs.Paragraphs.{IsSeenLine}
 use Rattle.wt_text_edit_laws.specs.ReadContents.{IsReadContent}
 use Rattle.wt_text_edit_laws.specs.TextBlocks.{a_paragraph}
 use Rattle.wt_beside_laws.proofs.Groups.Cases.{a_word, gives_char, gives_word}
 use Rattle.wt_beside_laws.specs.Shown.{parts_shown_at}
+use Rattle.wt_text_edit_laws.proofs.Cuts.Seen.{stands_begins}
 use Rattle.wt_called_edit_laws.specs.CalledContents.{AreTextItems}
 use Rattle.wt_called_edit_laws.specs.CalledEdits.{IsBesideCalls}
 use Rattle.wt_called_edit_laws.specs.PartTexts.{AreSourcesAt}
@@ -98,13 +99,13 @@ is_read = record {
   utf8 = (source, (refl, refl));
   ended = refl;
   unended = refl;
-  begins = record { alone = record { uncommented = refl }; before_break = record { uncommented = refl }; shown = refl };
+  begins = stands_begins source (record { uncommented = refl }) (record { uncommented = refl }) refl refl;
 }
 
 is_text : (i : ℕ) → AreTextItems (given_items i)
 unfolding kind_of_signs
 is_text i = record {
-  are_lines = All-cons IsTextLine (given_items i) [] refl (All-nil IsTextLine);
+  seen = All-cons IsSeenLine (given_items i) [] refl (All-nil IsSeenLine);
   unled = refl;
   own_breaks = ((λ e. absurd (cc)), ((λ e. absurd (cc)), ((λ e. absurd (cc)), tt)));
 }

@@ -17,9 +17,12 @@ use Rattle.wt_inline.proofs.HeldLaws.{sources_append}
 use Rattle.wt_part_laws.specs.Expanded.{part_items}
 use Rattle.wt_typed_blocks.proofs.Lines.{unguarded_begins}
 use Rattle.wt_part_laws.specs.MovedCalls.{IsMoved, AreMoved}
+use Rattle.wt_lines.specs.Lines.{lines}
 use Rattle.wt_text_edit_laws.specs.ReadContents.{begins_shown, BeginsParagraph, IsReadContent, IsFirmlyRead}
 use Rattle.wt_text_edit_laws.specs.TextBetween.{StandsBehind}
 use Rattle.wt_text_edit_laws.specs.TextBlocks.{a_paragraph}
+use Rattle.wt_text_edit_laws.proofs.Cuts.Seen.{stands_begins}
+use Rattle.wt_text_edit_laws.proofs.Paragraphs.SeenLines.{texts_seen}
 use Rattle.wt_text_edit_laws.proofs.Between.ClosingTags.{Unclosed, unclosed_behind}
 use Rattle.wt_text_edit_laws.proofs.Prose.InFront.{Reads, reads_nothing, read_break, read_items}
 use Rattle.wt_beside_laws.specs.Called.{items_with, owns_in, HasUncalled, IsCalledIn, IsCalledContent}
@@ -136,24 +139,28 @@ break_read = read_break [] [] reads_nothing
 pub break_stands : StandsBehind (10 ∷ [])
 break_stands = let b = break_read.begins in record { uncommented = b.is }
 
+ended_so : (pages : Pages) (s : Setting) (signs : List ContentSign) → IsWrittenBeside pages s signs
+    → page_items (spelled s signs ++ 10 ∷ []) ≡ page_items (spelled s signs) ++ char None 10 ∷ []
+ended_so pages s signs h =
+    let c : IsCalledIn pages s signs = h.called in
+    let f : IsFirmlyRead (spelled s signs) = called_firm s signs c.of_block h.read in
+    f.firm (10 ∷ []) break_stands refl ∙ ap (λ (xs : List Item). page_items (spelled s signs) ++ xs) (read_items (10 ∷ []) (char None 10 ∷ []) break_read)
+
 begins_so : (pages : Pages) (s : Setting) (signs : List ContentSign) → IsWrittenBeside pages s signs → BeginsParagraph (spelled s signs)
 begins_so pages s signs h =
     let c : IsCalledIn pages s signs = h.called in
     let f : IsFirmlyRead (spelled s signs) = called_firm s signs c.of_block h.read in
-    record {
-      alone = subst StandsBehind (append-nil (spelled s signs)) (f.uncommented [] nothing_stands tt);
-      before_break = f.uncommented (10 ∷ []) break_stands refl;
-      shown = subst (λ (xs : List Item). begins_shown xs ≡ true) (sym (called_alone s signs c.of_block h.read))
-          (signs_shown s signs c.of_block c.characters h.read c.some);
-    }
+    stands_begins (spelled s signs) (subst StandsBehind (append-nil (spelled s signs)) (f.uncommented [] nothing_stands tt))
+    (f.uncommented (10 ∷ []) break_stands refl) (ended_so pages s signs h)
+    (subst (λ (xs : List Item). begins_shown xs ≡ true) (sym (called_alone s signs c.of_block h.read))
+    (signs_shown s signs c.of_block c.characters h.read c.some))
 
 read_so : (pages : Pages) (s : Setting) (signs : List ContentSign) → IsWrittenBeside pages s signs → IsReadContent a_paragraph (spelled s signs)
 read_so pages s signs h =
     let c : IsCalledIn pages s signs = h.called in
-    let f : IsFirmlyRead (spelled s signs) = called_firm s signs c.of_block h.read in
     record {
       utf8 = from_utf8 s [] signs c.characters h.utf8;
-      ended = f.firm (10 ∷ []) break_stands refl ∙ ap (λ (xs : List Item). page_items (spelled s signs) ++ xs) (read_items (10 ∷ []) (char None 10 ∷ []) break_read);
+      ended = ended_so pages s signs h;
       unended = refl;
       begins = begins_so pages s signs h;
     }
@@ -167,7 +174,7 @@ given_items pages i s signs h = written_gives pages i s signs h.called h.read h.
 text_items : (s : Setting) (signs : List ContentSign) (owns : List (List Item)) → IsCalledContent s signs owns → AreTextItems (items_with s [] signs owns)
 text_items s signs owns h =
     let xs : List Item = items_with s [] signs owns in
-    record { are_lines = called_lines 0 s signs owns h; unled = called_unled s signs owns h; own_breaks = items_own s [] signs owns h.given }
+    record { seen = texts_seen 0 (lines xs) (called_lines 0 s signs owns h); unled = called_unled s signs owns h; own_breaks = items_own s [] signs owns h.given }
 
 pub content_in : (pages : Pages) (s : Setting) (signs : List ContentSign) → IsWrittenBeside pages s signs → IsContentIn pages a_paragraph (spelled s signs)
 content_in pages s signs h =

@@ -1,11 +1,11 @@
 -- The items of a page with paragraphs and headings: those of its parts, each read as a page of its own; and it calls nothing.
 use Rattle.std.proofs.Common.{arith, refl, ◌≡◌, ◌≤◌, ℕ, zero, suc, Bool, true, false, List, [], ◌∷◌, ◌++◌, sym, ap, ◌∙◌, subst, append-nil, append_assoc, None, inl, inr}
-use Rattle.std.specs.Prelude.{◌==◌, ◌||◌}
+use Rattle.std.specs.Prelude.{◌==◌, ◌||◌, slice_index}
 use Rattle.std.proofs.lemmas.Bool.Decides.{nat_tests}
 use Rattle.std.proofs.lemmas.List.{map-append}
 use Rattle.wt_span.specs.declared.form.Mode.TheVariants.{Page}
 use Rattle.wt_span.specs.declared.form.LexKind.TheVariants.{Equals}
-use Rattle.wt_span.specs.Bytes.{is_blank}
+use Rattle.wt_span.specs.Bytes.{is_blank, is_break}
 use Rattle.wt_span.specs.Items.{Item, char, sources}
 use Rattle.wt_typed_blocks.proofs.Forms.{comment_other, other_byte, equals_byte}
 use Rattle.wt_expand.specs.PageCalls.{expanded_page}
@@ -20,13 +20,16 @@ use Rattle.wt_part_laws.specs.Scans.{after_all}
 use Rattle.wt_text_edit_laws.proofs.Prose.Uncommented.{BeginsUncommented, uncommented_other}
 use Rattle.wt_text_edit_laws.proofs.Prose.InFront.{Reads, reads_byte, reads_form, read_items}
 use Rattle.wt_text_edit_laws.specs.NoCalls.{CallsNothing}
-use Rattle.wt_text_edit_laws.specs.TextBetween.{AreEnded, HasEndsBefore, StandsBehind, LineEnds}
+use Rattle.wt_text_edit_laws.specs.TextBetween.{AreEnded, HasEndsBefore, BeginsShown, StandsBehind, LineEnds}
 use Rattle.wt_text_edit_laws.proofs.Between.LineForms.{ends_before_any}
 use Rattle.wt_text_edit_laws.proofs.Between.Fronts.{ReadsAfter, reads_after, reads_either, first_from, form_from, page_read, alone_reads, before_reads, behind_reads}
-use Rattle.wt_text_edit_laws.proofs.Between.Shown.{shown_before, shown_lines, shown_reads}
+use Rattle.wt_text_edit_laws.proofs.Between.Shown.{shown_before, shown_reads}
 use Rattle.wt_text_edit_laws.proofs.Between.LineComments.{lines_ended}
 use Rattle.wt_text_edit_laws.proofs.Between.NoCalls.{calm_expanded, calm_unrefused}
-use Rattle.wt_text_edit_laws.proofs.Paragraphs.Texts.{EndsHere, begins_before, here_begins, nothing_is, one_line, line_reads}
+use Rattle.wt_text_edit_laws.proofs.Paragraphs.Texts.{EndsHere, here_begins, nothing_is, one_line, line_reads}
+use Rattle.wt_text_edit_laws.proofs.Paragraphs.SeenLines.{lines_seen}
+use Rattle.wt_text_edit_laws.proofs.Cuts.Seen.{shown_cuts, line_shown, seen_begins}
+use Rattle.wt_text_edit_laws.proofs.Texts.TypedItems.{ItemsOf, items_cut, items_are}
 use Rattle.wt_text_edit_laws.specs.TypedHeadings.{Sides, AreBlanks, AreSides, equals, opening, closing, closing_items, heading_line, EndsLine}
 use Rattle.wt_text_edit_laws.specs.TextBlocks.{TextBlock, a_paragraph, a_heading, source_of, block_items, IsFrame, IsTypedHeading, BeginsLine}
 use Rattle.wt_text_edit_laws.specs.Contents.{IsHeadingLine, IsContentOf, IsContent, IsFirmContent, IsNewContent, TextEnds}
@@ -199,12 +202,13 @@ pub content_frame : (k : TextBlock) (q : List ℕ) → IsContent k q → HasFram
 content_frame a_paragraph q h = tt
 content_frame (a_heading s) q h = let own : IsHeadingLine s q = h.is in own.frame
 
-content_begins_block : (k : TextBlock) (q : List ℕ) → IsContentOf k q → BeginsBlock k q
-content_begins_block a_paragraph q h = record { alone = h.alone; before_break = h.before_break; shown = shown_lines (page_items q) h.are_lines }
-content_begins_block (a_heading s) q h = h.frame
+content_begins_block : (k : TextBlock) (q : List ℕ) → IsContentOf k q → page_items (source_of k q ++ 10 ∷ []) ≡ block_items k q ++ char None 10 ∷ []
+    → BeginsBlock k q
+content_begins_block a_paragraph q h e = seen_begins q e (lines_seen (page_items q) h.seen)
+content_begins_block (a_heading s) q h e = h.frame
 
 pub content_read : (k : TextBlock) (q : List ℕ) → IsContent k q → IsReadContent k q
-content_read k q h = record { utf8 = h.utf8; ended = h.ended; unended = h.unended; begins = content_begins_block k q h.is }
+content_read k q h = record { utf8 = h.utf8; ended = h.ended; unended = h.unended; begins = content_begins_block k q h.is h.ended }
 
 pub firmly_read : (k : TextBlock) (q : List ℕ) → IsFirmContent k q → IsFirmlyRead q
 firmly_read k q h = record { firm = λ rest b u. h.firm rest b; uncommented = λ rest b u. h.uncommented rest b }
@@ -218,42 +222,57 @@ pub read_frame : (k : TextBlock) (q : List ℕ) → IsReadContent k q → HasFra
 read_frame a_paragraph q h = tt
 read_frame (a_heading s) q h = h.begins
 
--- no comment begins it
-run_begins : (n : ℕ) (bs : List ℕ) → 1 ≤ n → BeginsUncommented (equals n ++ bs)
+-- no line of comments begins it
+run_begins : (n : ℕ) (bs : List ℕ) → 1 ≤ n → BeginsShown (equals n ++ bs)
 run_begins zero bs some = absurd (omega (arith, some))
-run_begins (suc n) bs some = uncommented_other 61 (equals n ++ bs) refl (comment_other 61 (equals n ++ bs) (omega arith))
+run_begins (suc n) bs some =
+    let more : List ℕ = equals n ++ bs in
+    let u : BeginsUncommented (61 ∷ more) = uncommented_other 61 more refl (comment_other 61 more (omega arith)) in
+    ap (λ (k : ℕ). is_break (slice_index (61 ∷ more) k)) u.is
 
-heading_begins : (s : Sides) (q rest : List ℕ) → AreSides s → BeginsUncommented (source_of (a_heading s) q ++ rest)
+heading_begins : (s : Sides) (q rest : List ℕ) → AreSides s → BeginsShown (source_of (a_heading s) q ++ rest)
 heading_begins s q rest a =
     let more : List ℕ = q ++ closing s in
-    subst BeginsUncommented (sym (append_assoc (opening s) more rest ∙ append_assoc (equals s.level) s.lead (more ++ rest)))
+    subst BeginsShown (sym (append_assoc (opening s) more rest ∙ append_assoc (equals s.level) s.lead (more ++ rest)))
     (run_begins s.level (s.lead ++ (more ++ rest)) a.some)
 
-paragraph_begins : (q rest : List ℕ) → BeginsParagraph q → EndsHere rest → BeginsUncommented (q ++ rest)
-paragraph_begins q [] h e = subst BeginsUncommented (sym (append-nil q)) (record { is = h.alone.uncommented })
+paragraph_begins : (q rest : List ℕ) → BeginsParagraph q → EndsHere rest → BeginsShown (q ++ rest)
+paragraph_begins q [] h e = subst BeginsShown (sym (append-nil q)) h.alone.shown
 paragraph_begins q (b ∷ r) h e =
-    let P : ℕ → Type 0 = λ (c : ℕ). BeginsUncommented (q ++ c ∷ r) in
-    subst P (sym e) (subst BeginsUncommented (append_assoc q (10 ∷ []) r) (begins_before q r (lines_ended (q ++ 10 ∷ []) (one_line q)) h.before_break))
+    let line : List ℕ = q ++ 10 ∷ [] in
+    let P : ℕ → Type 0 = λ (c : ℕ). BeginsShown (q ++ c ∷ r) in
+    subst P (sym e) (subst BeginsShown (append_assoc q (10 ∷ []) r) (line_shown line r (lines_ended line (one_line q)) h.before_break))
 
-content_begins : (k : TextBlock) (q rest : List ℕ) → BeginsBlock k q → EndsHere rest → BeginsUncommented (source_of k q ++ rest)
-content_begins a_paragraph q rest h e = paragraph_begins q rest h e
-content_begins (a_heading s) q rest h e = heading_begins s q rest h.sides
+pub content_begins : (k : TextBlock) (q rest : List ℕ) → IsReadContent k q → EndsHere rest → BeginsShown (source_of k q ++ rest)
+content_begins a_paragraph q rest h e = paragraph_begins q rest h.begins e
+content_begins (a_heading s) q rest h e = let frame : IsFrame s = h.begins in heading_begins s q rest frame.sides
+
+-- what is read so, whether a line break is before it or not, and no line of comments begins it
+pub record ReadsShown (bs : List ℕ) (xs : List Item) : Type 0 where
+  pub items : ItemsOf bs xs
+  pub shown : BeginsShown bs
+
+reads_shown : (bs : List ℕ) (xs : List Item) → BeginsShown bs → ReadsAfter false bs xs → ReadsShown bs xs
+reads_shown bs xs u r = record { items = λ after. ap (items_cut bs) (shown_cuts after bs u) ∙ r.items; shown = u }
+
+pub shown_items : (bs : List ℕ) (xs : List Item) → ReadsShown bs xs → page_items bs ≡ xs
+shown_items bs xs r = items_are bs xs r.items
 
 -- before a line break, or where the page ends
 own_front : (k : TextBlock) (q rest : List ℕ) (xs : List Item) → IsReadContent k q → LineEnds (source_of k q) rest → EndsHere rest → Reads rest xs
-    → Reads (source_of k q ++ rest) (block_items k q ++ xs)
+    → ReadsShown (source_of k q ++ rest) (block_items k q ++ xs)
 own_front k q [] xs h l e r =
     let line : List ℕ = source_of k q in
     let own : List Item = block_items k q in
-    let begins : BeginsUncommented line = subst BeginsUncommented (append-nil line) (content_begins k q [] h.begins tt) in
-    let alone : Reads line (page_items line) = reads_either line (page_items line) begins (alone_reads line) in
-    subst (λ ys. Reads (line ++ []) (own ++ ys)) (sym (nothing_is xs r))
-    (subst (λ bs. Reads bs (own ++ [])) (sym (append-nil line)) (subst (λ ys. Reads line ys) (h.unended ∙ sym (append-nil own)) alone))
+    let begins : BeginsShown line = subst BeginsShown (append-nil line) (content_begins k q [] h tt) in
+    let alone : ReadsShown line (page_items line) = reads_shown line (page_items line) begins (alone_reads line) in
+    subst (λ ys. ReadsShown (line ++ []) (own ++ ys)) (sym (nothing_is xs r))
+    (subst (λ bs. ReadsShown bs (own ++ [])) (sym (append-nil line)) (subst (λ ys. ReadsShown line ys) (h.unended ∙ sym (append-nil own)) alone))
 own_front k q (b ∷ r) xs h l e read =
     let line : List ℕ = source_of k q in
     let own : List Item = block_items k q in
-    let P : ℕ → Type 0 = λ (c : ℕ). HasEndsBefore r (line ++ c ∷ []) → Reads (c ∷ r) xs → Reads (line ++ c ∷ r) (own ++ xs) in
-    subst P (sym e) (λ m z. reads_either (line ++ 10 ∷ r) (own ++ xs) (content_begins k q (10 ∷ r) h.begins refl) (line_reads line r own xs m h.ended z)) l read
+    let P : ℕ → Type 0 = λ (c : ℕ). HasEndsBefore r (line ++ c ∷ []) → Reads (c ∷ r) xs → ReadsShown (line ++ c ∷ r) (own ++ xs) in
+    subst P (sym e) (λ m z. reads_shown (line ++ 10 ∷ r) (own ++ xs) (content_begins k q (10 ∷ r) h refl) (line_reads line r own xs m h.ended z)) l read
 
 -- one that is firm, whatever stands behind it
 pub firm_before : (q : List ℕ) → IsFirmlyRead q → IsBeforeUnclosed q
@@ -263,11 +282,6 @@ firm_before q h rest xs c r =
     let u : StandsBehind (q ++ rest) = h.uncommented rest behind c in
     let items : page_items (q ++ rest) ≡ page_items q ++ xs = h.firm rest behind c ∙ ap (λ ys. page_items q ++ ys) (read_items rest xs r) in
     reads_either (q ++ rest) (page_items q ++ xs) (record { is = u.uncommented }) (subst (λ ys. ReadsAfter false (q ++ rest) ys) items (alone_reads (q ++ rest)))
-
-pub block_front : (k : TextBlock) (q rest : List ℕ) (xs : List Item) → IsReadContent k q → TextEnds k q rest → EndsHere rest → Reads rest xs
-    → Reads (source_of k q ++ rest) (block_items k q ++ xs)
-block_front k q rest xs h (inl f) e r = unclosed_front k q rest xs (read_frame k q h) (firm_before q f) e r
-block_front k q rest xs h (inr l) e r = own_front k q rest xs h l e r
 
 -- ---- a block begins with something visible
 
@@ -282,6 +296,16 @@ begins_by_sign (a_heading s) q h = run_shown s.level s.lead (page_items q ++ clo
 pub block_shown : (k : TextBlock) (q : List ℕ) → IsReadContent k q → begins_shown (block_items k q) ≡ true
 block_shown k q h = begins_by_sign k q h.begins
 
+pub block_front : (k : TextBlock) (q rest : List ℕ) (xs : List Item) → IsReadContent k q → TextEnds k q rest → EndsHere rest → Reads rest xs
+    → ReadsShown (source_of k q ++ rest) (block_items k q ++ xs)
+block_front k q rest xs h (inl f) e r =
+    let own : Reads (source_of k q ++ rest) (block_items k q ++ xs) = unclosed_front k q rest xs (read_frame k q h) (firm_before q f) e r in
+    record {
+      items = own.items;
+      shown = shown_reads (source_of k q ++ rest) (block_items k q ++ xs) own (shown_before (block_items k q) xs (block_shown k q h));
+    }
+block_front k q rest xs h (inr l) e r = own_front k q rest xs h l e r
+
 -- ---- the parts
 
 pub read_spot : (s : BlockSpot) → IsRead s → IsReadSpot s
@@ -295,15 +319,13 @@ abbrev pub spots_items : List BlockSpot → List ℕ → List Item
 spots_items [] behind = page_items behind
 spots_items (s ∷ ss) behind = page_items s.before ++ (block_items s.block s.text ++ spots_items ss behind)
 
-in_front : (bs rest : List ℕ) (xs : List Item) → AreEnded bs → HasEndsBefore rest bs → Reads rest xs → begins_shown xs ≡ true
-    → ReadsAfter false (bs ++ rest) (page_items bs ++ xs)
-in_front bs rest xs l h r s = before_reads bs rest xs l h (shown_reads rest xs r s) (reads_after (after_all (lexer Page) false bs) rest xs r)
+in_front : (bs rest : List ℕ) (xs : List Item) → AreEnded bs → HasEndsBefore rest bs → ReadsShown rest xs → ReadsAfter false (bs ++ rest) (page_items bs ++ xs)
+in_front bs rest xs l h r = before_reads bs rest xs l h r.shown (record { items = r.items (after_all (lexer Page) false bs) })
 
 spot_reads : (s : BlockSpot) (rest : List ℕ) (xs : List Item) → IsReadSpot s → HasEndsBefore (source_of s.block s.text ++ rest) s.before → TextEnds s.block s.text rest → EndsHere rest → Reads rest xs
     → ReadsAfter false (s.before ++ (source_of s.block s.text ++ rest)) (page_items s.before ++ (block_items s.block s.text ++ xs))
 spot_reads s rest xs h b l e r =
     in_front s.before (source_of s.block s.text ++ rest) (block_items s.block s.text ++ xs) h.ended b (block_front s.block s.text rest xs h.block l e r)
-    (shown_before (block_items s.block s.text) xs (block_shown s.block s.text h.block))
 
 line_ends : (xs : List Item) → EndsLine xs → EndsHere (sources xs)
 line_ends [] e = tt

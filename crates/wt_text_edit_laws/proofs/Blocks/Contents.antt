@@ -19,7 +19,7 @@ use Rattle.wt_part_laws.specs.Rounded.{HasItems, AllHaveItems}
 use Rattle.wt_text_edit_laws.specs.ParagraphParts.{joined_parts}
 use Rattle.wt_text_edit_laws.specs.TypedPages.{IsTypedPage}
 use Rattle.wt_text_edit_laws.specs.TextBetween.{StandsBehind}
-use Rattle.wt_text_edit_laws.specs.Paragraphs.{AreLetters, IsParagraph}
+use Rattle.wt_text_edit_laws.specs.Paragraphs.{IsParagraph}
 use Rattle.wt_text_edit_laws.specs.TextBlocks.{TextBlock, a_paragraph, a_heading, source_of, block_items, block_tree, IsBlock, IsTypedIn}
 use Rattle.wt_text_edit_laws.specs.BlockSpots.{BlockSpot, SameRound, AreBlocks, AreContents}
 use Rattle.wt_text_edit_laws.specs.ReadContents.{IsFirmlyRead}
@@ -33,7 +33,8 @@ use Rattle.wt_text_edit_laws.proofs.Between.ClosingTags.{Unclosed}
 use Rattle.wt_text_edit_laws.proofs.Between.Fronts.{behind_reads}
 use Rattle.wt_text_edit_laws.proofs.Between.LessBraces.{none_unbraced, page_unbraced}
 use Rattle.wt_text_edit_laws.proofs.Paragraphs.LineBlocks.{page_breaks, all_unled, parts_source}
-use Rattle.wt_text_edit_laws.proofs.Paragraphs.Texts.{EndsHere, letters_joined, letters_stand, paragraph_lines, paragraph_utf8, paragraph_written}
+use Rattle.wt_text_edit_laws.proofs.Paragraphs.SeenLines.{texts_seen}
+use Rattle.wt_text_edit_laws.proofs.Paragraphs.Texts.{EndsHere, paragraph_lines, paragraph_utf8, paragraph_written}
 use Rattle.wt_text_edit_laws.proofs.Headings.HeadingRows.{text_inside}
 use Rattle.wt_text_edit_laws.proofs.Blocks.BlockReading.{typed_text, IsBeforeAny, HasFrame, any_front, firmly_read}
 use Rattle.wt_text_edit_laws.proofs.Blocks.BlockLeaves.{open_items, close_items, block_leaves}
@@ -74,29 +75,10 @@ typed_unended k q h =
 stands : (bs : List ℕ) → BeginsUncommented bs → StandsBehind bs
 stands bs h = record { uncommented = h.is }
 
-typed_alone : (q : List ℕ) → IsTypedPage q → StandsBehind q
-typed_alone q h = let r : Reads (q ++ []) (page_items q ++ []) = page_front q [] [] h reads_nothing in subst StandsBehind (append-nil q) (stands (q ++ []) r.begins)
-
-typed_before_break : (q : List ℕ) → IsTypedPage q → StandsBehind (q ++ 10 ∷ [])
-typed_before_break q h =
-    let r : Reads (q ++ 10 ∷ []) (page_items q ++ char None 10 ∷ []) = page_front q (10 ∷ []) (char None 10 ∷ []) h (read_break [] [] reads_nothing) in
-    stands (q ++ 10 ∷ []) r.begins
-
-paragraph_alone : (q : List ℕ) → IsParagraph q → StandsBehind q
-paragraph_alone q (inl t) = typed_alone q t
-paragraph_alone q (inr w) = letters_stand q w.are_letters
-
-paragraph_before_break : (q : List ℕ) → IsParagraph q → StandsBehind (q ++ 10 ∷ [])
-paragraph_before_break q (inl t) = typed_before_break q t
-paragraph_before_break q (inr w) =
-    letters_stand (q ++ 10 ∷ []) (subst AreLetters (sym w.ended) (letters_joined (page_items q) (char None 10 ∷ []) w.are_letters tt))
-
 paragraph_content : (q : List ℕ) → IsParagraph q → AreParagraphLines q
 paragraph_content q h = record {
-  are_lines = paragraph_lines q h;
+  seen = texts_seen 0 (lines (page_items q)) (paragraph_lines q h);
   unled = all_unled (page_items q) (paragraph_written q h).0;
-  alone = paragraph_alone q h;
-  before_break = paragraph_before_break q h;
 }
 
 content_of : (k : TextBlock) (q : List ℕ) → IsBlock k q → IsContentOf k q

@@ -18,7 +18,7 @@ use Rattle.wt_text_edit_laws.proofs.Blocks.BlockLeaves.{items_of_page}
 use Rattle.wt_text_edit_laws.proofs.Blocks.Contents.{inside_source}
 use Rattle.wt_text_edit_laws.proofs.Paragraphs.PartTrees.{ArePlain}
 use Rattle.wt_text_edit_laws.proofs.Prose.InFront.{reads_nothing, read_items}
-use Rattle.wt_text_edit_laws.proofs.Prose.ProseLines.{some_item}
+use Rattle.wt_text_edit_laws.proofs.Paragraphs.SeenLines.{seen_some}
 use Rattle.wt_text_edit_laws.proofs.Texts.TypedShown.{AllOfPage, chars_of_page, both_of_page}
 
 -- ---- all in it is the page's own
@@ -51,7 +51,7 @@ any_of_page (x ∷ xs) n h = any_by (is_page x) (list_all is_page xs) (list_any 
 pub paragraph_some : (q : List ℕ) → IsContent a_paragraph q → q ≢ []
 paragraph_some q h e =
     let own : AreParagraphLines q = h.is in
-    some_item (page_items q) own.are_lines (ap page_items e ∙ read_items [] [] reads_nothing)
+    seen_some (page_items q) own.seen (ap page_items e ∙ read_items [] [] reads_nothing)
 
 held_some : (q : List ℕ) → IsContent a_paragraph q → held_in a_paragraph q ++ [] ≢ []
 held_some q h e =

@@ -70,7 +70,7 @@ inside_of (AsSection n) k q l ts inside h f = absurd h
 inside_of Unwritten k q l ts inside h f = none_inside ts h.1
 
 mutual
-  shown_ordinary : (k : ℕ) (q : Kind) (t : Tree) → IsShownIn k q t → IsOrdinary t
+  pub shown_ordinary : (k : ℕ) (q : Kind) (t : Tree) → IsShownIn k q t → IsOrdinary t
   shown_ordinary k q (tree l ts) h =
       let inside : Type 0 = IsOrdered (texts_of_kind l.kind) ts × AreShownIn (suc k) l.kind ts in
       let own = node_kind (writing l.kind) k q l (is_childless ts) inside refl h in

@@ -20,7 +20,7 @@ use Rattle.wt_part_laws.specs.Blocks.{BeginOtherwise}
 use Rattle.wt_expand.specs.PageItems.{page_items}
 use Rattle.wt_part_laws.specs.Counts.{opened, ended}
 use Rattle.wt_text_edit_laws.specs.BodyParagraphs.{rows_of, AreBare, IsBodyChild, IsBareParagraph, IsParagraphAt}
-use Rattle.wt_text_edit_laws.specs.PageCuts.{begins_unmarked, AreTextItems}
+use Rattle.wt_text_edit_laws.specs.PageCuts.{AreTextItems}
 use Rattle.wt_text_edit_laws.specs.ParagraphBetween.{written_rows, tables_behind, rows_of_lines, AreClosed, before_marks, EndApart, EndsApart, BeginApart, EndsParagraph}
 use Rattle.wt_text_edit_laws.specs.ParagraphParts.{break, joined_parts, para_with}
 use Rattle.wt_text_edit_laws.specs.Paragraphs.{IsTextLine}
@@ -29,6 +29,7 @@ use Rattle.wt_text_edit_laws.proofs.Cuts.BodyChildren.{body_child}
 use Rattle.wt_text_edit_laws.proofs.Cuts.RowLines.{text_line, text_lines, whole_text, AllText, tables_count}
 use Rattle.wt_text_edit_laws.proofs.Cuts.TextLines.{runs_behind, runs_before, joined_is, joined_both, lines_of, whole_before, no_marks_end, ending_break, IsEnding, ending_own, content_lines, AllUnled, contents_unled, lines_unled, texts_are, some_items, ended_bytes}
 use Rattle.wt_text_edit_laws.proofs.Paragraphs.LineBlocks.{OwnBreaks, page_breaks, row_parts}
+use Rattle.wt_text_edit_laws.proofs.Paragraphs.SeenLines.{texts_seen}
 use Rattle.wt_text_edit_laws.proofs.Texts.PlainRows.{text_row}
 
 -- ---- its lines among those of the page
@@ -116,27 +117,29 @@ own_rest : (xs ys : List Item) → OwnBreaks (xs ++ ys) → OwnBreaks ys
 own_rest [] ys h = h
 own_rest (x ∷ xs) ys h = own_rest xs ys h.1
 
--- text that isn't empty
-text_of : (x : Item) (ps : List Item) (ts : List (List Item)) → full_lines (x ∷ ps) ≡ ts → AllText 0 ts → AllUnled ts
-    → (begins_unmarked (content (x ∷ ps)) ≡ true → AreTextItems (sources (content (x ∷ ps))) (content (x ∷ ps))) × (lines (content (x ∷ ps)) ≡ map content ts)
-text_of x ps ts e t u =
-    let own : lines (content (x ∷ ps)) ≡ map content ts = content_lines x ps ∙ ap (map content) e in (
-      (λ m. record {
-        source = refl;
-        are_lines = subst (λ (ls : List (List Item)). All IsTextLine ls) (sym own) (texts_are ts t);
-        unled = lines_unled (content (x ∷ ps)) (subst AllUnled (sym own) (contents_unled ts u));
-        unmarked = m;
-      }),
-      own,
-    )
-
 record OwnText (ps : List Item) (ts : List (List Item)) : Type 0 where
-  text : begins_unmarked (content ps) ≡ true → AreTextItems (sources (content ps)) (content ps)
+  text : AreTextItems (sources (content ps)) (content ps)
+  are_text : All IsTextLine (lines (content ps))
   lines_are : lines (content ps) ≡ map content ts
+
+-- text that isn't empty
+text_of : (x : Item) (ps : List Item) (ts : List (List Item)) → full_lines (x ∷ ps) ≡ ts → AllText 0 ts → AllUnled ts → OwnText (x ∷ ps) ts
+text_of x ps ts e t u =
+    let own : lines (content (x ∷ ps)) ≡ map content ts = content_lines x ps ∙ ap (map content) e in
+    let texts : All IsTextLine (lines (content (x ∷ ps))) = subst (λ (ls : List (List Item)). All IsTextLine ls) (sym own) (texts_are ts t) in
+    record {
+      text = record {
+        source = refl;
+        seen = texts_seen 0 (lines (content (x ∷ ps))) texts;
+        unled = lines_unled (content (x ∷ ps)) (subst AllUnled (sym own) (contents_unled ts u));
+      };
+      are_text = texts;
+      lines_are = own;
+    }
 
 own_text : (ps : List Item) (ts : List (List Item)) (y : Item) (ys : List Item) → ps ≡ y ∷ ys → full_lines ps ≡ ts → AllText 0 ts → AllUnled ts → OwnText ps ts
 own_text [] ts y ys is e t u = cc
-own_text (x ∷ ps) ts y ys is e t u = let r = text_of x ps ts e t u in record { text = r.0; lines_are = r.1 }
+own_text (x ∷ ps) ts y ys is e t u = text_of x ps ts e t u
 
 -- ---- what is beside it
 
@@ -222,6 +225,7 @@ placed xs r rs o l bare child =
       rest = ending text ++ last;
       is = items ∙ ap (λ (ys : List Item). front ++ (ys ++ last)) (sym (content_ending text)) ∙ ap (λ (ys : List Item). front ++ ys) (append_assoc own (ending text) last);
       text = told.text;
+      lines_are = told.are_text;
       tree = para_is (r ∷ rs) (joined_parts (lines own))
           (ap para_parts (l.rows_are ∙ rows_plain ts unled) ∙ row_parts ts text own_runs breaks ∙ ap joined_parts (sym told.lines_are));
       child = child;

@@ -174,18 +174,18 @@ no_led : (x : Item) (n : ℕ) (v : Bool) → is_mark x ≡ v → cond v (1 + n) 
 no_led x n true e h = absurd (omega (arith, h))
 no_led x n false e h = refl
 
-led_by : (x : Item) (xs ys : List Item) → marks_len (x ∷ xs) ≡ 0 → marks_len (x ∷ ys) ≡ 0
-led_by x xs ys h =
+pub led_first : (x : Item) (xs ys : List Item) → marks_len (x ∷ xs) ≡ 0 → marks_len (x ∷ ys) ≡ 0
+led_first x xs ys h =
     ap (λ (v : Bool). cond v (1 + marks_len ys) 0) (no_led x (marks_len xs) (is_mark x) refl h)
 
-content_unled : (l : List Item) → marks_len l ≡ 0 → marks_len (content l) ≡ 0
+pub content_unled : (l : List Item) → marks_len l ≡ 0 → marks_len (content l) ≡ 0
 content_unled [] h = refl
 content_unled (x ∷ []) h = by (is_break_item x)
   where
     by : (v : Bool) → marks_len (if v then [] else x ∷ []) ≡ 0
     by true = refl
     by false = h
-content_unled (x ∷ y ∷ ys) h = led_by x (y ∷ ys) (content (y ∷ ys)) h
+content_unled (x ∷ y ∷ ys) h = led_first x (y ∷ ys) (content (y ∷ ys)) h
 
 pub contents_unled : (ls : List (List Item)) → AllUnled ls → AllUnled (map content ls)
 contents_unled [] h = tt

@@ -20,11 +20,11 @@ use Rattle.wt_text_edit_laws.proofs.Between.LineRemarks.{blank_form, comment_for
 use Rattle.wt_text_edit_laws.proofs.Between.Shown.{blank_no_break}
 
 -- whether a line break is before it or not, it is the same form; or it is a line of comments
-record IsLineAt (a : Bool) (bs : List ℕ) : Type 0 where
-  size : ℕ
-  is : form_at Page a bs ≡ Some (CommentLine, size)
+pub record IsLineAt (a : Bool) (bs : List ℕ) : Type 0 where
+  pub size : ℕ
+  pub is : form_at Page a bs ≡ Some (CommentLine, size)
 
-line_or_same : (a : Bool) (bs : List ℕ) → IsLineAt a bs ⊎ (form_at Page a bs ≡ form_at Page false bs)
+pub line_or_same : (a : Bool) (bs : List ℕ) → IsLineAt a bs ⊎ (form_at Page a bs ≡ form_at Page false bs)
 unfolding form_at
 line_or_same false bs = inr refl
 line_or_same true bs = by (comment_line_len bs) refl

@@ -206,7 +206,7 @@ pub record IsLineBlock (xs : List Item) : Type 0 where
 pub block_runs : (xs : List Item) (b : IsLineBlock xs) → AreRuns goes_on (b.first ∷ b.others) xs
 block_runs xs b = subst (λ ms. AreRuns goes_on ms xs) b.are_lines (runs_are goes_on xs)
 
-block_by : (xs : List Item) (ls : List (List Item)) → full_lines xs ≡ ls → marks_len xs ≡ 0 → ending xs ≡ [] → xs ≢ [] → IsLineBlock xs
+pub block_by : (xs : List Item) (ls : List (List Item)) → full_lines xs ≡ ls → marks_len xs ≡ 0 → ending xs ≡ [] → xs ≢ [] → IsLineBlock xs
 block_by xs [] e h u some = absurd (some (subst (λ ms. AreRuns goes_on ms xs) e (runs_are goes_on xs)))
 block_by xs (l ∷ ls) e h u some = record {
   first = l;
@@ -254,7 +254,7 @@ lines_are xs b =
     ∙ sym (ap (λ ms. map content ls ++ ms) b.are_closed)
     ∙ sym (same_lines xs)
 
-own_parts : (xs : List Item) (b : IsLineBlock xs) → OwnBreaks xs → para_parts (map text_row (b.first ∷ b.others)) ≡ joined_parts (lines xs)
+pub own_parts : (xs : List Item) (b : IsLineBlock xs) → OwnBreaks xs → para_parts (map text_row (b.first ∷ b.others)) ≡ joined_parts (lines xs)
 own_parts xs b o = row_parts (b.first ∷ b.others) xs (block_runs xs b) o ∙ ap joined_parts (lines_are xs b)
 
 pub rows_para : (xs : List Item) (b : IsLineBlock xs) → OwnBreaks xs → para (paragraph_rows b.first b.others) ≡ para_with (joined_parts (lines xs))
