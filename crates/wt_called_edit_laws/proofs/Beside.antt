@@ -7,7 +7,7 @@ pub mod Making
 pub mod Cases
 pub mod PageCases
 pub mod EndCases
-mod FirstCases
+pub mod FirstCases
 mod LastCases
 pub mod BothCases
 mod LinkCases

@@ -64,6 +64,7 @@ pub mod CallNumbers
 pub mod CallingOutside
 pub mod EditableBlocks
 pub mod OthersStay
+pub mod LocalCallingEdits
 pub mod SettledEdits
 pub mod Beside
 pub mod Cells

@@ -32,7 +32,7 @@ use Rattle.wt_called_edit_laws.specs.CalledPages.{IsCalledPage}
 use Rattle.wt_called_edit_laws.specs.CalledTexts.{spots_tree}
 use Rattle.wt_called_edit_laws.specs.EditsAt.{edited_by, with_content, with_contents, IsContentEdit}
 use Rattle.wt_called_edit_laws.specs.Groups.{called_tree, GroupsStayAmong}
-use Rattle.wt_called_edit_laws.specs.LocalChange.{IsSameNode, AreLocal, no_shift, given_by, IsLocalChange}
+use Rattle.wt_called_edit_laws.specs.LocalChange.{AreLocal, no_shift, given_by, KeepsCalls, ExpandsAlike, IsLocalChange}
 use Rattle.wt_called_edit_laws.specs.Nodes.{block_at}
 use Rattle.wt_called_edit_laws.specs.Parts.{calls_to, calls_past, called_items, called_outers, called_work, work_in}
 use Rattle.wt_called_edit_laws.specs.Retyped.{AreRetyped}
@@ -185,14 +185,8 @@ same_given pages j i (s ∷ ss) (r ∷ rs) behind e b c d f =
 
 -- ---- the expansion of the new page
 
--- the same calls, each of which gives the same, and the same work
-record ExpandsAlike (pages : Pages) (page new : List ℕ) : Type 0 where
-  calls : AreMoved (expanded_page pages page).outer (expanded_page pages new).outer
-  outputs : (k : ℕ) → given_by k (expanded_page pages new).items ≡ given_by k (expanded_page pages page).items
-  work : page_work pages new ≡ page_work pages page
-
 alike : (pages : Pages) (ss rs : List BlockSpot) (behind : List ℕ) → AreAmongCalls pages ss behind → AreRetyped ss rs
-    → ExpandsAlike pages (spots_source ss behind) (spots_source rs behind)
+    → KeepsCalls pages (spots_source ss behind) (spots_source rs behind) × ExpandsAlike pages (spots_source ss behind) (spots_source rs behind)
 alike pages ss rs behind h t =
     let again = typed_again pages ss rs behind h.called t in
     let was = is_by_parts pages ss behind h.called in
@@ -201,15 +195,18 @@ alike pages ss rs behind h t =
     let news : AreContents rs = blocks_over ss rs t contents in
     let calm : CallNothing rs = calm_over ss rs t h.calm in
     let round : SameRound ss rs = same_round ss rs t in
-    let others : List OuterCall = (expanded_page pages (spots_source rs behind)).outer in
-    record {
-      calls =
-          subst (λ cs. AreMoved cs others) (sym was.outers)
-          (subst (AreMoved (called_outers pages ss behind)) (sym now.outers) (outers_moved pages ss rs behind round contents h.calm news calm));
-      outputs = λ k. ap (given_by k) now.items ∙ sym (same_given pages k 0 ss rs behind round contents h.calm news calm) ∙ sym (ap (given_by k) was.items);
-      work =
-          now.work ∙ ap (λ (ds : List Entry). entered None ∷ ds) (sym (same_work pages ss rs behind round contents h.calm news calm)) ∙ sym was.work;
-    }
+    let others : List OuterCall = (expanded_page pages (spots_source rs behind)).outer in (
+      record {
+        calls =
+            subst (λ cs. AreMoved cs others) (sym was.outers)
+            (subst (AreMoved (called_outers pages ss behind)) (sym now.outers) (outers_moved pages ss rs behind round contents h.calm news calm));
+        work = again.work;
+      },
+      record {
+        work = now.work ∙ ap (λ (ds : List Entry). entered None ∷ ds) (sym (same_work pages ss rs behind round contents h.calm news calm)) ∙ sym was.work;
+        outputs = λ k. ap (given_by k) now.items ∙ sym (same_given pages k 0 ss rs behind round contents h.calm news calm) ∙ sym (ap (given_by k) was.items);
+      },
+    )
 
 -- ---- the page
 
@@ -235,13 +232,15 @@ local_change pages ss behind f es h e =
     let nodes : AreLocalNodes es no_shift (all_filled b f.nodes) (all_filled c f.nodes) n k 0 0 =
     all_local (edit_at os) b c blocks f.nodes es content f.inner_nodes f.holders m.sends n k 0 0 no_shift refl in
     let g : GroupsStayAmong pages ss behind = groups_among pages ss behind h.outside in
-    let x = alike pages ss rs behind h.outside.among m.retyped in
     record {
       body = body_is pages ss ss behind g (retyped_self ss) ∙ sym (body_is pages ss rs behind g m.retyped);
       nodes =
           subst (λ (ts : Trees). AreLocal es no_shift ts (children u)) (sym olds)
           (subst (λ (us : Trees). AreLocal es no_shift (all_settled n 0 (all_filled b f.nodes)) us) (sym news) nodes.0);
-      calls = x.calls;
-      outputs = x.outputs;
-      work = x.work;
+      keeps = (alike pages ss rs behind h.outside.among m.retyped).0;
     }
+
+pub expands_alike : (pages : Pages) (ss : List BlockSpot) (behind : List ℕ) (f : IsFramedPage pages ss behind) (es : Edits) → IsCalledPage pages ss behind
+    → IsContentEdit (spots_tree pages ss behind) ss (paths_of f) es → ExpandsAlike pages (spots_source ss behind) (spots_source (new_spots f es) behind)
+expands_alike pages ss behind f es h e =
+    let m : AreWellSent pages ss behind f es = well_sent pages ss behind f es h e in (alike pages ss (new_spots f es) behind h.outside.among m.retyped).1

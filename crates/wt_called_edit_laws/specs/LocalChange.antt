@@ -14,6 +14,7 @@ use Rattle.wt_part_laws.specs.MovedCalls.{AreMoved}
 use Rattle.wt_part_laws.specs.Placeless.{placeless_label}
 use Rattle.wt_typed_blocks.specs.Edited.{Edited, stays, edited, round, Edits, no_edits, more_edits}
 use Rattle.wt_called_edit_laws.specs.Groups.{called_tree}
+use Rattle.wt_called_edit_laws.specs.Retyped.{AreSomeOf}
 use Rattle.wt_called_edit_laws.specs.SettledPages.{AreKindred}
 
 -- ---- places
@@ -104,13 +105,20 @@ abbrev pub given_by : ℕ → List Item → List Item
 given_by k [] = []
 given_by k (x ∷ xs) = if same_call (Some k) (call_of x) then x ∷ given_by k xs else given_by k xs
 
+-- The page that is new has the same calls, but for their places, and its expansion is the same work, or some of it.
+pub record KeepsCalls (pages : Pages) (page new : List ℕ) : Type 0 where
+  pub calls : AreMoved (expanded_page pages page).outer (expanded_page pages new).outer
+  pub work : AreSomeOf (page_work pages new) (page_work pages page)
+
+-- It is the same work, so it costs the same; and each call gives what it gave.
+pub record ExpandsAlike (pages : Pages) (page new : List ℕ) : Type 0 where
+  pub work : page_work pages new ≡ page_work pages page
+  pub outputs : (k : ℕ) → given_by k (expanded_page pages new).items ≡ given_by k (expanded_page pages page).items
+
 -- ---- the page
 
--- The page with what this edit sends for the nodes of its body. (Its sections are gathered from these nodes.) It has the same calls, but for their
--- places; each gives what it gave; and the expansion is the same work, so it costs the same.
+-- The page with what this edit sends for the nodes of its body. (Its sections are gathered from these nodes.)
 pub record IsLocalChange (pages : Pages) (page new : List ℕ) (es : Edits) : Type 0 where
   pub body : IsSameNode (label (called_tree pages page)) (label (called_tree pages new))
   pub nodes : AreLocal es no_shift (children (called_tree pages page)) (children (called_tree pages new))
-  pub calls : AreMoved (expanded_page pages page).outer (expanded_page pages new).outer
-  pub outputs : (k : ℕ) → given_by k (expanded_page pages new).items ≡ given_by k (expanded_page pages page).items
-  pub work : page_work pages new ≡ page_work pages page
+  pub keeps : KeepsCalls pages page new

@@ -39,12 +39,14 @@ pub mod Breaks
 pub mod SlotsFirst
 pub mod OwnEdits
 pub mod Reached
+pub mod OwnTexts
 pub mod UncalledGuards
 pub mod UncalledSlots
 pub mod UncalledPage
 pub mod CallingPieces
 pub mod CallingEdits
 pub mod ToldEdits
+pub mod BesideEdits
 pub mod HtmlEdits
 pub mod OrdinaryEdits
 pub mod LocalTextEdits

@@ -15,3 +15,4 @@ pub mod SameBut
 pub mod ToldEdits
 pub mod HtmlEdits
 pub mod LocalTextEdits
+pub mod BesideEdits

@@ -1,17 +1,24 @@
 //! Laws of retyped paragraphs and headings that hold calls.
 
-ghost use Rattle.std.specs.Prelude.{List, ℕ};
+ghost use Rattle.std.specs.Prelude.{◌≡◌, ◌≤◌, ℕ, true, None, List, length};
+ghost use Rattle.std.specs.Str.{IsUtf8};
+ghost use Rattle.wt_tree.specs.EditShapes.{edit_shape};
+ghost use Rattle.wt_tree.specs.Tree.{Tree, label};
+ghost use Rattle.wt_span.specs.declared.limits.TheConstants.{PAGE_BYTES};
 ghost use Rattle.wt_span.specs.Origins.{Expanded};
 ghost use Rattle.wt_link_spelling.specs.Spelling.{children_of};
 ghost use Rattle.wt_visible.specs.SameNodes.{same_node};
 ghost use Rattle.wt_expand.specs.Work.{Pages};
 ghost use Rattle.wt_slices.specs.Changes.{Pair};
+ghost use Rattle.wt_commands.specs.Answers.{refusal_of_page};
 ghost use Rattle.wt_text_edit_laws.specs.TextBlocks.{TextBlock};
 ghost use Rattle.wt_called_edit_laws.specs.CallingContents.{FitsIn};
+ghost use Rattle.wt_called_edit_laws.specs.Groups.{called_tree};
+ghost use Rattle.wt_called_edit_laws.specs.RowBlocks.{IsReachedAt};
 ghost use Rattle.wt_inside_laws.specs.AsSent.{edit_for};
-ghost use Rattle.wt_inside_laws.specs.RetypedCalls.{IsCallingNode, IsBeside};
+ghost use Rattle.wt_inside_laws.specs.RetypedCalls.{IsCallingNode, IsBeside, AreOwnTexts};
 ghost use Rattle.wt_inside_laws.specs.RetypedPieces.{AreRead, AreUtf8};
-ghost use Rattle.wt_inside_laws.specs.TextEdits.{IsRetyped};
+ghost use Rattle.wt_inside_laws.specs.TextEdits.{IsRetyped, takes_text};
 
 /// A retyped paragraph or heading of the page that holds calls, beside which texts may be typed (`IsBeside`), is edited by
 /// what was sent for it, with the page's own nodes (`FitsIn`): all its calls, other nodes and styles stay in their order, its
@@ -22,4 +29,12 @@ pub fn retyped_blocks_that_call_fit()
     ensures { (pages : Pages) (k : TextBlock) (q : List ℕ) (items : Expanded) (page : List ℕ) (p : Pair)
         → IsRetyped same_node items page p → AreRead (children_of p.new) → AreUtf8 (children_of p.new)
         → IsCallingNode pages k q p.old → IsBeside pages k q p.old → FitsIn pages k q (edit_for p) }
+{}
+
+/// In each paragraph and heading of a page's tree that is in no group each text shows its source, and something, and there
+/// are no separators.
+#[tactic(auto)]
+pub fn texts_of_blocks_show_their_sources()
+    ensures { (pages : Pages) (page path : List ℕ) (t : Tree) → IsUtf8 page → length page ≤ PAGE_BYTES → refusal_of_page pages page ≡ None
+        → IsReachedAt path (called_tree pages page) t → takes_text (edit_shape (label t).kind).form ≡ true → AreOwnTexts (children_of t) }
 {}

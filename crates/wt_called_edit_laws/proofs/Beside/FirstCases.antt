@@ -69,7 +69,7 @@ use Rattle.wt_called_edit_laws.specs.WholeContents.{of_call, AreGroups, AreShutP
 use Rattle.wt_called_edit_laws.proofs.Whole.Pieced.{as_written, pieced_content, pieced_holds}
 use Rattle.std.specs.Prelude.{codes}
 use Rattle.wt_inline.specs.declared.loose.Loose.TheVariants.{Text}
-use Rattle.wt_called_edit_laws.specs.CalledEdits.{page_things, IsBesideCalls, IsCalledEditOf, MakesContentIn}
+use Rattle.wt_called_edit_laws.specs.CalledEdits.{page_things, IsBesideCalls, IsCalledEditOf, MakesContentIn, SendsUncalled}
 use Rattle.wt_called_edit_laws.specs.PageThings.{AllMeetLater}
 use Rattle.wt_called_edit_laws.specs.PartTexts.{AreSourcesAt}
 use Rattle.wt_called_edit_laws.proofs.Beside.Cases.{word_group}
@@ -337,3 +337,35 @@ unfolding inline_spelling kept_with label_at context_parts chunks segments loose
     switch_at children with_styles style_tree_of toggles_of toggle_at opens_tag closes_tag nowiki is_guarded is_between_guard is_start_guard is_end_guard is_blank_guard hazard line_start_hazard
     is_escaped chars encode
 written_is = refl
+
+-- its text is deleted: what is left is the call, and `<nowiki/>` is put behind it, which didn't end the paragraph
+abbrev without_text : Pieces
+without_text = kept (nth 0 (children_of block)) (as_sent (nth 0 (children_of block))) (gone (nth 1 (children_of block)) no_pieces)
+
+nowiki_is_put : SendsUncalled block without_text
+unfolding kept_with label_at context_parts chunks segments loose_segments tiles shapes closes tile_at link_or_url link_at ext_link_at bare_url_at scheme_len tag_tile tag_at
+    switch_at children with_styles style_tree_of toggles_of toggle_at opens_tag closes_tag is_guarded is_between_guard is_start_guard is_end_guard is_blank_guard hazard line_start_hazard
+nowiki_is_put = inr (inr refl)
+
+edit_without_text : IsCalledEditOf a_word a_paragraph block without_text
+unfolding label_at context_parts chunks segments loose_segments tiles shapes closes tile_at link_or_url link_at ext_link_at bare_url_at scheme_len tag_tile tag_at
+    switch_at children with_styles style_tree_of toggles_of toggle_at opens_tag closes_tag
+edit_without_text = record {
+  old = refl;
+  stay = (stands_as_sent (nth 0 (children_of block)) (record { numbered = λ e. cc; unnumbered = (refl, tt); unframed = refl }), tt);
+  are = (tt, tt);
+  plain = tt;
+  calm = ((λ n. absurd n), tt);
+  fits = nowiki_is_put;
+}
+
+pub makes_without_text : MakesContentIn a_word a_paragraph source block a_label without_text
+makes_without_text =
+    let some : 0 < 1 = omega arith in
+    calls_make a_word a_paragraph source block a_label without_text 1 0 0 calls_here some (ap block_by (sym (items_are 0))) beside_call edit_without_text
+
+pub without_text_is : new_content a_paragraph block a_label without_text ≡ codes "{{t}}<nowiki/>"
+unfolding inline_spelling kept_with label_at context_parts chunks segments loose_segments tiles shapes closes tile_at link_or_url link_at ext_link_at bare_url_at scheme_len tag_tile tag_at
+    switch_at children with_styles style_tree_of toggles_of toggle_at opens_tag closes_tag nowiki is_guarded is_between_guard is_start_guard is_end_guard is_blank_guard hazard line_start_hazard
+    is_escaped chars encode
+without_text_is = refl
