@@ -262,7 +262,7 @@ none_blank n [] h = tt
 none_blank n (l ∷ ls) h = ((λ e. let wrong : line.Blank ≡ line.Text = sym e ∙ h.0 in absurd (cc)), none_blank n ls h.1)
 
 -- what is known of a block with this tree by its lines, and so of it where they are the page's own
-record IsOnLines (b : LinedBlock) (rest : Lines) (u : ItemTree) : Type 0 where
+record HasLines (b : LinedBlock) (rest : Lines) (u : ItemTree) : Type 0 where
   some : 1 ≤ length b.first
   are_marks : list_all is_mark b.marks ≡ true
   seen : Round b rest → BlockSeen (content (own_items b))
@@ -275,7 +275,7 @@ record IsOnLines (b : LinedBlock) (rest : Lines) (u : ItemTree) : Type 0 where
 -- where its lines are the page's own, or not
 by_place : (pages : Pages) (page : List ℕ) (i : ℕ) (is : List ℕ) (t : Tree) (n : IsNodeAt pages page i is t) (a : AreAllChosen pages page) (s : StandsIn pages page t) (o : Told)
     (rest : Lines) → full_lines (expanded_page pages page).items ≡ all_lines (lined o ∷ []) rest → (AreEnded (sources (lined o).marks) → AreTold (o ∷ []) rest)
-    → IsOnLines (lined o) rest s.block → size s.before ≡ start_of 0 o → AllFrom None (content (own_items (lined o))) → Answer pages page i is t a n.utf8 n.unrefused
+    → HasLines (lined o) rest s.block → size s.before ≡ start_of 0 o → AllFrom None (content (own_items (lined o))) → Answer pages page i is t a n.utf8 n.unrefused
 by_place pages page i is t n a s o rest are told_so l at own = ended (ended_decided (sources (lined o).marks))
   where
     e : Expanded
@@ -370,7 +370,7 @@ text_case pages page i is t n a s before first others behind are cells apart tex
     all : full_lines (expanded_page pages page).items ≡ all_lines (lined o ∷ []) behind
     all = are ∙ ap (λ (l : List Item). before ++ ((l ∷ others) ++ behind)) (sym line_is)
 
-    on : IsOnLines (lined o) behind s.block
+    on : HasLines (lined o) behind s.block
     on = record {
       some = seen.0;
       are_marks = led_marks first;
@@ -424,7 +424,7 @@ heading_case pages page i is t n a s before own behind are cells kind_is at tree
     line_size : tree_size (heading (content l)) + size (ending l) ≡ size l
     line_size = omega (arith, heading_size (content l), sym (size_both (content l) (ending l)) ∙ ap size (content_ending l))
 
-    on : IsOnLines (lined o) behind s.block
+    on : HasLines (lined o) behind s.block
     on = record {
       some = seen;
       are_marks = led_marks own;

@@ -7,7 +7,7 @@ use Rattle.std.specs.Str.{IsUtf8}
 use lib.Utf8.{encode}
 use Rattle.wt_span.specs.Comments.{comment_len, comment_line_len}
 use Rattle.wt_span.specs.Entities.{named_entity, entity_names, decimal_entity, hex_entity, entity_at}
-use Rattle.wt_span.specs.Items.{Item, whole}
+use Rattle.wt_span.specs.Items.{Item, whole, char}
 use Rattle.wt_span.specs.declared.form.ItemForm.TheVariants as form
 use Rattle.wt_span.specs.Lexemes.{sign_word, form_at, closed, words}
 use Rattle.wt_span.specs.Tags.{opening_tag, closing_tag, tag_after, with_inside, is_extension, raw_len, include_at}
