@@ -30,3 +30,5 @@ pub mod OneNode
 pub mod ClosedBlocks
 pub mod Complete
 pub mod AllAlone
+pub mod CallingStarts
+pub mod OnLines

@@ -111,7 +111,7 @@ same_text pages page xs ys zs others u r whole e n =
     sym (opened_text calls None zs mine) ∙ ap (text_from calls None) same ∙ opened_text calls None xs its
 
 -- what is on the page before a node, where as many items are before it as these
-text_before : (pages : Pages) (page : List ℕ) (t : Tree) (s : StandsIn pages page t) (xs ys : List Item) → IsUtf8 page → refusal_of_page pages page ≡ None
+pub text_before : (pages : Pages) (page : List ℕ) (t : Tree) (s : StandsIn pages page t) (xs ys : List Item) → IsUtf8 page → refusal_of_page pages page ≡ None
     → (expanded_page pages page).items ≡ xs ++ ys → size s.before ≡ size xs
     → text_from (expanded_page pages page).outer None s.before ≡ text_from (expanded_page pages page).outer None xs
 text_before pages page t s xs ys u r e n = same_text pages page xs ys s.before (tree_items s.block ++ s.behind) u r s.whole e n
