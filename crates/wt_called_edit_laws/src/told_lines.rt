@@ -102,7 +102,7 @@ pub fn each_block_is_told_or_excepted()
 
 /// Each paragraph and each heading of a page's tree that is outside of groups and has a byte, with calls in it or without, is on
 /// lines of the expanded page (`IsOnLines`): these stand as a block does, and where by them it may be edited with its calls
-/// (`IsLinedCalling`), it is at its path that it may be. Excepted is what `IsExceptedAt` names.
+/// (`IsLinedCalling`), it is at its path that it may be. Excepted is what `IsExceptedByLines` names.
 pub fn each_block_is_on_its_lines()
     ensures on { (pages : Pages) (page p : List ℕ) (t : Tree) → IsUtf8 page → refusal_of_page pages page ≡ None → IsReachedAt p (called_tree pages page) t
         → IsTextBlock (label t).kind → 1 ≤ length (flat t) → IsOnLines pages page p t ⊎ IsExceptedByLines pages page t }
