@@ -30,3 +30,4 @@ pub mod Complete
 pub mod AllAlone
 pub mod CallingStarts
 pub mod OnLines
+pub mod CalmPages
