@@ -71,7 +71,7 @@ marked_told : (pages : Pages) (page : List ℕ) (a : AllBlocksTold pages page) (
     → node_at q (called_tree pages page) ≡ Some m.old → IsRetyped same_node (expanded_page pages page) page m → IsOrdinaryOn pages page m
     → IsTold pages page a q
 marked_told pages page a q m w e r o =
-    told_of pages page a q m.old o.told (a.complete q m.old (w m.old e) (block_kind (label m.old).kind r.block) o.ungrouped r.untangled)
+    told_of pages page a q m.old o.told (a.complete q m.old (w m.old e) (block_kind (label m.old).kind r.block) o.ungrouped r.untangled r.closed)
 
 abbrev nodes_at : Tree → List (List ℕ) → List (Option Tree)
 nodes_at t qs = map (λ q. node_at q t) qs
@@ -124,7 +124,7 @@ pub record OrdinaryTold (pages : Pages) (page : List ℕ) (new : Tree) : Type 0 
 
 pub ordinary_told : (pages : Pages) (page input : List ℕ) (new : Tree) (u : Option ℕ) → IsOrdinaryEdit pages page input new u → OrdinaryTold pages page new
 ordinary_told pages page input new u h =
-    let a : AllBlocksTold pages page = all_blocks pages page h.utf8 h.unrefused h.closed in
+    let a : AllBlocksTold pages page = all_blocks pages page h.utf8 h.unrefused in
     let t : Tree = called_tree pages page in
     let ms : List Pair = marked (page_tree pages page) new in
     let es : Edits = edits_of t new in
