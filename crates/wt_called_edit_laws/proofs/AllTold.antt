@@ -23,6 +23,7 @@ pub mod OwnNodes
 pub mod Outside
 pub mod OwnTrees
 pub mod HeadSigns
+pub mod OwnLines
 pub mod Alone
 pub mod OneNode
 pub mod Complete

@@ -22,6 +22,7 @@ use Rattle.wt_called_edit_laws.specs.CallingContents.{IsContentEditIn, IsUnmarke
 use Rattle.wt_called_edit_laws.specs.CallingEdits.{IsCallingPage, MakesPage}
 use Rattle.wt_called_edit_laws.specs.CallingGroups.{AreCallingOutside, block_with_groups, CallingNodesStay}
 use Rattle.wt_called_edit_laws.specs.EditsAt.{edited_by, with_contents}
+use Rattle.wt_called_edit_laws.specs.LocalChange.{IsLocalChange}
 use Rattle.wt_called_edit_laws.specs.PathsTo.{paths_to, AreEditedThere}
 use Rattle.wt_called_edit_laws.specs.Sends.{AllSend}
 use Rattle.wt_called_edit_laws.specs.SettledAt.{AllSettled}
@@ -39,6 +40,7 @@ use Rattle.wt_called_edit_laws.proofs.EditTaken.{IsExpandable, MakesFrom, edit_d
 use Rattle.wt_called_edit_laws.proofs.HoldersSent.{blocks_free}
 use Rattle.wt_called_edit_laws.proofs.Leads.{edit_at}
 use Rattle.wt_called_edit_laws.proofs.NodesTold.{found_apart}
+use Rattle.wt_called_edit_laws.proofs.LocalCallingEdits.{calling_local}
 use Rattle.wt_called_edit_laws.proofs.OthersStay.{others_stay}
 use Rattle.wt_called_edit_laws.proofs.PageBody.{IsBodyOf, page_body}
 use Rattle.wt_called_edit_laws.proofs.PagesSettled.{called_settled}
@@ -189,6 +191,16 @@ again pages ss behind f es h e =
     calling_again pages ss (new_blocks f es) behind h m.edited m.held (all_take pages ss os m.made h.letters) (none_text pages ss os m.made h.texts)
     (all_whole pages ss os m.made h.whole)
 
+local_so : (pages : Pages) (ss : List BlockSpot) (behind : List ℕ) (f : CallingNodesStay pages ss behind) (es : Edits) → IsCallingPage pages ss behind
+    → IsContentEditIn pages (spots_tree pages ss behind) ss (paths_to f.nodes) es
+    → IsLocalChange pages (spots_source ss behind) (spots_source (new_blocks f es) behind) es
+local_so pages ss behind f es h e =
+    let m = well_sent pages ss behind f es h e in
+    let rs : List BlockSpot = new_blocks f es in
+    let now = new_expandable pages ss rs behind h m.edited in
+    calling_local pages ss rs behind f (edit_at (contents_by f es)) es h m.edited m.held m.sends (all_stay pages ss (contents_by f es) m.made)
+    (calling_body pages ss behind h) (page_body pages (spots_source rs behind) now.utf8 now.unrefused)
+
 -- ---- they are taken
 
 pub contents_taken : (pages : Pages) (ss : List BlockSpot) (behind : List ℕ) → IsCallingPage pages ss behind → TakesContentsIn pages ss behind
@@ -209,4 +221,5 @@ contents_taken pages ss behind h =
           (told pages ss behind f es h e) found short le small is;
       others = λ es e. let m = well_sent pages ss behind f es h e in others_stay pages ss (new_blocks f es) behind h m.edited m.held;
       again = λ es e. again pages ss behind f es h e;
+      local = λ es e. local_so pages ss behind f es h e;
     }

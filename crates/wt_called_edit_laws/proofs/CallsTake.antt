@@ -15,6 +15,7 @@ use Rattle.wt_called_edit_laws.proofs.BlocksMade.{all_inline}
 use Rattle.wt_called_edit_laws.proofs.EditFacts.{IsFramedPage, framed_page, paths_of, new_spots, spots_utf8, spots_body, spots_stand, well_sent}
 use Rattle.wt_called_edit_laws.proofs.EditTaken.{IsExpandable, MakesFrom, edit_done, edit_spliced, unmarked_done}
 use Rattle.wt_called_edit_laws.proofs.Leads.{edit_at}
+use Rattle.wt_called_edit_laws.proofs.LocalEdits.{local_change, expands_alike}
 use Rattle.wt_called_edit_laws.proofs.NodesTold.{found_apart}
 use Rattle.wt_called_edit_laws.proofs.OwnContents.{own_contents}
 
@@ -59,6 +60,8 @@ contents_by pages ss behind f h = record {
       unmarked_done pages (spots_source ss behind) (spots_source (new_spots f es) behind) es b stands input unsourced (makes_from pages ss behind f es h e.edit)
       (told pages ss behind f es h e) found short le small is;
   again = λ es e. let m = well_sent pages ss behind f es h e in f.again (new_spots f es) m.retyped;
+  local = λ es e. local_change pages ss behind f es h e;
+  alike = λ es e. expands_alike pages ss behind f es h e;
 }
 
 pub contents_paths : (pages : Pages) (ss : List BlockSpot) (behind : List ℕ) (f : IsFramedPage pages ss behind) (h : IsCalledPage pages ss behind)

@@ -7,6 +7,7 @@ pub mod Untangled
 pub mod CalmPages
 pub mod CutFrames
 pub mod TextsMake
+pub mod LocalNodes
 pub mod TilesStand
 pub mod PathsSend
 pub mod Cases
@@ -21,6 +22,7 @@ pub mod Leads
 pub mod TextsUntangled
 pub mod CalledUtf8
 pub mod EditFacts
+pub mod LocalEdits
 pub mod EditTaken
 pub mod TextContents
 pub mod OwnContents
@@ -62,6 +64,7 @@ pub mod CallNumbers
 pub mod CallingOutside
 pub mod EditableBlocks
 pub mod OthersStay
+pub mod LocalCallingEdits
 pub mod SettledEdits
 pub mod Beside
 pub mod Cells

@@ -46,13 +46,13 @@ none_split o [] ns h = (tt, h)
 none_split o (m ∷ ms) ns h = let r = none_split o ms ns h.1 in ((h.0, r.0), r.1)
 
 mutual
-  filled_kept : (o : ℕ → Option Edited) (b c : ℕ → Tree) → ((n : ℕ) → o n ≡ None → b n ≡ c n) → (f : TreeFrame) → NoneEdited o (spots_in f)
+  pub filled_kept : (o : ℕ → Option Edited) (b c : ℕ → Tree) → ((n : ℕ) → o n ≡ None → b n ≡ c n) → (f : TreeFrame) → NoneEdited o (spots_in f)
       → filled b f ≡ filled c f
   filled_kept o b c e (spot n) h = e n h.0
   filled_kept o b c e (kept t) h = refl
   filled_kept o b c e (holder l fs) h = ap (tree l) (all_filled_kept o b c e fs h)
 
-  all_filled_kept : (o : ℕ → Option Edited) (b c : ℕ → Tree) → ((n : ℕ) → o n ≡ None → b n ≡ c n) → (fs : TreeFrames) → NoneEdited o (spots fs)
+  pub all_filled_kept : (o : ℕ → Option Edited) (b c : ℕ → Tree) → ((n : ℕ) → o n ≡ None → b n ≡ c n) → (fs : TreeFrames) → NoneEdited o (spots fs)
       → all_filled b fs ≡ all_filled c fs
   all_filled_kept o b c e no_nodes h = refl
   all_filled_kept o b c e (more_nodes f fs) h =

@@ -10,6 +10,7 @@ use Rattle.wt_expand.specs.PageCalls.{expanded_page}
 use Rattle.wt_expand.specs.Work.{Pages}
 use Rattle.wt_lines.specs.Lines.{content, full_lines}
 use Rattle.wt_tables.specs.Parts.{joined}
+use Rattle.wt_page.specs.Lines.{ending}
 use Rattle.wt_page.specs.Rows.{Row, marks_len, rows_from}
 use Rattle.wt_selser.specs.Edits.{is_tangled}
 use Rattle.wt_text_edit_laws.specs.BodyParagraphs.{EndWhole}
@@ -17,11 +18,11 @@ use Rattle.wt_text_edit_laws.specs.NoCalls.{CallsNothing}
 use Rattle.wt_text_edit_laws.specs.TextBetween.{AreEnded}
 use Rattle.wt_called_edit_laws.specs.ContentsTaken.{TakesContents}
 use Rattle.wt_called_edit_laws.specs.Groups.{called_tree}
-use Rattle.wt_called_edit_laws.specs.LinedAmong.{spots_of_lines, end_of_lines, AreOfPage, AreBeside}
+use Rattle.wt_called_edit_laws.specs.LinedAmong.{spots_of_lines, end_of_lines, IsNoFunction, AreOfPage, AreBeside}
 use Rattle.wt_called_edit_laws.specs.PlacedLines.{all_lines}
 use Rattle.wt_called_edit_laws.specs.RowBlocks.{IsTextBlock, IsReachedAt, StandsIn, opened_len, begins_behind, begins_at}
 use Rattle.wt_called_edit_laws.specs.ToldAmong.{IsToldAmong}
-use Rattle.wt_called_edit_laws.specs.ToldLines.{Told, lined}
+use Rattle.wt_called_edit_laws.specs.ToldLines.{Told, lined, AreTold}
 use Rattle.wt_called_edit_laws.specs.ToldTogether.{AreSome, start_of}
 
 -- the byte at which the node at this path begins, where the tree begins at this one
@@ -45,21 +46,36 @@ pub data IsExceptedAt (ls : List (List Item)) (at : ℕ) : Type 0 where
   unended_marks : (before : List (List Item)) (first : List Item) (behind : List (List Item)) → ls ≡ before ++ first ∷ behind
       → at ≡ begins_at before first → (AreEnded (sources (take (marks_len first) first)) → ⊥) → IsExceptedAt ls at
 
--- Behind these items the lines of a block are the page's own: neither the line break before them, nor the marks that begin them, nor what is in them or
--- ends them comes from a call; no call that is text has a byte of them, and no two braces that open come before two that close in them.
-pub record IsOwnBehind (e : Expanded) (front : List Item) (t : Told) : Type 0 where
+-- Behind these items neither the line break before a block's lines, nor the marks that begin them, nor the line break that ends them comes from a call.
+pub record IsBesideNoCall (front : List Item) (t : Told) : Type 0 where
   pub ends : last_of None front ≡ None
-  pub own : AreOfPage ((lined t).marks ++ joined ((lined t).first ∷ (lined t).more))
-  pub calm : CallsNothing (content (joined ((lined t).first ∷ (lined t).more)))
-  pub beside : AreBeside (length (text_from e.outer None front))
-      (length (text_from e.outer None front) + length (sources ((lined t).marks ++ joined ((lined t).first ∷ (lined t).more)))) e.text_calls
+  pub marks : AreOfPage (lined t).marks
+  pub ending : AreOfPage (ending (joined ((lined t).first ∷ (lined t).more)))
 
--- So of an expanded page: one of these by its lines; or a block whose lines aren't the page's own, since a call gives the line break before or behind
--- them, or nothing before or behind it on its line.
+-- none of them is a function that is kept
+abbrev pub AreNoFunctions : List Item → Type 0
+AreNoFunctions [] = Unit {0}
+AreNoFunctions (x ∷ xs) = IsNoFunction x × AreNoFunctions xs
+
+-- no call that is text has a byte of a block's lines behind these items
+abbrev pub IsBesideTexts : Expanded → List Item → Told → Type 0
+IsBesideTexts e front t =
+    let from = length (text_from e.outer None front) in
+    AreBeside from (from + length (sources ((lined t).marks ++ joined ((lined t).first ∷ (lined t).more)))) e.text_calls
+
+-- So of an expanded page: one of these by its lines; or a block for which a call gives the line break before or behind it, or which has one on its line
+-- that gives nothing; or in which a function is kept; or of whose lines a call that is text has a byte, or that has two braces that open before two that
+-- close (no page may have one of the last two, unproved).
 pub data IsExceptedIn (e : Expanded) (at : ℕ) : Type 0 where
   by_its_lines : IsExceptedAt (full_lines e.items) at → IsExceptedIn e at
-  beside_a_call : (t : Told) (behind : List (List Item)) → full_lines e.items ≡ all_lines (lined t ∷ []) behind → at ≡ start_of 0 t
-      → (IsOwnBehind e (joined (lined t).before) t → ⊥) → IsExceptedIn e at
+  beside_a_call : (t : Told) (behind : List (List Item)) → full_lines e.items ≡ all_lines (lined t ∷ []) behind → AreTold (t ∷ []) behind → at ≡ start_of 0 t
+      → (IsBesideNoCall (joined (lined t).before) t → ⊥) → IsExceptedIn e at
+  holds_a_function : (t : Told) (behind : List (List Item)) → full_lines e.items ≡ all_lines (lined t ∷ []) behind → AreTold (t ∷ []) behind → at ≡ start_of 0 t
+      → (AreNoFunctions (content (joined ((lined t).first ∷ (lined t).more))) → ⊥) → IsExceptedIn e at
+  beside_a_text : (t : Told) (behind : List (List Item)) → full_lines e.items ≡ all_lines (lined t ∷ []) behind → AreTold (t ∷ []) behind → at ≡ start_of 0 t
+      → (IsBesideTexts e (joined (lined t).before) t → ⊥) → IsExceptedIn e at
+  holds_a_pair : (t : Told) (behind : List (List Item)) → full_lines e.items ≡ all_lines (lined t ∷ []) behind → AreTold (t ∷ []) behind → at ≡ start_of 0 t
+      → (CallsNothing (content (joined ((lined t).first ∷ (lined t).more))) → ⊥) → IsExceptedIn e at
 
 -- a node of a page's tree that begins so
 pub record IsExcepted (pages : Pages) (page : List ℕ) (t : Tree) : Type 0 where

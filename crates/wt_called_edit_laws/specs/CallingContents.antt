@@ -24,6 +24,7 @@ use Rattle.wt_called_edit_laws.specs.CallingGroups.{block_with_groups}
 use Rattle.wt_called_edit_laws.specs.ChosenContents.{Choice, AreChosenIn, pieces_of}
 use Rattle.wt_called_edit_laws.specs.EditsAt.{edited_by, AllEditOnly, with_contents, edited_page, Fits, sent_contents, bare_contents, AreOwnEdits}
 use Rattle.wt_called_edit_laws.specs.SettledAt.{IsSettledAt, AllSettled}
+use Rattle.wt_called_edit_laws.specs.LocalChange.{IsLocalChange}
 use Rattle.wt_called_edit_laws.specs.SettledPages.{OnlyTheseAreOthers}
 use Rattle.wt_called_edit_laws.specs.StyledCallEdits.{IsBesideStyles, IsStyledCallEdit}
 
@@ -96,7 +97,8 @@ HasContentEditsIn pages b t ss paths = (at : Choice) → AreChosenIn at (childre
 -- * this page is what the edit splices into the old one;
 -- * without marks, too, `edit` of the difference is done;
 -- * nothing but these blocks is another one in the new page, and it has the same calls;
--- * it is such a page again.
+-- * it is such a page again;
+-- * and the edit is local, told by what is sent for each node.
 pub record TakesContentsIn (pages : Pages) (ss : List BlockSpot) (behind : List ℕ) : Type 0 where
   pub paths : List (List ℕ)
   pub stand : AllSettled (block_with_groups pages ss behind) (counted ss) paths (spots_tree pages ss behind)
@@ -114,3 +116,5 @@ pub record TakesContentsIn (pages : Pages) (ss : List BlockSpot) (behind : List 
       → OnlyTheseAreOthers pages ss (with_contents ss (map (edited_by es) paths)) behind
   pub again : (es : Edits) → IsContentEditIn pages (spots_tree pages ss behind) ss paths es
       → IsCallingPage pages (with_contents ss (map (edited_by es) paths)) behind
+  pub local : (es : Edits) → IsContentEditIn pages (spots_tree pages ss behind) ss paths es
+      → IsLocalChange pages (spots_source ss behind) (edited_page ss behind paths es) es

@@ -13,6 +13,7 @@ use Rattle.wt_commands.specs.UnmarkedEdits.{DoneByEdit}
 use Rattle.wt_typed_blocks.specs.Edited.{Edits}
 use Rattle.wt_text_edit_laws.specs.BlockSpots.{BlockSpot, spots_source}
 use Rattle.wt_called_edit_laws.specs.CalledPages.{IsCalledPage}
+use Rattle.wt_called_edit_laws.specs.LocalChange.{ExpandsAlike, IsLocalChange}
 use Rattle.wt_called_edit_laws.specs.CalledTexts.{spots_tree}
 use Rattle.wt_called_edit_laws.specs.ChosenContents.{HasContentEdits}
 use Rattle.wt_called_edit_laws.specs.EditsAt.{AllStand, edited_by, with_contents, edited_page, IsContentEdit, sent_contents, bare_contents, IsUnmarkedContentEdit}
@@ -22,7 +23,9 @@ use Rattle.wt_called_edit_laws.specs.EditsAt.{AllStand, edited_by, with_contents
 -- * the edit is done, and the new page is the same with these contents in them, as they are spelled;
 -- * this page is what the edit splices into the old one;
 -- * without marks, too, `edit` of the difference is done;
--- * the new page is such a page again.
+-- * the new page is such a page again;
+-- * the edit is local: what the page means outside of these blocks stays as it was;
+-- * and the expansion is the same work, and each call gives what it gave.
 pub record TakesContents (pages : Pages) (ss : List BlockSpot) (behind : List ℕ) : Type 0 where
   pub paths : List (List ℕ)
   pub stand : AllStand ss paths (spots_tree pages ss behind)
@@ -37,3 +40,7 @@ pub record TakesContents (pages : Pages) (ss : List BlockSpot) (behind : List �
       → length (edited_page ss behind paths es) ≤ PAGE_BYTES → length input ≤ HTML_BYTES
       → read input ≡ as_page (bare_contents (spots_tree pages ss behind) es b) unsourced → DoneByEdit pages stands input
   pub again : (es : Edits) → IsContentEdit (spots_tree pages ss behind) ss paths es → IsCalledPage pages (with_contents ss (map (edited_by es) paths)) behind
+  pub local : (es : Edits) → IsContentEdit (spots_tree pages ss behind) ss paths es
+      → IsLocalChange pages (spots_source ss behind) (edited_page ss behind paths es) es
+  pub alike : (es : Edits) → IsContentEdit (spots_tree pages ss behind) ss paths es
+      → ExpandsAlike pages (spots_source ss behind) (edited_page ss behind paths es)

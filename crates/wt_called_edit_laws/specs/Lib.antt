@@ -13,6 +13,7 @@ pub mod ChosenContents
 pub mod ContentsTaken
 pub mod Settled
 pub mod SettledPages
+pub mod LocalChange
 pub mod SettledAt
 pub mod PartTexts
 pub mod Covered

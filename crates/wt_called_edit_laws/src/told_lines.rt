@@ -89,8 +89,9 @@ pub fn told_blocks_are_told_together()
 
 /// So each paragraph and heading of such a page's tree that is outside of groups, holds none and isn't tangled may be edited at
 /// its path, which is one of those of blocks that the lines tell; but for these: text behind the sign of a table's end or a rule
-/// on its line, and the other of `IsExceptedAt`; and a block whose line break before
-/// or behind it comes from a call, or beside which one is on its line that gives nothing (`beside_a_call`).
+/// on its line, and the other of `IsExceptedAt`; a block for which a call gives the
+/// line break before or behind it, or which has one before it on its line that gives nothing (`beside_a_call`); and one in which a
+/// function is kept (`holds_a_function`).
 pub fn each_block_is_told_or_excepted()
     ensures all { (pages : Pages) (page : List ℕ) → IsUtf8 page → refusal_of_page pages page ≡ None → EndsClosed page [] → AllBlocksTold pages page }
 {}

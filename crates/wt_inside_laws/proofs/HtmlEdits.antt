@@ -41,7 +41,7 @@ edit_is pages page new input u unsourced utf8 short small is made =
     ∙ ap (edited_answer pages page) is
     ∙ made
 
-blocks_read : (ps : List Pair) → AllByRecursion (λ p. AreRead (children_of p.new) × AreUtf8 (children_of p.new)) ps → AllByRecursion IsReadBlock ps
+pub blocks_read : (ps : List Pair) → AllByRecursion (λ p. AreRead (children_of p.new) × AreUtf8 (children_of p.new)) ps → AllByRecursion IsReadBlock ps
 blocks_read [] h = tt
 blocks_read (p ∷ ps) h = (record { read = h.0.0; utf8 = h.0.1 }, blocks_read ps h.1)
 

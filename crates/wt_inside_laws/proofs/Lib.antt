@@ -46,8 +46,10 @@ pub mod UncalledPage
 pub mod CallingPieces
 pub mod CallingEdits
 pub mod ToldEdits
+pub mod BesideEdits
 pub mod HtmlEdits
 pub mod OrdinaryEdits
+pub mod LocalTextEdits
 pub mod InsidesCases
 pub mod PageCases
 pub mod LocalCases

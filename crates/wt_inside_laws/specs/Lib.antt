@@ -14,3 +14,5 @@ pub mod Swaps
 pub mod SameBut
 pub mod ToldEdits
 pub mod HtmlEdits
+pub mod LocalTextEdits
+pub mod BesideEdits

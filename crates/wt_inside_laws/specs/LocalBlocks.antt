@@ -12,7 +12,7 @@ use Rattle.wt_span.specs.Braces.{CallAt, calls, calls_of_all, call_count_of_all,
 use Rattle.wt_span.specs.Bytes.{begins}
 use Rattle.wt_span.specs.Items.{Item, sign, is_mark, call_of}
 use Rattle.wt_span.specs.Lexemes.{Word, words}
-use Rattle.wt_span.specs.Origins.{Expanded, Span, OuterCall, same_call}
+use Rattle.wt_span.specs.Origins.{Expanded, Span, OuterCall}
 use Rattle.wt_span.specs.Tags.{Tag, opening_tag}
 use Rattle.wt_span.specs.Characters as byte
 use Rattle.wt_lines.specs.declared.kind.LineKind.TheVariants as line
@@ -32,6 +32,7 @@ use Rattle.wt_isolation.specs.GroupItems.{items_in}
 use Rattle.wt_isolation.specs.OpenTags.{before, touches_open_tag}
 use Rattle.wt_isolation.specs.TextCalls.{touches_text_call}
 use Rattle.wt_splice.specs.Splice.{between}
+use Rattle.wt_called_edit_laws.specs.LocalChange.{given_by}
 
 -- ---- kept slices
 
@@ -170,10 +171,6 @@ start_of None = 0
 start_of (Some r) = r.start
 
 -- what the call that begins at a place of the page gave
-abbrev pub given_by : ℕ → List Item → List Item
-given_by k [] = []
-given_by k (x ∷ xs) = if same_call (Some k) (call_of x) then x ∷ given_by k xs else given_by k xs
-
 abbrev pub given_from : ℕ → ℕ → List OuterCall → List Item → List Item
 given_from at k [] xs = []
 given_from at k (c ∷ cs) xs = if c.start == at then given_by k xs else given_from at (k + 1) cs xs

@@ -21,11 +21,14 @@ ghost use Rattle.wt_slices.specs.BodySlices.{slices};
 ghost use Rattle.wt_slices.specs.Changes.{marked, AllStay};
 ghost use Rattle.wt_splice.specs.Splice.{spliced};
 ghost use Rattle.wt_commands.specs.Answers.{refusal_of_page, done, edit_of, edit_to};
+ghost use Rattle.wt_called_edit_laws.specs.CallingContents.{TakesContentsIn};
 ghost use Rattle.wt_called_edit_laws.specs.ContentsTaken.{TakesContents};
 ghost use Rattle.wt_called_edit_laws.specs.Groups.{called_tree};
 ghost use Rattle.wt_called_edit_laws.specs.LinedAmong.{spots_of_lines, end_of_lines, IsLinedAmong};
+ghost use Rattle.wt_called_edit_laws.specs.LinedCalling.{IsLinedCalling};
 ghost use Rattle.wt_called_edit_laws.specs.PlacedLines.{LinedBlock};
 ghost use Rattle.wt_inside_laws.specs.AsSent.{edits_of, IsPlainPage, IsReadFor, IsAlike, IsAsSent, IsSentOn};
+ghost use Rattle.wt_inside_laws.specs.BesideEdits.{IsBesideEdit, IsBesideHtml};
 ghost use Rattle.wt_inside_laws.specs.HtmlEdits.{IsHtmlEdit};
 ghost use Rattle.wt_inside_laws.specs.RetypedPieces.{AreRead, AreUtf8};
 ghost use Rattle.wt_inside_laws.specs.TextEdits.{IsRetyped, IsTextEdit};
@@ -88,6 +91,22 @@ pub fn text_edits_in_html_are_done()
         (unsourced : Option ℕ) → IsLinedAmong pages page bs rest
         → (c : TakesContents pages (spots_of_lines pages page bs) (end_of_lines pages page bs rest))
         → IsHtmlEdit pages page input c.paths new unsourced
+        → edit_of pages (Some page) input ≡ done (spliced page (slices same_node (page_tree pages page) new)) }
+{}
+
+/// So it is where the marked blocks may hold calls, told by the lines of the expanded page (`IsLinedCalling`): each of them
+/// calls nothing and is ordinary, or texts may be typed beside the calls in it (`IsBesideBlock`).
+#[tactic(auto)]
+pub fn text_edits_beside_calls_are_done()
+    ensures tree { (pages : Pages) (page : List ℕ) (bs : List LinedBlock) (rest : List (List Item)) (new : Tree)
+        → IsLinedCalling pages page bs rest
+        → (c : TakesContentsIn pages (spots_of_lines pages page bs) (end_of_lines pages page bs rest))
+        → IsBesideEdit pages page c.paths new
+        → edit_to pages page new ≡ done (spliced page (slices same_node (page_tree pages page) new)) }
+    ensures html { (pages : Pages) (page input : List ℕ) (bs : List LinedBlock) (rest : List (List Item)) (new : Tree)
+        (unsourced : Option ℕ) → IsLinedCalling pages page bs rest
+        → (c : TakesContentsIn pages (spots_of_lines pages page bs) (end_of_lines pages page bs rest))
+        → IsBesideHtml pages page input c.paths new unsourced
         → edit_of pages (Some page) input ≡ done (spliced page (slices same_node (page_tree pages page) new)) }
 {}
 

@@ -8,17 +8,24 @@ use Rattle.wt_commands.specs.Calls.{Call, known_answer}
 use Rattle.wt_commands.specs.declared.command.Command.TheVariants.{Edit}
 use Rattle.wt_pagetool.specs.Promises.{Ends}
 use Rattle.wt_called_edit_laws.specs.ContentsTaken.{TakesContents}
+use Rattle.wt_called_edit_laws.specs.CallingContents.{TakesContentsIn}
 use Rattle.wt_called_edit_laws.specs.LinedAmong.{spots_of_lines, end_of_lines, IsLinedAmong}
+use Rattle.wt_called_edit_laws.specs.LinedCalling.{IsLinedCalling}
 use Rattle.wt_called_edit_laws.specs.PlacedLines.{LinedBlock}
+use Rattle.wt_called_edit_laws.proofs.Among.CallingLines.{calling_editable}
 use Rattle.wt_called_edit_laws.proofs.Among.LinedParts.{lined_editable}
 use Rattle.wt_called_edit_laws.proofs.BlocksOutside.{editable_called}
+use Rattle.wt_called_edit_laws.proofs.CallingTaken.{contents_taken as calling_taken}
 use Rattle.wt_called_edit_laws.proofs.CallsTake.{contents_taken}
+use Rattle.wt_called_edit_laws.proofs.EditableBlocks.{editable_calling}
 use Rattle.wt_program.specs.AnyCalls.{SendsFor}
 use Rattle.wt_program.proofs.AnyCalls.{answer_is}
 use Rattle.wt_program.proofs.BlocksCalls.{page_ends, page_completes}
-use Rattle.wt_program.specs.EditCalls.{retyped_page, TakesToldEdits, TakesTextEdits}
+use Rattle.wt_program.specs.EditCalls.{retyped_page, TakesToldEdits, TakesBesideEdits, TakesTextEdits}
+use Rattle.wt_inside_laws.specs.BesideEdits.{IsBesideHtml}
 use Rattle.wt_inside_laws.specs.HtmlEdits.{IsHtmlEdit}
 use Rattle.wt_inside_laws.specs.ToldEdits.{IsOrdinaryEdit}
+use Rattle.wt_inside_laws.proofs.BesideEdits.{calling_edit_done, html_beside}
 use Rattle.wt_inside_laws.proofs.HtmlEdits.{html_lined}
 use Rattle.wt_inside_laws.proofs.OrdinaryEdits.{ordinary_done}
 use Rattle.wt_inside_laws.proofs.ToldEdits.{lined_edit_done}
@@ -62,9 +69,35 @@ ordinary_answered c pages page new told s e =
     (subst (λ (ps : Pages). edit_to ps page new ≡ done (retyped_page pages page new)) (same_pages pages s.pages (sym told ∙ s.told))
     (ordinary_done pages page s.input new s.unsourced e))
 
+-- ---- of blocks that may hold calls
+
+beside_answered : (c : Call) (pages : Pages) (page : List ℕ) (bs : List LinedBlock) (rest : List (List Item)) (new : Tree) → c.folder.pages_before ≡ Some pages
+    → IsLinedCalling pages page bs rest → (t : TakesContentsIn pages (spots_of_lines pages page bs) (end_of_lines pages page bs rest))
+    → (s : SendsFor c Edit page (retyped_page pages page new) (λ b. new)) → IsBesideHtml pages page s.input t.paths new s.unsourced
+    → known_answer c ≡ Some (done (retyped_page pages page new))
+beside_answered c pages page bs rest new told h t s e =
+    answer_is c page (retyped_page pages page new) (λ b. new) h.utf8 s
+    (subst (λ (ps : Pages). edit_to ps page new ≡ done (retyped_page pages page new)) (same_pages pages s.pages (sym told ∙ s.told))
+    (calling_edit_done pages page bs rest new h t (html_beside pages page s.input bs rest t.paths new s.unsourced h e)))
+
+calls_take_beside : (c : Call) (ended : ℕ) → Ends c ended → TakesBesideEdits c ended
+calls_take_beside c ended ends = λ pages page bs rest told h.
+    let t : TakesContentsIn pages (spots_of_lines pages page bs) (end_of_lines pages page bs rest) =
+    calling_taken pages (spots_of_lines pages page bs) (end_of_lines pages page bs rest)
+    (editable_calling pages (spots_of_lines pages page bs) (end_of_lines pages page bs rest) (calling_editable pages page bs rest h)) in
+    record {
+      paths = t.paths;
+      stand = t.stand;
+      edit = λ new s e. page_ends c ended (retyped_page pages page new) (beside_answered c pages page bs rest new told h t s e) ends;
+      complete = λ new s e sound. page_completes c ended (retyped_page pages page new) (beside_answered c pages page bs rest new told h t s e) ends sound;
+    }
+
+-- ---- both
+
 pub calls_take_edits : (c : Call) (ended : ℕ) → Ends c ended → TakesTextEdits c ended
 calls_take_edits c ended ends = record {
   edit = λ pages page new told s e. page_ends c ended (retyped_page pages page new) (ordinary_answered c pages page new told s e) ends;
   complete = λ pages page new told s e no.
       page_completes c ended (retyped_page pages page new) (ordinary_answered c pages page new told s e) ends no;
+  beside = calls_take_beside c ended ends;
 }

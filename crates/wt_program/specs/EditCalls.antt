@@ -11,12 +11,17 @@ use Rattle.wt_commands.specs.declared.command.Command.TheVariants.{Edit}
 use Rattle.wt_commands.specs.declared.status.Status.TheVariants as status
 use Rattle.wt_commands.specs.Calls.{Call, NothingFailed}
 use Rattle.wt_commands.specs.Statuses.{code, IsFaultOrNoMemory}
+use Rattle.wt_called_edit_laws.specs.CalledBlocks.{counted}
 use Rattle.wt_called_edit_laws.specs.CalledTexts.{spots_tree}
+use Rattle.wt_called_edit_laws.specs.CallingGroups.{block_with_groups}
 use Rattle.wt_called_edit_laws.specs.EditsAt.{AllStand}
 use Rattle.wt_called_edit_laws.specs.LinedAmong.{spots_of_lines, end_of_lines, IsLinedAmong}
+use Rattle.wt_called_edit_laws.specs.LinedCalling.{IsLinedCalling}
 use Rattle.wt_called_edit_laws.specs.PlacedLines.{LinedBlock}
+use Rattle.wt_called_edit_laws.specs.SettledAt.{AllSettled}
 use Rattle.wt_program.specs.AnyCalls.{SendsFor}
 use Rattle.wt_program.specs.Calls.{WroteNewPage}
+use Rattle.wt_inside_laws.specs.BesideEdits.{IsBesideHtml}
 use Rattle.wt_inside_laws.specs.HtmlEdits.{IsHtmlEdit}
 use Rattle.wt_inside_laws.specs.ToldEdits.{IsOrdinaryEdit}
 
@@ -41,9 +46,25 @@ TakesToldEdits c ended =
     (pages : Pages) (page : List ℕ) (bs : List LinedBlock) (rest : List (List Item)) → c.folder.pages_before ≡ Some pages → IsLinedAmong pages page bs rest
     → TakesToldEditsThere c ended pages page bs rest
 
+-- The same of blocks that may hold calls.
+pub record TakesBesideThere (c : Call) (ended : ℕ) (pages : Pages) (page : List ℕ) (bs : List LinedBlock) (rest : List (List Item)) : Type 0 where
+  pub paths : List (List ℕ)
+  pub stand : AllSettled (block_with_groups pages (spots_of_lines pages page bs) (end_of_lines pages page bs rest)) (counted (spots_of_lines pages page bs)) paths
+      (spots_tree pages (spots_of_lines pages page bs) (end_of_lines pages page bs rest))
+  pub edit : (new : Tree) → (s : SendsFor c Edit page (retyped_page pages page new) (λ b. new)) → IsBesideHtml pages page s.input paths new s.unsourced
+      → WroteNewPage c ended (retyped_page pages page new) ⊎ IsFaultOrNoMemory ended
+  pub complete : (new : Tree) → (s : SendsFor c Edit page (retyped_page pages page new) (λ b. new)) → IsBesideHtml pages page s.input paths new s.unsourced
+      → NothingFailed c → WroteNewPage c ended (retyped_page pages page new) ⊎ (ended ≡ code status.NoMemory)
+
+abbrev pub TakesBesideEdits : Call → ℕ → Type 0
+TakesBesideEdits c ended =
+    (pages : Pages) (page : List ℕ) (bs : List LinedBlock) (rest : List (List Item)) → c.folder.pages_before ≡ Some pages → IsLinedCalling pages page bs rest
+    → TakesBesideThere c ended pages page bs rest
+
 -- Where a call sends HTML that is a text edit of a page, and the marked blocks are ordinary (`IsOrdinaryEdit`),
 -- * `edit` has written the page with the insides of these replaced; or a device failed, or memory ran out;
--- * where no device failed, only want of memory may come in its place.
+-- * where no device failed, only want of memory may come in its place;
+-- * so it is where the marked blocks may hold calls, and the lines of the expanded page tell them.
 pub record TakesTextEdits (c : Call) (ended : ℕ) : Type 0 where
   pub edit : (pages : Pages) (page : List ℕ) (new : Tree) → c.folder.pages_before ≡ Some pages
       → (s : SendsFor c Edit page (retyped_page pages page new) (λ b. new)) → IsOrdinaryEdit pages page s.input new s.unsourced
@@ -51,3 +72,4 @@ pub record TakesTextEdits (c : Call) (ended : ℕ) : Type 0 where
   pub complete : (pages : Pages) (page : List ℕ) (new : Tree) → c.folder.pages_before ≡ Some pages
       → (s : SendsFor c Edit page (retyped_page pages page new) (λ b. new)) → IsOrdinaryEdit pages page s.input new s.unsourced → NothingFailed c
       → WroteNewPage c ended (retyped_page pages page new) ⊎ (ended ≡ code status.NoMemory)
+  pub beside : TakesBesideEdits c ended

@@ -1,11 +1,11 @@
 -- One block that the lines of an expanded page tell, all of whose lines are the page's own: it is read so by itself.
-use Rattle.std.proofs.Common.{arith, ◌≡◌, inl, inr, ℕ, ◌+◌, ◌≤◌, Bool, None, List, [], ◌∷◌, ◌++◌, length, map, refl, sym, ap, ◌∙◌, subst}
+use Rattle.std.proofs.Common.{arith, ◌≡◌, inl, ℕ, ◌+◌, None, List, [], ◌∷◌, ◌++◌, length, map, refl, sym, ap, ◌∙◌, subst}
 use Rattle.std.specs.Str.{IsUtf8}
 use Rattle.wt_span.specs.Items.{Item, sources}
-use Rattle.wt_span.specs.Origins.{OuterCall, Span}
+use Rattle.wt_span.specs.Origins.{OuterCall}
 use Rattle.wt_span.specs.Runs.{AreRuns}
 use Rattle.wt_span.proofs.RunLaws.{runs_are}
-use Rattle.wt_annotated.specs.Seams.{last_of, text_from}
+use Rattle.wt_annotated.specs.Seams.{text_from}
 use Rattle.wt_expand.specs.PageCalls.{expanded_page}
 use Rattle.wt_expand.specs.PageItems.{page_items}
 use Rattle.wt_expand.specs.Work.{Pages}
@@ -18,21 +18,21 @@ use Rattle.wt_text_edit_laws.specs.Contents.{IsContentOf, IsContent}
 use Rattle.wt_text_edit_laws.specs.NoCalls.{CallsNothing}
 use Rattle.wt_text_edit_laws.specs.PageCuts.{IsSpotCut, EndsThere, EndsClosed, IsFreeBlock}
 use Rattle.wt_text_edit_laws.specs.ParagraphBetween.{written_rows}
-use Rattle.wt_text_edit_laws.specs.TextBlocks.{TextBlock, source_of, block_items, block_tree}
+use Rattle.wt_text_edit_laws.specs.TextBlocks.{TextBlock, source_of, block_items}
 use Rattle.wt_text_edit_laws.proofs.Cuts.TextLines.{joined_is, runs_behind}
 use Rattle.wt_beside_laws.proofs.Derived.BlockContents.{ReadAlone, BlockRead, block_content}
 use Rattle.wt_beside_laws.proofs.Derived.CutPages.{SpotRead, spot_read}
-use Rattle.wt_called_edit_laws.specs.AllTold.{IsOwnBehind}
 use Rattle.wt_called_edit_laws.specs.AnyBlocks.{open_after}
 use Rattle.wt_called_edit_laws.specs.LinedAmong.{AreBeside, AreOwnLines, AreUntouched}
 use Rattle.wt_called_edit_laws.specs.PlacedLines.{LinedBlock, all_lines, IsLinedAt}
 use Rattle.wt_called_edit_laws.specs.ToldLines.{Told, lined, AreTold}
 use Rattle.wt_called_edit_laws.proofs.Among.BlockAt.{calls_of, IsRest, text_to}
-use Rattle.wt_called_edit_laws.proofs.Among.LinedParts.{IsLinedHere, lined_here, line_front, block_front, ends_text, spot_of, spot_source, page_rest}
+use Rattle.wt_called_edit_laws.proofs.Among.LinedParts.{IsLinedHere, lined_here, line_front, ends_text, spot_of, spot_source, page_rest}
 use Rattle.wt_called_edit_laws.proofs.Among.ToldAmong.{told_at}
 use Rattle.wt_called_edit_laws.proofs.Cells.ContentItems.{round_is, items_by}
 use Rattle.wt_called_edit_laws.proofs.Cells.PlacedLines.{own_items}
 use Rattle.wt_called_edit_laws.proofs.Told.OwnReads.{OwnRead}
+use Rattle.wt_called_edit_laws.proofs.AllTold.Chosen.{IsOwnBehind}
 use Rattle.wt_called_edit_laws.proofs.AllTold.LineKinds.{Lines}
 use Rattle.wt_called_edit_laws.proofs.AllTold.OwnTrees.{OwnRound, stay_so}
 

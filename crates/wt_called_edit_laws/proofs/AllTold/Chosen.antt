@@ -1,5 +1,5 @@
 -- Which blocks of a page with calls are told by its lines: whether one is can be decided.
-use Rattle.std.proofs.Common.{arith, ◌≡◌, ◌<◌, ◌≤◌, ◌⊎◌, inl, inr, ℕ, zero, suc, ◌+◌, Bool, true, false, Option, Some, None, List, [], ◌∷◌, ◌++◌, length, map, refl, sym}
+use Rattle.std.proofs.Common.{arith, ◌≡◌, ◌<◌, ◌≤◌, ◌⊎◌, inl, inr, ℕ, zero, suc, ◌+◌, Bool, true, false, Option, Some, None, List, [], ◌∷◌, ◌++◌, length, map, refl, subst}
 use Rattle.wt_span.specs.declared.form.ItemForm.{ItemForm}
 use Rattle.wt_span.specs.declared.form.ItemForm.TheVariants as form
 use Rattle.wt_span.specs.Items.{Item, char, whole, call_of, sign, sources}
@@ -17,7 +17,10 @@ use Rattle.wt_annotated.specs.WithoutCalls.{InsideOf}
 use Rattle.wt_expand.specs.PageCalls.{expanded_page}
 use Rattle.wt_expand.specs.PageItems.{page_items}
 use Rattle.wt_expand.specs.Work.{Pages}
+use Rattle.wt_expand.proofs.PiecePlaces.{AllFrom}
 use Rattle.wt_lines.specs.Lines.{content}
+use Rattle.wt_page.specs.Lines.{ending}
+use Rattle.wt_page.proofs.Ends.{content_ending}
 use Rattle.wt_tables.specs.Parts.{joined}
 use Rattle.wt_part_laws.specs.Rounded.{HasItems, AllHaveItems}
 use Rattle.wt_part_laws.specs.Standing.{standing}
@@ -27,7 +30,7 @@ use Rattle.wt_text_edit_laws.specs.LonePages.{of_items}
 use Rattle.wt_text_edit_laws.specs.NoCalls.{Brace, opening, closing, braces, NoneClose, NonePairs, CallsNothing}
 use Rattle.wt_text_edit_laws.specs.PageCuts.{IsFreeBlock}
 use Rattle.wt_text_edit_laws.specs.TextBlocks.{TextBlock, source_of, block_tree}
-use Rattle.wt_called_edit_laws.specs.AllTold.{IsOwnBehind}
+use Rattle.wt_called_edit_laws.specs.AllTold.{IsBesideNoCall, AreNoFunctions, IsBesideTexts}
 use Rattle.wt_called_edit_laws.specs.Covered.{IsBeside, IfGroup, NoGroupAt, NoneGroupAt}
 use Rattle.wt_called_edit_laws.specs.Groups.{called_tree}
 use Rattle.wt_called_edit_laws.specs.LinedAmong.{IsNoFunction, AreOfPage, AreBeside}
@@ -35,6 +38,14 @@ use Rattle.wt_called_edit_laws.specs.ToldLines.{Told, lined}
 use Rattle.wt_called_edit_laws.proofs.AllTold.Scans.{Decided, Asked, Answered, both_decided, three_decided, bool_decided}
 
 -- ---- what is asked of each
+
+-- Behind these items the lines of a block are the page's own: neither the line break before them, nor the marks that begin them, nor what is in them or
+-- ends them comes from a call; no call that is text has a byte of them, and no two braces that open come before two that close in them.
+pub record IsOwnBehind (e : Expanded) (front : List Item) (t : Told) : Type 0 where
+  pub ends : last_of None front ≡ None
+  pub own : AreOfPage ((lined t).marks ++ joined ((lined t).first ∷ (lined t).more))
+  pub calm : CallsNothing (content (joined ((lined t).first ∷ (lined t).more)))
+  pub beside : IsBesideTexts e front t
 
 -- no node in it is empty, and by itself it isn't tangled
 abbrev pub IsFreeAlone : TextBlock → List ℕ → Type 0
@@ -125,19 +136,60 @@ beside_decided from to (s ∷ ss) =
     both_decided ((s.1 ≤ from) ⊎ (to ≤ s.0)) (AreBeside from to ss)
     (or_decided (s.1 ≤ from) (to ≤ s.0) (most_decided s.1 from) (most_decided to s.0)) (beside_decided from to ss)
 
-pub place_decided : (e : Expanded) (front : List Item) (t : Told) → Decided (IsOwnBehind e front t)
+pub texts_decided : (e : Expanded) (front : List Item) (t : Told) → Decided (IsBesideTexts e front t)
+texts_decided e front t =
+    let from : ℕ = length (text_from e.outer None front) in
+    beside_decided from (from + length (sources ((lined t).marks ++ joined ((lined t).first ∷ (lined t).more)))) e.text_calls
+
+pub calm_decided : (xs : List Item) → Decided (CallsNothing xs)
+calm_decided xs = pairs_decided (braces (map sign xs))
+
+pub functions_decided : (xs : List Item) → Decided (AreNoFunctions xs)
+functions_decided [] = inl tt
+functions_decided (x ∷ xs) = both_decided (IsNoFunction x) (AreNoFunctions xs) (function_decided x) (functions_decided xs)
+
+pub beside_call_decided : (front : List Item) (t : Told) → Decided (IsBesideNoCall front t)
+beside_call_decided front t =
+    by (none_decided (last_of None front)) (own_decided (lined t).marks) (own_decided (ending (joined ((lined t).first ∷ (lined t).more))))
+  where
+    by : Decided (last_of None front ≡ None) → Decided (AreOfPage (lined t).marks) → Decided (AreOfPage (ending (joined ((lined t).first ∷ (lined t).more))))
+        → Decided (IsBesideNoCall front t)
+    by (inl a) (inl b) (inl c) = inl (record { ends = a; marks = b; ending = c })
+    by (inr f) b c = inr (λ h. f h.ends)
+    by (inl a) (inr f) c = inr (λ h. f h.marks)
+    by (inl a) (inl b) (inr f) = inr (λ h. f h.ending)
+
+-- ---- so its lines are the page's own
+
+own_both : (xs ys : List Item) → AreOfPage xs → AreOfPage ys → AreOfPage (xs ++ ys)
+own_both [] ys h g = g
+own_both (x ∷ xs) ys h g = (h.0, h.1, own_both xs ys h.2 g)
+
+own_of : (xs : List Item) → AllFrom None xs → AreNoFunctions xs → AreOfPage xs
+own_of [] h g = tt
+own_of (x ∷ xs) h g = (h.0, g.0, own_of xs h.1 g.1)
+
+pub own_behind : (e : Expanded) (front : List Item) (t : Told) → AllFrom None (content (joined ((lined t).first ∷ (lined t).more))) → IsBesideNoCall front t
+    → AreNoFunctions (content (joined ((lined t).first ∷ (lined t).more))) → CallsNothing (content (joined ((lined t).first ∷ (lined t).more))) → IsBesideTexts e front t
+    → IsOwnBehind e front t
+own_behind e front t own b f c d =
+    let lines : List Item = joined ((lined t).first ∷ (lined t).more) in
+    let mine : AreOfPage (content lines) = own_of (content lines) own f in
+    record {
+      ends = b.ends;
+      own = own_both (lined t).marks lines b.marks (subst AreOfPage (content_ending lines) (own_both (content lines) (ending lines) mine b.ending));
+      calm = c;
+      beside = d;
+    }
+
+place_decided : (e : Expanded) (front : List Item) (t : Told) → Decided (IsOwnBehind e front t)
 place_decided e front t =
     let own : List Item = joined ((lined t).first ∷ (lined t).more) in
     let all : List Item = (lined t).marks ++ own in
-    let from : ℕ = length (text_from e.outer None front) in
-    by (none_decided (last_of None front)) (own_decided all) (pairs_decided (braces (map sign (content own))))
-    (beside_decided from (from + length (sources all)) e.text_calls)
+    by (none_decided (last_of None front)) (own_decided all) (pairs_decided (braces (map sign (content own)))) (texts_decided e front t)
   where
     by : Decided (last_of None front ≡ None) → Decided (AreOfPage ((lined t).marks ++ joined ((lined t).first ∷ (lined t).more)))
-        → Decided (CallsNothing (content (joined ((lined t).first ∷ (lined t).more))))
-        → Decided (AreBeside (length (text_from e.outer None front))
-        (length (text_from e.outer None front) + length (sources ((lined t).marks ++ joined ((lined t).first ∷ (lined t).more)))) e.text_calls)
-        → Decided (IsOwnBehind e front t)
+        → Decided (CallsNothing (content (joined ((lined t).first ∷ (lined t).more)))) → Decided (IsBesideTexts e front t) → Decided (IsOwnBehind e front t)
     by (inl a) (inl b) (inl c) (inl d) = inl (record { ends = a; own = b; calm = c; beside = d })
     by (inr f) b c d = inr (λ h. f h.ends)
     by (inl a) (inr f) c d = inr (λ h. f h.own)

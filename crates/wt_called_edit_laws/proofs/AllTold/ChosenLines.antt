@@ -1,8 +1,7 @@
 -- Blocks that are chosen among the lines of an expanded page, each by the items before it: so they are told one behind the other.
-use Rattle.std.proofs.Common.{arith, ◌≡◌, inl, inr, ℕ, ◌+◌, None, Option, List, [], ◌∷◌, ◌++◌, length, map, take, refl, sym, ap, ap₂, ◌∙◌, subst, append_assoc, append-nil, length-append}
-use Rattle.std.specs.List.{AllByRecursion}
+use Rattle.std.proofs.Common.{arith, ◌≡◌, inl, inr, ℕ, ◌+◌, None, Option, List, [], ◌∷◌, ◌++◌, length, map, take, refl, sym, ap, ap₂, ◌∙◌, subst, append_assoc, length-append}
 use Rattle.std.proofs.lemmas.Grind.{flat_map-append}
-use Rattle.wt_span.specs.Items.{Item, source, sources, call_of}
+use Rattle.wt_span.specs.Items.{Item, sources}
 use Rattle.wt_span.specs.Origins.{OuterCall, Span}
 use Rattle.wt_annotated.specs.Seams.{last_of, text_from}
 use Rattle.wt_annotated.proofs.Seams.{last_append, text_append_from}
@@ -12,24 +11,23 @@ use Rattle.wt_inline.specs.Inside.{opened, opened_all}
 use Rattle.wt_lines.specs.Lines.{content}
 use Rattle.wt_page.specs.Lines.{ending}
 use Rattle.wt_page.proofs.Ends.{content_ending}
-use Rattle.wt_page_round_trip.proofs.OpenedPages.{IsOne, AreOnes, opened_text}
+use Rattle.wt_page_round_trip.proofs.OpenedPages.{AreOnes, opened_text}
 use Rattle.wt_tables.specs.Parts.{joined}
 use Rattle.wt_text_edit_laws.specs.BlockSpots.{BlockSpot}
 use Rattle.wt_text_edit_laws.specs.PageCuts.{AreFree}
 use Rattle.wt_text_edit_laws.specs.TextBlocks.{source_of}
-use Rattle.wt_called_edit_laws.specs.AllTold.{IsOwnBehind}
 use Rattle.wt_called_edit_laws.specs.Covered.{NoGroupAt, AreInNoGroup}
 use Rattle.wt_called_edit_laws.specs.Groups.{called_tree}
 use Rattle.wt_called_edit_laws.specs.LinedAmong.{spots_on, AreOfPage, AreBeside, AreOwnLines, AreUntouched}
 use Rattle.wt_called_edit_laws.specs.PlacedLines.{LinedBlock, all_lines}
 use Rattle.wt_called_edit_laws.specs.ToldLines.{Told, a_paragraph_of, a_heading_on, lined}
 use Rattle.wt_called_edit_laws.specs.ToldTogether.{start_of, own_lines, told_starts, IsAmongNumbers}
-use Rattle.wt_called_edit_laws.proofs.Among.LinedParts.{of_behind, of_front}
+use Rattle.wt_called_edit_laws.proofs.Among.LinedParts.{of_front}
 use Rattle.wt_called_edit_laws.proofs.Among.OwnItems.{from_page}
 use Rattle.wt_called_edit_laws.proofs.Among.OwnSeams.{own_last, sources_size}
 use Rattle.wt_called_edit_laws.proofs.Cells.PlacedLines.{own_items, lines_joined}
 use Rattle.wt_called_edit_laws.proofs.PartTexts.{own_text}
-use Rattle.wt_called_edit_laws.proofs.AllTold.Chosen.{IsFreeAlone, free_of, IsChosen, chosen}
+use Rattle.wt_called_edit_laws.proofs.AllTold.Chosen.{free_of, IsChosen, chosen}
 use Rattle.wt_called_edit_laws.proofs.AllTold.Found.{size, size_both}
 use Rattle.wt_called_edit_laws.proofs.AllTold.LineKinds.{Lines}
 use Rattle.wt_called_edit_laws.proofs.AllTold.PlaceStarts.{spot_starts}
@@ -229,6 +227,10 @@ in_no_group pages page ts h o = outside_from pages page [] [] [] 0 ts (page_star
 pub ones_front : (xs ys : List Item) → AreOnes (xs ++ ys) → AreOnes xs
 ones_front [] ys h = tt
 ones_front (x ∷ xs) ys h = (h.0, ones_front xs ys h.1)
+
+pub ones_behind : (xs ys : List Item) → AreOnes (xs ++ ys) → AreOnes ys
+ones_behind [] ys h = h
+ones_behind (x ∷ xs) ys h = ones_behind xs ys h.1
 
 take_front : (xs ys : List Item) → take (length xs) (xs ++ ys) ≡ xs
 take_front [] ys = refl

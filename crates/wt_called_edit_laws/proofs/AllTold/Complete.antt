@@ -5,43 +5,42 @@ use Rattle.std.specs.Prelude.{◌&&◌}
 use Rattle.std.specs.Str.{IsUtf8}
 use Rattle.std.specs.List.{list_all}
 use Rattle.wt_span.specs.Items.{Item, char, whole, is_mark, sign, sources}
-use Rattle.wt_span.specs.Origins.{OuterCall}
-use Rattle.wt_tree.specs.Source.{flat}
 use Rattle.wt_tree.specs.Tiling.{HasNoGroup}
 use Rattle.wt_tree.specs.Tree.{Tree, tree, Trees, none, more, label}
-use Rattle.wt_annotated.specs.Seams.{text_from}
-use Rattle.wt_inline.specs.ItemTree.{ItemTree}
 use Rattle.wt_checks.specs.Kept.{children}
 use Rattle.wt_expand.specs.PageCalls.{expanded_page}
 use Rattle.wt_expand.specs.Work.{Pages}
 use Rattle.wt_commands.specs.Answers.{refusal_of_page}
+use Rattle.wt_expand.proofs.PiecePlaces.{AllFrom}
 use Rattle.wt_lines.specs.declared.kind.LineKind.TheVariants as line
 use Rattle.wt_lines.specs.Kinds.{kind_of_signs}
 use Rattle.wt_lines.specs.Lines.{content, full_lines}
 use Rattle.wt_tables.specs.Parts.{joined}
 use Rattle.wt_page.specs.Headings.{heading}
-use Rattle.wt_page.specs.Lines.{kind_at}
+use Rattle.wt_page.specs.Lines.{kind_at, ending}
 use Rattle.wt_page.specs.Rows.{marks_len, rows_from}
 use Rattle.wt_page.specs.Texts.{para}
+use Rattle.wt_page.proofs.Ends.{content_ending}
+use Rattle.wt_page_round_trip.proofs.OpenedPages.{AreOnes}
 use Rattle.wt_part_laws.specs.Frames.{content as content_part}
 use Rattle.wt_part_laws.specs.Slots.{AllTrue}
 use Rattle.wt_selser.specs.Edits.{is_tangled}
 use Rattle.wt_text_edit_laws.specs.BlockSpots.{BlockSpot, spots_source}
 use Rattle.wt_text_edit_laws.specs.Contents.{IsContentOf}
-use Rattle.wt_text_edit_laws.specs.PageCuts.{EndsClosed}
+use Rattle.wt_text_edit_laws.specs.PageCuts.{EndsClosed, begins_unmarked}
+use Rattle.wt_text_edit_laws.specs.NoCalls.{CallsNothing}
 use Rattle.wt_text_edit_laws.specs.ParagraphBetween.{written_rows, tables_behind, EndApart, BeginApart}
 use Rattle.wt_text_edit_laws.specs.TextBetween.{AreEnded}
-use Rattle.wt_text_edit_laws.specs.TextBlocks.{TextBlock, a_paragraph, source_of, block_items, block_tree}
+use Rattle.wt_text_edit_laws.specs.TextBlocks.{block_tree}
 use Rattle.wt_text_edit_laws.proofs.Cuts.RowLines.{AllText}
 use Rattle.wt_text_edit_laws.proofs.Paragraphs.Marks.{mark_sign, AreMarkSigns, kind_marks}
 use Rattle.wt_text_edit_laws.proofs.Cuts.TextLines.{led_first, content_unled}
-use Rattle.wt_called_edit_laws.specs.AllTold.{starts_in, IsOwnBehind, IsExceptedAt, text_on_a_sign, unended_marks, IsExceptedIn, by_its_lines, beside_a_call, IsExcepted, IsOneOf, AllBlocksTold}
+use Rattle.wt_called_edit_laws.specs.AllTold.{starts_in, IsExceptedAt, text_on_a_sign, unended_marks, IsExceptedIn, by_its_lines, beside_a_call, IsExcepted, IsOneOf, AllBlocksTold, IsBesideNoCall, AreNoFunctions, IsBesideTexts, holds_a_function, beside_a_text, holds_a_pair}
 use Rattle.wt_called_edit_laws.specs.AnyBlocks.{open_after}
 use Rattle.wt_called_edit_laws.specs.CalledBlocks.{tree_by}
 use Rattle.wt_called_edit_laws.specs.CalledPages.{IsCalledPage}
 use Rattle.wt_called_edit_laws.specs.CalledTexts.{spots_tree}
 use Rattle.wt_called_edit_laws.specs.ContentsTaken.{TakesContents}
-use Rattle.wt_called_edit_laws.specs.Covered.{NoGroupAt}
 use Rattle.wt_called_edit_laws.specs.EditsAt.{AllStand}
 use Rattle.wt_called_edit_laws.specs.Groups.{called_tree}
 use Rattle.wt_called_edit_laws.specs.LinedAmong.{spots_of_lines, end_of_lines, IsLinedAmong}
@@ -54,22 +53,24 @@ use Rattle.wt_called_edit_laws.specs.ToldAmong.{IsToldAmong}
 use Rattle.wt_called_edit_laws.specs.ToldLines.{Told, lined, AreTold}
 use Rattle.wt_called_edit_laws.specs.ToldTogether.{start_of, told_starts, IsAmongNumbers, AreSome}
 use Rattle.wt_called_edit_laws.proofs.Among.LinedParts.{lined_whole, lined_editable}
-use Rattle.wt_called_edit_laws.proofs.Among.ToldAmong.{all_told, told_among}
+use Rattle.wt_called_edit_laws.proofs.Among.ToldAmong.{told_among}
 use Rattle.wt_called_edit_laws.proofs.BlocksOutside.{editable_called}
 use Rattle.wt_called_edit_laws.proofs.CallsTake.{contents_by, contents_paths}
+use Rattle.wt_called_edit_laws.proofs.Cells.PlacedLines.{own_items, lines_joined}
 use Rattle.wt_called_edit_laws.proofs.Cells.SpotSlots.{open_size}
 use Rattle.wt_called_edit_laws.proofs.EditFacts.{IsFramedPage, framed_page, paths_of, spots_stand, spots_contents}
 use Rattle.wt_called_edit_laws.proofs.GroupsAmong.{retyped_self}
 use Rattle.wt_called_edit_laws.proofs.PathsSend.{NoneEmpty, paths_full}
-use Rattle.wt_called_edit_laws.proofs.AllTold.Alone.{IsAloneTold, IsAloneHere, alone_here, alone_read, own_round}
-use Rattle.wt_called_edit_laws.proofs.AllTold.Chosen.{IsChosen, place_decided}
-use Rattle.wt_called_edit_laws.proofs.AllTold.ChosenLines.{byte_at, among_mapped, starts_so}
+use Rattle.wt_called_edit_laws.proofs.AllTold.Alone.{IsAloneTold}
+use Rattle.wt_called_edit_laws.proofs.AllTold.Chosen.{beside_call_decided, functions_decided, texts_decided, calm_decided, own_behind}
+use Rattle.wt_called_edit_laws.proofs.AllTold.ChosenLines.{byte_at, among_mapped, ones_front, ones_behind, starts_so}
 use Rattle.wt_called_edit_laws.proofs.AllTold.EachBlocks.{EachBlockIn}
 use Rattle.wt_called_edit_laws.proofs.AllTold.Found.{size}
 use Rattle.wt_called_edit_laws.proofs.AllTold.HeadSigns.{head_begins}
 use Rattle.wt_called_edit_laws.proofs.AllTold.LineBlocks.{block_on_lines}
 use Rattle.wt_called_edit_laws.proofs.AllTold.LineKinds.{Lines, led_by, past_marks, led_whole, led_marks, kind_led}
-use Rattle.wt_called_edit_laws.proofs.AllTold.OneNode.{IsNodeAt, IsKnownNode, known_node, page_ones, page_joined}
+use Rattle.wt_called_edit_laws.proofs.AllTold.OneNode.{IsNodeAt, own_tree, IsKnownNode, known_node, page_ones, page_joined}
+use Rattle.wt_called_edit_laws.proofs.AllTold.OwnLines.{AreSeen, text_own_lines, heading_own_lines}
 use Rattle.wt_called_edit_laws.proofs.AllTold.OwnTrees.{OwnRound, paragraph_is, heading_is}
 use Rattle.wt_called_edit_laws.proofs.AllTold.PlaceStarts.{starts_from, spot_starts, paths_start, AllClear, clear_paths, AllHaveBytes, contents_some, LeadsThere, leads, leads_there}
 use Rattle.wt_called_edit_laws.proofs.AllTold.RowBlocks.{housed, page_stands, body_none, below}
@@ -247,10 +248,43 @@ begins_so before l o e f = omega (arith, ap (λ (ls : Lines). size (joined ls)) 
 by_place : (pages : Pages) (page : List ℕ) (i : ℕ) (is : List ℕ) (t : Tree) (n : IsNodeAt pages page i is t) (a : AreAllChosen pages page) (s : StandsIn pages page t) (o : Told)
     (rest : Lines) → full_lines (expanded_page pages page).items ≡ all_lines (lined o ∷ []) rest → AreTold (o ∷ []) rest
     → (OwnRound (lined o) rest → s.block ≡ block_tree (lined o).block (lined o).text) → size s.before ≡ start_of 0 o
-    → Decided (IsOwnBehind (expanded_page pages page) (joined (lined o).before) o) → Answer pages page i is t a n.utf8 n.unrefused n.closed
-by_place pages page i is t n a s o rest are told tree_so at (inr f) = inr (record { stands = s; begins_so = beside_a_call o rest are at f })
-by_place pages page i is t n a s o rest are told tree_so at (inl p) =
-    inl (alone_told pages page i is t n a s o rest (record { utf8 = n.utf8; closed = n.closed; are = are; told = told; place = p }) tree_so at)
+    → AllFrom None (content (own_items (lined o))) → Answer pages page i is t a n.utf8 n.unrefused n.closed
+by_place pages page i is t n a s o rest are told tree_so at own =
+    by (beside_call_decided (joined (lined o).before) o) (functions_decided (content (own_items (lined o)))) (texts_decided (expanded_page pages page) (joined (lined o).before) o)
+    (calm_decided (content (own_items (lined o))))
+  where
+    by : Decided (IsBesideNoCall (joined (lined o).before) o) → Decided (AreNoFunctions (content (own_items (lined o))))
+        → Decided (IsBesideTexts (expanded_page pages page) (joined (lined o).before) o) → Decided (CallsNothing (content (own_items (lined o))))
+        → Answer pages page i is t a n.utf8 n.unrefused n.closed
+    by (inr f) b c d = inr (record { stands = s; begins_so = beside_a_call o rest are told at f })
+    by (inl x) (inr f) c d = inr (record { stands = s; begins_so = holds_a_function o rest are told at f })
+    by (inl x) (inl y) (inr f) d = inr (record { stands = s; begins_so = beside_a_text o rest are told at f })
+    by (inl x) (inl y) (inl z) (inr f) = inr (record { stands = s; begins_so = holds_a_pair o rest are told at f })
+    by (inl x) (inl y) (inl z) (inl w) =
+        inl (alone_told pages page i is t n a s o rest
+        (record {
+          utf8 = n.utf8;
+          closed = n.closed;
+          are = are;
+          told = told;
+          place = own_behind (expanded_page pages page) (joined (lined o).before) o own x y w z;
+        }) tree_so at)
+
+-- each line of text has something behind its marks
+texts_seen : (n : ℕ) (ls : Lines) → AreOfText n ls → AreSeen ls
+texts_seen n [] h = tt
+texts_seen n (l ∷ ls) h = (some_past n l (λ w. let wrong : line.Blank ≡ line.Text = sym w ∙ h.0 in absurd (cc)), texts_seen n ls h.1)
+
+-- the content of lines of the page
+content_ones : (pages : Pages) (page : List ℕ) (o : Told) (rest : Lines) → IsUtf8 page → refusal_of_page pages page ≡ None
+    → full_lines (expanded_page pages page).items ≡ all_lines (lined o ∷ []) rest → AreOnes (content (own_items (lined o)))
+content_ones pages page o rest u r are =
+    let own : List Item = own_items (lined o) in
+    let front : List Item = joined (lined o).before ++ (lined o).marks in
+    let all : (expanded_page pages page).items ≡ front ++ (own ++ joined rest) =
+    page_joined pages page (all_lines (lined o ∷ []) rest) are ∙ lines_joined (lined o) rest in
+    ones_front (content own) (ending own)
+    (subst AreOnes (sym (content_ending own)) (ones_front own (joined rest) (ones_behind front (own ++ joined rest) (subst AreOnes all (page_ones pages page u r)))))
 
 text_case : (pages : Pages) (page : List ℕ) (i : ℕ) (is : List ℕ) (t : Tree) (n : IsNodeAt pages page i is t) (a : AreAllChosen pages page) (s : StandsIn pages page t)
     (before : Lines) (first : List Item) (others behind : Lines)
@@ -296,7 +330,8 @@ text_case pages page i is t n a s before first others behind are cells apart tex
         let all : full_lines (expanded_page pages page).items ≡ all_lines (lined o ∷ []) behind =
         are ∙ ap (λ (l : List Item). before ++ ((l ∷ others) ++ behind)) (sym line_is) in
         by_place pages page i is t n a s o behind all told tree_so (at ∙ begins_so before first o refl refl)
-        (place_decided (expanded_page pages page) (joined before) o)
+        (text_own_lines first others s.block tree_is (own_tree pages page i is t n s) (texts_seen m (first ∷ others) here)
+        (content_ones pages page o behind n.utf8 n.unrefused all))
 
 heading_case : (pages : Pages) (page : List ℕ) (i : ℕ) (is : List ℕ) (t : Tree) (n : IsNodeAt pages page i is t) (a : AreAllChosen pages page) (s : StandsIn pages page t)
     (before : Lines) (own : List Item) (behind : Lines)
@@ -327,7 +362,8 @@ heading_case pages page i is t n a s before own behind are cells kind_is at tree
         let all : full_lines (expanded_page pages page).items ≡ all_lines (lined o ∷ []) behind =
         are ∙ ap (λ (l : List Item). before ++ l ∷ behind) (sym (led_whole own)) in
         by_place pages page i is t n a s o behind all told (λ round. tree_is ∙ heading_is before (led_by own) (past_marks own) behind round)
-        (at ∙ begins_so before own o refl refl) (place_decided (expanded_page pages page) (joined before) o)
+        (at ∙ begins_so before own o refl refl)
+        (heading_own_lines own s.block tree_is (own_tree pages page i is t n s) (content_ones pages page o behind n.utf8 n.unrefused all))
 
 by_lines : (pages : Pages) (page : List ℕ) (i : ℕ) (is : List ℕ) (t : Tree) (n : IsNodeAt pages page i is t) (a : AreAllChosen pages page) (s : StandsIn pages page t)
     → IsOfLines (full_lines (expanded_page pages page).items) (size s.before) s.block → Answer pages page i is t a n.utf8 n.unrefused n.closed

@@ -1,5 +1,5 @@
 -- A node of a page's tree, reached outside of groups, that holds none and isn't tangled, where the lines of the expanded page tell it: it is chosen.
-use Rattle.std.proofs.Common.{arith, ◌≡◌, ◌<◌, ℕ, ◌+◌, true, false, None, List, [], ◌∷◌, ◌++◌, length, refl, sym, ap, ◌∙◌, subst}
+use Rattle.std.proofs.Common.{arith, ◌≡◌, ◌<◌, ℕ, true, false, None, List, [], ◌∷◌, ◌++◌, length, refl, sym, ap, ◌∙◌, subst}
 use Rattle.std.proofs.lemmas.Grind.{flat_map-append}
 use Rattle.std.specs.Str.{IsUtf8}
 use Rattle.wt_span.specs.Items.{Item}
@@ -8,7 +8,7 @@ use Rattle.wt_span.specs.Runs.{AreRuns}
 use Rattle.wt_span.proofs.RunLaws.{runs_are}
 use Rattle.wt_tree.specs.Source.{flat}
 use Rattle.wt_tree.specs.Tiling.{HasNoGroup}
-use Rattle.wt_tree.specs.Tree.{Tree, Trees, label}
+use Rattle.wt_tree.specs.Tree.{Tree, label}
 use Rattle.wt_annotated.specs.Seams.{last_of, first_of, text_from}
 use Rattle.wt_annotated.specs.Walked.{clean_at}
 use Rattle.wt_inline.specs.Inside.{opened, opened_all}
@@ -18,8 +18,7 @@ use Rattle.wt_expand.specs.PageCalls.{expanded_page}
 use Rattle.wt_expand.specs.Work.{Pages}
 use Rattle.wt_commands.specs.Answers.{refusal_of_page}
 use Rattle.wt_isolation.specs.OpenTags.{any_ends_open}
-use Rattle.wt_lines.specs.Lines.{goes_on, content, full_lines}
-use Rattle.wt_page.specs.Body.{meaning}
+use Rattle.wt_lines.specs.Lines.{goes_on, full_lines}
 use Rattle.wt_page.proofs.HeldBody.{held_meaning}
 use Rattle.wt_page_round_trip.proofs.HeldPages.{items_ones, tree_ones}
 use Rattle.wt_page_round_trip.proofs.OpenedPages.{AreOnes, opened_text}
@@ -27,20 +26,20 @@ use Rattle.wt_tables.specs.Parts.{joined}
 use Rattle.wt_part_laws.specs.Placeless.{placeless}
 use Rattle.wt_part_laws.specs.Rounded.{HasItems}
 use Rattle.wt_part_laws.specs.Standing.{standing}
+use Rattle.wt_part_laws.proofs.OwnWalks.{OfPage}
 use Rattle.wt_selser.specs.Edits.{is_tangled}
 use Rattle.wt_text_edit_laws.specs.PageCuts.{EndsClosed}
-use Rattle.wt_text_edit_laws.specs.TextBlocks.{TextBlock, source_of, block_items, block_tree}
+use Rattle.wt_text_edit_laws.specs.TextBlocks.{TextBlock, source_of, block_tree}
 use Rattle.wt_text_edit_laws.proofs.Cuts.TextLines.{joined_is}
 use Rattle.wt_beside_laws.proofs.Made.OldBlocks.{no_group}
 use Rattle.wt_beside_laws.proofs.Derived.NodesHave.{full_nodes}
 use Rattle.wt_beside_laws.proofs.Made.OwnPages.{content_ordinary}
 use Rattle.wt_called_edit_laws.specs.AllTold.{starts_in}
-use Rattle.wt_called_edit_laws.specs.Covered.{NoGroupAt}
 use Rattle.wt_called_edit_laws.specs.Groups.{called_tree}
 use Rattle.wt_called_edit_laws.specs.PlacedLines.{LinedBlock, all_lines}
 use Rattle.wt_called_edit_laws.specs.RowBlocks.{IsTextBlock, IsReachedIn, StandsIn, node_between}
 use Rattle.wt_called_edit_laws.specs.ToldLines.{Told, lined}
-use Rattle.wt_called_edit_laws.specs.ToldTogether.{start_of, own_lines}
+use Rattle.wt_called_edit_laws.specs.ToldTogether.{start_of}
 use Rattle.wt_called_edit_laws.proofs.Cells.PlacedLines.{own_items}
 use Rattle.wt_called_edit_laws.proofs.TextsMake.{flat_same}
 use Rattle.wt_called_edit_laws.proofs.Told.FreeNodes.{IsFullTree, tree_untangled, tree_shut, same_shut}
@@ -111,6 +110,11 @@ text_before pages page t s xs ys u r e n =
     sym (opened_text calls None s.before mine) ∙ ap (text_from calls None) same ∙ opened_text calls None xs its
 
 -- ---- the node
+
+-- all in it is the page's own
+pub own_tree : (pages : Pages) (page : List ℕ) (i : ℕ) (is : List ℕ) (t : Tree) → IsNodeAt pages page i is t → (s : StandsIn pages page t) → OfPage (tree_items s.block)
+own_tree pages page i is t n s =
+    (full_tree (expanded_page pages page).outer s.number s.before s.block s.behind s.clean (subst HasNoGroup s.is n.ungrouped)).of_page
 
 -- by itself it is free
 free_alone : (pages : Pages) (page : List ℕ) (i : ℕ) (is : List ℕ) (t : Tree) → IsNodeAt pages page i is t → (s : StandsIn pages page t) (k : TextBlock) (q : List ℕ)

@@ -3,20 +3,20 @@ use Rattle.std.proofs.Common.{◌≡◌, ℕ, Bool, true, false, Option, None, L
 use Rattle.std.specs.Prelude.{◌||◌}
 use Rattle.std.specs.List.{list_any}
 use Rattle.wt_tree.specs.Kinds.{is_leaf, is_section}
-use Rattle.wt_tree.specs.Tiling.{is_group, HasNoGroup, NoneIsGroup}
-use Rattle.wt_tree.specs.Tree.{Tree, tree, Trees, none, more, label}
+use Rattle.wt_tree.specs.Tiling.{HasNoGroup, NoneIsGroup}
+use Rattle.wt_tree.specs.Tree.{Tree, tree, Trees, none, more}
 use Rattle.wt_span.specs.Items.{Item}
 use Rattle.wt_span.specs.Origins.{OuterCall}
 use Rattle.wt_checks.specs.Kept.{children}
 use Rattle.wt_inline.specs.ItemTree.{ItemTree, inner, ItemTrees, nothing, further, forest, tree_items, held_by_all}
 use Rattle.wt_annotated.specs.Annotated.{unplaced, all_unplaced, annotated}
 use Rattle.wt_annotated.specs.Clean.{is_page, is_body}
-use Rattle.wt_annotated.specs.CutTexts.{cut_texts, all_cut_texts}
+use Rattle.wt_annotated.specs.CutTexts.{cut_texts}
 use Rattle.wt_annotated.specs.GroupData.{group_data}
 use Rattle.wt_annotated.specs.Labels.{label_at}
-use Rattle.wt_annotated.specs.Numbering.{with_numbers, all_with_numbers}
+use Rattle.wt_annotated.specs.Numbering.{with_numbers}
 use Rattle.wt_annotated.specs.Seams.{last_of, first_of, parted, text_from}
-use Rattle.wt_annotated.specs.Walked.{clean_at, Near, near_group, near_runs, walked, near}
+use Rattle.wt_annotated.specs.Walked.{clean_at, Near, near_group, walked}
 use Rattle.wt_annotated.specs.WithoutCalls.{inside_by, holds_page, InsideOf, NoneEmpty, AllNonEmpty, IsPlain, placed}
 use Rattle.wt_annotated.proofs.Calls.{all_split}
 use Rattle.wt_annotated.proofs.NoGroups.{only_plain}
@@ -35,7 +35,7 @@ use Rattle.wt_text_edit_laws.specs.ParagraphBetween.{body_with}
 use Rattle.wt_called_edit_laws.specs.RowBlocks.{node_between}
 use Rattle.wt_called_edit_laws.proofs.SettledNodes.{placeless_groupless}
 use Rattle.wt_called_edit_laws.proofs.Told.FreeNodes.{IsFullTree}
-use Rattle.wt_called_edit_laws.proofs.AllTold.TreeBlocks.{all_finished, page_walked}
+use Rattle.wt_called_edit_laws.proofs.AllTold.TreeBlocks.{page_walked}
 
 -- ---- its node, wherever it is
 

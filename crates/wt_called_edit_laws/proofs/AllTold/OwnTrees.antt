@@ -1,11 +1,9 @@
 -- The tree of a block that its lines tell is that of its rows.
 use Rattle.std.proofs.Common.{arith, ◌≡◌, ℕ, Bool, true, false, List, [], ◌∷◌, ◌++◌, length, map, refl, sym, ap, ◌∙◌, subst, append-nil, append_assoc, length-append}
 use Rattle.std.specs.Prelude.{◌&&◌}
-use Rattle.std.specs.Str.{IsUtf8}
 use Rattle.std.specs.List.{list_all}
-use Rattle.wt_span.specs.Items.{Item, is_mark, sources}
+use Rattle.wt_span.specs.Items.{Item, is_mark}
 use Rattle.wt_span.specs.Runs.{AreRuns}
-use Rattle.wt_span.proofs.RunLaws.{runs_are}
 use Rattle.wt_expand.specs.PageItems.{page_items}
 use Rattle.wt_lines.specs.declared.kind.LineKind.{LineKind}
 use Rattle.wt_lines.specs.Lines.{goes_on, content, full_lines}
@@ -16,32 +14,24 @@ use Rattle.wt_page.specs.Lines.{ending}
 use Rattle.wt_page.specs.Rows.{Row, line_rows, rows_from}
 use Rattle.wt_page.specs.Texts.{para}
 use Rattle.wt_page.proofs.Ends.{content_ending}
-use Rattle.wt_text_edit_laws.specs.BlockSpots.{BlockSpot, spots_source}
-use Rattle.wt_text_edit_laws.specs.NoCalls.{CallsNothing}
 use Rattle.wt_text_edit_laws.specs.ParagraphParts.{break}
-use Rattle.wt_text_edit_laws.specs.PageCuts.{IsSpotCut, EndsClosed}
 use Rattle.wt_text_edit_laws.specs.ParagraphBetween.{written_rows}
 use Rattle.wt_text_edit_laws.specs.TextBlocks.{TextBlock, a_paragraph, a_heading, block_tree}
 use Rattle.wt_text_edit_laws.specs.TypedHeadings.{Sides, EndsLine}
 use Rattle.wt_text_edit_laws.proofs.Cuts.RowLines.{AllText}
-use Rattle.wt_text_edit_laws.proofs.Cuts.TextLines.{runs_behind, joined_both, lines_of, IsEnding}
+use Rattle.wt_text_edit_laws.proofs.Cuts.TextLines.{joined_both, lines_of, IsEnding}
 use Rattle.wt_text_edit_laws.proofs.Headings.HeadingRows.{round_is as heading_round_is}
-use Rattle.wt_text_edit_laws.proofs.Paragraphs.LineBlocks.{OwnBreaks, page_breaks}
 use Rattle.wt_text_edit_laws.proofs.Paragraphs.Marks.{AreMarks}
-use Rattle.wt_called_edit_laws.specs.AnyBlocks.{open_after, open_behind_part, past_break}
+use Rattle.wt_called_edit_laws.specs.AnyBlocks.{open_after, past_break}
 use Rattle.wt_called_edit_laws.specs.CalledContents.{items_round, AreItemsOf, StayText}
 use Rattle.wt_called_edit_laws.specs.LinedHeadings.{sides_of}
-use Rattle.wt_called_edit_laws.specs.PlacedLines.{LinedBlock, all_lines, end_by, AreLined}
-use Rattle.wt_called_edit_laws.specs.PlacedSpots.{AreBlocksIn}
+use Rattle.wt_called_edit_laws.specs.PlacedLines.{LinedBlock}
 use Rattle.wt_called_edit_laws.specs.RowBlocks.{text_row}
-use Rattle.wt_called_edit_laws.specs.ToldLines.{Told, a_paragraph_of, a_heading_on, lined, AreTold}
+use Rattle.wt_called_edit_laws.specs.ToldLines.{a_paragraph_of, a_heading_on, lined}
 use Rattle.wt_called_edit_laws.proofs.Cells.Cells.{own_para}
 use Rattle.wt_called_edit_laws.proofs.Cells.CellRows.{own_rows}
-use Rattle.wt_called_edit_laws.proofs.Cells.ContentItems.{round_is, items_by}
-use Rattle.wt_called_edit_laws.proofs.Cells.PlacedLines.{own_items, Round, round, AllBreaks, all_breaks, own_block, placed, FirstCut, first_cut, lined_whole}
+use Rattle.wt_called_edit_laws.proofs.Cells.PlacedLines.{own_items, Round}
 use Rattle.wt_called_edit_laws.proofs.Cells.SpotRows.{text_block, block_rows, block_is, led_para}
-use Rattle.wt_called_edit_laws.proofs.Told.OwnReads.{SpotIs, spot_is, further_there}
-use Rattle.wt_called_edit_laws.proofs.Told.ToldPages.{told_are_lined}
 use Rattle.wt_called_edit_laws.proofs.AllTold.LineKinds.{Lines}
 
 -- ---- one block of a page, by its lines
