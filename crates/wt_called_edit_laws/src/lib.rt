@@ -85,6 +85,7 @@ pub use body_paragraphs::{
 };
 pub use called_edits::{contents_beside_calls_are_made, styles_beside_calls_are_made};
 pub use calling_pages::{
+    paragraphs_have_nodes_beside_calls,
     blocks_that_call_are_untangled, blocks_that_call_stay_where_nothing_is_written,
     blocks_with_calls_are_whole, contents_beside_calls_are_taken,
     edits_of_blocks_that_call_are_apart, edits_of_blocks_that_call_make_the_page,
