@@ -35,7 +35,7 @@ head_groups pages s signs w f h =
       parts = λ i.
           let there = heading_in pages i s signs c in
           subst (ArePartsIn (part_items pages i (spelled s signs))) (sym (given i))
-              (simple_parts (part_items pages i (spelled s signs)) (parts_with s [] signs (owns_in pages i signs)) (parts_own s [] signs (owns_in pages i signs) there.own));
+          (simple_parts (part_items pages i (spelled s signs)) (parts_with s [] signs (owns_in pages i signs)) (parts_own s [] signs (owns_in pages i signs) there.own));
       groups = λ i.
           subst (λ (ps : List Part). AreGroups (part_items pages i (spelled s signs)) (call_pieces (children ps))) (sym (given i))
           (subst (λ (xs : List Item). AreGroups xs (call_pieces (children (parts_with s [] signs (owns_in pages i signs))))) (sym (items i))

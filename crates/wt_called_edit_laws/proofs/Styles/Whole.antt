@@ -362,8 +362,8 @@ styled_groups pages s t h =
       parts = λ i.
           let own = styled_in pages i s t h in
           subst (ArePartsIn (part_items pages i (spelled s signs))) (sym (given i))
-              (subst (λ (xs : List Item). ArePartsIn xs (styled_with false s [] t [] (owns_in pages i signs))) (sym (styled_gives pages i s t h))
-              (styled_parts_in pages (items_with s [] signs (owns_in pages i signs)) i s false false false [] t [] h.each h.nested own.own (λ j l. refl)));
+          (subst (λ (xs : List Item). ArePartsIn xs (styled_with false s [] t [] (owns_in pages i signs))) (sym (styled_gives pages i s t h))
+          (styled_parts_in pages (items_with s [] signs (owns_in pages i signs)) i s false false false [] t [] h.each h.nested own.own (λ j l. refl)));
       groups = λ i.
           let own = styled_in pages i s t h in
           subst (λ (ps : List Part). AreGroups (part_items pages i (spelled s signs)) (call_pieces (children ps))) (sym (given i))
