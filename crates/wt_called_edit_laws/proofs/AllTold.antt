@@ -28,3 +28,5 @@ pub mod Alone
 pub mod OneNode
 pub mod Complete
 pub mod AllAlone
+pub mod CallingStarts
+pub mod OnLines

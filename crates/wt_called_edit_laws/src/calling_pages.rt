@@ -20,14 +20,14 @@ ghost use Rattle.wt_called_edit_laws.specs.CallingContents.{TakesContentsIn};
 ghost use Rattle.wt_called_edit_laws.specs.CallingEdits.{AllTakeLetters, IsCallingPage, StaysAt, IsSentFor, MakesPage};
 ghost use Rattle.wt_called_edit_laws.specs.CallingGroups.{AreCallingOutside, block_with_groups, CallingNodesStay};
 ghost use Rattle.wt_called_edit_laws.specs.Covered.{IsEditablePage};
-ghost use Rattle.wt_called_edit_laws.specs.EditableBlocks.{IsEditableContent, IsEditableWithCalls};
+ghost use Rattle.wt_called_edit_laws.specs.EditableBlocks.{IsEditableWithCalls};
 ghost use Rattle.wt_called_edit_laws.specs.FreeBlocks.{NoTextCalls};
 ghost use Rattle.wt_called_edit_laws.specs.Sends.{AllSend};
 ghost use Rattle.wt_called_edit_laws.specs.Settled.{settled};
 ghost use Rattle.wt_called_edit_laws.specs.Uncalled.{SomeNoGroup};
 ghost use Rattle.wt_called_edit_laws.specs.Untangled.{AreUntangledFrom, AreWhole};
-ghost use Rattle.wt_called_edit_laws.specs.WholeContents.{EachWhole};
-ghost use Rattle.wt_called_edit_laws.specs.WrittenAnew.{EachHolds};
+ghost use Rattle.wt_called_edit_laws.specs.WholeContents.{EachWhole, IsWholeIn};
+ghost use Rattle.wt_called_edit_laws.specs.WrittenAnew.{EachHolds, HoldsAnywhere};
 
 /// With other contents beside the calls of its blocks (`AreEdited`), each of which holds its calls, takes letters before them and can be read by
 /// itself (`IsWholeIn`), such a page is one again: it is expanded, and its nodes stay.
@@ -94,9 +94,9 @@ pub fn pages_whose_blocks_call_are_told_by_bytes()
     ensures calm { (pages : Pages) (ss : List BlockSpot) (behind : List ℕ) → IsEditablePage pages ss behind → IsEditableWithCalls pages ss behind }
 {}
 
-/// A paragraph that may be edited has a node that is no group, whatever its calls give: something in it is the page's own.
+/// A paragraph that holds its calls, and can be read by itself, has a node that is no group, whatever the calls give: something in it is the page's own.
 #[tactic(auto)]
 pub fn paragraphs_have_nodes_beside_calls()
-    ensures { (pages : Pages) (calls : List OuterCall) (n s i : ℕ) (q : List ℕ) → IsEditableContent pages a_paragraph q
+    ensures { (pages : Pages) (calls : List OuterCall) (n s i : ℕ) (q : List ℕ) → HoldsAnywhere pages a_paragraph q → IsWholeIn pages a_paragraph q
         → SomeNoGroup (children (settled n s (cut_texts (block_in calls (tree_round a_paragraph (part_items pages i q)))))) }
 {}

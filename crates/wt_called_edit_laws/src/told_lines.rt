@@ -1,10 +1,11 @@
 //! Laws of paragraphs and headings that are told by nothing but the page's lines: what has to be known of each follows from
 //! the page.
 
-ghost use Rattle.std.specs.Prelude.{◌≡◌, ◌≤◌, false, None, List, [], ◌∷◌, ◌++◌, ℕ, length, map};
+ghost use Rattle.std.specs.Prelude.{◌≡◌, ◌≤◌, ◌⊎◌, false, None, List, [], ◌∷◌, ◌++◌, ℕ, length, map};
 ghost use Rattle.std.specs.Str.{IsUtf8};
 ghost use Rattle.wt_span.specs.Items.{Item};
 ghost use Rattle.wt_span.specs.Origins.{Expanded};
+ghost use Rattle.wt_tree.specs.Source.{flat};
 ghost use Rattle.wt_tree.specs.Tree.{Tree, label};
 ghost use Rattle.wt_lines.specs.Lines.{content, full_lines};
 ghost use Rattle.wt_commands.specs.Answers.{refusal_of_page};
@@ -20,6 +21,7 @@ ghost use Rattle.wt_beside_laws.specs.FlatBlocks.{signs_in};
 ghost use Rattle.wt_beside_laws.specs.StyledIn.{IsStyledIn};
 ghost use Rattle.wt_called_edit_laws.specs.AllTold.{AllBlocksTold};
 ghost use Rattle.wt_called_edit_laws.specs.CalledPages.{IsCalledPage};
+ghost use Rattle.wt_called_edit_laws.specs.CallingTold.{IsOnLines, IsExceptedByLines};
 ghost use Rattle.wt_called_edit_laws.specs.EditsAt.{IsStanding, AllStand};
 ghost use Rattle.wt_called_edit_laws.specs.Groups.{called_tree};
 ghost use Rattle.wt_called_edit_laws.specs.LinedAmong.{IsLinedAmong};
@@ -94,4 +96,12 @@ pub fn told_blocks_are_told_together()
 /// function is kept (`holds_a_function`).
 pub fn each_block_is_told_or_excepted()
     ensures all { (pages : Pages) (page : List ℕ) → IsUtf8 page → refusal_of_page pages page ≡ None → EndsClosed page [] → AllBlocksTold pages page }
+{}
+
+/// Each paragraph and each heading of a page's tree that is outside of groups and has a byte, with calls in it or without, is on
+/// lines of the expanded page (`IsOnLines`): these stand as a block does, and where by them it may be edited with its calls
+/// (`IsLinedCalling`), it is at its path that it may be. Excepted is what `IsExceptedAt` names.
+pub fn each_block_is_on_its_lines()
+    ensures on { (pages : Pages) (page p : List ℕ) (t : Tree) → IsUtf8 page → refusal_of_page pages page ≡ None → IsReachedAt p (called_tree pages page) t
+        → IsTextBlock (label t).kind → 1 ≤ length (flat t) → IsOnLines pages page p t ⊎ IsExceptedByLines pages page t }
 {}

@@ -60,7 +60,7 @@ pub record IsToldEdit (pages : Pages) (page : List ℕ) (paths : List (List ℕ)
   pub ordinary : AllByRecursion IsOrdinary (marked (page_tree pages page) new)
   pub among : AreSomeOf (paths_of (edits_of (called_tree pages page) new)) paths
 
--- A text edit, as it is read of HTML, of a page that isn't refused: it marks some blocks, each of which is ordinary.
+-- A text edit, as it is read of HTML, of a page that isn't refused: each block that it marks is ordinary.
 pub record IsOrdinaryEdit (pages : Pages) (page input : List ℕ) (new : Tree) (unsourced : Option ℕ) : Type 0 where
   pub utf8 : IsUtf8 page
   pub short : length page ≤ PAGE_BYTES
@@ -68,5 +68,4 @@ pub record IsOrdinaryEdit (pages : Pages) (page input : List ℕ) (new : Tree) (
   pub closed : EndsClosed page []
   pub sent : read input ≡ as_page new unsourced
   pub edit : IsTextEdit same_node (expanded_page pages page) page (page_tree pages page) new
-  pub some : 1 ≤ length (marked (page_tree pages page) new)
   pub blocks : AllByRecursion (IsOrdinaryOn pages page) (marked (page_tree pages page) new)

@@ -87,7 +87,7 @@ mutual
       (housed l.kind (subst (λ (v : Tree). IsTextBlock (label v).kind) (sym e) b), subst HasByte (sym e) h)
   block_there (i ∷ is) (tree l ts) u e b h = (e.0, block_in i is ts u e.1 b h)
 
-  block_in : (i : ℕ) (is : List ℕ) (ts : Trees) (u : Tree) → IsReachedIn i is ts u → IsTextBlock (label u).kind → HasByte u → BlockIn i is ts
+  pub block_in : (i : ℕ) (is : List ℕ) (ts : Trees) (u : Tree) → IsReachedIn i is ts u → IsTextBlock (label u).kind → HasByte u → BlockIn i is ts
   block_in i is none u e b h = e
   block_in zero is (more t ts) u e b h = block_there is t u e b h
   block_in (suc i) is (more t ts) u e b h = block_in i is ts u e b h
@@ -196,7 +196,7 @@ marks_blank n ms h =
     ap (λ (xs : List Item). kind_of_signs n (map sign xs)) (marks_content ms h) ∙ ap (kind_of_signs n) (sym (append-nil (map sign ms)))
     ∙ kind_marks n (map sign ms) [] (marks_signs ms h) ∙ blank_is n
 
-some_past : (n : ℕ) (l : List Item) → (kind_at n l ≡ line.Blank → ⊥) → 1 ≤ length (past_marks l)
+pub some_past : (n : ℕ) (l : List Item) → (kind_at n l ≡ line.Blank → ⊥) → 1 ≤ length (past_marks l)
 some_past n l k = by (past_marks l) refl
   where
     by : (xs : List Item) → past_marks l ≡ xs → 1 ≤ length xs
@@ -211,14 +211,14 @@ abbrev Answer : (pages : Pages) (page : List ℕ) (i : ℕ) (is : List ℕ) (t :
     → EndsClosed page [] → Type 0
 Answer pages page i is t a u r c = Told_at pages page i is a u r c ⊎ IsExcepted pages page t
 
-tables_same : (before : Lines) → tables_behind 0 before ≡ length (open_after [] (written_rows 0 before))
+pub tables_same : (before : Lines) → tables_behind 0 before ≡ length (open_after [] (written_rows 0 before))
 tables_same before = open_size [] 0 before refl
 
 text_all : (n : ℕ) (ls : Lines) → AreOfText n ls → AllText n ls
 text_all n [] h = tt
 text_all n (l ∷ ls) h = (h.0, text_all n ls h.1)
 
-text_lines_at : (n : ℕ) (ls : Lines) → AreOfText n ls → AreLinesAt n ls
+pub text_lines_at : (n : ℕ) (ls : Lines) → AreOfText n ls → AreLinesAt n ls
 text_lines_at n [] g = tt
 text_lines_at n (l ∷ ls) g = (g.0, text_lines_at n ls g.1)
 

@@ -95,7 +95,7 @@ front_same (x ∷ xs) ys (u ∷ us) vs e n =
     ap (λ (z : Item). z ∷ xs) (ap (item_or x) e) ∙ ap (λ (zs : List Item). u ∷ zs) (front_same xs ys us vs (ap other_items e) (omega (arith, n)))
 
 -- what is on the page before a node, where as many items are before it as these
-text_before : (pages : Pages) (page : List ℕ) (t : Tree) (s : StandsIn pages page t) (xs ys : List Item) → IsUtf8 page → refusal_of_page pages page ≡ None
+pub text_before : (pages : Pages) (page : List ℕ) (t : Tree) (s : StandsIn pages page t) (xs ys : List Item) → IsUtf8 page → refusal_of_page pages page ≡ None
     → (expanded_page pages page).items ≡ xs ++ ys → size s.before ≡ size xs
     → text_from (expanded_page pages page).outer None s.before ≡ text_from (expanded_page pages page).outer None xs
 text_before pages page t s xs ys u r e n =

@@ -1,4 +1,4 @@
--- A paragraph that may be edited has a node that is no group: something in it is the page's own.
+-- A paragraph that holds its calls has a node that is no group: something in it is the page's own.
 use Rattle.std.proofs.Common.{◌≡◌, ◌⊎◌, inl, inr, ℕ, zero, suc, ◌+◌, ◌==◌, Bool, true, false, Option, None, Some, List, [], ◌∷◌, ◌++◌, length, refl, sym, ap, ◌∙◌, subst, append_assoc, append-nil}
 use Rattle.std.specs.Prelude.{◌||◌, if◌then◌else◌}
 use Rattle.std.specs.List.{list_all, list_any}
@@ -34,10 +34,10 @@ use Rattle.wt_text_edit_laws.proofs.Blocks.OwnContents.{content_own}
 use Rattle.wt_beside_laws.specs.Nests.{style_tree}
 use Rattle.wt_beside_laws.proofs.Made.OldBlocks.{no_group}
 use Rattle.wt_called_edit_laws.specs.CalledContents.{tree_round}
-use Rattle.wt_called_edit_laws.specs.EditableBlocks.{IsEditableContent}
 use Rattle.wt_called_edit_laws.specs.Settled.{settled, all_settled}
 use Rattle.wt_called_edit_laws.specs.Uncalled.{SomeNoGroup}
-use Rattle.wt_called_edit_laws.specs.WholeContents.{IsShutNode, IsPartIn, HoldsGroups}
+use Rattle.wt_called_edit_laws.specs.WholeContents.{IsShutNode, IsPartIn, HoldsGroups, IsWholeIn}
+use Rattle.wt_called_edit_laws.specs.WrittenAnew.{HoldsAnywhere}
 use Rattle.wt_called_edit_laws.proofs.CallingMade.{calm_block}
 use Rattle.wt_called_edit_laws.proofs.Cells.ContentItems.{tree_is}
 use Rattle.wt_called_edit_laws.proofs.Whole.Blocks.{nodes_are}
@@ -191,10 +191,10 @@ calm_uncalled n s q c calm =
     (subst (λ (t : ItemTree). list_any is_page (tree_items t) ≡ true) is (has_page (block_tree a_paragraph q) own.has_items))
     (subst (λ (t : ItemTree). HasNoGroup (standing 0 [] t)) is (no_group a_paragraph q 0 [] c.utf8 c.is c.unended calm)))
 
--- ---- of any that may be edited
+-- ---- of any
 
-pub editable_uncalled : (pages : Pages) (calls : List OuterCall) (n s i : ℕ) (q : List ℕ) → IsEditableContent pages a_paragraph q
+pub whole_uncalled : (pages : Pages) (calls : List OuterCall) (n s i : ℕ) (q : List ℕ) → HoldsAnywhere pages a_paragraph q → IsWholeIn pages a_paragraph q
     → SomeNoGroup (nodes_in (settled n s (cut_texts (block_in calls (tree_round a_paragraph (part_items pages i q))))))
-editable_uncalled pages calls n s i q (inl c) =
+whole_uncalled pages calls n s i q hold (inl c) =
     subst (λ (t : Tree). SomeNoGroup (nodes_in (settled n s t))) (sym (calm_block pages calls i a_paragraph q c.0 c.1)) (calm_uncalled n s q c.0 c.1)
-editable_uncalled pages calls n s i q (inr h) = holds_uncalled pages calls n s i q (h.holds i) h.whole
+whole_uncalled pages calls n s i q hold (inr h) = holds_uncalled pages calls n s i q (hold i) h
