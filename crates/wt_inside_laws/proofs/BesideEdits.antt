@@ -6,6 +6,7 @@ use Rattle.wt_span.specs.declared.limits.TheConstants.{PAGE_BYTES}
 use Rattle.wt_span.specs.Items.{Item}
 use Rattle.wt_span.specs.Origins.{OuterCall}
 use Rattle.wt_tree.specs.Source.{flat}
+use Rattle.wt_tree.specs.Tiling.{is_group}
 use Rattle.wt_tree.specs.Tree.{Label, Tree, label}
 use Rattle.wt_checks.specs.Places.{page_of}
 use Rattle.wt_annotated.specs.CutTexts.{cut_texts}
@@ -43,6 +44,7 @@ use Rattle.wt_called_edit_laws.specs.WrittenAnew.{EachHolds, HoldsAnywhere}
 use Rattle.wt_called_edit_laws.proofs.Among.CallingLines.{calling_whole, calling_editable}
 use Rattle.wt_called_edit_laws.proofs.CallingMade.{calm_block, calm_standing}
 use Rattle.wt_called_edit_laws.proofs.EditableBlocks.{editable_calling}
+use Rattle.wt_called_edit_laws.proofs.PageBody.{page_body}
 use Rattle.wt_called_edit_laws.proofs.SettledEdits.{AreOfBlocks, all_there}
 use Rattle.wt_called_edit_laws.proofs.SpotSources.{grouped_at, blocks_have}
 use Rattle.wt_inside_laws.specs.AsSent.{edit_for, edits_of, paths_of, node_at, IsAlike, IsSentOn}
@@ -59,6 +61,7 @@ use Rattle.wt_inside_laws.proofs.PageAlike.{page_plain, text_edit_sent}
 use Rattle.wt_inside_laws.proofs.ReadSent.{read_for, read_blocks}
 use Rattle.wt_inside_laws.proofs.Reached.{Reaches, edits_reach}
 use Rattle.wt_inside_laws.proofs.ToldEdits.{PairAt, pair_at, path_by, calm_fits, reads}
+use Rattle.wt_inside_laws.proofs.UncalledBlocks.{block_uncalled, all_own_texts}
 
 -- ---- a marked block
 
