@@ -85,11 +85,11 @@ pub use body_paragraphs::{
 };
 pub use called_edits::{contents_beside_calls_are_made, styles_beside_calls_are_made};
 pub use calling_pages::{
-    paragraphs_have_nodes_beside_calls,
     blocks_that_call_are_untangled, blocks_that_call_stay_where_nothing_is_written,
     blocks_with_calls_are_whole, contents_beside_calls_are_taken,
     edits_of_blocks_that_call_are_apart, edits_of_blocks_that_call_make_the_page,
     pages_whose_blocks_call_are_such_again, pages_whose_blocks_call_are_told_by_bytes,
+    paragraphs_have_nodes_beside_calls,
 };
 pub use in_pieces::{
     headings_in_pieces_may_be_edited, letters_may_be_typed_before_calls,

@@ -1,12 +1,12 @@
 -- A paragraph that holds its calls has a node that is no group: something in it is the page's own.
-use Rattle.std.proofs.Common.{◌≡◌, ◌⊎◌, inl, inr, ℕ, zero, suc, ◌+◌, ◌==◌, Bool, true, false, Option, None, Some, List, [], ◌∷◌, ◌++◌, length, refl, sym, ap, ◌∙◌, subst, append_assoc, append-nil}
+use Rattle.std.proofs.Common.{◌≡◌, inl, inr, ℕ, zero, suc, ◌+◌, ◌==◌, Bool, true, false, Option, None, Some, List, [], ◌∷◌, ◌++◌, length, refl, sym, ap, ◌∙◌, subst, append_assoc, append-nil}
 use Rattle.std.specs.Prelude.{◌||◌, if◌then◌else◌}
 use Rattle.std.specs.List.{list_all, list_any}
 use Rattle.wt_tree.specs.declared.kind.Kind.TheVariants as kind
 use Rattle.wt_tree.specs.Tiling.{is_group, HasNoGroup}
 use Rattle.wt_tree.specs.Source.{flat}
-use Rattle.wt_tree.specs.Tree.{Tree, tree, Trees, none, more, label}
-use Rattle.wt_span.specs.Items.{Item, call_of}
+use Rattle.wt_tree.specs.Tree.{Tree, label}
+use Rattle.wt_span.specs.Items.{Item}
 use Rattle.wt_span.specs.Origins.{OuterCall}
 use Rattle.wt_inline.specs.ItemTree.{plain, ItemTree, inner, forest, tree_items, held_by_all}
 use Rattle.wt_inline.specs.Parts.{Part, children}
@@ -18,7 +18,7 @@ use Rattle.wt_annotated.specs.Seams.{first_of}
 use Rattle.wt_checks.specs.Kept.{children as nodes_in}
 use Rattle.wt_expand.specs.PageItems.{page_items}
 use Rattle.wt_expand.specs.Work.{Pages}
-use Rattle.wt_part_laws.specs.CallPieces.{AreItemsOf, IsOfCall, AreOfCall, IsOwnOrGiven, CallPiece, own, given, given_before, piece_before, call_pieces, piece_in_page, pieces_in_page}
+use Rattle.wt_part_laws.specs.CallPieces.{AreItemsOf, IsOfCall, IsOwnOrGiven, CallPiece, own, given, given_before, piece_before, call_pieces, piece_in_page, pieces_in_page}
 use Rattle.wt_part_laws.specs.Expanded.{part_items}
 use Rattle.wt_part_laws.specs.HeldCalls.{block_in, HoldsItsCalls, IsRoundGiven}
 use Rattle.wt_part_laws.specs.Placeless.{placeless}
