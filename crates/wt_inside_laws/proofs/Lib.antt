@@ -53,6 +53,7 @@ pub mod HtmlEdits
 pub mod OrdinaryEdits
 pub mod NothingMoved
 pub mod LocalTextEdits
+pub mod TypedApart
 pub mod InsidesCases
 pub mod PageCases
 pub mod LocalCases

@@ -73,7 +73,7 @@ mutual
       let ts : Trees = page_nodes es in (
         refl,
         subst (λ (s : Shift). MovesIn no_shift s l.ranges l.ranges) (sym (past_all_still es no_shift ts ts n))
-        (still_there page l.ranges (flat (tree l ts)) (opening_of l) l.closing h.0),
+            (still_there page l.ranges (flat (tree l ts)) (opening_of l) l.closing h.0),
         all_local_still page es n o.1 (below page (is_group l.kind) ts o.0 h.1),
       )
 
@@ -85,7 +85,7 @@ mutual
       let s = each_split (IsSlice page) (reached (page_node e)) (reached_in_all (page_nodes es)) h in (
         local_still page e d.0 o.0 s.0,
         subst (λ (v : Shift). AreLocal es v (page_nodes es) (page_nodes es)) (sym (past_still e no_shift (page_node e) (page_node e) d.0))
-        (all_local_still page es d.1 o.1 s.1),
+            (all_local_still page es d.1 o.1 s.1),
       )
 
 -- ---- the page

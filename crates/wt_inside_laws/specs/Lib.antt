@@ -17,3 +17,4 @@ pub mod ToldEdits
 pub mod HtmlEdits
 pub mod BesideEdits
 pub mod LocalTextEdits
+pub mod TypedApart
