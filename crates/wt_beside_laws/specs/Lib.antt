@@ -39,3 +39,4 @@ pub mod Called
 pub mod Given
 pub mod StyledCalls
 pub mod OwnLed
+pub mod OpenEnds

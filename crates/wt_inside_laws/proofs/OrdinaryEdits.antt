@@ -72,7 +72,7 @@ marked_told : (pages : Pages) (page : List ℕ) (a : AllBlocksTold pages page) (
     → node_at q (called_tree pages page) ≡ Some m.old → IsRetyped same_node (expanded_page pages page) page m → IsOrdinaryOn pages page m
     → IsTold pages page a q
 marked_told pages page a q m w e r o =
-    told_of pages page a q m.old o.told (a.complete q m.old (w m.old e) (block_kind (label m.old).kind r.block) o.ungrouped r.untangled)
+    told_of pages page a q m.old o.told (a.complete q m.old (w m.old e) (block_kind (label m.old).kind r.block) o.ungrouped r.untangled r.closed)
 
 abbrev nodes_at : Tree → List (List ℕ) → List (Option Tree)
 nodes_at t qs = map (λ q. node_at q t) qs
@@ -140,7 +140,7 @@ ordinary_sent pages page input new u h =
 pub ordinary_told : (pages : Pages) (page input : List ℕ) (new : Tree) (u : Option ℕ) → IsOrdinaryEdit pages page input new u
     → 1 ≤ length (marked (page_tree pages page) new) → OrdinaryTold pages page new
 ordinary_told pages page input new u h some =
-    let a : AllBlocksTold pages page = all_blocks pages page h.utf8 h.unrefused h.closed in
+    let a : AllBlocksTold pages page = all_blocks pages page h.utf8 h.unrefused in
     let t : Tree = called_tree pages page in
     let ms : List Pair = marked (page_tree pages page) new in
     let es : Edits = edits_of t new in

@@ -25,7 +25,7 @@ use Rattle.wt_typed_blocks.specs.Sent.{kind_of}
 use Rattle.wt_text_edit_laws.specs.ParagraphBetween.{written_rows, tables_behind, EndApart, BeginApart}
 use Rattle.wt_text_edit_laws.specs.TextBetween.{AreEnded}
 use Rattle.wt_text_edit_laws.specs.TextBlocks.{TextBlock, a_paragraph, a_heading, block_of}
-use Rattle.wt_called_edit_laws.specs.AllTold.{starts_in, text_on_a_sign, unended_marks}
+use Rattle.wt_called_edit_laws.specs.AllTold.{starts_in, text_on_a_sign}
 use Rattle.wt_called_edit_laws.specs.AnyBlocks.{open_after}
 use Rattle.wt_called_edit_laws.specs.CallingTold.{TakesThere, as_block, IsOnLines, IsExceptedByLines}
 use Rattle.wt_called_edit_laws.specs.Groups.{called_tree}
@@ -104,7 +104,7 @@ text_on pages page i is t n s before first others behind are cells apart texts s
     here = subst (λ (j : ℕ). AreOfText j (first ∷ others)) (tables_same before) texts
 
     by : Decided (AreEnded (sources (led_by first))) → Answer pages page i is t
-    by (inr f) = inr (record { stands = s; by_lines = unended_marks before first (others ++ behind) are at f })
+    by (inr f) = inr (record { stands = s; by_lines = inr (record { before = before; line = first; behind = others ++ behind; are = are; begins = at; unended = f }) })
     by (inl e) = inl (record {
       before = before;
       marks = led_by first;
@@ -137,7 +137,7 @@ heading_on pages page i is t n s before own behind are cells line_kind at kind_i
     by (ended_decided (sources (led_by own)))
   where
     by : Decided (AreEnded (sources (led_by own))) → Answer pages page i is t
-    by (inr f) = inr (record { stands = s; by_lines = unended_marks before own behind are at f })
+    by (inr f) = inr (record { stands = s; by_lines = inr (record { before = before; line = own; behind = behind; are = are; begins = at; unended = f }) })
     by (inl e) = inl (record {
       before = before;
       marks = led_by own;
@@ -174,7 +174,7 @@ by_lines pages page i is t n s (of_line before own behind are cells line_kind at
     ∙ heading_kind calls s.number s.before (content (past_marks own)) s.behind in
     heading_on pages page i is t n s before own behind are cells line_kind at kind_is
 by_lines pages page i is t n s (behind_a_sign before first others behind are unended at tree_is) =
-    inr (record { stands = s; by_lines = text_on_a_sign before first others behind are unended at })
+    inr (record { stands = s; by_lines = inl (text_on_a_sign before first others behind are unended at) })
 
 pub on_lines : (pages : Pages) (page p : List ℕ) (t : Tree) → IsUtf8 page → refusal_of_page pages page ≡ None → IsReachedAt p (called_tree pages page) t
     → IsTextBlock (label t).kind → 1 ≤ length (flat t) → IsOnLines pages page p t ⊎ IsExceptedByLines pages page t
