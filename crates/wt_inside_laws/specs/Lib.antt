@@ -17,3 +17,4 @@ pub mod HtmlEdits
 pub mod BesideEdits
 pub mod OneBlock
 pub mod LocalTextEdits
+pub mod TypedApart
