@@ -109,5 +109,5 @@ stood_stay a (thing t ∷ after) s u e =
     let own : List Glyph = own_glyphs t in
     add_thing (is_tagged own) t (spine after) e
     (λ n. open_back (tag_at own) (length own) (spine after) (line_glyphs after) (λ k g. none_back k 0 after u n g)
-      (read_open a own (line_glyphs after) s.0.shape s.0.form s.0.whole))
+    (read_open a own (line_glyphs after) s.0.shape s.0.form s.0.whole))
     (λ f. stood_stay (ends_word a own) after s.1 u f)

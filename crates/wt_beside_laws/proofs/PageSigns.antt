@@ -138,11 +138,12 @@ letters_untagged (c ∷ cs) rest n h u =
     subst (λ (hs : List Glyph). NoneTagged hs (line_glyphs rest)) (bytes_append (encode_utf8 c) (encodes cs)) h in
     let first : tag_at (glyph.Byte c ∷ (gs ++ line_glyphs rest)) ≡ None = elim (cases_lt c 128) [
       | inl small ↦ (let own : NoneTagged (glyph.Byte c ∷ gs) (line_glyphs rest) =
-      subst (λ (bs : List ℕ). NoneTagged (byte_glyphs bs ++ gs) (line_glyphs rest)) (encode_ascii c small) both in own.0)
+          subst (λ (bs : List ℕ). NoneTagged (byte_glyphs bs ++ gs) (line_glyphs rest)) (encode_ascii c small) both in own.0)
       | inr wide ↦ wide_untagged c (gs ++ line_glyphs rest) wide
-    ] in
-    (subst (λ (hs : List Glyph). tag_at (glyph.Byte c ∷ hs) ≡ None) (sym (letters_glyphs cs rest r.1)) first,
-      letters_untagged cs rest r.1 (tagged_later (byte_glyphs (encode_utf8 c)) gs (line_glyphs rest) both) u)
+    ] in (
+      subst (λ (hs : List Glyph). tag_at (glyph.Byte c ∷ hs) ≡ None) (sym (letters_glyphs cs rest r.1)) first,
+      letters_untagged cs rest r.1 (tagged_later (byte_glyphs (encode_utf8 c)) gs (line_glyphs rest) both) u,
+    )
 
 -- ---- what is shown of the signs of some items
 
@@ -212,9 +213,10 @@ none_tagged : (n : ℕ) (a : Bool) (xs : List Item)
     → NoneTagged (map glyph_of (take n xs)) (map glyph_of (drop n xs))
 none_tagged zero a xs f = tt
 none_tagged (suc n) a [] f = tt
-none_tagged (suc n) a (char o b ∷ xs) f =
-    (subst (λ (gs : List Glyph). tag_at (glyph.Byte b ∷ gs) ≡ None) (both_glyphs n xs) (untiled a b (map glyph_of xs) (f 0 (omega arith))),
-      none_tagged n (is_word b) xs (λ k lt. later k lt))
+none_tagged (suc n) a (char o b ∷ xs) f = (
+  subst (λ (gs : List Glyph). tag_at (glyph.Byte b ∷ gs) ≡ None) (both_glyphs n xs) (untiled a b (map glyph_of xs) (f 0 (omega arith))),
+  none_tagged n (is_word b) xs (λ k lt. later k lt),
+)
   where
     later : (k : ℕ) → k < n → tile_at in_line (word_before (is_word b) (map glyph_of xs) k) (drop k (map glyph_of xs)) ≡ None
     later zero lt = f 1 (omega (arith, lt))

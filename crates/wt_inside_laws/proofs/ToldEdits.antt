@@ -86,7 +86,7 @@ pub same_node_at : (t v : Tree) → Some t ≡ Some v → t ≡ v
 same_node_at t v e = cc
 
 mutual
-  stands_at : (u : ItemTree) (p : List ℕ) (t v : Tree) → StandsTo u p t → node_at p t ≡ Some v → IsStanding u v
+  pub stands_at : (u : ItemTree) (p : List ℕ) (t v : Tree) → StandsTo u p t → node_at p t ≡ Some v → IsStanding u v
   stands_at u [] t v h e = subst (IsStanding u) (same_node_at t v e) h
   stands_at u (i ∷ is) (tree l ts) v h e = stands_among u i is ts v h e
 

@@ -15,4 +15,6 @@ pub mod SameBut
 pub mod ToldEdits
 pub mod HtmlEdits
 pub mod BesideEdits
+pub mod OneBlock
 pub mod LocalTextEdits
+pub mod TypedApart

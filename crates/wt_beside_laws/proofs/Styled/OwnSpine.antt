@@ -180,16 +180,25 @@ line_then block at [] qs ts vs h l so r =
     subst (λ (os : List Thing). HaveSpine block at qs (spined os vs)) (sym h) (subst (λ (n : ℕ). HaveSpine block n qs vs) z r)
 line_then block at (loose k o b ∷ ps) qs ts vs h l so r =
     let w : ℕ = parts_width ps in
-    let z : at + (1 + w) ≡ at + 1 + w = omega arith in
-    (h.0, spined ts vs, ap (λ (v : Bool). if v then None ∷ spined ts vs else spined ts vs) (sym l.0),
-      line_then block (at + 1) ps qs ts vs h.1 l.1 so (subst (λ (n : ℕ). HaveSpine block n qs vs) z r))
+    let z : at + (1 + w) ≡ at + 1 + w = omega arith in (
+      h.0,
+      spined ts vs,
+      ap (λ (v : Bool). if v then None ∷ spined ts vs else spined ts vs) (sym l.0),
+      line_then block (at + 1) ps qs ts vs h.1 l.1 so (subst (λ (n : ℕ). HaveSpine block n qs vs) z r),
+    )
 line_then block at (node u ∷ ps) qs ts vs h l so r =
     let w : ℕ = parts_width ps in
     let m : ℕ = length (tree_source u) in
     let z : at + (m + w) ≡ at + m + w = omega arith in
-    let each = so_parts block h.0 h.1 (subst (AreSoIn block) h.2 so) in
-    (h.0, spined h.1 vs, ap (λ (os : List Thing). spined os vs) h.2 ∙ spined_append h.0 h.1 vs, h.3, each.0, l.0,
-      line_then block (at + m) ps qs h.1 vs h.4 l.1 each.1 (subst (λ (n : ℕ). HaveSpine block n qs vs) z r))
+    let each = so_parts block h.0 h.1 (subst (AreSoIn block) h.2 so) in (
+      h.0,
+      spined h.1 vs,
+      ap (λ (os : List Thing). spined os vs) h.2 ∙ spined_append h.0 h.1 vs,
+      h.3,
+      each.0,
+      l.0,
+      line_then block (at + m) ps qs h.1 vs h.4 l.1 each.1 (subst (λ (n : ℕ). HaveSpine block n qs vs) z r),
+    )
 
 -- ---- lines
 
