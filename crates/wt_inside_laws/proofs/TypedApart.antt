@@ -57,7 +57,7 @@ pair_apart : (pages : Pages) (page : List ℕ) (k : TextBlock) (q : List ℕ) (p
 pair_apart pages page k q p c r s retyped alike read ended =
     let styled : IsStyledIn k q = content_styled k q c r ended.ended in
     let edit : IsStyledEditOf k p.old (pieces_for p) =
-    standing_edit k q (expanded_page pages page) page p retyped read.read read.utf8 s styled ended.unmarked ended.paired in
+    standing_edit k q (expanded_page pages page) page p retyped read.read read.utf8 s styled ended.unmarked ended.tags in
     record {
       block = k;
       text = q;
