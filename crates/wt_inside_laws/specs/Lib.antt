@@ -16,4 +16,5 @@ pub mod SameBut
 pub mod ToldEdits
 pub mod HtmlEdits
 pub mod BesideEdits
+pub mod TextAndCallBlocks
 pub mod LocalTextEdits
