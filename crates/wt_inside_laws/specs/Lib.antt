@@ -1,7 +1,6 @@
 pub mod TextsReplaced
 pub mod AnyReplaced
 pub mod Contents
-pub mod OpenLines
 pub mod TextEdits
 pub mod RetypedPieces
 pub mod RetypedCalls
@@ -17,4 +16,6 @@ pub mod ToldEdits
 pub mod HtmlEdits
 pub mod BesideEdits
 pub mod TextAndCallBlocks
+pub mod OneBlock
 pub mod LocalTextEdits
+pub mod TypedApart
