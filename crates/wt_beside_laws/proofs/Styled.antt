@@ -34,7 +34,7 @@ pub mod LedLines
 pub mod OwnFirst
 pub mod OwnNests
 pub mod SentNests
-pub mod SentPaired
+pub mod SentKept
 pub mod UrlEnds
 pub mod UrlsApart
 mod Cases

@@ -23,6 +23,7 @@ pub mod FlatPages
 pub mod FlatBlocks
 pub mod HeldLines
 pub mod EndedNodes
+pub mod OpenTags
 pub mod ContentEdits
 pub mod Nests
 pub mod Styled

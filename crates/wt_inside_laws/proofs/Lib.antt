@@ -35,6 +35,7 @@ pub mod ReadSent
 pub mod SlotTexts
 pub mod OwnPieces
 pub mod SlotsLed
+pub mod SlotsOpen
 pub mod Breaks
 pub mod SlotsFirst
 pub mod OwnEdits

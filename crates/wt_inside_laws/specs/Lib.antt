@@ -1,6 +1,7 @@
 pub mod TextsReplaced
 pub mod AnyReplaced
 pub mod Contents
+pub mod OpenLines
 pub mod TextEdits
 pub mod RetypedPieces
 pub mod RetypedCalls
@@ -14,5 +15,5 @@ pub mod Swaps
 pub mod SameBut
 pub mod ToldEdits
 pub mod HtmlEdits
-pub mod LocalTextEdits
 pub mod BesideEdits
+pub mod LocalTextEdits

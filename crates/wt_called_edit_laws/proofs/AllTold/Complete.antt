@@ -27,15 +27,15 @@ use Rattle.wt_part_laws.specs.Slots.{AllTrue}
 use Rattle.wt_selser.specs.Edits.{is_tangled}
 use Rattle.wt_text_edit_laws.specs.BlockSpots.{BlockSpot, spots_source}
 use Rattle.wt_text_edit_laws.specs.Contents.{IsContentOf}
-use Rattle.wt_text_edit_laws.specs.PageCuts.{EndsClosed, begins_unmarked}
 use Rattle.wt_text_edit_laws.specs.NoCalls.{CallsNothing}
+use Rattle.wt_text_edit_laws.specs.PageCuts.{EndsClosed}
 use Rattle.wt_text_edit_laws.specs.ParagraphBetween.{written_rows, tables_behind, EndApart, BeginApart}
 use Rattle.wt_text_edit_laws.specs.TextBetween.{AreEnded}
 use Rattle.wt_text_edit_laws.specs.TextBlocks.{block_tree}
 use Rattle.wt_text_edit_laws.proofs.Cuts.RowLines.{AllText}
 use Rattle.wt_text_edit_laws.proofs.Paragraphs.Marks.{mark_sign, AreMarkSigns, kind_marks}
 use Rattle.wt_text_edit_laws.proofs.Cuts.TextLines.{led_first, content_unled}
-use Rattle.wt_called_edit_laws.specs.AllTold.{starts_in, IsExceptedAt, text_on_a_sign, unended_marks, IsExceptedIn, by_its_lines, beside_a_call, IsExcepted, IsOneOf, AllBlocksTold, IsBesideNoCall, AreNoFunctions, IsBesideTexts, holds_a_function, beside_a_text, holds_a_pair}
+use Rattle.wt_called_edit_laws.specs.AllTold.{starts_in, IsBesideNoCall, AreNoFunctions, IsBesideTexts, IsExceptedAt, text_on_a_sign, unended_marks, by_its_lines, beside_a_call, holds_a_function, beside_a_text, holds_a_pair, IsExcepted, IsOneOf, AllBlocksTold}
 use Rattle.wt_called_edit_laws.specs.AnyBlocks.{open_after}
 use Rattle.wt_called_edit_laws.specs.CalledBlocks.{tree_by}
 use Rattle.wt_called_edit_laws.specs.CalledPages.{IsCalledPage}

@@ -1,5 +1,6 @@
 -- A worked case by computing: a whole page told by its lines, which are a heading's, one with nothing between its `=`, two paragraphs,
--- and one in a cell. The second paragraph is behind a comment.
+-- and one in a cell. The first paragraph begins with a tab and a
+-- comment behind it, the second is behind a comment.
 use Rattle.std.proofs.Common.{arith, ◌≡◌, ℕ, true, None, List, [], ◌∷◌, ◌++◌, map, refl, sym, ap, ◌∙◌, subst}
 use Rattle.std.specs.Prelude.{codes}
 use Rattle.std.specs.Str.{IsUtf8}
@@ -45,7 +46,7 @@ use Rattle.wt_called_edit_laws.specs.ToldLines.{Told, a_paragraph_of, a_heading_
 use Rattle.wt_called_edit_laws.proofs.Cells.PageCases.{is_free, are_free, free_node}
 
 abbrev page : List ℕ
-page = codes "== a ==\n== ==\nb\n\n<!--c-->d\n{|\n|\ne\n|}"
+page = codes "== a ==\n== ==\n" ++ 9 ∷ codes "<!--c-->b\n\n<!--c-->d\n{|\n|\ne\n|}"
 
 abbrev remark : Item
 remark = whole form.Comment None (codes "<!--c-->")
@@ -54,7 +55,7 @@ abbrev told : List Told
 told =
     a_heading_on [] [] (page_chars (codes "== a ==\n"))
     ∷ a_heading_on [] [] (page_chars (codes "== ==\n"))
-    ∷ a_paragraph_of [] [] (page_chars (codes "b\n")) []
+    ∷ a_paragraph_of [] [] (char None 9 ∷ remark ∷ page_chars (codes "b\n")) []
     ∷ a_paragraph_of (page_chars (codes "\n") ∷ []) (remark ∷ []) (page_chars (codes "d\n")) []
     ∷ a_paragraph_of (page_chars (codes "{|\n") ∷ page_chars (codes "|\n") ∷ []) [] (page_chars (codes "e\n")) []
     ∷ []
@@ -63,7 +64,7 @@ abbrev behind : List (List Item)
 behind = page_chars (codes "|}") ∷ []
 
 abbrev items : List Item
-items = page_chars (codes "== a ==\n== ==\nb\n\n") ++ remark ∷ page_chars (codes "d\n{|\n|\ne\n|}")
+items = page_chars (codes "== a ==\n== ==\n") ++ char None 9 ∷ remark ∷ page_chars (codes "b\n\n") ++ remark ∷ page_chars (codes "d\n{|\n|\ne\n|}")
 
 are_items : page_items page ≡ items
 unfolding page_items words closed form_at comment_len comment_line_len raw_len opening_tag tag_after closing_tag with_inside is_extension include_at entity_at
