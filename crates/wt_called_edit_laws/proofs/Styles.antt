@@ -13,3 +13,5 @@ pub mod Whole
 pub mod Making
 pub mod Cases
 mod PageCases
+pub mod InsideCases
+mod InsidePageCases
