@@ -10,6 +10,7 @@ pub mod Written
 pub mod Lined
 pub mod Groups
 pub mod Whole
+pub mod Headings
 pub mod Making
 pub mod Cases
 mod PageCases

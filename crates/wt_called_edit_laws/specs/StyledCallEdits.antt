@@ -1,5 +1,5 @@
--- A paragraph of the page with calls and with bold and italic in it, for which one with other texts beside these calls, and with other styles, is sent:
--- what is written for it.
+-- A paragraph or heading of the page with calls and with bold and italic in it, for which one with other texts beside these calls, and with other styles,
+-- is sent: what is written for it.
 use Rattle.std.specs.Prelude.{◌≡◌, ℕ, true, false, List, [], ◌∷◌, ◌≢◌}
 use Rattle.std.specs.Str.{IsUtf8}
 use Rattle.wt_tree.specs.EditShapes.{edit_shape}
@@ -17,6 +17,7 @@ use Rattle.wt_link_spelling.specs.Spelling.{children_of}
 use Rattle.wt_expand.specs.PageCalls.{expanded_page}
 use Rattle.wt_expand.specs.Work.{Pages}
 use Rattle.wt_part_laws.specs.Expanded.{part_items}
+use Rattle.wt_text_edit_laws.specs.TextBlocks.{TextBlock}
 use Rattle.wt_typed_blocks.specs.Edited.{Pieces, PiecesStay, around, gone, kept, new_style, no_pieces, page_pieces, written}
 use Rattle.wt_beside_laws.specs.Called.{AreSomeOfPage}
 use Rattle.wt_beside_laws.specs.Cuts.{own_glyphs}
@@ -26,7 +27,7 @@ use Rattle.wt_beside_laws.specs.NodeItems.{node_items}
 use Rattle.wt_beside_laws.specs.SentStyled.{AllNest, style_face}
 use Rattle.wt_beside_laws.specs.StyledCalls.{AreUnstyledParts}
 use Rattle.wt_beside_laws.specs.StyledNodes.{EndsUnquoted}
-use Rattle.wt_called_edit_laws.specs.CalledEdits.{IsChildBeside, SendsUncalled, page_things}
+use Rattle.wt_called_edit_laws.specs.CalledEdits.{FitsRound, IsChildBeside, TextsFitAt, page_things}
 use Rattle.wt_called_edit_laws.specs.InPieces.{AreInPieces, pieces_source}
 use Rattle.wt_called_edit_laws.specs.PageThings.{ArePageThings, thing_sources}
 use Rattle.wt_called_edit_laws.specs.WrittenAnew.{StayButForOthers}
@@ -111,9 +112,9 @@ abbrev pub AreOwnThings : List Thing → Type 0
 AreOwnThings [] = Unit {0}
 AreOwnThings (t ∷ ts) = IsOwnThing t × AreOwnThings ts
 
--- A paragraph of the page, whatever it is, in pieces: texts, calls, other nodes on one line, and delimiters. Its nodes are these calls and
+-- A paragraph or heading of the page, whatever it is, in pieces: texts, calls, other nodes on one line, and delimiters. Its nodes are these calls and
 -- nodes, with bold and italic round some; its styles nest, and a call in one gives none of its own.
-pub record IsBesideStyles (pages : Pages) (q : List ℕ) (block : Tree) : Type 0 where
+pub record IsBesideStyles (pages : Pages) (k : TextBlock) (q : List ℕ) (block : Tree) : Type 0 where
   pub pieces : List (List ℕ)
   pub is : pieces_source pieces ≡ q
   pub parts : AreInPieces pages pieces
@@ -123,6 +124,7 @@ pub record IsBesideStyles (pages : Pages) (q : List ℕ) (block : Tree) : Type 0
   pub things : ArePageThings pages (page_things block)
   pub own : AreOwnThings (page_things block)
   pub among : StayButForOthers pages pieces (thing_sources (page_things block))
+  pub round : FitsRound pages k q (page_things block)
 
 -- ---- what is sent for it
 
@@ -166,12 +168,13 @@ NewStylesArePlain pages (around l m is ps) = NewStylesArePlain pages ps
 NewStylesArePlain pages (new_style m is ps) = PlainGroups pages (page_pieces is) × NewStylesArePlain pages ps
 
 -- All its calls stay, in their order, and any other node and style stays or goes; each is sent as it is, and in a style other texts may be. Any texts are
--- between them, and new styles, as they may nest, round texts, nodes and calls that give none of their own. Something is sent or put that is no call.
-pub record IsStyledCallEdit (pages : Pages) (block : Tree) (ps : Pieces) : Type 0 where
+-- between them, and new styles, as they may nest, round texts, nodes and calls that give none of their own. In a paragraph something is sent or put that
+-- is no call, and in a heading no line break is typed.
+pub record IsStyledCallEdit (pages : Pages) (k : TextBlock) (block : Tree) (ps : Pieces) : Type 0 where
   pub old : page_pieces ps ≡ children_of block
   pub stay : PiecesStay ps
   pub are : AreNodesAndTexts ps
   pub calm : NoCallGoes pages ps
   pub new : NewStylesNest false false ps
   pub free : NewStylesArePlain pages ps
-  pub some : SendsUncalled block ps
+  pub fits : TextsFitAt k block ps
