@@ -103,7 +103,7 @@ pub record IsStyledCalled (s : Setting) (t : StyledContent) (owns : List (List I
   pub some : HasUncalled s [] (signs_in t)
 
 -- The same in a heading: it is on one line, and may be calls alone, since its `=` are the page's.
-pub record IsStyledHeading (s : Setting) (t : StyledContent) (owns : List (List Item)) : Type 0 where
+pub record IsStyledCalledHeading (s : Setting) (t : StyledContent) (owns : List (List Item)) : Type 0 where
   pub of_block : s.within ≡ false
   pub of_heading : s.place ≡ place.Heading
   pub one_line : AreOnOneLine (signs_in t)

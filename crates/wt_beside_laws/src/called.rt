@@ -35,7 +35,7 @@ ghost use Rattle.wt_beside_laws.specs.Glyphs.{letter_glyphs};
 ghost use Rattle.wt_beside_laws.specs.Lines.{IsLineOfText};
 ghost use Rattle.wt_beside_laws.specs.Shown.{parts_shown_at};
 ghost use Rattle.wt_beside_laws.specs.Styled.{StyledContent, signs_in};
-ghost use Rattle.wt_beside_laws.specs.StyledCalls.{IsStyledCalled, IsStyledHeading, styled_called_shown, styled_with};
+ghost use Rattle.wt_beside_laws.specs.StyledCalls.{IsStyledCalled, IsStyledCalledHeading, styled_called_shown, styled_with};
 
 /// Texts beside calls, and beside nodes that stay, are one paragraph, whatever is typed: each line is text wherever it is in tables, and what is in
 /// the paragraph is in the order of the signs (`parts_with`): what each call gives is what it is on a line by itself. Between other lines of a page
@@ -99,15 +99,15 @@ pub fn styles_beside_calls_are_one_paragraph()
         ≡ along (element paragraph_face (styled_called_shown t owns ended)) rest }
 {}
 
-/// So in a heading, which may begin and end with calls and styles (`IsStyledHeading`): it is on one line, begins and ends with no blank, keeps its level,
+/// So in a heading, which may begin and end with calls and styles (`IsStyledCalledHeading`): it is on one line, begins and ends with no blank, keeps its level,
 /// and holds its calls between its delimiters.
 pub fn styles_beside_calls_may_be_in_headings()
-    ensures inside { (s : Setting) (t : StyledContent) (owns : List (List Item)) → IsStyledHeading s t owns → IsHeadingInside (items_with s [] (signs_in t) owns) }
-    ensures level { (s : Setting) (t : StyledContent) (owns : List (List Item)) (sides : Sides) → IsStyledHeading s t owns → AreSides sides
+    ensures inside { (s : Setting) (t : StyledContent) (owns : List (List Item)) → IsStyledCalledHeading s t owns → IsHeadingInside (items_with s [] (signs_in t) owns) }
+    ensures level { (s : Setting) (t : StyledContent) (owns : List (List Item)) (sides : Sides) → IsStyledCalledHeading s t owns → AreSides sides
         → IsOfLevel sides (items_with s [] (signs_in t) owns) }
-    ensures holds { (s : Setting) (t : StyledContent) (owns : List (List Item)) (sides : Sides) → IsStyledHeading s t owns → AreSides sides
+    ensures holds { (s : Setting) (t : StyledContent) (owns : List (List Item)) (sides : Sides) → IsStyledCalledHeading s t owns → AreSides sides
         → HoldsItsCalls (heading_round sides (items_with s [] (signs_in t) owns)) }
-    ensures block { (calls : List OuterCall) (s : Setting) (t : StyledContent) (owns : List (List Item)) (sides : Sides) → IsStyledHeading s t owns
+    ensures block { (calls : List OuterCall) (s : Setting) (t : StyledContent) (owns : List (List Item)) (sides : Sides) → IsStyledCalledHeading s t owns
         → AreSides sides → block_in calls (heading_round sides (items_with s [] (signs_in t) owns))
         ≡ block_of_pieces calls (plain (kind.Heading sides.level)) (page_chars (opening sides)) (styled_with false s [] t [] owns) (closing_items sides) }
 {}

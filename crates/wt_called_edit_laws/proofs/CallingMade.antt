@@ -24,7 +24,7 @@ use Rattle.wt_typed_blocks.specs.EditedPage.{edited_source, IsTaken, AreTaken}
 use Rattle.wt_text_edit_laws.specs.BlockSpots.{BlockSpot}
 use Rattle.wt_text_edit_laws.specs.Contents.{IsContent, IsNewContent}
 use Rattle.wt_text_edit_laws.specs.NoCalls.{CallsNothing}
-use Rattle.wt_text_edit_laws.specs.TextBlocks.{TextBlock, a_paragraph, block_of, source_of, block_items, block_tree}
+use Rattle.wt_text_edit_laws.specs.TextBlocks.{TextBlock, block_of, source_of, block_items, block_tree}
 use Rattle.wt_text_edit_laws.proofs.Blocks.BlockReading.{HasFrame, content_frame}
 use Rattle.wt_text_edit_laws.proofs.Blocks.Contents.{typed_new}
 use Rattle.wt_text_edit_laws.proofs.Blocks.Contents.{block_source as source_is}
@@ -41,7 +41,6 @@ use Rattle.wt_called_edit_laws.specs.PartTexts.{HaveOwnSources}
 use Rattle.wt_called_edit_laws.specs.Sends.{AllSend, MakesNode}
 use Rattle.wt_called_edit_laws.specs.Settled.{settled}
 use Rattle.wt_called_edit_laws.specs.SettledAt.{IsSettledAt}
-use Rattle.wt_called_edit_laws.specs.StyledCallEdits.{IsBesideStyles, IsStyledCallEdit}
 use Rattle.wt_called_edit_laws.specs.TreeEdits.{IsInline}
 use Rattle.wt_called_edit_laws.specs.WholeContents.{IsWholeIn, EachWhole}
 use Rattle.wt_called_edit_laws.specs.WrittenAnew.{HoldsAnywhere, EachHolds}

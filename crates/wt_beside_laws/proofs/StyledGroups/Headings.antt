@@ -29,7 +29,7 @@ use Rattle.wt_beside_laws.specs.Content.{guard_items, letter_items}
 use Rattle.wt_beside_laws.specs.InHeadings.{AreOnOneLine}
 use Rattle.wt_beside_laws.specs.Nests.{style_tree}
 use Rattle.wt_beside_laws.specs.Styled.{StyledContent, delimiter, finished, sign, signs_before, signs_in, signs_past, styled}
-use Rattle.wt_beside_laws.specs.StyledCalls.{IsStyledHeading, owns_left, owns_past, styled_called_shown, styled_with}
+use Rattle.wt_beside_laws.specs.StyledCalls.{IsStyledCalledHeading, owns_left, owns_past, styled_called_shown, styled_with}
 
 -- ---- one line
 
@@ -65,14 +65,14 @@ same_line s before (styled bold opening closing inside t) after owns o =
 
 -- ---- what is between its `=`
 
-pub styled_inside : (s : Setting) (t : StyledContent) (owns : List (List Item)) → IsStyledHeading s t owns → IsHeadingInside (items_with s [] (signs_in t) owns)
+pub styled_inside : (s : Setting) (t : StyledContent) (owns : List (List Item)) → IsStyledCalledHeading s t owns → IsHeadingInside (items_with s [] (signs_in t) owns)
 styled_inside s t owns h = given_inside s (signs_in t) owns h.of_block h.of_heading h.one_line h.characters h.given h.end_seen
 
-pub styled_level : (s : Setting) (t : StyledContent) (owns : List (List Item)) (sides : Sides) → IsStyledHeading s t owns → AreSides sides
+pub styled_level : (s : Setting) (t : StyledContent) (owns : List (List Item)) (sides : Sides) → IsStyledCalledHeading s t owns → AreSides sides
     → IsOfLevel sides (items_with s [] (signs_in t) owns)
 styled_level s t owns sides h a = given_level s (signs_in t) owns sides h.of_block h.one_line h.characters h.given h.end_seen a
 
-pub styled_heading_parts : (s : Setting) (t : StyledContent) (owns : List (List Item)) → IsStyledHeading s t owns
+pub styled_heading_parts : (s : Setting) (t : StyledContent) (owns : List (List Item)) → IsStyledCalledHeading s t owns
     → line_parts (items_with s [] (signs_in t) owns) ≡ styled_with false s [] t [] owns
 styled_heading_parts s t owns h =
     ap line_parts (sym (same_items s [] (signs_in t) owns h.one_line)) ∙ called_line s [] [] t owns h.given h.nested (own_in false t owns h.own) h.meet
@@ -80,18 +80,18 @@ styled_heading_parts s t owns h =
 
 -- ---- the heading
 
-styled_round : (s : Setting) (t : StyledContent) (owns : List (List Item)) (sides : Sides) → IsStyledHeading s t owns → AreSides sides
+styled_round : (s : Setting) (t : StyledContent) (owns : List (List Item)) (sides : Sides) → IsStyledCalledHeading s t owns → AreSides sides
     → IsRoundGiven (plain (kind.Heading sides.level)) (page_chars (opening sides)) (styled_with false s [] t [] owns) (closing_items sides)
 styled_round s t owns sides h a = round_given (styled_with false s [] t [] owns) sides (styled_own s t owns h.given h.nested h.own) a
 
-pub styled_heading_holds : (s : Setting) (t : StyledContent) (owns : List (List Item)) (sides : Sides) → IsStyledHeading s t owns → AreSides sides
+pub styled_heading_holds : (s : Setting) (t : StyledContent) (owns : List (List Item)) (sides : Sides) → IsStyledCalledHeading s t owns → AreSides sides
     → HoldsItsCalls (heading_round sides (items_with s [] (signs_in t) owns))
 styled_heading_holds s t owns sides h a =
     subst (λ (ps : List Part). HoldsItsCalls (inner (plain (kind.Heading sides.level)) (page_chars (opening sides)) (forest (children ps)) (closing_items sides)))
     (sym (styled_heading_parts s t owns h))
     (given_hold (plain (kind.Heading sides.level)) (page_chars (opening sides)) (styled_with false s [] t [] owns) (closing_items sides) (styled_round s t owns sides h a))
 
-pub styled_heading_block : (calls : List OuterCall) (s : Setting) (t : StyledContent) (owns : List (List Item)) (sides : Sides) → IsStyledHeading s t owns
+pub styled_heading_block : (calls : List OuterCall) (s : Setting) (t : StyledContent) (owns : List (List Item)) (sides : Sides) → IsStyledCalledHeading s t owns
     → AreSides sides
     → block_in calls (heading_round sides (items_with s [] (signs_in t) owns))
     ≡ block_of_pieces calls (plain (kind.Heading sides.level)) (page_chars (opening sides)) (styled_with false s [] t [] owns) (closing_items sides)
@@ -102,7 +102,7 @@ styled_heading_block calls s t owns sides h a =
     (styled_round s t owns sides h a)
 
 pub styled_heading_shows : (calls : List OuterCall) (s : Setting) (t : StyledContent) (owns : List (List Item)) (sides : Sides) (rest : Plains)
-    → IsStyledHeading s t owns → AreSides sides
+    → IsStyledCalledHeading s t owns → AreSides sides
     → plain_before (cut_texts (block_in calls (heading_round sides (items_with s [] (signs_in t) owns)))) rest
     ≡ along (element (face_of (a_heading sides)) (styled_called_shown t owns ended)) rest
 styled_heading_shows calls s t owns sides rest h a =

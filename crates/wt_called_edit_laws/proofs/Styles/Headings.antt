@@ -27,7 +27,7 @@ use Rattle.wt_beside_laws.proofs.StyledGroups.Headings.{styled_heading_holds, st
 use Rattle.wt_beside_laws.specs.Called.{AllSeenIn, items_with, owns_in}
 use Rattle.wt_beside_laws.specs.Stood.{things}
 use Rattle.wt_beside_laws.specs.Styled.{StyledContent, signs_in}
-use Rattle.wt_beside_laws.specs.StyledCalls.{IsStyledHeading, styled_with}
+use Rattle.wt_beside_laws.specs.StyledCalls.{IsStyledCalledHeading, styled_with}
 use Rattle.wt_called_edit_laws.proofs.Headings.Framed.{framed_written}
 use Rattle.wt_called_edit_laws.proofs.Headings.Held.{head_holds}
 use Rattle.wt_called_edit_laws.proofs.Headings.Letters.{a_head, b_head}
@@ -102,7 +102,7 @@ head_gives : (pages : Pages) (i : ℕ) (s : Setting) (t : StyledContent) → IsS
     → part_items pages i (spelled s (signs_in t)) ≡ items_with s [] (signs_in t) (owns_in pages i (signs_in t))
 head_gives pages i s t h = signs_give pages i s (signs_in t) h.of_block h.each
 
-head_is : (s : Setting) (t : StyledContent) (owns : List (List Item)) (w : Sides) → IsFrame w → IsStyledHeading s t owns
+head_is : (s : Setting) (t : StyledContent) (owns : List (List Item)) (w : Sides) → IsFrame w → IsStyledCalledHeading s t owns
     → AreHeadingItems w (items_with s [] (signs_in t) owns)
 head_is s t owns w f h = record { sides = f.sides; inside = inl (styled_inside s t owns h); of_level = styled_level s t owns w h f.sides }
 

@@ -28,7 +28,7 @@ use Rattle.wt_beside_laws.specs.Lines.{AreCharacters}
 use Rattle.wt_beside_laws.specs.NodeItems.{node_items}
 use Rattle.wt_beside_laws.specs.Stood.{things}
 use Rattle.wt_beside_laws.specs.Styled.{AreNested, StyledContent, delimiter, finished, mark_source, sign, signs_before, signs_in, styled}
-use Rattle.wt_beside_laws.specs.StyledCalls.{AreOwnAt, IsOwnAt, IsStyledCalled, IsStyledHeading, owns_left}
+use Rattle.wt_beside_laws.specs.StyledCalls.{AreOwnAt, IsOwnAt, IsStyledCalled, IsStyledCalledHeading, owns_left}
 use Rattle.wt_beside_laws.specs.StyledNodes.{IsPut}
 use Rattle.wt_called_edit_laws.proofs.Styles.Free.{PlainWithin}
 use Rattle.wt_called_edit_laws.proofs.Styles.Put.{put_items, put_own, put_part, put_read, put_sealed, put_source, put_utf8}
@@ -231,7 +231,7 @@ styled_in pages i s t h = record {
   some = h.some;
 }
 
-pub heading_in : (pages : Pages) (i : ℕ) (s : Setting) (t : StyledContent) → IsStyledInHeading pages s t → IsStyledHeading s t (owns_in pages i (signs_in t))
+pub heading_in : (pages : Pages) (i : ℕ) (s : Setting) (t : StyledContent) → IsStyledInHeading pages s t → IsStyledCalledHeading s t (owns_in pages i (signs_in t))
 heading_in pages i s t h = record {
   of_block = h.of_block;
   of_heading = h.of_heading;
