@@ -17,6 +17,7 @@ pub mod SentAmong
 pub mod SentWhole
 pub mod SentFaults
 pub mod Making
+pub mod SpelledApart
 pub mod Plain
 pub mod WithoutStyles
 pub mod HeldStyles

@@ -34,7 +34,9 @@ pub mod StyledHeadings
 pub mod StyledBlocks
 pub mod NewStyles
 pub mod StyledIn
+pub mod SpelledApart
 pub mod Called
 pub mod Given
 pub mod StyledCalls
 pub mod OwnLed
+pub mod OpenEnds

@@ -26,6 +26,7 @@ pub mod OwnShown
 pub mod AlikeContents
 pub mod MarkedBlocks
 pub mod PageAlike
+pub mod NothingMarked
 pub mod SentCases
 pub mod ReadMarkup
 pub mod ReadKinds
@@ -50,6 +51,7 @@ pub mod ToldEdits
 pub mod BesideEdits
 pub mod HtmlEdits
 pub mod OrdinaryEdits
+pub mod NothingMoved
 pub mod LocalTextEdits
 pub mod InsidesCases
 pub mod PageCases
