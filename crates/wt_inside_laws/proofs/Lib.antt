@@ -48,6 +48,7 @@ pub mod UncalledPage
 pub mod CallingPieces
 pub mod CallingEdits
 pub mod ToldEdits
+pub mod UncalledBlocks
 pub mod BesideEdits
 pub mod HtmlEdits
 pub mod OrdinaryEdits
