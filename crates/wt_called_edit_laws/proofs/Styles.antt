@@ -16,3 +16,5 @@ pub mod Cases
 mod PageCases
 pub mod InsideCases
 mod InsidePageCases
+pub mod HeadingCases
+mod HeadingPageCases
