@@ -1,6 +1,6 @@
 -- A paragraph or heading of the page with calls and with bold and italic in it, for which one with other texts beside these calls, and with other styles,
 -- is sent: what is written for it.
-use Rattle.std.specs.Prelude.{◌≡◌, ℕ, true, false, List, [], ◌∷◌, ◌≢◌}
+use Rattle.std.specs.Prelude.{◌≡◌, ◌⊎◌, ℕ, true, false, List, [], ◌∷◌, ◌≢◌, map}
 use Rattle.std.specs.Str.{IsUtf8}
 use Rattle.wt_tree.specs.EditShapes.{edit_shape}
 use Rattle.wt_tree.specs.Plain.{face}
@@ -12,6 +12,7 @@ use Rattle.wt_tree.specs.declared.edit_shape.InlineForm.TheVariants as inline
 use Rattle.wt_guards.specs.Content.{Thing, is_group}
 use Rattle.wt_guards.specs.declared.role.Role.{Role}
 use Rattle.wt_guards.specs.declared.role.Role.TheVariants.{Bare, External, Function, Group, Link, Mark, Node, Switch, Toggle}
+use Rattle.wt_tiles.specs.Glyphs.{glyph_of}
 use Rattle.wt_context.specs.Line.{line_parts}
 use Rattle.wt_link_spelling.specs.Spelling.{children_of}
 use Rattle.wt_expand.specs.PageCalls.{expanded_page}
@@ -24,6 +25,7 @@ use Rattle.wt_beside_laws.specs.Cuts.{own_glyphs}
 use Rattle.wt_beside_laws.specs.FlatPages.{AreNodesAndTexts}
 use Rattle.wt_beside_laws.specs.NewStyles.{NewStylesNest}
 use Rattle.wt_beside_laws.specs.NodeItems.{node_items}
+use Rattle.wt_beside_laws.specs.Nodes.{is_quote_last}
 use Rattle.wt_beside_laws.specs.SentStyled.{AllNest, style_face}
 use Rattle.wt_beside_laws.specs.StyledCalls.{AreUnstyledParts}
 use Rattle.wt_beside_laws.specs.StyledNodes.{EndsUnquoted}
@@ -89,28 +91,28 @@ abbrev mutual
   AreNodesBeside pages none = Unit {0}
   AreNodesBeside pages (more t ts) = IsNodeBeside pages t × AreNodesBeside pages ts
 
--- a call that doesn't end with a URL, or another node
-abbrev pub EndsUnslashed : Role → Type 0
-EndsUnslashed Link = Unit {0}
-EndsUnslashed External = Unit {0}
-EndsUnslashed (Bare ends) = Unit {0}
-EndsUnslashed Switch = Unit {0}
-EndsUnslashed Toggle = Unit {0}
-EndsUnslashed (Mark ends began) = Unit {0}
-EndsUnslashed (Group g) = g.slashes ≡ false
-EndsUnslashed Function = Unit {0}
-EndsUnslashed Node = Unit {0}
+-- a call that shows no `//`, or in which no apostrophe is last; or another node
+abbrev pub GivesUnquoted : Pages → Role → List ℕ → Type 0
+GivesUnquoted pages Link source = Unit {0}
+GivesUnquoted pages External source = Unit {0}
+GivesUnquoted pages (Bare ends) source = Unit {0}
+GivesUnquoted pages Switch source = Unit {0}
+GivesUnquoted pages Toggle source = Unit {0}
+GivesUnquoted pages (Mark ends began) source = Unit {0}
+GivesUnquoted pages (Group g) source = (g.slashes ≡ false) ⊎ ((i : ℕ) → is_quote_last (map glyph_of (part_items pages i source)) ≡ false)
+GivesUnquoted pages Function source = Unit {0}
+GivesUnquoted pages Node source = Unit {0}
 
--- A node that is no call is something of the page on a line by itself. Neither a call nor a bare URL ends with what a delimiter would go on: no call with
--- a URL, and no bare URL with an apostrophe.
-pub record IsOwnThing (t : Thing) : Type 0 where
+-- A node that is no call is something of the page on a line by itself. No URL ends with an apostrophe, of the page or of a call: a delimiter behind it would
+-- take that.
+pub record IsOwnThing (pages : Pages) (t : Thing) : Type 0 where
   pub some : is_group t.role ≡ false → AreSomeOfPage (line_parts (node_items t.source))
   pub unquoted : EndsUnquoted t.role (own_glyphs t)
-  pub unslashed : EndsUnslashed t.role
+  pub gives : GivesUnquoted pages t.role t.source
 
-abbrev pub AreOwnThings : List Thing → Type 0
-AreOwnThings [] = Unit {0}
-AreOwnThings (t ∷ ts) = IsOwnThing t × AreOwnThings ts
+abbrev pub AreOwnThings : Pages → List Thing → Type 0
+AreOwnThings pages [] = Unit {0}
+AreOwnThings pages (t ∷ ts) = IsOwnThing pages t × AreOwnThings pages ts
 
 -- A paragraph or heading of the page, whatever it is, in pieces: texts, calls, other nodes on one line, and delimiters. Its nodes are these calls and
 -- nodes, with bold and italic round some; its styles nest, and a call in one gives none of its own.
@@ -122,7 +124,7 @@ pub record IsBesideStyles (pages : Pages) (k : TextBlock) (q : List ℕ) (block 
   pub children : AreNodesBeside pages (children_of block)
   pub nest : AllNest false false (children_of block)
   pub things : ArePageThings pages (page_things block)
-  pub own : AreOwnThings (page_things block)
+  pub own : AreOwnThings pages (page_things block)
   pub among : StayButForOthers pages pieces (thing_sources (page_things block))
   pub round : FitsRound pages k q (page_things block)
 

@@ -239,7 +239,7 @@ in_class = record {
   children = are_nodes;
   nest = ((refl, ((λ e. refl), (tt, tt))), ((λ e. refl), tt));
   things = subst (ArePageThings a_word) (sym things_are) of_page;
-  own = subst AreOwnThings (sym things_are) (record { some = λ e. absurd (cc); unquoted = tt; unslashed = refl }, tt);
+  own = subst (AreOwnThings a_word) (sym things_are) (record { some = λ e. absurd (cc); unquoted = tt; gives = inl refl }, tt);
   among = subst (λ (ts : List Thing). StayButForOthers a_word pieces (thing_sources ts)) (sym things_are) among;
   round = tt;
 }

@@ -114,7 +114,7 @@ sent_well pages k q block ps i h e =
     subst (λ (ts : Trees). AreLeft pages (things_with (kept_nodes block) (all_numbers ts)) (things ss)) e.old
     (pieces_left pages same_node block ps found e.stay e.calm) in
     let of_page : ArePageThings pages left.nodes = things_stay pages (page_things block) left.nodes left.stay h.things in
-    let own : AreOwnThings left.nodes = own_stay pages (page_things block) left.nodes left.stay h.own in
+    let own : AreOwnThings pages left.nodes = own_stay pages (page_things block) left.nodes left.stay h.own in
     let each : AreStyledThings pages ss = each_styled pages left.nodes (things ss) left.put of_page own in
     record {
       found = found;
