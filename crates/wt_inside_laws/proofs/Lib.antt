@@ -54,6 +54,8 @@ pub mod HtmlEdits
 pub mod OrdinaryEdits
 pub mod NothingMoved
 pub mod LocalTextEdits
+pub mod OneBlock
+pub mod TypedApart
 pub mod InsidesCases
 pub mod PageCases
 pub mod LocalCases
