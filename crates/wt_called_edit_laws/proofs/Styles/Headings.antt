@@ -208,8 +208,8 @@ styled_head_whole pages s t w f h =
     let signs : List ContentSign = signs_in t in
     let b = styled_head_written pages s t w f h in
     inr (
-      groups_of pages (a_heading w) s t h.each h.nested (λ i. let own = heading_in pages i s t h in own.own) (λ i. head_gives pages i s t h)
-      (λ i. ap line_parts (head_gives pages i s t h) ∙ styled_heading_parts s t (owns_in pages i signs) (heading_in pages i s t h)) b.calls_are
+    groups_of pages (a_heading w) s t h.each h.nested (λ i. let own = heading_in pages i s t h in own.own) (λ i. head_gives pages i s t h)
+    (λ i. ap line_parts (head_gives pages i s t h) ∙ styled_heading_parts s t (owns_in pages i signs) (heading_in pages i s t h)) b.calls_are
     )
 
 pub styled_head_anywhere : (pages : Pages) (s : Setting) (t : StyledContent) (w : Sides) → AreSides w → IsStyledInHeading pages s t
