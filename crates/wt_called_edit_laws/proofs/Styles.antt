@@ -18,3 +18,5 @@ pub mod InsideCases
 mod InsidePageCases
 pub mod HeadingCases
 mod HeadingPageCases
+pub mod GivenCases
+mod GivenPageCases

@@ -95,7 +95,7 @@ group = nth 1 (children_of block)
 
 -- the call is a group, which is the block's one node but for the bold one
 things_are : page_things block ≡ own_call ∷ []
-unfolding kept_with label_at context_parts chunks segments loose_segments tiles shapes closes tile_at link_or_url link_at ext_link_at bare_url_at scheme_len
+unfolding kept_with page_items words closed label_at context_parts chunks segments loose_segments tiles shapes closes tile_at link_or_url link_at ext_link_at bare_url_at scheme_len
     tag_tile tag_at switch_at children with_styles style_tree_of toggles_of toggle_at opens_tag closes_tag place_of since next bold_ends_later effect_on
     is_bold_outside_at turn_at
 things_are = refl
