@@ -4,3 +4,4 @@ pub mod Paragraphs
 pub mod Blocks
 pub mod Shown
 pub mod Headings
+pub mod Even
