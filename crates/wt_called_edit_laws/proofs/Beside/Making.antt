@@ -191,7 +191,7 @@ content_is pages k block m ps w =
 
 -- ---- it is taken
 
-one_line_so : (k : TextBlock) (block : Tree) (ps : Pieces) → TextsFitAt k block ps → takes_breaks k ≡ false → AreOneLine ps
+pub one_line_so : (k : TextBlock) (block : Tree) (ps : Pieces) → TextsFitAt k block ps → takes_breaks k ≡ false → AreOneLine ps
 one_line_so a_paragraph block ps f e = absurd (cc)
 one_line_so (a_heading w) block ps f e = f
 

@@ -1,0 +1,270 @@
+-- Worked case: the page `'''x''' {{t}} y`, where `Template:T` is `''b''`, is one of those of which texts beside calls may be edited, by computing the whole of it.
+use Rattle.std.proofs.Common.{arith, ◌≡◌, ◌<◌, ◌≤◌, inl, inr, ℕ, true, None, List, [], ◌∷◌, ◌++◌, length, refl, sym, subst, ap, ◌∙◌, append-nil}
+use Rattle.std.specs.Str.{is_utf8, chars, IsUtf8}
+use Rattle.std.specs.Str.Lossy.{utf8_valid_len}
+use Rattle.std.proofs.lemmas.List.Elements.{All-nil, All-cons}
+use Rattle.std.proofs.lemmas.Str.{IsUtf8-nil}
+use lib.Utf8.{encode}
+use Rattle.wt_span.specs.Comments.{comment_len, comment_line_len}
+use Rattle.wt_span.specs.Entities.{entity_at, named_entity, decimal_entity, hex_entity, entity_names}
+use Rattle.wt_span.specs.Tags.{raw_len, opening_tag, tag_after, closing_tag, with_inside, is_extension, include_at}
+use Rattle.wt_span.specs.Items.{Item, char}
+use Rattle.wt_span.specs.Lexemes.{sign_word, form_at, closed, words}
+use Rattle.wt_span.specs.Braces.{rewritten, reduced, parts_of, calls, nesting}
+use Rattle.wt_lines.specs.declared.kind.LineKind.TheVariants as line
+use Rattle.wt_lines.specs.Kinds.{kind_of_signs, line_kind}
+use Rattle.wt_braces.specs.Found.{too_deep}
+use Rattle.wt_names.specs.Good.{is_forbidden, is_allowed, has_signature, is_step, begins_with_step, holds_step, ends_with_step, is_good, read_text}
+use Rattle.wt_names.specs.Namespace.{name_of, image, is_called, namespace_named, prefix_of, full_name_of}
+use Rattle.wt_names.specs.Reading.{whole_in, cut_namespace, title_in}
+use Rattle.wt_names.specs.Written.{link_to}
+use Rattle.wt_utf8.specs.Places.{not_utf8_place}
+use Rattle.wt_inline.specs.Parts.{children, Part, loose, loose_leaf, node}
+use Rattle.wt_inline.specs.declared.loose.Loose.TheVariants.{Text}
+use Rattle.wt_tiles.specs.Links.{link_at}
+use Rattle.wt_tiles.specs.Urls.{scheme_len, ext_link_at, bare_url_at}
+use Rattle.wt_tiles.specs.Tags.{tag_at, opening_tag as opens_tag, closing_tag as closes_tag}
+use Rattle.wt_tiles.specs.Tiles.{tag_tile, switch_at, link_or_url, form_at as tile_at, closed as closes, shapes, tiles}
+use Rattle.wt_quotes.specs.Toggles.{toggle_at, toggles_of}
+use Rattle.wt_quotes.specs.Runs.{place_of}
+use Rattle.wt_quotes.specs.Styles.{style_tree_of}
+use Rattle.wt_quotes.specs.Turns.{since, next, bold_ends_later, effect_on, is_bold_outside_at, turn_at}
+use Rattle.wt_context.specs.Segments.{loose_segments}
+use Rattle.wt_context.specs.Chunks.{chunks}
+use Rattle.wt_context.specs.Styled.{with_styles}
+use Rattle.wt_context.specs.Nodes.{segments}
+use Rattle.wt_context.specs.Line.{context_parts, line_parts, line_trees}
+use Rattle.wt_page.specs.Rows.{rows}
+use Rattle.wt_page.specs.Texts.{para}
+use Rattle.wt_page.specs.Body.{blocks, meaning}
+use Rattle.wt_call_data.specs.CallData.{call_part, param_by, trimmed as trimmed_data}
+use Rattle.wt_annotated.specs.Annotated.{annotated}
+use Rattle.wt_annotated.specs.GroupData.{group_data}
+use Rattle.wt_annotated.specs.Labels.{label_at}
+use Rattle.wt_expand.specs.PageItems.{page_items}
+use Rattle.wt_expand.specs.Texts.{trimmed, trimmed_items, name_text}
+use Rattle.wt_expand.specs.Targets.{title_in_target, title_of_target, is_function, called}
+use Rattle.wt_expand.specs.Templates.{begins_only, ends_only, template_text}
+use Rattle.wt_expand.specs.Work.{deep_place, template_refusal, most_bytes, most_cost, first_refusal}
+use Rattle.wt_expand.specs.Expansion.{text_members, most_templates, absent_text, loop_text, depth_text, page_work}
+use Rattle.wt_expand.specs.Fronts.{allowed_work}
+use Rattle.wt_expand.specs.PageCalls.{page_stretches, expanded_page}
+use Rattle.wt_commands.specs.Answers.{refusal_of_page}
+use Rattle.wt_part_laws.specs.CallPieces.{AreOwnOrGiven, CallPiece, own, call_pieces}
+use Rattle.wt_part_laws.specs.Expanded.{part_items, GivesAnywhere}
+use Rattle.wt_part_laws.proofs.ExpandedBoth.{plain_anywhere}
+use Rattle.wt_text_edit_laws.specs.BlockSpots.{BlockSpot}
+use Rattle.wt_text_edit_laws.specs.Contents.{content_parts_of}
+use Rattle.wt_text_edit_laws.specs.Paragraphs.{IsSeenLine}
+use Rattle.wt_text_edit_laws.specs.ReadContents.{IsReadContent}
+use Rattle.wt_text_edit_laws.specs.TextBlocks.{a_paragraph}
+use Rattle.wt_text_edit_laws.proofs.Cuts.Seen.{stands_begins}
+use Rattle.wt_called_edit_laws.specs.CalledContents.{AreTextItems}
+use Rattle.wt_called_edit_laws.specs.CallingBlocks.{spots_with_calls, items_past}
+use Rattle.wt_called_edit_laws.specs.Covered.{NoGroupAt, HasFreeByte}
+use Rattle.wt_called_edit_laws.specs.EditableBlocks.{IsEditableWithCalls}
+use Rattle.wt_called_edit_laws.specs.Groups.{called_tree}
+use Rattle.wt_called_edit_laws.specs.InCells.{AreTextLines}
+use Rattle.wt_called_edit_laws.specs.ItemSpots.{ArePlaced}
+use Rattle.wt_called_edit_laws.specs.Parts.{calls_to, calls_past, AreCalled}
+use Rattle.wt_called_edit_laws.specs.PiecedParagraphs.{HasOwn, IsInPieces, group_piece}
+use Rattle.wt_called_edit_laws.specs.WholeContents.{of_call, AreGroups, AreShutParts}
+use Rattle.wt_beside_laws.specs.Given.{GivesSigns, IsGroup}
+use Rattle.wt_beside_laws.specs.Nests.{style_tree}
+use Rattle.wt_beside_laws.proofs.Groups.CalledBlocks.{given_both}
+use Rattle.wt_beside_laws.proofs.Groups.Folders.{given_by as of_call_parts}
+use Rattle.wt_beside_laws.proofs.Groups.GivenCases.{beside_styles, one_style}
+use Rattle.wt_called_edit_laws.proofs.Whole.Contents.{shut_both, call_shut_parts}
+use Rattle.wt_called_edit_laws.proofs.Whole.OfCall.{of_append, of_same}
+use Rattle.wt_called_edit_laws.proofs.Styles.GivenCases.{a_styler, call, source, styled, behind, given, items_are, pieces, in_pieces, among, of_page}
+use Rattle.wt_called_edit_laws.proofs.Whole.Pieced.{pieced_content, pieced_holds}
+use Rattle.wt_called_edit_laws.proofs.Whole.PartsIn.{simple_parts}
+
+-- ---- the paragraph
+
+source_utf8 : IsUtf8 source
+unfolding encode
+source_utf8 = (source, (refl, refl))
+
+-- the call is read as characters
+is_read : IsReadContent a_paragraph source
+unfolding page_items words closed form_at comment_len comment_line_len raw_len opening_tag tag_after closing_tag with_inside include_at entity_at named_entity
+    decimal_entity hex_entity entity_names sign_word
+is_read = record {
+  utf8 = source_utf8;
+  ended = refl;
+  unended = refl;
+  begins = stands_begins source (record { uncommented = refl }) (record { uncommented = refl }) refl refl;
+}
+
+is_text : (i : ℕ) → AreTextItems (given i)
+unfolding kind_of_signs
+is_text i = record {
+  seen = All-cons IsSeenLine (given i) [] refl (All-nil IsSeenLine);
+  unled = refl;
+  own_breaks = ((λ e. absurd (cc)), ((λ e. absurd (cc)), ((λ e. absurd (cc)), ((λ e. absurd (cc)), ((λ e. absurd (cc)), ((λ e. absurd (cc)), ((λ e. absurd (cc)), ((λ e. absurd (cc)), ((λ e. absurd (cc)), ((λ e. absurd (cc)), ((λ e. absurd (cc)), ((λ e. absurd (cc)), ((λ e. absurd (cc)), ((λ e. absurd (cc)), ((λ e. absurd (cc)), tt)))))))))))))));
+}
+
+-- the bold `x` is a node of the page, and the style another one, of the call
+abbrev bold_x : Part
+bold_x = node (style_tree true (loose Text None 120 ∷ []))
+
+abbrev space : Part
+space = loose Text None 32
+
+abbrev last : List Part
+last = loose Text None 32 ∷ loose Text None 121 ∷ []
+
+abbrev parts : ℕ → List Part
+parts i = bold_x ∷ space ∷ (line_parts (styled i) ++ last)
+
+parts_are : (i : ℕ) → content_parts_of a_paragraph (given i) ≡ parts i
+unfolding context_parts chunks segments loose_segments tiles shapes closes tile_at link_or_url link_at ext_link_at bare_url_at scheme_len tag_tile tag_at switch_at
+    with_styles style_tree_of toggles_of toggle_at opens_tag closes_tag place_of since next bold_ends_later effect_on is_bold_outside_at turn_at children label_at
+parts_are i = refl
+
+parts_there : (i : ℕ) → content_parts_of a_paragraph (part_items a_styler i source) ≡ parts i
+parts_there i = ap (content_parts_of a_paragraph) (items_are i) ∙ parts_are i
+
+gives_here : (i : ℕ) → GivesSigns i (styled i)
+gives_here i = let k : IsGroup beside_styles i (styled i) = one_style i in k.gives
+
+own_here : (i : ℕ) → AreOwnOrGiven (parts i)
+unfolding context_parts chunks segments loose_segments tiles shapes closes tile_at link_or_url link_at ext_link_at bare_url_at scheme_len tag_tile tag_at switch_at
+    with_styles style_tree_of toggles_of toggle_at opens_tag closes_tag place_of since next bold_ends_later effect_on is_bold_outside_at turn_at children label_at
+own_here i =
+    let k = gives_here i in
+    (inl (record { of_page = refl; has_items = (refl, ((refl, tt), tt)) }), given_both (line_parts (styled i)) last (of_call_parts i (line_parts (styled i)) k.inside) tt)
+
+shut_here : (i : ℕ) → AreShutParts (parts i)
+unfolding context_parts chunks segments loose_segments tiles shapes closes tile_at link_or_url link_at ext_link_at bare_url_at scheme_len tag_tile tag_at switch_at
+    with_styles style_tree_of toggles_of toggle_at opens_tag closes_tag place_of since next bold_ends_later effect_on is_bold_outside_at turn_at children label_at
+shut_here i =
+    let k = gives_here i in
+    ((λ e. (refl, (refl, ((refl, tt), tt)))), shut_both (line_parts (styled i)) last (call_shut_parts i (line_parts (styled i)) k.inside) tt)
+
+abbrev nodes : ℕ → List CallPiece
+nodes i =
+    own (style_tree true (loose Text None 120 ∷ [])) ∷ own (loose_leaf Text (char None 32 ∷ []))
+    ∷ (group_piece i (children (line_parts (styled i))) ++ own (loose_leaf Text behind) ∷ [])
+
+pieces_are : (i : ℕ) → call_pieces (children (parts i)) ≡ nodes i
+unfolding context_parts chunks segments loose_segments tiles shapes closes tile_at link_or_url link_at ext_link_at bare_url_at scheme_len tag_tile tag_at switch_at
+    with_styles style_tree_of toggles_of toggle_at opens_tag closes_tag place_of since next bold_ends_later effect_on is_bold_outside_at turn_at children label_at
+pieces_are i = refl
+
+given_here : (i : ℕ) → of_call i (given i) ≡ styled i
+given_here i =
+    let k = gives_here i in
+    of_append i (styled i) behind ∙ ap (λ (xs : List Item). xs ++ []) (of_same i (styled i) k.of_call) ∙ append-nil (styled i)
+
+groups_here : (i : ℕ) → AreGroups (given i) (nodes i)
+unfolding context_parts chunks segments loose_segments tiles shapes closes tile_at link_or_url link_at ext_link_at bare_url_at scheme_len tag_tile tag_at switch_at
+    with_styles style_tree_of toggles_of toggle_at opens_tag closes_tag place_of since next bold_ends_later effect_on is_bold_outside_at turn_at children label_at
+groups_here i =
+    (subst (GivesSigns i) (sym (given_here i)) (gives_here i), ap (λ (xs : List Item). children (line_parts xs)) (sym (given_here i)), tt)
+
+groups_there : (i : ℕ) → AreGroups (part_items a_styler i source) (call_pieces (children (content_parts_of a_paragraph (part_items a_styler i source))))
+groups_there i =
+    subst (λ (ps : List Part). AreGroups (part_items a_styler i source) (call_pieces (children ps))) (sym (parts_there i))
+    (subst (AreGroups (part_items a_styler i source)) (sym (pieces_are i)) (subst (λ (xs : List Item). AreGroups xs (nodes i)) (sym (items_are i)) (groups_here i)))
+
+some_here : (i : ℕ) → HasOwn (parts i)
+some_here i = inr tt
+
+pub here : IsInPieces a_styler source
+here = record {
+  pieces = pieces;
+  is = refl;
+  parts = in_pieces;
+  nodes = call ∷ [];
+  things = of_page;
+  among = among;
+  read = is_read;
+  lines = λ i. subst AreTextItems (sym (items_are i)) (is_text i);
+  texts = λ i. simple_parts (part_items a_styler i source) (content_parts_of a_paragraph (part_items a_styler i source)) (subst AreOwnOrGiven (sym (parts_there i)) (own_here i));
+  groups = groups_there;
+  shut = λ i. subst AreShutParts (sym (parts_there i)) (shut_here i);
+  some = λ i. subst HasOwn (sym (parts_there i)) (some_here i);
+}
+
+-- ---- the page
+
+abbrev a_block : BlockSpot
+a_block = record { before = []; block = a_paragraph; text = source }
+
+abbrev blocks_here : List BlockSpot
+blocks_here = a_block ∷ []
+
+anywhere : GivesAnywhere a_styler source
+unfolding words closed form_at comment_len comment_line_len raw_len opening_tag tag_after closing_tag with_inside is_extension include_at entity_at named_entity
+    decimal_entity hex_entity entity_names sign_word reduced rewritten
+anywhere = plain_anywhere a_styler source tt
+
+called_here : AreCalled a_styler blocks_here []
+unfolding page_items words closed form_at comment_len comment_line_len raw_len opening_tag tag_after closing_tag with_inside is_extension include_at entity_at
+    named_entity decimal_entity hex_entity entity_names sign_word reduced rewritten
+called_here = (
+  record { ended = tt; before_utf8 = IsUtf8-nil; block = is_read },
+  (record { uncommented = refl }, IsUtf8-nil, tt),
+  record { end_before = (refl, inr tt, tt); anywhere = (anywhere, tt); apart = tt },
+)
+
+nothing : (i : ℕ) → part_items a_styler i [] ≡ []
+unfolding words closed text_members page_stretches reduced
+nothing i = refl
+
+stays_text : (i : ℕ) → AreTextLines 0 (given i)
+unfolding kind_of_signs
+stays_text i = All-cons (λ l. line_kind 0 l ≡ line.Text) (given i) [] refl (All-nil (λ l. line_kind 0 l ≡ line.Text))
+
+placed_here : ArePlaced (spots_with_calls a_styler 0 blocks_here) (items_past a_styler 0 blocks_here [])
+placed_here =
+    let P : List Item → List Item → List Item → Type 0 = λ before xs behind. ArePlaced (record { before = before; block = a_paragraph; content = xs } ∷ []) behind in
+    let n : ℕ = calls_past a_styler 0 a_block in
+    let at : ℕ = calls_to a_styler 0 a_block in
+    let own : P [] (given at) [] = ((is_text at, record { whole = refl; in_cells = tt; apart = tt }, stays_text at), tt) in
+    subst (λ before. P before (part_items a_styler at source) (part_items a_styler n [])) (sym (nothing 0))
+    (subst (λ xs. P [] xs (part_items a_styler n [])) (sym (items_are at)) (subst (λ behind. P [] (given at) behind) (sym (nothing n)) own))
+
+unrefused_here : refusal_of_page a_styler source ≡ None
+unfolding words closed form_at comment_len comment_line_len raw_len opening_tag tag_after closing_tag with_inside is_extension
+    include_at entity_at named_entity decimal_entity hex_entity entity_names sign_word reduced rewritten text_members trimmed
+    trimmed_items name_text called most_templates is_function title_of_target title_in_target read_text is_allowed is_forbidden
+    is_good has_signature is_step begins_with_step holds_step ends_with_step name_of image is_called namespace_named prefix_of
+    full_name_of whole_in cut_namespace title_in template_text begins_only ends_only loop_text depth_text absent_text page_work
+    allowed_work deep_place too_deep calls nesting template_refusal most_bytes most_cost not_utf8_place utf8_valid_len
+    is_utf8 chars encode first_refusal
+unrefused_here = refl
+
+-- the group of the call is behind the bold `x`
+behind_first : 0 < 8
+behind_first = omega arith
+
+no_group_here : NoGroupAt 0 (called_tree a_styler source)
+unfolding words closed form_at comment_len comment_line_len raw_len opening_tag tag_after closing_tag with_inside is_extension
+    include_at entity_at named_entity decimal_entity hex_entity entity_names sign_word reduced rewritten parts_of text_members trimmed
+    trimmed_items name_text called most_templates is_function title_of_target title_in_target read_text is_allowed is_forbidden
+    is_good has_signature is_step begins_with_step holds_step ends_with_step name_of image is_called namespace_named prefix_of
+    full_name_of whole_in cut_namespace title_in template_text begins_only ends_only loop_text depth_text absent_text
+    utf8_valid_len is_utf8 chars encode link_to page_stretches expanded_page kind_of_signs
+    annotated group_data call_part param_by trimmed_data label_at meaning rows blocks children para line_trees
+    context_parts chunks segments loose_segments tiles shapes closes tile_at link_or_url link_at ext_link_at bare_url_at scheme_len tag_tile tag_at switch_at
+    with_styles style_tree_of toggles_of toggle_at opens_tag closes_tag place_of since next bold_ends_later effect_on is_bold_outside_at turn_at
+no_group_here = (((tt, tt), (tt, (inl behind_first, (tt, tt)))), tt)
+
+-- so the first byte of the block is free
+free_here : HasFreeByte (called_tree a_styler source) 0 (length source)
+free_here =
+    let low : 0 ≤ 0 = omega arith in
+    let high : 0 < 15 = omega arith in
+    (0, low, high, no_group_here)
+
+-- So texts may be typed beside its call, in bold and italic, too.
+pub in_class : IsEditableWithCalls a_styler blocks_here []
+in_class = record {
+  blocks = record { called = called_here; contents = (pieced_content a_styler source here, tt); placed = placed_here };
+  contents = (inr (pieced_holds a_styler source here), tt);
+  unrefused = unrefused_here;
+  free = (free_here, tt);
+}
