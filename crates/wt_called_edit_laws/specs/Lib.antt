@@ -57,3 +57,4 @@ pub mod ToldTogether
 pub mod ToldAmong
 pub mod StyledCallEdits
 pub mod CallingTold
+pub mod CallingTogether
