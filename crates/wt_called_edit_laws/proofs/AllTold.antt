@@ -33,3 +33,5 @@ pub mod AllAlone
 pub mod CallingStarts
 pub mod OnLines
 pub mod CalmPages
+pub mod CallingBytes
+pub mod CallingTogether

@@ -11,7 +11,6 @@ use Rattle.wt_commands.specs.Answers.{refusal_of_page}
 use Rattle.wt_lines.specs.Lines.{content, full_lines}
 use Rattle.wt_tables.specs.Parts.{joined}
 use Rattle.wt_page.specs.Rows.{marks_len, signs}
-use Rattle.wt_text_edit_laws.specs.PageCuts.{begins_unmarked, EndsClosed}
 use Rattle.wt_text_edit_laws.proofs.Paragraphs.Marks.{mark_sign}
 use Rattle.wt_called_edit_laws.specs.PlacedLines.{all_lines, AreLined}
 use Rattle.wt_called_edit_laws.specs.ToldAmong.{IsToldAmong}
@@ -130,7 +129,7 @@ pub record AreAllChosen (pages : Pages) (page : List ℕ) : Type 0 where
   pub all : (t : Told) (rest : Lines) → full_lines (expanded_page pages page).items ≡ all_lines (lined t ∷ []) rest → AreTold (t ∷ []) rest
       → IsChosen pages page (joined (lined t).before) t → IsAmongNumbers (start_of 0 t) (told_starts 0 ts)
 
-are_told : (ts : List Told) (behind : Lines) → AreSome ts → ToldFrom [] ts behind → AreTold ts behind
+pub are_told : (ts : List Told) (behind : Lines) → AreSome ts → ToldFrom [] ts behind → AreTold ts behind
 are_told [] behind s h = absurd s
 are_told (t ∷ ts) behind s h = h
 
