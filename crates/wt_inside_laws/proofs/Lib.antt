@@ -54,7 +54,7 @@ pub mod HtmlEdits
 pub mod OrdinaryEdits
 pub mod NothingMoved
 pub mod LocalTextEdits
-pub mod OneBlock
+pub mod EditsWithCalls
 pub mod InsidesCases
 pub mod PageCases
 pub mod LocalCases

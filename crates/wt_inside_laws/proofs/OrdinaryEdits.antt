@@ -76,10 +76,10 @@ marked_told : (pages : Pages) (page : List ℕ) (a : AllBlocksTold pages page) (
 marked_told pages page a q m w e r o =
     told_of pages page a q m.old o.told (a.complete q m.old (w m.old e) (block_kind (label m.old).kind r.block) o.ungrouped r.untangled r.closed)
 
-abbrev nodes_at : Tree → List (List ℕ) → List (Option Tree)
+abbrev pub nodes_at : Tree → List (List ℕ) → List (Option Tree)
 nodes_at t qs = map (λ q. node_at q t) qs
 
-abbrev olds : List Pair → List (Option Tree)
+abbrev pub olds : List Pair → List (Option Tree)
 olds ms = map (λ m. Some m.old) ms
 
 -- one of them is

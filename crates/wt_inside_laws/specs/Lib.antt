@@ -16,5 +16,5 @@ pub mod SameBut
 pub mod ToldEdits
 pub mod HtmlEdits
 pub mod BesideEdits
-pub mod OneBlock
+pub mod EditsWithCalls
 pub mod LocalTextEdits

@@ -22,9 +22,9 @@ use Rattle.wt_called_edit_laws.specs.SettledAt.{AllSettled}
 use Rattle.wt_program.specs.AnyCalls.{SendsFor}
 use Rattle.wt_program.specs.Calls.{WroteNewPage}
 use Rattle.wt_inside_laws.specs.BesideEdits.{IsBesideHtml}
+use Rattle.wt_inside_laws.specs.EditsWithCalls.{IsEditWithCalls}
 use Rattle.wt_inside_laws.specs.HtmlEdits.{IsHtmlEdit}
 use Rattle.wt_inside_laws.specs.LocalTextEdits.{IsLocalTextEdit}
-use Rattle.wt_inside_laws.specs.OneBlock.{IsOneBlockEdit}
 use Rattle.wt_inside_laws.specs.ToldEdits.{IsOrdinaryEdit}
 
 -- the page with the insides of its marked blocks replaced by what was sent for them, as it is spelled
@@ -77,9 +77,9 @@ pub record TakesEach (IsSuch : Pages → List ℕ → List ℕ → Tree → Opti
       → WroteNewPage c ended (retyped_page pages page new) ⊎ (ended ≡ code status.NoMemory)
   pub local : (pages : Pages) (page input : List ℕ) (new : Tree) (unsourced : Option ℕ) → IsSuch pages page input new unsourced → IsLocalTextEdit pages page new
 
--- A text edit of a page in which the marked blocks are ordinary; one in which a single block is marked, which may hold calls, and is told by its lines
--- alone; and one in which any number of blocks may hold calls, where the lines of the expanded page are said to tell them.
+-- A text edit of a page in which the marked blocks are ordinary; one in which they may hold calls, and the lines on which they are tell them; and one of
+-- blocks that may hold calls, among any that the lines of the expanded page are said to tell.
 pub record TakesTextEdits (c : Call) (ended : ℕ) : Type 0 where
   pub ordinary : TakesEach IsOrdinaryEdit c ended
-  pub one : TakesEach IsOneBlockEdit c ended
+  pub calling : TakesEach IsEditWithCalls c ended
   pub beside : TakesBesideEdits c ended
