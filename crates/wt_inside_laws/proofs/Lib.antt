@@ -55,6 +55,7 @@ pub mod OrdinaryEdits
 pub mod NothingMoved
 pub mod LocalTextEdits
 pub mod EditsWithCalls
+pub mod TypedApart
 pub mod InsidesCases
 pub mod PageCases
 pub mod LocalCases

@@ -1,7 +1,6 @@
 pub mod TextsReplaced
 pub mod AnyReplaced
 pub mod Contents
-pub mod OpenLines
 pub mod TextEdits
 pub mod RetypedPieces
 pub mod RetypedCalls
@@ -18,3 +17,4 @@ pub mod HtmlEdits
 pub mod BesideEdits
 pub mod EditsWithCalls
 pub mod LocalTextEdits
+pub mod TypedApart
