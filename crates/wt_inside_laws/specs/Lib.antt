@@ -16,5 +16,6 @@ pub mod ToldEdits
 pub mod HtmlEdits
 pub mod BesideEdits
 pub mod EditsWithCalls
+pub mod TextAndCallBlocks
 pub mod LocalTextEdits
 pub mod TypedApart
