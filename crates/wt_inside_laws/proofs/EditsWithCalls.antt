@@ -1,8 +1,9 @@
 -- A text edit of paragraphs and headings that may hold calls is done, and is local.
-use Rattle.std.proofs.Common.{arith, ◌≡◌, ℕ, ◌≤◌, Option, Some, List, [], ◌∷◌, length, map, refl, ap, inl, inr}
+use Rattle.std.proofs.Common.{arith, ◌≡◌, ℕ, ◌≤◌, Option, Some, None, List, [], ◌∷◌, length, map, refl, ap, inl, inr}
 use Rattle.std.specs.Prelude.{◌⊎◌}
 use Rattle.std.specs.List.{AllByRecursion}
-use Rattle.wt_span.specs.declared.limits.TheConstants.{HTML_BYTES}
+use Rattle.std.specs.Str.{IsUtf8}
+use Rattle.wt_span.specs.declared.limits.TheConstants.{HTML_BYTES, PAGE_BYTES}
 use Rattle.wt_span.specs.Items.{Item}
 use Rattle.wt_tree.specs.Tiling.{is_group}
 use Rattle.wt_tree.specs.Tree.{Tree, label}
@@ -13,7 +14,8 @@ use Rattle.wt_slices.specs.BodySlices.{slices}
 use Rattle.wt_slices.specs.Changes.{Pair, marked}
 use Rattle.wt_splice.specs.Splice.{spliced}
 use Rattle.wt_visible.specs.SameNodes.{same_node}
-use Rattle.wt_commands.specs.Answers.{done, edit_of, edit_to}
+use Rattle.wt_commands.specs.Answers.{refusal_of_page, done, remarked_of, edit_of, edit_to}
+use Rattle.wt_commands.specs.UnmarkedEdits.{DoneByEdit}
 use Rattle.wt_typed_blocks.specs.Edited.{Edits}
 use Rattle.wt_called_edit_laws.specs.AllTold.{IsOneOf as IsAnyOf}
 use Rattle.wt_called_edit_laws.specs.CallingContents.{TakesContentsIn}
@@ -27,14 +29,14 @@ use Rattle.wt_called_edit_laws.proofs.AllTold.CallingTogether.{lines_together}
 use Rattle.wt_called_edit_laws.proofs.PageBody.{page_body}
 use Rattle.wt_inside_laws.specs.AsSent.{edits_of, paths_of, node_at, IsOneOf, AreSomeOf}
 use Rattle.wt_inside_laws.specs.BesideEdits.{IsBesideBlock, IsBesideEdit}
-use Rattle.wt_inside_laws.specs.EditsWithCalls.{AreToldBlocks, MayHoldCalls, IsEditWithCalls}
+use Rattle.wt_inside_laws.specs.EditsWithCalls.{AreToldBlocks, MayHoldCalls, MarksBlocksWithCalls, IsEditWithCalls, IsDifferenceWithCalls}
 use Rattle.wt_inside_laws.specs.LocalTextEdits.{IsLocalTextEdit}
 use Rattle.wt_inside_laws.specs.TextEdits.{IsRetyped}
 use Rattle.wt_inside_laws.proofs.BesideEdits.{calling_edit_done}
 use Rattle.wt_inside_laws.proofs.HtmlEdits.{edit_is}
 use Rattle.wt_inside_laws.proofs.LocalTextEdits.{nothing_local, calling_local}
 use Rattle.wt_inside_laws.proofs.NothingMarked.{nothing_done, nothing_spliced}
-use Rattle.wt_inside_laws.proofs.OrdinaryEdits.{nodes_at, olds, one_same, block_kind, OrdinarySent, read_as_sent, by_marked}
+use Rattle.wt_inside_laws.proofs.OrdinaryEdits.{nodes_at, olds, one_same, block_kind, OrdinarySent, read_as_sent, difference_as_sent, by_marked, done_without_marks}
 use Rattle.wt_inside_laws.proofs.Reached.{Reaches, edits_reach}
 use Rattle.wt_inside_laws.proofs.ToldEdits.{first_same, rest_same}
 
@@ -78,19 +80,42 @@ record CallsTold (pages : Pages) (page : List ℕ) (new : Tree) : Type 0 where
   taken : TakesContentsIn pages (spots_of_lines pages page bs) (end_of_lines pages page bs rest)
   edit : IsBesideEdit pages page taken.paths new
 
-calls_sent : (pages : Pages) (page input : List ℕ) (new : Tree) (u : Option ℕ) → IsEditWithCalls pages page input new u → OrdinarySent pages page new
-calls_sent pages page input new u h = read_as_sent pages page input new u h.utf8 h.short h.unrefused h.sent h.edit
+-- what is known of it
+record IsCallsRead (pages : Pages) (page : List ℕ) (new : Tree) : Type 0 where
+  utf8 : IsUtf8 page
+  short : length page ≤ PAGE_BYTES
+  unrefused : refusal_of_page pages page ≡ None
+  edit : MarksBlocksWithCalls pages page new
+  sent : OrdinarySent pages page new
 
-calls_told : (pages : Pages) (page input : List ℕ) (new : Tree) (u : Option ℕ) → IsEditWithCalls pages page input new u
-    → 1 ≤ length (marked (page_tree pages page) new) → CallsTold pages page new
-calls_told pages page input new u h some =
+calls_read : (pages : Pages) (page input : List ℕ) (new : Tree) (u : Option ℕ) → IsEditWithCalls pages page input new u → IsCallsRead pages page new
+calls_read pages page input new u h = record {
+  utf8 = h.utf8;
+  short = h.short;
+  unrefused = h.unrefused;
+  edit = h.edit;
+  sent = read_as_sent pages page input new u h.utf8 h.short h.unrefused h.sent h.edit.edit;
+}
+
+difference_read : (pages : Pages) (page input : List ℕ) (new : Tree) (u : Option ℕ) → IsDifferenceWithCalls pages page input new u
+    → IsCallsRead pages page (remarked_of pages page new)
+difference_read pages page input new u h = record {
+  utf8 = h.utf8;
+  short = h.short;
+  unrefused = h.unrefused;
+  edit = h.edit;
+  sent = difference_as_sent pages page input new u h.utf8 h.short h.unrefused h.sent h.edit.edit;
+}
+
+calls_told : (pages : Pages) (page : List ℕ) (new : Tree) → IsCallsRead pages page new → 1 ≤ length (marked (page_tree pages page) new) → CallsTold pages page new
+calls_told pages page new h some =
     let t : Tree = called_tree pages page in
     let ms : List Pair = marked (page_tree pages page) new in
     let es : Edits = edits_of t new in
     let ps : List (List ℕ) = paths_of es in
-    let e : OrdinarySent pages page new = calls_sent pages page input new u h in
+    let e : OrdinarySent pages page new = h.sent in
     let o : AreOnLines pages page ps = lines_together pages page ps in
-    let told : AreToldBlocks pages page ps o = h.told some o in
+    let told : AreToldBlocks pages page ps o = h.edit.told some o in
     let there : TakeThere pages page ps told.bs o.behind = o.takes told.bs told.on told.lined in
     let body = page_body pages page h.utf8 h.unrefused in
     let reach : AllByRecursion (Reaches t) ps = edits_reach t es (ap is_group body.kind) e.sent.old e.sent.outside in
@@ -101,24 +126,32 @@ calls_told pages page input new u h some =
       taken = there.taken;
       edit = record {
         short = h.short;
-        edit = h.edit;
+        edit = h.edit.edit;
         read = e.read;
         blocks = e.blocks;
-        beside = all_beside pages page ms h.blocks;
-        among = all_there pages page ps told.bs o.behind there ps ms (all_any ps ps (λ q i. i)) reach e.sent.at h.edit.blocks h.blocks;
+        beside = all_beside pages page ms h.edit.blocks;
+        among = all_there pages page ps told.bs o.behind there ps ms (all_any ps ps (λ q i. i)) reach e.sent.at h.edit.edit.blocks h.edit.blocks;
       };
     }
 
+done_of : (pages : Pages) (page : List ℕ) (new : Tree) → IsCallsRead pages page new
+    → edit_to pages page new ≡ done (spliced page (slices same_node (page_tree pages page) new))
+done_of pages page new h =
+    by_marked (marked (page_tree pages page) new)
+    (λ none. nothing_spliced pages page new (nothing_done pages page new h.utf8 h.short h.unrefused h.sent.sent none))
+    (λ some. let o : CallsTold pages page new = calls_told pages page new h some in calling_edit_done pages page o.bs o.rest new o.lined o.taken o.edit)
+
+local_of : (pages : Pages) (page : List ℕ) (new : Tree) → IsCallsRead pages page new → IsLocalTextEdit pages page new
+local_of pages page new h =
+    by_marked (marked (page_tree pages page) new)
+    (λ none. nothing_local pages page new h.utf8 h.short h.unrefused h.sent.sent none)
+    (λ some. let o : CallsTold pages page new = calls_told pages page new h some in calling_local pages page o.bs o.rest new o.lined o.taken o.edit)
+
+-- ---- with marks
+
 pub calls_done : (pages : Pages) (page input : List ℕ) (new : Tree) (u : Option ℕ) → IsEditWithCalls pages page input new u
     → edit_to pages page new ≡ done (spliced page (slices same_node (page_tree pages page) new))
-calls_done pages page input new u h =
-    by_marked (marked (page_tree pages page) new)
-    (λ none.
-    let e : OrdinarySent pages page new = calls_sent pages page input new u h in
-    nothing_spliced pages page new (nothing_done pages page new h.utf8 h.short h.unrefused e.sent none))
-    (λ some.
-    let o : CallsTold pages page new = calls_told pages page input new u h some in
-    calling_edit_done pages page o.bs o.rest new o.lined o.taken o.edit)
+calls_done pages page input new u h = done_of pages page new (calls_read pages page input new u h)
 
 pub calls_written : (pages : Pages) (page input : List ℕ) (new : Tree) (u : Option ℕ) → IsEditWithCalls pages page input new u → length input ≤ HTML_BYTES
     → edit_of pages (Some page) input ≡ done (spliced page (slices same_node (page_tree pages page) new))
@@ -126,11 +159,12 @@ calls_written pages page input new u h le =
     edit_is pages page (spliced page (slices same_node (page_tree pages page) new)) input new u h.utf8 h.short le h.sent (calls_done pages page input new u h)
 
 pub calls_local : (pages : Pages) (page input : List ℕ) (new : Tree) (u : Option ℕ) → IsEditWithCalls pages page input new u → IsLocalTextEdit pages page new
-calls_local pages page input new u h =
-    by_marked (marked (page_tree pages page) new)
-    (λ none.
-    let e : OrdinarySent pages page new = calls_sent pages page input new u h in
-    nothing_local pages page new h.utf8 h.short h.unrefused e.sent none)
-    (λ some.
-    let o : CallsTold pages page new = calls_told pages page input new u h some in
-    calling_local pages page o.bs o.rest new o.lined o.taken o.edit)
+calls_local pages page input new u h = local_of pages page new (calls_read pages page input new u h)
+
+-- ---- without marks
+
+pub calls_difference : (pages : Pages) (page input : List ℕ) (new : Tree) (u : Option ℕ) (stands : Option (List ℕ)) → IsDifferenceWithCalls pages page input new u
+    → stands ≡ Some page → length input ≤ HTML_BYTES → DoneByEdit pages stands input
+calls_difference pages page input new u stands h found le =
+    done_without_marks pages page input new u stands (spliced page (slices same_node (page_tree pages page) (remarked_of pages page new))) h.utf8 h.short h.sent
+    (done_of pages page (remarked_of pages page new) (difference_read pages page input new u h)) found le

@@ -33,6 +33,7 @@ pub mod ReadKinds
 pub mod ReadRecuts
 pub mod ReadNodes
 pub mod ReadSent
+pub mod Remarked
 pub mod SlotTexts
 pub mod OwnPieces
 pub mod SlotsLed

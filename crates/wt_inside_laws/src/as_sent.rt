@@ -20,7 +20,8 @@ ghost use Rattle.wt_visible.specs.SameNodes.{same_node};
 ghost use Rattle.wt_slices.specs.BodySlices.{slices};
 ghost use Rattle.wt_slices.specs.Changes.{marked, AllStay};
 ghost use Rattle.wt_splice.specs.Splice.{spliced};
-ghost use Rattle.wt_commands.specs.Answers.{refusal_of_page, done, edit_of, edit_to};
+ghost use Rattle.wt_commands.specs.Answers.{refusal_of_page, done, remarked_of, edit_of, edit_to};
+ghost use Rattle.wt_commands.specs.UnmarkedEdits.{DoneByEdit};
 ghost use Rattle.wt_called_edit_laws.specs.CallingContents.{TakesContentsIn};
 ghost use Rattle.wt_called_edit_laws.specs.ContentsTaken.{TakesContents};
 ghost use Rattle.wt_called_edit_laws.specs.Groups.{called_tree};
@@ -29,12 +30,12 @@ ghost use Rattle.wt_called_edit_laws.specs.LinedCalling.{IsLinedCalling};
 ghost use Rattle.wt_called_edit_laws.specs.PlacedLines.{LinedBlock};
 ghost use Rattle.wt_inside_laws.specs.AsSent.{edits_of, IsPlainPage, IsReadFor, IsAlike, IsAsSent, IsSentOn};
 ghost use Rattle.wt_inside_laws.specs.BesideEdits.{IsBesideEdit, IsBesideHtml};
-ghost use Rattle.wt_inside_laws.specs.EditsWithCalls.{IsEditWithCalls};
+ghost use Rattle.wt_inside_laws.specs.EditsWithCalls.{IsEditWithCalls, IsDifferenceWithCalls};
 ghost use Rattle.wt_inside_laws.specs.HtmlEdits.{IsHtmlEdit};
 ghost use Rattle.wt_inside_laws.specs.LocalTextEdits.{IsLocalTextEdit};
 ghost use Rattle.wt_inside_laws.specs.RetypedPieces.{AreRead, AreUtf8};
 ghost use Rattle.wt_inside_laws.specs.TextEdits.{IsRetyped, IsTextEdit};
-ghost use Rattle.wt_inside_laws.specs.ToldEdits.{IsToldEdit, IsOrdinaryEdit};
+ghost use Rattle.wt_inside_laws.specs.ToldEdits.{IsToldEdit, IsOrdinaryEdit, IsOrdinaryDifference};
 
 /// Where the checks refuse nothing and no blocks come or go, what was sent for a page is edited as the page's own nodes
 /// are (`edits_of`): each outside the marked blocks as it is, of a group the elements that are written for it, and in
@@ -135,4 +136,18 @@ pub fn text_edits_with_calls_are_done()
         → edit_of pages (Some page) input ≡ done (spliced page (slices same_node (page_tree pages page) new)) }
     ensures local { (pages : Pages) (page input : List ℕ) (new : Tree) (unsourced : Option ℕ)
         → IsEditWithCalls pages page input new unsourced → IsLocalTextEdit pages page new }
+{}
+
+/// So is each that is sent without marks: `edit` of its difference from the page is done (`DoneByEdit`).
+#[tactic(auto)]
+pub fn text_edits_without_marks_are_done()
+    ensures tree { (pages : Pages) (page input : List ℕ) (new : Tree) (unsourced : Option ℕ)
+        → IsOrdinaryDifference pages page input new unsourced → edit_to pages page (remarked_of pages page new)
+        ≡ done (spliced page (slices same_node (page_tree pages page) (remarked_of pages page new))) }
+    ensures html { (pages : Pages) (page input : List ℕ) (new : Tree) (unsourced : Option ℕ) (stands : Option (List ℕ))
+        → IsOrdinaryDifference pages page input new unsourced → stands ≡ Some page → length input ≤ HTML_BYTES
+        → DoneByEdit pages stands input }
+    ensures calls { (pages : Pages) (page input : List ℕ) (new : Tree) (unsourced : Option ℕ) (stands : Option (List ℕ))
+        → IsDifferenceWithCalls pages page input new unsourced → stands ≡ Some page → length input ≤ HTML_BYTES
+        → DoneByEdit pages stands input }
 {}

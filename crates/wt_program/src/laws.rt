@@ -95,7 +95,7 @@ pub fn calls_take_changed_prose()
 /// insides replaced by what was sent, as it is spelled, and no line; or a device failed, or memory ran out.
 #[tactic(auto, using(crate::proofs::EditCalls::calls_take_edits))]
 pub fn calls_take_text_edits()
-    ensures { (c : Call) (ended : ℕ) → Ends c ended → TakesTextEdits c ended }
+    ensures { (c : Call) (ended : ℕ) → Ends c ended → EndsAsEdit c ended → TakesTextEdits c ended }
 {}
 
 /// The same of blocks that call nothing and that the lines of the expanded page tell (`IsLinedAmong`), which are at paths of
