@@ -17,6 +17,7 @@ pub mod SentAmong
 pub mod SentWhole
 pub mod SentFaults
 pub mod Making
+pub mod SpelledApart
 pub mod Plain
 pub mod WithoutStyles
 pub mod HeldStyles
@@ -33,6 +34,7 @@ pub mod OwnLed
 pub mod LedLines
 pub mod OwnFirst
 pub mod OwnNests
+pub mod OwnSpine
 pub mod SentNests
 pub mod SentKept
 pub mod UrlEnds

@@ -34,6 +34,7 @@ pub mod StyledHeadings
 pub mod StyledBlocks
 pub mod NewStyles
 pub mod StyledIn
+pub mod SpelledApart
 pub mod Called
 pub mod Given
 pub mod StyledCalls

@@ -84,3 +84,9 @@ abbrev pub StayOnLines : List (Option Thing) → Type 0
 StayOnLines [] = Unit {0}
 StayOnLines (None ∷ more) = StayOnLines more
 StayOnLines (Some t ∷ more) = StaysOn (tag_at (own_glyphs t)) (length (own_glyphs t)) more × StayOnLines more
+
+-- no node ends in a tag that isn't ended
+abbrev pub EndTags : List ContentSign → Type 0
+EndTags [] = Unit {0}
+EndTags (letter c ∷ after) = EndTags after
+EndTags (thing t ∷ after) = (ends_in_tag (own_glyphs t) ≡ false) × EndTags after

@@ -26,6 +26,7 @@ pub mod OwnShown
 pub mod AlikeContents
 pub mod MarkedBlocks
 pub mod PageAlike
+pub mod NothingMarked
 pub mod SentCases
 pub mod ReadMarkup
 pub mod ReadKinds
@@ -47,10 +48,14 @@ pub mod UncalledPage
 pub mod CallingPieces
 pub mod CallingEdits
 pub mod ToldEdits
+pub mod UncalledBlocks
 pub mod BesideEdits
 pub mod HtmlEdits
 pub mod OrdinaryEdits
+pub mod NothingMoved
 pub mod LocalTextEdits
+pub mod OneBlock
+pub mod TypedApart
 pub mod InsidesCases
 pub mod PageCases
 pub mod LocalCases

@@ -1,12 +1,14 @@
 -- Text edits are local, of ordinary blocks and beside calls.
-use Rattle.std.proofs.Common.{◌≡◌, ℕ, Option, None, List, sym, subst}
+use Rattle.std.proofs.Common.{◌≡◌, ℕ, Option, None, List, sym, ap, ◌∙◌, subst}
 use Rattle.std.specs.Str.{IsUtf8}
 use Rattle.wt_span.specs.Items.{Item}
 use Rattle.wt_tree.specs.Tree.{Tree}
 use Rattle.wt_expand.specs.Work.{Pages}
 use Rattle.wt_page_round_trip.specs.PageTree.{page_tree}
 use Rattle.wt_slices.specs.BodySlices.{slices}
+use Rattle.wt_slices.specs.Changes.{marked}
 use Rattle.wt_splice.specs.Splice.{spliced}
+use Rattle.wt_selser.proofs.Outside.{nothing_changes}
 use Rattle.wt_visible.specs.SameNodes.{same_node}
 use Rattle.wt_commands.specs.Answers.{refusal_of_page}
 use Rattle.wt_typed_blocks.specs.Edited.{Edits}
@@ -24,13 +26,16 @@ use Rattle.wt_called_edit_laws.proofs.Among.CallingLines.{calling_whole, calling
 use Rattle.wt_called_edit_laws.proofs.Among.LinedParts.{lined_whole, lined_editable}
 use Rattle.wt_called_edit_laws.proofs.BlocksOutside.{editable_called}
 use Rattle.wt_called_edit_laws.proofs.EditableBlocks.{editable_calling}
+use Rattle.wt_called_edit_laws.proofs.PageBody.{IsBodyOf, page_body}
 use Rattle.wt_called_edit_laws.proofs.SpotSources.{blocks_have}
-use Rattle.wt_inside_laws.specs.AsSent.{edits_of}
+use Rattle.wt_inside_laws.specs.AsSent.{edits_of, IsSentOn}
 use Rattle.wt_inside_laws.specs.BesideEdits.{IsBesideEdit}
 use Rattle.wt_inside_laws.specs.LocalTextEdits.{IsLocalTextEdit}
 use Rattle.wt_inside_laws.specs.ToldEdits.{IsToldEdit, IsOrdinaryEdit}
+use Rattle.wt_inside_laws.proofs.NothingMarked.{ChangesNothing, nothing_done}
+use Rattle.wt_inside_laws.proofs.NothingMoved.{still_local, still_alike}
 use Rattle.wt_inside_laws.proofs.BesideEdits.{BesideSent, beside_sent}
-use Rattle.wt_inside_laws.proofs.OrdinaryEdits.{OrdinaryTold, ordinary_told}
+use Rattle.wt_inside_laws.proofs.OrdinaryEdits.{OrdinarySent, ordinary_sent, OrdinaryTold, ordinary_told, by_marked}
 use Rattle.wt_inside_laws.proofs.ToldEdits.{CalledSent, called_sent}
 
 -- ---- of blocks that hold no call
@@ -64,9 +69,31 @@ lined_local pages page bs rest new h c e =
     subst (λ (q : List ℕ). IsToldEdit pages q c.paths new → Stays pages q new) (lined_whole pages page bs rest h)
     (λ k. called_local pages ss behind new c called k) e
 
+-- where nothing is marked
+nothing_stays : (pages : Pages) (page : List ℕ) (new : Tree) → IsBodyOf page (called_tree pages page)
+    → IsSentOn pages page new (edits_of (called_tree pages page) new) → ChangesNothing pages page new → Stays pages page new
+nothing_stays pages page new b s n =
+    let es : Edits = edits_of (called_tree pages page) new in
+    let same : spliced page (slices same_node (page_tree pages page) new) ≡ page = ap (spliced page) n.slices ∙ nothing_changes page in
+    record {
+      local = record {
+        old = s.old;
+        at = s.at;
+        local = subst (λ (bs : List ℕ). IsLocalChange pages page bs es) (sym same) (still_local pages page es n.none s.outside s.old b.slices);
+      };
+      alike = subst (λ (bs : List ℕ). ExpandsAlike pages page bs) (sym same) (still_alike pages page);
+    }
+
 ordinary_stays : (pages : Pages) (page input : List ℕ) (new : Tree) (u : Option ℕ) → IsOrdinaryEdit pages page input new u → Stays pages page new
 ordinary_stays pages page input new u h =
-    let o : OrdinaryTold pages page new = ordinary_told pages page input new u h in lined_local pages page o.bs o.rest new o.lined o.taken o.edit
+    by_marked (marked (page_tree pages page) new)
+    (λ none.
+    let e : OrdinarySent pages page new = ordinary_sent pages page input new u h in
+    nothing_stays pages page new (page_body pages page h.utf8 h.unrefused) e.sent
+    (nothing_done pages page new h.utf8 h.short h.unrefused e.sent none))
+    (λ some.
+    let o : OrdinaryTold pages page new = ordinary_told pages page input new u h some in
+    lined_local pages page o.bs o.rest new o.lined o.taken o.edit)
 
 pub ordinary_local : (pages : Pages) (page input : List ℕ) (new : Tree) (u : Option ℕ) → IsOrdinaryEdit pages page input new u → IsLocalTextEdit pages page new
 ordinary_local pages page input new u h = let s : Stays pages page new = ordinary_stays pages page input new u h in s.local
@@ -83,7 +110,7 @@ beside_local : (pages : Pages) (ss : List BlockSpot) (behind : List ℕ) (new : 
 beside_local pages ss behind new c h utf8 unrefused e =
     let es : Edits = edits_of (called_tree pages (spots_source ss behind)) new in
     let s : BesideSent pages ss behind c.paths new =
-    beside_sent pages ss behind new c utf8 unrefused (blocks_have pages ss behind h.outside h.unrefused) e in
+    beside_sent pages ss behind new c utf8 unrefused (blocks_have pages ss behind h.outside h.unrefused) h.hold h.whole e in
     record {
       old = s.sent.old;
       at = s.sent.at;

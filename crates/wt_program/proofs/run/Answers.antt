@@ -3,10 +3,7 @@ use Rattle.wt_commands.specs.Devices.{read_from, fetched_from, written_to}
 use Rattle.wt_program.proofs.EditCalls.{calls_take_edits}
 use Rattle.wt_program.proofs.run.Goals as goal
 
-<<<<<<< HEAD
-=======
 -- src/lib.rt:39:1
->>>>>>> 0b0b6185acd9a08680a4423731548f267defd748
 pub returns-clause-takes_text_edits : goal.returns-clause-takes_text_edits
 returns-clause-takes_text_edits g c =
     calls_take_edits
