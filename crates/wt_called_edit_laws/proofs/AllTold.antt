@@ -35,3 +35,4 @@ pub mod OnLines
 pub mod CalmPages
 pub mod CallingBytes
 pub mod CallingTogether
+pub mod CallingCases
