@@ -33,7 +33,8 @@ pub record IsReadBlock (p : Pair) : Type 0 where
   pub read : AreRead (children_of p.new)
   pub utf8 : AreUtf8 (children_of p.new)
 
--- Of its nodes: what begins in a node ends in it, a tag too; and no heading begins with a mark.
+-- Of its nodes: what begins in a node ends in it, and a tag does behind one that opens a pair and isn't closed on its line; and no heading begins with a
+-- mark.
 pub record HasEndedNodes (k : TextBlock) (q : List ℕ) (p : Pair) : Type 0 where
   pub ended : AreEndedNodes (signs_in k q)
   pub tags : EndTags (signs_in k q)
