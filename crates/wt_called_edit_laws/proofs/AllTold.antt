@@ -36,3 +36,4 @@ pub mod CalmPages
 pub mod CallingBytes
 pub mod CallingTogether
 pub mod CallingCases
+mod EndCases
