@@ -35,3 +35,5 @@ pub mod OnLines
 pub mod CalmPages
 pub mod CallingBytes
 pub mod CallingTogether
+pub mod CallingCases
+mod EndCases
