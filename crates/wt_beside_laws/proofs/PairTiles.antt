@@ -1,9 +1,11 @@
 -- The closing tag that balances an opening one is the same whatever is read behind it.
 use Rattle.std.proofs.Common.{arith, ◌≡◌, ℕ, zero, suc, ◌+◌, ◌-◌, ◌<◌, ◌≤◌, ◌==◌, Bool, true, false, Option, Some, None, List, [], ◌∷◌, ◌++◌, length, take, drop, refl, sym, ap, ap₂, ◌∙◌, subst, nat_lt}
-use Rattle.std.specs.Prelude.{◌&&◌, ◌||◌, codes, if◌then◌else◌}
+use Rattle.std.specs.Prelude.{◌&&◌, ◌||◌, not, codes, if◌then◌else◌}
+use Rattle.std.specs.Char.{is_ascii_alphanumeric}
 use Rattle.std.specs.Option.{option_or}
 use Rattle.std.proofs.lemmas.Bool.Decides.{nat_tests}
 use Rattle.std.proofs.lemmas.List.{drop-append-le, take-append-le, length-drop, length-append}
+use Rattle.wt_span.specs.Bytes.{is_blank}
 use Rattle.wt_tiles.specs.declared.glyph.Glyph.{Glyph}
 use Rattle.wt_tiles.specs.declared.glyph.Glyph.TheVariants as glyph
 use Rattle.wt_tiles.specs.declared.glyph.GlyphClass.{GlyphClass}
@@ -14,67 +16,91 @@ use Rattle.wt_tiles.specs.Glyphs.{in_class, is_in, first_is, run_len, begins}
 use Rattle.wt_tiles.specs.Partners.{DepthChange, Up, Down, Level, turn_of_tag, tag_turn, by_tag, partner}
 use Rattle.wt_tiles.specs.Tags.{name_len, name_of, tag_of, is_inside, shape_of, tag_after, opening_tag, closing_tag, tag_at}
 use Rattle.wt_tiles.proofs.TagInsides.{no_tag}
+use Rattle.wt_beside_laws.specs.OpenTags.{has_stop, is_open_tag}
 use Rattle.wt_beside_laws.proofs.LinkTiles.{first_stays}
 use Rattle.wt_beside_laws.proofs.TagFronts.{tag_front}
-use Rattle.wt_beside_laws.proofs.TagTiles.{tag_stays, name_stays}
+use Rattle.wt_beside_laws.proofs.TagTiles.{tag_stays, name_stays, no_opening}
 use Rattle.wt_beside_laws.proofs.UrlTiles.{run_within}
 
--- ---- a `<` that is among some items
+-- ---- an item that is in no tag, among some
 
 abbrev pub has_less : List Glyph → Bool
 has_less [] = false
 has_less (g ∷ gs) = in_class (class.Only 60) g || has_less gs
 
--- of a class in which it isn't
-abbrev HasNoLess : GlyphClass → Type 0
-HasNoLess k = (g : Glyph) → in_class k g ≡ true → in_class (class.Only 60) g ≡ false
+or_right : (a b : Bool) → b ≡ true → (a || b) ≡ true
+or_right true b e = refl
+or_right false b e = e
 
-name_no_less : HasNoLess class.Name
-name_no_less (glyph.Byte b) e = grind (arith, nat_tests)
-name_no_less (glyph.Entity c) e = refl
-name_no_less glyph.Atom e = refl
-name_no_less glyph.Mark e = refl
+-- it is in no tag
+less_stops : (gs : List Glyph) → has_less gs ≡ true → has_stop gs ≡ true
+less_stops [] e = cc
+less_stops (g ∷ gs) e = by (in_class (class.Only 60) g) refl e (λ f. less_stops gs f)
+  where
+    less_stop : (g : Glyph) → in_class (class.Only 60) g ≡ true → in_class class.Tag g ≡ false
+    less_stop (glyph.Byte b) e = ap (λ (v : Bool). not (v || (b == 62 || b == 10))) e
+    less_stop (glyph.Entity c) e = cc
+    less_stop glyph.Atom e = cc
+    less_stop glyph.Mark e = cc
 
-blank_no_less : HasNoLess class.Blank
-blank_no_less (glyph.Byte b) e = grind (arith, nat_tests)
-blank_no_less (glyph.Entity c) e = refl
-blank_no_less glyph.Atom e = refl
-blank_no_less glyph.Mark e = refl
+    by : (v : Bool) → in_class (class.Only 60) g ≡ v → (v || has_less gs) ≡ true → (has_less gs ≡ true → has_stop gs ≡ true)
+        → (not (in_class class.Tag g) || has_stop gs) ≡ true
+    by true i f go = ap (λ (v : Bool). not v || has_stop gs) (less_stop g i)
+    by false i f go = or_right (not (in_class class.Tag g)) (has_stop gs) (go f)
 
-tag_no_less : HasNoLess class.Tag
-tag_no_less (glyph.Byte b) e = grind (arith, nat_tests)
-tag_no_less (glyph.Entity c) e = refl
-tag_no_less glyph.Atom e = refl
-tag_no_less glyph.Mark e = refl
+-- of a class of which each item may be in a tag
+abbrev IsOfTags : GlyphClass → Type 0
+IsOfTags k = (g : Glyph) → in_class k g ≡ true → in_class class.Tag g ≡ true
 
--- a run of such a class ends before it
-run_ends : (k : GlyphClass) (gs : List Glyph) → HasNoLess k → has_less gs ≡ true → (run_len k gs < length gs) × (has_less (drop (run_len k gs) gs) ≡ true)
+name_stop : (b : ℕ) → is_ascii_alphanumeric b ≡ true → (b == 60 || (b == 62 || b == 10)) ≡ false
+name_stop b e = grind (arith, nat_tests, e)
+
+name_of_tags : IsOfTags class.Name
+name_of_tags (glyph.Byte b) e = ap not (name_stop b e)
+name_of_tags (glyph.Entity c) e = refl
+name_of_tags glyph.Atom e = e
+name_of_tags glyph.Mark e = refl
+
+blank_stop : (b : ℕ) → is_blank b ≡ true → (b == 60 || (b == 62 || b == 10)) ≡ false
+blank_stop b e = grind (arith, nat_tests, e)
+
+blank_of_tags : IsOfTags class.Blank
+blank_of_tags (glyph.Byte b) e = ap not (blank_stop b e)
+blank_of_tags (glyph.Entity c) e = refl
+blank_of_tags glyph.Atom e = e
+blank_of_tags glyph.Mark e = refl
+
+tag_of_tags : IsOfTags class.Tag
+tag_of_tags g e = e
+
+-- a run of such a class ends before one that may not
+run_ends : (k : GlyphClass) (gs : List Glyph) → IsOfTags k → has_stop gs ≡ true → (run_len k gs < length gs) × (has_stop (drop (run_len k gs) gs) ≡ true)
 run_ends k [] f e = cc
 run_ends k (g ∷ gs) f e = ends_by (in_class k g) refl (λ z. run_ends k gs f z)
   where
-    tail_less : in_class k g ≡ true → has_less gs ≡ true
-    tail_less i = ap (λ (v : Bool). v || has_less gs) (sym (f g i)) ∙ e
+    tail_stop : in_class k g ≡ true → has_stop gs ≡ true
+    tail_stop i = ap (λ (v : Bool). not v || has_stop gs) (sym (f g i)) ∙ e
 
-    ends_by : (v : Bool) → in_class k g ≡ v → (has_less gs ≡ true → (run_len k gs < length gs) × (has_less (drop (run_len k gs) gs) ≡ true))
-        → (run_len k (g ∷ gs) < length (g ∷ gs)) × (has_less (drop (run_len k (g ∷ gs)) (g ∷ gs)) ≡ true)
+    ends_by : (v : Bool) → in_class k g ≡ v → (has_stop gs ≡ true → (run_len k gs < length gs) × (has_stop (drop (run_len k gs) gs) ≡ true))
+        → (run_len k (g ∷ gs) < length (g ∷ gs)) × (has_stop (drop (run_len k (g ∷ gs)) (g ∷ gs)) ≡ true)
     ends_by true i h =
-        let r = h (tail_less i) in
+        let r = h (tail_stop i) in
         let lt : run_len k gs < length gs = r.0 in
         let is : run_len k (g ∷ gs) ≡ suc (run_len k gs) = ap (λ (v : Bool). if v then 1 + run_len k gs else 0) i ∙ omega arith in
-        (omega (arith, is, lt), ap (λ (n : ℕ). has_less (drop n (g ∷ gs))) is ∙ r.1)
+        (omega (arith, is, lt), ap (λ (n : ℕ). has_stop (drop n (g ∷ gs))) is ∙ r.1)
     ends_by false i h =
         let is : run_len k (g ∷ gs) ≡ 0 = ap (λ (v : Bool). if v then 1 + run_len k gs else 0) i in
-        (omega (arith, is), ap (λ (n : ℕ). has_less (drop n (g ∷ gs))) is ∙ e)
+        (omega (arith, is), ap (λ (n : ℕ). has_stop (drop n (g ∷ gs))) is ∙ e)
 
-name_ends : (gs : List Glyph) → has_less gs ≡ true → (name_len gs < length gs) × (has_less (drop (name_len gs) gs) ≡ true)
+name_ends : (gs : List Glyph) → has_stop gs ≡ true → (name_len gs < length gs) × (has_stop (drop (name_len gs) gs) ≡ true)
 name_ends gs e = ends_by (first_is class.Letter gs)
   where
-    some : (hs : List Glyph) → has_less hs ≡ true → 0 < length hs
+    some : (hs : List Glyph) → has_stop hs ≡ true → 0 < length hs
     some [] z = cc
     some (h ∷ hs) z = omega arith
 
-    ends_by : (v : Bool) → ((if v then run_len class.Name gs else 0) < length gs) × (has_less (drop (if v then run_len class.Name gs else 0) gs) ≡ true)
-    ends_by true = run_ends class.Name gs name_no_less e
+    ends_by : (v : Bool) → ((if v then run_len class.Name gs else 0) < length gs) × (has_stop (drop (if v then run_len class.Name gs else 0) gs) ≡ true)
+    ends_by true = run_ends class.Name gs name_of_tags e
     ends_by false = (some gs e, e)
 
 -- ---- a tag that begins before it is the same whatever is read behind
@@ -82,18 +108,18 @@ name_ends gs e = ends_by (first_is class.Letter gs)
 abbrev tag_inside : List Glyph → Bool → List Glyph → Option Tag
 tag_inside name ends inside = if ends && is_inside inside then tag_of (shape_of inside) (2 + length name + length inside) (name_of name) else None
 
-after_same : (name us rest : List Glyph) → has_less us ≡ true → tag_after name (us ++ rest) ≡ tag_after name us
+after_same : (name us rest : List Glyph) → has_stop us ≡ true → tag_after name (us ++ rest) ≡ tag_after name us
 unfolding tag_after
 after_same name us rest e =
     let r : ℕ = run_len class.Tag us in
-    let lt : r < length us = (run_ends class.Tag us tag_no_less e).0 in
+    let lt : r < length us = (run_ends class.Tag us tag_of_tags e).0 in
     let left : length (drop r us) ≡ length us - r = length-drop r us in
     ap (λ (i : ℕ). tag_inside name (first_is (class.Only 62) (drop i (us ++ rest))) (take i (us ++ rest))) (run_within class.Tag us rest lt)
     ∙ ap₂ (λ (v : Bool) (xs : List Glyph). tag_inside name v xs)
     (ap (first_is (class.Only 62)) (drop-append-le r us rest (omega (arith, lt))) ∙ first_stays (class.Only 62) (drop r us) rest (omega (arith, lt, left)))
     (take-append-le r us rest (omega (arith, lt)))
 
-opening_same : (g : Glyph) (hs rest : List Glyph) → has_less hs ≡ true → opening_tag (g ∷ (hs ++ rest)) ≡ opening_tag (g ∷ hs)
+opening_same : (g : Glyph) (hs rest : List Glyph) → has_stop hs ≡ true → opening_tag (g ∷ (hs ++ rest)) ≡ opening_tag (g ∷ hs)
 unfolding opening_tag
 opening_same g hs rest e =
     let n : ℕ = name_len hs in
@@ -101,16 +127,16 @@ opening_same g hs rest e =
     let lt : n < length hs = m.0 in
     let us : List Glyph = drop (1 + n) (g ∷ hs) in
     let z : 1 + n ≡ suc n = omega arith in
-    let less : has_less us ≡ true = ap (λ (i : ℕ). has_less (drop i (g ∷ hs))) z ∙ m.1 in
+    let stop : has_stop us ≡ true = ap (λ (i : ℕ). has_stop (drop i (g ∷ hs))) z ∙ m.1 in
     ap (λ (i : ℕ). if in_class (class.Only 60) g && nat_lt 0 i then tag_after (take i (hs ++ rest)) (drop (1 + i) (g ∷ (hs ++ rest))) else None) (name_stays hs rest lt)
     ∙ ap (λ (o : Option Tag). if in_class (class.Only 60) g && nat_lt 0 n then o else None)
     (ap₂ (λ (xs ys : List Glyph). tag_after xs ys) (take-append-le n hs rest (omega (arith, lt))) (drop-append-le (1 + n) (g ∷ hs) rest (omega (arith, lt)))
-    ∙ after_same (take n hs) us rest less)
+    ∙ after_same (take n hs) us rest stop)
 
 abbrev closing_by : Bool → ℕ → ℕ → List Glyph → Bool → Option Tag
 closing_by first n k name ends = if first && (nat_lt 0 n && ends) then tag_of Closing (3 + n + k) (name_of name) else None
 
-closing_same : (a b : Glyph) (hs rest : List Glyph) → has_less hs ≡ true → closing_tag (a ∷ b ∷ (hs ++ rest)) ≡ closing_tag (a ∷ b ∷ hs)
+closing_same : (a b : Glyph) (hs rest : List Glyph) → has_stop hs ≡ true → closing_tag (a ∷ b ∷ (hs ++ rest)) ≡ closing_tag (a ∷ b ∷ hs)
 unfolding closing_tag
 closing_same a b hs rest e =
     let gs : List Glyph = a ∷ b ∷ hs in
@@ -120,9 +146,9 @@ closing_same a b hs rest e =
     let lt : n < length hs = m.0 in
     let z : 2 + n ≡ suc (suc n) = omega arith in
     let us : List Glyph = drop (2 + n) gs in
-    let less : has_less us ≡ true = ap (λ (i : ℕ). has_less (drop i gs)) z ∙ m.1 in
+    let stop : has_stop us ≡ true = ap (λ (i : ℕ). has_stop (drop i gs)) z ∙ m.1 in
     let k : ℕ = run_len class.Blank us in
-    let r = run_ends class.Blank us blank_no_less less in
+    let r = run_ends class.Blank us blank_of_tags stop in
     let short : k < length us = r.0 in
     let left : length us ≡ length gs - (2 + n) = length-drop (2 + n) gs in
     let end : length (drop (2 + n + k) gs) ≡ length gs - (2 + n + k) = length-drop (2 + n + k) gs in
@@ -136,41 +162,61 @@ closing_same a b hs rest e =
     (ap (first_is (class.Only 62)) (drop-append-le (2 + n + k) gs rest (omega (arith, short, left, lt)))
     ∙ first_stays (class.Only 62) (drop (2 + n + k) gs) rest (omega (arith, short, left, end, lt)))
 
--- where the second item is `<`
-no_slash : (a b : Glyph) (hs : List Glyph) → in_class (class.Only 60) b ≡ true → closing_tag (a ∷ b ∷ hs) ≡ None
+-- where the second item is no `/`
+no_slash : (a b : Glyph) (hs : List Glyph) → in_class (class.Only 47) b ≡ false → closing_tag (a ∷ b ∷ hs) ≡ None
 unfolding closing_tag
 no_slash a b hs e = none_by (is_in (λ (c : ℕ). c == 60) a) (is_in (λ (c : ℕ). c == 47) b) refl
   where
-    other : (g : Glyph) → in_class (class.Only 60) g ≡ true → is_in (λ (c : ℕ). c == 47) g ≡ true → true ≡ false
-    other (glyph.Byte c) i j = absurd (grind (arith, nat_tests, i, j))
-    other (glyph.Entity c) i j = cc
-    other glyph.Atom i j = cc
-    other glyph.Mark i j = cc
-
     none_by : (u v : Bool) → is_in (λ (c : ℕ). c == 47) b ≡ v
         → (if (u && (v && true)) && (nat_lt 0 (name_len hs) && first_is (class.Only 62) (drop (2 + name_len hs + run_len class.Blank (drop (2 + name_len hs) (a ∷ b ∷ hs))) (a ∷ b ∷ hs)))
         then tag_of Closing (3 + name_len hs + run_len class.Blank (drop (2 + name_len hs) (a ∷ b ∷ hs))) (name_of (take (name_len hs) hs)) else None) ≡ None
     none_by false v i = refl
     none_by true false i = refl
-    none_by true true i = let no : true ≡ false = other b e i in cc
+    none_by true true i = let no : true ≡ false = sym i ∙ e in cc
 
-closing_here : (a b : Glyph) (hs rest : List Glyph) → (in_class (class.Only 60) b || has_less hs) ≡ true → closing_tag (a ∷ b ∷ (hs ++ rest)) ≡ closing_tag (a ∷ b ∷ hs)
-closing_here a b hs rest e = here_by (in_class (class.Only 60) b) refl e
+stop_slash : (g : Glyph) → in_class class.Tag g ≡ false → in_class (class.Only 47) g ≡ false
+stop_slash (glyph.Byte b) e = slash_by (b == 47) refl
   where
-    here_by : (v : Bool) → in_class (class.Only 60) b ≡ v → (v || has_less hs) ≡ true → closing_tag (a ∷ b ∷ (hs ++ rest)) ≡ closing_tag (a ∷ b ∷ hs)
-    here_by true i z = no_slash a b (hs ++ rest) i ∙ sym (no_slash a b hs i)
-    here_by false i z = closing_same a b hs rest z
+    slash_by : (v : Bool) → (b == 47) ≡ v → v ≡ false
+    slash_by true i = absurd (grind (arith, nat_tests, i, e))
+    slash_by false i = refl
+stop_slash (glyph.Entity c) e = refl
+stop_slash glyph.Atom e = refl
+stop_slash glyph.Mark e = refl
+
+closing_here : (a b : Glyph) (hs rest : List Glyph) → (not (in_class class.Tag b) || has_stop hs) ≡ true → closing_tag (a ∷ b ∷ (hs ++ rest)) ≡ closing_tag (a ∷ b ∷ hs)
+closing_here a b hs rest e = here_by (in_class class.Tag b) refl e
+  where
+    here_by : (v : Bool) → in_class class.Tag b ≡ v → (not v || has_stop hs) ≡ true → closing_tag (a ∷ b ∷ (hs ++ rest)) ≡ closing_tag (a ∷ b ∷ hs)
+    here_by false i z = no_slash a b (hs ++ rest) (stop_slash b i) ∙ sym (no_slash a b hs (stop_slash b i))
+    here_by true i z = closing_same a b hs rest z
+
+stop_same : (g : Glyph) (hs rest : List Glyph) → has_stop hs ≡ true → tag_at (g ∷ (hs ++ rest)) ≡ tag_at (g ∷ hs)
+unfolding tag_at
+stop_same g [] rest e = cc
+stop_same g (h ∷ hs) rest e = ap₂ (λ (a b : Option Tag). option_or a b) (opening_same g (h ∷ hs) rest e) (closing_here g h hs rest e)
 
 pub tag_same : (g : Glyph) (hs rest : List Glyph) → has_less hs ≡ true → tag_at (g ∷ (hs ++ rest)) ≡ tag_at (g ∷ hs)
+tag_same g hs rest e = stop_same g hs rest (less_stops hs e)
+
+-- neither a letter nor a `/` is behind its first item
+no_tag_at : (g h : Glyph) (hs : List Glyph) → in_class class.Letter h ≡ false → in_class (class.Only 47) h ≡ false → tag_at (g ∷ h ∷ hs) ≡ None
 unfolding tag_at
-tag_same g [] rest e = cc
-tag_same g (h ∷ hs) rest e = ap₂ (λ (a b : Option Tag). option_or a b) (opening_same g (h ∷ hs) rest e) (closing_here g h hs rest e)
+no_tag_at g h hs e f = ap₂ (λ (a b : Option Tag). option_or a b) (no_opening g h hs e) (no_slash g h hs f)
+
+-- nothing behind it makes it another one
+pub tag_whole : (g : Glyph) (hs rest : List Glyph) → is_open_tag hs ≡ false → tag_at (g ∷ (hs ++ rest)) ≡ tag_at (g ∷ hs)
+tag_whole g [] rest e = cc
+tag_whole g (h ∷ hs) rest e = whole_by (in_class class.Letter h) (in_class (class.Only 47) h) (has_stop (h ∷ hs)) refl refl refl e
+  where
+    whole_by : (u v w : Bool) → in_class class.Letter h ≡ u → in_class (class.Only 47) h ≡ v → has_stop (h ∷ hs) ≡ w → ((u || v) && not w) ≡ false
+        → tag_at (g ∷ h ∷ (hs ++ rest)) ≡ tag_at (g ∷ h ∷ hs)
+    whole_by u v true i j k z = stop_same g (h ∷ hs) rest k
+    whole_by false false false i j k z = no_tag_at g h (hs ++ rest) i j ∙ sym (no_tag_at g h hs i j)
+    whole_by true v false i j k z = cc
+    whole_by false true false i j k z = cc
 
 -- ---- the closing tag that balances
-
-or_right : (a b : Bool) → b ≡ true → (a || b) ≡ true
-or_right true b e = refl
-or_right false b e = e
 
 or_left : (a b : Bool) → a ≡ true → (a || b) ≡ true
 or_left true b e = refl

@@ -17,6 +17,7 @@ pub mod SentAmong
 pub mod SentWhole
 pub mod SentFaults
 pub mod Making
+pub mod SpelledApart
 pub mod Plain
 pub mod WithoutStyles
 pub mod HeldStyles
@@ -34,7 +35,7 @@ pub mod LedLines
 pub mod OwnFirst
 pub mod OwnNests
 pub mod SentNests
-pub mod SentPaired
+pub mod SentKept
 pub mod UrlEnds
 pub mod UrlsApart
 mod Cases

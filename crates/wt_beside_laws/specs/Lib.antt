@@ -23,6 +23,7 @@ pub mod FlatPages
 pub mod FlatBlocks
 pub mod HeldLines
 pub mod EndedNodes
+pub mod OpenTags
 pub mod ContentEdits
 pub mod Nests
 pub mod Styled
@@ -33,7 +34,9 @@ pub mod StyledHeadings
 pub mod StyledBlocks
 pub mod NewStyles
 pub mod StyledIn
+pub mod SpelledApart
 pub mod Called
 pub mod Given
 pub mod StyledCalls
 pub mod OwnLed
+pub mod OpenEnds

@@ -6,7 +6,11 @@ use Rattle.wt_tree.specs.Plain.{Plains, ended, text_before}
 use Rattle.wt_guards.specs.Content.{ContentSign, Thing, is_group, letter, thing}
 use Rattle.wt_guards.specs.Guards.{Setting, is_guarded}
 use Rattle.wt_guards.specs.Letters.{is_escaped}
-use Rattle.wt_inline.specs.Parts.{Part, node, parts}
+use Rattle.wt_tree.specs.EditShapes.{edit_shape}
+use Rattle.wt_tree.specs.declared.edit_shape.InlineForm.{InlineForm}
+use Rattle.wt_tree.specs.declared.edit_shape.InlineForm.TheVariants as inline
+use Rattle.wt_inline.specs.ItemTree.{inner}
+use Rattle.wt_inline.specs.Parts.{Part, loose, node, parts}
 use Rattle.wt_inline.specs.declared.loose.Loose.TheVariants.{Text}
 use Rattle.wt_context.specs.Line.{line_parts}
 use Rattle.wt_part_laws.specs.CallPieces.{AreOwnOrGiven}
@@ -51,12 +55,30 @@ styled_with line s before (styled bold opening closing inside t) after owns =
 
 -- ---- the nodes
 
--- on a line by itself: what a call gives, or something of the page; in a style it is of the page
+-- no node of them is bold or italic
+abbrev pub IsUnstyledForm : InlineForm → Type 0
+IsUnstyledForm inline.Nothing = Unit {0}
+IsUnstyledForm inline.Characters = Unit {0}
+IsUnstyledForm inline.Bold = ⊥
+IsUnstyledForm inline.Italic = ⊥
+IsUnstyledForm inline.Shown = Unit {0}
+IsUnstyledForm inline.PageLink = Unit {0}
+IsUnstyledForm inline.ExternalLink = Unit {0}
+IsUnstyledForm inline.Tag = Unit {0}
+IsUnstyledForm inline.Break = Unit {0}
+IsUnstyledForm inline.AsItStood = Unit {0}
+
+abbrev pub AreUnstyledParts : List Part → Type 0
+AreUnstyledParts [] = Unit {0}
+AreUnstyledParts (loose k o b ∷ ps) = AreUnstyledParts ps
+AreUnstyledParts (node (inner h opening ts closing) ∷ ps) = IsUnstyledForm (edit_shape h.kind).inline × AreUnstyledParts ps
+
+-- On a line by itself: what a call gives, or something of the page. In a style a call gives no bold or italic of its own.
 abbrev pub IsOwnAt : Bool → Thing → List Item → Type 0
-IsOwnAt true x own = AreSomeOfPage (line_parts own)
+IsOwnAt true x own = ((is_group x.role ≡ true) × AreOwnOrGiven (line_parts own) × AreUnstyledParts (line_parts own)) ⊎ AreSomeOfPage (line_parts own)
 IsOwnAt false x own = ((is_group x.role ≡ true) × AreOwnOrGiven (line_parts own)) ⊎ AreSomeOfPage (line_parts own)
 
--- of all nodes, delimiters apart; these are in a style, or else some may be
+-- of all nodes, delimiters apart; these are in a style, or else only some are
 abbrev pub AreOwnAt : Bool → StyledContent → List (List Item) → Type 0
 AreOwnAt within finished owns = Unit {0}
 AreOwnAt within (sign (letter c) t) owns = AreOwnAt within t owns
@@ -67,7 +89,7 @@ AreOwnAt within (styled bold opening closing inside t) owns =
 
 -- ---- the content
 
--- Texts that are typed beside calls and nodes that stay, and bold and italic round texts and nodes, with no call in it; something else than
+-- Texts that are typed beside calls and nodes that stay, and bold and italic round texts, nodes and calls that give none of their own; something else than
 -- calls is there.
 pub record IsStyledCalled (s : Setting) (t : StyledContent) (owns : List (List Item)) : Type 0 where
   pub of_block : s.within ≡ false

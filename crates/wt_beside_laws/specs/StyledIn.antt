@@ -1,5 +1,5 @@
 -- A paragraph or a heading of the page that holds texts, nodes that stay, and bold and italic, by its lines; and what is sent for it.
-use Rattle.std.specs.Prelude.{◌≡◌, ◌⊎◌, ℕ, false, None, List, [], ◌∷◌, ◌++◌}
+use Rattle.std.specs.Prelude.{◌≡◌, ℕ, false, None, List, [], ◌∷◌, ◌++◌}
 use Rattle.std.specs.Str.{IsUtf8}
 use Rattle.wt_span.specs.Characters as byte
 use Rattle.wt_span.specs.Items.{char}
@@ -24,7 +24,7 @@ use Rattle.wt_beside_laws.specs.Led.{AreMarksLed}
 use Rattle.wt_beside_laws.specs.PageBlocks.{AreUnstyled, AreShut}
 use Rattle.wt_beside_laws.specs.PageSigns.{AreFlatLines}
 use Rattle.wt_beside_laws.specs.NewStyles.{NewStylesNest}
-use Rattle.wt_beside_laws.specs.Nodes.{KeepsOpen, NoneOpensPair}
+use Rattle.wt_beside_laws.specs.Nodes.{KeepsOpen}
 use Rattle.wt_beside_laws.specs.Stood.{things}
 use Rattle.wt_beside_laws.specs.Styled.{StyledContent, signs_in, IsStyledContent}
 use Rattle.wt_beside_laws.specs.StyledNodes.{AreSomeAndPut}
@@ -74,7 +74,3 @@ pub record IsStyledEditOf (k : TextBlock) (block : Tree) (ps : Pieces) : Type 0 
   pub new : NewStylesNest false false ps
   pub led : AreMarksLed (signs_in (sent_for block ps))
   pub unclosed : KeepsOpen (signs_in (sent_for block ps))
-
--- No node of the block is a tag that opens a pair without a closing tag; or nothing in what is sent closes one that is.
-abbrev pub StaysPaired : TextBlock → List ℕ → Tree → Pieces → Type 0
-StaysPaired k q block ps = NoneOpensPair (signs_of k q) ⊎ KeepsOpen (signs_in (sent_for block ps))

@@ -89,11 +89,11 @@ pub use styles::{
     nodes_of_the_page_stay_in_styles, styled_contents_are_made, styles_that_nest_are_read,
     texts_in_styles_are_one_paragraph, texts_in_styles_are_shown,
     texts_in_styles_may_be_in_headings, texts_in_styles_stand_between_lines,
-    texts_sent_in_styles_are_such,
+    texts_sent_in_styles_are_such, typed_texts_make_nothing_else,
 };
 pub use untangled::{
-    contents_read_by_themselves_take_styles, untangled_blocks_are_contents,
-    untangled_paragraphs_of_the_body_are_contents,
+    contents_read_by_themselves_take_styles, marks_of_a_page_end, pages_whose_marks_end_may_go_on,
+    untangled_blocks_are_contents, untangled_paragraphs_of_the_body_are_contents,
 };
 
 /// A content of text that is typed and of nodes that stay, as it is spelled, makes no lexeme over the border of a text and

@@ -47,6 +47,7 @@ ghost use Rattle.wt_beside_laws.specs.Shown.{parts_shown_at};
 ghost use Rattle.wt_beside_laws.specs.Styled.{StyledContent, signs_in, AreNested, IsStyledContent, styled_parts};
 ghost use Rattle.wt_beside_laws.specs.StyledBlocks.{all_numbers, things_with, AreSomeOf};
 ghost use Rattle.wt_beside_laws.specs.StyledHeadings.{IsStyledHeading};
+ghost use Rattle.wt_beside_laws.specs.SpelledApart.{IsSpelledApart};
 ghost use Rattle.wt_beside_laws.specs.StyledIn.{IsStyledIn, IsStyledFor, IsStyledEditOf};
 ghost use Rattle.wt_beside_laws.specs.StyledNodes.{AreSomeAndPut, AreUrlsApart};
 ghost use Rattle.wt_beside_laws.specs.StyledShown.{styled_shown};
@@ -199,4 +200,13 @@ pub fn lines_of_comments_begin_lines()
         → block ≡ standing n before (block_tree k q) → AreOwnLed block (0 + length (label block).opening) true (children_of block) }
     ensures unmarked { (q : List ℕ) (n : ℕ) (before : List Item) (block : Tree) → IsStyledIn a_paragraph q → 0 < n
         → block ≡ standing n before (block_tree a_paragraph q) → begin_marked (children_of block) ≡ false }
+{}
+
+/// What is written for such a paragraph or heading makes no lexeme but those of the nodes that stay, the references of what is typed, and the nowikis
+/// that are put. On each of its lines the numbers of bold and of italic toggles are even, whatever is typed. And read again, as a block of its kind,
+/// it shows what was sent (`IsSpelledApart`).
+#[tactic(auto)]
+pub fn typed_texts_make_nothing_else()
+    ensures { (k : TextBlock) (q : List ℕ) (n : ℕ) (before : List Item) (block : Tree) (m : Label) (ps : Pieces) → IsStyledIn k q → 0 < n
+        → block ≡ standing n before (block_tree k q) → IsStyledEditOf k block ps → IsSpelledApart k block m ps }
 {}

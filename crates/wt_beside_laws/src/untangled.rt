@@ -1,6 +1,6 @@
 //! Laws of paragraphs and headings of a page as it is: what is asked of those whose content is edited follows from the page.
 
-ghost use Rattle.std.specs.Prelude.{ℕ, List, [], ◌∷◌};
+ghost use Rattle.std.specs.Prelude.{◌≡◌, ℕ, false, List, [], ◌∷◌};
 ghost use Rattle.std.specs.Str.{IsUtf8};
 ghost use Rattle.wt_span.specs.Items.{sources};
 ghost use Rattle.wt_expand.specs.PageItems.{page_items};
@@ -9,10 +9,12 @@ ghost use Rattle.wt_text_edit_laws.specs.BlockSpots.{BlockSpot, spots_source, Ar
 ghost use Rattle.wt_text_edit_laws.specs.BodyParagraphs.{IsParagraphAt, spot_at, IsFreeParagraph};
 ghost use Rattle.wt_text_edit_laws.specs.Contents.{IsContent};
 ghost use Rattle.wt_text_edit_laws.specs.NoCalls.{CallsNothing};
-ghost use Rattle.wt_text_edit_laws.specs.PageCuts.{AreCuts, AreFree};
+ghost use Rattle.wt_text_edit_laws.specs.PageCuts.{AreCuts, AreFree, EndsClosed};
 ghost use Rattle.wt_text_edit_laws.specs.TextBlocks.{TextBlock, block_items};
 ghost use Rattle.wt_beside_laws.specs.EndedNodes.{AreEndedNodes};
 ghost use Rattle.wt_beside_laws.specs.FlatBlocks.{signs_in};
+ghost use Rattle.wt_beside_laws.specs.OpenEnds.{MarksEnd, ShownLast};
+ghost use Rattle.wt_text_edit_laws.specs.Unclosed.{is_unclosed_item, last_of};
 ghost use Rattle.wt_beside_laws.specs.StyledIn.{IsStyledIn};
 
 /// Of a page that calls nothing, any paragraphs and headings that aren't tangled and hold nothing that can only be kept as
@@ -41,4 +43,18 @@ pub fn untangled_paragraphs_of_the_body_are_contents()
 pub fn contents_read_by_themselves_take_styles()
     ensures { (k : TextBlock) (q : List ℕ) → IsContent k q → CallsNothing (block_items k q) → AreEndedNodes (signs_in k q)
         → IsStyledIn k q }
+{}
+
+/// A comment, an include tag and a hidden part of a page end with a `>`, and a line of comments with its line break; but one that
+/// nothing ends, which is the page's last item.
+#[tactic(auto, using(crate::proofs::Own::OpenEnds::page_marks))]
+pub fn marks_of_a_page_end()
+    ensures { (page : List ℕ) → MarksEnd (page_items page) }
+{}
+
+/// So where a page's last line shows something, and no comment and no hidden part is open at its end (`is_unclosed_item`), a line
+/// break behind the page is read as one.
+#[tactic(auto, using(crate::proofs::Own::OpenLast::closed_page))]
+pub fn pages_whose_marks_end_may_go_on()
+    ensures { (page : List ℕ) → ShownLast (page_items page) → is_unclosed_item (last_of (page_items page)) ≡ false → EndsClosed page [] }
 {}

@@ -15,6 +15,7 @@ pub mod RowBlocks
 pub mod LineBlocks
 pub mod PlaceStarts
 pub mod ToldStarts
+pub mod ClosedLines
 pub mod Chosen
 pub mod ChosenLines
 pub mod Together
@@ -26,5 +27,8 @@ pub mod HeadSigns
 pub mod OwnLines
 pub mod Alone
 pub mod OneNode
+pub mod ClosedBlocks
 pub mod Complete
 pub mod AllAlone
+pub mod CallingStarts
+pub mod OnLines

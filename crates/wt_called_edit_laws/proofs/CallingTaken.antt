@@ -223,3 +223,8 @@ contents_taken pages ss behind h =
       again = λ es e. again pages ss behind f es h e;
       local = λ es e. local_so pages ss behind f es h e;
     }
+
+pub taken_paths : (pages : Pages) (ss : List BlockSpot) (behind : List ℕ) (h : IsCallingPage pages ss behind)
+    → (contents_taken pages ss behind h).paths ≡ paths_to (calling_nodes pages ss behind h.outside).nodes
+unfolding contents_taken
+taken_paths pages ss behind h = refl

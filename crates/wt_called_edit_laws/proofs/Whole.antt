@@ -3,6 +3,7 @@ pub mod CallPlaces
 pub mod OfCall
 pub mod InSlice
 pub mod Opened
+pub mod PartsIn
 pub mod Pieces
 pub mod Blocks
 pub mod GroupsAlone

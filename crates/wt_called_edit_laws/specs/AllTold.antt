@@ -1,6 +1,7 @@
 -- Each paragraph and heading of a page's tree that holds no call is told by the lines of the expanded page; and those that these don't tell.
-use Rattle.std.specs.Prelude.{◌≡◌, ◌⊎◌, ℕ, zero, suc, ◌+◌, false, None, List, [], ◌∷◌, ◌++◌, length, take, map}
-use Rattle.wt_span.specs.Items.{Item, sources}
+use Rattle.std.specs.Prelude.{◌≡◌, ◌⊎◌, ℕ, zero, suc, ◌+◌, true, false, None, List, [], ◌∷◌, ◌++◌, length, map}
+use Rattle.std.specs.List.{list_all}
+use Rattle.wt_span.specs.Items.{Item, is_mark, sources}
 use Rattle.wt_span.specs.Origins.{Expanded}
 use Rattle.wt_tree.specs.Source.{flat}
 use Rattle.wt_tree.specs.Tiling.{HasNoGroup}
@@ -11,16 +12,17 @@ use Rattle.wt_expand.specs.Work.{Pages}
 use Rattle.wt_lines.specs.Lines.{content, full_lines}
 use Rattle.wt_tables.specs.Parts.{joined}
 use Rattle.wt_page.specs.Lines.{ending}
-use Rattle.wt_page.specs.Rows.{Row, marks_len, rows_from}
+use Rattle.wt_page.specs.Rows.{Row, rows_from}
 use Rattle.wt_selser.specs.Edits.{is_tangled}
 use Rattle.wt_text_edit_laws.specs.BodyParagraphs.{EndWhole}
 use Rattle.wt_text_edit_laws.specs.NoCalls.{CallsNothing}
 use Rattle.wt_text_edit_laws.specs.TextBetween.{AreEnded}
+use Rattle.wt_text_edit_laws.specs.Unclosed.{holds_unclosed}
 use Rattle.wt_called_edit_laws.specs.ContentsTaken.{TakesContents}
 use Rattle.wt_called_edit_laws.specs.Groups.{called_tree}
 use Rattle.wt_called_edit_laws.specs.LinedAmong.{spots_of_lines, end_of_lines, IsNoFunction, AreOfPage, AreBeside}
 use Rattle.wt_called_edit_laws.specs.PlacedLines.{all_lines}
-use Rattle.wt_called_edit_laws.specs.RowBlocks.{IsTextBlock, IsReachedAt, StandsIn, opened_len, begins_behind, begins_at}
+use Rattle.wt_called_edit_laws.specs.RowBlocks.{IsTextBlock, IsReachedAt, StandsIn, opened_len, begins_behind}
 use Rattle.wt_called_edit_laws.specs.ToldAmong.{IsToldAmong}
 use Rattle.wt_called_edit_laws.specs.ToldLines.{Told, lined, AreTold}
 use Rattle.wt_called_edit_laws.specs.ToldTogether.{AreSome, start_of}
@@ -38,13 +40,10 @@ abbrev mutual
 
 -- ---- what lines don't tell
 
--- Behind so many items one of these begins, with the marks before it: text behind the `|}` of a table's end or the `-` of a rule, on the same line; and a
--- block whose marks don't end with a `>` or a line break.
+-- Behind so many items begins text behind the `|}` of a table's end or the `-` of a rule, on the same line.
 pub data IsExceptedAt (ls : List (List Item)) (at : ℕ) : Type 0 where
   text_on_a_sign : (before : List Row) (first : Row) (others behind : List Row) → rows_from 0 ls ≡ before ++ ((first ∷ others) ++ behind)
       → (EndWhole before → ⊥) → at ≡ begins_behind before first → IsExceptedAt ls at
-  unended_marks : (before : List (List Item)) (first : List Item) (behind : List (List Item)) → ls ≡ before ++ first ∷ behind
-      → at ≡ begins_at before first → (AreEnded (sources (take (marks_len first) first)) → ⊥) → IsExceptedAt ls at
 
 -- Behind these items neither the line break before a block's lines, nor the marks that begin them, nor the line break that ends them comes from a call.
 pub record IsBesideNoCall (front : List Item) (t : Told) : Type 0 where
@@ -65,7 +64,8 @@ IsBesideTexts e front t =
 
 -- So of an expanded page: one of these by its lines; or a block for which a call gives the line break before or behind it, or which has one on its line
 -- that gives nothing; or in which a function is kept; or of whose lines a call that is text has a byte, or that has two braces that open before two that
--- close (no page may have one of the last two, unproved).
+-- close (no page may have one of the last two, unproved). Or the marks that begin it don't end with a `>` or a line break: so it is of none whose lines are
+-- the page's own.
 pub data IsExceptedIn (e : Expanded) (at : ℕ) : Type 0 where
   by_its_lines : IsExceptedAt (full_lines e.items) at → IsExceptedIn e at
   beside_a_call : (t : Told) (behind : List (List Item)) → full_lines e.items ≡ all_lines (lined t ∷ []) behind → AreTold (t ∷ []) behind → at ≡ start_of 0 t
@@ -76,6 +76,10 @@ pub data IsExceptedIn (e : Expanded) (at : ℕ) : Type 0 where
       → (IsBesideTexts e (joined (lined t).before) t → ⊥) → IsExceptedIn e at
   holds_a_pair : (t : Told) (behind : List (List Item)) → full_lines e.items ≡ all_lines (lined t ∷ []) behind → AreTold (t ∷ []) behind → at ≡ start_of 0 t
       → (CallsNothing (content (joined ((lined t).first ∷ (lined t).more))) → ⊥) → IsExceptedIn e at
+  unended_marks : (t : Told) (behind : List (List Item)) → full_lines e.items ≡ all_lines (lined t ∷ []) behind → list_all is_mark (lined t).marks ≡ true → at ≡ start_of 0 t
+      → (AreEnded (sources (lined t).marks) → ⊥)
+      → (last_of None (joined (lined t).before) ≡ None → AreOfPage ((lined t).marks ++ joined ((lined t).first ∷ (lined t).more)) → IsBesideTexts e (joined (lined t).before) t → ⊥)
+      → IsExceptedIn e at
 
 -- a node of a page's tree that begins so
 pub record IsExcepted (pages : Pages) (page : List ℕ) (t : Tree) : Type 0 where
@@ -93,12 +97,12 @@ pub record ToldAtPaths (pages : Pages) (page : List ℕ) (ts : List Told) (behin
   pub told : IsToldAmong pages page ts behind
   pub taken : TakesContents pages (spots_of_lines pages page (map lined ts)) (end_of_lines pages page (map lined ts) behind)
 
--- Some blocks are told by their lines, if there is one. Each paragraph and heading of the page's tree, outside of groups, that holds no group and isn't
--- tangled is at the path of one of these, or it is one of the excepted.
+-- Some blocks are told by their lines, if there is one. Each paragraph and heading of the page's tree, outside of groups, that holds no group isn't
+-- tangled and holds no mark that nothing ends is at the path of one of these, or it is one of the excepted.
 pub record AllBlocksTold (pages : Pages) (page : List ℕ) : Type 0 where
   pub ts : List Told
   pub behind : List (List Item)
   pub told : AreSome ts → ToldAtPaths pages page ts behind
   pub complete : (p : List ℕ) (t : Tree) → IsReachedAt p (called_tree pages page) t → IsTextBlock (label t).kind → HasNoGroup t
-      → is_tangled (expanded_page pages page) page t ≡ false
+      → is_tangled (expanded_page pages page) page t ≡ false → holds_unclosed (expanded_page pages page).items page (label t).ranges ≡ false
       → ((s : AreSome ts) × IsOneOf p (told s).taken.paths) ⊎ IsExcepted pages page t

@@ -32,7 +32,7 @@ use Rattle.wt_called_edit_laws.specs.StyledCallEdits.{IsBesideStyles, IsStyledCa
 
 -- Where a block calls nothing, what may be sent for any such block (`Fits`). Where it holds calls, any texts beside these and beside
 -- its other nodes: each call stays; a paragraph isn't calls alone, and in a heading no line break is typed. In a paragraph bold and italic, too, may stay, go
--- and come, as they may nest, with any texts in them and no call.
+-- and come, as they may nest, with any texts in them, and calls that give no bold or italic of their own.
 abbrev pub FitsIn : Pages → TextBlock → List ℕ → Edited → Type 0
 FitsIn pages k q (stays t u) = ⊥
 FitsIn pages k q (edited j l m ps) =

@@ -56,3 +56,4 @@ pub mod ToldLines
 pub mod ToldTogether
 pub mod ToldAmong
 pub mod StyledCallEdits
+pub mod CallingTold

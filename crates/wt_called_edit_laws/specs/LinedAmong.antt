@@ -13,7 +13,7 @@ use Rattle.wt_expand.specs.Work.{Pages}
 use Rattle.wt_commands.specs.Answers.{refusal_of_page}
 use Rattle.wt_text_edit_laws.specs.BlockSpots.{BlockSpot}
 use Rattle.wt_text_edit_laws.specs.NoCalls.{CallsNothing}
-use Rattle.wt_text_edit_laws.specs.PageCuts.{EndsClosed, AreFree}
+use Rattle.wt_text_edit_laws.specs.PageCuts.{EndClosed, AreFree}
 use Rattle.wt_called_edit_laws.specs.Covered.{AreInNoGroup}
 use Rattle.wt_called_edit_laws.specs.Groups.{called_tree}
 use Rattle.wt_called_edit_laws.specs.PlacedLines.{LinedBlock, all_lines, AreLined}
@@ -75,11 +75,11 @@ AreUntouched calls texts at es (b ∷ bs) =
 -- ---- the page
 
 -- The lines of the expanded page are those of these blocks, and those beside them. The blocks call nothing, none is tangled or holds a group, no call
--- that is text has a byte of their lines, and no group of the page's tree has the first byte of one. The page isn't refused, and at its end no comment
--- and no hidden part is open.
+-- that is text has a byte of their lines, and no group of the page's tree has the first byte of one. Where one ends the page, it holds no comment and no
+-- hidden part that nothing ends. The page isn't refused.
 pub record IsLinedAmong (pages : Pages) (page : List ℕ) (bs : List LinedBlock) (behind : List (List Item)) : Type 0 where
   pub utf8 : IsUtf8 page
-  pub closed : EndsClosed page []
+  pub closed : EndClosed (spots_of_lines pages page bs) (end_of_lines pages page bs behind)
   pub are : full_lines (expanded_page pages page).items ≡ all_lines bs behind
   pub lined : AreLined bs behind
   pub own : AreOwnLines bs

@@ -1,5 +1,6 @@
 -- A paragraph or heading of the page, whoever wrote it, that holds calls: by its pieces, and by the lines of text that these give.
 use Rattle.std.specs.Prelude.{◌≡◌, ◌⊎◌, ℕ, ◌+◌, ◌==◌, Bool, true, false, Some, None, List, [], ◌∷◌, ◌++◌, map}
+use Rattle.std.specs.List.{list_any}
 use Rattle.std.specs.Str.{IsUtf8}
 use Rattle.wt_tree.specs.Plain.{Plains}
 use Rattle.wt_span.specs.Bytes.{is_blank}
@@ -7,15 +8,15 @@ use Rattle.wt_span.specs.Items.{Item, sign}
 use Rattle.wt_guards.specs.declared.role.Transclusion.{Transclusion}
 use Rattle.wt_guards.specs.Content.{Thing}
 use Rattle.wt_inline.specs.declared.loose.Loose.TheVariants.{Text}
-use Rattle.wt_inline.specs.ItemTree.{ItemTree}
+use Rattle.wt_inline.specs.ItemTree.{ItemTree, tree_items}
 use Rattle.wt_inline.specs.Parts.{Part, loose, node, loose_leaf, children}
 use Rattle.wt_context.specs.Line.{line_parts}
+use Rattle.wt_annotated.specs.Clean.{is_page}
 use Rattle.wt_isolation.specs.OpenTags.{ends_open}
 use Rattle.wt_expand.specs.PageCalls.{expanded_page}
 use Rattle.wt_expand.specs.Work.{Pages}
 use Rattle.wt_part_laws.specs.CallPieces.{AreOwnOrGiven, CallPiece, own, given, call_pieces}
 use Rattle.wt_part_laws.specs.Expanded.{part_items, calls_in}
-use Rattle.wt_part_laws.specs.Rounded.{IsOwn}
 use Rattle.wt_text_edit_laws.specs.Contents.{content_parts_of}
 use Rattle.wt_text_edit_laws.specs.ReadContents.{IsReadContent}
 use Rattle.wt_text_edit_laws.specs.TextBlocks.{a_paragraph, a_heading}
@@ -26,20 +27,20 @@ use Rattle.wt_beside_laws.specs.Shown.{parts_shown_at}
 use Rattle.wt_called_edit_laws.specs.CalledContents.{AreTextItems, AreHeadingItems}
 use Rattle.wt_called_edit_laws.specs.InPieces.{pieces_source, AreInPieces}
 use Rattle.wt_called_edit_laws.specs.PageThings.{ArePageThings, thing_sources}
-use Rattle.wt_called_edit_laws.specs.WholeContents.{AreGroups, AreShutParts}
+use Rattle.wt_called_edit_laws.specs.WholeContents.{AreGroups, ArePartsIn, AreShutParts}
 use Rattle.wt_called_edit_laws.specs.Written.{IsCallSource, BeginsOutward, EndsOutward, IsOwnPart}
 use Rattle.wt_called_edit_laws.specs.WrittenAnew.{StayButForOthers}
 
--- one of these is a node or a character of the page
+-- a character of these is of the page, or some item of a node
 abbrev pub HasOwn : List Part → Type 0
 HasOwn [] = ⊥
 HasOwn (loose k None b ∷ ps) = Unit {0}
 HasOwn (loose k (Some j) b ∷ ps) = HasOwn ps
-HasOwn (node t ∷ ps) = IsOwn t ⊎ HasOwn ps
+HasOwn (node t ∷ ps) = (list_any is_page (tree_items t) ≡ true) ⊎ HasOwn ps
 
 -- It is cut in pieces, each of which is one of its nodes (calls among them) or calls nothing, and is read by itself. However many calls come before it,
--- what its pieces give are lines of text: characters and nodes, each of the page or of a call, as this gives it on a line by itself; none of the page's ends
--- in an open tag; one of these at least is the page's own.
+-- what its pieces give are lines of text: characters and nodes, each of the page or of a call, as this gives it on a line by itself, and bold and italic round
+-- such; none of the page's ends in an open tag; one of these at least is the page's own.
 pub record IsInPieces (pages : Pages) (q : List ℕ) : Type 0 where
   pub pieces : List (List ℕ)
   pub is : pieces_source pieces ≡ q
@@ -49,7 +50,7 @@ pub record IsInPieces (pages : Pages) (q : List ℕ) : Type 0 where
   pub among : StayButForOthers pages pieces (thing_sources nodes)
   pub read : IsReadContent a_paragraph q
   pub lines : (i : ℕ) → AreTextItems (part_items pages i q)
-  pub texts : (i : ℕ) → AreOwnOrGiven (content_parts_of a_paragraph (part_items pages i q))
+  pub texts : (i : ℕ) → ArePartsIn (part_items pages i q) (content_parts_of a_paragraph (part_items pages i q))
   pub groups : (i : ℕ) → AreGroups (part_items pages i q) (call_pieces (children (content_parts_of a_paragraph (part_items pages i q))))
   pub shut : (i : ℕ) → AreShutParts (content_parts_of a_paragraph (part_items pages i q))
   pub some : (i : ℕ) → HasOwn (content_parts_of a_paragraph (part_items pages i q))
@@ -65,7 +66,7 @@ pub record IsHeadingInPieces (pages : Pages) (s : Sides) (q : List ℕ) : Type 0
   pub seen : AllSeenIn pages nodes
   pub read : IsReadContent (a_heading s) q
   pub line : (i : ℕ) → AreHeadingItems s (part_items pages i q)
-  pub texts : (i : ℕ) → AreOwnOrGiven (content_parts_of (a_heading s) (part_items pages i q))
+  pub texts : (i : ℕ) → ArePartsIn (part_items pages i q) (content_parts_of (a_heading s) (part_items pages i q))
   pub groups : (i : ℕ) → AreGroups (part_items pages i q) (call_pieces (children (content_parts_of (a_heading s) (part_items pages i q))))
   pub shut : (i : ℕ) → AreShutParts (content_parts_of (a_heading s) (part_items pages i q))
 

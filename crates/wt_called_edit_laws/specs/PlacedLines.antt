@@ -10,7 +10,7 @@ use Rattle.wt_tables.specs.Parts.{joined}
 use Rattle.wt_page.specs.Rows.{marks_len, rows_from}
 use Rattle.wt_part_laws.specs.Slots.{AllTrue}
 use Rattle.wt_text_edit_laws.specs.BlockSpots.{BlockSpot}
-use Rattle.wt_text_edit_laws.specs.PageCuts.{AreBlockItems, EndsClosed}
+use Rattle.wt_text_edit_laws.specs.PageCuts.{AreBlockItems, begins_unmarked, EndClosed, EndsClosed}
 use Rattle.wt_text_edit_laws.specs.NoCalls.{CallsNothing}
 use Rattle.wt_text_edit_laws.specs.Parts.{HasNoGroups}
 use Rattle.wt_text_edit_laws.specs.ParagraphBetween.{written_rows, BeginApart}
@@ -75,13 +75,13 @@ abbrev pub AreLined : List LinedBlock → List (List Item) → Type 0
 AreLined [] behind = ⊥
 AreLined (b ∷ bs) behind = IsLinedAt [] b × AreLinedAfter b.block (open_after [] (written_rows 0 b.before)) bs behind
 
--- The page calls nothing, and no node of it can only be kept as a whole; nor is a comment or a hidden part open at its end. Its lines are those of these
--- blocks, and those beside them; and no tag is open in a block.
+-- The page calls nothing, and no node of it can only be kept as a whole. Its lines are those of these blocks, and those beside them; no tag is open in a
+-- block, and where one ends the page, it holds no comment and no hidden part that nothing ends.
 pub record IsLinedPage (page : List ℕ) (bs : List LinedBlock) (behind : List (List Item)) : Type 0 where
   pub utf8 : IsUtf8 page
   pub calls_nothing : CallsNothing (page_items page)
   pub ungrouped : HasNoGroups page
-  pub closed : EndsClosed page []
+  pub closed : EndClosed (spots_by [] bs) (end_by [] bs behind)
   pub are : full_lines (page_items page) ≡ all_lines bs behind
   pub lined : AreLined bs behind
   pub shut : AreShut (spots_by [] bs)

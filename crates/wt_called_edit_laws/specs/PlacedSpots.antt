@@ -11,7 +11,7 @@ use Rattle.wt_part_laws.specs.Standing.{standing}
 use Rattle.wt_selser.specs.Edits.{is_tangled}
 use Rattle.wt_text_edit_laws.specs.BlockSpots.{BlockSpot, spots_source}
 use Rattle.wt_text_edit_laws.specs.NoCalls.{CallsNothing}
-use Rattle.wt_text_edit_laws.specs.PageCuts.{IsSpotCut, BeginsBreak, EndsThere, EndsClosed}
+use Rattle.wt_text_edit_laws.specs.PageCuts.{IsSpotCut, BeginsBreak, EndsThere, EndClosed}
 use Rattle.wt_text_edit_laws.specs.Parts.{HasNoGroups}
 use Rattle.wt_text_edit_laws.specs.TextBetween.{AreEnded}
 use Rattle.wt_text_edit_laws.specs.TextBlocks.{TextBlock, block_tree}
@@ -59,12 +59,12 @@ abbrev pub AreShut : List BlockSpot → Type 0
 AreShut [] = Unit {0}
 AreShut (s ∷ ss) = IsShut s.block s.text × AreShut ss
 
--- The page calls nothing, and no node of it can only be kept as a whole; nor is a comment or a hidden part open at its end. Such blocks are at their
--- places in it, and no tag is open in one.
+-- The page calls nothing, and no node of it can only be kept as a whole. Such blocks are at their places in it, no tag is open in one, and where one
+-- ends the page, it holds no comment and no hidden part that nothing ends.
 pub record IsPlacedPage (ss : List BlockSpot) (behind : List ℕ) : Type 0 where
   pub utf8 : IsUtf8 (spots_source ss behind)
   pub calls_nothing : CallsNothing (page_items (spots_source ss behind))
   pub ungrouped : HasNoGroups (spots_source ss behind)
-  pub closed : EndsClosed (spots_source ss behind) []
+  pub closed : EndClosed ss behind
   pub blocks : AreBlocksIn ss behind
   pub shut : AreShut ss

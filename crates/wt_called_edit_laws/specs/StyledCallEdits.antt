@@ -5,7 +5,7 @@ use Rattle.std.specs.Str.{IsUtf8}
 use Rattle.wt_tree.specs.EditShapes.{edit_shape}
 use Rattle.wt_tree.specs.Plain.{face}
 use Rattle.wt_tree.specs.Source.{flat}
-use Rattle.wt_tree.specs.Tiling.{NoneIsGroup}
+use Rattle.wt_tree.specs.Tiling.{is_group as is_group_kind}
 use Rattle.wt_tree.specs.Tree.{Label, Tree, Trees, more, none, tree}
 use Rattle.wt_tree.specs.declared.edit_shape.InlineForm.{InlineForm}
 use Rattle.wt_tree.specs.declared.edit_shape.InlineForm.TheVariants as inline
@@ -16,6 +16,7 @@ use Rattle.wt_context.specs.Line.{line_parts}
 use Rattle.wt_link_spelling.specs.Spelling.{children_of}
 use Rattle.wt_expand.specs.PageCalls.{expanded_page}
 use Rattle.wt_expand.specs.Work.{Pages}
+use Rattle.wt_part_laws.specs.Expanded.{part_items}
 use Rattle.wt_typed_blocks.specs.Edited.{Pieces, PiecesStay, around, gone, kept, new_style, no_pieces, page_pieces, written}
 use Rattle.wt_beside_laws.specs.Called.{AreSomeOfPage}
 use Rattle.wt_beside_laws.specs.Cuts.{own_glyphs}
@@ -23,6 +24,7 @@ use Rattle.wt_beside_laws.specs.FlatPages.{AreNodesAndTexts}
 use Rattle.wt_beside_laws.specs.NewStyles.{NewStylesNest}
 use Rattle.wt_beside_laws.specs.NodeItems.{node_items}
 use Rattle.wt_beside_laws.specs.SentStyled.{AllNest, style_face}
+use Rattle.wt_beside_laws.specs.StyledCalls.{AreUnstyledParts}
 use Rattle.wt_beside_laws.specs.StyledNodes.{EndsUnquoted}
 use Rattle.wt_called_edit_laws.specs.CalledEdits.{IsChildBeside, SendsUncalled, page_things}
 use Rattle.wt_called_edit_laws.specs.InPieces.{AreInPieces, pieces_source}
@@ -52,12 +54,25 @@ abbrev mutual
   HaveNumbers none = Unit {0}
   HaveNumbers (more t ts) = HasNumbers t × HaveNumbers ts
 
--- a text, whose characters are UTF-8; bold or italic without attributes, with no call in it; a group, or another node without groups
+-- however many calls come before it, what this gives has no bold or italic of its own
+abbrev pub GivesPlain : Pages → List ℕ → Type 0
+GivesPlain pages source = (i : ℕ) → AreUnstyledParts (line_parts (part_items pages i source))
+
+-- so each group, as this is all or part of it
+abbrev mutual
+  pub HasPlainGroups : Pages → Tree → Type 0
+  HasPlainGroups pages (tree l ts) = (is_group_kind l.kind ≡ true → GivesPlain pages (flat (tree l ts))) × PlainGroups pages ts
+
+  pub PlainGroups : Pages → Trees → Type 0
+  PlainGroups pages none = Unit {0}
+  PlainGroups pages (more t ts) = HasPlainGroups pages t × PlainGroups pages ts
+
+-- a text, whose characters are UTF-8; bold or italic without attributes, in which calls give none; a group, or another node without groups
 abbrev pub IsBesideBy : InlineForm → Pages → Label → Trees → Type 0 → Type 0
 IsBesideBy inline.Nothing pages l ts inside = IsChildBeside pages (tree l ts)
 IsBesideBy inline.Characters pages l ts inside = IsUtf8 l.shown × IsChildBeside pages (tree l ts)
-IsBesideBy inline.Bold pages l ts inside = (face l ≡ style_face true) × NoneIsGroup ts × inside
-IsBesideBy inline.Italic pages l ts inside = (face l ≡ style_face false) × NoneIsGroup ts × inside
+IsBesideBy inline.Bold pages l ts inside = (face l ≡ style_face true) × PlainGroups pages ts × inside
+IsBesideBy inline.Italic pages l ts inside = (face l ≡ style_face false) × PlainGroups pages ts × inside
 IsBesideBy inline.Shown pages l ts inside = IsChildBeside pages (tree l ts)
 IsBesideBy inline.PageLink pages l ts inside = IsChildBeside pages (tree l ts)
 IsBesideBy inline.ExternalLink pages l ts inside = IsChildBeside pages (tree l ts)
@@ -97,7 +112,7 @@ AreOwnThings [] = Unit {0}
 AreOwnThings (t ∷ ts) = IsOwnThing t × AreOwnThings ts
 
 -- A paragraph of the page, whatever it is, in pieces: texts, calls, other nodes on one line, and delimiters. Its nodes are these calls and
--- nodes, with bold and italic round some that are no calls; its styles nest.
+-- nodes, with bold and italic round some; its styles nest, and a call in one gives none of its own.
 pub record IsBesideStyles (pages : Pages) (q : List ℕ) (block : Tree) : Type 0 where
   pub pieces : List (List ℕ)
   pub is : pieces_source pieces ≡ q
@@ -141,22 +156,22 @@ NoCallGoes pages (kept t u ps) = NoCallGoes pages ps
 NoCallGoes pages (around l m is ps) = NoCallGoes pages is × NoCallGoes pages ps
 NoCallGoes pages (new_style m is ps) = NoCallGoes pages is × NoCallGoes pages ps
 
--- no call is in a new style
-abbrev pub NewStylesCallNone : Pieces → Type 0
-NewStylesCallNone no_pieces = Unit {0}
-NewStylesCallNone (gone t ps) = NewStylesCallNone ps
-NewStylesCallNone (written x text ps) = NewStylesCallNone ps
-NewStylesCallNone (kept t u ps) = NewStylesCallNone ps
-NewStylesCallNone (around l m is ps) = NewStylesCallNone ps
-NewStylesCallNone (new_style m is ps) = NoneIsGroup (page_pieces is) × NewStylesCallNone ps
+-- what calls give in a new style has no bold or italic of its own
+abbrev pub NewStylesArePlain : Pages → Pieces → Type 0
+NewStylesArePlain pages no_pieces = Unit {0}
+NewStylesArePlain pages (gone t ps) = NewStylesArePlain pages ps
+NewStylesArePlain pages (written x text ps) = NewStylesArePlain pages ps
+NewStylesArePlain pages (kept t u ps) = NewStylesArePlain pages ps
+NewStylesArePlain pages (around l m is ps) = NewStylesArePlain pages ps
+NewStylesArePlain pages (new_style m is ps) = PlainGroups pages (page_pieces is) × NewStylesArePlain pages ps
 
 -- All its calls stay, in their order, and any other node and style stays or goes; each is sent as it is, and in a style other texts may be. Any texts are
--- between them, and new styles, as they may nest, round texts and nodes that are no calls. Something is sent or put that is no call.
+-- between them, and new styles, as they may nest, round texts, nodes and calls that give none of their own. Something is sent or put that is no call.
 pub record IsStyledCallEdit (pages : Pages) (block : Tree) (ps : Pieces) : Type 0 where
   pub old : page_pieces ps ≡ children_of block
   pub stay : PiecesStay ps
   pub are : AreNodesAndTexts ps
   pub calm : NoCallGoes pages ps
   pub new : NewStylesNest false false ps
-  pub free : NewStylesCallNone ps
+  pub free : NewStylesArePlain pages ps
   pub some : SendsUncalled block ps

@@ -6,17 +6,17 @@ use Rattle.wt_lines.specs.Lines.{full_lines}
 use Rattle.wt_expand.specs.PageCalls.{expanded_page}
 use Rattle.wt_expand.specs.Work.{Pages}
 use Rattle.wt_commands.specs.Answers.{refusal_of_page}
-use Rattle.wt_text_edit_laws.specs.PageCuts.{EndsClosed, AreFree}
+use Rattle.wt_text_edit_laws.specs.PageCuts.{EndClosed, AreFree}
 use Rattle.wt_called_edit_laws.specs.Covered.{AreInNoGroup}
 use Rattle.wt_called_edit_laws.specs.Groups.{called_tree}
-use Rattle.wt_called_edit_laws.specs.LinedAmong.{spots_of_lines, AreOwnLines, AreUntouched}
+use Rattle.wt_called_edit_laws.specs.LinedAmong.{spots_of_lines, end_of_lines, AreOwnLines, AreUntouched}
 use Rattle.wt_called_edit_laws.specs.PlacedLines.{all_lines}
 use Rattle.wt_called_edit_laws.specs.ToldLines.{Told, lined, AreTold}
 
 -- as `IsLinedAmong`
 pub record IsToldAmong (pages : Pages) (page : List ℕ) (ts : List Told) (behind : List (List Item)) : Type 0 where
   pub utf8 : IsUtf8 page
-  pub closed : EndsClosed page []
+  pub closed : EndClosed (spots_of_lines pages page (map lined ts)) (end_of_lines pages page (map lined ts) behind)
   pub are : full_lines (expanded_page pages page).items ≡ all_lines (map lined ts) behind
   pub told : AreTold ts behind
   pub own : AreOwnLines (map lined ts)

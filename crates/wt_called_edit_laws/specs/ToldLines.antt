@@ -10,7 +10,7 @@ use Rattle.wt_page.specs.Rows.{Row, marks_len}
 use Rattle.wt_part_laws.specs.Slots.{AllTrue}
 use Rattle.wt_tables.specs.Parts.{joined}
 use Rattle.wt_text_edit_laws.specs.NoCalls.{CallsNothing}
-use Rattle.wt_text_edit_laws.specs.PageCuts.{EndsClosed}
+use Rattle.wt_text_edit_laws.specs.PageCuts.{begins_unmarked, EndClosed, EndsClosed}
 use Rattle.wt_text_edit_laws.specs.ParagraphBetween.{written_rows}
 use Rattle.wt_text_edit_laws.specs.Parts.{HasNoGroups}
 use Rattle.wt_text_edit_laws.specs.TextBetween.{AreEnded}
@@ -18,7 +18,7 @@ use Rattle.wt_text_edit_laws.specs.TextBlocks.{TextBlock, a_paragraph, a_heading
 use Rattle.wt_called_edit_laws.specs.AnyBlocks.{open_after, EndsFor, NextApart}
 use Rattle.wt_called_edit_laws.specs.LinedHeadings.{sides_of, text_of, IsLinedHeading}
 use Rattle.wt_called_edit_laws.specs.PlacedBlocks.{AreLinesAt}
-use Rattle.wt_called_edit_laws.specs.PlacedLines.{LinedBlock, all_lines, spots_by, LinesApart}
+use Rattle.wt_called_edit_laws.specs.PlacedLines.{LinedBlock, all_lines, spots_by, end_by, LinesApart}
 use Rattle.wt_called_edit_laws.specs.PlacedSpots.{AreShut}
 
 -- what the lines are, with those before them, and the marks that begin the first
@@ -66,7 +66,7 @@ pub record IsToldPage (page : List ℕ) (ts : List Told) (behind : List (List It
   pub utf8 : IsUtf8 page
   pub calls_nothing : CallsNothing (page_items page)
   pub ungrouped : HasNoGroups page
-  pub closed : EndsClosed page []
+  pub closed : EndClosed (spots_by [] (map lined ts)) (end_by [] (map lined ts) behind)
   pub are : full_lines (page_items page) ≡ all_lines (map lined ts) behind
   pub told : AreTold ts behind
   pub shut : AreShut (spots_by [] (map lined ts))

@@ -1,5 +1,5 @@
 -- Contents that can be read by themselves, with the calls in them: what these give may be a group, and no node ends in an open tag.
-use Rattle.std.specs.Prelude.{◌≡◌, ◌⊎◌, ℕ, true, false, Some, List, [], ◌∷◌, if◌then◌else◌}
+use Rattle.std.specs.Prelude.{◌≡◌, ◌⊎◌, ℕ, zero, suc, Bool, true, false, Some, List, [], ◌∷◌, if◌then◌else◌}
 use Rattle.std.specs.List.{list_all}
 use Rattle.wt_tree.specs.Tiling.{HasNoGroup}
 use Rattle.wt_guards.specs.Content.{ContentSign, Thing, letter, thing, is_group}
@@ -13,7 +13,7 @@ use Rattle.wt_annotated.specs.Clean.{is_page}
 use Rattle.wt_isolation.specs.OpenTags.{ends_open, node_ends_open}
 use Rattle.wt_expand.specs.PageCalls.{expanded_page}
 use Rattle.wt_expand.specs.Work.{Pages}
-use Rattle.wt_part_laws.specs.CallPieces.{AreOwnOrGiven, CallPiece, own, given, call_pieces}
+use Rattle.wt_part_laws.specs.CallPieces.{IsOwnOrGiven, EachNode, CallPiece, own, given, call_pieces}
 use Rattle.wt_part_laws.specs.Expanded.{part_items}
 use Rattle.wt_part_laws.specs.Standing.{standing}
 use Rattle.wt_text_edit_laws.specs.BlockSpots.{BlockSpot}
@@ -21,6 +21,7 @@ use Rattle.wt_text_edit_laws.specs.Contents.{IsContent, content_parts_of}
 use Rattle.wt_text_edit_laws.specs.NoCalls.{CallsNothing}
 use Rattle.wt_text_edit_laws.specs.TextBlocks.{TextBlock, source_of, block_items}
 use Rattle.wt_beside_laws.specs.Given.{GivesSigns}
+use Rattle.wt_beside_laws.specs.Nests.{style_tree}
 use Rattle.wt_beside_laws.specs.NodeItems.{node_items}
 
 -- ---- what a call gives
@@ -63,11 +64,25 @@ AreShut [] = Unit {0}
 AreShut (letter c ∷ after) = AreShut after
 AreShut (thing t ∷ after) = IsShut t × AreShut after
 
+-- ---- what calls give in bold and italic
+
+-- A node of the page or of a call; or bold or italic of the page round such, to this depth, where what each call gives side by side is a group, and no node
+-- of the page ends in an open tag.
+abbrev pub IsPartIn : ℕ → List Item → ItemTree → Type 0
+IsPartIn zero xs t = IsOwnOrGiven t
+IsPartIn (suc n) xs t =
+    IsOwnOrGiven t
+    ⊎ ((bold : Bool) × (ps : List Part) × (t ≡ style_tree bold ps) × EachNode (IsPartIn n xs) ps × AreGroups xs (call_pieces (children ps)) × AreShutParts ps)
+
+-- two deep, as bold in italic
+abbrev pub ArePartsIn : List Item → List Part → Type 0
+ArePartsIn xs ps = EachNode (IsPartIn 2 xs) ps
+
 -- ---- a content in a folder
 
--- Text and nodes of the page, side by side with calls that give what may be a group.
+-- Text and nodes of the page, side by side with calls that give what may be a group, and bold and italic round these.
 pub record HoldsGroups (pages : Pages) (k : TextBlock) (q : List ℕ) : Type 0 where
-  pub parts : (i : ℕ) → AreOwnOrGiven (content_parts_of k (part_items pages i q))
+  pub parts : (i : ℕ) → ArePartsIn (part_items pages i q) (content_parts_of k (part_items pages i q))
   pub groups : (i : ℕ) → AreGroups (part_items pages i q) (call_pieces (children (content_parts_of k (part_items pages i q))))
   pub shut : (i : ℕ) → AreShutParts (content_parts_of k (part_items pages i q))
   pub shut_calls : AreShutCalls (expanded_page pages (source_of k q)).outer

@@ -16,7 +16,7 @@ use Rattle.wt_part_laws.specs.Expanded.{part_items, calls_in, GivesAnywhere}
 use Rattle.wt_part_laws.specs.MovedCalls.{AreMoved}
 use Rattle.wt_text_edit_laws.specs.ReadContents.{BeginsUnclosed}
 use Rattle.wt_text_edit_laws.specs.TextBetween.{EndsBy}
-use Rattle.wt_beside_laws.specs.Commented.{IsCommentSource}
+use Rattle.wt_beside_laws.specs.Commented.{IsCommentSource, IsReadInLine}
 use Rattle.wt_beside_laws.specs.Content.{guard_items, letter_items}
 use Rattle.wt_beside_laws.specs.Cuts.{own_glyphs}
 use Rattle.wt_beside_laws.specs.Kept.{IsKept}
@@ -44,9 +44,9 @@ pub record IsCallSource (bs : List ℕ) : Type 0 where
   pub is : bs ≡ byte.opening_brace ∷ others
   pub settles : (rest : List ℕ) → BeginsUnclosed rest → Settles (lexer Page) rest false 0 bs
 
--- a comment, or another node on one line that stands whatever is written behind it
+-- another node on one line that stands whatever is written behind it, by its parts, a comment, or a node that is read as it is whatever is behind it
 abbrev pub IsHeldInLine : List ℕ → Type 0
-IsHeldInLine source = (IsKept source × HasNoBreak (page_items source)) ⊎ IsCommentSource source
+IsHeldInLine source = (IsKept source × HasNoBreak (page_items source)) ⊎ (IsCommentSource source ⊎ IsReadInLine source)
 
 -- it stays what it is beside text that is typed; a mark is within its line
 pub record IsReadThing (t : Thing) : Type 0 where

@@ -24,8 +24,9 @@ pub fn contents_beside_calls_are_made()
         → MakesContentIn pages k q block m ps }
 {}
 
-/// So for a paragraph with bold and italic in it, in which no call is (`IsBesideStyles`): all its calls are sent, any of its other nodes and styles, any texts
-/// between these and in the styles, and new bold and italic, as these may nest, round texts and nodes that are no calls (`IsStyledCallEdit`).
+/// So for a paragraph with bold and italic in it, also round calls that give none of their own (`IsBesideStyles`): all its calls are sent, any of its other
+/// nodes and styles, any texts between these and in the styles, and new bold and italic, as these may nest, round texts, nodes and such calls
+/// (`IsStyledCallEdit`).
 pub fn styles_beside_calls_are_made()
     ensures { (pages : Pages) (q : List ℕ) (block : Tree) (m : Label) (ps : Pieces) (n at i : ℕ) (calls : List OuterCall) → 0 < n
         → block ≡ settled n at (cut_texts (block_in calls (tree_round a_paragraph (part_items pages i q)))) → IsBesideStyles pages q block

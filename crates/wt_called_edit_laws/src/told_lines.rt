@@ -1,12 +1,15 @@
 //! Laws of paragraphs and headings that are told by nothing but the page's lines: what has to be known of each follows from
 //! the page.
 
-ghost use Rattle.std.specs.Prelude.{◌≡◌, ◌≤◌, false, None, List, [], ◌∷◌, ◌++◌, ℕ, length, map};
+ghost use Rattle.std.specs.Prelude.{◌≡◌, ◌≤◌, ◌⊎◌, false, None, List, [], ◌∷◌, ◌++◌, ℕ, length, map};
 ghost use Rattle.std.specs.Str.{IsUtf8};
-ghost use Rattle.wt_span.specs.Items.{Item};
+ghost use Rattle.wt_span.specs.Items.{Item, sources};
 ghost use Rattle.wt_span.specs.Origins.{Expanded};
+ghost use Rattle.wt_tree.specs.Source.{flat};
 ghost use Rattle.wt_tree.specs.Tree.{Tree, label};
 ghost use Rattle.wt_lines.specs.Lines.{content, full_lines};
+ghost use Rattle.wt_page.specs.Lines.{ending};
+ghost use Rattle.wt_tables.specs.Parts.{joined};
 ghost use Rattle.wt_commands.specs.Answers.{refusal_of_page};
 ghost use Rattle.wt_expand.specs.PageItems.{page_items};
 ghost use Rattle.wt_expand.specs.Work.{Pages};
@@ -20,6 +23,7 @@ ghost use Rattle.wt_beside_laws.specs.FlatBlocks.{signs_in};
 ghost use Rattle.wt_beside_laws.specs.StyledIn.{IsStyledIn};
 ghost use Rattle.wt_called_edit_laws.specs.AllTold.{AllBlocksTold};
 ghost use Rattle.wt_called_edit_laws.specs.CalledPages.{IsCalledPage};
+ghost use Rattle.wt_called_edit_laws.specs.CallingTold.{IsOnLines, IsExceptedByLines};
 ghost use Rattle.wt_called_edit_laws.specs.EditsAt.{IsStanding, AllStand};
 ghost use Rattle.wt_called_edit_laws.specs.Groups.{called_tree};
 ghost use Rattle.wt_called_edit_laws.specs.LinedAmong.{IsLinedAmong};
@@ -33,10 +37,11 @@ ghost use Rattle.wt_called_edit_laws.specs.ToldTogether.{AreAllTold};
 
 /// A heading's line is told by itself. Where one of a page's lines, behind the marks that begin it, is of a heading's kind and
 /// begins with `=` (`IsLinedHeading`), it is the line of a heading with the sides and the text that its delimiters give it, and no
-/// others are a line's; the text may be empty. At the page's end no comment and no hidden part is open.
+/// others are a line's; the text may be empty. Where the line ends the page, it holds no comment and no hidden part that nothing
+/// ends.
 pub fn headings_are_told_by_their_lines()
-    ensures told { (page : List ℕ) (before : List (List Item)) (marks : List Item) (l : List Item) (behind : List (List Item)) (n : ℕ) → EndsClosed page []
-        → 1 ≤ length l → full_lines (page_items page) ≡ before ++ (marks ++ l) ∷ behind → IsLinedHeading n l
+    ensures told { (page : List ℕ) (before : List (List Item)) (marks : List Item) (l : List Item) (behind : List (List Item)) (n : ℕ)
+        → EndsClosed (sources (content l)) (sources (ending l ++ joined behind)) → 1 ≤ length l → full_lines (page_items page) ≡ before ++ (marks ++ l) ∷ behind → IsLinedHeading n l
         → AreBlockItems (a_heading (sides_of (content l))) (text_of (content l)) (content l) }
     ensures only { (s : Sides) (q : List ℕ) (line : List Item) → AreBlockItems (a_heading s) q line → (sides_of line ≡ s) × (text_of line ≡ q) }
 {}
@@ -81,17 +86,24 @@ pub fn each_block_stands_on_lines()
         → IsReachedAt p (called_tree pages page) t → IsTextBlock (label t).kind → StandsOnLines pages page t }
 {}
 
-/// All paragraphs and headings that the lines of an expanded page tell are told at once (`AreAllTold`): of a page at whose end no
-/// comment and no hidden part is open.
+/// All paragraphs and headings that the lines of an expanded page tell are told at once (`AreAllTold`).
 pub fn told_blocks_are_told_together()
-    ensures all { (pages : Pages) (page : List ℕ) → IsUtf8 page → refusal_of_page pages page ≡ None → EndsClosed page [] → AreAllTold pages page }
+    ensures all { (pages : Pages) (page : List ℕ) → IsUtf8 page → refusal_of_page pages page ≡ None → AreAllTold pages page }
 {}
 
-/// So each paragraph and heading of such a page's tree that is outside of groups, holds none and isn't tangled may be edited at
-/// its path, which is one of those of blocks that the lines tell; but for these: text behind the sign of a table's end or a rule
-/// on its line, and the other of `IsExceptedAt`; a block for which a call gives the
-/// line break before or behind it, or which has one before it on its line that gives nothing (`beside_a_call`); and one in which a
-/// function is kept (`holds_a_function`).
+/// So each paragraph and heading of such a page's tree that is outside of groups, holds none and isn't tangled, and holds no mark
+/// that nothing ends, may be edited at its path, which is one of those of blocks that the lines tell; but for these: text behind
+/// the sign of a table's end or a rule on its line; a block for which a call gives the line break before or behind it, or which
+/// has one before it on its line that gives nothing (`beside_a_call`); one in which a function is kept (`holds_a_function`); and the
+/// others of `IsExceptedIn`.
 pub fn each_block_is_told_or_excepted()
-    ensures all { (pages : Pages) (page : List ℕ) → IsUtf8 page → refusal_of_page pages page ≡ None → EndsClosed page [] → AllBlocksTold pages page }
+    ensures all { (pages : Pages) (page : List ℕ) → IsUtf8 page → refusal_of_page pages page ≡ None → AllBlocksTold pages page }
+{}
+
+/// Each paragraph and each heading of a page's tree that is outside of groups and has a byte, with calls in it or without, is on
+/// lines of the expanded page (`IsOnLines`): these stand as a block does, and where by them it may be edited with its calls
+/// (`IsLinedCalling`), it is at its path that it may be. Excepted is what `IsExceptedByLines` names.
+pub fn each_block_is_on_its_lines()
+    ensures on { (pages : Pages) (page p : List ℕ) (t : Tree) → IsUtf8 page → refusal_of_page pages page ≡ None → IsReachedAt p (called_tree pages page) t
+        → IsTextBlock (label t).kind → 1 ≤ length (flat t) → IsOnLines pages page p t ⊎ IsExceptedByLines pages page t }
 {}

@@ -148,12 +148,17 @@ all_fit pages page t es ms k (s ∷ ss) (p ∷ ps) h own b = (
 
 -- ---- the edit
 
-beside_done : (pages : Pages) (ss : List BlockSpot) (behind : List ℕ) (new : Tree) (c : TakesContentsIn pages ss behind) → IsUtf8 (spots_source ss behind)
+-- what was sent is an edit of the contents of these blocks, and the new page is the page with them
+pub record BesideSent (pages : Pages) (ss : List BlockSpot) (behind : List ℕ) (paths : List (List ℕ)) (new : Tree) : Type 0 where
+  pub sent : IsSentOn pages (spots_source ss behind) new (edits_of (called_tree pages (spots_source ss behind)) new)
+  pub edit : IsContentEditIn pages (called_tree pages (spots_source ss behind)) ss paths (edits_of (called_tree pages (spots_source ss behind)) new)
+  pub same : spliced (spots_source ss behind) (slices same_node (page_tree pages (spots_source ss behind)) new)
+      ≡ edited_page ss behind paths (edits_of (called_tree pages (spots_source ss behind)) new)
+
+pub beside_sent : (pages : Pages) (ss : List BlockSpot) (behind : List ℕ) (new : Tree) (c : TakesContentsIn pages ss behind) → IsUtf8 (spots_source ss behind)
     → refusal_of_page pages (spots_source ss behind) ≡ None → HaveOwnSources (block_with_groups pages ss behind) ss
-    → IsBesideEdit pages (spots_source ss behind) c.paths new
-    → edit_to pages (spots_source ss behind) new ≡ done (spliced (spots_source ss behind) (slices same_node (page_tree pages (spots_source ss behind)) new))
-unfolding most_bytes
-beside_done pages ss behind new c utf8 unrefused own e =
+    → IsBesideEdit pages (spots_source ss behind) c.paths new → BesideSent pages ss behind c.paths new
+beside_sent pages ss behind new c utf8 unrefused own e =
     let page : List ℕ = spots_source ss behind in
     let t : Tree = called_tree pages page in
     let ms : List Pair = marked (page_tree pages page) new in
@@ -177,10 +182,18 @@ beside_done pages ss behind new c utf8 unrefused own e =
       edits = sent.only c.paths e.among;
       fit = all_fit pages page t es ms 0 ss c.paths pairs own of_blocks;
     } in
-    let same : spliced page (slices same_node (page_tree pages page) new) ≡ edited_page ss behind c.paths es =
-    ap (spliced page) (sent.changes b) ∙ c.makes b es edit in
-    let room : length (edited_page ss behind c.paths es) ≤ PAGE_BYTES = subst (λ (bs : List ℕ). length bs ≤ PAGE_BYTES) same e.edit.room in
-    sent.alike b ∙ c.takes b es edit room ∙ ap done (sym same)
+    record { sent = sent; edit = edit; same = ap (spliced page) (sent.changes b) ∙ c.makes b es edit }
+
+beside_done : (pages : Pages) (ss : List BlockSpot) (behind : List ℕ) (new : Tree) (c : TakesContentsIn pages ss behind) → IsUtf8 (spots_source ss behind)
+    → refusal_of_page pages (spots_source ss behind) ≡ None → HaveOwnSources (block_with_groups pages ss behind) ss
+    → IsBesideEdit pages (spots_source ss behind) c.paths new
+    → edit_to pages (spots_source ss behind) new ≡ done (spliced (spots_source ss behind) (slices same_node (page_tree pages (spots_source ss behind)) new))
+unfolding most_bytes
+beside_done pages ss behind new c utf8 unrefused own e =
+    let es : Edits = edits_of (called_tree pages (spots_source ss behind)) new in
+    let s : BesideSent pages ss behind c.paths new = beside_sent pages ss behind new c utf8 unrefused own e in
+    let room : length (edited_page ss behind c.paths es) ≤ PAGE_BYTES = subst (λ (bs : List ℕ). length bs ≤ PAGE_BYTES) s.same e.edit.room in
+    s.sent.alike (label new) ∙ c.takes (label new) es s.edit room ∙ ap done (sym s.same)
 
 -- of a page that its lines tell
 pub calling_edit_done : (pages : Pages) (page : List ℕ) (bs : List LinedBlock) (rest : List (List Item)) (new : Tree) → IsLinedCalling pages page bs rest

@@ -194,7 +194,7 @@ styled_edit pages q items page p r read utf8 c h =
       are = are_texts items page p r utf8 c.groups;
       calm = no_call_goes pages (pieces_of ts us) (trees_gone ts us);
       new = texts_nest pages q items page p r c.groups h;
-      free = none_is_new (pieces_of ts us) (trees_gone ts us);
+      free = none_is_new pages (pieces_of ts us) (trees_gone ts us);
       some = uncalled pages q items page p r read utf8 c (styled_numbered ts h.numbers);
     }
 

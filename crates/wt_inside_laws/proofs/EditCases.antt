@@ -15,7 +15,8 @@ use Rattle.wt_typed_blocks.specs.Edited.{no_pieces, gone, written, kept, around}
 use Rattle.wt_link_spelling.specs.Spelling.{children_of}
 use Rattle.wt_inside_laws.specs.Contents.{elements}
 use Rattle.wt_inside_laws.specs.RetypedPieces.{pieces_of}
-use Rattle.wt_inside_laws.specs.TextEdits.{IsUntouched, IsRetyped, holds_unclosed}
+use Rattle.wt_text_edit_laws.specs.Unclosed.{holds_unclosed}
+use Rattle.wt_inside_laws.specs.TextEdits.{IsUntouched, IsRetyped}
 use Rattle.wt_inside_laws.proofs.Sources.{untrue}
 use Rattle.wt_inside_laws.proofs.InsidesCases.{text, leaf, inner, group, para}
 

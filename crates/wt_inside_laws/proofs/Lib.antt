@@ -26,6 +26,7 @@ pub mod OwnShown
 pub mod AlikeContents
 pub mod MarkedBlocks
 pub mod PageAlike
+pub mod NothingMarked
 pub mod SentCases
 pub mod ReadMarkup
 pub mod ReadKinds
@@ -35,6 +36,7 @@ pub mod ReadSent
 pub mod SlotTexts
 pub mod OwnPieces
 pub mod SlotsLed
+pub mod SlotsOpen
 pub mod Breaks
 pub mod SlotsFirst
 pub mod OwnEdits
@@ -49,6 +51,7 @@ pub mod ToldEdits
 pub mod BesideEdits
 pub mod HtmlEdits
 pub mod OrdinaryEdits
+pub mod NothingMoved
 pub mod LocalTextEdits
 pub mod InsidesCases
 pub mod PageCases

@@ -132,7 +132,7 @@ edits_are : (ps : List Pair) → map (λ d. Some d) (map edit_for ps) ≡ map (�
 edits_are [] = refl
 edits_are (p ∷ ps) = ap (λ xs. Some (edit_for p) ∷ xs) (edits_are ps)
 
-same_body : (l : Label) (ts us : Trees) → l.kind ≡ kind.Body → l.id ≡ 0 → us ≡ ts → tree l ts ≡ tree (record l { kind = kind.Body; id = 0 }) us
+pub same_body : (l : Label) (ts us : Trees) → l.kind ≡ kind.Body → l.id ≡ 0 → us ≡ ts → tree l ts ≡ tree (record l { kind = kind.Body; id = 0 }) us
 same_body l ts us k n e = λ i. tree (record l { kind = k i; id = n i }) (sym e i)
 
 -- ---- the answer
@@ -154,7 +154,7 @@ sent_answer same items bytes l b es pre f g h =
     (ap (refused_pairs same items bytes) (marked_are l b es h (found l es pre)))
     (edited_slices.slices_are same (page_of (page_body l es)) 0 (is_content l.mark) es h (found l es pre))
 
-sent_slices : (same : Same) (t : Tree) (l b : Label) (es : Edits) → HasBareSections t → without_sections t ≡ page_body l es → InPreorder (page_body l es)
+pub sent_slices : (same : Same) (t : Tree) (l b : Label) (es : Edits) → HasBareSections t → without_sections t ≡ page_body l es → InPreorder (page_body l es)
     → have_frame (page_nodes es) ≡ false → AreOutside es → AreEdited es → slices same t (sent_body l b es) ≡ changes_of same es
 sent_slices same t l b es bare is pre f g h =
     let u : Tree = sent_body l b es in

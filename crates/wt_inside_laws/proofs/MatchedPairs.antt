@@ -163,7 +163,7 @@ mutual
   none_changed same (edited k l m ps) h = absurd (cc)
   none_changed same (round l m es) h = nothing_changed same es h
 
-  nothing_changed : (same : Same) (es : Edits) → hold_edits es ≡ false → changes_of same es ≡ []
+  pub nothing_changed : (same : Same) (es : Edits) → hold_edits es ≡ false → changes_of same es ≡ []
   nothing_changed same no_edits h = refl
   nothing_changed same (more_edits e es) h =
       let d = or_false (holds_edit e) (hold_edits es) h in ap₂ (λ xs ys. xs ++ ys) (none_changed same e d.0) (nothing_changed same es d.1)

@@ -63,7 +63,7 @@ mutual
   page_shows (round l m es) rest h =
       shown_same (showing l.kind) l l (λ ps. edits_before es ps) (λ ps. plains_before (page_nodes es) ps) rest (λ e. refl) refl (λ ps. pages_show es ps h)
 
-  pages_show : (es : Edits) (rest : Plains) → hold_edits es ≡ false → edits_before es rest ≡ plains_before (page_nodes es) rest
+  pub pages_show : (es : Edits) (rest : Plains) → hold_edits es ≡ false → edits_before es rest ≡ plains_before (page_nodes es) rest
   pages_show no_edits rest h = refl
   pages_show (more_edits e es) rest h =
       let d = or_false (holds_edit e) (hold_edits es) h in

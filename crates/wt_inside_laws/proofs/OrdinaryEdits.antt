@@ -34,6 +34,7 @@ use Rattle.wt_inside_laws.specs.RetypedPieces.{AreRead, AreUtf8}
 use Rattle.wt_inside_laws.specs.TextEdits.{takes_text, IsRetyped}
 use Rattle.wt_inside_laws.specs.ToldEdits.{IsReadBlock, IsOrdinary, IsOrdinaryOn, IsToldEdit, IsOrdinaryEdit}
 use Rattle.wt_inside_laws.proofs.HtmlEdits.{edit_is}
+use Rattle.wt_inside_laws.proofs.NothingMarked.{nothing_done, nothing_spliced}
 use Rattle.wt_inside_laws.proofs.PageAlike.{text_edit_sent}
 use Rattle.wt_inside_laws.proofs.Reached.{Reaches, edits_reach}
 use Rattle.wt_inside_laws.proofs.ReadSent.{read_for, read_blocks}
@@ -71,7 +72,7 @@ marked_told : (pages : Pages) (page : List ℕ) (a : AllBlocksTold pages page) (
     → node_at q (called_tree pages page) ≡ Some m.old → IsRetyped same_node (expanded_page pages page) page m → IsOrdinaryOn pages page m
     → IsTold pages page a q
 marked_told pages page a q m w e r o =
-    told_of pages page a q m.old o.told (a.complete q m.old (w m.old e) (block_kind (label m.old).kind r.block) o.ungrouped r.untangled)
+    told_of pages page a q m.old o.told (a.complete q m.old (w m.old e) (block_kind (label m.old).kind r.block) o.ungrouped r.untangled r.closed)
 
 abbrev nodes_at : Tree → List (List ℕ) → List (Option Tree)
 nodes_at t qs = map (λ q. node_at q t) qs
@@ -122,19 +123,32 @@ pub record OrdinaryTold (pages : Pages) (page : List ℕ) (new : Tree) : Type 0 
   pub taken : TakesContents pages (spots_of_lines pages page bs) (end_of_lines pages page bs rest)
   pub edit : IsToldEdit pages page taken.paths new
 
-pub ordinary_told : (pages : Pages) (page input : List ℕ) (new : Tree) (u : Option ℕ) → IsOrdinaryEdit pages page input new u → OrdinaryTold pages page new
-ordinary_told pages page input new u h =
-    let a : AllBlocksTold pages page = all_blocks pages page h.utf8 h.unrefused h.closed in
+-- as it is read
+pub record OrdinarySent (pages : Pages) (page : List ℕ) (new : Tree) : Type 0 where
+  pub read : IsReadFor (page_tree pages page) new
+  pub blocks : AllByRecursion IsReadBlock (marked (page_tree pages page) new)
+  pub sent : IsSentOn pages page new (edits_of (called_tree pages page) new)
+
+pub ordinary_sent : (pages : Pages) (page input : List ℕ) (new : Tree) (u : Option ℕ) → IsOrdinaryEdit pages page input new u → OrdinarySent pages page new
+ordinary_sent pages page input new u h =
+    let read : IsReadFor (page_tree pages page) new = read_for pages page input new u h.utf8 h.short h.unrefused h.sent h.edit.checks in
+    let blocks =
+    all_read (marked (page_tree pages page) new)
+    (read_blocks same_node (expanded_page pages page) page pages page input new u h.utf8 h.short h.unrefused h.sent h.edit.checks h.edit.blocks) in
+    record { read = read; blocks = blocks.1; sent = text_edit_sent pages page new h.utf8 h.short h.unrefused h.edit read blocks.0 }
+
+pub ordinary_told : (pages : Pages) (page input : List ℕ) (new : Tree) (u : Option ℕ) → IsOrdinaryEdit pages page input new u
+    → 1 ≤ length (marked (page_tree pages page) new) → OrdinaryTold pages page new
+ordinary_told pages page input new u h some =
+    let a : AllBlocksTold pages page = all_blocks pages page h.utf8 h.unrefused in
     let t : Tree = called_tree pages page in
     let ms : List Pair = marked (page_tree pages page) new in
     let es : Edits = edits_of t new in
-    let for_page : IsReadFor (page_tree pages page) new = read_for pages page input new u h.utf8 h.short h.unrefused h.sent h.edit.checks in
-    let blocks =
-    all_read ms (read_blocks same_node (expanded_page pages page) page pages page input new u h.utf8 h.short h.unrefused h.sent h.edit.checks h.edit.blocks) in
-    let sent : IsSentOn pages page new es = text_edit_sent pages page new h.utf8 h.short h.unrefused h.edit for_page blocks.0 in
+    let e : OrdinarySent pages page new = ordinary_sent pages page input new u h in
+    let sent : IsSentOn pages page new es = e.sent in
     let body = page_body pages page h.utf8 h.unrefused in
     let reach : AllByRecursion (Reaches t) (paths_of es) = edits_reach t es (ap is_group body.kind) sent.old sent.outside in
-    let s : AreSome a.ts = some_told pages page a (paths_of es) ms reach sent.at h.edit.blocks h.blocks h.some in
+    let s : AreSome a.ts = some_told pages page a (paths_of es) ms reach sent.at h.edit.blocks h.blocks some in
     record {
       bs = map lined a.ts;
       rest = a.behind;
@@ -143,18 +157,28 @@ ordinary_told pages page input new u h =
       edit = record {
         short = h.short;
         edit = h.edit;
-        read = for_page;
-        blocks = blocks.1;
+        read = e.read;
+        blocks = e.blocks;
         ordinary = all_ordinary pages page ms h.blocks;
         among = all_told pages page a s (paths_of es) ms reach sent.at h.edit.blocks h.blocks;
       };
     }
 
+-- where something is marked, and where nothing is
+pub by_marked : {A : Type 0} (ps : List Pair) → (ps ≡ [] → A) → (1 ≤ length ps → A) → A
+by_marked [] f g = f refl
+by_marked (p ∷ ps) f g = g (omega arith)
+
 pub ordinary_done : (pages : Pages) (page input : List ℕ) (new : Tree) (u : Option ℕ) → IsOrdinaryEdit pages page input new u
     → edit_to pages page new ≡ done (spliced page (slices same_node (page_tree pages page) new))
 ordinary_done pages page input new u h =
-    let o : OrdinaryTold pages page new = ordinary_told pages page input new u h in
-    lined_edit_done pages page o.bs o.rest new o.lined o.taken o.edit
+    by_marked (marked (page_tree pages page) new)
+    (λ none.
+    let e : OrdinarySent pages page new = ordinary_sent pages page input new u h in
+    nothing_spliced pages page new (nothing_done pages page new h.utf8 h.short h.unrefused e.sent none))
+    (λ some.
+    let o : OrdinaryTold pages page new = ordinary_told pages page input new u h some in
+    lined_edit_done pages page o.bs o.rest new o.lined o.taken o.edit)
 
 pub ordinary_written : (pages : Pages) (page input : List ℕ) (new : Tree) (u : Option ℕ) → IsOrdinaryEdit pages page input new u → length input ≤ HTML_BYTES
     → edit_of pages (Some page) input ≡ done (spliced page (slices same_node (page_tree pages page) new))

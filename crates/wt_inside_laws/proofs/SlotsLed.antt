@@ -55,7 +55,7 @@ led_more ks b v w e h = subst (LedAt ks b) e h
 
 -- ---- in the page
 
-abbrev IsSome : List (List ℕ) → Type 0
+abbrev pub IsSome : List (List ℕ) → Type 0
 IsSome [] = ⊥
 IsSome (n ∷ ns) = Unit {0}
 
@@ -78,7 +78,7 @@ some_by inline.AsItStood shown before after h = tt
 some_one : (t : Tree) (after : List (List ℕ)) → IsSome after → IsSome (texts_before t after)
 some_one (tree l ts) after h = some_by (edit_shape l.kind).inline l.shown (λ os. all_texts_before ts os) after h
 
-some_all : (ts : Trees) (after : List (List ℕ)) → IsSome after → IsSome (all_texts_before ts after)
+pub some_all : (ts : Trees) (after : List (List ℕ)) → IsSome after → IsSome (all_texts_before ts after)
 some_all none after h = h
 some_all (more t ts) after h = some_one t (all_texts_before ts after) (some_all ts after h)
 
@@ -165,7 +165,7 @@ led_all (more (tree l ts) us) block at s ys after i h k =
     (led_by (edit_shape l.kind).inline block at s l ts (λ v. AreOwnLed block (at + length (flat (tree l ts))) v us) (borders us ++ ys) (all_texts_before us after)
     (some_all us after i) h (λ v q. led_all us block (at + length (flat (tree l ts))) v ys after i q k))
 
-none_behind : (bs : List Border) → bs ++ [] ≡ bs
+pub none_behind : (bs : List Border) → bs ++ [] ≡ bs
 none_behind [] = refl
 none_behind (b ∷ bs) = ap (λ cs. b ∷ cs) (none_behind bs)
 

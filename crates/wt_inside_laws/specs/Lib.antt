@@ -1,6 +1,7 @@
 pub mod TextsReplaced
 pub mod AnyReplaced
 pub mod Contents
+pub mod OpenLines
 pub mod TextEdits
 pub mod RetypedPieces
 pub mod RetypedCalls

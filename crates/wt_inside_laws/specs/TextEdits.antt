@@ -1,15 +1,8 @@
 -- A text edit: in paragraphs and headings somebody typed other texts between elements that nobody touched. It is never to be refused.
-use Rattle.std.specs.Prelude.{◌≡◌, ◌⊎◌, ◌≤◌, ◌-◌, ◌==◌, ◌&&◌, ℕ, Bool, true, false, not, Option, Some, None, List, [], ◌∷◌, drop, length, nat_eq, slice_get, count_by, codes, zip}
+use Rattle.std.specs.Prelude.{◌≡◌, ◌⊎◌, ◌≤◌, ◌==◌, ◌&&◌, ℕ, Bool, true, false, Option, Some, None, List, [], ◌∷◌, length, nat_eq, count_by, zip}
 use Rattle.std.specs.List.{AllByRecursion, ends_with}
-use Rattle.std.specs.Option.{is_some}
-use Rattle.wt_span.specs.declared.form.ItemForm.{ItemForm}
-use Rattle.wt_span.specs.declared.form.ItemForm.TheVariants as form
-use Rattle.wt_span.specs.Items.{Item, char, whole}
 use Rattle.wt_span.specs.Origins.{Expanded}
-use Rattle.wt_span.specs.Tags.{Tag, opening_tag, with_inside}
 use Rattle.wt_span.specs.Characters as byte
-use Rattle.wt_names.specs.Good.{holds}
-use Rattle.wt_tree.specs.declared.kind.Ranges.{Ranges}
 use Rattle.wt_tree.specs.Tree.{Tree, tree, Trees, none, more, label}
 use Rattle.wt_tree.specs.Plain.{face}
 use Rattle.wt_tree.specs.Tiling.{is_group, numbers}
@@ -28,6 +21,7 @@ use Rattle.wt_slices.specs.Changes.{Pair, marked, AllStay}
 use Rattle.wt_slices.specs.BodySlices.{slices}
 use Rattle.wt_selser.specs.Edits.{is_tangled, most_bytes}
 use Rattle.wt_splice.specs.Splice.{spliced}
+use Rattle.wt_text_edit_laws.specs.Unclosed.{holds_unclosed}
 use Rattle.wt_inside_laws.specs.Contents.{Border, element, bold, italic, end, borders, elements, styles, Slot, slots}
 
 -- ---- a text
@@ -131,40 +125,6 @@ pub record IsSameStyle (ks : List Kept) (t : Tree) : Type 0 where
   pub kept : Kept
   pub found : kept_with (label t).id ks ≡ Some kept
   pub alike : face (label t) ≡ face (label kept.node)
-
--- a comment without `-->`, and a part that pages don't show without its closing tag
-abbrev pub is_tag_unclosed : Option Tag → List ℕ → Bool
-is_tag_unclosed None bs = false
-is_tag_unclosed (Some t) bs = not (is_some (with_inside t bs))
-
-abbrev pub is_unclosed : ItemForm → List ℕ → Bool
-is_unclosed form.Chars bs = false
-is_unclosed (form.Entity c) bs = false
-is_unclosed form.Nowiki bs = false
-is_unclosed form.Extension bs = false
-is_unclosed form.Function bs = false
-is_unclosed form.Comment bs = not (holds (codes "-->") (drop 4 bs))
-is_unclosed form.Include bs = false
-is_unclosed form.Hidden bs = is_tag_unclosed (opening_tag bs) bs
-is_unclosed form.EmptyCall bs = false
-
--- an item of the page itself
-abbrev pub is_unclosed_item : Option Item → Bool
-is_unclosed_item None = false
-is_unclosed_item (Some (char o b)) = false
-is_unclosed_item (Some (whole f None bs)) = is_unclosed f bs
-is_unclosed_item (Some (whole f (Some k) bs)) = false
-
-abbrev pub last_of : List Item → Option Item
-last_of xs = slice_get xs (length xs - 1)
-
-abbrev pub reaches : ℕ → Option Ranges → Bool
-reaches size None = false
-reaches size (Some r) = r.end == size
-
--- An unclosed mark runs to the page's end, so it is the page's last item; a block holds it where it goes up to there.
-abbrev pub holds_unclosed : List Item → List ℕ → Option Ranges → Bool
-holds_unclosed items page r = is_unclosed_item (last_of items) && reaches (length page) r
 
 -- A paragraph or heading of the page that isn't tangled and holds no unclosed mark, and what it was edited to: its elements are
 -- untouched and in their order, bold and italic are the page's but for what is in them, and each text between them is the page's or was typed.

@@ -13,15 +13,16 @@ use Rattle.wt_schema.specs.Read.{page as as_page, read}
 use Rattle.wt_slices.specs.Changes.{Pair, marked}
 use Rattle.wt_visible.specs.SameNodes.{same_node}
 use Rattle.wt_commands.specs.Answers.{refusal_of_page}
-use Rattle.wt_text_edit_laws.specs.PageCuts.{EndsClosed}
+use Rattle.wt_text_edit_laws.specs.NoCalls.{CallsNothing}
+use Rattle.wt_text_edit_laws.specs.Parts.{HasNoGroups}
 use Rattle.wt_text_edit_laws.specs.TextBlocks.{TextBlock, block_tree}
 use Rattle.wt_beside_laws.specs.EndedNodes.{AreEndedNodes}
 use Rattle.wt_beside_laws.specs.FlatBlocks.{signs_in}
-use Rattle.wt_beside_laws.specs.StyledIn.{StaysPaired}
 use Rattle.wt_called_edit_laws.specs.AllTold.{IsExcepted}
 use Rattle.wt_called_edit_laws.specs.EditsAt.{IsStanding}
 use Rattle.wt_called_edit_laws.specs.Groups.{called_tree}
-use Rattle.wt_inside_laws.specs.AsSent.{pieces_for, edits_of, paths_of, AreSomeOf, IsReadFor}
+use Rattle.wt_inside_laws.specs.AsSent.{edits_of, paths_of, AreSomeOf, IsReadFor}
+use Rattle.wt_inside_laws.specs.OpenLines.{KeepsTags}
 use Rattle.wt_inside_laws.specs.RetypedPieces.{AreRead, AreUtf8, BeginsUnmarked}
 use Rattle.wt_inside_laws.specs.TextEdits.{IsTextEdit}
 
@@ -32,10 +33,10 @@ pub record IsReadBlock (p : Pair) : Type 0 where
   pub read : AreRead (children_of p.new)
   pub utf8 : AreUtf8 (children_of p.new)
 
--- Of its nodes: none is a tag that opens a pair without a closing tag on its line, or nothing that is sent closes it; what begins in a node ends in
--- it; and no heading begins with a mark.
+-- Of its nodes: a tag that opens a pair without a closing tag on its line is closed by no other one there; what begins in a node ends in it; and no
+-- heading begins with a mark.
 pub record HasEndedNodes (k : TextBlock) (q : List ℕ) (p : Pair) : Type 0 where
-  pub paired : StaysPaired k q p.old (pieces_for p)
+  pub paired : KeepsTags p.old
   pub ended : AreEndedNodes (signs_in k q)
   pub unmarked : BeginsUnmarked k p.old
 
@@ -60,13 +61,11 @@ pub record IsToldEdit (pages : Pages) (page : List ℕ) (paths : List (List ℕ)
   pub ordinary : AllByRecursion IsOrdinary (marked (page_tree pages page) new)
   pub among : AreSomeOf (paths_of (edits_of (called_tree pages page) new)) paths
 
--- A text edit, as it is read of HTML, of a page that isn't refused: it marks some blocks, each of which is ordinary.
+-- A text edit, as it is read of HTML, of a page that isn't refused: each block that it marks is ordinary.
 pub record IsOrdinaryEdit (pages : Pages) (page input : List ℕ) (new : Tree) (unsourced : Option ℕ) : Type 0 where
   pub utf8 : IsUtf8 page
   pub short : length page ≤ PAGE_BYTES
   pub unrefused : refusal_of_page pages page ≡ None
-  pub closed : EndsClosed page []
   pub sent : read input ≡ as_page new unsourced
   pub edit : IsTextEdit same_node (expanded_page pages page) page (page_tree pages page) new
-  pub some : 1 ≤ length (marked (page_tree pages page) new)
   pub blocks : AllByRecursion (IsOrdinaryOn pages page) (marked (page_tree pages page) new)

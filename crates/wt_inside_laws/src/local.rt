@@ -1,8 +1,19 @@
 //! Text edits are local: what a page means outside of the marked blocks stays as it was.
 
 ghost use Rattle.std.specs.Prelude.{ℕ, List, Option};
+ghost use Rattle.wt_span.specs.Items.{Item};
 ghost use Rattle.wt_tree.specs.Tree.{Tree};
 ghost use Rattle.wt_expand.specs.Work.{Pages};
+ghost use Rattle.wt_page_round_trip.specs.PageTree.{page_tree};
+ghost use Rattle.wt_slices.specs.BodySlices.{slices};
+ghost use Rattle.wt_splice.specs.Splice.{spliced};
+ghost use Rattle.wt_visible.specs.SameNodes.{same_node};
+ghost use Rattle.wt_called_edit_laws.specs.CallingContents.{TakesContentsIn};
+ghost use Rattle.wt_called_edit_laws.specs.LinedAmong.{spots_of_lines, end_of_lines};
+ghost use Rattle.wt_called_edit_laws.specs.LinedCalling.{IsLinedCalling};
+ghost use Rattle.wt_called_edit_laws.specs.LocalChange.{ExpandsAlike};
+ghost use Rattle.wt_called_edit_laws.specs.PlacedLines.{LinedBlock};
+ghost use Rattle.wt_inside_laws.specs.BesideEdits.{IsBesideEdit};
 ghost use Rattle.wt_inside_laws.specs.LocalTextEdits.{IsLocalTextEdit};
 ghost use Rattle.wt_inside_laws.specs.ToldEdits.{IsOrdinaryEdit};
 
@@ -10,9 +21,22 @@ ghost use Rattle.wt_inside_laws.specs.ToldEdits.{IsOrdinaryEdit};
 /// each node that holds no marked block has the kind, attributes, delimiters and source that it had, and its range is moved
 /// by the bytes that were added before it. A node that holds marked blocks is the same, too, but for its end, which is moved
 /// by what was added in it as well. The marked blocks keep their kind and delimiters. The page has the same calls, each of
-/// which gives what it gave, and the expansion is the same work, so it costs the same.
+/// which gives what it gave, and the expansion is the same work, so it costs the same (`ExpandsAlike`).
 #[tactic(auto)]
 pub fn text_edits_are_local()
-    ensures { (pages : Pages) (page input : List ℕ) (new : Tree) (unsourced : Option ℕ)
+    ensures nodes { (pages : Pages) (page input : List ℕ) (new : Tree) (unsourced : Option ℕ)
         → IsOrdinaryEdit pages page input new unsourced → IsLocalTextEdit pages page new }
+    ensures calls { (pages : Pages) (page input : List ℕ) (new : Tree) (unsourced : Option ℕ)
+        → IsOrdinaryEdit pages page input new unsourced
+        → ExpandsAlike pages page (spliced page (slices same_node (page_tree pages page) new)) }
+{}
+
+/// So is each that `text_edits_beside_calls_are_done` speaks of, where the marked blocks may hold calls: the page has the same
+/// calls, and the expansion is the same work, or some of it.
+#[tactic(auto)]
+pub fn text_edits_beside_calls_are_local()
+    ensures { (pages : Pages) (page : List ℕ) (bs : List LinedBlock) (rest : List (List Item)) (new : Tree)
+        → IsLinedCalling pages page bs rest
+        → (c : TakesContentsIn pages (spots_of_lines pages page bs) (end_of_lines pages page bs rest))
+        → IsBesideEdit pages page c.paths new → IsLocalTextEdit pages page new }
 {}

@@ -1,31 +1,35 @@
 -- A walk over nodes of calls and of the page makes one group of what one call gives side by side, and leaves all else as it is.
-use Rattle.std.proofs.Common.{◌≡◌, ℕ, ◌+◌, ◌==◌, Bool, true, false, not, Option, None, Some, List, [], ◌∷◌, ◌++◌, length, map, refl, sym, ap, ap₂, ◌∙◌, subst, cond, inl, inr}
+use Rattle.std.proofs.Common.{◌≡◌, ◌⊎◌, ℕ, ◌+◌, ◌==◌, Bool, true, false, not, Option, None, Some, List, [], ◌∷◌, ◌++◌, length, map, refl, sym, ap, ap₂, ◌∙◌, subst, cond, inl, inr}
 use Rattle.std.specs.Prelude.{◌&&◌, ◌||◌, slice_get}
 use Rattle.std.specs.List.{list_all, list_any}
 use Rattle.std.proofs.lemmas.Bool.Decides.{Decides-eqb}
 use Rattle.wt_tree.specs.Kinds.{is_leaf}
 use Rattle.wt_tree.specs.Tree.{Tree, tree, more, trees}
-use Rattle.wt_span.specs.Items.{Item, char, call_of}
+use Rattle.wt_span.specs.Items.{Item, char, source, call_of}
 use Rattle.wt_span.specs.Origins.{OuterCall}
-use Rattle.wt_span.specs.Cuts.{source_of_call}
+use Rattle.wt_span.specs.Cuts.{source_of_call, text_by}
 use Rattle.wt_span.specs.Runs.{put, runs}
 use Rattle.wt_inline.specs.declared.loose.Loose.{Loose}
 use Rattle.wt_inline.specs.declared.loose.Loose.TheVariants.{Text, Sep}
 use Rattle.wt_inline.specs.ItemTree.{ItemTree, inner, ItemTrees, nothing, further, forest, tree_items, held_by_all}
 use Rattle.wt_inline.specs.Parts.{Part, loose, node, held_parts, same_loose, same_origin, one_leaf, loose_leaf, child, children}
-use Rattle.wt_annotated.specs.Annotated.{group_label, all_unplaced}
+use Rattle.wt_annotated.specs.Annotated.{kept_label, group_label, all_unplaced}
 use Rattle.wt_annotated.specs.Clean.{is_no_call, is_page, is_body, own_by}
 use Rattle.wt_annotated.specs.GroupData.{group_data}
 use Rattle.wt_annotated.specs.GroupParts.{called}
 use Rattle.wt_annotated.specs.GroupParts.{Part as Piece}
-use Rattle.wt_annotated.specs.Seams.{last_of, first_of, parted, text_from}
-use Rattle.wt_annotated.specs.Walked.{free_places, clean_at, parts_from, Near, near_tied, near_nodes, near_group, near_run, near_runs, near}
+use Rattle.wt_annotated.specs.Seams.{last_of, first_of, parted, text_step, text_from}
+use Rattle.wt_annotated.specs.Walked.{free_places, clean_at, parts_from, Near, near_tied, near_nodes, near_group, near_run, near_runs, walked, near}
+use Rattle.wt_annotated.specs.WithoutCalls.{inside_by, placed}
+use Rattle.wt_annotated.proofs.Ends.{both}
+use Rattle.wt_annotated.proofs.Seams.{last_append}
 use Rattle.wt_part_laws.specs.Placeless.{placeless, all_placeless}
 use Rattle.wt_part_laws.specs.Rounded.{IsOwn, HasItems}
-use Rattle.wt_part_laws.specs.CallPieces.{AreItemsOf, IsNoBody, IsUncut, IsOfCall, AreOfCall, IsOwnOrGiven, AreOwnOrGiven, CallPiece, own, given, given_before, piece_before, call_pieces, group_of_call, pieces_in_page}
+use Rattle.wt_part_laws.specs.CallPieces.{AreItemsOf, IsNoBody, IsUncut, IsOfCall, AreOfCall, IsOwnOrGiven, IsRoundNode, IsPieceNode, EachNode, ArePieceNodes, AreOwnOrGiven, CallPiece, own, given, given_before, piece_before, call_pieces, group_of_call, node_in, pieces_in_page}
 use Rattle.wt_part_laws.proofs.CallTexts.{itself, last_within, call_text, call_part, near_one, same_is, and_both}
-use Rattle.wt_part_laws.proofs.OwnWalks.{first_own, last_own, own_clean, walk_own, has_page}
+use Rattle.wt_part_laws.proofs.OwnWalks.{behind_free, before_free, first_own, last_own, own_clean, walk_own, has_page}
 use Rattle.wt_part_laws.proofs.RunCuts.{FreeBefore, near_apart, near_alone}
+use Rattle.wt_part_laws.proofs.SameWalks.{same_data, walk_same}
 
 -- ---- the trees of the pieces
 
@@ -54,10 +58,109 @@ pub all_trees : (ts : List ItemTree) → trees_of (call_pieces ts) ≡ ts
 all_trees [] = refl
 all_trees (t ∷ ts) = piece_with (first_of (tree_items t) None) t (call_pieces ts) ∙ ap (λ us. t ∷ us) (all_trees ts)
 
+-- ---- a node of the page, or one round what calls give
+
+round_first : (t : ItemTree) (o : Option ℕ) → IsRoundNode t → first_of (tree_items t) o ≡ None
+round_first (inner h [] ts c) o r = let no : false ≡ true = r.2 in absurd (cc)
+round_first (inner h (x ∷ q) ts c) o r = first_own (x ∷ q) o r.1 r.2
+
+round_last : (t : ItemTree) (o : Option ℕ) → IsRoundNode t → last_of o (tree_items t) ≡ None
+round_last (inner h q ts c) o r =
+    let i : List Item = held_by_all ts in
+    last_append o q (i ++ c) ∙ last_append (last_of o q) i c ∙ last_own (last_of (last_of o q) i) c r.3 r.4
+
+or_more : (u v w : Bool) → (v ≡ true → w ≡ true) → (u || v) ≡ true → (u || w) ≡ true
+or_more true v w f e = refl
+or_more false v w f e = f e
+
+some_left : (xs ys : List Item) → list_any is_page xs ≡ true → list_any is_page (xs ++ ys) ≡ true
+some_left [] ys e = cc
+some_left (x ∷ xs) ys e = or_more (is_page x) (list_any is_page xs) (list_any is_page (xs ++ ys)) (λ f. some_left xs ys f) e
+
+page_both : (xs ys : List Item) → list_all is_page xs ≡ true → list_all is_page ys ≡ true → list_all is_page (xs ++ ys) ≡ true
+page_both [] ys e f = f
+page_both (x ∷ xs) ys e f =
+    let r = both (is_page x) (list_all is_page xs) e in ap (λ (v : Bool). v && list_all is_page (xs ++ ys)) r.0 ∙ page_both xs ys r.1 f
+
+own_delimiters : (leaf : Bool) (q i c : List Item) → leaf ≡ false → list_all is_page q ≡ true → list_all is_page c ≡ true → list_all is_page (own_by leaf q i c) ≡ true
+own_delimiters true q i c e f g = let no : true ≡ false = e in absurd (cc)
+own_delimiters false q i c e f g = page_both q c f g
+
+six_true : (a b c d e f : Bool) → a ≡ true → b ≡ true → c ≡ true → d ≡ true → e ≡ true → f ≡ true → ((a && (b && (c && d))) && (e && f)) ≡ true
+six_true true true true true true true p q r s t u = refl
+six_true false b c d e f p q r s t u = cc
+six_true true false c d e f p q r s t u = cc
+six_true true true false d e f p q r s t u = cc
+six_true true true true false e f p q r s t u = cc
+six_true true true true true false f p q r s t u = cc
+six_true true true true true true false p q r s t u = cc
+
+or_last : (v w : Bool) → w ≡ true → (v || w) ≡ true
+or_last true w e = refl
+or_last false w e = e
+
+round_clean : (o p : Option ℕ) (t : ItemTree) → IsRoundNode t → clean_at o p t ≡ true
+round_clean o p (inner h q ts c) r =
+    let i : List Item = held_by_all ts in
+    let behind : Option ℕ = first_of i (first_of c p) in
+    let within : Option ℕ = last_of (last_of o q) i in
+    six_true (parted o (first_of q behind)) (parted (last_of o q) behind) (parted within (first_of c p)) (parted (last_of within c) p)
+    (list_all is_page (own_by (is_leaf h.kind) q i c)) (is_body h.kind || list_any is_page (q ++ (i ++ c)))
+    (before_free o (first_of q behind) (first_own q behind r.1 r.2)) (behind_free (last_of o q) behind (last_own o q r.1 r.2))
+    (before_free within (first_of c p) (first_own c p r.3 r.4)) (behind_free (last_of within c) p (last_own within c r.3 r.4))
+    (own_delimiters (is_leaf h.kind) q i c r.0 r.1 r.3) (or_last (is_body h.kind) (list_any is_page (q ++ (i ++ c))) (some_left q (i ++ c) r.2))
+
+-- what is on the page for an item of it doesn't hang on what comes before
+pub step_same : (calls : List OuterCall) (o : Option ℕ) (x : Item) → call_of x ≡ None → text_step calls o x ≡ text_step calls None x
+step_same calls o x e =
+    ap (λ (v : Bool). cond v (text_by calls (call_of x) (source x)) []) (before_free o (call_of x) e ∙ sym (before_free None (call_of x) e))
+
+first_page : (x : Item) (xs : List Item) → list_all is_page (x ∷ xs) ≡ true → call_of x ≡ None
+first_page x xs e = first_own (x ∷ []) None (ap (λ (v : Bool). v && true) (both (is_page x) (list_all is_page xs) e).0) (ap (λ (v : Bool). v || false) (both (is_page x) (list_all is_page xs) e).0)
+
+round_anywhere : (calls : List OuterCall) (o : Option ℕ) (at : ℕ) (p : Option ℕ) (t : ItemTree) → IsRoundNode t
+    → walked calls (group_data calls) o at p t ≡ walked calls (group_data calls) None at None t
+round_anywhere calls o at p (inner h [] ts c) r = let no : false ≡ true = r.2 in absurd (cc)
+round_anywhere calls o at p (inner h (x ∷ q) ts []) r = let no : false ≡ true = r.4 in absurd (cc)
+round_anywhere calls o at p (inner h (x ∷ q) ts (y ∷ c)) r =
+    let i : List Item = held_by_all ts in
+    let rest : List ℕ = text_from calls (call_of x) (q ++ (i ++ (y ∷ c))) in
+    let front : List ℕ = text_from calls (call_of x) q in
+    let last : List ℕ = text_from calls (last_of (last_of (call_of x) q) i) (y ∷ c) in
+    ap (λ (bs : List ℕ). tree (kept_label (is_leaf h.kind) h at (bs ++ rest) (bs ++ front) last)
+    (inside_by (is_leaf h.kind) (trees (near_runs calls (group_data calls)
+    (near calls (group_data calls) (last_of (call_of x) q) (at + length (bs ++ front)) (call_of y) ts)))))
+    (step_same calls o x (first_page x q r.1))
+
+pub own_first : (t : ItemTree) (o : Option ℕ) → IsOwn t ⊎ IsRoundNode t → first_of (tree_items t) o ≡ None
+own_first t o (inl n) = first_own (tree_items t) o n.of_page (has_page t n.has_items)
+own_first t o (inr r) = round_first t o r
+
+pub own_last : (t : ItemTree) (o : Option ℕ) → IsOwn t ⊎ IsRoundNode t → last_of o (tree_items t) ≡ None
+own_last t o (inl n) = last_own o (tree_items t) n.of_page (has_page t n.has_items)
+own_last t o (inr r) = round_last t o r
+
+pub piece_clean : (o p : Option ℕ) (t : ItemTree) → IsOwn t ⊎ IsRoundNode t → clean_at o p t ≡ true
+piece_clean o p t (inl n) = own_clean o p t n.of_page (has_page t n.has_items)
+piece_clean o p t (inr r) = round_clean o p t r
+
+-- it is what it is by itself, wherever it is
+piece_walk : (calls : List OuterCall) (o : Option ℕ) (at : ℕ) (p : Option ℕ) (t : ItemTree) → IsOwn t ⊎ IsRoundNode t
+    → placeless (walked calls (group_data calls) o at p t) ≡ node_in calls t
+piece_walk calls o at p t (inl n) = walk_own calls o at p [] t n.of_page n.has_items ∙ sym (walk_own calls None 0 None [] t n.of_page n.has_items)
+piece_walk calls o at p t (inr r) = ap placeless (round_anywhere calls o at p t r) ∙ walk_same calls calls (same_data calls) None at 0 None t
+
+-- a node of the page is what it is on a page without calls
+pub own_node_in : (calls : List OuterCall) (t : ItemTree) → IsOwn t → node_in calls t ≡ placeless (placed [] t)
+own_node_in calls t n = walk_own calls None 0 None [] t n.of_page n.has_items
+
+pub round_some : (t : ItemTree) → IsRoundNode t → list_any is_page (tree_items t) ≡ true
+round_some (inner h q ts c) r = some_left q (held_by_all ts ++ c) r.2
+
 -- ---- no two of one call are side by side
 
 abbrev pub IsPiece : CallPiece → Type 0
-IsPiece (own t) = IsOwn t
+IsPiece (own t) = IsOwn t ⊎ IsRoundNode t
 IsPiece (given j t ts) = IsOfCall j t × AreOfCall j ts
 
 abbrev pub piece_call : CallPiece → Option ℕ
@@ -89,21 +192,32 @@ before_pieces j t (given i u us ∷ ps) h k = by (j == i) refl
         ((h, subst (λ (n : ℕ). IsOfCall n u × AreOfCall n us) is k.0), subst (λ (n : ℕ). IsApart (Some n) ps) is k.1, k.2)
     by false e = ((h, tt), ap not e, k)
 
-pieces_by : (t : ItemTree) (ps : List CallPiece) → IsOwnOrGiven t → ArePieces ps → ArePieces (piece_before (first_of (tree_items t) None) t ps)
-pieces_by t ps h k = elim h [
-  | inl n ↦
-      subst (λ (c : Option ℕ). ArePieces (piece_before c t ps)) (sym (first_own (tree_items t) None n.of_page (has_page t n.has_items))) (n, apart_none ps, k)
+-- the page's, or a call's
+abbrev IsOneOf : ItemTree → Type 0
+IsOneOf t = (IsOwn t ⊎ IsRoundNode t) ⊎ ((j : ℕ) × IsOfCall j t)
+
+one_of : (t : ItemTree) → IsPieceNode t → IsOneOf t
+one_of t (inl (inl n)) = inl (inl n)
+one_of t (inl (inr g)) = inr g
+one_of t (inr r) = inl (inr r)
+
+pieces_by : (t : ItemTree) (ps : List CallPiece) → IsPieceNode t → ArePieces ps → ArePieces (piece_before (first_of (tree_items t) None) t ps)
+pieces_by t ps h k = elim (one_of t h) [
+  | inl n ↦ subst (λ (c : Option ℕ). ArePieces (piece_before c t ps)) (sym (own_first t None n)) (n, apart_none ps, k)
   | inr g ↦ subst (λ (c : Option ℕ). ArePieces (piece_before c t ps)) (sym (first_given g.0 t None g.1)) (before_pieces g.0 t ps g.1 k)
 ]
   where
     first_given : (j : ℕ) (t : ItemTree) (q : Option ℕ) → IsOfCall j t → first_of (tree_items t) q ≡ Some j
     first_given j t q h = ap (λ (xs : List Item). first_of xs q) h.is ∙ h.of_call.0
 
-abbrev pub AllOwnOrGiven : List ItemTree → Type 0
-AllOwnOrGiven [] = Unit {0}
-AllOwnOrGiven (t ∷ ts) = IsOwnOrGiven t × AllOwnOrGiven ts
+abbrev pub AllNodes : (ItemTree → Type 0) → List ItemTree → Type 0
+AllNodes P [] = Unit {0}
+AllNodes P (t ∷ ts) = P t × AllNodes P ts
 
-pub all_pieces : (ts : List ItemTree) → AllOwnOrGiven ts → ArePieces (call_pieces ts)
+abbrev pub AllPieceNodes : List ItemTree → Type 0
+AllPieceNodes ts = AllNodes IsPieceNode ts
+
+pub all_pieces : (ts : List ItemTree) → AllPieceNodes ts → ArePieces (call_pieces ts)
 all_pieces [] h = tt
 all_pieces (t ∷ ts) h = pieces_by t (call_pieces ts) h.0 (all_pieces ts h.1)
 
@@ -242,7 +356,7 @@ free_before : (calls : List OuterCall) (o : Option ℕ) (at : ℕ) (p : Option �
     → FreeBefore (near calls (group_data calls) o at p (forest (trees_of ps)))
 free_before calls o at p [] h e = tt
 free_before calls o at p (own t ∷ ps) h e =
-    ap (parted o) (first_own (tree_items t) (first_of (held_by_all (forest (trees_of ps))) p) h.0.of_page (has_page t h.0.has_items)) ∙ e
+    ap (parted o) (own_first t (first_of (held_by_all (forest (trees_of ps))) p) h.0) ∙ e
 free_before calls o at p (given j t ts ∷ ps) h e =
     ap (parted o) (first_of_call j t (first_of (held_by_all (forest (ts ++ trees_of ps))) p) h.0.0) ∙ e
 
@@ -256,10 +370,10 @@ walk_pieces calls o at p (own t ∷ ps) h e =
     let o2 : Option ℕ = last_of o (tree_items t) in
     let at2 : ℕ = at + length (text_from calls o (tree_items t)) in
     let ds : List Near = near calls (group_data calls) o2 at2 p (forest (trees_of ps)) in
-    let apart : IsApart o2 ps = subst (λ (x : Option ℕ). IsApart x ps) (sym (last_own o (tree_items t) h.0.of_page (has_page t h.0.has_items))) h.1 in
+    let apart : IsApart o2 ps = subst (λ (x : Option ℕ). IsApart x ps) (sym (own_last t o h.0)) h.1 in
     ap (λ us. all_placeless (trees us))
-    (near_alone calls (near_one calls o at q t) ds (own_clean o q t h.0.of_page (has_page t h.0.has_items)) (free_before calls o2 at2 p ps h.2 apart))
-    ∙ ap₂ more (walk_own calls o at q [] t h.0.of_page h.0.has_items) (walk_pieces calls o2 at2 p ps h.2 apart)
+    (near_alone calls (near_one calls o at q t) ds (piece_clean o q t h.0) (free_before calls o2 at2 p ps h.2 apart))
+    ∙ ap₂ more (piece_walk calls o at q t h.0) (walk_pieces calls o2 at2 p ps h.2 apart)
 walk_pieces calls o at p (given j t ts ∷ ps) h e =
     let c = cut_given calls o at j p t ts (trees_of ps) h.0.0 h.0.1 in
     let ds : List Near = near calls (group_data calls) (Some j) c.behind p (forest (trees_of ps)) in
@@ -279,9 +393,9 @@ head_call (Some j) t (given k u us ∷ ps) o e = by (j == k)
     by true = e
     by false = e
 
-first_same : (t : ItemTree) (xs : List Item) → IsOwnOrGiven t → first_of (tree_items t ++ xs) None ≡ first_of (tree_items t) None
-first_same t xs h = elim h [
-  | inl n ↦ by (tree_items t) (first_own (tree_items t) (Some 0) n.of_page (has_page t n.has_items))
+first_same : (t : ItemTree) (xs : List Item) → IsPieceNode t → first_of (tree_items t ++ xs) None ≡ first_of (tree_items t) None
+first_same t xs h = elim (one_of t h) [
+  | inl n ↦ by (tree_items t) (own_first t (Some 0) n)
   | inr g ↦ first_in g.0 t xs None g.1 ∙ sym (first_of_call g.0 t None g.1)
 ]
   where
@@ -289,7 +403,7 @@ first_same t xs h = elim h [
     by [] e = absurd (cc)
     by (y ∷ ys) e = refl
 
-pub behind_call : (o : Option ℕ) (ts : List ItemTree) → AllOwnOrGiven ts → parted o (first_of (held_by_all (forest ts)) None) ≡ true → IsApart o (call_pieces ts)
+pub behind_call : (o : Option ℕ) (ts : List ItemTree) → AllPieceNodes ts → parted o (first_of (held_by_all (forest ts)) None) ≡ true → IsApart o (call_pieces ts)
 behind_call o [] h e = tt
 behind_call o (t ∷ ts) h e =
     head_call (first_of (tree_items t) None) t (call_pieces ts) o (sym (ap (parted o) (first_same t (held_by_all (forest ts)) h.0)) ∙ e)
@@ -302,48 +416,48 @@ AllLoose k o [] = Unit {0}
 AllLoose k o (loose j p b ∷ ps) = (p ≡ o) × AllLoose k o ps
 AllLoose k o (node t ∷ ps) = ⊥
 
-abbrev IsRunGiven : List Part → Type 0
-IsRunGiven [] = ⊥
-IsRunGiven (loose k o b ∷ ps) = AllLoose k o ps
-IsRunGiven (node t ∷ []) = IsOwnOrGiven t
-IsRunGiven (node t ∷ p ∷ ps) = ⊥
+abbrev IsRunOf : (ItemTree → Type 0) → List Part → Type 0
+IsRunOf P [] = ⊥
+IsRunOf P (loose k o b ∷ ps) = AllLoose k o ps
+IsRunOf P (node t ∷ []) = P t
+IsRunOf P (node t ∷ p ∷ ps) = ⊥
 
-abbrev AreRunsGiven : List (List Part) → Type 0
-AreRunsGiven [] = Unit {0}
-AreRunsGiven (r ∷ rs) = IsRunGiven r × AreRunsGiven rs
+abbrev AreRunsOf : (ItemTree → Type 0) → List (List Part) → Type 0
+AreRunsOf P [] = Unit {0}
+AreRunsOf P (r ∷ rs) = IsRunOf P r × AreRunsOf P rs
 
-loose_onto : (k j : Loose) (o q : Option ℕ) (b d : ℕ) (ys : List Part) (rs : List (List Part)) (v : Bool) → (v ≡ true → same_origin o q ≡ true)
-    → AllLoose j q ys → AreRunsGiven rs
-    → AreRunsGiven (cond v ((loose k o b ∷ loose j q d ∷ ys) ∷ rs) ((loose k o b ∷ []) ∷ (loose j q d ∷ ys) ∷ rs))
-loose_onto k j o q b d ys rs true e h g =
+loose_onto : (P : ItemTree → Type 0) (k j : Loose) (o q : Option ℕ) (b d : ℕ) (ys : List Part) (rs : List (List Part)) (v : Bool) → (v ≡ true → same_origin o q ≡ true)
+    → AllLoose j q ys → AreRunsOf P rs
+    → AreRunsOf P (cond v ((loose k o b ∷ loose j q d ∷ ys) ∷ rs) ((loose k o b ∷ []) ∷ (loose j q d ∷ ys) ∷ rs))
+loose_onto P k j o q b d ys rs true e h g =
     let is : q ≡ o = sym (same_is o q (e refl)) in ((is, subst (λ (x : Option ℕ). AllLoose k x ys) is (of_kind ys h)), g)
   where
     of_kind : (ys : List Part) → AllLoose j q ys → AllLoose k q ys
     of_kind [] h = tt
     of_kind (loose i p c ∷ ys) h = (h.0, of_kind ys h.1)
     of_kind (node t ∷ ys) h = absurd h
-loose_onto k j o q b d ys rs false e h g = (tt, (h, g))
+loose_onto P k j o q b d ys rs false e h g = (tt, (h, g))
 
 and_right : (v w : Bool) → (v && w) ≡ true → w ≡ true
 and_right true w e = e
 and_right false w e = cc
 
-loose_put : (k : Loose) (o : Option ℕ) (b : ℕ) (rs : List (List Part)) → AreRunsGiven rs → AreRunsGiven (put one_leaf (loose k o b) rs)
-loose_put k o b [] h = (tt, tt)
-loose_put k o b ([] ∷ rs) h = absurd h.0
-loose_put k o b ((loose j q d ∷ ys) ∷ rs) h =
-    loose_onto k j o q b d ys rs (same_loose k j && same_origin o q) (and_right (same_loose k j) (same_origin o q)) h.0 h.1
-loose_put k o b ((node t ∷ ys) ∷ rs) h = (tt, h)
+loose_put : (P : ItemTree → Type 0) (k : Loose) (o : Option ℕ) (b : ℕ) (rs : List (List Part)) → AreRunsOf P rs → AreRunsOf P (put one_leaf (loose k o b) rs)
+loose_put P k o b [] h = (tt, tt)
+loose_put P k o b ([] ∷ rs) h = absurd h.0
+loose_put P k o b ((loose j q d ∷ ys) ∷ rs) h =
+    loose_onto P k j o q b d ys rs (same_loose k j && same_origin o q) (and_right (same_loose k j) (same_origin o q)) h.0 h.1
+loose_put P k o b ((node t ∷ ys) ∷ rs) h = (tt, h)
 
-node_put : (t : ItemTree) (rs : List (List Part)) → IsOwnOrGiven t → AreRunsGiven rs → AreRunsGiven (put one_leaf (node t) rs)
-node_put t [] g h = (g, tt)
-node_put t ([] ∷ rs) g h = absurd h.0
-node_put t ((y ∷ ys) ∷ rs) g h = (g, h)
+node_put : (P : ItemTree → Type 0) (t : ItemTree) (rs : List (List Part)) → P t → AreRunsOf P rs → AreRunsOf P (put one_leaf (node t) rs)
+node_put P t [] g h = (g, tt)
+node_put P t ([] ∷ rs) g h = absurd h.0
+node_put P t ((y ∷ ys) ∷ rs) g h = (g, h)
 
-runs_given : (ps : List Part) → AreOwnOrGiven ps → AreRunsGiven (runs one_leaf ps)
-runs_given [] h = tt
-runs_given (loose k o b ∷ ps) h = loose_put k o b (runs one_leaf ps) (runs_given ps h)
-runs_given (node t ∷ ps) h = node_put t (runs one_leaf ps) h.0 (runs_given ps h.1)
+runs_of : (P : ItemTree → Type 0) (ps : List Part) → EachNode P ps → AreRunsOf P (runs one_leaf ps)
+runs_of P [] h = tt
+runs_of P (loose k o b ∷ ps) h = loose_put P k o b (runs one_leaf ps) (runs_of P ps h)
+runs_of P (node t ∷ ps) h = node_put P t (runs one_leaf ps) h.0 (runs_of P ps h.1)
 
 loose_call : (k : Loose) (j : ℕ) (ps : List Part) → AllLoose k (Some j) ps → AreItemsOf j (held_parts ps)
 loose_call k j [] h = tt
@@ -378,21 +492,30 @@ leaf_given k (Some j) b ps h =
     no_body Text xs = refl
     no_body Sep xs = refl
 
-run_given : (r : List Part) → IsRunGiven r → IsOwnOrGiven (child r)
-run_given [] h = absurd h
-run_given (loose k o b ∷ ps) h = leaf_given k o b ps h
-run_given (node t ∷ []) h = h
-run_given (node t ∷ p ∷ ps) h = absurd h
+run_of : (P : ItemTree → Type 0) → ((t : ItemTree) → IsOwnOrGiven t → P t) → (r : List Part) → IsRunOf P r → P (child r)
+run_of P f [] h = absurd h
+run_of P f (loose k o b ∷ ps) h = f (loose_leaf k (char o b ∷ held_parts ps)) (leaf_given k o b ps h)
+run_of P f (node t ∷ []) h = h
+run_of P f (node t ∷ p ∷ ps) h = absurd h
 
-all_given : (rs : List (List Part)) → AreRunsGiven rs → AllOwnOrGiven (map child rs)
-all_given [] h = tt
-all_given (r ∷ rs) h = (run_given r h.0, all_given rs h.1)
+all_of : (P : ItemTree → Type 0) → ((t : ItemTree) → IsOwnOrGiven t → P t) → (rs : List (List Part)) → AreRunsOf P rs → AllNodes P (map child rs)
+all_of P f [] h = tt
+all_of P f (r ∷ rs) h = (run_of P f r h.0, all_of P f rs h.1)
 
-pub children_given : (ps : List Part) → AreOwnOrGiven ps → AllOwnOrGiven (children ps)
+-- what holds of each node among the parts, and of characters, holds of each child
+pub children_of_each : (P : ItemTree → Type 0) → ((t : ItemTree) → IsOwnOrGiven t → P t) → (ps : List Part) → EachNode P ps → AllNodes P (children ps)
 unfolding children
-children_given ps h = all_given (runs one_leaf ps) (runs_given ps h)
+children_of_each P f ps h = all_of P f (runs one_leaf ps) (runs_of P ps h)
 
-pub given_children_are : (calls : List OuterCall) (o : Option ℕ) (at : ℕ) (p : Option ℕ) (ps : List Part) → AreOwnOrGiven ps
+pub as_pieces : (ps : List Part) → AreOwnOrGiven ps → ArePieceNodes ps
+as_pieces [] h = tt
+as_pieces (loose k o b ∷ ps) h = as_pieces ps h
+as_pieces (node t ∷ ps) h = (inl h.0, as_pieces ps h.1)
+
+pub children_given : (ps : List Part) → ArePieceNodes ps → AllPieceNodes (children ps)
+children_given ps h = children_of_each IsPieceNode (λ t g. inl g) ps h
+
+pub given_children_are : (calls : List OuterCall) (o : Option ℕ) (at : ℕ) (p : Option ℕ) (ps : List Part) → ArePieceNodes ps
     → parted o (first_of (held_by_all (forest (children ps))) None) ≡ true
     → all_placeless (trees (near_runs calls (group_data calls) (near calls (group_data calls) o at p (forest (children ps)))))
     ≡ pieces_in_page calls (call_pieces (children ps))

@@ -24,7 +24,7 @@ use Rattle.wt_part_laws.specs.CallPieces.{AreOwnOrGiven, call_pieces, pieces_in_
 use Rattle.wt_part_laws.proofs.SameWalks.{label_same}
 use Rattle.wt_part_laws.proofs.OwnWalks.{OfPage, behind_free, before_free, last_own, first_own, text_own, own_clean, has_page}
 use Rattle.wt_part_laws.proofs.CallTexts.{children_are}
-use Rattle.wt_part_laws.proofs.CallPieces.{given_children_are}
+use Rattle.wt_part_laws.proofs.CallPieces.{as_pieces, given_children_are}
 
 -- ---- of the page alone
 
@@ -134,7 +134,7 @@ round_given h q ps c r = record {
   no_leaf = r.no_leaf;
   own_opening = r.own_opening;
   own_closing = r.own_closing;
-  parts = given_parts ps r.parts;
+  parts = as_pieces ps (given_parts ps r.parts);
   some = r.some;
 }
 

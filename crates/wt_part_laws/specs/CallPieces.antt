@@ -1,8 +1,9 @@
 -- What calls give among what is the page's own, whatever it is: what one call gives side by side is one group.
 use Rattle.std.specs.Prelude.{◌≡◌, ◌⊎◌, ℕ, ◌==◌, Bool, true, false, Option, Some, None, List, [], ◌∷◌, if◌then◌else◌, slice_get}
+use Rattle.std.specs.List.{list_all, list_any}
 use Rattle.wt_tree.specs.declared.row.Texts.{Texts}
 use Rattle.wt_tree.specs.declared.row.Texts.TheVariants.{Separators, Page, Bordered, OwnCharacter}
-use Rattle.wt_tree.specs.Kinds.{texts_of_kind}
+use Rattle.wt_tree.specs.Kinds.{is_leaf, texts_of_kind}
 use Rattle.wt_tree.specs.Tree.{Tree, tree, Trees, none, more}
 use Rattle.wt_span.specs.Items.{Item, call_of}
 use Rattle.wt_span.specs.Origins.{OuterCall}
@@ -10,11 +11,11 @@ use Rattle.wt_span.specs.Cuts.{source_of_call}
 use Rattle.wt_inline.specs.ItemTree.{ItemTree, inner, ItemTrees, nothing, further, forest, tree_items}
 use Rattle.wt_inline.specs.Parts.{Part, loose, node}
 use Rattle.wt_annotated.specs.Annotated.{group_label, all_unplaced}
-use Rattle.wt_annotated.specs.Clean.{is_body}
+use Rattle.wt_annotated.specs.Clean.{is_body, is_page}
 use Rattle.wt_annotated.specs.GroupData.{group_data}
 use Rattle.wt_annotated.specs.GroupParts.{called}
 use Rattle.wt_annotated.specs.Seams.{first_of}
-use Rattle.wt_annotated.specs.WithoutCalls.{placed}
+use Rattle.wt_annotated.specs.Walked.{walked}
 use Rattle.wt_part_laws.specs.Placeless.{placeless}
 use Rattle.wt_part_laws.specs.Rounded.{IsOwn}
 
@@ -60,7 +61,25 @@ AreOfCall j (t ∷ ts) = IsOfCall j t × AreOfCall j ts
 abbrev pub IsOwnOrGiven : ItemTree → Type 0
 IsOwnOrGiven t = IsOwn t ⊎ ((j : ℕ) × IsOfCall j t)
 
--- characters of any origin, and such nodes
+-- a node of the page round whatever calls give: it is no leaf, and its delimiters are the page's own
+abbrev pub IsRoundNode : ItemTree → Type 0
+IsRoundNode (inner h opening ts closing) =
+    (is_leaf h.kind ≡ false) × (list_all is_page opening ≡ true) × (list_any is_page opening ≡ true) × (list_all is_page closing ≡ true)
+    × (list_any is_page closing ≡ true)
+
+abbrev pub IsPieceNode : ItemTree → Type 0
+IsPieceNode t = IsOwnOrGiven t ⊎ IsRoundNode t
+
+-- characters of any origin, and nodes that are such
+abbrev pub EachNode : (ItemTree → Type 0) → List Part → Type 0
+EachNode P [] = Unit {0}
+EachNode P (loose k o b ∷ ps) = EachNode P ps
+EachNode P (node t ∷ ps) = P t × EachNode P ps
+
+abbrev pub ArePieceNodes : List Part → Type 0
+ArePieceNodes ps = EachNode IsPieceNode ps
+
+-- of which none is round others
 abbrev pub AreOwnOrGiven : List Part → Type 0
 AreOwnOrGiven [] = Unit {0}
 AreOwnOrGiven (loose k o b ∷ ps) = AreOwnOrGiven ps
@@ -68,7 +87,7 @@ AreOwnOrGiven (node t ∷ ps) = IsOwnOrGiven t × AreOwnOrGiven ps
 
 -- ---- side by side
 
--- a node of the page; or what one call gives, a node at least
+-- a node of the page, whatever is in it; or what one call gives, a node at least
 pub data CallPiece : Type 0 where
   own : ItemTree → CallPiece
   given : ℕ → ItemTree → List ItemTree → CallPiece
@@ -95,8 +114,12 @@ abbrev pub group_of_call : List OuterCall → ℕ → ItemTrees → Tree
 group_of_call calls j ts =
     placeless (tree (group_label 0 (source_of_call (slice_get calls j)) (group_data calls (called j ∷ []))) (all_unplaced ts))
 
+-- a node of the page, with the groups of the calls in it
+abbrev pub node_in : List OuterCall → ItemTree → Tree
+node_in calls t = placeless (walked calls (group_data calls) None 0 None t)
+
 abbrev pub piece_in_page : List OuterCall → CallPiece → Tree
-piece_in_page calls (own t) = placeless (placed [] t)
+piece_in_page calls (own t) = node_in calls t
 piece_in_page calls (given j t ts) = group_of_call calls j (further t (forest ts))
 
 abbrev pub pieces_in_page : List OuterCall → List CallPiece → Trees

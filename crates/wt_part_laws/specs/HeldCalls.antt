@@ -17,7 +17,7 @@ use Rattle.wt_part_laws.specs.Placeless.{placeless_label, placeless}
 use Rattle.wt_part_laws.specs.TreeFrames.{TreeFrames, all_filled, spots}
 use Rattle.wt_part_laws.specs.Rounded.{AreClean, AreCleanThere, HaveSameData, body_of, body_label}
 use Rattle.wt_part_laws.specs.CallTexts.{AreOwnOrTexts, all_in_page}
-use Rattle.wt_part_laws.specs.CallPieces.{AreOwnOrGiven, call_pieces, pieces_in_page}
+use Rattle.wt_part_laws.specs.CallPieces.{ArePieceNodes, call_pieces, pieces_in_page}
 
 -- with these calls, without its number and place
 abbrev pub block_in : List OuterCall → ItemTree → Tree
@@ -51,13 +51,13 @@ abbrev pub block_of_texts : List OuterCall → Head → List Item → List Part 
 block_of_texts calls h opening ps closing =
     tree (placeless_label (kept_label false h 0 [] (sources opening) (sources closing))) (all_in_page calls (children ps))
 
--- ---- a block of what calls give, whatever it is, and of what is the page's own
+-- ---- a block of what calls give, whatever it is, and of what is the page's own, also round what they give
 
 pub record IsRoundGiven (h : Head) (opening : List Item) (ps : List Part) (closing : List Item) : Type 0 where
   pub no_leaf : is_leaf h.kind ≡ false
   pub own_opening : list_all is_page opening ≡ true
   pub own_closing : list_all is_page closing ≡ true
-  pub parts : AreOwnOrGiven ps
+  pub parts : ArePieceNodes ps
   pub some : list_any is_page (tree_items (inner h opening (forest (children ps)) closing)) ≡ true
 
 -- its node: what each call gives side by side is a group in it

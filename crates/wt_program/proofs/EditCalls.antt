@@ -27,6 +27,7 @@ use Rattle.wt_inside_laws.specs.HtmlEdits.{IsHtmlEdit}
 use Rattle.wt_inside_laws.specs.ToldEdits.{IsOrdinaryEdit}
 use Rattle.wt_inside_laws.proofs.BesideEdits.{calling_edit_done, html_beside}
 use Rattle.wt_inside_laws.proofs.HtmlEdits.{html_lined}
+use Rattle.wt_inside_laws.proofs.LocalTextEdits.{ordinary_local, calling_local}
 use Rattle.wt_inside_laws.proofs.OrdinaryEdits.{ordinary_done}
 use Rattle.wt_inside_laws.proofs.ToldEdits.{lined_edit_done}
 
@@ -90,6 +91,7 @@ calls_take_beside c ended ends = λ pages page bs rest told h.
       stand = t.stand;
       edit = λ new s e. page_ends c ended (retyped_page pages page new) (beside_answered c pages page bs rest new told h t s e) ends;
       complete = λ new s e sound. page_completes c ended (retyped_page pages page new) (beside_answered c pages page bs rest new told h t s e) ends sound;
+      local = λ input new unsourced e. calling_local pages page bs rest new h t (html_beside pages page input bs rest t.paths new unsourced h e);
     }
 
 -- ---- both
@@ -99,5 +101,6 @@ calls_take_edits c ended ends = record {
   edit = λ pages page new told s e. page_ends c ended (retyped_page pages page new) (ordinary_answered c pages page new told s e) ends;
   complete = λ pages page new told s e no.
       page_completes c ended (retyped_page pages page new) (ordinary_answered c pages page new told s e) ends no;
+  local = ordinary_local;
   beside = calls_take_beside c ended ends;
 }

@@ -1,5 +1,5 @@
 -- Calls of the program that send a text edit of a page, and how they end.
-use Rattle.std.specs.Prelude.{◌≡◌, ◌⊎◌, ℕ, List, Some}
+use Rattle.std.specs.Prelude.{◌≡◌, ◌⊎◌, ℕ, List, Option, Some}
 use Rattle.wt_span.specs.Items.{Item}
 use Rattle.wt_devices.specs.Device.{Pages}
 use Rattle.wt_tree.specs.Tree.{Tree}
@@ -23,6 +23,7 @@ use Rattle.wt_program.specs.AnyCalls.{SendsFor}
 use Rattle.wt_program.specs.Calls.{WroteNewPage}
 use Rattle.wt_inside_laws.specs.BesideEdits.{IsBesideHtml}
 use Rattle.wt_inside_laws.specs.HtmlEdits.{IsHtmlEdit}
+use Rattle.wt_inside_laws.specs.LocalTextEdits.{IsLocalTextEdit}
 use Rattle.wt_inside_laws.specs.ToldEdits.{IsOrdinaryEdit}
 
 -- the page with the insides of its marked blocks replaced by what was sent for them, as it is spelled
@@ -55,6 +56,7 @@ pub record TakesBesideThere (c : Call) (ended : ℕ) (pages : Pages) (page : Lis
       → WroteNewPage c ended (retyped_page pages page new) ⊎ IsFaultOrNoMemory ended
   pub complete : (new : Tree) → (s : SendsFor c Edit page (retyped_page pages page new) (λ b. new)) → IsBesideHtml pages page s.input paths new s.unsourced
       → NothingFailed c → WroteNewPage c ended (retyped_page pages page new) ⊎ (ended ≡ code status.NoMemory)
+  pub local : (input : List ℕ) (new : Tree) (unsourced : Option ℕ) → IsBesideHtml pages page input paths new unsourced → IsLocalTextEdit pages page new
 
 abbrev pub TakesBesideEdits : Call → ℕ → Type 0
 TakesBesideEdits c ended =
@@ -64,6 +66,7 @@ TakesBesideEdits c ended =
 -- Where a call sends HTML that is a text edit of a page, and the marked blocks are ordinary (`IsOrdinaryEdit`),
 -- * `edit` has written the page with the insides of these replaced; or a device failed, or memory ran out;
 -- * where no device failed, only want of memory may come in its place;
+-- * the edit is local: what the page means outside of these blocks stays, moved by the bytes that were added before it;
 -- * so it is where the marked blocks may hold calls, and the lines of the expanded page tell them.
 pub record TakesTextEdits (c : Call) (ended : ℕ) : Type 0 where
   pub edit : (pages : Pages) (page : List ℕ) (new : Tree) → c.folder.pages_before ≡ Some pages
@@ -72,4 +75,5 @@ pub record TakesTextEdits (c : Call) (ended : ℕ) : Type 0 where
   pub complete : (pages : Pages) (page : List ℕ) (new : Tree) → c.folder.pages_before ≡ Some pages
       → (s : SendsFor c Edit page (retyped_page pages page new) (λ b. new)) → IsOrdinaryEdit pages page s.input new s.unsourced → NothingFailed c
       → WroteNewPage c ended (retyped_page pages page new) ⊎ (ended ≡ code status.NoMemory)
+  pub local : (pages : Pages) (page input : List ℕ) (new : Tree) (unsourced : Option ℕ) → IsOrdinaryEdit pages page input new unsourced → IsLocalTextEdit pages page new
   pub beside : TakesBesideEdits c ended

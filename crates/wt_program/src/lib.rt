@@ -70,7 +70,7 @@ pub fn run<S: Source, F: Folder, W: Sink, E: Sink>(
     // `wt_inside_laws`), `edit` has written the page with the insides of these replaced by what was sent, as it is spelled,
     // and no line; or a device failed, or memory ran out. So it is where they may hold calls, if the lines of the expanded
     // page tell them (`IsLinedCalling`): each calls nothing and is ordinary, or texts may be typed beside the calls in it
-    // (`IsBesideBlock`).
+    // (`IsBesideBlock`). Nothing but the marked blocks is another one in the new page (`IsLocalTextEdit`).
     ensures takes_text_edits { TakesTextEdits (call words.now (read_from S.Source input.old input.new)
         (fetched_from F.Folder folder.old folder.new) (written_to W.Sink out.old out.new)
         (written_to E.Sink err.old err.new)) result }

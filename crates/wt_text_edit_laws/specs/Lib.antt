@@ -26,4 +26,5 @@ pub mod BlockEdits
 pub mod UnmarkedBlocks
 pub mod OwnNodes
 pub mod PageCuts
+pub mod Unclosed
 pub mod BodyParagraphs

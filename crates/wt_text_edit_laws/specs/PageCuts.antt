@@ -109,6 +109,11 @@ AreCuts (s ∷ ss) behind =
     (c : IsSpotCut s (page_items (spots_source (s ∷ ss) behind))) × AreEnded s.before × EndsClosed (source_of s.block s.text) (spots_source ss behind)
     × AreFurtherCuts ss behind c.rest
 
+-- so each of these: asked is only the one that ends the page
+abbrev pub EndClosed : List BlockSpot → List ℕ → Type 0
+EndClosed [] behind = Unit {0}
+EndClosed (s ∷ ss) behind = EndsClosed (source_of s.block s.text) (spots_source ss behind) × EndClosed ss behind
+
 abbrev pub AreFree : List BlockSpot → Type 0
 AreFree [] = Unit {0}
 AreFree (s ∷ ss) = IsFreeBlock s.block s.text × AreFree ss

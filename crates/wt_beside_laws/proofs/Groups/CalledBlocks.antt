@@ -19,6 +19,7 @@ use Rattle.wt_context.specs.Line.{line_parts}
 use Rattle.wt_annotated.specs.Clean.{is_no_call, is_page}
 use Rattle.wt_part_laws.specs.CallPieces.{AreOwnOrGiven}
 use Rattle.wt_part_laws.specs.HeldCalls.{block_in, HoldsItsCalls, IsRoundGiven, block_of_pieces}
+use Rattle.wt_part_laws.proofs.CallPieces.{as_pieces}
 use Rattle.wt_part_laws.proofs.HeldBlocks.{given_hold, given_block_is}
 use Rattle.wt_part_laws.proofs.OwnWalks.{has_page}
 use Rattle.wt_text_edit_laws.specs.LonePages.{page_chars}
@@ -131,7 +132,7 @@ called_round s signs owns h =
       no_leaf = refl;
       own_opening = refl;
       own_closing = refl;
-      parts = parts_own s [] signs owns h.own;
+      parts = as_pieces ps (parts_own s [] signs owns h.own);
       some = ap (list_any is_page) (para_items ps) ∙ h.some;
     }
 

@@ -17,7 +17,8 @@ use Rattle.wt_inline.specs.ItemTree.{plain, inner, forest, held_by_all}
 use Rattle.wt_inline.specs.Parts.{Part, parts, children}
 use Rattle.wt_context.specs.Line.{line_parts}
 use Rattle.wt_annotated.specs.Clean.{is_page}
-use Rattle.wt_part_laws.specs.CallPieces.{AreOwnOrGiven}
+use Rattle.wt_part_laws.specs.CallPieces.{ArePieceNodes}
+use Rattle.wt_part_laws.proofs.CallPieces.{as_pieces}
 use Rattle.wt_part_laws.specs.HeldCalls.{block_in, HoldsItsCalls, IsRoundGiven, block_of_pieces}
 use Rattle.wt_part_laws.proofs.HeldBlocks.{given_hold, given_block_is}
 use Rattle.wt_text_edit_laws.specs.LonePages.{page_chars}
@@ -159,7 +160,7 @@ closing_page sides =
     both_of_page (page_chars (sides.trail ++ equals sides.level)) (page_items sides.rest) (chars_of_page (sides.trail ++ equals sides.level)) (items_of_page sides.rest)
 
 -- whatever texts and nodes are between them
-pub round_given : (ps : List Part) (sides : Sides) → AreOwnOrGiven ps → AreSides sides
+pub round_given : (ps : List Part) (sides : Sides) → ArePieceNodes ps → AreSides sides
     → IsRoundGiven (plain (kind.Heading sides.level)) (page_chars (opening sides)) ps (closing_items sides)
 round_given ps sides h a =
     let i : List Item = held_by_all (forest (children ps)) in
@@ -174,7 +175,8 @@ round_given ps sides h a =
 
 heading_given : (s : Setting) (signs : List ContentSign) (owns : List (List Item)) (sides : Sides) → IsCalledHeading s signs owns → AreSides sides
     → IsRoundGiven (plain (kind.Heading sides.level)) (page_chars (opening sides)) (parts_with s [] signs owns) (closing_items sides)
-heading_given s signs owns sides h a = round_given (parts_with s [] signs owns) sides (parts_own s [] signs owns h.own) a
+heading_given s signs owns sides h a =
+    let ps : List Part = parts_with s [] signs owns in round_given ps sides (as_pieces ps (parts_own s [] signs owns h.own)) a
 
 pub heading_holds : (s : Setting) (signs : List ContentSign) (owns : List (List Item)) (sides : Sides) → IsCalledHeading s signs owns → AreSides sides
     → HoldsItsCalls (heading_round sides (items_with s [] signs owns))

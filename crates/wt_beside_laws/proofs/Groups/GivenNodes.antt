@@ -1,5 +1,5 @@
 -- What a call gives shows in its group what it would show as the page's own, and so do all nodes of a block, one by one.
-use Rattle.std.proofs.Common.{◌≡◌, ℕ, Bool, true, false, Option, List, [], ◌∷◌, ◌++◌, map, refl, sym, ap, ap₂, ◌∙◌, subst, append-nil}
+use Rattle.std.proofs.Common.{◌≡◌, ◌⊎◌, inl, inr, ℕ, ◌==◌, Bool, true, false, Option, None, Some, List, [], ◌∷◌, ◌++◌, map, refl, sym, ap, ap₂, ◌∙◌, subst, append-nil}
 use Rattle.std.specs.Prelude.{if◌then◌else◌}
 use Rattle.wt_tree.specs.declared.row.Texts.{Texts}
 use Rattle.wt_tree.specs.declared.row.Texts.TheVariants.{Separators, Page, Bordered, OwnCharacter}
@@ -19,11 +19,13 @@ use Rattle.wt_annotated.specs.Annotated.{no_place, unplaced, all_unplaced}
 use Rattle.wt_annotated.specs.CutTexts.{cut_as, cut_texts, all_cut_texts}
 use Rattle.wt_annotated.specs.Labels.{label_at}
 use Rattle.wt_annotated.specs.Numbering.{with_numbers}
+use Rattle.wt_annotated.specs.Seams.{first_of}
 use Rattle.wt_annotated.specs.WithoutCalls.{inside_by, placed, all_placed}
 use Rattle.wt_part_laws.specs.Placeless.{placeless_label, placeless, all_placeless}
 use Rattle.wt_part_laws.specs.Standing.{standing}
-use Rattle.wt_part_laws.specs.CallPieces.{AreItemsOf, is_cut_anew, IsUncut, AreUncut, IsOfCall, AreOfCall, AreOwnOrGiven, CallPiece, own, given, call_pieces, group_of_call, pieces_in_page}
-use Rattle.wt_part_laws.proofs.CallPieces.{trees_of, all_trees, ArePieces, all_pieces, children_given}
+use Rattle.wt_part_laws.specs.CallPieces.{AreItemsOf, is_cut_anew, IsUncut, AreUncut, IsOfCall, AreOfCall, IsOwnOrGiven, IsRoundNode, IsPieceNode, EachNode, AreOwnOrGiven, CallPiece, own, given, given_before, piece_before, call_pieces, group_of_call, node_in, pieces_in_page}
+use Rattle.wt_part_laws.specs.Rounded.{IsOwn}
+use Rattle.wt_part_laws.proofs.CallPieces.{own_node_in, trees_of, all_trees, ArePieces, AllNodes, AllPieceNodes, all_pieces, first_of_call, children_of_each}
 use Rattle.wt_part_laws.proofs.GroupsStay.{numbers_gone}
 use Rattle.wt_part_laws.proofs.Placeless.{shown_placeless, all_shown_placeless}
 use Rattle.wt_part_laws.proofs.Recuts.{texts_same}
@@ -119,13 +121,61 @@ own_shows t rest =
     ∙ ap (λ (u : Tree). plain_before u rest) (sym (texts_same (with_numbers 0 (placed [] t))))
     ∙ shown_placeless (standing 0 [] t) rest
 
-pieces_shown : (calls : List OuterCall) (ps : List CallPiece) (rest : Plains) → ArePieces ps
+-- so it does where calls give something in it
+abbrev pub ShowsAlike : List OuterCall → ItemTree → Type 0
+ShowsAlike calls t = (rest : Plains) → plain_before (cut_texts (node_in calls t)) rest ≡ plain_before (standing 0 [] t) rest
+
+own_alike : (calls : List OuterCall) (t : ItemTree) → IsOwn t → ShowsAlike calls t
+own_alike calls t h = λ rest. ap (λ (u : Tree). plain_before (cut_texts u) rest) (own_node_in calls t h) ∙ own_shows t rest
+
+-- a node of the page or of a call, or one round such of which this is said
+abbrev pub IsShownAlike : List OuterCall → ItemTree → Type 0
+IsShownAlike calls t = IsOwnOrGiven t ⊎ (IsRoundNode t × ShowsAlike calls t)
+
+pub as_piece : (calls : List OuterCall) (t : ItemTree) → IsShownAlike calls t → IsPieceNode t
+as_piece calls t (inl g) = inl g
+as_piece calls t (inr r) = inr r.0
+
+all_as_pieces : (calls : List OuterCall) (ts : List ItemTree) → AllNodes (IsShownAlike calls) ts → AllPieceNodes ts
+all_as_pieces calls [] h = tt
+all_as_pieces calls (t ∷ ts) h = (as_piece calls t h.0, all_as_pieces calls ts h.1)
+
+-- so each piece that is the page's
+abbrev AllShowAlike : List OuterCall → List CallPiece → Type 0
+AllShowAlike calls [] = Unit {0}
+AllShowAlike calls (own t ∷ ps) = ShowsAlike calls t × AllShowAlike calls ps
+AllShowAlike calls (given j t ts ∷ ps) = AllShowAlike calls ps
+
+given_alike : (calls : List OuterCall) (j : ℕ) (t : ItemTree) (ps : List CallPiece) → AllShowAlike calls ps → AllShowAlike calls (given_before j t ps)
+given_alike calls j t [] h = tt
+given_alike calls j t (own u ∷ ps) h = h
+given_alike calls j t (given k u us ∷ ps) h = by (j == k)
+  where
+    by : (v : Bool) → AllShowAlike calls (if v then given j t (u ∷ us) ∷ ps else given j t [] ∷ given k u us ∷ ps)
+    by true = h
+    by false = h
+
+piece_alike : (calls : List OuterCall) (c : Option ℕ) (t : ItemTree) (ps : List CallPiece) → (c ≡ None → ShowsAlike calls t) → AllShowAlike calls ps
+    → AllShowAlike calls (piece_before c t ps)
+piece_alike calls None t ps f h = (f refl, h)
+piece_alike calls (Some j) t ps f h = given_alike calls j t ps h
+
+node_alike : (calls : List OuterCall) (t : ItemTree) → IsShownAlike calls t → first_of (tree_items t) None ≡ None → ShowsAlike calls t
+node_alike calls t (inl (inl n)) e = own_alike calls t n
+node_alike calls t (inl (inr g)) e = let no : Some g.0 ≡ None = sym (first_of_call g.0 t None g.1) ∙ e in absurd (cc)
+node_alike calls t (inr r) e = r.1
+
+all_alike : (calls : List OuterCall) (ts : List ItemTree) → AllNodes (IsShownAlike calls) ts → AllShowAlike calls (call_pieces ts)
+all_alike calls [] h = tt
+all_alike calls (t ∷ ts) h = piece_alike calls (first_of (tree_items t) None) t (call_pieces ts) (λ e. node_alike calls t h.0 e) (all_alike calls ts h.1)
+
+pieces_shown : (calls : List OuterCall) (ps : List CallPiece) (rest : Plains) → ArePieces ps → AllShowAlike calls ps
     → plains_before (all_cut_texts (pieces_in_page calls ps)) rest ≡ trees_shown (trees_of ps) rest
-pieces_shown calls [] rest h = refl
-pieces_shown calls (own t ∷ ps) rest h =
-    ap (plain_before (cut_texts (placeless (placed [] t)))) (pieces_shown calls ps rest h.2) ∙ own_shows t (trees_shown (trees_of ps) rest)
-pieces_shown calls (given j t ts ∷ ps) rest h =
-    ap (plain_before (cut_texts (group_of_call calls j (further t (forest ts))))) (pieces_shown calls ps rest h.2)
+pieces_shown calls [] rest h a = refl
+pieces_shown calls (own t ∷ ps) rest h a =
+    ap (plain_before (cut_texts (node_in calls t))) (pieces_shown calls ps rest h.2 a.1) ∙ a.0 (trees_shown (trees_of ps) rest)
+pieces_shown calls (given j t ts ∷ ps) rest h a =
+    ap (plain_before (cut_texts (group_of_call calls j (further t (forest ts))))) (pieces_shown calls ps rest h.2 a)
     ∙ group_shows calls j (t ∷ ts) (trees_shown (trees_of ps) rest) h.0
     ∙ sym (trees_append (t ∷ ts) (trees_of ps) rest)
 
@@ -143,13 +193,23 @@ pub children_shown : (ps : List Part) (rest : Plains) → AreTexts ps → trees_
 unfolding children
 children_shown ps rest t = runs_shown (runs one_leaf ps) ps rest (runs_are one_leaf ps) t
 
-pub children_in_page : (calls : List OuterCall) (ps : List Part) (rest : Plains) → AreOwnOrGiven ps → AreTexts ps
+pub shown_in_page : (calls : List OuterCall) (ps : List Part) (rest : Plains) → EachNode (IsShownAlike calls) ps → AreTexts ps
     → plains_before (all_cut_texts (pieces_in_page calls (call_pieces (children ps)))) rest ≡ one_by_one ps rest
-children_in_page calls ps rest h t =
+shown_in_page calls ps rest h t =
     let ts : List ItemTree = children ps in
-    pieces_shown calls (call_pieces ts) rest (all_pieces ts (children_given ps h))
+    let all : AllNodes (IsShownAlike calls) ts = children_of_each (IsShownAlike calls) (λ u g. inl g) ps h in
+    pieces_shown calls (call_pieces ts) rest (all_pieces ts (all_as_pieces calls ts all)) (all_alike calls ts all)
     ∙ ap (λ (us : List ItemTree). trees_shown us rest) (all_trees ts)
     ∙ children_shown ps rest t
+
+pub as_shown : (calls : List OuterCall) (ps : List Part) → AreOwnOrGiven ps → EachNode (IsShownAlike calls) ps
+as_shown calls [] h = tt
+as_shown calls (loose k o b ∷ ps) h = as_shown calls ps h
+as_shown calls (node t ∷ ps) h = (inl h.0, as_shown calls ps h.1)
+
+pub children_in_page : (calls : List OuterCall) (ps : List Part) (rest : Plains) → AreOwnOrGiven ps → AreTexts ps
+    → plains_before (all_cut_texts (pieces_in_page calls (call_pieces (children ps)))) rest ≡ one_by_one ps rest
+children_in_page calls ps rest h t = shown_in_page calls ps rest (as_shown calls ps h) t
 
 -- ---- the nodes of characters and nodes of one call
 

@@ -99,7 +99,7 @@ remarks_full zero (c ∷ cs) e = absurd (omega (arith, e))
 remarks_full (suc n) [] e = absurd (omega (arith, e))
 remarks_full (suc n) (c ∷ cs) e = let r = remarks_full n cs (omega (arith, e)) in omega (arith, r)
 
-remarks_all : (bs : List ℕ) → comment_len bs ≡ Some (length bs) → remarks_len 0 bs ≡ length bs
+pub remarks_all : (bs : List ℕ) → comment_len bs ≡ Some (length bs) → remarks_len 0 bs ≡ length bs
 remarks_all [] e = refl
 remarks_all (b ∷ cs) e =
     let r = remarks_full (length (b ∷ cs) - 1) cs (omega arith) in

@@ -87,7 +87,7 @@ end_break b e = elim (either (b == 62) (b == 59) e) [
   | inr i ↦ ap is_break (eqb-true b 59 i)
 ]
 
-lexeme_break : (bs : List ℕ) (j : ℕ) → LexemeEnds bs (suc j) → is_break (get_or bs j 0) ≡ false
+pub lexeme_break : (bs : List ℕ) (j : ℕ) → LexemeEnds bs (suc j) → is_break (get_or bs j 0) ≡ false
 lexeme_break bs j e =
     let z : suc j - 1 ≡ j = omega arith in
     end_break (get_or bs j 0) (ap (λ (i : ℕ). is_lexeme_end (get_or bs i 0)) (sym z) ∙ e.last)
@@ -99,7 +99,7 @@ sign_break b e = by (is_break b) refl
     by true i = let no : is_sign_byte 10 ≡ true = subst (λ (k : ℕ). is_sign_byte k ≡ true) (eqb-true b 10 i) e in absurd (cc)
     by false i = refl
 
-signs_break : (j : ℕ) (bs : List ℕ) → j < length bs → AreSigns (take (suc j) bs) → is_break (get_or bs j 0) ≡ false
+pub signs_break : (j : ℕ) (bs : List ℕ) → j < length bs → AreSigns (take (suc j) bs) → is_break (get_or bs j 0) ≡ false
 signs_break j [] lt s = absurd (omega (arith, lt))
 signs_break zero (b ∷ []) lt s = sign_break b s.0
 signs_break zero (b ∷ c ∷ cs) lt s = sign_break b s.0
@@ -131,11 +131,11 @@ abbrev pub NoneAfter : Bool → ℕ → List ℕ → Type 0
 NoneAfter a n q = AtStarts (lexer Page) (λ v here. v ≡ false) a n q
 
 -- the last of so many bytes is no line break; of none, none stands before
-abbrev Flag : Bool → ℕ → List ℕ → Type 0
+abbrev pub Flag : Bool → ℕ → List ℕ → Type 0
 Flag a zero q = a ≡ false
 Flag a (suc n) q = is_break (get_or q n 0) ≡ false
 
-flag_behind : (b n : ℕ) (q : List ℕ) → is_break (get_or (b ∷ q) n 0) ≡ false → Flag (is_break b) n q
+pub flag_behind : (b n : ℕ) (q : List ℕ) → is_break (get_or (b ∷ q) n 0) ≡ false → Flag (is_break b) n q
 flag_behind b zero q e = e
 flag_behind b (suc n) q e = e
 

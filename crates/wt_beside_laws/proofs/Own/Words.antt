@@ -64,10 +64,10 @@ comment_ends bs h = by (begins (codes "<!--") bs) refl h
 
 -- ---- tags
 
-tag_end : (bs : List ℕ) (t : Tag) → TagFits bs t → EndsTag bs t.len
+pub tag_end : (bs : List ℕ) (t : Tag) → TagFits bs t → EndsTag bs t.len
 tag_end bs t f = record { some = f.some; within = f.within; last = f.last }
 
-inside_end : (bs : List ℕ) (t : Tag) → TagFits bs t → OptEnds bs (with_inside t bs)
+pub inside_end : (bs : List ℕ) (t : Tag) → TagFits bs t → OptEnds bs (with_inside t bs)
 unfolding with_inside
 inside_end bs t f = by t.alone (to_closing t.name (drop t.len bs)) (closing_ends t.name (drop t.len bs))
   where
@@ -82,7 +82,7 @@ inside_end bs t f = by t.alone (to_closing t.name (drop t.len bs)) (closing_ends
           last = ap (λ (i : ℕ). get_or bs i 0) z ∙ sym (get_or-drop t.len bs (n - 1) 0) ∙ e.last;
         }
 
-raw_end : (bs : List ℕ) → OptEnds bs (raw_len bs)
+pub raw_end : (bs : List ℕ) → OptEnds bs (raw_len bs)
 unfolding raw_len
 raw_end bs = by (opening_tag bs) (opening_fits bs)
   where
@@ -230,7 +230,7 @@ if_reference : (bs : List ℕ) (t : Bool) (o : Option (ℕ × ℕ)) → OptRefer
 if_reference bs true o h = h
 if_reference bs false o h = tt
 
-reference_ends : (bs : List ℕ) → OptReference bs (entity_at bs)
+pub reference_ends : (bs : List ℕ) → OptReference bs (entity_at bs)
 unfolding entity_at named_entity decimal_entity hex_entity
 reference_ends bs =
     or_reference bs (named_in entity_names bs) _ (named_ends entity_names bs names_end)
@@ -238,7 +238,7 @@ reference_ends bs =
     (if_reference bs (begins (codes "&#") bs) (numbered 2 7 10 is_ascii_digit bs) (number_ends 2 7 10 is_ascii_digit bs))
     (if_reference bs (begins (codes "&#x") bs || begins (codes "&#X") bs) (numbered 3 6 16 is_ascii_hexdigit bs) (number_ends 3 6 16 is_ascii_hexdigit bs)))
 
-reference_word : (bs : List ℕ) (o : Option (ℕ × ℕ)) → OptReference bs o → OptWordEnds bs (entity_word o)
+pub reference_word : (bs : List ℕ) (o : Option (ℕ × ℕ)) → OptReference bs o → OptWordEnds bs (entity_word o)
 reference_word bs None h = tt
 reference_word bs (Some e) h = h
 
@@ -248,7 +248,7 @@ if_sign : (bs : List ℕ) (t : Bool) (kind : LexKind) (n : ℕ) → WordEnds kin
 if_sign bs true kind n h = h
 if_sign bs false kind n h = tt
 
-sign_ends : (bs : List ℕ) → OptWordEnds bs (sign_word bs)
+pub sign_ends : (bs : List ℕ) → OptWordEnds bs (sign_word bs)
 unfolding sign_word
 sign_ends bs =
     or_ends bs (run_at lex.Opens 123 bs) _ (if_sign bs (nat_lt 1 (prefix_len (λ b. b == 123) bs)) lex.Opens (prefix_len (λ b. b == 123) bs) tt)

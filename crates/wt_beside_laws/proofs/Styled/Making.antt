@@ -43,7 +43,7 @@ use Rattle.wt_beside_laws.proofs.Made.OldBlocks.{with_parts, parts_are, face_of,
 use Rattle.wt_beside_laws.proofs.Styled.Delimiters.{no_delimiter}
 use Rattle.wt_beside_laws.proofs.Styled.OwnNests.{AreRight, own_nests}
 use Rattle.wt_beside_laws.proofs.Styled.SentNests.{sent_nest}
-use Rattle.wt_beside_laws.proofs.Styled.SentPaired.{nodes_among}
+use Rattle.wt_beside_laws.proofs.Styled.SentKept.{nodes_among}
 use Rattle.wt_beside_laws.proofs.Styled.UrlsApart.{urls_apart}
 use Rattle.wt_beside_laws.proofs.Styled.OldStyled.{styled_of_lines}
 use Rattle.wt_beside_laws.proofs.Styled.OwnStyled.{AreKnown, own_styled}

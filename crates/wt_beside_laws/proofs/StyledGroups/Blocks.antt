@@ -1,5 +1,5 @@
 -- A paragraph of a content with styles among whose signs are calls holds these: each is a group between items of the page.
-use Rattle.std.proofs.Common.{◌≡◌, inl, inr, Bool, true, false, List, [], ◌∷◌, ◌++◌, ap, append-nil, refl, subst, sym, ◌∙◌}
+use Rattle.std.proofs.Common.{◌≡◌, inl, inr, Bool, true, false, not, List, [], ◌∷◌, ◌++◌, ap, append-nil, refl, subst, sym, ◌||◌, ◌∙◌}
 use Rattle.std.specs.List.{list_any}
 use Rattle.wt_span.specs.Items.{Item}
 use Rattle.wt_span.specs.Origins.{OuterCall}
@@ -8,109 +8,121 @@ use Rattle.wt_guards.specs.Content.{ContentSign, Thing, is_group, letter, thing}
 use Rattle.wt_guards.specs.Guards.{Setting, is_guarded}
 use Rattle.wt_guards.specs.Letters.{is_escaped}
 use Rattle.wt_lines.specs.Lines.{lines}
-use Rattle.wt_inline.specs.ItemTree.{forest, held_by_all, plain, tree_items}
-use Rattle.wt_inline.specs.Parts.{Part, children, held_parts, loose, node, parts}
+use Rattle.wt_inline.specs.ItemTree.{ItemTree, plain, tree_items}
+use Rattle.wt_inline.specs.Parts.{Part, held_parts, loose, node, parts}
 use Rattle.wt_inline.specs.declared.loose.Loose.TheVariants.{Sep, Text}
+use Rattle.wt_context.proofs.PlainNodes.{AreTexts, text_parts, texts_both}
 use Rattle.wt_context.specs.Line.{line_parts}
 use Rattle.wt_annotated.specs.Clean.{is_page}
+use Rattle.wt_part_laws.proofs.CallPieces.{as_pieces}
 use Rattle.wt_part_laws.proofs.HeldBlocks.{given_block_is, given_hold}
-use Rattle.wt_part_laws.specs.CallPieces.{AreOwnOrGiven}
+use Rattle.wt_part_laws.specs.CallPieces.{AreOwnOrGiven, ArePieceNodes, EachNode, IsPieceNode, IsRoundNode}
 use Rattle.wt_part_laws.specs.HeldCalls.{HoldsItsCalls, IsRoundGiven, block_in, block_of_pieces}
-use Rattle.wt_part_laws.specs.Rounded.{IsOwn}
-use Rattle.wt_text_edit_laws.proofs.Texts.TypedShown.{both_of_page}
 use Rattle.wt_text_edit_laws.specs.ParagraphParts.{joined_parts, para_with}
-use Rattle.wt_beside_laws.proofs.Groups.CalledBlocks.{given_both, guard_own, held_left, held_right, letter_own, page_given, para_items, some_guard, some_letter, some_of_page, some_page}
-use Rattle.wt_beside_laws.proofs.Made.Items.{PartsHave, children_have, guard_has, have_both, letter_has}
+use Rattle.wt_beside_laws.proofs.Groups.CalledBlocks.{guard_own, held_left, held_right, letter_own, page_given, para_items, some_guard, some_letter, some_of_page, some_page}
+use Rattle.wt_beside_laws.proofs.Groups.CalledShown.{given_texts}
+use Rattle.wt_beside_laws.proofs.LineShown.{guard_texts}
+use Rattle.wt_beside_laws.proofs.StyledGroups.Lines.{given_behind, past_mark}
 use Rattle.wt_beside_laws.proofs.StyledGroups.Paragraphs.{styled_called_parts}
-use Rattle.wt_beside_laws.specs.Called.{ArePageParts, HasUncalled, items_with}
+use Rattle.wt_beside_laws.specs.Called.{AreGiven, HasUncalled, items_with}
 use Rattle.wt_beside_laws.specs.Content.{guard_items, letter_items}
-use Rattle.wt_beside_laws.specs.Nests.{marks, style_tree}
-use Rattle.wt_beside_laws.specs.Styled.{StyledContent, delimiter, finished, sign, signs_before, signs_in, signs_past, styled}
+use Rattle.wt_beside_laws.specs.Nests.{style_tree}
+use Rattle.wt_beside_laws.specs.Styled.{AreNested, StyledContent, delimiter, finished, sign, signs_before, signs_in, signs_past, styled}
 use Rattle.wt_beside_laws.specs.StyledCalls.{AreOwnAt, IsOwnAt, IsStyledCalled, owns_left, owns_past, styled_with}
 
--- ---- what is of the page
+-- ---- its parts are texts and nodes
 
-page_have : (ps : List Part) → ArePageParts ps → PartsHave ps
-page_have [] h = tt
-page_have (loose Text o b ∷ ps) h = (h.0, page_have ps h.1)
-page_have (loose Sep o b ∷ ps) h = absurd h
-page_have (node t ∷ ps) h = let own = h.0 in ((own.has_items, own.of_page), page_have ps h.1)
-
--- ---- a style is of the page
-
-pub style_own : (kind : Bool) (ps : List Part) → PartsHave ps → IsOwn (style_tree kind ps)
-style_own true ps h =
-    let r = children_have ps h in
-    let held : List Item = held_by_all (forest (children ps)) in
-    record { of_page = both_of_page (marks true) (held ++ marks true) refl (both_of_page held (marks true) r.1 refl); has_items = (refl, r.0) }
-style_own false ps h =
-    let r = children_have ps h in
-    let held : List Item = held_by_all (forest (children ps)) in
-    record { of_page = both_of_page (marks false) (held ++ marks false) refl (both_of_page held (marks false) r.1 refl); has_items = (refl, r.0) }
-
--- where all in it is
-pub within_have : (s : Setting) (before : List ContentSign) (t : StyledContent) (after : List ContentSign) (owns : List (List Item)) → AreOwnAt true t owns
-    → PartsHave (styled_with false s before t after owns)
-within_have s before finished after owns h = guard_has (is_guarded s before after)
-within_have s before (sign (letter c) t) after owns h =
+pub styled_texts : (s : Setting) (bold italic : Bool) (before : List ContentSign) (t : StyledContent) (after : List ContentSign) (owns : List (List Item))
+    → AreGiven (signs_before t after) owns → AreNested bold italic t → AreTexts (styled_with false s before t after owns)
+styled_texts s bold italic before finished after owns h k = guard_texts (is_guarded s before after)
+styled_texts s bold italic before (sign (letter c) t) after owns h k =
     let signs : List ContentSign = signs_before t after in
-    let e : Bool = is_escaped s.within s.place before c signs in
+    let own : List Item = letter_items (is_escaped s.within s.place before c signs) c in
     let more : List Part = styled_with false s (letter c ∷ before) t after owns in
-    have_both (parts Text (guard_items (is_guarded s before (letter c ∷ signs)))) (parts Text (letter_items e c) ++ more) (guard_has (is_guarded s before (letter c ∷ signs)))
-    (have_both (parts Text (letter_items e c)) more (letter_has e c) (within_have s (letter c ∷ before) t after owns h))
-within_have s before (sign (thing x) t) after [] h = absurd h
-within_have s before (sign (thing x) t) after (own ∷ owns) h =
+    texts_both (parts Text (guard_items (is_guarded s before (letter c ∷ signs)))) (parts Text own ++ more) (guard_texts (is_guarded s before (letter c ∷ signs)))
+    (texts_both (parts Text own) more (text_parts own) (styled_texts s bold italic (letter c ∷ before) t after owns h k.1))
+styled_texts s bold italic before (sign (thing x) t) after [] h k = absurd h
+styled_texts s bold italic before (sign (thing x) t) after (own ∷ owns) h k =
     let signs : List ContentSign = signs_before t after in
     let more : List Part = styled_with false s (thing x ∷ before) t after owns in
-    have_both (parts Text (guard_items (is_guarded s before (thing x ∷ signs)))) (line_parts own ++ more) (guard_has (is_guarded s before (thing x ∷ signs)))
-    (have_both (line_parts own) more (page_have (line_parts own) (some_of_page (line_parts own) h.0)) (within_have s (thing x ∷ before) t after owns h.1))
-within_have s before (styled kind opening closing inside t) after owns h =
+    texts_both (parts Text (guard_items (is_guarded s before (thing x ∷ signs)))) (line_parts own ++ more) (guard_texts (is_guarded s before (thing x ∷ signs)))
+    (texts_both (line_parts own) more (given_texts x own h.0 k.0) (styled_texts s bold italic (thing x ∷ before) t after owns h.1 k.1))
+styled_texts s bold italic before (styled kind opening closing inside t) after owns h k =
     let first : List ContentSign = delimiter kind opening ∷ before in
     let last : List ContentSign = delimiter kind closing ∷ signs_past inside first in
-    let closes : List ContentSign = delimiter kind closing ∷ signs_before t after in
+    let signs : List ContentSign = signs_before t after in
+    let closes : List ContentSign = delimiter kind closing ∷ signs in
     let held : List ContentSign = signs_before inside closes in
     let inner : List (List Item) = owns_left owns in
-    let outer : List (List Item) = owns_left (owns_past inside inner) in
-    let ps : List Part = styled_with false s first inside closes inner in
-    let own = style_own kind ps (within_have s first inside closes inner h.0) in
-    have_both (parts Text (guard_items (is_guarded s before (delimiter kind opening ∷ held)))) (node (style_tree kind ps) ∷ styled_with false s last t after outer)
-    (guard_has (is_guarded s before (delimiter kind opening ∷ held)))
-    ((own.has_items, own.of_page), within_have s last t after outer h.1)
+    let behind : List (List Item) = owns_past inside inner in
+    let given_in : AreGiven held inner = past_mark kind opening held owns h in
+    let given_out : AreGiven signs (owns_left behind) = past_mark kind closing signs behind (given_behind inside closes inner given_in) in
+    texts_both (parts Text (guard_items (is_guarded s before (delimiter kind opening ∷ held))))
+    (node (style_tree kind (styled_with false s first inside closes inner)) ∷ styled_with false s last t after (owns_left behind))
+    (guard_texts (is_guarded s before (delimiter kind opening ∷ held)))
+    (tt, styled_texts s bold italic last t after (owns_left behind) given_out k.2)
 
 -- ---- its parts
 
-own_texts : (x : Thing) (own : List Item) → IsOwnAt false x own → AreOwnOrGiven (line_parts own)
-own_texts x own h = elim h [
-  | inl g ↦ g.1
-  | inr p ↦ page_given (line_parts own) (some_of_page (line_parts own) p)
-]
+-- the delimiters of a style are the page's
+pub style_round : (kind : Bool) (ps : List Part) → IsRoundNode (style_tree kind ps)
+style_round true ps = (refl, refl, refl, refl, refl)
+style_round false ps = (refl, refl, refl, refl, refl)
 
-pub styled_own : (s : Setting) (before : List ContentSign) (t : StyledContent) (after : List ContentSign) (owns : List (List Item)) → AreOwnAt false t owns
-    → AreOwnOrGiven (styled_with false s before t after owns)
-styled_own s before finished after owns h = guard_own (is_guarded s before after)
-styled_own s before (sign (letter c) t) after owns h =
+pub own_texts : (within : Bool) (x : Thing) (own : List Item) → IsOwnAt within x own → AreOwnOrGiven (line_parts own)
+own_texts true x own (inl g) = g.1
+own_texts true x own (inr p) = page_given (line_parts own) (some_of_page (line_parts own) p)
+own_texts false x own (inl g) = g.1
+own_texts false x own (inr p) = page_given (line_parts own) (some_of_page (line_parts own) p)
+
+pub each_both : (P : ItemTree → Type 0) (ps qs : List Part) → EachNode P ps → EachNode P qs → EachNode P (ps ++ qs)
+each_both P [] qs h k = k
+each_both P (loose j o b ∷ ps) qs h k = each_both P ps qs h k
+each_both P (node t ∷ ps) qs h k = (h.0, each_both P ps qs h.1 k)
+
+-- what holds of nodes of the page and of calls, and of each style, holds of each of its nodes
+pub styled_each : (P : ItemTree → Type 0) → ((qs : List Part) → AreOwnOrGiven qs → EachNode P qs) → (s : Setting) (within bold italic : Bool) (before : List ContentSign)
+    (t : StyledContent) (after : List ContentSign) (owns : List (List Item)) → AreGiven (signs_before t after) owns → AreNested bold italic t → AreOwnAt within t owns
+    → ((kind : Bool) (qs : List Part) → EachNode P qs → AreTexts qs → P (style_tree kind qs)) → EachNode P (styled_with false s before t after owns)
+styled_each P f s within bold italic before finished after owns g k h w = let u : Bool = is_guarded s before after in f (parts Text (guard_items u)) (guard_own u)
+styled_each P f s within bold italic before (sign (letter c) t) after owns g k h w =
     let signs : List ContentSign = signs_before t after in
     let e : Bool = is_escaped s.within s.place before c signs in
+    let u : Bool = is_guarded s before (letter c ∷ signs) in
     let more : List Part = styled_with false s (letter c ∷ before) t after owns in
-    given_both (parts Text (guard_items (is_guarded s before (letter c ∷ signs)))) (parts Text (letter_items e c) ++ more) (guard_own (is_guarded s before (letter c ∷ signs)))
-    (given_both (parts Text (letter_items e c)) more (letter_own e c) (styled_own s (letter c ∷ before) t after owns h))
-styled_own s before (sign (thing x) t) after [] h = absurd h
-styled_own s before (sign (thing x) t) after (own ∷ owns) h =
+    each_both P (parts Text (guard_items u)) (parts Text (letter_items e c) ++ more) (f (parts Text (guard_items u)) (guard_own u))
+    (each_both P (parts Text (letter_items e c)) more (f (parts Text (letter_items e c)) (letter_own e c))
+    (styled_each P f s within bold italic (letter c ∷ before) t after owns g k.1 h w))
+styled_each P f s within bold italic before (sign (thing x) t) after [] g k h w = absurd h
+styled_each P f s within bold italic before (sign (thing x) t) after (own ∷ owns) g k h w =
     let signs : List ContentSign = signs_before t after in
+    let u : Bool = is_guarded s before (thing x ∷ signs) in
     let more : List Part = styled_with false s (thing x ∷ before) t after owns in
-    given_both (parts Text (guard_items (is_guarded s before (thing x ∷ signs)))) (line_parts own ++ more) (guard_own (is_guarded s before (thing x ∷ signs)))
-    (given_both (line_parts own) more (own_texts x own h.0) (styled_own s (thing x ∷ before) t after owns h.1))
-styled_own s before (styled kind opening closing inside t) after owns h =
+    each_both P (parts Text (guard_items u)) (line_parts own ++ more) (f (parts Text (guard_items u)) (guard_own u))
+    (each_both P (line_parts own) more (f (line_parts own) (own_texts within x own h.0))
+    (styled_each P f s within bold italic (thing x ∷ before) t after owns g.1 k.1 h.1 w))
+styled_each P f s within bold italic before (styled kind opening closing inside t) after owns g k h w =
     let first : List ContentSign = delimiter kind opening ∷ before in
     let last : List ContentSign = delimiter kind closing ∷ signs_past inside first in
-    let closes : List ContentSign = delimiter kind closing ∷ signs_before t after in
+    let signs : List ContentSign = signs_before t after in
+    let closes : List ContentSign = delimiter kind closing ∷ signs in
     let held : List ContentSign = signs_before inside closes in
-    let inner : List (List Item) = owns_left owns in
-    let outer : List (List Item) = owns_left (owns_past inside inner) in
-    let ps : List Part = styled_with false s first inside closes inner in
-    given_both (parts Text (guard_items (is_guarded s before (delimiter kind opening ∷ held)))) (node (style_tree kind ps) ∷ styled_with false s last t after outer)
-    (guard_own (is_guarded s before (delimiter kind opening ∷ held)))
-    (inl (style_own kind ps (within_have s first inside closes inner h.0)), styled_own s last t after outer h.1)
+    let inner_owns : List (List Item) = owns_left owns in
+    let behind : List (List Item) = owns_past inside inner_owns in
+    let outer : List (List Item) = owns_left behind in
+    let u : Bool = is_guarded s before (delimiter kind opening ∷ held) in
+    let ps : List Part = styled_with false s first inside closes inner_owns in
+    let given_in : AreGiven held inner_owns = past_mark kind opening held owns g in
+    let given_out : AreGiven signs outer = past_mark kind closing signs behind (given_behind inside closes inner_owns given_in) in
+    each_both P (parts Text (guard_items u)) (node (style_tree kind ps) ∷ styled_with false s last t after outer) (f (parts Text (guard_items u)) (guard_own u)) (
+      w kind ps (styled_each P f s true (kind || bold) (not kind || italic) first inside closes inner_owns given_in k.1 h.0 w)
+          (styled_texts s (kind || bold) (not kind || italic) first inside closes inner_owns given_in k.1),
+      styled_each P f s within bold italic last t after outer given_out k.2 h.1 w,
+    )
+
+pub styled_own : (s : Setting) (t : StyledContent) (owns : List (List Item)) → IsStyledCalled s t owns → ArePieceNodes (styled_with false s [] t [] owns)
+styled_own s t owns h =
+    styled_each IsPieceNode (λ qs g. as_pieces qs g) s false false false [] t [] owns h.given h.nested h.own (λ kind qs g a. inr (style_round kind qs))
 
 -- ---- something of it is the page's own
 
@@ -167,7 +179,7 @@ styled_round s t owns h =
       no_leaf = refl;
       own_opening = refl;
       own_closing = refl;
-      parts = styled_own s [] t [] owns h.own;
+      parts = styled_own s t owns h;
       some = ap (list_any is_page) (para_items ps) ∙ styled_some s [] t owns h.own h.some;
     }
 

@@ -9,6 +9,7 @@ use Rattle.wt_guards.specs.declared.role.Stretch.{Stretch}
 use Rattle.wt_tiles.specs.Contexts.{in_line}
 use Rattle.wt_tiles.specs.Glyphs.{glyph_of}
 use Rattle.wt_tiles.specs.Tiles.{Cut, cuts}
+use Rattle.wt_inline.specs.ItemTree.{inner}
 use Rattle.wt_inline.specs.Parts.{Part, loose, node, parts}
 use Rattle.wt_inline.specs.declared.loose.Loose.TheVariants.{Sep, Text}
 use Rattle.wt_context.proofs.NestedContexts.{contexts_are}
@@ -35,7 +36,7 @@ use Rattle.wt_beside_laws.specs.Given.{AreGivenSigns, AreNestedGiven, AreNestedS
 use Rattle.wt_beside_laws.specs.Nests.{mark_segments, nest_segments, style_of, style_tree}
 use Rattle.wt_beside_laws.specs.NodeItems.{node_items}
 use Rattle.wt_beside_laws.specs.Styled.{AreNested, StyledContent, delimiter, finished, mark_source, sign, signs_before, signs_past, styled}
-use Rattle.wt_beside_laws.specs.StyledCalls.{AreOwnAt, IsOwnAt, owns_left, owns_past, styled_with}
+use Rattle.wt_beside_laws.specs.StyledCalls.{AreOwnAt, AreUnstyledParts, IsOwnAt, owns_left, owns_past, styled_with}
 
 -- ---- what is given behind a content
 
@@ -90,7 +91,7 @@ mark_cut s before kind place signs (own ∷ owns) h =
 
 -- ---- what a call gives, and a node that stays
 
--- in a style it is of the page
+-- in a style it is of the page, or a call that gives no style
 abbrev pub IsIn : Bool → Thing → List Item → Type 0
 IsIn true x own = IsOwnAt true x own
 IsIn false x own = Unit {0}
@@ -136,6 +137,22 @@ some_page : (ps : List Part) → AreSomeOfPage ps → ArePageParts ps
 some_page [] h = absurd h
 some_page (p ∷ ps) h = h
 
+unstyled_rest : (ps qs : List Part) → AreUnstyledParts (ps ++ qs) → AreUnstyledParts qs
+unstyled_rest [] qs h = h
+unstyled_rest (loose k o b ∷ ps) qs h = unstyled_rest ps qs h
+unstyled_rest (node (inner k opening ts closing) ∷ ps) qs h = unstyled_rest ps qs h.1
+
+style_unstyled : (j : ℕ) (kind : Bool) (ps qs : List Part) → AreUnstyledParts (node (style_of (Some j) kind ps) ∷ qs) → ⊥
+style_unstyled j true ps qs h = h.0
+style_unstyled j false ps qs h = h.0
+
+-- nor has what is given without one
+nested_plain : (bold italic : Bool) (j : ℕ) (t : GivenContent) → AreNestedGiven false false t → AreUnstyledParts (given_parts j t) → AreNestedGiven bold italic t
+nested_plain bold italic j given_end k h = tt
+nested_plain bold italic j (given_sign (character b) t) k h = nested_plain bold italic j t k h
+nested_plain bold italic j (given_sign (form r own) t) k h = (k.0, nested_plain bold italic j t k.1 (unstyled_rest (line_parts own) (given_parts j t) h))
+nested_plain bold italic j (given_style kind inside t) k h = absurd (style_unstyled j kind (given_parts j inside) (given_parts j t) h)
+
 nested_in : (bold italic : Bool) (x : Thing) (own : List Item) (g : IsGift x own) (f : IsFlat x.role) → IsIn (bold || italic) x own
     → AreNestedGiven bold italic (g.nested f).content
 nested_in bold italic x own g f h = by bold italic h
@@ -144,7 +161,8 @@ nested_in bold italic x own g f h = by bold italic h
     line = ap line_parts g.is ∙ signs_line g.call g.signs (g.nested f) g.are
 
     within : (b i : Bool) → IsOwnAt true x own → AreNestedGiven b i (g.nested f).content
-    within b i k = nested_within b i g.call (g.nested f).content (g.nested f).nested (subst ArePageParts line (some_page (line_parts own) k))
+    within b i (inl k) = nested_plain b i g.call (g.nested f).content (g.nested f).nested (subst AreUnstyledParts line k.2)
+    within b i (inr k) = nested_within b i g.call (g.nested f).content (g.nested f).nested (subst ArePageParts line (some_page (line_parts own) k))
 
     by : (b i : Bool) → IsIn (b || i) x own → AreNestedGiven b i (g.nested f).content
     by false false k = (g.nested f).nested

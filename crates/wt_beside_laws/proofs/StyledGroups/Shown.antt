@@ -1,67 +1,39 @@
 -- What a content with styles beside calls shows: its texts as they were typed, each node and what each call gives as they are shown by themselves,
 -- and bold and italic round them.
-use Rattle.std.proofs.Common.{◌≡◌, Bool, false, not, List, [], ◌∷◌, ◌++◌, ap, append-nil, sym, ◌||◌, ◌∙◌}
+use Rattle.std.proofs.Common.{◌≡◌, inr, Bool, true, false, not, List, [], ◌∷◌, ◌++◌, ap, append-nil, refl, sym, ◌||◌, ◌∙◌}
 use Rattle.std.specs.Prelude.{encode_utf8}
 use Rattle.wt_span.specs.Items.{Item}
 use Rattle.wt_span.specs.Origins.{OuterCall}
-use Rattle.wt_tree.specs.Plain.{Plains, along, element, ended, plain_before, text_before}
+use Rattle.wt_tree.specs.Plain.{Plains, along, element, ended, plain_before, plains_before, text_before}
 use Rattle.wt_tree.specs.Tree.{Tree}
 use Rattle.wt_guards.specs.Content.{ContentSign, letter, thing}
 use Rattle.wt_guards.specs.Guards.{Setting, is_guarded}
 use Rattle.wt_guards.specs.Letters.{is_escaped}
 use Rattle.wt_lines.specs.Lines.{lines}
-use Rattle.wt_inline.specs.Parts.{Part, node, parts}
+use Rattle.wt_inline.specs.ItemTree.{plain}
+use Rattle.wt_inline.specs.Parts.{Part, children, loose, node, parts}
 use Rattle.wt_inline.specs.declared.loose.Loose.TheVariants.{Text}
-use Rattle.wt_context.proofs.PlainNodes.{AreTexts, text_parts, texts_both}
+use Rattle.wt_context.proofs.PlainNodes.{AreTexts}
 use Rattle.wt_context.specs.Line.{line_parts}
-use Rattle.wt_annotated.specs.CutTexts.{cut_texts}
+use Rattle.wt_context.specs.Styled.{style_kind}
+use Rattle.wt_annotated.specs.CutTexts.{all_cut_texts, cut_texts}
 use Rattle.wt_selser.specs.GroupFaults.{paragraph_face}
-use Rattle.wt_part_laws.specs.HeldCalls.{block_in}
+use Rattle.wt_part_laws.proofs.HeldBlocks.{given_block_is}
+use Rattle.wt_part_laws.specs.CallPieces.{ArePieceNodes, EachNode, call_pieces, pieces_in_page}
+use Rattle.wt_part_laws.specs.HeldCalls.{IsRoundGiven, block_in, block_of_pieces}
 use Rattle.wt_text_edit_laws.specs.ParagraphParts.{joined_parts, para_with}
 use Rattle.wt_beside_laws.proofs.Groups.CalledShown.{given_texts}
-use Rattle.wt_beside_laws.proofs.Groups.GivenNodes.{children_in_page}
-use Rattle.wt_beside_laws.proofs.LineShown.{children_show, guard_shows, guard_texts, letter_shows, one_by_one, shown_append}
+use Rattle.wt_beside_laws.proofs.Groups.GivenNodes.{IsShownAlike, as_piece, as_shown, shown_in_page}
+use Rattle.wt_beside_laws.proofs.LineShown.{children_show, guard_shows, letter_shows, one_by_one, shown_append}
 use Rattle.wt_beside_laws.proofs.Styled.StyledShown.{style_shows}
-use Rattle.wt_beside_laws.proofs.StyledGroups.Blocks.{styled_called_block, styled_own}
+use Rattle.wt_beside_laws.proofs.StyledGroups.Blocks.{style_round, styled_called_block, styled_each, styled_texts}
 use Rattle.wt_beside_laws.proofs.StyledGroups.Lines.{given_behind, past_mark}
 use Rattle.wt_beside_laws.specs.Called.{AreGiven, items_with}
 use Rattle.wt_beside_laws.specs.Content.{guard_items, letter_items}
-use Rattle.wt_beside_laws.specs.Nests.{style_tree}
+use Rattle.wt_beside_laws.specs.Nests.{marks, style_tree}
 use Rattle.wt_beside_laws.specs.Styled.{AreNested, StyledContent, delimiter, finished, sign, signs_before, signs_in, signs_past, styled}
 use Rattle.wt_beside_laws.specs.StyledCalls.{IsStyledCalled, owns_left, owns_past, styled_called_shown, styled_with}
 use Rattle.wt_beside_laws.specs.StyledShown.{style_shown}
-
--- ---- its parts are texts and nodes
-
-styled_texts : (s : Setting) (bold italic : Bool) (before : List ContentSign) (t : StyledContent) (after : List ContentSign) (owns : List (List Item))
-    → AreGiven (signs_before t after) owns → AreNested bold italic t → AreTexts (styled_with false s before t after owns)
-styled_texts s bold italic before finished after owns h k = guard_texts (is_guarded s before after)
-styled_texts s bold italic before (sign (letter c) t) after owns h k =
-    let signs : List ContentSign = signs_before t after in
-    let own : List Item = letter_items (is_escaped s.within s.place before c signs) c in
-    let more : List Part = styled_with false s (letter c ∷ before) t after owns in
-    texts_both (parts Text (guard_items (is_guarded s before (letter c ∷ signs)))) (parts Text own ++ more) (guard_texts (is_guarded s before (letter c ∷ signs)))
-    (texts_both (parts Text own) more (text_parts own) (styled_texts s bold italic (letter c ∷ before) t after owns h k.1))
-styled_texts s bold italic before (sign (thing x) t) after [] h k = absurd h
-styled_texts s bold italic before (sign (thing x) t) after (own ∷ owns) h k =
-    let signs : List ContentSign = signs_before t after in
-    let more : List Part = styled_with false s (thing x ∷ before) t after owns in
-    texts_both (parts Text (guard_items (is_guarded s before (thing x ∷ signs)))) (line_parts own ++ more) (guard_texts (is_guarded s before (thing x ∷ signs)))
-    (texts_both (line_parts own) more (given_texts x own h.0 k.0) (styled_texts s bold italic (thing x ∷ before) t after owns h.1 k.1))
-styled_texts s bold italic before (styled kind opening closing inside t) after owns h k =
-    let first : List ContentSign = delimiter kind opening ∷ before in
-    let last : List ContentSign = delimiter kind closing ∷ signs_past inside first in
-    let signs : List ContentSign = signs_before t after in
-    let closes : List ContentSign = delimiter kind closing ∷ signs in
-    let held : List ContentSign = signs_before inside closes in
-    let inner : List (List Item) = owns_left owns in
-    let behind : List (List Item) = owns_past inside inner in
-    let given_in : AreGiven held inner = past_mark kind opening held owns h in
-    let given_out : AreGiven signs (owns_left behind) = past_mark kind closing signs behind (given_behind inside closes inner given_in) in
-    texts_both (parts Text (guard_items (is_guarded s before (delimiter kind opening ∷ held))))
-    (node (style_tree kind (styled_with false s first inside closes inner)) ∷ styled_with false s last t after (owns_left behind))
-    (guard_texts (is_guarded s before (delimiter kind opening ∷ held)))
-    (tt, styled_texts s bold italic last t after (owns_left behind) given_out k.2)
 
 -- ---- what they show, one by one
 
@@ -102,6 +74,35 @@ styled_show s bold italic before (styled kind opening closing inside t) after ow
     ∙ ap (λ (own : Plains). style_shown kind own (one_by_one more rest)) (styled_show s (kind || bold) (not kind || italic) first inside closes inner ended given_in k.1)
     ∙ ap (style_shown kind (styled_called_shown inside inner ended)) (styled_show s bold italic last t after outer rest given_out k.2)
 
+-- ---- a style shows what is in it, also where calls give something there
+
+style_in_page : (calls : List OuterCall) (kind : Bool) (ps : List Part) (rest : Plains)
+    → plain_before (cut_texts (block_of_pieces calls (plain (style_kind kind)) (marks kind) ps (marks kind))) rest
+    ≡ style_shown kind (plains_before (all_cut_texts (pieces_in_page calls (call_pieces (children ps)))) ended) rest
+style_in_page calls true ps rest = refl
+style_in_page calls false ps rest = refl
+
+style_given : (kind : Bool) (ps : List Part) → ArePieceNodes ps → IsRoundGiven (plain (style_kind kind)) (marks kind) ps (marks kind)
+style_given true ps h = record { no_leaf = refl; own_opening = refl; own_closing = refl; parts = h; some = refl }
+style_given false ps h = record { no_leaf = refl; own_opening = refl; own_closing = refl; parts = h; some = refl }
+
+as_pieces_of : (calls : List OuterCall) (ps : List Part) → EachNode (IsShownAlike calls) ps → ArePieceNodes ps
+as_pieces_of calls [] h = tt
+as_pieces_of calls (loose k o b ∷ ps) h = as_pieces_of calls ps h
+as_pieces_of calls (node t ∷ ps) h = (as_piece calls t h.0, as_pieces_of calls ps h.1)
+
+style_alike : (calls : List OuterCall) (kind : Bool) (ps : List Part) → EachNode (IsShownAlike calls) ps → AreTexts ps → IsShownAlike calls (style_tree kind ps)
+style_alike calls kind ps h t =
+    inr (
+      style_round kind ps,
+      λ rest.
+          ap (λ (u : Tree). plain_before (cut_texts u) rest)
+          (given_block_is calls (plain (style_kind kind)) (marks kind) ps (marks kind) (style_given kind ps (as_pieces_of calls ps h)))
+          ∙ style_in_page calls kind ps rest
+          ∙ ap (λ (own : Plains). style_shown kind own rest) (shown_in_page calls ps ended h t)
+          ∙ sym (style_shows kind ps rest t),
+    )
+
 -- ---- the paragraph
 
 pub styled_called_shows : (calls : List OuterCall) (s : Setting) (t : StyledContent) (owns : List (List Item)) (rest : Plains) → IsStyledCalled s t owns
@@ -111,4 +112,7 @@ styled_called_shows calls s t owns rest h =
     let ps : List Part = styled_with false s [] t [] owns in
     ap (λ (u : Tree). plain_before (cut_texts u) rest) (styled_called_block calls s t owns h)
     ∙ ap (λ (qs : Plains). along (element paragraph_face qs) rest)
-    (children_in_page calls ps ended (styled_own s [] t [] owns h.own) (styled_texts s false false [] t [] owns h.given h.nested) ∙ styled_show s false false [] t [] owns ended h.given h.nested)
+    (shown_in_page calls ps ended
+    (styled_each (IsShownAlike calls) (λ qs g. as_shown calls qs g) s false false false [] t [] owns h.given h.nested h.own (λ kind qs g a. style_alike calls kind qs g a))
+    (styled_texts s false false [] t [] owns h.given h.nested)
+    ∙ styled_show s false false [] t [] owns ended h.given h.nested)

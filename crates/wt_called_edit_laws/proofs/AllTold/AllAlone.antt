@@ -9,7 +9,6 @@ use Rattle.wt_commands.specs.Answers.{refusal_of_page}
 use Rattle.wt_lines.specs.Lines.{content}
 use Rattle.wt_tables.specs.Parts.{joined}
 use Rattle.wt_part_laws.specs.Standing.{standing}
-use Rattle.wt_text_edit_laws.specs.PageCuts.{EndsClosed}
 use Rattle.wt_text_edit_laws.specs.TextBlocks.{TextBlock, block_tree}
 use Rattle.wt_beside_laws.proofs.Made.OldBlocks.{no_group}
 use Rattle.wt_called_edit_laws.specs.Covered.{NoGroupAt}
@@ -19,7 +18,7 @@ use Rattle.wt_called_edit_laws.specs.ToldAmong.{IsToldAmong}
 use Rattle.wt_called_edit_laws.specs.ToldLines.{Told, lined}
 use Rattle.wt_called_edit_laws.specs.ToldTogether.{start_of, told_starts, IsAmongNumbers, AreAllTold}
 use Rattle.wt_called_edit_laws.proofs.Told.FreeNodes.{tree_untangled, untangled_shut}
-use Rattle.wt_called_edit_laws.proofs.AllTold.Alone.{IsAloneTold, IsAloneHere, alone_here, IsAloneRead, alone_read}
+use Rattle.wt_called_edit_laws.proofs.AllTold.Alone.{IsAloneTold, IsAloneHere, alone_here, IsAloneRead, alone_read, content_closed}
 use Rattle.wt_called_edit_laws.proofs.AllTold.Chosen.{IsChosen}
 use Rattle.wt_called_edit_laws.proofs.AllTold.LineKinds.{Lines}
 use Rattle.wt_called_edit_laws.proofs.AllTold.Together.{AreAllChosen, chosen_together, told_by_all}
@@ -58,14 +57,15 @@ chosen_of pages page t rest h =
         h.free.0.full,
         tree_untangled (standing 0 [] (block_tree k q)) (no_group k q 0 [] r.read.utf8 r.read.is r.read.unended r.read.calm) (untangled_shut k q h.free.0.untangled),
       );
+      closed = content_closed k q r.is_content;
     }
 
-pub all_alone : (pages : Pages) (page : List ℕ) → IsUtf8 page → refusal_of_page pages page ≡ None → EndsClosed page [] → AreAllTold pages page
-all_alone pages page u r c =
+pub all_alone : (pages : Pages) (page : List ℕ) → IsUtf8 page → refusal_of_page pages page ≡ None → AreAllTold pages page
+all_alone pages page u r =
     let a : AreAllChosen pages page = chosen_together pages page in
     record {
       ts = a.ts;
       behind = a.behind;
-      told = told_by_all pages page u r c a;
+      told = told_by_all pages page u r a;
       all = λ t rest h. a.all t rest h.are h.told (chosen_of pages page t rest h);
     }

@@ -1,8 +1,8 @@
 -- One block that the lines of an expanded page tell, all of whose lines are the page's own: it is read so by itself.
 use Rattle.std.proofs.Common.{arith, ◌≡◌, inl, ℕ, ◌+◌, None, List, [], ◌∷◌, ◌++◌, length, map, refl, sym, ap, ◌∙◌, subst}
 use Rattle.std.specs.Str.{IsUtf8}
-use Rattle.wt_span.specs.Items.{Item, sources}
-use Rattle.wt_span.specs.Origins.{OuterCall}
+use Rattle.wt_span.specs.Items.{Item, char, sources}
+use Rattle.wt_span.specs.Origins.{OuterCall, Span}
 use Rattle.wt_span.specs.Runs.{AreRuns}
 use Rattle.wt_span.proofs.RunLaws.{runs_are}
 use Rattle.wt_annotated.specs.Seams.{text_from}
@@ -16,19 +16,19 @@ use Rattle.wt_tables.specs.Parts.{joined}
 use Rattle.wt_text_edit_laws.specs.BlockSpots.{BlockSpot, spots_source}
 use Rattle.wt_text_edit_laws.specs.Contents.{IsContentOf, IsContent}
 use Rattle.wt_text_edit_laws.specs.NoCalls.{CallsNothing}
-use Rattle.wt_text_edit_laws.specs.PageCuts.{IsSpotCut, EndsThere, EndsClosed, IsFreeBlock}
+use Rattle.wt_text_edit_laws.specs.PageCuts.{IsSpotCut, EndsThere, EndsClosed, EndClosed, IsFreeBlock}
 use Rattle.wt_text_edit_laws.specs.ParagraphBetween.{written_rows}
 use Rattle.wt_text_edit_laws.specs.TextBlocks.{TextBlock, source_of, block_items}
 use Rattle.wt_text_edit_laws.proofs.Cuts.TextLines.{joined_is, runs_behind}
 use Rattle.wt_beside_laws.proofs.Derived.BlockContents.{ReadAlone, BlockRead, block_content}
 use Rattle.wt_beside_laws.proofs.Derived.CutPages.{SpotRead, spot_read}
 use Rattle.wt_called_edit_laws.specs.AnyBlocks.{open_after}
-use Rattle.wt_called_edit_laws.specs.LinedAmong.{AreBeside, AreOwnLines, AreUntouched}
+use Rattle.wt_called_edit_laws.specs.LinedAmong.{spots_of_lines, end_of_lines, AreBeside, AreOwnLines, AreUntouched}
 use Rattle.wt_called_edit_laws.specs.PlacedLines.{LinedBlock, all_lines, IsLinedAt}
-use Rattle.wt_called_edit_laws.specs.ToldLines.{Told, lined, AreTold}
+use Rattle.wt_called_edit_laws.specs.ToldLines.{Told, lined, rows_before, AreTold}
 use Rattle.wt_called_edit_laws.proofs.Among.BlockAt.{calls_of, IsRest, text_to}
-use Rattle.wt_called_edit_laws.proofs.Among.LinedParts.{IsLinedHere, lined_here, line_front, ends_text, spot_of, spot_source, page_rest}
-use Rattle.wt_called_edit_laws.proofs.Among.ToldAmong.{told_at}
+use Rattle.wt_called_edit_laws.proofs.Among.LinedParts.{IsLinedHere, lined_here, line_front, block_front, ends_text, spot_of, spot_source, page_rest}
+use Rattle.wt_called_edit_laws.proofs.Among.ToldAmong.{closed_here, told_at}
 use Rattle.wt_called_edit_laws.proofs.Cells.ContentItems.{round_is, items_by}
 use Rattle.wt_called_edit_laws.proofs.Cells.PlacedLines.{own_items}
 use Rattle.wt_called_edit_laws.proofs.Told.OwnReads.{OwnRead}
@@ -41,7 +41,7 @@ use Rattle.wt_called_edit_laws.proofs.AllTold.OwnTrees.{OwnRound, stay_so}
 -- what tells it
 pub record IsAloneTold (pages : Pages) (page : List ℕ) (o : Told) (rest : Lines) : Type 0 where
   pub utf8 : IsUtf8 page
-  pub closed : EndsClosed page []
+  pub closed : EndClosed (spots_of_lines pages page (map lined (o ∷ []))) (end_of_lines pages page (map lined (o ∷ [])) rest)
   pub are : full_lines (expanded_page pages page).items ≡ all_lines (lined o ∷ []) rest
   pub told : AreTold (o ∷ []) rest
   pub place : IsOwnBehind (expanded_page pages page) (joined (lined o).before) o
@@ -79,7 +79,8 @@ alone_here pages page o rest h =
     let all : xs ≡ joined lines = joined_is goes_on lines xs runs in
     let r : IsRest pages page 0 ([] ++ joined lines) (page_items page) = page_rest pages page lines all in
     let beside = beside_line pages page o rest h in
-    let at : IsLinedAt [] b = told_at pages page [] o 0 [] rest (page_items page) xs runs (inl refl) r h.place.ends h.place.own beside h.closed h.told.0 in
+    let at : IsLinedAt [] b = told_at pages page [] o 0 [] rest (page_items page) xs runs (inl refl) r h.place.ends h.place.own beside
+    (closed_here (calls_of pages page) o (open_after [] (rows_before [] o)) [] rest h.told.1 h.closed.0) h.told.0 in
     record {
       at = at;
       here = lined_here pages page [] [] b rest 0 (page_items page) xs runs (inl refl) r at h.place.ends h.place.own beside;
@@ -107,6 +108,10 @@ own_round pages page o rest h is own_is =
 abbrev pub FreeWhereRead : TextBlock → List ℕ → List Item → Type 0
 FreeWhereRead k q own = OwnRead k q → block_items k q ≡ own → IsFreeBlock k q
 
+-- a line break behind a content is read as one
+pub content_closed : (k : TextBlock) (q : List ℕ) → IsContent k q → EndsClosed (source_of k q) []
+content_closed k q c = c.ended ∙ ap (λ (xs : List Item). xs ++ char None 10 ∷ []) (sym c.unended)
+
 pub record IsAloneRead (pages : Pages) (page : List ℕ) (o : Told) : Type 0 where
   pub is_content : IsContent (lined o).block (lined o).text
   pub read : OwnRead (lined o).block (lined o).text
@@ -132,7 +137,7 @@ alone_read pages page o rest t h free =
     let whole : spots_source (s ∷ []) behind ≡ page = spot_source pages page [] [] b rest 0 (page_items page) l [] behind refl ∙ page_sources page in
     let there : EndsThere behind = subst EndsThere l.here.next.same (ends_text calls (ending (own_items b)) rest l.around.own_ending l.around.ends) in
     let r : SpotRead s behind l.here.behind =
-    spot_read s behind (page_items page) c (ap page_items whole) (subst IsUtf8 (sym whole) t.utf8) l.ended there (l.here.closed t.closed)
+    spot_read s behind (page_items page) c (ap page_items whole) (subst IsUtf8 (sym whole) t.utf8) l.ended there (subst (EndsClosed (source_of b.block b.text)) l.here.next.same t.closed.0)
     (λ d a m. block_content b.block b.text own a m t.place.calm (free (read_of a m) m.items)) in
     let k : IsContent b.block b.text = r.content in
     let items : block_items b.block b.text ≡ own = sym k.unended ∙ l.here.alone in

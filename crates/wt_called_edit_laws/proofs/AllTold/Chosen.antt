@@ -28,13 +28,15 @@ use Rattle.wt_selser.specs.Edits.{is_tangled}
 use Rattle.wt_text_edit_laws.specs.Contents.{content_parts_of}
 use Rattle.wt_text_edit_laws.specs.LonePages.{of_items}
 use Rattle.wt_text_edit_laws.specs.NoCalls.{Brace, opening, closing, braces, NoneClose, NonePairs, CallsNothing}
-use Rattle.wt_text_edit_laws.specs.PageCuts.{IsFreeBlock}
+use Rattle.wt_text_edit_laws.specs.PageCuts.{EndsClosed, IsFreeBlock}
+use Rattle.wt_text_edit_laws.specs.Parts.{HasNoGroups, part_tree}
 use Rattle.wt_text_edit_laws.specs.TextBlocks.{TextBlock, source_of, block_tree}
 use Rattle.wt_called_edit_laws.specs.AllTold.{IsBesideNoCall, AreNoFunctions, IsBesideTexts}
 use Rattle.wt_called_edit_laws.specs.Covered.{IsBeside, IfGroup, NoGroupAt, NoneGroupAt}
 use Rattle.wt_called_edit_laws.specs.Groups.{called_tree}
 use Rattle.wt_called_edit_laws.specs.LinedAmong.{IsNoFunction, AreOfPage, AreBeside}
 use Rattle.wt_called_edit_laws.specs.ToldLines.{Told, lined}
+use Rattle.wt_called_edit_laws.proofs.AllTold.ClosedLines.{closed_decided}
 use Rattle.wt_called_edit_laws.proofs.AllTold.Scans.{Decided, Asked, Answered, both_decided, three_decided, bool_decided}
 
 -- ---- what is asked of each
@@ -57,11 +59,12 @@ free_of k q h = record {
   untangled = record { items = of_items []; page = []; number = 0; before = []; untangled = h.1 };
 }
 
--- Behind these items its lines are the page's own, and no group has its first byte.
+-- Behind these items its lines are the page's own, no group has its first byte, and a line break behind it is read as one.
 pub record IsChosen (pages : Pages) (page : List ℕ) (front : List Item) (t : Told) : Type 0 where
   pub place : IsOwnBehind (expanded_page pages page) front t
   pub outside : NoGroupAt (length (text_from (expanded_page pages page).outer None (front ++ (lined t).marks))) (called_tree pages page)
   pub free : IsFreeAlone (lined t).block (lined t).text
+  pub closed : EndsClosed (source_of (lined t).block (lined t).text) []
 
 abbrev pub chosen : Pages → List ℕ → Asked
 chosen pages page front t = IsChosen pages page front t
@@ -238,11 +241,14 @@ pub chosen_decided : (pages : Pages) (page : List ℕ) → Answered (chosen page
 chosen_decided pages page front t =
     by (place_decided (expanded_page pages page) front t)
     (at_decided (length (text_from (expanded_page pages page).outer None (front ++ (lined t).marks))) (called_tree pages page)) (free_decided (lined t).block (lined t).text)
+    (closed_decided (source_of (lined t).block (lined t).text))
   where
     by : Decided (IsOwnBehind (expanded_page pages page) front t)
         → Decided (NoGroupAt (length (text_from (expanded_page pages page).outer None (front ++ (lined t).marks))) (called_tree pages page))
-        → Decided (IsFreeAlone (lined t).block (lined t).text) → Decided (IsChosen pages page front t)
-    by (inl a) (inl b) (inl c) = inl (record { place = a; outside = b; free = c })
-    by (inr f) b c = inr (λ h. f h.place)
-    by (inl a) (inr f) c = inr (λ h. f h.outside)
-    by (inl a) (inl b) (inr f) = inr (λ h. f h.free)
+        → Decided (IsFreeAlone (lined t).block (lined t).text) → Decided (EndsClosed (source_of (lined t).block (lined t).text) [])
+        → Decided (IsChosen pages page front t)
+    by (inl a) (inl b) (inl c) (inl d) = inl (record { place = a; outside = b; free = c; closed = d })
+    by (inr f) b c d = inr (λ h. f h.place)
+    by (inl a) (inr f) c d = inr (λ h. f h.outside)
+    by (inl a) (inl b) (inr f) d = inr (λ h. f h.free)
+    by (inl a) (inl b) (inl c) (inr f) = inr (λ h. f h.closed)

@@ -13,12 +13,12 @@ use Rattle.wt_page.specs.Lines.{ending}
 use Rattle.wt_page.proofs.Ends.{content_ending}
 use Rattle.wt_page_round_trip.proofs.OpenedPages.{AreOnes, opened_text}
 use Rattle.wt_tables.specs.Parts.{joined}
-use Rattle.wt_text_edit_laws.specs.BlockSpots.{BlockSpot}
-use Rattle.wt_text_edit_laws.specs.PageCuts.{AreFree}
+use Rattle.wt_text_edit_laws.specs.BlockSpots.{BlockSpot, spots_source}
+use Rattle.wt_text_edit_laws.specs.PageCuts.{EndClosed, AreFree}
 use Rattle.wt_text_edit_laws.specs.TextBlocks.{source_of}
 use Rattle.wt_called_edit_laws.specs.Covered.{NoGroupAt, AreInNoGroup}
 use Rattle.wt_called_edit_laws.specs.Groups.{called_tree}
-use Rattle.wt_called_edit_laws.specs.LinedAmong.{spots_on, AreOfPage, AreBeside, AreOwnLines, AreUntouched}
+use Rattle.wt_called_edit_laws.specs.LinedAmong.{spots_on, end_on, AreOfPage, AreBeside, AreOwnLines, AreUntouched}
 use Rattle.wt_called_edit_laws.specs.PlacedLines.{LinedBlock, all_lines}
 use Rattle.wt_called_edit_laws.specs.ToldLines.{Told, a_paragraph_of, a_heading_on, lined}
 use Rattle.wt_called_edit_laws.specs.ToldTogether.{start_of, own_lines, told_starts, IsAmongNumbers}
@@ -27,7 +27,8 @@ use Rattle.wt_called_edit_laws.proofs.Among.OwnItems.{from_page}
 use Rattle.wt_called_edit_laws.proofs.Among.OwnSeams.{own_last, sources_size}
 use Rattle.wt_called_edit_laws.proofs.Cells.PlacedLines.{own_items, lines_joined}
 use Rattle.wt_called_edit_laws.proofs.PartTexts.{own_text}
-use Rattle.wt_called_edit_laws.proofs.AllTold.Chosen.{free_of, IsChosen, chosen}
+use Rattle.wt_called_edit_laws.proofs.AllTold.Chosen.{IsFreeAlone, free_of, IsChosen, chosen}
+use Rattle.wt_called_edit_laws.proofs.AllTold.ClosedLines.{ends_any}
 use Rattle.wt_called_edit_laws.proofs.AllTold.Found.{size, size_both}
 use Rattle.wt_called_edit_laws.proofs.AllTold.LineKinds.{Lines}
 use Rattle.wt_called_edit_laws.proofs.AllTold.PlaceStarts.{spot_starts}
@@ -42,11 +43,13 @@ place_so pages page front (a_paragraph_of b m f r) h = record {
   place = record { ends = h.place.ends; own = h.place.own; calm = h.place.calm; beside = h.place.beside };
   outside = h.outside;
   free = h.free;
+  closed = h.closed;
 }
 place_so pages page front (a_heading_on b m l) h = record {
   place = record { ends = h.place.ends; own = h.place.own; calm = h.place.calm; beside = h.place.beside };
   outside = h.outside;
   free = h.free;
+  closed = h.closed;
 }
 
 so_placed : (pages : Pages) (page : List ℕ) (front : List Item) (t : Told) → IsChosen pages page front t → IsChosen pages page front (without_before t)
@@ -54,11 +57,13 @@ so_placed pages page front (a_paragraph_of b m f r) h = record {
   place = record { ends = h.place.ends; own = h.place.own; calm = h.place.calm; beside = h.place.beside };
   outside = h.outside;
   free = h.free;
+  closed = h.closed;
 }
 so_placed pages page front (a_heading_on b m l) h = record {
   place = record { ends = h.place.ends; own = h.place.own; calm = h.place.calm; beside = h.place.beside };
   outside = h.outside;
   free = h.free;
+  closed = h.closed;
 }
 
 -- of one at the page's start
@@ -166,6 +171,23 @@ pub known_lines : (pages : Pages) (page : List ℕ) (ts : List Told) → AllMeet
     × AreUntouched (expanded_page pages page).outer (expanded_page pages page).text_calls 0 [] (map lined ts)
     × AreFree (spots_on (expanded_page pages page).outer [] (map lined ts))
 known_lines pages page ts h = known_from pages page [] [] [] 0 ts (page_start (expanded_page pages page).outer) h
+
+-- a line break behind each is read as one
+closed_from : (pages : Pages) (page : List ℕ) (front es : List Item) (ts : List Told) (behind : Lines) → AllMeet (chosen pages page) front ts
+    → EndClosed (spots_on (expanded_page pages page).outer es (map lined ts)) (end_on (expanded_page pages page).outer es (map lined ts) behind)
+closed_from pages page front es [] behind h = tt
+closed_from pages page front es (t ∷ ts) behind h =
+    let calls : List OuterCall = (expanded_page pages page).outer in
+    let here : List Item = behind_lines front (lined t).before in
+    let c : IsChosen pages page here t = place_so pages page here t h.0 in
+    let left : List Item = ending (own_items (lined t)) in (
+      ends_any (source_of (lined t).block (lined t).text) (spots_source (spots_on calls left (map lined ts)) (end_on calls left (map lined ts) behind)) c.closed,
+      closed_from pages page (behind_lines here (own_lines t)) left ts behind h.1,
+    )
+
+pub known_closed : (pages : Pages) (page : List ℕ) (ts : List Told) (behind : Lines) → AllMeet (chosen pages page) [] ts
+    → EndClosed (spots_on (expanded_page pages page).outer [] (map lined ts)) (end_on (expanded_page pages page).outer [] (map lined ts) behind)
+known_closed pages page ts behind h = closed_from pages page [] [] ts behind h
 
 -- ---- no group has the first byte of one
 

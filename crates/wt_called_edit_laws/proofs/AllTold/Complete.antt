@@ -5,6 +5,8 @@ use Rattle.std.specs.Prelude.{◌&&◌}
 use Rattle.std.specs.Str.{IsUtf8}
 use Rattle.std.specs.List.{list_all}
 use Rattle.wt_span.specs.Items.{Item, char, whole, is_mark, sign, sources}
+use Rattle.wt_span.specs.Origins.{Expanded}
+use Rattle.wt_inline.specs.ItemTree.{ItemTree}
 use Rattle.wt_tree.specs.Tiling.{HasNoGroup}
 use Rattle.wt_tree.specs.Tree.{Tree, tree, Trees, none, more, label}
 use Rattle.wt_checks.specs.Kept.{children}
@@ -18,24 +20,26 @@ use Rattle.wt_lines.specs.Lines.{content, full_lines}
 use Rattle.wt_tables.specs.Parts.{joined}
 use Rattle.wt_page.specs.Headings.{heading}
 use Rattle.wt_page.specs.Lines.{kind_at, ending}
-use Rattle.wt_page.specs.Rows.{marks_len, rows_from}
-use Rattle.wt_page.specs.Texts.{para}
 use Rattle.wt_page.proofs.Ends.{content_ending}
+use Rattle.wt_page.specs.Rows.{rows_from, marks_len}
+use Rattle.wt_page.specs.Texts.{para}
 use Rattle.wt_page_round_trip.proofs.OpenedPages.{AreOnes}
 use Rattle.wt_part_laws.specs.Frames.{content as content_part}
 use Rattle.wt_part_laws.specs.Slots.{AllTrue}
 use Rattle.wt_selser.specs.Edits.{is_tangled}
 use Rattle.wt_text_edit_laws.specs.BlockSpots.{BlockSpot, spots_source}
 use Rattle.wt_text_edit_laws.specs.Contents.{IsContentOf}
+use Rattle.wt_called_edit_laws.specs.AllTold.{starts_in, text_on_a_sign, IsExceptedIn, by_its_lines, beside_a_call, IsExcepted, IsOneOf, AllBlocksTold, IsBesideNoCall, AreNoFunctions, IsBesideTexts, unended_marks, holds_a_function, beside_a_text, holds_a_pair}
+use Rattle.wt_text_edit_laws.proofs.Cuts.RowLines.{AllText}
+use Rattle.wt_text_edit_laws.proofs.Cuts.TextLines.{led_first, content_unled}
+use Rattle.wt_text_edit_laws.proofs.Paragraphs.Marks.{mark_sign, AreMarkSigns, kind_marks}
 use Rattle.wt_text_edit_laws.specs.NoCalls.{CallsNothing}
-use Rattle.wt_text_edit_laws.specs.PageCuts.{EndsClosed}
+use Rattle.wt_text_edit_laws.specs.PageCuts.{EndClosed}
 use Rattle.wt_text_edit_laws.specs.ParagraphBetween.{written_rows, tables_behind, EndApart, BeginApart}
 use Rattle.wt_text_edit_laws.specs.TextBetween.{AreEnded}
-use Rattle.wt_text_edit_laws.specs.TextBlocks.{block_tree}
-use Rattle.wt_text_edit_laws.proofs.Cuts.RowLines.{AllText}
-use Rattle.wt_text_edit_laws.proofs.Paragraphs.Marks.{mark_sign, AreMarkSigns, kind_marks}
-use Rattle.wt_text_edit_laws.proofs.Cuts.TextLines.{led_first, content_unled}
-use Rattle.wt_called_edit_laws.specs.AllTold.{starts_in, IsBesideNoCall, AreNoFunctions, IsBesideTexts, IsExceptedAt, text_on_a_sign, unended_marks, by_its_lines, beside_a_call, holds_a_function, beside_a_text, holds_a_pair, IsExcepted, IsOneOf, AllBlocksTold}
+use Rattle.wt_text_edit_laws.specs.TextBlocks.{TextBlock, a_paragraph, source_of, block_items, block_tree}
+use Rattle.wt_text_edit_laws.specs.Unclosed.{holds_unclosed}
+use Rattle.wt_beside_laws.proofs.Derived.BlockContents.{BlockSeen, block_seen}
 use Rattle.wt_called_edit_laws.specs.AnyBlocks.{open_after}
 use Rattle.wt_called_edit_laws.specs.CalledBlocks.{tree_by}
 use Rattle.wt_called_edit_laws.specs.CalledPages.{IsCalledPage}
@@ -43,7 +47,7 @@ use Rattle.wt_called_edit_laws.specs.CalledTexts.{spots_tree}
 use Rattle.wt_called_edit_laws.specs.ContentsTaken.{TakesContents}
 use Rattle.wt_called_edit_laws.specs.EditsAt.{AllStand}
 use Rattle.wt_called_edit_laws.specs.Groups.{called_tree}
-use Rattle.wt_called_edit_laws.specs.LinedAmong.{spots_of_lines, end_of_lines, IsLinedAmong}
+use Rattle.wt_called_edit_laws.specs.LinedAmong.{spots_of_lines, end_of_lines, AreOfPage, IsLinedAmong}
 use Rattle.wt_called_edit_laws.specs.LinedHeadings.{IsLinedHeading}
 use Rattle.wt_called_edit_laws.specs.Nodes.{block_at}
 use Rattle.wt_called_edit_laws.specs.PlacedBlocks.{AreLinesAt}
@@ -52,20 +56,24 @@ use Rattle.wt_called_edit_laws.specs.RowBlocks.{IsTextBlock, IsReachedAt, IsReac
 use Rattle.wt_called_edit_laws.specs.ToldAmong.{IsToldAmong}
 use Rattle.wt_called_edit_laws.specs.ToldLines.{Told, lined, AreTold}
 use Rattle.wt_called_edit_laws.specs.ToldTogether.{start_of, told_starts, IsAmongNumbers, AreSome}
-use Rattle.wt_called_edit_laws.proofs.Among.LinedParts.{lined_whole, lined_editable}
-use Rattle.wt_called_edit_laws.proofs.Among.ToldAmong.{told_among}
+use Rattle.wt_called_edit_laws.proofs.Among.LinedParts.{of_behind, lined_whole, lined_editable}
+use Rattle.wt_called_edit_laws.proofs.Among.OwnItems.{from_page}
+use Rattle.wt_called_edit_laws.proofs.Among.ToldAmong.{all_told, told_among}
 use Rattle.wt_called_edit_laws.proofs.BlocksOutside.{editable_called}
 use Rattle.wt_called_edit_laws.proofs.CallsTake.{contents_by, contents_paths}
-use Rattle.wt_called_edit_laws.proofs.Cells.PlacedLines.{own_items, lines_joined}
+use Rattle.wt_called_edit_laws.proofs.Cells.PlacedLines.{own_items, own_block, Round, lines_joined}
 use Rattle.wt_called_edit_laws.proofs.Cells.SpotSlots.{open_size}
 use Rattle.wt_called_edit_laws.proofs.EditFacts.{IsFramedPage, framed_page, paths_of, spots_stand, spots_contents}
 use Rattle.wt_called_edit_laws.proofs.GroupsAmong.{retyped_self}
 use Rattle.wt_called_edit_laws.proofs.PathsSend.{NoneEmpty, paths_full}
-use Rattle.wt_called_edit_laws.proofs.AllTold.Alone.{IsAloneTold}
-use Rattle.wt_called_edit_laws.proofs.AllTold.Chosen.{beside_call_decided, functions_decided, texts_decided, calm_decided, own_behind}
-use Rattle.wt_called_edit_laws.proofs.AllTold.ChosenLines.{byte_at, among_mapped, ones_front, ones_behind, starts_so}
+use Rattle.wt_called_edit_laws.proofs.AllTold.Alone.{IsAloneTold, IsAloneHere, alone_here, alone_read, own_round}
+use Rattle.wt_called_edit_laws.proofs.AllTold.Chosen.{IsOwnBehind, IsChosen, beside_call_decided, functions_decided, texts_decided, calm_decided, own_behind}
+use Rattle.wt_called_edit_laws.proofs.AllTold.ChosenLines.{byte_at, among_mapped, starts_so, ones_front, ones_behind}
+use Rattle.wt_called_edit_laws.proofs.AllTold.ClosedBlocks.{own_marks_ended, own_closed, own_reaches}
+use Rattle.wt_called_edit_laws.proofs.AllTold.ClosedLines.{NoneBlank, unclosed_by, AllPast, heading_size, para_size}
+use Rattle.wt_called_edit_laws.proofs.Told.HeadItems.{told_source, equals_seen, begins_content}
 use Rattle.wt_called_edit_laws.proofs.AllTold.EachBlocks.{EachBlockIn}
-use Rattle.wt_called_edit_laws.proofs.AllTold.Found.{size}
+use Rattle.wt_called_edit_laws.proofs.AllTold.Found.{size, tree_size, size_both}
 use Rattle.wt_called_edit_laws.proofs.AllTold.HeadSigns.{head_begins}
 use Rattle.wt_called_edit_laws.proofs.AllTold.LineBlocks.{block_on_lines}
 use Rattle.wt_called_edit_laws.proofs.AllTold.LineKinds.{Lines, led_by, past_marks, led_whole, led_marks, kind_led}
@@ -74,7 +82,7 @@ use Rattle.wt_called_edit_laws.proofs.AllTold.OwnLines.{AreSeen, text_own_lines,
 use Rattle.wt_called_edit_laws.proofs.AllTold.OwnTrees.{OwnRound, paragraph_is, heading_is}
 use Rattle.wt_called_edit_laws.proofs.AllTold.PlaceStarts.{starts_from, spot_starts, paths_start, AllClear, clear_paths, AllHaveBytes, contents_some, LeadsThere, leads, leads_there}
 use Rattle.wt_called_edit_laws.proofs.AllTold.RowBlocks.{housed, page_stands, body_none, below}
-use Rattle.wt_called_edit_laws.proofs.AllTold.Scans.{Decided, bool_decided, kind_decided, ended_decided, text_told, heading_told}
+use Rattle.wt_called_edit_laws.proofs.AllTold.Scans.{Decided, ended_decided, text_told, heading_told}
 use Rattle.wt_called_edit_laws.proofs.AllTold.Starts.{HasByte, BlockAt, BlockIn, same_paths}
 use Rattle.wt_called_edit_laws.proofs.AllTold.Together.{AreAllChosen, chosen_together, told_by_all}
 use Rattle.wt_called_edit_laws.proofs.AllTold.ToldStarts.{are_own, blank_is}
@@ -87,7 +95,7 @@ mutual
       (housed l.kind (subst (λ (v : Tree). IsTextBlock (label v).kind) (sym e) b), subst HasByte (sym e) h)
   block_there (i ∷ is) (tree l ts) u e b h = (e.0, block_in i is ts u e.1 b h)
 
-  block_in : (i : ℕ) (is : List ℕ) (ts : Trees) (u : Tree) → IsReachedIn i is ts u → IsTextBlock (label u).kind → HasByte u → BlockIn i is ts
+  pub block_in : (i : ℕ) (is : List ℕ) (ts : Trees) (u : Tree) → IsReachedIn i is ts u → IsTextBlock (label u).kind → HasByte u → BlockIn i is ts
   block_in i is none u e b h = e
   block_in zero is (more t ts) u e b h = block_there is t u e b h
   block_in (suc i) is (more t ts) u e b h = block_in i is ts u e b h
@@ -153,21 +161,21 @@ at_told pages page a h i is t utf8 e b w among =
 
 -- ---- a node that is told alone
 
-abbrev Told_at : (pages : Pages) (page : List ℕ) (i : ℕ) (is : List ℕ) → AreAllChosen pages page → IsUtf8 page → refusal_of_page pages page ≡ None → EndsClosed page [] → Type 0
-Told_at pages page i is a u r c =
-    (s : AreSome a.ts) × IsOneOf (i ∷ is) (taken_at pages page a.ts a.behind (told_by_all pages page u r c a s)).paths
+abbrev Told_at : (pages : Pages) (page : List ℕ) (i : ℕ) (is : List ℕ) → AreAllChosen pages page → IsUtf8 page → refusal_of_page pages page ≡ None → Type 0
+Told_at pages page i is a u r =
+    (s : AreSome a.ts) × IsOneOf (i ∷ is) (taken_at pages page a.ts a.behind (told_by_all pages page u r a s)).paths
 
 alone_told : (pages : Pages) (page : List ℕ) (i : ℕ) (is : List ℕ) (t : Tree) (n : IsNodeAt pages page i is t) (a : AreAllChosen pages page) (s : StandsIn pages page t) (o : Told)
     (rest : Lines) (h : IsAloneTold pages page o rest)
     → (OwnRound (lined o) rest → s.block ≡ block_tree (lined o).block (lined o).text) → size s.before ≡ start_of 0 o
-    → Told_at pages page i is a n.utf8 n.unrefused n.closed
+    → Told_at pages page i is a n.utf8 n.unrefused
 alone_told pages page i is t n a s o rest h tree_so at =
     let k : IsKnownNode pages page i is t o = known_node pages page i is t n s o rest h tree_so at in
     let among : IsAmongNumbers (start_of 0 o) (told_starts 0 a.ts) = a.all o rest h.are h.told k.here in
     let some : AreSome a.ts = some_told (start_of 0 o) a.ts among in
     let f : ℕ → ℕ = byte_at (expanded_page pages page).outer (expanded_page pages page).items in (
       some,
-      at_told pages page a (told_by_all pages page n.utf8 n.unrefused n.closed a some) i is t n.utf8 n.there n.block k.byte
+      at_told pages page a (told_by_all pages page n.utf8 n.unrefused a some) i is t n.utf8 n.there n.block k.byte
           (subst (λ (m : ℕ). IsAmongNumbers m (map f (told_starts 0 a.ts))) k.begins (among_mapped f (start_of 0 o) (told_starts 0 a.ts) among)),
     )
 
@@ -196,7 +204,7 @@ marks_blank n ms h =
     ap (λ (xs : List Item). kind_of_signs n (map sign xs)) (marks_content ms h) ∙ ap (kind_of_signs n) (sym (append-nil (map sign ms)))
     ∙ kind_marks n (map sign ms) [] (marks_signs ms h) ∙ blank_is n
 
-some_past : (n : ℕ) (l : List Item) → (kind_at n l ≡ line.Blank → ⊥) → 1 ≤ length (past_marks l)
+pub some_past : (n : ℕ) (l : List Item) → (kind_at n l ≡ line.Blank → ⊥) → 1 ≤ length (past_marks l)
 some_past n l k = by (past_marks l) refl
   where
     by : (xs : List Item) → past_marks l ≡ xs → 1 ≤ length xs
@@ -208,17 +216,17 @@ some_past n l k = by (past_marks l) refl
 -- ---- by its lines
 
 abbrev Answer : (pages : Pages) (page : List ℕ) (i : ℕ) (is : List ℕ) (t : Tree) → AreAllChosen pages page → IsUtf8 page → refusal_of_page pages page ≡ None
-    → EndsClosed page [] → Type 0
-Answer pages page i is t a u r c = Told_at pages page i is a u r c ⊎ IsExcepted pages page t
+    → Type 0
+Answer pages page i is t a u r = Told_at pages page i is a u r ⊎ IsExcepted pages page t
 
-tables_same : (before : Lines) → tables_behind 0 before ≡ length (open_after [] (written_rows 0 before))
+pub tables_same : (before : Lines) → tables_behind 0 before ≡ length (open_after [] (written_rows 0 before))
 tables_same before = open_size [] 0 before refl
 
 text_all : (n : ℕ) (ls : Lines) → AreOfText n ls → AllText n ls
 text_all n [] h = tt
 text_all n (l ∷ ls) h = (h.0, text_all n ls h.1)
 
-text_lines_at : (n : ℕ) (ls : Lines) → AreOfText n ls → AreLinesAt n ls
+pub text_lines_at : (n : ℕ) (ls : Lines) → AreOfText n ls → AreLinesAt n ls
 text_lines_at n [] g = tt
 text_lines_at n (l ∷ ls) g = (g.0, text_lines_at n ls g.1)
 
@@ -244,31 +252,61 @@ first_unled (x ∷ xs) zs some h = content_unled (x ∷ (xs ++ zs)) (led_first x
 begins_so : (before : Lines) (l : List Item) (o : Told) → (lined o).before ≡ before → (lined o).marks ≡ led_by l → begins_at before l ≡ start_of 0 o
 begins_so before l o e f = omega (arith, ap (λ (ls : Lines). size (joined ls)) e, ap size f)
 
+-- each of text shows something
+all_past : (n : ℕ) (ls : Lines) → AreOfText n ls → AllPast ls
+all_past n [] h = tt
+all_past n (l ∷ ls) h = (some_past n l (λ w. let wrong : line.Blank ≡ line.Text = sym w ∙ h.0 in absurd (cc)), all_past n ls h.1)
+
+none_blank : (n : ℕ) (ls : Lines) → AreLinesAt n ls → NoneBlank n ls
+none_blank n [] h = tt
+none_blank n (l ∷ ls) h = ((λ e. let wrong : line.Blank ≡ line.Text = sym e ∙ h.0 in absurd (cc)), none_blank n ls h.1)
+
+-- what is known of a block with this tree by its lines, and so of it where they are the page's own
+record HasLines (b : LinedBlock) (rest : Lines) (u : ItemTree) : Type 0 where
+  some : 1 ≤ length b.first
+  are_marks : list_all is_mark b.marks ≡ true
+  seen : Round b rest → BlockSeen (content (own_items b))
+  number : ℕ
+  shown : NoneBlank number (b.first ∷ b.more)
+  source : AreOfPage (own_items b) → source_of b.block b.text ≡ sources (content (own_items b))
+  size_is : tree_size u + size (ending (own_items b)) ≡ size (own_items b)
+  tree_so : OwnRound b rest → u ≡ block_tree b.block b.text
+
 -- where its lines are the page's own, or not
 by_place : (pages : Pages) (page : List ℕ) (i : ℕ) (is : List ℕ) (t : Tree) (n : IsNodeAt pages page i is t) (a : AreAllChosen pages page) (s : StandsIn pages page t) (o : Told)
-    (rest : Lines) → full_lines (expanded_page pages page).items ≡ all_lines (lined o ∷ []) rest → AreTold (o ∷ []) rest
-    → (OwnRound (lined o) rest → s.block ≡ block_tree (lined o).block (lined o).text) → size s.before ≡ start_of 0 o
-    → AllFrom None (content (own_items (lined o))) → Answer pages page i is t a n.utf8 n.unrefused n.closed
-by_place pages page i is t n a s o rest are told tree_so at own =
-    by (beside_call_decided (joined (lined o).before) o) (functions_decided (content (own_items (lined o)))) (texts_decided (expanded_page pages page) (joined (lined o).before) o)
-    (calm_decided (content (own_items (lined o))))
+    (rest : Lines) → full_lines (expanded_page pages page).items ≡ all_lines (lined o ∷ []) rest → (AreEnded (sources (lined o).marks) → AreTold (o ∷ []) rest)
+    → HasLines (lined o) rest s.block → size s.before ≡ start_of 0 o → AllFrom None (content (own_items (lined o))) → Answer pages page i is t a n.utf8 n.unrefused
+by_place pages page i is t n a s o rest are told_so l at own = ended (ended_decided (sources (lined o).marks))
   where
-    by : Decided (IsBesideNoCall (joined (lined o).before) o) → Decided (AreNoFunctions (content (own_items (lined o))))
-        → Decided (IsBesideTexts (expanded_page pages page) (joined (lined o).before) o) → Decided (CallsNothing (content (own_items (lined o))))
-        → Answer pages page i is t a n.utf8 n.unrefused n.closed
-    by (inr f) b c d = inr (record { stands = s; begins_so = beside_a_call o rest are told at f })
-    by (inl x) (inr f) c d = inr (record { stands = s; begins_so = holds_a_function o rest are told at f })
-    by (inl x) (inl y) (inr f) d = inr (record { stands = s; begins_so = beside_a_text o rest are told at f })
-    by (inl x) (inl y) (inl z) (inr f) = inr (record { stands = s; begins_so = holds_a_pair o rest are told at f })
-    by (inl x) (inl y) (inl z) (inl w) =
-        inl (alone_told pages page i is t n a s o rest
-        (record {
-          utf8 = n.utf8;
-          closed = n.closed;
-          are = are;
-          told = told;
-          place = own_behind (expanded_page pages page) (joined (lined o).before) o own x y w z;
-        }) tree_so at)
+    e : Expanded
+    e = expanded_page pages page
+
+    front : List Item
+    front = joined (lined o).before
+
+    line : List Item
+    line = content (own_items (lined o))
+
+    by : AreTold (o ∷ []) rest → Decided (IsBesideNoCall front o) → Decided (AreNoFunctions line) → Decided (IsBesideTexts e front o) → Decided (CallsNothing line)
+        → Answer pages page i is t a n.utf8 n.unrefused
+    by told (inr f) b c d = inr (record { stands = s; begins_so = beside_a_call o rest are told at f })
+    by told (inl x) (inr f) c d = inr (record { stands = s; begins_so = holds_a_function o rest are told at f })
+    by told (inl x) (inl y) (inr f) d = inr (record { stands = s; begins_so = beside_a_text o rest are told at f })
+    by told (inl x) (inl y) (inl z) (inr f) = inr (record { stands = s; begins_so = holds_a_pair o rest are told at f })
+    by told (inl x) (inl y) (inl z) (inl w) =
+        let p : IsOwnBehind e front o = own_behind e front o own x y w z in
+        let closed : EndClosed (spots_of_lines pages page (map lined (o ∷ []))) (end_of_lines pages page (map lined (o ∷ [])) rest) =
+        own_closed pages page o rest l.number are p l.some l.seen l.shown (l.source (of_behind (lined o).marks (own_items (lined o)) p.own))
+        (λ none. unclosed_by e.items page (label t).ranges n.unclosed (own_reaches pages page t s o rest n.utf8 n.unrefused are p at l.size_is none)) in
+        inl (alone_told pages page i is t n a s o rest (record { utf8 = n.utf8; closed = closed; are = are; told = told; place = p }) l.tree_so at)
+
+    ended : Decided (AreEnded (sources (lined o).marks)) → Answer pages page i is t a n.utf8 n.unrefused
+    ended (inr f) =
+        inr (record {
+          stands = s;
+          begins_so = unended_marks o rest are l.are_marks at f (λ ends mine beside. f (own_marks_ended pages page o rest are ends mine beside l.some l.are_marks));
+        })
+    ended (inl h) = by (told_so h) (beside_call_decided front o) (functions_decided line) (texts_decided e front o) (calm_decided line)
 
 -- each line of text has something behind its marks
 texts_seen : (n : ℕ) (ls : Lines) → AreOfText n ls → AreSeen ls
@@ -290,9 +328,11 @@ text_case : (pages : Pages) (page : List ℕ) (i : ℕ) (is : List ℕ) (t : Tre
     (before : Lines) (first : List Item) (others behind : Lines)
     → full_lines (expanded_page pages page).items ≡ before ++ ((first ∷ others) ++ behind) → AllTrue (open_after [] (written_rows 0 before)) → EndApart (written_rows 0 before)
     → AreOfText (tables_behind 0 before) (first ∷ others) → BeginApart (rows_from (tables_behind 0 before) behind) → size s.before ≡ begins_at before first
-    → s.block ≡ para (map text_row (first ∷ others)) → Answer pages page i is t a n.utf8 n.unrefused n.closed
+    → s.block ≡ para (map text_row (first ∷ others)) → Answer pages page i is t a n.utf8 n.unrefused
 text_case pages page i is t n a s before first others behind are cells apart texts stops at tree_is =
-    by (ended_decided (sources (led_by first)))
+    by_place pages page i is t n a s o behind all told on (at ∙ begins_so before first o refl refl)
+    (text_own_lines first others s.block tree_is (own_tree pages page i is t n s) (texts_seen m (first ∷ others) here)
+    (content_ones pages page o behind n.utf8 n.unrefused all))
   where
     m : ℕ
     m = length (open_after [] (written_rows 0 before))
@@ -303,11 +343,11 @@ text_case pages page i is t n a s before first others behind are cells apart tex
     here : AreOfText m (first ∷ others)
     here = subst (λ (j : ℕ). AreOfText j (first ∷ others)) (tables_same before) texts
 
+    seen : AllPast (first ∷ others)
+    seen = all_past m (first ∷ others) here
+
     line_is : led_by first ++ past_marks first ≡ first
     line_is = led_whole first
-
-    except : IsExceptedAt (full_lines (expanded_page pages page).items) (size s.before) → Answer pages page i is t a n.utf8 n.unrefused n.closed
-    except x = inr (record { stands = s; begins_so = by_its_lines x })
 
     tree_so : OwnRound (lined o) behind → s.block ≡ block_tree (lined o).block (lined o).text
     tree_so round =
@@ -315,58 +355,90 @@ text_case pages page i is t n a s before first others behind are cells apart tex
         ∙ paragraph_is before (led_by first) (past_marks first) others behind round (led_marks first)
         (subst (λ (l : List Item). AllText m (l ∷ others)) (sym line_is) (text_all m (first ∷ others) here))
 
-    by : Decided (AreEnded (sources (led_by first))) → Answer pages page i is t a n.utf8 n.unrefused n.closed
-    by (inr f) = except (unended_marks before first (others ++ behind) are at f)
-    by (inl e) =
-        let seen : 1 ≤ length (past_marks first) =
-        some_past m first (λ w. let wrong : line.Blank ≡ line.Text = sym w ∙ here.0 in absurd (cc)) in
-        let own : AreLinesAt m (past_marks first ∷ others) = (kind_led m first seen ∙ here.0, text_lines_at m others here.1) in
-        let unled : marks_len (content (joined (past_marks first ∷ others))) ≡ 0 =
-        first_unled (past_marks first) (joined others) seen (past_unled first) in
-        let told : AreTold (o ∷ []) behind = (
-          record { are_marks = led_marks first; ended = e; some = seen; in_cells = cells; apart = apart; own = (own, unled) },
-          subst (λ (j : ℕ). BeginApart (rows_from j behind)) (tables_same before) stops,
-        ) in
-        let all : full_lines (expanded_page pages page).items ≡ all_lines (lined o ∷ []) behind =
-        are ∙ ap (λ (l : List Item). before ++ ((l ∷ others) ++ behind)) (sym line_is) in
-        by_place pages page i is t n a s o behind all told tree_so (at ∙ begins_so before first o refl refl)
-        (text_own_lines first others s.block tree_is (own_tree pages page i is t n s) (texts_seen m (first ∷ others) here)
-        (content_ones pages page o behind n.utf8 n.unrefused all))
+    own : AreLinesAt m (past_marks first ∷ others)
+    own = (kind_led m first seen.0 ∙ here.0, text_lines_at m others here.1)
+
+    unled : marks_len (content (joined (past_marks first ∷ others))) ≡ 0
+    unled = first_unled (past_marks first) (joined others) seen.0 (past_unled first)
+
+    told : AreEnded (sources (led_by first)) → AreTold (o ∷ []) behind
+    told e = (
+      record { are_marks = led_marks first; ended = e; some = seen.0; in_cells = cells; apart = apart; own = (own, unled) },
+      subst (λ (j : ℕ). BeginApart (rows_from j behind)) (tables_same before) stops,
+    )
+
+    all : full_lines (expanded_page pages page).items ≡ all_lines (lined o ∷ []) behind
+    all = are ∙ ap (λ (l : List Item). before ++ ((l ∷ others) ++ behind)) (sym line_is)
+
+    on : HasLines (lined o) behind s.block
+    on = record {
+      some = seen.0;
+      are_marks = led_marks first;
+      seen = λ r. block_seen a_paragraph (lined o).text (content (own_items (lined o)))
+          (own_block a_paragraph m (lined o).text (past_marks first ∷ others) r.y r.ys r.some r.own_are (own, unled, refl)).0;
+      number = m;
+      shown = none_blank m (past_marks first ∷ others) own;
+      source = λ mine. refl;
+      size_is = ap (λ (u : ItemTree). tree_size u + size (ending (own_items (lined o)))) tree_is ∙ para_size first others seen;
+      tree_so = tree_so;
+    }
 
 heading_case : (pages : Pages) (page : List ℕ) (i : ℕ) (is : List ℕ) (t : Tree) (n : IsNodeAt pages page i is t) (a : AreAllChosen pages page) (s : StandsIn pages page t)
     (before : Lines) (own : List Item) (behind : Lines)
     → full_lines (expanded_page pages page).items ≡ before ++ own ∷ behind → AllTrue (open_after [] (written_rows 0 before)) → kind_at (tables_behind 0 before) own ≡ line.Heading
-    → size s.before ≡ begins_at before own → s.block ≡ heading (content (past_marks own)) → Answer pages page i is t a n.utf8 n.unrefused n.closed
+    → size s.before ≡ begins_at before own → s.block ≡ heading (content (past_marks own)) → Answer pages page i is t a n.utf8 n.unrefused
 heading_case pages page i is t n a s before own behind are cells kind_is at tree_is =
-    by (ended_decided (sources (led_by own)))
+    by_place pages page i is t n a s o behind all told on (at ∙ begins_so before own o refl refl)
+    (heading_own_lines own s.block tree_is (own_tree pages page i is t n s) (content_ones pages page o behind n.utf8 n.unrefused all))
   where
     m : ℕ
     m = length (open_after [] (written_rows 0 before))
 
+    l : List Item
+    l = past_marks own
+
     o : Told
     o = heading_told before own
 
-    by : Decided (AreEnded (sources (led_by own))) → Answer pages page i is t a n.utf8 n.unrefused n.closed
-    by (inr f) = inr (record { stands = s; begins_so = by_its_lines (unended_marks before own behind are at f) })
-    by (inl e) =
-        let here : kind_at m own ≡ line.Heading = subst (λ (j : ℕ). kind_at j own ≡ line.Heading) (tables_same before) kind_is in
-        let seen : 1 ≤ length (past_marks own) = some_past m own (λ v. let wrong : line.Blank ≡ line.Heading = sym v ∙ here in absurd (cc)) in
-        let head : IsLinedHeading m (past_marks own) = record {
-          is_heading = kind_led m own seen ∙ here;
-          first = head_begins pages page before own behind n.utf8 n.unrefused are m here seen;
-        } in
-        let told : AreTold (o ∷ []) behind = (
-          record { are_marks = led_marks own; ended = e; some = seen; in_cells = cells; apart = tt; own = head },
-          tt,
-        ) in
-        let all : full_lines (expanded_page pages page).items ≡ all_lines (lined o ∷ []) behind =
-        are ∙ ap (λ (l : List Item). before ++ l ∷ behind) (sym (led_whole own)) in
-        by_place pages page i is t n a s o behind all told (λ round. tree_is ∙ heading_is before (led_by own) (past_marks own) behind round)
-        (at ∙ begins_so before own o refl refl)
-        (heading_own_lines own s.block tree_is (own_tree pages page i is t n s) (content_ones pages page o behind n.utf8 n.unrefused all))
+    here : kind_at m own ≡ line.Heading
+    here = subst (λ (j : ℕ). kind_at j own ≡ line.Heading) (tables_same before) kind_is
+
+    seen : 1 ≤ length l
+    seen = some_past m own (λ v. let wrong : line.Blank ≡ line.Heading = sym v ∙ here in absurd (cc))
+
+    head : IsLinedHeading m l
+    head = record { is_heading = kind_led m own seen ∙ here; first = head_begins pages page before own behind n.utf8 n.unrefused are m here seen }
+
+    told : AreEnded (sources (led_by own)) → AreTold (o ∷ []) behind
+    told e = (
+      record { are_marks = led_marks own; ended = e; some = seen; in_cells = cells; apart = tt; own = head },
+      tt,
+    )
+
+    all : full_lines (expanded_page pages page).items ≡ all_lines (lined o ∷ []) behind
+    all = are ∙ ap (λ (k : List Item). before ++ k ∷ behind) (sym (led_whole own))
+
+    one : l ++ [] ≡ l
+    one = append-nil l
+
+    line_size : tree_size (heading (content l)) + size (ending l) ≡ size l
+    line_size = omega (arith, heading_size (content l), sym (size_both (content l) (ending l)) ∙ ap size (content_ending l))
+
+    on : HasLines (lined o) behind s.block
+    on = record {
+      some = seen;
+      are_marks = led_marks own;
+      seen = λ r. subst (λ (ys : List Item). BlockSeen (content ys)) (sym one) (equals_seen (content l) (begins_content l head.first));
+      number = m;
+      shown = ((λ e. let wrong : line.Blank ≡ line.Heading = sym e ∙ head.is_heading in absurd (cc)), tt);
+      source = λ mine. told_source m l head (from_page l (subst AreOfPage one mine)) ∙ ap (λ (ys : List Item). sources (content ys)) (sym one);
+      size_is = ap (λ (u : ItemTree). tree_size u + size (ending (l ++ []))) tree_is
+          ∙ ap (λ (ys : List Item). tree_size (heading (content l)) + size (ending ys)) one ∙ line_size ∙ ap size (sym one);
+      tree_so = λ round. tree_is ∙ heading_is before (led_by own) l behind round;
+    }
 
 by_lines : (pages : Pages) (page : List ℕ) (i : ℕ) (is : List ℕ) (t : Tree) (n : IsNodeAt pages page i is t) (a : AreAllChosen pages page) (s : StandsIn pages page t)
-    → IsOfLines (full_lines (expanded_page pages page).items) (size s.before) s.block → Answer pages page i is t a n.utf8 n.unrefused n.closed
+    → IsOfLines (full_lines (expanded_page pages page).items) (size s.before) s.block → Answer pages page i is t a n.utf8 n.unrefused
 by_lines pages page i is t n a s (of_lines before first others behind are cells apart texts stops at tree_is) =
     text_case pages page i is t n a s before first others behind are cells apart texts stops at tree_is
 by_lines pages page i is t n a s (of_line before own behind are cells kind_is at tree_is) =
@@ -374,16 +446,17 @@ by_lines pages page i is t n a s (of_line before own behind are cells kind_is at
 by_lines pages page i is t n a s (behind_a_sign before first others behind are unended at tree_is) =
     inr (record { stands = s; begins_so = by_its_lines (text_on_a_sign before first others behind are unended at) })
 
-complete_at : (pages : Pages) (page : List ℕ) (u : IsUtf8 page) (r : refusal_of_page pages page ≡ None) (c : EndsClosed page []) (a : AreAllChosen pages page)
+complete_at : (pages : Pages) (page : List ℕ) (u : IsUtf8 page) (r : refusal_of_page pages page ≡ None) (a : AreAllChosen pages page)
     (p : List ℕ) (t : Tree) → IsReachedAt p (called_tree pages page) t → IsTextBlock (label t).kind → HasNoGroup t → is_tangled (expanded_page pages page) page t ≡ false
-    → ((s : AreSome a.ts) × IsOneOf p (taken_at pages page a.ts a.behind (told_by_all pages page u r c a s)).paths) ⊎ IsExcepted pages page t
-complete_at pages page u r c a [] t e b g f = absurd (body_none pages page t u r e b)
-complete_at pages page u r c a (i ∷ is) t e b g f =
+    → holds_unclosed (expanded_page pages page).items page (label t).ranges ≡ false
+    → ((s : AreSome a.ts) × IsOneOf p (taken_at pages page a.ts a.behind (told_by_all pages page u r a s)).paths) ⊎ IsExcepted pages page t
+complete_at pages page u r a [] t e b g f h = absurd (body_none pages page t u r e b)
+complete_at pages page u r a (i ∷ is) t e b g f h =
     let s : StandsOnLines pages page t = block_on_lines pages page (i ∷ is) t u r e b in
     let n : IsNodeAt pages page i is t = record {
       utf8 = u;
       unrefused = r;
-      closed = c;
+      unclosed = h;
       there = below i is (called_tree pages page) t e;
       block = b;
       ungrouped = g;
@@ -391,12 +464,12 @@ complete_at pages page u r c a (i ∷ is) t e b g f =
     } in
     by_lines pages page i is t n a s.stands s.by_lines
 
-pub all_blocks : (pages : Pages) (page : List ℕ) → IsUtf8 page → refusal_of_page pages page ≡ None → EndsClosed page [] → AllBlocksTold pages page
-all_blocks pages page u r c =
+pub all_blocks : (pages : Pages) (page : List ℕ) → IsUtf8 page → refusal_of_page pages page ≡ None → AllBlocksTold pages page
+all_blocks pages page u r =
     let a : AreAllChosen pages page = chosen_together pages page in
     record {
       ts = a.ts;
       behind = a.behind;
-      told = λ s. let h : IsToldAmong pages page a.ts a.behind = told_by_all pages page u r c a s in record { told = h; taken = taken_at pages page a.ts a.behind h };
-      complete = complete_at pages page u r c a;
+      told = λ s. let h : IsToldAmong pages page a.ts a.behind = told_by_all pages page u r a s in record { told = h; taken = taken_at pages page a.ts a.behind h };
+      complete = complete_at pages page u r a;
     }

@@ -19,6 +19,7 @@ use Rattle.wt_expand.specs.Work.{Pages}
 use Rattle.wt_commands.specs.Answers.{refusal_of_page}
 use Rattle.wt_isolation.specs.OpenTags.{any_ends_open}
 use Rattle.wt_lines.specs.Lines.{goes_on, full_lines}
+use Rattle.wt_page.specs.Body.{meaning}
 use Rattle.wt_page.proofs.HeldBody.{held_meaning}
 use Rattle.wt_page_round_trip.proofs.HeldPages.{items_ones, tree_ones}
 use Rattle.wt_page_round_trip.proofs.OpenedPages.{AreOnes, opened_text}
@@ -29,7 +30,8 @@ use Rattle.wt_part_laws.specs.Standing.{standing}
 use Rattle.wt_part_laws.proofs.OwnWalks.{OfPage}
 use Rattle.wt_selser.specs.Edits.{is_tangled}
 use Rattle.wt_text_edit_laws.specs.PageCuts.{EndsClosed}
-use Rattle.wt_text_edit_laws.specs.TextBlocks.{TextBlock, source_of, block_tree}
+use Rattle.wt_text_edit_laws.specs.TextBlocks.{TextBlock, source_of, block_items, block_tree}
+use Rattle.wt_text_edit_laws.specs.Unclosed.{holds_unclosed}
 use Rattle.wt_text_edit_laws.proofs.Cuts.TextLines.{joined_is}
 use Rattle.wt_beside_laws.proofs.Made.OldBlocks.{no_group}
 use Rattle.wt_beside_laws.proofs.Derived.NodesHave.{full_nodes}
@@ -44,7 +46,7 @@ use Rattle.wt_called_edit_laws.proofs.Cells.PlacedLines.{own_items}
 use Rattle.wt_called_edit_laws.proofs.TextsMake.{flat_same}
 use Rattle.wt_called_edit_laws.proofs.Told.FreeNodes.{IsFullTree, tree_untangled, tree_shut, same_shut}
 use Rattle.wt_called_edit_laws.proofs.Told.OwnReads.{OwnRead}
-use Rattle.wt_called_edit_laws.proofs.AllTold.Alone.{IsAloneTold, IsAloneHere, alone_here, own_round, IsAloneRead, alone_read}
+use Rattle.wt_called_edit_laws.proofs.AllTold.Alone.{IsAloneTold, IsAloneHere, alone_here, own_round, content_closed, IsAloneRead, alone_read}
 use Rattle.wt_called_edit_laws.proofs.AllTold.Chosen.{IsFreeAlone, free_of, IsChosen}
 use Rattle.wt_called_edit_laws.proofs.AllTold.ChosenLines.{byte_at, byte_of, ones_front, rest_is}
 use Rattle.wt_called_edit_laws.proofs.AllTold.Found.{size, size_both}
@@ -61,7 +63,7 @@ use Rattle.wt_called_edit_laws.proofs.AllTold.Starts.{HasByte}
 pub record IsNodeAt (pages : Pages) (page : List ℕ) (i : ℕ) (is : List ℕ) (t : Tree) : Type 0 where
   pub utf8 : IsUtf8 page
   pub unrefused : refusal_of_page pages page ≡ None
-  pub closed : EndsClosed page []
+  pub unclosed : holds_unclosed (expanded_page pages page).items page (label t).ranges ≡ false
   pub there : IsReachedIn i is (children (called_tree pages page)) t
   pub block : IsTextBlock (label t).kind
   pub ungrouped : HasNoGroup t
@@ -94,20 +96,25 @@ front_same (x ∷ xs) ys [] vs e n = absurd (omega (arith, n))
 front_same (x ∷ xs) ys (u ∷ us) vs e n =
     ap (λ (z : Item). z ∷ xs) (ap (item_or x) e) ∙ ap (λ (zs : List Item). u ∷ zs) (front_same xs ys us vs (ap other_items e) (omega (arith, n)))
 
--- what is on the page before a node, where as many items are before it as these
-text_before : (pages : Pages) (page : List ℕ) (t : Tree) (s : StandsIn pages page t) (xs ys : List Item) → IsUtf8 page → refusal_of_page pages page ≡ None
-    → (expanded_page pages page).items ≡ xs ++ ys → size s.before ≡ size xs
-    → text_from (expanded_page pages page).outer None s.before ≡ text_from (expanded_page pages page).outer None xs
-text_before pages page t s xs ys u r e n =
+-- what is on the page for the first items of its tree, and for as many of its items
+pub same_text : (pages : Pages) (page : List ℕ) (xs ys zs others : List Item) → IsUtf8 page → refusal_of_page pages page ≡ None
+    → tree_items (meaning (expanded_page pages page).items) ≡ zs ++ others → (expanded_page pages page).items ≡ xs ++ ys → size zs ≡ size xs
+    → text_from (expanded_page pages page).outer None zs ≡ text_from (expanded_page pages page).outer None xs
+same_text pages page xs ys zs others u r whole e n =
     let calls : List OuterCall = (expanded_page pages page).outer in
     let items : List Item = (expanded_page pages page).items in
-    let rest : List Item = tree_items s.block ++ s.behind in
-    let mine : AreOnes s.before = ones_front s.before rest (subst AreOnes s.whole (tree_ones pages page u r)) in
+    let mine : AreOnes zs = ones_front zs others (subst AreOnes whole (tree_ones pages page u r)) in
     let its : AreOnes xs = ones_front xs ys (subst AreOnes e (items_ones pages page u r)) in
-    let all : opened_all s.before ++ opened_all rest ≡ opened_all xs ++ opened_all ys =
-    sym (flat_map-append opened s.before rest) ∙ ap opened_all (sym s.whole) ∙ held_meaning items ∙ ap opened_all e ∙ flat_map-append opened xs ys in
-    let same : opened_all s.before ≡ opened_all xs = front_same (opened_all s.before) (opened_all rest) (opened_all xs) (opened_all ys) all n in
-    sym (opened_text calls None s.before mine) ∙ ap (text_from calls None) same ∙ opened_text calls None xs its
+    let all : opened_all zs ++ opened_all others ≡ opened_all xs ++ opened_all ys =
+    sym (flat_map-append opened zs others) ∙ ap opened_all (sym whole) ∙ held_meaning items ∙ ap opened_all e ∙ flat_map-append opened xs ys in
+    let same : opened_all zs ≡ opened_all xs = front_same (opened_all zs) (opened_all others) (opened_all xs) (opened_all ys) all n in
+    sym (opened_text calls None zs mine) ∙ ap (text_from calls None) same ∙ opened_text calls None xs its
+
+-- what is on the page before a node, where as many items are before it as these
+pub text_before : (pages : Pages) (page : List ℕ) (t : Tree) (s : StandsIn pages page t) (xs ys : List Item) → IsUtf8 page → refusal_of_page pages page ≡ None
+    → (expanded_page pages page).items ≡ xs ++ ys → size s.before ≡ size xs
+    → text_from (expanded_page pages page).outer None s.before ≡ text_from (expanded_page pages page).outer None xs
+text_before pages page t s xs ys u r e n = same_text pages page xs ys s.before (tree_items s.block ++ s.behind) u r s.whole e n
 
 -- ---- the node
 
@@ -170,6 +177,7 @@ known_node pages page i is t n s o rest h tree_so at =
         place = h.place;
         outside = reached_outside pages page i is t (length (text_from calls None front)) n.utf8 n.unrefused n.there n.ungrouped byte first;
         free = known.0;
+        closed = content_closed k q a.is_content;
       };
       byte = byte;
       begins = ap (byte_at calls items) count ∙ byte_of calls front more items whole (items_ones pages page n.utf8 n.unrefused) ∙ first;

@@ -48,7 +48,7 @@ abbrev pub spot_starts : ℕ → List BlockSpot → List ℕ
 spot_starts at [] = []
 spot_starts at (s ∷ ss) = (at + length s.before) ∷ spot_starts ((at + length s.before) + length (source_of s.block s.text)) ss
 
-abbrev gap_starts : (ℕ → ItemTree) → ℕ → Gaps → List ℕ
+abbrev pub gap_starts : (ℕ → ItemTree) → ℕ → Gaps → List ℕ
 gap_starts t at (last_gap xs) = []
 gap_starts t at (then_gap xs i g) = (at + length xs) ∷ gap_starts t ((at + length xs) + length (source_at t i)) g
 
@@ -58,7 +58,7 @@ starts_before t at xs (then_gap ys i g) =
     let z : at + length (xs ++ ys) ≡ (at + length xs) + length ys = omega (arith, length-append xs ys) in
     ap (λ (n : ℕ). n ∷ gap_starts t (n + length (source_at t i)) g) z
 
-gaps_are : (t : ℕ → ItemTree) (at : ℕ) (g : Gaps) (ss : List BlockSpot) → AreSame g ss → AreThere t (numbers_in g) ss → gap_starts t at g ≡ spot_starts at ss
+pub gaps_are : (t : ℕ → ItemTree) (at : ℕ) (g : Gaps) (ss : List BlockSpot) → AreSame g ss → AreThere t (numbers_in g) ss → gap_starts t at g ≡ spot_starts at ss
 gaps_are t at (last_gap xs) [] m a = refl
 gaps_are t at (last_gap xs) (s ∷ ss) m a = absurd m
 gaps_are t at (then_gap xs i g) [] m a = absurd m
@@ -104,7 +104,7 @@ flat_size l ts e =
     let all : length inside ≡ length (flat (tree l ts)) = ap length (flat_inner (is_leaf l.kind) l.own inside e) in
     omega (arith, all, length-append (l.opening ++ flat_of_all ts) l.closing, length-append l.opening (flat_of_all ts))
 
-all_start : (b : ℕ → Tree) (t : ℕ → ItemTree) (at : ℕ) (fs : TreeFrames) (z : Gaps) → HaveSources b t (spots fs) → NoneLeaves fs
+pub all_start : (b : ℕ → Tree) (t : ℕ → ItemTree) (at : ℕ) (fs : TreeFrames) (z : Gaps) → HaveSources b t (spots fs) → NoneLeaves fs
     → starts_from at (all_filled b fs) (paths_to fs) ++ gap_starts t (at + length (flat_of_all (all_filled b fs))) z ≡ gap_starts t at (gaps_in fs z)
 all_start b t at no_nodes z s w = let e : at + 0 ≡ at = omega arith in ap (λ (n : ℕ). gap_starts t n z) e
 all_start b t at (more_nodes (spot n) fs) z s w =
@@ -159,7 +159,7 @@ mutual
   placeless_in at (suc i) is (more t ts) =
       ap (λ (n : ℕ). starts_in (at + n) i is (all_placeless ts)) (ap length (flat_same t)) ∙ placeless_in (at + length (flat t)) i is ts
 
-placeless_from : (at : ℕ) (ts : Trees) (ps : List (List ℕ)) → starts_from at (all_placeless ts) ps ≡ starts_from at ts ps
+pub placeless_from : (at : ℕ) (ts : Trees) (ps : List (List ℕ)) → starts_from at (all_placeless ts) ps ≡ starts_from at ts ps
 placeless_from at ts [] = refl
 placeless_from at ts ([] ∷ ps) = ap (λ (ns : List ℕ). at ∷ ns) (placeless_from at ts ps)
 placeless_from at ts ((i ∷ is) ∷ ps) = ap₂ (λ (n : ℕ) (ns : List ℕ). n ∷ ns) (placeless_in at i is ts) (placeless_from at ts ps)
@@ -196,11 +196,11 @@ block_byte k q t s h =
 
 -- no group is on the way there
 abbrev mutual
-  ClearAt : List ℕ → Tree → Type 0
+  pub ClearAt : List ℕ → Tree → Type 0
   ClearAt [] t = Unit {0}
   ClearAt (i ∷ is) (tree l ts) = (is_group l.kind ≡ false) × ClearIn i is ts
 
-  ClearIn : ℕ → List ℕ → Trees → Type 0
+  pub ClearIn : ℕ → List ℕ → Trees → Type 0
   ClearIn i is none = Unit {0}
   ClearIn zero is (more t ts) = ClearAt is t
   ClearIn (suc i) is (more t ts) = ClearIn i is ts

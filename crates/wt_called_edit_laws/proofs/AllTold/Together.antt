@@ -11,7 +11,7 @@ use Rattle.wt_commands.specs.Answers.{refusal_of_page}
 use Rattle.wt_lines.specs.Lines.{content, full_lines}
 use Rattle.wt_tables.specs.Parts.{joined}
 use Rattle.wt_page.specs.Rows.{marks_len, signs}
-use Rattle.wt_text_edit_laws.specs.PageCuts.{EndsClosed}
+use Rattle.wt_text_edit_laws.specs.PageCuts.{begins_unmarked, EndsClosed}
 use Rattle.wt_text_edit_laws.proofs.Paragraphs.Marks.{mark_sign}
 use Rattle.wt_called_edit_laws.specs.PlacedLines.{all_lines, AreLined}
 use Rattle.wt_called_edit_laws.specs.ToldAmong.{IsToldAmong}
@@ -19,7 +19,7 @@ use Rattle.wt_called_edit_laws.specs.ToldLines.{Told, a_paragraph_of, a_heading_
 use Rattle.wt_called_edit_laws.specs.ToldTogether.{start_of, told_starts, IsAmongNumbers, AreSome}
 use Rattle.wt_called_edit_laws.proofs.Among.ToldAmong.{all_told}
 use Rattle.wt_called_edit_laws.proofs.AllTold.Chosen.{IsChosen, chosen, chosen_decided}
-use Rattle.wt_called_edit_laws.proofs.AllTold.ChosenLines.{meets_so, known_lines, in_no_group}
+use Rattle.wt_called_edit_laws.proofs.AllTold.ChosenLines.{meets_so, known_lines, known_closed, in_no_group}
 use Rattle.wt_called_edit_laws.proofs.AllTold.LineKinds.{Lines, led_by, past_marks}
 use Rattle.wt_called_edit_laws.proofs.AllTold.Scans.{ToldFrom}
 use Rattle.wt_called_edit_laws.proofs.AllTold.Scanned.{AllMeet, Scan, scan}
@@ -148,10 +148,11 @@ chosen_together pages page =
     }
 
 -- so the page is told by them
-pub told_by_all : (pages : Pages) (page : List ℕ) → IsUtf8 page → refusal_of_page pages page ≡ None → EndsClosed page [] → (a : AreAllChosen pages page) → AreSome a.ts
+pub told_by_all : (pages : Pages) (page : List ℕ) → IsUtf8 page → refusal_of_page pages page ≡ None → (a : AreAllChosen pages page) → AreSome a.ts
     → IsToldAmong pages page a.ts a.behind
-told_by_all pages page u r closed a some =
+told_by_all pages page u r a some =
     let known = known_lines pages page a.ts a.meet in
+    let closed = known_closed pages page a.ts a.behind a.meet in
     let lines : AreLined (map lined a.ts) a.behind =
     all_told pages page a.ts a.behind (record { closed = closed; are = a.are; told = a.told some; own = known.0; untouched = known.1 }) in
     record {

@@ -1,14 +1,14 @@
 -- A block among the items of an expanded page: the page's items, where calls are characters, are cut at it, and so are the page's bytes.
-use Rattle.std.proofs.Common.{arith, ◌≡◌, ◌⊎◌, inl, inr, ℕ, ◌+◌, ◌≤◌, Option, None, List, [], ◌∷◌, ◌++◌, length, refl, sym, ap, ap₂, ◌∙◌, subst, append_assoc, append-nil, length-append}
+use Rattle.std.proofs.Common.{arith, ◌≡◌, ◌⊎◌, inl, inr, ℕ, ◌+◌, ◌≤◌, Option, None, List, [], ◌∷◌, ◌++◌, length, refl, sym, ap, ap₂, ◌∙◌, subst, append_assoc, length-append}
 use Rattle.std.proofs.lemmas.Grind.{flat_map-append}
-use Rattle.wt_span.specs.Items.{Item, char, source, sources}
+use Rattle.wt_span.specs.Items.{Item, source, sources}
 use Rattle.wt_span.specs.Origins.{OuterCall, Span}
 use Rattle.wt_annotated.specs.Seams.{last_of, text_from}
 use Rattle.wt_annotated.proofs.Seams.{text_append_from}
 use Rattle.wt_expand.specs.PageCalls.{expanded_page}
 use Rattle.wt_expand.specs.PageItems.{page_items}
 use Rattle.wt_expand.specs.Work.{Pages}
-use Rattle.wt_text_edit_laws.specs.PageCuts.{AreBlockItems, EndsClosed}
+use Rattle.wt_text_edit_laws.specs.PageCuts.{AreBlockItems}
 use Rattle.wt_text_edit_laws.specs.TextBlocks.{TextBlock, source_of}
 use Rattle.wt_text_edit_laws.proofs.Cuts.ItemCuts.{HaveBytes}
 use Rattle.wt_beside_laws.proofs.Derived.BlockContents.{block_seen, seen_with}
@@ -171,7 +171,6 @@ pub record IsBlockHere (pages : Pages) (page : List ℕ) (p : ℕ) (xs ms os : L
   pub some : HaveBytes os
   pub alone : page_items (source_of k q) ≡ os
   pub stays : (n : ℕ) → StayText k n os → StayText k n (page_items q)
-  pub closed : EndsClosed page [] → EndsClosed (source_of k q) (sources behind)
   pub first : IsClear (block_from pages page p xs ms) 0 (members_of page)
   pub last : IsClear (block_to pages page p xs ms k q) 0 (members_of page)
   pub next : IsRest pages page (block_to pages page p xs ms k q) ys behind
@@ -183,48 +182,6 @@ beside_last from mid to (s ∷ spans) le h = (by h.0, beside_last from mid to sp
     by : (s.1 ≤ from) ⊎ (to ≤ s.0) → (s.1 ≤ mid) ⊎ (to ≤ s.0)
     by (inl l) = inl (omega (arith, l, le))
     by (inr r) = inr r
-
-pub no_bytes : (xs : List Item) → HaveBytes xs → sources xs ≡ [] → xs ≡ []
-no_bytes [] h e = refl
-no_bytes (x ∷ xs) h e =
-    let a = length-append (source x) (sources xs) in
-    let z = ap length e in
-    absurd (omega (arith, h.0, a, z))
-
-closed_by : (line bs : List ℕ) → (bs ≡ [] → EndsClosed line []) → EndsClosed line bs
-closed_by line [] f = f refl
-closed_by line (b ∷ bs) f = tt
-
-abbrev page_bytes_of : List Item → List Item → List ℕ
-page_bytes_of front os = sources front ++ (sources os ++ sources [])
-
-page_again : (page : List ℕ) (front os : List Item) → page_items page ≡ front ++ os → page_items (page_bytes_of front os) ≡ front ++ (os ++ [])
-page_again page front os e =
-    let all : page_items page ≡ front ++ (os ++ []) = e ∙ ap (λ zs. front ++ zs) (sym (append-nil os)) in
-    ap page_items (parts_are page front os [] all) ∙ all
-
--- where nothing is open at the page's end, nothing is open at that of a block that ends it
-block_closed : (page : List ℕ) (k : TextBlock) (q : List ℕ) (front os behind : List Item) → page_items page ≡ front ++ (os ++ behind) → AreBlockItems k q os
-    → sources os ≡ source_of k q → HaveBytes behind → EndsClosed page [] → EndsClosed (source_of k q) (sources behind)
-block_closed page k q front os behind whole block is_source some closed = closed_by (source_of k q) (sources behind) last
-  where
-    break : List Item
-    break = char None 10 ∷ []
-
-    last : sources behind ≡ [] → EndsClosed (source_of k q) []
-    last e =
-        let none : behind ≡ [] = no_bytes behind some e in
-        let all : page_items page ≡ front ++ os = whole ∙ ap (λ zs. front ++ (os ++ zs)) none ∙ ap (λ zs. front ++ zs) (append-nil os) in
-        let more : page_items (page ++ 10 ∷ []) ≡ front ++ ((os ++ break) ++ []) =
-        closed ∙ ap (λ zs. zs ++ break) all ∙ append_assoc front os break ∙ ap (λ zs. front ++ zs) (sym (append-nil (os ++ break))) in
-        let again : page_items (sources front ++ (sources (os ++ break) ++ sources [])) ≡ front ++ ((os ++ break) ++ []) =
-        ap page_items (parts_are (page ++ 10 ∷ []) front (os ++ break) [] more) ∙ more in
-        let line : page_items (sources (os ++ break)) ≡ os ++ break =
-        own_alone front (os ++ break) [] again (seen_with os break (block_seen k q os block)) in
-        let now : page_items (page_bytes_of front os) ≡ front ++ (os ++ []) = page_again page front os all in
-        let own : page_items (sources os) ≡ os = own_alone front os [] now (block_seen k q os block) in
-        let bytes : sources (os ++ break) ≡ source_of k q ++ 10 ∷ [] = flat_map-append source os break ∙ ap (λ (bs : List ℕ). bs ++ 10 ∷ []) is_source in
-        sym (ap page_items bytes) ∙ line ∙ ap (λ zs. zs ++ break) (sym own ∙ ap page_items is_source)
 
 -- what is on the page for items and marks of the page's own behind them
 pub marked_text : (calls : List OuterCall) (xs ms : List Item) → last_of None xs ≡ None → AreOfPage ms
@@ -260,7 +217,6 @@ block_here pages page p xs ms os k q ys qs r ends marks own block is_source besi
     let whole : page_items page ≡ front ++ (os ++ third.behind) = at_block.whole ∙ ap (λ zs. front ++ zs) third.is in
     let again : page_items (sources front ++ (sources os ++ sources third.behind)) ≡ front ++ (os ++ third.behind) =
     ap page_items (parts_are page front os third.behind whole) ∙ whole in
-    let at_behind : HaveBytes third.behind = third.next.some in
     record {
       before = before;
       behind = third.behind;
@@ -271,7 +227,6 @@ block_here pages page p xs ms os k q ys qs r ends marks own block is_source besi
       some = have_front os third.behind (subst HaveBytes third.is at_block.some);
       alone = ap page_items (sym is_source) ∙ own_alone front os third.behind again (block_seen k q os block);
       stays = λ n h. stays_so k n q front os third.behind block again h;
-      closed = block_closed page k q front os third.behind whole block is_source at_behind;
       first = subst (λ (n : ℕ). IsClear n 0 (members_of page)) size second.clear;
       last = subst (λ (n : ℕ). IsClear n 0 (members_of page)) all_size third.clear;
       next = subst (λ (n : ℕ). IsRest pages page n ys third.behind) all_size third.next;

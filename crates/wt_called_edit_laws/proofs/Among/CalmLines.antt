@@ -23,7 +23,7 @@ use Rattle.wt_commands.specs.Answers.{refusal_of_page}
 use Rattle.wt_text_edit_laws.specs.BlockSpots.{BlockSpot, spots_source}
 use Rattle.wt_text_edit_laws.specs.LonePages.{of_items}
 use Rattle.wt_text_edit_laws.specs.NoCalls.{CallsNothing}
-use Rattle.wt_text_edit_laws.specs.PageCuts.{AreFree}
+use Rattle.wt_text_edit_laws.specs.PageCuts.{AreFree, EndClosed}
 use Rattle.wt_text_edit_laws.specs.ParagraphBetween.{written_rows}
 use Rattle.wt_text_edit_laws.specs.ParagraphParts.{break}
 use Rattle.wt_text_edit_laws.specs.TextBlocks.{TextBlock}
@@ -206,7 +206,7 @@ calm_lined pages page bs behind h =
     let outside : AreInNoGroup 0 ss (called_tree pages page) = subst (λ (us : List ℕ). AreInNoGroup 0 ss (called_tree pages us)) same editable.in_no_group in
     record {
       utf8 = h.utf8;
-      closed = h.closed;
+      closed = subst (λ (rs : List BlockSpot). EndClosed rs (end_of_lines pages page bs behind)) (sym parts.0) (subst (EndClosed ss) (sym parts.1) h.closed);
       are = ap (λ (x : Expanded). full_lines x.items) expanded ∙ h.are;
       lined = h.lined;
       own = own_all [] bs behind xs runs (subst AreOfPage all (page_of page)) (subst CallsNothing all h.calls_nothing) (some_all bs behind h.lined);

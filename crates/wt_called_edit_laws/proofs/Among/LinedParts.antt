@@ -25,7 +25,7 @@ use Rattle.wt_commands.specs.Answers.{refusal_of_page}
 use Rattle.wt_text_edit_laws.specs.BlockSpots.{BlockSpot, spots_source}
 use Rattle.wt_text_edit_laws.specs.LonePages.{page_chars}
 use Rattle.wt_text_edit_laws.specs.NoCalls.{CallsNothing}
-use Rattle.wt_text_edit_laws.specs.PageCuts.{AreBlockItems, BeginsBreak, EndsThere, EndsClosed, AreFurtherCuts, AreCuts}
+use Rattle.wt_text_edit_laws.specs.PageCuts.{AreBlockItems, BeginsBreak, EndsThere, EndClosed, AreFurtherCuts, AreCuts}
 use Rattle.wt_text_edit_laws.specs.ParagraphBetween.{written_rows}
 use Rattle.wt_text_edit_laws.specs.ParagraphParts.{break}
 use Rattle.wt_text_edit_laws.specs.TextBetween.{AreEnded}
@@ -397,7 +397,8 @@ record AreLinedCuts (pages : Pages) (page : List ℕ) (last : TextBlock) (open_t
 further : (pages : Pages) (page : List ℕ) (last : TextBlock) (open_tables : List Bool) (es : List Item) (ls : List LinedBlock) (behind : List (List Item)) (p : ℕ)
     (qs xs : List Item) → AreRuns goes_on (all_lines ls behind) xs → IsEnding es → ((m : List Item) (ms : List (List Item)) → all_lines ls behind ≡ m ∷ ms → es ≡ break ∷ [])
     → IsRest pages page p (es ++ joined (all_lines ls behind)) qs → AreLinedAfter last open_tables ls behind → AreOwnLines ls
-    → EndsClosed page [] → AreUntouched (calls_of pages page) (expanded_page pages page).text_calls p es ls
+    → EndClosed (spots_on (calls_of pages page) es ls) (end_on (calls_of pages page) es ls behind)
+    → AreUntouched (calls_of pages page) (expanded_page pages page).text_calls p es ls
     → AreLinedCuts pages page last open_tables es ls behind p qs
 further pages page last open_tables es [] behind p qs xs runs i f r h own c u =
     let calls : List OuterCall = calls_of pages page in
@@ -424,7 +425,7 @@ further pages page last open_tables es (b ∷ ls) behind p qs xs runs i f r h ow
     let end_at : ℕ = block_to pages page p (line_front es b) b.marks b.block b.text in
     let d : AreLinedCuts pages page b.block now left ls behind end_at l.here.behind =
     further pages page b.block now left ls behind end_at l.here.behind (joined tail) l.around.tail_runs l.around.own_ending
-    l.around.ends l.here.next h.2 own.3 c (subst (λ (n : ℕ). AreUntouched calls (expanded_page pages page).text_calls n left ls) l.next_at u.1) in
+    l.around.ends l.here.next h.2 own.3 c.1 (subst (λ (n : ℕ). AreUntouched calls (expanded_page pages page).text_calls n left ls) l.next_at u.1) in
     let calm : CallsNothing (page_items (source_of b.block b.text)) = subst CallsNothing (sym l.here.alone) own.2 in
     let rows : List Row = written_rows (length open_tables) b.before in
     let same : rows_of_part open_tables front ≡ rows = rows_by open_tables b.before b.marks h.1.are_marks l.around.front_are l.around.front_whole in
@@ -433,7 +434,7 @@ further pages page last open_tables es (b ∷ ls) behind p qs xs runs i f r h ow
         record { before = l.here.before; own = content (own_items b); rest = l.here.behind; is = l.here.is; source = l.here.source; block = l.block },
         l.ended,
         subst (λ (zs : List Item). BeginsBreak (text_from calls None (block_front zs b))) (sym is_break) refl,
-        subst (EndsClosed (source_of b.block b.text)) (sym d.source) (l.here.closed c),
+        c.0,
         d.cuts,
       );
       clear = (l.here.first, l.here.last, d.clear);
@@ -496,7 +497,7 @@ lined_among pages page (b ∷ ls) behind h =
     let end_at : ℕ = block_to pages page 0 (joined b.before) b.marks b.block b.text in
     let d : AreLinedCuts pages page b.block now left ls behind end_at l.here.behind =
     further pages page b.block now left ls behind end_at l.here.behind (joined tail) l.around.tail_runs l.around.own_ending
-    l.around.ends l.here.next h.lined.1 h.own.3 h.closed
+    l.around.ends l.here.next h.lined.1 h.own.3 h.closed.1
     (subst (λ (n : ℕ). AreUntouched calls (expanded_page pages page).text_calls n left ls) l.next_at h.untouched.1) in
     let calm : CallsNothing (page_items (source_of b.block b.text)) = subst CallsNothing (sym l.here.alone) h.own.2 in
     let same : spots_source (s ∷ ss) end ≡ page = spot_source pages page [] [] b tail 0 (page_items page) l ss end d.source ∙ page_sources page in
@@ -504,7 +505,7 @@ lined_among pages page (b ∷ ls) behind h =
     let cuts : AreCuts (s ∷ ss) end = (
       record { before = l.here.before; own = content (own_items b); rest = l.here.behind; is = ap page_items same ∙ l.here.is; source = l.here.source; block = l.block },
       l.ended,
-      subst (EndsClosed (source_of b.block b.text)) (sym d.source) (l.here.closed h.closed),
+      h.closed.0,
       d.cuts,
     ) in
     let all_calm : AreCalm (s ∷ ss) = (calm, d.calm) in

@@ -129,7 +129,7 @@ mutual
       let f = width_append (flat_all ms) ((Closes, k) ∷ []) in
       omega (arith, e, f)
 
-  flat_widths : (ms : Members) → total_width (flat_all ms) ≡ width_of_all ms
+  pub flat_widths : (ms : Members) → total_width (flat_all ms) ≡ width_of_all ms
   flat_widths none = refl
   flat_widths (more m ms) =
       let e = width_append (flat m) (flat_all ms) in

@@ -1,7 +1,7 @@
 -- Lines of an expanded page that tell a paragraph or a heading are those of such a block.
 use Rattle.std.proofs.Common.{arith, ◌≡◌, inl, inr, ℕ, ◌+◌, ◌≤◌, Bool, None, List, [], ◌∷◌, ◌++◌, length, map, refl, sym, ap, ◌∙◌, subst, append_assoc, append-nil}
-use Rattle.wt_span.specs.Items.{Item, char, sources}
-use Rattle.wt_span.specs.Origins.{Span}
+use Rattle.wt_span.specs.Items.{Item, sources}
+use Rattle.wt_span.specs.Origins.{OuterCall, Span}
 use Rattle.wt_span.specs.Runs.{IsRun, AreRuns}
 use Rattle.wt_span.proofs.RunLaws.{runs_are}
 use Rattle.wt_annotated.specs.Seams.{last_of, text_from}
@@ -12,22 +12,24 @@ use Rattle.wt_tables.specs.Parts.{joined}
 use Rattle.wt_expand.specs.PageCalls.{expanded_page}
 use Rattle.wt_expand.specs.PageItems.{page_items}
 use Rattle.wt_expand.specs.Work.{Pages}
-use Rattle.wt_text_edit_laws.specs.PageCuts.{AreHeadingItems, EndsClosed}
+use Rattle.wt_text_edit_laws.specs.BlockSpots.{spots_source}
+use Rattle.wt_text_edit_laws.specs.PageCuts.{AreHeadingItems, EndsClosed, EndClosed}
 use Rattle.wt_text_edit_laws.specs.ParagraphParts.{break}
-use Rattle.wt_text_edit_laws.specs.TextBlocks.{TextBlock}
+use Rattle.wt_text_edit_laws.specs.TextBlocks.{TextBlock, source_of}
 use Rattle.wt_text_edit_laws.proofs.Cuts.TextLines.{joined_is, runs_behind}
 use Rattle.wt_called_edit_laws.specs.AnyBlocks.{open_after}
-use Rattle.wt_called_edit_laws.specs.LinedAmong.{AreOfPage, AreOwnLines, AreBeside, AreUntouched, IsLinedAmong}
+use Rattle.wt_called_edit_laws.specs.LinedAmong.{spots_on, end_on, AreOfPage, AreOwnLines, AreBeside, AreUntouched, IsLinedAmong}
 use Rattle.wt_called_edit_laws.specs.LinedHeadings.{sides_of, text_of, IsLinedHeading}
 use Rattle.wt_called_edit_laws.specs.PlacedLines.{LinedBlock, all_lines, OwnLined, IsLinedAt, AreLinedAfter, AreLined}
 use Rattle.wt_called_edit_laws.specs.ToldAmong.{IsToldAmong}
 use Rattle.wt_called_edit_laws.specs.ToldLines.{Told, a_paragraph_of, a_heading_on, lined, OwnTold, rows_before, IsToldAt, AreToldAfter, AreTold}
-use Rattle.wt_called_edit_laws.proofs.Among.BlockAt.{calls_of, IsRest, text_to, block_to, IsPast, IsPastOwn, past_front, past_own, no_bytes, beside_first, beside_front, beside_last}
+use Rattle.wt_called_edit_laws.proofs.Among.BlockAt.{calls_of, IsRest, text_to, block_to, IsPast, IsPastOwn, past_front, past_own, beside_first, beside_front, beside_last}
 use Rattle.wt_called_edit_laws.proofs.Among.LinedParts.{IsLeft, left_none, line_front, IsLinedHere, lined_here, own_breaks, of_behind, of_front, page_rest}
 use Rattle.wt_called_edit_laws.proofs.Among.OwnItems.{from_page}
 use Rattle.wt_called_edit_laws.proofs.Among.OwnSeams.{sources_size}
 use Rattle.wt_called_edit_laws.proofs.Cells.PlacedLines.{own_items, lines_joined, run_behind, some_lines}
-use Rattle.wt_called_edit_laws.proofs.Told.HeadItems.{lined_heading}
+use Rattle.wt_called_edit_laws.proofs.Told.HeadItems.{told_source, lined_heading}
+use Rattle.wt_called_edit_laws.proofs.Told.ToldPages.{IsClosed, told_item}
 
 -- ---- a heading
 
@@ -35,23 +37,18 @@ run_unmarked : (ms l others : List Item) → 1 ≤ length l → IsRun goes_on (m
 run_unmarked ms [] others some h = absurd (omega (arith, some))
 run_unmarked ms (y ∷ ys) others some h = run_behind ms y ys others h
 
--- before others, where others are
-run_other : (l us vs : List Item) → (us ≡ [] → vs ≡ []) → IsRun goes_on l us → IsRun goes_on l vs
-run_other [] us vs f h = absurd h
-run_other (x ∷ []) [] [] f h = tt
-run_other (x ∷ []) [] (v ∷ vs) f h = absurd (no_item v vs (f refl))
-  where
-    no_item : (v : Item) (vs : List Item) → v ∷ vs ≡ [] → ⊥
-    no_item v vs e = cc
-run_other (x ∷ []) (u ∷ us) [] f h = tt
-run_other (x ∷ []) (u ∷ us) (v ∷ vs) f h = h
-run_other (x ∷ z ∷ l) us vs f h = (h.0, run_other (z ∷ l) us vs f h.1)
+-- items of the page's own, behind marks of its own, are among its items, with calls as characters
+pub record LineThere (pages : Pages) (page : List ℕ) (ms l ys : List Item) : Type 0 where
+  pub front : List Item
+  pub behind : List Item
+  pub is : page_items page ≡ front ++ (ms ++ (l ++ behind))
+  pub place : ℕ
+  pub rest : IsRest pages page place ys behind
 
-heading_here : (pages : Pages) (page : List ℕ) (n p : ℕ) (xs ms l ys qs : List Item) → IsRest pages page p (xs ++ (ms ++ (l ++ ys))) qs → last_of None xs ≡ None
+pub line_there : (pages : Pages) (page : List ℕ) (p : ℕ) (xs ms l ys qs : List Item) → IsRest pages page p (xs ++ (ms ++ (l ++ ys))) qs → last_of None xs ≡ None
     → AreOfPage ms → AreOfPage l
-    → AreBeside (text_to pages page p xs) (text_to pages page p xs + length (sources (ms ++ l))) (expanded_page pages page).text_calls → EndsClosed page []
-    → IsRun goes_on l ys → IsLinedHeading n l → AreHeadingItems (sides_of (content l)) (text_of (content l)) (content l)
-heading_here pages page n p xs ms l ys qs r ends marks own beside closed run h =
+    → AreBeside (text_to pages page p xs) (text_to pages page p xs + length (sources (ms ++ l))) (expanded_page pages page).text_calls → LineThere pages page ms l ys
+line_there pages page p xs ms l ys qs r ends marks own beside =
     let spans : List Span = (expanded_page pages page).text_calls in
     let line : ℕ = text_to pages page p xs in
     let from : ℕ = line + length (sources ms) in
@@ -66,17 +63,25 @@ heading_here pages page n p xs ms l ys qs r ends marks own beside closed run h =
     past_own pages page line ms (l ++ ys) first.behind first.next marks (beside_front line from to spans (omega arith) whole_line) in
     let third : IsPastOwn pages page from l ys second.behind =
     past_own pages page from l ys second.behind second.next own (beside_last line from to spans (omega arith) whole_line) in
-    let front : List Item = second.next.front in
-    let page_is : page_items (page ++ 10 ∷ []) ≡ front ++ (l ++ (third.behind ++ char None 10 ∷ [])) =
-    closed ∙ ap (λ zs. zs ++ char None 10 ∷ []) (second.next.whole ∙ ap (λ zs. front ++ zs) third.is)
-    ∙ append_assoc front (l ++ third.behind) (char None 10 ∷ []) ∙ ap (λ zs. front ++ zs) (append_assoc l third.behind (char None 10 ∷ [])) in
-    let none : ys ≡ [] → third.behind ≡ [] =
-    λ e. no_bytes third.behind third.next.some (sym third.next.same ∙ ap (text_from (calls_of pages page) None) e) in
-    lined_heading n (page ++ 10 ∷ []) front l third.behind page_is (run_other l ys third.behind none run) (from_page l own) (own_breaks l own) h
+    record {
+      front = first.next.front;
+      behind = third.behind;
+      is = first.next.whole ∙ ap (λ zs. first.next.front ++ zs) (second.is ∙ ap (λ zs. ms ++ zs) third.is);
+      place = to;
+      rest = third.next;
+    }
+
+heading_here : (pages : Pages) (page : List ℕ) (n p : ℕ) (xs ms l ys qs : List Item) → IsRest pages page p (xs ++ (ms ++ (l ++ ys))) qs → last_of None xs ≡ None
+    → AreOfPage ms → AreOfPage l
+    → AreBeside (text_to pages page p xs) (text_to pages page p xs + length (sources (ms ++ l))) (expanded_page pages page).text_calls
+    → (ending l ++ ys ≡ [] → EndsClosed (sources (content l)) []) → IsRun goes_on l ys → IsLinedHeading n l → AreHeadingItems (sides_of (content l)) (text_of (content l)) (content l)
+heading_here pages page n p xs ms l ys qs r ends marks own beside closed run h =
+    let t : LineThere pages page ms l ys = line_there pages page p xs ms l ys qs r ends marks own beside in
+    lined_heading n page (t.front ++ ms) l t.behind ys (t.is ∙ sym (append_assoc t.front ms (l ++ t.behind))) run (from_page l own) (own_breaks l own) h closed
 
 -- ---- one block
 
-line_items : (es : List Item) (b : LinedBlock) (tail : List (List Item))
+pub line_items : (es : List Item) (b : LinedBlock) (tail : List (List Item))
     → es ++ joined (b.before ++ (((b.marks ++ b.first) ∷ b.more) ++ tail)) ≡ line_front es b ++ (b.marks ++ (own_items b ++ joined tail))
 line_items es b tail =
     let rest : List Item = own_items b ++ joined tail in
@@ -88,7 +93,7 @@ own_told : (pages : Pages) (page : List ℕ) (t : Told) (n p : ℕ) (es : List I
     → AreOfPage ((lined t).marks ++ own_items (lined t))
     → AreBeside (text_to pages page p (line_front es (lined t)))
     (text_to pages page p (line_front es (lined t)) + length (sources ((lined t).marks ++ own_items (lined t)))) (expanded_page pages page).text_calls
-    → EndsClosed page [] → OwnTold t n → OwnLined (lined t).block n (lined t).text ((lined t).first ∷ (lined t).more)
+    → IsClosed (lined t) tail → OwnTold t n → OwnLined (lined t).block n (lined t).text ((lined t).first ∷ (lined t).more)
 own_told pages page (a_paragraph_of before marks first more) n p es tail qs xs some runs r ends own beside closed h = (h.0, h.1, refl)
 own_told pages page (a_heading_on before marks l) n p es tail qs xs some runs r ends own beside closed h =
     let one : l ++ [] ≡ l = append-nil l in
@@ -102,7 +107,8 @@ own_told pages page (a_heading_on before marks l) n p es tail qs xs some runs r 
     let near : AreBeside (text_to pages page p xs_before) (text_to pages page p xs_before + length (sources (marks ++ l))) (expanded_page pages page).text_calls =
     subst (λ zs. AreBeside (text_to pages page p xs_before) (text_to pages page p xs_before + length (sources (marks ++ zs))) (expanded_page pages page).text_calls) one beside in
     let head : AreHeadingItems (sides_of (content l)) (text_of (content l)) (content l) =
-    heading_here pages page n p xs_before marks l (joined tail) qs there ends (of_front marks (l ++ []) own) mine near closed run h in
+    heading_here pages page n p xs_before marks l (joined tail) qs there ends (of_front marks (l ++ []) own) mine near
+    (λ e. subst (λ (bs : List ℕ). EndsClosed bs []) (told_source n l h (from_page l mine)) (closed (ap (λ (ys : List Item). ending ys ++ joined tail) one ∙ e))) run h in
     subst (λ (ys : List Item). AreHeadingItems (sides_of (content l)) (text_of (content l)) (content ys)) (sym one) head
 
 pub told_at : (pages : Pages) (page : List ℕ) (open_tables : List Bool) (t : Told) (p : ℕ) (es : List Item) (tail : List (List Item)) (qs xs : List Item)
@@ -111,7 +117,7 @@ pub told_at : (pages : Pages) (page : List ℕ) (open_tables : List Bool) (t : T
     → last_of None (joined (lined t).before) ≡ None → AreOfPage ((lined t).marks ++ own_items (lined t))
     → AreBeside (text_to pages page p (line_front es (lined t)))
     (text_to pages page p (line_front es (lined t)) + length (sources ((lined t).marks ++ own_items (lined t)))) (expanded_page pages page).text_calls
-    → EndsClosed page [] → IsToldAt open_tables t → IsLinedAt open_tables (lined t)
+    → IsClosed (lined t) tail → IsToldAt open_tables t → IsLinedAt open_tables (lined t)
 told_at pages page open_tables t p es tail qs xs runs left r none own beside closed h =
     let b : LinedBlock = lined t in
     let ends : last_of None (line_front es b) ≡ None =
@@ -128,29 +134,45 @@ told_at pages page open_tables t p es tail qs xs runs left r none own beside clo
 
 -- ---- all blocks
 
+-- where no item is left, no block is, and nothing is behind them
+none_on : (calls : List OuterCall) (last : TextBlock) (open_tables : List Bool) (es : List Item) (ts : List Told) (rest : List (List Item))
+    → AreToldAfter last open_tables ts rest → es ++ joined (all_lines (map lined ts) rest) ≡ []
+    → spots_source (spots_on calls es (map lined ts)) (end_on calls es (map lined ts) rest) ≡ []
+none_on calls last open_tables es [] rest h e = ap (text_from calls None) e
+none_on calls last open_tables es (t ∷ ts) rest h e = absurd (told_item es (lined t) (all_lines (map lined ts) rest) h.1.some e)
+
+pub closed_here : (calls : List OuterCall) (t : Told) (open_tables : List Bool) (ts : List Told) (rest : List (List Item)) → AreToldAfter (lined t).block open_tables ts rest
+    → EndsClosed (source_of (lined t).block (lined t).text)
+    (spots_source (spots_on calls (ending (own_items (lined t))) (map lined ts)) (end_on calls (ending (own_items (lined t))) (map lined ts) rest))
+    → IsClosed (lined t) (all_lines (map lined ts) rest)
+closed_here calls t open_tables ts rest h c =
+    λ e. subst (EndsClosed (source_of (lined t).block (lined t).text)) (none_on calls (lined t).block open_tables (ending (own_items (lined t))) ts rest h e) c
+
 told_after : (pages : Pages) (page : List ℕ) (last : TextBlock) (open_tables : List Bool) (es : List Item) (ts : List Told) (behind : List (List Item)) (p : ℕ)
     (qs xs : List Item) → AreRuns goes_on (all_lines (map lined ts) behind) xs
     → ((m : List Item) (ms : List (List Item)) → all_lines (map lined ts) behind ≡ m ∷ ms → es ≡ break ∷ [])
-    → IsRest pages page p (es ++ joined (all_lines (map lined ts) behind)) qs → AreToldAfter last open_tables ts behind → AreOwnLines (map lined ts) → EndsClosed page []
-    → AreUntouched (calls_of pages page) (expanded_page pages page).text_calls p es (map lined ts) → AreLinedAfter last open_tables (map lined ts) behind
+    → IsRest pages page p (es ++ joined (all_lines (map lined ts) behind)) qs → AreToldAfter last open_tables ts behind → AreOwnLines (map lined ts)
+    → EndClosed (spots_on (calls_of pages page) es (map lined ts)) (end_on (calls_of pages page) es (map lined ts) behind) → AreUntouched (calls_of pages page) (expanded_page pages page).text_calls p es (map lined ts) → AreLinedAfter last open_tables (map lined ts) behind
 told_after pages page last open_tables es [] behind p qs xs runs f r h own c u = h
 told_after pages page last open_tables es (t ∷ ts) behind p qs xs runs f r h own c u =
     let b : LinedBlock = lined t in
     let tail : List (List Item) = all_lines (map lined ts) behind in
     let some = some_lines b.before (b.marks ++ b.first) (b.more ++ tail) in
     let is_break : es ≡ break ∷ [] = f some.0 some.1 some.2 in
-    let at : IsLinedAt open_tables b = told_at pages page open_tables t p es tail qs xs runs (inr is_break) r own.0 own.1 u.0 c h.1 in
+    let here : IsClosed b tail = closed_here (calls_of pages page) t (open_after open_tables (rows_before open_tables t)) ts behind h.2 c.0 in
+    let at : IsLinedAt open_tables b = told_at pages page open_tables t p es tail qs xs runs (inr is_break) r own.0 own.1 u.0 here h.1 in
     let l : IsLinedHere pages page open_tables es b tail p qs = lined_here pages page open_tables es b tail p qs xs runs (inr is_break) r at own.0 own.1 u.0 in
     let left : List Item = ending (own_items b) in (
       h.0,
       at,
       told_after pages page b.block (open_after open_tables (rows_before open_tables t)) left ts behind (block_to pages page p (line_front es b) b.marks b.block b.text)
-          l.here.behind (joined tail) l.around.tail_runs l.around.ends l.here.next h.2 own.3 c (subst (λ (n : ℕ). AreUntouched (calls_of pages page) (expanded_page pages page).text_calls n left (map lined ts)) l.next_at u.1),
+          l.here.behind (joined tail) l.around.tail_runs l.around.ends l.here.next h.2 own.3 c.1
+          (subst (λ (n : ℕ). AreUntouched (calls_of pages page) (expanded_page pages page).text_calls n left (map lined ts)) l.next_at u.1),
     )
 
 -- what tells the lines of blocks
 pub record AreToldLines (pages : Pages) (page : List ℕ) (ts : List Told) (behind : List (List Item)) : Type 0 where
-  pub closed : EndsClosed page []
+  pub closed : EndClosed (spots_on (calls_of pages page) [] (map lined ts)) (end_on (calls_of pages page) [] (map lined ts) behind)
   pub are : full_lines (expanded_page pages page).items ≡ all_lines (map lined ts) behind
   pub told : AreTold ts behind
   pub own : AreOwnLines (map lined ts)
@@ -165,14 +187,15 @@ all_told pages page (t ∷ ts) behind h =
     let xs : List Item = (expanded_page pages page).items in
     let runs : AreRuns goes_on lines xs = subst (λ (ks : List (List Item)). AreRuns goes_on ks xs) h.are (runs_are goes_on xs) in
     let r : IsRest pages page 0 ([] ++ joined lines) (page_items page) = page_rest pages page lines (joined_is goes_on lines xs runs) in
-    let at : IsLinedAt [] b = told_at pages page [] t 0 [] tail (page_items page) xs runs (inl refl) r h.own.0 h.own.1 h.untouched.0 h.closed h.told.0 in
+    let here : IsClosed b tail = closed_here (calls_of pages page) t (open_after [] (rows_before [] t)) ts behind h.told.1 h.closed.0 in
+    let at : IsLinedAt [] b = told_at pages page [] t 0 [] tail (page_items page) xs runs (inl refl) r h.own.0 h.own.1 h.untouched.0 here h.told.0 in
     let l : IsLinedHere pages page [] [] b tail 0 (page_items page) =
     lined_here pages page [] [] b tail 0 (page_items page) xs runs (inl refl) r at h.own.0 h.own.1 h.untouched.0 in
     let left : List Item = ending (own_items b) in (
       at,
       told_after pages page b.block (open_after [] (rows_before [] t)) left ts behind (block_to pages page 0 (line_front [] b) b.marks b.block b.text)
           l.here.behind (joined tail) l.around.tail_runs l.around.ends l.here.next h.told.1
-          h.own.3 h.closed (subst (λ (n : ℕ). AreUntouched (calls_of pages page) (expanded_page pages page).text_calls n left (map lined ts)) l.next_at h.untouched.1),
+          h.own.3 h.closed.1 (subst (λ (n : ℕ). AreUntouched (calls_of pages page) (expanded_page pages page).text_calls n left (map lined ts)) l.next_at h.untouched.1),
     )
 
 pub told_among : (pages : Pages) (page : List ℕ) (ts : List Told) (behind : List (List Item)) → IsToldAmong pages page ts behind

@@ -48,13 +48,13 @@ use Rattle.wt_expand.specs.Expansion.{text_members, most_templates, absent_text,
 use Rattle.wt_expand.specs.PageCalls.{page_stretches, expanded_page}
 use Rattle.wt_text_edit_laws.specs.BlockSpots.{BlockSpot}
 use Rattle.wt_text_edit_laws.specs.LonePages.{page_chars, of_items}
-use Rattle.wt_text_edit_laws.specs.PageCuts.{IsFreeBlock, AreFree}
+use Rattle.wt_text_edit_laws.specs.PageCuts.{IsFreeBlock, EndClosed, AreFree}
 use Rattle.wt_text_edit_laws.specs.Parts.{part_tree}
 use Rattle.wt_text_edit_laws.specs.TextBlocks.{a_paragraph, a_heading}
 use Rattle.wt_text_edit_laws.specs.TypedHeadings.{spaced}
 use Rattle.wt_called_edit_laws.specs.Covered.{AreInNoGroup}
 use Rattle.wt_called_edit_laws.specs.Groups.{called_tree}
-use Rattle.wt_called_edit_laws.specs.LinedAmong.{spots_of_lines, AreOfPage, AreOwnLines, AreUntouched}
+use Rattle.wt_called_edit_laws.specs.LinedAmong.{spots_of_lines, end_of_lines, AreOfPage, AreOwnLines, AreUntouched}
 use Rattle.wt_called_edit_laws.specs.PlacedLines.{LinedBlock, all_lines}
 use Rattle.wt_called_edit_laws.specs.ToldAmong.{IsToldAmong}
 use Rattle.wt_called_edit_laws.specs.ToldLines.{Told, a_paragraph_of, a_heading_on, lined, AreTold}
@@ -165,16 +165,6 @@ free_cell = record {
 
 -- ---- the page
 
-page_is : page_items whole_page ≡ page_chars whole_page
-unfolding page_items words closed form_at comment_len comment_line_len raw_len opening_tag tag_after closing_tag with_inside is_extension include_at
-    entity_at named_entity decimal_entity hex_entity entity_names sign_word
-page_is = refl
-
-nothing_open : page_items (whole_page ++ 10 ∷ []) ≡ page_chars (whole_page ++ 10 ∷ [])
-unfolding page_items words closed form_at comment_len comment_line_len raw_len opening_tag tag_after closing_tag with_inside is_extension include_at
-    entity_at named_entity decimal_entity hex_entity entity_names sign_word
-nothing_open = refl
-
 is_of_utf8 : IsUtf8 whole_page
 unfolding encode
 is_of_utf8 = (whole_page, (refl, refl))
@@ -182,7 +172,7 @@ is_of_utf8 = (whole_page, (refl, refl))
 pub told_page : IsToldAmong a_word whole_page told last_lines
 told_page = record {
   utf8 = is_of_utf8;
-  closed = nothing_open ∙ ap (λ (xs : List Item). xs ++ char None 10 ∷ []) (sym page_is);
+  closed = subst (λ (ss : List BlockSpot). EndClosed ss (end_of_lines a_word whole_page (map lined told) last_lines)) (sym spots_are) (tt, (tt, tt));
   are = ap full_lines are_items ∙ lines_are;
   told = told_here;
   own = own_lines;

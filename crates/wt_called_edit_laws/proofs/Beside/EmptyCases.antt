@@ -86,6 +86,7 @@ use Rattle.wt_called_edit_laws.proofs.Whole.Contents.{shut_both, call_shut_parts
 use Rattle.wt_called_edit_laws.proofs.Whole.OfCall.{is_same, of_here}
 use Rattle.wt_called_edit_laws.proofs.Written.Cases.{call_read, call_sealed, call_shut, call_utf8}
 use Rattle.wt_called_edit_laws.proofs.Whole.Pieced.{pieced_content, pieced_holds}
+use Rattle.wt_called_edit_laws.proofs.Whole.PartsIn.{simple_parts}
 
 -- `Template:T` gives nothing, and no other page is there
 abbrev pub a_void : Pages
@@ -249,7 +250,9 @@ here = record {
   among = among;
   read = is_read;
   lines = λ i. subst AreTextItems (sym (items_are i)) (is_text i);
-  texts = λ i. subst AreOwnOrGiven (sym (parts_there i)) (own_here i);
+  texts = λ i.
+      let xs : List Item = part_items a_void i source in
+      simple_parts xs (content_parts_of a_paragraph xs) (subst AreOwnOrGiven (sym (parts_there i)) (own_here i));
   groups = groups_there;
   shut = λ i. subst AreShutParts (sym (parts_there i)) (shut_here i);
   some = λ i. subst HasOwn (sym (parts_there i)) tt;

@@ -69,6 +69,7 @@ use Rattle.wt_called_edit_laws.specs.PiecedParagraphs.{HasOwn, IsInPieces}
 use Rattle.wt_called_edit_laws.specs.WholeContents.{AreGroups, AreShutParts}
 use Rattle.wt_called_edit_laws.proofs.Beside.Cases.{source, given, items_are, word_group, given_word, pieces, in_pieces, among, of_page}
 use Rattle.wt_called_edit_laws.proofs.Whole.Pieced.{pieced_content, pieced_holds}
+use Rattle.wt_called_edit_laws.proofs.Whole.PartsIn.{simple_parts}
 
 -- ---- the paragraph
 
@@ -120,7 +121,10 @@ here = record {
   among = among;
   read = is_read;
   lines = λ i. subst AreTextItems (sym (items_are i)) (is_text i);
-  texts = λ i. let p = parts_here i in p.texts;
+  texts = λ i.
+      let xs : List Item = part_items a_word i source in
+      let p : AreGivenParts xs = parts_here i in
+      simple_parts xs (content_parts_of a_paragraph xs) p.texts;
   groups = λ i. let p = parts_here i in p.groups;
   shut = λ i. let p = parts_here i in p.shut;
   some = λ i. let p = parts_here i in p.some;

@@ -19,7 +19,7 @@ use Rattle.wt_part_laws.specs.Slots.{AllTrue}
 use Rattle.wt_text_edit_laws.specs.BlockSpots.{spots_source}
 use Rattle.wt_text_edit_laws.specs.NoCalls.{CallsNothing}
 use Rattle.wt_text_edit_laws.specs.Parts.{HasNoGroups}
-use Rattle.wt_text_edit_laws.specs.PageCuts.{AreTextItems, AreBlockItems, EndsThere, EndsClosed}
+use Rattle.wt_text_edit_laws.specs.PageCuts.{AreTextItems, AreBlockItems, EndsThere}
 use Rattle.wt_text_edit_laws.specs.ParagraphBetween.{written_rows, before_marks, BeginApart}
 use Rattle.wt_text_edit_laws.specs.ParagraphParts.{break}
 use Rattle.wt_text_edit_laws.specs.TextBetween.{AreEnded}
@@ -342,7 +342,7 @@ lined_in page ls behind h =
       utf8 = subst IsUtf8 (sym same) h.utf8;
       calls_nothing = subst (λ (bs : List ℕ). CallsNothing (page_items bs)) (sym same) h.calls_nothing;
       ungrouped = subst HasNoGroups (sym same) h.ungrouped;
-      closed = subst (λ (bs : List ℕ). EndsClosed bs []) (sym same) h.closed;
+      closed = h.closed;
       blocks = placed ls behind (page_items page) (ap page_items same) h.are (page_breaks page) h.lined;
       shut = h.shut;
     }

@@ -67,6 +67,7 @@ use Rattle.wt_called_edit_laws.specs.WholeContents.{AreGroups, AreShutParts}
 use Rattle.wt_called_edit_laws.proofs.Beside.Cases.{source, given, items_are, word_group, given_word, pieces, in_pieces, among}
 use Rattle.wt_called_edit_laws.proofs.Headings.Cases.{two, own_call, seen, of_page, frame, read}
 use Rattle.wt_called_edit_laws.proofs.Headings.Pieced.{pieced_heading, pieced_heading_holds}
+use Rattle.wt_called_edit_laws.proofs.Whole.PartsIn.{simple_parts}
 
 -- ---- the heading
 
@@ -100,7 +101,10 @@ here = record {
   seen = (seen, tt);
   read = read;
   line = λ i. subst (AreHeadingItems two) (sym (items_are i)) (is_line i);
-  texts = λ i. let p = parts_here i in p.texts;
+  texts = λ i.
+      let xs : List Item = part_items a_word i source in
+      let p : AreGivenParts xs = parts_here i in
+      simple_parts xs (content_parts_of (a_heading two) xs) p.texts;
   groups = λ i. let p = parts_here i in p.groups;
   shut = λ i. let p = parts_here i in p.shut;
 }

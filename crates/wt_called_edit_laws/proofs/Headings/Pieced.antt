@@ -27,6 +27,7 @@ use Rattle.wt_called_edit_laws.proofs.Headings.FromPage.{head_takes}
 use Rattle.wt_called_edit_laws.proofs.Headings.Held.{head_holds}
 use Rattle.wt_called_edit_laws.proofs.Headings.Letters.{a_head, b_head}
 use Rattle.wt_called_edit_laws.proofs.Whole.Contents.{moved_shut}
+use Rattle.wt_called_edit_laws.proofs.Whole.PartsIn.{parts_pieces}
 use Rattle.wt_called_edit_laws.proofs.Whole.Pieced.{pieces_shut}
 use Rattle.wt_called_edit_laws.proofs.Written.InPieces.{pieces_items, pieces_written}
 use Rattle.wt_called_edit_laws.proofs.Written.Letters.{begun, rest_of, spelled_a, spelled_b, stay_spread}
@@ -82,7 +83,7 @@ pieced_heading_holds pages s q h =
     record {
       holds = λ i.
           given_hold (plain (kind.Heading s.level)) (page_chars (opening s)) (line_parts (part_items pages i q)) (closing_items s)
-          (round_given (line_parts (part_items pages i q)) s (h.texts i) f.sides);
+          (round_given (line_parts (part_items pages i q)) s (parts_pieces 2 (part_items pages i q) (line_parts (part_items pages i q)) (h.texts i)) f.sides);
       letters = page_letters pages s q h;
       texts = part.texts;
       whole = record {

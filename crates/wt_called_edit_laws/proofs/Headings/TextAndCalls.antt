@@ -17,6 +17,7 @@ use Rattle.wt_original.specs.Kept.{kept_nodes, found_in}
 use Rattle.wt_original.specs.Numbers.{counts_up}
 use Rattle.wt_link_spelling.specs.Spelling.{children_of}
 use Rattle.wt_part_laws.specs.CallPieces.{CallPiece, pieces_in_page}
+use Rattle.wt_part_laws.proofs.CallPieces.{as_pieces}
 use Rattle.wt_part_laws.specs.Expanded.{part_items, calls_in}
 use Rattle.wt_part_laws.specs.HeldCalls.{block_in}
 use Rattle.wt_part_laws.proofs.HeldBlocks.{given_block_is}
@@ -42,6 +43,7 @@ use Rattle.wt_called_edit_laws.proofs.Beside.Counts.{block_bare, settled_counts}
 use Rattle.wt_called_edit_laws.proofs.Headings.Framed.{framed_written}
 use Rattle.wt_called_edit_laws.proofs.Whole.Blocks.{nodes_are}
 use Rattle.wt_called_edit_laws.proofs.Whole.Contents.{has_call}
+use Rattle.wt_called_edit_laws.proofs.Whole.PartsIn.{simple_parts}
 use Rattle.wt_called_edit_laws.proofs.Whole.TextAndCalls.{a_group, nodes_from, nodes_own, nodes_show, IsCallThing, AreCallThings, ThingsOf, nodes_things, call_things, some_things, all_meet_none, sources_before, same_nodes, block_finds}
 use Rattle.wt_called_edit_laws.proofs.Written.InPieces.{pieces_items, pieces_written}
 use Rattle.wt_called_edit_laws.proofs.Written.NewContents.{calls_of, work_of}
@@ -78,7 +80,8 @@ heading_pieced pages s q h =
       seen = things_seen pages h.pieces some.nodes some.are.0 some.are.1 h.seen;
       read = h.read;
       line = h.line;
-      texts = h.texts;
+      texts = λ i.
+          simple_parts (part_items pages i q) (content_parts_of (a_heading s) (part_items pages i q)) (h.texts i);
       groups = h.groups;
       shut = h.shut;
     }
@@ -102,7 +105,7 @@ heading_beside pages s q block n at i calls some is sources_are h meets =
     let own : IsWrittenAs pages q (λ j. pieces_items pages j bs) (calls_of pages bs) (work_of pages bs) =
     subst (λ (ys : List ℕ). IsWrittenAs pages ys (λ j. pieces_items pages j bs) (calls_of pages bs) (work_of pages bs)) h.is (pieces_written pages bs h.parts) in
     let w = framed_written pages s q (λ j. pieces_items pages j bs) (calls_of pages bs) (work_of pages bs) h.read own in
-    let round = round_given ps s (h.texts i) f.sides in
+    let round = round_given ps s (as_pieces ps (h.texts i)) f.sides in
     let nodes : children_of block ≡ nodes_from pages calls i m a bs =
     ap children_of is ∙ same_nodes (settled n at v)
     ∙ ap (λ (u : Tree). nodes_in (settled n at (cut_texts u))) (given_block_is calls (plain (kind.Heading s.level)) o ps c round)

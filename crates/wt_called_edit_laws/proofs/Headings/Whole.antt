@@ -7,7 +7,7 @@ use Rattle.wt_expand.specs.PageCalls.{expanded_page}
 use Rattle.wt_expand.specs.Work.{Pages}
 use Rattle.wt_inline.specs.Parts.{Part, children}
 use Rattle.wt_context.specs.Line.{line_parts}
-use Rattle.wt_part_laws.specs.CallPieces.{AreOwnOrGiven, call_pieces}
+use Rattle.wt_part_laws.specs.CallPieces.{call_pieces}
 use Rattle.wt_part_laws.specs.Expanded.{part_items}
 use Rattle.wt_text_edit_laws.specs.TextBlocks.{a_heading, source_of, IsFrame}
 use Rattle.wt_text_edit_laws.specs.TypedHeadings.{Sides}
@@ -15,7 +15,8 @@ use Rattle.wt_beside_laws.specs.Called.{items_with, owns_in, parts_with, IsCalle
 use Rattle.wt_beside_laws.proofs.Groups.CalledBlocks.{parts_own}
 use Rattle.wt_beside_laws.proofs.Groups.CalledHeadings.{heading_parts}
 use Rattle.wt_beside_laws.proofs.Groups.Folders.{heading_in}
-use Rattle.wt_called_edit_laws.specs.WholeContents.{AreGroups, AreShutParts, HoldsGroups, IsWholeIn}
+use Rattle.wt_called_edit_laws.specs.WholeContents.{AreGroups, ArePartsIn, AreShutParts, HoldsGroups, IsWholeIn}
+use Rattle.wt_called_edit_laws.proofs.Whole.PartsIn.{simple_parts}
 use Rattle.wt_called_edit_laws.specs.Written.{written_calls}
 use Rattle.wt_called_edit_laws.specs.WrittenAnew.{IsWrittenInHeading}
 use Rattle.wt_called_edit_laws.proofs.Headings.Held.{head_items}
@@ -33,7 +34,8 @@ head_groups pages s signs w f h =
     record {
       parts = λ i.
           let there = heading_in pages i s signs c in
-          subst AreOwnOrGiven (sym (given i)) (parts_own s [] signs (owns_in pages i signs) there.own);
+          subst (ArePartsIn (part_items pages i (spelled s signs))) (sym (given i))
+          (simple_parts (part_items pages i (spelled s signs)) (parts_with s [] signs (owns_in pages i signs)) (parts_own s [] signs (owns_in pages i signs) there.own));
       groups = λ i.
           subst (λ (ps : List Part). AreGroups (part_items pages i (spelled s signs)) (call_pieces (children ps))) (sym (given i))
           (subst (λ (xs : List Item). AreGroups xs (call_pieces (children (parts_with s [] signs (owns_in pages i signs))))) (sym (items i))

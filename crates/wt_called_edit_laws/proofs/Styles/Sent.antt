@@ -26,13 +26,13 @@ use Rattle.wt_beside_laws.specs.SentStyled.{AreStyledSent, IsStyledBy, IsStyledS
 use Rattle.wt_called_edit_laws.proofs.Beside.Found.{IsFoundAs}
 use Rattle.wt_called_edit_laws.proofs.Beside.Sent.{as_kept}
 use Rattle.wt_called_edit_laws.proofs.Styles.Found.{AreFound, FoundBy, IsFound}
-use Rattle.wt_called_edit_laws.specs.StyledCallEdits.{AreNodesBeside, IsBesideBy, IsNodeBeside}
+use Rattle.wt_called_edit_laws.specs.StyledCallEdits.{AreNodesBeside, IsBesideBy, IsNodeBeside, PlainGroups}
 
 -- ---- what is in a style of the page
 
-pub style_beside : (pages : Pages) (l : Label) (ts : Trees) → IsStyle l.kind → IsNodeBeside pages (tree l ts) → NoneIsGroup ts × AreNodesBeside pages ts
+pub style_beside : (pages : Pages) (l : Label) (ts : Trees) → IsStyle l.kind → IsNodeBeside pages (tree l ts) → PlainGroups pages ts × AreNodesBeside pages ts
 style_beside pages l ts h b =
-    of_style (λ k. IsBesideBy (edit_shape k).inline pages l ts (AreNodesBeside pages ts) → NoneIsGroup ts × AreNodesBeside pages ts) l.kind h
+    of_style (λ k. IsBesideBy (edit_shape k).inline pages l ts (AreNodesBeside pages ts) → PlainGroups pages ts × AreNodesBeside pages ts) l.kind h
     (λ d. (d.1, d.2)) (λ d. (d.1, d.2)) b
 
 pub style_found : (ks : List Kept) (l : Label) (ts : Trees) → IsStyle l.kind → IsFound ks (tree l ts) → IsFoundAs ks l ts × AreFound ks ts

@@ -1,7 +1,9 @@
 -- What is written beside calls and styles can be read by itself.
-use Rattle.std.proofs.Common.{◌≡◌, inl, inr, ℕ, ◌+◌, Bool, true, false, not, Option, None, List, [], ◌∷◌, ◌++◌, length, map, ap, refl, subst, sym, ◌||◌, ◌∙◌}
+use Rattle.std.proofs.Common.{◌≡◌, inl, inr, ℕ, suc, ◌+◌, Bool, true, false, not, Option, None, Some, List, [], ◌∷◌, ◌++◌, length, map, ap, refl, subst, sym, ◌||◌, ◌∙◌}
+use Rattle.std.specs.Prelude.{◌&&◌}
+use Rattle.std.specs.List.{list_all}
 use Rattle.wt_span.proofs.RunLaws.{runs_are}
-use Rattle.wt_span.specs.Items.{Item}
+use Rattle.wt_span.specs.Items.{Item, call_of}
 use Rattle.wt_span.specs.Origins.{OuterCall}
 use Rattle.wt_span.specs.Runs.{AreRuns, IsRun, runs}
 use Rattle.wt_tree.specs.Plain.{Plains, along, element, ended, plain_before}
@@ -12,10 +14,14 @@ use Rattle.wt_guards.specs.Content.{ContentSign, Thing, letter, thing}
 use Rattle.wt_guards.specs.Guards.{Setting, is_guarded, nowiki, spelled}
 use Rattle.wt_guards.specs.Letters.{is_escaped}
 use Rattle.wt_lines.specs.Lines.{lines}
-use Rattle.wt_inline.specs.ItemTree.{ItemTree, forest, tree_items}
+use Rattle.wt_inline.proofs.HeldLaws.{held_children}
+use Rattle.wt_inline.specs.ItemTree.{ItemTree, forest, held_by_all, tree_items}
 use Rattle.wt_inline.specs.Parts.{Part, child, children, held_parts, loose, loose_leaf, node, one_leaf, parts}
 use Rattle.wt_inline.specs.declared.loose.Loose.TheVariants.{Sep, Text}
+use Rattle.wt_context.proofs.PlainNodes.{AreTexts}
 use Rattle.wt_context.specs.Line.{line_parts}
+use Rattle.wt_annotated.proofs.Calls.{all_split}
+use Rattle.wt_annotated.specs.Clean.{is_no_call, is_page}
 use Rattle.wt_annotated.specs.CutTexts.{cut_texts}
 use Rattle.wt_annotated.specs.Labels.{label_at}
 use Rattle.wt_annotated.specs.Numbering.{count, with_numbers}
@@ -27,26 +33,27 @@ use Rattle.wt_expand.specs.Work.{Pages}
 use Rattle.wt_part_laws.proofs.GroupsStay.{numbers_gone}
 use Rattle.wt_part_laws.proofs.OwnWalks.{walk_own}
 use Rattle.wt_part_laws.proofs.Recuts.{texts_same}
-use Rattle.wt_part_laws.specs.CallPieces.{AreOwnOrGiven, call_pieces}
-use Rattle.wt_part_laws.specs.Expanded.{part_items}
+use Rattle.wt_part_laws.specs.CallPieces.{AreOwnOrGiven, EachNode, IsOfCall, IsOwnOrGiven, call_pieces}
+use Rattle.wt_part_laws.specs.Expanded.{calls_in, part_items}
 use Rattle.wt_part_laws.specs.HeldCalls.{HoldsItsCalls, block_in}
 use Rattle.wt_part_laws.specs.Placeless.{all_placeless, placeless}
-use Rattle.wt_part_laws.specs.Rounded.{IsOwn}
+use Rattle.wt_part_laws.specs.Rounded.{HasItems, IsOwn}
 use Rattle.wt_part_laws.specs.Standing.{standing}
 use Rattle.wt_text_edit_laws.proofs.Blocks.Untangled.{open_same}
 use Rattle.wt_text_edit_laws.specs.ParagraphParts.{joined_parts, para_with}
 use Rattle.wt_text_edit_laws.specs.TextBlocks.{a_paragraph}
-use Rattle.wt_beside_laws.proofs.Made.Items.{PartsHave}
+use Rattle.wt_beside_laws.proofs.Groups.CalledBlocks.{guard_own, letter_own}
+use Rattle.wt_beside_laws.proofs.Made.Items.{PartsHave, children_have}
 use Rattle.wt_beside_laws.proofs.PartThings.{nodes_of}
 use Rattle.wt_beside_laws.proofs.Styled.SentStyles.{nowiki_alone}
 use Rattle.wt_beside_laws.proofs.Styled.StyledNodes.{nowiki_items}
-use Rattle.wt_beside_laws.proofs.StyledGroups.Blocks.{styled_called_holds, styled_own, within_have}
+use Rattle.wt_beside_laws.proofs.StyledGroups.Blocks.{each_both, own_texts, styled_called_holds, styled_each, styled_texts}
 use Rattle.wt_beside_laws.proofs.StyledGroups.Paragraphs.{styled_called_parts}
 use Rattle.wt_beside_laws.proofs.StyledGroups.Shown.{styled_called_shows}
-use Rattle.wt_beside_laws.specs.Called.{items_with, owns_in}
+use Rattle.wt_beside_laws.specs.Called.{AreGiven, items_with, owns_in}
 use Rattle.wt_beside_laws.specs.Content.{guard_items, letter_items}
 use Rattle.wt_beside_laws.specs.Flat.{IsFlat}
-use Rattle.wt_beside_laws.specs.Nests.{marks, style_tree}
+use Rattle.wt_beside_laws.specs.Nests.{marks, of_style, style_tree}
 use Rattle.wt_beside_laws.specs.NodeItems.{node_items}
 use Rattle.wt_beside_laws.specs.Styled.{AreNested, StyledContent, delimiter, finished, mark_source, sign, signs_before, signs_in, signs_past, styled}
 use Rattle.wt_beside_laws.specs.StyledCalls.{AreOwnAt, owns_left, owns_past, styled_with}
@@ -55,11 +62,12 @@ use Rattle.wt_called_edit_laws.proofs.Styles.Lined.{own_calls}
 use Rattle.wt_called_edit_laws.proofs.Styles.Put.{put_items, put_outer, put_source}
 use Rattle.wt_called_edit_laws.proofs.Styles.Shown.{calls_behind, folder_shown, past_as, shown_as}
 use Rattle.wt_called_edit_laws.proofs.Styles.Things.{AreStyledThings, IsStyledThing}
-use Rattle.wt_called_edit_laws.proofs.Styles.Written.{IsStyledWritten, each_behind, flat_put, styled_gives, styled_in}
-use Rattle.wt_called_edit_laws.proofs.Styles.Groups.{groups_styled}
-use Rattle.wt_called_edit_laws.proofs.Whole.Contents.{calls_both, guard_shut, letter_shut, moved_shut, own_shut, shut_both, thing_calls}
+use Rattle.wt_called_edit_laws.proofs.Styles.Written.{IsStyledWritten, all_given, each_behind, flat_put, styled_gives, styled_in}
+use Rattle.wt_called_edit_laws.proofs.Styles.Groups.{groups_styled, last_behind, last_letter, mark_thing}
+use Rattle.wt_called_edit_laws.proofs.Whole.PartsIn.{simple_within}
+use Rattle.wt_called_edit_laws.proofs.Whole.Contents.{AreLastOf, calls_both, last_thing, guard_shut, letter_shut, moved_shut, own_shut, shut_both, thing_calls}
 use Rattle.wt_called_edit_laws.specs.CalledContents.{tree_round}
-use Rattle.wt_called_edit_laws.specs.WholeContents.{AreGroups, AreShutCalls, AreShutParts, HoldsGroups, IsWholeIn}
+use Rattle.wt_called_edit_laws.specs.WholeContents.{AreGroups, ArePartsIn, AreShutCalls, AreShutParts, HoldsGroups, IsPartIn, IsWholeIn}
 use Rattle.wt_called_edit_laws.specs.Written.{written_calls}
 use Rattle.wt_called_edit_laws.specs.WrittenAnew.{HoldsAnywhere}
 
@@ -163,48 +171,173 @@ one_shut pages i x (inr p) f =
     subst (λ (xs : List Item). AreShutParts (line_parts xs)) (sym (put_items pages i x.source (put_source x p)))
     (subst (λ (bs : List ℕ). AreShutParts (line_parts (node_items bs))) (sym (flat_put x p f)) nowiki_shut)
 
-styled_shut : (pages : Pages) (i : ℕ) (s : Setting) (within bold italic : Bool) (before : List ContentSign) (t : StyledContent) (after others : List ContentSign)
+-- ---- what is of the page in a style
+
+-- if all items of it are the page's, each node in it has some
+abbrev HasIfPage : ItemTree → Type 0
+HasIfPage t = list_all is_page (tree_items t) ≡ true → HasItems t
+
+no_items : (j : ℕ) (t : ItemTree) → IsOfCall j t → list_all is_page (tree_items t) ≡ true → ⊥
+no_items j t g e = none (call_of g.first) g.of_call.0 (ap (list_all is_page) (sym g.is) ∙ e)
+  where
+    none : (o : Option ℕ) → o ≡ Some j → list_all is_page (g.first ∷ g.others) ≡ true → ⊥
+    none o i f = let no : false ≡ true = sym (ap (λ (q : Option ℕ). is_no_call q && list_all is_page g.others) g.of_call.0) ∙ f in cc
+
+simple_has : (qs : List Part) → AreOwnOrGiven qs → EachNode HasIfPage qs
+simple_has [] h = tt
+simple_has (loose k o b ∷ qs) h = simple_has qs h
+simple_has (node t ∷ qs) h = (one h.0, simple_has qs h.1)
+  where
+    one : IsOwnOrGiven t → HasIfPage t
+    one (inl n) = λ e. n.has_items
+    one (inr g) = λ e. absurd (no_items g.0 t g.1 e)
+
+parts_have : (qs : List Part) → EachNode HasIfPage qs → AreTexts qs → list_all is_page (held_parts qs) ≡ true → PartsHave qs
+parts_have [] h t e = tt
+parts_have (loose Text None b ∷ qs) h t e = (refl, parts_have qs h t.1 e)
+parts_have (loose Text (Some j) b ∷ qs) h t e = let no : false ≡ true = e in absurd (cc)
+parts_have (loose Sep o b ∷ qs) h t e = absurd t.0
+parts_have (node u ∷ qs) h t e =
+    let r = all_split (tree_items u) (held_parts qs) e in ((h.0 r.0, r.0), parts_have qs h.1 t.1 r.1)
+
+-- what is in a style
+inside_page : (kind : Bool) (qs : List Part) → list_all is_page (tree_items (style_tree kind qs)) ≡ true → list_all is_page (held_parts qs) ≡ true
+inside_page kind qs e =
+    let r = all_split (marks kind) (held_by_all (forest (children qs)) ++ marks kind) e in
+    let i = all_split (held_by_all (forest (children qs))) (marks kind) r.1 in
+    ap (list_all is_page) (sym (held_children qs)) ∙ i.0
+
+style_has : (kind : Bool) (qs : List Part) → EachNode HasIfPage qs → AreTexts qs → HasIfPage (style_tree kind qs)
+style_has true qs h t = λ e. let r = children_have qs (parts_have qs h t (inside_page true qs e)) in (refl, r.0)
+style_has false qs h t = λ e. let r = children_have qs (parts_have qs h t (inside_page false qs e)) in (refl, r.0)
+
+styled_shut : (pages : Pages) (i : ℕ) (s : Setting) (within bold italic : Bool) (before : List ContentSign) (t : StyledContent) (after : List ContentSign)
     → AreStyledThings pages (signs_before t after) → AreNested bold italic t → AreOwnAt within t (owns_in pages i (signs_before t after))
-    → AreShutParts (styled_with false s before t others (owns_in pages i (signs_before t after)))
-styled_shut pages i s within bold italic before finished after others h k o = guard_shut (is_guarded s before others)
-styled_shut pages i s within bold italic before (sign (letter c) t) after others h k o =
-    let rest : List ContentSign = signs_before t others in
-    let e : Bool = is_escaped s.within s.place before c rest in
-    let owns : List (List Item) = owns_in pages i (signs_before t after) in
-    let more_parts : List Part = styled_with false s (letter c ∷ before) t others owns in
-    shut_both (parts Text (guard_items (is_guarded s before (letter c ∷ rest)))) (parts Text (letter_items e c) ++ more_parts) (guard_shut (is_guarded s before (letter c ∷ rest)))
-    (shut_both (parts Text (letter_items e c)) more_parts (letter_shut e c (λ z. escapable s.within s.place before c rest z))
-    (styled_shut pages i s within bold italic (letter c ∷ before) t after others h k.1 o))
-styled_shut pages i s within bold italic before (sign (thing x) t) after others h k o =
+    → AreShutParts (styled_with false s before t after (owns_in pages i (signs_before t after)))
+styled_shut pages i s within bold italic before finished after h k o = guard_shut (is_guarded s before after)
+styled_shut pages i s within bold italic before (sign (letter c) t) after h k o =
+    let signs : List ContentSign = signs_before t after in
+    let e : Bool = is_escaped s.within s.place before c signs in
+    let owns : List (List Item) = owns_in pages i signs in
+    let more_parts : List Part = styled_with false s (letter c ∷ before) t after owns in
+    shut_both (parts Text (guard_items (is_guarded s before (letter c ∷ signs)))) (parts Text (letter_items e c) ++ more_parts) (guard_shut (is_guarded s before (letter c ∷ signs)))
+    (shut_both (parts Text (letter_items e c)) more_parts (letter_shut e c (λ z. escapable s.within s.place before c signs z))
+    (styled_shut pages i s within bold italic (letter c ∷ before) t after h k.1 o))
+styled_shut pages i s within bold italic before (sign (thing x) t) after h k o =
     let y : ContentSign = thing x in
-    let rest : List ContentSign = signs_before t others in
+    let signs : List ContentSign = signs_before t after in
     let own : List Item = part_items pages i x.source in
     let next : ℕ = i + length (expanded_page pages x.source).outer in
-    let more_parts : List Part = styled_with false s (y ∷ before) t others (owns_in pages next (signs_before t after)) in
-    shut_both (parts Text (guard_items (is_guarded s before (y ∷ rest)))) (line_parts own ++ more_parts) (guard_shut (is_guarded s before (y ∷ rest)))
-    (shut_both (line_parts own) more_parts (one_shut pages i x h.0 k.0) (styled_shut pages next s within bold italic (y ∷ before) t after others h.1 k.1 o.1))
-styled_shut pages i s within bold italic before (styled kind opening closing inside t) after others h k o =
+    let more_parts : List Part = styled_with false s (y ∷ before) t after (owns_in pages next signs) in
+    shut_both (parts Text (guard_items (is_guarded s before (y ∷ signs)))) (line_parts own ++ more_parts) (guard_shut (is_guarded s before (y ∷ signs)))
+    (shut_both (line_parts own) more_parts (one_shut pages i x h.0 k.0) (styled_shut pages next s within bold italic (y ∷ before) t after h.1 k.1 o.1))
+styled_shut pages i s within bold italic before (styled kind opening closing inside t) after h k o =
     let closes : List ContentSign = delimiter kind closing ∷ signs_before t after in
-    let shown_closes : List ContentSign = delimiter kind closing ∷ signs_before t others in
     let first : List ContentSign = delimiter kind opening ∷ before in
     let last : List ContentSign = delimiter kind closing ∷ signs_past inside first in
     let j : ℕ = i + length (expanded_page pages (mark_source kind)).outer in
     let m : ℕ = calls_behind pages j inside + length (expanded_page pages (mark_source kind)).outer in
-    let owns : List (List Item) = owns_in pages j (signs_before inside closes) in
-    let ps : List Part = styled_with false s first inside shown_closes owns in
-    let left : List (List Item) = owns_left (owns_past inside owns) in
+    let held : List ContentSign = signs_before inside closes in
+    let owns : List (List Item) = owns_in pages j held in
+    let ps : List Part = styled_with false s first inside closes owns in
     let same : owns_past inside owns ≡ owns_in pages (calls_behind pages j inside) closes = past_as pages j inside closes in
-    let qs : List Part = styled_with false s last t others left in
-    let held : AreShutParts ps = styled_shut pages j s true (kind || bold) (not kind || italic) first inside closes shown_closes h.1 k.1 o.0 in
+    let qs : List Part = styled_with false s last t after (owns_left (owns_past inside owns)) in
+    let shut : AreShutParts ps = styled_shut pages j s true (kind || bold) (not kind || italic) first inside closes h.1 k.1 o.0 in
+    let given : AreGiven held owns = all_given pages j held h.1 in
+    let has : EachNode HasIfPage ps =
+    styled_each HasIfPage simple_has s true (kind || bold) (not kind || italic) first inside closes owns given k.1 o.0 (λ b us g a. style_has b us g a) in
+    let texts : AreTexts ps = styled_texts s (kind || bold) (not kind || italic) first inside closes owns given k.1 in
     let out : AreOwnAt within t (owns_in pages m (signs_before t after)) =
     subst (λ (os : List (List Item)). AreOwnAt within t (owns_left os)) same o.1 in
     let later : AreShutParts qs =
-    subst (λ (os : List (List Item)). AreShutParts (styled_with false s last t others (owns_left os))) (sym same)
-    (styled_shut pages m s within bold italic last t after others (each_behind pages inside closes h.1).1 k.2 out) in
-    let u : ItemTree = style_tree kind ps in
-    let own = style_shut kind ps (all_shut ps (within_have s first inside shown_closes owns o.0) held) in
-    shut_both (parts Text (guard_items (is_guarded s before (delimiter kind opening ∷ signs_before inside shown_closes)))) (node u ∷ qs)
-    (guard_shut (is_guarded s before (delimiter kind opening ∷ signs_before inside shown_closes))) ((λ e. own), later)
+    subst (λ (os : List (List Item)). AreShutParts (styled_with false s last t after (owns_left os))) (sym same)
+    (styled_shut pages m s within bold italic last t after (each_behind pages inside closes h.1).1 k.2 out) in
+    shut_both (parts Text (guard_items (is_guarded s before (delimiter kind opening ∷ held)))) (node (style_tree kind ps) ∷ qs)
+    (guard_shut (is_guarded s before (delimiter kind opening ∷ held)))
+    ((λ e. style_shut kind ps (all_shut ps (parts_have ps has texts (inside_page kind ps e)) shut)), later)
+
+-- ---- what each call gives in a style is a group there, too
+
+-- so many styles may be in one
+abbrev depth : Bool → Bool → ℕ
+depth true true = 0
+depth true false = 1
+depth false true = 1
+depth false false = 2
+
+one_deeper : (kind bold italic : Bool) → of_style kind bold italic ≡ false → depth bold italic ≡ suc (depth (kind || bold) (not kind || italic))
+one_deeper true true italic e = cc
+one_deeper true false true e = refl
+one_deeper true false false e = refl
+one_deeper false true true e = cc
+one_deeper false true false e = refl
+one_deeper false false true e = cc
+one_deeper false false false e = refl
+
+styled_parts_in : (pages : Pages) (all : List Item) (i : ℕ) (s : Setting) (within bold italic : Bool) (before : List ContentSign) (t : StyledContent) (after : List ContentSign)
+    → AreStyledThings pages (signs_before t after) → AreNested bold italic t → AreOwnAt within t (owns_in pages i (signs_before t after))
+    → AreLastOf all i (items_with s before (signs_before t after) (owns_in pages i (signs_before t after)))
+    → EachNode (IsPartIn (depth bold italic) all) (styled_with false s before t after (owns_in pages i (signs_before t after)))
+styled_parts_in pages all i s within bold italic before finished after h k o f =
+    let u : Bool = is_guarded s before after in simple_within (depth bold italic) all (parts Text (guard_items u)) (guard_own u)
+styled_parts_in pages all i s within bold italic before (sign (letter c) t) after h k o f =
+    let signs : List ContentSign = signs_before t after in
+    let e : Bool = is_escaped s.within s.place before c signs in
+    let u : Bool = is_guarded s before (letter c ∷ signs) in
+    let P : ItemTree → Type 0 = λ (v : ItemTree). IsPartIn (depth bold italic) all v in
+    let more_parts : List Part = styled_with false s (letter c ∷ before) t after (owns_in pages i signs) in
+    each_both P (parts Text (guard_items u)) (parts Text (letter_items e c) ++ more_parts) (simple_within (depth bold italic) all (parts Text (guard_items u)) (guard_own u))
+    (each_both P (parts Text (letter_items e c)) more_parts (simple_within (depth bold italic) all (parts Text (letter_items e c)) (letter_own e c))
+    (styled_parts_in pages all i s within bold italic (letter c ∷ before) t after h k.1 o
+    (last_letter all i c u e (items_with s (letter c ∷ before) signs (owns_in pages i signs)) f)))
+styled_parts_in pages all i s within bold italic before (sign (thing x) t) after h k o f =
+    let signs : List ContentSign = signs_before t after in
+    let u : Bool = is_guarded s before (thing x ∷ signs) in
+    let P : ItemTree → Type 0 = λ (v : ItemTree). IsPartIn (depth bold italic) all v in
+    let next : ℕ = i + calls_in pages x.source in
+    let own : List Part = line_parts (part_items pages i x.source) in
+    let more_parts : List Part = styled_with false s (thing x ∷ before) t after (owns_in pages next signs) in
+    each_both P (parts Text (guard_items u)) (own ++ more_parts) (simple_within (depth bold italic) all (parts Text (guard_items u)) (guard_own u))
+    (each_both P own more_parts (simple_within (depth bold italic) all own (own_texts within x (part_items pages i x.source) o.0))
+    (styled_parts_in pages all next s within bold italic (thing x ∷ before) t after h.1 k.1 o.1
+    (last_thing pages all i x u (items_with s (thing x ∷ before) signs (owns_in pages next signs)) f)))
+styled_parts_in pages all i s within bold italic before (styled kind opening closing inside t) after h k o f =
+    let first : List ContentSign = delimiter kind opening ∷ before in
+    let past : List ContentSign = signs_past inside first in
+    let last : List ContentSign = delimiter kind closing ∷ past in
+    let signs : List ContentSign = signs_before t after in
+    let closes : List ContentSign = delimiter kind closing ∷ signs in
+    let held : List ContentSign = signs_before inside closes in
+    let j : ℕ = i + calls_in pages (mark_source kind) in
+    let n : ℕ = calls_behind pages j inside in
+    let m : ℕ = n + calls_in pages (mark_source kind) in
+    let u : Bool = is_guarded s before (delimiter kind opening ∷ held) in
+    let P : ItemTree → Type 0 = λ (v : ItemTree). IsPartIn (depth bold italic) all v in
+    let a : AreLastOf all j (items_with s first held (owns_in pages j held)) =
+    last_thing pages all i (mark_thing kind opening) u (items_with s first held (owns_in pages j held)) f in
+    let b : AreLastOf all n (items_with s past closes (owns_in pages n closes)) = last_behind pages all j s first inside closes a in
+    let c : AreLastOf all m (items_with s last signs (owns_in pages m signs)) =
+    last_thing pages all n (mark_thing kind closing) (is_guarded s past closes) (items_with s last signs (owns_in pages m signs)) b in
+    let owns : List (List Item) = owns_in pages j held in
+    let same : owns_past inside owns ≡ owns_in pages n closes = past_as pages j inside closes in
+    let ps : List Part = styled_with false s first inside closes owns in
+    let qs : List Part = styled_with false s last t after (owns_left (owns_past inside owns)) in
+    let out : AreOwnAt within t (owns_in pages m signs) = subst (λ (os : List (List Item)). AreOwnAt within t (owns_left os)) same o.1 in
+    let inner_parts : EachNode (IsPartIn (depth (kind || bold) (not kind || italic)) all) ps =
+    styled_parts_in pages all j s true (kind || bold) (not kind || italic) first inside closes h.1 k.1 o.0 a in
+    let style : IsPartIn (depth bold italic) all (style_tree kind ps) =
+    subst (λ (d : ℕ). IsPartIn d all (style_tree kind ps)) (sym (one_deeper kind bold italic k.0)) (inr (
+      kind,
+      ps,
+      refl,
+      inner_parts,
+      groups_styled pages all j s true (kind || bold) (not kind || italic) first inside closes h.1 k.1 o.0 a,
+      styled_shut pages j s true (kind || bold) (not kind || italic) first inside closes h.1 k.1 o.0,
+    )) in
+    let later : EachNode P qs =
+    subst (λ (os : List (List Item)). EachNode P (styled_with false s last t after (owns_left os))) (sym same)
+    (styled_parts_in pages all m s within bold italic last t after (each_behind pages inside closes h.1).1 k.2 out c) in
+    each_both P (parts Text (guard_items u)) (node (style_tree kind ps) ∷ qs) (simple_within (depth bold italic) all (parts Text (guard_items u)) (guard_own u)) (style, later)
 
 -- ---- the calls of a node
 
@@ -228,15 +361,17 @@ styled_groups pages s t h =
     record {
       parts = λ i.
           let own = styled_in pages i s t h in
-          subst AreOwnOrGiven (sym (given i)) (styled_own s [] t [] (owns_in pages i signs) own.own);
+          subst (ArePartsIn (part_items pages i (spelled s signs))) (sym (given i))
+          (subst (λ (xs : List Item). ArePartsIn xs (styled_with false s [] t [] (owns_in pages i signs))) (sym (styled_gives pages i s t h))
+          (styled_parts_in pages (items_with s [] signs (owns_in pages i signs)) i s false false false [] t [] h.each h.nested own.own (λ j l. refl)));
       groups = λ i.
           let own = styled_in pages i s t h in
           subst (λ (ps : List Part). AreGroups (part_items pages i (spelled s signs)) (call_pieces (children ps))) (sym (given i))
           (subst (λ (xs : List Item). AreGroups xs (call_pieces (children (styled_with false s [] t [] (owns_in pages i signs))))) (sym (styled_gives pages i s t h))
-          (groups_styled pages (items_with s [] signs (owns_in pages i signs)) i s [] t h.each h.nested own.own (λ j l. refl)));
+          (groups_styled pages (items_with s [] signs (owns_in pages i signs)) i s false false false [] t [] h.each h.nested own.own (λ j l. refl)));
       shut = λ i.
           let own = styled_in pages i s t h in
-          subst AreShutParts (sym (given i)) (styled_shut pages i s false false false [] t [] [] h.each h.nested own.own);
+          subst AreShutParts (sym (given i)) (styled_shut pages i s false false false [] t [] h.each h.nested own.own);
       shut_calls = moved_shut (written_calls pages signs) (expanded_page pages (spelled s signs)).outer b.calls_are (shut_things pages signs h.each);
     }
 

@@ -26,22 +26,23 @@ use Rattle.wt_beside_laws.specs.NodeItems.{node_items}
 use Rattle.wt_beside_laws.specs.Styled.{AreNested, StyledContent, delimiter, finished, mark_source, sign, signs_before, signs_in, styled}
 use Rattle.wt_beside_laws.specs.StyledCalls.{AreOwnAt, IsOwnAt, IsStyledCalled, owns_left}
 use Rattle.wt_beside_laws.specs.StyledNodes.{IsPut}
-use Rattle.wt_called_edit_laws.proofs.Styles.Free.{NoCallWithin}
+use Rattle.wt_called_edit_laws.proofs.Styles.Free.{PlainWithin}
 use Rattle.wt_called_edit_laws.proofs.Styles.Put.{put_items, put_own, put_part, put_read, put_sealed, put_source, put_utf8}
 use Rattle.wt_called_edit_laws.proofs.Styles.Shown.{calls_behind, past_as}
 use Rattle.wt_called_edit_laws.proofs.Styles.Things.{AreStyledThings, IsStyledThing}
 use Rattle.wt_called_edit_laws.proofs.Written.Held.{written_with}
 use Rattle.wt_called_edit_laws.proofs.Written.Signs.{content_written}
+use Rattle.wt_called_edit_laws.specs.StyledCallEdits.{GivesPlain}
 use Rattle.wt_called_edit_laws.specs.Written.{AreOwnParts, AreReadThings, IsOwnPart, IsReadThing}
 use Rattle.wt_called_edit_laws.specs.WrittenAnew.{AreUtf8, node_sources}
 
--- Each sign that is no character is a node of the page or is put; styles nest, and no call is in one; no call is first or last.
+-- Each sign that is no character is a node of the page or is put; styles nest, and a call in one gives none of its own; no call is first or last.
 pub record IsStyledWritten (pages : Pages) (s : Setting) (t : StyledContent) : Type 0 where
   pub of_block : s.within ≡ false
   pub characters : AreCharacters (signs_in t)
   pub each : AreStyledThings pages (signs_in t)
   pub nested : AreNested false false t
-  pub free : NoCallWithin false t
+  pub free : PlainWithin pages false t
   pub meet : (i : ℕ) → AllMeetWith s [] [] (signs_in t) (owns_in pages i (signs_in t))
   pub some : HasUncalled s [] (signs_in t)
 
@@ -168,16 +169,19 @@ own_call pages i x (inr p) e = absurd (no_call p)
     no_call (inl m) = let no : false ≡ true = sym (ap is_call m.1) ∙ e in cc
     no_call (inr w) = let no : false ≡ true = sym (ap is_call w.0) ∙ e in cc
 
-one_own : (pages : Pages) (i : ℕ) (within : Bool) (x : Thing) → IsStyledThing pages x → IsFlat x.role → (within ≡ true → is_call x.role ≡ false)
-    → IsOwnAt within x (part_items pages i x.source)
-one_own pages i true x h f g = own_some pages i x h f (g refl)
+one_own : (pages : Pages) (i : ℕ) (within : Bool) (x : Thing) → IsStyledThing pages x → IsFlat x.role
+    → (within ≡ true → is_call x.role ≡ true → GivesPlain pages x.source) → IsOwnAt within x (part_items pages i x.source)
+one_own pages i true x h f g = elim (call_or_not (is_call x.role)) [
+  | inl e ↦ inl (e, own_call pages i x h e, g refl e i)
+  | inr e ↦ inr (own_some pages i x h f e)
+]
 one_own pages i false x h f g = elim (call_or_not (is_call x.role)) [
   | inl e ↦ inl (e, own_call pages i x h e)
   | inr e ↦ inr (own_some pages i x h f e)
 ]
 
-own_at : (pages : Pages) (i : ℕ) (within bold italic : Bool) (t : StyledContent) (after : List ContentSign) → AreStyledThings pages (signs_before t after)
-    → AreNested bold italic t → NoCallWithin within t → AreOwnAt within t (owns_in pages i (signs_before t after))
+pub own_at : (pages : Pages) (i : ℕ) (within bold italic : Bool) (t : StyledContent) (after : List ContentSign) → AreStyledThings pages (signs_before t after)
+    → AreNested bold italic t → PlainWithin pages within t → AreOwnAt within t (owns_in pages i (signs_before t after))
 own_at pages i within bold italic finished after h k f = tt
 own_at pages i within bold italic (sign (letter c) t) after h k f = own_at pages i within bold italic t after h k.1 f
 own_at pages i within bold italic (sign (thing x) t) after h k f =

@@ -23,15 +23,19 @@ use Rattle.wt_page.specs.Lines.{ending}
 use Rattle.wt_page.specs.Rows.{signs}
 use Rattle.wt_page.proofs.Ends.{content_ending}
 use Rattle.wt_text_edit_laws.specs.LonePages.{page_chars}
-use Rattle.wt_text_edit_laws.specs.PageCuts.{AreHeadingItems}
+use Rattle.wt_text_edit_laws.specs.PageCuts.{AreHeadingItems, EndsClosed}
 use Rattle.wt_text_edit_laws.specs.TextBetween.{HasEnds}
+use Rattle.wt_text_edit_laws.specs.TextBlocks.{a_heading, source_of}
 use Rattle.wt_text_edit_laws.specs.TypedHeadings.{Sides, equals, AreBlanks, AreIdle, NoBreaks, IsHeadingInside}
 use Rattle.wt_text_edit_laws.proofs.Between.Fronts.{items_from}
 use Rattle.wt_text_edit_laws.proofs.Cuts.ItemCuts.{cut_from, page_cut}
 use Rattle.wt_text_edit_laws.proofs.Paragraphs.LineBlocks.{OwnBreaks}
 use Rattle.wt_text_edit_laws.proofs.Headings.HeadingRows.{inside_signs}
 use Rattle.wt_text_edit_laws.proofs.Headings.HeadingSigns.{line_signs, body_signs, core_is, round, AreSeen, open_seen, inside_seen}
+use Rattle.wt_beside_laws.proofs.Derived.BodyRead.{parts_are}
 use Rattle.wt_called_edit_laws.specs.LinedHeadings.{blanks_behind, sides_of, text_of, IsLinedHeading}
+use Rattle.wt_beside_laws.proofs.Derived.BlockContents.{BlockSeen}
+use Rattle.wt_called_edit_laws.proofs.Cells.PlacedBlocks.{own_alone}
 use Rattle.wt_called_edit_laws.proofs.Told.HeadLevels.{core_cut}
 use Rattle.wt_called_edit_laws.proofs.Told.HeadParts.{LineCut, line_cut, parts_joined}
 use Rattle.wt_called_edit_laws.proofs.Told.RestEnds.{NoLess, rest_ends}
@@ -393,20 +397,20 @@ true_by : (v : Bool) → not v ≡ false → v ≡ true
 true_by true e = refl
 true_by false e = cc
 
--- where a line break is behind all lines, one is behind each
-pub line_ended : (l others : List Item) → IsRun goes_on l others → OwnBreaks l → (more : List Item) × (ending l ++ (others ++ char None 10 ∷ []) ≡ char None 10 ∷ more)
-line_ended [] others h o = absurd h
-line_ended (x ∷ []) others h o = by (is_break_item x) refl others h
+-- a line break of the page's own, or no item is behind the line
+pub line_end : (l others : List Item) → IsRun goes_on l others → OwnBreaks l → (ending l ≡ char None 10 ∷ []) ⊎ (ending l ++ others ≡ [])
+line_end [] others h o = absurd h
+line_end (x ∷ []) others h o = by (is_break_item x) refl others h
   where
     by : (v : Bool) → is_break_item x ≡ v → (ys : List Item) → IsRun goes_on (x ∷ []) ys
-        → (more : List Item) × ((if v then x ∷ [] else []) ++ (ys ++ char None 10 ∷ []) ≡ char None 10 ∷ more)
-    by true e ys h = (ys ++ char None 10 ∷ [], ap (λ (z : Item). z ∷ (ys ++ char None 10 ∷ [])) (o.0 e))
-    by false e [] h = ([], refl)
+        → ((if v then x ∷ [] else []) ≡ char None 10 ∷ []) ⊎ ((if v then x ∷ [] else []) ++ ys ≡ [])
+    by true e ys h = inl (ap (λ (z : Item). z ∷ []) (o.0 e))
+    by false e [] h = inr refl
     by false e (y ∷ ys) h = let z : true ≡ false = sym (true_by (is_break_item x) h) ∙ e in absurd (cc)
-line_ended (x ∷ y ∷ l) others h o = line_ended (y ∷ l) others h.1 o.1
+line_end (x ∷ y ∷ l) others h o = line_end (y ∷ l) others h.1 o.1
 
 -- the first sign is that of the content
-begins_content : (l : List Item) → begins (codes "=") (signs l) ≡ true → begins (codes "=") (signs (content l)) ≡ true
+pub begins_content : (l : List Item) → begins (codes "=") (signs l) ≡ true → begins (codes "=") (signs (content l)) ≡ true
 begins_content [] e = e
 begins_content (x ∷ []) e = by x e
   where
@@ -422,18 +426,78 @@ begins_content (x ∷ []) e = by x e
             absurd (omega (arith, ten, equal))
 begins_content (x ∷ y ∷ l) e = e
 
-pub lined_heading : (n : ℕ) (page : List ℕ) (before l others : List Item) → page_items page ≡ before ++ (l ++ (others ++ char None 10 ∷ []))
-    → IsRun goes_on l others → AllOwn l → OwnBreaks l → IsLinedHeading n l → AreHeadingItems (sides_of (content l)) (text_of (content l)) (content l)
-lined_heading n page before l others e run own breaks h =
+cut_line : (n : ℕ) (l : List Item) → IsLinedHeading n l → ItemsCut (content l)
+cut_line n l h = items_cut (content l) (line_cut (map sign (content l)) (core_cut n (map sign (content l)) (begins_content l h.first) h.is_heading))
+
+-- it is its source, with its sides and its text
+pub told_source : (n : ℕ) (l : List Item) → IsLinedHeading n l → AllOwn l → source_of (a_heading (sides_of (content l))) (text_of (content l)) ≡ sources (content l)
+told_source n l h own =
     let xs : List Item = content l in
-    let core_is = core_cut n (map sign xs) (begins_content l h.first) h.is_heading in
-    let c : ItemsCut xs = items_cut xs (line_cut (map sign xs) core_is) in
+    let c : ItemsCut xs = cut_line n l h in
     let mine : AllOwn xs = own_front xs (ending l) (subst AllOwn (sym (content_ending l)) own) in
-    let last = line_ended l others run breaks in
-    let there : page_items page ≡ before ++ (xs ++ char None 10 ∷ last.0) =
-    e ∙ ap (λ (ys : List Item). before ++ (ys ++ (others ++ char None 10 ∷ []))) (sym (content_ending l))
-    ∙ ap (λ (ys : List Item). before ++ ys) (append_assoc xs (ending l) (others ++ char None 10 ∷ []) ∙ ap (λ (ys : List Item). xs ++ ys) last.1) in
-    told_items xs c mine (line_unbroken l others run) (items_end page before xs last.0 c mine there)
+    let k : ℕ = level xs in
+    let o : List ℕ = equals k ++ c.lead in
+    let b : List ℕ = c.trail ++ equals k in
+    let r : List ℕ = sources c.rest in
+    let q : List ℕ = sources c.own in
+    let cut : sources xs ≡ o ++ (q ++ (b ++ r)) =
+    ap sources c.is ∙ flat_map-append source c.front (c.own ++ (c.back ++ c.rest))
+    ∙ ap (λ (bs : List ℕ). sources c.front ++ bs) (flat_map-append source c.own (c.back ++ c.rest)
+    ∙ ap (λ (bs : List ℕ). q ++ bs) (flat_map-append source c.back c.rest))
+    ∙ ap (λ (ys : List Item). sources ys ++ (q ++ (sources c.back ++ r))) (chars_front xs c mine)
+    ∙ ap (λ (bs : List ℕ). bs ++ (q ++ (sources c.back ++ r))) (char_sources o)
+    ∙ ap (λ (ys : List Item). o ++ (q ++ (sources ys ++ r))) (chars_back xs c mine)
+    ∙ ap (λ (bs : List ℕ). o ++ (q ++ (bs ++ r))) (char_sources b) in
+    let s : Sides = sides_by k c.lead c.trail r in
+    ap (λ (t : Sides). source_of (a_heading t) (text_of xs)) (sides_so xs c)
+    ∙ ap (λ (t : List ℕ). source_of (a_heading s) t) (ap sources (inside_so xs c))
+    ∙ ap (λ (bs : List ℕ). o ++ (q ++ bs)) (sym (append_assoc c.trail (equals k) r))
+    ∙ sym cut
+
+form_equals : (v : Bool) → ◌≡◌ {A = ℕ} (if v then 257 else 256) 61 → ⊥
+form_equals true e = omega (arith, e)
+form_equals false e = omega (arith, e)
+
+-- something is shown first
+pub equals_seen : (xs : List Item) → begins (codes "=") (signs xs) ≡ true → BlockSeen xs
+equals_seen [] e = absurd (cc)
+equals_seen (char o b ∷ xs) e =
+    let equal : b ≡ 61 = begins_get (codes "=") (b ∷ signs xs) e 0 (omega arith) in
+    subst (λ (c : ℕ). BlockSeen (char o c ∷ xs)) (sym equal) (record { seen = refl; unled = refl })
+equals_seen (whole f o bs ∷ xs) e = absurd (form_equals (is_mark_form f) (begins_get (codes "=") (sign (whole f o bs) ∷ signs xs) e 0 (omega arith)))
+
+-- A line of a page, before these items of it: where none is behind the line, it holds no mark that nothing ends.
+pub lined_heading : (n : ℕ) (page : List ℕ) (before l behind others : List Item) → page_items page ≡ before ++ (l ++ behind) → IsRun goes_on l others → AllOwn l
+    → OwnBreaks l → IsLinedHeading n l → (ending l ++ others ≡ [] → EndsClosed (sources (content l)) [])
+    → AreHeadingItems (sides_of (content l)) (text_of (content l)) (content l)
+lined_heading n page before l behind others e run own breaks h closed = by (line_end l others run breaks)
+  where
+    xs : List Item
+    xs = content l
+
+    c : ItemsCut xs
+    c = cut_line n l h
+
+    mine : AllOwn xs
+    mine = own_front xs (ending l) (subst AllOwn (sym (content_ending l)) own)
+
+    there : page_items page ≡ before ++ (xs ++ (ending l ++ behind))
+    there =
+        e ∙ ap (λ (ys : List Item). before ++ (ys ++ behind)) (sym (content_ending l))
+        ∙ ap (λ (ys : List Item). before ++ ys) (append_assoc xs (ending l) behind)
+
+    told : HasEnds (sources c.rest ++ 10 ∷ []) → AreHeadingItems (sides_of xs) (text_of xs) xs
+    told ends = told_items xs c mine (line_unbroken l others run) ends
+
+    alone : page_items (sources xs) ≡ xs
+    alone =
+        own_alone before xs (ending l ++ behind) (ap page_items (parts_are page before xs (ending l ++ behind) there) ∙ there)
+        (equals_seen xs (begins_content l h.first))
+
+    by : (ending l ≡ char None 10 ∷ []) ⊎ (ending l ++ others ≡ []) → AreHeadingItems (sides_of xs) (text_of xs) xs
+    by (inl f) = told (items_end page before xs behind c mine (there ∙ ap (λ (ys : List Item). before ++ (xs ++ (ys ++ behind))) f))
+    by (inr f) =
+        told (items_end (sources xs ++ 10 ∷ []) [] xs [] c mine (closed f ∙ ap (λ (ys : List Item). ys ++ char None 10 ∷ []) alone))
 
 -- ---- no other sides are a line's
 

@@ -1,51 +1,28 @@
 -- Blocks at their places in a page that calls nothing: each is read so by itself, whatever is in it.
-use Rattle.std.proofs.Common.{◌≡◌, ℕ, Bool, true, false, None, List, [], ◌∷◌, ◌++◌, map, refl, sym, ap, ap₂, ◌∙◌, subst, append-nil, append_assoc}
+use Rattle.std.proofs.Common.{◌≡◌, ℕ, Bool, true, false, None, List, [], ◌∷◌, ◌++◌, map, refl, sym, ap, ◌∙◌, subst}
 use Rattle.std.specs.Str.{IsUtf8}
 use Rattle.std.proofs.lemmas.List.{map-append}
-use Rattle.std.proofs.lemmas.Grind.{flat_map-append}
 use Rattle.wt_span.specs.declared.form.Mode.TheVariants.{Page}
-use Rattle.wt_span.specs.Items.{Item, char, sign, source, sources}
+use Rattle.wt_span.specs.Items.{Item, char, sign, sources}
 use Rattle.wt_expand.specs.PageItems.{page_items}
-use Rattle.wt_expand.proofs.PageLaws.{page_sources}
 use Rattle.wt_part_laws.specs.Lexer.{lexer}
 use Rattle.wt_part_laws.specs.Scans.{after_all}
 use Rattle.wt_text_edit_laws.specs.BlockSpots.{BlockSpot, spots_source}
 use Rattle.wt_text_edit_laws.specs.Contents.{IsContentOf}
 use Rattle.wt_text_edit_laws.specs.NoCalls.{braces, NonePairs, CallsNothing}
-use Rattle.wt_text_edit_laws.specs.PageCuts.{BeginsBreak, EndsThere, EndsClosed, IsSpotCut, AreFurtherCuts, AreCuts}
+use Rattle.wt_text_edit_laws.specs.PageCuts.{begins_unmarked, BeginsBreak, EndsThere, EndsClosed, EndClosed, IsSpotCut, AreFurtherCuts, AreCuts}
 use Rattle.wt_text_edit_laws.specs.TextBetween.{AreEnded}
 use Rattle.wt_text_edit_laws.specs.TextBlocks.{TextBlock, source_of, block_items}
 use Rattle.wt_text_edit_laws.proofs.Between.BraceWords.{pairs_behind}
 use Rattle.wt_text_edit_laws.proofs.Between.Fronts.{items_from}
 use Rattle.wt_text_edit_laws.proofs.Cuts.ItemCuts.{cut_from, page_cut, front_alone, alone_after}
+use Rattle.wt_text_edit_laws.proofs.Cuts.Unmarked.{unmarked_begins}
 use Rattle.wt_text_edit_laws.proofs.Cuts.Utf8Cuts.{ended_utf8, there_utf8}
 use Rattle.wt_beside_laws.proofs.Derived.BlockContents.{block_source, there_begins, read_alone, block_read, BlockSeen, block_seen, seen_with, seen_alone, first_unbraced, calm_between}
 use Rattle.wt_called_edit_laws.specs.AnyBlocks.{open_behind_part, past_break}
 use Rattle.wt_called_edit_laws.specs.ItemSpots.{items_of_spots, placed_items}
 use Rattle.wt_called_edit_laws.specs.PlacedSpots.{AreFurtherIn, AreBlocksIn}
 use Rattle.wt_called_edit_laws.proofs.Cells.ContentItems.{round_is}
-
--- ---- nothing is open at the page's end, so nothing is at the end of what ends it
-
-part_closed : (front line : List ℕ) (before own : List Item) → page_items (front ++ line) ≡ before ++ own → sources before ≡ front → sources own ≡ line
-    → ((a : Bool) → items_from a 0 (line ++ 10 ∷ []) ≡ own ++ char None 10 ∷ [] → page_items (line ++ 10 ∷ []) ≡ own ++ char None 10 ∷ [])
-    → EndsClosed (front ++ line) [] → EndsClosed line []
-part_closed front line before own e is own_is alone closed =
-    let break : List Item = char None 10 ∷ [] in
-    let ended : List ℕ = line ++ 10 ∷ [] in
-    let all : page_items (front ++ ended) ≡ before ++ (own ++ break) =
-    ap page_items (sym (append_assoc front line (10 ∷ []))) ∙ closed ∙ ap (λ (xs : List Item). xs ++ break) e ∙ append_assoc before own break in
-    let first = page_cut front ended before (own ++ break) all is in
-    let read : page_items ended ≡ own ++ break = alone (after_all (lexer Page) false front) first.behind in
-    read ∙ ap (λ (xs : List Item). xs ++ break) (sym (front_alone line (10 ∷ []) own break read own_is))
-
-ended_there : (rest : List ℕ) → EndsThere rest → EndsThere (rest ++ 10 ∷ [])
-ended_there [] e = refl
-ended_there (b ∷ rest) e = e
-
-behind_closed : (line rest : List ℕ) → EndsClosed (line ++ rest) [] → EndsClosed line rest
-behind_closed line [] h = subst (λ (bs : List ℕ). EndsClosed bs []) (append-nil line) h
-behind_closed line (b ∷ rest) h = tt
 
 -- ---- one block
 
@@ -57,13 +34,12 @@ pub record OwnRead (k : TextBlock) (q : List ℕ) : Type 0 where
 
 pub record SpotIs (s : BlockSpot) (rest : List ℕ) (before own zs : List Item) : Type 0 where
   pub read : OwnRead s.block s.text
-  pub closed : EndsClosed (source_of s.block s.text) rest
+  pub ended : EndsClosed (source_of s.block s.text) []
   pub before_is : page_items s.before ≡ before
   pub own_is : block_items s.block s.text ≡ own
   pub rest_is : page_items rest ≡ zs
   pub rest_utf8 : IsUtf8 rest
   pub rest_calm : CallsNothing zs
-  pub rest_closed : EndsClosed rest []
 
 behind_calm : (xs own zs : List Item) → CallsNothing (xs ++ (own ++ zs)) → CallsNothing zs
 behind_calm xs own zs c =
@@ -72,7 +48,7 @@ behind_calm xs own zs c =
     pairs_behind (map sign own) (map sign zs) (pairs_behind (map sign xs) (map sign own ++ map sign zs) (subst (λ (ss : List ℕ). NonePairs (braces ss)) joined c))
 
 pub spot_is : (s : BlockSpot) (rest : List ℕ) (zs : List Item) (c : IsSpotCut s zs) → page_items (s.before ++ (source_of s.block s.text ++ rest)) ≡ zs
-    → IsUtf8 (s.before ++ (source_of s.block s.text ++ rest)) → CallsNothing zs → EndsClosed (s.before ++ (source_of s.block s.text ++ rest)) []
+    → IsUtf8 (s.before ++ (source_of s.block s.text ++ rest)) → CallsNothing zs → EndsClosed (source_of s.block s.text) rest
     → AreEnded s.before → EndsThere rest → SpotIs s rest c.before c.own c.rest
 spot_is s rest zs c e u calm closed ended there =
     let line : List ℕ = source_of s.block s.text in
@@ -82,14 +58,9 @@ spot_is s rest zs c e u calm closed ended there =
     let own_source : sources c.own ≡ line = block_source s.block s.text c.own c.block in
     let second = cut_from a line rest c.own c.rest first.behind own_source in
     let behind : page_items rest ≡ c.rest = alone_after (after_all (lexer Page) a line) rest c.rest (there_begins rest there) second.behind in
-    let rest_source : sources c.rest ≡ rest = sym (ap sources behind) ∙ page_sources rest in
-    let both : sources (c.own ++ c.rest) ≡ line ++ rest =
-    flat_map-append source c.own c.rest ∙ ap₂ (λ (bs : List ℕ) (cs : List ℕ). bs ++ cs) own_source rest_source in
     let seen : BlockSeen (c.own ++ c.rest) = seen_with c.own c.rest (block_seen s.block s.text c.own c.block) in
-    let line_closed : EndsClosed (line ++ rest) [] = part_closed s.before (line ++ rest) c.before (c.own ++ c.rest) whole c.source both
-    (λ v. seen_alone v ((line ++ rest) ++ 10 ∷ []) ((c.own ++ c.rest) ++ char None 10 ∷ []) (seen_with (c.own ++ c.rest) (char None 10 ∷ []) seen)) closed in
     let all : page_items (line ++ rest) ≡ c.own ++ c.rest = seen_alone a (line ++ rest) (c.own ++ c.rest) seen first.behind in
-    let alone = read_alone line c.own rest c.rest own_source there (behind_closed line rest line_closed) all behind in
+    let alone = read_alone line c.own rest c.rest own_source there closed all behind in
     let before_parts = ended_utf8 s.before (line ++ rest) ended u in
     let line_parts = there_utf8 line rest there before_parts.1 in
     let read = block_read s.block s.text c.own c.block line_parts.0 alone in
@@ -102,14 +73,12 @@ spot_is s rest zs c e u calm closed ended there =
         unended = alone.unended ∙ sym read.items;
         calm = subst CallsNothing (sym read.items) own_calm;
       };
-      closed = behind_closed line rest line_closed;
+      ended = alone.ended ∙ ap (λ (xs : List Item). xs ++ char None 10 ∷ []) (sym alone.unended);
       before_is = front_alone s.before (line ++ rest) c.before (c.own ++ c.rest) whole c.source;
       own_is = read.items;
       rest_is = behind;
       rest_utf8 = line_parts.1;
       rest_calm = behind_calm c.before c.own c.rest calls;
-      rest_closed = part_closed line rest c.own c.rest all own_source rest_source
-          (λ v. alone_after v (rest ++ 10 ∷ []) (c.rest ++ char None 10 ∷ []) (there_begins (rest ++ 10 ∷ []) (ended_there rest there))) line_closed;
     }
 
 -- ---- all blocks
@@ -140,15 +109,15 @@ pub record FurtherRead (ss : List BlockSpot) (behind : List ℕ) (zs : List Item
   pub items : zs ≡ placed_items (items_of_spots ss) (page_items behind)
 
 further_read : (last : TextBlock) (bs : List Bool) (ss : List BlockSpot) (behind : List ℕ) (zs : List Item) → page_items (spots_source ss behind) ≡ zs
-    → IsUtf8 (spots_source ss behind) → CallsNothing zs → EndsClosed (spots_source ss behind) [] → AreFurtherIn last bs ss behind zs → FurtherRead ss behind zs
+    → IsUtf8 (spots_source ss behind) → CallsNothing zs → EndClosed ss behind → AreFurtherIn last bs ss behind zs → FurtherRead ss behind zs
 further_read last bs [] behind zs e u calm closed h = record { read = tt; cuts = h.0; items = sym e }
 further_read last bs (s ∷ ss) behind zs e u calm closed h =
     let now : List Bool = open_behind_part bs (past_break h.0.before) in
-    let r = spot_is s (spots_source ss behind) zs h.0 e u calm closed h.1 (further_there s.block now ss behind h.0.rest h.6) in
-    let m = further_read s.block now ss behind h.0.rest r.rest_is r.rest_utf8 r.rest_calm r.rest_closed h.6 in
+    let r = spot_is s (spots_source ss behind) zs h.0 e u calm closed.0 h.1 (further_there s.block now ss behind h.0.rest h.6) in
+    let m = further_read s.block now ss behind h.0.rest r.rest_is r.rest_utf8 r.rest_calm closed.1 h.6 in
     record {
       read = (r.read, m.read);
-      cuts = (h.0, h.1, h.2, r.closed, m.cuts);
+      cuts = (h.0, h.1, h.2, closed.0, m.cuts);
       items = items_are s ss behind zs h.0 r m.items;
     }
 
@@ -158,15 +127,15 @@ pub record PageRead (ss : List BlockSpot) (behind : List ℕ) : Type 0 where
   pub items : page_items (spots_source ss behind) ≡ placed_items (items_of_spots ss) (page_items behind)
 
 pub page_read : (ss : List BlockSpot) (behind : List ℕ) → IsUtf8 (spots_source ss behind) → CallsNothing (page_items (spots_source ss behind))
-    → EndsClosed (spots_source ss behind) [] → AreBlocksIn ss behind → PageRead ss behind
+    → EndClosed ss behind → AreBlocksIn ss behind → PageRead ss behind
 page_read [] behind u calm closed h = absurd h
 page_read (s ∷ ss) behind u calm closed h =
     let zs : List Item = page_items (spots_source (s ∷ ss) behind) in
     let now : List Bool = open_behind_part [] h.0.before in
-    let r = spot_is s (spots_source ss behind) zs h.0 refl u calm closed h.1 (further_there s.block now ss behind h.0.rest h.4) in
-    let m = further_read s.block now ss behind h.0.rest r.rest_is r.rest_utf8 r.rest_calm r.rest_closed h.4 in
+    let r = spot_is s (spots_source ss behind) zs h.0 refl u calm closed.0 h.1 (further_there s.block now ss behind h.0.rest h.4) in
+    let m = further_read s.block now ss behind h.0.rest r.rest_is r.rest_utf8 r.rest_calm closed.1 h.4 in
     record {
       read = (r.read, m.read);
-      cuts = (h.0, h.1, r.closed, m.cuts);
+      cuts = (h.0, h.1, closed.0, m.cuts);
       items = items_are s ss behind zs h.0 r m.items;
     }

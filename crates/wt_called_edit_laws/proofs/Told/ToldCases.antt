@@ -7,7 +7,7 @@ use Rattle.std.specs.Str.{IsUtf8}
 use lib.Utf8.{encode}
 use Rattle.wt_span.specs.Comments.{comment_len, comment_line_len}
 use Rattle.wt_span.specs.Entities.{named_entity, entity_names, decimal_entity, hex_entity, entity_at}
-use Rattle.wt_span.specs.Items.{Item, char, whole}
+use Rattle.wt_span.specs.Items.{Item, whole, char}
 use Rattle.wt_span.specs.declared.form.ItemForm.TheVariants as form
 use Rattle.wt_span.specs.Lexemes.{sign_word, form_at, closed, words}
 use Rattle.wt_span.specs.Tags.{opening_tag, closing_tag, tag_after, with_inside, is_extension, raw_len, include_at}
@@ -71,11 +71,6 @@ unfolding page_items words closed form_at comment_len comment_line_len raw_len o
     named_entity decimal_entity hex_entity entity_names sign_word
 are_items = refl
 
-nothing_open : page_items (page ++ 10 ∷ []) ≡ items ++ char None 10 ∷ []
-unfolding page_items words closed form_at comment_len comment_line_len raw_len opening_tag tag_after closing_tag with_inside is_extension include_at entity_at
-    named_entity decimal_entity hex_entity entity_names sign_word
-nothing_open = refl
-
 is_utf8 : IsUtf8 page
 unfolding encode
 is_utf8 = (page, (refl, refl))
@@ -133,7 +128,7 @@ told_page = record {
   utf8 = is_utf8;
   calls_nothing = subst (λ (xs : List Item). CallsNothing xs) (sym are_items) tt;
   ungrouped = free_node (part_tree page) free_page;
-  closed = nothing_open ∙ ap (λ (xs : List Item). xs ++ char None 10 ∷ []) (sym are_items);
+  closed = (tt, (tt, (tt, (tt, (tt, tt)))));
   are = ap full_lines are_items ∙ lines_are;
   told = told_here;
   shut = none_open;

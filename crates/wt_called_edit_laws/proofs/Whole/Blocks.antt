@@ -1,5 +1,5 @@
 -- Each block of a page whose calls give what may be a group, or that calls nothing, can be read by itself where it is.
-use Rattle.std.proofs.Common.{arith, ◌≡◌, inl, inr, ℕ, suc, ◌+◌, ◌<◌, ◌≤◌, Bool, true, false, Option, None, Some, List, [], ◌∷◌, ◌++◌, length, refl, sym, ap, ap₂, ◌∙◌, subst, append-nil}
+use Rattle.std.proofs.Common.{arith, ◌≡◌, inl, inr, ℕ, zero, suc, ◌+◌, ◌<◌, ◌≤◌, Bool, true, false, Option, None, Some, List, [], ◌∷◌, ◌++◌, length, refl, sym, ap, ap₂, ◌∙◌, subst, append-nil}
 use Rattle.std.specs.Prelude.{slice_get, if◌then◌else◌}
 use Rattle.std.specs.List.{list_all}
 use Rattle.std.proofs.lemmas.Bool.{cases_lt}
@@ -13,7 +13,7 @@ use Rattle.wt_span.specs.Items.{Item, sources}
 use Rattle.wt_span.specs.Origins.{OuterCall, Expanded}
 use Rattle.wt_span.specs.Cuts.{source_of_call}
 use Rattle.wt_inline.specs.ItemTree.{Head, plain, ItemTree, inner, forest, tree_items, held_by_all}
-use Rattle.wt_inline.specs.Parts.{Part, children}
+use Rattle.wt_inline.specs.Parts.{Part, loose, node, children}
 use Rattle.wt_context.specs.Line.{line_parts}
 use Rattle.wt_annotated.specs.Clean.{is_page}
 use Rattle.wt_annotated.specs.CutTexts.{cut_as, cut_texts, all_cut_texts}
@@ -30,7 +30,7 @@ use Rattle.wt_expand.specs.Work.{Pages, first_refusal}
 use Rattle.wt_expand.proofs.PiecePlaces.{AllFrom}
 use Rattle.wt_page_round_trip.proofs.HeldPages.{items_ones}
 use Rattle.wt_page_round_trip.proofs.OpenedPages.{AreOnes}
-use Rattle.wt_part_laws.specs.CallPieces.{AreOwnOrGiven, CallPiece, own, given, call_pieces, pieces_in_page}
+use Rattle.wt_part_laws.specs.CallPieces.{EachNode, CallPiece, own, given, call_pieces, pieces_in_page}
 use Rattle.wt_part_laws.specs.Expanded.{moved_call, part_items, calls_in}
 use Rattle.wt_part_laws.specs.HeldCalls.{block_in, HoldsItsCalls, AllHold, IsRoundGiven, block_of_pieces}
 use Rattle.wt_part_laws.specs.Placeless.{placeless}
@@ -58,7 +58,7 @@ use Rattle.wt_called_edit_laws.specs.CallingGroups.{AreCallingOutside, block_wit
 use Rattle.wt_called_edit_laws.specs.Parts.{calls_to, calls_past, called_items}
 use Rattle.wt_called_edit_laws.specs.Settled.{settled, all_settled}
 use Rattle.wt_called_edit_laws.specs.Untangled.{IsWhole, AreWhole}
-use Rattle.wt_called_edit_laws.specs.WholeContents.{of_call, AreGroups, AreShutParts, AreShutCalls, HoldsGroups, EachWhole}
+use Rattle.wt_called_edit_laws.specs.WholeContents.{of_call, AreGroups, IsPartIn, ArePartsIn, AreShutParts, AreShutCalls, HoldsGroups, EachWhole}
 use Rattle.wt_called_edit_laws.proofs.CalledUtf8.{called_utf8}
 use Rattle.wt_called_edit_laws.proofs.Cells.CallingFrames.{own_calm}
 use Rattle.wt_called_edit_laws.proofs.Cells.ContentItems.{tree_is}
@@ -70,7 +70,7 @@ use Rattle.wt_called_edit_laws.proofs.SpotSources.{OnesAt, SpotOnes, tree_opened
 use Rattle.wt_called_edit_laws.proofs.Whole.CallPlaces.{AtPlaces, AreCallsAt, AreBlockCalls, part_placed, block_calls, page_placed}
 use Rattle.wt_called_edit_laws.proofs.Whole.OfCall.{of_append, of_page, own_from, before_part, behind_part}
 use Rattle.wt_called_edit_laws.proofs.Whole.Opened.{to_opened, from_opened}
-use Rattle.wt_called_edit_laws.proofs.Whole.Pieces.{AreShutTrees, children_shut, some_items, AreGroupsHere, IsAmong, pieces_fine, pieces_shut}
+use Rattle.wt_called_edit_laws.proofs.Whole.Pieces.{AreShutTrees, children_shut, some_items, AreGroupsHere, IsPartHere, here_pieces, own_here, IsAmong, pieces_fine, pieces_shut}
 
 -- ---- a block at its place
 
@@ -91,9 +91,9 @@ nodes_are calls n s h q ps c g t =
 
 round_whole : (e : Expanded) (s n : ℕ) (h : Head) (q : List Item) (ps : List Part) (c : List Item) → is_group h.kind ≡ false → texts_of_kind h.kind ≡ Page
     → IsRoundGiven h q ps c → AtPlaces e.outer s None (tree_items (inner h q (forest (children ps)) c))
-    → AreGroupsHere e (call_pieces (children ps)) → AreShutParts ps → AtPlaces e.outer 0 None e.items → AreOnes e.items
+    → AreGroupsHere e (call_pieces (children ps)) → EachNode (IsPartHere 2 e) ps → AreShutParts ps → AtPlaces e.outer 0 None e.items → AreOnes e.items
     → IsWhole e (settled n s (cut_texts (block_in e.outer (inner h q (forest (children ps)) c))))
-round_whole e s n h q ps c g t r at groups shut page ones =
+round_whole e s n h q ps c g t r at groups here shut page ones =
     let calls : List OuterCall = e.outer in
     let ts : List ItemTree = children ps in
     let us : List CallPiece = call_pieces ts in
@@ -111,28 +111,29 @@ round_whole e s n h q ps c g t r at groups shut page ones =
     let trees : AreShutTrees (trees_of us) = subst AreShutTrees (sym (all_trees ts)) (children_shut ps shut) in
     let nodes : nodes_in (settled n s (cut_texts (block_in calls (inner h q (forest ts) c)))) ≡ all_settled m a (all_cut_texts (pieces_in_page calls us)) =
     ap (λ (u : Tree). nodes_in (settled n s (cut_texts u))) (given_block_is calls h q ps c r) ∙ nodes_are calls n s h q ps c g t in (
-      ap any_ends_open nodes ∙ pieces_shut e a m us are groups trees,
-      ap (has_faulty_group e) nodes ∙ pieces_fine e s None a m q all us c are (apart_none us) among groups trees page ones,
+      ap any_ends_open nodes ∙ pieces_shut 2 e a m us are groups (own_here 2 e ps here) trees,
+      ap (has_faulty_group e) nodes ∙ pieces_fine 2 e s None a m q all us c are (apart_none us) among groups (own_here 2 e ps here) trees page ones,
     )
 
 closing_page : (s : Sides) → list_all is_page (closing_items s) ≡ true
 closing_page s = both_of_page (page_chars (s.trail ++ equals s.level)) (page_items s.rest) (chars_of_page (s.trail ++ equals s.level)) (items_of_page s.rest)
 
-tree_whole : (e : Expanded) (s n : ℕ) (k : TextBlock) (xs : List Item) → HoldsItsCalls (tree_round k xs) → AreOwnOrGiven (content_parts_of k xs)
+tree_whole : (e : Expanded) (s n : ℕ) (k : TextBlock) (xs : List Item) → HoldsItsCalls (tree_round k xs) → EachNode (IsPartHere 2 e) (content_parts_of k xs)
     → AtPlaces e.outer s None (tree_items (tree_round k xs)) → AreGroupsHere e (call_pieces (children (content_parts_of k xs))) → AreShutParts (content_parts_of k xs)
     → AtPlaces e.outer 0 None e.items → AreOnes e.items → IsWhole e (settled n s (cut_texts (block_in e.outer (tree_round k xs))))
 tree_whole e s n a_paragraph xs hold parts at groups shut page ones =
     round_whole e s n (plain kind.Para) [] (content_parts_of a_paragraph xs) [] refl refl
-    (record { no_leaf = refl; own_opening = refl; own_closing = refl; parts = parts; some = hold.some }) at groups shut page ones
+    (record { no_leaf = refl; own_opening = refl; own_closing = refl; parts = here_pieces 2 e (content_parts_of a_paragraph xs) parts; some = hold.some }) at groups parts
+    shut page ones
 tree_whole e s n (a_heading d) xs hold parts at groups shut page ones =
     round_whole e s n (plain (kind.Heading d.level)) (page_chars (opening d)) (content_parts_of (a_heading d) xs) (closing_items d) refl refl
     (record {
       no_leaf = refl;
       own_opening = chars_of_page (opening d);
       own_closing = closing_page d;
-      parts = parts;
+      parts = here_pieces 2 e (content_parts_of (a_heading d) xs) parts;
       some = hold.some;
-    }) at groups shut page ones
+    }) at groups parts shut page ones
 
 -- ---- what calls give among the items of its block
 
@@ -239,15 +240,31 @@ groups_here e xs (given j t ts ∷ ps) f g =
       groups_here e xs ps f g.2,
     )
 
-block_groups : (e : Expanded) (pages : Pages) (k at : ℕ) (s : BlockSpot) (ss : List BlockSpot) (behind : List ℕ) → IsBlockHere e pages k at s ss behind
-    → HoldsGroups pages s.block s.text → AreGroupsHere e (call_pieces (children (content_parts_of s.block (part_items pages (calls_to pages k s) s.text))))
-block_groups e pages k at s ss behind h w =
+-- so in bold and italic
+part_here : (d : ℕ) (e : Expanded) (xs : List Item) (t : ItemTree)
+    → ((j : ℕ) → GivesSigns j (of_call j xs) → (of_call j e.items ≡ of_call j xs) × (ends_open (source_of_call (slice_get e.outer j)) ≡ false)) → IsPartIn d xs t
+    → IsPartHere d e t
+part_here zero e xs t f h = h
+part_here (suc d) e xs t f (inl h) = inl h
+part_here (suc d) e xs t f (inr r) =
+    inr (r.0, r.1, r.2, each_here d e xs r.1 f (λ u k. part_here d e xs u f k) r.3, groups_here e xs (call_pieces (children r.1)) f r.4, r.5)
+  where
+    each_here : (d : ℕ) (e : Expanded) (xs : List Item) (ps : List Part)
+        → ((j : ℕ) → GivesSigns j (of_call j xs) → (of_call j e.items ≡ of_call j xs) × (ends_open (source_of_call (slice_get e.outer j)) ≡ false))
+        → ((u : ItemTree) → IsPartIn d xs u → IsPartHere d e u) → EachNode (IsPartIn d xs) ps → EachNode (IsPartHere d e) ps
+    each_here d e xs [] f g h = tt
+    each_here d e xs (loose k o b ∷ ps) f g h = each_here d e xs ps f g h
+    each_here d e xs (node u ∷ ps) f g h = (g u h.0, each_here d e xs ps f g h.1)
+
+-- each call of the block is one of the page's, and ends in no open tag
+calls_here : (e : Expanded) (pages : Pages) (k at : ℕ) (s : BlockSpot) (ss : List BlockSpot) (behind : List ℕ) → IsBlockHere e pages k at s ss behind
+    → HoldsGroups pages s.block s.text → (j : ℕ) → GivesSigns j (of_call j (part_items pages (calls_to pages k s) s.text))
+    → (of_call j e.items ≡ of_call j (part_items pages (calls_to pages k s) s.text)) × (ends_open (source_of_call (slice_get e.outer j)) ≡ false)
+calls_here e pages k at s ss behind h w j g =
     let i : ℕ = calls_to pages k s in
     let q : List ℕ = source_of s.block s.text in
     let xs : List Item = part_items pages i s.text in
     let content : IsContentIn pages s.block s.text = h.content in
-    groups_here e xs (call_pieces (children (content_parts_of s.block xs)))
-    (λ j g.
     let part_is : of_call j (part_items pages i q) ≡ of_call j xs = ap (of_call j) (content.items i) ∙ items_call j s.block xs in
     let some : of_call j xs ≡ [] → ⊥ = λ z. no_items j (of_call j xs) g z in
     let low : i ≤ j = elim (cases_lt j i) [
@@ -260,12 +277,33 @@ block_groups e pages k at s ss behind h w =
     ] in (
       own_last e pages k j s ss behind h.last low high ∙ part_is,
       call_shut e.outer (at + length s.before) i j (expanded_page pages q).outer h.calls w.shut_calls low high,
-    )) (w.groups i)
+    )
   where
     no_items : (j : ℕ) (ys : List Item) → GivesSigns j ys → ys ≡ [] → ⊥
     no_items j ys g z =
         let first = some_items j ys g in
         let no : first.0 ∷ first.1 ≡ [] = sym first.2 ∙ z in cc
+
+block_groups : (e : Expanded) (pages : Pages) (k at : ℕ) (s : BlockSpot) (ss : List BlockSpot) (behind : List ℕ) → IsBlockHere e pages k at s ss behind
+    → HoldsGroups pages s.block s.text → AreGroupsHere e (call_pieces (children (content_parts_of s.block (part_items pages (calls_to pages k s) s.text))))
+block_groups e pages k at s ss behind h w =
+    let i : ℕ = calls_to pages k s in
+    let xs : List Item = part_items pages i s.text in
+    groups_here e xs (call_pieces (children (content_parts_of s.block xs))) (calls_here e pages k at s ss behind h w) (w.groups i)
+
+block_parts : (e : Expanded) (pages : Pages) (k at : ℕ) (s : BlockSpot) (ss : List BlockSpot) (behind : List ℕ) → IsBlockHere e pages k at s ss behind
+    → HoldsGroups pages s.block s.text → EachNode (IsPartHere 2 e) (content_parts_of s.block (part_items pages (calls_to pages k s) s.text))
+block_parts e pages k at s ss behind h w =
+    let i : ℕ = calls_to pages k s in
+    let xs : List Item = part_items pages i s.text in
+    each_part e xs (content_parts_of s.block xs) (calls_here e pages k at s ss behind h w) (w.parts i)
+  where
+    each_part : (e : Expanded) (xs : List Item) (ps : List Part)
+        → ((j : ℕ) → GivesSigns j (of_call j xs) → (of_call j e.items ≡ of_call j xs) × (ends_open (source_of_call (slice_get e.outer j)) ≡ false))
+        → ArePartsIn xs ps → EachNode (IsPartHere 2 e) ps
+    each_part e xs [] f g = tt
+    each_part e xs (loose k o b ∷ ps) f g = each_part e xs ps f g
+    each_part e xs (node u ∷ ps) f g = (part_here 2 e xs u f g.0, each_part e xs ps f g.1)
 
 groups_whole : (e : Expanded) (pages : Pages) (k at n : ℕ) (s : BlockSpot) (ss : List BlockSpot) (behind : List ℕ) → IsBlockHere e pages k at s ss behind
     → HoldsGroups pages s.block s.text → IsWhole e (settled n (at + length s.before) (node_here e pages k s))
@@ -280,7 +318,7 @@ groups_whole e pages k at n s ss behind h w =
     let placed : AtPlaces e.outer start None (tree_items (tree_round s.block xs)) =
     from_opened e.outer start None (tree_items (tree_round s.block xs)) h.tree_ones
     (subst (AtPlaces e.outer start None) (sym (tree_opened s.block xs (content.is i))) (to_opened e.outer start None (items_round s.block xs) ones part)) in
-    tree_whole e start n s.block xs h.holds (w.parts i) placed (block_groups e pages k at s ss behind h w) (w.shut i) h.placed h.ones
+    tree_whole e start n s.block xs h.holds (block_parts e pages k at s ss behind h w) placed (block_groups e pages k at s ss behind h w) (w.shut i) h.placed h.ones
 
 -- ---- one that calls nothing
 

@@ -29,7 +29,8 @@ use Rattle.wt_annotated.specs.Clean.{is_no_call, is_page}
 use Rattle.wt_annotated.specs.Labels.{label_at}
 use Rattle.wt_annotated.specs.Seams.{text_from}
 use Rattle.wt_isolation.specs.OpenTags.{ends_open, node_ends_open}
-use Rattle.wt_part_laws.specs.CallPieces.{AreItemsOf, IsOfCall, AreOwnOrGiven, call_pieces}
+use Rattle.wt_part_laws.specs.CallPieces.{AreItemsOf, IsOfCall, call_pieces}
+use Rattle.wt_part_laws.proofs.CallPieces.{as_pieces}
 use Rattle.wt_part_laws.specs.Expanded.{part_items, calls_in}
 use Rattle.wt_part_laws.specs.MovedCalls.{IsMoved, AreMoved}
 use Rattle.wt_part_laws.specs.Standing.{standing}
@@ -44,7 +45,8 @@ use Rattle.wt_beside_laws.proofs.LineShown.{guard_tree}
 use Rattle.wt_beside_laws.proofs.Groups.CalledBlocks.{guard_parts, letter_parts, parts_own, some_of_page}
 use Rattle.wt_beside_laws.proofs.Groups.CalledParagraphs.{called_parts}
 use Rattle.wt_beside_laws.proofs.Groups.Folders.{folder_case, all_inside, called_in}
-use Rattle.wt_called_edit_laws.specs.WholeContents.{of_call, AreGroups, IsShutNode, AreShutParts, AreShutCalls, IsShut, AreShut, HoldsGroups, IsWholeIn}
+use Rattle.wt_called_edit_laws.specs.WholeContents.{of_call, AreGroups, IsShutNode, AreShutParts, AreShutCalls, IsShut, AreShut, ArePartsIn, HoldsGroups, IsWholeIn}
+use Rattle.wt_called_edit_laws.proofs.Whole.PartsIn.{simple_parts}
 use Rattle.wt_called_edit_laws.specs.Written.{written_calls}
 use Rattle.wt_called_edit_laws.specs.WrittenAnew.{IsWrittenBeside}
 use Rattle.wt_called_edit_laws.specs.PartTexts.{AreSourcesAt}
@@ -277,7 +279,7 @@ group_here pages all i s t g before after h k f later =
     ∙ append-nil xs in
     subst (λ (ys : List Item). AreGroups all (call_pieces (children (line_parts ys ++ more)))) is
     (groups_call all i more (subst (λ (ys : List Item). AreGivenBy i (line_parts ys)) (sym is) gives.inside) (subst (GivesSigns i) (sym is) gives)
-    (parts_own s (thing t ∷ before) after (owns_in pages next after) (all_inside pages next after k))
+    (as_pieces more (parts_own s (thing t ∷ before) after (owns_in pages next after) (all_inside pages next after k)))
     (past_first i (held_parts more) (later_none pages next i s (thing t ∷ before) after k less)) later)
 
 pub no_groups : (xs : List Item) → AreGroups xs (call_pieces (children []))
@@ -458,7 +460,8 @@ written_groups pages s signs h =
     record {
       parts = λ i.
           let own = called_in pages i s signs c in
-          subst AreOwnOrGiven (sym (given i)) (parts_own s [] signs (owns_in pages i signs) own.own);
+          subst (ArePartsIn (part_items pages i (spelled s signs))) (sym (given i))
+          (simple_parts (part_items pages i (spelled s signs)) (parts_with s [] signs (owns_in pages i signs)) (parts_own s [] signs (owns_in pages i signs) own.own));
       groups = λ i.
           subst (λ (ps : List Part). AreGroups (part_items pages i (spelled s signs)) (call_pieces (children ps))) (sym (given i))
           (subst (λ (xs : List Item). AreGroups xs (call_pieces (children (parts_with s [] signs (owns_in pages i signs))))) (sym (items i))

@@ -1,5 +1,5 @@
 -- What a call gives among the parts of a block is a group of the nodes that it gives on a line by itself.
-use Rattle.std.proofs.Common.{arith, ◌≡◌, ℕ, ◌==◌, Bool, true, false, not, Option, None, Some, List, [], ◌∷◌, ◌++◌, map, refl, sym, ap, ◌∙◌, subst}
+use Rattle.std.proofs.Common.{arith, ◌≡◌, ◌⊎◌, inl, ℕ, ◌==◌, Bool, true, false, not, Option, None, Some, List, [], ◌∷◌, ◌++◌, map, refl, sym, ap, ◌∙◌, subst}
 use Rattle.std.specs.Prelude.{◌&&◌, if◌then◌else◌}
 use Rattle.std.proofs.lemmas.Bool.Decides.{nat_tests}
 use Rattle.std.proofs.lemmas.List.{map-append}
@@ -13,11 +13,10 @@ use Rattle.wt_inline.specs.Parts.{Part, loose, node, held_parts, same_loose, sam
 use Rattle.wt_inline.proofs.HeldLaws.{held_children}
 use Rattle.wt_context.specs.Line.{line_parts}
 use Rattle.wt_annotated.specs.Seams.{first_of, parted}
-use Rattle.wt_part_laws.specs.CallPieces.{IsOfCall, AreOfCall, AreOwnOrGiven, CallPiece, own, given, given_before, piece_before, call_pieces}
+use Rattle.wt_part_laws.specs.CallPieces.{IsOfCall, AreOfCall, IsRoundNode, ArePieceNodes, CallPiece, own, given, given_before, piece_before, call_pieces}
 use Rattle.wt_part_laws.specs.Rounded.{IsOwn}
-use Rattle.wt_part_laws.proofs.CallPieces.{IsApart, first_of_call, children_given, behind_call}
+use Rattle.wt_part_laws.proofs.CallPieces.{IsApart, own_first, first_of_call, children_given, behind_call}
 use Rattle.wt_part_laws.proofs.CallTexts.{itself, same_is}
-use Rattle.wt_part_laws.proofs.OwnWalks.{first_own, has_page}
 use Rattle.wt_beside_laws.specs.Called.{ArePageParts}
 use Rattle.wt_beside_laws.specs.Given.{AreGivenBy, GivesSigns}
 use Rattle.wt_beside_laws.proofs.Groups.Faults.{node_first}
@@ -115,7 +114,7 @@ one_piece j t (u ∷ ts) us h k e =
     ∙ ap (given_before j t) (one_piece j u ts us k.0 k.1 e)
     ∙ ap (λ (v : Bool). if v then given j t (u ∷ ts) ∷ call_pieces us else given j t [] ∷ given j u ts ∷ call_pieces us) (itself j)
 
-pub groups_call : (xs : List Item) (j : ℕ) (qs : List Part) → AreGivenBy j (line_parts (of_call j xs)) → GivesSigns j (of_call j xs) → AreOwnOrGiven qs → IsPastCall j qs
+pub groups_call : (xs : List Item) (j : ℕ) (qs : List Part) → AreGivenBy j (line_parts (of_call j xs)) → GivesSigns j (of_call j xs) → ArePieceNodes qs → IsPastCall j qs
     → AreGroups xs (call_pieces (children qs)) → AreGroups xs (call_pieces (children (line_parts (of_call j xs) ++ qs)))
 groups_call xs j qs h g o e k =
     subst (λ (ts : List ItemTree). AreGroups xs (call_pieces ts)) (sym (children_both j (line_parts (of_call j xs)) qs h e))
@@ -157,15 +156,15 @@ groups_char xs o b qs e h =
     subst (λ (x : Option ℕ). AreGroups xs (call_pieces (map child (put one_leaf (loose Text x b) (runs one_leaf qs))))) (sym e)
     (char_put xs b (runs one_leaf qs) qs (runs_are one_leaf qs) h)
 
-groups_node : (xs : List Item) (t : ItemTree) (qs : List Part) → IsOwn t → AreGroups xs (call_pieces (children qs))
+pub groups_node : (xs : List Item) (t : ItemTree) (qs : List Part) → IsOwn t ⊎ IsRoundNode t → AreGroups xs (call_pieces (children qs))
     → AreGroups xs (call_pieces (children (node t ∷ qs)))
 groups_node xs t qs k h =
     subst (λ (ts : List ItemTree). AreGroups xs (call_pieces ts)) (sym (node_first t qs))
-    (subst (λ (c : Option ℕ). AreGroups xs (piece_before c t (call_pieces (children qs)))) (sym (first_own (tree_items t) None k.of_page (has_page t k.has_items))) h)
+    (subst (λ (c : Option ℕ). AreGroups xs (piece_before c t (call_pieces (children qs)))) (sym (own_first t None k)) h)
 
 pub groups_page : (xs : List Item) (ps qs : List Part) → ArePageParts ps → AreGroups xs (call_pieces (children qs))
     → AreGroups xs (call_pieces (children (ps ++ qs)))
 groups_page xs [] qs k h = h
 groups_page xs (loose Text o b ∷ ps) qs k h = groups_char xs o b (ps ++ qs) k.0 (groups_page xs ps qs k.1 h)
 groups_page xs (loose Sep o b ∷ ps) qs k h = absurd k
-groups_page xs (node t ∷ ps) qs k h = groups_node xs t (ps ++ qs) k.0 (groups_page xs ps qs k.1 h)
+groups_page xs (node t ∷ ps) qs k h = groups_node xs t (ps ++ qs) (inl k.0) (groups_page xs ps qs k.1 h)

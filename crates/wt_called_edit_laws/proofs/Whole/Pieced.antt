@@ -12,11 +12,10 @@ use Rattle.wt_inline.proofs.HeldLaws.{held_children}
 use Rattle.wt_expand.specs.PageCalls.{expanded_page}
 use Rattle.wt_expand.specs.Work.{Pages}
 use Rattle.wt_annotated.specs.Clean.{is_page}
-use Rattle.wt_part_laws.specs.CallPieces.{AreOwnOrGiven}
+use Rattle.wt_part_laws.specs.CallPieces.{ArePieceNodes}
 use Rattle.wt_part_laws.specs.Expanded.{part_items}
 use Rattle.wt_part_laws.specs.HeldCalls.{HoldsItsCalls, IsRoundGiven}
 use Rattle.wt_part_laws.proofs.HeldBlocks.{given_hold}
-use Rattle.wt_part_laws.proofs.OwnWalks.{has_page}
 use Rattle.wt_text_edit_laws.specs.Contents.{content_parts_of}
 use Rattle.wt_text_edit_laws.specs.ParagraphParts.{para_with}
 use Rattle.wt_text_edit_laws.specs.TextBlocks.{a_paragraph}
@@ -29,6 +28,7 @@ use Rattle.wt_called_edit_laws.specs.WholeContents.{AreShutCalls}
 use Rattle.wt_called_edit_laws.specs.Written.{IsWrittenAs}
 use Rattle.wt_called_edit_laws.specs.WrittenAnew.{StayButForOthers}
 use Rattle.wt_called_edit_laws.proofs.Whole.Contents.{thing_calls, calls_both, moved_shut}
+use Rattle.wt_called_edit_laws.proofs.Whole.PartsIn.{parts_pieces}
 use Rattle.wt_called_edit_laws.proofs.Written.InPieces.{pieces_items, pieces_written}
 use Rattle.wt_called_edit_laws.proofs.Written.Letters.{page_letters}
 use Rattle.wt_called_edit_laws.proofs.Written.NewContents.{calls_of, work_of}
@@ -65,13 +65,13 @@ pub some_own : (ps : List Part) → HasOwn ps → list_any is_page (held_parts p
 some_own [] b = absurd b
 some_own (loose k None c ∷ ps) b = refl
 some_own (loose k (Some j) c ∷ ps) b = some_own ps b
-some_own (node t ∷ ps) (inl own) = any_left (tree_items t) (held_parts ps) (has_page t own.has_items)
+some_own (node t ∷ ps) (inl own) = any_left (tree_items t) (held_parts ps) own
 some_own (node t ∷ ps) (inr b) = any_right (tree_items t) (held_parts ps) (some_own ps b)
 
 para_items : (ps : List Part) → tree_items (para_with ps) ≡ held_parts ps
 para_items ps = append-nil (held_by_all (forest (children ps))) ∙ held_children ps
 
-pub paragraph_round : (ps : List Part) → AreOwnOrGiven ps → HasOwn ps → IsRoundGiven (plain kind.Para) [] ps []
+pub paragraph_round : (ps : List Part) → ArePieceNodes ps → HasOwn ps → IsRoundGiven (plain kind.Para) [] ps []
 paragraph_round ps h b = record {
   no_leaf = refl;
   own_opening = refl;
@@ -80,7 +80,7 @@ paragraph_round ps h b = record {
   some = ap (list_any is_page) (para_items ps) ∙ some_own ps b;
 }
 
-holds_so : (ps : List Part) → AreOwnOrGiven ps → HasOwn ps → HoldsItsCalls (para_with ps)
+holds_so : (ps : List Part) → ArePieceNodes ps → HasOwn ps → HoldsItsCalls (para_with ps)
 holds_so ps h b = given_hold (plain kind.Para) [] ps [] (paragraph_round ps h b)
 
 -- ---- the paragraph
@@ -102,7 +102,10 @@ pieced_holds pages q h =
     let w = as_written pages q h in
     let part = w.part in
     record {
-      holds = λ i. holds_so (content_parts_of a_paragraph (part_items pages i q)) (h.texts i) (h.some i);
+      holds = λ i.
+          let xs : List Item = part_items pages i q in
+          let ps : List Part = content_parts_of a_paragraph xs in
+          holds_so ps (parts_pieces 2 xs ps (h.texts i)) (h.some i);
       letters = subst (TakesLetters pages a_paragraph) h.is (page_letters pages h.pieces h.nodes h.parts h.among h.things);
       texts = part.texts;
       whole = record {

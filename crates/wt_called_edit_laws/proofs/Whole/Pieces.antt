@@ -1,6 +1,7 @@
 -- Nodes of the page side by side with groups of what calls give, where they are in the page: no tag is open in them, and no group has a fault.
-use Rattle.std.proofs.Common.{arith, ◌≡◌, ℕ, ◌+◌, Bool, true, false, Option, None, Some, List, [], ◌∷◌, ◌++◌, length, map, refl, sym, ap, ap₂, ◌∙◌, subst, append_assoc, append-nil, length-append}
+use Rattle.std.proofs.Common.{arith, ◌≡◌, ◌⊎◌, inl, inr, ℕ, zero, suc, ◌+◌, ◌==◌, Bool, true, false, Option, None, Some, List, [], ◌∷◌, ◌++◌, length, map, refl, sym, ap, ap₂, ◌∙◌, subst, append_assoc, append-nil, length-append}
 use Rattle.std.specs.Prelude.{slice_get, ◌||◌, if◌then◌else◌}
+use Rattle.std.specs.List.{list_all, list_any}
 use Rattle.wt_tree.specs.declared.edit_shape.InlineForm.{InlineForm}
 use Rattle.wt_tree.specs.declared.edit_shape.InlineForm.TheVariants as inline
 use Rattle.wt_tree.specs.declared.kind.Ranges.{Ranges}
@@ -9,21 +10,23 @@ use Rattle.wt_tree.specs.Kinds.{is_leaf}
 use Rattle.wt_tree.specs.Source.{flat}
 use Rattle.wt_tree.specs.Tiling.{HasNoGroup, NoneIsGroup}
 use Rattle.wt_tree.specs.Tree.{Label, Tree, tree, Trees, none, more}
-use Rattle.wt_span.specs.Items.{Item, char, call_of}
+use Rattle.wt_span.specs.Items.{Item, char, sources, call_of}
 use Rattle.wt_span.specs.Origins.{OuterCall, Expanded}
 use Rattle.wt_span.specs.Cuts.{source_of_call}
 use Rattle.wt_span.specs.Runs.{runs, IsRun, AreRuns}
 use Rattle.wt_span.proofs.RunLaws.{runs_are}
 use Rattle.wt_tiles.specs.Glyphs.{glyph_of}
 use Rattle.wt_inline.specs.declared.loose.Loose.TheVariants.{Text, Sep}
-use Rattle.wt_inline.specs.ItemTree.{Head, ItemTree, inner, ItemTrees, nothing, further, forest, tree_items, held_by_all}
+use Rattle.wt_inline.specs.ItemTree.{Head, plain, ItemTree, inner, ItemTrees, nothing, further, forest, tree_items, held_by_all}
 use Rattle.wt_inline.specs.Parts.{Part, loose, node, held_parts, one_leaf, loose_leaf, child, children}
 use Rattle.wt_context.specs.Line.{line_parts}
+use Rattle.wt_context.specs.Styled.{style_kind}
 use Rattle.wt_annotated.specs.Annotated.{no_place, unplaced, all_unplaced}
+use Rattle.wt_annotated.specs.Clean.{is_page}
 use Rattle.wt_annotated.specs.CutTexts.{cut_texts, all_cut_texts}
 use Rattle.wt_annotated.specs.Labels.{label_at}
-use Rattle.wt_annotated.specs.Numbering.{count, with_numbers}
-use Rattle.wt_annotated.specs.Seams.{last_of, parted, text_from}
+use Rattle.wt_annotated.specs.Numbering.{count, next_after, with_numbers}
+use Rattle.wt_annotated.specs.Seams.{first_of, last_of, parted, text_from}
 use Rattle.wt_annotated.specs.WithoutCalls.{inside_by, placed}
 use Rattle.wt_annotated.proofs.Seams.{last_append, text_append_from}
 use Rattle.wt_isolation.specs.GroupItems.{with_break_anew, empty_nowiki, items_alone}
@@ -31,21 +34,26 @@ use Rattle.wt_isolation.specs.OpenTags.{ends_open, node_ends_open, any_ends_open
 use Rattle.wt_isolation.specs.OpenTexts.{in_style}
 use Rattle.wt_selser.specs.GroupFaults.{is_faulty, faulty_at, is_faulty_node, has_faulty_group}
 use Rattle.wt_page_round_trip.proofs.OpenedPages.{AreOnes}
-use Rattle.wt_part_laws.specs.CallPieces.{AreItemsOf, IsOfCall, AreOfCall, CallPiece, own, given, group_of_call, piece_in_page, pieces_in_page}
+use Rattle.wt_part_laws.specs.CallPieces.{AreItemsOf, IsOfCall, AreOfCall, IsOwnOrGiven, IsRoundNode, IsPieceNode, EachNode, ArePieceNodes, CallPiece, own, given, given_before, piece_before, call_pieces, group_of_call, node_in, piece_in_page, pieces_in_page}
+use Rattle.wt_part_laws.specs.HeldCalls.{HoldsItsCalls, block_of_pieces}
 use Rattle.wt_part_laws.specs.Placeless.{placeless, all_placeless}
+use Rattle.wt_part_laws.specs.Rounded.{IsOwn}
 use Rattle.wt_part_laws.specs.Standing.{standing}
-use Rattle.wt_part_laws.proofs.CallPieces.{piece_trees, trees_of, IsPiece, piece_call, IsApart, ArePieces, all_items}
+use Rattle.wt_part_laws.proofs.CallPieces.{piece_trees, trees_of, all_trees, step_same, own_first, own_last, piece_clean, own_node_in, round_some, IsPiece, piece_call, IsApart, apart_none, ArePieces, AllNodes, all_pieces, first_of_call, all_items, children_of_each, children_given}
 use Rattle.wt_part_laws.proofs.CallTexts.{last_within, call_text}
 use Rattle.wt_part_laws.proofs.GroupsStay.{numbers_gone}
-use Rattle.wt_part_laws.proofs.OwnWalks.{last_own, text_own, has_page}
+use Rattle.wt_part_laws.proofs.HeldBlocks.{given_block_is}
+use Rattle.wt_part_laws.proofs.OwnWalks.{text_own, has_page}
 use Rattle.wt_part_laws.proofs.Recuts.{texts_same}
-use Rattle.wt_part_laws.proofs.Sources.{standing_source}
-use Rattle.wt_text_edit_laws.proofs.Blocks.Untangled.{flat_same, open_same}
+use Rattle.wt_text_edit_laws.proofs.Blocks.Untangled.{open_same}
 use Rattle.wt_beside_laws.specs.Given.{GivenSign, given_glyphs, BeginsGiven, AreGivenSigns, GivesSigns}
+use Rattle.wt_beside_laws.specs.Nests.{marks, style_tree}
 use Rattle.wt_beside_laws.proofs.Groups.Faults.{no_fault}
 use Rattle.wt_beside_laws.proofs.Groups.GivenTiles.{given_are, some_glyph}
+use Rattle.wt_beside_laws.proofs.StyledGroups.Blocks.{style_round}
 use Rattle.wt_called_edit_laws.specs.Settled.{settled, all_settled}
 use Rattle.wt_called_edit_laws.specs.WholeContents.{of_call, IsShutNode, AreShutParts}
+use Rattle.wt_called_edit_laws.proofs.BlockTexts.{block_flat}
 use Rattle.wt_called_edit_laws.proofs.SettledNodes.{settled_open, placeless_groupless, settled_groupless}
 use Rattle.wt_called_edit_laws.proofs.Whole.CallPlaces.{IsAtPlace, AtPlaces, places_split}
 use Rattle.wt_called_edit_laws.proofs.Whole.InSlice.{call_span, span_long, call_items_in}
@@ -133,19 +141,37 @@ group_items j t ts h k =
     record { first = h.first; others = h.others ++ held_by_all (forest ts); is = is; of_call = subst (AreItemsOf j) is (all_items j (t ∷ ts) (h, k)) }
 
 last_piece : (p : CallPiece) → IsPiece p → (o : Option ℕ) → last_of o (piece_items p) ≡ piece_call p
-last_piece (own t) h o = ap (last_of o) (append-nil (tree_items t)) ∙ last_own o (tree_items t) h.of_page (has_page t h.has_items)
+last_piece (own t) h o = ap (last_of o) (append-nil (tree_items t)) ∙ own_last t o h
 last_piece (given j t ts) h o =
     let g = group_items j t ts h.0 h.1 in
     ap (last_of o) g.is ∙ last_within j (call_of g.first) g.others g.of_call.1 g.of_call.0
 
 -- a node of the page is what it is by itself
-own_is : (t : ItemTree) → cut_texts (placeless (placed [] t)) ≡ placeless (standing 0 [] t)
-own_is t = ap cut_texts (sym (numbers_gone 0 (placed [] t))) ∙ sym (texts_same (with_numbers 0 (placed [] t)))
+own_is : (calls : List OuterCall) (t : ItemTree) → IsOwn t → cut_texts (node_in calls t) ≡ placeless (standing 0 [] t)
+own_is calls t h =
+    ap cut_texts (own_node_in calls t h ∙ sym (numbers_gone 0 (placed [] t))) ∙ sym (texts_same (with_numbers 0 (placed [] t)))
+
+-- it holds its calls
+some_in : (t : ItemTree) → IsOwn t ⊎ IsRoundNode t → list_any is_page (tree_items t) ≡ true
+some_in t (inl n) = has_page t n.has_items
+some_in t (inr r) = round_some t r
+
+node_holds : (t : ItemTree) → IsOwn t ⊎ IsRoundNode t → HoldsItsCalls t
+node_holds t h = record { some = some_in t h; clean = piece_clean None None t h }
+
+none_some : (j : ℕ) → Some j ≡ None → ⊥
+none_some j e = cc
+
+-- what is on the page for it doesn't hang on what comes before it
+first_text : (calls : List OuterCall) (o : Option ℕ) (xs : List Item) → first_of xs (Some 0) ≡ None → text_from calls None xs ≡ text_from calls o xs
+first_text calls o [] e = absurd (none_some 0 e)
+first_text calls o (x ∷ xs) e = ap (λ (bs : List ℕ). bs ++ text_from calls (call_of x) xs) (sym (step_same calls o x e))
 
 piece_flat : (calls : List OuterCall) (o : Option ℕ) (p : CallPiece) → IsPiece p → parted o (piece_call p) ≡ true
     → flat (cut_texts (piece_in_page calls p)) ≡ text_from calls o (piece_items p)
 piece_flat calls o (own t) h e =
-    ap flat (own_is t) ∙ flat_same (standing 0 [] t) ∙ standing_source 0 [] t ∙ sym (text_own calls o (tree_items t) h.of_page)
+    block_flat calls t (node_holds t h)
+    ∙ first_text calls o (tree_items t) (own_first t (Some 0) h)
     ∙ ap (text_from calls o) (sym (append-nil (tree_items t)))
 piece_flat calls o (given j t ts) h e =
     let g = group_items j t ts h.0 h.1 in
@@ -163,6 +189,70 @@ abbrev pub AreGroupsHere : Expanded → List CallPiece → Type 0
 AreGroupsHere e [] = Unit {0}
 AreGroupsHere e (own t ∷ ps) = AreGroupsHere e ps
 AreGroupsHere e (given j t ts ∷ ps) = IsGroupHere e j (t ∷ ts) × AreGroupsHere e ps
+
+-- ---- in bold and italic
+
+-- a style of the page round such nodes, to this depth
+abbrev pub IsPartHere : ℕ → Expanded → ItemTree → Type 0
+IsPartHere zero e t = IsOwnOrGiven t
+IsPartHere (suc n) e t =
+    IsOwnOrGiven t
+    ⊎ ((bold : Bool) × (ps : List Part) × (t ≡ style_tree bold ps) × EachNode (IsPartHere n e) ps × AreGroupsHere e (call_pieces (children ps)) × AreShutParts ps)
+
+part_piece : (n : ℕ) (e : Expanded) (t : ItemTree) → IsPartHere n e t → IsPieceNode t
+part_piece zero e t h = inl h
+part_piece (suc n) e t (inl h) = inl h
+part_piece (suc n) e t (inr r) = inr (subst IsRoundNode (sym r.2) (style_round r.0 r.1))
+
+pub here_pieces : (n : ℕ) (e : Expanded) (ps : List Part) → EachNode (IsPartHere n e) ps → ArePieceNodes ps
+here_pieces n e [] h = tt
+here_pieces n e (loose k o b ∷ ps) h = here_pieces n e ps h
+here_pieces n e (node t ∷ ps) h = (part_piece n e t h.0, here_pieces n e ps h.1)
+
+abbrev pub AreOwnHere : ℕ → Expanded → List CallPiece → Type 0
+AreOwnHere n e [] = Unit {0}
+AreOwnHere n e (own t ∷ ps) = IsPartHere n e t × AreOwnHere n e ps
+AreOwnHere n e (given j t ts ∷ ps) = AreOwnHere n e ps
+
+given_here : (n : ℕ) (e : Expanded) (j : ℕ) (t : ItemTree) (ps : List CallPiece) → AreOwnHere n e ps → AreOwnHere n e (given_before j t ps)
+given_here n e j t [] h = tt
+given_here n e j t (own u ∷ ps) h = h
+given_here n e j t (given k u us ∷ ps) h = by (j == k)
+  where
+    by : (v : Bool) → AreOwnHere n e (if v then given j t (u ∷ us) ∷ ps else given j t [] ∷ given k u us ∷ ps)
+    by true = h
+    by false = h
+
+piece_here : (n : ℕ) (e : Expanded) (c : Option ℕ) (t : ItemTree) (ps : List CallPiece) → IsPartHere n e t → AreOwnHere n e ps → AreOwnHere n e (piece_before c t ps)
+piece_here n e None t ps f h = (f, h)
+piece_here n e (Some j) t ps f h = given_here n e j t ps h
+
+all_here : (n : ℕ) (e : Expanded) (ts : List ItemTree) → AllNodes (IsPartHere n e) ts → AreOwnHere n e (call_pieces ts)
+all_here n e [] h = tt
+all_here n e (t ∷ ts) h = piece_here n e (first_of (tree_items t) None) t (call_pieces ts) h.0 (all_here n e ts h.1)
+
+simple_here : (n : ℕ) (e : Expanded) (t : ItemTree) → IsOwnOrGiven t → IsPartHere n e t
+simple_here zero e t h = h
+simple_here (suc n) e t h = inl h
+
+pub own_here : (n : ℕ) (e : Expanded) (ps : List Part) → EachNode (IsPartHere n e) ps → AreOwnHere n e (call_pieces (children ps))
+own_here n e ps h = all_here n e (children ps) (children_of_each (IsPartHere n e) (λ t g. simple_here n e t g) ps h)
+
+-- a node of the page, or a style with something in it
+abbrev IsStyleHere : ℕ → Expanded → ItemTree → Type 0
+IsStyleHere zero e t = ⊥
+IsStyleHere (suc n) e t =
+    (bold : Bool) × (ps : List Part) × (t ≡ style_tree bold ps) × EachNode (IsPartHere n e) ps × AreGroupsHere e (call_pieces (children ps)) × AreShutParts ps
+
+no_given : (t : ItemTree) → IsOwn t ⊎ IsRoundNode t → (j : ℕ) × IsOfCall j t → ⊥
+no_given t h g = none_some g.0 (sym (first_of_call g.0 t None g.1) ∙ own_first t None h)
+
+own_case : (n : ℕ) (e : Expanded) (t : ItemTree) → IsOwn t ⊎ IsRoundNode t → IsPartHere n e t → IsOwn t ⊎ IsStyleHere n e t
+own_case zero e t h (inl o) = inl o
+own_case zero e t h (inr g) = absurd (no_given t h g)
+own_case (suc n) e t h (inl (inl o)) = inl o
+own_case (suc n) e t h (inl (inr g)) = absurd (no_given t h g)
+own_case (suc n) e t h (inr s) = inr s
 
 -- ---- where it is in its block
 
@@ -263,45 +353,178 @@ group_fine e n a j ts start page ones k =
     ∙ ap (λ (ys : List Item). is_faulty (empty_nowiki ∷ with_break_anew calls ys) (all_unplaced (forest (children (line_parts xs))))) inside
     ∙ no_fault calls j xs k.gives
 
--- ---- all of them
+-- ---- a style
 
-one_fine : (e : Expanded) (s : ℕ) (o : Option ℕ) (a n : ℕ) (before all : List Item) (p : CallPiece) (ps : List CallPiece) (last : List Item)
-    → IsAmong e.outer s o a before all (p ∷ ps) last → IsPiece p → parted o (piece_call p) ≡ true → AreGroupsHere e (p ∷ ps) → AreShutTrees (trees_of (p ∷ ps))
-    → AtPlaces e.outer 0 None e.items → AreOnes e.items → is_faulty_node e (settled n a (cut_texts (piece_in_page e.outer p))) ≡ false
-one_fine e s o a n before all (own t) ps last h k r g shut page ones =
-    let free = shut.0 k.of_page in
-    ap (λ (u : Tree). is_faulty_node e (settled n a u)) (own_is t)
-    ∙ node_fine e (settled n a (placeless (standing 0 [] t)))
-    (settled_groupless n a (placeless (standing 0 [] t)) (placeless_groupless (standing 0 [] t) free.1))
-one_fine e s o a n before all (given j t ts) ps last h k r g shut page ones =
-    group_fine e n a j (t ∷ ts) (call_found e.outer s o a j before all t ts ps last h k.0 r) page ones g.0
+style_is : (calls : List OuterCall) (bold : Bool) (ps : List Part) → ArePieceNodes ps
+    → node_in calls (style_tree bold ps) ≡ block_of_pieces calls (plain (style_kind bold)) (marks bold) ps (marks bold)
+style_is calls true ps h =
+    given_block_is calls (plain (style_kind true)) (marks true) ps (marks true)
+    (record { no_leaf = refl; own_opening = refl; own_closing = refl; parts = h; some = refl })
+style_is calls false ps h =
+    given_block_is calls (plain (style_kind false)) (marks false) ps (marks false)
+    (record { no_leaf = refl; own_opening = refl; own_closing = refl; parts = h; some = refl })
+
+-- its nodes where it is
+abbrev nodes_at : List OuterCall → ℕ → ℕ → List Part → Trees
+nodes_at calls n a ps = all_settled n a (all_cut_texts (pieces_in_page calls (call_pieces (children ps))))
+
+style_faults : (e : Expanded) (n a : ℕ) (bold : Bool) (ps : List Part)
+    → is_faulty_node e (settled n a (cut_texts (block_of_pieces e.outer (plain (style_kind bold)) (marks bold) ps (marks bold))))
+    ≡ has_faulty_group e (nodes_at e.outer (next_after (style_kind bold) n) (a + length (sources (marks bold))) ps)
+style_faults e n a true ps = refl
+style_faults e n a false ps = refl
+
+style_opens : (calls : List OuterCall) (n a : ℕ) (bold : Bool) (ps : List Part)
+    → node_ends_open (settled n a (cut_texts (block_of_pieces calls (plain (style_kind bold)) (marks bold) ps (marks bold))))
+    ≡ any_ends_open (nodes_at calls (next_after (style_kind bold) n) (a + length (sources (marks bold))) ps)
+style_opens calls n a true ps = refl
+style_opens calls n a false ps = refl
+
+marks_last : (o : Option ℕ) (bold : Bool) → last_of o (marks bold) ≡ None
+marks_last o true = refl
+marks_last o false = refl
+
+marks_page : (bold : Bool) → list_all is_page (marks bold) ≡ true
+marks_page true = refl
+marks_page false = refl
+
+-- where they are
+inside_among : (calls : List OuterCall) (s : ℕ) (o : Option ℕ) (a : ℕ) (before all : List Item) (bold : Bool) (qs : List Part) (t : ItemTree) (ps : List CallPiece)
+    (last : List Item) → t ≡ style_tree bold qs → IsAmong calls s o a before all (own t ∷ ps) last
+    → IsAmong calls s None (a + length (sources (marks bold))) (before ++ marks bold) all (call_pieces (children qs))
+    (marks bold ++ (held_by_all (forest (trees_of ps)) ++ last))
+inside_among calls s o a before all bold qs t ps last is h =
+    let ms : List Item = marks bold in
+    let inside : List Item = held_by_all (forest (children qs)) in
+    let rest : List Item = held_by_all (forest (trees_of ps)) in
+    let behind : List Item = ms ++ (rest ++ last) in
+    let items : tree_items t ≡ ms ++ (inside ++ ms) = ap tree_items is in
+    let text : text_from calls None (before ++ ms) ≡ text_from calls None before ++ sources ms =
+    text_append_from calls None before ms ∙ ap (λ (bs : List ℕ). text_from calls None before ++ bs) (text_own calls (last_of None before) ms (marks_page bold)) in
+    let size : length (text_from calls None (before ++ ms)) ≡ length (text_from calls None before) + length (sources ms) =
+    ap length text ∙ length-append (text_from calls None before) (sources ms) in
+    let at : a ≡ s + length (text_from calls None before) = h.at in
+    record {
+      is = h.is
+          ∙ ap (λ (xs : List Item). before ++ ((xs ++ rest) ++ last)) items
+          ∙ ap (λ (xs : List Item). before ++ xs) (append_assoc (ms ++ (inside ++ ms)) rest last ∙ append_assoc ms (inside ++ ms) (rest ++ last)
+          ∙ ap (λ (xs : List Item). ms ++ xs) (append_assoc inside ms (rest ++ last)))
+          ∙ sym (append_assoc before ms (inside ++ behind))
+          ∙ ap (λ (ts : List ItemTree). (before ++ ms) ++ (held_by_all (forest ts) ++ behind)) (sym (all_trees (children qs)));
+      placed = h.placed;
+      behind = last_append None before ms ∙ marks_last (last_of None before) bold;
+      at = omega (arith, at, size);
+    }
+
+-- ---- all of them
 
 groups_later : (e : Expanded) (p : CallPiece) (ps : List CallPiece) → AreGroupsHere e (p ∷ ps) → AreGroupsHere e ps
 groups_later e (own t) ps g = g
 groups_later e (given j t ts) ps g = g.1
 
-pub pieces_fine : (e : Expanded) (s : ℕ) (o : Option ℕ) (a n : ℕ) (before all : List Item) (ps : List CallPiece) (last : List Item)
-    → ArePieces ps → IsApart o ps → IsAmong e.outer s o a before all ps last → AreGroupsHere e ps → AreShutTrees (trees_of ps) → AtPlaces e.outer 0 None e.items
-    → AreOnes e.items → has_faulty_group e (all_settled n a (all_cut_texts (pieces_in_page e.outer ps))) ≡ false
-pieces_fine e s o a n before all [] last k r h g shut page ones = refl
-pieces_fine e s o a n before all (p ∷ ps) last k r h g shut page ones =
-    let u : Tree = cut_texts (piece_in_page e.outer p) in
-    ap₂ (λ (v w : Bool). v || w) (one_fine e s o a n before all p ps last h k.0 r g shut page ones)
-    (pieces_fine e s (piece_call p) (a + length (flat u)) (n + count u) (before ++ piece_items p) all ps last k.2 k.1
-    (among_next e.outer s o a before all p ps last h k.0 r) (groups_later e p ps g) (shut_rest (piece_trees p) (trees_of ps) shut) page ones)
+own_later : (n : ℕ) (e : Expanded) (p : CallPiece) (ps : List CallPiece) → AreOwnHere n e (p ∷ ps) → AreOwnHere n e ps
+own_later n e (own t) ps h = h.1
+own_later n e (given j t ts) ps h = h
 
-one_shut : (e : Expanded) (a n : ℕ) (p : CallPiece) (ps : List CallPiece) → IsPiece p → AreGroupsHere e (p ∷ ps) → AreShutTrees (trees_of (p ∷ ps))
-    → node_ends_open (settled n a (cut_texts (piece_in_page e.outer p))) ≡ false
-one_shut e a n (own t) ps k g shut =
-    let free = shut.0 k.of_page in
-    settled_open n a (cut_texts (placeless (placed [] t))) ∙ ap node_ends_open (own_is t) ∙ open_same (standing 0 [] t) ∙ free.0
-one_shut e a n (given j t ts) ps k g shut =
+page_fine : (e : Expanded) (a n : ℕ) (t : ItemTree) → IsOwn t → IsShutNode t → is_faulty_node e (settled n a (cut_texts (node_in e.outer t))) ≡ false
+page_fine e a n t h shut =
+    let free = shut h.of_page in
+    ap (λ (u : Tree). is_faulty_node e (settled n a u)) (own_is e.outer t h)
+    ∙ node_fine e (settled n a (placeless (standing 0 [] t)))
+    (settled_groupless n a (placeless (standing 0 [] t)) (placeless_groupless (standing 0 [] t) free.1))
+
+page_shut : (e : Expanded) (a n : ℕ) (t : ItemTree) → IsOwn t → IsShutNode t → node_ends_open (settled n a (cut_texts (node_in e.outer t))) ≡ false
+page_shut e a n t h shut =
+    let free = shut h.of_page in
+    settled_open n a (cut_texts (node_in e.outer t)) ∙ ap node_ends_open (own_is e.outer t h) ∙ open_same (standing 0 [] t) ∙ free.0
+
+inside_shut : (qs : List Part) → AreShutParts qs → AreShutTrees (trees_of (call_pieces (children qs)))
+inside_shut qs h = subst AreShutTrees (sym (all_trees (children qs))) (children_shut qs h)
+
+-- ---- all of them, where each style has none
+
+abbrev StylesFine : ℕ → Expanded → ℕ → List Item → Type 0
+StylesFine d e s all =
+    (o : Option ℕ) (a n : ℕ) (before : List Item) (t : ItemTree) (ps : List CallPiece) (last : List Item)
+    → IsAmong e.outer s o a before all (own t ∷ ps) last → IsStyleHere d e t → is_faulty_node e (settled n a (cut_texts (node_in e.outer t))) ≡ false
+
+one_fine : (d : ℕ) (e : Expanded) (s : ℕ) (o : Option ℕ) (a n : ℕ) (before all : List Item) (p : CallPiece) (ps : List CallPiece) (last : List Item)
+    → StylesFine d e s all → IsAmong e.outer s o a before all (p ∷ ps) last → IsPiece p → parted o (piece_call p) ≡ true → AreGroupsHere e (p ∷ ps)
+    → AreOwnHere d e (p ∷ ps) → AreShutTrees (trees_of (p ∷ ps)) → AtPlaces e.outer 0 None e.items → AreOnes e.items
+    → is_faulty_node e (settled n a (cut_texts (piece_in_page e.outer p))) ≡ false
+one_fine d e s o a n before all (own t) ps last f h k r g w shut page ones = elim (own_case d e t k w.0) [
+  | inl page_node ↦ page_fine e a n t page_node shut.0
+  | inr style ↦ f o a n before t ps last h style
+]
+one_fine d e s o a n before all (given j t ts) ps last f h k r g w shut page ones =
+    group_fine e n a j (t ∷ ts) (call_found e.outer s o a j before all t ts ps last h k.0 r) page ones g.0
+
+fine_by : (d : ℕ) (e : Expanded) (s : ℕ) (o : Option ℕ) (a n : ℕ) (before all : List Item) (ps : List CallPiece) (last : List Item)
+    → StylesFine d e s all → ArePieces ps → IsApart o ps → IsAmong e.outer s o a before all ps last → AreGroupsHere e ps → AreOwnHere d e ps
+    → AreShutTrees (trees_of ps) → AtPlaces e.outer 0 None e.items → AreOnes e.items
+    → has_faulty_group e (all_settled n a (all_cut_texts (pieces_in_page e.outer ps))) ≡ false
+fine_by d e s o a n before all [] last f k r h g w shut page ones = refl
+fine_by d e s o a n before all (p ∷ ps) last f k r h g w shut page ones =
+    let u : Tree = cut_texts (piece_in_page e.outer p) in
+    ap₂ (λ (v x : Bool). v || x) (one_fine d e s o a n before all p ps last f h k.0 r g w shut page ones)
+    (fine_by d e s (piece_call p) (a + length (flat u)) (n + count u) (before ++ piece_items p) all ps last f k.2 k.1
+    (among_next e.outer s o a before all p ps last h k.0 r) (groups_later e p ps g) (own_later d e p ps w) (shut_rest (piece_trees p) (trees_of ps) shut) page ones)
+
+-- and each style has none, to this depth
+styles_fine : (d : ℕ) (e : Expanded) (s : ℕ) (all : List Item) → AtPlaces e.outer 0 None e.items → AreOnes e.items → StylesFine d e s all
+styles_fine zero e s all page ones = λ o a n before t ps last h k. absurd k
+styles_fine (suc d) e s all page ones = λ o a n before t ps last h k.
+    let bold : Bool = k.0 in
+    let qs : List Part = k.1 in
+    let pieces : ArePieceNodes qs = here_pieces d e qs k.3 in
+    let are : ArePieces (call_pieces (children qs)) = all_pieces (children qs) (children_given qs pieces) in
+    ap (λ (u : ItemTree). is_faulty_node e (settled n a (cut_texts (node_in e.outer u)))) k.2
+    ∙ ap (λ (u : Tree). is_faulty_node e (settled n a (cut_texts u))) (style_is e.outer bold qs pieces)
+    ∙ style_faults e n a bold qs
+    ∙ fine_by d e s None (a + length (sources (marks bold))) (next_after (style_kind bold) n) (before ++ marks bold) all (call_pieces (children qs))
+    (marks bold ++ (held_by_all (forest (trees_of ps)) ++ last)) (styles_fine d e s all page ones) are (apart_none (call_pieces (children qs)))
+    (inside_among e.outer s o a before all bold qs t ps last k.2 h) k.4 (own_here d e qs k.3) (inside_shut qs k.5) page ones
+
+pub pieces_fine : (d : ℕ) (e : Expanded) (s : ℕ) (o : Option ℕ) (a n : ℕ) (before all : List Item) (ps : List CallPiece) (last : List Item)
+    → ArePieces ps → IsApart o ps → IsAmong e.outer s o a before all ps last → AreGroupsHere e ps → AreOwnHere d e ps → AreShutTrees (trees_of ps)
+    → AtPlaces e.outer 0 None e.items → AreOnes e.items → has_faulty_group e (all_settled n a (all_cut_texts (pieces_in_page e.outer ps))) ≡ false
+pieces_fine d e s o a n before all ps last k r h g w shut page ones =
+    fine_by d e s o a n before all ps last (styles_fine d e s all page ones) k r h g w shut page ones
+
+-- ---- none ends in an open tag
+
+abbrev StylesShut : ℕ → Expanded → Type 0
+StylesShut d e = (a n : ℕ) (t : ItemTree) → IsStyleHere d e t → node_ends_open (settled n a (cut_texts (node_in e.outer t))) ≡ false
+
+one_shut : (d : ℕ) (e : Expanded) (a n : ℕ) (p : CallPiece) (ps : List CallPiece) → StylesShut d e → IsPiece p → AreGroupsHere e (p ∷ ps) → AreOwnHere d e (p ∷ ps)
+    → AreShutTrees (trees_of (p ∷ ps)) → node_ends_open (settled n a (cut_texts (piece_in_page e.outer p))) ≡ false
+one_shut d e a n (own t) ps f k g w shut = elim (own_case d e t k w.0) [
+  | inl page_node ↦ page_shut e a n t page_node shut.0
+  | inr style ↦ f a n t style
+]
+one_shut d e a n (given j t ts) ps f k g w shut =
     let here = g.0 in settled_open n a (group_of_call e.outer j (further t (forest ts))) ∙ here.shut
 
-pub pieces_shut : (e : Expanded) (a n : ℕ) (ps : List CallPiece) → ArePieces ps → AreGroupsHere e ps → AreShutTrees (trees_of ps)
+shut_by : (d : ℕ) (e : Expanded) (a n : ℕ) (ps : List CallPiece) → StylesShut d e → ArePieces ps → AreGroupsHere e ps → AreOwnHere d e ps → AreShutTrees (trees_of ps)
     → any_ends_open (all_settled n a (all_cut_texts (pieces_in_page e.outer ps))) ≡ false
-pieces_shut e a n [] k g shut = refl
-pieces_shut e a n (p ∷ ps) k g shut =
+shut_by d e a n [] f k g w shut = refl
+shut_by d e a n (p ∷ ps) f k g w shut =
     let u : Tree = cut_texts (piece_in_page e.outer p) in
-    ap₂ (λ (v w : Bool). v || w) (one_shut e a n p ps k.0 g shut)
-    (pieces_shut e (a + length (flat u)) (n + count u) ps k.2 (groups_later e p ps g) (shut_rest (piece_trees p) (trees_of ps) shut))
+    ap₂ (λ (v x : Bool). v || x) (one_shut d e a n p ps f k.0 g w shut)
+    (shut_by d e (a + length (flat u)) (n + count u) ps f k.2 (groups_later e p ps g) (own_later d e p ps w) (shut_rest (piece_trees p) (trees_of ps) shut))
+
+styles_shut : (d : ℕ) (e : Expanded) → StylesShut d e
+styles_shut zero e = λ a n t k. absurd k
+styles_shut (suc d) e = λ a n t k.
+    let bold : Bool = k.0 in
+    let qs : List Part = k.1 in
+    let pieces : ArePieceNodes qs = here_pieces d e qs k.3 in
+    ap (λ (u : ItemTree). node_ends_open (settled n a (cut_texts (node_in e.outer u)))) k.2
+    ∙ ap (λ (u : Tree). node_ends_open (settled n a (cut_texts u))) (style_is e.outer bold qs pieces)
+    ∙ style_opens e.outer n a bold qs
+    ∙ shut_by d e (a + length (sources (marks bold))) (next_after (style_kind bold) n) (call_pieces (children qs)) (styles_shut d e)
+    (all_pieces (children qs) (children_given qs pieces)) k.4 (own_here d e qs k.3) (inside_shut qs k.5)
+
+pub pieces_shut : (d : ℕ) (e : Expanded) (a n : ℕ) (ps : List CallPiece) → ArePieces ps → AreGroupsHere e ps → AreOwnHere d e ps → AreShutTrees (trees_of ps)
+    → any_ends_open (all_settled n a (all_cut_texts (pieces_in_page e.outer ps))) ≡ false
+pieces_shut d e a n ps k g w shut = shut_by d e a n ps (styles_shut d e) k g w shut

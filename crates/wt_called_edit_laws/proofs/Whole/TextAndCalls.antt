@@ -29,7 +29,8 @@ use Rattle.wt_expand.specs.Work.{Pages}
 use Rattle.wt_original.specs.Kept.{Kept, KeptNode, transclusion, kept_of, kept_with, kept_nodes, items, visible, found_at, found_from, found_in}
 use Rattle.wt_original.specs.Numbers.{counts_up}
 use Rattle.wt_link_spelling.specs.Spelling.{children_of}
-use Rattle.wt_part_laws.specs.CallPieces.{CallPiece, own, given, group_of_call, pieces_in_page}
+use Rattle.wt_part_laws.specs.CallPieces.{CallPiece, own, given, group_of_call, node_in, pieces_in_page}
+use Rattle.wt_part_laws.proofs.CallPieces.{as_pieces}
 use Rattle.wt_part_laws.specs.Expanded.{part_items, calls_in}
 use Rattle.wt_part_laws.specs.HeldCalls.{block_in}
 use Rattle.wt_part_laws.specs.MovedCalls.{IsMoved, AreMoved}
@@ -53,6 +54,7 @@ use Rattle.wt_called_edit_laws.specs.PartTexts.{AreSourcesAt}
 use Rattle.wt_called_edit_laws.proofs.Beside.Counts.{block_bare, settled_counts}
 use Rattle.wt_called_edit_laws.proofs.Whole.Blocks.{nodes_are}
 use Rattle.wt_called_edit_laws.proofs.Whole.Contents.{has_call, group_source}
+use Rattle.wt_called_edit_laws.proofs.Whole.PartsIn.{simple_parts}
 use Rattle.wt_called_edit_laws.proofs.Whole.Pieced.{paragraph_round, as_written}
 use Rattle.wt_called_edit_laws.proofs.Written.NewContents.{calls_of}
 
@@ -72,8 +74,8 @@ a_group = record {
   between_equals = false;
 }
 
-abbrev text_tree : List Item → Tree
-text_tree xs = cut_texts (placeless (placed [] (loose_leaf Text xs)))
+abbrev text_tree : List OuterCall → List Item → Tree
+text_tree calls xs = cut_texts (node_in calls (loose_leaf Text xs))
 
 abbrev group_tree : List OuterCall → ℕ → List ItemTree → Tree
 group_tree calls i ts = group_of_call calls i (forest ts)
@@ -101,7 +103,7 @@ abbrev rest_of : Pages → List OuterCall → ℕ → List ℕ → List (List �
 rest_of pages calls i b bs = all_cut_texts (pieces_in_page calls (all_pieces pages (i + calls_in pages b) bs))
 
 as_text : (P : Trees → Type 0) (pages : Pages) (calls : List OuterCall) (i : ℕ) (b : List ℕ) (bs : List (List ℕ)) → (expanded_page pages b).outer ≡ []
-    → P (more (text_tree (part_items pages i b)) (rest_of pages calls i b bs)) → P (all_cut_texts (pieces_in_page calls (all_pieces pages i (b ∷ bs))))
+    → P (more (text_tree calls (part_items pages i b)) (rest_of pages calls i b bs)) → P (all_cut_texts (pieces_in_page calls (all_pieces pages i (b ∷ bs))))
 as_text P pages calls i b bs e h =
     subst (λ (ps : List CallPiece). P (all_cut_texts (pieces_in_page calls (ps ++ all_pieces pages (i + calls_in pages b) bs)))) (sym (piece_text pages i b e)) h
 
@@ -119,10 +121,10 @@ later m n h = omega (arith, h)
 not_zero : (m : ℕ) → 0 < m → m ≢ 0
 not_zero m h = λ e. absurd (omega (arith, h, e))
 
-text_own : (m a : ℕ) (xs : List Item) (us : Trees) → HaveOwn (all_settled (m + count (text_tree xs)) (a + length (flat (text_tree xs))) us)
-    → HaveOwn (all_settled m a (more (text_tree xs) us))
+text_own : (calls : List OuterCall) (m a : ℕ) (xs : List Item) (us : Trees) → HaveOwn (all_settled (m + count (text_tree calls xs)) (a + length (flat (text_tree calls xs))) us)
+    → HaveOwn (all_settled m a (more (text_tree calls xs) us))
 unfolding label_at
-text_own m a xs us h = (tt, h)
+text_own calls m a xs us h = (tt, h)
 
 group_own : (calls : List OuterCall) (i m a : ℕ) (ts : List ItemTree) (us : Trees) → 0 < m
     → HaveOwn (all_settled (m + count (group_tree calls i ts)) (a + length (flat (group_tree calls i ts))) us)
@@ -137,8 +139,8 @@ nodes_own pages calls i m a (b ∷ bs) n h =
       | inl e ↦
           let xs : List Item = part_items pages i b in
           as_text (λ (vs : Trees). HaveOwn (all_settled m a vs)) pages calls i b bs e
-          (text_own m a xs us
-          (nodes_own pages calls (i + calls_in pages b) (m + count (text_tree xs)) (a + length (flat (text_tree xs))) bs (later m (count (text_tree xs)) n) h.1))
+          (text_own calls m a xs us
+          (nodes_own pages calls (i + calls_in pages b) (m + count (text_tree calls xs)) (a + length (flat (text_tree calls xs))) bs (later m (count (text_tree calls xs)) n) h.1))
       | inr w ↦
           let ts : List ItemTree = children (line_parts (part_items pages i b)) in
           let g : Tree = group_tree calls i ts in
@@ -148,9 +150,9 @@ nodes_own pages calls i m a (b ∷ bs) n h =
 
 -- ---- what they show
 
-text_child : (pages : Pages) (m a : ℕ) (xs : List Item) → IsChildBeside pages (settled m a (text_tree xs))
+text_child : (pages : Pages) (calls : List OuterCall) (m a : ℕ) (xs : List Item) → IsChildBeside pages (settled m a (text_tree calls xs))
 unfolding label_at
-text_child pages m a xs = record { inline = refl; free = inr (refl, tt); shows = λ f. absurd f }
+text_child pages calls m a xs = record { inline = refl; free = inr (refl, tt); shows = λ f. absurd f }
 
 group_child : (pages : Pages) (calls : List OuterCall) (i m a : ℕ) (b : List ℕ) → IsGroupCall pages b → source_of_call (slice_get calls i) ≡ b
     → IsChildBeside pages (settled m a (group_tree calls i (children (line_parts (part_items pages i b)))))
@@ -190,7 +192,7 @@ nodes_show pages calls i m a (b ∷ bs) h s =
       | inl e ↦
           let xs : List Item = part_items pages i b in
           as_text (λ (vs : Trees). AreChildrenBeside pages (all_settled m a vs)) pages calls i b bs e
-          (text_child pages m a xs, nodes_show pages calls (i + calls_in pages b) (m + count (text_tree xs)) (a + length (flat (text_tree xs))) bs h.1 r.1)
+          (text_child pages calls m a xs, nodes_show pages calls (i + calls_in pages b) (m + count (text_tree calls xs)) (a + length (flat (text_tree calls xs))) bs h.1 r.1)
       | inr w ↦
           let g : Tree = group_tree calls i (children (line_parts (part_items pages i b))) in
           as_group (λ (vs : Trees). AreChildrenBeside pages (all_settled m a vs)) pages calls i b bs w (
@@ -218,14 +220,14 @@ stay_past : (pages : Pages) (b : List ℕ) (bs ds : List (List ℕ)) → (expand
 stay_past pages b bs [] e h = (e, h)
 stay_past pages b bs (d ∷ ds) e h = inr (e, h)
 
-text_things : (block : Tree) (m a at from : ℕ) (xs : List Item) (us : Trees) (X : List Thing → Type 0)
-    → (Every (Finds block) (found_in (at + length (flat (settled m a (text_tree xs)))) (from + length (visible (items (settled m a (text_tree xs))))) (all_settled (m + count (text_tree xs)) (a + length (flat (text_tree xs))) us))
-    → X (things_with (kept_nodes block) (all_numbers (all_settled (m + count (text_tree xs)) (a + length (flat (text_tree xs))) us))))
-    → Every (Finds block) (found_in at from (all_settled m a (more (text_tree xs) us)))
-    → X (things_with (kept_nodes block) (all_numbers (all_settled m a (more (text_tree xs) us))))
+text_things : (calls : List OuterCall) (block : Tree) (m a at from : ℕ) (xs : List Item) (us : Trees) (X : List Thing → Type 0)
+    → (Every (Finds block) (found_in (at + length (flat (settled m a (text_tree calls xs)))) (from + length (visible (items (settled m a (text_tree calls xs))))) (all_settled (m + count (text_tree calls xs)) (a + length (flat (text_tree calls xs))) us))
+    → X (things_with (kept_nodes block) (all_numbers (all_settled (m + count (text_tree calls xs)) (a + length (flat (text_tree calls xs))) us))))
+    → Every (Finds block) (found_in at from (all_settled m a (more (text_tree calls xs) us)))
+    → X (things_with (kept_nodes block) (all_numbers (all_settled m a (more (text_tree calls xs) us))))
 unfolding label_at
-text_things block m a at from xs us X f e =
-    f (every_right (Finds block) (found_from at from (settled m a (text_tree xs))) _ e)
+text_things calls block m a at from xs us X f e =
+    f (every_right (Finds block) (found_from at from (settled m a (text_tree calls xs))) _ e)
 
 found_first : (block : Tree) (m : ℕ) (ns : List ℕ) (k : Kept) → kept_with m (kept_nodes block) ≡ Some k
     → things_with (kept_nodes block) (m ∷ ns) ≡ thing_of k ∷ things_with (kept_nodes block) ns
@@ -262,10 +264,10 @@ nodes_things pages calls block i m a at from (b ∷ bs) n h s e =
       | inl z ↦
           let xs : List Item = part_items pages i b in
           as_text P pages calls i b bs z
-          (text_things block m a at from xs us (ThingsOf pages (b ∷ bs))
+          (text_things calls block m a at from xs us (ThingsOf pages (b ∷ bs))
           (λ x.
-          let y = nodes_things pages calls block (i + calls_in pages b) (m + count (text_tree xs)) (a + length (flat (text_tree xs)))
-          (at + length (flat (settled m a (text_tree xs)))) (from + length (visible (items (settled m a (text_tree xs))))) bs (later m (count (text_tree xs)) n) h.1 r.1 x in
+          let y = nodes_things pages calls block (i + calls_in pages b) (m + count (text_tree calls xs)) (a + length (flat (text_tree calls xs)))
+          (at + length (flat (settled m a (text_tree calls xs)))) (from + length (visible (items (settled m a (text_tree calls xs))))) bs (later m (count (text_tree calls xs)) n) h.1 r.1 x in
           (stay_past pages b bs _ z y.0, y.1))) e
       | inr w ↦
           let ts : List ItemTree = children (line_parts (part_items pages i b)) in
@@ -343,7 +345,8 @@ pieced pages q h =
       among = some.are.0;
       read = h.read;
       lines = h.lines;
-      texts = h.texts;
+      texts = λ i.
+          simple_parts (part_items pages i q) (content_parts_of a_paragraph (part_items pages i q)) (h.texts i);
       groups = h.groups;
       shut = h.shut;
       some = h.some;
@@ -379,7 +382,7 @@ texts_beside pages q block n at i calls some is sources_are h meets =
     let a : ℕ = at + length (sources []) in
     let v : Tree = cut_texts (block_in calls (tree_round a_paragraph (part_items pages i q))) in
     let w = as_written pages q p in
-    let round = paragraph_round ps (h.texts i) (h.some i) in
+    let round = paragraph_round ps (as_pieces ps (h.texts i)) (h.some i) in
     let nodes : children_of block ≡ nodes_from pages calls i m a bs =
     ap children_of is ∙ same_nodes (settled n at v)
     ∙ ap (λ (u : Tree). nodes_in (settled n at (cut_texts u))) (given_block_is calls (plain kind.Para) [] ps [] round)

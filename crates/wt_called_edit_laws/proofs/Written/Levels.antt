@@ -24,7 +24,7 @@ use Rattle.wt_text_edit_laws.specs.LonePages.{page_chars}
 use Rattle.wt_text_edit_laws.proofs.Prose.Uncommented.{BeginsUncommented, uncommented_other}
 use Rattle.wt_text_edit_laws.proofs.Texts.TypedItems.{references, wide_tame, tame_if}
 use Rattle.wt_beside_laws.specs.Kept.{Part, characters, sign, lexeme, AreParts, parts_source, parts_items, IsKept}
-use Rattle.wt_beside_laws.proofs.Marks.InLine.{InLine, InLineAs, comment_in, kept_in, nowiki_in, letter_in, reference_ends}
+use Rattle.wt_beside_laws.proofs.Marks.InLine.{InLine, InLineAs, comment_in, kept_in, read_in, nowiki_in, letter_in, reference_ends}
 use Rattle.wt_guards.specs.Content.{ContentSign, letter, thing, ends_line}
 use Rattle.wt_guards.specs.Guards.{Setting, nowiki, nowiki_if, is_new_at_start, is_mark as is_mark_role}
 use Rattle.wt_typed_blocks.proofs.Lines.{is_free}
@@ -36,7 +36,7 @@ use Rattle.wt_beside_laws.specs.NodeItems.{node_items}
 use Rattle.wt_beside_laws.proofs.Contents.{further, begin_letter}
 use Rattle.wt_beside_laws.proofs.Firm.{ReadsAs, alone_as, parts_read, less_firm}
 use Rattle.wt_beside_laws.proofs.LineKinds.{FirstOpens}
-use Rattle.wt_beside_laws.proofs.Marks.Shown.{comment_node, kept_node}
+use Rattle.wt_beside_laws.proofs.Marks.Shown.{comment_node, kept_node, read_node, read_shown, shown_begins}
 use Rattle.wt_called_edit_laws.specs.Written.{IsHeldInLine}
 
 -- ---- a node
@@ -53,12 +53,14 @@ source_in source h =
 -- behind a line break it is the same
 pub held_same : (source : List ℕ) → IsHeldInLine source → node_items source ≡ page_items source
 held_same source (inl k) = kept_node source k.0
-held_same source (inr c) =
+held_same source (inr (inl c)) =
     subst (λ bs. node_items bs ≡ page_items bs) (sym c.is) (comment_node c.others c.comment ∙ sym (comment_alone c.others c.comment))
+held_same source (inr (inr h)) = read_node source h
 
 held_alone : (source : List ℕ) → IsHeldInLine source → InLineAs source (page_items source)
 held_alone source (inl k) = kept_in source k.0 k.1
-held_alone source (inr c) = source_in source c
+held_alone source (inr (inl c)) = source_in source c
+held_alone source (inr (inr h)) = read_in source h
 
 pub held_in : (source : List ℕ) → IsHeldInLine source → InLineAs source (node_items source)
 held_in source h = subst (InLineAs source) (sym (held_same source h)) (held_alone source h)
@@ -88,7 +90,8 @@ kept_begins source h o rest =
 
 own_begins : (source : List ℕ) → IsHeldInLine source → FirstOpens (map glyph_of (page_items source)) → (rest : List ℕ) → BeginsUncommented (source ++ rest)
 own_begins source (inl k) o rest = kept_begins source k.0 o rest
-own_begins source (inr c) o rest = absurd (subst (λ xs. FirstOpens (map glyph_of xs)) (ap page_items c.is ∙ comment_alone c.others c.comment) o)
+own_begins source (inr (inl c)) o rest = absurd (subst (λ xs. FirstOpens (map glyph_of xs)) (ap page_items c.is ∙ comment_alone c.others c.comment) o)
+own_begins source (inr (inr h)) o rest = shown_begins (source ++ rest) (read_shown source h rest)
 
 pub held_begins : (source : List ℕ) → IsHeldInLine source → FirstOpens (map glyph_of (node_items source)) → (rest : List ℕ) → BeginsUncommented (source ++ rest)
 held_begins source h o rest = own_begins source h (subst (λ xs. FirstOpens (map glyph_of xs)) (held_same source h) o) rest

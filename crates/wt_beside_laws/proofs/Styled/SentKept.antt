@@ -1,33 +1,26 @@
--- What is sent for a block has some of the block's nodes, and others that are put: so where none of the block's is a tag that opens a pair, none that is
--- sent is one.
-use Rattle.std.proofs.Common.{◌≡◌, ℕ, List, [], ◌∷◌, sym, ap, ◌∙◌, subst, inl, inr}
+-- What is sent for a block has some of the block's nodes, in their order, and others that are put.
+use Rattle.std.proofs.Common.{◌≡◌, ℕ, List, sym, ap, ◌∙◌, subst}
 use Rattle.wt_span.specs.Items.{Item}
 use Rattle.wt_tree.specs.Tiling.{HasNoGroup, NoneIsGroup}
 use Rattle.wt_tree.specs.Tree.{Tree, tree, Trees}
-use Rattle.wt_guards.specs.Content.{ContentSign, Thing, letter, thing}
 use Rattle.wt_original.specs.Kept.{kept_nodes}
 use Rattle.wt_link_spelling.specs.Spelling.{children_of}
 use Rattle.wt_typed_blocks.specs.Edited.{Pieces, page_pieces, sent_pieces, PiecesStay}
 use Rattle.wt_text_edit_laws.specs.TextBlocks.{TextBlock}
-use Rattle.wt_beside_laws.specs.Cuts.{own_glyphs}
 use Rattle.wt_beside_laws.specs.FlatBlocks.{lines_in, signs_in as signs_of, sent_for}
-use Rattle.wt_beside_laws.specs.Nodes.{KeepsOpen, OpensNoPair, NoneOpensPair}
 use Rattle.wt_beside_laws.specs.PageBlocks.{IsBlockOfLines}
 use Rattle.wt_beside_laws.specs.PageSigns.{signs_of_lines}
 use Rattle.wt_beside_laws.specs.Stood.{things}
 use Rattle.wt_beside_laws.specs.Styled.{StyledContent, signs_in}
 use Rattle.wt_beside_laws.specs.StyledBlocks.{all_numbers, things_with, AreSomeOf}
-use Rattle.wt_beside_laws.specs.StyledIn.{IsStyledIn, StaysPaired}
+use Rattle.wt_beside_laws.specs.StyledIn.{IsStyledIn}
 use Rattle.wt_beside_laws.specs.StyledNodes.{AreSomeAndPut}
-use Rattle.wt_beside_laws.proofs.Each.{Each}
 use Rattle.wt_beside_laws.proofs.Made.Making.{known}
 use Rattle.wt_beside_laws.proofs.Made.OldBlocks.{IsIn, block_begins}
-use Rattle.wt_beside_laws.proofs.OpenTags.{closed_keeps}
 use Rattle.wt_beside_laws.proofs.Styled.BlockStyles.{styled_nodes}
 use Rattle.wt_beside_laws.proofs.Styled.OldStyled.{styled_of_lines}
 use Rattle.wt_beside_laws.proofs.Styled.SentAmong.{some_of, things_among, sent_some}
 use Rattle.wt_beside_laws.proofs.Styled.SentWhole.{some_numbers}
-use Rattle.wt_beside_laws.proofs.Styled.StyledNodes.{put_closed, each_some}
 
 none_in : (t : Tree) → HasNoGroup t → NoneIsGroup (children_of t)
 none_in (tree l ts) h = h.1
@@ -47,26 +40,3 @@ nodes_among k q block ps h i old stay =
     let among : AreSomeOf (things_with (kept_nodes block) (all_numbers us)) (things (signs_of k q)) =
     subst (AreSomeOf (things_with (kept_nodes block) (all_numbers us))) page (things_among (kept_nodes block) (all_numbers us) (all_numbers (children_of block)) some) in
     some_of (things (signs_in t)) (things_with (kept_nodes block) (all_numbers us)) (things (signs_of k q)) (sent_some (known block) us) among
-
--- ---- tags that open a pair
-
-abbrev Closed : Thing → Type 0
-Closed t = OpensNoPair (own_glyphs t)
-
-closed_each : (signs : List ContentSign) → NoneOpensPair signs → Each Closed (things signs)
-closed_each [] c = tt
-closed_each (letter d ∷ after) c = closed_each after c
-closed_each (thing t ∷ after) c = (c.0, closed_each after c.1)
-
-each_closed : (signs : List ContentSign) → Each Closed (things signs) → NoneOpensPair signs
-each_closed [] c = tt
-each_closed (letter d ∷ after) c = each_closed after c
-each_closed (thing t ∷ after) c = (c.0, each_closed after c.1)
-
-pub still_open : (k : TextBlock) (q : List ℕ) (block : Tree) (ps : Pieces) → IsStyledIn k q → IsIn k q block → page_pieces ps ≡ children_of block → PiecesStay ps
-    → StaysPaired k q block ps → KeepsOpen (signs_in (sent_for block ps))
-still_open k q block ps h i old stay (inl c) =
-    let signs : List ContentSign = signs_in (sent_for block ps) in
-    closed_keeps signs (each_closed signs
-    (each_some Closed put_closed (things signs) (things (signs_of k q)) (nodes_among k q block ps h i old stay) (closed_each (signs_of k q) c)))
-still_open k q block ps h i old stay (inr o) = o
