@@ -72,12 +72,12 @@ spots_utf8 ss behind h = read_utf8 ss behind (spots_read ss behind h)
 nothing_between : BeginsLine (page_items []) → ⊥
 nothing_between h = absurd (subst BeginsLine (read_items [] [] reads_nothing) h)
 
-clear_between : (front bs : List ℕ) (k : TextBlock) (q : List ℕ) → IsLedTo bs k q → BeginsLine (page_items bs) → ends_open (front ++ bs) ≡ false
+pub clear_between : (front bs : List ℕ) (k : TextBlock) (q : List ℕ) → IsLedTo bs k q → BeginsLine (page_items bs) → ends_open (front ++ bs) ≡ false
 clear_between front [] k q l h = absurd (nothing_between h)
 clear_between front (b ∷ bs) k q (inl l) h = clear_line front b bs l
 clear_between front (b ∷ bs) k q (inr l) h = signed_clear front b bs l.0 (begins_here (b ∷ bs) h)
 
-clear_start : (bs : List ℕ) (k : TextBlock) (q : List ℕ) → IsLedTo bs k q → ends_open bs ≡ false
+pub clear_start : (bs : List ℕ) (k : TextBlock) (q : List ℕ) → IsLedTo bs k q → ends_open bs ≡ false
 clear_start bs k q (inl l) = clear_first bs l
 clear_start bs k q (inr l) = signed_first bs l.0
 

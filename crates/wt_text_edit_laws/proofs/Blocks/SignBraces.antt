@@ -133,24 +133,25 @@ braces_seam (s ∷ t ∷ ss) ys h f =
 abbrev not_opening : ℕ → Bool
 not_opening b = not (b == 123)
 
-ends_joined : (xs : List ℕ) (y : ℕ) (ys : List ℕ) → EndsBy not_opening (y ∷ ys) → EndsBy not_opening (xs ++ y ∷ ys)
-ends_joined [] y ys h = h
-ends_joined (x ∷ []) y ys h = h
-ends_joined (x ∷ z ∷ xs) y ys h = ends_joined (z ∷ xs) y ys h
+ends_joined : (test : ℕ → Bool) (xs : List ℕ) (y : ℕ) (ys : List ℕ) → EndsBy test (y ∷ ys) → EndsBy test (xs ++ y ∷ ys)
+ends_joined test [] y ys h = h
+ends_joined test (x ∷ []) y ys h = h
+ends_joined test (x ∷ z ∷ xs) y ys h = ends_joined test (z ∷ xs) y ys h
 
-run_ends : (n : ℕ) → EndsBy not_opening (replicate (suc n) 45)
-run_ends zero = refl
-run_ends (suc n) = run_ends n
+run_ends : (test : ℕ → Bool) → test 45 ≡ true → (n : ℕ) → EndsBy test (replicate (suc n) 45)
+run_ends test e zero = e
+run_ends test e (suc n) = run_ends test e n
 
-bare_ends : (xs own : List ℕ) → IsBareSign own → EndsBy not_opening (xs ++ own)
-bare_ends xs own (inl is) = subst (λ (bs : List ℕ). EndsBy not_opening (xs ++ bs)) (sym is) (ends_joined xs 124 (125 ∷ []) refl)
-bare_ends xs own (inr (n, is)) = subst (λ (bs : List ℕ). EndsBy not_opening (xs ++ bs)) (sym is) (ends_joined xs 45 (replicate n 45) (run_ends n))
+bare_ends : (test : ℕ → Bool) → test 125 ≡ true → test 45 ≡ true → (xs own : List ℕ) → IsBareSign own → EndsBy test (xs ++ own)
+bare_ends test e f xs own (inl is) = subst (λ (bs : List ℕ). EndsBy test (xs ++ bs)) (sym is) (ends_joined test xs 124 (125 ∷ []) e)
+bare_ends test e f xs own (inr (n, is)) = subst (λ (bs : List ℕ). EndsBy test (xs ++ bs)) (sym is) (ends_joined test xs 45 (replicate n 45) (run_ends test f n))
 
-signed_end : (bs : List ℕ) → AreSigned bs → EndsBy not_opening bs
-signed_end bs h =
+-- its last byte is a `}` or a `-`
+pub signed_by : (test : ℕ → Bool) → test 125 ≡ true → test 45 ≡ true → (bs : List ℕ) → AreSigned bs → EndsBy test bs
+signed_by test e f bs h =
     let s : IsSign h.sign = h.is_sign in
     let is : bs ≡ (h.front ++ s.blanks) ++ s.own = h.is ∙ ap (λ (ds : List ℕ). h.front ++ ds) s.is ∙ sym (append_assoc h.front s.blanks s.own) in
-    subst (EndsBy not_opening) (sym is) (bare_ends (h.front ++ s.blanks) s.own s.bare)
+    subst (EndsBy test) (sym is) (bare_ends test e f (h.front ++ s.blanks) s.own s.bare)
 
 not_false : (v : Bool) → not v ≡ true → v ≡ false
 not_false false e = refl
@@ -182,4 +183,4 @@ first_unclosed (whole f o bs ∷ xs) ys h g = whole_other f 125 refl refl
 pub signed_braces : (bs : List ℕ) (ys : List Item) → AreSigned bs → FirstUnclosed (map sign ys) → braces_of (page_items bs ++ ys) ≡ braces_of (page_items bs) ++ braces_of ys
 signed_braces bs ys h f =
     ap braces (map-append sign (page_items bs) ys)
-    ∙ braces_seam (map sign (page_items bs)) (map sign ys) (items_end (page_items bs) (subst (EndsBy not_opening) (sym (page_sources bs)) (signed_end bs h))) f
+    ∙ braces_seam (map sign (page_items bs)) (map sign ys) (items_end (page_items bs) (subst (EndsBy not_opening) (sym (page_sources bs)) (signed_by not_opening refl refl bs h))) f
