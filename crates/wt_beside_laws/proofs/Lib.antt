@@ -16,6 +16,7 @@ pub mod NodesEnd
 pub mod NodesMeet
 pub mod NodesStand
 pub mod OpenTags
+pub mod LinesClosed
 pub mod LinesOpen
 pub mod Each
 pub mod PageNodes

@@ -44,7 +44,7 @@ past_wide k d (b ∷ bs) gs h =
     past_level k d (glyph.Byte b) (byte_glyphs bs ++ gs) (no_tag (glyph.Byte b ∷ (byte_glyphs bs ++ gs)) (wide_less b (All-head IsWide b bs h)))
     ∙ past_wide k d bs gs (All-tail IsWide b bs h)
 
-past_letter : (k d : ℕ) (e : Bool) (c : ℕ) (gs : List Glyph) → (e ≡ false → tag_at (glyph.Byte c ∷ gs) ≡ None) → partner k d (letter_glyphs e c ++ gs) ≡ partner k d gs
+pub past_letter : (k d : ℕ) (e : Bool) (c : ℕ) (gs : List Glyph) → (e ≡ false → tag_at (glyph.Byte c ∷ gs) ≡ None) → partner k d (letter_glyphs e c ++ gs) ≡ partner k d gs
 past_letter k d true c gs f = past_level k d (glyph.Entity c) gs (no_tag (glyph.Entity c ∷ gs) refl)
 past_letter k d false c gs f = elim (cases_lt c 128) [
   | inl small ↦ ap (λ (bs : List ℕ). partner k d (byte_glyphs bs ++ gs)) (encode_ascii c small) ∙ past_level k d (glyph.Byte c) gs (f refl)
@@ -68,18 +68,18 @@ letter_untagged s before c after e =
 
 -- ---- past a node
 
-neither : (u v : Bool) → (u || v) ≡ false → (u ≡ false) × (v ≡ false)
+pub neither : (u v : Bool) → (u || v) ≡ false → (u ≡ false) × (v ≡ false)
 neither false false e = (refl, refl)
 neither true v e = absurd (cc)
 neither false true e = absurd (cc)
 
-past_untagged : (k d : ℕ) (own gs : List Glyph) → is_tagged own ≡ false → partner k d (own ++ gs) ≡ partner k d gs
+pub past_untagged : (k d : ℕ) (own gs : List Glyph) → is_tagged own ≡ false → partner k d (own ++ gs) ≡ partner k d gs
 past_untagged k d [] gs e = refl
 past_untagged k d (g ∷ own) gs e =
     let f = neither (in_class (class.Only 60) g) (is_tagged own) e in
     past_level k d g (own ++ gs) (no_tag (g ∷ (own ++ gs)) f.0) ∙ past_untagged k d own gs f.1
 
-here_same : (g : Glyph) (own more : List Glyph) → (in_class (class.Only 60) g && is_open_tag own) ≡ false → tag_at (g ∷ (own ++ more)) ≡ tag_at (g ∷ own)
+pub here_same : (g : Glyph) (own more : List Glyph) → (in_class (class.Only 60) g && is_open_tag own) ≡ false → tag_at (g ∷ (own ++ more)) ≡ tag_at (g ∷ own)
 here_same g own more e = by (in_class (class.Only 60) g) refl e
   where
     by : (v : Bool) → in_class (class.Only 60) g ≡ v → (v && is_open_tag own) ≡ false → tag_at (g ∷ (own ++ more)) ≡ tag_at (g ∷ own)

@@ -16,6 +16,7 @@ use Rattle.wt_tiles.specs.declared.tag.Tag.{Tag}
 use Rattle.wt_tiles.specs.Contexts.{in_line}
 use Rattle.wt_tiles.specs.Glyphs.{first_is}
 use Rattle.wt_tiles.specs.Partners.{number, partner}
+use Rattle.wt_tiles.specs.Reading.{tile_at}
 use Rattle.wt_tiles.specs.Tags.{tag_at}
 use Rattle.wt_tiles.specs.Tiles.{size, len_of, pair_or_island, shape_of_tag, form_at}
 use Rattle.wt_tiles.proofs.TagInsides.{no_tag}
@@ -102,6 +103,14 @@ tag_form : (a : Bool) (g : Glyph) (gs : List Glyph) (t : Tag) → g ≡ glyph.By
 tag_form a g gs t i e =
     subst (λ (x : Glyph). tag_at (x ∷ gs) ≡ Some t → form_at in_line a (x ∷ gs) ≡ Some (shape_of_tag 0 t.name t.shape t.len (x ∷ gs))) (sym i)
     (λ f. by_less a gs t f) e
+
+-- where no form begins
+pub untiled : (a : Bool) (b : ℕ) (gs : List Glyph) → tile_at in_line a (glyph.Byte b ∷ gs) ≡ None → tag_at (glyph.Byte b ∷ gs) ≡ None
+untiled a b gs none = by (tag_at (glyph.Byte b ∷ gs)) refl
+  where
+    by : (o : Option Tag) → tag_at (glyph.Byte b ∷ gs) ≡ o → tag_at (glyph.Byte b ∷ gs) ≡ None
+    by None e = e
+    by (Some t) e = absurd (let form = sym (tag_form a (glyph.Byte b) gs t (less_first b gs t e) e) ∙ none in cc)
 
 open_so : (a : Bool) (b : ℕ) (gs behind : List Glyph) (w : Shape) (o : Option Tag) → tag_at (glyph.Byte b ∷ gs) ≡ o
     → form_at in_line a (glyph.Byte b ∷ (gs ++ behind)) ≡ Some w → size w ≡ length (glyph.Byte b ∷ gs) → IsOpenBy o (length (glyph.Byte b ∷ gs)) behind

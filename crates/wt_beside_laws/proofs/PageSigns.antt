@@ -13,7 +13,7 @@ use Rattle.wt_names.proofs.Ascii.{IsWide, encode_wide, encode_some}
 use Rattle.wt_span.specs.declared.form.ItemForm.{ItemForm}
 use Rattle.wt_span.specs.declared.form.ItemForm.TheVariants as form
 use Rattle.wt_span.specs.Items.{Item, char, whole, source, sources}
-use Rattle.wt_guards.specs.Content.{ContentSign, Thing, letter, letters}
+use Rattle.wt_guards.specs.Content.{ContentSign, Thing, letter, thing, letters}
 use Rattle.wt_guards.specs.Guards.{Setting}
 use Rattle.wt_tiles.specs.declared.glyph.Glyph.{Glyph}
 use Rattle.wt_tiles.specs.declared.glyph.Glyph.TheVariants as glyph
@@ -24,12 +24,16 @@ use Rattle.wt_tiles.specs.Contexts.{in_line}
 use Rattle.wt_tiles.specs.Glyphs.{glyph_of, is_in, byte_glyphs}
 use Rattle.wt_tiles.specs.Reading.{tile_at, is_word_at, word_before, StandsBy, AreTiles}
 use Rattle.wt_tiles.specs.Tiles.{size, shapes, parts, tiles}
+use Rattle.wt_tiles.specs.Tags.{tag_at}
 use Rattle.wt_tiles.specs.Urls.{is_word}
 use Rattle.wt_tiles.proofs.Readings.{shapes_are}
+use Rattle.wt_tiles.proofs.TagInsides.{no_tag}
 use Rattle.wt_beside_laws.specs.Cuts.{own_glyphs, ends_word, form_before}
+use Rattle.wt_beside_laws.specs.InHeadings.{AreOnOneLine}
 use Rattle.wt_beside_laws.specs.Nodes.{AreNodes, AllStayOpen, AllMeet}
 use Rattle.wt_beside_laws.specs.PageSigns.{ends_break, atom_role, tile_role, form_sign, tile_signs, signs_of_tiles, line_signs, signs_of_lines, IsFlatForm, IsFlatTile, AreFlatTiles, HasNoBreak, AreFlatLines}
 use Rattle.wt_beside_laws.specs.Stood.{IsTileOf, IsRead, line_glyphs, AreStood, AreAt, things}
+use Rattle.wt_beside_laws.proofs.OpenTags.{untiled}
 use Rattle.wt_beside_laws.proofs.PageNodes.{nodes_stay, nodes_meet}
 
 -- ---- letters
@@ -105,18 +109,56 @@ letters_glyphs (c ∷ cs) rest h =
     ∙ sym (append_assoc (byte_glyphs (encode_utf8 c)) (byte_glyphs (encodes cs)) (line_glyphs rest))
     ∙ ap (λ (gs : List Glyph). gs ++ line_glyphs rest) (sym (bytes_append (encode_utf8 c) (encodes cs)))
 
+-- ---- no character begins a tag
+
+abbrev pub AreUntagged : List ContentSign → Type 0
+AreUntagged [] = Unit {0}
+AreUntagged (letter c ∷ after) = (tag_at (glyph.Byte c ∷ line_glyphs after) ≡ None) × AreUntagged after
+AreUntagged (thing t ∷ after) = AreUntagged after
+
+-- so at each of these items
+abbrev NoneTagged : List Glyph → List Glyph → Type 0
+NoneTagged [] behind = Unit {0}
+NoneTagged (g ∷ gs) behind = (tag_at (g ∷ (gs ++ behind)) ≡ None) × NoneTagged gs behind
+
+tagged_later : (xs ys behind : List Glyph) → NoneTagged (xs ++ ys) behind → NoneTagged ys behind
+tagged_later [] ys behind h = h
+tagged_later (x ∷ xs) ys behind h = tagged_later xs ys behind h.1
+
+wide_untagged : (c : ℕ) (gs : List Glyph) → 128 ≤ c → tag_at (glyph.Byte c ∷ gs) ≡ None
+wide_untagged c gs le = no_tag (glyph.Byte c ∷ gs) (let z : (c == 60) ≡ false = grind (arith, nat_tests, le) in z)
+
+letters_untagged : (cs : List ℕ) (rest : List ContentSign) → NoBreaks (encodes cs) → NoneTagged (byte_glyphs (encodes cs)) (line_glyphs rest) → AreUntagged rest
+    → AreUntagged (map letter cs ++ rest)
+letters_untagged [] rest n h u = u
+letters_untagged (c ∷ cs) rest n h u =
+    let r = none_parts (encode_utf8 c) (encodes cs) n in
+    let gs : List Glyph = byte_glyphs (encodes cs) in
+    let both : NoneTagged (byte_glyphs (encode_utf8 c) ++ gs) (line_glyphs rest) =
+    subst (λ (hs : List Glyph). NoneTagged hs (line_glyphs rest)) (bytes_append (encode_utf8 c) (encodes cs)) h in
+    let first : tag_at (glyph.Byte c ∷ (gs ++ line_glyphs rest)) ≡ None = elim (cases_lt c 128) [
+      | inl small ↦ (let own : NoneTagged (glyph.Byte c ∷ gs) (line_glyphs rest) =
+          subst (λ (bs : List ℕ). NoneTagged (byte_glyphs bs ++ gs) (line_glyphs rest)) (encode_ascii c small) both in own.0)
+      | inr wide ↦ wide_untagged c (gs ++ line_glyphs rest) wide
+    ] in (
+      subst (λ (hs : List Glyph). tag_at (glyph.Byte c ∷ hs) ≡ None) (sym (letters_glyphs cs rest r.1)) first,
+      letters_untagged cs rest r.1 (tagged_later (byte_glyphs (encode_utf8 c)) gs (line_glyphs rest) both) u,
+    )
+
 -- ---- what is shown of the signs of some items
 
 record Read (a : Bool) (at : ℕ) (xs : List Item) (signs : List ContentSign) : Type 0 where
   stood : AreStood a signs
   places : AreAt at signs
   glyphs : line_glyphs signs ≡ map glyph_of xs
+  untagged : AreUntagged signs
 
 -- what comes after a line
 pub record EndsLine (at : ℕ) (signs : List ContentSign) : Type 0 where
   pub stood : (a : Bool) → AreStood a signs
   pub places : AreAt at signs
   pub none : line_glyphs signs ≡ []
+  pub untagged : AreUntagged signs
 
 sources_append : (xs ys : List Item) → sources (xs ++ ys) ≡ sources xs ++ sources ys
 sources_append xs ys = flat_map-append source xs ys
@@ -162,6 +204,25 @@ are_chars (suc n) a (char o b ∷ xs) f = are_chars n (is_word b) xs (λ k lt. l
     later (suc k) lt = f (suc (suc k)) (omega (arith, lt))
 are_chars (suc n) a (whole g o bs ∷ xs) f = absurd (no_form a g o bs (map glyph_of xs) (f 0 (omega arith)))
 
+both_glyphs : (n : ℕ) (xs : List Item) → map glyph_of xs ≡ map glyph_of (take n xs) ++ map glyph_of (drop n xs)
+both_glyphs n xs = sym (ap (λ (us : List Item). map glyph_of us) (take-append-drop n xs)) ∙ map-append glyph_of (take n xs) (drop n xs)
+
+-- nor a tag
+none_tagged : (n : ℕ) (a : Bool) (xs : List Item)
+    → ((k : ℕ) → k < n → tile_at in_line (word_before a (map glyph_of xs) k) (drop k (map glyph_of xs)) ≡ None)
+    → NoneTagged (map glyph_of (take n xs)) (map glyph_of (drop n xs))
+none_tagged zero a xs f = tt
+none_tagged (suc n) a [] f = tt
+none_tagged (suc n) a (char o b ∷ xs) f = (
+  subst (λ (gs : List Glyph). tag_at (glyph.Byte b ∷ gs) ≡ None) (both_glyphs n xs) (untiled a b (map glyph_of xs) (f 0 (omega arith))),
+  none_tagged n (is_word b) xs (λ k lt. later k lt),
+)
+  where
+    later : (k : ℕ) → k < n → tile_at in_line (word_before (is_word b) (map glyph_of xs) k) (drop k (map glyph_of xs)) ≡ None
+    later zero lt = f 1 (omega (arith, lt))
+    later (suc k) lt = f (suc (suc k)) (omega (arith, lt))
+none_tagged (suc n) a (whole g o bs ∷ xs) f = absurd (no_form a g o bs (map glyph_of xs) (f 0 (omega arith)))
+
 -- ---- cuts
 
 map_take : (n : ℕ) (xs : List Item) → map glyph_of (take n xs) ≡ take n (map glyph_of xs)
@@ -199,20 +260,24 @@ flag_at (suc n) a xs some le =
 -- ---- a tile before the rest of its line
 
 chars_read : (a : Bool) (at : ℕ) (ys zs : List Item) (more : List ContentSign) → AreChars ys → HasNoBreak ys → IsUtf8 (sources ys)
-    → Read (ends_word a (map glyph_of ys)) (at + length (sources ys)) zs more → Read a at (ys ++ zs) (letters (sources ys) ++ more)
-chars_read a at ys zs more c n u r =
+    → NoneTagged (map glyph_of ys) (map glyph_of zs) → Read (ends_word a (map glyph_of ys)) (at + length (sources ys)) zs more → Read a at (ys ++ zs) (letters (sources ys) ++ more)
+chars_read a at ys zs more c n u tags r =
     let cs : List ℕ = chars (sources ys) in
     let own : encodes cs ≡ sources ys = encodes-chars (sources ys) u in
     let glyphs : map glyph_of ys ≡ byte_glyphs (encodes cs) = chars_glyphs ys c ∙ ap byte_glyphs (sym own) in
     let flag : ends_word a (map glyph_of ys) ≡ flag_after a cs = ap (ends_word a) glyphs ∙ flag_is a cs in
+    let unbroken : NoBreaks (encodes cs) = subst NoBreaks (sym own) (chars_none ys c n) in
+    let own_tags : NoneTagged (byte_glyphs (encodes cs)) (line_glyphs more) =
+    subst (λ (hs : List Glyph). NoneTagged (byte_glyphs (encodes cs)) hs) (sym r.glyphs) (subst (λ (hs : List Glyph). NoneTagged hs (map glyph_of zs)) glyphs tags) in
     record {
       stood = letters_stood a cs more (subst (λ (v : Bool). AreStood v more) flag r.stood);
       places = letters_at at cs more (subst (λ (bs : List ℕ). AreAt (at + length bs) more) (sym own) r.places);
       glyphs =
-          letters_glyphs cs more (subst NoBreaks (sym own) (chars_none ys c n))
+          letters_glyphs cs more unbroken
           ∙ ap (λ (gs : List Glyph). gs ++ line_glyphs more) (sym glyphs)
           ∙ ap (λ (gs : List Glyph). map glyph_of ys ++ gs) r.glyphs
           ∙ sym (map-append glyph_of ys zs);
+      untagged = letters_untagged cs more unbroken own_tags r.untagged;
     }
 
 atom_tile : (xs : List Item) → IsTileOf (atom_role xs) kind.Atom
@@ -284,6 +349,7 @@ form_read a began at w k ys zs more kind_is flat f fits some e r =
           ap (λ (gs : List Glyph). gs ++ line_glyphs more) own
           ∙ ap (λ (gs : List Glyph). map glyph_of ys ++ gs) r.glyphs
           ∙ sym (map-append glyph_of ys zs);
+      untagged = r.untagged;
     }
 
 form_tile : (k : TileKind) (a began : Bool) (at : ℕ) (w : Shape) (xs : List Item) (more : List ContentSign) → w.kind ≡ k → IsFlatKind k → IsFlatForm (take (size w) xs)
@@ -312,7 +378,7 @@ by_kind kind.Switch a began at w xs more e f s some le n r = form_tile kind.Swit
 by_kind kind.Atom a began at w xs more e f s some le n r = form_tile kind.Atom a began at w xs more e tt f s some le r
 by_kind kind.Mark a began at w xs more e f s some le n r = form_tile kind.Mark a began at w xs more e tt f s some le r
 by_kind kind.Chars a began at w xs more e f s some le n r =
-    chars_read a at (take (size w) xs) (drop (size w) xs) more (are_chars (size w) a xs s.1) (none_take (size w) xs n) f r
+    chars_read a at (take (size w) xs) (drop (size w) xs) more (are_chars (size w) a xs s.1) (none_take (size w) xs n) f (none_tagged (size w) a xs s.1) r
 
 -- ---- a line, and lines
 
@@ -320,7 +386,7 @@ by_kind kind.Chars a began at w xs more e f s some le n r =
 no_tiles : (a : Bool) (at : ℕ) (xs : List Item) (tail : List ContentSign) → map glyph_of xs ≡ [] → EndsLine (at + length (sources xs)) tail → Read a at xs tail
 no_tiles a at [] tail e end =
     let z : at + 0 ≡ at = omega arith in
-    record { stood = end.stood a; places = subst (λ (n : ℕ). AreAt n tail) z end.places; glyphs = end.none }
+    record { stood = end.stood a; places = subst (λ (n : ℕ). AreAt n tail) z end.places; glyphs = end.none; untagged = end.untagged }
 no_tiles a at (x ∷ xs) tail e end = cc
 
 tiles_read : (ws : List Shape) (a began : Bool) (at : ℕ) (xs : List Item) (tail : List ContentSign) → AreTiles in_line a ws (map glyph_of xs) → AreFlatTiles (parts ws xs)
@@ -355,32 +421,81 @@ line_read true at xs tail e f n end = cc
 line_read false at xs tail e f n end = tiles_read (shapes in_line (map glyph_of xs)) false true at xs tail (shapes_are in_line (map glyph_of xs)) f n end
 
 none_left : (at : ℕ) → EndsLine at []
-none_left at = record { stood = λ a. tt; places = tt; none = refl }
+none_left at = record { stood = λ a. tt; places = tt; none = refl; untagged = tt }
 
 record LinesRead (at : ℕ) (ls : List (List Item)) : Type 0 where
   stood : AreStood false (signs_of_lines at ls)
   places : AreAt at (signs_of_lines at ls)
+  untagged : AreUntagged (signs_of_lines at ls)
 
 next_line : (at : ℕ) (ls : List (List Item)) → LinesRead (at + 1) ls → EndsLine at (letter 10 ∷ signs_of_lines (at + 1) ls)
 next_line at ls r =
     let one : length (encode_utf8 10) ≡ 1 = ap length (encode_ascii 10 (omega arith)) in
     let z : at + 1 ≡ at + length (encode_utf8 10) = omega (arith, one) in
-    record { stood = λ a. r.stood; places = subst (λ (n : ℕ). AreAt n (signs_of_lines (at + 1) ls)) z r.places; none = refl }
+    record { stood = λ a. r.stood; places = subst (λ (n : ℕ). AreAt n (signs_of_lines (at + 1) ls)) z r.places; none = refl; untagged = (no_tag (glyph.Byte 10 ∷ line_glyphs (signs_of_lines (at + 1) ls)) refl, r.untagged) }
 
 lines_read : (at : ℕ) (ls : List (List Item)) → AreFlatLines ls → LinesRead at ls
-lines_read at [] h = record { stood = tt; places = tt }
+lines_read at [] h = record { stood = tt; places = tt; untagged = tt }
 lines_read at (xs ∷ []) h =
     let r : Read false at xs (line_signs at xs ++ []) = line_read false at xs [] refl h.1 h.0 (none_left (at + length (sources xs))) in
     let s : Read false at xs (line_signs at xs) = subst (λ us. Read false at xs us) (append-nil (line_signs at xs)) r in
-    record { stood = s.stood; places = s.places }
+    record { stood = s.stood; places = s.places; untagged = s.untagged }
 lines_read at (xs ∷ ys ∷ ls) h =
     let more : LinesRead (at + length (sources xs) + 1) (ys ∷ ls) = lines_read (at + length (sources xs) + 1) (ys ∷ ls) h.2 in
     let r : Read false at xs (line_signs at xs ++ (letter 10 ∷ signs_of_lines (at + length (sources xs) + 1) (ys ∷ ls))) =
     line_read false at xs (letter 10 ∷ signs_of_lines (at + length (sources xs) + 1) (ys ∷ ls)) refl h.1 h.0 (next_line (at + length (sources xs)) (ys ∷ ls) more) in
-    record { stood = r.stood; places = r.places }
+    record { stood = r.stood; places = r.places; untagged = r.untagged }
 
 pub lines_stood : (at : ℕ) (ls : List (List Item)) → AreFlatLines ls → AreStood false (signs_of_lines at ls)
 lines_stood at ls h = (lines_read at ls h).stood
+
+-- ---- no character of a line ends it
+
+letters_one_line : (cs : List ℕ) → NoBreaks (encodes cs) → AreOnOneLine (map letter cs)
+letters_one_line [] h = tt
+letters_one_line (c ∷ cs) h = let r = none_parts (encode_utf8 c) (encodes cs) h in (char_none c r.0, letters_one_line cs r.1)
+
+both_one_line : (xs ys : List ContentSign) → AreOnOneLine xs → AreOnOneLine ys → AreOnOneLine (xs ++ ys)
+both_one_line [] ys h k = k
+both_one_line (letter c ∷ xs) ys h k = (h.0, both_one_line xs ys h.1 k)
+both_one_line (thing t ∷ xs) ys h k = both_one_line xs ys h k
+
+kind_one_line : (k : TileKind) (a began : Bool) (at : ℕ) (w : Shape) (xs : List Item) → IsFlatTile k (take (size w) xs) → StandsBy k in_line a w (map glyph_of xs)
+    → HasNoBreak xs → AreOnOneLine (tile_signs k began at (take (size w) xs))
+kind_one_line kind.Link a began at w xs f s n = tt
+kind_one_line kind.Category a began at w xs f s n = tt
+kind_one_line kind.Media a began at w xs f s n = tt
+kind_one_line kind.ExtLink a began at w xs f s n = tt
+kind_one_line kind.BareUrl a began at w xs f s n = tt
+kind_one_line kind.Br a began at w xs f s n = tt
+kind_one_line kind.Pair a began at w xs f s n = tt
+kind_one_line kind.TagIsland a began at w xs f s n = tt
+kind_one_line kind.Switch a began at w xs f s n = tt
+kind_one_line kind.Atom a began at w xs f s n = tt
+kind_one_line kind.Mark a began at w xs f s n = tt
+kind_one_line kind.Chars a began at w xs f s n =
+    let ys : List Item = take (size w) xs in
+    letters_one_line (chars (sources ys))
+    (subst NoBreaks (sym (encodes-chars (sources ys) f)) (chars_none ys (are_chars (size w) a xs s.1) (none_take (size w) xs n)))
+
+tiles_one_line : (ws : List Shape) (a began : Bool) (at : ℕ) (xs : List Item) → AreTiles in_line a ws (map glyph_of xs) → AreFlatTiles (parts ws xs)
+    → HasNoBreak xs → AreOnOneLine (signs_of_tiles began at (parts ws xs))
+tiles_one_line [] a began at xs t f n = tt
+tiles_one_line (w ∷ ws) a began at xs t f n =
+    let m : ℕ = size w in
+    let ys : List Item = take m xs in
+    let zs : List Item = drop m xs in
+    both_one_line (tile_signs w.kind began at ys) (signs_of_tiles (ends_break (sources ys)) (at + length (sources ys)) (parts ws zs))
+    (kind_one_line w.kind a began at w xs f.0 t.2 n)
+    (tiles_one_line ws (is_word_at (map glyph_of xs) (m - 1)) (ends_break (sources ys)) (at + length (sources ys)) zs
+    (subst (λ gs. AreTiles in_line (is_word_at (map glyph_of xs) (m - 1)) ws gs) (sym (map_drop m xs)) t.4) f.1 (none_drop m xs n))
+
+pub line_on_one : (at : ℕ) (xs : List Item) → HasNoBreak xs → AreFlatTiles (tiles in_line xs) → AreOnOneLine (line_signs at xs)
+unfolding tiles
+line_on_one at xs n f = tiles_one_line (shapes in_line (map glyph_of xs)) false true at xs (shapes_are in_line (map glyph_of xs)) f n
+
+pub lines_untagged : (at : ℕ) (ls : List (List Item)) → AreFlatLines ls → AreUntagged (signs_of_lines at ls)
+lines_untagged at ls h = (lines_read at ls h).untagged
 
 pub lines_at : (at : ℕ) (ls : List (List Item)) → AreFlatLines ls → AreAt at (signs_of_lines at ls)
 lines_at at ls h = (lines_read at ls h).places

@@ -34,6 +34,7 @@ pub mod OwnLed
 pub mod LedLines
 pub mod OwnFirst
 pub mod OwnNests
+pub mod OwnSpine
 pub mod SentNests
 pub mod SentKept
 pub mod UrlEnds

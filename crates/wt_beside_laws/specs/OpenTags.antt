@@ -1,5 +1,5 @@
 -- Tags that open a pair and are closed by nothing on their line, by the nodes that are there: whatever texts are typed between them.
-use Rattle.std.specs.Prelude.{◌≡◌, ℕ, zero, suc, ◌==◌, ◌&&◌, ◌||◌, Bool, true, false, not, Option, Some, None, List, [], ◌∷◌, length, if◌then◌else◌}
+use Rattle.std.specs.Prelude.{◌≡◌, ◌⊎◌, ℕ, zero, suc, ◌==◌, ◌&&◌, ◌||◌, Bool, true, false, not, Option, Some, None, List, [], ◌∷◌, length, if◌then◌else◌}
 use Rattle.wt_span.specs.Characters as byte
 use Rattle.wt_guards.specs.Content.{ContentSign, Thing, letter, thing}
 use Rattle.wt_tiles.specs.declared.glyph.Glyph.{Glyph}
@@ -13,6 +13,7 @@ use Rattle.wt_tiles.specs.Glyphs.{in_class}
 use Rattle.wt_tiles.specs.Partners.{DepthChange, Up, Down, Level, number, tag_turn}
 use Rattle.wt_tiles.specs.Tags.{tag_at}
 use Rattle.wt_beside_laws.specs.Cuts.{own_glyphs}
+use Rattle.wt_beside_laws.specs.Nodes.{OpensNoPair}
 
 -- ---- a node
 
@@ -84,3 +85,19 @@ abbrev pub StayOnLines : List (Option Thing) → Type 0
 StayOnLines [] = Unit {0}
 StayOnLines (None ∷ more) = StayOnLines more
 StayOnLines (Some t ∷ more) = StaysOn (tag_at (own_glyphs t)) (length (own_glyphs t)) more × StayOnLines more
+
+-- None up to the end of the line ends in a tag that isn't ended.
+abbrev pub EndOnLine : List (Option Thing) → Type 0
+EndOnLine [] = Unit {0}
+EndOnLine (None ∷ more) = Unit {0}
+EndOnLine (Some t ∷ more) = (ends_in_tag (own_glyphs t) ≡ false) × EndOnLine more
+
+-- so behind each that is a tag which opens a pair
+abbrev pub EndBehind : List (Option Thing) → Type 0
+EndBehind [] = Unit {0}
+EndBehind (None ∷ more) = EndBehind more
+EndBehind (Some t ∷ more) = (OpensNoPair (own_glyphs t) ⊎ EndOnLine more) × EndBehind more
+
+-- Behind a tag that opens a pair and is a node by itself, as nothing on its line closes it, no node on this line ends in a tag that isn't ended.
+abbrev pub EndTags : List ContentSign → Type 0
+EndTags signs = EndBehind (spine signs)

@@ -32,3 +32,4 @@ pub mod Complete
 pub mod AllAlone
 pub mod CallingStarts
 pub mod OnLines
+pub mod CalmPages

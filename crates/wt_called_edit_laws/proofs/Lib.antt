@@ -30,6 +30,7 @@ pub mod CallsTake
 pub mod TextsTaken
 pub mod BareInsides
 mod SettledCases
+mod LocalCases
 pub mod SettledNodes
 pub mod Settles
 pub mod SettledPages

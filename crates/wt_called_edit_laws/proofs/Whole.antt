@@ -10,4 +10,5 @@ pub mod GroupsAlone
 pub mod Contents
 pub mod Pieced
 pub mod TextAndCalls
+pub mod Uncalled
 pub mod Cases

@@ -41,6 +41,7 @@ pub mod InPieces
 pub mod PageThings
 pub mod PiecedParagraphs
 pub mod WholeContents
+pub mod Uncalled
 pub mod Written
 pub mod WrittenAnew
 pub mod SentAsIs

@@ -1,13 +1,19 @@
 //! Laws of pages of which blocks that hold calls may be edited beside these calls.
 
 ghost use Rattle.std.specs.Prelude.{◌≡◌, ℕ, Option, None, List};
+ghost use Rattle.wt_span.specs.Origins.{OuterCall};
+ghost use Rattle.wt_annotated.specs.CutTexts.{cut_texts};
 ghost use Rattle.wt_checks.specs.Kept.{children};
 ghost use Rattle.wt_expand.specs.Expansion.{page_work};
 ghost use Rattle.wt_expand.specs.PageCalls.{expanded_page};
 ghost use Rattle.wt_expand.specs.Work.{Pages, first_refusal};
+ghost use Rattle.wt_part_laws.specs.Expanded.{part_items};
+ghost use Rattle.wt_part_laws.specs.HeldCalls.{block_in};
 ghost use Rattle.wt_typed_blocks.specs.Edited.{Edited, Edits, page_nodes};
 ghost use Rattle.wt_typed_blocks.specs.EditedPage.{LieAt, AreApart};
 ghost use Rattle.wt_text_edit_laws.specs.BlockSpots.{BlockSpot, spots_source};
+ghost use Rattle.wt_text_edit_laws.specs.TextBlocks.{a_paragraph};
+ghost use Rattle.wt_called_edit_laws.specs.CalledContents.{tree_round};
 ghost use Rattle.wt_called_edit_laws.specs.CalledTexts.{spots_tree};
 ghost use Rattle.wt_called_edit_laws.specs.CallingBlocks.{AreEdited};
 ghost use Rattle.wt_called_edit_laws.specs.CallingContents.{TakesContentsIn};
@@ -17,9 +23,11 @@ ghost use Rattle.wt_called_edit_laws.specs.Covered.{IsEditablePage};
 ghost use Rattle.wt_called_edit_laws.specs.EditableBlocks.{IsEditableWithCalls};
 ghost use Rattle.wt_called_edit_laws.specs.FreeBlocks.{NoTextCalls};
 ghost use Rattle.wt_called_edit_laws.specs.Sends.{AllSend};
+ghost use Rattle.wt_called_edit_laws.specs.Settled.{settled};
+ghost use Rattle.wt_called_edit_laws.specs.Uncalled.{SomeNoGroup};
 ghost use Rattle.wt_called_edit_laws.specs.Untangled.{AreUntangledFrom, AreWhole};
-ghost use Rattle.wt_called_edit_laws.specs.WholeContents.{EachWhole};
-ghost use Rattle.wt_called_edit_laws.specs.WrittenAnew.{EachHolds};
+ghost use Rattle.wt_called_edit_laws.specs.WholeContents.{EachWhole, IsWholeIn};
+ghost use Rattle.wt_called_edit_laws.specs.WrittenAnew.{EachHolds, HoldsAnywhere};
 
 /// With other contents beside the calls of its blocks (`AreEdited`), each of which holds its calls, takes letters before them and can be read by
 /// itself (`IsWholeIn`), such a page is one again: it is expanded, and its nodes stay.
@@ -84,4 +92,11 @@ pub fn contents_beside_calls_are_taken()
 pub fn pages_whose_blocks_call_are_told_by_bytes()
     ensures calling { (pages : Pages) (ss : List BlockSpot) (behind : List ℕ) → IsEditableWithCalls pages ss behind → IsCallingPage pages ss behind }
     ensures calm { (pages : Pages) (ss : List BlockSpot) (behind : List ℕ) → IsEditablePage pages ss behind → IsEditableWithCalls pages ss behind }
+{}
+
+/// A paragraph that holds its calls, and can be read by itself, has a node that is no group, whatever the calls give: something in it is the page's own.
+#[tactic(auto)]
+pub fn paragraphs_have_nodes_beside_calls()
+    ensures { (pages : Pages) (calls : List OuterCall) (n s i : ℕ) (q : List ℕ) → HoldsAnywhere pages a_paragraph q → IsWholeIn pages a_paragraph q
+        → SomeNoGroup (children (settled n s (cut_texts (block_in calls (tree_round a_paragraph (part_items pages i q)))))) }
 {}

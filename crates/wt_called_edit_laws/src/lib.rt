@@ -89,6 +89,7 @@ pub use calling_pages::{
     blocks_with_calls_are_whole, contents_beside_calls_are_taken,
     edits_of_blocks_that_call_are_apart, edits_of_blocks_that_call_make_the_page,
     pages_whose_blocks_call_are_such_again, pages_whose_blocks_call_are_told_by_bytes,
+    paragraphs_have_nodes_beside_calls,
 };
 pub use in_pieces::{
     headings_in_pieces_may_be_edited, letters_may_be_typed_before_calls,

@@ -11,17 +11,19 @@ ghost use Rattle.wt_lines.specs.Lines.{content, full_lines};
 ghost use Rattle.wt_page.specs.Lines.{ending};
 ghost use Rattle.wt_tables.specs.Parts.{joined};
 ghost use Rattle.wt_commands.specs.Answers.{refusal_of_page};
+ghost use Rattle.wt_expand.specs.PageCalls.{expanded_page};
 ghost use Rattle.wt_expand.specs.PageItems.{page_items};
 ghost use Rattle.wt_expand.specs.Work.{Pages};
 ghost use Rattle.wt_selser.specs.Edits.{is_tangled};
 ghost use Rattle.wt_text_edit_laws.specs.BlockSpots.{BlockSpot};
+ghost use Rattle.wt_text_edit_laws.specs.NoCalls.{CallsNothing};
 ghost use Rattle.wt_text_edit_laws.specs.PageCuts.{AreBlockItems, EndsClosed};
 ghost use Rattle.wt_text_edit_laws.specs.TextBlocks.{TextBlock, a_heading, block_tree};
 ghost use Rattle.wt_text_edit_laws.specs.TypedHeadings.{Sides};
 ghost use Rattle.wt_beside_laws.specs.EndedNodes.{AreEndedNodes};
 ghost use Rattle.wt_beside_laws.specs.FlatBlocks.{signs_in};
 ghost use Rattle.wt_beside_laws.specs.StyledIn.{IsStyledIn};
-ghost use Rattle.wt_called_edit_laws.specs.AllTold.{AllBlocksTold};
+ghost use Rattle.wt_called_edit_laws.specs.AllTold.{AllBlocksTold, IsExcepted, IsExceptedAt};
 ghost use Rattle.wt_called_edit_laws.specs.CalledPages.{IsCalledPage};
 ghost use Rattle.wt_called_edit_laws.specs.CallingTold.{IsOnLines, IsExceptedByLines};
 ghost use Rattle.wt_called_edit_laws.specs.EditsAt.{IsStanding, AllStand};
@@ -30,7 +32,7 @@ ghost use Rattle.wt_called_edit_laws.specs.LinedAmong.{IsLinedAmong};
 ghost use Rattle.wt_called_edit_laws.specs.LinedHeadings.{sides_of, text_of, IsLinedHeading};
 ghost use Rattle.wt_called_edit_laws.specs.PlacedLines.{spots_by, end_by, IsLinedPage};
 ghost use Rattle.wt_called_edit_laws.specs.PlacedSpots.{IsShut, AreShut, AllUntangled};
-ghost use Rattle.wt_called_edit_laws.specs.RowBlocks.{IsTextBlock, IsReachedAt, StandsOnRows, StandsOnLines};
+ghost use Rattle.wt_called_edit_laws.specs.RowBlocks.{IsTextBlock, IsReachedAt, StandsIn, opened_len, StandsOnRows, StandsOnLines};
 ghost use Rattle.wt_called_edit_laws.specs.ToldAmong.{IsToldAmong};
 ghost use Rattle.wt_called_edit_laws.specs.ToldLines.{Told, lined, IsToldPage};
 ghost use Rattle.wt_called_edit_laws.specs.ToldTogether.{AreAllTold};
@@ -98,6 +100,13 @@ pub fn told_blocks_are_told_together()
 /// others of `IsExceptedIn`.
 pub fn each_block_is_told_or_excepted()
     ensures all { (pages : Pages) (page : List ℕ) → IsUtf8 page → refusal_of_page pages page ≡ None → AllBlocksTold pages page }
+{}
+
+/// On a page that calls nothing no block is excepted for a call, a function or braces: those that aren't told there are as
+/// `IsExceptedAt` names them.
+pub fn calls_except_no_block_where_there_are_none()
+    ensures calm { (pages : Pages) (page : List ℕ) (t : Tree) → CallsNothing (page_items page) → IsExcepted pages page t
+        → (s : StandsIn pages page t) × IsExceptedAt (full_lines (expanded_page pages page).items) (opened_len s.before) }
 {}
 
 /// Each paragraph and each heading of a page's tree that is outside of groups and has a byte, with calls in it or without, is on

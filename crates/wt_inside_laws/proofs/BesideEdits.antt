@@ -6,6 +6,7 @@ use Rattle.wt_span.specs.declared.limits.TheConstants.{PAGE_BYTES}
 use Rattle.wt_span.specs.Items.{Item}
 use Rattle.wt_span.specs.Origins.{OuterCall}
 use Rattle.wt_tree.specs.Source.{flat}
+use Rattle.wt_tree.specs.Tiling.{is_group}
 use Rattle.wt_tree.specs.Tree.{Label, Tree, label}
 use Rattle.wt_checks.specs.Places.{page_of}
 use Rattle.wt_annotated.specs.CutTexts.{cut_texts}
@@ -38,13 +39,17 @@ use Rattle.wt_called_edit_laws.specs.PartTexts.{HaveOwnSources}
 use Rattle.wt_called_edit_laws.specs.PlacedLines.{LinedBlock}
 use Rattle.wt_called_edit_laws.specs.SentAsIs.{HaveNumberedGroups}
 use Rattle.wt_called_edit_laws.specs.SettledAt.{IsSettledAt}
+use Rattle.wt_called_edit_laws.specs.WholeContents.{EachWhole, IsWholeIn}
+use Rattle.wt_called_edit_laws.specs.WrittenAnew.{EachHolds, HoldsAnywhere}
 use Rattle.wt_called_edit_laws.proofs.Among.CallingLines.{calling_whole, calling_editable}
 use Rattle.wt_called_edit_laws.proofs.CallingMade.{calm_block, calm_standing}
 use Rattle.wt_called_edit_laws.proofs.EditableBlocks.{editable_calling}
+use Rattle.wt_called_edit_laws.proofs.PageBody.{page_body}
 use Rattle.wt_called_edit_laws.proofs.SettledEdits.{AreOfBlocks, all_there}
 use Rattle.wt_called_edit_laws.proofs.SpotSources.{grouped_at, blocks_have}
 use Rattle.wt_inside_laws.specs.AsSent.{edit_for, edits_of, paths_of, node_at, IsAlike, IsSentOn}
-use Rattle.wt_inside_laws.specs.BesideEdits.{IsBlockOf, IsCalmBlock, IsCallingBlock, IsBesideBlock, IsBesideEdit, IsBesideHtml}
+use Rattle.wt_inside_laws.specs.BesideEdits.{IsBlockOf, IsCalmBlock, IsBesideBlock, IsBesideEdit, IsBesideHtml}
+use Rattle.wt_inside_laws.specs.RetypedCalls.{AreOwnTexts, IsBeside}
 use Rattle.wt_inside_laws.specs.RetypedPieces.{AreRead}
 use Rattle.wt_inside_laws.specs.TextEdits.{IsRetyped}
 use Rattle.wt_inside_laws.specs.ToldEdits.{IsReadBlock}
@@ -54,7 +59,9 @@ use Rattle.wt_inside_laws.proofs.MarkedBlocks.{all_alike, all_numbered}
 use Rattle.wt_inside_laws.proofs.MatchedPairs.{same_old}
 use Rattle.wt_inside_laws.proofs.PageAlike.{page_plain, text_edit_sent}
 use Rattle.wt_inside_laws.proofs.ReadSent.{read_for, read_blocks}
+use Rattle.wt_inside_laws.proofs.Reached.{Reaches, edits_reach}
 use Rattle.wt_inside_laws.proofs.ToldEdits.{PairAt, pair_at, path_by, calm_fits, reads}
+use Rattle.wt_inside_laws.proofs.UncalledBlocks.{block_uncalled, all_own_texts}
 
 -- ---- a marked block
 
@@ -65,18 +72,20 @@ record IsKnownBeside (pages : Pages) (page : List ℕ) (p : Pair) : Type 0 where
   read : IsReadBlock p
   beside : IsBesideBlock pages page p
   groups : HaveNumberedGroups (children_of p.old)
+  own : AreOwnTexts (children_of p.old)
 
 known : (pages : Pages) (page : List ℕ) (ps : List Pair) → AllByRecursion (IsRetyped same_node (expanded_page pages page) page) ps
     → AllByRecursion (IsAlike same_node (page_of (page_tree pages page))) ps → AllByRecursion IsReadBlock ps → AllByRecursion (IsBesideBlock pages page) ps
-    → AllByRecursion (λ p. HaveNumberedGroups (children_of p.old)) ps → AllByRecursion (IsKnownBeside pages page) ps
-known pages page [] a b c d e = tt
-known pages page (p ∷ ps) a b c d e =
-    (record { retyped = a.0; alike = b.0; read = c.0; beside = d.0; groups = e.0 }, known pages page ps a.1 b.1 c.1 d.1 e.1)
+    → AllByRecursion (λ p. HaveNumberedGroups (children_of p.old)) ps → AllByRecursion (λ p. AreOwnTexts (children_of p.old)) ps
+    → AllByRecursion (IsKnownBeside pages page) ps
+known pages page [] a b c d e f = tt
+known pages page (p ∷ ps) a b c d e f =
+    (record { retyped = a.0; alike = b.0; read = c.0; beside = d.0; groups = e.0; own = f.0 }, known pages page ps a.1 b.1 c.1 d.1 e.1 f.1)
 
 -- what is sent for it fits, where it is the page's block
-calling_fits : (pages : Pages) (page : List ℕ) (k : TextBlock) (q : List ℕ) (p : Pair) → IsBlockOf pages page k q p.old → IsCallingBlock pages k q p.old
-    → IsKnownBeside pages page p → FitsIn pages k q (edit_for p)
-calling_fits pages page k q p b c h =
+calling_fits : (pages : Pages) (page : List ℕ) (k : TextBlock) (q : List ℕ) (p : Pair) → IsBlockOf pages page k q p.old → IsBeside pages k q p.old → HoldsAnywhere pages k q
+    → IsWholeIn pages k q → IsKnownBeside pages page p → FitsIn pages k q (edit_for p)
+calling_fits pages page k q p b c hold whole h =
     retyped_fits pages k q (expanded_page pages page) page p h.retyped h.read.read h.read.utf8
     (record {
       number = b.settled.number;
@@ -86,8 +95,8 @@ calling_fits pages page k q p b c h =
       some = b.settled.some;
       is = b.settled.is;
       groups = h.groups;
-      uncalled = c.uncalled;
-    }) c.beside
+      uncalled = block_uncalled pages page k q p.old b hold whole h.own;
+    }) c
 
 calm_fits_in : (pages : Pages) (page : List ℕ) (k : TextBlock) (q : List ℕ) (p : Pair) → IsBlockOf pages page k q p.old → IsCalmBlock k q p
     → IsKnownBeside pages page p → FitsIn pages k q (edit_for p)
@@ -98,11 +107,11 @@ calm_fits_in pages page k q p b c h =
     calm_standing k q v p.old c.content (calm_block pages calls b.before k q c.content c.calls_nothing) b.settled in
     inl (c.content, c.calls_nothing, calm_fits pages page k q p c.content c.calls_nothing stands h.retyped h.alike h.read c.nodes)
 
-block_fits : (pages : Pages) (page : List ℕ) (k : TextBlock) (q : List ℕ) (p : Pair) → IsBlockOf pages page k q p.old → IsKnownBeside pages page p
-    → FitsIn pages k q (edit_for p)
-block_fits pages page k q p b h = elim (h.beside k q b) [
+block_fits : (pages : Pages) (page : List ℕ) (k : TextBlock) (q : List ℕ) (p : Pair) → IsBlockOf pages page k q p.old → HoldsAnywhere pages k q
+    → IsWholeIn pages k q → IsKnownBeside pages page p → FitsIn pages k q (edit_for p)
+block_fits pages page k q p b hold whole h = elim (h.beside k q b) [
   | inl c ↦ calm_fits_in pages page k q p b c h
-  | inr c ↦ calling_fits pages page k q p b c h
+  | inr c ↦ calling_fits pages page k q p b c hold whole h
 ]
 
 -- ---- all of them
@@ -118,10 +127,10 @@ abbrev block_at : Pages → List ℕ → ℕ → BlockSpot → Tree
 block_at pages page i s = cut_texts (block_in (expanded_page pages page).outer (tree_round s.block (part_items pages i s.text)))
 
 spot_fits : (pages : Pages) (page : List ℕ) (t : Tree) (es : Edits) (ms : List Pair) (i : ℕ) (s : BlockSpot) (p : List ℕ) (o : Option Edited)
-    → edited_by es p ≡ o → SentKnown pages page t es ms → flat (block_at pages page i s) ≡ source_of s.block s.text
+    → edited_by es p ≡ o → SentKnown pages page t es ms → HoldsAnywhere pages s.block s.text → IsWholeIn pages s.block s.text → flat (block_at pages page i s) ≡ source_of s.block s.text
     → IfSent (λ d. IsSettledAt (block_at pages page i s) (page_node d)) o → IfSent (FitsIn pages s.block s.text) o
-spot_fits pages page t es ms i s p None e h own st = tt
-spot_fits pages page t es ms i s p (Some x) e h own st =
+spot_fits pages page t es ms i s p None e h hold whole own st = tt
+spot_fits pages page t es ms i s p (Some x) e h hold whole own st =
     let v : Tree = block_at pages page i s in
     let a : PairAt (IsKnownBeside pages page) t es p =
     pair_at (IsKnownBeside pages page) t es p (paths_of es) ms (path_by es p x e) h.pairs h.at h.each in
@@ -133,17 +142,17 @@ spot_fits pages page t es ms i s p (Some x) e h own st =
       source = own;
       settled = subst (IsSettledAt v) (same_old same_node (page_of (page_tree pages page)) a.pair a.known.alike) there;
     } in
-    subst (FitsIn pages s.block s.text) is (block_fits pages page s.block s.text a.pair block a.known)
+    subst (FitsIn pages s.block s.text) is (block_fits pages page s.block s.text a.pair block hold whole a.known)
 
 all_fit : (pages : Pages) (page : List ℕ) (t : Tree) (es : Edits) (ms : List Pair) (k : ℕ) (ss : List BlockSpot) (ps : List (List ℕ))
-    → SentKnown pages page t es ms → HaveOwnSources (grouped_at (expanded_page pages page).outer pages k ss) ss
+    → SentKnown pages page t es ms → EachHolds pages ss → EachWhole pages ss → HaveOwnSources (grouped_at (expanded_page pages page).outer pages k ss) ss
     → AreOfBlocks (grouped_at (expanded_page pages page).outer pages k ss) ss (map (edited_by es) ps) → AreFittingIn pages ss (map (edited_by es) ps)
-all_fit pages page t es ms k [] [] h own b = tt
-all_fit pages page t es ms k [] (p ∷ ps) h own b = absurd b
-all_fit pages page t es ms k (s ∷ ss) [] h own b = absurd b
-all_fit pages page t es ms k (s ∷ ss) (p ∷ ps) h own b = (
-  spot_fits pages page t es ms (calls_to pages k s) s p (edited_by es p) refl h own.0 b.0,
-  all_fit pages page t es ms (calls_past pages k s) ss ps h own.1 b.1,
+all_fit pages page t es ms k [] [] h hold whole own b = tt
+all_fit pages page t es ms k [] (p ∷ ps) h hold whole own b = absurd b
+all_fit pages page t es ms k (s ∷ ss) [] h hold whole own b = absurd b
+all_fit pages page t es ms k (s ∷ ss) (p ∷ ps) h hold whole own b = (
+  spot_fits pages page t es ms (calls_to pages k s) s p (edited_by es p) refl h hold.0 whole.0 own.0 b.0,
+  all_fit pages page t es ms (calls_past pages k s) ss ps h hold.1 whole.1 own.1 b.1,
 )
 
 -- ---- the edit
@@ -157,8 +166,8 @@ pub record BesideSent (pages : Pages) (ss : List BlockSpot) (behind : List ℕ) 
 
 pub beside_sent : (pages : Pages) (ss : List BlockSpot) (behind : List ℕ) (new : Tree) (c : TakesContentsIn pages ss behind) → IsUtf8 (spots_source ss behind)
     → refusal_of_page pages (spots_source ss behind) ≡ None → HaveOwnSources (block_with_groups pages ss behind) ss
-    → IsBesideEdit pages (spots_source ss behind) c.paths new → BesideSent pages ss behind c.paths new
-beside_sent pages ss behind new c utf8 unrefused own e =
+    → EachHolds pages ss → EachWhole pages ss → IsBesideEdit pages (spots_source ss behind) c.paths new → BesideSent pages ss behind c.paths new
+beside_sent pages ss behind new c utf8 unrefused own hold whole e =
     let page : List ℕ = spots_source ss behind in
     let t : Tree = called_tree pages page in
     let ms : List Pair = marked (page_tree pages page) new in
@@ -169,8 +178,12 @@ beside_sent pages ss behind new c utf8 unrefused own e =
     let sent : IsSentOn pages page new es = text_edit_sent pages page new utf8 e.short unrefused e.edit e.read read in
     let alike = all_alike same_node (expanded_page pages page) page (page_tree pages page) new tells_same plain e.edit.blocks read in
     let groups = all_numbered same_node (expanded_page pages page) page (page_tree pages page) new plain e.edit.blocks in
+    let body = page_body pages page utf8 unrefused in
+    let reach : AllByRecursion (Reaches t) (paths_of es) = edits_reach t es (ap is_group body.kind) sent.old sent.outside in
+    let own_texts : AllByRecursion (λ p. AreOwnTexts (children_of p.old)) ms =
+    all_own_texts pages page utf8 e.short unrefused (paths_of es) ms reach sent.at e.edit.blocks in
     let pairs : SentKnown pages page t es ms = record {
-      pairs = known pages page ms e.edit.blocks alike e.blocks e.beside groups;
+      pairs = known pages page ms e.edit.blocks alike e.blocks e.beside groups own_texts;
       at = sent.at;
       each = sent.each;
     } in
@@ -180,18 +193,18 @@ beside_sent pages ss behind new c utf8 unrefused own e =
       old = sent.old;
       sent = sent.stay;
       edits = sent.only c.paths e.among;
-      fit = all_fit pages page t es ms 0 ss c.paths pairs own of_blocks;
+      fit = all_fit pages page t es ms 0 ss c.paths pairs hold whole own of_blocks;
     } in
     record { sent = sent; edit = edit; same = ap (spliced page) (sent.changes b) ∙ c.makes b es edit }
 
 beside_done : (pages : Pages) (ss : List BlockSpot) (behind : List ℕ) (new : Tree) (c : TakesContentsIn pages ss behind) → IsUtf8 (spots_source ss behind)
     → refusal_of_page pages (spots_source ss behind) ≡ None → HaveOwnSources (block_with_groups pages ss behind) ss
-    → IsBesideEdit pages (spots_source ss behind) c.paths new
+    → EachHolds pages ss → EachWhole pages ss → IsBesideEdit pages (spots_source ss behind) c.paths new
     → edit_to pages (spots_source ss behind) new ≡ done (spliced (spots_source ss behind) (slices same_node (page_tree pages (spots_source ss behind)) new))
 unfolding most_bytes
-beside_done pages ss behind new c utf8 unrefused own e =
+beside_done pages ss behind new c utf8 unrefused own hold whole e =
     let es : Edits = edits_of (called_tree pages (spots_source ss behind)) new in
-    let s : BesideSent pages ss behind c.paths new = beside_sent pages ss behind new c utf8 unrefused own e in
+    let s : BesideSent pages ss behind c.paths new = beside_sent pages ss behind new c utf8 unrefused own hold whole e in
     let room : length (edited_page ss behind c.paths es) ≤ PAGE_BYTES = subst (λ (bs : List ℕ). length bs ≤ PAGE_BYTES) s.same e.edit.room in
     s.sent.alike (label new) ∙ c.takes (label new) es s.edit room ∙ ap done (sym s.same)
 
@@ -206,7 +219,7 @@ calling_edit_done pages page bs rest new h c e =
     subst (λ (q : List ℕ). IsUtf8 q → refusal_of_page pages q ≡ None → IsBesideEdit pages q c.paths new
     → edit_to pages q new ≡ done (spliced q (slices same_node (page_tree pages q) new)))
     (calling_whole pages page bs rest h)
-    (λ u r k. beside_done pages ss behind new c u r (blocks_have pages ss behind there.outside there.unrefused) k) h.utf8 h.unrefused e
+    (λ u r k. beside_done pages ss behind new c u r (blocks_have pages ss behind there.outside there.unrefused) there.hold there.whole k) h.utf8 h.unrefused e
 
 pub html_beside : (pages : Pages) (page input : List ℕ) (bs : List LinedBlock) (rest : List (List Item)) (paths : List (List ℕ)) (new : Tree) (unsourced : Option ℕ)
     → IsLinedCalling pages page bs rest → IsBesideHtml pages page input paths new unsourced → IsBesideEdit pages page paths new

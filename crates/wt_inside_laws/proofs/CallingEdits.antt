@@ -1,7 +1,6 @@
 -- A retyped block of the page that holds calls is an edit that may be sent for such a block.
 use Rattle.std.proofs.Common.{arith, ◌≡◌, ℕ, suc, ◌<◌, Bool, true, false, None, List, [], refl, sym, ap, ◌∙◌, subst, inl, inr}
 use Rattle.std.specs.Prelude.{◌||◌}
-use Rattle.std.specs.Str.{IsUtf8}
 use Rattle.wt_span.specs.Origins.{Expanded}
 use Rattle.wt_tree.specs.declared.kind.Kind.{Kind}
 use Rattle.wt_tree.specs.declared.edit_shape.BlockForm.TheVariants as block
@@ -12,7 +11,7 @@ use Rattle.wt_tree.specs.Kinds.{is_leaf}
 use Rattle.wt_tree.specs.Tree.{Label, Tree, tree, Trees, none, more, label}
 use Rattle.wt_original.specs.Kept.{Kept, kept_nodes}
 use Rattle.wt_original.specs.Numbers.{counts_up}
-use Rattle.wt_original.specs.Page.{Page, page_of}
+use Rattle.wt_original.specs.Page.{page_of}
 use Rattle.wt_annotated.specs.CutTexts.{cut_texts}
 use Rattle.wt_inline.specs.ItemTree.{ItemTree}
 use Rattle.wt_slices.specs.Changes.{Pair}
@@ -48,7 +47,7 @@ use Rattle.wt_inside_laws.proofs.OwnEdits.{AreText, utf8_leaves, node_form, AreN
 use Rattle.wt_inside_laws.proofs.OwnPieces.{own_page, HoldIn, trees_in, Anything, any_leaves, own_pieces_stay}
 use Rattle.wt_inside_laws.proofs.RetypedPieces.{retyped_pieces}
 use Rattle.wt_inside_laws.proofs.SlotTexts.{LeavesBy, AllLeaves, TextsHold, leaves_hold, texts_hold}
-use Rattle.wt_inside_laws.proofs.UncalledPage.{AreFoundAt, AreNumbered, own_numbered, styled_numbered, children_there, block_found, block_parted}
+use Rattle.wt_inside_laws.proofs.UncalledPage.{AreNumbered, own_numbered, styled_numbered, children_there, block_found, block_parted}
 use Rattle.wt_inside_laws.proofs.UncalledSlots.{PageParted, PageSome, NewSome, new_some, sent_uncalled}
 
 -- ---- its pieces

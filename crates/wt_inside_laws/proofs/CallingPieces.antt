@@ -1,18 +1,16 @@
 -- The pieces of a retyped content: texts go and nothing else, and bold and italic are in them where the page has them.
-use Rattle.std.proofs.Common.{◌≡◌, Bool, [], refl, sym, subst}
+use Rattle.std.proofs.Common.{◌≡◌, refl, sym, subst}
 use Rattle.wt_tree.specs.declared.edit_shape.InlineForm.{InlineForm}
 use Rattle.wt_tree.specs.declared.edit_shape.InlineForm.TheVariants as inline
 use Rattle.wt_tree.specs.EditShapes.{edit_shape}
-use Rattle.wt_tree.specs.Source.{flat}
 use Rattle.wt_tree.specs.Tree.{Label, Tree, tree, Trees, none, more, label}
 use Rattle.wt_link_spelling.specs.Spelling.{children_of}
-use Rattle.wt_expand.specs.PageCalls.{expanded_page}
 use Rattle.wt_expand.specs.Work.{Pages}
 use Rattle.wt_typed_blocks.specs.Edited.{Pieces, no_pieces, gone, written, kept, around, new_style}
 use Rattle.wt_beside_laws.specs.OwnSigns.{HasOwnBy, HaveOwn}
 use Rattle.wt_beside_laws.specs.SentPieces.{IsNoNode, IsNodeForm, HaveNoStyle}
 use Rattle.wt_called_edit_laws.specs.CalledEdits.{AreGoneCalm}
-use Rattle.wt_called_edit_laws.specs.StyledCallEdits.{CallsNoneBy, CallsNone, CallNone, NoCallGoes, NewStylesArePlain}
+use Rattle.wt_called_edit_laws.specs.StyledCallEdits.{CallsNoneBy, CallNone, NoCallGoes, NewStylesArePlain}
 use Rattle.wt_inside_laws.specs.RetypedPieces.{next_by, up_to_node, piece_by, piece_of, pieces_of, as_own}
 
 -- ---- what goes

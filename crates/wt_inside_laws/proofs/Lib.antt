@@ -48,11 +48,14 @@ pub mod UncalledPage
 pub mod CallingPieces
 pub mod CallingEdits
 pub mod ToldEdits
+pub mod UncalledBlocks
 pub mod BesideEdits
 pub mod HtmlEdits
 pub mod OrdinaryEdits
 pub mod NothingMoved
 pub mod LocalTextEdits
+pub mod OneBlock
+pub mod TypedApart
 pub mod InsidesCases
 pub mod PageCases
 pub mod LocalCases

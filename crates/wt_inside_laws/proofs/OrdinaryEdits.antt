@@ -1,8 +1,9 @@
 -- A text edit of ordinary blocks is done, of any page that isn't refused.
-use Rattle.std.proofs.Common.{arith, ◌≡◌, ◌⊎◌, ℕ, ◌≤◌, true, Option, Some, List, [], ◌∷◌, length, map, refl, ap, subst, inl, inr}
+use Rattle.std.proofs.Common.{arith, ◌≡◌, ◌⊎◌, ℕ, ◌≤◌, true, Option, Some, None, List, [], ◌∷◌, length, map, refl, ap, subst, inl, inr}
 use Rattle.std.specs.List.{AllByRecursion}
 use Rattle.wt_span.specs.Items.{Item}
-use Rattle.wt_span.specs.declared.limits.TheConstants.{HTML_BYTES}
+use Rattle.std.specs.Str.{IsUtf8}
+use Rattle.wt_span.specs.declared.limits.TheConstants.{HTML_BYTES, PAGE_BYTES}
 use Rattle.wt_tree.specs.declared.kind.Kind.{Kind}
 use Rattle.wt_tree.specs.declared.kind.Kind.TheVariants as kind
 use Rattle.wt_tree.specs.EditShapes.{edit_shape}
@@ -12,11 +13,12 @@ use Rattle.wt_expand.specs.PageCalls.{expanded_page}
 use Rattle.wt_expand.specs.Work.{Pages}
 use Rattle.wt_link_spelling.specs.Spelling.{children_of}
 use Rattle.wt_page_round_trip.specs.PageTree.{page_tree}
+use Rattle.wt_schema.specs.Read.{page as as_page, read}
 use Rattle.wt_slices.specs.BodySlices.{slices}
 use Rattle.wt_slices.specs.Changes.{Pair, marked}
 use Rattle.wt_splice.specs.Splice.{spliced}
 use Rattle.wt_visible.specs.SameNodes.{same_node}
-use Rattle.wt_commands.specs.Answers.{done, edit_of, edit_to}
+use Rattle.wt_commands.specs.Answers.{refusal_of_page, done, edit_of, edit_to}
 use Rattle.wt_typed_blocks.specs.Edited.{Edits}
 use Rattle.wt_called_edit_laws.specs.AllTold.{AllBlocksTold, IsExcepted, IsOneOf as IsAnyOf}
 use Rattle.wt_called_edit_laws.specs.ContentsTaken.{TakesContents}
@@ -31,7 +33,7 @@ use Rattle.wt_called_edit_laws.proofs.Among.ToldAmong.{told_among}
 use Rattle.wt_called_edit_laws.proofs.PageBody.{page_body}
 use Rattle.wt_inside_laws.specs.AsSent.{edits_of, paths_of, node_at, IsOneOf, AreSomeOf, IsReadFor, IsSentOn}
 use Rattle.wt_inside_laws.specs.RetypedPieces.{AreRead, AreUtf8}
-use Rattle.wt_inside_laws.specs.TextEdits.{takes_text, IsRetyped}
+use Rattle.wt_inside_laws.specs.TextEdits.{takes_text, IsRetyped, IsTextEdit}
 use Rattle.wt_inside_laws.specs.ToldEdits.{IsReadBlock, IsOrdinary, IsOrdinaryOn, IsToldEdit, IsOrdinaryEdit}
 use Rattle.wt_inside_laws.proofs.HtmlEdits.{edit_is}
 use Rattle.wt_inside_laws.proofs.NothingMarked.{nothing_done, nothing_spliced}
@@ -42,14 +44,14 @@ use Rattle.wt_inside_laws.proofs.ToldEdits.{first_same, rest_same, lined_edit_do
 
 -- ---- paths
 
-one_same : (p : List ℕ) (qs : List (List ℕ)) → IsAnyOf p qs → IsOneOf p qs
+pub one_same : (p : List ℕ) (qs : List (List ℕ)) → IsAnyOf p qs → IsOneOf p qs
 one_same p [] h = absurd h
 one_same p (q ∷ qs) (inl e) = inl e
 one_same p (q ∷ qs) (inr h) = inr (one_same p qs h)
 
 -- ---- a marked block is told
 
-block_kind : (k : Kind) → takes_text (edit_shape k).form ≡ true → IsTextBlock k
+pub block_kind : (k : Kind) → takes_text (edit_shape k).form ≡ true → IsTextBlock k
 block_kind kind.Para e = inl refl
 block_kind (kind.Heading n) e = inr (n, refl)
 block_kind kind.Rule e = absurd (cc)
@@ -129,13 +131,18 @@ pub record OrdinarySent (pages : Pages) (page : List ℕ) (new : Tree) : Type 0 
   pub blocks : AllByRecursion IsReadBlock (marked (page_tree pages page) new)
   pub sent : IsSentOn pages page new (edits_of (called_tree pages page) new)
 
-pub ordinary_sent : (pages : Pages) (page input : List ℕ) (new : Tree) (u : Option ℕ) → IsOrdinaryEdit pages page input new u → OrdinarySent pages page new
-ordinary_sent pages page input new u h =
-    let read : IsReadFor (page_tree pages page) new = read_for pages page input new u h.utf8 h.short h.unrefused h.sent h.edit.checks in
+pub read_as_sent : (pages : Pages) (page input : List ℕ) (new : Tree) (u : Option ℕ) → IsUtf8 page → length page ≤ PAGE_BYTES
+    → refusal_of_page pages page ≡ None → read input ≡ as_page new u
+    → IsTextEdit same_node (expanded_page pages page) page (page_tree pages page) new → OrdinarySent pages page new
+read_as_sent pages page input new u utf8 short unrefused sent edit =
+    let for_page : IsReadFor (page_tree pages page) new = read_for pages page input new u utf8 short unrefused sent edit.checks in
     let blocks =
     all_read (marked (page_tree pages page) new)
-    (read_blocks same_node (expanded_page pages page) page pages page input new u h.utf8 h.short h.unrefused h.sent h.edit.checks h.edit.blocks) in
-    record { read = read; blocks = blocks.1; sent = text_edit_sent pages page new h.utf8 h.short h.unrefused h.edit read blocks.0 }
+    (read_blocks same_node (expanded_page pages page) page pages page input new u utf8 short unrefused sent edit.checks edit.blocks) in
+    record { read = for_page; blocks = blocks.1; sent = text_edit_sent pages page new utf8 short unrefused edit for_page blocks.0 }
+
+pub ordinary_sent : (pages : Pages) (page input : List ℕ) (new : Tree) (u : Option ℕ) → IsOrdinaryEdit pages page input new u → OrdinarySent pages page new
+ordinary_sent pages page input new u h = read_as_sent pages page input new u h.utf8 h.short h.unrefused h.sent h.edit
 
 pub ordinary_told : (pages : Pages) (page input : List ℕ) (new : Tree) (u : Option ℕ) → IsOrdinaryEdit pages page input new u
     → 1 ≤ length (marked (page_tree pages page) new) → OrdinaryTold pages page new

@@ -24,7 +24,7 @@ use Rattle.wt_visible.specs.SameNodes.{same_node}
 use Rattle.wt_typed_blocks.specs.Sent.{Block, paragraph, heading, kind_of}
 use Rattle.wt_typed_blocks.specs.Edited.{Pieces, no_pieces, gone, written, kept, around, new_style, sent_pieces, text_node}
 use Rattle.wt_text_edit_laws.specs.TextBlocks.{TextBlock, a_paragraph, a_heading, block_of, block_tree}
-use Rattle.wt_beside_laws.specs.FlatBlocks.{AreOneLine, TextsFitIn, sent_for}
+use Rattle.wt_beside_laws.specs.FlatBlocks.{AreOneLine, TextsFitIn, signs_in as signs_of, sent_for}
 use Rattle.wt_beside_laws.specs.FlatPages.{AreNodesAndTexts}
 use Rattle.wt_beside_laws.specs.Led.{AreMarksLed}
 use Rattle.wt_beside_laws.specs.NewStyles.{is_bold, NewStylesNest}
@@ -32,13 +32,14 @@ use Rattle.wt_beside_laws.specs.SentPieces.{IsNodeForm}
 use Rattle.wt_beside_laws.specs.SentStyled.{found_then, sent_by, sent_before, sent_content, NestsBy, AllNest, ShowsBy, AllShow}
 use Rattle.wt_beside_laws.specs.Styled.{StyledContent, signs_in}
 use Rattle.wt_beside_laws.specs.StyledIn.{IsStyledIn, IsStyledEditOf}
-use Rattle.wt_beside_laws.specs.OpenTags.{spine, StayOnLines}
+use Rattle.wt_beside_laws.specs.OpenTags.{spine, StayOnLines, EndTags}
 use Rattle.wt_beside_laws.proofs.LinesOpen.{lines_keep}
 use Rattle.wt_beside_laws.proofs.Made.OldBlocks.{IsIn, block_kind, no_group}
 use Rattle.wt_beside_laws.proofs.Styled.LedLines.{own_led}
 use Rattle.wt_beside_laws.specs.OwnLed.{begin_marked}
 use Rattle.wt_beside_laws.proofs.Styled.OwnFirst.{paragraph_begins}
 use Rattle.wt_beside_laws.proofs.Styled.OwnNests.{own_nests}
+use Rattle.wt_beside_laws.proofs.Styled.OwnSpine.{own_spine, own_stays}
 use Rattle.wt_beside_laws.proofs.Styled.OwnStyled.{own_styled}
 use Rattle.wt_beside_laws.proofs.Styled.SentFaults.{text_unbroken, or_both}
 use Rattle.wt_visible.proofs.SameTells.{tells_same}
@@ -46,7 +47,6 @@ use Rattle.wt_called_edit_laws.specs.EditsAt.{IsStanding}
 use Rattle.wt_called_edit_laws.specs.SentAsIs.{as_sent, HaveNumberedGroups}
 use Rattle.wt_called_edit_laws.proofs.Cells.SentAsIs.{none_numbered}
 use Rattle.wt_inside_laws.specs.Contents.{Border, borders, texts, Slot, slots_from, slots}
-use Rattle.wt_inside_laws.specs.OpenLines.{spine_by, KeepsTags}
 use Rattle.wt_inside_laws.specs.RetypedPieces.{pieces_of, as_own, AreRead, ArePiecesOf, Utf8By, AreUtf8, BeginsUnmarked}
 use Rattle.wt_inside_laws.specs.TextEdits.{IsRetypedText, IsOneLine, IsRetyped}
 use Rattle.wt_inside_laws.proofs.Between.{texts_between}
@@ -56,7 +56,7 @@ use Rattle.wt_inside_laws.proofs.RetypedPieces.{retyped_pieces}
 use Rattle.wt_inside_laws.proofs.SlotTexts.{LeavesBy, AllLeaves, depth_after, TextsHold, leaves_hold, texts_hold}
 use Rattle.wt_inside_laws.proofs.SlotsFirst.{NewFirst, block_first, retyped_first, sent_first}
 use Rattle.wt_inside_laws.proofs.SlotsLed.{TextsLed, own_texts_led, retyped_led, sent_led}
-use Rattle.wt_inside_laws.proofs.SlotsOpen.{sent_spine, retyped_spine}
+use Rattle.wt_inside_laws.proofs.SlotsOpen.{spine_by, block_spine, sent_spine, retyped_spine}
 
 -- ---- texts that are UTF-8
 
@@ -308,7 +308,7 @@ no_leaf_in : (k : TextBlock) (q : List ℕ) (t : Tree) → IsIn k q t → is_lea
 no_leaf_in k q t i = ap is_leaf (block_kind k q t i) ∙ block_kinds (block_of k)
 
 pub own_edit : (k : TextBlock) (q : List ℕ) (items : Expanded) (page : List ℕ) (p : Pair) → IsRetyped same_node items page p → AreRead (children_of p.new)
-    → AreUtf8 (children_of p.new) → IsStyledIn k q → IsIn k q p.old → BeginsUnmarked k p.old → KeepsTags p.old
+    → AreUtf8 (children_of p.new) → IsStyledIn k q → IsIn k q p.old → BeginsUnmarked k p.old → EndTags (signs_of k q)
     → IsStyledEditOf k p.old (as_own (pieces_of (children_of p.old) (children_of p.new)))
 own_edit k q items page p r read utf8 h i begins tags =
     let ts : Trees = children_of p.old in
@@ -338,10 +338,12 @@ own_edit k q items page p r read utf8 h i begins tags =
     (trees_in Anything SameSign SameStyled (λ l os m ws f g z a. element_sign l os m ws f g z) (λ l m s b z. style_sign l m b z) ts 0 us (any_leaves us 0)
     (sym r.in_order) free)
     ∙ ap (sent_content shown) are.sent in
-    let lines : spine (signs_in (sent_content shown us)) ≡ spine_by ks (borders ts) (texts ts) =
+    let lines : spine (signs_in (sent_content shown us)) ≡ spine (signs_of k q) =
     sent_spine shown us utf8
     ∙ ap (λ (bs : List Border). spine_by ks bs (texts us)) r.in_order
-    ∙ retyped_spine ks None (borders ts) (texts ts) (texts us) (same_length ts us r.in_order) (paired ks ts us r.in_order r.texts) in
+    ∙ retyped_spine ks None (borders ts) (texts ts) (texts us) (same_length ts us r.in_order) (paired ks ts us r.in_order r.texts)
+    ∙ block_spine ks ts
+    ∙ own_spine k q shown p.old h i own.1 in
     record {
       old = own_page ps ∙ are.page;
       stay = own_pieces_stay ts us free r.in_order;
@@ -355,11 +357,11 @@ own_edit k q items page p r read utf8 h i begins tags =
         first = sent_first us shown utf8 first;
         others = sent_led shown us utf8 (new_texts_led k q items page p r h i);
       });
-      unclosed = lines_keep (signs_in (sent_for p.old (as_own ps))) (subst StayOnLines (sym (ap (λ (t : StyledContent). spine (signs_in t)) same ∙ lines)) tags);
+      unclosed = lines_keep (signs_in (sent_for p.old (as_own ps))) (subst StayOnLines (sym (ap (λ (t : StyledContent). spine (signs_in t)) same ∙ lines)) (own_stays k q h tags));
     }
 
 pub standing_edit : (k : TextBlock) (q : List ℕ) (items : Expanded) (page : List ℕ) (p : Pair) → IsRetyped same_node items page p → AreRead (children_of p.new)
-    → AreUtf8 (children_of p.new) → IsStanding (block_tree k q) p.old → IsStyledIn k q → BeginsUnmarked k p.old → KeepsTags p.old
+    → AreUtf8 (children_of p.new) → IsStanding (block_tree k q) p.old → IsStyledIn k q → BeginsUnmarked k p.old → EndTags (signs_of k q)
     → IsStyledEditOf k p.old (as_own (pieces_of (children_of p.old) (children_of p.new)))
 standing_edit k q items page p r read utf8 s h b c =
     own_edit k q items page p r read utf8 h (record { number = s.number; before = s.before; some = s.some; is = s.is }) b c

@@ -26,13 +26,26 @@ use Rattle.wt_beside_laws.specs.NodeItems.{node_items}
 use Rattle.wt_beside_laws.specs.OpenTags.{is_tagged, sign_on, spine}
 use Rattle.wt_beside_laws.specs.SentStyled.{text_then, found_then, or_nowiki, sent_by, sent_content}
 use Rattle.wt_beside_laws.specs.Styled.{StyledContent, finished, sign, styled, mark_source, signs_before, signs_in, delimiter}
+use Rattle.wt_beside_laws.proofs.Styled.OwnSpine.{breaks, found_on, spine_on, tree_spine, all_spine}
 use Rattle.wt_beside_laws.proofs.Styled.StyledLines.{mark_glyphs}
 use Rattle.wt_beside_laws.proofs.Styled.StyledNodes.{own_nowiki}
-use Rattle.wt_inside_laws.specs.Contents.{Border, end, borders_by, borders_of, borders, onto_first, texts_by, texts_before, all_texts_before, texts, Slot, slots_from}
-use Rattle.wt_inside_laws.specs.OpenLines.{breaks, found_on, border_on, spine_by}
+use Rattle.wt_inside_laws.specs.Contents.{Border, element, bold, italic, end, borders_by, borders_of, borders, onto_first, texts_by, texts_before, all_texts_before, texts, Slot, slots_from}
 use Rattle.wt_inside_laws.specs.RetypedPieces.{Utf8By, AreUtf8}
 use Rattle.wt_inside_laws.specs.TextEdits.{breaks_of, IsRetypedText}
 use Rattle.wt_inside_laws.proofs.SlotsLed.{IsSome, some_all, none_behind}
+
+-- ---- texts with what is between them
+
+abbrev border_on : List Kept → Border → List (Option Thing) → List (Option Thing)
+border_on ks (element n) rest = found_on (kept_with n ks) rest
+border_on ks (bold n) rest = rest
+border_on ks (italic n) rest = rest
+border_on ks end rest = rest
+
+abbrev pub spine_by : List Kept → List Border → List (List ℕ) → List (Option Thing)
+spine_by ks bs [] = []
+spine_by ks [] (n ∷ ns) = breaks n []
+spine_by ks (b ∷ bs) (n ∷ ns) = breaks n (border_on ks b (spine_by ks bs ns))
 
 -- ---- the line breaks of a text
 
@@ -70,6 +83,45 @@ first_on : (ks : List Kept) (ys : List Border) (x : List ℕ) (after : List (Lis
 first_on ks ys x [] i = absurd i
 first_on ks [] x (n ∷ ns) i = sym (breaks_append x n [])
 first_on ks (b ∷ ys) x (n ∷ ns) i = sym (breaks_append x n (border_on ks b (spine_by ks ys ns)))
+
+-- ---- a block by its texts
+
+-- of what is in a node, before what follows
+abbrev HeldSo : List Kept → List Border → (List (List ℕ) → List (List ℕ)) → (List (Option Thing) → List (Option Thing)) → Type 0
+HeldSo ks bs texts_in held =
+    (zs : List Border) (os : List (List ℕ)) → IsSome os → spine_by ks (bs ++ zs) (texts_in os) ≡ held (spine_by ks zs os)
+
+held_so : (ks : List Kept) (bs ys : List Border) (texts_in : List (List ℕ) → List (List ℕ)) (held : List (Option Thing) → List (Option Thing)) (after : List (List ℕ))
+    → HeldSo ks bs texts_in held → spine_by ks ((bs ++ (end ∷ [])) ++ ys) (texts_in ([] ∷ after)) ≡ held (spine_by ks ys after)
+held_so ks bs ys texts_in held after g =
+    ap (λ (zs : List Border). spine_by ks zs (texts_in ([] ∷ after))) (append_assoc bs (end ∷ []) ys) ∙ g (end ∷ ys) ([] ∷ after) tt
+
+form_so : (f : InlineForm) (ks : List Kept) (l : Label) (bs ys : List Border) (texts_in : List (List ℕ) → List (List ℕ))
+    (held : List (Option Thing) → List (Option Thing)) (after : List (List ℕ)) → IsSome after → HeldSo ks bs texts_in held
+    → spine_by ks (borders_by f l.id bs ++ ys) (texts_by f l.shown texts_in after) ≡ spine_on f (kept_with l.id ks) l.shown held (spine_by ks ys after)
+form_so inline.Nothing ks l bs ys texts_in held after i g = refl
+form_so inline.Characters ks l bs ys texts_in held after i g = sym (first_on ks ys l.shown after i)
+form_so inline.Bold ks l bs ys texts_in held after i g = held_so ks bs ys texts_in held after g
+form_so inline.Italic ks l bs ys texts_in held after i g = held_so ks bs ys texts_in held after g
+form_so inline.Shown ks l bs ys texts_in held after i g = refl
+form_so inline.PageLink ks l bs ys texts_in held after i g = refl
+form_so inline.ExternalLink ks l bs ys texts_in held after i g = refl
+form_so inline.Tag ks l bs ys texts_in held after i g = refl
+form_so inline.Break ks l bs ys texts_in held after i g = refl
+form_so inline.AsItStood ks l bs ys texts_in held after i g = refl
+
+trees_so : (us : Trees) (ks : List Kept) (ys : List Border) (after : List (List ℕ)) → IsSome after
+    → spine_by ks (borders us ++ ys) (all_texts_before us after) ≡ all_spine ks us (spine_by ks ys after)
+trees_so none ks ys after i = refl
+trees_so (more (tree l ts) us) ks ys after i =
+    let f : InlineForm = (edit_shape l.kind).inline in
+    ap (λ (zs : List Border). spine_by ks zs (texts_before (tree l ts) (all_texts_before us after))) (append_assoc (borders_of (tree l ts)) (borders us) ys)
+    ∙ form_so f ks l (borders ts) (borders us ++ ys) (λ os. all_texts_before ts os) (λ os. all_spine ks ts os) (all_texts_before us after) (some_all us after i)
+    (λ zs os j. trees_so ts ks zs os j)
+    ∙ ap (tree_spine ks (tree l ts)) (trees_so us ks ys after i)
+
+pub block_spine : (ks : List Kept) (us : Trees) → spine_by ks (borders us) (texts us) ≡ all_spine ks us []
+block_spine ks us = ap (λ (bs : List Border). spine_by ks bs (texts us)) (sym (none_behind (borders us))) ∙ trees_so us ks [] ([] ∷ []) tt
 
 -- ---- what is put
 

@@ -86,7 +86,7 @@ pub same_node_at : (t v : Tree) → Some t ≡ Some v → t ≡ v
 same_node_at t v e = cc
 
 mutual
-  stands_at : (u : ItemTree) (p : List ℕ) (t v : Tree) → StandsTo u p t → node_at p t ≡ Some v → IsStanding u v
+  pub stands_at : (u : ItemTree) (p : List ℕ) (t v : Tree) → StandsTo u p t → node_at p t ≡ Some v → IsStanding u v
   stands_at u [] t v h e = subst (IsStanding u) (same_node_at t v e) h
   stands_at u (i ∷ is) (tree l ts) v h e = stands_among u i is ts v h e
 
@@ -149,7 +149,7 @@ calm_fits pages page k q p c r s retyped alike read ended =
     inr (
       styled,
       subst (λ (t : Tree). IsStyledEditOf k t (pieces_for p)) (sym (same_old same_node (page_of (page_tree pages page)) p alike))
-          (standing_edit k q (expanded_page pages page) page p retyped read.read read.utf8 s styled ended.unmarked ended.paired),
+          (standing_edit k q (expanded_page pages page) page p retyped read.read read.utf8 s styled ended.unmarked ended.tags),
     )
 
 pair_fits : (pages : Pages) (page : List ℕ) (k : TextBlock) (q : List ℕ) (p : Pair) → IsContent k q → CallsNothing (block_items k q)

@@ -1,13 +1,13 @@
 -- Where `<nowiki/>` is put beside groups: at the start and at the end of a paragraph that they didn't begin or end, and between two that
 -- something was between.
-use Rattle.std.proofs.Common.{◌≡◌, Bool, true, false, Option, Some, None, List, [], ◌∷◌, ℕ, refl, sym, ap, ap₂, ◌∙◌, subst}
+use Rattle.std.proofs.Common.{◌≡◌, Bool, true, false, Some, List, [], ◌∷◌, ℕ, refl, ap, ap₂, ◌∙◌}
 use Rattle.std.specs.Prelude.{◌||◌, ◌&&◌, not, if◌then◌else◌}
 use Rattle.wt_tree.specs.declared.edit_shape.Place.{Place}
 use Rattle.wt_tree.specs.declared.edit_shape.Place.TheVariants as place
 use Rattle.wt_guards.specs.declared.role.Role.{Role}
 use Rattle.wt_guards.specs.declared.role.Role.TheVariants.{Link, External, Bare, Switch, Toggle, Mark, Group, Function, Node}
 use Rattle.wt_guards.specs.declared.role.Transclusion.{Transclusion}
-use Rattle.wt_guards.specs.Content.{ContentSign, Thing, letter, thing, nearest, side_of, ends_line, is_group, is_function}
+use Rattle.wt_guards.specs.Content.{ContentSign, Thing, thing, nearest, side_of, ends_line, is_group, is_function}
 use Rattle.wt_guards.specs.Table.{hazard}
 use Rattle.wt_guards.specs.Guards.{Setting, has_brace_last, is_empty_line, is_line_mark_next, is_unended, is_brace_last, is_content_end_guard, is_new_at_start, is_new_last, is_mark, is_parted_from_group, is_always_parted, is_adjacent, left_side, is_parted, is_between_guard, is_start_guard, is_end_guard, is_blank_guard, is_guarded}
 

@@ -17,7 +17,7 @@ use Rattle.wt_guards.specs.Content.{is_group}
 use Rattle.wt_guards.specs.Guards.{is_new_at_start, is_new_last, is_adjacent}
 use Rattle.wt_content.specs.Content.{has_break}
 use Rattle.wt_original.specs.declared.block.Extent.{Extent}
-use Rattle.wt_original.specs.Kept.{Kept, KeptNode, kept_of, kept_nodes, kept_with, items, visible, found_at, found_from, found_in, began_line, ended_content, url, island, role_by}
+use Rattle.wt_original.specs.Kept.{Kept, KeptNode, kept_of, kept_nodes, items, visible, found_at, found_from, found_in, began_line, ended_content, url, island, role_by}
 use Rattle.wt_original.specs.Numbers.{counts_up}
 use Rattle.wt_link_spelling.specs.Spelling.{children_of}
 use Rattle.wt_beside_laws.specs.OwnLed.{FoundAt}

@@ -20,7 +20,7 @@ use Rattle.wt_called_edit_laws.specs.CalledContents.{tree_round}
 use Rattle.wt_called_edit_laws.specs.Groups.{called_tree}
 use Rattle.wt_called_edit_laws.specs.SettledAt.{IsSettledAt}
 use Rattle.wt_inside_laws.specs.AsSent.{edits_of, paths_of, AreSomeOf, IsReadFor}
-use Rattle.wt_inside_laws.specs.RetypedCalls.{HoldsUncalled, IsBeside}
+use Rattle.wt_inside_laws.specs.RetypedCalls.{IsBeside}
 use Rattle.wt_inside_laws.specs.TextEdits.{IsTextEdit}
 use Rattle.wt_inside_laws.specs.ToldEdits.{IsReadBlock, HasEndedNodes}
 
@@ -36,14 +36,9 @@ pub record IsCalmBlock (k : TextBlock) (q : List ℕ) (p : Pair) : Type 0 where
   pub calls_nothing : CallsNothing (block_items k q)
   pub nodes : HasEndedNodes k q p
 
--- it holds calls, texts may be typed beside these, and something in it is no call
-pub record IsCallingBlock (pages : Pages) (k : TextBlock) (q : List ℕ) (t : Tree) : Type 0 where
-  pub beside : IsBeside pages k q t
-  pub uncalled : HoldsUncalled k t
-
--- a marked block is one of these, whatever its source is
+-- a marked block is such a one, or texts may be typed beside its calls, whatever its source is
 abbrev pub IsBesideBlock : Pages → List ℕ → Pair → Type 0
-IsBesideBlock pages page p = (k : TextBlock) (q : List ℕ) → IsBlockOf pages page k q p.old → IsCalmBlock k q p ⊎ IsCallingBlock pages k q p.old
+IsBesideBlock pages page p = (k : TextBlock) (q : List ℕ) → IsBlockOf pages page k q p.old → IsCalmBlock k q p ⊎ IsBeside pages k q p.old
 
 -- A text edit, as it is read, of a page with these blocks at these paths, which isn't too long: each marked one is at one of them, and is such a block.
 pub record IsBesideEdit (pages : Pages) (page : List ℕ) (paths : List (List ℕ)) (new : Tree) : Type 0 where

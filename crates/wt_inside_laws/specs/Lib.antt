@@ -1,7 +1,6 @@
 pub mod TextsReplaced
 pub mod AnyReplaced
 pub mod Contents
-pub mod OpenLines
 pub mod TextEdits
 pub mod RetypedPieces
 pub mod RetypedCalls
@@ -16,4 +15,6 @@ pub mod SameBut
 pub mod ToldEdits
 pub mod HtmlEdits
 pub mod BesideEdits
+pub mod OneBlock
 pub mod LocalTextEdits
+pub mod TypedApart

@@ -18,11 +18,11 @@ use Rattle.wt_text_edit_laws.specs.Parts.{HasNoGroups}
 use Rattle.wt_text_edit_laws.specs.TextBlocks.{TextBlock, block_tree}
 use Rattle.wt_beside_laws.specs.EndedNodes.{AreEndedNodes}
 use Rattle.wt_beside_laws.specs.FlatBlocks.{signs_in}
+use Rattle.wt_beside_laws.specs.OpenTags.{EndTags}
 use Rattle.wt_called_edit_laws.specs.AllTold.{IsExcepted}
 use Rattle.wt_called_edit_laws.specs.EditsAt.{IsStanding}
 use Rattle.wt_called_edit_laws.specs.Groups.{called_tree}
 use Rattle.wt_inside_laws.specs.AsSent.{edits_of, paths_of, AreSomeOf, IsReadFor}
-use Rattle.wt_inside_laws.specs.OpenLines.{KeepsTags}
 use Rattle.wt_inside_laws.specs.RetypedPieces.{AreRead, AreUtf8, BeginsUnmarked}
 use Rattle.wt_inside_laws.specs.TextEdits.{IsTextEdit}
 
@@ -33,11 +33,11 @@ pub record IsReadBlock (p : Pair) : Type 0 where
   pub read : AreRead (children_of p.new)
   pub utf8 : AreUtf8 (children_of p.new)
 
--- Of its nodes: a tag that opens a pair without a closing tag on its line is closed by no other one there; what begins in a node ends in it; and no
--- heading begins with a mark.
+-- Of its nodes: what begins in a node ends in it, and a tag does behind one that opens a pair and isn't closed on its line; and no heading begins with a
+-- mark.
 pub record HasEndedNodes (k : TextBlock) (q : List ℕ) (p : Pair) : Type 0 where
-  pub paired : KeepsTags p.old
   pub ended : AreEndedNodes (signs_in k q)
+  pub tags : EndTags (signs_in k q)
   pub unmarked : BeginsUnmarked k p.old
 
 -- whatever its source is

@@ -30,6 +30,8 @@ ghost use Rattle.wt_called_edit_laws.specs.PlacedLines.{LinedBlock};
 ghost use Rattle.wt_inside_laws.specs.AsSent.{edits_of, IsPlainPage, IsReadFor, IsAlike, IsAsSent, IsSentOn};
 ghost use Rattle.wt_inside_laws.specs.BesideEdits.{IsBesideEdit, IsBesideHtml};
 ghost use Rattle.wt_inside_laws.specs.HtmlEdits.{IsHtmlEdit};
+ghost use Rattle.wt_inside_laws.specs.LocalTextEdits.{IsLocalTextEdit};
+ghost use Rattle.wt_inside_laws.specs.OneBlock.{IsOneBlockEdit};
 ghost use Rattle.wt_inside_laws.specs.RetypedPieces.{AreRead, AreUtf8};
 ghost use Rattle.wt_inside_laws.specs.TextEdits.{IsRetyped, IsTextEdit};
 ghost use Rattle.wt_inside_laws.specs.ToldEdits.{IsToldEdit, IsOrdinaryEdit};
@@ -120,4 +122,17 @@ pub fn text_edits_are_done()
     ensures html { (pages : Pages) (page input : List ℕ) (new : Tree) (unsourced : Option ℕ)
         → IsOrdinaryEdit pages page input new unsourced → length input ≤ HTML_BYTES
         → edit_of pages (Some page) input ≡ done (spliced page (slices same_node (page_tree pages page) new)) }
+{}
+
+/// So is each where one block is marked, which may hold calls, if its lines tell it by themselves (`IsOneBlock`).
+#[tactic(auto)]
+pub fn text_edits_of_one_block_are_done()
+    ensures tree { (pages : Pages) (page input : List ℕ) (new : Tree) (unsourced : Option ℕ)
+        → IsOneBlockEdit pages page input new unsourced
+        → edit_to pages page new ≡ done (spliced page (slices same_node (page_tree pages page) new)) }
+    ensures html { (pages : Pages) (page input : List ℕ) (new : Tree) (unsourced : Option ℕ)
+        → IsOneBlockEdit pages page input new unsourced → length input ≤ HTML_BYTES
+        → edit_of pages (Some page) input ≡ done (spliced page (slices same_node (page_tree pages page) new)) }
+    ensures local { (pages : Pages) (page input : List ℕ) (new : Tree) (unsourced : Option ℕ)
+        → IsOneBlockEdit pages page input new unsourced → IsLocalTextEdit pages page new }
 {}

@@ -20,7 +20,9 @@ pub use insides::{
     only_the_inside_changes, own_pieces_are_sent_as_they_are, retyped_blocks_are_edited,
     texts_stand_between_borders,
 };
-pub use local::{text_edits_are_local, text_edits_beside_calls_are_local};
+pub use local::{
+    marked_blocks_make_nothing_else, text_edits_are_local, text_edits_beside_calls_are_local,
+};
 pub use replaced::{
     only_that_text_is_another, only_these_texts_are_others, only_these_texts_are_others_anywhere,
 };

@@ -1,11 +1,13 @@
 //! Text edits are local: what a page means outside of the marked blocks stays as it was.
 
 ghost use Rattle.std.specs.Prelude.{ℕ, List, Option};
+ghost use Rattle.std.specs.List.{AllByRecursion};
 ghost use Rattle.wt_span.specs.Items.{Item};
 ghost use Rattle.wt_tree.specs.Tree.{Tree};
 ghost use Rattle.wt_expand.specs.Work.{Pages};
 ghost use Rattle.wt_page_round_trip.specs.PageTree.{page_tree};
 ghost use Rattle.wt_slices.specs.BodySlices.{slices};
+ghost use Rattle.wt_slices.specs.Changes.{marked};
 ghost use Rattle.wt_splice.specs.Splice.{spliced};
 ghost use Rattle.wt_visible.specs.SameNodes.{same_node};
 ghost use Rattle.wt_called_edit_laws.specs.CallingContents.{TakesContentsIn};
@@ -16,6 +18,7 @@ ghost use Rattle.wt_called_edit_laws.specs.PlacedLines.{LinedBlock};
 ghost use Rattle.wt_inside_laws.specs.BesideEdits.{IsBesideEdit};
 ghost use Rattle.wt_inside_laws.specs.LocalTextEdits.{IsLocalTextEdit};
 ghost use Rattle.wt_inside_laws.specs.ToldEdits.{IsOrdinaryEdit};
+ghost use Rattle.wt_inside_laws.specs.TypedApart.{IsTypedApart};
 
 /// Each text edit that `text_edits_are_done` speaks of is local (`IsLocalChange` of `wt_called_edit_laws`). In the new page
 /// each node that holds no marked block has the kind, attributes, delimiters and source that it had, and its range is moved
@@ -39,4 +42,14 @@ pub fn text_edits_beside_calls_are_local()
         → IsLinedCalling pages page bs rest
         → (c : TakesContentsIn pages (spots_of_lines pages page bs) (end_of_lines pages page bs rest))
         → IsBesideEdit pages page c.paths new → IsLocalTextEdit pages page new }
+{}
+
+/// What `edit` writes for each marked block of such an edit is what was sent, as it is spelled, and makes nothing but that
+/// (`IsSpelledApart` of `wt_beside_laws`): no lexeme but those of the nodes that stay, the references of what was typed and
+/// the nowikis that are put; on each of its lines even numbers of bold and of italic toggles; and read again, as a block of
+/// its kind, it shows what was sent.
+#[tactic(auto)]
+pub fn marked_blocks_make_nothing_else()
+    ensures { (pages : Pages) (page input : List ℕ) (new : Tree) (unsourced : Option ℕ)
+        → IsOrdinaryEdit pages page input new unsourced → AllByRecursion IsTypedApart (marked (page_tree pages page) new) }
 {}

@@ -24,10 +24,12 @@ use Rattle.wt_program.proofs.BlocksCalls.{page_ends, page_completes}
 use Rattle.wt_program.specs.EditCalls.{retyped_page, TakesToldEdits, TakesBesideEdits, TakesTextEdits}
 use Rattle.wt_inside_laws.specs.BesideEdits.{IsBesideHtml}
 use Rattle.wt_inside_laws.specs.HtmlEdits.{IsHtmlEdit}
+use Rattle.wt_inside_laws.specs.OneBlock.{IsOneBlockEdit}
 use Rattle.wt_inside_laws.specs.ToldEdits.{IsOrdinaryEdit}
 use Rattle.wt_inside_laws.proofs.BesideEdits.{calling_edit_done, html_beside}
 use Rattle.wt_inside_laws.proofs.HtmlEdits.{html_lined}
 use Rattle.wt_inside_laws.proofs.LocalTextEdits.{ordinary_local, calling_local}
+use Rattle.wt_inside_laws.proofs.OneBlock.{one_done, one_local}
 use Rattle.wt_inside_laws.proofs.OrdinaryEdits.{ordinary_done}
 use Rattle.wt_inside_laws.proofs.ToldEdits.{lined_edit_done}
 
@@ -94,13 +96,31 @@ calls_take_beside c ended ends = λ pages page bs rest told h.
       local = λ input new unsourced e. calling_local pages page bs rest new h t (html_beside pages page input bs rest t.paths new unsourced h e);
     }
 
--- ---- both
+-- ---- of one block that may hold calls
+
+one_answered : (c : Call) (pages : Pages) (page : List ℕ) (new : Tree) → c.folder.pages_before ≡ Some pages
+    → (s : SendsFor c Edit page (retyped_page pages page new) (λ b. new)) → IsOneBlockEdit pages page s.input new s.unsourced
+    → known_answer c ≡ Some (done (retyped_page pages page new))
+one_answered c pages page new told s e =
+    answer_is c page (retyped_page pages page new) (λ b. new) e.utf8 s
+    (subst (λ (ps : Pages). edit_to ps page new ≡ done (retyped_page pages page new)) (same_pages pages s.pages (sym told ∙ s.told))
+    (one_done pages page s.input new s.unsourced e))
+
+-- ---- all
 
 pub calls_take_edits : (c : Call) (ended : ℕ) → Ends c ended → TakesTextEdits c ended
 calls_take_edits c ended ends = record {
-  edit = λ pages page new told s e. page_ends c ended (retyped_page pages page new) (ordinary_answered c pages page new told s e) ends;
-  complete = λ pages page new told s e no.
-      page_completes c ended (retyped_page pages page new) (ordinary_answered c pages page new told s e) ends no;
-  local = ordinary_local;
+  ordinary = record {
+    edit = λ pages page new told s e. page_ends c ended (retyped_page pages page new) (ordinary_answered c pages page new told s e) ends;
+    complete = λ pages page new told s e no.
+        page_completes c ended (retyped_page pages page new) (ordinary_answered c pages page new told s e) ends no;
+    local = ordinary_local;
+  };
+  one = record {
+    edit = λ pages page new told s e. page_ends c ended (retyped_page pages page new) (one_answered c pages page new told s e) ends;
+    complete = λ pages page new told s e no.
+        page_completes c ended (retyped_page pages page new) (one_answered c pages page new told s e) ends no;
+    local = one_local;
+  };
   beside = calls_take_beside c ended ends;
 }

@@ -24,6 +24,7 @@ use Rattle.wt_program.specs.Calls.{WroteNewPage}
 use Rattle.wt_inside_laws.specs.BesideEdits.{IsBesideHtml}
 use Rattle.wt_inside_laws.specs.HtmlEdits.{IsHtmlEdit}
 use Rattle.wt_inside_laws.specs.LocalTextEdits.{IsLocalTextEdit}
+use Rattle.wt_inside_laws.specs.OneBlock.{IsOneBlockEdit}
 use Rattle.wt_inside_laws.specs.ToldEdits.{IsOrdinaryEdit}
 
 -- the page with the insides of its marked blocks replaced by what was sent for them, as it is spelled
@@ -63,17 +64,22 @@ TakesBesideEdits c ended =
     (pages : Pages) (page : List ℕ) (bs : List LinedBlock) (rest : List (List Item)) → c.folder.pages_before ≡ Some pages → IsLinedCalling pages page bs rest
     → TakesBesideThere c ended pages page bs rest
 
--- Where a call sends HTML that is a text edit of a page, and the marked blocks are ordinary (`IsOrdinaryEdit`),
--- * `edit` has written the page with the insides of these replaced; or a device failed, or memory ran out;
+-- Where a call sends HTML that is such an edit of a page,
+-- * `edit` has written the page with the insides of the marked blocks replaced; or a device failed, or memory ran out;
 -- * where no device failed, only want of memory may come in its place;
--- * the edit is local: what the page means outside of these blocks stays, moved by the bytes that were added before it;
--- * so it is where the marked blocks may hold calls, and the lines of the expanded page tell them.
-pub record TakesTextEdits (c : Call) (ended : ℕ) : Type 0 where
+-- * the edit is local: what the page means outside of these blocks stays, moved by the bytes that were added before it.
+pub record TakesEach (IsSuch : Pages → List ℕ → List ℕ → Tree → Option ℕ → Type 0) (c : Call) (ended : ℕ) : Type 0 where
   pub edit : (pages : Pages) (page : List ℕ) (new : Tree) → c.folder.pages_before ≡ Some pages
-      → (s : SendsFor c Edit page (retyped_page pages page new) (λ b. new)) → IsOrdinaryEdit pages page s.input new s.unsourced
+      → (s : SendsFor c Edit page (retyped_page pages page new) (λ b. new)) → IsSuch pages page s.input new s.unsourced
       → WroteNewPage c ended (retyped_page pages page new) ⊎ IsFaultOrNoMemory ended
   pub complete : (pages : Pages) (page : List ℕ) (new : Tree) → c.folder.pages_before ≡ Some pages
-      → (s : SendsFor c Edit page (retyped_page pages page new) (λ b. new)) → IsOrdinaryEdit pages page s.input new s.unsourced → NothingFailed c
+      → (s : SendsFor c Edit page (retyped_page pages page new) (λ b. new)) → IsSuch pages page s.input new s.unsourced → NothingFailed c
       → WroteNewPage c ended (retyped_page pages page new) ⊎ (ended ≡ code status.NoMemory)
-  pub local : (pages : Pages) (page input : List ℕ) (new : Tree) (unsourced : Option ℕ) → IsOrdinaryEdit pages page input new unsourced → IsLocalTextEdit pages page new
+  pub local : (pages : Pages) (page input : List ℕ) (new : Tree) (unsourced : Option ℕ) → IsSuch pages page input new unsourced → IsLocalTextEdit pages page new
+
+-- A text edit of a page in which the marked blocks are ordinary; one in which a single block is marked, which may hold calls, and is told by its lines
+-- alone; and one in which any number of blocks may hold calls, where the lines of the expanded page are said to tell them.
+pub record TakesTextEdits (c : Call) (ended : ℕ) : Type 0 where
+  pub ordinary : TakesEach IsOrdinaryEdit c ended
+  pub one : TakesEach IsOneBlockEdit c ended
   pub beside : TakesBesideEdits c ended

@@ -56,21 +56,22 @@ pub fn run<S: Source, F: Folder, W: Sink, E: Sink>(
         (fetched_from F.Folder folder.old folder.new) (written_to W.Sink out.old out.new)
         (written_to E.Sink err.old err.new)) result }
 
-    // On any page that isn't refused, and at whose end no comment and no hidden part is open, with calls or without, these
-    // blocks are told by the lines of the expanded page (`IsLinedAmong`): any paragraphs and headings in the body, in cells
-    // and in captions whose lines come from no call and hold no function that is kept, that aren't tangled, hold no group
-    // and are in none, whatever calls are before, between and behind them. Edited contents of any are taken so.
+    // On any page that isn't refused, with calls or without, these blocks are told by the lines of the expanded page
+    // (`IsLinedAmong`): any paragraphs and headings in the body, in cells and in captions whose lines come from no call and
+    // hold no function that is kept, that aren't tangled, hold no group and no mark that nothing ends and are in no group,
+    // whatever calls are before, between and behind them. Edited contents of any are taken so.
     ensures takes_contents_in_lines { TakesContentsInLines (call words.now (read_from S.Source input.old input.new)
         (fetched_from F.Folder folder.old folder.new) (written_to W.Sink out.old out.new)
         (written_to E.Sink err.old err.new)) result }
 
-    // Each text edit of blocks that call nothing is taken, on any page that isn't refused, and at whose end no comment and no
-    // hidden part is open, with calls or without: where a call sends HTML in which texts of any paragraphs and headings were
+    // Each text edit of blocks that call nothing is taken, on any page that isn't refused, with calls or without: where a
+    // call sends HTML in which texts of any paragraphs and headings were
     // typed anew, and these hold no group, are ordinary and told by the lines of the expanded page (`IsOrdinaryEdit` of
     // `wt_inside_laws`), `edit` has written the page with the insides of these replaced by what was sent, as it is spelled,
-    // and no line; or a device failed, or memory ran out. So it is where they may hold calls, if the lines of the expanded
-    // page tell them (`IsLinedCalling`): each calls nothing and is ordinary, or texts may be typed beside the calls in it
-    // (`IsBesideBlock`). Nothing but the marked blocks is another one in the new page (`IsLocalTextEdit`).
+    // and no line; or a device failed, or memory ran out. So it is where one block is marked, which may hold calls,
+    // if its lines tell it by themselves (`IsOneBlockEdit`), and where any number of blocks may hold calls, if the lines of
+    // the expanded page tell them (`IsLinedCalling`): each calls nothing and is ordinary, or texts may be typed beside the
+    // calls in it (`IsBesideBlock`). Nothing but the marked blocks is another one in the new page (`IsLocalTextEdit`).
     ensures takes_text_edits { TakesTextEdits (call words.now (read_from S.Source input.old input.new)
         (fetched_from F.Folder folder.old folder.new) (written_to W.Sink out.old out.new)
         (written_to E.Sink err.old err.new)) result }

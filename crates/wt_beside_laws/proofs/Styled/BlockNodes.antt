@@ -114,7 +114,7 @@ past_found k o b at (loose j i c ∷ r) others ts run h =
     subst (λ (n : ℕ). HaveFound n others ts) z (past_found j i c (at + 1) r others ts run.1 h.1)
 past_found k o b at (node x ∷ r) others ts run h = absurd (let no = run.0 in cc)
 
-so_parts : (block : Tree) (xs ys : List Thing) → AreSoIn block (xs ++ ys) → AreSoIn block xs × AreSoIn block ys
+pub so_parts : (block : Tree) (xs ys : List Thing) → AreSoIn block (xs ++ ys) → AreSoIn block xs × AreSoIn block ys
 so_parts block [] ys h = (tt, h)
 so_parts block (x ∷ xs) ys h = let r = so_parts block xs ys h.1 in ((h.0, r.0), r.1)
 

@@ -160,9 +160,9 @@ things_cut at (node u ∷ ps) qs ts h =
 
 -- ---- segments with styles round them
 
-record StyledFound (at : ℕ) (ps : List Part) (ts : List Thing) (n : ℕ) : Type 0 where
-  have : HaveFound at ps ts
-  wide : parts_width ps ≡ n
+pub record StyledFound (at : ℕ) (ps : List Part) (ts : List Thing) (n : ℕ) : Type 0 where
+  pub have : HaveFound at ps ts
+  pub wide : parts_width ps ≡ n
 
 styled_found : (low high : ℕ) (f : Forest) (us : List Segment) (at : ℕ) (ts : List Thing) → Fill low high f → AreMarked f us → QuotesAre us
     → HaveThings at (segment_parts (between low high us)) ts → StyledFound at (styled low high f us) ts (parts_width (segment_parts (between low high us)))
@@ -269,7 +269,7 @@ pub line_things : (at : ℕ) (xs : List Item) → AreFlatTiles (tiles in_line xs
     → HaveThings at (segment_parts (between 0 (length (segments context_parts in_line xs)) (segments context_parts in_line xs))) (things (line_signs at xs))
 line_things at xs f n = (line_told at xs f n).have
 
-line_found : (at : ℕ) (xs : List Item) → AreFlatTiles (tiles in_line xs) → AreNodes (line_signs at xs)
+pub line_found : (at : ℕ) (xs : List Item) → AreFlatTiles (tiles in_line xs) → AreNodes (line_signs at xs)
     → StyledFound at (line_parts xs) (things (line_signs at xs)) (length (sources xs))
 line_found at xs f n =
     let us : List Segment = segments context_parts in_line xs in

@@ -147,11 +147,56 @@ tree_right : (bold italic : Bool) (t : Tree) → IsThingForm (edit_shape (label 
 tree_right bold italic (tree l ts) f =
     (nests_by (edit_shape l.kind).inline bold italic l (λ b i. AllNest b i ts) f, quoted_by (edit_shape l.kind).inline l (HaveQuoted ts) f)
 
+-- in bold or in italic a text may be
+abbrev pub MayBe : InlineForm → Bool → Bool → Type 0
+MayBe inline.Nothing bold italic = Unit {0}
+MayBe inline.Characters bold italic = (bold || italic) ≡ true
+MayBe inline.Bold bold italic = Unit {0}
+MayBe inline.Italic bold italic = Unit {0}
+MayBe inline.Shown bold italic = Unit {0}
+MayBe inline.PageLink bold italic = Unit {0}
+MayBe inline.ExternalLink bold italic = Unit {0}
+MayBe inline.Tag bold italic = Unit {0}
+MayBe inline.Break bold italic = Unit {0}
+MayBe inline.AsItStood bold italic = Unit {0}
+
+-- and here no text
+abbrev pub IsNoText : ItemTree → Type 0
+IsNoText u = (n : ℕ) (before : List Item) → MayBe (edit_shape (label (standing n before u)).kind).inline false false
+
+thing_no_text : (f : InlineForm) → IsThingForm f → MayBe f false false
+thing_no_text inline.Nothing h = tt
+thing_no_text inline.Characters h = absurd h
+thing_no_text inline.Bold h = tt
+thing_no_text inline.Italic h = tt
+thing_no_text inline.Shown h = tt
+thing_no_text inline.PageLink h = tt
+thing_no_text inline.ExternalLink h = tt
+thing_no_text inline.Tag h = tt
+thing_no_text inline.Break h = tt
+thing_no_text inline.AsItStood h = tt
+
+style_no_text : (kind : Bool) (opening closing : List Item) (ps : List Part) → IsNoText (style_round kind opening ps closing)
+unfolding label_at
+style_no_text true opening closing ps = λ n before. tt
+style_no_text false opening closing ps = λ n before. tt
+
+-- of parts at the top of their line: its characters are no line breaks
+abbrev pub AreOnLine : List Part → Type 0
+AreOnLine [] = Unit {0}
+AreOnLine (loose k o b ∷ ps) = ((b == 10) ≡ false) × AreOnLine ps
+AreOnLine (node u ∷ ps) = IsNoText u × AreOnLine ps
+
+on_both : (ps qs : List Part) → AreOnLine ps → AreOnLine qs → AreOnLine (ps ++ qs)
+on_both [] qs h k = k
+on_both (loose j o b ∷ ps) qs h k = (h.0, on_both ps qs h.1 k)
+on_both (node u ∷ ps) qs h k = (h.0, on_both ps qs h.1 k)
+
 -- nodes that are no styles, and characters that are no line breaks
 abbrev AllFree : List Part → Type 0
 AllFree [] = Unit {0}
 AllFree (loose k o b ∷ ps) = IsText k × ((b == 10) ≡ false) × AllFree ps
-AllFree (node u ∷ ps) = ((bold italic : Bool) → NestsOn bold italic u) × AllFree ps
+AllFree (node u ∷ ps) = (IsNoText u × ((bold italic : Bool) → NestsOn bold italic u)) × AllFree ps
 
 free_both : (ps qs : List Part) → AllFree ps → AllFree qs → AllFree (ps ++ qs)
 free_both [] qs h k = k
@@ -166,7 +211,12 @@ free_split (node u ∷ ps) qs h = let r = free_split ps qs h.1 in ((h.0, r.0), r
 free_nest : (bold italic : Bool) (ps : List Part) → AllFree ps → AllNestOn bold italic ps
 free_nest bold italic [] h = tt
 free_nest bold italic (loose k o b ∷ ps) h = (h.0, (λ e. h.1), free_nest bold italic ps h.2)
-free_nest bold italic (node u ∷ ps) h = (h.0 bold italic, free_nest bold italic ps h.1)
+free_nest bold italic (node u ∷ ps) h = (h.0.1 bold italic, free_nest bold italic ps h.1)
+
+free_on : (ps : List Part) → AllFree ps → AreOnLine ps
+free_on [] h = tt
+free_on (loose k o b ∷ ps) h = (h.1, free_on ps h.2)
+free_on (node u ∷ ps) h = (h.0.0, free_on ps h.1)
 
 abbrev Unbroken : List Part → Type 0
 Unbroken [] = Unit {0}
@@ -204,7 +254,7 @@ thing_right u r i bold italic = λ n before some x. tree_right bold italic (stan
 parts_free : (at : ℕ) (ps : List Part) (ts : List Thing) → HaveThings at ps ts → Unbroken ps → AllFree ps
 parts_free at [] ts h b = tt
 parts_free at (loose k o c ∷ ps) ts h b = (h.0, b.0, parts_free (at + 1) ps ts h.1 b.1)
-parts_free at (node u ∷ ps) ts h b = (thing_right u h.0 h.3, parts_free (at + length (tree_source u)) ps h.1 h.5 b)
+parts_free at (node u ∷ ps) ts h b = (((λ n before. thing_no_text (edit_shape (label (standing n before u)).kind).inline (stands_form n before u h.0 h.3)), thing_right u h.0 h.3), parts_free (at + length (tree_source u)) ps h.1 h.5 b)
 
 -- ---- the trees of parts
 
@@ -320,6 +370,18 @@ styled_nest low high (grown s held after) us bold italic n m q h =
       styled_nest s.to high after us bold italic n.2 m.3 q h,
     )
 
+between_on : (low high : ℕ) (us : List Segment) → EachFree us → AreOnLine (segment_parts (between low high us))
+between_on low high us h =
+    free_on (segment_parts (between low high us)) (segments_free (between low high us) (take_free (high - low) (drop low us) (drop_free low us h)))
+
+styled_on : (low high : ℕ) (f : Forest) (us : List Segment) → EachFree us → AreOnLine (styled low high f us)
+styled_on low high bare us h = between_on low high us h
+styled_on low high (grown s held after) us h =
+    let mid : ℕ = s.from + s.open_w in
+    let end : ℕ = s.to - s.close_w in
+    on_both (segment_parts (between low s.from us)) (node (style_node s (styled mid end held us) us) ∷ styled s.to high after us) (between_on low s.from us h)
+    (style_no_text s.bold (segment_items (between s.from mid us)) (segment_items (between end s.to us)) (styled mid end held us), styled_on s.to high after us h)
+
 -- ---- lines
 
 line_free : (at : ℕ) (xs : List Item) → HasNoBreak xs → AreFlatTiles (tiles in_line xs) → AreNodes (line_signs at xs) → EachFree (segments context_parts in_line xs)
@@ -335,6 +397,11 @@ line_nest at xs b f n =
     let us : List Segment = segments context_parts in_line xs in
     subst (AllNestOn false false) (sym (line_is xs))
     (styled_nest 0 (length us) (forest_of (style_tree_of (chunks us))) us false false (line_nests (chunks us)) (all_marked us) (line_quotes xs) (line_free at xs b f n))
+
+pub line_on : (at : ℕ) (xs : List Item) → HasNoBreak xs → AreFlatTiles (tiles in_line xs) → AreNodes (line_signs at xs) → AreOnLine (line_parts xs)
+line_on at xs b f n =
+    let us : List Segment = segments context_parts in_line xs in
+    subst AreOnLine (sym (line_is xs)) (styled_on 0 (length us) (forest_of (style_tree_of (chunks us))) us (line_free at xs b f n))
 
 lines_nest : (at : ℕ) (ls : List (List Item)) → AreFlatLines ls → AreNodes (signs_of_lines at ls) → AllNestOn false false (joined_parts ls)
 lines_nest at [] f n = tt

@@ -164,7 +164,7 @@ beside_call_decided front t =
 
 -- ---- so its lines are the page's own
 
-own_both : (xs ys : List Item) → AreOfPage xs → AreOfPage ys → AreOfPage (xs ++ ys)
+pub own_both : (xs ys : List Item) → AreOfPage xs → AreOfPage ys → AreOfPage (xs ++ ys)
 own_both [] ys h g = g
 own_both (x ∷ xs) ys h g = (h.0, h.1, own_both xs ys h.2 g)
 

@@ -81,7 +81,7 @@ words_of : (ws : List Word) (bs : List ℕ) → AreOfPage (items_of_words ws bs)
 words_of [] bs = tt
 words_of ((kind, n) ∷ ws) bs = of_both (items_of_word kind (take n bs)) (items_of_words ws (drop n bs)) (word_of kind (take n bs)) (words_of ws (drop n bs))
 
-page_of : (page : List ℕ) → AreOfPage (page_items page)
+pub page_of : (page : List ℕ) → AreOfPage (page_items page)
 unfolding page_items
 page_of page = words_of (words Page page) page
 
@@ -138,7 +138,7 @@ behind_unbraced (m ∷ ms) es i f =
     subst (λ (us : List Item). BeginsUnbraced (map sign (us ++ joined (m ∷ ms)))) (sym (f m ms refl)) refl
 
 -- there is something in the first line of each
-abbrev AreSome : List LinedBlock → Type 0
+abbrev pub AreSome : List LinedBlock → Type 0
 AreSome [] = Unit {0}
 AreSome (b ∷ bs) = (1 ≤ length b.first) × AreSome bs
 
@@ -151,7 +151,7 @@ some_all : (bs : List LinedBlock) (behind : List (List Item)) → AreLined bs be
 some_all [] behind h = absurd h
 some_all (b ∷ bs) behind h = (h.0.some, some_after b.block (open_after [] (written_rows 0 b.before)) bs behind h.1)
 
-own_all : (front : List Item) (bs : List LinedBlock) (behind : List (List Item)) (xs : List Item) → AreRuns goes_on (all_lines bs behind) xs
+pub own_all : (front : List Item) (bs : List LinedBlock) (behind : List (List Item)) (xs : List Item) → AreRuns goes_on (all_lines bs behind) xs
     → AreOfPage (joined (all_lines bs behind)) → CallsNothing (front ++ joined (all_lines bs behind)) → AreSome bs → AreOwnLines bs
 own_all front [] behind xs runs h c s = tt
 own_all front (b ∷ bs) behind xs runs h c s =
@@ -181,7 +181,7 @@ none_touched calls at es (b ∷ bs) = (
   none_touched calls (at + length (text_from calls None (es ++ joined b.before)) + length (sources (b.marks ++ content (own_items b)))) (ending (own_items b)) bs,
 )
 
-page_runs : (page : List ℕ) (bs : List LinedBlock) (behind : List (List Item)) → full_lines (page_items page) ≡ all_lines bs behind
+pub page_runs : (page : List ℕ) (bs : List LinedBlock) (behind : List (List Item)) → full_lines (page_items page) ≡ all_lines bs behind
     → AreRuns goes_on (all_lines bs behind) (page_items page)
 page_runs page bs behind e = subst (λ (ks : List (List Item)). AreRuns goes_on ks (page_items page)) e (runs_are goes_on (page_items page))
 
