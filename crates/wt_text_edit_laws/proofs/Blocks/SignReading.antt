@@ -22,7 +22,7 @@ use Rattle.wt_text_edit_laws.specs.ReadContents.{BeginsUnclosed}
 use Rattle.wt_text_edit_laws.specs.SignParts.{IsBareSign, IsSign, AreSigned}
 use Rattle.wt_text_edit_laws.specs.TextBetween.{AreEnded, HasEndsBefore, BeginsShown}
 use Rattle.wt_text_edit_laws.specs.TypedHeadings.{AreBlanks}
-use Rattle.wt_text_edit_laws.proofs.Between.Fronts.{ReadsAfter, reads_after, reads_either, first_from, byte_from, page_read, before_reads}
+use Rattle.wt_text_edit_laws.proofs.Between.Fronts.{ReadsAfter, reads_after, reads_either, first_from, byte_from, page_read, alone_reads, before_reads}
 use Rattle.wt_text_edit_laws.proofs.Between.LineWords.{either, lacks}
 use Rattle.wt_text_edit_laws.proofs.Between.SignParts.{AreLow, front_ends}
 use Rattle.wt_text_edit_laws.proofs.Prose.InFront.{Reads, reads_byte, reads_form, reads_nothing}
@@ -189,3 +189,6 @@ signed_reads bs rest xs h u e r =
     let items : page_items bs ++ xs ≡ page_items front ++ (page_chars s ++ xs) =
     ap (λ (ys : List Item). ys ++ xs) (ap page_items h.is ∙ front_alone front s h.ended h.is_sign ends.0) ∙ append_assoc (page_items front) (page_chars s) xs in
     subst (λ (ds : List ℕ). ReadsAfter false ds (page_items bs ++ xs)) (sym source) (subst (λ ys. ReadsAfter false (front ++ (s ++ rest)) ys) (sym items) all)
+
+pub signed_items : (rest bs : List ℕ) → AreSigned bs → HasEndsBefore rest bs → BeginsUnclosed rest → page_items (bs ++ rest) ≡ page_items bs ++ page_items rest
+signed_items rest bs h e u = page_read (bs ++ rest) (page_items bs ++ page_items rest) (signed_reads bs rest (page_items rest) h u e (alone_reads rest))
