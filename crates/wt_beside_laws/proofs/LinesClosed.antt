@@ -96,10 +96,13 @@ add_break false rest e f = f e
 add_thing : (v : Bool) (t : Thing) (rest : List (Option Thing)) → EndBehind (if v then Some t ∷ rest else rest)
     → (EndOnLine rest → StaysOn (tag_at (own_glyphs t)) (length (own_glyphs t)) rest) → (EndBehind rest → StayOnLines rest)
     → StayOnLines (if v then Some t ∷ rest else rest)
-add_thing true t rest e s f = (elim e.0 [
-  | inl c ↦ closed_back (tag_at (own_glyphs t)) (length (own_glyphs t)) rest c
-  | inr n ↦ s n
-], f e.1)
+add_thing true t rest e s f = (
+  elim e.0 [
+    | inl c ↦ closed_back (tag_at (own_glyphs t)) (length (own_glyphs t)) rest c
+    | inr n ↦ s n
+  ],
+  f e.1,
+)
 add_thing false t rest e s f = f e
 
 pub stood_stay : (a : Bool) (signs : List ContentSign) → AreStood a signs → AreUntagged signs → EndTags signs → StayOnLines (spine signs)

@@ -33,3 +33,4 @@ pub mod AllAlone
 pub mod CallingStarts
 pub mod OnLines
 pub mod CalmPages
+mod EndCases

@@ -16,15 +16,14 @@ use Rattle.wt_annotated.specs.Seams.{last_of, first_of}
 use Rattle.wt_page_round_trip.proofs.HeldPages.{tree_ones}
 use Rattle.wt_page_round_trip.proofs.OpenedPages.{AreOnes}
 use Rattle.wt_part_laws.specs.Expanded.{part_items, calls_in}
-use Rattle.wt_part_laws.specs.Frames.{Frame, place, whole, around, Frames, no_frames, more_frames, tree_at, trees_at, places_in, all_places}
+use Rattle.wt_part_laws.specs.Frames.{Frame, place, whole, around, Frames, no_frames, more_frames, tree_at, places_in, all_places}
 use Rattle.wt_part_laws.specs.HeldCalls.{HoldsItsCalls, AllHold}
 use Rattle.wt_part_laws.specs.MovedCalls.{AreMoved}
 use Rattle.wt_part_laws.proofs.FrameEnds.{held}
 use Rattle.wt_text_edit_laws.specs.BlockSpots.{BlockSpot, spots_source}
-use Rattle.wt_text_edit_laws.specs.ParagraphBetween.{body_with}
 use Rattle.wt_text_edit_laws.specs.TextBlocks.{source_of}
 use Rattle.wt_called_edit_laws.specs.CalledBlocks.{counted}
-use Rattle.wt_called_edit_laws.specs.CalledContents.{items_round, tree_round}
+use Rattle.wt_called_edit_laws.specs.CalledContents.{tree_round}
 use Rattle.wt_called_edit_laws.specs.CallingBlocks.{IsContentIn, AreContentsInFolder, AreEdited, AreCallingBlocks, tree_with_calls, CallingBlocksStand}
 use Rattle.wt_called_edit_laws.specs.Parts.{calls_to, calls_past, called_items}
 use Rattle.wt_called_edit_laws.specs.WholeContents.{of_call}

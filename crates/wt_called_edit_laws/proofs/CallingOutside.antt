@@ -1,17 +1,15 @@
 -- Where each of the blocks, which may hold calls, has a byte that no group of the page's tree has, no node round them is in a group.
-use Rattle.std.proofs.Common.{arith, ◌≡◌, ◌<◌, ℕ, suc, true, false, Option, Some, None, List, [], ◌∷◌, ◌++◌, map, length, refl, sym, ap, ◌∙◌, subst, append-nil}
+use Rattle.std.proofs.Common.{◌≡◌, ℕ, suc, None, List, [], ◌∷◌, map, length, refl, sym, ap, ◌∙◌, subst, append-nil}
 use Rattle.wt_tree.specs.Tree.{Tree}
-use Rattle.wt_span.specs.Items.{Item, call_of}
 use Rattle.wt_span.specs.Origins.{OuterCall}
 use Rattle.wt_inline.specs.ItemTree.{ItemTree, tree_items}
 use Rattle.wt_expand.specs.Expansion.{page_work}
 use Rattle.wt_expand.specs.PageCalls.{expanded_page}
 use Rattle.wt_expand.specs.Work.{Pages, first_refusal}
-use Rattle.wt_expand.proofs.PiecePlaces.{behind_page}
 use Rattle.wt_page.specs.Body.{meaning}
 use Rattle.wt_annotated.specs.Annotated.{annotated}
 use Rattle.wt_annotated.specs.GroupData.{group_data}
-use Rattle.wt_annotated.specs.Seams.{first_of, text_from}
+use Rattle.wt_annotated.specs.Seams.{text_from}
 use Rattle.wt_annotated.proofs.Seams.{page_is}
 use Rattle.wt_page_round_trip.proofs.HeldPages.{its_page}
 use Rattle.wt_part_laws.specs.Frames.{Frames, trees_at, all_places, content}
@@ -34,7 +32,7 @@ use Rattle.wt_called_edit_laws.proofs.CallingGaps.{FillsEdited, gaps_by_letters}
 use Rattle.wt_called_edit_laws.proofs.CallingGroups.{calls_kept, edited_self, edited_round, stand_again}
 use Rattle.wt_called_edit_laws.proofs.CallNumbers.{IsCallOf, by_numbers, blocks_there}
 use Rattle.wt_called_edit_laws.proofs.Cells.CallingFrames.{edited_anew, calling_stand, calling_again}
-use Rattle.wt_called_edit_laws.proofs.Cells.PlaceGaps.{Gaps, last_gap, numbers_in, fill, source_at, sources_at, own_sources, AreSame, sources_counted, count_counted, many_by}
+use Rattle.wt_called_edit_laws.proofs.Cells.PlaceGaps.{Gaps, last_gap, numbers_in, fill, sources_at, own_sources, AreSame, sources_counted, count_counted, many_by}
 use Rattle.wt_called_edit_laws.proofs.Cells.SpotTrees.{counted_same}
 use Rattle.wt_called_edit_laws.proofs.EndCuts.{blocks_clean, round_clean}
 use Rattle.wt_called_edit_laws.proofs.FreePlaces.{clean_where_free}

@@ -1,17 +1,15 @@
 -- Pages of which blocks that hold calls may be edited: with other contents they are such pages again, and what is not edited is the same.
-use Rattle.std.proofs.Common.{◌≡◌, ℕ, zero, suc, ◌+◌, None, List, [], ◌∷◌, length, refl, sym, ap, ap₂, ◌∙◌}
+use Rattle.std.proofs.Common.{◌≡◌, ℕ, zero, suc, None, List, [], ◌∷◌, refl, sym, ap, ◌∙◌}
 use Rattle.wt_span.specs.Origins.{OuterCall}
 use Rattle.wt_expand.specs.PageCalls.{expanded_page}
 use Rattle.wt_expand.specs.Work.{Pages}
 use Rattle.wt_annotated.specs.CutTexts.{cut_texts}
 use Rattle.wt_inline.specs.ItemTree.{ItemTree}
-use Rattle.wt_part_laws.specs.Expanded.{part_items, calls_in}
+use Rattle.wt_part_laws.specs.Expanded.{part_items}
 use Rattle.wt_part_laws.specs.HeldCalls.{block_in}
-use Rattle.wt_part_laws.specs.MovedCalls.{AreMoved}
 use Rattle.wt_part_laws.specs.Rounded.{HaveSameData}
 use Rattle.wt_part_laws.proofs.SameWalks.{walk_same}
 use Rattle.wt_text_edit_laws.specs.BlockSpots.{BlockSpot, spots_source}
-use Rattle.wt_text_edit_laws.specs.TextBlocks.{source_of}
 use Rattle.wt_called_edit_laws.specs.CalledContents.{tree_round}
 use Rattle.wt_called_edit_laws.specs.CallingBlocks.{AreEdited, tree_with_calls}
 use Rattle.wt_called_edit_laws.specs.CallingEdits.{AllTakeLetters, IsCallingPage, StaysAt}

@@ -4,12 +4,11 @@ use Rattle.std.specs.Prelude.{if◌then◌else◌}
 use Rattle.wt_span.specs.Items.{Item, char, whole, call_of, sources}
 use Rattle.wt_span.specs.Origins.{OuterCall, same_call}
 use Rattle.wt_tree.specs.Kinds.{is_leaf}
-use Rattle.wt_tree.specs.Tree.{Label, Tree, tree, Trees, label}
+use Rattle.wt_tree.specs.Tree.{Tree, tree, Trees, label}
 use Rattle.wt_annotated.specs.Numbering.{next_after}
 use Rattle.wt_checks.specs.Kept.{children}
 use Rattle.wt_expand.specs.PageCalls.{expanded_page}
 use Rattle.wt_expand.specs.PageItems.{page_items}
-use Rattle.wt_expand.specs.Expansion.{page_work}
 use Rattle.wt_expand.specs.Work.{Pages, Entry, entered}
 use Rattle.wt_part_laws.specs.Expanded.{part_items, calls_in}
 use Rattle.wt_part_laws.specs.Frames.{content}
@@ -37,7 +36,6 @@ use Rattle.wt_called_edit_laws.specs.Nodes.{block_at}
 use Rattle.wt_called_edit_laws.specs.Parts.{calls_to, calls_past, called_items, called_outers, called_work, work_in}
 use Rattle.wt_called_edit_laws.specs.Retyped.{AreRetyped}
 use Rattle.wt_called_edit_laws.specs.Settled.{all_settled}
-use Rattle.wt_called_edit_laws.specs.SettledPages.{AreKindred}
 use Rattle.wt_called_edit_laws.proofs.BlocksMade.{blocks_made}
 use Rattle.wt_called_edit_laws.proofs.Cells.CalledFrames.{among_contents, calm_over}
 use Rattle.wt_called_edit_laws.proofs.EditFacts.{IsFramedPage, paths_of, new_spots, AreWellSent, well_sent, spots_body}

@@ -1,8 +1,7 @@
 -- The same nodes with other blocks among them, each with the number and at the place that the rest leaves it: nothing but these blocks is another one, and
 -- all is moved by the bytes that were added before it.
-use Rattle.std.proofs.Common.{arith, ◌≡◌, ℕ, zero, suc, ◌+◌, Bool, true, false, Option, Some, None, List, [], ◌∷◌, ◌++◌, length, refl, sym, ap, ◌∙◌, subst, length-append}
+use Rattle.std.proofs.Common.{arith, ◌≡◌, ℕ, ◌+◌, Bool, true, false, Option, Some, None, List, ◌++◌, length, refl, sym, ap, ◌∙◌, subst, length-append}
 use Rattle.std.specs.Prelude.{if◌then◌else◌}
-use Rattle.wt_tree.specs.declared.kind.Ranges.{Ranges}
 use Rattle.wt_tree.specs.Kinds.{is_leaf}
 use Rattle.wt_tree.specs.Source.{flat, flat_of_all}
 use Rattle.wt_tree.specs.Tiling.{is_group}
@@ -10,11 +9,11 @@ use Rattle.wt_tree.specs.Tree.{Label, Tree, tree, Trees, none, more, label}
 use Rattle.wt_annotated.specs.Numbering.{next_after, count}
 use Rattle.wt_annotated.specs.Slices.{opening_of, opening_by}
 use Rattle.wt_part_laws.specs.Frames.{Part}
-use Rattle.wt_part_laws.specs.TreeFrames.{TreeFrame, spot, kept, holder, TreeFrames, no_nodes, more_nodes, filled, all_filled, spots}
+use Rattle.wt_part_laws.specs.TreeFrames.{TreeFrame, spot, kept, holder, TreeFrames, no_nodes, more_nodes, filled, all_filled}
 use Rattle.wt_typed_blocks.specs.Edited.{Edited, stays, edited, round, Edits, no_edits, more_edits}
-use Rattle.wt_called_edit_laws.specs.LocalChange.{Shift, MovesBy, RangesMove, MovesIn, StaysMoved, AllStayMoved, past_block, past_node, past_nodes, IsLocalAt, AreLocal}
+use Rattle.wt_called_edit_laws.specs.LocalChange.{Shift, MovesBy, MovesIn, StaysMoved, AllStayMoved, past_block, past_node, past_nodes, IsLocalAt, AreLocal}
 use Rattle.wt_called_edit_laws.specs.Nodes.{NoLeaves, NoneLeaves, IsHolder, AreHolders}
-use Rattle.wt_called_edit_laws.specs.Sends.{BlockSent, NoneEdited, Sends, AllSend}
+use Rattle.wt_called_edit_laws.specs.Sends.{BlockSent, Sends, AllSend}
 use Rattle.wt_called_edit_laws.specs.Settled.{settled, all_settled}
 use Rattle.wt_called_edit_laws.specs.SettledPages.{AreKindred}
 use Rattle.wt_called_edit_laws.proofs.CutFrames.{no_group_round}

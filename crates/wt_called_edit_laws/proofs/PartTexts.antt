@@ -23,7 +23,7 @@ use Rattle.wt_expand.specs.Stretches.{page_bytes}
 use Rattle.wt_expand.proofs.PiecePlaces.{text_behind, behind_page, behind_same, AllFrom, form_from, chars_from}
 use Rattle.wt_expand.proofs.Given.{stretches_join}
 use Rattle.wt_part_laws.specs.Expanded.{moved_call, part_items}
-use Rattle.wt_text_edit_laws.specs.BlockSpots.{BlockSpot}
+use Rattle.wt_text_edit_laws.specs.BlockSpots.{BlockSpot, spots_source}
 use Rattle.wt_text_edit_laws.specs.TextBlocks.{source_of}
 use Rattle.wt_called_edit_laws.specs.PartTexts.{AreSourcesAt, AreBlockTexts, AreTextsOfPage}
 use Rattle.wt_called_edit_laws.specs.Parts.{AreCalled, calls_to, calls_past, called_outers}
@@ -186,11 +186,17 @@ pub sources_first : (cs calls : List OuterCall) → AreSourcesAt (cs ++ calls) 0
 sources_first [] calls = tt
 sources_first (c ∷ cs) calls = (refl, one_past c (cs ++ calls) 0 cs (sources_first cs calls))
 
+-- those of each block are these of the page
+abbrev pub AreNamed : Pages → List OuterCall → ℕ → List BlockSpot → Type 0
+AreNamed pages calls k [] = Unit {0}
+AreNamed pages calls k (s ∷ ss) =
+    AreSourcesAt calls (calls_to pages k s) (expanded_page pages (source_of s.block s.text)).outer × AreNamed pages calls (calls_past pages k s) ss
+
 -- of calls among which these are, from this number on
-blocks_from : (pages : Pages) (calls : List OuterCall) (k : ℕ) (ss : List BlockSpot) (behind : List ℕ)
-    → ((j : ℕ) (cs : List OuterCall) → AreSourcesAt (called_outers pages ss behind) j cs → AreSourcesAt calls (k + j) cs) → AreBlockTexts pages calls k ss
-blocks_from pages calls k [] behind f = tt
-blocks_from pages calls k (s ∷ ss) behind f =
+named_from : (pages : Pages) (calls : List OuterCall) (k : ℕ) (ss : List BlockSpot) (behind : List ℕ)
+    → ((j : ℕ) (cs : List OuterCall) → AreSourcesAt (called_outers pages ss behind) j cs → AreSourcesAt calls (k + j) cs) → AreNamed pages calls k ss
+named_from pages calls k [] behind f = tt
+named_from pages calls k (s ∷ ss) behind f =
     let q : List ℕ = source_of s.block s.text in
     let before : List OuterCall = (expanded_page pages s.before).outer in
     let mine : List OuterCall = (expanded_page pages q).outer in
@@ -201,8 +207,8 @@ blocks_from pages calls k (s ∷ ss) behind f =
     sources_past before (map (moved_call a) (mine ++ map (moved_call b) rest)) 0 mine
     (sources_moved a (mine ++ map (moved_call b) rest) 0 mine (sources_first mine (map (moved_call b) rest))) in
     let at : k + (length before + 0) ≡ k + length before = omega arith in (
-      part_text pages calls (calls_to pages k s) q (subst (λ i. AreSourcesAt calls i mine) at (f (length before + 0) mine here)),
-      blocks_from pages calls (calls_past pages k s) ss behind
+      subst (λ i. AreSourcesAt calls i mine) at (f (length before + 0) mine here),
+      named_from pages calls (calls_past pages k s) ss behind
           (λ j cs h.
           let there : AreSourcesAt (called_outers pages (s ∷ ss) behind) (length before + (length mine + j)) cs =
           sources_past before (map (moved_call a) (mine ++ map (moved_call b) rest)) (length mine + j) cs
@@ -212,7 +218,17 @@ blocks_from pages calls k (s ∷ ss) behind f =
           subst (λ i. AreSourcesAt calls i cs) to (f (length before + (length mine + j)) cs there)),
     )
 
+named_texts : (pages : Pages) (calls : List OuterCall) (k : ℕ) (ss : List BlockSpot) → AreNamed pages calls k ss → AreBlockTexts pages calls k ss
+named_texts pages calls k [] h = tt
+named_texts pages calls k (s ∷ ss) h =
+    (part_text pages calls (calls_to pages k s) (source_of s.block s.text) h.0, named_texts pages calls (calls_past pages k s) ss h.1)
+
+pub block_calls : (pages : Pages) (ss : List BlockSpot) (behind : List ℕ) → AreCalled pages ss behind
+    → AreNamed pages (expanded_page pages (spots_source ss behind)).outer 0 ss
+block_calls pages ss behind h =
+    subst (λ calls. AreNamed pages calls 0 ss) (sym (is_by_parts pages ss behind h).outers)
+    (named_from pages (called_outers pages ss behind) 0 ss behind (λ j cs h. let e : j ≡ 0 + j = omega arith in subst (λ i. AreSourcesAt (called_outers pages ss behind) i cs) e h))
+
 pub block_texts : (pages : Pages) (ss : List BlockSpot) (behind : List ℕ) → AreCalled pages ss behind → AreTextsOfPage pages ss behind
 block_texts pages ss behind h =
-    subst (λ calls. AreBlockTexts pages calls 0 ss) (sym (is_by_parts pages ss behind h).outers)
-    (blocks_from pages (called_outers pages ss behind) 0 ss behind (λ j cs h. let e : j ≡ 0 + j = omega arith in subst (λ i. AreSourcesAt (called_outers pages ss behind) i cs) e h))
+    named_texts pages (expanded_page pages (spots_source ss behind)).outer 0 ss (block_calls pages ss behind h)

@@ -1,5 +1,5 @@
 -- A paragraph or heading of the page with calls in it, for which one with other texts beside these calls is sent: what is written for it.
-use Rattle.std.specs.Prelude.{◌≡◌, ◌⊎◌, ℕ, true, false, None, List, [], ◌∷◌}
+use Rattle.std.specs.Prelude.{◌≡◌, ◌⊎◌, ℕ, true, false, None, List, []}
 use Rattle.wt_tree.specs.declared.edit_shape.Place.TheVariants as place
 use Rattle.wt_tree.specs.EditShapes.{edit_shape}
 use Rattle.wt_tree.specs.Plain.{Plains, plain_before}

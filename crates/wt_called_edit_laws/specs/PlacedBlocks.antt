@@ -1,5 +1,5 @@
 -- A paragraph or a heading of a page where it is in it, by the page's items and by its lines: in the body, in a cell or in a caption.
-use Rattle.std.specs.Prelude.{◌≡◌, ℕ, true, List, [], ◌∷◌, ◌++◌, length}
+use Rattle.std.specs.Prelude.{◌≡◌, ℕ, List, [], ◌∷◌, ◌++◌, length}
 use Rattle.std.specs.Str.{IsUtf8}
 use Rattle.wt_span.specs.Items.{Item, sources}
 use Rattle.wt_lines.specs.declared.kind.LineKind.TheVariants as line

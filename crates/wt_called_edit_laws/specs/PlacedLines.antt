@@ -10,7 +10,7 @@ use Rattle.wt_tables.specs.Parts.{joined}
 use Rattle.wt_page.specs.Rows.{marks_len, rows_from}
 use Rattle.wt_part_laws.specs.Slots.{AllTrue}
 use Rattle.wt_text_edit_laws.specs.BlockSpots.{BlockSpot}
-use Rattle.wt_text_edit_laws.specs.PageCuts.{AreBlockItems, begins_unmarked, EndClosed, EndsClosed}
+use Rattle.wt_text_edit_laws.specs.PageCuts.{AreBlockItems, EndClosed}
 use Rattle.wt_text_edit_laws.specs.NoCalls.{CallsNothing}
 use Rattle.wt_text_edit_laws.specs.Parts.{HasNoGroups}
 use Rattle.wt_text_edit_laws.specs.ParagraphBetween.{written_rows, BeginApart}

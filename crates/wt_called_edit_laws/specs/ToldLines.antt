@@ -10,7 +10,7 @@ use Rattle.wt_page.specs.Rows.{Row, marks_len}
 use Rattle.wt_part_laws.specs.Slots.{AllTrue}
 use Rattle.wt_tables.specs.Parts.{joined}
 use Rattle.wt_text_edit_laws.specs.NoCalls.{CallsNothing}
-use Rattle.wt_text_edit_laws.specs.PageCuts.{begins_unmarked, EndClosed, EndsClosed}
+use Rattle.wt_text_edit_laws.specs.PageCuts.{EndClosed}
 use Rattle.wt_text_edit_laws.specs.ParagraphBetween.{written_rows}
 use Rattle.wt_text_edit_laws.specs.Parts.{HasNoGroups}
 use Rattle.wt_text_edit_laws.specs.TextBetween.{AreEnded}

@@ -35,7 +35,7 @@ use Rattle.wt_called_edit_laws.specs.Groups.{called_tree}
 use Rattle.wt_called_edit_laws.specs.LinedAmong.{spots_of_lines, end_of_lines}
 use Rattle.wt_called_edit_laws.specs.LinedCalling.{IsLinedCalling}
 use Rattle.wt_called_edit_laws.specs.Parts.{calls_to, calls_past}
-use Rattle.wt_called_edit_laws.specs.PartTexts.{HaveOwnSources}
+use Rattle.wt_called_edit_laws.specs.PartTexts.{AreSourcesAt, HaveOwnSources}
 use Rattle.wt_called_edit_laws.specs.PlacedLines.{LinedBlock}
 use Rattle.wt_called_edit_laws.specs.SentAsIs.{HaveNumberedGroups}
 use Rattle.wt_called_edit_laws.specs.SettledAt.{IsSettledAt}
@@ -45,6 +45,7 @@ use Rattle.wt_called_edit_laws.proofs.Among.CallingLines.{calling_whole, calling
 use Rattle.wt_called_edit_laws.proofs.CallingMade.{calm_block, calm_standing}
 use Rattle.wt_called_edit_laws.proofs.EditableBlocks.{editable_calling}
 use Rattle.wt_called_edit_laws.proofs.PageBody.{page_body}
+use Rattle.wt_called_edit_laws.proofs.PartTexts.{AreNamed, block_calls}
 use Rattle.wt_called_edit_laws.proofs.SettledEdits.{AreOfBlocks, all_there}
 use Rattle.wt_called_edit_laws.proofs.SpotSources.{grouped_at, blocks_have}
 use Rattle.wt_inside_laws.specs.AsSent.{edit_for, edits_of, paths_of, node_at, IsAlike, IsSentOn}
@@ -83,9 +84,9 @@ known pages page (p ∷ ps) a b c d e f =
     (record { retyped = a.0; alike = b.0; read = c.0; beside = d.0; groups = e.0; own = f.0 }, known pages page ps a.1 b.1 c.1 d.1 e.1 f.1)
 
 -- what is sent for it fits, where it is the page's block
-calling_fits : (pages : Pages) (page : List ℕ) (k : TextBlock) (q : List ℕ) (p : Pair) → IsBlockOf pages page k q p.old → IsBeside pages k q p.old → HoldsAnywhere pages k q
-    → IsWholeIn pages k q → IsKnownBeside pages page p → FitsIn pages k q (edit_for p)
-calling_fits pages page k q p b c hold whole h =
+calling_fits : (pages : Pages) (page : List ℕ) (k : TextBlock) (q : List ℕ) (p : Pair) → IsBlockOf pages page k q p.old → IsBeside pages k q p.old
+    → IsKnownBeside pages page p → FitsIn pages k q (edit_for p)
+calling_fits pages page k q p b c h =
     retyped_fits pages k q (expanded_page pages page) page p h.retyped h.read.read h.read.utf8
     (record {
       number = b.settled.number;
@@ -95,7 +96,7 @@ calling_fits pages page k q p b c hold whole h =
       some = b.settled.some;
       is = b.settled.is;
       groups = h.groups;
-      uncalled = block_uncalled pages page k q p.old b hold whole h.own;
+      uncalled = block_uncalled pages page k q p.old b h.own;
     }) c
 
 calm_fits_in : (pages : Pages) (page : List ℕ) (k : TextBlock) (q : List ℕ) (p : Pair) → IsBlockOf pages page k q p.old → IsCalmBlock k q p
@@ -107,11 +108,11 @@ calm_fits_in pages page k q p b c h =
     calm_standing k q v p.old c.content (calm_block pages calls b.before k q c.content c.calls_nothing) b.settled in
     inl (c.content, c.calls_nothing, calm_fits pages page k q p c.content c.calls_nothing stands h.retyped h.alike h.read c.nodes)
 
-block_fits : (pages : Pages) (page : List ℕ) (k : TextBlock) (q : List ℕ) (p : Pair) → IsBlockOf pages page k q p.old → HoldsAnywhere pages k q
-    → IsWholeIn pages k q → IsKnownBeside pages page p → FitsIn pages k q (edit_for p)
-block_fits pages page k q p b hold whole h = elim (h.beside k q b) [
+block_fits : (pages : Pages) (page : List ℕ) (k : TextBlock) (q : List ℕ) (p : Pair) → IsBlockOf pages page k q p.old → IsKnownBeside pages page p
+    → FitsIn pages k q (edit_for p)
+block_fits pages page k q p b h = elim (h.beside k q b) [
   | inl c ↦ calm_fits_in pages page k q p b c h
-  | inr c ↦ calling_fits pages page k q p b c hold whole h
+  | inr c ↦ calling_fits pages page k q p b c h
 ]
 
 -- ---- all of them
@@ -127,10 +128,11 @@ abbrev block_at : Pages → List ℕ → ℕ → BlockSpot → Tree
 block_at pages page i s = cut_texts (block_in (expanded_page pages page).outer (tree_round s.block (part_items pages i s.text)))
 
 spot_fits : (pages : Pages) (page : List ℕ) (t : Tree) (es : Edits) (ms : List Pair) (i : ℕ) (s : BlockSpot) (p : List ℕ) (o : Option Edited)
-    → edited_by es p ≡ o → SentKnown pages page t es ms → HoldsAnywhere pages s.block s.text → IsWholeIn pages s.block s.text → flat (block_at pages page i s) ≡ source_of s.block s.text
+    → edited_by es p ≡ o → SentKnown pages page t es ms → HoldsAnywhere pages s.block s.text → IsWholeIn pages s.block s.text
+    → AreSourcesAt (expanded_page pages page).outer i (expanded_page pages (source_of s.block s.text)).outer → flat (block_at pages page i s) ≡ source_of s.block s.text
     → IfSent (λ d. IsSettledAt (block_at pages page i s) (page_node d)) o → IfSent (FitsIn pages s.block s.text) o
-spot_fits pages page t es ms i s p None e h hold whole own st = tt
-spot_fits pages page t es ms i s p (Some x) e h hold whole own st =
+spot_fits pages page t es ms i s p None e h hold whole named own st = tt
+spot_fits pages page t es ms i s p (Some x) e h hold whole named own st =
     let v : Tree = block_at pages page i s in
     let a : PairAt (IsKnownBeside pages page) t es p =
     pair_at (IsKnownBeside pages page) t es p (paths_of es) ms (path_by es p x e) h.pairs h.at h.each in
@@ -140,19 +142,23 @@ spot_fits pages page t es ms i s p (Some x) e h hold whole own st =
     let block : IsBlockOf pages page s.block s.text a.pair.old = record {
       before = i;
       source = own;
+      calls = named;
+      holds = hold;
+      whole = whole;
       settled = subst (IsSettledAt v) (same_old same_node (page_of (page_tree pages page)) a.pair a.known.alike) there;
     } in
-    subst (FitsIn pages s.block s.text) is (block_fits pages page s.block s.text a.pair block hold whole a.known)
+    subst (FitsIn pages s.block s.text) is (block_fits pages page s.block s.text a.pair block a.known)
 
 all_fit : (pages : Pages) (page : List ℕ) (t : Tree) (es : Edits) (ms : List Pair) (k : ℕ) (ss : List BlockSpot) (ps : List (List ℕ))
-    → SentKnown pages page t es ms → EachHolds pages ss → EachWhole pages ss → HaveOwnSources (grouped_at (expanded_page pages page).outer pages k ss) ss
+    → SentKnown pages page t es ms → EachHolds pages ss → EachWhole pages ss
+    → AreNamed pages (expanded_page pages page).outer k ss → HaveOwnSources (grouped_at (expanded_page pages page).outer pages k ss) ss
     → AreOfBlocks (grouped_at (expanded_page pages page).outer pages k ss) ss (map (edited_by es) ps) → AreFittingIn pages ss (map (edited_by es) ps)
-all_fit pages page t es ms k [] [] h hold whole own b = tt
-all_fit pages page t es ms k [] (p ∷ ps) h hold whole own b = absurd b
-all_fit pages page t es ms k (s ∷ ss) [] h hold whole own b = absurd b
-all_fit pages page t es ms k (s ∷ ss) (p ∷ ps) h hold whole own b = (
-  spot_fits pages page t es ms (calls_to pages k s) s p (edited_by es p) refl h hold.0 whole.0 own.0 b.0,
-  all_fit pages page t es ms (calls_past pages k s) ss ps h hold.1 whole.1 own.1 b.1,
+all_fit pages page t es ms k [] [] h hold whole named own b = tt
+all_fit pages page t es ms k [] (p ∷ ps) h hold whole named own b = absurd b
+all_fit pages page t es ms k (s ∷ ss) [] h hold whole named own b = absurd b
+all_fit pages page t es ms k (s ∷ ss) (p ∷ ps) h hold whole named own b = (
+  spot_fits pages page t es ms (calls_to pages k s) s p (edited_by es p) refl h hold.0 whole.0 named.0 own.0 b.0,
+  all_fit pages page t es ms (calls_past pages k s) ss ps h hold.1 whole.1 named.1 own.1 b.1,
 )
 
 -- ---- the edit
@@ -166,8 +172,8 @@ pub record BesideSent (pages : Pages) (ss : List BlockSpot) (behind : List ℕ) 
 
 pub beside_sent : (pages : Pages) (ss : List BlockSpot) (behind : List ℕ) (new : Tree) (c : TakesContentsIn pages ss behind) → IsUtf8 (spots_source ss behind)
     → refusal_of_page pages (spots_source ss behind) ≡ None → HaveOwnSources (block_with_groups pages ss behind) ss
-    → EachHolds pages ss → EachWhole pages ss → IsBesideEdit pages (spots_source ss behind) c.paths new → BesideSent pages ss behind c.paths new
-beside_sent pages ss behind new c utf8 unrefused own hold whole e =
+    → IsCallingPage pages ss behind → IsBesideEdit pages (spots_source ss behind) c.paths new → BesideSent pages ss behind c.paths new
+beside_sent pages ss behind new c utf8 unrefused own there e =
     let page : List ℕ = spots_source ss behind in
     let t : Tree = called_tree pages page in
     let ms : List Pair = marked (page_tree pages page) new in
@@ -193,18 +199,18 @@ beside_sent pages ss behind new c utf8 unrefused own hold whole e =
       old = sent.old;
       sent = sent.stay;
       edits = sent.only c.paths e.among;
-      fit = all_fit pages page t es ms 0 ss c.paths pairs hold whole own of_blocks;
+      fit = all_fit pages page t es ms 0 ss c.paths pairs there.hold there.whole (block_calls pages ss behind there.outside.blocks.called) own of_blocks;
     } in
     record { sent = sent; edit = edit; same = ap (spliced page) (sent.changes b) ∙ c.makes b es edit }
 
 beside_done : (pages : Pages) (ss : List BlockSpot) (behind : List ℕ) (new : Tree) (c : TakesContentsIn pages ss behind) → IsUtf8 (spots_source ss behind)
     → refusal_of_page pages (spots_source ss behind) ≡ None → HaveOwnSources (block_with_groups pages ss behind) ss
-    → EachHolds pages ss → EachWhole pages ss → IsBesideEdit pages (spots_source ss behind) c.paths new
+    → IsCallingPage pages ss behind → IsBesideEdit pages (spots_source ss behind) c.paths new
     → edit_to pages (spots_source ss behind) new ≡ done (spliced (spots_source ss behind) (slices same_node (page_tree pages (spots_source ss behind)) new))
 unfolding most_bytes
-beside_done pages ss behind new c utf8 unrefused own hold whole e =
+beside_done pages ss behind new c utf8 unrefused own there e =
     let es : Edits = edits_of (called_tree pages (spots_source ss behind)) new in
-    let s : BesideSent pages ss behind c.paths new = beside_sent pages ss behind new c utf8 unrefused own hold whole e in
+    let s : BesideSent pages ss behind c.paths new = beside_sent pages ss behind new c utf8 unrefused own there e in
     let room : length (edited_page ss behind c.paths es) ≤ PAGE_BYTES = subst (λ (bs : List ℕ). length bs ≤ PAGE_BYTES) s.same e.edit.room in
     s.sent.alike (label new) ∙ c.takes (label new) es s.edit room ∙ ap done (sym s.same)
 
@@ -219,7 +225,7 @@ calling_edit_done pages page bs rest new h c e =
     subst (λ (q : List ℕ). IsUtf8 q → refusal_of_page pages q ≡ None → IsBesideEdit pages q c.paths new
     → edit_to pages q new ≡ done (spliced q (slices same_node (page_tree pages q) new)))
     (calling_whole pages page bs rest h)
-    (λ u r k. beside_done pages ss behind new c u r (blocks_have pages ss behind there.outside there.unrefused) there.hold there.whole k) h.utf8 h.unrefused e
+    (λ u r k. beside_done pages ss behind new c u r (blocks_have pages ss behind there.outside there.unrefused) there k) h.utf8 h.unrefused e
 
 pub html_beside : (pages : Pages) (page input : List ℕ) (bs : List LinedBlock) (rest : List (List Item)) (paths : List (List ℕ)) (new : Tree) (unsourced : Option ℕ)
     → IsLinedCalling pages page bs rest → IsBesideHtml pages page input paths new unsourced → IsBesideEdit pages page paths new

@@ -50,6 +50,7 @@ pub mod CallingEdits
 pub mod ToldEdits
 pub mod UncalledBlocks
 pub mod BesideEdits
+pub mod TextAndCallBlocks
 pub mod HtmlEdits
 pub mod OrdinaryEdits
 pub mod NothingMoved

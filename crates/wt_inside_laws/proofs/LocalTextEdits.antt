@@ -110,7 +110,7 @@ beside_local : (pages : Pages) (ss : List BlockSpot) (behind : List ℕ) (new : 
 beside_local pages ss behind new c h utf8 unrefused e =
     let es : Edits = edits_of (called_tree pages (spots_source ss behind)) new in
     let s : BesideSent pages ss behind c.paths new =
-    beside_sent pages ss behind new c utf8 unrefused (blocks_have pages ss behind h.outside h.unrefused) h.hold h.whole e in
+    beside_sent pages ss behind new c utf8 unrefused (blocks_have pages ss behind h.outside h.unrefused) h e in
     record {
       old = s.sent.old;
       at = s.sent.at;

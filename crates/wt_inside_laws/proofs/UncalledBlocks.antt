@@ -47,15 +47,14 @@ uncalled_child none o s = absurd s
 uncalled_child (more (tree l us) ts) o (inl e) = inl (by_form (edit_shape l.kind).inline l us o.0 e)
 uncalled_child (more (tree l us) ts) o (inr s) = inr (uncalled_child ts o.1 s)
 
-pub block_uncalled : (pages : Pages) (page : List ℕ) (k : TextBlock) (q : List ℕ) (t : Tree) → IsBlockOf pages page k q t → HoldsAnywhere pages k q
-    → IsWholeIn pages k q → AreOwnTexts (children_of t) → HoldsUncalled k t
-block_uncalled pages page a_paragraph q t b hold whole own = (
+pub block_uncalled : (pages : Pages) (page : List ℕ) (k : TextBlock) (q : List ℕ) (t : Tree) → IsBlockOf pages page k q t → AreOwnTexts (children_of t) → HoldsUncalled k t
+block_uncalled pages page a_paragraph q t b own = (
   own,
   uncalled_child (children_of t) own
       (subst (λ (u : Tree). SomeNoGroup (children_of u)) (sym b.settled.is)
-      (whole_uncalled pages (expanded_page pages page).outer b.settled.number b.settled.at b.before q hold whole)),
+      (whole_uncalled pages (expanded_page pages page).outer b.settled.number b.settled.at b.before q b.holds b.whole)),
 )
-block_uncalled pages page (a_heading s) q t b hold whole own = tt
+block_uncalled pages page (a_heading s) q t b own = tt
 
 -- ---- its texts
 

@@ -18,17 +18,24 @@ use Rattle.wt_text_edit_laws.specs.NoCalls.{CallsNothing}
 use Rattle.wt_text_edit_laws.specs.TextBlocks.{TextBlock, source_of, block_items}
 use Rattle.wt_called_edit_laws.specs.CalledContents.{tree_round}
 use Rattle.wt_called_edit_laws.specs.Groups.{called_tree}
+use Rattle.wt_called_edit_laws.specs.PartTexts.{AreSourcesAt}
 use Rattle.wt_called_edit_laws.specs.SettledAt.{IsSettledAt}
+use Rattle.wt_called_edit_laws.specs.WholeContents.{IsWholeIn}
+use Rattle.wt_called_edit_laws.specs.WrittenAnew.{HoldsAnywhere}
 use Rattle.wt_inside_laws.specs.AsSent.{edits_of, paths_of, AreSomeOf, IsReadFor}
 use Rattle.wt_inside_laws.specs.RetypedCalls.{IsBeside}
 use Rattle.wt_inside_laws.specs.TextEdits.{IsTextEdit}
 use Rattle.wt_inside_laws.specs.ToldEdits.{IsReadBlock, HasEndedNodes}
 
--- A node of the page is this paragraph or heading, with its groups, where so many calls come before it: that is its source there.
+-- A node of the page is this paragraph or heading, with its groups, where so many calls come before it: that is its source there, and its calls are these of
+-- the page. Wherever it is, it holds its calls, and can be read by itself.
 pub record IsBlockOf (pages : Pages) (page : List ℕ) (k : TextBlock) (q : List ℕ) (t : Tree) : Type 0 where
   pub before : ℕ
   pub source : flat (cut_texts (block_in (expanded_page pages page).outer (tree_round k (part_items pages before q)))) ≡ source_of k q
   pub settled : IsSettledAt (cut_texts (block_in (expanded_page pages page).outer (tree_round k (part_items pages before q)))) t
+  pub calls : AreSourcesAt (expanded_page pages page).outer before (expanded_page pages (source_of k q)).outer
+  pub holds : HoldsAnywhere pages k q
+  pub whole : IsWholeIn pages k q
 
 -- a marked block calls nothing, and its nodes are as in any such block
 pub record IsCalmBlock (k : TextBlock) (q : List ℕ) (p : Pair) : Type 0 where

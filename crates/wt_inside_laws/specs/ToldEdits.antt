@@ -1,5 +1,5 @@
 -- Text edits of a page, whatever it calls, among paragraphs and headings that are told by its lines: what is asked of them.
-use Rattle.std.specs.Prelude.{◌≡◌, ◌≤◌, ℕ, Option, None, List, [], length}
+use Rattle.std.specs.Prelude.{◌≡◌, ◌≤◌, ℕ, Option, None, List, length}
 use Rattle.std.specs.List.{AllByRecursion}
 use Rattle.std.specs.Str.{IsUtf8}
 use Rattle.wt_span.specs.declared.limits.TheConstants.{PAGE_BYTES}
@@ -13,8 +13,6 @@ use Rattle.wt_schema.specs.Read.{page as as_page, read}
 use Rattle.wt_slices.specs.Changes.{Pair, marked}
 use Rattle.wt_visible.specs.SameNodes.{same_node}
 use Rattle.wt_commands.specs.Answers.{refusal_of_page}
-use Rattle.wt_text_edit_laws.specs.NoCalls.{CallsNothing}
-use Rattle.wt_text_edit_laws.specs.Parts.{HasNoGroups}
 use Rattle.wt_text_edit_laws.specs.TextBlocks.{TextBlock, block_tree}
 use Rattle.wt_beside_laws.specs.EndedNodes.{AreEndedNodes}
 use Rattle.wt_beside_laws.specs.FlatBlocks.{signs_in}

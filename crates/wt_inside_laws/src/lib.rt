@@ -14,7 +14,10 @@ pub use as_sent::{
     text_edits_beside_calls_are_done, text_edits_in_html_are_done,
     text_edits_of_told_blocks_are_done, what_is_read_may_be_sent,
 };
-pub use calling::{retyped_blocks_that_call_fit, texts_of_blocks_show_their_sources};
+pub use calling::{
+    blocks_of_texts_and_calls_take_texts, retyped_blocks_that_call_fit,
+    texts_of_blocks_show_their_sources,
+};
 pub use edges::blocks_meet_plainly;
 pub use insides::{
     only_the_inside_changes, own_pieces_are_sent_as_they_are, retyped_blocks_are_edited,

@@ -18,14 +18,14 @@ use Rattle.wt_span.specs.Tags.{Tag, opening_tag, closing_tag, with_inside, is_no
 use Rattle.wt_lex.proofs.AllForms.{form_fits}
 use Rattle.wt_lex.proofs.Begins.{and_right, byte_is, is_within, begins_len}
 use Rattle.wt_lex.proofs.TagForms.{OptTag, opening_fits, closing_fits, EndsTag, OptEnds}
-use Rattle.wt_expand.specs.PageItems.{raw_form_by, form_of, items_of_word, page_items}
+use Rattle.wt_expand.specs.PageItems.{raw_form_by, form_of, page_items}
 use Rattle.wt_typed_blocks.specs.Reading.{stands}
 use Rattle.wt_text_edit_laws.specs.LonePages.{page_chars}
 use Rattle.wt_text_edit_laws.specs.TextBetween.{EndsBy, is_end, AreEnded, ends_comment}
 use Rattle.wt_text_edit_laws.proofs.Between.Fronts.{items_from, byte_from, form_from}
 use Rattle.wt_text_edit_laws.proofs.Cuts.ItemCuts.{page_from}
 use Rattle.wt_beside_laws.specs.OpenEnds.{MarksEnd}
-use Rattle.wt_beside_laws.proofs.Own.Words.{LexemeEnds, OptWordEnds, comment_ends, tag_end, inside_end, raw_end, reference_ends, reference_word, sign_ends, ends_taken}
+use Rattle.wt_beside_laws.proofs.Own.Words.{LexemeEnds, OptWordEnds, comment_ends, tag_end, inside_end, raw_end, reference_ends, reference_word, ends_taken}
 
 -- ---- a comment and a hidden part that go on to the text's end
 

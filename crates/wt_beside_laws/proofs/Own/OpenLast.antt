@@ -15,9 +15,9 @@ use Rattle.wt_span.specs.declared.form.Mode.TheVariants.{Page}
 use Rattle.wt_span.specs.Bytes.{is_blank, is_break, begins, blank_len}
 use Rattle.wt_span.specs.Comments.{comment_len, comment_line_len, remarks_len, remarks_with}
 use Rattle.wt_span.specs.Entities.{entity_at}
-use Rattle.wt_span.specs.Items.{Item, char, whole, sign}
+use Rattle.wt_span.specs.Items.{Item, char, whole}
 use Rattle.wt_span.specs.Lexemes.{Word, as_word, comment_line_word, entity_word, sign_word, form_at}
-use Rattle.wt_span.specs.Tags.{Tag, opening_tag, closing_tag, len_if_named, to_closing, with_inside, is_raw_name, is_nowiki, raw_by, raw_len, hides, is_left_out, hidden_len, opening_include, closing_include, include_at}
+use Rattle.wt_span.specs.Tags.{Tag, opening_tag, closing_tag, len_if_named, to_closing, with_inside, is_raw_name, raw_by, raw_len, hides, is_left_out, hidden_len, opening_include, closing_include, include_at}
 use Rattle.wt_lex.specs.Words.{is_form_byte}
 use Rattle.wt_lex.proofs.AllForms.{form_fits}
 use Rattle.wt_lex.proofs.Begins.{and_right, byte_is, is_within, begins_get, begins_len}
@@ -27,18 +27,16 @@ use Rattle.wt_lex.proofs.TagForms.{TagFits, OptTag, opening_fits, EndsTag}
 use Rattle.wt_lex.proofs.WholeComments.{comment_front, no_comment_front}
 use Rattle.wt_lex.proofs.WholeTags.{opening_front, closing_more}
 use Rattle.wt_lines.specs.Kinds.{is_mark_sign, is_idle}
-use Rattle.wt_lines.specs.Lines.{is_break_item}
 use Rattle.wt_names.specs.Good.{holds}
-use Rattle.wt_expand.specs.PageItems.{raw_form_by, form_of, items_of_word, page_items}
+use Rattle.wt_expand.specs.PageItems.{items_of_word, page_items}
 use Rattle.wt_part_laws.specs.Lexer.{lexer}
 use Rattle.wt_part_laws.specs.Scans.{after_all, skipped_by, Settles, IsFrontOf}
 use Rattle.wt_part_laws.proofs.LexemeFronts.{lexemes_front}
 use Rattle.wt_typed_blocks.specs.Reading.{stands}
 use Rattle.wt_typed_blocks.proofs.Forms.{comment_not, other_byte}
-use Rattle.wt_text_edit_laws.specs.LonePages.{page_chars}
 use Rattle.wt_text_edit_laws.specs.PageCuts.{EndsClosed}
 use Rattle.wt_text_edit_laws.specs.TypedHeadings.{NoBreaks}
-use Rattle.wt_text_edit_laws.specs.Unclosed.{is_tag_unclosed, is_unclosed, is_unclosed_item, last_of}
+use Rattle.wt_text_edit_laws.specs.Unclosed.{is_tag_unclosed, is_unclosed_item, last_of}
 use Rattle.wt_text_edit_laws.proofs.Between.Fronts.{ReadsAfter, items_from, byte_from, form_from, page_read, reads_after, reads_either, alone_reads, front_reads}
 use Rattle.wt_text_edit_laws.proofs.Between.LineForms.{get_behind}
 use Rattle.wt_text_edit_laws.proofs.Between.LineWords.{either}

@@ -1,12 +1,11 @@
 -- Each block that is told alone by the lines of an expanded page is one of all that are.
-use Rattle.std.proofs.Common.{arith, ◌≡◌, ℕ, ◌+◌, None, List, [], ◌∷◌, ◌++◌, length, map, refl, sym, ap, ◌∙◌, subst}
+use Rattle.std.proofs.Common.{arith, ◌≡◌, ℕ, ◌+◌, None, List, [], ◌∷◌, ◌++◌, length, subst}
 use Rattle.std.specs.Str.{IsUtf8}
-use Rattle.wt_span.specs.Items.{Item, sources}
+use Rattle.wt_span.specs.Items.{sources}
 use Rattle.wt_annotated.specs.Seams.{text_from}
 use Rattle.wt_expand.specs.PageCalls.{expanded_page}
 use Rattle.wt_expand.specs.Work.{Pages}
 use Rattle.wt_commands.specs.Answers.{refusal_of_page}
-use Rattle.wt_lines.specs.Lines.{content}
 use Rattle.wt_tables.specs.Parts.{joined}
 use Rattle.wt_part_laws.specs.Standing.{standing}
 use Rattle.wt_text_edit_laws.specs.TextBlocks.{TextBlock, block_tree}
@@ -16,7 +15,7 @@ use Rattle.wt_called_edit_laws.specs.Groups.{called_tree}
 use Rattle.wt_called_edit_laws.specs.LinedAmong.{AreBeside}
 use Rattle.wt_called_edit_laws.specs.ToldAmong.{IsToldAmong}
 use Rattle.wt_called_edit_laws.specs.ToldLines.{Told, lined}
-use Rattle.wt_called_edit_laws.specs.ToldTogether.{start_of, told_starts, IsAmongNumbers, AreAllTold}
+use Rattle.wt_called_edit_laws.specs.ToldTogether.{AreAllTold}
 use Rattle.wt_called_edit_laws.proofs.Told.FreeNodes.{tree_untangled, untangled_shut}
 use Rattle.wt_called_edit_laws.proofs.AllTold.Alone.{IsAloneTold, IsAloneHere, alone_here, IsAloneRead, alone_read, content_closed}
 use Rattle.wt_called_edit_laws.proofs.AllTold.Chosen.{IsChosen}

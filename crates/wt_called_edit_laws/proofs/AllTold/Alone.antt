@@ -2,7 +2,7 @@
 use Rattle.std.proofs.Common.{arith, ◌≡◌, inl, ℕ, ◌+◌, None, List, [], ◌∷◌, ◌++◌, length, map, refl, sym, ap, ◌∙◌, subst}
 use Rattle.std.specs.Str.{IsUtf8}
 use Rattle.wt_span.specs.Items.{Item, char, sources}
-use Rattle.wt_span.specs.Origins.{OuterCall, Span}
+use Rattle.wt_span.specs.Origins.{OuterCall}
 use Rattle.wt_span.specs.Runs.{AreRuns}
 use Rattle.wt_span.proofs.RunLaws.{runs_are}
 use Rattle.wt_annotated.specs.Seams.{text_from}
@@ -27,7 +27,7 @@ use Rattle.wt_called_edit_laws.specs.LinedAmong.{spots_of_lines, end_of_lines, A
 use Rattle.wt_called_edit_laws.specs.PlacedLines.{LinedBlock, all_lines, IsLinedAt}
 use Rattle.wt_called_edit_laws.specs.ToldLines.{Told, lined, rows_before, AreTold}
 use Rattle.wt_called_edit_laws.proofs.Among.BlockAt.{calls_of, IsRest, text_to}
-use Rattle.wt_called_edit_laws.proofs.Among.LinedParts.{IsLinedHere, lined_here, line_front, block_front, ends_text, spot_of, spot_source, page_rest}
+use Rattle.wt_called_edit_laws.proofs.Among.LinedParts.{IsLinedHere, lined_here, line_front, ends_text, spot_of, spot_source, page_rest}
 use Rattle.wt_called_edit_laws.proofs.Among.ToldAmong.{closed_here, told_at}
 use Rattle.wt_called_edit_laws.proofs.Cells.ContentItems.{round_is, items_by}
 use Rattle.wt_called_edit_laws.proofs.Cells.PlacedLines.{own_items}

@@ -5,7 +5,7 @@ use Rattle.wt_span.specs.declared.form.ItemForm.TheVariants as form
 use Rattle.wt_span.specs.Items.{Item, char, whole, call_of, sign, sources}
 use Rattle.wt_span.specs.Origins.{Span, Expanded}
 use Rattle.wt_tree.specs.declared.kind.Ranges.{Ranges}
-use Rattle.wt_tree.specs.Tiling.{is_group, HasNoGroup, NoneIsGroup}
+use Rattle.wt_tree.specs.Tiling.{is_group}
 use Rattle.wt_tree.specs.Tree.{Tree, tree, Trees, none, more}
 use Rattle.wt_annotated.specs.Seams.{last_of, text_from}
 use Rattle.std.specs.List.{list_any}
@@ -29,7 +29,6 @@ use Rattle.wt_text_edit_laws.specs.Contents.{content_parts_of}
 use Rattle.wt_text_edit_laws.specs.LonePages.{of_items}
 use Rattle.wt_text_edit_laws.specs.NoCalls.{Brace, opening, closing, braces, NoneClose, NonePairs, CallsNothing}
 use Rattle.wt_text_edit_laws.specs.PageCuts.{EndsClosed, IsFreeBlock}
-use Rattle.wt_text_edit_laws.specs.Parts.{HasNoGroups, part_tree}
 use Rattle.wt_text_edit_laws.specs.TextBlocks.{TextBlock, source_of, block_tree}
 use Rattle.wt_called_edit_laws.specs.AllTold.{IsBesideNoCall, AreNoFunctions, IsBesideTexts}
 use Rattle.wt_called_edit_laws.specs.Covered.{IsBeside, IfGroup, NoGroupAt, NoneGroupAt}

@@ -27,7 +27,7 @@ use Rattle.wt_called_edit_laws.proofs.Among.OwnItems.{from_page}
 use Rattle.wt_called_edit_laws.proofs.Among.OwnSeams.{own_last, sources_size}
 use Rattle.wt_called_edit_laws.proofs.Cells.PlacedLines.{own_items, lines_joined}
 use Rattle.wt_called_edit_laws.proofs.PartTexts.{own_text}
-use Rattle.wt_called_edit_laws.proofs.AllTold.Chosen.{IsFreeAlone, free_of, IsChosen, chosen}
+use Rattle.wt_called_edit_laws.proofs.AllTold.Chosen.{free_of, IsChosen, chosen}
 use Rattle.wt_called_edit_laws.proofs.AllTold.ClosedLines.{ends_any}
 use Rattle.wt_called_edit_laws.proofs.AllTold.Found.{size, size_both}
 use Rattle.wt_called_edit_laws.proofs.AllTold.LineKinds.{Lines}

@@ -1,6 +1,6 @@
 -- A block of an expanded page whose lines are the page's own: the marks that begin it are ended; and where nothing is behind it, its node goes up to the
 -- page's end, and a line break behind it is read as one, if it holds no mark that nothing ends.
-use Rattle.std.proofs.Common.{arith, ◌≡◌, ◌≤◌, ℕ, zero, suc, ◌+◌, Bool, true, false, Option, None, List, [], ◌∷◌, ◌++◌, length, map, refl, sym, ap, ap₂, ◌∙◌, subst, append-nil, append_assoc, length-append}
+use Rattle.std.proofs.Common.{arith, ◌≡◌, ◌≤◌, ℕ, ◌+◌, true, false, Option, None, List, [], ◌∷◌, ◌++◌, length, map, refl, sym, ap, ap₂, ◌∙◌, subst, append-nil, append_assoc, length-append}
 use Rattle.std.specs.Prelude.{◌==◌}
 use Rattle.std.specs.Str.{IsUtf8}
 use Rattle.std.specs.List.{list_all}
@@ -11,7 +11,7 @@ use Rattle.wt_span.specs.Runs.{AreRuns}
 use Rattle.wt_span.proofs.RunLaws.{runs_are}
 use Rattle.wt_tree.specs.Tree.{Tree, label}
 use Rattle.wt_annotated.specs.Seams.{last_of, text_from}
-use Rattle.wt_annotated.proofs.Seams.{last_append, text_append_from}
+use Rattle.wt_annotated.proofs.Seams.{text_append_from}
 use Rattle.wt_braces.specs.Words.{total_width}
 use Rattle.wt_inline.specs.ItemTree.{ItemTree, inner, tree_items}
 use Rattle.wt_expand.specs.PageCalls.{expanded_page}
@@ -29,7 +29,6 @@ use Rattle.wt_text_edit_laws.specs.TextBetween.{AreEnded}
 use Rattle.wt_text_edit_laws.specs.TextBlocks.{source_of}
 use Rattle.wt_text_edit_laws.specs.Unclosed.{is_unclosed_item, last_of as last_item, reaches}
 use Rattle.wt_text_edit_laws.proofs.Cuts.ItemCuts.{HaveBytes, page_from, from_has}
-use Rattle.wt_text_edit_laws.proofs.Cuts.TextLines.{joined_is}
 use Rattle.wt_beside_laws.specs.OpenEnds.{MarksEnd, ShownLast}
 use Rattle.wt_beside_laws.proofs.Derived.BlockContents.{BlockSeen}
 use Rattle.wt_beside_laws.proofs.Derived.BodyRead.{parts_are}
@@ -41,7 +40,7 @@ use Rattle.wt_called_edit_laws.specs.PlacedLines.{LinedBlock, all_lines}
 use Rattle.wt_called_edit_laws.specs.RowBlocks.{StandsIn, node_between}
 use Rattle.wt_called_edit_laws.specs.ToldLines.{Told, lined}
 use Rattle.wt_called_edit_laws.specs.ToldTogether.{start_of}
-use Rattle.wt_called_edit_laws.proofs.Among.BlockAt.{calls_of, IsRest, text_to, have_front, have_behind}
+use Rattle.wt_called_edit_laws.proofs.Among.BlockAt.{calls_of, IsRest, have_front, have_behind}
 use Rattle.wt_called_edit_laws.proofs.Among.Flattened.{flat_all}
 use Rattle.wt_called_edit_laws.proofs.Among.LinedParts.{line_front, own_breaks, of_behind, of_front, page_rest, page_text}
 use Rattle.wt_called_edit_laws.proofs.Among.Members.{flat_widths, words_size}

@@ -1,6 +1,6 @@
 -- Each paragraph and heading of a page's tree, outside of groups, that holds no group and isn't tangled is one of those that the lines of the expanded page
 -- tell, or one of the excepted.
-use Rattle.std.proofs.Common.{arith, ◌≡◌, ◌<◌, ◌≤◌, ◌⊎◌, inl, inr, ℕ, zero, suc, ◌+◌, Bool, true, false, None, List, [], ◌∷◌, ◌++◌, length, drop, map, refl, sym, ap, ◌∙◌, subst, append-nil, cond}
+use Rattle.std.proofs.Common.{arith, ◌≡◌, ◌≤◌, ◌⊎◌, inl, inr, ℕ, zero, suc, ◌+◌, Bool, true, false, None, List, [], ◌∷◌, ◌++◌, length, drop, map, refl, sym, ap, ◌∙◌, subst, append-nil, cond}
 use Rattle.std.specs.Prelude.{◌&&◌}
 use Rattle.std.specs.Str.{IsUtf8}
 use Rattle.std.specs.List.{list_all}
@@ -28,8 +28,7 @@ use Rattle.wt_part_laws.specs.Frames.{content as content_part}
 use Rattle.wt_part_laws.specs.Slots.{AllTrue}
 use Rattle.wt_selser.specs.Edits.{is_tangled}
 use Rattle.wt_text_edit_laws.specs.BlockSpots.{BlockSpot, spots_source}
-use Rattle.wt_text_edit_laws.specs.Contents.{IsContentOf}
-use Rattle.wt_called_edit_laws.specs.AllTold.{starts_in, text_on_a_sign, IsExceptedIn, by_its_lines, beside_a_call, IsExcepted, IsOneOf, AllBlocksTold, IsBesideNoCall, AreNoFunctions, IsBesideTexts, unended_marks, holds_a_function, beside_a_text, holds_a_pair}
+use Rattle.wt_called_edit_laws.specs.AllTold.{starts_in, text_on_a_sign, by_its_lines, beside_a_call, IsExcepted, IsOneOf, AllBlocksTold, IsBesideNoCall, AreNoFunctions, IsBesideTexts, unended_marks, holds_a_function, beside_a_text, holds_a_pair}
 use Rattle.wt_text_edit_laws.proofs.Cuts.RowLines.{AllText}
 use Rattle.wt_text_edit_laws.proofs.Cuts.TextLines.{led_first, content_unled}
 use Rattle.wt_text_edit_laws.proofs.Paragraphs.Marks.{mark_sign, AreMarkSigns, kind_marks}
@@ -37,7 +36,7 @@ use Rattle.wt_text_edit_laws.specs.NoCalls.{CallsNothing}
 use Rattle.wt_text_edit_laws.specs.PageCuts.{EndClosed}
 use Rattle.wt_text_edit_laws.specs.ParagraphBetween.{written_rows, tables_behind, EndApart, BeginApart}
 use Rattle.wt_text_edit_laws.specs.TextBetween.{AreEnded}
-use Rattle.wt_text_edit_laws.specs.TextBlocks.{TextBlock, a_paragraph, source_of, block_items, block_tree}
+use Rattle.wt_text_edit_laws.specs.TextBlocks.{a_paragraph, source_of, block_tree}
 use Rattle.wt_text_edit_laws.specs.Unclosed.{holds_unclosed}
 use Rattle.wt_beside_laws.proofs.Derived.BlockContents.{BlockSeen, block_seen}
 use Rattle.wt_called_edit_laws.specs.AnyBlocks.{open_after}
@@ -58,7 +57,7 @@ use Rattle.wt_called_edit_laws.specs.ToldLines.{Told, lined, AreTold}
 use Rattle.wt_called_edit_laws.specs.ToldTogether.{start_of, told_starts, IsAmongNumbers, AreSome}
 use Rattle.wt_called_edit_laws.proofs.Among.LinedParts.{of_behind, lined_whole, lined_editable}
 use Rattle.wt_called_edit_laws.proofs.Among.OwnItems.{from_page}
-use Rattle.wt_called_edit_laws.proofs.Among.ToldAmong.{all_told, told_among}
+use Rattle.wt_called_edit_laws.proofs.Among.ToldAmong.{told_among}
 use Rattle.wt_called_edit_laws.proofs.BlocksOutside.{editable_called}
 use Rattle.wt_called_edit_laws.proofs.CallsTake.{contents_by, contents_paths}
 use Rattle.wt_called_edit_laws.proofs.Cells.PlacedLines.{own_items, own_block, Round, lines_joined}
@@ -66,8 +65,8 @@ use Rattle.wt_called_edit_laws.proofs.Cells.SpotSlots.{open_size}
 use Rattle.wt_called_edit_laws.proofs.EditFacts.{IsFramedPage, framed_page, paths_of, spots_stand, spots_contents}
 use Rattle.wt_called_edit_laws.proofs.GroupsAmong.{retyped_self}
 use Rattle.wt_called_edit_laws.proofs.PathsSend.{NoneEmpty, paths_full}
-use Rattle.wt_called_edit_laws.proofs.AllTold.Alone.{IsAloneTold, IsAloneHere, alone_here, alone_read, own_round}
-use Rattle.wt_called_edit_laws.proofs.AllTold.Chosen.{IsOwnBehind, IsChosen, beside_call_decided, functions_decided, texts_decided, calm_decided, own_behind}
+use Rattle.wt_called_edit_laws.proofs.AllTold.Alone.{IsAloneTold}
+use Rattle.wt_called_edit_laws.proofs.AllTold.Chosen.{IsOwnBehind, beside_call_decided, functions_decided, texts_decided, calm_decided, own_behind}
 use Rattle.wt_called_edit_laws.proofs.AllTold.ChosenLines.{byte_at, among_mapped, starts_so, ones_front, ones_behind}
 use Rattle.wt_called_edit_laws.proofs.AllTold.ClosedBlocks.{own_marks_ended, own_closed, own_reaches}
 use Rattle.wt_called_edit_laws.proofs.AllTold.ClosedLines.{NoneBlank, unclosed_by, AllPast, heading_size, para_size}

@@ -29,8 +29,7 @@ use Rattle.wt_part_laws.specs.Rounded.{HasItems}
 use Rattle.wt_part_laws.specs.Standing.{standing}
 use Rattle.wt_part_laws.proofs.OwnWalks.{OfPage}
 use Rattle.wt_selser.specs.Edits.{is_tangled}
-use Rattle.wt_text_edit_laws.specs.PageCuts.{EndsClosed}
-use Rattle.wt_text_edit_laws.specs.TextBlocks.{TextBlock, source_of, block_items, block_tree}
+use Rattle.wt_text_edit_laws.specs.TextBlocks.{TextBlock, source_of, block_tree}
 use Rattle.wt_text_edit_laws.specs.Unclosed.{holds_unclosed}
 use Rattle.wt_text_edit_laws.proofs.Cuts.TextLines.{joined_is}
 use Rattle.wt_beside_laws.proofs.Made.OldBlocks.{no_group}

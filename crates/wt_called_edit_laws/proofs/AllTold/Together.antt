@@ -11,7 +11,6 @@ use Rattle.wt_commands.specs.Answers.{refusal_of_page}
 use Rattle.wt_lines.specs.Lines.{content, full_lines}
 use Rattle.wt_tables.specs.Parts.{joined}
 use Rattle.wt_page.specs.Rows.{marks_len, signs}
-use Rattle.wt_text_edit_laws.specs.PageCuts.{begins_unmarked, EndsClosed}
 use Rattle.wt_text_edit_laws.proofs.Paragraphs.Marks.{mark_sign}
 use Rattle.wt_called_edit_laws.specs.PlacedLines.{all_lines, AreLined}
 use Rattle.wt_called_edit_laws.specs.ToldAmong.{IsToldAmong}

@@ -11,7 +11,7 @@ use Rattle.wt_expand.specs.Work.{Pages}
 use Rattle.wt_text_edit_laws.specs.PageCuts.{AreBlockItems}
 use Rattle.wt_text_edit_laws.specs.TextBlocks.{TextBlock, source_of}
 use Rattle.wt_text_edit_laws.proofs.Cuts.ItemCuts.{HaveBytes}
-use Rattle.wt_beside_laws.proofs.Derived.BlockContents.{block_seen, seen_with}
+use Rattle.wt_beside_laws.proofs.Derived.BlockContents.{block_seen}
 use Rattle.wt_beside_laws.proofs.Derived.BodyRead.{parts_are}
 use Rattle.wt_called_edit_laws.specs.CalledContents.{StayText}
 use Rattle.wt_called_edit_laws.specs.LinedAmong.{AreOfPage, AreBeside}

@@ -1,5 +1,5 @@
 -- Worked case: a page with a call, told by nothing but the lines of the expanded page: of a heading, and of a paragraph in a cell.
-use Rattle.std.proofs.Common.{arith, ◌≡◌, ℕ, ◌+◌, true, None, Some, List, [], ◌∷◌, ◌++◌, length, map, refl, sym, ap, ◌∙◌, subst}
+use Rattle.std.proofs.Common.{arith, ◌≡◌, ℕ, ◌+◌, None, Some, List, [], ◌∷◌, ◌++◌, length, map, refl, sym, ap, ◌∙◌, subst}
 use Rattle.std.specs.Prelude.{codes}
 use Rattle.std.specs.Str.{is_utf8, chars, IsUtf8}
 use Rattle.std.specs.Str.Lossy.{utf8_valid_len}
@@ -32,13 +32,7 @@ use Rattle.wt_context.specs.Segments.{loose_segments}
 use Rattle.wt_context.specs.Chunks.{chunks}
 use Rattle.wt_context.specs.Styled.{with_styles}
 use Rattle.wt_context.specs.Nodes.{segments}
-use Rattle.wt_context.specs.Line.{context_parts, line_trees}
-use Rattle.wt_page.specs.Headings.{heading}
-use Rattle.wt_page.specs.Rows.{rows}
-use Rattle.wt_page.specs.Texts.{para}
-use Rattle.wt_page.specs.Body.{blocks, meaning}
-use Rattle.wt_annotated.specs.Annotated.{annotated}
-use Rattle.wt_annotated.specs.GroupData.{group_data}
+use Rattle.wt_context.specs.Line.{context_parts}
 use Rattle.wt_annotated.specs.Labels.{label_at}
 use Rattle.wt_expand.specs.PageItems.{page_items}
 use Rattle.wt_expand.specs.Texts.{trimmed, trimmed_items, name_text}
@@ -49,7 +43,6 @@ use Rattle.wt_expand.specs.PageCalls.{page_stretches, expanded_page}
 use Rattle.wt_text_edit_laws.specs.BlockSpots.{BlockSpot}
 use Rattle.wt_text_edit_laws.specs.LonePages.{page_chars, of_items}
 use Rattle.wt_text_edit_laws.specs.PageCuts.{IsFreeBlock, EndClosed, AreFree}
-use Rattle.wt_text_edit_laws.specs.Parts.{part_tree}
 use Rattle.wt_text_edit_laws.specs.TextBlocks.{a_paragraph, a_heading}
 use Rattle.wt_text_edit_laws.specs.TypedHeadings.{spaced}
 use Rattle.wt_called_edit_laws.specs.Covered.{AreInNoGroup}

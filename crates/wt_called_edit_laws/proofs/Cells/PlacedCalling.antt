@@ -1,8 +1,8 @@
 -- A page that is cut at paragraphs and headings, which may hold calls: its parts are read and expanded each by itself, and it may be edited.
-use Rattle.std.proofs.Common.{arith, ◌≡◌, inl, inr, ℕ, ◌<◌, Bool, true, false, None, List, [], ◌∷◌, ◌++◌, length, refl, sym, ap, ◌∙◌, subst, append_assoc, length-append}
+use Rattle.std.proofs.Common.{arith, ◌≡◌, inl, inr, ℕ, ◌<◌, Bool, true, false, List, [], ◌∷◌, ◌++◌, length, refl, sym, ap, ◌∙◌, length-append}
 use Rattle.std.specs.Str.{IsUtf8}
 use Rattle.wt_span.specs.declared.form.Mode.TheVariants.{Page}
-use Rattle.wt_span.specs.Items.{Item, char, sources}
+use Rattle.wt_span.specs.Items.{Item, sources}
 use Rattle.wt_expand.specs.PageItems.{page_items}
 use Rattle.wt_expand.specs.Work.{Pages}
 use Rattle.wt_expand.proofs.PageLaws.{page_sources}

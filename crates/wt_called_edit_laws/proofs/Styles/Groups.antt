@@ -27,7 +27,7 @@ use Rattle.wt_beside_laws.specs.Content.{guard_items, letter_items}
 use Rattle.wt_beside_laws.specs.Flat.{IsFlat}
 use Rattle.wt_beside_laws.specs.Given.{AreGivenBy, GivesSigns}
 use Rattle.wt_beside_laws.specs.Nests.{marks, style_tree}
-use Rattle.wt_beside_laws.specs.Styled.{AreNested, StyledContent, delimiter, finished, mark_source, sign, signs_before, signs_in, signs_past, styled}
+use Rattle.wt_beside_laws.specs.Styled.{AreNested, StyledContent, delimiter, finished, mark_source, sign, signs_before, signs_past, styled}
 use Rattle.wt_beside_laws.specs.StyledCalls.{AreOwnAt, owns_left, owns_past, styled_with}
 use Rattle.wt_beside_laws.specs.StyledNodes.{IsPut}
 use Rattle.wt_called_edit_laws.proofs.Styles.Shown.{calls_behind, past_as}

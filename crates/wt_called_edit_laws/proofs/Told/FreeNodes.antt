@@ -31,11 +31,8 @@ use Rattle.wt_text_edit_laws.specs.LonePages.{of_items}
 use Rattle.wt_text_edit_laws.specs.PageCuts.{IsUntangledAt, IsFreeBlock, AreFree}
 use Rattle.wt_text_edit_laws.specs.ParagraphBetween.{body_with}
 use Rattle.wt_text_edit_laws.specs.Parts.{HasNoGroups}
-use Rattle.wt_text_edit_laws.specs.TextBlocks.{TextBlock, source_of, block_tree}
-use Rattle.wt_text_edit_laws.proofs.Blocks.BlocksUngrouped.{blocks_ungrouped}
+use Rattle.wt_text_edit_laws.specs.TextBlocks.{TextBlock, block_tree}
 use Rattle.wt_text_edit_laws.proofs.Blocks.Untangled.{opens_same}
-use Rattle.wt_text_edit_laws.proofs.Paragraphs.PartTrees.{ArePlain, plain_tree}
-use Rattle.wt_text_edit_laws.proofs.Texts.TypedShown.{both_of_page}
 use Rattle.wt_beside_laws.proofs.Made.OldBlocks.{no_group}
 use Rattle.wt_beside_laws.proofs.Derived.NodesHave.{full_nodes}
 use Rattle.wt_called_edit_laws.specs.EditsAt.{IsStanding, StandsTo, StandsAmong, AllStand}

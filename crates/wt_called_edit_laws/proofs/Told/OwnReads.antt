@@ -1,5 +1,5 @@
 -- Blocks at their places in a page that calls nothing: each is read so by itself, whatever is in it.
-use Rattle.std.proofs.Common.{◌≡◌, ℕ, Bool, true, false, None, List, [], ◌∷◌, ◌++◌, map, refl, sym, ap, ◌∙◌, subst, inl}
+use Rattle.std.proofs.Common.{◌≡◌, ℕ, Bool, false, None, List, [], ◌∷◌, ◌++◌, map, refl, sym, ap, ◌∙◌, subst, inl}
 use Rattle.std.specs.Str.{IsUtf8}
 use Rattle.std.proofs.lemmas.List.{map-append}
 use Rattle.wt_span.specs.declared.form.Mode.TheVariants.{Page}
@@ -10,13 +10,11 @@ use Rattle.wt_part_laws.specs.Scans.{after_all}
 use Rattle.wt_text_edit_laws.specs.BlockSpots.{BlockSpot, spots_source}
 use Rattle.wt_text_edit_laws.specs.Contents.{IsContentOf}
 use Rattle.wt_text_edit_laws.specs.NoCalls.{braces, NonePairs, CallsNothing}
-use Rattle.wt_text_edit_laws.specs.PageCuts.{begins_unmarked, BeginsBreak, EndsThere, EndsClosed, EndClosed, IsSpotCut, AreFurtherCuts, AreCuts}
+use Rattle.wt_text_edit_laws.specs.PageCuts.{BeginsBreak, EndsThere, EndsClosed, EndClosed, IsSpotCut, AreFurtherCuts, AreCuts}
 use Rattle.wt_text_edit_laws.specs.TextBetween.{AreEnded}
 use Rattle.wt_text_edit_laws.specs.TextBlocks.{TextBlock, source_of, block_items}
 use Rattle.wt_text_edit_laws.proofs.Between.BraceWords.{pairs_behind}
-use Rattle.wt_text_edit_laws.proofs.Between.Fronts.{items_from}
 use Rattle.wt_text_edit_laws.proofs.Cuts.ItemCuts.{cut_from, page_cut, front_alone, alone_after}
-use Rattle.wt_text_edit_laws.proofs.Cuts.Unmarked.{unmarked_begins}
 use Rattle.wt_text_edit_laws.proofs.Cuts.Utf8Cuts.{ended_utf8, there_utf8}
 use Rattle.wt_beside_laws.proofs.Derived.BlockContents.{block_source, there_begins, read_alone, block_read, BlockSeen, block_seen, seen_with, seen_alone, first_unbraced, calm_between}
 use Rattle.wt_called_edit_laws.specs.AnyBlocks.{open_behind_part, past_break}

@@ -8,7 +8,7 @@ use Rattle.wt_span.specs.Origins.{same_call}
 use Rattle.wt_span.specs.Runs.{put, runs, IsRun, AreRuns}
 use Rattle.wt_span.proofs.RunLaws.{runs_cut, runs_are}
 use Rattle.wt_inline.specs.declared.loose.Loose.TheVariants.{Text, Sep}
-use Rattle.wt_inline.specs.ItemTree.{ItemTree, tree_items}
+use Rattle.wt_inline.specs.ItemTree.{ItemTree}
 use Rattle.wt_inline.specs.Parts.{Part, loose, node, held_parts, same_loose, same_origin, one_leaf, child, children}
 use Rattle.wt_inline.proofs.HeldLaws.{held_children}
 use Rattle.wt_context.specs.Line.{line_parts}

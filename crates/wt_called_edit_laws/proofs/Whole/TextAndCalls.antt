@@ -23,7 +23,6 @@ use Rattle.wt_checks.specs.Kept.{children as nodes_in}
 use Rattle.wt_annotated.specs.CutTexts.{cut_texts, all_cut_texts}
 use Rattle.wt_annotated.specs.Labels.{label_at}
 use Rattle.wt_annotated.specs.Numbering.{next_after, count}
-use Rattle.wt_annotated.specs.WithoutCalls.{placed}
 use Rattle.wt_expand.specs.PageCalls.{expanded_page}
 use Rattle.wt_expand.specs.Work.{Pages}
 use Rattle.wt_original.specs.Kept.{Kept, KeptNode, transclusion, kept_of, kept_with, kept_nodes, items, visible, found_at, found_from, found_in}
@@ -34,7 +33,6 @@ use Rattle.wt_part_laws.proofs.CallPieces.{as_pieces}
 use Rattle.wt_part_laws.specs.Expanded.{part_items, calls_in}
 use Rattle.wt_part_laws.specs.HeldCalls.{block_in}
 use Rattle.wt_part_laws.specs.MovedCalls.{IsMoved, AreMoved}
-use Rattle.wt_part_laws.specs.Placeless.{placeless}
 use Rattle.wt_part_laws.proofs.HeldBlocks.{given_block_is}
 use Rattle.wt_text_edit_laws.specs.Contents.{content_parts_of}
 use Rattle.wt_text_edit_laws.specs.TextBlocks.{a_paragraph}
