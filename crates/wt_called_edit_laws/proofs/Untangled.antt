@@ -5,7 +5,6 @@ use Rattle.std.proofs.Math.Seq.{take-append_seam}
 use Rattle.wt_span.specs.Origins.{Expanded}
 use Rattle.wt_tree.specs.declared.kind.Ranges.{Ranges}
 use Rattle.wt_tree.specs.Tree.{Tree, tree, label}
-use Rattle.wt_expand.specs.PageItems.{page_items}
 use Rattle.wt_expand.specs.PageCalls.{expanded_page}
 use Rattle.wt_expand.specs.Work.{Pages}
 use Rattle.wt_isolation.specs.OpenTags.{ends_open, any_ends_open, before}
@@ -16,10 +15,8 @@ use Rattle.wt_selser.specs.GroupFaults.{has_faulty_group}
 use Rattle.wt_text_edit_laws.specs.BlockSpots.{BlockSpot, spots_source, AreContents, AreReadSpots}
 use Rattle.wt_part_laws.specs.Placeless.{placeless}
 use Rattle.wt_part_laws.specs.Standing.{standing}
-use Rattle.wt_text_edit_laws.specs.TextBlocks.{source_of, block_tree, BeginsLine}
+use Rattle.wt_text_edit_laws.specs.TextBlocks.{source_of, block_tree}
 use Rattle.wt_text_edit_laws.proofs.Blocks.BlocksAgain.{AreClear, clear_between, clear_start}
-use Rattle.wt_text_edit_laws.proofs.Blocks.BlockReading.{begins_here}
-use Rattle.wt_text_edit_laws.proofs.Paragraphs.ClearLines.{clear_first, clear_line}
 use Rattle.wt_called_edit_laws.specs.CalledBlocks.{AreAmongCalls, tree_by}
 use Rattle.wt_called_edit_laws.specs.Nodes.{block_at}
 use Rattle.wt_called_edit_laws.specs.Parts.{AreCalled}

@@ -1,8 +1,7 @@
 -- A page that calls nothing, cut at blocks that aren't tangled: it is read part by part, and each block is a content.
-use Rattle.std.proofs.Common.{arith, ◌≡◌, ◌≢◌, inl, inr, ℕ, zero, suc, ◌<◌, ◌≤◌, ◌==◌, Bool, true, false, None, List, [], ◌∷◌, ◌++◌, length, refl, sym, ap, ◌∙◌, subst, append_assoc, length-append}
+use Rattle.std.proofs.Common.{arith, ◌≡◌, ◌≢◌, inl, inr, ℕ, zero, suc, ◌<◌, ◌≤◌, Bool, false, None, List, [], ◌∷◌, ◌++◌, length, refl, sym, ap, ◌∙◌, subst, append_assoc, length-append}
 use Rattle.std.specs.Prelude.{map}
 use Rattle.std.specs.Str.{IsUtf8}
-use Rattle.std.proofs.lemmas.Bool.{eqb-true}
 use Rattle.std.proofs.lemmas.List.{map-append}
 use Rattle.std.proofs.lemmas.Grind.{flat_map-append}
 use Rattle.wt_span.specs.declared.form.Mode.TheVariants.{Page}
@@ -20,9 +19,8 @@ use Rattle.wt_text_edit_laws.specs.TextBlocks.{TextBlock, a_paragraph, a_heading
 use Rattle.wt_text_edit_laws.specs.TypedHeadings.{equals, closing, EndsLine}
 use Rattle.wt_text_edit_laws.proofs.Between.BraceWords.{pairs_behind}
 use Rattle.wt_text_edit_laws.proofs.Between.LineComments.{lines_ended}
-use Rattle.wt_text_edit_laws.proofs.Between.LineWords.{either}
 use Rattle.wt_text_edit_laws.proofs.Blocks.OwnContents.{paragraph_some}
-use Rattle.wt_text_edit_laws.proofs.Cuts.ItemCuts.{is_plain, cut_from, page_cut, alone_after}
+use Rattle.wt_text_edit_laws.proofs.Cuts.ItemCuts.{cut_from, page_cut, alone_after}
 use Rattle.wt_text_edit_laws.proofs.Cuts.SettledEnds.{settled_ends, line_settled}
 use Rattle.wt_text_edit_laws.proofs.Cuts.LedCuts.{ends_plain, led_ends}
 use Rattle.wt_text_edit_laws.proofs.Cuts.Utf8Cuts.{led_utf8, there_utf8}

@@ -1,8 +1,7 @@
 -- Lines, comments and tags with the sign of a table's end or a rule behind them: what begins before the sign ends before it, whatever follows the sign.
-use Rattle.std.proofs.Common.{arith, ◌≡◌, ℕ, zero, suc, ◌+◌, ◌-◌, ◌<◌, ◌≤◌, ◌==◌, Bool, true, false, Option, Some, None, List, [], ◌∷◌, ◌++◌, length, get_or, take, drop, nat_lt, inl, inr, refl, sym, ap, ◌∙◌, subst, append_assoc, append-nil}
-use Rattle.std.specs.Prelude.{◌⊎◌, ◌&&◌, ◌||◌, not, is_some, if◌then◌else◌, slice_index, codes}
-use Rattle.std.specs.Option.{option_map, option_or}
-use Rattle.std.specs.List.{list_all}
+use Rattle.std.proofs.Common.{arith, ◌≡◌, ℕ, zero, suc, ◌+◌, ◌-◌, ◌<◌, ◌≤◌, ◌==◌, Bool, true, false, Option, Some, None, List, [], ◌∷◌, ◌++◌, length, get_or, drop, nat_lt, inl, inr, refl, sym, ap, ◌∙◌, subst, append_assoc, append-nil}
+use Rattle.std.specs.Prelude.{◌&&◌, ◌||◌, not, is_some, if◌then◌else◌, slice_index, codes}
+use Rattle.std.specs.Option.{option_map}
 use Rattle.std.proofs.lemmas.Bool.{cases_lt}
 use Rattle.std.proofs.lemmas.List.{drop-append-le}
 use Rattle.std.proofs.Math.Seq.{take-append_seam}
@@ -17,9 +16,9 @@ use Rattle.wt_lex.proofs.Fronts.{begins_front}
 use Rattle.wt_lex.proofs.TagForms.{OptTag, opening_fits}
 use Rattle.wt_typed_blocks.specs.Reading.{stands}
 use Rattle.wt_part_laws.specs.Lexer.{lexer}
-use Rattle.wt_part_laws.specs.Scans.{skipped_by, AtStarts, IsFrontOf}
+use Rattle.wt_part_laws.specs.Scans.{skipped_by}
 use Rattle.wt_part_laws.proofs.LexemeFronts.{lexemes_front}
-use Rattle.wt_text_edit_laws.specs.TextBetween.{is_end, AreEnded, ends_comment, ends_tag_before, ends_before, HasEndsBefore}
+use Rattle.wt_text_edit_laws.specs.TextBetween.{is_end, AreEnded, ends_comment, ends_tag_before, ends_before}
 use Rattle.wt_text_edit_laws.proofs.Between.LineWords.{either, lacks, none_at, Within}
 use Rattle.wt_text_edit_laws.proofs.Between.LineComments.{ends_behind, ends_dropped, begins_same}
 use Rattle.wt_text_edit_laws.proofs.Between.LineRemarks.{AllEnd}

@@ -23,7 +23,7 @@ use Rattle.wt_text_edit_laws.specs.NoCalls.{CallsNothing}
 use Rattle.wt_text_edit_laws.specs.SignParts.{AreSigned, IsOnSign, IsLedTo}
 use Rattle.wt_text_edit_laws.specs.TextBetween.{AreEnded, HasEndsBefore, BeginsShown, StandsBehind, LineEnds}
 use Rattle.wt_text_edit_laws.proofs.Between.LineForms.{ends_before_any}
-use Rattle.wt_text_edit_laws.proofs.Between.Fronts.{ReadsAfter, reads_after, reads_either, first_from, form_from, page_read, alone_reads, before_reads, behind_reads}
+use Rattle.wt_text_edit_laws.proofs.Between.Fronts.{ReadsAfter, reads_either, first_from, form_from, page_read, alone_reads, before_reads, behind_reads}
 use Rattle.wt_text_edit_laws.proofs.Between.Shown.{shown_before, shown_reads}
 use Rattle.wt_text_edit_laws.proofs.Between.LineComments.{lines_ended}
 use Rattle.wt_text_edit_laws.proofs.Between.NoCalls.{calm_expanded, calm_unrefused}

@@ -1,6 +1,6 @@
 -- Braces behind the sign of a table's end or a rule, and what begins with none that closes.
-use Rattle.std.proofs.Common.{arith, ◌≡◌, ℕ, zero, suc, ◌+◌, ◌==◌, Bool, true, false, Option, Some, None, List, [], ◌∷◌, ◌++◌, length, take, map, nat_lt, inl, inr, refl, sym, ap, ◌∙◌, subst, append_assoc}
-use Rattle.std.specs.Prelude.{◌⊎◌, ◌&&◌, ◌||◌, not, nat_eq, codes, replicate, if◌then◌else◌}
+use Rattle.std.proofs.Common.{arith, ◌≡◌, ℕ, zero, suc, ◌+◌, ◌==◌, Bool, true, false, Option, Some, None, List, [], ◌∷◌, ◌++◌, take, map, nat_lt, inl, inr, refl, sym, ap, ◌∙◌, subst, append_assoc}
+use Rattle.std.specs.Prelude.{◌&&◌, not, nat_eq, codes, replicate, if◌then◌else◌}
 use Rattle.std.specs.List.{prefix_len}
 use Rattle.std.specs.Option.{option_or}
 use Rattle.std.proofs.lemmas.Bool.{eqb-true}
@@ -8,7 +8,6 @@ use Rattle.std.proofs.lemmas.Bool.Decides.{nat_tests}
 use Rattle.std.proofs.lemmas.List.{map-append}
 use Rattle.wt_span.specs.declared.form.ItemForm.{ItemForm}
 use Rattle.wt_span.specs.declared.form.Mode.TheVariants.{Page}
-use Rattle.wt_span.specs.declared.form.LexKind.{LexKind}
 use Rattle.wt_span.specs.declared.form.LexKind.TheVariants.{Closes}
 use Rattle.wt_span.specs.Bytes.{begins, is_break}
 use Rattle.wt_span.specs.Comments.{comment_len}
@@ -23,7 +22,6 @@ use Rattle.wt_text_edit_laws.specs.NoCalls.{Brace, opening, closing, braces, is_
 use Rattle.wt_text_edit_laws.specs.ReadContents.{BeginsUnclosed}
 use Rattle.wt_text_edit_laws.specs.SignParts.{IsBareSign, IsSign, AreSigned}
 use Rattle.wt_text_edit_laws.specs.TextBetween.{EndsBy}
-use Rattle.wt_text_edit_laws.specs.TypedHeadings.{EndsLine}
 use Rattle.wt_text_edit_laws.proofs.Between.Fronts.{first_items, items_from, first_from, byte_from, form_from}
 use Rattle.wt_text_edit_laws.proofs.Between.LessBraces.{BeginsUnbraced, braces_of}
 use Rattle.wt_text_edit_laws.proofs.Between.LineComments.{ends_behind}

@@ -1,6 +1,6 @@
 -- What holds of a part that ends with lines, comments or tags holds of one with the sign of a table's end or a rule behind these.
-use Rattle.std.proofs.Common.{arith, ◌≡◌, ℕ, zero, suc, ◌+◌, ◌-◌, ◌<◌, ◌≤◌, ◌==◌, Bool, true, false, List, [], ◌∷◌, ◌++◌, length, get_or, drop, nat_lt, cond, inl, inr, refl, sym, ap, ◌∙◌, subst, append_assoc, append-nil, length-append}
-use Rattle.std.specs.Prelude.{◌⊎◌, ◌&&◌, ◌||◌, not, reverse, codes, replicate, slice_index}
+use Rattle.std.proofs.Common.{arith, ◌≡◌, ℕ, zero, suc, ◌+◌, ◌-◌, ◌==◌, Bool, true, false, List, [], ◌∷◌, ◌++◌, length, drop, nat_lt, cond, refl, sym, ap, ◌∙◌, subst, append_assoc, append-nil, length-append}
+use Rattle.std.specs.Prelude.{◌&&◌, not, slice_index}
 use Rattle.std.specs.Char.{is_ascii_alphabetic}
 use Rattle.std.specs.List.{prefix_len}
 use Rattle.std.proofs.lemmas.Bool.Decides.{nat_tests}
@@ -12,7 +12,7 @@ use Rattle.wt_text_edit_laws.specs.TextBetween.{is_end, AreEnded, HasEndsBefore}
 use Rattle.wt_text_edit_laws.proofs.Between.ClosingTags.{Unclosed, unclosed_other, unclosed_untagged, ClosesNoMore, KeepsClosings, ends_other_by}
 use Rattle.wt_text_edit_laws.proofs.Between.LineComments.{ends_behind}
 use Rattle.wt_text_edit_laws.proofs.Between.LineForms.{get_behind}
-use Rattle.wt_text_edit_laws.proofs.Between.LineWords.{either, lacks}
+use Rattle.wt_text_edit_laws.proofs.Between.LineWords.{lacks}
 use Rattle.wt_text_edit_laws.proofs.Blocks.SignReading.{sign_lacks}
 use Rattle.wt_text_edit_laws.proofs.Paragraphs.ClearLines.{end_is}
 
