@@ -58,6 +58,7 @@ pub mod NothingMoved
 pub mod LocalTextEdits
 pub mod EditsWithCalls
 pub mod TypedApart
+pub mod TypedBeside
 pub mod InsidesCases
 pub mod PageCases
 pub mod LocalCases
