@@ -33,4 +33,7 @@ pub mod AllAlone
 pub mod CallingStarts
 pub mod OnLines
 pub mod CalmPages
+pub mod CallingBytes
+pub mod CallingTogether
+pub mod CallingCases
 mod EndCases

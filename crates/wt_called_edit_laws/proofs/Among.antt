@@ -9,7 +9,7 @@ pub mod OwnItems
 pub mod BlockAt
 pub mod LinedParts
 pub mod CallingLines
-mod CallingCases
+pub mod CallingCases
 pub mod CalmLines
 pub mod ToldAmong
 pub mod ToldCases

@@ -58,3 +58,4 @@ pub mod ToldTogether
 pub mod ToldAmong
 pub mod StyledCallEdits
 pub mod CallingTold
+pub mod CallingTogether

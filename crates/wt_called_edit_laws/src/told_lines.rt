@@ -25,6 +25,7 @@ ghost use Rattle.wt_beside_laws.specs.FlatBlocks.{signs_in};
 ghost use Rattle.wt_beside_laws.specs.StyledIn.{IsStyledIn};
 ghost use Rattle.wt_called_edit_laws.specs.AllTold.{AllBlocksTold, IsExcepted, IsExceptedAt};
 ghost use Rattle.wt_called_edit_laws.specs.CalledPages.{IsCalledPage};
+ghost use Rattle.wt_called_edit_laws.specs.CallingTogether.{AreOnLines};
 ghost use Rattle.wt_called_edit_laws.specs.CallingTold.{IsOnLines, IsExceptedByLines};
 ghost use Rattle.wt_called_edit_laws.specs.EditsAt.{IsStanding, AllStand};
 ghost use Rattle.wt_called_edit_laws.specs.Groups.{called_tree};
@@ -115,4 +116,10 @@ pub fn calls_except_no_block_where_there_are_none()
 pub fn each_block_is_on_its_lines()
     ensures on { (pages : Pages) (page p : List ℕ) (t : Tree) → IsUtf8 page → refusal_of_page pages page ≡ None → IsReachedAt p (called_tree pages page) t
         → IsTextBlock (label t).kind → 1 ≤ length (flat t) → IsOnLines pages page p t ⊎ IsExceptedByLines pages page t }
+{}
+
+/// So with any number of them at once: the nodes at some paths are on lines of the expanded page, one behind the other
+/// (`AreOnLines`), and where by these they may be edited with their calls, it is at these paths.
+pub fn blocks_are_on_their_lines_together()
+    ensures together { (pages : Pages) (page : List ℕ) (ps : List (List ℕ)) → AreOnLines pages page ps }
 {}

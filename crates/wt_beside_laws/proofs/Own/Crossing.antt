@@ -586,7 +586,7 @@ name_past w p rest e f = elim (cases_lt (length p) (length w)) [
       let is : begins p w ≡ true =
       begins_by p w (omega (arith, lt)) (λ i l. sym (get_front p rest i l) ∙ begins_get w (p ++ rest) e i (omega (arith, lt, l))) in
       absurd (let no : true ≡ false = sym is ∙ f in cc)
-  )
+      )
   | inr le ↦ le
 ]
 
@@ -656,10 +656,10 @@ reference_within b q rest r = entity_word_within (length q) (entity_at (b ∷ (q
 
     by : b ≡ 38 → (list_all is_reference_byte q ≡ false) ⊎ (may_be_reference (b ∷ q) ≡ false) → EntityWithin (length q) (entity_at (b ∷ (q ++ rest)))
     by is (inl all) =
-      let s = all_at is_reference_byte q all in
-      let here : is_reference_byte (get_or (b ∷ (q ++ rest)) (suc s.at) 0) ≡ false =
-      ap is_reference_byte (get_front q rest s.at s.within) ∙ unpassed (is_reference_byte (get_or q s.at 0)) s.passes in
-      shorter (entity_at (b ∷ (q ++ rest))) (suc s.at) (omega (arith, s.within)) (entity_within (suc s.at) (b ∷ (q ++ rest)) (omega arith) here)
+        let s = all_at is_reference_byte q all in
+        let here : is_reference_byte (get_or (b ∷ (q ++ rest)) (suc s.at) 0) ≡ false =
+        ap is_reference_byte (get_front q rest s.at s.within) ∙ unpassed (is_reference_byte (get_or q s.at 0)) s.passes in
+        shorter (entity_at (b ∷ (q ++ rest))) (suc s.at) (omega (arith, s.within)) (entity_within (suc s.at) (b ∷ (q ++ rest)) (omega arith) here)
     by is (inr none) = reference_past b q rest is none
 
 -- ---- any lexeme

@@ -50,7 +50,7 @@ use Rattle.wt_called_edit_laws.proofs.AllTold.Starts.{HasByte, IsBlockNode, Bloc
 
 -- ---- where the blocks at the paths begin
 
-calling_starts : (pages : Pages) (ss : List BlockSpot) (behind : List ℕ) (f : CallingNodesStay pages ss behind) → IsCallingPage pages ss behind
+pub calling_starts : (pages : Pages) (ss : List BlockSpot) (behind : List ℕ) (f : CallingNodesStay pages ss behind) → IsCallingPage pages ss behind
     → starts_from 0 (children (spots_tree pages ss behind)) (paths_to f.nodes) ≡ spot_starts 0 ss
 calling_starts pages ss behind f h =
     let b : ℕ → Tree = block_with_groups pages ss behind in
@@ -83,7 +83,7 @@ mutual
   settled_to v k [] t s c e h = (text_housed k t (kind_there v t s ∙ e), settled_byte v t s h)
   settled_to v k (i ∷ is) (tree l ts) s c e h = (c.0, settled_in v k i is ts s c.1 e h)
 
-  settled_in : (v : Tree) (k : TextBlock) (i : ℕ) (is : List ℕ) (ts : Trees) → SettledAmong v i is ts → ClearIn i is ts → (label v).kind ≡ kind_of (block_of k)
+  pub settled_in : (v : Tree) (k : TextBlock) (i : ℕ) (is : List ℕ) (ts : Trees) → SettledAmong v i is ts → ClearIn i is ts → (label v).kind ≡ kind_of (block_of k)
       → HasByte v → BlockIn i is ts
   settled_in v k i is none s c e h = s
   settled_in v k zero is (more t ts) s c e h = settled_to v k is t s c e h
@@ -92,7 +92,7 @@ mutual
 -- ---- one block
 
 -- it begins with a byte of the page
-begins_some : (calls : List OuterCall) (xs : List Item) → BeginsThere calls xs → 0 < length (text_from calls None xs)
+pub begins_some : (calls : List OuterCall) (xs : List Item) → BeginsThere calls xs → 0 < length (text_from calls None xs)
 begins_some calls [] h = absurd h
 begins_some calls (x ∷ xs) h =
     let both : length (text_from calls None ((x ∷ []) ++ xs)) ≡ length (text_from calls None (x ∷ [])) + length (text_from calls (last_of None (x ∷ [])) xs) =

@@ -229,7 +229,7 @@ text_lines_at n [] g = tt
 text_lines_at n (l ∷ ls) g = (g.0, text_lines_at n ls g.1)
 
 -- behind the marks that begin a line none is first
-past_unled : (l : List Item) → marks_len (past_marks l) ≡ 0
+pub past_unled : (l : List Item) → marks_len (past_marks l) ≡ 0
 past_unled [] = refl
 past_unled (y ∷ ys) = by (is_mark y) refl (past_unled ys)
   where
@@ -243,7 +243,7 @@ past_unled (y ∷ ys) = by (is_mark y) refl (past_unled ys)
     by false e h =
         ap (λ (v : Bool). marks_len (drop (cond v (1 + n) 0) (y ∷ ys))) e ∙ ap (λ (v : Bool). cond v (1 + n) 0) e
 
-first_unled : (xs zs : List Item) → 1 ≤ length xs → marks_len xs ≡ 0 → marks_len (content (xs ++ zs)) ≡ 0
+pub first_unled : (xs zs : List Item) → 1 ≤ length xs → marks_len xs ≡ 0 → marks_len (content (xs ++ zs)) ≡ 0
 first_unled [] zs some h = absurd (omega (arith, some))
 first_unled (x ∷ xs) zs some h = content_unled (x ∷ (xs ++ zs)) (led_first x xs (xs ++ zs) h)
 

@@ -63,27 +63,44 @@ heading_kind calls n before own behind = refl
 
 -- ---- one node
 
-record IsThere (pages : Pages) (page : List ℕ) (i : ℕ) (is : List ℕ) (t : Tree) : Type 0 where
-  utf8 : IsUtf8 page
-  unrefused : refusal_of_page pages page ≡ None
-  there : IsReachedIn i is (children (called_tree pages page)) t
-  block : IsTextBlock (label t).kind
-  byte : HasByte t
+pub record IsThere (pages : Pages) (page : List ℕ) (i : ℕ) (is : List ℕ) (t : Tree) : Type 0 where
+  pub utf8 : IsUtf8 page
+  pub unrefused : refusal_of_page pages page ≡ None
+  pub there : IsReachedIn i is (children (called_tree pages page)) t
+  pub block : IsTextBlock (label t).kind
+  pub byte : HasByte t
+
+-- the items before a block on lines, and those behind
+abbrev pub line_front : LinedBlock → List Item
+line_front b = joined b.before ++ b.marks
+
+abbrev pub line_more : LinedBlock → Lines → List Item
+line_more b behind = own_items b ++ joined behind
+
+pub line_size : (b : LinedBlock) → size (line_front b) ≡ size (joined b.before) + size b.marks
+line_size b = size_both (joined b.before) b.marks
+
+pub line_whole : (pages : Pages) (page : List ℕ) (b : LinedBlock) (behind : Lines) → full_lines (expanded_page pages page).items ≡ all_lines (b ∷ []) behind
+    → (expanded_page pages page).items ≡ line_front b ++ line_more b behind
+line_whole pages page b behind e = page_joined pages page (all_lines (b ∷ []) behind) e ∙ lines_joined b behind
+
+-- the byte at which the node begins that begins where they do
+pub node_byte : (pages : Pages) (page : List ℕ) (i : ℕ) (is : List ℕ) (t : Tree) → IsThere pages page i is t → (s : StandsIn pages page t) (b : LinedBlock) (behind : Lines)
+    → full_lines (expanded_page pages page).items ≡ all_lines (b ∷ []) behind → size s.before ≡ size (joined b.before) + size b.marks
+    → starts_in 0 i is (children (called_tree pages page)) ≡ length (text_from (expanded_page pages page).outer None (line_front b))
+node_byte pages page i is t n s b behind are at =
+    let calls : List OuterCall = (expanded_page pages page).outer in
+    let text_is : text_from calls None s.before ≡ text_from calls None (line_front b) =
+    text_before pages page t s (line_front b) (line_more b behind) n.utf8 n.unrefused (line_whole pages page b behind are) (at ∙ sym (line_size b)) in
+    sym (node_begins pages page i is t n.utf8 n.unrefused n.there) ∙ ap (λ (u : Tree). first_byte (label u).ranges) s.is
+    ∙ between_begins calls s.number s.before s.block s.behind ∙ ap length text_is
 
 -- where these lines may be edited as a block
 takes_so : (pages : Pages) (page : List ℕ) (i : ℕ) (is : List ℕ) (t : Tree) → IsThere pages page i is t → (s : StandsIn pages page t) (b : LinedBlock) (behind : Lines)
     → size s.before ≡ size (joined b.before) + size b.marks → IsLinedCalling pages page (b ∷ []) behind → TakesThere pages page (i ∷ is) b behind
 takes_so pages page i is t n s b behind at h =
-    let calls : List OuterCall = (expanded_page pages page).outer in
-    let front : List Item = joined b.before ++ b.marks in
-    let more : List Item = own_items b ++ joined behind in
-    let whole : (expanded_page pages page).items ≡ front ++ more = page_joined pages page (all_lines (b ∷ []) behind) h.are ∙ lines_joined b behind in
-    let text_is : text_from calls None s.before ≡ text_from calls None front =
-    text_before pages page t s front more n.utf8 n.unrefused whole (at ∙ sym (size_both (joined b.before) b.marks)) in
-    let begins : starts_in 0 i is (children (called_tree pages page)) ≡ length (text_from calls None front) =
-    sym (node_begins pages page i is t n.utf8 n.unrefused n.there) ∙ ap (λ (u : Tree). first_byte (label u).ranges) s.is
-    ∙ between_begins calls s.number s.before s.block s.behind ∙ ap length text_is in
-    taken_there pages page b behind i is t h n.there (block_in i is (children (called_tree pages page)) t n.there n.block n.byte) begins
+    taken_there pages page b behind i is t h n.there (block_in i is (children (called_tree pages page)) t n.there n.block n.byte)
+    (node_byte pages page i is t n s b behind h.are at)
 
 -- ---- by its lines
 

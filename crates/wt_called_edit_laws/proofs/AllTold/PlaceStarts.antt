@@ -278,7 +278,7 @@ contents_some (s ∷ ss) h = (content_some s.block s.text h.0, contents_some ss 
 pub data LeadsThere (at : ℕ) (ts : Trees) (ps : List (List ℕ)) : Type 0 where
   leads : (i : ℕ) (is : List ℕ) → IsOneOf (i ∷ is) ps → BlockIn i is ts → starts_in 0 i is ts ≡ at → LeadsThere at ts ps
 
-leads_later : (at : ℕ) (ts : Trees) (p : List ℕ) (ps : List (List ℕ)) → LeadsThere at ts ps → LeadsThere at ts (p ∷ ps)
+pub leads_later : (at : ℕ) (ts : Trees) (p : List ℕ) (ps : List (List ℕ)) → LeadsThere at ts ps → LeadsThere at ts (p ∷ ps)
 leads_later at ts p ps (leads i is o b e) = leads i is (inr o) b e
 
 pub leads_there : (ss : List BlockSpot) (ps : List (List ℕ)) (l : Label) (ts : Trees) (at : ℕ) → AllStand ss ps (tree l ts) → NoneEmpty ps → AllClear ps ts

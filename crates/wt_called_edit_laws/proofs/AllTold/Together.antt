@@ -129,7 +129,7 @@ pub record AreAllChosen (pages : Pages) (page : List ℕ) : Type 0 where
   pub all : (t : Told) (rest : Lines) → full_lines (expanded_page pages page).items ≡ all_lines (lined t ∷ []) rest → AreTold (t ∷ []) rest
       → IsChosen pages page (joined (lined t).before) t → IsAmongNumbers (start_of 0 t) (told_starts 0 ts)
 
-are_told : (ts : List Told) (behind : Lines) → AreSome ts → ToldFrom [] ts behind → AreTold ts behind
+pub are_told : (ts : List Told) (behind : Lines) → AreSome ts → ToldFrom [] ts behind → AreTold ts behind
 are_told [] behind s h = absurd s
 are_told (t ∷ ts) behind s h = h
 

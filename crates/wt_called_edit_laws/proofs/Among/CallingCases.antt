@@ -34,7 +34,7 @@ use Rattle.wt_span.specs.Tags.{raw_len, opening_tag, tag_after, closing_tag, wit
 use Rattle.wt_text_edit_laws.specs.TextBlocks.{a_paragraph}
 use lib.Utf8.{encode}
 
-abbrev a_line : LinedBlock
+abbrev pub a_line : LinedBlock
 a_line = record { before = []; marks = []; block = a_paragraph; text = source; first = given 0; more = [] }
 
 items_there : (expanded_page a_word source).items ≡ given 0
@@ -108,7 +108,7 @@ are_here =
 apart_here : AreApartFrom (expanded_page a_word source).outer (expanded_page a_word source).text_calls 0 [] (a_line ∷ [])
 apart_here = subst (λ (ts : List Span). AreApartFrom (expanded_page a_word source).outer ts 0 [] (a_line ∷ [])) (sym no_text_calls) (tt, tt)
 
-told_by_lines : IsLinedCalling a_word source (a_line ∷ []) []
+pub told_by_lines : IsLinedCalling a_word source (a_line ∷ []) []
 told_by_lines = record {
   utf8 = is_read.utf8;
   are = ap full_lines items_there ∙ lines_are;
