@@ -1,7 +1,7 @@
 -- Worked case: the page's paragraph `'''x''' {{t}} y`, where `Template:T` is `''b''`: a style that a call gives, beside bold text of the page; what is sent for it,
 -- and what it makes.
-use Rattle.std.proofs.Common.{◌≡◌, ◌<◌, inl, inr, ℕ, zero, suc, false, Some, None, List, [], ◌∷◌, ◌++◌, arith, refl, sym, ap, ◌∙◌, subst}
-use Rattle.std.specs.Prelude.{codes, if◌then◌else◌}
+use Rattle.std.proofs.Common.{◌≡◌, ◌<◌, inl, inr, ℕ, zero, suc, true, false, Some, None, List, [], ◌∷◌, ◌++◌, arith, refl, sym, ap, ◌∙◌, subst}
+use Rattle.std.specs.Prelude.{codes, if◌then◌else◌, nat_lt, ◌≢◌}
 use Rattle.std.specs.Str.{is_utf8, chars, IsUtf8, bytes_eq}
 use Rattle.std.specs.Str.Lossy.{utf8_valid_len}
 use lib.Utf8.{encode}
@@ -65,7 +65,7 @@ use Rattle.wt_called_edit_laws.specs.InPieces.{AreInPieces}
 use Rattle.wt_called_edit_laws.specs.PageThings.{ArePageThings, thing_sources}
 use Rattle.wt_called_edit_laws.specs.SentAsIs.{as_sent}
 use Rattle.wt_called_edit_laws.specs.Settled.{settled}
-use Rattle.wt_called_edit_laws.specs.StyledCallEdits.{AreNodesBeside, AreOwnThings, IsBesideStyles, IsStyledCallEdit}
+use Rattle.wt_called_edit_laws.specs.StyledCallEdits.{AreNodesBeside, IsNodeBeside, AreOwnThings, IsBesideStyles, IsStyledCallEdit}
 use Rattle.wt_called_edit_laws.specs.WrittenAnew.{StayButForOthers}
 use Rattle.wt_called_edit_laws.proofs.Cells.SentAsIs.{stands_as_sent}
 use Rattle.wt_called_edit_laws.proofs.Written.Cases.{call_sealed, call_settles, call_utf8}
@@ -239,23 +239,50 @@ group_shows = λ i rest.
     ∙ ap (λ (xs : List Item). parts_shown_at 0 [] (line_parts xs) rest) (gives_style i)
     ∙ shows_same i rest
 
-are_nodes : AreNodesBeside a_styler (children_of block)
+has_number : nat_lt 0 (label group).id ≡ true
+unfolding label_at context_parts chunks segments loose_segments tiles shapes closes tile_at link_or_url link_at ext_link_at bare_url_at scheme_len
+    tag_tile tag_at switch_at children with_styles style_tree_of toggles_of toggle_at opens_tag closes_tag place_of since next bold_ends_later effect_on
+    is_bold_outside_at turn_at
+has_number = refl
+
+numbered : (label group).id ≢ 0
+numbered = λ e. let no : false ≡ true = sym (ap (λ (n : ℕ). nat_lt 0 n) e) ∙ has_number in cc
+
+bold_beside : IsNodeBeside a_styler bold_node
 unfolding label_at context_parts chunks segments loose_segments tiles shapes closes tile_at link_or_url link_at ext_link_at bare_url_at scheme_len
     tag_tile tag_at switch_at children with_styles style_tree_of toggles_of toggle_at opens_tag closes_tag place_of since next bold_ends_later effect_on
     is_bold_outside_at turn_at
     encode
-are_nodes =
+bold_beside =
     let a : IsUtf8 (codes "x") = (codes "x", (refl, refl)) in
-    let b : IsUtf8 (codes " y") = (codes "y", (refl, refl)) in (
-      (refl, (((λ e. absurd (cc)), tt), tt), ((a, record { inline = refl; free = inr (refl, tt); shows = λ n. absurd n }), tt)),
-      (
-        (s, record { inline = refl; free = inr (refl, tt); shows = λ n. absurd n }),
-        (
-          record { inline = refl; free = inl refl; shows = λ n. group_shows },
-          ((b, record { inline = refl; free = inr (refl, tt); shows = λ n. absurd n }), tt),
-        ),
-      ),
-    )
+    (refl, (((λ e. absurd (cc)), tt), tt), ((a, record { inline = refl; free = inr (refl, tt); shows = λ n. absurd n }), tt))
+
+space_beside : IsNodeBeside a_styler (nth 1 (children_of block))
+unfolding label_at context_parts chunks segments loose_segments tiles shapes closes tile_at link_or_url link_at ext_link_at bare_url_at scheme_len
+    tag_tile tag_at switch_at children with_styles style_tree_of toggles_of toggle_at opens_tag closes_tag place_of since next bold_ends_later effect_on
+    is_bold_outside_at turn_at
+    encode
+space_beside = let a : IsUtf8 (codes " ") = (codes " ", (refl, refl)) in (a, record { inline = refl; free = inr (refl, tt); shows = λ n. absurd n })
+
+group_beside : IsNodeBeside a_styler group
+unfolding label_at context_parts chunks segments loose_segments tiles shapes closes tile_at link_or_url link_at ext_link_at bare_url_at scheme_len
+    tag_tile tag_at switch_at children with_styles style_tree_of toggles_of toggle_at opens_tag closes_tag place_of since next bold_ends_later effect_on
+    is_bold_outside_at turn_at
+    encode
+group_beside = record { inline = refl; free = inl refl; shows = λ n. group_shows }
+
+last_beside : IsNodeBeside a_styler (nth 3 (children_of block))
+unfolding label_at context_parts chunks segments loose_segments tiles shapes closes tile_at link_or_url link_at ext_link_at bare_url_at scheme_len
+    tag_tile tag_at switch_at children with_styles style_tree_of toggles_of toggle_at opens_tag closes_tag place_of since next bold_ends_later effect_on
+    is_bold_outside_at turn_at
+    encode
+last_beside = let a : IsUtf8 (codes " y") = (codes " y", (refl, refl)) in (a, record { inline = refl; free = inr (refl, tt); shows = λ n. absurd n })
+
+are_nodes : AreNodesBeside a_styler (children_of block)
+unfolding label_at context_parts chunks segments loose_segments tiles shapes closes tile_at link_or_url link_at ext_link_at bare_url_at scheme_len
+    tag_tile tag_at switch_at children with_styles style_tree_of toggles_of toggle_at opens_tag closes_tag place_of since next bold_ends_later effect_on
+    is_bold_outside_at turn_at
+are_nodes = (bold_beside, (space_beside, (group_beside, (last_beside, tt))))
 
 pub in_class : IsBesideStyles a_styler a_paragraph source block
 unfolding label_at context_parts chunks segments loose_segments tiles shapes closes tile_at link_or_url link_at ext_link_at bare_url_at scheme_len
@@ -266,7 +293,7 @@ in_class = record {
   pieces = pieces;
   is = refl;
   parts = in_pieces;
-  numbers = (((λ e. cc), (tt, tt)), (tt, ((λ e. cc), (tt, tt))));
+  numbers = (((λ e. cc), (tt, tt)), (tt, (numbered, (tt, tt))));
   children = are_nodes;
   nest = ((refl, ((λ e. refl), tt)), ((λ e. refl), (tt, ((λ e. refl), tt))));
   things = subst (ArePageThings a_styler) (sym things_are) of_page;
@@ -299,9 +326,9 @@ edit_of = record {
     inl refl,
     record { kind = refl; id = refl; attrs = refl; mw = refl; shown = λ e. refl; unmarked = refl },
     tt,
-    (stands_as_sent group (record { numbered = λ e. cc; unnumbered = (refl, (refl, tt)); unframed = refl }), tt),
+    (stands_as_sent group (record { numbered = numbered; unnumbered = (refl, (refl, tt)); unframed = refl }), tt),
   );
-  are = ((are_letters.0, tt), (are_letters.1, (are_letters.2, tt)));
+  are = ((are_letters.0, tt), (are_letters.1, (tt, (are_letters.2, tt))));
   calm = ((tt, tt), (tt, (tt, tt)));
   new = (((λ e. refl), tt), ((λ e. refl), ((λ e. refl), tt)));
   free = tt;
