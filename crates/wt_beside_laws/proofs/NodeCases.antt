@@ -1,8 +1,9 @@
--- Worked cases: what nodes are to their neighbours, a URL between two letters, and a tag that opens a pair.
-use Rattle.std.proofs.Common.{arith, ◌≡◌, true, false, Some, None, List, [], ◌∷◌, map, refl, sym, subst, inl, inr}
+-- Worked cases: what nodes are to their neighbours, a URL between two letters, a tag that opens a pair, and what a URL may end with.
+use Rattle.std.proofs.Common.{arith, ◌≡◌, true, false, Some, None, List, [], ◌∷◌, ◌++◌, map, refl, sym, subst, inl, inr}
 use Rattle.std.specs.Prelude.{codes}
 use Rattle.wt_tree.specs.declared.edit_shape.Place.TheVariants.{Paragraph}
 use Rattle.wt_span.specs.declared.tag_name.TagName.TheVariants as name
+use Rattle.wt_span.specs.Entities.{entity_names}
 use Rattle.wt_span.specs.Items.{Item}
 use Rattle.wt_guards.specs.declared.role.Role.TheVariants.{Bare}
 use Rattle.wt_guards.specs.Content.{Thing, letter, thing}
@@ -11,15 +12,19 @@ use Rattle.wt_guards.specs.Table.{hazard, line_start_hazard}
 use Rattle.wt_tiles.specs.declared.tag.Name.TheVariants.{Paired, Break}
 use Rattle.wt_tiles.specs.declared.tag.TagShape.TheVariants.{Opening}
 use Rattle.wt_tiles.specs.declared.glyph.Glyph.{Glyph}
+use Rattle.wt_tiles.specs.declared.glyph.Glyph.TheVariants as glyph
 use Rattle.wt_tiles.specs.Glyphs.{glyph_of, byte_glyphs}
+use Rattle.wt_tiles.specs.Partners.{number}
 use Rattle.wt_tiles.specs.Tags.{tag_at, opening_tag, closing_tag, tag_after, name_of, live_name}
 use Rattle.wt_tiles.specs.Tiles.{switch_names}
 use Rattle.wt_tiles.specs.Urls.{scheme_len, is_url_char, is_dropped, kept_len, bare_shape, ext_shape, ext_link_at, bare_url_at}
 use Rattle.wt_text_edit_laws.specs.LonePages.{page_chars}
 use Rattle.wt_beside_laws.specs.Cuts.{own_glyphs}
+use Rattle.wt_beside_laws.specs.EndedNodes.{may_be_reference}
 use Rattle.wt_beside_laws.specs.Glyphs.{line_glyphs}
 use Rattle.wt_beside_laws.specs.NodeItems.{node_items}
 use Rattle.wt_beside_laws.specs.Nodes.{IsExternalNode, IsBareNode, IsSwitchNode, IsDelimiter, IsTagNode, IsOpenBefore, AllMeet}
+use Rattle.wt_beside_laws.specs.OpenTags.{ends_in_tag, depth_past}
 use Rattle.wt_beside_laws.proofs.Firm.{firm_read}
 use Rattle.wt_beside_laws.proofs.NodeItems.{node_as}
 use Rattle.wt_beside_laws.proofs.OpenTags.{untagged_open}
@@ -93,3 +98,40 @@ before_letters = λ e. refl
 before_its_end : IsOpenBefore (byte_glyphs (codes "<small>")) (byte_glyphs (codes "a</small>")) → ⊥
 unfolding tag_at opening_tag closing_tag tag_after name_of live_name
 before_its_end h = let no : Some (byte_glyphs (codes "</small>")) ≡ None = h refl in cc
+
+-- a comment in it hides that a tag isn't ended: `[http://x <small <!--c--> a]`
+open_tag : ends_in_tag (byte_glyphs (codes "[http://x <small ") ++ (glyph.Mark ∷ byte_glyphs (codes " a]"))) ≡ true
+open_tag = refl
+
+ended_tag : ends_in_tag (byte_glyphs (codes "[http://x <small> a]")) ≡ false
+ended_tag = refl
+
+no_tag_there : ends_in_tag (byte_glyphs (codes "[[a|b < c]]")) ≡ false
+no_tag_there = refl
+
+-- tags of a name in a node, and one that closes what was open before it
+as_deep : depth_past (number name.Sub) 1 (byte_glyphs (codes "<sub>2</sub>")) ≡ Some 1
+unfolding tag_at opening_tag closing_tag tag_after name_of live_name
+as_deep = refl
+
+closes_one : depth_past (number name.Sub) 1 (byte_glyphs (codes "2</sub>")) ≡ Some 0
+unfolding tag_at opening_tag closing_tag tag_after name_of live_name
+closes_one = refl
+
+closes_first : depth_past (number name.Sub) 0 (byte_glyphs (codes "2</sub>")) ≡ None
+unfolding tag_at opening_tag closing_tag tag_after name_of live_name
+closes_first = refl
+
+-- ---- what a URL may end with
+
+action : may_be_reference (codes "&action") ≡ false
+unfolding entity_names
+action = refl
+
+copied : may_be_reference (codes "&copy") ≡ true
+unfolding entity_names
+copied = refl
+
+numbered_so : may_be_reference (codes "&#1") ≡ true
+unfolding entity_names
+numbered_so = refl

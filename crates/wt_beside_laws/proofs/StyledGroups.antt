@@ -3,3 +3,4 @@ pub mod Lines
 pub mod Paragraphs
 pub mod Blocks
 pub mod Shown
+pub mod Even

@@ -13,6 +13,7 @@ ghost use Rattle.wt_guards.specs.Guards.{Setting, left_side};
 ghost use Rattle.wt_guards.specs.Table.{hazard};
 ghost use Rattle.wt_expand.specs.Work.{Pages};
 ghost use Rattle.wt_lines.specs.Lines.{lines};
+ghost use Rattle.std.specs.List.{AllByRecursion};
 ghost use Rattle.wt_inline.specs.ItemTree.{plain, forest};
 ghost use Rattle.wt_inline.specs.Parts.{children};
 ghost use Rattle.wt_tiles.specs.declared.glyph.Glyph.{Glyph};
@@ -34,6 +35,7 @@ ghost use Rattle.wt_beside_laws.specs.Given.{GivenSign, given_items, AreGivenSig
 ghost use Rattle.wt_beside_laws.specs.Glyphs.{letter_glyphs};
 ghost use Rattle.wt_beside_laws.specs.Lines.{IsLineOfText};
 ghost use Rattle.wt_beside_laws.specs.Shown.{parts_shown_at};
+ghost use Rattle.wt_beside_laws.specs.SpelledApart.{HasEvenToggles};
 ghost use Rattle.wt_beside_laws.specs.Styled.{StyledContent, signs_in};
 ghost use Rattle.wt_beside_laws.specs.StyledCalls.{IsStyledCalled, styled_called_shown, styled_with};
 
@@ -126,4 +128,15 @@ pub fn nothing_that_is_typed_joins_a_group()
     ensures behind { (g : Transclusion) (word : Bool) (signs : List GivenSign) (escaped : Bool) (c : ℕ) (more : List Glyph) → AreGivenSigns word signs
         → (ends_with_url signs ≡ true → g.slashes ≡ true) → hazard (left_side (Group g)) (side.Text c) ≡ false → LastMay signs (letter_glyphs escaped c ++ more) }
     ensures before { (g : Transclusion) (c : ℕ) → hazard (side.Text c) (side_of (Group g)) ≡ false → is_word c ≡ false }
+{}
+
+/// On each line of such contents, in a paragraph or a heading, with styles or without, the numbers of bold and of italic toggles are even, those that calls
+/// give among them, whatever is typed: so no run of apostrophes is exchanged.
+pub fn lines_with_calls_have_even_toggles()
+    ensures texts { (s : Setting) (signs : List ContentSign) (owns : List (List Item)) → IsCalledContent s signs owns
+        → AllByRecursion HasEvenToggles (lines (items_with s [] signs owns)) }
+    ensures headings { (s : Setting) (signs : List ContentSign) (owns : List (List Item)) → IsCalledHeading s signs owns
+        → AllByRecursion HasEvenToggles (lines (items_with s [] signs owns)) }
+    ensures styles { (s : Setting) (t : StyledContent) (owns : List (List Item)) → IsStyledCalled s t owns
+        → AllByRecursion HasEvenToggles (lines (items_with s [] (signs_in t) owns)) }
 {}

@@ -76,11 +76,11 @@ mod styles;
 mod untangled;
 
 pub use called::{
-    groups_of_what_calls_give_have_no_fault, nothing_that_is_typed_joins_a_group,
-    styles_beside_calls_are_one_paragraph, texts_beside_calls_are_one_paragraph,
-    texts_beside_calls_are_shown, texts_beside_calls_are_such_in_a_folder,
-    texts_beside_calls_hold_these, texts_beside_calls_may_be_in_headings,
-    what_a_call_gives_is_each_by_itself,
+    groups_of_what_calls_give_have_no_fault, lines_with_calls_have_even_toggles,
+    nothing_that_is_typed_joins_a_group, styles_beside_calls_are_one_paragraph,
+    texts_beside_calls_are_one_paragraph, texts_beside_calls_are_shown,
+    texts_beside_calls_are_such_in_a_folder, texts_beside_calls_hold_these,
+    texts_beside_calls_may_be_in_headings, what_a_call_gives_is_each_by_itself,
 };
 pub use styles::{
     blocks_with_styles_have_their_nodes, contents_sent_with_styles_are_such,

@@ -1,5 +1,5 @@
 -- A worked case, by computing: a page of a paragraph, a cell with a paragraph in it and another paragraph, in which the first two get other texts.
-use Rattle.std.proofs.Common.{arith, ◌≡◌, ◌+◌, ℕ, Some, None, [], refl}
+use Rattle.std.proofs.Common.{arith, ◌≡◌, ◌+◌, None, [], refl}
 use Rattle.std.specs.Prelude.{codes}
 use Rattle.wt_tree.specs.declared.kind.Kind.TheVariants as kind
 use Rattle.wt_tree.specs.Leaves.{leaf_label, text_leaf, sep_leaf}

@@ -1,7 +1,6 @@
 -- Each paragraph and heading of a page's tree that holds no call is told by the lines of the expanded page; and those that these don't tell.
-use Rattle.std.specs.Prelude.{◌≡◌, ◌⊎◌, ℕ, zero, suc, ◌+◌, true, false, None, List, [], ◌∷◌, ◌++◌, length, map}
-use Rattle.std.specs.List.{list_all}
-use Rattle.wt_span.specs.Items.{Item, is_mark, sources}
+use Rattle.std.specs.Prelude.{◌≡◌, ◌⊎◌, ℕ, zero, suc, ◌+◌, false, None, List, [], ◌∷◌, ◌++◌, length, map}
+use Rattle.wt_span.specs.Items.{Item, sources}
 use Rattle.wt_span.specs.Origins.{Expanded}
 use Rattle.wt_tree.specs.Source.{flat}
 use Rattle.wt_tree.specs.Tiling.{HasNoGroup}
@@ -16,7 +15,6 @@ use Rattle.wt_page.specs.Rows.{Row, rows_from}
 use Rattle.wt_selser.specs.Edits.{is_tangled}
 use Rattle.wt_text_edit_laws.specs.BodyParagraphs.{EndWhole}
 use Rattle.wt_text_edit_laws.specs.NoCalls.{CallsNothing}
-use Rattle.wt_text_edit_laws.specs.TextBetween.{AreEnded}
 use Rattle.wt_text_edit_laws.specs.Unclosed.{holds_unclosed}
 use Rattle.wt_called_edit_laws.specs.ContentsTaken.{TakesContents}
 use Rattle.wt_called_edit_laws.specs.Groups.{called_tree}
@@ -64,8 +62,7 @@ IsBesideTexts e front t =
 
 -- So of an expanded page: one of these by its lines; or a block for which a call gives the line break before or behind it, or which has one on its line
 -- that gives nothing; or in which a function is kept; or of whose lines a call that is text has a byte, or that has two braces that open before two that
--- close (no page may have one of the last two, unproved). Or the marks that begin it don't end with a `>` or a line break: so it is of none whose lines are
--- the page's own.
+-- close (no page may have one of the last two, unproved).
 pub data IsExceptedIn (e : Expanded) (at : ℕ) : Type 0 where
   by_its_lines : IsExceptedAt (full_lines e.items) at → IsExceptedIn e at
   beside_a_call : (t : Told) (behind : List (List Item)) → full_lines e.items ≡ all_lines (lined t ∷ []) behind → AreTold (t ∷ []) behind → at ≡ start_of 0 t
@@ -76,10 +73,6 @@ pub data IsExceptedIn (e : Expanded) (at : ℕ) : Type 0 where
       → (IsBesideTexts e (joined (lined t).before) t → ⊥) → IsExceptedIn e at
   holds_a_pair : (t : Told) (behind : List (List Item)) → full_lines e.items ≡ all_lines (lined t ∷ []) behind → AreTold (t ∷ []) behind → at ≡ start_of 0 t
       → (CallsNothing (content (joined ((lined t).first ∷ (lined t).more))) → ⊥) → IsExceptedIn e at
-  unended_marks : (t : Told) (behind : List (List Item)) → full_lines e.items ≡ all_lines (lined t ∷ []) behind → list_all is_mark (lined t).marks ≡ true → at ≡ start_of 0 t
-      → (AreEnded (sources (lined t).marks) → ⊥)
-      → (last_of None (joined (lined t).before) ≡ None → AreOfPage ((lined t).marks ++ joined ((lined t).first ∷ (lined t).more)) → IsBesideTexts e (joined (lined t).before) t → ⊥)
-      → IsExceptedIn e at
 
 -- a node of a page's tree that begins so
 pub record IsExcepted (pages : Pages) (page : List ℕ) (t : Tree) : Type 0 where

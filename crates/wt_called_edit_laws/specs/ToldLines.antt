@@ -13,7 +13,6 @@ use Rattle.wt_text_edit_laws.specs.NoCalls.{CallsNothing}
 use Rattle.wt_text_edit_laws.specs.PageCuts.{EndClosed}
 use Rattle.wt_text_edit_laws.specs.ParagraphBetween.{written_rows}
 use Rattle.wt_text_edit_laws.specs.Parts.{HasNoGroups}
-use Rattle.wt_text_edit_laws.specs.TextBetween.{AreEnded}
 use Rattle.wt_text_edit_laws.specs.TextBlocks.{TextBlock, a_paragraph, a_heading}
 use Rattle.wt_called_edit_laws.specs.AnyBlocks.{open_after, EndsFor, NextApart}
 use Rattle.wt_called_edit_laws.specs.LinedHeadings.{sides_of, text_of, IsLinedHeading}
@@ -44,7 +43,6 @@ rows_before open_tables t = written_rows (length open_tables) (lined t).before
 -- as `IsLinedAt`
 pub record IsToldAt (open_tables : List Bool) (t : Told) : Type 0 where
   pub are_marks : list_all is_mark (lined t).marks ≡ true
-  pub ended : AreEnded (sources (lined t).marks)
   pub some : 1 ≤ length (lined t).first
   pub in_cells : AllTrue (open_after open_tables (rows_before open_tables t))
   pub apart : EndsFor (lined t).block (rows_before open_tables t)

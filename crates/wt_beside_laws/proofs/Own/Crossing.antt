@@ -1,9 +1,10 @@
 -- Which lexemes go on over the end of a text, whatever is read behind it: none but signs, where each `<` and each `&` in it has something behind it
 -- that ends what could begin there.
-use Rattle.std.proofs.Common.{arith, ◌≡◌, ◌⊎◌, inl, inr, ℕ, zero, suc, ◌+◌, ◌-◌, ◌<◌, ◌≤◌, ◌==◌, Bool, true, false, Option, Some, None, List, [], ◌∷◌, ◌++◌, length, get_or, take, drop, nat_lt, refl, sym, ap, ◌∙◌, subst, length-take, length-drop}
+use Rattle.std.proofs.Common.{arith, ◌≡◌, ◌⊎◌, inl, inr, ℕ, zero, suc, ◌+◌, ◌-◌, ◌<◌, ◌≤◌, ◌==◌, Bool, true, false, Option, Some, None, List, [], ◌∷◌, ◌++◌, length, get_or, take, drop, nat_eq, nat_lt, refl, sym, ap, ◌∙◌, subst, length-append, length-take, length-drop}
 use Rattle.std.specs.Prelude.{◌&&◌, ◌||◌, not, is_some, codes, if◌then◌else◌, slice_index}
 use Rattle.std.specs.Char.{is_ascii_alphabetic, is_ascii_alphanumeric, is_ascii_digit, is_ascii_hexdigit}
 use Rattle.std.specs.List.{list_any, list_all, prefix_len}
+use Rattle.std.specs.Cmp.Lexicographic.{pointwise}
 use Rattle.std.specs.Option.{option_map, option_or, unwrap_or}
 use Rattle.std.proofs.lemmas.Bool.{cases_lt, eqb-true}
 use Rattle.std.proofs.lemmas.Bool.Decides.{nat_tests}
@@ -32,7 +33,7 @@ use Rattle.wt_text_edit_laws.specs.TextBetween.{ends_comment, ends_tag, ends_her
 use Rattle.wt_text_edit_laws.proofs.Between.ClosingTags.{not_less}
 use Rattle.wt_text_edit_laws.proofs.Between.LineTags.{TagWithin, IsFound}
 use Rattle.wt_text_edit_laws.proofs.Between.LineWords.{word_before, Within, or_within, entity_word_within}
-use Rattle.wt_beside_laws.specs.EndedNodes.{is_reference_byte, ReferencesEnd}
+use Rattle.wt_beside_laws.specs.EndedNodes.{is_reference_byte, begins_name, may_be_reference, ReferencesEnd}
 use Rattle.wt_beside_laws.proofs.Made.Sealed.{stops, closing_within}
 
 -- ---- a byte behind a place
@@ -561,19 +562,105 @@ entity_within k bs some g =
     either false true i j e = number_within 3 6 16 k is_ascii_hexdigit (codes "&#X") bs j refl refl hexdigit_is some g
     either false false i j e = absurd (cc)
 
+-- ---- what no reference begins with
+
+both_true : (u v : Bool) → u ≡ true → v ≡ true → (u && v) ≡ true
+both_true true v e f = f
+both_true false v e f = e
+
+parts_false : (u v : Bool) → (u || v) ≡ false → (u ≡ false) × (v ≡ false)
+parts_false false v e = (refl, e)
+parts_false true v e = cc
+
+begins_by : (word bs : List ℕ) → length word ≤ length bs → ((i : ℕ) → i < length word → get_or word i 0 ≡ get_or bs i 0) → begins word bs ≡ true
+begins_by [] bs le h = refl
+begins_by (x ∷ word) [] le h = absurd (omega (arith, le))
+begins_by (x ∷ word) (b ∷ bs) le h =
+    let first : x ≡ b = h 0 (omega arith) in
+    both_true (nat_eq x b) (pointwise nat_eq word (take (length word) bs)) (let z : (x == b) ≡ true = grind (arith, nat_tests, first) in z)
+    (begins_by word bs (omega (arith, le)) (λ i lt. h (suc i) (omega (arith, lt))))
+
+name_past : (w p rest : List ℕ) → begins w (p ++ rest) ≡ true → begins p w ≡ false → length w ≤ length p
+name_past w p rest e f = elim (cases_lt (length p) (length w)) [
+  | inl lt ↦ (
+      let is : begins p w ≡ true =
+      begins_by p w (omega (arith, lt)) (λ i l. sym (get_front p rest i l) ∙ begins_get w (p ++ rest) e i (omega (arith, lt, l))) in
+      absurd (let no : true ≡ false = sym is ∙ f in cc)
+      )
+  | inr le ↦ le
+]
+
+named_past : (entries : List (List ℕ × ℕ)) (b : ℕ) (q rest : List ℕ) → begins_name entries (b ∷ q) ≡ false
+    → EntityWithin (length q) (named_in entries (b ∷ (q ++ rest)))
+named_past [] b q rest n = tt
+named_past ((name, c) ∷ entries) b q rest n =
+    let both = parts_false (begins (b ∷ q) name) (begins_name entries (b ∷ q)) n in
+    by (begins name (b ∷ (q ++ rest))) refl both.0 (named_past entries b q rest both.1)
+  where
+    by : (t : Bool) → begins name (b ∷ (q ++ rest)) ≡ t → begins (b ∷ q) name ≡ false → EntityWithin (length q) (named_in entries (b ∷ (q ++ rest)))
+        → EntityWithin (length q) (if t then Some (c, length name) else named_in entries (b ∷ (q ++ rest)))
+    by true e f h = let le = name_past name (b ∷ q) rest e f in omega (arith, le)
+    by false e f h = h
+
+front_false : (w p rest : List ℕ) → length w ≤ length p → begins w p ≡ false → begins w (p ++ rest) ≡ true → ⊥
+front_false w p rest le f e =
+    let is : begins w p ≡ true = begins_by w p le (λ i l. sym (begins_get w (p ++ rest) e i l) ∙ get_front p rest i (omega (arith, le, l))) in
+    absurd (let no : true ≡ false = sym is ∙ f in cc)
+
+first_begins : (w v bs : List ℕ) → begins (w ++ v) bs ≡ true → begins w bs ≡ true
+first_begins w v bs e =
+    let long = begins_len (w ++ v) bs e in
+    let sum = length-append w v in
+    begins_by w bs (omega (arith, long, sum)) (λ i l. sym (begins_get (w ++ v) bs e i (omega (arith, sum, l)) ∙ get_front w v i l))
+
+alone_may : begins_name entity_names (38 ∷ []) ≡ true
+unfolding entity_names
+alone_may = refl
+
+-- so `&` isn't alone
+some_behind : (b : ℕ) (q : List ℕ) → b ≡ 38 → begins_name entity_names (b ∷ q) ≡ false → 1 ≤ length q
+some_behind b [] is f = absurd (let no : true ≡ false = sym alone_may ∙ ap (λ (c : ℕ). begins_name entity_names (c ∷ [])) (sym is) ∙ f in cc)
+some_behind b (c ∷ q) is f = omega arith
+
+reference_past : (b : ℕ) (q rest : List ℕ) → b ≡ 38 → may_be_reference (b ∷ q) ≡ false → EntityWithin (length q) (entity_at (b ∷ (q ++ rest)))
+unfolding entity_at named_entity decimal_entity hex_entity
+reference_past b q rest is f =
+    let k : ℕ = length q in
+    let bs : List ℕ = b ∷ (q ++ rest) in
+    let both = parts_false (begins_name entity_names (b ∷ q)) (begins (codes "&#") (b ∷ q)) f in
+    let some = some_behind b q is both.0 in
+    or_entity k (named_in entity_names bs) _ (named_past entity_names b q rest both.0)
+    (or_entity k (if begins (codes "&#") bs then numbered 2 7 10 is_ascii_digit bs else None) _
+    (if_entity k (begins (codes "&#") bs) (numbered 2 7 10 is_ascii_digit bs)
+    (λ e. absurd (front_false (codes "&#") (b ∷ q) rest (omega (arith, some)) both.1 e)))
+    (if_entity k (begins (codes "&#x") bs || begins (codes "&#X") bs) (numbered 3 6 16 is_ascii_hexdigit bs)
+    (λ e. absurd (either (begins (codes "&#x") bs) (begins (codes "&#X") bs) refl refl e some both.1))))
+  where
+    either : (u v : Bool) → begins (codes "&#x") (b ∷ (q ++ rest)) ≡ u → begins (codes "&#X") (b ∷ (q ++ rest)) ≡ v → (u || v) ≡ true → 1 ≤ length q
+        → begins (codes "&#") (b ∷ q) ≡ false → ⊥
+    either true v i j e some n =
+        front_false (codes "&#") (b ∷ q) rest (omega (arith, some)) n (first_begins (codes "&#") (codes "x") (b ∷ (q ++ rest)) i)
+    either false true i j e some n =
+        front_false (codes "&#") (b ∷ q) rest (omega (arith, some)) n (first_begins (codes "&#") (codes "X") (b ∷ (q ++ rest)) j)
+    either false false i j e some n = absurd (cc)
+
 reference_within : (b : ℕ) (q rest : List ℕ) → ReferencesEnd (b ∷ q) → Within (length q) (entity_word (entity_at (b ∷ (q ++ rest))))
 reference_within b q rest r = entity_word_within (length q) (entity_at (b ∷ (q ++ rest))) (elim (equal_or b 38) [
-  | inl is ↦
-      let s = all_at is_reference_byte q (r.0 (subst (λ (k : ℕ). (k == 38) ≡ true) (sym is) refl)) in
-      let here : is_reference_byte (get_or (b ∷ (q ++ rest)) (suc s.at) 0) ≡ false =
-      ap is_reference_byte (get_front q rest s.at s.within) ∙ unpassed (is_reference_byte (get_or q s.at 0)) s.passes in
-      shorter (entity_at (b ∷ (q ++ rest))) (suc s.at) (omega (arith, s.within)) (entity_within (suc s.at) (b ∷ (q ++ rest)) (omega arith) here)
+  | inl is ↦ by is (r.0 (subst (λ (k : ℕ). (k == 38) ≡ true) (sym is) refl))
   | inr differs ↦ subst (EntityWithin (length q)) (sym (entity_none (b ∷ (q ++ rest)) (λ e. apart b 38 differs e))) tt
 ])
   where
     shorter : (o : Option (ℕ × ℕ)) (k : ℕ) → k ≤ length q → EntityWithin k o → EntityWithin (length q) o
     shorter None k le h = tt
     shorter (Some e) k le h = omega (arith, le, h)
+
+    by : b ≡ 38 → (list_all is_reference_byte q ≡ false) ⊎ (may_be_reference (b ∷ q) ≡ false) → EntityWithin (length q) (entity_at (b ∷ (q ++ rest)))
+    by is (inl all) =
+        let s = all_at is_reference_byte q all in
+        let here : is_reference_byte (get_or (b ∷ (q ++ rest)) (suc s.at) 0) ≡ false =
+        ap is_reference_byte (get_front q rest s.at s.within) ∙ unpassed (is_reference_byte (get_or q s.at 0)) s.passes in
+        shorter (entity_at (b ∷ (q ++ rest))) (suc s.at) (omega (arith, s.within)) (entity_within (suc s.at) (b ∷ (q ++ rest)) (omega arith) here)
+    by is (inr none) = reference_past b q rest is none
 
 -- ---- any lexeme
 

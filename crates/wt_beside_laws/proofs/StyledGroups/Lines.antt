@@ -298,11 +298,15 @@ line_end s before owns h = record {
   first = λ z. refl;
 }
 
-line_nest : (s : Setting) (before : List ContentSign) (t : StyledContent) (owns : List (List Item)) (h : AreGiven (signs_before t []) owns) → AreNested false false t → AreIn false t owns
+pub line_nest : (s : Setting) (before : List ContentSign) (t : StyledContent) (owns : List (List Item)) (h : AreGiven (signs_before t []) owns) → AreNested false false t → AreIn false t owns
     → Read false false (quote_next s before (signs_before t [])) (line_cut_of s before (signs_before t []) owns h) (line_with s before (signs_before t []) owns) []
     (styled_with true s before t [] owns)
 line_nest s before t owns h k w =
     styled_read true s false false t before [] owns [] h k w (λ z. (refl, refl)) (inl refl) (line_end s (signs_past t before) (owns_past t owns) (given_behind t [] owns h))
+
+pub line_whole : (s : Setting) (before : List ContentSign) (last : List Item) (signs : List ContentSign) (owns : List (List Item)) (h : AreGiven signs owns)
+    → AllMeetWith s before last signs owns → cuts in_line false 0 (map glyph_of (line_with s before signs owns)) ≡ line_cut_of s before signs owns h
+line_whole s before last signs owns h m = ap (cuts in_line false 0) (line_is s before signs owns) ∙ line_cuts_are s before last signs owns (all_gifts signs owns h) m
 
 pub called_line : (s : Setting) (before : List ContentSign) (last : List Item) (t : StyledContent) (owns : List (List Item)) → AreGiven (signs_before t []) owns
     → AreNested false false t → AreIn false t owns → AllMeetWith s before last (signs_before t []) owns → line_parts (line_with s before (signs_before t []) owns) ≡ styled_with true s before t [] owns

@@ -36,13 +36,13 @@ later_parts s before (styled kind opening closing inside t) owns =
     later_parts s (delimiter kind closing ∷ signs_past inside (delimiter kind opening ∷ before)) t (owns_left (owns_past inside (owns_left owns)))
 
 -- none begins with a delimiter
-mark_later : (s : Setting) (before : List ContentSign) (kind : Bool) (place : Option Stretch) (signs : List ContentSign) (owns : List (List Item))
+pub mark_later : (s : Setting) (before : List ContentSign) (kind : Bool) (place : Option Stretch) (signs : List ContentSign) (owns : List (List Item))
     → AreGiven (delimiter kind place ∷ signs) owns → later_with s before (delimiter kind place ∷ signs) owns ≡ later_with s (delimiter kind place ∷ before) signs (owns_left owns)
 mark_later s before kind place signs [] h = absurd h
 mark_later s before kind place signs (own ∷ owns) h = refl
 
 -- nor inside a style
-none_later : (s : Setting) (bold italic : Bool) (t : StyledContent) (before after : List ContentSign) (owns : List (List Item)) → AreGiven (signs_before t after) owns
+pub none_later : (s : Setting) (bold italic : Bool) (t : StyledContent) (before after : List ContentSign) (owns : List (List Item)) → AreGiven (signs_before t after) owns
     → AreNested bold italic t → (bold || italic) ≡ true
     → later_with s before (signs_before t after) owns ≡ later_with s (signs_past t before) after (owns_past t owns)
 none_later s bold italic finished before after owns h k w = refl
@@ -68,17 +68,17 @@ none_later s bold italic (styled kind opening closing inside t) before after own
     ∙ none_later s bold italic t (delimiter kind closing ∷ signs_past inside first) after (owns_left behind) (past_mark kind closing signs behind given_end) k.2 w
 
 -- what is behind a content meets, too, where its last node gives something
-record MeetsBehind (s : Setting) (before after : List ContentSign) (owns : List (List Item)) : Type 0 where
-  last : List Item
-  meet : AllMeetWith s before last after owns
+pub record MeetsBehind (s : Setting) (before after : List ContentSign) (owns : List (List Item)) : Type 0 where
+  pub last : List Item
+  pub meet : AllMeetWith s before last after owns
 
-mark_meet : (s : Setting) (before : List ContentSign) (last : List Item) (kind : Bool) (place : Option Stretch) (signs : List ContentSign) (owns : List (List Item))
+pub mark_meet : (s : Setting) (before : List ContentSign) (last : List Item) (kind : Bool) (place : Option Stretch) (signs : List ContentSign) (owns : List (List Item))
     → AreGiven (delimiter kind place ∷ signs) owns → AllMeetWith s before last (delimiter kind place ∷ signs) owns
     → MeetsBehind s (delimiter kind place ∷ before) signs (owns_left owns)
 mark_meet s before last kind place signs [] h m = absurd h
 mark_meet s before last kind place signs (own ∷ owns) h m = record { last = own; meet = m.1 }
 
-meet_behind : (s : Setting) (before : List ContentSign) (last : List Item) (t : StyledContent) (after : List ContentSign) (owns : List (List Item))
+pub meet_behind : (s : Setting) (before : List ContentSign) (last : List Item) (t : StyledContent) (after : List ContentSign) (owns : List (List Item))
     → AreGiven (signs_before t after) owns → AllMeetWith s before last (signs_before t after) owns → MeetsBehind s (signs_past t before) after (owns_past t owns)
 meet_behind s before last finished after owns h m = record { last = last; meet = m }
 meet_behind s before last (sign (letter c) t) after owns h m = meet_behind s (letter c ∷ before) [] t after owns h m

@@ -4,7 +4,7 @@ use Rattle.wt_span.specs.Items.{Item, sources}
 use Rattle.wt_span.specs.Origins.{Expanded, Span}
 use Rattle.wt_span.specs.Runs.{AreRuns}
 use Rattle.wt_tree.specs.Tree.{Tree}
-use Rattle.wt_annotated.specs.Seams.{last_of, text_from}
+use Rattle.wt_annotated.specs.Seams.{text_from}
 use Rattle.wt_expand.specs.PageCalls.{expanded_page}
 use Rattle.wt_expand.specs.PageItems.{page_items}
 use Rattle.wt_expand.specs.Work.{Pages}
@@ -16,18 +16,14 @@ use Rattle.wt_text_edit_laws.specs.LonePages.{of_items}
 use Rattle.wt_text_edit_laws.specs.NoCalls.{CallsNothing}
 use Rattle.wt_text_edit_laws.proofs.Between.NoCalls.{calm_expanded}
 use Rattle.wt_text_edit_laws.proofs.Cuts.TextLines.{joined_is}
-use Rattle.wt_called_edit_laws.specs.AllTold.{IsBesideNoCall, AreNoFunctions, IsBesideTexts, IsExceptedAt, IsExceptedIn, by_its_lines, beside_a_call, holds_a_function, beside_a_text, holds_a_pair, unended_marks, IsExcepted}
+use Rattle.wt_called_edit_laws.specs.AllTold.{IsBesideNoCall, AreNoFunctions, IsBesideTexts, IsExceptedAt, IsExceptedIn, by_its_lines, beside_a_call, holds_a_function, beside_a_text, holds_a_pair, IsExcepted}
 use Rattle.wt_called_edit_laws.specs.LinedAmong.{AreOfPage, AreBeside, AreOwnLines}
 use Rattle.wt_called_edit_laws.specs.PlacedLines.{LinedBlock, all_lines}
 use Rattle.wt_called_edit_laws.specs.RowBlocks.{opened_len, StandsIn}
 use Rattle.wt_called_edit_laws.specs.ToldLines.{Told, lined, AreTold}
 use Rattle.wt_called_edit_laws.proofs.Among.CalmLines.{page_of, page_runs, own_all}
 use Rattle.wt_called_edit_laws.proofs.Among.LinedParts.{of_behind, of_front}
-use Rattle.wt_called_edit_laws.proofs.Among.OwnItems.{from_page}
-use Rattle.wt_called_edit_laws.proofs.Among.OwnSeams.{own_last}
-use Rattle.wt_called_edit_laws.proofs.Cells.PlacedLines.{own_items, lines_joined}
-use Rattle.wt_called_edit_laws.proofs.AllTold.Chosen.{own_both}
-use Rattle.wt_called_edit_laws.proofs.AllTold.OneNode.{page_joined}
+use Rattle.wt_called_edit_laws.proofs.Cells.PlacedLines.{own_items}
 
 no_functions : (xs : List Item) → AreOfPage xs → AreNoFunctions xs
 no_functions [] h = tt
@@ -66,32 +62,6 @@ calm_lines pages page t behind c are told =
       pairs = own.2;
     }
 
--- of any lines of such a page
-record IsOwn (e : Expanded) (t : Told) : Type 0 where
-  ends : last_of None (joined (lined t).before) ≡ None
-  lines : AreOfPage ((lined t).marks ++ own_items (lined t))
-  texts : IsBesideTexts e (joined (lined t).before) t
-
-calm_own : (pages : Pages) (page : List ℕ) (t : Told) (behind : List (List Item)) → CallsNothing (page_items page)
-    → full_lines (expanded_page pages page).items ≡ all_lines (lined t ∷ []) behind → IsOwn (expanded_page pages page) t
-calm_own pages page t behind c are =
-    let e : Expanded = expanded_page pages page in
-    let b : LinedBlock = lined t in
-    let front : List Item = joined b.before in
-    let own : List Item = own_items b in
-    let expanded : e ≡ of_items (page_items page) = calm_expanded pages page c in
-    let items : AreOfPage e.items = subst AreOfPage (ap (λ (x : Expanded). x.items) (sym expanded)) (page_of page) in
-    let all : AreOfPage ((front ++ b.marks) ++ (own ++ joined behind)) =
-    subst AreOfPage (page_joined pages page (all_lines (b ∷ []) behind) are ∙ lines_joined b behind) items in
-    let before : AreOfPage (front ++ b.marks) = of_front (front ++ b.marks) (own ++ joined behind) all in
-    let rest : AreOfPage (own ++ joined behind) = of_behind (front ++ b.marks) (own ++ joined behind) all in
-    let from : ℕ = length (text_from e.outer None front) in
-    record {
-      ends = own_last front (from_page front (of_front front b.marks before));
-      lines = own_both b.marks own (of_behind front b.marks before) (of_front own (joined behind) rest);
-      texts = subst (λ (ss : List Span). AreBeside from (from + length (sources (b.marks ++ own))) ss) (sym (ap (λ (x : Expanded). x.text_calls) expanded)) tt;
-    }
-
 pub calm_excepted : (pages : Pages) (page : List ℕ) (t : Tree) → CallsNothing (page_items page) → IsExcepted pages page t
     → (s : StandsIn pages page t) × IsExceptedAt (full_lines (expanded_page pages page).items) (opened_len s.before)
 calm_excepted pages page t c x = (x.stands, by x.begins_so)
@@ -105,4 +75,3 @@ calm_excepted pages page t c x = (x.stands, by x.begins_so)
     by (holds_a_function o behind are told at f) = absurd (f (calm_lines pages page o behind c are told).functions)
     by (beside_a_text o behind are told at f) = absurd (f (calm_lines pages page o behind c are told).texts)
     by (holds_a_pair o behind are told at f) = absurd (f (calm_lines pages page o behind c are told).pairs)
-    by (unended_marks o behind are marks at f g) = let own = calm_own pages page o behind c are in absurd (g own.ends own.lines own.texts)

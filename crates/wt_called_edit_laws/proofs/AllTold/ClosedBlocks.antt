@@ -1,11 +1,10 @@
 -- A block of an expanded page whose lines are the page's own: the marks that begin it are ended; and where nothing is behind it, its node goes up to the
 -- page's end, and a line break behind it is read as one, if it holds no mark that nothing ends.
-use Rattle.std.proofs.Common.{arith, ◌≡◌, ◌≤◌, ℕ, ◌+◌, true, false, Option, None, List, [], ◌∷◌, ◌++◌, length, map, refl, sym, ap, ap₂, ◌∙◌, subst, append-nil, append_assoc, length-append}
+use Rattle.std.proofs.Common.{arith, ◌≡◌, ◌≤◌, ℕ, ◌+◌, true, false, Option, None, List, [], ◌∷◌, ◌++◌, length, map, refl, sym, ap, ap₂, ◌∙◌, subst, append-nil, append_assoc}
 use Rattle.std.specs.Prelude.{◌==◌}
 use Rattle.std.specs.Str.{IsUtf8}
-use Rattle.std.specs.List.{list_all}
 use Rattle.wt_span.specs.Braces.{Members, lexeme, call, none, more, width_of_all}
-use Rattle.wt_span.specs.Items.{Item, is_mark, sources}
+use Rattle.wt_span.specs.Items.{Item, sources}
 use Rattle.wt_span.specs.Origins.{OuterCall}
 use Rattle.wt_span.specs.Runs.{AreRuns}
 use Rattle.wt_span.proofs.RunLaws.{runs_are}
@@ -25,14 +24,12 @@ use Rattle.wt_page.specs.Body.{meaning}
 use Rattle.wt_page.specs.Lines.{ending}
 use Rattle.wt_page.proofs.Ends.{content_ending}
 use Rattle.wt_text_edit_laws.specs.PageCuts.{EndsClosed, EndClosed}
-use Rattle.wt_text_edit_laws.specs.TextBetween.{AreEnded}
 use Rattle.wt_text_edit_laws.specs.TextBlocks.{source_of}
 use Rattle.wt_text_edit_laws.specs.Unclosed.{is_unclosed_item, last_of as last_item, reaches}
 use Rattle.wt_text_edit_laws.proofs.Cuts.ItemCuts.{HaveBytes, page_from, from_has}
-use Rattle.wt_beside_laws.specs.OpenEnds.{MarksEnd, ShownLast}
+use Rattle.wt_beside_laws.specs.OpenEnds.{ShownLast}
 use Rattle.wt_beside_laws.proofs.Derived.BlockContents.{BlockSeen}
 use Rattle.wt_beside_laws.proofs.Derived.BodyRead.{parts_are}
-use Rattle.wt_beside_laws.proofs.Own.OpenEnds.{page_marks, marks_behind, marks_ended}
 use Rattle.wt_beside_laws.proofs.Own.OpenLast.{ClosedLast, closed_behind, last_closed, closed_end}
 use Rattle.wt_called_edit_laws.specs.AllTold.{IsBesideTexts}
 use Rattle.wt_called_edit_laws.specs.LinedAmong.{spots_of_lines, end_of_lines, AreOfPage, AreBeside}
@@ -99,24 +96,6 @@ own_there pages page o rest are ends own beside =
     line_there pages page 0 (line_front [] b) b.marks (own_items b) (joined rest) (page_items page) there ends (of_front b.marks (own_items b) own)
     (of_behind b.marks (own_items b) own)
     (subst (λ (m : ℕ). AreBeside m (m + length (sources (b.marks ++ own_items b))) (expanded_page pages page).text_calls) z beside)
-
--- the marks before it
-pub own_marks_ended : (pages : Pages) (page : List ℕ) (o : Told) (rest : Lines) → full_lines (expanded_page pages page).items ≡ all_lines (lined o ∷ []) rest
-    → last_of None (joined (lined o).before) ≡ None → AreOfPage ((lined o).marks ++ own_items (lined o))
-    → IsBesideTexts (expanded_page pages page) (joined (lined o).before) o → 1 ≤ length (lined o).first → list_all is_mark (lined o).marks ≡ true
-    → AreEnded (sources (lined o).marks)
-own_marks_ended pages page o rest are ends own beside some all = by (own_items (lined o)) refl
-  where
-    t : LineThere pages page (lined o).marks (own_items (lined o)) (joined rest)
-    t = own_there pages page o rest are ends own beside
-
-    by : (xs : List Item) → own_items (lined o) ≡ xs → AreEnded (sources (lined o).marks)
-    by [] e = absurd (omega (arith, some, ap length e, length-append (lined o).first (joined (lined o).more)))
-    by (y ∷ ys) e =
-        let is : page_items page ≡ t.front ++ ((lined o).marks ++ y ∷ (ys ++ t.behind)) =
-        t.is ∙ ap (λ (xs : List Item). t.front ++ ((lined o).marks ++ (xs ++ t.behind))) e in
-        marks_ended (lined o).marks y (ys ++ t.behind) all
-        (marks_behind t.front ((lined o).marks ++ y ∷ (ys ++ t.behind)) (subst MarksEnd is (page_marks page)))
 
 -- ---- nothing is behind it
 

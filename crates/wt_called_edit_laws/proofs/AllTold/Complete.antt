@@ -28,14 +28,13 @@ use Rattle.wt_part_laws.specs.Frames.{content as content_part}
 use Rattle.wt_part_laws.specs.Slots.{AllTrue}
 use Rattle.wt_selser.specs.Edits.{is_tangled}
 use Rattle.wt_text_edit_laws.specs.BlockSpots.{BlockSpot, spots_source}
-use Rattle.wt_called_edit_laws.specs.AllTold.{starts_in, text_on_a_sign, by_its_lines, beside_a_call, IsExcepted, IsOneOf, AllBlocksTold, IsBesideNoCall, AreNoFunctions, IsBesideTexts, unended_marks, holds_a_function, beside_a_text, holds_a_pair}
+use Rattle.wt_called_edit_laws.specs.AllTold.{starts_in, text_on_a_sign, by_its_lines, beside_a_call, IsExcepted, IsOneOf, AllBlocksTold, IsBesideNoCall, AreNoFunctions, IsBesideTexts, holds_a_function, beside_a_text, holds_a_pair}
 use Rattle.wt_text_edit_laws.proofs.Cuts.RowLines.{AllText}
 use Rattle.wt_text_edit_laws.proofs.Cuts.TextLines.{led_first, content_unled}
 use Rattle.wt_text_edit_laws.proofs.Paragraphs.Marks.{mark_sign, AreMarkSigns, kind_marks}
 use Rattle.wt_text_edit_laws.specs.NoCalls.{CallsNothing}
 use Rattle.wt_text_edit_laws.specs.PageCuts.{EndClosed}
 use Rattle.wt_text_edit_laws.specs.ParagraphBetween.{written_rows, tables_behind, EndApart, BeginApart}
-use Rattle.wt_text_edit_laws.specs.TextBetween.{AreEnded}
 use Rattle.wt_text_edit_laws.specs.TextBlocks.{a_paragraph, source_of, block_tree}
 use Rattle.wt_text_edit_laws.specs.Unclosed.{holds_unclosed}
 use Rattle.wt_beside_laws.proofs.Derived.BlockContents.{BlockSeen, block_seen}
@@ -68,7 +67,7 @@ use Rattle.wt_called_edit_laws.proofs.PathsSend.{NoneEmpty, paths_full}
 use Rattle.wt_called_edit_laws.proofs.AllTold.Alone.{IsAloneTold}
 use Rattle.wt_called_edit_laws.proofs.AllTold.Chosen.{IsOwnBehind, beside_call_decided, functions_decided, texts_decided, calm_decided, own_behind}
 use Rattle.wt_called_edit_laws.proofs.AllTold.ChosenLines.{byte_at, among_mapped, starts_so, ones_front, ones_behind}
-use Rattle.wt_called_edit_laws.proofs.AllTold.ClosedBlocks.{own_marks_ended, own_closed, own_reaches}
+use Rattle.wt_called_edit_laws.proofs.AllTold.ClosedBlocks.{own_closed, own_reaches}
 use Rattle.wt_called_edit_laws.proofs.AllTold.ClosedLines.{NoneBlank, unclosed_by, AllPast, heading_size, para_size}
 use Rattle.wt_called_edit_laws.proofs.Told.HeadItems.{told_source, equals_seen, begins_content}
 use Rattle.wt_called_edit_laws.proofs.AllTold.EachBlocks.{EachBlockIn}
@@ -81,7 +80,7 @@ use Rattle.wt_called_edit_laws.proofs.AllTold.OwnLines.{AreSeen, text_own_lines,
 use Rattle.wt_called_edit_laws.proofs.AllTold.OwnTrees.{OwnRound, paragraph_is, heading_is}
 use Rattle.wt_called_edit_laws.proofs.AllTold.PlaceStarts.{starts_from, spot_starts, paths_start, AllClear, clear_paths, AllHaveBytes, contents_some, LeadsThere, leads, leads_there}
 use Rattle.wt_called_edit_laws.proofs.AllTold.RowBlocks.{housed, page_stands, body_none, below}
-use Rattle.wt_called_edit_laws.proofs.AllTold.Scans.{Decided, ended_decided, text_told, heading_told}
+use Rattle.wt_called_edit_laws.proofs.AllTold.Scans.{Decided, text_told, heading_told}
 use Rattle.wt_called_edit_laws.proofs.AllTold.Starts.{HasByte, BlockAt, BlockIn, same_paths}
 use Rattle.wt_called_edit_laws.proofs.AllTold.Together.{AreAllChosen, chosen_together, told_by_all}
 use Rattle.wt_called_edit_laws.proofs.AllTold.ToldStarts.{are_own, blank_is}
@@ -263,7 +262,6 @@ none_blank n (l ∷ ls) h = ((λ e. let wrong : line.Blank ≡ line.Text = sym e
 -- what is known of a block with this tree by its lines, and so of it where they are the page's own
 record HasLines (b : LinedBlock) (rest : Lines) (u : ItemTree) : Type 0 where
   some : 1 ≤ length b.first
-  are_marks : list_all is_mark b.marks ≡ true
   seen : Round b rest → BlockSeen (content (own_items b))
   number : ℕ
   shown : NoneBlank number (b.first ∷ b.more)
@@ -273,9 +271,10 @@ record HasLines (b : LinedBlock) (rest : Lines) (u : ItemTree) : Type 0 where
 
 -- where its lines are the page's own, or not
 by_place : (pages : Pages) (page : List ℕ) (i : ℕ) (is : List ℕ) (t : Tree) (n : IsNodeAt pages page i is t) (a : AreAllChosen pages page) (s : StandsIn pages page t) (o : Told)
-    (rest : Lines) → full_lines (expanded_page pages page).items ≡ all_lines (lined o ∷ []) rest → (AreEnded (sources (lined o).marks) → AreTold (o ∷ []) rest)
+    (rest : Lines) → full_lines (expanded_page pages page).items ≡ all_lines (lined o ∷ []) rest → AreTold (o ∷ []) rest
     → HasLines (lined o) rest s.block → size s.before ≡ start_of 0 o → AllFrom None (content (own_items (lined o))) → Answer pages page i is t a n.utf8 n.unrefused
-by_place pages page i is t n a s o rest are told_so l at own = ended (ended_decided (sources (lined o).marks))
+by_place pages page i is t n a s o rest are told l at own =
+    by (beside_call_decided front o) (functions_decided line) (texts_decided e front o) (calm_decided line)
   where
     e : Expanded
     e = expanded_page pages page
@@ -286,26 +285,18 @@ by_place pages page i is t n a s o rest are told_so l at own = ended (ended_deci
     line : List Item
     line = content (own_items (lined o))
 
-    by : AreTold (o ∷ []) rest → Decided (IsBesideNoCall front o) → Decided (AreNoFunctions line) → Decided (IsBesideTexts e front o) → Decided (CallsNothing line)
+    by : Decided (IsBesideNoCall front o) → Decided (AreNoFunctions line) → Decided (IsBesideTexts e front o) → Decided (CallsNothing line)
         → Answer pages page i is t a n.utf8 n.unrefused
-    by told (inr f) b c d = inr (record { stands = s; begins_so = beside_a_call o rest are told at f })
-    by told (inl x) (inr f) c d = inr (record { stands = s; begins_so = holds_a_function o rest are told at f })
-    by told (inl x) (inl y) (inr f) d = inr (record { stands = s; begins_so = beside_a_text o rest are told at f })
-    by told (inl x) (inl y) (inl z) (inr f) = inr (record { stands = s; begins_so = holds_a_pair o rest are told at f })
-    by told (inl x) (inl y) (inl z) (inl w) =
+    by (inr f) b c d = inr (record { stands = s; begins_so = beside_a_call o rest are told at f })
+    by (inl x) (inr f) c d = inr (record { stands = s; begins_so = holds_a_function o rest are told at f })
+    by (inl x) (inl y) (inr f) d = inr (record { stands = s; begins_so = beside_a_text o rest are told at f })
+    by (inl x) (inl y) (inl z) (inr f) = inr (record { stands = s; begins_so = holds_a_pair o rest are told at f })
+    by (inl x) (inl y) (inl z) (inl w) =
         let p : IsOwnBehind e front o = own_behind e front o own x y w z in
         let closed : EndClosed (spots_of_lines pages page (map lined (o ∷ []))) (end_of_lines pages page (map lined (o ∷ [])) rest) =
         own_closed pages page o rest l.number are p l.some l.seen l.shown (l.source (of_behind (lined o).marks (own_items (lined o)) p.own))
         (λ none. unclosed_by e.items page (label t).ranges n.unclosed (own_reaches pages page t s o rest n.utf8 n.unrefused are p at l.size_is none)) in
         inl (alone_told pages page i is t n a s o rest (record { utf8 = n.utf8; closed = closed; are = are; told = told; place = p }) l.tree_so at)
-
-    ended : Decided (AreEnded (sources (lined o).marks)) → Answer pages page i is t a n.utf8 n.unrefused
-    ended (inr f) =
-        inr (record {
-          stands = s;
-          begins_so = unended_marks o rest are l.are_marks at f (λ ends mine beside. f (own_marks_ended pages page o rest are ends mine beside l.some l.are_marks));
-        })
-    ended (inl h) = by (told_so h) (beside_call_decided front o) (functions_decided line) (texts_decided e front o) (calm_decided line)
 
 -- each line of text has something behind its marks
 texts_seen : (n : ℕ) (ls : Lines) → AreOfText n ls → AreSeen ls
@@ -360,9 +351,9 @@ text_case pages page i is t n a s before first others behind are cells apart tex
     unled : marks_len (content (joined (past_marks first ∷ others))) ≡ 0
     unled = first_unled (past_marks first) (joined others) seen.0 (past_unled first)
 
-    told : AreEnded (sources (led_by first)) → AreTold (o ∷ []) behind
-    told e = (
-      record { are_marks = led_marks first; ended = e; some = seen.0; in_cells = cells; apart = apart; own = (own, unled) },
+    told : AreTold (o ∷ []) behind
+    told = (
+      record { are_marks = led_marks first; some = seen.0; in_cells = cells; apart = apart; own = (own, unled) },
       subst (λ (j : ℕ). BeginApart (rows_from j behind)) (tables_same before) stops,
     )
 
@@ -372,7 +363,6 @@ text_case pages page i is t n a s before first others behind are cells apart tex
     on : HasLines (lined o) behind s.block
     on = record {
       some = seen.0;
-      are_marks = led_marks first;
       seen = λ r. block_seen a_paragraph (lined o).text (content (own_items (lined o)))
           (own_block a_paragraph m (lined o).text (past_marks first ∷ others) r.y r.ys r.some r.own_are (own, unled, refl)).0;
       number = m;
@@ -408,9 +398,9 @@ heading_case pages page i is t n a s before own behind are cells kind_is at tree
     head : IsLinedHeading m l
     head = record { is_heading = kind_led m own seen ∙ here; first = head_begins pages page before own behind n.utf8 n.unrefused are m here seen }
 
-    told : AreEnded (sources (led_by own)) → AreTold (o ∷ []) behind
-    told e = (
-      record { are_marks = led_marks own; ended = e; some = seen; in_cells = cells; apart = tt; own = head },
+    told : AreTold (o ∷ []) behind
+    told = (
+      record { are_marks = led_marks own; some = seen; in_cells = cells; apart = tt; own = head },
       tt,
     )
 
@@ -426,7 +416,6 @@ heading_case pages page i is t n a s before own behind are cells kind_is at tree
     on : HasLines (lined o) behind s.block
     on = record {
       some = seen;
-      are_marks = led_marks own;
       seen = λ r. subst (λ (ys : List Item). BlockSeen (content ys)) (sym one) (equals_seen (content l) (begins_content l head.first));
       number = m;
       shown = ((λ e. let wrong : line.Blank ≡ line.Heading = sym e ∙ head.is_heading in absurd (cc)), tt);

@@ -85,22 +85,22 @@ lines_are = refl
 told_here : AreTold told []
 unfolding kind_of_signs level opening inside closing
 told_here = (
-  record { are_marks = refl; ended = tt; some = omega arith; in_cells = tt; apart = tt; own = record { is_heading = refl; first = refl } },
+  record { are_marks = refl; some = omega arith; in_cells = tt; apart = tt; own = record { is_heading = refl; first = refl } },
   (
     tt,
-    record { are_marks = refl; ended = tt; some = omega arith; in_cells = tt; apart = tt; own = ((refl, tt), refl) },
+    record { are_marks = refl; some = omega arith; in_cells = tt; apart = tt; own = ((refl, tt), refl) },
     (
       refl,
-      record { are_marks = refl; ended = tt; some = omega arith; in_cells = tt; apart = refl; own = ((refl, tt), refl) },
+      record { are_marks = refl; some = omega arith; in_cells = tt; apart = refl; own = ((refl, tt), refl) },
       (
         refl,
-        record { are_marks = refl; ended = tt; some = omega arith; in_cells = (refl, tt); apart = refl; own = ((refl, tt), refl) },
+        record { are_marks = refl; some = omega arith; in_cells = (refl, tt); apart = refl; own = ((refl, tt), refl) },
         (
           refl,
-          record { are_marks = refl; ended = tt; some = omega arith; in_cells = (refl, tt); apart = refl; own = ((refl, tt), refl) },
+          record { are_marks = refl; some = omega arith; in_cells = (refl, tt); apart = refl; own = ((refl, tt), refl) },
           (
             refl,
-            record { are_marks = refl; ended = tt; some = omega arith; in_cells = tt; apart = refl; own = ((refl, tt), refl) },
+            record { are_marks = refl; some = omega arith; in_cells = tt; apart = refl; own = ((refl, tt), refl) },
             tt,
           ),
         ),
@@ -176,7 +176,7 @@ ended_told = a_paragraph_of [] [] (page_chars (codes "a\n")) [] ∷ []
 ended_here : AreTold ended_told ((comment ∷ []) ∷ [])
 unfolding kind_of_signs level opening inside closing
 ended_here = (
-  record { are_marks = refl; ended = tt; some = omega arith; in_cells = tt; apart = tt; own = ((refl, tt), refl) },
+  record { are_marks = refl; some = omega arith; in_cells = tt; apart = tt; own = ((refl, tt), refl) },
   refl,
 )
 

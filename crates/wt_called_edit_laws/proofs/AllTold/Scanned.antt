@@ -116,10 +116,10 @@ not_both n l e f = let nay : line.Heading ≡ line.Text = sym e ∙ f in absurd 
 -- ---- told where nothing is before them
 
 text_so : (K : Asked) (front : List Item) (bs : List Bool) (l : List Item) (more : Lines) → Fits K front bs (text_told [] l more) → IsToldAt bs (text_told [] l more)
-text_so K front bs l more f = record { are_marks = f.bare.0; ended = f.bare.1; some = f.bare.2; in_cells = f.cells; apart = tt; own = f.own }
+text_so K front bs l more f = record { are_marks = f.bare.0; some = f.bare.1; in_cells = f.cells; apart = tt; own = f.own }
 
 heading_so : (K : Asked) (front : List Item) (bs : List Bool) (l : List Item) → Fits K front bs (heading_told [] l) → IsToldAt bs (heading_told [] l)
-heading_so K front bs l f = record { are_marks = f.bare.0; ended = f.bare.1; some = f.bare.2; in_cells = f.cells; apart = tt; own = f.own }
+heading_so K front bs l f = record { are_marks = f.bare.0; some = f.bare.1; in_cells = f.cells; apart = tt; own = f.own }
 
 -- with nothing before it
 abbrev pub without_before : Told → Told
@@ -131,10 +131,10 @@ abbrev pub Meets : Asked → List Item → Told → Type 0
 Meets K front t = K (behind_lines front (lined t).before) (without_before t)
 
 fits_so : (K : Asked) (front : List Item) (bs : List Bool) (l : List Item) (more : Lines) → IsToldAt bs (text_told [] l more) → Meets K front (text_told [] l more) → Fits K front bs (text_told [] l more)
-fits_so K front bs l more h s = record { bare = (h.are_marks, h.ended, h.some); cells = h.in_cells; own = h.own; asked = s }
+fits_so K front bs l more h s = record { bare = (h.are_marks, h.some); cells = h.in_cells; own = h.own; asked = s }
 
 heading_fits_so : (K : Asked) (front : List Item) (bs : List Bool) (l : List Item) → IsToldAt bs (heading_told [] l) → Meets K front (heading_told [] l) → Fits K front bs (heading_told [] l)
-heading_fits_so K front bs l h s = record { bare = (h.are_marks, h.ended, h.some); cells = h.in_cells; own = h.own; asked = s }
+heading_fits_so K front bs l h s = record { bare = (h.are_marks, h.some); cells = h.in_cells; own = h.own; asked = s }
 
 -- ---- that none is left out
 
@@ -401,7 +401,7 @@ run_step K front bs l ls false r (inr nay) s =
 other_step : (K : Asked) (n : ℕ) (front : List Item) (bs : List Bool) (prev : Bool) (l : List Item) (ls : Lines) → suc (length ls) ≤ suc n → (kind_at (length bs) l ≡ line.Text → ⊥)
     → Decided (Fits K front bs (heading_told [] l)) → Rest K n → Scan K front bs prev (l ∷ ls)
 other_step K n front bs prev l ls h nay (inl f) go =
-    let own : kind_at (length bs) l ≡ line.Heading = sym (kind_led (length bs) l f.bare.2) ∙ f.own.is_heading in
+    let own : kind_at (length bs) l ≡ line.Heading = sym (kind_led (length bs) l f.bare.1) ∙ f.own.is_heading in
     emit_heading K front bs prev l ls own f (go (front ++ l) bs false ls (rest_size n ls [] ls refl h))
 other_step K n front bs prev l ls h nay (inr f) go =
     let rows : List Row = written_rows (length bs) (l ∷ []) in

@@ -2,7 +2,7 @@
 use Rattle.std.proofs.Common.{arith, ◌≡◌, ◌≤◌, ◌⊎◌, inl, inr, ℕ, zero, suc, ◌+◌, Bool, true, false, List, [], ◌∷◌, ◌++◌, length, map, refl, sym, ap, ◌∙◌, subst, append-nil, append_assoc, codes}
 use Rattle.std.specs.List.{list_all}
 use Rattle.wt_span.specs.Bytes.{begins}
-use Rattle.wt_span.specs.Items.{Item, is_mark, sources}
+use Rattle.wt_span.specs.Items.{Item, is_mark}
 use Rattle.wt_lines.specs.declared.kind.LineKind.{LineKind}
 use Rattle.wt_lines.specs.declared.kind.LineKind.TheVariants as line
 use Rattle.wt_lines.specs.Lines.{content}
@@ -126,12 +126,12 @@ headed n l = by (heading_decided (kind_at n l)) (bool_decided (begins (codes "="
 
 -- one with nothing before it
 abbrev pub Bare : Told → Type 0
-Bare t = (list_all is_mark (lined t).marks ≡ true) × AreEnded (sources (lined t).marks) × (1 ≤ length (lined t).first)
+Bare t = (list_all is_mark (lined t).marks ≡ true) × (1 ≤ length (lined t).first)
 
 bare_decided : (t : Told) → Decided (Bare t)
 bare_decided t =
-    three_decided (list_all is_mark (lined t).marks ≡ true) (AreEnded (sources (lined t).marks)) (1 ≤ length (lined t).first)
-    (bool_decided (list_all is_mark (lined t).marks) true) (ended_decided (sources (lined t).marks)) (some_decided (lined t).first)
+    both_decided (list_all is_mark (lined t).marks ≡ true) (1 ≤ length (lined t).first) (bool_decided (list_all is_mark (lined t).marks) true)
+    (some_decided (lined t).first)
 
 -- something that is asked of blocks, each with nothing before it, by the items before them
 abbrev pub Asked : Type 1
@@ -231,7 +231,6 @@ tables_put bs xs t = ap (open_after bs) (rows_put bs xs t) ∙ open_both bs (wri
 put_at : (bs : List Bool) (xs : Lines) (t : Told) → IsToldAt (after bs xs) t → EndsFor (lined t).block (rows_before bs (put_told xs t)) → IsToldAt bs (put_told xs t)
 put_at bs xs (a_paragraph_of b m f r) h apart = record {
   are_marks = h.are_marks;
-  ended = h.ended;
   some = h.some;
   in_cells = subst AllTrue (sym (tables_put bs xs (a_paragraph_of b m f r))) h.in_cells;
   apart = apart;
@@ -239,7 +238,6 @@ put_at bs xs (a_paragraph_of b m f r) h apart = record {
 }
 put_at bs xs (a_heading_on b m l) h apart = record {
   are_marks = h.are_marks;
-  ended = h.ended;
   some = h.some;
   in_cells = subst AllTrue (sym (tables_put bs xs (a_heading_on b m l))) h.in_cells;
   apart = apart;
@@ -252,7 +250,6 @@ moved_at bs xs (a_paragraph_of b m f r) h =
     let t : Told = a_paragraph_of b m f r in
     record {
       are_marks = h.are_marks;
-      ended = h.ended;
       some = h.some;
       in_cells = subst AllTrue (tables_put bs xs t) h.in_cells;
       apart = end_suffix (written_rows (length bs) xs) (rows_before (after bs xs) t) (subst EndApart (rows_put bs xs t) h.apart);
@@ -262,7 +259,6 @@ moved_at bs xs (a_heading_on b m l) h =
     let t : Told = a_heading_on b m l in
     record {
       are_marks = h.are_marks;
-      ended = h.ended;
       some = h.some;
       in_cells = subst AllTrue (tables_put bs xs t) h.in_cells;
       apart = tt;

@@ -112,7 +112,6 @@ unfolding kind_of_signs level opening inside closing
 told_here = (
   record {
     are_marks = refl;
-    ended = tt;
     some = omega arith;
     in_cells = tt;
     apart = tt;
@@ -120,7 +119,7 @@ told_here = (
   },
   (
     tt,
-    record { are_marks = refl; ended = tt; some = omega arith; in_cells = (refl, tt); apart = refl; own = ((refl, tt), refl) },
+    record { are_marks = refl; some = omega arith; in_cells = (refl, tt); apart = refl; own = ((refl, tt), refl) },
     refl,
   ),
 )

@@ -91,7 +91,6 @@ unfolding kind_of_signs level opening inside closing
 told_here = (
   record {
     are_marks = refl;
-    ended = tt;
     some = omega arith;
     in_cells = tt;
     apart = tt;
@@ -99,16 +98,16 @@ told_here = (
   },
   (
     tt,
-    record { are_marks = refl; ended = tt; some = omega arith; in_cells = tt; apart = tt; own = record { is_heading = refl; first = refl } },
+    record { are_marks = refl; some = omega arith; in_cells = tt; apart = tt; own = record { is_heading = refl; first = refl } },
     (
       tt,
-      record { are_marks = refl; ended = tt; some = omega arith; in_cells = tt; apart = tt; own = ((refl, tt), refl) },
+      record { are_marks = refl; some = omega arith; in_cells = tt; apart = tt; own = ((refl, tt), refl) },
       (
         refl,
-        record { are_marks = refl; ended = refl; some = omega arith; in_cells = tt; apart = refl; own = ((refl, tt), refl) },
+        record { are_marks = refl; some = omega arith; in_cells = tt; apart = refl; own = ((refl, tt), refl) },
         (
           refl,
-          record { are_marks = refl; ended = tt; some = omega arith; in_cells = (refl, tt); apart = refl; own = ((refl, tt), refl) },
+          record { are_marks = refl; some = omega arith; in_cells = (refl, tt); apart = refl; own = ((refl, tt), refl) },
           refl,
         ),
       ),
