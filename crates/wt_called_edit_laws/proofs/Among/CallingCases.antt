@@ -78,7 +78,7 @@ lines_are = refl
 
 stands : IsCallingAt [] a_line
 unfolding kind_of_signs
-stands = record { are_marks = refl; ended = tt; some = omega arith; in_cells = tt; apart = tt; own = (refl, tt) }
+stands = record { are_marks = refl; some = omega arith; in_cells = tt; apart = tt; own = (refl, tt) }
 
 are_here : AreCallingHere (expanded_page a_word source).outer (a_line ∷ [])
 are_here =
