@@ -1,21 +1,19 @@
 -- Each paragraph and heading of a page's tree, with calls in it or without, by the lines of the expanded page: by these it may be edited, at its path.
-use Rattle.std.specs.Prelude.{◌≡◌, ◌⊎◌, ℕ, ◌+◌, List, [], ◌∷◌, ◌++◌, take}
-use Rattle.wt_span.specs.Items.{Item, sources}
+use Rattle.std.specs.Prelude.{◌≡◌, ℕ, ◌+◌, List, [], ◌∷◌, ◌++◌}
+use Rattle.wt_span.specs.Items.{Item}
 use Rattle.wt_tree.specs.Tree.{Tree, label}
 use Rattle.wt_expand.specs.PageCalls.{expanded_page}
 use Rattle.wt_expand.specs.Work.{Pages}
 use Rattle.wt_lines.specs.Lines.{full_lines}
 use Rattle.wt_tables.specs.Parts.{joined}
-use Rattle.wt_page.specs.Rows.{marks_len}
 use Rattle.wt_typed_blocks.specs.Sent.{kind_of}
-use Rattle.wt_text_edit_laws.specs.TextBetween.{AreEnded}
 use Rattle.wt_text_edit_laws.specs.TextBlocks.{TextBlock, block_of}
 use Rattle.wt_called_edit_laws.specs.AllTold.{IsExceptedAt, IsOneOf}
 use Rattle.wt_called_edit_laws.specs.CallingContents.{TakesContentsIn}
 use Rattle.wt_called_edit_laws.specs.LinedAmong.{spots_of_lines, end_of_lines}
 use Rattle.wt_called_edit_laws.specs.LinedCalling.{AreCallingLined, IsLinedCalling}
 use Rattle.wt_called_edit_laws.specs.PlacedLines.{LinedBlock}
-use Rattle.wt_called_edit_laws.specs.RowBlocks.{StandsIn, opened_len, begins_at}
+use Rattle.wt_called_edit_laws.specs.RowBlocks.{StandsIn, opened_len}
 
 -- The contents of this block, told by the page's lines, may be edited at its path, which is this one.
 pub record TakesThere (pages : Pages) (page : List ℕ) (p : List ℕ) (b : LinedBlock) (behind : List (List Item)) : Type 0 where
@@ -41,17 +39,7 @@ pub record IsOnLines (pages : Pages) (page : List ℕ) (p : List ℕ) (t : Tree)
   pub takes : (k : TextBlock) (q : List ℕ) → IsLinedCalling pages page (as_block before marks first others k q ∷ []) behind
       → TakesThere pages page p (as_block before marks first others k q) behind
 
--- Behind so many items a line begins, behind marks that don't end with a `>` or a line break, as those of a call may.
-pub record HasUnendedMarks (ls : List (List Item)) (at : ℕ) : Type 0 where
-  pub before : List (List Item)
-  pub line : List Item
-  pub behind : List (List Item)
-  pub are : ls ≡ before ++ line ∷ behind
-  pub begins : at ≡ begins_at before line
-  pub unended : AreEnded (sources (take (marks_len line) line)) → ⊥
-
 -- or it is one that lines don't tell
 pub record IsExceptedByLines (pages : Pages) (page : List ℕ) (t : Tree) : Type 0 where
   pub stands : StandsIn pages page t
   pub by_lines : IsExceptedAt (full_lines (expanded_page pages page).items) (opened_len stands.before)
-      ⊎ HasUnendedMarks (full_lines (expanded_page pages page).items) (opened_len stands.before)

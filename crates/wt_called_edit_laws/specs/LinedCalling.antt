@@ -2,7 +2,7 @@
 use Rattle.std.specs.Prelude.{◌≡◌, ◌≤◌, ℕ, ◌+◌, true, Bool, None, List, [], ◌∷◌, ◌++◌, length}
 use Rattle.std.specs.List.{list_all, AllByRecursion}
 use Rattle.std.specs.Str.{IsUtf8}
-use Rattle.wt_span.specs.Items.{Item, is_mark, sources}
+use Rattle.wt_span.specs.Items.{Item, is_mark}
 use Rattle.wt_span.specs.Origins.{OuterCall, Span}
 use Rattle.wt_annotated.specs.Seams.{last_of, text_from}
 use Rattle.wt_lines.specs.Lines.{content, is_break_item, full_lines}
@@ -16,7 +16,6 @@ use Rattle.wt_part_laws.specs.Slots.{AllTrue}
 use Rattle.wt_text_edit_laws.specs.BlockSpots.{BlockSpot}
 use Rattle.wt_text_edit_laws.specs.ParagraphBetween.{written_rows}
 use Rattle.wt_text_edit_laws.specs.ParagraphParts.{break}
-use Rattle.wt_text_edit_laws.specs.TextBetween.{AreEnded}
 use Rattle.wt_text_edit_laws.specs.TextBlocks.{TextBlock, a_paragraph, a_heading, source_of}
 use Rattle.wt_called_edit_laws.specs.AnyBlocks.{open_after, EndsFor, NextApart}
 use Rattle.wt_called_edit_laws.specs.CallingBlocks.{AreContentsInFolder}
@@ -38,7 +37,6 @@ LinesOf (a_heading s) n ls = Unit {0}
 -- as `IsLinedAt`
 pub record IsCallingAt (open_tables : List Bool) (b : LinedBlock) : Type 0 where
   pub are_marks : list_all is_mark b.marks ≡ true
-  pub ended : AreEnded (sources b.marks)
   pub some : 1 ≤ length b.first
   pub in_cells : AllTrue (open_after open_tables (written_rows (length open_tables) b.before))
   pub apart : EndsFor b.block (written_rows (length open_tables) b.before)

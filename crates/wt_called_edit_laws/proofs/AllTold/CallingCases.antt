@@ -1,6 +1,5 @@
 -- Worked case: the paragraph of the page `{{t}} {{t}}`, where `Template:T` is a word, is told by the line that it is on, and it may be edited at its path.
-use Rattle.std.proofs.Common.{arith, ◌<◌, ◌≡◌, inl, ℕ, [], ◌∷◌, length, refl}
-use Rattle.wt_tree.specs.Source.{flat}
+use Rattle.std.proofs.Common.{arith, ◌≡◌, inl, [], ◌∷◌, refl}
 use Rattle.wt_checks.specs.Kept.{children as nodes_in}
 use Rattle.wt_beside_laws.proofs.Groups.Cases.{a_word}
 use Rattle.wt_called_edit_laws.specs.AllTold.{starts_in, IsOneOf}

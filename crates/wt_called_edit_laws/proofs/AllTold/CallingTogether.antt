@@ -1,6 +1,6 @@
 -- Any number of paragraphs and headings of a page's tree, with calls in them or without, are on lines of the expanded page, one behind the other.
 use Rattle.std.proofs.Common.{arith, ◌≡◌, ◌<◌, ◌≤◌, ◌⊎◌, inl, inr, ℕ, ◌+◌, Bool, false, None, List, [], ◌∷◌, ◌++◌, length, map, refl, sym, ap, ◌∙◌, subst}
-use Rattle.wt_span.specs.Items.{Item, sources}
+use Rattle.wt_span.specs.Items.{Item}
 use Rattle.wt_span.specs.Origins.{OuterCall}
 use Rattle.wt_tree.specs.Source.{flat}
 use Rattle.wt_tree.specs.Tree.{Tree, Trees, label}
@@ -15,7 +15,6 @@ use Rattle.wt_page.specs.Lines.{kind_at}
 use Rattle.wt_page.specs.Rows.{Row, marks_len, rows_from}
 use Rattle.wt_part_laws.specs.Slots.{AllTrue}
 use Rattle.wt_text_edit_laws.specs.ParagraphBetween.{written_rows, tables_behind, EndApart, BeginApart}
-use Rattle.wt_text_edit_laws.specs.TextBetween.{AreEnded}
 use Rattle.wt_text_edit_laws.specs.TextBlocks.{TextBlock, a_paragraph, a_heading, FirstApart}
 use Rattle.wt_called_edit_laws.specs.AllTold.{starts_in, text_on_a_sign, IsOneOf}
 use Rattle.wt_called_edit_laws.specs.AnyBlocks.{open_after, EndsFor, NextApart}
@@ -41,7 +40,7 @@ use Rattle.wt_called_edit_laws.proofs.AllTold.OnLines.{IsThere, line_front, line
 use Rattle.wt_called_edit_laws.proofs.AllTold.OneNode.{page_ones, page_joined}
 use Rattle.wt_called_edit_laws.proofs.AllTold.PlaceStarts.{start_from}
 use Rattle.wt_called_edit_laws.proofs.AllTold.RowBlocks.{body_none, below}
-use Rattle.wt_called_edit_laws.proofs.AllTold.Scans.{Decided, Asked, Answered, ended_decided, text_told, heading_told, behind_lines, behind_joined}
+use Rattle.wt_called_edit_laws.proofs.AllTold.Scans.{Decided, Asked, Answered, text_told, heading_told, behind_lines, behind_joined}
 use Rattle.wt_called_edit_laws.proofs.AllTold.Scanned.{Scan, scan}
 use Rattle.wt_called_edit_laws.proofs.AllTold.Together.{are_told}
 
@@ -77,11 +76,11 @@ on_told t k q = as_block (lined t).before (lined t).marks (lined t).first (lined
 
 calling_at : (open_tables : List Bool) (t : Told) (k : TextBlock) (q : List ℕ) → IsOfKind (lined t).block k → IsToldAt open_tables t → IsCallingAt open_tables (on_told t k q)
 calling_at open_tables (a_paragraph_of b m f r) a_paragraph q e h =
-    record { are_marks = h.are_marks; ended = h.ended; some = h.some; in_cells = h.in_cells; apart = h.apart; own = h.own.0 }
+    record { are_marks = h.are_marks; some = h.some; in_cells = h.in_cells; apart = h.apart; own = h.own.0 }
 calling_at open_tables (a_paragraph_of b m f r) (a_heading s) q e h = absurd e
 calling_at open_tables (a_heading_on b m l) a_paragraph q e h = absurd e
 calling_at open_tables (a_heading_on b m l) (a_heading s) q e h =
-    record { are_marks = h.are_marks; ended = h.ended; some = h.some; in_cells = h.in_cells; apart = tt; own = tt }
+    record { are_marks = h.are_marks; some = h.some; in_cells = h.in_cells; apart = tt; own = tt }
 
 lined_after : (i k : TextBlock) (open_tables : List Bool) (ts : List Told) (bs : List LinedBlock) (behind : Lines) → IsOfKind i k → AreOnTold ts bs
     → AreToldAfter i open_tables ts behind → AreCallingAfter k open_tables bs behind
@@ -185,7 +184,7 @@ text_among : (pages : Pages) (page : List ℕ) (ns : List ℕ) (i : ℕ) (is : L
     → BeginApart (rows_from (tables_behind 0 before) behind) → size s.before ≡ size (joined before) + size (led_by first)
     → IsAmongNumbers (starts_in 0 i is (children (called_tree pages page))) ns → Answer pages page ns i is t sc
 text_among pages page ns i is t sc n s before first others behind are cells apart texts stops at h =
-    by (ended_decided (sources (led_by first)))
+    by
   where
     m : ℕ
     m = length (open_after [] (written_rows 0 before))
@@ -193,15 +192,14 @@ text_among pages page ns i is t sc n s before first others behind are cells apar
     here : AreOfText m (first ∷ others)
     here = subst (λ (j : ℕ). AreOfText j (first ∷ others)) (tables_same before) texts
 
-    by : Decided (AreEnded (sources (led_by first))) → Answer pages page ns i is t sc
-    by (inr f) = inr (record { stands = s; by_lines = inr (record { before = before; line = first; behind = others ++ behind; are = are; begins = at; unended = f }) })
-    by (inl e) =
+    by : Answer pages page ns i is t sc
+    by =
         let o : Told = text_told before first others in
         let b : LinedBlock = lined o in
         let seen : 1 ≤ length (past_marks first) = some_past m first (λ w. let wrong : line.Blank ≡ line.Text = sym w ∙ here.0 in absurd (cc)) in
         let own : AreLinesAt m (past_marks first ∷ others) = (kind_led m first seen ∙ here.0, text_lines_at m others here.1) in
         let unled : marks_len (content (joined (past_marks first ∷ others))) ≡ 0 = first_unled (past_marks first) (joined others) seen (past_unled first) in
-        let told : IsToldAt [] o = record { are_marks = led_marks first; ended = e; some = seen; in_cells = cells; apart = apart; own = (own, unled) } in
+        let told : IsToldAt [] o = record { are_marks = led_marks first; some = seen; in_cells = cells; apart = apart; own = (own, unled) } in
         let all : full_lines (expanded_page pages page).items ≡ all_lines (b ∷ []) behind =
         are ∙ ap (λ (l : List Item). before ++ ((l ∷ others) ++ behind)) (sym (led_whole first)) in
         inl (found_so pages page ns i is t sc n s b behind all at
@@ -213,14 +211,13 @@ heading_among : (pages : Pages) (page : List ℕ) (ns : List ℕ) (i : ℕ) (is 
     → kind_at (tables_behind 0 before) own ≡ line.Heading → size s.before ≡ size (joined before) + size (led_by own)
     → IsAmongNumbers (starts_in 0 i is (children (called_tree pages page))) ns → Answer pages page ns i is t sc
 heading_among pages page ns i is t sc n s before own behind are cells kind_is at h =
-    by (ended_decided (sources (led_by own)))
+    by
   where
     m : ℕ
     m = length (open_after [] (written_rows 0 before))
 
-    by : Decided (AreEnded (sources (led_by own))) → Answer pages page ns i is t sc
-    by (inr f) = inr (record { stands = s; by_lines = inr (record { before = before; line = own; behind = behind; are = are; begins = at; unended = f }) })
-    by (inl e) =
+    by : Answer pages page ns i is t sc
+    by =
         let o : Told = heading_told before own in
         let b : LinedBlock = lined o in
         let here : kind_at m own ≡ line.Heading = subst (λ (j : ℕ). kind_at j own ≡ line.Heading) (tables_same before) kind_is in
@@ -229,7 +226,7 @@ heading_among pages page ns i is t sc n s before own behind are cells kind_is at
           is_heading = kind_led m own seen ∙ here;
           first = head_begins pages page before own behind n.utf8 n.unrefused are m here seen;
         } in
-        let told : IsToldAt [] o = record { are_marks = led_marks own; ended = e; some = seen; in_cells = cells; apart = tt; own = head } in
+        let told : IsToldAt [] o = record { are_marks = led_marks own; some = seen; in_cells = cells; apart = tt; own = head } in
         let all : full_lines (expanded_page pages page).items ≡ all_lines (b ∷ []) behind = are ∙ ap (λ (l : List Item). before ++ l ∷ behind) (sym (led_whole own)) in
         inl (found_so pages page ns i is t sc n s b behind all at (sc.heads 0 before own behind are told (meets_so pages page ns i is t n s b behind all at h)))
 
@@ -241,7 +238,7 @@ by_lines pages page ns i is t sc n s (of_lines before first others behind are ce
 by_lines pages page ns i is t sc n s (of_line before own behind are cells kind_is at tree_is) h =
     heading_among pages page ns i is t sc n s before own behind are cells kind_is at h
 by_lines pages page ns i is t sc n s (behind_a_sign before first others behind are unended at tree_is) h =
-    inr (record { stands = s; by_lines = inl (text_on_a_sign before first others behind are unended at) })
+    inr (record { stands = s; by_lines = text_on_a_sign before first others behind are unended at })
 
 -- ---- all of them
 

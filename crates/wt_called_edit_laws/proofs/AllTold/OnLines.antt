@@ -1,7 +1,7 @@
 -- Each paragraph and heading of a page's tree, outside of groups, with calls in it or without, is on lines of the expanded page.
 use Rattle.std.proofs.Common.{◌≡◌, ◌≤◌, ◌⊎◌, inl, inr, ℕ, Bool, true, false, None, ◌+◌, List, [], ◌∷◌, ◌++◌, length, map, refl, sym, ap, ◌∙◌, subst}
 use Rattle.std.specs.Str.{IsUtf8}
-use Rattle.wt_span.specs.Items.{Item, sources}
+use Rattle.wt_span.specs.Items.{Item}
 use Rattle.wt_span.specs.Origins.{OuterCall}
 use Rattle.wt_tree.specs.declared.kind.Kind.{Kind}
 use Rattle.wt_tree.specs.declared.kind.Kind.TheVariants as kind
@@ -23,7 +23,6 @@ use Rattle.wt_page.specs.Texts.{para}
 use Rattle.wt_part_laws.specs.Slots.{AllTrue}
 use Rattle.wt_typed_blocks.specs.Sent.{kind_of}
 use Rattle.wt_text_edit_laws.specs.ParagraphBetween.{written_rows, tables_behind, EndApart, BeginApart}
-use Rattle.wt_text_edit_laws.specs.TextBetween.{AreEnded}
 use Rattle.wt_text_edit_laws.specs.TextBlocks.{TextBlock, a_paragraph, a_heading, block_of}
 use Rattle.wt_called_edit_laws.specs.AllTold.{starts_in, text_on_a_sign}
 use Rattle.wt_called_edit_laws.specs.AnyBlocks.{open_after}
@@ -42,7 +41,6 @@ use Rattle.wt_called_edit_laws.proofs.AllTold.LineKinds.{Lines, led_by, past_mar
 use Rattle.wt_called_edit_laws.proofs.AllTold.NodePlaces.{first_byte, node_begins, between_begins}
 use Rattle.wt_called_edit_laws.proofs.AllTold.OneNode.{page_joined, text_before}
 use Rattle.wt_called_edit_laws.proofs.AllTold.RowBlocks.{body_none, below}
-use Rattle.wt_called_edit_laws.proofs.AllTold.Scans.{Decided, ended_decided}
 use Rattle.wt_called_edit_laws.proofs.AllTold.Starts.{HasByte}
 
 -- ---- kinds
@@ -112,7 +110,7 @@ text_on : (pages : Pages) (page : List ℕ) (i : ℕ) (is : List ℕ) (t : Tree)
     → EndApart (written_rows 0 before) → AreOfText (tables_behind 0 before) (first ∷ others) → BeginApart (rows_from (tables_behind 0 before) behind)
     → size s.before ≡ size (joined before) + size (led_by first) → (label t).kind ≡ kind.Para → Answer pages page i is t
 text_on pages page i is t n s before first others behind are cells apart texts stops at kind_is =
-    by (ended_decided (sources (led_by first)))
+    by
   where
     m : ℕ
     m = length (open_after [] (written_rows 0 before))
@@ -120,9 +118,8 @@ text_on pages page i is t n s before first others behind are cells apart texts s
     here : AreOfText m (first ∷ others)
     here = subst (λ (j : ℕ). AreOfText j (first ∷ others)) (tables_same before) texts
 
-    by : Decided (AreEnded (sources (led_by first))) → Answer pages page i is t
-    by (inr f) = inr (record { stands = s; by_lines = inr (record { before = before; line = first; behind = others ++ behind; are = are; begins = at; unended = f }) })
-    by (inl e) = inl (record {
+    by : Answer pages page i is t
+    by = inl (record {
       before = before;
       marks = led_by first;
       first = past_marks first;
@@ -141,7 +138,7 @@ text_on pages page i is t n s before first others behind are cells apart texts s
             let seen : 1 ≤ length (past_marks first) =
             some_past m first (λ w. let wrong : line.Blank ≡ line.Text = sym w ∙ here.0 in absurd (cc)) in
             let own : AreLinesAt m (past_marks first ∷ others) = (kind_led m first seen ∙ here.0, text_lines_at m others here.1) in (
-              record { are_marks = led_marks first; ended = e; some = seen; in_cells = cells; apart = apart; own = own },
+              record { are_marks = led_marks first; some = seen; in_cells = cells; apart = apart; own = own },
               subst (λ (j : ℕ). BeginApart (rows_from j behind)) (tables_same before) stops,
             )
         lined_so (a_heading x) q k = let wrong : kind.Heading x.level ≡ kind.Para = k ∙ kind_is in absurd (cc)
@@ -151,11 +148,10 @@ heading_on : (pages : Pages) (page : List ℕ) (i : ℕ) (is : List ℕ) (t : Tr
     → kind_at (tables_behind 0 before) own ≡ line.Heading → size s.before ≡ size (joined before) + size (led_by own) → is_para (label t).kind ≡ false
     → Answer pages page i is t
 heading_on pages page i is t n s before own behind are cells line_kind at kind_is =
-    by (ended_decided (sources (led_by own)))
+    by
   where
-    by : Decided (AreEnded (sources (led_by own))) → Answer pages page i is t
-    by (inr f) = inr (record { stands = s; by_lines = inr (record { before = before; line = own; behind = behind; are = are; begins = at; unended = f }) })
-    by (inl e) = inl (record {
+    by : Answer pages page i is t
+    by = inl (record {
       before = before;
       marks = led_by own;
       first = past_marks own;
@@ -174,7 +170,7 @@ heading_on pages page i is t n s before own behind are cells line_kind at kind_i
         lined_so (a_heading x) q k =
             let seen : 1 ≤ length (past_marks own) =
             some_past (tables_behind 0 before) own (λ w. let wrong : line.Blank ≡ line.Heading = sym w ∙ line_kind in absurd (cc)) in
-            (record { are_marks = led_marks own; ended = e; some = seen; in_cells = cells; apart = tt; own = tt }, tt)
+            (record { are_marks = led_marks own; some = seen; in_cells = cells; apart = tt; own = tt }, tt)
 
 by_lines : (pages : Pages) (page : List ℕ) (i : ℕ) (is : List ℕ) (t : Tree) → IsThere pages page i is t → (s : StandsIn pages page t)
     → IsOfLines (full_lines (expanded_page pages page).items) (size s.before) s.block → Answer pages page i is t
@@ -191,7 +187,7 @@ by_lines pages page i is t n s (of_line before own behind are cells line_kind at
     ∙ heading_kind calls s.number s.before (content (past_marks own)) s.behind in
     heading_on pages page i is t n s before own behind are cells line_kind at kind_is
 by_lines pages page i is t n s (behind_a_sign before first others behind are unended at tree_is) =
-    inr (record { stands = s; by_lines = inl (text_on_a_sign before first others behind are unended at) })
+    inr (record { stands = s; by_lines = text_on_a_sign before first others behind are unended at })
 
 pub on_lines : (pages : Pages) (page p : List ℕ) (t : Tree) → IsUtf8 page → refusal_of_page pages page ≡ None → IsReachedAt p (called_tree pages page) t
     → IsTextBlock (label t).kind → 1 ≤ length (flat t) → IsOnLines pages page p t ⊎ IsExceptedByLines pages page t

@@ -88,7 +88,7 @@ lines_are = refl
 
 stands : IsCallingAt [] a_line
 unfolding kind_of_signs
-stands = record { are_marks = refl; ended = tt; some = omega arith; in_cells = tt; apart = tt; own = (refl, tt) }
+stands = record { are_marks = refl; some = omega arith; in_cells = tt; apart = tt; own = (refl, tt) }
 
 are_here : AreCallingHere a_word (expanded_page a_word source).outer 0 [] (a_line ∷ [])
 are_here =

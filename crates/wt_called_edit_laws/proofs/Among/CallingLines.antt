@@ -1,9 +1,10 @@
 -- A page with paragraphs and headings that may hold calls, by the lines of the expanded page: it is cut at these, and each is at such a place.
-use Rattle.std.proofs.Common.{arith, ◌≡◌, ◌⊎◌, inl, inr, ℕ, ◌+◌, ◌≤◌, Bool, false, Option, None, List, [], ◌∷◌, ◌++◌, length, refl, sym, ap, ap₂, ◌∙◌, subst, append_assoc, append-nil, length-append}
+use Rattle.std.proofs.Common.{arith, ◌≡◌, ◌⊎◌, inl, inr, ℕ, ◌+◌, ◌≤◌, Bool, true, false, Option, None, List, [], ◌∷◌, ◌++◌, length, refl, sym, ap, ap₂, ◌∙◌, subst, append_assoc, append-nil, length-append}
 use Rattle.std.specs.Str.{IsUtf8}
 use Rattle.std.proofs.lemmas.Grind.{flat_map-append}
 use Rattle.wt_span.specs.declared.form.Mode.TheVariants.{Page}
-use Rattle.wt_span.specs.Items.{Item, source, sources, call_of}
+use Rattle.std.specs.List.{list_all}
+use Rattle.wt_span.specs.Items.{Item, is_mark, source, sources, call_of}
 use Rattle.wt_span.specs.Origins.{OuterCall, Span}
 use Rattle.wt_span.specs.Runs.{AreRuns}
 use Rattle.wt_span.proofs.RunLaws.{runs_are}
@@ -55,6 +56,7 @@ use Rattle.wt_called_edit_laws.proofs.Among.PartsApart.{IsClear, members_of, Are
 use Rattle.wt_called_edit_laws.proofs.Cells.PlacedBlocks.{own_lines}
 use Rattle.wt_called_edit_laws.proofs.Cells.PlacedCalling.{block_begins, PartsRead, parts_read, parts_called, calling_placed}
 use Rattle.wt_called_edit_laws.proofs.Cells.PlacedLines.{own_items, Round, round, rows_by, leads_by, both_end, some_lines, lines_end}
+use Rattle.wt_called_edit_laws.proofs.Told.ToldPages.{marks_there}
 use Rattle.wt_called_edit_laws.proofs.Parts.Retyped.{is_by_parts}
 
 -- ---- items before those of the page's own
@@ -234,6 +236,28 @@ text_stays : (k : TextBlock) (n i : ℕ) (pages : Pages) (q : List ℕ) (own : L
 text_stays a_paragraph n i pages q own e h = subst (AreTextLines n) e h
 text_stays (a_heading s) n i pages q own e h = tt
 
+-- ---- the marks before it
+
+some_items : (xs : List Item) → 1 ≤ length (sources xs) → 1 ≤ length xs
+some_items [] h = absurd (omega (arith, h))
+some_items (x ∷ xs) h = omega arith
+
+begins_size : (calls : List OuterCall) (xs ys : List Item) → BeginsThere calls xs → 1 ≤ length (text_from calls None (xs ++ ys))
+begins_size calls [] ys h = absurd h
+begins_size calls (x ∷ xs) ys h = let s = text_size calls None (x ∷ []) (xs ++ ys) in omega (arith, h, s)
+
+-- they are marks of the page, and something is behind them
+marks_before : (pages : Pages) (page : List ℕ) (p : ℕ) (xs ms ys qs : List Item) → IsRest pages page p (xs ++ (ms ++ ys)) qs → last_of None xs ≡ None → AreOfPage ms
+    → AreBeside (text_to pages page p xs) (text_to pages page p xs + length (sources ms)) (expanded_page pages page).text_calls
+    → 1 ≤ length (text_from (calls_of pages page) None ys) → list_all is_mark ms ≡ true → AreEnded (sources ms)
+marks_before pages page p xs ms ys qs r ends marks beside seen all =
+    let spans : List Span = (expanded_page pages page).text_calls in
+    let line : ℕ = text_to pages page p xs in
+    let first = past_front pages page p xs (ms ++ ys) qs r ends (beside_first line (line + length (sources ms)) spans (omega arith) beside) in
+    let second = past_own pages page line ms ys first.behind first.next marks beside in
+    let some : 1 ≤ length second.behind = some_items second.behind (omega (arith, seen, ap length second.next.same)) in
+    marks_there page first.next.front ms second.behind (first.next.whole ∙ ap (λ zs. first.next.front ++ zs) second.is) all some
+
 -- a block with its lines among those of the page
 record IsHere (pages : Pages) (page : List ℕ) (open_tables : List Bool) (es : List Item) (b : LinedBlock) (tail : List (List Item)) (p : ℕ) (qs : List Item) : Type 0 where
   around : Round b tail
@@ -264,13 +288,22 @@ is_here pages page open_tables es b tail p i qs xs runs left rest h own read bes
     let items : es ++ joined (b.before ++ (((b.marks ++ b.first) ∷ b.more) ++ tail)) ≡ front ++ (b.marks ++ others) =
     ap (λ zs. es ++ zs) (r.items ∙ append_assoc before b.marks others) ∙ sym (append_assoc es before (b.marks ++ others)) in
     let ends : EndsBreak front = own_end None front (left_whole es before left r.front_whole) none in
+    let there : IsRest pages page p (front ++ (b.marks ++ others)) qs = subst (λ zs. IsRest pages page p zs qs) items rest in
+    let sum = ap length (marked_text calls front b.marks none own.marks) in
+    let two = length-append (text_from calls None front) (sources b.marks) in
+    let line : ℕ = text_to pages page p front in
+    let near : AreBeside line (line + length (sources b.marks)) (expanded_page pages page).text_calls =
+    beside_front line (line + length (sources b.marks)) (block_to pages page p front b.marks b.block b.text) (expanded_page pages page).text_calls
+    (omega (arith, sum, two)) beside in
+    let marks_end : AreEnded (sources b.marks) =
+    marks_before pages page p front b.marks others qs there none own.marks near (begins_size calls (content text) (ending text ++ joined tail) own.begins) h.are_marks in
     let here = cut_here pages page p front b.marks (content text) b.block b.text (ending text ++ joined tail) qs
-    (subst (λ zs. IsRest pages page p zs qs) items rest) none own.marks (rest_own (ending text) tail r.own_ending r.ends) read own.source beside in
+    there none own.marks (rest_own (ending text) tail r.own_ending r.ends) read own.source beside in
     record {
       around = r;
       items = items ∙ sym (append_assoc front b.marks others);
       ends = own_behind front b.marks ends own.marks here.marks;
-      ended = subst AreEnded (sym here.marked) (both_end (text_from calls None front) (sources b.marks) (ended_text calls front ends) h.ended);
+      ended = subst AreEnded (sym here.marked) (both_end (text_from calls None front) (sources b.marks) (ended_text calls front ends) marks_end);
       here = here;
       stays = lines_stay b.block n ts r.y r.ys r.some r.own_are h.own;
       leads = leads_by b.block open_tables b.before b.marks h.are_marks r.front_are r.front_whole h.in_cells h.apart;
