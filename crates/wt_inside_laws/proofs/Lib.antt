@@ -33,6 +33,7 @@ pub mod ReadKinds
 pub mod ReadRecuts
 pub mod ReadNodes
 pub mod ReadSent
+pub mod Remarked
 pub mod SlotTexts
 pub mod OwnPieces
 pub mod SlotsLed
@@ -55,7 +56,7 @@ pub mod HtmlEdits
 pub mod OrdinaryEdits
 pub mod NothingMoved
 pub mod LocalTextEdits
-pub mod OneBlock
+pub mod EditsWithCalls
 pub mod TypedApart
 pub mod InsidesCases
 pub mod PageCases
