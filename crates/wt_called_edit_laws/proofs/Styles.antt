@@ -18,5 +18,3 @@ pub mod InsideCases
 mod InsidePageCases
 pub mod HeadingCases
 mod HeadingPageCases
-pub mod GivenCases
-mod GivenPageCases
