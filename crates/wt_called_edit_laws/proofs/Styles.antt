@@ -19,5 +19,3 @@ pub mod InsideCases
 mod InsidePageCases
 pub mod HeadingCases
 mod HeadingPageCases
-pub mod GivenCases
-mod GivenPageCases
