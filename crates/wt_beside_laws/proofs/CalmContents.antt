@@ -29,6 +29,8 @@ use Rattle.wt_expand.specs.Work.{Pages, first_refusal}
 use Rattle.wt_expand.specs.Expansion.{page_work}
 use Rattle.wt_text_edit_laws.specs.LonePages.{page_chars, of_items}
 use Rattle.wt_text_edit_laws.specs.NoCalls.{Brace, NonePairs, CallsNothing, AreUnpaired, is_brace, AreUnbraced}
+use Rattle.wt_text_edit_laws.specs.ReadContents.{BeginsUnclosed}
+use Rattle.wt_text_edit_laws.proofs.Blocks.SignBraces.{items_unclosed}
 use Rattle.wt_text_edit_laws.proofs.Between.LessBraces.{BeginsUnbraced, braces_of, items_before_start, whole_sign, none_unbraced, unbraced_begins}
 use Rattle.wt_text_edit_laws.proofs.Between.NoCalls.{calm_expanded, calm_unrefused}
 use Rattle.wt_beside_laws.specs.Calm.{IsCalm, AreCalm}
@@ -207,6 +209,12 @@ content_none s before (thing t ∷ after) n h =
 
 pub content_unpaired : (s : Setting) (signs : List ContentSign) → IsReadIn s signs → AreCalm signs → AreUnpaired (page_items (spelled s signs))
 content_unpaired s signs k h = let own = content_none s [] signs k.nodes h in subst AreUnpaired (sym (content_alone s signs k)) own.none
+
+-- it begins with no `}`
+pub content_unclosed : (s : Setting) (signs : List ContentSign) → IsReadIn s signs → AreCalm signs → BeginsUnclosed (spelled s signs)
+content_unclosed s signs k h =
+    let own = content_none s [] signs k.nodes h in
+    items_unclosed (spelled s signs) (subst (λ (xs : List Item). BeginsUnbraced (map sign xs)) (sym (content_alone s signs k)) own.begins)
 
 pub content_calm : (s : Setting) (signs : List ContentSign) → IsReadIn s signs → AreCalm signs → CallsNothing (page_items (spelled s signs))
 content_calm s signs k h = subst NonePairs (sym (content_unpaired s signs k h)) tt

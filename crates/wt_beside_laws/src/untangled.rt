@@ -20,8 +20,9 @@ ghost use Rattle.wt_beside_laws.specs.StyledIn.{IsStyledIn};
 /// Of a page that calls nothing, any paragraphs and headings that aren't tangled and hold nothing that can only be kept as
 /// a whole are contents that are read by themselves (`IsContent`), whatever they hold, and the page is read part by part
 /// (`AreRead`). Asked is that the page's own items are cut at these blocks: each is lines of text, or a heading's line, by
-/// its items in the page, begins where the page or its line does, behind comments and include tags or none, and ends with
-/// its line; and that one which ends the page holds no comment and no hidden part that nothing ends.
+/// its items in the page, begins where the page or its line does, behind comments and include tags or none, or behind the
+/// sign of a table's end or a rule (`IsLedTo`), and ends with its line; and that one which ends the page holds no comment
+/// and no hidden part that nothing ends.
 #[tactic(auto, using(crate::proofs::Derived::CutPages::cut_read))]
 pub fn untangled_blocks_are_contents()
     ensures { (ss : List BlockSpot) (behind : List ℕ) → IsUtf8 (spots_source ss behind) → CallsNothing (page_items (spots_source ss behind))

@@ -1,5 +1,4 @@
 -- Pages with paragraphs and headings among calls, expanded part by part.
-pub mod Uncrossed
 pub mod LeftBraces
 pub mod Seams
 pub mod CalmBraces

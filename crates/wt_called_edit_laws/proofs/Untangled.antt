@@ -5,7 +5,6 @@ use Rattle.std.proofs.Math.Seq.{take-append_seam}
 use Rattle.wt_span.specs.Origins.{Expanded}
 use Rattle.wt_tree.specs.declared.kind.Ranges.{Ranges}
 use Rattle.wt_tree.specs.Tree.{Tree, tree, label}
-use Rattle.wt_expand.specs.PageItems.{page_items}
 use Rattle.wt_expand.specs.PageCalls.{expanded_page}
 use Rattle.wt_expand.specs.Work.{Pages}
 use Rattle.wt_isolation.specs.OpenTags.{ends_open, any_ends_open, before}
@@ -14,13 +13,10 @@ use Rattle.wt_checks.specs.Kept.{children}
 use Rattle.wt_selser.specs.Edits.{is_tangled}
 use Rattle.wt_selser.specs.GroupFaults.{has_faulty_group}
 use Rattle.wt_text_edit_laws.specs.BlockSpots.{BlockSpot, spots_source, AreContents, AreReadSpots}
-use Rattle.wt_text_edit_laws.specs.TextBetween.{AreEnded}
 use Rattle.wt_part_laws.specs.Placeless.{placeless}
 use Rattle.wt_part_laws.specs.Standing.{standing}
-use Rattle.wt_text_edit_laws.specs.TextBlocks.{source_of, block_tree, BeginsLine}
-use Rattle.wt_text_edit_laws.proofs.Blocks.BlocksAgain.{AreClear}
-use Rattle.wt_text_edit_laws.proofs.Blocks.BlockReading.{begins_here}
-use Rattle.wt_text_edit_laws.proofs.Paragraphs.ClearLines.{clear_first, clear_line}
+use Rattle.wt_text_edit_laws.specs.TextBlocks.{source_of, block_tree}
+use Rattle.wt_text_edit_laws.proofs.Blocks.BlocksAgain.{AreClear, clear_between, clear_start}
 use Rattle.wt_called_edit_laws.specs.CalledBlocks.{AreAmongCalls, tree_by}
 use Rattle.wt_called_edit_laws.specs.Nodes.{block_at}
 use Rattle.wt_called_edit_laws.specs.Parts.{AreCalled}
@@ -51,18 +47,14 @@ block_untangled items page front r (tree l ts) own free is clear at =
 
 -- ---- no tag is open before a block
 
-begins_clear : (front bs : List ℕ) → AreEnded bs → BeginsLine (page_items bs) → ends_open (front ++ bs) ≡ false
-begins_clear front [] e h = absurd (begins_here [] h)
-begins_clear front (b ∷ bs) e h = clear_line front b bs e
-
 further_clear : (front : List ℕ) (ss : List BlockSpot) (behind : List ℕ) → AreReadSpots ss behind → AreClear front ss
 further_clear front [] behind h = tt
 further_clear front (s ∷ ss) behind h =
-    (begins_clear front s.before h.0.ended h.1, further_clear ((front ++ s.before) ++ source_of s.block s.text) ss behind h.2)
+    (clear_between front s.before s.block s.text h.0.led h.1, further_clear ((front ++ s.before) ++ source_of s.block s.text) ss behind h.2)
 
 pub called_clear : (pages : Pages) (ss : List BlockSpot) (behind : List ℕ) → AreCalled pages ss behind → AreClear [] ss
 called_clear pages [] behind h = absurd h
-called_clear pages (s ∷ ss) behind h = (clear_first s.before h.0.ended, further_clear (s.before ++ source_of s.block s.text) ss behind h.1)
+called_clear pages (s ∷ ss) behind h = (clear_start s.before s.block s.text h.0.led, further_clear (s.before ++ source_of s.block s.text) ss behind h.1)
 
 -- ---- the blocks of a page
 

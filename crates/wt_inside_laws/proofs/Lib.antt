@@ -62,5 +62,6 @@ pub mod InsidesCases
 pub mod PageCases
 pub mod LocalCases
 pub mod EditCases
+pub mod CallingCases
 pub mod Sources
 pub mod Meeting

@@ -40,7 +40,7 @@ pub record AreToldBlocks (pages : Pages) (page : List â„•) (paths : List (List â
   pub some : AreSome o.ts
   pub bs : List LinedBlock
   pub on : AreOnTold o.ts bs
-  pub here : AreCallingHere pages (expanded_page pages page).outer 0 [] bs
+  pub here : AreCallingHere (expanded_page pages page).outer bs
   pub editable : AllByRecursion (IsEditable pages) bs
   pub apart : AreApartFrom (expanded_page pages page).outer (expanded_page pages page).text_calls 0 [] bs
   pub free : HaveFreeBytes 0 (spots_of_lines pages page bs) (called_tree pages page)

@@ -7,6 +7,8 @@ pub mod ClosingTags
 pub mod LineForms
 pub mod Fronts
 pub mod Shown
+pub mod TagsBefore
+pub mod SignParts
 pub mod TextReads
 pub mod BraceWords
 pub mod NoCalls

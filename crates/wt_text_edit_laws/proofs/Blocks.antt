@@ -1,5 +1,8 @@
 -- Pages of typed paragraphs and headings among any other blocks.
 pub mod BlockReading
+pub mod SignReading
+pub mod SignedParts
+pub mod SignBraces
 pub mod BlockLines
 pub mod BlockLeaves
 pub mod Untangled

@@ -6,6 +6,8 @@ pub mod Unmarked
 pub mod Seen
 pub mod HeadingCuts
 pub mod Utf8Cuts
+pub mod Uncrossed
+pub mod LedCuts
 pub mod RowLines
 pub mod BodyBlocks
 pub mod TextLines

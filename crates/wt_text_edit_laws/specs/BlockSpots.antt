@@ -4,6 +4,7 @@ use Rattle.std.specs.Str.{IsUtf8}
 use Rattle.wt_inline.specs.ItemTree.{ItemTree}
 use Rattle.wt_expand.specs.PageItems.{page_items}
 use Rattle.wt_text_edit_laws.specs.NoCalls.{CallsNothing}
+use Rattle.wt_text_edit_laws.specs.SignParts.{IsLedTo}
 use Rattle.wt_text_edit_laws.specs.TextBetween.{AreEnded, HasEndsBefore, StandsBehind}
 use Rattle.wt_text_edit_laws.specs.ParagraphBetween.{blocks_in}
 use Rattle.wt_text_edit_laws.specs.Parts.{HasNoGroups}
@@ -75,7 +76,7 @@ AreBlockSpots (s ∷ ss) behind = IsBlockSpot s × AreFurtherBlocks s.block ss b
 
 -- whatever stands before it, and whatever is in it
 pub record IsRead (s : BlockSpot) : Type 0 where
-  pub ended : AreEnded s.before
+  pub led : IsLedTo s.before s.block s.text
   pub before_utf8 : IsUtf8 s.before
   pub block : IsContent s.block s.text
 
@@ -86,7 +87,7 @@ AreReadAfter (s ∷ ss) behind = IsRead s × BeginsLine (page_items s.before) ×
 
 -- by their lexemes alone, whatever they call
 pub record IsReadSpot (s : BlockSpot) : Type 0 where
-  pub ended : AreEnded s.before
+  pub led : IsLedTo s.before s.block s.text
   pub before_utf8 : IsUtf8 s.before
   pub block : IsReadContent s.block s.text
 

@@ -12,6 +12,7 @@ pub mod UnmarkedChanges
 pub mod NoCalls
 pub mod PlainGroups
 pub mod TextBetween
+pub mod SignParts
 pub mod ParagraphBetween
 pub mod Paragraphs
 pub mod Parts

@@ -17,7 +17,8 @@ use Rattle.wt_text_edit_laws.specs.BlockSpots.{BlockSpot, spots_source}
 use Rattle.wt_text_edit_laws.specs.Contents.{content_parts_of}
 use Rattle.wt_text_edit_laws.specs.LonePages.{page_chars}
 use Rattle.wt_text_edit_laws.specs.Paragraphs.{IsSeenLine}
-use Rattle.wt_text_edit_laws.specs.TextBetween.{AreEnded, HasEnds}
+use Rattle.wt_text_edit_laws.specs.SignParts.{IsLedTo}
+use Rattle.wt_text_edit_laws.specs.TextBetween.{HasEnds}
 use Rattle.wt_text_edit_laws.specs.TextBlocks.{TextBlock, a_paragraph, a_heading, source_of, block_tree}
 use Rattle.wt_text_edit_laws.specs.TypedHeadings.{Sides, AreBlanks, AreIdle, equals, opening, IsInside}
 
@@ -95,18 +96,19 @@ pub record IsSpotCut (s : BlockSpot) (zs : List Item) : Type 0 where
   pub source : sources before ≡ s.before
   pub block : AreBlockItems s.block s.text own
 
--- a block begins where the page begins, or behind a line break, a comment or a tag; and it ends where its line ends
+-- a block begins where the page begins, or behind a line break, a comment or a tag, a paragraph behind the sign of a table's end or a rule, too; and it
+-- ends where its line ends
 abbrev pub AreFurtherCuts : List BlockSpot → List ℕ → List Item → Type 0
 AreFurtherCuts [] behind zs = EndsThere behind
 AreFurtherCuts (s ∷ ss) behind zs =
-    (c : IsSpotCut s zs) × AreEnded s.before × BeginsBreak s.before × EndsClosed (source_of s.block s.text) (spots_source ss behind)
+    (c : IsSpotCut s zs) × IsLedTo s.before s.block s.text × BeginsBreak s.before × EndsClosed (source_of s.block s.text) (spots_source ss behind)
     × AreFurtherCuts ss behind c.rest
 
 -- there is one at least
 abbrev pub AreCuts : List BlockSpot → List ℕ → Type 0
 AreCuts [] behind = ⊥
 AreCuts (s ∷ ss) behind =
-    (c : IsSpotCut s (page_items (spots_source (s ∷ ss) behind))) × AreEnded s.before × EndsClosed (source_of s.block s.text) (spots_source ss behind)
+    (c : IsSpotCut s (page_items (spots_source (s ∷ ss) behind))) × IsLedTo s.before s.block s.text × EndsClosed (source_of s.block s.text) (spots_source ss behind)
     × AreFurtherCuts ss behind c.rest
 
 -- so each of these: asked is only the one that ends the page

@@ -47,10 +47,11 @@ BeginsUnclosed [] = Unit {0}
 BeginsUnclosed (b ∷ bs) = (b == byte.closing_brace) ≡ false
 
 -- It is read the same whatever stands behind it, unless that begins with a `}`, since a call may be last in it; and nothing begins in it that goes on
--- there.
+-- there. It begins with no `}` itself.
 pub record IsFirmlyRead (q : List ℕ) : Type 0 where
   pub firm : (rest : List ℕ) → StandsBehind rest → BeginsUnclosed rest → page_items (q ++ rest) ≡ page_items q ++ page_items rest
   pub uncommented : (rest : List ℕ) → StandsBehind rest → BeginsUnclosed rest → StandsBehind (q ++ rest)
+  pub unclosed : BeginsUnclosed q
 
 -- So of one in the place of an old one, which closes no tag that this didn't close.
 pub record IsReadAnew (k : TextBlock) (was now : List ℕ) : Type 0 where

@@ -55,6 +55,8 @@ ghost use Rattle.wt_text_edit_laws.specs.ProseChanges.{ProseChange, passages_bef
 ghost use Rattle.wt_text_edit_laws.specs.UnmarkedChanges.{unmarked_change, IsUnmarkedChange};
 ghost use Rattle.wt_text_edit_laws.specs.NoCalls.{CallsNothing};
 ghost use Rattle.wt_text_edit_laws.specs.PlainGroups.{IsPlainLine, AreOneText, HavePlainGroups};
+ghost use Rattle.wt_text_edit_laws.specs.ReadContents.{BeginsUnclosed};
+ghost use Rattle.wt_text_edit_laws.specs.SignParts.{AreSigned};
 ghost use Rattle.wt_text_edit_laws.specs.TextBetween.{AreWholeLines, AreEnded, HasEndsBefore, BeginsShown, StandsBefore, StandsBehind};
 ghost use Rattle.wt_text_edit_laws.specs.Paragraphs.{IsParagraph};
 ghost use Rattle.wt_text_edit_laws.specs.ParagraphBetween.{EndsApart, EndsParagraph, blocks_in, body_round, AreClosed, before_marks, body_with};
@@ -275,11 +277,13 @@ pub fn groups_of_plain_text_have_no_fault()
 /// Of lines in which each comment, raw tag and hidden part ends that begins in them, every lexeme is read of them
 /// alone, whatever follows them: none goes over their end. So it is where a raw tag has no closing tag, neither in
 /// them nor in what follows, and where comments or tags come after the last line break, before what doesn't begin with
-/// a line of comments and blanks.
-#[tactic(auto, using(crate::proofs::Between::LineForms::lines_settle, crate::proofs::Between::LineForms::marks_settle))]
+/// a line of comments and blanks. Where the sign of a table's end or a rule comes last, what follows on its line is read
+/// by itself, if it doesn't begin with a `}`.
+#[tactic(auto, using(crate::proofs::Between::LineForms::lines_settle, crate::proofs::Between::LineForms::marks_settle, crate::proofs::Blocks::SignReading::signed_items))]
 pub fn lines_end_lexemes()
     ensures lines { (rest q : List ℕ) → AreWholeLines q → HasEndsBefore rest q → Settles (lexer Page) rest false 0 q }
     ensures marks { (rest q : List ℕ) → AreEnded q → HasEndsBefore rest q → BeginsShown rest → Settles (lexer Page) rest false 0 q }
+    ensures signs { (rest q : List ℕ) → AreSigned q → HasEndsBefore rest q → BeginsUnclosed rest → page_items (q ++ rest) ≡ page_items q ++ page_items rest }
 {}
 
 /// Whatever somebody types between two parts of a page, the items of the page are those of the part before, of the

@@ -1,5 +1,5 @@
 -- A page that calls nothing is read part by part at each paragraph of its body that isn't tangled.
-use Rattle.std.proofs.Common.{◌≡◌, ℕ, List, [], ◌∷◌, ◌++◌, refl, sym, ap, ◌∙◌, subst}
+use Rattle.std.proofs.Common.{◌≡◌, inl, ℕ, List, [], ◌∷◌, ◌++◌, refl, sym, ap, ◌∙◌, subst}
 use Rattle.std.specs.Str.{IsUtf8}
 use Rattle.std.proofs.lemmas.Grind.{flat_map-append}
 use Rattle.wt_span.specs.Items.{Item, source, sources}
@@ -54,4 +54,4 @@ body_read page r rs p f =
     let c : IsSpotCut (spot_at p.before p.own) (page_items (sources p.before ++ (sources p.own ++ sources p.rest))) =
     record { before = p.before; own = p.own; rest = p.rest; is = ap page_items same ∙ p.is; source = refl; block = p.text } in
     one_read (spot_at p.before p.own) (sources p.rest) c (subst IsUtf8 (sym same) f.utf8) (subst CallsNothing (ap page_items (sym same)) f.calls_nothing)
-    p.ended (there_so p.rest p.ends) f.closed (λ a b calm. own_content page r rs p f a b calm)
+    (inl p.ended) (there_so p.rest p.ends) f.closed (λ a b calm. own_content page r rs p f a b calm)

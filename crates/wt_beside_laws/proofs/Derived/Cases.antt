@@ -1,5 +1,5 @@
 -- A worked case: a page is cut at its second paragraph, `x<br>y`, by its items.
-use Rattle.std.proofs.Common.{◌≡◌, None, [], ◌∷◌, ◌++◌, refl, All}
+use Rattle.std.proofs.Common.{◌≡◌, inl, None, [], ◌∷◌, ◌++◌, refl, All}
 use Rattle.std.specs.Prelude.{codes}
 use Rattle.std.proofs.lemmas.List.Elements.{All-nil, All-cons}
 use Rattle.wt_span.specs.Comments.{comment_len}
@@ -56,4 +56,4 @@ closed : page_items (codes "x<br>y\n") ≡ page_items (codes "x<br>y") ++ char N
 closed = rw unended ended
 
 cut : AreCuts (second ∷ []) []
-cut = (is_cut, refl, closed, tt)
+cut = (is_cut, inl refl, closed, tt)

@@ -1,8 +1,7 @@
 -- A page that calls nothing, cut at blocks that aren't tangled: it is read part by part, and each block is a content.
-use Rattle.std.proofs.Common.{arith, ◌≡◌, ◌≢◌, inl, inr, ℕ, zero, suc, ◌<◌, ◌≤◌, ◌==◌, Bool, true, false, None, List, [], ◌∷◌, ◌++◌, length, refl, sym, ap, ◌∙◌, subst, append_assoc, length-append}
+use Rattle.std.proofs.Common.{arith, ◌≡◌, ◌≢◌, inl, inr, ℕ, zero, suc, ◌<◌, ◌≤◌, Bool, false, None, List, [], ◌∷◌, ◌++◌, length, refl, sym, ap, ◌∙◌, subst, append_assoc, length-append}
 use Rattle.std.specs.Prelude.{map}
 use Rattle.std.specs.Str.{IsUtf8}
-use Rattle.std.proofs.lemmas.Bool.{eqb-true}
 use Rattle.std.proofs.lemmas.List.{map-append}
 use Rattle.std.proofs.lemmas.Grind.{flat_map-append}
 use Rattle.wt_span.specs.declared.form.Mode.TheVariants.{Page}
@@ -14,32 +13,22 @@ use Rattle.wt_text_edit_laws.specs.BlockSpots.{BlockSpot, spots_source, EndBefor
 use Rattle.wt_text_edit_laws.specs.Contents.{IsHeadingLine, IsContent}
 use Rattle.wt_text_edit_laws.specs.NoCalls.{braces, NonePairs, CallsNothing}
 use Rattle.wt_text_edit_laws.specs.PageCuts.{BeginsBreak, EndsThere, EndsClosed, IsSpotCut, AreFurtherCuts, AreCuts, AreFree}
-use Rattle.wt_text_edit_laws.specs.TextBetween.{EndsBy, is_end, AreEnded, HasEndsBefore, LineEnds}
+use Rattle.wt_text_edit_laws.specs.SignParts.{IsLedTo}
+use Rattle.wt_text_edit_laws.specs.TextBetween.{HasEndsBefore, LineEnds}
 use Rattle.wt_text_edit_laws.specs.TextBlocks.{TextBlock, a_paragraph, a_heading, source_of, BeginsLine}
 use Rattle.wt_text_edit_laws.specs.TypedHeadings.{equals, closing, EndsLine}
 use Rattle.wt_text_edit_laws.proofs.Between.BraceWords.{pairs_behind}
 use Rattle.wt_text_edit_laws.proofs.Between.LineComments.{lines_ended}
-use Rattle.wt_text_edit_laws.proofs.Between.LineWords.{either}
 use Rattle.wt_text_edit_laws.proofs.Blocks.OwnContents.{paragraph_some}
-use Rattle.wt_text_edit_laws.proofs.Cuts.ItemCuts.{is_plain, cut_from, page_cut, alone_after}
+use Rattle.wt_text_edit_laws.proofs.Cuts.ItemCuts.{cut_from, page_cut, alone_after}
 use Rattle.wt_text_edit_laws.proofs.Cuts.SettledEnds.{settled_ends, line_settled}
-use Rattle.wt_text_edit_laws.proofs.Cuts.Utf8Cuts.{ended_utf8, there_utf8}
+use Rattle.wt_text_edit_laws.proofs.Cuts.LedCuts.{ends_plain, led_ends}
+use Rattle.wt_text_edit_laws.proofs.Cuts.Utf8Cuts.{led_utf8, there_utf8}
 use Rattle.wt_text_edit_laws.proofs.Paragraphs.Texts.{one_line}
 use Rattle.wt_text_edit_laws.proofs.Prose.InFront.{reads_nothing, read_items}
 use Rattle.wt_beside_laws.proofs.Derived.BlockContents.{block_source, there_begins, break_first, ReadAlone, read_alone, BlockRead, block_read, BlockSeen, block_seen, seen_with, seen_alone, first_unbraced, calm_between, block_content}
 
 -- ---- edges of parts
-
-end_plain : (b : ℕ) → is_end b ≡ true → is_plain b ≡ true
-end_plain b e = elim (either (b == 10) (b == 62) e) [
-  | inl f ↦ ap is_plain (eqb-true b 10 f)
-  | inr f ↦ ap is_plain (eqb-true b 62 f)
-]
-
-pub ends_plain : (bs : List ℕ) → AreEnded bs → EndsBy is_plain bs
-ends_plain [] e = tt
-ends_plain (b ∷ []) e = end_plain b e
-ends_plain (b ∷ c ∷ bs) e = ends_plain (c ∷ bs) e
 
 pub further_there : (ss : List BlockSpot) (behind : List ℕ) (zs : List Item) → AreFurtherCuts ss behind zs → EndsThere (spots_source ss behind)
 further_there [] behind zs h = h
@@ -123,9 +112,9 @@ some_before : (line rest : List ℕ) → 0 < length line → 0 < length (line ++
 some_before line rest h = omega (arith, h, length-append line rest)
 
 pub spot_read : (s : BlockSpot) (rest : List ℕ) (zs : List Item) (c : IsSpotCut s zs) → page_items (s.before ++ (source_of s.block s.text ++ rest)) ≡ zs
-    → IsUtf8 (s.before ++ (source_of s.block s.text ++ rest)) → AreEnded s.before → EndsThere rest → EndsClosed (source_of s.block s.text) rest
+    → IsUtf8 (s.before ++ (source_of s.block s.text ++ rest)) → IsLedTo s.before s.block s.text → EndsThere rest → EndsClosed (source_of s.block s.text) rest
     → (page_items rest ≡ c.rest → ReadAlone (source_of s.block s.text) c.own → BlockRead s.block s.text c.own → IsContent s.block s.text) → SpotRead s rest c.rest
-spot_read s rest zs c e u ended there closed make =
+spot_read s rest zs c e u led there closed make =
     let line : List ℕ = source_of s.block s.text in
     let whole : page_items (s.before ++ (line ++ rest)) ≡ c.before ++ (c.own ++ c.rest) = e ∙ c.is in
     let first = page_cut s.before (line ++ rest) c.before (c.own ++ c.rest) whole c.source in
@@ -136,7 +125,7 @@ spot_read s rest zs c e u ended there closed make =
     let seen : BlockSeen (c.own ++ c.rest) = seen_with c.own c.rest (block_seen s.block s.text c.own c.block) in
     let all : page_items (line ++ rest) ≡ c.own ++ c.rest = seen_alone a (line ++ rest) (c.own ++ c.rest) seen first.behind in
     let alone = read_alone line c.own rest c.rest own_source there closed all behind in
-    let before_parts = ended_utf8 s.before (line ++ rest) ended u in
+    let before_parts = led_utf8 s.before s.block s.text (line ++ rest) led u in
     let line_parts = there_utf8 line rest there before_parts.1 in
     let read = block_read s.block s.text c.own c.block line_parts.0 alone in
     let content : IsContent s.block s.text = make behind alone read in
@@ -144,7 +133,7 @@ spot_read s rest zs c e u ended there closed make =
       before_utf8 = before_parts.0;
       rest_utf8 = line_parts.1;
       content = content;
-      ends = settled_ends s.before (line ++ rest) (some_before line rest (block_some s.block s.text content)) (first.settles (inl (ends_plain s.before ended)));
+      ends = led_ends s rest c.before (c.own ++ c.rest) led there (some_before line rest (block_some s.block s.text content)) c.source whole;
       line = line_ended line c.own rest c.rest own_source there all behind;
       rest_is = behind;
     }
@@ -161,7 +150,7 @@ further_read (s ∷ ss) behind zs e u calm h f =
     let r = spot_read s (spots_source ss behind) zs h.0 e u h.1 there h.3
     (λ c a b. block_content s.block s.text h.0.own a b (own_calm s (spots_source ss behind) zs h.0 there calm c) f.0) in
     let more = further_read ss behind h.0.rest r.rest_is r.rest_utf8 (behind_calm h.0.before h.0.own h.0.rest (subst CallsNothing h.0.is calm)) h.4 f.1 in (
-      (record { ended = h.1; before_utf8 = r.before_utf8; block = r.content }, begins_line s.before h.2, more.0),
+      (record { led = h.1; before_utf8 = r.before_utf8; block = r.content }, begins_line s.before h.2, more.0),
       (r.ends, inr r.line, more.1),
     )
 
@@ -174,20 +163,20 @@ cut_read (s ∷ ss) behind u calm h f =
     let r = spot_read s (spots_source ss behind) (page_items page) h.0 refl u h.1 there h.2
     (λ c a b. block_content s.block s.text h.0.own a b (own_calm s (spots_source ss behind) (page_items page) h.0 there calm c) f.0) in
     let more = further_read ss behind h.0.rest r.rest_is r.rest_utf8 (behind_calm h.0.before h.0.own h.0.rest (subst CallsNothing h.0.is calm)) h.3 f.1 in (
-      record { ended = h.1; before_utf8 = r.before_utf8; block = r.content },
+      record { led = h.1; before_utf8 = r.before_utf8; block = r.content },
       more.0,
       record { calls_nothing = calm; end_before = (r.ends, inr r.line, more.1) },
     )
 
 -- one block, whose content is told
 pub one_read : (s : BlockSpot) (behind : List ℕ) (c : IsSpotCut s (page_items (spots_source (s ∷ []) behind))) → IsUtf8 (spots_source (s ∷ []) behind)
-    → CallsNothing (page_items (spots_source (s ∷ []) behind)) → AreEnded s.before → EndsThere behind → EndsClosed (source_of s.block s.text) behind
+    → CallsNothing (page_items (spots_source (s ∷ []) behind)) → IsLedTo s.before s.block s.text → EndsThere behind → EndsClosed (source_of s.block s.text) behind
     → (ReadAlone (source_of s.block s.text) c.own → BlockRead s.block s.text c.own → CallsNothing c.own → IsContent s.block s.text) → AreRead (s ∷ []) behind
-one_read s behind c u calm ended there closed make =
+one_read s behind c u calm led there closed make =
     let zs : List Item = page_items (spots_source (s ∷ []) behind) in
-    let r = spot_read s behind zs c refl u ended there closed (λ e a b. make a b (own_calm s behind zs c there calm e)) in
+    let r = spot_read s behind zs c refl u led there closed (λ e a b. make a b (own_calm s behind zs c there calm e)) in
     let begins = there_begins behind there in (
-      record { ended = ended; before_utf8 = r.before_utf8; block = r.content },
+      record { led = led; before_utf8 = r.before_utf8; block = r.content },
       (record { uncommented = begins.is }, r.rest_utf8, ends_line behind there),
       record { calls_nothing = calm; end_before = (r.ends, inr r.line, tt) },
     )

@@ -30,7 +30,7 @@ use Rattle.wt_beside_laws.specs.StyledHeadings.{IsStyledHeading}
 use Rattle.wt_beside_laws.specs.StyledIn.{IsStyledIn, StaysIn, IsStyledFor}
 use Rattle.wt_beside_laws.specs.StyledNodes.{IsPut, AreSomeAndPut}
 use Rattle.wt_beside_laws.proofs.Each.{Each}
-use Rattle.wt_beside_laws.proofs.CalmContents.{content_utf8, content_unpaired, nowiki_calm}
+use Rattle.wt_beside_laws.proofs.CalmContents.{content_utf8, content_unpaired, content_unclosed, nowiki_calm}
 use Rattle.wt_beside_laws.proofs.FlatAgain.{EachSource, IsShut, put_shut, from_shut, to_shut}
 use Rattle.wt_beside_laws.proofs.LineItems.{content_lines_are}
 use Rattle.wt_beside_laws.proofs.Made.Closes.{guard_closes, OpenFor, content_closes, block_open}
@@ -204,6 +204,7 @@ styled_new k q s t h w = record {
     uncommented = λ rest b. uncommented s (signs_in t) rest (read_styled s t w.content) b;
     stays = stays_so k s t w.content;
     unpaired = content_unpaired s (signs_in t) (read_styled s t w.content) (calm_so k q s t h w);
+    unclosed = content_unclosed s (signs_in t) (read_styled s t w.content) (calm_so k q s t h w);
   };
   closes = λ name us vs o n. closes_so k q s t h w name us vs o n;
 }

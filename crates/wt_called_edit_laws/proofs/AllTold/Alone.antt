@@ -137,7 +137,7 @@ alone_read pages page o rest t h free =
     let whole : spots_source (s ∷ []) behind ≡ page = spot_source pages page [] [] b rest 0 (page_items page) l [] behind refl ∙ page_sources page in
     let there : EndsThere behind = subst EndsThere l.here.next.same (ends_text calls (ending (own_items b)) rest l.around.own_ending l.around.ends) in
     let r : SpotRead s behind l.here.behind =
-    spot_read s behind (page_items page) c (ap page_items whole) (subst IsUtf8 (sym whole) t.utf8) l.ended there (subst (EndsClosed (source_of b.block b.text)) l.here.next.same t.closed.0)
+    spot_read s behind (page_items page) c (ap page_items whole) (subst IsUtf8 (sym whole) t.utf8) (inl l.ended) there (subst (EndsClosed (source_of b.block b.text)) l.here.next.same t.closed.0)
     (λ d a m. block_content b.block b.text own a m t.place.calm (free (read_of a m) m.items)) in
     let k : IsContent b.block b.text = r.content in
     let items : block_items b.block b.text ≡ own = sym k.unended ∙ l.here.alone in

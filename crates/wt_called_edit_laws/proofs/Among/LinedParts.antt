@@ -432,7 +432,7 @@ further pages page last open_tables es (b ∷ ls) behind p qs xs runs i f r h ow
     record {
       cuts = (
         record { before = l.here.before; own = content (own_items b); rest = l.here.behind; is = l.here.is; source = l.here.source; block = l.block },
-        l.ended,
+        inl l.ended,
         subst (λ (zs : List Item). BeginsBreak (text_from calls None (block_front zs b))) (sym is_break) refl,
         c.0,
         d.cuts,
@@ -504,7 +504,7 @@ lined_among pages page (b ∷ ls) behind h =
     let utf8 : IsUtf8 (spots_source (s ∷ ss) end) = subst IsUtf8 (sym same) h.utf8 in
     let cuts : AreCuts (s ∷ ss) end = (
       record { before = l.here.before; own = content (own_items b); rest = l.here.behind; is = ap page_items same ∙ l.here.is; source = l.here.source; block = l.block },
-      l.ended,
+      inl l.ended,
       h.closed.0,
       d.cuts,
     ) in

@@ -219,7 +219,7 @@ called_here : AreCalled a_word (a_block ∷ []) []
 unfolding page_items words closed form_at comment_len comment_line_len raw_len opening_tag tag_after closing_tag with_inside include_at entity_at named_entity
     decimal_entity hex_entity entity_names sign_word is_extension reduced rewritten
 called_here = (
-  record { ended = tt; before_utf8 = IsUtf8-nil; block = is_read },
+  record { led = inl tt; before_utf8 = IsUtf8-nil; block = is_read },
   (record { uncommented = refl }, IsUtf8-nil, tt),
   record { end_before = (refl, inr tt, tt); anywhere = (anywhere, tt); apart = tt },
 )

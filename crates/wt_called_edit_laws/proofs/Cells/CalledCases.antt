@@ -75,7 +75,7 @@ called_here : AreCalled opens_table blocks_here (codes "\n|}")
 unfolding page_items words closed form_at comment_len comment_line_len raw_len opening_tag tag_after closing_tag with_inside include_at entity_at named_entity decimal_entity
     hex_entity entity_names sign_word reduced rewritten
 called_here = (
-  record { ended = refl; before_utf8 = utf8_before; block = content_read a_paragraph (codes "a") (block_content a_paragraph (codes "a") (inl typed_a)) },
+  record { led = inl refl; before_utf8 = utf8_before; block = content_read a_paragraph (codes "a") (block_content a_paragraph (codes "a") (inl typed_a)) },
   (record { uncommented = refl }, utf8_behind, refl),
   record {
     end_before = ((refl, (refl, (refl, (refl, (refl, (refl, refl)))))), inl (typed_firmly a_paragraph (codes "a") typed_a), tt);

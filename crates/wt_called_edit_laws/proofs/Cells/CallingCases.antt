@@ -1,5 +1,5 @@
 -- A worked case of a paragraph that holds a call, by computing it: what it gives, that it is a content in its folder, and that it is a block of a page.
-use Rattle.std.proofs.Common.{◌≡◌, inr, ℕ, Some, None, List, [], ◌∷◌, refl, sym, subst}
+use Rattle.std.proofs.Common.{◌≡◌, inr, ℕ, Some, None, List, [], ◌∷◌, refl, sym, subst, inl}
 use Rattle.std.specs.Prelude.{codes, if◌then◌else◌}
 use Rattle.std.specs.Str.{bytes_eq, is_utf8, chars, IsUtf8}
 use Rattle.std.specs.Str.Lossy.{utf8_valid_len}
@@ -109,7 +109,7 @@ called_here : AreCalled a_word blocks_here []
 unfolding page_items words closed form_at comment_len comment_line_len raw_len opening_tag tag_after closing_tag with_inside is_extension include_at entity_at
     named_entity decimal_entity hex_entity entity_names sign_word reduced rewritten
 called_here = (
-  record { ended = tt; before_utf8 = IsUtf8-nil; block = is_read },
+  record { led = inl tt; before_utf8 = IsUtf8-nil; block = is_read },
   (record { uncommented = refl }, IsUtf8-nil, tt),
   record { end_before = (refl, inr tt, tt); anywhere = (anywhere, tt); apart = tt },
 )

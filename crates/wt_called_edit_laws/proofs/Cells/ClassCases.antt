@@ -180,9 +180,9 @@ called_here : AreCalled a_word (a_title ∷ in_a_cell ∷ []) behind
 unfolding page_items words closed form_at comment_len comment_line_len raw_len opening_tag tag_after closing_tag with_inside is_extension include_at entity_at
     named_entity decimal_entity hex_entity entity_names sign_word reduced rewritten
 called_here = (
-  record { ended = refl; before_utf8 = utf8_first; block = content_read (a_heading (spaced 2)) (codes "h") title_content },
+  record { led = inl refl; before_utf8 = utf8_first; block = content_read (a_heading (spaced 2)) (codes "h") title_content },
   (
-    record { ended = refl; before_utf8 = utf8_second; block = content_read a_paragraph (codes "x<br>y") break_content },
+    record { led = inl refl; before_utf8 = utf8_second; block = content_read a_paragraph (codes "x<br>y") break_content },
     refl,
     (record { uncommented = refl }, utf8_behind, refl),
   ),

@@ -39,7 +39,7 @@ further_read (s ∷ ss) behind zs e u h c f =
     let r = spot_read s (spots_source ss behind) zs h.0 e u h.1 (further_there ss behind h.0.rest h.4) h.3
     (λ d a b. block_content s.block s.text h.0.own a b (subst CallsNothing a.unended c.0) f.0) in
     let more = further_read ss behind h.0.rest r.rest_is r.rest_utf8 h.4 c.1 f.1 in (
-      (record { ended = h.1; before_utf8 = r.before_utf8; block = r.content }, begins_line s.before h.2, more.0),
+      (record { led = h.1; before_utf8 = r.before_utf8; block = r.content }, begins_line s.before h.2, more.0),
       (r.ends, inr r.line, more.1),
     )
 
@@ -51,7 +51,7 @@ parts_read s ss behind u h c f =
     (λ d a b. block_content s.block s.text h.0.own a b (subst CallsNothing a.unended c.0) f.0) in
     let more = further_read ss behind h.0.rest r.rest_is r.rest_utf8 h.3 c.1 f.1 in
     record {
-      first = record { ended = h.1; before_utf8 = r.before_utf8; block = r.content };
+      first = record { led = h.1; before_utf8 = r.before_utf8; block = r.content };
       rest = more.0;
       ends = (r.ends, inr r.line, more.1);
     }

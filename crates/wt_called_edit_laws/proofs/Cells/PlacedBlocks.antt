@@ -1,5 +1,5 @@
 -- A paragraph or a heading of a page where it is in it: its content may be edited.
-use Rattle.std.proofs.Common.{◌≡◌, ℕ, Bool, false, List, [], ◌∷◌, ◌++◌, length, map, append-nil, All, refl, sym, ap, ◌∙◌, subst, append_assoc}
+use Rattle.std.proofs.Common.{◌≡◌, ℕ, Bool, false, List, [], ◌∷◌, ◌++◌, length, map, append-nil, All, refl, sym, ap, ◌∙◌, subst, append_assoc, inl}
 use Rattle.std.proofs.lemmas.List.Elements.{All-nil, All-cons}
 use Rattle.std.specs.Str.{IsUtf8}
 use Rattle.std.proofs.lemmas.Grind.{flat_map-append}
@@ -57,7 +57,7 @@ block_cut page k q b f =
     let e : page_items (spots_source (block_spot k q b.before ∷ []) (sources b.rest)) ≡ b.before ++ (b.own ++ b.rest) =
     ap page_items (placed_whole page k q b) ∙ b.is in (
       record { before = b.before; own = b.own; rest = b.rest; is = e; source = refl; block = b.items },
-      b.ended,
+      inl b.ended,
       f.closed,
       b.there,
     )

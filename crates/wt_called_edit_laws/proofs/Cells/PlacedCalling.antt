@@ -21,7 +21,8 @@ use Rattle.wt_text_edit_laws.proofs.Cuts.Seen.{shown_alone}
 use Rattle.wt_text_edit_laws.proofs.Cuts.Utf8Cuts.{ended_utf8, there_utf8}
 use Rattle.wt_text_edit_laws.proofs.Prose.InFront.{reads_nothing, read_items}
 use Rattle.wt_beside_laws.proofs.Derived.BlockContents.{there_begins}
-use Rattle.wt_beside_laws.proofs.Derived.CutPages.{ends_plain, begins_line, ends_line, line_ended}
+use Rattle.wt_beside_laws.proofs.Derived.CutPages.{begins_line, ends_line, line_ended}
+use Rattle.wt_text_edit_laws.proofs.Cuts.LedCuts.{ends_plain}
 use Rattle.wt_called_edit_laws.specs.CallingBlocks.{IsContentIn, AreContentsInFolder, spots_with_calls, items_past}
 use Rattle.wt_called_edit_laws.specs.EditableBlocks.{IsEditableWithCalls}
 use Rattle.wt_called_edit_laws.specs.ItemSpots.{AreContentsIn}
@@ -99,7 +100,7 @@ further_read pages (s ∷ ss) behind zs e u h c =
     let own : IsContentIn pages s.block s.text = c.0 in
     let r = part_read s (spots_source ss behind) zs h.0 e u h.1 (further_there ss behind h.0.rest h.3) own.read in
     let more = further_read pages ss behind h.0.rest r.rest_is r.rest_utf8 h.3 c.1 in (
-      (record { ended = h.1; before_utf8 = r.before_utf8; block = own.read }, begins_line s.before h.2, more.0),
+      (record { led = inl h.1; before_utf8 = r.before_utf8; block = own.read }, begins_line s.before h.2, more.0),
       (r.ends, inr r.line, more.1),
     )
 
@@ -127,7 +128,7 @@ parts_read pages s ss behind u h c =
     let r = part_read s (spots_source ss behind) (page_items page) h.0 refl u h.1 (further_there ss behind h.0.rest h.2) own.read in
     let more = further_read pages ss behind h.0.rest r.rest_is r.rest_utf8 h.2 c.1 in
     record {
-      first = record { ended = h.1; before_utf8 = r.before_utf8; block = own.read };
+      first = record { led = inl h.1; before_utf8 = r.before_utf8; block = own.read };
       rest = more.0;
       ends = (r.ends, inr r.line, more.1);
     }

@@ -31,7 +31,7 @@ ends_line a_paragraph n (y ∷ ys) h = h.0
 ends_line (a_heading s) n xs h = h
 
 is_read : (s : BlockSpot) → IsTextRead s → IsRead s
-is_read s h = record { ended = h.ended; before_utf8 = h.before_utf8; block = block_content s.block s.text h.block }
+is_read s h = record { led = inl h.ended; before_utf8 = h.before_utf8; block = block_content s.block s.text h.block }
 
 after_read : (last : TextBlock) (bs : List Bool) (ss : List BlockSpot) (behind : List ℕ) → AreSpotsAfter last bs ss behind → AreReadAfter ss behind
 after_read last bs [] behind h = (h.0, h.1, ends_line last (length bs) (page_items behind) h.2)

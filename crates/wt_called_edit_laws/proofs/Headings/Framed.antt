@@ -26,7 +26,7 @@ use Rattle.wt_text_edit_laws.proofs.Blocks.BlockReading.{AreQuiet, quiet_joined,
 use Rattle.wt_text_edit_laws.proofs.Prose.InFront.{Reads, reads_nothing, read_items}
 use Rattle.wt_called_edit_laws.specs.Written.{IsWrittenAs}
 use Rattle.wt_called_edit_laws.proofs.Parts.Seams.{begins_same}
-use Rattle.wt_called_edit_laws.proofs.Parts.Uncrossed.{BeginsOther, AreCut, part_settles}
+use Rattle.wt_text_edit_laws.proofs.Cuts.Uncrossed.{BeginsOther, AreCut, part_settles}
 use Rattle.wt_called_edit_laws.proofs.Written.Joined.{both_written, calm_written, calm_then}
 use Rattle.wt_called_edit_laws.proofs.Written.Signs.{met_by}
 

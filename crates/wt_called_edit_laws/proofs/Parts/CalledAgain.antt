@@ -10,9 +10,9 @@ use Rattle.wt_expand.specs.Work.{Pages, Entry, entered, begun, fetched, ended, R
 use Rattle.wt_expand.specs.Expansion.{page_work}
 use Rattle.wt_part_laws.specs.Expanded.{GivesAnywhere}
 use Rattle.wt_text_edit_laws.specs.NoCalls.{Brace}
-use Rattle.wt_text_edit_laws.specs.ReadContents.{IsReadContent, IsReadAnew}
+use Rattle.wt_text_edit_laws.specs.ReadContents.{BeginsUnclosed, IsReadContent, IsReadAnew}
+use Rattle.wt_text_edit_laws.proofs.Blocks.BlocksAgain.{led_again}
 use Rattle.wt_text_edit_laws.specs.TextBlocks.{TextBlock, source_of}
-use Rattle.wt_text_edit_laws.specs.TextBetween.{AreEnded}
 use Rattle.wt_text_edit_laws.specs.BlockSpots.{BlockSpot, spots_source, EndBeforeBlocks, IsReadSpot, AreReadSpots, SameRound}
 use Rattle.std.specs.Str.{IsUtf8}
 use Rattle.wt_expand.specs.PageItems.{page_items}
@@ -53,10 +53,14 @@ anew_over pages (s ∷ ss) (r ∷ rs) h = (one h.2, anew_over pages ss rs h.3)
 spot_again : (pages : Pages) (s r : BlockSpot) → IsReadSpot s → r.before ≡ s.before → r.block ≡ s.block
     → (r.text ≡ s.text) ⊎ IsPartAnew pages r.block s.text r.text → IsReadSpot r
 spot_again pages s r h e k o = record {
-  ended = subst AreEnded (sym e) h.ended;
+  led = led_again s r h.led e k (still_unclosed o);
   before_utf8 = subst IsUtf8 (sym e) h.before_utf8;
   block = by_text (λ j q. IsReadContent j q) pages s r k o h.block (λ n. let a = n.read in a.read);
 }
+  where
+    still_unclosed : (r.text ≡ s.text) ⊎ IsPartAnew pages r.block s.text r.text → (r.text ≡ s.text) ⊎ BeginsUnclosed r.text
+    still_unclosed (inl same) = inl same
+    still_unclosed (inr n) = let a = n.read in let f = a.firm in inr f.unclosed
 
 after_again : (pages : Pages) (ss rs : List BlockSpot) (behind : List ℕ) → AreReadSpots ss behind → AreWrittenAnew pages ss rs → AreReadSpots rs behind
 after_again pages [] [] behind h t = h

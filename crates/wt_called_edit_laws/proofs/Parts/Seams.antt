@@ -1,5 +1,5 @@
 -- Where a block begins and ends in a page, its lexemes meet those of what is before it and behind it.
-use Rattle.std.proofs.Common.{arith, ◌≡◌, inl, ℕ, suc, ◌==◌, Bool, true, false, None, List, [], ◌∷◌, ◌++◌, refl, sym, ap, ◌∙◌, subst, append-nil}
+use Rattle.std.proofs.Common.{arith, ◌≡◌, inl, ℕ, suc, ◌==◌, Bool, true, false, None, List, [], ◌∷◌, ◌++◌, refl, sym, ap, ◌∙◌, subst, append-nil, inr}
 use Rattle.std.specs.Prelude.{if◌then◌else◌}
 use Rattle.std.proofs.lemmas.Bool.Decides.{nat_tests}
 use Rattle.wt_span.specs.declared.form.Mode.TheVariants.{Page}
@@ -10,18 +10,20 @@ use Rattle.wt_lex.proofs.Cuts.{cuts_cons}
 use Rattle.wt_typed_blocks.proofs.Forms.{other_byte}
 use Rattle.wt_expand.specs.PageItems.{page_items}
 use Rattle.wt_part_laws.specs.Lexer.{lexer}
-use Rattle.wt_part_laws.specs.Scans.{after_all}
+use Rattle.wt_part_laws.specs.Scans.{after_all, Settles}
 use Rattle.wt_part_laws.specs.Apart.{AreMet}
 use Rattle.wt_part_laws.proofs.MetWords.{words_meet}
 use Rattle.wt_text_edit_laws.specs.TextBlocks.{TextBlock, source_of, block_items}
 use Rattle.wt_text_edit_laws.specs.ReadContents.{IsReadContent}
+use Rattle.wt_text_edit_laws.specs.SignParts.{IsLedTo}
+use Rattle.wt_text_edit_laws.proofs.Cuts.LedCuts.{led_cut}
 use Rattle.wt_text_edit_laws.specs.BlockSpots.{BlockSpot, spots_source, EndBeforeBlocks, IsReadSpot, AreReadSpots}
 use Rattle.wt_text_edit_laws.proofs.Prose.Uncommented.{BeginsUncommented, either_flag}
 use Rattle.wt_text_edit_laws.proofs.Between.LineForms.{marks_settle}
 use Rattle.wt_text_edit_laws.proofs.Paragraphs.Texts.{EndsHere, here_begins}
-use Rattle.wt_text_edit_laws.proofs.Blocks.BlockReading.{ReadsShown, shown_items, spots_items, block_front, further_ends, further_reads}
+use Rattle.wt_text_edit_laws.proofs.Blocks.BlockReading.{ReadsShown, shown_items, spots_items, block_front, further_ends, further_reads, items_of_parts}
 use Rattle.wt_text_edit_laws.proofs.Cuts.Seen.{shown_cuts}
-use Rattle.wt_called_edit_laws.proofs.Parts.Uncrossed.{break_cut, part_settles}
+use Rattle.wt_text_edit_laws.proofs.Cuts.Uncrossed.{break_cut, part_settles}
 
 -- ---- a text before one that begins with no comment
 
@@ -64,12 +66,25 @@ block_met s ss behind h f b =
     ∙ sym (ap (λ (xs : List Item). xs ++ spots_items ss behind) (block_alone s.block s.text h.block)) in
     line_met own rest (spots_items ss behind) (further_ends ss behind f) items
 
+before_settles : (s : BlockSpot) (ss : List BlockSpot) (behind : List ℕ) → IsReadSpot s → AreReadSpots ss behind → EndBeforeBlocks (s ∷ ss) behind
+    → Settles (lexer Page) (source_of s.block s.text ++ spots_source ss behind) false 0 s.before
+before_settles s ss behind h f b = by h.led
+  where
+    rest : List ℕ
+    rest = source_of s.block s.text ++ spots_source ss behind
+
+    by : IsLedTo s.before s.block s.text → Settles (lexer Page) rest false 0 s.before
+    by (inl l) = let r = block_reads s ss behind h f b in marks_settle rest false 0 s.before r.shown l b.0
+    by (inr l) =
+        part_settles s.before rest (block_items s.block s.text ++ spots_items ss behind) (led_cut s (spots_source ss behind) l.0 l.1 (further_ends ss behind f))
+        (items_of_parts s ss behind h f b)
+
 pub before_met : (s : BlockSpot) (ss : List BlockSpot) (behind : List ℕ) → IsReadSpot s → AreReadSpots ss behind → EndBeforeBlocks (s ∷ ss) behind
     → AreMet (words Page s.before) (words Page (source_of s.block s.text ++ spots_source ss behind)) (words Page (spots_source (s ∷ ss) behind))
 before_met s ss behind h f b =
     let rest : List ℕ = source_of s.block s.text ++ spots_source ss behind in
     let r = block_reads s ss behind h f b in
-    words_meet Page s.before rest (marks_settle rest false 0 s.before r.shown h.ended b.0) (shown_cuts (after_all (lexer Page) false s.before) rest r.shown)
+    words_meet Page s.before rest (before_settles s ss behind h f b) (shown_cuts (after_all (lexer Page) false s.before) rest r.shown)
 
 -- ---- a text that is empty, or begins with a line break, begins with characters
 

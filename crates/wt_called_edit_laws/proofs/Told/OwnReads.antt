@@ -1,5 +1,5 @@
 -- Blocks at their places in a page that calls nothing: each is read so by itself, whatever is in it.
-use Rattle.std.proofs.Common.{◌≡◌, ℕ, Bool, false, None, List, [], ◌∷◌, ◌++◌, map, refl, sym, ap, ◌∙◌, subst}
+use Rattle.std.proofs.Common.{◌≡◌, ℕ, Bool, false, None, List, [], ◌∷◌, ◌++◌, map, refl, sym, ap, ◌∙◌, subst, inl}
 use Rattle.std.specs.Str.{IsUtf8}
 use Rattle.std.proofs.lemmas.List.{map-append}
 use Rattle.wt_span.specs.declared.form.Mode.TheVariants.{Page}
@@ -115,7 +115,7 @@ further_read last bs (s ∷ ss) behind zs e u calm closed h =
     let m = further_read s.block now ss behind h.0.rest r.rest_is r.rest_utf8 r.rest_calm closed.1 h.6 in
     record {
       read = (r.read, m.read);
-      cuts = (h.0, h.1, h.2, closed.0, m.cuts);
+      cuts = (h.0, inl h.1, h.2, closed.0, m.cuts);
       items = items_are s ss behind zs h.0 r m.items;
     }
 
@@ -134,6 +134,6 @@ page_read (s ∷ ss) behind u calm closed h =
     let m = further_read s.block now ss behind h.0.rest r.rest_is r.rest_utf8 r.rest_calm closed.1 h.4 in
     record {
       read = (r.read, m.read);
-      cuts = (h.0, h.1, closed.0, m.cuts);
+      cuts = (h.0, inl h.1, closed.0, m.cuts);
       items = items_are s ss behind zs h.0 r m.items;
     }

@@ -22,7 +22,7 @@ use Rattle.wt_text_edit_laws.proofs.Texts.TypedItems.{references}
 use Rattle.wt_beside_laws.specs.Kept.{is_lexeme_end}
 use Rattle.wt_beside_laws.proofs.Marks.InLine.{reference_ends}
 use Rattle.wt_called_edit_laws.specs.Written.{BeginsOutward, is_outward, EndsOutward, IsReadThing, AreReadThings}
-use Rattle.wt_called_edit_laws.proofs.Parts.Uncrossed.{BeginsOther, AreCut}
+use Rattle.wt_text_edit_laws.proofs.Cuts.Uncrossed.{BeginsOther, AreCut}
 
 -- ---- a typed character that isn't escaped
 

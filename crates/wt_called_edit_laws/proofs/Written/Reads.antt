@@ -142,4 +142,5 @@ called_firm s signs w h =
           read_items (spelled s signs ++ rest) (content_items s [] signs ++ page_items rest) (read rest b u)
           ∙ ap (λ (xs : List Item). xs ++ page_items rest) (sym (called_alone s signs w h));
       uncommented = λ rest b u. let r = read rest b u in let begins = r.begins in record { uncommented = begins.is };
+      unclosed = subst BeginsUnclosed (append-nil (spelled s signs)) (spelled_unclosed s [] signs [] h tt);
     }

@@ -42,7 +42,7 @@ use Rattle.wt_called_edit_laws.specs.Parts.{work_in}
 use Rattle.wt_called_edit_laws.specs.Written.{IsOwnPart, IsReadThing, AreReadThings, AreOwnParts, written_items, written_calls, written_work, IsWrittenAs}
 use Rattle.wt_called_edit_laws.proofs.MovedOuters.{same_calls}
 use Rattle.wt_called_edit_laws.proofs.Parts.Seams.{begins_same}
-use Rattle.wt_called_edit_laws.proofs.Parts.Uncrossed.{AreCut, part_settles}
+use Rattle.wt_text_edit_laws.proofs.Cuts.Uncrossed.{AreCut, part_settles}
 use Rattle.wt_called_edit_laws.proofs.Written.Ends.{plain_bracket, no_bracket, spelled_outward, spelled_unclosed, written_cut, nowiki_cut, source_cut, source_after, nowiki_after, written_after}
 use Rattle.wt_called_edit_laws.proofs.Written.Joined.{both_written, calm_written, calm_then}
 use Rattle.wt_called_edit_laws.proofs.Written.Levels.{Level, letter_level}

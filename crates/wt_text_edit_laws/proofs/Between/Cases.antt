@@ -1,5 +1,5 @@
 -- Worked cases of what may come before a text and after it, by computing.
-use Rattle.std.proofs.Common.{refl}
+use Rattle.std.proofs.Common.{inl, inr, refl}
 use Rattle.std.specs.Prelude.{[], codes}
 use Rattle.wt_span.specs.Comments.{comment_len, comment_line_len}
 use Rattle.wt_span.specs.Entities.{named_entity, entity_names, decimal_entity, hex_entity, entity_at}
@@ -7,6 +7,7 @@ use Rattle.wt_span.specs.Lexemes.{sign_word, form_at, closed, words}
 use Rattle.wt_span.specs.Tags.{tag_after, opening_tag, closing_tag, with_inside, is_extension, raw_len, include_at}
 use Rattle.wt_expand.specs.PageItems.{page_items}
 use Rattle.wt_text_edit_laws.specs.NoCalls.{CallsNothing}
+use Rattle.wt_text_edit_laws.specs.SignParts.{AreSigned}
 use Rattle.wt_text_edit_laws.specs.TextBetween.{AreWholeLines, HasEnds, HasEndsBefore, BeginsShown, StandsBefore, StandsBehind}
 
 -- ---- before a text
@@ -152,3 +153,23 @@ unpaired = tt
 paired : CallsNothing (page_items (codes "{{ a }}")) → ⊥
 unfolding page_items comment_len comment_line_len named_entity entity_names decimal_entity hex_entity entity_at sign_word form_at closed words tag_after opening_tag closing_tag with_inside is_extension raw_len include_at
 paired h = h
+
+-- ---- the sign of a table's end or a rule
+
+table_end : AreSigned (codes "{|\n|a\n\t|}")
+table_end = record {
+  front = codes "{|\n|a\n";
+  sign = codes "\t|}";
+  is = refl;
+  ended = refl;
+  is_sign = record { blanks = codes "\t"; own = codes "|}"; is = refl; are_blanks = (refl, tt); bare = inl refl };
+}
+
+rule : AreSigned (codes "<!-- c -->-----")
+rule = record {
+  front = codes "<!-- c -->";
+  sign = codes "-----";
+  is = refl;
+  ended = refl;
+  is_sign = record { blanks = []; own = codes "-----"; is = refl; are_blanks = tt; bare = inr (4, refl) };
+}

@@ -92,13 +92,13 @@ pub unclosed_behind : (name ys rest : List ℕ) → Unclosed name (ys ++ rest) �
 unclosed_behind name [] rest h = h
 unclosed_behind name (b ∷ ys) rest h = unclosed_behind name ys rest (unclosed_rest name b (ys ++ rest) h)
 
-unclosed_front : (name ys rest : List ℕ) → AreEnded ys → Unclosed name (ys ++ rest) → Unclosed name ys
+pub unclosed_front : (name ys rest : List ℕ) → AreEnded ys → Unclosed name (ys ++ rest) → Unclosed name ys
 unclosed_front name [] rest l h = refl
 unclosed_front name (b ∷ ys) rest l h =
     unclosed_more name b ys (ap (len_if_named name) (sym (closing_same b ys rest l)) ∙ unclosed_here name b (ys ++ rest) h)
     (unclosed_front name ys rest (ends_behind is_end b ys l) (unclosed_rest name b (ys ++ rest) h))
 
-unclosed_joined : (name ys rest : List ℕ) → AreEnded ys → Unclosed name ys → Unclosed name rest → Unclosed name (ys ++ rest)
+pub unclosed_joined : (name ys rest : List ℕ) → AreEnded ys → Unclosed name ys → Unclosed name rest → Unclosed name (ys ++ rest)
 unclosed_joined name [] rest l h g = g
 unclosed_joined name (b ∷ ys) rest l h g =
     unclosed_more name b (ys ++ rest) (ap (len_if_named name) (closing_same b ys rest l) ∙ unclosed_here name b ys h)
@@ -118,10 +118,20 @@ mapped_none : (f : ℕ → ℕ) (o : Option ℕ) → not (is_some (option_map f 
 mapped_none f None e = refl
 mapped_none f (Some n) e = absurd (cc)
 
-still_open : (t : Tag) (q rest other : List ℕ) → AreEnded q → t.len ≤ length q → ClosesNoMore rest other
+-- what is left of them, wherever it begins, closes no more where what follows closes no more
+abbrev pub KeepsClosings : List ℕ → Type 0
+KeepsClosings q = (n : ℕ) (name rest other : List ℕ) → Unclosed name (drop n q ++ rest) → Unclosed name other → Unclosed name (drop n q ++ other)
+
+pub ended_keeps : (q : List ℕ) → AreEnded q → KeepsClosings q
+ended_keeps q l = λ n name rest other. unclosed_other name (drop n q) rest other (ends_dropped is_end n q l)
+
+keeps_behind : (b : ℕ) (q : List ℕ) → KeepsClosings (b ∷ q) → KeepsClosings q
+keeps_behind b q k = λ n. k (suc n)
+
+still_open : (t : Tag) (q rest other : List ℕ) → KeepsClosings q → t.len ≤ length q → ClosesNoMore rest other
     → not (is_some (with_inside t (q ++ rest))) ≡ true → not (is_some (with_inside t (q ++ other))) ≡ true
 unfolding with_inside
-still_open t q rest other l le c = by t.alone
+still_open t q rest other k le c = by t.alone
   where
     own : List ℕ
     own = drop t.len q
@@ -130,7 +140,7 @@ still_open t q rest other l le c = by t.alone
     none_there e =
         let here : Unclosed t.name (own ++ rest) = sym (ap (to_closing t.name) (drop-append-le t.len q rest le)) ∙ e in
         ap (to_closing t.name) (drop-append-le t.len q other le)
-        ∙ unclosed_other t.name own rest other (ends_dropped is_end t.len q l) here (c t.name (unclosed_behind t.name own rest here))
+        ∙ k t.len t.name rest other here (c t.name (unclosed_behind t.name own rest here))
 
     by : (v : Bool) → not (is_some (if v then Some t.len else option_map (λ n. t.len + n) (to_closing t.name (drop t.len (q ++ rest))))) ≡ true
         → not (is_some (if v then Some t.len else option_map (λ n. t.len + n) (to_closing t.name (drop t.len (q ++ other))))) ≡ true
@@ -145,7 +155,7 @@ or_other true true n v w f e = refl
 or_other true false true v w f e = f e
 or_other true false false v w f e = e
 
-tag_other : (q rest other : List ℕ) (o : Option Tag) → opening_tag q ≡ o → AreEnded q → ClosesNoMore rest other → ends_tag_before rest o q ≡ true
+tag_other : (q rest other : List ℕ) (o : Option Tag) → opening_tag q ≡ o → KeepsClosings q → ClosesNoMore rest other → ends_tag_before rest o q ≡ true
     → ends_tag_before other o q ≡ true
 tag_other q rest other None e l c h = refl
 tag_other q rest other (Some t) e l c h =
@@ -158,17 +168,21 @@ and_both : (u v : Bool) → u ≡ true → v ≡ true → (u && v) ≡ true
 and_both true v e f = f
 and_both false v e f = e
 
-here_other : (q rest other : List ℕ) → AreEnded q → ClosesNoMore rest other → ends_before rest q ≡ true → ends_before other q ≡ true
+here_other : (q rest other : List ℕ) → KeepsClosings q → ClosesNoMore rest other → ends_before rest q ≡ true → ends_before other q ≡ true
 here_other q rest other l c h =
     let comment : ends_comment q ≡ true = and_left (ends_comment q) (ends_tag_before rest (opening_tag q) q) h in
     let tag : ends_tag_before rest (opening_tag q) q ≡ true = and_right (ends_comment q) (ends_tag_before rest (opening_tag q) q) h in
     and_both (ends_comment q) (ends_tag_before other (opening_tag q) q) comment (tag_other q rest other (opening_tag q) refl l c tag)
 
+pub ends_other_by : (rest other : List ℕ) (a : Bool) (n : ℕ) (q : List ℕ) → KeepsClosings q → ClosesNoMore rest other
+    → AtStarts (lexer Page) (λ after here. ends_before rest here ≡ true) a n q → AtStarts (lexer Page) (λ after here. ends_before other here ≡ true) a n q
+ends_other_by rest other a n [] l c h = h
+ends_other_by rest other a (suc n) (b ∷ q) l c h = ends_other_by rest other (is_break b) n q (keeps_behind b q l) c h
+ends_other_by rest other a zero (b ∷ q) l c h = (
+  here_other (b ∷ q) rest other l c h.0,
+  ends_other_by rest other (is_break b) (skipped_by (lexer Page) (form_at Page a (b ∷ q))) q (keeps_behind b q l) c h.1,
+)
+
 pub ends_other : (rest other : List ℕ) (a : Bool) (n : ℕ) (q : List ℕ) → AreEnded q → ClosesNoMore rest other
     → AtStarts (lexer Page) (λ after here. ends_before rest here ≡ true) a n q → AtStarts (lexer Page) (λ after here. ends_before other here ≡ true) a n q
-ends_other rest other a n [] l c h = h
-ends_other rest other a (suc n) (b ∷ q) l c h = ends_other rest other (is_break b) n q (ends_behind is_end b q l) c h
-ends_other rest other a zero (b ∷ q) l c h = (
-  here_other (b ∷ q) rest other l c h.0,
-  ends_other rest other (is_break b) (skipped_by (lexer Page) (form_at Page a (b ∷ q))) q (ends_behind is_end b q l) c h.1,
-)
+ends_other rest other a n q l c h = ends_other_by rest other a n q (ended_keeps q l) c h

@@ -40,7 +40,7 @@ lines_ended [] l = tt
 lines_ended (b ∷ []) l = break_ends b l
 lines_ended (b ∷ c ∷ q) l = lines_ended (c ∷ q) l
 
-begins_same : (w : List ℕ) (b : ℕ) (q rest : List ℕ) → unbroken_front w ≡ true → AreEnded (b ∷ q) → begins w ((b ∷ q) ++ rest) ≡ begins w (b ∷ q)
+pub begins_same : (w : List ℕ) (b : ℕ) (q rest : List ℕ) → unbroken_front w ≡ true → AreEnded (b ∷ q) → begins w ((b ∷ q) ++ rest) ≡ begins w (b ∷ q)
 begins_same w b q rest u l = by (begins w bs) refl
   where
     bs : List ℕ

@@ -163,7 +163,7 @@ include_word b q rest l h =
 
 -- ---- any lexeme
 
-within_lines : (a : Bool) (b : ℕ) (q rest : List ℕ) → AreEnded (b ∷ q) → ends_before rest (b ∷ q) ≡ true
+pub within_lines : (a : Bool) (b : ℕ) (q rest : List ℕ) → AreEnded (b ∷ q) → ends_before rest (b ∷ q) ≡ true
     → Within (length q) (comment_line_word a ((b ∷ q) ++ rest)) → Within (length q) (form_at Page a ((b ∷ q) ++ rest))
 unfolding form_at
 within_lines a b q rest l h line =
@@ -178,7 +178,7 @@ within_lines a b q rest l h line =
     (or_within k (include_at Page bs) _ (include_word b q rest l tag)
     (or_within k (entity_word (entity_at bs)) (sign_word bs) (entity_word_within k (entity_at bs) (entity_within k bs g)) (signs_within k bs g)))))
 
-front_of : (b : ℕ) (q : List ℕ) (o p : Option Word) → IsFrontOf (lexer Page) (b ∷ q) o p → Within (length q) o → o ≡ p
+pub front_of : (b : ℕ) (q : List ℕ) (o p : Option Word) → IsFrontOf (lexer Page) (b ∷ q) o p → Within (length q) o → o ≡ p
 front_of b q None p f h = sym f
 front_of b q (Some w) p f h = sym (f (omega (arith, h)))
 
@@ -220,7 +220,7 @@ get_behind (x ∷ xs) ys i =
     let f : suc (length xs) + i ≡ suc (length xs + i) = omega arith in
     ap (λ (j : ℕ). get_or (x ∷ (xs ++ ys)) j 0) f ∙ get_behind xs ys i
 
-no_line_by : (a : Bool) (bs : List ℕ) (n k : ℕ) → remarks_len 0 bs ≡ n → is_break (slice_index bs n) ≡ false → Within k (comment_line_word a bs)
+pub no_line_by : (a : Bool) (bs : List ℕ) (n k : ℕ) → remarks_len 0 bs ≡ n → is_break (slice_index bs n) ≡ false → Within k (comment_line_word a bs)
 unfolding comment_line_len
 no_line_by false bs n k e f = tt
 no_line_by true bs n k e f =

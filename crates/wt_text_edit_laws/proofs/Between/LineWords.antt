@@ -32,7 +32,7 @@ is_not : (v : Bool) → not v ≡ true → v ≡ false
 is_not true e = sym e
 is_not false e = refl
 
-none_at : (test : ℕ → Bool) (w : List ℕ) (k : ℕ) → lacks test w ≡ true → k < length w → test (get_or w k 0) ≡ false
+pub none_at : (test : ℕ → Bool) (w : List ℕ) (k : ℕ) → lacks test w ≡ true → k < length w → test (get_or w k 0) ≡ false
 none_at test [] k e h = absurd (omega arith)
 none_at test (x ∷ w) zero e h = is_not (test x) (and_left (not (test x)) (lacks test w) e)
 none_at test (x ∷ w) (suc k) e h = none_at test w k (and_right (not (test x)) (lacks test w) e) (omega (arith, h))

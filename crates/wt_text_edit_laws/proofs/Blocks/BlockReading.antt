@@ -1,6 +1,6 @@
 -- The items of a page with paragraphs and headings: those of its parts, each read as a page of its own; and it calls nothing.
 use Rattle.std.proofs.Common.{arith, refl, ◌≡◌, ◌≤◌, ℕ, zero, suc, Bool, true, false, List, [], ◌∷◌, ◌++◌, sym, ap, ◌∙◌, subst, append-nil, append_assoc, None, inl, inr}
-use Rattle.std.specs.Prelude.{◌==◌, ◌||◌, slice_index}
+use Rattle.std.specs.Prelude.{◌⊎◌, ◌==◌, ◌||◌, slice_index}
 use Rattle.std.proofs.lemmas.Bool.Decides.{nat_tests}
 use Rattle.std.proofs.lemmas.List.{map-append}
 use Rattle.wt_span.specs.declared.form.Mode.TheVariants.{Page}
@@ -20,15 +20,17 @@ use Rattle.wt_part_laws.specs.Scans.{after_all}
 use Rattle.wt_text_edit_laws.proofs.Prose.Uncommented.{BeginsUncommented, uncommented_other}
 use Rattle.wt_text_edit_laws.proofs.Prose.InFront.{Reads, reads_byte, reads_form, read_items}
 use Rattle.wt_text_edit_laws.specs.NoCalls.{CallsNothing}
+use Rattle.wt_text_edit_laws.specs.SignParts.{AreSigned, IsOnSign, IsLedTo}
 use Rattle.wt_text_edit_laws.specs.TextBetween.{AreEnded, HasEndsBefore, BeginsShown, StandsBehind, LineEnds}
 use Rattle.wt_text_edit_laws.proofs.Between.LineForms.{ends_before_any}
-use Rattle.wt_text_edit_laws.proofs.Between.Fronts.{ReadsAfter, reads_after, reads_either, first_from, form_from, page_read, alone_reads, before_reads, behind_reads}
+use Rattle.wt_text_edit_laws.proofs.Between.Fronts.{ReadsAfter, reads_either, first_from, form_from, page_read, alone_reads, before_reads, behind_reads}
 use Rattle.wt_text_edit_laws.proofs.Between.Shown.{shown_before, shown_reads}
 use Rattle.wt_text_edit_laws.proofs.Between.LineComments.{lines_ended}
 use Rattle.wt_text_edit_laws.proofs.Between.NoCalls.{calm_expanded, calm_unrefused}
 use Rattle.wt_text_edit_laws.proofs.Paragraphs.Texts.{EndsHere, here_begins, nothing_is, one_line, line_reads}
 use Rattle.wt_text_edit_laws.proofs.Paragraphs.SeenLines.{lines_seen}
 use Rattle.wt_text_edit_laws.proofs.Cuts.Seen.{shown_cuts, line_shown, seen_begins}
+use Rattle.wt_text_edit_laws.proofs.Blocks.SignReading.{signed_reads}
 use Rattle.wt_text_edit_laws.proofs.Texts.TypedItems.{ItemsOf, items_cut, items_are}
 use Rattle.wt_text_edit_laws.specs.TypedHeadings.{Sides, AreBlanks, AreSides, equals, opening, closing, closing_items, heading_line, EndsLine}
 use Rattle.wt_text_edit_laws.specs.TextBlocks.{TextBlock, a_paragraph, a_heading, source_of, block_items, IsFrame, IsTypedHeading, BeginsLine}
@@ -211,7 +213,7 @@ pub content_read : (k : TextBlock) (q : List ℕ) → IsContent k q → IsReadCo
 content_read k q h = record { utf8 = h.utf8; ended = h.ended; unended = h.unended; begins = content_begins_block k q h.is h.ended }
 
 pub firmly_read : (k : TextBlock) (q : List ℕ) → IsFirmContent k q → IsFirmlyRead q
-firmly_read k q h = record { firm = λ rest b u. h.firm rest b; uncommented = λ rest b u. h.uncommented rest b }
+firmly_read k q h = record { firm = λ rest b u. h.firm rest b; uncommented = λ rest b u. h.uncommented rest b; unclosed = h.unclosed }
 
 pub read_anew : (k : TextBlock) (was now : List ℕ) → IsNewContent k was now → IsReadAnew k was now
 read_anew k was now h = record { read = content_read k now h.firm.content; firm = firmly_read k now h.firm; closes = h.closes }
@@ -309,7 +311,7 @@ block_front k q rest xs h (inr l) e r = own_front k q rest xs h l e r
 -- ---- the parts
 
 pub read_spot : (s : BlockSpot) → IsRead s → IsReadSpot s
-read_spot s h = record { ended = h.ended; before_utf8 = h.before_utf8; block = content_read s.block s.text h.block }
+read_spot s h = record { led = h.led; before_utf8 = h.before_utf8; block = content_read s.block s.text h.block }
 
 pub read_spots : (ss : List BlockSpot) (behind : List ℕ) → AreReadAfter ss behind → AreReadSpots ss behind
 read_spots [] behind h = h
@@ -319,13 +321,26 @@ abbrev pub spots_items : List BlockSpot → List ℕ → List Item
 spots_items [] behind = page_items behind
 spots_items (s ∷ ss) behind = page_items s.before ++ (block_items s.block s.text ++ spots_items ss behind)
 
-in_front : (bs rest : List ℕ) (xs : List Item) → AreEnded bs → HasEndsBefore rest bs → ReadsShown rest xs → ReadsAfter false (bs ++ rest) (page_items bs ++ xs)
-in_front bs rest xs l h r = before_reads bs rest xs l h r.shown (record { items = r.items (after_all (lexer Page) false bs) })
+in_front : (bs rest : List ℕ) (xs : List Item) → AreEnded bs ⊎ (AreSigned bs × BeginsUnclosed rest) → HasEndsBefore rest bs → ReadsShown rest xs
+    → ReadsAfter false (bs ++ rest) (page_items bs ++ xs)
+in_front bs rest xs (inl l) h r = before_reads bs rest xs l h r.shown (record { items = r.items (after_all (lexer Page) false bs) })
+in_front bs rest xs (inr l) h r = signed_reads bs rest xs l.0 l.1 h (record { items = r.items false })
+
+-- a paragraph behind a sign, with what follows it
+on_sign : (k : TextBlock) (q rest : List ℕ) → IsOnSign k q → EndsHere rest → BeginsUnclosed (source_of k q ++ rest)
+on_sign a_paragraph [] rest h e = end_unclosed rest e
+on_sign a_paragraph (b ∷ q) rest h e = h
+on_sign (a_heading s) q rest h e = absurd h
+
+led_front : (s : BlockSpot) (rest : List ℕ) → IsLedTo s.before s.block s.text → EndsHere rest
+    → AreEnded s.before ⊎ (AreSigned s.before × BeginsUnclosed (source_of s.block s.text ++ rest))
+led_front s rest (inl l) e = inl l
+led_front s rest (inr l) e = inr (l.0, on_sign s.block s.text rest l.1 e)
 
 spot_reads : (s : BlockSpot) (rest : List ℕ) (xs : List Item) → IsReadSpot s → HasEndsBefore (source_of s.block s.text ++ rest) s.before → TextEnds s.block s.text rest → EndsHere rest → Reads rest xs
     → ReadsAfter false (s.before ++ (source_of s.block s.text ++ rest)) (page_items s.before ++ (block_items s.block s.text ++ xs))
 spot_reads s rest xs h b l e r =
-    in_front s.before (source_of s.block s.text ++ rest) (block_items s.block s.text ++ xs) h.ended b (block_front s.block s.text rest xs h.block l e r)
+    in_front s.before (source_of s.block s.text ++ rest) (block_items s.block s.text ++ xs) (led_front s rest h.led e) b (block_front s.block s.text rest xs h.block l e r)
 
 line_ends : (xs : List Item) → EndsLine xs → EndsHere (sources xs)
 line_ends [] e = tt

@@ -1,6 +1,6 @@
 -- Pages with typed paragraphs and headings: they are UTF-8, no tag is open where such a block begins, and with other typed texts they are such
 -- pages again.
-use Rattle.std.proofs.Common.{◌≡◌, ℕ, false, List, [], ◌∷◌, ◌++◌, refl, sym, subst}
+use Rattle.std.proofs.Common.{◌≡◌, ◌⊎◌, inl, inr, ℕ, false, List, [], ◌∷◌, ◌++◌, refl, sym, subst}
 use Rattle.std.specs.Str.{IsUtf8}
 use Rattle.std.proofs.lemmas.Str.{IsUtf8-append, IsUtf8-nil}
 use Rattle.wt_isolation.specs.OpenTags.{ends_open}
@@ -12,8 +12,10 @@ use Rattle.wt_text_edit_laws.specs.TypedHeadings.{equals, opening, closing}
 use Rattle.wt_text_edit_laws.specs.TextBlocks.{TextBlock, a_paragraph, a_heading, source_of, IsBlock, BeginsLine, BeginsBetween}
 use Rattle.wt_text_edit_laws.specs.BlockSpots.{BlockSpot, spots_source, IsBlockSpot, AreFurtherBlocks, AsAWhole, AreBlockSpots, IsRead, AreReadAfter, AreRead, SameRound, AreBlocks, AreContents}
 use Rattle.wt_text_edit_laws.specs.Contents.{IsContent}
-use Rattle.wt_text_edit_laws.specs.ReadContents.{IsReadContent}
-use Rattle.wt_text_edit_laws.proofs.Blocks.BlockReading.{AreQuiet, run_quiet, blanks_quiet, opening_quiet, each_quiet, HasFrame, content_frame, read_frame}
+use Rattle.wt_text_edit_laws.specs.ReadContents.{BeginsUnclosed, IsReadContent}
+use Rattle.wt_text_edit_laws.specs.SignParts.{AreSigned, IsOnSign, IsLedTo}
+use Rattle.wt_text_edit_laws.proofs.Blocks.SignedParts.{signed_clear, signed_first}
+use Rattle.wt_text_edit_laws.proofs.Blocks.BlockReading.{AreQuiet, run_quiet, blanks_quiet, opening_quiet, each_quiet, HasFrame, content_frame, read_frame, begins_here}
 use Rattle.wt_text_edit_laws.proofs.Blocks.BlocksRead.{spots_read}
 
 -- ---- UTF-8
@@ -70,9 +72,14 @@ spots_utf8 ss behind h = read_utf8 ss behind (spots_read ss behind h)
 nothing_between : BeginsLine (page_items []) → ⊥
 nothing_between h = absurd (subst BeginsLine (read_items [] [] reads_nothing) h)
 
-clear_between : (front bs : List ℕ) → AreEnded bs → BeginsLine (page_items bs) → ends_open (front ++ bs) ≡ false
-clear_between front [] e h = absurd (nothing_between h)
-clear_between front (b ∷ bs) e h = clear_line front b bs e
+pub clear_between : (front bs : List ℕ) (k : TextBlock) (q : List ℕ) → IsLedTo bs k q → BeginsLine (page_items bs) → ends_open (front ++ bs) ≡ false
+clear_between front [] k q l h = absurd (nothing_between h)
+clear_between front (b ∷ bs) k q (inl l) h = clear_line front b bs l
+clear_between front (b ∷ bs) k q (inr l) h = signed_clear front b bs l.0 (begins_here (b ∷ bs) h)
+
+pub clear_start : (bs : List ℕ) (k : TextBlock) (q : List ℕ) → IsLedTo bs k q → ends_open bs ≡ false
+clear_start bs k q (inl l) = clear_first bs l
+clear_start bs k q (inr l) = signed_first bs l.0
 
 -- behind this front
 abbrev pub AreClear : List ℕ → List BlockSpot → Type 0
@@ -82,33 +89,49 @@ AreClear front (s ∷ ss) = (ends_open (front ++ s.before) ≡ false) × AreClea
 further_clear : (front : List ℕ) (ss : List BlockSpot) (behind : List ℕ) → AreReadAfter ss behind → AreClear front ss
 further_clear front [] behind h = tt
 further_clear front (s ∷ ss) behind h =
-    (clear_between front s.before h.0.ended h.1, further_clear ((front ++ s.before) ++ source_of s.block s.text) ss behind h.2)
+    (clear_between front s.before s.block s.text h.0.led h.1, further_clear ((front ++ s.before) ++ source_of s.block s.text) ss behind h.2)
 
 pub read_clear : (ss : List BlockSpot) (behind : List ℕ) → AreRead ss behind → AreClear [] ss
 read_clear [] behind h = absurd h
-read_clear (s ∷ ss) behind h = (clear_first s.before h.0.ended, further_clear (s.before ++ source_of s.block s.text) ss behind h.1)
+read_clear (s ∷ ss) behind h = (clear_start s.before s.block s.text h.0.led, further_clear (s.before ++ source_of s.block s.text) ss behind h.1)
 
 pub spots_clear : (ss : List BlockSpot) (behind : List ℕ) → AreBlockSpots ss behind → AreClear [] ss
 spots_clear ss behind h = read_clear ss behind (spots_read ss behind h)
 
 -- ---- with other texts
 
-pub spot_read_again : (s r : BlockSpot) → IsRead s → r.before ≡ s.before → IsContent r.block r.text → IsRead r
-spot_read_again s r h e t = record { ended = subst AreEnded (sym e) h.ended; before_utf8 = subst IsUtf8 (sym e) h.before_utf8; block = t }
+-- each text is the one that was there, or begins with no `}`
+abbrev pub AreUnclosedOver : List BlockSpot → List BlockSpot → Type 0
+AreUnclosedOver [] rs = Unit {0}
+AreUnclosedOver (s ∷ ss) [] = Unit {0}
+AreUnclosedOver (s ∷ ss) (r ∷ rs) = ((r.text ≡ s.text) ⊎ BeginsUnclosed r.text) × AreUnclosedOver ss rs
 
-pub after_read_again : (ss rs : List BlockSpot) (behind : List ℕ) → AreReadAfter ss behind → SameRound ss rs → AreContents rs → AreReadAfter rs behind
-after_read_again [] [] behind h e t = h
-after_read_again [] (r ∷ rs) behind h e t = absurd e
-after_read_again (s ∷ ss) [] behind h e t = absurd e
-after_read_again (s ∷ ss) (r ∷ rs) behind h e t = (
-  spot_read_again s r h.0 e.0 t.0,
+pub sign_again : (k : TextBlock) (was now : List ℕ) → (now ≡ was) ⊎ BeginsUnclosed now → IsOnSign k was → IsOnSign k now
+sign_again k was now (inl e) h = subst (IsOnSign k) (sym e) h
+sign_again a_paragraph was now (inr u) h = u
+sign_again (a_heading s) was now (inr u) h = absurd h
+
+pub led_again : (s r : BlockSpot) → IsLedTo s.before s.block s.text → r.before ≡ s.before → r.block ≡ s.block → (r.text ≡ s.text) ⊎ BeginsUnclosed r.text
+    → IsLedTo r.before r.block r.text
+led_again s r (inl l) e k o = inl (subst AreEnded (sym e) l)
+led_again s r (inr l) e k o = inr (subst AreSigned (sym e) l.0, subst (λ (j : TextBlock). IsOnSign j r.text) (sym k) (sign_again s.block s.text r.text o l.1))
+
+pub spot_read_again : (s r : BlockSpot) → IsRead s → r.before ≡ s.before → r.block ≡ s.block → (r.text ≡ s.text) ⊎ BeginsUnclosed r.text → IsContent r.block r.text → IsRead r
+spot_read_again s r h e k o t = record { led = led_again s r h.led e k o; before_utf8 = subst IsUtf8 (sym e) h.before_utf8; block = t }
+
+pub after_read_again : (ss rs : List BlockSpot) (behind : List ℕ) → AreReadAfter ss behind → SameRound ss rs → AreUnclosedOver ss rs → AreContents rs → AreReadAfter rs behind
+after_read_again [] [] behind h e o t = h
+after_read_again [] (r ∷ rs) behind h e o t = absurd e
+after_read_again (s ∷ ss) [] behind h e o t = absurd e
+after_read_again (s ∷ ss) (r ∷ rs) behind h e o t = (
+  spot_read_again s r h.0 e.0 e.1 o.0 t.0,
   subst (λ bs. BeginsLine (page_items bs)) (sym e.0) h.1,
-  after_read_again ss rs behind h.2 e.2 t.1,
+  after_read_again ss rs behind h.2 e.2 o.1 t.1,
 )
 
-pub parts_read_again : (s r : BlockSpot) (ss rs : List BlockSpot) (behind : List ℕ) → AreRead (s ∷ ss) behind → SameRound (s ∷ ss) (r ∷ rs) → AreContents (r ∷ rs)
-    → IsRead r × AreReadAfter rs behind
-parts_read_again s r ss rs behind h e t = (spot_read_again s r h.0 e.0 t.0, after_read_again ss rs behind h.1 e.2 t.1)
+pub parts_read_again : (s r : BlockSpot) (ss rs : List BlockSpot) (behind : List ℕ) → AreRead (s ∷ ss) behind → SameRound (s ∷ ss) (r ∷ rs) → AreUnclosedOver (s ∷ ss) (r ∷ rs)
+    → AreContents (r ∷ rs) → IsRead r × AreReadAfter rs behind
+parts_read_again s r ss rs behind h e o t = (spot_read_again s r h.0 e.0 e.1 o.0 t.0, after_read_again ss rs behind h.1 e.2 o.1 t.1)
 
 abbrev same_spot : List ℕ → TextBlock → List ℕ → BlockSpot
 same_spot bs k q = record { before = bs; block = k; text = q }

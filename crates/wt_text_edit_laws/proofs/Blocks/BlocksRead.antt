@@ -1,5 +1,5 @@
 -- A page whose paragraphs and headings of one text, and the parts round them, stand by themselves is read by its parts.
-use Rattle.std.proofs.Common.{◌≡◌, ℕ, None, List, [], ◌∷◌}
+use Rattle.std.proofs.Common.{◌≡◌, inl, ℕ, None, List, [], ◌∷◌}
 use Rattle.wt_span.specs.Items.{Item}
 use Rattle.wt_expand.specs.PageCalls.{expanded_page}
 use Rattle.wt_expand.specs.PageItems.{page_items}
@@ -24,7 +24,7 @@ next_line a_paragraph next (y ∷ ys) e = e.0
 next_line (a_heading s) next xs e = e
 
 is_read : (s : BlockSpot) → IsBlockSpot s → IsRead s
-is_read s h = record { ended = h.ended; before_utf8 = h.before_utf8; block = block_content s.block s.text h.block }
+is_read s h = record { led = inl h.ended; before_utf8 = h.before_utf8; block = block_content s.block s.text h.block }
 
 pub further_read : (last : TextBlock) (ss : List BlockSpot) (behind : List ℕ) → AreFurtherBlocks last ss behind → AreReadAfter ss behind
 further_read last [] behind h = (h.stands, h.utf8, block_line last (page_items behind) h.ends)

@@ -31,12 +31,13 @@ use Rattle.wt_text_edit_laws.proofs.Prose.InFront.{Reads, reads_nothing, spelled
 use Rattle.wt_text_edit_laws.proofs.Prose.ProseReading.{page_front}
 use Rattle.wt_text_edit_laws.proofs.Between.ClosingTags.{Unclosed}
 use Rattle.wt_text_edit_laws.proofs.Between.Fronts.{behind_reads}
-use Rattle.wt_text_edit_laws.proofs.Between.LessBraces.{none_unbraced, page_unbraced}
+use Rattle.wt_text_edit_laws.proofs.Between.LessBraces.{none_unbraced, unbraced_begins, page_unbraced}
 use Rattle.wt_text_edit_laws.proofs.Paragraphs.LineBlocks.{page_breaks, all_unled, parts_source}
 use Rattle.wt_text_edit_laws.proofs.Paragraphs.SeenLines.{texts_seen}
 use Rattle.wt_text_edit_laws.proofs.Paragraphs.Texts.{EndsHere, paragraph_lines, paragraph_utf8, paragraph_written}
 use Rattle.wt_text_edit_laws.proofs.Headings.HeadingRows.{text_inside}
 use Rattle.wt_text_edit_laws.proofs.Blocks.BlockReading.{typed_text, IsBeforeAny, HasFrame, any_front, firmly_read}
+use Rattle.wt_text_edit_laws.proofs.Blocks.SignBraces.{items_unclosed}
 use Rattle.wt_text_edit_laws.proofs.Blocks.BlockLeaves.{open_items, close_items, block_leaves}
 use Rattle.wt_text_edit_laws.proofs.Blocks.BlockLines.{heading_frame, heading_level, heading_text}
 use Rattle.wt_text_edit_laws.proofs.Blocks.TypedBraces.{AreTypedOver, AreNewOver}
@@ -166,6 +167,7 @@ typed_firm k q h = record {
       stands (q ++ rest) r.begins;
   stays = typed_stays k q h;
   unpaired = none_unbraced (page_items q) (page_unbraced q (typed_page k q h));
+  unclosed = items_unclosed q (unbraced_begins (page_items q) (page_unbraced q (typed_page k q h)));
 }
 
 pub typed_firmly : (k : TextBlock) (q : List ℕ) → IsTypedIn k q → IsFirmlyRead q

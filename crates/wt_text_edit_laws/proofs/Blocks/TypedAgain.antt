@@ -6,12 +6,14 @@ use Rattle.wt_text_edit_laws.proofs.Paragraphs.Texts.{EndsHere}
 use Rattle.wt_text_edit_laws.specs.TypedHeadings.{Sides, opening, closing}
 use Rattle.wt_text_edit_laws.specs.TextBlocks.{TextBlock, a_paragraph, a_heading, source_of, IsFrame}
 use Rattle.wt_text_edit_laws.specs.Contents.{IsNewContent, TextEnds}
-use Rattle.wt_text_edit_laws.specs.ReadContents.{IsReadAnew}
+use Rattle.wt_text_edit_laws.specs.ReadContents.{BeginsUnclosed, IsReadAnew}
+use Rattle.wt_text_edit_laws.specs.SignParts.{IsLedTo}
 use Rattle.wt_text_edit_laws.specs.BlockSpots.{BlockSpot, spots_source, EndBeforeBlocks, AreBlockSpots, IsReadSpot, AreReadSpots, AreRead, SameRound, AreBlocks, AreContents}
 use Rattle.wt_text_edit_laws.proofs.Blocks.BlockReading.{AreQuiet, opening_quiet, each_quiet, read_anew, read_frame, read_spot, read_spots, BeginsHere, begins_here, further_ends}
 use Rattle.wt_text_edit_laws.proofs.Blocks.BlocksRead.{spots_read}
 use Rattle.wt_text_edit_laws.proofs.Blocks.Contents.{blocks_contents, over_new}
-use Rattle.wt_text_edit_laws.proofs.Blocks.BlocksAgain.{parts_read_again, parts_again}
+use Rattle.wt_text_edit_laws.proofs.Blocks.BlocksAgain.{AreUnclosedOver, parts_read_again, parts_again}
+use Rattle.wt_text_edit_laws.proofs.Blocks.SignedParts.{signed_unclosed, signed_ends}
 use Rattle.wt_text_edit_laws.proofs.Blocks.TypedBraces.{AreTypedOver, AreNewOver, still_calm}
 
 -- ---- the contents of the new page are those of the old one, or in their places
@@ -20,6 +22,15 @@ abbrev pub AreReadOver : List BlockSpot → List BlockSpot → Type 0
 AreReadOver [] rs = Unit {0}
 AreReadOver (s ∷ ss) [] = Unit {0}
 AreReadOver (s ∷ ss) (r ∷ rs) = ((r.text ≡ s.text) ⊎ IsReadAnew r.block s.text r.text) × AreReadOver ss rs
+
+new_unclosed : (ss rs : List BlockSpot) → AreNewOver ss rs → AreUnclosedOver ss rs
+new_unclosed [] rs o = tt
+new_unclosed (s ∷ ss) [] o = tt
+new_unclosed (s ∷ ss) (r ∷ rs) o = (one o.0, new_unclosed ss rs o.1)
+  where
+    one : (r.text ≡ s.text) ⊎ IsNewContent r.block s.text r.text → (r.text ≡ s.text) ⊎ BeginsUnclosed r.text
+    one (inl e) = inl e
+    one (inr n) = inr n.firm.unclosed
 
 pub read_over : (ss rs : List BlockSpot) → AreNewOver ss rs → AreReadOver ss rs
 read_over [] rs o = tt
@@ -122,12 +133,20 @@ block_no_more s r ss rs behind f k e o c = λ name u.
     text_unclosed r.block name s.text r.text (spots_source ss behind) (spots_source rs behind) o (both_end ss rs behind f k e.2) (c name)
     (subst (λ b. Unclosed name (source_of b s.text ++ spots_source ss behind)) (sym e.1) u)
 
+led_other : (name bs : List ℕ) (k : TextBlock) (q rest other : List ℕ) → IsLedTo bs k q → Unclosed name (bs ++ rest) → Unclosed name other → Unclosed name (bs ++ other)
+led_other name bs k q rest other (inl l) u g = unclosed_other name bs rest other l u g
+led_other name bs k q rest other (inr l) u g = signed_unclosed name bs rest other l.0 u g
+
+led_ends : (bs : List ℕ) (k : TextBlock) (q rest other : List ℕ) → IsLedTo bs k q → ClosesNoMore rest other → HasEndsBefore rest bs → HasEndsBefore other bs
+led_ends bs k q rest other (inl l) c e = ends_other rest other false 0 bs l c e
+led_ends bs k q rest other (inr l) c e = signed_ends rest other bs l.0 c e
+
 spot_no_more : (s r : BlockSpot) (ss rs : List BlockSpot) (behind : List ℕ) → IsReadSpot s → r.before ≡ s.before
     → ClosesNoMore (from_block s ss behind) (from_block r rs behind) → ClosesNoMore (spots_source (s ∷ ss) behind) (spots_source (r ∷ rs) behind)
 spot_no_more s r ss rs behind h e c = λ name u.
     let block : Unclosed name (from_block r rs behind) = c name (unclosed_behind name s.before (from_block s ss behind) u) in
     subst (λ bs. Unclosed name (bs ++ from_block r rs behind)) (sym e)
-    (unclosed_other name s.before (from_block s ss behind) (from_block r rs behind) h.ended u block)
+    (led_other name s.before s.block s.text (from_block s ss behind) (from_block r rs behind) h.led u block)
 
 further_no_more : (ss rs : List BlockSpot) (behind : List ℕ) → AreReadSpots ss behind → AreReadSpots rs behind
     → SameRound ss rs → AreReadOver ss rs → ClosesNoMore (spots_source ss behind) (spots_source rs behind)
@@ -166,7 +185,7 @@ pub spot_still_ends : (s r : BlockSpot) (ss rs : List BlockSpot) (behind : List 
 spot_still_ends s r ss rs behind h f k e o b rest =
     let c : ClosesNoMore (spots_source ss behind) (spots_source rs behind) = further_no_more ss rs behind f k e.2 o.1 in (
       subst (λ bs. HasEndsBefore (from_block r rs behind) bs) (sym e.0)
-          (ends_other (from_block s ss behind) (from_block r rs behind) false 0 s.before h.ended (block_no_more s r ss rs behind f k e o.0 c) b.0),
+          (led_ends s.before s.block s.text (from_block s ss behind) (from_block r rs behind) h.led (block_no_more s r ss rs behind f k e o.0 c) b.0),
       text_still_ends r.block s.text r.text (spots_source ss behind) (spots_source rs behind) o.0 (both_end ss rs behind f k e.2) c
           (subst (λ b. TextEnds b s.text (spots_source ss behind)) (sym e.1) b.1),
       rest,
@@ -184,7 +203,7 @@ pub read_again : (ss rs : List BlockSpot) (behind : List ℕ) → AreRead ss beh
 read_again [] rs behind h e t o = absurd h
 read_again (s ∷ ss) [] behind h e t o = absurd e
 read_again (s ∷ ss) (r ∷ rs) behind h e t o =
-    let p = parts_read_again s r ss rs behind h e t in
+    let p = parts_read_again s r ss rs behind h e (new_unclosed (s ∷ ss) (r ∷ rs) o) t in
     let was : AreReadSpots ss behind = read_spots ss behind h.1 in
     let now : AreReadSpots rs behind = read_spots rs behind p.1 in
     let over : AreReadOver (s ∷ ss) (r ∷ rs) = read_over (s ∷ ss) (r ∷ rs) o in

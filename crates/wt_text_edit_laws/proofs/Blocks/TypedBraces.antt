@@ -5,10 +5,14 @@ use Rattle.std.proofs.lemmas.Bool.{eqb-true}
 use Rattle.wt_span.specs.Items.{Item, char, whole, sign}
 use Rattle.wt_lines.specs.Kinds.{is_idle}
 use Rattle.wt_expand.specs.PageItems.{page_items}
+use Rattle.wt_expand.proofs.PageLaws.{page_sources}
 use Rattle.wt_text_edit_laws.specs.LonePages.{page_chars}
 use Rattle.wt_text_edit_laws.specs.NoCalls.{Brace, CallsNothing, AreUnpaired, is_brace, AreUnbraced}
 use Rattle.wt_text_edit_laws.proofs.Between.LineWords.{either}
 use Rattle.wt_text_edit_laws.proofs.Between.LessBraces.{IsSome, all_some, some_both, pairs_some, BeginsUnbraced, braces_of, items_behind_end, items_before_start, none_unbraced, unbraced_joined, unbraced_ends, unbraced_begins, ended_unbraced}
+use Rattle.wt_text_edit_laws.specs.ReadContents.{BeginsUnclosed}
+use Rattle.wt_text_edit_laws.specs.SignParts.{IsOnSign, IsLedTo}
+use Rattle.wt_text_edit_laws.proofs.Blocks.SignBraces.{FirstUnclosed, first_unclosed, signed_braces}
 use Rattle.wt_text_edit_laws.specs.TypedHeadings.{Sides, AreIdle, equals, opening, closing_items, EndsLine}
 use Rattle.wt_text_edit_laws.specs.TextBlocks.{TextBlock, a_paragraph, a_heading, block_items, IsFrame, IsTypedIn, BeginsLine}
 use Rattle.wt_text_edit_laws.specs.Contents.{IsFirmContent, IsNewContent}
@@ -92,12 +96,25 @@ line_apart : (xs : List Item) → EndsLine xs → BeginsUnbraced (map sign xs)
 line_apart [] e = tt
 line_apart (y ∷ ys) e = subst (λ z. is_brace (sign z) ≡ false) (sym e) refl
 
+line_unclosed : (xs : List Item) → EndsLine xs → FirstUnclosed (map sign xs)
+line_unclosed [] e = tt
+line_unclosed (y ∷ ys) e = subst (λ z. (sign z == 125) ≡ false) (sym e) refl
+
+block_unclosed : (k : TextBlock) (q : List ℕ) (rest : List Item) → IsOnSign k q → EndsLine rest → FirstUnclosed (map sign (block_items k q ++ rest))
+block_unclosed a_paragraph q rest h e = first_unclosed (page_items q) rest (subst BeginsUnclosed (sym (page_sources q)) h) (line_unclosed rest e)
+block_unclosed (a_heading s) q rest h e = absurd h
+
+pub led_braces : (s : BlockSpot) (rest : List Item) → IsLedTo s.before s.block s.text → EndsLine rest
+    → braces_of (page_items s.before ++ (block_items s.block s.text ++ rest)) ≡ braces_of (page_items s.before) ++ braces_of (block_items s.block s.text ++ rest)
+led_braces s rest (inl l) e = items_behind_end (page_items s.before) (block_items s.block s.text ++ rest) (ended_unbraced s.before l)
+led_braces s rest (inr l) e = signed_braces s.before (block_items s.block s.text ++ rest) l.0 (block_unclosed s.block s.text rest l.1 e)
+
 pub braces_split : (s : BlockSpot) (ss : List BlockSpot) (behind : List ℕ) → IsRead s → AreReadAfter ss behind
     → braces_of (spots_items (s ∷ ss) behind) ≡ braces_of (page_items s.before) ++ (braces_of (block_items s.block s.text) ++ braces_of (spots_items ss behind))
 braces_split s ss behind h f =
     let own : List Item = block_items s.block s.text in
     let rest : List Item = spots_items ss behind in
-    items_behind_end (page_items s.before) (own ++ rest) (ended_unbraced s.before h.ended)
+    led_braces s rest h.led (further_line ss behind f)
     ∙ ap (λ (bs : List Brace). braces_of (page_items s.before) ++ bs) (items_before_start own rest (line_apart rest (further_line ss behind f)))
 
 -- one block more

@@ -1,14 +1,17 @@
 -- A page is UTF-8, and so is each part of it, where it is cut at a block.
-use Rattle.std.proofs.Common.{arith, ◌≡◌, ◌≢◌, inl, inr, ℕ, zero, suc, ◌<◌, ◌≤◌, ◌==◌, true, List, [], ◌∷◌, ◌++◌, refl, sym, ap, subst, append_assoc, append-nil}
+use Rattle.std.proofs.Common.{arith, ◌≡◌, ◌≢◌, inl, inr, ℕ, zero, suc, ◌<◌, ◌≤◌, ◌==◌, Bool, true, List, [], ◌∷◌, ◌++◌, refl, sym, ap, subst, append_assoc, append-nil}
+use Rattle.std.specs.Prelude.{◌||◌}
 use Rattle.std.specs.Str.{IsUtf8}
 use Rattle.std.proofs.lemmas.Bool.{eqb-true}
 use Rattle.std.proofs.lemmas.Str.{IsUtf8-append, IsUtf8-nil}
 use Rattle.wt_names.proofs.Utf8.{utf8_around}
 use Rattle.wt_text_edit_laws.specs.PageCuts.{EndsThere}
-use Rattle.wt_text_edit_laws.specs.TextBetween.{is_end, AreEnded}
-use Rattle.wt_text_edit_laws.specs.TextBlocks.{a_heading, source_of}
+use Rattle.wt_text_edit_laws.specs.SignParts.{IsLedTo}
+use Rattle.wt_text_edit_laws.specs.TextBetween.{EndsBy, is_end, AreEnded}
+use Rattle.wt_text_edit_laws.specs.TextBlocks.{TextBlock, a_heading, source_of}
 use Rattle.wt_text_edit_laws.specs.TypedHeadings.{Sides, AreBlanks, equals, opening, closing}
 use Rattle.wt_text_edit_laws.proofs.Between.LineWords.{either}
+use Rattle.wt_text_edit_laws.proofs.Blocks.SignBraces.{signed_by}
 use Rattle.wt_text_edit_laws.proofs.Blocks.BlockReading.{AreQuiet, quiet_joined, run_quiet, blanks_quiet, each_quiet}
 
 -- ---- behind a line break, a comment or a tag
@@ -54,6 +57,42 @@ ended_utf8 (b ∷ bs) rest e u =
     let l = last_of b bs e in
     let both = behind_low l.front l.end rest l.ends (subst (λ (xs : List ℕ). IsUtf8 (xs ++ rest)) l.is u) in
     (subst IsUtf8 (sym l.is) both.0, both.1)
+
+-- ---- behind the sign of a table's end or a rule
+
+brace_utf8 : IsUtf8 (125 ∷ [])
+unfolding lib.Utf8.encode
+brace_utf8 = (125 ∷ [], (refl, refl))
+
+hyphen_utf8 : IsUtf8 (45 ∷ [])
+unfolding lib.Utf8.encode
+hyphen_utf8 = (45 ∷ [], (refl, refl))
+
+abbrev is_sign_end : ℕ → Bool
+is_sign_end b = b == 125 || b == 45
+
+sign_low : (b : ℕ) → is_sign_end b ≡ true → Low b
+sign_low b e = elim (either (b == 125) (b == 45) e) [
+  | inl f ↦ subst Low (sym (eqb-true b 125 f)) (record { low = omega arith; utf8 = brace_utf8 })
+  | inr f ↦ subst Low (sym (eqb-true b 45 f)) (record { low = omega arith; utf8 = hyphen_utf8 })
+]
+
+last_sign : (b : ℕ) (bs : List ℕ) → EndsBy is_sign_end (b ∷ bs) → Last (b ∷ bs)
+last_sign b [] e = record { front = []; end = b; is = refl; ends = sign_low b e }
+last_sign b (c ∷ cs) e =
+    let l = last_sign c cs e in
+    record { front = b ∷ l.front; end = l.end; is = ap (λ (xs : List ℕ). b ∷ xs) l.is; ends = l.ends }
+
+sign_utf8 : (bs rest : List ℕ) → EndsBy is_sign_end bs → IsUtf8 (bs ++ rest) → IsUtf8 bs × IsUtf8 rest
+sign_utf8 [] rest e u = (IsUtf8-nil, u)
+sign_utf8 (b ∷ bs) rest e u =
+    let l = last_sign b bs e in
+    let both = behind_low l.front l.end rest l.ends (subst (λ (xs : List ℕ). IsUtf8 (xs ++ rest)) l.is u) in
+    (subst IsUtf8 (sym l.is) both.0, both.1)
+
+pub led_utf8 : (bs : List ℕ) (k : TextBlock) (q rest : List ℕ) → IsLedTo bs k q → IsUtf8 (bs ++ rest) → IsUtf8 bs × IsUtf8 rest
+led_utf8 bs k q rest (inl l) u = ended_utf8 bs rest l u
+led_utf8 bs k q rest (inr l) u = sign_utf8 bs rest (signed_by is_sign_end refl refl bs l.0) u
 
 -- ---- before a line break, or at the page's end
 

@@ -10,7 +10,7 @@ use Rattle.wt_text_edit_laws.specs.TextBetween.{is_end, AreEnded}
 use Rattle.wt_text_edit_laws.proofs.Between.LineWords.{either}
 
 -- which it is
-end_is : (P : ℕ → Type 0) → P 10 → P 62 → (b : ℕ) → is_end b ≡ true → P b
+pub end_is : (P : ℕ → Type 0) → P 10 → P 62 → (b : ℕ) → is_end b ≡ true → P b
 end_is P p q b e = elim (either (b == 10) (b == 62) e) [
   | inl f ↦ subst P (sym (eqb-true b 10 f)) p
   | inr f ↦ subst P (sym (eqb-true b 62 f)) q
