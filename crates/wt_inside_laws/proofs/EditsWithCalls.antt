@@ -20,12 +20,15 @@ use Rattle.wt_visible.specs.SameNodes.{same_node}
 use Rattle.wt_commands.specs.Answers.{refusal_of_page, done, remarked_of, edit_of, edit_to}
 use Rattle.wt_commands.specs.UnmarkedEdits.{DoneByEdit}
 use Rattle.wt_typed_blocks.specs.Edited.{Edits}
+use Rattle.wt_text_edit_laws.specs.Contents.{IsContent}
+use Rattle.wt_text_edit_laws.specs.NoCalls.{CallsNothing}
+use Rattle.wt_text_edit_laws.specs.TextBlocks.{TextBlock, a_paragraph, a_heading, block_items}
 use Rattle.wt_called_edit_laws.specs.AllTold.{IsOneOf as IsAnyOf}
 use Rattle.wt_called_edit_laws.specs.CallingBlocks.{IsContentIn, AreContentsInFolder}
 use Rattle.wt_called_edit_laws.specs.CallingContents.{TakesContentsIn}
 use Rattle.wt_called_edit_laws.specs.CallingTogether.{AreOnTold, TakeThere, AreOnLines}
 use Rattle.wt_called_edit_laws.specs.CallingTold.{IsExceptedByLines}
-use Rattle.wt_called_edit_laws.specs.EditableBlocks.{IsEditableContent, AreEditableContents}
+use Rattle.wt_called_edit_laws.specs.EditableBlocks.{HoldsCalls, IsEditableContent, AreEditableContents}
 use Rattle.wt_called_edit_laws.specs.Groups.{called_tree}
 use Rattle.wt_called_edit_laws.specs.LinedAmong.{spots_on, spots_of_lines, end_of_lines}
 use Rattle.wt_called_edit_laws.specs.LinedCalling.{IsLinedCalling}
@@ -33,10 +36,14 @@ use Rattle.wt_called_edit_laws.specs.PlacedLines.{LinedBlock, all_lines}
 use Rattle.wt_called_edit_laws.specs.ToldLines.{Told, lined}
 use Rattle.wt_called_edit_laws.proofs.AllTold.CallingTogether.{lines_together}
 use Rattle.wt_called_edit_laws.proofs.Cells.CallingFrames.{content_in}
+use Rattle.wt_called_edit_laws.proofs.Headings.Pieced.{pieced_heading, pieced_heading_holds}
+use Rattle.wt_called_edit_laws.proofs.Headings.TextAndCalls.{heading_pieced}
 use Rattle.wt_called_edit_laws.proofs.PageBody.{page_body}
+use Rattle.wt_called_edit_laws.proofs.Whole.Pieced.{pieced_content, pieced_holds}
+use Rattle.wt_called_edit_laws.proofs.Whole.TextAndCalls.{pieced}
 use Rattle.wt_inside_laws.specs.AsSent.{edits_of, paths_of, node_at, AreSomeOf}
 use Rattle.wt_inside_laws.specs.BesideEdits.{IsBesideBlock, IsBesideEdit}
-use Rattle.wt_inside_laws.specs.EditsWithCalls.{IsEditable, AreToldBlocks, MayHoldCalls, MarksBlocksWithCalls, IsEditWithCalls, IsDifferenceWithCalls}
+use Rattle.wt_inside_laws.specs.EditsWithCalls.{AreInTheirPieces, AreTextsAndCalls, IsEditable, AreToldBlocks, MayHoldCalls, MarksBlocksWithCalls, IsEditWithCalls, IsDifferenceWithCalls}
 use Rattle.wt_inside_laws.specs.LocalTextEdits.{IsLocalTextEdit}
 use Rattle.wt_inside_laws.specs.TextEdits.{IsRetyped}
 use Rattle.wt_inside_laws.specs.TypedBeside.{IsTypedIn}
@@ -92,6 +99,23 @@ lines_same (t ∷ ts) (b ∷ bs) behind o =
 contents_of : (pages : Pages) (b : LinedBlock) → IsEditable pages b → IsContentIn pages b.block b.text × IsEditableContent pages b.block b.text
 contents_of pages b (inl c) = (content_in pages b.block b.text c.0 c.1, inl c)
 contents_of pages b (inr h) = (h.0, inr h.1)
+
+-- blocks in pieces are editable, those of texts and calls alone among them
+pub pieces_editable : (pages : Pages) (b : LinedBlock) → AreInTheirPieces pages b.block b.text → IsEditable pages b
+pieces_editable pages b h = by b.block h
+  where
+    by : (k : TextBlock) → AreInTheirPieces pages k b.text
+        → (IsContent k b.text × CallsNothing (block_items k b.text)) ⊎ (IsContentIn pages k b.text × HoldsCalls pages k b.text)
+    by a_paragraph x = inr (pieced_content pages b.text x, pieced_holds pages b.text x)
+    by (a_heading s) x = inr (pieced_heading pages s b.text x, pieced_heading_holds pages s b.text x)
+
+pub calls_editable : (pages : Pages) (b : LinedBlock) → AreTextsAndCalls pages b.block b.text → IsEditable pages b
+calls_editable pages b h = by b.block h
+  where
+    by : (k : TextBlock) → AreTextsAndCalls pages k b.text
+        → (IsContent k b.text × CallsNothing (block_items k b.text)) ⊎ (IsContentIn pages k b.text × HoldsCalls pages k b.text)
+    by a_paragraph x = let p = pieced pages b.text x in inr (pieced_content pages b.text p, pieced_holds pages b.text p)
+    by (a_heading s) x = let p = heading_pieced pages s b.text x in inr (pieced_heading pages s b.text p, pieced_heading_holds pages s b.text p)
 
 all_contents : (pages : Pages) (calls : List OuterCall) (es : List Item) (bs : List LinedBlock) → AllByRecursion (IsEditable pages) bs
     → AreContentsInFolder pages (spots_on calls es bs) × AreEditableContents pages (spots_on calls es bs)
