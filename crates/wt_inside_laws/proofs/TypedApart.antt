@@ -1,5 +1,5 @@
 -- What is written for the marked blocks of a text edit makes nothing but what was typed.
-use Rattle.std.proofs.Common.{arith, ◌≡◌, ◌≤◌, ℕ, Option, Some, None, List, [], ◌∷◌, length, map, refl, sym, ap, ◌∙◌, subst, inl, inr}
+use Rattle.std.proofs.Common.{arith, ◌≡◌, ℕ, Option, Some, List, [], ◌∷◌, length, map, sym, ap, ◌∙◌, subst, inl, inr}
 use Rattle.std.specs.List.{AllByRecursion}
 use Rattle.wt_span.specs.Items.{Item}
 use Rattle.wt_tree.specs.Tree.{Tree, label}
