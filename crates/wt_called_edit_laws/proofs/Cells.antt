@@ -42,6 +42,7 @@ pub mod CallingFrames
 mod CallingCases
 pub mod SpotFrames
 pub mod ContentItems
+pub mod SignRows
 pub mod SpotRows
 pub mod SpotSlots
 pub mod SpotTrees
