@@ -16,9 +16,9 @@ use Rattle.wt_tiles.specs.Tags.{tag_at}
 use Rattle.wt_tiles.specs.Urls.{is_word}
 use Rattle.wt_beside_laws.specs.Cuts.{own_glyphs, ends_word}
 use Rattle.wt_beside_laws.specs.Nodes.{ClosesNone, IsOpenBy, IsLone, IsClosedBy}
-use Rattle.wt_beside_laws.specs.OpenTags.{is_open_tag, ends_in_tag, is_tagged, depth_by, depth_past, spine, GoesOn, NoneOnLine, NoneCloses, StaysOn, StayOnLines, EndOnLine, EndBehind, EndTags}
+use Rattle.wt_beside_laws.specs.OpenTags.{is_open_tag, ends_in_tag, is_tagged, spine, EndOnLine, EndBehind, EndTags}
 use Rattle.wt_beside_laws.specs.Stood.{line_glyphs, AreStood}
-use Rattle.wt_beside_laws.proofs.LinesOpen.{neither, here_same, past_letter, past_untagged}
+use Rattle.wt_beside_laws.proofs.LinesOpen.{depth_by, depth_past, GoesOn, NoneOnLine, NoneCloses, StaysOn, StayOnLines, neither, here_same, past_letter, past_untagged}
 use Rattle.wt_beside_laws.proofs.OpenTags.{read_open}
 use Rattle.wt_beside_laws.proofs.PageSigns.{AreUntagged}
 

@@ -24,11 +24,52 @@ use Rattle.wt_tiles.proofs.TagInsides.{no_tag}
 use Rattle.wt_beside_laws.specs.Cuts.{own_glyphs}
 use Rattle.wt_beside_laws.specs.Glyphs.{guard_glyphs, letter_glyphs, line_glyphs}
 use Rattle.wt_beside_laws.specs.Nodes.{ClosesNone, IsOpenBy, IsOpenBefore, AllStayOpen, KeepsOpen}
-use Rattle.wt_beside_laws.specs.OpenTags.{is_open_tag, ends_in_tag, is_tagged, depth_by, depth_past, spine, GoesOn, NoneOnLine, NoneCloses, StaysOn, StayOnLines}
+use Rattle.wt_beside_laws.specs.OpenTags.{is_open_tag, ends_in_tag, is_tagged, spine}
 use Rattle.wt_beside_laws.proofs.LineTiles.{tag_less, line_front}
 use Rattle.wt_beside_laws.proofs.OpenTags.{untagged_open}
 use Rattle.wt_beside_laws.proofs.PairTiles.{tag_whole}
 use Rattle.wt_beside_laws.proofs.TypedForms.{tag_none}
+
+-- ---- by the nodes alone, whatever is typed between them
+
+-- How many tags of the k-th name are open behind these items, where so many were before them; none can be, where one closes a tag before them.
+abbrev pub depth_by : DepthChange → ℕ → (ℕ → Option ℕ) → Option ℕ
+depth_by Up d rest = rest (suc d)
+depth_by Level d rest = rest d
+depth_by Down zero rest = None
+depth_by Down (suc d) rest = rest d
+
+abbrev pub depth_past : ℕ → ℕ → List Glyph → Option ℕ
+depth_past k d [] = Some d
+depth_past k d (g ∷ gs) = depth_by (tag_turn k (g ∷ gs)) d (λ e. depth_past k e gs)
+
+abbrev pub GoesOn : Option ℕ → (ℕ → Type 0) → Type 0
+GoesOn None P = ⊥
+GoesOn (Some d) P = P d
+
+-- None up to the end of the line closes a tag of the k-th name, where so many are open, and none ends in a tag that isn't ended.
+abbrev pub NoneOnLine : ℕ → ℕ → List (Option Thing) → Type 0
+NoneOnLine k d [] = Unit {0}
+NoneOnLine k d (None ∷ more) = Unit {0}
+NoneOnLine k d (Some t ∷ more) = (ends_in_tag (own_glyphs t) ≡ false) × GoesOn (depth_past k d (own_glyphs t)) (λ e. NoneOnLine k e more)
+
+abbrev pub NoneCloses : Name → TagShape → List (Option Thing) → Type 0
+NoneCloses (Paired m) Opening more = NoneOnLine (number m) 0 more
+NoneCloses (Paired m) Alone more = Unit {0}
+NoneCloses (Paired m) Closing more = Unit {0}
+NoneCloses Break shape more = Unit {0}
+NoneCloses Island shape more = Unit {0}
+
+-- of a tag that begins a node of so many items: it may be all of it
+abbrev pub StaysOn : Option Tag → ℕ → List (Option Thing) → Type 0
+StaysOn None n more = Unit {0}
+StaysOn (Some t) n more = t.len ≡ n → NoneCloses t.name t.shape more
+
+-- Each node that is a tag which opens a pair is closed by no node behind it on its line.
+abbrev pub StayOnLines : List (Option Thing) → Type 0
+StayOnLines [] = Unit {0}
+StayOnLines (None ∷ more) = StayOnLines more
+StayOnLines (Some t ∷ more) = StaysOn (tag_at (own_glyphs t)) (length (own_glyphs t)) more × StayOnLines more
 
 -- ---- past what is no tag
 

@@ -24,8 +24,9 @@ use Rattle.wt_beside_laws.specs.EndedNodes.{may_be_reference}
 use Rattle.wt_beside_laws.specs.Glyphs.{line_glyphs}
 use Rattle.wt_beside_laws.specs.NodeItems.{node_items}
 use Rattle.wt_beside_laws.specs.Nodes.{IsExternalNode, IsBareNode, IsSwitchNode, IsDelimiter, IsTagNode, IsOpenBefore, AllMeet}
-use Rattle.wt_beside_laws.specs.OpenTags.{ends_in_tag, depth_past}
+use Rattle.wt_beside_laws.specs.OpenTags.{ends_in_tag}
 use Rattle.wt_beside_laws.proofs.Firm.{firm_read}
+use Rattle.wt_beside_laws.proofs.LinesOpen.{depth_past}
 use Rattle.wt_beside_laws.proofs.NodeItems.{node_as}
 use Rattle.wt_beside_laws.proofs.OpenTags.{untagged_open}
 

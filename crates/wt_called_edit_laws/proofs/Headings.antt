@@ -7,5 +7,6 @@ pub mod FromPage
 pub mod Letters
 pub mod Pieced
 pub mod TextAndCalls
+pub mod CallsApart
 pub mod Cases
 mod PageCases

@@ -10,5 +10,6 @@ pub mod GroupsAlone
 pub mod Contents
 pub mod Pieced
 pub mod TextAndCalls
+pub mod CallsApart
 pub mod Uncalled
 pub mod Cases

@@ -1,5 +1,5 @@
 -- A paragraph or heading of the page, whoever wrote it, that holds calls: by its pieces, and by the lines of text that these give.
-use Rattle.std.specs.Prelude.{◌≡◌, ◌⊎◌, ℕ, ◌+◌, ◌==◌, Bool, true, false, Some, None, List, [], ◌∷◌, ◌++◌, map}
+use Rattle.std.specs.Prelude.{◌≡◌, ◌⊎◌, ℕ, ◌+◌, ◌<◌, ◌==◌, Bool, true, false, Some, None, List, [], ◌∷◌, ◌++◌, length, map, if◌then◌else◌}
 use Rattle.std.specs.List.{list_any}
 use Rattle.std.specs.Str.{IsUtf8}
 use Rattle.wt_tree.specs.Plain.{Plains}
@@ -91,6 +91,16 @@ pub record IsGroupCall (pages : Pages) (source : List ℕ) : Type 0 where
 abbrev pub AreTextsOrCalls : Pages → List (List ℕ) → Type 0
 AreTextsOrCalls pages [] = Unit {0}
 AreTextsOrCalls pages (b ∷ bs) = (((expanded_page pages b).outer ≡ []) ⊎ IsGroupCall pages b) × AreTextsOrCalls pages bs
+
+-- how long the text is that comes next; behind the last piece nothing does
+abbrev pub gap : Pages → List (List ℕ) → ℕ
+gap pages [] = 1
+gap pages (b ∷ bs) = if calls_in pages b == 0 then length b else 0
+
+-- a text is behind each call, or nothing
+abbrev pub AreCallsApart : Pages → List (List ℕ) → Type 0
+AreCallsApart pages [] = Unit {0}
+AreCallsApart pages (b ∷ bs) = ((calls_in pages b ≡ 0) ⊎ (0 < gap pages bs)) × AreCallsApart pages bs
 
 -- what a call gives, if it gives a node
 abbrev pub group_piece : ℕ → List ItemTree → List CallPiece

@@ -22,7 +22,7 @@ ghost use Rattle.wt_beside_laws.specs.Called.{HasUncalled};
 ghost use Rattle.wt_beside_laws.specs.Lines.{AreCharacters};
 ghost use Rattle.wt_beside_laws.specs.Stood.{things};
 ghost use Rattle.wt_called_edit_laws.specs.PageThings.{AllMeetLater, ArePageThings, ThingsStay, thing_sources};
-ghost use Rattle.wt_called_edit_laws.specs.PiecedParagraphs.{IsInPieces, IsHeadingInPieces, IsTextAndCalls, IsHeadingOfCalls};
+ghost use Rattle.wt_called_edit_laws.specs.PiecedParagraphs.{AreCallsApart, IsInPieces, IsHeadingInPieces, IsTextAndCalls, IsHeadingOfCalls};
 ghost use Rattle.wt_called_edit_laws.specs.PartTexts.{AreSourcesAt};
 ghost use Rattle.wt_called_edit_laws.specs.Settled.{settled};
 ghost use Rattle.wt_called_edit_laws.specs.WholeContents.{HoldsGroups};
@@ -78,13 +78,16 @@ pub fn headings_in_pieces_may_be_edited()
 {}
 
 /// Where a paragraph is texts and calls alone (`IsTextAndCalls`), it is such a one, and its node in the page's tree is one of which texts are typed beside
-/// the calls (`IsBesideCalls`), wherever it is and whatever calls come before it: a text for each text, and a group for each call. Where two calls are side by side, what they give must be such as may meet (`AllMeetLater`).
+/// the calls (`IsBesideCalls`), wherever it is and whatever calls come before it: a text for each text, and a group for each call. Where two calls are side by side, what they give must be such as may meet (`AllMeetLater`); it is so where a text is behind each call, or nothing (`AreCallsApart`).
 pub fn texts_and_calls_are_nodes_of_their_paragraph()
     ensures pieces { (pages : Pages) (q : List ℕ) → IsTextAndCalls pages q → IsInPieces pages q }
     ensures nodes { (pages : Pages) (q : List ℕ) (block : Tree) (n at i : ℕ) (calls : List OuterCall) → 0 < n
         → block ≡ settled n at (cut_texts (block_in calls (tree_round a_paragraph (part_items pages i q))))
         → AreSourcesAt calls i (expanded_page pages q).outer → IsTextAndCalls pages q → AllMeetLater pages (page_things block)
         → IsBesideCalls pages a_paragraph q block }
+    ensures apart { (pages : Pages) (q : List ℕ) (block : Tree) (n at i : ℕ) (calls : List OuterCall) → 0 < n
+        → block ≡ settled n at (cut_texts (block_in calls (tree_round a_paragraph (part_items pages i q))))
+        → (h : IsTextAndCalls pages q) → AreCallsApart pages h.pieces → AllMeetLater pages (page_things block) }
 {}
 
 /// And where a heading is texts and such calls (`IsHeadingOfCalls`), so is its node, by the calls of the whole heading.
@@ -94,4 +97,7 @@ pub fn texts_and_calls_are_nodes_of_their_heading()
         → block ≡ settled n at (cut_texts (block_in calls (tree_round (a_heading s) (part_items pages i q))))
         → AreSourcesAt calls i (expanded_page pages (source_of (a_heading s) q)).outer → IsHeadingOfCalls pages s q
         → AllMeetLater pages (page_things block) → IsBesideCalls pages (a_heading s) q block }
+    ensures apart { (pages : Pages) (s : Sides) (q : List ℕ) (block : Tree) (n at i : ℕ) (calls : List OuterCall) → 0 < n
+        → block ≡ settled n at (cut_texts (block_in calls (tree_round (a_heading s) (part_items pages i q))))
+        → (h : IsHeadingOfCalls pages s q) → AreCallsApart pages h.pieces → AllMeetLater pages (page_things block) }
 {}

@@ -33,6 +33,7 @@ pub mod ReadKinds
 pub mod ReadRecuts
 pub mod ReadNodes
 pub mod ReadSent
+pub mod Remarked
 pub mod SlotTexts
 pub mod OwnPieces
 pub mod SlotsLed
@@ -55,11 +56,12 @@ pub mod HtmlEdits
 pub mod OrdinaryEdits
 pub mod NothingMoved
 pub mod LocalTextEdits
-pub mod OneBlock
+pub mod EditsWithCalls
 pub mod TypedApart
 pub mod InsidesCases
 pub mod PageCases
 pub mod LocalCases
 pub mod EditCases
+pub mod CallingCases
 pub mod Sources
 pub mod Meeting

@@ -1,6 +1,7 @@
 -- Text edits are local, of ordinary blocks and beside calls.
-use Rattle.std.proofs.Common.{◌≡◌, ℕ, Option, None, List, sym, ap, ◌∙◌, subst}
+use Rattle.std.proofs.Common.{◌≡◌, ◌≤◌, ℕ, Option, None, List, [], length, sym, ap, ◌∙◌, subst}
 use Rattle.std.specs.Str.{IsUtf8}
+use Rattle.wt_span.specs.declared.limits.TheConstants.{PAGE_BYTES}
 use Rattle.wt_span.specs.Items.{Item}
 use Rattle.wt_tree.specs.Tree.{Tree}
 use Rattle.wt_expand.specs.Work.{Pages}
@@ -83,6 +84,13 @@ nothing_stays pages page new b s n =
       };
       alike = subst (λ (bs : List ℕ). ExpandsAlike pages page bs) (sym same) (still_alike pages page);
     }
+
+pub nothing_local : (pages : Pages) (page : List ℕ) (new : Tree) → IsUtf8 page → length page ≤ PAGE_BYTES → refusal_of_page pages page ≡ None
+    → IsSentOn pages page new (edits_of (called_tree pages page) new) → marked (page_tree pages page) new ≡ [] → IsLocalTextEdit pages page new
+nothing_local pages page new utf8 short unrefused sent none =
+    let s : Stays pages page new =
+    nothing_stays pages page new (page_body pages page utf8 unrefused) sent (nothing_done pages page new utf8 short unrefused sent none) in
+    s.local
 
 ordinary_stays : (pages : Pages) (page input : List ℕ) (new : Tree) (u : Option ℕ) → IsOrdinaryEdit pages page input new u → Stays pages page new
 ordinary_stays pages page input new u h =

@@ -32,8 +32,8 @@ use Rattle.wt_beside_laws.specs.SentPieces.{IsNodeForm}
 use Rattle.wt_beside_laws.specs.SentStyled.{found_then, sent_by, sent_before, sent_content, NestsBy, AllNest, ShowsBy, AllShow}
 use Rattle.wt_beside_laws.specs.Styled.{StyledContent, signs_in}
 use Rattle.wt_beside_laws.specs.StyledIn.{IsStyledIn, IsStyledEditOf}
-use Rattle.wt_beside_laws.specs.OpenTags.{spine, StayOnLines, EndTags}
-use Rattle.wt_beside_laws.proofs.LinesOpen.{lines_keep}
+use Rattle.wt_beside_laws.specs.OpenTags.{spine, EndTags}
+use Rattle.wt_beside_laws.proofs.LinesOpen.{StayOnLines, lines_keep}
 use Rattle.wt_beside_laws.proofs.Made.OldBlocks.{IsIn, block_kind, no_group}
 use Rattle.wt_beside_laws.proofs.Styled.LedLines.{own_led}
 use Rattle.wt_beside_laws.specs.OwnLed.{begin_marked}

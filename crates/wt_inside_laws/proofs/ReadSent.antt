@@ -301,37 +301,52 @@ record AreKnown (t new : Tree) : Type 0 where
   tree_read : ReadTree new
   keeps : Kept false t new
 
-known : (pages : Pages) (page input : List ℕ) (new : Tree) (u : Option ℕ) → IsUtf8 page → length page ≤ PAGE_BYTES → refusal_of_page pages page ≡ None
-    → read input ≡ as_page new u → checked false (page_tree pages page) new ≡ None → AreKnown (page_tree pages page) new
-known pages page input new u utf8 le r e c =
+-- of a tree that is as what is read
+known : (pages : Pages) (page : List ℕ) (new : Tree) → IsUtf8 page → length page ≤ PAGE_BYTES → refusal_of_page pages page ≡ None
+    → IsOneBody new → ReadTree new → checked false (page_tree pages page) new ≡ None → AreKnown (page_tree pages page) new
+known pages page new utf8 le r one h c =
     let t : Tree = page_tree pages page in
     let plain = page_plain pages page utf8 le r in
-    let one : IsOneBody new = read_is_one_body input new u e in
     record {
       plain = plain;
-      tree_read = root_read new one.root (read_body input new u e);
+      tree_read = h;
       keeps = kept false t new (sym (root_kind t) ∙ body_is (label (without_sections t)).kind plain.one.root) plain.numbered c;
     }
 
-pub read_for : (pages : Pages) (page input : List ℕ) (new : Tree) (u : Option ℕ) → IsUtf8 page → length page ≤ PAGE_BYTES → refusal_of_page pages page ≡ None
-    → read input ≡ as_page new u → checked false (page_tree pages page) new ≡ None → IsReadFor (page_tree pages page) new
-read_for pages page input new u utf8 le r e c =
+pub tree_for : (pages : Pages) (page : List ℕ) (new : Tree) → IsUtf8 page → length page ≤ PAGE_BYTES → refusal_of_page pages page ≡ None
+    → IsOneBody new → ReadTree new → checked false (page_tree pages page) new ≡ None → IsReadFor (page_tree pages page) new
+tree_for pages page new utf8 le r one h c =
     let t : Tree = page_tree pages page in
-    let k = known pages page input new u utf8 le r e c in
+    let k = known pages page new utf8 le r one h c in
     let written = page_written pages page utf8 (omega (arith, le)) r in
     let open_root : is_group (label t).kind ≡ false = sym (ap is_group (root_kind t)) ∙ body_no_group (label (without_sections t)).kind k.plain.one.root in
     record {
-      one = read_is_one_body input new u e;
+      one = one;
       read = each_read 0 false new k.tree_read;
       no_more =
           no_more_at t (places new) (page_places t written (page_groups t k.plain) open_root) k.keeps.groups k.keeps.nodes (each_tree 0 false new k.tree_read);
     }
+
+pub tree_blocks : (same : Tree → Tree → Bool) (items : Expanded) (bytes : List ℕ) (pages : Pages) (page : List ℕ) (new : Tree) → IsUtf8 page
+    → length page ≤ PAGE_BYTES → refusal_of_page pages page ≡ None → IsOneBody new → ReadTree new → checked false (page_tree pages page) new ≡ None
+    → AllByRecursion (IsRetyped same items bytes) (marked (page_tree pages page) new)
+    → AllByRecursion (λ p. AreRead (children_of p.new) × AreUtf8 (children_of p.new)) (marked (page_tree pages page) new)
+tree_blocks same items bytes pages page new utf8 le r one h c b =
+    let t : Tree = page_tree pages page in
+    let k = known pages page new utf8 le r one h c in
+    pairs_sent same items bytes t (places new) (each_tree 0 false new k.tree_read) k.keeps.nodes k.keeps.marks b
+
+-- what is read
+pub tree_read : (input : List ℕ) (new : Tree) (u : Option ℕ) → read input ≡ as_page new u → ReadTree new
+tree_read input new u e = let one : IsOneBody new = read_is_one_body input new u e in root_read new one.root (read_body input new u e)
+
+pub read_for : (pages : Pages) (page input : List ℕ) (new : Tree) (u : Option ℕ) → IsUtf8 page → length page ≤ PAGE_BYTES → refusal_of_page pages page ≡ None
+    → read input ≡ as_page new u → checked false (page_tree pages page) new ≡ None → IsReadFor (page_tree pages page) new
+read_for pages page input new u utf8 le r e c = tree_for pages page new utf8 le r (read_is_one_body input new u e) (tree_read input new u e) c
 
 pub read_blocks : (same : Tree → Tree → Bool) (items : Expanded) (bytes : List ℕ) (pages : Pages) (page input : List ℕ) (new : Tree) (u : Option ℕ) → IsUtf8 page
     → length page ≤ PAGE_BYTES → refusal_of_page pages page ≡ None → read input ≡ as_page new u → checked false (page_tree pages page) new ≡ None
     → AllByRecursion (IsRetyped same items bytes) (marked (page_tree pages page) new)
     → AllByRecursion (λ p. AreRead (children_of p.new) × AreUtf8 (children_of p.new)) (marked (page_tree pages page) new)
 read_blocks same items bytes pages page input new u utf8 le r e c b =
-    let t : Tree = page_tree pages page in
-    let k = known pages page input new u utf8 le r e c in
-    pairs_sent same items bytes t (places new) (each_tree 0 false new k.tree_read) k.keeps.nodes k.keeps.marks b
+    tree_blocks same items bytes pages page new utf8 le r (read_is_one_body input new u e) (tree_read input new u e) c b

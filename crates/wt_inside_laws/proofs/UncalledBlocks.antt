@@ -17,8 +17,6 @@ use Rattle.wt_commands.specs.Answers.{refusal_of_page}
 use Rattle.wt_text_edit_laws.specs.TextBlocks.{TextBlock, a_paragraph, a_heading}
 use Rattle.wt_called_edit_laws.specs.Groups.{called_tree}
 use Rattle.wt_called_edit_laws.specs.Uncalled.{SomeNoGroup}
-use Rattle.wt_called_edit_laws.specs.WholeContents.{IsWholeIn}
-use Rattle.wt_called_edit_laws.specs.WrittenAnew.{HoldsAnywhere}
 use Rattle.wt_called_edit_laws.proofs.Whole.Uncalled.{whole_uncalled}
 use Rattle.wt_inside_laws.specs.AsSent.{node_at}
 use Rattle.wt_inside_laws.specs.BesideEdits.{IsBlockOf}

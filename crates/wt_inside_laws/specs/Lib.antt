@@ -15,7 +15,7 @@ pub mod SameBut
 pub mod ToldEdits
 pub mod HtmlEdits
 pub mod BesideEdits
+pub mod EditsWithCalls
 pub mod TextAndCallBlocks
-pub mod OneBlock
 pub mod LocalTextEdits
 pub mod TypedApart

@@ -12,7 +12,7 @@ use Rattle.wt_page_round_trip.specs.PageTree.{page_tree}
 use Rattle.wt_schema.specs.Read.{page as as_page, read}
 use Rattle.wt_slices.specs.Changes.{Pair, marked}
 use Rattle.wt_visible.specs.SameNodes.{same_node}
-use Rattle.wt_commands.specs.Answers.{refusal_of_page}
+use Rattle.wt_commands.specs.Answers.{refusal_of_page, remarked_of}
 use Rattle.wt_text_edit_laws.specs.TextBlocks.{TextBlock, block_tree}
 use Rattle.wt_beside_laws.specs.EndedNodes.{AreEndedNodes}
 use Rattle.wt_beside_laws.specs.FlatBlocks.{signs_in}
@@ -67,3 +67,12 @@ pub record IsOrdinaryEdit (pages : Pages) (page input : List ℕ) (new : Tree) (
   pub sent : read input ≡ as_page new unsourced
   pub edit : IsTextEdit same_node (expanded_page pages page) page (page_tree pages page) new
   pub blocks : AllByRecursion (IsOrdinaryOn pages page) (marked (page_tree pages page) new)
+
+-- HTML without marks: with the marks of its difference from the page (`remarked_of`) it is such an edit.
+pub record IsOrdinaryDifference (pages : Pages) (page input : List ℕ) (new : Tree) (unsourced : Option ℕ) : Type 0 where
+  pub utf8 : IsUtf8 page
+  pub short : length page ≤ PAGE_BYTES
+  pub unrefused : refusal_of_page pages page ≡ None
+  pub sent : read input ≡ as_page new unsourced
+  pub edit : IsTextEdit same_node (expanded_page pages page) page (page_tree pages page) (remarked_of pages page new)
+  pub blocks : AllByRecursion (IsOrdinaryOn pages page) (marked (page_tree pages page) (remarked_of pages page new))

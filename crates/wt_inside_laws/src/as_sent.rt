@@ -20,7 +20,8 @@ ghost use Rattle.wt_visible.specs.SameNodes.{same_node};
 ghost use Rattle.wt_slices.specs.BodySlices.{slices};
 ghost use Rattle.wt_slices.specs.Changes.{marked, AllStay};
 ghost use Rattle.wt_splice.specs.Splice.{spliced};
-ghost use Rattle.wt_commands.specs.Answers.{refusal_of_page, done, edit_of, edit_to};
+ghost use Rattle.wt_commands.specs.Answers.{refusal_of_page, done, remarked_of, edit_of, edit_to};
+ghost use Rattle.wt_commands.specs.UnmarkedEdits.{DoneByEdit};
 ghost use Rattle.wt_called_edit_laws.specs.CallingContents.{TakesContentsIn};
 ghost use Rattle.wt_called_edit_laws.specs.ContentsTaken.{TakesContents};
 ghost use Rattle.wt_called_edit_laws.specs.Groups.{called_tree};
@@ -29,12 +30,12 @@ ghost use Rattle.wt_called_edit_laws.specs.LinedCalling.{IsLinedCalling};
 ghost use Rattle.wt_called_edit_laws.specs.PlacedLines.{LinedBlock};
 ghost use Rattle.wt_inside_laws.specs.AsSent.{edits_of, IsPlainPage, IsReadFor, IsAlike, IsAsSent, IsSentOn};
 ghost use Rattle.wt_inside_laws.specs.BesideEdits.{IsBesideEdit, IsBesideHtml};
+ghost use Rattle.wt_inside_laws.specs.EditsWithCalls.{IsEditWithCalls, IsDifferenceWithCalls};
 ghost use Rattle.wt_inside_laws.specs.HtmlEdits.{IsHtmlEdit};
 ghost use Rattle.wt_inside_laws.specs.LocalTextEdits.{IsLocalTextEdit};
-ghost use Rattle.wt_inside_laws.specs.OneBlock.{IsOneBlockEdit};
 ghost use Rattle.wt_inside_laws.specs.RetypedPieces.{AreRead, AreUtf8};
 ghost use Rattle.wt_inside_laws.specs.TextEdits.{IsRetyped, IsTextEdit};
-ghost use Rattle.wt_inside_laws.specs.ToldEdits.{IsToldEdit, IsOrdinaryEdit};
+ghost use Rattle.wt_inside_laws.specs.ToldEdits.{IsToldEdit, IsOrdinaryEdit, IsOrdinaryDifference};
 
 /// Where the checks refuse nothing and no blocks come or go, what was sent for a page is edited as the page's own nodes
 /// are (`edits_of`): each outside the marked blocks as it is, of a group the elements that are written for it, and in
@@ -124,15 +125,29 @@ pub fn text_edits_are_done()
         → edit_of pages (Some page) input ≡ done (spliced page (slices same_node (page_tree pages page) new)) }
 {}
 
-/// So is each where one block is marked, which may hold calls, if its lines tell it by themselves (`IsOneBlock`).
+/// So is each where the marked blocks may hold calls, if the lines on which these are tell them (`AreToldBlocks`).
 #[tactic(auto)]
-pub fn text_edits_of_one_block_are_done()
+pub fn text_edits_with_calls_are_done()
     ensures tree { (pages : Pages) (page input : List ℕ) (new : Tree) (unsourced : Option ℕ)
-        → IsOneBlockEdit pages page input new unsourced
+        → IsEditWithCalls pages page input new unsourced
         → edit_to pages page new ≡ done (spliced page (slices same_node (page_tree pages page) new)) }
     ensures html { (pages : Pages) (page input : List ℕ) (new : Tree) (unsourced : Option ℕ)
-        → IsOneBlockEdit pages page input new unsourced → length input ≤ HTML_BYTES
+        → IsEditWithCalls pages page input new unsourced → length input ≤ HTML_BYTES
         → edit_of pages (Some page) input ≡ done (spliced page (slices same_node (page_tree pages page) new)) }
     ensures local { (pages : Pages) (page input : List ℕ) (new : Tree) (unsourced : Option ℕ)
-        → IsOneBlockEdit pages page input new unsourced → IsLocalTextEdit pages page new }
+        → IsEditWithCalls pages page input new unsourced → IsLocalTextEdit pages page new }
+{}
+
+/// So is each that is sent without marks: `edit` of its difference from the page is done (`DoneByEdit`).
+#[tactic(auto)]
+pub fn text_edits_without_marks_are_done()
+    ensures tree { (pages : Pages) (page input : List ℕ) (new : Tree) (unsourced : Option ℕ)
+        → IsOrdinaryDifference pages page input new unsourced → edit_to pages page (remarked_of pages page new)
+        ≡ done (spliced page (slices same_node (page_tree pages page) (remarked_of pages page new))) }
+    ensures html { (pages : Pages) (page input : List ℕ) (new : Tree) (unsourced : Option ℕ) (stands : Option (List ℕ))
+        → IsOrdinaryDifference pages page input new unsourced → stands ≡ Some page → length input ≤ HTML_BYTES
+        → DoneByEdit pages stands input }
+    ensures calls { (pages : Pages) (page input : List ℕ) (new : Tree) (unsourced : Option ℕ) (stands : Option (List ℕ))
+        → IsDifferenceWithCalls pages page input new unsourced → stands ≡ Some page → length input ≤ HTML_BYTES
+        → DoneByEdit pages stands input }
 {}

@@ -14,17 +14,15 @@ ghost use Rattle.wt_expand.specs.Work.{Pages};
 ghost use Rattle.wt_slices.specs.Changes.{Pair};
 ghost use Rattle.wt_commands.specs.Answers.{refusal_of_page};
 ghost use Rattle.wt_text_edit_laws.specs.TextBlocks.{TextBlock};
-ghost use Rattle.wt_called_edit_laws.specs.CalledEdits.{page_things};
 ghost use Rattle.wt_called_edit_laws.specs.CallingContents.{FitsIn};
 ghost use Rattle.wt_called_edit_laws.specs.Groups.{called_tree};
-ghost use Rattle.wt_called_edit_laws.specs.PageThings.{AllMeetLater};
 ghost use Rattle.wt_called_edit_laws.specs.PiecedParagraphs.{IsTextAndCalls};
 ghost use Rattle.wt_called_edit_laws.specs.RowBlocks.{IsReachedAt};
 ghost use Rattle.wt_inside_laws.specs.AsSent.{edit_for};
 ghost use Rattle.wt_inside_laws.specs.BesideEdits.{IsBesideBlock};
 ghost use Rattle.wt_inside_laws.specs.RetypedCalls.{IsCallingNode, IsBeside, AreOwnTexts};
 ghost use Rattle.wt_inside_laws.specs.RetypedPieces.{AreRead, AreUtf8};
-ghost use Rattle.wt_inside_laws.specs.TextAndCallBlocks.{IsTextAndCallBlock};
+ghost use Rattle.wt_inside_laws.specs.TextAndCallBlocks.{DoCallsMeet, IsTextAndCallBlock};
 ghost use Rattle.wt_inside_laws.specs.TextEdits.{IsRetyped, takes_text};
 
 /// A retyped paragraph or heading of the page that holds calls, beside which texts may be typed (`IsBeside`), is edited by
@@ -47,10 +45,11 @@ pub fn texts_of_blocks_show_their_sources()
 {}
 
 /// In a block that is texts and calls alone (`IsTextAndCalls`, `IsHeadingOfCalls` of `wt_called_edit_laws`), texts may be typed beside its calls
-/// (`IsBesideBlock`), wherever it is in a page, if what its calls give may meet where two are side by side. Of a paragraph its source is asked.
+/// (`IsBesideBlock`), wherever it is in a page, if a text is behind each call, or nothing, or else what calls give that are side by side may meet. Of a
+/// paragraph its source is asked.
 #[tactic(auto)]
 pub fn blocks_of_texts_and_calls_take_texts()
     ensures blocks { (pages : Pages) (page : List ℕ) (p : Pair) → IsTextAndCallBlock pages p.old → IsBesideBlock pages page p }
-    ensures paragraphs { (pages : Pages) (t : Tree) → (label t).kind ≡ kind.Para → IsTextAndCalls pages (flat t)
-        → AllMeetLater pages (page_things t) → IsTextAndCallBlock pages t }
+    ensures paragraphs { (pages : Pages) (t : Tree) → (label t).kind ≡ kind.Para → (h : IsTextAndCalls pages (flat t))
+        → DoCallsMeet pages t h.pieces → IsTextAndCallBlock pages t }
 {}

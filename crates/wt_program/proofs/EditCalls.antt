@@ -3,10 +3,11 @@ use Rattle.std.proofs.Common.{◌≡◌, ℕ, Option, Some, None, List, sym, ap,
 use Rattle.wt_span.specs.Items.{Item}
 use Rattle.wt_devices.specs.Device.{Pages}
 use Rattle.wt_tree.specs.Tree.{Tree}
-use Rattle.wt_commands.specs.Answers.{done, edit_to}
+use Rattle.wt_commands.specs.Answers.{done, remarked_of, edit_to}
 use Rattle.wt_commands.specs.Calls.{Call, known_answer}
+use Rattle.wt_commands.specs.UnmarkedEdits.{DoneByEdit}
 use Rattle.wt_commands.specs.declared.command.Command.TheVariants.{Edit}
-use Rattle.wt_pagetool.specs.Promises.{Ends}
+use Rattle.wt_pagetool.specs.Promises.{Ends, EndsAsEdit}
 use Rattle.wt_called_edit_laws.specs.ContentsTaken.{TakesContents}
 use Rattle.wt_called_edit_laws.specs.CallingContents.{TakesContentsIn}
 use Rattle.wt_called_edit_laws.specs.LinedAmong.{spots_of_lines, end_of_lines, IsLinedAmong}
@@ -19,18 +20,18 @@ use Rattle.wt_called_edit_laws.proofs.CallingTaken.{contents_taken as calling_ta
 use Rattle.wt_called_edit_laws.proofs.CallsTake.{contents_taken}
 use Rattle.wt_called_edit_laws.proofs.EditableBlocks.{editable_calling}
 use Rattle.wt_program.specs.AnyCalls.{SendsFor}
-use Rattle.wt_program.proofs.AnyCalls.{answer_is}
+use Rattle.wt_program.proofs.AnyCalls.{answer_is, selser_ends}
 use Rattle.wt_program.proofs.BlocksCalls.{page_ends, page_completes}
-use Rattle.wt_program.specs.EditCalls.{retyped_page, TakesToldEdits, TakesBesideEdits, TakesTextEdits}
+use Rattle.wt_program.specs.EditCalls.{retyped_page, TakesToldEdits, TakesBesideEdits, TakesDifferences, TakesTextEdits}
 use Rattle.wt_inside_laws.specs.BesideEdits.{IsBesideHtml}
 use Rattle.wt_inside_laws.specs.HtmlEdits.{IsHtmlEdit}
-use Rattle.wt_inside_laws.specs.OneBlock.{IsOneBlockEdit}
-use Rattle.wt_inside_laws.specs.ToldEdits.{IsOrdinaryEdit}
+use Rattle.wt_inside_laws.specs.EditsWithCalls.{IsEditWithCalls, IsDifferenceWithCalls}
+use Rattle.wt_inside_laws.specs.ToldEdits.{IsOrdinaryEdit, IsOrdinaryDifference}
 use Rattle.wt_inside_laws.proofs.BesideEdits.{calling_edit_done, html_beside}
 use Rattle.wt_inside_laws.proofs.HtmlEdits.{html_lined}
 use Rattle.wt_inside_laws.proofs.LocalTextEdits.{ordinary_local, calling_local}
-use Rattle.wt_inside_laws.proofs.OneBlock.{one_done, one_local}
-use Rattle.wt_inside_laws.proofs.OrdinaryEdits.{ordinary_done}
+use Rattle.wt_inside_laws.proofs.EditsWithCalls.{calls_done, calls_local, calls_difference}
+use Rattle.wt_inside_laws.proofs.OrdinaryEdits.{ordinary_done, difference_written}
 use Rattle.wt_inside_laws.proofs.ToldEdits.{lined_edit_done}
 
 pages_or : Pages → Option Pages → Pages
@@ -96,31 +97,50 @@ calls_take_beside c ended ends = λ pages page bs rest told h.
       local = λ input new unsourced e. calling_local pages page bs rest new h t (html_beside pages page input bs rest t.paths new unsourced h e);
     }
 
--- ---- of one block that may hold calls
+-- ---- of marked blocks that may hold calls
 
-one_answered : (c : Call) (pages : Pages) (page : List ℕ) (new : Tree) → c.folder.pages_before ≡ Some pages
-    → (s : SendsFor c Edit page (retyped_page pages page new) (λ b. new)) → IsOneBlockEdit pages page s.input new s.unsourced
+calling_answered : (c : Call) (pages : Pages) (page : List ℕ) (new : Tree) → c.folder.pages_before ≡ Some pages
+    → (s : SendsFor c Edit page (retyped_page pages page new) (λ b. new)) → IsEditWithCalls pages page s.input new s.unsourced
     → known_answer c ≡ Some (done (retyped_page pages page new))
-one_answered c pages page new told s e =
+calling_answered c pages page new told s e =
     answer_is c page (retyped_page pages page new) (λ b. new) e.utf8 s
     (subst (λ (ps : Pages). edit_to ps page new ≡ done (retyped_page pages page new)) (same_pages pages s.pages (sym told ∙ s.told))
-    (one_done pages page s.input new s.unsourced e))
+    (calls_done pages page s.input new s.unsourced e))
+
+-- ---- without marks
+
+same_told : (c : Call) (pages others : Pages) → c.folder.pages_before ≡ Some pages → c.folder.pages_before ≡ Some others → pages ≡ others
+same_told c pages others a b = same_pages pages others (sym a ∙ b)
+
+calls_take_differences : (c : Call) (ended : ℕ) → EndsAsEdit c ended → TakesDifferences IsOrdinaryDifference c ended
+calls_take_differences c ended ends = λ pages page new told s e.
+    selser_ends c ended page (retyped_page pages page (remarked_of pages page new)) (λ b. new) s
+    (subst (λ (ps : Pages). DoneByEdit ps (s.pages s.title) s.input) (same_told c pages s.pages told s.told)
+    (difference_written pages page s.input new s.unsourced (s.pages s.title) e s.found s.within)) ends
+
+calls_take_calling : (c : Call) (ended : ℕ) → EndsAsEdit c ended → TakesDifferences IsDifferenceWithCalls c ended
+calls_take_calling c ended ends = λ pages page new told s e.
+    selser_ends c ended page (retyped_page pages page (remarked_of pages page new)) (λ b. new) s
+    (subst (λ (ps : Pages). DoneByEdit ps (s.pages s.title) s.input) (same_told c pages s.pages told s.told)
+    (calls_difference pages page s.input new s.unsourced (s.pages s.title) e s.found s.within)) ends
 
 -- ---- all
 
-pub calls_take_edits : (c : Call) (ended : ℕ) → Ends c ended → TakesTextEdits c ended
-calls_take_edits c ended ends = record {
+pub calls_take_edits : (c : Call) (ended : ℕ) → Ends c ended → EndsAsEdit c ended → TakesTextEdits c ended
+calls_take_edits c ended ends as_edit = record {
   ordinary = record {
     edit = λ pages page new told s e. page_ends c ended (retyped_page pages page new) (ordinary_answered c pages page new told s e) ends;
     complete = λ pages page new told s e no.
         page_completes c ended (retyped_page pages page new) (ordinary_answered c pages page new told s e) ends no;
     local = ordinary_local;
   };
-  one = record {
-    edit = λ pages page new told s e. page_ends c ended (retyped_page pages page new) (one_answered c pages page new told s e) ends;
+  calling = record {
+    edit = λ pages page new told s e. page_ends c ended (retyped_page pages page new) (calling_answered c pages page new told s e) ends;
     complete = λ pages page new told s e no.
-        page_completes c ended (retyped_page pages page new) (one_answered c pages page new told s e) ends no;
-    local = one_local;
+        page_completes c ended (retyped_page pages page new) (calling_answered c pages page new told s e) ends no;
+    local = calls_local;
   };
+  selser = calls_take_differences c ended as_edit;
+  selser_calling = calls_take_calling c ended as_edit;
   beside = calls_take_beside c ended ends;
 }

@@ -7,8 +7,9 @@ use Rattle.wt_page_round_trip.specs.PageTree.{page_tree}
 use Rattle.wt_slices.specs.BodySlices.{slices}
 use Rattle.wt_splice.specs.Splice.{spliced}
 use Rattle.wt_visible.specs.SameNodes.{same_node}
-use Rattle.wt_commands.specs.declared.command.Command.TheVariants.{Edit}
+use Rattle.wt_commands.specs.declared.command.Command.TheVariants.{Edit, Selser}
 use Rattle.wt_commands.specs.declared.status.Status.TheVariants as status
+use Rattle.wt_commands.specs.Answers.{remarked_of}
 use Rattle.wt_commands.specs.Calls.{Call, NothingFailed}
 use Rattle.wt_commands.specs.Statuses.{code, IsFaultOrNoMemory}
 use Rattle.wt_called_edit_laws.specs.CalledBlocks.{counted}
@@ -22,10 +23,10 @@ use Rattle.wt_called_edit_laws.specs.SettledAt.{AllSettled}
 use Rattle.wt_program.specs.AnyCalls.{SendsFor}
 use Rattle.wt_program.specs.Calls.{WroteNewPage}
 use Rattle.wt_inside_laws.specs.BesideEdits.{IsBesideHtml}
+use Rattle.wt_inside_laws.specs.EditsWithCalls.{IsEditWithCalls, IsDifferenceWithCalls}
 use Rattle.wt_inside_laws.specs.HtmlEdits.{IsHtmlEdit}
 use Rattle.wt_inside_laws.specs.LocalTextEdits.{IsLocalTextEdit}
-use Rattle.wt_inside_laws.specs.OneBlock.{IsOneBlockEdit}
-use Rattle.wt_inside_laws.specs.ToldEdits.{IsOrdinaryEdit}
+use Rattle.wt_inside_laws.specs.ToldEdits.{IsOrdinaryEdit, IsOrdinaryDifference}
 
 -- the page with the insides of its marked blocks replaced by what was sent for them, as it is spelled
 abbrev pub retyped_page : Pages → List ℕ → Tree → List ℕ
@@ -77,9 +78,18 @@ pub record TakesEach (IsSuch : Pages → List ℕ → List ℕ → Tree → Opti
       → WroteNewPage c ended (retyped_page pages page new) ⊎ (ended ≡ code status.NoMemory)
   pub local : (pages : Pages) (page input : List ℕ) (new : Tree) (unsourced : Option ℕ) → IsSuch pages page input new unsourced → IsLocalTextEdit pages page new
 
--- A text edit of a page in which the marked blocks are ordinary; one in which a single block is marked, which may hold calls, and is told by its lines
--- alone; and one in which any number of blocks may hold calls, where the lines of the expanded page are said to tell them.
+-- Where a call of `selser` sends HTML without marks, whose difference from a page is such an edit, it is done; or a device failed, or memory ran out.
+abbrev pub TakesDifferences : (Pages → List ℕ → List ℕ → Tree → Option ℕ → Type 0) → Call → ℕ → Type 0
+TakesDifferences IsSuch c ended =
+    (pages : Pages) (page : List ℕ) (new : Tree) → c.folder.pages_before ≡ Some pages
+    → (s : SendsFor c Selser page (retyped_page pages page (remarked_of pages page new)) (λ b. new)) → IsSuch pages page s.input new s.unsourced
+    → (ended ≡ code status.Done) ⊎ IsFaultOrNoMemory ended
+
+-- A text edit of a page in which the marked blocks are ordinary; one in which they may hold calls, and the lines on which they are tell them; the same
+-- without marks; and a text edit of blocks that may hold calls, among any that the lines of the expanded page are said to tell.
 pub record TakesTextEdits (c : Call) (ended : ℕ) : Type 0 where
   pub ordinary : TakesEach IsOrdinaryEdit c ended
-  pub one : TakesEach IsOneBlockEdit c ended
+  pub calling : TakesEach IsEditWithCalls c ended
+  pub selser : TakesDifferences IsOrdinaryDifference c ended
+  pub selser_calling : TakesDifferences IsDifferenceWithCalls c ended
   pub beside : TakesBesideEdits c ended

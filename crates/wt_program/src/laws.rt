@@ -90,12 +90,13 @@ pub fn calls_take_changed_prose()
 {}
 
 /// Every such call takes HTML that is a text edit of a page, where the marked blocks are ordinary (`IsOrdinaryEdit` of
-/// `wt_inside_laws`), where one block is marked, which may hold calls and is told by its lines (`IsOneBlockEdit`), and where
-/// any may hold calls and the lines of the expanded page are said to tell them: `edit` has written the page with their
-/// insides replaced by what was sent, as it is spelled, and no line; or a device failed, or memory ran out.
+/// `wt_inside_laws`), where they may hold calls and the lines on which they are tell them (`IsEditWithCalls`), and where
+/// the lines of the expanded page are said to tell them: `edit` has written the page with their insides replaced by what was
+/// sent, as it is spelled, and no line; or a device failed, or memory ran out. Where HTML without marks differs by such an
+/// edit, `selser` is done; or a device failed, or memory ran out.
 #[tactic(auto, using(crate::proofs::EditCalls::calls_take_edits))]
 pub fn calls_take_text_edits()
-    ensures { (c : Call) (ended : ℕ) → Ends c ended → TakesTextEdits c ended }
+    ensures { (c : Call) (ended : ℕ) → Ends c ended → EndsAsEdit c ended → TakesTextEdits c ended }
 {}
 
 /// The same of blocks that call nothing and that the lines of the expanded page tell (`IsLinedAmong`), which are at paths of

@@ -68,10 +68,11 @@ pub fn run<S: Source, F: Folder, W: Sink, E: Sink>(
     // call sends HTML in which texts of any paragraphs and headings were
     // typed anew, and these hold no group, are ordinary and told by the lines of the expanded page (`IsOrdinaryEdit` of
     // `wt_inside_laws`), `edit` has written the page with the insides of these replaced by what was sent, as it is spelled,
-    // and no line; or a device failed, or memory ran out. So it is where one block is marked, which may hold calls,
-    // if its lines tell it by themselves (`IsOneBlockEdit`), and where any number of blocks may hold calls, if the lines of
-    // the expanded page tell them (`IsLinedCalling`): each calls nothing and is ordinary, or texts may be typed beside the
-    // calls in it (`IsBesideBlock`). Nothing but the marked blocks is another one in the new page (`IsLocalTextEdit`).
+    // and no line; or a device failed, or memory ran out. So it is where the marked blocks may hold calls, if the
+    // lines on which they are tell them (`IsEditWithCalls`), or the lines of the expanded page are said to (`IsLinedCalling`):
+    // each calls nothing and is ordinary, or texts may be typed beside the calls in it (`IsBesideBlock`). Nothing but the marked blocks is another one in the new page (`IsLocalTextEdit`).
+    // Where HTML without marks differs from the page by such an edit (`IsOrdinaryDifference`, `IsDifferenceWithCalls`),
+    // `selser` is done, or a device failed, or memory ran out.
     ensures takes_text_edits { TakesTextEdits (call words.now (read_from S.Source input.old input.new)
         (fetched_from F.Folder folder.old folder.new) (written_to W.Sink out.old out.new)
         (written_to E.Sink err.old err.new)) result }

@@ -34,7 +34,7 @@ use Rattle.wt_text_edit_laws.specs.TextBlocks.{TextBlock}
 use Rattle.wt_beside_laws.specs.FlatBlocks.{lines_in, begins_at, signs_in as signs_of}
 use Rattle.wt_beside_laws.specs.InHeadings.{AreOnOneLine}
 use Rattle.wt_beside_laws.specs.Nodes.{AreNodes}
-use Rattle.wt_beside_laws.specs.OpenTags.{sign_on, spine, StayOnLines, EndTags}
+use Rattle.wt_beside_laws.specs.OpenTags.{sign_on, spine, EndTags}
 use Rattle.wt_beside_laws.specs.PageBlocks.{IsBlockOfLines, AreSoIn}
 use Rattle.wt_beside_laws.specs.PageSigns.{line_signs, signs_of_lines, AreFlatLines}
 use Rattle.wt_beside_laws.specs.SentStyled.{NestsBy, Nests, AllNest, ShowsBy, Shows, AllShow}
@@ -44,6 +44,7 @@ use Rattle.wt_beside_laws.specs.StyledIn.{IsStyledIn}
 use Rattle.wt_beside_laws.proofs.BlockNumbers.{block_counts}
 use Rattle.wt_beside_laws.proofs.BlockSigns.{block_by, its_children, no_leaf, inside}
 use Rattle.wt_beside_laws.proofs.LinesClosed.{stood_stay}
+use Rattle.wt_beside_laws.proofs.LinesOpen.{StayOnLines}
 use Rattle.wt_beside_laws.proofs.LineThings.{nodes_parts}
 use Rattle.wt_beside_laws.proofs.Made.OldBlocks.{IsIn, block_begins}
 use Rattle.wt_beside_laws.proofs.OwnSigns.{Every, every_left, every_right, Finds, all_found}

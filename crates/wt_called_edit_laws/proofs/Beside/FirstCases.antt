@@ -64,10 +64,11 @@ use Rattle.wt_called_edit_laws.specs.Groups.{called_tree}
 use Rattle.wt_called_edit_laws.specs.InCells.{AreTextLines}
 use Rattle.wt_called_edit_laws.specs.ItemSpots.{ArePlaced}
 use Rattle.wt_called_edit_laws.specs.Parts.{calls_to, calls_past, AreCalled}
-use Rattle.wt_called_edit_laws.specs.PiecedParagraphs.{HasOwn, IsInPieces, all_pieces, IsTextAndCalls}
+use Rattle.wt_called_edit_laws.specs.PiecedParagraphs.{gap, AreCallsApart, HasOwn, IsInPieces, all_pieces, IsTextAndCalls}
 use Rattle.wt_called_edit_laws.specs.WholeContents.{of_call, AreGroups, AreShutParts}
 use Rattle.wt_called_edit_laws.proofs.Whole.Pieced.{as_written, pieced_content, pieced_holds}
-use Rattle.std.specs.Prelude.{codes}
+use Rattle.std.specs.Prelude.{◌==◌, codes, if◌then◌else◌}
+use Rattle.wt_tree.specs.Source.{flat}
 use Rattle.wt_inline.specs.declared.loose.Loose.TheVariants.{Text}
 use Rattle.wt_called_edit_laws.specs.CalledEdits.{page_things, IsBesideCalls, IsCalledEditOf, MakesContentIn, SendsUncalled}
 use Rattle.wt_called_edit_laws.specs.PageThings.{AllMeetLater}
@@ -100,7 +101,7 @@ use Rattle.wt_called_edit_laws.proofs.Whole.Cases.{a_group_call}
 use Rattle.wt_called_edit_laws.proofs.Written.Cases.{call_part as call_alone}
 use Rattle.wt_called_edit_laws.proofs.Beside.EndCases.{nothing, called_at, a_label, nth, none_behind}
 
-abbrev source : List ℕ
+abbrev pub source : List ℕ
 source = codes "{{t}} is"
 
 abbrev pieces : List (List ℕ)
@@ -206,6 +207,14 @@ text_and_calls = record {
   nodes = λ i. ap (λ (ps : List Part). call_pieces (children ps)) (parts_there i) ∙ pieces_are i ∙ sym (nodes_are i);
 }
 
+-- a text is behind its call
+gap_is : gap a_word (codes " is" ∷ []) ≡ 3
+gap_is = ap (λ (cs : List OuterCall). if length cs == 0 then 3 else 0) calls_none
+
+pub calls_apart : AreCallsApart a_word text_and_calls.pieces
+unfolding text_and_calls
+calls_apart = (inr (omega (arith, gap_is)), (inl (ap (λ (cs : List OuterCall). length cs) calls_none), tt))
+
 here : IsInPieces a_word source
 here = pieced a_word source text_and_calls
 
@@ -280,8 +289,13 @@ calls_here = called_at 0 ∷ []
 abbrev block_by : List Item → Tree
 block_by xs = settled 1 0 (cut_texts (block_in calls_here (para_with (joined_parts (lines xs)))))
 
-abbrev block : Tree
+abbrev pub block : Tree
 block = block_by (given 0)
+
+pub block_source : flat block ≡ source
+unfolding label_at context_parts chunks segments loose_segments tiles shapes closes tile_at link_or_url link_at ext_link_at bare_url_at scheme_len
+    tag_tile tag_at switch_at children with_styles style_tree_of toggles_of toggle_at opens_tag closes_tag
+block_source = refl
 
 sources_are : AreSourcesAt calls_here 0 (expanded_page a_word source).outer
 unfolding words closed form_at comment_len comment_line_len raw_len opening_tag tag_after closing_tag with_inside is_extension

@@ -72,17 +72,17 @@ a_group = record {
   between_equals = false;
 }
 
-abbrev text_tree : List OuterCall → List Item → Tree
+abbrev pub text_tree : List OuterCall → List Item → Tree
 text_tree calls xs = cut_texts (node_in calls (loose_leaf Text xs))
 
-abbrev group_tree : List OuterCall → ℕ → List ItemTree → Tree
+abbrev pub group_tree : List OuterCall → ℕ → List ItemTree → Tree
 group_tree calls i ts = group_of_call calls i (forest ts)
 
 piece_text : (pages : Pages) (i : ℕ) (b : List ℕ) → (expanded_page pages b).outer ≡ []
     → piece_of (calls_in pages b == 0) i (part_items pages i b) ≡ own (loose_leaf Text (part_items pages i b)) ∷ []
 piece_text pages i b e = ap (λ (cs : List OuterCall). piece_of (length cs == 0) i (part_items pages i b)) e
 
-some_calls : (n : ℕ) → 0 < n → (n == 0) ≡ false
+pub some_calls : (n : ℕ) → 0 < n → (n == 0) ≡ false
 some_calls n h = grind (arith, nat_tests)
 
 piece_group : (pages : Pages) (i : ℕ) (b : List ℕ) (w : IsGroupCall pages b) (t : ItemTree) (ts : List ItemTree)
@@ -97,15 +97,15 @@ abbrev pub nodes_from : Pages → List OuterCall → ℕ → ℕ → ℕ → Lis
 nodes_from pages calls i m a bs = all_settled m a (all_cut_texts (pieces_in_page calls (all_pieces pages i bs)))
 
 -- what is said of a text and of a group, before the rest
-abbrev rest_of : Pages → List OuterCall → ℕ → List ℕ → List (List ℕ) → Trees
+abbrev pub rest_of : Pages → List OuterCall → ℕ → List ℕ → List (List ℕ) → Trees
 rest_of pages calls i b bs = all_cut_texts (pieces_in_page calls (all_pieces pages (i + calls_in pages b) bs))
 
-as_text : (P : Trees → Type 0) (pages : Pages) (calls : List OuterCall) (i : ℕ) (b : List ℕ) (bs : List (List ℕ)) → (expanded_page pages b).outer ≡ []
+pub as_text : (P : Trees → Type 0) (pages : Pages) (calls : List OuterCall) (i : ℕ) (b : List ℕ) (bs : List (List ℕ)) → (expanded_page pages b).outer ≡ []
     → P (more (text_tree calls (part_items pages i b)) (rest_of pages calls i b bs)) → P (all_cut_texts (pieces_in_page calls (all_pieces pages i (b ∷ bs))))
 as_text P pages calls i b bs e h =
     subst (λ (ps : List CallPiece). P (all_cut_texts (pieces_in_page calls (ps ++ all_pieces pages (i + calls_in pages b) bs)))) (sym (piece_text pages i b e)) h
 
-as_group : (P : Trees → Type 0) (pages : Pages) (calls : List OuterCall) (i : ℕ) (b : List ℕ) (bs : List (List ℕ)) → IsGroupCall pages b
+pub as_group : (P : Trees → Type 0) (pages : Pages) (calls : List OuterCall) (i : ℕ) (b : List ℕ) (bs : List (List ℕ)) → IsGroupCall pages b
     → P (more (group_tree calls i (children (line_parts (part_items pages i b)))) (rest_of pages calls i b bs))
     → P (all_cut_texts (pieces_in_page calls (all_pieces pages i (b ∷ bs))))
 as_group P pages calls i b bs w h =
@@ -113,10 +113,10 @@ as_group P pages calls i b bs w h =
     subst (λ (ps : List CallPiece). P (all_cut_texts (pieces_in_page calls (ps ++ all_pieces pages (i + calls_in pages b) bs)))) (sym (piece_group pages i b w n.0 n.1 n.2))
     (subst (λ (ts : List ItemTree). P (more (group_tree calls i ts) (rest_of pages calls i b bs))) n.2 h)
 
-later : (m n : ℕ) → 0 < m → 0 < m + n
+pub later : (m n : ℕ) → 0 < m → 0 < m + n
 later m n h = omega (arith, h)
 
-not_zero : (m : ℕ) → 0 < m → m ≢ 0
+pub not_zero : (m : ℕ) → 0 < m → m ≢ 0
 not_zero m h = λ e. absurd (omega (arith, h, e))
 
 text_own : (calls : List OuterCall) (m a : ℕ) (xs : List Item) (us : Trees) → HaveOwn (all_settled (m + count (text_tree calls xs)) (a + length (flat (text_tree calls xs))) us)
@@ -218,7 +218,7 @@ stay_past : (pages : Pages) (b : List ℕ) (bs ds : List (List ℕ)) → (expand
 stay_past pages b bs [] e h = (e, h)
 stay_past pages b bs (d ∷ ds) e h = inr (e, h)
 
-text_things : (calls : List OuterCall) (block : Tree) (m a at from : ℕ) (xs : List Item) (us : Trees) (X : List Thing → Type 0)
+pub text_things : (calls : List OuterCall) (block : Tree) (m a at from : ℕ) (xs : List Item) (us : Trees) (X : List Thing → Type 0)
     → (Every (Finds block) (found_in (at + length (flat (settled m a (text_tree calls xs)))) (from + length (visible (items (settled m a (text_tree calls xs))))) (all_settled (m + count (text_tree calls xs)) (a + length (flat (text_tree calls xs))) us))
     → X (things_with (kept_nodes block) (all_numbers (all_settled (m + count (text_tree calls xs)) (a + length (flat (text_tree calls xs))) us))))
     → Every (Finds block) (found_in at from (all_settled m a (more (text_tree calls xs) us)))
@@ -227,7 +227,7 @@ unfolding label_at
 text_things calls block m a at from xs us X f e =
     f (every_right (Finds block) (found_from at from (settled m a (text_tree calls xs))) _ e)
 
-found_first : (block : Tree) (m : ℕ) (ns : List ℕ) (k : Kept) → kept_with m (kept_nodes block) ≡ Some k
+pub found_first : (block : Tree) (m : ℕ) (ns : List ℕ) (k : Kept) → kept_with m (kept_nodes block) ≡ Some k
     → things_with (kept_nodes block) (m ∷ ns) ≡ thing_of k ∷ things_with (kept_nodes block) ns
 found_first block m ns k e = ap (λ (o : Option Kept). found_thing o ++ things_with (kept_nodes block) ns) e
 

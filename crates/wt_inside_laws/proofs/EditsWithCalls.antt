@@ -1,0 +1,170 @@
+-- A text edit of paragraphs and headings that may hold calls is done, and is local.
+use Rattle.std.proofs.Common.{arith, ◌≡◌, ℕ, ◌≤◌, Option, Some, None, List, [], ◌∷◌, length, map, refl, ap, inl, inr}
+use Rattle.std.specs.Prelude.{◌⊎◌}
+use Rattle.std.specs.List.{AllByRecursion}
+use Rattle.std.specs.Str.{IsUtf8}
+use Rattle.wt_span.specs.declared.limits.TheConstants.{HTML_BYTES, PAGE_BYTES}
+use Rattle.wt_span.specs.Items.{Item}
+use Rattle.wt_tree.specs.Tiling.{is_group}
+use Rattle.wt_tree.specs.Tree.{Tree, label}
+use Rattle.wt_expand.specs.PageCalls.{expanded_page}
+use Rattle.wt_expand.specs.Work.{Pages}
+use Rattle.wt_page_round_trip.specs.PageTree.{page_tree}
+use Rattle.wt_slices.specs.BodySlices.{slices}
+use Rattle.wt_slices.specs.Changes.{Pair, marked}
+use Rattle.wt_splice.specs.Splice.{spliced}
+use Rattle.wt_visible.specs.SameNodes.{same_node}
+use Rattle.wt_commands.specs.Answers.{refusal_of_page, done, remarked_of, edit_of, edit_to}
+use Rattle.wt_commands.specs.UnmarkedEdits.{DoneByEdit}
+use Rattle.wt_typed_blocks.specs.Edited.{Edits}
+use Rattle.wt_called_edit_laws.specs.AllTold.{IsOneOf as IsAnyOf}
+use Rattle.wt_called_edit_laws.specs.CallingContents.{TakesContentsIn}
+use Rattle.wt_called_edit_laws.specs.CallingTogether.{TakeThere, AreOnLines}
+use Rattle.wt_called_edit_laws.specs.CallingTold.{IsExceptedByLines}
+use Rattle.wt_called_edit_laws.specs.Groups.{called_tree}
+use Rattle.wt_called_edit_laws.specs.LinedAmong.{spots_of_lines, end_of_lines}
+use Rattle.wt_called_edit_laws.specs.LinedCalling.{IsLinedCalling}
+use Rattle.wt_called_edit_laws.specs.PlacedLines.{LinedBlock}
+use Rattle.wt_called_edit_laws.proofs.AllTold.CallingTogether.{lines_together}
+use Rattle.wt_called_edit_laws.proofs.PageBody.{page_body}
+use Rattle.wt_inside_laws.specs.AsSent.{edits_of, paths_of, node_at, IsOneOf, AreSomeOf}
+use Rattle.wt_inside_laws.specs.BesideEdits.{IsBesideBlock, IsBesideEdit}
+use Rattle.wt_inside_laws.specs.EditsWithCalls.{AreToldBlocks, MayHoldCalls, MarksBlocksWithCalls, IsEditWithCalls, IsDifferenceWithCalls}
+use Rattle.wt_inside_laws.specs.LocalTextEdits.{IsLocalTextEdit}
+use Rattle.wt_inside_laws.specs.TextEdits.{IsRetyped}
+use Rattle.wt_inside_laws.proofs.BesideEdits.{calling_edit_done}
+use Rattle.wt_inside_laws.proofs.HtmlEdits.{edit_is}
+use Rattle.wt_inside_laws.proofs.LocalTextEdits.{nothing_local, calling_local}
+use Rattle.wt_inside_laws.proofs.NothingMarked.{nothing_done, nothing_spliced}
+use Rattle.wt_inside_laws.proofs.OrdinaryEdits.{nodes_at, olds, one_same, block_kind, OrdinarySent, read_as_sent, difference_as_sent, by_marked, done_without_marks}
+use Rattle.wt_inside_laws.proofs.Reached.{Reaches, edits_reach}
+use Rattle.wt_inside_laws.proofs.ToldEdits.{first_same, rest_same}
+
+-- ---- a marked block is at its path
+
+unexcepted : {A : Type 0} (pages : Pages) (page : List ℕ) (t : Tree) → (IsExceptedByLines pages page t → ⊥) → A ⊎ IsExceptedByLines pages page t → A
+unexcepted pages page t n (inl a) = a
+unexcepted pages page t n (inr x) = absurd (n x)
+
+-- each path is one of all
+all_any : (qs ps : List (List ℕ)) → ((q : List ℕ) → IsAnyOf q qs → IsAnyOf q ps) → AllByRecursion (λ q. IsAnyOf q ps) qs
+all_any [] ps f = tt
+all_any (q ∷ qs) ps f = (f q (inl refl), all_any qs ps (λ r i. f r (inr i)))
+
+all_there : (pages : Pages) (page : List ℕ) (ps : List (List ℕ)) (bs : List LinedBlock) (behind : List (List Item)) (there : TakeThere pages page ps bs behind)
+    (qs : List (List ℕ)) (ms : List Pair) → AllByRecursion (λ q. IsAnyOf q ps) qs → AllByRecursion (Reaches (called_tree pages page)) qs
+    → nodes_at (called_tree pages page) qs ≡ olds ms → AllByRecursion (IsRetyped same_node (expanded_page pages page) page) ms
+    → AllByRecursion (MayHoldCalls pages page) ms → AreSomeOf qs there.taken.paths
+all_there pages page ps bs behind there [] ms a w e r h = tt
+all_there pages page ps bs behind there (q ∷ qs) [] a w e r h = absurd (let no = ap length e in omega (arith, no))
+all_there pages page ps bs behind there (q ∷ qs) (m ∷ ms) a w e r h =
+    let t : Tree = called_tree pages page in
+    let at : IsAnyOf q there.taken.paths =
+    unexcepted pages page m.old h.0.unexcepted
+    (there.there q m.old a.0 (w.0 m.old (first_same (node_at q t) (Some m.old) (nodes_at t qs) (olds ms) e)) (block_kind (label m.old).kind r.0.block) h.0.some) in (
+      one_same q there.taken.paths at,
+      all_there pages page ps bs behind there qs ms a.1 w.1 (rest_same (node_at q t) (Some m.old) (nodes_at t qs) (olds ms) e) r.1 h.1,
+    )
+
+all_beside : (pages : Pages) (page : List ℕ) (ms : List Pair) → AllByRecursion (MayHoldCalls pages page) ms → AllByRecursion (IsBesideBlock pages page) ms
+all_beside pages page [] h = tt
+all_beside pages page (m ∷ ms) h = (h.0.beside, all_beside pages page ms h.1)
+
+-- ---- the edit
+
+-- It is a text edit of blocks that may hold calls and that the lines of the expanded page tell.
+record CallsTold (pages : Pages) (page : List ℕ) (new : Tree) : Type 0 where
+  bs : List LinedBlock
+  rest : List (List Item)
+  lined : IsLinedCalling pages page bs rest
+  taken : TakesContentsIn pages (spots_of_lines pages page bs) (end_of_lines pages page bs rest)
+  edit : IsBesideEdit pages page taken.paths new
+
+-- what is known of it
+record IsCallsRead (pages : Pages) (page : List ℕ) (new : Tree) : Type 0 where
+  utf8 : IsUtf8 page
+  short : length page ≤ PAGE_BYTES
+  unrefused : refusal_of_page pages page ≡ None
+  edit : MarksBlocksWithCalls pages page new
+  sent : OrdinarySent pages page new
+
+calls_read : (pages : Pages) (page input : List ℕ) (new : Tree) (u : Option ℕ) → IsEditWithCalls pages page input new u → IsCallsRead pages page new
+calls_read pages page input new u h = record {
+  utf8 = h.utf8;
+  short = h.short;
+  unrefused = h.unrefused;
+  edit = h.edit;
+  sent = read_as_sent pages page input new u h.utf8 h.short h.unrefused h.sent h.edit.edit;
+}
+
+difference_read : (pages : Pages) (page input : List ℕ) (new : Tree) (u : Option ℕ) → IsDifferenceWithCalls pages page input new u
+    → IsCallsRead pages page (remarked_of pages page new)
+difference_read pages page input new u h = record {
+  utf8 = h.utf8;
+  short = h.short;
+  unrefused = h.unrefused;
+  edit = h.edit;
+  sent = difference_as_sent pages page input new u h.utf8 h.short h.unrefused h.sent h.edit.edit;
+}
+
+calls_told : (pages : Pages) (page : List ℕ) (new : Tree) → IsCallsRead pages page new → 1 ≤ length (marked (page_tree pages page) new) → CallsTold pages page new
+calls_told pages page new h some =
+    let t : Tree = called_tree pages page in
+    let ms : List Pair = marked (page_tree pages page) new in
+    let es : Edits = edits_of t new in
+    let ps : List (List ℕ) = paths_of es in
+    let e : OrdinarySent pages page new = h.sent in
+    let o : AreOnLines pages page ps = lines_together pages page ps in
+    let told : AreToldBlocks pages page ps o = h.edit.told some o in
+    let there : TakeThere pages page ps told.bs o.behind = o.takes told.bs told.on told.lined in
+    let body = page_body pages page h.utf8 h.unrefused in
+    let reach : AllByRecursion (Reaches t) ps = edits_reach t es (ap is_group body.kind) e.sent.old e.sent.outside in
+    record {
+      bs = told.bs;
+      rest = o.behind;
+      lined = told.lined;
+      taken = there.taken;
+      edit = record {
+        short = h.short;
+        edit = h.edit.edit;
+        read = e.read;
+        blocks = e.blocks;
+        beside = all_beside pages page ms h.edit.blocks;
+        among = all_there pages page ps told.bs o.behind there ps ms (all_any ps ps (λ q i. i)) reach e.sent.at h.edit.edit.blocks h.edit.blocks;
+      };
+    }
+
+done_of : (pages : Pages) (page : List ℕ) (new : Tree) → IsCallsRead pages page new
+    → edit_to pages page new ≡ done (spliced page (slices same_node (page_tree pages page) new))
+done_of pages page new h =
+    by_marked (marked (page_tree pages page) new)
+    (λ none. nothing_spliced pages page new (nothing_done pages page new h.utf8 h.short h.unrefused h.sent.sent none))
+    (λ some. let o : CallsTold pages page new = calls_told pages page new h some in calling_edit_done pages page o.bs o.rest new o.lined o.taken o.edit)
+
+local_of : (pages : Pages) (page : List ℕ) (new : Tree) → IsCallsRead pages page new → IsLocalTextEdit pages page new
+local_of pages page new h =
+    by_marked (marked (page_tree pages page) new)
+    (λ none. nothing_local pages page new h.utf8 h.short h.unrefused h.sent.sent none)
+    (λ some. let o : CallsTold pages page new = calls_told pages page new h some in calling_local pages page o.bs o.rest new o.lined o.taken o.edit)
+
+-- ---- with marks
+
+pub calls_done : (pages : Pages) (page input : List ℕ) (new : Tree) (u : Option ℕ) → IsEditWithCalls pages page input new u
+    → edit_to pages page new ≡ done (spliced page (slices same_node (page_tree pages page) new))
+calls_done pages page input new u h = done_of pages page new (calls_read pages page input new u h)
+
+pub calls_written : (pages : Pages) (page input : List ℕ) (new : Tree) (u : Option ℕ) → IsEditWithCalls pages page input new u → length input ≤ HTML_BYTES
+    → edit_of pages (Some page) input ≡ done (spliced page (slices same_node (page_tree pages page) new))
+calls_written pages page input new u h le =
+    edit_is pages page (spliced page (slices same_node (page_tree pages page) new)) input new u h.utf8 h.short le h.sent (calls_done pages page input new u h)
+
+pub calls_local : (pages : Pages) (page input : List ℕ) (new : Tree) (u : Option ℕ) → IsEditWithCalls pages page input new u → IsLocalTextEdit pages page new
+calls_local pages page input new u h = local_of pages page new (calls_read pages page input new u h)
+
+-- ---- without marks
+
+pub calls_difference : (pages : Pages) (page input : List ℕ) (new : Tree) (u : Option ℕ) (stands : Option (List ℕ)) → IsDifferenceWithCalls pages page input new u
+    → stands ≡ Some page → length input ≤ HTML_BYTES → DoneByEdit pages stands input
+calls_difference pages page input new u stands h found le =
+    done_without_marks pages page input new u stands (spliced page (slices same_node (page_tree pages page) (remarked_of pages page new))) h.utf8 h.short h.sent
+    (done_of pages page (remarked_of pages page new) (difference_read pages page input new u h)) found le

@@ -1,0 +1,5 @@
+use Rattle.wt_inside_laws.proofs.EditsWithCalls.{calls_done, calls_written, calls_local}
+use Rattle.wt_inside_laws.proofs.as_sent.text_edits_with_calls_are_done.Goals as goal
+
+pub returns : goal.returns
+returns c = record { tree = calls_done; html = calls_written; local = calls_local }

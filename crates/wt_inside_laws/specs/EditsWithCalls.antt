@@ -1,0 +1,57 @@
+-- Text edits of paragraphs and headings of a page, which may hold calls: what is asked of them.
+use Rattle.std.specs.Prelude.{◌≡◌, ◌≤◌, ℕ, Option, None, List, length}
+use Rattle.std.specs.List.{AllByRecursion}
+use Rattle.std.specs.Str.{IsUtf8}
+use Rattle.wt_span.specs.declared.limits.TheConstants.{PAGE_BYTES}
+use Rattle.wt_tree.specs.Source.{flat}
+use Rattle.wt_tree.specs.Tree.{Tree}
+use Rattle.wt_expand.specs.PageCalls.{expanded_page}
+use Rattle.wt_expand.specs.Work.{Pages}
+use Rattle.wt_page_round_trip.specs.PageTree.{page_tree}
+use Rattle.wt_schema.specs.Read.{page as as_page, read}
+use Rattle.wt_slices.specs.Changes.{Pair, marked}
+use Rattle.wt_visible.specs.SameNodes.{same_node}
+use Rattle.wt_commands.specs.Answers.{refusal_of_page, remarked_of}
+use Rattle.wt_called_edit_laws.specs.CallingTogether.{AreOnTold, AreOnLines}
+use Rattle.wt_called_edit_laws.specs.CallingTold.{IsExceptedByLines}
+use Rattle.wt_called_edit_laws.specs.Groups.{called_tree}
+use Rattle.wt_called_edit_laws.specs.LinedCalling.{IsLinedCalling}
+use Rattle.wt_called_edit_laws.specs.PlacedLines.{LinedBlock}
+use Rattle.wt_inside_laws.specs.AsSent.{edits_of, paths_of}
+use Rattle.wt_inside_laws.specs.BesideEdits.{IsBesideBlock}
+use Rattle.wt_inside_laws.specs.TextEdits.{IsTextEdit}
+
+-- Where nodes of the page are on these lines, they tell them, with their calls or without: they are these paragraphs and headings.
+pub record AreToldBlocks (pages : Pages) (page : List ℕ) (paths : List (List ℕ)) (o : AreOnLines pages page paths) : Type 0 where
+  pub bs : List LinedBlock
+  pub on : AreOnTold o.ts bs
+  pub lined : IsLinedCalling pages page bs o.behind
+
+-- A marked block has a byte, its lines can tell it, and it calls nothing and is ordinary, or texts may be typed beside its calls.
+pub record MayHoldCalls (pages : Pages) (page : List ℕ) (p : Pair) : Type 0 where
+  pub some : 1 ≤ length (flat p.old)
+  pub unexcepted : IsExceptedByLines pages page p.old → ⊥
+  pub beside : IsBesideBlock pages page p
+
+-- A text edit of a page that isn't refused: each marked block is such a one, and the lines on which these are tell them.
+pub record MarksBlocksWithCalls (pages : Pages) (page : List ℕ) (new : Tree) : Type 0 where
+  pub edit : IsTextEdit same_node (expanded_page pages page) page (page_tree pages page) new
+  pub blocks : AllByRecursion (MayHoldCalls pages page) (marked (page_tree pages page) new)
+  pub told : 1 ≤ length (marked (page_tree pages page) new) → (o : AreOnLines pages page (paths_of (edits_of (called_tree pages page) new)))
+      → AreToldBlocks pages page (paths_of (edits_of (called_tree pages page) new)) o
+
+-- HTML is read as such an edit.
+pub record IsEditWithCalls (pages : Pages) (page input : List ℕ) (new : Tree) (unsourced : Option ℕ) : Type 0 where
+  pub utf8 : IsUtf8 page
+  pub short : length page ≤ PAGE_BYTES
+  pub unrefused : refusal_of_page pages page ≡ None
+  pub sent : read input ≡ as_page new unsourced
+  pub edit : MarksBlocksWithCalls pages page new
+
+-- HTML without marks: with the marks of its difference from the page (`remarked_of`) it is such an edit.
+pub record IsDifferenceWithCalls (pages : Pages) (page input : List ℕ) (new : Tree) (unsourced : Option ℕ) : Type 0 where
+  pub utf8 : IsUtf8 page
+  pub short : length page ≤ PAGE_BYTES
+  pub unrefused : refusal_of_page pages page ≡ None
+  pub sent : read input ≡ as_page new unsourced
+  pub edit : MarksBlocksWithCalls pages page (remarked_of pages page new)
