@@ -43,6 +43,7 @@ mod CallingCases
 pub mod SpotFrames
 pub mod ContentItems
 pub mod SignRows
+mod EndCases
 pub mod SpotRows
 pub mod SpotSlots
 pub mod SpotTrees

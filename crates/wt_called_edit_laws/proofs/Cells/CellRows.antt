@@ -65,7 +65,7 @@ texts_at n l ls ms h k =
 abbrev IsTextAt : ℕ → List Item → Type 0
 IsTextAt n l = line_kind n l ≡ line.Text
 
-kinds_by : (n : ℕ) (ls ends : List (List Item)) → All (IsTextAt n) (map content ls ++ ends) → AreAt n ls
+pub kinds_by : (n : ℕ) (ls ends : List (List Item)) → All (IsTextAt n) (map content ls ++ ends) → AreAt n ls
 kinds_by n [] ends a = tt
 kinds_by n (l ∷ ls) ends a =
     (All-head (IsTextAt n) (content l) (map content ls ++ ends) a, kinds_by n ls ends (All-tail (IsTextAt n) (content l) (map content ls ++ ends) a))

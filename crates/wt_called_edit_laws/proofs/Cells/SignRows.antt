@@ -1,6 +1,6 @@
 -- A paragraph on the line of a table's end, behind its `|}`: the rows of the line are those of the sign and the first of the paragraph, whatever kind this line
 -- would have by itself.
-use Rattle.std.proofs.Common.{arith, ◌≡◌, ℕ, suc, ◌+◌, ◌-◌, ◌==◌, Bool, true, false, List, [], ◌∷◌, ◌++◌, length, map, take, drop, nat_lt, refl, sym, ap, ◌∙◌, subst, append-nil, append_assoc}
+use Rattle.std.proofs.Common.{arith, ◌≡◌, ℕ, suc, ◌+◌, ◌-◌, ◌==◌, Bool, true, false, List, [], ◌∷◌, ◌++◌, length, map, take, drop, nat_lt, refl, sym, ap, ◌∙◌, subst, append-nil, append_assoc, All, ◌≤◌, zero}
 use Rattle.std.specs.Prelude.{not, if◌then◌else◌}
 use Rattle.std.specs.List.{prefix_len}
 use Rattle.std.proofs.lemmas.Bool.Decides.{nat_tests}
@@ -11,35 +11,23 @@ use Rattle.wt_span.proofs.RunLaws.{runs_are}
 use Rattle.wt_lines.specs.declared.kind.LineKind.{LineKind}
 use Rattle.wt_lines.specs.declared.kind.LineKind.TheVariants as line
 use Rattle.wt_lines.specs.Kinds.{is_idle, past, is_idle_all, kind_of_signs, line_kind}
-use Rattle.wt_lines.specs.Lines.{is_break_item, goes_on, full_lines, content}
+use Rattle.wt_lines.specs.Lines.{is_break_item, goes_on, full_lines, content, empty_end, lines}
 use Rattle.wt_tables.specs.Extents.{behind}
 use Rattle.wt_page.specs.Lines.{kind_at, ending}
 use Rattle.wt_page.specs.Rows.{Row, marks_len, idle_len, is_unseen, whole_row, sign_rows, line_rows, rows_from}
+use Rattle.wt_text_edit_laws.specs.ParagraphBetween.{written_rows, tables_behind}
+use Rattle.wt_text_edit_laws.specs.Paragraphs.{IsSeenLine}
 use Rattle.wt_text_edit_laws.specs.TypedHeadings.{EndsLine}
+use Rattle.wt_text_edit_laws.proofs.Paragraphs.Joining.{lines_join, rows_join}
+use Rattle.wt_lines.proofs.FullLines.{same_lines}
+use Rattle.std.proofs.lemmas.List.Elements.{All-head, All-tail}
 use Rattle.wt_text_edit_laws.proofs.Texts.PlainRows.{text_row, last_break}
 use Rattle.wt_text_edit_laws.proofs.Prose.ProseLines.{first_ended, rest_ended, content_ended}
 use Rattle.wt_text_edit_laws.proofs.Paragraphs.LineBlocks.{paragraph_rows, IsLineBlock, still_unled}
 use Rattle.wt_text_edit_laws.proofs.Paragraphs.Marks.{AreMarks, mark_sign, led, with_lead, row_marks}
 use Rattle.wt_called_edit_laws.specs.AnyBlocks.{past_break}
-use Rattle.wt_called_edit_laws.proofs.Cells.CellRows.{AreAt, later_at, own_rows, ended_lines}
-
--- ---- the sign
-
--- blanks and marks, or none, and behind them `|}`
-abbrev AreIdleItems : List Item → Type 0
-AreIdleItems [] = Unit {0}
-AreIdleItems (x ∷ xs) = (is_idle (sign x) ≡ true) × (is_break_item x ≡ false) × AreIdleItems xs
-
-pub record IsEndSign (l : List Item) : Type 0 where
-  pub lead : List Item
-  pub bar : Item
-  pub brace : Item
-  pub is : l ≡ lead ++ (bar ∷ brace ∷ [])
-  pub idle : AreIdleItems lead
-  pub is_bar : sign bar ≡ 124
-  pub bar_goes : is_break_item bar ≡ false
-  pub is_brace : sign brace ≡ 125
-  pub brace_goes : is_break_item brace ≡ false
+use Rattle.wt_called_edit_laws.specs.TableEnds.{AreIdleItems, IsEndSign, IsTableEnd, AreLater}
+use Rattle.wt_called_edit_laws.proofs.Cells.CellRows.{AreAt, later_at, kinds_by, own_rows, ended_lines}
 
 abbrev AllGo : List Item → Type 0
 AllGo [] = Unit {0}
@@ -256,3 +244,114 @@ text_on_sign n l own ms (y ∷ ys) h b m seen texts e =
     → rows_from (suc n) (full_lines (l ++ (ms ++ (own ++ y ∷ ys)))) ≡ line_rows line.TableEnd l ++ (led ms (paragraph_rows g gs) ++ rows_from n (full_lines ys)) in
     subst P (sym some.2) (λ are u v. lines_on n l ms (own ++ y ∷ ys) h some.0 some.1 gs (full_lines ys) m are u v (later_ended n b.first b.others texts b.are_unended))
     all (still_unled b.first b.others b.unled) (first_seen b.first b.others seen b.are_unended)
+
+-- ---- behind lines
+
+one_line : (x : Item) (xs : List Item) → AllGo (x ∷ xs) → full_lines (x ∷ xs) ≡ (x ∷ xs) ∷ []
+one_line x [] h = refl
+one_line x (y ∷ ys) h = ap (put goes_on x) (one_line y ys h.1) ∙ put_on x y ys [] (ap not h.0)
+
+sign_alone : (l : List Item) → IsEndSign l → full_lines l ≡ l ∷ []
+sign_alone l h = by l (sign_goes l h) (ap length h.is)
+  where
+    some : (xs : List Item) → 1 ≤ length (xs ++ (h.bar ∷ h.brace ∷ []))
+    some [] = omega arith
+    some (x ∷ xs) = omega arith
+
+    by : (xs : List Item) → AllGo xs → length xs ≡ length (h.lead ++ (h.bar ∷ h.brace ∷ [])) → full_lines xs ≡ xs ∷ []
+    by [] g e = absurd (omega (arith, e, some h.lead))
+    by (x ∷ xs) g e = one_line x xs g
+
+written_join : (n : ℕ) (ls ms : List (List Item)) → written_rows n (ls ++ ms) ≡ written_rows n ls ++ written_rows (tables_behind n ls) ms
+written_join n [] ms = refl
+written_join n (l ∷ ls) ms =
+    ap (λ (rs : List Row). line_rows (kind_at n l) l ++ rs) (written_join (behind n (kind_at n l)) ls ms)
+    ∙ sym (append_assoc (line_rows (kind_at n l) l) (written_rows (behind n (kind_at n l)) ls) (written_rows (tables_behind (behind n (kind_at n l)) ls) ms))
+
+tables_join : (n : ℕ) (ls ms : List (List Item)) → tables_behind n (ls ++ ms) ≡ tables_behind (tables_behind n ls) ms
+tables_join n [] ms = refl
+tables_join n (l ∷ ls) ms = tables_join (behind n (kind_at n l)) ls ms
+
+end_kind : (n : ℕ) (l : List Item) → IsEndSign l → kind_at (suc n) l ≡ line.TableEnd
+end_kind n l h = ap (kind_at (suc n)) h.is ∙ sign_kind n l [] h
+
+end_written : (n : ℕ) (l : List Item) → IsEndSign l → written_rows (suc n) (l ∷ []) ≡ line_rows line.TableEnd l
+end_written n l h = ap (λ (k : LineKind). line_rows k l ++ []) (end_kind n l h) ∙ append-nil (line_rows line.TableEnd l)
+
+end_tables : (n : ℕ) (l : List Item) → IsEndSign l → tables_behind (suc n) (l ∷ []) ≡ n
+end_tables n l h = let one : suc n - 1 ≡ n = omega arith in ap (behind (suc n)) (end_kind n l h) ∙ one
+
+-- what such a part makes, and the paragraph behind it
+pub end_rows : (n : ℕ) (xs front l own ms tail : List Item) (h : IsEndSign l) (b : IsLineBlock own) → xs ≡ front ++ l → empty_end front ≡ [] ∷ []
+    → 1 ≤ tables_behind n (full_lines front) → AreMarks ms → is_unseen b.first ≡ false → AreAt (tables_behind n (full_lines xs)) b.others → EndsLine tail
+    → rows_from n (full_lines (xs ++ (ms ++ (own ++ tail))))
+    ≡ written_rows n (full_lines xs) ++ (led ms (own_rows own b tail) ++ rows_from (tables_behind n (full_lines xs)) (full_lines (past_break tail)))
+end_rows n xs front l own ms tail h b is ends some marks seen texts e = by (tables_behind n (full_lines front)) refl some
+  where
+    Z : List Item
+    Z = ms ++ (own ++ tail)
+
+    lines_are : full_lines xs ≡ full_lines front ++ l ∷ []
+    lines_are = ap full_lines is ∙ lines_join front l ends ∙ ap (λ (ls : List (List Item)). full_lines front ++ ls) (sign_alone l h)
+
+    all : rows_from n (full_lines (xs ++ Z)) ≡ written_rows n (full_lines front) ++ rows_from (tables_behind n (full_lines front)) (full_lines (l ++ Z))
+    all =
+        ap (λ (ys : List Item). rows_from n (full_lines ys)) (ap (λ (ys : List Item). ys ++ Z) is ∙ append_assoc front l Z)
+        ∙ ap (rows_from n) (lines_join front (l ++ Z) ends) ∙ rows_join n (full_lines front) (full_lines (l ++ Z))
+
+    by : (m : ℕ) → tables_behind n (full_lines front) ≡ m → 1 ≤ m
+        → rows_from n (full_lines (xs ++ Z))
+        ≡ written_rows n (full_lines xs) ++ (led ms (own_rows own b tail) ++ rows_from (tables_behind n (full_lines xs)) (full_lines (past_break tail)))
+    by zero f le = absurd (omega (arith, le))
+    by (suc m) f le =
+        let tables : tables_behind n (full_lines xs) ≡ m =
+        ap (tables_behind n) lines_are ∙ tables_join n (full_lines front) (l ∷ []) ∙ ap (λ (k : ℕ). tables_behind k (l ∷ [])) f ∙ end_tables m l h in
+        let rows : written_rows n (full_lines xs) ≡ written_rows n (full_lines front) ++ line_rows line.TableEnd l =
+        ap (written_rows n) lines_are ∙ written_join n (full_lines front) (l ∷ [])
+        ∙ ap (λ (rs : List Row). written_rows n (full_lines front) ++ rs) (ap (λ (k : ℕ). written_rows k (l ∷ [])) f ∙ end_written m l h) in
+        let own_part : List Row = led ms (own_rows own b tail) in
+        let last : rows_from (suc m) (full_lines (l ++ Z)) ≡ line_rows line.TableEnd l ++ (own_part ++ rows_from m (full_lines (past_break tail))) =
+        text_on_sign m l own ms tail h b marks seen (subst (λ (k : ℕ). AreAt k b.others) tables texts) e in
+        all
+        ∙ ap (λ (k : ℕ). written_rows n (full_lines front) ++ rows_from k (full_lines (l ++ Z))) f
+        ∙ ap (λ (rs : List Row). written_rows n (full_lines front) ++ rs) last
+        ∙ sym (append_assoc (written_rows n (full_lines front)) (line_rows line.TableEnd l) (own_part ++ rows_from m (full_lines (past_break tail))))
+        ∙ ap (λ (rs : List Row). rs ++ (own_part ++ rows_from m (full_lines (past_break tail)))) (sym rows)
+        ∙ ap (λ (k : ℕ). written_rows n (full_lines xs) ++ (own_part ++ rows_from k (full_lines (past_break tail)))) (sym tables)
+
+-- ---- what is asked of its lines
+
+empty_behind : (xs : List Item) (y : Item) (ys : List Item) → empty_end (xs ++ y ∷ ys) ≡ empty_end (y ∷ ys)
+empty_behind [] y ys = refl
+empty_behind (x ∷ []) y ys = refl
+empty_behind (x ∷ z ∷ xs) y ys = empty_behind (z ∷ xs) y ys
+
+abbrev no_lines : Bool → List (List Item)
+no_lines t = if t then [] ∷ [] else []
+
+-- the line of a sign doesn't end
+pub end_unwhole : (n : ℕ) (xs : List Item) → IsTableEnd n xs → empty_end xs ≡ [] ∷ [] → ⊥
+end_unwhole n xs g w =
+    let h : IsEndSign g.last = g.end in
+    let is : xs ≡ (g.front ++ (h.lead ++ h.bar ∷ [])) ++ h.brace ∷ [] =
+    g.is ∙ ap (λ (ys : List Item). g.front ++ ys) (h.is ∙ sym (append_assoc h.lead (h.bar ∷ []) (h.brace ∷ []))) ∙ sym (append_assoc g.front (h.lead ++ h.bar ∷ []) (h.brace ∷ [])) in
+    let none : empty_end xs ≡ [] =
+    ap empty_end is ∙ empty_behind (g.front ++ (h.lead ++ h.bar ∷ [])) h.brace [] ∙ ap no_lines h.brace_goes in
+    let no : ◌≡◌ {A = List (List Item)} [] ([] ∷ []) = sym none ∙ w in
+    absurd (cc)
+
+pub all_later : (n : ℕ) (ls : List (List Item)) → All (λ m. line_kind n m ≡ line.Text) ls → AreLater n ls
+all_later n [] h = tt
+all_later n (l ∷ ls) h = All-tail (λ m. line_kind n m ≡ line.Text) l ls h
+
+pub later_others : (n : ℕ) (own : List Item) (b : IsLineBlock own) → AreLater n (lines own) → AreAt n b.others
+later_others n own b h =
+    let are : lines own ≡ content b.first ∷ (map content b.others ++ empty_end own) =
+    same_lines own ∙ ap (λ (ls : List (List Item)). map content ls ++ empty_end own) b.are_lines in
+    kinds_by n b.others (empty_end own) (subst (AreLater n) are h)
+
+pub first_is_seen : (own : List Item) (b : IsLineBlock own) → All IsSeenLine (lines own) → is_unseen b.first ≡ false
+first_is_seen own b h =
+    let are : lines own ≡ content b.first ∷ (map content b.others ++ empty_end own) =
+    same_lines own ∙ ap (λ (ls : List (List Item)). map content ls ++ empty_end own) b.are_lines in
+    All-head IsSeenLine (content b.first) (map content b.others ++ empty_end own) (subst (All IsSeenLine) are h)
