@@ -3,4 +3,5 @@ pub mod Lines
 pub mod Paragraphs
 pub mod Blocks
 pub mod Shown
+pub mod Headings
 pub mod Even

@@ -33,7 +33,7 @@ use Rattle.wt_text_edit_laws.specs.TypedHeadings.{EndsWithout, is_equals_sign}
 use Rattle.wt_beside_laws.specs.InHeadings.{AreOnOneLine}
 use Rattle.wt_beside_laws.specs.Lines.{AreCharacters}
 use Rattle.wt_beside_laws.specs.NodeItems.{node_items}
-use Rattle.wt_beside_laws.specs.Nodes.{IsNode, OpensNoPair, MayFollow, MayLead}
+use Rattle.wt_beside_laws.specs.Nodes.{IsNode, OpensNoPair, IsBeforeQuotes, MayFollow, MayLead}
 use Rattle.wt_beside_laws.specs.Shown.{parts_shown_at}
 use Rattle.wt_beside_laws.specs.Stood.{things}
 
@@ -135,9 +135,10 @@ AreOwnInside (own ∷ owns) = AreOwnOrGiven (line_parts own) × AreOwnInside own
 abbrev pub MayBeBehindGroup : Bool → Glyph → Type 0
 MayBeBehindGroup slashes g = (in_class class.Trail g ≡ false) × (slashes ≡ true → is_url_glyph g ≡ false)
 
-abbrev pub MayFollowGroup : Bool → List Glyph → Type 0
-MayFollowGroup slashes [] = Unit {0}
-MayFollowGroup slashes (g ∷ gs) = MayBeBehindGroup slashes g
+-- or two apostrophes, if none is last in what it gives: a URL ends before them
+abbrev pub MayFollowGroup : Bool → List Glyph → List Glyph → Type 0
+MayFollowGroup slashes own [] = Unit {0}
+MayFollowGroup slashes own (g ∷ gs) = MayBeBehindGroup slashes g ⊎ IsBeforeQuotes own (g ∷ gs)
 
 -- what may be read behind a node that gives these
 abbrev pub BehindMay : Role → List Glyph → List Glyph → Type 0
@@ -147,7 +148,7 @@ BehindMay (Bare ends) own more = MayFollow (Bare ends) own more
 BehindMay Switch own more = MayFollow Switch own more
 BehindMay Toggle own more = MayFollow Toggle own more
 BehindMay (Mark ends began) own more = MayFollow (Mark ends began) own more
-BehindMay (Group g) own more = MayFollowGroup g.slashes more
+BehindMay (Group g) own more = MayFollowGroup g.slashes own more
 BehindMay Function own more = MayFollow Function own more
 BehindMay Node own more = MayFollow Node own more
 

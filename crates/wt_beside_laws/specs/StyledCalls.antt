@@ -9,13 +9,15 @@ use Rattle.wt_guards.specs.Letters.{is_escaped}
 use Rattle.wt_tree.specs.EditShapes.{edit_shape}
 use Rattle.wt_tree.specs.declared.edit_shape.InlineForm.{InlineForm}
 use Rattle.wt_tree.specs.declared.edit_shape.InlineForm.TheVariants as inline
+use Rattle.wt_tree.specs.declared.edit_shape.Place.TheVariants as place
 use Rattle.wt_inline.specs.ItemTree.{inner}
 use Rattle.wt_inline.specs.Parts.{Part, loose, node, parts}
 use Rattle.wt_inline.specs.declared.loose.Loose.TheVariants.{Text}
 use Rattle.wt_context.specs.Line.{line_parts}
 use Rattle.wt_part_laws.specs.CallPieces.{AreOwnOrGiven}
-use Rattle.wt_beside_laws.specs.Called.{AllMeetWith, AreGiven, AreSomeOfPage, HasUncalled}
+use Rattle.wt_beside_laws.specs.Called.{AllEndSeen, AllMeetWith, AreGiven, AreSomeOfPage, HasUncalled}
 use Rattle.wt_beside_laws.specs.Content.{guard_items, letter_items}
+use Rattle.wt_beside_laws.specs.InHeadings.{AreOnOneLine}
 use Rattle.wt_beside_laws.specs.Lines.{AreCharacters}
 use Rattle.wt_beside_laws.specs.Nests.{style_tree}
 use Rattle.wt_beside_laws.specs.Shown.{parts_shown_at}
@@ -99,6 +101,18 @@ pub record IsStyledCalled (s : Setting) (t : StyledContent) (owns : List (List I
   pub nested : AreNested false false t
   pub meet : AllMeetWith s [] [] (signs_in t) owns
   pub some : HasUncalled s [] (signs_in t)
+
+-- The same in a heading: it is on one line, and may be calls alone, since its `=` are the page's.
+pub record IsStyledCalledHeading (s : Setting) (t : StyledContent) (owns : List (List Item)) : Type 0 where
+  pub of_block : s.within ≡ false
+  pub of_heading : s.place ≡ place.Heading
+  pub one_line : AreOnOneLine (signs_in t)
+  pub characters : AreCharacters (signs_in t)
+  pub given : AreGiven (signs_in t) owns
+  pub own : AreOwnAt false t owns
+  pub nested : AreNested false false t
+  pub meet : AllMeetWith s [] [] (signs_in t) owns
+  pub end_seen : AllEndSeen owns
 
 -- ---- what it shows
 

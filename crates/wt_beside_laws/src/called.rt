@@ -37,7 +37,7 @@ ghost use Rattle.wt_beside_laws.specs.Lines.{IsLineOfText};
 ghost use Rattle.wt_beside_laws.specs.Shown.{parts_shown_at};
 ghost use Rattle.wt_beside_laws.specs.SpelledApart.{HasEvenToggles};
 ghost use Rattle.wt_beside_laws.specs.Styled.{StyledContent, signs_in};
-ghost use Rattle.wt_beside_laws.specs.StyledCalls.{IsStyledCalled, styled_called_shown, styled_with};
+ghost use Rattle.wt_beside_laws.specs.StyledCalls.{IsStyledCalled, IsStyledCalledHeading, styled_called_shown, styled_with};
 
 /// Texts beside calls, and beside nodes that stay, are one paragraph, whatever is typed: each line is text wherever it is in tables, and what is in
 /// the paragraph is in the order of the signs (`parts_with`): what each call gives is what it is on a line by itself. Between other lines of a page
@@ -85,7 +85,7 @@ pub fn texts_beside_calls_are_shown()
         → plain_before (cut_texts (group_of_call calls j (forest (children (line_parts own))))) rest ≡ parts_shown_at 0 [] (line_parts own) rest }
 {}
 
-/// Bold and italic beside calls, round texts and nodes that are no calls (`IsStyledCalled`), are one paragraph with these texts and calls,
+/// Bold and italic beside calls, round texts, nodes and calls that give none of their own (`IsStyledCalled`), are one paragraph with these texts and calls,
 /// whatever is typed beside them and in them: each style is a node round what is inside it (`styled_with`). It holds its calls: in the page's tree what
 /// each call gives is a group by itself. And it shows the texts, each in its bold or italic, and each node as its items show by themselves.
 pub fn styles_beside_calls_are_one_paragraph()
@@ -99,6 +99,19 @@ pub fn styles_beside_calls_are_one_paragraph()
     ensures shown { (calls : List OuterCall) (s : Setting) (t : StyledContent) (owns : List (List Item)) (rest : Plains) → IsStyledCalled s t owns
         → plain_before (cut_texts (block_in calls (para_with (joined_parts (lines (items_with s [] (signs_in t) owns)))))) rest
         ≡ along (element paragraph_face (styled_called_shown t owns ended)) rest }
+{}
+
+/// So in a heading, which may begin and end with calls and styles (`IsStyledCalledHeading`): it is on one line, begins and ends with no blank, keeps its level,
+/// and holds its calls between its delimiters.
+pub fn styles_beside_calls_may_be_in_headings()
+    ensures inside { (s : Setting) (t : StyledContent) (owns : List (List Item)) → IsStyledCalledHeading s t owns → IsHeadingInside (items_with s [] (signs_in t) owns) }
+    ensures level { (s : Setting) (t : StyledContent) (owns : List (List Item)) (sides : Sides) → IsStyledCalledHeading s t owns → AreSides sides
+        → IsOfLevel sides (items_with s [] (signs_in t) owns) }
+    ensures holds { (s : Setting) (t : StyledContent) (owns : List (List Item)) (sides : Sides) → IsStyledCalledHeading s t owns → AreSides sides
+        → HoldsItsCalls (heading_round sides (items_with s [] (signs_in t) owns)) }
+    ensures block { (calls : List OuterCall) (s : Setting) (t : StyledContent) (owns : List (List Item)) (sides : Sides) → IsStyledCalledHeading s t owns
+        → AreSides sides → block_in calls (heading_round sides (items_with s [] (signs_in t) owns))
+        ≡ block_of_pieces calls (plain (kind.Heading sides.level)) (page_chars (opening sides)) (styled_with false s [] t [] owns) (closing_items sides) }
 {}
 
 /// The group of what a call gives has no fault (`is_faulty`): read alone, behind a `<nowiki/>`, it shows the same, its line has even toggles, and no

@@ -8,6 +8,7 @@ pub mod OwnSeams
 pub mod OwnItems
 pub mod BlockAt
 pub mod LinedParts
+pub mod FirstItems
 pub mod CallingLines
 pub mod CallingCases
 pub mod CalmLines

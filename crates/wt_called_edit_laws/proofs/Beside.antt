@@ -4,6 +4,7 @@ pub mod Found
 pub mod Sent
 pub mod Uncalled
 pub mod Making
+pub mod Apart
 pub mod Cases
 pub mod PageCases
 pub mod EndCases

@@ -24,7 +24,7 @@ use Rattle.wt_typed_blocks.specs.EditedPage.{edited_source, IsTaken, AreTaken}
 use Rattle.wt_text_edit_laws.specs.BlockSpots.{BlockSpot}
 use Rattle.wt_text_edit_laws.specs.Contents.{IsContent, IsNewContent}
 use Rattle.wt_text_edit_laws.specs.NoCalls.{CallsNothing}
-use Rattle.wt_text_edit_laws.specs.TextBlocks.{TextBlock, a_paragraph, block_of, source_of, block_items, block_tree}
+use Rattle.wt_text_edit_laws.specs.TextBlocks.{TextBlock, block_of, source_of, block_items, block_tree}
 use Rattle.wt_text_edit_laws.proofs.Blocks.BlockReading.{HasFrame, content_frame}
 use Rattle.wt_text_edit_laws.proofs.Blocks.Contents.{typed_new}
 use Rattle.wt_text_edit_laws.proofs.Blocks.Contents.{block_source as source_is}
@@ -41,7 +41,6 @@ use Rattle.wt_called_edit_laws.specs.PartTexts.{HaveOwnSources}
 use Rattle.wt_called_edit_laws.specs.Sends.{AllSend, MakesNode}
 use Rattle.wt_called_edit_laws.specs.Settled.{settled}
 use Rattle.wt_called_edit_laws.specs.SettledAt.{IsSettledAt}
-use Rattle.wt_called_edit_laws.specs.StyledCallEdits.{IsBesideStyles, IsStyledCallEdit}
 use Rattle.wt_called_edit_laws.specs.TreeEdits.{IsInline}
 use Rattle.wt_called_edit_laws.specs.WholeContents.{IsWholeIn, EachWhole}
 use Rattle.wt_called_edit_laws.specs.WrittenAnew.{HoldsAnywhere, EachHolds}
@@ -164,20 +163,6 @@ beside_made pages k q l m ps h = record {
 abbrev block_there : Pages → List OuterCall → ℕ → TextBlock → List ℕ → Tree
 block_there pages calls i k q = cut_texts (block_in calls (tree_round k (part_items pages i q)))
 
--- in a paragraph, with bold and italic
-styles_made : (pages : Pages) (calls : List OuterCall) (i : ℕ) (k : TextBlock) (q : List ℕ) (l m : Label) (ps : Pieces) → k ≡ a_paragraph
-    → IsSettledAt (block_there pages calls i k q) (page_node (edited (block_of k) l m ps)) → IsBesideStyles pages q (page_node (edited (block_of k) l m ps))
-    → IsStyledCallEdit pages (page_node (edited (block_of k) l m ps)) ps → IsMadeIn pages k q (edited (block_of k) l m ps)
-styles_made pages calls i k q l m ps p h b d =
-    let P : TextBlock → Type 0 = λ j. IsSettledAt (block_there pages calls i j q) (page_node (edited (block_of j) l m ps))
-    → IsBesideStyles pages q (page_node (edited (block_of j) l m ps)) → IsStyledCallEdit pages (page_node (edited (block_of j) l m ps)) ps
-    → IsMadeIn pages j q (edited (block_of j) l m ps) in
-    subst P (sym p)
-    (λ g c e.
-    beside_made pages a_paragraph q l m ps
-    (styles_make pages q (page_node (edited (block_of a_paragraph) l m ps)) m ps g.number g.at i calls g.some g.is c e))
-    h b d
-
 own_made : (pages : Pages) (calls : List OuterCall) (i : ℕ) (k : TextBlock) (q : List ℕ) (l m : Label) (ps : Pieces)
     → IsSettledAt (block_there pages calls i k q) (page_node (edited (block_of k) l m ps)) → FitsIn pages k q (edited (block_of k) l m ps)
     → IsMadeIn pages k q (edited (block_of k) l m ps)
@@ -188,7 +173,9 @@ own_made pages calls i k q l m ps h (inl (c, calm, f)) =
 own_made pages calls i k q l m ps h (inr (inl (b, d))) =
     beside_made pages k q l m ps
     (calls_make pages k q (page_node (edited (block_of k) l m ps)) m ps h.number h.at i calls h.some h.is b d)
-own_made pages calls i k q l m ps h (inr (inr (p, b, d))) = styles_made pages calls i k q l m ps p h b d
+own_made pages calls i k q l m ps h (inr (inr (b, d))) =
+    beside_made pages k q l m ps
+    (styles_make pages k q (page_node (edited (block_of k) l m ps)) m ps h.number h.at i calls h.some h.is b d)
 
 made_in : (pages : Pages) (calls : List OuterCall) (i : ℕ) (k : TextBlock) (q : List ℕ) (e : Edited) → IsSettledAt (block_there pages calls i k q) (page_node e)
     → FitsIn pages k q e → IsMadeIn pages k q e

@@ -98,11 +98,11 @@ abbrev pub IsBelow : ℕ → Option ℕ → Type 0
 IsBelow k None = Unit {0}
 IsBelow k (Some j) = j < k
 
-below_other : (k : ℕ) (o : Option ℕ) → IsBelow k o → same_call o (Some k) ≡ false
+pub below_other : (k : ℕ) (o : Option ℕ) → IsBelow k o → same_call o (Some k) ≡ false
 below_other k None h = refl
 below_other k (Some j) h = grind (arith, nat_tests)
 
-behind_new : (calls : List OuterCall) (o : Option ℕ) (k : ℕ) (x : Item) → same_call o (Some k) ≡ false → call_of x ≡ Some k
+pub behind_new : (calls : List OuterCall) (o : Option ℕ) (k : ℕ) (x : Item) → same_call o (Some k) ≡ false → call_of x ≡ Some k
     → text_behind calls o x ≡ source_of_call (slice_get calls k)
 behind_new calls o k x f e =
     ap (λ p. if not (same_call o p) then text_by calls p (source x) else []) e ∙ ap (λ t. if not t then source_of_call (slice_get calls k) else []) f

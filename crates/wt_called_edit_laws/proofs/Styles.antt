@@ -10,6 +10,11 @@ pub mod Written
 pub mod Lined
 pub mod Groups
 pub mod Whole
+pub mod Headings
 pub mod Making
 pub mod Cases
 mod PageCases
+pub mod InsideCases
+mod InsidePageCases
+pub mod HeadingCases
+mod HeadingPageCases

@@ -15,7 +15,7 @@ use Rattle.wt_typed_blocks.specs.Edited.{Pieces, Edited, stays, edited, round, E
 use Rattle.wt_text_edit_laws.specs.BlockSpots.{BlockSpot, spots_source}
 use Rattle.wt_text_edit_laws.specs.Contents.{IsContent}
 use Rattle.wt_text_edit_laws.specs.NoCalls.{CallsNothing}
-use Rattle.wt_text_edit_laws.specs.TextBlocks.{TextBlock, a_paragraph, block_of, block_items}
+use Rattle.wt_text_edit_laws.specs.TextBlocks.{TextBlock, block_of, block_items}
 use Rattle.wt_called_edit_laws.specs.CalledBlocks.{counted}
 use Rattle.wt_called_edit_laws.specs.CalledEdits.{IsBesideCalls, IsCalledEditOf}
 use Rattle.wt_called_edit_laws.specs.CalledTexts.{spots_tree}
@@ -31,14 +31,14 @@ use Rattle.wt_called_edit_laws.specs.StyledCallEdits.{IsBesideStyles, IsStyledCa
 -- ---- which contents may be sent
 
 -- Where a block calls nothing, what may be sent for any such block (`Fits`). Where it holds calls, any texts beside these and beside
--- its other nodes: each call stays; a paragraph isn't calls alone, and in a heading no line break is typed. In a paragraph bold and italic, too, may stay, go
--- and come, as they may nest, with any texts in them, and calls that give no bold or italic of their own.
+-- its other nodes: each call stays; a paragraph isn't calls alone, and in a heading no line break is typed. Bold and italic, too, may stay, go and come, as
+-- they may nest, with any texts in them, and calls that give no bold or italic of their own.
 abbrev pub FitsIn : Pages → TextBlock → List ℕ → Edited → Type 0
 FitsIn pages k q (stays t u) = ⊥
 FitsIn pages k q (edited j l m ps) =
     (IsContent k q × CallsNothing (block_items k q) × Fits k q (edited j l m ps))
     ⊎ ((IsBesideCalls pages k q (page_node (edited j l m ps)) × IsCalledEditOf pages k (page_node (edited j l m ps)) ps)
-    ⊎ ((k ≡ a_paragraph) × IsBesideStyles pages q (page_node (edited j l m ps)) × IsStyledCallEdit pages (page_node (edited j l m ps)) ps))
+    ⊎ (IsBesideStyles pages k q (page_node (edited j l m ps)) × IsStyledCallEdit pages k (page_node (edited j l m ps)) ps))
 FitsIn pages k q (round l m es) = ⊥
 
 -- what holds of a content, where one is sent

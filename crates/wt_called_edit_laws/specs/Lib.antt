@@ -61,3 +61,4 @@ pub mod ToldAmong
 pub mod StyledCallEdits
 pub mod CallingTold
 pub mod CallingTogether
+pub mod SpelledBeside

@@ -11,7 +11,6 @@ use Rattle.wt_tables.specs.Parts.{joined}
 use Rattle.wt_expand.specs.PageCalls.{expanded_page}
 use Rattle.wt_expand.specs.Work.{Pages}
 use Rattle.wt_commands.specs.Answers.{refusal_of_page}
-use Rattle.wt_part_laws.specs.Expanded.{part_items}
 use Rattle.wt_part_laws.specs.Slots.{AllTrue}
 use Rattle.wt_text_edit_laws.specs.BlockSpots.{BlockSpot}
 use Rattle.wt_text_edit_laws.specs.ParagraphBetween.{written_rows}
@@ -23,7 +22,6 @@ use Rattle.wt_called_edit_laws.specs.Covered.{HaveFreeBytes}
 use Rattle.wt_called_edit_laws.specs.EditableBlocks.{AreEditableContents}
 use Rattle.wt_called_edit_laws.specs.Groups.{called_tree}
 use Rattle.wt_called_edit_laws.specs.LinedAmong.{spots_of_lines, AreOfPage, AreBeside}
-use Rattle.wt_called_edit_laws.specs.Parts.{calls_to, calls_past}
 use Rattle.wt_called_edit_laws.specs.PlacedBlocks.{AreLinesAt}
 use Rattle.wt_called_edit_laws.specs.PlacedLines.{LinedBlock, all_lines, LinesApart}
 
@@ -65,20 +63,17 @@ BeginsThere calls [] = ⊥
 BeginsThere calls (x ∷ xs) = 1 ≤ length (text_from calls None (x ∷ []))
 
 -- The line break before its lines, the marks that begin them and each line break in them come from no call. What is on the page for them is the block's
--- source, and they are what this gives by itself, where so many calls come before it. So the block may begin or end with a call.
-pub record IsCallingHere (pages : Pages) (calls : List OuterCall) (k : ℕ) (b : LinedBlock) : Type 0 where
+-- source. So the block may begin or end with a call.
+pub record IsCallingHere (calls : List OuterCall) (b : LinedBlock) : Type 0 where
   pub before : last_of None (joined b.before) ≡ None
   pub marks : AreOfPage b.marks
   pub breaks : AllByRecursion (λ x. is_break_item x ≡ true → x ≡ break) (joined (b.first ∷ b.more))
   pub source : text_from calls None (content (joined (b.first ∷ b.more))) ≡ source_of b.block b.text
-  pub gives : content (joined (b.first ∷ b.more)) ≡ part_items pages k (source_of b.block b.text)
   pub begins : BeginsThere calls (content (joined (b.first ∷ b.more)))
 
-abbrev pub AreCallingHere : Pages → List OuterCall → ℕ → List Item → List LinedBlock → Type 0
-AreCallingHere pages calls k es [] = Unit {0}
-AreCallingHere pages calls k es (b ∷ bs) =
-    IsCallingHere pages calls (calls_to pages k (spot_on calls es b)) b
-    × AreCallingHere pages calls (calls_past pages k (spot_on calls es b)) (ending (joined (b.first ∷ b.more))) bs
+abbrev pub AreCallingHere : List OuterCall → List LinedBlock → Type 0
+AreCallingHere calls [] = Unit {0}
+AreCallingHere calls (b ∷ bs) = IsCallingHere calls b × AreCallingHere calls bs
 
 -- No call that is text has a byte of a block or of the marks that begin it, or goes over one of their ends, where so many bytes come before the first part.
 abbrev pub AreApartFrom : List OuterCall → List Span → ℕ → List Item → List LinedBlock → Type 0
@@ -91,13 +86,13 @@ AreApartFrom calls texts at es (b ∷ bs) =
 -- ---- the page
 
 -- The lines of the expanded page are those of these blocks, and those beside them. Each block is a content in this folder that may be edited, with its
--- calls or without, and its lines are what it gives by itself; no call that is text touches one; and each has a byte that no group of the page's tree
--- has. The page isn't refused.
+-- calls or without; no call that is text touches one; and each has a byte that no group of the page's tree has. The page isn't refused. That its lines
+-- are what it gives by itself follows.
 pub record IsLinedCalling (pages : Pages) (page : List ℕ) (bs : List LinedBlock) (behind : List (List Item)) : Type 0 where
   pub utf8 : IsUtf8 page
   pub are : full_lines (expanded_page pages page).items ≡ all_lines bs behind
   pub lined : AreCallingLined bs behind
-  pub here : AreCallingHere pages (expanded_page pages page).outer 0 [] bs
+  pub here : AreCallingHere (expanded_page pages page).outer bs
   pub contents : AreContentsInFolder pages (spots_of_lines pages page bs)
   pub editable : AreEditableContents pages (spots_of_lines pages page bs)
   pub apart : AreApartFrom (expanded_page pages page).outer (expanded_page pages page).text_calls 0 [] bs

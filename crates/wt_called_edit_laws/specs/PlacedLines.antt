@@ -14,7 +14,6 @@ use Rattle.wt_text_edit_laws.specs.PageCuts.{AreBlockItems, EndClosed}
 use Rattle.wt_text_edit_laws.specs.NoCalls.{CallsNothing}
 use Rattle.wt_text_edit_laws.specs.Parts.{HasNoGroups}
 use Rattle.wt_text_edit_laws.specs.ParagraphBetween.{written_rows, BeginApart}
-use Rattle.wt_text_edit_laws.specs.TextBetween.{AreEnded}
 use Rattle.wt_text_edit_laws.specs.TextBlocks.{TextBlock, a_paragraph, a_heading}
 use Rattle.wt_called_edit_laws.specs.AnyBlocks.{open_after, EndsFor, NextApart}
 use Rattle.wt_called_edit_laws.specs.PlacedBlocks.{AreLinesAt}
@@ -53,7 +52,6 @@ OwnLined (a_heading s) n q ls = AreBlockItems (a_heading s) q (content (joined l
 -- In the body, in a cell or in a caption, and before a paragraph is no text. Marks may begin its line, the last of which ends with a `>` or a line break.
 pub record IsLinedAt (open_tables : List Bool) (b : LinedBlock) : Type 0 where
   pub are_marks : list_all is_mark b.marks ≡ true
-  pub ended : AreEnded (sources b.marks)
   pub some : 1 ≤ length b.first
   pub in_cells : AllTrue (open_after open_tables (written_rows (length open_tables) b.before))
   pub apart : EndsFor b.block (written_rows (length open_tables) b.before)

@@ -1,6 +1,6 @@
--- A paragraph of the page with calls and with bold and italic in it, for which one with other texts beside these calls, and with other styles, is sent:
--- what is written for it.
-use Rattle.std.specs.Prelude.{◌≡◌, ℕ, true, false, List, [], ◌∷◌, ◌≢◌}
+-- A paragraph or heading of the page with calls and with bold and italic in it, for which one with other texts beside these calls, and with other styles,
+-- is sent: what is written for it.
+use Rattle.std.specs.Prelude.{◌≡◌, ◌⊎◌, ℕ, true, false, List, [], ◌∷◌, ◌≢◌, map}
 use Rattle.std.specs.Str.{IsUtf8}
 use Rattle.wt_tree.specs.EditShapes.{edit_shape}
 use Rattle.wt_tree.specs.Plain.{face}
@@ -12,21 +12,24 @@ use Rattle.wt_tree.specs.declared.edit_shape.InlineForm.TheVariants as inline
 use Rattle.wt_guards.specs.Content.{Thing, is_group}
 use Rattle.wt_guards.specs.declared.role.Role.{Role}
 use Rattle.wt_guards.specs.declared.role.Role.TheVariants.{Bare, External, Function, Group, Link, Mark, Node, Switch, Toggle}
+use Rattle.wt_tiles.specs.Glyphs.{glyph_of}
 use Rattle.wt_context.specs.Line.{line_parts}
 use Rattle.wt_link_spelling.specs.Spelling.{children_of}
 use Rattle.wt_expand.specs.PageCalls.{expanded_page}
 use Rattle.wt_expand.specs.Work.{Pages}
 use Rattle.wt_part_laws.specs.Expanded.{part_items}
+use Rattle.wt_text_edit_laws.specs.TextBlocks.{TextBlock}
 use Rattle.wt_typed_blocks.specs.Edited.{Pieces, PiecesStay, around, gone, kept, new_style, no_pieces, page_pieces, written}
 use Rattle.wt_beside_laws.specs.Called.{AreSomeOfPage}
 use Rattle.wt_beside_laws.specs.Cuts.{own_glyphs}
 use Rattle.wt_beside_laws.specs.FlatPages.{AreNodesAndTexts}
 use Rattle.wt_beside_laws.specs.NewStyles.{NewStylesNest}
 use Rattle.wt_beside_laws.specs.NodeItems.{node_items}
+use Rattle.wt_beside_laws.specs.Nodes.{is_quote_last}
 use Rattle.wt_beside_laws.specs.SentStyled.{AllNest, style_face}
 use Rattle.wt_beside_laws.specs.StyledCalls.{AreUnstyledParts}
 use Rattle.wt_beside_laws.specs.StyledNodes.{EndsUnquoted}
-use Rattle.wt_called_edit_laws.specs.CalledEdits.{IsChildBeside, SendsUncalled, page_things}
+use Rattle.wt_called_edit_laws.specs.CalledEdits.{FitsRound, IsChildBeside, TextsFitAt, page_things}
 use Rattle.wt_called_edit_laws.specs.InPieces.{AreInPieces, pieces_source}
 use Rattle.wt_called_edit_laws.specs.PageThings.{ArePageThings, thing_sources}
 use Rattle.wt_called_edit_laws.specs.WrittenAnew.{StayButForOthers}
@@ -88,32 +91,32 @@ abbrev mutual
   AreNodesBeside pages none = Unit {0}
   AreNodesBeside pages (more t ts) = IsNodeBeside pages t × AreNodesBeside pages ts
 
--- a call that doesn't end with a URL, or another node
-abbrev pub EndsUnslashed : Role → Type 0
-EndsUnslashed Link = Unit {0}
-EndsUnslashed External = Unit {0}
-EndsUnslashed (Bare ends) = Unit {0}
-EndsUnslashed Switch = Unit {0}
-EndsUnslashed Toggle = Unit {0}
-EndsUnslashed (Mark ends began) = Unit {0}
-EndsUnslashed (Group g) = g.slashes ≡ false
-EndsUnslashed Function = Unit {0}
-EndsUnslashed Node = Unit {0}
+-- a call that shows no `//`, or in which no apostrophe is last; or another node
+abbrev pub GivesUnquoted : Pages → Role → List ℕ → Type 0
+GivesUnquoted pages Link source = Unit {0}
+GivesUnquoted pages External source = Unit {0}
+GivesUnquoted pages (Bare ends) source = Unit {0}
+GivesUnquoted pages Switch source = Unit {0}
+GivesUnquoted pages Toggle source = Unit {0}
+GivesUnquoted pages (Mark ends began) source = Unit {0}
+GivesUnquoted pages (Group g) source = (g.slashes ≡ false) ⊎ ((i : ℕ) → is_quote_last (map glyph_of (part_items pages i source)) ≡ false)
+GivesUnquoted pages Function source = Unit {0}
+GivesUnquoted pages Node source = Unit {0}
 
--- A node that is no call is something of the page on a line by itself. Neither a call nor a bare URL ends with what a delimiter would go on: no call with
--- a URL, and no bare URL with an apostrophe.
-pub record IsOwnThing (t : Thing) : Type 0 where
+-- A node that is no call is something of the page on a line by itself. No URL ends with an apostrophe, of the page or of a call: a delimiter behind it would
+-- take that.
+pub record IsOwnThing (pages : Pages) (t : Thing) : Type 0 where
   pub some : is_group t.role ≡ false → AreSomeOfPage (line_parts (node_items t.source))
   pub unquoted : EndsUnquoted t.role (own_glyphs t)
-  pub unslashed : EndsUnslashed t.role
+  pub gives : GivesUnquoted pages t.role t.source
 
-abbrev pub AreOwnThings : List Thing → Type 0
-AreOwnThings [] = Unit {0}
-AreOwnThings (t ∷ ts) = IsOwnThing t × AreOwnThings ts
+abbrev pub AreOwnThings : Pages → List Thing → Type 0
+AreOwnThings pages [] = Unit {0}
+AreOwnThings pages (t ∷ ts) = IsOwnThing pages t × AreOwnThings pages ts
 
--- A paragraph of the page, whatever it is, in pieces: texts, calls, other nodes on one line, and delimiters. Its nodes are these calls and
+-- A paragraph or heading of the page, whatever it is, in pieces: texts, calls, other nodes on one line, and delimiters. Its nodes are these calls and
 -- nodes, with bold and italic round some; its styles nest, and a call in one gives none of its own.
-pub record IsBesideStyles (pages : Pages) (q : List ℕ) (block : Tree) : Type 0 where
+pub record IsBesideStyles (pages : Pages) (k : TextBlock) (q : List ℕ) (block : Tree) : Type 0 where
   pub pieces : List (List ℕ)
   pub is : pieces_source pieces ≡ q
   pub parts : AreInPieces pages pieces
@@ -121,8 +124,9 @@ pub record IsBesideStyles (pages : Pages) (q : List ℕ) (block : Tree) : Type 0
   pub children : AreNodesBeside pages (children_of block)
   pub nest : AllNest false false (children_of block)
   pub things : ArePageThings pages (page_things block)
-  pub own : AreOwnThings (page_things block)
+  pub own : AreOwnThings pages (page_things block)
   pub among : StayButForOthers pages pieces (thing_sources (page_things block))
+  pub round : FitsRound pages k q (page_things block)
 
 -- ---- what is sent for it
 
@@ -166,12 +170,13 @@ NewStylesArePlain pages (around l m is ps) = NewStylesArePlain pages ps
 NewStylesArePlain pages (new_style m is ps) = PlainGroups pages (page_pieces is) × NewStylesArePlain pages ps
 
 -- All its calls stay, in their order, and any other node and style stays or goes; each is sent as it is, and in a style other texts may be. Any texts are
--- between them, and new styles, as they may nest, round texts, nodes and calls that give none of their own. Something is sent or put that is no call.
-pub record IsStyledCallEdit (pages : Pages) (block : Tree) (ps : Pieces) : Type 0 where
+-- between them, and new styles, as they may nest, round texts, nodes and calls that give none of their own. In a paragraph something is sent or put that
+-- is no call, and in a heading no line break is typed.
+pub record IsStyledCallEdit (pages : Pages) (k : TextBlock) (block : Tree) (ps : Pieces) : Type 0 where
   pub old : page_pieces ps ≡ children_of block
   pub stay : PiecesStay ps
   pub are : AreNodesAndTexts ps
   pub calm : NoCallGoes pages ps
   pub new : NewStylesNest false false ps
   pub free : NewStylesArePlain pages ps
-  pub some : SendsUncalled block ps
+  pub fits : TextsFitAt k block ps

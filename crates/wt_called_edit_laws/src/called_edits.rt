@@ -8,7 +8,7 @@ ghost use Rattle.wt_expand.specs.Work.{Pages};
 ghost use Rattle.wt_part_laws.specs.Expanded.{part_items};
 ghost use Rattle.wt_part_laws.specs.HeldCalls.{block_in};
 ghost use Rattle.wt_typed_blocks.specs.Edited.{Pieces};
-ghost use Rattle.wt_text_edit_laws.specs.TextBlocks.{TextBlock, a_paragraph};
+ghost use Rattle.wt_text_edit_laws.specs.TextBlocks.{TextBlock};
 ghost use Rattle.wt_called_edit_laws.specs.CalledContents.{tree_round};
 ghost use Rattle.wt_called_edit_laws.specs.CalledEdits.{IsBesideCalls, IsCalledEditOf, MakesContentIn};
 ghost use Rattle.wt_called_edit_laws.specs.Settled.{settled};
@@ -24,11 +24,11 @@ pub fn contents_beside_calls_are_made()
         → MakesContentIn pages k q block m ps }
 {}
 
-/// So for a paragraph with bold and italic in it, also round calls that give none of their own (`IsBesideStyles`): all its calls are sent, any of its other
+/// So for a paragraph or heading with bold and italic in it, also round calls that give none of their own (`IsBesideStyles`): all its calls are sent, any of its other
 /// nodes and styles, any texts between these and in the styles, and new bold and italic, as these may nest, round texts, nodes and such calls
 /// (`IsStyledCallEdit`).
 pub fn styles_beside_calls_are_made()
-    ensures { (pages : Pages) (q : List ℕ) (block : Tree) (m : Label) (ps : Pieces) (n at i : ℕ) (calls : List OuterCall) → 0 < n
-        → block ≡ settled n at (cut_texts (block_in calls (tree_round a_paragraph (part_items pages i q)))) → IsBesideStyles pages q block
-        → IsStyledCallEdit pages block ps → MakesContentIn pages a_paragraph q block m ps }
+    ensures { (pages : Pages) (k : TextBlock) (q : List ℕ) (block : Tree) (m : Label) (ps : Pieces) (n at i : ℕ) (calls : List OuterCall) → 0 < n
+        → block ≡ settled n at (cut_texts (block_in calls (tree_round k (part_items pages i q)))) → IsBesideStyles pages k q block
+        → IsStyledCallEdit pages k block ps → MakesContentIn pages k q block m ps }
 {}

@@ -78,10 +78,10 @@ pub fn edits_of_blocks_that_call_make_the_page()
 
 /// The contents of any number of these blocks at once, of those that hold calls and of those that call nothing. Each is at a path of the page's tree with
 /// its groups. Where a block calls nothing, an edit may send for it what it may send in any such block; where it holds calls, texts may be
-/// typed, changed and deleted beside these, and other nodes deleted, in a paragraph that isn't calls alone, and there in bold and italic, too, which may be new, with
-/// what calls give in it, if that has none of its own (`FitsIn`). It is done: the new page has these contents, as they are spelled, and every other byte is what it was; unless it is longer than
-/// a page may be. Without marks, too, where each edited block shows
-/// something else. For any such contents there is such an edit. The new page is such a page again.
+/// typed, changed and deleted beside these, and other nodes deleted, in a paragraph that isn't calls alone, and in bold and italic, too, which may be new,
+/// with what calls give in it, if that has none of its own (`FitsIn`). It is done: the new page has these contents, as they are spelled, and every other
+/// byte is what it was; unless it is longer than a page may be. Without marks, too, where each edited block shows something else. For any such contents
+/// there is such an edit. The new page is such a page again.
 #[tactic(auto, using(crate::proofs::CallingTaken::contents_taken))]
 pub fn contents_beside_calls_are_taken()
     ensures { (pages : Pages) (ss : List BlockSpot) (behind : List ℕ) → IsCallingPage pages ss behind → TakesContentsIn pages ss behind }

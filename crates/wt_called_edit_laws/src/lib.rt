@@ -77,6 +77,7 @@ mod called_edits;
 mod calling_pages;
 mod in_pieces;
 mod placed_blocks;
+mod spelled_beside;
 mod told_lines;
 
 pub use body_paragraphs::{

@@ -85,9 +85,9 @@ pub fn lines_of_an_expanded_page_are_cut_at_its_blocks()
         → (spots_of_lines pages page ls ≡ spots_by [] ls) × (end_of_lines pages page ls behind ≡ end_by [] ls behind) }
 {}
 
-/// And so may be those that hold calls: of a block's lines, which may begin or end with what a call gives, is asked that they
-/// are what the block gives by itself, and that its source is what is on the page for them; the line breaks round them are
-/// the page's own (`IsLinedCalling`).
+/// And so may be those that hold calls: of a block's lines, which may begin or end with what a call gives, is asked that its
+/// source is what is on the page for them; the line breaks round them are the page's own (`IsLinedCalling`). So they are what the
+/// block gives by itself.
 pub fn lines_of_blocks_that_call_are_cut_at_these()
     ensures whole { (pages : Pages) (page : List ℕ) (ls : List LinedBlock) (behind : List (List Item)) → IsLinedCalling pages page ls behind
         → spots_source (spots_of_lines pages page ls) (end_of_lines pages page ls behind) ≡ page }

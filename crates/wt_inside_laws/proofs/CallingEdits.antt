@@ -166,9 +166,9 @@ nest_leaves (more (tree l ts) us) pages bold italic d e n h = (
   nest_leaves us pages bold italic d e n.1 h.1,
 )
 
-texts_nest : (pages : Pages) (q : List ℕ) (items : Expanded) (page : List ℕ) (p : Pair) → IsRetyped same_node items page p → HaveNumberedGroups (children_of p.old)
-    → IsBesideStyles pages q p.old → NewStylesNest false false (pieces_for p)
-texts_nest pages q items page p r groups h =
+texts_nest : (pages : Pages) (k : TextBlock) (q : List ℕ) (items : Expanded) (page : List ℕ) (p : Pair) → IsRetyped same_node items page p
+    → HaveNumberedGroups (children_of p.old) → IsBesideStyles pages k q p.old → NewStylesNest false false (pieces_for p)
+texts_nest pages k q items page p r groups h =
     let ts : Trees = children_of p.old in
     let us : Trees = children_of p.new in
     let ks : List Kept = kept_nodes p.old in
@@ -182,9 +182,10 @@ texts_nest pages q items page p r groups h =
     leaves_hold UnbrokenIn (λ d x y a. ((λ z. (broken_cut x y (a z)).0), (λ z. (broken_cut x y (a z)).1))) us new_texts in
     own_nest 0 false false (pieces_of ts us) (λ z. absurd (cc)) (texts_in UnbrokenIn ts us r.in_order groups unbroken)
 
-styled_edit : (pages : Pages) (q : List ℕ) (items : Expanded) (page : List ℕ) (p : Pair) → IsRetyped same_node items page p → AreRead (children_of p.new)
-    → AreUtf8 (children_of p.new) → IsCallingNode pages a_paragraph q p.old → IsBesideStyles pages q p.old → IsStyledCallEdit pages p.old (pieces_for p)
-styled_edit pages q items page p r read utf8 c h =
+styled_edit : (pages : Pages) (k : TextBlock) (q : List ℕ) (items : Expanded) (page : List ℕ) (p : Pair) → IsRetyped same_node items page p
+    → AreRead (children_of p.new) → AreUtf8 (children_of p.new) → IsCallingNode pages k q p.old → IsBesideStyles pages k q p.old
+    → IsStyledCallEdit pages k p.old (pieces_for p)
+styled_edit pages k q items page p r read utf8 c h =
     let ts : Trees = children_of p.old in
     let us : Trees = children_of p.new in
     record {
@@ -192,9 +193,9 @@ styled_edit pages q items page p r read utf8 c h =
       stay = own_pieces_stay ts us c.groups r.in_order;
       are = are_texts items page p r utf8 c.groups;
       calm = no_call_goes pages (pieces_of ts us) (trees_gone ts us);
-      new = texts_nest pages q items page p r c.groups h;
+      new = texts_nest pages k q items page p r c.groups h;
       free = none_is_new pages (pieces_of ts us) (trees_gone ts us);
-      some = uncalled pages q items page p r read utf8 c (styled_numbered ts h.numbers);
+      fits = fits_at k pages q items page p r read utf8 c (styled_numbered ts h.numbers);
     }
 
 -- ---- in other words
@@ -221,8 +222,6 @@ retyped_fits pages k q items page p r read utf8 c h =
           inr (inl (subst (λ (t : Tree). IsBesideCalls pages k q t × IsCalledEditOf pages k t ps) (sym is)
           (b, called_edit pages k q items page p r read utf8 c b)))
       | inr b ↦
-          let d : IsCallingNode pages a_paragraph q p.old = subst (λ (j : TextBlock). IsCallingNode pages j q p.old) b.0 c in
-          let both = subst (λ (t : Tree). IsBesideStyles pages q t × IsStyledCallEdit pages t ps) (sym is)
-          (b.1, styled_edit pages q items page p r read utf8 d b.1) in
-          inr (inr (b.0, both.0, both.1))
+          inr (inr (subst (λ (t : Tree). IsBesideStyles pages k q t × IsStyledCallEdit pages k t ps) (sym is)
+          (b, styled_edit pages k q items page p r read utf8 c b)))
     ]

@@ -1,10 +1,13 @@
 -- A text edit of paragraphs and headings that may hold calls is done, and is local.
-use Rattle.std.proofs.Common.{arith, ◌≡◌, ℕ, ◌≤◌, Option, Some, None, List, [], ◌∷◌, length, map, refl, ap, inl, inr}
+use Rattle.std.proofs.Common.{arith, ◌≡◌, ℕ, ◌≤◌, Option, Some, None, List, [], ◌∷◌, ◌++◌, length, map, refl, sym, ap, ◌∙◌, inl, inr}
 use Rattle.std.specs.Prelude.{◌⊎◌}
 use Rattle.std.specs.List.{AllByRecursion}
 use Rattle.std.specs.Str.{IsUtf8}
 use Rattle.wt_span.specs.declared.limits.TheConstants.{HTML_BYTES, PAGE_BYTES}
 use Rattle.wt_span.specs.Items.{Item}
+use Rattle.wt_span.specs.Origins.{OuterCall}
+use Rattle.wt_page.specs.Lines.{ending}
+use Rattle.wt_tables.specs.Parts.{joined}
 use Rattle.wt_tree.specs.Tiling.{is_group}
 use Rattle.wt_tree.specs.Tree.{Tree, label}
 use Rattle.wt_expand.specs.PageCalls.{expanded_page}
@@ -18,18 +21,22 @@ use Rattle.wt_commands.specs.Answers.{refusal_of_page, done, remarked_of, edit_o
 use Rattle.wt_commands.specs.UnmarkedEdits.{DoneByEdit}
 use Rattle.wt_typed_blocks.specs.Edited.{Edits}
 use Rattle.wt_called_edit_laws.specs.AllTold.{IsOneOf as IsAnyOf}
+use Rattle.wt_called_edit_laws.specs.CallingBlocks.{IsContentIn, AreContentsInFolder}
 use Rattle.wt_called_edit_laws.specs.CallingContents.{TakesContentsIn}
-use Rattle.wt_called_edit_laws.specs.CallingTogether.{TakeThere, AreOnLines}
+use Rattle.wt_called_edit_laws.specs.CallingTogether.{AreOnTold, TakeThere, AreOnLines}
 use Rattle.wt_called_edit_laws.specs.CallingTold.{IsExceptedByLines}
+use Rattle.wt_called_edit_laws.specs.EditableBlocks.{IsEditableContent, AreEditableContents}
 use Rattle.wt_called_edit_laws.specs.Groups.{called_tree}
-use Rattle.wt_called_edit_laws.specs.LinedAmong.{spots_of_lines, end_of_lines}
+use Rattle.wt_called_edit_laws.specs.LinedAmong.{spots_on, spots_of_lines, end_of_lines}
 use Rattle.wt_called_edit_laws.specs.LinedCalling.{IsLinedCalling}
-use Rattle.wt_called_edit_laws.specs.PlacedLines.{LinedBlock}
+use Rattle.wt_called_edit_laws.specs.PlacedLines.{LinedBlock, all_lines}
+use Rattle.wt_called_edit_laws.specs.ToldLines.{Told, lined}
 use Rattle.wt_called_edit_laws.proofs.AllTold.CallingTogether.{lines_together}
+use Rattle.wt_called_edit_laws.proofs.Cells.CallingFrames.{content_in}
 use Rattle.wt_called_edit_laws.proofs.PageBody.{page_body}
-use Rattle.wt_inside_laws.specs.AsSent.{edits_of, paths_of, node_at, IsOneOf, AreSomeOf}
+use Rattle.wt_inside_laws.specs.AsSent.{edits_of, paths_of, node_at, AreSomeOf}
 use Rattle.wt_inside_laws.specs.BesideEdits.{IsBesideBlock, IsBesideEdit}
-use Rattle.wt_inside_laws.specs.EditsWithCalls.{AreToldBlocks, MayHoldCalls, MarksBlocksWithCalls, IsEditWithCalls, IsDifferenceWithCalls}
+use Rattle.wt_inside_laws.specs.EditsWithCalls.{IsEditable, AreToldBlocks, MayHoldCalls, MarksBlocksWithCalls, IsEditWithCalls, IsDifferenceWithCalls}
 use Rattle.wt_inside_laws.specs.LocalTextEdits.{IsLocalTextEdit}
 use Rattle.wt_inside_laws.specs.TextEdits.{IsRetyped}
 use Rattle.wt_inside_laws.proofs.BesideEdits.{calling_edit_done}
@@ -69,6 +76,44 @@ all_there pages page ps bs behind there (q ∷ qs) (m ∷ ms) a w e r h =
 all_beside : (pages : Pages) (page : List ℕ) (ms : List Pair) → AllByRecursion (MayHoldCalls pages page) ms → AllByRecursion (IsBesideBlock pages page) ms
 all_beside pages page [] h = tt
 all_beside pages page (m ∷ ms) h = (h.0.beside, all_beside pages page ms h.1)
+
+-- ---- the lines tell them
+
+lines_same : (ts : List Told) (bs : List LinedBlock) (behind : List (List Item)) → AreOnTold ts bs → all_lines (map lined ts) behind ≡ all_lines bs behind
+lines_same [] [] behind o = refl
+lines_same [] (b ∷ bs) behind o = absurd o
+lines_same (t ∷ ts) [] behind o = absurd o
+lines_same (t ∷ ts) (b ∷ bs) behind o =
+    ap (λ (ls : List (List Item)). (lined t).before ++ ((((lined t).marks ++ (lined t).first) ∷ (lined t).more) ++ ls)) (lines_same ts bs behind o.1)
+    ∙ ap (λ (c : LinedBlock). c.before ++ (((c.marks ++ c.first) ∷ c.more) ++ all_lines bs behind)) (sym o.0.is)
+
+contents_of : (pages : Pages) (b : LinedBlock) → IsEditable pages b → IsContentIn pages b.block b.text × IsEditableContent pages b.block b.text
+contents_of pages b (inl c) = (content_in pages b.block b.text c.0 c.1, inl c)
+contents_of pages b (inr h) = (h.0, inr h.1)
+
+all_contents : (pages : Pages) (calls : List OuterCall) (es : List Item) (bs : List LinedBlock) → AllByRecursion (IsEditable pages) bs
+    → AreContentsInFolder pages (spots_on calls es bs) × AreEditableContents pages (spots_on calls es bs)
+all_contents pages calls es [] h = (tt, tt)
+all_contents pages calls es (b ∷ bs) h =
+    let c = contents_of pages b h.0 in
+    let r = all_contents pages calls (ending (joined (b.first ∷ b.more))) bs h.1 in
+    ((c.0, r.0), (c.1, r.1))
+
+told_lined : (pages : Pages) (page : List ℕ) (ps : List (List ℕ)) (o : AreOnLines pages page ps) → IsUtf8 page → refusal_of_page pages page ≡ None
+    → (h : AreToldBlocks pages page ps o) → IsLinedCalling pages page h.bs o.behind
+told_lined pages page ps o utf8 unrefused h =
+    let c = all_contents pages (expanded_page pages page).outer [] h.bs h.editable in
+    record {
+      utf8 = utf8;
+      are = o.are ∙ lines_same o.ts h.bs o.behind h.on;
+      lined = o.lined_so h.some h.bs h.on;
+      here = h.here;
+      contents = c.0;
+      editable = c.1;
+      apart = h.apart;
+      unrefused = unrefused;
+      free = h.free;
+    }
 
 -- ---- the edit
 
@@ -116,13 +161,14 @@ calls_told pages page new h some =
     let e : OrdinarySent pages page new = h.sent in
     let o : AreOnLines pages page ps = lines_together pages page ps in
     let told : AreToldBlocks pages page ps o = h.edit.told some o in
-    let there : TakeThere pages page ps told.bs o.behind = o.takes told.bs told.on told.lined in
+    let all : IsLinedCalling pages page told.bs o.behind = told_lined pages page ps o h.utf8 h.unrefused told in
+    let there : TakeThere pages page ps told.bs o.behind = o.takes told.bs told.on all in
     let body = page_body pages page h.utf8 h.unrefused in
     let reach : AllByRecursion (Reaches t) ps = edits_reach t es (ap is_group body.kind) e.sent.old e.sent.outside in
     record {
       bs = told.bs;
       rest = o.behind;
-      lined = told.lined;
+      lined = all;
       taken = there.taken;
       edit = record {
         short = h.short;

@@ -57,6 +57,7 @@ pub mod OrdinaryEdits
 pub mod NothingMoved
 pub mod LocalTextEdits
 pub mod EditsWithCalls
+pub mod GivenBack
 pub mod TypedApart
 pub mod InsidesCases
 pub mod PageCases

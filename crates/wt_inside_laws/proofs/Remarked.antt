@@ -16,7 +16,7 @@ use Rattle.wt_difference.specs.Difference.{stays_in, is_stable}
 use Rattle.wt_difference.specs.Insides.{is_block_part}
 use Rattle.wt_difference.specs.Remarked.{mark_of, remarked_in, all_remarked, remarked}
 use Rattle.wt_difference.proofs.Remarks.{marks_alone}
-use Rattle.wt_inside_laws.proofs.ReadRecuts.{IsReadLeaf, TextLeaf, AreTexts, IsReadNode, ReadTree, AllReadTrees}
+use Rattle.wt_inside_laws.proofs.ReadRecuts.{TextLeaf, AreTexts, IsReadNode, ReadTree, AllReadTrees}
 
 -- ---- a node with another mark
 

@@ -77,6 +77,6 @@ pub record IsCallingNode (pages : Pages) (k : TextBlock) (q : List ℕ) (t : Tre
   pub groups : HaveNumberedGroups (children_of t)
   pub uncalled : HoldsUncalled k t
 
--- texts may be typed beside its calls: no bold and no italic is in it, or it is a paragraph with these
+-- texts may be typed beside its calls, where no bold and no italic is in it, or with these
 abbrev pub IsBeside : Pages → TextBlock → List ℕ → Tree → Type 0
-IsBeside pages k q t = IsBesideCalls pages k q t ⊎ ((k ≡ a_paragraph) × IsBesideStyles pages q t)
+IsBeside pages k q t = IsBesideCalls pages k q t ⊎ IsBesideStyles pages k q t

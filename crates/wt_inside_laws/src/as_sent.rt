@@ -20,7 +20,8 @@ ghost use Rattle.wt_visible.specs.SameNodes.{same_node};
 ghost use Rattle.wt_slices.specs.BodySlices.{slices};
 ghost use Rattle.wt_slices.specs.Changes.{marked, AllStay};
 ghost use Rattle.wt_splice.specs.Splice.{spliced};
-ghost use Rattle.wt_commands.specs.Answers.{refusal_of_page, done, remarked_of, edit_of, edit_to};
+ghost use Rattle.wt_commands.specs.Answers.{refusal_of_page, done, remarked_of, html_answer, edit_of, edit_to};
+ghost use Rattle.wt_schema.specs.Written.{unranged};
 ghost use Rattle.wt_commands.specs.UnmarkedEdits.{DoneByEdit};
 ghost use Rattle.wt_called_edit_laws.specs.CallingContents.{TakesContentsIn};
 ghost use Rattle.wt_called_edit_laws.specs.ContentsTaken.{TakesContents};
@@ -114,7 +115,8 @@ pub fn text_edits_beside_calls_are_done()
 {}
 
 /// So each text edit is done of a page that isn't refused, where each marked block holds no call, is ordinary and none of
-/// those that the lines of the expanded page don't tell (`IsExcepted`).
+/// those that the lines of the expanded page don't tell (`IsExcepted`). The HTML of a page, given back unchanged, is such an
+/// edit: it marks nothing.
 #[tactic(auto)]
 pub fn text_edits_are_done()
     ensures tree { (pages : Pages) (page input : List ℕ) (new : Tree) (unsourced : Option ℕ)
@@ -123,6 +125,8 @@ pub fn text_edits_are_done()
     ensures html { (pages : Pages) (page input : List ℕ) (new : Tree) (unsourced : Option ℕ)
         → IsOrdinaryEdit pages page input new unsourced → length input ≤ HTML_BYTES
         → edit_of pages (Some page) input ≡ done (spliced page (slices same_node (page_tree pages page) new)) }
+    ensures unchanged { (pages : Pages) (page bytes : List ℕ) → html_answer pages (Some page) ≡ done bytes
+        → IsOrdinaryEdit pages page bytes (unranged (called_tree pages page)) None }
 {}
 
 /// So is each where the marked blocks may hold calls, if the lines on which these are tell them (`AreToldBlocks`).

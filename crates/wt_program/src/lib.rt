@@ -49,7 +49,7 @@ pub fn run<S: Source, F: Folder, W: Sink, E: Sink>(
     // groups, in the body, in cells and in captions, in any number of them at once. In the place of all that one holds
     // that calls nothing may be any text, and where its content is read so any texts beside its nodes. In one that holds
     // calls all of these stay, and any texts may be beside them, also where it begins or ends with one,
-    // and in a paragraph bold and italic. Where a call sends such an edit of a page (`IsEditableWithCalls` of `wt_called_edit_laws`), it is done, and with
+    // and bold and italic. Where a call sends such an edit of a page (`IsEditableWithCalls` of `wt_called_edit_laws`), it is done, and with
     // `edit` the page with these contents was written, and no line; or a device failed, or memory ran out. Nothing but
     // these blocks is another one in the new page.
     ensures takes_contents_among_calls { TakesContentsAmongCalls (call words.now (read_from S.Source input.old input.new)

@@ -30,6 +30,7 @@ use Rattle.wt_text_edit_laws.proofs.Texts.TypedShown.{AllOfPage, both_of_page, c
 use Rattle.wt_beside_laws.specs.Called.{items_with, line_with, parts_with, line_parts_with, AreGiven, AllEndSeen, IsCalledHeading}
 use Rattle.wt_beside_laws.specs.Content.{guard_items, letter_items}
 use Rattle.wt_beside_laws.specs.InHeadings.{AreOnOneLine}
+use Rattle.wt_beside_laws.specs.Lines.{AreCharacters}
 use Rattle.wt_beside_laws.proofs.LineHeadings.{unbroken_both, none_by, guard_none, begins_seen, SeenLast, ends_behind, last_behind, letter_last, end_last, UnequalLast, letter_unequal, end_unequal, begins_unequal, unequal_end}
 use Rattle.wt_beside_laws.proofs.LineItems.{letter_unbroken}
 use Rattle.wt_beside_laws.proofs.Groups.CalledBlocks.{parts_own}
@@ -38,7 +39,7 @@ use Rattle.wt_beside_laws.proofs.Groups.CalledParts.{line_parts_are}
 
 -- ---- one line
 
-same_items : (s : Setting) (before signs : List ContentSign) (owns : List (List Item)) → AreOnOneLine signs → line_with s before signs owns ≡ items_with s before signs owns
+pub same_items : (s : Setting) (before signs : List ContentSign) (owns : List (List Item)) → AreOnOneLine signs → line_with s before signs owns ≡ items_with s before signs owns
 same_items s before [] owns o = refl
 same_items s before (letter c ∷ after) owns o =
     let guard : List Item = guard_items (is_guarded s before (letter c ∷ after)) in
@@ -122,27 +123,35 @@ all_unequal s (next ∷ after) owns w h e = items_unequal s [] next after owns h
 
 -- ---- the line
 
-pub heading_inside : (s : Setting) (signs : List ContentSign) (owns : List (List Item)) → IsCalledHeading s signs owns → IsHeadingInside (items_with s [] signs owns)
-heading_inside s signs owns h = record {
-  unbroken = unbroken s [] signs owns h.one_line h.given;
-  begins = subst (λ xs. BeginsWithout is_blank (map sign xs)) (same_items s [] signs owns h.one_line)
-      (begins_seen (line_with s [] signs owns) (line_opens s [] signs owns h.of_block refl refl h.characters h.given));
-  ends = items_last s [] signs owns [] h.of_block h.of_heading h.given h.end_seen
-      (λ z. let no : true ≡ false = sym (end_guarded s [] h.of_block refl) ∙ z in cc);
+-- whatever is between its `=` beside calls
+pub given_inside : (s : Setting) (signs : List ContentSign) (owns : List (List Item)) → s.within ≡ false → s.place ≡ place.Heading → AreOnOneLine signs
+    → AreCharacters signs → AreGiven signs owns → AllEndSeen owns → IsHeadingInside (items_with s [] signs owns)
+given_inside s signs owns w p o v h e = record {
+  unbroken = unbroken s [] signs owns o h;
+  begins = subst (λ xs. BeginsWithout is_blank (map sign xs)) (same_items s [] signs owns o)
+      (begins_seen (line_with s [] signs owns) (line_opens s [] signs owns w refl refl v h));
+  ends = items_last s [] signs owns [] w p h e (λ z. let no : true ≡ false = sym (end_guarded s [] w refl) ∙ z in cc);
 }
 
-pub heading_level : (s : Setting) (signs : List ContentSign) (owns : List (List Item)) (sides : Sides) → IsCalledHeading s signs owns → AreSides sides
-    → IsOfLevel sides (items_with s [] signs owns)
-heading_level s signs owns sides h a =
+pub given_level : (s : Setting) (signs : List ContentSign) (owns : List (List Item)) (sides : Sides) → s.within ≡ false → AreOnOneLine signs
+    → AreCharacters signs → AreGiven signs owns → AllEndSeen owns → AreSides sides → IsOfLevel sides (items_with s [] signs owns)
+given_level s signs owns sides w o v h e a =
     let xs : List Item = items_with s [] signs owns in
     let ss : List ℕ = map sign xs in
     let begins : BeginsWithout is_equals_sign ss =
-    subst (λ ys. BeginsWithout is_equals_sign (map sign ys)) (same_items s [] signs owns h.one_line)
-    (begins_unequal (line_with s [] signs owns) (line_opens s [] signs owns h.of_block refl refl h.characters h.given)) in
+    subst (λ ys. BeginsWithout is_equals_sign (map sign ys)) (same_items s [] signs owns o)
+    (begins_unequal (line_with s [] signs owns) (line_opens s [] signs owns w refl refl v h)) in
     apart_level sides xs a (record {
       first = begins_other sides.lead (ss ++ sides.trail) a.lead (begins_still ss sides.trail begins);
-      last = behind_other sides.lead (ss ++ sides.trail) (unequal_end ss sides.trail a.trail (inr (all_unequal s signs owns h.of_block h.given h.end_seen)));
+      last = behind_other sides.lead (ss ++ sides.trail) (unequal_end ss sides.trail a.trail (inr (all_unequal s signs owns w h e)));
     })
+
+pub heading_inside : (s : Setting) (signs : List ContentSign) (owns : List (List Item)) → IsCalledHeading s signs owns → IsHeadingInside (items_with s [] signs owns)
+heading_inside s signs owns h = given_inside s signs owns h.of_block h.of_heading h.one_line h.characters h.given h.end_seen
+
+pub heading_level : (s : Setting) (signs : List ContentSign) (owns : List (List Item)) (sides : Sides) → IsCalledHeading s signs owns → AreSides sides
+    → IsOfLevel sides (items_with s [] signs owns)
+heading_level s signs owns sides h a = given_level s signs owns sides h.of_block h.one_line h.characters h.given h.end_seen a
 
 pub heading_parts : (s : Setting) (signs : List ContentSign) (owns : List (List Item)) → IsCalledHeading s signs owns
     → line_parts (items_with s [] signs owns) ≡ parts_with s [] signs owns

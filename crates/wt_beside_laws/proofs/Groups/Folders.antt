@@ -143,7 +143,7 @@ called_in pages i s signs h = record {
 
 -- ---- in a heading
 
-all_seen : (pages : Pages) (i : ℕ) (signs : List ContentSign) → AllSeenIn pages (things signs) → AllEndSeen (owns_in pages i signs)
+pub all_seen : (pages : Pages) (i : ℕ) (signs : List ContentSign) → AllSeenIn pages (things signs) → AllEndSeen (owns_in pages i signs)
 all_seen pages i [] h = tt
 all_seen pages i (letter c ∷ after) h = all_seen pages i after h
 all_seen pages i (thing t ∷ after) h =

@@ -14,7 +14,7 @@ use Rattle.wt_guards.specs.Table.{hazard}
 use Rattle.wt_lines.specs.Lines.{IsUnbroken}
 use Rattle.wt_tiles.specs.declared.glyph.Glyph.{Glyph}
 use Rattle.wt_tiles.specs.declared.glyph.Glyph.TheVariants as glyph
-use Rattle.wt_tiles.specs.Glyphs.{glyph_of}
+use Rattle.wt_tiles.specs.Glyphs.{begins, glyph_of}
 use Rattle.wt_tiles.specs.Tiles.{Cut}
 use Rattle.wt_tiles.specs.Urls.{scheme_len, bare_url_at, is_word}
 use Rattle.wt_beside_laws.specs.Beginnings.{AvoidsSwitches}
@@ -23,7 +23,7 @@ use Rattle.wt_beside_laws.specs.Cuts.{ends_word, guard_cut, letter_cut}
 use Rattle.wt_beside_laws.specs.Given.{GivenSign, character, form, given_items, given_glyphs, given_cut, BeginsGiven, AreGivenSigns, GivenContent, given_end, given_sign, given_style, signs_of, opens_quoted, closes_quoted, AreNestedSigns, FirstMay, LastMay, is_bare_url, ends_with_url, GivesSigns, IsGroup}
 use Rattle.wt_beside_laws.specs.Flat.{IsFlat}
 use Rattle.wt_beside_laws.specs.Glyphs.{guard_glyphs, letter_glyphs}
-use Rattle.wt_beside_laws.specs.Nodes.{IsBareNode, IsNode, OpensNoPair, MayBeBehind, MayFollow, MayLead}
+use Rattle.wt_beside_laws.specs.Nodes.{IsBareNode, IsNode, OpensNoPair, MayBeBehind, MayFollow, MayLead, is_quote_last}
 use Rattle.wt_beside_laws.proofs.LineTiles.{scheme_less}
 use Rattle.wt_beside_laws.proofs.NodesBegin.{other_avoids, node_urls, node_switches}
 use Rattle.wt_beside_laws.proofs.NodesMeet.{atom_may, begins_more, by_fits, letter_may, none_before, word_before}
@@ -194,11 +194,35 @@ form_behind (Group h) own slashes x n u m = absurd n
 form_behind Function own slashes x n u m = tt
 form_behind Node own slashes x n u m = tt
 
-group_beside : (slashes : Bool) (signs : List GivenSign) (gs more : List Glyph) → AreGivenSigns false signs → (ends_with_url signs ≡ true → slashes ≡ true)
-    → FirstNeither gs → MayFollowGroup slashes gs → LastMay signs (gs ++ more)
-group_beside slashes signs [] more h u f m = absurd f
-group_beside slashes signs (x ∷ xs) more h u f m =
-    last_with false signs (x ∷ (xs ++ more)) h (λ r own n e. inl (form_behind r own slashes x n (λ i. u (e i)) m))
+quote_behind : (gs hs : List Glyph) → is_quote_last (gs ++ hs) ≡ false → is_quote_last hs ≡ false
+quote_behind [] hs e = e
+quote_behind (g ∷ gs) [] e = refl
+quote_behind (g ∷ []) (h ∷ hs) e = e
+quote_behind (g ∷ i ∷ gs) (h ∷ hs) e = quote_behind (i ∷ gs) (h ∷ hs) e
+
+before_quotes : (r : Role) (own more : List Glyph) → is_quote_last own ≡ false → begins (codes "''") more ≡ true → MayFollow r own more
+before_quotes r own [] q b = tt
+before_quotes r own (g ∷ gs) q b = inr (record { unquoted = q; quotes = b })
+
+-- if no apostrophe is last
+last_unquoted : (word : Bool) (signs : List GivenSign) (more : List Glyph) → AreGivenSigns word signs → is_quote_last (given_glyphs signs) ≡ false
+    → begins (codes "''") more ≡ true → LastMay signs more
+last_unquoted word [] more h q b = tt
+last_unquoted word (character c ∷ signs) more h q b =
+    last_unquoted (is_word c) signs more h.2 (quote_behind (glyph.Byte c ∷ []) (given_glyphs signs) q) b
+last_unquoted word (form r own ∷ []) more h q b =
+    before_quotes r (map glyph_of own) more (sym (ap is_quote_last (append-nil (map glyph_of own))) ∙ q) b
+last_unquoted word (form r own ∷ sign ∷ signs) more h q b =
+    last_unquoted (ends_word false (map glyph_of own)) (sign ∷ signs) more h.1 (quote_behind (map glyph_of own) (given_glyphs (sign ∷ signs)) q) b
+
+group_beside : (slashes : Bool) (signs : List GivenSign) (own gs more : List Glyph) → own ≡ given_glyphs signs → AreGivenSigns false signs
+    → (ends_with_url signs ≡ true → slashes ≡ true) → FirstNeither gs → MayFollowGroup slashes own gs → LastMay signs (gs ++ more)
+group_beside slashes signs own [] more i h u f m = absurd f
+group_beside slashes signs own (x ∷ xs) more i h u f m = elim m [
+  | inl k ↦ last_with false signs (x ∷ (xs ++ more)) h (λ r own n e. inl (form_behind r own slashes x n (λ z. u (e z)) k))
+  | inr q ↦
+      last_unquoted false signs (x ∷ (xs ++ more)) h (sym (ap is_quote_last i) ∙ q.unquoted) (begins_more (codes "''") (x ∷ xs) more q.quotes)
+]
 
 -- a URL begins with a scheme
 some_scheme : (own rest : List Glyph) → IsBareNode own → scheme_len (own ++ rest) ≡ 0 → ⊥
@@ -251,7 +275,7 @@ group_gift g t j own role h =
       behind = λ e d more z.
           behind_group g false k.signs e d more k.are h.urls (subst (λ (r : Role). hazard (left_side r) (side.Text d) ≡ false) role z);
       beside = λ gs more f m.
-          group_beside g.slashes k.signs gs more k.are h.urls f (subst (λ (r : Role). BehindMay r (map glyph_of own) gs) role m);
+          group_beside g.slashes k.signs (map glyph_of own) gs more glyphs k.are h.urls f (subst (λ (r : Role). BehindMay r (map glyph_of own) gs) role m);
       before = λ d z.
           subst (FirstMay k.signs) (sym (before_group g d (subst (λ (r : Role). hazard (side.Text d) (side_of r) ≡ false) role z))) (first_none k.signs);
       leads = λ word m.

@@ -23,7 +23,9 @@ use Rattle.wt_tiles.specs.Tags.{tag_at, opening_tag, closing_tag}
 use Rattle.wt_tiles.specs.Tiles.{form_at, link_or_url, tag_tile, switch_at, shapes, closed, tiles}
 use Rattle.wt_tiles.specs.Urls.{scheme_len, is_url_char, is_dropped, kept_len, bare_shape, bare_url_at, ext_link_at}
 use Rattle.wt_quotes.specs.Toggles.{toggle_at, toggles_of}
+use Rattle.wt_quotes.specs.Runs.{place_of}
 use Rattle.wt_quotes.specs.Styles.{style_tree_of}
+use Rattle.wt_quotes.specs.Turns.{since, next, bold_ends_later, effect_on, is_bold_outside_at, turn_at}
 use Rattle.wt_context.specs.Segments.{loose_segments}
 use Rattle.wt_context.specs.Chunks.{chunks}
 use Rattle.wt_context.specs.Styled.{with_styles}
@@ -83,6 +85,56 @@ one_link g j = record {
         of_call = (refl, (refl, (refl, (refl, (refl, tt)))));
         no_body = refl;
         uncut = (refl, ((refl, tt), tt));
+      },
+      tt,
+    );
+    even = refl;
+    closed = refl;
+  };
+  urls = λ e. absurd (cc);
+  opens = λ e. refl;
+  opens_style = λ e. absurd (cc);
+  closes_style = λ e. absurd (cc);
+}
+
+-- `[[b|''c'']]`: a style in a link is no delimiter of the line
+pub a_styled_link : IsLinkNode (byte_glyphs (codes "[[b|''c'']]"))
+unfolding link_at link_in target_of read_text is_allowed is_forbidden is_good has_signature is_step begins_with_step holds_step ends_with_step
+    name_of image is_called namespace_named prefix_of full_name_of whole_in cut_namespace title_in utf8_valid_len is_utf8 chars encode link_to
+a_styled_link = record {
+  shape = record { kind = tile.Link; opening = 4; inside = 5; closing = 2; trail = 0 };
+  inside = byte_glyphs (codes "b|''c'']]");
+  is = refl;
+  plain = tt;
+  link = refl;
+  whole = refl;
+}
+
+pub one_styled_link : (g : Transclusion) (j : ℕ) → IsGroup g j (of_call j (codes "[[b|''c'']]"))
+unfolding nested_tree link_head context_parts chunks segments loose_segments tiles shapes closed form_at link_or_url link_at ext_link_at bare_url_at scheme_len tag_tile tag_at
+    switch_at children with_styles style_tree_of toggles_of toggle_at place_of since next bold_ends_later effect_on is_bold_outside_at turn_at opening_tag
+    closing_tag empty_nowiki label_at
+    link_in target_of read_text is_allowed is_forbidden is_good has_signature is_step begins_with_step holds_step ends_with_step
+    name_of image is_called namespace_named prefix_of full_name_of whole_in cut_namespace title_in utf8_valid_len is_utf8 chars encode link_to
+    line_start_hazard
+one_styled_link g j = record {
+  gives = record {
+    signs = form Link (of_call j (codes "[[b|''c'']]")) ∷ [];
+    is = refl;
+    of_call = (refl, (refl, (refl, (refl, (refl, (refl, (refl, (refl, (refl, (refl, (refl, tt)))))))))));
+    are = (record { node = a_styled_link; closed = untagged_closed (byte_glyphs (codes "[[b|''c'']]")) refl; leads = tt; follows = tt }, tt);
+    nested = record { content = given_sign (form Link (of_call j (codes "[[b|''c'']]"))) given_end; is = refl; nested = (tt, tt) };
+    begins = tt;
+    unopened = refl;
+    unbroken = (refl, (refl, (refl, (refl, (refl, (refl, (refl, (refl, (refl, (refl, (refl, tt)))))))))));
+    inside = (
+      record {
+        first = char (Some j) 91;
+        others = of_call j (codes "[b|''c'']]");
+        is = refl;
+        of_call = (refl, (refl, (refl, (refl, (refl, (refl, (refl, (refl, (refl, (refl, (refl, tt)))))))))));
+        no_body = refl;
+        uncut = (refl, ((refl, ((refl, tt), tt)), tt));
       },
       tt,
     );

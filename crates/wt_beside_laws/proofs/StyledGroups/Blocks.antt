@@ -120,9 +120,10 @@ styled_each P f s within bold italic before (styled kind opening closing inside 
       styled_each P f s within bold italic last t after outer given_out k.2 h.1 w,
     )
 
-pub styled_own : (s : Setting) (t : StyledContent) (owns : List (List Item)) → IsStyledCalled s t owns → ArePieceNodes (styled_with false s [] t [] owns)
-styled_own s t owns h =
-    styled_each IsPieceNode (λ qs g. as_pieces qs g) s false false false [] t [] owns h.given h.nested h.own (λ kind qs g a. inr (style_round kind qs))
+pub styled_own : (s : Setting) (t : StyledContent) (owns : List (List Item)) → AreGiven (signs_in t) owns → AreNested false false t → AreOwnAt false t owns
+    → ArePieceNodes (styled_with false s [] t [] owns)
+styled_own s t owns g n w =
+    styled_each IsPieceNode (λ qs k. as_pieces qs k) s false false false [] t [] owns g n w (λ kind qs k a. inr (style_round kind qs))
 
 -- ---- something of it is the page's own
 
@@ -179,7 +180,7 @@ styled_round s t owns h =
       no_leaf = refl;
       own_opening = refl;
       own_closing = refl;
-      parts = styled_own s t owns h;
+      parts = styled_own s t owns h.given h.nested h.own;
       some = ap (list_any is_page) (para_items ps) ∙ styled_some s [] t owns h.own h.some;
     }
 

@@ -32,7 +32,7 @@ use Rattle.wt_beside_laws.specs.Called.{AreGiven, items_with}
 use Rattle.wt_beside_laws.specs.Content.{guard_items, letter_items}
 use Rattle.wt_beside_laws.specs.Nests.{marks, style_tree}
 use Rattle.wt_beside_laws.specs.Styled.{AreNested, StyledContent, delimiter, finished, sign, signs_before, signs_in, signs_past, styled}
-use Rattle.wt_beside_laws.specs.StyledCalls.{IsStyledCalled, owns_left, owns_past, styled_called_shown, styled_with}
+use Rattle.wt_beside_laws.specs.StyledCalls.{AreOwnAt, IsStyledCalled, owns_left, owns_past, styled_called_shown, styled_with}
 use Rattle.wt_beside_laws.specs.StyledShown.{style_shown}
 
 -- ---- what they show, one by one
@@ -103,16 +103,22 @@ style_alike calls kind ps h t =
           ∙ sym (style_shows kind ps rest t),
     )
 
+-- ---- its nodes in the page
+
+pub styled_children : (calls : List OuterCall) (s : Setting) (t : StyledContent) (owns : List (List Item)) → AreGiven (signs_in t) owns → AreNested false false t
+    → AreOwnAt false t owns
+    → plains_before (all_cut_texts (pieces_in_page calls (call_pieces (children (styled_with false s [] t [] owns))))) ended ≡ styled_called_shown t owns ended
+styled_children calls s t owns h n w =
+    shown_in_page calls (styled_with false s [] t [] owns) ended
+    (styled_each (IsShownAlike calls) (λ qs g. as_shown calls qs g) s false false false [] t [] owns h n w (λ kind qs g a. style_alike calls kind qs g a))
+    (styled_texts s false false [] t [] owns h n)
+    ∙ styled_show s false false [] t [] owns ended h n
+
 -- ---- the paragraph
 
 pub styled_called_shows : (calls : List OuterCall) (s : Setting) (t : StyledContent) (owns : List (List Item)) (rest : Plains) → IsStyledCalled s t owns
     → plain_before (cut_texts (block_in calls (para_with (joined_parts (lines (items_with s [] (signs_in t) owns)))))) rest
     ≡ along (element paragraph_face (styled_called_shown t owns ended)) rest
 styled_called_shows calls s t owns rest h =
-    let ps : List Part = styled_with false s [] t [] owns in
     ap (λ (u : Tree). plain_before (cut_texts u) rest) (styled_called_block calls s t owns h)
-    ∙ ap (λ (qs : Plains). along (element paragraph_face qs) rest)
-    (shown_in_page calls ps ended
-    (styled_each (IsShownAlike calls) (λ qs g. as_shown calls qs g) s false false false [] t [] owns h.given h.nested h.own (λ kind qs g a. style_alike calls kind qs g a))
-    (styled_texts s false false [] t [] owns h.given h.nested)
-    ∙ styled_show s false false [] t [] owns ended h.given h.nested)
+    ∙ ap (λ (qs : Plains). along (element paragraph_face qs) rest) (styled_children calls s t owns h.given h.nested h.own)

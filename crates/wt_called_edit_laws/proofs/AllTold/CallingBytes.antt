@@ -30,9 +30,8 @@ use Rattle.wt_called_edit_laws.specs.CallingEdits.{IsCallingPage}
 use Rattle.wt_called_edit_laws.specs.CallingGroups.{block_with_groups, CallingNodesStay}
 use Rattle.wt_called_edit_laws.specs.Groups.{called_tree}
 use Rattle.wt_called_edit_laws.specs.LinedAmong.{spots_on, spots_of_lines, end_of_lines}
-use Rattle.wt_called_edit_laws.specs.LinedCalling.{spot_on, AreCallingHere, AreCallingAfter, AreCallingLined, IsLinedCalling}
+use Rattle.wt_called_edit_laws.specs.LinedCalling.{AreCallingHere, AreCallingAfter, AreCallingLined, IsLinedCalling}
 use Rattle.wt_called_edit_laws.specs.PartTexts.{HaveOwnSources}
-use Rattle.wt_called_edit_laws.specs.Parts.{calls_past}
 use Rattle.wt_called_edit_laws.specs.PathsTo.{paths_to}
 use Rattle.wt_called_edit_laws.specs.PlacedLines.{LinedBlock, all_lines}
 use Rattle.wt_called_edit_laws.specs.RowBlocks.{StandsOnRows}
@@ -102,12 +101,12 @@ next_seam b [] behind fr r = tt
 next_seam b (c ∷ bs) behind fr r =
     let s = some_lines c.before (c.marks ++ c.first) (c.more ++ all_lines bs behind) in inr (r.ends s.0 s.1 s.2)
 
-starts_behind : (pages : Pages) (page : List ℕ) (all front fr es : List Item) (at k : ℕ) (bs : List LinedBlock) (behind : Lines) (xs : List Item) → front ≡ fr ++ es
-    → at ≡ length (text_from (expanded_page pages page).outer None fr) → Seam fr es bs → AreCallingHere pages (expanded_page pages page).outer k es bs → AreFirst bs
+starts_behind : (pages : Pages) (page : List ℕ) (all front fr es : List Item) (at : ℕ) (bs : List LinedBlock) (behind : Lines) (xs : List Item) → front ≡ fr ++ es
+    → at ≡ length (text_from (expanded_page pages page).outer None fr) → Seam fr es bs → AreCallingHere (expanded_page pages page).outer bs → AreFirst bs
     → AreRuns goes_on (all_lines bs behind) xs → all ≡ front ++ joined (all_lines bs behind) → AreOnes all
     → map (byte_at (expanded_page pages page).outer all) (block_starts (size front) bs) ≡ spot_starts at (spots_on (expanded_page pages page).outer es bs)
-starts_behind pages page all front fr es at k [] behind xs f z s h some runs e ones = refl
-starts_behind pages page all front fr es at k (b ∷ bs) behind xs f z s h some runs e ones =
+starts_behind pages page all front fr es at [] behind xs f z s h some runs e ones = refl
+starts_behind pages page all front fr es at (b ∷ bs) behind xs f z s h some runs e ones =
     let calls : List OuterCall = (expanded_page pages page).outer in
     let own : List Item = own_items b in
     let line : List Item = joined b.before ++ b.marks in
@@ -140,7 +139,7 @@ starts_behind pages page all front fr es at k (b ∷ bs) behind xs f z s h some 
     let later : size front + size (joined b.before) + size (joined ((b.marks ++ b.first) ∷ b.more)) ≡ size (here ++ own) =
     omega (arith, ap size own_lines, size_both b.marks own, size_both here own, line_size, here_size) in
     let rest =
-    starts_behind pages page all (here ++ own) next (ending own) ((at + length spot) + length (source_of b.block b.text)) (calls_past pages k (spot_on calls es b)) bs behind
+    starts_behind pages page all (here ++ own) next (ending own) ((at + length spot) + length (source_of b.block b.text)) bs behind
     (joined tail) front_is (sym past) (next_seam b bs behind next r) h.1 some.1 r.tail_runs (whole ∙ sym (append_assoc here own (joined tail))) ones in
     ap₂ (λ (n : ℕ) (ns : List ℕ). n ∷ ns) first_byte (ap (λ (n : ℕ). map (byte_at calls all) (block_starts n bs)) later ∙ rest)
 
@@ -154,11 +153,11 @@ all_first (b ∷ bs) behind h = (h.0.some, first_after b.block (open_after [] (w
 
 -- ---- the paths lead there
 
-have_bytes : (pages : Pages) (calls : List OuterCall) (k : ℕ) (es : List Item) (bs : List LinedBlock) → AreCallingHere pages calls k es bs → AllHaveBytes (spots_on calls es bs)
-have_bytes pages calls k es [] h = tt
-have_bytes pages calls k es (b ∷ bs) h = (
+have_bytes : (calls : List OuterCall) (es : List Item) (bs : List LinedBlock) → AreCallingHere calls bs → AllHaveBytes (spots_on calls es bs)
+have_bytes calls es [] h = tt
+have_bytes calls es (b ∷ bs) h = (
   omega (arith, ap length h.0.source, begins_some calls (content (own_items b)) h.0.begins),
-  have_bytes pages calls (calls_past pages k (spot_on calls es b)) (ending (own_items b)) bs h.1,
+  have_bytes calls (ending (own_items b)) bs h.1,
 )
 
 leads_settled : (b : ℕ → Tree) (ss : List BlockSpot) (ps : List (List ℕ)) (l : Label) (ts : Trees) (at : ℕ) → AllSettled b (counted ss) ps (tree l ts) → HaveKinds b ss
@@ -213,7 +212,7 @@ taken_at pages page bs behind h =
           subst (IsOneOf (i ∷ is)) (sym (taken_paths pages ss end calling))
           (one_of v blocks ss (paths_to f.nodes) (StandsOnRows pages page) i is (blocks_settle pages ss end f calling)
           (have_kinds (expanded_page pages (spots_source ss end)).outer pages 0 ss) (blocks_have pages ss end calling.outside calling.unrefused)
-          (have_bytes pages (expanded_page pages page).outer 0 [] bs h.here) (paths_full f.nodes)
+          (have_bytes (expanded_page pages page).outer [] bs h.here) (paths_full f.nodes)
           (clear_paths f.nodes content_part blocks (children v) f.holders (f.stay ss (edited_self pages ss) calling.outside.hold))
           (subst (λ (x : Tree). EachBlockIn (StandsOnRows pages page) (children x)) tree_is each)
           (subst (λ (x : Tree). BlockIn i is (children x)) tree_is mine) at_v);
@@ -226,7 +225,7 @@ pub calling_bytes : (pages : Pages) (page : List ℕ) (bs : List LinedBlock) (be
 calling_bytes pages page bs behind h e ones =
     let items : List Item = (expanded_page pages page).items in
     let runs : AreRuns goes_on (all_lines bs behind) items = subst (λ (ks : Lines). AreRuns goes_on ks items) h.are (runs_are goes_on items) in
-    starts_behind pages page items [] [] [] 0 0 bs behind items refl refl (page_seam bs) h.here (all_first bs behind h.lined) runs e ones
+    starts_behind pages page items [] [] [] 0 bs behind items refl refl (page_seam bs) h.here (all_first bs behind h.lined) runs e ones
   where
     page_seam : (cs : List LinedBlock) → Seam [] [] cs
     page_seam [] = tt

@@ -1,7 +1,8 @@
 -- A block among the items of an expanded page: the page's items, where calls are characters, are cut at it, and so are the page's bytes.
-use Rattle.std.proofs.Common.{arith, ◌≡◌, ◌⊎◌, inl, inr, ℕ, ◌+◌, ◌≤◌, Option, None, List, [], ◌∷◌, ◌++◌, length, refl, sym, ap, ap₂, ◌∙◌, subst, append_assoc, length-append}
+use Rattle.std.proofs.Common.{arith, ◌≡◌, ◌⊎◌, inl, inr, ℕ, true, ◌+◌, ◌≤◌, Option, None, List, [], ◌∷◌, ◌++◌, length, refl, sym, ap, ap₂, ◌∙◌, subst, append_assoc, length-append}
 use Rattle.std.proofs.lemmas.Grind.{flat_map-append}
-use Rattle.wt_span.specs.Items.{Item, source, sources}
+use Rattle.std.specs.List.{list_all}
+use Rattle.wt_span.specs.Items.{Item, is_mark, source, sources}
 use Rattle.wt_span.specs.Origins.{OuterCall, Span}
 use Rattle.wt_annotated.specs.Seams.{last_of, text_from}
 use Rattle.wt_annotated.proofs.Seams.{text_append_from}
@@ -9,6 +10,7 @@ use Rattle.wt_expand.specs.PageCalls.{expanded_page}
 use Rattle.wt_expand.specs.PageItems.{page_items}
 use Rattle.wt_expand.specs.Work.{Pages}
 use Rattle.wt_text_edit_laws.specs.PageCuts.{AreBlockItems}
+use Rattle.wt_text_edit_laws.specs.TextBetween.{AreEnded}
 use Rattle.wt_text_edit_laws.specs.TextBlocks.{TextBlock, source_of}
 use Rattle.wt_text_edit_laws.proofs.Cuts.ItemCuts.{HaveBytes}
 use Rattle.wt_beside_laws.proofs.Derived.BlockContents.{block_seen}
@@ -19,6 +21,7 @@ use Rattle.wt_called_edit_laws.proofs.Among.OwnItems.{from_page, Skipped, skip, 
 use Rattle.wt_called_edit_laws.proofs.Among.OwnSeams.{own_last, IsOwnSeam, Rest}
 use Rattle.wt_called_edit_laws.proofs.Among.PartsApart.{IsClear, members_of}
 use Rattle.wt_called_edit_laws.proofs.Cells.PlacedBlocks.{own_alone, stays_so}
+use Rattle.wt_called_edit_laws.proofs.Cells.PlacedLines.{marks_there}
 use Rattle.wt_called_edit_laws.proofs.PartTexts.{own_text}
 
 -- ---- bytes that are cut
@@ -174,6 +177,7 @@ pub record IsBlockHere (pages : Pages) (page : List ℕ) (p : ℕ) (xs ms os : L
   pub first : IsClear (block_from pages page p xs ms) 0 (members_of page)
   pub last : IsClear (block_to pages page p xs ms k q) 0 (members_of page)
   pub next : IsRest pages page (block_to pages page p xs ms k q) ys behind
+  pub marks_end : list_all is_mark ms ≡ true → 1 ≤ length os → AreEnded (sources ms)
 
 pub beside_last : (from mid to : ℕ) (spans : List Span) → from ≤ mid → AreBeside from to spans → AreBeside mid to spans
 beside_last from mid to [] le h = tt
@@ -230,4 +234,7 @@ block_here pages page p xs ms os k q ys qs r ends marks own block is_source besi
       first = subst (λ (n : ℕ). IsClear n 0 (members_of page)) size second.clear;
       last = subst (λ (n : ℕ). IsClear n 0 (members_of page)) all_size third.clear;
       next = subst (λ (n : ℕ). IsRest pages page n ys third.behind) all_size third.next;
+      marks_end = λ all_marks some. marks_there page first.next.front ms (os ++ third.behind)
+          (first.next.whole ∙ ap (λ zs. first.next.front ++ zs) (second.is ∙ ap (λ zs. ms ++ zs) third.is)) all_marks
+          (omega (arith, some, length-append os third.behind));
     }

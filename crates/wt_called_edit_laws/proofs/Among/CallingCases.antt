@@ -1,11 +1,11 @@
 -- Worked case: the page `{{t}} {{t}}`, where `Template:T` is a word, begins and ends with a call, and is told by the one line that it gives.
-use Rattle.std.proofs.Common.{arith, inr, ◌≡◌, ◌≤◌, ℕ, ◌+◌, None, Some, List, [], ◌∷◌, length, refl, sym, ap, ◌∙◌, subst}
+use Rattle.std.proofs.Common.{arith, inr, ◌≡◌, ◌≤◌, ℕ, None, Some, List, [], ◌∷◌, length, refl, sym, ap, ◌∙◌, subst}
 use Rattle.std.specs.Prelude.{codes}
 use Rattle.std.specs.Str.Lossy.{utf8_valid_len}
 use Rattle.std.specs.Str.{is_utf8, chars}
 use Rattle.wt_beside_laws.proofs.Groups.Cases.{a_word}
 use Rattle.wt_called_edit_laws.proofs.Among.CallingLines.{calling_editable}
-use Rattle.wt_called_edit_laws.proofs.Beside.BothCases.{source, given, items_are, is_read, is_text, here, unrefused_here, free_here}
+use Rattle.wt_called_edit_laws.proofs.Beside.BothCases.{source, given, is_read, is_text, here, unrefused_here, free_here}
 use Rattle.wt_called_edit_laws.proofs.Whole.Pieced.{pieced_content, pieced_holds}
 use Rattle.wt_called_edit_laws.specs.EditableBlocks.{IsEditableWithCalls}
 use Rattle.wt_called_edit_laws.specs.LinedAmong.{spots_of_lines, end_of_lines}
@@ -29,7 +29,6 @@ use Rattle.wt_span.specs.Items.{char}
 use Rattle.wt_span.specs.Lexemes.{sign_word, form_at, closed, words}
 use Rattle.wt_span.specs.Origins.{Span}
 use Rattle.wt_annotated.specs.Seams.{text_from}
-use Rattle.wt_part_laws.specs.Expanded.{calls_in}
 use Rattle.wt_span.specs.Tags.{raw_len, opening_tag, tag_after, closing_tag, with_inside, is_extension, include_at}
 use Rattle.wt_text_edit_laws.specs.TextBlocks.{a_paragraph}
 use lib.Utf8.{encode}
@@ -74,15 +73,6 @@ unfolding words closed form_at comment_len comment_line_len raw_len opening_tag 
     utf8_valid_len is_utf8 chars encode link_to page_stretches expanded_page
 no_text_calls = refl
 
-none_before : 0 + calls_in a_word [] ≡ 0
-unfolding words closed form_at comment_len comment_line_len raw_len opening_tag tag_after closing_tag with_inside is_extension
-    include_at entity_at named_entity decimal_entity hex_entity entity_names sign_word reduced rewritten parts_of text_members trimmed
-    trimmed_items name_text called most_templates is_function title_of_target title_in_target read_text is_allowed is_forbidden
-    is_good has_signature is_step begins_with_step holds_step ends_with_step name_of image is_called namespace_named prefix_of
-    full_name_of whole_in cut_namespace title_in template_text begins_only ends_only loop_text depth_text absent_text
-    utf8_valid_len is_utf8 chars encode link_to page_stretches expanded_page
-none_before = refl
-
 lines_are : full_lines (given 0) ≡ all_lines (a_line ∷ []) []
 lines_are = refl
 
@@ -90,7 +80,7 @@ stands : IsCallingAt [] a_line
 unfolding kind_of_signs
 stands = record { are_marks = refl; some = omega arith; in_cells = tt; apart = tt; own = (refl, tt) }
 
-are_here : AreCallingHere a_word (expanded_page a_word source).outer 0 [] (a_line ∷ [])
+are_here : AreCallingHere (expanded_page a_word source).outer (a_line ∷ [])
 are_here =
     let text = is_text 0 in
     let some : 1 ≤ 5 = omega arith in (
@@ -99,7 +89,6 @@ are_here =
         marks = tt;
         breaks = text.own_breaks;
         source = source_there;
-        gives = ap given (sym none_before) ∙ sym (items_are (0 + calls_in a_word []));
         begins = subst (λ (bs : List ℕ). 1 ≤ length bs) (sym first_there) some;
       },
       tt,

@@ -18,7 +18,7 @@ use Rattle.wt_expand.specs.PageCalls.{expanded_page}
 use Rattle.wt_expand.specs.PageItems.{page_items}
 use Rattle.wt_expand.specs.Work.{Pages}
 use Rattle.wt_expand.proofs.PageLaws.{page_sources}
-use Rattle.wt_expand.proofs.PiecePlaces.{behind_page}
+use Rattle.wt_expand.proofs.PiecePlaces.{text_behind, behind_page}
 use Rattle.wt_part_laws.specs.Expanded.{part_items}
 use Rattle.wt_part_laws.specs.Lexer.{lexer}
 use Rattle.wt_part_laws.specs.Scans.{after_all}
@@ -50,15 +50,16 @@ use Rattle.wt_called_edit_laws.specs.PlacedAmong.{StandAfter}
 use Rattle.wt_called_edit_laws.specs.PlacedCalling.{AreFurtherCutsAt, AreCutsAt, IsPlacedCalling}
 use Rattle.wt_called_edit_laws.specs.PlacedLines.{LinedBlock, all_lines}
 use Rattle.wt_called_edit_laws.proofs.Among.BlockAt.{calls_of, IsRest, IsPast, text_to, block_from, block_to, past_front, past_own, marked_text, bytes_cut, have_front, have_behind, beside_first, beside_front, beside_last}
-use Rattle.wt_called_edit_laws.proofs.Among.LinedParts.{EndsBreak, EndsOwn, own_end, ended_text, own_behind, own_text_size, ends_text, AreBeforeTexts, before_texts, cancel, no_items, IsLeft, left_none, left_whole, open_at, line_front, block_front, page_rest}
+use Rattle.wt_called_edit_laws.proofs.Among.FirstItems.{FirstHas, NamedParts, named_parts, called_first, part_below}
+use Rattle.wt_called_edit_laws.proofs.Among.LinedParts.{EndsBreak, EndsOwn, own_end, ended_text, own_behind, own_text_size, ends_text, cancel, no_items, IsLeft, left_none, left_whole, open_at, line_front, block_front, page_rest}
 use Rattle.wt_called_edit_laws.proofs.Among.OwnItems.{Skipped, skip, rest_clear}
-use Rattle.wt_called_edit_laws.proofs.Among.OwnSeams.{FirstLonger, FirstShorter, two_cuts, first_or, IsOwnSeam, text_size, end_behind}
+use Rattle.wt_called_edit_laws.proofs.Among.OwnSeams.{FirstLonger, FirstShorter, two_cuts, first_or, first_size, IsOwnSeam, text_size, end_behind}
 use Rattle.wt_called_edit_laws.proofs.Among.PartsApart.{IsClear, members_of, AreClear, ArePartsApart, parts_apart}
 use Rattle.wt_called_edit_laws.proofs.Cells.PlacedBlocks.{own_lines}
 use Rattle.wt_called_edit_laws.proofs.Cells.PlacedCalling.{block_begins, PartsRead, parts_read, parts_called, calling_placed}
-use Rattle.wt_called_edit_laws.proofs.Cells.PlacedLines.{own_items, Round, round, rows_by, leads_by, both_end, some_lines, lines_end}
-use Rattle.wt_called_edit_laws.proofs.Told.ToldPages.{marks_there}
+use Rattle.wt_called_edit_laws.proofs.Cells.PlacedLines.{own_items, marks_there, Round, round, rows_by, leads_by, both_end, some_lines, lines_end}
 use Rattle.wt_called_edit_laws.proofs.Parts.Retyped.{is_by_parts}
+use Rattle.wt_called_edit_laws.proofs.PartTexts.{IsBelow, part_text, sources_first}
 
 -- ---- items before those of the page's own
 
@@ -269,13 +270,13 @@ record IsHere (pages : Pages) (page : List ℕ) (open_tables : List Bool) (es : 
   stays : StayText b.block (length (open_at open_tables b)) (content (own_items b))
   leads : LeadsInto b.block open_tables (joined b.before ++ b.marks)
 
-is_here : (pages : Pages) (page : List ℕ) (open_tables : List Bool) (es : List Item) (b : LinedBlock) (tail : List (List Item)) (p i : ℕ) (qs xs : List Item)
+is_here : (pages : Pages) (page : List ℕ) (open_tables : List Bool) (es : List Item) (b : LinedBlock) (tail : List (List Item)) (p : ℕ) (qs xs : List Item)
     → AreRuns goes_on (b.before ++ (((b.marks ++ b.first) ∷ b.more) ++ tail)) xs → IsLeft es
     → IsRest pages page p (es ++ joined (b.before ++ (((b.marks ++ b.first) ∷ b.more) ++ tail))) qs → IsCallingAt open_tables b
-    → IsCallingHere pages (calls_of pages page) i b → IsReadContent b.block b.text
+    → IsCallingHere (calls_of pages page) b → IsReadContent b.block b.text
     → AreBeside (text_to pages page p (line_front es b)) (block_to pages page p (line_front es b) b.marks b.block b.text) (expanded_page pages page).text_calls
     → IsHere pages page open_tables es b tail p qs
-is_here pages page open_tables es b tail p i qs xs runs left rest h own read beside =
+is_here pages page open_tables es b tail p qs xs runs left rest h own read beside =
     let calls : List OuterCall = calls_of pages page in
     let ts : List (List Item) = b.first ∷ b.more in
     let text : List Item = own_items b in
@@ -327,32 +328,68 @@ first_there : (calls : List OuterCall) (xs : List Item) → BeginsThere calls xs
 first_there calls [] h = absurd h
 first_there calls (x ∷ xs) h = (x, xs, refl, h)
 
--- what the part before it gives, and what is behind the block
+-- a block's items are what the part gives that it is, where so much is on the page for both
+gives_so : (calls : List OuterCall) (k : ℕ) (own es : List Item) (tail : List (List Item)) (gs xs : List Item) → own ++ (es ++ joined tail) ≡ gs ++ xs
+    → length (text_from calls None own) ≡ length (text_from calls None gs) → IsEnding es → ((m : List Item) (ms : List (List Item)) → tail ≡ m ∷ ms → es ≡ break ∷ [])
+    → FirstHas calls k xs → IsBelow k (last_of None gs) → own ≡ gs
+gives_so calls k own es tail gs xs e size ending ends f b = by (two_cuts own (es ++ joined tail) gs xs e)
+  where
+    rest : List Item
+    rest = es ++ joined tail
+
+    longer : (us : List Item) → own ≡ gs ++ us → xs ≡ us ++ rest → own ≡ gs
+    longer [] g h = g ∙ append-nil gs
+    longer (v ∷ vs) g h =
+        let first : FirstHas calls k (v ∷ (vs ++ rest)) = subst (FirstHas calls k) h f in
+        let more = first (last_of None gs) b in
+        let parts = length-append (text_behind calls (last_of None gs) v) (text_from calls (call_of v) vs) in
+        absurd (omega (arith, size, ap (λ (zs : List Item). length (text_from calls None zs)) g, text_size calls None gs (v ∷ vs), parts, more))
+
+    -- behind it is a line break, or nothing
+    shorter : (ys : List Item) (ls : List (List Item)) → IsEnding ys → ((m : List Item) (ms : List (List Item)) → ls ≡ m ∷ ms → ys ≡ break ∷ []) → (v : Item) (vs : List Item)
+        → ys ++ joined ls ≡ (v ∷ vs) ++ xs → gs ≡ own ++ v ∷ vs → ⊥
+    shorter [] [] i g v vs h w = cc
+    shorter [] (m ∷ ms) i g v vs h w = let none : [] ≡ break ∷ [] = g m ms refl in cc
+    shorter (y ∷ ys) ls i g v vs h w =
+        let is : v ≡ break = sym (ap (first_or v) h) ∙ i.0 in
+        let more = first_size calls (last_of None own) v 10 vs is in
+        omega (arith, size, ap (λ (zs : List Item). length (text_from calls None zs)) w, text_size calls None own (v ∷ vs), more)
+
+    by : FirstLonger own rest gs xs ⊎ FirstShorter own rest gs xs → own ≡ gs
+    by (inl l) = longer l.us l.xs_are l.bs_are
+    by (inr s) = absurd (shorter es tail ending ends s.v s.vs s.ys_are s.gs_are)
+
+-- what the part before it gives, and the block's, and what is behind it
 record ArePartsHere (pages : Pages) (page : List ℕ) (es : List Item) (b : LinedBlock) (tail : List (List Item)) (k : ℕ) (ss : List BlockSpot) (end : List ℕ) : Type 0 where
   first : part_items pages k (spot_on (calls_of pages page) es b).before ≡ block_front es b
+  gives : content (own_items b) ≡ part_items pages (calls_to pages k (spot_on (calls_of pages page) es b)) (source_of b.block b.text)
   rest : ending (own_items b) ++ joined tail ≡ called_items pages (calls_past pages k (spot_on (calls_of pages page) es b)) ss end
 
 parts_here : (pages : Pages) (page : List ℕ) (open_tables : List Bool) (es : List Item) (b : LinedBlock) (tail : List (List Item)) (p : ℕ) (qs : List Item)
-    → IsHere pages page open_tables es b tail p qs → (k : ℕ) (ss : List BlockSpot) (end : List ℕ)
-    → IsCallingHere pages (calls_of pages page) (calls_to pages k (spot_on (calls_of pages page) es b)) b
+    → IsHere pages page open_tables es b tail p qs → (k : ℕ) (ss : List BlockSpot) (end : List ℕ) → IsCallingHere (calls_of pages page) b
     → es ++ joined (b.before ++ (((b.marks ++ b.first) ∷ b.more) ++ tail)) ≡ called_items pages k (spot_on (calls_of pages page) es b ∷ ss) end
-    → text_from (calls_of pages page) None (part_items pages k (spot_on (calls_of pages page) es b).before) ≡ (spot_on (calls_of pages page) es b).before
-    → ArePartsHere pages page es b tail k ss end
-parts_here pages page open_tables es b tail p qs l k ss end h e t =
+    → NamedParts pages (calls_of pages page) k (spot_on (calls_of pages page) es b) ss end → ArePartsHere pages page es b tail k ss end
+parts_here pages page open_tables es b tail p qs l k ss end h e n =
     let calls : List OuterCall = calls_of pages page in
     let s : BlockSpot = spot_on calls es b in
+    let q : List ℕ = source_of b.block b.text in
     let front : List Item = block_front es b in
     let own : List Item = content (own_items b) in
     let rest : List Item = ending (own_items b) ++ joined tail in
     let x1 : List Item = part_items pages k s.before in
-    let x2 : List Item = part_items pages (calls_to pages k s) (source_of b.block b.text) in
+    let x2 : List Item = part_items pages (calls_to pages k s) q in
     let x3 : List Item = called_items pages (calls_past pages k s) ss end in
     let some = first_there calls own h.begins in
     let whole : front ++ some.0 ∷ (some.1 ++ rest) ≡ x1 ++ (x2 ++ x3) = ap (λ zs. front ++ (zs ++ rest)) (sym some.2) ∙ sym l.items ∙ e in
-    let same = same_front calls front some.0 (some.1 ++ rest) x1 (x2 ++ x3) whole l.ends some.3 (sym t) in
-    let second : x2 ≡ own = sym h.gives in
-    let both : own ++ rest ≡ own ++ x3 = ap (λ zs. zs ++ rest) some.2 ∙ sym same.1 ∙ ap (λ zs. zs ++ x3) second in
-    record { first = same.0; rest = cancel own rest x3 both }
+    let same = same_front calls front some.0 (some.1 ++ rest) x1 (x2 ++ x3) whole l.ends some.3 (sym (part_text pages calls k s.before n.before)) in
+    let behind : own ++ rest ≡ x2 ++ x3 = ap (λ zs. zs ++ rest) some.2 ∙ sym same.1 in
+    let size : length (text_from calls None own) ≡ length (text_from calls None x2) =
+    ap length (h.source ∙ sym (part_text pages calls (calls_to pages k s) q n.own)) in
+    let second : own ≡ x2 =
+    gives_so calls (calls_past pages k s) own (ending (own_items b)) tail x2 x3 behind size l.around.own_ending l.around.ends (called_first pages calls (calls_past pages k s) ss end n.rest)
+    (part_below pages (calls_to pages k s) q) in
+    let both : own ++ rest ≡ own ++ x3 = behind ∙ ap (λ zs. zs ++ x3) (sym second) in
+    record { first = same.0; gives = second; rest = cancel own rest x3 both }
 
 -- ---- all blocks
 
@@ -363,13 +400,13 @@ record AreHere (pages : Pages) (page : List ℕ) (last : TextBlock) (open_tables
   clear : AreClear p (spots_on (calls_of pages page) es ls) (members_of page)
   source : spots_source (spots_on (calls_of pages page) es ls) (end_on (calls_of pages page) es ls behind) ≡ sources qs
   stand : es ++ joined (all_lines ls behind) ≡ called_items pages k (spots_on (calls_of pages page) es ls) (end_on (calls_of pages page) es ls behind)
-      → AreBeforeTexts pages (calls_of pages page) k (spots_on (calls_of pages page) es ls)
+      → AreSourcesAt (calls_of pages page) k (called_outers pages (spots_on (calls_of pages page) es ls) (end_on (calls_of pages page) es ls behind))
       → StandAfter last open_tables (spots_with_calls pages k (spots_on (calls_of pages page) es ls))
       (items_past pages k (spots_on (calls_of pages page) es ls) (end_on (calls_of pages page) es ls behind))
 
 further : (pages : Pages) (page : List ℕ) (last : TextBlock) (open_tables : List Bool) (es : List Item) (ls : List LinedBlock) (behind : List (List Item)) (p k : ℕ)
     (qs xs : List Item) → AreRuns goes_on (all_lines ls behind) xs → IsEnding es → ((m : List Item) (ms : List (List Item)) → all_lines ls behind ≡ m ∷ ms → es ≡ break ∷ [])
-    → IsRest pages page p (es ++ joined (all_lines ls behind)) qs → AreCallingAfter last open_tables ls behind → AreCallingHere pages (calls_of pages page) k es ls
+    → IsRest pages page p (es ++ joined (all_lines ls behind)) qs → AreCallingAfter last open_tables ls behind → AreCallingHere (calls_of pages page) ls
     → AreContentsInFolder pages (spots_on (calls_of pages page) es ls)
     → AreApartFrom (calls_of pages page) (expanded_page pages page).text_calls p es ls → AreHere pages page last open_tables es ls behind p k qs
 further pages page last open_tables es [] behind p k qs xs runs i f r h own c u =
@@ -390,7 +427,7 @@ further pages page last open_tables es (b ∷ ls) behind p k qs xs runs i f r h 
     let s : BlockSpot = spot_on calls es b in
     let content_in : IsContentIn pages b.block b.text = c.0 in
     let l : IsHere pages page open_tables es b tail p qs =
-    is_here pages page open_tables es b tail p (calls_to pages k s) qs xs runs (inr is_break) r h.1 own.0 content_in.read u.0 in
+    is_here pages page open_tables es b tail p qs xs runs (inr is_break) r h.1 own.0 content_in.read u.0 in
     let now : List Bool = open_at open_tables b in
     let left : List Item = ending (own_items b) in
     let ss : List BlockSpot = spots_on calls left ls in
@@ -411,11 +448,12 @@ further pages page last open_tables es (b ∷ ls) behind p k qs xs runs i f r h 
       clear = (l.here.first, l.here.last, d.clear);
       source = spot_source pages page open_tables es b tail p qs l ss end d.source;
       stand = λ e t.
-          let parts = parts_here pages page open_tables es b tail p qs l k ss end own.0 e t.0 in
-          let later = d.stand parts.rest t.1 in
+          let n : NamedParts pages calls k s ss end = named_parts pages calls k s ss end t in
+          let parts = parts_here pages page open_tables es b tail p qs l k ss end own.0 e n in
+          let later = d.stand parts.rest n.rest in
           let text : List Item = part_items pages (calls_to pages k s) b.text in
           let stays : StayText b.block (length now) text =
-          text_stays b.block (length now) (calls_to pages k s) pages b.text (content (own_items b)) own.0.gives l.stays in
+          text_stays b.block (length now) (calls_to pages k s) pages b.text (content (own_items b)) parts.gives l.stays in
           let others = spots_with_calls pages (calls_past pages k s) ss in
           let past : List Item = items_past pages (calls_past pages k s) ss end in
           let P : List Item → Type 0 = λ zs. BeginsAfter last b.block open_tables zs × LeadsInto b.block open_tables (past_break zs)
@@ -447,7 +485,7 @@ calling_lined pages page (b ∷ ls) behind h =
     let s : BlockSpot = spot_on calls [] b in
     let content_in : IsContentIn pages b.block b.text = h.contents.0 in
     let l : IsHere pages page [] [] b tail 0 (page_items page) =
-    is_here pages page [] [] b tail 0 (calls_to pages 0 s) (page_items page) xs runs (inl refl) r h.lined.0 h.here.0 content_in.read h.apart.0 in
+    is_here pages page [] [] b tail 0 (page_items page) xs runs (inl refl) r h.lined.0 h.here.0 content_in.read h.apart.0 in
     let now : List Bool = open_at [] b in
     let left : List Item = ending (own_items b) in
     let ss : List BlockSpot = spots_on calls left ls in
@@ -471,15 +509,15 @@ calling_lined pages page (b ∷ ls) behind h =
     let items : [] ++ joined (b.before ++ (ts ++ tail)) ≡ called_items pages 0 (s ∷ ss) end =
     sym all ∙ sym (ap (λ (bs : List ℕ). (expanded_page pages bs).items) same) ∙ by_parts.items in
     let outers : calls ≡ called_outers pages (s ∷ ss) end = sym (ap (λ (bs : List ℕ). (expanded_page pages bs).outer) same) ∙ by_parts.outers in
-    let texts : AreBeforeTexts pages calls 0 (s ∷ ss) =
-    before_texts pages calls 0 (s ∷ ss) end (λ j cs g.
-    let z : j ≡ 0 + j = omega arith in
-    subst (λ (i : ℕ). AreSourcesAt calls i cs) z (subst (λ (os : List OuterCall). AreSourcesAt os j cs) (sym outers) g)) in
-    let parts = parts_here pages page [] [] b tail 0 (page_items page) l 0 ss end h.here.0 items texts.0 in
-    let later = d.stand parts.rest texts.1 in
+    let cs : List OuterCall = called_outers pages (s ∷ ss) end in
+    let named : AreSourcesAt calls 0 cs =
+    subst (λ (os : List OuterCall). AreSourcesAt os 0 cs) (sym outers) (subst (λ (os : List OuterCall). AreSourcesAt os 0 cs) (append-nil cs) (sources_first cs [])) in
+    let n : NamedParts pages calls 0 s ss end = named_parts pages calls 0 s ss end named in
+    let parts = parts_here pages page [] [] b tail 0 (page_items page) l 0 ss end h.here.0 items n in
+    let later = d.stand parts.rest n.rest in
     let text : List Item = part_items pages (calls_to pages 0 s) b.text in
     let stays : StayText b.block (length now) text =
-    text_stays b.block (length now) (calls_to pages 0 s) pages b.text (content (own_items b)) h.here.0.gives l.stays in
+    text_stays b.block (length now) (calls_to pages 0 s) pages b.text (content (own_items b)) parts.gives l.stays in
     let rows : List Row = written_rows 0 b.before in
     let rows_are : rows_of_part [] front ≡ rows = rows_by [] b.before b.marks h.lined.0.are_marks l.around.front_are l.around.front_whole in
     let others = spots_with_calls pages (calls_past pages 0 s) ss in

@@ -164,6 +164,10 @@ block_some (a_heading s) q xs h e = by s.level h.some (sym h.is ∙ e)
     by zero le z = omega (arith, le)
     by (suc n) le z = cc
 
+item_some : (xs : List Item) → xs ≢ [] → 1 ≤ length xs
+item_some [] h = absurd (h refl)
+item_some (x ∷ xs) h = omega arith
+
 -- ---- the parts are those of the page
 
 -- what is on the page for the items of what is before each block is that
@@ -319,7 +323,8 @@ lined_here pages page open_tables es b tail p qs xs runs left rest h none own be
       around = r;
       items = items ∙ sym (append_assoc front b.marks others);
       ends = own_behind front b.marks ends marks here.marks;
-      ended = subst AreEnded (sym here.marked) (both_end (text_from calls None front) (sources b.marks) (ended_text calls front ends) h.ended);
+      ended = subst AreEnded (sym here.marked) (both_end (text_from calls None front) (sources b.marks) (ended_text calls front ends)
+          (here.marks_end h.are_marks (item_some (content text) (block_some b.block b.text (content text) block.0))));
       here = here;
       block = block.0;
       source_is = is_source;

@@ -304,7 +304,7 @@ rest_clear pages calls spans at ms p ys qs r = let z = r.size in r.clear p (omeg
 
 -- ---- the page from its beginning on
 
-full_members : (xs : List Member) → AllFull xs → AreFull (members xs)
+pub full_members : (xs : List Member) → AllFull xs → AreFull (members xs)
 full_members [] f = tt
 full_members (x ∷ xs) f = (f.0, full_members xs f.1)
 

@@ -99,7 +99,7 @@ pub own_size : (calls : List OuterCall) (o : Option ℕ) (xs : List Item) → Al
 own_size calls o xs h = ap length (own_text calls o xs h)
 
 -- where a character of the page is first, or last
-first_size : (calls : List OuterCall) (o : Option ℕ) (x : Item) (b : ℕ) (xs : List Item) → x ≡ char None b → 1 ≤ length (text_from calls o (x ∷ xs))
+pub first_size : (calls : List OuterCall) (o : Option ℕ) (x : Item) (b : ℕ) (xs : List Item) → x ≡ char None b → 1 ≤ length (text_from calls o (x ∷ xs))
 first_size calls o x b xs e =
     let c : call_of x ≡ None = ap call_of e in
     let s : length (source x) ≡ 1 = ap (λ (y : Item). length (source y)) e in

@@ -1,5 +1,5 @@
 -- Lines of an expanded page that tell a paragraph or a heading are those of such a block.
-use Rattle.std.proofs.Common.{arith, ◌≡◌, inl, inr, ℕ, ◌+◌, ◌≤◌, Bool, None, List, [], ◌∷◌, ◌++◌, length, map, refl, sym, ap, ◌∙◌, subst, append_assoc, append-nil, length-append}
+use Rattle.std.proofs.Common.{arith, ◌≡◌, inl, inr, ℕ, ◌+◌, ◌≤◌, Bool, None, List, [], ◌∷◌, ◌++◌, length, map, refl, sym, ap, ◌∙◌, subst, append_assoc, append-nil}
 use Rattle.wt_span.specs.Items.{Item, sources}
 use Rattle.wt_span.specs.Origins.{OuterCall, Span}
 use Rattle.wt_span.specs.Runs.{IsRun, AreRuns}
@@ -29,7 +29,7 @@ use Rattle.wt_called_edit_laws.proofs.Among.OwnItems.{from_page}
 use Rattle.wt_called_edit_laws.proofs.Among.OwnSeams.{sources_size}
 use Rattle.wt_called_edit_laws.proofs.Cells.PlacedLines.{own_items, lines_joined, run_behind, some_lines}
 use Rattle.wt_called_edit_laws.proofs.Told.HeadItems.{told_source, lined_heading}
-use Rattle.wt_called_edit_laws.proofs.Told.ToldPages.{IsClosed, told_item, marks_there}
+use Rattle.wt_called_edit_laws.proofs.Told.ToldPages.{IsClosed, told_item}
 
 -- ---- a heading
 
@@ -124,14 +124,8 @@ told_at pages page open_tables t p es tail qs xs runs left r none own beside clo
     last_append None es (joined b.before) ∙ ap (λ o. last_of o (joined b.before)) (left_none es left) ∙ none in
     let own_there : IsRest pages page p (line_front es b ++ (b.marks ++ (own_items b ++ joined tail))) qs =
     subst (λ zs. IsRest pages page p zs qs) (line_items es b tail) r in
-    let lines : LineThere pages page b.marks (own_items b) (joined tail) =
-    line_there pages page p (line_front es b) b.marks (own_items b) (joined tail) qs own_there ends (of_front b.marks (own_items b) own)
-    (of_behind b.marks (own_items b) own) beside in
-    let seen : 1 ≤ length (own_items b ++ lines.behind) =
-    omega (arith, h.some, length-append b.first (joined b.more), length-append (own_items b) lines.behind) in
     record {
       are_marks = h.are_marks;
-      ended = marks_there page lines.front b.marks (own_items b ++ lines.behind) lines.is h.are_marks seen;
       some = h.some;
       in_cells = h.in_cells;
       apart = h.apart;

@@ -141,11 +141,11 @@ unfolding inline_spelling
 spelled_by k old block m ps = refl
 
 -- What holds of the edit: its nodes are the block's, as they are in the page, and its texts fit.
-record IsSentBeside (pages : Pages) (k : TextBlock) (block : Tree) (m : Label) (ps : Pieces) : Type 0 where
+pub record IsSentBeside (pages : Pages) (k : TextBlock) (block : Tree) (m : Label) (ps : Pieces) : Type 0 where
   node : page_node (content_edit k block m ps) ≡ block
-  sent : AreSent (page_of same_node block) (sent_pieces ps)
+  pub sent : AreSent (page_of same_node block) (sent_pieces ps)
   things_stay : ThingsStay pages (page_things block) (things (signs k block ps))
-  written : IsWrittenIn k pages (setting k block) (signs k block ps)
+  pub written : IsWrittenIn k pages (setting k block) (signs k block ps)
   shows : (i : ℕ) (rest : Plains) → called_shown (signs k block ps) (owns_in pages i (signs k block ps)) rest ≡ pieces_before ps rest
 
 -- its signs are written so
@@ -164,7 +164,7 @@ written_so pages (a_heading w) q block ps h e found own sent stay =
     (pieces_line pages same_node block pl ps tells_same found own e.stay e.are e.plain e.fits)
     (pieces_characters pages same_node block pl ps tells_same found own e.stay e.are e.plain) h.things h.round.1 stay
 
-sent_beside : (pages : Pages) (k : TextBlock) (q : List ℕ) (block : Tree) (m : Label) (ps : Pieces) → IsSettledIn pages k q block → IsBesideCalls pages k q block
+pub sent_beside : (pages : Pages) (k : TextBlock) (q : List ℕ) (block : Tree) (m : Label) (ps : Pieces) → IsSettledIn pages k q block → IsBesideCalls pages k q block
     → IsCalledEditOf pages k block ps → IsSentBeside pages k block m ps
 sent_beside pages k q block m ps i h e =
     let pl : Place = place_of (block_of k) in
@@ -184,14 +184,14 @@ sent_beside pages k q block m ps i h e =
       shows = λ j rest. pieces_show pages j same_node block pl ps rest tells_same found own e.stay e.are e.plain;
     }
 
-content_is : (pages : Pages) (k : TextBlock) (block : Tree) (m : Label) (ps : Pieces) → IsSentBeside pages k block m ps
+pub content_is : (pages : Pages) (k : TextBlock) (block : Tree) (m : Label) (ps : Pieces) → IsSentBeside pages k block m ps
     → new_content k block m ps ≡ spelled (setting k block) (signs k block ps)
 content_is pages k block m ps w =
     spelled_by k (page_node (content_edit k block m ps)) block m ps ∙ ap (λ (t : Tree). spelled (setting k t) (signs k t ps)) w.node
 
 -- ---- it is taken
 
-one_line_so : (k : TextBlock) (block : Tree) (ps : Pieces) → TextsFitAt k block ps → takes_breaks k ≡ false → AreOneLine ps
+pub one_line_so : (k : TextBlock) (block : Tree) (ps : Pieces) → TextsFitAt k block ps → takes_breaks k ≡ false → AreOneLine ps
 one_line_so a_paragraph block ps f e = absurd (cc)
 one_line_so (a_heading w) block ps f e = f
 

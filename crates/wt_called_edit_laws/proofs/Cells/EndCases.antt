@@ -40,6 +40,7 @@ unfolding kind_of_signs
 leads = record { whole = inr table_end; in_cells = tt; apart = refl }
 
 stays : StaysIn a_paragraph [] front (page_chars (codes " b"))
+unfolding kind_of_signs
 stays = inr (table_end, All-nil (λ l. line_kind 0 l ≡ line.Text))
 
 alone : line_kind 0 (page_chars (codes " b")) ≡ line.Pre

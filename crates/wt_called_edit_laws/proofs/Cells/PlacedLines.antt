@@ -1,5 +1,5 @@
 -- Any number of paragraphs and headings of a page by its lines: the page's items are cut at each.
-use Rattle.std.proofs.Common.{arith, ◌≡◌, ◌≤◌, ℕ, Bool, true, List, [], ◌∷◌, ◌++◌, length, refl, sym, ap, ◌∙◌, subst, append-nil, append_assoc, inl}
+use Rattle.std.proofs.Common.{arith, ◌≡◌, ◌≤◌, ℕ, Bool, true, List, [], ◌∷◌, ◌++◌, length, refl, sym, ap, ◌∙◌, subst, append-nil, append_assoc, length-append, inl}
 use Rattle.std.specs.Prelude.{◌&&◌, if◌then◌else◌}
 use Rattle.std.specs.List.{list_all}
 use Rattle.std.specs.Str.{IsUtf8}
@@ -26,7 +26,9 @@ use Rattle.wt_text_edit_laws.specs.TextBetween.{AreEnded}
 use Rattle.wt_text_edit_laws.specs.TextBlocks.{TextBlock, a_paragraph, a_heading, source_of}
 use Rattle.wt_text_edit_laws.proofs.Cuts.TextLines.{runs_behind, runs_before, joined_is, joined_both, lines_of, whole_before, no_marks_end, ending_break, IsEnding, ending_own, some_items, ended_bytes}
 use Rattle.wt_text_edit_laws.proofs.Paragraphs.LineBlocks.{OwnBreaks, page_breaks}
+use Rattle.wt_beside_laws.specs.OpenEnds.{MarksEnd}
 use Rattle.wt_beside_laws.proofs.Derived.BlockContents.{block_source}
+use Rattle.wt_beside_laws.proofs.Own.OpenEnds.{page_marks, marks_behind, marks_ended as page_marks_ended}
 use Rattle.wt_called_edit_laws.specs.AnyBlocks.{open_after, rows_of_part, EndsFor, NextApart, LeadsInto, EndsAfter}
 use Rattle.wt_called_edit_laws.specs.CalledContents.{StayText}
 use Rattle.wt_called_edit_laws.specs.CalledPages.{IsCalledPage}
@@ -203,18 +205,48 @@ all_breaks b tail xs runs o =
       rest = own_rest (own_items b) (joined tail) later;
     }
 
+-- ---- the marks before them
+
+led_end : (before ms ys : List Item) → MarksEnd (before ++ (ms ++ ys)) → list_all is_mark ms ≡ true → 1 ≤ length ys → AreEnded (sources ms)
+led_end before ms [] m marks some = absurd (omega (arith, some))
+led_end before ms (y ∷ ys) m marks some = page_marks_ended ms y ys marks (marks_behind before (ms ++ y ∷ ys) m)
+
+-- the marks before items of a page are ended
+pub marks_there : (page : List ℕ) (before ms ys : List Item) → page_items page ≡ before ++ (ms ++ ys) → list_all is_mark ms ≡ true → 1 ≤ length ys → AreEnded (sources ms)
+marks_there page before ms ys e marks some = led_end before ms ys (subst MarksEnd e (page_marks page)) marks some
+
+-- so of the lines of a block, and those behind them
+record AreMarksThere (b : LinedBlock) (tail : List (List Item)) : Type 0 where
+  ended : list_all is_mark b.marks ≡ true → 1 ≤ length b.first → AreEnded (sources b.marks)
+  rest : MarksEnd (joined tail)
+
+all_marks : (b : LinedBlock) (tail : List (List Item)) (xs : List Item) → AreRuns goes_on (b.before ++ (((b.marks ++ b.first) ∷ b.more) ++ tail)) xs → MarksEnd xs
+    → AreMarksThere b tail
+all_marks b tail xs runs m =
+    let before : List Item = joined b.before in
+    let own : List Item = own_items b in
+    let more : List Item = own ++ joined tail in
+    let all : MarksEnd (before ++ (b.marks ++ more)) =
+    subst MarksEnd (joined_is goes_on (b.before ++ (((b.marks ++ b.first) ∷ b.more) ++ tail)) xs runs ∙ lines_joined b tail ∙ append_assoc before b.marks more) m in
+    record {
+      ended = λ marks some. led_end before b.marks more all marks
+          (omega (arith, some, length-append b.first (joined b.more), length-append own (joined tail)));
+      rest = marks_behind own (joined tail) (marks_behind b.marks more (marks_behind before (b.marks ++ more) all));
+    }
+
 -- ---- all blocks
 
 further : (last : TextBlock) (bs : List Bool) (ls : List LinedBlock) (behind : List (List Item)) (xs es : List Item) → AreRuns goes_on (all_lines ls behind) xs
-    → OwnBreaks xs → IsEnding es → ((m : List Item) (ms : List (List Item)) → all_lines ls behind ≡ m ∷ ms → es ≡ break ∷ []) → AreLinedAfter last bs ls behind
+    → OwnBreaks xs → MarksEnd xs → IsEnding es → ((m : List Item) (ms : List (List Item)) → all_lines ls behind ≡ m ∷ ms → es ≡ break ∷ []) → AreLinedAfter last bs ls behind
     → AreFurtherIn last bs (spots_by es ls) (end_by es ls behind) (es ++ joined (all_lines ls behind))
-further last bs [] behind xs es runs o i f h =
+further last bs [] behind xs es runs o w i f h =
     lines_end last (length bs) es behind i f (lines_of behind (subst (λ (ys : List Item). AreRuns goes_on behind ys) (joined_is goes_on behind xs runs) runs)) h
-further last bs (b ∷ ls) behind xs es runs o i f h =
+further last bs (b ∷ ls) behind xs es runs o w i f h =
     let tail : List (List Item) = all_lines ls behind in
     let lines = some_lines b.before (b.marks ++ b.first) (b.more ++ tail) in
     let e : es ≡ break ∷ [] = f lines.0 lines.1 lines.2 in
     let breaks : AllBreaks b tail = all_breaks b tail xs runs o in
+    let marks : AreMarksThere b tail = all_marks b tail xs runs w in
     let r : Round b tail = round b tail xs h.1.some runs breaks.text in
     let front : List Item = joined b.before ++ b.marks in
     let own : List Item = content (own_items b) in
@@ -234,23 +266,24 @@ further last bs (b ∷ ls) behind xs es runs o i f h =
         source = refl;
         block = block.0;
       },
-      inl (marks_ended (break ∷ joined b.before) b.marks ((λ t. refl), breaks.front) (past_end (joined b.before) r.front_whole) h.1.ended),
+      inl (marks_ended (break ∷ joined b.before) b.marks ((λ t. refl), breaks.front) (past_end (joined b.before) r.front_whole) (marks.ended h.1.are_marks h.1.some)),
       refl,
       (refl, subst (NextApart last b.block) (sym same) h.0),
       leads_by b.block bs b.before b.marks h.1.are_marks r.front_are r.front_whole h.1.in_cells h.1.apart,
       inl (subst (λ (rs : List Row). StayText b.block (length (open_after bs rs)) own) (sym same) block.1),
       subst (λ (rs : List Row). AreFurtherIn b.block (open_after bs rs) (spots_by (ending (own_items b)) ls) (end_by (ending (own_items b)) ls behind) rest) (sym same)
-          (further b.block (open_after bs rows) ls behind (joined tail) (ending (own_items b)) r.tail_runs breaks.rest r.own_ending r.ends h.2),
+          (further b.block (open_after bs rows) ls behind (joined tail) (ending (own_items b)) r.tail_runs breaks.rest marks.rest r.own_ending r.ends h.2),
     )
 
 pub placed : (ls : List LinedBlock) (behind : List (List Item)) (xs : List Item) → page_items (spots_source (spots_by [] ls) (end_by [] ls behind)) ≡ xs
-    → full_lines xs ≡ all_lines ls behind → OwnBreaks xs → AreLined ls behind → AreBlocksIn (spots_by [] ls) (end_by [] ls behind)
-placed [] behind xs e are o h = absurd h
-placed (b ∷ ls) behind xs e are o h =
+    → full_lines xs ≡ all_lines ls behind → OwnBreaks xs → MarksEnd xs → AreLined ls behind → AreBlocksIn (spots_by [] ls) (end_by [] ls behind)
+placed [] behind xs e are o w h = absurd h
+placed (b ∷ ls) behind xs e are o w h =
     let tail : List (List Item) = all_lines ls behind in
     let all : List (List Item) = b.before ++ (((b.marks ++ b.first) ∷ b.more) ++ tail) in
     let runs : AreRuns goes_on all xs = subst (λ (ks : List (List Item)). AreRuns goes_on ks xs) are (runs_are goes_on xs) in
     let breaks : AllBreaks b tail = all_breaks b tail xs runs o in
+    let marks : AreMarksThere b tail = all_marks b tail xs runs w in
     let r : Round b tail = round b tail xs h.0.some runs breaks.text in
     let front : List Item = joined b.before ++ b.marks in
     let own : List Item = content (own_items b) in
@@ -266,25 +299,12 @@ placed (b ∷ ls) behind xs e are o h =
         source = refl;
         block = block.0;
       },
-      inl (marks_ended (joined b.before) b.marks breaks.front r.front_whole h.0.ended),
+      inl (marks_ended (joined b.before) b.marks breaks.front r.front_whole (marks.ended h.0.are_marks h.0.some)),
       leads_by b.block [] b.before b.marks h.0.are_marks r.front_are r.front_whole h.0.in_cells h.0.apart,
       inl (subst (λ (rs : List Row). StayText b.block (length (open_after [] rs)) own) (sym same) block.1),
       subst (λ (rs : List Row). AreFurtherIn b.block (open_after [] rs) (spots_by (ending (own_items b)) ls) (end_by (ending (own_items b)) ls behind) rest) (sym same)
-          (further b.block (open_after [] rows) ls behind (joined tail) (ending (own_items b)) r.tail_runs breaks.rest r.own_ending r.ends h.1),
+          (further b.block (open_after [] rows) ls behind (joined tail) (ending (own_items b)) r.tail_runs breaks.rest marks.rest r.own_ending r.ends h.1),
     )
-
--- where the page is cut round the first
-pub record FirstCut (b : LinedBlock) (tail : List (List Item)) (before own rest : List Item) : Type 0 where
-  pub before_is : before ≡ joined b.before ++ b.marks
-  pub own_is : own ≡ content (own_items b)
-  pub rest_is : rest ≡ ending (own_items b) ++ joined tail
-
-pub first_cut : (b : LinedBlock) (ls : List LinedBlock) (behind : List (List Item)) (xs : List Item)
-    (e : page_items (spots_source (spots_by [] (b ∷ ls)) (end_by [] (b ∷ ls) behind)) ≡ xs) (are : full_lines xs ≡ all_lines (b ∷ ls) behind) (o : OwnBreaks xs)
-    (h : AreLined (b ∷ ls) behind)
-    → FirstCut b (all_lines ls behind) (placed (b ∷ ls) behind xs e are o h).0.before (placed (b ∷ ls) behind xs e are o h).0.own (placed (b ∷ ls) behind xs e are o h).0.rest
-unfolding placed
-first_cut b ls behind xs e are o h = record { before_is = refl; own_is = refl; rest_is = refl }
 
 -- ---- they are the page
 
@@ -343,7 +363,7 @@ lined_in page ls behind h =
       calls_nothing = subst (λ (bs : List ℕ). CallsNothing (page_items bs)) (sym same) h.calls_nothing;
       ungrouped = subst HasNoGroups (sym same) h.ungrouped;
       closed = h.closed;
-      blocks = placed ls behind (page_items page) (ap page_items same) h.are (page_breaks page) h.lined;
+      blocks = placed ls behind (page_items page) (ap page_items same) h.are (page_breaks page) (page_marks page) h.lined;
       shut = h.shut;
     }
 

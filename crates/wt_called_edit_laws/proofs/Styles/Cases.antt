@@ -209,7 +209,7 @@ are_nodes =
       ),
     )
 
-pub in_class : IsBesideStyles a_word source block
+pub in_class : IsBesideStyles a_word a_paragraph source block
 unfolding label_at context_parts chunks segments loose_segments tiles shapes closes tile_at link_or_url link_at ext_link_at bare_url_at scheme_len
     tag_tile tag_at switch_at children with_styles style_tree_of toggles_of toggle_at opens_tag closes_tag place_of since next bold_ends_later effect_on
     is_bold_outside_at turn_at
@@ -222,8 +222,9 @@ in_class = record {
   children = are_nodes;
   nest = ((refl, ((λ e. refl), tt)), (tt, ((λ e. refl), tt)));
   things = subst (ArePageThings a_word) (sym things_are) of_page;
-  own = subst AreOwnThings (sym things_are) (record { some = λ e. absurd (cc); unquoted = tt; unslashed = refl }, tt);
+  own = subst (AreOwnThings a_word) (sym things_are) (record { some = λ e. absurd (cc); unquoted = tt; gives = inl refl }, tt);
   among = subst (λ (ts : List Thing). StayButForOthers a_word pieces (thing_sources ts)) (sym things_are) among;
+  round = tt;
 }
 
 -- ---- what is sent
@@ -239,7 +240,7 @@ are_letters : IsUtf8 (codes "xz") × IsUtf8 (codes "v")
 unfolding encode
 are_letters = ((codes "xz", (refl, refl)), (codes "v", (refl, refl)))
 
-pub edit_of : IsStyledCallEdit a_word block edit
+pub edit_of : IsStyledCallEdit a_word a_paragraph block edit
 unfolding label_at context_parts chunks segments loose_segments tiles shapes closes tile_at link_or_url link_at ext_link_at bare_url_at scheme_len
     tag_tile tag_at switch_at children with_styles style_tree_of toggles_of toggle_at opens_tag closes_tag place_of since next bold_ends_later effect_on
     is_bold_outside_at turn_at
@@ -259,14 +260,14 @@ edit_of = record {
   calm = ((tt, tt), (tt, (tt, tt)));
   new = (((λ e. refl), tt), (refl, refl, ((λ e. refl), tt), tt));
   free = (tt, tt);
-  some = inr (inl refl);
+  fits = inr (inl refl);
 }
 
 -- So it is taken, and makes the new block with its group.
 pub makes : MakesContentIn a_word a_paragraph source block a_label edit
 makes =
     let some : 0 < 1 = omega arith in
-    styles_make a_word source block a_label edit 1 0 0 (a_call ∷ []) some (ap block_by (sym (items_are 0))) in_class edit_of
+    styles_make a_word a_paragraph source block a_label edit 1 0 0 (a_call ∷ []) some (ap block_by (sym (items_are 0))) in_class edit_of
 
 -- `<nowiki/>` is put between the call and the new style
 pub written_is : new_content a_paragraph block a_label edit ≡ codes "'''xz'''{{t}}<nowiki/>''v''"

@@ -35,7 +35,7 @@ use Rattle.wt_beside_laws.specs.Styled.{StyledContent, delimiter, finished, mark
 use Rattle.wt_beside_laws.specs.StyledNodes.{IsPut}
 use Rattle.wt_called_edit_laws.proofs.MovedOuters.{calls_after}
 use Rattle.wt_called_edit_laws.proofs.Styles.Put.{put_open, put_outer, put_source, put_work}
-use Rattle.wt_called_edit_laws.proofs.Styles.Things.{AreAmongPut}
+use Rattle.wt_called_edit_laws.proofs.Styles.Things.{AreAmongPut, AreStyledThings}
 use Rattle.wt_called_edit_laws.proofs.Styles.Written.{IsStyledWritten, all_given, all_parts, all_read, all_sealed, all_utf8, styled_gives}
 use Rattle.wt_called_edit_laws.proofs.Written.FromPage.{by_sources, stay_both}
 use Rattle.wt_called_edit_laws.proofs.Written.InPieces.{open_pieces, pieces_written}
@@ -109,9 +109,13 @@ styled_read pages s t h =
 
 -- ---- and is lines of text, by what its calls give
 
+pub signs_calls : (pages : Pages) (s : Setting) (signs : List ContentSign) → s.within ≡ false → AreStyledThings pages signs
+    → IsWrittenAs pages (spelled s signs) (λ i. written_items pages s i [] signs) (written_calls pages signs) (written_work pages signs)
+signs_calls pages s signs w h = content_written pages s signs w (all_read pages signs h) (all_parts pages signs h)
+
 pub own_calls : (pages : Pages) (s : Setting) (t : StyledContent) → IsStyledWritten pages s t
     → IsWrittenAs pages (spelled s (signs_in t)) (λ i. written_items pages s i [] (signs_in t)) (written_calls pages (signs_in t)) (written_work pages (signs_in t))
-own_calls pages s t h = content_written pages s (signs_in t) h.of_block (all_read pages (signs_in t) h.each) (all_parts pages (signs_in t) h.each)
+own_calls pages s t h = signs_calls pages s (signs_in t) h.of_block h.each
 
 text_items : (pages : Pages) (i : ℕ) (s : Setting) (t : StyledContent) → IsStyledWritten pages s t → AreTextItems (part_items pages i (spelled s (signs_in t)))
 text_items pages i s t h =
@@ -157,7 +161,7 @@ work_put pages fs (d ∷ ds) a = elim a [
       ∙ sym (ap (λ (xs : List Thing). work_of pages (thing_sources xs)) q.1)
 ]
 
-open_put : (name : List ℕ) (fs news : List Thing) → AreAmongPut fs news → Each (OpenAt name) (thing_sources fs) → Each (OpenFor name) news
+pub open_put : (name : List ℕ) (fs news : List Thing) → AreAmongPut fs news → Each (OpenAt name) (thing_sources fs) → Each (OpenFor name) news
 open_put name fs [] a h = tt
 open_put name fs (d ∷ ds) a h = elim a [
   | inl p ↦ (put_open name d.source (put_source d p.0), open_put name fs ds p.1 h)
@@ -167,7 +171,7 @@ open_put name fs (d ∷ ds) a h = elim a [
 ]
 
 -- and back
-open_page : (name : List ℕ) (fs news : List Thing) → AreAmongPut fs news → Each (OpenAt name) (thing_sources news) → Each (OpenAt name) (thing_sources fs)
+pub open_page : (name : List ℕ) (fs news : List Thing) → AreAmongPut fs news → Each (OpenAt name) (thing_sources news) → Each (OpenAt name) (thing_sources fs)
 open_page name fs [] a h = subst (λ (xs : List Thing). Each (OpenAt name) (thing_sources xs)) (sym a) tt
 open_page name fs (d ∷ ds) a h = elim a [
   | inl p ↦ open_page name fs ds p.1 h.1

@@ -1,6 +1,8 @@
 -- A style delimiter and a nowiki that is put: each is characters or one lexeme, calls nothing, and stays what it is beside text.
-use Rattle.std.proofs.Common.{◌≡◌, ◌⊎◌, inl, inr, ℕ, Bool, true, false, List, [], ◌∷◌, ◌++◌, ap, refl, subst, sym, ◌∙◌}
+use Rattle.std.proofs.Common.{◌≡◌, ◌⊎◌, inl, inr, ℕ, Bool, true, false, List, [], ◌∷◌, ◌++◌, map, ap, refl, subst, sym, ◌∙◌}
 use Rattle.std.specs.Str.{IsUtf8}
+use Rattle.wt_span.specs.Bytes.{is_blank}
+use Rattle.wt_span.specs.Items.{Item, sign}
 use Rattle.wt_span.specs.Origins.{OuterCall}
 use Rattle.wt_guards.specs.Content.{Thing}
 use Rattle.wt_guards.specs.Guards.{is_mark, is_new_at_start, nowiki}
@@ -11,6 +13,7 @@ use Rattle.wt_part_laws.specs.Expanded.{part_items}
 use Rattle.wt_part_laws.specs.MovedCalls.{AreMoved}
 use Rattle.wt_text_edit_laws.proofs.Between.ClosingTags.{Unclosed, unclosed_untagged}
 use Rattle.wt_text_edit_laws.specs.NoCalls.{AreUnbraced}
+use Rattle.wt_text_edit_laws.specs.TypedHeadings.{EndsWithout, is_equals_sign}
 use Rattle.wt_beside_laws.proofs.CalmContents.{guard_utf8}
 use Rattle.wt_beside_laws.proofs.Contents.{nowiki_reads}
 use Rattle.wt_beside_laws.proofs.Firm.{alone_as}
@@ -19,7 +22,7 @@ use Rattle.wt_beside_laws.proofs.Made.Closes.{guard_closes}
 use Rattle.wt_beside_laws.proofs.Marks.Shown.{kept_node}
 use Rattle.wt_beside_laws.proofs.Styled.StyledAgain.{quotes_utf8}
 use Rattle.wt_beside_laws.proofs.Styled.StyledNodes.{mark_kept, mark_page, put_node, put_closed, put_unbroken}
-use Rattle.wt_beside_laws.specs.Called.{IsOwnNode}
+use Rattle.wt_beside_laws.specs.Called.{IsOwnNode, IsSeenIn}
 use Rattle.wt_beside_laws.specs.Content.{guard_items}
 use Rattle.wt_beside_laws.specs.FlatBlocks.{IsSealed}
 use Rattle.wt_beside_laws.specs.NodeItems.{node_items}
@@ -145,3 +148,18 @@ put_open name bs p = ([], by_source (λ q. Unclosed name (q ++ [])) (λ kind. ma
 
 pub put_utf8 : (bs : List ℕ) → IsPutSource bs → IsUtf8 bs
 put_utf8 bs p = by_source IsUtf8 quotes_utf8 (guard_utf8 true) bs p
+
+-- ---- what is last in it is no blank and no `=`
+
+abbrev EndsSeen : List Item → Type 0
+EndsSeen xs = EndsWithout is_blank (map sign xs) × EndsWithout is_equals_sign (map sign xs)
+
+mark_seen : (kind : Bool) → EndsSeen (page_items (mark_source kind))
+mark_seen true = subst EndsSeen (sym (mark_page true)) (refl, refl)
+mark_seen false = subst EndsSeen (sym (mark_page false)) (refl, refl)
+
+pub put_seen : (pages : Pages) (t : Thing) → IsPut t → IsSeenIn pages t
+put_seen pages t p = λ i.
+    let q : IsPutSource t.source = put_source t p in
+    let w = put_written pages t.source q in
+    subst EndsSeen (sym (w.items_are i)) (by_source (λ bs. EndsSeen (page_items bs)) mark_seen (subst EndsSeen (sym nowiki_page) (refl, refl)) t.source q)

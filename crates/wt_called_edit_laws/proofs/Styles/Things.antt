@@ -15,6 +15,7 @@ use Rattle.wt_guards.specs.declared.role.Stretch.{Stretch}
 use Rattle.wt_original.specs.Kept.{Kept, kept_nodes, kept_with}
 use Rattle.wt_original.specs.Page.{Page, page_of}
 use Rattle.wt_tiles.specs.Glyphs.{byte_glyphs, glyph_of}
+use Rattle.wt_guards.specs.declared.role.Transclusion.{Transclusion}
 use Rattle.wt_tiles.specs.declared.glyph.Glyph.{Glyph}
 use Rattle.wt_tiles.specs.declared.glyph.Glyph.TheVariants as glyph
 use Rattle.wt_link_spelling.specs.Spelling.{closing_place, opening_place}
@@ -37,7 +38,7 @@ use Rattle.wt_beside_laws.proofs.Styled.SentWhole.{numbers_appended}
 use Rattle.wt_beside_laws.proofs.Styled.StyledNodes.{lead_free, mark_last, meets_put, own_mark, own_nowiki, put_node}
 use Rattle.wt_beside_laws.specs.Called.{BehindMay, IsOfFolder, LeadMay, MayFollowGroup, MayMeet, StaysAsItIs, owns_in}
 use Rattle.wt_beside_laws.specs.Cuts.{ends_word, own_glyphs}
-use Rattle.wt_beside_laws.specs.Nodes.{IsNode}
+use Rattle.wt_beside_laws.specs.Nodes.{IsNode, is_quote_last}
 use Rattle.wt_beside_laws.specs.SentStyled.{found_then, or_nowiki, sent_before, sent_by, sent_content}
 use Rattle.wt_beside_laws.specs.Stood.{things}
 use Rattle.wt_beside_laws.specs.Styled.{StyledContent, delimiter, finished, mark_source, sign, signs_before, signs_in, styled}
@@ -49,7 +50,7 @@ use Rattle.wt_called_edit_laws.proofs.Styles.Put.{put_items, put_source}
 use Rattle.wt_called_edit_laws.proofs.Styles.Sent.{found_both, style_found}
 use Rattle.wt_called_edit_laws.proofs.Written.FromPage.{gives_so}
 use Rattle.wt_called_edit_laws.specs.PageThings.{ArePageThings, IsPageThing, MeetLater, ThingsStay}
-use Rattle.wt_called_edit_laws.specs.StyledCallEdits.{AreOwnThings, CallNone, CallsNone, CallsNoneBy, EndsUnslashed, IsOwnThing, NoCallGoes}
+use Rattle.wt_called_edit_laws.specs.StyledCallEdits.{AreOwnThings, CallNone, CallsNone, CallsNoneBy, GivesUnquoted, IsOwnThing, NoCallGoes}
 
 -- ---- with others that are put among them
 
@@ -273,29 +274,29 @@ pieces_left pages same block (new_style m is ps) f h c =
 
 -- a node of the page, or what is put
 abbrev pub IsStyledThing : Pages → Thing → Type 0
-IsStyledThing pages t = (IsPageThing pages t × IsOwnThing t) ⊎ IsPut t
+IsStyledThing pages t = (IsPageThing pages t × IsOwnThing pages t) ⊎ IsPut t
 
 abbrev pub AreStyledThings : Pages → List ContentSign → Type 0
 AreStyledThings pages signs = Each (IsStyledThing pages) (things signs)
 
-first_own : (t : Thing) (fs rest : List Thing) → fs ≡ t ∷ rest → AreOwnThings fs → IsOwnThing t × AreOwnThings rest
-first_own t fs rest e h = subst (λ (xs : List Thing). AreOwnThings xs) e h
+first_own : (pages : Pages) (t : Thing) (fs rest : List Thing) → fs ≡ t ∷ rest → AreOwnThings pages fs → IsOwnThing pages t × AreOwnThings pages rest
+first_own pages t fs rest e h = subst (λ (xs : List Thing). AreOwnThings pages xs) e h
 
-pub each_styled : (pages : Pages) (fs news : List Thing) → AreAmongPut fs news → ArePageThings pages fs → AreOwnThings fs → Each (IsStyledThing pages) news
+pub each_styled : (pages : Pages) (fs news : List Thing) → AreAmongPut fs news → ArePageThings pages fs → AreOwnThings pages fs → Each (IsStyledThing pages) news
 each_styled pages fs [] a h o = tt
 each_styled pages fs (d ∷ ds) a h o = elim a [
   | inl p ↦ (inr p.0, each_styled pages fs ds p.1 h o)
   | inr q ↦
       let own : ArePageThings pages (d ∷ q.0) = subst (ArePageThings pages) q.1 h in
-      let there = first_own d fs q.0 q.1 o in
+      let there = first_own pages d fs q.0 q.1 o in
       (inl (own.0, there.0), each_styled pages q.0 ds q.2 own.2 there.1)
 ]
 
-pub own_stay : (pages : Pages) (bs ds : List Thing) → ThingsStay pages bs ds → AreOwnThings bs → AreOwnThings ds
+pub own_stay : (pages : Pages) (bs ds : List Thing) → ThingsStay pages bs ds → AreOwnThings pages bs → AreOwnThings pages ds
 own_stay pages [] [] e h = tt
 own_stay pages [] (d ∷ ds) e h = absurd e
 own_stay pages (b ∷ bs) [] e h = tt
-own_stay pages (b ∷ bs) (d ∷ ds) (inl e) h = (subst IsOwnThing e.0 h.0, own_stay pages bs ds e.1 h.1)
+own_stay pages (b ∷ bs) (d ∷ ds) (inl e) h = (subst (IsOwnThing pages) e.0 h.0, own_stay pages bs ds e.1 h.1)
 own_stay pages (b ∷ bs) (d ∷ ds) (inr e) h = own_stay pages bs (d ∷ ds) e.1 h.1
 
 -- ---- side by side, by what they give
@@ -337,23 +338,27 @@ put_may : (t n : Thing) (left right : List Glyph) → IsPut t → left ≡ own_g
 put_may t n left right p e = (put_behind t left right p, lead_may n.role right (ends_word false left) (ap (ends_word false) e ∙ put_word t p))
 
 -- a delimiter behind a group
-quotes_follow : (slashes kind : Bool) → slashes ≡ false → MayFollowGroup slashes (byte_glyphs (mark_source kind))
-quotes_follow true kind e = cc
-quotes_follow false true e = (refl, λ z. cc)
-quotes_follow false false e = (refl, λ z. cc)
+quotes_follow : (slashes kind : Bool) (own : List Glyph) → (slashes ≡ false) ⊎ (is_quote_last own ≡ false) → MayFollowGroup slashes own (byte_glyphs (mark_source kind))
+quotes_follow slashes true own (inl e) = inl (refl, λ z. let no : true ≡ false = sym z ∙ e in absurd (cc))
+quotes_follow slashes false own (inl e) = inl (refl, λ z. let no : true ≡ false = sym z ∙ e in absurd (cc))
+quotes_follow slashes true own (inr q) = inr (record { unquoted = q; quotes = refl })
+quotes_follow slashes false own (inr q) = inr (record { unquoted = q; quotes = refl })
 
-atom_follows : (slashes : Bool) → slashes ≡ false → MayFollowGroup slashes (glyph.Atom ∷ [])
-atom_follows true e = cc
-atom_follows false e = (refl, λ z. cc)
-
-group_follow : (slashes : Bool) (n : Thing) (right : List Glyph) → slashes ≡ false → IsPut n → right ≡ own_glyphs n → MayFollowGroup slashes right
-group_follow slashes n right e p is = elim p [
-  | inl m ↦ subst (MayFollowGroup slashes) (sym (is ∙ own_mark n m.0 m.2)) (quotes_follow slashes m.0 e)
-  | inr w ↦ subst (MayFollowGroup slashes) (sym (is ∙ own_nowiki n w.1)) (atom_follows slashes e)
+group_follow : (slashes : Bool) (n : Thing) (own right : List Glyph) → (slashes ≡ false) ⊎ (is_quote_last own ≡ false) → IsPut n → right ≡ own_glyphs n
+    → MayFollowGroup slashes own right
+group_follow slashes n own right e p is = elim p [
+  | inl m ↦ subst (MayFollowGroup slashes own) (sym (is ∙ own_mark n m.0 m.2)) (quotes_follow slashes m.0 own e)
+  | inr w ↦ subst (MayFollowGroup slashes own) (sym (is ∙ own_nowiki n w.1)) (inl (refl, λ z. refl))
 ]
 
+-- by what it gives here
+unquoted_at : (pages : Pages) (i : ℕ) (g : Transclusion) (source : List ℕ) → GivesUnquoted pages (Group g) source
+    → (g.slashes ≡ false) ⊎ (is_quote_last (map glyph_of (part_items pages i source)) ≡ false)
+unquoted_at pages i g source (inl e) = inl e
+unquoted_at pages i g source (inr f) = inr (f i)
+
 -- before what is put
-page_may : (pages : Pages) (i : ℕ) (t n : Thing) (right : List Glyph) → IsOfFolder t.role pages t → IsOwnThing t → IsPut n → right ≡ own_glyphs n
+page_may : (pages : Pages) (i : ℕ) (t n : Thing) (right : List Glyph) → IsOfFolder t.role pages t → IsOwnThing pages t → IsPut n → right ≡ own_glyphs n
     → is_adjacent t n ≡ true → MayMeet t (map glyph_of (part_items pages i t.source)) n right
 page_may pages i t n right h o p is z = elim (folder_case t.role pages t h) [
   | inl k ↦
@@ -365,9 +370,10 @@ page_may pages i t n right h o p is z = elim (folder_case t.role pages t h) [
         put_led n right (ends_word false (own_glyphs t)) p,
       )
   | inr k ↦
-      let slashes = subst EndsUnslashed k.1 o.unslashed in (
-        subst (λ (r : Role). BehindMay r (map glyph_of (part_items pages i t.source)) right) (sym k.1) (group_follow k.0.slashes n right slashes p is),
-        put_led n right (ends_word false (map glyph_of (part_items pages i t.source))) p,
+      let left : List Glyph = map glyph_of (part_items pages i t.source) in
+      let gives : GivesUnquoted pages (Group k.0) t.source = subst (λ (r : Role). GivesUnquoted pages r t.source) k.1 o.gives in (
+        subst (λ (r : Role). BehindMay r left right) (sym k.1) (group_follow k.0.slashes n left right (unquoted_at pages i k.0 t.source gives) p is),
+        put_led n right (ends_word false left) p,
       )
 ]
 
@@ -379,7 +385,7 @@ next_put pages i j t (thing n ∷ after) p = λ e f.
     put_may t n (map glyph_of (part_items pages i t.source)) (map glyph_of (part_items pages j n.source)) p (put_glyphs pages i t p)
 
 next_page : (pages : Pages) (i j : ℕ) (t : Thing) (rest : List Thing) (signs : List ContentSign) → AreAmongPut rest (things signs) → MeetLater pages t rest
-    → IsOfFolder t.role pages t → IsOwnThing t → NextMeets t (map glyph_of (part_items pages i t.source)) signs (owns_in pages j signs)
+    → IsOfFolder t.role pages t → IsOwnThing pages t → NextMeets t (map glyph_of (part_items pages i t.source)) signs (owns_in pages j signs)
 next_page pages i j t rest [] a m h o = tt
 next_page pages i j t rest (letter c ∷ after) a m h o = next_page pages i j t rest after a m h o
 next_page pages i j t rest (thing n ∷ after) a m h o = elim a [
@@ -387,7 +393,7 @@ next_page pages i j t rest (thing n ∷ after) a m h o = elim a [
   | inr q ↦ let later : MeetLater pages t (n ∷ q.0) = subst (MeetLater pages t) q.1 m in later.0 i j
 ]
 
-pub meet_styled : (pages : Pages) (i : ℕ) (fs : List Thing) (signs : List ContentSign) → AreAmongPut fs (things signs) → ArePageThings pages fs → AreOwnThings fs
+pub meet_styled : (pages : Pages) (i : ℕ) (fs : List Thing) (signs : List ContentSign) → AreAmongPut fs (things signs) → ArePageThings pages fs → AreOwnThings pages fs
     → EachNextMeets signs (owns_in pages i signs)
 meet_styled pages i fs [] a h o = tt
 meet_styled pages i fs (letter c ∷ after) a h o = meet_styled pages i fs after a h o
@@ -395,7 +401,7 @@ meet_styled pages i fs (thing t ∷ after) a h o = elim a [
   | inl p ↦ (next_put pages i (i + length (expanded_page pages t.source).outer) t after p.0, meet_styled pages (i + length (expanded_page pages t.source).outer) fs after p.1 h o)
   | inr q ↦
       let own : ArePageThings pages (t ∷ q.0) = subst (ArePageThings pages) q.1 h in
-      let there = first_own t fs q.0 q.1 o in (
+      let there = first_own pages t fs q.0 q.1 o in (
         next_page pages i (i + length (expanded_page pages t.source).outer) t q.0 after q.2 own.1 own.0.folder there.0,
         meet_styled pages (i + length (expanded_page pages t.source).outer) q.0 after q.2 own.2 there.1,
       )

@@ -36,12 +36,14 @@ use Rattle.wt_part_laws.proofs.Recuts.{texts_same}
 use Rattle.wt_part_laws.specs.CallPieces.{AreOwnOrGiven, EachNode, IsOfCall, IsOwnOrGiven, call_pieces}
 use Rattle.wt_part_laws.specs.Expanded.{calls_in, part_items}
 use Rattle.wt_part_laws.specs.HeldCalls.{HoldsItsCalls, block_in}
+use Rattle.wt_part_laws.specs.MovedCalls.{AreMoved}
 use Rattle.wt_part_laws.specs.Placeless.{all_placeless, placeless}
 use Rattle.wt_part_laws.specs.Rounded.{HasItems, IsOwn}
 use Rattle.wt_part_laws.specs.Standing.{standing}
 use Rattle.wt_text_edit_laws.proofs.Blocks.Untangled.{open_same}
+use Rattle.wt_text_edit_laws.specs.Contents.{content_parts_of}
 use Rattle.wt_text_edit_laws.specs.ParagraphParts.{joined_parts, para_with}
-use Rattle.wt_text_edit_laws.specs.TextBlocks.{a_paragraph}
+use Rattle.wt_text_edit_laws.specs.TextBlocks.{TextBlock, a_paragraph, source_of}
 use Rattle.wt_beside_laws.proofs.Groups.CalledBlocks.{guard_own, letter_own}
 use Rattle.wt_beside_laws.proofs.Made.Items.{PartsHave, children_have}
 use Rattle.wt_beside_laws.proofs.PartThings.{nodes_of}
@@ -352,28 +354,35 @@ shut_things pages (thing x ∷ after) h = calls_both (expanded_page pages x.sour
 
 -- ---- the content
 
+-- whatever block it is in
+pub groups_of : (pages : Pages) (k : TextBlock) (s : Setting) (t : StyledContent) → AreStyledThings pages (signs_in t) → AreNested false false t
+    → ((i : ℕ) → AreOwnAt false t (owns_in pages i (signs_in t)))
+    → ((i : ℕ) → part_items pages i (spelled s (signs_in t)) ≡ items_with s [] (signs_in t) (owns_in pages i (signs_in t)))
+    → ((i : ℕ) → content_parts_of k (part_items pages i (spelled s (signs_in t))) ≡ styled_with false s [] t [] (owns_in pages i (signs_in t)))
+    → AreMoved (written_calls pages (signs_in t)) (expanded_page pages (source_of k (spelled s (signs_in t)))).outer → HoldsGroups pages k (spelled s (signs_in t))
+groups_of pages k s t h n own items given calls =
+    let signs : List ContentSign = signs_in t in
+    let q : List ℕ = spelled s signs in
+    record {
+      parts = λ i.
+          subst (ArePartsIn (part_items pages i q)) (sym (given i))
+          (subst (λ (xs : List Item). ArePartsIn xs (styled_with false s [] t [] (owns_in pages i signs))) (sym (items i))
+          (styled_parts_in pages (items_with s [] signs (owns_in pages i signs)) i s false false false [] t [] h n (own i) (λ j l. refl)));
+      groups = λ i.
+          subst (λ (ps : List Part). AreGroups (part_items pages i q) (call_pieces (children ps))) (sym (given i))
+          (subst (λ (xs : List Item). AreGroups xs (call_pieces (children (styled_with false s [] t [] (owns_in pages i signs))))) (sym (items i))
+          (groups_styled pages (items_with s [] signs (owns_in pages i signs)) i s false false false [] t [] h n (own i) (λ j l. refl)));
+      shut = λ i. subst AreShutParts (sym (given i)) (styled_shut pages i s false false false [] t [] h n (own i));
+      shut_calls = moved_shut (written_calls pages signs) (expanded_page pages (source_of k q)).outer calls (shut_things pages signs h);
+    }
+
 styled_groups : (pages : Pages) (s : Setting) (t : StyledContent) → IsStyledWritten pages s t → HoldsGroups pages a_paragraph (spelled s (signs_in t))
 styled_groups pages s t h =
     let signs : List ContentSign = signs_in t in
     let b = own_calls pages s t h in
     let given : (i : ℕ) → joined_parts (lines (part_items pages i (spelled s signs))) ≡ styled_with false s [] t [] (owns_in pages i signs) =
     λ i. ap (λ (xs : List Item). joined_parts (lines xs)) (styled_gives pages i s t h) ∙ styled_called_parts s t (owns_in pages i signs) (styled_in pages i s t h) in
-    record {
-      parts = λ i.
-          let own = styled_in pages i s t h in
-          subst (ArePartsIn (part_items pages i (spelled s signs))) (sym (given i))
-          (subst (λ (xs : List Item). ArePartsIn xs (styled_with false s [] t [] (owns_in pages i signs))) (sym (styled_gives pages i s t h))
-          (styled_parts_in pages (items_with s [] signs (owns_in pages i signs)) i s false false false [] t [] h.each h.nested own.own (λ j l. refl)));
-      groups = λ i.
-          let own = styled_in pages i s t h in
-          subst (λ (ps : List Part). AreGroups (part_items pages i (spelled s signs)) (call_pieces (children ps))) (sym (given i))
-          (subst (λ (xs : List Item). AreGroups xs (call_pieces (children (styled_with false s [] t [] (owns_in pages i signs))))) (sym (styled_gives pages i s t h))
-          (groups_styled pages (items_with s [] signs (owns_in pages i signs)) i s false false false [] t [] h.each h.nested own.own (λ j l. refl)));
-      shut = λ i.
-          let own = styled_in pages i s t h in
-          subst AreShutParts (sym (given i)) (styled_shut pages i s false false false [] t [] h.each h.nested own.own);
-      shut_calls = moved_shut (written_calls pages signs) (expanded_page pages (spelled s signs)).outer b.calls_are (shut_things pages signs h.each);
-    }
+    groups_of pages a_paragraph s t h.each h.nested (λ i. let own = styled_in pages i s t h in own.own) (λ i. styled_gives pages i s t h) given b.calls_are
 
 pub styled_whole : (pages : Pages) (s : Setting) (t : StyledContent) → IsStyledWritten pages s t → IsWholeIn pages a_paragraph (spelled s (signs_in t))
 styled_whole pages s t h = inr (styled_groups pages s t h)

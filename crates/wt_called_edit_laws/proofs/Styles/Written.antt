@@ -2,6 +2,7 @@
 use Rattle.std.proofs.Common.{◌≡◌, ◌⊎◌, inl, inr, ℕ, ◌+◌, Bool, true, false, not, List, [], ◌∷◌, length, ap, refl, subst, sym, ◌||◌, ◌∙◌}
 use Rattle.std.specs.Str.{IsUtf8}
 use Rattle.wt_span.specs.Items.{Item}
+use Rattle.wt_tree.specs.declared.edit_shape.Place.TheVariants as place
 use Rattle.wt_guards.specs.Content.{ContentSign, Thing, is_group as is_call, letter, thing}
 use Rattle.wt_guards.specs.Guards.{Setting, nowiki, spelled}
 use Rattle.wt_guards.specs.declared.role.Role.{Role}
@@ -13,18 +14,21 @@ use Rattle.wt_expand.specs.PageCalls.{expanded_page}
 use Rattle.wt_expand.specs.Work.{Pages}
 use Rattle.wt_part_laws.specs.CallPieces.{AreOwnOrGiven}
 use Rattle.wt_part_laws.specs.Expanded.{part_items}
-use Rattle.wt_beside_laws.proofs.Groups.Folders.{given_as, inside_in}
+use Rattle.wt_text_edit_laws.specs.TextBlocks.{TextBlock, a_heading, a_paragraph}
+use Rattle.wt_beside_laws.proofs.Groups.Folders.{all_seen, given_as, inside_in}
 use Rattle.wt_beside_laws.proofs.Made.Items.{PartsHave, guard_has}
 use Rattle.wt_beside_laws.proofs.Styled.SentStyles.{nowiki_alone}
 use Rattle.wt_beside_laws.proofs.Styled.StyledNodes.{nowiki_items}
-use Rattle.wt_beside_laws.specs.Called.{AllMeetWith, AreGiven, AreSomeOfPage, HasUncalled, IsGivenAs, IsOfFolder, IsOwnNode, items_with, owns_in}
+use Rattle.wt_beside_laws.specs.Called.{AllMeetWith, AllSeenIn, AreGiven, AreSomeOfPage, HasUncalled, IsGivenAs, IsOfFolder, IsOwnNode, items_with, owns_in}
 use Rattle.wt_beside_laws.specs.Content.{guard_items}
 use Rattle.wt_beside_laws.specs.Flat.{IsFlat}
 use Rattle.wt_beside_laws.specs.FlatBlocks.{AreSealed, IsSealed}
+use Rattle.wt_beside_laws.specs.InHeadings.{AreOnOneLine}
 use Rattle.wt_beside_laws.specs.Lines.{AreCharacters}
 use Rattle.wt_beside_laws.specs.NodeItems.{node_items}
+use Rattle.wt_beside_laws.specs.Stood.{things}
 use Rattle.wt_beside_laws.specs.Styled.{AreNested, StyledContent, delimiter, finished, mark_source, sign, signs_before, signs_in, styled}
-use Rattle.wt_beside_laws.specs.StyledCalls.{AreOwnAt, IsOwnAt, IsStyledCalled, owns_left}
+use Rattle.wt_beside_laws.specs.StyledCalls.{AreOwnAt, IsOwnAt, IsStyledCalled, IsStyledCalledHeading, owns_left}
 use Rattle.wt_beside_laws.specs.StyledNodes.{IsPut}
 use Rattle.wt_called_edit_laws.proofs.Styles.Free.{PlainWithin}
 use Rattle.wt_called_edit_laws.proofs.Styles.Put.{put_items, put_own, put_part, put_read, put_sealed, put_source, put_utf8}
@@ -45,6 +49,22 @@ pub record IsStyledWritten (pages : Pages) (s : Setting) (t : StyledContent) : T
   pub free : PlainWithin pages false t
   pub meet : (i : ℕ) → AllMeetWith s [] [] (signs_in t) (owns_in pages i (signs_in t))
   pub some : HasUncalled s [] (signs_in t)
+
+-- so in a heading, which may be calls alone
+pub record IsStyledInHeading (pages : Pages) (s : Setting) (t : StyledContent) : Type 0 where
+  pub of_block : s.within ≡ false
+  pub of_heading : s.place ≡ place.Heading
+  pub one_line : AreOnOneLine (signs_in t)
+  pub characters : AreCharacters (signs_in t)
+  pub each : AreStyledThings pages (signs_in t)
+  pub nested : AreNested false false t
+  pub free : PlainWithin pages false t
+  pub meet : (i : ℕ) → AllMeetWith s [] [] (signs_in t) (owns_in pages i (signs_in t))
+  pub end_seen : AllSeenIn pages (things (signs_in t))
+
+abbrev pub IsStyledWrittenIn : TextBlock → Pages → Setting → StyledContent → Type 0
+IsStyledWrittenIn a_paragraph pages s t = IsStyledWritten pages s t
+IsStyledWrittenIn (a_heading w) pages s t = IsStyledInHeading pages s t
 
 -- ---- what holds of each
 
@@ -115,12 +135,14 @@ all_given pages i (thing x ∷ after) h = (one_given h.0, all_given pages (i + l
 
 -- ---- its items
 
+pub signs_give : (pages : Pages) (i : ℕ) (s : Setting) (signs : List ContentSign) → s.within ≡ false → AreStyledThings pages signs
+    → part_items pages i (spelled s signs) ≡ items_with s [] signs (owns_in pages i signs)
+signs_give pages i s signs w h =
+    let own = content_written pages s signs w (all_read pages signs h) (all_parts pages signs h) in own.items_are i ∙ written_with pages s i [] signs
+
 pub styled_gives : (pages : Pages) (i : ℕ) (s : Setting) (t : StyledContent) → IsStyledWritten pages s t
     → part_items pages i (spelled s (signs_in t)) ≡ items_with s [] (signs_in t) (owns_in pages i (signs_in t))
-styled_gives pages i s t h =
-    let signs : List ContentSign = signs_in t in
-    let w = content_written pages s signs h.of_block (all_read pages signs h.each) (all_parts pages signs h.each) in
-    w.items_are i ∙ written_with pages s i [] signs
+styled_gives pages i s t h = signs_give pages i s (signs_in t) h.of_block h.each
 
 -- ---- of the page, or a call's
 
@@ -207,4 +229,17 @@ styled_in pages i s t h = record {
   nested = h.nested;
   meet = h.meet i;
   some = h.some;
+}
+
+pub heading_in : (pages : Pages) (i : ℕ) (s : Setting) (t : StyledContent) → IsStyledInHeading pages s t → IsStyledCalledHeading s t (owns_in pages i (signs_in t))
+heading_in pages i s t h = record {
+  of_block = h.of_block;
+  of_heading = h.of_heading;
+  one_line = h.one_line;
+  characters = h.characters;
+  given = all_given pages i (signs_in t) h.each;
+  own = own_at pages i false false false t [] h.each h.nested h.free;
+  nested = h.nested;
+  meet = h.meet i;
+  end_seen = all_seen pages i (signs_in t) h.end_seen;
 }

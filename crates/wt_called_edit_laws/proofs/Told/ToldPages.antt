@@ -1,7 +1,6 @@
 -- Lines that tell a paragraph or a heading are those of such a block.
-use Rattle.std.proofs.Common.{arith, ◌≡◌, ◌≤◌, ℕ, Bool, true, List, [], ◌∷◌, ◌++◌, length, map, refl, sym, ap, ◌∙◌, subst, append-nil, append_assoc, length-append}
-use Rattle.std.specs.List.{list_all}
-use Rattle.wt_span.specs.Items.{Item, is_mark, sources}
+use Rattle.std.proofs.Common.{arith, ◌≡◌, ◌≤◌, ℕ, Bool, List, [], ◌∷◌, ◌++◌, length, map, refl, sym, ap, ◌∙◌, subst, append-nil, append_assoc}
+use Rattle.wt_span.specs.Items.{Item, sources}
 use Rattle.wt_span.specs.Runs.{IsRun, AreRuns}
 use Rattle.wt_span.proofs.RunLaws.{runs_are}
 use Rattle.wt_expand.specs.PageItems.{page_items}
@@ -12,12 +11,9 @@ use Rattle.wt_page.specs.Lines.{ending}
 use Rattle.wt_tables.specs.Parts.{joined}
 use Rattle.wt_text_edit_laws.specs.BlockSpots.{spots_source}
 use Rattle.wt_text_edit_laws.specs.PageCuts.{AreHeadingItems, EndsClosed, EndClosed}
-use Rattle.wt_text_edit_laws.specs.TextBetween.{AreEnded}
 use Rattle.wt_text_edit_laws.specs.TextBlocks.{TextBlock, source_of}
 use Rattle.wt_text_edit_laws.proofs.Cuts.TextLines.{runs_behind, joined_is, joined_both}
 use Rattle.wt_text_edit_laws.proofs.Paragraphs.LineBlocks.{OwnBreaks, page_breaks}
-use Rattle.wt_beside_laws.specs.OpenEnds.{MarksEnd}
-use Rattle.wt_beside_laws.proofs.Own.OpenEnds.{page_marks, marks_behind, marks_ended}
 use Rattle.wt_called_edit_laws.specs.AnyBlocks.{open_after}
 use Rattle.wt_called_edit_laws.specs.CalledPages.{IsCalledPage}
 use Rattle.wt_called_edit_laws.specs.LinedHeadings.{sides_of, text_of}
@@ -101,23 +97,10 @@ behind page b tail xs runs there =
       tail_there = there_behind page (joined ks) (joined tail) (joined (ks ++ tail)) (joined_both ks tail) mine;
     }
 
--- the marks before items of a page are ended
-pub marks_there : (page : List ℕ) (before ms ys : List Item) → page_items page ≡ before ++ (ms ++ ys) → list_all is_mark ms ≡ true → 1 ≤ length ys → AreEnded (sources ms)
-marks_there page before ms [] e marks some = absurd (omega (arith, some))
-marks_there page before ms (y ∷ ys) e marks some = marks_ended ms y ys marks (marks_behind before (ms ++ y ∷ ys) (subst MarksEnd e (page_marks page)))
-
-lines_ended : (page : List ℕ) (b : LinedBlock) (tail : List (List Item)) → AtEnd page (joined (((b.marks ++ b.first) ∷ b.more) ++ tail)) → list_all is_mark b.marks ≡ true
-    → 1 ≤ length b.first → AreEnded (sources b.marks)
-lines_ended page b tail at marks some =
-    let others : List Item = joined (b.more ++ tail) in
-    marks_there page at.before b.marks (b.first ++ others) (at.is ∙ ap (λ (xs : List Item). at.before ++ xs) (append_assoc b.marks b.first others)) marks
-    (omega (arith, some, length-append b.first others))
-
 told_at : (page : List ℕ) (open_tables : List Bool) (t : Told) (tail : List (List Item)) → Behind page (lined t) tail → IsClosed (lined t) tail
     → IsToldAt open_tables t → IsLinedAt open_tables (lined t)
 told_at page open_tables t tail r closed h = record {
   are_marks = h.are_marks;
-  ended = lines_ended page (lined t) tail r.own_there.at h.are_marks h.some;
   some = h.some;
   in_cells = h.in_cells;
   apart = h.apart;
