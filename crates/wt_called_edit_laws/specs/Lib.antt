@@ -60,5 +60,5 @@ pub mod ToldTogether
 pub mod ToldAmong
 pub mod StyledCallEdits
 pub mod CallingTold
-pub mod CallingTogether
 pub mod SpelledBeside
+pub mod CallingTogether
