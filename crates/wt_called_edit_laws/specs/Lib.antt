@@ -22,6 +22,8 @@ pub mod Retyped
 pub mod RowBlocks
 pub mod AllTold
 pub mod AnyBlocks
+pub mod TableEnds
+pub mod StaysIn
 pub mod AnyTexts
 pub mod CellEdits
 pub mod HeadingsInCells
