@@ -57,11 +57,6 @@ AreCallingLined (b ∷ bs) behind = IsCallingAt [] b × AreCallingAfter b.block 
 abbrev pub spot_on : List OuterCall → List Item → LinedBlock → BlockSpot
 spot_on calls es b = record { before = text_from calls None ((es ++ joined b.before) ++ b.marks); block = b.block; text = b.text }
 
--- its first item, or the call that gives it, has a byte of the page
-abbrev pub BeginsThere : List OuterCall → List Item → Type 0
-BeginsThere calls [] = ⊥
-BeginsThere calls (x ∷ xs) = 1 ≤ length (text_from calls None (x ∷ []))
-
 -- The line break before its lines, the marks that begin them and each line break in them come from no call. What is on the page for them is the block's
 -- source. So the block may begin or end with a call.
 pub record IsCallingHere (calls : List OuterCall) (b : LinedBlock) : Type 0 where
@@ -69,7 +64,6 @@ pub record IsCallingHere (calls : List OuterCall) (b : LinedBlock) : Type 0 wher
   pub marks : AreOfPage b.marks
   pub breaks : AllByRecursion (λ x. is_break_item x ≡ true → x ≡ break) (joined (b.first ∷ b.more))
   pub source : text_from calls None (content (joined (b.first ∷ b.more))) ≡ source_of b.block b.text
-  pub begins : BeginsThere calls (content (joined (b.first ∷ b.more)))
 
 abbrev pub AreCallingHere : List OuterCall → List LinedBlock → Type 0
 AreCallingHere calls [] = Unit {0}

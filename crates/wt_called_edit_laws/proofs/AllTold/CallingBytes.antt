@@ -25,6 +25,7 @@ use Rattle.wt_called_edit_laws.specs.AllTold.{starts_in, IsOneOf}
 use Rattle.wt_called_edit_laws.specs.AnyBlocks.{open_after}
 use Rattle.wt_called_edit_laws.specs.CalledBlocks.{counted}
 use Rattle.wt_called_edit_laws.specs.CalledTexts.{spots_tree}
+use Rattle.wt_called_edit_laws.specs.CallingBlocks.{IsContentIn, AreContentsInFolder}
 use Rattle.wt_called_edit_laws.specs.CallingContents.{TakesContentsIn}
 use Rattle.wt_called_edit_laws.specs.CallingEdits.{IsCallingPage}
 use Rattle.wt_called_edit_laws.specs.CallingGroups.{block_with_groups, CallingNodesStay}
@@ -37,6 +38,7 @@ use Rattle.wt_called_edit_laws.specs.PlacedLines.{LinedBlock, all_lines}
 use Rattle.wt_called_edit_laws.specs.RowBlocks.{StandsOnRows}
 use Rattle.wt_called_edit_laws.specs.SettledAt.{AllSettled}
 use Rattle.wt_called_edit_laws.specs.ToldTogether.{IsAmongNumbers}
+use Rattle.wt_called_edit_laws.proofs.Among.BlockAt.{read_some}
 use Rattle.wt_called_edit_laws.proofs.Among.CallingLines.{calling_whole, calling_editable}
 use Rattle.wt_called_edit_laws.proofs.Among.OwnItems.{from_page}
 use Rattle.wt_called_edit_laws.proofs.Among.OwnSeams.{own_last, text_size}
@@ -47,7 +49,7 @@ use Rattle.wt_called_edit_laws.proofs.EditableBlocks.{editable_calling}
 use Rattle.wt_called_edit_laws.proofs.PathsSend.{NoneEmpty, paths_full}
 use Rattle.wt_called_edit_laws.proofs.SettledEdits.{HaveKinds, have_kinds, settled_moved}
 use Rattle.wt_called_edit_laws.proofs.SpotSources.{blocks_have}
-use Rattle.wt_called_edit_laws.proofs.AllTold.CallingStarts.{calling_starts, settled_in, begins_some}
+use Rattle.wt_called_edit_laws.proofs.AllTold.CallingStarts.{calling_starts, settled_in}
 use Rattle.wt_called_edit_laws.proofs.AllTold.ChosenLines.{byte_at, byte_of}
 use Rattle.wt_called_edit_laws.proofs.AllTold.EachBlocks.{EachBlockIn}
 use Rattle.wt_called_edit_laws.proofs.AllTold.Found.{size, size_both}
@@ -153,12 +155,9 @@ all_first (b ∷ bs) behind h = (h.0.some, first_after b.block (open_after [] (w
 
 -- ---- the paths lead there
 
-have_bytes : (calls : List OuterCall) (es : List Item) (bs : List LinedBlock) → AreCallingHere calls bs → AllHaveBytes (spots_on calls es bs)
-have_bytes calls es [] h = tt
-have_bytes calls es (b ∷ bs) h = (
-  omega (arith, ap length h.0.source, begins_some calls (content (own_items b)) h.0.begins),
-  have_bytes calls (ending (own_items b)) bs h.1,
-)
+have_bytes : (pages : Pages) (ss : List BlockSpot) → AreContentsInFolder pages ss → AllHaveBytes ss
+have_bytes pages [] h = tt
+have_bytes pages (s ∷ ss) h = let c : IsContentIn pages s.block s.text = h.0 in (read_some s.block s.text c.read, have_bytes pages ss h.1)
 
 leads_settled : (b : ℕ → Tree) (ss : List BlockSpot) (ps : List (List ℕ)) (l : Label) (ts : Trees) (at : ℕ) → AllSettled b (counted ss) ps (tree l ts) → HaveKinds b ss
     → HaveOwnSources b ss → AllHaveBytes ss → NoneEmpty ps → AllClear ps ts → IsAmongNumbers at (starts_from 0 ts ps) → LeadsThere at ts ps
@@ -212,7 +211,7 @@ taken_at pages page bs behind h =
           subst (IsOneOf (i ∷ is)) (sym (taken_paths pages ss end calling))
           (one_of v blocks ss (paths_to f.nodes) (StandsOnRows pages page) i is (blocks_settle pages ss end f calling)
           (have_kinds (expanded_page pages (spots_source ss end)).outer pages 0 ss) (blocks_have pages ss end calling.outside calling.unrefused)
-          (have_bytes (expanded_page pages page).outer [] bs h.here) (paths_full f.nodes)
+          (have_bytes pages ss h.contents) (paths_full f.nodes)
           (clear_paths f.nodes content_part blocks (children v) f.holders (f.stay ss (edited_self pages ss) calling.outside.hold))
           (subst (λ (x : Tree). EachBlockIn (StandsOnRows pages page) (children x)) tree_is each)
           (subst (λ (x : Tree). BlockIn i is (children x)) tree_is mine) at_v);

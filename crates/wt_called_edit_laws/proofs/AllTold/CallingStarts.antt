@@ -1,16 +1,14 @@
 -- A block that holds calls, told by the lines of the expanded page: its path leads to the byte at which it begins.
-use Rattle.std.proofs.Common.{arith, ◌≡◌, ◌<◌, inl, ℕ, zero, suc, ◌+◌, None, List, [], ◌∷◌, ◌++◌, length, refl, sym, ap, ◌∙◌, subst, append-nil, length-append}
+use Rattle.std.proofs.Common.{arith, ◌≡◌, ◌<◌, inl, ℕ, zero, suc, ◌+◌, None, List, [], ◌∷◌, ◌++◌, length, refl, sym, ap, ◌∙◌, subst, append-nil}
 use Rattle.wt_span.specs.Items.{Item}
 use Rattle.wt_span.specs.Origins.{OuterCall}
 use Rattle.wt_tree.specs.Source.{flat}
 use Rattle.wt_tree.specs.Tree.{Tree, tree, Trees, none, more, label}
 use Rattle.wt_inline.specs.ItemTree.{ItemTree}
-use Rattle.wt_annotated.specs.Seams.{last_of, text_from}
-use Rattle.wt_annotated.proofs.Seams.{text_append_from}
+use Rattle.wt_annotated.specs.Seams.{text_from}
 use Rattle.wt_checks.specs.Kept.{children}
 use Rattle.wt_expand.specs.PageCalls.{expanded_page}
 use Rattle.wt_expand.specs.Work.{Pages}
-use Rattle.wt_lines.specs.Lines.{content}
 use Rattle.wt_tables.specs.Parts.{joined}
 use Rattle.wt_part_laws.specs.Frames.{content as content_part}
 use Rattle.wt_part_laws.specs.TreeFrames.{all_filled, spots}
@@ -20,16 +18,18 @@ use Rattle.wt_text_edit_laws.specs.TextBlocks.{TextBlock, a_paragraph, a_heading
 use Rattle.wt_called_edit_laws.specs.AllTold.{starts_in, IsOneOf}
 use Rattle.wt_called_edit_laws.specs.CalledBlocks.{tree_by}
 use Rattle.wt_called_edit_laws.specs.CalledTexts.{spots_tree}
+use Rattle.wt_called_edit_laws.specs.CallingBlocks.{IsContentIn}
 use Rattle.wt_called_edit_laws.specs.CallingEdits.{IsCallingPage}
 use Rattle.wt_called_edit_laws.specs.CallingGroups.{block_with_groups, CallingNodesStay}
 use Rattle.wt_called_edit_laws.specs.CallingTold.{TakesThere}
 use Rattle.wt_called_edit_laws.specs.Groups.{called_tree}
 use Rattle.wt_called_edit_laws.specs.LinedAmong.{spots_of_lines, end_of_lines}
-use Rattle.wt_called_edit_laws.specs.LinedCalling.{BeginsThere, IsLinedCalling}
+use Rattle.wt_called_edit_laws.specs.LinedCalling.{IsLinedCalling}
 use Rattle.wt_called_edit_laws.specs.PathsTo.{paths_to}
 use Rattle.wt_called_edit_laws.specs.PlacedLines.{LinedBlock}
 use Rattle.wt_called_edit_laws.specs.RowBlocks.{IsReachedIn, StandsOnRows}
 use Rattle.wt_called_edit_laws.specs.SettledAt.{IsSettledAt, SettledTo, SettledAmong, AllSettled}
+use Rattle.wt_called_edit_laws.proofs.Among.BlockAt.{read_some}
 use Rattle.wt_called_edit_laws.proofs.Among.CallingLines.{calling_whole, calling_editable}
 use Rattle.wt_called_edit_laws.proofs.CallingGaps.{calling_gaps}
 use Rattle.wt_called_edit_laws.proofs.CallingGroups.{edited_self, calling_nodes}
@@ -91,14 +91,6 @@ mutual
 
 -- ---- one block
 
--- it begins with a byte of the page
-pub begins_some : (calls : List OuterCall) (xs : List Item) → BeginsThere calls xs → 0 < length (text_from calls None xs)
-begins_some calls [] h = absurd h
-begins_some calls (x ∷ xs) h =
-    let both : length (text_from calls None ((x ∷ []) ++ xs)) ≡ length (text_from calls None (x ∷ [])) + length (text_from calls (last_of None (x ∷ [])) xs) =
-    ap length (text_append_from calls None (x ∷ []) xs) ∙ length-append (text_from calls None (x ∷ [])) (text_from calls (last_of None (x ∷ [])) xs) in
-    omega (arith, h, both)
-
 abbrev first_number : List ℕ → ℕ
 first_number [] = 0
 first_number (m ∷ ms) = m
@@ -137,8 +129,9 @@ taken_there pages page b behind i is t h there mine begins =
     let own : Tree = blocks 0 in
     let kinds = have_kinds (expanded_page pages (spots_source ss end)).outer pages 0 ss in
     let source : flat own ≡ source_of b.block b.text = (blocks_have pages ss end calling.outside calling.unrefused).0 in
+    let first : IsContentIn pages b.block b.text = h.contents.0 in
     let byte : HasByte own =
-    omega (arith, ap length source, ap length h.here.0.source, begins_some (expanded_page pages page).outer (content (joined (b.first ∷ b.more))) h.here.0.begins) in
+    omega (arith, ap length source, read_some b.block b.text first.read) in
     let each : EachBlockIn (StandsOnRows pages page) (children u) = page_stands pages page h.utf8 h.unrefused in
     let one : IsOneOf (i ∷ is) (paths_to f.nodes) =
     one_path (StandsOnRows pages page) own b.block (paths_to f.nodes) blocks v at i is (blocks_settle pages ss end f calling) refl kinds.0 byte (paths_full f.nodes)

@@ -1,5 +1,5 @@
 -- A block among the items of an expanded page: the page's items, where calls are characters, are cut at it, and so are the page's bytes.
-use Rattle.std.proofs.Common.{arith, ◌≡◌, ◌⊎◌, inl, inr, ℕ, true, ◌+◌, ◌≤◌, Option, None, List, [], ◌∷◌, ◌++◌, length, refl, sym, ap, ap₂, ◌∙◌, subst, append_assoc, length-append}
+use Rattle.std.proofs.Common.{arith, ◌≡◌, ◌⊎◌, inl, inr, ℕ, zero, suc, true, ◌+◌, ◌≤◌, Option, None, List, [], ◌∷◌, ◌++◌, length, refl, sym, ap, ap₂, ◌∙◌, subst, append_assoc, length-append}
 use Rattle.std.proofs.lemmas.Grind.{flat_map-append}
 use Rattle.std.specs.List.{list_all}
 use Rattle.wt_span.specs.Items.{Item, is_mark, source, sources}
@@ -10,11 +10,14 @@ use Rattle.wt_expand.specs.PageCalls.{expanded_page}
 use Rattle.wt_expand.specs.PageItems.{page_items}
 use Rattle.wt_expand.specs.Work.{Pages}
 use Rattle.wt_text_edit_laws.specs.PageCuts.{AreBlockItems}
+use Rattle.wt_text_edit_laws.specs.ReadContents.{begins_shown, BeginsParagraph, IsReadContent}
 use Rattle.wt_text_edit_laws.specs.TextBetween.{AreEnded}
-use Rattle.wt_text_edit_laws.specs.TextBlocks.{TextBlock, source_of}
+use Rattle.wt_text_edit_laws.specs.TextBlocks.{TextBlock, a_paragraph, a_heading, source_of, IsFrame}
+use Rattle.wt_text_edit_laws.specs.TypedHeadings.{equals, closing}
 use Rattle.wt_text_edit_laws.proofs.Cuts.ItemCuts.{HaveBytes}
 use Rattle.wt_beside_laws.proofs.Derived.BlockContents.{block_seen}
 use Rattle.wt_beside_laws.proofs.Derived.BodyRead.{parts_are}
+use Rattle.wt_beside_laws.proofs.Marks.Shown.{nothing_read}
 use Rattle.wt_called_edit_laws.specs.CalledContents.{StayText}
 use Rattle.wt_called_edit_laws.specs.LinedAmong.{AreOfPage, AreBeside}
 use Rattle.wt_called_edit_laws.proofs.Among.OwnItems.{from_page, Skipped, skip, TakenOwn, take_own, rest_clear}
@@ -41,6 +44,18 @@ bytes_cut (g ∷ gs) bs [] ds e n = absurd (omega (arith, n))
 bytes_cut (g ∷ gs) bs (c ∷ cs) ds e n =
     let r = bytes_cut gs bs cs ds (ap other_bytes e) (omega (arith, n)) in
     (ap₂ (λ (x : ℕ) (xs : List ℕ). x ∷ xs) (ap (first_byte g) e) r.0, r.1)
+
+-- a block has a byte
+pub read_some : (k : TextBlock) (q : List ℕ) → IsReadContent k q → 1 ≤ length (source_of k q)
+read_some a_paragraph [] h =
+    let b : BeginsParagraph [] = h.begins in
+    let shown : begins_shown [] ≡ true = sym (ap begins_shown nothing_read) ∙ b.shown in cc
+read_some a_paragraph (b ∷ q) h = omega arith
+read_some (a_heading s) q h = let f : IsFrame s = h.begins in by s.level f.sides.some
+  where
+    by : (n : ℕ) → 1 ≤ n → 1 ≤ length ((equals n ++ s.lead) ++ (q ++ closing s))
+    by zero le = absurd (omega (arith, le))
+    by (suc n) le = omega arith
 
 pub have_front : (xs ys : List Item) → HaveBytes (xs ++ ys) → HaveBytes xs
 have_front [] ys h = tt

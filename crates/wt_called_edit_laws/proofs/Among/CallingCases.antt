@@ -25,7 +25,6 @@ use Rattle.wt_names.specs.Written.{link_to}
 use Rattle.wt_span.specs.Braces.{rewritten, reduced, parts_of}
 use Rattle.wt_span.specs.Comments.{comment_len, comment_line_len}
 use Rattle.wt_span.specs.Entities.{entity_at, named_entity, decimal_entity, hex_entity, entity_names}
-use Rattle.wt_span.specs.Items.{char}
 use Rattle.wt_span.specs.Lexemes.{sign_word, form_at, closed, words}
 use Rattle.wt_span.specs.Origins.{Span}
 use Rattle.wt_annotated.specs.Seams.{text_from}
@@ -45,7 +44,7 @@ unfolding words closed form_at comment_len comment_line_len raw_len opening_tag 
     utf8_valid_len is_utf8 chars encode link_to page_stretches expanded_page
 items_there = refl
 
--- what is on the page for its line, and for the first item of it
+-- what is on the page for its line
 source_there : text_from (expanded_page a_word source).outer None (given 0) ≡ source
 unfolding words closed form_at comment_len comment_line_len raw_len opening_tag tag_after closing_tag with_inside is_extension
     include_at entity_at named_entity decimal_entity hex_entity entity_names sign_word reduced rewritten parts_of text_members trimmed
@@ -54,15 +53,6 @@ unfolding words closed form_at comment_len comment_line_len raw_len opening_tag 
     full_name_of whole_in cut_namespace title_in template_text begins_only ends_only loop_text depth_text absent_text
     utf8_valid_len is_utf8 chars encode link_to page_stretches expanded_page
 source_there = refl
-
-first_there : text_from (expanded_page a_word source).outer None (char (Some 0) 98 ∷ []) ≡ codes "{{t}}"
-unfolding words closed form_at comment_len comment_line_len raw_len opening_tag tag_after closing_tag with_inside is_extension
-    include_at entity_at named_entity decimal_entity hex_entity entity_names sign_word reduced rewritten parts_of text_members trimmed
-    trimmed_items name_text called most_templates is_function title_of_target title_in_target read_text is_allowed is_forbidden
-    is_good has_signature is_step begins_with_step holds_step ends_with_step name_of image is_called namespace_named prefix_of
-    full_name_of whole_in cut_namespace title_in template_text begins_only ends_only loop_text depth_text absent_text
-    utf8_valid_len is_utf8 chars encode link_to page_stretches expanded_page
-first_there = refl
 
 no_text_calls : (expanded_page a_word source).text_calls ≡ []
 unfolding words closed form_at comment_len comment_line_len raw_len opening_tag tag_after closing_tag with_inside is_extension
@@ -82,17 +72,7 @@ stands = record { are_marks = refl; some = omega arith; in_cells = tt; apart = t
 
 are_here : AreCallingHere (expanded_page a_word source).outer (a_line ∷ [])
 are_here =
-    let text = is_text 0 in
-    let some : 1 ≤ 5 = omega arith in (
-      record {
-        before = refl;
-        marks = tt;
-        breaks = text.own_breaks;
-        source = source_there;
-        begins = subst (λ (bs : List ℕ). 1 ≤ length bs) (sym first_there) some;
-      },
-      tt,
-    )
+    let text = is_text 0 in (record { before = refl; marks = tt; breaks = text.own_breaks; source = source_there }, tt)
 
 apart_here : AreApartFrom (expanded_page a_word source).outer (expanded_page a_word source).text_calls 0 [] (a_line ∷ [])
 apart_here = subst (λ (ts : List Span). AreApartFrom (expanded_page a_word source).outer ts 0 [] (a_line ∷ [])) (sym no_text_calls) (tt, tt)

@@ -43,14 +43,14 @@ use Rattle.wt_called_edit_laws.specs.EditableBlocks.{IsEditableWithCalls}
 use Rattle.wt_called_edit_laws.specs.Groups.{called_tree}
 use Rattle.wt_called_edit_laws.specs.InCells.{AreTextLines}
 use Rattle.wt_called_edit_laws.specs.LinedAmong.{spots_on, end_on, AreOfPage, AreBeside}
-use Rattle.wt_called_edit_laws.specs.LinedCalling.{LinesOf, IsCallingAt, AreCallingAfter, spot_on, BeginsThere, IsCallingHere, AreCallingHere, AreApartFrom, IsLinedCalling}
+use Rattle.wt_called_edit_laws.specs.LinedCalling.{LinesOf, IsCallingAt, AreCallingAfter, spot_on, IsCallingHere, AreCallingHere, AreApartFrom, IsLinedCalling}
 use Rattle.wt_called_edit_laws.specs.Parts.{calls_to, calls_past, called_items, called_outers, IsByParts}
 use Rattle.wt_called_edit_laws.specs.PartTexts.{AreSourcesAt}
 use Rattle.wt_called_edit_laws.specs.PlacedAmong.{StandAfter}
 use Rattle.wt_called_edit_laws.specs.PlacedCalling.{AreFurtherCutsAt, AreCutsAt, IsPlacedCalling}
 use Rattle.wt_called_edit_laws.specs.PlacedLines.{LinedBlock, all_lines}
-use Rattle.wt_called_edit_laws.proofs.Among.BlockAt.{calls_of, IsRest, IsPast, text_to, block_from, block_to, past_front, past_own, marked_text, bytes_cut, have_front, have_behind, beside_first, beside_front, beside_last}
-use Rattle.wt_called_edit_laws.proofs.Among.FirstItems.{FirstHas, NamedParts, named_parts, called_first, part_below}
+use Rattle.wt_called_edit_laws.proofs.Among.BlockAt.{read_some, calls_of, IsRest, IsPast, text_to, block_from, block_to, past_front, past_own, marked_text, bytes_cut, have_front, have_behind, beside_first, beside_front, beside_last}
+use Rattle.wt_called_edit_laws.proofs.Among.FirstItems.{FirstHas, EachThere, there_both, there_before, there_behind, part_there, called_there, NamedParts, named_parts, called_first, part_below}
 use Rattle.wt_called_edit_laws.proofs.Among.LinedParts.{EndsBreak, EndsOwn, own_end, ended_text, own_behind, own_text_size, ends_text, cancel, no_items, IsLeft, left_none, left_whole, open_at, line_front, block_front, page_rest}
 use Rattle.wt_called_edit_laws.proofs.Among.OwnItems.{Skipped, skip, rest_clear}
 use Rattle.wt_called_edit_laws.proofs.Among.OwnSeams.{FirstLonger, FirstShorter, two_cuts, first_or, first_size, IsOwnSeam, text_size, end_behind}
@@ -244,9 +244,9 @@ some_items : (xs : List Item) → 1 ≤ length (sources xs) → 1 ≤ length xs
 some_items [] h = absurd (omega (arith, h))
 some_items (x ∷ xs) h = omega arith
 
-begins_size : (calls : List OuterCall) (xs ys : List Item) → BeginsThere calls xs → 1 ≤ length (text_from calls None (xs ++ ys))
-begins_size calls [] ys h = absurd h
-begins_size calls (x ∷ xs) ys h = let s = text_size calls None (x ∷ []) (xs ++ ys) in omega (arith, h, s)
+begins_size : (calls : List OuterCall) (xs ys : List Item) (k : TextBlock) (q : List ℕ) → text_from calls None xs ≡ source_of k q → IsReadContent k q
+    → 1 ≤ length (text_from calls None (xs ++ ys))
+begins_size calls xs ys k q e h = omega (arith, read_some k q h, ap length e, text_size calls None xs ys)
 
 -- they are marks of the page, and something is behind them
 marks_before : (pages : Pages) (page : List ℕ) (p : ℕ) (xs ms ys qs : List Item) → IsRest pages page p (xs ++ (ms ++ ys)) qs → last_of None xs ≡ None → AreOfPage ms
@@ -298,7 +298,8 @@ is_here pages page open_tables es b tail p qs xs runs left rest h own read besid
     beside_front line (line + length (sources b.marks)) (block_to pages page p front b.marks b.block b.text) (expanded_page pages page).text_calls
     (omega (arith, sum, two)) beside in
     let marks_end : AreEnded (sources b.marks) =
-    marks_before pages page p front b.marks others qs there none own.marks near (begins_size calls (content text) (ending text ++ joined tail) own.begins) h.are_marks in
+    marks_before pages page p front b.marks others qs there none own.marks near
+    (begins_size calls (content text) (ending text ++ joined tail) b.block b.text own.source read) h.are_marks in
     let here = cut_here pages page p front b.marks (content text) b.block b.text (ending text ++ joined tail) qs
     there none own.marks (rest_own (ending text) tail r.own_ending r.ends) read own.source beside in
     record {
@@ -323,10 +324,10 @@ spot_source pages page open_tables es b tail p qs l ss end e =
     ∙ ap (λ (vs : List ℕ). sources l.here.before ++ vs) (sym (flat_map-append source own l.here.behind))
     ∙ sym (flat_map-append source l.here.before (own ++ l.here.behind)) ∙ ap sources (sym l.here.is)
 
-first_there : (calls : List OuterCall) (xs : List Item) → BeginsThere calls xs
+first_there : (calls : List OuterCall) (xs : List Item) → 1 ≤ length (text_from calls None xs) → EachThere calls xs
     → (o : Item) × (os : List Item) × (xs ≡ o ∷ os) × (1 ≤ length (text_from calls None (o ∷ [])))
-first_there calls [] h = absurd h
-first_there calls (x ∷ xs) h = (x, xs, refl, h)
+first_there calls [] n h = absurd (omega (arith, n))
+first_there calls (x ∷ xs) n h = (x, xs, refl, omega (arith, h.0, ap length (append-nil (text_behind calls None x))))
 
 -- a block's items are what the part gives that it is, where so much is on the page for both
 gives_so : (calls : List OuterCall) (k : ℕ) (own es : List Item) (tail : List (List Item)) (gs xs : List Item) → own ++ (es ++ joined tail) ≡ gs ++ xs
@@ -367,9 +368,10 @@ record ArePartsHere (pages : Pages) (page : List ℕ) (es : List Item) (b : Line
 
 parts_here : (pages : Pages) (page : List ℕ) (open_tables : List Bool) (es : List Item) (b : LinedBlock) (tail : List (List Item)) (p : ℕ) (qs : List Item)
     → IsHere pages page open_tables es b tail p qs → (k : ℕ) (ss : List BlockSpot) (end : List ℕ) → IsCallingHere (calls_of pages page) b
+    → IsReadContent b.block b.text
     → es ++ joined (b.before ++ (((b.marks ++ b.first) ∷ b.more) ++ tail)) ≡ called_items pages k (spot_on (calls_of pages page) es b ∷ ss) end
     → NamedParts pages (calls_of pages page) k (spot_on (calls_of pages page) es b) ss end → ArePartsHere pages page es b tail k ss end
-parts_here pages page open_tables es b tail p qs l k ss end h e n =
+parts_here pages page open_tables es b tail p qs l k ss end h read e n =
     let calls : List OuterCall = calls_of pages page in
     let s : BlockSpot = spot_on calls es b in
     let q : List ℕ = source_of b.block b.text in
@@ -379,7 +381,11 @@ parts_here pages page open_tables es b tail p qs l k ss end h e n =
     let x1 : List Item = part_items pages k s.before in
     let x2 : List Item = part_items pages (calls_to pages k s) q in
     let x3 : List Item = called_items pages (calls_past pages k s) ss end in
-    let some = first_there calls own h.begins in
+    let each : EachThere calls (x1 ++ (x2 ++ x3)) =
+    there_both calls x1 (x2 ++ x3) (part_there pages calls k s.before n.before)
+    (there_both calls x2 x3 (part_there pages calls (calls_to pages k s) q n.own) (called_there pages calls (calls_past pages k s) ss end n.rest)) in
+    let mine : EachThere calls own = there_before calls own rest (there_behind calls front (own ++ rest) (subst (EachThere calls) (sym e ∙ l.items) each)) in
+    let some = first_there calls own (omega (arith, read_some b.block b.text read, ap length h.source)) mine in
     let whole : front ++ some.0 ∷ (some.1 ++ rest) ≡ x1 ++ (x2 ++ x3) = ap (λ zs. front ++ (zs ++ rest)) (sym some.2) ∙ sym l.items ∙ e in
     let same = same_front calls front some.0 (some.1 ++ rest) x1 (x2 ++ x3) whole l.ends some.3 (sym (part_text pages calls k s.before n.before)) in
     let behind : own ++ rest ≡ x2 ++ x3 = ap (λ zs. zs ++ rest) some.2 ∙ sym same.1 in
@@ -449,7 +455,7 @@ further pages page last open_tables es (b ∷ ls) behind p k qs xs runs i f r h 
       source = spot_source pages page open_tables es b tail p qs l ss end d.source;
       stand = λ e t.
           let n : NamedParts pages calls k s ss end = named_parts pages calls k s ss end t in
-          let parts = parts_here pages page open_tables es b tail p qs l k ss end own.0 e n in
+          let parts = parts_here pages page open_tables es b tail p qs l k ss end own.0 content_in.read e n in
           let later = d.stand parts.rest n.rest in
           let text : List Item = part_items pages (calls_to pages k s) b.text in
           let stays : StayText b.block (length now) text =
@@ -513,7 +519,7 @@ calling_lined pages page (b ∷ ls) behind h =
     let named : AreSourcesAt calls 0 cs =
     subst (λ (os : List OuterCall). AreSourcesAt os 0 cs) (sym outers) (subst (λ (os : List OuterCall). AreSourcesAt os 0 cs) (append-nil cs) (sources_first cs [])) in
     let n : NamedParts pages calls 0 s ss end = named_parts pages calls 0 s ss end named in
-    let parts = parts_here pages page [] [] b tail 0 (page_items page) l 0 ss end h.here.0 items n in
+    let parts = parts_here pages page [] [] b tail 0 (page_items page) l 0 ss end h.here.0 content_in.read items n in
     let later = d.stand parts.rest n.rest in
     let text : List Item = part_items pages (calls_to pages 0 s) b.text in
     let stays : StayText b.block (length now) text =

@@ -1,4 +1,4 @@
--- The first item of what a part of a page gives has bytes on the page, wherever its calls are counted among those of the page.
+-- Each item of what a part of a page gives, or its call, has bytes on the page, wherever its calls are counted among those of the page.
 use Rattle.std.proofs.Common.{arith, ◌≡◌, ℕ, suc, ◌+◌, ◌-◌, ◌≤◌, Bool, true, false, Option, Some, None, List, [], ◌∷◌, ◌++◌, length, map, take, drop, refl, ap, length-take, length-drop}
 use Rattle.std.specs.Prelude.{slice_index, slice_get}
 use Rattle.wt_span.specs.declared.form.ItemForm.{ItemForm}
@@ -17,7 +17,7 @@ use Rattle.wt_expand.specs.Targets.{Called, argument, choice, function, page, te
 use Rattle.wt_expand.specs.Work.{Pages}
 use Rattle.wt_expand.specs.Expansion.{Output, chars, PartOutput, part_outputs, target_part, Reading, front_braces, back_braces, called_output, outputs_of, text_members, page_reading}
 use Rattle.wt_expand.specs.PageCalls.{Stretch, own, outer, text_call, call_stretches, stretches_of, all_stretches, from_call, outer_items, numbered, outer_calls, page_stretches, expanded_page}
-use Rattle.wt_expand.proofs.PiecePlaces.{text_behind, behind_page}
+use Rattle.wt_expand.proofs.PiecePlaces.{AllFrom, text_behind, behind_page}
 use Rattle.wt_transclusion.specs.Stretch.{AreFull}
 use Rattle.wt_transclusion.proofs.Full.{full_text, text_bytes}
 use Rattle.wt_part_laws.specs.Expanded.{moved_call, part_items, calls_in}
@@ -107,7 +107,52 @@ page_filled pages bs =
     let t = text_bytes mode.Page bs in
     all_filled pages 0 true bs (members (reduced (words mode.Page bs))) (full_members (reduced (words mode.Page bs)) (full_text mode.Page bs)) (omega (arith, t))
 
--- ---- so the first item has some behind items of earlier calls
+-- ---- so each item has some behind the page's own
+
+abbrev pub EachThere : List OuterCall → List Item → Type 0
+EachThere calls [] = Unit {0}
+EachThere calls (x ∷ xs) = (1 ≤ length (text_behind calls None x)) × EachThere calls xs
+
+pub there_both : (calls : List OuterCall) (xs ys : List Item) → EachThere calls xs → EachThere calls ys → EachThere calls (xs ++ ys)
+there_both calls [] ys f g = g
+there_both calls (x ∷ xs) ys f g = (f.0, there_both calls xs ys f.1 g)
+
+pub there_behind : (calls : List OuterCall) (xs ys : List Item) → EachThere calls (xs ++ ys) → EachThere calls ys
+there_behind calls [] ys h = h
+there_behind calls (x ∷ xs) ys h = there_behind calls xs ys h.1
+
+pub there_before : (calls : List OuterCall) (xs ys : List Item) → EachThere calls (xs ++ ys) → EachThere calls xs
+there_before calls [] ys h = tt
+there_before calls (x ∷ xs) ys h = (h.0, there_before calls xs ys h.1)
+
+own_there : (calls : List OuterCall) (xs : List Item) → AllFilled xs → AllFrom None xs → EachThere calls xs
+own_there calls [] f p = tt
+own_there calls (x ∷ xs) f p = (omega (arith, f.0, ap length (behind_page calls None x p.0)), own_there calls xs f.1 p.1)
+
+given_there : (calls : List OuterCall) (k : ℕ) (bs : List ℕ) (xs : List Item) → source_of_call (slice_get calls k) ≡ bs → 1 ≤ length bs → AllFrom (Some k) xs
+    → EachThere calls xs
+given_there calls k bs [] s h f = tt
+given_there calls k bs (x ∷ xs) s h f =
+    (omega (arith, h, ap length s, ap length (behind_new calls None k x refl f.0)), given_there calls k bs xs s h f.1)
+
+outer_there : (calls : List OuterCall) (k : ℕ) (c : OuterCall) (xs : List Item) → source_of_call (slice_get calls k) ≡ c.source → 1 ≤ length c.source
+    → EachThere calls (outer_items k c xs)
+outer_there calls k c [] s h = given_there calls k c.source (whole form.EmptyCall (Some k) c.source ∷ []) s h (refl, tt)
+outer_there calls k c (x ∷ xs) s h = given_there calls k c.source (map (from_call k) (x ∷ xs)) s h (called_from k (x ∷ xs))
+
+stretches_there : (calls : List OuterCall) (k : ℕ) (ss : List Stretch) → AreFilled ss → OwnPage ss → AreSourcesAt calls k (outer_calls ss) → EachThere calls (numbered k ss)
+stretches_there calls k [] f p s = tt
+stretches_there calls k (own xs ∷ ss) f p s = there_both calls xs (numbered k ss) (own_there calls xs f.0 p.0) (stretches_there calls k ss f.1 p.1 s)
+stretches_there calls k (outer c xs ∷ ss) f p s =
+    there_both calls (outer_items k c xs) (numbered (suc k) ss) (outer_there calls k c xs s.0 f.0) (stretches_there calls (suc k) ss f.1 p s.1)
+stretches_there calls k (text_call t ∷ ss) f p s = stretches_there calls k ss f p s
+
+pub part_there : (pages : Pages) (calls : List OuterCall) (k : ℕ) (bs : List ℕ) → AreSourcesAt calls k (expanded_page pages bs).outer
+    → EachThere calls (part_items pages k bs)
+unfolding expanded_page
+part_there pages calls k bs s = stretches_there calls k (page_stretches pages bs) (page_filled pages bs) (own_page pages bs) s
+
+-- ---- and so has the first one behind items of earlier calls
 
 abbrev pub FirstHas : List OuterCall → ℕ → List Item → Type 0
 FirstHas calls k [] = Unit {0}
@@ -181,3 +226,15 @@ called_first pages calls k (s ∷ ss) end h =
 pub part_below : (pages : Pages) (k : ℕ) (bs : List ℕ) → IsBelow (k + calls_in pages bs) (last_of None (part_items pages k bs))
 unfolding expanded_page
 part_below pages k bs = below_all k None (page_stretches pages bs) tt (own_page pages bs)
+
+-- each item of several parts has bytes
+pub called_there : (pages : Pages) (calls : List OuterCall) (k : ℕ) (ss : List BlockSpot) (end : List ℕ) → AreSourcesAt calls k (called_outers pages ss end)
+    → EachThere calls (called_items pages k ss end)
+called_there pages calls k [] end h = part_there pages calls k end h
+called_there pages calls k (s ∷ ss) end h =
+    let n : NamedParts pages calls k s ss end = named_parts pages calls k s ss end h in
+    let q : List ℕ = source_of s.block s.text in
+    let x2 : List Item = part_items pages (calls_to pages k s) q in
+    let x3 : List Item = called_items pages (calls_past pages k s) ss end in
+    there_both calls (part_items pages k s.before) (x2 ++ x3) (part_there pages calls k s.before n.before)
+    (there_both calls x2 x3 (part_there pages calls (calls_to pages k s) q n.own) (called_there pages calls (calls_past pages k s) ss end n.rest))
