@@ -1,7 +1,6 @@
 -- Any number of paragraphs and headings of a page's tree at once, with calls in them or without, by the lines of the expanded page.
-use Rattle.std.specs.Prelude.{◌≡◌, ◌≤◌, ◌⊎◌, ℕ, List, [], ◌∷◌, length, map}
+use Rattle.std.specs.Prelude.{◌≡◌, ◌⊎◌, ℕ, List, [], ◌∷◌, map}
 use Rattle.wt_span.specs.Items.{Item}
-use Rattle.wt_tree.specs.Source.{flat}
 use Rattle.wt_tree.specs.Tree.{Tree, label}
 use Rattle.wt_expand.specs.PageCalls.{expanded_page}
 use Rattle.wt_expand.specs.Work.{Pages}
@@ -43,7 +42,7 @@ AreOnTold (t ∷ ts) (b ∷ bs) = IsOnTold t b × AreOnTold ts bs
 -- The contents of these blocks may be edited at their paths. Each node that is at one of the given paths is at one of these, or lines don't tell it.
 pub record TakeThere (pages : Pages) (page : List ℕ) (ps : List (List ℕ)) (bs : List LinedBlock) (behind : List (List Item)) : Type 0 where
   pub taken : TakesContentsIn pages (spots_of_lines pages page bs) (end_of_lines pages page bs behind)
-  pub there : (p : List ℕ) (t : Tree) → IsOneOf p ps → IsReachedAt p (called_tree pages page) t → IsTextBlock (label t).kind → 1 ≤ length (flat t)
+  pub there : (p : List ℕ) (t : Tree) → IsOneOf p ps → IsReachedAt p (called_tree pages page) t → IsTextBlock (label t).kind
       → IsOneOf p taken.paths ⊎ IsExceptedByLines pages page t
 
 -- The lines of the expanded page on which the nodes at these paths are. They stand as these blocks do. Where these blocks, as the lines tell them, may be

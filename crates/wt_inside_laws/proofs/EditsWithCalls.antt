@@ -68,7 +68,7 @@ all_there pages page ps bs behind there (q ∷ qs) (m ∷ ms) a w e r h =
     let t : Tree = called_tree pages page in
     let at : IsAnyOf q there.taken.paths =
     unexcepted pages page m.old h.0.unexcepted
-    (there.there q m.old a.0 (w.0 m.old (first_same (node_at q t) (Some m.old) (nodes_at t qs) (olds ms) e)) (block_kind (label m.old).kind r.0.block) h.0.some) in (
+    (there.there q m.old a.0 (w.0 m.old (first_same (node_at q t) (Some m.old) (nodes_at t qs) (olds ms) e)) (block_kind (label m.old).kind r.0.block)) in (
       one_same q there.taken.paths at,
       all_there pages page ps bs behind there qs ms a.1 w.1 (rest_same (node_at q t) (Some m.old) (nodes_at t qs) (olds ms) e) r.1 h.1,
     )

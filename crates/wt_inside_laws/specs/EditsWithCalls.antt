@@ -3,7 +3,6 @@ use Rattle.std.specs.Prelude.{◌≡◌, ◌≤◌, ◌⊎◌, ℕ, Option, None
 use Rattle.std.specs.List.{AllByRecursion}
 use Rattle.std.specs.Str.{IsUtf8}
 use Rattle.wt_span.specs.declared.limits.TheConstants.{PAGE_BYTES}
-use Rattle.wt_tree.specs.Source.{flat}
 use Rattle.wt_tree.specs.Tree.{Tree}
 use Rattle.wt_expand.specs.PageCalls.{expanded_page}
 use Rattle.wt_expand.specs.Work.{Pages}
@@ -45,9 +44,8 @@ pub record AreToldBlocks (pages : Pages) (page : List ℕ) (paths : List (List �
   pub apart : AreApartFrom (expanded_page pages page).outer (expanded_page pages page).text_calls 0 [] bs
   pub free : HaveFreeBytes 0 (spots_of_lines pages page bs) (called_tree pages page)
 
--- A marked block has a byte, its lines can tell it, and it calls nothing and is ordinary, or texts may be typed beside its calls.
+-- The lines of a marked block can tell it, and it calls nothing and is ordinary, or texts may be typed beside its calls.
 pub record MayHoldCalls (pages : Pages) (page : List ℕ) (p : Pair) : Type 0 where
-  pub some : 1 ≤ length (flat p.old)
   pub unexcepted : IsExceptedByLines pages page p.old → ⊥
   pub beside : IsBesideBlock pages page p
 

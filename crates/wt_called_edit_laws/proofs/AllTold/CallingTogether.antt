@@ -28,6 +28,7 @@ use Rattle.wt_called_edit_laws.specs.PlacedLines.{LinedBlock, all_lines, LinesAp
 use Rattle.wt_called_edit_laws.specs.RowBlocks.{IsTextBlock, IsReachedAt, StandsIn, AreOfText, IsOfLines, of_lines, of_line, behind_a_sign, StandsOnLines}
 use Rattle.wt_called_edit_laws.specs.ToldLines.{Told, a_paragraph_of, a_heading_on, lined, IsToldAt, AreToldAfter, AreTold}
 use Rattle.wt_called_edit_laws.specs.ToldTogether.{told_starts, IsAmongNumbers}
+use Rattle.wt_called_edit_laws.proofs.AllTold.BlockBytes.{block_byte}
 use Rattle.wt_called_edit_laws.proofs.AllTold.CallingBytes.{block_starts, TakenAt, taken_at, calling_bytes}
 use Rattle.wt_called_edit_laws.proofs.AllTold.Chosen.{less_or}
 use Rattle.wt_called_edit_laws.proofs.AllTold.ChosenLines.{byte_at, byte_of, among_mapped}
@@ -252,15 +253,18 @@ numbers_for pages page ps = map (start_from 0 (children (called_tree pages page)
 
 there_so : (pages : Pages) (page : List ℕ) (ps : List (List ℕ)) (sc : ScanFor pages page (numbers_for pages page ps)) (bs : List LinedBlock) → AreOnTold sc.ts bs
     → IsLinedCalling pages page bs sc.behind → (a : TakenAt pages page bs sc.behind) (p : List ℕ) (t : Tree) → IsOneOf p ps → IsReachedAt p (called_tree pages page) t
-    → IsTextBlock (label t).kind → 1 ≤ length (flat t) → IsOneOf p a.taken.paths ⊎ IsExceptedByLines pages page t
-there_so pages page ps sc bs o l a [] t h e b w = absurd (body_none pages page t l.utf8 l.unrefused e b)
-there_so pages page ps sc bs o l a (i ∷ is) t h e b w = by (by_lines pages page (numbers_for pages page ps) i is t sc n s.stands s.by_lines (among_paths us (i ∷ is) ps h))
+    → IsTextBlock (label t).kind → IsOneOf p a.taken.paths ⊎ IsExceptedByLines pages page t
+there_so pages page ps sc bs o l a [] t h e b = absurd (body_none pages page t l.utf8 l.unrefused e b)
+there_so pages page ps sc bs o l a (i ∷ is) t h e b = by (by_lines pages page (numbers_for pages page ps) i is t sc n s.stands s.by_lines (among_paths us (i ∷ is) ps h))
   where
     us : Trees
     us = children (called_tree pages page)
 
     s : StandsOnLines pages page t
     s = block_on_lines pages page (i ∷ is) t l.utf8 l.unrefused e b
+
+    w : 1 ≤ length (flat t)
+    w = block_byte pages page (i ∷ is) t l.utf8 l.unrefused e b
 
     n : IsThere pages page i is t
     n = record { utf8 = l.utf8; unrefused = l.unrefused; there = below i is (called_tree pages page) t e; block = b; byte = w }
