@@ -23,7 +23,6 @@ use Rattle.wt_called_edit_laws.specs.Groups.{called_tree}
 use Rattle.wt_called_edit_laws.specs.LinedAmong.{spots_of_lines}
 use Rattle.wt_called_edit_laws.specs.LinedCalling.{AreCallingHere, AreApartFrom}
 use Rattle.wt_called_edit_laws.specs.PlacedLines.{LinedBlock}
-use Rattle.wt_called_edit_laws.specs.ToldTogether.{AreSome}
 use Rattle.wt_inside_laws.specs.AsSent.{edits_of, paths_of}
 use Rattle.wt_inside_laws.specs.BesideEdits.{IsBesideBlock}
 use Rattle.wt_inside_laws.specs.TextEdits.{IsTextEdit}
@@ -36,7 +35,6 @@ IsEditable pages b =
 -- Where nodes of the page are on these lines, they tell them, with their calls or without: they are paragraphs and headings of these sources, each by
 -- itself what it is on the page; no call that is text touches one; and each has a byte that no group of the page has.
 pub record AreToldBlocks (pages : Pages) (page : List ℕ) (paths : List (List ℕ)) (o : AreOnLines pages page paths) : Type 0 where
-  pub some : AreSome o.ts
   pub bs : List LinedBlock
   pub on : AreOnTold o.ts bs
   pub here : AreCallingHere (expanded_page pages page).outer bs
