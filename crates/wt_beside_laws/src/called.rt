@@ -152,4 +152,6 @@ pub fn lines_with_calls_have_even_toggles()
         → AllByRecursion HasEvenToggles (lines (items_with s [] signs owns)) }
     ensures styles { (s : Setting) (t : StyledContent) (owns : List (List Item)) → IsStyledCalled s t owns
         → AllByRecursion HasEvenToggles (lines (items_with s [] (signs_in t) owns)) }
+    ensures styled_headings { (s : Setting) (t : StyledContent) (owns : List (List Item)) → IsStyledCalledHeading s t owns
+        → AllByRecursion HasEvenToggles (lines (items_with s [] (signs_in t) owns)) }
 {}

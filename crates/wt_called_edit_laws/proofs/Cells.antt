@@ -42,6 +42,8 @@ pub mod CallingFrames
 mod CallingCases
 pub mod SpotFrames
 pub mod ContentItems
+pub mod SignRows
+mod EndCases
 pub mod SpotRows
 pub mod SpotSlots
 pub mod SpotTrees

@@ -12,6 +12,7 @@ pub mod Groups
 pub mod Whole
 pub mod Headings
 pub mod Making
+pub mod Apart
 pub mod Cases
 mod PageCases
 pub mod InsideCases

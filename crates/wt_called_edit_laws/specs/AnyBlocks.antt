@@ -1,5 +1,5 @@
 -- A page with paragraphs and headings among any other lines, in the body, in cells and in captions; and texts that are typed in any of them.
-use Rattle.std.specs.Prelude.{◌≡◌, ◌≢◌, ℕ, zero, suc, Bool, Option, Some, None, List, [], ◌∷◌, length, map}
+use Rattle.std.specs.Prelude.{◌≡◌, ◌≢◌, ◌⊎◌, ℕ, zero, suc, Bool, Option, Some, None, List, [], ◌∷◌, length, map}
 use Rattle.std.specs.Str.{IsUtf8}
 use Rattle.wt_span.specs.Characters as byte
 use Rattle.wt_span.specs.Items.{Item, char}
@@ -19,6 +19,7 @@ use Rattle.wt_text_edit_laws.specs.TextBetween.{AreEnded, StandsBehind}
 use Rattle.wt_text_edit_laws.specs.TextBlocks.{TextBlock, a_paragraph, a_heading, block_of, source_of, IsBlock, FirstApart}
 use Rattle.wt_text_edit_laws.specs.TypedHeadings.{EndsLine}
 use Rattle.wt_called_edit_laws.specs.InCells.{AreTextLines}
+use Rattle.wt_called_edit_laws.specs.TableEnds.{IsEndFor}
 
 -- ---- where the blocks stand
 
@@ -44,9 +45,10 @@ abbrev pub StaysText : TextBlock → ℕ → List ℕ → Type 0
 StaysText a_paragraph n q = AreTextLines n (page_items q)
 StaysText (a_heading s) n q = Unit {0}
 
--- Lines, or nothing, and behind them comments and include tags, or none: a block that follows is in the body, in a cell or in a caption.
+-- Lines, or nothing, and behind them comments and include tags, or none: a block that follows is in the body, in a cell or in a caption. Before a
+-- paragraph the last line may be a table's end up to its sign.
 pub record LeadsInto (k : TextBlock) (bs : List Bool) (xs : List Item) : Type 0 where
-  pub whole : empty_end (before_marks xs) ≡ [] ∷ []
+  pub whole : (empty_end (before_marks xs) ≡ [] ∷ []) ⊎ IsEndFor k (length bs) (before_marks xs)
   pub in_cells : AllTrue (open_behind_part bs xs)
   pub apart : EndsFor k (rows_of_part bs xs)
 

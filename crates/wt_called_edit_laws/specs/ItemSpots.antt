@@ -6,7 +6,8 @@ use Rattle.wt_text_edit_laws.specs.BlockSpots.{BlockSpot, spots_source, AreRead}
 use Rattle.wt_text_edit_laws.specs.Parts.{HasNoGroups}
 use Rattle.wt_text_edit_laws.specs.TextBlocks.{TextBlock}
 use Rattle.wt_called_edit_laws.specs.AnyBlocks.{open_behind_part, LeadsInto, past_break, BeginsAfter, EndsAfter}
-use Rattle.wt_called_edit_laws.specs.CalledContents.{items_round, AreItemsOf, StayText, IsTextAnywhere}
+use Rattle.wt_called_edit_laws.specs.CalledContents.{items_round, AreItemsOf, IsTextAnywhere}
+use Rattle.wt_called_edit_laws.specs.StaysIn.{StaysIn}
 
 -- a block with the items of its content, and those before it, behind the one before or at the page's start
 pub record ItemSpot : Type 0 where
@@ -32,7 +33,7 @@ items_of_spots (s ∷ ss) = items_of_spot s ∷ items_of_spots ss
 
 -- as `AreParts`, which is asked of bytes
 abbrev pub IsPlacedAt : List Bool → List Item → ItemSpot → Type 0
-IsPlacedAt bs xs s = AreItemsOf s.block s.content × LeadsInto s.block bs xs × StayText s.block (length (open_behind_part bs xs)) s.content
+IsPlacedAt bs xs s = AreItemsOf s.block s.content × LeadsInto s.block bs xs × StaysIn s.block bs xs s.content
 
 abbrev pub ArePlacedAfter : TextBlock → List Bool → List ItemSpot → List Item → Type 0
 ArePlacedAfter last bs [] behind = EndsAfter last (length bs) behind

@@ -22,6 +22,8 @@ pub mod Retyped
 pub mod RowBlocks
 pub mod AllTold
 pub mod AnyBlocks
+pub mod TableEnds
+pub mod StaysIn
 pub mod AnyTexts
 pub mod CellEdits
 pub mod HeadingsInCells
@@ -58,5 +60,5 @@ pub mod ToldTogether
 pub mod ToldAmong
 pub mod StyledCallEdits
 pub mod CallingTold
-pub mod CallingTogether
 pub mod SpelledBeside
+pub mod CallingTogether

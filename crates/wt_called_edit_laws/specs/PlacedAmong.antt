@@ -11,7 +11,7 @@ use Rattle.wt_text_edit_laws.specs.PageCuts.{AreCuts, AreFree}
 use Rattle.wt_text_edit_laws.specs.TextBlocks.{TextBlock, source_of}
 use Rattle.wt_called_edit_laws.specs.AnyBlocks.{open_behind_part, LeadsInto, past_break, BeginsAfter, EndsAfter}
 use Rattle.wt_called_edit_laws.specs.CalledBlocks.{spots_among, items_behind}
-use Rattle.wt_called_edit_laws.specs.CalledContents.{StayText}
+use Rattle.wt_called_edit_laws.specs.StaysIn.{StaysIn}
 use Rattle.wt_called_edit_laws.specs.Covered.{AreInNoGroup}
 use Rattle.wt_called_edit_laws.specs.Groups.{called_tree}
 use Rattle.wt_called_edit_laws.specs.ItemSpots.{ItemSpot}
@@ -28,13 +28,13 @@ abbrev pub StandAfter : TextBlock → List Bool → List ItemSpot → List Item 
 StandAfter last bs [] behind = EndsAfter last (length bs) behind
 StandAfter last bs (s ∷ ss) behind =
     BeginsAfter last s.block bs s.before × LeadsInto s.block bs (past_break s.before)
-    × StayText s.block (length (open_behind_part bs (past_break s.before))) s.content
+    × StaysIn s.block bs (past_break s.before) s.content
     × StandAfter s.block (open_behind_part bs (past_break s.before)) ss behind
 
 abbrev pub Stand : List ItemSpot → List Item → Type 0
 Stand [] behind = ⊥
 Stand (s ∷ ss) behind =
-    LeadsInto s.block [] s.before × StayText s.block (length (open_behind_part [] s.before)) s.content × StandAfter s.block (open_behind_part [] s.before) ss behind
+    LeadsInto s.block [] s.before × StaysIn s.block [] s.before s.content × StandAfter s.block (open_behind_part [] s.before) ss behind
 
 -- ---- the page
 

@@ -14,11 +14,11 @@ use Rattle.wt_text_edit_laws.specs.NoCalls.{CallsNothing}
 use Rattle.wt_text_edit_laws.specs.PageCuts.{AreBlockItems, EndsClosed, EndsThere, IsFreeBlock}
 use Rattle.wt_text_edit_laws.specs.ParagraphBetween.{written_rows, tables_behind, EndApart, BeginApart}
 use Rattle.wt_text_edit_laws.specs.Parts.{HasNoGroups}
-use Rattle.wt_text_edit_laws.specs.TextBetween.{AreEnded}
+use Rattle.wt_text_edit_laws.specs.SignParts.{IsLedTo}
 use Rattle.wt_text_edit_laws.specs.TextBlocks.{TextBlock, a_heading, source_of}
 use Rattle.wt_text_edit_laws.specs.TypedHeadings.{Sides}
 use Rattle.wt_called_edit_laws.specs.AnyBlocks.{open_after, open_behind_part, LeadsInto, EndsAfter}
-use Rattle.wt_called_edit_laws.specs.CalledContents.{StayText}
+use Rattle.wt_called_edit_laws.specs.StaysIn.{StaysIn}
 
 -- ---- by items
 
@@ -30,9 +30,9 @@ pub record IsBlockIn (xs : List Item) (k : TextBlock) (q : List ℕ) : Type 0 wh
   pub rest : List Item
   pub is : xs ≡ before ++ (own ++ rest)
   pub items : AreBlockItems k q own
-  pub ended : AreEnded (sources before)
+  pub led : IsLedTo (sources before) k q
   pub leads : LeadsInto k [] before
-  pub stays : StayText k (length (open_behind_part [] before)) own
+  pub stays : StaysIn k [] before own
   pub ends : EndsAfter k (length (open_behind_part [] before)) rest
   pub there : EndsThere (sources rest)
 

@@ -50,7 +50,7 @@ use Rattle.wt_called_edit_laws.proofs.SettledEdits.{AreOfBlocks, all_there}
 use Rattle.wt_called_edit_laws.proofs.SpotSources.{grouped_at, blocks_have}
 use Rattle.wt_inside_laws.specs.AsSent.{edit_for, edits_of, paths_of, node_at, IsAlike, IsSentOn}
 use Rattle.wt_inside_laws.specs.BesideEdits.{IsBlockOf, IsCalmBlock, IsBesideBlock, IsBesideEdit, IsBesideHtml}
-use Rattle.wt_inside_laws.specs.RetypedCalls.{AreOwnTexts, IsBeside}
+use Rattle.wt_inside_laws.specs.RetypedCalls.{AreOwnTexts, IsBeside, IsCallingNode}
 use Rattle.wt_inside_laws.specs.RetypedPieces.{AreRead}
 use Rattle.wt_inside_laws.specs.TextEdits.{IsRetyped}
 use Rattle.wt_inside_laws.specs.ToldEdits.{IsReadBlock}
@@ -67,13 +67,13 @@ use Rattle.wt_inside_laws.proofs.UncalledBlocks.{block_uncalled, all_own_texts}
 -- ---- a marked block
 
 -- what is known of it
-record IsKnownBeside (pages : Pages) (page : List ℕ) (p : Pair) : Type 0 where
-  retyped : IsRetyped same_node (expanded_page pages page) page p
-  alike : IsAlike same_node (page_of (page_tree pages page)) p
-  read : IsReadBlock p
-  beside : IsBesideBlock pages page p
-  groups : HaveNumberedGroups (children_of p.old)
-  own : AreOwnTexts (children_of p.old)
+pub record IsKnownBeside (pages : Pages) (page : List ℕ) (p : Pair) : Type 0 where
+  pub retyped : IsRetyped same_node (expanded_page pages page) page p
+  pub alike : IsAlike same_node (page_of (page_tree pages page)) p
+  pub read : IsReadBlock p
+  pub beside : IsBesideBlock pages page p
+  pub groups : HaveNumberedGroups (children_of p.old)
+  pub own : AreOwnTexts (children_of p.old)
 
 known : (pages : Pages) (page : List ℕ) (ps : List Pair) → AllByRecursion (IsRetyped same_node (expanded_page pages page) page) ps
     → AllByRecursion (IsAlike same_node (page_of (page_tree pages page))) ps → AllByRecursion IsReadBlock ps → AllByRecursion (IsBesideBlock pages page) ps
@@ -83,29 +83,38 @@ known pages page [] a b c d e f = tt
 known pages page (p ∷ ps) a b c d e f =
     (record { retyped = a.0; alike = b.0; read = c.0; beside = d.0; groups = e.0; own = f.0 }, known pages page ps a.1 b.1 c.1 d.1 e.1 f.1)
 
+-- it is a node of the page
+pub calling_node : (pages : Pages) (page : List ℕ) (k : TextBlock) (q : List ℕ) (p : Pair) → IsBlockOf pages page k q p.old → IsKnownBeside pages page p
+    → IsCallingNode pages k q p.old
+calling_node pages page k q p b h = record {
+  number = b.settled.number;
+  at = b.settled.at;
+  before = b.before;
+  calls = (expanded_page pages page).outer;
+  some = b.settled.some;
+  is = b.settled.is;
+  groups = h.groups;
+  uncalled = block_uncalled pages page k q p.old b h.own;
+}
+
 -- what is sent for it fits, where it is the page's block
 calling_fits : (pages : Pages) (page : List ℕ) (k : TextBlock) (q : List ℕ) (p : Pair) → IsBlockOf pages page k q p.old → IsBeside pages k q p.old
     → IsKnownBeside pages page p → FitsIn pages k q (edit_for p)
 calling_fits pages page k q p b c h =
-    retyped_fits pages k q (expanded_page pages page) page p h.retyped h.read.read h.read.utf8
-    (record {
-      number = b.settled.number;
-      at = b.settled.at;
-      before = b.before;
-      calls = (expanded_page pages page).outer;
-      some = b.settled.some;
-      is = b.settled.is;
-      groups = h.groups;
-      uncalled = block_uncalled pages page k q p.old b h.own;
-    }) c
+    retyped_fits pages k q (expanded_page pages page) page p h.retyped h.read.read h.read.utf8 (calling_node pages page k q p b h) c
+
+-- as one that calls nothing
+pub calm_stands : (pages : Pages) (page : List ℕ) (k : TextBlock) (q : List ℕ) (p : Pair) → IsBlockOf pages page k q p.old → IsCalmBlock k q p
+    → IsStanding (block_tree k q) p.old
+calm_stands pages page k q p b c =
+    let calls : List OuterCall = (expanded_page pages page).outer in
+    calm_standing k q (cut_texts (block_in calls (tree_round k (part_items pages b.before q)))) p.old c.content
+    (calm_block pages calls b.before k q c.content c.calls_nothing) b.settled
 
 calm_fits_in : (pages : Pages) (page : List ℕ) (k : TextBlock) (q : List ℕ) (p : Pair) → IsBlockOf pages page k q p.old → IsCalmBlock k q p
     → IsKnownBeside pages page p → FitsIn pages k q (edit_for p)
 calm_fits_in pages page k q p b c h =
-    let calls : List OuterCall = (expanded_page pages page).outer in
-    let v : Tree = cut_texts (block_in calls (tree_round k (part_items pages b.before q))) in
-    let stands : IsStanding (block_tree k q) p.old =
-    calm_standing k q v p.old c.content (calm_block pages calls b.before k q c.content c.calls_nothing) b.settled in
+    let stands : IsStanding (block_tree k q) p.old = calm_stands pages page k q p b c in
     inl (c.content, c.calls_nothing, calm_fits pages page k q p c.content c.calls_nothing stands h.retyped h.alike h.read c.nodes)
 
 block_fits : (pages : Pages) (page : List ℕ) (k : TextBlock) (q : List ℕ) (p : Pair) → IsBlockOf pages page k q p.old → IsKnownBeside pages page p
@@ -124,7 +133,7 @@ record SentKnown (pages : Pages) (page : List ℕ) (t : Tree) (es : Edits) (ms :
   each : map (edited_by es) (paths_of es) ≡ map (λ m. Some (edit_for m)) ms
 
 -- the block at a place of the page, with these calls before it
-abbrev block_at : Pages → List ℕ → ℕ → BlockSpot → Tree
+abbrev pub block_at : Pages → List ℕ → ℕ → BlockSpot → Tree
 block_at pages page i s = cut_texts (block_in (expanded_page pages page).outer (tree_round s.block (part_items pages i s.text)))
 
 spot_fits : (pages : Pages) (page : List ℕ) (t : Tree) (es : Edits) (ms : List Pair) (i : ℕ) (s : BlockSpot) (p : List ℕ) (o : Option Edited)
@@ -169,6 +178,8 @@ pub record BesideSent (pages : Pages) (ss : List BlockSpot) (behind : List ℕ) 
   pub edit : IsContentEditIn pages (called_tree pages (spots_source ss behind)) ss paths (edits_of (called_tree pages (spots_source ss behind)) new)
   pub same : spliced (spots_source ss behind) (slices same_node (page_tree pages (spots_source ss behind)) new)
       ≡ edited_page ss behind paths (edits_of (called_tree pages (spots_source ss behind)) new)
+  pub pairs : AllByRecursion (IsKnownBeside pages (spots_source ss behind)) (marked (page_tree pages (spots_source ss behind)) new)
+  pub own : AreOfBlocks (block_with_groups pages ss behind) ss (map (edited_by (edits_of (called_tree pages (spots_source ss behind)) new)) paths)
 
 pub beside_sent : (pages : Pages) (ss : List BlockSpot) (behind : List ℕ) (new : Tree) (c : TakesContentsIn pages ss behind) → IsUtf8 (spots_source ss behind)
     → refusal_of_page pages (spots_source ss behind) ≡ None → HaveOwnSources (block_with_groups pages ss behind) ss
@@ -201,7 +212,7 @@ beside_sent pages ss behind new c utf8 unrefused own there e =
       edits = sent.only c.paths e.among;
       fit = all_fit pages page t es ms 0 ss c.paths pairs there.hold there.whole (block_calls pages ss behind there.outside.blocks.called) own of_blocks;
     } in
-    record { sent = sent; edit = edit; same = ap (spliced page) (sent.changes b) ∙ c.makes b es edit }
+    record { sent = sent; edit = edit; same = ap (spliced page) (sent.changes b) ∙ c.makes b es edit; pairs = pairs.pairs; own = of_blocks }
 
 beside_done : (pages : Pages) (ss : List BlockSpot) (behind : List ℕ) (new : Tree) (c : TakesContentsIn pages ss behind) → IsUtf8 (spots_source ss behind)
     → refusal_of_page pages (spots_source ss behind) ≡ None → HaveOwnSources (block_with_groups pages ss behind) ss

@@ -82,7 +82,7 @@ are_texts items page p r utf8 groups =
 
 -- ---- something is sent or put that is no call
 
-as_settled : (pages : Pages) (k : TextBlock) (q : List ℕ) (t : Tree) → IsCallingNode pages k q t → IsSettledIn pages k q t
+pub as_settled : (pages : Pages) (k : TextBlock) (q : List ℕ) (t : Tree) → IsCallingNode pages k q t → IsSettledIn pages k q t
 as_settled pages k q t c = record { number = c.number; at = c.at; before = c.before; calls = c.calls; some = c.some; is = c.is }
 
 uncalled : (pages : Pages) (q : List ℕ) (items : Expanded) (page : List ℕ) (p : Pair) → IsRetyped same_node items page p → AreRead (children_of p.new)
@@ -121,7 +121,7 @@ fits_at (a_heading s) pages q items page p r read utf8 c numbered =
 
 -- ---- beside calls
 
-called_edit : (pages : Pages) (k : TextBlock) (q : List ℕ) (items : Expanded) (page : List ℕ) (p : Pair) → IsRetyped same_node items page p
+pub called_edit : (pages : Pages) (k : TextBlock) (q : List ℕ) (items : Expanded) (page : List ℕ) (p : Pair) → IsRetyped same_node items page p
     → AreRead (children_of p.new) → AreUtf8 (children_of p.new) → IsCallingNode pages k q p.old → IsBesideCalls pages k q p.old
     → IsCalledEditOf pages k p.old (pieces_for p)
 called_edit pages k q items page p r read utf8 c h =
@@ -182,7 +182,7 @@ texts_nest pages k q items page p r groups h =
     leaves_hold UnbrokenIn (λ d x y a. ((λ z. (broken_cut x y (a z)).0), (λ z. (broken_cut x y (a z)).1))) us new_texts in
     own_nest 0 false false (pieces_of ts us) (λ z. absurd (cc)) (texts_in UnbrokenIn ts us r.in_order groups unbroken)
 
-styled_edit : (pages : Pages) (k : TextBlock) (q : List ℕ) (items : Expanded) (page : List ℕ) (p : Pair) → IsRetyped same_node items page p
+pub styled_edit : (pages : Pages) (k : TextBlock) (q : List ℕ) (items : Expanded) (page : List ℕ) (p : Pair) → IsRetyped same_node items page p
     → AreRead (children_of p.new) → AreUtf8 (children_of p.new) → IsCallingNode pages k q p.old → IsBesideStyles pages k q p.old
     → IsStyledCallEdit pages k p.old (pieces_for p)
 styled_edit pages k q items page p r read utf8 c h =

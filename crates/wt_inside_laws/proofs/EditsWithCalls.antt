@@ -1,5 +1,5 @@
 -- A text edit of paragraphs and headings that may hold calls is done, and is local.
-use Rattle.std.proofs.Common.{arith, ◌≡◌, ℕ, ◌≤◌, Option, Some, None, List, [], ◌∷◌, ◌++◌, length, map, refl, sym, ap, ◌∙◌, inl, inr}
+use Rattle.std.proofs.Common.{arith, ◌≡◌, ℕ, ◌≤◌, Option, Some, None, List, [], ◌∷◌, ◌++◌, length, map, refl, sym, ap, ◌∙◌, subst, inl, inr}
 use Rattle.std.specs.Prelude.{◌⊎◌}
 use Rattle.std.specs.List.{AllByRecursion}
 use Rattle.std.specs.Str.{IsUtf8}
@@ -20,12 +20,15 @@ use Rattle.wt_visible.specs.SameNodes.{same_node}
 use Rattle.wt_commands.specs.Answers.{refusal_of_page, done, remarked_of, edit_of, edit_to}
 use Rattle.wt_commands.specs.UnmarkedEdits.{DoneByEdit}
 use Rattle.wt_typed_blocks.specs.Edited.{Edits}
+use Rattle.wt_text_edit_laws.specs.Contents.{IsContent}
+use Rattle.wt_text_edit_laws.specs.NoCalls.{CallsNothing}
+use Rattle.wt_text_edit_laws.specs.TextBlocks.{TextBlock, a_paragraph, a_heading, block_items}
 use Rattle.wt_called_edit_laws.specs.AllTold.{IsOneOf as IsAnyOf}
 use Rattle.wt_called_edit_laws.specs.CallingBlocks.{IsContentIn, AreContentsInFolder}
 use Rattle.wt_called_edit_laws.specs.CallingContents.{TakesContentsIn}
 use Rattle.wt_called_edit_laws.specs.CallingTogether.{AreOnTold, TakeThere, AreOnLines}
 use Rattle.wt_called_edit_laws.specs.CallingTold.{IsExceptedByLines}
-use Rattle.wt_called_edit_laws.specs.EditableBlocks.{IsEditableContent, AreEditableContents}
+use Rattle.wt_called_edit_laws.specs.EditableBlocks.{HoldsCalls, IsEditableContent, AreEditableContents}
 use Rattle.wt_called_edit_laws.specs.Groups.{called_tree}
 use Rattle.wt_called_edit_laws.specs.LinedAmong.{spots_on, spots_of_lines, end_of_lines}
 use Rattle.wt_called_edit_laws.specs.LinedCalling.{IsLinedCalling}
@@ -34,12 +37,17 @@ use Rattle.wt_called_edit_laws.specs.ToldLines.{Told, lined}
 use Rattle.wt_called_edit_laws.specs.ToldTogether.{AreSome}
 use Rattle.wt_called_edit_laws.proofs.AllTold.CallingTogether.{lines_together}
 use Rattle.wt_called_edit_laws.proofs.Cells.CallingFrames.{content_in}
+use Rattle.wt_called_edit_laws.proofs.Headings.Pieced.{pieced_heading, pieced_heading_holds}
+use Rattle.wt_called_edit_laws.proofs.Headings.TextAndCalls.{heading_pieced}
 use Rattle.wt_called_edit_laws.proofs.PageBody.{page_body}
+use Rattle.wt_called_edit_laws.proofs.Whole.Pieced.{pieced_content, pieced_holds}
+use Rattle.wt_called_edit_laws.proofs.Whole.TextAndCalls.{pieced}
 use Rattle.wt_inside_laws.specs.AsSent.{edits_of, paths_of, node_at, AreSomeOf}
 use Rattle.wt_inside_laws.specs.BesideEdits.{IsBesideBlock, IsBesideEdit}
-use Rattle.wt_inside_laws.specs.EditsWithCalls.{IsEditable, AreToldBlocks, MayHoldCalls, MarksBlocksWithCalls, IsEditWithCalls, IsDifferenceWithCalls}
+use Rattle.wt_inside_laws.specs.EditsWithCalls.{AreInTheirPieces, AreTextsAndCalls, IsEditable, AreToldBlocks, MayHoldCalls, MarksBlocksWithCalls, IsEditWithCalls, IsDifferenceWithCalls}
 use Rattle.wt_inside_laws.specs.LocalTextEdits.{IsLocalTextEdit}
 use Rattle.wt_inside_laws.specs.TextEdits.{IsRetyped}
+use Rattle.wt_inside_laws.specs.TypedBeside.{IsTypedIn}
 use Rattle.wt_inside_laws.proofs.BesideEdits.{calling_edit_done}
 use Rattle.wt_inside_laws.proofs.HtmlEdits.{edit_is}
 use Rattle.wt_inside_laws.proofs.LocalTextEdits.{nothing_local, calling_local}
@@ -47,6 +55,7 @@ use Rattle.wt_inside_laws.proofs.NothingMarked.{nothing_done, nothing_spliced}
 use Rattle.wt_inside_laws.proofs.OrdinaryEdits.{nodes_at, olds, one_same, block_kind, OrdinarySent, read_as_sent, difference_as_sent, by_marked, done_without_marks}
 use Rattle.wt_inside_laws.proofs.Reached.{Reaches, edits_reach}
 use Rattle.wt_inside_laws.proofs.ToldEdits.{first_same, rest_same}
+use Rattle.wt_inside_laws.proofs.TypedBeside.{calling_typed_apart}
 
 -- ---- a marked block is at its path
 
@@ -102,6 +111,23 @@ lines_same (t ∷ ts) (b ∷ bs) behind o =
 contents_of : (pages : Pages) (b : LinedBlock) → IsEditable pages b → IsContentIn pages b.block b.text × IsEditableContent pages b.block b.text
 contents_of pages b (inl c) = (content_in pages b.block b.text c.0 c.1, inl c)
 contents_of pages b (inr h) = (h.0, inr h.1)
+
+-- blocks in pieces are editable, those of texts and calls alone among them
+pub pieces_editable : (pages : Pages) (b : LinedBlock) → AreInTheirPieces pages b.block b.text → IsEditable pages b
+pieces_editable pages b h = by b.block h
+  where
+    by : (k : TextBlock) → AreInTheirPieces pages k b.text
+        → (IsContent k b.text × CallsNothing (block_items k b.text)) ⊎ (IsContentIn pages k b.text × HoldsCalls pages k b.text)
+    by a_paragraph x = inr (pieced_content pages b.text x, pieced_holds pages b.text x)
+    by (a_heading s) x = inr (pieced_heading pages s b.text x, pieced_heading_holds pages s b.text x)
+
+pub calls_editable : (pages : Pages) (b : LinedBlock) → AreTextsAndCalls pages b.block b.text → IsEditable pages b
+calls_editable pages b h = by b.block h
+  where
+    by : (k : TextBlock) → AreTextsAndCalls pages k b.text
+        → (IsContent k b.text × CallsNothing (block_items k b.text)) ⊎ (IsContentIn pages k b.text × HoldsCalls pages k b.text)
+    by a_paragraph x = let p = pieced pages b.text x in inr (pieced_content pages b.text p, pieced_holds pages b.text p)
+    by (a_heading s) x = let p = heading_pieced pages s b.text x in inr (pieced_heading pages s b.text p, pieced_heading_holds pages s b.text p)
 
 all_contents : (pages : Pages) (calls : List OuterCall) (es : List Item) (bs : List LinedBlock) → AllByRecursion (IsEditable pages) bs
     → AreContentsInFolder pages (spots_on calls es bs) × AreEditableContents pages (spots_on calls es bs)
@@ -207,6 +233,11 @@ local_of pages page new h =
     (λ none. nothing_local pages page new h.utf8 h.short h.unrefused h.sent.sent none)
     (λ some. let o : CallsTold pages page new = calls_told pages page new h some in calling_local pages page o.bs o.rest new o.lined o.taken o.edit)
 
+typed_of : (pages : Pages) (page : List ℕ) (new : Tree) → IsCallsRead pages page new → AllByRecursion (IsTypedIn pages) (marked (page_tree pages page) new)
+typed_of pages page new h =
+    by_marked (marked (page_tree pages page) new) (λ none. subst (AllByRecursion (IsTypedIn pages)) (sym none) tt)
+    (λ some. let o : CallsTold pages page new = calls_told pages page new h some in calling_typed_apart pages page o.bs o.rest new o.lined o.taken o.edit)
+
 -- ---- with marks
 
 pub calls_done : (pages : Pages) (page input : List ℕ) (new : Tree) (u : Option ℕ) → IsEditWithCalls pages page input new u
@@ -220,6 +251,10 @@ calls_written pages page input new u h le =
 
 pub calls_local : (pages : Pages) (page input : List ℕ) (new : Tree) (u : Option ℕ) → IsEditWithCalls pages page input new u → IsLocalTextEdit pages page new
 calls_local pages page input new u h = local_of pages page new (calls_read pages page input new u h)
+
+pub calls_typed : (pages : Pages) (page input : List ℕ) (new : Tree) (u : Option ℕ) → IsEditWithCalls pages page input new u
+    → AllByRecursion (IsTypedIn pages) (marked (page_tree pages page) new)
+calls_typed pages page input new u h = typed_of pages page new (calls_read pages page input new u h)
 
 -- ---- without marks
 

@@ -59,6 +59,7 @@ pub mod LocalTextEdits
 pub mod EditsWithCalls
 pub mod GivenBack
 pub mod TypedApart
+pub mod TypedBeside
 pub mod InsidesCases
 pub mod PageCases
 pub mod LocalCases

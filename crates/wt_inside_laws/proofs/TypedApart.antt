@@ -1,5 +1,5 @@
 -- What is written for the marked blocks of a text edit makes nothing but what was typed.
-use Rattle.std.proofs.Common.{arith, ◌≡◌, ◌≤◌, ℕ, Option, Some, None, List, [], ◌∷◌, length, map, refl, sym, ap, ◌∙◌, subst, inl, inr}
+use Rattle.std.proofs.Common.{arith, ◌≡◌, ℕ, Option, Some, List, [], ◌∷◌, length, map, sym, ap, ◌∙◌, subst, inl, inr}
 use Rattle.std.specs.List.{AllByRecursion}
 use Rattle.wt_span.specs.Items.{Item}
 use Rattle.wt_tree.specs.Tree.{Tree, label}
@@ -51,7 +51,7 @@ written_so k q t p s a =
     ap (spelled (setting k p.old)) (a.written (place_of (block_of k)))
     ∙ sym (new_is k q p.old (label p.new) (pieces_for p) (in_page k q s.number s.before p.old s.some s.is) a.are)
 
-pair_apart : (pages : Pages) (page : List ℕ) (k : TextBlock) (q : List ℕ) (p : Pair) → IsContent k q → CallsNothing (block_items k q)
+pub pair_apart : (pages : Pages) (page : List ℕ) (k : TextBlock) (q : List ℕ) (p : Pair) → IsContent k q → CallsNothing (block_items k q)
     → IsStanding (block_tree k q) p.old → IsRetyped same_node (expanded_page pages page) page p → IsAlike same_node (page_of (page_tree pages page)) p
     → IsReadBlock p → HasEndedNodes k q p → IsTypedApart p
 pair_apart pages page k q p c r s retyped alike read ended =

@@ -13,7 +13,7 @@ use Rattle.wt_visible.specs.SameNodes.{same_node}
 use Rattle.wt_commands.specs.Answers.{refusal_of_page, remarked_of}
 use Rattle.wt_text_edit_laws.specs.Contents.{IsContent}
 use Rattle.wt_text_edit_laws.specs.NoCalls.{CallsNothing}
-use Rattle.wt_text_edit_laws.specs.TextBlocks.{block_items}
+use Rattle.wt_text_edit_laws.specs.TextBlocks.{TextBlock, a_paragraph, a_heading, block_items}
 use Rattle.wt_called_edit_laws.specs.CallingBlocks.{IsContentIn}
 use Rattle.wt_called_edit_laws.specs.CallingTogether.{AreOnTold, AreOnLines}
 use Rattle.wt_called_edit_laws.specs.CallingTold.{IsExceptedByLines}
@@ -22,6 +22,7 @@ use Rattle.wt_called_edit_laws.specs.EditableBlocks.{HoldsCalls}
 use Rattle.wt_called_edit_laws.specs.Groups.{called_tree}
 use Rattle.wt_called_edit_laws.specs.LinedAmong.{spots_of_lines}
 use Rattle.wt_called_edit_laws.specs.LinedCalling.{AreCallingHere, AreApartFrom}
+use Rattle.wt_called_edit_laws.specs.PiecedParagraphs.{IsInPieces, IsHeadingInPieces, IsTextAndCalls, IsHeadingOfCalls}
 use Rattle.wt_called_edit_laws.specs.PlacedLines.{LinedBlock}
 use Rattle.wt_inside_laws.specs.AsSent.{edits_of, paths_of}
 use Rattle.wt_inside_laws.specs.BesideEdits.{IsBesideBlock}
@@ -31,6 +32,16 @@ use Rattle.wt_inside_laws.specs.TextEdits.{IsTextEdit}
 abbrev pub IsEditable : Pages → LinedBlock → Type 0
 IsEditable pages b =
     (IsContent b.block b.text × CallsNothing (block_items b.block b.text)) ⊎ (IsContentIn pages b.block b.text × HoldsCalls pages b.block b.text)
+
+-- as blocks in pieces are: each piece is a node of the page, or calls nothing
+abbrev pub AreInTheirPieces : Pages → TextBlock → List ℕ → Type 0
+AreInTheirPieces pages a_paragraph q = IsInPieces pages q
+AreInTheirPieces pages (a_heading s) q = IsHeadingInPieces pages s q
+
+-- or texts and calls alone
+abbrev pub AreTextsAndCalls : Pages → TextBlock → List ℕ → Type 0
+AreTextsAndCalls pages a_paragraph q = IsTextAndCalls pages q
+AreTextsAndCalls pages (a_heading s) q = IsHeadingOfCalls pages s q
 
 -- Where nodes of the page are on these lines, they tell them, with their calls or without: they are paragraphs and headings of these sources, each by
 -- itself what it is on the page; no call that is text touches one; and each has a byte that no group of the page has.

@@ -19,3 +19,4 @@ pub mod EditsWithCalls
 pub mod TextAndCallBlocks
 pub mod LocalTextEdits
 pub mod TypedApart
+pub mod TypedBeside

@@ -24,7 +24,8 @@ pub use insides::{
     texts_stand_between_borders,
 };
 pub use local::{
-    marked_blocks_make_nothing_else, text_edits_are_local, text_edits_beside_calls_are_local,
+    marked_blocks_make_nothing_else, marked_blocks_with_calls_make_nothing_else,
+    text_edits_are_local, text_edits_beside_calls_are_local,
 };
 pub use replaced::{
     only_that_text_is_another, only_these_texts_are_others, only_these_texts_are_others_anywhere,

@@ -16,9 +16,11 @@ ghost use Rattle.wt_called_edit_laws.specs.LinedCalling.{IsLinedCalling};
 ghost use Rattle.wt_called_edit_laws.specs.LocalChange.{ExpandsAlike};
 ghost use Rattle.wt_called_edit_laws.specs.PlacedLines.{LinedBlock};
 ghost use Rattle.wt_inside_laws.specs.BesideEdits.{IsBesideEdit};
+ghost use Rattle.wt_inside_laws.specs.EditsWithCalls.{IsEditWithCalls};
 ghost use Rattle.wt_inside_laws.specs.LocalTextEdits.{IsLocalTextEdit};
 ghost use Rattle.wt_inside_laws.specs.ToldEdits.{IsOrdinaryEdit};
 ghost use Rattle.wt_inside_laws.specs.TypedApart.{IsTypedApart};
+ghost use Rattle.wt_inside_laws.specs.TypedBeside.{IsTypedIn};
 
 /// Each text edit that `text_edits_are_done` speaks of is local (`IsLocalChange` of `wt_called_edit_laws`). In the new page
 /// each node that holds no marked block has the kind, attributes, delimiters and source that it had, and its range is moved
@@ -52,4 +54,12 @@ pub fn text_edits_beside_calls_are_local()
 pub fn marked_blocks_make_nothing_else()
     ensures { (pages : Pages) (page input : List ℕ) (new : Tree) (unsourced : Option ℕ)
         → IsOrdinaryEdit pages page input new unsourced → AllByRecursion IsTypedApart (marked (page_tree pages page) new) }
+{}
+
+/// So is each of an edit that `text_edits_with_calls_are_done` speaks of, where the marked blocks may hold calls
+/// (`IsSpelledBeside` of `wt_called_edit_laws`): its items are what its calls give, too, however many calls come before it.
+#[tactic(auto)]
+pub fn marked_blocks_with_calls_make_nothing_else()
+    ensures { (pages : Pages) (page input : List ℕ) (new : Tree) (unsourced : Option ℕ)
+        → IsEditWithCalls pages page input new unsourced → AllByRecursion (IsTypedIn pages) (marked (page_tree pages page) new) }
 {}

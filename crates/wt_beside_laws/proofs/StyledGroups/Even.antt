@@ -18,7 +18,7 @@ use Rattle.wt_beside_laws.specs.Called.{AllMeetWith, AreGiven, IsCalledContent, 
 use Rattle.wt_beside_laws.specs.Flat.{AreFlat}
 use Rattle.wt_beside_laws.specs.SpelledApart.{HasEvenToggles}
 use Rattle.wt_beside_laws.specs.Styled.{AreNested, StyledContent, delimiter, finished, sign, signs_before, signs_in, signs_past, styled}
-use Rattle.wt_beside_laws.specs.StyledCalls.{IsStyledCalled, owns_left, owns_past}
+use Rattle.wt_beside_laws.specs.StyledCalls.{IsStyledCalled, IsStyledCalledHeading, owns_left, owns_past}
 use Rattle.wt_beside_laws.proofs.Groups.CalledLines.{lines_from}
 use Rattle.wt_beside_laws.proofs.LineSegments.{segments_are}
 use Rattle.wt_beside_laws.proofs.Styled.NestToggles.{nest_even}
@@ -87,6 +87,10 @@ all_even s t owns h k w m =
 pub styled_even : (s : Setting) (t : StyledContent) (owns : List (List Item)) → IsStyledCalled s t owns
     → AllByRecursion HasEvenToggles (lines (items_with s [] (signs_in t) owns))
 styled_even s t owns h = all_even s t owns h.given h.nested (own_in false t owns h.own) h.meet
+
+pub styled_heading_even : (s : Setting) (t : StyledContent) (owns : List (List Item)) → IsStyledCalledHeading s t owns
+    → AllByRecursion HasEvenToggles (lines (items_with s [] (signs_in t) owns))
+styled_heading_even s t owns h = all_even s t owns h.given h.nested (own_in false t owns h.own) h.meet
 
 -- ---- without styles
 

@@ -35,6 +35,7 @@ use Rattle.wt_text_edit_laws.proofs.Cuts.Seen.{shown_alone}
 use Rattle.wt_text_edit_laws.proofs.Cuts.TextLines.{IsEnding, joined_is, lines_of}
 use Rattle.wt_beside_laws.proofs.Derived.BodyRead.{parts_are}
 use Rattle.wt_called_edit_laws.specs.AnyBlocks.{open_after, rows_of_part, open_behind_part, LeadsInto, past_break, BeginsAfter, NextApart, EndsAfter}
+use Rattle.wt_called_edit_laws.specs.StaysIn.{StaysIn}
 use Rattle.wt_called_edit_laws.specs.CalledContents.{StayText}
 use Rattle.wt_called_edit_laws.specs.CallingBlocks.{IsContentIn, AreContentsInFolder, spots_with_calls, items_past}
 use Rattle.wt_called_edit_laws.specs.Covered.{HaveFreeBytes}
@@ -462,12 +463,12 @@ further pages page last open_tables es (b ∷ ls) behind p k qs xs runs i f r h 
           let others = spots_with_calls pages (calls_past pages k s) ss in
           let past : List Item = items_past pages (calls_past pages k s) ss end in
           let P : List Item → Type 0 = λ zs. BeginsAfter last b.block open_tables zs × LeadsInto b.block open_tables (past_break zs)
-          × StayText b.block (length (open_behind_part open_tables (past_break zs))) text
+          × StaysIn b.block open_tables (past_break zs) text
           × StandAfter b.block (open_behind_part open_tables (past_break zs)) others past in
           subst P (ap (λ (zs : List Item). block_front zs b) (sym is_break) ∙ sym parts.first) (
             (refl, subst (NextApart last b.block) (sym same) h.0),
             l.leads,
-            subst (λ (rs : List Row). StayText b.block (length (open_after open_tables rs)) text) (sym same) stays,
+            inl (subst (λ (rs : List Row). StayText b.block (length (open_after open_tables rs)) text) (sym same) stays),
             subst (λ (rs : List Row). StandAfter b.block (open_after open_tables rs) others past) (sym same) later,
           );
     }
@@ -527,7 +528,7 @@ calling_lined pages page (b ∷ ls) behind h =
     let rows_are : rows_of_part [] front ≡ rows = rows_by [] b.before b.marks h.lined.0.are_marks l.around.front_are l.around.front_whole in
     let others = spots_with_calls pages (calls_past pages 0 s) ss in
     let past : List Item = items_past pages (calls_past pages 0 s) ss end in
-    let P : List Item → Type 0 = λ zs. LeadsInto b.block [] zs × StayText b.block (length (open_behind_part [] zs)) text
+    let P : List Item → Type 0 = λ zs. LeadsInto b.block [] zs × StaysIn b.block [] zs text
     × StandAfter b.block (open_behind_part [] zs) others past in (
       same,
       record {
@@ -538,7 +539,7 @@ calling_lined pages page (b ∷ ls) behind h =
         apart = apart.none;
         stand = subst P (sym parts.first) (
           l.leads,
-          subst (λ (rs : List Row). StayText b.block (length (open_after [] rs)) text) (sym rows_are) stays,
+          inl (subst (λ (rs : List Row). StayText b.block (length (open_after [] rs)) text) (sym rows_are) stays),
           subst (λ (rs : List Row). StandAfter b.block (open_after [] rs) others past) (sym rows_are) later,
         );
         unrefused = subst (λ (bs : List ℕ). refusal_of_page pages bs ≡ None) (sym same) h.unrefused;

@@ -40,6 +40,7 @@ use Rattle.wt_text_edit_laws.proofs.Paragraphs.Texts.{one_line}
 use Rattle.wt_text_edit_laws.proofs.Paragraphs.SeenLines.{seen_some}
 use Rattle.wt_called_edit_laws.specs.AnyBlocks.{open_after, rows_of_part, open_behind_part, LeadsInto, past_break, BeginsAfter, NextApart, EndsAfter}
 use Rattle.wt_called_edit_laws.specs.CalledBlocks.{spots_among, items_behind}
+use Rattle.wt_called_edit_laws.specs.StaysIn.{StaysIn}
 use Rattle.wt_called_edit_laws.specs.CalledContents.{StayText}
 use Rattle.wt_called_edit_laws.specs.Covered.{AreInNoGroup, IsEditablePage}
 use Rattle.wt_called_edit_laws.specs.Groups.{called_tree}
@@ -451,13 +452,13 @@ further pages page last open_tables es (b ∷ ls) behind p qs xs runs i f r h ow
           (d.stand (calls_past pages k (spot_of pages page es b)) parts.rest t.1) in
           let n : ℕ = k + calls_in pages (spot_of pages page es b).before in
           let P : List Item → Type 0 = λ zs. BeginsAfter last b.block open_tables zs × LeadsInto b.block open_tables (past_break zs)
-          × StayText b.block (length (open_behind_part open_tables (past_break zs))) (page_items b.text)
+          × StaysIn b.block open_tables (past_break zs) (page_items b.text)
           × StandAfter b.block (open_behind_part open_tables (past_break zs)) (spots_among pages n ss) (items_behind pages n ss end) in
           subst P (ap (λ (zs : List Item). block_front zs b) (sym is_break) ∙ sym parts.first) (
             (refl, subst (NextApart last b.block) (sym same) h.0),
             l.leads,
-            subst (λ (rs : List Row). StayText b.block (length (open_after open_tables rs)) (page_items b.text)) (sym same)
-                (l.here.stays (length now) l.stays),
+            inl (subst (λ (rs : List Row). StayText b.block (length (open_after open_tables rs)) (page_items b.text)) (sym same)
+                (l.here.stays (length now) l.stays)),
             subst (λ (rs : List Row). StandAfter b.block (open_after open_tables rs) (spots_among pages n ss) (items_behind pages n ss end)) (sym same) later,
           );
     }
@@ -533,7 +534,7 @@ lined_among pages page (b ∷ ls) behind h =
     (d.stand (calls_past pages 0 s) parts.rest texts.1) in
     let rows : List Row = written_rows 0 b.before in
     let rows_are : rows_of_part [] front ≡ rows = rows_by [] b.before b.marks h.lined.0.are_marks l.around.front_are l.around.front_whole in
-    let P : List Item → Type 0 = λ zs. LeadsInto b.block [] zs × StayText b.block (length (open_behind_part [] zs)) (page_items b.text)
+    let P : List Item → Type 0 = λ zs. LeadsInto b.block [] zs × StaysIn b.block [] zs (page_items b.text)
     × StandAfter b.block (open_behind_part [] zs) (spots_among pages n ss) (items_behind pages n ss end) in (
       same,
       record {
@@ -544,7 +545,7 @@ lined_among pages page (b ∷ ls) behind h =
         free = h.free;
         stand = subst P (sym parts.first) (
           l.leads,
-          subst (λ (rs : List Row). StayText b.block (length (open_after [] rs)) (page_items b.text)) (sym rows_are) (l.here.stays (length now) l.stays),
+          inl (subst (λ (rs : List Row). StayText b.block (length (open_after [] rs)) (page_items b.text)) (sym rows_are) (l.here.stays (length now) l.stays)),
           subst (λ (rs : List Row). StandAfter b.block (open_after [] rs) (spots_among pages n ss) (items_behind pages n ss end)) (sym rows_are) later,
         );
         unrefused = subst (λ (bs : List ℕ). refusal_of_page pages bs ≡ None) (sym same) h.unrefused;

@@ -293,7 +293,7 @@ placed_here =
     let P : List Item → List Item → List Item → Type 0 = λ before xs behind. ArePlaced (record { before = before; block = a_paragraph; content = xs } ∷ []) behind in
     let n : ℕ = calls_past a_void 0 a_block in
     let at : ℕ = calls_to a_void 0 a_block in
-    let own : P [] (given at) [] = ((is_text at, record { whole = refl; in_cells = tt; apart = tt }, stays_text at), tt) in
+    let own : P [] (given at) [] = ((is_text at, record { whole = inl refl; in_cells = tt; apart = tt }, inl (stays_text at)), tt) in
     subst (λ before. P before (part_items a_void at source) (part_items a_void n [])) (sym (nothing 0))
     (subst (λ xs. P [] xs (part_items a_void n [])) (sym (items_are at)) (subst (λ behind. P [] (given at) behind) (sym (nothing n)) own))
 

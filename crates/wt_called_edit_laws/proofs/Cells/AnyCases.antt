@@ -141,16 +141,16 @@ parts_here : AreParts blocks_here []
 unfolding page_items words closed form_at comment_len comment_line_len raw_len opening_tag closing_tag include_at entity_at named_entity decimal_entity
     hex_entity entity_names sign_word kind_of_signs
 parts_here = (
-  (record { ended = refl; before_utf8 = utf8_first; block = inl typed_a }, record { whole = refl; in_cells = (refl, tt); apart = refl }, typed_stays_text 1 (codes "a") typed_a),
+  (record { ended = refl; before_utf8 = utf8_first; block = inl typed_a }, record { whole = inl refl; in_cells = (refl, tt); apart = refl }, typed_stays_text 1 (codes "a") typed_a),
   (
     (refl, refl),
-    (record { ended = refl; before_utf8 = utf8_second; block = inl typed_h }, record { whole = refl; in_cells = (refl, tt); apart = tt }, tt),
+    (record { ended = refl; before_utf8 = utf8_second; block = inl typed_h }, record { whole = inl refl; in_cells = (refl, tt); apart = tt }, tt),
     (
       (refl, tt),
-      (record { ended = refl; before_utf8 = utf8_third; block = inl typed_b }, record { whole = refl; in_cells = (refl, tt); apart = tt }, typed_stays_text 1 (codes "b") typed_b),
+      (record { ended = refl; before_utf8 = utf8_third; block = inl typed_b }, record { whole = inl refl; in_cells = (refl, tt); apart = tt }, typed_stays_text 1 (codes "b") typed_b),
       (
         (refl, refl),
-        (record { ended = refl; before_utf8 = utf8_last; block = inl typed_c }, record { whole = refl; in_cells = tt; apart = refl }, typed_stays_text 0 (codes "c") typed_c),
+        (record { ended = refl; before_utf8 = utf8_last; block = inl typed_c }, record { whole = inl refl; in_cells = tt; apart = refl }, typed_stays_text 0 (codes "c") typed_c),
         (record { uncommented = refl }, utf8_end, tt),
       ),
     ),

@@ -42,7 +42,7 @@ spot_in_body s xs h c e =
     let is : IsTextRead s = record { ended = h.ended; before_utf8 = h.before_utf8; block = h.block } in
     let none : [] ≡ open_behind_part [] xs = sym (none_open xs c) in (
       is,
-      record { whole = c.whole; in_cells = subst AllTrue none tt; apart = e },
+      record { whole = inl c.whole; in_cells = subst AllTrue none tt; apart = e },
       subst (λ (bs : List Bool). StaysText s.block (length bs) s.text) none (block_stays s.block s.text h.block),
     )
 

@@ -92,7 +92,7 @@ unfolding words closed form_at comment_len comment_line_len raw_len opening_tag 
     full_name_of whole_in cut_namespace title_in template_text begins_only ends_only loop_text depth_text absent_text
     utf8_valid_len is_utf8 chars encode link_to page_stretches expanded_page kind_of_signs
 placed_here = (
-  (content_items a_paragraph (codes "a") (block_content a_paragraph (codes "a") (inl typed_a)), record { whole = refl; in_cells = (refl, tt); apart = refl }, typed_stays_text 1 (codes "a") typed_a),
+  (content_items a_paragraph (codes "a") (block_content a_paragraph (codes "a") (inl typed_a)), record { whole = inl refl; in_cells = (refl, tt); apart = refl }, inl (typed_stays_text 1 (codes "a") typed_a)),
   (refl, refl),
 )
 

@@ -48,11 +48,11 @@ in_order (t ∷ ts) front rs back = ap (in_cell t) (in_order ts front rs back) �
 
 -- ---- lines of text where tables are open
 
-abbrev AreAt : ℕ → List (List Item) → Type 0
+abbrev pub AreAt : ℕ → List (List Item) → Type 0
 AreAt n [] = Unit {0}
 AreAt n (l ∷ ls) = (kind_at n l ≡ line.Text) × AreAt n ls
 
-later_at : (n : ℕ) (ls ms : List (List Item)) → AreAt n ls → rows_from n (ls ++ ms) ≡ map later_row ls ++ rows_from n ms
+pub later_at : (n : ℕ) (ls ms : List (List Item)) → AreAt n ls → rows_from n (ls ++ ms) ≡ map later_row ls ++ rows_from n ms
 later_at n [] ms k = refl
 later_at n (l ∷ ls) ms k =
     ap (λ (j : LineKind). line_rows j l ++ rows_from (behind n j) (ls ++ ms)) k.0 ∙ ap (λ rs. later_row l ∷ rs) (later_at n ls ms k.1)
@@ -65,7 +65,7 @@ texts_at n l ls ms h k =
 abbrev IsTextAt : ℕ → List Item → Type 0
 IsTextAt n l = line_kind n l ≡ line.Text
 
-kinds_by : (n : ℕ) (ls ends : List (List Item)) → All (IsTextAt n) (map content ls ++ ends) → AreAt n ls
+pub kinds_by : (n : ℕ) (ls ends : List (List Item)) → All (IsTextAt n) (map content ls ++ ends) → AreAt n ls
 kinds_by n [] ends a = tt
 kinds_by n (l ∷ ls) ends a =
     (All-head (IsTextAt n) (content l) (map content ls ++ ends) a, kinds_by n ls ends (All-tail (IsTextAt n) (content l) (map content ls ++ ends) a))
@@ -84,7 +84,7 @@ abbrev pub own_rows : (own : List Item) → IsLineBlock own → List Item → Li
 own_rows own b [] = paragraph_rows b.first b.others
 own_rows own b (y ∷ ys) = paragraph_rows (first_ended b.first b.others) (rest_ended b.first b.others)
 
-ended_lines : (own ys : List Item) (b : IsLineBlock own) → full_lines (own ++ break ∷ ys) ≡ ended b.first b.others ++ full_lines ys
+pub ended_lines : (own ys : List Item) (b : IsLineBlock own) → full_lines (own ++ break ∷ ys) ≡ ended b.first b.others ++ full_lines ys
 ended_lines own ys b =
     sym (runs_only goes_on (ended b.first b.others ++ full_lines ys) (own ++ break ∷ ys)
     (ended_runs b.first b.others own ys (block_runs own b) b.are_unended))

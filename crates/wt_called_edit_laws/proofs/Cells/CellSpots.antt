@@ -267,7 +267,7 @@ cell_spots c h =
     let size : open_tables xs ≡ length (open_behind_part [] xs) =
     ap (λ ys. open_tables ys) (sym none) ∙ open_size [] 0 (full_lines (before_marks xs)) refl in
     let leads : LeadsInto a_paragraph [] xs = record {
-      whole = ap empty_end none ∙ i.whole;
+      whole = inl (ap empty_end none ∙ i.whole);
       in_cells = subst (λ rs. AllTrue (open_after [] rs)) (sym rows_are) (rounds_open [] i.tables i.front i.rounds i.front_content tt);
       apart = subst EndApart (sym rows_are) (rounds_apart i.tables i.front i.rounds i.front_apart);
     } in

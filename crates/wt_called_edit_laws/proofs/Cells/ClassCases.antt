@@ -209,10 +209,10 @@ unfolding words closed form_at comment_len comment_line_len raw_len opening_tag 
     full_name_of whole_in cut_namespace title_in template_text begins_only ends_only loop_text depth_text absent_text
     utf8_valid_len is_utf8 chars encode link_to page_stretches expanded_page kind_of_signs
 placed_here = (
-  (content_items (a_heading (spaced 2)) (codes "h") title_content, record { whole = refl; in_cells = tt; apart = tt }, tt),
+  (content_items (a_heading (spaced 2)) (codes "h") title_content, record { whole = inl refl; in_cells = tt; apart = tt }, inl tt),
   (
     (refl, tt),
-    (content_items a_paragraph (codes "x<br>y") break_content, record { whole = refl; in_cells = (refl, tt); apart = refl }, stays_text),
+    (content_items a_paragraph (codes "x<br>y") break_content, record { whole = inl refl; in_cells = (refl, tt); apart = refl }, inl stays_text),
     (refl, refl),
   ),
 )

@@ -12,7 +12,8 @@ use Rattle.wt_text_edit_laws.specs.TextBlocks.{TextBlock}
 use Rattle.wt_text_edit_laws.specs.ParagraphBetween.{body_with}
 use Rattle.wt_text_edit_laws.proofs.Paragraphs.Standing.{body_is}
 use Rattle.wt_called_edit_laws.specs.AnyBlocks.{open_behind_part, LeadsInto, past_break, BeginsAfter}
-use Rattle.wt_called_edit_laws.specs.CalledContents.{AreItemsOf, StayText, IsTextAnywhere}
+use Rattle.wt_called_edit_laws.specs.CalledContents.{AreItemsOf, IsTextAnywhere}
+use Rattle.wt_called_edit_laws.specs.StaysIn.{StaysIn}
 use Rattle.wt_called_edit_laws.specs.ItemSpots.{ItemSpot, placed_items, IsPlacedAt, ArePlacedAfter, ArePlaced, SameItems, AreNewIn, AreContentsIn}
 use Rattle.wt_called_edit_laws.proofs.Cells.SpotRows.{trees_by, page_rows, slots_rows, slots_at}
 use Rattle.wt_called_edit_laws.proofs.Cells.SpotSlots.{page_slots, numbered_from, same_slots, slots_numbers, slots_in_cells, slots_few, slots_apart}
@@ -20,13 +21,12 @@ use Rattle.wt_called_edit_laws.proofs.Cells.SpotSlots.{page_slots, numbered_from
 -- ---- with new contents
 
 placed_over : (bs : List Bool) (xs : List Item) (s r : ItemSpot) → r.block ≡ s.block → (r.content ≡ s.content) ⊎ IsTextAnywhere r.block r.content → IsPlacedAt bs xs s → IsPlacedAt bs xs r
-placed_over bs xs s r k (inl e) h =
-    let n : ℕ = length (open_behind_part bs xs) in (
-      subst (λ ys. AreItemsOf r.block ys) (sym e) (subst (λ j. AreItemsOf j s.content) (sym k) h.0),
-      subst (λ j. LeadsInto j bs xs) (sym k) h.1,
-      subst (λ ys. StayText r.block n ys) (sym e) (subst (λ j. StayText j n s.content) (sym k) h.2),
-    )
-placed_over bs xs s r k (inr t) h = (t.items, subst (λ j. LeadsInto j bs xs) (sym k) h.1, t.stays (length (open_behind_part bs xs)))
+placed_over bs xs s r k (inl e) h = (
+  subst (λ ys. AreItemsOf r.block ys) (sym e) (subst (λ j. AreItemsOf j s.content) (sym k) h.0),
+  subst (λ j. LeadsInto j bs xs) (sym k) h.1,
+  subst (λ ys. StaysIn r.block bs xs ys) (sym e) (subst (λ j. StaysIn j bs xs s.content) (sym k) h.2),
+)
+placed_over bs xs s r k (inr t) h = (t.items, subst (λ j. LeadsInto j bs xs) (sym k) h.1, inl (t.stays (length (open_behind_part bs xs))))
 
 by_front : (P : List Item → TextBlock → Type 0) (s r : ItemSpot) → r.before ≡ s.before → r.block ≡ s.block → P s.before s.block → P r.before r.block
 by_front P s r e k h = subst (λ xs. P xs r.block) (sym e) (subst (λ j. P s.before j) (sym k) h)

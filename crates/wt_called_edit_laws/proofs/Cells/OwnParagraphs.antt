@@ -1,5 +1,5 @@
 -- A page that calls nothing, with a paragraph of its body as the page has it: its content may be edited.
-use Rattle.std.proofs.Common.{◌≡◌, ℕ, Bool, List, [], ◌∷◌, ◌++◌, length, All, refl, sym, ap, ◌∙◌, subst, append_assoc}
+use Rattle.std.proofs.Common.{◌≡◌, ℕ, Bool, List, [], ◌∷◌, ◌++◌, length, All, refl, sym, ap, ◌∙◌, subst, append_assoc, inl}
 use Rattle.std.proofs.lemmas.Grind.{flat_map-append}
 use Rattle.wt_span.specs.Items.{Item, source, sources}
 use Rattle.wt_expand.specs.PageItems.{page_items}
@@ -28,7 +28,7 @@ use Rattle.wt_called_edit_laws.proofs.Cells.BodyPages.{none_open, last_ends}
 
 leads : (xs : List Item) → EndsApart xs → LeadsInto a_paragraph [] xs
 leads xs h = record {
-  whole = h.are_closed.whole;
+  whole = inl h.are_closed.whole;
   in_cells = subst AllTrue (sym (none_open xs h.are_closed)) tt;
   apart = h.apart;
 }
@@ -59,7 +59,7 @@ body_spots_are page r rs p f =
     record {
       read = read;
       placed = (
-        (content_items a_paragraph so read.0.block, leads (page_items sb) apart, stays (page_items sb) (page_items so) apart (subst (λ (ys : List Item). All IsTextLine (lines ys)) (sym mine) p.lines_are)),
+        (content_items a_paragraph so read.0.block, leads (page_items sb) apart, inl (stays (page_items sb) (page_items so) apart (subst (λ (ys : List Item). All IsTextLine (lines ys)) (sym mine) p.lines_are))),
         ends (page_items sb) (page_items sr) apart ended,
       );
       ungrouped = subst HasNoGroups (sym same) f.ungrouped;

@@ -35,6 +35,7 @@ use Rattle.wt_beside_laws.proofs.Derived.BlockContents.{block_source, there_begi
 use Rattle.wt_beside_laws.proofs.Derived.BodyRead.{parts_are}
 use Rattle.wt_beside_laws.proofs.Derived.CutPages.{cut_read}
 use Rattle.wt_called_edit_laws.specs.AnyBlocks.{open_after, open_behind_part, LeadsInto, EndsAfter}
+use Rattle.wt_called_edit_laws.specs.StaysIn.{StaysIn}
 use Rattle.wt_called_edit_laws.specs.CalledContents.{StayText}
 use Rattle.wt_called_edit_laws.specs.CalledPages.{IsCalledPage}
 use Rattle.wt_called_edit_laws.specs.ItemSpots.{AreContentSpots}
@@ -57,7 +58,7 @@ block_cut page k q b f =
     let e : page_items (spots_source (block_spot k q b.before ∷ []) (sources b.rest)) ≡ b.before ++ (b.own ++ b.rest) =
     ap page_items (placed_whole page k q b) ∙ b.is in (
       record { before = b.before; own = b.own; rest = b.rest; is = e; source = refl; block = b.items },
-      inl b.ended,
+      b.led,
       f.closed,
       b.there,
     )
@@ -80,6 +81,13 @@ stays_so a_paragraph n q before own rest h e s =
     subst (λ (xs : List Item). StayText a_paragraph n xs) (sym alone) s
 stays_so (a_heading t) n q before own rest h e s = tt
 
+pub stays_in : (k : TextBlock) (bs : List Bool) (xs : List Item) (q : List ℕ) (before own rest : List Item) → AreBlockItems k q own
+    → page_items (sources before ++ (sources own ++ sources rest)) ≡ before ++ (own ++ rest) → StaysIn k bs xs own → StaysIn k bs xs (page_items q)
+stays_in a_paragraph bs xs q before own rest h e s =
+    let alone : page_items q ≡ own = ap page_items (sym h.source) ∙ own_alone before own rest e (block_seen a_paragraph q own h) in
+    subst (StaysIn a_paragraph bs xs) (sym alone) s
+stays_in (a_heading t) bs xs q before own rest h e s = inl tt
+
 block_spots : (page : List ℕ) (k : TextBlock) (q : List ℕ) (b : IsBlockIn (page_items page) k q) → IsFreeIn page k q b.rest
     → AreContentSpots (block_spot k q b.before ∷ []) (sources b.rest)
 block_spots page k q b f =
@@ -96,7 +104,7 @@ block_spots page k q b f =
     behind_alone (sources b.before ++ sources b.own) (sources b.rest) (b.before ++ b.own) b.rest (there_begins (sources b.rest) b.there) joined
     (flat_map-append source b.before b.own) in
     let n : ℕ = length (open_behind_part [] b.before) in
-    let stays : StayText k n (page_items q) = stays_so k n q b.before b.own b.rest b.items all b.stays in
+    let stays : StaysIn k [] b.before (page_items q) = stays_in k [] b.before q b.before b.own b.rest b.items all b.stays in
     let ends : EndsAfter k n (page_items (sources b.rest)) = subst (EndsAfter k n) (sym last) b.ends in
     record {
       read = read;
@@ -104,7 +112,7 @@ block_spots page k q b f =
         (
           content_items k q read.0.block,
           subst (LeadsInto k []) (sym front) b.leads,
-          subst (λ (xs : List Item). StayText k (length (open_behind_part [] xs)) (page_items q)) (sym front) stays,
+          subst (λ (xs : List Item). StaysIn k [] xs (page_items q)) (sym front) stays,
         ),
         subst (λ (xs : List Item). EndsAfter k (length (open_behind_part [] xs)) (page_items (sources b.rest))) (sym front) ends,
       );
@@ -153,7 +161,7 @@ open_front ls are whole =
 heading_leads : (s : Sides) (ls : List (List Item)) → full_lines (joined ls) ≡ ls → empty_end (joined ls) ≡ [] ∷ [] → AllTrue (open_after [] (written_rows 0 ls))
     → LeadsInto (a_heading s) [] (joined ls)
 heading_leads s ls are whole cells = record {
-  whole = subst (λ (xs : List Item). empty_end xs ≡ [] ∷ []) (sym (no_marks_end (joined ls) whole)) whole;
+  whole = inl (subst (λ (xs : List Item). empty_end xs ≡ [] ∷ []) (sym (no_marks_end (joined ls) whole)) whole);
   in_cells = subst AllTrue (sym (open_front ls are whole)) cells;
   apart = tt;
 }
@@ -184,9 +192,9 @@ heading_in page s q h =
       rest = ending h.line ++ last;
       is = items ∙ ap (λ (ys : List Item). front ++ (ys ++ last)) (sym (content_ending h.line)) ∙ ap (λ (ys : List Item). front ++ ys) (append_assoc own (ending h.line) last);
       items = h.heading;
-      ended = ended_bytes front (own_first front (h.line ++ last) breaks) whole;
+      led = inl (ended_bytes front (own_first front (h.line ++ last) breaks) whole);
       leads = heading_leads s h.before are whole h.in_cells;
-      stays = tt;
+      stays = inl tt;
       ends = ends.line;
       there = ends.there;
     }
@@ -217,7 +225,7 @@ paragraph_leads : (ls : List (List Item)) → full_lines (joined ls) ≡ ls → 
 paragraph_leads ls are whole cells apart =
     let same : before_marks (joined ls) ≡ joined ls = no_marks_end (joined ls) whole in
     record {
-      whole = subst (λ (xs : List Item). empty_end xs ≡ [] ∷ []) (sym same) whole;
+      whole = inl (subst (λ (xs : List Item). empty_end xs ≡ [] ∷ []) (sym same) whole);
       in_cells = subst AllTrue (sym (open_front ls are whole)) cells;
       apart = subst EndApart (sym (ap (λ (xs : List Item). written_rows 0 (full_lines xs)) same ∙ ap (written_rows 0) are)) apart;
     }
@@ -267,9 +275,9 @@ placed_own page all h =
       rest = ending text ++ last;
       is = items ∙ ap (λ (ys : List Item). front ++ (ys ++ last)) (sym (content_ending text)) ∙ ap (λ (ys : List Item). front ++ ys) (append_assoc own (ending text) last);
       items = told.items (ap marks_len h.is ∙ h.unled);
-      ended = ended_bytes front (own_first front (text ++ last) breaks) whole;
+      led = inl (ended_bytes front (own_first front (text ++ last) breaks) whole);
       leads = paragraph_leads h.before are whole h.in_cells h.apart;
-      stays = subst (λ (m : ℕ). StayText a_paragraph m own) (sym size) told.stays;
+      stays = inl (subst (λ (m : ℕ). StayText a_paragraph m own) (sym size) told.stays);
       ends = subst (λ (m : ℕ). EndsAfter a_paragraph m (ending text ++ last)) (sym size)
           (text_ends n text some.0 some.1 h.behind some.2 text_breaks all_before (lines_of h.behind (runs_behind goes_on ts h.behind (joined (ts ++ h.behind)) later)) h.stops);
       there = ends.there;

@@ -1,5 +1,5 @@
 -- Any number of paragraphs and headings of a page by its lines: the page's items are cut at each.
-use Rattle.std.proofs.Common.{arith, ◌≡◌, ◌≤◌, ℕ, Bool, true, List, [], ◌∷◌, ◌++◌, length, refl, sym, ap, ◌∙◌, subst, append-nil, append_assoc, length-append}
+use Rattle.std.proofs.Common.{arith, ◌≡◌, ◌≤◌, ℕ, Bool, true, List, [], ◌∷◌, ◌++◌, length, refl, sym, ap, ◌∙◌, subst, append-nil, append_assoc, length-append, inl}
 use Rattle.std.specs.Prelude.{◌&&◌, if◌then◌else◌}
 use Rattle.std.specs.List.{list_all}
 use Rattle.std.specs.Str.{IsUtf8}
@@ -65,7 +65,7 @@ pub leads_by : (k : TextBlock) (bs : List Bool) (ls : List (List Item)) (ms : Li
 leads_by k bs ls ms all are whole cells apart =
     let same : rows_of_part bs (joined ls ++ ms) ≡ written_rows (length bs) ls = rows_by bs ls ms all are whole in
     record {
-      whole = subst (λ (xs : List Item). empty_end xs ≡ [] ∷ []) (sym (front_off ls ms all whole)) whole;
+      whole = inl (subst (λ (xs : List Item). empty_end xs ≡ [] ∷ []) (sym (front_off ls ms all whole)) whole);
       in_cells = subst (λ (rs : List Row). AllTrue (open_after bs rs)) (sym same) cells;
       apart = subst (EndsFor k) (sym same) apart;
     }
@@ -266,11 +266,11 @@ further last bs (b ∷ ls) behind xs es runs o w i f h =
         source = refl;
         block = block.0;
       },
-      marks_ended (break ∷ joined b.before) b.marks ((λ t. refl), breaks.front) (past_end (joined b.before) r.front_whole) (marks.ended h.1.are_marks h.1.some),
+      inl (marks_ended (break ∷ joined b.before) b.marks ((λ t. refl), breaks.front) (past_end (joined b.before) r.front_whole) (marks.ended h.1.are_marks h.1.some)),
       refl,
       (refl, subst (NextApart last b.block) (sym same) h.0),
       leads_by b.block bs b.before b.marks h.1.are_marks r.front_are r.front_whole h.1.in_cells h.1.apart,
-      subst (λ (rs : List Row). StayText b.block (length (open_after bs rs)) own) (sym same) block.1,
+      inl (subst (λ (rs : List Row). StayText b.block (length (open_after bs rs)) own) (sym same) block.1),
       subst (λ (rs : List Row). AreFurtherIn b.block (open_after bs rs) (spots_by (ending (own_items b)) ls) (end_by (ending (own_items b)) ls behind) rest) (sym same)
           (further b.block (open_after bs rows) ls behind (joined tail) (ending (own_items b)) r.tail_runs breaks.rest marks.rest r.own_ending r.ends h.2),
     )
@@ -299,9 +299,9 @@ placed (b ∷ ls) behind xs e are o w h =
         source = refl;
         block = block.0;
       },
-      marks_ended (joined b.before) b.marks breaks.front r.front_whole (marks.ended h.0.are_marks h.0.some),
+      inl (marks_ended (joined b.before) b.marks breaks.front r.front_whole (marks.ended h.0.are_marks h.0.some)),
       leads_by b.block [] b.before b.marks h.0.are_marks r.front_are r.front_whole h.0.in_cells h.0.apart,
-      subst (λ (rs : List Row). StayText b.block (length (open_after [] rs)) own) (sym same) block.1,
+      inl (subst (λ (rs : List Row). StayText b.block (length (open_after [] rs)) own) (sym same) block.1),
       subst (λ (rs : List Row). AreFurtherIn b.block (open_after [] rs) (spots_by (ending (own_items b)) ls) (end_by (ending (own_items b)) ls behind) rest) (sym same)
           (further b.block (open_after [] rows) ls behind (joined tail) (ending (own_items b)) r.tail_runs breaks.rest marks.rest r.own_ending r.ends h.1),
     )

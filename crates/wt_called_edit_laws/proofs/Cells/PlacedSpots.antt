@@ -12,13 +12,14 @@ use Rattle.wt_beside_laws.proofs.Derived.BlockContents.{block_source, there_begi
 use Rattle.wt_beside_laws.proofs.Derived.BodyRead.{parts_are}
 use Rattle.wt_beside_laws.proofs.Derived.CutPages.{cut_read}
 use Rattle.wt_called_edit_laws.specs.AnyBlocks.{open_behind_part, LeadsInto, past_break, BeginsAfter, EndsAfter}
-use Rattle.wt_called_edit_laws.specs.CalledContents.{AreItemsOf, StayText}
+use Rattle.wt_called_edit_laws.specs.CalledContents.{AreItemsOf}
+use Rattle.wt_called_edit_laws.specs.StaysIn.{StaysIn}
 use Rattle.wt_called_edit_laws.specs.CalledPages.{IsCalledPage}
 use Rattle.wt_called_edit_laws.specs.ItemSpots.{items_of_spots, ArePlacedAfter, ArePlaced}
 use Rattle.wt_called_edit_laws.specs.PlacedSpots.{AreFurtherIn, AreBlocksIn, IsPlacedPage}
 use Rattle.wt_called_edit_laws.proofs.CalmPages.{calm_contents}
 use Rattle.wt_called_edit_laws.proofs.Cells.ContentItems.{items_by}
-use Rattle.wt_called_edit_laws.proofs.Cells.PlacedBlocks.{stays_so}
+use Rattle.wt_called_edit_laws.proofs.Cells.PlacedBlocks.{stays_in}
 use Rattle.wt_called_edit_laws.proofs.Told.FreeNodes.{page_free}
 use Rattle.wt_called_edit_laws.proofs.Told.OwnReads.{AllRead, further_there, page_read}
 
@@ -27,7 +28,7 @@ use Rattle.wt_called_edit_laws.proofs.Told.OwnReads.{AllRead, further_there, pag
 record PartItems (s : BlockSpot) (ss : List BlockSpot) (behind : List ℕ) (before own rest : List Item) : Type 0 where
   front : page_items s.before ≡ before
   last : page_items (spots_source ss behind) ≡ rest
-  stays : (n : ℕ) → StayText s.block n own → StayText s.block n (page_items s.text)
+  stays : (bs : List Bool) (xs : List Item) → StaysIn s.block bs xs own → StaysIn s.block bs xs (page_items s.text)
 
 part_alone : (s : BlockSpot) (ss : List BlockSpot) (behind : List ℕ) (zs : List Item) (c : IsSpotCut s zs)
     → page_items (spots_source (s ∷ ss) behind) ≡ zs → EndsThere (spots_source ss behind) → PartItems s ss behind c.before c.own c.rest
@@ -45,7 +46,7 @@ part_alone s ss behind zs c e there =
     record {
       front = front_alone s.before (line ++ sr) c.before (c.own ++ c.rest) whole c.source;
       last = behind_alone (s.before ++ line) sr (c.before ++ c.own) c.rest (there_begins sr there) joined source_is;
-      stays = λ n h. stays_so s.block n s.text c.before c.own c.rest c.block again h;
+      stays = λ bs xs h. stays_in s.block bs xs s.text c.before c.own c.rest c.block again h;
     }
 
 -- ---- where they stand
@@ -59,11 +60,11 @@ further_placed last bs (s ∷ ss) behind zs r e h =
     let p = part_alone s ss behind zs c e (further_there s.block now ss behind c.rest h.6) in
     let P : List Item → Type 0 = λ (xs : List Item). BeginsAfter last s.block bs xs
     × (AreItemsOf s.block (page_items s.text) × LeadsInto s.block bs (past_break xs)
-    × StayText s.block (length (open_behind_part bs (past_break xs))) (page_items s.text))
+    × StaysIn s.block bs (past_break xs) (page_items s.text))
     × ArePlacedAfter s.block (open_behind_part bs (past_break xs)) (items_of_spots ss) (page_items behind) in
     subst P (sym p.front) (
       h.3,
-      (items_by s.block s.text r.0.is, h.4, p.stays (length now) h.5),
+      (items_by s.block s.text r.0.is, h.4, p.stays bs (past_break c.before) h.5),
       further_placed s.block now ss behind c.rest r.1 p.last h.6,
     )
 
@@ -75,10 +76,10 @@ placed (s ∷ ss) behind r h =
     let now : List Bool = open_behind_part [] c.before in
     let p = part_alone s ss behind zs c refl (further_there s.block now ss behind c.rest h.4) in
     let P : List Item → Type 0 = λ (xs : List Item).
-    (AreItemsOf s.block (page_items s.text) × LeadsInto s.block [] xs × StayText s.block (length (open_behind_part [] xs)) (page_items s.text))
+    (AreItemsOf s.block (page_items s.text) × LeadsInto s.block [] xs × StaysIn s.block [] xs (page_items s.text))
     × ArePlacedAfter s.block (open_behind_part [] xs) (items_of_spots ss) (page_items behind) in
     subst P (sym p.front) (
-      (items_by s.block s.text r.0.is, h.2, p.stays (length now) h.3),
+      (items_by s.block s.text r.0.is, h.2, p.stays [] c.before h.3),
       further_placed s.block now ss behind c.rest r.1 p.last h.4,
     )
 

@@ -1,5 +1,5 @@
 -- A page with blocks anywhere means a tree with its blocks at places, which are the same whatever the texts are.
-use Rattle.std.proofs.Common.{◌≡◌, ℕ, zero, suc, Bool, List, [], ◌∷◌, ◌++◌, length, map, refl, ap, ◌∙◌}
+use Rattle.std.proofs.Common.{◌≡◌, ℕ, zero, suc, Bool, List, [], ◌∷◌, ◌++◌, length, map, refl, ap, ◌∙◌, inl}
 use Rattle.wt_span.specs.Items.{Item}
 use Rattle.wt_page.specs.Body.{meaning}
 use Rattle.wt_expand.specs.PageItems.{page_items}
@@ -21,7 +21,7 @@ use Rattle.wt_called_edit_laws.proofs.Cells.SpotRows.{trees_by}
 placed_at : (bs : List Bool) (xs : List Item) (s : BlockSpot) → IsSpotAt bs xs s → IsPlacedAt bs xs (items_of_spot s)
 placed_at bs xs s h =
     let r : IsTextRead s = h.0 in
-    (content_items s.block s.text (block_content s.block s.text r.block), h.1, stay_items s.block (length (open_behind_part bs xs)) s.text h.2)
+    (content_items s.block s.text (block_content s.block s.text r.block), h.1, inl (stay_items s.block (length (open_behind_part bs xs)) s.text h.2))
 
 placed_after : (last : TextBlock) (bs : List Bool) (ss : List BlockSpot) (behind : List ℕ) → AreSpotsAfter last bs ss behind
     → ArePlacedAfter last bs (items_of_spots ss) (page_items behind)

@@ -1,7 +1,7 @@
 -- The rows of a page with blocks anywhere: those of its lines, and those of each block at its place, led by the marks above it.
-use Rattle.std.proofs.Common.{arith, ◌≡◌, ◌+◌, ℕ, zero, suc, Bool, List, [], ◌∷◌, ◌++◌, length, map, refl, sym, ap, ◌∙◌, subst, append-nil, append_assoc}
+use Rattle.std.proofs.Common.{arith, ◌≡◌, ◌+◌, ℕ, zero, suc, Bool, List, [], ◌∷◌, ◌++◌, length, map, refl, sym, ap, ◌∙◌, subst, append-nil, append_assoc, inl, inr, ◌⊎◌}
 use Rattle.wt_span.specs.Items.{Item}
-use Rattle.wt_lines.specs.Lines.{empty_end, full_lines}
+use Rattle.wt_lines.specs.Lines.{empty_end, full_lines, lines}
 use Rattle.wt_inline.specs.ItemTree.{ItemTree}
 use Rattle.wt_page.specs.Rows.{Row, rows_from}
 use Rattle.wt_page.specs.Texts.{para}
@@ -9,7 +9,7 @@ use Rattle.wt_part_laws.specs.Rounds.{AreTexts as AreTextRows, IsHeading}
 use Rattle.wt_part_laws.specs.Slots.{Slot, rows_at, AreAt}
 use Rattle.wt_part_laws.proofs.Parsed.{rows_slots}
 use Rattle.wt_part_laws.proofs.Places.{rows_join as places_join, own_rows as placed_rows}
-use Rattle.wt_text_edit_laws.specs.ParagraphBetween.{before_marks}
+use Rattle.wt_text_edit_laws.specs.ParagraphBetween.{before_marks, tables_behind}
 use Rattle.wt_text_edit_laws.specs.TextBlocks.{TextBlock, a_paragraph, a_heading, block_tree}
 use Rattle.wt_text_edit_laws.specs.TypedHeadings.{Sides, AreSides, heading_line, IsInside, IsOfLevel, EndsLine}
 use Rattle.wt_text_edit_laws.proofs.Texts.PlainRows.{text_row}
@@ -23,8 +23,11 @@ use Rattle.wt_text_edit_laws.proofs.Paragraphs.Marks.{AreMarks, EndsInMarks, mar
 use Rattle.wt_called_edit_laws.specs.InCells.{AreBehind, AreTextLines}
 use Rattle.wt_called_edit_laws.specs.AnyBlocks.{rows_of_part, open_behind_part, past_break, BeginsAfter, EndsAfter}
 use Rattle.wt_called_edit_laws.specs.CalledContents.{items_round, tree_round, AreTextItems, AreItemsOf, StayText}
+use Rattle.wt_called_edit_laws.specs.StaysIn.{StaysIn}
+use Rattle.wt_called_edit_laws.specs.TableEnds.{IsTableEnd, IsEndFor, AreLater}
 use Rattle.wt_called_edit_laws.specs.ItemSpots.{ItemSpot, placed_items, AreContentsIn, IsPlacedAt, ArePlacedAfter, ArePlaced}
-use Rattle.wt_called_edit_laws.proofs.Cells.CellRows.{own_rows, text_rows}
+use Rattle.wt_called_edit_laws.proofs.Cells.CellRows.{AreAt as AreTextsAt, own_rows, text_rows}
+use Rattle.wt_called_edit_laws.proofs.Cells.SignRows.{end_rows, end_unwhole, all_later, later_others, first_is_seen}
 use Rattle.wt_called_edit_laws.proofs.Cells.Cells.{end_of, own_are, own_para}
 use Rattle.wt_called_edit_laws.proofs.Cells.SpotSlots.{marks_of, slot_of, end_behind, spot_slots, slots_from, page_slots, open_size}
 
@@ -138,13 +141,39 @@ part_is bs xs zs whole =
     ∙ rows_join (length bs) (full_lines ls) (full_lines (marks_of xs ++ zs))
     ∙ ap (λ (n : ℕ). rows_of_part bs xs ++ rows_from n (full_lines (marks_of xs ++ zs))) (open_size bs (length bs) (full_lines ls) refl)
 
+-- a paragraph behind the sign of a table's end
+end_is_rows : (bs : List Bool) (xs own tail : List Item) (b : AreTextItems own) → IsTableEnd (length bs) (before_marks xs)
+    → AreLater (length (open_behind_part bs xs)) (lines own) → EndsLine tail
+    → rows_from (length bs) (full_lines (xs ++ (own ++ tail)))
+    ≡ rows_of_part bs xs ++ (led (marks_of xs) (own_rows own (text_block own b) tail) ++ rows_from (length (open_behind_part bs xs)) (full_lines (past_break tail)))
+end_is_rows bs xs own tail b g later e =
+    let m : EndsInMarks xs = marks_end xs in
+    let ls : List Item = before_marks xs in
+    let w : IsLineBlock own = text_block own b in
+    let tables : tables_behind (length bs) (full_lines ls) ≡ length (open_behind_part bs xs) = open_size bs (length bs) (full_lines ls) refl in
+    ap (λ (ys : List Item). rows_from (length bs) (full_lines (ys ++ (own ++ tail)))) m.is
+    ∙ ap (λ (ys : List Item). rows_from (length bs) (full_lines ys)) (append_assoc ls (marks_of xs) (own ++ tail))
+    ∙ end_rows (length bs) ls g.front g.last own (marks_of xs) tail g.end w g.is g.whole g.tables m.are_marks (first_is_seen own w b.seen)
+    (subst (λ (n : ℕ). AreTextsAt n w.others) (sym tables) (later_others (length (open_behind_part bs xs)) own w later)) e
+    ∙ ap (λ (n : ℕ). rows_of_part bs xs ++ (led (marks_of xs) (own_rows own w tail) ++ rows_from n (full_lines (past_break tail)))) tables
+
+spot_by : (bs : List Bool) (xs : List Item) (k : TextBlock) (own tail : List Item) (b : AreItemsOf k own)
+    → (empty_end (before_marks xs) ≡ [] ∷ []) ⊎ IsEndFor k (length bs) (before_marks xs) → StaysIn k bs xs own → EndsLine tail
+    → rows_from (length bs) (full_lines (xs ++ (items_round k own ++ tail)))
+    ≡ rows_of_part bs xs ++ (block_rows k own b (marks_of xs) tail ++ rows_from (length (open_behind_part bs xs)) (full_lines (past_break tail)))
+spot_by bs xs k own tail b (inl w) (inl t) e =
+    part_is bs xs (items_round k own ++ tail) w
+    ∙ ap (λ rs. rows_of_part bs xs ++ rs) (block_is (length (open_behind_part bs xs)) k own b (marks_of xs) tail t (marks_end xs).are_marks e)
+spot_by bs xs a_paragraph own tail b (inl w) (inr g) e = absurd (end_unwhole (length bs) (before_marks xs) g.0 w)
+spot_by bs xs (a_heading s) own tail b (inl w) (inr g) e = absurd g.0
+spot_by bs xs a_paragraph own tail b (inr g) (inl t) e = end_is_rows bs xs own tail b g (all_later (length (open_behind_part bs xs)) (lines own) t) e
+spot_by bs xs a_paragraph own tail b (inr g) (inr t) e = end_is_rows bs xs own tail b g t.1 e
+spot_by bs xs (a_heading s) own tail b (inr g) t e = absurd g
+
 spot_is : (bs : List Bool) (xs : List Item) (s : ItemSpot) (tail : List Item) (b : AreItemsOf s.block s.content) → IsPlacedAt bs xs s → EndsLine tail
     → rows_from (length bs) (full_lines (xs ++ (items_round s.block s.content ++ tail)))
     ≡ rows_of_part bs xs ++ (block_rows s.block s.content b (marks_of xs) tail ++ rows_from (length (open_behind_part bs xs)) (full_lines (past_break tail)))
-spot_is bs xs s tail b h e =
-    part_is bs xs (items_round s.block s.content ++ tail) h.1.whole
-    ∙ ap (λ rs. rows_of_part bs xs ++ rs)
-    (block_is (length (open_behind_part bs xs)) s.block s.content b (marks_of xs) tail h.2 (marks_end xs).are_marks e)
+spot_is bs xs s tail b h e = spot_by bs xs s.block s.content tail b h.1.whole h.2 e
 
 -- ---- all of them
 

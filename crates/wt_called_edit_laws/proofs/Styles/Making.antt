@@ -83,7 +83,7 @@ block_found pages k q block i h =
     nodes_found block i.number i.some counts (ap is_leaf (block_kind pages k q block i) ∙ no_leaf k) h.numbers
 
 -- What holds of it: each node is as it is in the page, nothing is wrong with its styles, and of its signs each is the page's or is put.
-record IsSentWell (pages : Pages) (k : TextBlock) (block : Tree) (ps : Pieces) : Type 0 where
+pub record IsSentWell (pages : Pages) (k : TextBlock) (block : Tree) (ps : Pieces) : Type 0 where
   found : AreFound (kept_nodes block) (page_pieces ps)
   beside : AreNodesBeside pages (page_pieces ps)
   sent : AreStyledSent (known block) (sent_pieces ps)
@@ -98,7 +98,7 @@ record IsSentWell (pages : Pages) (k : TextBlock) (block : Tree) (ps : Pieces) :
   free : PlainWithin pages false (sent_for block ps)
   meet : (i : ℕ) → AllMeetWith (setting k block) [] [] (signs_in (sent_for block ps)) (owns_in pages i (signs_in (sent_for block ps)))
 
-sent_well : (pages : Pages) (k : TextBlock) (q : List ℕ) (block : Tree) (ps : Pieces) → IsSettledIn pages k q block → IsBesideStyles pages k q block
+pub sent_well : (pages : Pages) (k : TextBlock) (q : List ℕ) (block : Tree) (ps : Pieces) → IsSettledIn pages k q block → IsBesideStyles pages k q block
     → IsStyledCallEdit pages k block ps → IsSentWell pages k block ps
 sent_well pages k q block ps i h e =
     let p : Page = known block in
@@ -134,7 +134,7 @@ sent_well pages k q block ps i h e =
     }
 
 -- so its signs are written
-written_so : (pages : Pages) (k : TextBlock) (q : List ℕ) (block : Tree) (ps : Pieces) → IsBesideStyles pages k q block → IsStyledCallEdit pages k block ps
+pub written_so : (pages : Pages) (k : TextBlock) (q : List ℕ) (block : Tree) (ps : Pieces) → IsBesideStyles pages k q block → IsStyledCallEdit pages k block ps
     → IsSentWell pages k block ps → IsStyledWrittenIn k pages (setting k block) (sent_for block ps)
 written_so pages a_paragraph q block ps h e w = record {
   of_block = refl;
@@ -163,7 +163,7 @@ node_so : (pages : Pages) (k : TextBlock) (q : List ℕ) (block : Tree) (m : Lab
     → page_node (content_edit k block m ps) ≡ block
 node_so pages k q block m ps i e = node_by (kind_of (block_of k)) block (page_pieces ps) (block_kind pages k q block i) e.old
 
-content_so : (pages : Pages) (k : TextBlock) (q : List ℕ) (block : Tree) (m : Label) (ps : Pieces) → IsSettledIn pages k q block → IsStyledCallEdit pages k block ps
+pub content_so : (pages : Pages) (k : TextBlock) (q : List ℕ) (block : Tree) (m : Label) (ps : Pieces) → IsSettledIn pages k q block → IsStyledCallEdit pages k block ps
     → IsSentWell pages k block ps → new_content k block m ps ≡ spelled (setting k block) (signs_in (sent_for block ps))
 content_so pages k q block m ps i e w =
     spelled_by k (page_node (content_edit k block m ps)) block m ps

@@ -1,5 +1,5 @@
 -- Blocks at their places in a page that calls nothing: each is read so by itself, whatever is in it.
-use Rattle.std.proofs.Common.{◌≡◌, ℕ, Bool, false, None, List, [], ◌∷◌, ◌++◌, map, refl, sym, ap, ◌∙◌, subst, inl}
+use Rattle.std.proofs.Common.{◌≡◌, ℕ, Bool, false, None, List, [], ◌∷◌, ◌++◌, map, refl, sym, ap, ◌∙◌, subst}
 use Rattle.std.specs.Str.{IsUtf8}
 use Rattle.std.proofs.lemmas.List.{map-append}
 use Rattle.wt_span.specs.declared.form.Mode.TheVariants.{Page}
@@ -11,11 +11,11 @@ use Rattle.wt_text_edit_laws.specs.BlockSpots.{BlockSpot, spots_source}
 use Rattle.wt_text_edit_laws.specs.Contents.{IsContentOf}
 use Rattle.wt_text_edit_laws.specs.NoCalls.{braces, NonePairs, CallsNothing}
 use Rattle.wt_text_edit_laws.specs.PageCuts.{BeginsBreak, EndsThere, EndsClosed, EndClosed, IsSpotCut, AreFurtherCuts, AreCuts}
-use Rattle.wt_text_edit_laws.specs.TextBetween.{AreEnded}
+use Rattle.wt_text_edit_laws.specs.SignParts.{IsLedTo}
 use Rattle.wt_text_edit_laws.specs.TextBlocks.{TextBlock, source_of, block_items}
 use Rattle.wt_text_edit_laws.proofs.Between.BraceWords.{pairs_behind}
 use Rattle.wt_text_edit_laws.proofs.Cuts.ItemCuts.{cut_from, page_cut, front_alone, alone_after}
-use Rattle.wt_text_edit_laws.proofs.Cuts.Utf8Cuts.{ended_utf8, there_utf8}
+use Rattle.wt_text_edit_laws.proofs.Cuts.Utf8Cuts.{led_utf8, there_utf8}
 use Rattle.wt_beside_laws.proofs.Derived.BlockContents.{block_source, there_begins, read_alone, block_read, BlockSeen, block_seen, seen_with, seen_alone, first_unbraced, calm_between}
 use Rattle.wt_called_edit_laws.specs.AnyBlocks.{open_behind_part, past_break}
 use Rattle.wt_called_edit_laws.specs.ItemSpots.{items_of_spots, placed_items}
@@ -47,8 +47,8 @@ behind_calm xs own zs c =
 
 pub spot_is : (s : BlockSpot) (rest : List ℕ) (zs : List Item) (c : IsSpotCut s zs) → page_items (s.before ++ (source_of s.block s.text ++ rest)) ≡ zs
     → IsUtf8 (s.before ++ (source_of s.block s.text ++ rest)) → CallsNothing zs → EndsClosed (source_of s.block s.text) rest
-    → AreEnded s.before → EndsThere rest → SpotIs s rest c.before c.own c.rest
-spot_is s rest zs c e u calm closed ended there =
+    → IsLedTo s.before s.block s.text → EndsThere rest → SpotIs s rest c.before c.own c.rest
+spot_is s rest zs c e u calm closed led there =
     let line : List ℕ = source_of s.block s.text in
     let whole : page_items (s.before ++ (line ++ rest)) ≡ c.before ++ (c.own ++ c.rest) = e ∙ c.is in
     let first = page_cut s.before (line ++ rest) c.before (c.own ++ c.rest) whole c.source in
@@ -59,7 +59,7 @@ spot_is s rest zs c e u calm closed ended there =
     let seen : BlockSeen (c.own ++ c.rest) = seen_with c.own c.rest (block_seen s.block s.text c.own c.block) in
     let all : page_items (line ++ rest) ≡ c.own ++ c.rest = seen_alone a (line ++ rest) (c.own ++ c.rest) seen first.behind in
     let alone = read_alone line c.own rest c.rest own_source there closed all behind in
-    let before_parts = ended_utf8 s.before (line ++ rest) ended u in
+    let before_parts = led_utf8 s.before s.block s.text (line ++ rest) led u in
     let line_parts = there_utf8 line rest there before_parts.1 in
     let read = block_read s.block s.text c.own c.block line_parts.0 alone in
     let calls : CallsNothing (c.before ++ (c.own ++ c.rest)) = subst CallsNothing c.is calm in
@@ -115,7 +115,7 @@ further_read last bs (s ∷ ss) behind zs e u calm closed h =
     let m = further_read s.block now ss behind h.0.rest r.rest_is r.rest_utf8 r.rest_calm closed.1 h.6 in
     record {
       read = (r.read, m.read);
-      cuts = (h.0, inl h.1, h.2, closed.0, m.cuts);
+      cuts = (h.0, h.1, h.2, closed.0, m.cuts);
       items = items_are s ss behind zs h.0 r m.items;
     }
 
@@ -134,6 +134,6 @@ page_read (s ∷ ss) behind u calm closed h =
     let m = further_read s.block now ss behind h.0.rest r.rest_is r.rest_utf8 r.rest_calm closed.1 h.4 in
     record {
       read = (r.read, m.read);
-      cuts = (h.0, inl h.1, closed.0, m.cuts);
+      cuts = (h.0, h.1, closed.0, m.cuts);
       items = items_are s ss behind zs h.0 r m.items;
     }

@@ -174,7 +174,7 @@ with_lead ms r = record { kind = r.kind; lead = ms ++ r.lead; items = r.items; e
 one_more : (m : Item) (zs : List Item) → is_mark m ≡ true → marks_len (m ∷ zs) ≡ suc (marks_len zs)
 one_more m zs e = rw e (omega arith)
 
-row_marks : (k : LineKind) (ms l : List Item) → AreMarks ms → whole_row k (marks_len (ms ++ l)) (ms ++ l) ≡ with_lead ms (whole_row k (marks_len l) l)
+pub row_marks : (k : LineKind) (ms l : List Item) → AreMarks ms → whole_row k (marks_len (ms ++ l)) (ms ++ l) ≡ with_lead ms (whole_row k (marks_len l) l)
 row_marks k [] l h = refl
 row_marks k (m ∷ ms) l h =
     ap (λ (n : ℕ). whole_row k n (m ∷ (ms ++ l))) (one_more m (ms ++ l) h.0) ∙ ap (with_lead (m ∷ [])) (row_marks k ms l h.1)

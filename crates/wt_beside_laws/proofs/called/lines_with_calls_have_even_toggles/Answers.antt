@@ -1,4 +1,4 @@
-use Rattle.wt_beside_laws.proofs.StyledGroups.Even.{called_even, heading_even, styled_even}
+use Rattle.wt_beside_laws.proofs.StyledGroups.Even.{called_even, heading_even, styled_even, styled_heading_even}
 use Rattle.wt_beside_laws.proofs.called.lines_with_calls_have_even_toggles.Goals as goal
 
 pub returns-clause-texts : goal.returns-clause-texts
@@ -9,3 +9,6 @@ returns-clause-headings c = heading_even
 
 pub returns-clause-styles : goal.returns-clause-styles
 returns-clause-styles c = styled_even
+
+pub returns-clause-styled_headings : goal.returns-clause-styled_headings
+returns-clause-styled_headings c = styled_heading_even
