@@ -12,7 +12,6 @@ use Rattle.wt_inline.specs.ItemTree.{ItemTree, inner, tree_items}
 use Rattle.wt_span.specs.Items.{Item, char, whole, source, call_of}
 use Rattle.wt_span.specs.Origins.{OuterCall}
 use Rattle.wt_checks.specs.Kept.{children}
-use Rattle.wt_page.specs.Body.{meaning}
 use Rattle.wt_page.proofs.FormLengths.{whole_some}
 use Rattle.wt_expand.specs.PageCalls.{expanded_page}
 use Rattle.wt_expand.specs.Work.{Pages}
