@@ -33,6 +33,7 @@ pub mod AllAlone
 pub mod CallingStarts
 pub mod OnLines
 pub mod CalmPages
+pub mod BlockBytes
 pub mod CallingBytes
 pub mod CallingTogether
 pub mod CallingCases

@@ -5,7 +5,6 @@ ghost use Rattle.std.specs.Prelude.{◌≡◌, ◌≤◌, ◌⊎◌, false, None
 ghost use Rattle.std.specs.Str.{IsUtf8};
 ghost use Rattle.wt_span.specs.Items.{Item, sources};
 ghost use Rattle.wt_span.specs.Origins.{Expanded};
-ghost use Rattle.wt_tree.specs.Source.{flat};
 ghost use Rattle.wt_tree.specs.Tree.{Tree, label};
 ghost use Rattle.wt_lines.specs.Lines.{content, full_lines};
 ghost use Rattle.wt_page.specs.Lines.{ending};
@@ -110,12 +109,12 @@ pub fn calls_except_no_block_where_there_are_none()
         → (s : StandsIn pages page t) × IsExceptedAt (full_lines (expanded_page pages page).items) (opened_len s.before) }
 {}
 
-/// Each paragraph and each heading of a page's tree that is outside of groups and has a byte, with calls in it or without, is on
+/// Each paragraph and each heading of a page's tree that is outside of groups, with calls in it or without, is on
 /// lines of the expanded page (`IsOnLines`): these stand as a block does, and where by them it may be edited with its calls
 /// (`IsLinedCalling`), it is at its path that it may be. Excepted is what `IsExceptedByLines` names.
 pub fn each_block_is_on_its_lines()
     ensures on { (pages : Pages) (page p : List ℕ) (t : Tree) → IsUtf8 page → refusal_of_page pages page ≡ None → IsReachedAt p (called_tree pages page) t
-        → IsTextBlock (label t).kind → 1 ≤ length (flat t) → IsOnLines pages page p t ⊎ IsExceptedByLines pages page t }
+        → IsTextBlock (label t).kind → IsOnLines pages page p t ⊎ IsExceptedByLines pages page t }
 {}
 
 /// So with any number of them at once: the nodes at some paths are on lines of the expanded page, one behind the other

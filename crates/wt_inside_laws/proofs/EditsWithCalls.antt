@@ -34,6 +34,7 @@ use Rattle.wt_called_edit_laws.specs.LinedAmong.{spots_on, spots_of_lines, end_o
 use Rattle.wt_called_edit_laws.specs.LinedCalling.{IsLinedCalling}
 use Rattle.wt_called_edit_laws.specs.PlacedLines.{LinedBlock, all_lines}
 use Rattle.wt_called_edit_laws.specs.ToldLines.{Told, lined}
+use Rattle.wt_called_edit_laws.specs.ToldTogether.{AreSome}
 use Rattle.wt_called_edit_laws.proofs.AllTold.CallingTogether.{lines_together}
 use Rattle.wt_called_edit_laws.proofs.Cells.CallingFrames.{content_in}
 use Rattle.wt_called_edit_laws.proofs.Headings.Pieced.{pieced_heading, pieced_heading_holds}
@@ -77,10 +78,21 @@ all_there pages page ps bs behind there (q ∷ qs) (m ∷ ms) a w e r h =
     let t : Tree = called_tree pages page in
     let at : IsAnyOf q there.taken.paths =
     unexcepted pages page m.old h.0.unexcepted
-    (there.there q m.old a.0 (w.0 m.old (first_same (node_at q t) (Some m.old) (nodes_at t qs) (olds ms) e)) (block_kind (label m.old).kind r.0.block) h.0.some) in (
+    (there.there q m.old a.0 (w.0 m.old (first_same (node_at q t) (Some m.old) (nodes_at t qs) (olds ms) e)) (block_kind (label m.old).kind r.0.block)) in (
       one_same q there.taken.paths at,
       all_there pages page ps bs behind there qs ms a.1 w.1 (rest_same (node_at q t) (Some m.old) (nodes_at t qs) (olds ms) e) r.1 h.1,
     )
+
+lines_some : (pages : Pages) (page : List ℕ) (ps : List (List ℕ)) (o : AreOnLines pages page ps) → IsUtf8 page → refusal_of_page pages page ≡ None
+    → (qs : List (List ℕ)) (ms : List Pair) → AllByRecursion (λ q. IsAnyOf q ps) qs → AllByRecursion (Reaches (called_tree pages page)) qs
+    → nodes_at (called_tree pages page) qs ≡ olds ms → AllByRecursion (IsRetyped same_node (expanded_page pages page) page) ms
+    → AllByRecursion (MayHoldCalls pages page) ms → 1 ≤ length ms → AreSome o.ts
+lines_some pages page ps o u f qs [] a w e r h le = absurd (omega (arith, le))
+lines_some pages page ps o u f [] (m ∷ ms) a w e r h le = absurd (let no = ap length e in omega (arith, no))
+lines_some pages page ps o u f (q ∷ qs) (m ∷ ms) a w e r h le =
+    let t : Tree = called_tree pages page in
+    unexcepted pages page m.old h.0.unexcepted
+    (o.some u f q m.old a.0 (w.0 m.old (first_same (node_at q t) (Some m.old) (nodes_at t qs) (olds ms) e)) (block_kind (label m.old).kind r.0.block))
 
 all_beside : (pages : Pages) (page : List ℕ) (ms : List Pair) → AllByRecursion (MayHoldCalls pages page) ms → AllByRecursion (IsBesideBlock pages page) ms
 all_beside pages page [] h = tt
@@ -126,13 +138,13 @@ all_contents pages calls es (b ∷ bs) h =
     ((c.0, r.0), (c.1, r.1))
 
 told_lined : (pages : Pages) (page : List ℕ) (ps : List (List ℕ)) (o : AreOnLines pages page ps) → IsUtf8 page → refusal_of_page pages page ≡ None
-    → (h : AreToldBlocks pages page ps o) → IsLinedCalling pages page h.bs o.behind
-told_lined pages page ps o utf8 unrefused h =
+    → AreSome o.ts → (h : AreToldBlocks pages page ps o) → IsLinedCalling pages page h.bs o.behind
+told_lined pages page ps o utf8 unrefused some h =
     let c = all_contents pages (expanded_page pages page).outer [] h.bs h.editable in
     record {
       utf8 = utf8;
       are = o.are ∙ lines_same o.ts h.bs o.behind h.on;
-      lined = o.lined_so h.some h.bs h.on;
+      lined = o.lined_so some h.bs h.on;
       here = h.here;
       contents = c.0;
       editable = c.1;
@@ -186,11 +198,13 @@ calls_told pages page new h some =
     let ps : List (List ℕ) = paths_of es in
     let e : OrdinarySent pages page new = h.sent in
     let o : AreOnLines pages page ps = lines_together pages page ps in
-    let told : AreToldBlocks pages page ps o = h.edit.told some o in
-    let all : IsLinedCalling pages page told.bs o.behind = told_lined pages page ps o h.utf8 h.unrefused told in
-    let there : TakeThere pages page ps told.bs o.behind = o.takes told.bs told.on all in
     let body = page_body pages page h.utf8 h.unrefused in
     let reach : AllByRecursion (Reaches t) ps = edits_reach t es (ap is_group body.kind) e.sent.old e.sent.outside in
+    let lines : AreSome o.ts =
+    lines_some pages page ps o h.utf8 h.unrefused ps ms (all_any ps ps (λ q i. i)) reach e.sent.at h.edit.edit.blocks h.edit.blocks some in
+    let told : AreToldBlocks pages page ps o = h.edit.told some o in
+    let all : IsLinedCalling pages page told.bs o.behind = told_lined pages page ps o h.utf8 h.unrefused lines told in
+    let there : TakeThere pages page ps told.bs o.behind = o.takes told.bs told.on all in
     record {
       bs = told.bs;
       rest = o.behind;

@@ -3,7 +3,6 @@ use Rattle.std.specs.Prelude.{◌≡◌, ◌≤◌, ◌⊎◌, ℕ, Option, None
 use Rattle.std.specs.List.{AllByRecursion}
 use Rattle.std.specs.Str.{IsUtf8}
 use Rattle.wt_span.specs.declared.limits.TheConstants.{PAGE_BYTES}
-use Rattle.wt_tree.specs.Source.{flat}
 use Rattle.wt_tree.specs.Tree.{Tree}
 use Rattle.wt_expand.specs.PageCalls.{expanded_page}
 use Rattle.wt_expand.specs.Work.{Pages}
@@ -25,7 +24,6 @@ use Rattle.wt_called_edit_laws.specs.LinedAmong.{spots_of_lines}
 use Rattle.wt_called_edit_laws.specs.LinedCalling.{AreCallingHere, AreApartFrom}
 use Rattle.wt_called_edit_laws.specs.PiecedParagraphs.{IsInPieces, IsHeadingInPieces, IsTextAndCalls, IsHeadingOfCalls}
 use Rattle.wt_called_edit_laws.specs.PlacedLines.{LinedBlock}
-use Rattle.wt_called_edit_laws.specs.ToldTogether.{AreSome}
 use Rattle.wt_inside_laws.specs.AsSent.{edits_of, paths_of}
 use Rattle.wt_inside_laws.specs.BesideEdits.{IsBesideBlock}
 use Rattle.wt_inside_laws.specs.TextEdits.{IsTextEdit}
@@ -48,7 +46,6 @@ AreTextsAndCalls pages (a_heading s) q = IsHeadingOfCalls pages s q
 -- Where nodes of the page are on these lines, they tell them, with their calls or without: they are paragraphs and headings of these sources, each by
 -- itself what it is on the page; no call that is text touches one; and each has a byte that no group of the page has.
 pub record AreToldBlocks (pages : Pages) (page : List ℕ) (paths : List (List ℕ)) (o : AreOnLines pages page paths) : Type 0 where
-  pub some : AreSome o.ts
   pub bs : List LinedBlock
   pub on : AreOnTold o.ts bs
   pub here : AreCallingHere (expanded_page pages page).outer bs
@@ -56,9 +53,8 @@ pub record AreToldBlocks (pages : Pages) (page : List ℕ) (paths : List (List �
   pub apart : AreApartFrom (expanded_page pages page).outer (expanded_page pages page).text_calls 0 [] bs
   pub free : HaveFreeBytes 0 (spots_of_lines pages page bs) (called_tree pages page)
 
--- A marked block has a byte, its lines can tell it, and it calls nothing and is ordinary, or texts may be typed beside its calls.
+-- The lines of a marked block can tell it, and it calls nothing and is ordinary, or texts may be typed beside its calls.
 pub record MayHoldCalls (pages : Pages) (page : List ℕ) (p : Pair) : Type 0 where
-  pub some : 1 ≤ length (flat p.old)
   pub unexcepted : IsExceptedByLines pages page p.old → ⊥
   pub beside : IsBesideBlock pages page p
 

@@ -1,7 +1,6 @@
 -- A block that holds calls, told by the lines of the expanded page: its path leads to the byte at which it begins.
-use Rattle.std.proofs.Common.{arith, ◌≡◌, ◌<◌, inl, ℕ, zero, suc, ◌+◌, None, List, [], ◌∷◌, ◌++◌, length, refl, sym, ap, ◌∙◌, subst, append-nil}
+use Rattle.std.proofs.Common.{arith, ◌≡◌, inl, ℕ, zero, suc, ◌+◌, None, List, [], ◌∷◌, ◌++◌, length, refl, sym, ap, ◌∙◌, subst, append-nil}
 use Rattle.wt_span.specs.Items.{Item}
-use Rattle.wt_span.specs.Origins.{OuterCall}
 use Rattle.wt_tree.specs.Source.{flat}
 use Rattle.wt_tree.specs.Tree.{Tree, tree, Trees, none, more, label}
 use Rattle.wt_inline.specs.ItemTree.{ItemTree}

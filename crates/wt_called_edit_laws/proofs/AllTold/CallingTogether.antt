@@ -1,5 +1,6 @@
 -- Any number of paragraphs and headings of a page's tree, with calls in them or without, are on lines of the expanded page, one behind the other.
 use Rattle.std.proofs.Common.{arith, ◌≡◌, ◌<◌, ◌≤◌, ◌⊎◌, inl, inr, ℕ, ◌+◌, Bool, false, None, List, [], ◌∷◌, ◌++◌, length, map, refl, sym, ap, ◌∙◌, subst}
+use Rattle.std.specs.Str.{IsUtf8}
 use Rattle.wt_span.specs.Items.{Item}
 use Rattle.wt_span.specs.Origins.{OuterCall}
 use Rattle.wt_tree.specs.Source.{flat}
@@ -14,6 +15,7 @@ use Rattle.wt_tables.specs.Parts.{joined}
 use Rattle.wt_page.specs.Lines.{kind_at}
 use Rattle.wt_page.specs.Rows.{Row, marks_len, rows_from}
 use Rattle.wt_part_laws.specs.Slots.{AllTrue}
+use Rattle.wt_commands.specs.Answers.{refusal_of_page}
 use Rattle.wt_text_edit_laws.specs.ParagraphBetween.{written_rows, tables_behind, EndApart, BeginApart}
 use Rattle.wt_text_edit_laws.specs.TextBlocks.{TextBlock, a_paragraph, a_heading, FirstApart}
 use Rattle.wt_called_edit_laws.specs.AllTold.{starts_in, text_on_a_sign, IsOneOf}
@@ -27,7 +29,8 @@ use Rattle.wt_called_edit_laws.specs.PlacedBlocks.{AreLinesAt}
 use Rattle.wt_called_edit_laws.specs.PlacedLines.{LinedBlock, all_lines, LinesApart}
 use Rattle.wt_called_edit_laws.specs.RowBlocks.{IsTextBlock, IsReachedAt, StandsIn, AreOfText, IsOfLines, of_lines, of_line, behind_a_sign, StandsOnLines}
 use Rattle.wt_called_edit_laws.specs.ToldLines.{Told, a_paragraph_of, a_heading_on, lined, IsToldAt, AreToldAfter, AreTold}
-use Rattle.wt_called_edit_laws.specs.ToldTogether.{told_starts, IsAmongNumbers}
+use Rattle.wt_called_edit_laws.specs.ToldTogether.{AreSome, told_starts, IsAmongNumbers}
+use Rattle.wt_called_edit_laws.proofs.AllTold.BlockBytes.{block_byte}
 use Rattle.wt_called_edit_laws.proofs.AllTold.CallingBytes.{block_starts, TakenAt, taken_at, calling_bytes}
 use Rattle.wt_called_edit_laws.proofs.AllTold.Chosen.{less_or}
 use Rattle.wt_called_edit_laws.proofs.AllTold.ChosenLines.{byte_at, byte_of, among_mapped}
@@ -252,15 +255,18 @@ numbers_for pages page ps = map (start_from 0 (children (called_tree pages page)
 
 there_so : (pages : Pages) (page : List ℕ) (ps : List (List ℕ)) (sc : ScanFor pages page (numbers_for pages page ps)) (bs : List LinedBlock) → AreOnTold sc.ts bs
     → IsLinedCalling pages page bs sc.behind → (a : TakenAt pages page bs sc.behind) (p : List ℕ) (t : Tree) → IsOneOf p ps → IsReachedAt p (called_tree pages page) t
-    → IsTextBlock (label t).kind → 1 ≤ length (flat t) → IsOneOf p a.taken.paths ⊎ IsExceptedByLines pages page t
-there_so pages page ps sc bs o l a [] t h e b w = absurd (body_none pages page t l.utf8 l.unrefused e b)
-there_so pages page ps sc bs o l a (i ∷ is) t h e b w = by (by_lines pages page (numbers_for pages page ps) i is t sc n s.stands s.by_lines (among_paths us (i ∷ is) ps h))
+    → IsTextBlock (label t).kind → IsOneOf p a.taken.paths ⊎ IsExceptedByLines pages page t
+there_so pages page ps sc bs o l a [] t h e b = absurd (body_none pages page t l.utf8 l.unrefused e b)
+there_so pages page ps sc bs o l a (i ∷ is) t h e b = by (by_lines pages page (numbers_for pages page ps) i is t sc n s.stands s.by_lines (among_paths us (i ∷ is) ps h))
   where
     us : Trees
     us = children (called_tree pages page)
 
     s : StandsOnLines pages page t
     s = block_on_lines pages page (i ∷ is) t l.utf8 l.unrefused e b
+
+    w : 1 ≤ length (flat t)
+    w = block_byte pages page (i ∷ is) t l.utf8 l.unrefused e b
 
     n : IsThere pages page i is t
     n = record { utf8 = l.utf8; unrefused = l.unrefused; there = below i is (called_tree pages page) t e; block = b; byte = w }
@@ -273,6 +279,28 @@ there_so pages page ps sc bs o l a (i ∷ is) t h e b w = by (by_lines pages pag
         (ap (map (page_byte pages page)) (starts_on 0 sc.ts bs o)
         ∙ calling_bytes pages page bs sc.behind l (page_joined pages page (all_lines bs sc.behind) l.are) (page_ones pages page l.utf8 l.unrefused)) m))
 
+some_lines : (f : ℕ → ℕ) (n : ℕ) (ts : List Told) → IsAmongNumbers n (map f (told_starts 0 ts)) → AreSome ts
+some_lines f n [] h = absurd h
+some_lines f n (t ∷ ts) h = tt
+
+some_so : (pages : Pages) (page : List ℕ) (ps : List (List ℕ)) (sc : ScanFor pages page (numbers_for pages page ps)) → IsUtf8 page → refusal_of_page pages page ≡ None
+    → (p : List ℕ) (t : Tree) → IsOneOf p ps → IsReachedAt p (called_tree pages page) t → IsTextBlock (label t).kind → AreSome sc.ts ⊎ IsExceptedByLines pages page t
+some_so pages page ps sc u r [] t h e b = absurd (body_none pages page t u r e b)
+some_so pages page ps sc u r (i ∷ is) t h e b = by (by_lines pages page (numbers_for pages page ps) i is t sc n s.stands s.by_lines (among_paths us (i ∷ is) ps h))
+  where
+    us : Trees
+    us = children (called_tree pages page)
+
+    s : StandsOnLines pages page t
+    s = block_on_lines pages page (i ∷ is) t u r e b
+
+    n : IsThere pages page i is t
+    n = record { utf8 = u; unrefused = r; there = below i is (called_tree pages page) t e; block = b; byte = block_byte pages page (i ∷ is) t u r e b }
+
+    by : Answer pages page (numbers_for pages page ps) i is t sc → AreSome sc.ts ⊎ IsExceptedByLines pages page t
+    by (inr x) = inr x
+    by (inl m) = inl (some_lines (page_byte pages page) (starts_in 0 i is us) sc.ts m)
+
 pub lines_together : (pages : Pages) (page : List ℕ) (ps : List (List ℕ)) → AreOnLines pages page ps
 lines_together pages page ps =
     let ls : Lines = full_lines (expanded_page pages page).items in
@@ -282,6 +310,7 @@ lines_together pages page ps =
       ts = sc.ts;
       behind = sc.behind;
       are = sc.are;
+      some = some_so pages page ps sc;
       lined_so = λ some bs o. lined_on sc.ts bs sc.behind o (are_told sc.ts sc.behind some sc.told);
       takes = λ bs o l.
           let a : TakenAt pages page bs sc.behind = taken_at pages page bs sc.behind l in

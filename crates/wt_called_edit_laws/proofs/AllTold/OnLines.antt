@@ -5,7 +5,6 @@ use Rattle.wt_span.specs.Items.{Item}
 use Rattle.wt_span.specs.Origins.{OuterCall}
 use Rattle.wt_tree.specs.declared.kind.Kind.{Kind}
 use Rattle.wt_tree.specs.declared.kind.Kind.TheVariants as kind
-use Rattle.wt_tree.specs.Source.{flat}
 use Rattle.wt_tree.specs.Tree.{Tree, label}
 use Rattle.wt_annotated.specs.Seams.{text_from}
 use Rattle.wt_inline.specs.ItemTree.{ItemTree}
@@ -33,6 +32,7 @@ use Rattle.wt_called_edit_laws.specs.PlacedBlocks.{AreLinesAt}
 use Rattle.wt_called_edit_laws.specs.PlacedLines.{LinedBlock, all_lines}
 use Rattle.wt_called_edit_laws.specs.RowBlocks.{IsTextBlock, IsReachedAt, IsReachedIn, StandsIn, node_between, text_row, AreOfText, IsOfLines, of_lines, of_line, behind_a_sign, StandsOnLines}
 use Rattle.wt_called_edit_laws.proofs.Cells.PlacedLines.{own_items, lines_joined}
+use Rattle.wt_called_edit_laws.proofs.AllTold.BlockBytes.{block_byte}
 use Rattle.wt_called_edit_laws.proofs.AllTold.CallingStarts.{taken_there}
 use Rattle.wt_called_edit_laws.proofs.AllTold.Complete.{block_in, some_past, tables_same, text_lines_at}
 use Rattle.wt_called_edit_laws.proofs.AllTold.Found.{size, size_both}
@@ -190,9 +190,9 @@ by_lines pages page i is t n s (behind_a_sign before first others behind are une
     inr (record { stands = s; by_lines = text_on_a_sign before first others behind are unended at })
 
 pub on_lines : (pages : Pages) (page p : List ℕ) (t : Tree) → IsUtf8 page → refusal_of_page pages page ≡ None → IsReachedAt p (called_tree pages page) t
-    → IsTextBlock (label t).kind → 1 ≤ length (flat t) → IsOnLines pages page p t ⊎ IsExceptedByLines pages page t
-on_lines pages page [] t u r e b h = absurd (body_none pages page t u r e b)
-on_lines pages page (i ∷ is) t u r e b h =
+    → IsTextBlock (label t).kind → IsOnLines pages page p t ⊎ IsExceptedByLines pages page t
+on_lines pages page [] t u r e b = absurd (body_none pages page t u r e b)
+on_lines pages page (i ∷ is) t u r e b =
     let s : StandsOnLines pages page t = block_on_lines pages page (i ∷ is) t u r e b in
-    let n : IsThere pages page i is t = record { utf8 = u; unrefused = r; there = below i is (called_tree pages page) t e; block = b; byte = h } in
+    let n : IsThere pages page i is t = record { utf8 = u; unrefused = r; there = below i is (called_tree pages page) t e; block = b; byte = block_byte pages page (i ∷ is) t u r e b } in
     by_lines pages page i is t n s.stands s.by_lines
