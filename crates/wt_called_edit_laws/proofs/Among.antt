@@ -8,6 +8,7 @@ pub mod Members
 pub mod OwnSeams
 pub mod TextEnds
 pub mod OwnItems
+pub mod TextsBeside
 pub mod BlockAt
 pub mod LinedParts
 pub mod FirstItems

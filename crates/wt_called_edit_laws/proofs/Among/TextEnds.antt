@@ -35,6 +35,7 @@ pub record IsTextIn (calls : List OuterCall) (o : Option ℕ) (at : ℕ) (xs : L
   pub rest : List Item
   pub ends : xs ≡ (inner ++ char None last ∷ []) ++ rest
   pub end : at + length (text_from calls o (inner ++ char None last ∷ [])) ≡ s.1
+  pub some : s.0 < s.1
 
 abbrev pub AreTextsIn : List OuterCall → Option ℕ → ℕ → List Item → List Span → Type 0
 AreTextsIn calls o at xs [] = Unit {0}
@@ -60,6 +61,7 @@ behind_one calls o at gs xs s t =
       rest = t.rest;
       ends = ap (λ (zs : List Item). gs ++ zs) t.ends ∙ sym (append_assoc gs (t.inner ++ last) t.rest) ∙ ap (λ (zs : List Item). zs ++ t.rest) (sym same);
       end = omega (arith, b, c, t.end);
+      some = t.some;
     }
 
 behind_all : (calls : List OuterCall) (o : Option ℕ) (at : ℕ) (gs xs : List Item) (ss : List Span)
@@ -78,6 +80,7 @@ front_one calls o at xs ys s t = record {
   rest = t.rest ++ ys;
   ends = ap (λ (zs : List Item). zs ++ ys) t.ends ∙ append_assoc (t.inner ++ char None t.last ∷ []) t.rest ys;
   end = t.end;
+  some = t.some;
 }
 
 front_all : (calls : List OuterCall) (o : Option ℕ) (at : ℕ) (xs ys : List Item) (ss : List Span) → AreTextsIn calls o at xs ss → AreTextsIn calls o at (xs ++ ys) ss
@@ -133,6 +136,7 @@ text_in calls o at j k n source cs inside two size first all =
       rest = [];
       ends = whole_end ∙ sym (append-nil (inner ++ char None last.1 ∷ []));
       end = omega (arith, long, all);
+      some = omega (arith, two);
     }
 
 -- and what is in it
