@@ -50,7 +50,6 @@ use Rattle.wt_called_edit_laws.specs.PlacedLines.{LinedBlock, all_lines, IsLined
 use Rattle.wt_called_edit_laws.specs.PartTexts.{AreSourcesAt}
 use Rattle.wt_called_edit_laws.proofs.Among.BlockAt.{calls_of, IsRest, IsBlockHere, text_to, block_to, block_here, beside_front, marked_text}
 use Rattle.wt_called_edit_laws.proofs.Among.OwnItems.{whole_rest}
-use Rattle.wt_called_edit_laws.proofs.Among.TextsBeside.{page_texts, all_beside}
 use Rattle.wt_called_edit_laws.proofs.Among.OwnSeams.{Rest, FirstLonger, FirstShorter, two_cuts, first_or, others, sources_size, text_size, end_behind}
 use Rattle.wt_called_edit_laws.proofs.Among.PartsApart.{members_of, AreClear, ArePartsApart, parts_apart}
 use Rattle.wt_called_edit_laws.proofs.Cells.PlacedLines.{own_items, Round, round, rows_by, leads_by, own_block, own_source, past_end, both_end, some_lines, lines_end}
