@@ -1,10 +1,10 @@
 -- No call that is text has a byte of the lines of a node of a page's tree that touches none.
-use Rattle.std.proofs.Common.{arith, ◌≡◌, ◌≤◌, ◌<◌, ℕ, ◌+◌, Bool, true, false, Option, None, List, [], ◌∷◌, ◌++◌, length, refl, sym, ap, ap₂, ◌∙◌, subst, append_assoc}
+use Rattle.std.proofs.Common.{arith, ◌≡◌, ◌≤◌, ◌<◌, ℕ, ◌+◌, Bool, true, false, Option, None, List, [], ◌∷◌, ◌++◌, length, refl, sym, ap, ap₂, ◌∙◌, subst, append_assoc, append-nil}
 use Rattle.std.specs.Prelude.{if◌then◌else◌}
 use Rattle.std.specs.List.{list_all}
 use Rattle.std.specs.Str.{IsUtf8}
 use Rattle.wt_span.specs.Bytes.{is_break}
-use Rattle.wt_span.specs.Items.{Item, char, whole, is_mark, call_of, sources}
+use Rattle.wt_span.specs.Items.{Item, char, whole, is_mark, call_of, source, sources}
 use Rattle.wt_span.specs.Origins.{OuterCall, Span, Expanded}
 use Rattle.wt_tree.specs.Tree.{Tree, label}
 use Rattle.wt_annotated.specs.Seams.{last_of, text_from}
@@ -16,9 +16,13 @@ use Rattle.wt_commands.specs.Answers.{refusal_of_page}
 use Rattle.wt_isolation.specs.TextCalls.{touches_text_call}
 use Rattle.wt_lines.specs.Lines.{content, full_lines, is_break_item}
 use Rattle.wt_page.specs.Body.{meaning}
-use Rattle.wt_page.specs.Lines.{ending}
+use Rattle.wt_lines.specs.Kinds.{line_kind}
+use Rattle.wt_lines.specs.declared.kind.LineKind.TheVariants as line
+use Rattle.wt_page.specs.Lines.{kind_at, ending}
+use Rattle.wt_called_edit_laws.proofs.Among.FirstItems.{OwnFilled, items_filled, filled_behind}
 use Rattle.wt_page.proofs.Ends.{content_ending}
 use Rattle.wt_tables.specs.Parts.{joined}
+use Rattle.wt_called_edit_laws.proofs.AllTold.ToldStarts.{blank_is}
 use Rattle.wt_called_edit_laws.specs.AllTold.{IsBesideNoCall, IsBesideTexts}
 use Rattle.wt_called_edit_laws.specs.LinedAmong.{AreOfPage, AreBeside}
 use Rattle.wt_called_edit_laws.specs.PlacedLines.{LinedBlock, all_lines}
@@ -108,3 +112,39 @@ node_texts pages page t s o rest u r are free beside mine marks at own_len some 
     let end : length (text_from calls None (((fs ++ ms) ++ cs) ++ es)) ≡ length (text_from calls None fs) + length (sources (ms ++ own)) =
     omega (arith, c, d, f, g, h, i, j, k) in
     subst (λ (n : ℕ). AreBeside (length (text_from calls None fs)) n e.text_calls) end lines
+
+-- ---- its content has bytes
+
+some_content : (n : ℕ) (first : List Item) (ls : Lines) → 1 ≤ length first → (kind_at n first ≡ line.Blank → ⊥) → 1 ≤ length (content (joined (first ∷ ls)))
+some_content n [] ls some shown = absurd (omega (arith, some))
+some_content n (x ∷ []) ls some shown = by (joined ls) (is_break_item x) refl
+  where
+    by : (ys : List Item) (v : Bool) → is_break_item x ≡ v → 1 ≤ length (content (x ∷ ys))
+    by [] true e = absurd (shown (ap (λ (v : Bool). line_kind n (if v then [] else x ∷ [])) e ∙ blank_is n))
+    by [] false e = let z = ap (λ (v : Bool). length (if v then [] else x ∷ [])) e in omega (arith, z)
+    by (y ∷ ys) v e = omega arith
+some_content n (x ∷ y ∷ zs) ls some shown = omega arith
+
+first_bytes : (xs : List Item) → 1 ≤ length xs → AllFrom None xs → (rest : List Item) → OwnFilled (xs ++ rest) → 1 ≤ length (sources xs)
+first_bytes [] some mine rest f = absurd (omega (arith, some))
+first_bytes (x ∷ xs) some mine rest f =
+    let n = f.0 mine.0 in
+    let e = sources_size (x ∷ []) xs in
+    let g = sources_size [] (x ∷ []) in
+    let h = ap length (append-nil (source x)) in
+    omega (arith, n, e, h)
+
+pub content_bytes : (pages : Pages) (page : List ℕ) (o : Told) (rest : Lines) (n : ℕ) → full_lines (expanded_page pages page).items ≡ all_lines (lined o ∷ []) rest
+    → 1 ≤ length (lined o).first → (kind_at n (lined o).first ≡ line.Blank → ⊥) → AllFrom None (content (own_items (lined o)))
+    → 1 ≤ length (sources (content (own_items (lined o))))
+content_bytes pages page o rest n are some shown mine =
+    let b : LinedBlock = lined o in
+    let own : List Item = own_items b in
+    let front : List Item = joined b.before ++ b.marks in
+    let tail : List Item = ending own ++ joined rest in
+    let all : (expanded_page pages page).items ≡ front ++ (content own ++ tail) =
+    page_joined pages page (all_lines (b ∷ []) rest) are ∙ lines_joined b rest
+    ∙ ap (λ (xs : List Item). front ++ xs)
+    (ap (λ (xs : List Item). xs ++ joined rest) (sym (content_ending own)) ∙ append_assoc (content own) (ending own) (joined rest)) in
+    first_bytes (content own) (some_content n b.first b.more some shown) mine tail
+    (filled_behind front (content own ++ tail) (subst OwnFilled all (items_filled pages page)))
