@@ -28,6 +28,7 @@ pub mod OwnLines
 pub mod Alone
 pub mod OneNode
 pub mod ClosedBlocks
+pub mod NodeTexts
 pub mod Complete
 pub mod AllAlone
 pub mod CallingStarts

@@ -2,10 +2,13 @@
 pub mod Crossed
 pub mod LeftCalm
 pub mod PartsApart
+pub mod OpenRuns
 pub mod Flattened
 pub mod Members
 pub mod OwnSeams
+pub mod TextEnds
 pub mod OwnItems
+pub mod TextsBeside
 pub mod BlockAt
 pub mod LinedParts
 pub mod FirstItems

@@ -61,16 +61,13 @@ IsBesideTexts e front t =
     AreBeside from (from + length (sources ((lined t).marks ++ joined ((lined t).first ∷ (lined t).more)))) e.text_calls
 
 -- So of an expanded page: one of these by its lines; or a block for which a call gives the line break before or behind it, or which has one on its line
--- that gives nothing; or in which a function is kept; or of whose lines a call that is text has a byte, or that has two braces that open before two that
--- close (no page may have one of the last two, unproved).
+-- that gives nothing; or in which a function is kept; or that has two braces that open before two that close (no page may have one of these, unproved).
 pub data IsExceptedIn (e : Expanded) (at : ℕ) : Type 0 where
   by_its_lines : IsExceptedAt (full_lines e.items) at → IsExceptedIn e at
   beside_a_call : (t : Told) (behind : List (List Item)) → full_lines e.items ≡ all_lines (lined t ∷ []) behind → AreTold (t ∷ []) behind → at ≡ start_of 0 t
       → (IsBesideNoCall (joined (lined t).before) t → ⊥) → IsExceptedIn e at
   holds_a_function : (t : Told) (behind : List (List Item)) → full_lines e.items ≡ all_lines (lined t ∷ []) behind → AreTold (t ∷ []) behind → at ≡ start_of 0 t
       → (AreNoFunctions (content (joined ((lined t).first ∷ (lined t).more))) → ⊥) → IsExceptedIn e at
-  beside_a_text : (t : Told) (behind : List (List Item)) → full_lines e.items ≡ all_lines (lined t ∷ []) behind → AreTold (t ∷ []) behind → at ≡ start_of 0 t
-      → (IsBesideTexts e (joined (lined t).before) t → ⊥) → IsExceptedIn e at
   holds_a_pair : (t : Told) (behind : List (List Item)) → full_lines e.items ≡ all_lines (lined t ∷ []) behind → AreTold (t ∷ []) behind → at ≡ start_of 0 t
       → (CallsNothing (content (joined ((lined t).first ∷ (lined t).more))) → ⊥) → IsExceptedIn e at
 

@@ -1,7 +1,7 @@
 -- Each paragraph and heading of a page's tree, outside of groups, that holds no group and isn't tangled is one of those that the lines of the expanded page
 -- tell, or one of the excepted.
 use Rattle.std.proofs.Common.{arith, ◌≡◌, ◌≤◌, ◌⊎◌, inl, inr, ℕ, zero, suc, ◌+◌, Bool, true, false, None, List, [], ◌∷◌, ◌++◌, length, drop, map, refl, sym, ap, ◌∙◌, subst, append-nil, cond}
-use Rattle.std.specs.Prelude.{◌&&◌}
+use Rattle.std.specs.Prelude.{◌&&◌, ◌||◌}
 use Rattle.std.specs.Str.{IsUtf8}
 use Rattle.std.specs.List.{list_all}
 use Rattle.wt_span.specs.Items.{Item, char, whole, is_mark, sign, sources}
@@ -26,9 +26,12 @@ use Rattle.wt_page.specs.Texts.{para}
 use Rattle.wt_page_round_trip.proofs.OpenedPages.{AreOnes}
 use Rattle.wt_part_laws.specs.Frames.{content as content_part}
 use Rattle.wt_part_laws.specs.Slots.{AllTrue}
+use Rattle.wt_isolation.specs.OpenTags.{before, touches_open_tag}
+use Rattle.wt_isolation.specs.TextCalls.{touches_text_call}
 use Rattle.wt_selser.specs.Edits.{is_tangled}
+use Rattle.wt_selser.specs.GroupFaults.{has_faulty_group}
 use Rattle.wt_text_edit_laws.specs.BlockSpots.{BlockSpot, spots_source}
-use Rattle.wt_called_edit_laws.specs.AllTold.{starts_in, text_on_a_sign, by_its_lines, beside_a_call, IsExcepted, IsOneOf, AllBlocksTold, IsBesideNoCall, AreNoFunctions, IsBesideTexts, holds_a_function, beside_a_text, holds_a_pair}
+use Rattle.wt_called_edit_laws.specs.AllTold.{starts_in, text_on_a_sign, by_its_lines, beside_a_call, IsExcepted, IsOneOf, AllBlocksTold, IsBesideNoCall, AreNoFunctions, IsBesideTexts, holds_a_function, holds_a_pair}
 use Rattle.wt_text_edit_laws.proofs.Cuts.RowLines.{AllText}
 use Rattle.wt_text_edit_laws.proofs.Cuts.TextLines.{led_first, content_unled}
 use Rattle.wt_text_edit_laws.proofs.Paragraphs.Marks.{mark_sign, AreMarkSigns, kind_marks}
@@ -65,7 +68,7 @@ use Rattle.wt_called_edit_laws.proofs.EditFacts.{IsFramedPage, framed_page, path
 use Rattle.wt_called_edit_laws.proofs.GroupsAmong.{retyped_self}
 use Rattle.wt_called_edit_laws.proofs.PathsSend.{NoneEmpty, paths_full}
 use Rattle.wt_called_edit_laws.proofs.AllTold.Alone.{IsAloneTold}
-use Rattle.wt_called_edit_laws.proofs.AllTold.Chosen.{IsOwnBehind, beside_call_decided, functions_decided, texts_decided, calm_decided, own_behind}
+use Rattle.wt_called_edit_laws.proofs.AllTold.Chosen.{IsOwnBehind, beside_call_decided, functions_decided, calm_decided, own_behind}
 use Rattle.wt_called_edit_laws.proofs.AllTold.ChosenLines.{byte_at, among_mapped, starts_so, ones_front, ones_behind}
 use Rattle.wt_called_edit_laws.proofs.AllTold.ClosedBlocks.{own_closed, own_reaches}
 use Rattle.wt_called_edit_laws.proofs.AllTold.ClosedLines.{NoneBlank, unclosed_by, AllPast, heading_size, para_size}
@@ -76,6 +79,7 @@ use Rattle.wt_called_edit_laws.proofs.AllTold.HeadSigns.{head_begins}
 use Rattle.wt_called_edit_laws.proofs.AllTold.LineBlocks.{block_on_lines}
 use Rattle.wt_called_edit_laws.proofs.AllTold.LineKinds.{Lines, led_by, past_marks, led_whole, led_marks, kind_led}
 use Rattle.wt_called_edit_laws.proofs.AllTold.OneNode.{IsNodeAt, own_tree, IsKnownNode, known_node, page_ones, page_joined}
+use Rattle.wt_called_edit_laws.proofs.AllTold.NodeTexts.{node_texts, content_bytes}
 use Rattle.wt_called_edit_laws.proofs.AllTold.OwnLines.{AreSeen, text_own_lines, heading_own_lines}
 use Rattle.wt_called_edit_laws.proofs.AllTold.OwnTrees.{OwnRound, paragraph_is, heading_is}
 use Rattle.wt_called_edit_laws.proofs.AllTold.PlaceStarts.{starts_from, spot_starts, paths_start, AllClear, clear_paths, AllHaveBytes, contents_some, LeadsThere, leads, leads_there}
@@ -269,12 +273,21 @@ record HasLines (b : LinedBlock) (rest : Lines) (u : ItemTree) : Type 0 where
   size_is : tree_size u + size (ending (own_items b)) ≡ size (own_items b)
   tree_so : OwnRound b rest → u ≡ block_tree b.block b.text
 
+or_first : (u v : Bool) → (u || v) ≡ false → u ≡ false
+or_first true v e = absurd (cc)
+or_first false v e = refl
+
+-- a node that isn't tangled touches no call that is text
+untouched_tree : (e : Expanded) (page : List ℕ) (t : Tree) → is_tangled e page t ≡ false → touches_text_call e.text_calls (label t).ranges ≡ false
+untouched_tree e page (tree l ts) h =
+    or_first (touches_text_call e.text_calls l.ranges) (touches_open_tag (before page l.ranges) (tree l ts) || has_faulty_group e ts) h
+
 -- where its lines are the page's own, or not
 by_place : (pages : Pages) (page : List ℕ) (i : ℕ) (is : List ℕ) (t : Tree) (n : IsNodeAt pages page i is t) (a : AreAllChosen pages page) (s : StandsIn pages page t) (o : Told)
     (rest : Lines) → full_lines (expanded_page pages page).items ≡ all_lines (lined o ∷ []) rest → AreTold (o ∷ []) rest
     → HasLines (lined o) rest s.block → size s.before ≡ start_of 0 o → AllFrom None (content (own_items (lined o))) → Answer pages page i is t a n.utf8 n.unrefused
 by_place pages page i is t n a s o rest are told l at own =
-    by (beside_call_decided front o) (functions_decided line) (texts_decided e front o) (calm_decided line)
+    by (beside_call_decided front o) (functions_decided line) (calm_decided line)
   where
     e : Expanded
     e = expanded_page pages page
@@ -285,13 +298,16 @@ by_place pages page i is t n a s o rest are told l at own =
     line : List Item
     line = content (own_items (lined o))
 
-    by : Decided (IsBesideNoCall front o) → Decided (AreNoFunctions line) → Decided (IsBesideTexts e front o) → Decided (CallsNothing line)
+    by : Decided (IsBesideNoCall front o) → Decided (AreNoFunctions line) → Decided (CallsNothing line)
         → Answer pages page i is t a n.utf8 n.unrefused
-    by (inr f) b c d = inr (record { stands = s; begins_so = beside_a_call o rest are told at f })
-    by (inl x) (inr f) c d = inr (record { stands = s; begins_so = holds_a_function o rest are told at f })
-    by (inl x) (inl y) (inr f) d = inr (record { stands = s; begins_so = beside_a_text o rest are told at f })
-    by (inl x) (inl y) (inl z) (inr f) = inr (record { stands = s; begins_so = holds_a_pair o rest are told at f })
-    by (inl x) (inl y) (inl z) (inl w) =
+    by (inr f) b c = inr (record { stands = s; begins_so = beside_a_call o rest are told at f })
+    by (inl x) (inr f) c = inr (record { stands = s; begins_so = holds_a_function o rest are told at f })
+    by (inl x) (inl y) (inr f) = inr (record { stands = s; begins_so = holds_a_pair o rest are told at f })
+    by (inl x) (inl y) (inl w) =
+        let free : touches_text_call e.text_calls (label t).ranges ≡ false = untouched_tree e page t n.untangled in
+        let z : IsBesideTexts e front o =
+        node_texts pages page t s o rest n.utf8 n.unrefused are free x own told.0.are_marks at l.size_is
+        (content_bytes pages page o rest l.number are l.some l.shown.0 own) in
         let p : IsOwnBehind e front o = own_behind e front o own x y w z in
         let closed : EndClosed (spots_of_lines pages page (map lined (o ∷ []))) (end_of_lines pages page (map lined (o ∷ [])) rest) =
         own_closed pages page o rest l.number are p l.some l.seen l.shown (l.source (of_behind (lined o).marks (own_items (lined o)) p.own))

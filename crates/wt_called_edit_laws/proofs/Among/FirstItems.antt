@@ -1,11 +1,11 @@
 -- Each item of what a part of a page gives, or its call, has bytes on the page, wherever its calls are counted among those of the page.
-use Rattle.std.proofs.Common.{arith, ◌≡◌, ℕ, suc, ◌+◌, ◌-◌, ◌≤◌, Bool, true, false, Option, Some, None, List, [], ◌∷◌, ◌++◌, length, map, take, drop, refl, ap, length-take, length-drop}
+use Rattle.std.proofs.Common.{arith, ◌≡◌, ℕ, suc, ◌+◌, ◌-◌, ◌≤◌, Bool, true, false, Option, Some, None, List, [], ◌∷◌, ◌++◌, length, map, take, drop, refl, sym, ap, ◌∙◌, subst, length-take, length-drop}
 use Rattle.std.specs.Prelude.{slice_index, slice_get}
 use Rattle.wt_span.specs.declared.form.ItemForm.{ItemForm}
 use Rattle.wt_span.specs.declared.form.ItemForm.TheVariants as form
 use Rattle.wt_span.specs.declared.form.Mode.TheVariants as mode
 use Rattle.wt_span.specs.Bytes.{is_break}
-use Rattle.wt_span.specs.Items.{Item, whole, source, items_by}
+use Rattle.wt_span.specs.Items.{Item, whole, source, items_by, call_of}
 use Rattle.wt_span.specs.Lexemes.{words}
 use Rattle.wt_span.specs.Origins.{OuterCall}
 use Rattle.wt_span.specs.Cuts.{source_of_call}
@@ -106,6 +106,41 @@ unfolding page_stretches text_members
 page_filled pages bs =
     let t = text_bytes mode.Page bs in
     all_filled pages 0 true bs (members (reduced (words mode.Page bs))) (full_members (reduced (words mode.Page bs)) (full_text mode.Page bs)) (omega (arith, t))
+
+-- so each item of an expanded page that comes from no call has bytes
+abbrev pub OwnFilled : List Item → Type 0
+OwnFilled [] = Unit {0}
+OwnFilled (x ∷ xs) = (call_of x ≡ None → 1 ≤ length (source x)) × OwnFilled xs
+
+own_append : (xs ys : List Item) → OwnFilled xs → OwnFilled ys → OwnFilled (xs ++ ys)
+own_append [] ys f g = g
+own_append (x ∷ xs) ys f g = (f.0, own_append xs ys f.1 g)
+
+own_filled : (xs : List Item) → AllFilled xs → OwnFilled xs
+own_filled [] f = tt
+own_filled (x ∷ xs) f = ((λ e. f.0), own_filled xs f.1)
+
+from_filled : (k : ℕ) (xs : List Item) → AllFrom (Some k) xs → OwnFilled xs
+from_filled k [] h = tt
+from_filled k (x ∷ xs) h = ((λ e. let no : Some k ≡ None = sym h.0 ∙ e in absurd (cc)), from_filled k xs h.1)
+
+outer_filled : (k : ℕ) (c : OuterCall) (xs : List Item) → OwnFilled (outer_items k c xs)
+outer_filled k c [] = ((λ e. absurd (cc)), tt)
+outer_filled k c (x ∷ xs) = from_filled k (outer_items k c (x ∷ xs)) (called_from k (x ∷ xs))
+
+numbered_filled : (k : ℕ) (ss : List Stretch) → AreFilled ss → OwnFilled (numbered k ss)
+numbered_filled k [] f = tt
+numbered_filled k (own xs ∷ ss) f = own_append xs (numbered k ss) (own_filled xs f.0) (numbered_filled k ss f.1)
+numbered_filled k (outer c xs ∷ ss) f = own_append (outer_items k c xs) (numbered (suc k) ss) (outer_filled k c xs) (numbered_filled (suc k) ss f.1)
+numbered_filled k (text_call t ∷ ss) f = numbered_filled k ss f
+
+pub items_filled : (pages : Pages) (bs : List ℕ) → OwnFilled (expanded_page pages bs).items
+unfolding expanded_page
+items_filled pages bs = numbered_filled 0 (page_stretches pages bs) (page_filled pages bs)
+
+pub filled_behind : (xs ys : List Item) → OwnFilled (xs ++ ys) → OwnFilled ys
+filled_behind [] ys h = h
+filled_behind (x ∷ xs) ys h = filled_behind xs ys h.1
 
 -- ---- so each item has some behind the page's own
 

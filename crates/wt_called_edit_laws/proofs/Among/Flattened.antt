@@ -1,5 +1,5 @@
 -- The items of a page, where calls are characters, are those of its members: of a call its braces, and what is between them.
-use Rattle.std.proofs.Common.{arith, ◌≡◌, ℕ, zero, suc, ◌+◌, ◌-◌, ◌≤◌, Bool, true, false, None, List, [], ◌∷◌, ◌++◌, map, take, drop, refl, sym, ap, ap₂, ◌∙◌, append_assoc, append-nil}
+use Rattle.std.proofs.Common.{arith, ◌≡◌, ℕ, zero, suc, ◌+◌, ◌-◌, ◌≤◌, Bool, true, false, None, List, [], ◌∷◌, ◌++◌, map, take, drop, refl, sym, ap, ap₂, ◌∙◌, subst, append_assoc, append-nil}
 use Rattle.std.specs.Prelude.{◌==◌, if◌then◌else◌}
 use Rattle.std.proofs.lemmas.Bool.Decides.{nat_tests}
 use Rattle.std.proofs.lemmas.List.{drop-drop, map-append}
@@ -15,6 +15,7 @@ use Rattle.wt_braces.specs.Words.{total_width}
 use Rattle.wt_braces.proofs.Reached.{one_end, lexemes_have_braces}
 use Rattle.wt_braces.proofs.Takings.{taking}
 use Rattle.wt_expand.specs.PageItems.{items_of_word, items_of_words, page_items}
+use Rattle.wt_called_edit_laws.proofs.Among.OpenRuns.{AreOpened, drop_none, opened_split, opened_join, run_opened, words_opened}
 use Rattle.wt_called_edit_laws.proofs.Among.PartsApart.{members_of}
 
 -- ---- the lexemes of members
@@ -45,10 +46,6 @@ flat_lexemes (w ∷ ws) = ap (λ us. w ∷ us) (flat_lexemes ws)
 
 -- ---- the items of lexemes
 
-drop_none : (bs : List ℕ) → drop 0 bs ≡ bs
-drop_none [] = refl
-drop_none (b ∷ bs) = refl
-
 take_none : (bs : List ℕ) → take 0 bs ≡ []
 take_none [] = refl
 take_none (b ∷ bs) = refl
@@ -64,25 +61,28 @@ pub width_append : (us vs : List Word) → total_width (us ++ vs) ≡ total_widt
 width_append [] vs = omega arith
 width_append (u ∷ us) vs = let e = width_append us vs in omega (arith, e)
 
--- lexemes that take the same bytes and have the same items
+-- lexemes that take the same bytes and have the same items; where what opens calls is braces in those, so it is in these
 record AreSame (us vs : List Word) : Type 0 where
   width : total_width us ≡ total_width vs
   items : (bs : List ℕ) → items_of_words us bs ≡ items_of_words vs bs
+  opens : (bs : List ℕ) → AreOpened us bs → AreOpened vs bs
 
 same_so : (us vs : List Word) → us ≡ vs → AreSame us vs
-same_so us vs e = record { width = ap total_width e; items = λ bs. ap (λ (ws : List Word). items_of_words ws bs) e }
+same_so us vs e = record {
+  width = ap total_width e;
+  items = λ bs. ap (λ (ws : List Word). items_of_words ws bs) e;
+  opens = λ bs h. subst (λ (ws : List Word). AreOpened ws bs) e h;
+}
 
 same_both : (us vs ws : List Word) → AreSame us vs → AreSame vs ws → AreSame us ws
-same_both us vs ws f g = record { width = f.width ∙ g.width; items = λ bs. f.items bs ∙ g.items bs }
-
-same_back : (us vs : List Word) → AreSame us vs → AreSame vs us
-same_back us vs f = record { width = sym f.width; items = λ bs. sym (f.items bs) }
+same_both us vs ws f g = record { width = f.width ∙ g.width; items = λ bs. f.items bs ∙ g.items bs; opens = λ bs h. g.opens bs (f.opens bs h) }
 
 same_front : (xs us vs : List Word) → AreSame us vs → AreSame (xs ++ us) (xs ++ vs)
 same_front xs us vs f = record {
   width = width_append xs us ∙ ap (λ (n : ℕ). total_width xs + n) f.width ∙ sym (width_append xs vs);
   items = λ bs.
       items_append xs us bs ∙ ap (λ is. items_of_words xs bs ++ is) (f.items (drop (total_width xs) bs)) ∙ sym (items_append xs vs bs);
+  opens = λ bs h. let r = opened_split xs us bs h in opened_join xs vs bs r.0 (f.opens (drop (total_width xs) bs) r.1);
 }
 
 same_behind : (us vs zs : List Word) → AreSame us vs → AreSame (us ++ zs) (vs ++ zs)
@@ -92,6 +92,8 @@ same_behind us vs zs f = record {
       items_append us zs bs
       ∙ ap₂ (λ (is : List Item) (n : ℕ). is ++ items_of_words zs (drop n bs)) (f.items bs) f.width
       ∙ sym (items_append vs zs bs);
+  opens = λ bs h.
+      let r = opened_split us zs bs h in opened_join vs zs bs (f.opens bs r.0) (subst (λ (n : ℕ). AreOpened zs (drop n bs)) f.width r.1);
 }
 
 -- ---- runs of braces in two
@@ -109,6 +111,7 @@ run_split kind n i j r e = record {
       ∙ map-append (char None) (take i bs) (take j (drop i bs))
       ∙ ap₂ (λ (xs ys : List Item). xs ++ ys) (sym (r (take i bs))) (sym (r (take j (drop i bs)))))
       ∙ append_assoc (items_of_word kind (take i bs)) (items_of_word kind (take j (drop i bs))) [];
+  opens = λ bs h. run_opened kind n i j bs e h;
 }
 
 -- one of no braces is none
@@ -123,6 +126,7 @@ left_same kind n r = by (n == 0) refl
           items = λ bs.
               ap (λ (k : ℕ). items_of_word kind (take k bs) ++ []) z ∙ append-nil (items_of_word kind (take 0 bs))
               ∙ ap (items_of_word kind) (take_none bs) ∙ r [];
+          opens = λ bs h. tt;
         }
     by false e = same_so ((kind, n) ∷ []) ((kind, n) ∷ []) refl
 
@@ -208,10 +212,16 @@ steps_same (suc n) from to s =
 
 -- ---- the page
 
-pub page_members : (page : List ℕ) → page_items page ≡ items_of_words (flat_all (members_of page)) page
-unfolding page_items
-page_members page =
+page_same : (page : List ℕ) → AreSame (flat_list (as_members (words Page page))) (flat_list (reduced (words Page page)))
+page_same page =
     let ws : List Word = words Page page in
     let end = one_end ws (lexemes_have_braces Page page) in
-    let same : AreSame (flat_list (as_members ws)) (flat_list (reduced ws)) = steps_same end.count (as_members ws) (reduced ws) end.steps in
-    ap (λ (us : List Word). items_of_words us page) (sym (flat_lexemes ws)) ∙ same.items page
+    steps_same end.count (as_members ws) (reduced ws) end.steps
+
+pub page_members : (page : List ℕ) → page_items page ≡ items_of_words (flat_all (members_of page)) page
+unfolding page_items
+page_members page = ap (λ (us : List Word). items_of_words us page) (sym (flat_lexemes (words Page page))) ∙ (page_same page).items page
+
+-- what opens its calls is braces
+pub page_opened : (page : List ℕ) → AreOpened (flat_all (members_of page)) page
+page_opened page = (page_same page).opens page (subst (λ (us : List Word). AreOpened us page) (sym (flat_lexemes (words Page page))) (words_opened page))

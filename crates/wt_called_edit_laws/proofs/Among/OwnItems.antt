@@ -308,7 +308,7 @@ pub full_members : (xs : List Member) → AllFull xs → AreFull (members xs)
 full_members [] f = tt
 full_members (x ∷ xs) f = (f.0, full_members xs f.1)
 
-page_at : (pages : Pages) (bs : List ℕ) → AreAt pages (outer_calls (stretches pages 0 true bs (members_of bs))) 0 0 true bs (members_of bs)
+pub page_at : (pages : Pages) (bs : List ℕ) → AreAt pages (outer_calls (stretches pages 0 true bs (members_of bs))) 0 0 true bs (members_of bs)
 page_at pages bs =
     let cs : List OuterCall = outer_calls (stretches pages 0 true bs (members_of bs)) in
     let t = text_bytes mode.Page bs in

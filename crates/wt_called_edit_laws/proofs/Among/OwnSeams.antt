@@ -129,11 +129,11 @@ pub some_bytes : (xs : List ℕ) → 1 ≤ length xs → (b : ℕ) × (bs : List
 some_bytes [] h = absurd (omega (arith, h))
 some_bytes (b ∷ bs) h = (b, bs, refl)
 
-last_bytes : (b : ℕ) (bs : List ℕ) → (cs : List ℕ) × (c : ℕ) × (b ∷ bs ≡ cs ++ c ∷ [])
+pub last_bytes : (b : ℕ) (bs : List ℕ) → (cs : List ℕ) × (c : ℕ) × (b ∷ bs ≡ cs ++ c ∷ [])
 last_bytes b [] = ([], b, refl)
 last_bytes b (d ∷ bs) = let r = last_bytes d bs in (b ∷ r.0, r.1, ap (λ (zs : List ℕ). b ∷ zs) r.2)
 
-chars_both : (xs ys : List ℕ) → chars (xs ++ ys) ≡ chars xs ++ chars ys
+pub chars_both : (xs ys : List ℕ) → chars (xs ++ ys) ≡ chars xs ++ chars ys
 chars_both [] ys = refl
 chars_both (x ∷ xs) ys = ap (λ zs. char None x ∷ zs) (chars_both xs ys)
 
@@ -412,7 +412,7 @@ pub at_lexeme : (pages : Pages) (calls : List OuterCall) (k at : ℕ) (start : B
 at_lexeme pages calls k at start bs kind n ms a =
     let d = length-drop n bs in record { full = a.full.1; long = omega (arith, a.long, d); named = a.named }
 
-at_next : (pages : Pages) (calls : List OuterCall) (k at : ℕ) (start : Bool) (bs : List ℕ) (m : Member) (ms : Members)
+pub at_next : (pages : Pages) (calls : List OuterCall) (k at : ℕ) (start : Bool) (bs : List ℕ) (m : Member) (ms : Members)
     → AreAt pages calls k at start bs (more m ms)
     → AreAt pages calls (k + length (outer_calls (member_stretches pages at start bs m))) (at + width m) (is_break (slice_index bs (width m - 1))) (drop (width m) bs) ms
 at_next pages calls k at start bs m ms a =
@@ -422,7 +422,7 @@ at_next pages calls k at start bs m ms a =
     let d = length-drop (width m) bs in
     record { full = a.full.1; long = omega (arith, a.long, d); named = n.1 }
 
-named_first : (pages : Pages) (calls : List OuterCall) (k at : ℕ) (start : Bool) (bs : List ℕ) (m : Member) (ms : Members)
+pub named_first : (pages : Pages) (calls : List OuterCall) (k at : ℕ) (start : Bool) (bs : List ℕ) (m : Member) (ms : Members)
     → AreAt pages calls k at start bs (more m ms) → AreSourcesAt calls k (outer_calls (member_stretches pages at start bs m))
 named_first pages calls k at start bs m ms a =
     let first : List Stretch = member_stretches pages at start bs m in
