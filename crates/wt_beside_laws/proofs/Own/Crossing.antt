@@ -670,6 +670,7 @@ reference_before : (b : ℕ) (q rest : List ℕ) → BeginsUnjoined rest → Ent
 reference_before b q rest u =
     by (entity_at (b ∷ (q ++ rest))) (entity_within (suc (length q)) (b ∷ (q ++ rest)) (omega arith) (ap is_reference_byte behind ∙ first.0)) (reference_ends (b ∷ (q ++ rest)))
   where
+    first : (is_reference_byte (get_or rest 0 0) ≡ false) × (get_or rest 0 0 ≢ 59)
     first = unjoined_first rest u
 
     behind : get_or (b ∷ (q ++ rest)) (suc (length q)) 0 ≡ get_or rest 0 0

@@ -92,8 +92,8 @@ begins_so : (pages : Pages) (s : Setting) (t : StyledContent) → IsStyledWritte
 begins_so pages s t h =
     let signs : List ContentSign = signs_in t in
     let f : IsFirmlyRead (spelled s signs) = called_firm s signs h.of_block (all_read pages signs h.each) in
-    stands_begins (spelled s signs) (subst StandsBehind (append-nil (spelled s signs)) (f.uncommented [] nothing_stands tt))
-    (f.uncommented (10 ∷ []) break_stands refl) (ended_so pages s t h)
+    stands_begins (spelled s signs) (subst StandsBehind (append-nil (spelled s signs)) (f.uncommented [] nothing_stands tt tt))
+    (f.uncommented (10 ∷ []) break_stands refl refl) (ended_so pages s t h)
     (subst (λ (xs : List Item). begins_shown xs ≡ true) (sym (called_alone s signs h.of_block (all_read pages signs h.each)))
     (first_shown s t h.of_block h.characters (all_read pages signs h.each) h.some))
 
