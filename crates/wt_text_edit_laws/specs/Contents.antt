@@ -25,7 +25,7 @@ use Rattle.wt_part_laws.specs.Rounded.{AllHaveItems}
 use Rattle.wt_text_edit_laws.specs.NoCalls.{AreUnpaired}
 use Rattle.wt_text_edit_laws.specs.ParagraphParts.{joined_parts}
 use Rattle.wt_text_edit_laws.specs.Paragraphs.{IsSeenLine}
-use Rattle.wt_text_edit_laws.specs.ReadContents.{BeginsUnclosed, IsFirmlyRead}
+use Rattle.wt_text_edit_laws.specs.ReadContents.{BeginsUnclosed, BeginsUnjoined, IsFirmlyRead}
 use Rattle.wt_text_edit_laws.specs.TextBetween.{StandsBehind, LineEnds}
 use Rattle.wt_text_edit_laws.specs.TextBlocks.{TextBlock, a_paragraph, a_heading, source_of, block_items, block_tree, IsFrame}
 use Rattle.wt_text_edit_laws.specs.TypedHeadings.{Sides, IsInside, IsOfLevel}
@@ -75,12 +75,12 @@ abbrev pub StaysAnywhere : TextBlock → List ℕ → Type 0
 StaysAnywhere a_paragraph q = (n : ℕ) → All (λ l. line_kind n l ≡ line.Text) (lines (page_items q))
 StaysAnywhere (a_heading s) q = Unit {0}
 
--- It is read the same whatever stands behind it, nothing begins in it that goes on there, and no two braces are side by side in it, outside of its
+-- It is read the same whatever stands behind it but what a reference goes on with, nothing begins in it that goes on there, and no two braces are side by side in it, outside of its
 -- lexemes; nor does it begin with a `}`. So is a text that was typed and spelled.
 pub record IsFirmContent (k : TextBlock) (q : List ℕ) : Type 0 where
   pub content : IsContent k q
-  pub firm : (rest : List ℕ) → StandsBehind rest → page_items (q ++ rest) ≡ page_items q ++ page_items rest
-  pub uncommented : (rest : List ℕ) → StandsBehind rest → StandsBehind (q ++ rest)
+  pub firm : (rest : List ℕ) → StandsBehind rest → BeginsUnjoined rest → page_items (q ++ rest) ≡ page_items q ++ page_items rest
+  pub uncommented : (rest : List ℕ) → StandsBehind rest → BeginsUnjoined rest → StandsBehind (q ++ rest)
   pub stays : StaysAnywhere k q
   pub unpaired : AreUnpaired (page_items q)
   pub unclosed : BeginsUnclosed q

@@ -1,5 +1,6 @@
 -- The content of a paragraph or a heading, whatever it calls: how its lexemes are read, by itself and before what follows.
 use Rattle.std.specs.Prelude.{◌≡◌, ◌==◌, ◌||◌, ℕ, not, Bool, true, false, None, List, [], ◌∷◌, ◌++◌, if◌then◌else◌}
+use Rattle.std.specs.Char.{is_ascii_alphanumeric}
 use Rattle.std.specs.Str.{IsUtf8}
 use Rattle.wt_span.specs.Bytes.{is_blank}
 use Rattle.wt_span.specs.Characters as byte
@@ -46,11 +47,20 @@ abbrev pub BeginsUnclosed : List ℕ → Type 0
 BeginsUnclosed [] = Unit {0}
 BeginsUnclosed (b ∷ bs) = (b == byte.closing_brace) ≡ false
 
--- It is read the same whatever stands behind it, unless that begins with a `}`, since a call may be last in it; and nothing begins in it that goes on
--- there. It begins with no `}` itself.
+-- a letter, a digit, a `#` or a `;`: a reference goes on with it
+abbrev pub joins_reference : ℕ → Bool
+joins_reference b = is_ascii_alphanumeric b || (b == byte.hash || b == byte.semicolon)
+
+-- no reference goes on with these bytes
+abbrev pub BeginsUnjoined : List ℕ → Type 0
+BeginsUnjoined [] = Unit {0}
+BeginsUnjoined (b ∷ bs) = joins_reference b ≡ false
+
+-- It is read the same whatever stands behind it, unless that begins with a `}`, since a call may be last in it, or a reference goes on with it, since a
+-- URL may be last that ends like `&copy`; and nothing begins in it that goes on there. It begins with no `}` itself.
 pub record IsFirmlyRead (q : List ℕ) : Type 0 where
-  pub firm : (rest : List ℕ) → StandsBehind rest → BeginsUnclosed rest → page_items (q ++ rest) ≡ page_items q ++ page_items rest
-  pub uncommented : (rest : List ℕ) → StandsBehind rest → BeginsUnclosed rest → StandsBehind (q ++ rest)
+  pub firm : (rest : List ℕ) → StandsBehind rest → BeginsUnclosed rest → BeginsUnjoined rest → page_items (q ++ rest) ≡ page_items q ++ page_items rest
+  pub uncommented : (rest : List ℕ) → StandsBehind rest → BeginsUnclosed rest → BeginsUnjoined rest → StandsBehind (q ++ rest)
   pub unclosed : BeginsUnclosed q
 
 -- So of one in the place of an old one, which closes no tag that this didn't close.

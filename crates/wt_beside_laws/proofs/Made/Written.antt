@@ -56,32 +56,36 @@ lines_by (a_heading h) s signs kept unbroken fits =
 
 -- ---- how it is read
 
-pub before_any : (s : Setting) (signs : List ContentSign) → IsReadIn s signs → IsBeforeAny (spelled s signs)
-before_any s signs k rest xs r =
+content_front : (s : Setting) (signs : List ContentSign) → IsReadIn s signs → (rest : List ℕ) (xs : List Item) → Reads rest xs
+    → Reads (spelled s signs ++ rest) (page_items (spelled s signs) ++ xs)
+content_front s signs k rest xs r =
     subst (λ (ys : List Item). Reads (spelled s signs ++ rest) (ys ++ xs)) (sym (content_alone s signs k)) (content_reads s signs k rest xs r)
+
+pub before_any : (s : Setting) (signs : List ContentSign) → IsReadIn s signs → IsBeforeAny (spelled s signs)
+before_any s signs k rest xs j r = content_front s signs k rest xs r
 
 stands : (bs : List ℕ) → BeginsUncommented bs → StandsBehind bs
 stands bs h = record { uncommented = h.is }
 
 pub uncommented : (s : Setting) (signs : List ContentSign) (rest : List ℕ) → IsReadIn s signs → StandsBehind rest → StandsBehind (spelled s signs ++ rest)
 uncommented s signs rest k b =
-    let r : Reads (spelled s signs ++ rest) (page_items (spelled s signs) ++ page_items rest) = before_any s signs k rest (page_items rest) (behind_reads rest b) in
+    let r : Reads (spelled s signs ++ rest) (page_items (spelled s signs) ++ page_items rest) = content_front s signs k rest (page_items rest) (behind_reads rest b) in
     stands (spelled s signs ++ rest) r.begins
 
 pub firm : (s : Setting) (signs : List ContentSign) (rest : List ℕ) → IsReadIn s signs → StandsBehind rest
     → page_items (spelled s signs ++ rest) ≡ page_items (spelled s signs) ++ page_items rest
 firm s signs rest k b =
-    read_items (spelled s signs ++ rest) (page_items (spelled s signs) ++ page_items rest) (before_any s signs k rest (page_items rest) (behind_reads rest b))
+    read_items (spelled s signs ++ rest) (page_items (spelled s signs) ++ page_items rest) (content_front s signs k rest (page_items rest) (behind_reads rest b))
 
 pub alone : (s : Setting) (signs : List ContentSign) → IsReadIn s signs → StandsBehind (spelled s signs)
 alone s signs k =
-    let r : Reads (spelled s signs ++ []) (page_items (spelled s signs) ++ []) = before_any s signs k [] [] reads_nothing in
+    let r : Reads (spelled s signs ++ []) (page_items (spelled s signs) ++ []) = content_front s signs k [] [] reads_nothing in
     subst StandsBehind (append-nil (spelled s signs)) (stands (spelled s signs ++ []) r.begins)
 
 pub before_break : (s : Setting) (signs : List ContentSign) → IsReadIn s signs → StandsBehind (spelled s signs ++ 10 ∷ [])
 before_break s signs k =
     let r : Reads (spelled s signs ++ 10 ∷ []) (page_items (spelled s signs) ++ char None 10 ∷ []) =
-    before_any s signs k (10 ∷ []) (char None 10 ∷ []) (read_break [] [] reads_nothing) in
+    content_front s signs k (10 ∷ []) (char None 10 ∷ []) (read_break [] [] reads_nothing) in
     stands (spelled s signs ++ 10 ∷ []) r.begins
 
 -- in its block

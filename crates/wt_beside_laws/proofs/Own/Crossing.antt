@@ -1,6 +1,6 @@
 -- Which lexemes go on over the end of a text, whatever is read behind it: none but signs, where each `<` and each `&` in it has something behind it
 -- that ends what could begin there.
-use Rattle.std.proofs.Common.{arith, ◌≡◌, ◌⊎◌, inl, inr, ℕ, zero, suc, ◌+◌, ◌-◌, ◌<◌, ◌≤◌, ◌==◌, Bool, true, false, Option, Some, None, List, [], ◌∷◌, ◌++◌, length, get_or, take, drop, nat_eq, nat_lt, refl, sym, ap, ◌∙◌, subst, length-append, length-take, length-drop}
+use Rattle.std.proofs.Common.{arith, ◌≡◌, ◌≢◌, ◌⊎◌, inl, inr, ℕ, zero, suc, ◌+◌, ◌-◌, ◌<◌, ◌≤◌, ◌==◌, Bool, true, false, Option, Some, None, List, [], ◌∷◌, ◌++◌, length, get_or, take, drop, nat_eq, nat_lt, refl, sym, ap, ◌∙◌, subst, length-append, length-take, length-drop}
 use Rattle.std.specs.Prelude.{◌&&◌, ◌||◌, not, is_some, codes, if◌then◌else◌, slice_index}
 use Rattle.std.specs.Char.{is_ascii_alphabetic, is_ascii_alphanumeric, is_ascii_digit, is_ascii_hexdigit}
 use Rattle.std.specs.List.{list_any, list_all, prefix_len}
@@ -34,7 +34,9 @@ use Rattle.wt_text_edit_laws.proofs.Between.ClosingTags.{not_less}
 use Rattle.wt_text_edit_laws.proofs.Between.LineTags.{TagWithin, IsFound}
 use Rattle.wt_text_edit_laws.proofs.Between.LineWords.{word_before, Within, or_within, entity_word_within}
 use Rattle.wt_beside_laws.specs.EndedNodes.{is_reference_byte, begins_name, may_be_reference, ReferencesEnd}
+use Rattle.wt_text_edit_laws.specs.ReadContents.{joins_reference, BeginsUnjoined}
 use Rattle.wt_beside_laws.proofs.Made.Sealed.{stops, closing_within}
+use Rattle.wt_beside_laws.proofs.Own.Words.{SemicolonEnds, OptReference, reference_ends}
 
 -- ---- a byte behind a place
 
@@ -42,6 +44,10 @@ pub get_front : (xs ys : List ℕ) (i : ℕ) → i < length xs → get_or (xs ++
 get_front [] ys i lt = absurd (omega (arith, lt))
 get_front (x ∷ xs) ys zero lt = refl
 get_front (x ∷ xs) ys (suc i) lt = get_front xs ys i (omega (arith, lt))
+
+get_behind : (xs ys : List ℕ) → get_or (xs ++ ys) (length xs) 0 ≡ get_or ys 0 0
+get_behind [] ys = refl
+get_behind (x ∷ xs) ys = get_behind xs ys
 
 record IsAt (p : ℕ → Bool) (xs : List ℕ) : Type 0 where
   at : ℕ
@@ -84,13 +90,18 @@ abbrev pub TagsShut : List ℕ → Type 0
 TagsShut [] = Unit {0}
 TagsShut (b ∷ bs) = ((b == 60) ≡ true → AfterTag bs) × TagsShut bs
 
-pub record Settled (bs : List ℕ) : Type 0 where
+-- and no reference that begins in it goes on in what is behind it
+pub record Settled (rest bs : List ℕ) : Type 0 where
   pub stop : TagsStop bs
   pub shut : TagsShut bs
-  pub references : ReferencesEnd bs
+  pub references : ReferencesEnd bs ⊎ BeginsUnjoined rest
 
-pub settled_rest : (b : ℕ) (bs : List ℕ) → Settled (b ∷ bs) → Settled bs
-settled_rest b bs s = record { stop = s.stop.1; shut = s.shut.1; references = s.references.1 }
+references_rest : (b : ℕ) (bs rest : List ℕ) → ReferencesEnd (b ∷ bs) ⊎ BeginsUnjoined rest → ReferencesEnd bs ⊎ BeginsUnjoined rest
+references_rest b bs rest (inl r) = inl r.1
+references_rest b bs rest (inr u) = inr u
+
+pub settled_rest : (b : ℕ) (bs rest : List ℕ) → Settled rest (b ∷ bs) → Settled rest bs
+settled_rest b bs rest s = record { stop = s.stop.1; shut = s.shut.1; references = references_rest b bs rest s.references }
 
 -- no text that ends in no open tag has a place from which on it does
 shut_after : (front : List ℕ) (b : ℕ) (bs : List ℕ) → ends_open (front ++ b ∷ bs) ≡ false → (b == 60) ≡ true → AfterTag bs
@@ -187,7 +198,7 @@ opening_letter bs t e =
     by false v i n f = absurd (cc)
 
 -- so it ends in the text that it begins
-opening_ends : (b : ℕ) (q rest : List ℕ) (t : Tag) → Settled (b ∷ q) → opening_tag (b ∷ (q ++ rest)) ≡ Some t → t.len ≤ suc (length q)
+opening_ends : (b : ℕ) (q rest : List ℕ) (t : Tag) → Settled rest (b ∷ q) → opening_tag (b ∷ (q ++ rest)) ≡ Some t → t.len ≤ suc (length q)
 opening_ends b q rest t s e = elim (cases_lt (suc (length q)) t.len) [
   | inl over ↦
       let bs : List ℕ = b ∷ (q ++ rest) in
@@ -209,7 +220,7 @@ opening_ends b q rest t s e = elim (cases_lt (suc (length q)) t.len) [
         let here : is_stop (get_or ((c ∷ cs) ++ rest) r.at 0) ≡ true = ap is_stop (get_front (c ∷ cs) rest r.at r.within) ∙ r.passes in
         absurd (let no : true ≡ false = sym here ∙ bare r.at r.within in cc)
 
-opening_own : (b : ℕ) (q rest : List ℕ) (t : Tag) → Settled (b ∷ q) → opening_tag (b ∷ (q ++ rest)) ≡ Some t → opening_tag (b ∷ q) ≡ Some t
+opening_own : (b : ℕ) (q rest : List ℕ) (t : Tag) → Settled rest (b ∷ q) → opening_tag (b ∷ (q ++ rest)) ≡ Some t → opening_tag (b ∷ q) ≡ Some t
 opening_own b q rest t s e =
     sym (ap opening_tag (take-append_seam (b ∷ q) rest)) ∙ opening_front (b ∷ (q ++ rest)) t (suc (length q)) e (opening_ends b q rest t s e)
 
@@ -300,7 +311,7 @@ as_found : (o : Option ℕ) → is_some o ≡ true → IsFound o
 as_found None e = cc
 as_found (Some n) e = tt
 
-inside_ends : (b : ℕ) (q rest : List ℕ) (t : Tag) → Settled (b ∷ q) → opening_tag (b ∷ q) ≡ Some t → is_some (with_inside t (b ∷ q)) ≡ true
+inside_ends : (b : ℕ) (q rest : List ℕ) (t : Tag) → Settled rest (b ∷ q) → opening_tag (b ∷ q) ≡ Some t → is_some (with_inside t (b ∷ q)) ≡ true
     → (LenWithin (length q) (with_inside t (b ∷ (q ++ rest)))) × (is_some (with_inside t (b ∷ (q ++ rest))) ≡ true)
 inside_ends b q rest t s e h =
     let fits = subst (OptTag (b ∷ q)) e (opening_fits (b ∷ q)) in
@@ -322,7 +333,7 @@ hidden_found raw false u h e = absurd (cc)
 tag_here : (bs : List ℕ) (t : Tag) → opening_tag bs ≡ Some t → ends_tag (opening_tag bs) bs ≡ true → ends_tag (Some t) bs ≡ true
 tag_here bs t e h = sym (ap (λ o. ends_tag o bs) e) ∙ h
 
-raw_within : (b : ℕ) (q rest : List ℕ) → Settled (b ∷ q) → ends_tag (opening_tag (b ∷ q)) (b ∷ q) ≡ true → LenWithin (length q) (raw_len (b ∷ (q ++ rest)))
+raw_within : (b : ℕ) (q rest : List ℕ) → Settled rest (b ∷ q) → ends_tag (opening_tag (b ∷ q)) (b ∷ q) ≡ true → LenWithin (length q) (raw_len (b ∷ (q ++ rest)))
 unfolding raw_len
 raw_within b q rest s h = by (opening_tag bs) refl
   where
@@ -340,7 +351,7 @@ raw_within b q rest s h = by (opening_tag bs) refl
     by None e = tt
     by (Some t) e = named t (is_raw_name t.name) refl e
 
-include_within : (b : ℕ) (q rest : List ℕ) → Settled (b ∷ q) → ends_tag (opening_tag (b ∷ q)) (b ∷ q) ≡ true → Within (length q) (include_at Page (b ∷ (q ++ rest)))
+include_within : (b : ℕ) (q rest : List ℕ) → Settled rest (b ∷ q) → ends_tag (opening_tag (b ∷ q)) (b ∷ q) ≡ true → Within (length q) (include_at Page (b ∷ (q ++ rest)))
 unfolding include_at
 include_within b q rest s h =
     or_within (length q) (opening_include Page (opening_tag bs) bs) (closing_include Page (closing_tag bs)) (begun (opening_tag bs) refl)
@@ -644,8 +655,38 @@ reference_past b q rest is f =
         front_false (codes "&#") (b ∷ q) rest (omega (arith, some)) n (first_begins (codes "&#") (codes "X") (b ∷ (q ++ rest)) j)
     either false false i j e some n = absurd (cc)
 
-reference_within : (b : ℕ) (q rest : List ℕ) → ReferencesEnd (b ∷ q) → Within (length q) (entity_word (entity_at (b ∷ (q ++ rest))))
-reference_within b q rest r = entity_word_within (length q) (entity_at (b ∷ (q ++ rest))) (elim (equal_or b 38) [
+-- behind it stands neither a byte of a reference nor a `;`
+unjoined_first : (rest : List ℕ) → BeginsUnjoined rest → (is_reference_byte (get_or rest 0 0) ≡ false) × (get_or rest 0 0 ≢ 59)
+unjoined_first [] u = (refl, λ e. cc)
+unjoined_first (c ∷ rest) u = by (is_ascii_alphanumeric c) (c == 35) (c == 59) refl refl refl u
+  where
+    by : (a h s : Bool) → is_ascii_alphanumeric c ≡ a → (c == 35) ≡ h → (c == 59) ≡ s → (a || (h || s)) ≡ false → (is_reference_byte c ≡ false) × (c ≢ 59)
+    by true h s i j k e = absurd (cc)
+    by false true s i j k e = absurd (cc)
+    by false false true i j k e = absurd (cc)
+    by false false false i j k e = (rw i (rw j refl), λ is. (let no : true ≡ false = sym (ap (λ (d : ℕ). d == 59) is) ∙ k in absurd (cc)))
+
+reference_before : (b : ℕ) (q rest : List ℕ) → BeginsUnjoined rest → EntityWithin (length q) (entity_at (b ∷ (q ++ rest)))
+reference_before b q rest u =
+    by (entity_at (b ∷ (q ++ rest))) (entity_within (suc (length q)) (b ∷ (q ++ rest)) (omega arith) (ap is_reference_byte behind ∙ first.0)) (reference_ends (b ∷ (q ++ rest)))
+  where
+    first : (is_reference_byte (get_or rest 0 0) ≡ false) × (get_or rest 0 0 ≢ 59)
+    first = unjoined_first rest u
+
+    behind : get_or (b ∷ (q ++ rest)) (suc (length q)) 0 ≡ get_or rest 0 0
+    behind = get_behind q rest
+
+    by : (o : Option (ℕ × ℕ)) → EntityWithin (suc (length q)) o → OptReference (b ∷ (q ++ rest)) o → EntityWithin (length q) o
+    by None le e = tt
+    by (Some r) le e = elim (cases_lt (suc (length q)) r.1) [
+      | inl lt ↦
+          let z : r.1 - 1 ≡ suc (length q) = omega (arith, lt, le) in
+          absurd (first.1 (sym behind ∙ ap (λ (i : ℕ). get_or (b ∷ (q ++ rest)) i 0) (sym z) ∙ e.last))
+      | inr few ↦ omega (arith, few)
+    ]
+
+reference_inside : (b : ℕ) (q rest : List ℕ) → ReferencesEnd (b ∷ q) → Within (length q) (entity_word (entity_at (b ∷ (q ++ rest))))
+reference_inside b q rest r = entity_word_within (length q) (entity_at (b ∷ (q ++ rest))) (elim (equal_or b 38) [
   | inl is ↦ by is (r.0 (subst (λ (k : ℕ). (k == 38) ≡ true) (sym is) refl))
   | inr differs ↦ subst (EntityWithin (length q)) (sym (entity_none (b ∷ (q ++ rest)) (λ e. apart b 38 differs e))) tt
 ])
@@ -661,6 +702,10 @@ reference_within b q rest r = entity_word_within (length q) (entity_at (b ∷ (q
         ap is_reference_byte (get_front q rest s.at s.within) ∙ unpassed (is_reference_byte (get_or q s.at 0)) s.passes in
         shorter (entity_at (b ∷ (q ++ rest))) (suc s.at) (omega (arith, s.within)) (entity_within (suc s.at) (b ∷ (q ++ rest)) (omega arith) here)
     by is (inr none) = reference_past b q rest is none
+
+reference_within : (b : ℕ) (q rest : List ℕ) → ReferencesEnd (b ∷ q) ⊎ BeginsUnjoined rest → Within (length q) (entity_word (entity_at (b ∷ (q ++ rest))))
+reference_within b q rest (inl r) = reference_inside b q rest r
+reference_within b q rest (inr u) = entity_word_within (length q) (entity_at (b ∷ (q ++ rest))) (reference_before b q rest u)
 
 -- ---- any lexeme
 
@@ -706,7 +751,7 @@ sign_is k bs =
     (or_sign k (sign_at lex.Pipe (codes "|") 1 bs) (sign_at lex.Equals (codes "=") 1 bs) (if_sign k (begins (codes "|") bs) lex.Pipe 1 tt)
     (if_sign k (begins (codes "=") bs) lex.Equals 1 tt)))))
 
-pub lexeme_ends : (b : ℕ) (q rest : List ℕ) → Settled (b ∷ q) → ends_here (b ∷ q) ≡ true → EndsBySign (length q) (form_at Page false (b ∷ (q ++ rest)))
+pub lexeme_ends : (b : ℕ) (q rest : List ℕ) → Settled rest (b ∷ q) → ends_here (b ∷ q) ≡ true → EndsBySign (length q) (form_at Page false (b ∷ (q ++ rest)))
 unfolding form_at
 lexeme_ends b q rest s h =
     let bs : List ℕ = b ∷ (q ++ rest) in

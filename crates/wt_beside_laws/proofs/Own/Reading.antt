@@ -299,14 +299,14 @@ joined_by a b q rest (Some (kind, suc j)) e s h f go = elim (cases_lt (length q)
       (go j (subst (λ (k : ℕ). AllEnd (is_break b) k q) size h.1) (subst (λ (k : ℕ). NoneAfter (is_break b) k q) size f.1))
 ]
 
-joined : (rest : List ℕ) (a : Bool) (n : ℕ) (q : List ℕ) → Settled q → AllEnd a n q → NoneAfter a n q → Joined a n q rest
+joined : (rest : List ℕ) (a : Bool) (n : ℕ) (q : List ℕ) → Settled rest q → AllEnd a n q → NoneAfter a n q → Joined a n q rest
 joined rest a zero [] s h f = record { items = refl }
 joined rest a (suc n) [] s h f = absurd (omega (arith, h))
-joined rest a (suc n) (b ∷ q) s h f = let j = joined rest (is_break b) n q (settled_rest b q s) h f in record { items = j.items }
+joined rest a (suc n) (b ∷ q) s h f = let j = joined rest (is_break b) n q (settled_rest b q rest s) h f in record { items = j.items }
 joined rest a zero (b ∷ q) s h f =
     joined_by a b q rest (form_at Page a (b ∷ (q ++ rest))) refl
     (subst (λ (v : Bool). EndsBySign (length q) (form_at Page v (b ∷ (q ++ rest)))) (sym f.0) (lexeme_ends b q rest s h.0))
-    h f (λ n. joined rest (is_break b) n q (settled_rest b q s))
+    h f (λ n. joined rest (is_break b) n q (settled_rest b q rest s))
 
 -- ---- a source
 
@@ -318,9 +318,9 @@ last_flag : (q : List ℕ) → LastIs false q → after_all (lexer Page) false q
 last_flag [] h = refl
 last_flag (b ∷ q) h = last_flag_of false b q h
 
-pub source_reads : (q : List ℕ) → Settled q → HasEnds q → HasNoBreak (page_items q) → LastIs false q → (rest : List ℕ)
+pub source_reads : (q rest : List ℕ) → Settled rest q → HasEnds q → HasNoBreak (page_items q) → LastIs false q
     → page_items (q ++ rest) ≡ page_items q ++ page_items rest
-source_reads q s h n l rest =
+source_reads q rest s h n l =
     let j = joined rest false 0 q s h (source_steps q h n).starts in
     page_from (q ++ rest) ∙ j.items
     ∙ ap (λ (v : Bool). items_from false 0 q ++ items_from v 0 rest) (last_flag q l)

@@ -172,9 +172,15 @@ include_word bs h =
 
 -- ---- references
 
-abbrev OptReference : List ℕ → Option (ℕ × ℕ) → Type 0
+-- so many bytes end with a `;`
+pub record SemicolonEnds (bs : List ℕ) (n : ℕ) : Type 0 where
+  pub some : 0 < n
+  pub within : n ≤ length bs
+  pub last : get_or bs (n - 1) 0 ≡ 59
+
+abbrev pub OptReference : List ℕ → Option (ℕ × ℕ) → Type 0
 OptReference bs None = Unit {0}
-OptReference bs (Some e) = LexemeEnds bs e.1
+OptReference bs (Some e) = SemicolonEnds bs e.1
 
 or_reference : (bs : List ℕ) (a b : Option (ℕ × ℕ)) → OptReference bs a → OptReference bs b → OptReference bs (option_or a b)
 or_reference bs None b f g = g
@@ -187,13 +193,13 @@ abbrev all_semicolons : List (List ℕ × ℕ) → Bool
 all_semicolons [] = true
 all_semicolons ((name, c) ∷ entries) = ends_semicolon name && all_semicolons entries
 
-name_ends : (w bs : List ℕ) → ends_semicolon w ≡ true → begins w bs ≡ true → LexemeEnds bs (length w)
+name_ends : (w bs : List ℕ) → ends_semicolon w ≡ true → begins w bs ≡ true → SemicolonEnds bs (length w)
 unfolding ends_semicolon
 name_ends w bs s e =
     let some = lt_is 0 (length w) (and_left (nat_lt 0 (length w)) (get_or w (length w - 1) 0 == 59) s) in
     let last : get_or w (length w - 1) 0 ≡ 59 = byte_is w (length w - 1) 59 (and_right (nat_lt 0 (length w)) (get_or w (length w - 1) 0 == 59) s) in
     let here : get_or bs (length w - 1) 0 ≡ 59 = begins_get w bs e (length w - 1) (omega (arith, some)) ∙ last in
-    record { some = some; within = begins_len w bs e; last = ap is_lexeme_end here }
+    record { some = some; within = begins_len w bs e; last = here }
 
 named_ends : (entries : List (List ℕ × ℕ)) (bs : List ℕ) → all_semicolons entries ≡ true → OptReference bs (named_in entries bs)
 named_ends [] bs s = tt
@@ -223,7 +229,7 @@ number_ends start most base is_digit bs =
         byte_is bs (start + n) 59 (and_left (slice_index bs (start + n) == 59) _ (and_right (nat_le n most) _ (and_right (nat_lt 0 n) _ e))) in
         let there = is_within bs (start + n) 59 last (omega arith) in
         let z : start + n + 1 - 1 ≡ start + n = omega arith in
-        record { some = omega arith; within = omega (arith, there); last = ap (λ (i : ℕ). is_lexeme_end (get_or bs i 0)) z ∙ ap is_lexeme_end last }
+        record { some = omega arith; within = omega (arith, there); last = ap (λ (i : ℕ). get_or bs i 0) z ∙ last }
     by false e = tt
 
 if_reference : (bs : List ℕ) (t : Bool) (o : Option (ℕ × ℕ)) → OptReference bs o → OptReference bs (if t then o else None)
@@ -240,7 +246,7 @@ reference_ends bs =
 
 pub reference_word : (bs : List ℕ) (o : Option (ℕ × ℕ)) → OptReference bs o → OptWordEnds bs (entity_word o)
 reference_word bs None h = tt
-reference_word bs (Some e) h = h
+reference_word bs (Some e) h = record { some = h.some; within = h.within; last = ap is_lexeme_end h.last }
 
 -- ---- signs
 

@@ -200,8 +200,8 @@ pub styled_new : (k : TextBlock) (q : List ℕ) (s : Setting) (t : StyledContent
 styled_new k q s t h w = record {
   firm = record {
     content = styled_in_content k (spelled s (signs_in t)) (styled_again k q s t h w);
-    firm = λ rest b. firm s (signs_in t) rest (read_styled s t w.content) b;
-    uncommented = λ rest b. uncommented s (signs_in t) rest (read_styled s t w.content) b;
+    firm = λ rest b j. firm s (signs_in t) rest (read_styled s t w.content) b;
+    uncommented = λ rest b j. uncommented s (signs_in t) rest (read_styled s t w.content) b;
     stays = stays_so k s t w.content;
     unpaired = content_unpaired s (signs_in t) (read_styled s t w.content) (calm_so k q s t h w);
     unclosed = content_unclosed s (signs_in t) (read_styled s t w.content) (calm_so k q s t h w);

@@ -86,14 +86,14 @@ ended_so : (pages : Pages) (s : Setting) (t : StyledContent) → IsStyledWritten
 ended_so pages s t h =
     let signs : List ContentSign = signs_in t in
     let f : IsFirmlyRead (spelled s signs) = called_firm s signs h.of_block (all_read pages signs h.each) in
-    f.firm (10 ∷ []) break_stands refl ∙ ap (λ (xs : List Item). page_items (spelled s signs) ++ xs) (read_items (10 ∷ []) (char None 10 ∷ []) break_read)
+    f.firm (10 ∷ []) break_stands refl refl ∙ ap (λ (xs : List Item). page_items (spelled s signs) ++ xs) (read_items (10 ∷ []) (char None 10 ∷ []) break_read)
 
 begins_so : (pages : Pages) (s : Setting) (t : StyledContent) → IsStyledWritten pages s t → BeginsParagraph (spelled s (signs_in t))
 begins_so pages s t h =
     let signs : List ContentSign = signs_in t in
     let f : IsFirmlyRead (spelled s signs) = called_firm s signs h.of_block (all_read pages signs h.each) in
-    stands_begins (spelled s signs) (subst StandsBehind (append-nil (spelled s signs)) (f.uncommented [] nothing_stands tt))
-    (f.uncommented (10 ∷ []) break_stands refl) (ended_so pages s t h)
+    stands_begins (spelled s signs) (subst StandsBehind (append-nil (spelled s signs)) (f.uncommented [] nothing_stands tt tt))
+    (f.uncommented (10 ∷ []) break_stands refl refl) (ended_so pages s t h)
     (subst (λ (xs : List Item). begins_shown xs ≡ true) (sym (called_alone s signs h.of_block (all_read pages signs h.each)))
     (first_shown s t h.of_block h.characters (all_read pages signs h.each) h.some))
 

@@ -144,14 +144,14 @@ ended_so : (pages : Pages) (s : Setting) (signs : List ContentSign) → IsWritte
 ended_so pages s signs h =
     let c : IsCalledIn pages s signs = h.called in
     let f : IsFirmlyRead (spelled s signs) = called_firm s signs c.of_block h.read in
-    f.firm (10 ∷ []) break_stands refl ∙ ap (λ (xs : List Item). page_items (spelled s signs) ++ xs) (read_items (10 ∷ []) (char None 10 ∷ []) break_read)
+    f.firm (10 ∷ []) break_stands refl refl ∙ ap (λ (xs : List Item). page_items (spelled s signs) ++ xs) (read_items (10 ∷ []) (char None 10 ∷ []) break_read)
 
 begins_so : (pages : Pages) (s : Setting) (signs : List ContentSign) → IsWrittenBeside pages s signs → BeginsParagraph (spelled s signs)
 begins_so pages s signs h =
     let c : IsCalledIn pages s signs = h.called in
     let f : IsFirmlyRead (spelled s signs) = called_firm s signs c.of_block h.read in
-    stands_begins (spelled s signs) (subst StandsBehind (append-nil (spelled s signs)) (f.uncommented [] nothing_stands tt))
-    (f.uncommented (10 ∷ []) break_stands refl) (ended_so pages s signs h)
+    stands_begins (spelled s signs) (subst StandsBehind (append-nil (spelled s signs)) (f.uncommented [] nothing_stands tt tt))
+    (f.uncommented (10 ∷ []) break_stands refl refl) (ended_so pages s signs h)
     (subst (λ (xs : List Item). begins_shown xs ≡ true) (sym (called_alone s signs c.of_block h.read))
     (signs_shown s signs c.of_block c.characters h.read c.some))
 

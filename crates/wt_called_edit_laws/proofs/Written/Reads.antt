@@ -138,9 +138,9 @@ called_firm s signs w h =
     let read : (rest : List ℕ) → StandsBehind rest → BeginsUnclosed rest → Reads (spelled s signs ++ rest) (content_items s [] signs ++ page_items rest) =
     λ rest b u. called_reads s signs w h rest (page_items rest) u (behind_reads rest b) in
     record {
-      firm = λ rest b u.
+      firm = λ rest b u j.
           read_items (spelled s signs ++ rest) (content_items s [] signs ++ page_items rest) (read rest b u)
           ∙ ap (λ (xs : List Item). xs ++ page_items rest) (sym (called_alone s signs w h));
-      uncommented = λ rest b u. let r = read rest b u in let begins = r.begins in record { uncommented = begins.is };
+      uncommented = λ rest b u j. let r = read rest b u in let begins = r.begins in record { uncommented = begins.is };
       unclosed = subst BeginsUnclosed (append-nil (spelled s signs)) (spelled_unclosed s [] signs [] h tt);
     }

@@ -35,7 +35,7 @@ use Rattle.wt_text_edit_laws.proofs.Texts.TypedItems.{ItemsOf, items_cut, items_
 use Rattle.wt_text_edit_laws.specs.TypedHeadings.{Sides, AreBlanks, AreSides, equals, opening, closing, closing_items, heading_line, EndsLine}
 use Rattle.wt_text_edit_laws.specs.TextBlocks.{TextBlock, a_paragraph, a_heading, source_of, block_items, IsFrame, IsTypedHeading, BeginsLine}
 use Rattle.wt_text_edit_laws.specs.Contents.{IsHeadingLine, IsContentOf, IsContent, IsFirmContent, IsNewContent, TextEnds}
-use Rattle.wt_text_edit_laws.specs.ReadContents.{begins_shown, BeginsParagraph, BeginsBlock, IsReadContent, BeginsUnclosed, IsFirmlyRead, IsReadAnew}
+use Rattle.wt_text_edit_laws.specs.ReadContents.{begins_shown, BeginsParagraph, BeginsBlock, IsReadContent, BeginsUnclosed, joins_reference, BeginsUnjoined, IsFirmlyRead, IsReadAnew}
 use Rattle.wt_text_edit_laws.specs.BlockSpots.{BlockSpot, spots_source, EndBeforeBlocks, IsRead, AreReadAfter, IsReadSpot, AreReadSpots, AreRead}
 
 -- ---- a heading's delimiters
@@ -145,27 +145,42 @@ closing_front s rest xs f e r =
 pub typed_text : (s : Sides) (q : List ℕ) → IsTypedHeading s q → IsTypedPage q
 typed_text s q h = record { setting = h.setting; text = h.text; utf8 = h.utf8; of_block = h.of_block; is = h.is }
 
--- these bytes are read the same before anything
+-- these bytes are read the same before anything with which no reference goes on
 abbrev pub IsBeforeAny : List ℕ → Type 0
-IsBeforeAny q = (rest : List ℕ) (xs : List Item) → Reads rest xs → Reads (q ++ rest) (page_items q ++ xs)
+IsBeforeAny q = (rest : List ℕ) (xs : List Item) → BeginsUnjoined rest → Reads rest xs → Reads (q ++ rest) (page_items q ++ xs)
 
--- or before what doesn't begin with a `}`
+-- or before what doesn't begin with a `}` either
 abbrev pub IsBeforeUnclosed : List ℕ → Type 0
-IsBeforeUnclosed q = (rest : List ℕ) (xs : List Item) → BeginsUnclosed rest → Reads rest xs → Reads (q ++ rest) (page_items q ++ xs)
+IsBeforeUnclosed q = (rest : List ℕ) (xs : List Item) → BeginsUnclosed rest → BeginsUnjoined rest → Reads rest xs → Reads (q ++ rest) (page_items q ++ xs)
 
 end_unclosed : (rest : List ℕ) → EndsHere rest → BeginsUnclosed rest
 end_unclosed [] e = tt
 end_unclosed (b ∷ r) e = subst (λ (c : ℕ). BeginsUnclosed (c ∷ r)) (sym e) refl
+
+end_unjoined : (rest : List ℕ) → EndsHere rest → BeginsUnjoined rest
+end_unjoined [] e = tt
+end_unjoined (b ∷ r) e = subst (λ (c : ℕ). BeginsUnjoined (c ∷ r)) (sym e) refl
 
 signs_unclosed : (trail : List ℕ) (n : ℕ) (more : List ℕ) → AreBlanks trail → 1 ≤ n → BeginsUnclosed (trail ++ (equals n ++ more))
 signs_unclosed [] zero more h some = absurd (omega (arith, some))
 signs_unclosed [] (suc n) more h some = refl
 signs_unclosed (b ∷ bs) n more h some = each_quiet (λ (c : ℕ). (c == 125) ≡ false) refl refl refl b (or_right (b == 61) (is_blank b) h.0)
 
+signs_unjoined : (trail : List ℕ) (n : ℕ) (more : List ℕ) → AreBlanks trail → 1 ≤ n → BeginsUnjoined (trail ++ (equals n ++ more))
+signs_unjoined [] zero more h some = absurd (omega (arith, some))
+signs_unjoined [] (suc n) more h some = refl
+signs_unjoined (b ∷ bs) n more h some = each_quiet (λ (c : ℕ). joins_reference c ≡ false) refl refl refl b (or_right (b == 61) (is_blank b) h.0)
+
+-- how the closing delimiter of a heading begins
+closing_begins : (P : List ℕ → Type 0) (s : Sides) (rest : List ℕ) → P (s.trail ++ (equals s.level ++ (s.rest ++ rest))) → P (closing s ++ rest)
+closing_begins P s rest h =
+    subst P (sym (append_assoc s.trail (equals s.level ++ s.rest) rest ∙ ap (λ (bs : List ℕ). s.trail ++ bs) (append_assoc (equals s.level) s.rest rest))) h
+
+closing_unjoined : (s : Sides) (rest : List ℕ) → AreSides s → BeginsUnjoined (closing s ++ rest)
+closing_unjoined s rest a = closing_begins BeginsUnjoined s rest (signs_unjoined s.trail s.level (s.rest ++ rest) a.trail a.some)
+
 closing_unclosed : (s : Sides) (rest : List ℕ) → AreSides s → BeginsUnclosed (closing s ++ rest)
-closing_unclosed s rest a =
-    subst BeginsUnclosed (sym (append_assoc s.trail (equals s.level ++ s.rest) rest ∙ ap (λ (bs : List ℕ). s.trail ++ bs) (append_assoc (equals s.level) s.rest rest)))
-    (signs_unclosed s.trail s.level (s.rest ++ rest) a.trail a.some)
+closing_unclosed s rest a = closing_begins BeginsUnclosed s rest (signs_unclosed s.trail s.level (s.rest ++ rest) a.trail a.some)
 
 pub framed_front : (s : Sides) (q rest : List ℕ) (xs : List Item) → IsFrame s → IsBeforeUnclosed q → EndsHere rest → Reads rest xs
     → Reads (source_of (a_heading s) q ++ rest) (heading_line s (page_items q) ++ xs)
@@ -174,7 +189,7 @@ framed_front s q rest xs h f e r =
     let o : List Item = page_chars (opening s) in
     let c : List Item = closing_items s in
     let end : Reads (closing s ++ rest) (c ++ xs) = closing_front s rest xs h e r in
-    let text : Reads (q ++ (closing s ++ rest)) (own ++ (c ++ xs)) = f (closing s ++ rest) (c ++ xs) (closing_unclosed s rest h.sides) end in
+    let text : Reads (q ++ (closing s ++ rest)) (own ++ (c ++ xs)) = f (closing s ++ rest) (c ++ xs) (closing_unclosed s rest h.sides) (closing_unjoined s rest h.sides) end in
     let all : Reads (opening s ++ (q ++ (closing s ++ rest))) (o ++ (own ++ (c ++ xs))) =
     read_quiet (opening s) (q ++ (closing s ++ rest)) (own ++ (c ++ xs)) (opening_quiet s h.sides) text in
     let source : source_of (a_heading s) q ++ rest ≡ opening s ++ (q ++ (closing s ++ rest)) =
@@ -191,12 +206,12 @@ HasFrame (a_heading s) = IsFrame s
 -- a block whose content is read the same before anything, but a `}`
 unclosed_front : (k : TextBlock) (q rest : List ℕ) (xs : List Item) → HasFrame k → IsBeforeUnclosed q → EndsHere rest → Reads rest xs
     → Reads (source_of k q ++ rest) (block_items k q ++ xs)
-unclosed_front a_paragraph q rest xs h f e r = f rest xs (end_unclosed rest e) r
+unclosed_front a_paragraph q rest xs h f e r = f rest xs (end_unclosed rest e) (end_unjoined rest e) r
 unclosed_front (a_heading s) q rest xs h f e r = framed_front s q rest xs h f e r
 
 pub any_front : (k : TextBlock) (q rest : List ℕ) (xs : List Item) → HasFrame k → IsBeforeAny q → EndsHere rest → Reads rest xs
     → Reads (source_of k q ++ rest) (block_items k q ++ xs)
-any_front k q rest xs h f e r = unclosed_front k q rest xs h (λ rs ys u s. f rs ys s) e r
+any_front k q rest xs h f e r = unclosed_front k q rest xs h (λ rs ys u j s. f rs ys j s) e r
 
 -- ---- a content of the page
 
@@ -213,7 +228,7 @@ pub content_read : (k : TextBlock) (q : List ℕ) → IsContent k q → IsReadCo
 content_read k q h = record { utf8 = h.utf8; ended = h.ended; unended = h.unended; begins = content_begins_block k q h.is h.ended }
 
 pub firmly_read : (k : TextBlock) (q : List ℕ) → IsFirmContent k q → IsFirmlyRead q
-firmly_read k q h = record { firm = λ rest b u. h.firm rest b; uncommented = λ rest b u. h.uncommented rest b; unclosed = h.unclosed }
+firmly_read k q h = record { firm = λ rest b u j. h.firm rest b j; uncommented = λ rest b u j. h.uncommented rest b j; unclosed = h.unclosed }
 
 pub read_anew : (k : TextBlock) (was now : List ℕ) → IsNewContent k was now → IsReadAnew k was now
 read_anew k was now h = record { read = content_read k now h.firm.content; firm = firmly_read k now h.firm; closes = h.closes }
@@ -278,11 +293,11 @@ own_front k q (b ∷ r) xs h l e read =
 
 -- one that is firm, whatever stands behind it
 pub firm_before : (q : List ℕ) → IsFirmlyRead q → IsBeforeUnclosed q
-firm_before q h rest xs c r =
+firm_before q h rest xs c j r =
     let b : BeginsUncommented rest = r.begins in
     let behind : StandsBehind rest = record { uncommented = b.is } in
-    let u : StandsBehind (q ++ rest) = h.uncommented rest behind c in
-    let items : page_items (q ++ rest) ≡ page_items q ++ xs = h.firm rest behind c ∙ ap (λ ys. page_items q ++ ys) (read_items rest xs r) in
+    let u : StandsBehind (q ++ rest) = h.uncommented rest behind c j in
+    let items : page_items (q ++ rest) ≡ page_items q ++ xs = h.firm rest behind c j ∙ ap (λ ys. page_items q ++ ys) (read_items rest xs r) in
     reads_either (q ++ rest) (page_items q ++ xs) (record { is = u.uncommented }) (subst (λ ys. ReadsAfter false (q ++ rest) ys) items (alone_reads (q ++ rest)))
 
 -- ---- a block begins with something visible

@@ -55,7 +55,7 @@ typed_frame a_paragraph q h = tt
 typed_frame (a_heading s) q h = h.frame
 
 page_before : (q : List ℕ) → IsTypedPage q → IsBeforeAny q
-page_before q h rest xs r = page_front q rest xs h r
+page_before q h rest xs j r = page_front q rest xs h r
 
 typed_reads : (k : TextBlock) (q rest : List ℕ) (xs : List Item) → IsTypedIn k q → EndsHere rest → Reads rest xs → Reads (source_of k q ++ rest) (block_items k q ++ xs)
 typed_reads k q rest xs h e r = any_front k q rest xs (typed_frame k q h) (page_before q (typed_page k q h)) e r
@@ -161,8 +161,8 @@ typed_stays (a_heading s) q h = tt
 pub typed_firm : (k : TextBlock) (q : List ℕ) → IsTypedIn k q → IsFirmContent k q
 typed_firm k q h = record {
   content = block_content k q (typed_block k q h);
-  firm = λ rest b. read_items (q ++ rest) (page_items q ++ page_items rest) (page_front q rest (page_items rest) (typed_page k q h) (behind_reads rest b));
-  uncommented = λ rest b.
+  firm = λ rest b j. read_items (q ++ rest) (page_items q ++ page_items rest) (page_front q rest (page_items rest) (typed_page k q h) (behind_reads rest b));
+  uncommented = λ rest b j.
       let r : Reads (q ++ rest) (page_items q ++ page_items rest) = page_front q rest (page_items rest) (typed_page k q h) (behind_reads rest b) in
       stands (q ++ rest) r.begins;
   stays = typed_stays k q h;
