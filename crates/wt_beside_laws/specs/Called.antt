@@ -105,13 +105,14 @@ pub record IsOwnNode (t : Thing) (own : List Item) : Type 0 where
   pub inside : is_mark t.role ≡ true → is_new_at_start t.role ≡ true
   pub unbroken : IsUnbroken own
 
--- The items of a group are what one call gives; those of any other node are one form of the page.
+-- The items of a group are what one call gives; those of any other node are one form of the page, and of a
+-- style delimiter its apostrophes.
 abbrev pub IsGivenAs : Role → Thing → List Item → Type 0
 IsGivenAs Link t own = IsOwnNode t own
 IsGivenAs External t own = IsOwnNode t own
 IsGivenAs (Bare ends) t own = IsOwnNode t own
 IsGivenAs Switch t own = IsOwnNode t own
-IsGivenAs Toggle t own = IsOwnNode t own
+IsGivenAs Toggle t own = (own ≡ node_items t.source) × IsOwnNode t own
 IsGivenAs (Mark ends began) t own = IsOwnNode t own
 IsGivenAs (Group g) t own = (j : ℕ) × IsGroup g j own
 IsGivenAs Function t own = IsOwnNode t own

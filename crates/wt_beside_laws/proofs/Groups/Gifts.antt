@@ -290,7 +290,7 @@ given_case Link t own h = inl h
 given_case External t own h = inl h
 given_case (Bare ends) t own h = inl h
 given_case Switch t own h = inl h
-given_case Toggle t own h = inl h
+given_case Toggle t own h = inl h.1
 given_case (Mark ends began) t own h = inl h
 given_case (Group g) t own h = inr (g, refl, h.0, h.1)
 given_case Function t own h = inl h
@@ -303,7 +303,8 @@ gift_of t own h = elim (given_case t.role t own h) [
 ]
 
 -- a style delimiter is one form
-pub toggle_signs : (source : List ℕ) (place : Option Stretch) (own : List Item) (h : IsOwnNode (record { role = Toggle; source = source; place = place }) own)
+pub toggle_signs : (source : List ℕ) (place : Option Stretch) (own : List Item)
+    (h : IsGivenAs Toggle (record { role = Toggle; source = source; place = place }) own)
     → (gift_of (record { role = Toggle; source = source; place = place }) own h).signs ≡ form Toggle own ∷ []
 unfolding gift_of given_case own_gift
 toggle_signs source place own h = refl
