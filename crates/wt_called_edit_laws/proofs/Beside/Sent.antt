@@ -46,7 +46,9 @@ use Rattle.wt_beside_laws.proofs.SentPieces.{stays_unchanged, text_sent}
 use Rattle.wt_beside_laws.proofs.SentShown.{all_encoded}
 use Rattle.wt_called_edit_laws.specs.CalledEdits.{IsGroupOrFree, AreChildrenBeside, AreGoneCalm}
 use Rattle.wt_called_edit_laws.specs.PageThings.{ThingsStay}
-use Rattle.wt_called_edit_laws.proofs.Beside.Found.{IsFoundAs, FoundBy, AreFound}
+use Rattle.wt_called_edit_laws.proofs.Beside.Found.{FoundBy, AreFound}
+use Rattle.wt_called_edit_laws.specs.FoundGroups.{IsFoundAs}
+use Rattle.wt_called_edit_laws.proofs.Beside.Holding.{round_unchanged}
 
 -- ---- a node that stays is unchanged
 
