@@ -164,12 +164,15 @@ node_alone own w s e k =
     (tile_read w (0, []) own [] true true [] s (e ∙ glyphs_long own) (none_read true)) in
     read_line c own (cut_segments context_parts in_line c own) all refl r.apart ∙ r.shows ∙ append-nil s.segment.parts
 
-pub node_texts : (t : Thing) → IsFlat t.role → IsNode t.role (own_glyphs t) → AreTexts (line_parts (node_items t.source))
-node_texts t f n =
-    let own : List Item = node_items t.source in
-    let h = has_form t.role (own_glyphs t) f n in
+-- a form has texts and nodes alone, whatever calls give in it
+pub form_texts : (r : Role) (own : List Item) → IsFlat r → IsNode r (map glyph_of own) → AreTexts (line_parts own)
+form_texts r own f n =
+    let h = has_form r (map glyph_of own) f n in
     let s = one_segment own h.shape h.alone (h.whole ∙ glyphs_long own) in
     subst AreTexts (sym (node_alone own h.shape s h.whole h.before)) s.texts
+
+pub node_texts : (t : Thing) → IsFlat t.role → IsNode t.role (own_glyphs t) → AreTexts (line_parts (node_items t.source))
+node_texts t f n = form_texts t.role (node_items t.source) f n
 
 -- ---- step by step
 

@@ -97,21 +97,22 @@ line_parts_with s before (thing t ∷ after) (own ∷ owns) =
 
 -- ---- the nodes
 
--- one of the page, on one line, by its own source; a mark is within its line, and it is no tag that opens a pair without a closing tag
+-- one of the page, on one line, by its items there, of which calls may give some; a mark is within its line, and it is no tag that opens a pair without a
+-- closing tag
 pub record IsOwnNode (t : Thing) (own : List Item) : Type 0 where
-  pub is : own ≡ node_items t.source
-  pub node : IsNode t.role (own_glyphs t)
-  pub closed : OpensNoPair (own_glyphs t)
+  pub node : IsNode t.role (map glyph_of own)
+  pub closed : OpensNoPair (map glyph_of own)
   pub inside : is_mark t.role ≡ true → is_new_at_start t.role ≡ true
-  pub unbroken : IsUnbroken (node_items t.source)
+  pub unbroken : IsUnbroken own
 
--- The items of a group are what one call gives; those of any other node are those of its source.
+-- The items of a group are what one call gives; those of any other node are one form of the page, and of a
+-- style delimiter its apostrophes.
 abbrev pub IsGivenAs : Role → Thing → List Item → Type 0
 IsGivenAs Link t own = IsOwnNode t own
 IsGivenAs External t own = IsOwnNode t own
 IsGivenAs (Bare ends) t own = IsOwnNode t own
 IsGivenAs Switch t own = IsOwnNode t own
-IsGivenAs Toggle t own = IsOwnNode t own
+IsGivenAs Toggle t own = (own ≡ node_items t.source) × IsOwnNode t own
 IsGivenAs (Mark ends began) t own = IsOwnNode t own
 IsGivenAs (Group g) t own = (j : ℕ) × IsGroup g j own
 IsGivenAs Function t own = IsOwnNode t own

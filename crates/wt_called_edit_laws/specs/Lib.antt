@@ -1,3 +1,4 @@
+pub mod FoundGroups
 pub mod Groups
 pub mod FreeBlocks
 pub mod Untangled

@@ -20,11 +20,9 @@ use Rattle.wt_tiles.specs.Glyphs.{glyph_of}
 use Rattle.wt_text_edit_laws.proofs.Paragraphs.LineBlocks.{OwnBreaks}
 use Rattle.wt_beside_laws.specs.Called.{items_with, line_with, later_with, lines_with, IsOwnNode, IsGivenAs, AreGiven}
 use Rattle.wt_beside_laws.specs.Content.{guard_items, letter_items}
-use Rattle.wt_beside_laws.specs.Cuts.{own_glyphs}
 use Rattle.wt_beside_laws.specs.Given.{given_glyphs, may_begin_line, BeginsLine, GivesSigns, IsGroup}
 use Rattle.wt_beside_laws.specs.Glyphs.{guard_glyphs, letter_glyphs}
 use Rattle.wt_beside_laws.specs.Lines.{AreCharacters, IsLineOfText, AreLinesOfText}
-use Rattle.wt_beside_laws.specs.NodeItems.{node_items}
 use Rattle.wt_beside_laws.proofs.LineItems.{unbroken_before, guard_before, guard_alone, letter_unbroken, break_items}
 use Rattle.wt_beside_laws.proofs.LineKinds.{Opens, FirstOpens, opens_small, at_bracket, opens_line, opens_unmarked, guard_opens, letter_opens, no_break, items_open, node_opens, new_guarded, later_by}
 use Rattle.wt_beside_laws.proofs.LineParts.{guard_is, letter_is}
@@ -154,9 +152,7 @@ group_opens g s before t after j own more w l role h u = by g.began_line refl
 given_opens : (s : Setting) (before : List ContentSign) (t : Thing) (after : List ContentSign) (own more : List Item) → s.within ≡ false
     → is_line_start (nearest before) ≡ true → IsGivenAs t.role t own → is_guarded s before (thing t ∷ after) ≡ false → Opens (own ++ more)
 given_opens s before t after own more w l h g = elim (given_case t.role t own h) [
-  | inl n ↦
-      subst (λ xs. Opens (xs ++ more)) (sym n.is)
-      (items_open (node_items t.source) more (node_opens t.role (own_glyphs t) n.node (unmarked n (is_mark_role t.role) refl)))
+  | inl n ↦ items_open own more (node_opens t.role (map glyph_of own) n.node (unmarked n (is_mark_role t.role) refl))
   | inr k ↦ group_opens k.0 s before t after k.2 own more w l k.1 k.3 g
 ]
   where

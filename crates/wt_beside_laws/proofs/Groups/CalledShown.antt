@@ -1,5 +1,5 @@
 -- What texts beside calls show: the texts as they were typed, and each node and what each call gives as they are shown by themselves.
-use Rattle.std.proofs.Common.{◌≡◌, inl, inr, ℕ, List, [], ◌∷◌, ◌++◌, sym, ap, ◌∙◌, subst, append-nil}
+use Rattle.std.proofs.Common.{◌≡◌, inl, inr, ℕ, List, [], ◌∷◌, ◌++◌, sym, ap, ◌∙◌, append-nil}
 use Rattle.std.specs.Prelude.{encode_utf8}
 use Rattle.wt_tree.specs.Plain.{Plains, ended, along, element, text_before, plain_before}
 use Rattle.wt_tree.specs.Tree.{Tree}
@@ -25,7 +25,7 @@ use Rattle.wt_beside_laws.specs.Content.{guard_items, letter_items}
 use Rattle.wt_beside_laws.specs.Flat.{IsFlat, AreFlat}
 use Rattle.wt_beside_laws.specs.Given.{AreGivenBy, GivesSigns, IsGroup}
 use Rattle.wt_beside_laws.specs.Shown.{parts_shown_at}
-use Rattle.wt_beside_laws.proofs.LineParts.{node_texts}
+use Rattle.wt_beside_laws.proofs.LineParts.{form_texts}
 use Rattle.wt_beside_laws.proofs.LineShown.{one_by_one, shown_append, children_show, guard_shows, letter_shows}
 use Rattle.wt_beside_laws.proofs.Groups.CalledBlocks.{called_block, parts_own}
 use Rattle.wt_beside_laws.proofs.Groups.Gifts.{given_case}
@@ -44,7 +44,7 @@ group_texts g j own h = let k : GivesSigns j own = h.gives in by_call_texts j (l
 
 pub given_texts : (t : Thing) (own : List Item) → IsGivenAs t.role t own → IsFlat t.role → AreTexts (line_parts own)
 given_texts t own h f = elim (given_case t.role t own h) [
-  | inl n ↦ subst (λ (ys : List Item). AreTexts (line_parts ys)) (sym n.is) (node_texts t f n.node)
+  | inl n ↦ form_texts t.role own f n.node
   | inr k ↦ group_texts k.0 k.2 own k.3
 ]
 

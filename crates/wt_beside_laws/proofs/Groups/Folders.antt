@@ -1,5 +1,5 @@
 -- Texts beside calls in a folder: what these give there.
-use Rattle.std.proofs.Common.{◌≡◌, ◌⊎◌, inl, inr, ℕ, ◌+◌, Bool, true, false, List, [], ◌∷◌, ◌++◌, length, refl, sym, ap, ◌∙◌, subst}
+use Rattle.std.proofs.Common.{◌≡◌, ◌⊎◌, inl, inr, ℕ, ◌+◌, Bool, true, false, List, [], ◌∷◌, ◌++◌, length, map, refl, sym, ap, ◌∙◌, subst}
 use Rattle.std.specs.List.{list_any}
 use Rattle.wt_span.specs.Items.{Item}
 use Rattle.wt_guards.specs.declared.role.Role.{Role}
@@ -14,12 +14,15 @@ use Rattle.wt_inline.specs.declared.loose.Loose.TheVariants.{Text, Sep}
 use Rattle.wt_inline.specs.Parts.{Part, loose, node, held_parts, parts}
 use Rattle.wt_context.specs.Line.{line_parts}
 use Rattle.wt_annotated.specs.Clean.{is_page}
+use Rattle.wt_lines.specs.Lines.{IsUnbroken}
+use Rattle.wt_tiles.specs.Glyphs.{glyph_of}
 use Rattle.wt_part_laws.specs.CallPieces.{AreOwnOrGiven}
 use Rattle.wt_beside_laws.specs.Called.{owns_in, parts_with, HasUncalled, IsOwnNode, IsGivenAs, AreGiven, AreOwnInside, IsCalledContent, GivesGroup, StaysAsItIs, IsOfFolder, AreOfFolder, IsCalledIn, AllEndSeen, IsCalledHeading, AllSeenIn, IsCalledInHeading}
 use Rattle.wt_beside_laws.specs.Content.{guard_items, letter_items}
 use Rattle.wt_beside_laws.specs.Flat.{IsFlat, AreFlat}
 use Rattle.wt_beside_laws.specs.Given.{AreGivenBy, GivesSigns, IsGroup}
 use Rattle.wt_beside_laws.specs.NodeItems.{node_items}
+use Rattle.wt_beside_laws.specs.Nodes.{IsNode, OpensNoPair}
 use Rattle.wt_beside_laws.specs.Stood.{things}
 use Rattle.wt_beside_laws.proofs.Groups.CalledBlocks.{held_left, held_right, page_given, some_guard, some_letter, some_of_page, some_page}
 
@@ -29,14 +32,19 @@ abbrev own_of : Pages → ℕ → Thing → List Item
 own_of pages i t = numbered i (page_stretches pages t.source)
 
 stays_given : (pages : Pages) (i : ℕ) (t : Thing) → StaysAsItIs pages t → IsOwnNode t (own_of pages i t)
-stays_given pages i t h = record { is = h.items i; node = h.node; closed = h.closed; inside = h.inside; unbroken = h.unbroken }
+stays_given pages i t h = record {
+  node = subst (λ (xs : List Item). IsNode t.role (map glyph_of xs)) (sym (h.items i)) h.node;
+  closed = subst (λ (xs : List Item). OpensNoPair (map glyph_of xs)) (sym (h.items i)) h.closed;
+  inside = h.inside;
+  unbroken = subst IsUnbroken (sym (h.items i)) h.unbroken;
+}
 
 pub given_as : (r : Role) (pages : Pages) (i : ℕ) (t : Thing) → IsOfFolder r pages t → IsGivenAs r t (own_of pages i t)
 given_as Link pages i t h = stays_given pages i t h
 given_as External pages i t h = stays_given pages i t h
 given_as (Bare ends) pages i t h = stays_given pages i t h
 given_as Switch pages i t h = stays_given pages i t h
-given_as Toggle pages i t h = stays_given pages i t h
+given_as Toggle pages i t h = (h.items i, stays_given pages i t h)
 given_as (Mark ends began) pages i t h = stays_given pages i t h
 given_as (Group g) pages i t h = (i, h i)
 given_as Function pages i t h = stays_given pages i t h

@@ -129,8 +129,8 @@ as_lead Node own word n m = m
 own_gift : (t : Thing) (own : List Item) → IsOwnNode t own → IsGift t own
 own_gift t own n =
     let gs : List Glyph = map glyph_of own in
-    let node : IsNode t.role gs = subst (λ (xs : List Item). IsNode t.role (map glyph_of xs)) (sym n.is) n.node in
-    let closed : OpensNoPair gs = subst (λ (xs : List Item). OpensNoPair (map glyph_of xs)) (sym n.is) n.closed in
+    let node : IsNode t.role gs = n.node in
+    let closed : OpensNoPair gs = n.closed in
     record {
       call = 0;
       signs = form t.role own ∷ [];
@@ -138,7 +138,7 @@ own_gift t own n =
       are = (record { node = node; closed = closed; leads = none_before t.role; follows = tt }, tt);
       neither = avoids_neither gs (node_urls t.role gs node);
       alone = node_switches t.role gs node;
-      unbroken = subst IsUnbroken (sym n.is) n.unbroken;
+      unbroken = n.unbroken;
       nested = λ f. record { content = given_sign (form t.role own) given_end; is = refl; nested = (f, tt) };
       opens = λ f next e. refl;
       closes = λ f e. cc;
@@ -290,7 +290,7 @@ given_case Link t own h = inl h
 given_case External t own h = inl h
 given_case (Bare ends) t own h = inl h
 given_case Switch t own h = inl h
-given_case Toggle t own h = inl h
+given_case Toggle t own h = inl h.1
 given_case (Mark ends began) t own h = inl h
 given_case (Group g) t own h = inr (g, refl, h.0, h.1)
 given_case Function t own h = inl h
@@ -303,7 +303,8 @@ gift_of t own h = elim (given_case t.role t own h) [
 ]
 
 -- a style delimiter is one form
-pub toggle_signs : (source : List ℕ) (place : Option Stretch) (own : List Item) (h : IsOwnNode (record { role = Toggle; source = source; place = place }) own)
+pub toggle_signs : (source : List ℕ) (place : Option Stretch) (own : List Item)
+    (h : IsGivenAs Toggle (record { role = Toggle; source = source; place = place }) own)
     → (gift_of (record { role = Toggle; source = source; place = place }) own h).signs ≡ form Toggle own ∷ []
 unfolding gift_of given_case own_gift
 toggle_signs source place own h = refl

@@ -68,7 +68,7 @@ mark_line s before kind place signs [] h = absurd h
 mark_line s before kind place signs (own ∷ owns) h =
     let guard : List Item = guard_items (is_guarded s before (delimiter kind place ∷ signs)) in
     let rest : List Item = line_with s (delimiter kind place ∷ before) signs owns in
-    ap (λ (xs : List Item). guard ++ (xs ++ rest)) h.0.is
+    ap (λ (xs : List Item). guard ++ (xs ++ rest)) h.0.0
 
 -- ---- the tiles of a line, by what is given
 
@@ -87,7 +87,7 @@ mark_cut s before kind place signs (own ∷ owns) h =
     let u : Bool = is_guarded s before (delimiter kind place ∷ signs) in
     let rest : Cut = line_cut_of s (delimiter kind place ∷ before) signs owns h.1 in
     ap (λ (gs : List GivenSign). guard_cut u (given_cut gs rest)) (toggle_signs (mark_source kind) place own h.0)
-    ∙ ap (λ (xs : List Item). guard_cut u (add_node (own_form in_line (map glyph_of xs)) (length (map glyph_of xs)) rest)) h.0.is
+    ∙ ap (λ (xs : List Item). guard_cut u (add_node (own_form in_line (map glyph_of xs)) (length (map glyph_of xs)) rest)) h.0.0
 
 -- ---- what a call gives, and a node that stays
 

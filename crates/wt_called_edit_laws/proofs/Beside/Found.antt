@@ -10,13 +10,8 @@ use Rattle.wt_original.specs.Kept.{Kept, kept_with, kept_of, kept_nodes, items, 
 use Rattle.wt_original.specs.Numbers.{counts_up}
 use Rattle.wt_link_spelling.specs.Spelling.{children_of}
 use Rattle.wt_beside_laws.specs.OwnSigns.{HasOwnBy, HaveOwn}
+use Rattle.wt_called_edit_laws.specs.FoundGroups.{IsFoundAs}
 use Rattle.wt_beside_laws.proofs.OwnSigns.{Every, every_left, every_right, Finds, all_found, own_found, inside_found, held_if}
-
--- the block's node with this number is this one
-pub record IsFoundAs (ks : List Kept) (l : Label) (ts : Trees) : Type 0 where
-  pub kept : Kept
-  pub found : kept_with l.id ks ≡ Some kept
-  pub node : kept.node ≡ tree l ts
 
 -- by the inline form of its kind; styles aren't among them
 abbrev pub FoundBy : InlineForm → List Kept → Label → Trees → Type 0

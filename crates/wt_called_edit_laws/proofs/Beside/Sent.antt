@@ -40,13 +40,14 @@ use Rattle.wt_beside_laws.specs.Stood.{things}
 use Rattle.wt_beside_laws.specs.StyledBlocks.{numbers_by, all_numbers, thing_of, found_thing, things_with}
 use Rattle.wt_beside_laws.proofs.Edits.Pieces.{both_characters, text_characters}
 use Rattle.wt_beside_laws.proofs.LineShown.{twice}
-use Rattle.wt_beside_laws.proofs.OwnSigns.{own_unchanged}
 use Rattle.wt_beside_laws.proofs.SentNodes.{things_append, no_things}
-use Rattle.wt_beside_laws.proofs.SentPieces.{stays_unchanged, text_sent}
+use Rattle.wt_beside_laws.proofs.SentPieces.{text_sent}
 use Rattle.wt_beside_laws.proofs.SentShown.{all_encoded}
 use Rattle.wt_called_edit_laws.specs.CalledEdits.{IsGroupOrFree, AreChildrenBeside, AreGoneCalm}
 use Rattle.wt_called_edit_laws.specs.PageThings.{ThingsStay}
-use Rattle.wt_called_edit_laws.proofs.Beside.Found.{IsFoundAs, FoundBy, AreFound}
+use Rattle.wt_called_edit_laws.proofs.Beside.Found.{FoundBy, AreFound}
+use Rattle.wt_called_edit_laws.specs.FoundGroups.{IsFoundAs}
+use Rattle.wt_called_edit_laws.proofs.Beside.Holding.{none_found, round_unchanged}
 
 -- ---- a node that stays is unchanged
 
@@ -59,14 +60,7 @@ kept_unchanged same block l m ts us tells h (inl g) f =
     let now : Tree = restored (kept_nodes block) (tree m us) in
     ap (λ (t : Tree). is_group (label t).kind || same now t) f.node ∙ ap (λ (b : Bool). b || same now (tree l ts)) g
 kept_unchanged same block l m ts us tells h (inr free) f =
-    let ks : List Kept = kept_nodes block in
-    let was : Tree = restored ks (tree l ts) in
-    let own : is_unchanged (page_of same block) f.kept (tree l ts) ≡ true =
-    ap (λ (t : Tree). is_group (label t).kind || same was t) f.node ∙ own_unchanged same block (tree l ts) 0 0 tells free in
-    let first : IsUnchanged (page_of same block) l ts = record { kept = f.kept; found = f.found; same = own } in
-    let r : IsUnchanged (page_of same block) m us = stays_unchanged same block l m ts us tells h free first in
-    let it_is : r.kept ≡ f.kept = same_kept r.kept f.kept (sym r.found ∙ ap (λ (i : ℕ). kept_with i ks) h.0.id ∙ f.found) in
-    subst (λ (k : Kept). is_unchanged (page_of same block) k (tree m us) ≡ true) it_is r.same
+    round_unchanged same block l m ts us tells h free.0 (none_found (kept_nodes block) ts free.1) f
 
 pub as_kept : (same : Tree → Tree → Bool) (block : Tree) (l m : Label) (ts us : Trees) → TellsSame same → StandsAsIs (tree l ts) (tree m us)
     → IsGroupOrFree (tree l ts) → IsFoundAs (kept_nodes block) l ts → IsUnchanged (page_of same block) m us

@@ -14,7 +14,8 @@ use Rattle.wt_original.specs.Numbers.{counts_up}
 use Rattle.wt_link_spelling.specs.Spelling.{children_of}
 use Rattle.wt_beside_laws.proofs.OwnSigns.{Every, Finds, all_found, every_left, every_right, held_if, inside_found, own_found}
 use Rattle.wt_beside_laws.proofs.Styled.SentNests.{IsStyleForm}
-use Rattle.wt_called_edit_laws.proofs.Beside.Found.{IsFoundAs, as_found}
+use Rattle.wt_called_edit_laws.proofs.Beside.Found.{as_found}
+use Rattle.wt_called_edit_laws.specs.FoundGroups.{IsFoundAs}
 use Rattle.wt_called_edit_laws.specs.StyledCallEdits.{HasNumberBy, HasNumbers, HaveNumbers}
 
 -- by the inline form of its kind, with what is in a style

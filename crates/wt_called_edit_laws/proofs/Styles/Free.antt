@@ -24,7 +24,7 @@ use Rattle.wt_typed_blocks.specs.Sent.{AllStandAsIs, StandsAsIs}
 use Rattle.wt_beside_laws.proofs.Styled.SentNests.{IsStyleForm, style_stands}
 use Rattle.wt_beside_laws.specs.SentStyled.{found_then, or_nowiki, sent_before, sent_by, sent_content, text_then}
 use Rattle.wt_beside_laws.specs.Styled.{StyledContent, finished, sign, styled}
-use Rattle.wt_called_edit_laws.proofs.Beside.Found.{IsFoundAs}
+use Rattle.wt_called_edit_laws.specs.FoundGroups.{IsFoundAs}
 use Rattle.wt_called_edit_laws.proofs.Styles.Found.{AreFound, FoundBy, IsFound}
 use Rattle.wt_called_edit_laws.proofs.Styles.Sent.{beside_both, found_both, style_beside, style_found}
 use Rattle.wt_called_edit_laws.specs.StyledCallEdits.{AreNodesBeside, GivesPlain, HasPlainGroups, IsBesideBy, IsNodeBeside, NewStylesArePlain, PlainGroups}

@@ -102,7 +102,7 @@ put_read t p =
     }
 
 pub put_own : (t : Thing) → IsPut t → IsOwnNode t (node_items t.source)
-put_own t p = record { is = refl; node = put_node t p; closed = put_closed t p; inside = no_mark t p; unbroken = put_unbroken t p }
+put_own t p = record { node = put_node t p; closed = put_closed t p; inside = no_mark t p; unbroken = put_unbroken t p }
 
 -- ---- it is a part of the page by itself, and calls nothing
 

@@ -22,7 +22,7 @@ use Rattle.wt_beside_laws.proofs.Styled.SentNests.{IsStyleForm, style_stands, te
 use Rattle.wt_beside_laws.specs.FlatPages.{AreNodesAndTexts}
 use Rattle.wt_beside_laws.specs.SentPieces.{IsNodeForm}
 use Rattle.wt_beside_laws.specs.SentStyled.{AreStyledSent, IsStyledBy, IsStyledSent}
-use Rattle.wt_called_edit_laws.proofs.Beside.Found.{IsFoundAs}
+use Rattle.wt_called_edit_laws.specs.FoundGroups.{IsFoundAs}
 use Rattle.wt_called_edit_laws.proofs.Beside.Sent.{as_kept}
 use Rattle.wt_called_edit_laws.proofs.Styles.Found.{AreFound, FoundBy, IsFound}
 use Rattle.wt_called_edit_laws.specs.StyledCallEdits.{AreNodesBeside, IsBesideBy, IsNodeBeside, PlainGroups}

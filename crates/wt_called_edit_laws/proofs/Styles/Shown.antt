@@ -41,7 +41,7 @@ use Rattle.wt_beside_laws.specs.Shown.{parts_shown_at}
 use Rattle.wt_beside_laws.specs.Styled.{StyledContent, delimiter, finished, mark_source, sign, signs_before, styled}
 use Rattle.wt_beside_laws.specs.StyledCalls.{owns_left, owns_past, styled_called_shown}
 use Rattle.wt_beside_laws.specs.StyledShown.{style_shown}
-use Rattle.wt_called_edit_laws.proofs.Beside.Found.{IsFoundAs}
+use Rattle.wt_called_edit_laws.specs.FoundGroups.{IsFoundAs}
 use Rattle.wt_called_edit_laws.proofs.Styles.Found.{AreFound, FoundBy, IsFound}
 use Rattle.wt_called_edit_laws.proofs.Styles.Put.{put_items}
 use Rattle.wt_called_edit_laws.proofs.Styles.Sent.{beside_both, found_both, style_beside, style_found}

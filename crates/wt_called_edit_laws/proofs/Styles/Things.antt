@@ -44,7 +44,7 @@ use Rattle.wt_beside_laws.specs.Stood.{things}
 use Rattle.wt_beside_laws.specs.Styled.{StyledContent, delimiter, finished, mark_source, sign, signs_before, signs_in, styled}
 use Rattle.wt_beside_laws.specs.StyledBlocks.{all_numbers, found_thing, numbers_by, numbers_of, thing_of, things_with}
 use Rattle.wt_beside_laws.specs.StyledNodes.{IsPut}
-use Rattle.wt_called_edit_laws.proofs.Beside.Found.{IsFoundAs}
+use Rattle.wt_called_edit_laws.specs.FoundGroups.{IsFoundAs}
 use Rattle.wt_called_edit_laws.proofs.Styles.Found.{AreFound, FoundBy, IsFound}
 use Rattle.wt_called_edit_laws.proofs.Styles.Put.{put_items, put_source}
 use Rattle.wt_called_edit_laws.proofs.Styles.Sent.{found_both, style_found}

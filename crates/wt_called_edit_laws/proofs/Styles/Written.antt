@@ -114,15 +114,15 @@ each_behind pages (styled kind opening closing inside t) after h =
 
 -- ---- what it gives
 
-role_given : (t : Thing) (u : Thing) (own : List Item) → IsPut t → IsOwnNode u own → IsGivenAs t.role u own
-role_given t u own p h = elim p [
-  | inl m ↦ subst (λ (r : Role). IsGivenAs r u own) (sym m.1) h
+role_given : (t : Thing) (u : Thing) (own : List Item) → IsPut t → own ≡ node_items u.source → IsOwnNode u own → IsGivenAs t.role u own
+role_given t u own p e h = elim p [
+  | inl m ↦ subst (λ (r : Role). IsGivenAs r u own) (sym m.1) (e, h)
   | inr w ↦ subst (λ (r : Role). IsGivenAs r u own) (sym w.0) h
 ]
 
 put_given : (pages : Pages) (i : ℕ) (x : Thing) → IsPut x → IsGivenAs x.role x (part_items pages i x.source)
 put_given pages i x p =
-    subst (λ (xs : List Item). IsGivenAs x.role x xs) (sym (put_items pages i x.source (put_source x p))) (role_given x x (node_items x.source) p (put_own x p))
+    subst (λ (xs : List Item). IsGivenAs x.role x xs) (sym (put_items pages i x.source (put_source x p))) (role_given x x (node_items x.source) p refl (put_own x p))
 
 pub all_given : (pages : Pages) (i : ℕ) (signs : List ContentSign) → AreStyledThings pages signs → AreGiven signs (owns_in pages i signs)
 all_given pages i [] h = tt
