@@ -1,5 +1,5 @@
 -- Each paragraph and heading of a page's tree that holds no call is told by the lines of the expanded page; and those that these don't tell.
-use Rattle.std.specs.Prelude.{◌≡◌, ◌⊎◌, ℕ, zero, suc, ◌+◌, false, None, List, [], ◌∷◌, ◌++◌, length, map}
+use Rattle.std.specs.Prelude.{◌≡◌, ◌⊎◌, ℕ, zero, suc, ◌+◌, false, None, List, [], ◌∷◌, ◌++◌, length, drop, map}
 use Rattle.wt_span.specs.Items.{Item, sources}
 use Rattle.wt_span.specs.Origins.{Expanded}
 use Rattle.wt_tree.specs.Source.{flat}
@@ -8,19 +8,21 @@ use Rattle.wt_tree.specs.Tree.{Tree, tree, Trees, none, more, label}
 use Rattle.wt_annotated.specs.Seams.{last_of, text_from}
 use Rattle.wt_expand.specs.PageCalls.{expanded_page}
 use Rattle.wt_expand.specs.Work.{Pages}
+use Rattle.wt_lines.specs.declared.kind.LineKind.TheVariants as line
 use Rattle.wt_lines.specs.Lines.{content, full_lines}
 use Rattle.wt_tables.specs.Parts.{joined}
-use Rattle.wt_page.specs.Lines.{ending}
-use Rattle.wt_page.specs.Rows.{Row, rows_from}
+use Rattle.wt_page.specs.Lines.{ending, kind_at}
+use Rattle.wt_page.specs.Rows.{marks_len, is_unseen}
 use Rattle.wt_selser.specs.Edits.{is_tangled}
-use Rattle.wt_text_edit_laws.specs.BodyParagraphs.{EndWhole}
+use Rattle.wt_text_edit_laws.specs.ParagraphBetween.{tables_behind}
 use Rattle.wt_text_edit_laws.specs.NoCalls.{CallsNothing}
+use Rattle.wt_text_edit_laws.specs.ReadContents.{BeginsUnclosed}
 use Rattle.wt_text_edit_laws.specs.Unclosed.{holds_unclosed}
 use Rattle.wt_called_edit_laws.specs.ContentsTaken.{TakesContents}
 use Rattle.wt_called_edit_laws.specs.Groups.{called_tree}
 use Rattle.wt_called_edit_laws.specs.LinedAmong.{spots_of_lines, end_of_lines, IsNoFunction, AreOfPage, AreBeside}
-use Rattle.wt_called_edit_laws.specs.PlacedLines.{all_lines}
-use Rattle.wt_called_edit_laws.specs.RowBlocks.{IsTextBlock, IsReachedAt, StandsIn, opened_len, begins_behind}
+use Rattle.wt_called_edit_laws.specs.PlacedLines.{lead_of, all_lines}
+use Rattle.wt_called_edit_laws.specs.RowBlocks.{IsTextBlock, IsReachedAt, StandsIn, opened_len, end_sign, past_end, rule_sign, past_rule, begins_past}
 use Rattle.wt_called_edit_laws.specs.ToldAmong.{IsToldAmong}
 use Rattle.wt_called_edit_laws.specs.ToldLines.{Told, lined, AreTold}
 use Rattle.wt_called_edit_laws.specs.ToldTogether.{AreSome, start_of}
@@ -38,15 +40,18 @@ abbrev mutual
 
 -- ---- what lines don't tell
 
--- Behind so many items begins text behind the `|}` of a table's end or the `-` of a rule, on the same line.
+-- Behind so many items begins text behind the `-` of a rule, on the same line; or behind the `|}` of a table's end text that begins with `}`.
 pub data IsExceptedAt (ls : List (List Item)) (at : ℕ) : Type 0 where
-  text_on_a_sign : (before : List Row) (first : Row) (others behind : List Row) → rows_from 0 ls ≡ before ++ ((first ∷ others) ++ behind)
-      → (EndWhole before → ⊥) → at ≡ begins_behind before first → IsExceptedAt ls at
+  text_on_a_rule : (before : List (List Item)) (own : List Item) (behind : List (List Item)) → ls ≡ before ++ own ∷ behind
+      → kind_at (tables_behind 0 before) own ≡ line.Rule → is_unseen (past_rule own) ≡ false → at ≡ begins_past before (rule_sign own) (past_rule own) → IsExceptedAt ls at
+  a_brace_on_an_end : (before : List (List Item)) (own : List Item) (others behind : List (List Item)) → ls ≡ before ++ ((own ∷ others) ++ behind)
+      → kind_at (tables_behind 0 before) own ≡ line.TableEnd → is_unseen (past_end own) ≡ false
+      → (BeginsUnclosed (sources (content (joined (drop (marks_len (past_end own)) (past_end own) ∷ others)))) → ⊥) → at ≡ begins_past before (end_sign own) (past_end own) → IsExceptedAt ls at
 
--- Behind these items neither the line break before a block's lines, nor the marks that begin them, nor the line break that ends them comes from a call.
+-- Behind these items neither the line break before a block's lines, nor what begins them, nor the line break that ends them comes from a call.
 pub record IsBesideNoCall (front : List Item) (t : Told) : Type 0 where
   pub ends : last_of None front ≡ None
-  pub marks : AreOfPage (lined t).marks
+  pub marks : AreOfPage (lead_of (lined t))
   pub ending : AreOfPage (ending (joined ((lined t).first ∷ (lined t).more)))
 
 -- none of them is a function that is kept
@@ -58,12 +63,15 @@ AreNoFunctions (x ∷ xs) = IsNoFunction x × AreNoFunctions xs
 abbrev pub IsBesideTexts : Expanded → List Item → Told → Type 0
 IsBesideTexts e front t =
     let from = length (text_from e.outer None front) in
-    AreBeside from (from + length (sources ((lined t).marks ++ joined ((lined t).first ∷ (lined t).more)))) e.text_calls
+    AreBeside from (from + length (sources (lead_of (lined t) ++ joined ((lined t).first ∷ (lined t).more)))) e.text_calls
 
--- So of an expanded page: one of these by its lines; or a block for which a call gives the line break before or behind it, or which has one on its line
+-- So of an expanded page: one of these by its lines; or a paragraph behind a table's end whose `|}` shares a byte with a call that is text (no page may have
+-- one, unproved); or a block for which a call gives the line break before or behind it, or which has one on its line
 -- that gives nothing; or in which a function is kept; or that has two braces that open before two that close (no page may have one of these, unproved).
 pub data IsExceptedIn (e : Expanded) (at : ℕ) : Type 0 where
   by_its_lines : IsExceptedAt (full_lines e.items) at → IsExceptedIn e at
+  on_a_call : (t : Told) (behind : List (List Item)) → full_lines e.items ≡ all_lines (lined t ∷ []) behind → AreTold (t ∷ []) behind → at ≡ start_of 0 t
+      → ((lined t).sign ≡ [] → ⊥) → (IsBesideTexts e (joined (lined t).before) t → ⊥) → IsExceptedIn e at
   beside_a_call : (t : Told) (behind : List (List Item)) → full_lines e.items ≡ all_lines (lined t ∷ []) behind → AreTold (t ∷ []) behind → at ≡ start_of 0 t
       → (IsBesideNoCall (joined (lined t).before) t → ⊥) → IsExceptedIn e at
   holds_a_function : (t : Told) (behind : List (List Item)) → full_lines e.items ≡ all_lines (lined t ∷ []) behind → AreTold (t ∷ []) behind → at ≡ start_of 0 t

@@ -30,7 +30,7 @@ IsOfKind (a_heading s) (a_heading z) = Unit {0}
 
 -- on the same lines, whatever its source is
 pub record IsOnTold (t : Told) (b : LinedBlock) : Type 0 where
-  pub is : b ≡ as_block (lined t).before (lined t).marks (lined t).first (lined t).more b.block b.text
+  pub is : b ≡ as_block (lined t).before (lined t).sign (lined t).marks (lined t).first (lined t).more b.block b.text
   pub kind : IsOfKind (lined t).block b.block
 
 abbrev pub AreOnTold : List Told → List LinedBlock → Type 0

@@ -16,16 +16,16 @@ use Rattle.wt_text_edit_laws.specs.NoCalls.{CallsNothing}
 use Rattle.wt_text_edit_laws.specs.PageCuts.{EndClosed, AreFree}
 use Rattle.wt_called_edit_laws.specs.Covered.{AreInNoGroup}
 use Rattle.wt_called_edit_laws.specs.Groups.{called_tree}
-use Rattle.wt_called_edit_laws.specs.PlacedLines.{LinedBlock, all_lines, AreLined}
+use Rattle.wt_called_edit_laws.specs.PlacedLines.{LinedBlock, lead_of, all_lines, AreLined}
 
 -- ---- as parts of the page
 
--- What is on the page for the lines before a block and the marks that begin it, and for what is left of the line before these: of items that a call
+-- What is on the page for the lines before a block and the sign and marks that begin its line, and for what is left of the line before these: of items that a call
 -- gives it is this call, once.
 abbrev pub spots_on : List OuterCall → List Item → List LinedBlock → List BlockSpot
 spots_on calls es [] = []
 spots_on calls es (b ∷ bs) =
-    record { before = text_from calls None ((es ++ joined b.before) ++ b.marks); block = b.block; text = b.text }
+    record { before = text_from calls None ((es ++ joined b.before) ++ lead_of b); block = b.block; text = b.text }
     ∷ spots_on calls (ending (joined (b.first ∷ b.more))) bs
 
 abbrev pub end_on : List OuterCall → List Item → List LinedBlock → List (List Item) → List ℕ
@@ -51,12 +51,12 @@ abbrev pub AreOfPage : List Item → Type 0
 AreOfPage [] = Unit {0}
 AreOfPage (x ∷ xs) = (call_of x ≡ None) × IsNoFunction x × AreOfPage xs
 
--- The lines of each block, and the marks that begin it, come from no call, and neither does the line break before them; and no two braces that open in
+-- The lines of each block, and the sign and marks that begin the first, come from no call, and neither does the line break before them; and no two braces that open in
 -- the block come before two that close.
 abbrev pub AreOwnLines : List LinedBlock → Type 0
 AreOwnLines [] = Unit {0}
 AreOwnLines (b ∷ bs) =
-    (last_of None (joined b.before) ≡ None) × AreOfPage (b.marks ++ joined (b.first ∷ b.more)) × CallsNothing (content (joined (b.first ∷ b.more)))
+    (last_of None (joined b.before) ≡ None) × AreOfPage (lead_of b ++ joined (b.first ∷ b.more)) × CallsNothing (content (joined (b.first ∷ b.more)))
     × AreOwnLines bs
 
 -- none of these calls has a byte between two places, nor goes over one of them
@@ -70,7 +70,7 @@ AreUntouched calls texts at es [] = Unit {0}
 AreUntouched calls texts at es (b ∷ bs) =
     let line = at + length (text_from calls None (es ++ joined b.before)) in
     let own = joined (b.first ∷ b.more) in
-    AreBeside line (line + length (sources (b.marks ++ own))) texts × AreUntouched calls texts (line + length (sources (b.marks ++ content own))) (ending own) bs
+    AreBeside line (line + length (sources (lead_of b ++ own))) texts × AreUntouched calls texts (line + length (sources (lead_of b ++ content own))) (ending own) bs
 
 -- ---- the page
 

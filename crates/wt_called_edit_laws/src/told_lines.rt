@@ -79,8 +79,8 @@ pub fn untangled_blocks_are_shut()
 {}
 
 /// Each paragraph and each heading of a page's tree, wherever it is outside of groups, is made of the rows of the expanded page:
-/// of text with no other text beside it, or of a heading's; and it begins where these do. So it is made of whole lines, or it
-/// begins behind the sign of a table's end or a rule.
+/// of text with no other text beside it, or of a heading's; and it begins where these do. So it is made of whole lines, or its
+/// first line begins with the sign of a table's end or a rule.
 pub fn each_block_stands_on_lines()
     ensures rows { (pages : Pages) (page p : List ℕ) (t : Tree) → IsUtf8 page → refusal_of_page pages page ≡ None
         → IsReachedAt p (called_tree pages page) t → IsTextBlock (label t).kind → StandsOnRows pages page t }
@@ -94,8 +94,8 @@ pub fn told_blocks_are_told_together()
 {}
 
 /// So each paragraph and heading of such a page's tree that is outside of groups, holds none and isn't tangled, and holds no mark
-/// that nothing ends, may be edited at its path, which is one of those of blocks that the lines tell; but for these: text behind
-/// the sign of a table's end or a rule on its line; a block for which a call gives the line break before or behind it, or which
+/// that nothing ends, may be edited at its path, which is one of those of blocks that the lines tell; but for these: text on the
+/// line of a rule, or text that begins with `}` behind a table's end; a block for which a call gives the line break before or behind it, or which
 /// has one before it on its line that gives nothing (`beside_a_call`); one in which a function is kept (`holds_a_function`); and the
 /// others of `IsExceptedIn`.
 pub fn each_block_is_told_or_excepted()
@@ -120,5 +120,5 @@ pub fn each_block_is_on_its_lines()
 /// So with any number of them at once: the nodes at some paths are on lines of the expanded page, one behind the other
 /// (`AreOnLines`), and where by these they may be edited with their calls, it is at these paths.
 pub fn blocks_are_on_their_lines_together()
-    ensures together { (pages : Pages) (page : List ℕ) (ps : List (List ℕ)) → AreOnLines pages page ps }
+    ensures together { (pages : Pages) (page : List ℕ) (ps : List (List ℕ)) → IsUtf8 page → refusal_of_page pages page ≡ None → AreOnLines pages page ps }
 {}

@@ -13,6 +13,7 @@ use Rattle.wt_beside_laws.proofs.Made.OldBlocks.{no_group}
 use Rattle.wt_called_edit_laws.specs.Covered.{NoGroupAt}
 use Rattle.wt_called_edit_laws.specs.Groups.{called_tree}
 use Rattle.wt_called_edit_laws.specs.LinedAmong.{AreBeside}
+use Rattle.wt_called_edit_laws.specs.PlacedLines.{lead_of}
 use Rattle.wt_called_edit_laws.specs.ToldAmong.{IsToldAmong}
 use Rattle.wt_called_edit_laws.specs.ToldLines.{Told, lined}
 use Rattle.wt_called_edit_laws.specs.ToldTogether.{AreAllTold}
@@ -35,7 +36,7 @@ alone_of pages page t rest h =
         ends = h.own.0;
         own = h.own.1;
         calm = h.own.2;
-        beside = subst (λ (m : ℕ). AreBeside m (m + length (sources ((lined t).marks ++ joined ((lined t).first ∷ (lined t).more)))) (expanded_page pages page).text_calls) z
+        beside = subst (λ (m : ℕ). AreBeside m (m + length (sources (lead_of (lined t) ++ joined ((lined t).first ∷ (lined t).more)))) (expanded_page pages page).text_calls) z
             h.untouched.0;
       };
     }
@@ -46,7 +47,7 @@ chosen_of pages page t rest h =
     let q : List ℕ = (lined t).text in
     let alone : IsAloneTold pages page t rest = alone_of pages page t rest h in
     let here : IsAloneHere pages page t rest = alone_here pages page t rest alone in
-    let n : ℕ = length (text_from (expanded_page pages page).outer None (joined (lined t).before ++ (lined t).marks)) in
+    let n : ℕ = length (text_from (expanded_page pages page).outer None (joined (lined t).before ++ lead_of (lined t))) in
     let z : 0 + n ≡ n = omega arith in
     let r : IsAloneRead pages page t = alone_read pages page t rest alone here (λ a e. h.free.0) in
     record {
@@ -61,7 +62,7 @@ chosen_of pages page t rest h =
 
 pub all_alone : (pages : Pages) (page : List ℕ) → IsUtf8 page → refusal_of_page pages page ≡ None → AreAllTold pages page
 all_alone pages page u r =
-    let a : AreAllChosen pages page = chosen_together pages page in
+    let a : AreAllChosen pages page = chosen_together pages page u r in
     record {
       ts = a.ts;
       behind = a.behind;

@@ -24,7 +24,7 @@ use Rattle.wt_beside_laws.proofs.Derived.BlockContents.{ReadAlone, BlockRead, bl
 use Rattle.wt_beside_laws.proofs.Derived.CutPages.{SpotRead, spot_read}
 use Rattle.wt_called_edit_laws.specs.AnyBlocks.{open_after}
 use Rattle.wt_called_edit_laws.specs.LinedAmong.{spots_of_lines, end_of_lines, AreBeside, AreOwnLines, AreUntouched}
-use Rattle.wt_called_edit_laws.specs.PlacedLines.{LinedBlock, all_lines, IsLinedAt}
+use Rattle.wt_called_edit_laws.specs.PlacedLines.{LinedBlock, all_lines, IsLinedAt, lead_of, front_rows}
 use Rattle.wt_called_edit_laws.specs.ToldLines.{Told, lined, rows_before, AreTold}
 use Rattle.wt_called_edit_laws.proofs.Among.BlockAt.{calls_of, IsRest, text_to}
 use Rattle.wt_called_edit_laws.proofs.Among.LinedParts.{IsLinedHere, lined_here, line_front, ends_text, spot_of, spot_source, page_rest}
@@ -48,11 +48,11 @@ pub record IsAloneTold (pages : Pages) (page : List ℕ) (o : Told) (rest : Line
 
 pub beside_line : (pages : Pages) (page : List ℕ) (o : Told) (rest : Lines) → IsAloneTold pages page o rest
     → AreBeside (text_to pages page 0 (line_front [] (lined o)))
-    (text_to pages page 0 (line_front [] (lined o)) + length (sources ((lined o).marks ++ own_items (lined o)))) (expanded_page pages page).text_calls
+    (text_to pages page 0 (line_front [] (lined o)) + length (sources (lead_of (lined o) ++ own_items (lined o)))) (expanded_page pages page).text_calls
 beside_line pages page o rest h =
     let n : ℕ = length (text_from (calls_of pages page) None (joined (lined o).before)) in
     let z : n ≡ 0 + n = omega arith in
-    subst (λ (m : ℕ). AreBeside m (m + length (sources ((lined o).marks ++ own_items (lined o)))) (expanded_page pages page).text_calls) z h.place.beside
+    subst (λ (m : ℕ). AreBeside m (m + length (sources (lead_of (lined o) ++ own_items (lined o)))) (expanded_page pages page).text_calls) z h.place.beside
 
 -- its lines are the page's own
 pub alone_own : (pages : Pages) (page : List ℕ) (o : Told) (rest : Lines) → IsAloneTold pages page o rest → AreOwnLines (map lined (o ∷ []))
@@ -66,13 +66,13 @@ alone_untouched pages page o rest h = (beside_line pages page o rest h, tt)
 pub record IsAloneHere (pages : Pages) (page : List ℕ) (o : Told) (rest : Lines) : Type 0 where
   pub at : IsLinedAt [] (lined o)
   pub here : IsLinedHere pages page [] [] (lined o) rest 0 (page_items page)
-  pub runs : AreRuns goes_on ((((lined o).marks ++ (lined o).first) ∷ (lined o).more) ++ rest)
-      (joined ((((lined o).marks ++ (lined o).first) ∷ (lined o).more) ++ rest))
+  pub runs : AreRuns goes_on (((lead_of (lined o) ++ (lined o).first) ∷ (lined o).more) ++ rest)
+      (joined (((lead_of (lined o) ++ (lined o).first) ∷ (lined o).more) ++ rest))
 
 pub alone_here : (pages : Pages) (page : List ℕ) (o : Told) (rest : Lines) → IsAloneTold pages page o rest → IsAloneHere pages page o rest
 alone_here pages page o rest h =
     let b : LinedBlock = lined o in
-    let ks : Lines = (b.marks ++ b.first) ∷ b.more in
+    let ks : Lines = (lead_of b ++ b.first) ∷ b.more in
     let lines : Lines = b.before ++ (ks ++ rest) in
     let xs : List Item = (expanded_page pages page).items in
     let runs : AreRuns goes_on lines xs = subst (λ (ms : Lines). AreRuns goes_on ms xs) h.are (runs_are goes_on xs) in
@@ -97,7 +97,7 @@ own_round pages page o rest h is own_is =
     record {
       items = items;
       are = items_by b.block b.text is;
-      stays = stay_so b.block (length (open_after [] (written_rows 0 b.before))) (page_items b.text) (content (own_items b)) items h.here.stays;
+      stays = stay_so b.sign b.block (length (open_after [] (front_rows 0 b))) (page_items b.text) (content (own_items b)) items h.here.stays;
       round = h.here.around;
       runs = h.runs;
     }
@@ -137,7 +137,7 @@ alone_read pages page o rest t h free =
     let whole : spots_source (s ∷ []) behind ≡ page = spot_source pages page [] [] b rest 0 (page_items page) l [] behind refl ∙ page_sources page in
     let there : EndsThere behind = subst EndsThere l.here.next.same (ends_text calls (ending (own_items b)) rest l.around.own_ending l.around.ends) in
     let r : SpotRead s behind l.here.behind =
-    spot_read s behind (page_items page) c (ap page_items whole) (subst IsUtf8 (sym whole) t.utf8) (inl l.ended) there (subst (EndsClosed (source_of b.block b.text)) l.here.next.same t.closed.0)
+    spot_read s behind (page_items page) c (ap page_items whole) (subst IsUtf8 (sym whole) t.utf8) l.led there (subst (EndsClosed (source_of b.block b.text)) l.here.next.same t.closed.0)
     (λ d a m. block_content b.block b.text own a m t.place.calm (free (read_of a m) m.items)) in
     let k : IsContent b.block b.text = r.content in
     let items : block_items b.block b.text ≡ own = sym k.unended ∙ l.here.alone in

@@ -18,7 +18,7 @@ use Rattle.wt_text_edit_laws.proofs.Between.NoCalls.{calm_expanded}
 use Rattle.wt_text_edit_laws.proofs.Cuts.TextLines.{joined_is}
 use Rattle.wt_called_edit_laws.specs.AllTold.{IsBesideNoCall, AreNoFunctions, IsBesideTexts, IsExceptedAt, IsExceptedIn, by_its_lines, beside_a_call, holds_a_function, holds_a_pair, IsExcepted}
 use Rattle.wt_called_edit_laws.specs.LinedAmong.{AreOfPage, AreBeside, AreOwnLines}
-use Rattle.wt_called_edit_laws.specs.PlacedLines.{LinedBlock, all_lines}
+use Rattle.wt_called_edit_laws.specs.PlacedLines.{LinedBlock, all_lines, lead_of}
 use Rattle.wt_called_edit_laws.specs.RowBlocks.{opened_len, StandsIn}
 use Rattle.wt_called_edit_laws.specs.ToldLines.{Told, lined, AreTold}
 use Rattle.wt_called_edit_laws.proofs.Among.CalmLines.{page_of, page_runs, own_all}
@@ -48,17 +48,17 @@ calm_lines pages page t behind c are told =
     let all : xs ≡ joined (all_lines (b ∷ []) behind) = joined_is goes_on (all_lines (b ∷ []) behind) xs runs in
     let own : AreOwnLines (b ∷ []) =
     own_all [] (b ∷ []) behind xs runs (subst AreOfPage all (page_of page)) (subst CallsNothing all c) (told.0.some, tt) in
-    let mine : AreOfPage (own_items b) = of_behind b.marks (own_items b) own.1 in
+    let mine : AreOfPage (own_items b) = of_behind (lead_of b) (own_items b) own.1 in
     let parts : AreOfPage (content (own_items b) ++ ending (own_items b)) = subst AreOfPage (sym (content_ending (own_items b))) mine in
     let from : ℕ = length (text_from e.outer None (joined b.before)) in
     record {
       beside = record {
         ends = own.0;
-        marks = of_front b.marks (own_items b) own.1;
+        marks = of_front (lead_of b) (own_items b) own.1;
         ending = of_behind (content (own_items b)) (ending (own_items b)) parts;
       };
       functions = no_functions (content (own_items b)) (of_front (content (own_items b)) (ending (own_items b)) parts);
-      texts = subst (λ (ss : List Span). AreBeside from (from + length (sources (b.marks ++ own_items b))) ss) (sym (ap (λ (x : Expanded). x.text_calls) expanded)) tt;
+      texts = subst (λ (ss : List Span). AreBeside from (from + length (sources (lead_of b ++ own_items b))) ss) (sym (ap (λ (x : Expanded). x.text_calls) expanded)) tt;
       pairs = own.2;
     }
 

@@ -34,6 +34,7 @@ use Rattle.wt_called_edit_laws.specs.AllTold.{IsBesideNoCall, AreNoFunctions, Is
 use Rattle.wt_called_edit_laws.specs.Covered.{IsBeside, IfGroup, NoGroupAt, NoneGroupAt}
 use Rattle.wt_called_edit_laws.specs.Groups.{called_tree}
 use Rattle.wt_called_edit_laws.specs.LinedAmong.{IsNoFunction, AreOfPage, AreBeside}
+use Rattle.wt_called_edit_laws.specs.PlacedLines.{lead_of}
 use Rattle.wt_called_edit_laws.specs.ToldLines.{Told, lined}
 use Rattle.wt_called_edit_laws.proofs.AllTold.ClosedLines.{closed_decided}
 use Rattle.wt_called_edit_laws.proofs.AllTold.Scans.{Decided, Asked, Answered, both_decided, three_decided, bool_decided}
@@ -44,7 +45,7 @@ use Rattle.wt_called_edit_laws.proofs.AllTold.Scans.{Decided, Asked, Answered, b
 -- ends them comes from a call; no call that is text has a byte of them, and no two braces that open come before two that close in them.
 pub record IsOwnBehind (e : Expanded) (front : List Item) (t : Told) : Type 0 where
   pub ends : last_of None front ≡ None
-  pub own : AreOfPage ((lined t).marks ++ joined ((lined t).first ∷ (lined t).more))
+  pub own : AreOfPage (lead_of (lined t) ++ joined ((lined t).first ∷ (lined t).more))
   pub calm : CallsNothing (content (joined ((lined t).first ∷ (lined t).more)))
   pub beside : IsBesideTexts e front t
 
@@ -61,7 +62,7 @@ free_of k q h = record {
 -- Behind these items its lines are the page's own, no group has its first byte, and a line break behind it is read as one.
 pub record IsChosen (pages : Pages) (page : List ℕ) (front : List Item) (t : Told) : Type 0 where
   pub place : IsOwnBehind (expanded_page pages page) front t
-  pub outside : NoGroupAt (length (text_from (expanded_page pages page).outer None (front ++ (lined t).marks))) (called_tree pages page)
+  pub outside : NoGroupAt (length (text_from (expanded_page pages page).outer None (front ++ lead_of (lined t)))) (called_tree pages page)
   pub free : IsFreeAlone (lined t).block (lined t).text
   pub closed : EndsClosed (source_of (lined t).block (lined t).text) []
 
@@ -141,7 +142,7 @@ beside_decided from to (s ∷ ss) =
 pub texts_decided : (e : Expanded) (front : List Item) (t : Told) → Decided (IsBesideTexts e front t)
 texts_decided e front t =
     let from : ℕ = length (text_from e.outer None front) in
-    beside_decided from (from + length (sources ((lined t).marks ++ joined ((lined t).first ∷ (lined t).more)))) e.text_calls
+    beside_decided from (from + length (sources (lead_of (lined t) ++ joined ((lined t).first ∷ (lined t).more)))) e.text_calls
 
 pub calm_decided : (xs : List Item) → Decided (CallsNothing xs)
 calm_decided xs = pairs_decided (braces (map sign xs))
@@ -152,9 +153,9 @@ functions_decided (x ∷ xs) = both_decided (IsNoFunction x) (AreNoFunctions xs)
 
 pub beside_call_decided : (front : List Item) (t : Told) → Decided (IsBesideNoCall front t)
 beside_call_decided front t =
-    by (none_decided (last_of None front)) (own_decided (lined t).marks) (own_decided (ending (joined ((lined t).first ∷ (lined t).more))))
+    by (none_decided (last_of None front)) (own_decided (lead_of (lined t))) (own_decided (ending (joined ((lined t).first ∷ (lined t).more))))
   where
-    by : Decided (last_of None front ≡ None) → Decided (AreOfPage (lined t).marks) → Decided (AreOfPage (ending (joined ((lined t).first ∷ (lined t).more))))
+    by : Decided (last_of None front ≡ None) → Decided (AreOfPage (lead_of (lined t))) → Decided (AreOfPage (ending (joined ((lined t).first ∷ (lined t).more))))
         → Decided (IsBesideNoCall front t)
     by (inl a) (inl b) (inl c) = inl (record { ends = a; marks = b; ending = c })
     by (inr f) b c = inr (λ h. f h.ends)
@@ -179,7 +180,7 @@ own_behind e front t own b f c d =
     let mine : AreOfPage (content lines) = own_of (content lines) own f in
     record {
       ends = b.ends;
-      own = own_both (lined t).marks lines b.marks (subst AreOfPage (content_ending lines) (own_both (content lines) (ending lines) mine b.ending));
+      own = own_both (lead_of (lined t)) lines b.marks (subst AreOfPage (content_ending lines) (own_both (content lines) (ending lines) mine b.ending));
       calm = c;
       beside = d;
     }
@@ -187,10 +188,10 @@ own_behind e front t own b f c d =
 place_decided : (e : Expanded) (front : List Item) (t : Told) → Decided (IsOwnBehind e front t)
 place_decided e front t =
     let own : List Item = joined ((lined t).first ∷ (lined t).more) in
-    let all : List Item = (lined t).marks ++ own in
+    let all : List Item = lead_of (lined t) ++ own in
     by (none_decided (last_of None front)) (own_decided all) (pairs_decided (braces (map sign (content own)))) (texts_decided e front t)
   where
-    by : Decided (last_of None front ≡ None) → Decided (AreOfPage ((lined t).marks ++ joined ((lined t).first ∷ (lined t).more)))
+    by : Decided (last_of None front ≡ None) → Decided (AreOfPage (lead_of (lined t) ++ joined ((lined t).first ∷ (lined t).more)))
         → Decided (CallsNothing (content (joined ((lined t).first ∷ (lined t).more)))) → Decided (IsBesideTexts e front t) → Decided (IsOwnBehind e front t)
     by (inl a) (inl b) (inl c) (inl d) = inl (record { ends = a; own = b; calm = c; beside = d })
     by (inr f) b c d = inr (λ h. f h.ends)
@@ -239,11 +240,11 @@ free_decided k q =
 pub chosen_decided : (pages : Pages) (page : List ℕ) → Answered (chosen pages page)
 chosen_decided pages page front t =
     by (place_decided (expanded_page pages page) front t)
-    (at_decided (length (text_from (expanded_page pages page).outer None (front ++ (lined t).marks))) (called_tree pages page)) (free_decided (lined t).block (lined t).text)
+    (at_decided (length (text_from (expanded_page pages page).outer None (front ++ lead_of (lined t)))) (called_tree pages page)) (free_decided (lined t).block (lined t).text)
     (closed_decided (source_of (lined t).block (lined t).text))
   where
     by : Decided (IsOwnBehind (expanded_page pages page) front t)
-        → Decided (NoGroupAt (length (text_from (expanded_page pages page).outer None (front ++ (lined t).marks))) (called_tree pages page))
+        → Decided (NoGroupAt (length (text_from (expanded_page pages page).outer None (front ++ lead_of (lined t)))) (called_tree pages page))
         → Decided (IsFreeAlone (lined t).block (lined t).text) → Decided (EndsClosed (source_of (lined t).block (lined t).text) [])
         → Decided (IsChosen pages page front t)
     by (inl a) (inl b) (inl c) (inl d) = inl (record { place = a; outside = b; free = c; closed = d })

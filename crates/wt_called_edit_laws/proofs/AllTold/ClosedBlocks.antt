@@ -33,7 +33,7 @@ use Rattle.wt_beside_laws.proofs.Derived.BodyRead.{parts_are}
 use Rattle.wt_beside_laws.proofs.Own.OpenLast.{ClosedLast, closed_behind, last_closed, closed_end}
 use Rattle.wt_called_edit_laws.specs.AllTold.{IsBesideTexts}
 use Rattle.wt_called_edit_laws.specs.LinedAmong.{spots_of_lines, end_of_lines, AreOfPage, AreBeside}
-use Rattle.wt_called_edit_laws.specs.PlacedLines.{LinedBlock, all_lines}
+use Rattle.wt_called_edit_laws.specs.PlacedLines.{LinedBlock, all_lines, lead_of}
 use Rattle.wt_called_edit_laws.specs.RowBlocks.{StandsIn, node_between}
 use Rattle.wt_called_edit_laws.specs.ToldLines.{Told, lined}
 use Rattle.wt_called_edit_laws.specs.ToldTogether.{start_of}
@@ -83,19 +83,19 @@ nothing_left pages page p ys h =
 -- ---- the lines in the page
 
 own_there : (pages : Pages) (page : List ℕ) (o : Told) (rest : Lines) → full_lines (expanded_page pages page).items ≡ all_lines (lined o ∷ []) rest
-    → last_of None (joined (lined o).before) ≡ None → AreOfPage ((lined o).marks ++ own_items (lined o))
-    → IsBesideTexts (expanded_page pages page) (joined (lined o).before) o → LineThere pages page (lined o).marks (own_items (lined o)) (joined rest)
+    → last_of None (joined (lined o).before) ≡ None → AreOfPage (lead_of (lined o) ++ own_items (lined o))
+    → IsBesideTexts (expanded_page pages page) (joined (lined o).before) o → LineThere pages page (lead_of (lined o)) (own_items (lined o)) (joined rest)
 own_there pages page o rest are ends own beside =
     let b : LinedBlock = lined o in
     let ls : Lines = all_lines (b ∷ []) rest in
     let r : IsRest pages page 0 ([] ++ joined ls) (page_items page) = page_rest pages page ls (page_joined pages page ls are) in
-    let there : IsRest pages page 0 (line_front [] b ++ (b.marks ++ (own_items b ++ joined rest))) (page_items page) =
+    let there : IsRest pages page 0 (line_front [] b ++ (lead_of b ++ (own_items b ++ joined rest))) (page_items page) =
     subst (λ (zs : List Item). IsRest pages page 0 zs (page_items page)) (line_items [] b rest) r in
     let n : ℕ = length (text_from (calls_of pages page) None (joined b.before)) in
     let z : n ≡ 0 + n = omega arith in
-    line_there pages page 0 (line_front [] b) b.marks (own_items b) (joined rest) (page_items page) there ends (of_front b.marks (own_items b) own)
-    (of_behind b.marks (own_items b) own)
-    (subst (λ (m : ℕ). AreBeside m (m + length (sources (b.marks ++ own_items b))) (expanded_page pages page).text_calls) z beside)
+    line_there pages page 0 (line_front [] b) (lead_of b) (own_items b) (joined rest) (page_items page) there ends (of_front (lead_of b) (own_items b) own)
+    (of_behind (lead_of b) (own_items b) own)
+    (subst (λ (m : ℕ). AreBeside m (m + length (sources (lead_of b ++ own_items b))) (expanded_page pages page).text_calls) z beside)
 
 -- ---- nothing is behind it
 
@@ -103,7 +103,7 @@ own_there pages page o rest are ends own beside =
 record IsLastOwn (pages : Pages) (page : List ℕ) (o : Told) (rest : Lines) : Type 0 where
   front : List Item
   is : page_items page ≡ front ++ content (own_items (lined o))
-  ends : (expanded_page pages page).items ≡ (joined (lined o).before ++ (lined o).marks) ++ content (own_items (lined o))
+  ends : (expanded_page pages page).items ≡ (joined (lined o).before ++ lead_of (lined o)) ++ content (own_items (lined o))
 
 no_first : (xs ys : List ℕ) → xs ++ ys ≡ [] → xs ≡ []
 no_first [] ys e = refl
@@ -121,15 +121,15 @@ last_own pages page o rest are p e =
     let b : LinedBlock = lined o in
     let own : List Item = own_items b in
     let end : List Item = ending own in
-    let t : LineThere pages page b.marks own (joined rest) = own_there pages page o rest are p.ends p.own p.beside in
-    let mine : AreOfPage own = of_behind b.marks own p.own in
+    let t : LineThere pages page (lead_of b) own (joined rest) = own_there pages page o rest are p.ends p.own p.beside in
+    let mine : AreOfPage own = of_behind (lead_of b) own p.own in
     let its : AreOfPage end = of_behind (content own) end (subst AreOfPage (sym (content_ending own)) mine) in
     let text : text_from calls None (end ++ joined rest) ≡ sources end ++ text_from calls None (joined rest) =
     text_append_from calls None end (joined rest)
     ∙ ap₂ (λ (bs : List ℕ) (u : Option ℕ). bs ++ text_from calls u (joined rest)) (own_text calls None end (from_page end its)) (own_last end (from_page end its)) in
     let none : sources end ++ text_from calls None (joined rest) ≡ [] = sym text ∙ e in
     let have : HaveBytes (page_items page) = subst HaveBytes (sym (page_from page)) (from_has false 0 page) in
-    let have_own : HaveBytes own = have_front own t.behind (have_behind b.marks (own ++ t.behind) (have_behind t.front (b.marks ++ (own ++ t.behind)) (subst HaveBytes t.is have))) in
+    let have_own : HaveBytes own = have_front own t.behind (have_behind (lead_of b) (own ++ t.behind) (have_behind t.front (lead_of b ++ (own ++ t.behind)) (subst HaveBytes t.is have))) in
     let no_end : end ≡ [] =
     no_bytes end (have_behind (content own) end (subst HaveBytes (sym (content_ending own)) have_own)) (no_first (sources end) (text_from calls None (joined rest)) none) in
     let no_behind : t.behind ≡ [] =
@@ -140,10 +140,10 @@ last_own pages page o rest are p e =
     let line : own ++ t.behind ≡ content own = ap (λ (xs : List Item). own ++ xs) no_behind ∙ append-nil own ∙ own_is in
     let expanded : own ++ joined rest ≡ content own = ap (λ (xs : List Item). own ++ xs) no_lines ∙ append-nil own ∙ own_is in
     record {
-      front = t.front ++ b.marks;
-      is = t.is ∙ ap (λ (xs : List Item). t.front ++ (b.marks ++ xs)) line ∙ sym (append_assoc t.front b.marks (content own));
-      ends = page_joined pages page (all_lines (b ∷ []) rest) are ∙ line_items [] b rest ∙ ap (λ (xs : List Item). joined b.before ++ (b.marks ++ xs)) expanded
-          ∙ sym (append_assoc (joined b.before) b.marks (content own));
+      front = t.front ++ lead_of b;
+      is = t.is ∙ ap (λ (xs : List Item). t.front ++ (lead_of b ++ xs)) line ∙ sym (append_assoc t.front (lead_of b) (content own));
+      ends = page_joined pages page (all_lines (b ∷ []) rest) are ∙ line_items [] b rest ∙ ap (λ (xs : List Item). joined b.before ++ (lead_of b ++ xs)) expanded
+          ∙ sym (append_assoc (joined b.before) (lead_of b) (content own));
     }
 
 pub own_closed : (pages : Pages) (page : List ℕ) (o : Told) (rest : Lines) (n : ℕ) → full_lines (expanded_page pages page).items ≡ all_lines (lined o ∷ []) rest
@@ -168,10 +168,10 @@ own_closed pages page o rest n are p some seen k is_source c = (
         let i : IsLastOwn pages page o rest = last_own pages page o rest are p e in
         let xs : List Item = (expanded_page pages page).items in
         let all : page_items page ≡ i.front ++ (own ++ []) = i.is ∙ ap (λ (zs : List Item). i.front ++ zs) (sym (append-nil own)) in
-        let closed : ClosedLast own = closed_behind (joined b.before ++ b.marks) own (subst ClosedLast i.ends (last_closed xs (c e))) in
+        let closed : ClosedLast own = closed_behind (joined b.before ++ lead_of b) own (subst ClosedLast i.ends (last_closed xs (c e))) in
         let lines : Lines = all_lines (b ∷ []) rest in
         let runs : AreRuns goes_on lines xs = subst (λ (ms : Lines). AreRuns goes_on ms xs) are (runs_are goes_on xs) in
-        let r : Round b rest = round b rest xs some runs (own_breaks (own_items b) (of_behind b.marks (own_items b) p.own)) in
+        let r : Round b rest = round b rest xs some runs (own_breaks (own_items b) (of_behind (lead_of b) (own_items b) p.own)) in
         let alone : page_items (sources own) ≡ own = own_alone i.front own [] (ap page_items (parts_are page i.front own [] all) ∙ all) (seen r) in
         let own_runs : AreRuns goes_on (b.first ∷ b.more) (own_items b) =
         subst (λ (ms : Lines). AreRuns goes_on ms (own_items b)) r.own_are (runs_are goes_on (own_items b)) in
@@ -195,7 +195,7 @@ own_reaches pages page t s o rest u r are p at own_size e =
     let own : List Item = own_items b in
     let i : IsLastOwn pages page o rest = last_own pages page o rest are p e in
     let items : List Item = (expanded_page pages page).items in
-    let front : List Item = (joined b.before ++ b.marks) ++ content own in
+    let front : List Item = (joined b.before ++ lead_of b) ++ content own in
     let node : List Item = s.before ++ tree_items s.block in
     let whole : tree_items (meaning items) ≡ node ++ s.behind = s.whole ∙ sym (append_assoc s.before (tree_items s.block) s.behind) in
     let all : items ≡ front ++ [] = i.ends ∙ sym (append-nil front) in
@@ -205,8 +205,8 @@ own_reaches pages page t s o rest u r are p at own_size e =
       at,
       own_size,
       size_both s.before (tree_items s.block),
-      size_both (joined b.before ++ b.marks) (content own),
-      size_both (joined b.before) b.marks,
+      size_both (joined b.before ++ lead_of b) (content own),
+      size_both (joined b.before) (lead_of b),
       sym (size_both (content own) (ending own)) ∙ ap size (content_ending own),
     ) in
     let text : text_from calls None node ≡ page =

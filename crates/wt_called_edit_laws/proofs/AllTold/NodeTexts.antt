@@ -25,7 +25,7 @@ use Rattle.wt_tables.specs.Parts.{joined}
 use Rattle.wt_called_edit_laws.proofs.AllTold.ToldStarts.{blank_is}
 use Rattle.wt_called_edit_laws.specs.AllTold.{IsBesideNoCall, IsBesideTexts}
 use Rattle.wt_called_edit_laws.specs.LinedAmong.{AreOfPage, AreBeside}
-use Rattle.wt_called_edit_laws.specs.PlacedLines.{LinedBlock, all_lines}
+use Rattle.wt_called_edit_laws.specs.PlacedLines.{LinedBlock, all_lines, lead_of}
 use Rattle.wt_called_edit_laws.specs.RowBlocks.{StandsIn, node_between}
 use Rattle.wt_called_edit_laws.specs.ToldLines.{Told, lined}
 use Rattle.wt_called_edit_laws.specs.ToldTogether.{start_of}
@@ -62,7 +62,7 @@ to_so calls n before (inner h o ts c) behind = refl
 
 pub node_texts : (pages : Pages) (page : List ℕ) (t : Tree) (s : StandsIn pages page t) (o : Told) (rest : Lines) → IsUtf8 page → refusal_of_page pages page ≡ None
     → full_lines (expanded_page pages page).items ≡ all_lines (lined o ∷ []) rest → touches_text_call (expanded_page pages page).text_calls (label t).ranges ≡ false
-    → IsBesideNoCall (joined (lined o).before) o → AllFrom None (content (own_items (lined o))) → list_all is_mark (lined o).marks ≡ true
+    → IsBesideNoCall (joined (lined o).before) o → AllFrom None (content (own_items (lined o))) → list_all is_mark (lead_of (lined o)) ≡ true
     → size s.before ≡ start_of 0 o → tree_size s.block + size (ending (own_items (lined o))) ≡ size (own_items (lined o))
     → 1 ≤ length (sources (content (own_items (lined o)))) → IsBesideTexts (expanded_page pages page) (joined (lined o).before) o
 node_texts pages page t s o rest u r are free beside mine marks at own_len some =
@@ -70,7 +70,7 @@ node_texts pages page t s o rest u r are free beside mine marks at own_len some 
     let calls : List OuterCall = e.outer in
     let b : LinedBlock = lined o in
     let fs : List Item = joined b.before in
-    let ms : List Item = b.marks in
+    let ms : List Item = lead_of b in
     let own : List Item = own_items b in
     let cs : List Item = content own in
     let es : List Item = ending own in
@@ -140,7 +140,7 @@ pub content_bytes : (pages : Pages) (page : List ℕ) (o : Told) (rest : Lines) 
 content_bytes pages page o rest n are some shown mine =
     let b : LinedBlock = lined o in
     let own : List Item = own_items b in
-    let front : List Item = joined b.before ++ b.marks in
+    let front : List Item = joined b.before ++ lead_of b in
     let tail : List Item = ending own ++ joined rest in
     let all : (expanded_page pages page).items ≡ front ++ (content own ++ tail) =
     page_joined pages page (all_lines (b ∷ []) rest) are ∙ lines_joined b rest

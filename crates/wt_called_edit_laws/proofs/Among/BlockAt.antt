@@ -1,8 +1,7 @@
 -- A block among the items of an expanded page: the page's items, where calls are characters, are cut at it, and so are the page's bytes.
 use Rattle.std.proofs.Common.{arith, ◌≡◌, ◌⊎◌, inl, inr, ℕ, zero, suc, true, ◌+◌, ◌≤◌, Option, None, List, [], ◌∷◌, ◌++◌, length, refl, sym, ap, ap₂, ◌∙◌, subst, append_assoc, length-append}
 use Rattle.std.proofs.lemmas.Grind.{flat_map-append}
-use Rattle.std.specs.List.{list_all}
-use Rattle.wt_span.specs.Items.{Item, is_mark, source, sources}
+use Rattle.wt_span.specs.Items.{Item, source, sources}
 use Rattle.wt_span.specs.Origins.{OuterCall, Span}
 use Rattle.wt_annotated.specs.Seams.{last_of, text_from}
 use Rattle.wt_annotated.proofs.Seams.{text_append_from}
@@ -11,20 +10,20 @@ use Rattle.wt_expand.specs.PageItems.{page_items}
 use Rattle.wt_expand.specs.Work.{Pages}
 use Rattle.wt_text_edit_laws.specs.PageCuts.{AreBlockItems}
 use Rattle.wt_text_edit_laws.specs.ReadContents.{begins_shown, BeginsParagraph, IsReadContent}
-use Rattle.wt_text_edit_laws.specs.TextBetween.{AreEnded}
 use Rattle.wt_text_edit_laws.specs.TextBlocks.{TextBlock, a_paragraph, a_heading, source_of, IsFrame}
 use Rattle.wt_text_edit_laws.specs.TypedHeadings.{equals, closing}
 use Rattle.wt_text_edit_laws.proofs.Cuts.ItemCuts.{HaveBytes}
+use Rattle.wt_beside_laws.specs.OpenEnds.{MarksEnd}
 use Rattle.wt_beside_laws.proofs.Derived.BlockContents.{block_seen}
 use Rattle.wt_beside_laws.proofs.Derived.BodyRead.{parts_are}
 use Rattle.wt_beside_laws.proofs.Marks.Shown.{nothing_read}
-use Rattle.wt_called_edit_laws.specs.CalledContents.{StayText}
+use Rattle.wt_beside_laws.proofs.Own.OpenEnds.{page_marks, marks_behind}
 use Rattle.wt_called_edit_laws.specs.LinedAmong.{AreOfPage, AreBeside}
 use Rattle.wt_called_edit_laws.proofs.Among.OwnItems.{from_page, Skipped, skip, TakenOwn, take_own, rest_clear}
 use Rattle.wt_called_edit_laws.proofs.Among.OwnSeams.{own_last, IsOwnSeam, Rest}
 use Rattle.wt_called_edit_laws.proofs.Among.PartsApart.{IsClear, members_of}
-use Rattle.wt_called_edit_laws.proofs.Cells.PlacedBlocks.{own_alone, stays_so}
-use Rattle.wt_called_edit_laws.proofs.Cells.PlacedLines.{marks_there}
+use Rattle.wt_called_edit_laws.proofs.Cells.PlacedBlocks.{own_alone}
+use Rattle.wt_called_edit_laws.proofs.Cells.SignLeads.{StaysOn, stays_on, have_front, have_behind}
 use Rattle.wt_called_edit_laws.proofs.PartTexts.{own_text}
 
 -- ---- bytes that are cut
@@ -56,14 +55,6 @@ read_some (a_heading s) q h = let f : IsFrame s = h.begins in by s.level f.sides
     by : (n : ℕ) → 1 ≤ n → 1 ≤ length ((equals n ++ s.lead) ++ (q ++ closing s))
     by zero le = absurd (omega (arith, le))
     by (suc n) le = omega arith
-
-pub have_front : (xs ys : List Item) → HaveBytes (xs ++ ys) → HaveBytes xs
-have_front [] ys h = tt
-have_front (x ∷ xs) ys h = (h.0, have_front xs ys h.1)
-
-pub have_behind : (xs ys : List Item) → HaveBytes (xs ++ ys) → HaveBytes ys
-have_behind [] ys h = h
-have_behind (x ∷ xs) ys h = have_behind xs ys h.1
 
 pub own_seam : (xs ys : List Item) → last_of None xs ≡ None → IsOwnSeam xs ys
 own_seam [] ys e = tt
@@ -188,11 +179,11 @@ pub record IsBlockHere (pages : Pages) (page : List ℕ) (p : ℕ) (xs ms os : L
   pub marks : HaveBytes ms
   pub some : HaveBytes os
   pub alone : page_items (source_of k q) ≡ os
-  pub stays : (n : ℕ) → StayText k n os → StayText k n (page_items q)
+  pub stays : (sign : List Item) (n : ℕ) → StaysOn sign k n os → StaysOn sign k n (page_items q)
   pub first : IsClear (block_from pages page p xs ms) 0 (members_of page)
   pub last : IsClear (block_to pages page p xs ms k q) 0 (members_of page)
   pub next : IsRest pages page (block_to pages page p xs ms k q) ys behind
-  pub marks_end : list_all is_mark ms ≡ true → 1 ≤ length os → AreEnded (sources ms)
+  pub marks_end : MarksEnd (ms ++ (os ++ behind))
 
 pub beside_last : (from mid to : ℕ) (spans : List Span) → from ≤ mid → AreBeside from to spans → AreBeside mid to spans
 beside_last from mid to [] le h = tt
@@ -245,11 +236,10 @@ block_here pages page p xs ms os k q ys qs r ends marks own block is_source besi
       marks = have_front ms second.behind (subst HaveBytes second.is first.next.some);
       some = have_front os third.behind (subst HaveBytes third.is at_block.some);
       alone = ap page_items (sym is_source) ∙ own_alone front os third.behind again (block_seen k q os block);
-      stays = λ n h. stays_so k n q front os third.behind block again h;
+      stays = λ sign n h. stays_on sign k n q front os third.behind block again h;
       first = subst (λ (n : ℕ). IsClear n 0 (members_of page)) size second.clear;
       last = subst (λ (n : ℕ). IsClear n 0 (members_of page)) all_size third.clear;
       next = subst (λ (n : ℕ). IsRest pages page n ys third.behind) all_size third.next;
-      marks_end = λ all_marks some. marks_there page first.next.front ms (os ++ third.behind)
-          (first.next.whole ∙ ap (λ zs. first.next.front ++ zs) (second.is ∙ ap (λ zs. ms ++ zs) third.is)) all_marks
-          (omega (arith, some, length-append os third.behind));
+      marks_end = marks_behind first.next.front (ms ++ (os ++ third.behind))
+          (subst MarksEnd (first.next.whole ∙ ap (λ zs. first.next.front ++ zs) (second.is ∙ ap (λ zs. ms ++ zs) third.is)) (page_marks page));
     }

@@ -20,7 +20,7 @@ use Rattle.wt_text_edit_laws.proofs.Cuts.TextLines.{joined_is, runs_behind}
 use Rattle.wt_called_edit_laws.specs.AnyBlocks.{open_after}
 use Rattle.wt_called_edit_laws.specs.LinedAmong.{spots_on, end_on, AreOfPage, AreOwnLines, AreBeside, AreUntouched, IsLinedAmong}
 use Rattle.wt_called_edit_laws.specs.LinedHeadings.{sides_of, text_of, IsLinedHeading}
-use Rattle.wt_called_edit_laws.specs.PlacedLines.{LinedBlock, all_lines, OwnLined, IsLinedAt, AreLinedAfter, AreLined}
+use Rattle.wt_called_edit_laws.specs.PlacedLines.{LinedBlock, all_lines, OwnLined, IsLinedAt, AreLinedAfter, AreLined, lead_of}
 use Rattle.wt_called_edit_laws.specs.ToldAmong.{IsToldAmong}
 use Rattle.wt_called_edit_laws.specs.ToldLines.{Told, a_paragraph_of, a_heading_on, lined, OwnTold, rows_before, IsToldAt, AreToldAfter, AreTold}
 use Rattle.wt_called_edit_laws.proofs.Among.BlockAt.{calls_of, IsRest, text_to, block_to, IsPast, IsPastOwn, past_front, past_own, beside_first, beside_front, beside_last}
@@ -82,19 +82,19 @@ heading_here pages page n p xs ms l ys qs r ends marks own beside closed run h =
 -- ---- one block
 
 pub line_items : (es : List Item) (b : LinedBlock) (tail : List (List Item))
-    → es ++ joined (b.before ++ (((b.marks ++ b.first) ∷ b.more) ++ tail)) ≡ line_front es b ++ (b.marks ++ (own_items b ++ joined tail))
+    → es ++ joined (b.before ++ (((lead_of b ++ b.first) ∷ b.more) ++ tail)) ≡ line_front es b ++ (lead_of b ++ (own_items b ++ joined tail))
 line_items es b tail =
     let rest : List Item = own_items b ++ joined tail in
-    ap (λ zs. es ++ zs) (lines_joined b tail ∙ append_assoc (joined b.before) b.marks rest) ∙ sym (append_assoc es (joined b.before) (b.marks ++ rest))
+    ap (λ zs. es ++ zs) (lines_joined b tail ∙ append_assoc (joined b.before) (lead_of b) rest) ∙ sym (append_assoc es (joined b.before) (lead_of b ++ rest))
 
 own_told : (pages : Pages) (page : List ℕ) (t : Told) (n p : ℕ) (es : List Item) (tail : List (List Item)) (qs xs : List Item) → 1 ≤ length (lined t).first
-    → AreRuns goes_on ((lined t).before ++ ((((lined t).marks ++ (lined t).first) ∷ (lined t).more) ++ tail)) xs
-    → IsRest pages page p (line_front es (lined t) ++ ((lined t).marks ++ (own_items (lined t) ++ joined tail))) qs → last_of None (line_front es (lined t)) ≡ None
-    → AreOfPage ((lined t).marks ++ own_items (lined t))
+    → AreRuns goes_on ((lined t).before ++ (((lead_of (lined t) ++ (lined t).first) ∷ (lined t).more) ++ tail)) xs
+    → IsRest pages page p (line_front es (lined t) ++ (lead_of (lined t) ++ (own_items (lined t) ++ joined tail))) qs → last_of None (line_front es (lined t)) ≡ None
+    → AreOfPage (lead_of (lined t) ++ own_items (lined t))
     → AreBeside (text_to pages page p (line_front es (lined t)))
-    (text_to pages page p (line_front es (lined t)) + length (sources ((lined t).marks ++ own_items (lined t)))) (expanded_page pages page).text_calls
-    → IsClosed (lined t) tail → OwnTold t n → OwnLined (lined t).block n (lined t).text ((lined t).first ∷ (lined t).more)
-own_told pages page (a_paragraph_of before marks first more) n p es tail qs xs some runs r ends own beside closed h = (h.0, h.1, refl)
+    (text_to pages page p (line_front es (lined t)) + length (sources (lead_of (lined t) ++ own_items (lined t)))) (expanded_page pages page).text_calls
+    → IsClosed (lined t) tail → OwnTold t n → OwnLined (lined t).sign (lined t).block n (lined t).text ((lined t).first ∷ (lined t).more)
+own_told pages page (a_paragraph_of before sign marks first more) n p es tail qs xs some runs r ends own beside closed h = (h.0, h.1, refl)
 own_told pages page (a_heading_on before marks l) n p es tail qs xs some runs r ends own beside closed h =
     let one : l ++ [] ≡ l = append-nil l in
     let lines = runs_behind goes_on before ((marks ++ l) ∷ tail) xs runs in
@@ -112,19 +112,21 @@ own_told pages page (a_heading_on before marks l) n p es tail qs xs some runs r 
     subst (λ (ys : List Item). AreHeadingItems (sides_of (content l)) (text_of (content l)) (content ys)) (sym one) head
 
 pub told_at : (pages : Pages) (page : List ℕ) (open_tables : List Bool) (t : Told) (p : ℕ) (es : List Item) (tail : List (List Item)) (qs xs : List Item)
-    → AreRuns goes_on ((lined t).before ++ ((((lined t).marks ++ (lined t).first) ∷ (lined t).more) ++ tail)) xs → IsLeft es
-    → IsRest pages page p (es ++ joined ((lined t).before ++ ((((lined t).marks ++ (lined t).first) ∷ (lined t).more) ++ tail))) qs
-    → last_of None (joined (lined t).before) ≡ None → AreOfPage ((lined t).marks ++ own_items (lined t))
+    → AreRuns goes_on ((lined t).before ++ (((lead_of (lined t) ++ (lined t).first) ∷ (lined t).more) ++ tail)) xs → IsLeft es
+    → IsRest pages page p (es ++ joined ((lined t).before ++ (((lead_of (lined t) ++ (lined t).first) ∷ (lined t).more) ++ tail))) qs
+    → last_of None (joined (lined t).before) ≡ None → AreOfPage (lead_of (lined t) ++ own_items (lined t))
     → AreBeside (text_to pages page p (line_front es (lined t)))
-    (text_to pages page p (line_front es (lined t)) + length (sources ((lined t).marks ++ own_items (lined t)))) (expanded_page pages page).text_calls
+    (text_to pages page p (line_front es (lined t)) + length (sources (lead_of (lined t) ++ own_items (lined t)))) (expanded_page pages page).text_calls
     → IsClosed (lined t) tail → IsToldAt open_tables t → IsLinedAt open_tables (lined t)
 told_at pages page open_tables t p es tail qs xs runs left r none own beside closed h =
     let b : LinedBlock = lined t in
     let ends : last_of None (line_front es b) ≡ None =
     last_append None es (joined b.before) ∙ ap (λ o. last_of o (joined b.before)) (left_none es left) ∙ none in
-    let own_there : IsRest pages page p (line_front es b ++ (b.marks ++ (own_items b ++ joined tail))) qs =
+    let own_there : IsRest pages page p (line_front es b ++ (lead_of b ++ (own_items b ++ joined tail))) qs =
     subst (λ zs. IsRest pages page p zs qs) (line_items es b tail) r in
     record {
+      sign = h.sign;
+      unclosed = h.unclosed;
       are_marks = h.are_marks;
       some = h.some;
       in_cells = h.in_cells;
@@ -158,7 +160,7 @@ told_after pages page last open_tables es [] behind p qs xs runs f r h own c u =
 told_after pages page last open_tables es (t ∷ ts) behind p qs xs runs f r h own c u =
     let b : LinedBlock = lined t in
     let tail : List (List Item) = all_lines (map lined ts) behind in
-    let some = some_lines b.before (b.marks ++ b.first) (b.more ++ tail) in
+    let some = some_lines b.before (lead_of b ++ b.first) (b.more ++ tail) in
     let is_break : es ≡ break ∷ [] = f some.0 some.1 some.2 in
     let here : IsClosed b tail = closed_here (calls_of pages page) t (open_after open_tables (rows_before open_tables t)) ts behind h.2 c.0 in
     let at : IsLinedAt open_tables b = told_at pages page open_tables t p es tail qs xs runs (inr is_break) r own.0 own.1 u.0 here h.1 in
@@ -166,7 +168,7 @@ told_after pages page last open_tables es (t ∷ ts) behind p qs xs runs f r h o
     let left : List Item = ending (own_items b) in (
       h.0,
       at,
-      told_after pages page b.block (open_after open_tables (rows_before open_tables t)) left ts behind (block_to pages page p (line_front es b) b.marks b.block b.text)
+      told_after pages page b.block (open_after open_tables (rows_before open_tables t)) left ts behind (block_to pages page p (line_front es b) (lead_of b) b.block b.text)
           l.here.behind (joined tail) l.around.tail_runs l.around.ends l.here.next h.2 own.3 c.1
           (subst (λ (n : ℕ). AreUntouched (calls_of pages page) (expanded_page pages page).text_calls n left (map lined ts)) l.next_at u.1),
     )
@@ -184,7 +186,7 @@ all_told pages page [] behind h = absurd h.told
 all_told pages page (t ∷ ts) behind h =
     let b : LinedBlock = lined t in
     let tail : List (List Item) = all_lines (map lined ts) behind in
-    let lines : List (List Item) = b.before ++ (((b.marks ++ b.first) ∷ b.more) ++ tail) in
+    let lines : List (List Item) = b.before ++ (((lead_of b ++ b.first) ∷ b.more) ++ tail) in
     let xs : List Item = (expanded_page pages page).items in
     let runs : AreRuns goes_on lines xs = subst (λ (ks : List (List Item)). AreRuns goes_on ks xs) h.are (runs_are goes_on xs) in
     let r : IsRest pages page 0 ([] ++ joined lines) (page_items page) = page_rest pages page lines (joined_is goes_on lines xs runs) in
@@ -194,7 +196,7 @@ all_told pages page (t ∷ ts) behind h =
     lined_here pages page [] [] b tail 0 (page_items page) xs runs (inl refl) r at h.own.0 h.own.1 h.untouched.0 in
     let left : List Item = ending (own_items b) in (
       at,
-      told_after pages page b.block (open_after [] (rows_before [] t)) left ts behind (block_to pages page 0 (line_front [] b) b.marks b.block b.text)
+      told_after pages page b.block (open_after [] (rows_before [] t)) left ts behind (block_to pages page 0 (line_front [] b) (lead_of b) b.block b.text)
           l.here.behind (joined tail) l.around.tail_runs l.around.ends l.here.next h.told.1
           h.own.3 h.closed.1 (subst (λ (n : ℕ). AreUntouched (calls_of pages page) (expanded_page pages page).text_calls n left (map lined ts)) l.next_at h.untouched.1),
     )
