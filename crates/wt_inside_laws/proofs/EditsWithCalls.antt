@@ -32,7 +32,7 @@ use Rattle.wt_called_edit_laws.specs.EditableBlocks.{HoldsCalls, IsEditableConte
 use Rattle.wt_called_edit_laws.specs.Groups.{called_tree}
 use Rattle.wt_called_edit_laws.specs.LinedAmong.{spots_on, spots_of_lines, end_of_lines}
 use Rattle.wt_called_edit_laws.specs.LinedCalling.{IsLinedCalling}
-use Rattle.wt_called_edit_laws.specs.PlacedLines.{LinedBlock, all_lines}
+use Rattle.wt_called_edit_laws.specs.PlacedLines.{LinedBlock, lead_of, all_lines}
 use Rattle.wt_called_edit_laws.specs.ToldLines.{Told, lined}
 use Rattle.wt_called_edit_laws.specs.ToldTogether.{AreSome}
 use Rattle.wt_called_edit_laws.proofs.AllTold.CallingTogether.{lines_together}
@@ -105,8 +105,8 @@ lines_same [] [] behind o = refl
 lines_same [] (b ∷ bs) behind o = absurd o
 lines_same (t ∷ ts) [] behind o = absurd o
 lines_same (t ∷ ts) (b ∷ bs) behind o =
-    ap (λ (ls : List (List Item)). (lined t).before ++ ((((lined t).marks ++ (lined t).first) ∷ (lined t).more) ++ ls)) (lines_same ts bs behind o.1)
-    ∙ ap (λ (c : LinedBlock). c.before ++ (((c.marks ++ c.first) ∷ c.more) ++ all_lines bs behind)) (sym o.0.is)
+    ap (λ (ls : List (List Item)). (lined t).before ++ (((lead_of (lined t) ++ (lined t).first) ∷ (lined t).more) ++ ls)) (lines_same ts bs behind o.1)
+    ∙ ap (λ (c : LinedBlock). c.before ++ (((lead_of c ++ c.first) ∷ c.more) ++ all_lines bs behind)) (sym o.0.is)
 
 contents_of : (pages : Pages) (b : LinedBlock) → IsEditable pages b → IsContentIn pages b.block b.text × IsEditableContent pages b.block b.text
 contents_of pages b (inl c) = (content_in pages b.block b.text c.0 c.1, inl c)
@@ -197,7 +197,7 @@ calls_told pages page new h some =
     let es : Edits = edits_of t new in
     let ps : List (List ℕ) = paths_of es in
     let e : OrdinarySent pages page new = h.sent in
-    let o : AreOnLines pages page ps = lines_together pages page ps in
+    let o : AreOnLines pages page ps = lines_together pages page ps h.utf8 h.unrefused in
     let body = page_body pages page h.utf8 h.unrefused in
     let reach : AllByRecursion (Reaches t) ps = edits_reach t es (ap is_group body.kind) e.sent.old e.sent.outside in
     let lines : AreSome o.ts =
