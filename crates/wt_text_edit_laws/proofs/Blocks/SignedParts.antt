@@ -1,4 +1,4 @@
--- What holds of a part that ends with lines, comments or tags holds of one with the sign of a table's end or a rule behind these.
+-- What holds of a part that ends with lines, comments or tags holds of one with the sign of a table's end or a rule, or the end of a call, behind these.
 use Rattle.std.proofs.Common.{arith, ◌≡◌, ℕ, zero, suc, ◌+◌, ◌-◌, ◌==◌, Bool, true, false, List, [], ◌∷◌, ◌++◌, length, drop, nat_lt, cond, refl, sym, ap, ◌∙◌, subst, append_assoc, append-nil, length-append}
 use Rattle.std.specs.Prelude.{◌&&◌, not, slice_index}
 use Rattle.std.specs.Char.{is_ascii_alphabetic}
@@ -7,23 +7,23 @@ use Rattle.std.proofs.lemmas.Bool.Decides.{nat_tests}
 use Rattle.std.proofs.lemmas.List.{reverse-append}
 use Rattle.wt_span.specs.Bytes.{is_break}
 use Rattle.wt_isolation.specs.OpenTags.{is_stop, bare_len, ends_open}
-use Rattle.wt_text_edit_laws.specs.SignParts.{IsSign, AreSigned}
+use Rattle.wt_text_edit_laws.specs.SignParts.{AreSigned}
 use Rattle.wt_text_edit_laws.specs.TextBetween.{is_end, AreEnded, HasEndsBefore}
 use Rattle.wt_text_edit_laws.proofs.Between.ClosingTags.{Unclosed, unclosed_other, unclosed_untagged, ClosesNoMore, KeepsClosings, ends_other_by}
 use Rattle.wt_text_edit_laws.proofs.Between.LineComments.{ends_behind}
 use Rattle.wt_text_edit_laws.proofs.Between.LineForms.{get_behind}
 use Rattle.wt_text_edit_laws.proofs.Between.LineWords.{lacks}
-use Rattle.wt_text_edit_laws.proofs.Blocks.SignReading.{sign_lacks}
+use Rattle.wt_text_edit_laws.proofs.Blocks.SignReading.{IsLine, sign_line, and_rest, line_unopened, line_unbroken}
 use Rattle.wt_text_edit_laws.proofs.Paragraphs.ClearLines.{end_is}
 
 -- ---- closing tags
 
-unopened : (s : List ℕ) → IsSign s → lacks (λ b. b == 60) s ≡ true
-unopened s h = sign_lacks (λ b. b == 60) refl refl refl refl s h
+-- the line with the sign
+abbrev line_of : (bs : List ℕ) → AreSigned bs → List ℕ
+line_of bs h = h.line ++ h.last ∷ []
 
-and_rest : (u v : Bool) → (u && v) ≡ true → v ≡ true
-and_rest true v e = e
-and_rest false v e = absurd (cc)
+unopened : (bs : List ℕ) (h : AreSigned bs) → lacks (λ b. b == 60) (line_of bs h) ≡ true
+unopened bs h = let l : IsLine (line_of bs h) = sign_line bs h in line_unopened (line_of bs h) l.bare
 
 lacks_dropped : (test : ℕ → Bool) (n : ℕ) (s : List ℕ) → lacks test s ≡ true → lacks test (drop n s) ≡ true
 lacks_dropped test zero [] h = h
@@ -50,12 +50,12 @@ front_keeps [] s l h (suc n) name rest other u g = unclosed_untagged name (drop 
 front_keeps (b ∷ front) s l h (suc n) name rest other u g = front_keeps front s (ends_behind is_end b front l) h n name rest other u g
 
 pub signed_keeps : (bs : List ℕ) → AreSigned bs → KeepsClosings bs
-signed_keeps bs h = subst KeepsClosings (sym h.is) (front_keeps h.front h.sign h.ended (unopened h.sign h.is_sign))
+signed_keeps bs h = subst KeepsClosings (sym h.is) (front_keeps h.front (line_of bs h) h.ended (unopened bs h))
 
 pub signed_unclosed : (name bs rest other : List ℕ) → AreSigned bs → Unclosed name (bs ++ rest) → Unclosed name other → Unclosed name (bs ++ other)
 signed_unclosed name bs rest other h u g =
     subst (λ (q : List ℕ). Unclosed name (q ++ other)) (sym h.is)
-    (signed_other name h.front h.sign rest other h.ended (unopened h.sign h.is_sign) (subst (λ (q : List ℕ). Unclosed name (q ++ rest)) h.is u) g)
+    (signed_other name h.front (line_of bs h) rest other h.ended (unopened bs h) (subst (λ (q : List ℕ). Unclosed name (q ++ rest)) h.is u) g)
 
 pub signed_ends : (rest other bs : List ℕ) → AreSigned bs → ClosesNoMore rest other → HasEndsBefore rest bs → HasEndsBefore other bs
 signed_ends rest other bs h c e = ends_other_by rest other false 0 bs (signed_keeps bs h) c e
@@ -109,8 +109,8 @@ behind_end zs e s end h =
     ap (λ (q : List ℕ). slice_index q (length (ws ++ s) - (length s + 1))) (append_assoc zs (e ∷ []) s) ∙ ap (slice_index (zs ++ e ∷ s)) i ∙ get_behind zs (e ∷ s) 0 in
     closed_at (ws ++ s) (length s) n (ap (λ (c : ℕ). c == 60) at ∙ end_is (λ (c : ℕ). (c == 60) ≡ false) refl refl e end)
 
-unstopped : (s : List ℕ) → IsSign s → lacks is_stop s ≡ true
-unstopped s h = sign_lacks is_stop refl refl refl refl s h
+unstopped : (bs : List ℕ) (h : AreSigned bs) → lacks is_stop (line_of bs h) ≡ true
+unstopped bs h = let l : IsLine (line_of bs h) = sign_line bs h in l.bare
 
 signed_line : (zs : List ℕ) (b : ℕ) (front s : List ℕ) → AreEnded (b ∷ front) → lacks is_stop s ≡ true → ends_open (zs ++ ((b ∷ front) ++ s)) ≡ false
 signed_line zs b [] s l h = ap ends_open (sym (append_assoc zs (b ∷ []) s)) ∙ behind_end zs b s l h
@@ -135,18 +135,20 @@ alone_closed s h =
 pub signed_first : (bs : List ℕ) → AreSigned bs → ends_open bs ≡ false
 signed_first bs h = ap ends_open h.is ∙ by h.front h.ended
   where
-    by : (front : List ℕ) → AreEnded front → ends_open (front ++ h.sign) ≡ false
-    by [] l = alone_closed h.sign (unstopped h.sign h.is_sign)
-    by (b ∷ front) l = signed_line [] b front h.sign l (unstopped h.sign h.is_sign)
+    by : (front : List ℕ) → AreEnded front → ends_open (front ++ line_of bs h) ≡ false
+    by [] l = alone_closed (line_of bs h) (unstopped bs h)
+    by (b ∷ front) l = signed_line [] b front (line_of bs h) l (unstopped bs h)
 
 -- behind what comes before it, where it begins with a line break
 pub signed_clear : (zs : List ℕ) (b : ℕ) (bs : List ℕ) → AreSigned (b ∷ bs) → b ≡ 10 → ends_open (zs ++ b ∷ bs) ≡ false
 signed_clear zs b bs h e = by h.front h.is h.ended
   where
-    by : (front : List ℕ) → ◌≡◌ {A = List ℕ} (b ∷ bs) (front ++ h.sign) → AreEnded front → ends_open (zs ++ b ∷ bs) ≡ false
+    line : List ℕ
+    line = line_of (b ∷ bs) h
+
+    by : (front : List ℕ) → ◌≡◌ {A = List ℕ} (b ∷ bs) (front ++ line) → AreEnded front → ends_open (zs ++ b ∷ bs) ≡ false
     by [] is l =
-        let lack : lacks is_break (b ∷ bs) ≡ true =
-        subst (λ (q : List ℕ). lacks is_break q ≡ true) (sym is) (sign_lacks is_break refl refl refl refl h.sign h.is_sign) in
+        let lack : lacks is_break (b ∷ bs) ≡ true = subst (λ (q : List ℕ). lacks is_break q ≡ true) (sym is) (line_unbroken line (unstopped (b ∷ bs) h)) in
         let no : lacks is_break (10 ∷ bs) ≡ true = subst (λ (c : ℕ). lacks is_break (c ∷ bs) ≡ true) e lack in
         absurd (cc)
-    by (c ∷ front) is l = ap (λ (q : List ℕ). ends_open (zs ++ q)) is ∙ signed_line zs c front h.sign l (unstopped h.sign h.is_sign)
+    by (c ∷ front) is l = ap (λ (q : List ℕ). ends_open (zs ++ q)) is ∙ signed_line zs c front line l (unstopped (b ∷ bs) h)
