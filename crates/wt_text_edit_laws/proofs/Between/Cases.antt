@@ -1,5 +1,5 @@
 -- Worked cases of what may come before a text and after it, by computing.
-use Rattle.std.proofs.Common.{refl}
+use Rattle.std.proofs.Common.{arith, refl}
 use Rattle.std.specs.Prelude.{[], codes}
 use Rattle.wt_span.specs.Comments.{comment_len, comment_line_len}
 use Rattle.wt_span.specs.Entities.{named_entity, entity_names, decimal_entity, hex_entity, entity_at}
@@ -157,10 +157,10 @@ paired h = h
 -- ---- the sign of a table's end or a rule, and the end of a call
 
 table_end : AreSigned (codes "{|\n|a\n\t|}")
-table_end = record { front = codes "{|\n|a\n"; line = codes "\t|"; last = 125; is = refl; ended = refl; bare = refl; sign = refl }
+table_end = record { some = omega arith; sign = refl; unopened = refl }
 
 rule : AreSigned (codes "<!-- c -->-----")
-rule = record { front = codes "<!-- c -->"; line = codes "----"; last = 45; is = refl; ended = refl; bare = refl; sign = refl }
+rule = record { some = omega arith; sign = refl; unopened = refl }
 
 call : AreSigned (codes "a\n{{Box|<b>x</b>|y=&amp;}}")
-call = record { front = codes "a\n{{Box|<b>x</b>"; line = codes "|y=&amp;}"; last = 125; is = refl; ended = refl; bare = refl; sign = refl }
+call = record { some = omega arith; sign = refl; unopened = refl }

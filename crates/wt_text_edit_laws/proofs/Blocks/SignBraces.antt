@@ -26,7 +26,7 @@ use Rattle.wt_text_edit_laws.specs.TypedHeadings.{Sides, equals, opening as befo
 use Rattle.wt_text_edit_laws.proofs.Between.Fronts.{first_items, items_from, first_from, byte_from, form_from}
 use Rattle.wt_text_edit_laws.proofs.Between.LessBraces.{BeginsUnbraced, braces_of}
 use Rattle.wt_text_edit_laws.proofs.Between.LineComments.{ends_behind}
-use Rattle.wt_text_edit_laws.proofs.Blocks.SignReading.{each_end}
+use Rattle.wt_text_edit_laws.proofs.Blocks.SignReading.{IsSplit, each_end, split}
 
 -- ---- a `}` is read as itself
 
@@ -149,14 +149,15 @@ ends_joined test (x ∷ z ∷ xs) y ys h = ends_joined test (z ∷ xs) y ys h
 -- its last byte is a `}` or a `-`
 pub signed_by : (test : ℕ → Bool) → test 125 ≡ true → test 45 ≡ true → (bs : List ℕ) → AreSigned bs → EndsBy test bs
 signed_by test e f bs h =
-    subst (EndsBy test) (sym (h.is ∙ sym (append_assoc h.front h.line (h.last ∷ []))))
-    (ends_joined test (h.front ++ h.line) h.last [] (each_end (λ (c : ℕ). test c ≡ true) e f h.last h.sign))
+    let g : IsSplit bs = split bs h in
+    subst (EndsBy test) (sym (g.is ∙ sym (append_assoc g.front g.line (g.last ∷ []))))
+    (ends_joined test (g.front ++ g.line) g.last [] (each_end (λ (c : ℕ). test c ≡ true) e f g.last g.sign))
 
 not_false : (v : Bool) → not v ≡ true → v ≡ false
 not_false false e = refl
 not_false true e = absurd (cc)
 
-ends_rest : (test : ℕ → Bool) (us vs : List ℕ) → EndsBy test (us ++ vs) → EndsBy test vs
+pub ends_rest : (test : ℕ → Bool) (us vs : List ℕ) → EndsBy test (us ++ vs) → EndsBy test vs
 ends_rest test [] vs h = h
 ends_rest test (u ∷ us) vs h = ends_rest test us vs (ends_behind test u (us ++ vs) h)
 

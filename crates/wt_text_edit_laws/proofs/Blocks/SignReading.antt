@@ -19,8 +19,8 @@ use Rattle.wt_part_laws.specs.Lexer.{lexer}
 use Rattle.wt_part_laws.specs.Scans.{after_all, skipped_by, Settles}
 use Rattle.wt_part_laws.proofs.LexemeFronts.{lexemes_front}
 use Rattle.wt_text_edit_laws.specs.ReadContents.{BeginsUnclosed}
-use Rattle.wt_text_edit_laws.specs.SignParts.{is_sign_end, AreSigned}
-use Rattle.wt_text_edit_laws.specs.TextBetween.{EndsBy, AreEnded, HasEndsBefore, BeginsShown}
+use Rattle.wt_text_edit_laws.specs.SignParts.{is_sign_end, ends_unopened, AreSigned}
+use Rattle.wt_text_edit_laws.specs.TextBetween.{EndsBy, is_end, AreEnded, HasEndsBefore, BeginsShown}
 use Rattle.wt_text_edit_laws.proofs.Between.Fronts.{ReadsAfter, reads_after, reads_either, front_reads, page_read, before_reads}
 use Rattle.wt_text_edit_laws.proofs.Between.LineComments.{ends_behind, last_end}
 use Rattle.wt_text_edit_laws.proofs.Between.LineForms.{front_of, no_line_by}
@@ -72,12 +72,90 @@ line_ends test [] b e = e
 line_ends test (c ∷ []) b e = e
 line_ends test (c ∷ d ∷ line) b e = line_ends test (d ∷ line) b e
 
-pub sign_line : (bs : List ℕ) (h : AreSigned bs) → IsLine (h.line ++ h.last ∷ [])
+-- such a line, behind lines, comments and tags
+pub record IsSplit (bs : List ℕ) : Type 0 where
+  pub front : List ℕ
+  pub line : List ℕ
+  pub last : ℕ
+  pub is : bs ≡ front ++ (line ++ last ∷ [])
+  pub ended : AreEnded front
+  pub bare : lacks is_stop line ≡ true
+  pub sign : is_sign_end last ≡ true
+
+pub sign_line : (bs : List ℕ) (h : IsSplit bs) → IsLine (h.line ++ h.last ∷ [])
 sign_line bs h = record {
   bare = line_lacks h.line h.last h.bare h.sign;
   ends = line_ends is_sign_end h.line h.last h.sign;
   some = omega (arith, length-append h.line (h.last ∷ []));
 }
+
+-- neither a `<` nor an end
+not_stop : (open bracket break : Bool) → (break || bracket) ≡ false → open ≡ false → (open || (bracket || break)) ≡ false
+not_stop false false false e f = refl
+not_stop false false true e f = absurd (cc)
+not_stop false true false e f = absurd (cc)
+not_stop false true true e f = absurd (cc)
+not_stop true bracket break e f = absurd (cc)
+
+bare_byte : (line : List ℕ) (b : ℕ) → lacks is_stop line ≡ true → is_stop b ≡ false → lacks is_stop (line ++ b ∷ []) ≡ true
+bare_byte [] b h e = ap (λ (t : Bool). not t && true) e
+bare_byte (c ∷ line) b h e =
+    and_both (not (is_stop c)) (lacks is_stop (line ++ b ∷ [])) (and_first (not (is_stop c)) (lacks is_stop line) h)
+    (bare_byte line b (and_rest (not (is_stop c)) (lacks is_stop line) h) e)
+
+-- a `>` or a line break begins the line anew
+mutual
+  closed_split : (front line : List ℕ) (b : ℕ) (bs : List ℕ) → AreEnded front → lacks is_stop line ≡ true → EndsBy is_sign_end (b ∷ bs)
+      → ends_unopened true (b ∷ bs) ≡ true → IsSplit (front ++ (line ++ b ∷ bs))
+  closed_split front line b [] l h e u = record { front = front; line = line; last = b; is = refl; ended = l; bare = h; sign = e }
+  closed_split front line b (c ∷ cs) l h e u =
+      by (λ fs ys k g v. closed_split fs ys c cs k g e v) (λ xs v. opened_split xs c cs e v) (is_end b) refl (b == 60) refl
+    where
+      one : List ℕ
+      one = line ++ b ∷ []
+
+      whole : (front ++ one) ++ c ∷ cs ≡ front ++ (line ++ b ∷ c ∷ cs)
+      whole = append_assoc front one (c ∷ cs) ∙ ap (λ (zs : List ℕ). front ++ zs) (append_assoc line (b ∷ []) (c ∷ cs))
+
+      by : ((fs ys : List ℕ) → AreEnded fs → lacks is_stop ys ≡ true → ends_unopened true (c ∷ cs) ≡ true → IsSplit (fs ++ (ys ++ c ∷ cs)))
+          → ((xs : List ℕ) → ends_unopened false (c ∷ cs) ≡ true → IsSplit (xs ++ c ∷ cs))
+          → (v : Bool) → is_end b ≡ v → (w : Bool) → (b == 60) ≡ w → IsSplit (front ++ (line ++ b ∷ c ∷ cs))
+      by on off true f w g =
+          let ended : AreEnded (front ++ one) = subst AreEnded (append_assoc front line (b ∷ [])) (line_ends is_end (front ++ line) b f) in
+          let rest : ends_unopened true (c ∷ cs) ≡ true = sym (ap (λ (t : Bool). ends_unopened (t || (true && not (b == 60))) (c ∷ cs)) f) ∙ u in
+          subst IsSplit whole (on (front ++ one) [] ended refl rest)
+      by on off false f true g =
+          let first : ends_unopened (true && not (b == 60)) (c ∷ cs) ≡ true =
+          sym (ap (λ (t : Bool). ends_unopened (t || (true && not (b == 60))) (c ∷ cs)) f) ∙ u in
+          let rest : ends_unopened false (c ∷ cs) ≡ true = sym (ap (λ (t : Bool). ends_unopened (true && not t) (c ∷ cs)) g) ∙ first in
+          subst IsSplit whole (off (front ++ one) rest)
+      by on off false f false g =
+          let first : ends_unopened (true && not (b == 60)) (c ∷ cs) ≡ true =
+          sym (ap (λ (t : Bool). ends_unopened (t || (true && not (b == 60))) (c ∷ cs)) f) ∙ u in
+          let rest : ends_unopened true (c ∷ cs) ≡ true = sym (ap (λ (t : Bool). ends_unopened (true && not t) (c ∷ cs)) g) ∙ first in
+          let stop : is_stop b ≡ false = not_stop (b == 60) (b == 62) (b == 10) f g in
+          subst (λ (zs : List ℕ). IsSplit (front ++ zs)) (append_assoc line (b ∷ []) (c ∷ cs))
+          (on front one l (bare_byte line b h stop) rest)
+
+  opened_split : (xs : List ℕ) (b : ℕ) (bs : List ℕ) → EndsBy is_sign_end (b ∷ bs) → ends_unopened false (b ∷ bs) ≡ true → IsSplit (xs ++ b ∷ bs)
+  opened_split xs b [] e u =
+      let no : (is_end b || (false && not (b == 60))) ≡ false =
+      each_end (λ (c : ℕ). (is_end c || (false && not (c == 60))) ≡ false) refl refl b e in
+      absurd (cc)
+  opened_split xs b (c ∷ cs) e u = by (λ fs ys k g v. closed_split fs ys c cs k g e v) (λ ys v. opened_split ys c cs e v) (is_end b) refl
+    where
+      by : ((fs ys : List ℕ) → AreEnded fs → lacks is_stop ys ≡ true → ends_unopened true (c ∷ cs) ≡ true → IsSplit (fs ++ (ys ++ c ∷ cs)))
+          → ((ys : List ℕ) → ends_unopened false (c ∷ cs) ≡ true → IsSplit (ys ++ c ∷ cs)) → (v : Bool) → is_end b ≡ v → IsSplit (xs ++ b ∷ c ∷ cs)
+      by on off true f =
+          let rest : ends_unopened true (c ∷ cs) ≡ true = sym (ap (λ (t : Bool). ends_unopened (t || (false && not (b == 60))) (c ∷ cs)) f) ∙ u in
+          subst IsSplit (append_assoc xs (b ∷ []) (c ∷ cs)) (on (xs ++ b ∷ []) [] (line_ends is_end xs b f) refl rest)
+      by on off false f =
+          let rest : ends_unopened false (c ∷ cs) ≡ true = sym (ap (λ (t : Bool). ends_unopened (t || (false && not (b == 60))) (c ∷ cs)) f) ∙ u in
+          subst IsSplit (append_assoc xs (b ∷ []) (c ∷ cs)) (off (xs ++ b ∷ []) rest)
+
+pub split : (bs : List ℕ) → AreSigned bs → IsSplit bs
+split [] h = absurd (omega (arith, h.some))
+split (b ∷ bs) h = closed_split [] [] b bs tt refl h.sign h.unopened
 
 -- what passes no test that a `<`, a `>` or a line break alone may pass
 pub lacks_less : (test : ℕ → Bool) → ((b : ℕ) → is_stop b ≡ false → test b ≡ false) → (s : List ℕ) → lacks is_stop s ≡ true → lacks test s ≡ true
@@ -147,7 +225,7 @@ other_shown b bs e c f =
 shown_line : (b : ℕ) (q rest : List ℕ) → lacks is_stop (b ∷ q) ≡ true → EndsBy is_sign_end (b ∷ q) → BeginsShown ((b ∷ q) ++ rest)
 shown_line b [] rest h e =
     other_shown b rest (each_end (λ (c : ℕ). is_blank c ≡ false) refl refl b e) (uncommented b rest (here_stops b [] h)) (no_break b (here_stops b [] h))
-shown_line b (c ∷ q) rest h e = by (is_blank b) refl
+shown_line b (c ∷ q) rest h e = by (is_blank b) refl (shown_line c q rest (here_rest b (c ∷ q) h) e)
   where
     stops : is_stop b ≡ false
     stops = here_stops b (c ∷ q) h
@@ -155,9 +233,9 @@ shown_line b (c ∷ q) rest h e = by (is_blank b) refl
     none : comment_len (b ∷ ((c ∷ q) ++ rest)) ≡ None
     none = uncommented b ((c ∷ q) ++ rest) stops
 
-    by : (v : Bool) → is_blank b ≡ v → BeginsShown (b ∷ ((c ∷ q) ++ rest))
-    by true f = blank_shown b ((c ∷ q) ++ rest) f none (shown_line c q rest (here_rest b (c ∷ q) h) e)
-    by false f = other_shown b ((c ∷ q) ++ rest) f none (no_break b stops)
+    by : (v : Bool) → is_blank b ≡ v → BeginsShown ((c ∷ q) ++ rest) → BeginsShown (b ∷ ((c ∷ q) ++ rest))
+    by true f more = blank_shown b ((c ∷ q) ++ rest) f none more
+    by false f more = other_shown b ((c ∷ q) ++ rest) f none (no_break b stops)
 
 pub line_shown : (s rest : List ℕ) → IsLine s → BeginsShown (s ++ rest)
 line_shown [] rest h = absurd (omega (arith, h.some))
@@ -276,12 +354,13 @@ front_alone front s l h e =
 pub signed_reads : (bs rest : List ℕ) (xs : List Item) → AreSigned bs → BeginsUnclosed rest → HasEndsBefore rest bs → ReadsAfter false rest xs
     → ReadsAfter false (bs ++ rest) (page_items bs ++ xs)
 signed_reads bs rest xs h u e r =
-    let front : List ℕ = h.front in
-    let s : List ℕ = h.line ++ h.last ∷ [] in
-    let l : IsLine s = sign_line bs h in
-    let ends = front_ends s rest false 0 front h.ended (line_low s l.bare) (omega arith) (subst (HasEndsBefore rest) h.is e) in
-    let all : ReadsAfter false (front ++ (s ++ rest)) (page_items front ++ (page_items s ++ xs)) = front_read front s rest xs h.ended l u ends.1 r in
-    let source : bs ++ rest ≡ front ++ (s ++ rest) = ap (λ (ds : List ℕ). ds ++ rest) h.is ∙ append_assoc front s rest in
+    let g : IsSplit bs = split bs h in
+    let front : List ℕ = g.front in
+    let s : List ℕ = g.line ++ g.last ∷ [] in
+    let l : IsLine s = sign_line bs g in
+    let ends = front_ends s rest false 0 front g.ended (line_low s l.bare) (omega arith) (subst (HasEndsBefore rest) g.is e) in
+    let all : ReadsAfter false (front ++ (s ++ rest)) (page_items front ++ (page_items s ++ xs)) = front_read front s rest xs g.ended l u ends.1 r in
+    let source : bs ++ rest ≡ front ++ (s ++ rest) = ap (λ (ds : List ℕ). ds ++ rest) g.is ∙ append_assoc front s rest in
     let items : page_items bs ++ xs ≡ page_items front ++ (page_items s ++ xs) =
-    ap (λ (ys : List Item). ys ++ xs) (ap page_items h.is ∙ front_alone front s h.ended l ends.0) ∙ append_assoc (page_items front) (page_items s) xs in
+    ap (λ (ys : List Item). ys ++ xs) (ap page_items g.is ∙ front_alone front s g.ended l ends.0) ∙ append_assoc (page_items front) (page_items s) xs in
     subst (λ (ds : List ℕ). ReadsAfter false ds (page_items bs ++ xs)) (sym source) (subst (λ ys. ReadsAfter false (front ++ (s ++ rest)) ys) (sym items) all)
