@@ -1,5 +1,5 @@
 -- Worked case: a page with a call, told by nothing but the lines of the expanded page: of a heading, and of a paragraph in a cell.
-use Rattle.std.proofs.Common.{arith, ◌≡◌, ℕ, ◌+◌, None, Some, List, [], ◌∷◌, ◌++◌, length, map, refl, sym, ap, ◌∙◌, subst}
+use Rattle.std.proofs.Common.{arith, ◌≡◌, inl, ℕ, ◌+◌, None, Some, List, [], ◌∷◌, ◌++◌, length, map, refl, sym, ap, ◌∙◌, subst}
 use Rattle.std.specs.Prelude.{codes}
 use Rattle.std.specs.Str.{is_utf8, chars, IsUtf8}
 use Rattle.std.specs.Str.Lossy.{utf8_valid_len}

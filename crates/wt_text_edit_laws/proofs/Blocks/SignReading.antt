@@ -21,7 +21,7 @@ use Rattle.wt_part_laws.proofs.LexemeFronts.{lexemes_front}
 use Rattle.wt_text_edit_laws.specs.ReadContents.{BeginsUnclosed}
 use Rattle.wt_text_edit_laws.specs.SignParts.{is_sign_end, ends_unopened, AreSigned}
 use Rattle.wt_text_edit_laws.specs.TextBetween.{EndsBy, is_end, AreEnded, HasEndsBefore, BeginsShown}
-use Rattle.wt_text_edit_laws.proofs.Between.Fronts.{ReadsAfter, reads_after, reads_either, front_reads, page_read, before_reads}
+use Rattle.wt_text_edit_laws.proofs.Between.Fronts.{ReadsAfter, reads_after, reads_either, front_reads, page_read, alone_reads, before_reads}
 use Rattle.wt_text_edit_laws.proofs.Between.LineComments.{ends_behind, last_end}
 use Rattle.wt_text_edit_laws.proofs.Between.LineForms.{front_of, no_line_by}
 use Rattle.wt_text_edit_laws.proofs.Between.LineWords.{either, lacks, Within, or_within, if_within, run_within, sign_within, entity_signed, entity_word_within}
@@ -364,3 +364,6 @@ signed_reads bs rest xs h u e r =
     let items : page_items bs ++ xs ≡ page_items front ++ (page_items s ++ xs) =
     ap (λ (ys : List Item). ys ++ xs) (ap page_items g.is ∙ front_alone front s g.ended l ends.0) ∙ append_assoc (page_items front) (page_items s) xs in
     subst (λ (ds : List ℕ). ReadsAfter false ds (page_items bs ++ xs)) (sym source) (subst (λ ys. ReadsAfter false (front ++ (s ++ rest)) ys) (sym items) all)
+
+pub signed_items : (rest bs : List ℕ) → AreSigned bs → HasEndsBefore rest bs → BeginsUnclosed rest → page_items (bs ++ rest) ≡ page_items bs ++ page_items rest
+signed_items rest bs h e u = page_read (bs ++ rest) (page_items bs ++ page_items rest) (signed_reads bs rest (page_items rest) h u e (alone_reads rest))
