@@ -1,10 +1,11 @@
--- A call that is text and shares no byte with a block has none of its lines: it begins before a brace, so it doesn't begin at the line break behind it.
+-- A call that is text and shares no byte with a block has none of its lines: it begins before a brace and ends behind a character, so it neither ends in the
+-- marks before the block nor begins at the line break behind it.
 use Rattle.std.proofs.Common.{arith, ◌≡◌, ◌≤◌, ◌<◌, ◌⊎◌, inl, inr, ℕ, zero, suc, ◌+◌, Bool, true, false, Option, Some, None, List, [], ◌∷◌, ◌++◌, length, nat_lt, refl, sym, ap, ap₂, ◌∙◌, subst, append_assoc, append-nil}
 use Rattle.std.specs.Prelude.{◌&&◌, ◌||◌}
-use Rattle.std.specs.List.{list_any}
+use Rattle.std.specs.List.{list_all, list_any}
 use Rattle.std.proofs.lemmas.Bool.Decides.{nat_tests}
 use Rattle.wt_span.specs.Bytes.{is_break}
-use Rattle.wt_span.specs.Items.{Item, char, whole}
+use Rattle.wt_span.specs.Items.{Item, char, whole, is_mark}
 use Rattle.wt_span.specs.Origins.{OuterCall, Span}
 use Rattle.wt_annotated.specs.Seams.{last_of, text_from}
 use Rattle.wt_expand.specs.PageCalls.{expanded_page, page_stretches}
@@ -16,7 +17,7 @@ use Rattle.wt_isolation.specs.TextCalls.{share_byte, touches_text_call}
 use Rattle.wt_called_edit_laws.specs.LinedAmong.{AreBeside}
 use Rattle.wt_called_edit_laws.proofs.Among.Flattened.{page_opened}
 use Rattle.wt_called_edit_laws.proofs.Among.PartsApart.{members_of}
-use Rattle.wt_called_edit_laws.proofs.Among.OwnSeams.{FirstLonger, FirstShorter, two_cuts, text_size, first_size, last_size, first_or, stretches}
+use Rattle.wt_called_edit_laws.proofs.Among.OwnSeams.{FirstLonger, FirstShorter, two_cuts, end_behind, text_size, first_size, last_size, first_or, stretches}
 use Rattle.wt_called_edit_laws.proofs.Among.OwnItems.{page_at}
 use Rattle.wt_called_edit_laws.proofs.Among.TextEnds.{IsTextIn, AreTextsIn, texts_in}
 
@@ -29,7 +30,57 @@ page_texts pages page =
     let a = page_at pages page in
     texts_in pages _ None 0 0 true page (members_of page) tt a (page_opened page)
 
--- ---- it begins at no line break
+-- ---- it ends in no mark
+
+not_marks : (ws : List Item) (c : ℕ) (zs : List Item) → list_all is_mark (ws ++ char None c ∷ zs) ≡ true → ⊥
+not_marks [] c zs h = absurd (cc)
+not_marks (w ∷ ws) c zs h = not_marks ws c zs (and_rest (is_mark w) (list_all is_mark (ws ++ char None c ∷ zs)) h)
+  where
+    and_rest : (a b : Bool) → (a && b) ≡ true → b ≡ true
+    and_rest true b e = e
+    and_rest false b e = absurd (cc)
+
+pub ends_before : (calls : List OuterCall) (fs ms behind : List Item) (s : Span) → IsTextIn calls None 0 (fs ++ (ms ++ behind)) s → list_all is_mark ms ≡ true
+    → s.1 ≤ length (text_from calls None (fs ++ ms)) → s.1 ≤ length (text_from calls None fs)
+ends_before calls fs ms behind s t marks le = by (two_cuts own t.rest fs (ms ++ behind) (sym t.ends))
+  where
+    own : List Item
+    own = t.inner ++ char None t.last ∷ []
+
+    size : length (text_from calls None own) ≡ s.1
+    size = let e = t.end in omega (arith, e)
+
+    within : (u : Item) (us : List Item) → own ≡ fs ++ u ∷ us → ms ++ behind ≡ (u ∷ us) ++ t.rest → ⊥
+    within u us e f =
+        let ends = end_behind fs u us t.inner (char None t.last) (sym e) in
+        elim (two_cuts ms behind (u ∷ us) t.rest f) [
+          | inl l ↦ not_marks ends.0 t.last l.us
+              (subst (λ (zs : List Item). list_all is_mark zs ≡ true)
+              (l.xs_are ∙ ap (λ (zs : List Item). zs ++ l.us) ends.1 ∙ append_assoc ends.0 (char None t.last ∷ []) l.us) marks)
+          | inr r ↦
+              let past = end_behind ms r.v r.vs ends.0 (char None t.last) (sym r.gs_are ∙ ends.1) in
+              let whole : own ≡ (fs ++ ms) ++ (past.0 ++ char None t.last ∷ []) =
+              e ∙ ap (λ (zs : List Item). fs ++ zs) (r.gs_are ∙ ap (λ (zs : List Item). ms ++ zs) past.1) ∙ sym (append_assoc fs ms (past.0 ++ char None t.last ∷ [])) in
+              let n = ap (λ (zs : List Item). length (text_from calls None zs)) whole in
+              let sum = text_size calls None (fs ++ ms) (past.0 ++ char None t.last ∷ []) in
+              let some = last_size calls (last_of None (fs ++ ms)) past.0 t.last in
+              omega (arith, n, sum, some, le, size)
+        ]
+
+    by : FirstLonger own t.rest fs (ms ++ behind) ⊎ FirstShorter own t.rest fs (ms ++ behind) → s.1 ≤ length (text_from calls None fs)
+    by (inl l) = here l.us l.xs_are l.bs_are
+      where
+        here : (us : List Item) → own ≡ fs ++ us → ms ++ behind ≡ us ++ t.rest → s.1 ≤ length (text_from calls None fs)
+        here [] e f =
+            let n = ap (λ (zs : List Item). length (text_from calls None zs)) (e ∙ append-nil fs) in
+            omega (arith, n, size)
+        here (u ∷ us) e f = absurd (within u us e f)
+    by (inr r) =
+        let n = ap (λ (zs : List Item). length (text_from calls None zs)) r.gs_are in
+        let sum = text_size calls None own (r.v ∷ r.vs) in
+        omega (arith, n, sum, size)
+
+-- ---- and it begins at no line break
 
 -- nothing, or a line break of the page
 pub data IsOwnEnd (es : List Item) : Type 0 where
