@@ -57,7 +57,7 @@ use Rattle.wt_called_edit_laws.specs.RowBlocks.{IsTextBlock, IsReachedAt, IsReac
 use Rattle.wt_called_edit_laws.specs.ToldAmong.{IsToldAmong}
 use Rattle.wt_called_edit_laws.specs.ToldLines.{Told, lined, AreTold}
 use Rattle.wt_called_edit_laws.specs.ToldTogether.{start_of, told_starts, IsAmongNumbers, AreSome}
-use Rattle.wt_called_edit_laws.proofs.Among.LinedParts.{of_behind, lined_whole, lined_editable}
+use Rattle.wt_called_edit_laws.proofs.Among.LinedParts.{lined_whole, lined_editable}
 use Rattle.wt_called_edit_laws.proofs.Among.OwnItems.{from_page}
 use Rattle.wt_called_edit_laws.proofs.Among.ToldAmong.{told_among}
 use Rattle.wt_called_edit_laws.proofs.BlocksOutside.{editable_called}
@@ -80,7 +80,7 @@ use Rattle.wt_called_edit_laws.proofs.AllTold.HeadSigns.{head_begins}
 use Rattle.wt_called_edit_laws.proofs.AllTold.LineBlocks.{block_on_lines}
 use Rattle.wt_called_edit_laws.proofs.AllTold.LineKinds.{Lines, led_by, past_marks, led_whole, led_marks, kind_led}
 use Rattle.wt_called_edit_laws.proofs.AllTold.OneNode.{IsNodeAt, own_tree, IsKnownNode, known_node, page_ones, page_joined}
-use Rattle.wt_called_edit_laws.proofs.AllTold.NodeTexts.{node_texts, content_bytes}
+use Rattle.wt_called_edit_laws.proofs.AllTold.NodeTexts.{node_texts, some_content, content_bytes}
 use Rattle.wt_called_edit_laws.proofs.AllTold.OwnLines.{AreSeen, text_own_lines, heading_own_lines}
 use Rattle.wt_called_edit_laws.proofs.AllTold.OwnTrees.{OwnRound, paragraph_is, heading_is}
 use Rattle.wt_called_edit_laws.proofs.AllTold.PlaceStarts.{starts_from, spot_starts, paths_start, AllClear, clear_paths, AllHaveBytes, contents_some, LeadsThere, leads, leads_there}
@@ -261,7 +261,7 @@ by_place : (pages : Pages) (page : List ℕ) (i : ℕ) (is : List ℕ) (t : Tree
     (rest : Lines) → full_lines (expanded_page pages page).items ≡ all_lines (lined o ∷ []) rest → AreTold (o ∷ []) rest
     → HasLines (lined o) rest s.block → size s.before ≡ start_of 0 o → AllFrom None (content (own_items (lined o))) → Answer pages page i is t a n.utf8 n.unrefused
 by_place pages page i is t n a s o rest are told l at own =
-    by (beside_call_decided front o) (functions_decided line) (calm_decided line)
+    by (beside_call_decided e front o) (functions_decided line) (calm_decided line)
   where
     e : Expanded
     e = expanded_page pages page
@@ -272,6 +272,7 @@ by_place pages page i is t n a s o rest are told l at own =
     line : List Item
     line = content (own_items (lined o))
 
+<<<<<<< HEAD
     told_so : IsOwnBehind e front o → Answer pages page i is t a n.utf8 n.unrefused
     told_so p =
         let closed : EndClosed (spots_of_lines pages page (map lined (o ∷ []))) (end_of_lines pages page (map lined (o ∷ [])) rest) =
@@ -280,10 +281,14 @@ by_place pages page i is t n a s o rest are told l at own =
         inl (alone_told pages page i is t n a s o rest (record { utf8 = n.utf8; closed = closed; are = are; told = told; place = p }) l.tree_so at)
 
     by : Decided (IsBesideNoCall front o) → Decided (AreNoFunctions line) → Decided (CallsNothing line)
+=======
+    by : Decided (IsBesideNoCall e front o) → Decided (AreNoFunctions line) → Decided (CallsNothing line)
+>>>>>>> 2a60601d060206b1719921cc6757dd52d0ccae9f
         → Answer pages page i is t a n.utf8 n.unrefused
     by (inr f) b c = inr (record { stands = s; begins_so = beside_a_call o rest are told at f })
     by (inl x) (inr f) c = inr (record { stands = s; begins_so = holds_a_function o rest are told at f })
     by (inl x) (inl y) (inr f) = inr (record { stands = s; begins_so = holds_a_pair o rest are told at f })
+<<<<<<< HEAD
     by (inl x) (inl y) (inl w) = beside (texts_so (lined o).sign refl)
       where
         texts_so : (sign : List Item) → (lined o).sign ≡ sign → IsBesideTexts e front o ⊎ IsExceptedIn e (size s.before)
@@ -302,6 +307,18 @@ by_place pages page i is t n a s o rest are told l at own =
         beside : IsBesideTexts e front o ⊎ IsExceptedIn e (size s.before) → Answer pages page i is t a n.utf8 n.unrefused
         beside (inr f) = inr (record { stands = s; begins_so = f })
         beside (inl z) = told_so (own_behind e front o own x y w z)
+=======
+    by (inl x) (inl y) (inl w) =
+        let free : touches_text_call e.text_calls (label t).ranges ≡ false = untouched_tree e page t n.untangled in
+        let z : IsBesideTexts e front o =
+        node_texts pages page t s o rest n.utf8 n.unrefused are free x.ending own at l.size_is
+        (content_bytes pages page o rest l.number are l.some l.shown.0 own) in
+        let p : IsOwnBehind e front o = own_behind e front o own x (some_content l.number (lined o).first (lined o).more l.some l.shown.0) y w z in
+        let closed : EndClosed (spots_of_lines pages page (map lined (o ∷ []))) (end_of_lines pages page (map lined (o ∷ [])) rest) =
+        own_closed pages page o rest l.number are p l.some l.seen l.shown (l.source p.own)
+        (λ none. unclosed_by e.items page (label t).ranges n.unclosed (own_reaches pages page t s o rest n.utf8 n.unrefused are p at l.size_is none)) in
+        inl (alone_told pages page i is t n a s o rest (record { utf8 = n.utf8; closed = closed; are = are; told = told; place = p }) l.tree_so at)
+>>>>>>> 2a60601d060206b1719921cc6757dd52d0ccae9f
 
 -- each line of text has something behind its marks
 texts_seen : (n : ℕ) (ls : Lines) → AreOfText n ls → AreSeen ls

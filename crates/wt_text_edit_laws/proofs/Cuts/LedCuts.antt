@@ -1,4 +1,5 @@
--- A page cut before a block that begins behind lines, comments and tags, or behind the sign of a table's end or a rule: what begins before it ends there.
+-- A page cut before a block that begins behind lines, comments and tags, or behind the sign of a table's end or a rule or the end of a call: what begins
+-- before it ends there.
 use Rattle.std.proofs.Common.{◌≡◌, inl, inr, ℕ, ◌<◌, ◌==◌, true, false, List, [], ◌∷◌, ◌++◌, length, refl, sym, ap, ◌∙◌, subst}
 use Rattle.std.specs.Prelude.{not}
 use Rattle.std.proofs.lemmas.Bool.{eqb-true}
@@ -10,8 +11,9 @@ use Rattle.wt_text_edit_laws.specs.ReadContents.{BeginsUnclosed}
 use Rattle.wt_text_edit_laws.specs.SignParts.{AreSigned, IsOnSign, IsLedTo}
 use Rattle.wt_text_edit_laws.specs.TextBetween.{EndsBy, is_end, AreEnded, HasEndsBefore}
 use Rattle.wt_text_edit_laws.specs.TextBlocks.{TextBlock, a_paragraph, a_heading, source_of}
+use Rattle.wt_text_edit_laws.specs.TypedHeadings.{closing}
 use Rattle.wt_text_edit_laws.proofs.Between.LineWords.{either}
-use Rattle.wt_text_edit_laws.proofs.Blocks.SignBraces.{signed_by}
+use Rattle.wt_text_edit_laws.proofs.Blocks.SignBraces.{heading_unclosed, signed_by}
 use Rattle.wt_text_edit_laws.proofs.Cuts.ItemCuts.{is_plain, page_cut, page_from}
 use Rattle.wt_text_edit_laws.proofs.Cuts.SettledEnds.{settled_ends}
 use Rattle.wt_text_edit_laws.proofs.Cuts.Uncrossed.{AreCut, part_settles}
@@ -34,7 +36,7 @@ there_unclosed (b ∷ rest) e = subst (λ (c : ℕ). BeginsUnclosed (c ∷ rest)
 sign_unclosed : (k : TextBlock) (q rest : List ℕ) → IsOnSign k q → EndsThere rest → BeginsUnclosed (source_of k q ++ rest)
 sign_unclosed a_paragraph [] rest h e = there_unclosed rest e
 sign_unclosed a_paragraph (b ∷ q) rest h e = h
-sign_unclosed (a_heading s) q rest h e = absurd h
+sign_unclosed (a_heading s) q rest h e = heading_unclosed s (q ++ closing s) rest h
 
 sign_cut : (bs rest : List ℕ) → BeginsUnclosed rest → ((c : ℕ) → (125 == c) ≡ false → (45 == c) ≡ false → EndsBy (λ b. not (b == c)) bs) → AreCut bs rest
 sign_cut bs [] u f = (inl (f 123 refl refl), inr tt, inl (f 91 refl refl), inl (f 93 refl refl))

@@ -89,7 +89,7 @@ next_at c [] (d ∷ r) z h = h
 next_at c (b ∷ q) r z h = next_at c q r z h
 
 -- a run of such bytes ends at the cut
-run_ends : (c b : ℕ) (q r : List ℕ) → (0 == c) ≡ false → IsCutAt c (b ∷ q) r → prefix_len (λ d. d == c) (b ∷ (q ++ r)) ≤ suc (length q)
+pub run_ends : (c b : ℕ) (q r : List ℕ) → (0 == c) ≡ false → IsCutAt c (b ∷ q) r → prefix_len (λ d. d == c) (b ∷ (q ++ r)) ≤ suc (length q)
 run_ends c b q r z h = elim (cases_lt (suc (length q)) (prefix_len (λ d. d == c) (b ∷ (q ++ r)))) [
   | inl lt ↦ absurd (over lt h)
   | inr le ↦ le
