@@ -17,3 +17,4 @@ pub mod CallingCases
 pub mod CalmLines
 pub mod ToldAmong
 pub mod ToldCases
+mod BehindCases

@@ -161,7 +161,7 @@ pub ends_rest : (test : ℕ → Bool) (us vs : List ℕ) → EndsBy test (us ++ 
 ends_rest test [] vs h = h
 ends_rest test (u ∷ us) vs h = ends_rest test us vs (ends_behind test u (us ++ vs) h)
 
-whole_other : (f : ItemForm) (k : ℕ) → (256 == k) ≡ false → (257 == k) ≡ false → ((if is_mark_form f then 257 else 256) == k) ≡ false
+pub whole_other : (f : ItemForm) (k : ℕ) → (256 == k) ≡ false → (257 == k) ≡ false → ((if is_mark_form f then 257 else 256) == k) ≡ false
 whole_other f k a b = by (is_mark_form f)
   where
     by : (v : Bool) → ((if v then 257 else 256) == k) ≡ false
