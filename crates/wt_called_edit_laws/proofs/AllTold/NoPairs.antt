@@ -1,11 +1,11 @@
 -- A block whose lines are the page's own calls nothing by itself: two braces that open before two that close in it would make a call of the page.
-use Rattle.std.proofs.Common.{arith, ◌≡◌, ◌⊎◌, inl, inr, ℕ, zero, suc, ◌+◌, ◌≤◌, ◌<◌, Bool, false, None, List, [], ◌∷◌, ◌++◌, length, take, drop, refl, sym, ap, ◌∙◌, subst, append_assoc, append-nil, length-append, length-take, length-drop}
+use Rattle.std.proofs.Common.{arith, ◌≡◌, ◌⊎◌, inl, inr, ℕ, zero, suc, ◌+◌, ◌≤◌, Bool, false, None, List, [], ◌∷◌, ◌++◌, length, drop, refl, sym, ap, ◌∙◌, subst, append_assoc, length-drop}
 use Rattle.wt_span.specs.declared.form.Mode.TheVariants.{Page}
 use Rattle.wt_span.specs.declared.form.LexKind.TheVariants.{Opens, Closes}
 use Rattle.wt_span.specs.Items.{Item, char, sources}
-use Rattle.wt_span.specs.Origins.{OuterCall, Span, Expanded}
+use Rattle.wt_span.specs.Origins.{OuterCall, Span}
 use Rattle.wt_span.specs.Lexemes.{Word, words}
-use Rattle.wt_span.specs.Braces.{Member, Members, lexeme, call, members, width, width_of_all, reduced}
+use Rattle.wt_span.specs.Braces.{Member, Members, lexeme, call, members, width_of_all, reduced}
 use Rattle.wt_span.specs.Runs.{AreRuns}
 use Rattle.wt_span.proofs.RunLaws.{runs_are}
 use Rattle.wt_braces.specs.Words.{total_width}
@@ -18,7 +18,6 @@ use Rattle.wt_tables.specs.Parts.{joined}
 use Rattle.wt_expand.specs.PageCalls.{expanded_page}
 use Rattle.wt_expand.specs.PageItems.{items_of_words, page_items}
 use Rattle.wt_expand.specs.Work.{Pages}
-use Rattle.wt_expand.proofs.PageLaws.{page_sources}
 use Rattle.wt_transclusion.specs.Stretch.{AreFull}
 use Rattle.wt_transclusion.proofs.Full.{full_text, text_bytes}
 use Rattle.wt_part_laws.specs.Apart.{AreApart}
@@ -50,7 +49,7 @@ use Rattle.wt_called_edit_laws.proofs.Among.Members.{flat_widths, words_size}
 use Rattle.wt_called_edit_laws.proofs.Among.NoCallRuns.{HasCall, none_meet_uncalled}
 use Rattle.wt_called_edit_laws.proofs.Among.OwnItems.{full_members}
 use Rattle.wt_called_edit_laws.proofs.Among.OwnSeams.{sources_size}
-use Rattle.wt_called_edit_laws.proofs.Among.PartsApart.{IsClear, IsClearOf, members_of, AreSide, page_apart, page_behind, page_front, clear_rest}
+use Rattle.wt_called_edit_laws.proofs.Among.PartsApart.{IsClear, members_of, AreSide, page_apart, page_behind, page_front, clear_rest}
 use Rattle.wt_called_edit_laws.proofs.Among.RunBraces.{calls_nothing_so}
 use Rattle.wt_called_edit_laws.proofs.Among.ToldAmong.{line_items}
 use Rattle.wt_called_edit_laws.proofs.Cells.PlacedBlocks.{own_alone}
@@ -193,8 +192,7 @@ there pages page xs os ys r some own beside =
     let to : ℕ = from + length (sources os) in
     let first : IsPast pages page 0 xs (os ++ ys) (page_items page) =
     past_before pages page 0 xs (os ++ ys) (page_items page) r (begins_some os ys some own) (beside_first from to spans (omega arith) beside) in
-    let all : IsPastOwn pages page from os ys first.behind = past_own pages page from os ys first.behind first.next own beside in
-    (
+    let all : IsPastOwn pages page from os ys first.behind = past_own pages page from os ys first.behind first.next own beside in (
       record {
         before = first.before;
         behind = all.behind;

@@ -1,6 +1,6 @@
 -- Worked cases: paragraphs directly behind a call, which gives nothing, or a heading and a line break: their lines tell them, and neither is excepted for
 -- the call.
-use Rattle.std.proofs.Common.{arith, ◌≡◌, inr, ℕ, None, Some, List, [], ◌∷◌, ◌++◌, length, refl, sym, ap, ◌∙◌, subst}
+use Rattle.std.proofs.Common.{arith, ◌≡◌, inr, ℕ, None, Some, List, [], ◌∷◌, ◌++◌, refl, sym, subst}
 use Rattle.std.specs.Prelude.{codes, if◌then◌else◌}
 use Rattle.std.specs.Str.{bytes_eq, is_utf8, chars}
 use Rattle.std.specs.Str.Lossy.{utf8_valid_len}
@@ -9,7 +9,6 @@ use Rattle.wt_span.specs.declared.form.ItemForm.TheVariants as form
 use Rattle.wt_span.specs.Comments.{comment_len, comment_line_len}
 use Rattle.wt_span.specs.Entities.{entity_at, named_entity, decimal_entity, hex_entity, entity_names}
 use Rattle.wt_span.specs.Items.{Item, char, whole}
-use Rattle.wt_span.specs.Origins.{OuterCall, Expanded}
 use Rattle.wt_span.specs.Tags.{raw_len, opening_tag, tag_after, closing_tag, with_inside, is_extension, include_at}
 use Rattle.wt_span.specs.Lexemes.{sign_word, form_at, closed, words}
 use Rattle.wt_span.specs.Braces.{rewritten, reduced, parts_of}

@@ -1,11 +1,12 @@
 -- Lexemes of which none is made a call: no run that closes with two braces or more is behind one that opens so.
-use Rattle.std.proofs.Common.{arith, ◌≡◌, ◌⊎◌, inl, inr, ℕ, zero, suc, ◌+◌, ◌-◌, ◌<◌, ◌≤◌, ◌==◌, Bool, true, false, List, [], ◌∷◌, ◌++◌, reverse, refl, sym, ap, ◌∙◌, subst}
+use Rattle.std.proofs.Common.{arith, ◌≡◌, ◌⊎◌, inl, inr, ℕ, zero, suc, ◌<◌, ◌≤◌, ◌==◌, Bool, true, false, List, [], ◌∷◌, ◌++◌, reverse, nat_le, refl, sym, ap, ◌∙◌, subst}
 use Rattle.std.specs.Prelude.{if◌then◌else◌}
+use Rattle.std.proofs.lemmas.Bool.Decides.{nat_tests}
 use Rattle.std.proofs.lemmas.List.{reverse-append}
 use Rattle.wt_span.specs.declared.form.LexKind.{LexKind}
 use Rattle.wt_span.specs.declared.form.LexKind.TheVariants.{Chars, CommentLine, Comment, Raw, Include, Hidden, Entity, Opens, Closes, LinkOpen, LinkClose, Pipe, Equals}
 use Rattle.wt_span.specs.Lexemes.{Word}
-use Rattle.wt_span.specs.Braces.{Member, lexeme, call, left_over, rewritten, again, closed_by, with_word, reduced_onto, reduced}
+use Rattle.wt_span.specs.Braces.{Member, lexeme, call, has_two, left_over, rewritten, again, closed_by, with_word, reduced_onto, reduced}
 use Rattle.wt_braces.proofs.Shapes.{NoRun, Behind, nearest}
 use Rattle.wt_braces.proofs.Takings.{stuck_free, stuck_few}
 use Rattle.wt_called_edit_laws.proofs.Among.Crossed.{taken_so}
@@ -169,23 +170,24 @@ none_meet ((LinkClose, n) ∷ ws) h = none_meet ws h
 none_meet ((Pipe, n) ∷ ws) h = none_meet ws h
 none_meet ((Equals, n) ∷ ws) h = none_meet ws h
 
--- a run that opens is nothing, or has two braces
+two_open : (n : ℕ) → 2 ≤ n → has_two (lexeme (Opens, n)) ≡ false → ⊥
+two_open n two e =
+    let yes : nat_le 2 n ≡ true = grind (arith, nat_tests, two) in
+    let no : true ≡ false = sym yes ∙ e in
+    cc
+
+-- a run that opens has two braces or not
 run_or : (n : ℕ) (xs : List Member) → NoRun xs → NoRun (lexeme (Opens, n) ∷ xs) ⊎ (NoRun (lexeme (Opens, n) ∷ xs) → ⊥)
 run_or zero xs h = inl (refl, h)
 run_or (suc zero) xs h = inl (refl, h)
-run_or (suc (suc n)) xs h = inr (λ g. let no = g.0 in absurd (cc))
+run_or (suc (suc n)) xs h = inr (λ g. two_open (suc (suc n)) (omega arith) g.0)
 
 free_opens : (n : ℕ) (ws : List Word) (xs : List Member) → NoRun xs → Uncalled (lexeme (Opens, n) ∷ xs) ws
     → ((ys : List Member) → NoRun ys → Uncalled ys ws → NoneMeet ws) → (2 ≤ n → NoClosing ws) × NoneMeet ws
 free_opens n ws xs f h go = by (run_or n xs f)
   where
     by : NoRun (lexeme (Opens, n) ∷ xs) ⊎ (NoRun (lexeme (Opens, n) ∷ xs) → ⊥) → (2 ≤ n → NoClosing ws) × NoneMeet ws
-    by (inl g) = ((λ two. absurd (many n two (g.0, tt))), go (lexeme (Opens, n) ∷ xs) g h)
-      where
-        many : (m : ℕ) → 2 ≤ m → NoRun (lexeme (Opens, m) ∷ []) → ⊥
-        many zero two e = omega (arith, two)
-        many (suc zero) two e = omega (arith, two)
-        many (suc (suc m)) two e = let no = e.0 in cc
+    by (inl g) = ((λ two. absurd (two_open n two g.0)), go (lexeme (Opens, n) ∷ xs) g h)
     by (inr g) = let none : NoClosing ws = open_so ws (lexeme (Opens, n) ∷ xs) g h in ((λ two. none), none_meet ws none)
 
 free_so : (ws : List Word) (xs : List Member) → NoRun xs → Uncalled xs ws → NoneMeet ws

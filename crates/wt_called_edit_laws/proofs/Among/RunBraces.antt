@@ -1,6 +1,6 @@
 -- Two braces side by side among a text's items are in a run of braces among its lexemes: where no such run closes behind one that opens, the items call
 -- nothing.
-use Rattle.std.proofs.Common.{arith, ◌≡◌, ◌≢◌, inl, inr, ℕ, zero, suc, ◌+◌, ◌-◌, ◌<◌, ◌≤◌, ◌==◌, Bool, true, false, cond, Option, Some, None, List, [], ◌∷◌, ◌++◌, length, map, take, get_or, nat_lt, refl, sym, ap, ◌∙◌, subst, length-take, codes}
+use Rattle.std.proofs.Common.{arith, ◌≡◌, inl, inr, ℕ, zero, suc, ◌+◌, ◌<◌, ◌≤◌, ◌==◌, Bool, true, false, cond, Option, Some, None, List, [], ◌∷◌, ◌++◌, length, map, take, get_or, nat_lt, refl, sym, ap, ◌∙◌, subst, codes}
 use Rattle.std.specs.Prelude.{◌||◌, if◌then◌else◌}
 use Rattle.std.specs.Option.{option_or}
 use Rattle.std.specs.List.{prefix_len}
@@ -14,19 +14,18 @@ use Rattle.wt_span.specs.declared.form.LexKind.TheVariants.{Chars, CommentLine, 
 use Rattle.wt_span.specs.Bytes.{is_break, begins}
 use Rattle.wt_span.specs.Comments.{comment_len, comment_line_len}
 use Rattle.wt_span.specs.Entities.{entity_at}
-use Rattle.wt_span.specs.Items.{Item, char, whole, sign}
+use Rattle.wt_span.specs.Items.{Item, whole, sign}
 use Rattle.wt_span.specs.Lexemes.{Word, Cut, cuts, closed, words, as_word, run_at, sign_at, sign_word, entity_word, comment_line_word, form_at}
 use Rattle.wt_span.specs.Tags.{Tag, opening_tag, closing_tag, raw_len, hides, hidden_len, is_left_out, opening_include, closing_include, include_at}
 use Rattle.wt_lex.proofs.AllForms.{form_fits}
 use Rattle.wt_lex.proofs.Begins.{begins_get, begins_len}
 use Rattle.wt_typed_blocks.proofs.Forms.{begins_not}
 use Rattle.wt_typed_blocks.proofs.TextReads.{apart, equal_or}
-use Rattle.wt_expand.specs.PageItems.{items_of_word, page_items}
+use Rattle.wt_expand.specs.PageItems.{page_items}
 use Rattle.wt_text_edit_laws.specs.LonePages.{page_chars}
 use Rattle.wt_text_edit_laws.specs.NoCalls.{Brace, opening, closing, braces, NoneClose, NonePairs, CallsNothing, is_brace}
 use Rattle.wt_text_edit_laws.proofs.Between.BraceWords.{HasTwo, two_braces, none_pair, AreBraces, run_here, signs_of, signs_split}
-use Rattle.wt_text_edit_laws.proofs.Between.Fronts.{first_items, items_from, first_from, byte_from, form_from, words_by, words_from}
-use Rattle.wt_text_edit_laws.proofs.Between.LineWords.{either}
+use Rattle.wt_text_edit_laws.proofs.Between.Fronts.{first_items, items_from, first_from, byte_from, words_by, words_from}
 use Rattle.wt_text_edit_laws.proofs.Blocks.SignBraces.{whole_other}
 use Rattle.wt_text_edit_laws.proofs.Cuts.SignBytes.{is_sign_byte, sign_anyway}
 use Rattle.wt_text_edit_laws.proofs.Cuts.Uncrossed.{BeginsOther, raw_one}
