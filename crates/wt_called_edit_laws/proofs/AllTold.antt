@@ -34,6 +34,7 @@ pub mod Alone
 pub mod OneNode
 pub mod ClosedBlocks
 pub mod NodeTexts
+pub mod NoPairs
 pub mod Complete
 pub mod AllAlone
 pub mod CallingStarts

@@ -8,7 +8,7 @@ use Rattle.wt_span.specs.Origins.{OuterCall, Span}
 use Rattle.wt_span.specs.Runs.{AreRuns}
 use Rattle.wt_span.proofs.RunLaws.{runs_are}
 use Rattle.wt_annotated.specs.Seams.{last_of, text_from}
-use Rattle.wt_annotated.proofs.Seams.{last_append, text_append_from}
+use Rattle.wt_annotated.proofs.Seams.{last_append}
 use Rattle.wt_lines.specs.Lines.{content, full_lines, goes_on}
 use Rattle.wt_page.specs.Lines.{ending}
 use Rattle.wt_page.specs.Rows.{Row}
@@ -17,7 +17,7 @@ use Rattle.wt_expand.specs.PageCalls.{expanded_page}
 use Rattle.wt_expand.specs.PageItems.{page_items}
 use Rattle.wt_expand.specs.Work.{Pages}
 use Rattle.wt_expand.proofs.PageLaws.{page_sources}
-use Rattle.wt_expand.proofs.PiecePlaces.{text_behind, behind_page}
+use Rattle.wt_expand.proofs.PiecePlaces.{text_behind}
 use Rattle.wt_part_laws.specs.Expanded.{part_items}
 use Rattle.wt_part_laws.specs.Lexer.{lexer}
 use Rattle.wt_part_laws.specs.Scans.{after_all}
@@ -58,7 +58,7 @@ use Rattle.wt_called_edit_laws.proofs.Among.BlockAt.{read_some, calls_of, IsRest
 >>>>>>> 2a60601d060206b1719921cc6757dd52d0ccae9f
 use Rattle.wt_called_edit_laws.proofs.Among.FirstItems.{FirstHas, EachThere, there_both, there_before, there_behind, part_there, called_there, NamedParts, named_parts, called_first, part_below}
 use Rattle.wt_called_edit_laws.proofs.Among.LinedParts.{EndsBreak, EndsOwn, own_end, ended_text, own_behind, own_text_size, ends_text, cancel, no_items, IsLeft, left_none, left_whole, open_at, line_front, block_front, page_rest}
-use Rattle.wt_called_edit_laws.proofs.Among.OwnSeams.{FirstLonger, FirstShorter, two_cuts, first_or, text_size, end_behind}
+use Rattle.wt_called_edit_laws.proofs.Among.OwnSeams.{FirstLonger, FirstShorter, two_cuts, first_or, first_size, text_size, end_behind}
 use Rattle.wt_called_edit_laws.proofs.Among.PartsApart.{IsClear, members_of, AreClear, ArePartsApart, parts_apart}
 use Rattle.wt_called_edit_laws.proofs.Cells.PlacedCalling.{block_begins, PartsRead, parts_read, parts_called, calling_placed}
 use Rattle.wt_called_edit_laws.proofs.Cells.PlacedLines.{own_items, Round, round, some_lines, lines_end}

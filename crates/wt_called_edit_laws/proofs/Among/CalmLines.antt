@@ -39,7 +39,6 @@ use Rattle.wt_called_edit_laws.specs.PlacedLines.{LinedBlock, all_lines, spots_b
 use Rattle.wt_called_edit_laws.specs.PlacedSpots.{AreFurtherIn, AreBlocksIn, IsPlacedPage}
 use Rattle.wt_called_edit_laws.proofs.Among.LinedParts.{of_behind, of_front, own_breaks}
 use Rattle.wt_called_edit_laws.proofs.Among.OwnItems.{from_page}
-use Rattle.wt_called_edit_laws.proofs.Among.OwnSeams.{own_last}
 use Rattle.wt_called_edit_laws.proofs.BlocksOutside.{called_editable}
 use Rattle.wt_called_edit_laws.proofs.Cells.PlacedLines.{own_items, Round, round, lines_joined, lined_whole, lined_in}
 use Rattle.wt_called_edit_laws.proofs.Cells.PlacedSpots.{AreCutFree, spots_free, spots_called}

@@ -9,7 +9,7 @@ use Rattle.wt_span.specs.Origins.{OuterCall, Span}
 use Rattle.wt_span.specs.Runs.{AreRuns}
 use Rattle.wt_span.proofs.RunLaws.{runs_are}
 use Rattle.wt_annotated.specs.Seams.{last_of, text_from}
-use Rattle.wt_annotated.proofs.Seams.{last_append, text_append_from}
+use Rattle.wt_annotated.proofs.Seams.{text_append_from}
 use Rattle.wt_lines.specs.Lines.{is_break_item, content, empty_end, goes_on}
 use Rattle.wt_page.specs.Lines.{ending}
 use Rattle.wt_page.proofs.Ends.{content_ending}
@@ -49,7 +49,7 @@ use Rattle.wt_called_edit_laws.specs.PlacedLines.{LinedBlock, all_lines, IsLined
 use Rattle.wt_called_edit_laws.specs.PartTexts.{AreSourcesAt}
 use Rattle.wt_called_edit_laws.proofs.Among.BlockAt.{calls_of, IsRest, IsBlockHere, text_to, block_to, BeginsOwn, block_here, beside_front}
 use Rattle.wt_called_edit_laws.proofs.Among.OwnItems.{whole_rest}
-use Rattle.wt_called_edit_laws.proofs.Among.OwnSeams.{Rest, FirstLonger, FirstShorter, two_cuts, first_or, others, sources_size, text_size, end_behind}
+use Rattle.wt_called_edit_laws.proofs.Among.OwnSeams.{Rest, FirstLonger, FirstShorter, two_cuts, first_or, others, sources_size, text_size}
 use Rattle.wt_called_edit_laws.proofs.Among.PartsApart.{members_of, AreClear, ArePartsApart, parts_apart}
 use Rattle.wt_called_edit_laws.proofs.Cells.PlacedLines.{own_items, Round, round, own_source, past_end, some_lines, lines_end}
 use Rattle.wt_called_edit_laws.proofs.Cells.SignLeads.{rows_by, leads_by, own_block, StaysOn, stays_by}

@@ -1,6 +1,6 @@
 -- A call that is text and shares no byte with a block has none of its lines: it begins before a brace and ends behind a character, so it neither ends in the
 -- marks before the block nor begins at the line break behind it.
-use Rattle.std.proofs.Common.{arith, ◌≡◌, ◌≤◌, ◌<◌, ◌⊎◌, inl, inr, ℕ, zero, suc, ◌+◌, Bool, true, false, Option, Some, None, List, [], ◌∷◌, ◌++◌, length, nat_lt, refl, sym, ap, ap₂, ◌∙◌, subst, append_assoc, append-nil}
+use Rattle.std.proofs.Common.{arith, ◌≡◌, ◌≤◌, ◌<◌, ◌⊎◌, inl, inr, ℕ, zero, suc, Bool, true, false, Option, Some, None, List, [], ◌∷◌, ◌++◌, length, nat_lt, refl, sym, ap, ap₂, ◌∙◌, subst, append_assoc, append-nil}
 use Rattle.std.specs.Prelude.{◌&&◌, ◌||◌}
 use Rattle.std.specs.List.{list_all, list_any}
 use Rattle.std.proofs.lemmas.Bool.Decides.{nat_tests}
@@ -17,7 +17,7 @@ use Rattle.wt_isolation.specs.TextCalls.{share_byte, touches_text_call}
 use Rattle.wt_called_edit_laws.specs.LinedAmong.{AreBeside}
 use Rattle.wt_called_edit_laws.proofs.Among.Flattened.{page_opened}
 use Rattle.wt_called_edit_laws.proofs.Among.PartsApart.{members_of}
-use Rattle.wt_called_edit_laws.proofs.Among.OwnSeams.{FirstLonger, FirstShorter, two_cuts, end_behind, text_size, first_size, last_size, first_or, stretches}
+use Rattle.wt_called_edit_laws.proofs.Among.OwnSeams.{FirstLonger, FirstShorter, two_cuts, end_behind, text_size, first_size, last_size, first_or}
 use Rattle.wt_called_edit_laws.proofs.Among.OwnItems.{page_at}
 use Rattle.wt_called_edit_laws.proofs.Among.TextEnds.{IsTextIn, AreTextsIn, texts_in}
 

@@ -1,5 +1,5 @@
 -- Braces behind the sign of a table's end or a rule or the end of a call, and what begins with none that closes.
-use Rattle.std.proofs.Common.{arith, ◌≡◌, ℕ, zero, suc, ◌+◌, ◌≤◌, ◌==◌, Bool, true, false, Option, Some, None, List, [], ◌∷◌, ◌++◌, take, map, nat_lt, inl, inr, refl, sym, ap, ◌∙◌, subst, append_assoc}
+use Rattle.std.proofs.Common.{arith, ◌≡◌, ℕ, zero, suc, ◌+◌, ◌≤◌, ◌==◌, Bool, true, false, Option, Some, None, List, [], ◌∷◌, ◌++◌, take, map, nat_lt, refl, sym, ap, ◌∙◌, subst, append_assoc}
 use Rattle.std.specs.Prelude.{◌&&◌, not, nat_eq, codes, if◌then◌else◌}
 use Rattle.std.specs.List.{prefix_len}
 use Rattle.std.specs.Option.{option_or}
@@ -161,7 +161,7 @@ pub ends_rest : (test : ℕ → Bool) (us vs : List ℕ) → EndsBy test (us ++ 
 ends_rest test [] vs h = h
 ends_rest test (u ∷ us) vs h = ends_rest test us vs (ends_behind test u (us ++ vs) h)
 
-whole_other : (f : ItemForm) (k : ℕ) → (256 == k) ≡ false → (257 == k) ≡ false → ((if is_mark_form f then 257 else 256) == k) ≡ false
+pub whole_other : (f : ItemForm) (k : ℕ) → (256 == k) ≡ false → (257 == k) ≡ false → ((if is_mark_form f then 257 else 256) == k) ≡ false
 whole_other f k a b = by (is_mark_form f)
   where
     by : (v : Bool) → ((if v then 257 else 256) == k) ≡ false

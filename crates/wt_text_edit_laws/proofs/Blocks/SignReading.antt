@@ -1,5 +1,5 @@
 -- A text on a line with the sign of a table's end or a rule, or with the end of a call, is read as it is by itself, and what comes before it as it is, too.
-use Rattle.std.proofs.Common.{arith, ◌≡◌, ℕ, zero, suc, ◌+◌, ◌-◌, ◌≤◌, ◌==◌, Bool, true, false, Option, Some, None, List, [], ◌∷◌, ◌++◌, length, get_or, nat_lt, inl, inr, refl, sym, ap, ◌∙◌, subst, append_assoc, append-nil, length-append}
+use Rattle.std.proofs.Common.{arith, ◌≡◌, ℕ, zero, suc, ◌+◌, ◌≤◌, ◌==◌, Bool, true, false, Option, Some, None, List, [], ◌∷◌, ◌++◌, length, get_or, nat_lt, inl, inr, refl, sym, ap, ◌∙◌, subst, append_assoc, append-nil, length-append}
 use Rattle.std.specs.Prelude.{◌&&◌, ◌||◌, not, codes, slice_index, if◌then◌else◌}
 use Rattle.std.specs.List.{prefix_len}
 use Rattle.std.proofs.lemmas.Bool.{eqb-true}
@@ -90,12 +90,12 @@ sign_line bs h = record {
 }
 
 -- neither a `<` nor an end
-not_stop : (open bracket break : Bool) → (break || bracket) ≡ false → open ≡ false → (open || (bracket || break)) ≡ false
+not_stop : (less more ends : Bool) → (ends || more) ≡ false → less ≡ false → (less || (more || ends)) ≡ false
 not_stop false false false e f = refl
 not_stop false false true e f = absurd (cc)
 not_stop false true false e f = absurd (cc)
 not_stop false true true e f = absurd (cc)
-not_stop true bracket break e f = absurd (cc)
+not_stop true more ends e f = absurd (cc)
 
 bare_byte : (line : List ℕ) (b : ℕ) → lacks is_stop line ≡ true → is_stop b ≡ false → lacks is_stop (line ++ b ∷ []) ≡ true
 bare_byte [] b h e = ap (λ (t : Bool). not t && true) e
@@ -294,12 +294,12 @@ within_line a b q rest h e u =
     let bs : List ℕ = (b ∷ q) ++ rest in
     let k : ℕ = length q in
     let stops : is_stop b ≡ false = here_stops b q h in
-    let open : (b == 60) ≡ false = no_open b stops in
+    let unopened : (b == 60) ≡ false = no_open b stops in
     let g : is_sign_end (get_or bs k 0) ≡ true = last_end is_sign_end b q rest e in
     or_within k (comment_line_word a bs) _ (no_line_by a bs (remarks_len 0 bs) k refl (shown_line b q rest h e))
     (or_within k (as_word Comment (comment_len bs)) _ (subst (λ o. Within k (as_word Comment o)) (sym (uncommented b (q ++ rest) stops)) tt)
-    (or_within k (as_word Raw (raw_len bs)) _ (subst (λ o. Within k (as_word Raw o)) (sym (no_raw b (q ++ rest) open)) tt)
-    (or_within k (include_at Page bs) _ (no_include k b (q ++ rest) open)
+    (or_within k (as_word Raw (raw_len bs)) _ (subst (λ o. Within k (as_word Raw o)) (sym (no_raw b (q ++ rest) unopened)) tt)
+    (or_within k (include_at Page bs) _ (no_include k b (q ++ rest) unopened)
     (or_within k (entity_word (entity_at bs)) (sign_word bs) (entity_word_within k (entity_at bs) (entity_signed k bs g)) (signs_within b q rest u g)))))
 
 short : (k : ℕ) (o : Option Word) → Within k o → skipped_by (lexer Page) o ≤ k

@@ -3,8 +3,11 @@
 use Rattle.std.proofs.Common.{◌≡◌, inl, inr, ℕ, ◌<◌, ◌==◌, true, false, List, [], ◌∷◌, ◌++◌, length, refl, sym, ap, ◌∙◌, subst}
 use Rattle.std.specs.Prelude.{not}
 use Rattle.std.proofs.lemmas.Bool.{eqb-true}
+use Rattle.wt_span.specs.declared.form.Mode.TheVariants.{Page}
 use Rattle.wt_span.specs.Items.{Item, sources}
 use Rattle.wt_expand.specs.PageItems.{page_items}
+use Rattle.wt_part_laws.specs.Lexer.{lexer}
+use Rattle.wt_part_laws.specs.Scans.{Settles}
 use Rattle.wt_text_edit_laws.specs.BlockSpots.{BlockSpot}
 use Rattle.wt_text_edit_laws.specs.PageCuts.{EndsThere}
 use Rattle.wt_text_edit_laws.specs.ReadContents.{BeginsUnclosed}
@@ -48,15 +51,18 @@ led_cut s rest l h there =
     sign_cut s.before (source_of s.block s.text ++ rest) (sign_unclosed s.block s.text rest h there)
     (λ c f g. signed_by (λ b. not (b == c)) (ap not f) (ap not g) s.before l)
 
-pub led_ends : (s : BlockSpot) (rest : List ℕ) (before others : List Item) → IsLedTo s.before s.block s.text → EndsThere rest → 0 < length (source_of s.block s.text ++ rest)
-    → sources before ≡ s.before → page_items (s.before ++ (source_of s.block s.text ++ rest)) ≡ before ++ others → HasEndsBefore (source_of s.block s.text ++ rest) s.before
-led_ends s rest before others (inl l) there some is e =
-    let line : List ℕ = source_of s.block s.text ++ rest in
-    let c = page_cut s.before line before others e is in
-    settled_ends s.before line some (c.settles (inl (ends_plain s.before l)))
-led_ends s rest before others (inr l) there some is e =
+-- so its lexemes are the same by themselves
+pub led_settles : (s : BlockSpot) (rest : List ℕ) (before others : List Item) → IsLedTo s.before s.block s.text → EndsThere rest → sources before ≡ s.before
+    → page_items (s.before ++ (source_of s.block s.text ++ rest)) ≡ before ++ others → Settles (lexer Page) (source_of s.block s.text ++ rest) false 0 s.before
+led_settles s rest before others (inl l) there is e =
+    let c = page_cut s.before (source_of s.block s.text ++ rest) before others e is in c.settles (inl (ends_plain s.before l))
+led_settles s rest before others (inr l) there is e =
     let line : List ℕ = source_of s.block s.text ++ rest in
     let c = page_cut s.before line before others e is in
     let own : page_items s.before ≡ before = page_from s.before ∙ c.front in
     let all : page_items (s.before ++ line) ≡ page_items s.before ++ others = e ∙ ap (λ (xs : List Item). xs ++ others) (sym own) in
-    settled_ends s.before line some (part_settles s.before line others (led_cut s rest l.0 l.1 there) all)
+    part_settles s.before line others (led_cut s rest l.0 l.1 there) all
+
+pub led_ends : (s : BlockSpot) (rest : List ℕ) (before others : List Item) → IsLedTo s.before s.block s.text → EndsThere rest → 0 < length (source_of s.block s.text ++ rest)
+    → sources before ≡ s.before → page_items (s.before ++ (source_of s.block s.text ++ rest)) ≡ before ++ others → HasEndsBefore (source_of s.block s.text ++ rest) s.before
+led_ends s rest before others l there some is e = settled_ends s.before (source_of s.block s.text ++ rest) some (led_settles s rest before others l there is e)

@@ -259,7 +259,7 @@ one_fits f own rest zs bs (y ∷ ys) e some same =
     omega (arith, size, c)
 
 -- a raw form is one item, too
-raw_one : (bs : List ℕ) → (f : ItemForm) × (items_of_word Raw bs ≡ whole f None bs ∷ [])
+pub raw_one : (bs : List ℕ) → (f : ItemForm) × (items_of_word Raw bs ≡ whole f None bs ∷ [])
 raw_one bs = by_tag (opening_tag bs)
   where
     by_name : (t : Bool) → (f : ItemForm) × (items_by (if t then form.Nowiki else form.Extension) None bs ≡ whole f None bs ∷ [])
