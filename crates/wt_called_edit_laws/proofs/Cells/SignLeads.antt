@@ -5,7 +5,7 @@ use Rattle.std.specs.List.{list_all}
 use Rattle.std.proofs.lemmas.Grind.{flat_map-append}
 use Rattle.std.proofs.lemmas.List.Elements.{All-cons}
 use Rattle.wt_span.specs.Bytes.{is_blank}
-use Rattle.wt_span.specs.Items.{Item, char, whole, is_mark_form, is_mark, sign, source, sources}
+use Rattle.wt_span.specs.Items.{Item, char, whole as form_of, is_mark_form, is_mark, sign, source, sources}
 use Rattle.wt_lines.specs.declared.kind.LineKind.TheVariants as line
 use Rattle.wt_lines.specs.Kinds.{line_kind}
 use Rattle.wt_lines.specs.Lines.{full_lines, lines, content, empty_end}
@@ -69,9 +69,9 @@ end_off (x ∷ xs) y e =
 
 brace_unmarked : (y : Item) → sign y ≡ 125 → is_mark y ≡ false
 brace_unmarked (char o b) e = refl
-brace_unmarked (whole f o bs) e = by (is_mark_form f) e
+brace_unmarked (form_of f o bs) e = by (is_mark_form f) e
   where
-    by : (v : Bool) → (if v then 257 else 256) ≡ 125 → v ≡ false
+    by : (v : Bool) → ◌≡◌ {A = ℕ} (if v then 257 else 256) 125 → v ≡ false
     by true z = absurd (omega (arith, z))
     by false z = refl
 
@@ -242,7 +242,7 @@ or_false false e = absurd (cc)
 
 blank_first : (x : Item) (bs : List ℕ) → is_idle_item x ≡ true → is_mark x ≡ false → AreBlanks bs → AreBlanks (source x ++ bs)
 blank_first (char o b) bs e f h = (or_false (is_blank b) e, h)
-blank_first (whole f o cs) bs e g h = let nay : true ≡ false = sym e ∙ g in absurd (cc)
+blank_first (form_of f o cs) bs e g h = let nay : true ≡ false = sym e ∙ g in absurd (cc)
 
 last_mark : (xs : List Item) → AreIdleItems xs → LastMark xs
 last_mark [] h = record { front = []; blanks = []; is = refl; are_blanks = tt; marked = inl refl }
@@ -279,7 +279,7 @@ last_mark (x ∷ xs) h = by (last_mark xs h.2)
 
 sign_byte : (x : Item) (b : ℕ) → sign x ≡ b → b ≤ 255 → source x ≡ b ∷ []
 sign_byte (char o c) b e le = ap (λ (d : ℕ). d ∷ []) e
-sign_byte (whole f o bs) b e le = by (is_mark_form f) e
+sign_byte (form_of f o bs) b e le = by (is_mark_form f) e
   where
     by : (v : Bool) → (if v then 257 else 256) ≡ b → bs ≡ b ∷ []
     by true z = absurd (omega (arith, z, le))
