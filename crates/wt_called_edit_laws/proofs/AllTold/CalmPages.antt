@@ -16,7 +16,7 @@ use Rattle.wt_text_edit_laws.specs.LonePages.{of_items}
 use Rattle.wt_text_edit_laws.specs.NoCalls.{CallsNothing}
 use Rattle.wt_text_edit_laws.proofs.Between.NoCalls.{calm_expanded}
 use Rattle.wt_text_edit_laws.proofs.Cuts.TextLines.{joined_is}
-use Rattle.wt_called_edit_laws.specs.AllTold.{IsBesideNoCall, AreNoFunctions, IsBesideTexts, IsExceptedAt, IsExceptedIn, by_its_lines, beside_a_call, holds_a_function, holds_a_pair, IsExcepted}
+use Rattle.wt_called_edit_laws.specs.AllTold.{IsBesideNoCall, AreNoFunctions, IsBesideTexts, IsExceptedAt, IsExceptedIn, by_its_lines, on_a_call, beside_a_call, holds_a_function, holds_a_pair, IsExcepted}
 use Rattle.wt_called_edit_laws.specs.LinedAmong.{AreOfPage, AreBeside, AreOwnLines}
 use Rattle.wt_called_edit_laws.specs.PlacedLines.{LinedBlock, all_lines, lead_of}
 use Rattle.wt_called_edit_laws.specs.RowBlocks.{opened_len, StandsIn}
@@ -71,6 +71,7 @@ calm_excepted pages page t c x = (x.stands, by x.begins_so)
 
     by : IsExceptedIn e (opened_len x.stands.before) → IsExceptedAt (full_lines e.items) (opened_len x.stands.before)
     by (by_its_lines l) = l
+    by (on_a_call o behind are told at signed f) = absurd (f (calm_lines pages page o behind c are told).texts)
     by (beside_a_call o behind are told at f) = absurd (f (calm_lines pages page o behind c are told).beside)
     by (holds_a_function o behind are told at f) = absurd (f (calm_lines pages page o behind c are told).functions)
     by (holds_a_pair o behind are told at f) = absurd (f (calm_lines pages page o behind c are told).pairs)
