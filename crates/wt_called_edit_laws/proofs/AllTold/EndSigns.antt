@@ -10,7 +10,6 @@ use Rattle.std.proofs.lemmas.List.{take-append-drop}
 use Rattle.std.proofs.lemmas.Slice.Eq.{starts_is}
 use Rattle.wt_span.specs.Bytes.{is_blank, is_break, begins}
 use Rattle.wt_span.specs.Items.{Item, char, whole, is_mark_form, is_mark, sign}
-use Rattle.wt_span.specs.Runs.{AreRuns}
 use Rattle.wt_span.proofs.RunLaws.{runs_are}
 use Rattle.wt_expand.specs.PageCalls.{expanded_page}
 use Rattle.wt_expand.specs.Work.{Pages}

@@ -1,11 +1,10 @@
 -- No call that is text has a byte of the lines of a node of a page's tree that touches none.
-use Rattle.std.proofs.Common.{arith, ◌≡◌, ◌≤◌, ◌<◌, ℕ, ◌+◌, Bool, true, false, Option, None, List, [], ◌∷◌, ◌++◌, length, refl, sym, ap, ap₂, ◌∙◌, subst, append_assoc, append-nil}
+use Rattle.std.proofs.Common.{arith, ◌≡◌, ◌≤◌, ℕ, ◌+◌, Bool, true, false, Option, None, List, [], ◌∷◌, ◌++◌, length, refl, sym, ap, ◌∙◌, subst, append_assoc, append-nil}
 use Rattle.std.specs.Prelude.{if◌then◌else◌}
 use Rattle.std.specs.List.{list_all}
 use Rattle.std.specs.Str.{IsUtf8}
-use Rattle.wt_span.specs.Bytes.{is_break}
 use Rattle.wt_span.specs.Items.{Item, char, whole, is_mark, call_of, source, sources}
-use Rattle.wt_span.specs.Origins.{OuterCall, Span, Expanded}
+use Rattle.wt_span.specs.Origins.{OuterCall, Expanded}
 use Rattle.wt_tree.specs.Tree.{Tree, label}
 use Rattle.wt_annotated.specs.Seams.{last_of, text_from}
 use Rattle.wt_inline.specs.ItemTree.{ItemTree, inner, tree_items}

@@ -1,5 +1,5 @@
 -- A paragraph behind the sign of a table's end on its line, told by its lines.
-use Rattle.std.proofs.Common.{arith, ◌≡◌, ◌≤◌, ◌⊎◌, inl, inr, ℕ, zero, suc, ◌+◌, Bool, true, false, List, [], ◌∷◌, ◌++◌, length, map, refl, sym, ap, ◌∙◌, subst, append-nil}
+use Rattle.std.proofs.Common.{arith, ◌≡◌, ◌≤◌, inl, ℕ, Bool, true, false, List, [], ◌∷◌, ◌++◌, length, map, refl, sym, ap, ◌∙◌, subst, append-nil}
 use Rattle.std.specs.Prelude.{◌==◌, ◌&&◌, if◌then◌else◌}
 use Rattle.std.specs.List.{list_all}
 use Rattle.wt_span.specs.Items.{Item, char, whole, is_mark, sign, sources}
@@ -23,10 +23,10 @@ use Rattle.wt_called_edit_laws.specs.LinedCalling.{IsCallingAt}
 use Rattle.wt_called_edit_laws.specs.RowBlocks.{end_sign, past_end, begins_past, AreOfText}
 use Rattle.wt_called_edit_laws.specs.SignLines.{front_lines}
 use Rattle.wt_called_edit_laws.specs.TableEnds.{IsEndSign}
-use Rattle.wt_called_edit_laws.specs.ToldLines.{Told, a_paragraph_of, lined, IsToldAt}
+use Rattle.wt_called_edit_laws.specs.ToldLines.{a_paragraph_of, IsToldAt}
 use Rattle.wt_called_edit_laws.specs.ToldTogether.{start_of}
 use Rattle.wt_called_edit_laws.proofs.AllTold.EndSigns.{some_tables, end_alone, none_sign, HaveSigns, signs_behind}
-use Rattle.wt_called_edit_laws.proofs.AllTold.Found.{size, size_both}
+use Rattle.wt_called_edit_laws.proofs.AllTold.Found.{size_both}
 use Rattle.wt_called_edit_laws.proofs.AllTold.LineKinds.{Lines, led_by, past_marks, led_whole, led_marks, written_both, tables_both, after, end_behind}
 use Rattle.wt_called_edit_laws.proofs.AllTold.Opens.{open_both}
 use Rattle.wt_called_edit_laws.proofs.AllTold.Scans.{Decided, bool_decided, tables_at, sign_told}
@@ -124,8 +124,14 @@ told_on before (x ∷ xs) m f others h some marks more seen unled apart cells te
   some = more;
   in_cells = subst AllTrue (sym (fronts_open before x xs h some)) cells;
   apart = subst EndApart (sym (fronts_written before x xs h some)) (end_behind (written_rows 0 before) (end_row h) [] refl);
-  own = ((seen, text_lines_at (length (open_after [] (written_rows 0 (front_lines before (x ∷ xs))))) others
-  (subst (λ (n : ℕ). AreOfText n others) (fronts_count before x xs h some) texts)), unled);
+  own = (
+    (
+      seen,
+      text_lines_at (length (open_after [] (written_rows 0 (front_lines before (x ∷ xs))))) others
+          (subst (λ (n : ℕ). AreOfText n others) (fronts_count before x xs h some) texts),
+    ),
+    unled,
+  );
 }
 
 count_on : (before : Lines) (s : List Item) → IsEndSign s → 1 ≤ tables_behind 0 before

@@ -4,7 +4,6 @@ use Rattle.wt_span.specs.Items.{sources}
 use Rattle.wt_lines.specs.declared.kind.LineKind.TheVariants as line
 use Rattle.wt_lines.specs.Kinds.{kind_of_signs}
 use Rattle.wt_lines.specs.Lines.{content}
-use Rattle.wt_text_edit_laws.specs.ParagraphBetween.{written_rows}
 use Rattle.wt_text_edit_laws.specs.TextBlocks.{TextBlock, source_of}
 use Rattle.wt_called_edit_laws.specs.AnyBlocks.{open_after}
 use Rattle.wt_called_edit_laws.specs.PlacedLines.{LinedBlock, AreLinedAfter, AreLined, front_rows}

@@ -1,5 +1,5 @@
 -- A page with paragraphs and headings that may hold calls, by the lines of the expanded page: it is cut at these, and each is at such a place.
-use Rattle.std.proofs.Common.{arith, ◌≡◌, ◌⊎◌, inl, inr, ℕ, ◌+◌, ◌≤◌, Bool, true, false, Option, None, List, [], ◌∷◌, ◌++◌, length, refl, sym, ap, ap₂, ◌∙◌, subst, append_assoc, append-nil, length-append}
+use Rattle.std.proofs.Common.{arith, ◌≡◌, ◌⊎◌, inl, inr, ℕ, ◌+◌, ◌≤◌, Bool, false, Option, None, List, [], ◌∷◌, ◌++◌, length, refl, sym, ap, ap₂, ◌∙◌, subst, append_assoc, append-nil, length-append}
 use Rattle.std.specs.Str.{IsUtf8}
 use Rattle.std.proofs.lemmas.Grind.{flat_map-append}
 use Rattle.wt_span.specs.declared.form.Mode.TheVariants.{Page}
@@ -9,7 +9,7 @@ use Rattle.wt_span.specs.Runs.{AreRuns}
 use Rattle.wt_span.proofs.RunLaws.{runs_are}
 use Rattle.wt_annotated.specs.Seams.{last_of, first_of, text_from}
 use Rattle.wt_annotated.proofs.Seams.{last_append, text_append_from}
-use Rattle.wt_lines.specs.Lines.{content, full_lines, goes_on}
+use Rattle.wt_lines.specs.Lines.{content, goes_on}
 use Rattle.wt_page.specs.Lines.{ending}
 use Rattle.wt_page.specs.Rows.{Row}
 use Rattle.wt_tables.specs.Parts.{joined}
