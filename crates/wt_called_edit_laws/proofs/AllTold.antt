@@ -9,6 +9,7 @@ pub mod EachBlocks
 pub mod TreeBlocks
 pub mod LineKinds
 pub mod EndSigns
+pub mod TextFacts
 pub mod Scans
 pub mod Scanned
 pub mod Starts
@@ -26,7 +27,6 @@ pub mod OwnNodes
 pub mod Outside
 pub mod OwnTrees
 pub mod SignTrees
-pub mod TextFacts
 pub mod SignBlocks
 pub mod HeadSigns
 pub mod OwnLines

@@ -16,11 +16,8 @@ use Rattle.wt_page.specs.Rows.{marks_len, is_unseen}
 use Rattle.wt_selser.specs.Edits.{is_tangled}
 use Rattle.wt_text_edit_laws.specs.ParagraphBetween.{tables_behind}
 use Rattle.wt_text_edit_laws.specs.NoCalls.{CallsNothing}
-<<<<<<< HEAD
 use Rattle.wt_text_edit_laws.specs.ReadContents.{BeginsUnclosed}
-=======
 use Rattle.wt_text_edit_laws.specs.SignParts.{IsLedTo}
->>>>>>> 2a60601d060206b1719921cc6757dd52d0ccae9f
 use Rattle.wt_text_edit_laws.specs.Unclosed.{holds_unclosed}
 use Rattle.wt_called_edit_laws.specs.ContentsTaken.{TakesContents}
 use Rattle.wt_called_edit_laws.specs.Groups.{called_tree}
@@ -52,17 +49,10 @@ pub data IsExceptedAt (ls : List (List Item)) (at : ℕ) : Type 0 where
       → kind_at (tables_behind 0 before) own ≡ line.TableEnd → is_unseen (past_end own) ≡ false
       → (BeginsUnclosed (sources (content (joined (drop (marks_len (past_end own)) (past_end own) ∷ others)))) → ⊥) → at ≡ begins_past before (end_sign own) (past_end own) → IsExceptedAt ls at
 
-<<<<<<< HEAD
--- Behind these items neither the line break before a block's lines, nor what begins them, nor the line break that ends them comes from a call.
-pub record IsBesideNoCall (front : List Item) (t : Told) : Type 0 where
-  pub ends : last_of None front ≡ None
-  pub marks : AreOfPage (lead_of (lined t))
-=======
--- Behind these items and the marks that begin a block's lines the page is ended for it: by a line break, a comment or a tag, or by the end of a call, where
+-- Behind these items and what begins a block's lines the page is ended for it: by a line break, a comment or a tag, or by a table's end or that of a call, where
 -- no `<` is behind the last `>` and the last line break and the block begins with no `}`. And the line break behind it comes from no call.
 pub record IsBesideNoCall (e : Expanded) (front : List Item) (t : Told) : Type 0 where
-  pub led : IsLedTo (text_from e.outer None (front ++ (lined t).marks)) (lined t).block (lined t).text
->>>>>>> 2a60601d060206b1719921cc6757dd52d0ccae9f
+  pub led : IsLedTo (text_from e.outer None (front ++ lead_of (lined t))) (lined t).block (lined t).text
   pub ending : AreOfPage (ending (joined ((lined t).first ∷ (lined t).more)))
 
 -- none of them is a function that is kept
@@ -73,25 +63,14 @@ AreNoFunctions (x ∷ xs) = IsNoFunction x × AreNoFunctions xs
 -- no call that is text has a byte of a block's lines behind these items and the marks that begin them
 abbrev pub IsBesideTexts : Expanded → List Item → Told → Type 0
 IsBesideTexts e front t =
-<<<<<<< HEAD
-    let from = length (text_from e.outer None front) in
-    AreBeside from (from + length (sources (lead_of (lined t) ++ joined ((lined t).first ∷ (lined t).more)))) e.text_calls
-
--- So of an expanded page: one of these by its lines; or a paragraph behind a table's end whose `|}` shares a byte with a call that is text (no page may have
--- one, unproved); or a block for which a call gives the line break before or behind it, or which has one on its line
--- that gives nothing; or in which a function is kept; or that has two braces that open before two that close (no page may have one of these, unproved).
-=======
-    let from = length (text_from e.outer None (front ++ (lined t).marks)) in
+    let from = length (text_from e.outer None (front ++ lead_of (lined t))) in
     AreBeside from (from + length (sources (joined ((lined t).first ∷ (lined t).more)))) e.text_calls
 
 -- So of an expanded page: one of these by its lines; or a block for which a call gives the line break behind it, or directly behind a call, if it begins
 -- with a `}`, or the call has a `<` on its last line that no `>` follows; or in which a function is kept; or that has two braces that open before two that
 -- close (no page may have one of these, unproved).
->>>>>>> 2a60601d060206b1719921cc6757dd52d0ccae9f
 pub data IsExceptedIn (e : Expanded) (at : ℕ) : Type 0 where
   by_its_lines : IsExceptedAt (full_lines e.items) at → IsExceptedIn e at
-  on_a_call : (t : Told) (behind : List (List Item)) → full_lines e.items ≡ all_lines (lined t ∷ []) behind → AreTold (t ∷ []) behind → at ≡ start_of 0 t
-      → ((lined t).sign ≡ [] → ⊥) → (IsBesideTexts e (joined (lined t).before) t → ⊥) → IsExceptedIn e at
   beside_a_call : (t : Told) (behind : List (List Item)) → full_lines e.items ≡ all_lines (lined t ∷ []) behind → AreTold (t ∷ []) behind → at ≡ start_of 0 t
       → (IsBesideNoCall e (joined (lined t).before) t → ⊥) → IsExceptedIn e at
   holds_a_function : (t : Told) (behind : List (List Item)) → full_lines e.items ≡ all_lines (lined t ∷ []) behind → AreTold (t ∷ []) behind → at ≡ start_of 0 t

@@ -52,15 +52,6 @@ abbrev pub AreOfPage : List Item → Type 0
 AreOfPage [] = Unit {0}
 AreOfPage (x ∷ xs) = (call_of x ≡ None) × IsNoFunction x × AreOfPage xs
 
-<<<<<<< HEAD
--- The lines of each block, and the sign and marks that begin the first, come from no call, and neither does the line break before them; and no two braces that open in
--- the block come before two that close.
-abbrev pub AreOwnLines : List LinedBlock → Type 0
-AreOwnLines [] = Unit {0}
-AreOwnLines (b ∷ bs) =
-    (last_of None (joined b.before) ≡ None) × AreOfPage (lead_of b ++ joined (b.first ∷ b.more)) × CallsNothing (content (joined (b.first ∷ b.more)))
-    × AreOwnLines bs
-=======
 -- The lines of each block come from no call, whatever the marks before them and the line break before these come from; and no two braces that open in
 -- the block come before two that close.
 abbrev pub AreOwnLines : List LinedBlock → Type 0
@@ -71,7 +62,6 @@ AreOwnLines (b ∷ bs) = AreOfPage (joined (b.first ∷ b.more)) × CallsNothing
 abbrev pub AreLed : List BlockSpot → Type 0
 AreLed [] = Unit {0}
 AreLed (s ∷ ss) = IsLedTo s.before s.block s.text × AreLed ss
->>>>>>> 2a60601d060206b1719921cc6757dd52d0ccae9f
 
 -- none of these calls has a byte between two places, nor goes over one of them
 abbrev pub AreBeside : ℕ → ℕ → List Span → Type 0
@@ -82,13 +72,9 @@ AreBeside from to (s ∷ ss) = ((s.1 ≤ from) ⊎ (to ≤ s.0)) × AreBeside fr
 abbrev pub AreUntouched : List OuterCall → List Span → ℕ → List Item → List LinedBlock → Type 0
 AreUntouched calls texts at es [] = Unit {0}
 AreUntouched calls texts at es (b ∷ bs) =
-    let from = at + length (text_from calls None ((es ++ joined b.before) ++ b.marks)) in
+    let from = at + length (text_from calls None ((es ++ joined b.before) ++ lead_of b)) in
     let own = joined (b.first ∷ b.more) in
-<<<<<<< HEAD
-    AreBeside line (line + length (sources (lead_of b ++ own))) texts × AreUntouched calls texts (line + length (sources (lead_of b ++ content own))) (ending own) bs
-=======
     AreBeside from (from + length (sources own)) texts × AreUntouched calls texts (from + length (sources (content own))) (ending own) bs
->>>>>>> 2a60601d060206b1719921cc6757dd52d0ccae9f
 
 -- ---- the page
 

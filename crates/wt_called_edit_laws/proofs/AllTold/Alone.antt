@@ -17,7 +17,6 @@ use Rattle.wt_text_edit_laws.specs.BlockSpots.{BlockSpot, spots_source}
 use Rattle.wt_text_edit_laws.specs.Contents.{IsContentOf, IsContent}
 use Rattle.wt_text_edit_laws.specs.NoCalls.{CallsNothing}
 use Rattle.wt_text_edit_laws.specs.PageCuts.{IsSpotCut, EndsThere, EndsClosed, EndClosed, IsFreeBlock}
-use Rattle.wt_text_edit_laws.specs.ParagraphBetween.{written_rows}
 use Rattle.wt_text_edit_laws.specs.TextBlocks.{TextBlock, source_of, block_items}
 use Rattle.wt_text_edit_laws.proofs.Cuts.TextLines.{joined_is, runs_behind}
 use Rattle.wt_beside_laws.proofs.Derived.BlockContents.{ReadAlone, BlockRead, block_content}

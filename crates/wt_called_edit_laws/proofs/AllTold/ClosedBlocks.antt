@@ -37,10 +37,11 @@ use Rattle.wt_called_edit_laws.specs.PlacedLines.{LinedBlock, all_lines, lead_of
 use Rattle.wt_called_edit_laws.specs.RowBlocks.{StandsIn, node_between}
 use Rattle.wt_called_edit_laws.specs.ToldLines.{Told, lined}
 use Rattle.wt_called_edit_laws.specs.ToldTogether.{start_of}
-use Rattle.wt_called_edit_laws.proofs.Among.BlockAt.{calls_of, IsRest, have_front, have_behind}
+use Rattle.wt_called_edit_laws.proofs.Among.BlockAt.{calls_of, IsRest}
 use Rattle.wt_called_edit_laws.proofs.Among.Flattened.{flat_all}
 use Rattle.wt_called_edit_laws.proofs.Among.LinedParts.{block_front, own_breaks, of_behind, page_rest, page_text}
 use Rattle.wt_called_edit_laws.proofs.Among.Members.{flat_widths, words_size}
+use Rattle.wt_called_edit_laws.proofs.Cells.SignLeads.{have_front, have_behind}
 use Rattle.wt_called_edit_laws.proofs.Among.OwnItems.{from_page}
 use Rattle.wt_called_edit_laws.proofs.Among.OwnSeams.{own_last, text_size, given}
 use Rattle.wt_called_edit_laws.proofs.Among.ToldAmong.{LineThere, line_there, line_items}

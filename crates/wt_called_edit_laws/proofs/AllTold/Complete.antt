@@ -1,6 +1,6 @@
 -- Each paragraph and heading of a page's tree, outside of groups, that holds no group and isn't tangled is one of those that the lines of the expanded page
 -- tell, or one of the excepted.
-use Rattle.std.proofs.Common.{arith, ◌≡◌, ◌≤◌, ◌⊎◌, inl, inr, ℕ, zero, suc, ◌+◌, Bool, true, false, None, List, [], ◌∷◌, ◌++◌, length, drop, map, refl, sym, ap, ◌∙◌, subst, append-nil, cond}
+use Rattle.std.proofs.Common.{arith, ◌≡◌, ◌≤◌, ◌⊎◌, inl, inr, ℕ, zero, suc, ◌+◌, Bool, true, false, None, List, [], ◌∷◌, ◌++◌, length, map, refl, sym, ap, ◌∙◌, subst, append-nil}
 use Rattle.std.specs.Prelude.{◌&&◌, ◌||◌}
 use Rattle.std.specs.Str.{IsUtf8}
 use Rattle.std.specs.List.{list_all}
@@ -31,7 +31,7 @@ use Rattle.wt_isolation.specs.TextCalls.{touches_text_call}
 use Rattle.wt_selser.specs.Edits.{is_tangled}
 use Rattle.wt_selser.specs.GroupFaults.{has_faulty_group}
 use Rattle.wt_text_edit_laws.specs.BlockSpots.{BlockSpot, spots_source}
-use Rattle.wt_called_edit_laws.specs.AllTold.{starts_in, text_on_a_rule, a_brace_on_an_end, by_its_lines, on_a_call, beside_a_call, IsExceptedIn, IsExcepted, IsOneOf, AllBlocksTold, IsBesideNoCall, AreNoFunctions, IsBesideTexts, holds_a_function, holds_a_pair}
+use Rattle.wt_called_edit_laws.specs.AllTold.{starts_in, text_on_a_rule, a_brace_on_an_end, by_its_lines, beside_a_call, IsExceptedIn, IsExcepted, IsOneOf, AllBlocksTold, IsBesideNoCall, AreNoFunctions, IsBesideTexts, holds_a_function, holds_a_pair}
 use Rattle.wt_text_edit_laws.proofs.Cuts.RowLines.{AllText}
 use Rattle.wt_text_edit_laws.proofs.Paragraphs.Marks.{mark_sign, AreMarkSigns, kind_marks}
 use Rattle.wt_text_edit_laws.specs.NoCalls.{CallsNothing}
@@ -68,7 +68,7 @@ use Rattle.wt_called_edit_laws.proofs.EditFacts.{IsFramedPage, framed_page, path
 use Rattle.wt_called_edit_laws.proofs.GroupsAmong.{retyped_self}
 use Rattle.wt_called_edit_laws.proofs.PathsSend.{NoneEmpty, paths_full}
 use Rattle.wt_called_edit_laws.proofs.AllTold.Alone.{IsAloneTold}
-use Rattle.wt_called_edit_laws.proofs.AllTold.Chosen.{IsOwnBehind, texts_decided, beside_call_decided, functions_decided, calm_decided, own_behind}
+use Rattle.wt_called_edit_laws.proofs.AllTold.Chosen.{IsOwnBehind, beside_call_decided, functions_decided, calm_decided, own_behind}
 use Rattle.wt_called_edit_laws.proofs.AllTold.ChosenLines.{byte_at, among_mapped, starts_so, ones_front, ones_behind}
 use Rattle.wt_called_edit_laws.proofs.AllTold.ClosedBlocks.{own_closed, own_reaches}
 use Rattle.wt_called_edit_laws.proofs.AllTold.ClosedLines.{NoneBlank, unclosed_by, AllPast, heading_size, para_size}
@@ -86,10 +86,10 @@ use Rattle.wt_called_edit_laws.proofs.AllTold.OwnTrees.{OwnRound, paragraph_is, 
 use Rattle.wt_called_edit_laws.proofs.AllTold.PlaceStarts.{starts_from, spot_starts, paths_start, AllClear, clear_paths, AllHaveBytes, contents_some, LeadsThere, leads, leads_there}
 use Rattle.wt_called_edit_laws.proofs.AllTold.RowBlocks.{housed, page_stands, body_none, below}
 use Rattle.wt_called_edit_laws.proofs.AllTold.Scans.{Decided, tables_at, text_told, sign_told, heading_told}
-use Rattle.wt_called_edit_laws.proofs.AllTold.SignBlocks.{seen_shown, unclosed_decided, IsEndBlock, end_text, IsEndTold, end_told, end_begins}
+use Rattle.wt_called_edit_laws.proofs.AllTold.SignBlocks.{unclosed_decided, IsEndBlock, end_text, IsEndTold, end_told, end_begins}
 use Rattle.wt_called_edit_laws.proofs.AllTold.SignTrees.{end_paragraph_is}
 use Rattle.wt_called_edit_laws.proofs.AllTold.Starts.{HasByte, BlockAt, BlockIn, same_paths}
-use Rattle.wt_called_edit_laws.proofs.AllTold.TextFacts.{tables_same, text_all, text_lines_at, past_unled, first_unled}
+use Rattle.wt_called_edit_laws.proofs.AllTold.TextFacts.{tables_same, text_all, text_lines_at, past_unled, first_unled, seen_shown}
 use Rattle.wt_called_edit_laws.proofs.AllTold.Together.{AreAllChosen, chosen_together, told_by_all}
 use Rattle.wt_called_edit_laws.proofs.AllTold.ToldStarts.{are_own, blank_is}
 
@@ -272,42 +272,11 @@ by_place pages page i is t n a s o rest are told l at own =
     line : List Item
     line = content (own_items (lined o))
 
-<<<<<<< HEAD
-    told_so : IsOwnBehind e front o → Answer pages page i is t a n.utf8 n.unrefused
-    told_so p =
-        let closed : EndClosed (spots_of_lines pages page (map lined (o ∷ []))) (end_of_lines pages page (map lined (o ∷ [])) rest) =
-        own_closed pages page o rest l.number are p l.some l.seen l.shown (l.source (of_behind (lead_of (lined o)) (own_items (lined o)) p.own))
-        (λ none. unclosed_by e.items page (label t).ranges n.unclosed (own_reaches pages page t s o rest n.utf8 n.unrefused are p at l.size_is none)) in
-        inl (alone_told pages page i is t n a s o rest (record { utf8 = n.utf8; closed = closed; are = are; told = told; place = p }) l.tree_so at)
-
-    by : Decided (IsBesideNoCall front o) → Decided (AreNoFunctions line) → Decided (CallsNothing line)
-=======
     by : Decided (IsBesideNoCall e front o) → Decided (AreNoFunctions line) → Decided (CallsNothing line)
->>>>>>> 2a60601d060206b1719921cc6757dd52d0ccae9f
         → Answer pages page i is t a n.utf8 n.unrefused
     by (inr f) b c = inr (record { stands = s; begins_so = beside_a_call o rest are told at f })
     by (inl x) (inr f) c = inr (record { stands = s; begins_so = holds_a_function o rest are told at f })
     by (inl x) (inl y) (inr f) = inr (record { stands = s; begins_so = holds_a_pair o rest are told at f })
-<<<<<<< HEAD
-    by (inl x) (inl y) (inl w) = beside (texts_so (lined o).sign refl)
-      where
-        texts_so : (sign : List Item) → (lined o).sign ≡ sign → IsBesideTexts e front o ⊎ IsExceptedIn e (size s.before)
-        texts_so [] z =
-            let free : touches_text_call e.text_calls (label t).ranges ≡ false = untouched_tree e page t n.untangled in
-            let marks : list_all is_mark (lead_of (lined o)) ≡ true =
-            subst (λ (ms : List Item). list_all is_mark (ms ++ (lined o).marks) ≡ true) (sym z) told.0.are_marks in
-            inl (node_texts pages page t s o rest n.utf8 n.unrefused are free x own marks at l.size_is
-            (content_bytes pages page o rest l.number are l.some l.shown.0 own))
-        texts_so (y ∷ ys) z = on_sign (texts_decided e front o)
-          where
-            on_sign : Decided (IsBesideTexts e front o) → IsBesideTexts e front o ⊎ IsExceptedIn e (size s.before)
-            on_sign (inl h) = inl h
-            on_sign (inr f) = inr (on_a_call o rest are told at (λ none. let wrong : y ∷ ys ≡ [] = sym z ∙ none in absurd (cc)) f)
-
-        beside : IsBesideTexts e front o ⊎ IsExceptedIn e (size s.before) → Answer pages page i is t a n.utf8 n.unrefused
-        beside (inr f) = inr (record { stands = s; begins_so = f })
-        beside (inl z) = told_so (own_behind e front o own x y w z)
-=======
     by (inl x) (inl y) (inl w) =
         let free : touches_text_call e.text_calls (label t).ranges ≡ false = untouched_tree e page t n.untangled in
         let z : IsBesideTexts e front o =
@@ -318,7 +287,6 @@ by_place pages page i is t n a s o rest are told l at own =
         own_closed pages page o rest l.number are p l.some l.seen l.shown (l.source p.own)
         (λ none. unclosed_by e.items page (label t).ranges n.unclosed (own_reaches pages page t s o rest n.utf8 n.unrefused are p at l.size_is none)) in
         inl (alone_told pages page i is t n a s o rest (record { utf8 = n.utf8; closed = closed; are = are; told = told; place = p }) l.tree_so at)
->>>>>>> 2a60601d060206b1719921cc6757dd52d0ccae9f
 
 -- each line of text has something behind its marks
 texts_seen : (n : ℕ) (ls : Lines) → AreOfText n ls → AreSeen ls

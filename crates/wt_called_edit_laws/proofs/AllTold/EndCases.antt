@@ -178,19 +178,41 @@ last_unclosed others = by (joined others)
 all_quiet : AreQuiet 0 (full_lines items)
 unfolding kind_of_signs level opening inside closing single_at bar_at cell_of cells table_attributes row_attributes inner_len
 all_quiet = (
-  (λ z u. cc, λ z u others. cc),
-  (λ z u. cc, λ z u others. cc),
-  (λ z u. cc, λ z u others. cc),
-  (λ z u. cc, λ z u others. cc),
-  (λ z u. cc, λ z u others. cc),
-  (λ z u. cc, λ z u others. cc),
-  (λ z u. cc, λ z u others. cc),
-  (λ z u. cc, λ z u others. cc),
-  (λ z u. cc, λ z u others. cc),
-  (λ z u. cc, λ z u others. cc),
-  (λ z u. cc, λ z u others. cc),
-  (λ z u. cc, λ z u others. last_unclosed others),
-  tt,
+  ((λ z u. absurd (cc)), (λ z u others. absurd (cc))),
+  (
+    ((λ z u. absurd (cc)), (λ z u others. absurd (cc))),
+    (
+      ((λ z u. absurd (cc)), (λ z u others. absurd (cc))),
+      (
+        ((λ z u. absurd (cc)), (λ z u others. absurd (cc))),
+        (
+          ((λ z u. absurd (cc)), (λ z u others. absurd (cc))),
+          (
+            ((λ z u. absurd (cc)), (λ z u others. absurd (cc))),
+            (
+              ((λ z u. absurd (cc)), (λ z u others. absurd (cc))),
+              (
+                ((λ z u. absurd (cc)), (λ z u others. absurd (cc))),
+                (
+                  ((λ z u. absurd (cc)), (λ z u others. absurd (cc))),
+                  (
+                    ((λ z u. absurd (cc)), (λ z u others. absurd (cc))),
+                    (
+                      ((λ z u. absurd (cc)), (λ z u others. absurd (cc))),
+                      (
+                        ((λ z u. absurd (cc)), (λ z u others. last_unclosed others)),
+                        tt,
+                      ),
+                    ),
+                  ),
+                ),
+              ),
+            ),
+          ),
+        ),
+      ),
+    ),
+  ),
 )
 
 none_excepted : (pages : Pages) (t : Tree) → IsExcepted pages page t → ⊥

@@ -10,7 +10,6 @@ use Rattle.std.proofs.lemmas.List.{take-append-drop}
 use Rattle.std.proofs.lemmas.Slice.Eq.{starts_is}
 use Rattle.wt_span.specs.Bytes.{is_blank, is_break, begins}
 use Rattle.wt_span.specs.Items.{Item, char, whole, is_mark_form, is_mark, sign}
-use Rattle.wt_span.specs.Runs.{AreRuns}
 use Rattle.wt_span.proofs.RunLaws.{runs_are}
 use Rattle.wt_expand.specs.PageCalls.{expanded_page}
 use Rattle.wt_expand.specs.Work.{Pages}
@@ -134,12 +133,12 @@ end_parts (x ∷ []) ts h e = by (is_break_item x) e
     by : (v : Bool) → past is_idle (map sign (if v then [] else x ∷ [])) ≡ 124 ∷ 125 ∷ ts → EndParts (x ∷ [])
     by true f = absurd (cc)
     by false f = absurd (two (is_idle (sign x)) (sign x) f)
-end_parts (x ∷ y ∷ ys) ts h e = by (is_idle (sign x)) refl e
+end_parts (x ∷ y ∷ ys) ts h e = by (is_idle (sign x)) refl e (λ f. end_parts (y ∷ ys) ts h.1 f)
   where
     by : (v : Bool) → is_idle (sign x) ≡ v → (if v then past is_idle (map sign (content (y ∷ ys))) else sign x ∷ map sign (content (y ∷ ys))) ≡ 124 ∷ 125 ∷ ts
-        → EndParts (x ∷ y ∷ ys)
-    by true i f =
-        let p : EndParts (y ∷ ys) = end_parts (y ∷ ys) ts h.1 f in
+        → (past is_idle (map sign (content (y ∷ ys))) ≡ 124 ∷ 125 ∷ ts → EndParts (y ∷ ys)) → EndParts (x ∷ y ∷ ys)
+    by true i f go =
+        let p : EndParts (y ∷ ys) = go f in
         let own : is_idle_item x ≡ true = idle_item x h.0 i in
         record {
           lead = x ∷ p.lead;
@@ -151,7 +150,7 @@ end_parts (x ∷ y ∷ ys) ts h e = by (is_idle (sign x)) refl e
           is_bar = p.is_bar;
           is_brace = p.is_brace;
         }
-    by false i f =
+    by false i f go =
         let b = brace_there (y ∷ ys) ts (ap rest_of f) in
         record {
           lead = [];

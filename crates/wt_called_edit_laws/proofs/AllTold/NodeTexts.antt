@@ -20,10 +20,11 @@ use Rattle.wt_page.specs.Lines.{kind_at, ending}
 use Rattle.wt_called_edit_laws.proofs.Among.FirstItems.{OwnFilled, items_filled, filled_behind}
 use Rattle.wt_page.proofs.Ends.{content_ending}
 use Rattle.wt_tables.specs.Parts.{joined}
+use Rattle.wt_called_edit_laws.proofs.AllTold.TextFacts.{seen_shown}
 use Rattle.wt_called_edit_laws.proofs.AllTold.ToldStarts.{blank_is}
 use Rattle.wt_called_edit_laws.specs.AllTold.{IsBesideTexts}
 use Rattle.wt_called_edit_laws.specs.LinedAmong.{AreOfPage, AreBeside}
-use Rattle.wt_called_edit_laws.specs.PlacedLines.{LinedBlock, all_lines, lead_of}
+use Rattle.wt_called_edit_laws.specs.PlacedLines.{LinedBlock, lead_of, all_lines}
 use Rattle.wt_called_edit_laws.specs.RowBlocks.{StandsIn, node_between}
 use Rattle.wt_called_edit_laws.specs.ToldLines.{Told, a_paragraph_of, a_heading_on, lined, OwnTold}
 use Rattle.wt_called_edit_laws.specs.ToldTogether.{start_of}
@@ -117,8 +118,9 @@ some_content n (x ∷ y ∷ zs) ls some shown = omega arith
 
 -- so has a line of text, and one of a heading's kind
 pub told_content : (t : Told) (n : ℕ) → 1 ≤ length (lined t).first → OwnTold t n → 1 ≤ length (content (own_items (lined t)))
-told_content (a_paragraph_of before marks first more) n some h =
+told_content (a_paragraph_of before [] marks first more) n some h =
     some_content n first more some (λ w. let wrong : line.Blank ≡ line.Text = sym w ∙ h.0.0 in absurd (cc))
+told_content (a_paragraph_of before (s ∷ ss) marks first more) n some h = some_content n first more some (λ w. seen_shown n first h.0.0 w)
 told_content (a_heading_on before marks l) n some h =
     some_content n l [] some (λ w. let wrong : line.Blank ≡ line.Heading = sym w ∙ h.is_heading in absurd (cc))
 

@@ -1,5 +1,5 @@
 -- A paragraph behind the sign of a table's end on its line, told by its lines.
-use Rattle.std.proofs.Common.{arith, ◌≡◌, ◌≤◌, ◌⊎◌, inl, inr, ℕ, zero, suc, ◌+◌, Bool, true, false, List, [], ◌∷◌, ◌++◌, length, map, refl, sym, ap, ◌∙◌, subst, append-nil}
+use Rattle.std.proofs.Common.{arith, ◌≡◌, ◌≤◌, inl, ℕ, Bool, true, false, List, [], ◌∷◌, ◌++◌, length, map, refl, sym, ap, ◌∙◌, subst, append-nil}
 use Rattle.std.specs.Prelude.{◌==◌, ◌&&◌, if◌then◌else◌}
 use Rattle.std.specs.List.{list_all}
 use Rattle.wt_span.specs.Items.{Item, char, whole, is_mark, sign, sources}
@@ -11,7 +11,6 @@ use Rattle.wt_tables.specs.Extents.{behind as tables_after}
 use Rattle.wt_tables.specs.Parts.{joined}
 use Rattle.wt_page.specs.Lines.{kind_at}
 use Rattle.wt_page.specs.Rows.{Row, marks_len, is_unseen, line_rows, rows_from}
-use Rattle.wt_page_round_trip.proofs.KindTests.{kind_told}
 use Rattle.wt_part_laws.specs.Slots.{open_behind, AllTrue}
 use Rattle.wt_text_edit_laws.specs.ParagraphBetween.{written_rows, tables_behind, EndApart, BeginApart}
 use Rattle.wt_text_edit_laws.specs.ReadContents.{BeginsUnclosed}
@@ -23,10 +22,10 @@ use Rattle.wt_called_edit_laws.specs.LinedCalling.{IsCallingAt}
 use Rattle.wt_called_edit_laws.specs.RowBlocks.{end_sign, past_end, begins_past, AreOfText}
 use Rattle.wt_called_edit_laws.specs.SignLines.{front_lines}
 use Rattle.wt_called_edit_laws.specs.TableEnds.{IsEndSign}
-use Rattle.wt_called_edit_laws.specs.ToldLines.{Told, a_paragraph_of, lined, IsToldAt}
+use Rattle.wt_called_edit_laws.specs.ToldLines.{a_paragraph_of, IsToldAt}
 use Rattle.wt_called_edit_laws.specs.ToldTogether.{start_of}
 use Rattle.wt_called_edit_laws.proofs.AllTold.EndSigns.{some_tables, end_alone, none_sign, HaveSigns, signs_behind}
-use Rattle.wt_called_edit_laws.proofs.AllTold.Found.{size, size_both}
+use Rattle.wt_called_edit_laws.proofs.AllTold.Found.{size_both}
 use Rattle.wt_called_edit_laws.proofs.AllTold.LineKinds.{Lines, led_by, past_marks, led_whole, led_marks, written_both, tables_both, after, end_behind}
 use Rattle.wt_called_edit_laws.proofs.AllTold.Opens.{open_both}
 use Rattle.wt_called_edit_laws.proofs.AllTold.Scans.{Decided, bool_decided, tables_at, sign_told}
@@ -82,12 +81,6 @@ seen_by ms (y ∷ ys) all u = (omega arith, ap (λ (ss : List ℕ). length ss ==
 pub seen_past : (l : List Item) → is_unseen l ≡ false → (1 ≤ length (past_marks l)) × (is_unseen (past_marks l) ≡ false)
 seen_past l u = seen_by (led_by l) (past_marks l) (led_marks l) (ap is_unseen (led_whole l) ∙ u)
 
--- so such a line isn't blank
-pub seen_shown : (n : ℕ) (l : List Item) → is_unseen l ≡ false → kind_at n l ≡ line.Blank → ⊥
-seen_shown n l u e =
-    let t : is_unseen l ≡ true = kind_told n (map sign (content l)) line.Blank e in
-    let wrong : true ≡ false = sym t ∙ u in absurd (cc)
-
 -- ---- the rows before it
 
 -- the sign's own row
@@ -124,8 +117,14 @@ told_on before (x ∷ xs) m f others h some marks more seen unled apart cells te
   some = more;
   in_cells = subst AllTrue (sym (fronts_open before x xs h some)) cells;
   apart = subst EndApart (sym (fronts_written before x xs h some)) (end_behind (written_rows 0 before) (end_row h) [] refl);
-  own = ((seen, text_lines_at (length (open_after [] (written_rows 0 (front_lines before (x ∷ xs))))) others
-  (subst (λ (n : ℕ). AreOfText n others) (fronts_count before x xs h some) texts)), unled);
+  own = (
+    (
+      seen,
+      text_lines_at (length (open_after [] (written_rows 0 (front_lines before (x ∷ xs))))) others
+          (subst (λ (n : ℕ). AreOfText n others) (fronts_count before x xs h some) texts),
+    ),
+    unled,
+  );
 }
 
 count_on : (before : Lines) (s : List Item) → IsEndSign s → 1 ≤ tables_behind 0 before

@@ -1,5 +1,5 @@
 -- The tree of a paragraph behind the sign of a table's end is that of its rows.
-use Rattle.std.proofs.Common.{arith, ◌≡◌, ℕ, suc, ◌-◌, true, false, List, [], ◌∷◌, ◌++◌, length, map, refl, sym, ap, ◌∙◌, append_assoc}
+use Rattle.std.proofs.Common.{arith, ◌≡◌, ℕ, suc, ◌-◌, true, false, List, [], ◌∷◌, ◌++◌, length, map, sym, ap, ◌∙◌, append_assoc}
 use Rattle.std.specs.List.{list_all}
 use Rattle.wt_span.specs.Items.{Item, is_mark}
 use Rattle.wt_expand.specs.PageItems.{page_items}
@@ -8,7 +8,7 @@ use Rattle.wt_lines.specs.declared.kind.LineKind.TheVariants as line
 use Rattle.wt_lines.specs.Lines.{content, full_lines}
 use Rattle.wt_tables.specs.Extents.{behind}
 use Rattle.wt_tables.specs.Parts.{joined}
-use Rattle.wt_page.specs.Lines.{kind_at, ending}
+use Rattle.wt_page.specs.Lines.{ending}
 use Rattle.wt_page.specs.Rows.{Row, is_unseen, line_rows, rows_from}
 use Rattle.wt_page.specs.Texts.{para}
 use Rattle.wt_page.proofs.Ends.{content_ending}

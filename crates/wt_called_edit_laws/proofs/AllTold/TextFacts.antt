@@ -1,8 +1,11 @@
 -- Facts of lines of text: how many tables are open at them, and that no mark is first behind those that begin them.
-use Rattle.std.proofs.Common.{arith, ◌≡◌, ◌≤◌, ℕ, suc, ◌+◌, Bool, true, false, List, [], ◌∷◌, ◌++◌, length, drop, refl, ap, ◌∙◌, cond}
-use Rattle.wt_span.specs.Items.{Item, is_mark}
+use Rattle.std.proofs.Common.{arith, ◌≡◌, ◌≤◌, ℕ, suc, ◌+◌, Bool, true, false, List, [], ◌∷◌, ◌++◌, length, drop, map, refl, sym, ap, ◌∙◌, cond}
+use Rattle.wt_span.specs.Items.{Item, is_mark, sign}
+use Rattle.wt_lines.specs.declared.kind.LineKind.TheVariants as line
 use Rattle.wt_lines.specs.Lines.{content}
-use Rattle.wt_page.specs.Rows.{marks_len}
+use Rattle.wt_page.specs.Lines.{kind_at}
+use Rattle.wt_page.specs.Rows.{marks_len, is_unseen}
+use Rattle.wt_page_round_trip.proofs.KindTests.{kind_told}
 use Rattle.wt_text_edit_laws.specs.ParagraphBetween.{written_rows, tables_behind}
 use Rattle.wt_text_edit_laws.proofs.Cuts.RowLines.{AllText}
 use Rattle.wt_text_edit_laws.proofs.Cuts.TextLines.{led_first, content_unled}
@@ -41,3 +44,9 @@ past_unled (y ∷ ys) = by (is_mark y) refl (past_unled ys)
 pub first_unled : (xs zs : List Item) → 1 ≤ length xs → marks_len xs ≡ 0 → marks_len (content (xs ++ zs)) ≡ 0
 first_unled [] zs some h = absurd (omega (arith, some))
 first_unled (x ∷ xs) zs some h = content_unled (x ∷ (xs ++ zs)) (led_first x xs (xs ++ zs) h)
+
+-- a line in which something is seen isn't blank
+pub seen_shown : (n : ℕ) (l : List Item) → is_unseen l ≡ false → kind_at n l ≡ line.Blank → ⊥
+seen_shown n l u e =
+    let t : is_unseen l ≡ true = kind_told n (map sign (content l)) line.Blank e in
+    let wrong : true ≡ false = sym t ∙ u in absurd (cc)

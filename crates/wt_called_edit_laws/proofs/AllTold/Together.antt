@@ -132,11 +132,11 @@ alone_sign pages page s b x xs m f r rest h p =
     let t : Told = a_paragraph_of b sign m f r in
     let g : IsEndSign sign = h.told.0.sign.0 in
     let same : sign_told b l r ≡ t = same_sign b sign m f r g p in
-    let line : (sign ++ m) ++ f ≡ l = append_assoc sign m f in
+    let joint : (sign ++ m) ++ f ≡ l = append_assoc sign m f in
     let kind : kind_at (length (after [] b)) l ≡ line.TableEnd =
     subst (λ (n : ℕ). kind_at n l ≡ line.TableEnd) (open_size [] 0 b refl) (end_line (tables_behind 0 b) sign (m ++ f) g h.told.0.sign.1) in
     subst (λ (o : Told). IsAmongNumbers (start_of 0 o) (told_starts 0 s.ts)) same
-    (s.signs 0 b l r rest (h.are ∙ ap (λ (k : List Item). b ++ ((k ∷ r) ++ rest)) line) kind
+    (s.signs 0 b l r rest (h.are ∙ ap (λ (k : List Item). b ++ ((k ∷ r) ++ rest)) joint) kind
     (subst (IsToldAt []) (sym same) h.told.0)
     (subst (λ (o : Told). BeginApart (rows_from (length (tables_at [] o)) rest)) (sym same) h.told.1)
     (subst (λ (o : Told). Meets (chosen pages page) [] o) (sym same) (meets_so pages page t h.here)))

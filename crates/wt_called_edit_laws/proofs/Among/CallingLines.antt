@@ -1,5 +1,5 @@
 -- A page with paragraphs and headings that may hold calls, by the lines of the expanded page: it is cut at these, and each is at such a place.
-use Rattle.std.proofs.Common.{arith, ◌≡◌, ◌⊎◌, inl, inr, ℕ, ◌+◌, ◌≤◌, Bool, true, false, Option, None, List, [], ◌∷◌, ◌++◌, length, refl, sym, ap, ap₂, ◌∙◌, subst, append_assoc, append-nil, length-append}
+use Rattle.std.proofs.Common.{arith, ◌≡◌, ◌⊎◌, inl, inr, ℕ, ◌+◌, ◌≤◌, Bool, false, Option, None, List, [], ◌∷◌, ◌++◌, length, refl, sym, ap, ap₂, ◌∙◌, subst, append_assoc, append-nil, length-append}
 use Rattle.std.specs.Str.{IsUtf8}
 use Rattle.std.proofs.lemmas.Grind.{flat_map-append}
 use Rattle.wt_span.specs.declared.form.Mode.TheVariants.{Page}
@@ -9,7 +9,7 @@ use Rattle.wt_span.specs.Runs.{AreRuns}
 use Rattle.wt_span.proofs.RunLaws.{runs_are}
 use Rattle.wt_annotated.specs.Seams.{last_of, text_from}
 use Rattle.wt_annotated.proofs.Seams.{last_append}
-use Rattle.wt_lines.specs.Lines.{content, full_lines, goes_on}
+use Rattle.wt_lines.specs.Lines.{content, goes_on}
 use Rattle.wt_page.specs.Lines.{ending}
 use Rattle.wt_page.specs.Rows.{Row}
 use Rattle.wt_tables.specs.Parts.{joined}
@@ -49,13 +49,8 @@ use Rattle.wt_called_edit_laws.specs.Parts.{calls_to, calls_past, called_items, 
 use Rattle.wt_called_edit_laws.specs.PartTexts.{AreSourcesAt}
 use Rattle.wt_called_edit_laws.specs.PlacedAmong.{StandAfter}
 use Rattle.wt_called_edit_laws.specs.PlacedCalling.{AreFurtherCutsAt, AreCutsAt, IsPlacedCalling}
-<<<<<<< HEAD
 use Rattle.wt_called_edit_laws.specs.PlacedLines.{LinedBlock, all_lines, lead_of, front_rows}
-use Rattle.wt_called_edit_laws.proofs.Among.BlockAt.{read_some, calls_of, IsRest, IsPast, text_to, block_from, block_to, past_front, past_own, marked_text, bytes_cut, beside_first, beside_front, beside_last}
-=======
-use Rattle.wt_called_edit_laws.specs.PlacedLines.{LinedBlock, all_lines}
-use Rattle.wt_called_edit_laws.proofs.Among.BlockAt.{read_some, calls_of, IsRest, text_to, block_from, block_to, past_front, BeginsOwn, rest_own, past_before, past_own, marked_text, have_front, beside_first, beside_front, beside_last}
->>>>>>> 2a60601d060206b1719921cc6757dd52d0ccae9f
+use Rattle.wt_called_edit_laws.proofs.Among.BlockAt.{read_some, calls_of, IsRest, text_to, block_from, block_to, past_front, BeginsOwn, rest_own, past_before, past_own, marked_text, beside_first, beside_front, beside_last}
 use Rattle.wt_called_edit_laws.proofs.Among.FirstItems.{FirstHas, EachThere, there_both, there_before, there_behind, part_there, called_there, NamedParts, named_parts, called_first, part_below}
 use Rattle.wt_called_edit_laws.proofs.Among.LinedParts.{EndsBreak, EndsOwn, own_end, ended_text, own_behind, own_text_size, ends_text, cancel, no_items, IsLeft, left_none, left_whole, open_at, line_front, block_front, page_rest}
 use Rattle.wt_called_edit_laws.proofs.Among.OwnSeams.{FirstLonger, FirstShorter, two_cuts, first_or, first_size, text_size, end_behind}

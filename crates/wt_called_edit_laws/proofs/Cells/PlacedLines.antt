@@ -183,7 +183,6 @@ lead_there b tail xs runs m =
       rest = (marks_behind own (joined tail) (marks_behind (lead_of b) more ended), have_behind own (joined tail) (have_behind (lead_of b) more full));
     }
 
-<<<<<<< HEAD
 -- a block is led to by whole lines and what begins its line
 led_there : (n : ℕ) (b : LinedBlock) (tail : List (List Item)) (xs : List Item) → OwnBreaks xs → empty_end xs ≡ [] ∷ [] → AreLeadThere b tail
     → IsSignFor b.block n b.before b.sign → IsApartFrom b.sign b.text → list_all is_mark b.marks ≡ true → 1 ≤ length b.first
@@ -193,21 +192,16 @@ led_there n b tail xs breaks whole l sign apart marks some =
     let size : 1 ≤ length more = omega (arith, some, length-append b.first (joined b.more), length-append (own_items b) (joined tail)) in
     subst (λ (bs : List ℕ). IsLedTo bs b.block b.text) (sym (flat_map-append source xs (lead_of b)))
     (lead_led b.block b.text n b.before b.sign b.marks more (sources xs) sign apart marks l.ended l.full size (ended_bytes xs breaks whole))
-=======
--- so what is before a block's lines and the marks that begin them is ended
-ended_front : (b : LinedBlock) (tail : List (List Item)) (xs : List Item) → AreRuns goes_on (b.before ++ (((b.marks ++ b.first) ∷ b.more) ++ tail)) xs → OwnBreaks xs
-    → MarksEnd xs → 1 ≤ length b.first → list_all is_mark b.marks ≡ true → AreEnded (sources (joined b.before ++ b.marks))
-ended_front b tail xs runs o w some all =
-    let breaks : AllBreaks b tail = all_breaks b tail xs runs o in
-    let marks : AreMarksThere b tail = all_marks b tail xs runs w in
-    let r : Round b tail = round b tail xs some runs breaks.text in
-    marks_ended (joined b.before) b.marks breaks.front r.front_whole (marks.ended all some)
 
-pub page_ended : (page : List ℕ) (b : LinedBlock) (tail : List (List Item))
-    → AreRuns goes_on (b.before ++ (((b.marks ++ b.first) ∷ b.more) ++ tail)) (page_items page) → 1 ≤ length b.first → list_all is_mark b.marks ≡ true
-    → AreEnded (sources (joined b.before ++ b.marks))
-page_ended page b tail runs some all = ended_front b tail (page_items page) runs (page_breaks page) (page_marks page) some all
->>>>>>> 2a60601d060206b1719921cc6757dd52d0ccae9f
+-- so of a page that calls nothing
+pub page_led : (page : List ℕ) (n : ℕ) (b : LinedBlock) (tail : List (List Item))
+    → AreRuns goes_on (b.before ++ (((lead_of b ++ b.first) ∷ b.more) ++ tail)) (page_items page) → IsSignFor b.block n b.before b.sign → IsApartFrom b.sign b.text
+    → list_all is_mark b.marks ≡ true → 1 ≤ length b.first → IsLedTo (sources (joined b.before ++ lead_of b)) b.block b.text
+page_led page n b tail runs sign apart marks some =
+    let xs : List Item = page_items page in
+    let breaks : AllBreaks b tail = all_breaks b tail xs runs (page_breaks page) in
+    let r : Round b tail = round b tail xs some runs breaks.text in
+    led_there n b tail (joined b.before) breaks.front r.front_whole (lead_there b tail xs runs (page_items_are page)) sign apart marks some
 
 -- ---- all blocks
 

@@ -1,11 +1,12 @@
 -- What is before a block on its first line: marks, or the sign of a table's end and marks behind it. The block is led to by it, and stays text behind it.
-use Rattle.std.proofs.Common.{arith, ◌≡◌, ◌≤◌, ◌⊎◌, inl, inr, ℕ, ◌+◌, Bool, true, false, List, [], ◌∷◌, ◌++◌, length, map, All, refl, sym, ap, ◌∙◌, subst, append-nil, append_assoc, length-append, codes}
-use Rattle.std.specs.Prelude.{◌&&◌, ◌||◌, if◌then◌else◌}
+use Rattle.std.proofs.Common.{arith, ◌≡◌, ◌≤◌, ◌⊎◌, inl, inr, ℕ, Bool, true, false, List, [], ◌∷◌, ◌++◌, length, map, All, refl, sym, ap, ◌∙◌, subst, append-nil, append_assoc, length-append, codes}
+use Rattle.std.specs.Prelude.{◌&&◌, ◌||◌, ◌==◌, not, if◌then◌else◌}
 use Rattle.std.specs.List.{list_all}
+use Rattle.std.proofs.lemmas.Bool.Decides.{nat_tests}
 use Rattle.std.proofs.lemmas.Grind.{flat_map-append}
 use Rattle.std.proofs.lemmas.List.Elements.{All-cons}
 use Rattle.wt_span.specs.Bytes.{is_blank}
-use Rattle.wt_span.specs.Items.{Item, char, whole, is_mark_form, is_mark, sign, source, sources}
+use Rattle.wt_span.specs.Items.{Item, char, whole as form_of, is_mark_form, is_mark, sign, source, sources}
 use Rattle.wt_lines.specs.declared.kind.LineKind.TheVariants as line
 use Rattle.wt_lines.specs.Kinds.{line_kind}
 use Rattle.wt_lines.specs.Lines.{full_lines, lines, content, empty_end}
@@ -16,8 +17,8 @@ use Rattle.wt_part_laws.specs.Slots.{AllTrue}
 use Rattle.wt_text_edit_laws.specs.PageCuts.{AreTextItems, AreBlockItems}
 use Rattle.wt_text_edit_laws.specs.ParagraphBetween.{written_rows, tables_behind, before_marks}
 use Rattle.wt_text_edit_laws.specs.Paragraphs.{IsSeenLine}
-use Rattle.wt_text_edit_laws.specs.SignParts.{AreSigned, IsLedTo}
-use Rattle.wt_text_edit_laws.specs.TextBetween.{AreEnded}
+use Rattle.wt_text_edit_laws.specs.SignParts.{is_sign_end, ends_unopened, AreSigned, IsLedTo}
+use Rattle.wt_text_edit_laws.specs.TextBetween.{EndsBy, is_end, AreEnded}
 use Rattle.wt_text_edit_laws.specs.TextBlocks.{TextBlock, a_paragraph, a_heading}
 use Rattle.wt_text_edit_laws.specs.TypedHeadings.{AreBlanks}
 use Rattle.wt_text_edit_laws.proofs.Cuts.ItemCuts.{HaveBytes}
@@ -69,9 +70,9 @@ end_off (x ∷ xs) y e =
 
 brace_unmarked : (y : Item) → sign y ≡ 125 → is_mark y ≡ false
 brace_unmarked (char o b) e = refl
-brace_unmarked (whole f o bs) e = by (is_mark_form f) e
+brace_unmarked (form_of f o bs) e = by (is_mark_form f) e
   where
-    by : (v : Bool) → (if v then 257 else 256) ≡ 125 → v ≡ false
+    by : (v : Bool) → ◌≡◌ {A = ℕ} (if v then 257 else 256) 125 → v ≡ false
     by true z = absurd (omega (arith, z))
     by false z = refl
 
@@ -242,7 +243,7 @@ or_false false e = absurd (cc)
 
 blank_first : (x : Item) (bs : List ℕ) → is_idle_item x ≡ true → is_mark x ≡ false → AreBlanks bs → AreBlanks (source x ++ bs)
 blank_first (char o b) bs e f h = (or_false (is_blank b) e, h)
-blank_first (whole f o cs) bs e g h = let nay : true ≡ false = sym e ∙ g in absurd (cc)
+blank_first (form_of f o cs) bs e g h = let nay : true ≡ false = sym e ∙ g in absurd (cc)
 
 last_mark : (xs : List Item) → AreIdleItems xs → LastMark xs
 last_mark [] h = record { front = []; blanks = []; is = refl; are_blanks = tt; marked = inl refl }
@@ -279,7 +280,7 @@ last_mark (x ∷ xs) h = by (last_mark xs h.2)
 
 sign_byte : (x : Item) (b : ℕ) → sign x ≡ b → b ≤ 255 → source x ≡ b ∷ []
 sign_byte (char o c) b e le = ap (λ (d : ℕ). d ∷ []) e
-sign_byte (whole f o bs) b e le = by (is_mark_form f) e
+sign_byte (form_of f o bs) b e le = by (is_mark_form f) e
   where
     by : (v : Bool) → (if v then 257 else 256) ≡ b → bs ≡ b ∷ []
     by true z = absurd (omega (arith, z, le))
@@ -300,6 +301,37 @@ front_ended bytes front rest (inr s) ends some full h =
     ∙ sym (append_assoc bytes (sources s.us) (sources (s.m ∷ []))) in
     subst AreEnded (sym is) (last_ends (bytes ++ sources s.us) (sources (s.m ∷ [])) own (bytes_some s.m [] have))
 
+-- no `<` is left open behind what ends so, and behind blanks
+end_by : (test : ℕ → Bool) (bs : List ℕ) (b : ℕ) → test b ≡ true → EndsBy test (bs ++ b ∷ [])
+end_by test [] b e = e
+end_by test (c ∷ []) b e = e
+end_by test (c ∷ d ∷ bs) b e = end_by test (d ∷ bs) b e
+
+unopened_both : (v : Bool) (xs ys : List ℕ) → ends_unopened v (xs ++ ys) ≡ ends_unopened (ends_unopened v xs) ys
+unopened_both v [] ys = refl
+unopened_both v (x ∷ xs) ys = unopened_both (is_end x || (v && not (x == 60))) xs ys
+
+ended_some : (v : Bool) (b : ℕ) (bs : List ℕ) → AreEnded (b ∷ bs) → ends_unopened v (b ∷ bs) ≡ true
+ended_some v b [] e = ap (λ (t : Bool). t || (v && not (b == 60))) e
+ended_some v b (c ∷ bs) e = ended_some (is_end b || (v && not (b == 60))) c bs e
+
+ended_unopened : (bs : List ℕ) → AreEnded bs → ends_unopened true bs ≡ true
+ended_unopened [] e = refl
+ended_unopened (b ∷ bs) e = ended_some true b bs e
+
+or_true : (v : Bool) → (v || true) ≡ true
+or_true true = refl
+or_true false = refl
+
+blank_small : (b : ℕ) → is_blank b ≡ true → (b == 60) ≡ false
+blank_small b e = grind (arith, nat_tests, e)
+
+blanks_unopened : (bs : List ℕ) → AreBlanks bs → ends_unopened true bs ≡ true
+blanks_unopened [] h = refl
+blanks_unopened (b ∷ bs) h =
+    ap (λ (t : Bool). ends_unopened (is_end b || (true && not t)) bs) (blank_small b h.0)
+    ∙ ap (λ (t : Bool). ends_unopened t bs) (or_true (is_end b)) ∙ blanks_unopened bs h.1
+
 signed : (bytes : List ℕ) (l rest : List Item) → IsEndSign l → MarksEnd (l ++ rest) → HaveBytes l → AreEnded bytes → AreSigned (bytes ++ sources l)
 signed bytes l rest h ends full e =
     let m : LastMark h.lead = last_mark h.lead h.idle in
@@ -311,15 +343,22 @@ signed bytes l rest h ends full e =
     let bar : source h.bar ≡ 124 ∷ [] = sign_byte h.bar 124 h.is_bar (omega arith) in
     let brace : source h.brace ≡ 125 ∷ [] = sign_byte h.brace 125 h.is_brace (omega arith) in
     let own_is : sources own ≡ codes "|}" = ap (λ (bs : List ℕ). bs ++ (source h.brace ++ [])) bar ∙ ap (λ (bs : List ℕ). 124 ∷ (bs ++ [])) brace in
-    let bytes_are : sources l ≡ sources m.front ++ (sources m.blanks ++ codes "|}") =
+    let front : List ℕ = bytes ++ sources m.front in
+    let blanks : List ℕ = sources m.blanks in
+    let bytes_are : sources l ≡ sources m.front ++ (blanks ++ codes "|}") =
     ap sources parts ∙ flat_map-append source m.front (m.blanks ++ own)
-    ∙ ap (λ (bs : List ℕ). sources m.front ++ bs) (flat_map-append source m.blanks own ∙ ap (λ (bs : List ℕ). sources m.blanks ++ bs) own_is) in
+    ∙ ap (λ (bs : List ℕ). sources m.front ++ bs) (flat_map-append source m.blanks own ∙ ap (λ (bs : List ℕ). blanks ++ bs) own_is) in
+    let is : bytes ++ sources l ≡ front ++ (blanks ++ codes "|}") =
+    ap (λ (bs : List ℕ). bytes ++ bs) bytes_are ∙ sym (append_assoc bytes (sources m.front) (blanks ++ codes "|}")) in
+    let last : front ++ (blanks ++ codes "|}") ≡ (front ++ (blanks ++ 124 ∷ [])) ++ 125 ∷ [] =
+    ap (λ (bs : List ℕ). front ++ bs) (sym (append_assoc blanks (124 ∷ []) (125 ∷ []))) ∙ sym (append_assoc front (blanks ++ 124 ∷ []) (125 ∷ [])) in
+    let ended : AreEnded front = front_ended bytes m.front more m.marked there some (have_front m.front (m.blanks ++ own) (subst HaveBytes parts full)) e in
     record {
-      front = bytes ++ sources m.front;
-      sign = sources m.blanks ++ codes "|}";
-      is = ap (λ (bs : List ℕ). bytes ++ bs) bytes_are ∙ sym (append_assoc bytes (sources m.front) (sources m.blanks ++ codes "|}"));
-      ended = front_ended bytes m.front more m.marked there some (have_front m.front (m.blanks ++ own) (subst HaveBytes parts full)) e;
-      is_sign = record { blanks = sources m.blanks; own = codes "|}"; is = refl; are_blanks = m.are_blanks; bare = inl refl };
+      some = omega (arith, ap length (is ∙ last), length-append (front ++ (blanks ++ 124 ∷ [])) (125 ∷ []));
+      sign = subst (EndsBy is_sign_end) (sym (is ∙ last)) (end_by is_sign_end (front ++ (blanks ++ 124 ∷ [])) 125 refl);
+      unopened = ap (ends_unopened true) is ∙ unopened_both true front (blanks ++ codes "|}")
+          ∙ ap (λ (v : Bool). ends_unopened v (blanks ++ codes "|}")) (ended_unopened front ended)
+          ∙ unopened_both true blanks (codes "|}") ∙ ap (λ (v : Bool). ends_unopened v (codes "|}")) (blanks_unopened blanks m.are_blanks);
     }
 
 -- where such bytes come before a block's line, it is led to
