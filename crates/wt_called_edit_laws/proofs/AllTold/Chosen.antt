@@ -147,9 +147,6 @@ texts_decided e front t =
     let from : ℕ = length (text_from e.outer None (front ++ (lined t).marks)) in
     beside_decided from (from + length (sources (joined ((lined t).first ∷ (lined t).more)))) e.text_calls
 
-pub calm_decided : (xs : List Item) → Decided (CallsNothing xs)
-calm_decided xs = pairs_decided (braces (map sign xs))
-
 pub functions_decided : (xs : List Item) → Decided (AreNoFunctions xs)
 functions_decided [] = inl tt
 functions_decided (x ∷ xs) = both_decided (IsNoFunction x) (AreNoFunctions xs) (function_decided x) (functions_decided xs)
@@ -196,7 +193,7 @@ pub own_both : (xs ys : List Item) → AreOfPage xs → AreOfPage ys → AreOfPa
 own_both [] ys h g = g
 own_both (x ∷ xs) ys h g = (h.0, h.1, own_both xs ys h.2 g)
 
-own_of : (xs : List Item) → AllFrom None xs → AreNoFunctions xs → AreOfPage xs
+pub own_of : (xs : List Item) → AllFrom None xs → AreNoFunctions xs → AreOfPage xs
 own_of [] h g = tt
 own_of (x ∷ xs) h g = (h.0, g.0, own_of xs h.1 g.1)
 
