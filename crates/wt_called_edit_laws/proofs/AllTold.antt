@@ -37,6 +37,8 @@ pub mod CalmPages
 pub mod BlockBytes
 pub mod CallingBytes
 pub mod NodeLines
+pub mod OnTold
+pub mod OwnBytes
 pub mod KnownLines
 pub mod CallingTogether
 pub mod CallingCases

@@ -68,7 +68,6 @@ each_editable pages page (q ∷ qs) (m ∷ ms) w e r h =
           untangled = r.0.untangled;
           unexcepted = h.0.unexcepted;
           editable = h.0.editable;
-          free = h.0.free;
         },
       ),
       each_editable pages page qs ms w.1 (rest_same (node_at q t) (Some m.old) (nodes_at t qs) (olds ms) e) r.1 h.1,
