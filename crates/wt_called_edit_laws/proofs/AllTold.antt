@@ -34,6 +34,7 @@ pub mod AllAlone
 pub mod CallingStarts
 pub mod OnLines
 pub mod CalmPages
+pub mod CalmCalls
 pub mod BlockBytes
 pub mod CallingBytes
 pub mod NodeLines
