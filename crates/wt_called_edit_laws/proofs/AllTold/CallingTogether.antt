@@ -43,7 +43,7 @@ use Rattle.wt_called_edit_laws.proofs.AllTold.Complete.{block_in}
 use Rattle.wt_called_edit_laws.proofs.AllTold.Found.{size}
 use Rattle.wt_called_edit_laws.proofs.AllTold.KnownLines.{IsKnownHere, KnownTold, KnownNode, known_node}
 use Rattle.wt_called_edit_laws.proofs.AllTold.LineKinds.{Lines}
-use Rattle.wt_called_edit_laws.proofs.AllTold.NodeLines.{IsSameCut, cut_among, among_decided, IsIn, meets_among, NodeLines, line_count}
+use Rattle.wt_called_edit_laws.proofs.AllTold.NodeLines.{IsOfKind, IsSameCut, cut_among, among_decided, IsIn, meets_among, NodeLines, line_count}
 use Rattle.wt_called_edit_laws.proofs.AllTold.OneNode.{front_same, page_ones, page_joined}
 use Rattle.wt_called_edit_laws.proofs.AllTold.OnTold.{AreOnTold, lined_on, starts_on}
 use Rattle.wt_called_edit_laws.proofs.AllTold.OnLines.{IsThere, line_front, line_more, line_size, line_whole, node_byte}
@@ -283,7 +283,7 @@ found_nodes : (pages : Pages) (page : List ℕ) (ps : List (List ℕ)) → IsUtf
 found_nodes pages page [] u r h = tt
 found_nodes pages page (p ∷ ps) u r h = (found_node pages page p h.0.0 u r h.0.1, found_nodes pages page ps u r h.1)
 
-node_lines_of : (pages : Pages) (page : List ℕ) (ps : List (List ℕ)) → FoundNodes pages page ps → List (KnownTold pages page)
+abbrev node_lines_of : (pages : Pages) (page : List ℕ) (ps : List (List ℕ)) → FoundNodes pages page ps → List (KnownTold pages page)
 node_lines_of pages page [] h = []
 node_lines_of pages page (p ∷ ps) h = h.0.line ∷ node_lines_of pages page ps h.1
 

@@ -229,8 +229,14 @@ node_free pages page i is t u r e byte k q d s j tree_is =
     subst (λ (m : ℕ). HasFreeByte t m (m + length (flat t))) (sym first)
     (subst (λ (m : ℕ). HasFreeByte t w.at (w.at + m)) (sym size) (subst (λ (y : Tree). HasFreeByte y w.at (w.at + length (flat v))) (sym same) free))
 
+-- the lines of a node, and what is known of them
+pub record KnownNode (pages : Pages) (page : List ℕ) (t : Tree) : Type 0 where
+  pub lines : NodeLines pages page t
+  pub line : KnownTold pages page
+  pub is : line.told ≡ lines.told
+
 known_so : (pages : Pages) (page : List ℕ) (i : ℕ) (is : List ℕ) (t : Tree) → IsUtf8 page → refusal_of_page pages page ≡ None → IsEditableAt pages page (i ∷ is) t
-    → (n : NodeLines pages page t) → IsBesideOwn (joined (lined n.told).before) n.told → KnownTold pages page
+    → (n : NodeLines pages page t) → IsBesideOwn (joined (lined n.told).before) n.told → KnownNode pages page t
 known_so pages page i is t u r h n b =
     let calls : List OuterCall = (expanded_page pages page).outer in
     let spans : List Span = (expanded_page pages page).text_calls in
@@ -252,6 +258,12 @@ known_so pages page i is t u r h n b =
     let source : text_from calls None (content (own_items l)) ≡ source_of d.block d.text = sym (line_source pages page t u r n) ∙ d.source in
     let apart : AreBeside (length (text_from calls None fs)) (from + length (source_of d.block d.text)) spans =
     subst (λ (m : ℕ). AreBeside (length (text_from calls None fs)) (from + m) spans) size (node_apart pages page i is t u r h n first) in
+    let line : ℕ = length (text_from calls None fs) in
+    let long : ℕ = length (source_of d.block d.text) in
+    let line_is : line ≡ 0 + line = omega arith in
+    let from_is : from ≡ 0 + from = omega arith in
+    let first_apart : AreBeside (0 + line) ((0 + from) + long) spans =
+    subst (λ (m : ℕ). AreBeside m ((0 + from) + long) spans) line_is (subst (λ (m : ℕ). AreBeside line (m + long) spans) from_is apart) in
     let alone : IsLinedWithCalls pages page (c ∷ []) n.rest = record {
       utf8 = u;
       are = n.are;
@@ -259,7 +271,7 @@ known_so pages page i is t u r h n b =
       here = (record { before = b.ends; marks = b.marks; breaks = b.breaks; source = source }, tt);
       contents = (any_content pages d.block d.text d.content, tt);
       editable = (any_editable pages d.block d.text d.content, tt);
-      apart = (apart, tt);
+      apart = (first_apart, tt);
       unrefused = r;
     } in
     let tree_is = node_tree pages page t n d b alone in
@@ -269,38 +281,36 @@ known_so pages page i is t u r h n b =
     free_there pages page i is t (first_byte (label t).ranges) (first_byte (label t).ranges + length (flat t)) u r there own (node_begins pages page i is t u r there)
     refl in
     record {
-      told = n.told;
-      rest = n.rest;
-      are = n.are;
-      block = d.block;
-      text = d.text;
-      kind = n.kind d.block d.kind;
-      known = record {
-        ends = b.ends;
-        own_marks = b.marks;
-        breaks = b.breaks;
-        source = source;
-        apart = apart;
-        free = subst (λ (m : ℕ). HasFreeByte (called_tree pages page) from (from + m)) size
-            (subst (λ (m : ℕ). HasFreeByte (called_tree pages page) m (m + length (flat t))) first free);
-        content_is = d.content;
+      lines = n;
+      line = record {
+        told = n.told;
+        rest = n.rest;
+        are = n.are;
+        block = d.block;
+        text = d.text;
+        kind = n.kind d.block d.kind;
+        known = record {
+          ends = b.ends;
+          own_marks = b.marks;
+          breaks = b.breaks;
+          source = source;
+          apart = apart;
+          free = subst (λ (m : ℕ). HasFreeByte (called_tree pages page) from (from + m)) size
+              (subst (λ (m : ℕ). HasFreeByte (called_tree pages page) m (m + length (flat t))) first free);
+          content_is = d.content;
+        };
       };
+      is = refl;
     }
 
 -- ---- of each
-
--- the lines of a node, and what is known of them
-pub record KnownNode (pages : Pages) (page : List ℕ) (t : Tree) : Type 0 where
-  pub lines : NodeLines pages page t
-  pub line : KnownTold pages page
-  pub is : line.told ≡ lines.told
 
 pub known_node : (pages : Pages) (page : List ℕ) (i : ℕ) (is : List ℕ) (t : Tree) → IsUtf8 page → refusal_of_page pages page ≡ None
     → IsEditableAt pages page (i ∷ is) t → KnownNode pages page t
 known_node pages page i is t u r h = by (node_lines pages page (i ∷ is) t u r h.reached h.block)
   where
     on : (n : NodeLines pages page t) → Decided (IsBesideOwn (joined (lined n.told).before) n.told) → KnownNode pages page t
-    on n (inl b) = record { lines = n; line = known_so pages page i is t u r h n b; is = refl }
+    on n (inl b) = known_so pages page i is t u r h n b
     on n (inr f) = absurd (h.unexcepted (record { stands = n.stands; begins_so = broken_by_a_call n.told n.rest n.are n.lines n.begins f }))
 
     by : NodeLines pages page t ⊎ IsExceptedByLines pages page t → KnownNode pages page t

@@ -39,11 +39,11 @@ use Rattle.wt_called_edit_laws.specs.StaysIn.{StaysIn}
 use Rattle.wt_called_edit_laws.specs.CalledContents.{StayText}
 use Rattle.wt_called_edit_laws.specs.CallingBlocks.{IsContentIn, AreContentsInFolder, spots_with_calls, items_past}
 use Rattle.wt_called_edit_laws.specs.Covered.{HaveFreeBytes}
-use Rattle.wt_called_edit_laws.specs.EditableBlocks.{IsEditableWithCalls}
+use Rattle.wt_called_edit_laws.specs.EditableBlocks.{AreEditableContents, IsEditableWithCalls}
 use Rattle.wt_called_edit_laws.specs.Groups.{called_tree}
 use Rattle.wt_called_edit_laws.specs.InCells.{AreTextLines}
 use Rattle.wt_called_edit_laws.specs.LinedAmong.{spots_on, end_on, AreOfPage, AreBeside}
-use Rattle.wt_called_edit_laws.specs.LinedCalling.{LinesOf, IsCallingAt, AreCallingAfter, spot_on, IsCallingHere, AreCallingHere, AreApartFrom, IsLinedCalling}
+use Rattle.wt_called_edit_laws.specs.LinedCalling.{LinesOf, IsCallingAt, AreCallingAfter, AreCallingLined, spot_on, IsCallingHere, AreCallingHere, AreApartFrom, IsLinedCalling}
 use Rattle.wt_called_edit_laws.specs.Parts.{calls_to, calls_past, called_items, called_outers, IsByParts}
 use Rattle.wt_called_edit_laws.specs.PartTexts.{AreSourcesAt}
 use Rattle.wt_called_edit_laws.specs.PlacedAmong.{StandAfter}
