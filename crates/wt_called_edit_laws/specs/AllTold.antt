@@ -14,8 +14,8 @@ use Rattle.wt_tables.specs.Parts.{joined}
 use Rattle.wt_page.specs.Lines.{ending, kind_at}
 use Rattle.wt_page.specs.Rows.{marks_len, is_unseen}
 use Rattle.wt_selser.specs.Edits.{is_tangled}
+use Rattle.wt_text_edit_laws.specs.BodyParagraphs.{EndWhole}
 use Rattle.wt_text_edit_laws.specs.ParagraphBetween.{tables_behind}
-use Rattle.wt_text_edit_laws.specs.NoCalls.{CallsNothing}
 use Rattle.wt_text_edit_laws.specs.ReadContents.{BeginsUnclosed}
 use Rattle.wt_text_edit_laws.specs.SignParts.{IsLedTo}
 use Rattle.wt_text_edit_laws.specs.Unclosed.{holds_unclosed}
@@ -67,16 +67,13 @@ IsBesideTexts e front t =
     AreBeside from (from + length (sources (joined ((lined t).first ∷ (lined t).more)))) e.text_calls
 
 -- So of an expanded page: one of these by its lines; or a block for which a call gives the line break behind it, or directly behind a call, if it begins
--- with a `}`, or the call has a `<` on its last line that no `>` follows; or in which a function is kept; or that has two braces that open before two that
--- close (no page may have one of these, unproved).
+-- with a `}`, or the call has a `<` on its last line that no `>` follows; or in which a function is kept.
 pub data IsExceptedIn (e : Expanded) (at : ℕ) : Type 0 where
   by_its_lines : IsExceptedAt (full_lines e.items) at → IsExceptedIn e at
   beside_a_call : (t : Told) (behind : List (List Item)) → full_lines e.items ≡ all_lines (lined t ∷ []) behind → AreTold (t ∷ []) behind → at ≡ start_of 0 t
       → (IsBesideNoCall e (joined (lined t).before) t → ⊥) → IsExceptedIn e at
   holds_a_function : (t : Told) (behind : List (List Item)) → full_lines e.items ≡ all_lines (lined t ∷ []) behind → AreTold (t ∷ []) behind → at ≡ start_of 0 t
       → (AreNoFunctions (content (joined ((lined t).first ∷ (lined t).more))) → ⊥) → IsExceptedIn e at
-  holds_a_pair : (t : Told) (behind : List (List Item)) → full_lines e.items ≡ all_lines (lined t ∷ []) behind → AreTold (t ∷ []) behind → at ≡ start_of 0 t
-      → (CallsNothing (content (joined ((lined t).first ∷ (lined t).more))) → ⊥) → IsExceptedIn e at
 
 -- a node of a page's tree that begins so
 pub record IsExcepted (pages : Pages) (page : List ℕ) (t : Tree) : Type 0 where

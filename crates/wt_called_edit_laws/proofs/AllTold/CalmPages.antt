@@ -17,7 +17,7 @@ use Rattle.wt_text_edit_laws.specs.NoCalls.{CallsNothing}
 use Rattle.wt_text_edit_laws.specs.SignParts.{IsLedTo}
 use Rattle.wt_text_edit_laws.proofs.Between.NoCalls.{calm_expanded}
 use Rattle.wt_text_edit_laws.proofs.Cuts.TextLines.{joined_is}
-use Rattle.wt_called_edit_laws.specs.AllTold.{IsBesideNoCall, AreNoFunctions, IsBesideTexts, IsExceptedAt, IsExceptedIn, by_its_lines, beside_a_call, holds_a_function, holds_a_pair, IsExcepted}
+use Rattle.wt_called_edit_laws.specs.AllTold.{IsBesideNoCall, AreNoFunctions, IsBesideTexts, IsExceptedAt, IsExceptedIn, by_its_lines, beside_a_call, holds_a_function, IsExcepted}
 use Rattle.wt_called_edit_laws.specs.LinedAmong.{AreOfPage, AreBeside, AreOwnLines}
 use Rattle.wt_called_edit_laws.specs.PlacedLines.{LinedBlock, all_lines, lead_of}
 use Rattle.wt_called_edit_laws.specs.RowBlocks.{opened_len, StandsIn}
@@ -37,7 +37,6 @@ record IsCalm (e : Expanded) (t : Told) : Type 0 where
   beside : IsBesideNoCall e (joined (lined t).before) t
   functions : AreNoFunctions (content (own_items (lined t)))
   texts : IsBesideTexts e (joined (lined t).before) t
-  pairs : CallsNothing (content (own_items (lined t)))
 
 calm_lines : (pages : Pages) (page : List ℕ) (t : Told) (behind : List (List Item)) → CallsNothing (page_items page)
     → full_lines (expanded_page pages page).items ≡ all_lines (lined t ∷ []) behind → AreTold (t ∷ []) behind → IsCalm (expanded_page pages page) t
@@ -64,7 +63,6 @@ calm_lines pages page t behind c are told =
       };
       functions = no_functions (content (own_items b)) (of_front (content (own_items b)) (ending (own_items b)) parts);
       texts = subst (λ (ss : List Span). AreBeside from (from + length (sources (own_items b))) ss) (sym (ap (λ (x : Expanded). x.text_calls) expanded)) tt;
-      pairs = own.1;
     }
 
 pub calm_excepted : (pages : Pages) (page : List ℕ) (t : Tree) → CallsNothing (page_items page) → IsExcepted pages page t
@@ -78,4 +76,3 @@ calm_excepted pages page t c x = (x.stands, by x.begins_so)
     by (by_its_lines l) = l
     by (beside_a_call o behind are told at f) = absurd (f (calm_lines pages page o behind c are told).beside)
     by (holds_a_function o behind are told at f) = absurd (f (calm_lines pages page o behind c are told).functions)
-    by (holds_a_pair o behind are told at f) = absurd (f (calm_lines pages page o behind c are told).pairs)

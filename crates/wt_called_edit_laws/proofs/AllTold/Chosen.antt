@@ -100,7 +100,7 @@ most_decided m n = by (less_or m n)
     by (inl h) = inl h
     by (inr h) = inr (λ g. omega (arith, h, g))
 
-none_decided : (o : Option ℕ) → Decided (o ≡ None)
+pub none_decided : (o : Option ℕ) → Decided (o ≡ None)
 none_decided None = inl refl
 none_decided (Some k) = inr (λ e. absurd (cc))
 
@@ -121,7 +121,7 @@ function_decided : (x : Item) → Decided (IsNoFunction x)
 function_decided (char o b) = inl tt
 function_decided (whole f o bs) = form_decided f o bs
 
-own_decided : (xs : List Item) → Decided (AreOfPage xs)
+pub own_decided : (xs : List Item) → Decided (AreOfPage xs)
 own_decided [] = inl tt
 own_decided (x ∷ xs) = three_decided (call_of x ≡ None) (IsNoFunction x) (AreOfPage xs) (none_decided (call_of x)) (function_decided x) (own_decided xs)
 
@@ -147,9 +147,6 @@ pub texts_decided : (e : Expanded) (front : List Item) (t : Told) → Decided (I
 texts_decided e front t =
     let from : ℕ = length (text_from e.outer None (front ++ lead_of (lined t))) in
     beside_decided from (from + length (sources (joined ((lined t).first ∷ (lined t).more)))) e.text_calls
-
-pub calm_decided : (xs : List Item) → Decided (CallsNothing xs)
-calm_decided xs = pairs_decided (braces (map sign xs))
 
 pub functions_decided : (xs : List Item) → Decided (AreNoFunctions xs)
 functions_decided [] = inl tt
@@ -197,7 +194,7 @@ pub own_both : (xs ys : List Item) → AreOfPage xs → AreOfPage ys → AreOfPa
 own_both [] ys h g = g
 own_both (x ∷ xs) ys h g = (h.0, h.1, own_both xs ys h.2 g)
 
-own_of : (xs : List Item) → AllFrom None xs → AreNoFunctions xs → AreOfPage xs
+pub own_of : (xs : List Item) → AllFrom None xs → AreNoFunctions xs → AreOfPage xs
 own_of [] h g = tt
 own_of (x ∷ xs) h g = (h.0, g.0, own_of xs h.1 g.1)
 

@@ -85,6 +85,10 @@ record Behind (calls : List OuterCall) (front fr es : List Item) (at : ℕ) : Ty
 text_behind : (calls : List OuterCall) (fr xs : List Item) → last_of None fr ≡ None → text_from calls None (fr ++ xs) ≡ text_from calls None fr ++ text_from calls None xs
 text_behind calls fr xs e = text_append_from calls None fr xs ∙ ap (λ (o : Option ℕ). text_from calls None fr ++ text_from calls o xs) e
 
+pub last_suffix : (xs ys : List Item) → last_of None (xs ++ ys) ≡ None → last_of None ys ≡ None
+last_suffix xs [] e = refl
+last_suffix xs (y ∷ ys) e = sym (last_append None xs (y ∷ ys)) ∙ e
+
 -- some of the page's own end with one
 some_last : (o : Option ℕ) (xs : List Item) → 1 ≤ length xs → AllFrom None xs → last_of o xs ≡ None
 some_last o [] some h = absurd (omega (arith, some))
@@ -113,7 +117,7 @@ spot_byte calls front fr es at t b =
     omega (arith, b.byte, ap length (block_text calls front fr es at t b), length-append (text_from calls None fr) own)
 
 -- its lines, and what is left of them
-lines_of_own : (t : Told) → joined (own_lines t) ≡ (lead_of (lined t) ++ content (own_items (lined t))) ++ ending (own_items (lined t))
+pub lines_of_own : (t : Told) → joined (own_lines t) ≡ (lead_of (lined t) ++ content (own_items (lined t))) ++ ending (own_items (lined t))
 lines_of_own t =
     let b : LinedBlock = lined t in
     append_assoc (lead_of b) b.first (joined b.more) ∙ ap (λ (zs : List Item). lead_of b ++ zs) (sym (content_ending (own_items b)))
