@@ -1,6 +1,8 @@
 mod Cases
 mod LineCases
 pub mod Commented
+pub mod Uncommented
+pub mod Unjoined
 pub mod Ends
 pub mod InLine
 mod LinkCases

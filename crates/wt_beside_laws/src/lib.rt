@@ -23,6 +23,7 @@ ghost use Rattle.wt_page.specs.Rows.{rows};
 ghost use Rattle.wt_page.specs.Texts.{para};
 ghost use Rattle.wt_text_edit_laws.specs.ParagraphParts.{joined_parts, para_with};
 ghost use Rattle.wt_text_edit_laws.specs.ParagraphBetween.{AreClosed, before_marks, EndsApart, EndsParagraph, blocks_in, body_with};
+ghost use Rattle.wt_text_edit_laws.specs.ReadContents.{BeginsUnjoined};
 ghost use Rattle.wt_text_edit_laws.specs.TextBetween.{StandsBehind};
 ghost use Rattle.wt_tiles.specs.declared.glyph.Glyph.{Glyph as Sign};
 ghost use Rattle.wt_tiles.specs.declared.shape.Shape.{Shape as Tile};
@@ -98,11 +99,12 @@ pub use untangled::{
 
 /// A content of text that is typed and of nodes that stay, as it is spelled, makes no lexeme over the border of a text and
 /// a node: its items are those of each node by itself, the characters and references of the text, and the nowikis that
-/// are put between. So they are before whatever stands behind the content.
+/// are put between. So they are before whatever stands behind the content, if that begins with nothing that goes on with a
+/// reference, which a URL at its end may begin (`BeginsUnjoined`).
 #[tactic(auto, using(crate::proofs::Marks::Commented::content_alone, crate::proofs::Marks::Commented::content_before))]
 pub fn texts_beside_nodes_make_no_lexeme()
     ensures alone { (s : Setting) (signs : List ContentSign) → IsReadIn s signs → page_items (spelled s signs) ≡ content_items s [] signs }
-    ensures before { (s : Setting) (signs : List ContentSign) (rest : List ℕ) → IsReadIn s signs → StandsBehind rest
+    ensures before { (s : Setting) (signs : List ContentSign) (rest : List ℕ) → IsReadIn s signs → StandsBehind rest → BeginsUnjoined rest
         → page_items (spelled s signs ++ rest) ≡ content_items s [] signs ++ page_items rest }
 {}
 

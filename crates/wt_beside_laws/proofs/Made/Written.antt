@@ -11,6 +11,7 @@ use Rattle.wt_lines.specs.declared.kind.LineKind.TheVariants as line
 use Rattle.wt_lines.specs.Kinds.{line_kind}
 use Rattle.wt_lines.specs.Lines.{lines, content}
 use Rattle.wt_text_edit_laws.specs.NoCalls.{NonePairs, AreUnpaired, CallsNothing}
+use Rattle.wt_text_edit_laws.specs.ReadContents.{BeginsUnjoined}
 use Rattle.wt_text_edit_laws.specs.TextBetween.{StandsBehind}
 use Rattle.wt_text_edit_laws.specs.TextBlocks.{TextBlock, a_paragraph, a_heading, source_of, block_items}
 use Rattle.wt_text_edit_laws.proofs.Between.Fronts.{behind_reads}
@@ -56,36 +57,37 @@ lines_by (a_heading h) s signs kept unbroken fits =
 
 -- ---- how it is read
 
-content_front : (s : Setting) (signs : List ContentSign) → IsReadIn s signs → (rest : List ℕ) (xs : List Item) → Reads rest xs
+content_front : (s : Setting) (signs : List ContentSign) → IsReadIn s signs → (rest : List ℕ) (xs : List Item) → BeginsUnjoined rest → Reads rest xs
     → Reads (spelled s signs ++ rest) (page_items (spelled s signs) ++ xs)
-content_front s signs k rest xs r =
-    subst (λ (ys : List Item). Reads (spelled s signs ++ rest) (ys ++ xs)) (sym (content_alone s signs k)) (content_reads s signs k rest xs r)
+content_front s signs k rest xs j r =
+    subst (λ (ys : List Item). Reads (spelled s signs ++ rest) (ys ++ xs)) (sym (content_alone s signs k)) (content_reads s signs k rest xs j r)
 
 pub before_any : (s : Setting) (signs : List ContentSign) → IsReadIn s signs → IsBeforeAny (spelled s signs)
-before_any s signs k rest xs j r = content_front s signs k rest xs r
+before_any s signs k rest xs j r = content_front s signs k rest xs j r
 
 stands : (bs : List ℕ) → BeginsUncommented bs → StandsBehind bs
 stands bs h = record { uncommented = h.is }
 
-pub uncommented : (s : Setting) (signs : List ContentSign) (rest : List ℕ) → IsReadIn s signs → StandsBehind rest → StandsBehind (spelled s signs ++ rest)
-uncommented s signs rest k b =
-    let r : Reads (spelled s signs ++ rest) (page_items (spelled s signs) ++ page_items rest) = content_front s signs k rest (page_items rest) (behind_reads rest b) in
+pub uncommented : (s : Setting) (signs : List ContentSign) (rest : List ℕ) → IsReadIn s signs → StandsBehind rest → BeginsUnjoined rest
+    → StandsBehind (spelled s signs ++ rest)
+uncommented s signs rest k b j =
+    let r : Reads (spelled s signs ++ rest) (page_items (spelled s signs) ++ page_items rest) = content_front s signs k rest (page_items rest) j (behind_reads rest b) in
     stands (spelled s signs ++ rest) r.begins
 
-pub firm : (s : Setting) (signs : List ContentSign) (rest : List ℕ) → IsReadIn s signs → StandsBehind rest
+pub firm : (s : Setting) (signs : List ContentSign) (rest : List ℕ) → IsReadIn s signs → StandsBehind rest → BeginsUnjoined rest
     → page_items (spelled s signs ++ rest) ≡ page_items (spelled s signs) ++ page_items rest
-firm s signs rest k b =
-    read_items (spelled s signs ++ rest) (page_items (spelled s signs) ++ page_items rest) (content_front s signs k rest (page_items rest) (behind_reads rest b))
+firm s signs rest k b j =
+    read_items (spelled s signs ++ rest) (page_items (spelled s signs) ++ page_items rest) (content_front s signs k rest (page_items rest) j (behind_reads rest b))
 
 pub alone : (s : Setting) (signs : List ContentSign) → IsReadIn s signs → StandsBehind (spelled s signs)
 alone s signs k =
-    let r : Reads (spelled s signs ++ []) (page_items (spelled s signs) ++ []) = content_front s signs k [] [] reads_nothing in
+    let r : Reads (spelled s signs ++ []) (page_items (spelled s signs) ++ []) = content_front s signs k [] [] tt reads_nothing in
     subst StandsBehind (append-nil (spelled s signs)) (stands (spelled s signs ++ []) r.begins)
 
 pub before_break : (s : Setting) (signs : List ContentSign) → IsReadIn s signs → StandsBehind (spelled s signs ++ 10 ∷ [])
 before_break s signs k =
     let r : Reads (spelled s signs ++ 10 ∷ []) (page_items (spelled s signs) ++ char None 10 ∷ []) =
-    content_front s signs k (10 ∷ []) (char None 10 ∷ []) (read_break [] [] reads_nothing) in
+    content_front s signs k (10 ∷ []) (char None 10 ∷ []) refl (read_break [] [] reads_nothing) in
     stands (spelled s signs ++ 10 ∷ []) r.begins
 
 -- in its block

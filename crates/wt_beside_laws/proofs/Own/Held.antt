@@ -97,9 +97,9 @@ held_node r q n s shut e u =
     let steps = source_steps q e.ends unbroken in
     let ends = subst LexemesEnd (sym (page_from q)) steps.ends in
     let stop = subst TagsStop (node_sources q) (node_stop r (node_items q) (subst LexemesEnd (sym is) ends) n) in
-    let settled : (rest : List ℕ) → Settled rest q = λ rest. record { stop = stop; shut = tags_shut q shut; references = inl e.references } in
     record {
-      reads = λ rest. source_reads q rest (settled rest) e.ends unbroken (subst (LastIs false) (page_sources q) (items_end (page_items q) unbroken ends));
+      reads = λ rest j.
+          source_reads q rest (record { stop = stop; shut = tags_shut q shut; references = j }) e.ends unbroken (subst (LastIs false) (page_sources q) (items_end (page_items q) unbroken ends));
       begins = subst BeginsShown is s;
       unbroken = unbroken;
       ends = ends;

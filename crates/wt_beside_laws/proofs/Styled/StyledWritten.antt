@@ -39,6 +39,7 @@ use Rattle.wt_beside_laws.proofs.Made.Levels.{BareTold, Told, AllTold, told_each
 use Rattle.wt_beside_laws.proofs.Made.NodesSealed.{nodes_sealed}
 use Rattle.wt_beside_laws.proofs.Made.OldBlocks.{lines_are}
 use Rattle.wt_beside_laws.proofs.Made.OwnPages.{own_frame}
+use Rattle.wt_beside_laws.proofs.Marks.Unjoined.{meet_unjoined, styled_read}
 use Rattle.wt_beside_laws.proofs.Made.Written.{FitsIn, lines_by, before_any, uncommented, firm, ended_so, unended_so, texts_by, unled_by, calls_none, from_calm, to_calm, put_calm}
 use Rattle.wt_beside_laws.proofs.OwnItems.{content_own}
 use Rattle.wt_beside_laws.proofs.Styled.HeldStyles.{styled_have_items}
@@ -48,11 +49,7 @@ use Rattle.wt_beside_laws.proofs.Styled.StyledHeadings.{styled_inside, inside_pa
 use Rattle.wt_beside_laws.proofs.Styled.StyledLines.{mark_items}
 use Rattle.wt_beside_laws.proofs.Styled.StyledNodes.{each_some}
 use Rattle.wt_beside_laws.proofs.Styled.StyledParagraphs.{lines_joined}
-use Rattle.wt_beside_laws.specs.Flat.{IsReadIn}
 use Rattle.wt_beside_laws.specs.NodeItems.{node_items}
-
-read_styled : (s : Setting) (t : StyledContent) → IsStyledContent s t → IsReadIn s (signs_in t)
-read_styled s t h = record { within = h.of_block; kept = h.kept; nodes = h.nodes; led = h.led }
 
 -- ---- its lines and parts
 
@@ -64,22 +61,22 @@ as_heading : (w : Sides) (s : Setting) (t : StyledContent) → IsStyledContent s
 as_heading w s t c h = record { styled = c; of_heading = h.0; one_line = h.1 }
 
 pub lines_so : (k : TextBlock) (s : Setting) (t : StyledContent) → IsStyledContent s t → StaysIn k s t → lines_in k (spelled s (signs_in t)) ≡ content_lines s (signs_in t)
-lines_so k s t c h = lines_by k s (signs_in t) (read_styled s t c) c.unbroken (fits_of k s t h)
+lines_so k s t c h = lines_by k s (signs_in t) (styled_read s t c) c.unbroken (fits_of k s t h)
 
 pub styled_parts_so : (k : TextBlock) (s : Setting) (t : StyledContent) → IsStyledContent s t → StaysIn k s t
     → content_parts_of k (page_items (spelled s (signs_in t))) ≡ styled_parts false s [] t []
 styled_parts_so a_paragraph s t c h =
-    ap joined_parts (content_lines_are s (signs_in t) (read_styled s t c) c.unbroken) ∙ lines_joined s [] t c.nodes c.nested c.meet
+    ap joined_parts (content_lines_are s (signs_in t) (styled_read s t c) c.unbroken) ∙ lines_joined s [] t c.nodes c.nested c.meet
 styled_parts_so (a_heading w) s t c h = inside_parts s t (as_heading w s t c h)
 
 stays_so : (k : TextBlock) (s : Setting) (t : StyledContent) → IsStyledContent s t → StaysAnywhere k (spelled s (signs_in t))
-stays_so a_paragraph s t c = λ n. texts_by n s (signs_in t) (read_styled s t c) c.characters c.unbroken
+stays_so a_paragraph s t c = λ n. texts_by n s (signs_in t) (styled_read s t c) c.characters c.unbroken
 stays_so (a_heading w) s t c = tt
 
 lines_of_text : (s : Setting) (t : StyledContent) → IsStyledContent s t → AreParagraphLines (spelled s (signs_in t))
 lines_of_text s t c = record {
-  seen = texts_seen 0 (lines (page_items (spelled s (signs_in t)))) (texts_by 0 s (signs_in t) (read_styled s t c) c.characters c.unbroken);
-  unled = unled_by s (signs_in t) (read_styled s t c) c.characters c.unbroken;
+  seen = texts_seen 0 (lines (page_items (spelled s (signs_in t)))) (texts_by 0 s (signs_in t) (styled_read s t c) c.characters c.unbroken);
+  unled = unled_by s (signs_in t) (styled_read s t c) c.characters c.unbroken;
 }
 
 -- a delimiter and a nowiki are no URL
@@ -99,7 +96,7 @@ content_so (a_heading g) q s t f h w =
     record {
       frame = f;
       inside = inl (styled_inside s t (as_heading g s t c w.stays));
-      of_level = level_told s (signs_in t) g c.of_block c.kept c.characters c.nodes c.led w.stays.1 told f.sides;
+      of_level = level_told s (signs_in t) g c.of_block c.kept c.characters c.nodes (meet_unjoined s [] (signs_in t) c.nodes c.meet) c.led w.stays.1 told f.sides;
     }
 
 -- ---- what holds of the sources of the page's nodes and of what is put holds of its sources
@@ -162,7 +159,7 @@ styled_again k q s t h w =
     let signs : List ContentSign = signs_in t in
     let c : IsStyledContent s t = w.content in
     let f : HasFrame k = own_frame k q h.is in
-    let b : IsBeforeAny (spelled s signs) = before_any s signs (read_styled s t c) in
+    let b : IsBeforeAny (spelled s signs) = before_any s signs (styled_read s t c) in
     let calm : AreCalm signs = calm_so k q s t h w in
     let held = held_so k q s t h w in
     let parts : content_parts_of k (page_items (spelled s signs)) ≡ styled_parts false s [] t [] = styled_parts_so k s t c w.stays in
@@ -172,7 +169,7 @@ styled_again k q s t h w =
       ended = ended_so k (spelled s signs) f b;
       unended = unended_so k (spelled s signs) f b;
       is = content_so k q s t f h w;
-      calls_nothing = calls_none k s signs f (read_styled s t c) calm;
+      calls_nothing = calls_none k s signs f (styled_read s t c) calm;
       has_items = subst (λ (ps : List Part). AllHaveItems (forest (children ps))) (sym parts) held.0;
       flat = of_lines_so AreFlatLines k s t c w.stays (again_lines s t c);
       kept = of_lines_so (λ (ls : List (List Item)). AreKept (signs_of_lines at ls)) k s t c w.stays (again_kept at s t c);
@@ -200,11 +197,11 @@ pub styled_new : (k : TextBlock) (q : List ℕ) (s : Setting) (t : StyledContent
 styled_new k q s t h w = record {
   firm = record {
     content = styled_in_content k (spelled s (signs_in t)) (styled_again k q s t h w);
-    firm = λ rest b j. firm s (signs_in t) rest (read_styled s t w.content) b;
-    uncommented = λ rest b j. uncommented s (signs_in t) rest (read_styled s t w.content) b;
+    firm = λ rest b j. firm s (signs_in t) rest (styled_read s t w.content) b j;
+    uncommented = λ rest b j. uncommented s (signs_in t) rest (styled_read s t w.content) b j;
     stays = stays_so k s t w.content;
-    unpaired = content_unpaired s (signs_in t) (read_styled s t w.content) (calm_so k q s t h w);
-    unclosed = content_unclosed s (signs_in t) (read_styled s t w.content) (calm_so k q s t h w);
+    unpaired = content_unpaired s (signs_in t) (styled_read s t w.content) (calm_so k q s t h w);
+    unclosed = content_unclosed s (signs_in t) (styled_read s t w.content) (calm_so k q s t h w);
   };
   closes = λ name us vs o n. closes_so k q s t h w name us vs o n;
 }
