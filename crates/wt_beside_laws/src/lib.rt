@@ -11,7 +11,7 @@ ghost use Rattle.wt_expand.specs.PageCalls.{expanded_page};
 ghost use Rattle.wt_expand.specs.Work.{Pages, first_refusal};
 ghost use Rattle.wt_expand.specs.Expansion.{page_work};
 ghost use Rattle.wt_text_edit_laws.specs.LonePages.{of_items};
-ghost use Rattle.wt_beside_laws.specs.Calm.{AreCalm};
+ghost use Rattle.wt_beside_laws.specs.Calm.{AreCalm, AreUtf8Nodes};
 ghost use Rattle.wt_lines.specs.Lines.{lines};
 ghost use Rattle.wt_isolation.specs.OpenTags.{any_ends_open};
 ghost use Rattle.wt_inline.specs.ItemTree.{forest};
@@ -320,11 +320,11 @@ pub fn what_is_sent_is_what_is_shown()
         → content_shown (signs_of_all p pl (sent_pieces ps)) rest ≡ pieces_before ps rest }
 {}
 
-/// Such a content is UTF-8, and as a page it calls nothing, whatever the folder has: nothing is expanded in it, and nothing refuses
-/// it. Asked is that the source of each node is UTF-8, and that no two braces are side by side in it, outside of its lexemes (`AreCalm`).
+/// Such a content is UTF-8 if the source of each node is (`AreUtf8Nodes`); and as a page it calls nothing, whatever the folder has, if also
+/// no two braces are side by side in it, outside of its lexemes (`AreCalm`): nothing is expanded in it, and nothing refuses it.
 #[tactic(auto, using(crate::proofs::CalmContents::content_utf8, crate::proofs::CalmContents::content_expanded, crate::proofs::CalmContents::content_unrefused))]
 pub fn texts_beside_nodes_call_nothing()
-    ensures utf8 { (s : Setting) (signs : List ContentSign) → AreCharacters signs → AreCalm signs → IsUtf8 (spelled s signs) }
+    ensures utf8 { (s : Setting) (signs : List ContentSign) → AreCharacters signs → AreUtf8Nodes signs → IsUtf8 (spelled s signs) }
     ensures expanded { (pages : Pages) (s : Setting) (signs : List ContentSign) → IsReadIn s signs → AreCalm signs
         → expanded_page pages (spelled s signs) ≡ of_items (page_items (spelled s signs)) }
     ensures unrefused { (pages : Pages) (s : Setting) (signs : List ContentSign) → IsReadIn s signs → AreCalm signs

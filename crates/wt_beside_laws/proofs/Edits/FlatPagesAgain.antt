@@ -11,7 +11,7 @@ use Rattle.wt_beside_laws.specs.Lines.{AreLinesOfText, content_lines}
 use Rattle.wt_beside_laws.specs.PageBlocks.{AreUnstyled, AreShut}
 use Rattle.wt_beside_laws.specs.PageSigns.{signs_of_lines, AreFlatLines}
 use Rattle.wt_beside_laws.proofs.BlockSigns.{same_shut}
-use Rattle.wt_beside_laws.proofs.CalmContents.{content_utf8, content_calm, nowiki_calm, reference_calm}
+use Rattle.wt_beside_laws.proofs.CalmContents.{content_utf8, calm_utf8, content_calm, nowiki_calm, reference_calm}
 use Rattle.wt_beside_laws.proofs.FlatAgain.{EachSource, HoldsOfPut}
 use Rattle.wt_beside_laws.proofs.Styled.Plain.{again_each, again_flat, again_kept, again_shut, again_unstyled}
 use Rattle.wt_beside_laws.proofs.LineItems.{content_lines_are}
@@ -58,7 +58,7 @@ flat_again q ps h e =
     let calm = new_calm q ps h e in
     let shut : AreShut signs = same_shut (signs_of_lines 0 (lines_of q)) signs (same_things q ps h e) h.shut in
     record {
-      utf8 = content_utf8 (setting q) signs f.characters calm;
+      utf8 = content_utf8 (setting q) signs f.characters (calm_utf8 signs calm);
       calls_nothing = content_calm (setting q) signs (flat_read (setting q) signs f) calm;
       text = of_new (AreLinesOfText 0) q ps h e (are_lines_of_text 0 (setting q) signs refl f.led.first f.characters f.nodes);
       flat = of_new AreFlatLines q ps h e (again_flat (setting q) signs f);

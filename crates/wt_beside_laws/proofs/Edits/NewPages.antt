@@ -53,7 +53,7 @@ use Rattle.wt_beside_laws.specs.Shown.{parts_shown_at}
 use Rattle.wt_beside_laws.specs.Stood.{things}
 use Rattle.wt_beside_laws.proofs.Marks.Unjoined.{flat_read}
 use Rattle.wt_beside_laws.proofs.BlockSigns.{block_nodes, sent_content, block_shows}
-use Rattle.wt_beside_laws.proofs.CalmContents.{content_utf8, content_expanded, content_unrefused}
+use Rattle.wt_beside_laws.proofs.CalmContents.{content_utf8, calm_utf8, content_expanded, content_unrefused}
 use Rattle.wt_beside_laws.proofs.Styled.Plain.{closed_is, meaning_is, content_is_shown}
 use Rattle.wt_beside_laws.proofs.OwnSigns.{own_content, own_sent}
 use Rattle.wt_beside_laws.proofs.SentNodes.{same_nodes}
@@ -145,7 +145,7 @@ new_page q ps h e =
     let calm = new_calm q ps h e in
     let means : meaning (page_items (new_flat q ps)) ≡ body_with (new_tree q ps ∷ []) = meaning_is (setting q) (new_signs q ps) f in
     record {
-      utf8 = content_utf8 (setting q) (new_signs q ps) f.characters calm;
+      utf8 = content_utf8 (setting q) (new_signs q ps) f.characters (calm_utf8 (new_signs q ps) calm);
       expanded = λ pages. content_expanded pages (setting q) (new_signs q ps) (flat_read (setting q) (new_signs q ps) f) calm;
       unrefused = λ pages. content_unrefused pages (setting q) (new_signs q ps) (flat_read (setting q) (new_signs q ps) f) calm;
       means = means;

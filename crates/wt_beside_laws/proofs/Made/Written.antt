@@ -2,6 +2,7 @@
 use Rattle.std.proofs.Common.{◌≡◌, ℕ, Bool, false, None, List, [], ◌∷◌, ◌++◌, map, refl, sym, ap, ap₂, ◌∙◌, subst, append-nil, All}
 use Rattle.std.specs.Prelude.{if◌then◌else◌}
 use Rattle.std.proofs.lemmas.List.Elements.{All-nil, All-cons, All-head, All-tail}
+use Rattle.std.specs.Str.{IsUtf8}
 use Rattle.wt_span.specs.Items.{Item, char}
 use Rattle.wt_tree.specs.declared.edit_shape.Place.TheVariants as place
 use Rattle.wt_guards.specs.Content.{ContentSign, letter, thing}
@@ -10,21 +11,19 @@ use Rattle.wt_expand.specs.PageItems.{page_items}
 use Rattle.wt_lines.specs.declared.kind.LineKind.TheVariants as line
 use Rattle.wt_lines.specs.Kinds.{line_kind}
 use Rattle.wt_lines.specs.Lines.{lines, content}
-use Rattle.wt_text_edit_laws.specs.NoCalls.{NonePairs, AreUnpaired, CallsNothing}
 use Rattle.wt_text_edit_laws.specs.ReadContents.{BeginsUnjoined}
 use Rattle.wt_text_edit_laws.specs.TextBetween.{StandsBehind}
 use Rattle.wt_text_edit_laws.specs.TextBlocks.{TextBlock, a_paragraph, a_heading, source_of, block_items}
 use Rattle.wt_text_edit_laws.proofs.Between.Fronts.{behind_reads}
 use Rattle.wt_text_edit_laws.proofs.Blocks.BlockReading.{IsBeforeAny, HasFrame, any_front}
-use Rattle.wt_text_edit_laws.proofs.Blocks.TypedBraces.{line_unpaired}
 use Rattle.wt_text_edit_laws.proofs.Prose.InFront.{Reads, reads_nothing, read_break, read_items}
 use Rattle.wt_text_edit_laws.proofs.Prose.Uncommented.{BeginsUncommented}
-use Rattle.wt_beside_laws.specs.Calm.{IsCalm, AreCalm}
+use Rattle.wt_beside_laws.specs.Calm.{AreUtf8Nodes}
 use Rattle.wt_beside_laws.specs.Flat.{IsReadIn}
 use Rattle.wt_beside_laws.specs.FlatBlocks.{lines_in}
 use Rattle.wt_beside_laws.specs.InHeadings.{AreOnOneLine}
 use Rattle.wt_beside_laws.specs.Lines.{AreLinesOfText, AreCharacters, AreUnbroken, line_items, later_lines, content_lines}
-use Rattle.wt_beside_laws.proofs.CalmContents.{content_unpaired, nowiki_calm, reference_calm}
+use Rattle.wt_beside_laws.proofs.CalmContents.{guard_utf8, reference_calm}
 use Rattle.wt_beside_laws.proofs.FlatAgain.{EachSource, HoldsOfPut}
 use Rattle.wt_beside_laws.proofs.LineHeadings.{same_items}
 use Rattle.wt_beside_laws.proofs.LineItems.{content_lines_are}
@@ -114,26 +113,17 @@ unled_by s signs k typed unbroken =
     lines_unled 0 (page_items (spelled s signs))
     (subst (AreLinesOfText 0) (sym (content_lines_are s signs k unbroken)) (are_lines_of_text 0 s signs k.within k.led.first typed k.nodes))
 
--- ---- it calls nothing
-
-block_unpaired : (k : TextBlock) (s : Setting) (signs : List ContentSign) → HasFrame k → IsReadIn s signs → AreCalm signs → AreUnpaired (block_items k (spelled s signs))
-block_unpaired a_paragraph s signs f kept calm = content_unpaired s signs kept calm
-block_unpaired (a_heading h) s signs f kept calm = line_unpaired h (page_items (spelled s signs)) f (content_unpaired s signs kept calm)
-
-pub calls_none : (k : TextBlock) (s : Setting) (signs : List ContentSign) → HasFrame k → IsReadIn s signs → AreCalm signs → CallsNothing (block_items k (spelled s signs))
-calls_none k s signs f kept calm = subst NonePairs (sym (block_unpaired k s signs f kept calm)) tt
-
 -- ---- what holds of its sources
 
-pub from_calm : (signs : List ContentSign) → AreCalm signs → EachSource IsCalm signs
-from_calm [] h = tt
-from_calm (letter c ∷ after) h = from_calm after h
-from_calm (thing t ∷ after) h = (h.0, from_calm after h.1)
+pub from_utf8 : (signs : List ContentSign) → AreUtf8Nodes signs → EachSource IsUtf8 signs
+from_utf8 [] h = tt
+from_utf8 (letter c ∷ after) h = from_utf8 after h
+from_utf8 (thing t ∷ after) h = (h.0, from_utf8 after h.1)
 
-pub to_calm : (signs : List ContentSign) → EachSource IsCalm signs → AreCalm signs
-to_calm [] h = tt
-to_calm (letter c ∷ after) h = to_calm after h
-to_calm (thing t ∷ after) h = (h.0, to_calm after h.1)
+pub to_utf8 : (signs : List ContentSign) → EachSource IsUtf8 signs → AreUtf8Nodes signs
+to_utf8 [] h = tt
+to_utf8 (letter c ∷ after) h = to_utf8 after h
+to_utf8 (thing t ∷ after) h = (h.0, to_utf8 after h.1)
 
-pub put_calm : HoldsOfPut IsCalm
-put_calm = record { of_nowiki = nowiki_calm; of_reference = reference_calm }
+pub put_utf8 : HoldsOfPut IsUtf8
+put_utf8 = record { of_nowiki = guard_utf8 true; of_reference = λ c e. let r = reference_calm c e in r.utf8 }
