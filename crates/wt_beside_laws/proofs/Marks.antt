@@ -3,6 +3,7 @@ mod LineCases
 pub mod Commented
 pub mod Uncommented
 pub mod Unjoined
+mod UnjoinedCases
 pub mod Ends
 pub mod InLine
 mod LinkCases
