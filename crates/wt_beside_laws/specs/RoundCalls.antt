@@ -3,7 +3,6 @@ use Rattle.std.specs.Prelude.{◌≡◌, ◌⊎◌, false, List, [], ◌∷◌}
 use Rattle.std.specs.List.{list_all}
 use Rattle.wt_tree.specs.EditShapes.{edit_shape}
 use Rattle.wt_tree.specs.Kinds.{texts_of_kind}
-use Rattle.wt_tree.specs.Tiling.{is_group}
 use Rattle.wt_tree.specs.declared.edit_shape.InlineForm.{InlineForm}
 use Rattle.wt_tree.specs.declared.edit_shape.InlineForm.TheVariants as inline
 use Rattle.wt_span.specs.Items.{Item}
@@ -20,8 +19,7 @@ use Rattle.wt_part_laws.specs.CallPieces.{IsOwnOrGiven, IsRoundNode, is_cut_anew
 -- Its delimiters are the page's own. What is in it is the page's, a call's, or again such a node; no text in it is cut anew.
 abbrev mutual
   pub IsRoundDeep : ItemTree → Type 0
-  IsRoundDeep (inner h opening ts closing) =
-      IsRoundNode (inner h opening ts closing) × (is_group h.kind ≡ false) × (is_cut_anew (texts_of_kind h.kind) ≡ false) × AreDeepPieces ts
+  IsRoundDeep (inner h opening ts closing) = IsRoundNode (inner h opening ts closing) × (is_cut_anew (texts_of_kind h.kind) ≡ false) × AreDeepPieces ts
 
   pub AreDeepPieces : ItemTrees → Type 0
   AreDeepPieces nothing = Unit {0}
@@ -46,11 +44,12 @@ IsUnstyled (inner h opening ts closing) = IsUnstyledForm (edit_shape h.kind).inl
 
 -- ---- such a node by itself
 
--- On a line by themselves these items are one such node, neither bold nor italic, and a call gives something in it.
+-- On a line by themselves these items are one such node, neither bold nor italic, and nothing else; and a call gives something in it.
 pub record IsRoundCalls (own : List Item) : Type 0 where
   pub tree : ItemTree
   pub is : line_parts own ≡ node tree ∷ []
   pub deep : IsRoundDeep tree
+  pub whole : tree_items tree ≡ own
   pub plain : IsUnstyled tree
   pub called : list_all is_page (tree_items tree) ≡ false
 

@@ -20,7 +20,7 @@ use Rattle.wt_part_laws.specs.CallPieces.{AreOwnOrGiven}
 use Rattle.wt_beside_laws.specs.Called.{owns_in, parts_with, HasUncalled, IsOwnNode, IsGivenAs, AreGiven, AreOwnInside, IsCalledContent, GivesGroup, StaysAsItIs, StaysRound, IsOfFolder, AreOfFolder, IsCalledIn, AllEndSeen, IsCalledHeading, AllSeenIn, IsCalledInHeading}
 use Rattle.wt_beside_laws.specs.Content.{guard_items, letter_items}
 use Rattle.wt_beside_laws.specs.Flat.{IsFlat, AreFlat}
-use Rattle.wt_beside_laws.specs.Given.{AreGivenBy, GivesSigns, IsGroup}
+use Rattle.wt_beside_laws.specs.Given.{AreGivenBy, GivesSigns, IsGroup, is_bare_url}
 use Rattle.wt_beside_laws.specs.NodeItems.{node_items}
 use Rattle.wt_beside_laws.specs.RoundCalls.{IsRoundCalls}
 use Rattle.wt_beside_laws.specs.Nodes.{IsNode, OpensNoPair}
@@ -59,22 +59,22 @@ given_as Node pages i t h = either_given pages i t h
 abbrev pub FolderCase : Role → Pages → Thing → Type 0
 FolderCase r pages t =
     (StaysAsItIs pages t × (is_group r ≡ false))
-    ⊎ ((StaysRound pages t × (is_group r ≡ false)) ⊎ ((g : Transclusion) × (r ≡ Group g) × GivesGroup pages g t.source))
+    ⊎ ((StaysRound pages t × (is_group r ≡ false) × (is_bare_url r ≡ false)) ⊎ ((g : Transclusion) × (r ≡ Group g) × GivesGroup pages g t.source))
 
-either_case : (r : Role) (pages : Pages) (t : Thing) → is_group r ≡ false → StaysAsItIs pages t ⊎ StaysRound pages t → FolderCase r pages t
-either_case r pages t e (inl h) = inl (h, e)
-either_case r pages t e (inr h) = inr (inl (h, e))
+either_case : (r : Role) (pages : Pages) (t : Thing) → is_group r ≡ false → is_bare_url r ≡ false → StaysAsItIs pages t ⊎ StaysRound pages t → FolderCase r pages t
+either_case r pages t e f (inl h) = inl (h, e)
+either_case r pages t e f (inr h) = inr (inl (h, e, f))
 
 pub folder_case : (r : Role) (pages : Pages) (t : Thing) → IsOfFolder r pages t → FolderCase r pages t
-folder_case Link pages t h = either_case Link pages t refl h
-folder_case External pages t h = either_case External pages t refl h
+folder_case Link pages t h = either_case Link pages t refl refl h
+folder_case External pages t h = either_case External pages t refl refl h
 folder_case (Bare ends) pages t h = inl (h, refl)
 folder_case Switch pages t h = inl (h, refl)
 folder_case Toggle pages t h = inl (h, refl)
 folder_case (Mark ends began) pages t h = inl (h, refl)
 folder_case (Group g) pages t h = inr (inr (g, refl, h))
 folder_case Function pages t h = inl (h, refl)
-folder_case Node pages t h = either_case Node pages t refl h
+folder_case Node pages t h = either_case Node pages t refl refl h
 
 flat_in : (pages : Pages) (t : Thing) → IsOfFolder t.role pages t → IsFlat t.role
 flat_in pages t h = elim (folder_case t.role pages t h) [
@@ -92,6 +92,11 @@ given_by j (loose Text o b ∷ ps) h = given_by j ps h.1
 given_by j (loose Sep o b ∷ ps) h = absurd h
 given_by j (node t ∷ ps) h = (inr (j, h.0), given_by j ps h.1)
 
+pub stays_inside : (pages : Pages) (i : ℕ) (t : Thing) → StaysAsItIs pages t → AreOwnOrGiven (line_parts (own_of pages i t))
+stays_inside pages i t stays =
+    subst (λ (xs : List Item). AreOwnOrGiven (line_parts xs)) (sym (stays.items i))
+    (page_given (line_parts (node_items t.source)) (some_of_page (line_parts (node_items t.source)) stays.own))
+
 pub group_inside : (pages : Pages) (i : ℕ) (g : Transclusion) (t : Thing) → GivesGroup pages g t.source → AreOwnOrGiven (line_parts (own_of pages i t))
 group_inside pages i g t h =
     let group : IsGroup g i (own_of pages i t) = h i in
@@ -100,11 +105,7 @@ group_inside pages i g t h =
 
 inside_in : (pages : Pages) (i : ℕ) (t : Thing) → IsOfFolder t.role pages t → AreOwnOrGiven (line_parts (own_of pages i t)) ⊎ IsRoundCalls (own_of pages i t)
 inside_in pages i t h = elim (folder_case t.role pages t h) [
-  | inl k ↦
-      let stays : StaysAsItIs pages t = k.0 in
-      inl
-      (subst (λ (xs : List Item). AreOwnOrGiven (line_parts xs)) (sym (stays.items i))
-      (page_given (line_parts (node_items t.source)) (some_of_page (line_parts (node_items t.source)) stays.own)))
+  | inl k ↦ inl (stays_inside pages i t k.0)
   | inr e ↦ elim e [
     | inl k ↦ let stays : StaysRound pages t = k.0 in inr (stays.round i)
     | inr k ↦ inl (group_inside pages i k.0 t k.2)

@@ -1,6 +1,8 @@
 -- A node of the page round what calls give shows in the page's tree what it shows by itself.
 use Rattle.std.proofs.Common.{◌≡◌, ◌⊎◌, inl, inr, Bool, true, false, List, [], ◌∷◌, ◌++◌, refl, sym, ap, ◌∙◌}
 use Rattle.std.specs.Prelude.{if◌then◌else◌}
+use Rattle.wt_tree.specs.declared.kind.Kind.{Kind}
+use Rattle.wt_tree.specs.declared.kind.Kind.TheVariants as kind
 use Rattle.wt_tree.specs.Kinds.{is_leaf, showing, texts_of_kind}
 use Rattle.wt_tree.specs.Plain.{Plains, plain_before, plains_before, shown_before}
 use Rattle.wt_tree.specs.Tiling.{is_group}
@@ -53,6 +55,10 @@ all_texts (further t ts) = (tt, all_texts ts)
 
 -- ---- they are pieces
 
+pub no_group : (k : Kind) → is_leaf k ≡ false → is_group k ≡ false
+no_group kind.Group e = let no : true ≡ false = e in absurd (cc)
+no_group k e = refl
+
 pub deep_round : (t : ItemTree) → IsRoundDeep t → IsRoundNode t
 deep_round (inner h q ts c) r = r.0
 
@@ -72,7 +78,7 @@ round_given h q ts c r =
       no_leaf = round.0;
       own_opening = round.1;
       own_closing = round.3;
-      parts = deep_pieces ts r.3;
+      parts = deep_pieces ts r.2;
       some = round_some (inner h q (forest (children (as_parts ts))) c) round;
     }
 
@@ -109,7 +115,7 @@ own_inside h q ts c rest r =
     (λ ps. plains_before
     (if is_group h.kind then all_placeless (inside_by (is_leaf h.kind) us) else cut_as (texts_of_kind h.kind) (all_cut_texts (all_placeless (inside_by (is_leaf h.kind) us)))) ps)
     (λ ps. trees_shown (list_of ts) ps) rest (λ e. refl) refl
-    (λ ps. inside_shows (is_leaf h.kind) (is_group h.kind) h us ps round.0 r.1 r.2 ∙ all_alone_show ([] ++ q) ts ps)
+    (λ ps. inside_shows (is_leaf h.kind) (is_group h.kind) h us ps round.0 (no_group h.kind round.0) r.1 ∙ all_alone_show ([] ++ q) ts ps)
 
 -- ---- in the page
 
@@ -129,11 +135,12 @@ mutual
   round_alike calls (inner h q ts c) r = λ rest.
       let l : Label = placeless_label (kept_label false h 0 [] (sources q) (sources c)) in
       let us : Trees = pieces_in_page calls (call_pieces (children (as_parts ts))) in
-      let each : EachNode (IsShownAlike calls) (as_parts ts) = all_alike calls ts r.3 in
+      let round : IsRoundNode (inner h q ts c) = r.0 in
+      let each : EachNode (IsShownAlike calls) (as_parts ts) = all_alike calls ts r.2 in
       ap (λ (u : Tree). plain_before (cut_texts u) rest) (page_node calls h q ts c r)
       ∙ shown_same (showing h.kind) l l (λ ps. plains_before (if is_group h.kind then us else cut_as (texts_of_kind h.kind) (all_cut_texts us)) ps)
       (λ ps. trees_shown (list_of ts) ps) rest (λ e. refl) refl
-      (λ ps. page_inside (is_group h.kind) h us ps r.1 r.2
+      (λ ps. page_inside (is_group h.kind) h us ps (no_group h.kind round.0) r.1
       ∙ shown_in_page calls (as_parts ts) ps each (all_texts ts)
       ∙ sym (children_shown (as_parts ts) ps (all_texts ts))
       ∙ ap (λ (vs : List ItemTree). trees_shown vs ps) (children_of ts))
