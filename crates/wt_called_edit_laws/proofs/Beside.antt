@@ -14,4 +14,6 @@ pub mod FirstCases
 mod LastCases
 pub mod BothCases
 mod LinkCases
+pub mod RoundCases
+mod RoundPageCases
 mod EmptyCases

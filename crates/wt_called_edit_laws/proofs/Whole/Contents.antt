@@ -106,7 +106,7 @@ call_shut_parts j (node t ∷ ps) h = (not_page j t h.0, call_shut_parts j ps h.
         let no : false ≡ true = sym none ∙ of_page in absurd (cc)
 
 -- nor is a node round calls by itself
-round_shut_parts : (own : List Item) → IsRoundCalls own → AreShutParts (line_parts own)
+pub round_shut_parts : (own : List Item) → IsRoundCalls own → AreShutParts (line_parts own)
 round_shut_parts own r = subst AreShutParts (sym r.is) ((λ e. let no : true ≡ false = sym e ∙ r.called in absurd (cc)), tt)
 
 pub own_shut : (pages : Pages) (i : ℕ) (t : Thing) → IsOfFolder t.role pages t → IsShut t → AreShutParts (line_parts (numbered i (page_stretches pages t.source)))
