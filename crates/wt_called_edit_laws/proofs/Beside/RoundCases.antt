@@ -71,6 +71,7 @@ use Rattle.wt_beside_laws.specs.NodeItems.{node_items}
 use Rattle.wt_beside_laws.specs.Nodes.{IsLinkNode}
 use Rattle.wt_beside_laws.specs.OwnSigns.{HaveOwn}
 use Rattle.wt_beside_laws.specs.PageSigns.{HasNoBreak}
+use Rattle.wt_beside_laws.specs.References.{ReferencesEnd}
 use Rattle.wt_beside_laws.specs.RoundCalls.{IsRoundCalls, AreShutCalls}
 use Rattle.wt_beside_laws.specs.Shown.{parts_shown_at}
 use Rattle.wt_beside_laws.proofs.Groups.Cases.{a_word}
@@ -226,7 +227,7 @@ link_alone = refl
 
 read_in_line : IsReadInLine link_source
 read_in_line = record {
-  reads = λ rest. line_reads link_source (page_chars link_source) link_reads rest ∙ ap (λ (xs : List Item). xs ++ page_items rest) (sym link_read);
+  reads = λ rest e. line_reads link_source (page_chars link_source) link_reads rest ∙ ap (λ (xs : List Item). xs ++ page_items rest) (sym link_read);
   begins = subst BeginsShown (sym link_read) (refl, refl);
   unbroken = subst HasNoBreak (sym link_read) (refl, (refl, (refl, (refl, (refl, (refl, (refl, (refl, (refl, (refl, (refl, tt)))))))))));
   ends = subst LexemesEnd (sym link_read) tt;
@@ -247,9 +248,14 @@ raw_node = record {
 raw_glyphs : own_glyphs link_thing ≡ byte_glyphs link_source
 raw_glyphs = ap (λ (xs : List Item). map glyph_of xs) link_alone
 
+-- no reference begins in it
+no_reference : ReferencesEnd link_source
+no_reference =
+    ((λ e. absurd (cc)), ((λ e. absurd (cc)), ((λ e. absurd (cc)), ((λ e. absurd (cc)), ((λ e. absurd (cc)), ((λ e. absurd (cc)), ((λ e. absurd (cc)), ((λ e. absurd (cc)), ((λ e. absurd (cc)), ((λ e. absurd (cc)), ((λ e. absurd (cc)), tt)))))))))))
+
 is_read : IsReadThing link_thing
 is_read = record {
-  source = inl (inr (inr read_in_line), subst (λ (gs : List Glyph). IsLinkNode gs) (sym raw_glyphs) raw_node, λ e. absurd (cc));
+  source = inl (inr (inr (read_in_line, no_reference)), subst (λ (gs : List Glyph). IsLinkNode gs) (sym raw_glyphs) raw_node, λ e. absurd (cc));
   begins = refl;
   ends = refl;
 }
