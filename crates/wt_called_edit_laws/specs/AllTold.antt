@@ -14,7 +14,6 @@ use Rattle.wt_tables.specs.Parts.{joined}
 use Rattle.wt_page.specs.Lines.{ending, kind_at}
 use Rattle.wt_page.specs.Rows.{marks_len, is_unseen}
 use Rattle.wt_selser.specs.Edits.{is_tangled}
-use Rattle.wt_text_edit_laws.specs.BodyParagraphs.{EndWhole}
 use Rattle.wt_text_edit_laws.specs.ParagraphBetween.{tables_behind}
 use Rattle.wt_text_edit_laws.specs.ReadContents.{BeginsUnclosed}
 use Rattle.wt_text_edit_laws.specs.SignParts.{IsLedTo}

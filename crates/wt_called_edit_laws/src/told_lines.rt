@@ -104,7 +104,8 @@ pub fn each_block_is_told_or_excepted()
 {}
 
 /// On a page that calls nothing no block is excepted for a call, a function or braces: those that aren't told there are as
-/// `IsExceptedAt` names them. So it is with blocks that may hold calls, where no call gives a line break or a mark.
+/// `IsExceptedAt` names them. So it is with blocks that may hold calls, where no call gives a line break or a mark, by
+/// `IsExceptedSigned`.
 pub fn calls_except_no_block_where_there_are_none()
     ensures calm { (pages : Pages) (page : List ℕ) (t : Tree) → CallsNothing (page_items page) → IsExcepted pages page t
         → (s : StandsIn pages page t) × IsExceptedAt (full_lines (expanded_page pages page).items) (opened_len s.before) }

@@ -10,17 +10,46 @@ use Rattle.wt_tree.specs.Tree.{Tree}
 use Rattle.wt_annotated.specs.Seams.{last_of}
 use Rattle.wt_expand.specs.PageCalls.{expanded_page}
 use Rattle.wt_expand.specs.Work.{Pages}
+use Rattle.wt_lines.specs.declared.kind.LineKind.TheVariants as line
 use Rattle.wt_lines.specs.Lines.{goes_on, empty_end, full_lines, is_break_item}
+use Rattle.wt_page.specs.Lines.{kind_at}
+use Rattle.wt_page.specs.Rows.{is_unseen}
+use Rattle.wt_tables.specs.Extents.{behind as tables_after}
 use Rattle.wt_tables.specs.Parts.{joined}
+use Rattle.wt_text_edit_laws.specs.ParagraphBetween.{tables_behind}
 use Rattle.wt_text_edit_laws.specs.ParagraphParts.{break}
+use Rattle.wt_called_edit_laws.specs.AllTold.{text_on_a_rule, a_brace_on_an_end}
 use Rattle.wt_text_edit_laws.proofs.Cuts.TextLines.{whole_before}
-use Rattle.wt_called_edit_laws.specs.CallingTold.{IsExceptedSigned, IsBesideOwn, IsNoBreakOfCall, IsExceptedWithCalls, on_a_sign, broken_by_a_call, IsExceptedCalling}
+use Rattle.wt_called_edit_laws.specs.CallingTold.{IsExceptedSigned, untold, text_on_an_end, IsBesideOwn, IsNoBreakOfCall, IsExceptedWithCalls, on_a_sign, broken_by_a_call, IsExceptedCalling}
 use Rattle.wt_called_edit_laws.specs.LinedAmong.{IsNoFunction, AreOfPage}
 use Rattle.wt_called_edit_laws.specs.PlacedLines.{LinedBlock, lead_of, all_lines}
-use Rattle.wt_called_edit_laws.specs.RowBlocks.{opened_len, StandsIn}
+use Rattle.wt_called_edit_laws.specs.RowBlocks.{opened_len, StandsIn, past_end, past_rule}
 use Rattle.wt_called_edit_laws.specs.ToldLines.{Told, lined, AreTold}
 use Rattle.wt_called_edit_laws.proofs.Cells.PlacedLines.{own_items}
 use Rattle.wt_called_edit_laws.proofs.AllTold.OnLines.{line_front, line_whole}
+
+-- ---- lines on which no text is behind a sign
+
+abbrev pub IsUnsigned : ℕ → List Item → Type 0
+IsUnsigned n l =
+    (kind_at n l ≡ line.Rule → is_unseen (past_rule l) ≡ false → ⊥) × (kind_at n l ≡ line.TableEnd → is_unseen (past_end l) ≡ false → ⊥)
+
+abbrev pub AreUnsigned : ℕ → List (List Item) → Type 0
+AreUnsigned n [] = Unit {0}
+AreUnsigned n (l ∷ ls) = IsUnsigned n l × AreUnsigned (tables_after n (kind_at n l)) ls
+
+unsigned_at : (n : ℕ) (before : List (List Item)) (l : List Item) (ls : List (List Item)) → AreUnsigned n (before ++ l ∷ ls) → IsUnsigned (tables_behind n before) l
+unsigned_at n [] l ls h = h.0
+unsigned_at n (k ∷ before) l ls h = unsigned_at (tables_after n (kind_at n k)) before l ls h.1
+
+pub none_signed_at : (ls : List (List Item)) (at : ℕ) → AreUnsigned 0 ls → IsExceptedSigned ls at → ⊥
+none_signed_at ls at h (untold (text_on_a_rule before own after are k seen e)) = (unsigned_at 0 before own after (subst (AreUnsigned 0) are h)).0 k seen
+none_signed_at ls at h (untold (a_brace_on_an_end before own others after are k seen f e)) =
+    (unsigned_at 0 before own (others ++ after) (subst (AreUnsigned 0) are h)).1 k seen
+none_signed_at ls at h (text_on_an_end before own others after are k seen e) =
+    (unsigned_at 0 before own (others ++ after) (subst (AreUnsigned 0) are h)).1 k seen
+
+-- ---- what no call gives
 
 front_none : (xs ys : List Item) → AllByRecursion IsNoBreakOfCall (xs ++ ys) → AllByRecursion IsNoBreakOfCall xs
 front_none [] ys h = tt

@@ -33,7 +33,7 @@ use Rattle.wt_isolation.specs.TextCalls.{touches_text_call}
 use Rattle.wt_selser.specs.Edits.{is_tangled}
 use Rattle.wt_selser.specs.GroupFaults.{has_faulty_group}
 use Rattle.wt_text_edit_laws.specs.BlockSpots.{BlockSpot, spots_source}
-use Rattle.wt_called_edit_laws.specs.AllTold.{starts_in, text_on_a_rule, a_brace_on_an_end, by_its_lines, beside_a_call, IsExceptedIn, IsExcepted, IsOneOf, AllBlocksTold, IsBesideNoCall, AreNoFunctions, IsBesideTexts, holds_a_function}
+use Rattle.wt_called_edit_laws.specs.AllTold.{starts_in, text_on_a_rule, a_brace_on_an_end, by_its_lines, beside_a_call, IsExcepted, IsOneOf, AllBlocksTold, IsBesideNoCall, AreNoFunctions, IsBesideTexts, holds_a_function}
 use Rattle.wt_text_edit_laws.proofs.Cuts.RowLines.{AllText}
 use Rattle.wt_text_edit_laws.proofs.Paragraphs.Marks.{mark_sign, AreMarkSigns, kind_marks}
 use Rattle.wt_text_edit_laws.specs.NoCalls.{CallsNothing}

@@ -57,7 +57,7 @@ use Rattle.wt_called_edit_laws.proofs.Among.OwnSeams.{FirstLonger, FirstShorter,
 use Rattle.wt_called_edit_laws.proofs.Among.PartsApart.{IsClear, members_of, AreClear, ArePartsApart, parts_apart}
 use Rattle.wt_called_edit_laws.proofs.Cells.PlacedCalling.{block_begins, PartsRead, parts_read, parts_called, calling_placed}
 use Rattle.wt_called_edit_laws.proofs.Cells.PlacedLines.{own_items, Round, round, some_lines, lines_end}
-use Rattle.wt_called_edit_laws.proofs.Cells.SignLeads.{rows_by, leads_by, StaysOn, stays_by, lines_stay, have_front, have_behind, lead_led}
+use Rattle.wt_called_edit_laws.proofs.Cells.SignLeads.{rows_by, leads_by, StaysOn, stays_by, lines_stay, have_front, lead_led}
 use Rattle.wt_called_edit_laws.proofs.Parts.Retyped.{is_by_parts}
 use Rattle.wt_called_edit_laws.proofs.PartTexts.{IsBelow, part_text, sources_first}
 
