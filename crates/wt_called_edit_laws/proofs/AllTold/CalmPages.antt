@@ -1,5 +1,5 @@
 -- On a page that calls nothing no block is excepted for a call.
-use Rattle.std.proofs.Common.{◌≡◌, inl, ℕ, ◌+◌, None, List, [], ◌∷◌, ◌++◌, length, sym, ap, ◌∙◌, subst}
+use Rattle.std.proofs.Common.{◌≡◌, ℕ, ◌+◌, None, List, [], ◌∷◌, ◌++◌, length, sym, ap, ◌∙◌, subst}
 use Rattle.wt_span.specs.Items.{Item, sources}
 use Rattle.wt_span.specs.Origins.{Expanded, Span}
 use Rattle.wt_span.specs.Runs.{AreRuns}
