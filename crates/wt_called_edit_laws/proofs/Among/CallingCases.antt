@@ -69,9 +69,9 @@ stands : IsCallingAt [] a_line
 unfolding kind_of_signs
 stands = record { sign = tt; are_marks = refl; some = omega arith; in_cells = tt; apart = tt; own = (refl, tt) }
 
-are_here : AreCallingHere (expanded_page a_word source).outer (a_line ∷ [])
+are_here : AreCallingHere (expanded_page a_word source).outer [] (a_line ∷ [])
 are_here =
-    let text = is_text 0 in (record { before = refl; marks = tt; breaks = text.own_breaks; source = source_there; unclosed = tt }, tt)
+    let text = is_text 0 in (record { front = inl (record { before = refl; marks = tt; unclosed = tt }); breaks = text.own_breaks; source = source_there }, tt)
 
 apart_here : AreApartFrom (expanded_page a_word source).outer (expanded_page a_word source).text_calls 0 [] (a_line ∷ [])
 apart_here = subst (λ (ts : List Span). AreApartFrom (expanded_page a_word source).outer ts 0 [] (a_line ∷ [])) (sym no_text_calls) (tt, tt)
