@@ -43,4 +43,4 @@ pub mod OwnBytes
 pub mod KnownLines
 pub mod CallingTogether
 pub mod CallingCases
-mod EndCases
+pub mod EndCases
