@@ -31,7 +31,8 @@ pub record IsReadBlock (p : Pair) : Type 0 where
   pub read : AreRead (children_of p.new)
   pub utf8 : AreUtf8 (children_of p.new)
 
--- Of its nodes: what begins in a node ends in it, and a tag does behind one that opens a pair and isn't closed on its line.
+-- Of its nodes: what begins in a node ends in it; and behind a tag that opens a pair and isn't closed on its line so does a tag that a comment, an
+-- include tag or a hidden part hides.
 pub record HasEndedNodes (k : TextBlock) (q : List ℕ) : Type 0 where
   pub ended : AreEndedNodes (signs_in k q)
   pub tags : EndTags (signs_in k q)
