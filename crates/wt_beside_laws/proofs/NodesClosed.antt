@@ -1,6 +1,6 @@
 -- Behind each `<` in a node comes a `]` or a `>`: so no closing tag that begins in it goes on behind it.
 use Rattle.std.proofs.Common.{arith, ◌≡◌, ℕ, zero, suc, ◌+◌, ◌-◌, ◌<◌, ◌≤◌, ◌==◌, Bool, true, false, Option, Some, None, List, [], ◌∷◌, length, take, drop, refl, sym, ap, ap₂, ◌∙◌, subst, inl, inr, ◌⊎◌, All}
-use Rattle.std.specs.Prelude.{◌&&◌, ◌||◌, if◌then◌else◌}
+use Rattle.std.specs.Prelude.{◌&&◌, ◌||◌, codes, if◌then◌else◌}
 use Rattle.std.proofs.lemmas.Bool.Decides.{nat_tests}
 use Rattle.std.proofs.lemmas.List.{length-drop}
 use Rattle.std.proofs.lemmas.List.Elements.{All-contains}
@@ -258,8 +258,8 @@ switch_closes own n =
 
 delimiter_closes : (own : List Glyph) → IsDelimiter own → EachCloses own
 delimiter_closes own n = elim n [
-  | inl i ↦ subst EachCloses (sym i) (untagged_closes _ refl)
-  | inr i ↦ subst EachCloses (sym i) (untagged_closes _ refl)
+  | inl i ↦ subst EachCloses (sym i) (untagged_closes (byte_glyphs (codes "''")) refl)
+  | inr i ↦ subst EachCloses (sym i) (untagged_closes (byte_glyphs (codes "'''")) refl)
 ]
 
 lexeme_closes : (own : List Glyph) → IsOneLexeme own → EachCloses own
