@@ -90,7 +90,7 @@ edit_of : IsFlatEditOf (a_heading (spaced 2)) block edit
 unfolding kept_with label_at context_parts with_styles style_tree_of toggles_of toggle_at chunks segments loose_segments tiles shapes closed form_at link_or_url link_at ext_link_at bare_url_at scheme_len tag_tile tag_at opening_tag closing_tag tag_after name_of live_name switch_at chars encode children
 edit_of = record {
   old = refl;
-  stay = (record { kind = refl; id = refl; attrs = refl; mw = refl; shown = λ e. refl; unmarked = refl }, tt);
+  stay = ((record { kind = refl; id = refl; attrs = refl; mw = refl; shown = λ e. refl; unmarked = refl }, tt), tt);
   are = (tt, (are_letters, tt));
   fit = (refl, tt);
   plain = tt;
