@@ -1,5 +1,6 @@
 mod Cases
 mod LineCases
+mod HeadingCases
 pub mod Commented
 pub mod Ends
 pub mod InLine

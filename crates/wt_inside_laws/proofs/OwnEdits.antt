@@ -365,7 +365,7 @@ own_edit k q items page p r read utf8 h i tags =
       led = subst (λ (t : StyledContent). AreMarksLed (place_of (block_of k)) (signs_in t)) (sym same) (record {
         first = sent_first (place_of (block_of k)) us shown utf8 (first_in k q items page p r h i);
         others = sent_led shown us utf8
-            (texts_more ks (borders us) (texts us) false true (λ e. absurd (let no : false ≡ true = e in cc)) (new_texts_led k q items page p r h i));
+            (texts_more ks (borders us) (texts us) false true (λ e. refl) (new_texts_led k q items page p r h i));
       });
       unclosed = lines_keep (signs_in (sent_for p.old (as_own ps))) (subst StayOnLines (sym (ap (λ (t : StyledContent). spine (signs_in t)) same ∙ lines)) (own_stays k q h tags));
     }
