@@ -2,6 +2,9 @@ mod Cases
 mod LineCases
 mod HeadingCases
 pub mod Commented
+pub mod Uncommented
+pub mod Unjoined
+mod UnjoinedCases
 pub mod Ends
 pub mod InLine
 mod LinkCases
