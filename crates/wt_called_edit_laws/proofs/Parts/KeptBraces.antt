@@ -389,10 +389,16 @@ onto_open ((LinkClose, n) ∷ ws) before h = push (lexeme (LinkClose, n)) [] bef
 onto_open ((Pipe, n) ∷ ws) before h = push (lexeme (Pipe, n)) [] before ws refl (onto_open ws (lexeme (Pipe, n) ∷ before) h.1)
 onto_open ((Equals, n) ∷ ws) before h = push (lexeme (Equals, n)) [] before ws refl (onto_open ws (lexeme (Equals, n) ∷ before) h.1)
 
+over_by : (v : Bool) (n : ℕ) (before : List Member) (ws : List Word) → (n == 0) ≡ v
+    → Leaves ((if v then [] else lexeme (Closes, n) ∷ []) ++ before) ws (words_left ws)
+    → left_in (reverse (reduced_onto ((if v then [] else lexeme (Closes, n) ∷ []) ++ before) ws)) ≡ left_in (reverse before) ++ (word_left Closes n ++ words_left ws)
+over_by true n before ws e l =
+    l ∙ ap (λ (m : ℕ). left_in (reverse before) ++ (word_left Closes m ++ words_left ws)) (sym (eqb-true n 0 e))
+over_by false n before ws e l = push (lexeme (Closes, n)) (word_left Closes n) before ws (one_closes n) l
+
 over_left : (n : ℕ) (before : List Member) (ws : List Word) → Leaves (left_over Closes n ++ before) ws (words_left ws)
     → left_in (reverse (reduced_onto (left_over Closes n ++ before) ws)) ≡ left_in (reverse before) ++ (word_left Closes n ++ words_left ws)
-over_left zero before ws l = l
-over_left (suc n) before ws l = push (lexeme (Closes, suc n)) (word_left Closes (suc n)) before ws (one_closes (suc n)) l
+over_left n before ws l = over_by (n == 0) n before ws refl l
 
 onto_calm : (ws : List Word) (before : List Member) → CallNothing ws → AreUnopened before → Leaves before ws (words_left ws)
 onto_calm [] before h u = sym (append-nil (left_in (reverse before)))
