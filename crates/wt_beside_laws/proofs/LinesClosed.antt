@@ -20,7 +20,7 @@ use Rattle.wt_beside_laws.specs.OpenTags.{ends_in_tag, is_tagged, spine, EndOnLi
 use Rattle.wt_beside_laws.specs.Stood.{line_glyphs, AreStood}
 use Rattle.wt_beside_laws.proofs.LinesOpen.{depth_by, depth_past, GoesOn, NoneOnLine, NoneCloses, StaysOn, StayOnLines, neither, here_same, past_letter, past_untagged}
 use Rattle.wt_beside_laws.proofs.OpenTags.{read_open}
-use Rattle.wt_beside_laws.proofs.PairTiles.{may_go_on, goes_on}
+use Rattle.wt_beside_laws.proofs.PairTiles.{may_go_on, tag_goes_on}
 use Rattle.wt_beside_laws.proofs.PageSigns.{AreUntagged}
 
 -- ---- past a node
@@ -32,11 +32,11 @@ turn_back Level d here rest P F h f = f d h
 turn_back Down zero here rest P F h f = absurd (cc)
 turn_back Down (suc d) here rest P F h f = f d h
 
-own_back : (k d : ℕ) (own more : List Glyph) (P : ℕ → Type 0) → goes_on own ≡ false → partner k d (own ++ more) ≡ None
+own_back : (k d : ℕ) (own more : List Glyph) (P : ℕ → Type 0) → tag_goes_on own ≡ false → partner k d (own ++ more) ≡ None
     → ((e : ℕ) → partner k e more ≡ None → P e) → GoesOn (depth_past k d own) P
 own_back k d [] more P e h f = f d h
 own_back k d (g ∷ own) more P e h f =
-    let z = neither (in_class (class.Only 60) g && may_go_on own) (goes_on own) e in
+    let z = neither (in_class (class.Only 60) g && may_go_on own) (tag_goes_on own) e in
     turn_back (tag_turn k (g ∷ own)) d (g ∷ (own ++ more)) (λ i. depth_past k i own) P (λ i. partner k i (own ++ more))
     (subst (λ (o : Option Tag). by_tag (turn_of_tag k o) d (g ∷ (own ++ more)) (λ i. partner k i (own ++ more)) ≡ None) (here_same g own more z.0) h)
     (λ i j. own_back k i own more P z.1 j f)
@@ -45,7 +45,7 @@ own_back k d (g ∷ own) more P e h f =
 
 -- where it doesn't end in a tag that isn't ended, none goes on behind it
 abbrev pub EndsSo : Thing → Type 0
-EndsSo t = ends_in_tag (own_glyphs t) ≡ false → goes_on (own_glyphs t) ≡ false
+EndsSo t = ends_in_tag (own_glyphs t) ≡ false → tag_goes_on (own_glyphs t) ≡ false
 
 abbrev pub AllEndSo : List ContentSign → Type 0
 AllEndSo [] = Unit {0}

@@ -27,7 +27,7 @@ use Rattle.wt_beside_laws.specs.Nodes.{ClosesNone, IsOpenBy, IsOpenBefore, AllSt
 use Rattle.wt_beside_laws.specs.OpenTags.{is_tagged, spine}
 use Rattle.wt_beside_laws.proofs.LineTiles.{tag_less, line_front}
 use Rattle.wt_beside_laws.proofs.OpenTags.{untagged_open}
-use Rattle.wt_beside_laws.proofs.PairTiles.{may_go_on, goes_on, tag_whole}
+use Rattle.wt_beside_laws.proofs.PairTiles.{may_go_on, tag_goes_on, tag_whole}
 use Rattle.wt_beside_laws.proofs.TypedForms.{tag_none}
 
 -- ---- by the nodes alone, whatever is typed between them
@@ -51,7 +51,7 @@ GoesOn (Some d) P = P d
 abbrev pub NoneOnLine : ℕ → ℕ → List (Option Thing) → Type 0
 NoneOnLine k d [] = Unit {0}
 NoneOnLine k d (None ∷ more) = Unit {0}
-NoneOnLine k d (Some t ∷ more) = (goes_on (own_glyphs t) ≡ false) × GoesOn (depth_past k d (own_glyphs t)) (λ e. NoneOnLine k e more)
+NoneOnLine k d (Some t ∷ more) = (tag_goes_on (own_glyphs t) ≡ false) × GoesOn (depth_past k d (own_glyphs t)) (λ e. NoneOnLine k e more)
 
 abbrev pub NoneCloses : Name → TagShape → List (Option Thing) → Type 0
 NoneCloses (Paired m) Opening more = NoneOnLine (number m) 0 more
@@ -134,11 +134,11 @@ by_turn Level d here rest P F h f = f d h
 by_turn Down zero here rest P F h f = absurd h
 by_turn Down (suc d) here rest P F h f = f d h
 
-past_own : (k d : ℕ) (own more : List Glyph) (P : ℕ → Type 0) → goes_on own ≡ false → GoesOn (depth_past k d own) P → ((e : ℕ) → P e → partner k e more ≡ None)
+past_own : (k d : ℕ) (own more : List Glyph) (P : ℕ → Type 0) → tag_goes_on own ≡ false → GoesOn (depth_past k d own) P → ((e : ℕ) → P e → partner k e more ≡ None)
     → partner k d (own ++ more) ≡ None
 past_own k d [] more P e h f = f d h
 past_own k d (g ∷ own) more P e h f =
-    let z = neither (in_class (class.Only 60) g && may_go_on own) (goes_on own) e in
+    let z = neither (in_class (class.Only 60) g && may_go_on own) (tag_goes_on own) e in
     ap (λ (o : Option Tag). by_tag (turn_of_tag k o) d (g ∷ (own ++ more)) (λ i. partner k i (own ++ more))) (here_same g own more z.0)
     ∙ by_turn (tag_turn k (g ∷ own)) d (g ∷ (own ++ more)) (λ i. depth_past k i own) P (λ i. partner k i (own ++ more)) h
     (λ i j. past_own k i own more P z.1 j f)

@@ -249,7 +249,7 @@ WordUntagged word = is_tagged (byte_glyphs (95 ∷ 95 ∷ word)) ≡ false
 
 each_untagged : EachIs WordUntagged switch_names
 unfolding switch_names
-each_untagged = (refl, (refl, (refl, (refl, (refl, (refl, (refl, (refl, tt))))))))
+each_untagged = (refl, (refl, (refl, (refl, (refl, (refl, (refl, (refl, (refl, tt)))))))))
 
 switch_closes : (own : List Glyph) → IsSwitchNode own → EachCloses own
 switch_closes own n =

@@ -229,9 +229,9 @@ may_go_on [] = true
 may_go_on (g ∷ gs) = (in_class class.Letter g && not (has_stop (g ∷ gs))) || (in_class (class.Only 47) g && not (has_other is_closing_glyph gs))
 
 -- such a tag may go on behind these
-abbrev pub goes_on : List Glyph → Bool
-goes_on [] = false
-goes_on (g ∷ gs) = (in_class (class.Only 60) g && may_go_on gs) || goes_on gs
+abbrev pub tag_goes_on : List Glyph → Bool
+tag_goes_on [] = false
+tag_goes_on (g ∷ gs) = (in_class (class.Only 60) g && may_go_on gs) || tag_goes_on gs
 
 closing_whole : (g h : Glyph) (hs rest : List Glyph) → in_class class.Letter h ≡ false → has_other is_closing_glyph hs ≡ true
     → tag_at (g ∷ h ∷ (hs ++ rest)) ≡ tag_at (g ∷ h ∷ hs)

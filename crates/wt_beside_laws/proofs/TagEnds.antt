@@ -1,5 +1,5 @@
 -- A tag that may go on behind a node that isn't tangled is one that isn't ended there, with something hidden in it.
-use Rattle.std.proofs.Common.{arith, ◌≡◌, ℕ, ◌==◌, Bool, true, false, Option, List, [], ◌∷◌, ◌++◌, map, refl, sym, ap, ap₂, ◌∙◌, subst}
+use Rattle.std.proofs.Common.{arith, ◌≡◌, ℕ, ◌==◌, Bool, true, false, None, List, [], ◌∷◌, ◌++◌, map, refl, sym, ap, ap₂, ◌∙◌, subst}
 use Rattle.std.specs.Prelude.{◌&&◌, ◌||◌, not}
 use Rattle.std.specs.Char.{is_ascii_alphabetic, is_ascii_alphanumeric}
 use Rattle.std.specs.List.{list_any}
@@ -25,7 +25,7 @@ use Rattle.wt_beside_laws.proofs.LinesOpen.{neither}
 use Rattle.wt_beside_laws.proofs.NodeItems.{node_sources}
 use Rattle.wt_beside_laws.proofs.NodesClosed.{has_closer, EachCloses, node_closes}
 use Rattle.wt_beside_laws.proofs.Own.Crossing.{AfterTag, TagsShut, tags_shut}
-use Rattle.wt_beside_laws.proofs.PairTiles.{is_closing_glyph, may_go_on, goes_on}
+use Rattle.wt_beside_laws.proofs.PairTiles.{is_closing_glyph, may_go_on, tag_goes_on}
 
 -- ---- a tag of characters alone
 
@@ -143,7 +143,7 @@ shut_past : (bs cs : List ℕ) → TagsShut (bs ++ cs) → TagsShut cs
 shut_past [] cs h = h
 shut_past (b ∷ bs) cs h = shut_past bs cs h.1
 
-none_goes : (xs : List Item) → EachCloses (map glyph_of xs) → TagsShut (sources xs) → ends_in_tag (map glyph_of xs) ≡ false → goes_on (map glyph_of xs) ≡ false
+none_goes : (xs : List Item) → EachCloses (map glyph_of xs) → TagsShut (sources xs) → ends_in_tag (map glyph_of xs) ≡ false → tag_goes_on (map glyph_of xs) ≡ false
 none_goes [] c s e = refl
 none_goes (x ∷ xs) c s e =
     let z = neither (in_class (class.Only 60) (glyph_of x) && is_open_tag (map glyph_of xs)) (ends_in_tag (map glyph_of xs)) e in
