@@ -1,8 +1,11 @@
 -- A call that keeps what `run` promises answers HTML that is a text edit with the new page, or a device failed, or memory ran out.
-use Rattle.std.proofs.Common.{◌≡◌, ℕ, Option, Some, None, List, sym, ap, ◌∙◌, subst}
+use Rattle.std.proofs.Common.{◌≡◌, ℕ, Option, Some, None, List, [], ◌∷◌, sym, ap, ◌∙◌, subst, inl}
+use Rattle.std.specs.List.{AllByRecursion}
 use Rattle.wt_span.specs.Items.{Item}
 use Rattle.wt_devices.specs.Device.{Pages}
 use Rattle.wt_tree.specs.Tree.{Tree}
+use Rattle.wt_slices.specs.Changes.{Pair, marked}
+use Rattle.wt_page_round_trip.specs.PageTree.{page_tree}
 use Rattle.wt_commands.specs.Answers.{done, remarked_of, edit_to}
 use Rattle.wt_commands.specs.Calls.{Call, known_answer}
 use Rattle.wt_commands.specs.UnmarkedEdits.{DoneByEdit}
@@ -27,12 +30,16 @@ use Rattle.wt_inside_laws.specs.BesideEdits.{IsBesideHtml}
 use Rattle.wt_inside_laws.specs.HtmlEdits.{IsHtmlEdit}
 use Rattle.wt_inside_laws.specs.EditsWithCalls.{IsEditWithCalls, IsDifferenceWithCalls}
 use Rattle.wt_inside_laws.specs.ToldEdits.{IsOrdinaryEdit, IsOrdinaryDifference}
+use Rattle.wt_inside_laws.specs.TypedApart.{IsTypedApart}
+use Rattle.wt_inside_laws.specs.TypedBeside.{IsTypedIn}
 use Rattle.wt_inside_laws.proofs.BesideEdits.{calling_edit_done, html_beside}
 use Rattle.wt_inside_laws.proofs.HtmlEdits.{html_lined}
 use Rattle.wt_inside_laws.proofs.LocalTextEdits.{ordinary_local, calling_local}
-use Rattle.wt_inside_laws.proofs.EditsWithCalls.{calls_done, calls_local, calls_difference}
+use Rattle.wt_inside_laws.proofs.EditsWithCalls.{calls_done, calls_local, calls_typed, calls_difference}
 use Rattle.wt_inside_laws.proofs.OrdinaryEdits.{ordinary_done, difference_written}
 use Rattle.wt_inside_laws.proofs.ToldEdits.{lined_edit_done}
+use Rattle.wt_inside_laws.proofs.TypedApart.{ordinary_apart}
+use Rattle.wt_inside_laws.proofs.TypedBeside.{calling_typed_apart}
 
 pages_or : Pages → Option Pages → Pages
 pages_or pages None = pages
@@ -65,6 +72,11 @@ calls_take_told c ended ends = λ pages page bs rest told h.
 
 -- ---- of any page that isn't refused
 
+-- blocks that call nothing are among those that may
+all_typed : (pages : Pages) (ms : List Pair) → AllByRecursion IsTypedApart ms → AllByRecursion (IsTypedIn pages) ms
+all_typed pages [] h = tt
+all_typed pages (m ∷ ms) h = (inl h.0, all_typed pages ms h.1)
+
 ordinary_answered : (c : Call) (pages : Pages) (page : List ℕ) (new : Tree) → c.folder.pages_before ≡ Some pages
     → (s : SendsFor c Edit page (retyped_page pages page new) (λ b. new)) → IsOrdinaryEdit pages page s.input new s.unsourced
     → known_answer c ≡ Some (done (retyped_page pages page new))
@@ -95,6 +107,7 @@ calls_take_beside c ended ends = λ pages page bs rest told h.
       edit = λ new s e. page_ends c ended (retyped_page pages page new) (beside_answered c pages page bs rest new told h t s e) ends;
       complete = λ new s e sound. page_completes c ended (retyped_page pages page new) (beside_answered c pages page bs rest new told h t s e) ends sound;
       local = λ input new unsourced e. calling_local pages page bs rest new h t (html_beside pages page input bs rest t.paths new unsourced h e);
+      apart = λ input new unsourced e. calling_typed_apart pages page bs rest new h t (html_beside pages page input bs rest t.paths new unsourced h e);
     }
 
 -- ---- of marked blocks that may hold calls
@@ -133,12 +146,14 @@ calls_take_edits c ended ends as_edit = record {
     complete = λ pages page new told s e no.
         page_completes c ended (retyped_page pages page new) (ordinary_answered c pages page new told s e) ends no;
     local = ordinary_local;
+    apart = λ pages page input new u e. all_typed pages (marked (page_tree pages page) new) (ordinary_apart pages page input new u e);
   };
   calling = record {
     edit = λ pages page new told s e. page_ends c ended (retyped_page pages page new) (calling_answered c pages page new told s e) ends;
     complete = λ pages page new told s e no.
         page_completes c ended (retyped_page pages page new) (calling_answered c pages page new told s e) ends no;
     local = calls_local;
+    apart = calls_typed;
   };
   selser = calls_take_differences c ended as_edit;
   selser_calling = calls_take_calling c ended as_edit;

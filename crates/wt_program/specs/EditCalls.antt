@@ -1,10 +1,12 @@
 -- Calls of the program that send a text edit of a page, and how they end.
 use Rattle.std.specs.Prelude.{◌≡◌, ◌⊎◌, ℕ, List, Option, Some}
+use Rattle.std.specs.List.{AllByRecursion}
 use Rattle.wt_span.specs.Items.{Item}
 use Rattle.wt_devices.specs.Device.{Pages}
 use Rattle.wt_tree.specs.Tree.{Tree}
 use Rattle.wt_page_round_trip.specs.PageTree.{page_tree}
 use Rattle.wt_slices.specs.BodySlices.{slices}
+use Rattle.wt_slices.specs.Changes.{marked}
 use Rattle.wt_splice.specs.Splice.{spliced}
 use Rattle.wt_visible.specs.SameNodes.{same_node}
 use Rattle.wt_commands.specs.declared.command.Command.TheVariants.{Edit, Selser}
@@ -27,6 +29,7 @@ use Rattle.wt_inside_laws.specs.EditsWithCalls.{IsEditWithCalls, IsDifferenceWit
 use Rattle.wt_inside_laws.specs.HtmlEdits.{IsHtmlEdit}
 use Rattle.wt_inside_laws.specs.LocalTextEdits.{IsLocalTextEdit}
 use Rattle.wt_inside_laws.specs.ToldEdits.{IsOrdinaryEdit, IsOrdinaryDifference}
+use Rattle.wt_inside_laws.specs.TypedBeside.{IsTypedIn}
 
 -- the page with the insides of its marked blocks replaced by what was sent for them, as it is spelled
 abbrev pub retyped_page : Pages → List ℕ → Tree → List ℕ
@@ -59,6 +62,8 @@ pub record TakesBesideThere (c : Call) (ended : ℕ) (pages : Pages) (page : Lis
   pub complete : (new : Tree) → (s : SendsFor c Edit page (retyped_page pages page new) (λ b. new)) → IsBesideHtml pages page s.input paths new s.unsourced
       → NothingFailed c → WroteNewPage c ended (retyped_page pages page new) ⊎ (ended ≡ code status.NoMemory)
   pub local : (input : List ℕ) (new : Tree) (unsourced : Option ℕ) → IsBesideHtml pages page input paths new unsourced → IsLocalTextEdit pages page new
+  pub apart : (input : List ℕ) (new : Tree) (unsourced : Option ℕ) → IsBesideHtml pages page input paths new unsourced
+      → AllByRecursion (IsTypedIn pages) (marked (page_tree pages page) new)
 
 abbrev pub TakesBesideEdits : Call → ℕ → Type 0
 TakesBesideEdits c ended =
@@ -68,7 +73,8 @@ TakesBesideEdits c ended =
 -- Where a call sends HTML that is such an edit of a page,
 -- * `edit` has written the page with the insides of the marked blocks replaced; or a device failed, or memory ran out;
 -- * where no device failed, only want of memory may come in its place;
--- * the edit is local: what the page means outside of these blocks stays, moved by the bytes that were added before it.
+-- * the edit is local: what the page means outside of these blocks stays, moved by the bytes that were added before it;
+-- * what is written for each of these blocks makes nothing but what was typed, beside the calls and the nodes that stay.
 pub record TakesEach (IsSuch : Pages → List ℕ → List ℕ → Tree → Option ℕ → Type 0) (c : Call) (ended : ℕ) : Type 0 where
   pub edit : (pages : Pages) (page : List ℕ) (new : Tree) → c.folder.pages_before ≡ Some pages
       → (s : SendsFor c Edit page (retyped_page pages page new) (λ b. new)) → IsSuch pages page s.input new s.unsourced
@@ -77,6 +83,8 @@ pub record TakesEach (IsSuch : Pages → List ℕ → List ℕ → Tree → Opti
       → (s : SendsFor c Edit page (retyped_page pages page new) (λ b. new)) → IsSuch pages page s.input new s.unsourced → NothingFailed c
       → WroteNewPage c ended (retyped_page pages page new) ⊎ (ended ≡ code status.NoMemory)
   pub local : (pages : Pages) (page input : List ℕ) (new : Tree) (unsourced : Option ℕ) → IsSuch pages page input new unsourced → IsLocalTextEdit pages page new
+  pub apart : (pages : Pages) (page input : List ℕ) (new : Tree) (unsourced : Option ℕ) → IsSuch pages page input new unsourced
+      → AllByRecursion (IsTypedIn pages) (marked (page_tree pages page) new)
 
 -- Where a call of `selser` sends HTML without marks, whose difference from a page is such an edit, it is done; or a device failed, or memory ran out.
 abbrev pub TakesDifferences : (Pages → List ℕ → List ℕ → Tree → Option ℕ → Type 0) → Call → ℕ → Type 0

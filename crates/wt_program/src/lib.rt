@@ -70,7 +70,9 @@ pub fn run<S: Source, F: Folder, W: Sink, E: Sink>(
     // `wt_inside_laws`), `edit` has written the page with the insides of these replaced by what was sent, as it is spelled,
     // and no line; or a device failed, or memory ran out. So it is where the marked blocks may hold calls, if the
     // lines on which they are tell them (`IsEditWithCalls`), or the lines of the expanded page are said to (`IsLinedCalling`):
-    // each calls nothing and is ordinary, or texts may be typed beside the calls in it (`IsBesideBlock`). Nothing but the marked blocks is another one in the new page (`IsLocalTextEdit`).
+    // each calls nothing and is ordinary, or texts may be typed beside the calls in it (`IsBesideBlock`). Nothing but the
+    // marked blocks is another one in the new page (`IsLocalTextEdit`), and what is written for each of these makes nothing
+    // but what was typed, beside its calls and the nodes that stay (`IsTypedIn`).
     // Where HTML without marks differs from the page by such an edit (`IsOrdinaryDifference`, `IsDifferenceWithCalls`),
     // `selser` is done, or a device failed, or memory ran out.
     ensures takes_text_edits { TakesTextEdits (call words.now (read_from S.Source input.old input.new)
