@@ -59,6 +59,8 @@ pub mod LocalTextEdits
 pub mod EditsWithCalls
 pub mod GivenBack
 pub mod TypedApart
+pub mod OneSource
+pub mod OrdinaryBeside
 pub mod TypedBeside
 pub mod InsidesCases
 pub mod PageCases
