@@ -36,6 +36,8 @@ pub mod OnLines
 pub mod CalmPages
 pub mod BlockBytes
 pub mod CallingBytes
+pub mod NodeLines
+pub mod KnownLines
 pub mod CallingTogether
 pub mod CallingCases
 mod EndCases

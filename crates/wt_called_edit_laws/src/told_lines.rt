@@ -24,7 +24,7 @@ ghost use Rattle.wt_beside_laws.specs.FlatBlocks.{signs_in};
 ghost use Rattle.wt_beside_laws.specs.StyledIn.{IsStyledIn};
 ghost use Rattle.wt_called_edit_laws.specs.AllTold.{AllBlocksTold, IsExcepted, IsExceptedAt};
 ghost use Rattle.wt_called_edit_laws.specs.CalledPages.{IsCalledPage};
-ghost use Rattle.wt_called_edit_laws.specs.CallingTogether.{AreOnLines};
+ghost use Rattle.wt_called_edit_laws.specs.CallingTogether.{EachEditable, TakeThere};
 ghost use Rattle.wt_called_edit_laws.specs.CallingTold.{IsOnLines, IsExceptedByLines};
 ghost use Rattle.wt_called_edit_laws.specs.EditsAt.{IsStanding, AllStand};
 ghost use Rattle.wt_called_edit_laws.specs.Groups.{called_tree};
@@ -117,8 +117,10 @@ pub fn each_block_is_on_its_lines()
         → IsTextBlock (label t).kind → IsOnLines pages page p t ⊎ IsExceptedByLines pages page t }
 {}
 
-/// So with any number of them at once: the nodes at some paths are on lines of the expanded page, one behind the other
-/// (`AreOnLines`), and where by these they may be edited with their calls, it is at these paths.
+/// So with any number of them at once, by what each is alone: those at some paths, none of which is excepted or tangled, and
+/// whose contents may be edited, with their calls or without (`IsEditableAt`), are told by lines of the expanded page, one
+/// behind the other, and may be edited at these paths (`TakeThere`).
 pub fn blocks_are_on_their_lines_together()
-    ensures together { (pages : Pages) (page : List ℕ) (ps : List (List ℕ)) → AreOnLines pages page ps }
+    ensures together { (pages : Pages) (page : List ℕ) (ps : List (List ℕ)) → IsUtf8 page → refusal_of_page pages page ≡ None
+        → 1 ≤ length ps → EachEditable pages page ps → TakeThere pages page ps }
 {}
