@@ -1,11 +1,8 @@
 -- A call that keeps what `run` promises answers HTML that is a text edit with the new page, or a device failed, or memory ran out.
-use Rattle.std.proofs.Common.{◌≡◌, ℕ, Option, Some, None, List, [], ◌∷◌, sym, ap, ◌∙◌, subst, inl}
-use Rattle.std.specs.List.{AllByRecursion}
+use Rattle.std.proofs.Common.{◌≡◌, ℕ, Option, Some, None, List, sym, ap, ◌∙◌, subst}
 use Rattle.wt_span.specs.Items.{Item}
 use Rattle.wt_devices.specs.Device.{Pages}
 use Rattle.wt_tree.specs.Tree.{Tree}
-use Rattle.wt_slices.specs.Changes.{Pair, marked}
-use Rattle.wt_page_round_trip.specs.PageTree.{page_tree}
 use Rattle.wt_commands.specs.Answers.{done, remarked_of, edit_to}
 use Rattle.wt_commands.specs.Calls.{Call, known_answer}
 use Rattle.wt_commands.specs.UnmarkedEdits.{DoneByEdit}
@@ -28,17 +25,12 @@ use Rattle.wt_program.proofs.BlocksCalls.{page_ends, page_completes}
 use Rattle.wt_program.specs.EditCalls.{retyped_page, TakesToldEdits, TakesBesideEdits, TakesDifferences, TakesTextEdits}
 use Rattle.wt_inside_laws.specs.BesideEdits.{IsBesideHtml}
 use Rattle.wt_inside_laws.specs.HtmlEdits.{IsHtmlEdit}
-use Rattle.wt_inside_laws.specs.EditsWithCalls.{IsEditWithCalls, IsDifferenceWithCalls}
-use Rattle.wt_inside_laws.specs.ToldEdits.{IsOrdinaryEdit, IsOrdinaryDifference}
-use Rattle.wt_inside_laws.specs.TypedApart.{IsTypedApart}
-use Rattle.wt_inside_laws.specs.TypedBeside.{IsTypedIn}
+use Rattle.wt_inside_laws.specs.EditsWithCalls.{IsMarkedEdit}
 use Rattle.wt_inside_laws.proofs.BesideEdits.{calling_edit_done, html_beside}
 use Rattle.wt_inside_laws.proofs.HtmlEdits.{html_lined}
-use Rattle.wt_inside_laws.proofs.LocalTextEdits.{ordinary_local, calling_local}
-use Rattle.wt_inside_laws.proofs.EditsWithCalls.{calls_done, calls_local, calls_typed, calls_difference}
-use Rattle.wt_inside_laws.proofs.OrdinaryEdits.{ordinary_done, difference_written}
+use Rattle.wt_inside_laws.proofs.LocalTextEdits.{calling_local}
+use Rattle.wt_inside_laws.proofs.EditsWithCalls.{marked_done, marked_local, marked_typed, marked_difference}
 use Rattle.wt_inside_laws.proofs.ToldEdits.{lined_edit_done}
-use Rattle.wt_inside_laws.proofs.TypedApart.{ordinary_apart}
 use Rattle.wt_inside_laws.proofs.TypedBeside.{calling_typed_apart}
 
 pages_or : Pages → Option Pages → Pages
@@ -72,18 +64,13 @@ calls_take_told c ended ends = λ pages page bs rest told h.
 
 -- ---- of any page that isn't refused
 
--- blocks that call nothing are among those that may
-all_typed : (pages : Pages) (ms : List Pair) → AllByRecursion IsTypedApart ms → AllByRecursion (IsTypedIn pages) ms
-all_typed pages [] h = tt
-all_typed pages (m ∷ ms) h = (inl h.0, all_typed pages ms h.1)
-
-ordinary_answered : (c : Call) (pages : Pages) (page : List ℕ) (new : Tree) → c.folder.pages_before ≡ Some pages
-    → (s : SendsFor c Edit page (retyped_page pages page new) (λ b. new)) → IsOrdinaryEdit pages page s.input new s.unsourced
+marked_answered : (c : Call) (pages : Pages) (page : List ℕ) (new : Tree) → c.folder.pages_before ≡ Some pages
+    → (s : SendsFor c Edit page (retyped_page pages page new) (λ b. new)) → IsMarkedEdit pages page s.input new s.unsourced
     → known_answer c ≡ Some (done (retyped_page pages page new))
-ordinary_answered c pages page new told s e =
+marked_answered c pages page new told s e =
     answer_is c page (retyped_page pages page new) (λ b. new) e.utf8 s
     (subst (λ (ps : Pages). edit_to ps page new ≡ done (retyped_page pages page new)) (same_pages pages s.pages (sym told ∙ s.told))
-    (ordinary_done pages page s.input new s.unsourced e))
+    (marked_done pages page s.input new s.unsourced e))
 
 -- ---- of blocks that may hold calls
 
@@ -110,52 +97,28 @@ calls_take_beside c ended ends = λ pages page bs rest told h.
       apart = λ input new unsourced e. calling_typed_apart pages page bs rest new h t (html_beside pages page input bs rest t.paths new unsourced h e);
     }
 
--- ---- of marked blocks that may hold calls
-
-calling_answered : (c : Call) (pages : Pages) (page : List ℕ) (new : Tree) → c.folder.pages_before ≡ Some pages
-    → (s : SendsFor c Edit page (retyped_page pages page new) (λ b. new)) → IsEditWithCalls pages page s.input new s.unsourced
-    → known_answer c ≡ Some (done (retyped_page pages page new))
-calling_answered c pages page new told s e =
-    answer_is c page (retyped_page pages page new) (λ b. new) e.utf8 s
-    (subst (λ (ps : Pages). edit_to ps page new ≡ done (retyped_page pages page new)) (same_pages pages s.pages (sym told ∙ s.told))
-    (calls_done pages page s.input new s.unsourced e))
-
 -- ---- without marks
 
 same_told : (c : Call) (pages others : Pages) → c.folder.pages_before ≡ Some pages → c.folder.pages_before ≡ Some others → pages ≡ others
 same_told c pages others a b = same_pages pages others (sym a ∙ b)
 
-calls_take_differences : (c : Call) (ended : ℕ) → EndsAsEdit c ended → TakesDifferences IsOrdinaryDifference c ended
+calls_take_differences : (c : Call) (ended : ℕ) → EndsAsEdit c ended → TakesDifferences c ended
 calls_take_differences c ended ends = λ pages page new told s e.
     selser_ends c ended page (retyped_page pages page (remarked_of pages page new)) (λ b. new) s
     (subst (λ (ps : Pages). DoneByEdit ps (s.pages s.title) s.input) (same_told c pages s.pages told s.told)
-    (difference_written pages page s.input new s.unsourced (s.pages s.title) e s.found s.within)) ends
-
-calls_take_calling : (c : Call) (ended : ℕ) → EndsAsEdit c ended → TakesDifferences IsDifferenceWithCalls c ended
-calls_take_calling c ended ends = λ pages page new told s e.
-    selser_ends c ended page (retyped_page pages page (remarked_of pages page new)) (λ b. new) s
-    (subst (λ (ps : Pages). DoneByEdit ps (s.pages s.title) s.input) (same_told c pages s.pages told s.told)
-    (calls_difference pages page s.input new s.unsourced (s.pages s.title) e s.found s.within)) ends
+    (marked_difference pages page s.input new s.unsourced (s.pages s.title) e s.found s.within)) ends
 
 -- ---- all
 
 pub calls_take_edits : (c : Call) (ended : ℕ) → Ends c ended → EndsAsEdit c ended → TakesTextEdits c ended
 calls_take_edits c ended ends as_edit = record {
-  ordinary = record {
-    edit = λ pages page new told s e. page_ends c ended (retyped_page pages page new) (ordinary_answered c pages page new told s e) ends;
+  edits = record {
+    edit = λ pages page new told s e. page_ends c ended (retyped_page pages page new) (marked_answered c pages page new told s e) ends;
     complete = λ pages page new told s e no.
-        page_completes c ended (retyped_page pages page new) (ordinary_answered c pages page new told s e) ends no;
-    local = ordinary_local;
-    apart = λ pages page input new u e. all_typed pages (marked (page_tree pages page) new) (ordinary_apart pages page input new u e);
-  };
-  calling = record {
-    edit = λ pages page new told s e. page_ends c ended (retyped_page pages page new) (calling_answered c pages page new told s e) ends;
-    complete = λ pages page new told s e no.
-        page_completes c ended (retyped_page pages page new) (calling_answered c pages page new told s e) ends no;
-    local = calls_local;
-    apart = calls_typed;
+        page_completes c ended (retyped_page pages page new) (marked_answered c pages page new told s e) ends no;
+    local = marked_local;
+    apart = marked_typed;
   };
   selser = calls_take_differences c ended as_edit;
-  selser_calling = calls_take_calling c ended as_edit;
   beside = calls_take_beside c ended ends;
 }

@@ -25,10 +25,9 @@ use Rattle.wt_called_edit_laws.specs.SettledAt.{AllSettled}
 use Rattle.wt_program.specs.AnyCalls.{SendsFor}
 use Rattle.wt_program.specs.Calls.{WroteNewPage}
 use Rattle.wt_inside_laws.specs.BesideEdits.{IsBesideHtml}
-use Rattle.wt_inside_laws.specs.EditsWithCalls.{IsEditWithCalls, IsDifferenceWithCalls}
+use Rattle.wt_inside_laws.specs.EditsWithCalls.{IsMarkedEdit, IsMarkedDifference}
 use Rattle.wt_inside_laws.specs.HtmlEdits.{IsHtmlEdit}
 use Rattle.wt_inside_laws.specs.LocalTextEdits.{IsLocalTextEdit}
-use Rattle.wt_inside_laws.specs.ToldEdits.{IsOrdinaryEdit, IsOrdinaryDifference}
 use Rattle.wt_inside_laws.specs.TypedBeside.{IsTypedIn}
 
 -- the page with the insides of its marked blocks replaced by what was sent for them, as it is spelled
@@ -75,29 +74,28 @@ TakesBesideEdits c ended =
 -- * where no device failed, only want of memory may come in its place;
 -- * the edit is local: what the page means outside of these blocks stays, moved by the bytes that were added before it;
 -- * what is written for each of these blocks makes nothing but what was typed, beside the calls and the nodes that stay.
-pub record TakesEach (IsSuch : Pages → List ℕ → List ℕ → Tree → Option ℕ → Type 0) (c : Call) (ended : ℕ) : Type 0 where
+pub record TakesMarked (c : Call) (ended : ℕ) : Type 0 where
   pub edit : (pages : Pages) (page : List ℕ) (new : Tree) → c.folder.pages_before ≡ Some pages
-      → (s : SendsFor c Edit page (retyped_page pages page new) (λ b. new)) → IsSuch pages page s.input new s.unsourced
+      → (s : SendsFor c Edit page (retyped_page pages page new) (λ b. new)) → IsMarkedEdit pages page s.input new s.unsourced
       → WroteNewPage c ended (retyped_page pages page new) ⊎ IsFaultOrNoMemory ended
   pub complete : (pages : Pages) (page : List ℕ) (new : Tree) → c.folder.pages_before ≡ Some pages
-      → (s : SendsFor c Edit page (retyped_page pages page new) (λ b. new)) → IsSuch pages page s.input new s.unsourced → NothingFailed c
+      → (s : SendsFor c Edit page (retyped_page pages page new) (λ b. new)) → IsMarkedEdit pages page s.input new s.unsourced → NothingFailed c
       → WroteNewPage c ended (retyped_page pages page new) ⊎ (ended ≡ code status.NoMemory)
-  pub local : (pages : Pages) (page input : List ℕ) (new : Tree) (unsourced : Option ℕ) → IsSuch pages page input new unsourced → IsLocalTextEdit pages page new
-  pub apart : (pages : Pages) (page input : List ℕ) (new : Tree) (unsourced : Option ℕ) → IsSuch pages page input new unsourced
+  pub local : (pages : Pages) (page input : List ℕ) (new : Tree) (unsourced : Option ℕ) → IsMarkedEdit pages page input new unsourced
+      → IsLocalTextEdit pages page new
+  pub apart : (pages : Pages) (page input : List ℕ) (new : Tree) (unsourced : Option ℕ) → IsMarkedEdit pages page input new unsourced
       → AllByRecursion (IsTypedIn pages) (marked (page_tree pages page) new)
 
 -- Where a call of `selser` sends HTML without marks, whose difference from a page is such an edit, it is done; or a device failed, or memory ran out.
-abbrev pub TakesDifferences : (Pages → List ℕ → List ℕ → Tree → Option ℕ → Type 0) → Call → ℕ → Type 0
-TakesDifferences IsSuch c ended =
+abbrev pub TakesDifferences : Call → ℕ → Type 0
+TakesDifferences c ended =
     (pages : Pages) (page : List ℕ) (new : Tree) → c.folder.pages_before ≡ Some pages
-    → (s : SendsFor c Selser page (retyped_page pages page (remarked_of pages page new)) (λ b. new)) → IsSuch pages page s.input new s.unsourced
+    → (s : SendsFor c Selser page (retyped_page pages page (remarked_of pages page new)) (λ b. new)) → IsMarkedDifference pages page s.input new s.unsourced
     → (ended ≡ code status.Done) ⊎ IsFaultOrNoMemory ended
 
--- A text edit of a page in which the marked blocks are ordinary; one in which they may hold calls, and the lines on which they are tell them; the same
--- without marks; and a text edit of blocks that may hold calls, among any that the lines of the expanded page are said to tell.
+-- A text edit of a page, in which the marked blocks are ordinary or may hold calls; the same without marks; and a text edit of blocks that may hold calls,
+-- among any that the lines of the expanded page are said to tell.
 pub record TakesTextEdits (c : Call) (ended : ℕ) : Type 0 where
-  pub ordinary : TakesEach IsOrdinaryEdit c ended
-  pub calling : TakesEach IsEditWithCalls c ended
-  pub selser : TakesDifferences IsOrdinaryDifference c ended
-  pub selser_calling : TakesDifferences IsDifferenceWithCalls c ended
+  pub edits : TakesMarked c ended
+  pub selser : TakesDifferences c ended
   pub beside : TakesBesideEdits c ended
