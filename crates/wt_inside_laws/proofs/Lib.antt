@@ -55,6 +55,7 @@ pub mod TextAndCallBlocks
 pub mod HtmlEdits
 pub mod OrdinaryEdits
 pub mod NothingMoved
+pub mod SectionsAlike
 pub mod LocalTextEdits
 pub mod EditsWithCalls
 pub mod GivenBack
