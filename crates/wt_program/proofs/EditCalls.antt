@@ -28,7 +28,7 @@ use Rattle.wt_inside_laws.specs.HtmlEdits.{IsHtmlEdit}
 use Rattle.wt_inside_laws.specs.EditsWithCalls.{IsMarkedEdit}
 use Rattle.wt_inside_laws.proofs.BesideEdits.{calling_edit_done, html_beside}
 use Rattle.wt_inside_laws.proofs.HtmlEdits.{html_lined}
-use Rattle.wt_inside_laws.proofs.LocalTextEdits.{calling_local}
+use Rattle.wt_inside_laws.proofs.LocalTextEdits.{ordinary_alike, calling_local}
 use Rattle.wt_inside_laws.proofs.EditsWithCalls.{marked_done, marked_local, marked_typed, marked_difference}
 use Rattle.wt_inside_laws.proofs.ToldEdits.{lined_edit_done}
 use Rattle.wt_inside_laws.proofs.TypedBeside.{calling_typed_apart}
@@ -117,6 +117,7 @@ calls_take_edits c ended ends as_edit = record {
     complete = λ pages page new told s e no.
         page_completes c ended (retyped_page pages page new) (marked_answered c pages page new told s e) ends no;
     local = marked_local;
+    alike = ordinary_alike;
     apart = marked_typed;
   };
   selser = calls_take_differences c ended as_edit;

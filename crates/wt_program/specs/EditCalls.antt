@@ -20,6 +20,7 @@ use Rattle.wt_called_edit_laws.specs.CallingGroups.{block_with_groups}
 use Rattle.wt_called_edit_laws.specs.EditsAt.{AllStand}
 use Rattle.wt_called_edit_laws.specs.LinedAmong.{spots_of_lines, end_of_lines, IsLinedAmong}
 use Rattle.wt_called_edit_laws.specs.LinedCalling.{IsLinedCalling}
+use Rattle.wt_called_edit_laws.specs.LocalChange.{ExpandsAlike}
 use Rattle.wt_called_edit_laws.specs.PlacedLines.{LinedBlock}
 use Rattle.wt_called_edit_laws.specs.SettledAt.{AllSettled}
 use Rattle.wt_program.specs.AnyCalls.{SendsFor}
@@ -28,6 +29,7 @@ use Rattle.wt_inside_laws.specs.BesideEdits.{IsBesideHtml}
 use Rattle.wt_inside_laws.specs.EditsWithCalls.{IsMarkedEdit, IsMarkedDifference}
 use Rattle.wt_inside_laws.specs.HtmlEdits.{IsHtmlEdit}
 use Rattle.wt_inside_laws.specs.LocalTextEdits.{IsLocalTextEdit}
+use Rattle.wt_inside_laws.specs.ToldEdits.{IsOrdinaryEdit}
 use Rattle.wt_inside_laws.specs.TypedBeside.{IsTypedIn}
 
 -- the page with the insides of its marked blocks replaced by what was sent for them, as it is spelled
@@ -72,7 +74,8 @@ TakesBesideEdits c ended =
 -- Where a call sends HTML that is such an edit of a page,
 -- * `edit` has written the page with the insides of the marked blocks replaced; or a device failed, or memory ran out;
 -- * where no device failed, only want of memory may come in its place;
--- * the edit is local: what the page means outside of these blocks stays, moved by the bytes that were added before it;
+-- * the edit is local: what the page means outside of these blocks stays, moved by the bytes that were added before it; where these call nothing, each
+--   call gives what it gave, for the same work;
 -- * what is written for each of these blocks makes nothing but what was typed, beside the calls and the nodes that stay.
 pub record TakesMarked (c : Call) (ended : ℕ) : Type 0 where
   pub edit : (pages : Pages) (page : List ℕ) (new : Tree) → c.folder.pages_before ≡ Some pages
@@ -83,6 +86,8 @@ pub record TakesMarked (c : Call) (ended : ℕ) : Type 0 where
       → WroteNewPage c ended (retyped_page pages page new) ⊎ (ended ≡ code status.NoMemory)
   pub local : (pages : Pages) (page input : List ℕ) (new : Tree) (unsourced : Option ℕ) → IsMarkedEdit pages page input new unsourced
       → IsLocalTextEdit pages page new
+  pub alike : (pages : Pages) (page input : List ℕ) (new : Tree) (unsourced : Option ℕ) → IsOrdinaryEdit pages page input new unsourced
+      → ExpandsAlike pages page (retyped_page pages page new)
   pub apart : (pages : Pages) (page input : List ℕ) (new : Tree) (unsourced : Option ℕ) → IsMarkedEdit pages page input new unsourced
       → AllByRecursion (IsTypedIn pages) (marked (page_tree pages page) new)
 
