@@ -5,10 +5,10 @@ use Rattle.std.proofs.lemmas.List.{append_cancel_left, append_cancel_right}
 use Rattle.wt_span.specs.Bytes.{is_blank}
 use Rattle.wt_span.specs.Characters as byte
 use Rattle.wt_span.specs.Items.{Item, source, sources}
-use Rattle.wt_tree.specs.declared.kind.Kind.{Kind}
 use Rattle.wt_tree.specs.declared.kind.Kind.TheVariants as kind
 use Rattle.wt_tree.specs.Source.{flat}
 use Rattle.wt_tree.specs.Tree.{Tree, label}
+use Rattle.wt_annotated.specs.Labels.{label_at}
 use Rattle.wt_expand.specs.PageItems.{page_items}
 use Rattle.wt_expand.proofs.PageLaws.{page_sources}
 use Rattle.wt_part_laws.specs.Standing.{standing}
@@ -57,10 +57,10 @@ closing_same (suc n) us vs ms ns le a b e =
 
 sides_are : (s z : Sides) → s.level ≡ z.level → s.lead ≡ z.lead → s.trail ≡ z.trail → s.rest ≡ z.rest → s ≡ z
 sides_are s z l a t r =
-    ap (λ (n : ℕ). (record { level = n; lead = s.lead; trail = s.trail; rest = s.rest } : Sides)) l
-    ∙ ap (λ (bs : List ℕ). (record { level = z.level; lead = bs; trail = s.trail; rest = s.rest } : Sides)) a
-    ∙ ap (λ (bs : List ℕ). (record { level = z.level; lead = z.lead; trail = bs; rest = s.rest } : Sides)) t
-    ∙ ap (λ (bs : List ℕ). (record { level = z.level; lead = z.lead; trail = z.trail; rest = bs } : Sides)) r
+    ap (λ (n : ℕ). record s { level = n }) l
+    ∙ ap (λ (bs : List ℕ). record s { level = z.level; lead = bs }) a
+    ∙ ap (λ (bs : List ℕ). record s { level = z.level; lead = z.lead; trail = bs }) t
+    ∙ ap (λ (bs : List ℕ). record s { level = z.level; lead = z.lead; trail = z.trail; rest = bs }) r
 
 sides_same : (s z : Sides) → AreSides s → AreSides z → s.level ≡ z.level → opening s ≡ opening z → closing s ≡ closing z → s ≡ z
 sides_same s z a b l o c =
@@ -107,9 +107,9 @@ headings_same : (s z : Sides) (q x : List ℕ) (t : Tree) → IsToldBy (a_headin
 headings_same s z q x t h g =
     let kinds : kind.Heading s.level ≡ kind.Heading z.level = sym h.kind ∙ g.kind in
     let level : s.level ≡ z.level = cc in
-    let open : opening s ≡ opening z = sym (chars_are (opening s)) ∙ sym h.opening ∙ g.opening ∙ chars_are (opening z) in
-    let close : closing s ≡ closing z = sym (closing_is s) ∙ sym h.closing ∙ g.closing ∙ closing_is z in
-    let same : s ≡ z = sides_same s z h.sides g.sides level open close in
+    let front : opening s ≡ opening z = sym (chars_are (opening s)) ∙ sym h.opening ∙ g.opening ∙ chars_are (opening z) in
+    let back : closing s ≡ closing z = sym (closing_is s) ∙ sym h.closing ∙ g.closing ∙ closing_is z in
+    let same : s ≡ z = sides_same s z h.sides g.sides level front back in
     record {
       block = ap (λ (w : Sides). a_heading w) same;
       text = text_same s q x (sym h.source ∙ g.source ∙ ap (λ (w : Sides). source_of (a_heading w) x) (sym same));
@@ -117,8 +117,8 @@ headings_same s z q x t h g =
 
 pub one_block : (k j : TextBlock) (q x : List ℕ) (t : Tree) → IsToldBy k q t → IsToldBy j x t → IsSameBlock k j q x
 one_block a_paragraph a_paragraph q x t h g = record { block = refl; text = sym h.source ∙ g.source }
-one_block a_paragraph (a_heading z) q x t h g = absurd (let wrong : kind.Para ≡ kind.Heading z.level = sym h.kind ∙ g.kind in absurd (cc))
-one_block (a_heading s) a_paragraph q x t h g = absurd (let wrong : kind.Heading s.level ≡ kind.Para = sym h.kind ∙ g.kind in absurd (cc))
+one_block a_paragraph (a_heading z) q x t h g = let wrong : kind.Para ≡ kind.Heading z.level = sym h.kind ∙ g.kind in absurd (cc)
+one_block (a_heading s) a_paragraph q x t h g = let wrong : kind.Heading s.level ≡ kind.Para = sym h.kind ∙ g.kind in absurd (cc)
 one_block (a_heading s) (a_heading z) q x t h g = headings_same s z q x t h g
 
 -- ---- a block that calls nothing
@@ -128,6 +128,7 @@ content_sides a_paragraph q c = tt
 content_sides (a_heading s) q c = let line = c.is in line.frame.sides
 
 standing_label : (k : TextBlock) (q : List ℕ) (n : ℕ) (before : List Item) (t : Tree) → t ≡ standing n before (block_tree k q) → IsContent k q → IsToldBy k q t
+unfolding label_at
 standing_label a_paragraph q n before t e c = record {
   kind = ap (λ (u : Tree). (label u).kind) e;
   opening = ap (λ (u : Tree). (label u).opening) e;

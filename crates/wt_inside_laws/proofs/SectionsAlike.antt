@@ -7,7 +7,7 @@ use Rattle.wt_tree.specs.Kinds.{is_section, spelling}
 use Rattle.wt_tree.specs.Tree.{Label, Tree, tree, Trees, none, more, label}
 use Rattle.wt_checks.specs.Kept.{children}
 use Rattle.wt_sections.specs.SectionLaws.{NoneIsSection}
-use Rattle.wt_sections.specs.Sections.{Part, level_of, ends, before, from, put, opens, parts, part_trees, section, lead_if_any, with_lead, gathered, with_sections}
+use Rattle.wt_sections.specs.Sections.{Part, level_of, ends, before, from, put, opens, parts, part_trees, lead_if_any, gathered, with_sections}
 use Rattle.wt_expand.specs.Work.{Pages}
 use Rattle.wt_page_round_trip.specs.PageTree.{page_tree}
 use Rattle.wt_page_round_trip.proofs.DrawnPages.{HoldsNoSection}
@@ -97,7 +97,7 @@ part_trees_as [] (q ∷ qs) h = absurd h
 part_trees_as (p ∷ ps) [] h = absurd h
 part_trees_as (p ∷ ps) (q ∷ qs) h = let part : IsPartAs p q = h.0 in (part.tree, part_trees_as ps qs h.1)
 
-lead_as : (as bs cs ds : Trees) → AreInSectionsAs as bs → AreInSectionsAs cs ds → AreInSectionsAs (lead_if_any as cs) (lead_if_any bs ds)
+lead_as : (xs ys cs ds : Trees) → AreInSectionsAs xs ys → AreInSectionsAs cs ds → AreInSectionsAs (lead_if_any xs cs) (lead_if_any ys ds)
 lead_as none none cs ds h g = g
 lead_as none (more u us) cs ds h g = absurd h
 lead_as (more t ts) none cs ds h g = absurd h
