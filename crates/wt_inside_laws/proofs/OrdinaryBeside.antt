@@ -125,8 +125,8 @@ HasBytes None at size = ⊥
 HasBytes (Some r) at size = (r.start ≡ at) × (r.end ≡ at + size)
 
 own_byte : (r : Option Ranges) (t : Tree) (at size : ℕ) → HasBytes r at size → 1 ≤ size → HasNoGroup t → HasOwnByte r t
-own_byte None t at size h le none = absurd h
-own_byte (Some r) t at size h le none = (r.start, omega arith, omega (arith, h.0, h.1, le), no_group_at r.start t none)
+own_byte None t at size h le g = absurd h
+own_byte (Some r) t at size h le g = (r.start, omega arith, omega (arith, h.0, h.1, le), no_group_at r.start t g)
 
 standing_bytes : (k : TextBlock) (q : List ℕ) (n : ℕ) (before : List Item)
     → HasBytes (label (standing n before (block_tree k q))).ranges (width before) (width (tree_items (block_tree k q)))
@@ -135,11 +135,11 @@ standing_bytes a_paragraph q n before = (refl, refl)
 standing_bytes (a_heading s) q n before = (refl, refl)
 
 byte_there : (t : Tree) → BlockThere t → HasNoGroup t → HasOwnByte (label t).ranges t
-byte_there t b none =
+byte_there t b g =
     let bytes : HasBytes (label t).ranges (width b.stands.before) (width (tree_items (block_tree b.block b.text))) =
     subst (λ (u : Tree). HasBytes (label u).ranges (width b.stands.before) (width (tree_items (block_tree b.block b.text)))) (sym b.stands.is)
     (standing_bytes b.block b.text b.stands.number b.stands.before) in
-    own_byte (label t).ranges t (width b.stands.before) (width (tree_items (block_tree b.block b.text))) bytes (block_some b.block b.text b.content) none
+    own_byte (label t).ranges t (width b.stands.before) (width (tree_items (block_tree b.block b.text))) bytes (block_some b.block b.text b.content) g
 
 pub ordinary_calling : (pages : Pages) (page : List ℕ) (m : Pair) → BlockThere m.old → IsOrdinaryOn pages page m → IsCallingOn pages page m
 ordinary_calling pages page m at o =

@@ -58,11 +58,13 @@ before_as o [] (q ∷ qs) h = absurd h
 before_as o (p ∷ ps) [] h = absurd h
 before_as o (p ∷ ps) (q ∷ qs) h =
     let part : IsPartAs p q = h.0 in
-    subst (λ (k : Option ℕ). AreInSectionsAs (before o (p ∷ ps)) (if ends o k then none else more q.tree (before o qs))) part.level (by (ends o p.level))
+    subst (λ (k : Option ℕ). AreInSectionsAs (before o (p ∷ ps)) (if ends o k then none else more q.tree (before o qs))) part.level
+    (by (ends o p.level) (before_as o ps qs h.1))
   where
-    by : (v : Bool) → AreInSectionsAs (if v then none else more p.tree (before o ps)) (if v then none else more q.tree (before o qs))
-    by true = tt
-    by false = let part : IsPartAs p q = h.0 in (part.tree, before_as o ps qs h.1)
+    by : (v : Bool) → AreInSectionsAs (before o ps) (before o qs)
+        → AreInSectionsAs (if v then none else more p.tree (before o ps)) (if v then none else more q.tree (before o qs))
+    by true r = tt
+    by false r = let part : IsPartAs p q = h.0 in (part.tree, r)
 
 from_as : (o : Option ℕ) (ps qs : List Part) → ArePartsAs ps qs → ArePartsAs (from o ps) (from o qs)
 from_as o [] [] h = tt
@@ -70,11 +72,11 @@ from_as o [] (q ∷ qs) h = absurd h
 from_as o (p ∷ ps) [] h = absurd h
 from_as o (p ∷ ps) (q ∷ qs) h =
     let part : IsPartAs p q = h.0 in
-    subst (λ (k : Option ℕ). ArePartsAs (from o (p ∷ ps)) (if ends o k then q ∷ qs else from o qs)) part.level (by (ends o p.level))
+    subst (λ (k : Option ℕ). ArePartsAs (from o (p ∷ ps)) (if ends o k then q ∷ qs else from o qs)) part.level (by (ends o p.level) (from_as o ps qs h.1))
   where
-    by : (v : Bool) → ArePartsAs (if v then p ∷ ps else from o ps) (if v then q ∷ qs else from o qs)
-    by true = h
-    by false = from_as o ps qs h.1
+    by : (v : Bool) → ArePartsAs (from o ps) (from o qs) → ArePartsAs (if v then p ∷ ps else from o ps) (if v then q ∷ qs else from o qs)
+    by true r = h
+    by false r = r
 
 put_as : (n : ℕ) (o : Option ℕ) (t u : Tree) (ps qs : List Part) → IsLevelAs t u → ArePartsAs ps qs → ArePartsAs (put n o t ps) (put n o u qs)
 put_as n None t u ps qs h g = (record { level = refl; tree = neither t u h }, g)
