@@ -15,7 +15,7 @@ use Rattle.wt_page_round_trip.proofs.Pages.{page_none}
 use Rattle.wt_commands.specs.Answers.{refusal_of_page}
 use Rattle.wt_typed_blocks.specs.Edited.{Edited, stays, edited, round, Edits, no_edits, more_edits}
 use Rattle.wt_called_edit_laws.specs.Groups.{called_tree}
-use Rattle.wt_called_edit_laws.specs.LocalChange.{Shift, no_shift, IsSameNode, past_node, IsLocalAt, AreLocal, IsLocalChange}
+use Rattle.wt_called_edit_laws.specs.LocalChange.{Shift, no_shift, past_node, IsLocalAt, AreLocal, IsLocalChange}
 use Rattle.wt_inside_laws.specs.SectionsAlike.{BothSections, IsInSectionsAs, AreInSectionsAs}
 
 -- ---- nodes that are no sections
