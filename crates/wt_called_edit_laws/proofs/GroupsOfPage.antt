@@ -55,7 +55,7 @@ source_some : (k : TextBlock) (q : List ℕ) → IsContent k q → 0 < length (s
 source_some a_paragraph q h = para_some q h
 source_some (a_heading s) q h = let f = content_frame (a_heading s) q h in signs_some s.level s.lead _ f.sides.some
 
-pub block_some : (k : TextBlock) (q : List ℕ) → IsContent k q → 0 < length (sources (tree_items (block_tree k q)))
+block_some : (k : TextBlock) (q : List ℕ) → IsContent k q → 0 < length (sources (tree_items (block_tree k q)))
 block_some k q h = subst (λ (bs : List ℕ). 0 < length bs) (sym (block_source k q)) (source_some k q h)
 
 abbrev pub HaveBytes : (ℕ → ItemTree) → List ℕ → Type 0

@@ -1,7 +1,7 @@
 -- Each paragraph and heading of a page's tree, with calls in it or without, by the lines of the expanded page: by these it may be edited, at its path.
 use Rattle.std.specs.Prelude.{◌≡◌, ℕ, ◌+◌, true, None, List, [], ◌∷◌, ◌++◌}
 use Rattle.std.specs.List.{AllByRecursion}
-use Rattle.wt_span.specs.Items.{Item}
+use Rattle.wt_span.specs.Items.{Item, is_mark, call_of}
 use Rattle.wt_span.specs.Origins.{Expanded}
 use Rattle.wt_tree.specs.Tree.{Tree, label}
 use Rattle.wt_annotated.specs.Seams.{last_of}
@@ -57,6 +57,10 @@ pub record IsBesideOwn (front : List Item) (t : Told) : Type 0 where
   pub ends : last_of None front ≡ None
   pub marks : AreOfPage (lined t).marks
   pub breaks : AllByRecursion (λ x. is_break_item x ≡ true → x ≡ break) (joined ((lined t).first ∷ (lined t).more))
+
+-- it is no line break and no mark that a call gives
+abbrev pub IsNoBreakOfCall : Item → Type 0
+IsNoBreakOfCall x = (is_break_item x ≡ true → x ≡ break) × (is_mark x ≡ true → call_of x ≡ None)
 
 -- Of an expanded page, behind so many items: one that lines don't tell, or a block for which a call gives one of these.
 pub data IsExceptedWithCalls (e : Expanded) (at : ℕ) : Type 0 where

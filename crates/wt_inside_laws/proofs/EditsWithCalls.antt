@@ -102,7 +102,6 @@ each_editable pages page (q ∷ qs) (m ∷ ms) w e r h =
           untangled = r.0.untangled;
           unexcepted = first.unexcepted;
           editable = first.calling.editable;
-          free = first.calling.free;
         },
       ),
       each_editable pages page qs ms w.1 (rest_same (node_at q t) (Some m.old) (nodes_at t qs) (olds ms) e) r.1 h.1,

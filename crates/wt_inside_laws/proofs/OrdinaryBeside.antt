@@ -1,30 +1,22 @@
 -- A marked block that is ordinary calls nothing, whatever source it is told by: so it may be marked together with blocks that hold calls.
-use Rattle.std.proofs.Common.{arith, ◌≡◌, ◌≤◌, ℕ, ◌+◌, Bool, true, false, Option, Some, None, List, map, refl, sym, ap, ◌∙◌, subst, inl}
+use Rattle.std.proofs.Common.{◌≡◌, ℕ, Some, None, List, map, sym, ap, ◌∙◌, subst, inl}
 use Rattle.std.specs.Str.{IsUtf8}
-use Rattle.wt_span.specs.Items.{Item}
-use Rattle.wt_tree.specs.declared.kind.Ranges.{Ranges}
 use Rattle.wt_tree.specs.Source.{flat}
-use Rattle.wt_tree.specs.Tiling.{is_group, HasNoGroup, NoneIsGroup}
-use Rattle.wt_tree.specs.Tree.{Tree, tree, Trees, none, more, label}
-use Rattle.wt_inline.specs.ItemTree.{tree_items}
+use Rattle.wt_tree.specs.Tree.{Tree, label}
 use Rattle.wt_annotated.specs.CutTexts.{cut_texts}
-use Rattle.wt_annotated.specs.Labels.{width, label_at}
 use Rattle.wt_expand.specs.PageCalls.{expanded_page}
 use Rattle.wt_expand.specs.Work.{Pages}
 use Rattle.wt_part_laws.specs.Expanded.{part_items}
 use Rattle.wt_part_laws.specs.HeldCalls.{block_in}
-use Rattle.wt_part_laws.specs.Standing.{standing}
 use Rattle.wt_slices.specs.Changes.{Pair}
 use Rattle.wt_visible.specs.SameNodes.{same_node}
 use Rattle.wt_commands.specs.Answers.{refusal_of_page}
 use Rattle.wt_text_edit_laws.specs.BlockSpots.{BlockSpot, spots_source}
-use Rattle.wt_text_edit_laws.specs.TextBlocks.{TextBlock, a_paragraph, a_heading, block_tree}
+use Rattle.wt_text_edit_laws.specs.TextBlocks.{TextBlock, a_paragraph, a_heading}
 use Rattle.wt_called_edit_laws.specs.AllTold.{AllBlocksTold, ToldAtPaths}
 use Rattle.wt_called_edit_laws.specs.CalledContents.{tree_round}
 use Rattle.wt_called_edit_laws.specs.CalledPages.{IsCalledPage}
 use Rattle.wt_called_edit_laws.specs.CallingBlocks.{IsContentIn}
-use Rattle.wt_called_edit_laws.specs.CallingTogether.{HasOwnByte}
-use Rattle.wt_called_edit_laws.specs.Covered.{IfGroup, NoGroupAt, NoneGroupAt}
 use Rattle.wt_called_edit_laws.specs.Groups.{called_tree}
 use Rattle.wt_called_edit_laws.specs.LinedAmong.{spots_of_lines, end_of_lines, IsLinedAmong}
 use Rattle.wt_called_edit_laws.specs.PlacedLines.{LinedBlock}
@@ -35,7 +27,6 @@ use Rattle.wt_called_edit_laws.proofs.Among.ToldAmong.{told_among}
 use Rattle.wt_called_edit_laws.proofs.Beside.Making.{IsSettledIn, block_kind, block_opening, block_closing}
 use Rattle.wt_called_edit_laws.proofs.BlocksOutside.{editable_called}
 use Rattle.wt_called_edit_laws.proofs.EditFacts.{spots_contents}
-use Rattle.wt_called_edit_laws.proofs.GroupsOfPage.{block_some}
 use Rattle.wt_inside_laws.specs.AsSent.{node_at}
 use Rattle.wt_inside_laws.specs.BesideEdits.{IsBlockOf, IsCalmBlock, IsBesideBlock}
 use Rattle.wt_inside_laws.specs.EditsWithCalls.{IsCallingOn}
@@ -107,40 +98,6 @@ ordinary_beside pages page m at o =
 
 -- ---- it may be marked so
 
-none_in : (v : Bool) (A B : Type 0) → v ≡ false → B → IfGroup v A B
-none_in true A B e h = let no : true ≡ false = e in absurd (cc)
-none_in false A B e h = h
-
-mutual
-  no_group_at : (b : ℕ) (t : Tree) → HasNoGroup t → NoGroupAt b t
-  no_group_at b (tree l ts) h = none_in (is_group l.kind) _ (NoneGroupAt b ts) h.0 (none_among b ts h.1)
-
-  none_among : (b : ℕ) (ts : Trees) → NoneIsGroup ts → NoneGroupAt b ts
-  none_among b none h = tt
-  none_among b (more t ts) h = (no_group_at b t h.0, none_among b ts h.1)
-
--- it has so many bytes
-abbrev HasBytes : Option Ranges → ℕ → ℕ → Type 0
-HasBytes None at size = ⊥
-HasBytes (Some r) at size = (r.start ≡ at) × (r.end ≡ at + size)
-
-own_byte : (r : Option Ranges) (t : Tree) (at size : ℕ) → HasBytes r at size → 1 ≤ size → HasNoGroup t → HasOwnByte r t
-own_byte None t at size h le g = absurd h
-own_byte (Some r) t at size h le g = (r.start, omega arith, omega (arith, h.0, h.1, le), no_group_at r.start t g)
-
-standing_bytes : (k : TextBlock) (q : List ℕ) (n : ℕ) (before : List Item)
-    → HasBytes (label (standing n before (block_tree k q))).ranges (width before) (width (tree_items (block_tree k q)))
-unfolding label_at
-standing_bytes a_paragraph q n before = (refl, refl)
-standing_bytes (a_heading s) q n before = (refl, refl)
-
-byte_there : (t : Tree) → BlockThere t → HasNoGroup t → HasOwnByte (label t).ranges t
-byte_there t b g =
-    let bytes : HasBytes (label t).ranges (width b.stands.before) (width (tree_items (block_tree b.block b.text))) =
-    subst (λ (u : Tree). HasBytes (label u).ranges (width b.stands.before) (width (tree_items (block_tree b.block b.text)))) (sym b.stands.is)
-    (standing_bytes b.block b.text b.stands.number b.stands.before) in
-    own_byte (label t).ranges t (width b.stands.before) (width (tree_items (block_tree b.block b.text))) bytes (block_some b.block b.text b.content) g
-
 pub ordinary_calling : (pages : Pages) (page : List ℕ) (m : Pair) → BlockThere m.old → IsOrdinaryOn pages page m → IsCallingOn pages page m
 ordinary_calling pages page m at o =
     let told : IsToldBy at.block at.text m.old = standing_told at.block at.text m.old at.stands at.content in
@@ -152,6 +109,5 @@ ordinary_calling pages page m at o =
         source = told.source;
         content = inl (at.content, at.calm);
       };
-      free = byte_there m.old at o.ungrouped;
       beside = ordinary_beside pages page m at o;
     }

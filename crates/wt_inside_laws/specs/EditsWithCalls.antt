@@ -3,7 +3,7 @@ use Rattle.std.specs.Prelude.{◌≡◌, ◌⊎◌, ◌≤◌, ℕ, Option, None
 use Rattle.std.specs.List.{AllByRecursion}
 use Rattle.std.specs.Str.{IsUtf8}
 use Rattle.wt_span.specs.declared.limits.TheConstants.{PAGE_BYTES}
-use Rattle.wt_tree.specs.Tree.{Tree, label}
+use Rattle.wt_tree.specs.Tree.{Tree}
 use Rattle.wt_expand.specs.PageCalls.{expanded_page}
 use Rattle.wt_expand.specs.Work.{Pages}
 use Rattle.wt_page_round_trip.specs.PageTree.{page_tree}
@@ -12,7 +12,6 @@ use Rattle.wt_slices.specs.Changes.{Pair, marked}
 use Rattle.wt_visible.specs.SameNodes.{same_node}
 use Rattle.wt_commands.specs.Answers.{refusal_of_page, remarked_of}
 use Rattle.wt_text_edit_laws.specs.TextBlocks.{TextBlock, a_paragraph, a_heading}
-use Rattle.wt_called_edit_laws.specs.CallingTogether.{HasOwnByte}
 use Rattle.wt_called_edit_laws.specs.CallingTold.{IsExceptedCalling}
 use Rattle.wt_called_edit_laws.specs.EditableNodes.{IsEditableNode}
 use Rattle.wt_called_edit_laws.specs.PiecedParagraphs.{IsInPieces, IsHeadingInPieces, IsTextAndCalls, IsHeadingOfCalls}
@@ -30,11 +29,9 @@ abbrev pub AreTextsAndCalls : Pages → TextBlock → List ℕ → Type 0
 AreTextsAndCalls pages a_paragraph q = IsTextAndCalls pages q
 AreTextsAndCalls pages (a_heading s) q = IsHeadingOfCalls pages s q
 
--- The content of a marked block may be edited with its calls, some byte of it is in no group, and it calls nothing and is ordinary, or texts may be typed
--- beside its calls.
+-- The content of a marked block may be edited with its calls, and it calls nothing and is ordinary, or texts may be typed beside its calls.
 pub record IsCallingOn (pages : Pages) (page : List ℕ) (p : Pair) : Type 0 where
   pub editable : IsEditableNode pages p.old
-  pub free : HasOwnByte (label p.old).ranges p.old
   pub beside : IsBesideBlock pages page p
 
 -- It is none of those that lines or calls except, and is ordinary on this page, or such a one.

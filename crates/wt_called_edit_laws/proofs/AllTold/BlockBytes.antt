@@ -90,7 +90,7 @@ of_page : (o : Option ℕ) → is_no_call o ≡ true → o ≡ None
 of_page None e = refl
 of_page (Some k) e = absurd (cc)
 
-own_some : (calls : List OuterCall) (o : Option ℕ) (xs : List Item) → AreOnes xs → list_any is_page xs ≡ true → 1 ≤ length (text_from calls o xs)
+pub own_some : (calls : List OuterCall) (o : Option ℕ) (xs : List Item) → AreOnes xs → list_any is_page xs ≡ true → 1 ≤ length (text_from calls o xs)
 own_some calls o [] h e = absurd (cc)
 own_some calls o (x ∷ xs) h e = by (is_page x) refl (λ rest. own_some calls (call_of x) xs h.1 rest)
   where

@@ -17,30 +17,27 @@ use Rattle.wt_expand.specs.Work.{Pages}
 use Rattle.wt_lines.specs.Lines.{content, full_lines, goes_on}
 use Rattle.wt_page.specs.Lines.{ending}
 use Rattle.wt_tables.specs.Parts.{joined}
-use Rattle.wt_page.specs.Rows.{Row}
 use Rattle.wt_commands.specs.Answers.{refusal_of_page}
-use Rattle.wt_text_edit_laws.specs.ParagraphBetween.{written_rows}
-use Rattle.wt_text_edit_laws.specs.TextBlocks.{TextBlock, a_paragraph, a_heading, source_of, FirstApart}
+use Rattle.wt_text_edit_laws.specs.TextBlocks.{TextBlock, a_paragraph, a_heading, source_of}
 use Rattle.wt_called_edit_laws.specs.AllTold.{starts_in, IsOneOf}
-use Rattle.wt_called_edit_laws.specs.AnyBlocks.{open_after, EndsFor, NextApart}
-use Rattle.wt_called_edit_laws.specs.CallingBlocks.{IsContentIn, AreContentsInFolder}
+use Rattle.wt_called_edit_laws.specs.AnyBlocks.{open_after}
+use Rattle.wt_called_edit_laws.specs.CallingBlocks.{AreContentsInFolder}
 use Rattle.wt_called_edit_laws.specs.CallingTogether.{IsEditableAt, EachEditable, TakeThere}
 use Rattle.wt_called_edit_laws.specs.CallingTold.{as_block}
 use Rattle.wt_called_edit_laws.specs.Covered.{HasFreeByte, HaveFreeBytes}
-use Rattle.wt_called_edit_laws.specs.EditableBlocks.{IsEditableContent, AreEditableContents}
+use Rattle.wt_called_edit_laws.specs.EditableBlocks.{AreEditableContents}
 use Rattle.wt_called_edit_laws.specs.EditableNodes.{IsEditable}
 use Rattle.wt_called_edit_laws.specs.Groups.{called_tree}
 use Rattle.wt_called_edit_laws.specs.LinedAmong.{spots_on, spots_of_lines, end_of_lines, AreBeside}
-use Rattle.wt_called_edit_laws.specs.LinedCalling.{IsCallingAt, AreCallingAfter, AreCallingLined, IsCallingHere, AreCallingHere, AreApartFrom, IsLinedCalling}
-use Rattle.wt_called_edit_laws.specs.PlacedLines.{LinedBlock, all_lines, LinesApart}
-use Rattle.wt_called_edit_laws.specs.ToldLines.{Told, a_paragraph_of, a_heading_on, lined, IsToldAt, AreToldAfter, AreTold, rows_before}
+use Rattle.wt_called_edit_laws.specs.LinedCalling.{AreCallingHere, AreApartFrom, IsLinedCalling}
+use Rattle.wt_called_edit_laws.specs.PlacedLines.{LinedBlock, all_lines}
+use Rattle.wt_called_edit_laws.specs.ToldLines.{Told, a_paragraph_of, a_heading_on, lined, AreToldAfter, rows_before}
 use Rattle.wt_called_edit_laws.specs.ToldTogether.{AreSome, own_lines, start_of, told_starts, IsAmongNumbers}
 use Rattle.wt_called_edit_laws.proofs.Among.OwnItems.{from_page}
 use Rattle.wt_called_edit_laws.proofs.Among.OwnSeams.{own_last, text_size}
-use Rattle.wt_called_edit_laws.proofs.Cells.CallingFrames.{content_in}
 use Rattle.wt_called_edit_laws.proofs.Cells.PlacedLines.{own_items, Round, round}
 use Rattle.wt_called_edit_laws.proofs.AllTold.BlockBytes.{block_byte}
-use Rattle.wt_called_edit_laws.proofs.AllTold.CallingBytes.{block_starts, Seam, seam_text, next_seam, AreFirst, TakenAt, taken_at, calling_bytes}
+use Rattle.wt_called_edit_laws.proofs.AllTold.CallingBytes.{Seam, seam_text, next_seam, AreFirst, TakenAt, taken_at, calling_bytes}
 use Rattle.wt_called_edit_laws.proofs.AllTold.ChosenLines.{byte_at, byte_of, among_mapped, last_suffix, lines_of_own, rest_is}
 use Rattle.wt_called_edit_laws.proofs.AllTold.Complete.{block_in}
 use Rattle.wt_called_edit_laws.proofs.AllTold.Found.{size}
@@ -48,96 +45,14 @@ use Rattle.wt_called_edit_laws.proofs.AllTold.KnownLines.{IsKnownHere, KnownTold
 use Rattle.wt_called_edit_laws.proofs.AllTold.LineKinds.{Lines}
 use Rattle.wt_called_edit_laws.proofs.AllTold.NodeLines.{IsOfKind, IsSameCut, cut_among, among_decided, IsIn, meets_among, NodeLines, line_count}
 use Rattle.wt_called_edit_laws.proofs.AllTold.OneNode.{front_same, page_ones, page_joined}
+use Rattle.wt_called_edit_laws.proofs.AllTold.OnTold.{AreOnTold, lined_on, starts_on}
 use Rattle.wt_called_edit_laws.proofs.AllTold.OnLines.{IsThere, line_front, line_more, line_size, line_whole, node_byte}
+use Rattle.wt_called_edit_laws.proofs.AllTold.OwnBytes.{any_content, any_editable}
 use Rattle.wt_called_edit_laws.proofs.AllTold.OwnLines.{cancel_left}
 use Rattle.wt_called_edit_laws.proofs.AllTold.RowBlocks.{body_none, below}
 use Rattle.wt_called_edit_laws.proofs.AllTold.Scans.{behind_lines, behind_joined, ToldFrom}
 use Rattle.wt_called_edit_laws.proofs.AllTold.Scanned.{Scan, scan, AllMeet, without_before}
 use Rattle.wt_called_edit_laws.proofs.AllTold.Together.{are_told}
-
--- ---- blocks on lines that are told stand there
-
--- on the same lines, whatever its source is
-record IsOnTold (t : Told) (b : LinedBlock) : Type 0 where
-  is : b ≡ as_block (lined t).before (lined t).marks (lined t).first (lined t).more b.block b.text
-  kind : IsOfKind (lined t).block b.block
-
-abbrev AreOnTold : List Told → List LinedBlock → Type 0
-AreOnTold [] [] = Unit {0}
-AreOnTold [] (b ∷ bs) = ⊥
-AreOnTold (t ∷ ts) [] = ⊥
-AreOnTold (t ∷ ts) (b ∷ bs) = IsOnTold t b × AreOnTold ts bs
-
-ends_so : (j k : TextBlock) (rs : List Row) → IsOfKind j k → EndsFor j rs → EndsFor k rs
-ends_so a_paragraph a_paragraph rs e h = h
-ends_so a_paragraph (a_heading s) rs e h = absurd e
-ends_so (a_heading s) a_paragraph rs e h = absurd e
-ends_so (a_heading s) (a_heading z) rs e h = tt
-
-first_so : (j k : TextBlock) (rs : List Row) → IsOfKind j k → FirstApart j rs → FirstApart k rs
-first_so a_paragraph a_paragraph rs e h = h
-first_so a_paragraph (a_heading s) rs e h = absurd e
-first_so (a_heading s) a_paragraph rs e h = absurd e
-first_so (a_heading s) (a_heading z) [] e h = tt
-first_so (a_heading s) (a_heading z) (r ∷ rs) e h = h
-
-next_so : (i k : TextBlock) (j l : TextBlock) (rs : List Row) → IsOfKind i k → IsOfKind j l → NextApart i j rs → NextApart k l rs
-next_so a_paragraph a_paragraph j l rs e f h = first_so j l rs f h
-next_so a_paragraph (a_heading s) j l rs e f h = absurd e
-next_so (a_heading s) a_paragraph j l rs e f h = absurd e
-next_so (a_heading s) (a_heading z) j l rs e f h = tt
-
-behind_so : (j k : TextBlock) (n : ℕ) (ls : Lines) → IsOfKind j k → LinesApart j n ls → LinesApart k n ls
-behind_so a_paragraph a_paragraph n ls e h = h
-behind_so a_paragraph (a_heading s) n ls e h = absurd e
-behind_so (a_heading s) a_paragraph n ls e h = absurd e
-behind_so (a_heading s) (a_heading z) n ls e h = tt
-
-abbrev on_told : Told → TextBlock → List ℕ → LinedBlock
-on_told t k q = as_block (lined t).before (lined t).marks (lined t).first (lined t).more k q
-
-calling_at : (open_tables : List Bool) (t : Told) (k : TextBlock) (q : List ℕ) → IsOfKind (lined t).block k → IsToldAt open_tables t → IsCallingAt open_tables (on_told t k q)
-calling_at open_tables (a_paragraph_of b m f r) a_paragraph q e h =
-    record { are_marks = h.are_marks; some = h.some; in_cells = h.in_cells; apart = h.apart; own = h.own.0 }
-calling_at open_tables (a_paragraph_of b m f r) (a_heading s) q e h = absurd e
-calling_at open_tables (a_heading_on b m l) a_paragraph q e h = absurd e
-calling_at open_tables (a_heading_on b m l) (a_heading s) q e h =
-    record { are_marks = h.are_marks; some = h.some; in_cells = h.in_cells; apart = tt; own = tt }
-
-lined_after : (i k : TextBlock) (open_tables : List Bool) (ts : List Told) (bs : List LinedBlock) (behind : Lines) → IsOfKind i k → AreOnTold ts bs
-    → AreToldAfter i open_tables ts behind → AreCallingAfter k open_tables bs behind
-lined_after i k open_tables [] [] behind e o h = behind_so i k (length open_tables) behind e h
-lined_after i k open_tables [] (b ∷ bs) behind e o h = absurd o
-lined_after i k open_tables (t ∷ ts) [] behind e o h = absurd o
-lined_after i k open_tables (t ∷ ts) (b ∷ bs) behind e o h =
-    let rows : List Row = written_rows (length open_tables) (lined t).before in
-    subst (λ (c : LinedBlock). NextApart k c.block (written_rows (length open_tables) c.before) × IsCallingAt open_tables c
-    × AreCallingAfter c.block (open_after open_tables (written_rows (length open_tables) c.before)) bs behind) (sym o.0.is) (
-      next_so i k (lined t).block b.block rows e o.0.kind h.0,
-      calling_at open_tables t b.block b.text o.0.kind h.1,
-      lined_after (lined t).block b.block (open_after open_tables rows) ts bs behind o.0.kind o.1 h.2,
-    )
-
-lined_on : (ts : List Told) (bs : List LinedBlock) (behind : Lines) → AreOnTold ts bs → AreTold ts behind → AreCallingLined bs behind
-lined_on [] bs behind o h = absurd h
-lined_on (t ∷ ts) [] behind o h = absurd o
-lined_on (t ∷ ts) (b ∷ bs) behind o h =
-    let rows : List Row = written_rows 0 (lined t).before in
-    subst (λ (c : LinedBlock). IsCallingAt [] c × AreCallingAfter c.block (open_after [] (written_rows 0 c.before)) bs behind) (sym o.0.is) (
-      calling_at [] t b.block b.text o.0.kind h.0,
-      lined_after (lined t).block b.block (open_after [] rows) ts bs behind o.0.kind o.1 h.1,
-    )
-
-starts_on : (at : ℕ) (ts : List Told) (bs : List LinedBlock) → AreOnTold ts bs → told_starts at ts ≡ block_starts at bs
-starts_on at [] [] o = refl
-starts_on at [] (b ∷ bs) o = absurd o
-starts_on at (t ∷ ts) [] o = absurd o
-starts_on at (t ∷ ts) (b ∷ bs) o =
-    let c : LinedBlock = on_told t b.block b.text in
-    let first : ℕ = at + size (joined c.before) + size c.marks in
-    ap (λ (ns : List ℕ). first ∷ ns) (starts_on (at + size (joined c.before) + size (joined ((c.marks ++ c.first) ∷ c.more))) ts bs o.1)
-    ∙ ap (λ (x : LinedBlock). (at + size (joined x.before) + size x.marks) ∷ block_starts (at + size (joined x.before) + size (joined ((x.marks ++ x.first) ∷ x.more))) bs)
-    (sym o.0.is)
 
 -- ---- the lines that are found are those of a block
 
@@ -282,17 +197,12 @@ joined_from pages page ks front fr es at (t ∷ ts) behind xs f z s h some runs 
 
 -- ---- their contents
 
-contents_of : (pages : Pages) (k : TextBlock) (q : List ℕ) → IsEditable pages k q → IsContentIn pages k q × IsEditableContent pages k q
-contents_of pages k q (inl c) = (content_in pages k q c.0 c.1, inl c)
-contents_of pages k q (inr h) = (h.0, inr h.1)
-
 all_contents : (pages : Pages) (calls : List OuterCall) (es : List Item) (bs : List LinedBlock) → AllByRecursion (λ (b : LinedBlock). IsEditable pages b.block b.text) bs
     → AreContentsInFolder pages (spots_on calls es bs) × AreEditableContents pages (spots_on calls es bs)
 all_contents pages calls es [] h = (tt, tt)
 all_contents pages calls es (b ∷ bs) h =
-    let c = contents_of pages b.block b.text h.0 in
     let r = all_contents pages calls (ending (joined (b.first ∷ b.more))) bs h.1 in
-    ((c.0, r.0), (c.1, r.1))
+    ((any_content pages b.block b.text h.0, r.0), (any_editable pages b.block b.text h.0, r.1))
 
 lines_same : (ts : List Told) (bs : List LinedBlock) (behind : Lines) → AreOnTold ts bs → all_lines (map lined ts) behind ≡ all_lines bs behind
 lines_same [] [] behind o = refl
@@ -373,7 +283,7 @@ found_nodes : (pages : Pages) (page : List ℕ) (ps : List (List ℕ)) → IsUtf
 found_nodes pages page [] u r h = tt
 found_nodes pages page (p ∷ ps) u r h = (found_node pages page p h.0.0 u r h.0.1, found_nodes pages page ps u r h.1)
 
-node_lines_of : (pages : Pages) (page : List ℕ) (ps : List (List ℕ)) → FoundNodes pages page ps → List (KnownTold pages page)
+abbrev node_lines_of : (pages : Pages) (page : List ℕ) (ps : List (List ℕ)) → FoundNodes pages page ps → List (KnownTold pages page)
 node_lines_of pages page [] h = []
 node_lines_of pages page (p ∷ ps) h = h.0.line ∷ node_lines_of pages page ps h.1
 

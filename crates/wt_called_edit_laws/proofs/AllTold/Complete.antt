@@ -224,7 +224,7 @@ Answer pages page i is t a u r = Told_at pages page i is a u r ⊎ IsExcepted pa
 pub tables_same : (before : Lines) → tables_behind 0 before ≡ length (open_after [] (written_rows 0 before))
 tables_same before = open_size [] 0 before refl
 
-text_all : (n : ℕ) (ls : Lines) → AreOfText n ls → AllText n ls
+pub text_all : (n : ℕ) (ls : Lines) → AreOfText n ls → AllText n ls
 text_all n [] h = tt
 text_all n (l ∷ ls) h = (h.0, text_all n ls h.1)
 

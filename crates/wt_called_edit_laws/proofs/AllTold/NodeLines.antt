@@ -32,8 +32,10 @@ use Rattle.wt_typed_blocks.specs.Sent.{kind_of}
 use Rattle.wt_text_edit_laws.specs.ParagraphBetween.{written_rows, tables_behind, EndApart, BeginApart}
 use Rattle.wt_text_edit_laws.specs.TextBlocks.{TextBlock, a_paragraph, a_heading, block_of}
 use Rattle.wt_text_edit_laws.specs.TypedHeadings.{Sides}
+use Rattle.wt_text_edit_laws.proofs.Cuts.RowLines.{AllText}
 use Rattle.wt_called_edit_laws.specs.AllTold.{text_on_a_sign}
 use Rattle.wt_called_edit_laws.specs.AnyBlocks.{open_after}
+use Rattle.wt_called_edit_laws.specs.CalledContents.{tree_round}
 use Rattle.wt_called_edit_laws.specs.CallingTold.{IsExceptedByLines}
 use Rattle.wt_called_edit_laws.specs.Groups.{called_tree}
 use Rattle.wt_called_edit_laws.specs.LinedHeadings.{sides_of, IsLinedHeading}
@@ -48,7 +50,7 @@ use Rattle.wt_called_edit_laws.proofs.TextsMake.{flat_same}
 use Rattle.wt_called_edit_laws.proofs.AllTold.Chosen.{less_or}
 use Rattle.wt_called_edit_laws.proofs.AllTold.ChosenLines.{ones_front, ones_behind}
 use Rattle.wt_called_edit_laws.proofs.AllTold.ClosedLines.{AllPast, heading_size, para_size}
-use Rattle.wt_called_edit_laws.proofs.AllTold.Complete.{some_past, tables_same, text_lines_at, past_unled, first_unled, all_past}
+use Rattle.wt_called_edit_laws.proofs.AllTold.Complete.{some_past, tables_same, text_all, text_lines_at, past_unled, first_unled, all_past}
 use Rattle.wt_called_edit_laws.proofs.AllTold.Found.{size, tree_size, size_both}
 use Rattle.wt_called_edit_laws.proofs.AllTold.HeadSigns.{head_begins}
 use Rattle.wt_called_edit_laws.proofs.AllTold.LineBlocks.{block_on_lines}
@@ -57,6 +59,7 @@ use Rattle.wt_called_edit_laws.proofs.AllTold.OneNode.{front_same}
 use Rattle.wt_called_edit_laws.proofs.AllTold.OnLines.{para_kind, is_para, heading_kind, line_front, line_whole, line_size}
 use Rattle.wt_called_edit_laws.proofs.AllTold.OwnLines.{cancel_left}
 use Rattle.wt_called_edit_laws.proofs.AllTold.OwnNodes.{same_walk, between_same}
+use Rattle.wt_called_edit_laws.proofs.AllTold.OwnTrees.{IsRoundOf, paragraph_of, heading_of}
 use Rattle.wt_called_edit_laws.proofs.AllTold.Scans.{Decided, Answered, text_told, heading_told, behind_lines, behind_joined}
 use Rattle.wt_called_edit_laws.proofs.AllTold.Scanned.{Meets, without_before, Scan}
 
@@ -146,6 +149,7 @@ pub record NodeLines (pages : Pages) (page : List ℕ) (t : Tree) : Type 0 where
   pub begins : size stands.before ≡ start_of 0 told
   pub size_is : tree_size stands.block + size (ending (own_items (lined told))) ≡ size (own_items (lined told))
   pub kind : (k : TextBlock) → kind_of (block_of k) ≡ (label t).kind → IsOfKind (lined told).block k
+  pub tree_so : (k : TextBlock) (xs : List Item) → IsOfKind (lined told).block k → IsRoundOf k xs (lined told) rest → stands.block ≡ tree_round k xs
   pub found : (os : List Told) (sc : Scan (cut_among os) [] [] false (full_lines (expanded_page pages page).items)) → Meets (cut_among os) [] told
       → IsAmongNumbers (start_of 0 told) (told_starts 0 sc.ts)
 
@@ -202,6 +206,16 @@ text_lines pages page t s before first others behind are cells apart texts stops
         ap (λ (u : Tree). (label u).kind) s.is ∙ ap (λ (u : ItemTree). (label (node_between calls s.number s.before u s.behind)).kind) tree_is
         ∙ para_kind calls s.number s.before (map text_row (first ∷ others)) s.behind
 
+    line_is : led_by first ++ past_marks first ≡ first
+    line_is = led_whole first
+
+    tree_so : (k : TextBlock) (xs : List Item) → IsOfKind a_paragraph k → IsRoundOf k xs (lined o) behind → s.block ≡ tree_round k xs
+    tree_so a_paragraph xs e r =
+        tree_is ∙ ap (λ (l : List Item). para (map text_row (l ∷ others))) (sym line_is)
+        ∙ paragraph_of xs before (led_by first) (past_marks first) others behind r (led_marks first)
+        (subst (λ (l : List Item). AllText m (l ∷ others)) (sym line_is) (text_all m (first ∷ others) here))
+    tree_so (a_heading x) xs e r = absurd e
+
     by : NodeLines pages page t
     by = record {
       stands = s;
@@ -212,6 +226,7 @@ text_lines pages page t s before first others behind are cells apart texts stops
       begins = at ∙ begins_so before first o refl refl;
       size_is = ap (λ (u : ItemTree). tree_size u + size (ending (own_items (lined o)))) tree_is ∙ para_size first others seen;
       kind = λ k e. of_para k (e ∙ kind_is);
+      tree_so = tree_so;
       found = λ os sc meets. sc.texts 0 before first others behind are told behind_apart (λ z. refl) meets;
     }
 
@@ -256,6 +271,10 @@ heading_line pages page t utf8 unrefused s before own behind are cells line_kind
         ap (λ (u : Tree). is_para (label u).kind) s.is ∙ ap (λ (u : ItemTree). is_para (label (node_between calls s.number s.before u s.behind)).kind) tree_is
         ∙ heading_kind calls s.number s.before (content l) s.behind
 
+    tree_so : (k : TextBlock) (xs : List Item) → IsOfKind (a_heading (sides_of (content l))) k → IsRoundOf k xs (lined o) behind → s.block ≡ tree_round k xs
+    tree_so a_paragraph xs e r = absurd e
+    tree_so (a_heading x) xs e r = tree_is ∙ heading_of x xs before (led_by own) l behind r
+
     by : NodeLines pages page t
     by = record {
       stands = s;
@@ -267,6 +286,7 @@ heading_line pages page t utf8 unrefused s before own behind are cells line_kind
       size_is = ap (λ (u : ItemTree). tree_size u + size (ending (l ++ []))) tree_is
           ∙ ap (λ (ys : List Item). tree_size (heading (content l)) + size (ending ys)) one ∙ line_is ∙ ap size (sym one);
       kind = λ k e. of_head (sides_of (content l)) k (ap is_para e ∙ kind_is);
+      tree_so = tree_so;
       found = λ os sc meets. sc.heads 0 before own behind are told meets;
     }
 
@@ -287,7 +307,7 @@ node_lines pages page p t u r e b =
 
 -- ---- its source
 
-between_source : (calls : List OuterCall) (n : ℕ) (before : List Item) (u : ItemTree) (behind : List Item) → clean_at (last_of None before) (first_of behind None) u ≡ true
+pub between_source : (calls : List OuterCall) (n : ℕ) (before : List Item) (u : ItemTree) (behind : List Item) → clean_at (last_of None before) (first_of behind None) u ≡ true
     → flat (node_between calls n before u behind) ≡ text_from calls None (tree_items u)
 between_source calls n before u behind e =
     sym (flat_same (node_between calls n before u behind)) ∙ ap flat (between_same calls n before u behind e)

@@ -24,7 +24,7 @@ use Rattle.wt_called_edit_laws.proofs.AllTold.Starts.{HasByte}
 
 -- ---- a tree without groups
 
-with_false : (v : Bool) (P : Type 0) (b : ℕ) (xs us : Trees) → v ≡ false → NoneGroupAt b us → IfGroup v P (NoneGroupAt b (if v then xs else us))
+pub with_false : (v : Bool) (P : Type 0) (b : ℕ) (xs us : Trees) → v ≡ false → NoneGroupAt b us → IfGroup v P (NoneGroupAt b (if v then xs else us))
 with_false true P b xs us e h = let no : true ≡ false = e in absurd (cc)
 with_false false P b xs us e h = h
 
@@ -33,7 +33,7 @@ unless true A B e h = let no : true ≡ false = e in absurd (cc)
 unless false A B e h = h
 
 mutual
-  none_at : (b : ℕ) (t : Tree) → HasNoGroup t → NoGroupAt b t
+  pub none_at : (b : ℕ) (t : Tree) → HasNoGroup t → NoGroupAt b t
   none_at b (tree l ts) h = unless (is_group l.kind) _ (NoneGroupAt b ts) h.0 (none_among b ts h.1)
 
   none_among : (b : ℕ) (ts : Trees) → NoneIsGroup ts → NoneGroupAt b ts
@@ -124,7 +124,7 @@ mutual
 body_free : (b : ℕ) (t : Tree) → is_group (label t).kind ≡ false → NoneGroupAt b (children t) → NoGroupAt b t
 body_free b (tree l ts) e h = unless (is_group l.kind) _ (NoneGroupAt b ts) e h
 
-children_bare : (t : Tree) → is_group (label t).kind ≡ false → IsBare t → AreBare (children t)
+pub children_bare : (t : Tree) → is_group (label t).kind ≡ false → IsBare t → AreBare (children t)
 children_bare (tree l ts) e h = body_bare l ts e h
 
 -- a byte of a node that no group in it has, no group of the page has
