@@ -1,14 +1,13 @@
 -- Any number of paragraphs and headings of a page's tree, with calls in them or without, are on lines of the expanded page, one behind the other, and may be
 -- edited at their paths.
-use Rattle.std.proofs.Common.{arith, ◌≡◌, ◌<◌, ◌≤◌, ◌⊎◌, inl, inr, ℕ, ◌+◌, Bool, false, None, Option, List, [], ◌∷◌, ◌++◌, length, map, refl, sym, ap, ◌∙◌, subst, append_assoc}
+use Rattle.std.proofs.Common.{arith, ◌≡◌, ◌≤◌, inl, inr, ℕ, ◌+◌, Bool, false, None, Option, List, [], ◌∷◌, ◌++◌, length, map, refl, sym, ap, ◌∙◌, subst, append_assoc}
 use Rattle.std.specs.List.{AllByRecursion}
 use Rattle.std.specs.Str.{IsUtf8}
 use Rattle.wt_span.specs.Items.{Item}
 use Rattle.wt_span.specs.Origins.{OuterCall, Span}
 use Rattle.wt_span.specs.Runs.{AreRuns}
 use Rattle.wt_span.proofs.RunLaws.{runs_are}
-use Rattle.wt_tree.specs.Source.{flat}
-use Rattle.wt_tree.specs.Tree.{Tree, Trees, label}
+use Rattle.wt_tree.specs.Tree.{Tree, Trees}
 use Rattle.wt_annotated.specs.Seams.{last_of, text_from}
 use Rattle.wt_annotated.proofs.Seams.{last_append}
 use Rattle.wt_checks.specs.Kept.{children}
@@ -28,7 +27,7 @@ use Rattle.wt_called_edit_laws.specs.Covered.{HasFreeByte, HaveFreeBytes}
 use Rattle.wt_called_edit_laws.specs.EditableBlocks.{AreEditableContents}
 use Rattle.wt_called_edit_laws.specs.EditableNodes.{IsEditable}
 use Rattle.wt_called_edit_laws.specs.Groups.{called_tree}
-use Rattle.wt_called_edit_laws.specs.LinedAmong.{spots_on, spots_of_lines, end_of_lines, AreBeside}
+use Rattle.wt_called_edit_laws.specs.LinedAmong.{spots_on, AreBeside}
 use Rattle.wt_called_edit_laws.specs.LinedCalling.{AreCallingHere, AreApartFrom, IsLinedCalling}
 use Rattle.wt_called_edit_laws.specs.PlacedLines.{LinedBlock, all_lines}
 use Rattle.wt_called_edit_laws.specs.ToldLines.{Told, a_paragraph_of, a_heading_on, lined, AreToldAfter, rows_before}
@@ -43,7 +42,7 @@ use Rattle.wt_called_edit_laws.proofs.AllTold.Complete.{block_in}
 use Rattle.wt_called_edit_laws.proofs.AllTold.Found.{size}
 use Rattle.wt_called_edit_laws.proofs.AllTold.KnownLines.{IsKnownHere, KnownTold, KnownNode, known_node}
 use Rattle.wt_called_edit_laws.proofs.AllTold.LineKinds.{Lines}
-use Rattle.wt_called_edit_laws.proofs.AllTold.NodeLines.{IsOfKind, IsSameCut, cut_among, among_decided, IsIn, meets_among, NodeLines, line_count}
+use Rattle.wt_called_edit_laws.proofs.AllTold.NodeLines.{IsOfKind, cut_among, among_decided, IsIn, meets_among, NodeLines, line_count}
 use Rattle.wt_called_edit_laws.proofs.AllTold.OneNode.{front_same, page_ones, page_joined}
 use Rattle.wt_called_edit_laws.proofs.AllTold.OnTold.{AreOnTold, lined_on, starts_on}
 use Rattle.wt_called_edit_laws.proofs.AllTold.OnLines.{IsThere, line_front, line_more, line_size, line_whole, node_byte}

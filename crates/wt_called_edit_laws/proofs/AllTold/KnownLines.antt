@@ -1,6 +1,6 @@
 -- What is known of the lines of a paragraph or heading of a page's tree whose content may be edited: the line breaks before and in them come from no call,
 -- what is on the page for them is its source, no call that is text touches it, and a byte of it is in no group.
-use Rattle.std.proofs.Common.{arith, ◌≡◌, ◌≤◌, ◌<◌, ◌⊎◌, inl, inr, ℕ, zero, suc, ◌+◌, ◌==◌, Bool, true, false, Option, Some, None, List, [], ◌∷◌, ◌++◌, length, refl, sym, ap, ◌∙◌, subst, append_assoc}
+use Rattle.std.proofs.Common.{arith, ◌≡◌, ◌≤◌, ◌<◌, ◌⊎◌, inl, inr, ℕ, ◌+◌, ◌==◌, Bool, true, false, Option, Some, None, List, [], ◌∷◌, ◌++◌, length, refl, sym, ap, ◌∙◌, subst, append_assoc}
 use Rattle.std.proofs.lemmas.Bool.Decides.{nat_tests}
 use Rattle.std.specs.List.{AllByRecursion, list_all}
 use Rattle.std.specs.Str.{IsUtf8}
@@ -11,7 +11,7 @@ use Rattle.wt_span.specs.Runs.{AreRuns}
 use Rattle.wt_span.proofs.RunLaws.{runs_are}
 use Rattle.wt_tree.specs.declared.kind.Ranges.{Ranges}
 use Rattle.wt_tree.specs.Source.{flat}
-use Rattle.wt_tree.specs.Tree.{Tree, tree, Trees, label}
+use Rattle.wt_tree.specs.Tree.{Tree, tree, label}
 use Rattle.wt_inline.specs.ItemTree.{ItemTree, tree_items}
 use Rattle.wt_annotated.specs.CutTexts.{cut_texts}
 use Rattle.wt_annotated.specs.Seams.{last_of, text_from}

@@ -1,6 +1,5 @@
 -- Blocks on lines that are told, whatever their sources are: they stand there, and begin where the lines do.
 use Rattle.std.proofs.Common.{◌≡◌, ℕ, ◌+◌, Bool, List, [], ◌∷◌, ◌++◌, length, refl, sym, ap, ◌∙◌, subst}
-use Rattle.wt_span.specs.Items.{Item}
 use Rattle.wt_page.specs.Rows.{Row}
 use Rattle.wt_tables.specs.Parts.{joined}
 use Rattle.wt_text_edit_laws.specs.ParagraphBetween.{written_rows}

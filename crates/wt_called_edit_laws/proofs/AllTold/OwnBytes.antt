@@ -7,7 +7,7 @@ use Rattle.wt_tree.specs.declared.kind.Kind.TheVariants as kind
 use Rattle.wt_tree.specs.Kinds.{is_leaf}
 use Rattle.wt_tree.specs.Source.{flat, flat_of_all}
 use Rattle.wt_tree.specs.Tiling.{is_group, HasNoGroup}
-use Rattle.wt_tree.specs.Tree.{Label, Tree, tree, Trees, none, more, label}
+use Rattle.wt_tree.specs.Tree.{Tree, tree, Trees, none, more, label}
 use Rattle.wt_span.specs.Items.{Item}
 use Rattle.wt_span.specs.Origins.{OuterCall}
 use Rattle.wt_inline.specs.ItemTree.{plain, Head, ItemTree, inner, ItemTrees, forest, tree_items, held_by_all}
@@ -32,17 +32,16 @@ use Rattle.wt_part_laws.specs.Standing.{standing}
 use Rattle.wt_part_laws.proofs.CallPieces.{trees_of, all_trees, ArePieces, AllNodes, all_pieces, children_of_each, children_given}
 use Rattle.wt_part_laws.proofs.HeldBlocks.{given_block_is}
 use Rattle.wt_part_laws.proofs.OwnWalks.{has_page}
-use Rattle.wt_text_edit_laws.specs.Contents.{IsContent, content_parts_of}
+use Rattle.wt_text_edit_laws.specs.Contents.{content_parts_of}
 use Rattle.wt_text_edit_laws.specs.LonePages.{page_chars}
-use Rattle.wt_text_edit_laws.specs.NoCalls.{CallsNothing}
-use Rattle.wt_text_edit_laws.specs.TextBlocks.{TextBlock, a_paragraph, a_heading, block_items, block_tree}
+use Rattle.wt_text_edit_laws.specs.TextBlocks.{TextBlock, a_paragraph, a_heading, block_tree}
 use Rattle.wt_text_edit_laws.specs.TypedHeadings.{Sides, equals, opening, closing_items}
 use Rattle.wt_beside_laws.specs.Nests.{style_tree}
 use Rattle.wt_beside_laws.proofs.Made.OldBlocks.{no_group}
 use Rattle.wt_beside_laws.proofs.StyledGroups.Blocks.{style_round}
 use Rattle.wt_called_edit_laws.specs.CalledContents.{tree_round, AreItemsOf}
 use Rattle.wt_called_edit_laws.specs.CallingBlocks.{IsContentIn}
-use Rattle.wt_called_edit_laws.specs.Covered.{NoGroupAt, NoneGroupAt, HasFreeByte}
+use Rattle.wt_called_edit_laws.specs.Covered.{NoneGroupAt, HasFreeByte}
 use Rattle.wt_called_edit_laws.specs.EditableBlocks.{IsEditableContent}
 use Rattle.wt_called_edit_laws.specs.EditableNodes.{IsEditable}
 use Rattle.wt_called_edit_laws.specs.Groups.{called_tree}
