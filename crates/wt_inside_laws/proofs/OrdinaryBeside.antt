@@ -1,18 +1,29 @@
 -- A marked block that is ordinary calls nothing, whatever source it is told by: so it may be marked together with blocks that hold calls.
 use Rattle.std.proofs.Common.{◌≡◌, ℕ, Some, None, List, map, sym, ap, ◌∙◌, subst, inl}
 use Rattle.std.specs.Str.{IsUtf8}
+use Rattle.wt_span.specs.Items.{Item, sources}
 use Rattle.wt_tree.specs.Source.{flat}
 use Rattle.wt_tree.specs.Tree.{Tree, label}
+use Rattle.wt_inline.specs.ItemTree.{forest, held_by_all}
+use Rattle.wt_inline.specs.Parts.{children}
+use Rattle.wt_context.specs.Line.{line_parts}
 use Rattle.wt_annotated.specs.CutTexts.{cut_texts}
+use Rattle.wt_annotated.specs.Seams.{last_of}
 use Rattle.wt_expand.specs.PageCalls.{expanded_page}
 use Rattle.wt_expand.specs.Work.{Pages}
 use Rattle.wt_part_laws.specs.Expanded.{part_items}
 use Rattle.wt_part_laws.specs.HeldCalls.{block_in}
+use Rattle.wt_part_laws.proofs.OwnWalks.{text_own}
 use Rattle.wt_slices.specs.Changes.{Pair}
 use Rattle.wt_visible.specs.SameNodes.{same_node}
 use Rattle.wt_commands.specs.Answers.{refusal_of_page}
 use Rattle.wt_text_edit_laws.specs.BlockSpots.{BlockSpot, spots_source}
+use Rattle.wt_text_edit_laws.specs.LonePages.{page_chars}
 use Rattle.wt_text_edit_laws.specs.TextBlocks.{TextBlock, a_paragraph, a_heading}
+use Rattle.wt_text_edit_laws.specs.TypedHeadings.{opening, closing_items}
+use Rattle.wt_text_edit_laws.proofs.Blocks.BlockLeaves.{open_items, close_items}
+use Rattle.wt_text_edit_laws.proofs.Texts.TypedShown.{chars_of_page}
+use Rattle.wt_beside_laws.proofs.Groups.CalledHeadings.{closing_page}
 use Rattle.wt_called_edit_laws.specs.AllTold.{AllBlocksTold, ToldAtPaths}
 use Rattle.wt_called_edit_laws.specs.CalledContents.{tree_round}
 use Rattle.wt_called_edit_laws.specs.CalledPages.{IsCalledPage}
@@ -24,7 +35,7 @@ use Rattle.wt_called_edit_laws.specs.ToldLines.{lined}
 use Rattle.wt_called_edit_laws.proofs.AllTold.Complete.{all_blocks}
 use Rattle.wt_called_edit_laws.proofs.Among.LinedParts.{lined_whole, lined_editable}
 use Rattle.wt_called_edit_laws.proofs.Among.ToldAmong.{told_among}
-use Rattle.wt_called_edit_laws.proofs.Beside.Making.{IsSettledIn, block_kind, block_opening, block_closing}
+use Rattle.wt_called_edit_laws.proofs.Beside.Making.{IsSettledIn, block_kind}
 use Rattle.wt_called_edit_laws.proofs.BlocksOutside.{editable_called}
 use Rattle.wt_called_edit_laws.proofs.EditFacts.{spots_contents}
 use Rattle.wt_inside_laws.specs.AsSent.{node_at}
@@ -62,6 +73,18 @@ sides_in : (pages : Pages) (k : TextBlock) (q : List ℕ) → IsContentIn pages 
 sides_in pages a_paragraph q c = tt
 sides_in pages (a_heading s) q c = let items = c.is 0 in items.sides
 
+opening_in : (pages : Pages) (k : TextBlock) (q : List ℕ) (t : Tree) → IsSettledIn pages k q t → (label t).opening ≡ sources (open_items k)
+opening_in pages a_paragraph q t i = ap (λ (u : Tree). (label u).opening) i.is
+opening_in pages (a_heading s) q t i =
+    ap (λ (u : Tree). (label u).opening) i.is ∙ text_own i.calls None (page_chars (opening s)) (chars_of_page (opening s))
+
+closing_in : (pages : Pages) (k : TextBlock) (q : List ℕ) (t : Tree) → IsSettledIn pages k q t → (label t).closing ≡ sources (close_items k)
+closing_in pages a_paragraph q t i = ap (λ (u : Tree). (label u).closing) i.is
+closing_in pages (a_heading s) q t i =
+    let inside : List Item = held_by_all (forest (children (line_parts (part_items pages i.before q)))) in
+    ap (λ (u : Tree). (label u).closing) i.is
+    ∙ text_own i.calls (last_of (last_of None (page_chars (opening s))) inside) (closing_items s) (closing_page s)
+
 of_page : (pages : Pages) (page : List ℕ) (k : TextBlock) (q : List ℕ) (t : Tree) → IsBlockOf pages page k q t → IsToldBy k q t
 of_page pages page k q t b =
     let there : IsSettledIn pages k q t = record {
@@ -74,8 +97,8 @@ of_page pages page k q t b =
     } in
     record {
       kind = block_kind pages k q t there;
-      opening = block_opening pages k q t there;
-      closing = block_closing pages k q t there;
+      opening = opening_in pages k q t there;
+      closing = closing_in pages k q t there;
       source =
           ap flat b.settled.is
           ∙ settled_source b.settled.number b.settled.at
