@@ -68,5 +68,6 @@ pub mod PageCases
 pub mod LocalCases
 pub mod EditCases
 pub mod CallingCases
+mod WithCallsCases
 pub mod Sources
 pub mod Meeting
