@@ -13,6 +13,8 @@ pub mod Whole
 pub mod Headings
 pub mod Making
 pub mod Apart
+pub mod NodeThings
+pub mod BlockNodes
 pub mod Cases
 mod PageCases
 pub mod InsideCases
