@@ -67,3 +67,5 @@ pub mod EditCases
 pub mod CallingCases
 pub mod Sources
 pub mod Meeting
+pub mod NodeNumbers
+pub mod NodeBlocks

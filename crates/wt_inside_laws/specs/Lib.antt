@@ -20,3 +20,4 @@ pub mod TextAndCallBlocks
 pub mod LocalTextEdits
 pub mod TypedApart
 pub mod TypedBeside
+pub mod NodeBlocks
