@@ -1,5 +1,6 @@
 -- A paragraph or heading of the page that holds calls, by the nodes of the page's tree: texts, calls and other nodes, and bold and italic round such.
-use Rattle.std.specs.Prelude.{◌≡◌, ◌⊎◌, ℕ, true, false, List, [], ◌∷◌, ◌++◌}
+use Rattle.std.specs.Prelude.{◌≡◌, ◌⊎◌, ◌==◌, ℕ, Bool, true, false, List, [], ◌∷◌, ◌++◌}
+use Rattle.std.specs.List.{list_any}
 use Rattle.std.specs.Str.{IsUtf8}
 use Rattle.wt_tree.specs.EditShapes.{edit_shape}
 use Rattle.wt_tree.specs.Plain.{Plains, face, plain_before}
@@ -9,6 +10,8 @@ use Rattle.wt_tree.specs.Tree.{Label, Tree, Trees, label, more, none, tree}
 use Rattle.wt_tree.specs.declared.edit_shape.InlineForm.{InlineForm}
 use Rattle.wt_tree.specs.declared.edit_shape.InlineForm.TheVariants as inline
 use Rattle.wt_span.specs.declared.form.Mode.TheVariants.{Page}
+use Rattle.wt_span.specs.Bytes.{is_break}
+use Rattle.wt_span.specs.Characters as byte
 use Rattle.wt_span.specs.Lexemes.{words}
 use Rattle.wt_lines.specs.Lines.{IsUnbroken}
 use Rattle.wt_guards.specs.Content.{Thing}
@@ -23,11 +26,11 @@ use Rattle.wt_expand.specs.PageItems.{page_items}
 use Rattle.wt_expand.specs.Work.{Pages}
 use Rattle.wt_part_laws.specs.Apart.{AreMet}
 use Rattle.wt_text_edit_laws.specs.NoCalls.{AreUnbraced}
+use Rattle.wt_text_edit_laws.specs.TextBetween.{EndsBy, HasEnds}
 use Rattle.wt_beside_laws.specs.Called.{AreSomeOfPage, GivesGroup}
 use Rattle.wt_beside_laws.specs.Cuts.{own_glyphs}
 use Rattle.wt_beside_laws.specs.EndedNodes.{IsEndedSource}
 use Rattle.wt_beside_laws.specs.Flat.{IsFlat}
-use Rattle.wt_beside_laws.specs.FlatBlocks.{IsSealed}
 use Rattle.wt_beside_laws.specs.NodeItems.{node_items}
 use Rattle.wt_beside_laws.specs.Nodes.{IsNode, OpensNoPair}
 use Rattle.wt_beside_laws.specs.SentStyled.{AllNest, style_face}
@@ -38,7 +41,7 @@ use Rattle.wt_called_edit_laws.specs.InPieces.{pieces_source}
 use Rattle.wt_called_edit_laws.specs.PageThings.{AllMeetLater}
 use Rattle.wt_called_edit_laws.specs.StyledCallEdits.{GivesUnquoted, PlainGroups}
 use Rattle.wt_called_edit_laws.specs.WholeContents.{AreShutParts}
-use Rattle.wt_called_edit_laws.specs.Written.{BeginsOutward, EndsOutward, IsCallSource, IsOwnPart}
+use Rattle.wt_called_edit_laws.specs.Written.{BeginsOutward, EndsOutward, IsOwnPart}
 
 -- ---- its pieces, in order
 
@@ -108,14 +111,23 @@ abbrev mutual
 
 -- ---- what each is to its neighbours
 
--- One call: where it is it gives what a group may give. What begins in it ends in it, and no two braces are left in it. A call that shows `//` gives no
+abbrev pub is_closing : ℕ → Bool
+is_closing b = b == byte.closing_brace
+
+-- It begins with a `{`, ends with a `}`, and is on one line; each comment, tag of an extension, `<nowiki>` and `<includeonly>` that begins in it ends in it.
+pub record IsEndedCall (source : List ℕ) : Type 0 where
+  pub others : List ℕ
+  pub is : source ≡ byte.opening_brace ∷ others
+  pub last : EndsBy is_closing source
+  pub ends : HasEnds source
+  pub one_line : list_any is_break source ≡ false
+
+-- One call: where it is it gives what a group may give, and by itself it is a part of the page: no two braces are left in it. One that shows `//` gives no
 -- apostrophe last.
 pub record IsOneCall (pages : Pages) (g : Transclusion) (source : List ℕ) : Type 0 where
   pub gives : GivesGroup pages g source
-  pub call : IsCallSource source
-  pub ends : EndsOutward source
+  pub ended : IsEndedCall source
   pub part : IsOwnPart pages source
-  pub sealed : IsSealed source
   pub unquoted : GivesUnquoted pages (Group g) source
   pub utf8 : IsUtf8 source
 

@@ -25,6 +25,7 @@ use Rattle.wt_beside_laws.specs.NodeItems.{node_items}
 use Rattle.wt_beside_laws.specs.Nodes.{IsNode}
 use Rattle.wt_beside_laws.specs.PageSigns.{ends_break}
 use Rattle.wt_beside_laws.specs.StyledNodes.{EndsUnquoted}
+use Rattle.wt_called_edit_laws.proofs.Styles.CallSources.{call_outward, call_sealed, call_source}
 use Rattle.wt_called_edit_laws.proofs.Written.Joined.{calm_written}
 use Rattle.wt_called_edit_laws.proofs.Written.Levels.{held_same}
 use Rattle.wt_called_edit_laws.specs.BlockNodes.{AreOnes, IsOneBy, IsOneCall, IsOneNode, IsUnbraced}
@@ -135,9 +136,13 @@ call_thing pages t g e h shut =
     record {
       of_page = record {
         folder = subst (λ (r : Role). IsOfFolder r pages t) (sym e) h.gives;
-        read = record { source = inr (h.call, line); begins = begins_call t.source h.call.others h.call.is; ends = h.ends };
+        read = record {
+          source = inr (call_source t.source h.ended shut, line);
+          begins = begins_call t.source h.ended.others h.ended.is;
+          ends = call_outward t.source h.ended.last;
+        };
         part = h.part;
-        sealed = h.sealed;
+        sealed = call_sealed t.source h.ended.last;
         shut = (shut, λ z. let no : true ≡ false = sym grouped ∙ z in absurd (cc));
         utf8 = h.utf8;
       };
