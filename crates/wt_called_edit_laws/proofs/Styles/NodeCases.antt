@@ -143,31 +143,26 @@ pieces_are = refl
 met_here : ArePiecesMet pieces
 unfolding words closed form_at comment_len comment_line_len raw_len opening_tag tag_after closing_tag with_inside include_at entity_at named_entity
     decimal_entity hex_entity entity_names sign_word
-met_here = (
-  inr (record {
-    before = [];
-    first = 3;
-    second = 1;
-    after = (Opens, 2) ∷ (Chars, 1) ∷ (Closes, 2) ∷ (Chars, 4) ∷ (LinkOpen, 2) ∷ (Chars, 1) ∷ (LinkClose, 2) ∷ [];
-    vs_are = refl;
-    ws_are = refl;
-    both_are = refl;
-  }),
-  inl refl,
-  inl refl,
-  inr (record {
-    before = [];
-    first = 3;
-    second = 1;
-    after = (LinkOpen, 2) ∷ (Chars, 1) ∷ (LinkClose, 2) ∷ [];
-    vs_are = refl;
-    ws_are = refl;
-    both_are = refl;
-  }),
-  inl refl,
-  inl refl,
-  tt,
-)
+met_here =
+    let first : AreMet (words Page (codes "'''")) (words Page (codes "x{{t}}''' [[b]]")) (words Page (codes "'''x{{t}}''' [[b]]")) = inr (record {
+      before = [];
+      first = 3;
+      second = 1;
+      after = (Opens, 2) ∷ (Chars, 1) ∷ (Closes, 2) ∷ (Chars, 4) ∷ (LinkOpen, 2) ∷ (Chars, 1) ∷ (LinkClose, 2) ∷ [];
+      vs_are = refl;
+      ws_are = refl;
+      both_are = refl;
+    }) in
+    let fourth : AreMet (words Page (codes "'''")) (words Page (codes " [[b]]")) (words Page (codes "''' [[b]]")) = inr (record {
+      before = [];
+      first = 3;
+      second = 1;
+      after = (LinkOpen, 2) ∷ (Chars, 1) ∷ (LinkClose, 2) ∷ [];
+      vs_are = refl;
+      ws_are = refl;
+      both_are = refl;
+    }) in
+    (first, (inl refl, (inl refl, (fourth, (inl refl, (inl refl, tt))))))
 
 -- ---- texts
 
@@ -307,7 +302,7 @@ link_shows = record {
 -- ---- the block
 
 ones : AreOnes a_word (call ∷ link ∷ [])
-ones = (gives_call, a_node, tt)
+ones = (gives_call, (a_node, tt))
 
 -- the link isn't beside the call
 meet_here : AllMeetLater a_word (call ∷ link ∷ [])
