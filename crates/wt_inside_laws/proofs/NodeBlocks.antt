@@ -1,5 +1,5 @@
 -- Texts may be typed beside the calls of a block, by the nodes of the page's tree.
-use Rattle.std.proofs.Common.{◌≡◌, ℕ, false, List, sym, ap, ◌∙◌, subst, inr}
+use Rattle.std.proofs.Common.{◌≡◌, ℕ, false, List, sym, ap, ◌∙◌, inr}
 use Rattle.wt_tree.specs.declared.kind.Kind.TheVariants as kind
 use Rattle.wt_tree.specs.Source.{flat}
 use Rattle.wt_tree.specs.Tree.{Tree, Trees, label}
@@ -25,7 +25,7 @@ use Rattle.wt_called_edit_laws.proofs.SettledNodes.{settled_gone}
 use Rattle.wt_called_edit_laws.proofs.Styles.BlockNodes.{nodes_beside}
 use Rattle.wt_called_edit_laws.proofs.Told.FreeNodes.{tree_shut}
 use Rattle.wt_called_edit_laws.proofs.Whole.TextAndCalls.{same_nodes}
-use Rattle.wt_inside_laws.specs.BesideEdits.{IsBlockOf, IsBesideBlock}
+use Rattle.wt_inside_laws.specs.BesideEdits.{IsBesideBlock}
 use Rattle.wt_inside_laws.specs.NodeBlocks.{IsNodeBlock}
 use Rattle.wt_inside_laws.specs.TextEdits.{IsRetyped}
 use Rattle.wt_inside_laws.proofs.NodeNumbers.{nodes_numbered}

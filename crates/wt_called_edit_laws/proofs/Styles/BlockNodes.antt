@@ -1,19 +1,19 @@
 -- A block of the page by the nodes of its tree: it is in pieces, and beside its calls, in bold and italic, too, texts may be typed.
-use Rattle.std.proofs.Common.{◌≡◌, inl, inr, ℕ, Bool, true, false, Option, Some, List, [], ◌∷◌, ◌++◌, append-nil, append_assoc, ap, ap₂, refl, subst, sym, ◌∙◌}
+use Rattle.std.proofs.Common.{◌≡◌, inl, inr, ℕ, Bool, true, false, Option, List, [], ◌∷◌, ◌++◌, append-nil, append_assoc, ap, ap₂, refl, subst, sym, ◌∙◌}
 use Rattle.std.specs.Prelude.{◌||◌, if◌then◌else◌}
 use Rattle.std.proofs.lemmas.List.{append_cancel_left, append_cancel_right}
 use Rattle.wt_tree.specs.EditShapes.{edit_shape}
 use Rattle.wt_tree.specs.Kinds.{is_leaf}
 use Rattle.wt_tree.specs.Source.{flat, flat_of_all}
 use Rattle.wt_tree.specs.Tiling.{HasNoGroup, is_group}
-use Rattle.wt_tree.specs.Tree.{Label, Tree, Trees, label, more, none, tree}
+use Rattle.wt_tree.specs.Tree.{Label, Tree, Trees, more, none, tree}
 use Rattle.wt_tree.specs.declared.edit_shape.InlineForm.{InlineForm}
 use Rattle.wt_tree.specs.declared.edit_shape.InlineForm.TheVariants as inline
 use Rattle.wt_tree.specs.declared.kind.Kind.{Kind}
 use Rattle.wt_tree.specs.declared.kind.Kind.TheVariants as kind
 use Rattle.wt_span.specs.Items.{Item, sources}
 use Rattle.wt_guards.specs.Content.{Thing}
-use Rattle.wt_original.specs.Kept.{Kept, kept_nodes, kept_with}
+use Rattle.wt_original.specs.Kept.{Kept, kept_nodes}
 use Rattle.wt_original.specs.Numbers.{counts_up}
 use Rattle.wt_difference.specs.Insides.{is_block_part}
 use Rattle.wt_isolation.specs.OpenTags.{any_ends_open, ends_open, node_ends_open, open_by}
@@ -43,7 +43,6 @@ use Rattle.wt_called_edit_laws.specs.CalledEdits.{FitsRound, IsChildBeside, page
 use Rattle.wt_called_edit_laws.specs.FoundGroups.{IsFoundAs}
 use Rattle.wt_called_edit_laws.specs.InPieces.{AreInPieces, pieces_source}
 use Rattle.wt_called_edit_laws.specs.PageThings.{ArePageThings, thing_sources}
-use Rattle.wt_called_edit_laws.specs.Settled.{settled}
 use Rattle.wt_called_edit_laws.specs.StyledCallEdits.{AreNodesBeside, HaveNumbers, IsBesideBy, IsBesideStyles, IsNodeBeside}
 use Rattle.wt_called_edit_laws.specs.Written.{IsOwnPart}
 use Rattle.wt_called_edit_laws.specs.WrittenAnew.{StayButForOthers}

@@ -1,8 +1,8 @@
 -- A call on one line that ends what it begins is read the same whatever is behind it, unless a `}` begins that.
-use Rattle.std.proofs.Common.{arith, ◌≡◌, ◌⊎◌, inl, inr, ℕ, zero, suc, ◌+◌, ◌<◌, ◌≤◌, ◌==◌, Bool, true, false, Option, Some, None, List, [], ◌∷◌, ◌++◌, length, get_or, refl, sym, ap, ◌∙◌, subst}
+use Rattle.std.proofs.Common.{arith, ◌≡◌, ◌⊎◌, inl, inr, ℕ, zero, suc, ◌+◌, ◌≤◌, ◌==◌, Bool, true, false, Option, Some, None, List, [], ◌∷◌, ◌++◌, length, get_or, refl, sym, ap, ◌∙◌, subst}
 use Rattle.std.specs.Prelude.{◌&&◌, ◌||◌, codes, if◌then◌else◌, nat_lt}
 use Rattle.std.specs.List.{list_all, list_any, prefix_len}
-use Rattle.std.specs.Option.{option_map, option_or}
+use Rattle.std.specs.Option.{option_or}
 use Rattle.std.proofs.lemmas.Bool.{cases_lt, eqb-true}
 use Rattle.std.proofs.lemmas.List.Sums.{prefix_len_passes}
 use Rattle.wt_span.specs.declared.form.LexKind.{LexKind}
@@ -13,13 +13,12 @@ use Rattle.wt_span.specs.Comments.{comment_len}
 use Rattle.wt_span.specs.Entities.{entity_at}
 use Rattle.wt_span.specs.Lexemes.{Word, as_word, entity_word, form_at, run_at, sign_at, sign_word}
 use Rattle.wt_span.specs.Tags.{Tag, closing_include, closing_tag, hidden_len, hides, include_at, is_left_out, opening_include, opening_tag, raw_len}
-use Rattle.wt_lex.proofs.AllForms.{form_fits}
 use Rattle.wt_isolation.specs.OpenTags.{ends_open}
 use Rattle.wt_part_laws.proofs.LexemeFronts.{lexemes_front}
 use Rattle.wt_part_laws.specs.Lexer.{lexer}
 use Rattle.wt_part_laws.specs.Scans.{AtStarts, IsFrontOf, Settles, skipped_by}
 use Rattle.wt_text_edit_laws.specs.ReadContents.{BeginsUnclosed}
-use Rattle.wt_text_edit_laws.specs.TextBetween.{EndsBy, HasEnds, ends_here}
+use Rattle.wt_text_edit_laws.specs.TextBetween.{EndsBy, ends_here}
 use Rattle.wt_beside_laws.proofs.Made.Sealed.{ends_sealed, stops}
 use Rattle.wt_beside_laws.proofs.Own.Crossing.{EndsBySign, IsSignKind, Settled, lexeme_ends, settled_rest, tags_shut}
 use Rattle.wt_beside_laws.proofs.Own.Stops.{ends_stop}

@@ -1,14 +1,13 @@
 -- Worked case: the nodes of the page's paragraph `'''x{{t}}''' [[b]]`, where `Template:T` is a word: a call in bold, and a link.
-use Rattle.std.proofs.Common.{◌≡◌, ◌<◌, inl, inr, ℕ, zero, suc, false, Some, None, List, [], ◌∷◌, arith, refl, sym, ap, ◌∙◌, subst}
+use Rattle.std.proofs.Common.{◌≡◌, inl, inr, ℕ, zero, suc, false, Some, None, List, [], ◌∷◌, refl, sym, ap, ◌∙◌, subst}
 use Rattle.std.specs.Prelude.{codes, map}
 use Rattle.std.specs.Str.{is_utf8, chars, IsUtf8}
 use Rattle.std.specs.Str.Lossy.{utf8_valid_len}
 use lib.Utf8.{encode}
 use Rattle.wt_span.specs.Comments.{comment_len, comment_line_len}
 use Rattle.wt_span.specs.Entities.{entity_at, named_entity, decimal_entity, hex_entity, entity_names}
-use Rattle.wt_span.specs.Tags.{raw_len, opening_tag, tag_after, closing_tag, with_inside, is_extension, include_at}
+use Rattle.wt_span.specs.Tags.{raw_len, opening_tag, tag_after, closing_tag, with_inside, include_at}
 use Rattle.wt_span.specs.Lexemes.{words, closed, sign_word, form_at}
-use Rattle.wt_span.specs.Braces.{rewritten, reduced, parts_of}
 use Rattle.wt_span.specs.Items.{Item, char}
 use Rattle.wt_span.specs.Origins.{OuterCall}
 use Rattle.wt_names.specs.Good.{is_forbidden, is_allowed, has_signature, is_step, begins_with_step, holds_step, ends_with_step, is_good, read_text}
@@ -19,14 +18,9 @@ use Rattle.wt_tree.specs.declared.kind.Kind.TheVariants as kind
 use Rattle.wt_tree.specs.declared.kind.Mark.TheVariants as marks
 use Rattle.wt_tree.specs.Plain.{Plains, plain_before, text_before}
 use Rattle.wt_tree.specs.Source.{flat}
-use Rattle.wt_tree.specs.Tree.{Label, Tree, Trees, label, more, none, tree}
+use Rattle.wt_tree.specs.Tree.{Label, Tree, Trees, more, none, tree}
 use Rattle.wt_original.specs.Kept.{kept_with}
 use Rattle.wt_expand.specs.PageItems.{page_items}
-use Rattle.wt_expand.specs.PageCalls.{page_stretches, expanded_page}
-use Rattle.wt_expand.specs.Texts.{trimmed, trimmed_items, name_text}
-use Rattle.wt_expand.specs.Targets.{title_in_target, title_of_target, is_function, called}
-use Rattle.wt_expand.specs.Templates.{begins_only, ends_only, template_text}
-use Rattle.wt_expand.specs.Expansion.{text_members, most_templates, absent_text, loop_text, depth_text}
 use Rattle.wt_annotated.specs.CutTexts.{cut_texts}
 use Rattle.wt_lines.specs.Lines.{lines}
 use Rattle.wt_inline.specs.Parts.{children}
@@ -36,7 +30,7 @@ use Rattle.wt_tiles.specs.Links.{link_at}
 use Rattle.wt_tiles.specs.Urls.{scheme_len, ext_link_at, bare_url_at}
 use Rattle.wt_context.specs.Chunks.{chunks}
 use Rattle.wt_context.specs.Line.{context_parts, line_parts}
-use Rattle.wt_context.specs.Nodes.{segments}
+use Rattle.wt_context.specs.Nodes.{nested_tree, segments}
 use Rattle.wt_context.specs.Segments.{loose_segments}
 use Rattle.wt_context.specs.Styled.{with_styles}
 use Rattle.wt_annotated.specs.Labels.{label_at}
@@ -50,14 +44,12 @@ use Rattle.wt_part_laws.specs.Expanded.{part_items}
 use Rattle.wt_part_laws.specs.HeldCalls.{block_in}
 use Rattle.wt_text_edit_laws.specs.NoCalls.{AreUnbraced}
 use Rattle.wt_text_edit_laws.specs.ParagraphParts.{joined_parts, para_with}
-use Rattle.wt_text_edit_laws.specs.TextBlocks.{a_paragraph}
 use Rattle.wt_beside_laws.proofs.Groups.Cases.{a_word, beside_letters, gives_b, gives_char}
 use Rattle.wt_beside_laws.specs.Shown.{parts_shown_at}
 use Rattle.wt_beside_laws.specs.StyledCalls.{AreUnstyledParts}
 use Rattle.wt_called_edit_laws.specs.Settled.{settled}
 use Rattle.wt_called_edit_laws.proofs.Beside.Cases.{shows_word}
 use Rattle.wt_guards.specs.declared.role.Role.TheVariants.{Link}
-use Rattle.wt_guards.specs.declared.role.Role.{Role}
 use Rattle.wt_link_spelling.specs.Spelling.{children_of}
 use Rattle.wt_span.specs.declared.form.LexKind.TheVariants.{Chars, Closes, LinkClose, LinkOpen, Opens}
 use Rattle.wt_span.specs.declared.form.Mode.TheVariants.{Page}
