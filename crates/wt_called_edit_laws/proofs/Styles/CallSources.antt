@@ -17,6 +17,7 @@ use Rattle.wt_isolation.specs.OpenTags.{ends_open}
 use Rattle.wt_part_laws.proofs.LexemeFronts.{lexemes_front}
 use Rattle.wt_part_laws.specs.Lexer.{lexer}
 use Rattle.wt_part_laws.specs.Scans.{AtStarts, IsFrontOf, Settles, skipped_by}
+use Rattle.wt_text_edit_laws.proofs.Between.LineWords.{word_before}
 use Rattle.wt_text_edit_laws.specs.ReadContents.{BeginsUnclosed}
 use Rattle.wt_text_edit_laws.specs.TextBetween.{EndsBy, ends_here}
 use Rattle.wt_beside_laws.proofs.Made.Sealed.{ends_sealed, stops}
@@ -58,7 +59,7 @@ not_all b (c ∷ cs) h = no_all (is_reference_byte b) (list_all is_reference_byt
 no_reference : (b : ℕ) (bs : List ℕ) → EndsBy is_closing (b ∷ bs) → (b == 38) ≡ true
     → (list_all is_reference_byte bs ≡ false) ⊎ (may_be_reference (b ∷ bs) ≡ false)
 no_reference b [] h e =
-    let no : (125 == 38) ≡ true = subst (λ (k : ℕ). (k == 38) ≡ true) (closing_is b h) e in absurd (cc)
+    let no : false ≡ true = subst (λ (k : ℕ). (k == 38) ≡ true) (closing_is b h) e in absurd (cc)
 no_reference b (c ∷ cs) h e = inl (not_all c cs h)
 
 references_end : (bs : List ℕ) → EndsBy is_closing bs → ReferencesEnd bs
@@ -103,34 +104,24 @@ if_fits : (k : ℕ) (t : Bool) (kind : LexKind) (n : ℕ) → (t ≡ true → n 
 if_fits k true kind n f = f refl
 if_fits k false kind n f = tt
 
-brackets_in : (x b : ℕ) (q rest : List ℕ) → EndsBy is_closing (b ∷ q) → (125 == x) ≡ false → begins (x ∷ x ∷ []) (b ∷ (q ++ rest)) ≡ true → 2 ≤ length q + 1
-brackets_in x b [] rest h d e = absurd (
-  let first : (b == x) ≡ true = first_is e in
-  let no : (125 == x) ≡ true = subst (λ (k : ℕ). (k == x) ≡ true) (closing_is b h) first in
-  let both : true ≡ false = sym no ∙ d in cc)
-  where
-    first_is : begins (x ∷ x ∷ []) (b ∷ rest) ≡ true → (b == x) ≡ true
-    first_is f = by (b == x) f
-      where
-        by : (v : Bool) → (v && begins (x ∷ []) rest) ≡ true → v ≡ true
-        by true g = refl
-        by false g = g
-brackets_in x b (c ∷ cs) rest h d e = omega arith
-
 sign_fits : (b : ℕ) (q rest : List ℕ) → EndsBy is_closing (b ∷ q) → BeginsUnclosed rest → FitsIn (length q) (sign_word (b ∷ (q ++ rest)))
 unfolding sign_word
 sign_fits b q rest h u =
     let bs : List ℕ = b ∷ (q ++ rest) in
     let k : ℕ = length q in
     let opens : prefix_len (λ x. x == 123) bs ≤ k = run_short (λ x. x == 123) bs k (ap (λ (x : ℕ). x == 123) (last_at b q rest h)) in
+    let last : is_closing (get_or bs k 0) ≡ true = ap is_closing (last_at b q rest h) in
     let closes : prefix_len (λ x. x == 125) bs ≤ suc k =
     run_short (λ x. x == 125) bs (suc k) (ap (λ (x : ℕ). x == 125) (behind_at b q rest) ∙ unclosed_at rest u) in
     or_fits k (run_at lex.Opens 123 bs) _ (if_fits k (nat_lt 1 (prefix_len (λ x. x == 123) bs)) lex.Opens (prefix_len (λ x. x == 123) bs) (λ z. omega (arith, opens)))
     (or_fits k (run_at lex.Closes 125 bs) _ (if_fits k (nat_lt 1 (prefix_len (λ x. x == 125) bs)) lex.Closes (prefix_len (λ x. x == 125) bs) (λ z. omega (arith, closes)))
-    (or_fits k (sign_at lex.LinkOpen (codes "[[") 2 bs) _ (if_fits k (begins (codes "[[") bs) lex.LinkOpen 2 (λ z. brackets_in 91 b q rest h refl z))
-    (or_fits k (sign_at lex.LinkClose (codes "]]") 2 bs) _ (if_fits k (begins (codes "]]") bs) lex.LinkClose 2 (λ z. brackets_in 93 b q rest h refl z))
+    (or_fits k (sign_at lex.LinkOpen (codes "[[") 2 bs) _ (if_fits k (begins (codes "[[") bs) lex.LinkOpen 2 (λ z. two (word_before is_closing (codes "[[") bs k z refl last)))
+    (or_fits k (sign_at lex.LinkClose (codes "]]") 2 bs) _ (if_fits k (begins (codes "]]") bs) lex.LinkClose 2 (λ z. two (word_before is_closing (codes "]]") bs k z refl last)))
     (or_fits k (sign_at lex.Pipe (codes "|") 1 bs) (sign_at lex.Equals (codes "=") 1 bs) (if_fits k (begins (codes "|") bs) lex.Pipe 1 (λ z. omega arith))
     (if_fits k (begins (codes "=") bs) lex.Equals 1 (λ z. omega arith))))))
+  where
+    two : 2 ≤ length q → 2 ≤ length q + 1
+    two le = omega (arith, le)
 
 -- ---- a lexeme that is a sign is one by its bytes
 
