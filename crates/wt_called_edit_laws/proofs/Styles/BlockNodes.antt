@@ -87,7 +87,8 @@ style_flat : (l : Label) (ts : Trees) (bs : List (List ℕ)) → is_leaf l.kind 
 style_flat l ts bs leaf e =
     ap (λ (q : List ℕ). l.opening ++ q)
     (pieces_both bs (l.closing ∷ []) ∙ ap₂ (λ (x y : List ℕ). x ++ y) e (append-nil l.closing))
-    ∙ sym (ap (λ (v : Bool). if v then l.own else (l.opening ++ (flat_of_all ts ++ l.closing))) leaf)
+    ∙ sym (append_assoc l.opening (flat_of_all ts) l.closing)
+    ∙ sym (ap (λ (v : Bool). if v then l.own else ((l.opening ++ flat_of_all ts) ++ l.closing)) leaf)
 
 one_flat : (w : InlineForm) (l : Label) (ts : Trees) (bs : List (List ℕ)) → (edit_shape l.kind).inline ≡ w → pieces_source bs ≡ flat_of_all ts
     → pieces_source (pieces_by w l (flat (tree l ts)) bs) ≡ flat (tree l ts)
@@ -119,7 +120,7 @@ content_is pages k q (tree l ts) i e =
     let behind : List ℕ = sources (close_items k) in
     let leaf : is_leaf l.kind ≡ false = ap is_leaf (block_kind pages k q (tree l ts) i) ∙ no_leaf k in
     let is : flat (tree l ts) ≡ l.opening ++ (flat_of_all ts ++ l.closing) =
-    ap (λ (v : Bool). if v then l.own else (l.opening ++ (flat_of_all ts ++ l.closing))) leaf in
+    ap (λ (v : Bool). if v then l.own else ((l.opening ++ flat_of_all ts) ++ l.closing)) leaf ∙ append_assoc l.opening (flat_of_all ts) l.closing in
     let both : front ++ (q ++ behind) ≡ front ++ (flat_of_all ts ++ behind) =
     framed k q ∙ e ∙ is
     ∙ ap₂ (λ (x y : List ℕ). x ++ (flat_of_all ts ++ y)) (block_opening pages k q (tree l ts) i) (block_closing pages k q (tree l ts) i) in

@@ -137,7 +137,7 @@ past (Some (k, m)) b kind n d s e = absurd (d (subst IsSignKind (sym (same e)) s
     first j None = j
     first j (Some w) = w.0
 
-    same : Some (k, m) ≡ Some (kind, n) → k ≡ kind
+    same : ◌≡◌ {A = Option Word} (Some (k, m)) (Some (kind, n)) → k ≡ kind
     same f = ap (first k) f
 
 no_word : (kind : LexKind) (o : Option ℕ) → (IsSignKind kind → ⊥) → IsNoSign (as_word kind o)
