@@ -29,13 +29,19 @@ pub mod Alone
 pub mod OneNode
 pub mod ClosedBlocks
 pub mod NodeTexts
+pub mod NoPairs
 pub mod Complete
 pub mod AllAlone
 pub mod CallingStarts
 pub mod OnLines
 pub mod CalmPages
+pub mod CalmCalls
 pub mod BlockBytes
 pub mod CallingBytes
+pub mod NodeLines
+pub mod OnTold
+pub mod OwnBytes
+pub mod KnownLines
 pub mod CallingTogether
 pub mod CallingCases
 mod EndCases

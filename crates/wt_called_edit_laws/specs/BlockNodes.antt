@@ -29,10 +29,10 @@ use Rattle.wt_text_edit_laws.specs.NoCalls.{AreUnbraced}
 use Rattle.wt_text_edit_laws.specs.TextBetween.{EndsBy, HasEnds}
 use Rattle.wt_beside_laws.specs.Called.{AreSomeOfPage, GivesGroup}
 use Rattle.wt_beside_laws.specs.Cuts.{own_glyphs}
-use Rattle.wt_beside_laws.specs.EndedNodes.{IsEndedSource}
 use Rattle.wt_beside_laws.specs.Flat.{IsFlat}
 use Rattle.wt_beside_laws.specs.NodeItems.{node_items}
 use Rattle.wt_beside_laws.specs.Nodes.{IsNode, OpensNoPair}
+use Rattle.wt_beside_laws.specs.References.{ReferencesEnd}
 use Rattle.wt_beside_laws.specs.SentStyled.{AllNest, style_face}
 use Rattle.wt_beside_laws.specs.Shown.{parts_shown_at}
 use Rattle.wt_beside_laws.specs.StyledNodes.{EndsUnquoted}
@@ -131,6 +131,18 @@ pub record IsOneCall (pages : Pages) (g : Transclusion) (source : List ℕ) : Ty
   pub unquoted : GivesUnquoted pages (Group g) source
   pub utf8 : IsUtf8 source
 
+-- a bare URL ends with no `&` and the first letters of an entity's name, or `&#`
+abbrev pub UrlEnds : Role → List ℕ → Type 0
+UrlEnds Link source = Unit {0}
+UrlEnds External source = Unit {0}
+UrlEnds (Bare ends) source = ReferencesEnd source
+UrlEnds Switch source = Unit {0}
+UrlEnds Toggle source = Unit {0}
+UrlEnds (Mark ends began) source = Unit {0}
+UrlEnds (Group g) source = Unit {0}
+UrlEnds Function source = Unit {0}
+UrlEnds Node source = Unit {0}
+
 -- A node of the page on one line that calls nothing, by its source alone: what begins in it ends in it, it is no tag that opens a pair without a closing
 -- tag, no node in it is empty, no brace is in it, and a mark is within its line. A bare URL ends with no apostrophe.
 pub record IsOneNode (t : Thing) : Type 0 where
@@ -141,7 +153,8 @@ pub record IsOneNode (t : Thing) : Type 0 where
   pub unbroken : IsUnbroken (node_items t.source)
   pub own : AreSomeOfPage (line_parts (node_items t.source))
   pub shut : AreShutParts (line_parts (node_items t.source))
-  pub ended : IsEndedSource t.source
+  pub ended : HasEnds t.source
+  pub references : UrlEnds t.role t.source
   pub unbraced : IsUnbraced t.source
   pub begins : BeginsOutward t.source
   pub ends : EndsOutward t.source

@@ -23,8 +23,8 @@ use Rattle.wt_text_edit_laws.specs.TextBetween.{EndsBy, ends_here}
 use Rattle.wt_beside_laws.proofs.Made.Sealed.{ends_sealed, stops}
 use Rattle.wt_beside_laws.proofs.Own.Crossing.{EndsBySign, IsSignKind, Settled, lexeme_ends, settled_rest, tags_shut}
 use Rattle.wt_beside_laws.proofs.Own.Stops.{ends_stop}
-use Rattle.wt_beside_laws.specs.EndedNodes.{ReferencesEnd, is_reference_byte, may_be_reference}
 use Rattle.wt_beside_laws.specs.FlatBlocks.{IsSealed}
+use Rattle.wt_beside_laws.specs.References.{ReferencesEnd, is_reference_byte, may_be_reference}
 use Rattle.wt_called_edit_laws.specs.BlockNodes.{IsEndedCall, is_closing}
 use Rattle.wt_called_edit_laws.specs.Written.{EndsOutward, IsCallSource, is_outward}
 

@@ -61,7 +61,7 @@ use Rattle.wt_text_edit_laws.specs.LonePages.{page_chars}
 use Rattle.wt_beside_laws.proofs.Groups.GivenCases.{a_link}
 use Rattle.wt_beside_laws.proofs.OpenTags.{untagged_closed}
 use Rattle.wt_beside_laws.specs.Called.{AreSomeOfPage}
-use Rattle.wt_beside_laws.specs.EndedNodes.{IsEndedSource}
+use Rattle.wt_text_edit_laws.specs.TextBetween.{HasEnds}
 use Rattle.wt_beside_laws.specs.NodeItems.{node_items}
 use Rattle.wt_beside_laws.specs.Nodes.{IsNode, OpensNoPair}
 use Rattle.wt_called_edit_laws.specs.BlockNodes.{AreBlockNodes, AreOnes, ArePiecesMet, IsEndedCall, IsOfNodes, IsOneCall, IsOneNode, IsUnbraced, ShowsItself, all_node_pieces}
@@ -235,14 +235,10 @@ unfolding label_at children context_parts chunks segments loose_segments tiles s
     name_of image is_called namespace_named prefix_of full_name_of whole_in cut_namespace title_in utf8_valid_len is_utf8 chars encode link_to
 shut_link = ((λ e. (refl, (refl, ((refl, tt), tt)))), tt)
 
-ended_link : IsEndedSource (codes "[[b]]")
-unfolding node_items page_items words closed form_at comment_len comment_line_len raw_len opening_tag tag_after closing_tag with_inside include_at entity_at named_entity
+ended_link : HasEnds (codes "[[b]]")
+unfolding words closed form_at comment_len comment_line_len raw_len opening_tag tag_after closing_tag with_inside include_at entity_at named_entity
     decimal_entity hex_entity entity_names sign_word
-ended_link = record {
-  ends = (refl, (refl, (refl, refl)));
-  references = ((λ e. absurd (cc)), ((λ e. absurd (cc)), ((λ e. absurd (cc)), ((λ e. absurd (cc)), ((λ e. absurd (cc)), tt)))));
-  unpaired = refl;
-}
+ended_link = (refl, (refl, (refl, refl)))
 
 link_calm : IsUnbraced (codes "[[b]]")
 link_calm = subst (λ (xs : List Item). AreUnbraced xs) (sym items_of_link.1) (refl, (refl, (refl, (refl, (refl, tt)))))
@@ -261,6 +257,7 @@ a_node = record {
   own = subst (λ (xs : List Item). AreSomeOfPage (line_parts xs)) (sym items_of_link.0) own_link;
   shut = subst (λ (xs : List Item). AreShutParts (line_parts xs)) (sym items_of_link.0) shut_link;
   ended = ended_link;
+  references = tt;
   unbraced = link_calm;
   begins = refl;
   ends = refl;

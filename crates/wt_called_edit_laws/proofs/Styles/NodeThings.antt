@@ -1,8 +1,9 @@
 -- A call, or another node of a block, by its source: it is such as texts are typed beside.
-use Rattle.std.proofs.Common.{◌≡◌, inl, inr, ℕ, Bool, true, false, not, None, List, [], ◌∷◌, ap, refl, subst, sym, ◌∙◌}
+use Rattle.std.proofs.Common.{◌≡◌, ◌⊎◌, inl, inr, ℕ, Bool, true, false, not, None, List, [], ◌∷◌, ap, refl, subst, sym, ◌∙◌}
 use Rattle.std.specs.Prelude.{◌||◌, ◌==◌, map}
 use Rattle.wt_span.specs.Bytes.{is_break}
 use Rattle.wt_span.specs.Characters as byte
+use Rattle.wt_span.specs.Items.{Item, sources}
 use Rattle.wt_span.specs.Origins.{OuterCall}
 use Rattle.wt_tiles.specs.Glyphs.{glyph_of}
 use Rattle.wt_guards.specs.Content.{Thing, ends_line, is_group, thing}
@@ -11,23 +12,29 @@ use Rattle.wt_guards.specs.declared.role.Role.TheVariants.{Bare, External, Funct
 use Rattle.wt_guards.specs.declared.role.Transclusion.{Transclusion}
 use Rattle.wt_isolation.specs.OpenTags.{ends_open}
 use Rattle.wt_expand.specs.PageCalls.{expanded_page}
+use Rattle.wt_expand.specs.PageItems.{page_items}
 use Rattle.wt_expand.specs.Work.{Pages}
+use Rattle.wt_expand.proofs.PageLaws.{page_sources}
 use Rattle.wt_part_laws.specs.MovedCalls.{AreMoved}
+use Rattle.wt_text_edit_laws.specs.ReadContents.{BeginsUnjoined}
 use Rattle.wt_text_edit_laws.specs.TextBetween.{EndsBy}
 use Rattle.wt_beside_laws.proofs.FlatAgain.{no_break}
 use Rattle.wt_beside_laws.proofs.Made.NodesSealed.{nodes_sealed}
+use Rattle.wt_beside_laws.proofs.Marks.Shown.{read_node}
 use Rattle.wt_beside_laws.proofs.Own.Held.{node_held}
+use Rattle.wt_beside_laws.proofs.Own.References.{node_references}
 use Rattle.wt_beside_laws.specs.Called.{IsOfFolder, StaysAsItIs}
-use Rattle.wt_beside_laws.specs.Commented.{IsHeld}
+use Rattle.wt_beside_laws.specs.Commented.{IsHeld, IsReadInLine, LexemesEnd}
 use Rattle.wt_beside_laws.specs.FlatBlocks.{IsSealed}
 use Rattle.wt_beside_laws.specs.NodeItems.{node_items}
 use Rattle.wt_beside_laws.specs.Nodes.{IsNode}
 use Rattle.wt_beside_laws.specs.PageSigns.{ends_break}
+use Rattle.wt_beside_laws.specs.References.{ReferencesEnd}
 use Rattle.wt_beside_laws.specs.StyledNodes.{EndsUnquoted}
 use Rattle.wt_called_edit_laws.proofs.Styles.CallSources.{call_outward, call_sealed, call_source}
 use Rattle.wt_called_edit_laws.proofs.Written.Joined.{calm_written}
 use Rattle.wt_called_edit_laws.proofs.Written.Levels.{held_same}
-use Rattle.wt_called_edit_laws.specs.BlockNodes.{AreOnes, IsOneBy, IsOneCall, IsOneNode, IsUnbraced}
+use Rattle.wt_called_edit_laws.specs.BlockNodes.{AreOnes, IsOneBy, IsOneCall, IsOneNode, IsUnbraced, UrlEnds}
 use Rattle.wt_called_edit_laws.specs.PageThings.{AllMeetLater, ArePageThings, IsPageThing}
 use Rattle.wt_called_edit_laws.specs.StyledCallEdits.{AreOwnThings, GivesUnquoted, IsOwnThing}
 use Rattle.wt_called_edit_laws.specs.Written.{BeginsOutward, EndsOutward, IsHeldInLine, IsOwnPart, is_outward}
@@ -53,12 +60,34 @@ broken_last b [] e f =
     let no : true ≡ false = sym f ∙ g in cc
 broken_last b (c ∷ cs) e f = broken_last c cs e f
 
+only : (source : List ℕ) → ReferencesEnd source ⊎ BeginsUnjoined (97 ∷ []) → ReferencesEnd source
+only source (inl r) = r
+only source (inr u) = let no : true ≡ false = u in absurd (cc)
+
+-- no reference begins in it that goes on behind it
+references_of : (r : Role) (xs : List Item) → LexemesEnd xs → IsNode r (map glyph_of xs) → UrlEnds r (sources xs) → ReferencesEnd (sources xs)
+references_of Link xs l n u = only (sources xs) (node_references Link xs (97 ∷ []) [] l n tt tt)
+references_of External xs l n u = only (sources xs) (node_references External xs (97 ∷ []) [] l n tt tt)
+references_of (Bare ends) xs l n u = u
+references_of Switch xs l n u = only (sources xs) (node_references Switch xs (97 ∷ []) [] l n tt tt)
+references_of Toggle xs l n u = only (sources xs) (node_references Toggle xs (97 ∷ []) [] l n tt tt)
+references_of (Mark ends began) xs l n u = only (sources xs) (node_references (Mark ends began) xs (97 ∷ []) [] l n tt tt)
+references_of (Group g) xs l n u = absurd n
+references_of Function xs l n u = only (sources xs) (node_references Function xs (97 ∷ []) [] l n tt tt)
+references_of Node xs l n u = only (sources xs) (node_references Node xs (97 ∷ []) [] l n tt tt)
+
+references_in : (r : Role) (source : List ℕ) → IsReadInLine source → IsNode r (map glyph_of (node_items source)) → UrlEnds r source → ReferencesEnd source
+references_in r source h n u =
+    let own : IsNode r (map glyph_of (page_items source)) = subst (λ (xs : List Item). IsNode r (map glyph_of xs)) (read_node source h) n in
+    subst ReferencesEnd (page_sources source)
+    (references_of r (page_items source) h.ends own (subst (UrlEnds r) (sym (page_sources source)) u))
+
 -- it is no line of comments
-in_line : (source : List ℕ) → IsHeld source → EndsOutward source → IsHeldInLine source
-in_line source (inl k) e = inl k
-in_line source (inr (inl c)) e = inr (inl c)
-in_line source (inr (inr (inl l))) e = absurd (broken_last l.first l.others l.ends (subst EndsOutward l.is e))
-in_line source (inr (inr (inr r))) e = inr (inr r)
+in_line : (r : Role) (source : List ℕ) → IsHeld source → EndsOutward source → IsNode r (map glyph_of (node_items source)) → UrlEnds r source → IsHeldInLine source
+in_line r source (inl k) e n u = inl k
+in_line r source (inr (inl c)) e n u = inr (inl c)
+in_line r source (inr (inr (inl l))) e n u = absurd (broken_last l.first l.others l.ends (subst EndsOutward l.is e))
+in_line r source (inr (inr (inr h))) e n u = inr (inr (h, references_in r source h n u))
 
 -- the same with the role that its source tells
 sealed_as : (r : Role) (source : List ℕ) → IsNode r (map glyph_of (node_items source)) → IsHeld source → IsSealed source
@@ -103,7 +132,7 @@ pub record IsBesideThing (pages : Pages) (t : Thing) : Type 0 where
 node_thing : (pages : Pages) (t : Thing) → is_group t.role ≡ false → IsOneNode t → ends_open t.source ≡ false → IsBesideThing pages t
 node_thing pages t e h shut =
     let held : IsHeld t.source = node_held t.role t.source h.node shut h.ended (no_break (node_items t.source) h.unbroken) in
-    let line : IsHeldInLine t.source = in_line t.source held h.ends in
+    let line : IsHeldInLine t.source = in_line t.role t.source held h.ends h.node h.references in
     let w = calm_written pages t.source h.unbraced in
     let stays : StaysAsItIs pages t = record {
       items = λ i. w.items_are i ∙ sym (held_same t.source line);

@@ -1,5 +1,5 @@
 -- Signs: runs of braces, `[[`, `]]`, `|` and `=`. Each of their bytes is an item by itself, wherever a text is cut in them.
-use Rattle.std.proofs.Common.{arith, ◌≡◌, ◌≢◌, inl, inr, ℕ, zero, suc, ◌+◌, ◌-◌, ◌≤◌, ◌==◌, Bool, true, false, Option, Some, None, List, [], ◌∷◌, ◌++◌, length, take, nat_lt, refl, sym, ap, ◌∙◌, subst, cond}
+use Rattle.std.proofs.Common.{arith, ◌≡◌, ◌≢◌, inl, inr, ℕ, zero, suc, ◌+◌, ◌≤◌, ◌==◌, Bool, true, false, Option, Some, None, List, [], ◌∷◌, ◌++◌, length, take, nat_lt, refl, sym, ap, ◌∙◌, subst, cond}
 use Rattle.std.specs.Prelude.{◌||◌, codes, if◌then◌else◌}
 use Rattle.std.specs.Option.{option_or}
 use Rattle.std.specs.List.{prefix_len}
@@ -249,7 +249,7 @@ no_tag b h =
     each_sign (λ (c : ℕ). c ≢ 60) (λ e. omega (arith, e)) (λ e. omega (arith, e)) (λ e. omega (arith, e)) (λ e. omega (arith, e)) (λ e. omega (arith, e))
     (λ e. omega (arith, e)) b h
 
-sign_anyway : (a : Bool) (b : ℕ) (bs : List ℕ) → is_sign_byte b ≡ true → form_at Page a (b ∷ bs) ≡ sign_word (b ∷ bs)
+pub sign_anyway : (a : Bool) (b : ℕ) (bs : List ℕ) → is_sign_byte b ≡ true → form_at Page a (b ∷ bs) ≡ sign_word (b ∷ bs)
 sign_anyway a b bs h =
     either_flag Page a (b ∷ bs) (uncommented_other b bs (no_blank b h) (comment_other b bs (no_tag b h))) ∙ sign_form b bs h
 
