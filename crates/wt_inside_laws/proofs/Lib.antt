@@ -65,6 +65,7 @@ pub mod PageCases
 pub mod LocalCases
 pub mod EditCases
 pub mod CallingCases
+mod WithCallsCases
 pub mod Sources
 pub mod Meeting
 pub mod NodeNumbers

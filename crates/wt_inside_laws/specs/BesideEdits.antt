@@ -41,7 +41,7 @@ pub record IsBlockOf (pages : Pages) (page : List ℕ) (k : TextBlock) (q : List
 pub record IsCalmBlock (k : TextBlock) (q : List ℕ) (p : Pair) : Type 0 where
   pub content : IsContent k q
   pub calls_nothing : CallsNothing (block_items k q)
-  pub nodes : HasEndedNodes k q p
+  pub nodes : HasEndedNodes k q
 
 -- a marked block is such a one, or texts may be typed beside its calls, whatever its source is
 abbrev pub IsBesideBlock : Pages → List ℕ → Pair → Type 0

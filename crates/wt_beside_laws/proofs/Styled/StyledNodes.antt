@@ -163,7 +163,7 @@ bare_marked : (ends : Bool) (own : List Glyph) (kind : Bool) → is_quote_last o
 bare_marked ends own true u = inr (record { unquoted = u; quotes = refl })
 bare_marked ends own false u = inr (record { unquoted = u; quotes = refl })
 
-before_mark : (r : Role) (own other : List Glyph) (kind : Bool) → other ≡ byte_glyphs (mark_source kind) → EndsUnquoted r own → MayFollow r own other
+pub before_mark : (r : Role) (own other : List Glyph) (kind : Bool) → other ≡ byte_glyphs (mark_source kind) → EndsUnquoted r own → MayFollow r own other
 before_mark Link own other kind i u = subst (MayFollow Link own) (sym i) (link_marked own kind)
 before_mark External own other kind i u = follows_none own other External (λ g. tt)
 before_mark (Bare ends) own other kind i u = subst (MayFollow (Bare ends) own) (sym i) (bare_marked ends own kind u)
@@ -215,7 +215,7 @@ meet_some (t ∷ n ∷ ts) ps a u m = elim a [
 -- ---- the content
 
 pub styled_content : (s : Setting) (ls : List (List Item)) (at : ℕ) (t : StyledContent) → s.within ≡ false → AreFlatLines ls → AreKept (signs_of_lines at ls)
-    → AreCharacters (signs_in t) → AreNested false false t → AreMarksLed (signs_in t) → AreSomeAndPut (things (signs_in t)) (things (signs_of_lines at ls)) → AreUrlsApart (things (signs_in t))
+    → AreCharacters (signs_in t) → AreNested false false t → AreMarksLed s.place (signs_in t) → AreSomeAndPut (things (signs_in t)) (things (signs_of_lines at ls)) → AreUrlsApart (things (signs_in t))
     → AllStayOpen s [] (signs_in t) → IsStyledContent s t
 styled_content s ls at t block flat kept typed nested led some apart unclosed =
     let olds : List ContentSign = signs_of_lines at ls in
