@@ -5,7 +5,7 @@ use Rattle.std.specs.Str.{IsUtf8}
 use Rattle.wt_tree.specs.EditShapes.{edit_shape}
 use Rattle.wt_tree.specs.Plain.{Plains, face, plain_before}
 use Rattle.wt_tree.specs.Source.{flat}
-use Rattle.wt_tree.specs.Tiling.{is_group, HasNoGroup}
+use Rattle.wt_tree.specs.Tiling.{is_group}
 use Rattle.wt_tree.specs.Tree.{Label, Tree, Trees, label, more, none, tree}
 use Rattle.wt_tree.specs.declared.edit_shape.InlineForm.{InlineForm}
 use Rattle.wt_tree.specs.declared.edit_shape.InlineForm.TheVariants as inline
@@ -77,10 +77,9 @@ ArePiecesMet (b ∷ bs) = AreMet (words Page b) (words Page (pieces_source bs)) 
 abbrev pub IsUnbraced : List ℕ → Type 0
 IsUnbraced source = AreUnbraced (page_items source)
 
--- a node without groups and braces: it shows what its source shows by itself
+-- a node without braces: it shows what its source shows by itself
 pub record ShowsItself (t : Tree) : Type 0 where
   pub inline : is_block_part (label t).kind ≡ false
-  pub ungrouped : HasNoGroup t
   pub unbraced : IsUnbraced (flat t)
   pub shows : (rest : Plains) → parts_shown_at 0 [] (line_parts (page_items (flat t))) rest ≡ plain_before t rest
 
@@ -90,8 +89,8 @@ ShowsAlone pages l ts = ((is_group l.kind ≡ true) × ShowsAsGiven pages (tree 
 
 -- a text, whose characters are UTF-8, or a separator; bold or italic without attributes, in which calls give none; or such a node
 abbrev pub IsNodeBy : InlineForm → Pages → Label → Trees → Type 0 → Type 0
-IsNodeBy inline.Nothing pages l ts inside = HasNoGroup (tree l ts) × IsUnbraced (flat (tree l ts))
-IsNodeBy inline.Characters pages l ts inside = IsUtf8 l.shown × HasNoGroup (tree l ts) × IsUnbraced (flat (tree l ts))
+IsNodeBy inline.Nothing pages l ts inside = IsUnbraced (flat (tree l ts))
+IsNodeBy inline.Characters pages l ts inside = IsUtf8 l.shown × IsUnbraced (flat (tree l ts))
 IsNodeBy inline.Bold pages l ts inside = (face l ≡ style_face true) × PlainGroups pages ts × IsUnbraced l.opening × inside × IsUnbraced l.closing
 IsNodeBy inline.Italic pages l ts inside = (face l ≡ style_face false) × PlainGroups pages ts × IsUnbraced l.opening × inside × IsUnbraced l.closing
 IsNodeBy inline.Shown pages l ts inside = ShowsAlone pages l ts

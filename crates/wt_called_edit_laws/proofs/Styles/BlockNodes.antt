@@ -5,7 +5,7 @@ use Rattle.std.proofs.lemmas.List.{append_cancel_left, append_cancel_right}
 use Rattle.wt_tree.specs.EditShapes.{edit_shape}
 use Rattle.wt_tree.specs.Kinds.{is_leaf}
 use Rattle.wt_tree.specs.Source.{flat, flat_of_all}
-use Rattle.wt_tree.specs.Tiling.{HasNoGroup, is_group}
+use Rattle.wt_tree.specs.Tiling.{is_group}
 use Rattle.wt_tree.specs.Tree.{Label, Tree, Trees, more, none, tree}
 use Rattle.wt_tree.specs.declared.edit_shape.InlineForm.{InlineForm}
 use Rattle.wt_tree.specs.declared.edit_shape.InlineForm.TheVariants as inline
@@ -207,8 +207,8 @@ style_among pages l bs ds o c h =
 one_among : (w : InlineForm) (pages : Pages) (ks : List Kept) (l : Label) (ts : Trees) (bs : List (List ℕ)) (ns : List ℕ) (I F : Type 0)
     → IsNodeBy w pages l ts I → FoundBy w ks l ts F → (I → F → StayButForOthers pages bs (thing_sources (things_with ks ns)))
     → StayButForOthers pages (pieces_by w l (flat (tree l ts)) bs) (thing_sources (things_with ks (numbers_by w l.id ns)))
-one_among inline.Nothing pages ks l ts bs ns I F h f k = (calls_none pages (flat (tree l ts)) h.1, tt)
-one_among inline.Characters pages ks l ts bs ns I F h f k = (calls_none pages (flat (tree l ts)) h.2, tt)
+one_among inline.Nothing pages ks l ts bs ns I F h f k = (calls_none pages (flat (tree l ts)) h, tt)
+one_among inline.Characters pages ks l ts bs ns I F h f k = (calls_none pages (flat (tree l ts)) h.1, tt)
 one_among inline.Bold pages ks l ts bs ns I F h f k = style_among pages l bs (thing_sources (things_with ks ns)) h.2 h.4 (k h.3 f.1)
 one_among inline.Italic pages ks l ts bs ns I F h f k = style_among pages l bs (thing_sources (things_with ks ns)) h.2 h.4 (k h.3 f.1)
 one_among inline.Shown pages ks l ts bs ns I F h f k = found_among pages ks l ts f
@@ -270,8 +270,8 @@ style_alone pages l bs o c h = (part_alone pages l.opening o, alone_both pages b
 one_alone : (w : InlineForm) (pages : Pages) (ks : List Kept) (l : Label) (ts : Trees) (bs : List (List ℕ)) (ns : List ℕ) (I F : Type 0)
     → IsNodeBy w pages l ts I → FoundBy w ks l ts F → AreThingsAlone pages (things_with ks (numbers_by w l.id ns))
     → (I → F → AreThingsAlone pages (things_with ks ns) → AreAlone pages bs) → AreAlone pages (pieces_by w l (flat (tree l ts)) bs)
-one_alone inline.Nothing pages ks l ts bs ns I F h f p k = (part_alone pages (flat (tree l ts)) h.1, tt)
-one_alone inline.Characters pages ks l ts bs ns I F h f p k = (part_alone pages (flat (tree l ts)) h.2, tt)
+one_alone inline.Nothing pages ks l ts bs ns I F h f p k = (part_alone pages (flat (tree l ts)) h, tt)
+one_alone inline.Characters pages ks l ts bs ns I F h f p k = (part_alone pages (flat (tree l ts)) h.1, tt)
 one_alone inline.Bold pages ks l ts bs ns I F h f p k = style_alone pages l bs h.2 h.4 (k h.3 f.1 p)
 one_alone inline.Italic pages ks l ts bs ns I F h f p k = style_alone pages l bs h.2 h.4 (k h.3 f.1 p)
 one_alone inline.Shown pages ks l ts bs ns I F h f p k = found_alone pages ks l ts f p
@@ -303,27 +303,25 @@ in_pieces pages (b ∷ bs) h m = (h.0, m.0, in_pieces pages bs h.1 m.1)
 -- ---- each node is such as texts are typed beside
 
 text_beside : (pages : Pages) (l : Label) (ts : Trees) (w : InlineForm) → (edit_shape l.kind).inline ≡ w → IsTextForm w → (IsNodeForm w → ⊥)
-    → HasNoGroup (tree l ts) → IsChildBeside pages (tree l ts)
-text_beside pages l ts w e t n g = record {
+    → IsChildBeside pages (tree l ts)
+text_beside pages l ts w e t n = record {
   inline = text_part l.kind (subst IsTextForm (sym e) t);
-  free = inr g;
   shows = λ f. absurd (n (subst IsNodeForm e f));
 }
 
 node_beside : (pages : Pages) (l : Label) (ts : Trees) → ShowsAlone pages l ts → IsChildBeside pages (tree l ts)
-node_beside pages l ts (inl g) = record { inline = group_part l.kind g.0; free = inl g.0; shows = λ n. g.1 }
+node_beside pages l ts (inl g) = record { inline = group_part l.kind g.0; shows = λ n. g.1 }
 node_beside pages l ts (inr o) =
     let w = calm_written pages (flat (tree l ts)) o.unbraced in
     record {
       inline = o.inline;
-      free = inr o.ungrouped;
       shows = λ n i rest. ap (λ (xs : List Item). parts_shown_at 0 [] (line_parts xs) rest) (w.items_are i) ∙ o.shows rest;
     }
 
 one_beside : (w : InlineForm) (pages : Pages) (l : Label) (ts : Trees) (I B : Type 0) → (edit_shape l.kind).inline ≡ w → IsNodeBy w pages l ts I → (I → B)
     → IsBesideBy w pages l ts B
-one_beside inline.Nothing pages l ts I B e h k = text_beside pages l ts inline.Nothing e tt (λ n. n) h.0
-one_beside inline.Characters pages l ts I B e h k = (h.0, text_beside pages l ts inline.Characters e tt (λ n. n) h.1)
+one_beside inline.Nothing pages l ts I B e h k = text_beside pages l ts inline.Nothing e tt (λ n. n)
+one_beside inline.Characters pages l ts I B e h k = (h.0, text_beside pages l ts inline.Characters e tt (λ n. n))
 one_beside inline.Bold pages l ts I B e h k = (h.0, h.1, k h.3)
 one_beside inline.Italic pages l ts I B e h k = (h.0, h.1, k h.3)
 one_beside inline.Shown pages l ts I B e h k = node_beside pages l ts h

@@ -280,7 +280,6 @@ unfolding label_at children context_parts chunks segments loose_segments tiles s
     name_of image is_called namespace_named prefix_of full_name_of whole_in cut_namespace title_in utf8_valid_len is_utf8 chars encode link_to
 link_shows = record {
   inline = refl;
-  ungrouped = (refl, ((refl, tt), tt));
   unbraced = subst IsUnbraced (sym link_is.0) link_calm;
   shows = λ rest.
       ap (λ (q : List ℕ). parts_shown_at 0 [] (line_parts (page_items q)) rest) link_is.0
@@ -309,10 +308,10 @@ nodes_here =
         refl,
         (((λ e. absurd (cc)), tt), (((λ e. gives_plain), (((λ e. absurd (cc)), tt), tt)), tt)),
         marks_calm,
-        ((a, (refl, tt), letter_calm), (inl (refl, group_shows), tt)),
+        ((a, letter_calm), (inl (refl, group_shows), tt)),
         marks_calm,
       ),
-      ((b, (refl, tt), blank_calm), (inr link_shows, tt)),
+      ((b, blank_calm), (inr link_shows, tt)),
     )
 
 pub of_nodes : IsOfNodes a_word block

@@ -103,15 +103,15 @@ sealed_as Function source n h = (nodes_sealed (thing (record { role = Function; 
 sealed_as Node source n h = (nodes_sealed (thing (record { role = Node; source = source; place = None }) ∷ []) (n, tt) ((h, tt), tt)).0
 
 folder_as : (r : Role) (pages : Pages) (t : Thing) → is_group r ≡ false → StaysAsItIs pages t → IsOfFolder r pages t
-folder_as Link pages t e h = h
-folder_as External pages t e h = h
+folder_as Link pages t e h = inl h
+folder_as External pages t e h = inl h
 folder_as (Bare ends) pages t e h = h
 folder_as Switch pages t e h = h
 folder_as Toggle pages t e h = h
 folder_as (Mark ends began) pages t e h = h
 folder_as (Group g) pages t e h = let no : true ≡ false = e in absurd (cc)
 folder_as Function pages t e h = h
-folder_as Node pages t e h = h
+folder_as Node pages t e h = inl h
 
 gives_as : (r : Role) (pages : Pages) (source : List ℕ) → is_group r ≡ false → GivesUnquoted pages r source
 gives_as Link pages source e = tt
