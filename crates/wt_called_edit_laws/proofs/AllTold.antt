@@ -49,4 +49,4 @@ pub mod OwnBytes
 pub mod KnownLines
 pub mod CallingTogether
 pub mod CallingCases
-mod EndCases
+pub mod EndCases
