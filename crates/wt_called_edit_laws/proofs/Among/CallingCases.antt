@@ -1,5 +1,5 @@
 -- Worked case: the page `{{t}} {{t}}`, where `Template:T` is a word, begins and ends with a call, and is told by the one line that it gives.
-use Rattle.std.proofs.Common.{arith, inr, ◌≡◌, None, List, [], ◌∷◌, refl, sym, ap, ◌∙◌, subst}
+use Rattle.std.proofs.Common.{arith, inr, ◌≡◌, None, List, [], ◌∷◌, refl, sym, ap, ◌∙◌, subst, inl}
 use Rattle.std.specs.Str.Lossy.{utf8_valid_len}
 use Rattle.std.specs.Str.{is_utf8, chars}
 use Rattle.wt_beside_laws.proofs.Groups.Cases.{a_word}
