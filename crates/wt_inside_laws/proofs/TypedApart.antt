@@ -68,14 +68,14 @@ pair_apart pages page k q p c r s retyped alike read ended =
 
 -- ---- the block at a path
 
-record BlockThere (v : Tree) : Type 0 where
-  block : TextBlock
-  text : List ℕ
-  content : IsContent block text
-  calm : CallsNothing (block_items block text)
-  stands : IsStanding (block_tree block text) v
+pub record BlockThere (v : Tree) : Type 0 where
+  pub block : TextBlock
+  pub text : List ℕ
+  pub content : IsContent block text
+  pub calm : CallsNothing (block_items block text)
+  pub stands : IsStanding (block_tree block text) v
 
-block_there : (t : Tree) (ss : List BlockSpot) (ps : List (List ℕ)) (p : List ℕ) (v : Tree) → AreContents ss → CallNothing ss → AllStand ss ps t → IsOneOf p ps
+pub block_there : (t : Tree) (ss : List BlockSpot) (ps : List (List ℕ)) (p : List ℕ) (v : Tree) → AreContents ss → CallNothing ss → AllStand ss ps t → IsOneOf p ps
     → node_at p t ≡ Some v → BlockThere v
 block_there t [] [] p v c r st h e = absurd h
 block_there t [] (q ∷ ps) p v c r st h e = absurd st
